@@ -1,0 +1,4 @@
+pub mod Fields
+pub mod Ranges
+pub mod Descriptors
+pub mod Pieces

@@ -1,0 +1,6 @@
+use Rattle.std.proofs.Common.{◌∙◌}
+use Rattle.jfs_bits.proofs.Fields.{field_behind}
+use Rattle.jfs_bits.proofs.field.get_u16.Goals as goal
+
+pub returns-clause-value : goal.returns-clause-value
+returns-clause-value c = c.read_u16.ensures ∙ field_behind c.args.bytes.now c.args.at 2

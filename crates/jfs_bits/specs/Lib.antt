@@ -1,0 +1,4 @@
+pub mod Field
+pub mod Descriptor
+pub mod Piece
+pub mod Rule

@@ -1,0 +1,16 @@
+//! Fields in pages: numbers, descriptors, flags, lists, and the names of the format's rules.
+#![tactic(auto)]
+
+mod descriptor;
+mod field;
+mod flags;
+mod list;
+mod rule;
+
+pub use descriptor::{Moment, Pxd, get_moment, get_pxd, put_moment, put_pxd};
+pub use field::{
+    get_array, get_u16, get_u32, get_u64, get_u8, put_array, put_u16, put_u32, put_u64, put_u8,
+};
+pub use flags::SuperFlags;
+pub use list::{Blob, LineRange, PxdList, Ranges, Sequence};
+pub use rule::{PageKind, Rule};
