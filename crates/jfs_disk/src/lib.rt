@@ -1,13 +1,8 @@
-// A library with one function.
+//! Pages, the trait of a disk, and what a crash may leave of one.
 #![tactic(auto)]
 
-ghost use Rattle.std.specs.Prelude.{◌≡◌};
-ghost use Rattle.jfs_disk.specs.Echo.{echo_of};
+mod disk;
+mod page;
 
-// The `ensures` clause is the contract: what `echo` returns is `echo_of` of its argument, a definition
-// in `specs/Echo.antt`, which a caller's clause can cite too.
-pub fn echo(x: usize) -> usize
-    ensures { result ≡ echo_of x }
-{
-    x
-}
+pub use disk::{Disk, DiskError, Fault, Part};
+pub use page::{Page, PageList};
