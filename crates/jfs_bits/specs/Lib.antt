@@ -1,3 +1,4 @@
+pub mod Count
 pub mod Field
 pub mod Descriptor
 pub mod Piece

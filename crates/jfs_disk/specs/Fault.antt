@@ -1,11 +1,8 @@
 -- When a device call may say that it failed.
-use Rattle.std.specs.Prelude.{◌≡◌, ◌<◌, ◌≤◌, ◌⊎◌, ◌-◌, ◌^◌, ℕ, Result, IsErrOf}
+use Rattle.std.specs.Prelude.{◌≤◌, ℕ, Result, IsErrOf}
+use Rattle.jfs_bits.specs.Count.{Rose}
 use Rattle.jfs_disk.specs.declared.disk.DiskError.{DiskError}
 use Rattle.jfs_disk.specs.declared.disk.DiskError.TheVariants.{Failed}
-
--- a count rose, or stands at the last u64 value, where nothing can raise it
-abbrev pub Rose : ℕ → ℕ → Type 0
-Rose before now = (before < now) ⊎ (now ≡ 2 ^ 64 - 1)
 
 -- the count doesn't fall, and `Failed` comes only where it rose
 pub record HasCause {T : Type 0} (before now : ℕ) (result : Result T DiskError) : Type 0 where

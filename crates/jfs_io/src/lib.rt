@@ -1,13 +1,11 @@
-// A library with one function.
+//! What scripts come from, what text goes to, and where tests may hold a thread.
 #![tactic(auto)]
 
-ghost use Rattle.std.specs.Prelude.{◌≡◌};
-ghost use Rattle.jfs_io.specs.Echo.{echo_of};
+mod failing;
+mod gate;
+mod sink;
+mod source;
 
-// The `ensures` clause is the contract: what `echo` returns is `echo_of` of its argument, a definition
-// in `specs/Echo.antt`, which a caller's clause can cite too.
-pub fn echo(x: usize) -> usize
-    ensures { result ≡ echo_of x }
-{
-    x
-}
+pub use gate::{Gate, OpenGate, Place};
+pub use sink::{MemSink, Sink, SinkError, SureSink};
+pub use source::{IoFailed, MemSource, Source, SureSource};
