@@ -1,4 +1,7 @@
 pub mod Fields
 pub mod Ranges
+pub mod Words
+pub mod Runs
+pub mod Buds
 pub mod Descriptors
 pub mod Pieces

@@ -1,5 +1,6 @@
 pub mod Count
 pub mod Field
+pub mod Bits
 pub mod Descriptor
 pub mod Piece
 pub mod Rule
