@@ -64,6 +64,7 @@ pub fn get_moment(bytes: &[u8], at: usize) -> Moment
 pub fn put_moment(bytes: &mut [u8], at: usize, v: Moment)
     requires { at + 8 ≤ length bytes.old }
     ensures bytes { bytes.new ≡ put_bytes at (moment_bytes v) bytes.old }
+    ensures fits { (v.sec < 2 ^ 32) × (v.nano < 2 ^ 32) }
     ensures read_back { moment_of bytes.new at ≡ v }
 {
     put_u32(bytes, at, v.sec);

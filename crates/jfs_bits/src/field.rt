@@ -55,7 +55,8 @@ pub fn get_array<const N: usize>(bytes: &[u8], at: usize) -> [u8; N]
 /// Puts the byte at `at`.
 pub fn put_u8(bytes: &mut [u8], at: usize, value: u8)
     requires { at + 1 ≤ length bytes.old }
-    ensures { bytes.new ≡ put_bytes at (little_bytes 1 value) bytes.old }
+    ensures bytes { bytes.new ≡ put_bytes at (little_bytes 1 value) bytes.old }
+    ensures fits { value < 2 ^ 8 }
 {
     bytes[at] = value;
 }
@@ -63,7 +64,8 @@ pub fn put_u8(bytes: &mut [u8], at: usize, value: u8)
 /// Puts the number into the 2 bytes from `at` on.
 pub fn put_u16(bytes: &mut [u8], at: usize, value: u16)
     requires { at + 2 ≤ length bytes.old }
-    ensures { bytes.new ≡ put_bytes at (little_bytes 2 value) bytes.old }
+    ensures bytes { bytes.new ≡ put_bytes at (little_bytes 2 value) bytes.old }
+    ensures fits { value < 2 ^ 16 }
 {
     LittleEndian::write_u16(&mut bytes[at..], value);
 }
@@ -71,7 +73,8 @@ pub fn put_u16(bytes: &mut [u8], at: usize, value: u16)
 /// Puts the number into the 4 bytes from `at` on.
 pub fn put_u32(bytes: &mut [u8], at: usize, value: u32)
     requires { at + 4 ≤ length bytes.old }
-    ensures { bytes.new ≡ put_bytes at (little_bytes 4 value) bytes.old }
+    ensures bytes { bytes.new ≡ put_bytes at (little_bytes 4 value) bytes.old }
+    ensures fits { value < 2 ^ 32 }
 {
     LittleEndian::write_u32(&mut bytes[at..], value);
 }
@@ -79,7 +82,8 @@ pub fn put_u32(bytes: &mut [u8], at: usize, value: u32)
 /// Puts the number into the 8 bytes from `at` on.
 pub fn put_u64(bytes: &mut [u8], at: usize, value: u64)
     requires { at + 8 ≤ length bytes.old }
-    ensures { bytes.new ≡ put_bytes at (little_bytes 8 value) bytes.old }
+    ensures bytes { bytes.new ≡ put_bytes at (little_bytes 8 value) bytes.old }
+    ensures fits { value < 2 ^ 64 }
 {
     LittleEndian::write_u64(&mut bytes[at..], value);
 }
@@ -87,7 +91,8 @@ pub fn put_u64(bytes: &mut [u8], at: usize, value: u64)
 /// Puts `N` bytes from `at` on.
 pub fn put_array<const N: usize>(bytes: &mut [u8], at: usize, value: &[u8; N])
     requires { at + N ≤ length bytes.old }
-    ensures { bytes.new ≡ put_bytes at value.now bytes.old }
+    ensures bytes { bytes.new ≡ put_bytes at value.now bytes.old }
+    ensures fits { length value.now ≡ N }
 {
     bytes[at..at + N].copy_from_slice(value);
 }

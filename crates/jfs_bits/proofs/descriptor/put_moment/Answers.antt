@@ -9,7 +9,7 @@ use Rattle.jfs_bits.proofs.descriptor.put_moment.Goals as goal
 bytes_are : goal.returns-clause-bytes
 unfolding moment_bytes
 bytes_are c =
-    rw (c.put_u32-2.ensures, c.put_u32.ensures) (put_bytes-put_bytes c.args.at (c.args.at + 4) (little_bytes 4 c.args.v.sec) (little_bytes 4 c.args.v.nano) c.args.bytes.now refl (omega (arith, c.requires)))
+    rw (c.put_u32-2.ensures.bytes, c.put_u32.ensures.bytes) (put_bytes-put_bytes c.args.at (c.args.at + 4) (little_bytes 4 c.args.v.sec) (little_bytes 4 c.args.v.nano) c.args.bytes.now refl (omega (arith, c.requires)))
 
 pub returns-clause-bytes : goal.returns-clause-bytes
 returns-clause-bytes c = bytes_are c

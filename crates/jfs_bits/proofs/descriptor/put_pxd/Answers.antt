@@ -10,7 +10,7 @@ bytes_are : goal.returns-clause-bytes
 unfolding pxd_bytes
 bytes_are c =
     let first = c.args.v.len + c.args.v.addr / 2 ^ 32 * 2 ^ 24 in
-    rw (c.put_u32-2.ensures, c.put_u32.ensures) (put_bytes-put_bytes c.args.at (c.args.at + 4) (little_bytes 4 first) (little_bytes 4 (c.args.v.addr % 2 ^ 32)) c.args.bytes.now refl (omega (arith, c.requires.within)))
+    rw (c.put_u32-2.ensures.bytes, c.put_u32.ensures.bytes) (put_bytes-put_bytes c.args.at (c.args.at + 4) (little_bytes 4 first) (little_bytes 4 (c.args.v.addr % 2 ^ 32)) c.args.bytes.now refl (omega (arith, c.requires.within)))
 
 pub returns-clause-bytes : goal.returns-clause-bytes
 returns-clause-bytes c = bytes_are c

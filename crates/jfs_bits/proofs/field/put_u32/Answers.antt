@@ -2,5 +2,5 @@ use Rattle.byteorder.specs.Endian.{little_bytes}
 use Rattle.jfs_bits.proofs.Fields.{put_behind}
 use Rattle.jfs_bits.proofs.field.put_u32.Goals as goal
 
-pub returns : goal.returns
-returns c = put_behind c.args.at (little_bytes 4 c.args.value) c.write_u32.new.buf c.args.bytes.now c.write_u32.ensures
+pub returns-clause-bytes : goal.returns-clause-bytes
+returns-clause-bytes c = put_behind c.args.at (little_bytes 4 c.args.value) c.write_u32.new.buf c.args.bytes.now c.write_u32.ensures

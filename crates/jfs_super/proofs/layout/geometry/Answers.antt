@@ -1,0 +1,11 @@
+use Rattle.std.proofs.Common.{arith}
+use Rattle.jfs_super.proofs.Rules.{accepted_layout}
+use Rattle.jfs_super.proofs.layout.geometry.Goals as goal
+
+pub overflow_cast-result : goal.overflow_cast-result
+overflow_cast-result c =
+    let layout = accepted_layout c.args.s.now c.requires.0 c.requires.1 in
+    omega arith
+
+pub returns-clause-bounds : goal.returns-clause-bounds
+returns-clause-bounds c = accepted_layout c.args.s.now c.requires.0 c.requires.1

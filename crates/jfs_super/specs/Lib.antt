@@ -1,0 +1,3 @@
+pub mod Super
+pub mod Rules
+pub mod Geometry
