@@ -8,4 +8,6 @@ overflow_cast-result c =
     omega arith
 
 pub returns-clause-bounds : goal.returns-clause-bounds
-returns-clause-bounds c = accepted_layout c.args.s.now c.requires.0 c.requires.1
+returns-clause-bounds c =
+    let l = accepted_layout c.args.s.now c.requires.0 c.requires.1 in
+    record { least = l.least; most = l.most; group = l.group; behind = l.behind; shortest = l.shortest; longest = l.longest }

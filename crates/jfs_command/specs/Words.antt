@@ -1,0 +1,43 @@
+-- The grammar of the words of a command.
+use Rattle.std.specs.Prelude.{ℕ, Bool, true, false, not, ◌&&◌, ◌==◌, if◌then◌else◌, List, [], ◌∷◌, map, codes, Result, Ok, Err}
+use Rattle.std.specs.Str.{is_utf8}
+use Rattle.std.specs.Global.{Vec}
+use Rattle.jfs_command.specs.declared.words.Usage.{Usage}
+use Rattle.jfs_command.specs.declared.words.Command.{Command}
+use Rattle.jfs_command.specs.declared.words.Command.TheVariants.{Super}
+use Rattle.jfs_command.specs.declared.words.PathsError.{PathsError}
+use Rattle.jfs_command.specs.declared.words.PathsError.TheVariants as errors
+
+-- the words as bytes
+abbrev pub texts : List (Vec ℕ) → List (List ℕ)
+texts words = map (λ w. w.items) words
+
+abbrev begins_with_dash : List ℕ → Bool
+begins_with_dash [] = false
+begins_with_dash (b ∷ bs) = b == 45
+
+-- a word that may name a file: UTF-8 that doesn't begin with a dash
+abbrev pub is_name : List ℕ → Bool
+is_name word = is_utf8 word && not (begins_with_dash word)
+
+abbrev pub is_super : List ℕ → Bool
+is_super word = bytes_eq word (codes "super")
+
+abbrev usage : ℕ → Result Command Usage
+usage word = Err (record { word = word })
+
+-- after `super`, one name
+abbrev pub super_of : List (List ℕ) → Result Command Usage
+super_of [] = usage 2
+super_of (image ∷ []) = if is_name image then Ok Super else usage 2
+super_of (image ∷ more ∷ rest) = if is_name image then usage 3 else usage 2
+
+-- What the words ask for; else the first word that leaves the grammar, or the place after the last where one is missing.
+abbrev pub command_of : List (List ℕ) → Result Command Usage
+command_of [] = usage 1
+command_of (first ∷ rest) = if is_super first then super_of rest else usage 1
+
+-- the words leave the grammar where it says, or memory ran out
+abbrev pub UsageIs : PathsError → Result Command Usage → Type 0
+UsageIs (errors.Usage u) asked = asked ≡ Err u
+UsageIs errors.Memory asked = Unit {0}
