@@ -1,6 +1,6 @@
 -- The grammar of the words of a command.
-use Rattle.std.specs.Prelude.{ℕ, Bool, true, false, not, ◌&&◌, ◌==◌, if◌then◌else◌, List, [], ◌∷◌, map, codes, Result, Ok, Err}
-use Rattle.std.specs.Str.{is_utf8}
+use Rattle.std.specs.Prelude.{◌≡◌, ℕ, Bool, true, false, not, ◌&&◌, ◌==◌, if◌then◌else◌, List, [], ◌∷◌, map, codes, Result, Ok, Err}
+use Rattle.std.specs.Str.{is_utf8, bytes_eq}
 use Rattle.std.specs.Global.{Vec}
 use Rattle.jfs_command.specs.declared.words.Usage.{Usage}
 use Rattle.jfs_command.specs.declared.words.Command.{Command}
@@ -12,7 +12,7 @@ use Rattle.jfs_command.specs.declared.words.PathsError.TheVariants as errors
 abbrev pub texts : List (Vec ℕ) → List (List ℕ)
 texts words = map (λ w. w.items) words
 
-abbrev begins_with_dash : List ℕ → Bool
+abbrev pub begins_with_dash : List ℕ → Bool
 begins_with_dash [] = false
 begins_with_dash (b ∷ bs) = b == 45
 

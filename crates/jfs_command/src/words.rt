@@ -1,8 +1,8 @@
 //! The grammar of the words. It is read by hand: there are few commands, and each refusal names its word.
 
-ghost use Rattle.std.specs.Prelude.{◌≡◌, [], length, MatchResult, None};
+ghost use Rattle.std.specs.Prelude.{◌≡◌, [], IfOk, IfErr, IsOk};
 ghost use Rattle.std.specs.Str.{is_utf8};
-ghost use Rattle.jfs_command.specs.Words.{texts, is_name, is_super, command_of, UsageIs};
+ghost use Rattle.jfs_command.specs.Words.{texts, is_name, is_super, begins_with_dash, command_of, super_of, UsageIs};
 
 use std::alloc::Global;
 
@@ -40,7 +40,7 @@ pub fn paths_of(alloc: Global, words: &[Vec<u8>]) -> Result<Paths, PathsError>
     ensures names { IfOk result (λ paths. IsOk (command_of (texts words.now)) × (paths.image ≡ 2) × (paths.scripts.items ≡ [])) }
     ensures usage { IfErr result (λ e. UsageIs e (command_of (texts words.now))) }
 {
-    match command(words) {
+    match read_words(words) {
         Ok(Command::Super) => Ok(Paths {
             image: 2,
             scripts: Vec::new(alloc),
@@ -50,7 +50,7 @@ pub fn paths_of(alloc: Global, words: &[Vec<u8>]) -> Result<Paths, PathsError>
 }
 
 /// What the words ask for, or the first of them that leaves the grammar.
-pub fn command(words: &[Vec<u8>]) -> Result<Command, Usage>
+pub fn read_words(words: &[Vec<u8>]) -> Result<Command, Usage>
     ensures { result ≡ command_of (texts words.now) }
 {
     match words {
@@ -80,5 +80,20 @@ fn is_super(word: &[u8]) -> bool
 fn is_name(word: &[u8]) -> bool
     ensures { result ≡ is_name word.now }
 {
-    std::str::from_utf8(word).is_ok() && word.first() != Some(&b'-')
+    is_text(word) && !begins_with_dash(word)
+}
+
+fn is_text(word: &[u8]) -> bool
+    ensures { result ≡ is_utf8 word.now }
+{
+    match std::str::from_utf8(word) {
+        Ok(_) => true,
+        Err(_) => false,
+    }
+}
+
+fn begins_with_dash(word: &[u8]) -> bool
+    ensures { result ≡ begins_with_dash word.now }
+{
+    matches!(word, [b'-', ..])
 }
