@@ -1,1 +1,3 @@
 pub mod Trimming
+pub mod Printing
+pub mod Refusals

@@ -10,6 +10,8 @@ use Rattle.jfs_bits.specs.declared.rule.Rule.{Rule}
 use Rattle.jfs_bits.specs.Rule.{name_of}
 use Rattle.jfs_super.specs.declared.fields.Super.{Super}
 use Rattle.jfs_super.specs.Rules.{blocks_of}
+use Rattle.jfs_command.specs.declared.status.Status.{Status}
+use Rattle.jfs_command.specs.declared.status.Status.TheVariants as statuses
 
 -- a name, a space, a value and the line's end
 abbrev pub line : List ℕ → List ℕ → List ℕ
@@ -68,3 +70,12 @@ usage_text word = codes "jfsd: usage: word " ++ decimal word ++ 10 ∷ []
 abbrev pub bad_image_text : ℕ → Rule → ℕ → List ℕ
 bad_image_text page rule value =
     codes "jfsd: bad image: page " ++ decimal page ++ codes " rule " ++ name_of rule ++ codes " value " ++ decimal value ++ 10 ∷ []
+
+-- the line that names a refusal or a fault
+abbrev pub refusal_text : Status → List ℕ
+refusal_text (statuses.Usage word) = usage_text word
+refusal_text (statuses.BadImage page rule value) = bad_image_text page rule value
+refusal_text statuses.DiskFault = codes "jfsd: disk fault\n"
+refusal_text statuses.OutOfMemory = codes "jfsd: out of memory\n"
+refusal_text statuses.Done = []
+refusal_text statuses.SinkFault = []

@@ -63,3 +63,8 @@ accepted_layout s pages h =
       shortest = leb-true 256 s.logpxd.len shortest.1;
       longest = leb-true s.logpxd.len 32768 longest.1
     }
+
+-- an accepted superblock has its page
+pub accepted_pages : (s : Super) (pages : ℕ) → IsAccepted s pages → 9 ≤ pages
+unfolding rows shape_rows
+accepted_pages s pages h = leb-true 9 pages (each_holds (rows s pages) 0 (record { rule = rules.Short; value = 0; holds = true }) h refl)
