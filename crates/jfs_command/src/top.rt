@@ -20,6 +20,7 @@ use std::sync::Wait;
 use std::thread::Threads;
 
 /// What the top call hands back.
+#[derive(Drop)]
 pub struct Ended<D> {
     pub status: Status,
     pub disk: D,
