@@ -1,8 +1,10 @@
-//! Pages, the trait of a disk, and what a crash may leave of one.
+//! Pages, the trait of a disk, what a crash may leave of one, and disks in memory.
 #![tactic(auto)]
 
 mod disk;
 mod page;
+mod sure;
 
 pub use disk::{Disk, DiskError, Fault, Part};
 pub use page::{Page, PageList};
+pub use sure::SureDisk;
