@@ -1,10 +1,14 @@
 //! Pages, the trait of a disk, what a crash may leave of one, and disks in memory.
 #![tactic(auto)]
 
+mod call;
 mod disk;
 mod page;
+mod plan;
+mod store;
 mod sure;
 
 pub use disk::{Disk, DiskError, Fault, Part};
 pub use page::{Page, PageList};
+pub use plan::{Fail, Kind};
 pub use sure::SureDisk;

@@ -1,11 +1,11 @@
 //! A disk in memory that never fails.
 
-ghost use Rattle.std.specs.Prelude.{◌≡◌, ◌<◌, [], IfOk, IsOk, length, set};
+ghost use Rattle.std.specs.Prelude.{◌≡◌, ◌<◌, [], IfOk, IsOk};
 ghost use Rattle.jfs_disk.specs.Image.{zeros, page_of, ArePages};
 ghost use Rattle.jfs_disk.specs.Pages.{contents};
 
 use crate::disk::{Disk, DiskError};
-use crate::page::Page;
+use crate::page::{Page, copy_page};
 use std::alloc::{AllocError, Global};
 
 /// A disk in memory whose calls never fail. It keeps each write at once, and tells no crash images.
@@ -37,14 +37,6 @@ fn pages_of_zeros(alloc: Global, count: u32) -> Result<Vec<Page>, AllocError>
         pages.push(Page::zeros())?;
     }
     Ok(pages)
-}
-
-fn copy_page(from: &Page, into: &mut Page)
-    ensures bytes { into.new.0 ≡ from.now.0 }
-    ensures size { length from.now.0 ≡ 4096 }
-{
-    let bytes: &[u8] = &from.0;
-    into.0.copy_from_slice(bytes);
 }
 
 impl Disk for SureDisk {
