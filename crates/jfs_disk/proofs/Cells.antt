@@ -43,7 +43,7 @@ IsSound-cell count cells more cell place_of new_of calls sound e start now place
     let started : starts more ≡ starts cells ++ blank ∷ [] = starts-cell cells more cell e start in
     let kept : nows more ≡ nows cells ++ blank ∷ [] = ap nows e ∙ map-append (λ (c : Cell). c.now.value.0) cells (cell ∷ []) ∙ ap (λ (bytes : List ℕ). nows cells ++ bytes ∷ []) now in
     rw (pages, started, kept)
-      (IsSound-placed count (numbers cells) (starts cells) (nows cells) place_of new_of calls cell.page sound (same-length (λ (c : Cell). c.start.value.0) cells) (same-length (λ (c : Cell). c.now.value.0) cells) (placed-numbers cells cell.page place_of new_of placed))
+    (IsSound-placed count (numbers cells) (starts cells) (nows cells) place_of new_of calls cell.page sound (same-length (λ (c : Cell). c.start.value.0) cells) (same-length (λ (c : Cell). c.now.value.0) cells) (placed-numbers cells cell.page place_of new_of placed))
 
 pub past_of-cell : (count : ℕ) (cells more : List Cell) (cell : Cell) (place_of new_of : ℕ → Option ℕ) (calls : List Call) → IsSound count (numbers cells) (starts cells) (nows cells) place_of calls → more ≡ cells ++ cell ∷ [] → cell.start.value.0 ≡ blank → IsPlaced (length cells) cell.page place_of new_of → past_of count (starts more) new_of calls ≡ past_of count (starts cells) place_of calls
 past_of-cell count cells more cell place_of new_of calls sound e start placed =
@@ -90,14 +90,14 @@ placed-there cells p n there = omega (arith, there.0, length-map cells (λ (c : 
 pub IsSound-same : (count : ℕ) (cells same : List Cell) (place_of new_of : ℕ → Option ℕ) (calls : List Call) → IsSound count (numbers cells) (starts cells) (nows cells) place_of calls → same ≡ cells → new_of ≡ place_of → IsSound count (numbers same) (starts same) (nows same) new_of calls
 IsSound-same count cells same place_of new_of calls sound e f =
     subst (λ (places : ℕ → Option ℕ). IsSound count (numbers same) (starts same) (nows same) places calls) (sym f)
-      (subst (λ (cs : List Cell). IsSound count (numbers cs) (starts cs) (nows cs) place_of calls) (sym e) sound)
+    (subst (λ (cs : List Cell). IsSound count (numbers cs) (starts cs) (nows cs) place_of calls) (sym e) sound)
 
 -- a map of places took a page
 pub placed-by : (size n place : ℕ) (place_of new_of : ℕ → Option ℕ) → place ≡ size → place_of n ≡ None → new_of n ≡ Some place → ((q : ℕ) → is_eq (nat_cmp n q) ≡ false → new_of q ≡ place_of q) → IsPlaced size n place_of new_of
 placed-by size n place place_of new_of e none given others = record {
   none = none;
   given = given ∙ ap Some e;
-  others = λ q apart. others q (is_eq-apart n q apart)
+  others = λ q apart. others q (is_eq-apart n q apart);
 }
 
 -- the same cells but for the bytes of one
@@ -112,11 +112,11 @@ nows-kept cells place cell bytes e = map-set (λ (c : Cell). c.now.value.0) cell
 
 -- a cell took the bytes that were written
 pub IsSound-kept : (count : ℕ) (cells new : List Cell) (place n : ℕ) (place_of : ℕ → Option ℕ) (calls more : List Call) (page : Box Page Global) → IsSound count (numbers cells) (starts cells) (nows cells) place_of calls → place_of n ≡ Some place → more ≡ calls ++ Wrote n page ∷ [] → length page.value.0 ≡ 4096
-  → numbers new ≡ numbers cells → starts new ≡ starts cells → nows new ≡ set (nows cells) place page.value.0
-  → IsSound count (numbers new) (starts new) (nows new) place_of more
+    → numbers new ≡ numbers cells → starts new ≡ starts cells → nows new ≡ set (nows cells) place page.value.0
+    → IsSound count (numbers new) (starts new) (nows new) place_of more
 IsSound-kept count cells new place n place_of calls more page sound given e size pages first kept =
     rw (pages, first, kept, e)
-      (IsSound-wrote count (numbers cells) (starts cells) (nows cells) place_of calls n place page sound given (same-length (λ (c : Cell). c.now.value.0) cells) size)
+    (IsSound-wrote count (numbers cells) (starts cells) (nows cells) place_of calls n place page sound given (same-length (λ (c : Cell). c.now.value.0) cells) size)
 
 -- the new state is made from the last of the states before
 pub last-added : (past more old : List DiskState) (f g : DiskState → DiskState) → more ≡ past ++ f (last_of past) ∷ [] → past ≡ old → f ≡ g → more ≡ old ++ g (last_of old) ∷ []

@@ -1,3 +1,4 @@
 pub mod Images
 pub mod Sound
 pub mod Cells
+pub mod Outcomes

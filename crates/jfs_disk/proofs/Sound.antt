@@ -49,7 +49,7 @@ IsSound-new count place_of none = record {
   places = λ n place e. absurd (cc (none n));
   shown = λ n h. ap (λ (page : PageHistory). page.seen) (history-start count [] place_of n h);
   absent = λ n h e. history-start count [] place_of n h ∙ ap (λ (o : Option ℕ). resting (bytes_of [] o)) e;
-  whole = rw (seen_of-at_rest (image_of count [] place_of), image_of-none count [] place_of none) (ArePages-zeros count)
+  whole = rw (seen_of-at_rest (image_of count [] place_of), image_of-none count [] place_of none) (ArePages-zeros count);
 }
 
 -- ---- a page is given a place
@@ -81,7 +81,7 @@ image_of-placed count pages first now place_of new_of calls n sound kept long pl
 pub past_of-placed : (count : ℕ) (pages : List ℕ) (first now : List (List ℕ)) (place_of new_of : ℕ → Option ℕ) (calls : List Call) (n : ℕ) → IsSound count pages first now place_of calls → length first ≡ length pages → IsPlaced (length pages) n place_of new_of → past_of count (first ++ blank ∷ []) new_of calls ≡ past_of count first place_of calls
 past_of-placed count pages first now place_of new_of calls n sound long placed =
     ap (λ (image : Image). states_of calls (at_rest image))
-      (map-congr (λ q. bytes_of (first ++ blank ∷ []) (new_of q)) (λ q. bytes_of first (place_of q)) (image_of-placed count pages first now place_of new_of calls n sound first long placed) (range_with_len 0 count))
+    (map-congr (λ q. bytes_of (first ++ blank ∷ []) (new_of q)) (λ q. bytes_of first (place_of q)) (image_of-placed count pages first now place_of new_of calls n sound first long placed) (range_with_len 0 count))
 
 places-placed : (pages : List ℕ) (place_of new_of : ℕ → Option ℕ) (n q place : ℕ) → ((p : ℕ) → place_of q ≡ Some p → (p < length pages) × (get_or pages p 0 ≡ q)) → IsPlaced (length pages) n place_of new_of → new_of q ≡ Some place → (q ≡ n) ⊎ (q ≡ n → ⊥) → (place < length (pages ++ n ∷ [])) × (get_or (pages ++ n ∷ []) place 0 ≡ q)
 places-placed pages place_of new_of n q place old placed e (inl same) =
@@ -99,38 +99,38 @@ absent-placed size n q place_of new_of placed e (inr apart) = sym (placed.others
 pub IsSound-placed : (count : ℕ) (pages : List ℕ) (first now : List (List ℕ)) (place_of new_of : ℕ → Option ℕ) (calls : List Call) (n : ℕ) → IsSound count pages first now place_of calls → length first ≡ length pages → length now ≡ length pages → IsPlaced (length pages) n place_of new_of → IsSound count (pages ++ n ∷ []) (first ++ blank ∷ []) (now ++ blank ∷ []) new_of calls
 IsSound-placed count pages first now place_of new_of calls n sound long long_now placed =
     let same : state_of count (first ++ blank ∷ []) new_of calls ≡ state_of count first place_of calls =
-      ap (λ (image : Image). after_calls calls (at_rest image))
-        (map-congr (λ q. bytes_of (first ++ blank ∷ []) (new_of q)) (λ q. bytes_of first (place_of q)) (image_of-placed count pages first now place_of new_of calls n sound first long placed) (range_with_len 0 count)) in
+    ap (λ (image : Image). after_calls calls (at_rest image))
+    (map-congr (λ q. bytes_of (first ++ blank ∷ []) (new_of q)) (λ q. bytes_of first (place_of q)) (image_of-placed count pages first now place_of new_of calls n sound first long placed) (range_with_len 0 count)) in
     record {
       places = λ q place e. places-placed pages place_of new_of n q place (sound.places q) placed e (cases_eq q n);
       shown = λ q h. ap (λ (state : DiskState). (history_of state q).seen) same ∙ sound.shown q h ∙ sym (image_of-placed count pages first now place_of new_of calls n sound now long_now placed q);
       absent = λ q h e. ap (λ (state : DiskState). history_of state q) same ∙ sound.absent q h (absent-placed (length pages) n q place_of new_of placed e (cases_eq q n));
-      whole = subst (λ (state : DiskState). ArePages count (seen_of state)) (sym same) sound.whole
+      whole = subst (λ (state : DiskState). ArePages count (seen_of state)) (sym same) sound.whole;
     }
 
 -- ---- a call
 
 IsSound-call : (count : ℕ) (pages : List ℕ) (first now new : List (List ℕ)) (place_of : ℕ → Option ℕ) (calls : List Call) (call : Call) → IsSound count pages first now place_of calls
-  → ((q : ℕ) → q < count → (page_after q call (history_of (state_of count first place_of calls) q)).seen ≡ bytes_of new (place_of q))
-  → ((q : ℕ) → q < count → place_of q ≡ None → page_after q call (resting blank) ≡ resting blank)
-  → ArePages count (seen_of (after_call call (state_of count first place_of calls)))
-  → IsSound count pages first new place_of (calls ++ call ∷ [])
+    → ((q : ℕ) → q < count → (page_after q call (history_of (state_of count first place_of calls) q)).seen ≡ bytes_of new (place_of q))
+    → ((q : ℕ) → q < count → place_of q ≡ None → page_after q call (resting blank) ≡ resting blank)
+    → ArePages count (seen_of (after_call call (state_of count first place_of calls)))
+    → IsSound count pages first new place_of (calls ++ call ∷ [])
 IsSound-call count pages first now new place_of calls call sound shown absent whole =
     let state = state_of count first place_of calls in
     let next : state_of count first place_of (calls ++ call ∷ []) ≡ after_call call state = after_calls-push calls call (at_rest (image_of count first place_of)) in
     let page : (q : ℕ) → q < count → history_of (state_of count first place_of (calls ++ call ∷ [])) q ≡ page_after q call (history_of state q) =
-      λ q h. ap (λ (s : DiskState). history_of s q) next ∙ history-after_call call state q (omega (arith, length-state_of count first place_of calls)) in
+    λ q h. ap (λ (s : DiskState). history_of s q) next ∙ history-after_call call state q (omega (arith, length-state_of count first place_of calls)) in
     record {
       places = sound.places;
       shown = λ q h. ap (λ (p : PageHistory). p.seen) (page q h) ∙ shown q h;
       absent = λ q h e. page q h ∙ ap (λ (p : PageHistory). page_after q call p) (sound.absent q h e) ∙ absent q h e;
-      whole = subst (λ (s : DiskState). ArePages count (seen_of s)) (sym next) whole
+      whole = subst (λ (s : DiskState). ArePages count (seen_of s)) (sym next) whole;
     }
 
 pub IsSound-synced : (count : ℕ) (pages : List ℕ) (first now : List (List ℕ)) (place_of : ℕ → Option ℕ) (calls : List Call) → IsSound count pages first now place_of calls → IsSound count pages first now place_of (calls ++ Synced ∷ [])
 IsSound-synced count pages first now place_of calls sound =
     IsSound-call count pages first now now place_of calls Synced sound sound.shown (λ q h e. refl)
-      (subst (λ (image : Image). ArePages count image) (sym (seen_of-settled (state_of count first place_of calls))) sound.whole)
+    (subst (λ (image : Image). ArePages count image) (sym (seen_of-settled (state_of count first place_of calls))) sound.whole)
 
 -- a page with no place isn't the one that is written
 apart-placed : (place_of : ℕ → Option ℕ) (n q place : ℕ) → place_of n ≡ Some place → place_of q ≡ None → nat_eq q n ≡ false
@@ -143,16 +143,16 @@ shown-failed q n bytes page false = refl
 pub IsSound-failed : (count : ℕ) (pages : List ℕ) (first now : List (List ℕ)) (place_of : ℕ → Option ℕ) (calls : List Call) (n place : ℕ) (page : Box Page Global) → IsSound count pages first now place_of calls → place_of n ≡ Some place → IsSound count pages first now place_of (calls ++ WriteFailed n page ∷ [])
 IsSound-failed count pages first now place_of calls n place page sound given =
     IsSound-call count pages first now now place_of calls (WriteFailed n page) sound
-      (λ q h. shown-failed q n page.value.0 (history_of (state_of count first place_of calls) q) (nat_eq q n) ∙ sound.shown q h)
-      (λ q h e. rw (apart-placed place_of n q place given e) refl)
-      (subst (λ (image : Image). ArePages count image) (sym (seen_of-failed_whole n page.value.0 (state_of count first place_of calls))) sound.whole)
+    (λ q h. shown-failed q n page.value.0 (history_of (state_of count first place_of calls) q) (nat_eq q n) ∙ sound.shown q h)
+    (λ q h e. rw (apart-placed place_of n q place given e) refl)
+    (subst (λ (image : Image). ArePages count image) (sym (seen_of-failed_whole n page.value.0 (state_of count first place_of calls))) sound.whole)
 
 bytes_of-other : (now : List (List ℕ)) (bytes : List ℕ) (place : ℕ) (other : Option ℕ) → (other ≡ Some place → ⊥) → bytes_of (set now place bytes) other ≡ bytes_of now other
 bytes_of-other now bytes place None apart = refl
 bytes_of-other now bytes place (Some p) apart = get_or-set_other now place p bytes blank (λ e. apart (ap Some e))
 
 shown-wrote : (now : List (List ℕ)) (bytes : List ℕ) (place_of : ℕ → Option ℕ) (n q place : ℕ) (page : PageHistory) → place < length now → place_of n ≡ Some place → ((q ≡ n → ⊥) → place_of q ≡ Some place → ⊥) → page.seen ≡ bytes_of now (place_of q) → (q ≡ n) ⊎ (q ≡ n → ⊥)
-  → (if nat_eq q n then (record page { seen = bytes; writes = page.writes ++ bytes ∷ [] }) else page).seen ≡ bytes_of (set now place bytes) (place_of q)
+    → (if nat_eq q n then (record page { seen = bytes; writes = page.writes ++ bytes ∷ [] }) else page).seen ≡ bytes_of (set now place bytes) (place_of q)
 shown-wrote now bytes place_of n q place page there given apart old (inl same) =
     rw (eq-eqb q n same) (sym (ap (λ (k : ℕ). bytes_of (set now place bytes) (place_of k)) same ∙ ap (λ (o : Option ℕ). bytes_of (set now place bytes) o) given ∙ get_or-set_same now place bytes blank there))
 shown-wrote now bytes place_of n q place page there given apart old (inr other) =
@@ -163,7 +163,7 @@ IsSound-wrote count pages first now place_of calls n place page sound given long
     let state = state_of count first place_of calls in
     let here = sound.places n place given in
     IsSound-call count pages first now (set now place page.value.0) place_of calls (Wrote n page) sound
-      (λ q h. shown-wrote now page.value.0 place_of n q place (history_of state q) (omega (arith, here.0)) given
-        (λ other e. other (sym (sound.places q place e).1 ∙ here.1)) (sound.shown q h) (cases_eq q n))
-      (λ q h e. rw (apart-placed place_of n q place given e) refl)
-      (subst (λ (image : Image). ArePages count image) (sym (seen_of-written n page.value.0 state)) (ArePages-set count (seen_of state) n page.value.0 sound.whole size))
+    (λ q h. shown-wrote now page.value.0 place_of n q place (history_of state q) (omega (arith, here.0)) given
+    (λ other e. other (sym (sound.places q place e).1 ∙ here.1)) (sound.shown q h) (cases_eq q n))
+    (λ q h e. rw (apart-placed place_of n q place given e) refl)
+    (subst (λ (image : Image). ArePages count image) (sym (seen_of-written n page.value.0 state)) (ArePages-set count (seen_of state) n page.value.0 sound.whole size))

@@ -2,7 +2,7 @@
 use Rattle.std.specs.Prelude.{◌≡◌, ◌<◌, ◌≤◌, ◌+◌, ℕ, List, [], ◌∷◌, ◌++◌, length, get_or, Bool, true, false, nat_eq, if◌then◌else◌}
 use Rattle.std.proofs.Common.{refl, sym, ap, ◌∙◌, subst, arith, suc, zero}
 use Rattle.std.proofs.lemmas.List.{get_or_at, length-append, length-map, get_or-map}
-use Rattle.jfs_disk.specs.Image.{Image, page_of}
+use Rattle.jfs_disk.specs.Image.{Image, page_of, ArePages}
 use Rattle.jfs_disk.specs.Crash.{PageHistory, DiskState, history_of, seen_of, no_page, content_of, IsCrashPage, IsCrashImage, torn, last_of}
 use Rattle.jfs_disk.specs.Calls.{resting, at_rest, after_calls, states_of, page_written, page_failed, page_after, page_after_calls}
 use Rattle.jfs_disk.specs.declared.call.Call.{Call}
@@ -20,7 +20,7 @@ IsKept-written : (bytes : List ℕ) (page : PageHistory) → IsKept page → (te
 IsKept-written bytes page kept true = record {
   place = suc (length page.writes);
   there = omega (arith, length-append {A = List ℕ} page.writes (bytes ∷ []));
-  same = get_or_at page.writes bytes [] [] (length page.writes) refl
+  same = get_or_at page.writes bytes [] [] (length page.writes) refl;
 }
 IsKept-written bytes page kept false = kept
 
@@ -28,7 +28,7 @@ IsKept-failed : (bytes : List ℕ) (page : PageHistory) → IsKept page → (tes
 IsKept-failed bytes page kept true = record {
   place = suc (length page.writes);
   there = omega (arith, length-append {A = List ℕ} page.writes (page.seen ∷ bytes ∷ []));
-  same = get_or_at page.writes page.seen (bytes ∷ []) [] (length page.writes) refl
+  same = get_or_at page.writes page.seen (bytes ∷ []) [] (length page.writes) refl;
 }
 IsKept-failed bytes page kept false = kept
 
@@ -44,9 +44,13 @@ IsKept-calls n (call ∷ calls) page kept = IsKept-calls n calls (page_after n c
 IsCrashPage-kept : (page : PageHistory) (left : List ℕ) → IsKept page → left ≡ page.seen → IsCrashPage page left
 unfolding torn
 IsCrashPage-kept page left kept e = record {
-  base = kept.place; top = kept.place; sectors = 0;
-  older = omega arith; there = kept.there; within = omega arith;
-  content = e ∙ sym kept.same
+  base = kept.place;
+  top = kept.place;
+  sectors = 0;
+  older = omega arith;
+  there = kept.there;
+  within = omega arith;
+  content = e ∙ sym kept.same;
 }
 
 IsKept-rest : (image : Image) (n : ℕ) → n < length image → IsKept (history_of (at_rest image) n)
@@ -56,18 +60,21 @@ IsKept-rest image n h = subst (λ (page : PageHistory). IsKept page) (sym (get_o
 pub reads_crash_of : (image : Image) (calls : List Call) → IsCrashImage (last_of (states_of calls (at_rest image))) (seen_of (last_of (states_of calls (at_rest image))))
 reads_crash_of image calls =
     subst (λ (state : DiskState). IsCrashImage state (seen_of state)) (sym (last_of-states calls (at_rest image)))
-      (record {
-        number = length-map (after_calls calls (at_rest image)) (λ (page : PageHistory). page.seen);
-        each = λ n h. each n h
-      })
+    (record {
+      number = length-map (after_calls calls (at_rest image)) (λ (page : PageHistory). page.seen);
+      each = λ n h. each n h;
+    })
   where
     each : (n : ℕ) → n < length (after_calls calls (at_rest image)) → IsCrashPage (history_of (after_calls calls (at_rest image)) n) (page_of (seen_of (after_calls calls (at_rest image))) n)
     each n h =
-      let first : n < length image = omega (arith, length-after_calls calls (at_rest image), length-map image resting) in
-      IsCrashPage-kept (history_of (after_calls calls (at_rest image)) n) (page_of (seen_of (after_calls calls (at_rest image))) n)
+        let first : n < length image = omega (arith, length-after_calls calls (at_rest image), length-map image resting) in
+        IsCrashPage-kept (history_of (after_calls calls (at_rest image)) n) (page_of (seen_of (after_calls calls (at_rest image))) n)
         (subst (λ (page : PageHistory). IsKept page) (sym (history-after_calls calls (at_rest image) n (omega (arith, length-map image resting))))
-          (IsKept-calls n calls (history_of (at_rest image) n) (IsKept-rest image n first)))
+        (IsKept-calls n calls (history_of (at_rest image) n) (IsKept-rest image n first)))
         (page_of-seen_of (after_calls calls (at_rest image)) n)
 
 pub has_state_of : (image : Image) (calls : List Call) → 0 < length (states_of calls (at_rest image))
 has_state_of image calls = omega (arith, length-states_of calls (at_rest image))
+
+pub whole_of : (count : ℕ) (image : Image) (calls : List Call) → ArePages count (seen_of (after_calls calls (at_rest image))) → ArePages count (seen_of (last_of (states_of calls (at_rest image))))
+whole_of count image calls whole = subst (λ (state : DiskState). ArePages count (seen_of state)) (sym (last_of-states calls (at_rest image))) whole

@@ -14,7 +14,7 @@ pub seen_of-written : (n : ℕ) (bytes : List ℕ) (state : DiskState) → seen_
 unfolding written
 seen_of-written n bytes state =
     map-set (λ (page : PageHistory). page.seen) state n
-      (record { seen = bytes; stable = (history_of state n).stable; writes = (history_of state n).writes ++ bytes ∷ [] })
+    (record { seen = bytes; stable = (history_of state n).stable; writes = (history_of state n).writes ++ bytes ∷ [] })
 
 -- a failed write puts some front sectors of its bytes
 pub seen_of-failed : (n : ℕ) (bytes : List ℕ) (sectors : ℕ) (state : DiskState) → seen_of (failed n bytes sectors state) ≡ set (seen_of state) n (torn sectors bytes (page_of (seen_of state) n))
@@ -22,7 +22,7 @@ unfolding failed
 seen_of-failed n bytes sectors state =
     let left = torn sectors bytes (history_of state n).seen in
     map-set (λ (page : PageHistory). page.seen) state n
-      (record { seen = left; stable = (history_of state n).stable; writes = (history_of state n).writes ++ left ∷ bytes ∷ [] })
+    (record { seen = left; stable = (history_of state n).stable; writes = (history_of state n).writes ++ left ∷ bytes ∷ [] })
     ∙ ap (λ (old : List ℕ). set (seen_of state) n (torn sectors bytes old)) (sym (page_of-seen_of state n))
 
 -- a write that fails with no sector leaves the page as it was

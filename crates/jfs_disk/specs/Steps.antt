@@ -48,9 +48,9 @@ update-cases f state n m h (inl same) =
     let test : nat_eq n m ≡ true = eq-eqb n m same in
     let place : m < length state = omega arith in
     rw test
-      (ap (λ (k : ℕ). history_of (set state m (f (history_of state m))) k) same
-      ∙ get_or-set_same state m (f (history_of state m)) no_page place
-      ∙ ap (λ (k : ℕ). f (history_of state k)) (sym same))
+    (ap (λ (k : ℕ). history_of (set state m (f (history_of state m))) k) same
+    ∙ get_or-set_same state m (f (history_of state m)) no_page place
+    ∙ ap (λ (k : ℕ). f (history_of state k)) (sym same))
 update-cases f state n m h (inr other) =
     let test : nat_eq n m ≡ false = ne_eqb n m other in
     rw test (get_or-set_other state m n (f (history_of state m)) no_page other)

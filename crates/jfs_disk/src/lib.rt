@@ -3,12 +3,14 @@
 
 mod call;
 mod disk;
+mod memory;
 mod page;
 mod plan;
 mod store;
 mod sure;
 
 pub use disk::{Disk, DiskError, Fault, Part};
+pub use memory::MemDisk;
 pub use page::{Page, PageList};
 pub use plan::{Fail, Kind};
 pub use sure::SureDisk;

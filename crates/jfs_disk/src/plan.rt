@@ -54,10 +54,7 @@ impl Fail {
     fn covers(&self, part: Part, kind: Kind, number: u64) -> bool
         ensures { result ≡ covers part kind number self.now }
     {
-        self.part.is(part)
-            && self.kind.is(kind)
-            && self.first <= number
-            && number <= self.last
+        self.part.is(part) && self.kind.is(kind) && self.first <= number && number <= self.last
     }
 }
 
@@ -78,7 +75,7 @@ pub struct Plan {
 }
 
 impl Counters {
-    fn new() -> Self
+    pub fn new() -> Self
         ensures { result ≡ record { reads = 0; writes = 0; syncs = 0 } }
     {
         Counters {
@@ -116,6 +113,8 @@ impl Plan {
         ensures counted { self.new ≡ record self.old { counters = counted kind self.old.counters } }
     {
         let number = self.counters.count(kind);
-        self.fails.iter().any(|fail| fail.covers(self.part, kind, number))
+        self.fails
+            .iter()
+            .any(|fail| fail.covers(self.part, kind, number))
     }
 }

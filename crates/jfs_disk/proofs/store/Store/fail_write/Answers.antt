@@ -15,6 +15,6 @@ pub returns-clause-past : goal.returns-clause-past
 returns-clause-past c =
     let s = c.place.new.self in
     last-added _ _ _ (failed c.args.n c.in_ok-bytes.bytes.value.0 0) (failed c.args.n c.args.from.now.0 0)
-      (past_of-push s.count (starts s.cells.items) (λ n. get nat_cmp s.index n) s.calls.items _ _ c.in_ok-push.ensures.items)
-      c.place.ensures.past
-      (ap (λ bytes. failed c.args.n bytes 0) c.in_ok-bytes.ensures.bytes)
+    (past_of-push s.count (starts s.cells.items) (λ n. get nat_cmp s.index n) s.calls.items _ _ c.in_ok-push.ensures.items)
+    c.place.ensures.past
+    (ap (λ bytes. failed c.args.n bytes 0) c.in_ok-bytes.ensures.bytes)

@@ -15,4 +15,4 @@ pub returns-clause-past : goal.returns-clause-past
 returns-clause-past c =
     let none : (n : ℕ) → get nat_cmp c.new-2.result n ≡ None = λ n. rw c.new-2.ensures.empty refl in
     rw (c.new.ensures.items, c.new-3.ensures.items)
-      (ap (λ (image : Image). let one : List DiskState = at_rest image ∷ [] in one) (image_of-none c.args.count [] (λ n. get nat_cmp c.new-2.result n) none))
+    (ap (λ (image : Image). let one : List DiskState = at_rest image ∷ [] in one) (image_of-none c.args.count [] (λ n. get nat_cmp c.new-2.result n) none))

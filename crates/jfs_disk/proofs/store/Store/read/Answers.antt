@@ -18,7 +18,7 @@ returns-in-Some c =
     let there = placed-there s.cells.items c.in-Some.place.now c.args.n (s.sound.places c.args.n c.in-Some.place.now found) in
     c.copy_page.ensures.bytes ∙ ap (λ page. page.0) c.deref.ensures
     ∙ sym (page_of-now s.count _ _ _ _ _ c.args.n s.sound c.requires
-      ∙ bytes_of-cell s.cells.items (get nat_cmp s.index c.args.n) c.in-Some.place.now c.index.result.now found there c.index.ensures)
+    ∙ bytes_of-cell s.cells.items (get nat_cmp s.index c.args.n) c.in-Some.place.now c.index.result.now found there c.index.ensures)
 
 pub returns-in-None : goal.returns-in-None
 returns-in-None c =
