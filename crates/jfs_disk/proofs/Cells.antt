@@ -37,13 +37,13 @@ starts-cell : (cells more : List Cell) (cell : Cell) → more ≡ cells ++ cell 
 starts-cell cells more cell e start =
     ap starts e ∙ map-append (λ (c : Cell). c.start.value.0) cells (cell ∷ []) ∙ ap (λ (bytes : List ℕ). starts cells ++ bytes ∷ []) start
 
-pub IsSound-cell : (count : ℕ) (cells more : List Cell) (cell : Cell) (place_of new_of : ℕ → Option ℕ) (calls : List Call) → IsSound count (numbers cells) (starts cells) (nows cells) place_of calls → more ≡ cells ++ cell ∷ [] → cell.start.value.0 ≡ blank → cell.now.value.0 ≡ blank → IsPlaced (length cells) cell.page place_of new_of → IsSound count (numbers more) (starts more) (nows more) new_of calls
+pub IsSound-cell : (count : ℕ) (cells more : List Cell) (cell : Cell) (place_of new_of : ℕ → Option ℕ) (calls : List Call) → IsSound count (numbers cells) (starts cells) (nows cells) place_of calls → more ≡ cells ++ cell ∷ [] → cell.start.value.0 ≡ blank → cell.held.value.0 ≡ blank → IsPlaced (length cells) cell.page place_of new_of → IsSound count (numbers more) (starts more) (nows more) new_of calls
 IsSound-cell count cells more cell place_of new_of calls sound e start now placed =
     let pages : numbers more ≡ numbers cells ++ cell.page ∷ [] = ap numbers e ∙ map-append (λ (c : Cell). c.page) cells (cell ∷ []) in
     let started : starts more ≡ starts cells ++ blank ∷ [] = starts-cell cells more cell e start in
-    let kept : nows more ≡ nows cells ++ blank ∷ [] = ap nows e ∙ map-append (λ (c : Cell). c.now.value.0) cells (cell ∷ []) ∙ ap (λ (bytes : List ℕ). nows cells ++ bytes ∷ []) now in
+    let kept : nows more ≡ nows cells ++ blank ∷ [] = ap nows e ∙ map-append (λ (c : Cell). c.held.value.0) cells (cell ∷ []) ∙ ap (λ (bytes : List ℕ). nows cells ++ bytes ∷ []) now in
     rw (pages, started, kept)
-    (IsSound-placed count (numbers cells) (starts cells) (nows cells) place_of new_of calls cell.page sound (same-length (λ (c : Cell). c.start.value.0) cells) (same-length (λ (c : Cell). c.now.value.0) cells) (placed-numbers cells cell.page place_of new_of placed))
+    (IsSound-placed count (numbers cells) (starts cells) (nows cells) place_of new_of calls cell.page sound (same-length (λ (c : Cell). c.start.value.0) cells) (same-length (λ (c : Cell). c.held.value.0) cells) (placed-numbers cells cell.page place_of new_of placed))
 
 pub past_of-cell : (count : ℕ) (cells more : List Cell) (cell : Cell) (place_of new_of : ℕ → Option ℕ) (calls : List Call) → IsSound count (numbers cells) (starts cells) (nows cells) place_of calls → more ≡ cells ++ cell ∷ [] → cell.start.value.0 ≡ blank → IsPlaced (length cells) cell.page place_of new_of → past_of count (starts more) new_of calls ≡ past_of count (starts cells) place_of calls
 past_of-cell count cells more cell place_of new_of calls sound e start placed =
@@ -63,11 +63,11 @@ page_of-now count pages first now place_of calls n sound h =
     ∙ sound.shown n h
 
 -- the bytes of the cell at a place
-pub bytes_of-cell : (cells : List Cell) (place : Option ℕ) (p : ℕ) (cell : Cell) → place ≡ Some p → p < length cells → cell ≡ get_or cells p cell → bytes_of (nows cells) place ≡ cell.now.value.0
+pub bytes_of-cell : (cells : List Cell) (place : Option ℕ) (p : ℕ) (cell : Cell) → place ≡ Some p → p < length cells → cell ≡ get_or cells p cell → bytes_of (nows cells) place ≡ cell.held.value.0
 bytes_of-cell cells place p cell e h read =
     ap (λ (o : Option ℕ). bytes_of (nows cells) o) e
-    ∙ get_or-map (λ (c : Cell). c.now.value.0) cells p cell blank h
-    ∙ ap (λ (c : Cell). c.now.value.0) (sym read)
+    ∙ get_or-map (λ (c : Cell). c.held.value.0) cells p cell blank h
+    ∙ ap (λ (c : Cell). c.held.value.0) (sym read)
 
 -- one more call adds the state after it
 pub past_of-push : (count : ℕ) (first : List (List ℕ)) (place_of : ℕ → Option ℕ) (calls more : List Call) (call : Call) → more ≡ calls ++ call ∷ [] → past_of count first place_of more ≡ past_of count first place_of calls ++ after_call call (last_of (past_of count first place_of calls)) ∷ []
@@ -107,8 +107,8 @@ pages-kept cells place cell old read same = map-set_same (λ (c : Cell). c.page)
 pub starts-kept : (cells : List Cell) (place : ℕ) (cell old : Cell) → old ≡ get_or cells place old → cell.start ≡ old.start → starts (set cells place cell) ≡ starts cells
 starts-kept cells place cell old read same = map-set_same (λ (c : Cell). c.start.value.0) cells place cell old (ap (λ (b : Box Page Global). b.value.0) (same ∙ ap (λ (c : Cell). c.start) read))
 
-pub nows-kept : (cells : List Cell) (place : ℕ) (cell : Cell) (bytes : List ℕ) → cell.now.value.0 ≡ bytes → nows (set cells place cell) ≡ set (nows cells) place bytes
-nows-kept cells place cell bytes e = map-set (λ (c : Cell). c.now.value.0) cells place cell ∙ ap (λ (new : List ℕ). set (nows cells) place new) e
+pub nows-kept : (cells : List Cell) (place : ℕ) (cell : Cell) (bytes : List ℕ) → cell.held.value.0 ≡ bytes → nows (set cells place cell) ≡ set (nows cells) place bytes
+nows-kept cells place cell bytes e = map-set (λ (c : Cell). c.held.value.0) cells place cell ∙ ap (λ (new : List ℕ). set (nows cells) place new) e
 
 -- a cell took the bytes that were written
 pub IsSound-kept : (count : ℕ) (cells new : List Cell) (place n : ℕ) (place_of : ℕ → Option ℕ) (calls more : List Call) (page : Box Page Global) → IsSound count (numbers cells) (starts cells) (nows cells) place_of calls → place_of n ≡ Some place → more ≡ calls ++ Wrote n page ∷ [] → length page.value.0 ≡ 4096
@@ -116,7 +116,7 @@ pub IsSound-kept : (count : ℕ) (cells new : List Cell) (place n : ℕ) (place_
     → IsSound count (numbers new) (starts new) (nows new) place_of more
 IsSound-kept count cells new place n place_of calls more page sound given e size pages first kept =
     rw (pages, first, kept, e)
-    (IsSound-wrote count (numbers cells) (starts cells) (nows cells) place_of calls n place page sound given (same-length (λ (c : Cell). c.now.value.0) cells) size)
+    (IsSound-wrote count (numbers cells) (starts cells) (nows cells) place_of calls n place page sound given (same-length (λ (c : Cell). c.held.value.0) cells) size)
 
 -- the new state is made from the last of the states before
 pub last-added : (past more old : List DiskState) (f g : DiskState → DiskState) → more ≡ past ++ f (last_of past) ∷ [] → past ≡ old → f ≡ g → more ≡ old ++ g (last_of old) ∷ []

@@ -2,3 +2,4 @@ pub mod Images
 pub mod Sound
 pub mod Cells
 pub mod Outcomes
+pub mod Contents

@@ -25,7 +25,7 @@ abbrev pub starts : List Cell → List (List ℕ)
 starts cells = map (λ cell. cell.start.value.0) cells
 
 abbrev pub nows : List Cell → List (List ℕ)
-nows cells = map (λ cell. cell.now.value.0) cells
+nows cells = map (λ cell. cell.held.value.0) cells
 
 -- the states since the start
 abbrev pub past_of : ℕ → List (List ℕ) → (ℕ → Option ℕ) → List Call → List DiskState

@@ -15,5 +15,5 @@ pub enum Call {
 pub struct Cell {
     pub page: u32,
     pub start: Box<Page>,
-    pub now: Box<Page>,
+    pub held: Box<Page>,
 }

@@ -2,6 +2,7 @@
 #![tactic(auto)]
 
 mod call;
+mod choice;
 mod disk;
 mod memory;
 mod page;
@@ -9,6 +10,7 @@ mod plan;
 mod store;
 mod sure;
 
+pub use choice::Choice;
 pub use disk::{Disk, DiskError, Fault, Part};
 pub use memory::MemDisk;
 pub use page::{Page, PageList};

@@ -53,7 +53,7 @@ impl Store {
         ensures { into.new.0 ≡ page_of (seen_of (last_of (past_in self.now))) n }
     {
         match self.index.get(&n) {
-            Some(place) => copy_page(&self.cells[*place].now, into),
+            Some(place) => copy_page(&self.cells[*place].held, into),
             None => *into = Page::zeros(),
         }
     }
@@ -82,7 +82,7 @@ impl Store {
         self.cells.push(Cell {
             page: n,
             start: Box::new(self.alloc, Page::zeros())?,
-            now: Box::new(self.alloc, Page::zeros())?,
+            held: Box::new(self.alloc, Page::zeros())?,
         })?;
         match self.index.insert(n, place) {
             Ok(_) => Ok(place),
@@ -145,5 +145,5 @@ fn keep(cells: &mut Vec<Cell>, place: usize, from: &Page)
     ensures nows { nows cells.new.items ≡ set (nows cells.old.items) place from.now.0 }
 {
     let cell = &mut cells[place];
-    copy_page(from, &mut cell.now);
+    copy_page(from, &mut cell.held);
 }
