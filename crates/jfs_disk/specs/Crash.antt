@@ -1,5 +1,5 @@
 -- What a crash may leave of a disk whose writes tear by whole sectors.
-use Rattle.std.specs.Prelude.{◌≡◌, ◌⊎◌, ◌<◌, ◌≤◌, ◌+◌, ◌-◌, ◌*◌, ℕ, List, [], ◌∷◌, ◌++◌, length, take, drop, map, get_or, set}
+use Rattle.std.specs.Prelude.{◌≡◌, ◌⊎◌, ◌<◌, ◌≤◌, ◌-◌, ◌*◌, ℕ, List, [], ◌∷◌, ◌++◌, length, take, drop, map, get_or, set}
 use Rattle.jfs_disk.specs.Image.{Image, page_of}
 
 -- the first sectors of one content of a page, then the rest of another

@@ -1,8 +1,18 @@
-//! Pages, the trait of a disk, and what a crash may leave of one.
+//! Pages, the trait of a disk, what a crash may leave of one, and disks in memory.
 #![tactic(auto)]
 
+mod call;
+mod choice;
 mod disk;
+mod memory;
 mod page;
+mod plan;
+mod store;
+mod sure;
 
+pub use choice::Choice;
 pub use disk::{Disk, DiskError, Fault, Part};
+pub use memory::MemDisk;
 pub use page::{Page, PageList};
+pub use plan::{Fail, Kind};
+pub use sure::SureDisk;

@@ -1,6 +1,6 @@
 //! A page of 4,096 bytes.
 
-ghost use Rattle.std.specs.Prelude.{◌≡◌, replicate};
+ghost use Rattle.std.specs.Prelude.{◌≡◌, length, replicate};
 
 use jfs_bits::Sequence;
 
@@ -15,6 +15,14 @@ impl Page {
     {
         Page([0; 4096])
     }
+}
+
+pub(crate) fn copy_page(from: &Page, into: &mut Page)
+    ensures bytes { into.new.0 ≡ from.now.0 }
+    ensures size { length from.now.0 ≡ 4096 }
+{
+    let bytes: &[u8] = &from.0;
+    into.0.copy_from_slice(bytes);
 }
 
 /// Pages in order.

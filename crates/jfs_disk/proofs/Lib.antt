@@ -1,0 +1,5 @@
+pub mod Images
+pub mod Sound
+pub mod Cells
+pub mod Outcomes
+pub mod Contents

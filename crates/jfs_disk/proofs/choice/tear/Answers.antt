@@ -1,0 +1,8 @@
+use Rattle.std.proofs.Common.{refl, arith}
+use Rattle.std.proofs.lemmas.Grind.{common_steps}
+use Rattle.jfs_disk.specs.Crash.{torn}
+use Rattle.jfs_disk.proofs.choice.tear.Goals as goal
+
+pub returns : goal.returns
+unfolding torn
+returns c = rw (c.copy_from_slice.ensures.after, c.copy_page.ensures.bytes) refl

@@ -1,0 +1,10 @@
+-- What a crash leaves of a page that a disk in memory keeps.
+use Rattle.std.specs.Prelude.{ℕ, List}
+use Rattle.jfs_disk.specs.Calls.{resting, page_after_calls}
+use Rattle.jfs_disk.specs.Choice.{left_by, choice_of}
+use Rattle.jfs_disk.specs.declared.call.Call.{Call}
+use Rattle.jfs_disk.specs.declared.call.Cell.{Cell}
+use Rattle.jfs_disk.specs.declared.choice.Choice.{Choice}
+
+abbrev pub left_of : List Choice → List Call → Cell → List ℕ
+left_of choices calls cell = left_by (choice_of choices cell.page) (page_after_calls cell.page calls (resting cell.start.value.0)) cell.held.value.0

@@ -1,0 +1,38 @@
+-- A disk in memory, as its clauses see it.
+use Rattle.std.specs.Prelude.{ℕ, Bool, List}
+use Rattle.jfs_disk.specs.Image.{Image}
+use Rattle.jfs_disk.specs.Crash.{DiskState, seen_of, last_of}
+use Rattle.jfs_disk.specs.Plan.{fails_next}
+use Rattle.jfs_disk.specs.Store.{past_in}
+use Rattle.jfs_disk.specs.declared.disk.Part.{Part}
+use Rattle.jfs_disk.specs.declared.plan.Kind.{Kind}
+use Rattle.jfs_disk.specs.declared.plan.Fail.{Fail}
+use Rattle.jfs_disk.specs.declared.plan.Counters.{Counters}
+use Rattle.jfs_disk.specs.declared.memory.MemDisk.{MemDisk}
+
+abbrev pub page_count_of : MemDisk → ℕ
+page_count_of disk = disk.store.count
+
+abbrev pub past_of_disk : MemDisk → List DiskState
+past_of_disk disk = past_in disk.store
+
+-- what a read gives
+abbrev pub image_of_disk : MemDisk → Image
+image_of_disk disk = seen_of (last_of (past_of_disk disk))
+
+abbrev pub fault_count_of : MemDisk → ℕ
+fault_count_of disk = disk.faults
+
+abbrev pub part_of : MemDisk → Part
+part_of disk = disk.plan.part
+
+abbrev pub fails_of : MemDisk → List Fail
+fails_of disk = disk.plan.fails.items
+
+-- how many calls of each kind there were
+abbrev pub counters_of : MemDisk → Counters
+counters_of disk = disk.plan.counters
+
+-- whether the next call of a kind fails by one of the fails
+abbrev pub will_fail : Kind → MemDisk → Bool
+will_fail kind disk = fails_next (fails_of disk) (part_of disk) kind (counters_of disk)

@@ -1,0 +1,181 @@
+//! A disk in memory that can fail and crash.
+
+ghost use Rattle.std.specs.Prelude.{◌≡◌, ◌≢◌, ◌<◌, ◌≤◌, ◌⊎◌, ◌++◌, ◌∷◌, [], OnOk, OnErr, false, is_ok, set, if◌then◌else◌};
+ghost use Rattle.jfs_disk.specs.Image.{zeros, page_of};
+ghost use Rattle.jfs_disk.specs.Crash.{seen_of, last_of, written, failed, settled, TearsPage, LeavesTorn};
+ghost use Rattle.jfs_disk.specs.Fault.{HasCause, Rose};
+ghost use Rattle.jfs_disk.specs.Calls.{at_rest};
+ghost use Rattle.jfs_disk.specs.Plan.{raised, counted};
+ghost use Rattle.jfs_disk.specs.Store.{past_in};
+ghost use Rattle.jfs_disk.specs.Memory.{page_count_of, past_of_disk, image_of_disk, fault_count_of, part_of, fails_of, counters_of, will_fail};
+ghost use Rattle.jfs_disk.specs.Law.{reads_crash_of, has_state_of, whole_of};
+ghost use Rattle.std.proofs.Common.{refl};
+
+use crate::disk::{Disk, DiskError, Part};
+use crate::page::Page;
+use crate::plan::{Counters, Fail, Kind, Plan};
+use crate::store::Store;
+use std::alloc::Global;
+
+/// A disk in memory. It keeps only pages that were written; all others read as zeros.
+/// A write or sync that finds no memory fails, and leaves the page as it was.
+#[derive(Drop)]
+pub struct MemDisk {
+    store: Store,
+    plan: Plan,
+    faults: u64,
+}
+
+impl MemDisk {
+    /// A disk of so many pages of zeros, none of whose calls fails. It takes no memory yet.
+    pub fn new(alloc: Global, pages: u32) -> MemDisk
+        ensures pages { page_count_of result ≡ pages }
+        ensures past { past_of_disk result ≡ at_rest (zeros pages) ∷ [] }
+        ensures faults { fault_count_of result ≡ 0 }
+        ensures part { part_of result ≡ Part.Whole }
+        ensures fails { fails_of result ≡ [] }
+        ensures counters { counters_of result ≡ record { reads = 0; writes = 0; syncs = 0 } }
+    {
+        MemDisk {
+            store: Store::new(alloc, pages),
+            plan: Plan {
+                part: Part::Whole,
+                fails: Vec::new(alloc),
+                counters: Counters::new(),
+            },
+            faults: 0,
+        }
+    }
+
+    /// The same disk, of which these calls fail, and which counts its calls anew.
+    pub fn with_fails(self, fails: Vec<Fail>) -> MemDisk
+        ensures fails { fails_of result ≡ fails.items }
+        ensures counters { counters_of result ≡ record { reads = 0; writes = 0; syncs = 0 } }
+        ensures pages { page_count_of result ≡ page_count_of self }
+        ensures past { past_of_disk result ≡ past_of_disk self }
+        ensures faults { fault_count_of result ≡ fault_count_of self }
+        ensures part { part_of result ≡ part_of self }
+    {
+        MemDisk {
+            store: self.store,
+            plan: Plan {
+                part: self.plan.part,
+                fails,
+                counters: Counters::new(),
+            },
+            faults: self.faults,
+        }
+    }
+
+    /// Raises the count of faults, up to the last `u64` value.
+    fn fault(&mut self) -> DiskError
+        ensures error { result ≡ DiskError.Failed }
+        ensures faults { fault_count_of self.new ≡ raised (fault_count_of self.old) }
+        ensures later { fault_count_of self.old ≤ fault_count_of self.new }
+        ensures rose { Rose (fault_count_of self.old) (fault_count_of self.new) }
+        ensures store { self.new.store ≡ self.old.store }
+        ensures plan { self.new.plan ≡ self.old.plan }
+    {
+        self.faults = self.faults.saturating_add(1);
+        DiskError::Failed
+    }
+}
+
+impl Disk for MemDisk {
+    ghost page_count = { page_count_of };
+
+    ghost fault_count = { fault_count_of };
+
+    ghost tells = { Unit {0} };
+
+    ghost image = { image_of_disk };
+
+    ghost tells_crashes = { Unit {0} };
+
+    ghost past = { past_of_disk };
+
+    fn pages(&self) -> u32 {
+        self.store.pages()
+    }
+
+    /// It fails exactly where one of the fails says so.
+    fn read(&mut self, n: u32, into: &mut Page) -> Result<(), DiskError>
+        requires { n < page_count_of self.old }
+        ensures fails { result ≡ (if will_fail Kind.Read self.old then Err DiskError.Failed else Ok tt) }
+        ensures bytes { OnOk result (into.new.0 ≡ page_of (image_of_disk self.old) n) }
+        ensures pages { page_count_of self.new ≡ page_count_of self.old }
+        ensures past { past_of_disk self.new ≡ past_of_disk self.old }
+        ensures faults { fault_count_of self.new ≡ (if will_fail Kind.Read self.old then raised (fault_count_of self.old) else fault_count_of self.old) }
+        ensures cause { HasCause (fault_count_of self.old) (fault_count_of self.new) result }
+        ensures counters { counters_of self.new ≡ counted Kind.Read (counters_of self.old) }
+        ensures plan { (part_of self.new ≡ part_of self.old) × (fails_of self.new ≡ fails_of self.old) }
+    {
+        if self.plan.count(Kind::Read) {
+            return Err(self.fault());
+        }
+        self.store.read(n, into);
+        Ok(())
+    }
+
+    /// It fails where one of the fails says so, and else for want of memory alone. The page is then as it was.
+    fn write(&mut self, n: u32, from: &Page) -> Result<(), DiskError>
+        requires { n < page_count_of self.old }
+        ensures fails { OnOk result (will_fail Kind.Write self.old ≡ false) }
+        ensures past { OnOk result (past_of_disk self.new ≡ past_of_disk self.old ++ written n from.now.0 (last_of (past_of_disk self.old)) ∷ []) }
+        ensures image { OnOk result (image_of_disk self.new ≡ set (image_of_disk self.old) n from.now.0) }
+        ensures past_failed { OnErr result (LeavesTorn n from.now.0 (past_of_disk self.old) (past_of_disk self.new)) }
+        ensures image_failed { OnErr result (TearsPage n from.now.0 (image_of_disk self.old) (image_of_disk self.new)) }
+        ensures pending { OnErr result ((past_of_disk self.new ≡ past_of_disk self.old)
+            ⊎ (past_of_disk self.new ≡ past_of_disk self.old ++ failed n from.now.0 0 (last_of (past_of_disk self.old)) ∷ [])) }
+        ensures page_stays { OnErr result (image_of_disk self.new ≡ image_of_disk self.old) }
+        ensures error { result ≢ Err DiskError.Memory }
+        ensures pages { page_count_of self.new ≡ page_count_of self.old }
+        ensures faults { fault_count_of self.new ≡ (if is_ok result then fault_count_of self.old else raised (fault_count_of self.old)) }
+        ensures cause { HasCause (fault_count_of self.old) (fault_count_of self.new) result }
+        ensures counters { counters_of self.new ≡ counted Kind.Write (counters_of self.old) }
+        ensures plan { (part_of self.new ≡ part_of self.old) × (fails_of self.new ≡ fails_of self.old) }
+    {
+        if self.plan.count(Kind::Write) {
+            let _ = self.store.fail_write(n, from);
+            return Err(self.fault());
+        }
+        match self.store.write(n, from) {
+            Ok(()) => Ok(()),
+            Err(_) => Err(self.fault()),
+        }
+    }
+
+    /// It fails where one of the fails says so, and else for want of memory alone.
+    fn sync(&mut self) -> Result<(), DiskError>
+        ensures fails { OnOk result (will_fail Kind.Sync self.old ≡ false) }
+        ensures past { OnOk result (past_of_disk self.new ≡ past_of_disk self.old ++ settled (last_of (past_of_disk self.old)) ∷ []) }
+        ensures image { image_of_disk self.new ≡ image_of_disk self.old }
+        ensures past_failed { OnErr result (past_of_disk self.new ≡ past_of_disk self.old) }
+        ensures error { result ≢ Err DiskError.Memory }
+        ensures pages { page_count_of self.new ≡ page_count_of self.old }
+        ensures faults { fault_count_of self.new ≡ (if is_ok result then fault_count_of self.old else raised (fault_count_of self.old)) }
+        ensures cause { HasCause (fault_count_of self.old) (fault_count_of self.new) result }
+        ensures counters { counters_of self.new ≡ counted Kind.Sync (counters_of self.old) }
+        ensures plan { (part_of self.new ≡ part_of self.old) × (fails_of self.new ≡ fails_of self.old) }
+    {
+        if self.plan.count(Kind::Sync) {
+            return Err(self.fault());
+        }
+        match self.store.sync() {
+            Ok(()) => Ok(()),
+            Err(_) => Err(self.fault()),
+        }
+    }
+
+    fn faults(&self) -> u64 {
+        self.faults
+    }
+
+    ghost has_pages = { λ disk _. whole_of disk.store.count _ disk.store.calls.items disk.store.sound.whole };
+
+    ghost reads_now = { λ _ _. refl };
+
+    ghost reads_crash = { λ disk _. reads_crash_of _ disk.store.calls.items };
+
+    ghost has_state = { λ disk _. has_state_of _ disk.store.calls.items };
+}
