@@ -4,7 +4,7 @@ use Rattle.std.proofs.Math.ListN.{set}
 use Rattle.std.proofs.lemmas.List.{get_or_push, length-append, set-get_or}
 use Rattle.jfs_disk.specs.Image.{Image, page_of}
 use Rattle.jfs_disk.specs.Crash.{DiskState, seen_of, last_of, written, failed, settled, torn, TearsPage, LeavesTorn}
-use Rattle.jfs_disk.specs.Fault.{Rose}
+use Rattle.jfs_bits.specs.Count.{Rose}
 use Rattle.jfs_disk.specs.Plan.{raised}
 use Rattle.std.proofs.lemmas.Bool.{cases_lt}
 use Rattle.jfs_disk.specs.Seen.{seen_of-written, seen_of-failed, seen_of-settled, seen_of-failed_whole}

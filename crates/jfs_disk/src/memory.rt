@@ -3,7 +3,8 @@
 ghost use Rattle.std.specs.Prelude.{◌≡◌, ◌≢◌, ◌<◌, ◌≤◌, ◌⊎◌, ◌++◌, ◌∷◌, [], OnOk, OnErr, false, is_ok, set, if◌then◌else◌};
 ghost use Rattle.jfs_disk.specs.Image.{zeros, page_of};
 ghost use Rattle.jfs_disk.specs.Crash.{seen_of, last_of, written, failed, settled, TearsPage, LeavesTorn};
-ghost use Rattle.jfs_disk.specs.Fault.{HasCause, Rose};
+ghost use Rattle.jfs_disk.specs.Fault.{HasCause};
+ghost use Rattle.jfs_bits.specs.Count.{Rose};
 ghost use Rattle.jfs_disk.specs.Calls.{at_rest};
 ghost use Rattle.jfs_disk.specs.Plan.{raised, counted};
 ghost use Rattle.jfs_disk.specs.Store.{past_in};
