@@ -1,0 +1,13 @@
+//! Tests of the top call, with the texts that users see.
+#![tactic(auto)]
+
+#[cfg(test)]
+mod drip;
+#[cfg(test)]
+mod faults;
+#[cfg(test)]
+mod fields;
+#[cfg(test)]
+mod refusals;
+#[cfg(test)]
+mod volume;
