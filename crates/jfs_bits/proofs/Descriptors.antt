@@ -1,5 +1,5 @@
 -- Descriptors read their own range alone, and what is written of one is read back.
-use Rattle.std.proofs.Common.{◌≡◌, ◌<◌, ◌≤◌, ◌+◌, ◌-◌, ◌*◌, ◌/◌, ◌%◌, ◌^◌, ℕ, List, [], ◌∷◌, ◌++◌, length, refl, sym, ap, ◌∙◌, arith}
+use Rattle.std.proofs.Common.{◌≡◌, ◌<◌, ◌≤◌, ◌+◌, ◌*◌, ◌/◌, ◌%◌, ◌^◌, ℕ, List, [], ◌++◌, length, refl, sym, ap, ◌∙◌, arith}
 use Rattle.byteorder.specs.Endian.{little_bytes}
 use Rattle.jfs_bits.specs.declared.descriptor.Pxd.{Pxd}
 use Rattle.jfs_bits.specs.declared.descriptor.Moment.{Moment}
@@ -10,14 +10,16 @@ use Rattle.jfs_bits.proofs.Ranges.{range_of-start, range_of-within, range_of-put
 -- the two words of 8 bytes
 pub words_of-range : (bytes : List ℕ) (at : ℕ) → (field_of bytes at 4 ≡ field_of (range_of bytes at 8) 0 4) × (field_of bytes (at + 4) 4 ≡ field_of (range_of bytes at 8) 4 4)
 words_of-range bytes at = (
-    field_of-range bytes at 4 ∙ sym (field_of-range (range_of bytes at 8) 0 4 ∙ ap (λ (z : List ℕ). field_of z 0 4) (range_of-start bytes at 8 4 (omega arith))),
-    field_of-range bytes (at + 4) 4 ∙ sym (field_of-range (range_of bytes at 8) 4 4 ∙ ap (λ (z : List ℕ). field_of z 0 4) (range_of-within bytes at 8 4 4 (omega arith))))
+  field_of-range bytes at 4 ∙ sym (field_of-range (range_of bytes at 8) 0 4 ∙ ap (λ (z : List ℕ). field_of z 0 4) (range_of-start bytes at 8 4 (omega arith))),
+  field_of-range bytes (at + 4) 4 ∙ sym (field_of-range (range_of bytes at 8) 4 4 ∙ ap (λ (z : List ℕ). field_of z 0 4) (range_of-within bytes at 8 4 4 (omega arith))),
+)
 
 pub words_of-bytes : (first second : ℕ) → first < 2 ^ 32 → second < 2 ^ 32 → (field_of (little_bytes 4 first ++ little_bytes 4 second) 0 4 ≡ first) × (field_of (little_bytes 4 first ++ little_bytes 4 second) 4 4 ≡ second)
 unfolding range_of
 words_of-bytes first second h k = (
-    field_of-number 4 first (little_bytes 4 second) h,
-    field_of-range (little_bytes 4 first ++ little_bytes 4 second) 4 4 ∙ field_of-number 4 second [] k)
+  field_of-number 4 first (little_bytes 4 second) h,
+  field_of-range (little_bytes 4 first ++ little_bytes 4 second) 4 4 ∙ field_of-number 4 second [] k,
+)
 
 pub pxd_of-range : (bytes : List ℕ) (at : ℕ) → pxd_of bytes at ≡ pxd_of (range_of bytes at 8) 0
 pxd_of-range bytes at = let w = words_of-range bytes at in rw (w.0, w.1) refl

@@ -51,10 +51,10 @@ range_of-puts_other (p ∷ ps) (q ∷ qs) page at width placed within clear =
     let one = length-put_bytes p.at p.bytes page (omega (arith, placed.0, placed.1)) in
     let k = both (is_apart (at, width) q) (is_apart_from_all (at, width) qs) clear in
     let side : (at + width ≤ p.at) ⊎ (p.at + length p.bytes ≤ at) =
-        elim (either (nat_le (at + width) q.0) (nat_le (q.0 + q.1) at) k.0) [
-          | inl before ↦ let h = leb-true (at + width) q.0 before in inl (omega (arith, placed.0))
-          | inr after ↦ let h = leb-true (q.0 + q.1) at after in inr (omega (arith, placed.0, placed.1))
-        ] in
+    elim (either (nat_le (at + width) q.0) (nat_le (q.0 + q.1) at) k.0) [
+      | inl before ↦ let h = leb-true (at + width) q.0 before in inl (omega (arith, placed.0))
+      | inr after ↦ let h = leb-true (q.0 + q.1) at after in inr (omega (arith, placed.0, placed.1))
+    ] in
     range_of-puts_other ps qs (put_bytes p.at p.bytes page) at width placed.2 (rw one w.1) k.1
     ∙ range_of-put_other at width p.at p.bytes page (omega (arith, placed.0, placed.1)) side
 

@@ -1,6 +1,6 @@
 -- Ranges of bytes, of a page in which others were put.
-use Rattle.std.proofs.Common.{◌≡◌, ◌<◌, ◌≤◌, ◌+◌, ◌-◌, ◌*◌, ◌^◌, ℕ, zero, suc, List, [], ◌∷◌, ◌++◌, ◌⊎◌, inl, inr, length, take, drop, refl, sym, ap, ◌∙◌, append_assoc, arith}
-use Rattle.std.proofs.lemmas.List.{take_at, drop_at, take-take, take-append-le, take-append-drop, drop-drop, drop-append-le, append-nil, length-drop, length-take, length-take-le, length-append}
+use Rattle.std.proofs.Common.{◌≡◌, ◌<◌, ◌≤◌, ◌+◌, ◌-◌, ◌^◌, ℕ, zero, suc, List, [], ◌∷◌, ◌++◌, ◌⊎◌, inl, inr, length, take, drop, refl, sym, ap, ◌∙◌, append_assoc, arith}
+use Rattle.std.proofs.lemmas.List.{take_at, drop_at, take-take, take-append-le, take-append-drop, drop-drop, drop-append-le, length-drop, length-take, length-take-le, length-append}
 use Rattle.byteorder.specs.Endian.{little_from, little_bytes}
 use Rattle.byteorder.specs.Numbers.{little_from-take, little_number-reads_back}
 use Rattle.jfs_bits.specs.Field.{field_of, put_bytes, range_of}
@@ -89,9 +89,9 @@ put_bytes-put_bytes at next a b bytes e h =
     let size : length front ≡ next = omega (arith, length-append (take at bytes) a, length-take-le at bytes (omega arith)) in
     let begin : take next (take at bytes ++ (a ++ rest)) ≡ front = ap (λ (z : List ℕ). take next z) whole ∙ take_at front rest next size in
     let end : drop (next + length b) (take at bytes ++ (a ++ rest)) ≡ drop (at + length (a ++ b)) bytes =
-        ap (λ (z : List ℕ). drop (next + length b) z) whole
-        ∙ sym (drop-drop (length b) next (front ++ rest))
-        ∙ ap (λ (z : List ℕ). drop (length b) z) (drop_at front rest next size)
-        ∙ drop-drop (length b) (at + length a) bytes
-        ∙ ap (λ (n : ℕ). drop n bytes) (omega (arith, length-append a b)) in
+    ap (λ (z : List ℕ). drop (next + length b) z) whole
+    ∙ sym (drop-drop (length b) next (front ++ rest))
+    ∙ ap (λ (z : List ℕ). drop (length b) z) (drop_at front rest next size)
+    ∙ drop-drop (length b) (at + length a) bytes
+    ∙ ap (λ (n : ℕ). drop n bytes) (omega (arith, length-append a b)) in
     rw (begin, end) (append_assoc (take at bytes) a (b ++ drop (at + length (a ++ b)) bytes) ∙ ap (λ (z : List ℕ). take at bytes ++ z) (sym (append_assoc a b (drop (at + length (a ++ b)) bytes))))

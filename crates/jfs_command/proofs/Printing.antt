@@ -1,8 +1,8 @@
 -- Steps of the loop that puts a text piece by piece.
-use Rattle.std.proofs.Common.{◌≡◌, ◌<◌, ◌≤◌, ℕ, List, [], ◌++◌, ◌⊎◌, inl, inr, length, take, drop, refl, sym, ap, ◌∙◌, append_assoc, arith}
+use Rattle.std.proofs.Common.{◌≡◌, ◌≤◌, ℕ, List, [], ◌++◌, inl, inr, length, take, drop, refl, sym, ap, ◌∙◌, append_assoc, arith}
 use Rattle.std.proofs.lemmas.List.{append-nil, take-append-drop, nil_from_length}
 use Rattle.jfs_bits.specs.Count.{Rose}
-use Rattle.jfs_command.specs.Print.{IsFront, Puts, PutsFront}
+use Rattle.jfs_command.specs.Print.{Puts, PutsFront}
 
 -- a front of the text was put, and the rest is left
 pub record Progress (tells : Type 0) (old new : List ℕ) (before now : ℕ) (text rest : List ℕ) : Type 0 where
@@ -19,7 +19,7 @@ goes_on tells old mid new before now after text rest n p put later = record {
   front = p.front ++ take n rest;
   split = p.split ∙ ap (λ (z : List ℕ). p.front ++ z) (sym (take-append-drop n rest)) ∙ sym (append_assoc p.front (take n rest) (drop n rest));
   put = λ t. put t ∙ ap (λ (z : List ℕ). z ++ take n rest) (p.put t) ∙ append_assoc old p.front (take n rest);
-  later = let a = p.later in omega arith
+  later = let a = p.later in omega arith;
 }
 
 -- what was put when a piece was refused

@@ -1,17 +1,16 @@
 -- What is refused and printed has its cause.
-use Rattle.std.proofs.Common.{◌≡◌, ◌≤◌, ℕ, List, [], ◌++◌, ◌⊎◌, inl, inr, Result, Ok, Err, refl, sym, subst, ◌∙◌}
+use Rattle.std.proofs.Common.{◌≡◌, ℕ, List, [], ◌⊎◌, inl, inr, Ok, Err, refl, sym, subst, ◌∙◌}
 use Rattle.std.proofs.lemmas.List.{append-nil}
 use Rattle.jfs_bits.specs.Count.{Rose}
 use Rattle.jfs_disk.specs.Image.{Image, page_of}
 use Rattle.jfs_super.specs.Super.{super_of}
 use Rattle.jfs_super.specs.Rules.{IsAccepted}
-use Rattle.jfs_super.specs.declared.fields.Super.{Super}
 use Rattle.jfs_command.specs.declared.words.Command.TheVariants.{Super as OfSuper}
 use Rattle.jfs_command.specs.declared.status.Status.{Status}
 use Rattle.jfs_command.specs.declared.status.Status.TheVariants as statuses
 use Rattle.jfs_command.specs.Text.{refusal_text}
-use Rattle.jfs_command.specs.Print.{IsFront, Puts, PutsFront, Refuses}
-use Rattle.jfs_command.specs.Top.{Run, IsPage8, Ends, IsTold, text_of, Prints, IsAnswered}
+use Rattle.jfs_command.specs.Print.{IsFront, Refuses}
+use Rattle.jfs_command.specs.Top.{Run, IsPage8, Ends, IsTold, Prints, IsAnswered}
 use Rattle.jfs_command.specs.Describe.{Looks}
 
 -- a status that comes before the command's own text

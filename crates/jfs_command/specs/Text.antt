@@ -5,7 +5,6 @@ use Rattle.std.specs.Fmt.{decimal}
 use Rattle.std.specs.Int.{w32, to_be_bytes}
 use Rattle.uuid.specs.Text.{lower, hyphenated_text}
 use Rattle.byteorder.specs.Endian.{little_bytes}
-use Rattle.jfs_bits.specs.declared.descriptor.Pxd.{Pxd}
 use Rattle.jfs_bits.specs.declared.rule.Rule.{Rule}
 use Rattle.jfs_bits.specs.Rule.{name_of}
 use Rattle.jfs_super.specs.declared.fields.Super.{Super}

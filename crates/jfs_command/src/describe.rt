@@ -23,10 +23,16 @@ const SUPERBLOCK: u32 = 8;
 /// Prints the superblock of the disk, or what is wrong with it.
 pub fn describe<D: Disk, K: Sink>(alloc: Global, disk: &mut D, out: &mut K) -> Status
     ensures answer { (page : List ℕ) × IsPage8 D.tells (D.page_count disk.old) (D.image disk.old) page
-        × IsAnswered (record { asked = Ok Command.Super; pages = D.page_count disk.old; page = page;
-            disk_before = D.fault_count disk.old; disk_after = D.fault_count disk.new;
-            sink_before = K.fault_count out.old; sink_after = K.fault_count out.new })
-            result K.tells (K.taken out.old) (K.taken out.new) }
+        × IsAnswered (record {
+          asked = Ok Command.Super;
+          pages = D.page_count disk.old;
+          page = page;
+          disk_before = D.fault_count disk.old;
+          disk_after = D.fault_count disk.new;
+          sink_before = K.fault_count out.old;
+          sink_after = K.fault_count out.new;
+        })
+        result K.tells (K.taken out.old) (K.taken out.new) }
     ensures later { D.fault_count disk.old ≤ D.fault_count disk.new }
     ensures pages { D.page_count disk.new ≡ D.page_count disk.old }
     ensures image { D.tells → D.image disk.new ≡ D.image disk.old }
@@ -79,7 +85,11 @@ pub fn super_lines(alloc: Global, s: &Super) -> Result<Vec<u8>, AllocError>
     let mut out = Vec::new(alloc);
     push_line(&mut out, b"magic", &s.magic.to_le_bytes())?;
     push_line(&mut out, b"version", s.version.to_string(alloc)?.as_bytes())?;
-    push_line(&mut out, b"blocks", (s.size / 8).to_string(alloc)?.as_bytes())?;
+    push_line(
+        &mut out,
+        b"blocks",
+        (s.size / 8).to_string(alloc)?.as_bytes(),
+    )?;
     push_line(&mut out, b"agsize", s.agsize.to_string(alloc)?.as_bytes())?;
     push_line(&mut out, b"flags", &hex(alloc, s.flag.0)?)?;
     push_line(&mut out, b"state", s.state.0.to_string(alloc)?.as_bytes())?;

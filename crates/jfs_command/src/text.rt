@@ -123,7 +123,12 @@ pub fn usage_line(alloc: Global, word: u32) -> Result<Vec<u8>, AllocError>
 }
 
 /// The line that refuses an image.
-pub fn bad_image_line(alloc: Global, page: u32, rule: Rule, value: u64) -> Result<Vec<u8>, AllocError>
+pub fn bad_image_line(
+    alloc: Global,
+    page: u32,
+    rule: Rule,
+    value: u64,
+) -> Result<Vec<u8>, AllocError>
     ensures { IfOk result (λ text. text.items ≡ bad_image_text page rule value) }
 {
     let mut out = Vec::new(alloc);

@@ -42,10 +42,16 @@ pub fn jfs_top<R: Threads + Wait + Sync, D: Disk + Send, S: Source, K: Sink, G: 
 
     // The status has its cause, and the text is that of the status.
     ensures answer { (page : List ℕ) × IsPage8 D.tells (D.page_count disk) (D.image disk) page
-        × IsAnswered (record { asked = command_of (texts words.now); pages = D.page_count disk; page = page;
-            disk_before = D.fault_count disk; disk_after = D.fault_count result.disk;
-            sink_before = K.fault_count out.old; sink_after = K.fault_count out.new })
-            result.status K.tells (K.taken out.old) (K.taken out.new) }
+        × IsAnswered (record {
+          asked = command_of (texts words.now);
+          pages = D.page_count disk;
+          page = page;
+          disk_before = D.fault_count disk;
+          disk_after = D.fault_count result.disk;
+          sink_before = K.fault_count out.old;
+          sink_after = K.fault_count out.new;
+        })
+        result.status K.tells (K.taken out.old) (K.taken out.new) }
 
     // Of an accepted superblock, where no count rises, the status is 0, or memory ran out.
     ensures complete { D.tells → command_of (texts words.now) ≡ Ok Command.Super
@@ -69,10 +75,16 @@ pub fn jfs_top<R: Threads + Wait + Sync, D: Disk + Send, S: Source, K: Sink, G: 
 // The work of the commands that need no threads.
 fn run<D: Disk, K: Sink>(alloc: Global, words: &[Vec<u8>], disk: &mut D, out: &mut K) -> Status
     ensures answer { (page : List ℕ) × IsPage8 D.tells (D.page_count disk.old) (D.image disk.old) page
-        × IsAnswered (record { asked = command_of (texts words.now); pages = D.page_count disk.old; page = page;
-            disk_before = D.fault_count disk.old; disk_after = D.fault_count disk.new;
-            sink_before = K.fault_count out.old; sink_after = K.fault_count out.new })
-            result K.tells (K.taken out.old) (K.taken out.new) }
+        × IsAnswered (record {
+          asked = command_of (texts words.now);
+          pages = D.page_count disk.old;
+          page = page;
+          disk_before = D.fault_count disk.old;
+          disk_after = D.fault_count disk.new;
+          sink_before = K.fault_count out.old;
+          sink_after = K.fault_count out.new;
+        })
+        result K.tells (K.taken out.old) (K.taken out.new) }
     ensures pages { D.page_count disk.new ≡ D.page_count disk.old }
     ensures image { D.tells → D.image disk.new ≡ D.image disk.old }
     ensures past { D.tells_crashes → D.past disk.new ≡ D.past disk.old }

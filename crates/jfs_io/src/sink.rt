@@ -120,7 +120,11 @@ impl Sink for MemSink {
         ensures same { self.new.zero_bytes ≡ self.old.zero_bytes }
     {
         if self.failing.next_fails() {
-            return if self.zero_bytes { Ok(0) } else { Err(SinkError::Failed) };
+            return if self.zero_bytes {
+                Ok(0)
+            } else {
+                Err(SinkError::Failed)
+            };
         }
         match self.bytes.extend_from_slice(bytes) {
             Ok(()) => Ok(bytes.len()),

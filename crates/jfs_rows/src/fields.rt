@@ -58,7 +58,11 @@ fn fields_are_little_endian(rt: HostRuntime) {
 
 #[test]
 fn the_layout_follows_the_log(rt: HostRuntime) -> Result<(), std::test::Fail> {
-    for (log_pages, file_limit) in [(1024u32, 268_435_456), (1023, 33_554_432), (256, 33_554_432)] {
+    for (log_pages, file_limit) in [
+        (1024u32, 268_435_456),
+        (1023, 33_554_432),
+        (256, 33_554_432),
+    ] {
         let mut page = sound_page();
         change(&mut page, &[(72, 4, u64::from(log_pages))]);
         let s = read_super(&page, 4096).ok().ok_or("accepted")?;

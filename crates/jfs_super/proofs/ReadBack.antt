@@ -1,6 +1,5 @@
 -- What is written of a superblock is read back.
-use Rattle.std.proofs.Common.{◌≡◌, ◌<◌, ◌^◌, ◌∷◌, [], ℕ, List, length, refl, arith}
-use Rattle.std.specs.Prelude.{if◌then◌else◌}
+use Rattle.std.proofs.Common.{◌≡◌, ◌<◌, ◌^◌, ◌∷◌, [], ℕ, List, length, refl}
 use Rattle.jfs_bits.specs.Piece.{puts}
 use Rattle.jfs_bits.proofs.Descriptors.{length-pxd_bytes, length-moment_bytes}
 use Rattle.jfs_bits.proofs.Pieces.{AreLaidOut, range_at-puts, field_of-puts, pxd_of-puts, moment_of-puts}
@@ -39,7 +38,7 @@ laid_out s page r size = record {
   places = (0, 4) ∷ (4, 4) ∷ (8, 8) ∷ (16, 4) ∷ (20, 2) ∷ (22, 2) ∷ (24, 4) ∷ (28, 2) ∷ (32, 4) ∷ (36, 4) ∷ (40, 4) ∷ (44, 4) ∷ (48, 8) ∷ (56, 8) ∷ (64, 4) ∷ (68, 4) ∷ (72, 8) ∷ (80, 8) ∷ (88, 8) ∷ (96, 4) ∷ (100, 1) ∷ (101, 11) ∷ (112, 8) ∷ (120, 8) ∷ (128, 8) ∷ (136, 16) ∷ (152, 16) ∷ (168, 16) ∷ [];
   placed = (refl, refl, (refl, refl, (refl, refl, (refl, refl, (refl, refl, (refl, refl, (refl, refl, (refl, refl, (refl, refl, (refl, refl, (refl, refl, (refl, refl, (refl, length-pxd_bytes s.ait2, (refl, length-pxd_bytes s.aim2, (refl, refl, (refl, refl, (refl, length-pxd_bytes s.logpxd, (refl, length-pxd_bytes s.fsckpxd, (refl, length-moment_bytes s.time, (refl, refl, (refl, refl, (refl, r.fpack, (refl, refl, (refl, length-pxd_bytes s.xfsckpxd, (refl, length-pxd_bytes s.xlogpxd, (refl, r.uuid, (refl, r.label, (refl, r.loguuid, tt))))))))))))))))))))))))))));
   within = rw size refl;
-  apart = refl
+  apart = refl;
 }
 
 pub super_of-puts : (s : Super) (page : List ℕ) → InRange s → FitsSuper s → length page ≡ 4096 → super_of (puts (pieces s) page) ≡ s

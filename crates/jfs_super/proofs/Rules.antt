@@ -61,7 +61,7 @@ accepted_layout s pages h =
       group = leb-true 8192 s.agsize group.1;
       behind = leb-true (blocks_of s) s.logpxd.addr shortest.0;
       shortest = leb-true 256 s.logpxd.len shortest.1;
-      longest = leb-true s.logpxd.len 32768 longest.1
+      longest = leb-true s.logpxd.len 32768 longest.1;
     }
 
 -- an accepted superblock has its page

@@ -13,7 +13,7 @@ geometry_of s = record {
   blocks = blocks_of s;
   agsize = s.agsize;
   log = s.logpxd;
-  file_limit = file_limit_of s.logpxd.len
+  file_limit = file_limit_of s.logpxd.len;
 }
 
 -- the bounds of a layout

@@ -35,7 +35,7 @@ super_of page = record {
   xlogpxd = pxd_of page 128;
   uuid = range_of page 136 16;
   label = range_of page 152 16;
-  loguuid = range_of page 168 16
+  loguuid = range_of page 168 16;
 }
 
 -- the runs of blocks have their place in a descriptor

@@ -7,7 +7,9 @@ ghost use Rattle.jfs_super.specs.Geometry.{geometry_of, file_limit_of, IsLayout}
 use crate::fields::{Geometry, Super};
 
 const LONG_LOG: u32 = 1024;
+
 const FILE_LIMIT: u64 = 268_435_456;
+
 const SHORT_LOG_FILE_LIMIT: u64 = 33_554_432;
 
 /// The layout that an accepted superblock gives.

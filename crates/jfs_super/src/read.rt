@@ -8,7 +8,7 @@ ghost use Rattle.jfs_super.specs.Rules.{IsAccepted, first_broken, Answers, ends_
 use crate::fields::{Super, VolumeState};
 use bitflags::Flags;
 use jfs_bits::{
-    Pxd, Rule, SuperFlags, get_array, get_moment, get_pxd, get_u16, get_u32, get_u64, get_u8,
+    Pxd, Rule, SuperFlags, get_array, get_moment, get_pxd, get_u8, get_u16, get_u32, get_u64,
 };
 use jfs_disk::Page;
 use uuid::Uuid;
@@ -92,8 +92,16 @@ fn check_shape(s: &Super, pages: u32) -> Result<(), BadSuper>
 {
     let s = *s;
     require(pages >= 9, Rule::Short, pages.into())?;
-    require(s.magic == u32::from_le_bytes(*b"JFS1"), Rule::Magic, s.magic.into())?;
-    require(s.version == 1 || s.version == 2, Rule::Version, s.version.into())?;
+    require(
+        s.magic == u32::from_le_bytes(*b"JFS1"),
+        Rule::Magic,
+        s.magic.into(),
+    )?;
+    require(
+        s.version == 1 || s.version == 2,
+        Rule::Version,
+        s.version.into(),
+    )?;
     require(s.bsize == 4096, Rule::Bsize, s.bsize.into())?;
     require(s.l2bsize == 12, Rule::L2bsize, s.l2bsize.into())?;
     require(s.l2bfactor == 3, Rule::L2bfactor, s.l2bfactor.into())?;
@@ -107,9 +115,17 @@ fn check_flags(s: &Super) -> Result<(), BadSuper>
 {
     let flag = s.flag;
     let compress = s.compress;
-    require(flag.contains(SuperFlags::INLINELOG), Rule::Inline, flag.0.into())?;
+    require(
+        flag.contains(SuperFlags::INLINELOG),
+        Rule::Inline,
+        flag.0.into(),
+    )?;
     require(!flag.contains(SuperFlags::OS2), Rule::Os2, flag.0.into())?;
-    require(!flag.contains(SuperFlags::DIR_INDEX), Rule::Index, flag.0.into())?;
+    require(
+        !flag.contains(SuperFlags::DIR_INDEX),
+        Rule::Index,
+        flag.0.into(),
+    )?;
     require(compress == 0, Rule::Compress, compress.into())
 }
 
@@ -124,7 +140,11 @@ fn check_size(s: &Super) -> Result<(), BadSuper>
     let agsize = u64::from(s.agsize);
     let groups_fit = s.agsize.is_power_of_two() && agsize >= 8192 && blocks.div_ceil(agsize) <= 128;
     require(groups_fit, Rule::Agsize, agsize)?;
-    require(VolumeState::KNOWN.contains(&s.state), Rule::State, s.state.0.into())
+    require(
+        VolumeState::KNOWN.contains(&s.state),
+        Rule::State,
+        s.state.0.into(),
+    )
 }
 
 #[tactic(auto, unfolding(crate::specs::Rules::log_rows))]
@@ -140,8 +160,16 @@ fn check_log(s: &Super, pages: u32) -> Result<(), BadSuper>
         && log.len <= 32768
         && is_within(log, pages.into());
     require(log_fits, Rule::Log, log.addr)?;
-    require(s.ait2.len == 4 && is_within(s.ait2, blocks), Rule::Second, s.ait2.addr)?;
-    require(s.aim2.len == 2 && is_within(s.aim2, blocks), Rule::Second, s.aim2.addr)
+    require(
+        s.ait2.len == 4 && is_within(s.ait2, blocks),
+        Rule::Second,
+        s.ait2.addr,
+    )?;
+    require(
+        s.aim2.len == 2 && is_within(s.aim2, blocks),
+        Rule::Second,
+        s.aim2.addr,
+    )
 }
 
 // The run ends within so many blocks.

@@ -5,7 +5,7 @@ ghost use Rattle.jfs_bits.specs.Piece.{puts};
 ghost use Rattle.jfs_super.specs.Super.{super_of, pieces, FitsSuper};
 
 use crate::fields::Super;
-use jfs_bits::{put_array, put_moment, put_pxd, put_u16, put_u32, put_u64, put_u8};
+use jfs_bits::{put_array, put_moment, put_pxd, put_u8, put_u16, put_u32, put_u64};
 use jfs_disk::Page;
 
 /// Puts the fields into a page; all other bytes stay.

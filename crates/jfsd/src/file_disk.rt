@@ -5,10 +5,9 @@ ghost use Rattle.jfs_disk.specs.Fault.{HasCause};
 
 use jfs_disk::{Disk, DiskError, Page};
 use std::fs::{File, OpenFile, OpenOptions};
-use std::io;
 use std::os::unix::fs::FileExt;
 use std::rt::Files;
-use std::str;
+use std::{io, str};
 
 const PAGE_BYTES: u64 = 4096;
 
@@ -76,7 +75,12 @@ impl FileDisk {
     // The file that is written.
     fn written(&self) -> io::Result<&File> {
         match &self.files {
-            Some(ImageFiles { writes: Some(file), .. }) => Ok(file),
+            Some(
+                ImageFiles {
+                    writes: Some(file),
+                    ..
+                },
+            ) => Ok(file),
             _ => Err(io::Error::from(io::ErrorKind::NotFound)),
         }
     }
@@ -109,7 +113,9 @@ impl Disk for FileDisk {
 
     fn read(&mut self, n: u32, into: &mut Page) -> Result<(), DiskError> {
         let done = match &self.files {
-            Some(files) => files.reads.read_exact_at(&mut into.0, u64::from(n) * PAGE_BYTES),
+            Some(files) => files
+                .reads
+                .read_exact_at(&mut into.0, u64::from(n) * PAGE_BYTES),
             None => Err(io::Error::from(io::ErrorKind::NotFound)),
         };
         self.counted(done)

@@ -34,7 +34,16 @@ fn main(rt: HostRuntime) -> ExitCode {
         Err(PathsError::Memory) => return end_with(&rt, b"jfsd: out of memory\n", 8),
     };
     let mut scripts: Vec<FileSource> = Vec::new(alloc);
-    let ended = jfs_top(&rt, alloc, &words, moment(&rt), disk, &mut scripts, &mut out, &OpenGate);
+    let ended = jfs_top(
+        &rt,
+        alloc,
+        &words,
+        moment(&rt),
+        disk,
+        &mut scripts,
+        &mut out,
+        &OpenGate,
+    );
     ExitCode::from(ended.status.number())
 }
 
@@ -61,7 +70,9 @@ fn words(rt: &(impl Env + AllocGlobal)) -> Result<Vec<Vec<u8>>, WordsError> {
     let alloc: Global = rt.alloc();
     let mut words = Vec::new(alloc);
     for arg in args.skip(1) {
-        words.push(Vec::from_slice(alloc, arg.as_bytes())?).map_err(AllocError::from)?;
+        words
+            .push(Vec::from_slice(alloc, arg.as_bytes())?)
+            .map_err(AllocError::from)?;
     }
     Ok(words)
 }

@@ -1,6 +1,5 @@
-use Rattle.std.proofs.Common.{◌≡◌, ◌+◌, ◌∙◌, ap, refl, List, ℕ, arith}
+use Rattle.std.proofs.Common.{◌+◌, ◌∙◌, ap, refl, List, ℕ, arith}
 use Rattle.byteorder.specs.Endian.{little_bytes}
-use Rattle.jfs_bits.specs.Field.{put_bytes}
 use Rattle.jfs_bits.specs.Descriptor.{moment_of, moment_bytes}
 use Rattle.jfs_bits.proofs.Ranges.{put_bytes-put_bytes}
 use Rattle.jfs_bits.proofs.Descriptors.{moment_of-put}

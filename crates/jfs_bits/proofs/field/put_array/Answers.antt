@@ -1,5 +1,4 @@
-use Rattle.std.proofs.Common.{◌∙◌, ap, arith}
-use borrow.Rule.Slice.PartMut.{put_mid}
+use Rattle.std.proofs.Common.{arith}
 use Rattle.jfs_bits.proofs.Fields.{put_between}
 use Rattle.jfs_bits.proofs.field.put_array.Goals as goal
 

@@ -1,5 +1,4 @@
-use Rattle.std.proofs.Common.{◌≡◌, ◌≤◌, ◌++◌, List, ℕ, length}
-use Rattle.jfs_command.specs.Print.{Puts}
+use Rattle.std.proofs.Common.{length}
 use Rattle.jfs_command.proofs.Printing.{Progress}
 use Rattle.jfs_command.proofs.print.put_all.Given as goal
 

@@ -1,4 +1,4 @@
-use Rattle.std.proofs.Common.{◌≡◌, ◌∙◌, sym, ap, ℕ, List, ◌++◌, ◌∷◌, []}
+use Rattle.std.proofs.Common.{◌∙◌, sym, ap, ℕ, ◌++◌, ◌∷◌, []}
 use Rattle.jfs_command.specs.Text.{trimmed}
 use Rattle.jfs_command.proofs.Trimming.{trimmed-zero, trimmed-other, trimmed-nil}
 use Rattle.jfs_command.proofs.text.without_padding.Goals as goal

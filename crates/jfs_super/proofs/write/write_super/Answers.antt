@@ -1,4 +1,4 @@
-use Rattle.std.proofs.Common.{◌≡◌, ◌∙◌, ap, sym, length, refl, List, ℕ, arith}
+use Rattle.std.proofs.Common.{◌∙◌, ap, sym, length, refl, List, ℕ, arith}
 use Rattle.jfs_bits.specs.Piece.{puts}
 use Rattle.jfs_super.specs.Super.{super_of, pieces}
 use Rattle.jfs_super.proofs.ReadBack.{InRange, super_of-puts}
