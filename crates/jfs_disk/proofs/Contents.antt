@@ -30,7 +30,7 @@ torn_by-found choice page front rest old order within top base =
     let there : choice.top < suc (length page.writes) = slice_get-there (page.stable ∷ page.writes) choice.top front top in
     let test : fits choice page ≡ true = fits-true choice.base choice.top choice.sectors (length page.writes) order (omega arith) within in
     rw test (sym (ap (λ (b : List ℕ). torn choice.sectors b (content_of page choice.base)) (slice_get-some (page.stable ∷ page.writes) choice.top front [] top)
-      ∙ ap (λ (b : List ℕ). torn choice.sectors front b) (slice_get-some (page.stable ∷ page.writes) choice.base rest [] base)))
+    ∙ ap (λ (b : List ℕ). torn choice.sectors front b) (slice_get-some (page.stable ∷ page.writes) choice.base rest [] base)))
   where
     fits-true : (base top sectors size : ℕ) → base ≤ top → top ≤ size → sectors ≤ 8 → (nat_le base top && nat_le top size && nat_le sectors 8) ≡ true
     fits-true base top sectors size a b c = rw (le-leb base top a, le-leb top size b, le-leb sectors 8 c) refl

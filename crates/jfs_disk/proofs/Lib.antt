@@ -3,3 +3,4 @@ pub mod Sound
 pub mod Cells
 pub mod Outcomes
 pub mod Contents
+pub mod Crashed

@@ -16,7 +16,7 @@ use Rattle.jfs_disk.proofs.Images.{ArePages-set, ArePages-zeros}
 use Rattle.jfs_disk.specs.Steps.{after_calls-push, length-after_calls, history-after_call}
 use Rattle.jfs_disk.specs.Seen.{seen_of-written, seen_of-failed_whole, seen_of-settled}
 
-seen_of-at_rest : (image : Image) → seen_of (at_rest image) ≡ image
+pub seen_of-at_rest : (image : Image) → seen_of (at_rest image) ≡ image
 seen_of-at_rest [] = refl
 seen_of-at_rest (page ∷ image) = ap (λ (rest : Image). page ∷ rest) (seen_of-at_rest image)
 
