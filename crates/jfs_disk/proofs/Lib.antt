@@ -4,3 +4,5 @@ pub mod Cells
 pub mod Outcomes
 pub mod Contents
 pub mod Crashed
+pub mod Torn
+pub mod Flow
