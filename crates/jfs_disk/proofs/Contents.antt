@@ -1,10 +1,10 @@
 -- The contents of a page, from its calls.
-use Rattle.std.proofs.Common.{◌≡◌, ◌+◌, ◌<◌, ◌≤◌, ℕ, zero, suc, List, [], ◌∷◌, ◌++◌, length, get_or, take, Bool, true, false, nat_le, ◌&&◌, if◌then◌else◌, Option, Some, None, refl, sym, ap, subst, ◌∙◌, ◌⊎◌, inl, inr, arith, eq-eqb, append_assoc}
+use Rattle.std.proofs.Common.{◌≡◌, ◌+◌, ◌<◌, ◌≤◌, ℕ, zero, suc, List, [], ◌∷◌, ◌++◌, length, get_or, take, true, nat_le, ◌&&◌, Some, None, refl, sym, ap, ◌∙◌, arith}
 use Rattle.std.specs.Prelude.{slice_get}
-use Rattle.std.proofs.lemmas.List.{length-append, take_more}
+use Rattle.std.proofs.lemmas.List.{take_more}
 use Rattle.std.proofs.lemmas.Bool.{le-leb}
 use Rattle.jfs_disk.specs.Crash.{PageHistory, content_of, torn}
-use Rattle.jfs_disk.specs.Calls.{resting, page_written, page_failed, page_after, page_after_calls}
+use Rattle.jfs_disk.specs.Calls.{page_after, page_after_calls}
 use Rattle.jfs_disk.specs.Choice.{fits, torn_by}
 use Rattle.jfs_disk.specs.declared.choice.Choice.{Choice}
 use Rattle.jfs_disk.specs.declared.call.Call.{Call}

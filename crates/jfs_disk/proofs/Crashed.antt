@@ -1,18 +1,17 @@
 -- What a disk in memory is after a crash.
-use Rattle.std.proofs.Common.{◌≡◌, ◌≤◌, ◌<◌, ◌+◌, ℕ, List, [], ◌∷◌, ◌++◌, ◌*◌, length, get_or, map, take, Bool, true, false, ◌&&◌, nat_le, nat_eq, if◌then◌else◌, Option, Some, None, refl, sym, ap, subst, ◌∙◌, ◌⊎◌, inl, inr, arith, cond}
-use Rattle.std.specs.Prelude.{find}
+use Rattle.std.proofs.Common.{◌≡◌, ◌≤◌, ◌<◌, ◌+◌, ℕ, List, [], ◌∷◌, ◌*◌, length, get_or, map, Bool, true, false, ◌&&◌, nat_le, if◌then◌else◌, Option, Some, None, refl, sym, ap, subst, ◌∙◌, ◌⊎◌, inl, inr, arith}
 use Rattle.std.proofs.lemmas.List.{get_or-map, length-map, take-append-drop, get_or_default, length-replicate, ext_get_or, get_or-set_same, get_or-set_other, map-set}
 use Rattle.std.proofs.Math.ListN.{set}
 use Rattle.std.proofs.Math.Seq.{map-set_same}
 use Rattle.std.proofs.lemmas.List.FromFn.{get_or-map-range_with_len, length-map-range_with_len}
 use Rattle.std.proofs.lemmas.Bool.{leb-true, cases_eq, cases_lt}
-use Rattle.jfs_disk.specs.Image.{Image, page_of, ArePages}
+use Rattle.jfs_disk.specs.Image.{Image, page_of}
 use Rattle.jfs_disk.specs.Crash.{PageHistory, DiskState, history_of, seen_of, last_of, content_of, torn, IsCrashPage, IsCrashImage}
-use Rattle.jfs_disk.specs.Calls.{resting, at_rest, states_of, page_after_calls}
+use Rattle.jfs_disk.specs.Calls.{resting, at_rest, page_after_calls}
 use Rattle.jfs_disk.specs.Steps.{history-after_calls, last_of-states}
 use Rattle.jfs_disk.specs.Seen.{page_of-seen_of}
 use Rattle.jfs_disk.specs.Cells.{blank, bytes_of, image_of, past_of, state_of, IsSound, numbers, starts, nows}
-use Rattle.jfs_disk.specs.Choice.{fits, torn_by, left_by, choice_of, IsChosen}
+use Rattle.jfs_disk.specs.Choice.{fits, left_by, choice_of, IsChosen}
 use Rattle.jfs_disk.specs.Left.{left_of, AreSettled}
 use Rattle.jfs_disk.specs.declared.call.Call.{Call}
 use Rattle.jfs_disk.specs.declared.call.Cell.{Cell}

@@ -1,4 +1,4 @@
-use Rattle.std.proofs.Common.{arith, sym}
+use Rattle.std.proofs.Common.{arith}
 use Rattle.jfs_disk.specs.Calls.{resting}
 use Rattle.jfs_disk.proofs.Contents.{page_after_calls-more}
 use Rattle.jfs_disk.proofs.choice.content.Goals as goal

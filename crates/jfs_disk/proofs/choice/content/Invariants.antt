@@ -1,4 +1,4 @@
-use Rattle.std.proofs.Common.{◌≡◌, ◌≤◌, ◌*◌, take}
+use Rattle.std.proofs.Common.{◌≤◌, ◌*◌, take}
 use Rattle.jfs_disk.specs.Calls.{resting, page_after_calls}
 use Rattle.jfs_disk.specs.Choice.{Tracks}
 use Rattle.jfs_disk.specs.Found.{bytes_found}
