@@ -5,9 +5,8 @@
 ghost use Rattle.std.specs.Prelude.{◌≡◌, ◌<◌};
 
 use jfs_disk::{Disk, MemDisk, Page};
-use std::env;
-use std::io;
 use std::time::Instant;
+use std::{env, io};
 
 /// The pages of the disk, all of which are written.
 const PAGES: u32 = 1000;
@@ -50,7 +49,9 @@ fn main(rt: HostRuntime) -> io::Result<()> {
         let start = Instant::now(&rt)?;
         write_pages(&mut disk, TIMED);
         let more = start.elapsed(&rt)?.as_micros();
-        println!(rt; "after {writes} writes: {TIMED} reads in {reads} us, {TIMED} writes in {more} us")?;
+        println!(rt;
+            "after {writes} writes: {TIMED} reads in {reads} us, {TIMED} writes in {more} us"
+        )?;
     }
     Ok(())
 }

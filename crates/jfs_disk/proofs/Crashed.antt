@@ -1,6 +1,6 @@
 -- What a disk in memory is after a crash.
-use Rattle.std.proofs.Common.{◌≡◌, ◌≤◌, ◌<◌, ◌+◌, ℕ, List, [], ◌∷◌, ◌*◌, length, get_or, map, Bool, true, false, ◌&&◌, nat_le, if◌then◌else◌, Option, Some, None, refl, sym, ap, subst, ◌∙◌, ◌⊎◌, inl, inr, arith}
-use Rattle.std.proofs.lemmas.List.{get_or-map, length-map, take-append-drop, get_or_default, length-replicate, ext_get_or, get_or-set_same, get_or-set_other, map-set}
+use Rattle.std.proofs.Common.{◌≡◌, ◌≤◌, ◌<◌, ◌+◌, ℕ, List, [], ◌∷◌, length, get_or, map, Bool, true, false, ◌&&◌, nat_le, if◌then◌else◌, Option, Some, None, refl, sym, ap, subst, ◌∙◌, ◌⊎◌, inl, inr, arith}
+use Rattle.std.proofs.lemmas.List.{get_or-map, length-map, get_or_default, length-replicate, ext_get_or, get_or-set_same, get_or-set_other, map-set}
 use Rattle.std.proofs.Math.ListN.{set}
 use Rattle.std.proofs.Math.Seq.{map-set_same}
 use Rattle.std.proofs.lemmas.List.FromFn.{get_or-map-range_with_len, length-map-range_with_len}
@@ -16,6 +16,7 @@ use Rattle.jfs_disk.specs.Left.{left_of, AreSettled}
 use Rattle.jfs_disk.specs.declared.call.Call.{Call}
 use Rattle.jfs_disk.specs.declared.call.Cell.{Cell}
 use Rattle.jfs_disk.specs.declared.choice.Choice.{Choice}
+use Rattle.jfs_disk.proofs.Torn.{torn-same}
 use Rattle.jfs_disk.proofs.Sound.{history-start, length-state_of, seen_of-at_rest}
 
 -- some cell, where there is one
@@ -61,10 +62,6 @@ IsSound-settled count choices calls old new place_of sound settled =
     }
 
 -- a page that was never written has zeros, whatever is chosen
-torn-same : (sectors : ℕ) (bytes : List ℕ) → torn sectors bytes bytes ≡ bytes
-unfolding torn
-torn-same sectors bytes = take-append-drop (512 * sectors) bytes
-
 left_by-resting : (choice : Option Choice) (bytes : List ℕ) → left_by choice (resting bytes) bytes ≡ bytes
 left_by-resting None bytes = refl
 left_by-resting (Some choice) bytes = by-test (fits choice (resting bytes)) refl
@@ -148,15 +145,6 @@ pub record SettledTo (choices : List Choice) (calls : List Call) (old now : List
 
 pub same-size : (choices : List Choice) (calls : List Call) (old now : List Cell) → numbers now ≡ numbers old → length now ≡ length old
 same-size choices calls old now e = sym (length-map now (λ (c : Cell). c.page)) ∙ ap (λ (ns : List ℕ). length ns) e ∙ length-map old (λ (c : Cell). c.page)
-
-pub SettledTo-start : (choices : List Choice) (calls : List Call) (old : List Cell) → SettledTo choices calls old old 0
-SettledTo-start choices calls old = record {
-  pages = refl;
-  first = λ k h. absurd (omega arith);
-  held = λ k h. absurd (omega arith);
-  sizes = λ k h. absurd (omega arith);
-  rest = λ k d h. refl;
-}
 
 pub SettledTo-end : (choices : List Choice) (calls : List Call) (old now : List Cell) (i : ℕ) → length old ≤ i → SettledTo choices calls old now i → AreSettled choices calls old now
 SettledTo-end choices calls old now i h settled =
