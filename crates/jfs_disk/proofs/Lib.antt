@@ -3,3 +3,6 @@ pub mod Sound
 pub mod Cells
 pub mod Outcomes
 pub mod Contents
+pub mod Crashed
+pub mod Torn
+pub mod Flow

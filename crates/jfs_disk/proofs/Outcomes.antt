@@ -1,13 +1,10 @@
 -- What a read gives after a device call.
-use Rattle.std.proofs.Common.{◌≡◌, ◌≤◌, ◌<◌, ◌+◌, ◌-◌, ◌^◌, ℕ, suc, List, [], ◌∷◌, ◌++◌, length, get_or, refl, sym, ap, ◌∙◌, ◌⊎◌, inl, inr, arith, Result, Ok, Err, OnOk, OnErr}
+use Rattle.std.proofs.Common.{◌≡◌, ◌-◌, ℕ, List, [], ◌∷◌, ◌++◌, length, sym, ap, ◌∙◌, ◌⊎◌, inl, inr, arith, Result, Ok, Err, OnOk, OnErr}
 use Rattle.std.proofs.Math.ListN.{set}
 use Rattle.std.proofs.lemmas.List.{get_or_push, length-append, set-get_or}
-use Rattle.jfs_disk.specs.Image.{Image, page_of}
-use Rattle.jfs_disk.specs.Crash.{DiskState, seen_of, last_of, written, failed, settled, torn, TearsPage, LeavesTorn}
-use Rattle.jfs_bits.specs.Count.{Rose}
-use Rattle.jfs_disk.specs.Plan.{raised}
-use Rattle.std.proofs.lemmas.Bool.{cases_lt}
-use Rattle.jfs_disk.specs.Seen.{seen_of-written, seen_of-failed, seen_of-settled, seen_of-failed_whole}
+use Rattle.jfs_disk.specs.Image.{Image}
+use Rattle.jfs_disk.specs.Crash.{DiskState, seen_of, last_of, written, failed, settled, torn, TearsPage}
+use Rattle.jfs_disk.specs.Seen.{seen_of-written, seen_of-settled, seen_of-failed_whole}
 
 pub last_of-push : (past : List DiskState) (state : DiskState) → last_of (past ++ state ∷ []) ≡ state
 last_of-push past state = get_or_push past state [] (length (past ++ state ∷ []) - 1) (omega (arith, length-append past (state ∷ [])))
@@ -25,30 +22,11 @@ pub TearsPage-same : (n : ℕ) (bytes : List ℕ) (old new : Image) → new ≡ 
 unfolding torn
 TearsPage-same n bytes old new e = (0, omega arith, e ∙ sym (set-get_or old n []))
 
-pub TearsPage-failed : (old new : List DiskState) (n : ℕ) (bytes : List ℕ) (sectors : ℕ) → sectors ≤ 8 → new ≡ old ++ failed n bytes sectors (last_of old) ∷ [] → TearsPage n bytes (seen_of (last_of old)) (seen_of (last_of new))
-TearsPage-failed old new n bytes sectors within e =
-    (sectors, within, ap (λ (past : List DiskState). seen_of (last_of past)) e ∙ ap seen_of (last_of-push old (failed n bytes sectors (last_of old))) ∙ seen_of-failed n bytes sectors (last_of old))
-
-pub TearsPage-leaves : (old new : List DiskState) (n : ℕ) (bytes : List ℕ) → LeavesTorn n bytes old new → TearsPage n bytes (seen_of (last_of old)) (seen_of (last_of new))
-TearsPage-leaves old new n bytes (inl same) = TearsPage-same n bytes (seen_of (last_of old)) (seen_of (last_of new)) (ap (λ (past : List DiskState). seen_of (last_of past)) same)
-TearsPage-leaves old new n bytes (inr torn) = TearsPage-failed old new n bytes torn.0 torn.1 torn.2
-
 -- a write that fails for want of memory, or as one of the fails says, leaves the page as it was
 pub image-failed : (old new : List DiskState) (n : ℕ) (bytes : List ℕ) → (new ≡ old) ⊎ (new ≡ old ++ failed n bytes 0 (last_of old) ∷ []) → seen_of (last_of new) ≡ seen_of (last_of old)
 image-failed old new n bytes (inl same) = ap (λ (past : List DiskState). seen_of (last_of past)) same
 image-failed old new n bytes (inr e) =
     ap (λ (past : List DiskState). seen_of (last_of past)) e ∙ ap seen_of (last_of-push old (failed n bytes 0 (last_of old))) ∙ seen_of-failed_whole n bytes (last_of old)
-
-pub LeavesTorn-failed : (old new : List DiskState) (n : ℕ) (bytes : List ℕ) → (new ≡ old) ⊎ (new ≡ old ++ failed n bytes 0 (last_of old) ∷ []) → LeavesTorn n bytes old new
-LeavesTorn-failed old new n bytes (inl same) = inl same
-LeavesTorn-failed old new n bytes (inr e) = inr (0, omega arith, e)
-
-rose-cases : (n : ℕ) → (n < 2 ^ 64 - 1) ⊎ (2 ^ 64 - 1 ≤ n) → n < 2 ^ 64 → Rose n (raised n)
-rose-cases n (inl below) h = inl (omega arith)
-rose-cases n (inr above) h = inr (omega arith)
-
-pub Rose-raised : (n : ℕ) → n < 2 ^ 64 → Rose n (raised n)
-Rose-raised n h = rose-cases n (cases_lt n (2 ^ 64 - 1)) h
 
 pub either-of : {T E : Type 0} (r : Result T E) (P Q : Type 0) → OnOk r P → OnErr r Q → Q ⊎ P
 either-of (Ok x) P Q p q = inr p

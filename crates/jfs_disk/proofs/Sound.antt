@@ -1,11 +1,11 @@
 -- A disk in memory keeps its pages at their places.
-use Rattle.std.proofs.Common.{◌≡◌, ◌<◌, ◌+◌, ℕ, zero, suc, List, [], ◌∷◌, ◌++◌, length, get_or, map, replicate, Bool, true, false, nat_eq, if◌then◌else◌, Option, Some, None, refl, sym, ap, subst, ◌∙◌, ◌⊎◌, inl, inr, arith, eq-eqb, Box, Global}
+use Rattle.std.proofs.Common.{◌≡◌, ◌<◌, ◌+◌, ℕ, zero, suc, List, [], ◌∷◌, ◌++◌, length, get_or, map, Bool, true, false, nat_eq, if◌then◌else◌, Option, Some, None, refl, sym, ap, subst, ◌∙◌, ◌⊎◌, inl, inr, arith, eq-eqb, Box, Global}
 use Rattle.std.proofs.Math.ListN.{set}
 use Rattle.std.specs.List.{range_with_len}
-use Rattle.std.proofs.lemmas.List.{get_or-map, length-map, length-append, get_or_append_left, get_or_push, get_or-set_same, get_or-set_other, length-replicate}
+use Rattle.std.proofs.lemmas.List.{get_or-map, length-map, length-append, get_or_append_left, get_or_push, get_or-set_same, get_or-set_other}
 use Rattle.std.proofs.lemmas.List.FromFn.{get_or-map-range_with_len, length-map-range_with_len}
 use Rattle.std.proofs.lemmas.Bool.{cases_eq, ne_eqb}
-use Rattle.jfs_disk.specs.Image.{Image, page_of, ArePages, zeros}
+use Rattle.jfs_disk.specs.Image.{Image, ArePages, zeros}
 use Rattle.jfs_disk.specs.Crash.{PageHistory, DiskState, history_of, no_page, seen_of}
 use Rattle.jfs_disk.specs.Calls.{resting, at_rest, after_call, after_calls, states_of, page_after}
 use Rattle.jfs_disk.specs.Cells.{blank, bytes_of, image_of, past_of, state_of, IsSound}
@@ -16,7 +16,7 @@ use Rattle.jfs_disk.proofs.Images.{ArePages-set, ArePages-zeros}
 use Rattle.jfs_disk.specs.Steps.{after_calls-push, length-after_calls, history-after_call}
 use Rattle.jfs_disk.specs.Seen.{seen_of-written, seen_of-failed_whole, seen_of-settled}
 
-seen_of-at_rest : (image : Image) → seen_of (at_rest image) ≡ image
+pub seen_of-at_rest : (image : Image) → seen_of (at_rest image) ≡ image
 seen_of-at_rest [] = refl
 seen_of-at_rest (page ∷ image) = ap (λ (rest : Image). page ∷ rest) (seen_of-at_rest image)
 

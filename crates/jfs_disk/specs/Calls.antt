@@ -1,5 +1,5 @@
 -- The states of a disk, from the calls that changed it.
-use Rattle.std.specs.Prelude.{◌≡◌, ℕ, List, [], ◌∷◌, ◌++◌, map, nat_eq, if◌then◌else◌}
+use Rattle.std.specs.Prelude.{ℕ, List, [], ◌∷◌, ◌++◌, map, nat_eq, if◌then◌else◌}
 use Rattle.jfs_disk.specs.Image.{Image}
 use Rattle.jfs_disk.specs.Crash.{PageHistory, DiskState, written, failed, settled}
 use Rattle.jfs_disk.specs.declared.call.Call.{Call}

@@ -1,5 +1,5 @@
 -- Which calls of a disk in memory fail.
-use Rattle.std.specs.Prelude.{◌≡◌, ◌+◌, ◌-◌, ◌^◌, ℕ, Bool, true, false, ◌&&◌, List, min, nat_le}
+use Rattle.std.specs.Prelude.{◌+◌, ◌-◌, ◌^◌, ℕ, Bool, true, false, ◌&&◌, List, min, nat_le}
 use Rattle.std.specs.List.{list_any}
 use Rattle.jfs_disk.specs.declared.disk.Part.{Part}
 use Rattle.jfs_disk.specs.declared.disk.Part.TheVariants.{Whole, Low, High}

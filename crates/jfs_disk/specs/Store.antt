@@ -1,5 +1,5 @@
 -- What a disk in memory stands for.
-use Rattle.std.specs.Prelude.{ℕ, List}
+use Rattle.std.specs.Prelude.{List}
 use Rattle.std.specs.Ordering.{nat_cmp}
 use Rattle.std.specs.BTreeMap.{get}
 use Rattle.jfs_disk.specs.Crash.{DiskState}

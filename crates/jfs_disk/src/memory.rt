@@ -2,7 +2,8 @@
 
 ghost use Rattle.std.specs.Prelude.{◌≡◌, ◌≢◌, ◌<◌, ◌≤◌, ◌⊎◌, ◌++◌, ◌∷◌, [], OnOk, OnErr, false, is_ok, set, if◌then◌else◌};
 ghost use Rattle.jfs_disk.specs.Image.{zeros, page_of};
-ghost use Rattle.jfs_disk.specs.Crash.{seen_of, last_of, written, failed, settled, TearsPage, LeavesTorn};
+ghost use Rattle.jfs_disk.specs.Crash.{seen_of, last_of, written, failed, settled, TearsPage, LeavesTorn, IsCrashImage};
+ghost use Rattle.jfs_disk.specs.Choice.{IsChosen};
 ghost use Rattle.jfs_disk.specs.Fault.{HasCause};
 ghost use Rattle.jfs_bits.specs.Count.{Rose};
 ghost use Rattle.jfs_disk.specs.Calls.{at_rest};
@@ -12,6 +13,7 @@ ghost use Rattle.jfs_disk.specs.Memory.{page_count_of, past_of_disk, image_of_di
 ghost use Rattle.jfs_disk.specs.Law.{reads_crash_of, has_state_of, whole_of};
 ghost use Rattle.std.proofs.Common.{refl};
 
+use crate::choice::Choice;
 use crate::disk::{Disk, DiskError, Part};
 use crate::page::Page;
 use crate::plan::{Counters, Fail, Kind, Plan};
@@ -65,6 +67,33 @@ impl MemDisk {
                 counters: Counters::new(),
             },
             faults: self.faults,
+        }
+    }
+
+    /// The disk after a crash: each page as its first choice says, where that fits, and else as a read gave it.
+    /// None of its calls fails, and it counts anew. It takes no memory.
+    pub fn crashed(self, choices: &[Choice]) -> MemDisk
+        ensures chosen { IsChosen choices.now (last_of (past_of_disk self)) (image_of_disk result) }
+        ensures crash { IsCrashImage (last_of (past_of_disk self)) (image_of_disk result) }
+        ensures past { past_of_disk result ≡ at_rest (image_of_disk result) ∷ [] }
+        ensures pages { page_count_of result ≡ page_count_of self }
+        ensures faults { fault_count_of result ≡ 0 }
+        ensures part { part_of result ≡ part_of self }
+        ensures fails { fails_of result ≡ [] }
+        ensures counters { counters_of result ≡ record { reads = 0; writes = 0; syncs = 0 } }
+    {
+        let mut store = self.store;
+        store.crash(choices);
+        let mut fails = self.plan.fails;
+        fails.clear();
+        MemDisk {
+            store,
+            plan: Plan {
+                part: self.plan.part,
+                fails,
+                counters: Counters::new(),
+            },
+            faults: 0,
         }
     }
 

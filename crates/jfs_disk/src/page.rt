@@ -15,6 +15,14 @@ impl Page {
     {
         Page([0; 4096])
     }
+
+    /// The bytes: 4,096 of them.
+    pub fn bytes(&self) -> &[u8]
+        ensures value { result.now ≡ self.now.0 }
+        ensures size { length self.now.0 ≡ 4096 }
+    {
+        &self.0
+    }
 }
 
 pub(crate) fn copy_page(from: &Page, into: &mut Page)

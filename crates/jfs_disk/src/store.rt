@@ -4,8 +4,10 @@ ghost use Rattle.std.specs.Prelude.{◌≡◌, ◌<◌, IfOk, length, set, vec_l
 ghost use Rattle.std.specs.Ordering.{nat_cmp};
 ghost use Rattle.std.specs.BTreeMap.{get};
 ghost use Rattle.jfs_disk.specs.Cells.{IsSound, numbers, starts, nows};
+ghost use Rattle.jfs_disk.specs.Left.{AreSettled};
 
 use crate::call::{Call, Cell};
+use crate::choice::{Choice, settle};
 use crate::page::{Page, copy_page};
 use std::alloc::{AllocError, Global};
 use std::collections::BTreeMap;
@@ -26,6 +28,7 @@ impl Store {
     ghost use Rattle.jfs_disk.specs.Image.{zeros, page_of};
     ghost use Rattle.jfs_disk.specs.Crash.{seen_of, last_of, written, failed, settled};
     ghost use Rattle.jfs_disk.specs.Calls.{at_rest};
+    ghost use Rattle.jfs_disk.specs.Choice.{IsChosen};
     ghost use Rattle.jfs_disk.specs.Store.{past_in};
 
     /// A disk of so many pages of zeros.
@@ -118,6 +121,16 @@ impl Store {
         Ok(())
     }
 
+    /// A crash leaves each page as its first choice says. From then on that is stable.
+    pub fn crash(&mut self, choices: &[Choice])
+        ensures count { self.new.count ≡ self.old.count }
+        ensures chosen { IsChosen choices.now (last_of (past_in self.old)) (seen_of (last_of (past_in self.new))) }
+        ensures past { past_in self.new ≡ at_rest (seen_of (last_of (past_in self.new))) ∷ [] }
+    {
+        settle_all(&mut self.cells, self.calls.as_slice(), choices);
+        self.calls.clear();
+    }
+
     pub fn sync(&mut self) -> Result<(), AllocError>
         ensures count { self.new.count ≡ self.old.count }
         ensures past { OnOk result (past_in self.new ≡ past_in self.old ++ settled (last_of (past_in self.old)) ∷ []) }
@@ -125,6 +138,14 @@ impl Store {
     {
         self.calls.push(Call::Synced)?;
         Ok(())
+    }
+}
+
+fn settle_all(cells: &mut Vec<Cell>, calls: &[Call], choices: &[Choice])
+    ensures { AreSettled choices.now calls.now cells.old.items cells.new.items }
+{
+    for cell in cells.iter_mut() {
+        settle(cell, calls, choices);
     }
 }
 

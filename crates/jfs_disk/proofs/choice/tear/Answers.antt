@@ -1,5 +1,4 @@
-use Rattle.std.proofs.Common.{refl, arith}
-use Rattle.std.proofs.lemmas.Grind.{common_steps}
+use Rattle.std.proofs.Common.{refl}
 use Rattle.jfs_disk.specs.Crash.{torn}
 use Rattle.jfs_disk.proofs.choice.tear.Goals as goal
 

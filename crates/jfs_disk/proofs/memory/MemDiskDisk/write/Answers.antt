@@ -1,4 +1,4 @@
-use Rattle.std.proofs.Common.{◌≡◌, ◌∙◌, ap, ◌⊎◌, ◌++◌, ◌∷◌, [], List, inl}
+use Rattle.std.proofs.Common.{◌≡◌, ◌∙◌, ap, ◌++◌, ◌∷◌, [], List}
 use Rattle.jfs_disk.specs.Crash.{DiskState, failed, last_of, seen_of}
 use Rattle.jfs_disk.specs.Store.{past_in}
 use Rattle.jfs_disk.specs.declared.store.Store.{Store}

@@ -1,5 +1,5 @@
-use Rattle.std.proofs.Common.{◌≡◌, ◌∙◌, sym, ap, refl, Option, None, nat_cmp, ℕ, List, [], ◌∷◌}
-use Rattle.std.specs.BTreeMap.{get, get_by}
+use Rattle.std.proofs.Common.{◌≡◌, ap, refl, None, nat_cmp, ℕ, List, [], ◌∷◌}
+use Rattle.std.specs.BTreeMap.{get}
 use Rattle.jfs_disk.specs.Image.{Image}
 use Rattle.jfs_disk.specs.Crash.{DiskState}
 use Rattle.jfs_disk.specs.Calls.{at_rest}

@@ -1,4 +1,4 @@
-use Rattle.std.proofs.Common.{nat_cmp, ◌∙◌}
+use Rattle.std.proofs.Common.{nat_cmp}
 use Rattle.std.specs.BTreeMap.{get}
 use Rattle.jfs_disk.specs.Cells.{starts}
 use Rattle.jfs_disk.specs.declared.call.Call.TheVariants.{Synced}
