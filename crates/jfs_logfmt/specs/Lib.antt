@@ -1,0 +1,4 @@
+pub mod Kinds
+pub mod Descriptor
+pub mod Text
+pub mod Rules
