@@ -1,3 +1,5 @@
 pub mod Split
 pub mod Runs
 pub mod Ranges
+pub mod Kept
+pub mod Cut

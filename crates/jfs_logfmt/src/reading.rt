@@ -1,10 +1,11 @@
 //! Reading a record from its text.
 
-ghost use Rattle.std.specs.Prelude.{◌≡◌, ℕ, ◌+◌, ◌*◌, ◌≤◌, ◌++◌, true, List, length, drop, IfOk};
+ghost use Rattle.std.specs.Prelude.{◌≡◌, ℕ, ◌+◌, ◌*◌, ◌^◌, ◌<◌, ◌≤◌, ◌++◌, true, List, length, drop, IfOk};
 ghost use Rattle.jfs_bits.specs.Descriptor.{FitsPxd};
 ghost use Rattle.jfs_logfmt.specs.Kinds.{type_number};
+ghost use Rattle.jfs_logfmt.specs.Descriptor.{descriptor_of};
 ghost use Rattle.jfs_logfmt.specs.Text.{Says, Spells};
-ghost use Rattle.jfs_logfmt.specs.Rules.{is_line, is_redone, is_freed, is_long, has_length, Keeps, IsFirst, FirstBroken, IsSound, IfBad, IsRead};
+ghost use Rattle.jfs_logfmt.specs.Rules.{is_line, is_redone, is_freed, is_long, has_length, Keeps, IsFirst, tail_of, body_of, FirstBroken, IsSound, IfBad, IsRead};
 
 use crate::descriptor::{Descriptor, get_descriptor};
 use crate::kind::{PageType, RecordType, l2_line_of, map_type_of};
@@ -39,6 +40,7 @@ fn fits_type(of: RecordType, d: Descriptor) -> bool
 fn redo_of(alloc: Global, d: Descriptor, body: &[u8], blocks: u32) -> Result<Record, RecordError>
     requires number { d.number ≡ type_number RecordType.RedoPage }
     requires fits { FitsPxd d.at }
+    requires bytes { length body.now < 2 ^ 16 }
     ensures found { IfOk result (λ r. Says d body.now r × IsSound blocks r) }
     ensures only { IfOk result (λ r. (s : Record) → Says d body.now s → s ≡ r) }
     ensures broken { (left : ℕ) → has_length RecordType.RedoPage left d ≡ true → IfBad result (IsFirst (Keeps RecordType.RedoPage blocks left d body.now)) }
@@ -126,6 +128,7 @@ fn record_of(alloc: Global, of: RecordType, d: Descriptor, body: &[u8], blocks: 
     requires number { d.number ≡ type_number of }
     requires fits { FitsPxd d.at }
     requires long { length body.now ≡ d.length }
+    requires bytes { length body.now < 2 ^ 16 }
     requires is_long { is_long of d ≡ true }
     ensures found { IfOk result (λ r. Says d body.now r × IsSound blocks r) }
     ensures only { IfOk result (λ r. (s : Record) → Says d body.now s → s ≡ r) }
@@ -144,18 +147,10 @@ fn record_of(alloc: Global, of: RecordType, d: Descriptor, body: &[u8], blocks: 
 }
 
 /// Reads the record that ends where the bytes end, and where it starts.
-/// `blocks` is the number of blocks of the file system part.
-///
-/// # Errors
-///
-/// The first rule that the bytes break, of `type`, `length`, `lines`, `range`, `place` and `kind`
-/// in this order; or want of memory.
-pub fn read_record_before(alloc: Global, bytes: &[u8], blocks: u32) -> Result<(Record, usize), RecordError>
-    // What is read is spelled so, and keeps the rules.
-    ensures found { IfOk result (λ x. (x.1 ≤ length bytes.now) × Spells (drop x.1 bytes.now) x.0 × IsSound blocks x.0) }
-    // What is spelled so and keeps the rules is read, whatever stands before it.
-    ensures whole { (front text : List ℕ) (r : Record) → bytes.now ≡ front ++ text → Spells text r → IsSound blocks r → IsRead result (λ x. (x.0 ≡ r) × (x.1 ≡ length front)) }
-    // Which rule is broken.
+fn read_at_end(alloc: Global, bytes: &[u8], blocks: u32) -> Result<(Record, usize), RecordError>
+    ensures found { IfOk result (λ x. Spells (drop x.1 bytes.now) x.0 × IsSound blocks x.0) }
+    ensures start { IfOk result (λ x. x.1 + (descriptor_of (tail_of bytes.now)).length + 36 ≡ length bytes.now) }
+    ensures only { IfOk result (λ x. (s : Record) → Says (descriptor_of (tail_of bytes.now)) (body_of bytes.now) s → s ≡ x.0) }
     ensures broken { IfBad result (FirstBroken blocks bytes.now) }
 {
     if bytes.len() < 36 {
@@ -172,6 +167,26 @@ pub fn read_record_before(alloc: Global, bytes: &[u8], blocks: u32) -> Result<(R
     }
     let start = front.len() - long;
     let (_, body) = front.split_at(start);
-    let r = record_of(alloc, of, d, body, blocks)?;
-    Ok((r, start))
+    match record_of(alloc, of, d, body, blocks) {
+        Ok(r) => Ok((r, start)),
+        Err(e) => Err(e),
+    }
+}
+
+/// Reads the record that ends where the bytes end, and where it starts.
+/// `blocks` is the number of blocks of the file system part.
+///
+/// # Errors
+///
+/// The first rule that the bytes break, of `type`, `length`, `lines`, `range`, `place` and `kind`
+/// in this order; or want of memory.
+pub fn read_record_before(alloc: Global, bytes: &[u8], blocks: u32) -> Result<(Record, usize), RecordError>
+    // What is read is spelled so, and keeps the rules.
+    ensures found { IfOk result (λ x. (x.1 ≤ length bytes.now) × Spells (drop x.1 bytes.now) x.0 × IsSound blocks x.0) }
+    // What is spelled so and keeps the rules is read, whatever stands before it.
+    ensures whole { (front text : List ℕ) (r : Record) → bytes.now ≡ front ++ text → Spells text r → IsSound blocks r → IsRead result (λ x. (x.0 ≡ r) × (x.1 ≡ length front)) }
+    // Which rule is broken.
+    ensures broken { IfBad result (FirstBroken blocks bytes.now) }
+{
+    read_at_end(alloc, bytes, blocks)
 }
