@@ -2,3 +2,5 @@ pub mod Kinds
 pub mod Descriptor
 pub mod Text
 pub mod Rules
+pub mod Written
+pub mod Super

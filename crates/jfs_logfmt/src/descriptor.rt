@@ -2,9 +2,9 @@
 
 ghost use Rattle.std.specs.Prelude.{◌≡◌, ◌≤◌, ◌<◌, ◌^◌, length};
 ghost use Rattle.jfs_bits.specs.Descriptor.{FitsPxd};
-ghost use Rattle.jfs_logfmt.specs.Descriptor.{descriptor_of};
+ghost use Rattle.jfs_logfmt.specs.Descriptor.{descriptor_of, descriptor_bytes};
 
-use jfs_bits::{Pxd, get_pxd, get_u16, get_u32};
+use jfs_bits::{Pxd, get_pxd, get_u16, get_u32, put_pxd, put_u16, put_u32};
 
 /// What ends a record's text. (JFS Log, `lrd`.)
 #[derive(Clone, Copy, Debug)]
@@ -46,4 +46,24 @@ pub fn get_descriptor(bytes: &[u8]) -> Descriptor
         count: get_u16(bytes, 26),
         at: get_pxd(bytes, 28),
     }
+}
+
+/// The 36 bytes of a descriptor, with zeros where no field stands.
+pub fn descriptor_text(d: Descriptor) -> [u8; 36]
+    requires { FitsPxd d.at }
+    ensures bytes { result ≡ descriptor_bytes d }
+    ensures read_back { descriptor_of result ≡ d }
+{
+    let mut text = [0u8; 36];
+    let bytes: &mut [u8] = &mut text;
+    put_u32(bytes, 0, d.tid);
+    put_u32(bytes, 4, d.back);
+    put_u16(bytes, 8, d.number);
+    put_u16(bytes, 10, d.length);
+    put_u32(bytes, 16, d.fileset);
+    put_u32(bytes, 20, d.inode);
+    put_u16(bytes, 24, d.kind);
+    put_u16(bytes, 26, d.count);
+    put_pxd(bytes, 28, d.at);
+    text
 }
