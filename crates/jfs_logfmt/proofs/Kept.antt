@@ -1,13 +1,12 @@
 -- Text that spells a sound record keeps every rule.
-use Rattle.std.proofs.Common.{◌≡◌, ◌<◌, ◌≤◌, ◌+◌, ◌-◌, ◌*◌, ◌^◌, ℕ, zero, suc, Bool, true, false, List, [], ◌∷◌, ◌++◌, length, take, drop, Option, Some, None, refl, sym, ap, subst, ◌∙◌, append_assoc, arith}
-use Rattle.std.specs.Prelude.{◌&&◌, ◌==◌, nat_le, is_some, ⊤, IsTrue}
+use Rattle.std.proofs.Common.{◌≡◌, ◌≤◌, ◌*◌, ◌^◌, ℕ, Bool, true, false, List, length, Option, Some, refl, sym, ap, subst, ◌∙◌, arith}
+use Rattle.std.specs.Prelude.{◌==◌, nat_le, is_some}
 use Rattle.std.specs.List.{list_all}
 use Rattle.std.proofs.lemmas.Bool.Decides.{nat_tests}
 use Rattle.jfs_bits.specs.declared.rule.Rule.{Rule}
 use Rattle.jfs_bits.specs.declared.rule.Rule.TheVariants as rules
 use Rattle.jfs_bits.specs.declared.rule.PageKind.{PageKind}
 use Rattle.jfs_bits.specs.declared.rule.PageKind.TheVariants as kinds
-use Rattle.jfs_bits.specs.declared.list.LineRange.{LineRange}
 use Rattle.jfs_bits.specs.declared.descriptor.Pxd.{Pxd}
 use Rattle.jfs_logfmt.specs.declared.descriptor.Descriptor.{Descriptor}
 use Rattle.jfs_logfmt.specs.declared.kind.RecordType.{RecordType}
@@ -17,7 +16,7 @@ use Rattle.jfs_logfmt.specs.declared.log_record.Record.{Record}
 use Rattle.jfs_logfmt.specs.declared.log_record.Record.TheVariants as records
 use Rattle.jfs_logfmt.specs.Kinds.{type_number, type_of, page_number, page_type, page_of, page_blocks, l2_line, map_number, map_of}
 use Rattle.jfs_logfmt.specs.Text.{Says, SpellsRanges, runs_of}
-use Rattle.jfs_logfmt.specs.Rules.{Keeps, IsFirst, IsSound, HasRanges, AreWithin, is_inside, is_page, is_line, is_redone, is_freed, is_long, has_length}
+use Rattle.jfs_logfmt.specs.Rules.{Keeps, IsFirst, IsSound, AreWithin, is_inside, is_page, is_line, is_redone, is_freed, is_long, has_length}
 
 -- the tables both ways
 pub type_of-number : (t : RecordType) → type_of (type_number t) ≡ Some t
@@ -78,17 +77,27 @@ type_for (records.Update tid back fileset inode alloc list) = types.UpdateMap
 kept : (blocks left : ℕ) (d : Descriptor) (body : List ℕ) (r : Record) → Says d body r → IsSound blocks r → d.length ≡ length body → d.length ≤ left → AllKept (Keeps (type_for r) blocks left d body)
 unfolding type_for
 kept blocks left d body (records.Commit tid back) s sound e h = record {
-    length = long_for types.Commit left d h (equal d.length 0 (e ∙ ap (λ (l : List ℕ). length l) s.1)); lines = refl; range = tt; place = refl; kind = refl
-  }
+  length = long_for types.Commit left d h (equal d.length 0 (e ∙ ap (λ (l : List ℕ). length l) s.1));
+  lines = refl;
+  range = tt;
+  place = refl;
+  kind = refl;
+}
 kept blocks left d body (records.SyncPt sync) s sound e h = record {
-    length = long_for types.SyncPt left d h (equal d.length 0 (e ∙ ap (λ (l : List ℕ). length l) s.2)); lines = refl; range = tt; place = refl; kind = refl
-  }
+  length = long_for types.SyncPt left d h (equal d.length 0 (e ∙ ap (λ (l : List ℕ). length l) s.2));
+  lines = refl;
+  range = tt;
+  place = refl;
+  kind = refl;
+}
 kept blocks left d body (records.NoRedo tid back fileset inode kind at) s sound e h =
     let page = ap (λ (n : ℕ). page_of n) s.2 ∙ page_of-number kind false in
     record {
-      length = long_for types.NoRedoPage left d h (equal d.length 0 (e ∙ ap (λ (l : List ℕ). length l) s.4)); lines = refl; range = tt;
+      length = long_for types.NoRedoPage left d h (equal d.length 0 (e ∙ ap (λ (l : List ℕ). length l) s.4));
+      lines = refl;
+      range = tt;
       place = ap (λ (p : Pxd). is_page blocks p) s.3 ∙ sound.0;
-      kind = ap (λ (o : Option PageType). is_freed o d.at.len) page ∙ equal d.at.len 1 (ap (λ (p : Pxd). p.len) s.3 ∙ sound.1)
+      kind = ap (λ (o : Option PageType). is_freed o d.at.len) page ∙ equal d.at.len 1 (ap (λ (p : Pxd). p.len) s.3 ∙ sound.1);
     }
 kept blocks left d body (records.Redo tid back fileset inode kind new_page at ranges) s sound e h =
     let page = ap (λ (n : ℕ). page_of n) s.2 ∙ page_of-number kind new_page in
@@ -97,13 +106,15 @@ kept blocks left d body (records.Redo tid back fileset inode kind new_page at ra
       lines = ap (λ (o : Option PageType). is_line o d.count) page ∙ equal d.count (l2_line kind) s.3;
       range = (ranges, (let P : ℕ → Type 0 = λ n. SpellsRanges (2 ^ n) body ranges in subst P (sym s.3) s.5), (let P : ℕ → Pxd → Type 0 = λ n p. AreWithin (2 ^ n) p.len ranges in rw (s.3, s.4) sound.2));
       place = ap (λ (p : Pxd). is_page blocks p) s.4 ∙ sound.0;
-      kind = ap (λ (o : Option PageType). is_redone o d.at.len) page ∙ equal d.at.len (page_blocks (page_type kind new_page)) (ap (λ (p : Pxd). p.len) s.4 ∙ sound.1)
+      kind = ap (λ (o : Option PageType). is_redone o d.at.len) page ∙ equal d.at.len (page_blocks (page_type kind new_page)) (ap (λ (p : Pxd). p.len) s.4 ∙ sound.1);
     }
 kept blocks left d body (records.Update tid back fileset inode alloc list) s sound e h = record {
-    length = long_for types.UpdateMap left d h (equal d.length (8 * d.count) (e ∙ s.4 ∙ ap (λ (n : ℕ). 8 * n) (sym s.3))); lines = refl; range = tt;
-    place = ap (λ (n : ℕ). list_all (is_inside blocks) (runs_of body 0 n)) s.3 ∙ ap (λ (l : List Pxd). list_all (is_inside blocks) l) s.5 ∙ sound;
-    kind = ap (λ (n : ℕ). is_some (map_of n)) s.2 ∙ ap (λ (o : Option Bool). is_some o) (map_of-number alloc)
-  }
+  length = long_for types.UpdateMap left d h (equal d.length (8 * d.count) (e ∙ s.4 ∙ ap (λ (n : ℕ). 8 * n) (sym s.3)));
+  lines = refl;
+  range = tt;
+  place = ap (λ (n : ℕ). list_all (is_inside blocks) (runs_of body 0 n)) s.3 ∙ ap (λ (l : List Pxd). list_all (is_inside blocks) l) s.5 ∙ sound;
+  kind = ap (λ (n : ℕ). is_some (map_of n)) s.2 ∙ ap (λ (o : Option Bool). is_some o) (map_of-number alloc);
+}
 
 pub typed : (d : Descriptor) (body : List ℕ) (r : Record) → Says d body r → d.number ≡ type_number (type_for r)
 unfolding type_for

@@ -1,12 +1,11 @@
 -- Ranges that fill their data: the last one is known from the end of the data.
-use Rattle.std.proofs.Common.{◌≡◌, ◌<◌, ◌≤◌, ◌+◌, ◌-◌, ◌*◌, ℕ, zero, suc, true, false, List, [], ◌∷◌, ◌++◌, ◌⊎◌, inl, inr, length, take, drop, reverse, refl, sym, ap, subst, ◌∙◌, append_assoc, arith}
+use Rattle.std.proofs.Common.{◌≡◌, ◌<◌, ◌≤◌, ◌+◌, ◌*◌, ℕ, zero, suc, true, false, List, [], ◌∷◌, ◌++◌, ◌⊎◌, inl, inr, length, take, drop, reverse, refl, sym, ap, subst, ◌∙◌, append_assoc, arith}
 use Rattle.std.proofs.lemmas.List.{length-append, append-nil, take-append-drop, take_all, drop_all, length-take-le, reverse-append}
-use Rattle.std.specs.List.{AllByRecursion}
 use Rattle.jfs_bits.specs.declared.list.LineRange.{LineRange}
 use Rattle.jfs_bits.specs.Field.{field_of}
 use Rattle.jfs_logfmt.specs.Text.{IsRangeText, SpellsRanges}
 use Rattle.jfs_logfmt.specs.Rules.{is_within, AreWithin}
-use Rattle.jfs_logfmt.proofs.Split.{same_front, same_end}
+use Rattle.jfs_logfmt.proofs.Split.{same_end}
 
 -- the last range, and what stands before it
 pub record EndsWith (size : ℕ) (body : List ℕ) (rs : List LineRange) : Type 0 where
@@ -24,28 +23,39 @@ last_of size body [] s = inl (refl, s)
 last_of size body (r ∷ rs) (text, rest, e, t, s) =
     elim (last_of size rest rs s) [
       | inl none ↦ inr (record {
-            before = []; range = r; front = []; text = text; list = ap (λ (l : List LineRange). r ∷ l) none.0;
-            parts = e ∙ ap (λ (l : List ℕ). text ++ l) none.1 ∙ append-nil text; spelled = t; rest = refl
-          })
+        before = [];
+        range = r;
+        front = [];
+        text = text;
+        list = ap (λ (l : List LineRange). r ∷ l) none.0;
+        parts = e ∙ ap (λ (l : List ℕ). text ++ l) none.1 ∙ append-nil text;
+        spelled = t;
+        rest = refl;
+      })
       | inr l ↦ inr (record {
-            before = r ∷ l.before; range = l.range; front = text ++ l.front; text = l.text; list = ap (λ (z : List LineRange). r ∷ z) l.list;
-            parts = e ∙ ap (λ (z : List ℕ). text ++ z) l.parts ∙ sym (append_assoc text l.front l.text); spelled = l.spelled;
-            rest = (text, l.front, refl, t, l.rest)
-          })
+        before = r ∷ l.before;
+        range = l.range;
+        front = text ++ l.front;
+        text = l.text;
+        list = ap (λ (z : List LineRange). r ∷ z) l.list;
+        parts = e ∙ ap (λ (z : List ℕ). text ++ z) l.parts ∙ sym (append_assoc text l.front l.text);
+        spelled = l.spelled;
+        rest = (text, l.front, refl, t, l.rest);
+      })
     ]
 
 -- where there are bytes, there is a last range
 ends_with : (size : ℕ) (body : List ℕ) (rs : List LineRange) → 0 < length body → SpellsRanges size body rs → EndsWith size body rs
 ends_with size body rs h s = elim (last_of size body rs s) [
-    | inl none ↦ absurd (omega (arith, h, ap length none.1))
-    | inr l ↦ l
-  ]
+  | inl none ↦ absurd (omega (arith, h, ap length none.1))
+  | inr l ↦ l
+]
 
 -- bytes end with one range at most
 same_range : (size : ℕ) (f g a b : List ℕ) (r q : LineRange) → IsRangeText size a r → IsRangeText size b q → f ++ a ≡ g ++ b → (f ≡ g) × (r ≡ q)
 same_range size f g a b r q s t e =
     let whole : (f ++ r.bytes) ++ s.place ≡ (g ++ q.bytes) ++ t.place =
-        append_assoc f r.bytes s.place ∙ ap (λ (l : List ℕ). f ++ l) (sym s.parts) ∙ e ∙ ap (λ (l : List ℕ). g ++ l) t.parts ∙ sym (append_assoc g q.bytes t.place) in
+    append_assoc f r.bytes s.place ∙ ap (λ (l : List ℕ). f ++ l) (sym s.parts) ∙ e ∙ ap (λ (l : List ℕ). g ++ l) t.parts ∙ sym (append_assoc g q.bytes t.place) in
     let cut = same_end (f ++ r.bytes) s.place (g ++ q.bytes) t.place (s.four ∙ sym t.four) whole in
     let size_is : length r.bytes ≡ length q.bytes = s.lines ∙ ap (λ (l : List ℕ). field_of l 2 2 * size) cut.1 ∙ sym t.lines in
     let two = same_end f r.bytes g q.bytes size_is cut.0 in
@@ -90,7 +100,7 @@ all_end_more size whole body start end r known h some t all rs s =
     let same = same_range size l.front (take start body) l.text (drop start (take end body)) l.range r l.spelled t (sym l.parts ∙ take_front start end body h) in
     let first : SpellsRanges size (take start body) l.before = let P : List ℕ → Type 0 = λ z. SpellsRanges size z l.before in subst P same.0 l.rest in
     let list : rs ≡ l.before ++ (r ∷ known) =
-        a.2 ∙ ap (λ (z : List LineRange). z ++ known) (l.list ∙ ap (λ (q : LineRange). l.before ++ q ∷ []) same.1) ∙ append_assoc l.before (r ∷ []) known in
+    a.2 ∙ ap (λ (z : List LineRange). z ++ known) (l.list ∙ ap (λ (q : LineRange). l.before ++ q ∷ []) same.1) ∙ append_assoc l.before (r ∷ []) known in
     (l.before, first, list)
 
 reverse_push : (rs : List LineRange) (r : LineRange) → reverse (rs ++ r ∷ []) ≡ r ∷ reverse rs
@@ -106,10 +116,11 @@ Fills size pages body = (rs : List LineRange) × SpellsRanges size body rs × Ar
 
 pub known_start : (size pages : ℕ) (body : List ℕ) → Known size pages body (length body) []
 known_start size pages body = (
-    omega arith,
-    drop_all (length body) body (omega arith),
-    tt,
-    λ rs s. (rs, (let P : List ℕ → Type 0 = λ z. SpellsRanges size z rs in subst P (sym (take_all (length body) body (omega arith))) s), sym (append-nil rs)))
+  omega arith,
+  drop_all (length body) body (omega arith),
+  tt,
+  λ rs s. (rs, (let P : List ℕ → Type 0 = λ z. SpellsRanges size z rs in subst P (sym (take_all (length body) body (omega arith))) s), sym (append-nil rs)),
+)
 
 -- a range that ends at `end`, found in what stands before it
 abbrev pub IsFound : ℕ → List ℕ → ℕ → LineRange → Type 0
@@ -122,10 +133,11 @@ known_more size pages body rest start end r rs e found within known =
     let low : start ≤ end = omega (arith, f.0, size_is) in
     let some : 0 < length (take end body) = omega (arith, f.0) in
     rw (reverse_push rs r) (
-        omega (arith, low, known.0),
-        spells_more size body start end r (reverse rs) low known.0 f.1 known.1,
-        (within, known.2),
-        all_end_more size body body start end r (reverse rs) low some f.1 known.3)
+      omega (arith, low, known.0),
+      spells_more size body start end r (reverse rs) low known.0 f.1 known.1,
+      (within, known.2),
+      all_end_more size body body start end r (reverse rs) low some f.1 known.3,
+    )
 
 -- no list fills the data where none ends here
 pub known_none : (size pages : ℕ) (body rest : List ℕ) (end : ℕ) (known : List LineRange) → rest ≡ take end body → 0 < end → ((front text : List ℕ) (r : LineRange) → rest ≡ front ++ text → IsRangeText size text r → ⊥) → Known size pages body end known → Fills size pages body → ⊥

@@ -26,7 +26,7 @@ descriptor_laid_out d = record {
   places = (0, 4) ∷ (4, 4) ∷ (8, 2) ∷ (10, 2) ∷ (16, 4) ∷ (20, 4) ∷ (24, 2) ∷ (26, 2) ∷ (28, 8) ∷ [];
   placed = (refl, refl, (refl, refl, (refl, refl, (refl, refl, (refl, refl, (refl, refl, (refl, refl, (refl, refl, (refl, length-pxd_bytes d.at, tt)))))))));
   within = refl;
-  apart = refl
+  apart = refl;
 }
 
 pub length-descriptor_bytes : (d : Descriptor) → length (descriptor_bytes d) ≡ 36
@@ -64,7 +64,7 @@ log_super_laid_out s page r size = record {
   places = (0, 4) ∷ (4, 4) ∷ (8, 4) ∷ (12, 4) ∷ (16, 4) ∷ (20, 4) ∷ (24, 4) ∷ (28, 4) ∷ (32, 4) ∷ (36, 16) ∷ (52, 16) ∷ [];
   placed = (refl, refl, (refl, refl, (refl, refl, (refl, refl, (refl, refl, (refl, refl, (refl, refl, (refl, refl, (refl, refl, (refl, r.uuid, (refl, r.label, tt)))))))))));
   within = rw size refl;
-  apart = refl
+  apart = refl;
 }
 
 pub log_super_of-puts : (s : LogSuper) (page : List ℕ) → LogSuperInRange s → length page ≡ 4096 → log_super_of (puts (log_super_pieces s) page) ≡ s

@@ -1,5 +1,5 @@
 -- The text that is written of a record spells it.
-use Rattle.std.proofs.Common.{◌≡◌, ◌<◌, ◌≤◌, ◌+◌, ◌-◌, ◌*◌, ◌/◌, ◌^◌, ℕ, zero, suc, Bool, true, false, List, [], ◌∷◌, ◌++◌, length, take, drop, refl, sym, ap, subst, ◌∙◌, append_assoc, arith}
+use Rattle.std.proofs.Common.{◌≡◌, ◌<◌, ◌+◌, ◌*◌, ◌/◌, ◌^◌, ℕ, List, [], ◌∷◌, ◌++◌, length, take, refl, sym, ap, subst, ◌∙◌, append_assoc, arith}
 use Rattle.std.specs.List.{flat_map, AllByRecursion}
 use Rattle.std.proofs.lemmas.List.{take_at, drop_at, length-append}
 use Rattle.std.proofs.Math.Nat.{div-le_self}
@@ -26,8 +26,11 @@ is_range_text size r fits =
     let place = little_bytes 2 r.first ++ little_bytes 2 lines in
     let second : field_of place 2 2 ≡ lines = field_of-range place 2 2 ∙ field_of-number 2 lines [] (omega (arith, fits.bytes, div-le_self (length r.bytes) size)) in
     record {
-      place = place; parts = refl; four = refl; first = field_of-number 2 r.first (little_bytes 2 lines) (omega (arith, fits.first));
-      lines = fits.whole ∙ ap (λ (n : ℕ). n * size) (sym second)
+      place = place;
+      parts = refl;
+      four = refl;
+      first = field_of-number 2 r.first (little_bytes 2 lines) (omega (arith, fits.first));
+      lines = fits.whole ∙ ap (λ (n : ℕ). n * size) (sym second);
     }
 
 spells_ranges : (size : ℕ) (rs : List LineRange) → AllByRecursion (FitsRange size) rs → SpellsRanges size (flat_map (range_text size) rs) rs
@@ -84,7 +87,10 @@ spelled r fits read =
     let n = length (body_text r) in
     let d = described r n in
     record {
-      body = body_text r; tail = descriptor_bytes d; parts = refl; size = length-descriptor_bytes d;
+      body = body_text r;
+      tail = descriptor_bytes d;
+      parts = refl;
+      size = length-descriptor_bytes d;
       long = ap (λ (x : Descriptor). x.length) read ∙ long r n;
-      says = (let P : Descriptor → Type 0 = λ x. Says x (body_text r) r in subst P (sym read) (says r n fits))
+      says = (let P : Descriptor → Type 0 = λ x. Says x (body_text r) r in subst P (sym read) (says r n fits));
     }

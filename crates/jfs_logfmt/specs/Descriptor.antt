@@ -9,9 +9,16 @@ use Rattle.jfs_logfmt.specs.declared.descriptor.Descriptor.{Descriptor}
 -- the aggregate field, 4 bytes at 12, is not looked at
 abbrev pub descriptor_of : List ℕ → Descriptor
 descriptor_of tail = record {
-  tid = field_of tail 0 4; back = field_of tail 4 4; number = field_of tail 8 2; length = field_of tail 10 2;
-  fileset = field_of tail 16 4; inode = field_of tail 20 4; kind = field_of tail 24 2; count = field_of tail 26 2; at = pxd_of tail 28
-  }
+  tid = field_of tail 0 4;
+  back = field_of tail 4 4;
+  number = field_of tail 8 2;
+  length = field_of tail 10 2;
+  fileset = field_of tail 16 4;
+  inode = field_of tail 20 4;
+  kind = field_of tail 24 2;
+  count = field_of tail 26 2;
+  at = pxd_of tail 28;
+}
 
 abbrev piece : ℕ → List ℕ → Piece
 piece at bytes = record { at = at; bytes = bytes }

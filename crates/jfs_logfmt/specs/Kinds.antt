@@ -1,5 +1,5 @@
 -- The numbers of the log's types, page types and map types. (JFS Log.)
-use Rattle.std.specs.Prelude.{ℕ, ◌+◌, ◌^◌, ◌==◌, Bool, true, false, List, [], ◌∷◌, Option, Some, None, find, if◌then◌else◌}
+use Rattle.std.specs.Prelude.{ℕ, ◌+◌, ◌^◌, ◌==◌, Bool, true, false, [], ◌∷◌, Option, find, if◌then◌else◌}
 use Rattle.jfs_bits.specs.declared.rule.PageKind.{PageKind}
 use Rattle.jfs_bits.specs.declared.rule.PageKind.TheVariants as kinds
 use Rattle.jfs_logfmt.specs.declared.kind.RecordType.{RecordType}

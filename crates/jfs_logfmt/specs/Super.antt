@@ -15,7 +15,7 @@ log_super_of page = record {
   size = field_of page 12 4;
   state = field_of page 28 4;
   uuid = range_of page 36 16;
-  label = range_of page 52 16
+  label = range_of page 52 16;
 }
 
 abbrev piece : ℕ → List ℕ → Piece

@@ -1,11 +1,9 @@
 -- Which bytes spell which record. (JFS Log.)
-use Rattle.std.specs.Prelude.{◌≡◌, ℕ, zero, suc, ◌+◌, ◌*◌, ◌/◌, ◌^◌, ◌<◌, ◌≤◌, List, [], ◌∷◌, ◌++◌, length, flat_map, Bool, true, false}
-use Rattle.std.specs.List.{AllByRecursion}
-use Rattle.byteorder.specs.Endian.{little_bytes}
+use Rattle.std.specs.Prelude.{◌≡◌, ℕ, zero, suc, ◌+◌, ◌*◌, List, [], ◌∷◌, ◌++◌, length, false}
 use Rattle.jfs_bits.specs.declared.descriptor.Pxd.{Pxd}
 use Rattle.jfs_bits.specs.declared.list.LineRange.{LineRange}
 use Rattle.jfs_bits.specs.Field.{field_of}
-use Rattle.jfs_bits.specs.Descriptor.{pxd_of, pxd_bytes, FitsPxd}
+use Rattle.jfs_bits.specs.Descriptor.{pxd_of}
 use Rattle.jfs_logfmt.specs.declared.descriptor.Descriptor.{Descriptor}
 use Rattle.jfs_logfmt.specs.declared.kind.RecordType.{RecordType}
 use Rattle.jfs_logfmt.specs.declared.kind.RecordType.TheVariants as types

@@ -1,5 +1,5 @@
 -- The text that is written of a record: zeros where nothing is used.
-use Rattle.std.specs.Prelude.{◌≡◌, ℕ, ◌+◌, ◌*◌, ◌/◌, ◌^◌, ◌<◌, ⊤, List, [], ◌∷◌, ◌++◌, length, flat_map, Bool, true, false}
+use Rattle.std.specs.Prelude.{◌≡◌, ℕ, ◌*◌, ◌/◌, ◌^◌, ◌<◌, ⊤, List, [], ◌++◌, length, flat_map, false}
 use Rattle.std.specs.List.{AllByRecursion}
 use Rattle.byteorder.specs.Endian.{little_bytes}
 use Rattle.jfs_bits.specs.declared.descriptor.Pxd.{Pxd}

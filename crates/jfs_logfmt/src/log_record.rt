@@ -42,9 +42,14 @@ pub enum Record {
         list: PxdList,
     },
     /// The end of a transaction (COMMIT).
-    Commit { tid: u32, back: u32 },
+    Commit {
+        tid: u32,
+        back: u32,
+    },
     /// Redo needs no record before this address; 0 means this record (SYNCPT).
-    SyncPt { sync: u32 },
+    SyncPt {
+        sync: u32,
+    },
 }
 
 /// Why bytes are no record: the first rule that they break.

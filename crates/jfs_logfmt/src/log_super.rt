@@ -10,6 +10,7 @@ use jfs_disk::Page;
 use uuid::Uuid;
 
 const MAGIC: u32 = 0x8765_4321;
+
 const VERSION: u32 = 1;
 
 /// The log's superblock, on page 1 of the log. (JFS header, `struct logsuper`.)

@@ -64,7 +64,12 @@ fn lies_within(range: &LineRange, size: usize, pages: u32) -> bool
 }
 
 /// The ranges that fill the data, the last one first.
-fn ranges_back(alloc: Global, body: &[u8], size: usize, pages: u32) -> Result<Vec<LineRange>, RecordError>
+fn ranges_back(
+    alloc: Global,
+    body: &[u8],
+    size: usize,
+    pages: u32,
+) -> Result<Vec<LineRange>, RecordError>
     requires size { size ≤ 128 }
     requires bytes { length body.now < 2 ^ 16 }
     ensures found { IfOk result (λ back. SpellsRanges size body.now (reverse back.items) × AreWithin size pages (reverse back.items)) }

@@ -2,6 +2,7 @@
 
 ghost use Rattle.std.specs.Prelude.{◌≡◌, ℕ, ◌+◌, ◌*◌, ◌^◌, ◌<◌, ◌≤◌, ◌++◌, true, List, length, drop, IfOk};
 ghost use Rattle.jfs_bits.specs.Descriptor.{FitsPxd};
+ghost use Rattle.jfs_bits.specs.declared.rule.Rule.{Rule};
 ghost use Rattle.jfs_logfmt.specs.Kinds.{type_number};
 ghost use Rattle.jfs_logfmt.specs.Descriptor.{descriptor_of};
 ghost use Rattle.jfs_logfmt.specs.Text.{Says, Spells};
@@ -124,7 +125,13 @@ fn update_of(alloc: Global, d: Descriptor, body: &[u8], blocks: u32) -> Result<R
 }
 
 /// Reads a record of this type.
-fn record_of(alloc: Global, of: RecordType, d: Descriptor, body: &[u8], blocks: u32) -> Result<Record, RecordError>
+fn record_of(
+    alloc: Global,
+    of: RecordType,
+    d: Descriptor,
+    body: &[u8],
+    blocks: u32,
+) -> Result<Record, RecordError>
     requires number { d.number ≡ type_number of }
     requires fits { FitsPxd d.at }
     requires long { length body.now ≡ d.length }
@@ -180,13 +187,18 @@ fn read_at_end(alloc: Global, bytes: &[u8], blocks: u32) -> Result<(Record, usiz
 ///
 /// The first rule that the bytes break, of `type`, `length`, `lines`, `range`, `place` and `kind`
 /// in this order; or want of memory.
-pub fn read_record_before(alloc: Global, bytes: &[u8], blocks: u32) -> Result<(Record, usize), RecordError>
+pub fn read_record_before(
+    alloc: Global,
+    bytes: &[u8],
+    blocks: u32,
+) -> Result<(Record, usize), RecordError>
     // What is read is spelled so, and keeps the rules.
     ensures found { IfOk result (λ x. (x.1 ≤ length bytes.now) × Spells (drop x.1 bytes.now) x.0 × IsSound blocks x.0) }
     // What is spelled so and keeps the rules is read, whatever stands before it.
     ensures whole { (front text : List ℕ) (r : Record) → bytes.now ≡ front ++ text → Spells text r → IsSound blocks r → IsRead result (λ x. (x.0 ≡ r) × (x.1 ≡ length front)) }
-    // Which rule is broken.
+    // Which rule is broken, and that none is where a record is read.
     ensures broken { IfBad result (FirstBroken blocks bytes.now) }
+    ensures kept { IfOk result (λ _. (rule : Rule) → FirstBroken blocks bytes.now rule → ⊥) }
 {
     read_at_end(alloc, bytes, blocks)
 }

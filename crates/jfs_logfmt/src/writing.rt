@@ -125,22 +125,53 @@ fn describe(r: &Record, length: u16) -> Descriptor
     ensures fits { FitsPxd result.at }
 {
     match r {
-        Record::Redo { tid, back, fileset, inode, kind, new_page, at, .. } => Descriptor {
+        Record::Redo {
+            tid,
+            back,
+            fileset,
+            inode,
+            kind,
+            new_page,
+            at,
+            ..
+        } => Descriptor {
             fileset: *fileset,
             inode: *inode,
-            kind: PageType { kind: *kind, new_page: *new_page }.number(),
+            kind: PageType {
+                kind: *kind,
+                new_page: *new_page,
+            }
+            .number(),
             count: l2_line_of(*kind),
             at: *at,
             ..head(RecordType::RedoPage, *tid, *back, length)
         },
-        Record::NoRedo { tid, back, fileset, inode, kind, at } => Descriptor {
+        Record::NoRedo {
+            tid,
+            back,
+            fileset,
+            inode,
+            kind,
+            at,
+        } => Descriptor {
             fileset: *fileset,
             inode: *inode,
-            kind: PageType { kind: *kind, new_page: false }.number(),
+            kind: PageType {
+                kind: *kind,
+                new_page: false,
+            }
+            .number(),
             at: *at,
             ..head(RecordType::NoRedoPage, *tid, *back, length)
         },
-        Record::Update { tid, back, fileset, inode, alloc, list } => Descriptor {
+        Record::Update {
+            tid,
+            back,
+            fileset,
+            inode,
+            alloc,
+            list,
+        } => Descriptor {
             fileset: *fileset,
             inode: *inode,
             kind: map_type_number(*alloc),

@@ -1,4 +1,4 @@
-use Rattle.std.proofs.Common.{◌≡◌, ◌∙◌, ap, refl, arith}
+use Rattle.std.proofs.Common.{◌∙◌, ap, refl, arith}
 use Rattle.jfs_bits.specs.Piece.{puts}
 use Rattle.jfs_logfmt.specs.Descriptor.{descriptor_of, descriptor_pieces}
 use Rattle.jfs_logfmt.proofs.ReadBack.{DescriptorInRange, descriptor_of-bytes}

@@ -1,4 +1,4 @@
-use Rattle.std.proofs.Common.{◌≡◌, ◌∙◌, ap, sym, length, refl, List, ℕ, arith}
+use Rattle.std.proofs.Common.{◌∙◌, ap, sym, length, refl, List, ℕ, arith}
 use Rattle.jfs_bits.specs.Piece.{puts}
 use Rattle.jfs_logfmt.specs.Super.{is_log_super, log_super_of, log_super_pieces}
 use Rattle.jfs_logfmt.proofs.ReadBack.{LogSuperInRange, log_super_of-puts, is_log_super-puts}

@@ -1,5 +1,5 @@
-use Rattle.std.proofs.Common.{◌≡◌, ◌≤◌, ◌<◌, ◌+◌, ◌∙◌, List, length, take, drop, reverse, refl, sym, ap, arith}
-use Rattle.jfs_logfmt.proofs.Ranges.{Known, known_start, known_more, known_none, known_out, known_all}
+use Rattle.std.proofs.Common.{◌≡◌, reverse, sym, arith}
+use Rattle.jfs_logfmt.proofs.Ranges.{known_start, known_more, known_none, known_out, known_all}
 use Rattle.jfs_logfmt.proofs.range.ranges_back.Goals as goal
 
 pub loop-end-init : goal.loop-end-init

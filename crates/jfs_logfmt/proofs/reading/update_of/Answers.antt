@@ -1,4 +1,4 @@
-use Rattle.std.proofs.Common.{◌≡◌, rules, refl, sym, arith, ◌∙◌, ap}
+use Rattle.std.proofs.Common.{rules}
 use Rattle.jfs_logfmt.proofs.Runs.{runs_found}
 use Rattle.jfs_logfmt.proofs.reading.update_of.Goals as goal
 
@@ -6,4 +6,4 @@ pub returns-clause-found : goal.returns-clause-found
 returns-clause-found c =
     let e = c.in_ok-read_runs.ensures in
     let n = runs_found c.args.body.now c.args.d.count c.in_ok-read_runs.field-0 e in
-    search (rules, n) 
+    search (rules, n)

@@ -1,4 +1,4 @@
-use Rattle.std.proofs.Common.{◌≡◌, refl}
+use Rattle.std.proofs.Common.{refl}
 use Rattle.jfs_bits.specs.Field.{put_bytes}
 use Rattle.jfs_logfmt.proofs.writing.place_text.Goals as goal
 

@@ -1,4 +1,4 @@
-use Rattle.std.proofs.Common.{◌≡◌, ◌++◌, take, List, ℕ, sym, ap, ◌∙◌, append_assoc, arith}
+use Rattle.std.proofs.Common.{take, sym, arith}
 use Rattle.std.specs.List.{flat_map}
 use Rattle.jfs_logfmt.specs.Written.{IsLonger, range_text}
 use Rattle.jfs_logfmt.proofs.Added.{text_added, get_none, on_err, longer_still}
@@ -11,6 +11,6 @@ returns-in_err-push_range-clause-err c =
 
 pub loop-i-preserved : goal.loop-i-preserved
 loop-i-preserved c = elim c.match-get.branch [
-    | in-Some+in_ok-push_range w ↦ rw w.into-is (text_added (range_text c.args.size) c.args.into.now.items c.loop-i.into.items w.push_range.new.into.items c.args.ranges.now c.loop-i.i w.in-Some.range.now (sym w.in-Some.ensures) c.loop-i.invariant w.in_ok-push_range.ensures.ok)
-    | in_default w ↦ absurd (get_none c.args.ranges.now c.loop-i.i (sym w.in_default.ensures) (omega arith))
-  ]
+  | in-Some+in_ok-push_range w ↦ rw w.into-is (text_added (range_text c.args.size) c.args.into.now.items c.loop-i.into.items w.push_range.new.into.items c.args.ranges.now c.loop-i.i w.in-Some.range.now (sym w.in-Some.ensures) c.loop-i.invariant w.in_ok-push_range.ensures.ok)
+  | in_default w ↦ absurd (get_none c.args.ranges.now c.loop-i.i (sym w.in_default.ensures) (omega arith))
+]

@@ -1,4 +1,4 @@
-use Rattle.std.proofs.Common.{◌≡◌, ◌++◌, take, List, ℕ, sym, ap, ◌∙◌, arith}
+use Rattle.std.proofs.Common.{◌++◌, take, List, ℕ, sym, ap, ◌∙◌, arith}
 use Rattle.std.specs.List.{flat_map}
 use Rattle.jfs_bits.specs.Descriptor.{pxd_bytes}
 use Rattle.jfs_logfmt.specs.Written.{IsLonger}
@@ -12,7 +12,7 @@ returns-in_err-extend_from_slice-clause-err c =
 
 pub loop-i-preserved : goal.loop-i-preserved
 loop-i-preserved c = elim c.match-get.branch [
-    | in-Some+in_ok-extend_from_slice w ↦ rw w.into-is (text_added pxd_bytes c.args.into.now.items c.loop-i.into.items w.extend_from_slice.new.self.items c.args.list.now c.loop-i.i w.in-Some.at.now (sym w.in-Some.ensures) c.loop-i.invariant
-        (w.in_ok-extend_from_slice.ensures.items ∙ ap (λ (l : List ℕ). c.loop-i.into.items ++ l) w.run_text.ensures))
-    | in_default w ↦ absurd (get_none c.args.list.now c.loop-i.i (sym w.in_default.ensures) (omega arith))
-  ]
+  | in-Some+in_ok-extend_from_slice w ↦ rw w.into-is (text_added pxd_bytes c.args.into.now.items c.loop-i.into.items w.extend_from_slice.new.self.items c.args.list.now c.loop-i.i w.in-Some.at.now (sym w.in-Some.ensures) c.loop-i.invariant
+      (w.in_ok-extend_from_slice.ensures.items ∙ ap (λ (l : List ℕ). c.loop-i.into.items ++ l) w.run_text.ensures))
+  | in_default w ↦ absurd (get_none c.args.list.now c.loop-i.i (sym w.in_default.ensures) (omega arith))
+]

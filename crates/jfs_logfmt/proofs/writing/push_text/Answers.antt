@@ -1,4 +1,4 @@
-use Rattle.std.proofs.Common.{◌≡◌, ◌-◌, ◌++◌, length, List, ℕ, sym, ap, subst, ◌∙◌, Result, OnOk, Ok, Err, arith}
+use Rattle.std.proofs.Common.{◌≡◌, ◌-◌, length, ℕ, sym, ap, subst, ◌∙◌, arith}
 use Rattle.std.proofs.lemmas.List.{length-append}
 use Rattle.jfs_logfmt.specs.declared.descriptor.Descriptor.{Descriptor}
 use Rattle.jfs_logfmt.specs.Descriptor.{descriptor_of, descriptor_bytes}
