@@ -1,7 +1,7 @@
 //! The numbers of the log's types, each table both ways. (JFS Log.)
 
 ghost use Rattle.std.specs.Prelude.{◌≡◌};
-ghost use Rattle.jfs_logfmt.specs.Kinds.{type_number, type_of, l2_line, page_number, page_of, page_blocks, map_number, map_of};
+ghost use Rattle.jfs_logfmt.specs.Kinds.{type_number, type_of, l2_line, page_type, page_number, page_of, page_blocks, map_number, map_of};
 
 use jfs_bits::PageKind;
 
@@ -52,6 +52,13 @@ pub struct PageType {
 }
 
 impl PageType {
+    /// A page type of its parts.
+    pub fn new(kind: PageKind, new_page: bool) -> PageType
+        ensures { result ≡ page_type kind new_page }
+    {
+        PageType { kind, new_page }
+    }
+
     /// The type's number.
     pub fn number(self) -> u16
         ensures { result ≡ page_number self }
@@ -80,7 +87,7 @@ impl PageType {
             0x108 => (PageKind::Index, true),
             _ => return None,
         };
-        Some(PageType { kind, new_page })
+        Some(PageType::new(kind, new_page))
     }
 
     /// The number of blocks of such a page: new inodes come four blocks at once.

@@ -137,11 +137,7 @@ fn describe(r: &Record, length: u16) -> Descriptor
         } => Descriptor {
             fileset: *fileset,
             inode: *inode,
-            kind: PageType {
-                kind: *kind,
-                new_page: *new_page,
-            }
-            .number(),
+            kind: PageType::new(*kind, *new_page).number(),
             count: l2_line_of(*kind),
             at: *at,
             ..head(RecordType::RedoPage, *tid, *back, length)
@@ -156,11 +152,7 @@ fn describe(r: &Record, length: u16) -> Descriptor
         } => Descriptor {
             fileset: *fileset,
             inode: *inode,
-            kind: PageType {
-                kind: *kind,
-                new_page: false,
-            }
-            .number(),
+            kind: PageType::new(*kind, false).number(),
             at: *at,
             ..head(RecordType::NoRedoPage, *tid, *back, length)
         },
