@@ -1,0 +1,9 @@
+use Rattle.std.proofs.Common.{sym, arith}
+use Rattle.jfs_logfmt.proofs.Cut.{first_found}
+use Rattle.jfs_logfmt.proofs.reading.read_at_end.Goals as goal
+
+pub returns-in-Err-clause-broken : goal.returns-in-Err-clause-broken
+returns-in-Err-clause-broken c =
+    first_found c.args.blocks c.args.bytes.now c.split_at.result.0.now c.split_at.result.1.now c.split_at-2.result.1.now c.in-Some.of c.get_descriptor-d.result c.from-long.result c.in-Err.e
+    (omega arith) c.split_at.ensures.front c.split_at.ensures.back c.split_at.ensures.front_len c.get_descriptor-d.ensures.value (sym c.in-Some.ensures)
+    c.from-long.ensures (omega arith) (sym c.if-not-fits_type.ensures) c.split_at-2.ensures.back c.in-Err.ensures.broken

@@ -1,0 +1,6 @@
+pub mod Kinds
+pub mod Descriptor
+pub mod Text
+pub mod Rules
+pub mod Written
+pub mod Super
