@@ -1,0 +1,5 @@
+pub mod Ranks
+pub mod Joins
+pub mod Halves
+pub mod Changes
+pub mod Levels
