@@ -150,12 +150,12 @@ join-ends own ranks leaves whole w top k most before c run greatest v b = side (
     side (inr n) = c.outside v b n ∙ outside-stays own whole w whole k top v (λ b. not_whole own whole (suc k) w w refl before) greatest n
 
 -- the same own ranks join the same
-pub joined-same : (own other : ℕ → ℕ) (whole top v : ℕ) → ((u : ℕ) → own u ≡ other u) → joined own whole top v ≡ joined other whole top v
-joined-same own other whole top v h = joined-agree own other whole top v (λ k b. runs k (cases_Bool (is_whole own whole k v))) (h v)
+pub joined-same : (own other : ℕ → ℕ) (whole top v : ℕ) → v < 2 ^ top → ((u : ℕ) → u < 2 ^ top → own u ≡ other u) → joined own whole top v ≡ joined other whole top v
+joined-same own other whole top v within h = joined-agree own other whole top v (λ k b. runs k b (cases_Bool (is_whole own whole k v))) (h v within)
   where
-    runs : (k : ℕ) → (is_whole own whole k v ≡ true) ⊎ (is_whole own whole k v ≡ false) → is_whole own whole k v ≡ is_whole other whole k v
-    runs k (inl t) = t ∙ sym (is_whole-from other whole k v (λ u e. sym (h u) ∙ is_whole-at own whole k v t u e))
-    runs k (inr f) = f ∙ sym (false_from_ne_true (is_whole other whole k v) (λ t. true≢false (sym (is_whole-from own whole k v (λ u e. h u ∙ is_whole-at other whole k v t u e)) ∙ f)))
+    runs : (k : ℕ) → k ≤ top → (is_whole own whole k v ≡ true) ⊎ (is_whole own whole k v ≡ false) → is_whole own whole k v ≡ is_whole other whole k v
+    runs k b (inl t) = t ∙ sym (is_whole-from other whole k v (λ u e. sym (h u (run-within k top u v b within e)) ∙ is_whole-at own whole k v t u e))
+    runs k b (inr f) = f ∙ sym (false_from_ne_true (is_whole other whole k v) (λ t. true≢false (sym (is_whole-from own whole k v (λ u e. h u (run-within k top u v b within e) ∙ is_whole-at other whole k v t u e)) ∙ f)))
 
 pub alone : (own : ℕ → ℕ) (whole w : ℕ) → is_whole (with_own own w whole) whole 0 w ≡ true
 alone own whole w = is_whole-from (with_own own w whole) whole 0 w (λ u e. with_own-same own w whole u (let same : w ≡ u = omega arith in same))

@@ -3,3 +3,4 @@ pub mod Joins
 pub mod Halves
 pub mod Changes
 pub mod Levels
+pub mod Finds

@@ -1,5 +1,5 @@
 -- Buddies: aligned runs of leaves, joined while they are wholly free. (JFS Layout, block map.)
-use Rattle.std.specs.Prelude.{◌≡◌, ℕ, zero, suc, ◌+◌, ◌*◌, ◌/◌, ◌^◌, ◌<◌, ◌≤◌, Bool, true, false, ◌==◌, if◌then◌else◌, List, length}
+use Rattle.std.specs.Prelude.{◌≡◌, ℕ, zero, suc, ◌+◌, ◌*◌, ◌/◌, ◌^◌, ◌<◌, ◌≤◌, Bool, true, false, ◌==◌, if◌then◌else◌, List, length, Option, Some, None}
 use Rattle.jfs_bits.specs.Bits.{all_below}
 use Rattle.jfs_buddy.specs.Tree.{first_of, leaves_of, leaf_at, HasMaxima}
 
@@ -22,6 +22,16 @@ pub record Level (own : ℕ → ℕ) (whole top v k : ℕ) : Type 0 where
   pub most : k ≤ top
   pub run : is_whole own whole k v ≡ true
   pub greatest : k < top → is_whole own whole (suc k) v ≡ false
+
+-- a free run of this rank lies at leaf `v`: in the leaf by its own rank, or as the wholly free run of 2 ^ k leaves that begins there
+pub record HasRun (own : ℕ → ℕ) (whole rank v : ℕ) : Type 0 where
+  pub part : rank ≤ whole → rank ≤ own v
+  pub wholes : (k : ℕ) → rank ≡ whole + k → (start_of k v ≡ v) × (is_whole own whole k v ≡ true)
+
+-- the lowest leaf at which a free run of this rank lies; `None` exactly where there is none
+abbrev pub IsLowestRun : ℕ → (ℕ → ℕ) → ℕ → ℕ → Option ℕ → Type 0
+IsLowestRun height own whole rank None = (v : ℕ) → v < leaves_of height → HasRun own whole rank v → ⊥
+IsLowestRun height own whole rank (Some leaf) = (leaf < leaves_of height) × HasRun own whole rank leaf × ((v : ℕ) → v < leaf → HasRun own whole rank v → ⊥)
 
 -- one leaf's own rank replaced
 abbrev pub with_own : (ℕ → ℕ) → ℕ → ℕ → ℕ → ℕ

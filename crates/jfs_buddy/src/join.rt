@@ -2,9 +2,28 @@
 
 ghost use Rattle.std.specs.Prelude.{◌≡◌, ◌≢◌, ◌+◌, ◌*◌, ◌^◌, ◌<◌, ◌≤◌, ◌↔◌, length, ℕ, IfSome, IsTrue, MatchOption, suc};
 ghost use Rattle.jfs_buddy.specs.Tree.{first_of, leaves_of, leaf_at, HasMaxima};
-ghost use Rattle.jfs_buddy.specs.Buddy.{start_of, with_own, HalvesPut, HalvesShow, Level, IsBuddyTree};
+ghost use Rattle.jfs_buddy.specs.Buddy.{start_of, with_own, HalvesPut, HalvesShow, Level, IsLowestRun, IsBuddyTree};
 
-use crate::tree::{leaf_rank, put_leaf};
+use crate::tree::{find_leaf, leaf_rank, put_leaf};
+
+/// Makes a tree without a free block.
+pub fn clear_tree(tree: &mut [u8], height: u32, whole: u8)
+    requires { length tree.old ≡ first_of (suc height) }
+    ensures { 0 < whole → IsBuddyTree height whole (λ v. 0) tree.new }
+{
+    tree.fill(255);
+}
+
+/// The lowest leaf at which a free run of a rank lies, found from the root down; None exactly where there is none.
+pub fn find_run(tree: &[u8], height: u32, whole: u8, rank: u8) -> Option<u32>
+    requires size { length tree.now ≡ first_of (suc height) }
+    requires few { height < 16 }
+    requires inner { HasMaxima tree.now }
+    requires most { rank ≤ whole + 2 * height }
+    ensures { (own : ℕ → ℕ) → 0 < rank → 0 < whole → IsBuddyTree height whole own tree.now → IsLowestRun height own whole rank result }
+{
+    find_leaf(tree, height, rank)
+}
 
 /// Where the aligned run of `2^k` leaves begins that has a leaf.
 fn start(leaf: u32, k: u32) -> u32

@@ -16,7 +16,7 @@ returns-else-rank-whole c own some small t =
     record {
         bounded = with_own-bounded own c.args.whole c.args.leaf c.args.rank t.bounded small;
         size = t.size;
-        leaves = λ v b. t.leaves v b ∙ joined-same own (with_own own c.args.leaf c.args.rank) c.args.whole (2 * c.args.height) v (λ u. unchanged own c.args.leaf c.args.rank u (l.0 ∙ sym c.if-rank-whole.false));
+        leaves = λ v b. t.leaves v b ∙ joined-same own (with_own own c.args.leaf c.args.rank) c.args.whole (2 * c.args.height) v b (λ u w. unchanged own c.args.leaf c.args.rank u (l.0 ∙ sym c.if-rank-whole.false));
         inner = t.inner }
 
 pub returns-then-rank-whole-2 : goal.returns-then-rank-whole-2

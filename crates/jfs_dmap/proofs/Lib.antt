@@ -1,0 +1,7 @@
+pub mod Parts
+pub mod Buds
+pub mod Trees
+pub mod Counts
+pub mod Pages
+pub mod Lowest
+pub mod Finds
