@@ -1,5 +1,5 @@
 -- How many blocks are free, after a run of them was taken or given back.
-use Rattle.std.proofs.Common.{◌≡◌, ◌≢◌, ◌<◌, ◌≤◌, ◌+◌, ◌-◌, ◌*◌, ◌/◌, ℕ, zero, suc, Bool, true, false, ◌&&◌, ◌||◌, not, ◌⊎◌, inl, inr, refl, sym, ap, ◌∙◌, arith}
+use Rattle.std.proofs.Common.{◌≡◌, ◌≢◌, ◌<◌, ◌≤◌, ◌+◌, ◌-◌, ◌*◌, ◌/◌, ℕ, zero, suc, Bool, true, false, ◌&&◌, ◌||◌, not, ◌⊎◌, inl, inr, add-one, refl, sym, ap, ◌∙◌, arith}
 use Rattle.std.specs.Prelude.{min, nat_le, nat_lt, if◌then◌else◌}
 use Rattle.std.proofs.lemmas.Bool.{cases_lt, le-leb, lt-leb, lt-ltb, le-ltb, and_from, and_left, and_right}
 use Rattle.jfs_bits.specs.Bits.{is_free, is_in_run}
@@ -28,6 +28,14 @@ pub count_below-same : (m : ℕ) (f g : ℕ → Bool) → ((b : ℕ) → b < m �
 unfolding count_below
 count_below-same zero f g h = refl
 count_below-same (suc m) f g h = rw (count_below-same m f g (λ b k. h b (omega arith)), h m (omega arith)) refl
+
+pub count_below-next : (m : ℕ) (f : ℕ → Bool) → count_below (m + 1) f ≡ count_below m f + (if f m then 1 else 0)
+unfolding count_below
+count_below-next m f = rw add-one refl
+
+pub count_below-none : (f : ℕ → Bool) → count_below 0 f ≡ 0
+unfolding count_below
+count_below-none f = refl
 
 pub count_below-most : (m : ℕ) (f : ℕ → Bool) → count_below m f ≤ m
 unfolding count_below

@@ -5,3 +5,4 @@ pub mod Counts
 pub mod Pages
 pub mod Lowest
 pub mod Finds
+pub mod Heads

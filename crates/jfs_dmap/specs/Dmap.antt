@@ -1,6 +1,8 @@
 -- A dmap page: the taken ones among 8,192 blocks, and the buddy tree over their words. (JFS Layout, dmap_t.)
-use Rattle.std.specs.Prelude.{◌≡◌, ℕ, zero, suc, ◌+◌, ◌*◌, ◌<◌, ◌≤◌, Bool, true, not, ℤ, pos, negsuc, if◌then◌else◌, List, length, replicate}
+use Rattle.std.specs.Prelude.{◌≡◌, ℕ, zero, suc, ◌+◌, ◌*◌, ◌<◌, ◌≤◌, Bool, true, not, ℤ, pos, negsuc, if◌then◌else◌, List, [], ◌∷◌, length, replicate}
+use Rattle.byteorder.specs.Endian.{little_bytes}
 use Rattle.jfs_bits.specs.Field.{field_of, range_of}
+use Rattle.jfs_bits.specs.Piece.{Piece}
 use Rattle.jfs_bits.specs.Bits.{all_below, is_taken, max_bud_of}
 use Rattle.jfs_buddy.specs.Buddy.{IsBuddyTree}
 
@@ -39,6 +41,17 @@ rank_of (negsuc n) = 0
 -- the own rank of word `w` of a map, that of its maximal buddy; a wholly free word has 6
 abbrev pub word_rank : List ℕ → ℕ → ℕ
 word_rank map w = rank_of (max_bud_of (field_of map (4 * w) 4))
+
+-- the fields that do not follow from the set
+unfoldable pub head_of : ℕ → ℕ → List Piece
+head_of start nblocks =
+    record { at = 0; bytes = little_bytes 4 nblocks } ∷
+    record { at = 8; bytes = little_bytes 8 start } ∷
+    record { at = 16; bytes = little_bytes 4 256 } ∷
+    record { at = 20; bytes = little_bytes 4 8 } ∷
+    record { at = 24; bytes = little_bytes 4 85 } ∷
+    record { at = 28; bytes = little_bytes 4 4 } ∷
+    record { at = 32; bytes = little_bytes 1 5 } ∷ []
 
 -- the page in its canonical form: all that it has follows from its set, its first block and its number of blocks
 pub record IsDmap (page : List ℕ) : Type 0 where
