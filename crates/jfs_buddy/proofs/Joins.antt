@@ -1,8 +1,8 @@
 -- Wholly free runs of leaves, and the ranks that they show.
-use Rattle.std.proofs.Common.{◌≡◌, ◌≢◌, ◌<◌, ◌≤◌, ◌+◌, ◌-◌, ◌*◌, ◌/◌, ◌%◌, ◌^◌, ℕ, zero, suc, Bool, true, false, ◌⊎◌, inl, inr, refl, sym, ap, ◌∙◌, arith}
+use Rattle.std.proofs.Common.{◌≡◌, ◌≢◌, ◌<◌, ◌≤◌, ◌+◌, ◌-◌, ◌*◌, ◌/◌, ◌%◌, ◌^◌, ℕ, zero, suc, true, false, ◌⊎◌, inl, inr, refl, sym, ap, ◌∙◌, arith}
 use Rattle.std.specs.Prelude.{◌==◌, if◌then◌else◌}
-use Rattle.std.proofs.lemmas.Bool.{cases_eq, cases_lt, cases_Bool, eq-eqb, ne_eqb, eqb-true, cond-true, cond-false, false_from_ne_true, true≢false}
-use Rattle.std.proofs.lemmas.Nat.{pow_pos, pow-add, shr-shr, shr_split, div-mul-add, mod-mul-add, mod_below}
+use Rattle.std.proofs.lemmas.Bool.{cases_eq, cases_Bool, eq-eqb, ne_eqb, eqb-true, cond-true, cond-false, false_from_ne_true, true≢false}
+use Rattle.std.proofs.lemmas.Nat.{pow_pos, shr-shr, shr_split, div-mul-add, mod_below}
 use Rattle.jfs_bits.proofs.Runs.{all_below-at, all_below-from}
 use Rattle.jfs_buddy.specs.Buddy.{start_of, is_whole, joined, Level}
 
@@ -69,9 +69,10 @@ joined-level own whole k zero v h t f =
     is_whole-at own whole k v t v refl ∙ sym (rw e (shown-first 0 v (whole + 0) one ∙ (omega arith)))
 joined-level own whole k (suc top) v h t f =
     elim (cases_eq k (suc top)) [
-        inl e ↦ rw e (cond-true (is_whole own whole (suc top) v) (shown (suc top) v (whole + suc top)) (joined own whole top v) (rw e at t))
+      | inl e ↦ rw e (cond-true (is_whole own whole (suc top) v) (shown (suc top) v (whole + suc top)) (joined own whole top v) (rw e at t))
       | inr n ↦ cond-false (is_whole own whole (suc top) v) (shown (suc top) v (whole + suc top)) (joined own whole top v) (not_whole-coarser own whole (suc k) (suc top) v (omega arith) (f (omega arith)))
-                ∙ joined-level own whole k top v (omega arith) t (λ b. f (omega arith)) ]
+          ∙ joined-level own whole k top v (omega arith) t (λ b. f (omega arith))
+    ]
 
 -- a leaf that isn't wholly free keeps its own
 pub joined-own : (own : ℕ → ℕ) (whole top v : ℕ) → own v ≢ whole → joined own whole top v ≡ own v
@@ -93,10 +94,11 @@ level-there own whole zero v e =
     (0, record { most = omega arith; run = is_whole-from own whole 0 v (λ u h. (let same : u ≡ v = omega arith in rw same e)); greatest = λ b. absurd (omega arith) })
 level-there own whole (suc top) v e =
     elim (cases_Bool (is_whole own whole (suc top) v)) [
-        inl t ↦ (suc top, record { most = omega arith; run = t; greatest = λ b. absurd (omega arith) })
+      | inl t ↦ (suc top, record { most = omega arith; run = t; greatest = λ b. absurd (omega arith) })
       | inr f ↦
-        let below = level-there own whole top v e in
-        (below.0, record { most = (let h = below.1.most in omega arith); run = below.1.run; greatest = λ b. up below.0 below.1 f (cases_eq below.0 top) }) ]
+          let below = level-there own whole top v e in
+          (below.0, record { most = (let h = below.1.most in omega arith); run = below.1.run; greatest = λ b. up below.0 below.1 f (cases_eq below.0 top) })
+    ]
   where
     up : (k : ℕ) → Level own whole top v k → is_whole own whole (suc top) v ≡ false → (k ≡ top) ⊎ (k ≡ top → ⊥) → is_whole own whole (suc k) v ≡ false
     up k l f (inl e) = rw e f
@@ -106,12 +108,14 @@ level-there own whole (suc top) v e =
 pub level-shown : (own : ℕ → ℕ) (whole top k v : ℕ) → 0 < whole → ((u : ℕ) → own u ≤ whole) → joined own whole top v ≡ whole + k → (start_of k v ≡ v) × Level own whole top v k
 level-shown own whole top k v some bounded e =
     elim (cases_eq (own v) whole) [
-        inr n ↦ absurd (omega (arith, joined-own own whole top v n, e, bounded v, n))
+      | inr n ↦ absurd (omega (arith, joined-own own whole top v n, e, bounded v, n))
       | inl full ↦
-        let l = level-there own whole top v full in
-        let value = joined-level own whole l.0 top v l.1.most l.1.run l.1.greatest in
-        elim (cases_eq (start_of l.0 v) v) [
-            inr n ↦ absurd (omega (arith, value, shown-other l.0 v (whole + l.0) n))
-          | inl first ↦
-            let same : l.0 ≡ k = omega (arith, value, shown-first l.0 v (whole + l.0) first) in
-            (rw same at first, rw same at l.1) ] ]
+          let l = level-there own whole top v full in
+          let value = joined-level own whole l.0 top v l.1.most l.1.run l.1.greatest in
+          elim (cases_eq (start_of l.0 v) v) [
+            | inr n ↦ absurd (omega (arith, value, shown-other l.0 v (whole + l.0) n))
+            | inl first ↦
+                let same : l.0 ≡ k = omega (arith, value, shown-first l.0 v (whole + l.0) first) in
+                (rw same at first, rw same at l.1)
+          ]
+    ]

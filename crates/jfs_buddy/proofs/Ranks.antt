@@ -1,6 +1,6 @@
 -- Ranks of nodes: one of them replaced, and how they bound the leaves below.
-use Rattle.std.proofs.Common.{◌≡◌, ◌≢◌, ◌<◌, ◌≤◌, ◌+◌, ◌-◌, ◌*◌, ◌/◌, ◌%◌, ◌^◌, ℕ, zero, suc, ◌⊎◌, inl, inr, List, length, set, slice_index, refl, sym, ap, ◌∙◌, arith}
-use Rattle.std.specs.Prelude.{◌==◌, max, if◌then◌else◌}
+use Rattle.std.proofs.Common.{◌≡◌, ◌≢◌, ◌<◌, ◌≤◌, ◌+◌, ◌-◌, ◌*◌, ◌/◌, ◌%◌, ◌^◌, ℕ, zero, suc, ◌⊎◌, inl, inr, List, length, set, refl, sym, ap, ◌∙◌, arith}
+use Rattle.std.specs.Prelude.{◌==◌, if◌then◌else◌}
 use Rattle.std.proofs.lemmas.Bool.{cases_eq, cases_lt, eq-eqb, ne_eqb, cond-true, cond-false}
 use Rattle.std.proofs.lemmas.Nat.{pow-add, pow_pos, div_below, le-div, mod_below, div-add-mod'}
 use Rattle.std.proofs.Math.Nat.{mul_comm, div-mul-le_self}
@@ -19,30 +19,34 @@ pub rank_at-set : (tree : List ℕ) (n m rank : ℕ) → n < length tree → ran
 unfolding rank_at
 rank_at-set tree n m rank within fits =
     elim (cases_eq n m) [
-        inl e ↦ omega (arith, get_or-set_at tree n m ((rank + 255) % 256) 0 (sym e) within) ∙ sym (cond-true (n == m) rank (rank_at tree m) (eq-eqb n m e))
-      | inr k ↦ ap (λ (z : ℕ). (z + 1) % 256) (get_or-set_other tree n m ((rank + 255) % 256) 0 (λ e. k (sym e))) ∙ sym (cond-false (n == m) rank (rank_at tree m) (ne_eqb n m k)) ]
+      | inl e ↦ omega (arith, get_or-set_at tree n m ((rank + 255) % 256) 0 (sym e) within) ∙ sym (cond-true (n == m) rank (rank_at tree m) (eq-eqb n m e))
+      | inr k ↦ ap (λ (z : ℕ). (z + 1) % 256) (get_or-set_other tree n m ((rank + 255) % 256) 0 (λ e. k (sym e))) ∙ sym (cond-false (n == m) rank (rank_at tree m) (ne_eqb n m k))
+    ]
 
 pub same_shifted : (a b c : ℕ) → (a + b == a + c) ≡ (b == c)
 same_shifted a b c = elim (cases_eq b c) [
-    inl e ↦ eq-eqb (a + b) (a + c) (omega arith) ∙ sym (eq-eqb b c e)
-  | inr n ↦ ne_eqb (a + b) (a + c) (λ e. n (omega arith)) ∙ sym (ne_eqb b c n) ]
+  | inl e ↦ eq-eqb (a + b) (a + c) (omega arith) ∙ sym (eq-eqb b c e)
+  | inr n ↦ ne_eqb (a + b) (a + c) (λ e. n (omega arith)) ∙ sym (ne_eqb b c n)
+]
 
 -- a node whose children's greatest is put there, and one that keeps all that it reads
 pub greatest-here : (old new : ℕ → ℕ) (p rank : ℕ) → ((m : ℕ) → new m ≡ (if p == m then rank else old m)) → rank ≡ greatest_of old p → new p ≡ greatest_of new p
 greatest-here old new p rank h e =
     replaced p p rank (old p) (new p) (h p) refl ∙ e ∙ sym (rw (
-        kept p (4 * p + 1) rank (old (4 * p + 1)) (new (4 * p + 1)) (h (4 * p + 1)) (λ k. absurd (omega arith)),
-        kept p (4 * p + 2) rank (old (4 * p + 2)) (new (4 * p + 2)) (h (4 * p + 2)) (λ k. absurd (omega arith)),
-        kept p (4 * p + 3) rank (old (4 * p + 3)) (new (4 * p + 3)) (h (4 * p + 3)) (λ k. absurd (omega arith)),
-        kept p (4 * p + 4) rank (old (4 * p + 4)) (new (4 * p + 4)) (h (4 * p + 4)) (λ k. absurd (omega arith))) refl)
+      kept p (4 * p + 1) rank (old (4 * p + 1)) (new (4 * p + 1)) (h (4 * p + 1)) (λ k. absurd (omega arith)),
+      kept p (4 * p + 2) rank (old (4 * p + 2)) (new (4 * p + 2)) (h (4 * p + 2)) (λ k. absurd (omega arith)),
+      kept p (4 * p + 3) rank (old (4 * p + 3)) (new (4 * p + 3)) (h (4 * p + 3)) (λ k. absurd (omega arith)),
+      kept p (4 * p + 4) rank (old (4 * p + 4)) (new (4 * p + 4)) (h (4 * p + 4)) (λ k. absurd (omega arith)),
+    ) refl)
 
 pub greatest-kept : (old new : ℕ → ℕ) (p rank m : ℕ) → ((m : ℕ) → new m ≡ (if p == m then rank else old m)) → p ≢ m → (p < 4 * m + 1) ⊎ (4 * m + 4 < p) → old m ≡ greatest_of old m → new m ≡ greatest_of new m
 greatest-kept old new p rank m h other apart e =
     kept p m rank (old m) (new m) (h m) other ∙ e ∙ sym (rw (
-        kept p (4 * m + 1) rank (old (4 * m + 1)) (new (4 * m + 1)) (h (4 * m + 1)) (λ k. out apart (omega arith) (omega arith)),
-        kept p (4 * m + 2) rank (old (4 * m + 2)) (new (4 * m + 2)) (h (4 * m + 2)) (λ k. out apart (omega arith) (omega arith)),
-        kept p (4 * m + 3) rank (old (4 * m + 3)) (new (4 * m + 3)) (h (4 * m + 3)) (λ k. out apart (omega arith) (omega arith)),
-        kept p (4 * m + 4) rank (old (4 * m + 4)) (new (4 * m + 4)) (h (4 * m + 4)) (λ k. out apart (omega arith) (omega arith))) refl)
+      kept p (4 * m + 1) rank (old (4 * m + 1)) (new (4 * m + 1)) (h (4 * m + 1)) (λ k. out apart (omega arith) (omega arith)),
+      kept p (4 * m + 2) rank (old (4 * m + 2)) (new (4 * m + 2)) (h (4 * m + 2)) (λ k. out apart (omega arith) (omega arith)),
+      kept p (4 * m + 3) rank (old (4 * m + 3)) (new (4 * m + 3)) (h (4 * m + 3)) (λ k. out apart (omega arith) (omega arith)),
+      kept p (4 * m + 4) rank (old (4 * m + 4)) (new (4 * m + 4)) (h (4 * m + 4)) (λ k. out apart (omega arith) (omega arith)),
+    ) refl)
   where
     out : (p < 4 * m + 1) ⊎ (4 * m + 4 < p) → 4 * m + 1 ≤ p → p ≤ 4 * m + 4 → ⊥
     out (inl a) b c = absurd (omega arith)
@@ -87,12 +91,15 @@ leaf-below height tree size inner (suc m) depth j v e within from to =
     let p4 : 4 * n + 4 ≡ first_of (suc depth) + (4 * j + 3) = omega arith in
     let greatest = rw (p1, p2, p3, p4) at top in
     elim (cases_lt v ((4 * j + 1) * width)) [
-        inl b ↦ omega (arith, greatest, leaf-below height tree size inner m (suc depth) (4 * j + 0) v (omega arith) (omega arith) (omega arith) (omega arith))
+      | inl b ↦ omega (arith, greatest, leaf-below height tree size inner m (suc depth) (4 * j + 0) v (omega arith) (omega arith) (omega arith) (omega arith))
       | inr a ↦ elim (cases_lt v ((4 * j + 2) * width)) [
-        inl b ↦ omega (arith, greatest, leaf-below height tree size inner m (suc depth) (4 * j + 1) v (omega arith) (omega arith) (omega arith) (omega arith))
-      | inr a ↦ elim (cases_lt v ((4 * j + 3) * width)) [
-        inl b ↦ omega (arith, greatest, leaf-below height tree size inner m (suc depth) (4 * j + 2) v (omega arith) (omega arith) (omega arith) (omega arith))
-      | inr a ↦ omega (arith, greatest, leaf-below height tree size inner m (suc depth) (4 * j + 3) v (omega arith) (omega arith) (omega arith) (omega arith)) ] ] ]
+        | inl b ↦ omega (arith, greatest, leaf-below height tree size inner m (suc depth) (4 * j + 1) v (omega arith) (omega arith) (omega arith) (omega arith))
+        | inr a ↦ elim (cases_lt v ((4 * j + 3) * width)) [
+          | inl b ↦ omega (arith, greatest, leaf-below height tree size inner m (suc depth) (4 * j + 2) v (omega arith) (omega arith) (omega arith) (omega arith))
+          | inr a ↦ omega (arith, greatest, leaf-below height tree size inner m (suc depth) (4 * j + 3) v (omega arith) (omega arith) (omega arith) (omega arith))
+        ]
+      ]
+    ]
 
 -- no leaf has a greater rank than the root
 pub leaf-root : (height : ℕ) (tree : List ℕ) → length tree ≡ first_of (suc height) → HasMaxima tree → (v : ℕ) → v < leaves_of height → leaf_at height tree v ≤ rank_at tree 0
@@ -115,23 +122,26 @@ descends height tree least n child depth next e size inner h level within fits l
     let where_ = first.2 in
     let place : child - first_of (suc depth) ≡ 4 * j + i = omega arith in
     rw e (
-        omega arith,
-        omega arith,
-        first.4 (let room = inner n (room-below height (length tree) depth n size h within) in rw room at fits),
-        λ v k.
-            let k : v < (4 * j + i) * width = rw place at k in
-            elim (cases_lt v (j * leaves_of (height - depth))) [
-                inl a ↦ left v a
-              | inr a ↦
+      omega arith,
+      omega arith,
+      first.4 (let room = inner n (room-below height (length tree) depth n size h within) in rw room at fits),
+      λ v k.
+          let k : v < (4 * j + i) * width = rw place at k in
+          elim (cases_lt v (j * leaves_of (height - depth))) [
+            | inl a ↦ left v a
+            | inr a ↦
                 let q = v / width in
                 let below : q < 4 * j + i = div_below v width (4 * j + i) wide k in
                 let above : 4 * j ≤ q = le-div (4 * j) v width wide (omega (arith, rw four at a)) in
                 let here = leaf-below height tree size inner (height - suc depth) (suc depth) q v (omega arith) (omega arith) (omega (arith, div-mul-le_self v width)) (omega (arith, div-add-mod' v width, mod_below v width wide)) in
                 let same : first_of (suc depth) + q ≡ 4 * n + 1 + (q - 4 * j) = omega arith in
-                omega (arith, rw same at here, first.3 (q - 4 * j) (omega arith)) ])
+                omega (arith, rw same at here, first.3 (q - 4 * j) (omega arith))
+          ],
+    )
 
 -- the start of a leaf's path to the root
 pub path-starts : (height leaf rank n : ℕ) (old new : List ℕ) → length old ≡ first_of (suc height) → leaf < leaves_of height → n ≡ first_of height + leaf → ((m : ℕ) → rank_at new m ≡ (if n == m then rank else rank_at old m)) → ((v : ℕ) → leaf_at height new v ≡ (if leaf == v then rank else leaf_at height old v)) × (HasMaxima old → (m : ℕ) → 4 * m + 4 < length old → (n < 4 * m + 1) ⊎ (4 * m + 4 < n) → rank_at new m ≡ greatest_of (rank_at new) m)
 path-starts height leaf rank n old new size within e h = (
-    λ v. h (first_of height + v) ∙ rw (e, same_shifted (first_of height) leaf v) refl,
-    λ inner m room apart. greatest-kept (rank_at old) (rank_at new) n rank m h (λ k. absurd (omega arith)) apart (inner m room))
+  λ v. h (first_of height + v) ∙ rw (e, same_shifted (first_of height) leaf v) refl,
+  λ inner m room apart. greatest-kept (rank_at old) (rank_at new) n rank m h (λ k. absurd (omega arith)) apart (inner m room),
+)

@@ -61,11 +61,9 @@ pub fn find_leaf(tree: &[u8], height: u32, least: u8) -> Option<u32>
     requires size { length tree.now ≡ first_of (suc height) }
     requires few { height < 16 }
     requires inner { HasMaxima tree.now }
-    ensures {
-        MatchOption result
-            ((v : ℕ) → v < leaves_of height → leaf_at height tree.now v < least)
-            (λ leaf. (leaf < leaves_of height) × (least ≤ leaf_at height tree.now leaf) × ((v : ℕ) → v < leaf → leaf_at height tree.now v < least))
-    }
+    ensures { MatchOption result
+        ((v : ℕ) → v < leaves_of height → leaf_at height tree.now v < least)
+        (λ leaf. (leaf < leaves_of height) × (least ≤ leaf_at height tree.now leaf) × ((v : ℕ) → v < leaf → leaf_at height tree.now v < least)) }
 {
     if rank(tree, 0) < least {
         return None;

@@ -1,6 +1,6 @@
 -- Words and their ranks.
-use Rattle.std.proofs.Common.{◌≡◌, ◌≢◌, ◌<◌, ◌≤◌, ◌+◌, ◌-◌, ◌*◌, ◌/◌, ◌%◌, ◌^◌, ℕ, zero, suc, Bool, true, false, ◌&&◌, ◌||◌, not, inl, inr, List, refl, sym, ap, ◌∙◌, arith}
-use Rattle.std.specs.Prelude.{ℤ, pos, negsuc, if◌then◌else◌}
+use Rattle.std.proofs.Common.{◌≡◌, ◌<◌, ◌≤◌, ◌+◌, ◌-◌, ◌*◌, ◌/◌, ◌%◌, ◌^◌, ℕ, zero, suc, Bool, not, List, refl, sym, ap, ◌∙◌, arith}
+use Rattle.std.specs.Prelude.{pos, negsuc}
 use Rattle.std.proofs.lemmas.Bool.{cond_both}
 use Rattle.std.proofs.lemmas.Nat.{mul-le}
 use Rattle.jfs_bits.proofs.Buds.{sizes_of}
@@ -49,7 +49,7 @@ runs-same : (a b l2 : ℕ) → l2 ≤ 5 → ((i : ℕ) → i < 32 → is_taken_i
 unfolding has_free_run
 runs-same a b l2 h same =
     any_below-same (2 ^ (5 - l2)) (is_free_run (is_taken_in a) l2) (is_free_run (is_taken_in b) l2) (λ j k.
-        is_free-same (is_taken_in a) (is_taken_in b) (j * 2 ^ l2) (j * 2 ^ l2) (2 ^ l2) (λ i m. same (j * 2 ^ l2 + i) (run-end l2 j i h k m)))
+    is_free-same (is_taken_in a) (is_taken_in b) (j * 2 ^ l2) (j * 2 ^ l2) (2 ^ l2) (λ i m. same (j * 2 ^ l2 + i) (run-end l2 j i h k m)))
 
 bud-same : (a b top : ℕ) → top ≤ 5 → ((i : ℕ) → i < 32 → is_taken_in a i ≡ is_taken_in b i) → greatest_bud a top ≡ greatest_bud b top
 unfolding greatest_bud

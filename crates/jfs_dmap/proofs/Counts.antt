@@ -1,5 +1,5 @@
 -- How many blocks are free, after a run of them was taken or given back.
-use Rattle.std.proofs.Common.{◌≡◌, ◌≢◌, ◌<◌, ◌≤◌, ◌+◌, ◌-◌, ◌*◌, ◌/◌, ℕ, zero, suc, Bool, true, false, ◌&&◌, ◌||◌, not, ◌⊎◌, inl, inr, add-one, refl, sym, ap, ◌∙◌, arith}
+use Rattle.std.proofs.Common.{◌≡◌, ◌<◌, ◌≤◌, ◌+◌, ◌-◌, ◌*◌, ◌/◌, ℕ, zero, suc, Bool, true, false, ◌&&◌, ◌||◌, not, ◌⊎◌, inl, inr, add-one, refl, arith}
 use Rattle.std.specs.Prelude.{min, nat_le, nat_lt, if◌then◌else◌}
 use Rattle.std.proofs.lemmas.Bool.{cases_lt, le-leb, lt-leb, lt-ltb, le-ltb, and_from, and_left, and_right}
 use Rattle.jfs_bits.specs.Bits.{is_free, is_in_run}
@@ -52,10 +52,12 @@ count-mark first n zero t h = omega arith
 count-mark first n (suc m) t h =
     let ih = count-mark first n m t h in
     elim (cases_lt m first) [
-        inl a ↦ rw (before_run first n m a) (omega (arith, ih))
+      | inl a ↦ rw (before_run first n m a) (omega (arith, ih))
       | inr a ↦ elim (cases_lt m (first + n)) [
-        inl b ↦ (let there : first + (m - first) ≡ m = omega arith in let free : t m ≡ false = rw there at (h (m - first) (omega arith)) in rw (in_run first n m a b, free) (omega (arith, ih)))
-      | inr b ↦ rw (behind_run first n m b) (omega (arith, ih)) ] ]
+        | inl b ↦ (let there : first + (m - first) ≡ m = omega arith in let free : t m ≡ false = rw there at (h (m - first) (omega arith)) in rw (in_run first n m a b, free) (omega (arith, ih)))
+        | inr b ↦ rw (behind_run first n m b) (omega (arith, ih))
+      ]
+    ]
 
 pub count-marked : (first n m : ℕ) (t : ℕ → Bool) → first + n ≤ m → is_free t first n ≡ true → count_below m (λ b. not (is_in_run first n b || t b)) + n ≡ count_below m (λ b. not (t b))
 count-marked first n m t h free = let e : overlap first n m ≡ n = omega arith in rw e at (count-mark first n m t (is_free-at t first n free))
@@ -66,10 +68,12 @@ count-clear first n zero t h = omega arith
 count-clear first n (suc m) t h =
     let ih = count-clear first n m t h in
     elim (cases_lt m first) [
-        inl a ↦ rw (before_run first n m a) (omega (arith, ih))
+      | inl a ↦ rw (before_run first n m a) (omega (arith, ih))
       | inr a ↦ elim (cases_lt m (first + n)) [
-        inl b ↦ (let there : first + (m - first) ≡ m = omega arith in let full : t m ≡ true = rw there at (h (m - first) (omega arith)) in rw (in_run first n m a b, full) (omega (arith, ih)))
-      | inr b ↦ rw (behind_run first n m b) (omega (arith, ih)) ] ]
+        | inl b ↦ (let there : first + (m - first) ≡ m = omega arith in let full : t m ≡ true = rw there at (h (m - first) (omega arith)) in rw (in_run first n m a b, full) (omega (arith, ih)))
+        | inr b ↦ rw (behind_run first n m b) (omega (arith, ih))
+      ]
+    ]
 
 pub count-cleared : (first n m : ℕ) (t : ℕ → Bool) → first + n ≤ m → is_full t first n ≡ true → count_below m (λ b. not (not (is_in_run first n b) && t b)) ≡ count_below m (λ b. not (t b)) + n
 count-cleared first n m t h full = let e : overlap first n m ≡ n = omega arith in rw e at (count-clear first n m t (is_full-at t first n full))

@@ -1,13 +1,13 @@
 -- The lowest free run of a page, from the lowest leaf that has one.
-use Rattle.std.proofs.Common.{◌≡◌, ◌≢◌, ◌<◌, ◌≤◌, ◌+◌, ◌-◌, ◌*◌, ◌/◌, ◌%◌, ◌^◌, ℕ, suc, Bool, true, false, ◌⊎◌, inl, inr, List, take, drop, add-one, refl, sym, ap, ◌∙◌, arith}
+use Rattle.std.proofs.Common.{◌≡◌, ◌<◌, ◌≤◌, ◌+◌, ◌-◌, ◌*◌, ◌/◌, ◌%◌, ◌^◌, ℕ, suc, true, inl, inr, List, take, drop, add-one, refl, sym, ap, ◌∙◌, arith}
 use Rattle.std.specs.Prelude.{Option, Some, None}
-use Rattle.std.proofs.lemmas.Bool.{cases_eq, cases_lt, both_ways, false_from_ne_true}
-use Rattle.std.proofs.lemmas.Nat.{pow_pos, pow_below, pow-add, shl-shr, shr_below, shr_split, mod_below, mul-le, div_below, div-mul-add, mod-mul-add}
+use Rattle.std.proofs.lemmas.Bool.{cases_lt, both_ways, false_from_ne_true}
+use Rattle.std.proofs.lemmas.Nat.{pow_pos, pow_below, pow-add, shl-shr, shr_below, shr_split, mod_below, mul-le, div_below}
 use Rattle.jfs_bits.specs.Field.{field_of}
 use Rattle.jfs_bits.specs.Bits.{is_taken, is_taken_in, is_free_run, has_free_run, IsLowestFree}
 use Rattle.jfs_bits.proofs.Runs.{is_free-at, is_free-from}
 use Rattle.jfs_bits.proofs.Buds.{any_below-from, lowest-has}
-use Rattle.jfs_buddy.specs.Buddy.{start_of, is_whole, HasRun, IsLowestRun}
+use Rattle.jfs_buddy.specs.Buddy.{is_whole, HasRun, IsLowestRun}
 use Rattle.jfs_buddy.proofs.Joins.{start_of-same, is_whole-at, is_whole-from}
 use Rattle.jfs_buddy.proofs.Halves.{start_of-multiple}
 use Rattle.jfs_buddy.specs.Buddy.{IsBuddyTree}
@@ -37,9 +37,10 @@ runs-in_words l2 h =
 -- the word of a run, and its place there
 run-word : (l2 j : ℕ) → l2 ≤ 5 → j < 8192 / 2 ^ l2 → (j / 2 ^ (5 - l2) < 256) × (j % 2 ^ (5 - l2) < 2 ^ (5 - l2)) × (j / 2 ^ (5 - l2) * 2 ^ (5 - l2) + j % 2 ^ (5 - l2) ≡ j)
 run-word l2 j h b = (
-    div_below j (2 ^ (5 - l2)) 256 (pow_pos (5 - l2)) (omega (arith, runs-in_words l2 h)),
-    mod_below j (2 ^ (5 - l2)) (pow_pos (5 - l2)),
-    shr_split j (5 - l2))
+  div_below j (2 ^ (5 - l2)) 256 (pow_pos (5 - l2)) (omega (arith, runs-in_words l2 h)),
+  mod_below j (2 ^ (5 - l2)) (pow_pos (5 - l2)),
+  shr_split j (5 - l2),
+)
 
 -- a free run makes its word one that has a run of its rank
 free-has : (map : List ℕ) (l2 v j : ℕ) → l2 < 5 → j < 2 ^ (5 - l2) → is_free_run (is_taken map) l2 (v * 2 ^ (5 - l2) + j) ≡ true → HasRun (word_rank map) 6 (suc l2) v
@@ -64,12 +65,13 @@ small-some map l2 v first h lowest inner =
     let within = inner.1 in
     let run = word-run map l2 v i (omega arith) within in
     let leaf : v < 256 = lowest.0 in
-    let most : (v + 1) * width ≤ 256 * width = mul-le (v + 1) width 256 width (omega arith) (omega arith) in
-    (v * width + i,
-     omega (arith, runs-in_words l2 (omega arith)),
-     omega (arith, run.0, inner.2),
-     run.1 ∙ inner.3,
-     λ j b. false_from_ne_true (is_free_run (is_taken map) l2 j) (λ free. lower j b free))
+    let most : (v + 1) * width ≤ 256 * width = mul-le (v + 1) width 256 width (omega arith) (omega arith) in (
+      v * width + i,
+      omega (arith, runs-in_words l2 (omega arith)),
+      omega (arith, run.0, inner.2),
+      run.1 ∙ inner.3,
+      λ j b. false_from_ne_true (is_free_run (is_taken map) l2 j) (λ free. lower j b free),
+    )
   where
     lower : (j : ℕ) → j < v * 2 ^ (5 - l2) + inner.0 → is_free_run (is_taken map) l2 j ≡ true → ⊥
     lower j b free =
@@ -80,12 +82,13 @@ small-some map l2 v first h lowest inner =
         let small = mod_below j width (pow_pos (5 - l2)) in
         let split = shr_split j (5 - l2) in
         elim (cases_lt word v) [
-            inl a ↦ lowest.2 word a (free-has map l2 word place h small (rw split free))
+          | inl a ↦ lowest.2 word a (free-has map l2 word place h small (rw split free))
           | inr a ↦
-            let top : word < v + 1 = div_below j width (v + 1) (pow_pos (5 - l2)) (omega arith) in
-            let same : word ≡ v = omega arith in
-            let less : place < inner.0 = omega (arith, rw same at split) in
-            both_ways (is_free_run (is_taken_in (field_of map (4 * v) 4)) l2 place) (inner.4 place less) (sym (word-run map l2 v place (omega arith) small).1 ∙ rw (rw same at split) free) ]
+              let top : word < v + 1 = div_below j width (v + 1) (pow_pos (5 - l2)) (omega arith) in
+              let same : word ≡ v = omega arith in
+              let less : place < inner.0 = omega (arith, rw same at split) in
+              both_ways (is_free_run (is_taken_in (field_of map (4 * v) 4)) l2 place) (inner.4 place less) (sym (word-run map l2 v place (omega arith) small).1 ∙ rw (rw same at split) free)
+        ]
 
 -- runs of whole words
 large-place : (k j : ℕ) → j * 2 ^ (5 + k) ≡ 32 * (j * 2 ^ k)
@@ -95,26 +98,29 @@ large-has : (map : List ℕ) (k j : ℕ) → is_free_run (is_taken map) (5 + k) 
 large-has map k j free =
     let begin = start_of-multiple k j in
     let whole : is_whole (word_rank map) 6 k (j * 2 ^ k) ≡ true = is_whole-from (word_rank map) 6 k (j * 2 ^ k) (λ u e. bits-whole map u (λ i b.
-        let row : u / 2 ^ k ≡ j = e ∙ shl-shr j k in
-        let split : j * 2 ^ k + u % 2 ^ k ≡ u = rw row at (shr_split u k) in
-        let small = mod_below u (2 ^ k) (pow_pos k) in
-        let size = pow-add 2 5 k in
-        let there : j * 2 ^ (5 + k) + (32 * (u % 2 ^ k) + i) ≡ 32 * u + i = omega (arith, large-place k j, split) in
-        rw there at (is_free-at (is_taken map) (j * 2 ^ (5 + k)) (2 ^ (5 + k)) free (32 * (u % 2 ^ k) + i) (omega arith)))) in
+    let row : u / 2 ^ k ≡ j = e ∙ shl-shr j k in
+    let split : j * 2 ^ k + u % 2 ^ k ≡ u = rw row at (shr_split u k) in
+    let small = mod_below u (2 ^ k) (pow_pos k) in
+    let size = pow-add 2 5 k in
+    let there : j * 2 ^ (5 + k) + (32 * (u % 2 ^ k) + i) ≡ 32 * u + i = omega (arith, large-place k j, split) in
+    rw there at (is_free-at (is_taken map) (j * 2 ^ (5 + k)) (2 ^ (5 + k)) free (32 * (u % 2 ^ k) + i) (omega arith)))) in
     record {
-        part = λ h. omega (arith, is_whole-at (word_rank map) 6 k (j * 2 ^ k) whole (j * 2 ^ k) refl);
-        wholes = λ l e. (let same : k ≡ l = omega arith in rw (← same) (begin, whole)) }
+      part = λ h. omega (arith, is_whole-at (word_rank map) 6 k (j * 2 ^ k) whole (j * 2 ^ k) refl);
+      wholes = λ l e. (let same : k ≡ l = omega arith in rw (← same) (begin, whole));
+    }
 
 has-large : (map : List ℕ) (k v : ℕ) → HasRun (word_rank map) 6 (6 + k) v → (v / 2 ^ k * 2 ^ k ≡ v) × (is_free_run (is_taken map) (5 + k) (v / 2 ^ k) ≡ true)
 has-large map k v run =
     let w = run.wholes k refl in
     let j = v / 2 ^ k in
-    let size = pow-add 2 5 k in
-    (w.0, is_free-from (is_taken map) (j * 2 ^ (5 + k)) (2 ^ (5 + k)) (λ i b.
-        let u = v + i / 32 in
-        let row : u / 2 ^ k ≡ v / 2 ^ k = rw w.0 at (start_of-same k v (i / 32) (omega arith)) in
-        let there : 32 * u + i % 32 ≡ j * 2 ^ (5 + k) + i = omega (arith, large-place k j, w.0) in
-        rw there at (whole-bits map u (is_whole-at (word_rank map) 6 k v w.1 u row) (i % 32) (omega arith))))
+    let size = pow-add 2 5 k in (
+      w.0,
+      is_free-from (is_taken map) (j * 2 ^ (5 + k)) (2 ^ (5 + k)) (λ i b.
+          let u = v + i / 32 in
+          let row : u / 2 ^ k ≡ v / 2 ^ k = rw w.0 at (start_of-same k v (i / 32) (omega arith)) in
+          let there : 32 * u + i % 32 ≡ j * 2 ^ (5 + k) + i = omega (arith, large-place k j, w.0) in
+          rw there at (whole-bits map u (is_whole-at (word_rank map) 6 k v w.1 u row) (i % 32) (omega arith))),
+    )
 
 large-within : (k j : ℕ) → k ≤ 8 → j < 8192 / 2 ^ (5 + k) → j * 2 ^ k < 256
 large-within k j h b =
@@ -136,9 +142,14 @@ large-some map k v h lowest =
     let runs = runs_of (5 + k) (omega arith) in
     let e : 13 - (5 + k) ≡ 8 - k = omega arith in
     let m : (8 - k) + k ≡ 8 = omega arith in
-    let few : j < 2 ^ (8 - k) = shr_below v (8 - k) k (rw m leaf) in
-    (j, rw (runs, e) few, omega (arith, large-place k j, r.0), r.1, λ i b. false_from_ne_true (is_free_run (is_taken map) (5 + k) i) (λ free.
-        lowest.2 (i * 2 ^ k) (omega (arith, mul-le (i + 1) (2 ^ k) j (2 ^ k) (omega arith) (omega arith), pow_pos k, r.0)) (large-has map k i free)))
+    let few : j < 2 ^ (8 - k) = shr_below v (8 - k) k (rw m leaf) in (
+      j,
+      rw (runs, e) few,
+      omega (arith, large-place k j, r.0),
+      r.1,
+      λ i b. false_from_ne_true (is_free_run (is_taken map) (5 + k) i) (λ free.
+          lowest.2 (i * 2 ^ k) (omega (arith, mul-le (i + 1) (2 ^ k) j (2 ^ k) (omega arith) (omega arith), pow_pos k, r.0)) (large-has map k i free)),
+    )
 
 -- what the tree's search says of a canonical page
 abbrev pub Searched : List ℕ → ℕ → Option ℕ → Type 0
@@ -150,8 +161,9 @@ searched page l2 o d h = rw add-one at (h (word_rank (map_of page)) (omega arith
 pub page-none : (page : List ℕ) (l2 : ℕ) → l2 ≤ 13 → IsDmap page → Searched page l2 None → IsLowestFree (taken_in page) (8192 / 2 ^ l2) l2 None
 page-none page l2 b d h =
     elim (cases_lt l2 5) [
-        inl a ↦ small-none (map_of page) l2 a (searched page l2 None d h)
-      | inr a ↦ large (l2 - 5) (omega arith) (searched page l2 None d h) ]
+      | inl a ↦ small-none (map_of page) l2 a (searched page l2 None d h)
+      | inr a ↦ large (l2 - 5) (omega arith) (searched page l2 None d h)
+    ]
   where
     large : (k : ℕ) → l2 ≡ 5 + k → IsLowestRun 4 (word_rank (map_of page)) 6 (suc l2) None → IsLowestFree (taken_in page) (8192 / 2 ^ l2) l2 None
     large k e lowest =

@@ -1,16 +1,12 @@
 -- Free runs of blocks, by the words' ranks.
-use Rattle.std.proofs.Common.{◌≡◌, ◌≢◌, ◌<◌, ◌≤◌, ◌+◌, ◌-◌, ◌*◌, ◌/◌, ◌%◌, ◌^◌, ℕ, zero, suc, Bool, true, false, ◌||◌, ◌⊎◌, inl, inr, List, refl, sym, ap, ◌∙◌, arith}
-use Rattle.std.specs.Prelude.{pos, negsuc, cond, Option, Some, None}
-use Rattle.std.proofs.lemmas.Bool.{cases_eq, cases_lt, cases_Bool, both_ways, or_cases, cond-true, cond-false, false_from_ne_true, true≢false}
-use Rattle.std.proofs.lemmas.Nat.{pow_pos, pow_below, pow-add, shl-shr, mod_below, shr_split, mul-le, div_below}
+use Rattle.std.proofs.Common.{◌≡◌, ◌≢◌, ◌<◌, ◌≤◌, ◌+◌, ◌-◌, ◌*◌, ◌^◌, ℕ, zero, suc, Bool, true, false, inl, inr, List, sym, ap, ◌∙◌, arith}
+use Rattle.std.specs.Prelude.{pos, negsuc}
+use Rattle.std.proofs.lemmas.Bool.{cases_eq, cases_Bool, or_cases, cond-true, cond-false, true≢false}
 use Rattle.jfs_bits.specs.Field.{field_of}
-use Rattle.jfs_bits.specs.Bits.{any_below, is_taken, is_taken_in, is_free, is_free_run, has_free_run, greatest_bud, max_bud_of, IsLowestFree}
+use Rattle.jfs_bits.specs.Bits.{any_below, is_taken, is_taken_in, is_free, is_free_run, has_free_run, greatest_bud, max_bud_of}
 use Rattle.jfs_bits.proofs.Runs.{is_free-at, is_free-from}
-use Rattle.jfs_bits.proofs.Buds.{any_below-from, sizes_of, lowest-has}
-use Rattle.jfs_buddy.specs.Tree.{leaves_of}
-use Rattle.jfs_buddy.specs.Buddy.{start_of, is_whole, HasRun, IsLowestRun}
-use Rattle.jfs_buddy.proofs.Joins.{start_of-same, is_whole-at, is_whole-from}
-use Rattle.jfs_buddy.proofs.Halves.{start_of-multiple, twice}
+use Rattle.jfs_bits.proofs.Buds.{any_below-from, sizes_of}
+use Rattle.jfs_buddy.proofs.Halves.{twice}
 use Rattle.jfs_dmap.specs.Dmap.{rank_of, word_rank}
 use Rattle.jfs_dmap.proofs.Buds.{word-bit, is_free-same, run-end, rank-most}
 
@@ -18,8 +14,9 @@ any_below-at : (n : ℕ) (test : ℕ → Bool) → any_below n test ≡ true →
 unfolding any_below
 any_below-at zero test h = absurd (true≢false (sym h))
 any_below-at (suc n) test h = elim (or_cases (any_below n test) (test n) h) [
-    inl a ↦ (let r = any_below-at n test a in let within = r.1 in (r.0, omega arith, r.2))
-  | inr b ↦ (n, omega arith, b) ]
+  | inl a ↦ (let r = any_below-at n test a in let within = r.1 in (r.0, omega arith, r.2))
+  | inr b ↦ (n, omega arith, b)
+]
 
 -- the front of a free run is free
 is_free-front : (taken : ℕ → Bool) (first m n : ℕ) → m ≤ n → is_free taken first n ≡ true → is_free taken first m ≡ true
@@ -50,17 +47,20 @@ run-rank word zero l2 h run =
     let value = cond-true (has_free_run word 0) (pos 0) (negsuc 0) (rw e at run) in
     omega (arith, ap rank_of value)
 run-rank word (suc top) l2 h run = elim (cases_Bool (has_free_run word (suc top))) [
-    inl t ↦ omega (arith, ap rank_of (cond-true (has_free_run word (suc top)) (pos (suc top)) (greatest_bud word top) t))
-  | inr f ↦ (let less : l2 ≢ suc top = λ e. true≢false (sym run ∙ rw e f) in omega (arith, less, ap rank_of (cond-false (has_free_run word (suc top)) (pos (suc top)) (greatest_bud word top) f), run-rank word top l2 (omega (arith, less)) run)) ]
+  | inl t ↦ omega (arith, ap rank_of (cond-true (has_free_run word (suc top)) (pos (suc top)) (greatest_bud word top) t))
+  | inr f ↦ (let less : l2 ≢ suc top = λ e. true≢false (sym run ∙ rw e f) in omega (arith, less, ap rank_of (cond-false (has_free_run word (suc top)) (pos (suc top)) (greatest_bud word top) f), run-rank word top l2 (omega (arith, less)) run))
+]
 
 rank-run : (word top l2 : ℕ) → top ≤ 5 → suc l2 ≤ rank_of (greatest_bud word top) → has_free_run word l2 ≡ true
 unfolding greatest_bud
 rank-run word zero l2 b h = elim (cases_Bool (has_free_run word 0)) [
-    inl t ↦ (let e : l2 ≡ 0 = omega (arith, ap rank_of (cond-true (has_free_run word 0) (pos 0) (negsuc 0) t)) in rw e t)
-  | inr f ↦ absurd (omega (arith, ap rank_of (cond-false (has_free_run word 0) (pos 0) (negsuc 0) f))) ]
+  | inl t ↦ (let e : l2 ≡ 0 = omega (arith, ap rank_of (cond-true (has_free_run word 0) (pos 0) (negsuc 0) t)) in rw e t)
+  | inr f ↦ absurd (omega (arith, ap rank_of (cond-false (has_free_run word 0) (pos 0) (negsuc 0) f)))
+]
 rank-run word (suc top) l2 b h = elim (cases_Bool (has_free_run word (suc top))) [
-    inl t ↦ has-smaller word (suc top) l2 b (omega (arith, ap rank_of (cond-true (has_free_run word (suc top)) (pos (suc top)) (greatest_bud word top) t))) t
-  | inr f ↦ rank-run word top l2 (omega arith) (omega (arith, ap rank_of (cond-false (has_free_run word (suc top)) (pos (suc top)) (greatest_bud word top) f))) ]
+  | inl t ↦ has-smaller word (suc top) l2 b (omega (arith, ap rank_of (cond-true (has_free_run word (suc top)) (pos (suc top)) (greatest_bud word top) t))) t
+  | inr f ↦ rank-run word top l2 (omega arith) (omega (arith, ap rank_of (cond-false (has_free_run word (suc top)) (pos (suc top)) (greatest_bud word top) f)))
+]
 
 pub rank-has : (map : List ℕ) (v l2 : ℕ) → suc l2 ≤ word_rank map v → has_free_run (field_of map (4 * v) 4) l2 ≡ true
 unfolding max_bud_of
@@ -73,10 +73,12 @@ has-rank map v l2 b h = run-rank (field_of map (4 * v) 4) 5 l2 b h
 -- a run of the map within a word
 pub word-run : (map : List ℕ) (l2 v j : ℕ) → l2 ≤ 5 → j < 2 ^ (5 - l2) → ((v * 2 ^ (5 - l2) + j) * 2 ^ l2 ≡ 32 * v + j * 2 ^ l2) × (is_free_run (is_taken map) l2 (v * 2 ^ (5 - l2) + j) ≡ is_free_run (is_taken_in (field_of map (4 * v) 4)) l2 j)
 word-run map l2 v j h b =
-    let place : (v * 2 ^ (5 - l2) + j) * 2 ^ l2 ≡ 32 * v + j * 2 ^ l2 = omega (arith, ap (λ (z : ℕ). v * z) (sizes_of l2 h).3) in
-    (place, is_free-same (is_taken map) (is_taken_in (field_of map (4 * v) 4)) ((v * 2 ^ (5 - l2) + j) * 2 ^ l2) (j * 2 ^ l2) (2 ^ l2) (λ i k.
-        let e : (v * 2 ^ (5 - l2) + j) * 2 ^ l2 + i ≡ 32 * v + (j * 2 ^ l2 + i) = omega arith in
-        rw e (word-bit map v (j * 2 ^ l2 + i) (run-end l2 j i h b k))))
+    let place : (v * 2 ^ (5 - l2) + j) * 2 ^ l2 ≡ 32 * v + j * 2 ^ l2 = omega (arith, ap (λ (z : ℕ). v * z) (sizes_of l2 h).3) in (
+      place,
+      is_free-same (is_taken map) (is_taken_in (field_of map (4 * v) 4)) ((v * 2 ^ (5 - l2) + j) * 2 ^ l2) (j * 2 ^ l2) (2 ^ l2) (λ i k.
+          let e : (v * 2 ^ (5 - l2) + j) * 2 ^ l2 + i ≡ 32 * v + (j * 2 ^ l2 + i) = omega arith in
+          rw e (word-bit map v (j * 2 ^ l2 + i) (run-end l2 j i h b k))),
+    )
 
 -- a wholly free word
 pub whole-bits : (map : List ℕ) (u : ℕ) → word_rank map u ≡ 6 → (i : ℕ) → i < 32 → is_taken map (32 * u + i) ≡ false

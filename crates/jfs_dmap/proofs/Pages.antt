@@ -1,13 +1,12 @@
 -- A canonical page after its maps, its count and its tree were put.
-use Rattle.std.proofs.Common.{◌≡◌, ◌<◌, ◌≤◌, ◌+◌, ◌*◌, ◌/◌, ◌^◌, ℕ, Bool, true, not, ◌⊎◌, inl, inr, List, length, refl, sym, ap, ◌∙◌, arith}
-use Rattle.std.proofs.lemmas.List.{length-append}
+use Rattle.std.proofs.Common.{◌≡◌, ◌<◌, ◌≤◌, ◌+◌, ◌^◌, ℕ, Bool, true, not, ◌⊎◌, inl, inr, List, length, refl, sym, ap, ◌∙◌, arith}
 use Rattle.byteorder.specs.Endian.{little_bytes}
 use Rattle.jfs_bits.specs.Field.{field_of, put_bytes, range_of}
 use Rattle.jfs_bits.specs.Bits.{is_taken}
 use Rattle.jfs_bits.proofs.Ranges.{range_of-put_other}
 use Rattle.jfs_bits.proofs.Words.{field_of-put_same}
 use Rattle.jfs_buddy.specs.Buddy.{IsBuddyTree}
-use Rattle.jfs_dmap.specs.Dmap.{count_below, blocks_of, first_block_of, map_of, tree_of, taken_in, word_rank, IsDmap}
+use Rattle.jfs_dmap.specs.Dmap.{count_below, blocks_of, map_of, tree_of, taken_in, word_rank, IsDmap}
 use Rattle.jfs_dmap.proofs.Parts.{range-beside, field-from_range}
 use Rattle.jfs_dmap.proofs.Counts.{count_below-same}
 
@@ -40,10 +39,12 @@ rest-stays start first second third end free p n s side =
     within (inl a) = omega arith
     within (inr (inl b)) = omega arith
     within (inr (inr c)) = c.1
+
     tree_side : Beside p n → (p + n ≤ 33) ⊎ (33 + 341 ≤ p)
     tree_side (inl a) = inl (omega arith)
     tree_side (inr (inl b)) = inl b.1
     tree_side (inr (inr c)) = inr c.0
+
     count_side : Beside p n → (p + n ≤ 4) ⊎ (8 ≤ p)
     count_side (inl a) = inl a
     count_side (inr (inl b)) = inr b.0
@@ -85,21 +86,22 @@ canonical-after start first second third end free taken s d set copy past count 
     let field = λ (p n : ℕ) (side : Beside p n). field-from_range end start p n (rest-stays start first second third end free p n s side) in
     let blocks = field 0 4 (inl (omega arith)) in
     record {
-        size = s.sizes.3;
-        most = rw blocks d.most;
-        past = λ b h k. set b ∙ past b (rw blocks at h) k;
-        same = λ b. copy b ∙ sym (set b);
-        free = count-held start first second third end free s small ∙ count ∙ count_below-same 8192 (λ b. not (taken b)) (λ b. not (taken_in end b)) (λ b k. ap not (sym (set b)));
-        leaves = field 16 4 (inr (inl (omega arith, omega arith))) ∙ d.leaves;
-        l2_leaves = field 20 4 (inr (inl (omega arith, omega arith))) ∙ d.l2_leaves;
-        first_leaf = field 24 4 (inr (inl (omega arith, omega arith))) ∙ d.first_leaf;
-        height = field 28 4 (inr (inl (omega arith, omega arith))) ∙ d.height;
-        whole = field 32 1 (inr (inl (omega arith, omega arith))) ∙ d.whole;
-        tree = tree;
-        pad = rest-stays start first second third end free 374 1674 s (inr (inr (omega arith, omega arith))) ∙ d.pad }
+      size = s.sizes.3;
+      most = rw blocks d.most;
+      past = λ b h k. set b ∙ past b (rw blocks at h) k;
+      same = λ b. copy b ∙ sym (set b);
+      free = count-held start first second third end free s small ∙ count ∙ count_below-same 8192 (λ b. not (taken b)) (λ b. not (taken_in end b)) (λ b k. ap not (sym (set b)));
+      leaves = field 16 4 (inr (inl (omega arith, omega arith))) ∙ d.leaves;
+      l2_leaves = field 20 4 (inr (inl (omega arith, omega arith))) ∙ d.l2_leaves;
+      first_leaf = field 24 4 (inr (inl (omega arith, omega arith))) ∙ d.first_leaf;
+      height = field 28 4 (inr (inl (omega arith, omega arith))) ∙ d.height;
+      whole = field 32 1 (inr (inl (omega arith, omega arith))) ∙ d.whole;
+      tree = tree;
+      pad = rest-stays start first second third end free 374 1674 s (inr (inr (omega arith, omega arith))) ∙ d.pad;
+    }
 
 pub count-before : (start first second : List ℕ) → length start ≡ 4096 → length first ≡ 4096 → length second ≡ 4096 → first ≡ put_bytes 2048 (range_of first 2048 1024) start → second ≡ put_bytes 3072 (range_of second 3072 1024) first → field_of second 4 4 ≡ field_of start 4 4
 count-before start first second a b c map copy =
     field-from_range second start 4 4 (
-        range-beside 3072 1024 4 4 first second (b ∙ sym c) (omega (arith, b)) copy (inl (omega arith))
-        ∙ range-beside 2048 1024 4 4 start first (a ∙ sym b) (omega (arith, a)) map (inl (omega arith)))
+    range-beside 3072 1024 4 4 first second (b ∙ sym c) (omega (arith, b)) copy (inl (omega arith))
+    ∙ range-beside 2048 1024 4 4 start first (a ∙ sym b) (omega (arith, a)) map (inl (omega arith)))

@@ -1,9 +1,7 @@
 -- One part of a page replaced: what it then holds, and that the rest stays.
-use Rattle.std.proofs.Common.{◌≡◌, ◌<◌, ◌≤◌, ◌+◌, ◌-◌, ◌*◌, ℕ, ◌⊎◌, inl, inr, List, length, take, drop, ◌++◌, append_assoc, refl, sym, ap, ◌∙◌, arith}
-use borrow.Rule.Slice.PartMut.{put_mid}
+use Rattle.std.proofs.Common.{◌≡◌, ◌≤◌, ◌+◌, ℕ, ◌⊎◌, inl, inr, List, length, take, drop, ◌++◌, append_assoc, refl, sym, ap, ◌∙◌, arith}
 use Rattle.jfs_bits.specs.Field.{field_of, put_bytes, range_of}
-use Rattle.jfs_bits.proofs.Fields.{put_between}
-use Rattle.jfs_bits.proofs.Ranges.{length-put_bytes, range_of-put_same, range_of-put_other, range_of-start, range_of-within, field_of-range}
+use Rattle.jfs_bits.proofs.Ranges.{range_of-put_same, range_of-put_other, range_of-within, field_of-range}
 use Rattle.std.proofs.lemmas.List.{take_at, drop_at, take-append-drop, drop-drop, length-append, length-take, length-take-le, length-drop}
 
 -- the part from `at` on, handed out and given back as `new`
@@ -53,9 +51,9 @@ put-over at a b bytes e h =
     let begin : take at (front ++ (a ++ rest)) ≡ front = take_at front (a ++ rest) at (length-take-le at bytes (omega arith)) in
     let size : length (front ++ a) ≡ at + length b = omega (arith, length-append front a, length-take-le at bytes (omega arith)) in
     let end : drop (at + length b) (front ++ (a ++ rest)) ≡ drop (at + length b) bytes =
-        ap (λ (z : List ℕ). drop (at + length b) z) (sym (append_assoc front a rest))
-        ∙ drop_at (front ++ a) rest (at + length b) size
-        ∙ ap (λ (n : ℕ). drop (at + n) bytes) e in
+    ap (λ (z : List ℕ). drop (at + length b) z) (sym (append_assoc front a rest))
+    ∙ drop_at (front ++ a) rest (at + length b) size
+    ∙ ap (λ (n : ℕ). drop (at + n) bytes) e in
     rw (begin, end) refl
 
 pub part-again : (at width : ℕ) (old mid new : List ℕ) → length old ≡ length mid → length mid ≡ length new → at + width ≤ length old → mid ≡ put_bytes at (range_of mid at width) old → new ≡ put_bytes at (range_of new at width) mid → new ≡ put_bytes at (range_of new at width) old

@@ -54,9 +54,7 @@ fn set_word(bytes: &mut [u8], word: u32)
 pub fn refresh(bytes: &mut [u8], first: u32, last: u32)
     requires size { length bytes.old ≡ 4096 }
     requires within { last ≤ 256 }
-    ensures tree {
-        (own : ℕ → ℕ) → ((v : ℕ) → v < 256 → (v < first) ⊎ (last ≤ v) → own v ≡ word_rank (map_of bytes.old) v) → IsBuddyTree 4 6 own (tree_of bytes.old) → IsBuddyTree 4 6 (word_rank (map_of bytes.old)) (tree_of bytes.new)
-    }
+    ensures tree { (own : ℕ → ℕ) → ((v : ℕ) → v < 256 → (v < first) ⊎ (last ≤ v) → own v ≡ word_rank (map_of bytes.old) v) → IsBuddyTree 4 6 own (tree_of bytes.old) → IsBuddyTree 4 6 (word_rank (map_of bytes.old)) (tree_of bytes.new) }
     ensures stays { bytes.new ≡ put_bytes 33 (tree_of bytes.new) bytes.old }
 {
     for word in first..last {

@@ -1,16 +1,17 @@
-use Rattle.std.proofs.Common.{◌≡◌, ◌≢◌, ◌+◌, ◌*◌, ◌/◌, ◌^◌, ◌<◌, ℕ, suc, true, false, add-one, refl, length, arith}
+use Rattle.std.proofs.Common.{◌≡◌, ◌+◌, ◌*◌, suc, add-one, arith}
 use Rattle.std.proofs.lemmas.Bool.{both_ways}
-use Rattle.jfs_buddy.specs.Tree.{first_of, leaves_of, leaf_at, HasMaxima}
-use Rattle.jfs_buddy.specs.Buddy.{is_whole, joined, with_own, HalvesPut, HalvesShow, IsBuddyTree}
-use Rattle.jfs_buddy.proofs.Changes.{Course, alone, run-within, join-starts, join-goes_on, join-stops, join-ends}
+use Rattle.jfs_buddy.specs.Tree.{leaves_of, leaf_at}
+use Rattle.jfs_buddy.specs.Buddy.{HalvesPut, HalvesShow}
+use Rattle.jfs_buddy.proofs.Changes.{alone, run-within, join-starts, join-goes_on, join-stops, join-ends}
 use Rattle.jfs_buddy.proofs.Levels.{with_own-bounded}
 use Rattle.jfs_buddy.proofs.join.join.Goals as goal
 
 pub loop-k-init : goal.loop-k-init
 loop-k-init c own some before t = record {
-    inner = c.put_leaf.ensures.inner t.inner;
-    course = join-starts own (leaf_at c.args.height c.args.tree.now) (leaf_at c.args.height c.put_leaf.new.tree) (leaves_of c.args.height) c.args.whole c.args.leaf (2 * c.args.height) t.leaves c.put_leaf.ensures.leaves;
-    run = alone own c.args.whole c.args.leaf }
+  inner = c.put_leaf.ensures.inner t.inner;
+  course = join-starts own (leaf_at c.args.height c.args.tree.now) (leaf_at c.args.height c.put_leaf.new.tree) (leaves_of c.args.height) c.args.whole c.args.leaf (2 * c.args.height) t.leaves c.put_leaf.ensures.leaves;
+  run = alone own c.args.whole c.args.leaf;
+}
 
 pub returns-then-not-shows_halves : goal.returns-then-not-shows_halves
 returns-then-not-shows_halves c own some before t =
@@ -19,10 +20,11 @@ returns-then-not-shows_halves c own some before t =
     let shows : HalvesShow c.loop-k.k c.args.leaf (c.args.whole + c.loop-k.k) (leaf_at c.args.height c.loop-k.tree) → ⊥ = λ b. both_ways c.shows_halves.result c.if-not-shows_halves.true (c.shows_halves.ensures.1 b) in
     let stops = join-stops own (leaf_at c.args.height c.loop-k.tree) (leaves_of c.args.height) c.args.whole c.args.leaf top c.loop-k.k c.loop-k-test.true before i.course (λ u e. run-within (suc c.loop-k.k) top u c.args.leaf c.loop-k-test.true c.requires.within e) shows in
     record {
-        bounded = with_own-bounded own c.args.whole c.args.leaf c.args.whole t.bounded (omega arith);
-        size = omega (arith, c.requires.size);
-        leaves = join-ends own (leaf_at c.args.height c.loop-k.tree) (leaves_of c.args.height) c.args.whole c.args.leaf top c.loop-k.k (omega arith) before i.course i.run (λ b. stops);
-        inner = i.inner }
+      bounded = with_own-bounded own c.args.whole c.args.leaf c.args.whole t.bounded (omega arith);
+      size = omega (arith, c.requires.size);
+      leaves = join-ends own (leaf_at c.args.height c.loop-k.tree) (leaves_of c.args.height) c.args.whole c.args.leaf top c.loop-k.k (omega arith) before i.course i.run (λ b. stops);
+      inner = i.inner;
+    }
 
 pub loop-k-preserved : goal.loop-k-preserved
 loop-k-preserved c own some before t =
@@ -40,7 +42,8 @@ returns c own some before t =
     let top = 2 * c.args.height in
     let i = c.loop-k.invariant own some before t in
     record {
-        bounded = with_own-bounded own c.args.whole c.args.leaf c.args.whole t.bounded (omega arith);
-        size = omega (arith, c.requires.size);
-        leaves = join-ends own (leaf_at c.args.height c.loop-k.tree) (leaves_of c.args.height) c.args.whole c.args.leaf top c.loop-k.k (omega arith) before i.course i.run (λ b. absurd (omega arith));
-        inner = i.inner }
+      bounded = with_own-bounded own c.args.whole c.args.leaf c.args.whole t.bounded (omega arith);
+      size = omega (arith, c.requires.size);
+      leaves = join-ends own (leaf_at c.args.height c.loop-k.tree) (leaves_of c.args.height) c.args.whole c.args.leaf top c.loop-k.k (omega arith) before i.course i.run (λ b. absurd (omega arith));
+      inner = i.inner;
+    }

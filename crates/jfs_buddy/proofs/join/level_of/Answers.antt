@@ -1,6 +1,5 @@
-use Rattle.std.proofs.Common.{◌≡◌, ◌+◌, ◌∙◌, ap, sym, inl, inr, arith}
+use Rattle.std.proofs.Common.{◌∙◌, sym, inl, inr, arith}
 use Rattle.std.proofs.lemmas.Bool.{cases_eq}
-use Rattle.jfs_buddy.specs.Tree.{leaf_at}
 use Rattle.jfs_buddy.proofs.Levels.{level-found, level-missing}
 use Rattle.jfs_buddy.proofs.join.level_of.Goals as goal
 
@@ -11,8 +10,9 @@ returns-then-leaf_rank-whole-clause-level c own some t =
 pub loop-k-preserved : goal.loop-k-preserved
 loop-k-preserved c j h e =
     elim (cases_eq j c.loop-k.k) [
-        inl s ↦ c.if-leaf_rank-whole.false (rw (c.leaf_rank.ensures.value, c.start.ensures) (rw s at e))
-      | inr n ↦ c.loop-k.invariant j (omega arith) e ]
+      | inl s ↦ c.if-leaf_rank-whole.false (rw (c.leaf_rank.ensures.value, c.start.ensures) (rw s at e))
+      | inr n ↦ c.loop-k.invariant j (omega arith) e
+    ]
 
 pub returns-clause-level : goal.returns-clause-level
 returns-clause-level c own some t =

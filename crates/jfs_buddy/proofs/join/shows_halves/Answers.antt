@@ -1,4 +1,4 @@
-use Rattle.std.proofs.Common.{◌≡◌, ◌+◌, ◌*◌, ◌%◌, ◌^◌, suc, add-one, arith}
+use Rattle.std.proofs.Common.{◌≡◌, ◌*◌, suc, add-one, arith}
 use Rattle.std.proofs.lemmas.Nat.{one_shl}
 use Rattle.jfs_buddy.specs.Buddy.{start_of}
 use Rattle.jfs_buddy.proofs.Levels.{halves-within}

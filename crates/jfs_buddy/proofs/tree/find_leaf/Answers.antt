@@ -1,4 +1,4 @@
-use Rattle.std.proofs.Common.{◌+◌, ◌<◌, suc, arith}
+use Rattle.std.proofs.Common.{◌+◌, arith}
 use Rattle.jfs_buddy.proofs.Ranks.{leaf-root, room-below, descends}
 use Rattle.jfs_buddy.proofs.tree.find_leaf.Goals as goal
 

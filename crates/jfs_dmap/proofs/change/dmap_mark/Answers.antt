@@ -1,9 +1,7 @@
-use Rattle.std.proofs.Common.{◌≡◌, ◌<◌, ◌≤◌, ◌+◌, ◌-◌, ◌*◌, ◌/◌, ◌∙◌, ◌||◌, ◌⊎◌, inl, inr, not, ℕ, List, refl, sym, ap, rules, arith}
+use Rattle.std.proofs.Common.{◌≡◌, ◌<◌, ◌≤◌, ◌+◌, ◌-◌, ◌*◌, ◌/◌, ◌∙◌, ◌||◌, ◌⊎◌, inl, inr, ℕ, List, refl, sym, ap, arith}
 use Rattle.std.proofs.lemmas.Bool.{or_right}
 use Rattle.jfs_bits.specs.Bits.{is_taken, is_in_run}
-use Rattle.jfs_bits.specs.Field.{field_of}
-use Rattle.jfs_buddy.specs.Buddy.{IsBuddyTree}
-use Rattle.jfs_dmap.specs.Dmap.{count_below, map_of, tree_of, taken_in, word_rank}
+use Rattle.jfs_dmap.specs.Dmap.{map_of, taken_in, word_rank}
 use Rattle.jfs_dmap.proofs.Parts.{field-from_range}
 use Rattle.jfs_dmap.proofs.Buds.{word_rank-same}
 use Rattle.jfs_dmap.proofs.Counts.{beside_run, count-marked}
@@ -20,12 +18,13 @@ puts_of : (c : goal.After-refresh) → Puts c.args.page.now.0 c.mark_in.new.byte
 puts_of c =
     let size = c.requires.canonical.size in
     record {
-        size = size;
-        sizes = (omega (arith, size), omega (arith, size), omega (arith, size), omega (arith, size));
-        map = c.mark_in.ensures.stays;
-        copy = c.mark_in-2.ensures.stays;
-        count = c.put_u32.ensures;
-        tree = c.refresh.ensures.stays }
+      size = size;
+      sizes = (omega (arith, size), omega (arith, size), omega (arith, size), omega (arith, size));
+      map = c.mark_in.ensures.stays;
+      copy = c.mark_in-2.ensures.stays;
+      count = c.put_u32.ensures;
+      tree = c.refresh.ensures.stays;
+    }
 
 held_of : (c : goal.After-refresh) → Held c.args.page.now.0 c.mark_in.new.bytes c.mark_in-2.new.bytes c.put_u32.new.bytes c.refresh.new.bytes
 held_of c = map-held c.args.page.now.0 c.mark_in.new.bytes c.mark_in-2.new.bytes c.put_u32.new.bytes c.refresh.new.bytes (c.get_u32-free.result - c.args.n) (puts_of c)
@@ -45,15 +44,15 @@ returns-clause-canonical c =
     let taken = λ (b : ℕ). is_in_run c.args.first c.args.n b || taken_in start b in
     let count = count-marked c.args.first c.args.n 8192 (taken_in start) c.requires.within c.requires.free in
     let outside : (v : ℕ) → v < 256 → (v < c.args.first / 32) ⊎ ((c.args.first + c.args.n + 31) / 32 ≤ v) → word_rank (map_of start) v ≡ word_rank (map_of c.put_u32.new.bytes) v =
-        λ v k side. word_rank-same (map_of start) (map_of c.put_u32.new.bytes) v (λ i h.
-            sym (ap (λ (z : List ℕ). is_taken z (32 * v + i)) held.before ∙ c.mark_in.ensures.set (32 * v + i) ∙ rw (beside_run c.args.first c.args.n v i h side) refl)) in
+    λ v k side. word_rank-same (map_of start) (map_of c.put_u32.new.bytes) v (λ i h.
+    sym (ap (λ (z : List ℕ). is_taken z (32 * v + i)) held.before ∙ c.mark_in.ensures.set (32 * v + i) ∙ rw (beside_run c.args.first c.args.n v i h side) refl)) in
     canonical-after start c.mark_in.new.bytes c.mark_in-2.new.bytes c.put_u32.new.bytes c.refresh.new.bytes free taken (puts_of c) d
-        (set_of c)
-        (λ b. ap (λ (z : List ℕ). is_taken z b) held.copy ∙ c.mark_in-2.ensures.set b ∙ rw (held.copy_before, d.same b) refl)
-        (λ b h k. or_right (is_in_run c.args.first c.args.n b) (taken_in start b) (d.past b h k))
-        (omega (arith, count, d.free, c.get_u32-free.ensures.value, held.count))
-        (omega (arith, c.get_u32-free.ensures.fits))
-        (rw held.map (rw held.before at (c.refresh.ensures.tree (word_rank (map_of start)) outside (rw held.tree d.tree))))
+    (set_of c)
+    (λ b. ap (λ (z : List ℕ). is_taken z b) held.copy ∙ c.mark_in-2.ensures.set b ∙ rw (held.copy_before, d.same b) refl)
+    (λ b h k. or_right (is_in_run c.args.first c.args.n b) (taken_in start b) (d.past b h k))
+    (omega (arith, count, d.free, c.get_u32-free.ensures.value, held.count))
+    (omega (arith, c.get_u32-free.ensures.fits))
+    (rw held.map (rw held.before at (c.refresh.ensures.tree (word_rank (map_of start)) outside (rw held.tree d.tree))))
 
 pub returns-clause-blocks : goal.returns-clause-blocks
 returns-clause-blocks c = field-from_range c.refresh.new.bytes c.args.page.now.0 0 4 (rest-stays c.args.page.now.0 c.mark_in.new.bytes c.mark_in-2.new.bytes c.put_u32.new.bytes c.refresh.new.bytes (c.get_u32-free.result - c.args.n) 0 4 (puts_of c) (inl (omega arith)))

@@ -1,8 +1,7 @@
-use Rattle.std.proofs.Common.{◌≡◌, ◌<◌, ◌≤◌, ◌+◌, ◌*◌, ◌^◌, ◌∙◌, ℕ, sym, arith}
-use Rattle.std.specs.Prelude.{Option, Some, None}
-use Rattle.jfs_bits.specs.Field.{field_of}
+use Rattle.std.proofs.Common.{◌≡◌, ◌∙◌, sym, arith}
+use Rattle.std.specs.Prelude.{Some, None}
 use Rattle.jfs_dmap.proofs.Parts.{part-is}
-use Rattle.jfs_dmap.proofs.Finds.{no_runs, Searched, page-none, page-large, page-small, word-within}
+use Rattle.jfs_dmap.proofs.Finds.{no_runs, page-none, page-large, page-small, word-within}
 use Rattle.jfs_dmap.proofs.find.dmap_find.Goals as goal
 
 pub returns-then-l2-gt13 : goal.returns-then-l2-gt13

@@ -1,4 +1,4 @@
-use Rattle.std.proofs.Common.{◌≡◌, ◌≤◌, ℕ, not}
+use Rattle.std.proofs.Common.{◌≡◌, not}
 use Rattle.jfs_bits.specs.Bits.{is_taken}
 use Rattle.jfs_dmap.specs.Dmap.{count_below}
 use Rattle.jfs_dmap.proofs.page.count_free.Given as goal

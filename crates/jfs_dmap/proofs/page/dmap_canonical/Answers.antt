@@ -1,11 +1,11 @@
-use Rattle.std.proofs.Common.{◌≡◌, ◌<◌, ◌≤◌, ◌+◌, ◌-◌, ◌∙◌, ◌||◌, ◌⊎◌, inl, inr, not, length, List, ℕ, refl, sym, ap, arith}
+use Rattle.std.proofs.Common.{◌≡◌, ◌≤◌, ◌+◌, ◌-◌, ◌∙◌, ◌||◌, inl, inr, not, length, List, ℕ, refl, sym, ap, arith}
 use Rattle.std.specs.Prelude.{replicate}
 use Rattle.std.proofs.lemmas.Bool.{or_left}
-use Rattle.jfs_bits.specs.Field.{field_of, put_bytes, range_of}
+use Rattle.jfs_bits.specs.Field.{field_of, range_of}
 use Rattle.jfs_bits.specs.Bits.{is_taken, is_in_run}
-use Rattle.jfs_dmap.specs.Dmap.{count_below, blocks_of, map_of, tree_of, taken_in, word_rank}
+use Rattle.jfs_dmap.specs.Dmap.{count_below, map_of, taken_in}
 use Rattle.jfs_dmap.proofs.Parts.{part-is, part-again, range-beside, field-from_range}
-use Rattle.jfs_dmap.proofs.Counts.{in_run, before_run, count_below-most, count_below-same}
+use Rattle.jfs_dmap.proofs.Counts.{in_run, before_run}
 use Rattle.jfs_dmap.proofs.Heads.{Head, head-put, range_of-replicate}
 use Rattle.jfs_dmap.proofs.Pages.{Puts, Held, Beside, rest-stays, map-held, count-held}
 use Rattle.jfs_dmap.proofs.page.dmap_canonical.Goals as goal
@@ -20,12 +20,13 @@ puts_of : (c : goal.After-refresh) → Puts c.put_head.new.bytes c.put_map.new.b
 puts_of c =
     let size = size_of c in
     record {
-        size = omega (arith, size);
-        sizes = (omega (arith, size), omega (arith, size), omega (arith, size), omega (arith, size));
-        map = c.put_map.ensures.stays;
-        copy = c.put_map-2.ensures.stays;
-        count = c.put_u32.ensures;
-        tree = part-again 33 341 c.put_u32.new.bytes c.clear.new.bytes c.refresh.new.bytes (omega arith) (omega arith) (omega (arith, size)) c.clear.ensures.stays c.refresh.ensures.stays }
+      size = omega (arith, size);
+      sizes = (omega (arith, size), omega (arith, size), omega (arith, size), omega (arith, size));
+      map = c.put_map.ensures.stays;
+      copy = c.put_map-2.ensures.stays;
+      count = c.put_u32.ensures;
+      tree = part-again 33 341 c.put_u32.new.bytes c.clear.new.bytes c.refresh.new.bytes (omega arith) (omega arith) (omega (arith, size)) c.clear.ensures.stays c.refresh.ensures.stays;
+    }
 
 held_of : (c : goal.After-refresh) → Held c.put_head.new.bytes c.put_map.new.bytes c.put_map-2.new.bytes c.put_u32.new.bytes c.refresh.new.bytes
 held_of c = map-held c.put_head.new.bytes c.put_map.new.bytes c.put_map-2.new.bytes c.put_u32.new.bytes c.refresh.new.bytes c.count_free-free.result (puts_of c)
@@ -50,7 +51,7 @@ count_is : (c : goal.After-refresh) → c.count_free-free.result ≡ count_below
 count_is c =
     let size = size_of c in
     let map : map_of c.put_map-2.new.bytes ≡ map_of c.refresh.new.bytes =
-        range-beside 3072 1024 2048 1024 c.put_map.new.bytes c.put_map-2.new.bytes (omega arith) (omega (arith, size)) c.put_map-2.ensures.stays (inl (omega arith)) ∙ sym (held_of c).map in
+    range-beside 3072 1024 2048 1024 c.put_map.new.bytes c.put_map-2.new.bytes (omega arith) (omega (arith, size)) c.put_map-2.ensures.stays (inl (omega arith)) ∙ sym (held_of c).map in
     rw (part-is c.put_map-2.new.bytes 2048 1024, map) at c.count_free-free.ensures
 
 zeros : (page : List ℕ) (size : ℕ) → page ≡ replicate size 0 → size ≡ 4096 → range_of page 374 1674 ≡ replicate 1674 0
@@ -65,16 +66,17 @@ returns-clause-canonical c =
     let map : map_of c.refresh.new.bytes ≡ map_of c.clear.new.bytes = range-beside 33 341 2048 1024 c.clear.new.bytes c.refresh.new.bytes (omega arith) (omega (arith, size)) c.refresh.ensures.stays (inr (omega arith)) in
     let middle = λ (p n : ℕ) (a : 8 ≤ p) (b : p + n ≤ 33). field_stays c p n (inr (inl (a, b))) in
     record {
-        size = omega (arith, size);
-        most = omega (arith, blocks);
-        past = λ b h k. set_is c b ∙ or_left (is_in_run c.args.nblocks (8192 - c.args.nblocks) b) (is_taken c.args.set.now b) (in_run c.args.nblocks (8192 - c.args.nblocks) b (omega (arith, blocks)) (omega (arith, c.requires.most)));
-        same = λ b. ap (λ (z : List ℕ). is_taken z b) held.copy ∙ c.put_map-2.ensures.set b ∙ sym (set_is c b);
-        free = count-held c.put_head.new.bytes c.put_map.new.bytes c.put_map-2.new.bytes c.put_u32.new.bytes c.refresh.new.bytes c.count_free-free.result (puts_of c) (omega arith) ∙ count_is c;
-        leaves = middle 16 4 (omega arith) (omega arith) ∙ head.leaves;
-        l2_leaves = middle 20 4 (omega arith) (omega arith) ∙ head.l2_leaves;
-        first_leaf = middle 24 4 (omega arith) (omega arith) ∙ head.first_leaf;
-        height = middle 28 4 (omega arith) (omega arith) ∙ head.height;
-        whole = middle 32 1 (omega arith) (omega arith) ∙ head.whole;
-        tree = rw map (c.refresh.ensures.tree (λ v. 0) (λ v k side. elim side [ inl a ↦ absurd (omega arith) | inr b ↦ absurd (omega arith) ]) c.clear.ensures.tree);
-        pad = rest-stays c.put_head.new.bytes c.put_map.new.bytes c.put_map-2.new.bytes c.put_u32.new.bytes c.refresh.new.bytes c.count_free-free.result 374 1674 (puts_of c) (inr (inr (omega arith, omega arith))) ∙ head.pad
-            ∙ zeros c.fill.new.self (length c.args.page.now.0) (c.fill.ensures.after (λ y h. h)) (omega arith) }
+      size = omega (arith, size);
+      most = omega (arith, blocks);
+      past = λ b h k. set_is c b ∙ or_left (is_in_run c.args.nblocks (8192 - c.args.nblocks) b) (is_taken c.args.set.now b) (in_run c.args.nblocks (8192 - c.args.nblocks) b (omega (arith, blocks)) (omega (arith, c.requires.most)));
+      same = λ b. ap (λ (z : List ℕ). is_taken z b) held.copy ∙ c.put_map-2.ensures.set b ∙ sym (set_is c b);
+      free = count-held c.put_head.new.bytes c.put_map.new.bytes c.put_map-2.new.bytes c.put_u32.new.bytes c.refresh.new.bytes c.count_free-free.result (puts_of c) (omega arith) ∙ count_is c;
+      leaves = middle 16 4 (omega arith) (omega arith) ∙ head.leaves;
+      l2_leaves = middle 20 4 (omega arith) (omega arith) ∙ head.l2_leaves;
+      first_leaf = middle 24 4 (omega arith) (omega arith) ∙ head.first_leaf;
+      height = middle 28 4 (omega arith) (omega arith) ∙ head.height;
+      whole = middle 32 1 (omega arith) (omega arith) ∙ head.whole;
+      tree = rw map (c.refresh.ensures.tree (λ v. 0) (λ v k side. elim side [ inl a ↦ absurd (omega arith) | inr b ↦ absurd (omega arith) ]) c.clear.ensures.tree);
+      pad = rest-stays c.put_head.new.bytes c.put_map.new.bytes c.put_map-2.new.bytes c.put_u32.new.bytes c.refresh.new.bytes c.count_free-free.result 374 1674 (puts_of c) (inr (inr (omega arith, omega arith))) ∙ head.pad
+          ∙ zeros c.fill.new.self (length c.args.page.now.0) (c.fill.ensures.after (λ y h. h)) (omega arith);
+    }

@@ -1,7 +1,6 @@
-use Rattle.std.proofs.Common.{◌≡◌, ◌+◌, ◌-◌, ◌∙◌, ◌||◌, length, List, ℕ, sym, ap, arith}
+use Rattle.std.proofs.Common.{◌≡◌, ◌+◌, ◌-◌, ◌∙◌, length, List, ℕ, sym, ap, arith}
 use borrow.Rule.Slice.PartMut.{put_mid}
 use Rattle.jfs_bits.specs.Field.{put_bytes, range_of}
-use Rattle.jfs_bits.specs.Bits.{is_taken, is_in_run}
 use Rattle.jfs_bits.proofs.Fields.{put_between}
 use Rattle.jfs_bits.proofs.Ranges.{length-put_bytes}
 use Rattle.jfs_dmap.proofs.Parts.{part-held, part-put, part-again}
