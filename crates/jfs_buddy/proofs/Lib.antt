@@ -1,3 +1,4 @@
+pub mod Parts
 pub mod Ranks
 pub mod Joins
 pub mod Halves

@@ -1,6 +1,11 @@
 -- Trees of ranks, four children to a node, level after level. (JFS Layout: the tree of a dmap or control page.)
 -- The rank of a value is the value plus 1: 0 where no block is free (the value -1), k + 1 where the greatest free run has 2 ^ k blocks.
-use Rattle.std.specs.Prelude.{◌≡◌, ℕ, zero, suc, ◌+◌, ◌*◌, ◌%◌, ◌^◌, ◌<◌, ◌≤◌, max, List, length, slice_index}
+use Rattle.std.specs.Prelude.{◌≡◌, ℕ, zero, suc, ◌+◌, ◌*◌, ◌%◌, ◌^◌, ◌<◌, ◌≤◌, max, ℤ, pos, negsuc, List, length, slice_index}
+
+-- the rank of a value
+abbrev pub rank_of : ℤ → ℕ
+rank_of (pos value) = suc value
+rank_of (negsuc n) = 0
 
 -- the rank of node `n`, whose byte is its value as two's complement
 unfoldable pub rank_at : List ℕ → ℕ → ℕ

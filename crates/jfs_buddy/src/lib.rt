@@ -5,4 +5,4 @@ mod join;
 mod tree;
 
 pub use join::{clear_tree, find_run, set_leaf};
-pub use tree::{find_leaf, leaf_rank, rank};
+pub use tree::{find_leaf, leaf_rank, rank, rank_of_value};

@@ -1,7 +1,7 @@
 //! Trees of ranks, four children to a node.
 
 ghost use Rattle.std.specs.Prelude.{◌≡◌, ◌+◌, ◌*◌, ◌%◌, ◌^◌, ◌<◌, ◌≤◌, ◌==◌, if◌then◌else◌, length, ℕ, MatchOption, suc};
-ghost use Rattle.jfs_buddy.specs.Tree.{rank_at, first_of, leaves_of, leaf_at, greatest_of, HasMaxima, IsFirstFitting};
+ghost use Rattle.jfs_buddy.specs.Tree.{rank_of, rank_at, first_of, leaves_of, leaf_at, greatest_of, HasMaxima, IsFirstFitting};
 
 /// The rank of node `n`: its value plus 1.
 pub fn rank(tree: &[u8], n: usize) -> u8
@@ -10,6 +10,16 @@ pub fn rank(tree: &[u8], n: usize) -> u8
     ensures fits { result < 2 ^ 8 }
 {
     tree[n].wrapping_add(1)
+}
+
+/// The rank of a value.
+pub fn rank_of_value(value: i8) -> u8
+    ensures { result ≡ rank_of value }
+{
+    match u8::try_from(value) {
+        Ok(l2) => l2 + 1,
+        Err(_) => 0,
+    }
 }
 
 /// The rank of a leaf.

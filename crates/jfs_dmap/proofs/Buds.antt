@@ -6,7 +6,8 @@ use Rattle.std.proofs.lemmas.Nat.{mul-le}
 use Rattle.jfs_bits.proofs.Buds.{sizes_of}
 use Rattle.jfs_bits.specs.Field.{field_of}
 use Rattle.jfs_bits.specs.Bits.{all_below, any_below, is_taken, is_taken_in, is_free, is_free_run, has_free_run, greatest_bud, max_bud_of}
-use Rattle.jfs_dmap.specs.Dmap.{rank_of, word_rank}
+use Rattle.jfs_buddy.specs.Tree.{rank_of}
+use Rattle.jfs_dmap.specs.Dmap.{word_rank}
 
 rank-below : (word top : ℕ) → rank_of (greatest_bud word top) ≤ suc top
 unfolding greatest_bud

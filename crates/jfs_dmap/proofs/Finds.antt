@@ -12,7 +12,7 @@ use Rattle.jfs_buddy.proofs.Joins.{start_of-same, is_whole-at, is_whole-from}
 use Rattle.jfs_buddy.proofs.Halves.{start_of-multiple}
 use Rattle.jfs_buddy.specs.Buddy.{IsBuddyTree}
 use Rattle.jfs_dmap.specs.Dmap.{map_of, taken_in, word_rank, IsDmap}
-use Rattle.jfs_dmap.proofs.Parts.{part-is, field-in_part}
+use Rattle.jfs_buddy.proofs.Parts.{part-is, field-in_part}
 use Rattle.jfs_dmap.proofs.Buds.{run-end}
 use Rattle.jfs_dmap.proofs.Lowest.{rank-has, has-rank, word-run, whole-bits, bits-whole}
 

@@ -6,19 +6,11 @@ use Rattle.jfs_bits.specs.Field.{field_of, range_of}
 use Rattle.jfs_bits.specs.Piece.{Piece, puts, Place}
 use Rattle.jfs_bits.proofs.Ranges.{field_of-range, field_of-number}
 use Rattle.jfs_bits.proofs.Pieces.{length-puts, range_of-puts, range_of-puts_other}
+use Rattle.jfs_buddy.proofs.Parts.{number-read}
 use Rattle.jfs_dmap.specs.Dmap.{head_of}
-
-pub range_of-replicate : (n at width value : ℕ) → at + width ≤ n → range_of (replicate n value) at width ≡ replicate width value
-unfolding range_of
-range_of-replicate n at width value h =
-    ap (λ (z : List ℕ). take width z) (drop-replicate at n value) ∙ take-replicate width (n - at) value (omega arith)
 
 places : List Place
 places = (0, 4) ∷ (8, 8) ∷ (16, 4) ∷ (20, 4) ∷ (24, 4) ∷ (28, 4) ∷ (32, 1) ∷ []
-
-number-read : (page : List ℕ) (at width x : ℕ) → range_of page at width ≡ little_bytes width x → x < 256 ^ width → field_of page at width ≡ x
-number-read page at width x e fits =
-    field_of-range page at width ∙ ap (λ (z : List ℕ). field_of z 0 width) e ∙ rw append-nil at (field_of-number width x [] fits)
 
 pub record Head (start nblocks : ℕ) (before page : List ℕ) : Type 0 where
   pub size : length page ≡ 4096

@@ -1,4 +1,3 @@
-pub mod Parts
 pub mod Buds
 pub mod Trees
 pub mod Counts

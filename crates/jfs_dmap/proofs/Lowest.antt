@@ -7,7 +7,8 @@ use Rattle.jfs_bits.specs.Bits.{any_below, is_taken, is_taken_in, is_free, is_fr
 use Rattle.jfs_bits.proofs.Runs.{is_free-at, is_free-from}
 use Rattle.jfs_bits.proofs.Buds.{any_below-from, sizes_of}
 use Rattle.jfs_buddy.proofs.Halves.{twice}
-use Rattle.jfs_dmap.specs.Dmap.{rank_of, word_rank}
+use Rattle.jfs_buddy.specs.Tree.{rank_of}
+use Rattle.jfs_dmap.specs.Dmap.{word_rank}
 use Rattle.jfs_dmap.proofs.Buds.{word-bit, is_free-same, run-end, rank-most}
 
 any_below-at : (n : ℕ) (test : ℕ → Bool) → any_below n test ≡ true → (i : ℕ) × (i < n) × (test i ≡ true)

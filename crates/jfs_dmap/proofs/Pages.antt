@@ -7,7 +7,7 @@ use Rattle.jfs_bits.proofs.Ranges.{range_of-put_other}
 use Rattle.jfs_bits.proofs.Words.{field_of-put_same}
 use Rattle.jfs_buddy.specs.Buddy.{IsBuddyTree}
 use Rattle.jfs_dmap.specs.Dmap.{count_below, blocks_of, map_of, tree_of, taken_in, word_rank, IsDmap}
-use Rattle.jfs_dmap.proofs.Parts.{range-beside, field-from_range}
+use Rattle.jfs_buddy.proofs.Parts.{range-beside, field-from_range}
 use Rattle.jfs_dmap.proofs.Counts.{count_below-same}
 
 -- both maps, the count and the tree were put, one after the other

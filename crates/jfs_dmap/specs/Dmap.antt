@@ -1,9 +1,10 @@
 -- A dmap page: the taken ones among 8,192 blocks, and the buddy tree over their words. (JFS Layout, dmap_t.)
-use Rattle.std.specs.Prelude.{◌≡◌, ℕ, zero, suc, ◌+◌, ◌*◌, ◌<◌, ◌≤◌, Bool, true, not, ℤ, pos, negsuc, if◌then◌else◌, List, [], ◌∷◌, length, replicate}
+use Rattle.std.specs.Prelude.{◌≡◌, ℕ, zero, suc, ◌+◌, ◌*◌, ◌<◌, ◌≤◌, Bool, true, not, if◌then◌else◌, List, [], ◌∷◌, length, replicate}
 use Rattle.byteorder.specs.Endian.{little_bytes}
 use Rattle.jfs_bits.specs.Field.{field_of, range_of}
 use Rattle.jfs_bits.specs.Piece.{Piece}
 use Rattle.jfs_bits.specs.Bits.{all_below, is_taken, max_bud_of}
+use Rattle.jfs_buddy.specs.Tree.{rank_of}
 use Rattle.jfs_buddy.specs.Buddy.{IsBuddyTree}
 
 -- how many numbers below `n` pass the test
@@ -32,11 +33,6 @@ tree_of page = range_of page 33 341
 -- the set that a page holds: block `b` of the page is taken
 abbrev pub taken_in : List ℕ → ℕ → Bool
 taken_in page = is_taken (map_of page)
-
--- the rank of a value: the value plus 1
-abbrev pub rank_of : ℤ → ℕ
-rank_of (pos value) = suc value
-rank_of (negsuc n) = 0
 
 -- the own rank of word `w` of a map, that of its maximal buddy; a wholly free word has 6
 abbrev pub word_rank : List ℕ → ℕ → ℕ

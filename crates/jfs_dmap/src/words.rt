@@ -4,10 +4,11 @@ ghost use Rattle.std.specs.Prelude.{◌≡◌, ◌+◌, ◌*◌, ◌<◌, ◌≤
 ghost use Rattle.jfs_bits.specs.Field.{put_bytes, range_of};
 ghost use Rattle.jfs_bits.specs.Bits.{is_taken, is_in_run, max_bud_of};
 ghost use Rattle.jfs_buddy.specs.Buddy.{with_own, IsBuddyTree};
-ghost use Rattle.jfs_dmap.specs.Dmap.{map_of, tree_of, rank_of, word_rank};
+ghost use Rattle.jfs_buddy.specs.Tree.{rank_of};
+ghost use Rattle.jfs_dmap.specs.Dmap.{map_of, tree_of, word_rank};
 
 use jfs_bits::{clear_run, get_u32, max_bud, set_run};
-use jfs_buddy::set_leaf;
+use jfs_buddy::{rank_of_value, set_leaf};
 
 /// Marks blocks as taken in the map at `at`.
 pub fn mark_in(bytes: &mut [u8], at: usize, first: u32, n: u32)
@@ -33,10 +34,7 @@ pub fn clear_in(bytes: &mut [u8], at: usize, first: u32, n: u32)
 fn rank_of_word(word: u32) -> u8
     ensures { result ≡ rank_of (max_bud_of word) }
 {
-    match u8::try_from(max_bud(word)) {
-        Ok(l2) => l2 + 1,
-        Err(_) => 0,
-    }
+    rank_of_value(max_bud(word))
 }
 
 /// Gives a word's leaf the rank that the working map says.

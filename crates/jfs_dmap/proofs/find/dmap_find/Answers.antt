@@ -1,6 +1,6 @@
 use Rattle.std.proofs.Common.{◌≡◌, ◌∙◌, sym, arith}
 use Rattle.std.specs.Prelude.{Some, None}
-use Rattle.jfs_dmap.proofs.Parts.{part-is}
+use Rattle.jfs_buddy.proofs.Parts.{part-is}
 use Rattle.jfs_dmap.proofs.Finds.{no_runs, page-none, page-large, page-small, word-within}
 use Rattle.jfs_dmap.proofs.find.dmap_find.Goals as goal
 

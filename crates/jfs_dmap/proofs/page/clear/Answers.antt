@@ -2,7 +2,7 @@ use Rattle.std.proofs.Common.{◌≡◌, ◌∙◌, length, arith}
 use Rattle.jfs_bits.specs.Field.{put_bytes}
 use Rattle.jfs_bits.proofs.Fields.{put_between}
 use Rattle.jfs_dmap.specs.Dmap.{tree_of}
-use Rattle.jfs_dmap.proofs.Parts.{part-is, part-held, part-put, length-range_of}
+use Rattle.jfs_buddy.proofs.Parts.{part-is, part-held, part-put, length-range_of}
 use Rattle.jfs_dmap.proofs.page.clear.Goals as goal
 
 size_is : (c : goal.After-slice_known-2-1) → length c.clear_tree.new.tree ≡ 341

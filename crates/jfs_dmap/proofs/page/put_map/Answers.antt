@@ -3,7 +3,7 @@ use borrow.Rule.Slice.PartMut.{put_mid}
 use Rattle.jfs_bits.specs.Field.{put_bytes, range_of}
 use Rattle.jfs_bits.proofs.Fields.{put_between}
 use Rattle.jfs_bits.proofs.Ranges.{length-put_bytes}
-use Rattle.jfs_dmap.proofs.Parts.{part-held, part-put, part-again}
+use Rattle.jfs_buddy.proofs.Parts.{part-held, part-put, part-again}
 use Rattle.jfs_dmap.proofs.page.put_map.Goals as goal
 
 -- the page after the set was copied

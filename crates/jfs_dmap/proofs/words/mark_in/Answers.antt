@@ -2,7 +2,7 @@ use Rattle.std.proofs.Common.{◌≡◌, ◌∙◌, length, List, ℕ, ap}
 use Rattle.jfs_bits.specs.Field.{range_of}
 use Rattle.jfs_bits.specs.Bits.{is_taken}
 use Rattle.jfs_bits.proofs.Fields.{put_between, range_between}
-use Rattle.jfs_dmap.proofs.Parts.{part-held, part-put, length-range_of}
+use Rattle.jfs_buddy.proofs.Parts.{part-held, part-put, length-range_of}
 use Rattle.jfs_dmap.proofs.words.mark_in.Goals as goal
 
 pub returns-clause-set : goal.returns-clause-set

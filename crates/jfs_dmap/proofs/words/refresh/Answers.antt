@@ -1,6 +1,6 @@
 use Rattle.std.proofs.Common.{◌≡◌, ◌∙◌, refl, inr, arith}
 use Rattle.jfs_dmap.specs.Dmap.{map_of, tree_of}
-use Rattle.jfs_dmap.proofs.Parts.{part-kept, part-again, range-beside}
+use Rattle.jfs_buddy.proofs.Parts.{part-kept, part-again, range-beside}
 use Rattle.jfs_dmap.proofs.Trees.{renewed, renew-starts, renew-goes_on, renew-ends}
 use Rattle.jfs_dmap.proofs.words.refresh.Goals as goal
 

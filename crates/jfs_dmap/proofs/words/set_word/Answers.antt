@@ -2,8 +2,9 @@ use Rattle.std.proofs.Common.{◌≡◌, ◌*◌, ◌≤◌, ◌∙◌, length, 
 use Rattle.jfs_bits.specs.Field.{put_bytes, range_of}
 use Rattle.jfs_bits.specs.Bits.{max_bud_of}
 use Rattle.jfs_bits.proofs.Fields.{put_between}
-use Rattle.jfs_dmap.specs.Dmap.{map_of, tree_of, rank_of, word_rank}
-use Rattle.jfs_dmap.proofs.Parts.{part-is, part-held, part-put, length-range_of, field-in_part}
+use Rattle.jfs_buddy.specs.Tree.{rank_of}
+use Rattle.jfs_dmap.specs.Dmap.{map_of, tree_of, word_rank}
+use Rattle.jfs_buddy.proofs.Parts.{part-is, part-held, part-put, length-range_of, field-in_part}
 use Rattle.jfs_dmap.proofs.Buds.{rank-most}
 use Rattle.jfs_dmap.proofs.words.set_word.Goals as goal
 

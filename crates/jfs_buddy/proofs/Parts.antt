@@ -1,8 +1,9 @@
 -- One part of a page replaced: what it then holds, and that the rest stays.
-use Rattle.std.proofs.Common.{◌≡◌, ◌≤◌, ◌+◌, ℕ, ◌⊎◌, inl, inr, List, length, take, drop, ◌++◌, append_assoc, refl, sym, ap, ◌∙◌, arith}
+use Rattle.std.proofs.Common.{◌≡◌, ◌<◌, ◌≤◌, ◌+◌, ◌-◌, ◌^◌, ℕ, [], replicate, ◌⊎◌, inl, inr, List, length, take, drop, ◌++◌, append_assoc, refl, sym, ap, ◌∙◌, arith}
 use Rattle.jfs_bits.specs.Field.{field_of, put_bytes, range_of}
-use Rattle.jfs_bits.proofs.Ranges.{range_of-put_same, range_of-put_other, range_of-within, field_of-range}
-use Rattle.std.proofs.lemmas.List.{take_at, drop_at, take-append-drop, drop-drop, length-append, length-take, length-take-le, length-drop}
+use Rattle.jfs_bits.proofs.Ranges.{range_of-put_same, range_of-put_other, range_of-within, field_of-range, field_of-number}
+use Rattle.byteorder.specs.Endian.{little_bytes}
+use Rattle.std.proofs.lemmas.List.{take_at, drop_at, take-append-drop, drop-drop, length-append, length-take, length-take-le, length-drop, append-nil, take-replicate, drop-replicate}
 
 -- the part from `at` on, handed out and given back as `new`
 pub part-held : (at width : ℕ) (new bytes : List ℕ) → length new ≡ width → at + width ≤ length bytes → range_of (put_bytes at new bytes) at width ≡ new
@@ -61,3 +62,14 @@ part-again at width old mid new a b h first second =
     let m = length-range_of mid at width (omega arith) in
     let n = length-range_of new at width (omega arith) in
     second ∙ ap (λ (z : List ℕ). put_bytes at (range_of new at width) z) first ∙ put-over at (range_of mid at width) (range_of new at width) old (m ∙ sym n) (omega (arith, m))
+
+-- a number that a range was put as
+pub number-read : (page : List ℕ) (at width x : ℕ) → range_of page at width ≡ little_bytes width x → x < 256 ^ width → field_of page at width ≡ x
+number-read page at width x e fits =
+    field_of-range page at width ∙ ap (λ (z : List ℕ). field_of z 0 width) e ∙ rw append-nil at (field_of-number width x [] fits)
+
+-- a range of equal bytes
+pub range_of-replicate : (n at width value : ℕ) → at + width ≤ n → range_of (replicate n value) at width ≡ replicate width value
+unfolding range_of
+range_of-replicate n at width value h =
+    ap (λ (z : List ℕ). take width z) (drop-replicate at n value) ∙ take-replicate width (n - at) value (omega arith)
