@@ -1,0 +1,8 @@
+//! Buddy trees over slices of bytes: ranks of runs of blocks, under inner nodes of four children.
+#![tactic(auto)]
+
+mod join;
+mod tree;
+
+pub use join::{clear_tree, find_run, set_leaf};
+pub use tree::{find_leaf, leaf_rank, rank, rank_of_value};

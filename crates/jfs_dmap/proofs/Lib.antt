@@ -1,0 +1,7 @@
+pub mod Buds
+pub mod Trees
+pub mod Counts
+pub mod Pages
+pub mod Lowest
+pub mod Finds
+pub mod Heads

@@ -1,0 +1,46 @@
+//! Blocks of a dmap page are taken and given back.
+
+ghost use Rattle.std.specs.Prelude.{◌≡◌, ◌+◌, ◌<◌, ◌≤◌, ◌||◌, ◌&&◌, true, not, ℕ};
+ghost use Rattle.jfs_bits.specs.Bits.{is_free, is_in_run};
+ghost use Rattle.jfs_dmap.specs.Dmap.{blocks_of, first_block_of, taken_in, is_full, IsDmap};
+
+use crate::words::{clear_in, mark_in, refresh};
+use jfs_bits::{get_u32, put_u32};
+use jfs_disk::Page;
+
+/// Takes the `n` free blocks from block `first` of a canonical page on. Only the leaves of the run's words and of the runs
+/// that they split, and the nodes above them, are visited.
+pub fn dmap_mark(page: &mut Page, first: u32, n: u32)
+    requires canonical { IsDmap page.old.0 }
+    requires within { first + n ≤ 8192 }
+    requires free { is_free (taken_in page.old.0) first n ≡ true }
+    ensures canonical { IsDmap page.new.0 }
+    ensures set { (b : ℕ) → taken_in page.new.0 b ≡ (is_in_run first n b || taken_in page.old.0 b) }
+    ensures blocks { blocks_of page.new.0 ≡ blocks_of page.old.0 }
+    ensures first_block { first_block_of page.new.0 ≡ first_block_of page.old.0 }
+{
+    let bytes: &mut [u8] = &mut page.0;
+    mark_in(bytes, 2048, first, n);
+    mark_in(bytes, 3072, first, n);
+    let free = get_u32(bytes, 4);
+    put_u32(bytes, 4, free - n);
+    refresh(bytes, first / 32, (first + n + 31) / 32);
+}
+
+/// Gives back the `n` taken blocks from block `first` of a canonical page on, in the same way.
+pub fn dmap_clear(page: &mut Page, first: u32, n: u32)
+    requires canonical { IsDmap page.old.0 }
+    requires within { first + n ≤ blocks_of page.old.0 }
+    requires taken { is_full (taken_in page.old.0) first n ≡ true }
+    ensures canonical { IsDmap page.new.0 }
+    ensures set { (b : ℕ) → taken_in page.new.0 b ≡ (not (is_in_run first n b) && taken_in page.old.0 b) }
+    ensures blocks { blocks_of page.new.0 ≡ blocks_of page.old.0 }
+    ensures first_block { first_block_of page.new.0 ≡ first_block_of page.old.0 }
+{
+    let bytes: &mut [u8] = &mut page.0;
+    clear_in(bytes, 2048, first, n);
+    clear_in(bytes, 3072, first, n);
+    let free = get_u32(bytes, 4);
+    put_u32(bytes, 4, free + n);
+    refresh(bytes, first / 32, (first + n + 31) / 32);
+}
