@@ -8,7 +8,8 @@ use Rattle.std.proofs.lemmas.Bool.{cases_lt}
 use Rattle.jfs_disk.specs.Image.{Image, page_of, ArePages}
 use Rattle.jfs_disk.specs.declared.page.Page.{Page}
 use Rattle.jfs_ranges.proofs.Overlaid.{drop-slice_get, no_item}
-use Rattle.jfs_core.specs.Core.{Block, Core, contents, fresh_block, fresh_core}
+use Rattle.jfs_core.specs.Core.{Block, Core, fresh_block, fresh_core}
+use Rattle.jfs_disk.specs.Pages.{contents}
 use Rattle.jfs_core.specs.Image.{History}
 
 pub got : {T : Type 0} (xs : List T) (i : ℕ) (r : Option (Bor T)) (x : Bor T) → option_copied r ≡ slice_get xs i → r ≡ Some x → slice_get xs i ≡ Some x.now

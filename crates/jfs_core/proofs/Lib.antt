@@ -9,3 +9,4 @@ pub mod Items
 pub mod Pages
 pub mod Runs
 pub mod Crashes
+pub mod Device

@@ -39,6 +39,7 @@ kept_halted core low log kept = record {
     newest = kept.newest;
     rising = kept.rising;
     mount = kept.mount;
+    front = kept.front;
     stable = kept.stable;
     points = kept.points;
     closed = kept.closed;
@@ -120,6 +121,7 @@ sound_fresh image pages few =
         newest = omega arith;
         rising = λ i j l w. let e : i ≡ j = omega arith in subst (λ (x : ℕ). get_or (0 ∷ []) i 0 ≤ get_or (0 ∷ []) x 0) e (omega arith);
         mount = omega arith;
+        front = refl;
         stable = omega arith;
         points = omega arith;
         closed = λ e. (refl, refl);

@@ -3,7 +3,6 @@ use Rattle.std.specs.Prelude.{ℕ, ◌-◌, Bool, false, List, [], ◌∷◌, ma
 use Rattle.jfs_disk.specs.Image.{Image, page_of}
 use Rattle.jfs_disk.specs.Crash.{PageHistory, DiskState, no_page}
 use Rattle.jfs_disk.specs.declared.disk.Fault.{Fault}
-use Rattle.jfs_disk.specs.declared.page.Page.{Page}
 use Rattle.jfs_core.specs.declared.block.Span.{Span}
 use Rattle.jfs_core.specs.Image.{History, image_after}
 
@@ -33,10 +32,6 @@ pub record Core : Type 0 where
   -- the fault that halted a part
   pub low_halted : Option Fault
   pub log_halted : Option Fault
-
--- the bytes of each page
-abbrev pub contents : List Page → Image
-contents pages = map (λ page. page.0) pages
 
 -- no block, where a number has none
 abbrev pub no_block : Block

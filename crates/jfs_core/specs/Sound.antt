@@ -87,6 +87,7 @@ pub record IsKept (core : Core) : Type 0 where
   pub newest : newest_of core ≤ core.told
   pub rising : (i j : ℕ) → i ≤ j → j < length core.syncpoints → get_or core.syncpoints i 0 ≤ get_or core.syncpoints j 0
   pub mount : 1 ≤ core.points_stable
+  pub front : get_or core.syncpoints 0 0 ≡ 0
   pub stable : core.points_stable ≤ core.points_taken
   pub points : core.points_taken ≤ length core.syncpoints
 

@@ -3,7 +3,8 @@
 ghost use Rattle.std.specs.Prelude.{◌≡◌, ◌<◌, length};
 ghost use Rattle.jfs_disk.specs.Image.{page_of};
 ghost use Rattle.jfs_core.specs.Image.{page_after};
-ghost use Rattle.jfs_core.specs.Core.{contents, block_of, newest_of};
+ghost use Rattle.jfs_core.specs.Core.{block_of, newest_of};
+ghost use Rattle.jfs_disk.specs.Pages.{contents};
 ghost use Rattle.jfs_core.specs.Step.{refusal, is_halted, ends_by, are_synced, may_go_home, told_page, same_bytes};
 ghost use Rattle.jfs_disk.specs.declared.disk.Fault.{Fault};
 ghost use Rattle.jfs_core.specs.Sound.{IsSound};

@@ -4,7 +4,8 @@ ghost use Rattle.std.specs.Prelude.{◌≡◌, ◌<◌, ◌^◌, ◌++◌, ◌�
 ghost use Rattle.jfs_disk.specs.Image.{page_of};
 ghost use Rattle.jfs_disk.specs.Choice.{choice_of, left_by};
 ghost use Rattle.jfs_core.specs.Image.{page_after};
-ghost use Rattle.jfs_core.specs.Core.{contents, core_image};
+ghost use Rattle.jfs_core.specs.Core.{core_image};
+ghost use Rattle.jfs_disk.specs.Pages.{contents};
 ghost use Rattle.jfs_core.specs.Left.{IsCrash, may_hold, stable_count, redone_from};
 ghost use Rattle.jfs_core.specs.Sound.{IsSound};
 

@@ -12,7 +12,7 @@ mod law;
 mod run;
 mod step;
 
-pub use law::acknowledged_entries_survive;
+pub use law::{acknowledged_entries_survive, steps_are_device_calls};
 pub use run::run_steps;
 pub use state::CoreState;
 pub use step::{FaultOf, RunError, Step, StepRefused, Why};

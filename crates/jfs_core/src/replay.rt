@@ -3,7 +3,7 @@
 ghost use Rattle.std.specs.Prelude.{◌≡◌, ◌<◌, length};
 ghost use Rattle.jfs_disk.specs.Image.{page_of};
 ghost use Rattle.jfs_core.specs.Image.{page_after};
-ghost use Rattle.jfs_core.specs.Core.{contents};
+ghost use Rattle.jfs_disk.specs.Pages.{contents};
 ghost use Rattle.jfs_core.specs.Step.{told_page};
 ghost use Rattle.jfs_core.specs.Sound.{IsSound};
 

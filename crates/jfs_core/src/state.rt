@@ -2,7 +2,8 @@
 
 ghost use Rattle.std.specs.Prelude.{◌≡◌, ◌<◌, ◌^◌, ◌+◌, ◌++◌, ◌∷◌, [], length, map, OnOk, IfOk};
 ghost use Rattle.jfs_disk.specs.Image.{page_of};
-ghost use Rattle.jfs_core.specs.Core.{Core, contents, fresh_block, fresh_core};
+ghost use Rattle.jfs_core.specs.Core.{Core, fresh_block, fresh_core};
+ghost use Rattle.jfs_disk.specs.Pages.{contents};
 ghost use Rattle.jfs_core.specs.Sound.{IsSound};
 
 use crate::block::Slot;

@@ -1,8 +1,8 @@
 -- Bytes put over a page, byte by byte.
-use Rattle.std.proofs.Common.{◌≡◌, ◌<◌, ◌≤◌, ◌+◌, ◌-◌, ◌*◌, ℕ, zero, suc, List, [], ◌∷◌, ◌++◌, length, take, drop, set, get_or, refl, sym, ap, ◌∙◌, arith, inl, inr, ◌⊎◌, true, false, append_assoc}
-use Rattle.std.specs.Prelude.{slice_get, Some, None, Option}
-use Rattle.std.proofs.lemmas.Option.{get_or_from_slice_get, slice_get_within, slice_get-get_or, unwrap_or-slice_get}
-use Rattle.std.proofs.lemmas.List.{take_all, drop_all, append-nil, drop_more, take_more_set, drop-set-lt, get_or_default, get_or_past}
+use Rattle.std.proofs.Common.{◌≡◌, ◌<◌, ◌≤◌, ◌+◌, ◌-◌, ◌*◌, ℕ, zero, suc, List, [], ◌∷◌, ◌++◌, length, take, drop, set, get_or, refl, sym, ap, ◌∙◌, arith, inl, inr, ◌⊎◌, false, append_assoc}
+use Rattle.std.specs.Prelude.{slice_get, Some, None}
+use Rattle.std.proofs.lemmas.Option.{get_or_from_slice_get, slice_get_within}
+use Rattle.std.proofs.lemmas.List.{take_all, drop_all, append-nil, drop_more, take_more_set, drop-set-lt, get_or_past}
 use Rattle.std.proofs.lemmas.Bool.Decides.{nat_tests}
 use Rattle.std.specs.Prelude.{nat_lt, ◌&&◌, ◌||◌}
 use Rattle.jfs_ranges.specs.declared.edit.Edit.{Edit}
@@ -18,7 +18,7 @@ overlaid-step at new start i page old within read =
     let place : suc (start + i) ≡ start + (i + 1) = omega arith in
     let here : get_or page i old ≡ old = sym read in
     rw (take_more_set page i b within, drop-set-lt (i + 1) page i b (omega arith), drop_more page i old within, here, place)
-        (append_assoc (take i page) (b ∷ []) (overlaid at new (start + (i + 1)) (drop (i + 1) page)))
+    (append_assoc (take i page) (b ∷ []) (overlaid at new (start + (i + 1)) (drop (i + 1) page)))
 
 -- where no new byte lies in a part, it stays
 pub overlaid-none : (at : ℕ) (new : List ℕ) (place : ℕ) (xs : List ℕ) → (place + length xs ≤ at) ⊎ (length new ≤ place - at) → overlaid at new place xs ≡ xs
@@ -30,9 +30,11 @@ overlaid-none at new place (x ∷ xs) h =
     weaker : (place + length (x ∷ xs) ≤ at) ⊎ (length new ≤ place - at) → (place < at) ⊎ (length new ≤ place - at)
     weaker (inl h) = inl (omega arith)
     weaker (inr h) = inr h
+
     further : (place + length (x ∷ xs) ≤ at) ⊎ (length new ≤ place - at) → (suc place + length xs ≤ at) ⊎ (length new ≤ suc place - at)
     further (inl h) = inl (omega arith)
     further (inr h) = inr (omega arith)
+
     byte_after-none : (at : ℕ) (new : List ℕ) (place old : ℕ) → (place < at) ⊎ (length new ≤ place - at) → byte_after at new place old ≡ old
     byte_after-none at new place old (inl h) = grind (arith, nat_tests)
     byte_after-none at new place old (inr h) = grind (arith, nat_tests, get_or_past)

@@ -13,7 +13,9 @@ pub enum Edit {
         bytes: Blob,
     },
     /// A redo passes over earlier lines of the page.
-    NoRedo { page: u32 },
+    NoRedo {
+        page: u32,
+    },
     /// The blocks are taken.
     Alloc(Pxd),
     /// The blocks are free.

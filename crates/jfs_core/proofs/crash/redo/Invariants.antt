@@ -1,5 +1,5 @@
 use Rattle.std.proofs.Common.{◌≡◌, ◌++◌, drop}
-use Rattle.jfs_core.specs.Core.{contents}
+use Rattle.jfs_disk.specs.Pages.{contents}
 use Rattle.jfs_core.specs.Left.{redone_from}
 use Rattle.jfs_core.proofs.crash.redo.Given as goal
 

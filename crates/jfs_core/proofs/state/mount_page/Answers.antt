@@ -1,6 +1,7 @@
 use Rattle.std.proofs.Common.{◌≡◌, ◌∙◌, ◌∷◌, [], ◌++◌, ap, sym, List, length, ℕ, arith}
 use Rattle.jfs_disk.specs.Image.{Image, page_of}
-use Rattle.jfs_core.specs.Core.{Block, contents, fresh_block}
+use Rattle.jfs_core.specs.Core.{Block, fresh_block}
+use Rattle.jfs_disk.specs.Pages.{contents}
 use Rattle.jfs_core.proofs.Items.{got, got_none, page_of-contents, contents-push}
 use Rattle.jfs_core.proofs.state.mount_page.Goals as goal
 

@@ -1,5 +1,6 @@
 use Rattle.std.proofs.Common.{◌≡◌, ◌∙◌, ap}
-use Rattle.jfs_core.specs.Core.{Core, contents}
+use Rattle.jfs_core.specs.Core.{Core}
+use Rattle.jfs_disk.specs.Pages.{contents}
 use Rattle.jfs_core.specs.Left.{IsCrash}
 use Rattle.jfs_core.proofs.Crashes.{crash_from_parts}
 use Rattle.jfs_core.proofs.state.CoreState.crash.Goals as goal

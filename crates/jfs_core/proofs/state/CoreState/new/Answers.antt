@@ -2,7 +2,8 @@ use Rattle.std.proofs.Common.{◌≡◌, ◌<◌, ◌≤◌, ◌^◌, ◌∙◌,
 use Rattle.std.proofs.lemmas.List.{length-map}
 use Rattle.std.proofs.lemmas.Grind.{common_steps}
 use Rattle.jfs_disk.specs.declared.page.Page.{Page}
-use Rattle.jfs_core.specs.Core.{Core, contents, fresh_core}
+use Rattle.jfs_core.specs.Core.{Core, fresh_core}
+use Rattle.jfs_disk.specs.Pages.{contents}
 use Rattle.jfs_core.specs.Sound.{IsSound}
 use Rattle.jfs_core.proofs.Items.{core_mounted}
 use Rattle.jfs_core.proofs.Steps.{sound_fresh}

@@ -1,4 +1,4 @@
-use Rattle.jfs_core.specs.Core.{contents}
+use Rattle.jfs_disk.specs.Pages.{contents}
 use Rattle.jfs_core.proofs.Items.{AreMounted}
 use Rattle.jfs_core.proofs.state.CoreState.new.Given as goal
 

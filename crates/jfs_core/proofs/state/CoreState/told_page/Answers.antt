@@ -1,5 +1,6 @@
 use Rattle.std.proofs.Common.{◌≡◌, ◌∙◌, ap, sym}
-use Rattle.jfs_core.specs.Core.{Core, contents}
+use Rattle.jfs_core.specs.Core.{Core}
+use Rattle.jfs_disk.specs.Pages.{contents}
 use Rattle.jfs_core.proofs.Pages.{told_from_parts}
 use Rattle.jfs_core.proofs.state.CoreState.told_page.Goals as goal
 
