@@ -1,5 +1,5 @@
 -- Each step keeps what is known of one block.
-use Rattle.std.proofs.Common.{◌≡◌, ◌<◌, ◌≤◌, ◌⊎◌, ◌+◌, ℕ, zero, suc, Bool, true, false, List, [], ◌∷◌, ◌++◌, length, get_or, Option, Some, None, is_some, refl, sym, ap, ◌∙◌, subst, inl, inr, arith}
+use Rattle.std.proofs.Common.{◌≡◌, ◌<◌, ◌≤◌, ◌⊎◌, ℕ, zero, suc, true, List, [], ◌∷◌, length, Option, Some, None, is_some, refl, sym, ap, ◌∙◌, subst, inl, inr, arith}
 use Rattle.std.proofs.lemmas.Bool.{cases_lt, leb-true}
 use Rattle.std.proofs.lemmas.List.{length_push, get_or_push, length-append, get_or_at}
 use Rattle.jfs_disk.specs.Crash.{PageHistory, content_of, torn}
@@ -37,6 +37,7 @@ unchanged meta v told n (suc m) dirty later low high past =
     step : LiesIn (suc m) dirty ⊎ ((v (suc m) ≡ v m) × (meta (suc m) → meta m)) → (v m ≡ v told) × (meta m → meta told) → (v (suc m) ≡ v told) × (meta (suc m) → meta told)
     step (inl lies) rest = absurd (not_before (suc m) (suc m) dirty (omega arith) past lies)
     step (inr same) rest = (same.0 ∙ rest.0, λ h. rest.1 (same.1 h))
+
     at : (told < suc m) ⊎ (suc m ≤ told) → (told ≤ m → (v m ≡ v told) × (meta m → meta told)) → (v (suc m) ≡ v told) × (meta (suc m) → meta told)
     at (inl l) rest = step (later m (omega arith) (omega arith)) (rest (omega arith))
     at (inr l) rest = let e : told ≡ suc m = omega arith in (ap v (sym e), λ h. subst meta (sym e) h)
@@ -55,20 +56,21 @@ content_raised meta cares v n told more dirty unsynced content later known low h
         let same = unchanged meta v told n m dirty later (omega arith) (omega arith) past_dirty in
         let here : meta told = same.1 (trees m (omega arith) h) in
         IsBetween-steady cares v told m more content h same.0
-            (known told (omega arith) (λ k a b. let e : told ≡ k = omega arith in subst meta e here)
-                (BeginsPast-less m told dirty (omega arith) past_dirty) (BeginsPast-less m told unsynced (omega arith) past_unsynced))
+        (known told (omega arith) (λ k a b. let e : told ≡ k = omega arith in subst meta e here)
+        (BeginsPast-less m told dirty (omega arith) past_dirty) (BeginsPast-less m told unsynced (omega arith) past_unsynced))
 
 pub BlockOk-raised : (meta : ℕ → Type 0) (cares : ℕ → Type 0) (v : ℕ → List ℕ) (n told more : ℕ) (block : Block) → told ≤ more → more ≤ n → BlockOk meta cares v n told block → BlockOk meta cares v n more block
 BlockOk-raised meta cares v n told more block low high ok = record {
-    seen_size = ok.seen_size;
-    sizes = ok.sizes;
-    readable = ok.readable;
-    shown = λ m h trees past. content_raised meta cares v n told more block.dirty None block.pages.seen ok.later (λ j a b c _. ok.shown j a b c) low high m h trees past tt;
-    pending = λ m h trees past_dirty past_unsynced j l. content_raised meta cares v n told more block.dirty block.unsynced (content_of block.pages j) ok.later (λ i a b c d. ok.pending i a b c d j l) low high m h trees past_dirty past_unsynced;
-    later = λ k a b. ok.later k (omega arith) b;
-    in_order = ok.in_order;
-    dirty_within = ok.dirty_within;
-    unsynced_within = ok.unsynced_within }
+  seen_size = ok.seen_size;
+  sizes = ok.sizes;
+  readable = ok.readable;
+  shown = λ m h trees past. content_raised meta cares v n told more block.dirty None block.pages.seen ok.later (λ j a b c _. ok.shown j a b c) low high m h trees past tt;
+  pending = λ m h trees past_dirty past_unsynced j l. content_raised meta cares v n told more block.dirty block.unsynced (content_of block.pages j) ok.later (λ i a b c d. ok.pending i a b c d j l) low high m h trees past_dirty past_unsynced;
+  later = λ k a b. ok.later k (omega arith) b;
+  in_order = ok.in_order;
+  dirty_within = ok.dirty_within;
+  unsynced_within = ok.unsynced_within;
+}
 
 -- ---- the history grows
 
@@ -88,6 +90,7 @@ later_extended meta meta' v w n told dirty dirty' ext later wider last k low hig
     known : k < n → LiesIn (suc k) dirty ⊎ ((v (suc k) ≡ v k) × (meta (suc k) → meta k)) → LiesIn (suc k) dirty' ⊎ ((w (suc k) ≡ w k) × (meta' (suc k) → meta' k))
     known l (inl lies) = inl (wider k l lies)
     known l (inr same) = inr (ext.same (suc k) (omega arith) ∙ same.0 ∙ sym (ext.same k (omega arith)), λ h. ext.there k (omega arith) (same.1 (ext.back (suc k) (omega arith) h)))
+
     at : (k < n) ⊎ (n ≤ k) → LiesIn (suc k) dirty' ⊎ ((w (suc k) ≡ w k) × (meta' (suc k) → meta' k))
     at (inl l) = known l (later k low l)
     at (inr l) =
@@ -99,15 +102,16 @@ later_extended meta meta' v w n told dirty dirty' ext later wider last k low hig
 pub BlockOk-grown : (meta meta' : ℕ → Type 0) (cares : ℕ → Type 0) (v w : ℕ → List ℕ) (n told : ℕ) (block : Block) → told ≤ n → Extends meta meta' v w n →
     (w (suc n) ≡ w n) × (meta' (suc n) → meta' n) → BlockOk meta cares v n told block → BlockOk meta' cares w (suc n) told block
 BlockOk-grown meta meta' cares v w n told block low ext steady ok = record {
-    seen_size = ok.seen_size;
-    sizes = ok.sizes;
-    readable = ok.readable;
-    shown = λ m h trees past. IsBetween-along cares v w m told block.pages.seen (λ k l. ext.same k (omega arith)) (ok.shown m h (λ k a b. ext.back k (omega arith) (trees k a b)) past);
-    pending = λ m h trees past_dirty past_unsynced j l. IsBetween-along cares v w m told (content_of block.pages j) (λ k l. ext.same k (omega arith)) (ok.pending m h (λ k a b. ext.back k (omega arith) (trees k a b)) past_dirty past_unsynced j l);
-    later = later_extended meta meta' v w n told block.dirty block.dirty ext ok.later (λ k l lies. lies) (inr steady);
-    in_order = ok.in_order;
-    dirty_within = SpansWithin-more n block.dirty ok.dirty_within;
-    unsynced_within = SpansWithin-more n block.unsynced ok.unsynced_within }
+  seen_size = ok.seen_size;
+  sizes = ok.sizes;
+  readable = ok.readable;
+  shown = λ m h trees past. IsBetween-along cares v w m told block.pages.seen (λ k l. ext.same k (omega arith)) (ok.shown m h (λ k a b. ext.back k (omega arith) (trees k a b)) past);
+  pending = λ m h trees past_dirty past_unsynced j l. IsBetween-along cares v w m told (content_of block.pages j) (λ k l. ext.same k (omega arith)) (ok.pending m h (λ k a b. ext.back k (omega arith) (trees k a b)) past_dirty past_unsynced j l);
+  later = later_extended meta meta' v w n told block.dirty block.dirty ext ok.later (λ k l lies. lies) (inr steady);
+  in_order = ok.in_order;
+  dirty_within = SpansWithin-more n block.dirty ok.dirty_within;
+  unsynced_within = SpansWithin-more n block.unsynced ok.unsynced_within;
+}
 
 -- an entry that touches it
 spanned-past : (m n : ℕ) (span : Option Span) → BeginsPast m (Some (spanned n span)) → BeginsPast m span
@@ -134,31 +138,33 @@ spanned-within n (Some span) h = (h.0, omega (arith, h.1), omega arith)
 pub BlockOk-dirtied : (meta meta' : ℕ → Type 0) (cares : ℕ → Type 0) (v w : ℕ → List ℕ) (n told : ℕ) (block : Block) → told ≤ n → Extends meta meta' v w n →
     BlockOk meta cares v n told block → BlockOk meta' cares w (suc n) told (dirtied (suc n) block)
 BlockOk-dirtied meta meta' cares v w n told block low ext ok = record {
-    seen_size = ok.seen_size;
-    sizes = ok.sizes;
-    readable = ok.readable;
-    shown = λ m h trees past. IsBetween-along cares v w m told block.pages.seen (λ k l. ext.same k (omega arith))
-        (ok.shown m h (λ k a b. ext.back k (omega arith) (trees k a b)) (spanned-past m (suc n) block.dirty past));
-    pending = λ m h trees past_dirty past_unsynced j l. IsBetween-along cares v w m told (content_of block.pages j) (λ k l. ext.same k (omega arith))
-        (ok.pending m h (λ k a b. ext.back k (omega arith) (trees k a b)) (spanned-past m (suc n) block.dirty past_dirty) past_unsynced j l);
-    later = later_extended meta meta' v w n told block.dirty (Some (spanned (suc n) block.dirty)) ext ok.later (λ k l lies. spanned-lies (suc k) (suc n) block.dirty (omega arith) lies) (inl (spanned-last n block.dirty ok.dirty_within));
-    in_order = spanned-order n block.unsynced block.dirty ok.unsynced_within ok.in_order;
-    dirty_within = spanned-within n block.dirty ok.dirty_within;
-    unsynced_within = SpansWithin-more n block.unsynced ok.unsynced_within }
+  seen_size = ok.seen_size;
+  sizes = ok.sizes;
+  readable = ok.readable;
+  shown = λ m h trees past. IsBetween-along cares v w m told block.pages.seen (λ k l. ext.same k (omega arith))
+      (ok.shown m h (λ k a b. ext.back k (omega arith) (trees k a b)) (spanned-past m (suc n) block.dirty past));
+  pending = λ m h trees past_dirty past_unsynced j l. IsBetween-along cares v w m told (content_of block.pages j) (λ k l. ext.same k (omega arith))
+      (ok.pending m h (λ k a b. ext.back k (omega arith) (trees k a b)) (spanned-past m (suc n) block.dirty past_dirty) past_unsynced j l);
+  later = later_extended meta meta' v w n told block.dirty (Some (spanned (suc n) block.dirty)) ext ok.later (λ k l lies. spanned-lies (suc k) (suc n) block.dirty (omega arith) lies) (inl (spanned-last n block.dirty ok.dirty_within));
+  in_order = spanned-order n block.unsynced block.dirty ok.unsynced_within ok.in_order;
+  dirty_within = spanned-within n block.dirty ok.dirty_within;
+  unsynced_within = SpansWithin-more n block.unsynced ok.unsynced_within;
+}
 
 -- ---- writes
 
 pub BlockOk-synced : (meta : ℕ → Type 0) (cares : ℕ → Type 0) (v : ℕ → List ℕ) (n told : ℕ) (block : Block) → BlockOk meta cares v n told block → BlockOk meta cares v n told (synced block)
 BlockOk-synced meta cares v n told block ok = record {
-    seen_size = ok.seen_size;
-    sizes = λ j l. only_seen (λ (c : List ℕ). length c ≡ 4096) ok.seen_size j l;
-    readable = (0, omega arith, refl);
-    shown = ok.shown;
-    pending = λ m h trees past_dirty past_unsynced j l. only_seen (IsBetween cares v m told) (ok.shown m h trees past_dirty) j l;
-    later = ok.later;
-    in_order = tt;
-    dirty_within = ok.dirty_within;
-    unsynced_within = tt }
+  seen_size = ok.seen_size;
+  sizes = λ j l. only_seen (λ (c : List ℕ). length c ≡ 4096) ok.seen_size j l;
+  readable = (0, omega arith, refl);
+  shown = ok.shown;
+  pending = λ m h trees past_dirty past_unsynced j l. only_seen (IsBetween cares v m told) (ok.shown m h trees past_dirty) j l;
+  later = ok.later;
+  in_order = tt;
+  dirty_within = ok.dirty_within;
+  unsynced_within = tt;
+}
   where
     only_seen : (P : List ℕ → Type 0) → P block.pages.seen → (j : ℕ) → j ≤ 0 → P (content_of (synced block).pages j)
     only_seen P h zero l = h
@@ -182,17 +188,18 @@ pub BlockOk-sent : (meta : ℕ → Type 0) (cares : ℕ → Type 0) (v : ℕ →
     BlockOk meta cares v n told (sent_home bytes (record { pages = pages; dirty = dirty; unsynced = unsynced }))
 BlockOk-sent meta cares v n told bytes pages None unsynced there ends same size ok = absurd (cc)
 BlockOk-sent meta cares v n told bytes pages (Some dirty) unsynced there ends same size ok = record {
-    seen_size = size;
-    sizes = all_contents (λ (c : List ℕ). length c ≡ 4096) pages bytes (bytes ∷ []) ok.sizes (one_content (λ (c : List ℕ). length c ≡ 4096) bytes size);
-    readable = (suc (length pages.writes), omega (arith, length_push pages.writes bytes), sym (get_or_push pages.writes bytes [] (length pages.writes) refl));
-    shown = λ m h trees past. IsBetween-exact cares v m told bytes h same;
-    pending = λ m h trees past_dirty past_unsynced.
-        let past = joined-past m unsynced dirty ok.in_order past_unsynced in
-        all_contents (IsBetween cares v m told) pages bytes (bytes ∷ []) (ok.pending m h trees past.0 past.1) (one_content (IsBetween cares v m told) bytes (IsBetween-exact cares v m told bytes h same));
-    later = λ k low high. inr (none_later k low high (ok.later k low high));
-    in_order = joined-order unsynced dirty;
-    dirty_within = tt;
-    unsynced_within = joined-within n unsynced dirty ok.unsynced_within ok.dirty_within }
+  seen_size = size;
+  sizes = all_contents (λ (c : List ℕ). length c ≡ 4096) pages bytes (bytes ∷ []) ok.sizes (one_content (λ (c : List ℕ). length c ≡ 4096) bytes size);
+  readable = (suc (length pages.writes), omega (arith, length_push pages.writes bytes), sym (get_or_push pages.writes bytes [] (length pages.writes) refl));
+  shown = λ m h trees past. IsBetween-exact cares v m told bytes h same;
+  pending = λ m h trees past_dirty past_unsynced.
+      let past = joined-past m unsynced dirty ok.in_order past_unsynced in
+      all_contents (IsBetween cares v m told) pages bytes (bytes ∷ []) (ok.pending m h trees past.0 past.1) (one_content (IsBetween cares v m told) bytes (IsBetween-exact cares v m told bytes h same));
+  later = λ k low high. inr (none_later k low high (ok.later k low high));
+  in_order = joined-order unsynced dirty;
+  dirty_within = tt;
+  unsynced_within = joined-within n unsynced dirty ok.unsynced_within ok.dirty_within;
+}
   where
     none_later : (k : ℕ) → told ≤ k → k < n → LiesIn (suc k) (Some dirty) ⊎ ((v (suc k) ≡ v k) × (meta (suc k) → meta k)) → (v (suc k) ≡ v k) × (meta (suc k) → meta k)
     none_later k low high (inl lies) = absurd (omega (arith, lies.1, leb-true dirty.last told ends))
@@ -204,16 +211,17 @@ BlockOk-failed meta cares v n told sectors bytes block few same size ok =
     let left = torn sectors bytes block.pages.seen in
     let left_size : length left ≡ 4096 = length-torn sectors bytes block.pages.seen size ok.seen_size few in
     let shown = λ (m : ℕ) (h : m ≤ told) (trees : Throughout meta m told) (past : BeginsPast m block.dirty).
-        IsBetween-torn cares v m told sectors bytes block.pages.seen size few (IsBetween-exact cares v m told bytes h same) (ok.shown m h trees past) in
+    IsBetween-torn cares v m told sectors bytes block.pages.seen size few (IsBetween-exact cares v m told bytes h same) (ok.shown m h trees past) in
     record {
-        seen_size = left_size;
-        sizes = all_contents (λ (c : List ℕ). length c ≡ 4096) block.pages left (left ∷ bytes ∷ []) ok.sizes (two_contents (λ (c : List ℕ). length c ≡ 4096) left bytes left_size size);
-        readable = (suc (length block.pages.writes), omega (arith, length-append block.pages.writes (left ∷ bytes ∷ [])), sym (get_or_at block.pages.writes left (bytes ∷ []) [] (length block.pages.writes) refl));
-        shown = shown;
-        pending = λ m h trees past_dirty past_unsynced. all_contents (IsBetween cares v m told) block.pages left (left ∷ bytes ∷ [])
-            (ok.pending m h trees past_dirty past_unsynced)
-            (two_contents (IsBetween cares v m told) left bytes (shown m h trees past_dirty) (IsBetween-exact cares v m told bytes h same));
-        later = ok.later;
-        in_order = ok.in_order;
-        dirty_within = ok.dirty_within;
-        unsynced_within = ok.unsynced_within }
+      seen_size = left_size;
+      sizes = all_contents (λ (c : List ℕ). length c ≡ 4096) block.pages left (left ∷ bytes ∷ []) ok.sizes (two_contents (λ (c : List ℕ). length c ≡ 4096) left bytes left_size size);
+      readable = (suc (length block.pages.writes), omega (arith, length-append block.pages.writes (left ∷ bytes ∷ [])), sym (get_or_at block.pages.writes left (bytes ∷ []) [] (length block.pages.writes) refl));
+      shown = shown;
+      pending = λ m h trees past_dirty past_unsynced. all_contents (IsBetween cares v m told) block.pages left (left ∷ bytes ∷ [])
+          (ok.pending m h trees past_dirty past_unsynced)
+          (two_contents (IsBetween cares v m told) left bytes (shown m h trees past_dirty) (IsBetween-exact cares v m told bytes h same));
+      later = ok.later;
+      in_order = ok.in_order;
+      dirty_within = ok.dirty_within;
+      unsynced_within = ok.unsynced_within;
+    }

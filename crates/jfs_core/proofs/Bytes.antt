@@ -1,6 +1,6 @@
 -- What transactions do to a byte of the image.
-use Rattle.std.proofs.Common.{◌≡◌, ◌<◌, ◌≤◌, ◌⊎◌, ◌+◌, ◌-◌, ◌*◌, ℕ, zero, suc, Bool, true, false, ◌||◌, nat_le, if◌then◌else◌, List, [], ◌∷◌, ◌++◌, length, take, drop, get_or, refl, sym, ap, ◌∙◌, subst, inl, inr, arith}
-use Rattle.std.proofs.lemmas.Bool.{cases_lt, cases_Bool, cond-true, cond-false, le-leb, lt-leb, or_parts}
+use Rattle.std.proofs.Common.{◌≡◌, ◌<◌, ◌≤◌, ◌⊎◌, ◌+◌, ◌-◌, ◌*◌, ℕ, zero, suc, false, nat_le, List, [], ◌∷◌, ◌++◌, length, take, drop, get_or, refl, sym, ap, ◌∙◌, inl, inr, arith}
+use Rattle.std.proofs.lemmas.Bool.{cases_lt, cond-true, cond-false, le-leb, lt-leb, or_parts}
 use Rattle.std.proofs.lemmas.List.{get_or_default, get_or_past, take-take, take-append-drop, drop-append-le, length-take-le}
 use Rattle.jfs_disk.specs.Image.{Image, page_of}
 use Rattle.jfs_ranges.specs.declared.edit.Edit.{Edit}
@@ -129,6 +129,7 @@ after_cases at new place = within (cases_lt place at)
     inside : at ≤ place → (place - at < length new) ⊎ (length new ≤ place - at) → CoversOrPasses (byte_after at new place)
     inside h (inl l) = inl (λ x y. cond-true (nat_le at place) (get_or new (place - at) x) x (le-leb at place h) ∙ get_or_default new (place - at) x y l ∙ sym (cond-true (nat_le at place) (get_or new (place - at) y) y (le-leb at place h)))
     inside h (inr l) = inr (λ x. cond-true (nat_le at place) (get_or new (place - at) x) x (le-leb at place h) ∙ get_or_past new (place - at) x l)
+
     within : (place < at) ⊎ (at ≤ place) → CoversOrPasses (byte_after at new place)
     within (inl l) = inr (λ x. cond-false (nat_le at place) (get_or new (place - at) x) x (lt-leb at place l))
     within (inr l) = inside l (cases_lt (place - at) (length new))

@@ -17,6 +17,7 @@ torn-cell s a b cell ea h = at (cases_lt cell (32 * s))
   where
     front : length (take (512 * s) a) ≡ 512 * s
     front = length-take-le (512 * s) a (omega arith)
+
     at : (cell < 32 * s) ⊎ (32 * s ≤ cell) → SameCell (take (512 * s) a ++ drop (512 * s) b) a cell ⊎ SameCell (take (512 * s) a ++ drop (512 * s) b) b cell
     at (inl l) = inl (λ i w.
         get_or_append_left (take (512 * s) a) (drop (512 * s) b) 0 (16 * cell + i) (omega (arith, front))
@@ -72,7 +73,9 @@ IsBetween-exact cares v m told content h e =
 -- between told and told, where nothing changes from there on to m
 pub IsBetween-steady : (cares : ℕ → Type 0) (v : ℕ → List ℕ) (told m more : ℕ) (content : List ℕ) → m ≤ more → v m ≡ v told → IsBetween cares v told told content → IsBetween cares v m more content
 IsBetween-steady cares v told m more content h e b =
-    record { each = λ cell l c.
-        let x = b.each cell l c in
-        let k : x.0 ≡ told = omega (arith, x.1, x.2) in
-        (m, omega arith, h, λ i q. x.3 i q ∙ ap (λ (z : List ℕ). get_or z (16 * cell + i) 0) (ap v k ∙ sym e)) }
+    record {
+      each = λ cell l c.
+          let x = b.each cell l c in
+          let k : x.0 ≡ told = omega (arith, x.1, x.2) in
+          (m, omega arith, h, λ i q. x.3 i q ∙ ap (λ (z : List ℕ). get_or z (16 * cell + i) 0) (ap v k ∙ sym e));
+    }

@@ -1,14 +1,14 @@
 -- Items read from lists, in loops that go over them.
-use Rattle.std.proofs.Common.{false, ◌≡◌, ◌<◌, ◌≤◌, ◌⊎◌, inl, inr, ◌+◌, ℕ, zero, suc, List, [], ◌∷◌, ◌++◌, length, take, drop, get_or, map, Option, Some, None, Bor, refl, sym, ap, ◌∙◌, subst, append_assoc, arith}
+use Rattle.std.proofs.Common.{false, ◌≡◌, ◌<◌, ◌≤◌, ◌⊎◌, inl, inr, ◌+◌, ℕ, List, [], ◌∷◌, ◌++◌, length, take, drop, map, Option, Some, None, Bor, refl, sym, ap, ◌∙◌, subst, append_assoc, arith}
 use Rattle.std.specs.Option.{option_copied}
 use Rattle.std.specs.Prelude.{slice_get}
 use Rattle.std.proofs.lemmas.Option.{get_or_from_slice_get, slice_get_within}
-use Rattle.std.proofs.lemmas.List.{get_or-map, map_push, take_more, take_all, length-map, drop_all, append-nil}
+use Rattle.std.proofs.lemmas.List.{get_or-map, map_push, take_more, take_all, drop_all, append-nil}
 use Rattle.std.proofs.lemmas.Bool.{cases_lt}
-use Rattle.jfs_disk.specs.Image.{Image, page_of, ArePages}
+use Rattle.jfs_disk.specs.Image.{Image, page_of}
 use Rattle.jfs_disk.specs.declared.page.Page.{Page}
 use Rattle.jfs_ranges.proofs.Overlaid.{drop-slice_get, no_item}
-use Rattle.jfs_core.specs.Core.{Block, Core, fresh_block, fresh_core}
+use Rattle.jfs_core.specs.Core.{Block, fresh_block, fresh_core}
 use Rattle.jfs_disk.specs.Pages.{contents}
 use Rattle.jfs_core.specs.Image.{History}
 
@@ -36,6 +36,11 @@ page_of-contents pages i page h =
 pub contents-push : (pages after : List Page) (page : Page) → after ≡ pages ++ page ∷ [] → contents after ≡ contents pages ++ page.0 ∷ []
 contents-push pages after page e = ap (λ (ps : List Page). contents ps) e ∙ map_push (λ (p : Page). p.0) pages page
 
+pub fresh-push : (before after : List Block) (slot : Block) (bytes page : List ℕ) → after ≡ before ++ slot ∷ [] → slot ≡ fresh_block bytes → page ≡ bytes → after ≡ before ++ fresh_block page ∷ []
+fresh-push before after slot bytes page e f same =
+    let whole : slot ≡ fresh_block page = f ∙ ap fresh_block (sym same) in
+    rw whole at e
+
 -- the first i pages are mounted
 pub record AreMounted (low : Image) (i : ℕ) (mounted : Image) (blocks : List Block) : Type 0 where
   pub images : mounted ≡ take i low
@@ -47,9 +52,10 @@ pub AreMounted-more : (low : Image) (i : ℕ) (mounted more : Image) (blocks aft
 AreMounted-more low i mounted more blocks after h are e f size =
     let next = take_more low i [] h in
     record {
-        images = e ∙ ap (λ (xs : Image). xs ++ page_of low i ∷ []) are.images ∙ sym next;
-        fresh = f ∙ ap (λ (xs : List Block). xs ++ fresh_block (page_of low i) ∷ []) are.fresh ∙ sym (map_push fresh_block (take i low) (page_of low i)) ∙ ap (λ (xs : Image). map fresh_block xs) (sym next);
-        sizes = λ k l. at k (cases_lt k i) l }
+      images = e ∙ ap (λ (xs : Image). xs ++ page_of low i ∷ []) are.images ∙ sym next;
+      fresh = f ∙ ap (λ (xs : List Block). xs ++ fresh_block (page_of low i) ∷ []) are.fresh ∙ sym (map_push fresh_block (take i low) (page_of low i)) ∙ ap (λ (xs : Image). map fresh_block xs) (sym next);
+      sizes = λ k l. at k (cases_lt k i) l;
+    }
   where
     at : (k : ℕ) → (k < i) ⊎ (i ≤ k) → k < i + 1 → length (page_of low k) ≡ 4096
     at k (inl l) w = are.sizes k l

@@ -1,7 +1,7 @@
 -- Pages that the code computes.
-use Rattle.std.proofs.Common.{◌≡◌, ◌<◌, ◌≤◌, ℕ, List, length, take, refl, sym, ap, ◌∙◌, arith}
+use Rattle.std.proofs.Common.{◌≡◌, ◌<◌, ℕ, List, length, take, sym, ◌∙◌, arith}
 use Rattle.jfs_disk.specs.Image.{Image, page_of}
-use Rattle.jfs_core.specs.Image.{History, image_after, page_after}
+use Rattle.jfs_core.specs.Image.{History, page_after}
 use Rattle.jfs_core.specs.Core.{Core}
 use Rattle.jfs_core.specs.Step.{told_page}
 use Rattle.jfs_core.specs.Sound.{IsKept}

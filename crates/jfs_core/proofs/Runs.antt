@@ -1,6 +1,6 @@
 -- A run goes on by one step.
-use Rattle.std.proofs.Common.{◌≡◌, ◌<◌, ◌≤◌, ◌+◌, ℕ, zero, suc, List, [], ◌∷◌, ◌++◌, length, take, get_or, refl, sym, ap, ◌∙◌, subst, arith}
-use Rattle.std.proofs.lemmas.List.{take_more, take_all}
+use Rattle.std.proofs.Common.{◌≡◌, ◌<◌, ◌+◌, ℕ, List, [], ◌∷◌, ◌++◌, length, take, get_or, refl, sym, ap, ◌∙◌, subst}
+use Rattle.std.proofs.lemmas.List.{take_more}
 use Rattle.jfs_core.specs.declared.step.Step.{Step}
 use Rattle.jfs_core.specs.Core.{Core}
 use Rattle.jfs_core.specs.Step.{IsAllowed, AreAllowed, does, after_steps}
@@ -20,5 +20,6 @@ LeadsTo-more old steps i mid new step h read leads is e =
     let next : take (i + 1) steps ≡ take i steps ++ step ∷ [] = take_more steps i step h ∙ ap (λ (s : Step). take i steps ++ s ∷ []) (sym read) in
     let here : IsAllowed (after_steps old (take i steps)) step = subst (λ (c : Core). IsAllowed c step) leads.state is in
     record {
-        allowed = subst (λ (list : List Step). AreAllowed old list) (sym next) (AreAllowed-push old (take i steps) step leads.allowed here);
-        state = e ∙ ap (λ (c : Core). does c step) leads.state ∙ sym (ap (λ (list : List Step). after_steps old list) next ∙ after_steps-push old (take i steps) step) }
+      allowed = subst (λ (list : List Step). AreAllowed old list) (sym next) (AreAllowed-push old (take i steps) step leads.allowed here);
+      state = e ∙ ap (λ (c : Core). does c step) leads.state ∙ sym (ap (λ (list : List Step). after_steps old list) next ∙ after_steps-push old (take i steps) step);
+    }

@@ -1,5 +1,5 @@
 -- Every list of allowed steps keeps a sound core sound.
-use Rattle.std.proofs.Common.{append_assoc, map, set, ◌≡◌, ◌<◌, ◌≤◌, ◌⊎◌, ◌^◌, ℕ, zero, suc, Bool, true, false, not, ◌&&◌, ◌||◌, if◌then◌else◌, nat_le, List, [], ◌∷◌, ◌++◌, length, take, get_or, Option, Some, None, is_some, refl, sym, ap, ◌∙◌, subst, inl, inr, arith}
+use Rattle.std.proofs.Common.{append_assoc, map, set, ◌≡◌, ◌<◌, ◌≤◌, ◌⊎◌, ◌^◌, ℕ, zero, suc, true, false, ◌&&◌, nat_le, List, [], ◌∷◌, ◌++◌, length, take, get_or, Option, Some, None, is_some, refl, sym, ap, ◌∙◌, subst, inl, inr, arith}
 use Rattle.std.proofs.lemmas.Bool.{cases_Bool, cond-true, cond-false, and_parts, leb-true}
 use Rattle.std.proofs.lemmas.List.{append-nil, take_at, length-map, get_or-map}
 use Rattle.std.specs.Cmp.Lexicographic.{bytes_decides}
@@ -7,8 +7,6 @@ use Rattle.jfs_disk.specs.Image.{Image, page_of, ArePages}
 use Rattle.jfs_disk.specs.Crash.{IsCrashImage, content_of}
 use Rattle.jfs_disk.specs.declared.disk.Fault.{Fault}
 use Rattle.jfs_disk.specs.declared.page.Page.{Page}
-use Rattle.jfs_ranges.specs.declared.edit.Edit.{Edit}
-use Rattle.jfs_core.specs.declared.step.Why.{Why}
 use Rattle.jfs_core.specs.declared.step.Why.TheVariants as whys
 use Rattle.jfs_core.specs.declared.step.FaultOf.TheVariants as faults
 use Rattle.jfs_core.specs.declared.step.Step.{Step}
@@ -33,20 +31,21 @@ passes c cs h = at (cases_Bool c.holds)
 -- which part has halted doesn't matter
 kept_halted : (core : Core) (low log : Option Fault) → IsKept core → IsKept (record core { low_halted = low; log_halted = log })
 kept_halted core low log kept = record {
-    told = kept.told;
-    durable = kept.durable;
-    taken = kept.taken;
-    newest = kept.newest;
-    rising = kept.rising;
-    mount = kept.mount;
-    front = kept.front;
-    stable = kept.stable;
-    points = kept.points;
-    closed = kept.closed;
-    pages = kept.pages;
-    few = kept.few;
-    blocks = kept.blocks;
-    passed = kept.passed }
+  told = kept.told;
+  durable = kept.durable;
+  taken = kept.taken;
+  newest = kept.newest;
+  rising = kept.rising;
+  mount = kept.mount;
+  front = kept.front;
+  stable = kept.stable;
+  points = kept.points;
+  closed = kept.closed;
+  pages = kept.pages;
+  few = kept.few;
+  blocks = kept.blocks;
+  passed = kept.passed;
+}
 
 home_step : (core : Core) (page : ℕ) → IsAllowed core (steps.Home page) → IsKept core → IsKept (does core (steps.Home page))
 home_step core page allowed kept =
@@ -68,7 +67,7 @@ failed_step core fault page bytes sectors allowed kept =
     let more = and_parts (may_go_home core page) (same_bytes bytes.0 (told_page core page)) parts.1 in
     let written = record core { blocks = set core.blocks page (failed_home bytes.0 sectors (block_of core page)) } in
     kept_halted written (halted_by fault core.low_halted) core.log_halted
-        (kept_failed core page sectors bytes.0 (leb-true sectors 8 parts.0) ((bytes_decides bytes.0 (told_page core page)).0 more.1) kept)
+    (kept_failed core page sectors bytes.0 (leb-true sectors 8 parts.0) ((bytes_decides bytes.0 (told_page core page)).0 more.1) kept)
 
 pub kept_step : (core : Core) (step : Step) → IsAllowed core step → IsKept core → IsKept (does core step)
 kept_step core (steps.Append tx) allowed kept = kept_append core tx kept
@@ -94,19 +93,21 @@ sound_steps core (step ∷ rest) allowed sound = sound_steps (does core step) re
 
 fresh_ok : (image : Image) (p : ℕ) → length (page_of image p) ≡ 4096 → BlockOk always always (page_at (fresh_core image) p) 0 0 (fresh_block (page_of image p))
 fresh_ok image p size = record {
-    seen_size = size;
-    sizes = λ j l. only (λ (c : List ℕ). length c ≡ 4096) size j l;
-    readable = (0, omega arith, refl);
-    shown = λ m h trees past. same m h;
-    pending = λ m h trees past_dirty past_unsynced j l. only (IsBetween always (page_at (fresh_core image) p) m 0) (same m h) j l;
-    later = λ k low high. absurd (omega arith);
-    in_order = tt;
-    dirty_within = tt;
-    unsynced_within = tt }
+  seen_size = size;
+  sizes = λ j l. only (λ (c : List ℕ). length c ≡ 4096) size j l;
+  readable = (0, omega arith, refl);
+  shown = λ m h trees past. same m h;
+  pending = λ m h trees past_dirty past_unsynced j l. only (IsBetween always (page_at (fresh_core image) p) m 0) (same m h) j l;
+  later = λ k low high. absurd (omega arith);
+  in_order = tt;
+  dirty_within = tt;
+  unsynced_within = tt;
+}
   where
     only : (P : List ℕ → Type 0) → P (page_of image p) → (j : ℕ) → j ≤ 0 → P (content_of (fresh_block (page_of image p)).pages j)
     only P h zero l = h
     only P h (suc j) l = absurd (omega arith)
+
     same : (m : ℕ) → m ≤ 0 → IsBetween always (page_at (fresh_core image) p) m 0 (page_of image p)
     same m h = IsBetween-exact always (page_at (fresh_core image) p) m 0 (page_of image p) h refl
 
@@ -115,20 +116,21 @@ sound_fresh image pages few =
     let size : length (map fresh_block image) ≡ length image = length-map image fresh_block in
     let here = λ (p : ℕ) (h : p < length (map fresh_block image)). get_or-map fresh_block image p [] no_block (omega (arith, size, h)) in
     sound_from_kept (fresh_core image) (record {
-        told = omega arith;
-        durable = omega arith;
-        taken = omega arith;
-        newest = omega arith;
-        rising = λ i j l w. let e : i ≡ j = omega arith in subst (λ (x : ℕ). get_or (0 ∷ []) i 0 ≤ get_or (0 ∷ []) x 0) e (omega arith);
-        mount = omega arith;
-        front = refl;
-        stable = omega arith;
-        points = omega arith;
-        closed = λ e. (refl, refl);
-        pages = subst (λ (count : ℕ). ArePages count image) (sym size) pages;
-        few = omega (arith, few, size);
-        blocks = λ p h. subst (λ (b : Block). BlockOk always always (page_at (fresh_core image) p) 0 0 b) (sym (here p h)) (fresh_ok image p (pages.sizes p (omega (arith, size, h))));
-        passed = λ p h. subst (λ (b : Block). BeginsPast 0 b.dirty × BeginsPast 0 b.unsynced) (sym (here p h)) (tt, tt) })
+      told = omega arith;
+      durable = omega arith;
+      taken = omega arith;
+      newest = omega arith;
+      rising = λ i j l w. let e : i ≡ j = omega arith in subst (λ (x : ℕ). get_or (0 ∷ []) i 0 ≤ get_or (0 ∷ []) x 0) e (omega arith);
+      mount = omega arith;
+      front = refl;
+      stable = omega arith;
+      points = omega arith;
+      closed = λ e. (refl, refl);
+      pages = subst (λ (count : ℕ). ArePages count image) (sym size) pages;
+      few = omega (arith, few, size);
+      blocks = λ p h. subst (λ (b : Block). BlockOk always always (page_at (fresh_core image) p) 0 0 b) (sym (here p h)) (fresh_ok image p (pages.sizes p (omega (arith, size, h))));
+      passed = λ p h. subst (λ (b : Block). BeginsPast 0 b.dirty × BeginsPast 0 b.unsynced) (sym (here p h)) (tt, tt);
+    })
 
 -- ---- the law
 
@@ -184,6 +186,7 @@ told_survive core list sound allowed low c n crash log =
     let kept = sound_steps core list allowed sound in
     let grows = steps_grow core list in
     record {
-        acknowledged = omega (arith, steps_rise core list allowed sound, kept.kept.told, log.durable);
-        history = ap (λ (h : History). take (length core.history) h) grows.1 ∙ take_at core.history grows.0 (length core.history) refl;
-        recovered = always_recovers after kept low c n crash log }
+      acknowledged = omega (arith, steps_rise core list allowed sound, kept.kept.told, log.durable);
+      history = ap (λ (h : History). take (length core.history) h) grows.1 ∙ take_at core.history grows.0 (length core.history) refl;
+      recovered = always_recovers after kept low c n crash log;
+    }

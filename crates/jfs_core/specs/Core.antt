@@ -1,6 +1,6 @@
 -- The core's state.
 use Rattle.std.specs.Prelude.{ℕ, ◌-◌, Bool, false, List, [], ◌∷◌, map, get_or, length, take, Option, None}
-use Rattle.jfs_disk.specs.Image.{Image, page_of}
+use Rattle.jfs_disk.specs.Image.{Image}
 use Rattle.jfs_disk.specs.Crash.{PageHistory, DiskState, no_page}
 use Rattle.jfs_disk.specs.declared.disk.Fault.{Fault}
 use Rattle.jfs_core.specs.declared.block.Span.{Span}
@@ -61,7 +61,16 @@ fresh_block bytes = record { pages = record { seen = bytes; stable = bytes; writ
 -- the core of a volume that was just mounted
 abbrev pub fresh_core : Image → Core
 fresh_core image = record {
-    mounted = image; history = [];
-    taken = 0; durable = 0; told = 0; grouped = false;
-    syncpoints = 0 ∷ []; points_taken = 1; points_stable = 1;
-    blocks = map fresh_block image; low_halted = None; log_halted = None }
+  mounted = image;
+  history = [];
+  taken = 0;
+  durable = 0;
+  told = 0;
+  grouped = false;
+  syncpoints = 0 ∷ [];
+  points_taken = 1;
+  points_stable = 1;
+  blocks = map fresh_block image;
+  low_halted = None;
+  log_halted = None;
+}

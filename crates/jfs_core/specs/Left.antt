@@ -1,7 +1,7 @@
 -- One crash of a core, by choices.
-use Rattle.std.specs.Prelude.{◌≡◌, ◌≤◌, ℕ, suc, ◌-◌, Bool, ◌&&◌, nat_le, List, [], ◌∷◌, length, get_or, drop, take, Option, Some, None, if◌then◌else◌}
+use Rattle.std.specs.Prelude.{◌≡◌, ℕ, suc, ◌-◌, Bool, ◌&&◌, nat_le, List, [], ◌∷◌, get_or, drop, take}
 use Rattle.jfs_disk.specs.Image.{Image}
-use Rattle.jfs_disk.specs.Crash.{DiskState, IsCrashImage}
+use Rattle.jfs_disk.specs.Crash.{IsCrashImage}
 use Rattle.jfs_disk.specs.Choice.{left_by, choice_of, IsChosen}
 use Rattle.jfs_disk.specs.declared.choice.Choice.{Choice}
 use Rattle.jfs_core.specs.Image.{History, image_after, page_after}

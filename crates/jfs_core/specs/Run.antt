@@ -1,5 +1,5 @@
 -- A run of steps, and how it ends.
-use Rattle.std.specs.Prelude.{◌≡◌, ◌<◌, ℕ, List, length, take, slice_get, Option, Some, Result, Ok, Err}
+use Rattle.std.specs.Prelude.{◌≡◌, ◌<◌, ℕ, List, length, take, slice_get, Some, Result, Ok, Err}
 use Rattle.jfs_core.specs.declared.step.RunError.{RunError}
 use Rattle.jfs_core.specs.declared.step.RunError.TheVariants.{Refused, Memory}
 use Rattle.jfs_core.specs.declared.step.Step.{Step}

@@ -1,5 +1,5 @@
 -- The sound core, and what a crash leaves of it.
-use Rattle.std.specs.Prelude.{◌≡◌, ◌<◌, ◌≤◌, ◌⊎◌, ℕ, suc, ◌+◌, ◌-◌, ◌*◌, ◌^◌, Bool, true, false, List, length, get_or, take, drop, Option, Some, None}
+use Rattle.std.specs.Prelude.{◌≡◌, ◌<◌, ◌≤◌, ◌⊎◌, ℕ, suc, ◌+◌, ◌*◌, ◌^◌, false, List, length, get_or, take, drop, Option, Some, None}
 use Rattle.jfs_disk.specs.Image.{Image, page_of, ArePages}
 use Rattle.jfs_disk.specs.Crash.{IsCrashImage, content_of}
 use Rattle.jfs_core.specs.declared.block.Span.{Span}
@@ -46,20 +46,15 @@ Throughout fact m n = (k : ℕ) → m ≤ k → k ≤ n → fact k
 pub record BlockOk (meta : ℕ → Type 0) (cares : ℕ → Type 0) (v : ℕ → List ℕ) (n told : ℕ) (block : Block) : Type 0 where
   pub seen_size : length block.pages.seen ≡ 4096
   pub sizes : (j : ℕ) → j ≤ length block.pages.writes → length (content_of block.pages j) ≡ 4096
-
   -- a read gives one of the contents that a crash may leave
   pub readable : (j : ℕ) × (j ≤ length block.pages.writes) × (block.pages.seen ≡ content_of block.pages j)
-
   -- a read gives what the block had after entries from m on, where it holds the first m entries
   pub shown : (m : ℕ) → m ≤ told → Throughout meta m told → BeginsPast m block.dirty → IsBetween cares v m told block.pages.seen
-
   -- and so does each content that a crash may leave, where it holds them stable
   pub pending : (m : ℕ) → m ≤ told → Throughout meta m told → BeginsPast m block.dirty → BeginsPast m block.unsynced →
       (j : ℕ) → j ≤ length block.pages.writes → IsBetween cares v m told (content_of block.pages j)
-
   -- an entry that isn't acknowledged changes the block only where it is dirty since
   pub later : (k : ℕ) → told ≤ k → k < n → LiesIn (suc k) block.dirty ⊎ ((v (suc k) ≡ v k) × (meta (suc k) → meta k))
-
   pub in_order : BeginInOrder block.unsynced block.dirty
   pub dirty_within : SpansWithin n block.dirty
   pub unsynced_within : SpansWithin n block.unsynced
@@ -90,14 +85,11 @@ pub record IsKept (core : Core) : Type 0 where
   pub front : get_or core.syncpoints 0 0 ≡ 0
   pub stable : core.points_stable ≤ core.points_taken
   pub points : core.points_taken ≤ length core.syncpoints
-
   -- where no group is open, each log image has all that was taken
   pub closed : core.grouped ≡ false → (core.taken ≡ core.durable) × (core.points_taken ≡ core.points_stable)
-
   pub pages : ArePages (length core.blocks) core.mounted
   -- a page has a u32 number
   pub few : length core.blocks < 2 ^ 32
-
   -- The two parts that make the whole inductive: what each block holds, and that the newest sync count passes no page
   -- that isn't stable.
   pub blocks : (p : ℕ) → p < length core.blocks → BlockOk always always (page_at core p) (length core.history) core.told (block_of core p)

@@ -1,8 +1,8 @@
 -- The core's steps: when each is allowed, and what it does.
-use Rattle.std.specs.Prelude.{ℕ, ◌+◌, suc, Bool, true, false, not, ◌&&◌, ◌||◌, if◌then◌else◌, nat_le, nat_eq, List, [], ◌∷◌, ◌++◌, length, map, set, Option, Some, None, is_some, ◌≡◌}
+use Rattle.std.specs.Prelude.{ℕ, suc, Bool, true, false, not, ◌&&◌, ◌||◌, if◌then◌else◌, nat_le, nat_eq, List, [], ◌∷◌, ◌++◌, length, map, set, Option, Some, None, is_some, ◌≡◌}
 use Rattle.std.specs.Cmp.Lexicographic.{pointwise}
-use Rattle.jfs_disk.specs.Image.{Image, page_of}
-use Rattle.jfs_disk.specs.Crash.{PageHistory, torn}
+use Rattle.jfs_disk.specs.Image.{page_of}
+use Rattle.jfs_disk.specs.Crash.{torn}
 use Rattle.jfs_disk.specs.declared.disk.Fault.{Fault}
 use Rattle.jfs_ranges.specs.declared.edit.Edit.{Edit}
 use Rattle.jfs_ranges.specs.Apply.{touches_tx}
@@ -109,9 +109,10 @@ joined (Some old) (Some dirty) = Some (record { first = old.first; last = dirty.
 -- A low write of these bytes. The page isn't dirty any more; it is unsynced, since its first entry that was so before.
 abbrev pub sent_home : List ℕ → Block → Block
 sent_home bytes block = record {
-    pages = record block.pages { seen = bytes; writes = block.pages.writes ++ bytes ∷ [] };
-    dirty = None;
-    unsynced = joined block.unsynced block.dirty }
+  pages = record block.pages { seen = bytes; writes = block.pages.writes ++ bytes ∷ [] };
+  dirty = None;
+  unsynced = joined block.unsynced block.dirty;
+}
 
 -- a low write that failed: pending, and before it what a read then gives
 abbrev pub failed_home : List ℕ → ℕ → Block → Block
@@ -140,8 +141,9 @@ does core (steps.Fault fault faults.Read) = core
 does core (steps.Fault fault faults.LowSync) = record core { low_halted = halted_by fault core.low_halted }
 does core (steps.Fault fault faults.GroupWrite) = record core { log_halted = halted_by fault core.log_halted }
 does core (steps.Fault fault (faults.LowWrite page bytes sectors)) = record core {
-    blocks = set core.blocks page (failed_home bytes.0 sectors (block_of core page));
-    low_halted = halted_by fault core.low_halted }
+  blocks = set core.blocks page (failed_home bytes.0 sectors (block_of core page));
+  low_halted = halted_by fault core.low_halted;
+}
 
 -- ---- runs
 

@@ -88,7 +88,9 @@ impl CoreState {
                 bytes,
                 sectors,
             } => {
-                let may = *sectors <= 8 && self.may_go_home(*page) && self.is_told_page(*page, bytes);
+                let may = *sectors <= 8
+                    && self.may_go_home(*page)
+                    && self.is_told_page(*page, bytes);
                 (!may).then_some(Why::NotDirty)
             }
         }

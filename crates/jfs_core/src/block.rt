@@ -31,9 +31,10 @@ impl Model for Slot {
     ghost Value = { Block };
 
     ghost view = { λ s. record {
-        pages = record { seen = s.seen.0; stable = s.stable.0; writes = map (λ p. p.0) s.writes.items };
-        dirty = s.dirty;
-        unsynced = s.unsynced } };
+      pages = record { seen = s.seen.0; stable = s.stable.0; writes = map (λ p. p.0) s.writes.items };
+      dirty = s.dirty;
+      unsynced = s.unsynced;
+    } };
 }
 
 impl Slot {
@@ -88,9 +89,7 @@ impl Slot {
     fn fits(&self, choice: Choice) -> bool
         ensures { result ≡ fits choice self.now.pages }
     {
-        choice.base <= choice.top
-            && choice.top as usize <= self.writes.len()
-            && choice.sectors <= 8
+        choice.base <= choice.top && choice.top as usize <= self.writes.len() && choice.sectors <= 8
     }
 
     /// Content 0 is the stable one, and content `k` the `k`-th write since the last sync.

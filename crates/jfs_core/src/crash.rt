@@ -20,7 +20,12 @@ impl CoreState {
     /// What a crash by these choices leaves of the low part, redone by a log that holds the entries up to `n`; `None` exactly
     /// where `n` isn't one of the durable to the taken entries. A page without a choice, or whose first one names contents
     /// that aren't there, keeps what a read gives.
-    pub fn crash(&self, alloc: Global, choices: &[Choice], n: u64) -> Result<Option<PageList>, AllocError>
+    pub fn crash(
+        &self,
+        alloc: Global,
+        choices: &[Choice],
+        n: u64,
+    ) -> Result<Option<PageList>, AllocError>
         requires { IsSound self.now }
         ensures some { IfOk result (λ image. is_some image ≡ may_hold self.now n) }
         ensures crash { IfOk result (λ left. IfSome left (λ image. IsCrash self.now choices.now n (contents image))) }
@@ -46,7 +51,12 @@ impl CoreState {
 }
 
 /// Each block as a crash leaves it by the choices, after the transactions.
-fn redo(alloc: Global, slots: &[Slot], choices: &[Choice], log: &[Tx]) -> Result<PageList, AllocError>
+fn redo(
+    alloc: Global,
+    slots: &[Slot],
+    choices: &[Choice],
+    log: &[Tx],
+) -> Result<PageList, AllocError>
     requires { length slots.now < 2 ^ 32 }
     ensures { IfOk result (λ image. contents image ≡ redone_from choices.now log.now 0 slots.now) }
 {

@@ -5,11 +5,11 @@ mod act;
 mod allow;
 mod block;
 mod copy;
-mod replay;
-mod state;
 mod crash;
 mod law;
+mod replay;
 mod run;
+mod state;
 mod step;
 
 pub use law::{acknowledged_entries_survive, steps_are_device_calls};

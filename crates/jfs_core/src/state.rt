@@ -34,18 +34,19 @@ impl Model for CoreState {
     ghost Value = { Core };
 
     ghost view = { λ s. record {
-        mounted = contents s.mounted;
-        history = s.history.items;
-        taken = s.taken;
-        durable = s.durable;
-        told = s.told;
-        grouped = s.grouped;
-        syncpoints = s.syncpoints.items;
-        points_taken = s.points_taken;
-        points_stable = s.points_stable;
-        blocks = s.slots.items;
-        low_halted = s.low_halted;
-        log_halted = s.log_halted } };
+      mounted = contents s.mounted;
+      history = s.history.items;
+      taken = s.taken;
+      durable = s.durable;
+      told = s.told;
+      grouped = s.grouped;
+      syncpoints = s.syncpoints.items;
+      points_taken = s.points_taken;
+      points_stable = s.points_stable;
+      blocks = s.slots.items;
+      low_halted = s.low_halted;
+      log_halted = s.log_halted;
+    } };
 }
 
 impl CoreState {

@@ -1,4 +1,4 @@
-use Rattle.std.proofs.Common.{◌≡◌, ◌++◌, length, take, drop}
+use Rattle.std.proofs.Common.{◌≡◌, ◌++◌, take, drop}
 use Rattle.jfs_core.specs.Step.{marked}
 use Rattle.jfs_core.proofs.act.mark_touched.Given as goal
 

@@ -1,8 +1,7 @@
 use Rattle.std.proofs.Common.{◌≡◌, ◌∙◌, ◌∷◌, [], ◌++◌, ap, sym, List, length, ℕ, arith}
-use Rattle.jfs_disk.specs.Image.{Image, page_of}
-use Rattle.jfs_core.specs.Core.{Block, fresh_block}
+use Rattle.jfs_disk.specs.Image.{page_of}
 use Rattle.jfs_disk.specs.Pages.{contents}
-use Rattle.jfs_core.proofs.Items.{got, got_none, page_of-contents, contents-push}
+use Rattle.jfs_core.proofs.Items.{got, got_none, page_of-contents, contents-push, fresh-push}
 use Rattle.jfs_core.proofs.state.mount_page.Goals as goal
 
 pub returns-in_ok-push-in-Some-2-clause-mounted : goal.returns-in_ok-push-in-Some-2-clause-mounted
@@ -14,8 +13,7 @@ returns-in_ok-push-in-Some-2-clause-mounted c =
 pub returns-in_ok-push-in-Some-2-clause-slots : goal.returns-in_ok-push-in-Some-2-clause-slots
 returns-in_ok-push-in-Some-2-clause-slots c =
     let same = page_of-contents c.args.low.now c.args.i c.in-Some.page.now (got c.args.low.now c.args.i c.get.result c.in-Some.page c.get.ensures c.in-Some.is) in
-    c.in_ok-push-in-Some-2.ensures.items
-    ∙ ap (λ (block : Block). c.args.slots.now.items ++ block ∷ []) (c.new.ensures ∙ ap (λ (bytes : List ℕ). fresh_block bytes) (sym same))
+    fresh-push c.args.slots.now.items c.push-in-Some.new.self.items c.new.result c.in-Some.page.now.0 (page_of (contents c.args.low.now) c.args.i) c.in_ok-push-in-Some-2.ensures.items c.new.ensures same
 
 pub returns-in_ok-push-in-Some-2-clause-size : goal.returns-in_ok-push-in-Some-2-clause-size
 returns-in_ok-push-in-Some-2-clause-size c =

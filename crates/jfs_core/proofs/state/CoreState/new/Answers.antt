@@ -1,8 +1,8 @@
-use Rattle.std.proofs.Common.{◌≡◌, ◌<◌, ◌≤◌, ◌^◌, ◌∙◌, ap, sym, subst, refl, rules, length, List, ℕ, arith}
+use Rattle.std.proofs.Common.{◌≡◌, ◌<◌, ◌^◌, sym, subst, refl, length, arith}
 use Rattle.std.proofs.lemmas.List.{length-map}
 use Rattle.std.proofs.lemmas.Grind.{common_steps}
 use Rattle.jfs_disk.specs.declared.page.Page.{Page}
-use Rattle.jfs_core.specs.Core.{Core, fresh_core}
+use Rattle.jfs_core.specs.Core.{Core}
 use Rattle.jfs_disk.specs.Pages.{contents}
 use Rattle.jfs_core.specs.Sound.{IsSound}
 use Rattle.jfs_core.proofs.Items.{core_mounted}
@@ -23,4 +23,4 @@ returns-clause-sound c =
     let size : length image ≡ length c.args.low.now = length-map c.args.low.now (λ (p : Page). p.0) in
     let few : length image < 2 ^ 32 = omega (arith, size, c.requires) in
     subst (λ (core : Core). IsSound core) (sym (is_fresh c))
-        (sound_fresh image (record { number = refl; sizes = λ n l. c.loop-i.invariant.sizes n (omega (arith, size, l)) }) few)
+    (sound_fresh image (record { number = refl; sizes = λ n l. c.loop-i.invariant.sizes n (omega (arith, size, l)) }) few)
