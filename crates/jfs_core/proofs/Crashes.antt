@@ -1,0 +1,158 @@
+-- One crash by choices is one that a crash may leave.
+use Rattle.std.proofs.Common.{◌≡◌, ◌<◌, ◌≤◌, ◌⊎◌, ◌+◌, ◌-◌, ℕ, zero, suc, true, false, ◌&&◌, nat_le, List, [], ◌∷◌, length, take, drop, get_or, Option, Some, None, refl, sym, ap, ◌∙◌, subst, inl, inr, arith}
+use Rattle.std.proofs.lemmas.Bool.{cases_Bool, cond-true, cond-false, and_parts, leb-true}
+use Rattle.std.proofs.lemmas.List.{drop-take, ext_get_or, get_or-map, length-map}
+use Rattle.jfs_disk.specs.Image.{Image, page_of}
+use Rattle.jfs_disk.specs.Crash.{PageHistory, history_of, no_page, IsCrashPage, IsCrashImage, content_of, torn}
+use Rattle.jfs_disk.specs.Choice.{fits, torn_by, left_by, choice_of, IsChosen}
+use Rattle.jfs_disk.specs.declared.choice.Choice.{Choice}
+use Rattle.jfs_core.specs.Image.{History, image_after, page_after}
+use Rattle.jfs_core.specs.Core.{Core, Block, block_of, no_block, low_of}
+use Rattle.jfs_core.specs.Left.{stable_count, IsCrash, chosen_from, redone_from}
+use Rattle.jfs_core.specs.Sound.{IsSound, IsLogImage}
+use Rattle.jfs_core.proofs.Bytes.{page_of-image_after, length-image_after}
+use Rattle.jfs_core.proofs.Redo.{always_recovers}
+
+-- ---- page by page
+
+length-chosen_from : (choices : List Choice) (n : ℕ) (blocks : List Block) → length (chosen_from choices n blocks) ≡ length blocks
+length-chosen_from choices n [] = refl
+length-chosen_from choices n (block ∷ blocks) = ap (λ (k : ℕ). suc k) (length-chosen_from choices (suc n) blocks)
+
+length-redone_from : (choices : List Choice) (txs : History) (n : ℕ) (blocks : List Block) → length (redone_from choices txs n blocks) ≡ length blocks
+length-redone_from choices txs n [] = refl
+length-redone_from choices txs n (block ∷ blocks) = ap (λ (k : ℕ). suc k) (length-redone_from choices txs (suc n) blocks)
+
+abbrev left_at : List Choice → Block → ℕ → List ℕ
+left_at choices block n = left_by (choice_of choices n) block.pages block.pages.seen
+
+page_of-chosen_from : (choices : List Choice) (n : ℕ) (blocks : List Block) (p : ℕ) → p < length blocks → page_of (chosen_from choices n blocks) p ≡ left_at choices (get_or blocks p no_block) (n + p)
+page_of-chosen_from choices n [] p h = absurd (omega arith)
+page_of-chosen_from choices n (block ∷ blocks) zero h = let e : n + 0 ≡ n = omega arith in rw e refl
+page_of-chosen_from choices n (block ∷ blocks) (suc p) h =
+    let e : n + suc p ≡ suc n + p = omega arith in
+    rw e (page_of-chosen_from choices (suc n) blocks p (omega arith))
+
+page_of-redone_from : (choices : List Choice) (txs : History) (n : ℕ) (blocks : List Block) (p : ℕ) → p < length blocks → page_of (redone_from choices txs n blocks) p ≡ page_after (n + p) txs (left_at choices (get_or blocks p no_block) (n + p))
+page_of-redone_from choices txs n [] p h = absurd (omega arith)
+page_of-redone_from choices txs n (block ∷ blocks) zero h = let e : n + 0 ≡ n = omega arith in rw e refl
+page_of-redone_from choices txs n (block ∷ blocks) (suc p) h =
+    let e : n + suc p ≡ suc n + p = omega arith in
+    rw e (page_of-redone_from choices txs (suc n) blocks p (omega arith))
+
+redone_is : (choices : List Choice) (txs : History) (blocks : List Block) → redone_from choices txs 0 blocks ≡ image_after txs (chosen_from choices 0 blocks)
+redone_is choices txs blocks =
+    let one = redone_from choices txs 0 blocks in
+    let low = chosen_from choices 0 blocks in
+    let one_length : length one ≡ length blocks = length-redone_from choices txs 0 blocks in
+    let low_length : length low ≡ length blocks = length-chosen_from choices 0 blocks in
+    let two_length : length (image_after txs low) ≡ length blocks = length-image_after txs low ∙ low_length in
+    ext_get_or [] one (image_after txs low) (one_length ∙ sym two_length) (λ p l.
+    let h : p < length blocks = omega (arith, l, one_length) in
+    let place : 0 + p ≡ p = omega arith in
+    page_of-redone_from choices txs 0 blocks p h
+    ∙ ap (λ (q : ℕ). page_after q txs (left_at choices (get_or blocks p no_block) (0 + p))) place
+    ∙ ap (λ (page : List ℕ). page_after p txs page) (sym (page_of-chosen_from choices 0 blocks p h))
+    ∙ sym (page_of-image_after txs low p (omega (arith, low_length, h))))
+
+-- ---- what is left
+
+-- what a read gives is left by a crash too
+seen_left : (page : PageHistory) (j : ℕ) → j ≤ length page.writes → page.seen ≡ content_of page j → IsCrashPage page page.seen
+unfolding torn
+seen_left page j h e = record { base = j; top = j; sectors = 0; older = omega arith; there = h; within = omega arith; content = e }
+
+left_is_crash : (choice : Option Choice) (page : PageHistory) → IsCrashPage page page.seen → IsCrashPage page (left_by choice page page.seen)
+left_is_crash None page seen = seen
+left_is_crash (Some choice) page seen = at (cases_Bool (fits choice page))
+  where
+    P : List ℕ → Type 0
+    P left = IsCrashPage page left
+
+    bytes : List ℕ
+    bytes = torn choice.sectors (content_of page choice.top) (content_of page choice.base)
+
+    at : (fits choice page ≡ true) ⊎ (fits choice page ≡ false) → P (torn_by choice page page.seen)
+    at (inl e) =
+        let parts = and_parts (nat_le choice.base choice.top && nat_le choice.top (length page.writes)) (nat_le choice.sectors 8) e in
+        let order = and_parts (nat_le choice.base choice.top) (nat_le choice.top (length page.writes)) parts.0 in
+        subst P (sym (cond-true (fits choice page) bytes page.seen e)) (record {
+          base = choice.base;
+          top = choice.top;
+          sectors = choice.sectors;
+          older = leb-true choice.base choice.top order.0;
+          there = leb-true choice.top (length page.writes) order.1;
+          within = leb-true choice.sectors 8 parts.1;
+          content = refl;
+        })
+    at (inr e) = subst P (sym (cond-false (fits choice page) bytes page.seen e)) seen
+
+history_of-low : (core : Core) (p : ℕ) → p < length core.blocks → history_of (low_of core) p ≡ (block_of core p).pages
+history_of-low core p h = get_or-map (λ (b : Block). b.pages) core.blocks p no_block no_page h
+
+length-low : (core : Core) → length (low_of core) ≡ length core.blocks
+length-low core = length-map core.blocks (λ (b : Block). b.pages)
+
+is_chosen : (core : Core) (choices : List Choice) → IsChosen choices (low_of core) (chosen_from choices 0 core.blocks)
+is_chosen core choices = record {
+  number = length-chosen_from choices 0 core.blocks ∙ sym (length-low core);
+  each = λ p l.
+      let h : p < length core.blocks = omega (arith, l, length-low core) in
+      let place : 0 + p ≡ p = omega arith in
+      page_of-chosen_from choices 0 core.blocks p h
+      ∙ ap (λ (q : ℕ). left_at choices (block_of core p) q) place
+      ∙ ap (λ (page : PageHistory). left_by (choice_of choices p) page page.seen) (sym (history_of-low core p h));
+}
+
+is_crash_image : (core : Core) (choices : List Choice) → IsSound core → IsCrashImage (low_of core) (chosen_from choices 0 core.blocks)
+is_crash_image core choices sound = record {
+  number = length-chosen_from choices 0 core.blocks ∙ sym (length-low core);
+  each = λ p l.
+      let h : p < length core.blocks = omega (arith, l, length-low core) in
+      let page = (block_of core p).pages in
+      let ok = sound.kept.blocks p h in
+      let P : PageHistory → Type 0 = λ x. IsCrashPage x (page_of (chosen_from choices 0 core.blocks) p) in
+      let Q : List ℕ → Type 0 = λ left. IsCrashPage page left in
+      subst P (sym (history_of-low core p h))
+      (subst Q (sym (page_of-chosen_from choices 0 core.blocks p h))
+      (left_is_crash (choice_of choices (0 + p)) page (seen_left page ok.readable.0 ok.readable.1 ok.readable.2)));
+}
+
+pub is_crash : (core : Core) (choices : List Choice) (n : ℕ) (image : Image) → IsSound core → core.durable ≤ n → n ≤ core.taken →
+    image ≡ redone_from choices (drop (stable_count core) (take n core.history)) 0 core.blocks → IsCrash core choices n image
+is_crash core choices n image sound durable taken e =
+    let c = stable_count core in
+    let low = chosen_from choices 0 core.blocks in
+    let left = is_crash_image core choices sound in
+    let kept = sound.kept in
+    let log : IsLogImage core c n = record {
+      count = (core.points_stable - 1, omega arith, omega (arith, kept.mount, kept.stable), refl);
+      durable = durable;
+      taken = taken;
+    } in
+    record {
+      low = low;
+      chosen = is_chosen core choices;
+      left = left;
+      log = log;
+      redone = e ∙ redone_is choices (drop c (take n core.history)) core.blocks;
+      recovered = always_recovers core sound low c n left log;
+    }
+
+-- the same from the parts that the code reads
+pub crash_from_parts : (core : Core) (choices : List Choice) (n durable taken from : ℕ) (history : History) (blocks : List Block) (image : Image) → IsSound core →
+    durable ≡ core.durable → taken ≡ core.taken → from ≡ stable_count core → history ≡ core.history → blocks ≡ core.blocks → durable ≤ n → n ≤ taken →
+    image ≡ redone_from choices (take (n - from) (drop from history)) 0 blocks → IsCrash core choices n image
+crash_from_parts core choices n durable taken from history blocks image sound d t f h b low high e =
+    let c = stable_count core in
+    let kept = sound.kept in
+    let rises = kept.rising (core.points_stable - 1) (length core.syncpoints - 1) (omega (arith, kept.stable, kept.points)) (omega (arith, kept.mount, kept.stable, kept.points)) in
+    let early : c ≤ n = omega (arith, rises, kept.newest, kept.told, d, low) in
+    let whole : c + (n - c) ≡ n = omega arith in
+    let log : take (n - c) (drop c core.history) ≡ drop c (take n core.history) =
+    sym (drop-take c (n - c) core.history) ∙ ap (λ (k : ℕ). drop c (take k core.history)) whole in
+    is_crash core choices n image sound (omega (arith, d, low)) (omega (arith, t, high))
+    (e ∙ ap (λ (k : ℕ). redone_from choices (take (n - k) (drop k history)) 0 blocks) f
+    ∙ ap (λ (xs : History). redone_from choices (take (n - c) (drop c xs)) 0 blocks) h
+    ∙ ap (λ (bs : List Block). redone_from choices (take (n - c) (drop c core.history)) 0 bs) b
+    ∙ ap (λ (xs : History). redone_from choices xs 0 core.blocks) log)

@@ -1,0 +1,12 @@
+pub mod Cells
+pub mod Blocks
+pub mod Bytes
+pub mod Redo
+pub mod Kept
+pub mod Writes
+pub mod Steps
+pub mod Items
+pub mod Pages
+pub mod Runs
+pub mod Crashes
+pub mod Device

@@ -1,0 +1,76 @@
+-- The core's state.
+use Rattle.std.specs.Prelude.{ℕ, ◌-◌, Bool, false, List, [], ◌∷◌, map, get_or, length, take, Option, None}
+use Rattle.jfs_disk.specs.Image.{Image}
+use Rattle.jfs_disk.specs.Crash.{PageHistory, DiskState, no_page}
+use Rattle.jfs_disk.specs.declared.disk.Fault.{Fault}
+use Rattle.jfs_core.specs.declared.block.Span.{Span}
+use Rattle.jfs_core.specs.Image.{History, image_after}
+
+-- A block of the low part: its content and pending writes; the entries that it holds in memory alone; and those that it
+-- was written back with since the last sync that succeeded.
+pub record Block : Type 0 where
+  pub pages : PageHistory
+  pub dirty : Option Span
+  pub unsynced : Option Span
+
+pub record Core : Type 0 where
+  -- the low part as it was mounted
+  pub mounted : Image
+  pub history : History
+  -- how many entries a group has taken, how many are stable in the log, and how many are acknowledged
+  pub taken : ℕ
+  pub durable : ℕ
+  pub told : ℕ
+  -- whether a group is open
+  pub grouped : Bool
+  -- The sync counts, the mount's 0 in front: how many entries needn't be redone. How many of the counts a group has taken,
+  -- and how many are stable in the log.
+  pub syncpoints : List ℕ
+  pub points_taken : ℕ
+  pub points_stable : ℕ
+  pub blocks : List Block
+  -- the fault that halted a part
+  pub low_halted : Option Fault
+  pub log_halted : Option Fault
+
+-- no block, where a number has none
+abbrev pub no_block : Block
+no_block = record { pages = no_page; dirty = None; unsynced = None }
+
+abbrev pub block_of : Core → ℕ → Block
+block_of core p = get_or core.blocks p no_block
+
+-- the low part, as a disk
+abbrev pub low_of : Core → DiskState
+low_of core = map (λ block. block.pages) core.blocks
+
+-- the image after the first n entries
+abbrev pub core_image : Core → ℕ → Image
+core_image core n = image_after (take n core.history) core.mounted
+
+-- the newest sync count
+abbrev pub newest_of : Core → ℕ
+newest_of core = get_or core.syncpoints (length core.syncpoints - 1) 0
+
+-- ---- the start
+
+-- a block as it was mounted
+abbrev pub fresh_block : List ℕ → Block
+fresh_block bytes = record { pages = record { seen = bytes; stable = bytes; writes = [] }; dirty = None; unsynced = None }
+
+-- the core of a volume that was just mounted
+abbrev pub fresh_core : Image → Core
+fresh_core image = record {
+  mounted = image;
+  history = [];
+  taken = 0;
+  durable = 0;
+  told = 0;
+  grouped = false;
+  syncpoints = 0 ∷ [];
+  points_taken = 1;
+  points_stable = 1;
+  blocks = map fresh_block image;
+  low_halted = None;
+  log_halted = None;
+}

@@ -1,0 +1,18 @@
+//! The core of crash safety: what may be written when, and what a crash then leaves.
+#![tactic(auto)]
+
+mod act;
+mod allow;
+mod block;
+mod copy;
+mod crash;
+mod law;
+mod replay;
+mod run;
+mod state;
+mod step;
+
+pub use law::{acknowledged_entries_survive, steps_are_device_calls};
+pub use run::run_steps;
+pub use state::CoreState;
+pub use step::{FaultOf, RunError, Step, StepRefused, Why};

@@ -1,0 +1,104 @@
+//! The core's state.
+
+ghost use Rattle.std.specs.Prelude.{◌≡◌, ◌<◌, ◌^◌, ◌+◌, ◌++◌, ◌∷◌, [], length, map, OnOk, IfOk};
+ghost use Rattle.jfs_disk.specs.Image.{page_of};
+ghost use Rattle.jfs_core.specs.Core.{Core, fresh_block, fresh_core};
+ghost use Rattle.jfs_disk.specs.Pages.{contents};
+ghost use Rattle.jfs_core.specs.Sound.{IsSound};
+
+use crate::block::Slot;
+use jfs_disk::{Fault, Page, PageList};
+use jfs_ranges::Tx;
+use std::alloc::{AllocError, Global};
+use std::marker::Model;
+
+/// A mounted volume, as far as crashes matter: its history, its log as counts, and the contents and pending writes of its
+/// low part. `specs/Core.antt` names its parts.
+#[derive(Drop)]
+pub struct CoreState {
+    pub(crate) mounted: PageList,
+    pub(crate) history: Vec<Tx>,
+    pub(crate) taken: u64,
+    pub(crate) durable: u64,
+    pub(crate) told: u64,
+    pub(crate) grouped: bool,
+    pub(crate) syncpoints: Vec<u64>,
+    pub(crate) points_taken: u64,
+    pub(crate) points_stable: u64,
+    pub(crate) slots: Vec<Slot>,
+    pub(crate) low_halted: Option<Fault>,
+    pub(crate) log_halted: Option<Fault>,
+}
+
+impl Model for CoreState {
+    ghost Value = { Core };
+
+    ghost view = { λ s. record {
+      mounted = contents s.mounted;
+      history = s.history.items;
+      taken = s.taken;
+      durable = s.durable;
+      told = s.told;
+      grouped = s.grouped;
+      syncpoints = s.syncpoints.items;
+      points_taken = s.points_taken;
+      points_stable = s.points_stable;
+      blocks = s.slots.items;
+      low_halted = s.low_halted;
+      log_halted = s.log_halted;
+    } };
+}
+
+impl CoreState {
+    /// The core of a volume that was just mounted: these pages, stable, and no fault.
+    pub fn new(alloc: Global, low: &PageList) -> Result<CoreState, AllocError>
+        requires { length low.now < 2 ^ 32 }
+        ensures fresh { IfOk result (λ core. core ≡ fresh_core (contents low.now)) }
+        ensures sound { IfOk result (λ core. IsSound core) }
+    {
+        let mut mounted = PageList::new(alloc);
+        let mut slots = Vec::new(alloc);
+        for i in 0..low.len() {
+            mount_page(alloc, low, i, &mut mounted, &mut slots)?;
+        }
+        let mut syncpoints = Vec::new(alloc);
+        syncpoints.push(0)?;
+        Ok(CoreState {
+            mounted,
+            history: Vec::new(alloc),
+            taken: 0,
+            durable: 0,
+            told: 0,
+            grouped: false,
+            syncpoints,
+            points_taken: 1,
+            points_stable: 1,
+            slots,
+            low_halted: None,
+            log_halted: None,
+        })
+    }
+}
+
+fn mount_page(
+    alloc: Global,
+    low: &PageList,
+    i: usize,
+    mounted: &mut PageList,
+    slots: &mut Vec<Slot>,
+) -> Result<(), AllocError>
+    requires { i < length low.now }
+    ensures mounted { OnOk result (contents mounted.new ≡ contents mounted.old ++ page_of (contents low.now) i ∷ []) }
+    ensures slots { OnOk result (slots.new.items ≡ slots.old.items ++ fresh_block (page_of (contents low.now) i) ∷ []) }
+    ensures size { OnOk result (length (page_of (contents low.now) i) ≡ 4096) }
+{
+    match low.get(i) {
+        Some(page) => {
+            let _bytes: &[u8] = &page.0;
+            mounted.push(Page(page.0))?;
+            slots.push(Slot::new(alloc, page))?;
+            Ok(())
+        }
+        None => Ok(()),
+    }
+}

@@ -1,0 +1,36 @@
+//! A view of a volume's pages.
+
+ghost use Rattle.std.specs.Prelude.{◌≡◌, ◌<◌, ◌≤◌, ℕ, IfOk};
+ghost use Rattle.jfs_disk.specs.Image.{Image, page_of};
+
+use jfs_disk::{Fault, Page};
+
+/// Why a page was not given.
+#[derive(Clone, Copy, PartialEq, Eq, Debug)]
+pub enum ViewError {
+    /// The device failed.
+    Read(Fault),
+    /// Memory ran out.
+    Memory,
+}
+
+/// A file system's pages, as its calls read them.
+pub trait PageView {
+    /// The number of blocks of the file system part.
+    ghost block_count: { Self → ℕ };
+
+    /// The bytes of each page, where the view tells them.
+    ghost image: { Self → Image };
+
+    /// Whether the view tells its pages.
+    ghost tells: { Type 0 };
+
+    /// The number of blocks of the file system part.
+    fn blocks(&self) -> u32
+        ensures { result ≡ block_count self.now };
+
+    /// Page `n`.
+    fn page(&mut self, n: u32) -> Result<&Page, ViewError>
+        requires { n < block_count self.old }
+        ensures bytes { IfOk result (λ page. tells → page.now.0 ≡ page_of (image self.old) n) };
+}
