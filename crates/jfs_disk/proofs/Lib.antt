@@ -6,3 +6,4 @@ pub mod Contents
 pub mod Crashed
 pub mod Torn
 pub mod Flow
+pub mod WriteThenSync

@@ -1,5 +1,5 @@
 use Rattle.std.proofs.Common.{◌∙◌}
-use Rattle.jfs_disk.proofs.Flow.{all-failed, all-written, all-synced, stable-synced}
+use Rattle.jfs_disk.proofs.WriteThenSync.{all-failed, all-written, all-synced, stable-synced}
 use Rattle.jfs_disk.proofs.stable.write_stable.Goals as goal
 
 pub returns-in_err-write-clause-any_moment : goal.returns-in_err-write-clause-any_moment
