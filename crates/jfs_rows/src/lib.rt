@@ -10,4 +10,6 @@ mod fields;
 #[cfg(test)]
 mod refusals;
 #[cfg(test)]
+mod sources;
+#[cfg(test)]
 mod volume;
