@@ -1,9 +1,8 @@
 -- The fields of a control page that do not follow from its leaves, read after they were put; what stays when the tree changes.
-use Rattle.std.proofs.Common.{◌≡◌, ◌<◌, ◌≤◌, ◌+◌, ◌*◌, ◌^◌, ℕ, ◌⊎◌, inl, inr, List, [], ◌∷◌, length, refl, sym, ap, ◌∙◌, arith}
+use Rattle.std.proofs.Common.{◌≡◌, ◌<◌, ◌≤◌, ◌+◌, ℕ, ◌⊎◌, inl, inr, List, [], ◌∷◌, length, refl, sym, ◌∙◌, arith}
 use Rattle.jfs_bits.specs.Field.{field_of, put_bytes, range_of}
 use Rattle.jfs_bits.specs.Piece.{Piece, puts, Place}
 use Rattle.jfs_bits.proofs.Pieces.{length-puts, range_of-puts, range_of-puts_other}
-use Rattle.jfs_buddy.specs.Buddy.{IsBuddyTree}
 use Rattle.jfs_buddy.proofs.Parts.{number-read, range-beside, field-from_range}
 use Rattle.jfs_dmapctl.specs.Control.{whole_of, head_of, tree_of, IsControl}
 

@@ -1,5 +1,5 @@
 -- Values of leaves and their ranks.
-use Rattle.std.proofs.Common.{◌≡◌, ◌<◌, ◌≤◌, ◌+◌, ℕ, suc, List, to_z, of_z, w8, refl, arith}
+use Rattle.std.proofs.Common.{◌≡◌, ◌≤◌, ◌+◌, ℕ, List, to_z, of_z, w8, arith}
 use Rattle.std.specs.Prelude.{ℤ, pos, negsuc}
 use Rattle.std.proofs.lemmas.Int.{to_z-of_z}
 use Rattle.jfs_buddy.specs.Tree.{rank_of}

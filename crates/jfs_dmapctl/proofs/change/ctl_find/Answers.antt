@@ -1,6 +1,6 @@
-use Rattle.std.proofs.Common.{◌≡◌, ◌<◌, ◌≤◌, ◌+◌, ◌∙◌, ℕ, List, ap, arith}
+use Rattle.std.proofs.Common.{◌≡◌, ◌+◌, ◌∙◌, ℕ, ap, arith}
 use Rattle.jfs_buddy.proofs.Parts.{part-is}
-use Rattle.jfs_dmapctl.specs.Control.{whole_of, tree_of}
+use Rattle.jfs_dmapctl.specs.Control.{whole_of}
 use Rattle.jfs_dmapctl.proofs.change.ctl_find.Goals as goal
 
 pub find_run-requires-clause-inner : goal.find_run-requires-clause-inner

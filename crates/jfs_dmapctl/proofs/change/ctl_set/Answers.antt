@@ -1,7 +1,7 @@
-use Rattle.std.proofs.Common.{◌≡◌, ◌<◌, ◌≤◌, ◌+◌, ◌∙◌, ℕ, List, length, ap, arith}
+use Rattle.std.proofs.Common.{◌≡◌, ◌+◌, ◌∙◌, ℕ, ap, arith}
 use Rattle.jfs_buddy.specs.Tree.{rank_of}
 use Rattle.jfs_buddy.specs.Buddy.{with_own, IsBuddyTree}
-use Rattle.jfs_dmapctl.specs.Control.{whole_of, tree_of, IsControl}
+use Rattle.jfs_dmapctl.specs.Control.{whole_of, tree_of}
 use Rattle.jfs_dmapctl.proofs.Heads.{head-of, head-stays}
 use Rattle.jfs_dmapctl.proofs.Values.{rank-most, value-read}
 use Rattle.jfs_dmapctl.proofs.change.ctl_set.Goals as goal

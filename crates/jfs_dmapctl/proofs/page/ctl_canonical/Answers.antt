@@ -1,9 +1,8 @@
-use Rattle.std.proofs.Common.{◌≡◌, ◌<◌, ◌≤◌, ◌+◌, ◌*◌, ◌∙◌, ℕ, List, length, ap, arith}
+use Rattle.std.proofs.Common.{◌≡◌, ◌+◌, ◌*◌, ◌∙◌, ℕ, List, length, ap, arith}
 use Rattle.std.specs.Prelude.{replicate}
 use Rattle.jfs_bits.specs.Field.{range_of}
-use Rattle.jfs_buddy.specs.Buddy.{IsBuddyTree}
 use Rattle.jfs_buddy.proofs.Parts.{range_of-replicate}
-use Rattle.jfs_dmapctl.specs.Control.{whole_of, tree_of}
+use Rattle.jfs_dmapctl.specs.Control.{whole_of}
 use Rattle.jfs_dmapctl.proofs.Heads.{Head, head-put, head-stays}
 use Rattle.jfs_dmapctl.proofs.page.ctl_canonical.Goals as goal
 

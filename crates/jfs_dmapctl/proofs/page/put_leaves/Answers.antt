@@ -1,5 +1,4 @@
-use Rattle.std.proofs.Common.{◌≡◌, ◌<◌, ◌≤◌, ◌+◌, ◌*◌, ◌∙◌, ℕ, List, length, refl, inl, inr, arith}
-use Rattle.jfs_buddy.specs.Buddy.{IsBuddyTree}
+use Rattle.std.proofs.Common.{◌≡◌, ◌+◌, ◌*◌, inl, inr, arith}
 use Rattle.jfs_buddy.proofs.Parts.{part-kept, part-again}
 use Rattle.jfs_buddy.proofs.Renewals.{renewed, renew-starts, renew-goes_on, renew-ends}
 use Rattle.jfs_dmapctl.specs.Control.{whole_of, tree_of, ranks_of}

@@ -1,4 +1,4 @@
-use Rattle.std.proofs.Common.{◌≡◌, ◌+◌, ◌*◌, ℕ}
+use Rattle.std.proofs.Common.{◌≡◌, ◌+◌}
 use Rattle.jfs_bits.specs.Field.{put_bytes}
 use Rattle.jfs_buddy.specs.Buddy.{IsBuddyTree}
 use Rattle.jfs_buddy.proofs.Renewals.{renewed}

@@ -1,4 +1,3 @@
-use Rattle.std.proofs.Common.{◌≡◌, get_or}
 use Rattle.std.specs.Prelude.{pos, negsuc}
 use Rattle.std.proofs.lemmas.List.{get_or_default}
 use Rattle.jfs_dmapctl.specs.Control.{value_at}

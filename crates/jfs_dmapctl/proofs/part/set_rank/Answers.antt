@@ -1,4 +1,4 @@
-use Rattle.std.proofs.Common.{◌≡◌, ◌<◌, ◌∙◌, length, List, ℕ, arith}
+use Rattle.std.proofs.Common.{◌≡◌, ◌∙◌, length, List, ℕ, arith}
 use Rattle.jfs_bits.specs.Field.{put_bytes, range_of}
 use Rattle.jfs_bits.proofs.Fields.{put_between}
 use Rattle.jfs_buddy.proofs.Parts.{part-is, part-held, part-put, length-range_of}
