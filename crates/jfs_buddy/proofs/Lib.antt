@@ -5,3 +5,4 @@ pub mod Halves
 pub mod Changes
 pub mod Levels
 pub mod Finds
+pub mod Renewals

@@ -18,6 +18,9 @@ pub rank-most : (word : ℕ) → rank_of (max_bud_of word) ≤ 6
 unfolding max_bud_of
 rank-most word = rank-below word 5
 
+pub word_rank-most : (map : List ℕ) (v : ℕ) → word_rank map v ≤ 6
+word_rank-most map v = rank-most (field_of map (4 * v) 4)
+
 -- tests that agree below a number
 pub all_below-same : (n : ℕ) (f g : ℕ → Bool) → ((i : ℕ) → i < n → f i ≡ g i) → all_below n f ≡ all_below n g
 unfolding all_below

@@ -1,10 +1,7 @@
 -- The fields of a page that do not follow from its set, read after they were put.
-use Rattle.std.proofs.Common.{◌≡◌, ◌<◌, ◌≤◌, ◌+◌, ◌-◌, ◌^◌, ℕ, List, [], ◌∷◌, length, take, replicate, refl, ap, ◌∙◌, arith}
-use Rattle.std.proofs.lemmas.List.{append-nil, take-replicate, drop-replicate}
-use Rattle.byteorder.specs.Endian.{little_bytes}
+use Rattle.std.proofs.Common.{◌≡◌, ◌<◌, ◌^◌, ℕ, List, [], ◌∷◌, length, refl, ◌∙◌, arith}
 use Rattle.jfs_bits.specs.Field.{field_of, range_of}
 use Rattle.jfs_bits.specs.Piece.{Piece, puts, Place}
-use Rattle.jfs_bits.proofs.Ranges.{field_of-range, field_of-number}
 use Rattle.jfs_bits.proofs.Pieces.{length-puts, range_of-puts, range_of-puts_other}
 use Rattle.jfs_buddy.proofs.Parts.{number-read}
 use Rattle.jfs_dmap.specs.Dmap.{head_of}

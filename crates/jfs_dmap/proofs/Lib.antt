@@ -1,5 +1,4 @@
 pub mod Buds
-pub mod Trees
 pub mod Counts
 pub mod Pages
 pub mod Lowest

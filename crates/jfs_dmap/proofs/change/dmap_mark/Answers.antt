@@ -22,7 +22,7 @@ puts_of c =
       sizes = (omega (arith, size), omega (arith, size), omega (arith, size), omega (arith, size));
       map = c.mark_in.ensures.stays;
       copy = c.mark_in-2.ensures.stays;
-      count = c.put_u32.ensures;
+      count = c.put_u32.ensures.bytes;
       tree = c.refresh.ensures.stays;
     }
 

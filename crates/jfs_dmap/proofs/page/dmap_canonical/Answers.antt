@@ -24,7 +24,7 @@ puts_of c =
       sizes = (omega (arith, size), omega (arith, size), omega (arith, size), omega (arith, size));
       map = c.put_map.ensures.stays;
       copy = c.put_map-2.ensures.stays;
-      count = c.put_u32.ensures;
+      count = c.put_u32.ensures.bytes;
       tree = part-again 33 341 c.put_u32.new.bytes c.clear.new.bytes c.refresh.new.bytes (omega arith) (omega arith) (omega (arith, size)) c.clear.ensures.stays c.refresh.ensures.stays;
     }
 

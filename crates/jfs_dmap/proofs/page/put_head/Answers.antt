@@ -5,4 +5,4 @@ use Rattle.jfs_dmap.proofs.page.put_head.Goals as goal
 
 pub returns : goal.returns
 unfolding puts head_of
-returns c = rw (c.put_u8.ensures, c.put_u32-5.ensures, c.put_u32-4.ensures, c.put_u32-3.ensures, c.put_u32-2.ensures, c.put_u64.ensures, c.put_u32.ensures) refl
+returns c = rw (c.put_u8.ensures.bytes, c.put_u32-5.ensures.bytes, c.put_u32-4.ensures.bytes, c.put_u32-3.ensures.bytes, c.put_u32-2.ensures.bytes, c.put_u64.ensures.bytes, c.put_u32.ensures.bytes) refl

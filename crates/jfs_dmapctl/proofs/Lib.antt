@@ -1,0 +1,3 @@
+pub mod Heads
+pub mod Values
+pub mod Fronts

@@ -1,0 +1,11 @@
+//! Control pages of the block map, kept canonical in place.
+#![tactic(auto)]
+
+mod change;
+mod map_control;
+mod page;
+mod part;
+
+pub use change::{ctl_find, ctl_set};
+pub use map_control::{MapControl, read_map_control, write_map_control};
+pub use page::ctl_canonical;
