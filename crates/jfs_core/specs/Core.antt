@@ -13,6 +13,7 @@ pub record Block : Type 0 where
   pub dirty : Option Span
   pub unsynced : Option Span
 
+-- The core: what a mounted volume has done so far, its log as counts, and its low part.
 pub record Core : Type 0 where
   -- the low part as it was mounted
   pub mounted : Image
@@ -37,6 +38,7 @@ pub record Core : Type 0 where
 abbrev pub no_block : Block
 no_block = record { pages = no_page; dirty = None; unsynced = None }
 
+-- the block with a number
 abbrev pub block_of : Core → ℕ → Block
 block_of core p = get_or core.blocks p no_block
 

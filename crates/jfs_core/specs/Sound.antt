@@ -100,6 +100,7 @@ abbrev pub HasKnownCells : Core → Type 0
 HasKnownCells core = (c : ℕ) → IsSyncCount core (length core.syncpoints) c → (low : Image) → IsCrashImage (low_of core) low →
     (p : ℕ) → p < length core.blocks → IsBetween always (page_at core p) c core.told (page_of low p)
 
+-- The sound core: the parts that each step keeps, and what they give.
 pub record IsSound (core : Core) : Type 0 where
   pub kept : IsKept core
   pub cells : HasKnownCells core

@@ -21,9 +21,11 @@ pub record Condition : Type 0 where
   pub why : Why
   pub holds : Bool
 
+-- one condition and its word
 abbrev pub condition : Why → Bool → Condition
 condition why holds = record { why = why; holds = holds }
 
+-- a transaction without an edit
 abbrev pub is_empty : List Edit → Bool
 is_empty [] = true
 is_empty (edit ∷ edits) = false
@@ -55,6 +57,7 @@ may_go_home core page = is_some (block_of core page).dirty && ends_by core.told 
 abbrev pub told_page : Core → ℕ → List ℕ
 told_page core page = page_of (core_image core core.told) page
 
+-- two contents are the same
 abbrev pub same_bytes : List ℕ → List ℕ → Bool
 same_bytes xs ys = pointwise nat_eq xs ys
 
@@ -78,9 +81,11 @@ abbrev pub first_failing : List Condition → Option Why
 first_failing [] = None
 first_failing (c ∷ cs) = if c.holds then first_failing cs else Some c.why
 
+-- why a step is refused in a state
 abbrev pub refusal : Core → Step → Option Why
 refusal core step = first_failing (conditions core step)
 
+-- each of a step's conditions holds
 abbrev pub IsAllowed : Core → Step → Type 0
 IsAllowed core step = refusal core step ≡ None
 
@@ -129,6 +134,7 @@ abbrev pub halted_by : Fault → Option Fault → Option Fault
 halted_by fault None = Some fault
 halted_by fault (Some first) = Some first
 
+-- what a step makes of a state
 abbrev pub does : Core → Step → Core
 does core (steps.Append tx) = record core { history = core.history ++ tx ∷ []; blocks = marked (suc (length core.history)) tx 0 core.blocks }
 does core steps.Take = record core { taken = length core.history; points_taken = length core.syncpoints; grouped = true }

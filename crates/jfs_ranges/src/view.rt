@@ -1,14 +1,15 @@
 //! A view of a volume's pages.
 
-ghost use Rattle.std.specs.Prelude.{◌≡◌, ◌<◌, ◌≤◌, ℕ, IfOk};
+ghost use Rattle.std.specs.Prelude.{◌≡◌, ◌<◌, ◌≤◌, ℕ, IfOk, IfErr};
 ghost use Rattle.jfs_disk.specs.Image.{Image, page_of};
+ghost use Rattle.jfs_ranges.specs.View.{HasCause};
 
 use jfs_disk::{Fault, Page};
 
 /// Why a page was not given.
 #[derive(Clone, Copy, PartialEq, Eq, Debug)]
 pub enum ViewError {
-    /// The device failed.
+    /// The device failed; its count of faults rose to the fault's.
     Read(Fault),
     /// Memory ran out.
     Memory,
@@ -18,6 +19,9 @@ pub enum ViewError {
 pub trait PageView {
     /// The number of blocks of the file system part.
     ghost block_count: { Self → ℕ };
+
+    /// How often a device call failed, up to the last `u64` value.
+    ghost fault_count: { Self → ℕ };
 
     /// The bytes of each page, where the view tells them.
     ghost image: { Self → Image };
@@ -32,5 +36,6 @@ pub trait PageView {
     /// Page `n`.
     fn page(&mut self, n: u32) -> Result<&Page, ViewError>
         requires { n < block_count self.old }
-        ensures bytes { IfOk result (λ page. tells → page.now.0 ≡ page_of (image self.old) n) };
+        ensures bytes { IfOk result (λ page. tells → page.now.0 ≡ page_of (image self.old) n) }
+        ensures cause { IfErr result (λ e. HasCause (fault_count self.old) e) };
 }

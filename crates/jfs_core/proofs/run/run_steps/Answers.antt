@@ -1,5 +1,7 @@
-use Rattle.std.proofs.Common.{◌∙◌, sym, subst, arith}
+use Rattle.std.proofs.Common.{refl, length, ◌∙◌, sym, subst, arith}
 use Rattle.jfs_core.specs.Step.{IsAllowed}
+use Rattle.std.proofs.lemmas.Option.{slice_get_read}
+use Rattle.jfs_core.specs.Run.{LeadsTo}
 use Rattle.jfs_core.specs.Core.{Core}
 use Rattle.jfs_core.specs.Sound.{AlwaysRecovers, IsSound}
 use Rattle.jfs_core.proofs.Redo.{always_recovers}
@@ -24,3 +26,17 @@ loop-i-preserved c =
 
 pub returns-clause-recovers : goal.returns-clause-recovers
 returns-clause-recovers c = always_recovers c.loop-i.core c.loop-i.invariant.1
+
+pub returns-in-Err-clause-run : goal.returns-in-Err-clause-run
+returns-in-Err-clause-run c =
+    let step = c.index-steps-i.result in
+    let same = sym c.in-Err.ensures.err in
+    let allowed : IsAllowed c.loop-i.core step = sym c.refuses.ensures ∙ c.in_default.is in (
+      c.loop-i.i,
+      subst (λ (core : Core). LeadsTo c.args.core.now c.args.steps.now c.loop-i.i core) same c.loop-i.invariant.0,
+      record {
+        step = step;
+        there = slice_get_read c.args.steps.now (length c.args.steps.now) c.loop-i.i step refl (omega arith) c.index-steps-i.is;
+        allowed = subst (λ (core : Core). IsAllowed core step) same allowed;
+      },
+    )

@@ -1,0 +1,138 @@
+//! Tests of the crash core and of what a transaction does to a page.
+#![tactic(auto)]
+
+ghost use Rattle.std.specs.Prelude.{◌≤◌, ◌^◌, ◌<◌, length, IfOk};
+ghost use Rattle.jfs_core.specs.Sound.{IsSound};
+
+use jfs_bits::PageKind;
+use jfs_core::{CoreState, FaultOf, RunError, Step, StepRefused, run_steps};
+use jfs_disk::{Fault, Page, PageList, Part};
+use jfs_ranges::{Edit, Tx};
+use std::alloc::{AllocError, Global};
+
+#[cfg(test)]
+mod crashes;
+#[cfg(test)]
+mod edits;
+#[cfg(test)]
+mod refusals;
+
+/// A step, as the tables write it.
+#[derive(Clone, Copy)]
+pub enum Do {
+    /// An entry that sets the 16 bytes of a line of a page.
+    Set(u32, u32, u8),
+    /// An entry with two such lines.
+    SetBoth(u32, u32, u32, u32, u8),
+    /// An entry without a change.
+    Nothing,
+    Take,
+    Group,
+    Told,
+    Home(u32),
+    Sync,
+    Point(u64),
+    FailRead,
+    FailSync,
+    FailGroup,
+    /// A failed write of a page whose first 16 bytes are these and whose other bytes are 0.
+    FailHome(u32, u8, u32),
+}
+
+const FAULT: Fault = Fault {
+    part: Part::Low,
+    count: 1,
+};
+
+pub fn set_line(
+    alloc: Global,
+    tx: &mut Tx,
+    page: u32,
+    line: u32,
+    byte: u8,
+) -> Result<(), AllocError> {
+    let mut bytes = jfs_bits::Blob::new(alloc);
+    for _ in 0..16 {
+        bytes.push(byte)?;
+    }
+    tx.push(Edit::Lines {
+        page,
+        kind: PageKind::Xtree,
+        first: line,
+        bytes,
+    })?;
+    Ok(())
+}
+
+/// The step that a table means.
+pub fn step_of(alloc: Global, code: Do) -> Result<Step, AllocError> {
+    let mut tx = Tx::new(alloc);
+    Ok(match code {
+        Do::Set(page, line, byte) => {
+            set_line(alloc, &mut tx, page, line, byte)?;
+            Step::Append { tx }
+        }
+        Do::SetBoth(page, line, other, next, byte) => {
+            set_line(alloc, &mut tx, page, line, byte)?;
+            set_line(alloc, &mut tx, other, next, byte)?;
+            Step::Append { tx }
+        }
+        Do::Nothing => Step::Append { tx },
+        Do::Take => Step::Take,
+        Do::Group => Step::GroupWrite,
+        Do::Told => Step::Told,
+        Do::Home(page) => Step::Home { page },
+        Do::Sync => Step::LowSync,
+        Do::Point(c) => Step::SyncPoint { c },
+        Do::FailRead => failed(FaultOf::Read),
+        Do::FailSync => failed(FaultOf::LowSync),
+        Do::FailGroup => failed(FaultOf::GroupWrite),
+        Do::FailHome(page, byte, sectors) => {
+            let mut bytes = Page::zeros();
+            for i in 0..16 {
+                bytes.0[i] = byte;
+            }
+            failed(FaultOf::LowWrite {
+                page,
+                bytes,
+                sectors,
+            })
+        }
+    })
+}
+
+fn failed(of: FaultOf) -> Step {
+    Step::Fault { fault: FAULT, of }
+}
+
+/// Pages of zeros.
+pub fn zeros(alloc: Global, count: u32) -> Result<PageList, AllocError>
+    ensures { IfOk result (λ pages. length pages < 2 ^ 32) }
+{
+    let mut pages = PageList::new(alloc);
+    for _ in 0..count {
+        pages.push(Page::zeros())?;
+    }
+    Ok(pages)
+}
+
+/// Runs the steps of a table, and gives the refused one.
+pub fn run(
+    alloc: Global,
+    core: &mut CoreState,
+    codes: &[Do],
+) -> Result<Option<StepRefused>, AllocError>
+    requires sound { IsSound core.old }
+    requires few { length codes.now ≤ 2 ^ 32 }
+    ensures { IsSound core.new }
+{
+    let mut steps = Vec::new(alloc);
+    for code in codes {
+        steps.push(step_of(alloc, *code)?)?;
+    }
+    match run_steps(alloc, core, &steps) {
+        Ok(()) => Ok(None),
+        Err(RunError::Refused(refused)) => Ok(Some(refused)),
+        Err(RunError::Memory) => Err(AllocError),
+    }
+}
