@@ -21,7 +21,7 @@ const WRONG_WORDS: [(&[&str], u32); 7] = [
 fn names_the_wrong_word(rt: HostRuntime) -> Result<(), std::test::Fail> {
     let alloc = rt.alloc();
     for (words, place) in WRONG_WORDS {
-        let disk = disk_with(alloc, 4096, &sound_page());
+        let disk = disk_with(alloc, 4096, &sound_page()).ok_or("memory")?;
         let mut out = SureSink::new(alloc);
         let ended = run(&rt, alloc, words, disk, &mut out).ok().ok_or("memory")?;
         assert_eq!(rt; ended.status, Status::Usage { word: place });
@@ -41,7 +41,9 @@ fn a_disk_that_fails_at_its_read(rt: HostRuntime) -> Result<(), std::test::Fail>
         first: 1,
         last: 1,
     })?;
-    let disk = disk_with(alloc, 4096, &sound_page()).with_fails(fails);
+    let disk = disk_with(alloc, 4096, &sound_page())
+        .ok_or("memory")?
+        .with_fails(fails);
     let mut out = SureSink::new(alloc);
     let ended = run(&rt, alloc, &["super", "I"], disk, &mut out)
         .ok()
@@ -66,7 +68,7 @@ fn a_sink_that_takes_one_byte_a_call(rt: HostRuntime) -> Result<(), std::test::F
     let mut out = DripSink {
         inner: MemSink::new(alloc),
     };
-    let disk = disk_with(alloc, 4096, &sound_page());
+    let disk = disk_with(alloc, 4096, &sound_page()).ok_or("memory")?;
     let ended = run(&rt, alloc, &["super", "I"], disk, &mut out)
         .ok()
         .ok_or("memory")?;
@@ -81,7 +83,7 @@ fn sinks_that_fail(rt: HostRuntime) -> Result<(), std::test::Fail> {
     for zero in [false, true] {
         // It takes nothing at its first call.
         let mut out = MemSink::new(alloc).with_fails(1, 1, zero);
-        let disk = disk_with(alloc, 4096, &sound_page());
+        let disk = disk_with(alloc, 4096, &sound_page()).ok_or("memory")?;
         let ended = run(&rt, alloc, &["super", "I"], disk, &mut out)
             .ok()
             .ok_or("memory")?;
@@ -93,7 +95,7 @@ fn sinks_that_fail(rt: HostRuntime) -> Result<(), std::test::Fail> {
         let mut out = DripSink {
             inner: MemSink::new(alloc).with_fails(16, 16, zero),
         };
-        let disk = disk_with(alloc, 4096, &sound_page());
+        let disk = disk_with(alloc, 4096, &sound_page()).ok_or("memory")?;
         let ended = run(&rt, alloc, &["super", "I"], disk, &mut out)
             .ok()
             .ok_or("memory")?;
@@ -104,7 +106,7 @@ fn sinks_that_fail(rt: HostRuntime) -> Result<(), std::test::Fail> {
         let mut out = DripSink {
             inner: MemSink::new(alloc).with_fails(6, 6, zero),
         };
-        let disk = disk_with(alloc, 8, &sound_page());
+        let disk = disk_with(alloc, 8, &sound_page()).ok_or("memory")?;
         let ended = run(&rt, alloc, &["super"], disk, &mut out)
             .ok()
             .ok_or("memory")?;

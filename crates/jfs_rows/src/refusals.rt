@@ -102,7 +102,7 @@ fn names_the_first_broken_rule(rt: HostRuntime) -> Result<(), std::test::Fail> {
     for (changes, pages, rule, value) in REFUSED {
         let mut page = sound_page();
         change(&mut page, changes);
-        let disk = disk_with(alloc, pages, &page);
+        let disk = disk_with(alloc, pages, &page).ok_or("memory")?;
         let mut out = SureSink::new(alloc);
         let ended = run(&rt, alloc, &["super", "I"], disk, &mut out)
             .ok()
@@ -120,7 +120,7 @@ fn accepts_what_breaks_no_rule(rt: HostRuntime) -> Result<(), std::test::Fail> {
     for changed in ACCEPTED {
         let mut page = sound_page();
         change(&mut page, &[changed]);
-        let disk = disk_with(alloc, 4096, &page);
+        let disk = disk_with(alloc, 4096, &page).ok_or("memory")?;
         let mut out = SureSink::new(alloc);
         let ended = run(&rt, alloc, &["super", "I"], disk, &mut out)
             .ok()

@@ -69,13 +69,13 @@ pub fn sound_page() -> Page {
     page
 }
 
-/// A disk of so many pages whose page 8 is this one.
-pub fn disk_with(alloc: Global, pages: u32, page: &Page) -> MemDisk {
+/// A disk of so many pages whose page 8 is this one; `None` where there is no memory for it.
+pub fn disk_with(alloc: Global, pages: u32, page: &Page) -> Option<MemDisk> {
     let mut disk = MemDisk::new(alloc, pages);
     if disk.pages() > 8 {
-        let _ = disk.write(8, page);
+        disk.write(8, page).ok()?;
     }
-    disk
+    Some(disk)
 }
 
 /// Runs the top call with these words.
@@ -106,7 +106,7 @@ fn words_of(alloc: Global, words: &[&str]) -> Result<Vec<Vec<u8>>, AllocError> {
 #[test]
 fn prints_the_superblock(rt: HostRuntime) -> Result<(), std::test::Fail> {
     let alloc = rt.alloc();
-    let disk = disk_with(alloc, 4096, &sound_page());
+    let disk = disk_with(alloc, 4096, &sound_page()).ok_or("memory")?;
     let mut out = jfs_io::SureSink::new(alloc);
     let ended = run(&rt, alloc, &["super", "I"], disk, &mut out)
         .ok()
