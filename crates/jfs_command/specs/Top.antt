@@ -26,7 +26,8 @@ pub record Run : Type 0 where
 abbrev pub IsPage8 : Type 0 → ℕ → Image → List ℕ → Type 0
 IsPage8 tells pages image page = tells → 9 ≤ pages → page ≡ page_of image 8
 
--- The cause of each status. Of an image, one status at most has its cause beside the faults and want of memory: so each comes exactly where it has.
+-- The cause of each status. Of an image, one status at most has its cause beside the faults and want of memory: so, unless
+-- the disk failed or memory ran out first, each comes exactly where it has.
 abbrev pub Ends : Run → Status → Type 0
 Ends run statuses.Done = (run.asked ≡ Ok Super) × IsAccepted (super_of run.page) run.pages
 Ends run (statuses.Usage word) = run.asked ≡ Err (record { word = word })

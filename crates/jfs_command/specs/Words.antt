@@ -27,15 +27,15 @@ abbrev usage : ℕ → Result Command Usage
 usage word = Err (record { word = word })
 
 -- after `super`, one name
-abbrev pub super_of : List (List ℕ) → Result Command Usage
-super_of [] = usage 2
-super_of (image ∷ []) = if is_name image then Ok Super else usage 2
-super_of (image ∷ more ∷ rest) = if is_name image then usage 3 else usage 2
+abbrev pub after_super : List (List ℕ) → Result Command Usage
+after_super [] = usage 2
+after_super (image ∷ []) = if is_name image then Ok Super else usage 2
+after_super (image ∷ more ∷ rest) = if is_name image then usage 3 else usage 2
 
 -- What the words ask for; else the first word that leaves the grammar, or the place after the last where one is missing.
 abbrev pub command_of : List (List ℕ) → Result Command Usage
 command_of [] = usage 1
-command_of (first ∷ rest) = if is_super first then super_of rest else usage 1
+command_of (first ∷ rest) = if is_super first then after_super rest else usage 1
 
 -- the words leave the grammar where it says, or memory ran out
 abbrev pub UsageIs : PathsError → Result Command Usage → Type 0

@@ -2,7 +2,7 @@
 
 ghost use Rattle.std.specs.Prelude.{◌≡◌, [], IfOk, IfErr, IsOk};
 ghost use Rattle.std.specs.Str.{is_utf8};
-ghost use Rattle.jfs_command.specs.Words.{texts, is_name, is_super, begins_with_dash, command_of, super_of, UsageIs};
+ghost use Rattle.jfs_command.specs.Words.{texts, is_name, is_super, begins_with_dash, command_of, after_super, UsageIs};
 
 use std::alloc::Global;
 
@@ -61,7 +61,7 @@ pub fn read_words(words: &[Vec<u8>]) -> Result<Command, Usage>
 
 // The words after `super`: one name.
 fn super_words(words: &[Vec<u8>]) -> Result<Command, Usage>
-    ensures { result ≡ super_of (texts words.now) }
+    ensures { result ≡ after_super (texts words.now) }
 {
     match words {
         [image] if is_name(image) => Ok(Command::Super),

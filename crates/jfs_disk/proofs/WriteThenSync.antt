@@ -1,5 +1,5 @@
 -- A write and then a sync, moment by moment.
-use Rattle.std.proofs.Common.{◌≡◌, ◌<◌, ◌+◌, ◌-◌, ℕ, List, [], ◌∷◌, ◌++◌, length, sym, ap, subst, ◌∙◌, inl, inr, arith}
+use Rattle.std.proofs.Common.{◌≡◌, ◌<◌, ◌+◌, ◌-◌, ℕ, List, [], ◌∷◌, ◌++◌, length, refl, sym, ap, subst, ◌∙◌, inl, inr, arith}
 use Rattle.std.proofs.lemmas.List.{length-append}
 use Rattle.jfs_disk.specs.Image.{Image, page_of, ArePages}
 use Rattle.jfs_disk.specs.Crash.{DiskState, IsCrashImage, seen_of, written, failed, settled, last_of, AllSince, TearsPage, LeavesTorn}
@@ -76,3 +76,20 @@ pub stable-synced : (mid new : List DiskState) (seen left : Image) → new ≡ m
 stable-synced mid new seen left e now crash =
     crash-settled (last_of mid) left (subst (λ (state : DiskState). IsCrashImage state left) (ap (λ (p : List DiskState). last_of p) e ∙ last_of-push mid (settled (last_of mid))) crash)
     ∙ sym now
+
+-- the past goes on by the write and the sync
+pub past-synced : (past mid new : List DiskState) (after : DiskState) → mid ≡ past ++ after ∷ [] → new ≡ mid ++ settled (last_of mid) ∷ [] → new ≡ (past ++ after ∷ []) ++ settled after ∷ []
+past-synced past mid new after e synced =
+    synced ∙ ap (λ (states : List DiskState). states ++ settled (last_of states) ∷ []) e
+    ∙ ap (λ (state : DiskState). (past ++ after ∷ []) ++ settled state ∷ []) (last_of-push past after)
+
+settled-settled : (state : DiskState) → settled state ≡ settled (settled state)
+unfolding settled
+settled-settled [] = refl
+settled-settled (page ∷ pages) = ap (λ (rest : DiskState). record { seen = page.seen; stable = page.seen; writes = [] } ∷ rest) (settled-settled pages)
+
+-- after a sync nothing is pending
+pub resting-synced : (mid new : List DiskState) → new ≡ mid ++ settled (last_of mid) ∷ [] → IsResting (last_of new)
+resting-synced mid new e =
+    let last : last_of new ≡ settled (last_of mid) = ap (λ (states : List DiskState). last_of states) e ∙ last_of-push mid (settled (last_of mid)) in
+    last ∙ settled-settled (last_of mid) ∙ ap settled (sym last)

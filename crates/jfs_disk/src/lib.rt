@@ -7,7 +7,6 @@ mod disk;
 mod memory;
 mod page;
 mod plan;
-mod stable;
 mod store;
 mod sure;
 
@@ -16,5 +15,4 @@ pub use disk::{Disk, DiskError, Fault, Part};
 pub use memory::MemDisk;
 pub use page::{Page, PageList};
 pub use plan::{Fail, Kind};
-pub use stable::write_stable;
 pub use sure::SureDisk;

@@ -3,11 +3,14 @@
 
 ghost use Rattle.std.specs.Prelude.{◌<◌};
 
+mod stable;
+
+pub use stable::write_stable;
+
 #[cfg(test)]
 mod tests {
-    use jfs_disk::{
-        Choice, Disk, DiskError, Fail, Kind, MemDisk, Page, Part, SureDisk, write_stable,
-    };
+    use crate::write_stable;
+    use jfs_disk::{Choice, Disk, DiskError, Fail, Kind, MemDisk, Page, Part, SureDisk};
     use std::test::Fail as TestFail;
 
     /// A choice of page 0, and the page that it leaves: `at` bytes `front`, then the rest `rest`.

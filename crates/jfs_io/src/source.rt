@@ -22,7 +22,7 @@ pub trait Source {
     ghost remaining: { Self → List ℕ };
 
     /// Puts the next bytes into the front of `into` and answers how many they are. 0 for a buffer that isn't empty is
-    /// the end of the input.
+    /// the end of the input. After an `Err`, `into` may hold any bytes.
     fn take(&mut self, into: &mut [u8]) -> Result<usize, IoFailed>
         ensures count { IfOk result (λ n. n ≤ length into.old) }
         ensures bytes { IfOk result (λ n. tells → into.new ≡ take n (remaining self.old) ++ drop n into.old) }
@@ -106,6 +106,7 @@ impl Source for MemSource {
         ensures exact { IsErr result ↔ IsTrue (is_failing self.old.failing) }
         ensures counted { self.new.failing ≡ after_call self.old.failing }
         ensures all { IfOk result (λ n. n ≡ min (length into.old) (length self.old.left)) }
+        ensures untouched { OnErr result (into.new ≡ into.old) }
     {
         if self.failing.next_fails() {
             return Err(IoFailed);

@@ -1,13 +1,12 @@
 //! A write that is made stable.
 
-ghost use Rattle.std.specs.Prelude.{◌≡◌, ◌≢◌, ◌<◌, OnOk, set};
+ghost use Rattle.std.specs.Prelude.{◌≡◌, ◌≢◌, ◌<◌, [], ◌∷◌, ◌++◌, OnOk, set};
 ghost use Rattle.jfs_disk.specs.Image.{Image};
-ghost use Rattle.jfs_disk.specs.Crash.{last_of, IsCrashImage, AllSince, TearsPage};
+ghost use Rattle.jfs_disk.specs.Crash.{last_of, written, settled, IsCrashImage, AllSince, TearsPage};
 ghost use Rattle.jfs_disk.specs.Moment.{now_of, IsResting};
 ghost use Rattle.jfs_disk.specs.Fault.{HasCause};
 
-use crate::disk::{Disk, DiskError};
-use crate::page::Page;
+use jfs_disk::{Disk, DiskError, Page};
 
 /// Writes page `n` and syncs. It never answers `Memory`.
 pub fn write_stable<D: Disk>(disk: &mut D, n: u32, page: &Page) -> Result<(), DiskError>
@@ -22,6 +21,12 @@ pub fn write_stable<D: Disk>(disk: &mut D, n: u32, page: &Page) -> Result<(), Di
     // After it, a crash leaves the new image alone.
     ensures stable { OnOk result (D.tells → D.tells_crashes
         → (left : Image) → IsCrashImage (last_of (D.past disk.new)) left → left ≡ set (D.image disk.old) n page.now.0) }
+
+    // Nothing is pending then, so that a further call may begin. The past goes on by these two states.
+    ensures resting { OnOk result (D.tells_crashes → IsResting (last_of (D.past disk.new))) }
+    ensures past { OnOk result (D.tells_crashes → D.past disk.new
+        ≡ (D.past disk.old ++ written n page.now.0 (last_of (D.past disk.old)) ∷ [])
+            ++ settled (written n page.now.0 (last_of (D.past disk.old))) ∷ []) }
 
     ensures cause { HasCause (D.fault_count disk.old) (D.fault_count disk.new) result }
     ensures no_memory { result ≢ Err DiskError.Memory }

@@ -1,6 +1,6 @@
 use Rattle.std.proofs.Common.{◌∙◌}
-use Rattle.jfs_disk.proofs.WriteThenSync.{all-failed, all-written, all-synced, stable-synced}
-use Rattle.jfs_disk.proofs.stable.write_stable.Goals as goal
+use Rattle.jfs_disk.proofs.WriteThenSync.{all-failed, all-written, all-synced, stable-synced, past-synced, resting-synced}
+use Rattle.jfs_disk_rows.proofs.stable.write_stable.Goals as goal
 
 pub returns-in_err-write-clause-any_moment : goal.returns-in_err-write-clause-any_moment
 returns-in_err-write-clause-any_moment g c = λ t k rests.
@@ -33,3 +33,10 @@ returns-clause-stable g c = λ t k left crash.
     let mid = c.write.new.self in
     stable-synced (g.D.Disk.past mid) (g.D.Disk.past c.sync.new.self) (g.D.Disk.image mid) left (c.in_ok-sync.ensures.past k) (laws.reads_now mid k) crash
     ∙ c.in_ok-write.ensures.image t
+
+pub returns-clause-past : goal.returns-clause-past
+returns-clause-past g c = λ k.
+    past-synced (g.D.Disk.past c.args.disk.now) (g.D.Disk.past c.write.new.self) (g.D.Disk.past c.sync.new.self) _ (c.in_ok-write.ensures.past k) (c.in_ok-sync.ensures.past k)
+
+pub returns-clause-resting : goal.returns-clause-resting
+returns-clause-resting g c = λ k. resting-synced (g.D.Disk.past c.write.new.self) (g.D.Disk.past c.sync.new.self) (c.in_ok-sync.ensures.past k)
