@@ -3,7 +3,7 @@
 use crate::drip::DripSink;
 use crate::volume::{LINES, disk_with, run, sound_page};
 use jfs_command::Status;
-use jfs_disk::{Fail, Kind, Part};
+use jfs_disk::{Disk, Fail, Kind, Part};
 use jfs_io::{MemSink, SureSink};
 
 /// Words, and the place of the first that leaves the grammar.
@@ -59,6 +59,32 @@ fn a_disk_that_fails_at_its_read(rt: HostRuntime) -> Result<(), std::test::Fail>
         .ok_or("memory")?;
     assert_eq!(rt; ended.status, Status::Done);
     assert_eq!(rt; out.bytes(), LINES.as_bytes());
+    Ok(())
+}
+
+#[test]
+fn page_8_is_read_once_or_not_at_all(rt: HostRuntime) -> Result<(), std::test::Fail> {
+    let alloc = rt.alloc();
+    // Of a sound volume a second read would fail; of 8 pages any would.
+    for (pages, first, number) in [(4096, 2, 0), (8, 1, 3)] {
+        let mut fails = Vec::new(alloc);
+        let kind = Kind::Read;
+        fails.push(Fail {
+            part: Part::Whole,
+            kind,
+            first,
+            last: u64::MAX,
+        })?;
+        let disk = disk_with(alloc, pages, &sound_page())
+            .ok_or("memory")?
+            .with_fails(fails);
+        let mut out = SureSink::new(alloc);
+        let ended = run(&rt, alloc, &["super", "I"], disk, &mut out)
+            .ok()
+            .ok_or("memory")?;
+        assert_eq!(rt; ended.status.number(), number);
+        assert_eq!(rt; ended.disk.faults(), 0);
+    }
     Ok(())
 }
 

@@ -1,4 +1,4 @@
-//! Tests of the top call, with the texts that users see.
+//! Tests of the top call, with the texts that users see, and of fields, sources and layouts below it.
 #![tactic(auto)]
 
 #[cfg(test)]
