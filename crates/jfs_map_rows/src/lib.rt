@@ -7,6 +7,10 @@ ghost use Rattle.jfs_dmap.specs.Dmap.{blocks_of, taken_in, is_full, IsDmap};
 use jfs_disk::Page;
 use jfs_dmap::{dmap_clear, dmap_find, dmap_mark};
 
+mod control;
+
+pub use control::{find_one, free_control, set_one};
+
 #[cfg(test)]
 mod rows;
 

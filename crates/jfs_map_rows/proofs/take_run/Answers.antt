@@ -1,4 +1,4 @@
-use Rattle.std.proofs.Common.{◌≡◌, ◌<◌, ◌+◌, ◌*◌, ◌^◌, ◌%◌, ◌∙◌, ◌||◌, ℕ, arith}
+use Rattle.std.proofs.Common.{◌+◌, ◌^◌, ◌∙◌, arith}
 use Rattle.std.proofs.lemmas.Bool.{or_left}
 use Rattle.std.proofs.lemmas.Nat.{one_shl}
 use Rattle.jfs_bits.specs.Bits.{is_in_run}
