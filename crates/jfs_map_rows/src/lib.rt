@@ -12,6 +12,8 @@ mod control;
 pub use control::{find_one, free_control, set_one};
 
 #[cfg(test)]
+mod map_control;
+#[cfg(test)]
 mod rows;
 
 /// Takes the lowest free run of `2^l2` blocks of a page.

@@ -1,0 +1,67 @@
+//! The control page of the block map, as bytes.
+
+use jfs_bits::{get_u8, get_u32, get_u64};
+use jfs_disk::Page;
+use jfs_dmapctl::{MapControl, read_map_control, write_map_control};
+
+/// The control page of a new volume of 3,008 blocks of which 2,975 are free, all in one group.
+fn new_volume() -> MapControl {
+    let mut agfree = [0; 128];
+    agfree[0] = 2975;
+    agfree[127] = 7;
+    MapControl {
+        mapsize: 3008,
+        nfree: 2975,
+        l2nbperpage: 0,
+        numag: 1,
+        maxlevel: 0,
+        maxag: 5,
+        agpref: 6,
+        aglevel: 8,
+        agheight: 9,
+        agwidth: 10,
+        agstart: 341,
+        agl2size: 13,
+        agfree,
+        agsize: 8192,
+        maxfreebud: -1,
+    }
+}
+
+#[test]
+fn the_control_page_has_each_field_in_its_place(rt: HostRuntime) {
+    let mut page = Page([0x55; 4096]);
+    write_map_control(&mut page, &new_volume());
+    let bytes: &[u8] = &page.0;
+    for (at, wanted) in [
+        (0, 3008),
+        (8, 2975),
+        (56, 2975),
+        (64, 0),
+        (1072, 7),
+        (1080, 8192),
+    ] {
+        assert_eq!(rt; get_u64(bytes, at), wanted, "at {at}");
+    }
+    for (at, wanted) in [
+        (16, 0),
+        (20, 1),
+        (24, 0),
+        (28, 5),
+        (32, 6),
+        (36, 8),
+        (40, 9),
+        (44, 10),
+        (48, 341),
+        (52, 13),
+    ] {
+        assert_eq!(rt; get_u32(bytes, at), wanted, "at {at}");
+    }
+    assert_eq!(rt; get_u8(bytes, 1088), 0xff);
+    assert_eq!(rt; get_u8(bytes, 1089), 0x55);
+    let read = read_map_control(&page);
+    assert_eq!(rt; read.mapsize, 3008);
+    assert_eq!(rt; read.agl2size, 13);
+    assert_eq!(rt; read.agfree[127], 7);
+    assert_eq!(rt; read.maxfreebud, -1);
+}
