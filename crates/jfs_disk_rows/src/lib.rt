@@ -1,7 +1,7 @@
 //! Rows of what disks in memory do, worked out by hand.
 #![tactic(auto)]
 
-ghost use Rattle.std.specs.Prelude.{◌<◌};
+ghost use Rattle.std.specs.Prelude.{◌≡◌, ◌<◌};
 
 mod stable;
 
@@ -245,25 +245,39 @@ mod tests {
         Ok(())
     }
 
-    // The second read fails on a disk that is whole; fails of the other parts are not its own.
+    // One call of a kind on page 0: whether it succeeds.
+    fn succeeds<D: Disk>(disk: &mut D, kind: Kind) -> bool
+        requires { 0 < D.page_count disk.old }
+        ensures { D.page_count disk.new ≡ D.page_count disk.old }
+    {
+        let mut page = Page::zeros();
+        match kind {
+            Kind::Read => disk.read(0, &mut page).is_ok(),
+            Kind::Write => disk.write(0, &page).is_ok(),
+            Kind::Sync => disk.sync().is_ok(),
+        }
+    }
+
+    // The second call of a kind fails on a disk that is whole; fails of the other parts are not its own.
     #[test]
-    fn reads_fail_on_their_own_part(rt: HostRuntime) -> Result<(), TestFail> {
-        for (part, faults) in [(Part::Whole, 1), (Part::Low, 0), (Part::High, 0)] {
-            let fails = vec![in rt.alloc();
-                Fail {
-                    part,
-                    kind: Kind::Read,
-                    first: 2,
-                    last: 2
-                },
-            ]?;
-            let mut disk = MemDisk::new(rt.alloc(), 1).with_fails(fails);
-            let mut page = Page::zeros();
-            assert!(rt; disk.read(0, &mut page).is_ok());
-            let second = disk.read(0, &mut page);
-            assert_eq!(rt; second.is_ok(), faults == 0);
-            assert!(rt; disk.read(0, &mut page).is_ok());
-            assert_eq!(rt; disk.faults(), faults);
+    fn calls_fail_on_their_own_part(rt: HostRuntime) -> Result<(), TestFail> {
+        for kind in [Kind::Read, Kind::Write, Kind::Sync] {
+            for (part, faults) in [(Part::Whole, 1), (Part::Low, 0), (Part::High, 0)] {
+                let (first, last) = (2, 2);
+                let fails = vec![in rt.alloc();
+                    Fail {
+                        part,
+                        kind,
+                        first,
+                        last
+                    },
+                ]?;
+                let mut disk = MemDisk::new(rt.alloc(), 1).with_fails(fails);
+                assert!(rt; succeeds(&mut disk, kind));
+                assert_eq!(rt; succeeds(&mut disk, kind), faults == 0);
+                assert!(rt; succeeds(&mut disk, kind));
+                assert_eq!(rt; disk.faults(), faults);
+            }
         }
         Ok(())
     }

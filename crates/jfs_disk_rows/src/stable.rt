@@ -26,7 +26,7 @@ pub fn write_stable<D: Disk>(disk: &mut D, n: u32, page: &Page) -> Result<(), Di
     ensures resting { OnOk result (D.tells_crashes → IsResting (last_of (D.past disk.new))) }
     ensures past { OnOk result (D.tells_crashes → D.past disk.new
         ≡ (D.past disk.old ++ written n page.now.0 (last_of (D.past disk.old)) ∷ [])
-            ++ settled (written n page.now.0 (last_of (D.past disk.old))) ∷ []) }
+        ++ settled (written n page.now.0 (last_of (D.past disk.old))) ∷ []) }
 
     ensures cause { HasCause (D.fault_count disk.old) (D.fault_count disk.new) result }
     ensures no_memory { result ≢ Err DiskError.Memory }
