@@ -19,8 +19,10 @@ pub fn find_run(tree: &[u8], height: u32, whole: u8, rank: u8) -> Option<u32>
     requires size { length tree.now ≡ first_of (suc height) }
     requires few { height < 16 }
     requires inner { HasMaxima tree.now }
+    requires some { 0 < rank }
+    requires whole { 0 < whole }
     requires most { rank ≤ whole + 2 * height }
-    ensures { (own : ℕ → ℕ) → 0 < rank → 0 < whole → IsBuddyTree height whole own tree.now → IsLowestRun height own whole rank result }
+    ensures { (own : ℕ → ℕ) → IsBuddyTree height whole own tree.now → IsLowestRun height own whole rank result }
 {
     find_leaf(tree, height, rank)
 }

@@ -153,10 +153,10 @@ large-some map k v h lowest =
 
 -- what the tree's search says of a canonical page
 abbrev pub Searched : List ℕ → ℕ → Option ℕ → Type 0
-Searched page l2 o = (own : ℕ → ℕ) → 0 < l2 + 1 → 0 < 6 → IsBuddyTree 4 6 own (take 341 (drop 33 page)) → IsLowestRun 4 own 6 (l2 + 1) o
+Searched page l2 o = (own : ℕ → ℕ) → IsBuddyTree 4 6 own (take 341 (drop 33 page)) → IsLowestRun 4 own 6 (l2 + 1) o
 
 searched : (page : List ℕ) (l2 : ℕ) (o : Option ℕ) → IsDmap page → Searched page l2 o → IsLowestRun 4 (word_rank (map_of page)) 6 (suc l2) o
-searched page l2 o d h = rw add-one at (h (word_rank (map_of page)) (omega arith) (omega arith) (rw (part-is page 33 341) d.tree))
+searched page l2 o d h = rw add-one at (h (word_rank (map_of page)) (rw (part-is page 33 341) d.tree))
 
 pub page-none : (page : List ℕ) (l2 : ℕ) → l2 ≤ 13 → IsDmap page → Searched page l2 None → IsLowestFree (taken_in page) (8192 / 2 ^ l2) l2 None
 page-none page l2 b d h =

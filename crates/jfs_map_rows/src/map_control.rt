@@ -33,30 +33,22 @@ fn the_control_page_has_each_field_in_its_place(rt: HostRuntime) {
     let mut page = Page([0x55; 4096]);
     write_map_control(&mut page, &new_volume());
     let bytes: &[u8] = &page.0;
-    for (at, wanted) in [
-        (0, 3008),
-        (8, 2975),
-        (56, 2975),
-        (64, 0),
-        (1072, 7),
-        (1080, 8192),
-    ] {
-        assert_eq!(rt; get_u64(bytes, at), wanted, "at {at}");
-    }
-    for (at, wanted) in [
-        (16, 0),
-        (20, 1),
-        (24, 0),
-        (28, 5),
-        (32, 6),
-        (36, 8),
-        (40, 9),
-        (44, 10),
-        (48, 341),
-        (52, 13),
-    ] {
-        assert_eq!(rt; get_u32(bytes, at), wanted, "at {at}");
-    }
+    assert_eq!(rt; get_u64(bytes, 0), 3008);
+    assert_eq!(rt; get_u64(bytes, 8), 2975);
+    assert_eq!(rt; get_u32(bytes, 16), 0);
+    assert_eq!(rt; get_u32(bytes, 20), 1);
+    assert_eq!(rt; get_u32(bytes, 24), 0);
+    assert_eq!(rt; get_u32(bytes, 28), 5);
+    assert_eq!(rt; get_u32(bytes, 32), 6);
+    assert_eq!(rt; get_u32(bytes, 36), 8);
+    assert_eq!(rt; get_u32(bytes, 40), 9);
+    assert_eq!(rt; get_u32(bytes, 44), 10);
+    assert_eq!(rt; get_u32(bytes, 48), 341);
+    assert_eq!(rt; get_u32(bytes, 52), 13);
+    assert_eq!(rt; get_u64(bytes, 56), 2975);
+    assert_eq!(rt; get_u64(bytes, 64), 0);
+    assert_eq!(rt; get_u64(bytes, 1072), 7);
+    assert_eq!(rt; get_u64(bytes, 1080), 8192);
     assert_eq!(rt; get_u8(bytes, 1088), 0xff);
     assert_eq!(rt; get_u8(bytes, 1089), 0x55);
     let read = read_map_control(&page);
