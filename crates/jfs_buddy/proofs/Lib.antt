@@ -6,3 +6,4 @@ pub mod Changes
 pub mod Levels
 pub mod Finds
 pub mod Renewals
+pub mod Same

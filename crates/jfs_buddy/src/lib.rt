@@ -2,7 +2,9 @@
 #![tactic(auto)]
 
 mod join;
+mod law;
 mod tree;
 
 pub use join::{clear_tree, find_run, set_leaf};
+pub use law::trees_agree;
 pub use tree::{find_leaf, leaf_rank, rank, rank_of_value};

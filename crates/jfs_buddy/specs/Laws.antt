@@ -1,0 +1,11 @@
+-- What makes a tree a function of its leaves.
+use Rattle.std.specs.Prelude.{◌≡◌, ℕ, ◌<◌, List, slice_index}
+use Rattle.jfs_buddy.specs.Buddy.{IsBuddyTree}
+
+-- each number is one byte
+abbrev pub AreBytes : List ℕ → Type 0
+AreBytes bytes = (n : ℕ) → slice_index bytes n < 256
+
+-- two trees over the same own ranks hold the same bytes
+abbrev pub TreesAgree : Type 0
+TreesAgree = (height whole : ℕ) (own : ℕ → ℕ) (one other : List ℕ) → AreBytes one → AreBytes other → IsBuddyTree height whole own one → IsBuddyTree height whole own other → one ≡ other
