@@ -7,3 +7,4 @@ pub mod Levels
 pub mod Finds
 pub mod Renewals
 pub mod Same
+pub mod Places

@@ -2,10 +2,12 @@
 #![tactic(auto)]
 
 mod change;
+mod law;
 mod map_control;
 mod page;
 mod part;
 
 pub use change::{ctl_find, ctl_set};
+pub use law::controls_agree;
 pub use map_control::{MapControl, read_map_control, write_map_control};
 pub use page::ctl_canonical;
