@@ -27,7 +27,7 @@ pub field-same : (at width : ℕ) (one other : List ℕ) → AreBytes one → Ar
 unfolding field_of
 field-same = number-same
 
-part-at : (page : List ℕ) (at width k : ℕ) → k < width → get_or (range_of page at width) k 0 ≡ get_or page (at + k) 0
+pub part-at : (page : List ℕ) (at width k : ℕ) → k < width → get_or (range_of page at width) k 0 ≡ get_or page (at + k) 0
 unfolding range_of
 part-at page at width k h = get_or-take width (drop at page) k 0 h ∙ get_or-drop at page k 0
 

@@ -4,3 +4,5 @@ pub mod Pages
 pub mod Lowest
 pub mod Finds
 pub mod Heads
+pub mod Same
+pub mod Agreed

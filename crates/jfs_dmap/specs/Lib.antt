@@ -1,1 +1,2 @@
 pub mod Dmap
+pub mod Laws

@@ -3,9 +3,11 @@
 
 mod change;
 mod find;
+mod law;
 mod page;
 mod words;
 
 pub use change::{dmap_clear, dmap_mark};
 pub use find::dmap_find;
+pub use law::pages_agree;
 pub use page::dmap_canonical;
