@@ -1,2 +1,3 @@
 pub mod Dmap
 pub mod Laws
+pub mod Greatest

@@ -5,6 +5,7 @@ mod change;
 mod find;
 mod law;
 mod page;
+
 mod words;
 
 pub use change::{dmap_clear, dmap_mark};

@@ -1,0 +1,72 @@
+-- The file of the block map: its control page, the control pages of levels 2, 1 and 0, then the dmaps. (JFS Layout, block map.)
+use Rattle.std.specs.Prelude.{◌≡◌, ℕ, zero, suc, ◌+◌, ◌-◌, ◌*◌, ◌/◌, ◌%◌, ◌^◌, ◌<◌, ◌≤◌, min, nat_lt, nat_le, Bool, not, ◌&&◌, if◌then◌else◌, List, length, replicate, slice_index}
+use Rattle.jfs_bits.specs.Field.{range_of}
+use Rattle.jfs_buddy.specs.Tree.{rank_of}
+use Rattle.jfs_dmap.specs.Dmap.{count_below, taken_in}
+use Rattle.jfs_dmap.specs.Greatest.{greatest_run}
+use Rattle.jfs_dmapctl.specs.Control.{IsControl}
+use Rattle.jfs_dmapctl.specs.MapControl.{IsMapControl}
+use Rattle.jfs_dmapctl.specs.declared.map_control.MapControl.{MapControl}
+use Rattle.jfs_bmap.specs.Pages.{IsDmapOf, leaf_ranks}
+
+-- 1 + 4 + 16 + .., so many powers of 4
+unfoldable pub powers_of_4 : ℕ → ℕ
+powers_of_4 zero = 0
+powers_of_4 (suc n) = powers_of_4 n + 4 ^ n
+
+-- allocation groups: at most 128, each of a power of two of at least 8,192 blocks
+pub record AreGroups (blocks agsize : ℕ) : Type 0 where
+  pub some : 0 < blocks
+  pub l2 : ℕ
+  pub least : 13 ≤ l2
+  pub power : agsize ≡ 2 ^ l2
+  pub most : blocks ≤ 128 * agsize
+
+-- the levels above a group's leaf on the control page where groups begin, and the place there
+pub record IsGroupShape (m : MapControl) : Type 0 where
+  -- the level of the control page whose leaves are no greater than a group
+  pub level : m.aglevel ≡ (if nat_le m.agl2size 23 then 0 else 1)
+  -- with v = agl2size - 13 - 10 * aglevel, a group has 2 ^ v leaves there: so many levels of four, and a rest of 1 or 2
+  pub height : m.agheight ≡ (m.agl2size - 13 - 10 * m.aglevel) / 2
+  pub width : m.agwidth ≡ 2 ^ ((m.agl2size - 13 - 10 * m.aglevel) % 2)
+  pub start : m.agstart ≡ powers_of_4 (5 - m.agheight)
+
+-- the canonical control page's numbers, of a volume of so many blocks in groups of `agsize`, those of the set taken
+pub record IsMapControlOf (blocks agsize : ℕ) (taken : ℕ → Bool) (m : MapControl) : Type 0 where
+  pub mapsize : m.mapsize ≡ blocks
+  pub nfree : m.nfree ≡ count_below blocks (λ b. not (taken b))
+  -- a page of the map has 2 ^ 0 blocks
+  pub l2nbperpage : m.l2nbperpage ≡ 0
+  -- the number of groups, the last one perhaps in part, and the greatest group's number
+  pub numag : m.numag ≡ (blocks + agsize - 1) / agsize
+  pub maxag : m.maxag ≡ m.numag - 1
+  -- the highest level of control pages in use
+  pub maxlevel : m.maxlevel ≡ 0
+  pub agpref : m.agpref ≡ 0
+  pub shape : IsGroupShape m
+  pub agl2size : agsize ≡ 2 ^ m.agl2size
+  pub group_size : m.agsize ≡ agsize
+  -- the free blocks of each group
+  pub agfree : (k : ℕ) → k < 128 → slice_index m.agfree k ≡ count_below agsize (λ i. not (taken (agsize * k + i)))
+  -- the greatest free run of the volume, which is the value at the root of level 0
+  pub maxfreebud : m.maxfreebud ≡ greatest_run taken 23 23
+
+-- page `n` of the file in its canonical form, for a volume of so many blocks in groups of `agsize`, those of the set taken
+pub record IsFirstPage (blocks agsize : ℕ) (taken : ℕ → Bool) (page : List ℕ) : Type 0 where
+  pub numbers : MapControl
+  pub held : IsMapControl numbers page
+  pub canonical : IsMapControlOf blocks agsize taken numbers
+  pub pad : range_of page 1089 3007 ≡ replicate 3007 0
+
+-- dmap `k`, those of its blocks taken that are
+pub record IsDmapPage (blocks : ℕ) (taken : ℕ → Bool) (k : ℕ) (page : List ℕ) : Type 0 where
+  pub dmap : IsDmapOf blocks k page
+  pub set : (i : ℕ) → 8192 * k + i < blocks → i < 8192 → taken_in page i ≡ taken (8192 * k + i)
+
+-- levels 2 and 1 are not in use: no leaf has a page below it
+abbrev pub IsMapPage : ℕ → ℕ → (ℕ → Bool) → ℕ → List ℕ → Type 0
+IsMapPage blocks agsize taken zero page = IsFirstPage blocks agsize taken page
+IsMapPage blocks agsize taken (suc zero) page = IsControl 2 (λ v. 0) page
+IsMapPage blocks agsize taken (suc (suc zero)) page = IsControl 1 (λ v. 0) page
+IsMapPage blocks agsize taken (suc (suc (suc zero))) page = IsControl 0 (leaf_ranks taken) page
+IsMapPage blocks agsize taken (suc (suc (suc (suc k)))) page = IsDmapPage blocks taken k page

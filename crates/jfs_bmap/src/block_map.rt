@@ -1,0 +1,101 @@
+//! The block map of a mounted volume.
+
+ghost use Rattle.std.specs.Prelude.{◌≡◌, ◌+◌, ◌*◌, ◌%◌, ◌^◌, ◌≤◌, length, ℕ, IfOk};
+ghost use Rattle.jfs_bmap.specs.States.{fresh, free_count, busy_count, is_owned};
+ghost use Rattle.jfs_bmap.specs.MapFile.{AreGroups, IsMapPage};
+
+use crate::freed::Freed;
+use crate::map_pages::MapPages;
+use jfs_disk::Page;
+use std::alloc::{AllocError, Global};
+use std::marker::Model;
+
+/// What each block of a volume is in use for: free, owned, reserved for an entry that is being made, or busy, that is freed by an
+/// entry that isn't durable yet. Two sets of map pages: the owned blocks, which the volume's pages tell, and all used ones, which a
+/// search passes over.
+#[derive(Drop)]
+pub struct BlockMap {
+    pub(crate) agsize: u32,
+    pub(crate) owned: MapPages,
+    pub(crate) used: MapPages,
+    pub(crate) busy: Vec<u8>,
+    pub(crate) busy_blocks: u32,
+    pub(crate) freed: Vec<Freed>,
+    pub(crate) spare: u32,
+    pub(crate) mixed: bool,
+}
+
+impl Model for BlockMap {
+    ghost use Rattle.std.specs.Prelude.{◌≤◌, ◌+◌, length};
+    ghost use Rattle.std.specs.Prelude.{vec_len, vec_capacity};
+    ghost use Rattle.jfs_bmap.specs.Set.{each_below};
+    ghost use Rattle.jfs_bmap.specs.MapFile.{AreGroups};
+    ghost use Rattle.jfs_bmap.specs.States.{Blocks};
+    ghost use Rattle.jfs_bmap.specs.Freed.{state_in, AreKept};
+
+    ghost Value = { Blocks };
+
+    ghost view = { λ m. record {
+      states = each_below (length m.owned) (state_in m.owned m.used m.busy.items m.freed.items);
+      agsize = m.agsize;
+      spare = m.spare;
+    } };
+
+    ghost invariant = { λ m.
+      AreKept m.owned m.used m.busy.items m.busy_blocks m.freed.items m.mixed
+      × (vec_len m.freed + m.spare ≤ vec_capacity m.freed)
+      × AreGroups (length m.owned) m.agsize };
+}
+
+impl BlockMap {
+    /// The map of a volume of so many blocks in groups of `agsize`, of which those in `set` have owners: a bit for each block, in
+    /// words as in the maps.
+    pub fn from_set(
+        alloc: Global,
+        set: &[u8],
+        blocks: u32,
+        agsize: u32,
+    ) -> Result<BlockMap, AllocError>
+        requires most { blocks ≤ 2 ^ 23 }
+        requires size { blocks ≤ 8 * length set.now }
+        requires words { length set.now % 4 ≡ 0 }
+        requires groups { AreGroups blocks agsize }
+        ensures { IfOk result (λ map. map ≡ fresh set.now blocks agsize) }
+    {
+        let owned = MapPages::from_set(alloc, set, blocks)?;
+        let used = MapPages::from_set(alloc, set, blocks)?;
+        let busy = vec![in alloc; 0u8; 4 * blocks.div_ceil(32) as usize]?;
+        Ok(BlockMap {
+            agsize,
+            owned,
+            used,
+            busy,
+            busy_blocks: 0,
+            freed: Vec::new(alloc),
+            spare: 0,
+            mixed: false,
+        })
+    }
+
+    /// The number of free blocks.
+    pub fn free(&self) -> u32
+        ensures { result ≡ free_count self.now }
+    {
+        self.used.free()
+    }
+
+    /// The number of busy blocks.
+    pub fn busy(&self) -> u32
+        ensures { result ≡ busy_count self.now }
+    {
+        self.busy_blocks
+    }
+
+    /// Writes page `n` of the map's file in its canonical form, those blocks set that have owners: the map's control page, the
+    /// control pages of levels 2, 1 and 0, then the dmaps; one past the last has no block. (JFS Layout, block map.)
+    pub fn write_page(&self, n: u32, page: &mut Page)
+        ensures { IsMapPage (length self.now.states) self.now.agsize (is_owned self.now) n page.new.0 }
+    {
+        self.owned.write_page(self.agsize, n, page);
+    }
+}

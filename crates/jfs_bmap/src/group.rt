@@ -1,0 +1,79 @@
+//! The numbers of the map's control page, most of them of its allocation groups.
+
+ghost use Rattle.std.specs.Prelude.{◌≡◌, ◌<◌, ◌≤◌, ◌+◌, ◌-◌, ◌*◌, ◌/◌, ◌%◌, ◌^◌, not, length, slice_index, ℕ};
+ghost use Rattle.jfs_dmap.specs.Dmap.{count_below};
+ghost use Rattle.jfs_dmap.specs.Greatest.{greatest_run};
+ghost use Rattle.jfs_bmap.specs.Set.{taken_at};
+ghost use Rattle.jfs_bmap.specs.MapFile.{powers_of_4, AreGroups, IsMapControlOf};
+
+use crate::map_pages::MapPages;
+use crate::read::dmap_free;
+use jfs_dmapctl::MapControl;
+
+impl MapPages {
+    /// The numbers of the map's control page.
+    pub fn numbers(&self, agsize: u32) -> MapControl
+        requires { AreGroups (length self.now) agsize }
+        ensures { IsMapControlOf (length self.now) agsize (taken_at self.now) result }
+    {
+        let agl2size = agsize.ilog2();
+        let aglevel = if agl2size <= 23 { 0 } else { 1 };
+        let l2_leaves = agl2size - 13 - 10 * aglevel;
+        let numag = self.blocks().div_ceil(agsize);
+        MapControl {
+            mapsize: u64::from(self.blocks()),
+            nfree: u64::from(self.free()),
+            l2nbperpage: 0,
+            numag,
+            maxlevel: 0,
+            maxag: numag - 1,
+            agpref: 0,
+            aglevel,
+            agheight: l2_leaves / 2,
+            agwidth: 1 << (l2_leaves % 2),
+            agstart: first_of_level(5 - l2_leaves / 2),
+            agl2size,
+            agfree: self.free_of_groups(agsize),
+            agsize: u64::from(agsize),
+            maxfreebud: self.greatest_run(),
+        }
+    }
+
+    /// The number of free blocks of each group.
+    fn free_of_groups(&self, agsize: u32) -> [u64; 128]
+        requires { AreGroups (length self.now) agsize }
+        ensures { (k : ℕ) → k < 128 → slice_index result k ≡ count_below agsize (λ i. not (taken_at self.now (agsize * k + i))) }
+    {
+        let dmaps_of_group = (agsize / 8192) as usize;
+        let mut groups = [0u64; 128];
+        for k in 0..self.dmaps.len() {
+            groups[k / dmaps_of_group] += u64::from(dmap_free(&self.dmaps[k]));
+        }
+        groups
+    }
+
+    /// The l2 of the greatest free aligned run, -1 where no block is free.
+    fn greatest_run(&self) -> i8
+        ensures { result ≡ greatest_run (taken_at self.now) 23 23 }
+    {
+        for below in 0..24u8 {
+            let l2 = 23 - below;
+            if self.find(u32::from(l2)).is_some() {
+                return l2 as i8;
+            }
+        }
+        -1
+    }
+}
+
+/// The first of the nodes that stand so many levels below a root: the sum of so many powers of 4.
+fn first_of_level(depth: u32) -> u32
+    requires { depth ≤ 5 }
+    ensures { result ≡ powers_of_4 depth }
+{
+    let mut first = 0;
+    for _level in 0..depth {
+        first = 4 * first + 1;
+    }
+    first
+}

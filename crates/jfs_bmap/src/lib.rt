@@ -1,0 +1,15 @@
+//! The block map of a volume: which blocks have owners, which are reserved, and which are busy.
+#![tactic(auto)]
+
+mod block_map;
+mod freed;
+mod group;
+mod map_file;
+mod map_pages;
+mod page_of_set;
+mod read;
+mod release;
+mod reserve;
+
+pub use block_map::BlockMap;
+pub use reserve::{NoSpace, ReserveError};

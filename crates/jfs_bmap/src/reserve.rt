@@ -1,0 +1,151 @@
+//! Blocks are reserved, get owners, or are given back.
+
+ghost use Rattle.std.specs.Prelude.{◌≡◌, ◌<◌, ◌≤◌, ◌+◌, ◌-◌, ◌^◌, ◌∷◌, ◌++◌, [], true, length, ℕ, OnOk, OnErr, IfOk, MatchOption, MatchResult};
+ghost use Rattle.jfs_bits.specs.declared.descriptor.Pxd.{Pxd};
+ghost use Rattle.jfs_bits.specs.Bits.{is_free};
+ghost use Rattle.jfs_bmap.specs.Set.{IsLowest};
+ghost use Rattle.jfs_bmap.specs.States.{Reserved, Owned, Free, is_used, is_in_list, state_of, free_count, total_of, put_state, AreApart, AreReserved};
+ghost use Rattle.jfs_bmap.specs.Choice.{IsReservation, IsNextRun, AreNextRuns};
+ghost use Rattle.jfs_bmap.specs.Refusal.{IsRefused};
+
+use crate::block_map::BlockMap;
+use jfs_bits::{Pxd, PxdList};
+use std::alloc::{AllocError, Global};
+
+/// So many blocks are free, fewer than were wanted.
+#[derive(Clone, Copy, PartialEq, Eq, Debug)]
+pub struct NoSpace {
+    pub free: u32,
+}
+
+/// Why no blocks were reserved.
+#[derive(Clone, Copy, PartialEq, Eq, Debug)]
+pub enum ReserveError {
+    /// Fewer blocks are free than were wanted.
+    NoSpace(NoSpace),
+    /// Memory ran out.
+    Memory,
+}
+
+impl BlockMap {
+    /// Reserves `n` free blocks: from `hint` on while they are free; then, for what is left, the lowest free aligned run of the least
+    /// power of two that is at least as many, else of half that, and so on. Refused, and nothing changed, where fewer are free.
+    pub fn reserve(&mut self, alloc: Global, hint: u32, n: u32) -> Result<PxdList, ReserveError>
+        ensures chosen { IfOk result (λ list. IsReservation (is_used self.old) hint n list) }
+        ensures total { IfOk result (λ list. total_of list ≡ n) }
+        ensures free { IfOk result (λ list. (b : ℕ) → is_in_list list b ≡ true → state_of self.old b ≡ Free) }
+        ensures once { IfOk result AreApart }
+        ensures reserved { IfOk result (λ list. self.new ≡ put_state Reserved list self.old) }
+        ensures refused { IsRefused self.old n result }
+        ensures unchanged { OnErr result (self.new ≡ self.old) }
+    {
+        let free = self.free();
+        if free < n {
+            return Err(ReserveError::NoSpace(NoSpace { free }));
+        }
+        let mut list = PxdList::new(alloc);
+        match self.reserve_runs(hint, n, &mut list) {
+            Ok(()) => Ok(list),
+            Err(_) => {
+                self.give_back(&list);
+                Err(ReserveError::Memory)
+            }
+        }
+    }
+
+    /// Reserves the runs of a reservation, where enough blocks are free, and adds them to an empty list. At `Err` the list has those
+    /// that are reserved.
+    fn reserve_runs(&mut self, hint: u32, n: u32, list: &mut PxdList) -> Result<(), AllocError>
+        requires empty { list.old ≡ [] }
+        requires enough { n ≤ free_count self.old }
+        ensures chosen { OnOk result (IsReservation (is_used self.old) hint n list.new) }
+        ensures free { (b : ℕ) → is_in_list list.new b ≡ true → state_of self.old b ≡ Free }
+        ensures once { AreApart list.new }
+        ensures reserved { self.new ≡ put_state Reserved list.new self.old }
+    {
+        let front = self.used.free_front(hint, n);
+        if front > 0 {
+            self.reserve_run(hint, front, list)?;
+        }
+        let mut left = n - front;
+        while left > 0 {
+            let run = self.next_run(left);
+            self.reserve_run(run.addr as u32, run.len, list)?;
+            left -= run.len;
+        }
+        Ok(())
+    }
+
+    /// The next run, where so many blocks are left and at least as many are free.
+    fn next_run(&self, left: u32) -> Pxd
+        requires some { 0 < left }
+        requires enough { left ≤ free_count self.now }
+        ensures { IsNextRun (is_used self.now) left result }
+    {
+        let greatest = left.next_power_of_two().ilog2();
+        for below in 0..greatest + 1 {
+            let l2 = greatest - below;
+            if let Some(first) = self.used.find(l2) {
+                return Pxd {
+                    len: left.min(1 << l2),
+                    addr: u64::from(first),
+                };
+            }
+        }
+        unreachable!()
+    }
+
+    /// Reserves a free run and adds it to a list; at `Err` nothing is changed.
+    fn reserve_run(&mut self, first: u32, n: u32, list: &mut PxdList) -> Result<(), AllocError>
+        requires within { first + n ≤ length self.old.states }
+        requires free { is_free (is_used self.old) first n ≡ true }
+        ensures list { OnOk result (list.new ≡ list.old ++ record { len = n; addr = first } ∷ []) }
+        ensures reserved { OnOk result (self.new ≡ put_state Reserved (record { len = n; addr = first } ∷ []) self.old) }
+        ensures list_stays { OnErr result (list.new ≡ list.old) }
+        ensures unchanged { OnErr result (self.new ≡ self.old) }
+    {
+        list.push(Pxd {
+            len: n,
+            addr: u64::from(first),
+        })?;
+        self.used.mark(first, n);
+        Ok(())
+    }
+
+    /// Reserves the lowest aligned run of four free blocks; None, and nothing changed, exactly where there is none.
+    pub fn run_of_four(&mut self) -> Option<Pxd>
+        ensures lowest { MatchOption result (IsLowest (is_used self.old) 2 None) (λ run. (run.len ≡ 4) × IsLowest (is_used self.old) 2 (Some run.addr)) }
+        ensures reserved { MatchOption result (self.new ≡ self.old) (λ run. self.new ≡ put_state Reserved (run ∷ []) self.old) }
+    {
+        let first = self.used.find(2)?;
+        self.used.mark(first, 4);
+        Some(Pxd {
+            len: 4,
+            addr: u64::from(first),
+        })
+    }
+
+    /// Gives reserved blocks an owner, as an append does.
+    pub fn own(&mut self, list: &PxdList)
+        requires { AreReserved self.old list.now }
+        ensures { self.new ≡ put_state Owned list.now self.old }
+    {
+        for i in 0..list.len() {
+            if let Some(run) = list.get(i) {
+                self.owned.mark(run.addr as u32, run.len);
+            }
+        }
+    }
+
+    /// Gives back reserved blocks that no entry took.
+    pub fn give_back(&mut self, list: &PxdList)
+        requires { AreReserved self.old list.now }
+        ensures { self.new ≡ put_state Free list.now self.old }
+    {
+        for i in 0..list.len() {
+            if let Some(run) = list.get(i) {
+                self.used.clear(run.addr as u32, run.len);
+            }
+        }
+    }
+}
