@@ -7,7 +7,7 @@ ghost use Rattle.jfs_bmap.specs.Set.{taken_at};
 ghost use Rattle.jfs_bmap.specs.MapFile.{powers_of_4, AreGroups, IsMapControlOf};
 
 use crate::map_pages::MapPages;
-use crate::read::dmap_free;
+use jfs_dmap::dmap_free;
 use jfs_dmapctl::MapControl;
 
 impl MapPages {

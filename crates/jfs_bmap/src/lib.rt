@@ -7,7 +7,6 @@ mod group;
 mod map_file;
 mod map_pages;
 mod page_of_set;
-mod read;
 mod release;
 mod reserve;
 

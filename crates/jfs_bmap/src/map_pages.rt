@@ -7,8 +7,7 @@ ghost use Rattle.jfs_bmap.specs.Set.{each_below, taken_at, marked, cleared, free
 
 use crate::page_of_set::dmap_of;
 use jfs_disk::Page;
-use crate::read::{dmap_free, dmap_is_taken, dmap_root};
-use jfs_dmap::{dmap_clear, dmap_find, dmap_mark};
+use jfs_dmap::{dmap_clear, dmap_find, dmap_free, dmap_is_taken, dmap_mark, dmap_root};
 use jfs_dmapctl::{ctl_canonical, ctl_find, ctl_set};
 use std::alloc::{AllocError, Global};
 use std::marker::Model;

@@ -8,3 +8,4 @@ pub mod Finds
 pub mod Renewals
 pub mod Same
 pub mod Places
+pub mod Roots

@@ -29,7 +29,7 @@ no_runs l2 h =
     omega arith
 
 -- runs within a word
-runs-in_words : (l2 : ℕ) → l2 ≤ 5 → 8192 / 2 ^ l2 ≡ 256 * 2 ^ (5 - l2)
+pub runs-in_words : (l2 : ℕ) → l2 ≤ 5 → 8192 / 2 ^ l2 ≡ 256 * 2 ^ (5 - l2)
 runs-in_words l2 h =
     let e : 13 - l2 ≡ 8 + (5 - l2) = omega arith in
     runs_of l2 (omega arith) ∙ ap (λ (z : ℕ). 2 ^ z) e ∙ pow-add 2 8 (5 - l2)
@@ -109,7 +109,7 @@ large-has map k j free =
       wholes = λ l e. (let same : k ≡ l = omega arith in rw (← same) (begin, whole));
     }
 
-has-large : (map : List ℕ) (k v : ℕ) → HasRun (word_rank map) 6 (6 + k) v → (v / 2 ^ k * 2 ^ k ≡ v) × (is_free_run (is_taken map) (5 + k) (v / 2 ^ k) ≡ true)
+pub has-large : (map : List ℕ) (k v : ℕ) → HasRun (word_rank map) 6 (6 + k) v → (v / 2 ^ k * 2 ^ k ≡ v) × (is_free_run (is_taken map) (5 + k) (v / 2 ^ k) ≡ true)
 has-large map k v run =
     let w = run.wholes k refl in
     let j = v / 2 ^ k in

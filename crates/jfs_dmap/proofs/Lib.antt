@@ -6,3 +6,4 @@ pub mod Finds
 pub mod Heads
 pub mod Same
 pub mod Agreed
+pub mod Roots

@@ -81,6 +81,13 @@ word-run map l2 v j h b =
           rw e (word-bit map v (j * 2 ^ l2 + i) (run-end l2 j i h b k))),
     )
 
+-- a free run of the map within a word of that rank
+pub rank-free : (map : List ℕ) (l2 v : ℕ) → l2 ≤ 5 → suc l2 ≤ word_rank map v → (j : ℕ) × (j < 2 ^ (5 - l2)) × (is_free_run (is_taken map) l2 (v * 2 ^ (5 - l2) + j) ≡ true)
+unfolding has_free_run
+rank-free map l2 v h rank =
+    let r = any_below-at (2 ^ (5 - l2)) (is_free_run (is_taken_in (field_of map (4 * v) 4)) l2) (rank-has map v l2 rank) in
+    (r.0, r.1, (word-run map l2 v r.0 h r.1).1 ∙ r.2)
+
 -- a wholly free word
 pub whole-bits : (map : List ℕ) (u : ℕ) → word_rank map u ≡ 6 → (i : ℕ) → i < 32 → is_taken map (32 * u + i) ≡ false
 unfolding has_free_run

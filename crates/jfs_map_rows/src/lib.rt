@@ -8,13 +8,19 @@ use jfs_disk::Page;
 use jfs_dmap::{dmap_clear, dmap_find, dmap_mark};
 
 mod control;
+mod volume;
 
 pub use control::{find_one, free_control, set_one};
+pub use volume::{map_of, release_run, take, take_first_of_two, try_out};
 
 #[cfg(test)]
 mod map_control;
 #[cfg(test)]
 mod rows;
+#[cfg(test)]
+mod slow;
+#[cfg(test)]
+mod volume_rows;
 
 /// Takes the lowest free run of `2^l2` blocks of a page.
 pub fn take_run(page: &mut Page, l2: u32) -> Option<u32>

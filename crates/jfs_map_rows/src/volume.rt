@@ -1,0 +1,82 @@
+//! Calls of the map of a volume, put together.
+
+ghost use Rattle.std.specs.Prelude.{◌≡◌, ◌+◌, ◌*◌, ◌%◌, ◌^◌, ◌<◌, ◌≤◌, length, IfOk, OnOk, OnErr};
+ghost use Rattle.jfs_bmap.specs.States.{Owned, Free, Reserved, put_state};
+
+use jfs_bits::{Pxd, PxdList};
+use jfs_bmap::{BlockMap, ReserveError};
+use std::alloc::{AllocError, Global};
+
+/// The map of a volume of so many blocks in groups of 8,192, of which those in `set` have owners.
+pub fn map_of(alloc: Global, set: &[u8], blocks: u32) -> Result<BlockMap, AllocError>
+    requires some { 0 < blocks }
+    requires most { blocks ≤ 2 ^ 20 }
+    requires size { blocks ≤ 8 * length set.now }
+    requires words { length set.now % 4 ≡ 0 }
+{
+    BlockMap::from_set(alloc, set, blocks, 8192)
+}
+
+/// Reserves blocks and gives them owners.
+pub fn take(
+    map: &mut BlockMap,
+    alloc: Global,
+    hint: u32,
+    n: u32,
+) -> Result<PxdList, ReserveError>
+    ensures { OnErr result (map.new ≡ map.old) }
+{
+    let list = map.reserve(alloc, hint, n)?;
+    map.own(&list);
+    Ok(list)
+}
+
+/// Reserves blocks and gives them back.
+pub fn try_out(
+    map: &mut BlockMap,
+    alloc: Global,
+    hint: u32,
+    n: u32,
+) -> Result<PxdList, ReserveError>
+{
+    let list = map.reserve(alloc, hint, n)?;
+    map.give_back(&list);
+    Ok(list)
+}
+
+/// Reserves blocks twice, then gives the first ones owners and the others back.
+pub fn take_first_of_two(
+    map: &mut BlockMap,
+    alloc: Global,
+    first: u32,
+    second: u32,
+) -> Result<PxdList, ReserveError>
+{
+    let taken = map.reserve(alloc, 0, first)?;
+    match map.reserve(alloc, 0, second) {
+        Ok(other) => {
+            map.own(&taken);
+            map.give_back(&other);
+            Ok(taken)
+        }
+        Err(why) => {
+            map.give_back(&taken);
+            Err(why)
+        }
+    }
+}
+
+/// Releases one run for an entry.
+pub fn release_run(
+    map: &mut BlockMap,
+    alloc: Global,
+    run: Pxd,
+    entry: u64,
+) -> Result<(), AllocError>
+{
+    let mut list = PxdList::new(alloc);
+    list.push(run)?;
+    map.make_room(1)?;
+    map.release(&list, entry);
+    Ok(())
+}

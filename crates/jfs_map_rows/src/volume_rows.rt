@@ -1,0 +1,67 @@
+//! The map of a small volume, worked out by hand.
+
+use crate::volume::{map_of, release_run, take, take_first_of_two, try_out};
+use jfs_bits::{Pxd, PxdList, set_run};
+use jfs_bmap::{NoSpace, ReserveError};
+
+/// Whether a list has these runs, each by its first block and length.
+fn are_runs(list: &PxdList, runs: &[(u64, u32)]) -> bool {
+    if list.len() != runs.len() {
+        return false;
+    }
+    for i in 0..runs.len() {
+        let (addr, len) = runs[i];
+        match list.get(i) {
+            Some(run) => {
+                if run.addr != addr || run.len != len {
+                    return false;
+                }
+            }
+            None => return false,
+        }
+    }
+    true
+}
+
+fn is_refused(answer: &Result<PxdList, ReserveError>, free: u32) -> bool {
+    match answer {
+        Err(ReserveError::NoSpace(NoSpace { free: count })) => *count == free,
+        _ => false,
+    }
+}
+
+fn are_given(answer: &Result<PxdList, ReserveError>, runs: &[(u64, u32)]) -> bool {
+    match answer {
+        Ok(list) => are_runs(list, runs),
+        Err(_) => false,
+    }
+}
+
+// 64 blocks, of which 0 to 53 have owners.
+#[test]
+fn busy_blocks(rt: HostRuntime) {
+    let alloc = rt.alloc();
+    let mut set = [0u8; 8];
+    set_run(&mut set, 0, 54);
+    let mut map = map_of(alloc, &set, 64).expect(&rt, "memory");
+    assert_eq!(rt; map.free(), 10);
+    let freed = Pxd { len: 4, addr: 50 };
+    release_run(&mut map, alloc, freed, 7).expect(&rt, "memory");
+    assert_eq!(rt; map.busy(), 4);
+    assert_eq!(rt; map.free(), 10);
+    assert!(rt; is_refused(&take(&mut map, alloc, 0, 11), 10));
+    map.settle(6);
+    assert!(rt; is_refused(&take(&mut map, alloc, 0, 11), 10));
+    map.settle(7);
+    assert_eq!(rt; map.busy(), 0);
+    assert_eq!(rt; map.free(), 14);
+    let runs = [(56, 8), (52, 3)];
+    assert!(rt; are_given(&try_out(&mut map, alloc, 0, 11), runs.as_slice()));
+    assert_eq!(rt; map.free(), 14);
+    assert!(rt; are_given(&take(&mut map, alloc, 0, 11), runs.as_slice()));
+    assert_eq!(rt; map.free(), 3);
+    // The last of them is the lowest: 50, 51 and 55 are left.
+    assert!(rt; are_given(&take(&mut map, alloc, 55, 2), [(55, 1), (50, 1)].as_slice()));
+    assert!(rt; map.run_of_four().is_none());
+    assert!(rt; are_given(&take(&mut map, alloc, 7, 0), [].as_slice()));
+}
