@@ -1,57 +1,18 @@
-//! How fast a disk in memory reads and writes, when it has made few writes and when it has made many.
-//! With no words it does nothing; with a word it prints a line for each number of writes.
+//! Benchmarks. With no words it does nothing; the word `disk` or `map` picks one.
 #![tactic(auto)]
 
-ghost use Rattle.std.specs.Prelude.{◌≡◌, ◌<◌};
+mod disk;
+mod map;
 
-use jfs_disk::{Disk, MemDisk, Page};
-use std::time::Instant;
 use std::{env, io};
 
-/// The pages of the disk, all of which are written.
-const PAGES: u32 = 1000;
-
-/// The calls that are timed.
-const TIMED: u32 = 10000;
-
-/// Writes so many pages, one after another.
-fn write_pages<D: Disk>(disk: &mut D, calls: u32)
-    requires { D.page_count disk.old ≡ PAGES }
-    ensures { D.page_count disk.new ≡ D.page_count disk.old }
-{
-    let page = Page([1; 4096]);
-    for call in 0..calls {
-        let _ = disk.write(call % PAGES, &page);
-    }
-}
-
-/// Reads so many pages, spread over the disk.
-fn read_pages<D: Disk>(disk: &mut D, calls: u32)
-    requires { D.page_count disk.old ≡ PAGES }
-    ensures { D.page_count disk.new ≡ D.page_count disk.old }
-{
-    let mut page = Page::zeros();
-    for call in 0..calls {
-        let _ = disk.read(call % PAGES, &mut page);
-    }
-}
-
 fn main(rt: HostRuntime) -> io::Result<()> {
-    if env::args(&rt)?.count() < 2 {
-        return Ok(());
-    }
-    for writes in [1000, 100000] {
-        let mut disk = MemDisk::new(rt.alloc(), PAGES);
-        write_pages(&mut disk, writes);
-        let start = Instant::now(&rt)?;
-        read_pages(&mut disk, TIMED);
-        let reads = start.elapsed(&rt)?.as_micros();
-        let start = Instant::now(&rt)?;
-        write_pages(&mut disk, TIMED);
-        let more = start.elapsed(&rt)?.as_micros();
-        println!(rt;
-            "after {writes} writes: {TIMED} reads in {reads} us, {TIMED} writes in {more} us"
-        )?;
+    for word in env::args(&rt)?.skip(1) {
+        match word.as_str() {
+            "disk" => disk::time_disk(&rt)?,
+            "map" => map::time_map(&rt)?,
+            _ => {}
+        }
     }
     Ok(())
 }

@@ -5,3 +5,4 @@ pub mod States
 pub mod Choice
 pub mod Freed
 pub mod Refusal
+pub mod Laws

@@ -53,6 +53,7 @@ pub record IsMapControlOf (blocks agsize : ℕ) (taken : ℕ → Bool) (m : MapC
 
 -- page `n` of the file in its canonical form, for a volume of so many blocks in groups of `agsize`, those of the set taken
 pub record IsFirstPage (blocks agsize : ℕ) (taken : ℕ → Bool) (page : List ℕ) : Type 0 where
+  pub size : length page ≡ 4096
   pub numbers : MapControl
   pub held : IsMapControl numbers page
   pub canonical : IsMapControlOf blocks agsize taken numbers

@@ -4,6 +4,7 @@
 mod block_map;
 mod freed;
 mod group;
+mod law;
 mod map_file;
 mod map_pages;
 mod page_of_set;
@@ -11,4 +12,5 @@ mod release;
 mod reserve;
 
 pub use block_map::BlockMap;
+pub use law::map_pages_agree;
 pub use reserve::{NoSpace, ReserveError};

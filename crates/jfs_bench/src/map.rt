@@ -1,0 +1,70 @@
+//! How fast blocks are reserved on small and on great volumes, empty and nearly full.
+
+ghost use Rattle.std.specs.Prelude.{◌≡◌, ◌<◌, ◌≤◌, ◌^◌, ◌*◌, ◌%◌, length};
+
+use jfs_bits::set_run;
+use jfs_bmap::BlockMap;
+use std::alloc::{AllocError, Global};
+use std::io;
+use std::time::Instant;
+
+/// The reservations that are timed.
+const TIMED: u32 = 100000;
+
+/// The blocks of one reservation.
+const WANTED: u32 = 8;
+
+/// A bit for each block, of which about 95 of 100 are taken at random places, or none.
+fn pattern(alloc: Global, blocks: u32, full: bool) -> Result<Vec<u8>, AllocError>
+    requires most { blocks ≤ 2 ^ 23 }
+    requires words { blocks % 32 ≡ 0 }
+    ensures { IfOk result (λ set. length set.items ≡ blocks / 8) }
+{
+    let mut set = vec![in alloc; 0u8; (blocks / 8) as usize]?;
+    let mut seed = 1u64;
+    if full {
+        for b in 0..blocks {
+            seed = seed
+                .wrapping_mul(6364136223846793005)
+                .wrapping_add(1442695040888963407);
+            if (seed >> 33) % 20 != 0 {
+                set_run(set.as_mut_slice(), b, 1);
+            }
+        }
+    }
+    Ok(set)
+}
+
+/// Reserves blocks so many times, wanted at places all over the volume, and gives them back.
+fn reserve_often(map: &mut BlockMap, alloc: Global, blocks: u32) -> u32
+    requires { 0 < blocks }
+{
+    let mut seed = 1u64;
+    let mut reserved = 0;
+    for _call in 0..TIMED {
+        seed = seed
+            .wrapping_mul(6364136223846793005)
+            .wrapping_add(1442695040888963407);
+        let hint = (seed >> 33) as u32 % blocks;
+        if let Ok(list) = map.reserve(alloc, hint, WANTED) {
+            map.give_back(&list);
+            reserved += 1;
+        }
+    }
+    reserved
+}
+
+/// Prints a line for each size of volume and each pattern.
+pub fn time_map(rt: &HostRuntime) -> io::Result<()> {
+    for (blocks, agsize) in [(4096, 8192), (262144, 8192), (8388608, 65536)] {
+        for full in [false, true] {
+            let set = pattern(rt.alloc(), blocks, full)?;
+            let mut map = BlockMap::from_set(rt.alloc(), set.as_slice(), blocks, agsize)?;
+            let start = Instant::now(rt)?;
+            let reserved = reserve_often(&mut map, rt.alloc(), blocks);
+            let micros = start.elapsed(rt)?.as_micros();
+            println!(rt; "{blocks} blocks, full: {full}: {reserved} reservations in {micros} us")?;
+        }
+    }
+    Ok(())
+}

@@ -1,0 +1,8 @@
+//! What a page of the map's file follows from.
+
+ghost use Rattle.jfs_bmap.specs.Laws.{MapPagesAgree};
+
+/// A canonical page of the map's file is a function of its number, the volume's blocks and groups, and the set of owned blocks.
+pub fn map_pages_agree()
+    ensures { MapPagesAgree }
+{}
