@@ -1,2 +1,5 @@
 pub mod FirstPages
 pub mod Agreed
+pub mod Views
+pub mod Lowest
+pub mod Roots

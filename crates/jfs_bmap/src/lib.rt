@@ -12,5 +12,5 @@ mod release;
 mod reserve;
 
 pub use block_map::BlockMap;
-pub use law::map_pages_agree;
+pub use law::{map_pages_agree, root_is_greatest_run};
 pub use reserve::{NoSpace, ReserveError};

@@ -54,7 +54,7 @@ root-none page l2 h d rank =
     any_below-none (2 ^ (13 - l2)) (is_free_run (taken_in page) l2) (λ j b. none j (rw (runs_of l2 h) b))
 
 -- the greatest run, from the ones that there are
-greatest_run-at : (taken : ℕ → Bool) (span top k : ℕ) → k ≤ top → has_free_run taken span k ≡ true → ((l : ℕ) → k < l → l ≤ top → has_free_run taken span l ≡ false) → greatest_run taken span top ≡ pos k
+pub greatest_run-at : (taken : ℕ → Bool) (span top k : ℕ) → k ≤ top → has_free_run taken span k ≡ true → ((l : ℕ) → k < l → l ≤ top → has_free_run taken span l ≡ false) → greatest_run taken span top ≡ pos k
 unfolding greatest_run
 greatest_run-at taken span zero k h here above =
     let e : k ≡ 0 = omega arith in
@@ -66,7 +66,7 @@ greatest_run-at taken span (suc top) k h here above =
           ∙ greatest_run-at taken span top k (omega arith) here (λ l a b. above l a (omega arith))
     ]
 
-greatest_run-none : (taken : ℕ → Bool) (span top : ℕ) → ((l : ℕ) → l ≤ top → has_free_run taken span l ≡ false) → greatest_run taken span top ≡ negsuc 0
+pub greatest_run-none : (taken : ℕ → Bool) (span top : ℕ) → ((l : ℕ) → l ≤ top → has_free_run taken span l ≡ false) → greatest_run taken span top ≡ negsuc 0
 unfolding greatest_run
 greatest_run-none taken span zero h = cond-false (has_free_run taken span 0) (pos 0) (negsuc 0) (h 0 (omega arith))
 greatest_run-none taken span (suc top) h =
