@@ -3,7 +3,7 @@ use Rattle.std.proofs.Common.{◌≡◌, ◌≢◌, ◌<◌, ◌≤◌, ◌+◌,
 use Rattle.std.specs.Prelude.{pos, negsuc, Option, Some, None, is_some}
 use Rattle.std.proofs.lemmas.Bool.{cases_eq, or_left, or_right, or_from, cond-true, cond-false, false_from_ne_true}
 use Rattle.std.proofs.lemmas.Nat.{mul-le}
-use Rattle.jfs_bits.specs.Bits.{any_below, is_taken_in, is_free_run, IsLowestFree, has_free_run, greatest_bud}
+use Rattle.jfs_bits.specs.Bits.{any_below, is_taken_in, is_free_run, IsLowestFree, has_free_run, greatest_run}
 use Rattle.jfs_bits.proofs.Runs.{is_free-number, number-is_free}
 
 pub any_below-from : (n : ℕ) (test : ℕ → Bool) (i : ℕ) → i < n → test i ≡ true → any_below n test ≡ true
@@ -46,25 +46,26 @@ run-taken word l2 j h k other =
     false_from_ne_true (is_free_run (is_taken_in word) l2 j) (λ free. other (rw e.1 (number-is_free word (j * 2 ^ l2) (2 ^ l2) e.0 free)))
 
 -- a word has a free run where its lowest one was found
-pub lowest-has : (word l2 : ℕ) (o : Option ℕ) → IsLowestFree (is_taken_in word) (2 ^ (5 - l2)) l2 o → has_free_run word l2 ≡ is_some o
+pub lowest-has : (word l2 : ℕ) (o : Option ℕ) → IsLowestFree (is_taken_in word) (2 ^ (5 - l2)) l2 o → has_free_run (is_taken_in word) 5 l2 ≡ is_some o
 unfolding has_free_run
 lowest-has word l2 None h = any_below-none (2 ^ (5 - l2)) (is_free_run (is_taken_in word) l2) h
 lowest-has word l2 (Some first) h = any_below-from (2 ^ (5 - l2)) (is_free_run (is_taken_in word) l2) h.0 h.1 h.3
 
-pub greatest_bud-at : (word top k : ℕ) → k ≤ top → has_free_run word k ≡ true → ((l : ℕ) → k < l → l ≤ top → has_free_run word l ≡ false) → greatest_bud word top ≡ pos k
-unfolding greatest_bud
-greatest_bud-at word zero k h here above =
+-- the greatest run, from the ones that there are
+pub greatest_run-at : (taken : ℕ → Bool) (span top k : ℕ) → k ≤ top → has_free_run taken span k ≡ true → ((l : ℕ) → k < l → l ≤ top → has_free_run taken span l ≡ false) → greatest_run taken span top ≡ pos k
+unfolding greatest_run
+greatest_run-at taken span zero k h here above =
     let e : k ≡ 0 = omega arith in
-    cond-true (has_free_run word 0) (pos 0) (negsuc 0) (rw e at here) ∙ ap pos (sym e)
-greatest_bud-at word (suc top) k h here above =
+    cond-true (has_free_run taken span 0) (pos 0) (negsuc 0) (rw e at here) ∙ ap pos (sym e)
+greatest_run-at taken span (suc top) k h here above =
     elim (cases_eq k (suc top)) [
-      | inl e ↦ cond-true (has_free_run word (suc top)) (pos (suc top)) (greatest_bud word top) (rw e at here) ∙ ap pos (sym e)
-      | inr n ↦ cond-false (has_free_run word (suc top)) (pos (suc top)) (greatest_bud word top) (above (suc top) (omega arith) (omega arith))
-          ∙ greatest_bud-at word top k (omega arith) here (λ l a b. above l a (omega arith))
+      | inl e ↦ cond-true (has_free_run taken span (suc top)) (pos (suc top)) (greatest_run taken span top) (rw e at here) ∙ ap pos (sym e)
+      | inr n ↦ cond-false (has_free_run taken span (suc top)) (pos (suc top)) (greatest_run taken span top) (above (suc top) (omega arith) (omega arith))
+          ∙ greatest_run-at taken span top k (omega arith) here (λ l a b. above l a (omega arith))
     ]
 
-pub greatest_bud-none : (word top : ℕ) → ((l : ℕ) → l ≤ top → has_free_run word l ≡ false) → greatest_bud word top ≡ negsuc 0
-unfolding greatest_bud
-greatest_bud-none word zero h = cond-false (has_free_run word 0) (pos 0) (negsuc 0) (h 0 (omega arith))
-greatest_bud-none word (suc top) h =
-    cond-false (has_free_run word (suc top)) (pos (suc top)) (greatest_bud word top) (h (suc top) (omega arith)) ∙ greatest_bud-none word top (λ l k. h l (omega arith))
+pub greatest_run-none : (taken : ℕ → Bool) (span top : ℕ) → ((l : ℕ) → l ≤ top → has_free_run taken span l ≡ false) → greatest_run taken span top ≡ negsuc 0
+unfolding greatest_run
+greatest_run-none taken span zero h = cond-false (has_free_run taken span 0) (pos 0) (negsuc 0) (h 0 (omega arith))
+greatest_run-none taken span (suc top) h =
+    cond-false (has_free_run taken span (suc top)) (pos (suc top)) (greatest_run taken span top) (h (suc top) (omega arith)) ∙ greatest_run-none taken span top (λ l k. h l (omega arith))

@@ -1,30 +1,12 @@
--- Runs that grow by a block, and free runs of a word.
-use Rattle.std.proofs.Common.{◌≡◌, ◌<◌, ◌≤◌, ◌+◌, ◌-◌, ◌/◌, ◌%◌, ◌^◌, ℕ, zero, suc, Bool, true, false, not, ◌&&◌, ◌||◌, inl, inr, refl, sym, ap, ◌∙◌, arith}
+-- Free runs of a word.
+use Rattle.std.proofs.Common.{◌≡◌, ◌<◌, ◌≤◌, ◌+◌, ◌-◌, ◌/◌, ◌%◌, ◌^◌, ℕ, zero, suc, Bool, true, false, not, inl, inr, refl, sym, ap, ◌∙◌, arith}
 use Rattle.std.specs.Prelude.{◌==◌}
 use Rattle.std.specs.Int.{bit_at}
 use Rattle.std.proofs.lemmas.Bool.Decides.{nat_tests}
 use Rattle.std.proofs.lemmas.Bool.{and_parts, and_from, cases_eq, not-true, not_from_false}
 use Rattle.std.proofs.lemmas.Nat.{shr-shr, shr_split, pow_pos}
 use Rattle.std.proofs.lemmas.Nat.Bits.{bit_at_cat_low, bit_at-zero, bit_at-lt, same_from_bits_below}
-use Rattle.jfs_bits.specs.Bits.{all_below, is_in_run, is_taken_in, is_free}
-
--- one more block
-pub run_grows : (first k b : ℕ) → (first + k == b || is_in_run first k b) ≡ is_in_run first (k + 1) b
-run_grows first k b = grind (arith, nat_tests)
-
-pub set_more : (first k b : ℕ) (t : Bool) → (first + k == b || (is_in_run first k b || t)) ≡ (is_in_run first (k + 1) b || t)
-set_more first k b t = assoc (first + k == b) (is_in_run first k b) t ∙ ap (λ (z : Bool). z || t) (run_grows first k b)
-  where
-    assoc : (x y z : Bool) → (x || (y || z)) ≡ (x || y || z)
-    assoc true y z = refl
-    assoc false y z = refl
-
-pub clear_more : (first k b : ℕ) (t : Bool) → (not (first + k == b) && (not (is_in_run first k b) && t)) ≡ (not (is_in_run first (k + 1) b) && t)
-clear_more first k b t = assoc (first + k == b) (is_in_run first k b) t ∙ ap (λ (z : Bool). not z && t) (run_grows first k b)
-  where
-    assoc : (x y z : Bool) → (not x && (not y && z)) ≡ (not (x || y) && z)
-    assoc true y z = refl
-    assoc false y z = refl
+use Rattle.jfs_bits.specs.Bits.{all_below, is_taken_in, is_free}
 
 -- what a test below `n` tells, and how to show it
 pub all_below-at : (n : ℕ) (test : ℕ → Bool) → all_below n test ≡ true → (i : ℕ) → i < n → test i ≡ true

@@ -1,9 +1,10 @@
 -- Words of a map of blocks, and single bits set and cleared in them.
 use Rattle.std.proofs.Common.{◌≡◌, ◌≢◌, ◌<◌, ◌≤◌, ◌+◌, ◌-◌, ◌*◌, ◌/◌, ◌%◌, ◌^◌, ℕ, not, ◌&&◌, ◌||◌, ◌⊎◌, inl, inr, List, [], length, refl, sym, ap, ◌∙◌, arith}
-use Rattle.std.specs.Prelude.{◌==◌, bit_and, bit_or}
-use Rattle.std.specs.Int.{bit_not, w32}
-use Rattle.std.proofs.lemmas.Nat.Bits.{bit_at_set_same, bit_at_set_other, bit_at_clear_same, bit_at_clear_other, shr_and_one}
-use Rattle.std.proofs.lemmas.Bool.{cases_eq, cases_lt, eq-eqb, ne_eqb}
+use Rattle.std.specs.Prelude.{◌==◌, min, max, nat_le, nat_lt, bit_and, bit_or}
+use Rattle.std.specs.Int.{bit_at, bit_not, w32}
+use Rattle.std.proofs.lemmas.Nat.Bits.{bit_at_or, bit_at_and, bit_at_not, bit_at-lt, bit_at_mask_above, bit_at_mask_below, bit_at_mask_inside, shr_and_one}
+use Rattle.std.proofs.lemmas.Bool.{cases_eq, cases_lt, eq-eqb, ne_eqb, le-leb, lt-leb, lt-ltb, le-ltb}
+use Rattle.std.proofs.lemmas.Bool.Decides.{nat_tests}
 use Rattle.std.proofs.lemmas.Nat.{or_lt, and_le_l}
 use Rattle.std.proofs.lemmas.List.{append-nil}
 use Rattle.byteorder.specs.Endian.{little_bytes}
@@ -22,68 +23,71 @@ pub field_of-put_other : (at width place : ℕ) (new bytes : List ℕ) → place
 field_of-put_other at width place new bytes h side =
     field_of-range (put_bytes place new bytes) at width ∙ ap (λ (z : List ℕ). field_of z 0 width) (range_of-put_other at width place new bytes h side) ∙ sym (field_of-range bytes at width)
 
--- the word of block `i` replaced
-pub is_taken-put_same : (map : List ℕ) (i b x : ℕ) → length map % 4 ≡ 0 → i < 8 * length map → x < 2 ^ 32 → b / 32 ≡ i / 32 → is_taken (put_bytes (4 * (i / 32)) (little_bytes 4 x) map) b ≡ is_taken_in x (b % 32)
+-- word `w` replaced
+pub is_taken-put_same : (map : List ℕ) (w b x : ℕ) → length map % 4 ≡ 0 → 4 * w < length map → x < 2 ^ 32 → b / 32 ≡ w → is_taken (put_bytes (4 * w) (little_bytes 4 x) map) b ≡ is_taken_in x (b % 32)
 unfolding is_taken
-is_taken-put_same map i b x whole within fits same =
-    rw same (ap (λ (z : ℕ). is_taken_in z (b % 32)) (field_of-put_same (4 * (i / 32)) 4 x map refl (omega arith) fits))
+is_taken-put_same map w b x whole within fits same =
+    rw same (ap (λ (z : ℕ). is_taken_in z (b % 32)) (field_of-put_same (4 * w) 4 x map refl (omega arith) fits))
 
-pub is_taken-put_other : (map : List ℕ) (i b x : ℕ) → length map % 4 ≡ 0 → i < 8 * length map → b / 32 ≢ i / 32 → is_taken (put_bytes (4 * (i / 32)) (little_bytes 4 x) map) b ≡ is_taken map b
+pub is_taken-put_other : (map : List ℕ) (w b x : ℕ) → length map % 4 ≡ 0 → 4 * w < length map → b / 32 ≢ w → is_taken (put_bytes (4 * w) (little_bytes 4 x) map) b ≡ is_taken map b
 unfolding is_taken
-is_taken-put_other map i b x whole within other =
-    let side : (4 * (b / 32) + 4 ≤ 4 * (i / 32)) ⊎ (4 * (i / 32) + 4 ≤ 4 * (b / 32)) = apart (b / 32) (i / 32) other in
-    ap (λ (z : ℕ). is_taken_in z (b % 32)) (field_of-put_other (4 * (b / 32)) 4 (4 * (i / 32)) (little_bytes 4 x) map (omega arith) side)
+is_taken-put_other map w b x whole within other =
+    let side : (4 * (b / 32) + 4 ≤ 4 * w) ⊎ (4 * w + 4 ≤ 4 * (b / 32)) = apart (b / 32) w other in
+    ap (λ (z : ℕ). is_taken_in z (b % 32)) (field_of-put_other (4 * (b / 32)) 4 (4 * w) (little_bytes 4 x) map (omega arith) side)
   where
     apart : (m n : ℕ) → m ≢ n → (4 * m + 4 ≤ 4 * n) ⊎ (4 * n + 4 ≤ 4 * m)
     apart m n h = elim (cases_lt m n) [ inl k ↦ inl (omega arith) | inr k ↦ inr (omega arith) ]
 
--- one bit of a word
-pub is_taken_in-set : (word i b : ℕ) → i < 32 → b < 32 → is_taken_in (bit_or word (1 * 2 ^ (31 - i) % 2 ^ 32)) b ≡ (i == b || is_taken_in word b)
+-- blocks of a word by the bits of a mask
+pub is_taken_in-or : (word mask b : ℕ) → is_taken_in (bit_or word mask) b ≡ (is_taken_in mask b || is_taken_in word b)
 unfolding is_taken_in
-is_taken_in-set word i b hi hb =
-    elim (cases_eq i b) [
-      | inl e ↦ rw (eq-eqb i b e) (eq-eqb _ 1 (rw (← e) (bit_at_set_same w32 word (31 - i) (omega arith))))
-      | inr n ↦ rw (ne_eqb i b n) (ap (λ (z : ℕ). z == 1) (bit_at_set_other w32 word (31 - i) (omega arith) (31 - b) (λ e. n (omega arith))))
-    ]
+is_taken_in-or word mask b = ap (λ (z : ℕ). z == 1) (bit_at_or word mask (31 - b)) ∙ either (bit_at word (31 - b)) (bit_at mask (31 - b)) (bit_at-lt word (31 - b)) (bit_at-lt mask (31 - b))
+  where
+    either : (x y : ℕ) → x < 2 → y < 2 → (max x y == 1) ≡ (y == 1 || x == 1)
+    either x y h k = grind (arith, nat_tests)
 
-pub is_taken_in-clear : (word i b : ℕ) → i < 32 → b < 32 → is_taken_in (bit_and word (bit_not w32 (1 * 2 ^ (31 - i) % 2 ^ 32))) b ≡ (not (i == b) && is_taken_in word b)
+pub is_taken_in-but : (word mask b : ℕ) → mask < 2 ^ 32 → is_taken_in (bit_and word (bit_not w32 mask)) b ≡ (not (is_taken_in mask b) && is_taken_in word b)
 unfolding is_taken_in
-is_taken_in-clear word i b hi hb =
-    elim (cases_eq i b) [
-      | inl e ↦ rw (eq-eqb i b e) (rw (← e) (ap (λ (z : ℕ). z == 1) (bit_at_clear_same w32 word (31 - i) (omega arith))))
-      | inr n ↦ rw (ne_eqb i b n) (ap (λ (z : ℕ). z == 1) (bit_at_clear_other w32 word (31 - i) (omega arith) (31 - b) (omega arith) (λ e. n (omega arith))))
+is_taken_in-but word mask b fits =
+    ap (λ (z : ℕ). z == 1) (bit_at_and word (bit_not w32 mask) (31 - b) ∙ ap (λ (z : ℕ). min (bit_at word (31 - b)) z) (bit_at_not w32 mask (31 - b) fits (omega arith)))
+    ∙ both (bit_at word (31 - b)) (bit_at mask (31 - b)) (bit_at-lt word (31 - b)) (bit_at-lt mask (31 - b))
+  where
+    both : (x y : ℕ) → x < 2 → y < 2 → (min x (1 - y) == 1) ≡ (not (y == 1) && x == 1)
+    both x y h k = grind (arith, nat_tests)
+
+-- blocks of a word of a map by the bits of a mask
+pub is_taken-or : (map : List ℕ) (w mask b : ℕ) → length map % 4 ≡ 0 → 4 * w < length map → field_of map (4 * w) 4 < 2 ^ 32 → mask < 2 ^ 32 → is_taken (put_bytes (4 * w) (little_bytes 4 (bit_or (field_of map (4 * w) 4) mask)) map) b ≡ (b / 32 == w && is_taken_in mask (b % 32) || is_taken map b)
+unfolding is_taken
+is_taken-or map w mask b whole within fits small =
+    let word = field_of map (4 * w) 4 in
+    elim (cases_eq (b / 32) w) [
+      | inl e ↦ is_taken-put_same map w b (bit_or word mask) whole within (or_lt 32 word mask fits small) e
+          ∙ is_taken_in-or word mask (b % 32)
+          ∙ rw (eq-eqb (b / 32) w e, e) refl
+      | inr n ↦ is_taken-put_other map w b (bit_or word mask) whole within n ∙ rw (ne_eqb (b / 32) w n) refl
     ]
 
--- the same bit of the same word
-same_bit : (i b : ℕ) → b / 32 ≡ i / 32 → (i % 32 == b % 32) ≡ (i == b)
-same_bit i b e = elim (cases_eq i b) [
-  | inl k ↦ eq-eqb (i % 32) (b % 32) (omega arith) ∙ sym (eq-eqb i b k)
-  | inr n ↦ ne_eqb (i % 32) (b % 32) (λ k. n (omega arith)) ∙ sym (ne_eqb i b n)
-]
-
--- one bit of a map
-pub is_taken-set : (map : List ℕ) (i b : ℕ) → length map % 4 ≡ 0 → i < 8 * length map → field_of map (4 * (i / 32)) 4 < 2 ^ 32 → is_taken (put_bytes (4 * (i / 32)) (little_bytes 4 (bit_or (field_of map (4 * (i / 32)) 4) (1 * 2 ^ (31 - i % 32) % 2 ^ 32))) map) b ≡ (i == b || is_taken map b)
+pub is_taken-but : (map : List ℕ) (w mask b : ℕ) → length map % 4 ≡ 0 → 4 * w < length map → field_of map (4 * w) 4 < 2 ^ 32 → mask < 2 ^ 32 → is_taken (put_bytes (4 * w) (little_bytes 4 (bit_and (field_of map (4 * w) 4) (bit_not w32 mask))) map) b ≡ (not (b / 32 == w && is_taken_in mask (b % 32)) && is_taken map b)
 unfolding is_taken
-is_taken-set map i b whole within fits =
-    let word = field_of map (4 * (i / 32)) 4 in
-    let mask = 1 * 2 ^ (31 - i % 32) % 2 ^ 32 in
-    elim (cases_eq (b / 32) (i / 32)) [
-      | inl e ↦ is_taken-put_same map i b (bit_or word mask) whole within (or_lt 32 word mask fits (omega arith)) e
-          ∙ is_taken_in-set word (i % 32) (b % 32) (omega arith) (omega arith)
-          ∙ rw (same_bit i b e, e) refl
-      | inr n ↦ is_taken-put_other map i b (bit_or word mask) whole within n ∙ rw (ne_eqb i b (λ k. n (ap (λ (z : ℕ). z / 32) (sym k)))) refl
+is_taken-but map w mask b whole within fits small =
+    let word = field_of map (4 * w) 4 in
+    elim (cases_eq (b / 32) w) [
+      | inl e ↦ is_taken-put_same map w b (bit_and word (bit_not w32 mask)) whole within (omega (arith, and_le_l word (bit_not w32 mask))) e
+          ∙ is_taken_in-but word mask (b % 32) small
+          ∙ rw (eq-eqb (b / 32) w e, e) refl
+      | inr n ↦ is_taken-put_other map w b (bit_and word (bit_not w32 mask)) whole within n ∙ rw (ne_eqb (b / 32) w n) refl
     ]
 
-pub is_taken-clear : (map : List ℕ) (i b : ℕ) → length map % 4 ≡ 0 → i < 8 * length map → field_of map (4 * (i / 32)) 4 < 2 ^ 32 → is_taken (put_bytes (4 * (i / 32)) (little_bytes 4 (bit_and (field_of map (4 * (i / 32)) 4) (bit_not w32 (1 * 2 ^ (31 - i % 32) % 2 ^ 32)))) map) b ≡ (not (i == b) && is_taken map b)
-unfolding is_taken
-is_taken-clear map i b whole within fits =
-    let word = field_of map (4 * (i / 32)) 4 in
-    let mask = bit_not w32 (1 * 2 ^ (31 - i % 32) % 2 ^ 32) in
-    elim (cases_eq (b / 32) (i / 32)) [
-      | inl e ↦ is_taken-put_same map i b (bit_and word mask) whole within (omega (arith, and_le_l word mask)) e
-          ∙ is_taken_in-clear word (i % 32) (b % 32) (omega arith) (omega arith)
-          ∙ rw (same_bit i b e, e) refl
-      | inr n ↦ is_taken-put_other map i b (bit_and word mask) whole within n ∙ rw (ne_eqb i b (λ k. n (ap (λ (z : ℕ). z / 32) (sym k)))) refl
+-- the bits of the blocks from `from` to before `to` of a word
+pub mask-bits : (from to i : ℕ) → from ≤ to → to ≤ 32 → i < 32 → is_taken_in (2 ^ (32 - from) - 2 ^ (32 - to)) i ≡ (nat_le from i && nat_lt i to)
+unfolding is_taken_in
+mask-bits from to i order most h =
+    elim (cases_lt i from) [
+      | inl a ↦ rw (bit_at_mask_above (32 - to) (32 - from) (31 - i) (omega arith), lt-leb from i a) refl
+      | inr a ↦ elim (cases_lt i to) [
+        | inl b ↦ rw (bit_at_mask_inside (32 - to) (32 - from) (31 - i) (omega arith) (omega arith), le-leb from i a, lt-ltb i to b) refl
+        | inr b ↦ rw (bit_at_mask_below (32 - to) (32 - from) (31 - i) (omega arith), le-leb from i a, le-ltb i to b) refl
+      ]
     ]
 
 -- the test of a bit

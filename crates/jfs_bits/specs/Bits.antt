@@ -38,15 +38,15 @@ abbrev pub IsLowestFree : (ℕ → Bool) → ℕ → ℕ → Option ℕ → Type
 IsLowestFree taken runs l2 None = (j : ℕ) → j < runs → is_free_run taken l2 j ≡ false
 IsLowestFree taken runs l2 (Some first) = (j : ℕ) × (j < runs) × (first ≡ j * 2 ^ l2) × (is_free_run taken l2 j ≡ true) × ((i : ℕ) → i < j → is_free_run taken l2 i ≡ false)
 
--- some aligned run of 2 ^ l2 blocks of a word is free
-unfoldable pub has_free_run : ℕ → ℕ → Bool
-has_free_run word l2 = any_below (2 ^ (5 - l2)) (is_free_run (is_taken_in word) l2)
+-- some aligned run of 2 ^ l2 of the first 2 ^ span blocks is free
+unfoldable pub has_free_run : (ℕ → Bool) → ℕ → ℕ → Bool
+has_free_run taken span l2 = any_below (2 ^ (span - l2)) (is_free_run taken l2)
 
--- the greatest l2 up to `top` for which a word has a free aligned run, -1 where it has none
-unfoldable pub greatest_bud : ℕ → ℕ → ℤ
-greatest_bud word zero = if has_free_run word 0 then pos 0 else negsuc 0
-greatest_bud word (suc top) = if has_free_run word (suc top) then pos (suc top) else greatest_bud word top
+-- the greatest l2 up to `top` for which some aligned run of 2 ^ l2 of the first 2 ^ span blocks is free, -1 where none is
+unfoldable pub greatest_run : (ℕ → Bool) → ℕ → ℕ → ℤ
+greatest_run taken span zero = if has_free_run taken span 0 then pos 0 else negsuc 0
+greatest_run taken span (suc top) = if has_free_run taken span (suc top) then pos (suc top) else greatest_run taken span top
 
 -- a word's maximal buddy: a wholly free word has 5
 unfoldable pub max_bud_of : ℕ → ℤ
-max_bud_of word = greatest_bud word 5
+max_bud_of word = greatest_run (is_taken_in word) 5 5

@@ -1,6 +1,6 @@
 //! Sets of blocks as maps of 32-bit little-endian words, a bit a block.
 
-ghost use Rattle.std.specs.Prelude.{◌≡◌, ◌+◌, ◌-◌, ◌*◌, ◌%◌, ◌^◌, ◌<◌, ◌≤◌, ◌||◌, ◌&&◌, ◌==◌, not, length, ℕ};
+ghost use Rattle.std.specs.Prelude.{◌≡◌, ◌+◌, ◌-◌, ◌*◌, ◌/◌, ◌%◌, ◌^◌, ◌<◌, ◌≤◌, ◌||◌, ◌&&◌, ◌==◌, nat_le, nat_lt, not, length, ℕ};
 ghost use Rattle.jfs_bits.specs.Bits.{is_taken, is_taken_in, is_in_run, IsLowestFree, max_bud_of};
 
 use crate::field::{get_u32, put_u32};
@@ -15,26 +15,37 @@ pub fn bit(map: &[u8], i: u32) -> bool
     (word >> (31 - i % 32)) & 1 == 1
 }
 
-/// Marks block `i` as taken.
-fn set_bit(map: &mut [u8], i: u64)
-    requires whole_words { length map.old % 4 ≡ 0 }
-    requires within { i < 8 * length map.old }
-    ensures { (b : ℕ) → is_taken map.new b ≡ (i == b || is_taken map.old b) }
+/// The bits of those blocks of word `w` that lie from `first` to before `end`.
+fn mask_of(w: u64, first: u64, end: u64) -> u32
+    requires order { first ≤ end }
+    requires few { w < 2 ^ 32 }
+    ensures { (i : ℕ) → i < 32 → is_taken_in result i ≡ (nat_le first (32 * w + i) && nat_lt (32 * w + i) end) }
 {
-    let at = 4 * (i / 32) as usize;
-    let word = get_u32(map, at);
-    put_u32(map, at, word | (1 << (31 - i % 32)));
+    let from = first.max(32 * w).min(32 * w + 32) - 32 * w;
+    let to = end.max(32 * w).min(32 * w + 32) - 32 * w;
+    ((1u64 << (32 - from)) - (1u64 << (32 - to))) as u32
 }
 
-/// Marks block `i` as free.
-fn clear_bit(map: &mut [u8], i: u64)
+/// Marks blocks of word `w` as taken, by their bits.
+fn set_in_word(map: &mut [u8], w: u64, mask: u32)
     requires whole_words { length map.old % 4 ≡ 0 }
-    requires within { i < 8 * length map.old }
-    ensures { (b : ℕ) → is_taken map.new b ≡ (not (i == b) && is_taken map.old b) }
+    requires within { 4 * w < length map.old }
+    ensures { (b : ℕ) → is_taken map.new b ≡ (b / 32 == w && is_taken_in mask (b % 32) || is_taken map.old b) }
 {
-    let at = 4 * (i / 32) as usize;
+    let at = 4 * w as usize;
     let word = get_u32(map, at);
-    put_u32(map, at, word & !(1 << (31 - i % 32)));
+    put_u32(map, at, word | mask);
+}
+
+/// Marks blocks of word `w` as free, by their bits.
+fn clear_in_word(map: &mut [u8], w: u64, mask: u32)
+    requires whole_words { length map.old % 4 ≡ 0 }
+    requires within { 4 * w < length map.old }
+    ensures { (b : ℕ) → is_taken map.new b ≡ (not (b / 32 == w && is_taken_in mask (b % 32)) && is_taken map.old b) }
+{
+    let at = 4 * w as usize;
+    let word = get_u32(map, at);
+    put_u32(map, at, word & !mask);
 }
 
 /// Marks the `n` blocks from `first` on as taken; all others stay.
@@ -43,8 +54,10 @@ pub fn set_run(map: &mut [u8], first: u32, n: u32)
     requires within { first + n ≤ 8 * length map.old }
     ensures { (b : ℕ) → is_taken map.new b ≡ (is_in_run first n b || is_taken map.old b) }
 {
-    for k in 0..n {
-        set_bit(map, u64::from(first) + u64::from(k));
+    let first = u64::from(first);
+    let end = first + u64::from(n);
+    for w in first / 32..end.div_ceil(32) {
+        set_in_word(map, w, mask_of(w, first, end));
     }
 }
 
@@ -54,8 +67,10 @@ pub fn clear_run(map: &mut [u8], first: u32, n: u32)
     requires within { first + n ≤ 8 * length map.old }
     ensures { (b : ℕ) → is_taken map.new b ≡ (not (is_in_run first n b) && is_taken map.old b) }
 {
-    for k in 0..n {
-        clear_bit(map, u64::from(first) + u64::from(k));
+    let first = u64::from(first);
+    let end = first + u64::from(n);
+    for w in first / 32..end.div_ceil(32) {
+        clear_in_word(map, w, mask_of(w, first, end));
     }
 }
 

@@ -5,14 +5,14 @@ use Rattle.std.proofs.lemmas.Bool.{cond_both}
 use Rattle.std.proofs.lemmas.Nat.{mul-le}
 use Rattle.jfs_bits.proofs.Buds.{sizes_of}
 use Rattle.jfs_bits.specs.Field.{field_of}
-use Rattle.jfs_bits.specs.Bits.{all_below, any_below, is_taken, is_taken_in, is_free, is_free_run, has_free_run, greatest_bud, max_bud_of}
+use Rattle.jfs_bits.specs.Bits.{all_below, any_below, is_taken, is_taken_in, is_free, is_free_run, has_free_run, greatest_run, max_bud_of}
 use Rattle.jfs_buddy.specs.Tree.{rank_of}
 use Rattle.jfs_dmap.specs.Dmap.{word_rank}
 
-rank-below : (word top : ℕ) → rank_of (greatest_bud word top) ≤ suc top
-unfolding greatest_bud
-rank-below word zero = cond_both (has_free_run word 0) (pos 0) (negsuc 0) (λ z. rank_of z ≤ 1) (λ e. omega arith) (λ e. omega arith)
-rank-below word (suc top) = cond_both (has_free_run word (suc top)) (pos (suc top)) (greatest_bud word top) (λ z. rank_of z ≤ suc (suc top)) (λ e. omega arith) (λ e. omega (arith, rank-below word top))
+rank-below : (word top : ℕ) → rank_of (greatest_run (is_taken_in word) 5 top) ≤ suc top
+unfolding greatest_run
+rank-below word zero = cond_both (has_free_run (is_taken_in word) 5 0) (pos 0) (negsuc 0) (λ z. rank_of z ≤ 1) (λ e. omega arith) (λ e. omega arith)
+rank-below word (suc top) = cond_both (has_free_run (is_taken_in word) 5 (suc top)) (pos (suc top)) (greatest_run (is_taken_in word) 5 top) (λ z. rank_of z ≤ suc (suc top)) (λ e. omega arith) (λ e. omega (arith, rank-below word top))
 
 pub rank-most : (word : ℕ) → rank_of (max_bud_of word) ≤ 6
 unfolding max_bud_of
@@ -49,14 +49,14 @@ pub run-end : (l2 j i : ℕ) → l2 ≤ 5 → j < 2 ^ (5 - l2) → i < 2 ^ l2 �
 run-end l2 j i h k b =
     omega (arith, (sizes_of l2 h).3, mul-le (j + 1) (2 ^ l2) (2 ^ (5 - l2)) (2 ^ l2) (omega arith) (omega arith))
 
-runs-same : (a b l2 : ℕ) → l2 ≤ 5 → ((i : ℕ) → i < 32 → is_taken_in a i ≡ is_taken_in b i) → has_free_run a l2 ≡ has_free_run b l2
+runs-same : (a b l2 : ℕ) → l2 ≤ 5 → ((i : ℕ) → i < 32 → is_taken_in a i ≡ is_taken_in b i) → has_free_run (is_taken_in a) 5 l2 ≡ has_free_run (is_taken_in b) 5 l2
 unfolding has_free_run
 runs-same a b l2 h same =
     any_below-same (2 ^ (5 - l2)) (is_free_run (is_taken_in a) l2) (is_free_run (is_taken_in b) l2) (λ j k.
     is_free-same (is_taken_in a) (is_taken_in b) (j * 2 ^ l2) (j * 2 ^ l2) (2 ^ l2) (λ i m. same (j * 2 ^ l2 + i) (run-end l2 j i h k m)))
 
-bud-same : (a b top : ℕ) → top ≤ 5 → ((i : ℕ) → i < 32 → is_taken_in a i ≡ is_taken_in b i) → greatest_bud a top ≡ greatest_bud b top
-unfolding greatest_bud
+bud-same : (a b top : ℕ) → top ≤ 5 → ((i : ℕ) → i < 32 → is_taken_in a i ≡ is_taken_in b i) → greatest_run (is_taken_in a) 5 top ≡ greatest_run (is_taken_in b) 5 top
+unfolding greatest_run
 bud-same a b zero h same = rw (runs-same a b 0 h same) refl
 bud-same a b (suc top) h same = rw (runs-same a b (suc top) h same, bud-same a b top (omega arith) same) refl
 

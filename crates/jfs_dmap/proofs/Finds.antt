@@ -56,7 +56,7 @@ small-none map l2 h lowest j b =
 
 pub small-absurd : (map : List ℕ) (l2 v : ℕ) → l2 < 5 → IsLowestRun 4 (word_rank map) 6 (suc l2) (Some v) → IsLowestFree (is_taken_in (field_of map (4 * v) 4)) (2 ^ (5 - l2)) l2 None → ⊥
 small-absurd map l2 v h lowest none =
-    both_ways (has_free_run (field_of map (4 * v) 4) l2) (lowest-has (field_of map (4 * v) 4) l2 None none) (rank-has map v l2 (lowest.1.part (omega arith)))
+    both_ways (has_free_run (is_taken_in (field_of map (4 * v) 4)) 5 l2) (lowest-has (field_of map (4 * v) 4) l2 None none) (rank-has map v l2 (lowest.1.part (omega arith)))
 
 pub small-some : (map : List ℕ) (l2 v first : ℕ) → l2 < 5 → IsLowestRun 4 (word_rank map) 6 (suc l2) (Some v) → IsLowestFree (is_taken_in (field_of map (4 * v) 4)) (2 ^ (5 - l2)) l2 (Some first) → IsLowestFree (is_taken map) (8192 / 2 ^ l2) l2 (Some (32 * v + first))
 small-some map l2 v first h lowest inner =

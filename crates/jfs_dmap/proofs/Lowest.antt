@@ -3,7 +3,7 @@ use Rattle.std.proofs.Common.{◌≡◌, ◌≢◌, ◌<◌, ◌≤◌, ◌+◌,
 use Rattle.std.specs.Prelude.{pos, negsuc}
 use Rattle.std.proofs.lemmas.Bool.{cases_eq, cases_Bool, or_cases, cond-true, cond-false, true≢false}
 use Rattle.jfs_bits.specs.Field.{field_of}
-use Rattle.jfs_bits.specs.Bits.{any_below, is_taken, is_taken_in, is_free, is_free_run, has_free_run, greatest_bud, max_bud_of}
+use Rattle.jfs_bits.specs.Bits.{any_below, is_taken, is_taken_in, is_free, is_free_run, has_free_run, greatest_run, max_bud_of}
 use Rattle.jfs_bits.proofs.Runs.{is_free-at, is_free-from}
 use Rattle.jfs_bits.proofs.Buds.{any_below-from, sizes_of}
 use Rattle.jfs_buddy.proofs.Halves.{twice}
@@ -24,7 +24,7 @@ is_free-front : (taken : ℕ → Bool) (first m n : ℕ) → m ≤ n → is_free
 is_free-front taken first m n h free = is_free-from taken first m (λ i k. is_free-at taken first n free i (omega arith))
 
 -- a word with a free run has one of half its length
-has-half : (word k : ℕ) → suc k ≤ 5 → has_free_run word (suc k) ≡ true → has_free_run word k ≡ true
+has-half : (word k : ℕ) → suc k ≤ 5 → has_free_run (is_taken_in word) 5 (suc k) ≡ true → has_free_run (is_taken_in word) 5 k ≡ true
 unfolding has_free_run
 has-half word k h run =
     let r = any_below-at (2 ^ (5 - suc k)) (is_free_run (is_taken_in word) (suc k)) run in
@@ -36,38 +36,38 @@ has-half word k h run =
     let place : j * 2 ^ suc k ≡ 2 * j * 2 ^ k = omega (arith, ap (λ (z : ℕ). j * z) size) in
     any_below-from (2 ^ (5 - k)) (is_free_run (is_taken_in word) k) (2 * j) (omega arith) (rw (← place) (is_free-front (is_taken_in word) (j * 2 ^ suc k) (2 ^ k) (2 ^ suc k) (omega arith) r.2))
 
-has-smaller : (word k l2 : ℕ) → k ≤ 5 → l2 ≤ k → has_free_run word k ≡ true → has_free_run word l2 ≡ true
+has-smaller : (word k l2 : ℕ) → k ≤ 5 → l2 ≤ k → has_free_run (is_taken_in word) 5 k ≡ true → has_free_run (is_taken_in word) 5 l2 ≡ true
 has-smaller word zero l2 h m run = let e : l2 ≡ 0 = omega arith in rw e run
 has-smaller word (suc k) l2 h m run = elim (cases_eq l2 (suc k)) [ inl e ↦ rw e run | inr n ↦ has-smaller word k l2 (omega arith) (omega arith) (has-half word k h run) ]
 
 -- a word's rank says which runs it has
-run-rank : (word top l2 : ℕ) → l2 ≤ top → has_free_run word l2 ≡ true → suc l2 ≤ rank_of (greatest_bud word top)
-unfolding greatest_bud
+run-rank : (word top l2 : ℕ) → l2 ≤ top → has_free_run (is_taken_in word) 5 l2 ≡ true → suc l2 ≤ rank_of (greatest_run (is_taken_in word) 5 top)
+unfolding greatest_run
 run-rank word zero l2 h run =
     let e : l2 ≡ 0 = omega arith in
-    let value = cond-true (has_free_run word 0) (pos 0) (negsuc 0) (rw e at run) in
+    let value = cond-true (has_free_run (is_taken_in word) 5 0) (pos 0) (negsuc 0) (rw e at run) in
     omega (arith, ap rank_of value)
-run-rank word (suc top) l2 h run = elim (cases_Bool (has_free_run word (suc top))) [
-  | inl t ↦ omega (arith, ap rank_of (cond-true (has_free_run word (suc top)) (pos (suc top)) (greatest_bud word top) t))
-  | inr f ↦ (let less : l2 ≢ suc top = λ e. true≢false (sym run ∙ rw e f) in omega (arith, less, ap rank_of (cond-false (has_free_run word (suc top)) (pos (suc top)) (greatest_bud word top) f), run-rank word top l2 (omega (arith, less)) run))
+run-rank word (suc top) l2 h run = elim (cases_Bool (has_free_run (is_taken_in word) 5 (suc top))) [
+  | inl t ↦ omega (arith, ap rank_of (cond-true (has_free_run (is_taken_in word) 5 (suc top)) (pos (suc top)) (greatest_run (is_taken_in word) 5 top) t))
+  | inr f ↦ (let less : l2 ≢ suc top = λ e. true≢false (sym run ∙ rw e f) in omega (arith, less, ap rank_of (cond-false (has_free_run (is_taken_in word) 5 (suc top)) (pos (suc top)) (greatest_run (is_taken_in word) 5 top) f), run-rank word top l2 (omega (arith, less)) run))
 ]
 
-rank-run : (word top l2 : ℕ) → top ≤ 5 → suc l2 ≤ rank_of (greatest_bud word top) → has_free_run word l2 ≡ true
-unfolding greatest_bud
-rank-run word zero l2 b h = elim (cases_Bool (has_free_run word 0)) [
-  | inl t ↦ (let e : l2 ≡ 0 = omega (arith, ap rank_of (cond-true (has_free_run word 0) (pos 0) (negsuc 0) t)) in rw e t)
-  | inr f ↦ absurd (omega (arith, ap rank_of (cond-false (has_free_run word 0) (pos 0) (negsuc 0) f)))
+rank-run : (word top l2 : ℕ) → top ≤ 5 → suc l2 ≤ rank_of (greatest_run (is_taken_in word) 5 top) → has_free_run (is_taken_in word) 5 l2 ≡ true
+unfolding greatest_run
+rank-run word zero l2 b h = elim (cases_Bool (has_free_run (is_taken_in word) 5 0)) [
+  | inl t ↦ (let e : l2 ≡ 0 = omega (arith, ap rank_of (cond-true (has_free_run (is_taken_in word) 5 0) (pos 0) (negsuc 0) t)) in rw e t)
+  | inr f ↦ absurd (omega (arith, ap rank_of (cond-false (has_free_run (is_taken_in word) 5 0) (pos 0) (negsuc 0) f)))
 ]
-rank-run word (suc top) l2 b h = elim (cases_Bool (has_free_run word (suc top))) [
-  | inl t ↦ has-smaller word (suc top) l2 b (omega (arith, ap rank_of (cond-true (has_free_run word (suc top)) (pos (suc top)) (greatest_bud word top) t))) t
-  | inr f ↦ rank-run word top l2 (omega arith) (omega (arith, ap rank_of (cond-false (has_free_run word (suc top)) (pos (suc top)) (greatest_bud word top) f)))
+rank-run word (suc top) l2 b h = elim (cases_Bool (has_free_run (is_taken_in word) 5 (suc top))) [
+  | inl t ↦ has-smaller word (suc top) l2 b (omega (arith, ap rank_of (cond-true (has_free_run (is_taken_in word) 5 (suc top)) (pos (suc top)) (greatest_run (is_taken_in word) 5 top) t))) t
+  | inr f ↦ rank-run word top l2 (omega arith) (omega (arith, ap rank_of (cond-false (has_free_run (is_taken_in word) 5 (suc top)) (pos (suc top)) (greatest_run (is_taken_in word) 5 top) f)))
 ]
 
-pub rank-has : (map : List ℕ) (v l2 : ℕ) → suc l2 ≤ word_rank map v → has_free_run (field_of map (4 * v) 4) l2 ≡ true
+pub rank-has : (map : List ℕ) (v l2 : ℕ) → suc l2 ≤ word_rank map v → has_free_run (is_taken_in (field_of map (4 * v) 4)) 5 l2 ≡ true
 unfolding max_bud_of
 rank-has map v l2 h = rank-run (field_of map (4 * v) 4) 5 l2 (omega arith) h
 
-pub has-rank : (map : List ℕ) (v l2 : ℕ) → l2 ≤ 5 → has_free_run (field_of map (4 * v) 4) l2 ≡ true → suc l2 ≤ word_rank map v
+pub has-rank : (map : List ℕ) (v l2 : ℕ) → l2 ≤ 5 → has_free_run (is_taken_in (field_of map (4 * v) 4)) 5 l2 ≡ true → suc l2 ≤ word_rank map v
 unfolding max_bud_of
 has-rank map v l2 b h = run-rank (field_of map (4 * v) 4) 5 l2 b h
 

@@ -1,19 +1,18 @@
 -- The byte at the root of a page's tree is the greatest free run of the page's blocks.
-use Rattle.std.proofs.Common.{◌≡◌, ◌<◌, ◌≤◌, ◌+◌, ◌-◌, ◌*◌, ◌/◌, ◌%◌, ◌^◌, ℕ, zero, suc, Bool, true, false, inl, inr, List, to_z, w8, sym, ap, ◌∙◌, arith}
-use Rattle.std.specs.Prelude.{pos, negsuc}
-use Rattle.std.proofs.lemmas.Bool.{cases_eq, cases_lt, cond-true, cond-false}
+use Rattle.std.proofs.Common.{◌≡◌, ◌<◌, ◌≤◌, ◌+◌, ◌-◌, ◌*◌, ◌/◌, ◌%◌, ◌^◌, ℕ, suc, Bool, true, false, inl, inr, List, to_z, w8, sym, ap, ◌∙◌, arith}
+use Rattle.std.proofs.lemmas.Bool.{cases_eq, cases_lt}
 use Rattle.std.proofs.lemmas.Nat.{mul-le, shr_below}
 use Rattle.std.proofs.lemmas.Int.{to_z_pos}
 use Rattle.jfs_bits.specs.Field.{field_of}
 use Rattle.jfs_bits.specs.Bits.{is_taken, is_free_run}
-use Rattle.jfs_bits.proofs.Buds.{any_below-from, any_below-none}
+use Rattle.jfs_bits.proofs.Buds.{any_below-from, any_below-none, greatest_run-at, greatest_run-none}
 use Rattle.jfs_buddy.specs.Tree.{rank_at}
 use Rattle.jfs_buddy.specs.Buddy.{HasRun}
 use Rattle.jfs_buddy.proofs.Parts.{part-is}
 use Rattle.jfs_buddy.proofs.Places.{part-at}
 use Rattle.jfs_buddy.proofs.Roots.{root-most, root-run, run-root}
 use Rattle.jfs_dmap.specs.Dmap.{map_of, tree_of, taken_in, word_rank, IsDmap}
-use Rattle.jfs_dmap.specs.Greatest.{has_free_run, greatest_run}
+use Rattle.jfs_bits.specs.Bits.{has_free_run, greatest_run}
 use Rattle.jfs_dmap.proofs.Lowest.{rank-free}
 use Rattle.jfs_dmap.proofs.Finds.{runs_of, runs-in_words, has-large, page-none}
 
@@ -52,25 +51,6 @@ unfolding has_free_run
 root-none page l2 h d rank =
     let none = page-none page l2 h d (λ own t v leaf run. absurd (omega (arith, run-root 4 6 (l2 + 1) v own (tree_of page) (omega arith) (rw (part-is page 33 341) at t) leaf run))) in
     any_below-none (2 ^ (13 - l2)) (is_free_run (taken_in page) l2) (λ j b. none j (rw (runs_of l2 h) b))
-
--- the greatest run, from the ones that there are
-pub greatest_run-at : (taken : ℕ → Bool) (span top k : ℕ) → k ≤ top → has_free_run taken span k ≡ true → ((l : ℕ) → k < l → l ≤ top → has_free_run taken span l ≡ false) → greatest_run taken span top ≡ pos k
-unfolding greatest_run
-greatest_run-at taken span zero k h here above =
-    let e : k ≡ 0 = omega arith in
-    cond-true (has_free_run taken span 0) (pos 0) (negsuc 0) (rw e at here) ∙ ap pos (sym e)
-greatest_run-at taken span (suc top) k h here above =
-    elim (cases_eq k (suc top)) [
-      | inl e ↦ cond-true (has_free_run taken span (suc top)) (pos (suc top)) (greatest_run taken span top) (rw e at here) ∙ ap pos (sym e)
-      | inr n ↦ cond-false (has_free_run taken span (suc top)) (pos (suc top)) (greatest_run taken span top) (above (suc top) (omega arith) (omega arith))
-          ∙ greatest_run-at taken span top k (omega arith) here (λ l a b. above l a (omega arith))
-    ]
-
-pub greatest_run-none : (taken : ℕ → Bool) (span top : ℕ) → ((l : ℕ) → l ≤ top → has_free_run taken span l ≡ false) → greatest_run taken span top ≡ negsuc 0
-unfolding greatest_run
-greatest_run-none taken span zero h = cond-false (has_free_run taken span 0) (pos 0) (negsuc 0) (h 0 (omega arith))
-greatest_run-none taken span (suc top) h =
-    cond-false (has_free_run taken span (suc top)) (pos (suc top)) (greatest_run taken span top) (h (suc top) (omega arith)) ∙ greatest_run-none taken span top (λ l k. h l (omega arith))
 
 -- a byte of that rank, as a number with its sign
 byte-greatest : (taken : ℕ → Bool) (span top x : ℕ) → x < 256 → top < 127 → (x + 1) % 256 ≤ suc top → ((l : ℕ) → l ≤ top → suc l ≤ (x + 1) % 256 → has_free_run taken span l ≡ true) → ((l : ℕ) → l ≤ top → (x + 1) % 256 ≤ l → has_free_run taken span l ≡ false) → to_z w8 x ≡ greatest_run taken span top

@@ -1,3 +1,2 @@
 pub mod Dmap
 pub mod Laws
-pub mod Greatest

@@ -2,7 +2,7 @@
 
 ghost use Rattle.std.specs.Prelude.{◌≡◌, ◌<◌, not};
 ghost use Rattle.jfs_dmap.specs.Dmap.{count_below, taken_in, IsDmap};
-ghost use Rattle.jfs_dmap.specs.Greatest.{greatest_run};
+ghost use Rattle.jfs_bits.specs.Bits.{greatest_run};
 
 use jfs_bits::{bit, get_u8, get_u32};
 use jfs_disk::Page;
