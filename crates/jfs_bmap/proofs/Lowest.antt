@@ -11,16 +11,18 @@ use Rattle.jfs_buddy.specs.Tree.{rank_of}
 use Rattle.jfs_buddy.specs.Buddy.{is_whole, HasRun, IsLowestRun}
 use Rattle.jfs_buddy.proofs.Joins.{start_of-same, is_whole-at, is_whole-from}
 use Rattle.jfs_buddy.proofs.Halves.{twice, start_of-multiple}
-use Rattle.jfs_dmap.specs.Greatest.{has_free_run, greatest_run}
+use Rattle.jfs_bits.specs.Bits.{has_free_run, greatest_run}
 use Rattle.jfs_dmap.proofs.Buds.{is_free-same}
 use Rattle.jfs_dmap.proofs.Finds.{runs_of}
 use Rattle.jfs_disk.specs.declared.page.Page.{Page}
 use Rattle.jfs_dmap.specs.Dmap.{taken_in, IsDmap}
 use Rattle.jfs_bmap.specs.Set.{IsLowest, taken_at}
 use Rattle.jfs_bmap.specs.Pages.{page_at, dmaps_of, taken_on, set_of, leaf_ranks, AreDmaps}
-use Rattle.jfs_bmap.proofs.Views.{taken_on-within, taken_on-past, taken_at-set_of}
+use Rattle.jfs_bmap.proofs.OnePage.{taken_on-dmap, leaf_ranks-most}
+use Rattle.jfs_bmap.proofs.Views.{taken_on-past, taken_at-set_of}
 use Rattle.std.proofs.Math.Path.{fun_ext}
 
+-- the number that passes, where one below `n` does
 pub any_below-at : (n : ℕ) (test : ℕ → Bool) → any_below n test ≡ true → (i : ℕ) × (i < n) × (test i ≡ true)
 unfolding any_below
 any_below-at zero test h = absurd (true≢false (sym h))
@@ -44,6 +46,7 @@ has-half taken span k h run =
     let place : j * 2 ^ suc k ≡ 2 * j * 2 ^ k = omega (arith, ap (λ (z : ℕ). j * z) size) in
     any_below-from (2 ^ (span - k)) (is_free_run taken k) (2 * j) (omega arith) (is_free-from taken (2 * j * 2 ^ k) (2 ^ k) (λ i b. rw place at (is_free-at taken (j * 2 ^ suc k) (2 ^ suc k) r.2 i (omega arith))))
 
+-- and one of each smaller length
 has-smaller : (taken : ℕ → Bool) (span k l2 : ℕ) → k ≤ span → l2 ≤ k → has_free_run taken span k ≡ true → has_free_run taken span l2 ≡ true
 has-smaller taken span zero l2 h m run = let e : l2 ≡ 0 = omega arith in rw e run
 has-smaller taken span (suc k) l2 h m run = elim (cases_eq l2 (suc k)) [ inl e ↦ rw e run | inr n ↦ has-smaller taken span k l2 (omega arith) (omega arith) (has-half taken span k h run) ]
@@ -71,27 +74,13 @@ rank-run taken span (suc top) l2 b h = elim (cases_Bool (has_free_run taken span
   | inr f ↦ rank-run taken span top l2 (omega arith) (omega (arith, ap rank_of (cond-false (has_free_run taken span (suc top)) (pos (suc top)) (greatest_run taken span top) f)))
 ]
 
-run-most : (taken : ℕ → Bool) (span top : ℕ) → rank_of (greatest_run taken span top) ≤ suc top
-unfolding greatest_run
-run-most taken span zero = elim (cases_Bool (has_free_run taken span 0)) [
-  | inl t ↦ omega (arith, ap rank_of (cond-true (has_free_run taken span 0) (pos 0) (negsuc 0) t))
-  | inr f ↦ omega (arith, ap rank_of (cond-false (has_free_run taken span 0) (pos 0) (negsuc 0) f))
-]
-run-most taken span (suc top) = elim (cases_Bool (has_free_run taken span (suc top))) [
-  | inl t ↦ omega (arith, ap rank_of (cond-true (has_free_run taken span (suc top)) (pos (suc top)) (greatest_run taken span top) t))
-  | inr f ↦ omega (arith, run-most taken span top, ap rank_of (cond-false (has_free_run taken span (suc top)) (pos (suc top)) (greatest_run taken span top) f))
-]
-
 -- ---- the runs of one dmap
 
--- the sets of the dmaps
+-- the part of a set on a dmap
 abbrev pub part_of : (ℕ → Bool) → ℕ → ℕ → Bool
 part_of taken v i = taken (8192 * v + i)
 
-pub leaf_ranks-most : (taken : ℕ → Bool) (v : ℕ) → leaf_ranks taken v ≤ 14
-unfolding leaf_ranks
-leaf_ranks-most taken v = run-most (part_of taken v) 13 13
-
+-- a leaf's rank says which runs its dmap has
 pub rank-has : (taken : ℕ → Bool) (v l2 : ℕ) → suc l2 ≤ leaf_ranks taken v → has_free_run (part_of taken v) 13 l2 ≡ true
 unfolding leaf_ranks
 rank-has taken v l2 h = rank-run (part_of taken v) 13 13 l2 (omega arith) h
@@ -104,6 +93,7 @@ has-rank taken v l2 b h = run-rank (part_of taken v) 13 13 l2 b h
 span_of : (l2 : ℕ) → l2 ≤ 13 → 2 ^ (13 - l2) * 2 ^ l2 ≡ 8192
 span_of l2 h = let e : (13 - l2) + l2 ≡ 13 = omega arith in sym (pow-add 2 (13 - l2) l2) ∙ ap (λ (z : ℕ). 2 ^ z) e
 
+-- a run's blocks lie within the dmap
 run-end : (l2 p i : ℕ) → l2 ≤ 13 → p < 2 ^ (13 - l2) → i < 2 ^ l2 → p * 2 ^ l2 + i < 8192
 run-end l2 p i h k b =
     omega (arith, span_of l2 h, mul-le (p + 1) (2 ^ l2) (2 ^ (13 - l2)) (2 ^ l2) (omega arith) (omega arith))
@@ -136,7 +126,7 @@ free-has taken l2 v p h b free =
       ));
     }
 
--- each free run has a first block, and the set's free blocks lie within so many
+-- the first block of a free run is free
 first-free : (taken : ℕ → Bool) (l2 j : ℕ) → is_free_run taken l2 j ≡ true → taken (j * 2 ^ l2) ≡ false
 first-free taken l2 j free =
     let e : j * 2 ^ l2 + 0 ≡ j * 2 ^ l2 = omega arith in
@@ -146,6 +136,7 @@ first-free taken l2 j free =
 abbrev pub IsWithin : (ℕ → Bool) → Type 0
 IsWithin taken = (b : ℕ) → taken b ≡ false → b < 2 ^ 23
 
+-- a free run no longer than a dmap lies under a leaf of the control page
 small-within : (taken : ℕ → Bool) (l2 j : ℕ) → IsWithin taken → l2 ≤ 13 → is_free_run taken l2 j ≡ true → j / 2 ^ (13 - l2) < 1024
 small-within taken l2 j within h free =
     let width = 2 ^ (13 - l2) in
@@ -154,19 +145,21 @@ small-within taken l2 j within h free =
     let place = (part-run taken (part_of taken (j / width)) l2 (j / width) (j % width) h s.0 (λ i k. refl)).0 in
     omega (arith, rw s.1 at place)
 
-pub small-none : (taken : ℕ → Bool) (l2 : ℕ) → IsWithin taken → l2 ≤ 13 → IsLowestRun 5 (leaf_ranks taken) 14 (suc l2) None → IsLowest taken l2 None
+-- where no leaf has a run of the rank, none of the length is free
+small-none : (taken : ℕ → Bool) (l2 : ℕ) → IsWithin taken → l2 ≤ 13 → IsLowestRun 5 (leaf_ranks taken) 14 (suc l2) None → IsLowest taken l2 None
 small-none taken l2 within h lowest j =
     let s = run-split l2 j in
     false_from_ne_true (is_free_run taken l2 j) (λ free. lowest (j / 2 ^ (13 - l2)) (small-within taken l2 j within h free) (free-has taken l2 (j / 2 ^ (13 - l2)) (j % 2 ^ (13 - l2)) h s.0 (rw s.1 free)))
 
--- a free run in the leaf that was found
-small-has : (taken : ℕ → Bool) (l2 v : ℕ) → l2 ≤ 13 → IsLowestRun 5 (leaf_ranks taken) 14 (suc l2) (Some v) → (p : ℕ) × (p < 2 ^ (13 - l2)) × (is_free_run (part_of taken v) l2 p ≡ true)
+-- a free run in a leaf of its rank
+rank-free : (taken : ℕ → Bool) (l2 v : ℕ) → suc l2 ≤ leaf_ranks taken v → (p : ℕ) × (p < 2 ^ (13 - l2)) × (is_free_run (part_of taken v) l2 p ≡ true)
 unfolding has_free_run
-small-has taken l2 v h lowest = any_below-at (2 ^ (13 - l2)) (is_free_run (part_of taken v) l2) (rank-has taken v l2 (lowest.1.part (omega arith)))
+rank-free taken l2 v rank = any_below-at (2 ^ (13 - l2)) (is_free_run (part_of taken v) l2) (rank-has taken v l2 rank)
 
+-- a dmap whose leaf has a run of the rank has one of the length
 small-absurd : (taken part : ℕ → Bool) (l2 v : ℕ) → l2 ≤ 13 → ((i : ℕ) → i < 8192 → part i ≡ taken (8192 * v + i)) → IsLowestRun 5 (leaf_ranks taken) 14 (suc l2) (Some v) → IsLowestFree part (8192 / 2 ^ l2) l2 None → ⊥
 small-absurd taken part l2 v h same lowest none =
-    let r = small-has taken l2 v h lowest in
+    let r = rank-free taken l2 v (lowest.1.part (omega arith)) in
     let here = (part-run taken part l2 v r.0 h r.1 same).1 in
     both_ways (is_free_run part l2 r.0) (none r.0 (rw (runs_of l2 h) r.1)) (sym here ∙ (part-run taken (part_of taken v) l2 v r.0 h r.1 (λ i k. refl)).1 ∙ r.2)
 
@@ -174,6 +167,7 @@ small-absurd taken part l2 v h same lowest none =
 pub run-within : (part : ℕ → Bool) (l2 first : ℕ) → l2 ≤ 13 → IsLowestFree part (8192 / 2 ^ l2) l2 (Some first) → first < 8192
 run-within part l2 first h inner = omega (arith, inner.2, run-end l2 inner.0 0 h (rw (runs_of l2 h) at inner.1) (pow_pos l2))
 
+-- the lowest run of the lowest such leaf's dmap is the set's
 small-some : (taken part : ℕ → Bool) (l2 v first : ℕ) → l2 ≤ 13 → ((i : ℕ) → i < 8192 → part i ≡ taken (8192 * v + i)) → IsLowestRun 5 (leaf_ranks taken) 14 (suc l2) (Some v) → IsLowestFree part (8192 / 2 ^ l2) l2 (Some first) → IsLowest taken l2 (Some (8192 * v + first))
 small-some taken part l2 v first h same lowest inner =
     let width = 2 ^ (13 - l2) in
@@ -204,6 +198,7 @@ small-some taken part l2 v first h same lowest inner =
 
 -- ---- runs of whole dmaps
 
+-- a leaf has the rank 14 where its dmap is wholly free
 whole-blocks : (taken : ℕ → Bool) (u : ℕ) → leaf_ranks taken u ≡ 14 → (i : ℕ) → i < 8192 → taken (8192 * u + i) ≡ false
 unfolding has_free_run
 whole-blocks taken u e i h =
@@ -219,9 +214,11 @@ blocks-whole taken u h =
     let has = any_below-from (2 ^ (13 - 13)) (is_free_run (part_of taken u) 13) 0 (omega arith) run in
     omega (arith, has-rank taken u 13 (omega arith) has, leaf_ranks-most taken u)
 
+-- where a run of whole dmaps begins
 large-place : (k j : ℕ) → j * 2 ^ (13 + k) ≡ 8192 * (j * 2 ^ k)
 large-place k j = omega (arith, ap (λ (z : ℕ). j * z) (pow-add 2 13 k))
 
+-- a free run of whole dmaps is one of the leaves where it begins, and back
 pub large-has : (taken : ℕ → Bool) (k j : ℕ) → is_free_run taken (13 + k) j ≡ true → HasRun (leaf_ranks taken) 14 (14 + k) (j * 2 ^ k)
 large-has taken k j free =
     let begin = start_of-multiple k j in
@@ -250,6 +247,7 @@ has-large taken k v run =
           rw there at (whole-blocks taken u (is_whole-at (leaf_ranks taken) 14 k v w.1 u row) (i % 8192) (omega arith))),
     )
 
+-- the lowest one begins where the lowest run of leaves does
 large-none : (taken : ℕ → Bool) (k : ℕ) → IsWithin taken → IsLowestRun 5 (leaf_ranks taken) 14 (14 + k) None → IsLowest taken (13 + k) None
 large-none taken k within lowest j =
     false_from_ne_true (is_free_run taken (13 + k) j) (λ free.
@@ -269,6 +267,7 @@ large-some taken k v lowest =
 
 -- ---- what the control page's search says of the set
 
+-- for each length: no leaf found, or one that begins a run of whole dmaps
 pub none-found : (taken : ℕ → Bool) (l2 : ℕ) → IsWithin taken → IsLowestRun 5 (leaf_ranks taken) 14 (l2 + 1) None → IsLowest taken l2 None
 none-found taken l2 within lowest =
     elim (cases_lt 13 l2) [
@@ -295,32 +294,26 @@ whole-found taken l2 v h lowest = large (l2 - 13) (omega arith) lowest
 free-within : (blocks : ℕ) (dmaps : List Page) (b : ℕ) → taken_on blocks dmaps b ≡ false → b < blocks
 free-within blocks dmaps b free = elim (cases_lt b blocks) [ inl h ↦ h | inr h ↦ absurd (both_ways (taken_on blocks dmaps b) free (taken_on-past blocks dmaps b h)) ]
 
--- a dmap's own set is its part of the set, past the end too
-page-part : (blocks : ℕ) (dmaps : List Page) (v : ℕ) → AreDmaps blocks dmaps → v < dmaps_of blocks → (i : ℕ) → i < 8192 → taken_in (page_at dmaps v) i ≡ taken_on blocks dmaps (8192 * v + i)
-page-part blocks dmaps v d known i h =
-    let page = d.each v known in
-    elim (cases_lt (8192 * v + i) blocks) [
-      | inl b ↦ (let e : (8192 * v + i) / 8192 ≡ v = omega arith in let m : (8192 * v + i) % 8192 ≡ i = omega arith in sym (rw (e, m) at (taken_on-within blocks dmaps (8192 * v + i) b)))
-      | inr b ↦ page.canonical.past i (omega (arith, page.number)) h ∙ sym (taken_on-past blocks dmaps (8192 * v + i) b)
-    ]
-
--- a leaf with a run of part of a dmap stands over a dmap
-pub leaf-known : (blocks : ℕ) (dmaps : List Page) (l2 v : ℕ) → l2 ≤ 13 → IsLowestRun 5 (leaf_ranks (taken_on blocks dmaps)) 14 (l2 + 1) (Some v) → v < dmaps_of blocks
-leaf-known blocks dmaps l2 v h lowest =
-    let r = small-has (taken_on blocks dmaps) l2 v h (rw add-one at lowest) in
+-- a leaf with a free block stands over a dmap, and so does the leaf that was found
+pub leaf-known : (blocks : ℕ) (dmaps : List Page) (l2 v : ℕ) → l2 ≤ 13 → suc l2 ≤ leaf_ranks (taken_on blocks dmaps) v → v < dmaps_of blocks
+leaf-known blocks dmaps l2 v h rank =
+    let r = rank-free (taken_on blocks dmaps) l2 v rank in
     let first = free-within blocks dmaps (8192 * v + r.0 * 2 ^ l2) (first-free (part_of (taken_on blocks dmaps) v) l2 r.0 r.2) in
     omega arith
 
--- the page of the leaf that was found, and its own lowest run
+pub found-known : (blocks : ℕ) (dmaps : List Page) (l2 v : ℕ) → l2 ≤ 13 → IsLowestRun 5 (leaf_ranks (taken_on blocks dmaps)) 14 (l2 + 1) (Some v) → v < dmaps_of blocks
+found-known blocks dmaps l2 v h lowest = leaf-known blocks dmaps l2 v h (rw add-one at (lowest.1.part (omega arith)))
+
+-- the page under the leaf that was found, and its own lowest run
 module _ (blocks : ℕ) (dmaps : List Page) (l2 v : ℕ) (page : Page) (d : AreDmaps blocks dmaps) (h : l2 ≤ 13) (lowest : IsLowestRun 5 (leaf_ranks (taken_on blocks dmaps)) 14 (l2 + 1) (Some v)) (e : page ≡ get_or dmaps v page) where
   page-known : page.0 ≡ page_at dmaps v
-  page-known = ap (λ (p : Page). p.0) (get_or_read dmaps v page (omega (arith, d.number, leaf-known blocks dmaps l2 v h lowest)) e (record { 0 = [] }))
+  page-known = ap (λ (p : Page). p.0) (get_or_read dmaps v page (omega (arith, d.number, found-known blocks dmaps l2 v h lowest)) e (record { 0 = [] }))
 
   pub page-canonical : IsDmap page.0
-  page-canonical = rw page-known (d.each v (leaf-known blocks dmaps l2 v h lowest)).canonical
+  page-canonical = rw page-known (d.each v (found-known blocks dmaps l2 v h lowest)).canonical
 
   page-same : (i : ℕ) → i < 8192 → taken_in page.0 i ≡ taken_on blocks dmaps (8192 * v + i)
-  page-same i k = rw page-known (page-part blocks dmaps v d (leaf-known blocks dmaps l2 v h lowest) i k)
+  page-same i k = rw page-known (sym (taken_on-dmap blocks v dmaps i (d.each v (found-known blocks dmaps l2 v h lowest)) k))
 
   pub page-none : IsLowestFree (taken_in page.0) (8192 / 2 ^ l2) l2 None → ⊥
   page-none none = small-absurd (taken_on blocks dmaps) (taken_in page.0) l2 v h page-same (rw add-one at lowest) none
@@ -332,5 +325,6 @@ module _ (blocks : ℕ) (dmaps : List Page) (l2 v : ℕ) (page : Page) (d : AreD
 pub on-set : (blocks : ℕ) (dmaps : List Page) (set : List Bool) (l2 : ℕ) (o : Option ℕ) → set_of blocks dmaps ≡ set → IsLowest (taken_on blocks dmaps) l2 o → IsLowest (taken_at set) l2 o
 on-set blocks dmaps set l2 o e h = rw e at (subst (λ (f : ℕ → Bool). IsLowest f l2 o) (fun_ext (λ b. sym (taken_at-set_of blocks dmaps b))) h)
 
+-- the control page has a leaf for each of at most 2 ^ 23 blocks
 pub on-within : (blocks : ℕ) (dmaps : List Page) → blocks ≤ 2 ^ 23 → IsWithin (taken_on blocks dmaps)
 on-within blocks dmaps most b free = omega (arith, free-within blocks dmaps b free)

@@ -8,8 +8,8 @@ use Rattle.jfs_bits.proofs.Buds.{any_below-from}
 use Rattle.jfs_buddy.specs.Tree.{rank_of, rank_at}
 use Rattle.jfs_buddy.specs.Buddy.{HasRun}
 use Rattle.jfs_buddy.proofs.Roots.{root-most, root-run, run-root}
-use Rattle.jfs_dmap.specs.Greatest.{has_free_run, greatest_run}
-use Rattle.jfs_dmap.proofs.Roots.{greatest_run-at, greatest_run-none}
+use Rattle.jfs_bits.specs.Bits.{has_free_run, greatest_run}
+use Rattle.jfs_bits.proofs.Buds.{greatest_run-at, greatest_run-none}
 use Rattle.jfs_dmapctl.specs.Control.{tree_of, IsControl}
 use Rattle.jfs_bmap.specs.Pages.{leaf_ranks}
 use Rattle.jfs_bmap.specs.Laws.{RootIsGreatest}

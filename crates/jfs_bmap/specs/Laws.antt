@@ -2,7 +2,7 @@
 use Rattle.std.specs.Prelude.{◌≡◌, ℕ, Bool, List}
 use Rattle.jfs_buddy.specs.Laws.{AreBytes}
 use Rattle.jfs_buddy.specs.Tree.{rank_of, rank_at}
-use Rattle.jfs_dmap.specs.Greatest.{greatest_run}
+use Rattle.jfs_bits.specs.Bits.{greatest_run}
 use Rattle.jfs_dmapctl.specs.Control.{tree_of, IsControl}
 use Rattle.jfs_bmap.specs.Pages.{leaf_ranks}
 use Rattle.jfs_bmap.specs.MapFile.{IsMapPage}

@@ -3,7 +3,7 @@ use Rattle.std.specs.Prelude.{◌≡◌, ℕ, zero, suc, ◌+◌, ◌-◌, ◌*�
 use Rattle.jfs_bits.specs.Field.{range_of}
 use Rattle.jfs_buddy.specs.Tree.{rank_of}
 use Rattle.jfs_dmap.specs.Dmap.{count_below, taken_in}
-use Rattle.jfs_dmap.specs.Greatest.{greatest_run}
+use Rattle.jfs_bits.specs.Bits.{greatest_run}
 use Rattle.jfs_dmapctl.specs.Control.{IsControl}
 use Rattle.jfs_dmapctl.specs.MapControl.{IsMapControl}
 use Rattle.jfs_dmapctl.specs.declared.map_control.MapControl.{MapControl}

@@ -3,7 +3,7 @@ use Rattle.std.specs.Prelude.{◌≡◌, ℕ, ◌+◌, ◌-◌, ◌*◌, ◌/◌
 use Rattle.jfs_disk.specs.declared.page.Page.{Page}
 use Rattle.jfs_buddy.specs.Tree.{rank_of}
 use Rattle.jfs_dmap.specs.Dmap.{blocks_of, first_block_of, taken_in, count_below, IsDmap}
-use Rattle.jfs_dmap.specs.Greatest.{greatest_run}
+use Rattle.jfs_bits.specs.Bits.{greatest_run}
 use Rattle.jfs_dmapctl.specs.Control.{IsControl}
 use Rattle.jfs_bmap.specs.Set.{each_below}
 

@@ -2,7 +2,7 @@
 
 ghost use Rattle.std.specs.Prelude.{◌≡◌, ◌<◌, ◌≤◌, ◌+◌, ◌-◌, ◌*◌, ◌/◌, ◌%◌, ◌^◌, not, length, slice_index, ℕ};
 ghost use Rattle.jfs_dmap.specs.Dmap.{count_below};
-ghost use Rattle.jfs_dmap.specs.Greatest.{greatest_run};
+ghost use Rattle.jfs_bits.specs.Bits.{greatest_run};
 ghost use Rattle.jfs_bmap.specs.Set.{taken_at};
 ghost use Rattle.jfs_bmap.specs.MapFile.{powers_of_4, AreGroups, IsMapControlOf};
 
@@ -56,6 +56,8 @@ impl MapPages {
     fn greatest_run(&self) -> i8
         ensures { result ≡ greatest_run (taken_at self.now) 23 23 }
     {
+        // The pages have at most 2^23 blocks: no free run is longer than the first that is asked for.
+        let _ = &self.blocks;
         for below in 0..24u8 {
             let l2 = 23 - below;
             if self.find(u32::from(l2)).is_some() {

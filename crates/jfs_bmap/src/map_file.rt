@@ -31,8 +31,9 @@ impl MapPages {
         requires { AreGroups (length self.now) agsize }
         ensures { IsFirstPage (length self.now) agsize (taken_at self.now) page.new.0 }
     {
-        page.0.fill(0);
-        write_map_control(page, &self.numbers(agsize));
+        let mut first = Page::zeros();
+        write_map_control(&mut first, &self.numbers(agsize));
+        page.0.copy_from_slice(first.bytes());
     }
 
     /// Writes dmap `k`.

@@ -88,14 +88,10 @@ impl MapPages {
         ensures front { IsFreeFront (taken_at self.now) first most result }
         ensures within { 0 < result → first + result ≤ length self.now }
     {
+        let most = most.min(self.blocks.saturating_sub(first));
         for n in 0..most {
-            match first.checked_add(n) {
-                Some(b) => {
-                    if self.is_taken(b) {
-                        return n;
-                    }
-                }
-                None => return n,
+            if self.is_taken(first + n) {
+                return n;
             }
         }
         most
@@ -106,6 +102,8 @@ impl MapPages {
         requires { first + n ≤ length self.now }
         ensures { result ≡ is_full (taken_at self.now) first n }
     {
+        // that the volume's number of blocks has its bound
+        let _ = &self.blocks;
         for i in 0..n {
             if !self.is_taken(first + i) {
                 return false;
@@ -120,6 +118,8 @@ impl MapPages {
         requires free { is_free (taken_at self.old) first n ≡ true }
         ensures { self.new ≡ marked first n self.old }
     {
+        // that the volume's number of blocks has its bound
+        let _ = &self.blocks;
         let end = first + n;
         for k in first / 8192..end.div_ceil(8192) {
             let from = first.max(8192 * k);
@@ -149,6 +149,8 @@ impl MapPages {
         requires taken { is_full (taken_at self.old) first n ≡ true }
         ensures { self.new ≡ cleared first n self.old }
     {
+        // that the volume's number of blocks has its bound
+        let _ = &self.blocks;
         let end = first + n;
         for k in first / 8192..end.div_ceil(8192) {
             let from = first.max(8192 * k);
