@@ -1,13 +1,16 @@
 -- The first broken rule of two tables, one after the other, and what each rule of a table says that breaks none.
-use Rattle.std.proofs.Common.{◌≡◌, ◌≤◌, ◌%◌, ◌^◌, ℕ, zero, suc, Bool, true, false, cond, List, [], ◌∷◌, ◌++◌, get_or, Option, Some, None, refl}
+use Rattle.std.proofs.Common.{◌≡◌, ◌≤◌, ◌<◌, ◌*◌, ◌%◌, ◌^◌, ℕ, zero, suc, Bool, true, false, cond, count_ones, List, [], ◌∷◌, ◌++◌, get_or, Option, Some, None, refl, arith}
 use Rattle.std.specs.Prelude.{nat_le, ◌==◌, ◌&&◌}
 use Rattle.std.specs.Int.{div_ceil, is_power_of_two}
-use Rattle.std.proofs.lemmas.Bool.{leb-true}
+use Rattle.std.proofs.lemmas.Bool.{eqb-true, leb-true}
+use Rattle.std.proofs.lemmas.Grind.{div_ceil_times}
+use Rattle.std.proofs.Math.Nat.{mul-le-mul_right}
 use Rattle.jfs_bits.specs.declared.rule.Rule.TheVariants as rules
 use Rattle.jfs_super.specs.declared.fields.Super.{Super}
 use Rattle.jfs_super.specs.declared.read.BadSuper.{BadSuper}
 use Rattle.jfs_super.specs.Rules.{Row, first_broken, rows, shape_rows, flag_rows, size_rows, log_rows, blocks_of, ends_within, IsAccepted}
 use Rattle.jfs_super.specs.Geometry.{geometry_of, IsLayout}
+use Rattle.jfs_super.proofs.Powers.{power_from_one}
 
 held : {B : Type 0} (b : Bool) (bad : BadSuper) (rest : Option BadSuper) → (cond b rest (Some bad) ≡ None) → (b ≡ true → rest ≡ None → B) → B
 held true bad rest e f = f refl e
@@ -43,6 +46,13 @@ both true true e = (refl, refl)
 both true false e = absurd cc
 both false b e = absurd cc
 
+-- so many groups hold so many times the blocks of one
+within_groups : (blocks group most : ℕ) → 0 < group → div_ceil blocks group ≤ most → blocks ≤ most * group
+within_groups blocks group most some few =
+    let fits = div_ceil_times blocks group some in
+    let all : div_ceil blocks group * group ≤ most * group = mul-le-mul_right group few in
+    omega arith
+
 -- what an accepted superblock says of its layout
 pub accepted_layout : (s : Super) (pages : ℕ) → IsAccepted s pages → IsLayout (geometry_of s)
 unfolding rows shape_rows flag_rows size_rows log_rows
@@ -55,10 +65,13 @@ accepted_layout s pages h =
     let log = both (nat_le (blocks_of s) s.logpxd.addr && nat_le 256 s.logpxd.len && nat_le s.logpxd.len 32768) (ends_within s.logpxd pages) (each_holds (rows s pages) 15 fine h refl) in
     let longest = both (nat_le (blocks_of s) s.logpxd.addr && nat_le 256 s.logpxd.len) (nat_le s.logpxd.len 32768) log.0 in
     let shortest = both (nat_le (blocks_of s) s.logpxd.addr) (nat_le 256 s.logpxd.len) longest.0 in
+    let least_group = leb-true 8192 s.agsize group.1 in
     record {
       least = leb-true 64 (blocks_of s) least.1;
       most = leb-true (blocks_of s) (2 ^ 23) size.1;
-      group = leb-true 8192 s.agsize group.1;
+      group = least_group;
+      power = power_from_one s.agsize (eqb-true (count_ones s.agsize) 1 group.0);
+      groups = within_groups (blocks_of s) s.agsize 128 (omega arith) (leb-true (div_ceil (blocks_of s) s.agsize) 128 groups.1);
       behind = leb-true (blocks_of s) s.logpxd.addr shortest.0;
       shortest = leb-true 256 s.logpxd.len shortest.1;
       longest = leb-true s.logpxd.len 32768 longest.1;

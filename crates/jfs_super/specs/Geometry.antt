@@ -1,5 +1,6 @@
 -- The layout that a superblock gives.
-use Rattle.std.specs.Prelude.{ℕ, ◌≤◌, ◌^◌, nat_le, if◌then◌else◌}
+use Rattle.std.specs.Prelude.{ℕ, ◌≤◌, ◌*◌, ◌^◌, nat_le, if◌then◌else◌}
+use Rattle.std.specs.Int.{IsPowerOfTwo}
 use Rattle.jfs_super.specs.declared.fields.Super.{Super}
 use Rattle.jfs_super.specs.declared.fields.Geometry.{Geometry}
 use Rattle.jfs_super.specs.Rules.{blocks_of}
@@ -21,6 +22,9 @@ pub record IsLayout (g : Geometry) : Type 0 where
   pub least : 64 ≤ g.blocks
   pub most : g.blocks ≤ 2 ^ 23
   pub group : 8192 ≤ g.agsize
+  -- groups of a power of two of blocks, at most 128 of them
+  pub power : IsPowerOfTwo g.agsize
+  pub groups : g.blocks ≤ 128 * g.agsize
   -- the log lies behind the file system part
   pub behind : g.blocks ≤ g.log.addr
   pub shortest : 256 ≤ g.log.len

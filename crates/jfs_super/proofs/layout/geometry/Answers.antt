@@ -10,4 +10,4 @@ overflow_cast-result c =
 pub returns-clause-bounds : goal.returns-clause-bounds
 returns-clause-bounds c =
     let l = accepted_layout c.args.s.now c.requires.0 c.requires.1 in
-    record { least = l.least; most = l.most; group = l.group; behind = l.behind; shortest = l.shortest; longest = l.longest }
+    record { least = l.least; most = l.most; group = l.group; power = l.power; groups = l.groups; behind = l.behind; shortest = l.shortest; longest = l.longest }
