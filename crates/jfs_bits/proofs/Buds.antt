@@ -1,7 +1,7 @@
 -- The lowest free run of a word, and its maximal buddy.
 use Rattle.std.proofs.Common.{◌≡◌, ◌≢◌, ◌<◌, ◌≤◌, ◌+◌, ◌-◌, ◌*◌, ◌/◌, ◌%◌, ◌^◌, ℕ, zero, suc, Bool, true, false, inl, inr, refl, sym, ap, ◌∙◌, arith}
 use Rattle.std.specs.Prelude.{pos, negsuc, Option, Some, None, is_some}
-use Rattle.std.proofs.lemmas.Bool.{cases_eq, or_left, or_right, or_from, cond-true, cond-false, false_from_ne_true}
+use Rattle.std.proofs.lemmas.Bool.{cases_eq, or_cases, or_left, or_right, or_from, cond-true, cond-false, false_from_ne_true, true≢false}
 use Rattle.std.proofs.lemmas.Nat.{mul-le}
 use Rattle.jfs_bits.specs.Bits.{any_below, is_taken_in, is_free_run, IsLowestFree, has_free_run, greatest_run}
 use Rattle.jfs_bits.proofs.Runs.{is_free-number, number-is_free}
@@ -16,6 +16,18 @@ pub any_below-none : (n : ℕ) (test : ℕ → Bool) → ((i : ℕ) → i < n �
 unfolding any_below
 any_below-none zero test h = refl
 any_below-none (suc n) test h = or_from (any_below n test) (test n) (any_below-none n test (λ i k. h i (omega arith))) (h n (omega arith))
+
+pub any_below-at : (n : ℕ) (test : ℕ → Bool) → any_below n test ≡ true → (i : ℕ) × (i < n) × (test i ≡ true)
+unfolding any_below
+any_below-at zero test h = absurd (true≢false (sym h))
+any_below-at (suc n) test h =
+    elim (or_cases (any_below n test) (test n) h) [ inl a ↦ (let r = any_below-at n test a in let within = r.1 in (r.0, omega arith, r.2)) | inr b ↦ (n, omega arith, b) ]
+
+-- tests that agree below a number
+pub any_below-same : (n : ℕ) (f g : ℕ → Bool) → ((i : ℕ) → i < n → f i ≡ g i) → any_below n f ≡ any_below n g
+unfolding any_below
+any_below-same zero f g h = refl
+any_below-same (suc n) f g h = rw (any_below-same n f g (λ i b. h i (omega arith)), h n (omega arith)) refl
 
 -- the numbers that the code makes of a run's length
 pub sizes_of : (l2 : ℕ) → l2 ≤ 5 → (1 * 2 ^ l2 % 2 ^ 32 ≡ 2 ^ l2) × (1 * 2 ^ (2 ^ l2) % 2 ^ 64 ≡ 2 ^ (2 ^ l2)) × (32 / 2 ^ l2 ≡ 2 ^ (5 - l2)) × (2 ^ (5 - l2) * 2 ^ l2 ≡ 32)

@@ -21,6 +21,16 @@ unfolding all_below
 all_below-from zero test h = refl
 all_below-from (suc n) test h = and_from (all_below n test) (test n) (all_below-from n test (λ i k. h i (omega arith))) (h n (omega arith))
 
+-- tests that agree below a number
+pub all_below-same : (n : ℕ) (f g : ℕ → Bool) → ((i : ℕ) → i < n → f i ≡ g i) → all_below n f ≡ all_below n g
+unfolding all_below
+all_below-same zero f g h = refl
+all_below-same (suc n) f g h = rw (all_below-same n f g (λ i b. h i (omega arith)), h n (omega arith)) refl
+
+pub is_free-same : (f g : ℕ → Bool) (a b n : ℕ) → ((i : ℕ) → i < n → f (a + i) ≡ g (b + i)) → is_free f a n ≡ is_free g b n
+unfolding is_free
+is_free-same f g a b n h = all_below-same n (λ i. not (f (a + i))) (λ i. not (g (b + i))) (λ i k. ap not (h i k))
+
 pub is_free-at : (taken : ℕ → Bool) (first n : ℕ) → is_free taken first n ≡ true → (i : ℕ) → i < n → taken (first + i) ≡ false
 unfolding is_free
 is_free-at taken first n h i k = not-true (taken (first + i)) (all_below-at n (λ i. not (taken (first + i))) h i k)

@@ -12,11 +12,13 @@ use Rattle.jfs_buddy.proofs.Parts.{length-range_of, field-from_range, field-in_p
 use Rattle.jfs_dmap.specs.Dmap.{count_below, taken_in}
 use Rattle.jfs_bits.specs.Bits.{greatest_run}
 use Rattle.jfs_dmap.proofs.Counts.{count_below-none, count_below-same}
+use Rattle.jfs_bmap.proofs.Counts.{count_below-parts, count_below-front}
 use Rattle.jfs_dmapctl.specs.Control.{value_at, ranks_of, IsValue, IsControl}
 use Rattle.jfs_bmap.specs.Set.{each_below, taken_at}
 use Rattle.jfs_bmap.specs.Pages.{page_at, dmaps_of, taken_on, set_of, leaf_ranks, IsDmapOf, AreMapPages}
 use Rattle.jfs_bmap.proofs.Views.{length-each_below, each_below-same, taken_at-each_below, taken_at-past, taken_on-within, taken_on-past, control-same}
-use Rattle.jfs_bmap.proofs.GreatestRuns.{greatest_run-same, greatest_run-value}
+use Rattle.jfs_buddy.proofs.Greatest.{greatest_run-same}
+use Rattle.jfs_bmap.proofs.GreatestRuns.{greatest_run-value}
 use Rattle.jfs_bmap.proofs.OnePage.{taken_on-dmap, leaf_ranks-most}
 use Rattle.jfs_bmap.proofs.Lowest.{leaf-known}
 
@@ -38,25 +40,6 @@ bits-front set rest at n i h e most within aligned words =
     let place : at + word ≡ 4 * ((8 * at + i) / 32) = omega arith in
     let bit : (8 * at + i) % 32 ≡ i % 32 = omega arith in
     rw (range_between set at n, bit) (ap (λ (z : ℕ). is_taken_in z (i % 32)) (field-front (range_of set at n) rest word 4 (omega (arith, size)) ∙ field-in_part set at n word 4 room ∙ ap (λ (z : ℕ). field_of set z 4) place))
-
--- ---- counts
-
--- a count in two parts
-pub count_below-append : (m n : ℕ) (test : ℕ → Bool) → count_below (m + n) test ≡ count_below m test + count_below n (λ i. test (m + i))
-unfolding count_below
-count_below-append m zero test = let e : m + 0 ≡ m = omega arith in rw e (omega arith)
-count_below-append m (suc n) test =
-    let e : m + suc n ≡ suc (m + n) = omega arith in
-    rw (e, count_below-append m n test) (omega arith)
-
--- nothing more passes from `m` on
-count_below-past : (m n : ℕ) (test : ℕ → Bool) → ((i : ℕ) → test (m + i) ≡ false) → count_below (m + n) test ≡ count_below m test
-unfolding count_below
-count_below-past m n test none = count_below-append m n test ∙ omega (arith, zeros n)
-  where
-    zeros : (n : ℕ) → count_below n (λ i. test (m + i)) ≡ 0
-    zeros zero = refl
-    zeros (suc n) = rw (zeros n, none n) refl
 
 -- ---- the pages of the first dmaps
 
@@ -118,7 +101,7 @@ fresh-more bits blocks k free dmaps leaves page within f d same = record {
       let e : 8192 * (k + 1) ≡ 8192 * k + 8192 = omega arith in
       let test = λ (b : ℕ). not (taken_at (set_in bits blocks) b) in
       let here = count_below-same 8192 (λ b. not (taken_in page.0 b)) (λ i. test (8192 * k + i)) (λ i m. ap not (page-fresh bits blocks k i page.0 d same m)) in
-      rw (e, count_below-append (8192 * k) 8192 test) (omega (arith, f.count, here));
+      rw (e, count_below-parts (8192 * k) 8192 test) (omega (arith, f.count, here));
 }
   where
     before : (j : ℕ) → j < k → page_at (dmaps ++ page ∷ []) j ≡ page_at dmaps j
@@ -160,8 +143,8 @@ module _ (bits : List ℕ) (blocks free : ℕ) (dmaps : List Page) (leaves : Lis
   fresh-count =
       let test = λ (b : ℕ). not (taken_at (set_in bits blocks) b) in
       let e : 8192 * dmaps_of blocks ≡ blocks + (8192 * dmaps_of blocks - blocks) = omega arith in
-      let past = count_below-past blocks (8192 * dmaps_of blocks - blocks) test (λ i. ap not (taken_at-past (set_in bits blocks) (blocks + i) (omega (arith, length-each_below blocks (is_taken bits))))) in
-      f.count ∙ ap (λ (n : ℕ). count_below n test) e ∙ past ∙ count_below-same blocks test (λ b. not (taken_on blocks dmaps b)) (λ b h. ap not (sym (taken_on-fresh b)))
+      let past = count_below-front blocks (blocks + (8192 * dmaps_of blocks - blocks)) test (omega arith) (λ i from to. ap not (taken_at-past (set_in bits blocks) i (omega (arith, length-each_below blocks (is_taken bits))))) in
+      f.count ∙ ap (λ (n : ℕ). count_below n test) e ∙ sym past ∙ count_below-same blocks test (λ b. not (taken_on blocks dmaps b)) (λ b h. ap not (sym (taken_on-fresh b)))
 
   pub fresh-pages : (control : List ℕ) → blocks ≤ 2 ^ 23 → IsControl 0 (ranks_of leaves) control → AreMapPages blocks free dmaps control
   fresh-pages control most c = record {

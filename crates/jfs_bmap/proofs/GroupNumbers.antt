@@ -2,9 +2,14 @@
 use Rattle.std.proofs.Common.{◌≡◌, ◌<◌, ◌≤◌, ◌+◌, ◌-◌, ◌*◌, ◌/◌, ◌%◌, ◌^◌, ℕ, suc, inl, inr, sym, arith}
 use Rattle.std.specs.Prelude.{min}
 use Rattle.std.proofs.lemmas.Bool.{cases_eq, cases_lt}
-use Rattle.std.proofs.lemmas.Nat.{mul-le}
+use Rattle.std.proofs.lemmas.Nat.{mul-le, pow_below}
 use Rattle.std.proofs.Math.Pow.{pow_mono}
 use Rattle.jfs_buddy.proofs.Halves.{twice}
+use Rattle.jfs_bmap.specs.MapFile.{AreGroups}
+
+-- a group's size is 2 to at least 13
+pub l2-least : (blocks agsize : ℕ) (are : AreGroups blocks agsize) → 13 ≤ are.power.0
+l2-least blocks agsize are = elim (cases_lt are.power.0 13) [ inl h ↦ absurd (omega (arith, are.least, are.power.1, pow_below are.power.0 13 h)) | inr h ↦ h ]
 
 -- the greatest power of two that is at most a power of two
 pub log-same : (a b n : ℕ) → 2 ^ a ≤ n → n < 2 * 2 ^ a → n ≡ 2 ^ b → a ≡ b

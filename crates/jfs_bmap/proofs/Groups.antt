@@ -11,26 +11,10 @@ use Rattle.jfs_dmap.proofs.Counts.{count_below-same, count_below-none}
 use Rattle.jfs_bmap.specs.Set.{taken_at}
 use Rattle.jfs_bmap.specs.Pages.{page_at, dmaps_of, set_of, AreDmaps}
 use Rattle.jfs_bmap.specs.MapFile.{AreGroups}
+use Rattle.jfs_bmap.proofs.GroupNumbers.{l2-least}
+use Rattle.jfs_bmap.proofs.OnePage.{taken_on-dmap}
+use Rattle.jfs_bmap.proofs.Counts.{count_below-parts, count_below-front}
 use Rattle.jfs_bmap.proofs.Views.{length-set_of, taken_at-set_of, taken_on-within, taken_on-past}
-
--- the count of two parts, one behind the other
-pub count_below-parts : (m n : ℕ) (test : ℕ → Bool) → count_below (m + n) test ≡ count_below m test + count_below n (λ i. test (m + i))
-unfolding count_below
-count_below-parts m zero test = let e : m + 0 ≡ m = omega arith in rw e (omega arith)
-count_below-parts m (suc n) test = rw add-suc (omega (arith, count_below-parts m n test))
-
--- a test that no number passes counts none
-count_below-nothing : (n : ℕ) (test : ℕ → Bool) → ((i : ℕ) → i < n → test i ≡ false) → count_below n test ≡ 0
-unfolding count_below
-count_below-nothing zero test h = refl
-count_below-nothing (suc n) test h = rw (count_below-nothing n test (λ i k. h i (omega arith)), h n (omega arith)) refl
-
--- the numbers from `m` on add nothing where none of them passes
-pub count_below-front : (m n : ℕ) (test : ℕ → Bool) → m ≤ n → ((i : ℕ) → m ≤ i → i < n → test i ≡ false) → count_below m test ≡ count_below n test
-count_below-front m n test h none =
-    let e : m + (n - m) ≡ n = omega arith in
-    let parts = rw e at (count_below-parts m (n - m) test) in
-    omega (arith, parts, count_below-nothing (n - m) (λ i. test (m + i)) (λ i k. none (m + i) (omega arith) (omega arith)))
 
 -- how many of the `size` blocks of group `g` lie in the first `k` dmaps
 abbrev pub front_of : ℕ → ℕ → ℕ → ℕ
@@ -58,13 +42,7 @@ front-stays size n k g whole some other =
 -- a block of a dmap is taken as the set says
 pub page-taken : (blocks : ℕ) (dmaps : List Page) (k i : ℕ) → AreDmaps blocks dmaps → k < dmaps_of blocks → i < 8192 → taken_in (page_at dmaps k) i ≡ taken_at (set_of blocks dmaps) (8192 * k + i)
 page-taken blocks dmaps k i are h within =
-    let dmap = are.each k h in
-    let page : (8192 * k + i) / 8192 ≡ k = omega arith in
-    let place : (8192 * k + i) % 8192 ≡ i = omega arith in
-    sym (taken_at-set_of blocks dmaps (8192 * k + i) ∙ elim (cases_lt (8192 * k + i) blocks) [
-      | inl a ↦ rw (page, place) at (taken_on-within blocks dmaps (8192 * k + i) a)
-      | inr a ↦ taken_on-past blocks dmaps (8192 * k + i) a ∙ sym (dmap.canonical.past i (omega (arith, dmap.number)) within)
-    ])
+    sym (taken_at-set_of blocks dmaps (8192 * k + i) ∙ taken_on-dmap blocks k dmaps i (are.each k h) within)
 
 -- a dmap has as many free blocks as the set has there
 pub page-free : (blocks : ℕ) (dmaps : List Page) (set : List Bool) (k : ℕ) → set_of blocks dmaps ≡ set → AreDmaps blocks dmaps → k < length dmaps → count_below 8192 (λ i. not (taken_in (page_at dmaps k) i)) ≡ count_below 8192 (λ i. not (taken_at set (8192 * k + i)))
@@ -78,9 +56,10 @@ dmaps-number blocks dmaps set e are = are.number ∙ ap dmaps_of (sym (length-se
 -- a group has a whole number of dmaps
 pub whole-dmaps : (blocks size : ℕ) → AreGroups blocks size → (size ≡ 8192 * (size / 8192)) × (0 < size / 8192)
 whole-dmaps blocks size are =
-    let e : 13 + (are.l2 - 13) ≡ are.l2 = omega (arith, are.least) in
-    let parts : size ≡ 8192 * 2 ^ (are.l2 - 13) = are.power ∙ rw e at (pow-add 2 13 (are.l2 - 13)) in
-    (omega (arith, parts), omega (arith, parts, pow_pos (are.l2 - 13)))
+    let l2 = are.power.0 in
+    let e : 13 + (l2 - 13) ≡ l2 = omega (arith, l2-least blocks size are) in
+    let parts : size ≡ 8192 * 2 ^ (l2 - 13) = are.power.1 ∙ rw e at (pow-add 2 13 (l2 - 13)) in
+    (omega (arith, parts), omega (arith, parts, pow_pos (l2 - 13)))
 
 -- each dmap belongs to one of the 128 groups
 pub group-within : (blocks size k : ℕ) → AreGroups blocks size → k < dmaps_of blocks → k / (size / 8192) < 128

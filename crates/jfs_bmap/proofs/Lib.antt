@@ -1,4 +1,5 @@
 pub mod Agreed
+pub mod Counts
 pub mod FilePages
 pub mod FirstPages
 pub mod Fresh
@@ -12,5 +13,4 @@ pub mod OnePage
 pub mod PartByPart
 pub mod Powers
 pub mod Roots
-pub mod SetRuns
 pub mod Views

@@ -5,14 +5,14 @@ use Rattle.std.proofs.lemmas.Bool.{cases_eq, cases_lt, cases_Bool, or_cases, con
 use Rattle.std.proofs.lemmas.Nat.{pow_pos, pow-add, shl-shr, shr_split, mod_below, mul-le, div_below}
 use Rattle.std.proofs.lemmas.List.{get_or_read}
 use Rattle.jfs_bits.specs.Bits.{any_below, is_free_run, IsLowestFree}
-use Rattle.jfs_bits.proofs.Runs.{is_free-at, is_free-from}
-use Rattle.jfs_bits.proofs.Buds.{any_below-from}
+use Rattle.jfs_bits.proofs.Runs.{is_free-at, is_free-from, is_free-same}
+use Rattle.jfs_bits.proofs.Buds.{any_below-at, any_below-from}
 use Rattle.jfs_buddy.specs.Tree.{rank_of}
 use Rattle.jfs_buddy.specs.Buddy.{is_whole, HasRun, IsLowestRun}
 use Rattle.jfs_buddy.proofs.Joins.{start_of-same, is_whole-at, is_whole-from}
 use Rattle.jfs_buddy.proofs.Halves.{twice, start_of-multiple}
 use Rattle.jfs_bits.specs.Bits.{has_free_run, greatest_run}
-use Rattle.jfs_dmap.proofs.Buds.{is_free-same}
+use Rattle.jfs_buddy.proofs.Greatest.{run-rank, rank-run}
 use Rattle.jfs_dmap.proofs.Finds.{runs_of}
 use Rattle.jfs_disk.specs.declared.page.Page.{Page}
 use Rattle.jfs_dmap.specs.Dmap.{taken_in, IsDmap}
@@ -23,57 +23,6 @@ use Rattle.jfs_bmap.proofs.Views.{taken_on-past, taken_at-set_of}
 use Rattle.std.proofs.Math.Path.{fun_ext}
 
 -- the number that passes, where one below `n` does
-pub any_below-at : (n : ℕ) (test : ℕ → Bool) → any_below n test ≡ true → (i : ℕ) × (i < n) × (test i ≡ true)
-unfolding any_below
-any_below-at zero test h = absurd (true≢false (sym h))
-any_below-at (suc n) test h = elim (or_cases (any_below n test) (test n) h) [
-  | inl a ↦ (let r = any_below-at n test a in let within = r.1 in (r.0, omega arith, r.2))
-  | inr b ↦ (n, omega arith, b)
-]
-
--- ---- greatest free runs
-
--- a set with a free run has one of half its length
-has-half : (taken : ℕ → Bool) (span k : ℕ) → suc k ≤ span → has_free_run taken span (suc k) ≡ true → has_free_run taken span k ≡ true
-unfolding has_free_run
-has-half taken span k h run =
-    let r = any_below-at (2 ^ (span - suc k)) (is_free_run taken (suc k)) run in
-    let j = r.0 in
-    let within = r.1 in
-    let size = twice k in
-    let less : span - k ≡ suc (span - suc k) = omega arith in
-    let more : 2 ^ (span - k) ≡ 2 * 2 ^ (span - suc k) = rw less (twice (span - suc k)) in
-    let place : j * 2 ^ suc k ≡ 2 * j * 2 ^ k = omega (arith, ap (λ (z : ℕ). j * z) size) in
-    any_below-from (2 ^ (span - k)) (is_free_run taken k) (2 * j) (omega arith) (is_free-from taken (2 * j * 2 ^ k) (2 ^ k) (λ i b. rw place at (is_free-at taken (j * 2 ^ suc k) (2 ^ suc k) r.2 i (omega arith))))
-
--- and one of each smaller length
-has-smaller : (taken : ℕ → Bool) (span k l2 : ℕ) → k ≤ span → l2 ≤ k → has_free_run taken span k ≡ true → has_free_run taken span l2 ≡ true
-has-smaller taken span zero l2 h m run = let e : l2 ≡ 0 = omega arith in rw e run
-has-smaller taken span (suc k) l2 h m run = elim (cases_eq l2 (suc k)) [ inl e ↦ rw e run | inr n ↦ has-smaller taken span k l2 (omega arith) (omega arith) (has-half taken span k h run) ]
-
--- the rank of the greatest free run says which lengths have one
-run-rank : (taken : ℕ → Bool) (span top l2 : ℕ) → l2 ≤ top → has_free_run taken span l2 ≡ true → suc l2 ≤ rank_of (greatest_run taken span top)
-unfolding greatest_run
-run-rank taken span zero l2 h run =
-    let e : l2 ≡ 0 = omega arith in
-    let value = cond-true (has_free_run taken span 0) (pos 0) (negsuc 0) (rw e at run) in
-    omega (arith, ap rank_of value)
-run-rank taken span (suc top) l2 h run = elim (cases_Bool (has_free_run taken span (suc top))) [
-  | inl t ↦ omega (arith, ap rank_of (cond-true (has_free_run taken span (suc top)) (pos (suc top)) (greatest_run taken span top) t))
-  | inr f ↦ (let less : l2 ≢ suc top = λ e. true≢false (sym run ∙ rw e f) in omega (arith, less, ap rank_of (cond-false (has_free_run taken span (suc top)) (pos (suc top)) (greatest_run taken span top) f), run-rank taken span top l2 (omega (arith, less)) run))
-]
-
-rank-run : (taken : ℕ → Bool) (span top l2 : ℕ) → top ≤ span → suc l2 ≤ rank_of (greatest_run taken span top) → has_free_run taken span l2 ≡ true
-unfolding greatest_run
-rank-run taken span zero l2 b h = elim (cases_Bool (has_free_run taken span 0)) [
-  | inl t ↦ (let e : l2 ≡ 0 = omega (arith, ap rank_of (cond-true (has_free_run taken span 0) (pos 0) (negsuc 0) t)) in rw e t)
-  | inr f ↦ absurd (omega (arith, ap rank_of (cond-false (has_free_run taken span 0) (pos 0) (negsuc 0) f)))
-]
-rank-run taken span (suc top) l2 b h = elim (cases_Bool (has_free_run taken span (suc top))) [
-  | inl t ↦ has-smaller taken span (suc top) l2 b (omega (arith, ap rank_of (cond-true (has_free_run taken span (suc top)) (pos (suc top)) (greatest_run taken span top) t))) t
-  | inr f ↦ rank-run taken span top l2 (omega arith) (omega (arith, ap rank_of (cond-false (has_free_run taken span (suc top)) (pos (suc top)) (greatest_run taken span top) f)))
-]
-
 -- ---- the runs of one dmap
 
 -- the part of a set on a dmap

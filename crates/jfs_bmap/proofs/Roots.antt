@@ -1,19 +1,23 @@
 -- The root of the control page of level 0 is the greatest free run of the volume.
-use Rattle.std.proofs.Common.{◌≡◌, ◌<◌, ◌≤◌, ◌+◌, ◌-◌, ◌*◌, ◌/◌, ◌%◌, ◌^◌, ℕ, zero, suc, Bool, true, false, inl, inr, List, refl, sym, ap, ◌∙◌, arith}
-use Rattle.std.specs.Prelude.{pos, negsuc}
+use Rattle.std.proofs.Common.{◌≡◌, ◌<◌, ◌≤◌, ◌+◌, ◌-◌, ◌*◌, ◌/◌, ◌%◌, ◌^◌, ℕ, zero, suc, Bool, true, false, inl, inr, List, to_z, w8, refl, sym, ap, ◌∙◌, arith}
+use Rattle.std.specs.Prelude.{ℤ, pos, negsuc}
 use Rattle.std.proofs.lemmas.Bool.{cases_lt, false_from_ne_true}
 use Rattle.std.proofs.lemmas.Nat.{pow_pos, pow-add, mul-le, div_below, shr_below}
+use Rattle.std.proofs.lemmas.Int.{to_z_pos}
+use Rattle.jfs_bits.specs.Field.{field_of}
 use Rattle.jfs_bits.specs.Bits.{is_free_run}
-use Rattle.jfs_bits.proofs.Buds.{any_below-from}
+use Rattle.jfs_bits.proofs.Buds.{any_below-at, any_below-from}
 use Rattle.jfs_buddy.specs.Tree.{rank_of, rank_at}
 use Rattle.jfs_buddy.specs.Buddy.{HasRun}
 use Rattle.jfs_buddy.proofs.Roots.{root-most, root-run, run-root}
 use Rattle.jfs_bits.specs.Bits.{has_free_run, greatest_run}
 use Rattle.jfs_bits.proofs.Buds.{greatest_run-at, greatest_run-none}
-use Rattle.jfs_dmapctl.specs.Control.{tree_of, IsControl}
+use Rattle.jfs_buddy.proofs.Places.{part-at}
+use Rattle.jfs_dmapctl.specs.Control.{tree_of, IsValue, IsControl}
+use Rattle.jfs_bmap.proofs.GreatestRuns.{greatest_run-value}
 use Rattle.jfs_bmap.specs.Pages.{leaf_ranks}
 use Rattle.jfs_bmap.specs.Laws.{RootIsGreatest}
-use Rattle.jfs_bmap.proofs.Lowest.{any_below-at, part_of, part-run, rank-has, run-split, free-has, large-has, has-large}
+use Rattle.jfs_bmap.proofs.Lowest.{part_of, part-run, rank-has, run-split, free-has, large-has, has-large}
 
 -- the number of runs of a size
 runs_of : (l2 : ℕ) → l2 ≤ 13 → 2 ^ (23 - l2) ≡ 1024 * 2 ^ (13 - l2)
@@ -79,3 +83,18 @@ root-greatest taken page control =
     let run = any_below-at (2 ^ (23 - l)) (is_free_run taken l) has in
     let leaf = free-leaf taken l run.0 h run.1 run.2 in
     absurd (omega (arith, run-root 5 14 (suc l) leaf.0 (leaf_ranks taken) tree (omega arith) control.tree leaf.1 leaf.2))))
+
+-- ---- the root's byte
+
+-- a byte with the rank of a value, as a number with its sign
+byte-value : (x level : ℕ) (value : ℤ) → x < 256 → level ≤ 2 → IsValue level value → (x + 1) % 256 ≡ rank_of value → to_z w8 x ≡ value
+byte-value x level (pos l2) small few h e = to_z_pos w8 x (omega (arith, h)) ∙ ap pos (omega (arith, h))
+byte-value x level (negsuc n) small few h e = let last : x ≡ 255 = omega arith in let none : n ≡ 0 = h in ap (to_z w8) last ∙ ap negsuc (sym none)
+
+root-byte : (page : List ℕ) → rank_at (tree_of page) 0 ≡ (field_of page 17 1 + 1) % 256
+unfolding rank_at field_of
+root-byte page = ap (λ (z : ℕ). (z + 1) % 256) (part-at page 17 1365 0 (omega arith) ∙ (omega arith))
+
+pub root-value : (taken : ℕ → Bool) (page : List ℕ) → IsControl 0 (leaf_ranks taken) page → field_of page 17 1 < 256 → to_z w8 (field_of page 17 1) ≡ greatest_run taken 23 23
+root-value taken page control small =
+    byte-value (field_of page 17 1) 1 (greatest_run taken 23 23) small (omega arith) (greatest_run-value taken 1 23 23 (omega arith)) (sym (root-byte page) ∙ root-greatest taken page control)

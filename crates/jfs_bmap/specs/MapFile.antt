@@ -1,5 +1,6 @@
 -- The file of the block map: its control page, the control pages of levels 2, 1 and 0, then the dmaps. (JFS Layout, block map.)
 use Rattle.std.specs.Prelude.{◌≡◌, ℕ, zero, suc, ◌+◌, ◌-◌, ◌*◌, ◌/◌, ◌%◌, ◌^◌, ◌<◌, ◌≤◌, min, nat_lt, nat_le, Bool, not, ◌&&◌, if◌then◌else◌, List, length, replicate, slice_index}
+use Rattle.std.specs.Int.{IsPowerOfTwo}
 use Rattle.jfs_bits.specs.Field.{range_of}
 use Rattle.jfs_buddy.specs.Tree.{rank_of}
 use Rattle.jfs_dmap.specs.Dmap.{count_below, taken_in}
@@ -17,9 +18,8 @@ powers_of_4 (suc n) = powers_of_4 n + 4 ^ n
 -- allocation groups: at most 128, each of a power of two of at least 8,192 blocks
 pub record AreGroups (blocks agsize : ℕ) : Type 0 where
   pub some : 0 < blocks
-  pub l2 : ℕ
-  pub least : 13 ≤ l2
-  pub power : agsize ≡ 2 ^ l2
+  pub least : 8192 ≤ agsize
+  pub power : IsPowerOfTwo agsize
   pub most : blocks ≤ 128 * agsize
 
 -- the levels above a group's leaf on the control page where groups begin, and the place there

@@ -7,6 +7,7 @@ ghost use Rattle.jfs_bmap.specs.Set.{taken_at};
 ghost use Rattle.jfs_bmap.specs.MapFile.{powers_of_4, AreGroups, IsMapControlOf};
 
 use crate::map_pages::MapPages;
+use jfs_bits::get_u8;
 use jfs_dmap::dmap_free;
 use jfs_dmapctl::MapControl;
 
@@ -52,19 +53,12 @@ impl MapPages {
         groups
     }
 
-    /// The l2 of the greatest free aligned run, -1 where no block is free.
+    /// The l2 of the greatest free aligned run, -1 where no block is free: the value at the control page's root.
     fn greatest_run(&self) -> i8
         ensures { result ≡ greatest_run (taken_at self.now) 23 23 }
     {
-        // The pages have at most 2^23 blocks: no free run is longer than the first that is asked for.
-        let _ = &self.blocks;
-        for below in 0..24u8 {
-            let l2 = 23 - below;
-            if self.find(u32::from(l2)).is_some() {
-                return l2 as i8;
-            }
-        }
-        -1
+        let bytes: &[u8] = &self.control.0;
+        get_u8(bytes, 17).cast_signed()
     }
 }
 

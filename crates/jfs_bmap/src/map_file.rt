@@ -31,9 +31,8 @@ impl MapPages {
         requires { AreGroups (length self.now) agsize }
         ensures { IsFirstPage (length self.now) agsize (taken_at self.now) page.new.0 }
     {
-        let mut first = Page::zeros();
-        write_map_control(&mut first, &self.numbers(agsize));
-        page.0.copy_from_slice(first.bytes());
+        page.0.fill(0);
+        write_map_control(page, &self.numbers(agsize));
     }
 
     /// Writes dmap `k`.

@@ -9,3 +9,4 @@ pub mod Renewals
 pub mod Same
 pub mod Places
 pub mod Roots
+pub mod Greatest

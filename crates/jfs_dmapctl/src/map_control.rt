@@ -69,6 +69,7 @@ fn groups_of(bytes: &[u8]) -> [u64; 128]
 pub fn write_map_control(page: &mut Page, m: &MapControl)
     ensures control { IsMapControl m.now page.new.0 }
     ensures pad { range_of page.new.0 1089 3007 ≡ range_of page.old.0 1089 3007 }
+    ensures size { length page.new.0 ≡ 4096 }
 {
     let bytes: &mut [u8] = &mut page.0;
     put_front(bytes, m);
