@@ -42,6 +42,8 @@ pub fn disown(owned: &mut MapPages, busy: &mut [u8], first: u32, n: u32) -> bool
     ensures busy { (b : ℕ) → is_taken busy.new b ≡ (is_in_run first n b && taken_at owned.old b || is_taken busy.old b) }
     ensures whole { result ≡ is_full (taken_at owned.old) first n }
 {
+    // at most 2^23, so that the number of each block of the run is a u32
+    let _ = owned.blocks();
     let whole = owned.is_full(first, n);
     if whole {
         owned.clear(first, n);
@@ -116,6 +118,8 @@ fn free_blocks(freed: &[Freed], told: u64, used: &mut MapPages, busy: &mut [u8],
     ensures used { (b : ℕ) → taken_at used.new b ≡ (taken_at used.old b && not (is_in_run first n b && (is_taken busy.old b && nat_le (entry_of freed.now b) told))) }
     ensures busy { (b : ℕ) → is_taken busy.new b ≡ (is_taken busy.old b && not (is_in_run first n b && nat_le (entry_of freed.now b) told)) }
 {
+    // at most 2^23, so that the number of each block of the run is a u32
+    let _ = used.blocks();
     for i in 0..n {
         let b = first + i;
         if bit(busy, b) && entry_of(freed, b) <= told {

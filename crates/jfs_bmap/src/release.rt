@@ -41,9 +41,13 @@ impl BlockMap {
     {
         let part = clip(run, self.owned.blocks(), entry);
         let owned_before = self.owned.free();
-        if !disown(&mut self.owned, self.busy.as_mut_slice(), part.first, part.blocks) {
-            self.mixed = true;
-        }
+        let whole = disown(
+            &mut self.owned,
+            self.busy.as_mut_slice(),
+            part.first,
+            part.blocks,
+        );
+        self.mixed |= !whole;
         self.busy_blocks += self.owned.free() - owned_before;
         self.spare -= 1;
         match self.freed.push(part) {

@@ -2,7 +2,7 @@
 
 ghost use Rattle.std.specs.Prelude.{◌≡◌, ◌<◌, ◌≤◌, ◌+◌, ◌-◌, ◌^◌, ◌∷◌, ◌++◌, [], true, length, ℕ, OnOk, OnErr, IfOk, MatchOption, MatchResult};
 ghost use Rattle.jfs_bits.specs.declared.descriptor.Pxd.{Pxd};
-ghost use Rattle.jfs_bits.specs.Bits.{is_free};
+ghost use Rattle.jfs_bits.specs.Bits.{is_free, is_in_run};
 ghost use Rattle.jfs_bmap.specs.Set.{IsLowest};
 ghost use Rattle.jfs_bmap.specs.States.{Reserved, Owned, Free, is_used, is_in_list, state_of, free_count, total_of, put_state, AreApart, AreReserved};
 ghost use Rattle.jfs_bmap.specs.Choice.{IsReservation, IsNextRun, AreNextRuns};
@@ -82,10 +82,11 @@ impl BlockMap {
         requires enough { left ≤ free_count self.now }
         ensures { IsNextRun (is_used self.now) left result }
     {
+        let used = &self.used;
         let greatest = left.next_power_of_two().ilog2();
         for below in 0..greatest + 1 {
             let l2 = greatest - below;
-            if let Some(first) = self.used.find(l2) {
+            if let Some(first) = used.find(l2) {
                 return Pxd {
                     len: left.min(1 << l2),
                     addr: u64::from(first),
@@ -132,8 +133,18 @@ impl BlockMap {
     {
         for i in 0..list.len() {
             if let Some(run) = list.get(i) {
-                self.owned.mark(run.addr as u32, run.len);
+                self.own_run(run);
             }
+        }
+    }
+
+    /// The same of one run; one without a block may begin past the end.
+    fn own_run(&mut self, run: &Pxd)
+        requires { (b : ℕ) → is_in_run run.now.addr run.now.len b ≡ true → state_of self.old b ≡ Reserved }
+        ensures { self.new ≡ put_state Owned (run.now ∷ []) self.old }
+    {
+        if run.len > 0 {
+            self.owned.mark(run.addr as u32, run.len);
         }
     }
 
@@ -144,8 +155,18 @@ impl BlockMap {
     {
         for i in 0..list.len() {
             if let Some(run) = list.get(i) {
-                self.used.clear(run.addr as u32, run.len);
+                self.give_back_run(run);
             }
+        }
+    }
+
+    /// The same of one run; one without a block may begin past the end.
+    fn give_back_run(&mut self, run: &Pxd)
+        requires { (b : ℕ) → is_in_run run.now.addr run.now.len b ≡ true → state_of self.old b ≡ Reserved }
+        ensures { self.new ≡ put_state Free (run.now ∷ []) self.old }
+    {
+        if run.len > 0 {
+            self.used.clear(run.addr as u32, run.len);
         }
     }
 }

@@ -1,0 +1,69 @@
+-- What becomes of the blocks of a run whose owners are taken.
+use Rattle.std.proofs.Common.{◌≡◌, ◌<◌, ◌≤◌, ◌+◌, ◌-◌, ℕ, Bool, true, false, not, ◌&&◌, ◌||◌, List, length, refl, sym, ◌∙◌, arith}
+use Rattle.std.proofs.lemmas.Bool.Decides.{nat_tests}
+use Rattle.jfs_bits.specs.Bits.{is_in_run}
+use Rattle.jfs_dmap.specs.Dmap.{is_full}
+use Rattle.jfs_dmap.proofs.Counts.{is_full-at}
+use Rattle.jfs_bmap.specs.Set.{taken_at, cleared}
+use Rattle.jfs_bmap.proofs.Views.{same_sets, length-cleared, taken_at-cleared}
+use Rattle.jfs_bmap.proofs.Grows.{is_full-from}
+use Rattle.jfs_bmap.proofs.States.{in_run-at, empty_run}
+
+-- a run and the block behind it
+pub run_next : (first k b : ℕ) → (is_in_run first k b || is_in_run (first + k) 1 b) ≡ is_in_run first (k + 1) b
+run_next first k b = grind (arith, nat_tests)
+
+-- a run of one block
+pub run_one : (first b : ℕ) → is_in_run first 1 b ≡ true → b ≡ first
+run_one first b h = grind (arith, nat_tests)
+
+-- the block behind a run
+pub run_end : (first n : ℕ) → is_in_run first n (first + n) ≡ false
+run_end first n = grind (arith, nat_tests)
+
+-- a taken block is a full run of one
+pub full_one : (taken : ℕ → Bool) (b : ℕ) → taken b ≡ true → is_full taken b 1 ≡ true
+full_one taken b h = is_full-from taken b 1 (λ i k. let e : b + i ≡ b = omega arith in rw e h)
+
+-- each block of a full run, by its number
+pub full_block : (taken : ℕ → Bool) (first n b : ℕ) → is_full taken first n ≡ true → is_in_run first n b ≡ true → taken b ≡ true
+full_block taken first n b full h =
+    let place = in_run-at first n b h in
+    let e : first + (b - first) ≡ b = omega arith in
+    rw e at (is_full-at taken first n full (b - first) (omega arith))
+
+-- a block that is free
+pub cleared-free : (b : ℕ) (set : List Bool) → b < length set → taken_at set b ≡ false → set ≡ cleared b 1 set
+cleared-free b set within free =
+    same_sets set (cleared b 1 set) (sym (length-cleared b 1 set)) (λ c k.
+    sym (taken_at-cleared b 1 set c (omega arith) ∙ same (is_in_run b 1 c) (taken_at set c) (λ h. rw (run_one b c h) free)))
+  where
+    same : (x t : Bool) → (x ≡ true → t ≡ false) → (not x && t) ≡ t
+    same true t h = sym (h refl)
+    same false t h = refl
+
+-- the busy blocks after the owner of a block more was taken
+pub busy-next : (first k : ℕ) (set : List Bool) (b : ℕ) (busy : Bool) → first + (k + 1) ≤ length set → (is_in_run (first + k) 1 b && taken_at (cleared first k set) b || (is_in_run first k b && taken_at set b || busy)) ≡ (is_in_run first (k + 1) b && taken_at set b || busy)
+busy-next first k set b busy within =
+    rw (taken_at-cleared first k set b (omega arith), ← run_next first k b) (both (is_in_run first k b) (is_in_run (first + k) 1 b) (taken_at set b) busy)
+  where
+    both : (x y t busy : Bool) → (y && (not x && t) || (x && t || busy)) ≡ ((x || y) && t || busy)
+    both true true true busy = refl
+    both true true false busy = refl
+    both true false true busy = refl
+    both true false false busy = refl
+    both false true true busy = refl
+    both false true false busy = refl
+    both false false t busy = refl
+
+-- a run all of which is taken
+pub full_busy : (taken : ℕ → Bool) (first n b : ℕ) (busy : Bool) → is_full taken first n ≡ true → (is_in_run first n b || busy) ≡ (is_in_run first n b && taken b || busy)
+full_busy taken first n b busy full = same (is_in_run first n b) (taken b) (λ h. full_block taken first n b full h)
+  where
+    same : (x t : Bool) → (x ≡ true → t ≡ true) → (x || busy) ≡ (x && t || busy)
+    same true t h = rw (h refl) refl
+    same false t h = refl
+
+-- no block of an empty run
+pub none_busy : (first b : ℕ) (t busy : Bool) → busy ≡ (is_in_run first 0 b && t || busy)
+none_busy first b t busy = rw (empty_run first 0 b refl) refl

@@ -1,0 +1,17 @@
+use Rattle.std.proofs.Common.{◌≡◌, ◌≤◌, ◌*◌, ◌%◌, ℕ, length, replicate, refl, sym, arith}
+use Rattle.jfs_bits.specs.Bits.{is_taken}
+use Rattle.jfs_bmap.specs.Set.{each_below}
+use Rattle.jfs_bmap.proofs.Views.{length-each_below}
+use Rattle.jfs_bmap.proofs.FromSet.{kept-fresh, view-fresh}
+use Rattle.jfs_bmap.proofs.block_map.BlockMap.from_set.Goals as goal
+
+pub invariant_of-result : goal.invariant_of-result
+invariant_of-result c =
+    let n = 4 * c.div_ceil.result in
+    let size = length-each_below c.args.blocks (is_taken c.args.set.now) in
+    let zeros : c.in_ok-busy.busy.items ≡ replicate n 0 = c.in_ok-busy.ensures.items_if_clones_equal (λ y h. h) in
+    rw (c.in_ok-owned.ensures, c.in_ok-used.ensures, zeros, c.new.ensures.items)
+    (kept-fresh (each_below c.args.blocks (is_taken c.args.set.now)) n (omega (arith, size, c.requires.most)) (omega arith) (omega (arith, size, c.div_ceil.ensures)), omega (arith, c.new.ensures.len), rw size c.requires.groups)
+
+pub returns : goal.returns
+returns c = rw (c.in_ok-owned.ensures, c.in_ok-used.ensures, c.new.ensures.items) (view-fresh c.args.set.now c.in_ok-busy.busy.items c.args.blocks c.args.agsize)

@@ -1,0 +1,30 @@
+use Rattle.std.proofs.Common.{refl, sym, ◌∙◌, arith}
+use Rattle.jfs_bmap.specs.States.{Free}
+use Rattle.jfs_bmap.proofs.Puts.{next-reserved, rest-left, rest-reserved, none-left, some-there}
+use Rattle.jfs_bmap.proofs.block_map.BlockMap.give_back.Goals as goal
+use Rattle.jfs_bmap.proofs.block_map.BlockMap.give_back.Goals.{in-Some, in_default}
+
+pub loop-i-init : goal.loop-i-init
+loop-i-init c = record { left = refl; reserved = c.requires }
+
+pub give_back_run-requires : goal.give_back_run-requires
+give_back_run-requires c = next-reserved c.args.list.now c.loop-i.i c.in-Some.run'.now c.loop-i.self (sym c.in-Some.ensures) c.loop-i.invariant.reserved
+
+pub loop-i-preserved : goal.loop-i-preserved
+loop-i-preserved c =
+    let list = c.args.list.now in
+    let i = c.loop-i.i in
+    let now = c.loop-i.self in
+    elim c.match-get.branch [
+      | in-Some w ↦
+          let here = sym w.in-Some.ensures in
+          let run = w.in-Some.run'.now in
+          rw (w.self-is, w.give_back_run.ensures) (record {
+            left = rest-left Free list i run now here ∙ c.loop-i.invariant.left;
+            reserved = rest-reserved Free list i run now here c.loop-i.invariant.reserved;
+          })
+      | in_default w ↦ absurd (some-there list i (omega arith) w.in_default.ensures)
+    ]
+
+pub returns : goal.returns
+returns c = sym (none-left Free c.args.list.now c.loop-i.i c.loop-i.self (omega arith)) ∙ c.loop-i.invariant.left
