@@ -1,5 +1,5 @@
 -- The pages of the map's file, by the pages of a set.
-use Rattle.std.proofs.Common.{◌≡◌, ◌<◌, ◌≤◌, ◌-◌, ◌*◌, ℕ, Bool, List, length, get_or, sym, ap, subst, ◌∙◌, arith}
+use Rattle.std.proofs.Common.{◌≡◌, ◌<◌, ◌≤◌, ◌*◌, ℕ, Bool, List, length, get_or, sym, ap, subst, ◌∙◌, arith}
 use Rattle.std.proofs.Math.Path.{fun_ext}
 use Rattle.jfs_disk.specs.declared.page.Page.{Page}
 use Rattle.jfs_dmap.specs.Dmap.{blocks_of, first_block_of, IsDmap}

@@ -1,15 +1,14 @@
 -- A map whose owned blocks are all that is used.
-use Rattle.std.proofs.Common.{◌≡◌, ◌<◌, ◌≤◌, ◌+◌, ◌-◌, ◌*◌, ◌/◌, ◌%◌, ◌^◌, ℕ, suc, Bool, true, false, inl, inr, List, [], length, replicate, refl, sym, ap, ◌∙◌, arith}
+use Rattle.std.proofs.Common.{◌≡◌, ◌<◌, ◌≤◌, ◌-◌, ◌*◌, ◌/◌, ◌%◌, ◌^◌, ℕ, suc, Bool, true, false, inl, inr, List, [], length, replicate, refl, sym, ap, ◌∙◌, arith}
 use Rattle.std.specs.Prelude.{if◌then◌else◌, slice_index}
 use Rattle.std.proofs.lemmas.Bool.{cases_lt, both_ways}
 use Rattle.std.proofs.lemmas.List.{length-replicate, get_or-replicate, get_or_past}
 use Rattle.std.proofs.lemmas.Nat.Bits.{bit_at-zero}
 use Rattle.jfs_bits.specs.Bits.{is_taken, is_taken_in}
 use Rattle.jfs_bits.specs.Field.{field_of}
-use Rattle.jfs_dmap.specs.Dmap.{count_below}
 use Rattle.jfs_dmap.proofs.Counts.{count_below-same}
 use Rattle.jfs_bmap.specs.Set.{each_below, taken_at}
-use Rattle.jfs_bmap.specs.States.{BlockState, Free, Owned, fresh}
+use Rattle.jfs_bmap.specs.States.{Free, Owned, fresh}
 use Rattle.jfs_bmap.specs.Freed.{entry_of, AreKept}
 use Rattle.jfs_bmap.proofs.Views.{length-each_below, taken_at-each_below, each_below-at}
 use Rattle.jfs_bmap.proofs.States.{state_by, state_in-by, view_of, view-length, state-at, same_blocks}

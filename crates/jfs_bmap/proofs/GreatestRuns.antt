@@ -1,10 +1,7 @@
 -- The greatest free run as the value of a leaf.
-use Rattle.std.proofs.Common.{◌≡◌, ◌<◌, ◌≤◌, ◌+◌, ◌-◌, ◌*◌, ◌^◌, ℕ, zero, suc, Bool, refl, sym, ap, ◌∙◌, arith}
-use Rattle.std.specs.Prelude.{ℤ, pos, negsuc}
+use Rattle.std.proofs.Common.{◌≤◌, ℕ, zero, suc, Bool, refl, arith}
+use Rattle.std.specs.Prelude.{pos, negsuc}
 use Rattle.std.proofs.lemmas.Bool.{cond_both}
-use Rattle.std.proofs.lemmas.Nat.{pow-add, mul-le}
-use Rattle.jfs_bits.specs.Bits.{is_free_run}
-use Rattle.jfs_buddy.specs.Tree.{rank_of}
 use Rattle.jfs_bits.specs.Bits.{has_free_run, greatest_run}
 use Rattle.jfs_dmapctl.specs.Control.{whole_of, IsValue}
 

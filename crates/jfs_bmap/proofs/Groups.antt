@@ -1,9 +1,8 @@
 -- The free blocks of the groups, dmap by dmap.
-use Rattle.std.proofs.Common.{◌≡◌, ◌≢◌, ◌<◌, ◌≤◌, ◌+◌, ◌-◌, ◌*◌, ◌/◌, ◌%◌, ◌^◌, ℕ, zero, suc, Bool, true, false, not, inl, inr, List, length, get_or, set, replicate, refl, sym, ap, ◌∙◌, arith}
+use Rattle.std.proofs.Common.{◌≡◌, ◌≢◌, ◌<◌, ◌≤◌, ◌+◌, ◌-◌, ◌*◌, ◌/◌, ◌^◌, ℕ, Bool, true, not, inl, inr, List, length, get_or, set, replicate, sym, ap, ◌∙◌, arith}
 use Rattle.std.specs.Prelude.{min}
 use Rattle.std.proofs.lemmas.Bool.{cases_eq, cases_lt}
 use Rattle.std.proofs.lemmas.Nat.{pow_pos, pow-add, mul-le, div_below}
-use Rattle.std.proofs.Math.Nat.{add-suc}
 use Rattle.std.proofs.lemmas.List.{get_or-set_same, get_or-set_other, get_or-replicate}
 use Rattle.jfs_disk.specs.declared.page.Page.{Page}
 use Rattle.jfs_dmap.specs.Dmap.{count_below, taken_in}
@@ -14,7 +13,7 @@ use Rattle.jfs_bmap.specs.MapFile.{AreGroups}
 use Rattle.jfs_bmap.proofs.GroupNumbers.{l2-least}
 use Rattle.jfs_bmap.proofs.OnePage.{taken_on-dmap}
 use Rattle.jfs_bmap.proofs.Counts.{count_below-parts, count_below-front}
-use Rattle.jfs_bmap.proofs.Views.{length-set_of, taken_at-set_of, taken_on-within, taken_on-past}
+use Rattle.jfs_bmap.proofs.Views.{length-set_of, taken_at-set_of}
 
 -- how many of the `size` blocks of group `g` lie in the first `k` dmaps
 abbrev pub front_of : ℕ → ℕ → ℕ → ℕ

@@ -5,6 +5,7 @@ pub mod Disowned
 pub mod Entries
 pub mod FilePages
 pub mod FirstPages
+pub mod FreeAndBusy
 pub mod Fresh
 pub mod FromSet
 pub mod GreatestRuns
@@ -25,3 +26,4 @@ pub mod Roots
 pub mod States
 pub mod Told
 pub mod Views
+pub mod Within

@@ -1,17 +1,16 @@
 -- The lowest free run of a set of blocks, by the ranks of its control page's leaves.
-use Rattle.std.proofs.Common.{◌≡◌, ◌≢◌, ◌<◌, ◌≤◌, ◌+◌, ◌-◌, ◌*◌, ◌/◌, ◌%◌, ◌^◌, ℕ, zero, suc, Bool, true, false, inl, inr, List, [], get_or, sym, refl, ap, subst, ◌∙◌, add-one, arith}
-use Rattle.std.specs.Prelude.{pos, negsuc, Option, Some, None}
-use Rattle.std.proofs.lemmas.Bool.{cases_eq, cases_lt, cases_Bool, or_cases, cond-true, cond-false, both_ways, false_from_ne_true, true≢false}
+use Rattle.std.proofs.Common.{◌≡◌, ◌<◌, ◌≤◌, ◌+◌, ◌-◌, ◌*◌, ◌/◌, ◌%◌, ◌^◌, ℕ, suc, Bool, true, false, inl, inr, List, [], get_or, sym, refl, ap, subst, ◌∙◌, add-one, arith}
+use Rattle.std.specs.Prelude.{Option, Some, None}
+use Rattle.std.proofs.lemmas.Bool.{cases_lt, both_ways, false_from_ne_true}
 use Rattle.std.proofs.lemmas.Nat.{pow_pos, pow-add, shl-shr, shr_split, mod_below, mul-le, div_below}
 use Rattle.std.proofs.lemmas.List.{get_or_read}
-use Rattle.jfs_bits.specs.Bits.{any_below, is_free_run, IsLowestFree}
+use Rattle.jfs_bits.specs.Bits.{is_free_run, IsLowestFree}
 use Rattle.jfs_bits.proofs.Runs.{is_free-at, is_free-from, is_free-same}
 use Rattle.jfs_bits.proofs.Buds.{any_below-at, any_below-from}
-use Rattle.jfs_buddy.specs.Tree.{rank_of}
 use Rattle.jfs_buddy.specs.Buddy.{is_whole, HasRun, IsLowestRun}
 use Rattle.jfs_buddy.proofs.Joins.{start_of-same, is_whole-at, is_whole-from}
-use Rattle.jfs_buddy.proofs.Halves.{twice, start_of-multiple}
-use Rattle.jfs_bits.specs.Bits.{has_free_run, greatest_run}
+use Rattle.jfs_buddy.proofs.Halves.{start_of-multiple}
+use Rattle.jfs_bits.specs.Bits.{has_free_run}
 use Rattle.jfs_buddy.proofs.Greatest.{run-rank, rank-run}
 use Rattle.jfs_dmap.proofs.Finds.{runs_of}
 use Rattle.jfs_disk.specs.declared.page.Page.{Page}

@@ -1,7 +1,6 @@
 -- What the fields of an opened map say about its value, and what a run that changes its state does to them.
 use Rattle.std.proofs.Common.{◌≡◌, ◌<◌, ◌≤◌, ◌+◌, ◌^◌, ℕ, Bool, true, not, [], ◌∷◌, length, sym, ap, ◌∙◌, subst, arith}
 use Rattle.jfs_bits.specs.Bits.{is_in_run, is_free}
-use Rattle.jfs_bits.specs.declared.descriptor.Pxd.{Pxd}
 use Rattle.jfs_dmap.specs.Dmap.{is_full}
 use Rattle.jfs_dmap.proofs.Counts.{count_below-most}
 use Rattle.jfs_bmap.specs.declared.block_map.BlockMap.TheInside.{Inside}

@@ -7,7 +7,7 @@ use Rattle.std.proofs.lemmas.Bool.{cases_lt, both_ways, or_left, or_right, false
 use Rattle.std.proofs.lemmas.List.{get_or_past, drop_all}
 use Rattle.jfs_bits.specs.Bits.{is_in_run}
 use Rattle.jfs_bits.specs.declared.descriptor.Pxd.{Pxd}
-use Rattle.jfs_bmap.specs.States.{BlockState, Free, Owned, Reserved, Busy, Blocks, state_of, is_used, is_in_list, AreApart, AreReserved, put_state}
+use Rattle.jfs_bmap.specs.States.{BlockState, Free, Owned, Reserved, Blocks, state_of, is_in_list, AreApart, AreReserved, put_state}
 use Rattle.jfs_bmap.proofs.States.{same_blocks, changed-at, changed-length, in_list-one}
 
 -- ---- lists of runs

@@ -1,7 +1,7 @@
 -- The states of blocks, by the sets that a map keeps, and how a run changes them.
-use Rattle.std.proofs.Common.{◌≡◌, ◌<◌, ◌≤◌, ◌+◌, ◌-◌, ◌*◌, ℕ, Bool, true, false, not, ◌&&◌, ◌||◌, inl, inr, List, [], ◌∷◌, ◌++◌, length, get_or, refl, sym, ap, ◌∙◌, arith}
+use Rattle.std.proofs.Common.{◌≡◌, ◌<◌, ◌≤◌, ◌+◌, ◌-◌, ℕ, Bool, true, false, not, ◌&&◌, ◌||◌, inl, inr, List, [], ◌∷◌, length, refl, sym, ap, ◌∙◌, arith}
 use Rattle.std.specs.Prelude.{if◌then◌else◌, nat_le, nat_lt}
-use Rattle.std.proofs.lemmas.Bool.{cases_lt, or_cases, or_from, both_ways, and_parts, or_right, leb-true, ltb-true, false_from_ne_true, not_from_true, not-true}
+use Rattle.std.proofs.lemmas.Bool.{cases_lt, or_cases, or_from, both_ways, and_parts, or_right, leb-true, ltb-true, false_from_ne_true}
 use Rattle.std.proofs.lemmas.List.{ext_get_or, get_or_past}
 use Rattle.jfs_bits.specs.Bits.{is_in_run, is_taken, is_free}
 use Rattle.jfs_bits.specs.declared.descriptor.Pxd.{Pxd}

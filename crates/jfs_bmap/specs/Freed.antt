@@ -1,9 +1,9 @@
 -- How the block map keeps its blocks: the pages of two sets, a bit for each busy block, and the runs that entries released.
-use Rattle.std.specs.Prelude.{◌≡◌, ℕ, zero, suc, ◌+◌, ◌*◌, ◌%◌, ◌^◌, ◌<◌, ◌≤◌, Bool, true, false, not, if◌then◌else◌, List, [], ◌∷◌, length, get_or}
+use Rattle.std.specs.Prelude.{◌≡◌, ℕ, ◌+◌, ◌*◌, ◌%◌, ◌^◌, ◌<◌, ◌≤◌, Bool, true, false, if◌then◌else◌, List, [], ◌∷◌, length, get_or}
 use Rattle.jfs_bits.specs.Bits.{is_in_run, is_taken}
 use Rattle.jfs_dmap.specs.Dmap.{count_below}
 use Rattle.jfs_bmap.specs.declared.freed.Freed.{Freed}
-use Rattle.jfs_bmap.specs.Set.{taken_at, each_below}
+use Rattle.jfs_bmap.specs.Set.{taken_at}
 use Rattle.jfs_bmap.specs.States.{BlockState, Free, Owned, Reserved, Busy}
 
 -- the run has block `b`

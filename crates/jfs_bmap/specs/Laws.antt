@@ -7,9 +7,9 @@ use Rattle.jfs_dmapctl.specs.Control.{tree_of, IsControl}
 use Rattle.jfs_bmap.specs.Pages.{leaf_ranks}
 use Rattle.jfs_bmap.specs.MapFile.{IsMapPage}
 
--- two canonical pages with one number, of one volume with the same blocks taken, hold the same bytes
+-- two canonical pages with one number, of volumes of the same size in the same groups with the same blocks taken, hold the same bytes
 abbrev pub MapPagesAgree : Type 0
-MapPagesAgree = (blocks agsize n : ℕ) (taken : ℕ → Bool) (one other : List ℕ) → AreBytes one → AreBytes other → IsMapPage blocks agsize taken n one → IsMapPage blocks agsize taken n other → one ≡ other
+MapPagesAgree = (blocks agsize n : ℕ) (taken others : ℕ → Bool) (one other : List ℕ) → ((b : ℕ) → taken b ≡ others b) → AreBytes one → AreBytes other → IsMapPage blocks agsize taken n one → IsMapPage blocks agsize others n other → one ≡ other
 
 -- the root of the control page of level 0 has the rank of the greatest free run of the first 2 ^ 23 blocks
 abbrev pub RootIsGreatest : Type 0

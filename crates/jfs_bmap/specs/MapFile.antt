@@ -1,8 +1,7 @@
 -- The file of the block map: its control page, the control pages of levels 2, 1 and 0, then the dmaps. (JFS Layout, block map.)
-use Rattle.std.specs.Prelude.{◌≡◌, ℕ, zero, suc, ◌+◌, ◌-◌, ◌*◌, ◌/◌, ◌%◌, ◌^◌, ◌<◌, ◌≤◌, min, nat_lt, nat_le, Bool, not, ◌&&◌, if◌then◌else◌, List, length, replicate, slice_index}
+use Rattle.std.specs.Prelude.{◌≡◌, ℕ, zero, suc, ◌+◌, ◌-◌, ◌*◌, ◌/◌, ◌%◌, ◌^◌, ◌<◌, ◌≤◌, nat_le, Bool, not, if◌then◌else◌, List, length, replicate, slice_index}
 use Rattle.std.specs.Int.{IsPowerOfTwo}
 use Rattle.jfs_bits.specs.Field.{range_of}
-use Rattle.jfs_buddy.specs.Tree.{rank_of}
 use Rattle.jfs_dmap.specs.Dmap.{count_below, taken_in}
 use Rattle.jfs_bits.specs.Bits.{greatest_run}
 use Rattle.jfs_dmapctl.specs.Control.{IsControl}

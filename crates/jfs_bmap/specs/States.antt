@@ -1,5 +1,5 @@
 -- What each block of a volume is in use for.
-use Rattle.std.specs.Prelude.{◌≡◌, ℕ, ◌+◌, ◌-◌, ◌≤◌, nat_le, Bool, true, false, not, ◌||◌, if◌then◌else◌, max, List, [], ◌∷◌, length, get_or}
+use Rattle.std.specs.Prelude.{◌≡◌, ℕ, ◌+◌, ◌-◌, nat_le, Bool, true, false, not, ◌||◌, if◌then◌else◌, List, [], ◌∷◌, length, get_or}
 use Rattle.jfs_bits.specs.Bits.{is_in_run, is_taken}
 use Rattle.jfs_bits.specs.declared.descriptor.Pxd.{Pxd}
 use Rattle.jfs_dmap.specs.Dmap.{count_below}
@@ -71,6 +71,10 @@ total_of (run ∷ runs) = run.len + total_of runs
 unfoldable pub AreApart : List Pxd → Type 0
 AreApart [] = Unit {0}
 AreApart (run ∷ runs) = ((b : ℕ) → is_in_run run.addr run.len b ≡ true → is_in_list runs b ≡ false) × AreApart runs
+
+-- the run's blocks are reserved
+abbrev pub IsReservedRun : Blocks → Pxd → Type 0
+IsReservedRun m run = (b : ℕ) → is_in_run run.addr run.len b ≡ true → state_of m b ≡ Reserved
 
 -- the runs' blocks are reserved and stand there once
 pub record AreReserved (m : Blocks) (list : List Pxd) : Type 0 where

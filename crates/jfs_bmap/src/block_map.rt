@@ -77,9 +77,18 @@ impl BlockMap {
         })
     }
 
+    /// The number of blocks of the volume.
+    pub fn blocks(&self) -> u32
+        ensures value { result ≡ length self.now.states }
+        ensures most { result ≤ 2 ^ 23 }
+    {
+        self.owned.blocks()
+    }
+
     /// The number of free blocks.
     pub fn free(&self) -> u32
-        ensures { result ≡ free_count self.now }
+        ensures value { result ≡ free_count self.now }
+        ensures most { free_count self.now + busy_count self.now ≤ length self.now.states }
     {
         self.used.free()
     }

@@ -1,10 +1,11 @@
 //! Blocks are reserved, get owners, or are given back.
 
-ghost use Rattle.std.specs.Prelude.{◌≡◌, ◌<◌, ◌≤◌, ◌+◌, ◌-◌, ◌^◌, ◌∷◌, ◌++◌, [], true, length, ℕ, OnOk, OnErr, IfOk, MatchOption, MatchResult};
+ghost use Rattle.std.specs.Prelude.{◌≡◌, ◌<◌, ◌≤◌, ◌+◌, ◌-◌, ◌^◌, ◌∷◌, ◌++◌, [], true, length, ℕ, OnOk, OnErr, IfNone, IfOk, IfSome};
+ghost use Rattle.std.specs.List.{All};
 ghost use Rattle.jfs_bits.specs.declared.descriptor.Pxd.{Pxd};
-ghost use Rattle.jfs_bits.specs.Bits.{is_free, is_in_run};
+ghost use Rattle.jfs_bits.specs.Bits.{is_free};
 ghost use Rattle.jfs_bmap.specs.Set.{IsLowest};
-ghost use Rattle.jfs_bmap.specs.States.{Reserved, Owned, Free, is_used, is_in_list, state_of, free_count, total_of, put_state, AreApart, AreReserved};
+ghost use Rattle.jfs_bmap.specs.States.{Reserved, Owned, Free, is_used, is_in_list, state_of, free_count, total_of, put_state, AreApart, AreReserved, IsReservedRun};
 ghost use Rattle.jfs_bmap.specs.Choice.{IsReservation, IsNextRun, AreNextRuns};
 ghost use Rattle.jfs_bmap.specs.Refusal.{IsRefused};
 
@@ -35,7 +36,9 @@ impl BlockMap {
         ensures total { IfOk result (λ list. total_of list ≡ n) }
         ensures free { IfOk result (λ list. (b : ℕ) → is_in_list list b ≡ true → state_of self.old b ≡ Free) }
         ensures once { IfOk result AreApart }
+        ensures within { IfOk result (All (λ run. run.addr + run.len ≤ length self.old.states)) }
         ensures reserved { IfOk result (λ list. self.new ≡ put_state Reserved list self.old) }
+        ensures held { IfOk result (AreReserved self.new) }
         ensures refused { IsRefused self.old n result }
         ensures unchanged { OnErr result (self.new ≡ self.old) }
     {
@@ -115,8 +118,13 @@ impl BlockMap {
 
     /// Reserves the lowest aligned run of four free blocks; None, and nothing changed, exactly where there is none.
     pub fn run_of_four(&mut self) -> Option<Pxd>
-        ensures lowest { MatchOption result (IsLowest (is_used self.old) 2 None) (λ run. (run.len ≡ 4) × IsLowest (is_used self.old) 2 (Some run.addr)) }
-        ensures reserved { MatchOption result (self.new ≡ self.old) (λ run. self.new ≡ put_state Reserved (run ∷ []) self.old) }
+        ensures none { IfNone result (IsLowest (is_used self.old) 2 None) }
+        ensures lowest { IfSome result (λ run. IsLowest (is_used self.old) 2 (Some run.addr)) }
+        ensures four { IfSome result (λ run. run.len ≡ 4) }
+        ensures within { IfSome result (λ run. run.addr + run.len ≤ length self.old.states) }
+        ensures reserved { IfSome result (λ run. self.new ≡ put_state Reserved (run ∷ []) self.old) }
+        ensures held { IfSome result (IsReservedRun self.new) }
+        ensures unchanged { IfNone result (self.new ≡ self.old) }
     {
         let first = self.used.find(2)?;
         self.used.mark(first, 4);
@@ -138,11 +146,12 @@ impl BlockMap {
         }
     }
 
-    /// The same of one run; one without a block may begin past the end.
-    fn own_run(&mut self, run: &Pxd)
-        requires { (b : ℕ) → is_in_run run.now.addr run.now.len b ≡ true → state_of self.old b ≡ Reserved }
+    /// The same of one run.
+    pub fn own_run(&mut self, run: &Pxd)
+        requires { IsReservedRun self.old run.now }
         ensures { self.new ≡ put_state Owned (run.now ∷ []) self.old }
     {
+        // A run without a block may begin past the end.
         if run.len > 0 {
             self.owned.mark(run.addr as u32, run.len);
         }
@@ -160,11 +169,12 @@ impl BlockMap {
         }
     }
 
-    /// The same of one run; one without a block may begin past the end.
-    fn give_back_run(&mut self, run: &Pxd)
-        requires { (b : ℕ) → is_in_run run.now.addr run.now.len b ≡ true → state_of self.old b ≡ Reserved }
+    /// The same of one run.
+    pub fn give_back_run(&mut self, run: &Pxd)
+        requires { IsReservedRun self.old run.now }
         ensures { self.new ≡ put_state Free (run.now ∷ []) self.old }
     {
+        // A run without a block may begin past the end.
         if run.len > 0 {
             self.used.clear(run.addr as u32, run.len);
         }

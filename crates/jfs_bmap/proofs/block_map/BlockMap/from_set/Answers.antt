@@ -1,4 +1,4 @@
-use Rattle.std.proofs.Common.{◌≡◌, ◌≤◌, ◌*◌, ◌%◌, ℕ, length, replicate, refl, sym, arith}
+use Rattle.std.proofs.Common.{◌≡◌, ◌*◌, replicate, arith}
 use Rattle.jfs_bits.specs.Bits.{is_taken}
 use Rattle.jfs_bmap.specs.Set.{each_below}
 use Rattle.jfs_bmap.proofs.Views.{length-each_below}

@@ -1,4 +1,4 @@
-use Rattle.std.proofs.Common.{◌<◌, ◌≤◌, ◌+◌, ◌-◌, ◌*◌, ◌^◌, ℕ, inl, inr, ap, ◌∙◌, arith}
+use Rattle.std.proofs.Common.{◌-◌, ℕ, inl, inr, ap, ◌∙◌, arith}
 use Rattle.std.specs.Prelude.{min, Some, None}
 use Rattle.std.proofs.lemmas.Bool.{cases_eq}
 use Rattle.std.proofs.lemmas.Nat.{one_shl}

@@ -1,8 +1,7 @@
-use Rattle.std.proofs.Common.{[], ◌∷◌, length, sym, ap, ◌∙◌, subst, List, arith}
-use Rattle.jfs_bits.specs.declared.descriptor.Pxd.{Pxd}
-use Rattle.jfs_bmap.specs.States.{Reserved, Blocks, AreApart, put_state}
+use Rattle.std.proofs.Common.{length, sym, ap, ◌∙◌, arith}
+use Rattle.jfs_bmap.specs.States.{Reserved, Blocks}
 use Rattle.jfs_bmap.proofs.Puts.{put-length, put-none, none-apart, none-free_before}
-use Rattle.jfs_bmap.proofs.Reservations.{Reserving, next-some, next-free, free-within, reserving-none, reserving-front, reserving-next, reserving-all}
+use Rattle.jfs_bmap.proofs.Reservations.{next-some, next-free, free-within, reserving-none, reserving-front, reserving-next, reserving-all}
 use Rattle.jfs_bmap.proofs.Opened.{size-is, front-is}
 use Rattle.jfs_bmap.proofs.block_map.BlockMap.reserve_runs.Goals as goal
 use Rattle.jfs_bmap.proofs.block_map.BlockMap.reserve_runs.Goals.{then-front-gt0+in_ok-reserve_run, else-front-gt0}

@@ -1,6 +1,5 @@
-use Rattle.std.proofs.Common.{ℕ, Bool, sym, ap, subst}
+use Rattle.std.proofs.Common.{sym, ap}
 use Rattle.jfs_bmap.specs.States.{Blocks}
-use Rattle.jfs_bmap.specs.MapFile.{IsMapPage}
 use Rattle.jfs_bmap.proofs.Opened.{size-is, owned-is}
 use Rattle.jfs_bmap.proofs.block_map.BlockMap.write_page.Goals as goal
 

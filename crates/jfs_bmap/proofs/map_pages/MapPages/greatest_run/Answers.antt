@@ -1,7 +1,6 @@
 use Rattle.std.proofs.Common.{◌≡◌, ◌∙◌, ℕ, Bool, sym, ap, to_z, w8, arith}
 use Rattle.std.proofs.lemmas.Int.{to_z-of_z}
 use Rattle.std.proofs.Math.Path.{fun_ext}
-use Rattle.jfs_bits.specs.Field.{field_of}
 use Rattle.jfs_bits.specs.Bits.{greatest_run}
 use Rattle.jfs_bmap.specs.Pages.{taken_on}
 use Rattle.jfs_bmap.specs.Set.{taken_at}
