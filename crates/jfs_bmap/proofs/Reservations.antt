@@ -95,6 +95,7 @@ used-at run m b = elim (cases_lt b (length m.states)) [
     either : (t : Bool) (s : BlockState) → not (is_free_state (if t then Reserved else s)) ≡ (t || not (is_free_state s))
     either true s = refl
     either false s = refl
+
     or_true : (t : Bool) → (t || true) ≡ true
     or_true true = refl
     or_true false = refl
@@ -207,7 +208,7 @@ reserving-next initial now hint n left list run some r next =
     (ap (λ (s : BlockState). not (is_free_state s)) (ap (λ (m : Blocks). state_of m b) r.reserved ∙ put-here Reserved list initial b (free-there initial b (r.free b t)) t))) in
     record {
       chosen = λ rest h. subst (λ (runs : List Pxd). IsReservation (is_used initial) hint n runs) (sym (append_assoc list (run ∷ []) rest))
-      (r.chosen (run ∷ rest) (next, subst (λ (taken : ℕ → Bool). AreNextRuns taken (left - run.len) rest) (used-put run now) h));
+          (r.chosen (run ∷ rest) (next, subst (λ (taken : ℕ → Bool). AreNextRuns taken (left - run.len) rest) (used-put run now) h));
       reserved = ap (λ (m : Blocks). put_state Reserved (run ∷ []) m) r.reserved ∙ put-append Reserved list (run ∷ []) initial;
       free = λ b h. (elim (or_cases (is_in_list list b) (is_in_list (run ∷ []) b) (sym (in_list-append list (run ∷ []) b) ∙ h)) [
         | inl old ↦ r.free b old

@@ -5,7 +5,7 @@ use Rattle.jfs_bits.specs.Bits.{is_in_run}
 use Rattle.jfs_bits.specs.declared.descriptor.Pxd.{Pxd}
 use Rattle.jfs_bmap.specs.Set.{IsLowest, IsFreeFront}
 
--- the next run, where so many blocks are left; the least power of two that is at least `left`, and each below it, is less than 2 * left
+-- The next run, where so many blocks are left. (2 ^ k < 2 * left holds exactly up to the least power of two that is at least `left`.)
 pub record IsNextRun (taken : ℕ → Bool) (left : ℕ) (run : Pxd) : Type 0 where
   pub l2 : ℕ
   pub size : 2 ^ l2 < 2 * left

@@ -1,5 +1,5 @@
 -- How the block map keeps its blocks: the pages of two sets, a bit for each busy block, and the runs that entries released.
-use Rattle.std.specs.Prelude.{◌≡◌, ℕ, ◌+◌, ◌*◌, ◌%◌, ◌^◌, ◌<◌, ◌≤◌, Bool, true, false, if◌then◌else◌, List, [], ◌∷◌, length, get_or}
+use Rattle.std.specs.Prelude.{◌≡◌, ℕ, ◌+◌, ◌*◌, ◌%◌, ◌^◌, ◌<◌, ◌≤◌, Bool, true, false, if◌then◌else◌, List, [], ◌∷◌, length, slice_index_or}
 use Rattle.jfs_bits.specs.Bits.{is_in_run, is_taken}
 use Rattle.jfs_dmap.specs.Dmap.{count_below}
 use Rattle.jfs_bmap.specs.declared.freed.Freed.{Freed}
@@ -25,7 +25,7 @@ entry_of freed b = entry_after 0 freed b
 
 -- run `i` of those that were released
 abbrev pub run_at : List Freed → ℕ → Freed
-run_at freed i = get_or freed i (record { first = 0; blocks = 0; entry = 0 })
+run_at freed i = slice_index_or freed i (record { first = 0; blocks = 0; entry = 0 })
 
 -- the state of block `b`, by the sets of owned and of used blocks, the bits of busy ones, and the released runs
 unfoldable pub state_in : List Bool → List Bool → List ℕ → List Freed → ℕ → BlockState
@@ -38,6 +38,7 @@ pub record AreWhole (busy : List ℕ) (freed : List Freed) : Type 0 where
   pub entry : (i b : ℕ) → i < length freed → covers (run_at freed i) b ≡ true → entry_of freed b ≡ (run_at freed i).entry
   pub once : (i j b : ℕ) → i < j → j < length freed → covers (run_at freed i) b ≡ true → covers (run_at freed j) b ≡ false
 
+-- What always holds of a map's parts; `mixed` tells whether a run was released that wasn't owned as a whole.
 pub record AreKept (owned used : List Bool) (busy : List ℕ) (busy_blocks : ℕ) (freed : List Freed) (mixed : Bool) : Type 0 where
   pub most : length owned ≤ 2 ^ 23
   pub same : length used ≡ length owned

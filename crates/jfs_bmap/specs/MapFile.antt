@@ -1,4 +1,5 @@
 -- The file of the block map: its control page, the control pages of levels 2, 1 and 0, then the dmaps. (JFS Layout, block map.)
+-- In all of this file `taken` is true of each block past the volume's end, since the pages have these set.
 use Rattle.std.specs.Prelude.{◌≡◌, ℕ, zero, suc, ◌+◌, ◌-◌, ◌*◌, ◌/◌, ◌%◌, ◌^◌, ◌<◌, ◌≤◌, nat_le, Bool, not, if◌then◌else◌, List, length, replicate, slice_index}
 use Rattle.std.specs.Int.{IsPowerOfTwo}
 use Rattle.jfs_bits.specs.Field.{range_of}
@@ -21,20 +22,21 @@ pub record AreGroups (blocks agsize : ℕ) : Type 0 where
   pub power : IsPowerOfTwo agsize
   pub most : blocks ≤ 128 * agsize
 
--- the levels above a group's leaf on the control page where groups begin, and the place there
+-- where a group stands on a control page: on which level, how far above the leaves its nodes stand, how many it has, and the
+-- first node of that height
 pub record IsGroupShape (m : MapControl) : Type 0 where
-  -- the level of the control page whose leaves are no greater than a group
+  -- the lowest level on which one control page covers a whole group: 2 ^ 23 blocks on level 0, 2 ^ 33 on level 1
   pub level : m.aglevel ≡ (if nat_le m.agl2size 23 then 0 else 1)
   -- with v = agl2size - 13 - 10 * aglevel, a group has 2 ^ v leaves there: so many levels of four, and a rest of 1 or 2
   pub height : m.agheight ≡ (m.agl2size - 13 - 10 * m.aglevel) / 2
   pub width : m.agwidth ≡ 2 ^ ((m.agl2size - 13 - 10 * m.aglevel) % 2)
   pub start : m.agstart ≡ powers_of_4 (5 - m.agheight)
 
--- the canonical control page's numbers, of a volume of so many blocks in groups of `agsize`, those of the set taken
+-- the numbers of the canonical control page, for a volume of so many blocks in groups of `agsize`, of which the taken ones are set
 pub record IsMapControlOf (blocks agsize : ℕ) (taken : ℕ → Bool) (m : MapControl) : Type 0 where
   pub mapsize : m.mapsize ≡ blocks
   pub nfree : m.nfree ≡ count_below blocks (λ b. not (taken b))
-  -- a page of the map has 2 ^ 0 blocks
+  -- a page has 2 ^ 0 blocks
   pub l2nbperpage : m.l2nbperpage ≡ 0
   -- the number of groups, the last one perhaps in part, and the greatest group's number
   pub numag : m.numag ≡ (blocks + agsize - 1) / agsize
@@ -47,10 +49,10 @@ pub record IsMapControlOf (blocks agsize : ℕ) (taken : ℕ → Bool) (m : MapC
   pub group_size : m.agsize ≡ agsize
   -- the free blocks of each group
   pub agfree : (k : ℕ) → k < 128 → slice_index m.agfree k ≡ count_below agsize (λ i. not (taken (agsize * k + i)))
-  -- the greatest free run of the volume, which is the value at the root of level 0
+  -- the l2 of the greatest free aligned run, -1 where no block is free: the value at the root of level 0
   pub maxfreebud : m.maxfreebud ≡ greatest_run taken 23 23
 
--- page `n` of the file in its canonical form, for a volume of so many blocks in groups of `agsize`, those of the set taken
+-- the map's control page in its canonical form: its numbers, and zeros behind them
 pub record IsFirstPage (blocks agsize : ℕ) (taken : ℕ → Bool) (page : List ℕ) : Type 0 where
   pub size : length page ≡ 4096
   pub numbers : MapControl
@@ -58,12 +60,13 @@ pub record IsFirstPage (blocks agsize : ℕ) (taken : ℕ → Bool) (page : List
   pub canonical : IsMapControlOf blocks agsize taken numbers
   pub pad : range_of page 1089 3007 ≡ replicate 3007 0
 
--- dmap `k`, those of its blocks taken that are
+-- dmap `k`, with the bit set of each of its blocks that is taken
 pub record IsDmapPage (blocks : ℕ) (taken : ℕ → Bool) (k : ℕ) (page : List ℕ) : Type 0 where
   pub dmap : IsDmapOf blocks k page
   pub set : (i : ℕ) → 8192 * k + i < blocks → i < 8192 → taken_in page i ≡ taken (8192 * k + i)
 
--- levels 2 and 1 are not in use: no leaf has a page below it
+-- Page `n` of the file in its canonical form, for a volume of so many blocks in groups of `agsize`, with the taken blocks set.
+-- Levels 2 and 1 are not in use: no leaf has a page below it.
 abbrev pub IsMapPage : ℕ → ℕ → (ℕ → Bool) → ℕ → List ℕ → Type 0
 IsMapPage blocks agsize taken zero page = IsFirstPage blocks agsize taken page
 IsMapPage blocks agsize taken (suc zero) page = IsControl 2 (λ v. 0) page

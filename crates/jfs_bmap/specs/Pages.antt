@@ -1,5 +1,5 @@
 -- The pages of the block map over one set of blocks. (JFS Layout, block map: block b has its bit on dmap b / 8,192.)
-use Rattle.std.specs.Prelude.{◌≡◌, ℕ, ◌+◌, ◌-◌, ◌*◌, ◌/◌, ◌%◌, ◌^◌, ◌<◌, ◌≤◌, min, nat_lt, Bool, true, not, if◌then◌else◌, List, [], length, get_or}
+use Rattle.std.specs.Prelude.{◌≡◌, ℕ, ◌+◌, ◌-◌, ◌*◌, ◌/◌, ◌%◌, ◌^◌, ◌<◌, ◌≤◌, min, nat_lt, Bool, true, not, if◌then◌else◌, List, [], length, slice_index_or}
 use Rattle.jfs_disk.specs.declared.page.Page.{Page}
 use Rattle.jfs_buddy.specs.Tree.{rank_of}
 use Rattle.jfs_dmap.specs.Dmap.{blocks_of, first_block_of, taken_in, count_below, IsDmap}
@@ -9,7 +9,7 @@ use Rattle.jfs_bmap.specs.Set.{each_below}
 
 -- the bytes of page `k`
 abbrev pub page_at : List Page → ℕ → List ℕ
-page_at pages k = (get_or pages k (record { 0 = [] })).0
+page_at pages k = (slice_index_or pages k (record { 0 = [] })).0
 
 -- how many dmaps a volume of so many blocks has
 abbrev pub dmaps_of : ℕ → ℕ

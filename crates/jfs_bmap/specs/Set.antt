@@ -1,5 +1,5 @@
 -- Sets of the blocks of a volume.
-use Rattle.std.specs.Prelude.{◌≡◌, ℕ, ◌+◌, ◌*◌, ◌^◌, ◌≤◌, ◌<◌, ◌⊎◌, Bool, true, false, not, ◌&&◌, ◌||◌, List, length, get_or, map, Option, Some, None}
+use Rattle.std.specs.Prelude.{◌≡◌, ℕ, ◌+◌, ◌*◌, ◌^◌, ◌≤◌, ◌<◌, ◌⊎◌, Bool, true, false, not, ◌&&◌, ◌||◌, List, length, slice_index_or, map, Option, Some, None}
 use Rattle.std.specs.List.{range_with_len}
 use Rattle.jfs_bits.specs.Bits.{is_in_run, is_free, is_free_run}
 use Rattle.jfs_dmap.specs.Dmap.{count_below}
@@ -10,7 +10,7 @@ each_below n value = map value (range_with_len 0 n)
 
 -- block `b` is taken, by a list that has `true` for each taken block; one past the end counts as taken
 abbrev pub taken_at : List Bool → ℕ → Bool
-taken_at set b = get_or set b true
+taken_at set b = slice_index_or set b true
 
 -- the set with the `n` blocks from `first` on taken too
 abbrev pub marked : ℕ → ℕ → List Bool → List Bool

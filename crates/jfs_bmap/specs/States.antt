@@ -1,5 +1,5 @@
 -- What each block of a volume is in use for.
-use Rattle.std.specs.Prelude.{◌≡◌, ℕ, ◌+◌, ◌-◌, nat_le, Bool, true, false, not, ◌||◌, if◌then◌else◌, List, [], ◌∷◌, length, get_or}
+use Rattle.std.specs.Prelude.{◌≡◌, ℕ, ◌+◌, ◌-◌, nat_le, Bool, true, false, not, ◌||◌, if◌then◌else◌, List, [], ◌∷◌, length, slice_index_or}
 use Rattle.jfs_bits.specs.Bits.{is_in_run, is_taken}
 use Rattle.jfs_bits.specs.declared.descriptor.Pxd.{Pxd}
 use Rattle.jfs_dmap.specs.Dmap.{count_below}
@@ -39,7 +39,7 @@ pub record Blocks : Type 0 where
 
 -- block `b`; one past the end counts as owned
 abbrev pub state_of : Blocks → ℕ → BlockState
-state_of m b = get_or m.states b Owned
+state_of m b = slice_index_or m.states b Owned
 
 -- a search passes over a block that isn't free
 abbrev pub is_used : Blocks → ℕ → Bool
@@ -111,6 +111,6 @@ settled_state told (Busy entry) = if nat_le entry told then Free else Busy entry
 abbrev pub settled : ℕ → Blocks → Blocks
 settled told m = changed (λ b s. settled_state told s) m
 
--- the map of a volume, those of its blocks owned that a bit map has
+-- the map of a volume whose owned blocks are those that a bit map has; all others are free
 abbrev pub fresh : List ℕ → ℕ → ℕ → Blocks
 fresh set blocks agsize = record { states = each_below blocks (λ b. if is_taken set b then Owned else Free); agsize = agsize; spare = 0 }

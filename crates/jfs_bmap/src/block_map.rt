@@ -42,9 +42,9 @@ impl Model for BlockMap {
     } };
 
     ghost invariant = { λ m.
-      AreKept m.owned m.used m.busy.items m.busy_blocks m.freed.items m.mixed
-      × (vec_len m.freed + m.spare ≤ vec_capacity m.freed)
-      × AreGroups (length m.owned) m.agsize };
+        AreKept m.owned m.used m.busy.items m.busy_blocks m.freed.items m.mixed
+        × (vec_len m.freed + m.spare ≤ vec_capacity m.freed)
+        × AreGroups (length m.owned) m.agsize };
 }
 
 impl BlockMap {

@@ -7,7 +7,7 @@ ghost use Rattle.jfs_bits.specs.Bits.{is_free};
 ghost use Rattle.jfs_bmap.specs.Set.{IsLowest};
 ghost use Rattle.jfs_bmap.specs.States.{Reserved, Owned, Free, is_used, is_in_list, state_of, free_count, total_of, put_state, AreApart, AreReserved, IsReservedRun};
 ghost use Rattle.jfs_bmap.specs.Choice.{IsReservation, IsNextRun, AreNextRuns};
-ghost use Rattle.jfs_bmap.specs.Refusal.{IsRefused};
+ghost use Rattle.jfs_bmap.specs.Refusal.{AnswersBySpace};
 
 use crate::block_map::BlockMap;
 use jfs_bits::{Pxd, PxdList};
@@ -39,7 +39,7 @@ impl BlockMap {
         ensures within { IfOk result (All (λ run. run.addr + run.len ≤ length self.old.states)) }
         ensures reserved { IfOk result (λ list. self.new ≡ put_state Reserved list self.old) }
         ensures held { IfOk result (AreReserved self.new) }
-        ensures refused { IsRefused self.old n result }
+        ensures refused { AnswersBySpace self.old n result }
         ensures unchanged { OnErr result (self.new ≡ self.old) }
     {
         let free = self.free();
