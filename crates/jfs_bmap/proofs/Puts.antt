@@ -118,6 +118,32 @@ reserved-put list m once free = record {
   once = once;
 }
 
+-- reserved blocks stay so where others are reserved too
+pub free-not_reserved : (m : Blocks) (b : ℕ) → state_of m b ≡ Free → state_of m b ≡ Reserved → ⊥
+free-not_reserved m b free reserved = apart (sym free ∙ reserved)
+  where
+    apart : Free ≡ Reserved → ⊥
+    apart e = cc
+
+pub reserved-more : (list other : List Pxd) (m : Blocks) → AreReserved m list → AreReserved (put_state Reserved other m) list
+reserved-more list other m r = record { reserved = λ b h. stays b (r.reserved b h); once = r.once }
+  where
+    stays : (b : ℕ) → state_of m b ≡ Reserved → state_of (put_state Reserved other m) b ≡ Reserved
+    stays b here = elim (cases_lt b (length m.states)) [
+      | inl k ↦ put-at Reserved other m b k ∙ either (is_in_list other b) (state_of m b) here
+      | inr k ↦ absurd (owned-not_reserved (sym (state-past m b k) ∙ here))
+    ]
+      where
+        either : (t : Bool) (s : BlockState) → s ≡ Reserved → (if t then Reserved else s) ≡ Reserved
+        either true s e = refl
+        either false s e = e
+        owned-not_reserved : Owned ≡ Reserved → ⊥
+        owned-not_reserved e = cc
+
+-- and where other runs get another state
+pub reserved-beside : (state : BlockState) (list other : List Pxd) (m : Blocks) → AreReserved m list → ((b : ℕ) → is_in_list list b ≡ true → is_in_list other b ≡ false) → AreReserved (put_state state other m) list
+reserved-beside state list other m r beside = record { reserved = λ b h. put-other state other m b (beside b h) ∙ r.reserved b h; once = r.once }
+
 -- ---- a loop over runs
 
 -- from place `i` on

@@ -11,7 +11,9 @@ mod control;
 mod volume;
 
 pub use control::{find_one, free_control, set_one};
-pub use volume::{map_of, release_run, take, take_first_of_two, try_out};
+pub use volume::{
+    map_of, release_all, release_run, take, take_first_of_two, take_four, try_four, try_out,
+};
 
 #[cfg(test)]
 mod map_control;

@@ -1,12 +1,13 @@
 //! A plain slow map beside the block map: a state for each block, and whole walks.
 
-ghost use Rattle.std.specs.Prelude.{◌+◌, ◌^◌, ◌<◌, ◌≤◌, length};
+ghost use Rattle.std.specs.Prelude.{◌+◌, ◌^◌, ◌<◌, ◌≤◌, length, ℕ, IfSome};
+ghost use Rattle.jfs_dmapctl.specs.Control.{value_at, IsValue};
 
-use crate::volume::{map_of, release_run, take, try_out};
+use crate::volume::{map_of, release_all, release_run, take, try_out};
 use jfs_bits::{Pxd, PxdList, set_run};
 use jfs_bmap::{BlockMap, NoSpace, ReserveError};
 use jfs_disk::Page;
-use jfs_dmap::dmap_canonical;
+use jfs_dmap::{dmap_canonical, dmap_root};
 use jfs_dmapctl::{ctl_canonical, read_map_control};
 use std::alloc::{AllocError, Global};
 
@@ -19,11 +20,9 @@ enum State {
     Busy(u64),
 }
 
-fn is_free_run(states: &[State], first: usize, n: usize) -> bool
-    requires { first + n < 2 ^ 60 }
-{
+fn is_free_run(states: &[State], first: usize, n: usize) -> bool {
     for i in 0..n {
-        match states.get(first + i) {
+        match states.get(first.saturating_add(i)) {
             Some(State::Free) => {}
             _ => return false,
         }
@@ -32,9 +31,7 @@ fn is_free_run(states: &[State], first: usize, n: usize) -> bool
 }
 
 fn lowest(states: &[State], size: usize) -> Option<usize>
-    requires some { 0 < size }
-    requires most { size < 2 ^ 32 }
-    requires few { length states.now < 2 ^ 32 }
+    requires { 0 < size }
 {
     for first in 0..states.len() {
         if first % size == 0 && is_free_run(states, first, size) {
@@ -52,47 +49,47 @@ fn put(states: &mut [State], first: usize, n: usize, state: State) {
     }
 }
 
-/// Takes the runs of a reservation, with whole walks.
-fn choose(
-    alloc: Global,
-    states: &mut [State],
-    hint: usize,
-    n: usize,
-) -> Result<PxdList, AllocError>
-    requires hint { hint < 2 ^ 31 }
-    requires most { n < 2 ^ 31 }
-    requires few { length states.old < 2 ^ 31 }
+/// How many blocks from `hint` on are free, as far as `n` of them.
+fn front_of(states: &[State], hint: u32, n: u32) -> u32
+    ensures { result ≤ n }
 {
+    for front in 0..n {
+        if !is_free_run(states, hint as usize, front as usize + 1) {
+            return front;
+        }
+    }
+    n
+}
+
+/// Takes the runs of a reservation, with whole walks.
+fn choose(alloc: Global, states: &mut [State], hint: u32, n: u32) -> Result<PxdList, AllocError> {
     let mut list = PxdList::new(alloc);
-    let mut left = n;
-    let mut front = 0;
-    for more in 1..n + 1 {
-        if is_free_run(states, hint, more) {
-            front = more;
-        }
+    let front = front_of(states, hint, n);
+    if front > 0 {
+        put(states, hint as usize, front as usize, State::Owned);
+        list.push(Pxd {
+            len: front,
+            addr: u64::from(hint),
+        })?;
     }
-    if front > 0 && front <= left {
-        put(states, hint, front, State::Owned);
-        list.push(Pxd { len: front as u32, addr: hint as u64 })?;
-        left -= front;
-    }
-    let mut size = 1usize << 31;
-    for _step in 0..n + 32 {
-        if left == 0 {
-            return Ok(list);
-        }
-        let fits = if size < 2 * left { lowest(states, size) } else { None };
-        match fits {
-            Some(first) => {
-                let len = left.min(size);
-                put(states, first, len, State::Owned);
-                list.push(Pxd { len: len as u32, addr: first as u64 })?;
-                left -= len;
+    let mut left = n - front;
+    for below in 0..32u32 {
+        let size = 1u32 << (31 - below);
+        for _run in 0..n {
+            if size / 2 >= left {
+                break;
             }
-            None => {
-                if size > 1 {
-                    size /= 2;
+            match lowest(states, size as usize) {
+                Some(first) => {
+                    let len = left.min(size);
+                    put(states, first, len as usize, State::Owned);
+                    list.push(Pxd {
+                        len,
+                        addr: first as u64,
+                    })?;
+                    left -= len;
                 }
+                None => break,
             }
         }
     }
@@ -116,9 +113,7 @@ fn same_runs(one: &PxdList, other: &PxdList) -> bool {
     true
 }
 
-fn count_free(states: &[State]) -> u32
-    requires { length states.now < 2 ^ 31 }
-{
+fn count_free(states: &[State]) -> u32 {
     let mut free = 0u32;
     for state in states {
         if *state == State::Free {
@@ -145,15 +140,11 @@ fn take_both(
     states: &mut [State],
     hint: u32,
     n: u32,
-) -> Result<bool, AllocError>
-    requires hint { hint < 2 ^ 31 }
-    requires most { n < 2 ^ 31 }
-    requires few { length states.old < 2 ^ 31 }
-{
+) -> Result<bool, AllocError> {
     let free = count_free(states);
     match take(map, alloc, hint, n) {
         Ok(list) => {
-            let wanted = choose(alloc, states, hint as usize, n as usize)?;
+            let wanted = choose(alloc, states, hint, n)?;
             Ok(free >= n && same_runs(&list, &wanted))
         }
         Err(ReserveError::NoSpace(NoSpace { free: count })) => Ok(free < n && count == free),
@@ -169,7 +160,15 @@ fn release_both(
     n: u32,
     entry: u64,
 ) -> Result<(), AllocError> {
-    release_run(map, alloc, Pxd { len: n, addr: u64::from(first) }, entry)?;
+    release_run(
+        map,
+        alloc,
+        Pxd {
+            len: n,
+            addr: u64::from(first),
+        },
+        entry,
+    )?;
     for b in 0..states.len() {
         if first as usize <= b && b - (first as usize) < n as usize && states[b] != State::Free {
             states[b] = State::Busy(entry);
@@ -198,6 +197,39 @@ fn same_pages(one: &Page, other: &Page) -> bool {
     true
 }
 
+/// The root of the canonical dmap `k` of a set, where the map writes that page.
+fn canonical_root(map: &BlockMap, bits: &[u8; 3072], k: u32) -> Option<i8>
+    requires { k < 3 }
+    ensures { IfSome result (IsValue 0) }
+{
+    let mut page = Page::zeros();
+    let mut wanted = Page::zeros();
+    let at = 1024 * k as usize;
+    let blocks = (BLOCKS - 8192 * k).min(8192);
+    dmap_canonical(
+        &bits[at..at + 1024],
+        8192 * u64::from(k),
+        blocks,
+        &mut wanted,
+    );
+    map.write_page(4 + k, &mut page);
+    if same_pages(&page, &wanted) {
+        Some(dmap_root(&wanted))
+    } else {
+        None
+    }
+}
+
+/// Gives a leaf a value.
+fn put_leaf(leaves: &mut [i8; 1024], k: usize, value: i8)
+    requires place { k < 1024 }
+    requires value { IsValue 0 value }
+    requires values { (v : ℕ) → IsValue 0 (value_at leaves.old v) }
+    ensures { (v : ℕ) → IsValue 0 (value_at leaves.new v) }
+{
+    leaves[k] = value;
+}
+
 /// Whether the pages that the map writes are the canonical ones of the owned blocks.
 fn are_canonical(map: &BlockMap, states: &[State]) -> bool {
     let mut bits = [0u8; 3072];
@@ -206,48 +238,57 @@ fn are_canonical(map: &BlockMap, states: &[State]) -> bool {
             set_run(&mut bits, b, 1);
         }
     }
-    let mut leaves = [-1i8; 1024];
+    let mut leaves = no_leaves();
+    for k in 0..3u32 {
+        match canonical_root(map, &bits, k) {
+            Some(root) => put_leaf(&mut leaves, k as usize, root),
+            None => return false,
+        }
+    }
     let mut page = Page::zeros();
     let mut wanted = Page::zeros();
-    for k in 0..3u32 {
-        let blocks = (BLOCKS - 8192 * k).min(8192);
-        let at = 1024 * k as usize;
-        dmap_canonical(&bits[at..at + 1024], 8192 * u64::from(k), blocks, &mut wanted);
-        map.write_page(4 + k, &mut page);
-        if !same_pages(&page, &wanted) {
-            return false;
-        }
-        leaves[k as usize] = wanted.0[33].cast_signed();
-    }
     ctl_canonical(&leaves, 0, &mut wanted);
     map.write_page(3, &mut page);
-    if !same_pages(&page, &wanted) {
-        return false;
-    }
     let root = wanted.0[17].cast_signed();
-    map.write_page(0, &mut page);
-    is_first_page(&page, states, root) && are_unused(map)
+    same_pages(&page, &wanted)
+        && is_first_page(map, states, root)
+        && is_unused(map, 1, 2)
+        && is_unused(map, 2, 1)
+        && is_past_the_last(map)
 }
 
-/// Whether the control pages of levels 2 and 1 and a page past the last have no block.
-fn are_unused(map: &BlockMap) -> bool {
+/// Leaves without a free block.
+fn no_leaves() -> [i8; 1024]
+    ensures { (level v : ℕ) → IsValue level (value_at result v) }
+{
+    [-1; 1024]
+}
+
+/// Whether page `n` is the control page of a level that isn't in use.
+fn is_unused(map: &BlockMap, n: u32, level: u32) -> bool
+    requires { level ≤ 2 }
+{
     let mut page = Page::zeros();
     let mut wanted = Page::zeros();
-    for (n, level) in [(1, 2), (2, 1)] {
-        ctl_canonical(&[-1; 1024], level, &mut wanted);
-        map.write_page(n, &mut page);
-        if !same_pages(&page, &wanted) {
-            return false;
-        }
-    }
+    ctl_canonical(&no_leaves(), level, &mut wanted);
+    map.write_page(n, &mut page);
+    same_pages(&page, &wanted)
+}
+
+/// Whether the page past the last dmap has no block.
+fn is_past_the_last(map: &BlockMap) -> bool {
+    let mut page = Page::zeros();
+    let mut wanted = Page::zeros();
     dmap_canonical(&[0; 1024], 24576, 0, &mut wanted);
     map.write_page(7, &mut page);
     same_pages(&page, &wanted)
 }
 
 /// Whether the map's control page has the numbers of these blocks.
-fn is_first_page(page: &Page, states: &[State], root: i8) -> bool {
-    let numbers = read_map_control(page);
+fn is_first_page(map: &BlockMap, states: &[State], root: i8) -> bool {
+    let mut page = Page::zeros();
+    map.write_page(0, &mut page);
+    let numbers = read_map_control(&page);
     let mut groups = [0u64; 128];
     let mut free = 0u64;
     for b in 0..states.len() {
@@ -287,9 +328,7 @@ fn step(
     states: &mut [State],
     draw: u32,
     entry: u64,
-) -> Result<bool, AllocError>
-    requires few { length states.old < 2 ^ 31 }
-{
+) -> Result<bool, AllocError> {
     let hint = draw / 16 % 20100;
     let n = draw / 64 % 400;
     match draw % 16 {
@@ -297,8 +336,7 @@ fn step(
         5 => take_both(map, alloc, states, hint, 30 * n),
         6 => match try_out(map, alloc, hint, n) {
             Ok(list) => {
-                map.make_room(list.len() as u32)?;
-                map.release(&list, entry);
+                release_all(map, &list, entry)?;
                 Ok(n <= count_free(states))
             }
             Err(_) => Ok(n > count_free(states)),
@@ -336,7 +374,9 @@ fn slow_set(rt: HostRuntime) {
     assert!(rt; are_canonical(&map, &states), "at first");
     let mut seed = 1u64;
     for i in 0..400u64 {
-        seed = seed.wrapping_mul(6364136223846793005).wrapping_add(1442695040888963407);
+        seed = seed
+            .wrapping_mul(6364136223846793005)
+            .wrapping_add(1442695040888963407);
         let draw = (seed >> 33) as u32;
         let same = step(&mut map, alloc, &mut states, draw, i).expect(&rt, "memory");
         assert!(rt; same, "call {i}");

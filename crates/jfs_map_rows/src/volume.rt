@@ -18,12 +18,7 @@ pub fn map_of(alloc: Global, set: &[u8], blocks: u32) -> Result<BlockMap, AllocE
 }
 
 /// Reserves blocks and gives them owners.
-pub fn take(
-    map: &mut BlockMap,
-    alloc: Global,
-    hint: u32,
-    n: u32,
-) -> Result<PxdList, ReserveError>
+pub fn take(map: &mut BlockMap, alloc: Global, hint: u32, n: u32) -> Result<PxdList, ReserveError>
     ensures { OnErr result (map.new ≡ map.old) }
 {
     let list = map.reserve(alloc, hint, n)?;
@@ -37,8 +32,7 @@ pub fn try_out(
     alloc: Global,
     hint: u32,
     n: u32,
-) -> Result<PxdList, ReserveError>
-{
+) -> Result<PxdList, ReserveError> {
     let list = map.reserve(alloc, hint, n)?;
     map.give_back(&list);
     Ok(list)
@@ -50,8 +44,7 @@ pub fn take_first_of_two(
     alloc: Global,
     first: u32,
     second: u32,
-) -> Result<PxdList, ReserveError>
-{
+) -> Result<PxdList, ReserveError> {
     let taken = map.reserve(alloc, 0, first)?;
     match map.reserve(alloc, 0, second) {
         Ok(other) => {
@@ -66,17 +59,37 @@ pub fn take_first_of_two(
     }
 }
 
+/// Releases the runs of a list for an entry.
+pub fn release_all(map: &mut BlockMap, list: &PxdList, entry: u64) -> Result<(), AllocError> {
+    if let Ok(n) = u32::try_from(list.len()) {
+        map.make_room(n)?;
+        map.release(list, entry);
+    }
+    Ok(())
+}
+
 /// Releases one run for an entry.
 pub fn release_run(
     map: &mut BlockMap,
     alloc: Global,
     run: Pxd,
     entry: u64,
-) -> Result<(), AllocError>
-{
+) -> Result<(), AllocError> {
     let mut list = PxdList::new(alloc);
     list.push(run)?;
-    map.make_room(1)?;
-    map.release(&list, entry);
-    Ok(())
+    release_all(map, &list, entry)
+}
+
+/// Reserves the lowest run of four blocks and gives it an owner.
+pub fn take_four(map: &mut BlockMap) -> Option<Pxd> {
+    let run = map.run_of_four()?;
+    map.own_run(&run);
+    Some(run)
+}
+
+/// Reserves the lowest run of four blocks and gives it back.
+pub fn try_four(map: &mut BlockMap) -> Option<Pxd> {
+    let run = map.run_of_four()?;
+    map.give_back_run(&run);
+    Some(run)
 }

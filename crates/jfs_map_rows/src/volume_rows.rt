@@ -1,6 +1,6 @@
 //! The map of a small volume, worked out by hand.
 
-use crate::volume::{map_of, release_run, take, take_first_of_two, try_out};
+use crate::volume::{map_of, release_run, take, take_first_of_two, take_four, try_four, try_out};
 use jfs_bits::{Pxd, PxdList, set_run};
 use jfs_bmap::{NoSpace, ReserveError};
 
@@ -64,4 +64,54 @@ fn busy_blocks(rt: HostRuntime) {
     assert!(rt; are_given(&take(&mut map, alloc, 55, 2), [(55, 1), (50, 1)].as_slice()));
     assert!(rt; map.run_of_four().is_none());
     assert!(rt; are_given(&take(&mut map, alloc, 7, 0), [].as_slice()));
+}
+
+// 64 free blocks; what lies past them is never handed out, and a release passes over it.
+#[test]
+fn lists_and_releases(rt: HostRuntime) {
+    let alloc = rt.alloc();
+    let mut map = map_of(alloc, [0u8; 8].as_slice(), 64).expect(&rt, "memory");
+    assert_eq!(rt; map.blocks(), 64);
+    // The second list begins at the lowest aligned run of 16 behind the first one's 8 blocks.
+    let first = take_first_of_two(&mut map, alloc, 8, 16);
+    assert!(rt; are_given(&first, [(0, 8)].as_slice()));
+    assert_eq!(rt; map.free(), 56);
+    assert_eq!(rt; try_four(&mut map), Some(Pxd { len: 4, addr: 8 }));
+    assert_eq!(rt; take_four(&mut map), Some(Pxd { len: 4, addr: 8 }));
+    assert!(rt;
+        are_given(
+            &take(&mut map, alloc, 60, 10),
+            [(60, 4), (16, 6)].as_slice()
+        )
+    );
+    assert_eq!(rt; map.free(), 42);
+    // Blocks 4 to 7 are released twice, 12 to 15 and those past the end have no owner.
+    release_run(&mut map, alloc, Pxd { len: 8, addr: 0 }, 3).expect(&rt, "memory");
+    release_run(&mut map, alloc, Pxd { len: 12, addr: 4 }, 5).expect(&rt, "memory");
+    release_run(
+        &mut map,
+        alloc,
+        Pxd {
+            len: 4000,
+            addr: 60,
+        },
+        6,
+    )
+    .expect(&rt, "memory");
+    assert_eq!(rt; map.busy(), 16);
+    assert_eq!(rt; map.free(), 42);
+    map.settle(3);
+    assert_eq!(rt; map.busy(), 12);
+    assert!(rt; are_given(&try_out(&mut map, alloc, 2, 3), [(2, 2), (0, 1)].as_slice()));
+    map.settle(5);
+    assert_eq!(rt; map.busy(), 4);
+    map.settle(u64::MAX);
+    assert_eq!(rt; map.free(), 58);
+    assert!(rt; is_refused(&take(&mut map, alloc, 0, 59), 58));
+    assert!(rt;
+        are_given(
+            &take(&mut map, alloc, u32::MAX, 58),
+            [(32, 32), (0, 16), (24, 8), (22, 2)].as_slice()
+        )
+    );
 }
