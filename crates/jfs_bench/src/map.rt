@@ -1,6 +1,6 @@
 //! How fast blocks are reserved on small and on great volumes, empty and nearly full.
 
-ghost use Rattle.std.specs.Prelude.{◌≡◌, ◌<◌, ◌≤◌, ◌^◌, ◌*◌, ◌%◌, length};
+ghost use Rattle.std.specs.Prelude.{◌≡◌, ◌<◌, ◌≤◌, ◌^◌, ◌/◌, ◌%◌, length, IfOk};
 
 use jfs_bits::set_run;
 use jfs_bmap::BlockMap;
@@ -13,6 +13,9 @@ const TIMED: u32 = 100000;
 
 /// The blocks of one reservation.
 const WANTED: u32 = 8;
+
+/// The blocks of an allocation group.
+const GROUP: u32 = 65536;
 
 /// A bit for each block, of which about 95 of 100 are taken at random places, or none.
 fn pattern(alloc: Global, blocks: u32, full: bool) -> Result<Vec<u8>, AllocError>
@@ -54,17 +57,25 @@ fn reserve_often(map: &mut BlockMap, alloc: Global, blocks: u32) -> u32
     reserved
 }
 
+/// Prints how long the reservations took on a volume of so many blocks.
+fn time_volume(rt: &HostRuntime, blocks: u32, full: bool) -> io::Result<()>
+    requires some { 0 < blocks }
+    requires most { blocks ≤ 2 ^ 23 }
+    requires words { blocks % 32 ≡ 0 }
+{
+    let set = pattern(rt.alloc(), blocks, full)?;
+    let mut map = BlockMap::from_set(rt.alloc(), set.as_slice(), blocks, GROUP)?;
+    let start = Instant::now(rt)?;
+    let reserved = reserve_often(&mut map, rt.alloc(), blocks);
+    let micros = start.elapsed(rt)?.as_micros();
+    println!(rt; "{blocks} blocks, full: {full}: {reserved} reservations in {micros} us")
+}
+
 /// Prints a line for each size of volume and each pattern.
 pub fn time_map(rt: &HostRuntime) -> io::Result<()> {
-    for (blocks, agsize) in [(4096, 8192), (262144, 8192), (8388608, 65536)] {
-        for full in [false, true] {
-            let set = pattern(rt.alloc(), blocks, full)?;
-            let mut map = BlockMap::from_set(rt.alloc(), set.as_slice(), blocks, agsize)?;
-            let start = Instant::now(rt)?;
-            let reserved = reserve_often(&mut map, rt.alloc(), blocks);
-            let micros = start.elapsed(rt)?.as_micros();
-            println!(rt; "{blocks} blocks, full: {full}: {reserved} reservations in {micros} us")?;
-        }
+    for blocks in [4096, 262144, 8388608] {
+        time_volume(rt, blocks, false)?;
+        time_volume(rt, blocks, true)?;
     }
     Ok(())
 }
