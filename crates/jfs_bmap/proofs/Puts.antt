@@ -137,6 +137,7 @@ reserved-more list other m r = record { reserved = λ b h. stays b (r.reserved b
         either : (t : Bool) (s : BlockState) → s ≡ Reserved → (if t then Reserved else s) ≡ Reserved
         either true s e = refl
         either false s e = e
+
         owned-not_reserved : Owned ≡ Reserved → ⊥
         owned-not_reserved e = cc
 

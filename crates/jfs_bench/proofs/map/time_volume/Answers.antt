@@ -1,5 +1,4 @@
 use Rattle.std.proofs.Common.{refl, arith}
-use Rattle.jfs_bmap.specs.MapFile.{AreGroups}
 use Rattle.jfs_bench.proofs.map.time_volume.Goals as goal
 
 pub from_set-requires-clause-groups : goal.from_set-requires-clause-groups
