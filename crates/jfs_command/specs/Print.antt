@@ -1,5 +1,5 @@
 -- What reaches the sink.
-use Rattle.std.specs.Prelude.{◌≡◌, ◌⊎◌, ℕ, List, ◌++◌, Result, Ok, Err, codes}
+use Rattle.std.specs.Prelude.{◌≡◌, ◌⊎◌, ℕ, List, ◌++◌, Result, Ok, Err}
 use Rattle.std.specs.Global.{Vec}
 use Rattle.std.specs.declared.alloc.AllocError.{AllocError}
 use Rattle.jfs_bits.specs.Count.{Rose}
@@ -22,7 +22,7 @@ abbrev pub PutsFront : Type 0 → List ℕ → List ℕ → List ℕ → Type 0
 PutsFront tells old new text = (front : List ℕ) × IsFront front text × Puts tells old new front
 
 abbrev pub memory_text : List ℕ
-memory_text = codes "jfsd: out of memory\n"
+memory_text = refusal_text OutOfMemory
 
 -- All of the text was put; or the sink's count rose, and a front was put; or memory ran out, and a front of it or of the line on memory was put.
 abbrev pub Printing : Type 0 → List ℕ → List ℕ → ℕ → ℕ → Result (Vec ℕ) AllocError → Printed → Type 0
