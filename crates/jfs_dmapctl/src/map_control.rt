@@ -10,7 +10,7 @@ use jfs_disk::Page;
 
 /// The numbers of the block map's control page, by the header's names: blocks and free blocks of the volume, then the
 /// allocation groups' numbers, and the greatest free run's l2, -1 where no block is free. (JFS Layout, `dbmap_disk`.)
-#[derive(Clone, Copy)]
+#[derive(Clone, Copy, PartialEq, Eq, Debug)]
 pub struct MapControl {
     pub mapsize: u64,
     pub nfree: u64,
