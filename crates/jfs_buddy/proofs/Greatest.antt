@@ -2,7 +2,7 @@
 use Rattle.std.proofs.Common.{◌≡◌, ◌≢◌, ◌<◌, ◌≤◌, ◌+◌, ◌-◌, ◌*◌, ◌^◌, ℕ, zero, suc, Bool, true, inl, inr, refl, sym, ap, ◌∙◌, arith}
 use Rattle.std.specs.Prelude.{pos, negsuc}
 use Rattle.std.proofs.lemmas.Bool.{cases_eq, cases_Bool, cond_both, cond-true, cond-false, true≢false}
-use Rattle.std.proofs.lemmas.Nat.{pow-add, mul-le}
+use Rattle.std.proofs.lemmas.Nat.{pow_pos, pow-add, shl-shr, mul-le, div_below}
 use Rattle.jfs_bits.specs.Bits.{is_free_run, has_free_run, greatest_run}
 use Rattle.jfs_bits.proofs.Runs.{is_free-at, is_free-from, is_free-same}
 use Rattle.jfs_bits.proofs.Buds.{any_below-at, any_below-from, any_below-same}
@@ -56,12 +56,18 @@ run-most taken span zero = cond_both (has_free_run taken span 0) (pos 0) (negsuc
 run-most taken span (suc top) =
     cond_both (has_free_run taken span (suc top)) (pos (suc top)) (greatest_run taken span top) (λ z. rank_of z ≤ suc (suc top)) (λ e. omega arith) (λ e. omega (arith, run-most taken span top))
 
+-- the number of aligned runs of a length among the first 2 ^ span blocks
+pub runs-in : (span l2 : ℕ) → l2 ≤ span → 2 ^ span ≡ 2 ^ (span - l2) * 2 ^ l2
+runs-in span l2 h = let parts : (span - l2) + l2 ≡ span = omega arith in ap (λ (z : ℕ). 2 ^ z) (sym parts) ∙ pow-add 2 (span - l2) l2
+
 -- a run's blocks lie among the first 2 ^ span
-run-within : (span l2 j i : ℕ) → l2 ≤ span → j < 2 ^ (span - l2) → i < 2 ^ l2 → j * 2 ^ l2 + i < 2 ^ span
+pub run-within : (span l2 j i : ℕ) → l2 ≤ span → j < 2 ^ (span - l2) → i < 2 ^ l2 → j * 2 ^ l2 + i < 2 ^ span
 run-within span l2 j i h k b =
-    let parts : (span - l2) + l2 ≡ span = omega arith in
-    let all : 2 ^ span ≡ 2 ^ (span - l2) * 2 ^ l2 = ap (λ (z : ℕ). 2 ^ z) (sym parts) ∙ pow-add 2 (span - l2) l2 in
-    omega (arith, all, mul-le (j + 1) (2 ^ l2) (2 ^ (span - l2)) (2 ^ l2) (omega arith) (omega arith))
+    omega (arith, runs-in span l2 h, mul-le (j + 1) (2 ^ l2) (2 ^ (span - l2)) (2 ^ l2) (omega arith) (omega arith))
+
+-- a run that begins there is one of them
+pub run-begin : (span l2 j : ℕ) → l2 ≤ span → j * 2 ^ l2 < 2 ^ span → j < 2 ^ (span - l2)
+run-begin span l2 j h b = rw (shl-shr j l2) at (div_below (j * 2 ^ l2) (2 ^ l2) (2 ^ (span - l2)) (pow_pos l2) (omega (arith, runs-in span l2 h)))
 
 -- two sets with the same first blocks have free runs of the same lengths
 has-same : (one other : ℕ → Bool) (span l2 : ℕ) → l2 ≤ span → ((i : ℕ) → i < 2 ^ span → one i ≡ other i) → has_free_run one span l2 ≡ has_free_run other span l2

@@ -10,3 +10,4 @@ pub mod Same
 pub mod Places
 pub mod Roots
 pub mod Greatest
+pub mod Spans

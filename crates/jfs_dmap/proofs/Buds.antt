@@ -1,7 +1,5 @@
 -- Words and their ranks.
-use Rattle.std.proofs.Common.{◌≡◌, ◌<◌, ◌≤◌, ◌+◌, ◌-◌, ◌*◌, ◌/◌, ◌%◌, ◌^◌, ℕ, List, refl, sym, ap, ◌∙◌, arith}
-use Rattle.std.proofs.lemmas.Nat.{mul-le}
-use Rattle.jfs_bits.proofs.Buds.{sizes_of}
+use Rattle.std.proofs.Common.{◌≡◌, ◌<◌, ◌≤◌, ◌+◌, ◌*◌, ◌/◌, ◌%◌, ℕ, List, refl, sym, ap, ◌∙◌, arith}
 use Rattle.jfs_bits.specs.Field.{field_of}
 use Rattle.jfs_bits.specs.Bits.{is_taken, is_taken_in, max_bud_of}
 use Rattle.jfs_buddy.specs.Tree.{rank_of}
@@ -24,10 +22,6 @@ word-bit map v i h =
     rw (a, b) refl
 
 -- words with the same blocks have the same rank
-pub run-end : (l2 j i : ℕ) → l2 ≤ 5 → j < 2 ^ (5 - l2) → i < 2 ^ l2 → j * 2 ^ l2 + i < 32
-run-end l2 j i h k b =
-    omega (arith, (sizes_of l2 h).3, mul-le (j + 1) (2 ^ l2) (2 ^ (5 - l2)) (2 ^ l2) (omega arith) (omega arith))
-
 pub word_rank-same : (old new : List ℕ) (v : ℕ) → ((i : ℕ) → i < 32 → is_taken old (32 * v + i) ≡ is_taken new (32 * v + i)) → word_rank old v ≡ word_rank new v
 unfolding max_bud_of
 word_rank-same old new v h =

@@ -1,7 +1,6 @@
 pub mod Buds
 pub mod Counts
 pub mod Pages
-pub mod Lowest
 pub mod Finds
 pub mod Heads
 pub mod Same
