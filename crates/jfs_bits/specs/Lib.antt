@@ -4,3 +4,4 @@ pub mod Bits
 pub mod Descriptor
 pub mod Piece
 pub mod Rule
+pub mod Line

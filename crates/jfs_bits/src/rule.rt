@@ -1,7 +1,8 @@
 //! The names of the format's rules, and the kinds of logged pages.
 
-ghost use Rattle.std.specs.Prelude.{◌≡◌};
+ghost use Rattle.std.specs.Prelude.{◌≡◌, ◌≤◌};
 ghost use Rattle.jfs_bits.specs.Rule.{name_of};
+ghost use Rattle.jfs_bits.specs.Line.{l2_line};
 
 /// What a page, a record or a line of a script can break: one variant for each rule name.
 #[derive(Clone, Copy, PartialEq, Eq, Debug)]
@@ -144,4 +145,19 @@ pub enum PageKind {
     Xtree = 2,
     Dtree = 4,
     Index = 8,
+}
+
+impl PageKind {
+    /// The logarithm of the bytes of a line, the unit of a page's ranges. (JFS Log: l2linesize.)
+    pub fn l2_line(self) -> u16
+        ensures value { result ≡ l2_line self }
+        ensures most { result ≤ 7 }
+    {
+        match self {
+            PageKind::Inode => 7,
+            PageKind::Xtree => 4,
+            PageKind::Dtree => 5,
+            PageKind::Index => 4,
+        }
+    }
 }

@@ -14,7 +14,8 @@ use Rattle.jfs_logfmt.specs.declared.kind.RecordType.TheVariants as types
 use Rattle.jfs_logfmt.specs.declared.kind.PageType.{PageType}
 use Rattle.jfs_logfmt.specs.declared.log_record.Record.{Record}
 use Rattle.jfs_logfmt.specs.declared.log_record.Record.TheVariants as records
-use Rattle.jfs_logfmt.specs.Kinds.{type_number, type_of, page_number, page_type, page_of, page_blocks, l2_line, map_number, map_of}
+use Rattle.jfs_logfmt.specs.Kinds.{type_number, type_of, page_number, page_type, page_of, page_blocks, map_number, map_of}
+use Rattle.jfs_bits.specs.Line.{l2_line}
 use Rattle.jfs_logfmt.specs.Text.{Says, SpellsRanges, runs_of}
 use Rattle.jfs_logfmt.specs.Rules.{Keeps, IsFirst, IsSound, AreWithin, is_inside, is_page, is_line, is_redone, is_freed, is_long, has_length}
 

@@ -13,7 +13,7 @@ use Rattle.jfs_bits.proofs.Descriptors.{pxd_of-range, pxd_of-bytes, length-pxd_b
 use Rattle.jfs_logfmt.specs.declared.descriptor.Descriptor.{Descriptor}
 use Rattle.jfs_logfmt.specs.declared.log_record.Record.{Record}
 use Rattle.jfs_logfmt.specs.declared.log_record.Record.TheVariants as records
-use Rattle.jfs_logfmt.specs.Kinds.{line_size}
+use Rattle.jfs_bits.specs.Line.{line_size}
 use Rattle.jfs_logfmt.specs.Descriptor.{descriptor_of, descriptor_bytes}
 use Rattle.jfs_logfmt.specs.Text.{IsRangeText, SpellsRanges, runs_of, Says, Spells}
 use Rattle.jfs_logfmt.specs.Written.{range_text, body_text, described, text_of, FitsRange, Fits}

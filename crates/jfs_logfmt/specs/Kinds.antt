@@ -1,5 +1,5 @@
 -- The numbers of the log's types, page types and map types. (JFS Log.)
-use Rattle.std.specs.Prelude.{ℕ, ◌+◌, ◌^◌, ◌==◌, Bool, true, false, [], ◌∷◌, Option, find, if◌then◌else◌}
+use Rattle.std.specs.Prelude.{ℕ, ◌+◌, ◌==◌, Bool, true, false, [], ◌∷◌, Option, find, if◌then◌else◌}
 use Rattle.jfs_bits.specs.declared.rule.PageKind.{PageKind}
 use Rattle.jfs_bits.specs.declared.rule.PageKind.TheVariants as kinds
 use Rattle.jfs_logfmt.specs.declared.kind.RecordType.{RecordType}
@@ -41,16 +41,6 @@ new_blocks _ _ = 1
 
 abbrev pub page_blocks : PageType → ℕ
 page_blocks p = new_blocks p.kind p.new_page
-
--- a line of such a page has 2 to this power bytes
-abbrev pub l2_line : PageKind → ℕ
-l2_line kinds.Inode = 7
-l2_line kinds.Xtree = 4
-l2_line kinds.Dtree = 5
-l2_line kinds.Index = 4
-
-abbrev pub line_size : PageKind → ℕ
-line_size kind = 2 ^ l2_line kind
 
 -- a list of blocks that are allocated, or freed
 abbrev pub map_number : Bool → ℕ

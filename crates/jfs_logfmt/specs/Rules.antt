@@ -13,7 +13,8 @@ use Rattle.jfs_logfmt.specs.declared.log_record.Record.{Record}
 use Rattle.jfs_logfmt.specs.declared.log_record.Record.TheVariants as records
 use Rattle.jfs_logfmt.specs.declared.log_record.RecordError.{RecordError}
 use Rattle.jfs_logfmt.specs.declared.log_record.RecordError.TheVariants as errors
-use Rattle.jfs_logfmt.specs.Kinds.{type_of, page_of, page_type, page_blocks, l2_line, line_size, map_of}
+use Rattle.jfs_logfmt.specs.Kinds.{type_of, page_of, page_type, page_blocks, map_of}
+use Rattle.jfs_bits.specs.Line.{l2_line, line_size}
 use Rattle.jfs_logfmt.specs.Descriptor.{descriptor_of}
 use Rattle.jfs_logfmt.specs.Text.{SpellsRanges, runs_of}
 

@@ -10,7 +10,8 @@ use Rattle.jfs_logfmt.specs.declared.kind.RecordType.{RecordType}
 use Rattle.jfs_logfmt.specs.declared.kind.RecordType.TheVariants as types
 use Rattle.jfs_logfmt.specs.declared.log_record.Record.{Record}
 use Rattle.jfs_logfmt.specs.declared.log_record.Record.TheVariants as records
-use Rattle.jfs_logfmt.specs.Kinds.{type_number, page_number, page_type, l2_line, line_size, map_number}
+use Rattle.jfs_logfmt.specs.Kinds.{type_number, page_number, page_type, map_number}
+use Rattle.jfs_bits.specs.Line.{l2_line, line_size}
 use Rattle.jfs_logfmt.specs.Descriptor.{descriptor_bytes}
 
 -- a range's bytes, its first line and its number of lines

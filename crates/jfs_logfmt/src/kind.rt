@@ -1,7 +1,8 @@
 //! The numbers of the log's types, each table both ways. (JFS Log.)
 
 ghost use Rattle.std.specs.Prelude.{◌≡◌};
-ghost use Rattle.jfs_logfmt.specs.Kinds.{type_number, type_of, l2_line, page_type, page_number, page_of, page_blocks, map_number, map_of};
+ghost use Rattle.jfs_logfmt.specs.Kinds.{type_number, type_of, page_type, page_number, page_of, page_blocks, map_number, map_of};
+ghost use Rattle.jfs_bits.specs.Line.{l2_line};
 
 use jfs_bits::PageKind;
 
@@ -98,18 +99,6 @@ impl PageType {
             (PageKind::Inode, true) => 4,
             _ => 1,
         }
-    }
-}
-
-/// The logarithm of the bytes of a line, the unit of a page's ranges.
-pub fn l2_line_of(kind: PageKind) -> u16
-    ensures { result ≡ l2_line kind }
-{
-    match kind {
-        PageKind::Inode => 7,
-        PageKind::Xtree => 4,
-        PageKind::Dtree => 5,
-        PageKind::Index => 4,
     }
 }
 

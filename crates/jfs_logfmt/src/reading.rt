@@ -9,7 +9,7 @@ ghost use Rattle.jfs_logfmt.specs.Text.{Says, Spells};
 ghost use Rattle.jfs_logfmt.specs.Rules.{is_line, is_redone, is_freed, is_long, has_length, Keeps, IsFirst, tail_of, body_of, FirstBroken, IsSound, IfBad, IsRead};
 
 use crate::descriptor::{Descriptor, get_descriptor};
-use crate::kind::{PageType, RecordType, l2_line_of, map_type_of};
+use crate::kind::{PageType, RecordType, map_type_of};
 use crate::log_record::{Record, RecordError, bad};
 use crate::range::ranges_of;
 use crate::run::{all_inside, is_of_pages, read_runs};
@@ -22,7 +22,7 @@ fn fits_line(page: Option<PageType>, l2: u16) -> bool
 {
     match page {
         None => l2 == 4 || l2 == 5 || l2 == 7,
-        Some(page) => l2 == l2_line_of(page.kind),
+        Some(page) => l2 == page.kind.l2_line(),
     }
 }
 

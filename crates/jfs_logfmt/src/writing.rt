@@ -8,7 +8,7 @@ ghost use Rattle.jfs_logfmt.specs.Text.{Spells};
 ghost use Rattle.jfs_logfmt.specs.Written.{range_text, body_text, head_of, described, text_of, FitsRange, Fits, IsLonger};
 
 use crate::descriptor::{Descriptor, descriptor_text};
-use crate::kind::{PageType, RecordType, l2_line_of, map_type_number};
+use crate::kind::{PageType, RecordType, map_type_number};
 use crate::log_record::Record;
 use jfs_bits::{Blob, LineRange, Pxd, PxdList, Ranges, put_pxd, put_u16};
 use std::alloc::AllocError;
@@ -95,7 +95,7 @@ fn push_body(r: &Record, into: &mut Vec<u8>) -> Result<(), AllocError>
     ensures err { OnErr result (IsLonger into.old.items into.new.items) }
 {
     match r {
-        Record::Redo { kind, ranges, .. } => push_ranges(ranges, 1 << l2_line_of(*kind), into),
+        Record::Redo { kind, ranges, .. } => push_ranges(ranges, 1 << kind.l2_line(), into),
         Record::Update { list, .. } => push_runs(list, into),
         Record::NoRedo { .. } | Record::Commit { .. } | Record::SyncPt { .. } => Ok(()),
     }
@@ -138,7 +138,7 @@ fn describe(r: &Record, length: u16) -> Descriptor
             fileset: *fileset,
             inode: *inode,
             kind: PageType::new(*kind, *new_page).number(),
-            count: l2_line_of(*kind),
+            count: kind.l2_line(),
             at: *at,
             ..head(RecordType::RedoPage, *tid, *back, length)
         },

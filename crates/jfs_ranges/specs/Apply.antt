@@ -1,16 +1,9 @@
 -- What a transaction does to one page.
 use Rattle.std.specs.Prelude.{ℕ, Bool, false, ◌||◌, ◌&&◌, ◌+◌, ◌-◌, ◌*◌, suc, nat_le, nat_lt, if◌then◌else◌, List, [], ◌∷◌, get_or, length}
 use Rattle.jfs_bits.specs.declared.rule.PageKind.{PageKind}
-use Rattle.jfs_bits.specs.declared.rule.PageKind.TheVariants as kinds
+use Rattle.jfs_bits.specs.Line.{line_size}
 use Rattle.jfs_ranges.specs.declared.edit.Edit.{Edit}
 use Rattle.jfs_ranges.specs.declared.edit.Edit.TheVariants.{Lines, NoRedo, Alloc, Free}
-
--- the number of bytes of a line (JFS Log: l2linesize)
-abbrev pub line_size : PageKind → ℕ
-line_size kinds.Inode = 128
-line_size kinds.Xtree = 16
-line_size kinds.Dtree = 32
-line_size kinds.Index = 16
 
 -- the place of a line's first byte, counted from the start of the disk
 unfoldable pub place_of_line : ℕ → PageKind → ℕ → ℕ

@@ -1,7 +1,8 @@
 //! What a transaction does to one page.
 
 ghost use Rattle.std.specs.Prelude.{◌≡◌, ◌||◌, length, drop, ◌+◌, ◌*◌, ◌^◌, ◌<◌, ◌≤◌};
-ghost use Rattle.jfs_ranges.specs.Apply.{line_size, place_of_line, byte_after, overlaid, apply_edit, apply_tx, touches_edit, touches_tx};
+ghost use Rattle.jfs_bits.specs.Line.{line_size};
+ghost use Rattle.jfs_ranges.specs.Apply.{place_of_line, byte_after, overlaid, apply_edit, apply_tx, touches_edit, touches_tx};
 
 use crate::edit::{Edit, Tx};
 use jfs_bits::{Blob, PageKind};
@@ -117,11 +118,5 @@ fn offset_of_line(kind: PageKind, first: u32) -> u64
     ensures offset { result ≡ line_size kind * first }
     ensures fits { result < 2 ^ 39 + 1 }
 {
-    let first = u64::from(first);
-    match kind {
-        PageKind::Inode => 128 * first,
-        PageKind::Xtree => 16 * first,
-        PageKind::Dtree => 32 * first,
-        PageKind::Index => 16 * first,
-    }
+    (1 << kind.l2_line()) * u64::from(first)
 }
