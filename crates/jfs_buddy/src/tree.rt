@@ -50,7 +50,16 @@ fn greatest_child(tree: &[u8], n: usize) -> u8
     left.max(right)
 }
 
-/// Gives a leaf a rank, and each node between it and the root the greatest of its children; all other nodes stay.
+/// Whether node `n` has a rank.
+fn has_rank(tree: &[u8], n: usize, wanted: u8) -> bool
+    requires { n < length tree.now }
+    ensures { result ≡ (rank_at tree.now n == wanted) }
+{
+    rank(tree, n) == wanted
+}
+
+/// Gives a leaf a rank, and each node between it and the root the greatest of its children, up to one that has it already; all
+/// other nodes stay.
 pub fn put_leaf(tree: &mut [u8], height: u32, leaf: u32, rank: u8)
     requires size { length tree.old ≡ first_of (suc height) }
     requires within { leaf < leaves_of height }
@@ -62,6 +71,9 @@ pub fn put_leaf(tree: &mut [u8], height: u32, leaf: u32, rank: u8)
     while n > 0 {
         n = (n - 1) / 4;
         let greatest = greatest_child(tree, n);
+        if has_rank(tree, n, greatest) {
+            return;
+        }
         put_rank(tree, n, greatest);
     }
 }
