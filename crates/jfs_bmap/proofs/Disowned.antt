@@ -1,5 +1,6 @@
 -- What becomes of the blocks of a run whose owners are taken.
 use Rattle.std.proofs.Common.{◌≡◌, ◌<◌, ◌≤◌, ◌+◌, ◌-◌, ℕ, Bool, true, false, not, ◌&&◌, ◌||◌, List, length, refl, sym, ◌∙◌, arith}
+use Rattle.std.specs.Prelude.{if◌then◌else◌}
 use Rattle.std.proofs.lemmas.Bool.Decides.{nat_tests}
 use Rattle.jfs_bits.specs.Bits.{is_in_run}
 use Rattle.jfs_dmap.specs.Dmap.{is_full}
@@ -67,3 +68,31 @@ full_busy taken first n b busy full = same (is_in_run first n b) (taken b) (λ h
 -- no block of an empty run
 pub none_busy : (first b : ℕ) (t busy : Bool) → busy ≡ (is_in_run first 0 b && t || busy)
 none_busy first b t busy = rw (empty_run first 0 b refl) refl
+
+-- ---- and of their entries
+
+-- after the owner of a block more was taken
+pub entries-next : (first k : ℕ) (set : List Bool) (b entry other : ℕ) → first + (k + 1) ≤ length set → (if is_in_run (first + k) 1 b && taken_at (cleared first k set) b then entry else (if is_in_run first k b && taken_at set b then entry else other)) ≡ (if is_in_run first (k + 1) b && taken_at set b then entry else other)
+entries-next first k set b entry other within =
+    rw (taken_at-cleared first k set b (omega arith), ← run_next first k b) (both (is_in_run first k b) (is_in_run (first + k) 1 b) (taken_at set b))
+  where
+    both : (x y t : Bool) → (if y && (not x && t) then entry else (if x && t then entry else other)) ≡ (if (x || y) && t then entry else other)
+    both true true true = refl
+    both true true false = refl
+    both true false true = refl
+    both true false false = refl
+    both false true true = refl
+    both false true false = refl
+    both false false t = refl
+
+-- of a run all of which is taken
+pub full_entries : (taken : ℕ → Bool) (first n b entry other : ℕ) → is_full taken first n ≡ true → (if is_in_run first n b then entry else other) ≡ (if is_in_run first n b && taken b then entry else other)
+full_entries taken first n b entry other full = same (is_in_run first n b) (taken b) (λ h. full_block taken first n b full h)
+  where
+    same : (x t : Bool) → (x ≡ true → t ≡ true) → (if x then entry else other) ≡ (if x && t then entry else other)
+    same true t h = rw (h refl) refl
+    same false t h = refl
+
+-- of an empty run
+pub none_entries : (first b : ℕ) (t : Bool) (entry other : ℕ) → other ≡ (if is_in_run first 0 b && t then entry else other)
+none_entries first b t entry other = rw (empty_run first 0 b refl) refl

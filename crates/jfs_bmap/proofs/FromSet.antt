@@ -9,7 +9,7 @@ use Rattle.jfs_bits.specs.Field.{field_of}
 use Rattle.jfs_dmap.proofs.Counts.{count_below-same}
 use Rattle.jfs_bmap.specs.Set.{each_below, taken_at}
 use Rattle.jfs_bmap.specs.States.{Free, Owned, fresh}
-use Rattle.jfs_bmap.specs.Freed.{entry_of, AreKept}
+use Rattle.jfs_bmap.specs.Freed.{entry_at, AreKept}
 use Rattle.jfs_bmap.proofs.Views.{length-each_below, taken_at-each_below, each_below-at}
 use Rattle.jfs_bmap.proofs.States.{state_by, state_in-by, view_of, view-length, state-at, same_blocks}
 use Rattle.jfs_bmap.proofs.Reservations.{count-nothing}
@@ -29,37 +29,33 @@ zeros-bit n b = rw (field-zeros n (4 * (b / 32)), bit_at-zero (31 - b % 32)) ref
 zeros-clear : (n b : ℕ) → is_taken (replicate n 0) b ≡ true → ⊥
 zeros-clear n b h = both_ways (is_taken (replicate n 0) b) (zeros-bit n b) h
 
-pub kept-fresh : (set : List Bool) (n : ℕ) → length set ≤ 2 ^ 23 → n % 4 ≡ 0 → length set ≤ 8 * n → AreKept set set (replicate n 0) 0 [] false
-kept-fresh set n most words bits =
+pub kept-fresh : (set : List Bool) (n : ℕ) (entries : List ℕ) → length set ≤ 2 ^ 23 → n % 4 ≡ 0 → length set ≤ 8 * n → length entries ≡ length set → AreKept set set (replicate n 0) 0 entries []
+kept-fresh set n entries most words bits table =
     let size = length-replicate {A = ℕ} n 0 in
     record {
       most = most;
       same = refl;
       words = rw size words;
       bits = rw size bits;
+      table = table;
       are_used = λ b h. h;
       no_owner = λ b h. absurd (zeros-clear n b h);
       in_use = λ b h. absurd (zeros-clear n b h);
       covered = λ b h. absurd (zeros-clear n b h);
       count = sym (count_below-same (length set) (λ b. is_taken (replicate n 0) b) (λ b. false) (λ b h. zeros-bit n b) ∙ count-nothing (length set));
       within = λ i h. absurd (omega arith);
-      whole = λ _. record {
-        all_busy = λ i b h. absurd (omega arith);
-        entry = λ i b h. absurd (omega arith);
-        once = λ i j b h k. absurd (omega arith);
-      };
     }
 
 -- a block is owned or free
-pub view-fresh : (bits busy : List ℕ) (blocks agsize : ℕ) → view_of (each_below blocks (is_taken bits)) (each_below blocks (is_taken bits)) busy [] agsize 0 ≡ fresh bits blocks agsize
-view-fresh bits busy blocks agsize =
+pub view-fresh : (bits busy entries : List ℕ) (blocks agsize : ℕ) → view_of (each_below blocks (is_taken bits)) (each_below blocks (is_taken bits)) busy entries agsize 0 ≡ fresh bits blocks agsize
+view-fresh bits busy entries blocks agsize =
     let set = each_below blocks (is_taken bits) in
-    let size = view-length set set busy [] agsize 0 ∙ length-each_below blocks (is_taken bits) in
+    let size = view-length set set busy entries agsize 0 ∙ length-each_below blocks (is_taken bits) in
     let state = λ (b : ℕ). if is_taken bits b then Owned else Free in
-    same_blocks (view_of set set busy [] agsize 0) (fresh bits blocks agsize) (size ∙ sym (length-each_below blocks state)) (λ b h.
+    same_blocks (view_of set set busy entries agsize 0) (fresh bits blocks agsize) (size ∙ sym (length-each_below blocks state)) (λ b h.
     let within : b < blocks = omega (arith, size) in
-    state-at set set busy [] agsize 0 b ∙ state_in-by set set busy [] b
-    ∙ both (taken_at set b) (is_taken busy b) (entry_of [] b)
+    state-at set set busy entries agsize 0 b ∙ state_in-by set set busy entries b
+    ∙ both (taken_at set b) (is_taken busy b) (entry_at entries b)
     ∙ ap (λ (t : Bool). if t then Owned else Free) (taken_at-each_below blocks (is_taken bits) b within)
     ∙ sym (each_below-at blocks state b Owned within))
     refl refl

@@ -12,66 +12,66 @@ use Rattle.jfs_bmap.proofs.States.{view_of, view-length, state-at, used-view, ow
 use Rattle.jfs_bmap.proofs.Reservations.{lowest-free, none-free}
 
 abbrev pub view : Inside → Blocks
-view m = view_of m.owned m.used m.busy.items m.freed.items m.agsize m.spare
+view m = view_of m.owned m.used m.busy.items m.entries.items m.agsize m.spare
 
 abbrev pub Kept : Inside → Type 0
-Kept m = AreKept m.owned m.used m.busy.items m.busy_blocks m.freed.items m.mixed
+Kept m = AreKept m.owned m.used m.busy.items m.busy_blocks m.entries.items m.freed.items
 
 module _ (m : Inside) (value : Blocks) (is : view m ≡ value) where
   pub size-is : length value.states ≡ length m.owned
-  size-is = ap (λ (b : Blocks). length b.states) (sym is) ∙ view-length m.owned m.used m.busy.items m.freed.items m.agsize m.spare
+  size-is = ap (λ (b : Blocks). length b.states) (sym is) ∙ view-length m.owned m.used m.busy.items m.entries.items m.agsize m.spare
 
-  pub state-is : (b : ℕ) → state_of value b ≡ state_in m.owned m.used m.busy.items m.freed.items b
-  state-is b = ap (λ (z : Blocks). state_of z b) (sym is) ∙ state-at m.owned m.used m.busy.items m.freed.items m.agsize m.spare b
+  pub state-is : (b : ℕ) → state_of value b ≡ state_in m.owned m.used m.busy.items m.entries.items b
+  state-is b = ap (λ (z : Blocks). state_of z b) (sym is) ∙ state-at m.owned m.used m.busy.items m.entries.items m.agsize m.spare b
 
   pub owned-is : Kept m → is_owned value ≡ taken_at m.owned
-  owned-is kept = ap is_owned (sym is) ∙ owned-view m.owned m.used m.busy.items m.busy_blocks m.freed.items m.mixed m.agsize m.spare kept
+  owned-is kept = ap is_owned (sym is) ∙ owned-view m.owned m.used m.busy.items m.busy_blocks m.entries.items m.freed.items m.agsize m.spare kept
 
   pub used-is : Kept m → is_used value ≡ taken_at m.used
-  used-is kept = ap is_used (sym is) ∙ used-view m.owned m.used m.busy.items m.busy_blocks m.freed.items m.mixed m.agsize m.spare kept
+  used-is kept = ap is_used (sym is) ∙ used-view m.owned m.used m.busy.items m.busy_blocks m.entries.items m.freed.items m.agsize m.spare kept
 
   pub free-is : Kept m → free_count value ≡ free_in m.used
-  free-is kept = ap free_count (sym is) ∙ free_count-view m.owned m.used m.busy.items m.busy_blocks m.freed.items m.mixed m.agsize m.spare kept
+  free-is kept = ap free_count (sym is) ∙ free_count-view m.owned m.used m.busy.items m.busy_blocks m.entries.items m.freed.items m.agsize m.spare kept
 
   pub busy-is : Kept m → busy_count value ≡ m.busy_blocks
-  busy-is kept = ap busy_count (sym is) ∙ busy_count-view m.owned m.used m.busy.items m.busy_blocks m.freed.items m.mixed m.agsize m.spare kept
+  busy-is kept = ap busy_count (sym is) ∙ busy_count-view m.owned m.used m.busy.items m.busy_blocks m.entries.items m.freed.items m.agsize m.spare kept
 
 -- a free run is reserved
 module _ (m : Inside) (value : Blocks) (is : view m ≡ value) (kept : Kept m) (first n : ℕ) (free : is_free (is_used value) first n ≡ true) where
   pub reserve-free : is_free (taken_at m.used) first n ≡ true
   reserve-free = subst (λ (taken : ℕ → Bool). is_free taken first n ≡ true) (used-is m value is kept) free
 
-  pub reserve-kept : AreKept m.owned (marked first n m.used) m.busy.items m.busy_blocks m.freed.items m.mixed
-  reserve-kept = kept-reserved m.owned m.used m.busy.items m.busy_blocks m.freed.items m.mixed m.agsize m.spare first n kept
+  pub reserve-kept : AreKept m.owned (marked first n m.used) m.busy.items m.busy_blocks m.entries.items m.freed.items
+  reserve-kept = kept-reserved m.owned m.used m.busy.items m.busy_blocks m.entries.items m.freed.items m.agsize m.spare first n kept
 
-  pub reserve-view : view_of m.owned (marked first n m.used) m.busy.items m.freed.items m.agsize m.spare ≡ put_state Reserved (record { len = n; addr = first } ∷ []) value
-  reserve-view = rw (← is) (view-reserved m.owned m.used m.busy.items m.busy_blocks m.freed.items m.mixed m.agsize m.spare first n kept reserve-free)
+  pub reserve-view : view_of m.owned (marked first n m.used) m.busy.items m.entries.items m.agsize m.spare ≡ put_state Reserved (record { len = n; addr = first } ∷ []) value
+  reserve-view = rw (← is) (view-reserved m.owned m.used m.busy.items m.busy_blocks m.entries.items m.freed.items m.agsize m.spare first n kept reserve-free)
 
 -- a reserved run gets an owner, or is given back
 module _ (m : Inside) (value : Blocks) (is : view m ≡ value) (kept : Kept m) (first n : ℕ) (reserved : (b : ℕ) → is_in_run first n b ≡ true → state_of value b ≡ Reserved) where
-  reserved_in : (b : ℕ) → is_in_run first n b ≡ true → state_in m.owned m.used m.busy.items m.freed.items b ≡ Reserved
+  reserved_in : (b : ℕ) → is_in_run first n b ≡ true → state_in m.owned m.used m.busy.items m.entries.items b ≡ Reserved
   reserved_in b h = sym (state-is m value is b) ∙ reserved b h
 
   pub run-within : 0 < n → first + n ≤ length m.owned
-  run-within some = reserved-within m.owned m.used m.busy.items m.busy_blocks m.freed.items m.mixed m.agsize m.spare first n kept reserved_in some
+  run-within some = reserved-within m.owned m.used m.busy.items m.busy_blocks m.entries.items m.freed.items m.agsize m.spare first n kept reserved_in some
 
   pub run-used : is_full (taken_at m.used) first n ≡ true
-  run-used = reserved-full m.owned m.used m.busy.items m.busy_blocks m.freed.items m.mixed m.agsize m.spare first n kept reserved_in
+  run-used = reserved-full m.owned m.used m.busy.items m.busy_blocks m.entries.items m.freed.items m.agsize m.spare first n kept reserved_in
 
   pub run-unowned : is_free (taken_at m.owned) first n ≡ true
-  run-unowned = reserved-unowned m.owned m.used m.busy.items m.busy_blocks m.freed.items m.mixed m.agsize m.spare first n kept reserved_in
+  run-unowned = reserved-unowned m.owned m.used m.busy.items m.busy_blocks m.entries.items m.freed.items m.agsize m.spare first n kept reserved_in
 
-  pub own-kept : AreKept (marked first n m.owned) m.used m.busy.items m.busy_blocks m.freed.items m.mixed
-  own-kept = kept-owned m.owned m.used m.busy.items m.busy_blocks m.freed.items m.mixed m.agsize m.spare first n kept reserved_in
+  pub own-kept : AreKept (marked first n m.owned) m.used m.busy.items m.busy_blocks m.entries.items m.freed.items
+  own-kept = kept-owned m.owned m.used m.busy.items m.busy_blocks m.entries.items m.freed.items m.agsize m.spare first n kept reserved_in
 
-  pub own-view : view_of (marked first n m.owned) m.used m.busy.items m.freed.items m.agsize m.spare ≡ put_state Owned (record { len = n; addr = first } ∷ []) value
-  own-view = rw (← is) (view-owned m.owned m.used m.busy.items m.busy_blocks m.freed.items m.mixed m.agsize m.spare first n kept reserved_in)
+  pub own-view : view_of (marked first n m.owned) m.used m.busy.items m.entries.items m.agsize m.spare ≡ put_state Owned (record { len = n; addr = first } ∷ []) value
+  own-view = rw (← is) (view-owned m.owned m.used m.busy.items m.busy_blocks m.entries.items m.freed.items m.agsize m.spare first n kept reserved_in)
 
-  pub back-kept : 0 < n → AreKept m.owned (cleared first n m.used) m.busy.items m.busy_blocks m.freed.items m.mixed
-  back-kept some = kept-given_back m.owned m.used m.busy.items m.busy_blocks m.freed.items m.mixed m.agsize m.spare first n kept reserved_in (omega (arith, run-within some, kept.same))
+  pub back-kept : 0 < n → AreKept m.owned (cleared first n m.used) m.busy.items m.busy_blocks m.entries.items m.freed.items
+  back-kept some = kept-given_back m.owned m.used m.busy.items m.busy_blocks m.entries.items m.freed.items m.agsize m.spare first n kept reserved_in (omega (arith, run-within some, kept.same))
 
-  pub back-view : 0 < n → view_of m.owned (cleared first n m.used) m.busy.items m.freed.items m.agsize m.spare ≡ put_state Free (record { len = n; addr = first } ∷ []) value
-  back-view some = rw (← is) (view-given_back m.owned m.used m.busy.items m.busy_blocks m.freed.items m.mixed m.agsize m.spare first n kept reserved_in (omega (arith, run-within some, kept.same)))
+  pub back-view : 0 < n → view_of m.owned (cleared first n m.used) m.busy.items m.entries.items m.agsize m.spare ≡ put_state Free (record { len = n; addr = first } ∷ []) value
+  back-view some = rw (← is) (view-given_back m.owned m.used m.busy.items m.busy_blocks m.entries.items m.freed.items m.agsize m.spare first n kept reserved_in (omega (arith, run-within some, kept.same)))
 
 -- what a search in the used blocks finds
 pub found-is : (m : Inside) (value : Blocks) → view m ≡ value → Kept m → (l2 : ℕ) (found : Option ℕ) → IsLowest (taken_at m.used) l2 found → IsLowest (is_used value) l2 found

@@ -1,12 +1,11 @@
 -- Busy blocks that are freed since their entries are acknowledged.
-use Rattle.std.proofs.Common.{◌≡◌, ◌<◌, ◌≤◌, ◌+◌, ℕ, add-one, Bool, true, false, not, ◌&&◌, ◌||◌, List, length, refl, sym, ap, ◌∙◌, arith}
+use Rattle.std.proofs.Common.{◌≡◌, ◌≤◌, ◌+◌, ℕ, add-one, Bool, true, false, not, ◌&&◌, ◌||◌, List, length, refl, ap, ◌∙◌, arith}
 use Rattle.std.specs.Prelude.{nat_le}
-use Rattle.std.proofs.lemmas.Bool.{and_from, and_left, false_from_ne_true, true≢false}
+use Rattle.std.proofs.lemmas.Bool.{and_from}
 use Rattle.jfs_bits.specs.Bits.{is_in_run, is_taken, any_below}
-use Rattle.jfs_bits.proofs.Buds.{any_below-from, any_below-none}
+use Rattle.jfs_bits.proofs.Buds.{any_below-from}
 use Rattle.jfs_bmap.specs.declared.freed.Freed.{Freed}
-use Rattle.jfs_bmap.specs.Freed.{covers, is_covered, entry_of, run_at, AreWhole}
-use Rattle.jfs_bmap.proofs.Entries.{last_run}
+use Rattle.jfs_bmap.specs.Freed.{covers, entry_at, run_at, IsCovered}
 use Rattle.jfs_bmap.specs.Set.{taken_at, cleared}
 use Rattle.jfs_bmap.proofs.Views.{taken_at-cleared}
 
@@ -103,8 +102,8 @@ freed-start told done used_now busy_now h = record {
 -- ---- the blocks of runs
 
 -- the entry that a block is busy for is told
-abbrev pub is_told : List Freed → ℕ → ℕ → Bool
-is_told freed told b = nat_le (entry_of freed b) told
+abbrev pub is_told : List ℕ → ℕ → ℕ → Bool
+is_told entries told b = nat_le (entry_at entries b) told
 
 -- one of the first `i` runs has the block, and its entry is told
 abbrev pub told_before : List Freed → ℕ → ℕ → ℕ → Bool
@@ -121,17 +120,16 @@ unfolding any_below
 told_before-next freed told i b = rw add-one refl
 
 -- a covered block whose entry is told is in such a run
-pub told_before-all : (freed : List Freed) (told i b : ℕ) → length freed ≤ i → is_covered freed b ≡ true → is_told freed told b ≡ true → told_before freed told i b ≡ true
-told_before-all freed told i b all covered h =
-    let last = last_run 0 freed b covered in
-    any_below-from i (λ j. covers (run_at freed j) b && nat_le (run_at freed j).entry told) last.0 (omega (arith, last.1)) (and_from (covers (run_at freed last.0) b) (nat_le (run_at freed last.0).entry told) last.2 (rw last.3 h))
+pub told_before-all : (freed : List Freed) (told i entry b : ℕ) → length freed ≤ i → IsCovered freed entry b → nat_le entry told ≡ true → told_before freed told i b ≡ true
+told_before-all freed told i entry b all covered h =
+    any_below-from i (λ j. covers (run_at freed j) b && nat_le (run_at freed j).entry told) covered.0 (omega (arith, covered.1)) (and_from (covers (run_at freed covered.0) b) (nat_le (run_at freed covered.0).entry told) covered.2 (rw covered.3 h))
 
 -- so all blocks are freed that are busy and told
-pub freed-all : {used busy : ℕ → Bool} {used_now : List Bool} {busy_now : List ℕ} (freed : List Freed) (told i : ℕ) → length freed ≤ i → ((b : ℕ) → busy b ≡ true → is_covered freed b ≡ true) → IsFreed used busy (is_told freed told) (told_before freed told i) used_now busy_now → (b : ℕ) → (taken_at used_now b ≡ (used b && not (busy b && is_told freed told b))) × (is_taken busy_now b ≡ (busy b && not (is_told freed told b)))
-freed-all {used} {busy} freed told i all covered f b =
-    let here : busy b ≡ true → is_told freed told b ≡ true → told_before freed told i b ≡ true = λ h k. told_before-all freed told i b all (covered b h) k in (
-      f.of_used b ∙ ap (λ (z : Bool). used b && not z) (whole (told_before freed told i b) (busy b) (is_told freed told b) here),
-      f.of_busy b ∙ rest (told_before freed told i b) (busy b) (is_told freed told b) here,
+pub freed-all : {used busy : ℕ → Bool} {used_now : List Bool} {busy_now : List ℕ} (freed : List Freed) (entries : List ℕ) (told i : ℕ) → length freed ≤ i → ((b : ℕ) → busy b ≡ true → IsCovered freed (entry_at entries b) b) → IsFreed used busy (is_told entries told) (told_before freed told i) used_now busy_now → (b : ℕ) → (taken_at used_now b ≡ (used b && not (busy b && is_told entries told b))) × (is_taken busy_now b ≡ (busy b && not (is_told entries told b)))
+freed-all {used} {busy} freed entries told i all covered f b =
+    let here : busy b ≡ true → is_told entries told b ≡ true → told_before freed told i b ≡ true = λ h k. told_before-all freed told i (entry_at entries b) b all (covered b h) k in (
+      f.of_used b ∙ ap (λ (z : Bool). used b && not z) (whole (told_before freed told i b) (busy b) (is_told entries told b) here),
+      f.of_busy b ∙ rest (told_before freed told i b) (busy b) (is_told entries told b) here,
     )
   where
     whole : (d y t : Bool) → (y ≡ true → t ≡ true → d ≡ true) → (d && (y && t)) ≡ (y && t)
@@ -154,8 +152,16 @@ covers-told run told b h = rw h (kept (covers run b))
     kept true = refl
     kept false = refl
 
--- where each block is busy by one run alone, no run before it has a block of run `i`
-pub told_before-whole : (busy : List ℕ) (freed : List Freed) (told i b : ℕ) → AreWhole busy freed → i < length freed → covers (run_at freed i) b ≡ true → told_before freed told i b ≡ false
-told_before-whole busy freed told i b whole h k =
-    any_below-none i (λ j. covers (run_at freed j) b && nat_le (run_at freed j).entry told) (λ j l.
-    and_left (covers (run_at freed j) b) (nat_le (run_at freed j).entry told) (false_from_ne_true (covers (run_at freed j) b) (λ m. true≢false (sym k ∙ whole.once j i b l h m))))
+-- ---- the blocks of one run, all of which are busy and told
+
+pub used-whole : (x u y t : Bool) → (x ≡ true → (y && t) ≡ true) → (not x && u) ≡ (u && not (x && (y && t)))
+used-whole true u y t h = rw (h refl) (no_block u)
+used-whole false true y t h = refl
+used-whole false false y t h = refl
+
+pub busy-whole : (x y t : Bool) → (x ≡ true → (y && t) ≡ true) → (not x && y) ≡ (y && not (x && t))
+busy-whole true true true h = refl
+busy-whole true true false h = absurd (cc (h refl))
+busy-whole true false t h = refl
+busy-whole false true t h = refl
+busy-whole false false t h = refl

@@ -91,12 +91,12 @@ changed change m = record m { states = each_below (length m.states) (λ b. chang
 abbrev pub put_state : BlockState → List Pxd → Blocks → Blocks
 put_state state list m = changed (λ b s. if is_in_list list b then state else s) m
 
--- a block that an entry releases is busy for it, also one that is busy already; a free or reserved block stays as it is
+-- an owned block that an entry releases is busy for it; a block without an owner is passed over
 abbrev pub released_state : ℕ → BlockState → BlockState
 released_state entry Free = Free
 released_state entry Owned = Busy entry
 released_state entry Reserved = Reserved
-released_state entry (Busy earlier) = Busy entry
+released_state entry (Busy earlier) = Busy earlier
 
 abbrev pub released : List Pxd → ℕ → Blocks → Blocks
 released list entry m = record (changed (λ b s. if is_in_list list b then released_state entry s else s) m) { spare = m.spare - length list }

@@ -20,9 +20,10 @@ pub struct BlockMap {
     pub(crate) used: MapPages,
     pub(crate) busy: Vec<u8>,
     pub(crate) busy_blocks: u32,
+    /// The entry that each busy block waits for.
+    pub(crate) entries: Vec<u64>,
     pub(crate) freed: Vec<Freed>,
     pub(crate) spare: u32,
-    pub(crate) mixed: bool,
 }
 
 impl Model for BlockMap {
@@ -36,13 +37,13 @@ impl Model for BlockMap {
     ghost Value = { Blocks };
 
     ghost view = { λ m. record {
-      states = each_below (length m.owned) (state_in m.owned m.used m.busy.items m.freed.items);
+      states = each_below (length m.owned) (state_in m.owned m.used m.busy.items m.entries.items);
       agsize = m.agsize;
       spare = m.spare;
     } };
 
     ghost invariant = { λ m.
-        AreKept m.owned m.used m.busy.items m.busy_blocks m.freed.items m.mixed
+        AreKept m.owned m.used m.busy.items m.busy_blocks m.entries.items m.freed.items
         × (vec_len m.freed + m.spare ≤ vec_capacity m.freed)
         × AreGroups (length m.owned) m.agsize };
 }
@@ -65,15 +66,16 @@ impl BlockMap {
         let owned = MapPages::from_set(alloc, set, blocks)?;
         let used = MapPages::from_set(alloc, set, blocks)?;
         let busy = vec![in alloc; 0u8; 4 * blocks.div_ceil(32) as usize]?;
+        let entries = vec![in alloc; 0u64; blocks as usize]?;
         Ok(BlockMap {
             agsize,
             owned,
             used,
             busy,
             busy_blocks: 0,
+            entries,
             freed: Vec::new(alloc),
             spare: 0,
-            mixed: false,
         })
     }
 

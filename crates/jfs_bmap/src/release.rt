@@ -21,8 +21,8 @@ impl BlockMap {
         Ok(())
     }
 
-    /// Takes the owners of the blocks of these runs, for an entry; they are busy until it is durable. A block without an owner is
-    /// passed over, but that one that is busy already is busy for this entry from now on. Takes no memory.
+    /// Takes the owners of the blocks of these runs, for an entry; they are busy until it is durable. A block without an owner when
+    /// it is met is passed over. Takes no memory.
     pub fn release(&mut self, list: &PxdList, entry: u64)
         requires { length list.now ≤ self.old.spare }
         ensures { self.new ≡ released list.now entry self.old }
@@ -41,13 +41,12 @@ impl BlockMap {
     {
         let part = clip(run, self.owned.blocks(), entry);
         let owned_before = self.owned.free();
-        let whole = disown(
+        disown(
             &mut self.owned,
             self.busy.as_mut_slice(),
-            part.first,
-            part.blocks,
+            self.entries.as_mut_slice(),
+            part,
         );
-        self.mixed |= !whole;
         self.busy_blocks += self.owned.free() - owned_before;
         self.spare -= 1;
         match self.freed.push(part) {
@@ -63,15 +62,12 @@ impl BlockMap {
         let free_before = self.used.free();
         free_told(
             self.freed.as_slice(),
+            self.entries.as_slice(),
             told,
-            self.mixed,
             &mut self.used,
             self.busy.as_mut_slice(),
         );
         self.busy_blocks -= self.used.free() - free_before;
         self.freed.retain(|run| run.entry > told);
-        if self.freed.is_empty() {
-            self.mixed = false;
-        }
     }
 }

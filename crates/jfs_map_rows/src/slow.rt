@@ -170,7 +170,7 @@ fn release_both(
         entry,
     )?;
     for b in 0..states.len() {
-        if first as usize <= b && b - (first as usize) < n as usize && states[b] != State::Free {
+        if first as usize <= b && b - (first as usize) < n as usize && states[b] == State::Owned {
             states[b] = State::Busy(entry);
         }
     }

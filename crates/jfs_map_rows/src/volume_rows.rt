@@ -85,8 +85,9 @@ fn lists_and_releases(rt: HostRuntime) {
         )
     );
     assert_eq!(rt; map.free(), 42);
-    // Blocks 4 to 7 are released twice, 12 to 15 and those past the end have no owner.
+    // Blocks 0 to 7 are busy already when they are released again, 12 to 15 and those past the end have no owner.
     release_run(&mut map, alloc, Pxd { len: 8, addr: 0 }, 3).expect(&rt, "memory");
+    release_run(&mut map, alloc, Pxd { len: 2, addr: 0 }, 2).expect(&rt, "memory");
     release_run(&mut map, alloc, Pxd { len: 12, addr: 4 }, 5).expect(&rt, "memory");
     release_run(
         &mut map,
@@ -100,9 +101,11 @@ fn lists_and_releases(rt: HostRuntime) {
     .expect(&rt, "memory");
     assert_eq!(rt; map.busy(), 16);
     assert_eq!(rt; map.free(), 42);
+    map.settle(2);
+    assert_eq!(rt; map.busy(), 16);
     map.settle(3);
-    assert_eq!(rt; map.busy(), 12);
-    assert!(rt; are_given(&try_out(&mut map, alloc, 2, 3), [(2, 2), (0, 1)].as_slice()));
+    assert_eq!(rt; map.busy(), 8);
+    assert!(rt; are_given(&try_out(&mut map, alloc, 2, 7), [(2, 6), (0, 1)].as_slice()));
     map.settle(5);
     assert_eq!(rt; map.busy(), 4);
     map.settle(u64::MAX);

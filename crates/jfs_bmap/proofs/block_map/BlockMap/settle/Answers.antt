@@ -1,19 +1,18 @@
-use Rattle.std.proofs.Common.{rules, ◌≡◌, ◌∙◌, false, length, refl, sym, ap, arith}
-use Rattle.std.specs.Prelude.{nat_lt, vec_len}
-use Rattle.std.proofs.lemmas.Bool.{eqb-true}
+use Rattle.std.proofs.Common.{rules, ◌≡◌, ◌∙◌, length, refl, sym, ap, arith}
+use Rattle.std.specs.Prelude.{nat_lt}
 use Rattle.std.proofs.lemmas.Fn.{filter_same}
 use Rattle.std.proofs.lemmas.List.{with_items_is}
 use Rattle.jfs_bmap.proofs.Entries.{left_of}
-use Rattle.jfs_bmap.proofs.Kept.{IsSettled, settled-count, kept-settled, whole-settled, whole-none, view-settled}
+use Rattle.jfs_bmap.proofs.Kept.{IsSettled, settled-count, kept-settled, view-settled}
 use Rattle.jfs_bmap.proofs.block_map.BlockMap.settle.Goals.{After-free_told, After-retain}
 use Rattle.jfs_bmap.proofs.block_map.BlockMap.settle.Goals as goal
 
-settled_by : (c : After-free_told) → IsSettled c.self.inside.used c.free_told.new.used c.self.inside.busy.items c.free_told.new.busy c.self.inside.freed.items c.args.told
+settled_by : (c : After-free_told) → IsSettled c.self.inside.used c.free_told.new.used c.self.inside.busy.items c.free_told.new.busy c.self.inside.entries.items c.args.told
 settled_by c = record {
   blocks = c.free_told.ensures.blocks;
   size = c.free_told.auto.busy ∙ ap length c.as_mut_slice.ensures.value;
-  now_used = λ b. c.free_told.ensures.used b ∙ rw (c.as_mut_slice.ensures.value, c.as_slice.ensures.value) refl;
-  now_busy = λ b. c.free_told.ensures.busy b ∙ rw (c.as_mut_slice.ensures.value, c.as_slice.ensures.value) refl;
+  now_used = λ b. c.free_told.ensures.used b ∙ rw (c.as_mut_slice.ensures.value, c.as_slice-2.ensures.value) refl;
+  now_busy = λ b. c.free_told.ensures.busy b ∙ rw (c.as_mut_slice.ensures.value, c.as_slice-2.ensures.value) refl;
 }
 
 -- the runs that stay are those above `told`
@@ -30,36 +29,15 @@ pub invariant_of-self : goal.invariant_of-self
 invariant_of-self c =
     let s = settled_by (goal.at.invariant_of-self c).After-free_told in
     let busy = with_items_is c.self.inside.busy c.free_told.new.busy (s.size ∙ sym c.self.inside.busy.ok.0) in
-    let left = runs_left (goal.at.invariant_of-self c).After-retain in
-    let none : vec_len c.retain.new.self ≡ 0 = eqb-true (vec_len c.retain.new.self) 0 (sym c.is_empty.ensures ∙ c.if-is_empty.true) in
-    rw (busy, left, c.free-free_before.ensures, c.free.ensures) (
-      kept-settled c.self.invariant.0 s false
-          (λ e. whole-none c.free_told.new.busy (left_of c.args.told c.self.inside.freed.items) (ap length (sym left) ∙ sym c.retain.new.self.ok.0 ∙ none)),
+    rw (busy, runs_left (goal.at.invariant_of-self c).After-retain, c.free-free_before.ensures, c.free.ensures) (
+      kept-settled c.self.invariant.0 s,
       omega (arith, c.retain.ensures.bound, c.retain.ensures.capacity, c.self.invariant.1),
       c.self.invariant.2,
     )
 
-pub invariant_of-self-else-is_empty : goal.invariant_of-self-else-is_empty
-invariant_of-self-else-is_empty c =
-    let s = settled_by (goal.at.invariant_of-self-else-is_empty c).After-free_told in
+pub returns : goal.returns
+returns c =
+    let s = settled_by (goal.at.returns c).After-free_told in
     let busy = with_items_is c.self.inside.busy c.free_told.new.busy (s.size ∙ sym c.self.inside.busy.ok.0) in
-    rw (busy, runs_left (goal.at.invariant_of-self-else-is_empty c).After-retain, c.free-free_before.ensures, c.free.ensures) (
-      kept-settled c.self.invariant.0 s c.self.inside.mixed
-          (λ e. whole-settled c.self.invariant.0 s (c.self.invariant.0.whole e)),
-      omega (arith, c.retain.ensures.bound, c.retain.ensures.capacity, c.self.invariant.1),
-      c.self.invariant.2,
-    )
-
-pub returns-then-is_empty : goal.returns-then-is_empty
-returns-then-is_empty c =
-    let s = settled_by (goal.at.returns-then-is_empty c).After-free_told in
-    let busy = with_items_is c.self.inside.busy c.free_told.new.busy (s.size ∙ sym c.self.inside.busy.ok.0) in
-    rw (← c.self.view_is, busy, runs_left (goal.at.returns-then-is_empty c).After-retain)
-    (view-settled c.self.invariant.0 s c.self.inside.agsize c.self.inside.spare)
-
-pub returns-else-is_empty : goal.returns-else-is_empty
-returns-else-is_empty c =
-    let s = settled_by (goal.at.returns-else-is_empty c).After-free_told in
-    let busy = with_items_is c.self.inside.busy c.free_told.new.busy (s.size ∙ sym c.self.inside.busy.ok.0) in
-    rw (← c.self.view_is, busy, runs_left (goal.at.returns-else-is_empty c).After-retain)
+    rw (← c.self.view_is, busy)
     (view-settled c.self.invariant.0 s c.self.inside.agsize c.self.inside.spare)

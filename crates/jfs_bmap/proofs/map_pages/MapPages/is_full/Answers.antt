@@ -1,10 +1,7 @@
-use Rattle.std.proofs.Common.{◌≡◌, ◌+◌, ◌∙◌, false, sym, arith}
-use Rattle.std.proofs.lemmas.Bool.{false_from_ne_true, both_ways}
-use Rattle.jfs_dmap.specs.Dmap.{is_full}
-use Rattle.jfs_dmap.proofs.Counts.{is_full-at}
+use Rattle.std.proofs.Common.{◌∙◌, sym, arith}
 use Rattle.jfs_bmap.specs.Set.{taken_at}
 use Rattle.jfs_bmap.proofs.Views.{length-held}
-use Rattle.jfs_bmap.proofs.Grows.{is_full-none, is_full-more}
+use Rattle.jfs_bmap.proofs.Grows.{is_full-none, is_full-more, is_full-not}
 use Rattle.jfs_bmap.proofs.map_pages.MapPages.is_full.Goals as goal
 
 pub loop-i-init : goal.loop-i-init
@@ -16,10 +13,7 @@ overflow_add-first c =
     omega (arith, size, c.self.invariant.most)
 
 pub returns-then-not-is_taken : goal.returns-then-not-is_taken
-returns-then-not-is_taken c =
-    let taken = taken_at c.args.self.now in
-    let free : taken (c.args.first + c.loop-i.i) ≡ false = sym c.is_taken.ensures ∙ c.if-not-is_taken.true in
-    sym (false_from_ne_true (is_full taken c.args.first c.args.n) (λ full. both_ways (taken (c.args.first + c.loop-i.i)) free (is_full-at taken c.args.first c.args.n full c.loop-i.i c.loop-i-test.true)))
+returns-then-not-is_taken c = sym (is_full-not (taken_at c.args.self.now) c.args.first c.args.n c.loop-i.i c.loop-i-test.true (sym c.is_taken.ensures ∙ c.if-not-is_taken.true))
 
 pub loop-i-preserved : goal.loop-i-preserved
 loop-i-preserved c = is_full-more (taken_at c.args.self.now) c.args.first c.loop-i.i c.loop-i.invariant (sym c.is_taken.ensures ∙ c.if-not-is_taken.false)
