@@ -1,8 +1,8 @@
-//! How fast blocks are reserved on small and on great volumes, empty and nearly full.
+//! How fast blocks are reserved on small and on great volumes: empty, nearly full, and nearly full of busy blocks.
 
 ghost use Rattle.std.specs.Prelude.{◌≡◌, ◌<◌, ◌≤◌, ◌^◌, ◌/◌, ◌%◌, length, IfOk};
 
-use jfs_bits::set_run;
+use jfs_bits::{Pxd, PxdList, set_run};
 use jfs_bmap::BlockMap;
 use std::alloc::{AllocError, Global};
 use std::io;
@@ -17,15 +17,33 @@ const WANTED: u32 = 8;
 /// The blocks of an allocation group.
 const GROUP: u32 = 65536;
 
-/// A bit for each block, of which about 95 of 100 are taken at random places, or none.
-fn pattern(alloc: Global, blocks: u32, full: bool) -> Result<Vec<u8>, AllocError>
+/// What the blocks of a volume are in use for: none is, or about 95 of 100 at random places are.
+#[derive(Clone, Copy, PartialEq, Eq)]
+enum Use {
+    None,
+    Owned,
+    Busy,
+}
+
+impl Use {
+    fn name(self) -> &'static str {
+        match self {
+            Use::None => "empty",
+            Use::Owned => "nearly full",
+            Use::Busy => "nearly full of busy blocks",
+        }
+    }
+}
+
+/// A bit for each block, set for those in use.
+fn pattern(alloc: Global, blocks: u32, taken: Use) -> Result<Vec<u8>, AllocError>
     requires most { blocks ≤ 2 ^ 23 }
     requires words { blocks % 32 ≡ 0 }
     ensures { IfOk result (λ set. length set.items ≡ blocks / 8) }
 {
     let mut set = vec![in alloc; 0u8; (blocks / 8) as usize]?;
     let mut seed = 1u64;
-    if full {
+    if taken != Use::None {
         for b in 0..blocks {
             seed = seed
                 .wrapping_mul(6364136223846793005)
@@ -36,6 +54,18 @@ fn pattern(alloc: Global, blocks: u32, full: bool) -> Result<Vec<u8>, AllocError
         }
     }
     Ok(set)
+}
+
+/// Releases all owned blocks for an entry; they are busy then.
+fn release_all(map: &mut BlockMap, alloc: Global, blocks: u32) -> Result<(), AllocError> {
+    let mut list = PxdList::new(alloc);
+    list.push(Pxd {
+        len: blocks,
+        addr: 0,
+    })?;
+    map.make_room(1)?;
+    map.release(&list, 1);
+    Ok(())
 }
 
 /// Reserves blocks so many times, wanted at places all over the volume, and gives them back.
@@ -58,24 +88,29 @@ fn reserve_often(map: &mut BlockMap, alloc: Global, blocks: u32) -> u32
 }
 
 /// Prints how long the reservations took on a volume of so many blocks.
-fn time_volume(rt: &HostRuntime, blocks: u32, full: bool) -> io::Result<()>
+fn time_volume(rt: &HostRuntime, blocks: u32, taken: Use) -> io::Result<()>
     requires some { 0 < blocks }
     requires most { blocks ≤ 2 ^ 23 }
     requires words { blocks % 32 ≡ 0 }
 {
-    let set = pattern(rt.alloc(), blocks, full)?;
+    let set = pattern(rt.alloc(), blocks, taken)?;
     let mut map = BlockMap::from_set(rt.alloc(), set.as_slice(), blocks, GROUP)?;
+    if taken == Use::Busy {
+        release_all(&mut map, rt.alloc(), blocks)?;
+    }
     let start = Instant::now(rt)?;
     let reserved = reserve_often(&mut map, rt.alloc(), blocks);
     let micros = start.elapsed(rt)?.as_micros();
-    println!(rt; "{blocks} blocks, full: {full}: {reserved} reservations in {micros} us")
+    let name = taken.name();
+    println!(rt; "{blocks} blocks, {name}: {reserved} reservations in {micros} us")
 }
 
 /// Prints a line for each size of volume and each pattern.
 pub fn time_map(rt: &HostRuntime) -> io::Result<()> {
     for blocks in [4096, 262144, 8388608] {
-        time_volume(rt, blocks, false)?;
-        time_volume(rt, blocks, true)?;
+        for taken in [Use::None, Use::Owned, Use::Busy] {
+            time_volume(rt, blocks, taken)?;
+        }
     }
     Ok(())
 }

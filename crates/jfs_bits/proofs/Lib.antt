@@ -5,3 +5,4 @@ pub mod Runs
 pub mod Buds
 pub mod Descriptors
 pub mod Pieces
+pub mod Counts

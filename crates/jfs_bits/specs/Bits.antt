@@ -13,6 +13,11 @@ unfoldable pub any_below : ℕ → (ℕ → Bool) → Bool
 any_below zero test = false
 any_below (suc n) test = any_below n test || test n
 
+-- how many numbers below `n` pass the test
+unfoldable pub count_below : ℕ → (ℕ → Bool) → ℕ
+count_below zero test = 0
+count_below (suc n) test = count_below n test + (if test n then 1 else 0)
+
 -- block `i` of the 32 of a word is taken
 unfoldable pub is_taken_in : ℕ → ℕ → Bool
 is_taken_in word i = bit_at word (31 - i) == 1
@@ -28,6 +33,10 @@ is_in_run first n i = nat_le first i && nat_lt i (first + n)
 -- none of the `n` blocks from `first` on is taken
 unfoldable pub is_free : (ℕ → Bool) → ℕ → ℕ → Bool
 is_free taken first n = all_below n (λ i. not (taken (first + i)))
+
+-- each of them is taken
+unfoldable pub is_full : (ℕ → Bool) → ℕ → ℕ → Bool
+is_full taken first n = all_below n (λ i. taken (first + i))
 
 -- the aligned run `j` of 2 ^ l2 blocks is free
 abbrev pub is_free_run : (ℕ → Bool) → ℕ → ℕ → Bool

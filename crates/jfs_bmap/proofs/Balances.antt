@@ -1,7 +1,7 @@
 -- Counts of blocks that move from one set to another.
 use Rattle.std.proofs.Common.{◌≡◌, ◌<◌, ◌≤◌, ◌+◌, ℕ, zero, suc, Bool, true, false, not, ◌&&◌, ◌||◌, refl, arith}
 use Rattle.std.specs.Prelude.{if◌then◌else◌}
-use Rattle.jfs_dmap.specs.Dmap.{count_below}
+use Rattle.jfs_bits.specs.Bits.{count_below}
 
 -- blocks that leave one set for another
 pub count_balance : (n : ℕ) (f g h k : ℕ → Bool) → ((b : ℕ) → b < n → (if f b then 1 else 0) + (if g b then 1 else 0) ≡ (if h b then 1 else 0) + (if k b then 1 else 0)) → count_below n f + count_below n g ≡ count_below n h + count_below n k

@@ -2,9 +2,8 @@
 use Rattle.std.proofs.Common.{◌≡◌, ◌<◌, ◌≤◌, ◌+◌, ◌-◌, ℕ, Bool, true, false, not, ◌&&◌, ◌||◌, List, length, refl, sym, ◌∙◌, arith}
 use Rattle.std.specs.Prelude.{if◌then◌else◌}
 use Rattle.std.proofs.lemmas.Bool.Decides.{nat_tests}
-use Rattle.jfs_bits.specs.Bits.{is_in_run}
-use Rattle.jfs_dmap.specs.Dmap.{is_full}
-use Rattle.jfs_dmap.proofs.Counts.{is_full-at}
+use Rattle.jfs_bits.specs.Bits.{is_in_run, is_full}
+use Rattle.jfs_bits.proofs.Counts.{is_full-at}
 use Rattle.jfs_bmap.specs.Set.{taken_at, cleared}
 use Rattle.jfs_bmap.proofs.Views.{same_sets, length-cleared, taken_at-cleared}
 use Rattle.jfs_bmap.proofs.Grows.{is_full-from}

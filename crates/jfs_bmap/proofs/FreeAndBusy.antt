@@ -1,7 +1,7 @@
 -- No block is both free and busy.
 use Rattle.std.proofs.Common.{◌≤◌, ◌+◌, ℕ, zero, suc, arith}
 use Rattle.std.specs.Prelude.{if◌then◌else◌}
-use Rattle.jfs_dmap.specs.Dmap.{count_below}
+use Rattle.jfs_bits.specs.Bits.{count_below}
 use Rattle.jfs_bmap.specs.States.{BlockState, Free, Owned, Reserved, Busy, is_free_state, is_busy_state}
 
 one-block : (s : BlockState) → (if is_free_state s then 1 else 0) + (if is_busy_state s then 1 else 0) ≤ 1

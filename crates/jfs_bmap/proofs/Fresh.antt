@@ -5,14 +5,12 @@ use Rattle.std.proofs.lemmas.Bool.{cases_lt}
 use Rattle.std.proofs.lemmas.List.{drop-append-le, take-append-le, length-drop, length-append, length-set, length-replicate, get_or-replicate, get_or_past, get_or-set_same, get_or-set_other, get_or_append_left, get_or_push}
 use Rattle.jfs_disk.specs.declared.page.Page.{Page}
 use Rattle.jfs_bits.specs.Field.{field_of, range_of}
-use Rattle.jfs_bits.specs.Bits.{is_taken, is_taken_in}
+use Rattle.jfs_bits.specs.Bits.{is_taken, is_taken_in, count_below, greatest_run}
 use Rattle.jfs_bits.proofs.Fields.{range_between}
 use Rattle.jfs_buddy.specs.Tree.{rank_of}
 use Rattle.jfs_buddy.proofs.Parts.{length-range_of, field-from_range, field-in_part}
-use Rattle.jfs_dmap.specs.Dmap.{count_below, taken_in}
-use Rattle.jfs_bits.specs.Bits.{greatest_run}
-use Rattle.jfs_dmap.proofs.Counts.{count_below-none, count_below-same}
-use Rattle.jfs_bmap.proofs.Counts.{count_below-parts, count_below-front}
+use Rattle.jfs_dmap.specs.Dmap.{taken_in}
+use Rattle.jfs_bits.proofs.Counts.{count_below-none, count_below-same, count_below-parts, count_below-front}
 use Rattle.jfs_dmapctl.specs.Control.{value_at, ranks_of, IsValue, IsControl}
 use Rattle.jfs_bmap.specs.Set.{each_below, taken_at}
 use Rattle.jfs_bmap.specs.Pages.{page_at, dmaps_of, taken_on, set_of, leaf_ranks, IsDmapOf, AreMapPages}

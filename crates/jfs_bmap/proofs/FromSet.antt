@@ -6,13 +6,13 @@ use Rattle.std.proofs.lemmas.List.{length-replicate, get_or-replicate, get_or_pa
 use Rattle.std.proofs.lemmas.Nat.Bits.{bit_at-zero}
 use Rattle.jfs_bits.specs.Bits.{is_taken, is_taken_in}
 use Rattle.jfs_bits.specs.Field.{field_of}
-use Rattle.jfs_dmap.proofs.Counts.{count_below-same}
+use Rattle.jfs_bits.proofs.Counts.{count_below-nothing}
 use Rattle.jfs_bmap.specs.Set.{each_below, taken_at}
 use Rattle.jfs_bmap.specs.States.{Free, Owned, fresh}
-use Rattle.jfs_bmap.specs.Freed.{entry_at, AreKept}
+use Rattle.jfs_bmap.specs.Freed.{entry_at}
+use Rattle.jfs_bmap.specs.Kept.{AreKept}
 use Rattle.jfs_bmap.proofs.Views.{length-each_below, taken_at-each_below, each_below-at}
 use Rattle.jfs_bmap.proofs.States.{state_by, state_in-by, view_of, view-length, state-at, same_blocks}
-use Rattle.jfs_bmap.proofs.Reservations.{count-nothing}
 
 -- no bit of zeros is set
 zero-at : (n i : ℕ) → slice_index (replicate n 0) i ≡ 0
@@ -42,7 +42,7 @@ kept-fresh set n entries most words bits table =
       no_owner = λ b h. absurd (zeros-clear n b h);
       in_use = λ b h. absurd (zeros-clear n b h);
       covered = λ b h. absurd (zeros-clear n b h);
-      count = sym (count_below-same (length set) (λ b. is_taken (replicate n 0) b) (λ b. false) (λ b h. zeros-bit n b) ∙ count-nothing (length set));
+      count = sym (count_below-nothing (length set) (λ b. is_taken (replicate n 0) b) (λ b h. zeros-bit n b));
       within = λ i h. absurd (omega arith);
     }
 

@@ -5,14 +5,14 @@ use Rattle.std.proofs.lemmas.Bool.{cases_eq, cases_lt}
 use Rattle.std.proofs.lemmas.Nat.{pow_pos, pow-add, mul-le, div_below}
 use Rattle.std.proofs.lemmas.List.{get_or-set_same, get_or-set_other, get_or-replicate}
 use Rattle.jfs_disk.specs.declared.page.Page.{Page}
-use Rattle.jfs_dmap.specs.Dmap.{count_below, taken_in}
-use Rattle.jfs_dmap.proofs.Counts.{count_below-same, count_below-none}
+use Rattle.jfs_bits.specs.Bits.{count_below}
+use Rattle.jfs_dmap.specs.Dmap.{taken_in}
+use Rattle.jfs_bits.proofs.Counts.{count_below-same, count_below-none, count_below-parts, count_below-front}
 use Rattle.jfs_bmap.specs.Set.{taken_at}
 use Rattle.jfs_bmap.specs.Pages.{page_at, dmaps_of, set_of, AreDmaps}
 use Rattle.jfs_bmap.specs.MapFile.{AreGroups}
 use Rattle.jfs_bmap.proofs.GroupNumbers.{l2-least}
 use Rattle.jfs_bmap.proofs.OnePage.{taken_on-dmap}
-use Rattle.jfs_bmap.proofs.Counts.{count_below-parts, count_below-front}
 use Rattle.jfs_bmap.proofs.Views.{length-set_of, taken_at-set_of}
 
 -- how many of the `size` blocks of group `g` lie in the first `k` dmaps

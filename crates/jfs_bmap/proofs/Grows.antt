@@ -1,10 +1,9 @@
 -- Free and full runs that grow by a block.
 use Rattle.std.proofs.Common.{◌≡◌, ◌<◌, ◌+◌, ℕ, Bool, true, false, not, refl, add-one}
 use Rattle.std.proofs.lemmas.Bool.{false_from_ne_true, both_ways}
-use Rattle.jfs_bits.specs.Bits.{all_below, is_free}
+use Rattle.jfs_bits.specs.Bits.{all_below, is_free, is_full}
 use Rattle.jfs_bits.proofs.Runs.{all_below-from}
-use Rattle.jfs_dmap.specs.Dmap.{is_full}
-use Rattle.jfs_dmap.proofs.Counts.{is_full-at}
+use Rattle.jfs_bits.proofs.Counts.{is_full-at}
 
 -- one more number passes
 all_below-more : (n : ℕ) (test : ℕ → Bool) → all_below n test ≡ true → test n ≡ true → all_below (n + 1) test ≡ true

@@ -4,13 +4,13 @@ use Rattle.std.specs.Prelude.{nat_le, nat_lt, if◌then◌else◌}
 use Rattle.std.proofs.lemmas.List.Elements.{All-filter}
 use Rattle.std.proofs.lemmas.List.{get_or_default}
 use Rattle.std.proofs.lemmas.Bool.{cases_lt, cases_Bool, and_parts, leb-false, lt-leb, false_from_ne_true, true≢false, not-true}
-use Rattle.jfs_bits.specs.Bits.{is_in_run, is_taken}
+use Rattle.jfs_bits.specs.Bits.{is_in_run, is_taken, count_below}
 use Rattle.jfs_bits.specs.declared.descriptor.Pxd.{Pxd}
-use Rattle.jfs_dmap.specs.Dmap.{count_below}
 use Rattle.jfs_bmap.specs.declared.freed.Freed.{Freed}
 use Rattle.jfs_bmap.specs.Set.{taken_at, cleared, free_in}
 use Rattle.jfs_bmap.specs.States.{released, released_state, settled, settled_state}
-use Rattle.jfs_bmap.specs.Freed.{covers, entry_at, state_in, AreKept}
+use Rattle.jfs_bmap.specs.Freed.{covers, entry_at}
+use Rattle.jfs_bmap.specs.Kept.{state_in, AreKept}
 use Rattle.jfs_bmap.proofs.Views.{length-cleared, taken_at-cleared}
 use Rattle.jfs_bmap.proofs.States.{in_list-one, state_by, state_in-by, same_blocks, view_of, view-length, view-changed, state-at}
 use Rattle.jfs_bmap.proofs.Entries.{covered-more, covered-last, run-before, run-last, left_of, covered-left}

@@ -1,6 +1,5 @@
 pub mod Agreed
 pub mod Balances
-pub mod Counts
 pub mod Disowned
 pub mod Entries
 pub mod FilePages

@@ -5,20 +5,18 @@ use Rattle.std.proofs.lemmas.Bool.{cases_eq, cases_lt, cond-true, cond-false, eq
 use Rattle.std.proofs.lemmas.Bool.Decides.{nat_tests}
 use Rattle.std.proofs.lemmas.List.{get_or-set_same, get_or-set_other, length-set}
 use Rattle.jfs_disk.specs.declared.page.Page.{Page}
-use Rattle.jfs_bits.specs.Bits.{is_free, is_in_run}
+use Rattle.jfs_bits.specs.Bits.{is_free, is_in_run, count_below, is_full, greatest_run}
 use Rattle.jfs_buddy.specs.Tree.{rank_of}
 use Rattle.jfs_buddy.specs.Buddy.{with_own}
-use Rattle.jfs_dmap.specs.Dmap.{blocks_of, first_block_of, taken_in, count_below, is_full, IsDmap}
-use Rattle.jfs_bits.specs.Bits.{greatest_run}
+use Rattle.jfs_dmap.specs.Dmap.{blocks_of, first_block_of, taken_in, IsDmap}
 use Rattle.jfs_bits.proofs.Runs.{all_below-same, is_free-same}
-use Rattle.jfs_dmap.proofs.Counts.{before_run, behind_run, count_below-same, count-marked, count-cleared}
+use Rattle.jfs_bits.proofs.Counts.{before_run, behind_run, count_below-same, count-marked, count-cleared}
 use Rattle.jfs_dmapctl.specs.Control.{IsValue, IsControl}
-use Rattle.jfs_dmapctl.proofs.Values.{value-read}
+use Rattle.jfs_dmapctl.proofs.Values.{value-read, rank-most}
 use Rattle.jfs_bmap.specs.Set.{taken_at, marked, cleared}
 use Rattle.jfs_bmap.specs.Pages.{page_at, taken_on, set_of, leaf_ranks, IsDmapOf, AreDmaps, AreMapPages}
 use Rattle.jfs_bmap.proofs.Views.{length-held, taken_at-held, page_at-is, each_below-same, taken_on-within, taken_on-past, control-same}
 use Rattle.jfs_buddy.proofs.Greatest.{greatest_run-same}
-use Rattle.jfs_dmapctl.proofs.Values.{rank-most}
 use Rattle.jfs_bmap.proofs.GreatestRuns.{greatest_run-value}
 
 -- a dmap has its blocks, and those past the volume's end are taken on it

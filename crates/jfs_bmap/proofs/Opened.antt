@@ -1,13 +1,12 @@
 -- What the fields of an opened map say about its value, and what a run that changes its state does to them.
 use Rattle.std.proofs.Common.{◌≡◌, ◌<◌, ◌≤◌, ◌+◌, ◌^◌, ℕ, Bool, true, not, [], ◌∷◌, length, sym, ap, ◌∙◌, subst, arith}
-use Rattle.jfs_bits.specs.Bits.{is_in_run, is_free}
-use Rattle.jfs_dmap.specs.Dmap.{is_full}
-use Rattle.jfs_dmap.proofs.Counts.{count_below-most}
+use Rattle.jfs_bits.specs.Bits.{is_in_run, is_free, is_full}
+use Rattle.jfs_bits.proofs.Counts.{count_below-most}
 use Rattle.jfs_bmap.specs.declared.block_map.BlockMap.TheInside.{Inside}
 use Rattle.std.specs.Prelude.{Option, Some, None}
 use Rattle.jfs_bmap.specs.Set.{taken_at, marked, cleared, free_in, IsLowest, IsFreeFront}
 use Rattle.jfs_bmap.specs.States.{Free, Owned, Reserved, Blocks, state_of, is_used, is_owned, free_count, busy_count, put_state}
-use Rattle.jfs_bmap.specs.Freed.{state_in, AreKept}
+use Rattle.jfs_bmap.specs.Kept.{state_in, AreKept}
 use Rattle.jfs_bmap.proofs.States.{view_of, view-length, state-at, used-view, owned-view, free_count-view, busy_count-view, kept-reserved, view-reserved, reserved-within, reserved-full, reserved-unowned, kept-given_back, view-given_back, kept-owned, view-owned}
 use Rattle.jfs_bmap.proofs.Reservations.{lowest-free, none-free}
 

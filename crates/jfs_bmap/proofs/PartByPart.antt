@@ -3,10 +3,9 @@ use Rattle.std.proofs.Common.{◌≡◌, ◌<◌, ◌≤◌, ◌+◌, ◌-◌, �
 use Rattle.std.specs.Prelude.{min, max}
 use Rattle.std.specs.Int.{div_ceil}
 use Rattle.std.proofs.lemmas.Bool.Decides.{nat_tests}
-use Rattle.jfs_bits.specs.Bits.{is_free, is_in_run}
+use Rattle.jfs_bits.specs.Bits.{is_free, is_in_run, is_full}
 use Rattle.jfs_bits.proofs.Runs.{is_free-at, is_free-from}
-use Rattle.jfs_dmap.specs.Dmap.{is_full}
-use Rattle.jfs_dmap.proofs.Counts.{behind_run, is_full-at}
+use Rattle.jfs_bits.proofs.Counts.{behind_run, is_full-at}
 use Rattle.jfs_bmap.specs.Set.{taken_at, marked, cleared}
 use Rattle.jfs_bmap.proofs.Views.{same_sets, length-marked, length-cleared, taken_at-marked, taken_at-cleared, taken_at-each_below}
 use Rattle.jfs_bmap.proofs.Grows.{is_full-from}

@@ -31,12 +31,6 @@ in_list-none b = refl
 pub state-past : (m : Blocks) (b : ℕ) → length m.states ≤ b → state_of m b ≡ Owned
 state-past m b h = get_or_past m.states b Owned h
 
-pub reserved-there : (m : Blocks) (b : ℕ) → state_of m b ≡ Reserved → b < length m.states
-reserved-there m b h = elim (cases_lt b (length m.states)) [ inl k ↦ k | inr k ↦ absurd (apart (sym (state-past m b k) ∙ h)) ]
-  where
-    apart : Owned ≡ Reserved → ⊥
-    apart e = cc
-
 pub free-there : (m : Blocks) (b : ℕ) → state_of m b ≡ Free → b < length m.states
 free-there m b h = elim (cases_lt b (length m.states)) [ inl k ↦ k | inr k ↦ absurd (apart (sym (state-past m b k) ∙ h)) ]
   where

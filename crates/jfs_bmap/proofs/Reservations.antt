@@ -1,16 +1,15 @@
 -- Which runs a reservation takes, and what they make of a map.
-use Rattle.std.proofs.Common.{◌≡◌, ◌<◌, ◌≤◌, ◌+◌, ◌-◌, ◌*◌, ◌/◌, ◌^◌, ℕ, zero, suc, Bool, true, false, not, ◌||◌, inl, inr, List, [], ◌∷◌, ◌++◌, length, refl, sym, ap, subst, ◌∙◌, append_assoc, arith}
+use Rattle.std.proofs.Common.{◌≡◌, ◌<◌, ◌≤◌, ◌+◌, ◌-◌, ◌*◌, ◌/◌, ◌^◌, ℕ, suc, Bool, true, false, not, ◌||◌, inl, inr, List, [], ◌∷◌, ◌++◌, length, refl, sym, ap, subst, ◌∙◌, append_assoc, arith}
 use Rattle.std.specs.Prelude.{if◌then◌else◌, max, Some, None}
 use Rattle.std.proofs.lemmas.Bool.{cases_lt, cases_eq, both_ways, or_cases, or_from, or_parts, eq-eqb, ne_eqb, false_from_ne_true, true_from_ne_false}
 use Rattle.std.proofs.lemmas.Nat.{pow_pos}
 use Rattle.std.proofs.Math.Pow.{pow_mono}
 use Rattle.std.proofs.Math.Nat.{pow-suc}
 use Rattle.std.proofs.lemmas.List.{append-nil}
-use Rattle.jfs_bits.specs.Bits.{is_in_run, is_free, is_free_run}
+use Rattle.jfs_bits.specs.Bits.{is_in_run, is_free, is_free_run, count_below}
 use Rattle.jfs_bits.specs.declared.descriptor.Pxd.{Pxd}
 use Rattle.jfs_bits.proofs.Runs.{is_free-at, is_free-from}
-use Rattle.jfs_dmap.specs.Dmap.{count_below}
-use Rattle.jfs_dmap.proofs.Counts.{count_below-same, count-marked}
+use Rattle.jfs_bits.proofs.Counts.{count_below-same, count_below-nothing, count-marked}
 use Rattle.jfs_bmap.specs.Set.{IsLowest, IsFreeFront}
 use Rattle.jfs_bmap.specs.States.{BlockState, Free, Owned, Reserved, Busy, is_free_state, Blocks, state_of, is_used, free_count, is_in_list, total_of, AreApart, put_state}
 use Rattle.jfs_bmap.specs.Choice.{IsNextRun, with_run, AreNextRuns, with_front, IsReservation}
@@ -52,14 +51,9 @@ lowest-free taken l2 first n most h = is_free-from taken first n (λ i k. rw h.1
 pub next-free : (taken : ℕ → Bool) (left : ℕ) (run : Pxd) → IsNextRun taken left run → is_free taken run.addr run.len ≡ true
 next-free taken left run next = lowest-free taken next.l2 run.addr run.len (omega (arith, next.len)) next.lowest
 
-pub count-nothing : (m : ℕ) → count_below m (λ b. false) ≡ 0
-unfolding count_below
-count-nothing zero = refl
-count-nothing (suc m) = rw (count-nothing m) refl
-
 -- where no block is free alone, none is counted
 pub none-free : (taken : ℕ → Bool) (n : ℕ) → IsLowest taken 0 None → count_below n (λ b. not (taken b)) ≡ 0
-none-free taken n none = count_below-same n (λ b. not (taken b)) (λ b. false) (λ b h. ap not (all_taken b)) ∙ count-nothing n
+none-free taken n none = count_below-nothing n (λ b. not (taken b)) (λ b h. ap not (all_taken b))
   where
     all_taken : (b : ℕ) → taken b ≡ true
     all_taken b = true_from_ne_false (taken b) (λ free. both_ways (is_free_run taken 0 b) (none b) (is_free-from taken (b * 2 ^ 0) (2 ^ 0) (λ i k. (let e : b * 2 ^ 0 + i ≡ b = omega arith in rw e free))))

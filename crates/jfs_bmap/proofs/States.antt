@@ -3,15 +3,15 @@ use Rattle.std.proofs.Common.{◌≡◌, ◌<◌, ◌≤◌, ◌+◌, ◌-◌, �
 use Rattle.std.specs.Prelude.{if◌then◌else◌, nat_le, nat_lt}
 use Rattle.std.proofs.lemmas.Bool.{cases_lt, or_cases, or_from, both_ways, and_parts, or_right, leb-true, ltb-true, false_from_ne_true}
 use Rattle.std.proofs.lemmas.List.{ext_get_or, get_or_past}
-use Rattle.jfs_bits.specs.Bits.{is_in_run, is_taken, is_free}
+use Rattle.jfs_bits.specs.Bits.{is_in_run, is_taken, is_free, count_below, is_full}
 use Rattle.jfs_bits.specs.declared.descriptor.Pxd.{Pxd}
 use Rattle.jfs_bits.proofs.Runs.{is_free-at, is_free-from, all_below-from}
-use Rattle.jfs_dmap.specs.Dmap.{count_below, is_full}
-use Rattle.jfs_dmap.proofs.Counts.{in_run, count_below-same}
+use Rattle.jfs_bits.proofs.Counts.{in_run, count_below-same}
 use Rattle.jfs_bmap.specs.declared.freed.Freed.{Freed}
 use Rattle.jfs_bmap.specs.Set.{each_below, taken_at, marked, cleared, free_in}
 use Rattle.jfs_bmap.specs.States.{BlockState, Free, Owned, Reserved, Busy, is_free_state, is_owned_state, is_busy_state, Blocks, state_of, is_used, is_owned, free_count, busy_count, is_in_list, changed, put_state}
-use Rattle.jfs_bmap.specs.Freed.{state_in, entry_at, AreKept}
+use Rattle.jfs_bmap.specs.Freed.{entry_at}
+use Rattle.jfs_bmap.specs.Kept.{state_in, AreKept}
 use Rattle.jfs_bmap.proofs.Views.{length-each_below, each_below-at, taken_at-past, length-marked, taken_at-marked, length-cleared, taken_at-cleared}
 
 -- ---- one block

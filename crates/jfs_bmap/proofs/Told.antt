@@ -1,11 +1,11 @@
 -- Busy blocks that are freed since their entries are acknowledged.
-use Rattle.std.proofs.Common.{◌≡◌, ◌≤◌, ◌+◌, ℕ, add-one, Bool, true, false, not, ◌&&◌, ◌||◌, List, length, refl, ap, ◌∙◌, arith}
+use Rattle.std.proofs.Common.{◌≡◌, ◌≤◌, ◌+◌, ℕ, add-one, Bool, true, false, not, ◌&&◌, ◌||◌, List, length, refl, sym, ap, ◌∙◌, arith}
 use Rattle.std.specs.Prelude.{nat_le}
 use Rattle.std.proofs.lemmas.Bool.{and_from}
 use Rattle.jfs_bits.specs.Bits.{is_in_run, is_taken, any_below}
 use Rattle.jfs_bits.proofs.Buds.{any_below-from}
 use Rattle.jfs_bmap.specs.declared.freed.Freed.{Freed}
-use Rattle.jfs_bmap.specs.Freed.{covers, entry_at, run_at, IsCovered}
+use Rattle.jfs_bmap.specs.Freed.{covers, entry_at, run_at, is_told, IsCovered}
 use Rattle.jfs_bmap.specs.Set.{taken_at, cleared}
 use Rattle.jfs_bmap.proofs.Views.{taken_at-cleared}
 
@@ -15,6 +15,10 @@ pub record IsFreed (used busy told done : ℕ → Bool) (used_now : List Bool) (
   pub of_busy : (b : ℕ) → is_taken busy_now b ≡ (busy b && not (done b && told b))
 
 -- ---- one block: `x` is whether it is added, `d` whether it is in `done`, `u` whether it was used, `y` busy, and `t` whether it is told
+
+and_true : (x : Bool) → (x && true) ≡ x
+and_true true = refl
+and_true false = refl
 
 -- no block
 no_block : (u : Bool) → false ≡ (u && false)
@@ -82,28 +86,16 @@ module _ {used busy told done : ℕ → Bool} {used_now : List Bool} {busy_now :
 
 -- a block that isn't in `done` is as it was
 pub freed-else : {used busy told done : ℕ → Bool} {used_now : List Bool} {busy_now : List ℕ} → (b : ℕ) → IsFreed used busy told done used_now busy_now → done b ≡ false → (taken_at used_now b ≡ used b) × (is_taken busy_now b ≡ busy b)
-freed-else {used} {busy} b freed h = (freed.of_used b ∙ rw h (kept (used b)), freed.of_busy b ∙ rw h (kept (busy b)))
-  where
-    kept : (x : Bool) → (x && true) ≡ x
-    kept true = refl
-    kept false = refl
+freed-else {used} {busy} b freed h = (freed.of_used b ∙ rw h (and_true (used b)), freed.of_busy b ∙ rw h (and_true (busy b)))
 
 -- no block is freed yet
 pub freed-start : (told done : ℕ → Bool) (used_now : List Bool) (busy_now : List ℕ) → ((b : ℕ) → done b ≡ false) → IsFreed (taken_at used_now) (is_taken busy_now) told done used_now busy_now
 freed-start told done used_now busy_now h = record {
-  of_used = λ b. rw (h b) (kept (taken_at used_now b));
-  of_busy = λ b. rw (h b) (kept (is_taken busy_now b));
+  of_used = λ b. rw (h b) (sym (and_true (taken_at used_now b)));
+  of_busy = λ b. rw (h b) (sym (and_true (is_taken busy_now b)));
 }
-  where
-    kept : (x : Bool) → x ≡ (x && true)
-    kept true = refl
-    kept false = refl
 
 -- ---- the blocks of runs
-
--- the entry that a block is busy for is told
-abbrev pub is_told : List ℕ → ℕ → ℕ → Bool
-is_told entries told b = nat_le (entry_at entries b) told
 
 -- one of the first `i` runs has the block, and its entry is told
 abbrev pub told_before : List Freed → ℕ → ℕ → ℕ → Bool
@@ -146,22 +138,4 @@ freed-all {used} {busy} freed entries told i all covered f b =
 
 -- a run whose entry is told
 pub covers-told : (run : Freed) (told b : ℕ) → nat_le run.entry told ≡ true → (covers run b && nat_le run.entry told) ≡ covers run b
-covers-told run told b h = rw h (kept (covers run b))
-  where
-    kept : (x : Bool) → (x && true) ≡ x
-    kept true = refl
-    kept false = refl
-
--- ---- the blocks of one run, all of which are busy and told
-
-pub used-whole : (x u y t : Bool) → (x ≡ true → (y && t) ≡ true) → (not x && u) ≡ (u && not (x && (y && t)))
-used-whole true u y t h = rw (h refl) (no_block u)
-used-whole false true y t h = refl
-used-whole false false y t h = refl
-
-pub busy-whole : (x y t : Bool) → (x ≡ true → (y && t) ≡ true) → (not x && y) ≡ (y && not (x && t))
-busy-whole true true true h = refl
-busy-whole true true false h = absurd (cc (h refl))
-busy-whole true false t h = refl
-busy-whole false true t h = refl
-busy-whole false false t h = refl
+covers-told run told b h = rw h (and_true (covers run b))

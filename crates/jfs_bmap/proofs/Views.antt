@@ -4,10 +4,10 @@ use Rattle.std.proofs.lemmas.Bool.{cases_lt, lt-ltb, le-ltb}
 use Rattle.std.proofs.lemmas.List.{ext_get_or, get_or_default, get_or_past}
 use Rattle.std.proofs.lemmas.List.FromFn.{get_or-map-range_with_len, length-map-range_with_len}
 use Rattle.jfs_disk.specs.declared.page.Page.{Page}
-use Rattle.jfs_bits.specs.Bits.{is_in_run}
+use Rattle.jfs_bits.specs.Bits.{is_in_run, count_below}
 use Rattle.jfs_buddy.proofs.Finds.{tree-same}
-use Rattle.jfs_dmap.specs.Dmap.{count_below, taken_in}
-use Rattle.jfs_dmap.proofs.Counts.{count_below-same, behind_run}
+use Rattle.jfs_dmap.specs.Dmap.{taken_in}
+use Rattle.jfs_bits.proofs.Counts.{count_below-same, behind_run}
 use Rattle.jfs_dmapctl.specs.Control.{whole_of, tree_of, IsControl}
 use Rattle.jfs_bmap.specs.Set.{each_below, taken_at, marked, cleared, free_in}
 use Rattle.jfs_bmap.specs.Pages.{page_at, taken_on, set_of}

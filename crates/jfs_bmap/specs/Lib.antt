@@ -4,5 +4,6 @@ pub mod MapFile
 pub mod States
 pub mod Choice
 pub mod Freed
+pub mod Kept
 pub mod Refusal
 pub mod Laws

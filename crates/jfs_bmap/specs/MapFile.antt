@@ -3,8 +3,8 @@
 use Rattle.std.specs.Prelude.{◌≡◌, ℕ, zero, suc, ◌+◌, ◌-◌, ◌*◌, ◌/◌, ◌%◌, ◌^◌, ◌<◌, ◌≤◌, nat_le, Bool, not, if◌then◌else◌, List, length, replicate, slice_index}
 use Rattle.std.specs.Int.{IsPowerOfTwo}
 use Rattle.jfs_bits.specs.Field.{range_of}
-use Rattle.jfs_dmap.specs.Dmap.{count_below, taken_in}
-use Rattle.jfs_bits.specs.Bits.{greatest_run}
+use Rattle.jfs_dmap.specs.Dmap.{taken_in}
+use Rattle.jfs_bits.specs.Bits.{greatest_run, count_below}
 use Rattle.jfs_dmapctl.specs.Control.{IsControl}
 use Rattle.jfs_dmapctl.specs.MapControl.{IsMapControl}
 use Rattle.jfs_dmapctl.specs.declared.map_control.MapControl.{MapControl}

@@ -2,8 +2,8 @@
 use Rattle.std.specs.Prelude.{◌≡◌, ℕ, ◌+◌, ◌-◌, ◌*◌, ◌/◌, ◌%◌, ◌^◌, ◌<◌, ◌≤◌, min, nat_lt, Bool, true, not, if◌then◌else◌, List, [], length, slice_index_or}
 use Rattle.jfs_disk.specs.declared.page.Page.{Page}
 use Rattle.jfs_buddy.specs.Tree.{rank_of}
-use Rattle.jfs_dmap.specs.Dmap.{blocks_of, first_block_of, taken_in, count_below, IsDmap}
-use Rattle.jfs_bits.specs.Bits.{greatest_run}
+use Rattle.jfs_dmap.specs.Dmap.{blocks_of, first_block_of, taken_in, IsDmap}
+use Rattle.jfs_bits.specs.Bits.{greatest_run, count_below}
 use Rattle.jfs_dmapctl.specs.Control.{IsControl}
 use Rattle.jfs_bmap.specs.Set.{each_below}
 

@@ -1,8 +1,7 @@
 -- Sets of the blocks of a volume.
 use Rattle.std.specs.Prelude.{◌≡◌, ℕ, ◌+◌, ◌*◌, ◌^◌, ◌≤◌, ◌<◌, ◌⊎◌, Bool, true, false, not, ◌&&◌, ◌||◌, List, length, slice_index_or, map, Option, Some, None}
 use Rattle.std.specs.List.{range_with_len}
-use Rattle.jfs_bits.specs.Bits.{is_in_run, is_free, is_free_run}
-use Rattle.jfs_dmap.specs.Dmap.{count_below}
+use Rattle.jfs_bits.specs.Bits.{is_in_run, is_free, is_free_run, count_below}
 
 -- the value of each number below `n`, in order
 abbrev pub each_below : {X : Type 0} → ℕ → (ℕ → X) → List X

@@ -1,8 +1,7 @@
 -- What each block of a volume is in use for.
 use Rattle.std.specs.Prelude.{◌≡◌, ℕ, ◌+◌, ◌-◌, nat_le, Bool, true, false, not, ◌||◌, if◌then◌else◌, List, [], ◌∷◌, length, slice_index_or}
-use Rattle.jfs_bits.specs.Bits.{is_in_run, is_taken}
+use Rattle.jfs_bits.specs.Bits.{is_in_run, is_taken, count_below}
 use Rattle.jfs_bits.specs.declared.descriptor.Pxd.{Pxd}
-use Rattle.jfs_dmap.specs.Dmap.{count_below}
 use Rattle.jfs_bmap.specs.Set.{each_below}
 
 -- A block is free; or has an owner; or is reserved for an entry that is being made; or is busy, that is freed by an entry that

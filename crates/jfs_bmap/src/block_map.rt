@@ -27,12 +27,11 @@ pub struct BlockMap {
 }
 
 impl Model for BlockMap {
-    ghost use Rattle.std.specs.Prelude.{◌≤◌, ◌+◌, length};
-    ghost use Rattle.std.specs.Prelude.{vec_len, vec_capacity};
+    ghost use Rattle.std.specs.Prelude.{◌≤◌, ◌+◌, length, vec_len, vec_capacity};
     ghost use Rattle.jfs_bmap.specs.Set.{each_below};
     ghost use Rattle.jfs_bmap.specs.MapFile.{AreGroups};
     ghost use Rattle.jfs_bmap.specs.States.{Blocks};
-    ghost use Rattle.jfs_bmap.specs.Freed.{state_in, AreKept};
+    ghost use Rattle.jfs_bmap.specs.Kept.{state_in, AreKept};
 
     ghost Value = { Blocks };
 
@@ -50,7 +49,7 @@ impl Model for BlockMap {
 
 impl BlockMap {
     /// The map of a volume of so many blocks in groups of `agsize`, of which those in `set` have owners: a bit for each block, in
-    /// words as in the maps.
+    /// words as in the maps. `Err` is want of memory.
     pub fn from_set(
         alloc: Global,
         set: &[u8],
@@ -103,7 +102,7 @@ impl BlockMap {
     }
 
     /// Writes page `n` of the map's file in its canonical form, those blocks set that have owners: the map's control page, the
-    /// control pages of levels 2, 1 and 0, then the dmaps; one past the last has no block. (JFS Layout, block map.)
+    /// control pages of levels 2, 1 and 0, then the dmaps; one past the last has no block. Takes no memory. (JFS Layout, block map.)
     pub fn write_page(&self, n: u32, page: &mut Page)
         ensures { IsMapPage (length self.now.states) self.now.agsize (is_owned self.now) n page.new.0 }
     {

@@ -1,10 +1,9 @@
 //! Runs that entries released, and what becomes of their blocks.
 
-ghost use Rattle.std.specs.Prelude.{◌≡◌, ◌<◌, ◌≤◌, ◌+◌, ◌*◌, ◌%◌, ◌^◌, ◌&&◌, ◌||◌, if◌then◌else◌, nat_le, not, true, length, ℕ};
-ghost use Rattle.jfs_bits.specs.Bits.{is_in_run, is_taken};
-ghost use Rattle.jfs_dmap.specs.Dmap.{is_full};
+ghost use Rattle.std.specs.Prelude.{◌≡◌, ◌<◌, ◌≤◌, ◌+◌, ◌*◌, ◌%◌, ◌^◌, ◌&&◌, ◌||◌, if◌then◌else◌, not, true, length, ℕ};
+ghost use Rattle.jfs_bits.specs.Bits.{is_in_run, is_taken, is_full};
 ghost use Rattle.jfs_bmap.specs.Set.{taken_at, cleared};
-ghost use Rattle.jfs_bmap.specs.Freed.{covers, entry_at, run_at, IsCovered};
+ghost use Rattle.jfs_bmap.specs.Freed.{covers, entry_at, is_told, run_at, IsCovered};
 
 use crate::map_pages::MapPages;
 use jfs_bits::{Pxd, bit, clear_run, set_run};
@@ -91,8 +90,8 @@ pub fn free_told(freed: &[Freed], entries: &[u64], told: u64, used: &mut MapPage
     requires covered { (b : ℕ) → is_taken busy.old b ≡ true → IsCovered freed.now (entry_at entries.now b) b }
     requires within { (i : ℕ) → i < length freed.now → (run_at freed.now i).first + (run_at freed.now i).blocks ≤ length used.old }
     ensures blocks { length used.new ≡ length used.old }
-    ensures used { (b : ℕ) → taken_at used.new b ≡ (taken_at used.old b && not (is_taken busy.old b && nat_le (entry_at entries.now b) told)) }
-    ensures busy { (b : ℕ) → is_taken busy.new b ≡ (is_taken busy.old b && not (nat_le (entry_at entries.now b) told)) }
+    ensures used { (b : ℕ) → taken_at used.new b ≡ (taken_at used.old b && not (is_taken busy.old b && is_told entries.now told b)) }
+    ensures busy { (b : ℕ) → is_taken busy.new b ≡ (is_taken busy.old b && not (is_told entries.now told b)) }
 {
     for i in 0..freed.len() {
         let run = freed[i];
@@ -110,18 +109,18 @@ fn free_blocks(entries: &[u64], told: u64, used: &mut MapPages, busy: &mut [u8],
     requires used { (b : ℕ) → is_taken busy.old b ≡ true → taken_at used.old b ≡ true }
     requires within { first + n ≤ length used.old }
     ensures blocks { length used.new ≡ length used.old }
-    ensures used { (b : ℕ) → taken_at used.new b ≡ (taken_at used.old b && not (is_in_run first n b && (is_taken busy.old b && nat_le (entry_at entries.now b) told))) }
-    ensures busy { (b : ℕ) → is_taken busy.new b ≡ (is_taken busy.old b && not (is_in_run first n b && nat_le (entry_at entries.now b) told)) }
+    ensures used { (b : ℕ) → taken_at used.new b ≡ (taken_at used.old b && not (is_in_run first n b && (is_taken busy.old b && is_told entries.now told b))) }
+    ensures busy { (b : ℕ) → is_taken busy.new b ≡ (is_taken busy.old b && not (is_in_run first n b && is_told entries.now told b)) }
 {
     // at most 2^23, so that the number of each block of the run is a u32
     let _ = used.blocks();
-    if are_told(entries, told, busy, first, n) {
+    if are_settled(entries, told, busy, first, n) {
         used.clear(first, n);
         clear_run(busy, first, n);
     } else {
         for i in 0..n {
             let b = first + i;
-            if is_told(entries, told, busy, b) {
+            if is_settled(entries, told, busy, b) {
                 used.clear(b, 1);
                 clear_run(busy, b, 1);
             }
@@ -130,25 +129,25 @@ fn free_blocks(entries: &[u64], told: u64, used: &mut MapPages, busy: &mut [u8],
 }
 
 /// Whether a block is busy for an entry that is acknowledged.
-fn is_told(entries: &[u64], told: u64, busy: &[u8], b: u32) -> bool
+fn is_settled(entries: &[u64], told: u64, busy: &[u8], b: u32) -> bool
     requires place { b < length entries.now }
     requires words { length busy.now % 4 ≡ 0 }
     requires bits { length entries.now ≤ 8 * length busy.now }
-    ensures { result ≡ (is_taken busy.now b && nat_le (entry_at entries.now b) told) }
+    ensures { result ≡ (is_taken busy.now b && is_told entries.now told b) }
 {
     bit(busy, b) && entries[b as usize] <= told
 }
 
-/// Whether each block of a run is.
-fn are_told(entries: &[u64], told: u64, busy: &[u8], first: u32, n: u32) -> bool
+/// Whether each block of a run is busy for such an entry.
+fn are_settled(entries: &[u64], told: u64, busy: &[u8], first: u32, n: u32) -> bool
     requires within { first + n ≤ length entries.now }
     requires most { length entries.now ≤ 2 ^ 23 }
     requires words { length busy.now % 4 ≡ 0 }
     requires bits { length entries.now ≤ 8 * length busy.now }
-    ensures { result ≡ is_full (λ b. is_taken busy.now b && nat_le (entry_at entries.now b) told) first n }
+    ensures { result ≡ is_full (λ b. is_taken busy.now b && is_told entries.now told b) first n }
 {
     for i in 0..n {
-        if !is_told(entries, told, busy, first + i) {
+        if !is_settled(entries, told, busy, first + i) {
             return false;
         }
     }

@@ -9,7 +9,7 @@ use jfs_bits::{Pxd, PxdList};
 use std::alloc::AllocError;
 
 impl BlockMap {
-    /// Makes the number of runs that can be released without memory at least `n`; at `Err` it stays.
+    /// Makes the number of runs that can be released without memory at least `n`. `Err` is want of memory; the number stays then.
     pub fn make_room(&mut self, n: u32) -> Result<(), AllocError>
         ensures ok { OnOk result (self.new ≡ record self.old { spare = max self.old.spare n }) }
         ensures err { OnErr result (self.new ≡ self.old) }
@@ -34,7 +34,7 @@ impl BlockMap {
         }
     }
 
-    /// The same of one run.
+    /// Takes the owners of the blocks of one run in the same way.
     fn release_run(&mut self, run: &Pxd, entry: u64)
         requires { 0 < self.old.spare }
         ensures { self.new ≡ released (run.now ∷ []) entry self.old }
@@ -55,7 +55,7 @@ impl BlockMap {
         }
     }
 
-    /// Frees the blocks that entries up to `told` released.
+    /// Frees the blocks that entries up to and with `told` released. Takes no memory.
     pub fn settle(&mut self, told: u64)
         ensures { self.new ≡ settled told self.old }
     {

@@ -30,7 +30,8 @@ pub enum ReserveError {
 
 impl BlockMap {
     /// Reserves `n` free blocks: from `hint` on while they are free; then, for what is left, the lowest free aligned run of the least
-    /// power of two that is at least as many, else of half that, and so on. Refused, and nothing changed, where fewer are free.
+    /// power of two that is at least as many, else of half that, and so on. Refused where fewer are free, or for want of memory; nothing
+    /// is changed then.
     pub fn reserve(&mut self, alloc: Global, hint: u32, n: u32) -> Result<PxdList, ReserveError>
         ensures chosen { IfOk result (λ list. IsReservation (is_used self.old) hint n list) }
         ensures total { IfOk result (λ list. total_of list ≡ n) }
@@ -134,7 +135,7 @@ impl BlockMap {
         })
     }
 
-    /// Gives reserved blocks an owner, as an append does.
+    /// Gives the reserved blocks of these runs owners, as an append does. Takes no memory.
     pub fn own(&mut self, list: &PxdList)
         requires { AreReserved self.old list.now }
         ensures { self.new ≡ put_state Owned list.now self.old }
@@ -146,7 +147,7 @@ impl BlockMap {
         }
     }
 
-    /// The same of one run.
+    /// Gives the reserved blocks of one run owners.
     pub fn own_run(&mut self, run: &Pxd)
         requires { IsReservedRun self.old run.now }
         ensures { self.new ≡ put_state Owned (run.now ∷ []) self.old }
@@ -157,7 +158,7 @@ impl BlockMap {
         }
     }
 
-    /// Gives back reserved blocks that no entry took.
+    /// Gives back the reserved blocks of these runs, which no entry took. Takes no memory.
     pub fn give_back(&mut self, list: &PxdList)
         requires { AreReserved self.old list.now }
         ensures { self.new ≡ put_state Free list.now self.old }
@@ -169,7 +170,7 @@ impl BlockMap {
         }
     }
 
-    /// The same of one run.
+    /// Gives back the reserved blocks of one run.
     pub fn give_back_run(&mut self, run: &Pxd)
         requires { IsReservedRun self.old run.now }
         ensures { self.new ≡ put_state Free (run.now ∷ []) self.old }

@@ -11,7 +11,7 @@ use Rattle.jfs_buddy.proofs.Finds.{tree-same}
 use Rattle.jfs_buddy.proofs.Places.{SameAt, field-same, range-same, bytes-within}
 use Rattle.jfs_dmap.specs.Dmap.{blocks_of, first_block_of, map_of, tree_of, taken_in, word_rank, IsDmap}
 use Rattle.jfs_dmap.specs.Laws.{PagesAgree}
-use Rattle.jfs_dmap.proofs.Counts.{count_below-same}
+use Rattle.jfs_bits.proofs.Counts.{count_below-same}
 use Rattle.jfs_dmap.proofs.Same.{word-same, map-same}
 
 -- two pages of the same set

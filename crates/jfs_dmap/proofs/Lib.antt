@@ -1,5 +1,4 @@
 pub mod Buds
-pub mod Counts
 pub mod Pages
 pub mod Finds
 pub mod Heads

@@ -2,13 +2,13 @@
 use Rattle.std.proofs.Common.{◌≡◌, ◌<◌, ◌≤◌, ◌+◌, ◌^◌, ℕ, Bool, true, not, ◌⊎◌, inl, inr, List, length, refl, sym, ap, ◌∙◌, arith}
 use Rattle.byteorder.specs.Endian.{little_bytes}
 use Rattle.jfs_bits.specs.Field.{field_of, put_bytes, range_of}
-use Rattle.jfs_bits.specs.Bits.{is_taken}
+use Rattle.jfs_bits.specs.Bits.{is_taken, count_below}
 use Rattle.jfs_bits.proofs.Ranges.{range_of-put_other}
 use Rattle.jfs_bits.proofs.Words.{field_of-put_same}
 use Rattle.jfs_buddy.specs.Buddy.{IsBuddyTree}
-use Rattle.jfs_dmap.specs.Dmap.{count_below, blocks_of, map_of, tree_of, taken_in, word_rank, IsDmap}
+use Rattle.jfs_dmap.specs.Dmap.{blocks_of, map_of, tree_of, taken_in, word_rank, IsDmap}
 use Rattle.jfs_buddy.proofs.Parts.{range-beside, field-from_range}
-use Rattle.jfs_dmap.proofs.Counts.{count_below-same}
+use Rattle.jfs_bits.proofs.Counts.{count_below-same}
 
 -- both maps, the count and the tree were put, one after the other
 pub record Puts (start first second third end : List ℕ) (free : ℕ) : Type 0 where

@@ -3,18 +3,9 @@ use Rattle.std.specs.Prelude.{◌≡◌, ℕ, zero, suc, ◌+◌, ◌*◌, ◌<�
 use Rattle.byteorder.specs.Endian.{little_bytes}
 use Rattle.jfs_bits.specs.Field.{field_of, range_of}
 use Rattle.jfs_bits.specs.Piece.{Piece}
-use Rattle.jfs_bits.specs.Bits.{all_below, is_taken, max_bud_of}
+use Rattle.jfs_bits.specs.Bits.{count_below, is_taken, max_bud_of}
 use Rattle.jfs_buddy.specs.Tree.{rank_of}
 use Rattle.jfs_buddy.specs.Buddy.{IsBuddyTree}
-
--- how many numbers below `n` pass the test
-unfoldable pub count_below : ℕ → (ℕ → Bool) → ℕ
-count_below zero test = 0
-count_below (suc n) test = count_below n test + (if test n then 1 else 0)
-
--- each of the `n` blocks from `first` on is taken
-unfoldable pub is_full : (ℕ → Bool) → ℕ → ℕ → Bool
-is_full taken first n = all_below n (λ i. taken (first + i))
 
 -- the number of blocks that the page has, and the first of them
 abbrev pub blocks_of : List ℕ → ℕ

@@ -1,8 +1,8 @@
 //! Blocks of a dmap page are taken and given back.
 
 ghost use Rattle.std.specs.Prelude.{◌≡◌, ◌+◌, ◌<◌, ◌≤◌, ◌||◌, ◌&&◌, true, not, ℕ};
-ghost use Rattle.jfs_bits.specs.Bits.{is_free, is_in_run};
-ghost use Rattle.jfs_dmap.specs.Dmap.{blocks_of, first_block_of, taken_in, is_full, IsDmap};
+ghost use Rattle.jfs_bits.specs.Bits.{is_free, is_in_run, is_full};
+ghost use Rattle.jfs_dmap.specs.Dmap.{blocks_of, first_block_of, taken_in, IsDmap};
 
 use crate::words::{clear_in, mark_in, refresh};
 use jfs_bits::{get_u32, put_u32};
@@ -27,7 +27,8 @@ pub fn dmap_mark(page: &mut Page, first: u32, n: u32)
     refresh(bytes, first / 32, (first + n + 31) / 32);
 }
 
-/// Gives back the `n` taken blocks from block `first` of a canonical page on, in the same way.
+/// Gives back the `n` taken blocks from block `first` of a canonical page on. Only the leaves of the run's words and of the runs
+/// that they join, and the nodes above them, are visited.
 pub fn dmap_clear(page: &mut Page, first: u32, n: u32)
     requires canonical { IsDmap page.old.0 }
     requires within { first + n ≤ blocks_of page.old.0 }

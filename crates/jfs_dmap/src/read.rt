@@ -1,8 +1,8 @@
 //! What a canonical dmap page tells of its blocks.
 
 ghost use Rattle.std.specs.Prelude.{◌≡◌, ◌<◌, not};
-ghost use Rattle.jfs_dmap.specs.Dmap.{count_below, taken_in, IsDmap};
-ghost use Rattle.jfs_bits.specs.Bits.{greatest_run};
+ghost use Rattle.jfs_dmap.specs.Dmap.{taken_in, IsDmap};
+ghost use Rattle.jfs_bits.specs.Bits.{greatest_run, count_below};
 
 use jfs_bits::{bit, get_u8, get_u32};
 use jfs_disk::Page;

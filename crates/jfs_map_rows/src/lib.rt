@@ -2,7 +2,8 @@
 #![tactic(auto)]
 
 ghost use Rattle.std.specs.Prelude.{◌≡◌, ◌+◌, ◌<◌, ◌≤◌, ◌^◌, true, ℕ, IfSome};
-ghost use Rattle.jfs_dmap.specs.Dmap.{blocks_of, taken_in, is_full, IsDmap};
+ghost use Rattle.jfs_bits.specs.Bits.{is_full};
+ghost use Rattle.jfs_dmap.specs.Dmap.{blocks_of, taken_in, IsDmap};
 
 use jfs_disk::Page;
 use jfs_dmap::{dmap_clear, dmap_find, dmap_mark};

@@ -1,8 +1,8 @@
 use Rattle.std.proofs.Common.{◌≡◌, ◌+◌, ◌∙◌, ◌&&◌, ℕ, refl}
 use Rattle.std.specs.Prelude.{nat_le}
 use Rattle.std.proofs.lemmas.Bool.{and_right, le-leb, lt-leb}
-use Rattle.jfs_bmap.specs.Freed.{run_at, covers}
-use Rattle.jfs_bmap.proofs.Told.{is_told, told_before, told_before-none, told_before-next, freed-same, freed-again, freed-start, freed-all, covers-told}
+use Rattle.jfs_bmap.specs.Freed.{run_at, covers, is_told}
+use Rattle.jfs_bmap.proofs.Told.{told_before, told_before-none, told_before-next, freed-same, freed-again, freed-start, freed-all, covers-told}
 use Rattle.jfs_bmap.proofs.freed.free_told.Goals.{then-run-told, else-run-told}
 use Rattle.jfs_bmap.proofs.freed.free_told.Goals as goal
 

@@ -1,7 +1,8 @@
 use Rattle.std.proofs.Common.{◌≡◌, length}
 use Rattle.jfs_bits.specs.Bits.{is_taken}
 use Rattle.jfs_bmap.specs.Set.{taken_at}
-use Rattle.jfs_bmap.proofs.Told.{IsFreed, is_told, told_before}
+use Rattle.jfs_bmap.specs.Freed.{is_told}
+use Rattle.jfs_bmap.proofs.Told.{IsFreed, told_before}
 use Rattle.jfs_bmap.proofs.freed.free_told.Given as goal
 
 abbrev pub invariant-loop-i : goal.invariant-loop-i

@@ -3,7 +3,7 @@ use Rattle.jfs_bits.specs.Bits.{is_taken, is_in_run}
 use Rattle.jfs_dmap.specs.Dmap.{map_of, taken_in, word_rank}
 use Rattle.jfs_buddy.proofs.Parts.{field-from_range}
 use Rattle.jfs_dmap.proofs.Buds.{word_rank-same}
-use Rattle.jfs_dmap.proofs.Counts.{beside_run, behind_run, count_below-most, count-cleared}
+use Rattle.jfs_bits.proofs.Counts.{beside_run, behind_run, count_below-most, count-cleared}
 use Rattle.jfs_dmap.proofs.Pages.{Puts, Held, count-before, rest-stays, map-held, canonical-after}
 use Rattle.jfs_dmap.proofs.change.dmap_clear.Goals as goal
 

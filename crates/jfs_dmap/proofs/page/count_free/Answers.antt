@@ -1,6 +1,6 @@
 use Rattle.std.proofs.Common.{◌+◌, ℕ, not, sym, arith}
 use Rattle.jfs_bits.specs.Bits.{is_taken}
-use Rattle.jfs_dmap.proofs.Counts.{count_below-next, count_below-none, count_below-most}
+use Rattle.jfs_bits.proofs.Counts.{count_below-next, count_below-none, count_below-most}
 use Rattle.jfs_dmap.proofs.page.count_free.Goals as goal
 
 pub overflow_add-free : goal.overflow_add-free

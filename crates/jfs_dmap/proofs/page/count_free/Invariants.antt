@@ -1,6 +1,5 @@
 use Rattle.std.proofs.Common.{◌≡◌, not}
-use Rattle.jfs_bits.specs.Bits.{is_taken}
-use Rattle.jfs_dmap.specs.Dmap.{count_below}
+use Rattle.jfs_bits.specs.Bits.{is_taken, count_below}
 use Rattle.jfs_dmap.proofs.page.count_free.Given as goal
 
 abbrev pub invariant-loop-i : goal.invariant-loop-i

@@ -2,10 +2,10 @@ use Rattle.std.proofs.Common.{◌≡◌, ◌≤◌, ◌+◌, ◌-◌, ◌∙◌,
 use Rattle.std.specs.Prelude.{replicate}
 use Rattle.std.proofs.lemmas.Bool.{or_left}
 use Rattle.jfs_bits.specs.Field.{field_of, range_of}
-use Rattle.jfs_bits.specs.Bits.{is_taken, is_in_run}
-use Rattle.jfs_dmap.specs.Dmap.{count_below, map_of, taken_in}
+use Rattle.jfs_bits.specs.Bits.{is_taken, is_in_run, count_below}
+use Rattle.jfs_dmap.specs.Dmap.{map_of, taken_in}
 use Rattle.jfs_buddy.proofs.Parts.{part-is, part-again, range-beside, field-from_range, range_of-replicate}
-use Rattle.jfs_dmap.proofs.Counts.{in_run, before_run}
+use Rattle.jfs_bits.proofs.Counts.{in_run, before_run}
 use Rattle.jfs_dmap.proofs.Heads.{Head, head-put}
 use Rattle.jfs_dmap.proofs.Pages.{Puts, Held, Beside, rest-stays, map-held, count-held}
 use Rattle.jfs_dmap.proofs.page.dmap_canonical.Goals as goal

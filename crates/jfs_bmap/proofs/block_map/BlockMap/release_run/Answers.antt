@@ -3,7 +3,7 @@ use Rattle.std.proofs.lemmas.List.{with_items_is}
 use Rattle.jfs_bits.specs.Bits.{is_taken, is_in_run}
 use Rattle.jfs_bmap.specs.Freed.{covers}
 use Rattle.jfs_bmap.specs.States.{Blocks}
-use Rattle.jfs_dmap.proofs.Counts.{count_below-most}
+use Rattle.jfs_bits.proofs.Counts.{count_below-most}
 use Rattle.jfs_bmap.proofs.Views.{length-cleared}
 use Rattle.jfs_bmap.proofs.Kept.{IsDisowned, released-count, kept-released, view-released}
 use Rattle.jfs_bmap.proofs.block_map.BlockMap.release_run.Goals.{After-free, In-Ok}

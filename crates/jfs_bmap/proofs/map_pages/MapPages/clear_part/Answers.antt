@@ -1,7 +1,6 @@
 use Rattle.std.proofs.Common.{◌≡◌, ◌+◌, ◌*◌, ◌&&◌, ℕ, not, set, refl, sym, ap, ◌∙◌, arith}
-use Rattle.jfs_bits.specs.Bits.{is_in_run}
-use Rattle.jfs_dmap.specs.Dmap.{count_below}
-use Rattle.jfs_dmap.proofs.Counts.{count_below-most}
+use Rattle.jfs_bits.specs.Bits.{is_in_run, count_below}
+use Rattle.jfs_bits.proofs.Counts.{count_below-most}
 use Rattle.jfs_bmap.specs.Pages.{taken_on, leaf_ranks}
 use Rattle.jfs_bmap.proofs.Views.{length-held}
 use Rattle.jfs_bmap.proofs.OnePage.{Read, Replaced, block-there, dmap-there, read-dmap, read-full, replaced, set-replaced, set-cleared, free-cleared, leaf-set, pages-replaced}

@@ -1,7 +1,8 @@
 use Rattle.std.proofs.Common.{◌≡◌, ◌<◌, ◌≤◌, ◌+◌, ◌*◌, ◌/◌, ℕ, not, List, length, refl, sym, ap, ◌∙◌, arith}
 use Rattle.std.proofs.lemmas.List.{length-set}
-use Rattle.jfs_dmap.specs.Dmap.{count_below, taken_in}
-use Rattle.jfs_dmap.proofs.Counts.{count_below-most}
+use Rattle.jfs_bits.specs.Bits.{count_below}
+use Rattle.jfs_dmap.specs.Dmap.{taken_in}
+use Rattle.jfs_bits.proofs.Counts.{count_below-most}
 use Rattle.jfs_bmap.specs.Set.{taken_at}
 use Rattle.jfs_bmap.specs.Pages.{dmaps_of}
 use Rattle.jfs_bmap.proofs.Views.{taken_at-past, page_at-is}

@@ -1,7 +1,7 @@
 use Rattle.std.proofs.Common.{◌≡◌, ◌*◌, not, to_z, of_z, w8, arith}
 use Rattle.jfs_dmap.specs.Dmap.{taken_in}
 use Rattle.jfs_bits.specs.Bits.{greatest_run}
-use Rattle.jfs_dmap.proofs.Counts.{count_below-most}
+use Rattle.jfs_bits.proofs.Counts.{count_below-most}
 use Rattle.jfs_dmapctl.proofs.Values.{value-read}
 use Rattle.jfs_bmap.specs.Set.{taken_at}
 use Rattle.jfs_bmap.specs.Pages.{dmaps_of}

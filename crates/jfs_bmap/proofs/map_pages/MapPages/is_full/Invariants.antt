@@ -1,5 +1,5 @@
 use Rattle.std.proofs.Common.{◌≡◌, true}
-use Rattle.jfs_dmap.specs.Dmap.{is_full}
+use Rattle.jfs_bits.specs.Bits.{is_full}
 use Rattle.jfs_bmap.specs.Set.{taken_at}
 use Rattle.jfs_bmap.proofs.map_pages.MapPages.is_full.Given as goal
 

@@ -1,6 +1,5 @@
 use Rattle.std.proofs.Common.{◌≡◌, ◌+◌, ◌*◌, ◌||◌, ◌-◌, ℕ, not, set, refl, sym, ◌∙◌, arith}
-use Rattle.jfs_bits.specs.Bits.{is_in_run}
-use Rattle.jfs_dmap.specs.Dmap.{count_below}
+use Rattle.jfs_bits.specs.Bits.{is_in_run, count_below}
 use Rattle.jfs_bmap.specs.Pages.{taken_on, leaf_ranks}
 use Rattle.jfs_bmap.proofs.OnePage.{Read, Replaced, block-there, dmap-there, read-dmap, read-free, replaced, set-replaced, set-marked, free-marked, leaf-set, pages-replaced}
 use Rattle.jfs_bmap.proofs.map_pages.MapPages.mark_part.Goals as goal

@@ -1,10 +1,9 @@
--- How many blocks are free, after a run of them was taken or given back.
-use Rattle.std.proofs.Common.{◌≡◌, ◌<◌, ◌≤◌, ◌+◌, ◌-◌, ◌*◌, ◌/◌, ℕ, zero, suc, Bool, true, false, ◌&&◌, ◌||◌, not, ◌⊎◌, inl, inr, add-one, refl, arith}
+-- How many numbers pass a test, and how many blocks are free after a run of them was taken or given back.
+use Rattle.std.proofs.Common.{◌≡◌, ◌<◌, ◌≤◌, ◌+◌, ◌-◌, ◌*◌, ◌/◌, ℕ, zero, suc, Bool, true, false, ◌&&◌, ◌||◌, not, ◌⊎◌, inl, inr, add-one, add-suc, refl, arith}
 use Rattle.std.specs.Prelude.{min, nat_le, nat_lt, if◌then◌else◌}
 use Rattle.std.proofs.lemmas.Bool.{cases_lt, le-leb, lt-leb, lt-ltb, le-ltb, and_from, and_left, and_right}
-use Rattle.jfs_bits.specs.Bits.{is_free, is_in_run}
+use Rattle.jfs_bits.specs.Bits.{is_free, is_in_run, count_below, is_full}
 use Rattle.jfs_bits.proofs.Runs.{is_free-at, all_below-at}
-use Rattle.jfs_dmap.specs.Dmap.{count_below, is_full}
 
 pub in_run : (first n b : ℕ) → first ≤ b → b < first + n → is_in_run first n b ≡ true
 in_run first n b h k = and_from (nat_le first b) (nat_lt b (first + n)) (le-leb first b h) (lt-ltb b (first + n) k)
@@ -77,3 +76,24 @@ count-clear first n (suc m) t h =
 
 pub count-cleared : (first n m : ℕ) (t : ℕ → Bool) → first + n ≤ m → is_full t first n ≡ true → count_below m (λ b. not (not (is_in_run first n b) && t b)) ≡ count_below m (λ b. not (t b)) + n
 count-cleared first n m t h full = let e : overlap first n m ≡ n = omega arith in rw e at (count-clear first n m t (is_full-at t first n full))
+
+-- ---- part by part
+
+-- the count of two parts, one behind the other
+pub count_below-parts : (m n : ℕ) (test : ℕ → Bool) → count_below (m + n) test ≡ count_below m test + count_below n (λ i. test (m + i))
+unfolding count_below
+count_below-parts m zero test = let e : m + 0 ≡ m = omega arith in rw e (omega arith)
+count_below-parts m (suc n) test = rw add-suc (omega (arith, count_below-parts m n test))
+
+-- a test that no number passes counts none
+pub count_below-nothing : (n : ℕ) (test : ℕ → Bool) → ((i : ℕ) → i < n → test i ≡ false) → count_below n test ≡ 0
+unfolding count_below
+count_below-nothing zero test h = refl
+count_below-nothing (suc n) test h = rw (count_below-nothing n test (λ i k. h i (omega arith)), h n (omega arith)) refl
+
+-- the numbers from `m` on add nothing where none of them passes
+pub count_below-front : (m n : ℕ) (test : ℕ → Bool) → m ≤ n → ((i : ℕ) → m ≤ i → i < n → test i ≡ false) → count_below m test ≡ count_below n test
+count_below-front m n test h none =
+    let e : m + (n - m) ≡ n = omega arith in
+    let parts = rw e at (count_below-parts m (n - m) test) in
+    omega (arith, parts, count_below-nothing (n - m) (λ i. test (m + i)) (λ i k. none (m + i) (omega arith) (omega arith)))
