@@ -87,14 +87,16 @@ fn reserve_often(map: &mut BlockMap, alloc: Global, blocks: u32) -> u32
     reserved
 }
 
-/// Prints how long the reservations took on a volume of so many blocks.
+/// Prints how long it took to make the map of a volume of so many blocks, and to reserve blocks there.
 fn time_volume(rt: &HostRuntime, blocks: u32, taken: Use) -> io::Result<()>
     requires some { 0 < blocks }
     requires most { blocks ≤ 2 ^ 23 }
     requires words { blocks % 32 ≡ 0 }
 {
     let set = pattern(rt.alloc(), blocks, taken)?;
+    let start = Instant::now(rt)?;
     let mut map = BlockMap::from_set(rt.alloc(), set.as_slice(), blocks, GROUP)?;
+    let made = start.elapsed(rt)?.as_micros();
     if taken == Use::Busy {
         release_all(&mut map, rt.alloc(), blocks)?;
     }
@@ -102,7 +104,9 @@ fn time_volume(rt: &HostRuntime, blocks: u32, taken: Use) -> io::Result<()>
     let reserved = reserve_often(&mut map, rt.alloc(), blocks);
     let micros = start.elapsed(rt)?.as_micros();
     let name = taken.name();
-    println!(rt; "{blocks} blocks, {name}: {reserved} reservations in {micros} us")
+    println!(rt;
+        "{blocks} blocks, {name}: made in {made} us, {reserved} reservations in {micros} us"
+    )
 }
 
 /// Prints a line for each size of volume and each pattern.

@@ -1,12 +1,12 @@
 -- Ranks of nodes: one of them replaced, and how they bound the leaves below.
-use Rattle.std.proofs.Common.{◌≡◌, ◌≢◌, ◌<◌, ◌≤◌, ◌+◌, ◌-◌, ◌*◌, ◌/◌, ◌%◌, ◌^◌, ℕ, zero, suc, ◌⊎◌, inl, inr, List, length, set, refl, sym, ap, ◌∙◌, arith}
+use Rattle.std.proofs.Common.{◌≡◌, ◌≢◌, ◌<◌, ◌≤◌, ◌+◌, ◌-◌, ◌*◌, ◌/◌, ◌%◌, ◌^◌, ℕ, zero, suc, inl, inr, List, length, set, refl, sym, ap, ◌∙◌, arith}
 use Rattle.std.specs.Prelude.{◌==◌, if◌then◌else◌}
 use Rattle.std.proofs.lemmas.Bool.{cases_eq, cases_lt, eq-eqb, ne_eqb, cond-true, cond-false}
 use Rattle.std.proofs.lemmas.Nat.{pow-add, pow_pos, div_below, le-div, mod_below, div-add-mod'}
 use Rattle.std.proofs.Math.Nat.{mul_comm, div-mul-le_self}
 use Rattle.std.proofs.lemmas.Grind.{get_or-set_at}
 use Rattle.std.proofs.lemmas.List.{get_or-set_other}
-use Rattle.jfs_buddy.specs.Tree.{rank_at, first_of, leaves_of, leaf_at, greatest_of, HasMaxima, IsFirstFitting}
+use Rattle.jfs_buddy.specs.Tree.{rank_at, first_of, leaves_of, leaf_at, greatest_of, with_rank, HasMaxima, IsFirstFitting}
 
 -- what is replaced, and what stays
 pub replaced : (n m rank before after : ℕ) → after ≡ (if n == m then rank else before) → n ≡ m → after ≡ rank
@@ -23,34 +23,28 @@ rank_at-set tree n m rank within fits =
       | inr k ↦ ap (λ (z : ℕ). (z + 1) % 256) (get_or-set_other tree n m ((rank + 255) % 256) 0 (λ e. k (sym e))) ∙ sym (cond-false (n == m) rank (rank_at tree m) (ne_eqb n m k))
     ]
 
-pub same_shifted : (a b c : ℕ) → (a + b == a + c) ≡ (b == c)
-same_shifted a b c = elim (cases_eq b c) [
-  | inl e ↦ eq-eqb (a + b) (a + c) (omega arith) ∙ sym (eq-eqb b c e)
-  | inr n ↦ ne_eqb (a + b) (a + c) (λ e. n (omega arith)) ∙ sym (ne_eqb b c n)
-]
+-- each node has the greatest rank of its children once node `n` gets this rank
+abbrev pub HasMaximaWith : ℕ → (ℕ → ℕ) → ℕ → ℕ → Type 0
+HasMaximaWith size ranks n rank = (m : ℕ) → 4 * m + 4 < size → with_rank ranks n rank m ≡ greatest_of ranks m
 
--- a node whose children's greatest is put there, and one that keeps all that it reads
-pub greatest-here : (old new : ℕ → ℕ) (p rank : ℕ) → ((m : ℕ) → new m ≡ (if p == m then rank else old m)) → rank ≡ greatest_of old p → new p ≡ greatest_of new p
-greatest-here old new p rank h e =
-    replaced p p rank (old p) (new p) (h p) refl ∙ e ∙ sym (rw (
-      kept p (4 * p + 1) rank (old (4 * p + 1)) (new (4 * p + 1)) (h (4 * p + 1)) (λ k. absurd (omega arith)),
-      kept p (4 * p + 2) rank (old (4 * p + 2)) (new (4 * p + 2)) (h (4 * p + 2)) (λ k. absurd (omega arith)),
-      kept p (4 * p + 3) rank (old (4 * p + 3)) (new (4 * p + 3)) (h (4 * p + 3)) (λ k. absurd (omega arith)),
-      kept p (4 * p + 4) rank (old (4 * p + 4)) (new (4 * p + 4)) (h (4 * p + 4)) (λ k. absurd (omega arith)),
-    ) refl)
+-- each node has the greatest rank that its children had while node `n` had the rank `before`
+abbrev pub HadMaxima : ℕ → (ℕ → ℕ) → ℕ → ℕ → Type 0
+HadMaxima size ranks n before = (m : ℕ) → 4 * m + 4 < size → ranks m ≡ greatest_of (with_rank ranks n before) m
 
-pub greatest-kept : (old new : ℕ → ℕ) (p rank m : ℕ) → ((m : ℕ) → new m ≡ (if p == m then rank else old m)) → p ≢ m → (p < 4 * m + 1) ⊎ (4 * m + 4 < p) → old m ≡ greatest_of old m → new m ≡ greatest_of new m
-greatest-kept old new p rank m h other apart e =
-    kept p m rank (old m) (new m) (h m) other ∙ e ∙ sym (rw (
-      kept p (4 * m + 1) rank (old (4 * m + 1)) (new (4 * m + 1)) (h (4 * m + 1)) (λ k. out apart (omega arith) (omega arith)),
-      kept p (4 * m + 2) rank (old (4 * m + 2)) (new (4 * m + 2)) (h (4 * m + 2)) (λ k. out apart (omega arith) (omega arith)),
-      kept p (4 * m + 3) rank (old (4 * m + 3)) (new (4 * m + 3)) (h (4 * m + 3)) (λ k. out apart (omega arith) (omega arith)),
-      kept p (4 * m + 4) rank (old (4 * m + 4)) (new (4 * m + 4)) (h (4 * m + 4)) (λ k. out apart (omega arith) (omega arith)),
-    ) refl)
+-- after node `n` changed only the node above it may want another rank
+pub above-changed : (size : ℕ) (ranks : ℕ → ℕ) (n above before rank : ℕ) → 0 < n → above ≡ (n - 1) / 4 → HadMaxima size ranks n before → (ranks above ≡ greatest_of (with_rank ranks n before) above → rank ≡ greatest_of ranks above) → HasMaximaWith size ranks above rank
+above-changed size ranks n above before rank low up had here m room = let e = had m room in elim (cases_eq above m) [ inl same ↦ grind (arith, here) | inr other ↦ grind arith ]
+
+-- none does where that one has the rank already
+pub none-changed : (size : ℕ) (ranks : ℕ → ℕ) (n rank m : ℕ) → ranks n ≡ rank → HasMaximaWith size ranks n rank → 4 * m + 4 < size → ranks m ≡ greatest_of ranks m
+none-changed size ranks n rank m is has room = let e = has m room in grind arith
+
+-- once it gets the rank, it is the node that changed
+pub rank-changed : (size : ℕ) (old new : ℕ → ℕ) (n before rank : ℕ) → before ≡ old n → ((k : ℕ) → new k ≡ with_rank old n rank k) → HasMaximaWith size old n rank → HadMaxima size new n before
+rank-changed size old new n before rank was put has m room = put m ∙ has m room ∙ sym (rw (back (4 * m + 1), back (4 * m + 2), back (4 * m + 3), back (4 * m + 4)) refl)
   where
-    out : (p < 4 * m + 1) ⊎ (4 * m + 4 < p) → 4 * m + 1 ≤ p → p ≤ 4 * m + 4 → ⊥
-    out (inl a) b c = absurd (omega arith)
-    out (inr a) b c = absurd (omega arith)
+    back : (k : ℕ) → with_rank new n before k ≡ old k
+    back k = grind (arith, put)
 
 -- the levels of a tree
 pub leaves_of-next : (height : ℕ) → leaves_of (suc height) ≡ 4 * leaves_of height
@@ -138,10 +132,3 @@ descends height tree least n child depth next e size inner h level within fits l
                 omega (arith, rw same at here, first.3 (q - 4 * j) (omega arith))
           ],
     )
-
--- the start of a leaf's path to the root
-pub path-starts : (height leaf rank n : ℕ) (old new : List ℕ) → length old ≡ first_of (suc height) → leaf < leaves_of height → n ≡ first_of height + leaf → ((m : ℕ) → rank_at new m ≡ (if n == m then rank else rank_at old m)) → ((v : ℕ) → leaf_at height new v ≡ (if leaf == v then rank else leaf_at height old v)) × (HasMaxima old → (m : ℕ) → 4 * m + 4 < length old → (n < 4 * m + 1) ⊎ (4 * m + 4 < n) → rank_at new m ≡ greatest_of (rank_at new) m)
-path-starts height leaf rank n old new size within e h = (
-  λ v. h (first_of height + v) ∙ rw (e, same_shifted (first_of height) leaf v) refl,
-  λ inner m room apart. greatest-kept (rank_at old) (rank_at new) n rank m h (λ k. absurd (omega arith)) apart (inner m room),
-)

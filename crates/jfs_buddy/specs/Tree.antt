@@ -1,6 +1,6 @@
 -- Trees of ranks, four children to a node, level after level. (JFS Layout: the tree of a dmap or control page.)
 -- The rank of a value is the value plus 1: 0 where no block is free (the value -1), k + 1 where the greatest free run has 2 ^ k blocks.
-use Rattle.std.specs.Prelude.{◌≡◌, ℕ, zero, suc, ◌+◌, ◌*◌, ◌%◌, ◌^◌, ◌<◌, ◌≤◌, max, ℤ, pos, negsuc, List, length, slice_index}
+use Rattle.std.specs.Prelude.{◌≡◌, ℕ, zero, suc, ◌+◌, ◌*◌, ◌%◌, ◌^◌, ◌<◌, ◌≤◌, ◌==◌, if◌then◌else◌, max, ℤ, pos, negsuc, List, length, slice_index}
 
 -- the rank of a value
 abbrev pub rank_of : ℤ → ℕ
@@ -27,6 +27,10 @@ leaf_at height tree v = rank_at tree (first_of height + v)
 -- node `n` has the greatest rank of its four children
 abbrev pub greatest_of : (ℕ → ℕ) → ℕ → ℕ
 greatest_of ranks n = max (max (ranks (4 * n + 1)) (ranks (4 * n + 2))) (max (ranks (4 * n + 3)) (ranks (4 * n + 4)))
+
+-- the ranks with that of node `n` replaced
+abbrev pub with_rank : (ℕ → ℕ) → ℕ → ℕ → ℕ → ℕ
+with_rank ranks n rank m = if n == m then rank else ranks m
 
 -- an inner node is the greatest of its four children
 abbrev pub HasMaxima : List ℕ → Type 0

@@ -7,4 +7,4 @@ mod tree;
 
 pub use join::{clear_tree, find_run, set_leaf};
 pub use law::trees_agree;
-pub use tree::{find_leaf, leaf_rank, rank, rank_of_value};
+pub use tree::rank_of_value;

@@ -1,10 +1,10 @@
 //! Trees of ranks, four children to a node.
 
 ghost use Rattle.std.specs.Prelude.{◌≡◌, ◌+◌, ◌*◌, ◌%◌, ◌^◌, ◌<◌, ◌≤◌, ◌==◌, if◌then◌else◌, length, ℕ, MatchOption, suc};
-ghost use Rattle.jfs_buddy.specs.Tree.{rank_of, rank_at, first_of, leaves_of, leaf_at, greatest_of, HasMaxima, IsFirstFitting};
+ghost use Rattle.jfs_buddy.specs.Tree.{rank_of, rank_at, first_of, leaves_of, leaf_at, greatest_of, with_rank, HasMaxima, IsFirstFitting};
 
 /// The rank of node `n`: its value plus 1.
-pub fn rank(tree: &[u8], n: usize) -> u8
+fn rank(tree: &[u8], n: usize) -> u8
     requires { n < length tree.now }
     ensures value { result ≡ rank_at tree.now n }
     ensures fits { result < 2 ^ 8 }
@@ -23,7 +23,7 @@ pub fn rank_of_value(value: i8) -> u8
 }
 
 /// The rank of a leaf.
-pub fn leaf_rank(tree: &[u8], height: u32, leaf: u32) -> u8
+pub(crate) fn leaf_rank(tree: &[u8], height: u32, leaf: u32) -> u8
     requires size { length tree.now ≡ first_of (suc height) }
     requires within { leaf < leaves_of height }
     ensures value { result ≡ leaf_at height tree.now leaf }
@@ -32,12 +32,15 @@ pub fn leaf_rank(tree: &[u8], height: u32, leaf: u32) -> u8
     rank(tree, tree.len() / 4 + leaf as usize)
 }
 
-/// Gives node `n` a rank.
-fn put_rank(tree: &mut [u8], n: usize, rank: u8)
+/// Gives node `n` a rank, and returns the one that it had.
+fn replace_rank(tree: &mut [u8], n: usize, now: u8) -> u8
     requires { n < length tree.old }
-    ensures { (m : ℕ) → rank_at tree.new m ≡ (if n == m then rank else rank_at tree.old m) }
+    ensures before { result ≡ rank_at tree.old n }
+    ensures now { (m : ℕ) → rank_at tree.new m ≡ with_rank (rank_at tree.old) n now m }
 {
-    tree[n] = rank.wrapping_sub(1);
+    let before = rank(tree, n);
+    tree[n] = now.wrapping_sub(1);
+    before
 }
 
 /// The greatest rank of the four children of node `n`.
@@ -50,6 +53,22 @@ fn greatest_child(tree: &[u8], n: usize) -> u8
     left.max(right)
 }
 
+/// The greatest rank of the four children of node `n` after that of one went from `before` to `now`. Mostly the node's own rank,
+/// the greatest till then, tells it: to read all four right after one was written is slow.
+fn greatest_now(tree: &[u8], n: usize, before: u8, now: u8) -> u8
+    requires { 4 * n + 4 < length tree.now }
+    ensures { (child : ℕ) → 4 * n + 1 ≤ child → child ≤ 4 * n + 4 → rank_at tree.now child ≡ now → rank_at tree.now n ≡ greatest_of (with_rank (rank_at tree.now) child before) n → result ≡ greatest_of (rank_at tree.now) n }
+{
+    let top = rank(tree, n);
+    if now >= top {
+        now
+    } else if before < top {
+        top
+    } else {
+        greatest_child(tree, n)
+    }
+}
+
 /// Whether node `n` has a rank.
 fn has_rank(tree: &[u8], n: usize, wanted: u8) -> bool
     requires { n < length tree.now }
@@ -60,26 +79,27 @@ fn has_rank(tree: &[u8], n: usize, wanted: u8) -> bool
 
 /// Gives a leaf a rank, and each node between it and the root the greatest of its children, up to one that has it already; all
 /// other nodes stay.
-pub fn put_leaf(tree: &mut [u8], height: u32, leaf: u32, rank: u8)
+pub(crate) fn put_leaf(tree: &mut [u8], height: u32, leaf: u32, rank: u8)
     requires size { length tree.old ≡ first_of (suc height) }
     requires within { leaf < leaves_of height }
     ensures leaves { (v : ℕ) → leaf_at height tree.new v ≡ (if leaf == v then rank else leaf_at height tree.old v) }
     ensures inner { HasMaxima tree.old → HasMaxima tree.new }
 {
     let mut n = tree.len() / 4 + leaf as usize;
-    put_rank(tree, n, rank);
+    let mut before = replace_rank(tree, n, rank);
+    let mut now = rank;
     while n > 0 {
         n = (n - 1) / 4;
-        let greatest = greatest_child(tree, n);
-        if has_rank(tree, n, greatest) {
+        now = greatest_now(tree, n, before, now);
+        if has_rank(tree, n, now) {
             return;
         }
-        put_rank(tree, n, greatest);
+        before = replace_rank(tree, n, now);
     }
 }
 
 /// The lowest leaf whose rank is at least `least`, found from the root down; None exactly where no leaf's is.
-pub fn find_leaf(tree: &[u8], height: u32, least: u8) -> Option<u32>
+pub(crate) fn find_leaf(tree: &[u8], height: u32, least: u8) -> Option<u32>
     requires size { length tree.now ≡ first_of (suc height) }
     requires few { height < 16 }
     requires inner { HasMaxima tree.now }
