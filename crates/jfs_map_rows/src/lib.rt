@@ -1,4 +1,5 @@
-//! Rows of the pages of the block map, worked out by hand from the format.
+//! What the block map answers beside what it is to answer: pages and calls worked out by hand from the format, and a plain slow map
+//! beside the map of a volume, over many mixed calls.
 #![tactic(auto)]
 
 ghost use Rattle.std.specs.Prelude.{◌≡◌, ◌+◌, ◌<◌, ◌≤◌, ◌^◌, true, ℕ, IfSome};
@@ -13,15 +14,22 @@ mod volume;
 
 pub use control::{find_one, free_control, set_one};
 pub use volume::{
-    map_of, release_all, release_run, take, take_first_of_two, take_four, try_four, try_out,
+    map_in_groups, map_of, release_all, release_run, take, take_first_of_two, take_four, try_four,
+    try_out,
 };
 
+#[cfg(test)]
+mod groups;
 #[cfg(test)]
 mod map_control;
 #[cfg(test)]
 mod rows;
 #[cfg(test)]
 mod slow;
+#[cfg(test)]
+mod slow_calls;
+#[cfg(test)]
+mod slow_pages;
 #[cfg(test)]
 mod volume_rows;
 

@@ -2,6 +2,7 @@
 
 ghost use Rattle.std.specs.Prelude.{◌≡◌, ◌+◌, ◌*◌, ◌%◌, ◌^◌, ◌<◌, ◌≤◌, length, IfOk, OnOk, OnErr};
 ghost use Rattle.jfs_bmap.specs.States.{Owned, Free, Reserved, put_state};
+ghost use Rattle.jfs_map_rows.specs.Stays.{StaysReserved};
 
 use jfs_bits::{Pxd, PxdList};
 use jfs_bmap::{BlockMap, ReserveError};
@@ -14,12 +15,30 @@ pub fn map_of(alloc: Global, set: &[u8], blocks: u32) -> Result<BlockMap, AllocE
     requires size { blocks ≤ 8 * length set.now }
     requires words { length set.now % 4 ≡ 0 }
 {
-    BlockMap::from_set(alloc, set, blocks, 8192)
+    map_in_groups(alloc, set, blocks, 13)
+}
+
+/// The map of a volume of so many blocks in groups of `2^l2`, of which those in `set` have owners.
+pub fn map_in_groups(
+    alloc: Global,
+    set: &[u8],
+    blocks: u32,
+    l2: u32,
+) -> Result<BlockMap, AllocError>
+    requires some { 0 < blocks }
+    requires most { blocks ≤ 2 ^ 20 }
+    requires size { blocks ≤ 8 * length set.now }
+    requires words { length set.now % 4 ≡ 0 }
+    requires least { 13 ≤ l2 }
+    requires greatest { l2 < 32 }
+{
+    BlockMap::from_set(alloc, set, blocks, 1 << l2)
 }
 
 /// Reserves blocks and gives them owners.
 pub fn take(map: &mut BlockMap, alloc: Global, hint: u32, n: u32) -> Result<PxdList, ReserveError>
-    ensures { OnErr result (map.new ≡ map.old) }
+    ensures unchanged { OnErr result (map.new ≡ map.old) }
+    ensures stays { StaysReserved map.old map.new }
 {
     let list = map.reserve(alloc, hint, n)?;
     map.own(&list);
@@ -32,7 +51,9 @@ pub fn try_out(
     alloc: Global,
     hint: u32,
     n: u32,
-) -> Result<PxdList, ReserveError> {
+) -> Result<PxdList, ReserveError>
+    ensures { StaysReserved map.old map.new }
+{
     let list = map.reserve(alloc, hint, n)?;
     map.give_back(&list);
     Ok(list)
@@ -60,7 +81,9 @@ pub fn take_first_of_two(
 }
 
 /// Releases the runs of a list for an entry.
-pub fn release_all(map: &mut BlockMap, list: &PxdList, entry: u64) -> Result<(), AllocError> {
+pub fn release_all(map: &mut BlockMap, list: &PxdList, entry: u64) -> Result<(), AllocError>
+    ensures { StaysReserved map.old map.new }
+{
     if let Ok(n) = u32::try_from(list.len()) {
         map.make_room(n)?;
         map.release(list, entry);
@@ -74,21 +97,27 @@ pub fn release_run(
     alloc: Global,
     run: Pxd,
     entry: u64,
-) -> Result<(), AllocError> {
+) -> Result<(), AllocError>
+    ensures { StaysReserved map.old map.new }
+{
     let mut list = PxdList::new(alloc);
     list.push(run)?;
     release_all(map, &list, entry)
 }
 
 /// Reserves the lowest run of four blocks and gives it an owner.
-pub fn take_four(map: &mut BlockMap) -> Option<Pxd> {
+pub fn take_four(map: &mut BlockMap) -> Option<Pxd>
+    ensures { StaysReserved map.old map.new }
+{
     let run = map.run_of_four()?;
     map.own_run(&run);
     Some(run)
 }
 
 /// Reserves the lowest run of four blocks and gives it back.
-pub fn try_four(map: &mut BlockMap) -> Option<Pxd> {
+pub fn try_four(map: &mut BlockMap) -> Option<Pxd>
+    ensures { StaysReserved map.old map.new }
+{
     let run = map.run_of_four()?;
     map.give_back_run(&run);
     Some(run)

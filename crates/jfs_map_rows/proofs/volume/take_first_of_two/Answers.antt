@@ -1,6 +1,5 @@
-use Rattle.std.proofs.Common.{◌≡◌, ℕ, true, false}
 use Rattle.std.proofs.lemmas.Bool.{false_from_ne_true}
-use Rattle.jfs_bmap.specs.States.{Free, Reserved, Owned, is_in_list}
+use Rattle.jfs_bmap.specs.States.{Owned, is_in_list}
 use Rattle.jfs_bmap.proofs.Puts.{reserved-more, reserved-beside, free-not_reserved}
 use Rattle.jfs_map_rows.proofs.volume.take_first_of_two.Goals as goal
 

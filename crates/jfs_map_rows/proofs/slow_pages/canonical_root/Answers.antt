@@ -1,10 +1,9 @@
-use Rattle.std.proofs.Common.{◌+◌, ◌*◌, ◌≤◌, arith}
+use Rattle.std.proofs.Common.{arith}
 use Rattle.jfs_dmap.specs.Dmap.{taken_in}
 use Rattle.jfs_dmapctl.proofs.Values.{value-read}
 use Rattle.jfs_dmapctl.specs.Control.{IsValue}
-use Rattle.jfs_bits.specs.Bits.{greatest_run}
 use Rattle.jfs_bmap.proofs.GreatestRuns.{greatest_run-value}
-use Rattle.jfs_map_rows.proofs.slow.canonical_root.Goals as goal
+use Rattle.jfs_map_rows.proofs.slow_pages.canonical_root.Goals as goal
 
 pub returns-then-same_pages : goal.returns-then-same_pages
 returns-then-same_pages c =
