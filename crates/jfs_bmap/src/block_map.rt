@@ -15,14 +15,20 @@ use std::marker::Model;
 /// search passes over.
 #[derive(Drop)]
 pub struct BlockMap {
+    /// The blocks of an allocation group.
     pub(crate) agsize: u32,
+    /// The blocks that have owners.
     pub(crate) owned: MapPages,
+    /// The blocks that are owned, reserved or busy.
     pub(crate) used: MapPages,
+    /// A bit for each busy block.
     pub(crate) busy: Vec<u8>,
     pub(crate) busy_blocks: u32,
     /// The entry that each busy block waits for.
     pub(crate) entries: Vec<u64>,
+    /// The runs that entries released and that aren't settled.
     pub(crate) freed: Vec<Freed>,
+    /// How many more runs `freed` takes without memory.
     pub(crate) spare: u32,
 }
 

@@ -93,15 +93,14 @@ pub fn free_told(freed: &[Freed], entries: &[u64], told: u64, used: &mut MapPage
     ensures used { (b : ℕ) → taken_at used.new b ≡ (taken_at used.old b && not (is_taken busy.old b && is_told entries.now told b)) }
     ensures busy { (b : ℕ) → is_taken busy.new b ≡ (is_taken busy.old b && not (is_told entries.now told b)) }
 {
-    for i in 0..freed.len() {
-        let run = freed[i];
+    for run in freed {
         if run.entry <= told {
             free_blocks(entries, told, used, busy, run.first, run.blocks);
         }
     }
 }
 
-/// The same of the blocks of one run.
+/// Frees those of one run's busy blocks whose entries are acknowledged.
 fn free_blocks(entries: &[u64], told: u64, used: &mut MapPages, busy: &mut [u8], first: u32, n: u32)
     requires words { length busy.old % 4 ≡ 0 }
     requires bits { length used.old ≤ 8 * length busy.old }
