@@ -1,10 +1,11 @@
 -- The runs that entries released, and the entry of each block.
-use Rattle.std.proofs.Common.{◌≡◌, ◌<◌, ℕ, zero, suc, true, inl, inr, List, [], ◌∷◌, ◌++◌, length, length-append, refl, arith}
-use Rattle.std.proofs.lemmas.Bool.{cases_Bool, lt-ltb}
+use Rattle.std.proofs.Common.{◌≡◌, ◌<◌, ◌≤◌, ◌+◌, ℕ, zero, suc, true, inl, inr, List, [], ◌∷◌, ◌++◌, length, length-append, refl, arith}
+use Rattle.std.proofs.lemmas.Bool.{cases_lt, cases_Bool, lt-ltb, ltb-true}
+use Rattle.std.proofs.lemmas.List.Elements.{filter_passes}
 use Rattle.std.specs.List.{filter}
 use Rattle.std.specs.Prelude.{nat_lt}
 use Rattle.jfs_bmap.specs.declared.freed.Freed.{Freed}
-use Rattle.jfs_bmap.specs.Freed.{covers, run_at, IsCovered}
+use Rattle.jfs_bmap.specs.Freed.{covers, run_at, IsCovered, AreFrom}
 
 -- ---- one run more
 
@@ -30,6 +31,13 @@ covered-last freed part b h =
     let same = run-last freed part (length freed) refl in
     (length freed, omega (arith, length-append freed (part ∷ [])), rw same h, rw same refl)
 
+-- none is of an entry before one that is neither after the first till then nor after the new one
+pub from-more : (first lower : ℕ) (freed : List Freed) (part : Freed) → AreFrom first freed → lower ≤ first → lower ≤ part.entry → AreFrom lower (freed ++ part ∷ [])
+from-more first lower freed part from low new i h = elim (cases_lt i (length freed)) [
+  | inl l ↦ rw (run-before freed part i l) (omega (arith, from i l))
+  | inr l ↦ rw (run-last freed part i (omega (arith, length-append freed (part ∷ [])))) new
+]
+
 -- ---- the runs whose entries are above `told`
 
 abbrev pub left_of : ℕ → List Freed → List Freed
@@ -47,3 +55,7 @@ covered-left told entry (first ∷ freed) b above (suc i, l, here, is) =
       | inl e ↦ rw e (suc rest.0, omega (arith, rest.1), rest.2, rest.3)
       | inr e ↦ rw e rest
     ]
+
+-- none of them is of an entry up to `told`
+pub from-left : (told first : ℕ) (freed : List Freed) → first ≤ told + 1 → AreFrom first (left_of told freed)
+from-left told first freed most i h = omega (arith, ltb-true told (run_at (left_of told freed) i).entry (filter_passes (λ run. nat_lt told run.entry) freed i (record { first = 0; blocks = 0; entry = 0 }) h))

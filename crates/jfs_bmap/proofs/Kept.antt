@@ -9,7 +9,7 @@ use Rattle.jfs_bits.specs.declared.descriptor.Pxd.{Pxd}
 use Rattle.jfs_bmap.specs.declared.freed.Freed.{Freed}
 use Rattle.jfs_bmap.specs.Set.{taken_at, cleared, free_in}
 use Rattle.jfs_bmap.specs.States.{released, released_state, settled, settled_state}
-use Rattle.jfs_bmap.specs.Freed.{covers, entry_at}
+use Rattle.jfs_bmap.specs.Freed.{covers, entry_at, AreFrom}
 use Rattle.jfs_bmap.specs.Kept.{state_in, AreKept}
 use Rattle.jfs_bmap.proofs.Views.{length-cleared, taken_at-cleared}
 use Rattle.jfs_bmap.proofs.States.{in_list-one, state_by, state_in-by, same_blocks, view_of, view-length, view-changed, state-at}
@@ -198,3 +198,16 @@ module _ {owned used used_now : List Bool} {busy busy_now : List ℕ} {busy_bloc
       let m = view_of owned used busy entries agsize spare in
       view-changed (λ b state. settled_state told state) m owned used_now busy_now entries (sym (view-length owned used busy entries agsize spare))
       (λ b h. state-settled b ∙ ap (settled_state told) (sym (state-at owned used busy entries agsize spare b)))
+
+-- where no entry of a busy block is told, all stays
+pub settled-early : {owned used : List Bool} {busy : List ℕ} {busy_blocks : ℕ} {entries : List ℕ} {freed : List Freed} (first told agsize spare : ℕ) → AreKept owned used busy busy_blocks entries freed → AreFrom first freed → told < first → view_of owned used busy entries agsize spare ≡ settled told (view_of owned used busy entries agsize spare)
+settled-early {owned} {used} {busy} {entries = entries} {freed = freed} first told agsize spare kept from early =
+    let m = view_of owned used busy entries agsize spare in
+    view-changed (λ b state. settled_state told state) m owned used busy entries (sym (view-length owned used busy entries agsize spare)) (λ b h.
+    state_in-by owned used busy entries b ∙ rw (state-at owned used busy entries agsize spare b, state_in-by owned used busy entries b) (one (taken_at owned b) (taken_at used b) (is_taken busy b) (entry_at entries b) (λ y. (let c = kept.covered b y in omega (arith, from c.0 c.1, c.3)))))
+  where
+    one : (o u y : Bool) (e : ℕ) → (y ≡ true → told < e) → state_by o u y e ≡ settled_state told (state_by o u y e)
+    one true u y e h = refl
+    one false false y e h = refl
+    one false true false e h = refl
+    one false true true e h = rw (lt-leb e told (h refl)) refl

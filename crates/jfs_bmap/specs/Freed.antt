@@ -1,5 +1,5 @@
 -- The runs that entries released, and the entry that each busy block waits for.
-use Rattle.std.specs.Prelude.{◌≡◌, ℕ, ◌<◌, Bool, true, nat_le, List, length, slice_index_or}
+use Rattle.std.specs.Prelude.{◌≡◌, ℕ, ◌<◌, ◌≤◌, Bool, true, nat_le, List, length, slice_index_or}
 use Rattle.jfs_bits.specs.Bits.{is_in_run}
 use Rattle.jfs_bmap.specs.declared.freed.Freed.{Freed}
 
@@ -14,6 +14,10 @@ run_at freed i = slice_index_or freed i (record { first = 0; blocks = 0; entry =
 -- one of the runs has block `b`, released by that entry
 abbrev pub IsCovered : List Freed → ℕ → ℕ → Type 0
 IsCovered freed entry b = (i : ℕ) × (i < length freed) × (covers (run_at freed i) b ≡ true) × ((run_at freed i).entry ≡ entry)
+
+-- no run was released by an entry before `first`
+abbrev pub AreFrom : ℕ → List Freed → Type 0
+AreFrom first freed = (i : ℕ) → i < length freed → first ≤ (run_at freed i).entry
 
 -- the entry that block `b` waits for, where it is busy
 abbrev pub entry_at : List ℕ → ℕ → ℕ

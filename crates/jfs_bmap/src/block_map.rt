@@ -28,6 +28,8 @@ pub struct BlockMap {
     pub(crate) entries: Vec<u64>,
     /// The runs that entries released and that aren't settled.
     pub(crate) freed: Vec<Freed>,
+    /// None of them was released by an entry before this one.
+    pub(crate) first_entry: u64,
     /// How many more runs `freed` takes without memory.
     pub(crate) spare: u32,
 }
@@ -37,6 +39,7 @@ impl Model for BlockMap {
     ghost use Rattle.jfs_bmap.specs.Set.{each_below};
     ghost use Rattle.jfs_bmap.specs.MapFile.{AreGroups};
     ghost use Rattle.jfs_bmap.specs.States.{Blocks};
+    ghost use Rattle.jfs_bmap.specs.Freed.{AreFrom};
     ghost use Rattle.jfs_bmap.specs.Kept.{state_in, AreKept};
 
     ghost Value = { Blocks };
@@ -50,7 +53,8 @@ impl Model for BlockMap {
     ghost invariant = { λ m.
         AreKept m.owned m.used m.busy.items m.busy_blocks m.entries.items m.freed.items
         × (vec_len m.freed + m.spare ≤ vec_capacity m.freed)
-        × AreGroups (length m.owned) m.agsize };
+        × AreGroups (length m.owned) m.agsize
+        × AreFrom m.first_entry m.freed.items };
 }
 
 impl BlockMap {
@@ -80,6 +84,7 @@ impl BlockMap {
             busy_blocks: 0,
             entries,
             freed: Vec::new(alloc),
+            first_entry: u64::MAX,
             spare: 0,
         })
     }

@@ -49,6 +49,7 @@ impl BlockMap {
         );
         self.busy_blocks += self.owned.free() - owned_before;
         self.spare -= 1;
+        self.first_entry = self.first_entry.min(entry);
         match self.freed.push(part) {
             Ok(()) => {}
             Err(_) => unreachable!(),
@@ -59,6 +60,9 @@ impl BlockMap {
     pub fn settle(&mut self, told: u64)
         ensures { self.new ≡ settled told self.old }
     {
+        if told < self.first_entry {
+            return;
+        }
         let free_before = self.used.free();
         free_told(
             self.freed.as_slice(),
@@ -69,5 +73,6 @@ impl BlockMap {
         );
         self.busy_blocks -= self.used.free() - free_before;
         self.freed.retain(|run| run.entry > told);
+        self.first_entry = told.saturating_add(1);
     }
 }

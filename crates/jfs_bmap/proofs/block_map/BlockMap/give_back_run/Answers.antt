@@ -22,7 +22,7 @@ pub invariant_of-self : goal.invariant_of-self
 invariant_of-self c =
     let i = c.self.invariant in
     let run = c.args.run.now in
-    rw c.clear.ensures (back-kept c.self.inside c.args.self.now c.self.view_is i.0 run.addr run.len c.requires c.if-run-gt0.true, i.1, i.2)
+    rw c.clear.ensures (back-kept c.self.inside c.args.self.now c.self.view_is i.0 run.addr run.len c.requires c.if-run-gt0.true, i.1, i.2, i.3)
 
 pub returns-then-run-gt0 : goal.returns-then-run-gt0
 returns-then-run-gt0 c = rw c.clear.ensures (back-view c.self.inside c.args.self.now c.self.view_is c.self.invariant.0 c.args.run.now.addr c.args.run.now.len c.requires c.if-run-gt0.true)

@@ -5,6 +5,7 @@ use Rattle.jfs_bmap.specs.Freed.{covers}
 use Rattle.jfs_bmap.specs.States.{Blocks}
 use Rattle.jfs_bits.proofs.Counts.{count_below-most}
 use Rattle.jfs_bmap.proofs.Views.{length-cleared}
+use Rattle.jfs_bmap.proofs.Entries.{from-more}
 use Rattle.jfs_bmap.proofs.Kept.{IsDisowned, released-count, kept-released, view-released}
 use Rattle.jfs_bmap.proofs.block_map.BlockMap.release_run.Goals.{After-free, In-Ok}
 use Rattle.jfs_bmap.proofs.block_map.BlockMap.release_run.Goals as goal
@@ -36,6 +37,7 @@ invariant_of-self c =
       kept-released c.self.invariant.0 d,
       omega (arith, c.in-Ok.ensures.len, c.in-Ok.ensures.capacity, c.self.invariant.1, c.requires, spare),
       rw (length-cleared c.clip-part.result.first c.clip-part.result.blocks c.self.inside.owned) c.self.invariant.2,
+      from-more c.self.inside.first_entry c.min-self-inside.result c.self.inside.freed.items c.clip-part.result c.self.invariant.3 (omega arith) (omega (arith, c.clip-part.ensures.entry)),
     )
 
 pub returns : goal.returns

@@ -11,7 +11,7 @@ mark-requires-clause-free c = reserve-free c.self.inside c.args.self.now c.self.
 pub invariant_of-self : goal.invariant_of-self
 invariant_of-self c =
     let i = c.self.invariant in
-    rw c.mark.ensures (reserve-kept c.self.inside c.args.self.now c.self.view_is i.0 c.args.first c.args.n c.requires.free, i.1, i.2)
+    rw c.mark.ensures (reserve-kept c.self.inside c.args.self.now c.self.view_is i.0 c.args.first c.args.n c.requires.free, i.1, i.2, i.3)
 
 pub returns-clause-reserved : goal.returns-clause-reserved
 returns-clause-reserved c = rw c.mark.ensures (reserve-view c.self.inside c.args.self.now c.self.view_is c.self.invariant.0 c.args.first c.args.n c.requires.free)

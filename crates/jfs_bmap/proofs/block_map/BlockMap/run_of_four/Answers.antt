@@ -25,7 +25,7 @@ invariant_of-self c =
     let value = c.args.self.now in
     let i = c.self.invariant in
     let free = found-free m value c.self.view_is i.0 2 c.in_ok-first.first 4 (omega arith) c.in_ok-first.ensures in
-    rw c.mark.ensures (reserve-kept m value c.self.view_is i.0 c.in_ok-first.first 4 free, i.1, i.2)
+    rw c.mark.ensures (reserve-kept m value c.self.view_is i.0 c.in_ok-first.first 4 free, i.1, i.2, i.3)
 
 pub returns-clause-lowest : goal.returns-clause-lowest
 returns-clause-lowest c = rw c.from.ensures (found-is c.self.inside c.args.self.now c.self.view_is c.self.invariant.0 2 (Some c.in_ok-first.first) c.in_ok-first.ensures)

@@ -2,8 +2,8 @@ use Rattle.std.proofs.Common.{rules, ◌≡◌, ◌∙◌, length, refl, sym, ap
 use Rattle.std.specs.Prelude.{nat_lt}
 use Rattle.std.proofs.lemmas.Fn.{filter_same}
 use Rattle.std.proofs.lemmas.List.{with_items_is}
-use Rattle.jfs_bmap.proofs.Entries.{left_of}
-use Rattle.jfs_bmap.proofs.Kept.{IsSettled, settled-count, kept-settled, view-settled}
+use Rattle.jfs_bmap.proofs.Entries.{left_of, from-left}
+use Rattle.jfs_bmap.proofs.Kept.{IsSettled, settled-count, kept-settled, view-settled, settled-early}
 use Rattle.jfs_bmap.proofs.block_map.BlockMap.settle.Goals.{After-free_told, After-retain}
 use Rattle.jfs_bmap.proofs.block_map.BlockMap.settle.Goals as goal
 
@@ -33,6 +33,7 @@ invariant_of-self c =
       kept-settled c.self.invariant.0 s,
       omega (arith, c.retain.ensures.bound, c.retain.ensures.capacity, c.self.invariant.1),
       c.self.invariant.2,
+      from-left c.args.told c.saturating_add-self-inside.result c.self.inside.freed.items (omega arith),
     )
 
 pub returns : goal.returns
@@ -41,3 +42,6 @@ returns c =
     let busy = with_items_is c.self.inside.busy c.free_told.new.busy (s.size ∙ sym c.self.inside.busy.ok.0) in
     rw (← c.self.view_is, busy)
     (view-settled c.self.invariant.0 s c.self.inside.agsize c.self.inside.spare)
+
+pub returns-then-told-self : goal.returns-then-told-self
+returns-then-told-self c = rw (← c.self.view_is) (settled-early c.self.inside.first_entry c.args.told c.self.inside.agsize c.self.inside.spare c.self.invariant.0 c.self.invariant.3 c.if-told-self.true)
