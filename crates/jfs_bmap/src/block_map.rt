@@ -1,6 +1,6 @@
 //! The block map of a mounted volume.
 
-ghost use Rattle.std.specs.Prelude.{◌≡◌, ◌+◌, ◌*◌, ◌%◌, ◌^◌, ◌≤◌, length, ℕ, IfOk};
+ghost use Rattle.std.specs.Prelude.{◌≡◌, ◌+◌, ◌*◌, ◌%◌, ◌^◌, ◌≤◌, length, IfOk};
 ghost use Rattle.jfs_bmap.specs.States.{fresh, free_count, busy_count, is_owned};
 ghost use Rattle.jfs_bmap.specs.MapFile.{AreGroups, IsMapPage};
 

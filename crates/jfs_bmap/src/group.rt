@@ -1,6 +1,6 @@
 //! The numbers of the map's control page, most of them of its allocation groups.
 
-ghost use Rattle.std.specs.Prelude.{◌≡◌, ◌<◌, ◌≤◌, ◌+◌, ◌-◌, ◌*◌, ◌/◌, ◌%◌, ◌^◌, not, length, slice_index, ℕ};
+ghost use Rattle.std.specs.Prelude.{◌≡◌, ◌<◌, ◌≤◌, ◌+◌, ◌-◌, ◌*◌, ◌/◌, ◌%◌, not, length, slice_index, ℕ};
 ghost use Rattle.jfs_bits.specs.Bits.{greatest_run, count_below};
 ghost use Rattle.jfs_bmap.specs.Set.{taken_at};
 ghost use Rattle.jfs_bmap.specs.MapFile.{powers_of_4, AreGroups, IsMapControlOf};

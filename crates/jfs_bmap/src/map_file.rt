@@ -1,6 +1,6 @@
 //! The pages of the block map's file.
 
-ghost use Rattle.std.specs.Prelude.{◌≡◌, ◌<◌, ◌≤◌, ◌+◌, ◌*◌, suc, length, ℕ};
+ghost use Rattle.std.specs.Prelude.{◌≤◌, ◌*◌, length};
 ghost use Rattle.jfs_dmapctl.specs.Control.{IsControl};
 ghost use Rattle.jfs_bmap.specs.Set.{taken_at};
 ghost use Rattle.jfs_bmap.specs.MapFile.{AreGroups, IsFirstPage, IsDmapPage, IsMapPage};

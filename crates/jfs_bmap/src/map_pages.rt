@@ -1,6 +1,6 @@
 //! The pages of the block map over one set of blocks.
 
-ghost use Rattle.std.specs.Prelude.{◌≡◌, ◌+◌, ◌*◌, ◌/◌, ◌%◌, ◌^◌, ◌<◌, ◌≤◌, true, false, ◌||◌, length, ℕ, IfOk, IsTrue, ◌↔◌};
+ghost use Rattle.std.specs.Prelude.{◌≡◌, ◌+◌, ◌*◌, ◌/◌, ◌%◌, ◌^◌, ◌<◌, ◌≤◌, true, false, ◌||◌, length, IfOk};
 ghost use Rattle.jfs_bits.specs.Bits.{is_free, is_taken, is_full};
 ghost use Rattle.jfs_bmap.specs.Set.{each_below, taken_at, marked, cleared, free_in, IsLowest, IsFreeFront};
 

@@ -1,12 +1,12 @@
 //! Blocks are reserved, get owners, or are given back.
 
-ghost use Rattle.std.specs.Prelude.{◌≡◌, ◌<◌, ◌≤◌, ◌+◌, ◌-◌, ◌^◌, ◌∷◌, ◌++◌, [], true, length, ℕ, OnOk, OnErr, IfNone, IfOk, IfSome};
+ghost use Rattle.std.specs.Prelude.{◌≡◌, ◌<◌, ◌≤◌, ◌+◌, ◌-◌, ◌∷◌, ◌++◌, [], true, length, ℕ, OnOk, OnErr, IfNone, IfOk, IfSome};
 ghost use Rattle.std.specs.List.{All};
 ghost use Rattle.jfs_bits.specs.declared.descriptor.Pxd.{Pxd};
 ghost use Rattle.jfs_bits.specs.Bits.{is_free};
 ghost use Rattle.jfs_bmap.specs.Set.{IsLowest};
 ghost use Rattle.jfs_bmap.specs.States.{Reserved, Owned, Free, is_used, is_in_list, state_of, free_count, total_of, put_state, AreApart, AreReserved, IsReservedRun};
-ghost use Rattle.jfs_bmap.specs.Choice.{IsReservation, IsNextRun, AreNextRuns};
+ghost use Rattle.jfs_bmap.specs.Choice.{IsReservation, IsNextRun};
 ghost use Rattle.jfs_bmap.specs.Refusal.{AnswersBySpace};
 
 use crate::block_map::BlockMap;

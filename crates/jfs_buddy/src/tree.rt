@@ -1,6 +1,6 @@
 //! Trees of ranks, four children to a node.
 
-ghost use Rattle.std.specs.Prelude.{◌≡◌, ◌+◌, ◌*◌, ◌%◌, ◌^◌, ◌<◌, ◌≤◌, ◌==◌, if◌then◌else◌, length, ℕ, MatchOption, suc};
+ghost use Rattle.std.specs.Prelude.{◌≡◌, ◌+◌, ◌*◌, ◌^◌, ◌<◌, ◌≤◌, ◌==◌, if◌then◌else◌, length, ℕ, MatchOption, suc};
 ghost use Rattle.jfs_buddy.specs.Tree.{rank_of, rank_at, first_of, leaves_of, leaf_at, greatest_of, with_rank, HasMaxima, IsFirstFitting};
 
 /// The rank of node `n`: its value plus 1.

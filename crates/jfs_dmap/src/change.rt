@@ -1,6 +1,6 @@
 //! Blocks of a dmap page are taken and given back.
 
-ghost use Rattle.std.specs.Prelude.{◌≡◌, ◌+◌, ◌<◌, ◌≤◌, ◌||◌, ◌&&◌, true, not, ℕ};
+ghost use Rattle.std.specs.Prelude.{◌≡◌, ◌+◌, ◌≤◌, ◌||◌, ◌&&◌, true, not, ℕ};
 ghost use Rattle.jfs_bits.specs.Bits.{is_free, is_in_run, is_full};
 ghost use Rattle.jfs_dmap.specs.Dmap.{blocks_of, first_block_of, taken_in, IsDmap};
 

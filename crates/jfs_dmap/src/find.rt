@@ -1,6 +1,6 @@
 //! The lowest free run of a dmap page.
 
-ghost use Rattle.std.specs.Prelude.{◌≡◌, ◌/◌, ◌^◌};
+ghost use Rattle.std.specs.Prelude.{◌/◌, ◌^◌};
 ghost use Rattle.jfs_bits.specs.Bits.{IsLowestFree};
 ghost use Rattle.jfs_dmap.specs.Dmap.{taken_in, IsDmap};
 

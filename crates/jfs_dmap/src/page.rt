@@ -1,12 +1,11 @@
 //! The canonical dmap page of a set of blocks.
 
 ghost use Rattle.std.specs.Prelude.{◌≡◌, ◌+◌, ◌-◌, ◌<◌, ◌≤◌, ◌||◌, if◌then◌else◌, length, not, ℕ};
-ghost use Rattle.byteorder.specs.Endian.{little_bytes};
 ghost use Rattle.jfs_bits.specs.Field.{put_bytes, range_of};
 ghost use Rattle.jfs_bits.specs.Piece.{puts};
 ghost use Rattle.jfs_bits.specs.Bits.{is_taken, is_in_run, count_below};
 ghost use Rattle.jfs_buddy.specs.Buddy.{IsBuddyTree};
-ghost use Rattle.jfs_dmap.specs.Dmap.{blocks_of, first_block_of, head_of, map_of, tree_of, taken_in, word_rank, IsDmap};
+ghost use Rattle.jfs_dmap.specs.Dmap.{blocks_of, first_block_of, head_of, tree_of, taken_in, IsDmap};
 
 use crate::words::{mark_in, refresh};
 use jfs_bits::{bit, put_u8, put_u32, put_u64};

@@ -1,6 +1,6 @@
 //! Leaves of a control page are set, and the lowest of them with a free run is found.
 
-ghost use Rattle.std.specs.Prelude.{◌≡◌, ◌+◌, ◌<◌, ◌≤◌, ℕ, IsNone};
+ghost use Rattle.std.specs.Prelude.{◌+◌, ◌<◌, ◌≤◌, ℕ, IsNone};
 ghost use Rattle.jfs_buddy.specs.Tree.{rank_of};
 ghost use Rattle.jfs_buddy.specs.Buddy.{with_own, IsLowestRun};
 ghost use Rattle.jfs_dmapctl.specs.Control.{whole_of, IsValue, IsControl};

@@ -1,6 +1,6 @@
 //! The control page of the block map, both ways.
 
-ghost use Rattle.std.specs.Prelude.{◌≡◌, ◌+◌, ◌*◌, ◌<◌, ◌≤◌, ◌^◌, ◌⊎◌, length, slice_index, ℕ};
+ghost use Rattle.std.specs.Prelude.{◌≡◌, ◌+◌, ◌*◌, ◌<◌, ◌≤◌, ◌⊎◌, length, slice_index, ℕ};
 ghost use Rattle.jfs_bits.specs.Field.{field_of, range_of};
 ghost use Rattle.jfs_bits.specs.Piece.{puts};
 ghost use Rattle.jfs_dmapctl.specs.MapControl.{IsMapControl, FitsFront, front_of};

@@ -1,6 +1,6 @@
 //! The tree within a control page.
 
-ghost use Rattle.std.specs.Prelude.{◌≡◌, ◌+◌, ◌*◌, ◌<◌, ◌≤◌, length, ℕ};
+ghost use Rattle.std.specs.Prelude.{◌≡◌, ◌<◌, ◌≤◌, length, ℕ};
 ghost use Rattle.jfs_bits.specs.Field.{put_bytes};
 ghost use Rattle.jfs_buddy.specs.Buddy.{with_own, IsBuddyTree};
 ghost use Rattle.jfs_dmapctl.specs.Control.{tree_of};

@@ -1,6 +1,6 @@
 //! A control page of level 0, byte by byte.
 
-ghost use Rattle.std.specs.Prelude.{◌≡◌, ◌<◌, ℕ};
+ghost use Rattle.std.specs.Prelude.{◌<◌, ℕ};
 ghost use Rattle.jfs_dmapctl.specs.Control.{value_at, IsValue, IsControl};
 
 use jfs_disk::Page;

@@ -2,7 +2,7 @@
 //! beside the map of a volume, over many mixed calls.
 #![tactic(auto)]
 
-ghost use Rattle.std.specs.Prelude.{◌≡◌, ◌+◌, ◌<◌, ◌≤◌, ◌^◌, true, ℕ, IfSome};
+ghost use Rattle.std.specs.Prelude.{◌≡◌, ◌+◌, ◌<◌, ◌≤◌, ◌^◌, true, IfSome};
 ghost use Rattle.jfs_bits.specs.Bits.{is_full};
 ghost use Rattle.jfs_dmap.specs.Dmap.{blocks_of, taken_in, IsDmap};
 

@@ -1,7 +1,6 @@
 //! Calls of the map of a volume, put together.
 
-ghost use Rattle.std.specs.Prelude.{◌≡◌, ◌+◌, ◌*◌, ◌%◌, ◌^◌, ◌<◌, ◌≤◌, length, IfOk, OnOk, OnErr};
-ghost use Rattle.jfs_bmap.specs.States.{Owned, Free, Reserved, put_state};
+ghost use Rattle.std.specs.Prelude.{◌≡◌, ◌*◌, ◌%◌, ◌^◌, ◌<◌, ◌≤◌, length, OnErr};
 ghost use Rattle.jfs_map_rows.specs.Stays.{StaysReserved};
 
 use jfs_bits::{Pxd, PxdList};
