@@ -1,6 +1,7 @@
 -- Busy blocks that are freed since their entries are acknowledged.
 use Rattle.std.proofs.Common.{◌≡◌, ◌≤◌, ◌+◌, ℕ, add-one, Bool, true, false, not, ◌&&◌, ◌||◌, List, length, refl, sym, ap, ◌∙◌, arith}
 use Rattle.std.specs.Prelude.{nat_le}
+use Rattle.std.proofs.Math.Bool.{and-true}
 use Rattle.std.proofs.lemmas.Bool.{and_from}
 use Rattle.jfs_bits.specs.Bits.{is_in_run, is_taken, any_below}
 use Rattle.jfs_bits.proofs.Buds.{any_below-from}
@@ -15,10 +16,6 @@ pub record IsFreed (used busy told done : ℕ → Bool) (used_now : List Bool) (
   pub of_busy : (b : ℕ) → is_taken busy_now b ≡ (busy b && not (done b && told b))
 
 -- ---- one block: `x` is whether it is added, `d` whether it is in `done`, `u` whether it was used, `y` busy, and `t` whether it is told
-
-and_true : (x : Bool) → (x && true) ≡ x
-and_true true = refl
-and_true false = refl
 
 -- no block
 no_block : (u : Bool) → false ≡ (u && false)
@@ -86,13 +83,13 @@ module _ {used busy told done : ℕ → Bool} {used_now : List Bool} {busy_now :
 
 -- a block that isn't in `done` is as it was
 pub freed-else : {used busy told done : ℕ → Bool} {used_now : List Bool} {busy_now : List ℕ} → (b : ℕ) → IsFreed used busy told done used_now busy_now → done b ≡ false → (taken_at used_now b ≡ used b) × (is_taken busy_now b ≡ busy b)
-freed-else {used} {busy} b freed h = (freed.of_used b ∙ rw h (and_true (used b)), freed.of_busy b ∙ rw h (and_true (busy b)))
+freed-else {used} {busy} b freed h = (freed.of_used b ∙ rw h (and-true (used b)), freed.of_busy b ∙ rw h (and-true (busy b)))
 
 -- no block is freed yet
 pub freed-start : (told done : ℕ → Bool) (used_now : List Bool) (busy_now : List ℕ) → ((b : ℕ) → done b ≡ false) → IsFreed (taken_at used_now) (is_taken busy_now) told done used_now busy_now
 freed-start told done used_now busy_now h = record {
-  of_used = λ b. rw (h b) (sym (and_true (taken_at used_now b)));
-  of_busy = λ b. rw (h b) (sym (and_true (is_taken busy_now b)));
+  of_used = λ b. rw (h b) (sym (and-true (taken_at used_now b)));
+  of_busy = λ b. rw (h b) (sym (and-true (is_taken busy_now b)));
 }
 
 -- ---- the blocks of runs
@@ -138,4 +135,4 @@ freed-all {used} {busy} freed entries told i all covered f b =
 
 -- a run whose entry is told
 pub covers-told : (run : Freed) (told b : ℕ) → nat_le run.entry told ≡ true → (covers run b && nat_le run.entry told) ≡ covers run b
-covers-told run told b h = rw h (and_true (covers run b))
+covers-told run told b h = rw h (and-true (covers run b))

@@ -44,6 +44,7 @@ pub fn disown(owned: &mut MapPages, busy: &mut [u8], entries: &mut [u64], run: F
 {
     // at most 2^23, so that the number of each block of the run is a u32
     let _ = owned.blocks();
+    // the usual case: a whole run changes the leaves of its words once, and not once a block
     if owned.is_full(run.first, run.blocks) {
         owned.clear(run.first, run.blocks);
         set_run(busy, run.first, run.blocks);
@@ -113,6 +114,7 @@ fn free_blocks(entries: &[u64], told: u64, used: &mut MapPages, busy: &mut [u8],
 {
     // at most 2^23, so that the number of each block of the run is a u32
     let _ = used.blocks();
+    // the usual case, as a whole run again
     if are_settled(entries, told, busy, first, n) {
         used.clear(first, n);
         clear_run(busy, first, n);
