@@ -4,5 +4,6 @@ pub mod Words
 pub mod Runs
 pub mod Buds
 pub mod Descriptors
+pub mod Extents
 pub mod Pieces
 pub mod Counts
