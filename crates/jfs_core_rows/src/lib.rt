@@ -16,6 +16,8 @@ mod crashes;
 mod edits;
 #[cfg(test)]
 mod refusals;
+#[cfg(test)]
+mod views;
 
 /// A step, as the tables write it.
 #[derive(Clone, Copy)]

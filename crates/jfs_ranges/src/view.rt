@@ -1,8 +1,10 @@
 //! A view of a volume's pages.
 
-ghost use Rattle.std.specs.Prelude.{◌≡◌, ◌<◌, ◌≤◌, ℕ, IfOk, IfErr};
+ghost use Rattle.std.specs.Prelude.{◌≡◌, ◌<◌, ℕ, IfOk};
+ghost use Rattle.std.specs.Borrow.{sem};
+ghost use Rattle.std.specs.Io.BufRead.{Rests};
 ghost use Rattle.jfs_disk.specs.Image.{Image, page_of};
-ghost use Rattle.jfs_ranges.specs.View.{HasCause};
+ghost use Rattle.jfs_ranges.specs.View.{IsLent, AreWhole};
 
 use jfs_disk::{Fault, Page};
 
@@ -37,5 +39,11 @@ pub trait PageView {
     fn page(&mut self, n: u32) -> Result<&Page, ViewError>
         requires { n < block_count self.old }
         ensures bytes { IfOk result (λ page. tells → page.now.0 ≡ page_of (image self.old) n) }
-        ensures cause { IfErr result (λ e. HasCause (fault_count self.old) e) };
+
+        // Once the page is given back, the view has the same pages, and its count rose only with a fault.
+        ensures* after { sem 𝓛 (Rests Self.row self.entry (λ new. IsLent tells
+            (block_count self.old) (block_count new) (image self.old) (image new) (fault_count self.old) (fault_count new) result)) };
+
+    /// Each page has 4,096 bytes.
+    ghost has_pages: { (view : Self) → tells → AreWhole (block_count view) (image view) };
 }
