@@ -7,3 +7,4 @@ pub mod Descriptors
 pub mod Extents
 pub mod Pieces
 pub mod Counts
+pub mod Broken

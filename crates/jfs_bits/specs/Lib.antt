@@ -6,3 +6,4 @@ pub mod Extent
 pub mod Piece
 pub mod Rule
 pub mod Line
+pub mod Broken

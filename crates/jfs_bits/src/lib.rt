@@ -17,4 +17,4 @@ pub use field::{
 };
 pub use flags::SuperFlags;
 pub use list::{Blob, LineRange, PxdList, Ranges, Sequence};
-pub use rule::{PageKind, Rule};
+pub use rule::{PageKind, Rule, require};

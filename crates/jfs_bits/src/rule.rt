@@ -1,6 +1,7 @@
-//! The names of the format's rules, and the kinds of logged pages.
+//! The format's rules and their names, and the kinds of logged pages.
 
-ghost use Rattle.std.specs.Prelude.{◌≡◌, ◌≤◌};
+ghost use Rattle.std.specs.Prelude.{◌≡◌, ◌≤◌, [], ◌∷◌};
+ghost use Rattle.jfs_bits.specs.Broken.{Answers};
 ghost use Rattle.jfs_bits.specs.Rule.{name_of};
 ghost use Rattle.jfs_bits.specs.Line.{l2_line};
 
@@ -136,6 +137,13 @@ impl Rule {
             Rule::Grow => "grow",
         }
     }
+}
+
+/// Content where a rule holds; else the answer for it. A check of rules in their order is a row of these with `?`.
+pub fn require<Answer: Drop>(holds: bool, answer: Answer) -> Result<(), Answer>
+    ensures { Answers result (record { answer = answer; holds = holds } ∷ []) }
+{
+    if holds { Ok(()) } else { Err(answer) }
 }
 
 /// The kinds of pages that the log names, with their page types. (JFS Log, REDOPAGE.)

@@ -4,7 +4,8 @@ use Rattle.jfs_bits.specs.Count.{Rose}
 use Rattle.jfs_disk.specs.Image.{Image}
 use Rattle.jfs_super.specs.declared.fields.Super.{Super}
 use Rattle.jfs_super.specs.Super.{super_of}
-use Rattle.jfs_super.specs.Rules.{first_broken, rows, IsAccepted}
+use Rattle.jfs_bits.specs.Broken.{first_broken}
+use Rattle.jfs_super.specs.Rules.{rows, IsAccepted}
 use Rattle.jfs_command.specs.declared.status.Status.{Status}
 use Rattle.jfs_command.specs.declared.status.Status.TheVariants as statuses
 use Rattle.jfs_command.specs.Top.{IsPage8}

@@ -3,7 +3,8 @@ use Rattle.std.specs.Prelude.{◌≡◌, ◌⊎◌, ◌≤◌, ℕ, List, Some, 
 use Rattle.jfs_bits.specs.Count.{Rose}
 use Rattle.jfs_disk.specs.Image.{Image, page_of}
 use Rattle.jfs_super.specs.Super.{super_of}
-use Rattle.jfs_super.specs.Rules.{first_broken, rows, IsAccepted}
+use Rattle.jfs_bits.specs.Broken.{first_broken}
+use Rattle.jfs_super.specs.Rules.{rows, IsAccepted}
 use Rattle.jfs_command.specs.declared.words.Usage.{Usage}
 use Rattle.jfs_command.specs.declared.words.Command.{Command}
 use Rattle.jfs_command.specs.declared.words.Command.TheVariants.{Super}

@@ -1,22 +1,18 @@
 -- The rules of a superblock, in the order in which they are looked at. (JFS Layout, and this project's profile.)
-use Rattle.std.specs.Prelude.{◌≡◌, ℕ, ◌+◌, ◌/◌, ◌%◌, ◌^◌, Bool, not, nat_le, ◌==◌, ◌&&◌, ◌||◌, if◌then◌else◌, List, [], ◌∷◌, ◌++◌, Option, Some, None, Result, Ok, Err}
+use Rattle.std.specs.Prelude.{◌≡◌, ℕ, ◌+◌, ◌/◌, ◌%◌, ◌^◌, Bool, not, nat_le, ◌==◌, ◌&&◌, ◌||◌, List, [], ◌∷◌, ◌++◌, None}
 use Rattle.std.specs.Int.{div_ceil, is_power_of_two}
 use Rattle.std.specs.Int.RustNames.{bit_and}
 use Rattle.std.specs.List.{list_any}
 use Rattle.jfs_bits.specs.declared.descriptor.Pxd.{Pxd}
 use Rattle.jfs_bits.specs.declared.rule.Rule.{Rule}
 use Rattle.jfs_bits.specs.declared.rule.Rule.TheVariants as rules
+use Rattle.jfs_bits.specs.Broken.{Row, first_broken}
 use Rattle.jfs_super.specs.declared.fields.Super.{Super}
 use Rattle.jfs_super.specs.declared.read.BadSuper.{BadSuper}
 
 -- a rule, the value of its field, and whether it holds
-pub record Row : Type 0 where
-  pub rule : Rule
-  pub value : ℕ
-  pub holds : Bool
-
-abbrev row : Rule → ℕ → Bool → Row
-row rule value holds = record { rule = rule; value = value; holds = holds }
+abbrev row : Rule → ℕ → Bool → Row BadSuper
+row rule value holds = record { answer = record { rule = rule; value = value }; holds = holds }
 
 -- the run ends within so many blocks
 abbrev pub ends_within : Pxd → ℕ → Bool
@@ -34,7 +30,7 @@ has_flag s flag = bit_and s.flag.0 flag == flag
 abbrev groups_of : Super → ℕ
 groups_of s = div_ceil (blocks_of s) s.agsize
 
-unfoldable pub shape_rows : Super → ℕ → List Row
+unfoldable pub shape_rows : Super → ℕ → List (Row BadSuper)
 shape_rows s pages =
     row rules.Short pages (nat_le 9 pages) ∷
     row rules.Magic s.magic (s.magic == 0x3153464A) ∷
@@ -46,7 +42,7 @@ shape_rows s pages =
     row rules.L2pbsize s.l2pbsize (s.l2pbsize == 9) ∷ []
 
 -- an inline log, no volume of OS/2, no directory index, no compression
-unfoldable pub flag_rows : Super → List Row
+unfoldable pub flag_rows : Super → List (Row BadSuper)
 flag_rows s =
     row rules.Inline s.flag.0 (has_flag s 0x800) ∷
     row rules.Os2 s.flag.0 (not (has_flag s 0x40000000)) ∷
@@ -54,33 +50,23 @@ flag_rows s =
     row rules.Compress s.compress (s.compress == 0) ∷ []
 
 -- 64 to 2^23 whole blocks, at most 128 groups of a power of two, and a known state
-unfoldable pub size_rows : Super → List Row
+unfoldable pub size_rows : Super → List (Row BadSuper)
 size_rows s =
     row rules.Size s.size (s.size % 8 == 0 && nat_le 64 (blocks_of s) && nat_le (blocks_of s) (2 ^ 23)) ∷
     row rules.Agsize s.agsize (is_power_of_two s.agsize && nat_le 8192 s.agsize && nat_le (groups_of s) 128) ∷
     row rules.State s.state.0 (list_any (λ state. state == s.state.0) (0 ∷ 1 ∷ 2 ∷ 4 ∷ 8 ∷ [])) ∷ []
 
 -- the log lies behind the blocks and within the disk; the second inode table has 4 blocks and the second inode map 2, within the blocks
-unfoldable pub log_rows : Super → ℕ → List Row
+unfoldable pub log_rows : Super → ℕ → List (Row BadSuper)
 log_rows s pages =
     row rules.Log s.logpxd.addr (nat_le (blocks_of s) s.logpxd.addr && nat_le 256 s.logpxd.len && nat_le s.logpxd.len 32768 && ends_within s.logpxd pages) ∷
     row rules.Second s.ait2.addr (s.ait2.len == 4 && ends_within s.ait2 (blocks_of s)) ∷
     row rules.Second s.aim2.addr (s.aim2.len == 2 && ends_within s.aim2 (blocks_of s)) ∷ []
 
 -- all rules of a superblock on a disk of so many pages, in their order
-unfoldable pub rows : Super → ℕ → List Row
+unfoldable pub rows : Super → ℕ → List (Row BadSuper)
 rows s pages = shape_rows s pages ++ (flag_rows s ++ (size_rows s ++ log_rows s pages))
-
--- the first rule that is broken
-abbrev pub first_broken : List Row → Option BadSuper
-first_broken [] = None
-first_broken (r ∷ rs) = if r.holds then first_broken rs else Some (record { rule = r.rule; value = r.value })
 
 -- a superblock that breaks no rule on a disk of so many pages
 abbrev pub IsAccepted : Super → ℕ → Type 0
 IsAccepted s pages = first_broken (rows s pages) ≡ None
-
--- a check answers the first of these rules that is broken, and is content where there is none
-abbrev pub Answers : Result (Unit {0}) BadSuper → List Row → Type 0
-Answers (Ok _) rs = first_broken rs ≡ None
-Answers (Err bad) rs = first_broken rs ≡ Some bad

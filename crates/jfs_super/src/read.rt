@@ -2,8 +2,9 @@
 
 ghost use Rattle.std.specs.Prelude.{◌≡◌, [], ◌∷◌, None, Some, IfOk, IfErr};
 ghost use Rattle.jfs_bits.specs.Descriptor.{FitsPxd};
+ghost use Rattle.jfs_bits.specs.Broken.{Answers, first_broken};
 ghost use Rattle.jfs_super.specs.Super.{super_of, FitsSuper};
-ghost use Rattle.jfs_super.specs.Rules.{IsAccepted, first_broken, Answers, ends_within, shape_rows, flag_rows, size_rows, log_rows, rows};
+ghost use Rattle.jfs_super.specs.Rules.{IsAccepted, ends_within, shape_rows, flag_rows, size_rows, log_rows, rows};
 
 use crate::fields::{Super, VolumeState};
 use bitflags::Flags;
@@ -21,7 +22,7 @@ pub struct BadSuper {
 }
 
 /// Reads the superblock of an image of so many pages.
-#[tactic(auto, using(crate::proofs::Rules::later, crate::proofs::Rules::earlier), unfolding(crate::specs::Rules::rows))]
+#[tactic(auto, using(jfs_bits::proofs::Broken::later, jfs_bits::proofs::Broken::earlier), unfolding(crate::specs::Rules::rows))]
 pub fn read_super(page: &Page, pages: u32) -> Result<Super, BadSuper>
     // It is accepted exactly where it breaks no rule, and then it is what the page spells.
     ensures accepted { IfOk result (λ s. IsAccepted s pages × (s ≡ super_of page.now.0)) }
@@ -77,13 +78,9 @@ fn spelled(page: &Page) -> Super
 
 // The rule holds, or it is the one that is broken.
 fn require(holds: bool, rule: Rule, value: u64) -> Result<(), BadSuper>
-    ensures { Answers result (record { rule = rule; value = value; holds = holds } ∷ []) }
+    ensures { Answers result (record { answer = record { rule = rule; value = value }; holds = holds } ∷ []) }
 {
-    if holds {
-        Ok(())
-    } else {
-        Err(BadSuper { rule, value })
-    }
+    jfs_bits::require(holds, BadSuper { rule, value })
 }
 
 #[tactic(auto, unfolding(crate::specs::Rules::shape_rows))]
