@@ -1,18 +1,66 @@
 //! A disk over a file. It tells nothing of its contents: what a real file holds is trusted.
 
-ghost use Rattle.std.specs.Prelude.{◌≡◌, ◌≢◌, []};
+ghost use Rattle.std.specs.Prelude.{◌≡◌, ◌≢◌, ◌/◌, ◌-◌, ◌^◌, min, []};
 ghost use Rattle.jfs_disk.specs.Fault.{HasCause};
 
 use jfs_disk::{Disk, DiskError, Page};
-use std::fs::{File, OpenFile, OpenOptions};
+use std::fmt::{Display, Formatter};
+use std::fs::{File, OpenFile, OpenOptions, TryLockError};
+use std::io::{Seek, SeekFrom};
+use std::os::fd::AsRawFd;
 use std::os::unix::fs::FileExt;
 use std::rt::Files;
-use std::{io, str};
+use std::{fmt, io, str};
 
 const PAGE_BYTES: u64 = 4096;
 
-/// An image: one open file for reads and one for writes, and how often a call failed. Of a name that can't be opened
-/// it has no pages, and each call on it fails.
+/// What a command does with its image.
+#[derive(Clone, Copy, Debug, PartialEq, Eq)]
+pub enum Access {
+    /// It only reads: others may read at the same time.
+    Read,
+    /// It writes too: it has the image alone.
+    Write,
+}
+
+/// Why an image can't be opened.
+#[derive(Debug, Drop)]
+pub enum OpenError {
+    /// The system refuses it.
+    System(io::Error),
+    /// Another process has it.
+    InUse,
+    /// It was given the number of a standard stream that is closed, so text could be written into it.
+    Standard,
+}
+
+impl From<io::Error> for OpenError {
+    fn from(e: io::Error) -> OpenError {
+        OpenError::System(e)
+    }
+}
+
+impl From<TryLockError> for OpenError {
+    fn from(e: TryLockError) -> OpenError {
+        match e {
+            TryLockError::Error(e) => OpenError::System(e),
+            TryLockError::WouldBlock => OpenError::InUse,
+        }
+    }
+}
+
+impl Display for OpenError {
+    fn fmt<W: fmt::Write>(&self, f: &mut Formatter<W>) -> fmt::Result {
+        match self {
+            OpenError::System(e) => Display::fmt(e, f),
+            OpenError::InUse => f.write_str("in use by another process"),
+            OpenError::Standard => f.write_str("standard input, output or error is closed"),
+        }
+    }
+}
+
+/// An image: one open file for reads and, where the command writes, one for writes, and how often a call failed.
+/// Of a name that can't be opened it has no pages, and each call on it fails.
 #[derive(Drop)]
 pub struct FileDisk {
     files: Option<ImageFiles>,
@@ -20,7 +68,7 @@ pub struct FileDisk {
     faults: u64,
 }
 
-/// The file that is read, and the same file to be written, where that is allowed.
+/// The file that is read, and the same file to be written.
 #[derive(Drop)]
 struct ImageFiles {
     reads: File,
@@ -28,24 +76,38 @@ struct ImageFiles {
 }
 
 impl FileDisk {
-    /// Opens the image of that name.
-    pub fn open<R: Files<File = File>>(rt: &R, name: &[u8]) -> FileDisk {
-        let Ok(name) = str::from_utf8(name) else {
-            return FileDisk::closed();
-        };
-        let Ok(reads) = OpenOptions::new().read(true).open(rt, name) else {
-            return FileDisk::closed();
-        };
-        let pages = match reads.metadata() {
-            Ok(metadata) => (metadata.len() / PAGE_BYTES).min(u64::from(u32::MAX)) as u32,
-            Err(_) => return FileDisk::closed(),
-        };
-        let writes = OpenOptions::new().write(true).open(rt, name).ok();
-        FileDisk {
-            files: Some(ImageFiles { reads, writes }),
-            pages,
-            faults: 0,
+    /// Opens the image of that name, a file or a block device, and takes the system's advisory lock on it: shared to
+    /// read, exclusive to write. It doesn't wait for one.
+    pub fn open<R: Files<File = File>>(
+        rt: &R,
+        name: &[u8],
+        access: Access,
+    ) -> Result<FileDisk, OpenError> {
+        let name = str::from_utf8(name).map_err(|_| io::Error::from(io::ErrorKind::InvalidInput))?;
+        let reads = OpenOptions::new().read(true).open(rt, name)?;
+        if is_standard(&reads) {
+            return Err(OpenError::Standard);
         }
+        if reads.metadata()?.is_dir() {
+            return Err(OpenError::System(io::Error::from(io::ErrorKind::IsADirectory)));
+        }
+        let writes = match access {
+            Access::Read => {
+                reads.try_lock_shared()?;
+                None
+            }
+            Access::Write => {
+                reads.try_lock()?;
+                Some(OpenOptions::new().write(true).open(rt, name)?)
+            }
+        };
+        // The metadata of a block device has no length.
+        let bytes = (&reads).seek(SeekFrom::End(0))?;
+        Ok(FileDisk {
+            files: Some(ImageFiles { reads, writes }),
+            pages: whole_pages(bytes),
+            faults: 0,
+        })
     }
 
     /// A disk of a name that can't be opened.
@@ -131,7 +193,8 @@ impl Disk for FileDisk {
 
     fn sync(&mut self) -> Result<(), DiskError> {
         let done = match self.written() {
-            Ok(file) => file.sync_all(),
+            // The file's length never changes, so its data alone is synced.
+            Ok(file) => file.sync_data(),
             Err(e) => Err(e),
         };
         self.counted(done)
@@ -140,4 +203,16 @@ impl Disk for FileDisk {
     fn faults(&self) -> u64 {
         self.faults
     }
+}
+
+/// Whether a file has the number of standard input, output or error.
+pub fn is_standard(file: &File) -> bool {
+    file.as_raw_fd() <= 2
+}
+
+/// How many whole pages a file of so many bytes has, up to the last number of a page.
+fn whole_pages(bytes: u64) -> u32
+    ensures { result ≡ min (bytes / 4096) (2 ^ 32 - 1) }
+{
+    (bytes / PAGE_BYTES).min(u64::from(u32::MAX)) as u32
 }

@@ -5,19 +5,21 @@ mod file_disk;
 mod file_source;
 mod out_sink;
 
-use file_disk::FileDisk;
+use file_disk::{Access, FileDisk, is_standard};
 use file_source::FileSource;
 use jfs_bits::Moment;
 use jfs_command::{PathsError, jfs_top, paths_of};
 use jfs_io::OpenGate;
 use out_sink::OutSink;
 use std::alloc::{AllocError, Global};
+use std::fs::File;
 use std::process::ExitCode;
-use std::rt::{Clock, Env};
+use std::rt::{Clock, Env, Files};
 use std::time::{Duration, SystemTime, UNIX_EPOCH};
-use std::{env, io};
+use std::{env, fs, io, str};
 
 fn main(rt: HostRuntime) -> ExitCode {
+    let _placeholders = Placeholders::open(&rt);
     let mut out = OutSink::new(io::writer(&rt));
     let words = match words(&rt) {
         Ok(words) => words,
@@ -26,8 +28,8 @@ fn main(rt: HostRuntime) -> ExitCode {
     };
     let alloc = rt.alloc();
     let disk = match paths_of(alloc, &words) {
-        Ok(paths) => match words.get((paths.image as usize).saturating_sub(1)) {
-            Some(name) => FileDisk::open(&rt, name),
+        Ok(paths) => match word(&words, paths.image) {
+            Some(name) => opened(&rt, name, access_of(&words)),
             None => FileDisk::closed(),
         },
         Err(PathsError::Usage(_)) => FileDisk::closed(),
@@ -45,6 +47,55 @@ fn main(rt: HostRuntime) -> ExitCode {
         &OpenGate,
     );
     ExitCode::from(ended.status.number())
+}
+
+/// Files under the numbers of standard input, output and error where the caller closed these. Without them an image could
+/// be opened under such a number, and text would be written into it. Nothing can be written to them.
+#[derive(Drop)]
+struct Placeholders {
+    _files: [Option<File>; 3],
+}
+
+impl Placeholders {
+    fn open<R: Files<File = File>>(rt: &R) -> Placeholders {
+        let mut files = [None, None, None];
+        for file in &mut files {
+            *file = placeholder(rt);
+        }
+        Placeholders { _files: files }
+    }
+}
+
+// A file that takes the lowest free number, where that is one of the standard ones.
+fn placeholder<R: Files<File = File>>(rt: &R) -> Option<File> {
+    let file = fs::open(rt, "/dev/null").ok()?;
+    is_standard(&file).then_some(file)
+}
+
+// The word at a place, which counts from 1.
+fn word(words: &[Vec<u8>], place: u32) -> Option<&[u8]> {
+    let word = words.get((place as usize).checked_sub(1)?)?;
+    Some(word.as_slice())
+}
+
+// What the command, which the first word names, does with its image.
+fn access_of(words: &[Vec<u8>]) -> Access {
+    match word(words, 1) {
+        Some(b"super") => Access::Read,
+        _ => Access::Write,
+    }
+}
+
+// The image of that name. Where it can't be opened, standard error has the reason, and the image is a disk without pages.
+fn opened<R: Files<File = File> + Eprint>(rt: &R, name: &[u8], access: Access) -> FileDisk {
+    match FileDisk::open(rt, name, access) {
+        Ok(disk) => disk,
+        Err(reason) => {
+            let name = str::from_utf8(name).unwrap_or("");
+            let _ = eprintln!(rt; "jfsd: {name}: {reason}");
+            FileDisk::closed()
+        }
+    }
 }
 
 /// Why there are no words.
