@@ -28,13 +28,15 @@ pub trait Sink {
     ghost taken: { Self → List ℕ };
 
     /// Takes some front bytes of `bytes` and answers how many. It answers 0 to a piece that isn't empty only where the
-    /// count of faults rose.
+    /// count of faults rose. Where it took something or found no memory, the count stays.
     fn put(&mut self, bytes: &[u8]) -> Result<usize, SinkError>
         ensures count { IfOk result (λ n. n ≤ length bytes.now) }
         ensures bytes { IfOk result (λ n. tells → taken self.new ≡ taken self.old ++ take n bytes.now) }
         ensures stuck { IfOk result (λ n. n ≡ 0 → 0 < length bytes.now → Rose (fault_count self.old) (fault_count self.new)) }
         ensures failed { OnErr result (tells → taken self.new ≡ taken self.old) }
         ensures later { fault_count self.old ≤ fault_count self.new }
+        ensures same { IfOk result (λ n. 0 < n → fault_count self.new ≡ fault_count self.old) }
+        ensures same_memory { result ≡ Err SinkError.Memory → fault_count self.new ≡ fault_count self.old }
         ensures cause { result ≡ Err SinkError.Failed → Rose (fault_count self.old) (fault_count self.new) };
 
     /// How often a call failed, up to the last `u64` value.
@@ -109,6 +111,8 @@ impl Sink for MemSink {
         ensures stuck { IfOk result (λ n. n ≡ 0 → 0 < length bytes.now → Rose self.old.failing.faults self.new.failing.faults) }
         ensures failed { OnErr result (self.new.taken ≡ self.old.taken) }
         ensures later { self.old.failing.faults ≤ self.new.failing.faults }
+        ensures same { IfOk result (λ n. 0 < n → self.new.failing.faults ≡ self.old.failing.faults) }
+        ensures same_memory { result ≡ Err SinkError.Memory → self.new.failing.faults ≡ self.old.failing.faults }
         ensures cause { result ≡ Err SinkError.Failed → Rose self.old.failing.faults self.new.failing.faults }
 
         // It fails exactly where it was told to, and else takes all or finds no memory.
@@ -117,7 +121,7 @@ impl Sink for MemSink {
         ensures else_all { is_failing self.old.failing ≡ false →
             (result ≡ Ok (length bytes.now)) ⊎ (result ≡ Err SinkError.Memory) }
         ensures counted { self.new.failing ≡ after_call self.old.failing }
-        ensures same { self.new.zero_bytes ≡ self.old.zero_bytes }
+        ensures zero_bytes { self.new.zero_bytes ≡ self.old.zero_bytes }
     {
         if self.failing.next_fails() {
             return if self.zero_bytes {

@@ -1,6 +1,6 @@
 //! Sources of bytes.
 
-ghost use Rattle.std.specs.Prelude.{◌≡◌, ◌<◌, ◌≤◌, [], ◌++◌, ℕ, List, length, take, drop, min, IfOk, OnErr, IsErr, IsTrue, ◌↔◌};
+ghost use Rattle.std.specs.Prelude.{◌≡◌, ◌<◌, ◌≤◌, [], ◌++◌, ℕ, List, length, take, drop, min, IfOk, OnOk, OnErr, IsErr, IsTrue, ◌↔◌};
 ghost use Rattle.jfs_bits.specs.Count.{Rose};
 
 use crate::failing::Failing;
@@ -22,7 +22,7 @@ pub trait Source {
     ghost remaining: { Self → List ℕ };
 
     /// Puts the next bytes into the front of `into` and answers how many they are. 0 for a buffer that isn't empty is
-    /// the end of the input. After an `Err`, `into` may hold any bytes.
+    /// the end of the input. After an `Err`, `into` may hold any bytes. The count of faults rises only with an `Err`.
     fn take(&mut self, into: &mut [u8]) -> Result<usize, IoFailed>
         ensures count { IfOk result (λ n. n ≤ length into.old) }
         ensures bytes { IfOk result (λ n. tells → into.new ≡ take n (remaining self.old) ++ drop n into.old) }
@@ -30,6 +30,7 @@ pub trait Source {
         ensures end { IfOk result (λ n. tells → n ≡ 0 → 0 < length into.old → remaining self.old ≡ []) }
         ensures failed { OnErr result (tells → remaining self.new ≡ remaining self.old) }
         ensures later { fault_count self.old ≤ fault_count self.new }
+        ensures same { OnOk result (fault_count self.new ≡ fault_count self.old) }
         ensures cause { OnErr result (Rose (fault_count self.old) (fault_count self.new)) };
 
     /// How often a call failed, up to the last `u64` value.
@@ -100,6 +101,7 @@ impl Source for MemSource {
         ensures end { IfOk result (λ n. n ≡ 0 → 0 < length into.old → self.old.left ≡ []) }
         ensures failed { OnErr result (self.new.left ≡ self.old.left) }
         ensures later { self.old.failing.faults ≤ self.new.failing.faults }
+        ensures same { OnOk result (self.new.failing.faults ≡ self.old.failing.faults) }
         ensures cause { OnErr result (Rose self.old.failing.faults self.new.failing.faults) }
 
         // It fails exactly where it was told to, and else gives all that there is room for.
