@@ -8,8 +8,8 @@ use Rattle.std.specs.declared.cmp.Ordering.TheVariants.{Less, Equal, Greater}
 use Rattle.std.proofs.lemmas.List.{length-map, length-append, map-append, get_or-map, map-set}
 use Rattle.std.proofs.lemmas.Cmp.{ranked}
 use Rattle.jfs_disk.specs.Image.{page_of}
-use Rattle.jfs_disk.specs.Crash.{DiskState, seen_of, last_of}
-use Rattle.jfs_disk.specs.Calls.{at_rest, after_call, states_of}
+use Rattle.jfs_disk.specs.Crash.{DiskState, seen_of, last_of, at_rest}
+use Rattle.jfs_disk.specs.Calls.{after_call, states_of}
 use Rattle.jfs_disk.specs.Cells.{blank, bytes_of, image_of, numbers, starts, nows, past_of, state_of, IsSound}
 use Rattle.jfs_disk.specs.declared.call.Call.{Call}
 use Rattle.jfs_disk.specs.declared.call.Call.TheVariants.{Wrote}

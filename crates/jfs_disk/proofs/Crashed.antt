@@ -6,8 +6,8 @@ use Rattle.std.proofs.Math.Seq.{map-set_same}
 use Rattle.std.proofs.lemmas.List.FromFn.{get_or-map-range_with_len, length-map-range_with_len}
 use Rattle.std.proofs.lemmas.Bool.{leb-true, cases_eq, cases_lt}
 use Rattle.jfs_disk.specs.Image.{Image, page_of}
-use Rattle.jfs_disk.specs.Crash.{PageHistory, DiskState, history_of, seen_of, last_of, content_of, torn, IsCrashPage, IsCrashImage}
-use Rattle.jfs_disk.specs.Calls.{resting, at_rest, page_after_calls}
+use Rattle.jfs_disk.specs.Crash.{PageHistory, DiskState, history_of, seen_of, last_of, content_of, torn, IsCrashPage, IsCrashImage, resting, at_rest}
+use Rattle.jfs_disk.specs.Calls.{page_after_calls}
 use Rattle.jfs_disk.specs.Steps.{history-after_calls, last_of-states}
 use Rattle.jfs_disk.specs.Seen.{page_of-seen_of}
 use Rattle.jfs_disk.specs.Cells.{blank, bytes_of, image_of, past_of, state_of, IsSound, numbers, starts, nows}
@@ -16,7 +16,7 @@ use Rattle.jfs_disk.specs.Left.{left_of, AreSettled}
 use Rattle.jfs_disk.specs.declared.call.Call.{Call}
 use Rattle.jfs_disk.specs.declared.call.Cell.{Cell}
 use Rattle.jfs_disk.specs.declared.choice.Choice.{Choice}
-use Rattle.jfs_disk.proofs.Torn.{torn-same}
+use Rattle.jfs_disk.proofs.Tearing.{torn-same}
 use Rattle.jfs_disk.proofs.Sound.{history-start, length-state_of, seen_of-at_rest}
 
 -- some cell, where there is one

@@ -7,7 +7,7 @@ use Rattle.jfs_disk.specs.Image.{Image, page_of}
 use Rattle.jfs_disk.specs.Crash.{PageHistory, DiskState, IsCrashPage, IsCrashImage, history_of, no_page, content_of, seen_of, written, failed, settled, torn, last_of, LeftSince, AllSince, TearsPage}
 use Rattle.jfs_disk.specs.Moment.{now_of, IsResting}
 use Rattle.jfs_disk.specs.Seen.{page_of-seen_of}
-use Rattle.jfs_disk.proofs.Torn.{IsTorn, torn-same, torn-none, torn-whole, torn-over, torn-under}
+use Rattle.jfs_disk.proofs.Tearing.{IsTorn, torn-same, torn-none, torn-whole, torn-over, torn-under}
 
 -- ---- moments
 

@@ -4,6 +4,7 @@ pub mod Cells
 pub mod Outcomes
 pub mod Contents
 pub mod Crashed
-pub mod Torn
+pub mod Tearing
 pub mod Flow
 pub mod WriteThenSync
+pub mod Slots

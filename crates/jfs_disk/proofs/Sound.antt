@@ -6,8 +6,8 @@ use Rattle.std.proofs.lemmas.List.{get_or-map, length-map, length-append, get_or
 use Rattle.std.proofs.lemmas.List.FromFn.{get_or-map-range_with_len, length-map-range_with_len}
 use Rattle.std.proofs.lemmas.Bool.{cases_eq, ne_eqb}
 use Rattle.jfs_disk.specs.Image.{Image, ArePages, zeros}
-use Rattle.jfs_disk.specs.Crash.{PageHistory, DiskState, history_of, no_page, seen_of}
-use Rattle.jfs_disk.specs.Calls.{resting, at_rest, after_call, after_calls, states_of, page_after}
+use Rattle.jfs_disk.specs.Crash.{PageHistory, DiskState, history_of, no_page, seen_of, resting, at_rest}
+use Rattle.jfs_disk.specs.Calls.{after_call, after_calls, states_of, page_after}
 use Rattle.jfs_disk.specs.Cells.{blank, bytes_of, image_of, past_of, state_of, IsSound}
 use Rattle.jfs_disk.specs.declared.page.Page.{Page}
 use Rattle.jfs_disk.specs.declared.call.Call.{Call}

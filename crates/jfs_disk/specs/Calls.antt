@@ -1,17 +1,9 @@
 -- The states of a disk, from the calls that changed it.
 use Rattle.std.specs.Prelude.{ℕ, List, [], ◌∷◌, ◌++◌, map, nat_eq, if◌then◌else◌}
 use Rattle.jfs_disk.specs.Image.{Image}
-use Rattle.jfs_disk.specs.Crash.{PageHistory, DiskState, written, failed, settled}
+use Rattle.jfs_disk.specs.Crash.{PageHistory, DiskState, resting, page_written, written, failed, settled}
 use Rattle.jfs_disk.specs.declared.call.Call.{Call}
 use Rattle.jfs_disk.specs.declared.call.Call.TheVariants.{Wrote, WriteFailed, Synced}
-
--- a page that holds what was stable, with nothing pending
-abbrev pub resting : List ℕ → PageHistory
-resting bytes = record { seen = bytes; stable = bytes; writes = [] }
-
--- a disk with nothing pending
-abbrev pub at_rest : Image → DiskState
-at_rest image = map resting image
 
 -- A failed write leaves the page as it was.
 abbrev pub after_call : Call → DiskState → DiskState
@@ -30,15 +22,12 @@ states_of (call ∷ calls) state = state ∷ states_of calls (after_call call st
 
 -- ---- the same of one page
 
-abbrev pub page_written : List ℕ → PageHistory → PageHistory
-page_written bytes page = record page { seen = bytes; writes = page.writes ++ bytes ∷ [] }
-
-abbrev pub page_failed : List ℕ → PageHistory → PageHistory
-page_failed bytes page = record page { writes = page.writes ++ page.seen ∷ bytes ∷ [] }
+abbrev pub page_refused : List ℕ → PageHistory → PageHistory
+page_refused bytes page = record page { writes = page.writes ++ page.seen ∷ bytes ∷ [] }
 
 abbrev pub page_after : ℕ → Call → PageHistory → PageHistory
 page_after n (Wrote m page) old = if nat_eq n m then page_written page.value.0 old else old
-page_after n (WriteFailed m page) old = if nat_eq n m then page_failed page.value.0 old else old
+page_after n (WriteFailed m page) old = if nat_eq n m then page_refused page.value.0 old else old
 page_after n Synced old = resting old.seen
 
 -- one page, after all calls on the disk

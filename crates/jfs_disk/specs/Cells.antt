@@ -2,8 +2,8 @@
 use Rattle.std.specs.Prelude.{◌≡◌, ◌<◌, ℕ, List, length, map, get_or, replicate, Option, Some, None}
 use Rattle.std.specs.List.{range_with_len}
 use Rattle.jfs_disk.specs.Image.{Image, ArePages}
-use Rattle.jfs_disk.specs.Crash.{DiskState, history_of, seen_of}
-use Rattle.jfs_disk.specs.Calls.{resting, at_rest, after_calls, states_of}
+use Rattle.jfs_disk.specs.Crash.{DiskState, history_of, seen_of, resting, at_rest}
+use Rattle.jfs_disk.specs.Calls.{after_calls, states_of}
 use Rattle.jfs_disk.specs.declared.call.Call.{Call}
 use Rattle.jfs_disk.specs.declared.call.Cell.{Cell}
 

@@ -46,24 +46,36 @@ pub record IsCrashImage (state : DiskState) (left : Image) : Type 0 where
   pub number : length left ≡ length state
   pub each : (n : ℕ) → n < length state → IsCrashPage (history_of state n) (page_of left n)
 
--- ---- what the device calls do
+-- ---- what the device calls do to a page
+
+-- a page that holds what was stable, with nothing pending
+abbrev pub resting : List ℕ → PageHistory
+resting bytes = record { seen = bytes; stable = bytes; writes = [] }
 
 -- a write is pending, and a read gives it
-unfoldable pub written : ℕ → List ℕ → DiskState → DiskState
-written n bytes state =
-    let page = history_of state n in
-    set state n (record page { seen = bytes; writes = page.writes ++ bytes ∷ [] })
+abbrev pub page_written : List ℕ → PageHistory → PageHistory
+page_written bytes page = record page { seen = bytes; writes = page.writes ++ bytes ∷ [] }
 
 -- A write that failed is pending too. Before it stands, as a write, what a read then gives: some sectors of it.
+abbrev pub page_failed : List ℕ → ℕ → PageHistory → PageHistory
+page_failed bytes sectors page =
+    let left = torn sectors bytes page.seen in record page { seen = left; writes = page.writes ++ left ∷ bytes ∷ [] }
+
+-- ---- what they do to a disk
+
+unfoldable pub written : ℕ → List ℕ → DiskState → DiskState
+written n bytes state = set state n (page_written bytes (history_of state n))
+
 unfoldable pub failed : ℕ → List ℕ → ℕ → DiskState → DiskState
-failed n bytes sectors state =
-    let page = history_of state n in
-    let left = torn sectors bytes page.seen in
-    set state n (record page { seen = left; writes = page.writes ++ left ∷ bytes ∷ [] })
+failed n bytes sectors state = set state n (page_failed bytes sectors (history_of state n))
 
 -- after a sync, what a read gives is stable and nothing is pending
 unfoldable pub settled : DiskState → DiskState
-settled state = map (λ page. record { seen = page.seen; stable = page.seen; writes = [] }) state
+settled state = map (λ page. resting page.seen) state
+
+-- a disk with nothing pending
+abbrev pub at_rest : Image → DiskState
+at_rest image = map resting image
 
 -- ---- moments
 

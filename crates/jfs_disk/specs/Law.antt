@@ -3,8 +3,8 @@ use Rattle.std.specs.Prelude.{◌≡◌, ◌<◌, ◌≤◌, ℕ, List, [], ◌�
 use Rattle.std.proofs.Common.{refl, sym, ◌∙◌, subst, arith, suc}
 use Rattle.std.proofs.lemmas.List.{get_or_at, length-append, length-map, get_or-map}
 use Rattle.jfs_disk.specs.Image.{Image, page_of, ArePages}
-use Rattle.jfs_disk.specs.Crash.{PageHistory, DiskState, history_of, seen_of, no_page, content_of, IsCrashPage, IsCrashImage, torn, last_of}
-use Rattle.jfs_disk.specs.Calls.{resting, at_rest, after_calls, states_of, page_written, page_failed, page_after, page_after_calls}
+use Rattle.jfs_disk.specs.Crash.{PageHistory, DiskState, history_of, seen_of, no_page, content_of, IsCrashPage, IsCrashImage, torn, last_of, resting, at_rest, page_written}
+use Rattle.jfs_disk.specs.Calls.{after_calls, states_of, page_refused, page_after, page_after_calls}
 use Rattle.jfs_disk.specs.declared.call.Call.{Call}
 use Rattle.jfs_disk.specs.declared.call.Call.TheVariants.{Wrote, WriteFailed, Synced}
 use Rattle.jfs_disk.specs.Steps.{history-after_calls, last_of-states, length-after_calls, length-states_of}
@@ -24,7 +24,7 @@ IsKept-written bytes page kept true = record {
 }
 IsKept-written bytes page kept false = kept
 
-IsKept-failed : (bytes : List ℕ) (page : PageHistory) → IsKept page → (test : Bool) → IsKept (if test then page_failed bytes page else page)
+IsKept-failed : (bytes : List ℕ) (page : PageHistory) → IsKept page → (test : Bool) → IsKept (if test then page_refused bytes page else page)
 IsKept-failed bytes page kept true = record {
   place = suc (length page.writes);
   there = omega (arith, length-append {A = List ℕ} page.writes (page.seen ∷ bytes ∷ []));

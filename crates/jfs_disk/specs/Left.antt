@@ -1,7 +1,8 @@
 -- What a crash leaves of a page that a disk in memory keeps.
+use Rattle.jfs_disk.specs.Crash.{resting}
 use Rattle.std.specs.Prelude.{◌≡◌, ◌<◌, ℕ, List, [], length, map, get_or}
 use Rattle.jfs_disk.specs.Cells.{numbers, starts, nows}
-use Rattle.jfs_disk.specs.Calls.{resting, page_after_calls}
+use Rattle.jfs_disk.specs.Calls.{page_after_calls}
 use Rattle.jfs_disk.specs.Choice.{left_by, choice_of}
 use Rattle.jfs_disk.specs.declared.call.Call.{Call}
 use Rattle.jfs_disk.specs.declared.call.Cell.{Cell}

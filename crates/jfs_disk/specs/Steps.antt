@@ -3,8 +3,8 @@ use Rattle.std.proofs.Common.{◌≡◌, ◌<◌, ◌-◌, ℕ, suc, List, [], �
 use Rattle.std.proofs.Math.ListN.{set}
 use Rattle.std.proofs.lemmas.List.{length-set, get_or-set_same, get_or-set_other, get_or-map, length-map}
 use Rattle.std.proofs.lemmas.Bool.{cases_eq, ne_eqb}
-use Rattle.jfs_disk.specs.Crash.{PageHistory, DiskState, history_of, no_page, written, failed, settled, torn, last_of}
-use Rattle.jfs_disk.specs.Calls.{resting, after_call, after_calls, states_of, page_written, page_failed, page_after, page_after_calls}
+use Rattle.jfs_disk.specs.Crash.{PageHistory, DiskState, history_of, no_page, written, failed, settled, torn, last_of, resting, page_written}
+use Rattle.jfs_disk.specs.Calls.{after_call, after_calls, states_of, page_refused, page_after, page_after_calls}
 use Rattle.jfs_disk.specs.declared.call.Call.{Call}
 use Rattle.jfs_disk.specs.declared.call.Call.TheVariants.{Wrote, WriteFailed, Synced}
 
@@ -61,7 +61,7 @@ update-history f state n m h = update-cases f state n m h (cases_eq n m)
 pub history-after_call : (call : Call) (state : DiskState) (n : ℕ) → n < length state → history_of (after_call call state) n ≡ page_after n call (history_of state n)
 unfolding written failed settled torn
 history-after_call (Wrote m page) state n h = update-history (page_written page.value.0) state n m h
-history-after_call (WriteFailed m page) state n h = update-history (page_failed page.value.0) state n m h
+history-after_call (WriteFailed m page) state n h = update-history (page_refused page.value.0) state n m h
 history-after_call Synced state n h = get_or-map (λ (page : PageHistory). resting page.seen) state n no_page no_page h
 
 pub history-after_calls : (calls : List Call) (state : DiskState) (n : ℕ) → n < length state → history_of (after_calls calls state) n ≡ page_after_calls n calls (history_of state n)

@@ -1,8 +1,8 @@
 //! What a crash leaves of a page.
 
-ghost use Rattle.std.specs.Prelude.{◌≡◌, ◌≤◌, ◌∷◌, ◌+◌, ◌<◌, ◌^◌, length, slice_get, nat_eq, Some, if◌then◌else◌};
-ghost use Rattle.jfs_disk.specs.Crash.{torn, PageHistory};
-ghost use Rattle.jfs_disk.specs.Calls.{resting, page_after, page_after_calls};
+ghost use Rattle.std.specs.Prelude.{◌≡◌, ◌≤◌, ◌∷◌, ◌+◌, ◌<◌, ◌^◌, length, slice_get, nat_eq, Some, if◌then◌else◌, ◌++◌, take, drop};
+ghost use Rattle.jfs_disk.specs.Crash.{torn, PageHistory, resting};
+ghost use Rattle.jfs_disk.specs.Calls.{page_after, page_after_calls};
 ghost use Rattle.jfs_disk.specs.Found.{bytes_found};
 ghost use Rattle.jfs_disk.specs.Choice.{choice_of, torn_by, Tracks};
 ghost use Rattle.jfs_disk.specs.Left.{left_of};
@@ -20,7 +20,8 @@ pub struct Choice {
     pub sectors: u32,
 }
 
-pub(crate) fn find_choice(choices: &[Choice], page: u32) -> Option<Choice>
+/// The first choice of a page.
+pub fn find_choice(choices: &[Choice], page: u32) -> Option<Choice>
     ensures { result ≡ choice_of choices.now page }
 {
     for choice in choices {
@@ -106,15 +107,23 @@ fn content<'a>(start: &'a Page, calls: &'a [Call], page: u32, k: u32) -> Option<
 }
 
 /// The first sectors of one page, then the rest of the other.
-fn tear(sectors: u32, front: &Page, rest: &Page, into: &mut Page)
+#[tactic(auto, unfolding(crate::specs::Crash::torn))]
+pub fn torn(front: &Page, rest: &Page, sectors: usize) -> Page
     requires { sectors ≤ 8 }
-    ensures { into.new.0 ≡ torn sectors front.now.0 rest.now.0 }
+    ensures { result.0 ≡ torn sectors front.now.0 rest.now.0 }
 {
-    let at = 512 * sectors as usize;
-    let front_bytes: &[u8] = &front.0;
-    let rest_bytes: &[u8] = &rest.0;
-    copy_page(rest, into);
-    into.0[..at].copy_from_slice(&front_bytes[..at]);
+    let mut page = Page(rest.0);
+    let front: &[u8] = &front.0;
+    put_front(&mut page.0, front, 512 * sectors);
+    page
+}
+
+fn put_front(bytes: &mut [u8], front: &[u8], count: usize)
+    requires within { count ≤ length bytes.old }
+    requires there { count ≤ length front.now }
+    ensures { bytes.new ≡ take count front.now ++ drop count bytes.old }
+{
+    bytes[..count].copy_from_slice(&front[..count]);
 }
 
 /// Tears a cell's page as the choice says, if it fits.
@@ -128,7 +137,7 @@ fn tear_by(choice: Choice, cell: &Cell, calls: &[Call], into: &mut Page)
         None => {}
         Some(front) => match content(&cell.start, calls, cell.page, choice.base) {
             None => {}
-            Some(rest) => tear(choice.sectors, front, rest, into),
+            Some(rest) => *into = torn(front, rest, choice.sectors as usize),
         },
     }
 }

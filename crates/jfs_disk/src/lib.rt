@@ -7,12 +7,14 @@ mod disk;
 mod memory;
 mod page;
 mod plan;
+mod slot;
 mod store;
 mod sure;
 
-pub use choice::Choice;
+pub use choice::{Choice, find_choice, torn};
 pub use disk::{Disk, DiskError, Fault, Part};
 pub use memory::MemDisk;
 pub use page::{Page, PageList};
 pub use plan::{Fail, Kind};
+pub use slot::PageSlot;
 pub use sure::SureDisk;

@@ -2,11 +2,10 @@
 
 ghost use Rattle.std.specs.Prelude.{◌≡◌, ◌≢◌, ◌<◌, ◌≤◌, ◌⊎◌, ◌++◌, ◌∷◌, [], OnOk, OnErr, false, is_ok, set, if◌then◌else◌};
 ghost use Rattle.jfs_disk.specs.Image.{zeros, page_of};
-ghost use Rattle.jfs_disk.specs.Crash.{seen_of, last_of, written, failed, settled, TearsPage, LeavesTorn, IsCrashImage};
+ghost use Rattle.jfs_disk.specs.Crash.{seen_of, last_of, written, failed, settled, TearsPage, LeavesTorn, IsCrashImage, at_rest};
 ghost use Rattle.jfs_disk.specs.Choice.{IsChosen};
 ghost use Rattle.jfs_disk.specs.Fault.{HasCause};
 ghost use Rattle.jfs_bits.specs.Count.{Rose};
-ghost use Rattle.jfs_disk.specs.Calls.{at_rest};
 ghost use Rattle.jfs_disk.specs.Plan.{raised, counted};
 ghost use Rattle.jfs_disk.specs.Store.{past_in};
 ghost use Rattle.jfs_disk.specs.Memory.{page_count_of, past_of_disk, image_of_disk, fault_count_of, part_of, fails_of, counters_of, will_fail};

@@ -1,8 +1,9 @@
 //! A page of 4,096 bytes.
 
-ghost use Rattle.std.specs.Prelude.{◌≡◌, length, replicate};
+ghost use Rattle.std.specs.Prelude.{◌≡◌, length, replicate, IfOk};
 
 use jfs_bits::Sequence;
+use std::alloc::{AllocError, Global};
 
 /// A page: 8 sectors of 512 bytes.
 #[derive(Drop)]
@@ -31,6 +32,16 @@ pub(crate) fn copy_page(from: &Page, into: &mut Page)
 {
     let bytes: &[u8] = &from.0;
     into.0.copy_from_slice(bytes);
+}
+
+/// A copy of a page, in a box of its own.
+pub(crate) fn boxed(alloc: Global, from: &Page) -> Result<Box<Page>, AllocError>
+    ensures bytes { IfOk result (λ page. page.value.0 ≡ from.now.0) }
+    ensures size { length from.now.0 ≡ 4096 }
+{
+    let mut page = Page::zeros();
+    copy_page(from, &mut page);
+    Ok(Box::new(alloc, page)?)
 }
 
 /// Pages in order.

@@ -8,7 +8,7 @@ ghost use Rattle.jfs_disk.specs.Left.{AreSettled};
 
 use crate::call::{Call, Cell};
 use crate::choice::{Choice, settle};
-use crate::page::{Page, copy_page};
+use crate::page::{Page, boxed, copy_page};
 use std::alloc::{AllocError, Global};
 use std::collections::BTreeMap;
 
@@ -26,8 +26,7 @@ pub struct Store {
 impl Store {
     ghost use Rattle.std.specs.Prelude.{◌++◌, ◌∷◌, [], OnOk, OnErr, Some, None};
     ghost use Rattle.jfs_disk.specs.Image.{zeros, page_of};
-    ghost use Rattle.jfs_disk.specs.Crash.{seen_of, last_of, written, failed, settled};
-    ghost use Rattle.jfs_disk.specs.Calls.{at_rest};
+    ghost use Rattle.jfs_disk.specs.Crash.{seen_of, last_of, written, failed, settled, at_rest};
     ghost use Rattle.jfs_disk.specs.Choice.{IsChosen};
     ghost use Rattle.jfs_disk.specs.Store.{past_in};
 
@@ -147,15 +146,6 @@ fn settle_all(cells: &mut Vec<Cell>, calls: &[Call], choices: &[Choice])
     for cell in cells.iter_mut() {
         settle(cell, calls, choices);
     }
-}
-
-fn boxed(alloc: Global, from: &Page) -> Result<Box<Page>, AllocError>
-    ensures bytes { IfOk result (λ page. page.value.0 ≡ from.now.0) }
-    ensures size { length from.now.0 ≡ 4096 }
-{
-    let mut page = Page::zeros();
-    copy_page(from, &mut page);
-    Ok(Box::new(alloc, page)?)
 }
 
 /// From now on a read of the page at this place gives these bytes.

@@ -1,5 +1,5 @@
+use Rattle.jfs_disk.specs.Crash.{resting}
 use Rattle.std.proofs.Common.{arith}
-use Rattle.jfs_disk.specs.Calls.{resting}
 use Rattle.jfs_disk.proofs.Contents.{page_after_calls-more}
 use Rattle.jfs_disk.proofs.choice.content.Goals as goal
 

@@ -1,5 +1,6 @@
+use Rattle.jfs_disk.specs.Crash.{resting}
 use Rattle.std.proofs.Common.{◌≤◌, ◌*◌, take}
-use Rattle.jfs_disk.specs.Calls.{resting, page_after_calls}
+use Rattle.jfs_disk.specs.Calls.{page_after_calls}
 use Rattle.jfs_disk.specs.Choice.{Tracks}
 use Rattle.jfs_disk.specs.Found.{bytes_found}
 use Rattle.jfs_disk.proofs.choice.content.Given as goal

@@ -1,8 +1,7 @@
 use Rattle.std.proofs.Common.{◌≡◌, ◌∷◌, [], refl, subst, nat_cmp, List}
 use Rattle.std.specs.BTreeMap.{get}
 use Rattle.jfs_disk.specs.Image.{Image}
-use Rattle.jfs_disk.specs.Crash.{last_of}
-use Rattle.jfs_disk.specs.Calls.{at_rest}
+use Rattle.jfs_disk.specs.Crash.{last_of, at_rest}
 use Rattle.jfs_disk.specs.Cells.{starts, image_of, past_of}
 use Rattle.jfs_disk.specs.Choice.{IsChosen}
 use Rattle.jfs_disk.specs.Left.{AreSettled}

@@ -1,8 +1,7 @@
 use Rattle.std.proofs.Common.{◌≡◌, ap, refl, None, nat_cmp, ℕ, List, [], ◌∷◌}
 use Rattle.std.specs.BTreeMap.{get}
 use Rattle.jfs_disk.specs.Image.{Image}
-use Rattle.jfs_disk.specs.Crash.{DiskState}
-use Rattle.jfs_disk.specs.Calls.{at_rest}
+use Rattle.jfs_disk.specs.Crash.{DiskState, at_rest}
 use Rattle.jfs_disk.proofs.Sound.{IsSound-new, image_of-none}
 use Rattle.jfs_disk.proofs.store.Store.new.Goals as goal
 
