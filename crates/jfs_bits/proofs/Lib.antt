@@ -8,3 +8,5 @@ pub mod Extents
 pub mod Pieces
 pub mod Counts
 pub mod Broken
+pub mod Parts
+pub mod Places

@@ -1,10 +1,7 @@
 -- What makes a tree a function of its leaves.
-use Rattle.std.specs.Prelude.{◌≡◌, ℕ, ◌<◌, List, slice_index}
+use Rattle.std.specs.Prelude.{◌≡◌, ℕ, List}
+pub use Rattle.jfs_bits.specs.Field.{AreBytes}
 use Rattle.jfs_buddy.specs.Buddy.{IsBuddyTree}
-
--- each number is one byte
-abbrev pub AreBytes : List ℕ → Type 0
-AreBytes bytes = (n : ℕ) → slice_index bytes n < 256
 
 -- two trees over the same own ranks hold the same bytes
 abbrev pub TreesAgree : Type 0
