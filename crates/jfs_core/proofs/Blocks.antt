@@ -1,12 +1,12 @@
 -- Each step keeps what is known of one block.
-use Rattle.std.proofs.Common.{◌≡◌, ◌<◌, ◌≤◌, ◌⊎◌, ℕ, zero, suc, true, List, [], ◌∷◌, length, Option, Some, None, is_some, refl, sym, ap, ◌∙◌, subst, inl, inr, arith}
-use Rattle.std.proofs.lemmas.Bool.{cases_lt, leb-true}
+use Rattle.std.proofs.Common.{◌≡◌, ◌<◌, ◌≤◌, ◌⊎◌, ℕ, zero, suc, List, [], ◌∷◌, length, Option, Some, None, IsSome, refl, sym, ap, ◌∙◌, subst, inl, inr, arith}
+use Rattle.std.proofs.lemmas.Bool.{cases_lt}
 use Rattle.std.proofs.lemmas.List.{length_push, get_or_push, length-append, get_or_at}
 use Rattle.jfs_disk.specs.Crash.{PageHistory, content_of, torn}
 use Rattle.jfs_core.specs.declared.block.Span.{Span}
 use Rattle.jfs_core.specs.Core.{Block}
-use Rattle.jfs_core.specs.Step.{ends_by, spanned, dirtied, joined, sent_home, failed_home, synced}
-use Rattle.jfs_core.specs.Sound.{IsBetween, BeginsPast, LiesIn, SpansWithin, BeginInOrder, Throughout, BlockOk}
+use Rattle.jfs_core.specs.Step.{EndsBy, BeginsPast, spanned, dirtied, joined, sent_home, failed_home, synced}
+use Rattle.jfs_core.specs.Sound.{IsBetween, LiesIn, SpansWithin, BeginInOrder, Throughout, BlockOk}
 use Rattle.jfs_core.proofs.Cells.{IsBetween-longer, IsBetween-along, IsBetween-exact, IsBetween-steady, IsBetween-torn, length-torn, all_contents, one_content, two_contents}
 
 -- ---- spans
@@ -183,7 +183,7 @@ joined-order None dirty = tt
 joined-order (Some old) dirty = tt
 
 pub BlockOk-sent : (meta : ℕ → Type 0) (cares : ℕ → Type 0) (v : ℕ → List ℕ) (n told : ℕ) (bytes : List ℕ) (pages : PageHistory) (dirty unsynced : Option Span) →
-    is_some dirty ≡ true → ends_by told dirty ≡ true → bytes ≡ v told → length bytes ≡ 4096 →
+    IsSome dirty → EndsBy told dirty → bytes ≡ v told → length bytes ≡ 4096 →
     BlockOk meta cares v n told (record { pages = pages; dirty = dirty; unsynced = unsynced }) →
     BlockOk meta cares v n told (sent_home bytes (record { pages = pages; dirty = dirty; unsynced = unsynced }))
 BlockOk-sent meta cares v n told bytes pages None unsynced there ends same size ok = absurd (cc)
@@ -202,7 +202,7 @@ BlockOk-sent meta cares v n told bytes pages (Some dirty) unsynced there ends sa
 }
   where
     none_later : (k : ℕ) → told ≤ k → k < n → LiesIn (suc k) (Some dirty) ⊎ ((v (suc k) ≡ v k) × (meta (suc k) → meta k)) → (v (suc k) ≡ v k) × (meta (suc k) → meta k)
-    none_later k low high (inl lies) = absurd (omega (arith, lies.1, leb-true dirty.last told ends))
+    none_later k low high (inl lies) = absurd (omega (arith, lies.1, ends))
     none_later k low high (inr same) = same
 
 pub BlockOk-failed : (meta : ℕ → Type 0) (cares : ℕ → Type 0) (v : ℕ → List ℕ) (n told sectors : ℕ) (bytes : List ℕ) (block : Block) →

@@ -7,11 +7,11 @@ use Rattle.jfs_disk.specs.Crash.{PageHistory, history_of, no_page, IsCrashPage, 
 use Rattle.jfs_disk.specs.Choice.{fits, torn_by, left_by, choice_of, IsChosen}
 use Rattle.jfs_disk.specs.declared.choice.Choice.{Choice}
 use Rattle.jfs_core.specs.Image.{History, image_after, page_after}
-use Rattle.jfs_core.specs.Core.{Core, Block, block_of, no_block, low_of}
+use Rattle.jfs_core.specs.Core.{Core, Block, block_of, no_block, low_of, core_image, IsInBounds}
 use Rattle.jfs_core.specs.Left.{stable_count, IsCrash, chosen_from, redone_from}
-use Rattle.jfs_core.specs.Sound.{IsSound, IsLogImage}
+use Rattle.jfs_core.specs.Sound.{IsSound, IsLogImage, redone_image}
 use Rattle.jfs_core.proofs.Bytes.{page_of-image_after, length-image_after}
-use Rattle.jfs_core.proofs.Redo.{always_recovers}
+use Rattle.jfs_core.proofs.Redo.{always_recovers, agreement_is_equality}
 
 -- ---- page by page
 
@@ -19,9 +19,9 @@ length-chosen_from : (choices : List Choice) (n : ℕ) (blocks : List Block) →
 length-chosen_from choices n [] = refl
 length-chosen_from choices n (block ∷ blocks) = ap (λ (k : ℕ). suc k) (length-chosen_from choices (suc n) blocks)
 
-length-redone_from : (choices : List Choice) (txs : History) (n : ℕ) (blocks : List Block) → length (redone_from choices txs n blocks) ≡ length blocks
-length-redone_from choices txs n [] = refl
-length-redone_from choices txs n (block ∷ blocks) = ap (λ (k : ℕ). suc k) (length-redone_from choices txs (suc n) blocks)
+length-redone_from : (choices : List Choice) (entries : History) (n : ℕ) (blocks : List Block) → length (redone_from choices entries n blocks) ≡ length blocks
+length-redone_from choices entries n [] = refl
+length-redone_from choices entries n (block ∷ blocks) = ap (λ (k : ℕ). suc k) (length-redone_from choices entries (suc n) blocks)
 
 abbrev left_at : List Choice → Block → ℕ → List ℕ
 left_at choices block n = left_by (choice_of choices n) block.pages block.pages.seen
@@ -33,27 +33,27 @@ page_of-chosen_from choices n (block ∷ blocks) (suc p) h =
     let e : n + suc p ≡ suc n + p = omega arith in
     rw e (page_of-chosen_from choices (suc n) blocks p (omega arith))
 
-page_of-redone_from : (choices : List Choice) (txs : History) (n : ℕ) (blocks : List Block) (p : ℕ) → p < length blocks → page_of (redone_from choices txs n blocks) p ≡ page_after (n + p) txs (left_at choices (get_or blocks p no_block) (n + p))
-page_of-redone_from choices txs n [] p h = absurd (omega arith)
-page_of-redone_from choices txs n (block ∷ blocks) zero h = let e : n + 0 ≡ n = omega arith in rw e refl
-page_of-redone_from choices txs n (block ∷ blocks) (suc p) h =
+page_of-redone_from : (choices : List Choice) (entries : History) (n : ℕ) (blocks : List Block) (p : ℕ) → p < length blocks → page_of (redone_from choices entries n blocks) p ≡ page_after (n + p) entries (left_at choices (get_or blocks p no_block) (n + p))
+page_of-redone_from choices entries n [] p h = absurd (omega arith)
+page_of-redone_from choices entries n (block ∷ blocks) zero h = let e : n + 0 ≡ n = omega arith in rw e refl
+page_of-redone_from choices entries n (block ∷ blocks) (suc p) h =
     let e : n + suc p ≡ suc n + p = omega arith in
-    rw e (page_of-redone_from choices txs (suc n) blocks p (omega arith))
+    rw e (page_of-redone_from choices entries (suc n) blocks p (omega arith))
 
-redone_is : (choices : List Choice) (txs : History) (blocks : List Block) → redone_from choices txs 0 blocks ≡ image_after txs (chosen_from choices 0 blocks)
-redone_is choices txs blocks =
-    let one = redone_from choices txs 0 blocks in
+redone_is : (choices : List Choice) (entries : History) (blocks : List Block) → redone_from choices entries 0 blocks ≡ image_after entries (chosen_from choices 0 blocks)
+redone_is choices entries blocks =
+    let one = redone_from choices entries 0 blocks in
     let low = chosen_from choices 0 blocks in
-    let one_length : length one ≡ length blocks = length-redone_from choices txs 0 blocks in
+    let one_length : length one ≡ length blocks = length-redone_from choices entries 0 blocks in
     let low_length : length low ≡ length blocks = length-chosen_from choices 0 blocks in
-    let two_length : length (image_after txs low) ≡ length blocks = length-image_after txs low ∙ low_length in
-    ext_get_or [] one (image_after txs low) (one_length ∙ sym two_length) (λ p l.
+    let two_length : length (image_after entries low) ≡ length blocks = length-image_after entries low ∙ low_length in
+    ext_get_or [] one (image_after entries low) (one_length ∙ sym two_length) (λ p l.
     let h : p < length blocks = omega (arith, l, one_length) in
     let place : 0 + p ≡ p = omega arith in
-    page_of-redone_from choices txs 0 blocks p h
-    ∙ ap (λ (q : ℕ). page_after q txs (left_at choices (get_or blocks p no_block) (0 + p))) place
-    ∙ ap (λ (page : List ℕ). page_after p txs page) (sym (page_of-chosen_from choices 0 blocks p h))
-    ∙ sym (page_of-image_after txs low p (omega (arith, low_length, h))))
+    page_of-redone_from choices entries 0 blocks p h
+    ∙ ap (λ (q : ℕ). page_after q entries (left_at choices (get_or blocks p no_block) (0 + p))) place
+    ∙ ap (λ (page : List ℕ). page_after p entries page) (sym (page_of-chosen_from choices 0 blocks p h))
+    ∙ sym (page_of-image_after entries low p (omega (arith, low_length, h))))
 
 -- ---- what is left
 
@@ -124,9 +124,9 @@ is_crash core choices n image sound durable taken e =
     let c = stable_count core in
     let low = chosen_from choices 0 core.blocks in
     let left = is_crash_image core choices sound in
-    let kept = sound.kept in
+    let points = sound.kept.bounds.points in
     let log : IsLogImage core c n = record {
-      count = (core.points_stable - 1, omega arith, omega (arith, kept.mount, kept.stable), refl);
+      count = (core.points_stable - 1, omega arith, omega (arith, points.mounted, points.stable_taken), refl);
       durable = durable;
       taken = taken;
     } in
@@ -139,15 +139,17 @@ is_crash core choices n image sound durable taken e =
       recovered = always_recovers core sound low c n left log;
     }
 
+pub stable_told : (core : Core) → IsInBounds core → stable_count core ≤ core.told
+stable_told core bounds = bounds.points.acknowledged (core.points_stable - 1) (omega arith)
+
 -- the same from the parts that the code reads
 pub crash_from_parts : (core : Core) (choices : List Choice) (n durable taken from : ℕ) (history : History) (blocks : List Block) (image : Image) → IsSound core →
     durable ≡ core.durable → taken ≡ core.taken → from ≡ stable_count core → history ≡ core.history → blocks ≡ core.blocks → durable ≤ n → n ≤ taken →
     image ≡ redone_from choices (take (n - from) (drop from history)) 0 blocks → IsCrash core choices n image
 crash_from_parts core choices n durable taken from history blocks image sound d t f h b low high e =
     let c = stable_count core in
-    let kept = sound.kept in
-    let rises = kept.rising (core.points_stable - 1) (length core.syncpoints - 1) (omega (arith, kept.stable, kept.points)) (omega (arith, kept.mount, kept.stable, kept.points)) in
-    let early : c ≤ n = omega (arith, rises, kept.newest, kept.told, d, low) in
+    let bounds = sound.kept.bounds in
+    let early : c ≤ n = omega (arith, stable_told core bounds, bounds.counts.told_durable, d, low) in
     let whole : c + (n - c) ≡ n = omega arith in
     let log : take (n - c) (drop c core.history) ≡ drop c (take n core.history) =
     sym (drop-take c (n - c) core.history) ∙ ap (λ (k : ℕ). drop c (take k core.history)) whole in
@@ -156,3 +158,7 @@ crash_from_parts core choices n durable taken from history blocks image sound d 
     ∙ ap (λ (xs : History). redone_from choices (take (n - c) (drop c xs)) 0 blocks) h
     ∙ ap (λ (bs : List Block). redone_from choices (take (n - c) (drop c core.history)) 0 bs) b
     ∙ ap (λ (xs : History). redone_from choices xs 0 core.blocks) log)
+
+-- what is left is the image after the first n entries
+pub crash_image : (core : Core) (choices : List Choice) (n : ℕ) (image : Image) → IsCrash core choices n image → image ≡ core_image core n
+crash_image core choices n image left = left.redone ∙ agreement_is_equality (redone_image core left.low (stable_count core) n) (core_image core n) left.recovered

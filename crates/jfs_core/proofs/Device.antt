@@ -1,9 +1,8 @@
 -- Each step writes what the device calls write.
-use Rattle.std.proofs.Common.{◌≡◌, ◌<◌, ◌≤◌, ◌⊎◌, ℕ, suc, true, false, List, [], ◌∷◌, ◌++◌, if◌then◌else◌, length, map, set, refl, sym, ap, ◌∙◌, inl, inr, arith}
+use Rattle.std.proofs.Common.{Bool, ◌≡◌, ◌<◌, ◌≤◌, ◌⊎◌, ℕ, suc, true, false, List, [], ◌∷◌, ◌++◌, if◌then◌else◌, length, map, set, refl, sym, ap, ◌∙◌, inl, inr, arith}
 use Rattle.std.proofs.lemmas.Bool.{cases_lt}
 use Rattle.std.proofs.lemmas.List.{map-set, get_or-map, get_or_past, length-map}
 use Rattle.jfs_disk.specs.Crash.{PageHistory, DiskState, history_of, no_page, written, failed, settled, torn}
-use Rattle.jfs_ranges.specs.declared.edit.Edit.{Edit}
 use Rattle.jfs_ranges.specs.Apply.{touches_tx}
 use Rattle.jfs_core.specs.declared.step.Step.{Step}
 use Rattle.jfs_core.specs.declared.step.Step.TheVariants as steps
@@ -42,19 +41,19 @@ unfolding settled
 sync_settles [] = refl
 sync_settles (block ∷ blocks) = let rest = sync_settles blocks in ap (λ (pages : DiskState). (synced block).pages ∷ pages) rest
 
-marks_nothing : (n : ℕ) (tx : List Edit) (p : ℕ) (blocks : List Block) → map pages_of (marked n tx p blocks) ≡ map pages_of blocks
-marks_nothing n tx p [] = refl
-marks_nothing n tx p (block ∷ blocks) =
-    let rest = marks_nothing n tx (suc p) blocks in
-    ap (λ (pages : DiskState). (if touches_tx p tx then dirtied n block else block).pages ∷ pages) rest
-    ∙ ap (λ (page : PageHistory). page ∷ map pages_of blocks) (at (cases_Bool (touches_tx p tx)))
+marks_nothing : (changed : ℕ → Bool) (n p : ℕ) (blocks : List Block) → map pages_of (marked changed n p blocks) ≡ map pages_of blocks
+marks_nothing changed n p [] = refl
+marks_nothing changed n p (block ∷ blocks) =
+    let rest = marks_nothing changed n (suc p) blocks in
+    ap (λ (pages : DiskState). (if changed p then dirtied n block else block).pages ∷ pages) rest
+    ∙ ap (λ (page : PageHistory). page ∷ map pages_of blocks) (at (cases_Bool (changed p)))
   where
-    at : (touches_tx p tx ≡ true) ⊎ (touches_tx p tx ≡ false) → (if touches_tx p tx then dirtied n block else block).pages ≡ block.pages
-    at (inl e) = ap pages_of (cond-true (touches_tx p tx) (dirtied n block) block e)
-    at (inr e) = ap pages_of (cond-false (touches_tx p tx) (dirtied n block) block e)
+    at : (changed p ≡ true) ⊎ (changed p ≡ false) → (if changed p then dirtied n block else block).pages ≡ block.pages
+    at (inl e) = ap pages_of (cond-true (changed p) (dirtied n block) block e)
+    at (inr e) = ap pages_of (cond-false (changed p) (dirtied n block) block e)
 
 pub device_calls : (core : Core) (step : Step) → low_of (does core step) ≡ low_after core step
-device_calls core (steps.Append tx) = marks_nothing (suc (length core.history)) tx 0 core.blocks
+device_calls core (steps.Append tx) = marks_nothing (λ (p : ℕ). touches_tx p tx) (suc (length core.history)) 0 core.blocks
 device_calls core steps.Take = refl
 device_calls core steps.GroupWrite = refl
 device_calls core steps.Told = refl

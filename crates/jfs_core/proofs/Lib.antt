@@ -1,3 +1,5 @@
+pub mod Bounds
+pub mod Decided
 pub mod Cells
 pub mod Blocks
 pub mod Bytes

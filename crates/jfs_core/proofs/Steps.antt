@@ -1,82 +1,48 @@
 -- Every list of allowed steps keeps a sound core sound.
-use Rattle.std.proofs.Common.{append_assoc, map, set, ◌≡◌, ◌<◌, ◌≤◌, ◌⊎◌, ◌^◌, ℕ, zero, suc, true, false, ◌&&◌, nat_le, List, [], ◌∷◌, ◌++◌, length, take, get_or, Option, Some, None, is_some, refl, sym, ap, ◌∙◌, subst, inl, inr, arith}
-use Rattle.std.proofs.lemmas.Bool.{cases_Bool, cond-true, cond-false, and_parts, leb-true}
+use Rattle.std.proofs.Common.{append_assoc, map, set, ◌≡◌, ◌<◌, ◌≤◌, ◌^◌, ℕ, zero, suc, List, [], ◌∷◌, ◌++◌, length, take, get_or, Option, refl, sym, ap, ◌∙◌, subst, arith}
 use Rattle.std.proofs.lemmas.List.{append-nil, take_at, length-map, get_or-map}
-use Rattle.std.specs.Cmp.Lexicographic.{bytes_decides}
 use Rattle.jfs_disk.specs.Image.{Image, page_of, ArePages}
 use Rattle.jfs_disk.specs.Crash.{IsCrashImage, content_of}
 use Rattle.jfs_disk.specs.declared.disk.Fault.{Fault}
 use Rattle.jfs_disk.specs.declared.page.Page.{Page}
-use Rattle.jfs_core.specs.declared.step.Why.TheVariants as whys
 use Rattle.jfs_core.specs.declared.step.FaultOf.TheVariants as faults
 use Rattle.jfs_core.specs.declared.step.Step.{Step}
 use Rattle.jfs_core.specs.declared.step.Step.TheVariants as steps
 use Rattle.jfs_core.specs.Image.{History}
-use Rattle.jfs_core.specs.Core.{Core, Block, block_of, newest_of, low_of, no_block, fresh_block, fresh_core}
-use Rattle.jfs_core.specs.Step.{Condition, condition, halted_by, failed_home, first_failing, IsAllowed, AreAllowed, does, after_steps, same_bytes, may_go_home, told_page, ends_by, are_synced}
-use Rattle.jfs_core.specs.Sound.{IsKept, IsSound, BlockOk, IsBetween, BeginsPast, always, page_at, IsLogImage, Survives}
+use Rattle.jfs_core.specs.Core.{Core, Block, block_of, low_of, no_block, fresh_block, fresh_core}
+use Rattle.jfs_core.specs.Step.{IsSynced, halted_by, failed_home, IsAllowed, AreAllowed, does, after_steps}
+use Rattle.jfs_core.specs.Sound.{IsKept, IsSound, IsOk, IsBetween, every_cell, page_at, IsLogImage, Survives}
+use Rattle.jfs_core.proofs.Bounds.{bounds_fresh}
 use Rattle.jfs_core.proofs.Cells.{IsBetween-exact}
 use Rattle.jfs_core.proofs.Kept.{kept_take, kept_group, kept_told, kept_sync_point, kept_append}
 use Rattle.jfs_core.proofs.Writes.{kept_home, kept_failed, kept_low_sync}
 use Rattle.jfs_core.proofs.Redo.{sound_from_kept, always_recovers}
 
--- the first condition holds, and the rest do
-passes : (c : Condition) (cs : List Condition) → first_failing (c ∷ cs) ≡ None → (c.holds ≡ true) × (first_failing cs ≡ None)
-passes c cs h = at (cases_Bool c.holds)
-  where
-    at : (c.holds ≡ true) ⊎ (c.holds ≡ false) → (c.holds ≡ true) × (first_failing cs ≡ None)
-    at (inl e) = (e, sym (cond-true c.holds (first_failing cs) (Some c.why) e) ∙ h)
-    at (inr e) = let wrong : Some c.why ≡ None = sym (cond-false c.holds (first_failing cs) (Some c.why) e) ∙ h in absurd (cc)
-
 -- which part has halted doesn't matter
 kept_halted : (core : Core) (low log : Option Fault) → IsKept core → IsKept (record core { low_halted = low; log_halted = log })
 kept_halted core low log kept = record {
-  told = kept.told;
-  durable = kept.durable;
-  taken = kept.taken;
-  newest = kept.newest;
+  bounds = record { counts = kept.bounds.counts; points = kept.bounds.points; number = kept.bounds.number; few = kept.bounds.few };
   rising = kept.rising;
-  mount = kept.mount;
   front = kept.front;
-  stable = kept.stable;
-  points = kept.points;
   closed = kept.closed;
-  pages = kept.pages;
-  few = kept.few;
+  sizes = kept.sizes;
   blocks = kept.blocks;
   passed = kept.passed;
 }
 
-home_step : (core : Core) (page : ℕ) → IsAllowed core (steps.Home page) → IsKept core → IsKept (does core (steps.Home page))
-home_step core page allowed kept =
-    let first = passes (condition whys.NotDirty (is_some (block_of core page).dirty)) (condition whys.NotTold (ends_by core.told (block_of core page).dirty) ∷ []) allowed in
-    let second = passes (condition whys.NotTold (ends_by core.told (block_of core page).dirty)) [] first.1 in
-    kept_home core page first.0 second.0 kept
-
-sync_step : (core : Core) (c : ℕ) → IsAllowed core (steps.SyncPoint c) → IsKept core → IsKept (does core (steps.SyncPoint c))
-sync_step core c allowed kept =
-    let first = passes (condition whys.NotTold (nat_le c core.told)) (condition whys.NotSynced (nat_le (newest_of core) c && are_synced c core.blocks) ∷ []) allowed in
-    let second = passes (condition whys.NotSynced (nat_le (newest_of core) c && are_synced c core.blocks)) [] first.1 in
-    let parts = and_parts (nat_le (newest_of core) c) (are_synced c core.blocks) second.0 in
-    kept_sync_point core c (leb-true c core.told first.0) (leb-true (newest_of core) c parts.0) parts.1 kept
-
 failed_step : (core : Core) (fault : Fault) (page : ℕ) (bytes : Page) (sectors : ℕ) → IsAllowed core (steps.Fault fault (faults.LowWrite page bytes sectors)) → IsKept core → IsKept (does core (steps.Fault fault (faults.LowWrite page bytes sectors)))
 failed_step core fault page bytes sectors allowed kept =
-    let first = passes (condition whys.NotDirty (nat_le sectors 8 && (may_go_home core page && same_bytes bytes.0 (told_page core page)))) [] allowed in
-    let parts = and_parts (nat_le sectors 8) (may_go_home core page && same_bytes bytes.0 (told_page core page)) first.0 in
-    let more = and_parts (may_go_home core page) (same_bytes bytes.0 (told_page core page)) parts.1 in
     let written = record core { blocks = set core.blocks page (failed_home bytes.0 sectors (block_of core page)) } in
-    kept_halted written (halted_by fault core.low_halted) core.log_halted
-    (kept_failed core page sectors bytes.0 (leb-true sectors 8 parts.0) ((bytes_decides bytes.0 (told_page core page)).0 more.1) kept)
+    kept_halted written (halted_by fault core.low_halted) core.log_halted (kept_failed core page sectors bytes.0 allowed.0.0 allowed.0.3 kept)
 
 pub kept_step : (core : Core) (step : Step) → IsAllowed core step → IsKept core → IsKept (does core step)
-kept_step core (steps.Append tx) allowed kept = kept_append core tx kept
+kept_step core (steps.Append tx) allowed kept = kept_append core (record { tx = tx }) kept
 kept_step core steps.Take allowed kept = kept_take core kept
 kept_step core steps.GroupWrite allowed kept = kept_group core kept
 kept_step core steps.Told allowed kept = kept_told core kept
-kept_step core (steps.Home page) allowed kept = home_step core page allowed kept
+kept_step core (steps.Home page) allowed kept = kept_home core page allowed.0 allowed.1.0 kept
 kept_step core steps.LowSync allowed kept = kept_low_sync core kept
-kept_step core (steps.SyncPoint c) allowed kept = sync_step core c allowed kept
+kept_step core (steps.SyncPoint c) allowed kept = kept_sync_point core c allowed.0 allowed.1.0.0 allowed.1.0.1 kept
 kept_step core (steps.Fault fault faults.Read) allowed kept = kept
 kept_step core (steps.Fault fault faults.LowSync) allowed kept = kept_halted core (halted_by fault core.low_halted) core.log_halted kept
 kept_step core (steps.Fault fault faults.GroupWrite) allowed kept = kept_halted core core.low_halted (halted_by fault core.log_halted) kept
@@ -91,13 +57,13 @@ sound_steps core (step ∷ rest) allowed sound = sound_steps (does core step) re
 
 -- ---- the start
 
-fresh_ok : (image : Image) (p : ℕ) → length (page_of image p) ≡ 4096 → BlockOk always always (page_at (fresh_core image) p) 0 0 (fresh_block (page_of image p))
+fresh_ok : (image : Image) (p : ℕ) → length (page_of image p) ≡ 4096 → IsOk (fresh_core image) p (fresh_block (page_of image p))
 fresh_ok image p size = record {
   seen_size = size;
   sizes = λ j l. only (λ (c : List ℕ). length c ≡ 4096) size j l;
   readable = (0, omega arith, refl);
   shown = λ m h trees past. same m h;
-  pending = λ m h trees past_dirty past_unsynced j l. only (IsBetween always (page_at (fresh_core image) p) m 0) (same m h) j l;
+  pending = λ m h trees past_dirty past_unsynced j l. only (IsBetween every_cell (page_at (fresh_core image) p) m 0) (same m h) j l;
   later = λ k low high. absurd (omega arith);
   in_order = tt;
   dirty_within = tt;
@@ -108,28 +74,21 @@ fresh_ok image p size = record {
     only P h zero l = h
     only P h (suc j) l = absurd (omega arith)
 
-    same : (m : ℕ) → m ≤ 0 → IsBetween always (page_at (fresh_core image) p) m 0 (page_of image p)
-    same m h = IsBetween-exact always (page_at (fresh_core image) p) m 0 (page_of image p) h refl
+    same : (m : ℕ) → m ≤ 0 → IsBetween every_cell (page_at (fresh_core image) p) m 0 (page_of image p)
+    same m h = IsBetween-exact every_cell (page_at (fresh_core image) p) m 0 (page_of image p) h refl
 
 pub sound_fresh : (image : Image) → ArePages (length image) image → length image < 2 ^ 32 → IsSound (fresh_core image)
 sound_fresh image pages few =
     let size : length (map fresh_block image) ≡ length image = length-map image fresh_block in
     let here = λ (p : ℕ) (h : p < length (map fresh_block image)). get_or-map fresh_block image p [] no_block (omega (arith, size, h)) in
     sound_from_kept (fresh_core image) (record {
-      told = omega arith;
-      durable = omega arith;
-      taken = omega arith;
-      newest = omega arith;
+      bounds = bounds_fresh image few;
       rising = λ i j l w. let e : i ≡ j = omega arith in subst (λ (x : ℕ). get_or (0 ∷ []) i 0 ≤ get_or (0 ∷ []) x 0) e (omega arith);
-      mount = omega arith;
       front = refl;
-      stable = omega arith;
-      points = omega arith;
       closed = λ e. (refl, refl);
-      pages = subst (λ (count : ℕ). ArePages count image) (sym size) pages;
-      few = omega (arith, few, size);
-      blocks = λ p h. subst (λ (b : Block). BlockOk always always (page_at (fresh_core image) p) 0 0 b) (sym (here p h)) (fresh_ok image p (pages.sizes p (omega (arith, size, h))));
-      passed = λ p h. subst (λ (b : Block). BeginsPast 0 b.dirty × BeginsPast 0 b.unsynced) (sym (here p h)) (tt, tt);
+      sizes = λ p h. pages.sizes p (omega (arith, size, h));
+      blocks = λ p h. subst (λ (b : Block). IsOk (fresh_core image) p b) (sym (here p h)) (fresh_ok image p (pages.sizes p (omega (arith, size, h))));
+      passed = λ p h. subst (λ (b : Block). IsSynced 0 b) (sym (here p h)) (tt, tt);
     })
 
 -- ---- the law
@@ -138,7 +97,7 @@ told_rises : (core : Core) (step : Step) → IsSound core → core.told ≤ (doe
 told_rises core (steps.Append tx) sound = omega arith
 told_rises core steps.Take sound = omega arith
 told_rises core steps.GroupWrite sound = omega arith
-told_rises core steps.Told sound = sound.kept.told
+told_rises core steps.Told sound = sound.kept.bounds.counts.told_durable
 told_rises core (steps.Home page) sound = omega arith
 told_rises core steps.LowSync sound = omega arith
 told_rises core (steps.SyncPoint c) sound = omega arith
@@ -160,7 +119,7 @@ stays : (history : History) → Grows history history
 stays history = ([], sym (append-nil history))
 
 history_grows : (core : Core) (step : Step) → Grows core.history (does core step).history
-history_grows core (steps.Append tx) = (tx ∷ [], refl)
+history_grows core (steps.Append tx) = (record { tx = tx } ∷ [], refl)
 history_grows core steps.Take = stays core.history
 history_grows core steps.GroupWrite = stays core.history
 history_grows core steps.Told = stays core.history
@@ -186,7 +145,7 @@ told_survive core list sound allowed low c n crash log =
     let kept = sound_steps core list allowed sound in
     let grows = steps_grow core list in
     record {
-      acknowledged = omega (arith, steps_rise core list allowed sound, kept.kept.told, log.durable);
+      acknowledged = omega (arith, steps_rise core list allowed sound, kept.kept.bounds.counts.told_durable, log.durable);
       history = ap (λ (h : History). take (length core.history) h) grows.1 ∙ take_at core.history grows.0 (length core.history) refl;
       recovered = always_recovers after kept low c n crash log;
     }

@@ -1,5 +1,5 @@
 -- The core's state.
-use Rattle.std.specs.Prelude.{ℕ, ◌-◌, Bool, false, List, [], ◌∷◌, map, get_or, length, take, Option, None}
+use Rattle.std.specs.Prelude.{◌≡◌, ◌<◌, ◌≤◌, ◌^◌, ℕ, ◌-◌, Bool, false, List, [], ◌∷◌, map, get_or, length, take, Option, None}
 use Rattle.jfs_disk.specs.Image.{Image}
 use Rattle.jfs_disk.specs.Crash.{PageHistory, DiskState, no_page}
 use Rattle.jfs_disk.specs.declared.disk.Fault.{Fault}
@@ -53,6 +53,29 @@ core_image core n = image_after (take n core.history) core.mounted
 -- the newest sync count
 abbrev pub newest_of : Core → ℕ
 newest_of core = get_or core.syncpoints (length core.syncpoints - 1) 0
+
+-- ---- its bounds
+
+-- each of the counts of entries is at most the next: acknowledged, stable in the log, taken by a group, appended
+pub record AreOrdered (told durable taken appended : ℕ) : Type 0 where
+  pub told_durable : told ≤ durable
+  pub durable_taken : durable ≤ taken
+  pub taken_appended : taken ≤ appended
+
+-- The mount's sync count is stable, the stable ones are among the taken ones, and these among all; each counts acknowledged
+-- entries.
+pub record ArePlaced (told stable taken : ℕ) (syncpoints : List ℕ) : Type 0 where
+  pub mounted : 1 ≤ stable
+  pub stable_taken : stable ≤ taken
+  pub taken_there : taken ≤ length syncpoints
+  pub acknowledged : (j : ℕ) → j < length syncpoints → get_or syncpoints j 0 ≤ told
+
+-- every core has these, sound or not: no count passes what it counts, each block was mounted, and a page has a u32 number
+pub record IsInBounds (core : Core) : Type 0 where
+  pub counts : AreOrdered core.told core.durable core.taken (length core.history)
+  pub points : ArePlaced core.told core.points_stable core.points_taken core.syncpoints
+  pub number : length core.mounted ≡ length core.blocks
+  pub few : length core.blocks < 2 ^ 32
 
 -- ---- the start
 

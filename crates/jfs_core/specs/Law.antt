@@ -1,12 +1,16 @@
 -- What the core is for.
-use Rattle.std.specs.Prelude.{◌≡◌, ℕ, List}
+use Rattle.std.specs.Prelude.{◌≡◌, ℕ, List, Err}
 use Rattle.jfs_disk.specs.Image.{Image}
 use Rattle.jfs_disk.specs.Crash.{DiskState, IsCrashImage, written, failed, settled}
 use Rattle.jfs_core.specs.declared.step.Step.{Step}
 use Rattle.jfs_core.specs.declared.step.Step.TheVariants as steps
 use Rattle.jfs_core.specs.declared.step.FaultOf.TheVariants as faults
+use Rattle.jfs_core.specs.declared.step.StepRefused.{StepRefused}
+use Rattle.jfs_core.specs.declared.step.RunError.TheVariants.{Refused}
+use Rattle.jfs_core.specs.Image.{AgreesOnMeta}
 use Rattle.jfs_core.specs.Core.{Core, low_of}
 use Rattle.jfs_core.specs.Step.{AreAllowed, after_steps, does, told_page}
+use Rattle.jfs_core.specs.Run.{IsRun}
 use Rattle.jfs_core.specs.Sound.{IsSound, IsLogImage, Survives}
 
 -- For every list of allowed steps, every acknowledged entry survives every later crash.
@@ -31,3 +35,12 @@ low_after core (steps.SyncPoint c) = low_of core
 
 abbrev pub StepsAreDeviceCalls : Type 0
 StepsAreDeviceCalls = (core : Core) (step : Step) → low_of (does core step) ≡ low_after core step
+
+-- A run that is refused has a step that isn't allowed, so a run ends well exactly where each step is allowed, want of memory
+-- aside.
+abbrev pub RefusedIsNotAllowed : Type 0
+RefusedIsNotAllowed = (core : Core) (steps : List Step) (refused : StepRefused) (new : Core) → IsRun core steps (Err (Refused refused)) new → ¬ (AreAllowed core steps)
+
+-- With lines alone all pages matter: two images that agree on the pages that matter are the same.
+abbrev pub AgreementIsEquality : Type 0
+AgreementIsEquality = (image wanted : Image) → AgreesOnMeta image wanted → image ≡ wanted

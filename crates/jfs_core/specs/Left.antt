@@ -1,12 +1,12 @@
 -- One crash of a core, by choices.
-use Rattle.std.specs.Prelude.{◌≡◌, ℕ, suc, ◌-◌, Bool, ◌&&◌, nat_le, List, [], ◌∷◌, get_or, drop, take}
+use Rattle.std.specs.Prelude.{◌≡◌, ℕ, suc, ◌-◌, Bool, ◌&&◌, nat_le, List, [], ◌∷◌, get_or}
 use Rattle.jfs_disk.specs.Image.{Image}
 use Rattle.jfs_disk.specs.Crash.{IsCrashImage}
 use Rattle.jfs_disk.specs.Choice.{left_by, choice_of, IsChosen}
 use Rattle.jfs_disk.specs.declared.choice.Choice.{Choice}
-use Rattle.jfs_core.specs.Image.{History, image_after, page_after}
+use Rattle.jfs_core.specs.Image.{History, page_after}
 use Rattle.jfs_core.specs.Core.{Core, Block, low_of}
-use Rattle.jfs_core.specs.Sound.{IsLogImage, Recovered}
+use Rattle.jfs_core.specs.Sound.{IsLogImage, Recovered, redone_image}
 
 -- the newest sync count that is stable in the log
 abbrev pub stable_count : Core → ℕ
@@ -23,7 +23,7 @@ pub record IsCrash (core : Core) (choices : List Choice) (n : ℕ) (image : Imag
   pub chosen : IsChosen choices (low_of core) low
   pub left : IsCrashImage (low_of core) low
   pub log : IsLogImage core (stable_count core) n
-  pub redone : image ≡ image_after (drop (stable_count core) (take n core.history)) low
+  pub redone : image ≡ redone_image core low (stable_count core) n
   pub recovered : Recovered core low (stable_count core) n
 
 -- the low part as a crash leaves it by the choices, from page n on
@@ -31,7 +31,7 @@ abbrev pub chosen_from : List Choice → ℕ → List Block → Image
 chosen_from choices n [] = []
 chosen_from choices n (block ∷ blocks) = left_by (choice_of choices n) block.pages block.pages.seen ∷ chosen_from choices (suc n) blocks
 
--- each of these pages after transactions
+-- each of these pages after entries
 abbrev pub redone_from : List Choice → History → ℕ → List Block → Image
-redone_from choices txs n [] = []
-redone_from choices txs n (block ∷ blocks) = page_after n txs (left_by (choice_of choices n) block.pages block.pages.seen) ∷ redone_from choices txs (suc n) blocks
+redone_from choices entries n [] = []
+redone_from choices entries n (block ∷ blocks) = page_after n entries (left_by (choice_of choices n) block.pages block.pages.seen) ∷ redone_from choices entries (suc n) blocks

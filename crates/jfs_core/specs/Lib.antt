@@ -1,7 +1,9 @@
 pub mod Image
 pub mod Core
+pub mod State
 pub mod Step
 pub mod Sound
 pub mod Run
 pub mod Law
 pub mod Left
+pub mod Decision

@@ -1,10 +1,11 @@
 -- The sound core, and what a crash leaves of it.
-use Rattle.std.specs.Prelude.{◌≡◌, ◌<◌, ◌≤◌, ◌⊎◌, ℕ, suc, ◌+◌, ◌*◌, ◌^◌, false, List, length, get_or, take, drop, Option, Some, None}
-use Rattle.jfs_disk.specs.Image.{Image, page_of, ArePages}
+use Rattle.std.specs.Prelude.{◌≡◌, ◌<◌, ◌≤◌, ◌⊎◌, ℕ, suc, ◌+◌, ◌*◌, false, List, length, get_or, take, drop, Option, Some, None}
+use Rattle.jfs_disk.specs.Image.{Image, page_of}
 use Rattle.jfs_disk.specs.Crash.{IsCrashImage, content_of}
 use Rattle.jfs_core.specs.declared.block.Span.{Span}
-use Rattle.jfs_core.specs.Image.{image_after}
-use Rattle.jfs_core.specs.Core.{Core, Block, block_of, low_of, core_image, newest_of}
+use Rattle.jfs_core.specs.Image.{image_after, IsMeta, AgreesOnMeta}
+use Rattle.jfs_core.specs.Core.{Core, Block, block_of, low_of, core_image, newest_of, IsInBounds}
+use Rattle.jfs_core.specs.Step.{BeginsPast, IsSynced}
 
 -- ---- one block
 
@@ -15,11 +16,6 @@ SameCell a b cell = (i : ℕ) → i < 16 → get_or a (16 * cell + i) 0 ≡ get_
 -- each cell that matters is the one that the block had after some entry from m to told
 pub record IsBetween (cares : ℕ → Type 0) (v : ℕ → List ℕ) (m told : ℕ) (content : List ℕ) : Type 0 where
   pub each : (cell : ℕ) → cell < 256 → cares cell → (k : ℕ) × (m ≤ k) × (k ≤ told) × SameCell content (v k) cell
-
--- a span begins past m
-abbrev pub BeginsPast : ℕ → Option Span → Type 0
-BeginsPast m None = Unit {0}
-BeginsPast m (Some span) = m < span.first
 
 -- an entry lies in a span
 abbrev pub LiesIn : ℕ → Option Span → Type 0
@@ -65,40 +61,41 @@ pub record BlockOk (meta : ℕ → Type 0) (cares : ℕ → Type 0) (v : ℕ →
 abbrev pub page_at : Core → ℕ → ℕ → List ℕ
 page_at core p k = page_of (core_image core k) p
 
+-- whether page p matters after k entries
+abbrev pub meta_at : Core → ℕ → ℕ → Type 0
+meta_at core p k = IsMeta (core_image core k) p
+
 -- c is a sync count from the newest stable one on, of those before place `end`
 abbrev pub IsSyncCount : Core → ℕ → ℕ → Type 0
 IsSyncCount core end c = (j : ℕ) × (core.points_stable ≤ j + 1) × (j < end) × (c ≡ get_or core.syncpoints j 0)
 
--- for now every page is one of a tree, and every cell matters
-abbrev pub always : ℕ → Type 0
-always k = Unit {0}
+-- of a page that matters every cell does
+abbrev pub every_cell : ℕ → Type 0
+every_cell k = Unit {0}
+
+-- what is known of block p of a core
+abbrev pub IsOk : Core → ℕ → Block → Type 0
+IsOk core p block = BlockOk (meta_at core p) every_cell (page_at core p) (length core.history) core.told block
 
 -- the parts that each step keeps
 pub record IsKept (core : Core) : Type 0 where
-  -- the counts
-  pub told : core.told ≤ core.durable
-  pub durable : core.durable ≤ core.taken
-  pub taken : core.taken ≤ length core.history
-  pub newest : newest_of core ≤ core.told
+  pub bounds : IsInBounds core
+  -- the sync counts never fall, and the mount's is 0
   pub rising : (i j : ℕ) → i ≤ j → j < length core.syncpoints → get_or core.syncpoints i 0 ≤ get_or core.syncpoints j 0
-  pub mount : 1 ≤ core.points_stable
   pub front : get_or core.syncpoints 0 0 ≡ 0
-  pub stable : core.points_stable ≤ core.points_taken
-  pub points : core.points_taken ≤ length core.syncpoints
   -- where no group is open, each log image has all that was taken
   pub closed : core.grouped ≡ false → (core.taken ≡ core.durable) × (core.points_taken ≡ core.points_stable)
-  pub pages : ArePages (length core.blocks) core.mounted
-  -- a page has a u32 number
-  pub few : length core.blocks < 2 ^ 32
+  pub sizes : (p : ℕ) → p < length core.blocks → length (page_of core.mounted p) ≡ 4096
   -- The two parts that make the whole inductive: what each block holds, and that the newest sync count passes no page
   -- that isn't stable.
-  pub blocks : (p : ℕ) → p < length core.blocks → BlockOk always always (page_at core p) (length core.history) core.told (block_of core p)
-  pub passed : (p : ℕ) → p < length core.blocks → BeginsPast (newest_of core) (block_of core p).dirty × BeginsPast (newest_of core) (block_of core p).unsynced
+  pub blocks : (p : ℕ) → p < length core.blocks → IsOk core p (block_of core p)
+  pub passed : (p : ℕ) → p < length core.blocks → IsSynced (newest_of core) (block_of core p)
 
--- in each low image, each cell has the value that it has after some entry from the sync count to the acknowledged ones
+-- In each low image, each cell of a page that matters from the sync count to the acknowledged entries has the value that it
+-- has after some entry of these.
 abbrev pub HasKnownCells : Core → Type 0
 HasKnownCells core = (c : ℕ) → IsSyncCount core (length core.syncpoints) c → (low : Image) → IsCrashImage (low_of core) low →
-    (p : ℕ) → p < length core.blocks → IsBetween always (page_at core p) c core.told (page_of low p)
+    (p : ℕ) → p < length core.blocks → Throughout (meta_at core p) c core.told → IsBetween every_cell (page_at core p) c core.told (page_of low p)
 
 -- The sound core: the parts that each step keeps, and what they give.
 pub record IsSound (core : Core) : Type 0 where
@@ -112,9 +109,13 @@ pub record IsLogImage (core : Core) (c n : ℕ) : Type 0 where
   pub durable : core.durable ≤ n
   pub taken : n ≤ core.taken
 
--- redo of a low image by a log image gives the image after the first n entries
+-- a low image, redone by a log image
+abbrev pub redone_image : Core → Image → ℕ → ℕ → Image
+redone_image core low c n = image_after (drop c (take n core.history)) low
+
+-- redo of a low image by a log image agrees with the image after the first n entries
 abbrev pub Recovered : Core → Image → ℕ → ℕ → Type 0
-Recovered core low c n = image_after (drop c (take n core.history)) low ≡ core_image core n
+Recovered core low c n = AgreesOnMeta (redone_image core low c n) (core_image core n)
 
 -- whatever a crash leaves is recovered
 abbrev pub AlwaysRecovers : Core → Type 0

@@ -1,93 +1,104 @@
 -- The core's steps: when each is allowed, and what it does.
-use Rattle.std.specs.Prelude.{ℕ, suc, Bool, true, false, not, ◌&&◌, ◌||◌, if◌then◌else◌, nat_le, nat_eq, List, [], ◌∷◌, ◌++◌, length, map, set, Option, Some, None, is_some, ◌≡◌}
-use Rattle.std.specs.Cmp.Lexicographic.{pointwise}
+use Rattle.std.specs.Prelude.{◌≡◌, ◌⊎◌, ◌<◌, ◌≤◌, ℕ, suc, Bool, true, false, if◌then◌else◌, List, [], ◌∷◌, ◌++◌, length, map, set, Option, Some, None, IsSome}
 use Rattle.jfs_disk.specs.Image.{page_of}
 use Rattle.jfs_disk.specs.Crash.{torn}
 use Rattle.jfs_disk.specs.declared.disk.Fault.{Fault}
 use Rattle.jfs_ranges.specs.declared.edit.Edit.{Edit}
-use Rattle.jfs_ranges.specs.Apply.{touches_tx}
+use Rattle.jfs_bits.specs.Broken.{AllHold, IsFirstBroken}
 use Rattle.jfs_core.specs.declared.block.Span.{Span}
+use Rattle.jfs_core.specs.declared.entry.Entry.{Entry}
 use Rattle.jfs_core.specs.declared.step.Why.{Why}
 use Rattle.jfs_core.specs.declared.step.Why.TheVariants as whys
 use Rattle.jfs_core.specs.declared.step.FaultOf.TheVariants as faults
 use Rattle.jfs_core.specs.declared.step.Step.{Step}
 use Rattle.jfs_core.specs.declared.step.Step.TheVariants as steps
+use Rattle.jfs_core.specs.Image.{pages_changed}
 use Rattle.jfs_core.specs.Core.{Core, Block, block_of, core_image, newest_of}
 
 -- ---- allowed
 
--- a condition of a step, with the word that a refusal has for it
-pub record Condition : Type 0 where
-  pub why : Why
-  pub holds : Bool
-
--- one condition and its word
-abbrev pub condition : Why → Bool → Condition
-condition why holds = record { why = why; holds = holds }
-
--- a transaction without an edit
-abbrev pub is_empty : List Edit → Bool
-is_empty [] = true
-is_empty (edit ∷ edits) = false
-
--- some part has halted
-abbrev pub is_halted : Core → Bool
-is_halted core = is_some core.low_halted || is_some core.log_halted
-
 -- the last entry of a span is at most n
-abbrev pub ends_by : ℕ → Option Span → Bool
-ends_by n None = true
-ends_by n (Some span) = nat_le span.last n
+abbrev pub EndsBy : ℕ → Option Span → Type 0
+EndsBy n None = Unit {0}
+EndsBy n (Some span) = span.last ≤ n
 
 -- the first entry of a span is past n
-abbrev pub begins_past : ℕ → Option Span → Bool
-begins_past n None = true
-begins_past n (Some span) = nat_le (suc n) span.first
+abbrev pub BeginsPast : ℕ → Option Span → Type 0
+BeginsPast n None = Unit {0}
+BeginsPast n (Some span) = n < span.first
 
--- each block holds the first n entries, stable
-abbrev pub are_synced : ℕ → List Block → Bool
-are_synced n [] = true
-are_synced n (block ∷ blocks) = (begins_past n block.dirty && begins_past n block.unsynced) && are_synced n blocks
-
--- the page may be written back: it is dirty, and its last entry is acknowledged
-abbrev pub may_go_home : Core → ℕ → Bool
-may_go_home core page = is_some (block_of core page).dirty && ends_by core.told (block_of core page).dirty
+-- a block holds the first n entries, stable
+abbrev pub IsSynced : ℕ → Block → Type 0
+IsSynced n block = BeginsPast n block.dirty × BeginsPast n block.unsynced
 
 -- the page's bytes after the acknowledged entries
 abbrev pub told_page : Core → ℕ → List ℕ
 told_page core page = page_of (core_image core core.told) page
 
--- two contents are the same
-abbrev pub same_bytes : List ℕ → List ℕ → Bool
-same_bytes xs ys = pointwise nat_eq xs ys
+-- what a step may ask of a state
+pub data Condition : Type 0 where
+  Runs : List Edit → Condition
+  NoGroupIsOpen : Condition
+  LogRuns : Condition
+  GroupIsOpen : Condition
+  PageIsDirty : ℕ → Condition
+  PageIsTold : ℕ → Condition
+  CountIsTold : ℕ → Condition
+  CountIsSynced : ℕ → Condition
+  WouldBeWritten : ℕ → List ℕ → ℕ → Condition
+
+-- when a condition holds
+abbrev pub Holds : Core → Condition → Type 0
+-- the transaction is empty, or no part has halted
+Holds core (Runs tx) = (tx ≡ []) ⊎ ((core.low_halted ≡ None) × (core.log_halted ≡ None))
+Holds core NoGroupIsOpen = core.grouped ≡ false
+Holds core LogRuns = core.log_halted ≡ None
+Holds core GroupIsOpen = core.grouped ≡ true
+Holds core (PageIsDirty page) = IsSome (block_of core page).dirty
+-- all that the page holds in memory alone is acknowledged
+Holds core (PageIsTold page) = EndsBy core.told (block_of core page).dirty
+Holds core (CountIsTold c) = c ≤ core.told
+-- the count doesn't fall, and every block holds so many entries, stable
+Holds core (CountIsSynced c) = (newest_of core ≤ c) × ((p : ℕ) → p < length core.blocks → IsSynced c (block_of core p))
+-- the page may be written back, and these are its bytes
+Holds core (WouldBeWritten page bytes sectors) =
+    (sectors ≤ 8) × IsSome (block_of core page).dirty × EndsBy core.told (block_of core page).dirty × (bytes ≡ told_page core page)
+
+-- the word that a refusal has for a condition
+abbrev pub why_of : Condition → Why
+why_of (Runs tx) = whys.Halted
+why_of NoGroupIsOpen = whys.GroupOpen
+why_of LogRuns = whys.Halted
+why_of GroupIsOpen = whys.NoGroup
+why_of (PageIsDirty page) = whys.NotDirty
+why_of (PageIsTold page) = whys.NotTold
+why_of (CountIsTold c) = whys.NotTold
+why_of (CountIsSynced c) = whys.NotSynced
+why_of (WouldBeWritten page bytes sectors) = whys.NotDirty
 
 -- The conditions of each step, in the order in which they are looked at. A failed call has to be one that an allowed step makes.
-abbrev pub conditions : Core → Step → List Condition
-conditions core (steps.Append tx) = condition whys.Halted (is_empty tx || not (is_halted core)) ∷ []
-conditions core steps.Take = condition whys.GroupOpen (not core.grouped) ∷ []
-conditions core steps.GroupWrite = condition whys.Halted (not (is_some core.log_halted)) ∷ condition whys.NoGroup core.grouped ∷ []
-conditions core steps.Told = []
-conditions core (steps.Home page) = condition whys.NotDirty (is_some (block_of core page).dirty) ∷ condition whys.NotTold (ends_by core.told (block_of core page).dirty) ∷ []
-conditions core steps.LowSync = []
-conditions core (steps.SyncPoint c) = condition whys.NotTold (nat_le c core.told) ∷ condition whys.NotSynced (nat_le (newest_of core) c && are_synced c core.blocks) ∷ []
-conditions core (steps.Fault fault faults.Read) = []
-conditions core (steps.Fault fault faults.LowSync) = []
-conditions core (steps.Fault fault faults.GroupWrite) = condition whys.Halted (not (is_some core.log_halted)) ∷ condition whys.NoGroup core.grouped ∷ []
-conditions core (steps.Fault fault (faults.LowWrite page bytes sectors)) =
-    condition whys.NotDirty (nat_le sectors 8 && (may_go_home core page && same_bytes bytes.0 (told_page core page))) ∷ []
-
--- the first condition that doesn't hold
-abbrev pub first_failing : List Condition → Option Why
-first_failing [] = None
-first_failing (c ∷ cs) = if c.holds then first_failing cs else Some c.why
-
--- why a step is refused in a state
-abbrev pub refusal : Core → Step → Option Why
-refusal core step = first_failing (conditions core step)
+abbrev pub conditions : Step → List Condition
+conditions (steps.Append tx) = Runs tx ∷ []
+conditions steps.Take = NoGroupIsOpen ∷ []
+conditions steps.GroupWrite = LogRuns ∷ GroupIsOpen ∷ []
+conditions steps.Told = []
+conditions (steps.Home page) = PageIsDirty page ∷ PageIsTold page ∷ []
+conditions steps.LowSync = []
+conditions (steps.SyncPoint c) = CountIsTold c ∷ CountIsSynced c ∷ []
+conditions (steps.Fault fault faults.Read) = []
+conditions (steps.Fault fault faults.LowSync) = []
+conditions (steps.Fault fault faults.GroupWrite) = LogRuns ∷ GroupIsOpen ∷ []
+conditions (steps.Fault fault (faults.LowWrite page bytes sectors)) = WouldBeWritten page bytes.0 sectors ∷ []
 
 -- each of a step's conditions holds
 abbrev pub IsAllowed : Core → Step → Type 0
-IsAllowed core step = refusal core step ≡ None
+IsAllowed core step = AllHold (Holds core) (conditions step)
+
+-- a step is refused for a reason: the first of its conditions that doesn't hold has that word
+pub record IsRefused (core : Core) (step : Step) (why : Why) : Type 0 where
+  pub condition : Condition
+  pub first : IsFirstBroken (Holds core) (conditions step) condition
+  pub word : why ≡ why_of condition
 
 -- ---- does
 
@@ -100,10 +111,10 @@ spanned n (Some span) = record span { last = n }
 abbrev pub dirtied : ℕ → Block → Block
 dirtied n block = record block { dirty = Some (spanned n block.dirty) }
 
--- from page p on, the pages that entry n's transaction touches are dirty
-abbrev pub marked : ℕ → List Edit → ℕ → List Block → List Block
-marked n tx p [] = []
-marked n tx p (block ∷ blocks) = (if touches_tx p tx then dirtied n block else block) ∷ marked n tx (suc p) blocks
+-- from page p on, the pages that entry n changes are dirty
+abbrev pub marked : (ℕ → Bool) → ℕ → ℕ → List Block → List Block
+marked changed n p [] = []
+marked changed n p (block ∷ blocks) = (if changed p then dirtied n block else block) ∷ marked changed n (suc p) blocks
 
 -- a span, as it joins what is unsynced
 abbrev pub joined : Option Span → Option Span → Option Span
@@ -134,9 +145,15 @@ abbrev pub halted_by : Fault → Option Fault → Option Fault
 halted_by fault None = Some fault
 halted_by fault (Some first) = Some first
 
+-- an entry joins the history, and the pages that it changes are dirty
+abbrev pub appended : Entry → Core → Core
+appended entry core =
+    let n = length core.history in
+    record core { history = core.history ++ entry ∷ []; blocks = marked (pages_changed (core_image core n) entry) (suc n) 0 core.blocks }
+
 -- what a step makes of a state
 abbrev pub does : Core → Step → Core
-does core (steps.Append tx) = record core { history = core.history ++ tx ∷ []; blocks = marked (suc (length core.history)) tx 0 core.blocks }
+does core (steps.Append tx) = appended (record { tx = tx }) core
 does core steps.Take = record core { taken = length core.history; points_taken = length core.syncpoints; grouped = true }
 does core steps.GroupWrite = record core { durable = core.taken; points_stable = core.points_taken; grouped = false }
 does core steps.Told = record core { told = core.durable }

@@ -1,13 +1,14 @@
 //! What a step does.
 
-ghost use Rattle.std.specs.Prelude.{◌≡◌, ◌<◌, ◌^◌, if◌then◌else◌, length, map, OnOk, OnErr, Some, None, is_some};
+ghost use Rattle.std.specs.Prelude.{◌≡◌, ◌<◌, ◌≤◌, ◌^◌, if◌then◌else◌, length, map, OnOk, OnErr, Some, None, is_some};
 ghost use Rattle.jfs_core.specs.Core.{block_of};
 ghost use Rattle.jfs_core.specs.Step.{IsAllowed, does, marked, dirtied, synced, halted_by};
-ghost use Rattle.jfs_core.specs.Sound.{IsSound};
+ghost use Rattle.jfs_ranges.specs.Apply.{touches_tx};
 ghost use Rattle.jfs_disk.specs.declared.disk.Fault.{Fault};
 
 use crate::block::Slot;
 use crate::copy::copy_tx;
+use crate::entry::Entry;
 use crate::state::CoreState;
 use crate::step::{FaultOf, Step};
 use jfs_disk::{Fault, Page};
@@ -17,8 +18,7 @@ use std::alloc::{AllocError, Global};
 impl CoreState {
     /// Takes a step that is allowed. At `Err` the state is as it was.
     pub(crate) fn take_step(&mut self, alloc: Global, step: &Step) -> Result<(), AllocError>
-        requires sound { IsSound self.old }
-        requires allowed { IsAllowed self.old step.now }
+        requires { IsAllowed self.old step.now }
         ensures ok { OnOk result (self.new ≡ does self.old step.now) }
         ensures err { OnErr result (self.new ≡ self.old) }
     {
@@ -51,20 +51,18 @@ impl CoreState {
     }
 
     fn append(&mut self, alloc: Global, tx: &Tx) -> Result<(), AllocError>
-        requires { IsSound self.old }
         ensures ok { OnOk result (self.new ≡ does self.old (Step.Append tx.now)) }
         ensures err { OnErr result (self.new ≡ self.old) }
     {
         let copy = copy_tx(alloc, tx)?;
-        self.history.push(copy)?;
+        self.history.push(Entry { tx: copy })?;
         let entry = self.history.len() as u64;
         mark_touched(&mut self.slots, tx, entry);
         Ok(())
     }
 
     fn send_home(&mut self, page: u32) -> Result<(), AllocError>
-        requires sound { IsSound self.old }
-        requires there { page < length self.old.blocks }
+        requires { page < length self.old.blocks }
         ensures ok { OnOk result (self.new ≡ does self.old (Step.Home page)) }
         ensures err { OnErr result (self.new ≡ self.old) }
     {
@@ -74,6 +72,7 @@ impl CoreState {
     }
 
     fn add_sync_point(&mut self, c: u64) -> Result<(), AllocError>
+        requires { c ≤ self.old.told }
         ensures ok { OnOk result (self.new ≡ does self.old (Step.SyncPoint c)) }
         ensures err { OnErr result (self.new ≡ self.old) }
     {
@@ -123,7 +122,7 @@ fn sync_all(slots: &mut [Slot])
 
 fn mark_touched(slots: &mut [Slot], tx: &Tx, entry: u64)
     requires { length slots.old < 2 ^ 32 }
-    ensures { slots.new ≡ marked entry tx.now 0 slots.old }
+    ensures { slots.new ≡ marked (λ p. touches_tx p tx.now) entry 0 slots.old }
 {
     for p in 0..slots.len() {
         let touched = touches(tx, p as u32);

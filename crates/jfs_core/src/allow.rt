@@ -5,9 +5,9 @@ ghost use Rattle.jfs_disk.specs.Image.{page_of};
 ghost use Rattle.jfs_core.specs.Image.{page_after};
 ghost use Rattle.jfs_core.specs.Core.{block_of, newest_of};
 ghost use Rattle.jfs_disk.specs.Pages.{contents};
-ghost use Rattle.jfs_core.specs.Step.{refusal, is_halted, ends_by, are_synced, may_go_home, told_page, same_bytes};
+ghost use Rattle.jfs_core.specs.Step.{told_page};
+ghost use Rattle.jfs_core.specs.Decision.{refusal, is_halted, ends_by, are_synced, may_go_home, same_bytes};
 ghost use Rattle.jfs_disk.specs.declared.disk.Fault.{Fault};
-ghost use Rattle.jfs_core.specs.Sound.{IsSound};
 
 use crate::block::{Slot, Span};
 use crate::state::CoreState;
@@ -17,7 +17,6 @@ use jfs_disk::Page;
 impl CoreState {
     /// The first condition of the step that doesn't hold, None exactly where it is allowed.
     pub(crate) fn refuses(&self, step: &Step) -> Option<Why>
-        requires { IsSound self.now }
         ensures { result ≡ refusal self.now step.now }
     {
         match step {
@@ -76,7 +75,6 @@ impl CoreState {
     }
 
     fn refuses_fault(&self, of: &FaultOf) -> Option<Why>
-        requires { IsSound self.now }
         ensures { (fault : Fault) → result ≡ refusal self.now (Step.Fault fault of.now) }
     {
         match of {
@@ -105,8 +103,7 @@ impl CoreState {
 
     /// Whether these are the page's bytes after the acknowledged entries.
     fn is_told_page(&self, page: u32, bytes: &Page) -> bool
-        requires sound { IsSound self.now }
-        requires there { page < length self.now.blocks }
+        requires { page < length self.now.blocks }
         ensures { result ≡ same_bytes bytes.now.0 (told_page self.now page) }
     {
         bytes.0 == self.told_page(page).0

@@ -4,7 +4,8 @@ ghost use Rattle.std.specs.Prelude.{◌≡◌, ◌&&◌, ◌++◌, take, drop, �
 ghost use Rattle.jfs_disk.specs.Crash.{torn, content_of};
 ghost use Rattle.jfs_disk.specs.Choice.{left_by, torn_by, fits};
 ghost use Rattle.jfs_core.specs.Core.{Block, fresh_block};
-ghost use Rattle.jfs_core.specs.Step.{begins_past, spanned, joined, dirtied, sent_home, failed_home, synced};
+ghost use Rattle.jfs_core.specs.Step.{spanned, joined, dirtied, sent_home, failed_home, synced};
+ghost use Rattle.jfs_core.specs.Decision.{begins_past};
 
 use jfs_disk::{Choice, Page};
 use std::alloc::{AllocError, Global};

@@ -1,6 +1,6 @@
 //! One crash of the core, and redo.
 
-ghost use Rattle.std.specs.Prelude.{◌≡◌, ◌<◌, ◌^◌, ◌++◌, ◌∷◌, [], length, map, IfOk, OnOk, IfSome, is_some};
+ghost use Rattle.std.specs.Prelude.{◌≡◌, ◌<◌, ◌≤◌, ◌^◌, ◌++◌, ◌∷◌, [], length, map, IfOk, OnOk, IfSome, is_some};
 ghost use Rattle.jfs_disk.specs.Image.{page_of};
 ghost use Rattle.jfs_disk.specs.Choice.{choice_of, left_by};
 ghost use Rattle.jfs_core.specs.Image.{page_after};
@@ -10,10 +10,10 @@ ghost use Rattle.jfs_core.specs.Left.{IsCrash, may_hold, stable_count, redone_fr
 ghost use Rattle.jfs_core.specs.Sound.{IsSound};
 
 use crate::block::Slot;
+use crate::entry::Entry;
 use crate::replay::replay;
 use crate::state::CoreState;
 use jfs_disk::{Choice, PageList};
-use jfs_ranges::Tx;
 use std::alloc::{AllocError, Global};
 
 impl CoreState {
@@ -26,12 +26,11 @@ impl CoreState {
         choices: &[Choice],
         n: u64,
     ) -> Result<Option<PageList>, AllocError>
-        requires { IsSound self.now }
         ensures some { IfOk result (λ image. is_some image ≡ may_hold self.now n) }
-        ensures crash { IfOk result (λ left. IfSome left (λ image. IsCrash self.now choices.now n (contents image))) }
+        ensures crash { IfOk result (λ left. IfSome left (λ image. IsSound self.now → IsCrash self.now choices.now n (contents image))) }
 
         // It is the image after the first `n` entries.
-        ensures image { IfOk result (λ left. IfSome left (λ image. contents image ≡ core_image self.now n)) }
+        ensures image { IfOk result (λ left. IfSome left (λ image. IsSound self.now → contents image ≡ core_image self.now n)) }
     {
         if n < self.durable || self.taken < n {
             return Ok(None);
@@ -43,19 +42,19 @@ impl CoreState {
     }
 
     fn stable_count(&self) -> u64
-        requires { IsSound self.now }
-        ensures { result ≡ stable_count self.now }
+        ensures count { result ≡ stable_count self.now }
+        ensures acknowledged { result ≤ self.now.told }
     {
         self.syncpoints[(self.points_stable - 1) as usize]
     }
 }
 
-/// Each block as a crash leaves it by the choices, after the transactions.
+/// Each block as a crash leaves it by the choices, after the entries.
 fn redo(
     alloc: Global,
     slots: &[Slot],
     choices: &[Choice],
-    log: &[Tx],
+    log: &[Entry],
 ) -> Result<PageList, AllocError>
     requires { length slots.now < 2 ^ 32 }
     ensures { IfOk result (λ image. contents image ≡ redone_from choices.now log.now 0 slots.now) }

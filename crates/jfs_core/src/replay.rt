@@ -1,21 +1,20 @@
-//! Pages after transactions.
+//! Pages after entries.
 
 ghost use Rattle.std.specs.Prelude.{◌≡◌, ◌<◌, length};
 ghost use Rattle.jfs_disk.specs.Image.{page_of};
 ghost use Rattle.jfs_core.specs.Image.{page_after};
 ghost use Rattle.jfs_disk.specs.Pages.{contents};
 ghost use Rattle.jfs_core.specs.Step.{told_page};
-ghost use Rattle.jfs_core.specs.Sound.{IsSound};
 
+use crate::entry::Entry;
 use crate::state::CoreState;
 use jfs_disk::{Page, PageList};
-use jfs_ranges::{Tx, apply};
+use jfs_ranges::apply;
 
 impl CoreState {
     /// The page after the acknowledged entries.
     pub(crate) fn told_page(&self, page: u32) -> Page
-        requires sound { IsSound self.now }
-        requires there { page < length self.now.blocks }
+        requires { page < length self.now.blocks }
         ensures { result.0 ≡ told_page self.now page }
     {
         let mut bytes = copy_at(&self.mounted, page as usize);
@@ -24,12 +23,12 @@ impl CoreState {
     }
 }
 
-/// Applies the transactions to page `n`.
-pub fn replay(history: &[Tx], n: u32, page: &mut Page)
+/// Applies the entries to page `n`.
+pub fn replay(history: &[Entry], n: u32, page: &mut Page)
     ensures { page.new.0 ≡ page_after n history.now page.old.0 }
 {
-    for tx in history {
-        apply(tx, n, page);
+    for entry in history {
+        apply(&entry.tx, n, page);
     }
 }
 

@@ -11,13 +11,12 @@ use std::alloc::Global;
 /// Takes the steps one after another, up to the first that isn't allowed in the state reached. The state is then the one
 /// before that step; so it is where a step finds no memory.
 pub fn run_steps(alloc: Global, core: &mut CoreState, steps: &[Step]) -> Result<(), RunError>
-    requires sound { IsSound core.old }
-    requires few { length steps.now ≤ 2 ^ 32 }
+    requires { length steps.now ≤ 2 ^ 32 }
     ensures run { IsRun core.old steps.now result core.new }
-    ensures sound { IsSound core.new }
+    ensures sound { IsSound core.old → IsSound core.new }
 
     // Whatever a crash leaves of the new state, redo gives the image after some of its entries, all acknowledged ones among them.
-    ensures recovers { AlwaysRecovers core.new }
+    ensures recovers { IsSound core.old → AlwaysRecovers core.new }
 {
     for i in 0..steps.len() {
         let step = &steps[i];

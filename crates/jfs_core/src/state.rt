@@ -2,13 +2,13 @@
 
 ghost use Rattle.std.specs.Prelude.{◌≡◌, ◌<◌, ◌^◌, ◌+◌, ◌++◌, ◌∷◌, [], length, map, OnOk, IfOk};
 ghost use Rattle.jfs_disk.specs.Image.{page_of};
-ghost use Rattle.jfs_core.specs.Core.{Core, fresh_block, fresh_core};
+ghost use Rattle.jfs_core.specs.Core.{fresh_block, fresh_core};
 ghost use Rattle.jfs_disk.specs.Pages.{contents};
 ghost use Rattle.jfs_core.specs.Sound.{IsSound};
 
 use crate::block::Slot;
+use crate::entry::Entry;
 use jfs_disk::{Fault, Page, PageList};
-use jfs_ranges::Tx;
 use std::alloc::{AllocError, Global};
 use std::marker::Model;
 
@@ -17,7 +17,7 @@ use std::marker::Model;
 #[derive(Drop)]
 pub struct CoreState {
     pub(crate) mounted: PageList,
-    pub(crate) history: Vec<Tx>,
+    pub(crate) history: Vec<Entry>,
     pub(crate) taken: u64,
     pub(crate) durable: u64,
     pub(crate) told: u64,
@@ -31,22 +31,15 @@ pub struct CoreState {
 }
 
 impl Model for CoreState {
+    ghost use Rattle.jfs_core.specs.Core.{Core};
+
     ghost Value = { Core };
 
-    ghost view = { λ s. record {
-      mounted = contents s.mounted;
-      history = s.history.items;
-      taken = s.taken;
-      durable = s.durable;
-      told = s.told;
-      grouped = s.grouped;
-      syncpoints = s.syncpoints.items;
-      points_taken = s.points_taken;
-      points_stable = s.points_stable;
-      blocks = s.slots.items;
-      low_halted = s.low_halted;
-      log_halted = s.log_halted;
-    } };
+    ghost use Rattle.jfs_core.specs.State.{core_of, StaysInBounds};
+
+    ghost view = { core_of };
+
+    ghost invariant = { StaysInBounds };
 }
 
 impl CoreState {

@@ -1,5 +1,4 @@
 ghost use Rattle.std.specs.Prelude.{◌≤◌, ◌^◌, length};
-ghost use Rattle.jfs_core.specs.Sound.{IsSound};
 
 use crate::{Do, run, zeros};
 use jfs_core::CoreState;
@@ -106,7 +105,6 @@ fn is_redone(image: &PageList, n: u64, choices: &[Choice; 2]) -> bool {
 
 /// Whether a crash by these choices is redone, where three entries are durable and four are taken.
 fn agrees(alloc: Global, core: &CoreState, choices: &[Choice; 2]) -> Result<bool, AllocError>
-    requires { IsSound core.now }
 {
     for n in 0..6 {
         let right = match core.crash(alloc, choices, n)? {
@@ -146,7 +144,6 @@ fn choice_of(page: u32, number: u32) -> Choice {
 }
 
 fn all_agree(alloc: Global, core: &CoreState) -> Result<bool, AllocError>
-    requires { IsSound core.now }
 {
     for first in 0..30 {
         for second in 0..15 {

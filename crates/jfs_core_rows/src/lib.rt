@@ -2,7 +2,6 @@
 #![tactic(auto)]
 
 ghost use Rattle.std.specs.Prelude.{◌≤◌, ◌^◌, ◌<◌, length, IfOk};
-ghost use Rattle.jfs_core.specs.Sound.{IsSound};
 
 use jfs_bits::PageKind;
 use jfs_core::{CoreState, FaultOf, RunError, Step, StepRefused, run_steps};
@@ -124,9 +123,7 @@ pub fn run(
     core: &mut CoreState,
     codes: &[Do],
 ) -> Result<Option<StepRefused>, AllocError>
-    requires sound { IsSound core.old }
-    requires few { length codes.now ≤ 2 ^ 32 }
-    ensures { IsSound core.new }
+    requires { length codes.now ≤ 2 ^ 32 }
 {
     let mut steps = Vec::new(alloc);
     for code in codes {

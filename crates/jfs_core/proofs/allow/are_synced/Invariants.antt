@@ -1,5 +1,5 @@
 use Rattle.std.proofs.Common.{◌≡◌, drop}
-use Rattle.jfs_core.specs.Step.{are_synced}
+use Rattle.jfs_core.specs.Decision.{are_synced}
 use Rattle.jfs_core.proofs.allow.are_synced.Given as goal
 
 abbrev pub invariant-loop-slot : goal.invariant-loop-slot

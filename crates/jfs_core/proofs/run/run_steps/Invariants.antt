@@ -1,6 +1,5 @@
 use Rattle.jfs_core.specs.Run.{LeadsTo}
-use Rattle.jfs_core.specs.Sound.{IsSound}
 use Rattle.jfs_core.proofs.run.run_steps.Given as goal
 
 abbrev pub invariant-loop-i : goal.invariant-loop-i
-invariant-loop-i l = LeadsTo l.fn.core l.steps l.i l.core × IsSound l.core
+invariant-loop-i l = LeadsTo l.fn.core l.steps l.i l.core
