@@ -1,0 +1,12 @@
+pub mod Torn
+pub mod TornPage
+pub mod Ends
+pub mod TextRead
+pub mod Middle
+pub mod Grown
+pub mod Filled
+pub mod NextPage
+pub mod Runs
+pub mod ReadBack
+pub mod Moments
+pub mod Records

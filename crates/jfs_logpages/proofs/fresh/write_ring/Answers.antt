@@ -1,0 +1,66 @@
+use Rattle.std.proofs.Common.{◌≡◌, ◌+◌, ◌-◌, ℕ, List, length, drop, refl, ◌∙◌, arith, subst, sym, ap}
+use Rattle.std.proofs.lemmas.List.{length-replicate, get_or-replicate}
+use Rattle.jfs_bits.specs.Field.{put_bytes}
+use Rattle.jfs_bits.specs.Piece.{puts}
+use Rattle.jfs_logfmt.specs.Written.{text_of}
+use Rattle.jfs_logpages.specs.Fresh.{first_record}
+use Rattle.jfs_logpages.specs.Ring.{IsWritten, ring_pieces, fresh_text, fresh_ends}
+use Rattle.jfs_logpages.proofs.Filled.{blank-put, blank-written, fresh-last, fresh-is-last, fresh-is-ring, put-more, page_of-log, others-put}
+use Rattle.jfs_logpages.proofs.fresh.write_ring.Goals as goal
+
+long : (text : List ℕ) → text ≡ text_of first_record → length text ≡ 36 → length (text_of first_record) ≡ 36
+long text e size = sym (ap (λ (b : List ℕ). length b) e) ∙ size
+
+put : (ring : ℕ) (text old page : List ℕ) → text ≡ text_of first_record → page ≡ puts (ring_pieces (ring - 1) 44) (put_bytes (8 + 0) text old) → page ≡ puts (ring_pieces (ring - 1) 44) (put_bytes (8 + 0) (text_of first_record) old)
+put ring text old page e is = is ∙ ap (λ (b : List ℕ). puts (ring_pieces (ring - 1) 44) (put_bytes (8 + 0) b old)) e
+
+pub loop-q-init : goal.loop-q-init
+loop-q-init g c = record {
+  blank = rw c.zeros-page.ensures (length-replicate {A = ℕ} 4096 0, λ i h. get_or-replicate {A = ℕ} 4096 (8 + i) 0 0 (omega arith));
+  pages = refl;
+  faults = refl;
+  written = λ t k h. absurd (omega arith);
+  others = λ t n side. refl;
+}
+
+pub loop-q-preserved : goal.loop-q-preserved
+loop-q-preserved g c =
+    let inv = c.loop-q.invariant in
+    let old = c.loop-q.page.0 in
+    let page = c.put_page.new.page.0 in
+    record {
+      blank = blank-put c.loop-q.q old page inv.blank (omega arith) c.put_page.ensures.bytes;
+      pages = c.in_ok-write.ensures.pages ∙ inv.pages;
+      faults = omega (arith, inv.faults, c.in_ok-write.ensures.cause.ok);
+      written = λ t. put-more (fresh_text c.args.ring (text_of first_record)) (fresh_ends c.args.ring) (g.D.Disk.image c.loop-q.disk) (g.D.Disk.image c.write.new.self) page (c.args.base + 2) c.loop-q.q
+          (omega (arith, (g.met.D.Disk.has_pages c.loop-q.disk t).number, inv.pages, c.requires.place)) (c.in_ok-write.ensures.image t)
+          (blank-written c.args.ring c.loop-q.q (text_of first_record) old page (omega arith) (omega arith) inv.blank c.put_page.ensures.bytes) (inv.written t);
+      others = λ t. others-put (c.args.base + 2) c.args.ring (c.args.base + 2 + c.loop-q.q) _ _ _ page (omega arith) (omega arith) (c.in_ok-write.ensures.image t) (inv.others t);
+    }
+
+pub returns-in_err-write-clause-others : goal.returns-in_err-write-clause-others
+returns-in_err-write-clause-others g c = λ t. others-put (c.args.base + 2) c.args.ring (c.args.base + 2 + c.loop-q.q) _ _ _ _ (omega arith) (omega arith) (c.in_err-write.ensures.image_failed t).2 (c.loop-q.invariant.others t)
+
+pub returns-in_err-write-2-clause-others : goal.returns-in_err-write-2-clause-others
+returns-in_err-write-2-clause-others g c = λ t. others-put (c.args.base + 2) c.args.ring (c.args.base + 2 + (c.args.ring - 1)) _ _ _ _ (omega arith) (omega (arith, c.requires.ring)) (c.in_err-write-2.ensures.image_failed t).2 (c.loop-q.invariant.others t)
+
+pub returns-clause-others : goal.returns-clause-others
+returns-clause-others g c = λ t. others-put (c.args.base + 2) c.args.ring (c.args.base + 2 + (c.args.ring - 1)) _ _ _ _ (omega arith) (omega (arith, c.requires.ring)) (c.in_ok-write-2.ensures.image t) (c.loop-q.invariant.others t)
+
+pub returns-clause-last : goal.returns-clause-last
+returns-clause-last g c =
+    fresh-is-last c.args.ring (text_of first_record) c.put_page-2.new.page.0 c.requires.ring (long c.first_text.result c.first_text.ensures.text c.first_text.ensures.size)
+    (fresh-last c.args.ring (text_of first_record) c.loop-q.page.0 c.put_page-2.new.page.0 c.requires.ring c.requires.ring_small (long c.first_text.result c.first_text.ensures.text c.first_text.ensures.size) c.loop-q.invariant.blank (put c.args.ring c.first_text.result c.loop-q.page.0 c.put_page-2.new.page.0 c.first_text.ensures.text c.put_page-2.ensures.bytes))
+
+pub returns-clause-image : goal.returns-clause-image
+returns-clause-image g c = λ t.
+    let inv = c.loop-q.invariant in
+    let text = fresh_text c.args.ring (text_of first_record) in
+    let ends = fresh_ends c.args.ring in
+    let last : ℕ = c.args.ring - 1 in
+    let all = put-more text ends (g.D.Disk.image c.loop-q.disk) (g.D.Disk.image c.write-2.new.self) c.put_page-2.new.page.0 (c.args.base + 2) last
+    (omega (arith, (g.met.D.Disk.has_pages c.loop-q.disk t).number, inv.pages, c.requires.place, c.requires.ring)) (c.in_ok-write-2.ensures.image t)
+    (fresh-last c.args.ring (text_of first_record) c.loop-q.page.0 c.put_page-2.new.page.0 c.requires.ring c.requires.ring_small (long c.first_text.result c.first_text.ensures.text c.first_text.ensures.size) inv.blank (put c.args.ring c.first_text.result c.loop-q.page.0 c.put_page-2.new.page.0 c.first_text.ensures.text c.put_page-2.ensures.bytes))
+    (λ k h. inv.written t k (omega arith)) in
+    fresh-is-ring c.args.ring text ends (drop c.args.base (g.D.Disk.image c.write-2.new.self)) c.requires.ring
+    (λ k h. subst (λ (page : List ℕ). IsWritten text ends k page) (sym (page_of-log c.args.base k (g.D.Disk.image c.write-2.new.self))) (all k (omega arith)))

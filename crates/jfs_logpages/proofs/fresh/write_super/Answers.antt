@@ -1,0 +1,15 @@
+use Rattle.std.proofs.Common.{◌+◌, ◌∙◌, [], ap, arith}
+use Rattle.std.proofs.lemmas.List.{get_or-set_same}
+use Rattle.jfs_disk.specs.Image.{Image, page_of}
+use Rattle.jfs_bits.specs.Piece.{puts}
+use Rattle.jfs_logfmt.specs.Super.{log_super_pieces}
+use Rattle.jfs_logpages.specs.Fresh.{fresh_super}
+use Rattle.jfs_logpages.proofs.fresh.write_super.Goals as goal
+
+pub returns-clause-image : goal.returns-clause-image
+returns-clause-image g c = λ t.
+    let old = c.args.disk.now in
+    ap (λ (im : Image). page_of im (c.args.base + 1)) (c.in_ok-write.ensures.image t)
+    ∙ get_or-set_same (g.D.Disk.image old) (c.args.base + 1) c.write_log_super.new.page.0 [] (omega (arith, (g.met.D.Disk.has_pages old t).number, c.requires.place, c.requires.some))
+    ∙ c.write_log_super.ensures.bytes
+    ∙ ap (λ (b : _). puts (log_super_pieces (fresh_super c.args.pages c.args.uuid)) b) c.zeros-page.ensures

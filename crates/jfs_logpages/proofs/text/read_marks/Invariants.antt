@@ -1,0 +1,12 @@
+use Rattle.std.proofs.Common.{◌≡◌, ◌<◌, ◌^◌, ℕ, length, get_or}
+use Rattle.jfs_logpages.specs.Marks.{AreMarks}
+use Rattle.jfs_logpages.proofs.text.read_marks.Given as goal
+
+abbrev pub invariant-loop-place : goal.invariant-loop-place
+invariant-loop-place g l = record {
+  pages : g.D.Disk.page_count l.disk ≡ g.D.Disk.page_count l.initial.disk;
+  image : g.D.Disk.tells → g.D.Disk.image l.disk ≡ g.D.Disk.image l.initial.disk;
+  size : length l.marks.items ≡ l.place;
+  small : (p : ℕ) → get_or l.marks.items p 0 < 2 ^ 33;
+  marks : g.D.Disk.tells → AreMarks l.ring (g.D.Disk.image l.initial.disk) l.marks.items;
+}

@@ -1,0 +1,34 @@
+-- A log as it is made: its superblock, and a ring with one record.
+use Rattle.std.specs.Prelude.{◌≡◌, ◌<◌, ◌≤◌, ◌+◌, ◌-◌, ◌⊎◌, ℕ, List, [], ◌∷◌, ◌++◌, replicate, codes}
+use Rattle.jfs_disk.specs.Image.{Image, page_of}
+use Rattle.jfs_bits.specs.Piece.{puts}
+use Rattle.jfs_logfmt.specs.declared.log_record.Record.{Record}
+use Rattle.jfs_logfmt.specs.declared.log_record.Record.TheVariants.{SyncPt}
+use Rattle.jfs_logfmt.specs.declared.log_super.LogSuper.{LogSuper}
+use Rattle.jfs_logfmt.specs.Super.{log_super_pieces}
+use Rattle.jfs_logfmt.specs.Written.{text_of}
+use Rattle.jfs_logpages.specs.Ring.{IsRing, fresh_text, fresh_ends}
+
+-- redo begins at this record
+abbrev pub first_record : Record
+first_record = SyncPt 0
+
+-- 16 bytes, with zeros at their end
+abbrev pub own_label : List ℕ
+own_label = codes "jfsd profile 1" ++ 0 ∷ 0 ∷ []
+
+-- the superblock of a log of so many pages
+abbrev pub fresh_super : ℕ → List ℕ → LogSuper
+fresh_super pages uuid = record { serial = 0; size = pages; state = 0; uuid = uuid; label = own_label }
+
+abbrev pub super_page : ℕ → List ℕ → List ℕ
+super_page pages uuid = puts (log_super_pieces (fresh_super pages uuid)) (replicate 4096 0)
+
+-- all pages but `count` ones from `first` on are as they were
+abbrev pub OthersStay : ℕ → ℕ → Image → Image → Type 0
+OthersStay first count old new = (n : ℕ) → (n < first) ⊎ (first + count ≤ n) → page_of new n ≡ page_of old n
+
+-- a log of so many pages, of which the ring has all but the first two
+pub record IsFreshLog (pages : ℕ) (uuid : List ℕ) (log : Image) : Type 0 where
+  pub super_block : page_of log 1 ≡ super_page pages uuid
+  pub ring : IsRing (pages - 2) (fresh_text (pages - 2) (text_of first_record)) (fresh_ends (pages - 2)) (pages - 3) log

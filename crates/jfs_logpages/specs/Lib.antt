@@ -1,0 +1,4 @@
+pub mod Ring
+pub mod Marks
+pub mod Fresh
+pub mod Group
