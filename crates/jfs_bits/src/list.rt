@@ -2,7 +2,7 @@
 
 ghost use Rattle.std.specs.Prelude.{◌≡◌, ◌==◌, ◌^◌, ◌<◌, [], ◌∷◌, ◌++◌, List, length, OnOk, OnErr, slice_get};
 ghost use Rattle.std.specs.Option.{option_copied};
-ghost use Rattle.std.specs.Iterator.Adapters.{IterYieldsInOrder};
+ghost use Rattle.std.specs.Iterator.Adapters.{IterYieldsInOrder, IterYieldsInReverse};
 ghost use Rattle.std.specs.Slice.Iter.{iter_rest};
 
 use crate::descriptor::Pxd;
@@ -74,6 +74,7 @@ impl<T: Drop> Sequence<T> {
         ensures rest { iter_rest result ≡ self.now }
         ensures bound { length (iter_rest result) < 2 ^ 64 }
         ensures in_order { IterYieldsInOrder T }
+        ensures in_reverse { IterYieldsInReverse T }
     {
         self.items.as_slice().iter()
     }
@@ -86,6 +87,14 @@ impl<T: Copy> Sequence<T> {
         ensures err { OnErr result (self.new ≡ self.old) }
     {
         self.items.extend_from_slice(items)
+    }
+}
+
+impl<T> From<Vec<T>> for Sequence<T> {
+    ghost from_gives = { λ v s. s ≡ v.items };
+
+    fn from(items: Vec<T>) -> Self {
+        Sequence { items }
     }
 }
 

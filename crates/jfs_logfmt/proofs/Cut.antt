@@ -4,6 +4,7 @@ use Rattle.std.specs.Prelude.{nat_lt, IfOk}
 use Rattle.std.proofs.lemmas.List.{take_at, drop_at, take-append-drop, length-append}
 use Rattle.std.proofs.lemmas.Bool.Decides.{nat_tests}
 use Rattle.jfs_bits.specs.declared.rule.Rule.{Rule}
+use Rattle.jfs_bits.specs.Broken.{IsFirstBroken}
 use Rattle.jfs_logfmt.specs.declared.descriptor.Descriptor.{Descriptor}
 use Rattle.jfs_logfmt.specs.declared.kind.RecordType.{RecordType}
 use Rattle.jfs_logfmt.specs.declared.log_record.Record.{Record}
@@ -12,7 +13,8 @@ use Rattle.jfs_logfmt.specs.declared.log_record.RecordError.TheVariants as error
 use Rattle.jfs_logfmt.specs.Kinds.{type_of}
 use Rattle.jfs_logfmt.specs.Descriptor.{descriptor_of}
 use Rattle.jfs_logfmt.specs.Text.{Says, Spells}
-use Rattle.jfs_logfmt.specs.Rules.{Keeps, IsFirst, IsFirstOf, FirstBroken, tail_of, body_of, type_before, has_length, is_long, IsSound, IfBad, IsRead}
+use Rattle.jfs_logfmt.specs.Rules.{Keeps, record_rules, IsFirstOf, FirstBroken, tail_of, body_of, type_before, has_length, is_long, IsRecordOf, IfBad, IsRead}
+use Rattle.jfs_logfmt.proofs.Once.{said_once}
 use Rattle.jfs_logfmt.proofs.Kept.{none_broken, long_for, typed, type_for, type_of-number}
 
 -- the type that is read is the one that the bytes end with
@@ -20,7 +22,7 @@ type_before-known : (bytes : List ℕ) (of : RecordType) → 36 ≤ length bytes
 type_before-known bytes of h e = let no : nat_lt (length bytes) 36 ≡ false = grind (arith, nat_tests) in rw no e
 
 -- a rule that a reader of this type found broken
-pub first_found : (blocks : ℕ) (bytes front tail body : List ℕ) (of : RecordType) (d : Descriptor) (long : ℕ) (e : RecordError) → 36 ≤ length bytes → front ≡ take (length bytes - 36) bytes → tail ≡ drop (length bytes - 36) bytes → length front ≡ length bytes - 36 → d ≡ descriptor_of tail → type_of d.number ≡ Some of → long ≡ d.length → long ≤ length front → is_long of d ≡ true → body ≡ drop (length front - long) front → ((left : ℕ) → has_length of left d ≡ true → IfBad {X = Record} (Err e) (IsFirst (Keeps of blocks left d body))) → IfBad {X = Record × ℕ} (Err e) (FirstBroken blocks bytes)
+pub first_found : (blocks : ℕ) (bytes front tail body : List ℕ) (of : RecordType) (d : Descriptor) (long : ℕ) (e : RecordError) → 36 ≤ length bytes → front ≡ take (length bytes - 36) bytes → tail ≡ drop (length bytes - 36) bytes → length front ≡ length bytes - 36 → d ≡ descriptor_of tail → type_of d.number ≡ Some of → long ≡ d.length → long ≤ length front → is_long of d ≡ true → body ≡ drop (length front - long) front → ((left : ℕ) → has_length of left d ≡ true → IfBad {X = Record} (Err e) (IsFirstBroken (Keeps of blocks left d body) record_rules)) → IfBad {X = Record × ℕ} (Err e) (FirstBroken blocks bytes)
 first_found blocks bytes front tail body of d long errors.Memory h ef et size ed t el fits is_long eb f = tt
 first_found blocks bytes front tail body of d long (errors.Bad b) h ef et size ed t el fits is_long eb f =
     let left = length bytes - 36 in
@@ -28,8 +30,8 @@ first_found blocks bytes front tail body of d long (errors.Bad b) h ef et size e
     let start : length front - long ≡ left - (descriptor_of (tail_of bytes)).length = omega (arith, size, el, ap (λ (x : Descriptor). x.length) d_is) in
     let body_is : body ≡ body_of bytes = eb ∙ ap (λ (n : ℕ). drop n front) start ∙ ap (λ (l : List ℕ). drop (left - (descriptor_of (tail_of bytes)).length) l) ef in
     let first = f left (long_for of left d (omega (arith, el, fits, size)) is_long) in
-    let P : Descriptor → Type 0 = λ x. IsFirst (Keeps of blocks left x body) b.rule in
-    let Q : List ℕ → Type 0 = λ x. IsFirst (Keeps of blocks left (descriptor_of (tail_of bytes)) x) b.rule in
+    let P : Descriptor → Type 0 = λ x. IsFirstBroken (Keeps of blocks left x body) record_rules b.rule in
+    let Q : List ℕ → Type 0 = λ x. IsFirstBroken (Keeps of blocks left (descriptor_of (tail_of bytes)) x) record_rules b.rule in
     let R : Option RecordType → Type 0 = λ o. IsFirstOf o blocks bytes b.rule in
     let type_is = sym (ap (λ (x : Descriptor). type_of x.number) d_is) ∙ t in
     subst R (sym (type_before-known bytes of h type_is)) (subst Q body_is (subst P d_is first))
@@ -57,8 +59,8 @@ cut bytes front text r e s =
       start = omega (arith, sizes, long);
     }
 
--- a sound record at the end of bytes breaks no rule, whatever stands before it
-none_is_broken : (blocks : ℕ) (bytes front text : List ℕ) (r : Record) → bytes ≡ front ++ text → Spells text r → IsSound blocks r → (rule : Rule) → FirstBroken blocks bytes rule → ⊥
+-- a record of the volume at the end of bytes breaks no rule, whatever stands before it
+none_is_broken : (blocks : ℕ) (bytes front text : List ℕ) (r : Record) → bytes ≡ front ++ text → Spells text r → IsRecordOf blocks r → (rule : Rule) → FirstBroken blocks bytes rule → ⊥
 none_is_broken blocks bytes front text r e spells sound rule broken =
     let c = cut bytes front text r e spells in
     let d = descriptor_of (tail_of bytes) in
@@ -67,15 +69,16 @@ none_is_broken blocks bytes front text r e spells sound rule broken =
     let R : Option RecordType → Type 0 = λ o. IsFirstOf o blocks bytes rule in
     none_broken (type_for r) blocks (length bytes - 36) d (body_of bytes) r t c.says sound c.long (omega (arith, c.start)) rule (subst R known broken)
 
-pub keeps_all : (blocks : ℕ) (bytes : List ℕ) (result : Result (Record × ℕ) RecordError) → IfOk result (λ x. Spells (drop x.1 bytes) x.0 × IsSound blocks x.0) → IfOk result (λ _. (rule : Rule) → FirstBroken blocks bytes rule → ⊥)
+pub keeps_all : (blocks : ℕ) (bytes : List ℕ) (result : Result (Record × ℕ) RecordError) → IfOk result (λ x. Spells (drop x.1 bytes) x.0 × IsRecordOf blocks x.0) → IfOk result (λ _. (rule : Rule) → FirstBroken blocks bytes rule → ⊥)
 keeps_all blocks bytes (Ok x) found = none_is_broken blocks bytes (take x.1 bytes) (drop x.1 bytes) x.0 (sym (take-append-drop x.1 bytes)) found.0 found.1
 keeps_all blocks bytes (Err e) found = tt
 
 -- and is what is read
-pub reads_it : (blocks : ℕ) (bytes : List ℕ) (result : Result (Record × ℕ) RecordError) → IfOk result (λ x. x.1 + (descriptor_of (tail_of bytes)).length + 36 ≡ length bytes) → IfOk result (λ x. (s : Record) → Says (descriptor_of (tail_of bytes)) (body_of bytes) s → s ≡ x.0) → IfBad result (FirstBroken blocks bytes) → (front text : List ℕ) (r : Record) → bytes ≡ front ++ text → Spells text r → IsSound blocks r → IsRead result (λ x. (x.0 ≡ r) × (x.1 ≡ length front))
-reads_it blocks bytes (Ok x) start only broken front text r e spells sound =
+pub reads_it : (blocks : ℕ) (bytes : List ℕ) (result : Result (Record × ℕ) RecordError) → IfOk result (λ x. x.1 + (descriptor_of (tail_of bytes)).length + 36 ≡ length bytes) → IfOk result (λ x. Spells (drop x.1 bytes) x.0 × IsRecordOf blocks x.0) → IfBad result (FirstBroken blocks bytes) → (front text : List ℕ) (r : Record) → bytes ≡ front ++ text → Spells text r → IsRecordOf blocks r → IsRead result (λ x. (x.0 ≡ r) × (x.1 ≡ length front))
+reads_it blocks bytes (Ok x) start found broken front text r e spells sound =
     let c = cut bytes front text r e spells in
-    (sym (only r c.says), omega (arith, start, c.start))
-reads_it blocks bytes (Err errors.Memory) start only broken front text r e spells sound = tt
-reads_it blocks bytes (Err (errors.Bad b)) start only broken front text r e spells sound =
+    let own = cut bytes (take x.1 bytes) (drop x.1 bytes) x.0 (sym (take-append-drop x.1 bytes)) found.0 in
+    (said_once (descriptor_of (tail_of bytes)) (body_of bytes) x.0 r own.says c.says, omega (arith, start, c.start))
+reads_it blocks bytes (Err errors.Memory) start found broken front text r e spells sound = tt
+reads_it blocks bytes (Err (errors.Bad b)) start found broken front text r e spells sound =
     absurd (none_is_broken blocks bytes front text r e spells sound b.rule broken)

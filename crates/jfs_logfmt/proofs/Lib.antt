@@ -4,5 +4,6 @@ pub mod Ranges
 pub mod Kept
 pub mod Cut
 pub mod ReadBack
-pub mod Added
+pub mod Outcomes
 pub mod Spelled
+pub mod Once

@@ -45,14 +45,14 @@ last_of size body (r ∷ rs) (text, rest, e, t, s) =
     ]
 
 -- where there are bytes, there is a last range
-ends_with : (size : ℕ) (body : List ℕ) (rs : List LineRange) → 0 < length body → SpellsRanges size body rs → EndsWith size body rs
+pub ends_with : (size : ℕ) (body : List ℕ) (rs : List LineRange) → 0 < length body → SpellsRanges size body rs → EndsWith size body rs
 ends_with size body rs h s = elim (last_of size body rs s) [
   | inl none ↦ absurd (omega (arith, h, ap length none.1))
   | inr l ↦ l
 ]
 
 -- bytes end with one range at most
-same_range : (size : ℕ) (f g a b : List ℕ) (r q : LineRange) → IsRangeText size a r → IsRangeText size b q → f ++ a ≡ g ++ b → (f ≡ g) × (r ≡ q)
+pub same_range : (size : ℕ) (f g a b : List ℕ) (r q : LineRange) → IsRangeText size a r → IsRangeText size b q → f ++ a ≡ g ++ b → (f ≡ g) × (r ≡ q)
 same_range size f g a b r q s t e =
     let whole : (f ++ r.bytes) ++ s.place ≡ (g ++ q.bytes) ++ t.place =
     append_assoc f r.bytes s.place ∙ ap (λ (l : List ℕ). f ++ l) (sym s.parts) ∙ e ∙ ap (λ (l : List ℕ). g ++ l) t.parts ∙ sym (append_assoc g q.bytes t.place) in
@@ -67,7 +67,7 @@ same_range size f g a b r q s t e =
         ap (λ (n : ℕ). let w : LineRange = record { first = n; bytes = r.bytes } in w) first
         ∙ ap (λ (l : List ℕ). let w : LineRange = record { first = q.first; bytes = l } in w) bytes
 
-no_ranges : (size : ℕ) (rs : List LineRange) → SpellsRanges size [] rs → rs ≡ []
+pub no_ranges : (size : ℕ) (rs : List LineRange) → SpellsRanges size [] rs → rs ≡ []
 no_ranges size [] s = refl
 no_ranges size (r ∷ rs) (text, rest, e, t, s) =
     absurd (omega (arith, ap length e, length-append text rest, ap length t.parts, length-append r.bytes t.place, t.four))
@@ -162,9 +162,3 @@ known_out size pages body rest start end r known e found out k (rs, s, within) =
     let yes = within_part size pages a.0 known r w in
     let no : false ≡ true = out ∙ yes in
     absurd cc
-
--- at the front of the data all are known
-pub known_all : (size pages : ℕ) (body : List ℕ) (known : List LineRange) → Known size pages body 0 known → (rs : List LineRange) → SpellsRanges size body rs → rs ≡ known
-known_all size pages body known k rs s =
-    let a = k.3 rs s in
-    a.2 ∙ ap (λ (l : List LineRange). l ++ known) (no_ranges size a.0 a.1)

@@ -1,5 +1,5 @@
 -- The rules of a record's text, in the order in which they are looked at.
-use Rattle.std.specs.Prelude.{◌≡◌, ℕ, ◌+◌, ◌-◌, ◌*◌, ◌^◌, ◌==◌, ◌&&◌, ◌||◌, not, nat_lt, nat_le, ⊤, Bool, true, false, IsTrue, List, length, take, drop, Option, Some, None, is_some, if◌then◌else◌, Result, Ok, Err}
+use Rattle.std.specs.Prelude.{◌≡◌, ℕ, ◌+◌, ◌-◌, ◌*◌, ◌^◌, ◌==◌, ◌&&◌, ◌||◌, not, nat_lt, nat_le, ⊤, Bool, true, false, IsTrue, List, [], ◌∷◌, length, take, drop, Option, Some, None, is_some, if◌then◌else◌, Result, Ok, Err}
 use Rattle.std.specs.List.{AllByRecursion, list_all}
 use Rattle.jfs_bits.specs.declared.descriptor.Pxd.{Pxd}
 use Rattle.jfs_bits.specs.declared.list.LineRange.{LineRange}
@@ -15,6 +15,7 @@ use Rattle.jfs_logfmt.specs.declared.log_record.RecordError.{RecordError}
 use Rattle.jfs_logfmt.specs.declared.log_record.RecordError.TheVariants as errors
 use Rattle.jfs_logfmt.specs.Kinds.{type_of, page_of, page_type, page_blocks, map_of}
 use Rattle.jfs_bits.specs.Line.{l2_line, line_size}
+use Rattle.jfs_bits.specs.Broken.{IsFirstBroken}
 use Rattle.jfs_logfmt.specs.Descriptor.{descriptor_of}
 use Rattle.jfs_logfmt.specs.Text.{SpellsRanges, runs_of}
 
@@ -97,14 +98,9 @@ Keeps of blocks left d body rules.Place = IsTrue (is_placed of blocks d body)
 Keeps of blocks left d body rules.Kind = IsTrue (has_kind of d)
 Keeps of blocks left d body _ = ⊤
 
--- the first of them that is broken
-abbrev pub IsFirst : (Rule → Type 0) → Rule → Type 0
-IsFirst keeps rules.Length = keeps rules.Length → ⊥
-IsFirst keeps rules.Lines = keeps rules.Length × (keeps rules.Lines → ⊥)
-IsFirst keeps rules.Range = keeps rules.Length × keeps rules.Lines × (keeps rules.Range → ⊥)
-IsFirst keeps rules.Place = keeps rules.Length × keeps rules.Lines × keeps rules.Range × (keeps rules.Place → ⊥)
-IsFirst keeps rules.Kind = keeps rules.Length × keeps rules.Lines × keeps rules.Range × keeps rules.Place × (keeps rules.Kind → ⊥)
-IsFirst keeps _ = ⊥
+-- the rules of a known type's text, in the order in which they are looked at
+abbrev pub record_rules : List Rule
+record_rules = rules.Length ∷ rules.Lines ∷ rules.Range ∷ rules.Place ∷ rules.Kind ∷ []
 
 -- the descriptor that ends the bytes, and the data before it
 abbrev pub tail_of : List ℕ → List ℕ
@@ -119,20 +115,20 @@ type_before bytes = if nat_lt (length bytes) 36 then None else type_of (descript
 
 abbrev pub IsFirstOf : Option RecordType → ℕ → List ℕ → Rule → Type 0
 IsFirstOf None blocks bytes rule = rule ≡ rules.BadType
-IsFirstOf (Some of) blocks bytes rule = IsFirst (Keeps of blocks (length bytes - 36) (descriptor_of (tail_of bytes)) (body_of bytes)) rule
+IsFirstOf (Some of) blocks bytes rule = IsFirstBroken (Keeps of blocks (length bytes - 36) (descriptor_of (tail_of bytes)) (body_of bytes)) record_rules rule
 
 -- the first rule that the text at the end of the bytes breaks
 abbrev pub FirstBroken : ℕ → List ℕ → Rule → Type 0
 FirstBroken blocks bytes rule = IsFirstOf (type_before bytes) blocks bytes rule
 
 -- a record of a volume of so many blocks
-abbrev pub IsSound : ℕ → Record → Type 0
-IsSound blocks (records.Commit tid back) = ⊤
-IsSound blocks (records.SyncPt sync) = ⊤
-IsSound blocks (records.NoRedo tid back fileset inode kind at) = IsTrue (is_page blocks at) × (at.len ≡ 1)
-IsSound blocks (records.Redo tid back fileset inode kind new_page at ranges) =
+abbrev pub IsRecordOf : ℕ → Record → Type 0
+IsRecordOf blocks (records.Commit tid back) = ⊤
+IsRecordOf blocks (records.SyncPt sync) = ⊤
+IsRecordOf blocks (records.NoRedo tid back fileset inode kind at) = IsTrue (is_page blocks at) × (at.len ≡ 1)
+IsRecordOf blocks (records.Redo tid back fileset inode kind new_page at ranges) =
     IsTrue (is_page blocks at) × (at.len ≡ page_blocks (page_type kind new_page)) × AreWithin (line_size kind) at.len ranges
-IsSound blocks (records.Update tid back fileset inode alloc list) = IsTrue (list_all (is_inside blocks) list)
+IsRecordOf blocks (records.Update tid back fileset inode alloc list) = IsTrue (list_all (is_inside blocks) list)
 
 -- what was refused, unless memory ran out
 abbrev pub IfBad : {X : Type 0} → Result X RecordError → (Rule → Type 0) → Type 0

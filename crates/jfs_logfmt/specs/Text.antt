@@ -58,3 +58,7 @@ pub record Spells (text : List ℕ) (r : Record) : Type 0 where
   pub size : length tail ≡ 36
   pub long : field_of tail 10 2 ≡ length body
   pub says : Says (descriptor_of tail) body r
+
+-- a text spells one record at most
+abbrev pub SpellsOneAtMost : Type 0
+SpellsOneAtMost = (text : List ℕ) (r s : Record) → Spells text r → Spells text s → r ≡ s

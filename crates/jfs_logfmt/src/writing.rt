@@ -10,21 +10,8 @@ ghost use Rattle.jfs_logfmt.specs.Written.{range_text, body_text, head_of, descr
 use crate::descriptor::{Descriptor, descriptor_text};
 use crate::kind::{PageType, RecordType, map_type_number};
 use crate::log_record::Record;
-use jfs_bits::{Blob, LineRange, Pxd, PxdList, Ranges, put_pxd, put_u16};
+use jfs_bits::{LineRange, Pxd, PxdList, Ranges, put_pxd, put_u16};
 use std::alloc::AllocError;
-
-/// Adds the bytes.
-fn push_blob(blob: &Blob, into: &mut Vec<u8>) -> Result<(), AllocError>
-    ensures ok { OnOk result (into.new.items ≡ into.old.items ++ blob.now) }
-    ensures err { OnErr result (IsLonger into.old.items into.new.items) }
-{
-    for i in 0..blob.len() {
-        if let Some(byte) = blob.get(i) {
-            into.push(*byte)?;
-        }
-    }
-    Ok(())
-}
 
 /// The 4 bytes that end a range.
 fn place_text(first: u16, lines: u16) -> [u8; 4]
@@ -44,7 +31,7 @@ fn push_range(range: &LineRange, size: usize, into: &mut Vec<u8>) -> Result<(), 
     ensures err { OnErr result (IsLonger into.old.items into.new.items) }
 {
     let first = range.first;
-    push_blob(&range.bytes, into)?;
+    into.extend_from_slice(range.bytes.as_slice())?;
     let lines = range.bytes.len() / size;
     into.extend_from_slice(&place_text(first as u16, lines as u16))
 }
@@ -56,10 +43,8 @@ fn push_ranges(ranges: &Ranges, size: usize, into: &mut Vec<u8>) -> Result<(), A
     ensures ok { OnOk result (into.new.items ≡ into.old.items ++ flat_map (range_text size) ranges.now) }
     ensures err { OnErr result (IsLonger into.old.items into.new.items) }
 {
-    for i in 0..ranges.len() {
-        if let Some(range) = ranges.get(i) {
-            push_range(range, size, into)?;
-        }
+    for range in ranges.as_slice() {
+        push_range(range, size, into)?;
     }
     Ok(())
 }
@@ -80,10 +65,8 @@ fn push_runs(list: &PxdList, into: &mut Vec<u8>) -> Result<(), AllocError>
     ensures ok { OnOk result (into.new.items ≡ into.old.items ++ flat_map pxd_bytes list.now) }
     ensures err { OnErr result (IsLonger into.old.items into.new.items) }
 {
-    for i in 0..list.len() {
-        if let Some(at) = list.get(i) {
-            into.extend_from_slice(&run_text(*at))?;
-        }
+    for at in list.as_slice() {
+        into.extend_from_slice(&run_text(*at))?;
     }
     Ok(())
 }

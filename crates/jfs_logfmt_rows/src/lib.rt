@@ -3,7 +3,7 @@
 
 ghost use Rattle.std.specs.Prelude.{◌≡◌, length, IfOk};
 ghost use Rattle.jfs_logfmt.specs.Written.{Fits};
-ghost use Rattle.jfs_logfmt.specs.Rules.{IsSound, IsRead};
+ghost use Rattle.jfs_logfmt.specs.Rules.{IsRecordOf, IsRead};
 
 use jfs_bits::Blob;
 use jfs_logfmt::{Record, RecordError, read_record_before, write_record};
@@ -24,7 +24,7 @@ pub fn there_and_back(
     blocks: u32,
 ) -> Result<(Record, usize), RecordError>
     requires fits { Fits r.now }
-    requires sound { IsSound blocks r.now }
+    requires sound { IsRecordOf blocks r.now }
     ensures { IsRead result (λ x. (x.0 ≡ r.now) × (x.1 ≡ length front.items)) }
 {
     let mut bytes = front;

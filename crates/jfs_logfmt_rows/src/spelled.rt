@@ -1,6 +1,6 @@
 ghost use Rattle.std.specs.Prelude.{IfOk};
 ghost use Rattle.jfs_logfmt.specs.Written.{Fits};
-ghost use Rattle.jfs_logfmt.specs.Rules.{IsSound};
+ghost use Rattle.jfs_logfmt.specs.Rules.{IsRecordOf};
 
 use crate::{blob_of, there_and_back};
 use jfs_bits::{LineRange, PageKind, Pxd, PxdList, Ranges};
@@ -42,7 +42,7 @@ const UPDATE: [u8; 52] = [
 
 /// The record that the bytes of `REDO` spell.
 fn redo(alloc: Global) -> Result<Record, AllocError>
-    ensures { IfOk result (λ r. Fits r × IsSound 3008 r) }
+    ensures { IfOk result (λ r. Fits r × IsRecordOf 3008 r) }
 {
     let mut ranges = Ranges::new(alloc);
     ranges.push(LineRange {

@@ -1,5 +1,5 @@
-use Rattle.std.proofs.Common.{◌≡◌, reverse, sym, arith}
-use Rattle.jfs_logfmt.proofs.Ranges.{known_start, known_more, known_none, known_out, known_all}
+use Rattle.std.proofs.Common.{reverse, sym}
+use Rattle.jfs_logfmt.proofs.Ranges.{known_start, known_more, known_none, known_out}
 use Rattle.jfs_logfmt.proofs.range.ranges_back.Goals as goal
 
 pub loop-end-init : goal.loop-end-init
@@ -19,8 +19,3 @@ pub loop-end-preserved : goal.loop-end-preserved
 loop-end-preserved c =
     let found = rw c.in-Some.is at c.in_ok-found.ensures.found in
     rw c.in_ok-push.ensures.items (known_more c.args.size c.args.pages c.args.body.now c.split_at.result.0.now c.in-Some.found.start c.loop-end.end c.in-Some.found.range c.loop-end.back.items c.split_at.ensures.front found (sym c.if-not-lies_within.ensures) c.loop-end.invariant)
-
-pub returns-clause-only : goal.returns-clause-only
-returns-clause-only c =
-    let e : c.loop-end.end ≡ 0 = omega arith in
-    known_all c.args.size c.args.pages c.args.body.now (reverse c.loop-end.back.items) (rw e at c.loop-end.invariant)

@@ -4,7 +4,7 @@ use Rattle.jfs_logfmt.specs.declared.descriptor.Descriptor.{Descriptor}
 use Rattle.jfs_logfmt.specs.Descriptor.{descriptor_of, descriptor_bytes}
 use Rattle.jfs_logfmt.specs.Text.{Spells}
 use Rattle.jfs_logfmt.specs.Written.{body_text, described, text_of}
-use Rattle.jfs_logfmt.proofs.Added.{on_ok}
+use Rattle.jfs_logfmt.proofs.Outcomes.{on_ok}
 use Rattle.jfs_logfmt.proofs.Spelled.{body_fits, spelled}
 use Rattle.jfs_logfmt.proofs.writing.push_text.Goals as goal
 

@@ -1,5 +1,0 @@
-use Rattle.std.proofs.Common.{◌≡◌, ◌++◌, take}
-use Rattle.jfs_logfmt.proofs.writing.push_blob.Given as goal
-
-abbrev pub invariant-loop-i : goal.invariant-loop-i
-invariant-loop-i l = l.into.items ≡ l.fn.into.items ++ take l.i l.blob
