@@ -1,0 +1,54 @@
+use Rattle.std.proofs.Common.{sym, ap, ◌∙◌, subst, ◌-◌, arith, Ok, IfSome, ◌<◌}
+use Rattle.jfs_bits.specs.declared.rule.Rule.TheVariants as rules
+use Rattle.jfs_tree.specs.Call.{nodes}
+use Rattle.jfs_tree.specs.Form.{Leads}
+use Rattle.jfs_tree.proofs.Adding.{refute_zero, refute_broken, refute_here, refute_down, grown_ok, grown_bad}
+use Rattle.jfs_tree.proofs.grow.+add_below.Goals as goal
+
+pub returns-then-most-eq0-clause-bad : goal.returns-then-most-eq0-clause-bad
+returns-then-most-eq0-clause-bad g t c tells =
+    refute_zero g.F.PageForm.scale c.args.x.now (nodes (g.F.PageForm.node c.args.form.now) c.args.draft.now.pages.items (g.V.PageView.image c.args.view.now)) c.args.most c.args.page c.args.fresh.now.items c.args.page rules.Deep c.if-most-eq0.true
+
+pub take_grown-requires-clause-within : goal.take_grown-requires-clause-within
+take_grown-requires-clause-within g t c =
+    subst (λ n. IfSome c.in-Ok-add_below.grown.sibling (λ s. s.page < n)) (sym c.requires.blocks) (c.in-Ok-add_below.ensures.below (g.V.PageView.block_count c.args.view.now) c.requires.within).1
+
+pub returns-in-Err-way-clause-bad : goal.returns-in-Err-way-clause-bad
+returns-in-Err-way-clause-bad g t c tells =
+    refute_broken g.F.PageForm.scale c.args.x.now (nodes (g.F.PageForm.node c.args.form.now) c.args.draft.now.pages.items (g.V.PageView.image c.args.view.now)) c.args.most c.args.page c.args.fresh.now.items c.args.page c.in-Err-way.rule c.in-Err-way.rule
+    (ap (g.F.PageForm.node c.args.form.now) (sym (c.in-Ok.ensures.bytes tells) ∙ sym c.bytes.ensures.value) ∙ c.in-Err-way.ensures.way)
+
+pub returns-in-Ok-take_here-clause-grew : goal.returns-in-Ok-take_here-clause-grew
+returns-in-Ok-take_here-clause-grew g t c tells =
+    let leads = subst (λ w. Leads g.F.PageForm.scale c.args.x.now (g.F.PageForm.node c.args.form.now c.bytes.result.now) (Ok w)) c.in-Ok-Here.field-0-is c.in-Ok-Here.ensures.way in
+    c.in-Ok-take_here.ensures.did (g.V.PageView.image c.args.view.now) leads.0 (c.in-Ok.ensures.bytes tells) (ap (g.F.PageForm.node c.args.form.now) (sym c.bytes.ensures.value) ∙ leads.1)
+
+pub returns-in-Err-take_here-clause-bad : goal.returns-in-Err-take_here-clause-bad
+returns-in-Err-take_here-clause-bad g t c tells =
+    let leads = subst (λ w. Leads g.F.PageForm.scale c.args.x.now (g.F.PageForm.node c.args.form.now c.bytes.result.now) (Ok w)) c.in-Ok-Here.field-0-is c.in-Ok-Here.ensures.way in
+    refute_here (g.F.PageForm.node c.args.form.now) g.F.PageForm.scale g.met.F.PageForm.order c.args.x.now c.args.draft.now.pages.items c.take_here.new.draft.pages.items (g.V.PageView.image c.args.view.now) c.args.most c.args.page c.in-Ok.bytes.0 c.args.fresh.now.items c.take_here.new.fresh.items leads.0 c.in-Err-take_here.e
+    (c.in-Ok.ensures.bytes tells) (ap (g.F.PageForm.node c.args.form.now) (sym c.bytes.ensures.value) ∙ leads.1) c.in-Err-take_here.ensures.did
+
+pub returns-in-Ok-add_below-clause-grew : goal.returns-in-Ok-add_below-clause-grew
+returns-in-Ok-add_below-clause-grew g t c tells =
+    let leads = subst (λ w. Leads g.F.PageForm.scale c.args.x.now (g.F.PageForm.node c.args.form.now c.bytes.result.now) (Ok w)) c.in-Ok-Down.field-0-is c.in-Ok-Down.ensures.way in
+    grown_ok (g.F.PageForm.node c.args.form.now) g.F.PageForm.scale c.args.x.now c.args.draft.now.pages.items c.add_below.new.draft.pages.items c.take_grown.new.draft.pages.items (g.V.PageView.image c.args.view.now) (g.V.PageView.image c.read.new.view)
+    c.args.page c.in-Ok-Down.place c.in-Ok-Down.child c.in-Ok-add_below.grown.levels c.in-Ok.bytes.0 c.in-Ok-add_below.grown.sibling c.args.fresh.now.items c.add_below.new.fresh.items c.take_grown.new.fresh.items c.take_grown.result
+    (c.read.ensures.kept tells) (c.in-Ok.ensures.bytes tells) (rw (sym c.bytes.ensures.value) leads) (c.in-Ok-add_below.ensures.grew tells) c.take_grown.ensures.levels c.take_grown.ensures.did
+
+pub returns-in-Ok-add_below-clause-bad : goal.returns-in-Ok-add_below-clause-bad
+returns-in-Ok-add_below-clause-bad g t c tells =
+    let leads = subst (λ w. Leads g.F.PageForm.scale c.args.x.now (g.F.PageForm.node c.args.form.now c.bytes.result.now) (Ok w)) c.in-Ok-Down.field-0-is c.in-Ok-Down.ensures.way in
+    grown_bad (g.F.PageForm.node c.args.form.now) g.F.PageForm.scale g.met.F.PageForm.order c.args.x.now c.args.draft.now.pages.items c.add_below.new.draft.pages.items c.take_grown.new.draft.pages.items (g.V.PageView.image c.args.view.now) (g.V.PageView.image c.read.new.view)
+    c.args.most c.args.page c.in-Ok-Down.place c.in-Ok-Down.child c.in-Ok-add_below.grown.levels c.in-Ok.bytes.0 c.in-Ok-add_below.grown.sibling c.args.fresh.now.items c.add_below.new.fresh.items c.take_grown.new.fresh.items c.take_grown.result
+    (c.read.ensures.kept tells) (c.in-Ok.ensures.bytes tells) (rw (sym c.bytes.ensures.value) leads) (c.in-Ok-add_below.ensures.grew tells) c.take_grown.ensures.did
+
+pub returns-in-Ok-add_below-clause-below : goal.returns-in-Ok-add_below-clause-below
+returns-in-Ok-add_below-clause-below g t c = λ bound h. let i = c.in-Ok-add_below.ensures.below bound h in c.take_grown.ensures.below bound i.0
+
+pub returns-in-Err-add_below-clause-bad : goal.returns-in-Err-add_below-clause-bad
+returns-in-Err-add_below-clause-bad g t c tells =
+    let leads = subst (λ w. Leads g.F.PageForm.scale c.args.x.now (g.F.PageForm.node c.args.form.now c.bytes.result.now) (Ok w)) c.in-Ok-Down.field-0-is c.in-Ok-Down.ensures.way in
+    refute_down g.F.PageForm.scale g.met.F.PageForm.order c.args.x.now (nodes (g.F.PageForm.node c.args.form.now) c.args.draft.now.pages.items (g.V.PageView.image c.args.view.now)) c.args.most (c.args.most - 1) c.args.page c.in-Ok-Down.place c.in-Ok-Down.child c.args.fresh.now.items c.in-Err-add_below.e
+    (let h = c.if-most-eq0.false in omega (arith, h)) (rw (sym (c.in-Ok.ensures.bytes tells), sym c.bytes.ensures.value) leads)
+    (rw (sym (c.read.ensures.kept tells)) (c.in-Err-add_below.ensures.bad tells))

@@ -1,0 +1,16 @@
+use Rattle.jfs_tree.proofs.Adding.{grown_none, grown_some, grown_refused}
+use Rattle.jfs_tree.proofs.grow.take_grown.Goals as goal
+
+pub returns-in-None-clause-did : goal.returns-in-None-clause-did
+returns-in-None-clause-did g c =
+    grown_none (g.F.PageForm.node c.args.form.now) g.F.PageForm.scale g.met.F.PageForm.order c.args.bytes.0 c.args.page c.args.place c.args.grown.sibling c.args.draft.now.pages.items c.args.fresh.now.items c.in-None.is
+
+pub returns-in-Ok-clause-did : goal.returns-in-Ok-clause-did
+returns-in-Ok-clause-did g c =
+    grown_some (g.F.PageForm.node c.args.form.now) g.F.PageForm.scale c.args.bytes.0 c.args.page c.args.place c.args.grown.sibling c.in-Ok.sibling c.in-Some.new c.args.draft.now.pages.items c.take_child.new.draft.pages.items c.args.fresh.now.items c.take_child.new.fresh.items
+    c.in-Some.is c.in-Ok.ensures.did
+
+pub returns-in-Err-clause-did : goal.returns-in-Err-clause-did
+returns-in-Err-clause-did g c =
+    grown_refused (g.F.PageForm.node c.args.form.now) g.F.PageForm.scale g.met.F.PageForm.order c.args.bytes.0 c.args.page c.args.place c.args.grown.sibling c.in-Some.new c.args.draft.now.pages.items c.take_child.new.draft.pages.items c.args.fresh.now.items c.take_child.new.fresh.items
+    c.in-Err.e c.in-Some.is c.in-Err.ensures.did

@@ -1,0 +1,6 @@
+pub mod Walk
+pub mod Spells
+pub mod Edit
+pub mod Form
+pub mod Draft
+pub mod Call

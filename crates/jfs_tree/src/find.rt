@@ -1,0 +1,52 @@
+//! An entry that is looked for below a page.
+
+ghost use Rattle.std.specs.Prelude.{◌≡◌, ◌<◌, IfOk, IfErr};
+ghost use Rattle.jfs_tree.specs.Edit.{IsPoint};
+ghost use Rattle.jfs_tree.specs.Call.{pages_of, Finds, BreaksWhereBad, CarriesFault};
+
+use crate::form::{TreeError, Way};
+use crate::pages::PageForm;
+use jfs_bits::Rule;
+use jfs_ranges::PageView;
+
+/// The entry below a page that shares a place with `x`, which is one place. It reads one page a level, at most so many levels deep.
+pub fn find_below<V: PageView, F: PageForm>(
+    form: &F,
+    view: &mut V,
+    most: u32,
+    page: u32,
+    x: &F::Entry,
+) -> Result<Option<F::Entry>, TreeError>
+    requires page { page < V.PageView.block_count view.old }
+    requires blocks { F.PageForm.blocks form.now ≡ V.PageView.block_count view.old }
+    requires size { F.PageForm.size form.now ≡ 4096 }
+    requires point { IsPoint F.PageForm.scale x.now }
+    ensures image { V.PageView.tells → V.PageView.image view.new ≡ V.PageView.image view.old }
+    ensures count_of_blocks { V.PageView.block_count view.new ≡ V.PageView.block_count view.old }
+    ensures fault { CarriesFault (V.PageView.fault_count view.old) (V.PageView.fault_count view.new) result }
+    ensures found { V.PageView.tells → IfOk result (λ found.
+        Finds F.PageForm.scale x.now (pages_of (F.PageForm.node form.now) (V.PageView.image view.old)) page found) }
+    ensures bad { V.PageView.tells → IfErr result (λ e.
+        BreaksWhereBad (pages_of (F.PageForm.node form.now) (V.PageView.image view.old)) most page e) }
+{
+    if most == 0 {
+        return Err(TreeError::Bad {
+            page,
+            rule: Rule::Deep,
+        });
+    }
+    let bytes = match view.page(page) {
+        Ok(bytes) => bytes,
+        Err(e) => return Err(TreeError::View(e)),
+    };
+    match form.way(bytes.bytes(), x) {
+        Err(rule) => Err(TreeError::Bad { page, rule }),
+        Ok(Way::Here) => Ok(form.find(bytes.bytes(), x)),
+        Ok(
+            Way::Down {
+                place: _,
+                page: child,
+            },
+        ) => find_below(form, view, most - 1, child, x),
+    }
+}

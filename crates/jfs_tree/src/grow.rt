@@ -1,0 +1,109 @@
+//! An entry that goes into the part of a tree below a page.
+
+ghost use Rattle.std.specs.Prelude.{◌≡◌, ◌==◌, ◌+◌, if◌then◌else◌, ◌<◌, ◌≤◌, ℕ, List, length, OnOk, IfOk, IfErr, IfSome, ◌^◌};
+ghost use Rattle.jfs_tree.specs.Edit.{Grew};
+ghost use Rattle.jfs_tree.specs.Form.{AllBelow, children_of};
+ghost use Rattle.jfs_tree.specs.Call.{nodes, GrownDid, GrownBelow, CarriesFault, RefutesWhereBad};
+
+use crate::draft::Draft;
+use crate::form::{Sibling, TreeError, Way};
+use crate::pages::PageForm;
+use crate::take::{take_child, take_here};
+use jfs_bits::Rule;
+use jfs_disk::Page;
+use jfs_ranges::PageView;
+
+/// What the part below a page became: perhaps one more page stands behind it, and it has so many levels.
+#[derive(Drop)]
+pub struct Grown<K> {
+    pub sibling: Option<Sibling<K>>,
+    pub levels: u32,
+}
+
+/// Adds an entry below a page, at most so many levels deep. The changed pages go into the draft.
+pub fn add_below<V: PageView, F: PageForm>(
+    form: &F,
+    view: &mut V,
+    draft: &mut Draft,
+    fresh: &mut Vec<u32>,
+    most: u32,
+    page: u32,
+    x: &F::Entry,
+) -> Result<Grown<F::Key>, TreeError>
+    requires page { page < V.PageView.block_count view.old }
+    requires blocks { F.PageForm.blocks form.now ≡ V.PageView.block_count view.old }
+    requires size { F.PageForm.size form.now ≡ 4096 }
+    requires good { F.PageForm.is_good form.now x.now }
+    requires enough { most ≤ length fresh.old.items }
+    requires within { AllBelow (V.PageView.block_count view.old) fresh.old.items }
+    ensures image { V.PageView.tells → V.PageView.image view.new ≡ V.PageView.image view.old }
+    ensures count_of_blocks { V.PageView.block_count view.new ≡ V.PageView.block_count view.old }
+    ensures fault { CarriesFault (V.PageView.fault_count view.old) (V.PageView.fault_count view.new) result }
+    ensures grew { V.PageView.tells → IfOk result (λ grown. Grew F.PageForm.scale x.now
+        (nodes (F.PageForm.node form.now) draft.old.pages.items (V.PageView.image view.old))
+        (nodes (F.PageForm.node form.now) draft.new.pages.items (V.PageView.image view.old))
+        grown.levels page (children_of grown.sibling) fresh.old.items fresh.new.items) }
+    ensures bad { V.PageView.tells → IfErr result (λ e. RefutesWhereBad F.PageForm.scale x.now
+        (nodes (F.PageForm.node form.now) draft.old.pages.items (V.PageView.image view.old)) most page fresh.old.items e) }
+    ensures used { IfOk result (λ grown. (length fresh.old.items ≤ length fresh.new.items + grown.levels) × (grown.levels ≤ most)) }
+    ensures below { GrownBelow fresh.old.items fresh.new.items result }
+{
+    if most == 0 {
+        return Err(TreeError::Bad {
+            page,
+            rule: Rule::Deep,
+        });
+    }
+    let bytes = match draft.read(view, page) {
+        Ok(bytes) => bytes,
+        Err(e) => return Err(TreeError::View(e)),
+    };
+    match form.way(bytes.bytes(), x) {
+        Err(rule) => Err(TreeError::Bad { page, rule }),
+        Ok(Way::Here) => {
+            match take_here(form, draft, fresh, page, bytes, x) {
+                Ok(sibling) => Ok(Grown { sibling, levels: 1 }),
+                Err(e) => Err(e),
+            }
+        }
+        Ok(Way::Down { place, page: child }) => {
+            match add_below(form, view, draft, fresh, most - 1, child, x) {
+                Ok(grown) => take_grown(form, draft, fresh, page, bytes, place, grown),
+                Err(e) => Err(e),
+            }
+        }
+    }
+}
+
+/// Puts the page that may stand behind a child into the child's page.
+fn take_grown<F: PageForm>(
+    form: &F,
+    draft: &mut Draft,
+    fresh: &mut Vec<u32>,
+    page: u32,
+    bytes: Page,
+    place: usize,
+    grown: Grown<F::Key>,
+) -> Result<Grown<F::Key>, TreeError>
+    requires size { F.PageForm.size form.now ≡ 4096 }
+    requires within { IfSome grown.sibling (λ s. s.page < F.PageForm.blocks form.now) }
+    requires enough { 0 < length fresh.old.items }
+    requires fits { grown.levels + 1 < 2 ^ 32 }
+    ensures did { GrownDid (F.PageForm.node form.now) F.PageForm.scale bytes.0 page place grown.sibling draft.old.pages.items draft.new.pages.items fresh.old.items fresh.new.items result }
+    ensures levels { IfOk result (λ g. g.levels ≡ grown.levels + 1) }
+    ensures used { IfOk result (λ more. length fresh.old.items ≤ length fresh.new.items + 1) }
+    ensures below { GrownBelow fresh.old.items fresh.new.items result }
+{
+    let Grown { sibling, levels } = grown;
+    let levels = levels + 1;
+    match sibling {
+        None => Ok(Grown {
+            sibling: None,
+            levels,
+        }),
+        Some(new) => match take_child(form, draft, fresh, page, bytes, place, new) {
+            Ok(sibling) => Ok(Grown { sibling, levels }),
+            Err(e) => Err(e),
+        },
+    }
+}

@@ -1,0 +1,93 @@
+//! The pages of a kind of tree.
+
+ghost use Rattle.std.specs.Prelude.{◌≡◌, ◌<◌, ℕ, List, [], ◌∷◌, IfOk, length};
+ghost use Rattle.jfs_tree.specs.Walk.{Child, Node, Leaf, Scale, IsOrder};
+ghost use Rattle.jfs_tree.specs.Edit.{IsApart, KeysRise, with_entry, found_in};
+ghost use Rattle.jfs_tree.specs.Form.{Leads, IsWithin, PutsRow, SplitsRows, PutsChild, AtPlace, SplitsChildren, as_child};
+
+use crate::form::{Put, Sibling, Way};
+use jfs_bits::Rule;
+
+/// The pages of a kind of tree, in one of their forms: a root in an inode, or a page.
+pub trait PageForm {
+    type Key: Drop;
+
+    type Entry: Drop;
+
+    /// How entries lie among keys.
+    ghost scale: { Scale Self.Key Self.Entry };
+
+    /// What bytes read as.
+    ghost node: { Self → List ℕ → Node Self.Key Self.Entry };
+
+    /// The number of bytes.
+    ghost size: { Self → ℕ };
+
+    /// The number of blocks of the file system part, in which all pages lie.
+    ghost blocks: { Self → ℕ };
+
+    /// What a page can hold as an entry.
+    ghost is_good: { Self → Self.Entry → Type 0 };
+
+    /// There may be no room for one more.
+    ghost is_full: { Self → List ℕ → Type 0 };
+
+    /// The form of the pages below a root.
+    ghost below: { Self → Self };
+
+    /// Where the page leads the entry.
+    fn way(&self, bytes: &[u8], x: &Self::Entry) -> Result<Way, Rule>
+        requires { length bytes.now ≡ size self.now }
+        ensures way { Leads scale x.now (node self.now bytes.now) result }
+        ensures within { IfOk result (λ way. IsWithin (blocks self.now) way) };
+
+    /// The entry of a leaf that shares a place with `x`.
+    fn find(&self, bytes: &[u8], x: &Self::Entry) -> Option<Self::Entry>
+        requires { length bytes.now ≡ size self.now }
+        ensures { (es : List Self.Entry) → node self.now bytes.now ≡ Leaf es → result ≡ found_in scale x.now es };
+
+    /// Puts the entry into a leaf, where there is room.
+    fn put(&self, bytes: &mut [u8], x: &Self::Entry) -> Put
+        requires size { length bytes.old ≡ size self.now }
+        requires good { is_good self.now x.now }
+        ensures { PutsRow scale x.now (node self.now) (is_full self.now) bytes.old bytes.new result };
+
+    /// Puts the entry into page `n`, a leaf that has no room for it, and the leaf's last part into page `q`, whose key it answers.
+    fn split(
+        &self,
+        n: u32,
+        q: u32,
+        bytes: &mut [u8],
+        right: &mut [u8],
+        x: &Self::Entry,
+    ) -> Self::Key
+        requires size { (length bytes.old ≡ size self.now) × (length right.old ≡ size self.now) }
+        requires good { is_good self.now x.now }
+        requires full { is_full self.now bytes.old }
+        ensures { (es : List Self.Entry) → node self.now bytes.old ≡ Leaf es → IsApart scale x.now es →
+            SplitsRows scale (with_entry scale x.now es) (node self.now bytes.new) (node self.now right.new) result };
+
+    /// Puts a child behind the one at the place, where there is room.
+    fn put_child(&self, bytes: &mut [u8], place: usize, child: &Sibling<Self::Key>) -> Put
+        requires size { length bytes.old ≡ size self.now }
+        requires within { child.now.page < blocks self.now }
+        ensures { PutsChild scale (node self.now) (is_full self.now) place child.now bytes.old bytes.new result };
+
+    /// Puts a child into page `n`, an inner page that has no room for it, and the page's last part into page `q`, whose key it answers.
+    fn split_child(
+        &self,
+        n: u32,
+        q: u32,
+        bytes: &mut [u8],
+        right: &mut [u8],
+        place: usize,
+        child: &Sibling<Self::Key>,
+    ) -> Self::Key
+        requires size { (length bytes.old ≡ size self.now) × (length right.old ≡ size self.now) }
+        requires within { child.now.page < blocks self.now }
+        requires full { is_full self.now bytes.old }
+        ensures { (all : List (Child Self.Key)) → AtPlace (node self.now bytes.old) place (as_child child.now) all → KeysRise scale all →
+            SplitsChildren all (node self.now bytes.new) (node self.now right.new) result };
+
+    ghost order: { IsOrder scale };
+}

@@ -1,0 +1,138 @@
+//! A page that takes an entry or a child, perhaps with a new page behind it.
+
+ghost use Rattle.std.specs.Prelude.{◌≡◌, ◌==◌, ◌+◌, if◌then◌else◌, ◌<◌, ◌≤◌, ℕ, List, length, OnOk, IfOk, IfErr};
+ghost use Rattle.jfs_tree.specs.Call.{HereDid, ChildDid, StaysBelow, PutsOne, PutsTwo};
+
+use crate::draft::Draft;
+use crate::form::{Put, Sibling, TreeError};
+use crate::pages::PageForm;
+use jfs_bits::Rule;
+use jfs_disk::Page;
+
+/// Puts an entry into page `page`, a leaf with these bytes.
+pub(crate) fn take_here<F: PageForm>(
+    form: &F,
+    draft: &mut Draft,
+    fresh: &mut Vec<u32>,
+    page: u32,
+    mut bytes: Page,
+    x: &F::Entry,
+) -> Result<Option<Sibling<F::Key>>, TreeError>
+    requires size { F.PageForm.size form.now ≡ 4096 }
+    requires good { F.PageForm.is_good form.now x.now }
+    requires enough { 0 < length fresh.old.items }
+    ensures did { HereDid (F.PageForm.node form.now) F.PageForm.scale x.now bytes.0 page draft.old.pages.items draft.new.pages.items fresh.old.items fresh.new.items result }
+    ensures used { IfOk result (λ more. length fresh.old.items ≤ length fresh.new.items + 1) }
+    ensures below { StaysBelow fresh.old.items fresh.new.items result }
+{
+    match form.put(&mut bytes.0, x) {
+        Put::Done => {
+            put_one(draft, page, bytes)?;
+            Ok(None)
+        }
+        Put::Clash => Err(TreeError::Bad {
+            page,
+            rule: Rule::Order,
+        }),
+        Put::Full => split_here(form, draft, fresh, page, bytes, x),
+    }
+}
+
+fn split_here<F: PageForm>(
+    form: &F,
+    draft: &mut Draft,
+    fresh: &mut Vec<u32>,
+    page: u32,
+    mut bytes: Page,
+    x: &F::Entry,
+) -> Result<Option<Sibling<F::Key>>, TreeError>
+    requires size { F.PageForm.size form.now ≡ 4096 }
+    requires good { F.PageForm.is_good form.now x.now }
+    requires enough { 0 < length fresh.old.items }
+    requires full { F.PageForm.is_full form.now bytes.0 }
+    ensures did { HereDid (F.PageForm.node form.now) F.PageForm.scale x.now bytes.0 page draft.old.pages.items draft.new.pages.items fresh.old.items fresh.new.items result }
+    ensures used { IfOk result (λ more. length fresh.old.items ≤ length fresh.new.items + 1) }
+    ensures below { StaysBelow fresh.old.items fresh.new.items result }
+{
+    let Some(q) = fresh.pop() else {
+        unreachable!();
+    };
+    let mut right = Page::zeros();
+    let key = form.split(page, q, &mut bytes.0, &mut right.0, x);
+    put_two(draft, page, bytes, q, right)?;
+    Ok(Some(Sibling { key, page: q }))
+}
+
+/// Puts a child behind the one at a place into page `page`, an inner page with these bytes.
+pub(crate) fn take_child<F: PageForm>(
+    form: &F,
+    draft: &mut Draft,
+    fresh: &mut Vec<u32>,
+    page: u32,
+    mut bytes: Page,
+    place: usize,
+    sibling: Sibling<F::Key>,
+) -> Result<Option<Sibling<F::Key>>, TreeError>
+    requires size { F.PageForm.size form.now ≡ 4096 }
+    requires within { sibling.page < F.PageForm.blocks form.now }
+    requires enough { 0 < length fresh.old.items }
+    ensures did { ChildDid (F.PageForm.node form.now) F.PageForm.scale bytes.0 page place sibling draft.old.pages.items draft.new.pages.items fresh.old.items fresh.new.items result }
+    ensures used { IfOk result (λ more. length fresh.old.items ≤ length fresh.new.items + 1) }
+    ensures below { StaysBelow fresh.old.items fresh.new.items result }
+{
+    match form.put_child(&mut bytes.0, place, &sibling) {
+        Put::Done => {
+            put_one(draft, page, bytes)?;
+            Ok(None)
+        }
+        Put::Clash => Err(TreeError::Bad {
+            page,
+            rule: Rule::Order,
+        }),
+        Put::Full => split_child(form, draft, fresh, page, bytes, place, sibling),
+    }
+}
+
+fn split_child<F: PageForm>(
+    form: &F,
+    draft: &mut Draft,
+    fresh: &mut Vec<u32>,
+    page: u32,
+    mut bytes: Page,
+    place: usize,
+    sibling: Sibling<F::Key>,
+) -> Result<Option<Sibling<F::Key>>, TreeError>
+    requires size { F.PageForm.size form.now ≡ 4096 }
+    requires within { sibling.page < F.PageForm.blocks form.now }
+    requires enough { 0 < length fresh.old.items }
+    requires full { F.PageForm.is_full form.now bytes.0 }
+    ensures did { ChildDid (F.PageForm.node form.now) F.PageForm.scale bytes.0 page place sibling draft.old.pages.items draft.new.pages.items fresh.old.items fresh.new.items result }
+    ensures used { IfOk result (λ more. length fresh.old.items ≤ length fresh.new.items + 1) }
+    ensures below { StaysBelow fresh.old.items fresh.new.items result }
+{
+    let Some(q) = fresh.pop() else {
+        unreachable!();
+    };
+    let mut right = Page::zeros();
+    let key = form.split_child(page, q, &mut bytes.0, &mut right.0, place, &sibling);
+    put_two(draft, page, bytes, q, right)?;
+    Ok(Some(Sibling { key, page: q }))
+}
+
+fn put_two(draft: &mut Draft, page: u32, left: Page, q: u32, right: Page) -> Result<(), TreeError>
+    ensures puts { OnOk result (PutsTwo draft.old.pages.items draft.new.pages.items page left.0 q right.0) }
+    ensures cause { IfErr result (λ e. e ≡ TreeError.Memory) }
+{
+    put_one(draft, page, left)?;
+    put_one(draft, q, right)
+}
+
+fn put_one(draft: &mut Draft, n: u32, page: Page) -> Result<(), TreeError>
+    ensures puts { OnOk result (PutsOne draft.old.pages.items draft.new.pages.items n page.0) }
+    ensures cause { IfErr result (λ e. e ≡ TreeError.Memory) }
+{
+    match draft.put(n, page) {
+        Ok(()) => Ok(()),
+        Err(_) => Err(TreeError::Memory),
+    }
+}
