@@ -7,7 +7,8 @@ use Rattle.jfs_core.specs.declared.block.Span.{Span}
 use Rattle.jfs_core.specs.Core.{Block}
 use Rattle.jfs_core.specs.Step.{EndsBy, BeginsPast, spanned, dirtied, joined, sent_home, failed_home, synced}
 use Rattle.jfs_core.specs.Sound.{IsBetween, LiesIn, SpansWithin, BeginInOrder, Throughout, BlockOk}
-use Rattle.jfs_core.proofs.Cells.{IsBetween-longer, IsBetween-along, IsBetween-exact, IsBetween-steady, IsBetween-torn, length-torn, all_contents, one_content, two_contents}
+use Rattle.jfs_disk.proofs.Tearing.{length-torn}
+use Rattle.jfs_core.proofs.Cells.{IsBetween-longer, IsBetween-along, IsBetween-exact, IsBetween-steady, IsBetween-torn, all_contents, one_content, two_contents}
 
 -- ---- spans
 
@@ -209,7 +210,7 @@ pub BlockOk-failed : (meta : ℕ → Type 0) (cares : ℕ → Type 0) (v : ℕ �
     sectors ≤ 8 → bytes ≡ v told → length bytes ≡ 4096 → BlockOk meta cares v n told block → BlockOk meta cares v n told (failed_home bytes sectors block)
 BlockOk-failed meta cares v n told sectors bytes block few same size ok =
     let left = torn sectors bytes block.pages.seen in
-    let left_size : length left ≡ 4096 = length-torn sectors bytes block.pages.seen size ok.seen_size few in
+    let left_size : length left ≡ 4096 = length-torn sectors bytes block.pages.seen few size ok.seen_size in
     let shown = λ (m : ℕ) (h : m ≤ told) (trees : Throughout meta m told) (past : BeginsPast m block.dirty).
     IsBetween-torn cares v m told sectors bytes block.pages.seen size few (IsBetween-exact cares v m told bytes h same) (ok.shown m h trees past) in
     record {

@@ -1,14 +1,9 @@
 -- Cells of a page's contents, torn or written.
 use Rattle.std.proofs.Common.{◌≡◌, ◌<◌, ◌≤◌, ◌⊎◌, ◌+◌, ◌-◌, ◌*◌, ℕ, zero, suc, List, [], ◌∷◌, ◌++◌, length, take, drop, get_or, refl, sym, ap, ◌∙◌, subst, inl, inr, arith}
 use Rattle.std.proofs.lemmas.Bool.{cases_lt}
-use Rattle.std.proofs.lemmas.List.{length-append, length-take-le, length-drop, get_or_append_left, get_or-append_right, get_or-take, get_or-drop}
+use Rattle.std.proofs.lemmas.List.{length-append, length-take-le, get_or_append_left, get_or-append_right, get_or-take, get_or-drop}
 use Rattle.jfs_disk.specs.Crash.{PageHistory, content_of, torn}
 use Rattle.jfs_core.specs.Sound.{SameCell, IsBetween}
-
-pub length-torn : (s : ℕ) (a b : List ℕ) → length a ≡ 4096 → length b ≡ 4096 → s ≤ 8 → length (torn s a b) ≡ 4096
-unfolding torn
-length-torn s a b ea eb h =
-    omega (arith, length-append (take (512 * s) a) (drop (512 * s) b), length-take-le (512 * s) a (omega arith), length-drop (512 * s) b)
 
 -- a tear goes between cells
 pub torn-cell : (s : ℕ) (a b : List ℕ) (cell : ℕ) → length a ≡ 4096 → s ≤ 8 → SameCell (torn s a b) a cell ⊎ SameCell (torn s a b) b cell

@@ -1,16 +1,18 @@
 -- One crash by choices is one that a crash may leave.
-use Rattle.std.proofs.Common.{◌≡◌, ◌<◌, ◌≤◌, ◌⊎◌, ◌+◌, ◌-◌, ℕ, zero, suc, true, false, ◌&&◌, nat_le, List, [], ◌∷◌, length, take, drop, get_or, Option, Some, None, refl, sym, ap, ◌∙◌, subst, inl, inr, arith}
-use Rattle.std.proofs.lemmas.Bool.{cases_Bool, cond-true, cond-false, and_parts, leb-true}
-use Rattle.std.proofs.lemmas.List.{drop-take, ext_get_or, get_or-map, length-map}
+use Rattle.std.proofs.Common.{◌≡◌, ◌<◌, ◌≤◌, ◌+◌, ◌-◌, ℕ, zero, suc, List, [], ◌∷◌, length, take, drop, get_or, refl, sym, ap, ◌∙◌, subst, arith}
+use Rattle.std.proofs.lemmas.List.{drop-take, ext_get_or, length-map}
 use Rattle.jfs_disk.specs.Image.{Image, page_of}
-use Rattle.jfs_disk.specs.Crash.{PageHistory, history_of, no_page, IsCrashPage, IsCrashImage, content_of, torn}
-use Rattle.jfs_disk.specs.Choice.{fits, torn_by, left_by, choice_of, IsChosen}
+use Rattle.jfs_disk.specs.Crash.{PageHistory, seen_of, IsCrashPage, IsCrashImage, torn}
+use Rattle.jfs_disk.specs.Choice.{left_by, choice_of, IsChosen}
 use Rattle.jfs_disk.specs.declared.choice.Choice.{Choice}
 use Rattle.jfs_core.specs.Image.{History, image_after, page_after}
 use Rattle.jfs_core.specs.Core.{Core, Block, block_of, no_block, low_of, core_image, IsInBounds}
 use Rattle.jfs_core.specs.Left.{stable_count, IsCrash, chosen_from, redone_from}
 use Rattle.jfs_core.specs.Sound.{IsSound, IsLogImage, redone_image}
 use Rattle.jfs_core.proofs.Bytes.{page_of-image_after, length-image_after}
+use Rattle.jfs_disk.specs.Seen.{page_of-seen_of}
+use Rattle.jfs_disk.proofs.Crashed.{IsCrashImage-chosen}
+use Rattle.jfs_core.proofs.Device.{history_of-low}
 use Rattle.jfs_core.proofs.Redo.{always_recovers, agreement_is_equality}
 
 -- ---- page by page
@@ -57,39 +59,6 @@ redone_is choices entries blocks =
 
 -- ---- what is left
 
--- what a read gives is left by a crash too
-seen_left : (page : PageHistory) (j : ℕ) → j ≤ length page.writes → page.seen ≡ content_of page j → IsCrashPage page page.seen
-unfolding torn
-seen_left page j h e = record { base = j; top = j; sectors = 0; older = omega arith; there = h; within = omega arith; content = e }
-
-left_is_crash : (choice : Option Choice) (page : PageHistory) → IsCrashPage page page.seen → IsCrashPage page (left_by choice page page.seen)
-left_is_crash None page seen = seen
-left_is_crash (Some choice) page seen = at (cases_Bool (fits choice page))
-  where
-    P : List ℕ → Type 0
-    P left = IsCrashPage page left
-
-    bytes : List ℕ
-    bytes = torn choice.sectors (content_of page choice.top) (content_of page choice.base)
-
-    at : (fits choice page ≡ true) ⊎ (fits choice page ≡ false) → P (torn_by choice page page.seen)
-    at (inl e) =
-        let parts = and_parts (nat_le choice.base choice.top && nat_le choice.top (length page.writes)) (nat_le choice.sectors 8) e in
-        let order = and_parts (nat_le choice.base choice.top) (nat_le choice.top (length page.writes)) parts.0 in
-        subst P (sym (cond-true (fits choice page) bytes page.seen e)) (record {
-          base = choice.base;
-          top = choice.top;
-          sectors = choice.sectors;
-          older = leb-true choice.base choice.top order.0;
-          there = leb-true choice.top (length page.writes) order.1;
-          within = leb-true choice.sectors 8 parts.1;
-          content = refl;
-        })
-    at (inr e) = subst P (sym (cond-false (fits choice page) bytes page.seen e)) seen
-
-history_of-low : (core : Core) (p : ℕ) → p < length core.blocks → history_of (low_of core) p ≡ (block_of core p).pages
-history_of-low core p h = get_or-map (λ (b : Block). b.pages) core.blocks p no_block no_page h
-
 length-low : (core : Core) → length (low_of core) ≡ length core.blocks
 length-low core = length-map core.blocks (λ (b : Block). b.pages)
 
@@ -101,21 +70,22 @@ is_chosen core choices = record {
       let place : 0 + p ≡ p = omega arith in
       page_of-chosen_from choices 0 core.blocks p h
       ∙ ap (λ (q : ℕ). left_at choices (block_of core p) q) place
-      ∙ ap (λ (page : PageHistory). left_by (choice_of choices p) page page.seen) (sym (history_of-low core p h));
+      ∙ ap (λ (page : PageHistory). left_by (choice_of choices p) page page.seen) (sym (history_of-low core p));
 }
 
-is_crash_image : (core : Core) (choices : List Choice) → IsSound core → IsCrashImage (low_of core) (chosen_from choices 0 core.blocks)
-is_crash_image core choices sound = record {
-  number = length-chosen_from choices 0 core.blocks ∙ sym (length-low core);
+-- what a read gives is left by a crash too
+reads_crash : (core : Core) → IsSound core → IsCrashImage (low_of core) (seen_of (low_of core))
+unfolding torn
+reads_crash core sound = record {
+  number = length-map (low_of core) (λ (page : PageHistory). page.seen);
   each = λ p l.
       let h : p < length core.blocks = omega (arith, l, length-low core) in
       let page = (block_of core p).pages in
       let ok = sound.kept.blocks p h in
-      let P : PageHistory → Type 0 = λ x. IsCrashPage x (page_of (chosen_from choices 0 core.blocks) p) in
-      let Q : List ℕ → Type 0 = λ left. IsCrashPage page left in
-      subst P (sym (history_of-low core p h))
-      (subst Q (sym (page_of-chosen_from choices 0 core.blocks p h))
-      (left_is_crash (choice_of choices (0 + p)) page (seen_left page ok.readable.0 ok.readable.1 ok.readable.2)));
+      let seen : page_of (seen_of (low_of core)) p ≡ page.seen = page_of-seen_of (low_of core) p ∙ ap (λ (x : PageHistory). x.seen) (history_of-low core p) in
+      let P : PageHistory → Type 0 = λ x. IsCrashPage x (page_of (seen_of (low_of core)) p) in
+      subst P (sym (history_of-low core p))
+      (record { base = ok.readable.0; top = ok.readable.0; sectors = 0; older = omega arith; there = ok.readable.1; within = omega arith; content = seen ∙ ok.readable.2 });
 }
 
 pub is_crash : (core : Core) (choices : List Choice) (n : ℕ) (image : Image) → IsSound core → core.durable ≤ n → n ≤ core.taken →
@@ -123,7 +93,7 @@ pub is_crash : (core : Core) (choices : List Choice) (n : ℕ) (image : Image) �
 is_crash core choices n image sound durable taken e =
     let c = stable_count core in
     let low = chosen_from choices 0 core.blocks in
-    let left = is_crash_image core choices sound in
+    let left = IsCrashImage-chosen choices (low_of core) low (reads_crash core sound) (is_chosen core choices) in
     let points = sound.kept.bounds.points in
     let log : IsLogImage core c n = record {
       count = (core.points_stable - 1, omega arith, omega (arith, points.mounted, points.stable_taken), refl);

@@ -1,8 +1,8 @@
 -- Each step writes what the device calls write.
-use Rattle.std.proofs.Common.{Bool, ◌≡◌, ◌<◌, ◌≤◌, ◌⊎◌, ℕ, suc, true, false, List, [], ◌∷◌, ◌++◌, if◌then◌else◌, length, map, set, refl, sym, ap, ◌∙◌, inl, inr, arith}
+use Rattle.std.proofs.Common.{Bool, ◌≡◌, ◌<◌, ◌≤◌, ◌⊎◌, ℕ, suc, true, false, List, [], ◌∷◌, if◌then◌else◌, length, map, set, refl, sym, ap, ◌∙◌, inl, inr, arith}
 use Rattle.std.proofs.lemmas.Bool.{cases_lt}
 use Rattle.std.proofs.lemmas.List.{map-set, get_or-map, get_or_past, length-map}
-use Rattle.jfs_disk.specs.Crash.{PageHistory, DiskState, history_of, no_page, written, failed, settled, torn}
+use Rattle.jfs_disk.specs.Crash.{PageHistory, DiskState, history_of, no_page, written, failed, settled, page_written, page_failed}
 use Rattle.jfs_ranges.specs.Apply.{touches_tx}
 use Rattle.jfs_core.specs.declared.step.Step.{Step}
 use Rattle.jfs_core.specs.declared.step.Step.TheVariants as steps
@@ -15,7 +15,7 @@ use Rattle.std.proofs.lemmas.Bool.{cases_Bool, cond-true, cond-false}
 abbrev pages_of : Block → PageHistory
 pages_of block = block.pages
 
-history_of-low : (core : Core) (page : ℕ) → history_of (low_of core) page ≡ (block_of core page).pages
+pub history_of-low : (core : Core) (page : ℕ) → history_of (low_of core) page ≡ (block_of core page).pages
 history_of-low core page = at (cases_lt page (length core.blocks))
   where
     at : (page < length core.blocks) ⊎ (length core.blocks ≤ page) → history_of (low_of core) page ≡ (block_of core page).pages
@@ -27,14 +27,14 @@ unfolding written
 home_writes core page =
     let e = history_of-low core page in
     map-set pages_of core.blocks page (sent_home (told_page core page) (block_of core page))
-    ∙ ap (λ (history : PageHistory). set (low_of core) page (record history { seen = told_page core page; writes = history.writes ++ told_page core page ∷ [] })) (sym e)
+    ∙ ap (λ (history : PageHistory). set (low_of core) page (page_written (told_page core page) history)) (sym e)
 
 fault_writes : (core : Core) (page : ℕ) (bytes : List ℕ) (sectors : ℕ) → map pages_of (set core.blocks page (failed_home bytes sectors (block_of core page))) ≡ failed page bytes sectors (low_of core)
 unfolding failed
 fault_writes core page bytes sectors =
     let e = history_of-low core page in
     map-set pages_of core.blocks page (failed_home bytes sectors (block_of core page))
-    ∙ ap (λ (history : PageHistory). let left = torn sectors bytes history.seen in set (low_of core) page (record history { seen = left; writes = history.writes ++ left ∷ bytes ∷ [] })) (sym e)
+    ∙ ap (λ (history : PageHistory). set (low_of core) page (page_failed bytes sectors history)) (sym e)
 
 sync_settles : (blocks : List Block) → map pages_of (map synced blocks) ≡ settled (map pages_of blocks)
 unfolding settled

@@ -6,7 +6,8 @@ use Rattle.jfs_disk.specs.Crash.{PageHistory, no_page, IsCrashPage, IsCrashImage
 use Rattle.jfs_core.specs.Image.{History, image_after, IsMeta, AgreesOnMeta}
 use Rattle.jfs_core.specs.Core.{Core, Block, block_of, no_block, low_of, core_image, newest_of}
 use Rattle.jfs_core.specs.Sound.{IsBetween, Throughout, page_at, meta_at, IsSyncCount, every_cell, IsKept, HasKnownCells, IsSound, AlwaysRecovers, redone_image}
-use Rattle.jfs_core.proofs.Cells.{IsBetween-torn, length-torn}
+use Rattle.jfs_disk.proofs.Tearing.{length-torn}
+use Rattle.jfs_core.proofs.Cells.{IsBetween-torn}
 use Rattle.jfs_core.proofs.Blocks.{BeginsPast-less}
 use Rattle.jfs_core.proofs.Bounds.{newest_told}
 use Rattle.jfs_core.proofs.Bytes.{page_of-image_after, length-image_after, length-page_after, get_or-page_after, byte_all, byte_all-append, redo_byte, take_split, drop_split}
@@ -78,7 +79,7 @@ page_size core kept low crash p h =
     let ok = kept.blocks p h in
     ap (λ (c : List ℕ). length c) page.content
     ∙ length-torn page.sectors (content_of (block_of core p).pages page.top) (content_of (block_of core p).pages page.base)
-    (ok.sizes page.top page.there) (ok.sizes page.base (omega (arith, page.older, page.there))) page.within
+    page.within (ok.sizes page.top page.there) (ok.sizes page.base (omega (arith, page.older, page.there)))
 
 pub sound_from_kept : (core : Core) → IsKept core → IsSound core
 sound_from_kept core kept = record { kept = kept; cells = known_cells core kept }

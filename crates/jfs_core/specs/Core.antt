@@ -1,7 +1,7 @@
 -- The core's state.
 use Rattle.std.specs.Prelude.{◌≡◌, ◌<◌, ◌≤◌, ◌^◌, ℕ, ◌-◌, Bool, false, List, [], ◌∷◌, map, get_or, length, take, Option, None}
 use Rattle.jfs_disk.specs.Image.{Image}
-use Rattle.jfs_disk.specs.Crash.{PageHistory, DiskState, no_page}
+use Rattle.jfs_disk.specs.Crash.{PageHistory, DiskState, no_page, resting}
 use Rattle.jfs_disk.specs.declared.disk.Fault.{Fault}
 use Rattle.jfs_core.specs.declared.block.Span.{Span}
 use Rattle.jfs_core.specs.Image.{History, image_after}
@@ -81,7 +81,7 @@ pub record IsInBounds (core : Core) : Type 0 where
 
 -- a block as it was mounted
 abbrev pub fresh_block : List ℕ → Block
-fresh_block bytes = record { pages = record { seen = bytes; stable = bytes; writes = [] }; dirty = None; unsynced = None }
+fresh_block bytes = record { pages = resting bytes; dirty = None; unsynced = None }
 
 -- the core of a volume that was just mounted
 abbrev pub fresh_core : Image → Core

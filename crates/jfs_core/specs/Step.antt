@@ -1,7 +1,7 @@
 -- The core's steps: when each is allowed, and what it does.
 use Rattle.std.specs.Prelude.{◌≡◌, ◌⊎◌, ◌<◌, ◌≤◌, ℕ, suc, Bool, true, false, if◌then◌else◌, List, [], ◌∷◌, ◌++◌, length, map, set, Option, Some, None, IsSome}
 use Rattle.jfs_disk.specs.Image.{page_of}
-use Rattle.jfs_disk.specs.Crash.{torn}
+use Rattle.jfs_disk.specs.Crash.{page_written, page_failed, resting}
 use Rattle.jfs_disk.specs.declared.disk.Fault.{Fault}
 use Rattle.jfs_ranges.specs.declared.edit.Edit.{Edit}
 use Rattle.jfs_bits.specs.Broken.{AllHold, IsFirstBroken}
@@ -125,20 +125,18 @@ joined (Some old) (Some dirty) = Some (record { first = old.first; last = dirty.
 -- A low write of these bytes. The page isn't dirty any more; it is unsynced, since its first entry that was so before.
 abbrev pub sent_home : List ℕ → Block → Block
 sent_home bytes block = record {
-  pages = record block.pages { seen = bytes; writes = block.pages.writes ++ bytes ∷ [] };
+  pages = page_written bytes block.pages;
   dirty = None;
   unsynced = joined block.unsynced block.dirty;
 }
 
--- a low write that failed: pending, and before it what a read then gives
+-- a low write that failed
 abbrev pub failed_home : List ℕ → ℕ → Block → Block
-failed_home bytes sectors block =
-    let left = torn sectors bytes block.pages.seen in
-    record block { pages = record block.pages { seen = left; writes = block.pages.writes ++ left ∷ bytes ∷ [] } }
+failed_home bytes sectors block = record block { pages = page_failed bytes sectors block.pages }
 
 -- what a read gives is stable
 abbrev pub synced : Block → Block
-synced block = record block { pages = record { seen = block.pages.seen; stable = block.pages.seen; writes = [] }; unsynced = None }
+synced block = record block { pages = resting block.pages.seen; unsynced = None }
 
 -- a part keeps the first fault that halted it
 abbrev pub halted_by : Fault → Option Fault → Option Fault

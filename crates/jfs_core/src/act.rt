@@ -67,7 +67,7 @@ impl CoreState {
         ensures err { OnErr result (self.new ≡ self.old) }
     {
         let bytes = self.told_page(page);
-        self.slots[page as usize].send_home(bytes)?;
+        self.slots[page as usize].send_home(&bytes)?;
         Ok(())
     }
 

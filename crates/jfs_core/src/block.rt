@@ -1,13 +1,12 @@
-//! A block of the low part: its contents, and the entries that it may not hold yet.
+//! A block of the low part: its page, and the entries that it may not hold yet.
 
-ghost use Rattle.std.specs.Prelude.{◌≡◌, ◌&&◌, ◌++◌, take, drop, ◌≤◌, ◌<◌, ◌+◌, map, length, Some, OnOk, OnErr, IfOk};
-ghost use Rattle.jfs_disk.specs.Crash.{torn, content_of};
-ghost use Rattle.jfs_disk.specs.Choice.{left_by, torn_by, fits};
-ghost use Rattle.jfs_core.specs.Core.{Block, fresh_block};
+ghost use Rattle.std.specs.Prelude.{◌≡◌, ◌&&◌, ◌≤◌, Some, IfOk, OnOk, OnErr};
+ghost use Rattle.jfs_disk.specs.Choice.{left_by};
+ghost use Rattle.jfs_core.specs.Core.{fresh_block};
 ghost use Rattle.jfs_core.specs.Step.{spanned, joined, dirtied, sent_home, failed_home, synced};
 ghost use Rattle.jfs_core.specs.Decision.{begins_past};
 
-use jfs_disk::{Choice, Page};
+use jfs_disk::{Choice, Page, PageSlot};
 use std::alloc::{AllocError, Global};
 use std::marker::Model;
 
@@ -18,37 +17,32 @@ pub struct Span {
     pub last: u64,
 }
 
-/// A block's contents, and the entries that it holds in memory alone, or not stable.
+/// A block's page, and the entries that it holds in memory alone, or not stable.
 #[derive(Drop)]
 pub struct Slot {
-    stable: Page,
-    writes: Vec<Page>,
-    seen: Page,
+    pages: PageSlot,
     dirty: Option<Span>,
     unsynced: Option<Span>,
 }
 
 impl Model for Slot {
+    ghost use Rattle.jfs_core.specs.Core.{Block};
+    ghost use Rattle.jfs_disk.specs.Slot.{history_in};
+
     ghost Value = { Block };
 
-    ghost view = { λ s. record {
-      pages = record { seen = s.seen.0; stable = s.stable.0; writes = map (λ p. p.0) s.writes.items };
-      dirty = s.dirty;
-      unsynced = s.unsynced;
-    } };
+    ghost view = { λ s. record { pages = history_in s.pages; dirty = s.dirty; unsynced = s.unsynced } };
 }
 
 impl Slot {
-    pub fn new(alloc: Global, bytes: &Page) -> Slot
-        ensures { result ≡ fresh_block bytes.now.0 }
+    pub fn new(alloc: Global, bytes: &Page) -> Result<Slot, AllocError>
+        ensures { IfOk result (λ slot. slot ≡ fresh_block bytes.now.0) }
     {
-        Slot {
-            stable: Page(bytes.0),
-            writes: Vec::new(alloc),
-            seen: Page(bytes.0),
+        Ok(Slot {
+            pages: PageSlot::new(alloc, bytes)?,
             dirty: None,
             unsynced: None,
-        }
+        })
     }
 
     pub fn dirty(&self) -> Option<Span>
@@ -68,40 +62,7 @@ impl Slot {
     pub fn left(&self, choice: Option<Choice>) -> Page
         ensures { result.0 ≡ left_by choice self.now.pages self.now.pages.seen }
     {
-        match choice {
-            Some(choice) => self.torn_by(choice),
-            None => Page(self.seen.0),
-        }
-    }
-
-    fn torn_by(&self, choice: Choice) -> Page
-        ensures { result.0 ≡ torn_by choice self.now.pages self.now.pages.seen }
-    {
-        if !self.fits(choice) {
-            return Page(self.seen.0);
-        }
-        torn(
-            self.content(choice.top as usize),
-            self.content(choice.base as usize),
-            choice.sectors as usize,
-        )
-    }
-
-    fn fits(&self, choice: Choice) -> bool
-        ensures { result ≡ fits choice self.now.pages }
-    {
-        choice.base <= choice.top && choice.top as usize <= self.writes.len() && choice.sectors <= 8
-    }
-
-    /// Content 0 is the stable one, and content `k` the `k`-th write since the last sync.
-    fn content(&self, k: usize) -> &Page
-        requires { k ≤ length self.now.pages.writes }
-        ensures { result.now.0 ≡ content_of self.now.pages k }
-    {
-        if k == 0 {
-            return &self.stable;
-        }
-        &self.writes[k - 1]
+        self.pages.left(choice)
     }
 
     /// Entry `n` touches the block.
@@ -112,13 +73,11 @@ impl Slot {
     }
 
     /// A low write of the page. At `Err` the block is as it was.
-    pub fn send_home(&mut self, page: Page) -> Result<(), AllocError>
-        ensures ok { OnOk result (self.new ≡ sent_home page.0 self.old) }
+    pub fn send_home(&mut self, page: &Page) -> Result<(), AllocError>
+        ensures ok { OnOk result (self.new ≡ sent_home page.now.0 self.old) }
         ensures err { OnErr result (self.new ≡ self.old) }
     {
-        let seen = Page(page.0);
-        self.writes.push(page)?;
-        self.seen = seen;
+        self.pages.write(page)?;
         self.unsynced = joined(self.unsynced, self.dirty);
         self.dirty = None;
         Ok(())
@@ -130,12 +89,7 @@ impl Slot {
         ensures ok { OnOk result (self.new ≡ failed_home page.now.0 sectors self.old) }
         ensures err { OnErr result (self.new ≡ self.old) }
     {
-        let left = torn(page, &self.seen, sectors);
-        self.writes.reserve(2)?;
-        let seen = Page(left.0);
-        self.writes.push(left)?;
-        self.writes.push(Page(page.0))?;
-        self.seen = seen;
+        self.pages.fail(page, sectors)?;
         Ok(())
     }
 
@@ -143,8 +97,7 @@ impl Slot {
     pub fn sync(&mut self)
         ensures { self.new ≡ synced self.old }
     {
-        self.stable = Page(self.seen.0);
-        self.writes.clear();
+        self.pages.settle();
         self.unsynced = None;
     }
 }
@@ -181,24 +134,4 @@ fn joined(old: Option<Span>, dirty: Option<Span>) -> Option<Span>
         (Some(old), None) => Some(old),
         (None, dirty) => dirty,
     }
-}
-
-/// The first sectors of one page, then the rest of another.
-#[tactic(auto, unfolding(jfs_disk::specs::Crash::torn))]
-pub fn torn(front: &Page, rest: &Page, sectors: usize) -> Page
-    requires { sectors ≤ 8 }
-    ensures { result.0 ≡ torn sectors front.now.0 rest.now.0 }
-{
-    let mut page = Page(rest.0);
-    let front: &[u8] = &front.0;
-    put_front(&mut page.0, front, 512 * sectors);
-    page
-}
-
-fn put_front(bytes: &mut [u8], front: &[u8], count: usize)
-    requires within { count ≤ length bytes.old }
-    requires there { count ≤ length front.now }
-    ensures { bytes.new ≡ take count front.now ++ drop count bytes.old }
-{
-    bytes[..count].copy_from_slice(&front[..count]);
 }

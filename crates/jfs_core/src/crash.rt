@@ -13,7 +13,7 @@ use crate::block::Slot;
 use crate::entry::Entry;
 use crate::replay::replay;
 use crate::state::CoreState;
-use jfs_disk::{Choice, PageList};
+use jfs_disk::{Choice, PageList, find_choice};
 use std::alloc::{AllocError, Global};
 
 impl CoreState {
@@ -66,16 +66,4 @@ fn redo(
         image.push(page)?;
     }
     Ok(image)
-}
-
-/// The first choice of a page.
-fn find_choice(choices: &[Choice], page: u32) -> Option<Choice>
-    ensures { result ≡ choice_of choices.now page }
-{
-    for choice in choices {
-        if choice.page == page {
-            return Some(*choice);
-        }
-    }
-    None
 }

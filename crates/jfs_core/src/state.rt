@@ -1,7 +1,6 @@
 //! The core's state.
 
-ghost use Rattle.std.specs.Prelude.{◌≡◌, ◌<◌, ◌^◌, ◌+◌, ◌++◌, ◌∷◌, [], length, map, OnOk, IfOk};
-ghost use Rattle.jfs_disk.specs.Image.{page_of};
+ghost use Rattle.std.specs.Prelude.{◌≡◌, ◌<◌, ◌^◌, ◌++◌, ◌∷◌, [], length, OnOk, IfOk};
 ghost use Rattle.jfs_core.specs.Core.{fresh_block, fresh_core};
 ghost use Rattle.jfs_disk.specs.Pages.{contents};
 ghost use Rattle.jfs_core.specs.Sound.{IsSound};
@@ -51,8 +50,8 @@ impl CoreState {
     {
         let mut mounted = PageList::new(alloc);
         let mut slots = Vec::new(alloc);
-        for i in 0..low.len() {
-            mount_page(alloc, low, i, &mut mounted, &mut slots)?;
+        for page in low.as_slice() {
+            mount_page(alloc, page, &mut mounted, &mut slots)?;
         }
         let mut syncpoints = Vec::new(alloc);
         syncpoints.push(0)?;
@@ -75,23 +74,16 @@ impl CoreState {
 
 fn mount_page(
     alloc: Global,
-    low: &PageList,
-    i: usize,
+    page: &Page,
     mounted: &mut PageList,
     slots: &mut Vec<Slot>,
 ) -> Result<(), AllocError>
-    requires { i < length low.now }
-    ensures mounted { OnOk result (contents mounted.new ≡ contents mounted.old ++ page_of (contents low.now) i ∷ []) }
-    ensures slots { OnOk result (slots.new.items ≡ slots.old.items ++ fresh_block (page_of (contents low.now) i) ∷ []) }
-    ensures size { OnOk result (length (page_of (contents low.now) i) ≡ 4096) }
+    ensures mounted { OnOk result (contents mounted.new ≡ contents mounted.old ++ page.now.0 ∷ []) }
+    ensures slots { OnOk result (slots.new.items ≡ slots.old.items ++ fresh_block page.now.0 ∷ []) }
+    ensures size { length page.now.0 ≡ 4096 }
 {
-    match low.get(i) {
-        Some(page) => {
-            let _bytes: &[u8] = &page.0;
-            mounted.push(Page(page.0))?;
-            slots.push(Slot::new(alloc, page))?;
-            Ok(())
-        }
-        None => Ok(()),
-    }
+    let _bytes: &[u8] = &page.0;
+    mounted.push(Page(page.0))?;
+    slots.push(Slot::new(alloc, page)?)?;
+    Ok(())
 }

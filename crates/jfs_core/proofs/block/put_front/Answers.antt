@@ -1,5 +1,0 @@
-use Rattle.std.proofs.Common.{refl}
-use Rattle.jfs_core.proofs.block.put_front.Goals as goal
-
-pub returns : goal.returns
-returns c = rw c.copy_from_slice.ensures.after refl
