@@ -1,3 +1,7 @@
 pub mod Trimming
 pub mod Printing
-pub mod Refusals
+pub mod Evidence
+pub mod SuperblockLemmas
+pub mod Performing
+pub mod Showing
+pub mod Concluding

@@ -1,68 +1,142 @@
--- How a run of the program ends, and what it prints.
-use Rattle.std.specs.Prelude.{◌≡◌, ◌⊎◌, ◌≤◌, ℕ, List, Some, Result, Ok, Err}
+-- How a run of the program ends, and what it prints: once for all commands.
+use Rattle.std.specs.Prelude.{◌≡◌, ◌⊎◌, ◌≤◌, ℕ, List, [], ◌++◌, Result, Ok, Err}
 use Rattle.jfs_bits.specs.Count.{Rose}
-use Rattle.jfs_disk.specs.Image.{Image, page_of}
-use Rattle.jfs_super.specs.Super.{super_of}
-use Rattle.jfs_bits.specs.Broken.{first_broken}
-use Rattle.jfs_super.specs.Rules.{rows, IsAccepted}
+use Rattle.jfs_bits.specs.declared.descriptor.Moment.{Moment}
+use Rattle.jfs_disk.specs.declared.disk.Disk.{Ghosts as DiskMembers}
+use Rattle.jfs_io.specs.declared.source.Source.{Ghosts as SourceMembers}
+use Rattle.jfs_io.specs.declared.sink.Sink.{Ghosts as SinkMembers}
 use Rattle.jfs_command.specs.declared.words.Usage.{Usage}
 use Rattle.jfs_command.specs.declared.words.Command.{Command}
-use Rattle.jfs_command.specs.declared.words.Command.TheVariants.{Super}
 use Rattle.jfs_command.specs.declared.status.Status.{Status}
-use Rattle.jfs_command.specs.declared.status.Status.TheVariants as statuses
-use Rattle.jfs_command.specs.Text.{super_text, refusal_text}
+use Rattle.jfs_command.specs.declared.status.Status.TheVariants.{OutOfMemory}
+use Rattle.jfs_command.specs.declared.outcome.Entry.{Entry}
+use Rattle.jfs_command.specs.declared.outcome.Outcome.{Outcome}
+use Rattle.jfs_command.specs.Status.{Kind, Finishes, Refuses, RefusesWord, ByScripts, BySink, ByDisk, ByMemory, kind_of, line_of}
+use Rattle.jfs_command.specs.Count.{Count, Stays, HasRisen}
+use Rattle.jfs_command.specs.Held.{Held, IsHeld, Work, only_prints}
+use Rattle.jfs_command.specs.Inputs.{Inputs, AreInputs, source_faults}
+use Rattle.jfs_command.specs.Meaning.{Answer, ComesTo, EndsBy, work_of}
+use Rattle.jfs_command.specs.Meanings.{meaning_of}
+use Rattle.jfs_command.specs.Words.{scripts_asked}
 use Rattle.jfs_command.specs.Print.{IsFront, Puts}
 
--- What a status is judged by: what the words ask, the number of pages, page 8 as it was read, and the faults of disk and sink.
+-- What a status is judged by: what the words ask, what the command was given, what it did, and the faults meanwhile.
 pub record Run : Type 0 where
   pub asked : Result Command Usage
-  pub pages : ℕ
-  pub page : List ℕ
-  pub disk_before : ℕ
-  pub disk_after : ℕ
-  pub sink_before : ℕ
-  pub sink_after : ℕ
+  pub inputs : Inputs
+  pub held : Held
+  pub work : Work
+  pub disk : Count
+  pub scripts : Count
+  pub sink : Count
 
--- these bytes are the page 8 of a disk that has one and tells its contents
-abbrev pub IsPage8 : Type 0 → ℕ → Image → List ℕ → Type 0
-IsPage8 tells pages image page = tells → 9 ≤ pages → page ≡ page_of image 8
+-- the command came to this status by itself
+abbrev pub CameTo : Run → Status → Type 0
+CameTo run status = (command : Command) × (run.asked ≡ Ok command) × ComesTo (meaning_of command run.inputs) run.held status run.work
 
--- The cause of each status. Of an image, one status at most has its cause beside the faults and want of memory: so, unless
--- the disk failed or memory ran out first, each comes exactly where it has.
+-- it was stopped on the way
+abbrev pub WasStopped : Run → Type 0
+WasStopped run = (command : Command) × (run.asked ≡ Ok command) × (meaning_of command run.inputs).stops run.held run.work
+
+-- no command was begun
+abbrev pub DidNothing : Run → Type 0
+DidNothing run = run.work ≡ only_prints run.held []
+
+-- The cause of a status, by its kind. Of what a run is given, one status at most has its cause beside faults and want of memory,
+-- and where a count rose no other status comes than its own or that of want of memory, which is free.
+abbrev pub EndsAs : Run → Status → Kind → Type 0
+EndsAs run status Finishes = CameTo run status × Stays run.disk × Stays run.scripts
+EndsAs run status Refuses = CameTo run status × Stays run.disk × Stays run.scripts
+EndsAs run status (RefusesWord word) = (run.asked ≡ Err (record { word = word })) × DidNothing run × Stays run.disk × Stays run.scripts
+EndsAs run status ByScripts = WasStopped run × HasRisen run.scripts × Stays run.disk
+EndsAs run status BySink = ((own : Status) × (kind_of own ≡ Finishes) × CameTo run own) × HasRisen run.sink × Stays run.disk × Stays run.scripts
+EndsAs run status ByDisk = WasStopped run × HasRisen run.disk × Stays run.scripts
+EndsAs run status ByMemory = DidNothing run ⊎ (WasStopped run ⊎ ((own : Status) × CameTo run own))
+
 abbrev pub Ends : Run → Status → Type 0
-Ends run statuses.Done = (run.asked ≡ Ok Super) × IsAccepted (super_of run.page) run.pages
-Ends run (statuses.Usage word) = run.asked ≡ Err (record { word = word })
-Ends run (statuses.BadImage page rule value) =
-    (run.asked ≡ Ok Super) × (page ≡ 8) × (first_broken (rows (super_of run.page) run.pages) ≡ Some (record { rule = rule; value = value }))
-Ends run statuses.SinkFault = (run.asked ≡ Ok Super) × IsAccepted (super_of run.page) run.pages × Rose run.sink_before run.sink_after
-Ends run statuses.DiskFault = (run.asked ≡ Ok Super) × (9 ≤ run.pages) × Rose run.disk_before run.disk_after
-Ends run statuses.OutOfMemory = Unit {0}
+Ends run status = EndsAs run status (kind_of status)
 
 -- the whole text of a status
-abbrev pub text_of : Run → Status → List ℕ
-text_of run statuses.Done = super_text (super_of run.page)
-text_of run statuses.SinkFault = super_text (super_of run.page)
-text_of run (statuses.Usage word) = refusal_text (statuses.Usage word)
-text_of run (statuses.BadImage page rule value) = refusal_text (statuses.BadImage page rule value)
-text_of run statuses.DiskFault = refusal_text statuses.DiskFault
-text_of run statuses.OutOfMemory = refusal_text statuses.OutOfMemory
+abbrev pub whole_text : Run → Status → List ℕ
+whole_text run status = run.work.text ++ line_of status
 
--- all of a text, or a front of it where the sink's count rose
-abbrev pub IsTold : Run → List ℕ → List ℕ → Type 0
-IsTold run whole text = (text ≡ whole) ⊎ (IsFront text whole × Rose run.sink_before run.sink_after)
+-- all of the text; where the sink's count rose, a front of it
+abbrev pub IsTold : Run → Status → List ℕ → Type 0
+IsTold run status text = ((text ≡ whole_text run status) × Stays run.sink) ⊎ (IsFront text (whole_text run status) × HasRisen run.sink)
 
--- What is printed: with status 0 all of the text, and after a sink fault a front of it. Where memory ran out, a front of the text of some status that has its cause.
+-- What is printed, by the kind of the status. Where memory ran out it is a front of the text of some status that has its cause.
+abbrev pub PrintsAs : Run → Status → List ℕ → Kind → Type 0
+PrintsAs run status text Finishes = (text ≡ whole_text run status) × Stays run.sink
+PrintsAs run status text Refuses = IsTold run status text
+PrintsAs run status text (RefusesWord word) = IsTold run status text
+PrintsAs run status text ByScripts = IsTold run status text
+PrintsAs run status text BySink = IsFront text (whole_text run status)
+PrintsAs run status text ByDisk = IsTold run status text
+PrintsAs run status text ByMemory = (cause : Status) × Ends run cause × IsFront text (whole_text run cause)
+
 abbrev pub Prints : Run → Status → List ℕ → Type 0
-Prints run statuses.Done text = text ≡ text_of run statuses.Done
-Prints run (statuses.Usage word) text = IsTold run (text_of run (statuses.Usage word)) text
-Prints run (statuses.BadImage page rule value) text = IsTold run (text_of run (statuses.BadImage page rule value)) text
-Prints run statuses.SinkFault text = IsFront text (text_of run statuses.SinkFault)
-Prints run statuses.DiskFault text = IsTold run (text_of run statuses.DiskFault) text
-Prints run statuses.OutOfMemory text = (status : Status) × Ends run status × IsFront text (text_of run status)
+Prints run status text = PrintsAs run status text (kind_of status)
 
--- The status has its cause, and a sink that tells what it took has taken its text.
-pub record IsAnswered (run : Run) (status : Status) (tells : Type 0) (old new : List ℕ) : Type 0 where
-  pub cause : Ends run status
+-- the disk, the sources and the sink of a run, before it and after it
+pub record Things (D S K : Type 0) : Type 0 where
+  pub disk : D
+  pub scripts : List S
+  pub out : K
+
+abbrev pub run_of : {D S K : Type 0} → DiskMembers D → SourceMembers S → SinkMembers K → Result Command Usage → Things D S K → Things D S K → Inputs → Held → Work → Run
+run_of d s k asked old new inputs held work = record {
+  asked = asked;
+  inputs = inputs;
+  held = held;
+  work = work;
+  disk = record { before = d.fault_count old.disk; now = d.fault_count new.disk };
+  scripts = record { before = source_faults s old.scripts; now = source_faults s new.scripts };
+  sink = record { before = k.fault_count old.out; now = k.fault_count new.out };
+}
+
+-- The status of a run has its cause, and its text was put. Of a disk, sources or a sink that don't tell, there is something that
+-- they may hold, give or have taken with which that is so.
+pub record IsAnswered {D S K : Type 0} (d : DiskMembers D) (s : SourceMembers S) (k : SinkMembers K) (asked : Result Command Usage) (now : Moment)
+    (old new : Things D S K) (status : Status) (history : List Entry) (told : List ℕ) : Type 0 where
+  pub inputs : Inputs
+  pub given : AreInputs s old.scripts now inputs
+  pub held : Held
+  pub before : IsHeld d old.disk held
+  pub left : Held
+  pub after : IsHeld d new.disk left
+  -- the text before the status's line, and what was put of both
+  pub whole : List ℕ
   pub text : List ℕ
-  pub put : Puts tells old new text
-  pub prints : Prints run status text
+  pub put : Puts k.tells (k.taken old.out) (k.taken new.out) text
+  pub ends : Ends (run_of d s k asked old new inputs held (record { text = whole; history = history; told = told; held = left })) status
+  pub prints : Prints (run_of d s k asked old new inputs held (record { text = whole; history = history; told = told; held = left })) status text
+
+-- Where the command means an answer of what the disk holds and the sources give, and no count rises, the status is that answer's,
+-- or memory ran out. So an image that is accepted is never refused.
+abbrev pub IsComplete : {D S K : Type 0} → DiskMembers D → SourceMembers S → SinkMembers K → Result Command Usage → Moment → Things D S K → Things D S K → Status → Type 0
+IsComplete d s k asked now old new status =
+    d.tells → (s.tells ⊎ (old.scripts ≡ []))
+    → (held : Held) → IsHeld d old.disk held → (inputs : Inputs) → AreInputs s old.scripts now inputs
+    → (command : Command) → asked ≡ Ok command → (answer : Answer) → (meaning_of command inputs).says held answer
+    → ¬ (Rose (d.fault_count old.disk) (d.fault_count new.disk)) → ¬ (Rose (source_faults s old.scripts) (source_faults s new.scripts)) → ¬ (Rose (k.fault_count old.out) (k.fault_count new.out))
+    → (status ≡ answer.status) ⊎ (status ≡ OutOfMemory)
+
+-- the disk keeps its number of pages, sources are left alone where no word named a script, and no count falls
+pub record LeavesRest {D S K : Type 0} (d : DiskMembers D) (s : SourceMembers S) (k : SinkMembers K) (asked : Result Command Usage) (old new : Things D S K) : Type 0 where
+  pub pages : d.page_count new.disk ≡ d.page_count old.disk
+  pub scripts : scripts_asked asked ≡ [] → new.scripts ≡ old.scripts
+  pub disk_count : d.fault_count old.disk ≤ d.fault_count new.disk
+  pub source_counts : source_faults s old.scripts ≤ source_faults s new.scripts
+  pub sink_count : k.fault_count old.out ≤ k.fault_count new.out
+
+-- A command's own function does what the command means: its end, and the faults of the disk and the sources meanwhile.
+pub record PerformsCommand {D S : Type 0} (d : DiskMembers D) (s : SourceMembers S) (command : Command) (now : Moment) (old new : D) (scripts later_scripts : List S) (outcome : Outcome) : Type 0 where
+  pub inputs : Inputs
+  pub given : AreInputs s scripts now inputs
+  pub held : Held
+  pub before : IsHeld d old held
+  pub left : Held
+  pub after : IsHeld d new left
+  pub ends : EndsBy (meaning_of command inputs) held (work_of outcome left)
+      (record { before = d.fault_count old; now = d.fault_count new })
+      (record { before = source_faults s scripts; now = source_faults s later_scripts }) outcome.end

@@ -41,3 +41,16 @@ command_of (first ∷ rest) = if is_super first then after_super rest else usage
 abbrev pub UsageIs : PathsError → Result Command Usage → Type 0
 UsageIs (errors.Usage u) asked = asked ≡ Err u
 UsageIs errors.Memory asked = Unit {0}
+
+-- the place of the word that names the image
+abbrev pub image_word : Command → ℕ
+image_word command = 2
+
+-- the places of the words that name scripts; no command takes scripts yet
+abbrev pub script_words : Command → List ℕ
+script_words command = []
+
+-- the scripts that the words name, none where they leave the grammar
+abbrev pub scripts_asked : Result Command Usage → List ℕ
+scripts_asked (Ok command) = script_words command
+scripts_asked (Err usage) = []

@@ -1,13 +1,18 @@
 //! The top call: the words of a command, its work on a disk, its status and its text.
 #![tactic(auto)]
 
-mod describe;
+mod line;
+mod outcome;
+mod perform;
 mod print;
+mod show;
 mod status;
+mod superblock;
 mod text;
 mod top;
 mod words;
 
+pub use outcome::Entry;
 pub use status::Status;
 pub use top::{Ended, jfs_top};
 pub use words::{Paths, PathsError, Usage, paths_of};

@@ -1,48 +1,50 @@
 //! Text on its way to the sink.
 
-ghost use Rattle.std.specs.Prelude.{◌≡◌, ◌≤◌, OnOk, IfOk};
+ghost use Rattle.std.specs.Prelude.{◌≡◌, ◌≤◌, ◌++◌, OnOk};
 ghost use Rattle.jfs_bits.specs.Count.{Rose};
-ghost use Rattle.jfs_command.specs.Text.{refusal_text};
-ghost use Rattle.jfs_command.specs.Print.{Puts, PutsFront, Printing, Refuses};
+ghost use Rattle.jfs_command.specs.Print.{Puts, PutsFront, Concludes};
 
+use crate::line::{OUT_OF_MEMORY, line_of};
 use crate::status::Status;
-use crate::text::{bad_image_line, usage_line};
 use jfs_io::{Sink, SinkError};
-use std::alloc::{AllocError, Global};
+use std::alloc::Global;
 
-/// How far a text came.
-#[derive(Clone, Copy, PartialEq, Eq, Debug)]
-pub enum Printed {
-    /// All of it was put.
-    All,
-    /// The sink failed.
-    SinkFailed,
-    /// There was no memory for the text, or the sink had none.
-    NoMemory,
-}
-
-/// Prints a text; where there was no memory for it, the line that says so.
-pub fn print<K: Sink>(out: &mut K, text: Result<Vec<u8>, AllocError>) -> Printed
-    ensures text { Printing K.tells (K.taken out.old) (K.taken out.new) (K.fault_count out.old) (K.fault_count out.new) text result }
+/// Prints the text of a command and then its status's line, and answers the status that the run then has.
+pub fn conclude<K: Sink>(alloc: Global, out: &mut K, status: Status, text: &[u8]) -> Status
+    ensures text { Concludes K.tells (K.taken out.old) (K.taken out.new)
+        (record { before = K.fault_count out.old; now = K.fault_count out.new }) text.now status result }
     ensures later { K.fault_count out.old ≤ K.fault_count out.new }
 {
-    match text {
-        Ok(text) => match put_all(out, &text) {
-            Ok(()) => Printed::All,
-            Err(SinkError::Failed) => Printed::SinkFailed,
-            Err(SinkError::Memory) => Printed::NoMemory,
+    match line_of(alloc, status) {
+        Ok(line) => match put_both(out, text, &line) {
+            Ok(()) => status,
+            Err(SinkError::Failed) => status.after_sink_fault(),
+            Err(SinkError::Memory) => Status::OutOfMemory,
         },
         Err(_) => {
-            let _ = put_all(out, b"jfsd: out of memory\n");
-            Printed::NoMemory
+            let _ = put_both(out, text, OUT_OF_MEMORY);
+            Status::OutOfMemory
         }
     }
+}
+
+// Puts a text and then a line.
+fn put_both<K: Sink>(out: &mut K, text: &[u8], line: &[u8]) -> Result<(), SinkError>
+    ensures all { OnOk result (Puts K.tells (K.taken out.old) (K.taken out.new) (text.now ++ line.now)) }
+    ensures front { PutsFront K.tells (K.taken out.old) (K.taken out.new) (text.now ++ line.now) }
+    ensures same { OnOk result (K.fault_count out.new ≡ K.fault_count out.old) }
+    ensures later { K.fault_count out.old ≤ K.fault_count out.new }
+    ensures cause { result ≡ Err SinkError.Failed → Rose (K.fault_count out.old) (K.fault_count out.new) }
+{
+    put_all(out, text)?;
+    put_all(out, line)
 }
 
 // Puts the pieces that are left until all are taken, or one isn't.
 fn put_all<K: Sink>(out: &mut K, text: &[u8]) -> Result<(), SinkError>
     ensures all { OnOk result (Puts K.tells (K.taken out.old) (K.taken out.new) text.now) }
     ensures front { PutsFront K.tells (K.taken out.old) (K.taken out.new) text.now }
+    ensures same { OnOk result (K.fault_count out.new ≡ K.fault_count out.old) }
     ensures later { K.fault_count out.old ≤ K.fault_count out.new }
     ensures cause { result ≡ Err SinkError.Failed → Rose (K.fault_count out.old) (K.fault_count out.new) }
 {
@@ -55,28 +57,4 @@ fn put_all<K: Sink>(out: &mut K, text: &[u8]) -> Result<(), SinkError>
         rest = &rest[count..];
     }
     Ok(())
-}
-
-/// Prints the line of a refusal or a fault, and answers its status; where memory runs out, that status.
-pub fn refuse<K: Sink>(alloc: Global, out: &mut K, status: Status) -> Status
-    ensures text { Refuses K.tells (K.taken out.old) (K.taken out.new) (K.fault_count out.old) (K.fault_count out.new) status result }
-    ensures later { K.fault_count out.old ≤ K.fault_count out.new }
-{
-    match print(out, refusal_line(alloc, status)) {
-        Printed::All | Printed::SinkFailed => status,
-        Printed::NoMemory => Status::OutOfMemory,
-    }
-}
-
-// The line of a refusal or a fault.
-fn refusal_line(alloc: Global, status: Status) -> Result<Vec<u8>, AllocError>
-    ensures { IfOk result (λ line. line.items ≡ refusal_text status) }
-{
-    match status {
-        Status::Usage { word } => usage_line(alloc, word),
-        Status::BadImage { page, rule, value } => bad_image_line(alloc, page, rule, value),
-        Status::DiskFault => Vec::from_slice(alloc, b"jfsd: disk fault\n"),
-        Status::OutOfMemory => Vec::from_slice(alloc, b"jfsd: out of memory\n"),
-        Status::Done | Status::SinkFault => Ok(Vec::new(alloc)),
-    }
 }

@@ -3,9 +3,8 @@
 ghost use Rattle.std.specs.Prelude.{◌≡◌, ◌<◌, ◌≤◌, ◌++◌, ◌∷◌, [], OnOk, IfOk, string_bytes, length};
 ghost use Rattle.std.specs.Fmt.{decimal};
 ghost use Rattle.std.specs.List.{flat_map};
-ghost use Rattle.jfs_command.specs.Text.{line, pair_text, hex_digit, hex_byte, hex_text, label_byte, label_text, trimmed, usage_text, bad_image_text};
+ghost use Rattle.jfs_command.specs.Text.{line, pair_text, hex_digit, hex_byte, hex_text, label_byte, label_text, trimmed};
 
-use jfs_bits::Rule;
 use std::alloc::{AllocError, Global};
 
 /// Adds a line of a name and a value.
@@ -109,35 +108,4 @@ fn push_label_byte(out: &mut Vec<u8>, byte: u8) -> Result<(), AllocError>
         push_hex_byte(out, b'A', byte)?;
     }
     Ok(())
-}
-
-/// The line that refuses words.
-pub fn usage_line(alloc: Global, word: u32) -> Result<Vec<u8>, AllocError>
-    ensures { IfOk result (λ text. text.items ≡ usage_text word) }
-{
-    let mut out = Vec::new(alloc);
-    out.extend_from_slice(b"jfsd: usage: word ")?;
-    out.extend_from_slice(word.to_string(alloc)?.as_bytes())?;
-    out.push(b'\n')?;
-    Ok(out)
-}
-
-/// The line that refuses an image.
-pub fn bad_image_line(
-    alloc: Global,
-    page: u32,
-    rule: Rule,
-    value: u64,
-) -> Result<Vec<u8>, AllocError>
-    ensures { IfOk result (λ text. text.items ≡ bad_image_text page rule value) }
-{
-    let mut out = Vec::new(alloc);
-    out.extend_from_slice(b"jfsd: bad image: page ")?;
-    out.extend_from_slice(page.to_string(alloc)?.as_bytes())?;
-    out.extend_from_slice(b" rule ")?;
-    out.extend_from_slice(rule.name().as_bytes())?;
-    out.extend_from_slice(b" value ")?;
-    out.extend_from_slice(value.to_string(alloc)?.as_bytes())?;
-    out.push(b'\n')?;
-    Ok(out)
 }

@@ -1,10 +1,10 @@
 //! The grammar of the words. It is read by hand: there are few commands, and each refusal names its word.
 
-ghost use Rattle.std.specs.Prelude.{◌≡◌, [], IfOk, IfErr, IsOk};
+ghost use Rattle.std.specs.Prelude.{◌≡◌, Ok, IfOk, IfErr};
 ghost use Rattle.std.specs.Str.{is_utf8};
-ghost use Rattle.jfs_command.specs.Words.{texts, is_name, is_super, begins_with_dash, command_of, after_super, UsageIs};
+ghost use Rattle.jfs_command.specs.Words.{texts, is_name, is_super, begins_with_dash, command_of, after_super, image_word, script_words, UsageIs};
 
-use std::alloc::Global;
+use std::alloc::{AllocError, Global};
 
 /// The words leave the grammar at this word, counted from 1, or end before it.
 #[derive(Clone, Copy, PartialEq, Eq, Debug)]
@@ -12,11 +12,27 @@ pub struct Usage {
     pub word: u32,
 }
 
-/// What the words ask for.
+/// What the words ask for, with the words that aren't names of files.
 #[derive(Clone, Copy, PartialEq, Eq, Debug)]
 pub enum Command {
     /// Print the superblock of the image.
     Super,
+}
+
+impl Command {
+    /// The place of the word that names the image, counted from 1.
+    pub fn image(self) -> u32
+        ensures { result ≡ image_word self }
+    {
+        2
+    }
+
+    /// The places of the words that name scripts. No command takes scripts yet.
+    pub fn scripts(self, alloc: Global) -> Result<Vec<u32>, AllocError>
+        ensures { IfOk result (λ places. places.items ≡ script_words self) }
+    {
+        Ok(Vec::new(alloc))
+    }
 }
 
 /// The places of the words that name files, counted from 1.
@@ -37,14 +53,18 @@ pub enum PathsError {
 
 /// Which words name the image and the scripts.
 pub fn paths_of(alloc: Global, words: &[Vec<u8>]) -> Result<Paths, PathsError>
-    ensures names { IfOk result (λ paths. IsOk (command_of (texts words.now)) × (paths.image ≡ 2) × (paths.scripts.items ≡ [])) }
+    ensures names { IfOk result (λ paths. (command : Command) × (command_of (texts words.now) ≡ Ok command)
+        × (paths.image ≡ image_word command) × (paths.scripts.items ≡ script_words command)) }
     ensures usage { IfErr result (λ e. UsageIs e (command_of (texts words.now))) }
 {
     match read_words(words) {
-        Ok(Command::Super) => Ok(Paths {
-            image: 2,
-            scripts: Vec::new(alloc),
-        }),
+        Ok(command) => match command.scripts(alloc) {
+            Ok(scripts) => Ok(Paths {
+                image: command.image(),
+                scripts,
+            }),
+            Err(_) => Err(PathsError::Memory),
+        },
         Err(usage) => Err(PathsError::Usage(usage)),
     }
 }

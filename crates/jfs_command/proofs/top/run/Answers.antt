@@ -1,15 +1,17 @@
-use Rattle.std.proofs.Common.{sym, refl}
-use Rattle.jfs_disk.specs.Image.{page_of}
-use Rattle.jfs_command.specs.declared.status.Status.TheVariants as statuses
+use Rattle.std.proofs.Common.{sym}
 use Rattle.jfs_command.specs.Words.{texts, command_of}
-use Rattle.jfs_command.specs.Top.{Run}
-use Rattle.jfs_command.proofs.Refusals.{refused}
+use Rattle.jfs_command.proofs.Concluding.{answered, refused}
 use Rattle.jfs_command.proofs.top.run.Goals as goal
+
+pub returns-in-Ok-clause-answer : goal.returns-in-Ok-clause-answer
+returns-in-Ok-clause-answer g c =
+    answered g.D.Disk g.S.Source g.K.Sink (command_of (texts c.args.words.now)) c.in-Ok.command (sym c.in-Ok.ensures) c.args.now
+    (record { disk = c.args.disk; scripts = c.args.scripts.now.items; out = c.args.out.now })
+    (record { disk = c.perform-done.new.disk; scripts = c.perform-done.new._scripts.items; out = c.conclude-status.new.out })
+    c.perform-done.result c.deref.result.now c.status.result c.conclude-status.result c.perform-done.ensures.meaning c.deref.ensures.value c.status.ensures c.conclude-status.ensures.text
 
 pub returns-in-Err-clause-answer : goal.returns-in-Err-clause-answer
 returns-in-Err-clause-answer g c =
-    let d = g.D.Disk in
-    let k = g.K.Sink in
-    let page = page_of (d.image c.args.disk.now) 8 in
-    let judged : Run = record { asked = command_of (texts c.args.words.now); pages = d.page_count c.args.disk.now; page = page; disk_before = d.fault_count c.args.disk.now; disk_after = d.fault_count c.args.disk.now; sink_before = k.fault_count c.args.out.now; sink_after = k.fault_count c.refuse.new.out } in
-    (page, (λ t n. refl), refused judged (statuses.Usage c.in-Err.usage.word) c.refuse.result k.tells (k.taken c.args.out.now) (k.taken c.refuse.new.out) tt (sym c.in-Err.ensures) c.refuse.ensures.text)
+    refused g.D.Disk g.S.Source g.K.Sink (command_of (texts c.args.words.now)) c.in-Err.usage.word (sym c.in-Err.ensures) c.args.now
+    c.args.disk c.args.scripts.now.items c.args.out.now c.conclude-status-in-Err.new.out c.conclude-status-in-Err.result c.new.result.items c.new-in-Err.result.items
+    c.new.ensures.items c.new-in-Err.ensures.items c.conclude-status-in-Err.ensures.text

@@ -1,0 +1,9 @@
+-- What each command means.
+use Rattle.jfs_command.specs.declared.words.Command.{Command}
+use Rattle.jfs_command.specs.declared.words.Command.TheVariants as commands
+use Rattle.jfs_command.specs.Inputs.{Inputs}
+use Rattle.jfs_command.specs.Meaning.{Meaning}
+use Rattle.jfs_command.specs.Super.{super_meaning}
+
+abbrev pub meaning_of : Command → Inputs → Meaning
+meaning_of commands.Super inputs = super_meaning

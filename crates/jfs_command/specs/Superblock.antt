@@ -1,0 +1,45 @@
+-- The superblock that a disk holds, as commands look at it.
+use Rattle.std.specs.Prelude.{◌≡◌, ◌<◌, ◌≤◌, ℕ, List, Option, Some, None, Result, Ok, Err}
+use Rattle.jfs_bits.specs.Broken.{first_broken}
+use Rattle.jfs_disk.specs.Image.{Image, page_of}
+use Rattle.jfs_super.specs.declared.fields.Super.{Super}
+use Rattle.jfs_super.specs.declared.read.BadSuper.{BadSuper}
+use Rattle.jfs_super.specs.Super.{super_of}
+use Rattle.jfs_super.specs.Rules.{rows, IsAccepted}
+use Rattle.jfs_command.specs.declared.status.Status.TheVariants.{BadImage}
+use Rattle.jfs_command.specs.declared.status.Stop.TheVariants as stops
+use Rattle.jfs_command.specs.declared.outcome.End.{End}
+use Rattle.jfs_command.specs.declared.outcome.End.TheVariants.{Own, Stopped}
+use Rattle.jfs_command.specs.Count.{Count, Stays, HasRisen}
+use Rattle.jfs_command.specs.Held.{Held}
+use Rattle.jfs_command.specs.Meaning.{Answer, refused}
+
+-- the primary superblock stands on page 8
+abbrev pub superblock_of : Held → Super
+superblock_of held = super_of (page_of held.image 8)
+
+-- page 8, where there is one
+abbrev pub LooksAtSuper : Held → ℕ → Type 0
+LooksAtSuper held n = (n ≡ 8) × (8 < held.pages)
+
+abbrev pub after_rules : Option BadSuper → Answer → Answer
+after_rules None next = next
+after_rules (Some bad) next = refused (BadImage 8 bad.rule bad.value)
+
+-- The superblock is refused at the first rule that it breaks. Where it breaks none, the command goes on.
+abbrev pub after_superblock : Held → (Super → Answer) → Answer
+after_superblock held next = after_rules (first_broken (rows (superblock_of held) held.pages)) (next (superblock_of held))
+
+-- ---- for the prover: what the function that looks at the superblock answers
+
+-- these bytes are the page 8 of a disk that has one and tells its contents
+abbrev pub IsPage8 : Type 0 → ℕ → Image → List ℕ → Type 0
+IsPage8 tells pages image page = tells → 9 ≤ pages → page ≡ page_of image 8
+
+abbrev pub Looks : Type 0 → ℕ → Image → Count → Result Super End → Type 0
+Looks tells pages image disk (Ok s) = (page : List ℕ) × IsPage8 tells pages image page × (s ≡ super_of page) × IsAccepted s pages × Stays disk
+Looks tells pages image disk (Err (Own (BadImage number rule value))) =
+    (page : List ℕ) × IsPage8 tells pages image page × (number ≡ 8) × (first_broken (rows (super_of page) pages) ≡ Some (record { rule = rule; value = value })) × Stays disk
+Looks tells pages image disk (Err (Stopped stops.Disk)) = (9 ≤ pages) × HasRisen disk
+Looks tells pages image disk (Err (Stopped stops.Memory)) = 9 ≤ pages
+Looks tells pages image disk (Err _) = ⊥
