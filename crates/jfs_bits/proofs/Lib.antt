@@ -10,3 +10,4 @@ pub mod Counts
 pub mod Broken
 pub mod Parts
 pub mod Places
+pub mod SameMaps

@@ -1,14 +1,19 @@
-//! Inodes and extents by bytes worked out by hand from the format, and the first rule that an inode breaks.
+//! Inodes, extents and pages of inode maps by bytes worked out by hand from the format, and the first rule that an inode breaks.
 #![tactic(auto)]
 
-ghost use Rattle.std.specs.Prelude.{◌<◌};
+ghost use Rattle.std.specs.Prelude.{◌≡◌, ◌<◌, ℕ, length, get_or};
+ghost use Rattle.jfs_bits.specs.Descriptor.{FitsPxd};
+ghost use Rattle.jfs_iag.specs.Iag.{no_run};
 ghost use Rattle.jfs_inode.specs.Inode.{FitsDinode};
 
 use jfs_bits::{Dxd, Moment, Pxd};
+use jfs_iag::NO_EXTENT;
 use jfs_inode::Dinode;
 
 #[cfg(test)]
 mod extents;
+#[cfg(test)]
+mod groups;
 #[cfg(test)]
 mod inodes;
 
@@ -46,4 +51,21 @@ pub fn root() -> Dinode
         acltype: 0x0102_0304,
         rest: [0xee; 384],
     }
+}
+
+/// The extent places of an inode allocation group, with extents of 4 blocks at these places and addresses.
+pub fn extents_at(places: &[(u32, u64)]) -> [Pxd; 128]
+    ensures size { length result ≡ 128 }
+    ensures fits { (e : ℕ) → e < 128 → FitsPxd (get_or result e no_run) }
+{
+    let mut extents = [NO_EXTENT; 128];
+    for place in places {
+        if place.0 < 128 {
+            extents[place.0 as usize] = Pxd {
+                len: 4,
+                addr: place.1 % (1 << 40),
+            };
+        }
+    }
+    extents
 }

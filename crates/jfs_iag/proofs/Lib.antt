@@ -1,0 +1,4 @@
+pub mod Fronts
+pub mod Heads
+pub mod Maps
+pub mod Agreed

@@ -1,0 +1,4 @@
+pub mod Iag
+pub mod Control
+pub mod Canonical
+pub mod Laws
