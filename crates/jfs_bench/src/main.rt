@@ -1,8 +1,9 @@
-//! Benchmarks. With no words it does nothing; the word `disk` or `map` picks one.
+//! Benchmarks. With no words it does nothing; the word `disk`, `map` or `tx` picks one.
 #![tactic(auto)]
 
 mod disk;
 mod map;
+mod tx;
 
 use std::{env, io};
 
@@ -11,6 +12,7 @@ fn main(rt: HostRuntime) -> io::Result<()> {
         match word.as_str() {
             "disk" => disk::time_disk(&rt)?,
             "map" => map::time_map(&rt)?,
+            "tx" => tx::time_tx(&rt)?,
             _ => {}
         }
     }

@@ -1,24 +1,12 @@
--- Bytes put over a page, byte by byte.
-use Rattle.std.proofs.Common.{◌≡◌, ◌<◌, ◌≤◌, ◌+◌, ◌-◌, ◌*◌, ℕ, zero, suc, List, [], ◌∷◌, ◌++◌, length, take, drop, set, get_or, refl, sym, ap, ◌∙◌, arith, inl, inr, ◌⊎◌, false, append_assoc}
-use Rattle.std.specs.Prelude.{slice_get, Some, None}
-use Rattle.std.proofs.lemmas.Option.{get_or_from_slice_get, slice_get_within}
-use Rattle.std.proofs.lemmas.List.{take_all, drop_all, append-nil, drop_more, take_more_set, drop-set-lt, get_or_past}
+-- Bytes put over a page.
+use Rattle.std.proofs.Common.{◌≡◌, ◌<◌, ◌≤◌, ◌+◌, ◌-◌, ◌*◌, ℕ, zero, suc, List, [], ◌∷◌, ◌++◌, length, take, drop, get_or, refl, sym, ap, ◌∙◌, arith, inl, inr, ◌⊎◌, false, nat_lt, ◌&&◌}
+use Rattle.std.proofs.lemmas.List.{get_or_past, take-append-drop, length-take-le, length-drop, take_all, drop-drop, drop_more, drop_all}
+use Rattle.std.proofs.lemmas.Bool.{cases_lt}
 use Rattle.std.proofs.lemmas.Bool.Decides.{nat_tests}
-use Rattle.std.specs.Prelude.{nat_lt, ◌&&◌, ◌||◌}
+use Rattle.jfs_bits.specs.Field.{put_bytes}
 use Rattle.jfs_ranges.specs.declared.edit.Edit.{Edit}
 use Rattle.jfs_ranges.specs.declared.edit.Edit.TheVariants.{Lines, NoRedo, Alloc, Free}
-use Rattle.jfs_ranges.specs.Apply.{place_of_line, byte_after, overlaid, apply_edit, apply_tx, touches_edit, touches_tx}
-
--- the loop over a page: one byte more is put
-pub overlaid-step : (at : ℕ) (new : List ℕ) (start i : ℕ) (page : List ℕ) (old : ℕ) → i < length page → old ≡ get_or page i old →
-    let after = set page i (byte_after at new (start + i) old) in
-    take (i + 1) after ++ overlaid at new (start + (i + 1)) (drop (i + 1) after) ≡ take i page ++ overlaid at new (start + i) (drop i page)
-overlaid-step at new start i page old within read =
-    let b = byte_after at new (start + i) old in
-    let place : suc (start + i) ≡ start + (i + 1) = omega arith in
-    let here : get_or page i old ≡ old = sym read in
-    rw (take_more_set page i b within, drop-set-lt (i + 1) page i b (omega arith), drop_more page i old within, here, place)
-    (append_assoc (take i page) (b ∷ []) (overlaid at new (start + (i + 1)) (drop (i + 1) page)))
+use Rattle.jfs_ranges.specs.Apply.{place_of_line, byte_after, overlaid, apply_edit, touches_edit}
 
 -- where no new byte lies in a part, it stays
 pub overlaid-none : (at : ℕ) (new : List ℕ) (place : ℕ) (xs : List ℕ) → (place + length xs ≤ at) ⊎ (length new ≤ place - at) → overlaid at new place xs ≡ xs
@@ -39,6 +27,80 @@ overlaid-none at new place (x ∷ xs) h =
     byte_after-none at new place old (inl h) = grind (arith, nat_tests)
     byte_after-none at new place old (inr h) = grind (arith, nat_tests, get_or_past)
 
+-- part by part
+overlaid-append : (at : ℕ) (new : List ℕ) (place next : ℕ) (xs ys : List ℕ) → next ≡ place + length xs → overlaid at new place (xs ++ ys) ≡ overlaid at new place xs ++ overlaid at new next ys
+overlaid-append at new place next [] ys e = let same : place ≡ next = omega arith in ap (λ (p : ℕ). overlaid at new p ys) same
+overlaid-append at new place next (x ∷ xs) ys e = ap (λ (zs : List ℕ). byte_after at new place x ∷ zs) (overlaid-append at new (suc place) next xs ys (omega arith))
+
+-- where new bytes lie all over a part, they are there
+overlaid-whole : (at : ℕ) (new : List ℕ) (place : ℕ) (xs : List ℕ) → at ≤ place → (place - at) + length xs ≤ length new → overlaid at new place xs ≡ take (length xs) (drop (place - at) new)
+overlaid-whole at new place [] h w = refl
+overlaid-whole at new place (x ∷ xs) h w =
+    let k = place - at in
+    let here : byte_after at new place x ≡ get_or new k x = grind (arith, nat_tests) in
+    let next : suc place - at ≡ k + 1 = omega arith in
+    let rest : overlaid at new (suc place) xs ≡ take (length xs) (drop (k + 1) new) =
+    overlaid-whole at new (suc place) xs (omega arith) (omega arith) ∙ ap (λ (j : ℕ). take (length xs) (drop j new)) next in
+    rw (here, rest) (sym (ap (λ (ys : List ℕ). take (suc (length xs)) ys) (drop_more new k x (omega arith))))
+
+-- the bytes before the first new one stay
+front-stays : (at : ℕ) (new : List ℕ) (place from : ℕ) (xs : List ℕ) → from ≡ at - place → from ≤ length xs → overlaid at new place (take from xs) ≡ take from xs
+front-stays at new place zero xs e h = refl
+front-stays at new place (suc k) xs e h = overlaid-none at new place (take (suc k) xs) (inl (omega (arith, length-take-le (suc k) xs h)))
+
+-- and those past the last new one
+rest-stays : (at : ℕ) (new : List ℕ) (next end : ℕ) (xs : List ℕ) → (length xs ≤ end) ⊎ (length new ≤ next - at) → overlaid at new next (drop end xs) ≡ drop end xs
+rest-stays at new next end xs (inl past) = let none : drop end xs ≡ [] = drop_all end xs past in rw none refl
+rest-stays at new next end xs (inr past) = overlaid-none at new next (drop end xs) (inr past)
+
+-- `count` new bytes lie in the page: the first `passed` of them stand before it, and its own first `from` bytes before them
+overlaid-count : (at : ℕ) (new : List ℕ) (place from passed count : ℕ) (xs : List ℕ) → from ≡ at - place → passed ≡ place - at → from + count ≤ length xs → passed + count ≤ length new →
+    (length xs ≤ from + count) ⊎ (length new ≤ passed + count) →
+    take from xs ++ (take count (drop passed new) ++ drop (from + count) xs) ≡ overlaid at new place xs
+overlaid-count at new place from passed count xs ef ep inside there end =
+    let front = take from xs in
+    let middle = take count (drop from xs) in
+    let rest = drop (from + count) xs in
+    let front_length : length front ≡ from = length-take-le from xs (omega arith) in
+    let middle_length : length middle ≡ count = length-take-le count (drop from xs) (omega (arith, length-drop from xs)) in
+    let split : xs ≡ front ++ (middle ++ rest) =
+    sym (take-append-drop from xs) ∙ ap (λ (ys : List ℕ). front ++ ys) (sym (take-append-drop count (drop from xs)) ∙ ap (λ (ys : List ℕ). middle ++ ys) (drop-drop count from xs)) in
+    let put : overlaid at new (place + from) middle ≡ take count (drop passed new) =
+    overlaid-whole at new (place + from) middle (omega arith) (omega (arith, middle_length))
+    ∙ (let skip : (place + from) - at ≡ passed = omega arith in rw (middle_length, skip) refl) in
+    sym (
+    ap (λ (ys : List ℕ). overlaid at new place ys) split
+    ∙ overlaid-append at new place (place + from) front (middle ++ rest) (omega (arith, front_length))
+    ∙ ap (λ (ys : List ℕ). ys ++ overlaid at new (place + from) (middle ++ rest)) (front-stays at new place from xs ef (omega arith))
+    ∙ ap (λ (ys : List ℕ). front ++ ys) (
+    overlaid-append at new (place + from) (place + from + count) middle rest (omega (arith, middle_length))
+    ∙ ap (λ (ys : List ℕ). ys ++ overlaid at new (place + from + count) rest) put
+    ∙ ap (λ (ys : List ℕ). take count (drop passed new) ++ ys) (rest-stays at new (place + from + count) (from + count) xs (further end))))
+  where
+    further : (length xs ≤ from + count) ⊎ (length new ≤ passed + count) → (length xs ≤ from + count) ⊎ (length new ≤ (place + from + count) - at)
+    further (inl h) = inl h
+    further (inr h) = inr (omega arith)
+
+-- as many bytes are put as there are and as the page has room for
+pub overlaid-piece : (at : ℕ) (new : List ℕ) (place from passed most : ℕ) (xs : List ℕ) → from ≡ at - place → passed ≡ place - at → from < length xs → passed < length new → most ≡ length xs - from →
+    put_bytes from (take most (drop passed new)) xs ≡ overlaid at new place xs
+unfolding put_bytes
+overlaid-piece at new place from passed most xs ef ep inside more em = at_end (cases_lt most (length new - passed))
+  where
+    left : length (drop passed new) ≡ length new - passed
+    left = length-drop passed new
+
+    at_end : (most < length new - passed) ⊎ (length new - passed ≤ most) → take from xs ++ (take most (drop passed new) ++ drop (from + length (take most (drop passed new))) xs) ≡ overlaid at new place xs
+    at_end (inl h) =
+        let count : length (take most (drop passed new)) ≡ most = length-take-le most (drop passed new) (omega (arith, left)) in
+        rw count (overlaid-count at new place from passed most xs ef ep (omega arith) (omega arith) (inl (omega arith)))
+    at_end (inr h) =
+        let all : take most (drop passed new) ≡ drop passed new = take_all most (drop passed new) (omega (arith, left)) in
+        let count = length new - passed in
+        let same : take count (drop passed new) ≡ drop passed new = take_all count (drop passed new) (omega (arith, left)) in
+        rw (all, left) (ap (λ (ys : List ℕ). take from xs ++ (ys ++ drop (from + count) xs)) (sym same)
+        ∙ overlaid-count at new place from passed count xs ef ep (omega arith) (omega arith) (inr (omega arith)))
+
 -- an edit that doesn't touch a page leaves it
 pub apply_edit-untouched : (n : ℕ) (edit : Edit) (page : List ℕ) → length page ≡ 4096 → touches_edit n edit ≡ false → apply_edit n edit page ≡ page
 apply_edit-untouched n (Lines p kind first bytes) page size h = overlaid-none (place_of_line p kind first) bytes (4096 * n) page (outside (place_of_line p kind first) (length bytes) h)
@@ -48,33 +110,3 @@ apply_edit-untouched n (Lines p kind first bytes) page size h = overlaid-none (p
 apply_edit-untouched n (NoRedo p) page size h = refl
 apply_edit-untouched n (Alloc p) page size h = refl
 apply_edit-untouched n (Free p) page size h = refl
-
--- what is left of a list, from an item on
-pub drop-slice_get : {X : Type 0} (xs : List X) (i : ℕ) (x : X) → slice_get xs i ≡ Some x → drop i xs ≡ x ∷ drop (i + 1) xs
-drop-slice_get {X} xs i x h =
-    drop_more xs i x (slice_get_within xs i x h) ∙ ap (λ (y : X). y ∷ drop (i + 1) xs) (get_or_from_slice_get xs i x x h)
-
-pub no_item : {X : Type 0} (xs : List X) (i : ℕ) → slice_get xs i ≡ None → length xs ≤ i
-no_item [] i h = omega arith
-no_item (x ∷ xs) zero h = absurd (cc)
-no_item (x ∷ xs) (suc i) h = let rest = no_item xs i h in omega arith
-
-pub byte_after-past : (at : ℕ) (new : List ℕ) (place old : ℕ) → at ≤ place → slice_get new (place - at) ≡ None → old ≡ byte_after at new place old
-byte_after-past at new place old h e =
-    let past = get_or_past new (place - at) old (no_item new (place - at) e) in
-    grind (arith, nat_tests)
-
--- one edit more of a transaction
-pub apply_tx-step : (n : ℕ) (tx : List Edit) (i : ℕ) (edit : Edit) (page after : List ℕ) → slice_get tx i ≡ Some edit → after ≡ apply_edit n edit page → apply_tx n (drop (i + 1) tx) after ≡ apply_tx n (drop i tx) page
-apply_tx-step n tx i edit page after h e =
-    ap (λ (p : List ℕ). apply_tx n (drop (i + 1) tx) p) e ∙ sym (ap (λ (es : List Edit). apply_tx n es page) (drop-slice_get tx i edit h))
-
-pub touches_tx-step : (n : ℕ) (tx : List Edit) (i : ℕ) (edit : Edit) → slice_get tx i ≡ Some edit → touches_tx n (drop i tx) ≡ (touches_edit n edit || touches_tx n (drop (i + 1) tx))
-touches_tx-step n tx i edit h = ap (λ (es : List Edit). touches_tx n es) (drop-slice_get tx i edit h)
-
--- the last iteration is done
-pub overlaid-end : (at : ℕ) (new : List ℕ) (start i : ℕ) (page before : List ℕ) → length page ≤ i → take i page ++ overlaid at new (start + i) (drop i page) ≡ overlaid at new start before → page ≡ overlaid at new start before
-overlaid-end at new start i page before past h =
-    let front : take i page ≡ page = take_all i page past in
-    let rest : drop i page ≡ [] = drop_all i page past in
-    rw (front, rest, append-nil) at h

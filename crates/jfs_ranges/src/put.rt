@@ -1,19 +1,21 @@
 //! What a transaction does to one page.
 
-ghost use Rattle.std.specs.Prelude.{◌≡◌, ◌||◌, length, drop, ◌+◌, ◌*◌, ◌^◌, ◌<◌, ◌≤◌};
+ghost use Rattle.std.specs.Prelude.{◌≡◌, length, take, drop, ◌+◌, ◌*◌, ◌^◌, ◌<◌, ◌≤◌};
+ghost use Rattle.jfs_bits.specs.Field.{put_bytes};
 ghost use Rattle.jfs_bits.specs.Line.{line_size};
-ghost use Rattle.jfs_ranges.specs.Apply.{place_of_line, byte_after, overlaid, apply_edit, apply_tx, touches_edit, touches_tx};
+ghost use Rattle.jfs_ranges.specs.Apply.{place_of_line, overlaid, apply_edit, apply_tx, touches_edit, touches_tx};
 
 use crate::edit::{Edit, Tx};
-use jfs_bits::{Blob, PageKind};
+use jfs_bits::PageKind;
 use jfs_disk::Page;
 
-/// Puts those bytes of a transaction into page `n` that lie in it, in the transaction's order.
+/// Puts those bytes of a transaction into page `n` that lie in it, in the transaction's order. An edit costs the bytes that it
+/// puts there.
 pub fn apply(tx: &Tx, n: u32, page: &mut Page)
     ensures { page.new.0 ≡ apply_tx n tx.now page.old.0 }
 {
-    for i in 0..tx.len() {
-        apply_at(tx, i, n, page);
+    for edit in tx.as_slice() {
+        apply_edit(edit, n, page);
     }
 }
 
@@ -21,40 +23,17 @@ pub fn apply(tx: &Tx, n: u32, page: &mut Page)
 pub fn touches(tx: &Tx, n: u32) -> bool
     ensures { result ≡ touches_tx n tx.now }
 {
-    for i in 0..tx.len() {
-        if touches_at(tx, i, n) {
+    for edit in tx.as_slice() {
+        if touches_edit(edit, n) {
             return true;
         }
     }
     false
 }
 
-fn apply_at(tx: &Tx, i: usize, n: u32, page: &mut Page)
-    requires { i < length tx.now }
-    ensures { apply_tx n (drop (i + 1) tx.now) page.new.0 ≡ apply_tx n (drop i tx.now) page.old.0 }
-{
-    if let Some(edit) = tx.get(i) {
-        apply_edit(edit, n, page);
-    }
-}
-
-fn touches_at(tx: &Tx, i: usize, n: u32) -> bool
-    requires { i < length tx.now }
-    ensures { touches_tx n (drop i tx.now) ≡ (result || touches_tx n (drop (i + 1) tx.now)) }
-{
-    match tx.get(i) {
-        Some(edit) => touches_edit(edit, n),
-        None => false,
-    }
-}
-
 fn apply_edit(edit: &Edit, n: u32, page: &mut Page)
     ensures { page.new.0 ≡ apply_edit n edit.now page.old.0 }
 {
-    let _bytes: &[u8] = &page.0;
-    if !touches_edit(edit, n) {
-        return;
-    }
     if let Edit::Lines {
         page: lines,
         kind,
@@ -62,7 +41,12 @@ fn apply_edit(edit: &Edit, n: u32, page: &mut Page)
         bytes,
     } = edit
     {
-        put_lines(place_of_line(*lines, *kind, *first), bytes, n, page);
+        put_lines(
+            place_of_line(*lines, *kind, *first),
+            bytes.as_slice(),
+            n,
+            page,
+        );
     }
 }
 
@@ -84,25 +68,35 @@ fn touches_edit(edit: &Edit, n: u32) -> bool
     }
 }
 
-fn put_lines(at: u64, bytes: &Blob, n: u32, page: &mut Page)
+/// Puts those of the bytes, which stand from place `at` of the disk on, that lie in page `n`.
+fn put_lines(at: u64, bytes: &[u8], n: u32, page: &mut Page)
     ensures { page.new.0 ≡ overlaid at bytes.now (4096 * n) page.old.0 }
 {
     let start = 4096 * u64::from(n);
-    for i in 0..4096usize {
-        page.0[i] = byte_after(at, bytes, start + i as u64, page.0[i]);
+    let passed = start.saturating_sub(at);
+    let from = at.saturating_sub(start);
+    let _bytes: &[u8] = &page.0;
+    if from >= 4096 || passed >= bytes.len() as u64 {
+        return;
     }
+    let piece = piece_of(bytes, passed as usize, 4096 - from as usize);
+    put_slice(&mut page.0, from as usize, piece);
 }
 
-fn byte_after(at: u64, bytes: &Blob, place: u64, old: u8) -> u8
-    ensures { result ≡ byte_after at bytes.now place old }
+/// The bytes from a place on, so many at most.
+fn piece_of(bytes: &[u8], passed: usize, most: usize) -> &[u8]
+    requires { passed ≤ length bytes.now }
+    ensures { result.now ≡ take most (drop passed bytes.now) }
 {
-    if place < at {
-        return old;
-    }
-    match bytes.get((place - at) as usize) {
-        Some(byte) => *byte,
-        None => old,
-    }
+    let rest = &bytes[passed..];
+    &rest[..most.min(rest.len())]
+}
+
+fn put_slice(bytes: &mut [u8], from: usize, piece: &[u8])
+    requires { from + length piece.now ≤ length bytes.old }
+    ensures { bytes.new ≡ put_bytes from piece.now bytes.old }
+{
+    bytes[from..from + piece.len()].copy_from_slice(piece);
 }
 
 /// The place of a line's first byte, counted from the start of the disk.

@@ -2,5 +2,5 @@ use Rattle.std.proofs.Common.{◌≡◌, drop}
 use Rattle.jfs_ranges.specs.Apply.{touches_tx}
 use Rattle.jfs_ranges.proofs.put.touches.Given as goal
 
-abbrev pub invariant-loop-i : goal.invariant-loop-i
-invariant-loop-i l = touches_tx l.n (drop l.i l.tx) ≡ touches_tx l.n l.tx
+abbrev pub invariant-loop-edit : goal.invariant-loop-edit
+invariant-loop-edit l = touches_tx l.n (drop l.edit-index l.tx) ≡ touches_tx l.n l.tx
