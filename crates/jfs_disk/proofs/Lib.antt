@@ -1,10 +1,9 @@
 pub mod Images
-pub mod Sound
-pub mod Cells
 pub mod Outcomes
-pub mod Contents
-pub mod Crashed
 pub mod Tearing
 pub mod Flow
 pub mod WriteThenSync
 pub mod Slots
+pub mod Chosen
+pub mod Tables
+pub mod Walks

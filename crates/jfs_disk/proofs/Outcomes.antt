@@ -1,5 +1,5 @@
 -- What a read gives after a device call.
-use Rattle.std.proofs.Common.{◌≡◌, ◌-◌, ℕ, List, [], ◌∷◌, ◌++◌, length, sym, ap, ◌∙◌, ◌⊎◌, inl, inr, arith, Result, Ok, Err, OnOk, OnErr}
+use Rattle.std.proofs.Common.{◌≡◌, ◌-◌, ℕ, List, [], ◌∷◌, ◌++◌, length, sym, ap, ◌∙◌, ◌⊎◌, inl, inr, arith}
 use Rattle.std.proofs.Math.ListN.{set}
 use Rattle.std.proofs.lemmas.List.{get_or_push, length-append, set-get_or}
 use Rattle.jfs_disk.specs.Image.{Image}
@@ -18,16 +18,12 @@ image-settled old new e =
     ap (λ (past : List DiskState). seen_of (last_of past)) e ∙ ap seen_of (last_of-push old (settled (last_of old))) ∙ seen_of-settled (last_of old)
 
 -- a write of no sector
-pub TearsPage-same : (n : ℕ) (bytes : List ℕ) (old new : Image) → new ≡ old → TearsPage n bytes old new
+pub tears_nothing : (n : ℕ) (bytes : List ℕ) (old new : Image) → new ≡ old → TearsPage n bytes old new
 unfolding torn
-TearsPage-same n bytes old new e = (0, omega arith, e ∙ sym (set-get_or old n []))
+tears_nothing n bytes old new e = (0, omega arith, e ∙ sym (set-get_or old n []))
 
 -- a write that fails for want of memory, or as one of the fails says, leaves the page as it was
 pub image-failed : (old new : List DiskState) (n : ℕ) (bytes : List ℕ) → (new ≡ old) ⊎ (new ≡ old ++ failed n bytes 0 (last_of old) ∷ []) → seen_of (last_of new) ≡ seen_of (last_of old)
 image-failed old new n bytes (inl same) = ap (λ (past : List DiskState). seen_of (last_of past)) same
 image-failed old new n bytes (inr e) =
     ap (λ (past : List DiskState). seen_of (last_of past)) e ∙ ap seen_of (last_of-push old (failed n bytes 0 (last_of old))) ∙ seen_of-failed_whole n bytes (last_of old)
-
-pub either-of : {T E : Type 0} (r : Result T E) (P Q : Type 0) → OnOk r P → OnErr r Q → Q ⊎ P
-either-of (Ok x) P Q p q = inr p
-either-of (Err x) P Q p q = inl q

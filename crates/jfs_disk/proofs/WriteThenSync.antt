@@ -4,7 +4,7 @@ use Rattle.std.proofs.lemmas.List.{length-append}
 use Rattle.jfs_disk.specs.Image.{Image, page_of, ArePages}
 use Rattle.jfs_disk.specs.Crash.{DiskState, IsCrashImage, seen_of, written, failed, settled, last_of, AllSince, TearsPage, LeavesTorn}
 use Rattle.jfs_disk.specs.Moment.{now_of, IsResting}
-use Rattle.jfs_disk.proofs.Outcomes.{last_of-push, TearsPage-same}
+use Rattle.jfs_disk.proofs.Outcomes.{last_of-push, tears_nothing}
 use Rattle.jfs_disk.proofs.Flow.{starts, goes_on, crash-settled, crash-resting, crash-resting-written, crash-resting-failed, length-seen_of}
 
 -- A call that begins with nothing pending, and writes one page and syncs: at each moment since its start a crash leaves the
@@ -14,7 +14,7 @@ AllTorn n bytes image past t = AllSince (λ left. TearsPage n bytes image left) 
 
 pub starts-torn : (n : ℕ) (bytes : List ℕ) (past : List DiskState) → 0 < length past → IsResting (last_of past) → AllTorn n bytes (seen_of (last_of past)) past (now_of past)
 starts-torn n bytes past h rests = starts (λ left. TearsPage n bytes (seen_of (last_of past)) left) past h
-    (λ left crash. TearsPage-same n bytes (seen_of (last_of past)) left (crash-resting (last_of past) left rests crash))
+    (λ left crash. tears_nothing n bytes (seen_of (last_of past)) left (crash-resting (last_of past) left rests crash))
 
 pub written-torn : (n : ℕ) (bytes : List ℕ) (past new : List DiskState) → 0 < length past → IsResting (last_of past) → n < length (last_of past) → length bytes ≡ 4096 → length (page_of (seen_of (last_of past)) n) ≡ 4096
     → new ≡ past ++ written n bytes (last_of past) ∷ [] → AllTorn n bytes (seen_of (last_of past)) new (now_of past)

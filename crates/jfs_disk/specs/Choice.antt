@@ -1,5 +1,5 @@
 -- What a crash leaves of a disk, by choices.
-use Rattle.std.specs.Prelude.{◌≡◌, ◌<◌, ℕ, List, length, Bool, ◌&&◌, nat_le, nat_eq, if◌then◌else◌, find, Option, Some, None, slice_get, ◌∷◌}
+use Rattle.std.specs.Prelude.{◌≡◌, ◌<◌, ℕ, List, length, Bool, ◌&&◌, nat_le, nat_eq, if◌then◌else◌, find, Option, Some, None}
 use Rattle.jfs_disk.specs.Image.{Image, page_of}
 use Rattle.jfs_disk.specs.Crash.{PageHistory, DiskState, history_of, content_of, torn}
 use Rattle.jfs_disk.specs.declared.choice.Choice.{Choice}
@@ -26,9 +26,3 @@ choice_of choices n = find (λ choice. nat_eq choice.page n) choices
 pub record IsChosen (choices : List Choice) (state : DiskState) (left : Image) : Type 0 where
   pub number : length left ≡ length state
   pub each : (n : ℕ) → n < length state → page_of left n ≡ left_by (choice_of choices n) (history_of state n) (history_of state n).seen
-
--- what is known of a page's contents while its calls are read: what a read gives, how many writes are pending, and content k
-pub record Tracks (page : PageHistory) (k : ℕ) (seen : List ℕ) (count : ℕ) (found : Option (List ℕ)) : Type 0 where
-  pub same : seen ≡ page.seen
-  pub pending : count ≡ length page.writes
-  pub content : found ≡ slice_get (page.stable ∷ page.writes) k

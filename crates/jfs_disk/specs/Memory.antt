@@ -1,7 +1,8 @@
 -- A disk in memory, as its clauses see it.
-use Rattle.std.specs.Prelude.{ℕ, Bool, List}
+use Rattle.std.specs.Prelude.{◌≡◌, ◌⊎◌, ℕ, Bool, List, [], ◌∷◌, ◌++◌}
 use Rattle.jfs_disk.specs.Image.{Image}
-use Rattle.jfs_disk.specs.Crash.{DiskState, seen_of, last_of}
+use Rattle.jfs_disk.specs.Crash.{DiskState, seen_of, last_of, failed}
+use Rattle.jfs_bits.specs.Count.{Rose}
 use Rattle.jfs_disk.specs.Plan.{fails_next}
 use Rattle.jfs_disk.specs.Store.{past_in}
 use Rattle.jfs_disk.specs.declared.disk.Part.{Part}
@@ -33,6 +34,16 @@ fails_of disk = disk.plan.fails.items
 abbrev pub counters_of : MemDisk → Counters
 counters_of disk = disk.plan.counters
 
+-- how many writes that failed found no memory to be pending
+abbrev pub lost_writes_of : MemDisk → ℕ
+lost_writes_of disk = disk.lost_writes
+
 -- whether the next call of a kind fails by one of the fails
 abbrev pub will_fail : Kind → MemDisk → Bool
 will_fail kind disk = fails_next (fails_of disk) (part_of disk) kind (counters_of disk)
+
+-- A write that was planned to fail is pending. Where it finds no memory, the disk is as it was, and counts that.
+abbrev pub LeavesTrace : ℕ → List ℕ → MemDisk → MemDisk → Type 0
+LeavesTrace n bytes old new =
+    ((past_of_disk new ≡ past_of_disk old ++ failed n bytes 0 (last_of (past_of_disk old)) ∷ []) × (lost_writes_of new ≡ lost_writes_of old))
+    ⊎ ((past_of_disk new ≡ past_of_disk old) × Rose (lost_writes_of old) (lost_writes_of new))

@@ -1,15 +1,16 @@
 //! Pages, the trait of a disk, what a crash may leave of one, and disks in memory.
 #![tactic(auto)]
 
-mod call;
 mod choice;
 mod disk;
 mod memory;
 mod page;
+mod past;
 mod plan;
 mod slot;
 mod store;
 mod sure;
+mod table;
 
 pub use choice::{Choice, find_choice, torn};
 pub use disk::{Disk, DiskError, Fault, Part};

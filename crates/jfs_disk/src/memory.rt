@@ -1,6 +1,6 @@
 //! A disk in memory that can fail and crash.
 
-ghost use Rattle.std.specs.Prelude.{◌≡◌, ◌≢◌, ◌<◌, ◌≤◌, ◌⊎◌, ◌++◌, ◌∷◌, [], OnOk, OnErr, false, is_ok, set, if◌then◌else◌};
+ghost use Rattle.std.specs.Prelude.{◌≡◌, ◌≢◌, ◌<◌, ◌≤◌, ◌⊎◌, ◌++◌, ◌∷◌, [], OnOk, OnErr, true, false, is_ok, set, if◌then◌else◌};
 ghost use Rattle.jfs_disk.specs.Image.{zeros, page_of};
 ghost use Rattle.jfs_disk.specs.Crash.{seen_of, last_of, written, failed, settled, TearsPage, LeavesTorn, IsCrashImage, at_rest};
 ghost use Rattle.jfs_disk.specs.Choice.{IsChosen};
@@ -8,8 +8,8 @@ ghost use Rattle.jfs_disk.specs.Fault.{HasCause};
 ghost use Rattle.jfs_bits.specs.Count.{Rose};
 ghost use Rattle.jfs_disk.specs.Plan.{raised, counted};
 ghost use Rattle.jfs_disk.specs.Store.{past_in};
-ghost use Rattle.jfs_disk.specs.Memory.{page_count_of, past_of_disk, image_of_disk, fault_count_of, part_of, fails_of, counters_of, will_fail};
-ghost use Rattle.jfs_disk.specs.Law.{reads_crash_of, has_state_of, whole_of};
+ghost use Rattle.jfs_disk.specs.Memory.{page_count_of, past_of_disk, image_of_disk, fault_count_of, part_of, fails_of, counters_of, lost_writes_of, will_fail, LeavesTrace};
+ghost use Rattle.jfs_disk.specs.TableLaw.{reads_crash_of, whole_of};
 ghost use Rattle.std.proofs.Common.{refl};
 
 use crate::choice::Choice;
@@ -20,12 +20,14 @@ use crate::store::Store;
 use std::alloc::Global;
 
 /// A disk in memory. It keeps only pages that were written; all others read as zeros.
-/// A write or sync that finds no memory fails, and leaves the page as it was.
+/// A write that finds no memory fails, and leaves the page as it was. It keeps the pages that were written and the
+/// writes since the last sync, and no others.
 #[derive(Drop)]
 pub struct MemDisk {
     store: Store,
     plan: Plan,
     faults: u64,
+    lost_writes: u64,
 }
 
 impl MemDisk {
@@ -34,6 +36,7 @@ impl MemDisk {
         ensures pages { page_count_of result ≡ pages }
         ensures past { past_of_disk result ≡ at_rest (zeros pages) ∷ [] }
         ensures faults { fault_count_of result ≡ 0 }
+        ensures lost { lost_writes_of result ≡ 0 }
         ensures part { part_of result ≡ Part.Whole }
         ensures fails { fails_of result ≡ [] }
         ensures counters { counters_of result ≡ record { reads = 0; writes = 0; syncs = 0 } }
@@ -46,6 +49,7 @@ impl MemDisk {
                 counters: Counters::new(),
             },
             faults: 0,
+            lost_writes: 0,
         }
     }
 
@@ -56,6 +60,7 @@ impl MemDisk {
         ensures pages { page_count_of result ≡ page_count_of self }
         ensures past { past_of_disk result ≡ past_of_disk self }
         ensures faults { fault_count_of result ≡ fault_count_of self }
+        ensures lost { lost_writes_of result ≡ lost_writes_of self }
         ensures part { part_of result ≡ part_of self }
     {
         MemDisk {
@@ -66,6 +71,7 @@ impl MemDisk {
                 counters: Counters::new(),
             },
             faults: self.faults,
+            lost_writes: self.lost_writes,
         }
     }
 
@@ -77,6 +83,7 @@ impl MemDisk {
         ensures past { past_of_disk result ≡ at_rest (image_of_disk result) ∷ [] }
         ensures pages { page_count_of result ≡ page_count_of self }
         ensures faults { fault_count_of result ≡ 0 }
+        ensures lost { lost_writes_of result ≡ 0 }
         ensures part { part_of result ≡ part_of self }
         ensures fails { fails_of result ≡ [] }
         ensures counters { counters_of result ≡ record { reads = 0; writes = 0; syncs = 0 } }
@@ -93,6 +100,29 @@ impl MemDisk {
                 counters: Counters::new(),
             },
             faults: 0,
+            lost_writes: 0,
+        }
+    }
+
+    /// How many writes that failed, as one of the fails said, found no memory to be pending. The disk is then as it was.
+    pub fn lost_writes(&self) -> u64
+        ensures { result ≡ lost_writes_of self.now }
+    {
+        self.lost_writes
+    }
+
+    /// A write that fails as one of the fails says: it is pending, and the page is as it was.
+    fn leave_trace(&mut self, n: u32, from: &Page)
+        requires { n < page_count_of self.old }
+        ensures trace { LeavesTrace n from.now.0 self.old self.new }
+        ensures image { image_of_disk self.new ≡ image_of_disk self.old }
+        ensures pages { page_count_of self.new ≡ page_count_of self.old }
+        ensures faults { fault_count_of self.new ≡ fault_count_of self.old }
+        ensures plan { self.new.plan ≡ self.old.plan }
+    {
+        match self.store.fail_write(n, from) {
+            Ok(()) => {}
+            Err(_) => self.lost_writes = self.lost_writes.saturating_add(1),
         }
     }
 
@@ -104,6 +134,7 @@ impl MemDisk {
         ensures rose { Rose (fault_count_of self.old) (fault_count_of self.new) }
         ensures store { self.new.store ≡ self.old.store }
         ensures plan { self.new.plan ≡ self.old.plan }
+        ensures lost { lost_writes_of self.new ≡ lost_writes_of self.old }
     {
         self.faults = self.faults.saturating_add(1);
         DiskError::Failed
@@ -137,6 +168,7 @@ impl Disk for MemDisk {
         ensures faults { fault_count_of self.new ≡ (if will_fail Kind.Read self.old then raised (fault_count_of self.old) else fault_count_of self.old) }
         ensures cause { HasCause (fault_count_of self.old) (fault_count_of self.new) result }
         ensures counters { counters_of self.new ≡ counted Kind.Read (counters_of self.old) }
+        ensures lost { lost_writes_of self.new ≡ lost_writes_of self.old }
         ensures plan { (part_of self.new ≡ part_of self.old) × (fails_of self.new ≡ fails_of self.old) }
     {
         if self.plan.count(Kind::Read) {
@@ -147,6 +179,7 @@ impl Disk for MemDisk {
     }
 
     /// It fails where one of the fails says so, and else for want of memory alone. The page is then as it was.
+    #[tactic(auto, using(crate::proofs::Outcomes::tears_nothing))]
     fn write(&mut self, n: u32, from: &Page) -> Result<(), DiskError>
         requires { n < page_count_of self.old }
         ensures fails { OnOk result (will_fail Kind.Write self.old ≡ false) }
@@ -156,6 +189,11 @@ impl Disk for MemDisk {
         ensures image_failed { OnErr result (TearsPage n from.now.0 (image_of_disk self.old) (image_of_disk self.new)) }
         ensures pending { OnErr result ((past_of_disk self.new ≡ past_of_disk self.old)
             ⊎ (past_of_disk self.new ≡ past_of_disk self.old ++ failed n from.now.0 0 (last_of (past_of_disk self.old)) ∷ [])) }
+
+        // A write that one of the fails says fails is pending. Any other failure leaves the disk as it was.
+        ensures trace { will_fail Kind.Write self.old ≡ true → LeavesTrace n from.now.0 self.old self.new }
+        ensures no_trace { will_fail Kind.Write self.old ≡ false → OnErr result (past_of_disk self.new ≡ past_of_disk self.old) }
+        ensures lost { will_fail Kind.Write self.old ≡ false → lost_writes_of self.new ≡ lost_writes_of self.old }
         ensures page_stays { OnErr result (image_of_disk self.new ≡ image_of_disk self.old) }
         ensures error { result ≢ Err DiskError.Memory }
         ensures pages { page_count_of self.new ≡ page_count_of self.old }
@@ -165,7 +203,7 @@ impl Disk for MemDisk {
         ensures plan { (part_of self.new ≡ part_of self.old) × (fails_of self.new ≡ fails_of self.old) }
     {
         if self.plan.count(Kind::Write) {
-            let _ = self.store.fail_write(n, from);
+            self.leave_trace(n, from);
             return Err(self.fault());
         }
         match self.store.write(n, from) {
@@ -174,9 +212,9 @@ impl Disk for MemDisk {
         }
     }
 
-    /// It fails where one of the fails says so, and else for want of memory alone.
+    /// It fails exactly where one of the fails says so.
     fn sync(&mut self) -> Result<(), DiskError>
-        ensures fails { OnOk result (will_fail Kind.Sync self.old ≡ false) }
+        ensures fails { result ≡ (if will_fail Kind.Sync self.old then Err DiskError.Failed else Ok tt) }
         ensures past { OnOk result (past_of_disk self.new ≡ past_of_disk self.old ++ settled (last_of (past_of_disk self.old)) ∷ []) }
         ensures image { image_of_disk self.new ≡ image_of_disk self.old }
         ensures past_failed { OnErr result (past_of_disk self.new ≡ past_of_disk self.old) }
@@ -185,26 +223,25 @@ impl Disk for MemDisk {
         ensures faults { fault_count_of self.new ≡ (if is_ok result then fault_count_of self.old else raised (fault_count_of self.old)) }
         ensures cause { HasCause (fault_count_of self.old) (fault_count_of self.new) result }
         ensures counters { counters_of self.new ≡ counted Kind.Sync (counters_of self.old) }
+        ensures lost { lost_writes_of self.new ≡ lost_writes_of self.old }
         ensures plan { (part_of self.new ≡ part_of self.old) × (fails_of self.new ≡ fails_of self.old) }
     {
         if self.plan.count(Kind::Sync) {
             return Err(self.fault());
         }
-        match self.store.sync() {
-            Ok(()) => Ok(()),
-            Err(_) => Err(self.fault()),
-        }
+        self.store.sync();
+        Ok(())
     }
 
     fn faults(&self) -> u64 {
         self.faults
     }
 
-    ghost has_pages = { λ disk _. whole_of disk.store.count _ disk.store.calls.items disk.store.sound.whole };
+    ghost has_pages = { λ disk _. whole_of disk.store.count disk.store.slots.items disk.store.past.states disk.store.current };
 
     ghost reads_now = { λ _ _. refl };
 
-    ghost reads_crash = { λ disk _. reads_crash_of _ disk.store.calls.items };
+    ghost reads_crash = { λ disk _. reads_crash_of disk.store.count disk.store.slots.items disk.store.past.states disk.store.current };
 
-    ghost has_state = { λ disk _. has_state_of _ disk.store.calls.items };
+    ghost has_state = { λ disk _. disk.store.begun };
 }

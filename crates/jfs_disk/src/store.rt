@@ -1,46 +1,54 @@
 //! What a disk in memory keeps.
 
-ghost use Rattle.std.specs.Prelude.{◌≡◌, ◌<◌, IfOk, length, set, vec_len};
-ghost use Rattle.std.specs.Ordering.{nat_cmp};
-ghost use Rattle.std.specs.BTreeMap.{get};
-ghost use Rattle.jfs_disk.specs.Cells.{IsSound, numbers, starts, nows};
-ghost use Rattle.jfs_disk.specs.Left.{AreSettled};
+ghost use Rattle.std.specs.Prelude.{◌≡◌, ◌<◌, ◌≤◌, length, vec_len};
+ghost use Rattle.std.specs.Vec.{vec_capacity};
+ghost use Rattle.jfs_disk.specs.Crash.{last_of};
+ghost use Rattle.jfs_disk.specs.Table.{state_in};
 
-use crate::call::{Call, Cell};
-use crate::choice::{Choice, settle};
-use crate::page::{Page, boxed, copy_page};
+use crate::choice::Choice;
+use crate::page::Page;
+use crate::past::{Event, Past};
+use crate::slot::PageSlot;
+use crate::table::{fail_place, lengthen, read_place, settle_all, write_place};
 use std::alloc::{AllocError, Global};
-use std::collections::BTreeMap;
 
-/// The pages that were written, and the calls since the start.
+/// So many pages: a place for each up to the last one that was written, and a slot where it was. A part that was cut off
+/// has room for the places of all pages of the disk that it came from, so that a join takes no memory.
 #[derive(Drop)]
 pub struct Store {
     alloc: Global,
     count: u32,
-    cells: Vec<Cell>,
-    index: BTreeMap<u32, usize>,
-    calls: Vec<Call>,
-    ghost sound: { IsSound count (numbers cells.items) (starts cells.items) (nows cells.items) (λ n. get nat_cmp index n) calls.items },
+    room: u32,
+    slots: Vec<Option<Box<PageSlot>>>,
+    past: Past,
+    ghost within: { length slots.items ≤ count },
+    ghost reserved: { room ≤ vec_capacity slots },
+    ghost current: { last_of past.states ≡ state_in count slots.items },
+    ghost begun: { 0 < length past.states },
 }
 
 impl Store {
-    ghost use Rattle.std.specs.Prelude.{◌++◌, ◌∷◌, [], OnOk, OnErr, Some, None};
+    ghost use Rattle.std.specs.Prelude.{◌++◌, ◌∷◌, ◌+◌, ◌-◌, [], map, take, drop, max, OnOk, OnErr, IfOk, IfErr, ℕ};
     ghost use Rattle.jfs_disk.specs.Image.{zeros, page_of};
-    ghost use Rattle.jfs_disk.specs.Crash.{seen_of, last_of, written, failed, settled, at_rest};
+    ghost use Rattle.jfs_disk.specs.Crash.{DiskState, seen_of, written, failed, settled, at_rest};
     ghost use Rattle.jfs_disk.specs.Choice.{IsChosen};
+    ghost use Rattle.jfs_disk.specs.Cut.{joined};
     ghost use Rattle.jfs_disk.specs.Store.{past_in};
 
     /// A disk of so many pages of zeros.
     pub fn new(alloc: Global, count: u32) -> Self
         ensures count { result.count ≡ count }
+        ensures room { result.room ≡ 0 }
         ensures past { past_in result ≡ at_rest (zeros count) ∷ [] }
     {
+        let slots = Vec::new(alloc);
+        let past = Past::new().then(&Event::Began(count, slots.as_slice()));
         Store {
             alloc,
             count,
-            cells: Vec::new(alloc),
-            index: BTreeMap::new(alloc),
-            calls: Vec::new(alloc),
+            room: 0,
+            slots,
+            past,
         }
     }
 
@@ -54,107 +62,77 @@ impl Store {
         requires { n < self.now.count }
         ensures { into.new.0 ≡ page_of (seen_of (last_of (past_in self.now))) n }
     {
-        match self.index.get(&n) {
-            Some(place) => copy_page(&self.cells[*place].held, into),
-            None => *into = Page::zeros(),
+        let place = n as usize;
+        if place < self.slots.len() {
+            read_place(&self.slots[place], into);
+        } else {
+            *into = Page::zeros();
         }
     }
 
-    /// The place of a page, which is given one if it has none.
-    fn place(&mut self, n: u32) -> Result<usize, AllocError>
+    /// There is a place for page `n`.
+    fn make_place(&mut self, n: u32) -> Result<(), AllocError>
+        requires { n < self.old.count }
         ensures count { self.new.count ≡ self.old.count }
+        ensures room { self.new.room ≡ self.old.room }
         ensures past { past_in self.new ≡ past_in self.old }
-        ensures calls { self.new.calls ≡ self.old.calls }
-        ensures place { IfOk result (λ place. get nat_cmp self.new.index n ≡ Some place) }
+        ensures place { OnOk result (n < length self.new.slots.items) }
     {
-        match self.index.get(&n) {
-            Some(place) => Ok(*place),
-            None => self.add(n),
+        let len = n as usize + 1;
+        if self.slots.len() < len {
+            let more = len - self.slots.len();
+            self.slots.reserve(more)?;
+            lengthen(&mut self.slots, more);
         }
-    }
-
-    fn add(&mut self, n: u32) -> Result<usize, AllocError>
-        requires { get nat_cmp self.old.index n ≡ None }
-        ensures count { self.new.count ≡ self.old.count }
-        ensures past { past_in self.new ≡ past_in self.old }
-        ensures calls { self.new.calls ≡ self.old.calls }
-        ensures place { IfOk result (λ place. get nat_cmp self.new.index n ≡ Some place) }
-    {
-        let place = self.cells.len();
-        self.cells.push(Cell {
-            page: n,
-            start: Box::new(self.alloc, Page::zeros())?,
-            held: Box::new(self.alloc, Page::zeros())?,
-        })?;
-        match self.index.insert(n, place) {
-            Ok(_) => Ok(place),
-            Err(_) => {
-                self.cells.pop();
-                Err(AllocError)
-            }
-        }
+        Ok(())
     }
 
     pub fn write(&mut self, n: u32, from: &Page) -> Result<(), AllocError>
         requires { n < self.old.count }
         ensures count { self.new.count ≡ self.old.count }
+        ensures room { self.new.room ≡ self.old.room }
         ensures past { OnOk result (past_in self.new ≡ past_in self.old ++ written n from.now.0 (last_of (past_in self.old)) ∷ []) }
         ensures err { OnErr result (past_in self.new ≡ past_in self.old) }
     {
-        let place = self.place(n)?;
-        let bytes = boxed(self.alloc, from)?;
-        self.calls.push(Call::Wrote(n, bytes))?;
-        keep(&mut self.cells, place, from);
+        self.make_place(n)?;
+        write_place(&mut self.slots[n as usize], self.alloc, from)?;
+        self.past = self.past.then(&Event::Wrote(n, from));
         Ok(())
     }
 
     pub fn fail_write(&mut self, n: u32, from: &Page) -> Result<(), AllocError>
         requires { n < self.old.count }
         ensures count { self.new.count ≡ self.old.count }
+        ensures room { self.new.room ≡ self.old.room }
         ensures past { OnOk result (past_in self.new ≡ past_in self.old ++ failed n from.now.0 0 (last_of (past_in self.old)) ∷ []) }
         ensures err { OnErr result (past_in self.new ≡ past_in self.old) }
     {
-        self.place(n)?;
-        let bytes = boxed(self.alloc, from)?;
-        self.calls.push(Call::WriteFailed(n, bytes))?;
+        self.make_place(n)?;
+        fail_place(&mut self.slots[n as usize], self.alloc, from)?;
+        self.past = self.past.then(&Event::WriteFailed(n, from));
         Ok(())
     }
 
     /// A crash leaves each page as its first choice says. From then on that is stable.
     pub fn crash(&mut self, choices: &[Choice])
         ensures count { self.new.count ≡ self.old.count }
+        ensures room { self.new.room ≡ self.old.room }
         ensures chosen { IsChosen choices.now (last_of (past_in self.old)) (seen_of (last_of (past_in self.new))) }
         ensures past { past_in self.new ≡ at_rest (seen_of (last_of (past_in self.new))) ∷ [] }
     {
-        settle_all(&mut self.cells, self.calls.as_slice(), choices);
-        self.calls.clear();
+        let _count = self.count;
+        settle_all(&mut self.slots, choices);
+        self.past = Past::new().then(&Event::Began(self.count, self.slots.as_slice()));
     }
 
-    pub fn sync(&mut self) -> Result<(), AllocError>
+    /// It takes no memory.
+    pub fn sync(&mut self)
         ensures count { self.new.count ≡ self.old.count }
-        ensures past { OnOk result (past_in self.new ≡ past_in self.old ++ settled (last_of (past_in self.old)) ∷ []) }
-        ensures err { OnErr result (past_in self.new ≡ past_in self.old) }
+        ensures room { self.new.room ≡ self.old.room }
+        ensures past { past_in self.new ≡ past_in self.old ++ settled (last_of (past_in self.old)) ∷ [] }
     {
-        self.calls.push(Call::Synced)?;
-        Ok(())
+        let _count = self.count;
+        settle_all(&mut self.slots, &[]);
+        self.past = self.past.then(&Event::Synced);
     }
-}
-
-fn settle_all(cells: &mut Vec<Cell>, calls: &[Call], choices: &[Choice])
-    ensures { AreSettled choices.now calls.now cells.old.items cells.new.items }
-{
-    for cell in cells.iter_mut() {
-        settle(cell, calls, choices);
-    }
-}
-
-/// From now on a read of the page at this place gives these bytes.
-fn keep(cells: &mut Vec<Cell>, place: usize, from: &Page)
-    requires { place < vec_len cells.old }
-    ensures pages { numbers cells.new.items ≡ numbers cells.old.items }
-    ensures starts { starts cells.new.items ≡ starts cells.old.items }
-    ensures nows { nows cells.new.items ≡ set (nows cells.old.items) place from.now.0 }
-{
-    let cell = &mut cells[place];
-    copy_page(from, &mut cell.held);
 }

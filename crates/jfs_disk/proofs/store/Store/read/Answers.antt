@@ -1,27 +1,20 @@
-use Rattle.std.proofs.Common.{◌≡◌, ◌∙◌, sym, ap, arith, Option, Some, None, nat_cmp, ℕ}
-use Rattle.std.specs.BTreeMap.{get}
-use Rattle.jfs_disk.specs.Cells.{bytes_of, nows}
-use Rattle.jfs_disk.proofs.Cells.{page_of-now, bytes_of-cell, placed-there}
+use Rattle.std.proofs.Common.{ap, sym, ◌∙◌, None, arith}
+use Rattle.std.proofs.Math.ListN.{get_or-eq_default}
+use Rattle.std.proofs.lemmas.List.{get_or_read}
+use Rattle.jfs_disk.specs.Table.{page_in}
+use Rattle.jfs_disk.proofs.Tables.{page_of-table}
 use Rattle.jfs_disk.proofs.store.Store.read.Goals as goal
 
-pub index-requires : goal.index-requires
-index-requires c =
-    let s = c.args.self.now in
-    let found : get nat_cmp s.index c.args.n ≡ Some c.in-Some.place.now = sym c.in-Some.ensures.value in
-    let there = placed-there s.cells.items c.in-Some.place.now c.args.n (s.sound.places c.args.n c.in-Some.place.now found) in
-    omega (arith, there, s.cells.ok)
+pub returns-then-place-len : goal.returns-then-place-len
+returns-then-place-len c =
+    let store = c.args.self.now in
+    c.read_place.ensures
+    ∙ ap (λ place. (page_in place).seen) (get_or_read store.slots.items c.args.n c.index.result.now (omega (arith, c.if-place-len.true, store.slots.ok)) c.index.ensures None)
+    ∙ sym (page_of-table store.count store.slots.items store.past.states c.args.n store.current c.requires)
 
-pub returns-in-Some : goal.returns-in-Some
-returns-in-Some c =
-    let s = c.args.self.now in
-    let found : get nat_cmp s.index c.args.n ≡ Some c.in-Some.place.now = sym c.in-Some.ensures.value in
-    let there = placed-there s.cells.items c.in-Some.place.now c.args.n (s.sound.places c.args.n c.in-Some.place.now found) in
-    c.copy_page.ensures.bytes ∙ ap (λ page. page.0) c.deref.ensures
-    ∙ sym (page_of-now s.count _ _ _ _ _ c.args.n s.sound c.requires
-    ∙ bytes_of-cell s.cells.items (get nat_cmp s.index c.args.n) c.in-Some.place.now c.index.result.now found there c.index.ensures)
-
-pub returns-in-None : goal.returns-in-None
-returns-in-None c =
-    let s = c.args.self.now in
-    let none : get nat_cmp s.index c.args.n ≡ None = sym c.in-None.ensures.value in
-    c.zeros.ensures ∙ sym (page_of-now s.count _ _ _ _ _ c.args.n s.sound c.requires ∙ ap (λ (o : Option ℕ). bytes_of (nows s.cells.items) o) none)
+pub returns-else-place-len : goal.returns-else-place-len
+returns-else-place-len c =
+    let store = c.args.self.now in
+    c.zeros.ensures
+    ∙ ap (λ place. (page_in place).seen) (sym (get_or-eq_default store.slots.items None (omega (arith, c.if-place-len.false, store.slots.ok))))
+    ∙ sym (page_of-table store.count store.slots.items store.past.states c.args.n store.current c.requires)

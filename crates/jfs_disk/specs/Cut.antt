@@ -1,0 +1,7 @@
+-- A disk that is cut into two parts, and joined again.
+use Rattle.std.specs.Prelude.{List, [], ◌++◌, map, get_or}
+use Rattle.jfs_disk.specs.Crash.{DiskState, last_of}
+
+-- The low part's states, then the high part's: each beside the other part, as it was at its start or is at its end.
+abbrev pub joined : List DiskState → List DiskState → List DiskState
+joined low high = map (λ (state : DiskState). state ++ get_or high 0 []) low ++ map (λ (state : DiskState). last_of low ++ state) high

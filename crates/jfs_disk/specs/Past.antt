@@ -1,0 +1,16 @@
+-- The states of a disk in memory.
+use Rattle.std.specs.Prelude.{List, [], ◌∷◌, ◌++◌, map, take, drop}
+use Rattle.jfs_disk.specs.Crash.{DiskState, written, failed, settled, last_of}
+use Rattle.jfs_disk.specs.Cut.{joined}
+use Rattle.jfs_disk.specs.Table.{state_in}
+use Rattle.jfs_disk.specs.declared.past.Event.{Event}
+use Rattle.jfs_disk.specs.declared.past.Event.TheVariants.{Began, Wrote, WriteFailed, Synced, Low, High, Joined}
+
+abbrev pub after_event : Event → List DiskState → List DiskState
+after_event (Began count slots) past = state_in count slots.now ∷ []
+after_event (Wrote n page) past = past ++ written n page.now.0 (last_of past) ∷ []
+after_event (WriteFailed n page) past = past ++ failed n page.now.0 0 (last_of past) ∷ []
+after_event Synced past = past ++ settled (last_of past) ∷ []
+after_event (Low at) past = map (λ (state : DiskState). take at state) past
+after_event (High at) past = map (λ (state : DiskState). drop at state) past
+after_event (Joined high) past = joined past high.now.states

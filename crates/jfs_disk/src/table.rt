@@ -1,0 +1,97 @@
+//! The places of the pages of a disk in memory.
+
+ghost use Rattle.std.specs.Prelude.{◌≡◌, ◌<◌, ◌≤◌, ◌+◌, ◌^◌, ◌++◌, length, replicate, OnOk, OnErr, None, vec_len};
+ghost use Rattle.std.specs.Vec.{vec_capacity};
+ghost use Rattle.jfs_disk.specs.Crash.{page_written, page_failed};
+ghost use Rattle.jfs_disk.specs.Choice.{choice_of};
+ghost use Rattle.jfs_disk.specs.Table.{page_in};
+ghost use Rattle.jfs_disk.specs.Settled.{settled_by, AreSettled};
+
+use crate::choice::{Choice, find_choice};
+use crate::page::{Page, copy_page};
+use crate::slot::PageSlot;
+use std::alloc::{AllocError, Global};
+
+/// Adds so many places without a slot. It takes no memory.
+pub fn lengthen(slots: &mut Vec<Option<Box<PageSlot>>>, more: usize)
+    requires { vec_len slots.old + more ≤ vec_capacity slots.old }
+    ensures items { slots.new.items ≡ slots.old.items ++ replicate more None }
+    ensures capacity { vec_capacity slots.old ≤ vec_capacity slots.new }
+{
+    for _ in 0..more {
+        let _ = slots.push(None);
+    }
+}
+
+/// What a read of a page gives.
+pub fn read_place(place: &Option<Box<PageSlot>>, into: &mut Page)
+    ensures { into.new.0 ≡ (page_in place.now).seen }
+{
+    match place {
+        Some(slot) => copy_page(slot.seen(), into),
+        None => *into = Page::zeros(),
+    }
+}
+
+/// A write of a page that succeeded.
+pub fn write_place(
+    place: &mut Option<Box<PageSlot>>,
+    alloc: Global,
+    from: &Page,
+) -> Result<(), AllocError>
+    ensures ok { OnOk result (page_in place.new ≡ page_written from.now.0 (page_in place.old)) }
+    ensures err { OnErr result (page_in place.new ≡ page_in place.old) }
+{
+    match place {
+        Some(slot) => slot.write(from),
+        None => {
+            let mut slot = PageSlot::new(alloc, &Page::zeros())?;
+            slot.write(from)?;
+            *place = Some(Box::new(alloc, slot)?);
+            Ok(())
+        }
+    }
+}
+
+/// A write of a page that failed, and left the page as it was.
+pub fn fail_place(
+    place: &mut Option<Box<PageSlot>>,
+    alloc: Global,
+    from: &Page,
+) -> Result<(), AllocError>
+    ensures ok { OnOk result (page_in place.new ≡ page_failed from.now.0 0 (page_in place.old)) }
+    ensures err { OnErr result (page_in place.new ≡ page_in place.old) }
+{
+    match place {
+        Some(slot) => slot.fail(from, 0),
+        None => {
+            let mut slot = PageSlot::new(alloc, &Page::zeros())?;
+            slot.fail(from, 0)?;
+            *place = Some(Box::new(alloc, slot)?);
+            Ok(())
+        }
+    }
+}
+
+/// Each page is what a crash leaves of it by its first choice, with nothing pending.
+pub fn settle_all(slots: &mut Vec<Option<Box<PageSlot>>>, choices: &[Choice])
+    requires { length slots.old.items < 2 ^ 32 }
+    ensures settled { AreSettled choices.now (length slots.old.items) slots.old.items slots.new.items }
+    ensures capacity { vec_capacity slots.new ≡ vec_capacity slots.old }
+{
+    for n in 0..slots.len() {
+        settle_place(&mut slots[n], find_choice(choices, n as u32));
+    }
+}
+
+fn settle_place(place: &mut Option<Box<PageSlot>>, choice: Option<Choice>)
+    ensures { page_in place.new ≡ settled_by choice (page_in place.old) }
+{
+    match place {
+        Some(slot) => match choice {
+            Some(_) => slot.crash(choice),
+            None => slot.settle(),
+        },
+        None => {}
+    }
+}
