@@ -4,6 +4,6 @@ pub mod Tearing
 pub mod Flow
 pub mod WriteThenSync
 pub mod Slots
-pub mod Chosen
+pub mod Crashed
 pub mod Tables
 pub mod Walks

@@ -15,7 +15,7 @@ use Rattle.jfs_disk.specs.TableLaw.{history-state_in, length-state_in}
 use Rattle.jfs_disk.specs.Settled.{settled_by, AreSettled}
 use Rattle.jfs_disk.specs.declared.choice.Choice.{Choice}
 use Rattle.jfs_disk.specs.declared.slot.PageSlot.{PageSlot}
-use Rattle.jfs_disk.proofs.Chosen.{left_by-resting}
+use Rattle.jfs_disk.proofs.Crashed.{left_by-resting}
 use Rattle.jfs_disk.proofs.Outcomes.{last_of-push}
 
 abbrev pub Places : Type 0

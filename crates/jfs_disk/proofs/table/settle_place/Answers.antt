@@ -3,7 +3,7 @@ use Rattle.std.specs.Prelude.{replicate}
 use Rattle.jfs_disk.specs.Crash.{PageHistory, resting}
 use Rattle.jfs_disk.specs.Table.{page_in}
 use Rattle.jfs_disk.specs.Settled.{settled_by}
-use Rattle.jfs_disk.proofs.Chosen.{left_by-resting}
+use Rattle.jfs_disk.proofs.Crashed.{left_by-resting}
 use Rattle.jfs_disk.proofs.table.settle_place.Goals as goal
 
 pub returns-in-None : goal.returns-in-None

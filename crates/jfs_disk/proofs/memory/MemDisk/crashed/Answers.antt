@@ -1,5 +1,5 @@
 use Rattle.jfs_disk.specs.TableLaw.{reads_crash_of}
-use Rattle.jfs_disk.proofs.Chosen.{IsCrashImage-chosen}
+use Rattle.jfs_disk.proofs.Crashed.{IsCrashImage-chosen}
 use Rattle.jfs_disk.proofs.memory.MemDisk.crashed.Goals as goal
 
 pub returns-clause-crash : goal.returns-clause-crash
