@@ -18,6 +18,9 @@ impl Model for Past {
     ghost also_owns = { λ _. ftrue };
 }
 
+// It owns nothing.
+unsafe impl Send for Past {}
+
 /// What happened to a disk.
 #[derive(Clone, Copy)]
 pub enum Event<'a> {
