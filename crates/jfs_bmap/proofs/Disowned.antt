@@ -42,33 +42,42 @@ cleared-free b set within free =
     same true t h = sym (h refl)
     same false t h = refl
 
--- the busy blocks after the owner of a block more was taken
-pub busy-next : (first k : ℕ) (set : List Bool) (b : ℕ) (busy : Bool) → first + (k + 1) ≤ length set → (is_in_run (first + k) 1 b && taken_at (cleared first k set) b || (is_in_run first k b && taken_at set b || busy)) ≡ (is_in_run first (k + 1) b && taken_at set b || busy)
-busy-next first k set b busy within =
-    rw (taken_at-cleared first k set b (omega arith), ← run_next first k b) (both (is_in_run first k b) (is_in_run (first + k) 1 b) (taken_at set b) busy)
-  where
-    both : (x y t busy : Bool) → (y && (not x && t) || (x && t || busy)) ≡ ((x || y) && t || busy)
-    both true true true busy = refl
-    both true true false busy = refl
-    both true false true busy = refl
-    both true false false busy = refl
-    both false true true busy = refl
-    both false true false busy = refl
-    both false false t busy = refl
+-- ---- the blocks that are still held
 
--- a run all of which is taken
-pub full_busy : (taken : ℕ → Bool) (first n b : ℕ) (busy : Bool) → is_full taken first n ≡ true → (is_in_run first n b || busy) ≡ (is_in_run first n b && taken b || busy)
-full_busy taken first n b busy full = same (is_in_run first n b) (taken b) (λ h. full_block taken first n b full h)
+-- after the owner of a block more was taken
+pub held-next : (first k : ℕ) (set : List Bool) (b : ℕ) (held : Bool) → first + (k + 1) ≤ length set → (not (is_in_run (first + k) 1 b && taken_at (cleared first k set) b) && (not (is_in_run first k b && taken_at set b) && held)) ≡ (not (is_in_run first (k + 1) b && taken_at set b) && held)
+held-next first k set b held within =
+    rw (taken_at-cleared first k set b (omega arith), ← run_next first k b) (both (is_in_run first k b) (is_in_run (first + k) 1 b) (taken_at set b))
   where
-    same : (x t : Bool) → (x ≡ true → t ≡ true) → (x || busy) ≡ (x && t || busy)
+    both : (x y t : Bool) → (not (y && (not x && t)) && (not (x && t) && held)) ≡ (not ((x || y) && t) && held)
+    both true true true = refl
+    both true true false = refl
+    both true false t = refl
+    both false true true = refl
+    both false true false = refl
+    both false false t = refl
+
+-- of a run all of which is taken
+pub full_held : (taken : ℕ → Bool) (first n b : ℕ) (held : Bool) → is_full taken first n ≡ true → (not (is_in_run first n b) && held) ≡ (not (is_in_run first n b && taken b) && held)
+full_held taken first n b held full = same (is_in_run first n b) (taken b) (λ h. full_block taken first n b full h)
+  where
+    same : (x t : Bool) → (x ≡ true → t ≡ true) → (not x && held) ≡ (not (x && t) && held)
     same true t h = rw (h refl) refl
     same false t h = refl
 
--- no block of an empty run
-pub none_busy : (first b : ℕ) (t busy : Bool) → busy ≡ (is_in_run first 0 b && t || busy)
-none_busy first b t busy = rw (empty_run first 0 b refl) refl
+-- of an empty run
+pub none_held : (first b : ℕ) (t held : Bool) → held ≡ (not (is_in_run first 0 b && t) && held)
+none_held first b t held = rw (empty_run first 0 b refl) refl
 
--- ---- and of their entries
+-- a block that still has its owner
+pub still_held : (first k : ℕ) (set : List Bool) (b : ℕ) (held : Bool) → first + k ≤ length set → (taken_at set b ≡ true → held ≡ true) → taken_at (cleared first k set) b ≡ true → (not (is_in_run first k b && taken_at set b) && held) ≡ true
+still_held first k set b held within is_held owned = one (is_in_run first k b) (taken_at set b) is_held (sym (taken_at-cleared first k set b within) ∙ owned)
+  where
+    one : (x t : Bool) → (t ≡ true → held ≡ true) → (not x && t) ≡ true → (not (x && t) && held) ≡ true
+    one true t h k = absurd (cc)
+    one false t h k = h k
+
+-- ---- and the entries that they wait for
 
 -- after the owner of a block more was taken
 pub entries-next : (first k : ℕ) (set : List Bool) (b entry other : ℕ) → first + (k + 1) ≤ length set → (if is_in_run (first + k) 1 b && taken_at (cleared first k set) b then entry else (if is_in_run first k b && taken_at set b then entry else other)) ≡ (if is_in_run first (k + 1) b && taken_at set b then entry else other)

@@ -1,6 +1,6 @@
 -- The lowest free run of a set of blocks, by the ranks of its control page's leaves.
 use Rattle.std.proofs.Common.{◌≡◌, ◌<◌, ◌≤◌, ◌+◌, ◌*◌, ◌/◌, ◌^◌, ℕ, suc, Bool, true, false, inl, inr, List, [], get_or, sym, refl, ap, subst, add-one, arith}
-use Rattle.std.specs.Prelude.{Option, Some, None}
+use Rattle.std.specs.Prelude.{Option, Some, None, IsTrue, is_some}
 use Rattle.std.proofs.lemmas.Bool.{cases_lt, both_ways, false_from_ne_true}
 use Rattle.std.proofs.lemmas.Nat.{pow_pos}
 use Rattle.std.proofs.lemmas.List.{get_or_read}
@@ -11,7 +11,7 @@ use Rattle.jfs_buddy.proofs.Spans.{part_of, AreRanks, rank-free, none-lowest, wh
 use Rattle.jfs_dmap.proofs.Finds.{runs_of}
 use Rattle.jfs_disk.specs.declared.page.Page.{Page}
 use Rattle.jfs_dmap.specs.Dmap.{taken_in, IsDmap}
-use Rattle.jfs_bmap.specs.Set.{IsLowest, taken_at}
+use Rattle.jfs_bmap.specs.Set.{IsLowest, HasFreeRun, taken_at}
 use Rattle.jfs_bmap.specs.Pages.{page_at, dmaps_of, taken_on, set_of, leaf_ranks, AreDmaps}
 use Rattle.jfs_bmap.proofs.OnePage.{taken_on-dmap}
 use Rattle.jfs_bmap.proofs.Views.{taken_on-past, taken_at-set_of}
@@ -88,3 +88,8 @@ on-set blocks dmaps set l2 o e h = rw e at (subst (λ (f : ℕ → Bool). IsLowe
 -- the control page has a leaf for each of at most 2 ^ 23 blocks
 pub on-within : (blocks : ℕ) (dmaps : List Page) → blocks ≤ 2 ^ 23 → IsWithin (taken_on blocks dmaps)
 on-within blocks dmaps most b free = omega (arith, free-within blocks dmaps b free)
+
+-- a run is found exactly where there is one
+pub found-run : (taken : ℕ → Bool) (l2 : ℕ) (found : Option ℕ) → IsLowest taken l2 found → (IsTrue (is_some found) → HasFreeRun taken l2) × (HasFreeRun taken l2 → IsTrue (is_some found))
+found-run taken l2 None h = (λ e. absurd (cc e), λ run. absurd (both_ways (is_free_run taken l2 run.0) (h run.0) run.1))
+found-run taken l2 (Some first) h = (λ e. (h.0, h.2), λ run. refl)

@@ -28,6 +28,10 @@ abbrev pub IsLowest : (ℕ → Bool) → ℕ → Option ℕ → Type 0
 IsLowest taken l2 None = (j : ℕ) → is_free_run taken l2 j ≡ false
 IsLowest taken l2 (Some first) = (j : ℕ) × (first ≡ j * 2 ^ l2) × (is_free_run taken l2 j ≡ true) × ((i : ℕ) → i < j → is_free_run taken l2 i ≡ false)
 
+-- some aligned run of 2 ^ l2 blocks is free
+abbrev pub HasFreeRun : (ℕ → Bool) → ℕ → Type 0
+HasFreeRun taken l2 = (j : ℕ) × (is_free_run taken l2 j ≡ true)
+
 -- how many blocks from `first` on are free, as far as `limit` of them
 pub record IsFreeFront (taken : ℕ → Bool) (first limit n : ℕ) : Type 0 where
   pub most : n ≤ limit

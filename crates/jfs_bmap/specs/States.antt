@@ -54,6 +54,10 @@ free_count m = count_below (length m.states) (λ b. is_free_state (state_of m b)
 abbrev pub busy_count : Blocks → ℕ
 busy_count m = count_below (length m.states) (λ b. is_busy_state (state_of m b))
 
+-- how many blocks have no owner: the free, the reserved and the busy ones
+abbrev pub unowned_count : Blocks → ℕ
+unowned_count m = count_below (length m.states) (λ b. not (is_owned m b))
+
 -- ---- runs of blocks
 
 -- block `b` is in one of the runs
@@ -109,6 +113,10 @@ settled_state told (Busy entry) = if nat_le entry told then Free else Busy entry
 
 abbrev pub settled : ℕ → Blocks → Blocks
 settled told m = changed (λ b s. settled_state told s) m
+
+-- the map once every busy block is settled
+abbrev pub all_settled : Blocks → Blocks
+all_settled m = changed (λ b s. if is_busy_state s then Free else s) m
 
 -- the map of a volume whose owned blocks are those that a bit map has; all others are free
 abbrev pub fresh : List ℕ → ℕ → ℕ → Blocks

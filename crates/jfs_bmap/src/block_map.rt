@@ -1,60 +1,63 @@
 //! The block map of a mounted volume.
 
-ghost use Rattle.std.specs.Prelude.{◌≡◌, ◌+◌, ◌*◌, ◌%◌, ◌^◌, ◌≤◌, length, IfOk};
-ghost use Rattle.jfs_bmap.specs.States.{fresh, free_count, busy_count, is_owned};
+ghost use Rattle.std.specs.Prelude.{◌≡◌, ◌+◌, ◌*◌, ◌%◌, ◌^◌, ◌≤◌, ◌↔◌, length, IfOk, IsTrue};
+ghost use Rattle.jfs_bmap.specs.Set.{HasFreeRun};
+ghost use Rattle.jfs_bmap.specs.States.{fresh, all_settled, free_count, busy_count, unowned_count, is_used, is_owned};
 ghost use Rattle.jfs_bmap.specs.MapFile.{AreGroups, IsMapPage};
 
+use crate::entries::Piece;
 use crate::freed::Freed;
 use crate::map_pages::MapPages;
 use jfs_disk::Page;
 use std::alloc::{AllocError, Global};
+use std::cmp::Reverse;
+use std::collections::BinaryHeap;
 use std::marker::Model;
 
 /// What each block of a volume is in use for: free, owned, reserved for an entry that is being made, or busy, that is freed by an
-/// entry that isn't durable yet. Two sets of map pages: the owned blocks, which the volume's pages tell, and all used ones, which a
-/// search passes over.
+/// entry that isn't durable yet. Three sets of map pages, each within the next: the owned blocks, which the volume's pages tell;
+/// these and the reserved ones, which is what is in use once all busy blocks are settled; and all used ones, which a search passes
+/// over.
 #[derive(Drop)]
 pub struct BlockMap {
+    pub(crate) alloc: Global,
     /// The blocks of an allocation group.
     pub(crate) agsize: u32,
     /// The blocks that have owners.
     pub(crate) owned: MapPages,
+    /// The blocks that are owned or reserved.
+    pub(crate) held: MapPages,
     /// The blocks that are owned, reserved or busy.
     pub(crate) used: MapPages,
-    /// A bit for each busy block.
-    pub(crate) busy: Vec<u8>,
-    pub(crate) busy_blocks: u32,
-    /// The entry that each busy block waits for.
-    pub(crate) entries: Vec<u64>,
-    /// The runs that entries released and that aren't settled.
-    pub(crate) freed: Vec<Freed>,
-    /// None of them was released by an entry before this one.
-    pub(crate) first_entry: u64,
+    /// The entry that each busy block waits for; no piece is made before there is room for a run.
+    pub(crate) entries: Vec<Piece>,
+    /// The runs that entries released and that aren't settled, the one of the lowest entry first.
+    pub(crate) freed: BinaryHeap<Reverse<Freed>>,
     /// How many more runs `freed` takes without memory.
     pub(crate) spare: u32,
 }
 
 impl Model for BlockMap {
-    ghost use Rattle.std.specs.Prelude.{◌≤◌, ◌+◌, length, vec_len, vec_capacity};
+    ghost use Rattle.std.specs.Prelude.{◌<◌, ◌≤◌, ◌+◌, ◌*◌, length, vec_len};
+    ghost use Rattle.std.specs.BinaryHeap.{heap_items, heap_len, heap_capacity};
     ghost use Rattle.jfs_bmap.specs.Set.{each_below};
     ghost use Rattle.jfs_bmap.specs.MapFile.{AreGroups};
     ghost use Rattle.jfs_bmap.specs.States.{Blocks};
-    ghost use Rattle.jfs_bmap.specs.Freed.{AreFrom};
-    ghost use Rattle.jfs_bmap.specs.Kept.{state_in, AreKept};
+    ghost use Rattle.jfs_bmap.specs.Kept.{Parts, state_in, AreKept};
 
     ghost Value = { Blocks };
 
     ghost view = { λ m. record {
-      states = each_below (length m.owned) (state_in m.owned m.used m.busy.items m.entries.items);
+      states = each_below (length m.owned) (state_in (record { owned = m.owned; held = m.held; used = m.used; entries = m.entries.items; heap = heap_items m.freed }));
       agsize = m.agsize;
       spare = m.spare;
     } };
 
     ghost invariant = { λ m.
-        AreKept m.owned m.used m.busy.items m.busy_blocks m.entries.items m.freed.items
-        × (vec_len m.freed + m.spare ≤ vec_capacity m.freed)
+        AreKept (record { owned = m.owned; held = m.held; used = m.used; entries = m.entries.items; heap = heap_items m.freed })
+        × (heap_len m.freed + m.spare ≤ heap_capacity m.freed)
         × AreGroups (length m.owned) m.agsize
-        × AreFrom m.first_entry m.freed.items };
+        × (0 < m.spare → length m.owned ≤ 8192 * vec_len m.entries) };
 }
 
 impl BlockMap {
@@ -73,18 +76,16 @@ impl BlockMap {
         ensures { IfOk result (λ map. map ≡ fresh set.now blocks agsize) }
     {
         let owned = MapPages::from_set(alloc, set, blocks)?;
-        let used = MapPages::from_set(alloc, set, blocks)?;
-        let busy = vec![in alloc; 0u8; 4 * blocks.div_ceil(32) as usize]?;
-        let entries = vec![in alloc; 0u64; blocks as usize]?;
+        let held = owned.copied(alloc)?;
+        let used = owned.copied(alloc)?;
         Ok(BlockMap {
+            alloc,
             agsize,
             owned,
+            held,
             used,
-            busy,
-            busy_blocks: 0,
-            entries,
-            freed: Vec::new(alloc),
-            first_entry: u64::MAX,
+            entries: Vec::new(alloc),
+            freed: BinaryHeap::new(alloc),
             spare: 0,
         })
     }
@@ -109,7 +110,28 @@ impl BlockMap {
     pub fn busy(&self) -> u32
         ensures { result ≡ busy_count self.now }
     {
-        self.busy_blocks
+        self.held.free() - self.used.free()
+    }
+
+    /// The number of blocks without an owner: those that are free, reserved or busy.
+    pub fn unowned(&self) -> u32
+        ensures { result ≡ unowned_count self.now }
+    {
+        self.owned.free()
+    }
+
+    /// Whether an aligned run of four blocks is free once every busy block is settled. Visits no busy block.
+    pub fn has_four_once_settled(&self) -> bool
+        ensures { IsTrue result ↔ HasFreeRun (is_used (all_settled self.now)) 2 }
+    {
+        self.held.find(2).is_some()
+    }
+
+    /// How many runs can be released without memory.
+    pub fn spare(&self) -> u32
+        ensures { result ≡ self.now.spare }
+    {
+        self.spare
     }
 
     /// Writes page `n` of the map's file in its canonical form, those blocks set that have owners: the map's control page, the

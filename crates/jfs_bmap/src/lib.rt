@@ -2,6 +2,8 @@
 #![tactic(auto)]
 
 mod block_map;
+mod disown;
+mod entries;
 mod freed;
 mod group;
 mod law;
@@ -10,6 +12,7 @@ mod map_pages;
 mod page_of_set;
 mod release;
 mod reserve;
+mod settle;
 
 pub use block_map::BlockMap;
 pub use law::{map_pages_agree, root_is_greatest_run};

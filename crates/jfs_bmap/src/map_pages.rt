@@ -60,6 +60,22 @@ impl MapPages {
         })
     }
 
+    /// The same pages again.
+    pub fn copied(&self, alloc: Global) -> Result<MapPages, AllocError>
+        ensures { IfOk result (λ pages. pages ≡ self.now) }
+    {
+        let mut dmaps = Vec::with_capacity(alloc, self.dmaps.len())?;
+        for dmap in &self.dmaps {
+            dmaps.push(Page(dmap.0))?;
+        }
+        Ok(MapPages {
+            blocks: self.blocks,
+            free: self.free,
+            dmaps,
+            control: Page(self.control.0),
+        })
+    }
+
     /// The number of blocks.
     pub fn blocks(&self) -> u32
         ensures value { result ≡ length self.now }

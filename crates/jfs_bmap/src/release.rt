@@ -4,9 +4,13 @@ ghost use Rattle.std.specs.Prelude.{◌≡◌, ◌<◌, ◌≤◌, ◌∷◌, []
 ghost use Rattle.jfs_bmap.specs.States.{released, settled};
 
 use crate::block_map::BlockMap;
-use crate::freed::{Freed, clip, disown, free_told};
+use crate::disown::disown;
+use crate::entries::make_pieces;
+use crate::freed::clip;
+use crate::settle::free_told;
 use jfs_bits::{Pxd, PxdList};
 use std::alloc::AllocError;
+use std::cmp::Reverse;
 
 impl BlockMap {
     /// Makes the number of runs that can be released without memory at least `n`. `Err` is want of memory; the number stays then.
@@ -15,6 +19,7 @@ impl BlockMap {
         ensures err { OnErr result (self.new ≡ self.old) }
     {
         if n > self.spare {
+            make_pieces(&mut self.entries, self.alloc, self.owned.blocks())?;
             self.freed.reserve(n as usize)?;
             self.spare = n;
         }
@@ -40,39 +45,21 @@ impl BlockMap {
         ensures { self.new ≡ released (run.now ∷ []) entry self.old }
     {
         let part = clip(run, self.owned.blocks(), entry);
-        let owned_before = self.owned.free();
-        disown(
-            &mut self.owned,
-            self.busy.as_mut_slice(),
-            self.entries.as_mut_slice(),
-            part,
-        );
-        self.busy_blocks += self.owned.free() - owned_before;
+        let entries = self.entries.as_mut_slice();
+        disown(&mut self.owned, &mut self.held, entries, part);
         self.spare -= 1;
-        self.first_entry = self.first_entry.min(entry);
-        match self.freed.push(part) {
+        match self.freed.push(Reverse(part)) {
             Ok(()) => {}
             Err(_) => unreachable!(),
         }
     }
 
-    /// Frees the blocks that entries up to and with `told` released. Takes no memory.
+    /// Frees the blocks that entries up to and with `told` released: in the time of the runs of these entries and the logarithm of
+    /// all. Takes no memory.
     pub fn settle(&mut self, told: u64)
         ensures { self.new ≡ settled told self.old }
     {
-        if told < self.first_entry {
-            return;
-        }
-        let free_before = self.used.free();
-        free_told(
-            self.freed.as_slice(),
-            self.entries.as_slice(),
-            told,
-            &mut self.used,
-            self.busy.as_mut_slice(),
-        );
-        self.busy_blocks -= self.used.free() - free_before;
-        self.freed.retain(|run| run.entry > told);
-        self.first_entry = told.saturating_add(1);
+        let entries = self.entries.as_slice();
+        free_told(&mut self.freed, entries, told, &self.held, &mut self.used);
     }
 }

@@ -113,8 +113,18 @@ impl BlockMap {
             len: n,
             addr: u64::from(first),
         })?;
-        self.used.mark(first, n);
+        self.hold(first, n);
         Ok(())
+    }
+
+    /// Reserves a free run.
+    fn hold(&mut self, first: u32, n: u32)
+        requires within { first + n ≤ length self.old.states }
+        requires free { is_free (is_used self.old) first n ≡ true }
+        ensures { self.new ≡ put_state Reserved (record { len = n; addr = first } ∷ []) self.old }
+    {
+        self.held.mark(first, n);
+        self.used.mark(first, n);
     }
 
     /// Reserves the lowest aligned run of four free blocks; None, and nothing changed, exactly where there is none.
@@ -128,7 +138,7 @@ impl BlockMap {
         ensures unchanged { IfNone result (self.new ≡ self.old) }
     {
         let first = self.used.find(2)?;
-        self.used.mark(first, 4);
+        self.hold(first, 4);
         Some(Pxd {
             len: 4,
             addr: u64::from(first),
@@ -177,6 +187,7 @@ impl BlockMap {
     {
         // A run without a block may begin past the end.
         if run.len > 0 {
+            self.held.clear(run.addr as u32, run.len);
             self.used.clear(run.addr as u32, run.len);
         }
     }

@@ -21,7 +21,7 @@ pub invariant_of-self : goal.invariant_of-self
 invariant_of-self c =
     let i = c.self.invariant in
     let run = c.args.run.now in
-    rw c.mark.ensures (own-kept c.self.inside c.args.self.now c.self.view_is i.0 run.addr run.len c.requires, i.1, rw (length-marked run.addr run.len c.self.inside.owned) i.2, i.3)
+    rw c.mark.ensures (own-kept c.self.inside c.args.self.now c.self.view_is i.0 run.addr run.len c.requires, i.1, rw (length-marked run.addr run.len c.self.inside.owned) i.2, rw (length-marked run.addr run.len c.self.inside.owned) i.3)
 
 pub returns-then-run-gt0 : goal.returns-then-run-gt0
 returns-then-run-gt0 c = rw c.mark.ensures (own-view c.self.inside c.args.self.now c.self.view_is c.self.invariant.0 c.args.run.now.addr c.args.run.now.len c.requires)

@@ -7,7 +7,7 @@ use Rattle.jfs_bmap.proofs.block_map.BlockMap.reserve_runs.Goals as goal
 use Rattle.jfs_bmap.proofs.block_map.BlockMap.reserve_runs.Goals.{then-front-gt0+in_ok-reserve_run, else-front-gt0}
 
 pub reserve_run-requires-clause-within : goal.reserve_run-requires-clause-within
-reserve_run-requires-clause-within c = omega (arith, c.free_front-front.ensures.within c.if-front-gt0.true, size-is c.self.inside c.args.self.now c.self.view_is, c.self.invariant.0.same)
+reserve_run-requires-clause-within c = omega (arith, c.free_front-front.ensures.within c.if-front-gt0.true, size-is c.self.inside c.args.self.now c.self.view_is, c.self.invariant.0.used_blocks)
 
 pub reserve_run-requires-clause-free : goal.reserve_run-requires-clause-free
 reserve_run-requires-clause-free c = (front-is c.self.inside c.args.self.now c.self.view_is c.self.invariant.0 c.args.hint c.args.n c.free_front-front.result c.free_front-front.ensures.front).free

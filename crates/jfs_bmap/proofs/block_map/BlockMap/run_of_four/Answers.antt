@@ -5,38 +5,25 @@ use Rattle.jfs_bmap.specs.States.{Reserved, Blocks, state_of}
 use Rattle.jfs_bmap.proofs.States.{in_run-at, in_list-one}
 use Rattle.jfs_bmap.proofs.Puts.{put-here}
 use Rattle.jfs_bmap.proofs.Reservations.{free-within}
-use Rattle.jfs_bmap.proofs.Opened.{size-is, found-is, found-free, reserve-kept, reserve-view}
+use Rattle.jfs_bmap.proofs.Opened.{found-is, found-free}
 use Rattle.jfs_bmap.proofs.block_map.BlockMap.run_of_four.Goals as goal
 
 pub returns-in_err-first-clause-none : goal.returns-in_err-first-clause-none
 returns-in_err-first-clause-none c = rw c.from_residual.ensures (found-is c.self.inside c.args.self.now c.self.view_is c.self.invariant.0 2 None c.in_err-first.ensures)
 
-pub mark-requires-clause-within : goal.mark-requires-clause-within
-mark-requires-clause-within c =
-    let m = c.self.inside in
+pub hold-requires-clause-within : goal.hold-requires-clause-within
+hold-requires-clause-within c =
     let value = c.args.self.now in
-    let kept = c.self.invariant.0 in
-    let free = found-free m value c.self.view_is kept 2 c.in_ok-first.first 4 (omega arith) c.in_ok-first.ensures in
-    omega (arith, free-within value c.in_ok-first.first 4 free (omega arith), size-is m value c.self.view_is, kept.same)
+    free-within value c.in_ok-first.first 4 (found-free c.self.inside value c.self.view_is c.self.invariant.0 2 c.in_ok-first.first 4 (omega arith) c.in_ok-first.ensures) (omega arith)
 
-pub invariant_of-self : goal.invariant_of-self
-invariant_of-self c =
-    let m = c.self.inside in
-    let value = c.args.self.now in
-    let i = c.self.invariant in
-    let free = found-free m value c.self.view_is i.0 2 c.in_ok-first.first 4 (omega arith) c.in_ok-first.ensures in
-    rw c.mark.ensures (reserve-kept m value c.self.view_is i.0 c.in_ok-first.first 4 free, i.1, i.2, i.3)
+pub hold-requires-clause-free : goal.hold-requires-clause-free
+hold-requires-clause-free c = found-free c.self.inside c.args.self.now c.self.view_is c.self.invariant.0 2 c.in_ok-first.first 4 (omega arith) c.in_ok-first.ensures
 
 pub returns-clause-lowest : goal.returns-clause-lowest
 returns-clause-lowest c = rw c.from.ensures (found-is c.self.inside c.args.self.now c.self.view_is c.self.invariant.0 2 (Some c.in_ok-first.first) c.in_ok-first.ensures)
 
 pub returns-clause-reserved : goal.returns-clause-reserved
-returns-clause-reserved c =
-    let m = c.self.inside in
-    let value = c.args.self.now in
-    let kept = c.self.invariant.0 in
-    let free = found-free m value c.self.view_is kept 2 c.in_ok-first.first 4 (omega arith) c.in_ok-first.ensures in
-    rw (c.from.ensures, c.mark.ensures) (reserve-view m value c.self.view_is kept c.in_ok-first.first 4 free)
+returns-clause-reserved c = rw c.from.ensures c.hold.ensures
 
 pub returns-clause-within : goal.returns-clause-within
 returns-clause-within c =
