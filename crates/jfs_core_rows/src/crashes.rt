@@ -104,8 +104,7 @@ fn is_redone(image: &PageList, n: u64, choices: &[Choice; 2]) -> bool {
 }
 
 /// Whether a crash by these choices is redone, where three entries are durable and four are taken.
-fn agrees(alloc: Global, core: &CoreState, choices: &[Choice; 2]) -> Result<bool, AllocError>
-{
+fn agrees(alloc: Global, core: &CoreState, choices: &[Choice; 2]) -> Result<bool, AllocError> {
     for n in 0..6 {
         let right = match core.crash(alloc, choices, n)? {
             Some(image) => (n == 3 || n == 4) && is_redone(&image, n, choices),
@@ -143,8 +142,7 @@ fn choice_of(page: u32, number: u32) -> Choice {
     }
 }
 
-fn all_agree(alloc: Global, core: &CoreState) -> Result<bool, AllocError>
-{
+fn all_agree(alloc: Global, core: &CoreState) -> Result<bool, AllocError> {
     for first in 0..30 {
         for second in 0..15 {
             let choices = [choice_of(0, first), choice_of(1, second)];

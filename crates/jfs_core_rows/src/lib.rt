@@ -14,6 +14,8 @@ mod crashes;
 #[cfg(test)]
 mod edits;
 #[cfg(test)]
+mod example;
+#[cfg(test)]
 mod refusals;
 #[cfg(test)]
 mod views;
