@@ -7,7 +7,7 @@ pub mod Redo
 pub mod Kept
 pub mod Writes
 pub mod Steps
-pub mod Items
+pub mod Mounting
 pub mod Pages
 pub mod Runs
 pub mod Crashes

@@ -26,6 +26,8 @@ pub record IsCrash (core : Core) (choices : List Choice) (n : ℕ) (image : Imag
   pub redone : image ≡ redone_image core low (stable_count core) n
   pub recovered : Recovered core low (stable_count core) n
 
+-- ---- page by page: for the prover
+
 -- the low part as a crash leaves it by the choices, from page n on
 abbrev pub chosen_from : List Choice → ℕ → List Block → Image
 chosen_from choices n [] = []

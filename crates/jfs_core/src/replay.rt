@@ -36,8 +36,5 @@ fn copy_at(pages: &PageList, i: usize) -> Page
     requires { i < length pages.now }
     ensures { result.0 ≡ page_of (contents pages.now) i }
 {
-    match pages.get(i) {
-        Some(page) => Page(page.0),
-        None => Page::zeros(),
-    }
+    Page(pages.as_slice()[i].0)
 }

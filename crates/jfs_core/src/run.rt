@@ -9,7 +9,7 @@ use crate::step::{RunError, Step, StepRefused};
 use std::alloc::Global;
 
 /// Takes the steps one after another, up to the first that isn't allowed in the state reached. The state is then the one
-/// before that step; so it is where a step finds no memory.
+/// before that step; so it is where memory runs out. This holds of every core, sound or not.
 pub fn run_steps(alloc: Global, core: &mut CoreState, steps: &[Step]) -> Result<(), RunError>
     requires { length steps.now ≤ 2 ^ 32 }
     ensures run { IsRun core.old steps.now result core.new }

@@ -5,7 +5,7 @@ use Rattle.jfs_disk.specs.declared.page.Page.{Page}
 use Rattle.jfs_core.specs.Core.{Core}
 use Rattle.jfs_disk.specs.Pages.{contents}
 use Rattle.jfs_core.specs.Sound.{IsSound}
-use Rattle.jfs_core.proofs.Items.{core_mounted, AreMounted-page}
+use Rattle.jfs_core.proofs.Mounting.{core_mounted, AreMounted-page}
 use Rattle.jfs_core.proofs.Steps.{sound_fresh}
 use Rattle.jfs_core.proofs.state.CoreState.new.Goals as goal
 

@@ -1,5 +1,5 @@
 use Rattle.jfs_disk.specs.Pages.{contents}
-use Rattle.jfs_core.proofs.Items.{AreMounted}
+use Rattle.jfs_core.proofs.Mounting.{AreMounted}
 use Rattle.jfs_core.proofs.state.CoreState.new.Given as goal
 
 abbrev pub invariant-loop-page : goal.invariant-loop-page
