@@ -26,7 +26,7 @@ unfolding is_taken is_taken_in field_of
 zeros-clear n b = rw (zeros-number n (4 * (b / 32)) 4, bit_at-zero (31 - b % 32)) refl
 
 -- one block is a run
-single : (taken : ℕ → Bool) (j : ℕ) → is_free taken (j * 2 ^ 0) (2 ^ 0) ≡ not (taken j)
+pub single : (taken : ℕ → Bool) (j : ℕ) → is_free taken (j * 2 ^ 0) (2 ^ 0) ≡ not (taken j)
 unfolding is_free all_below
 single taken j = let e : j * 1 + 0 ≡ j = omega arith in rw e refl
 

@@ -1,6 +1,6 @@
 //! The canonical page of an inode allocation group.
 
-ghost use Rattle.std.specs.Prelude.{◌≡◌, ◌+◌, ◌*◌, ◌/◌, ◌%◌, ◌<◌, ◌==◌, ◌||◌, ◌&&◌, not, length, get_or, if◌then◌else◌, ℕ};
+ghost use Rattle.std.specs.Prelude.{◌≡◌, ◌+◌, ◌*◌, ◌/◌, ◌%◌, ◌<◌, ◌≤◌, ◌==◌, ◌||◌, ◌&&◌, not, length, get_or, if◌then◌else◌, ℕ};
 ghost use Rattle.jfs_bits.specs.Bits.{is_taken, is_taken_in, any_below, count_below};
 ghost use Rattle.jfs_bits.specs.Descriptor.{FitsPxd};
 ghost use Rattle.jfs_iag.specs.Iag.{no_run};
@@ -111,10 +111,9 @@ pub fn has_clear_bit(word: u32) -> bool
 }
 
 /// Whether extent `e` is there and has a free inode.
-fn extent_has_free(set: &[u8], extents: &[Pxd], e: u32) -> bool
-    requires set { length set.now ≡ 512 }
-    requires extents { length extents.now ≡ 128 }
-    requires within { e < 128 }
+pub fn extent_has_free(set: &[u8], extents: &[Pxd], e: u32) -> bool
+    requires set { 4 * e + 4 ≤ length set.now }
+    requires extents { e < length extents.now }
     ensures { result ≡ has_free (is_taken set.now) (λ e. get_or extents.now e no_run) e }
 {
     is_there(extents[e as usize]) && has_clear_bit(get_u32(set, 4 * e as usize))

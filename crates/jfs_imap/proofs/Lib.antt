@@ -1,0 +1,4 @@
+pub mod Trees
+pub mod Marks
+pub mod Kept
+pub mod Changed

@@ -1,0 +1,8 @@
+//! The inode map of a mounted volume: which inodes are in use, and which inode extents are there.
+#![tactic(auto)]
+
+mod change;
+mod inode_map;
+mod summary;
+
+pub use inode_map::{InodeMap, Pick};
