@@ -17,7 +17,7 @@ use Rattle.jfs_command.specs.declared.outcome.Entry.{Entry}
 use Rattle.jfs_command.specs.declared.outcome.Outcome.{Outcome}
 use Rattle.jfs_command.specs.Status.{Kind, Finishes, Refuses, RefusesWord, ByScripts, BySink, ByDisk, ByMemory, IsOwnKind, kind_of, status_of, sink_fault_after, line_of}
 use Rattle.jfs_command.specs.Count.{Count, Stays, HasRisen}
-use Rattle.jfs_command.specs.Held.{Held, only_prints}
+use Rattle.jfs_command.specs.Held.{held_of}
 use Rattle.jfs_command.specs.Inputs.{Inputs, AreInputs}
 use Rattle.jfs_command.specs.Meaning.{Answer, EndsBy, work_of}
 use Rattle.jfs_command.specs.Meanings.{meaning_of}
@@ -41,7 +41,7 @@ own_ends run status ByDisk own came disk scripts = absurd own
 own_ends run status ByMemory own came disk scripts = absurd own
 
 -- the status of a command that ended has its cause
-pub caused : (run : Run) (command : Command) (end : End) → run.asked ≡ Ok command → EndsBy (meaning_of command run.inputs) run.held run.work run.disk run.scripts end → Ends run (status_of end) × IsBeforeSink (kind_of (status_of end))
+pub caused : (run : Run) (command : Command) (end : End) → run.asked ≡ Ok command → EndsBy (meaning_of command run.inputs) run.tells run.crashes run.held run.work run.disk run.scripts end → Ends run (status_of end) × IsBeforeSink (kind_of (status_of end))
 caused run command (Own status) asked (comes, own, disk, scripts) = own_ends run status (kind_of status) own (command, asked, comes) disk scripts
 caused run command (Stopped stops.Scripts) asked (stopped, risen, disk) = (((command, asked, stopped), risen, disk), tt)
 caused run command (Stopped stops.Disk) asked (stopped, risen, scripts) = (((command, asked, stopped), risen, scripts), tt)
@@ -122,30 +122,27 @@ pub answered : {D S K : Type 0} (d : DiskMembers D) (s : SourceMembers S) (k : S
     → Concludes k.tells (k.taken old.out) (k.taken new.out) (sink_count k old.out new.out) text status result
     → IsAnswered d s k asked now old new result outcome.history.items outcome.told.items
 answered d s k asked command is now old new outcome whole status result p is_whole is_status concludes =
-    let run = run_of d s k asked old new p.inputs p.held (work_of outcome p.left) in
+    let run = run_of d s k asked old new p.inputs p.held (work_of outcome (held_of d new.disk)) in
     let cause = caused run command outcome.end is p.ends in
     let text = concluded run k.tells (k.taken old.out) (k.taken new.out) (status_of outcome.end) result cause.0 cause.1
     (subst (λ (t : List ℕ). Concludes k.tells (k.taken old.out) (k.taken new.out) (sink_count k old.out new.out) t (status_of outcome.end) result) is_whole
     (subst (λ (t : Status). Concludes k.tells (k.taken old.out) (k.taken new.out) (sink_count k old.out new.out) whole t result) is_status concludes)) in
-    record { inputs = p.inputs; given = p.given; held = p.held; before = p.before; left = p.left; after = p.after; whole = outcome.text.items; text = text.0; put = text.1; ends = text.2.ends; prints = text.2.prints }
+    record { inputs = p.inputs; given = p.given; held = p.held; before = p.before; whole = outcome.text.items; text = text.0; put = text.1; ends = text.2.ends; prints = text.2.prints }
 
 -- words outside the grammar: nothing is done
 pub refused : {D S K : Type 0} (d : DiskMembers D) (s : SourceMembers S) (k : SinkMembers K) (asked : Result Command Usage) (word : ℕ) → asked ≡ Err (record { word = word }) → (now : Moment) (disk : D) (scripts : List S) (out later : K) (result : Status) (history : List Entry) (told : List ℕ)
     → history ≡ [] → told ≡ [] → Concludes k.tells (k.taken out) (k.taken later) (sink_count k out later) [] (statuses.Usage word) result
     → IsAnswered d s k asked now (record { disk = disk; scripts = scripts; out = out }) (record { disk = disk; scripts = scripts; out = later }) result history told
-refused {D} {S} {K} d s k asked word is now disk scripts out later result history told no_history no_told concludes =
+refused {D} {S} {K} d s k asked word is now disk scripts out later result entries numbers no_history no_told concludes =
     let old : Things D S K = record { disk = disk; scripts = scripts; out = out } in
     let new : Things D S K = record { disk = disk; scripts = scripts; out = later } in
     let inputs : Inputs = record { scripts = map s.remaining scripts; now = now } in
-    let held : Held = record { pages = d.page_count disk; image = d.image disk; past = d.past disk } in
-    let text = concluded (run_of d s k asked old new inputs held (only_prints held [])) k.tells (k.taken out) (k.taken later) (statuses.Usage word) result (is, refl, refl, refl) tt concludes in
+    let text = concluded (run_of d s k asked old new inputs (held_of d disk) (record { text = []; history = []; told = []; held = held_of d disk })) k.tells (k.taken out) (k.taken later) (statuses.Usage word) result (is, (refl, record { history = refl; told = refl; image = λ _. refl; past = λ _. refl }), refl, refl) tt concludes in
     rw (no_history, no_told) (record {
       inputs = inputs;
       given = record { number = length-map scripts s.remaining; scripts = λ _. refl; moment = refl };
-      held = held;
+      held = held_of d disk;
       before = record { pages = refl; image = λ _. refl; past = λ _. refl };
-      left = held;
-      after = record { pages = refl; image = λ _. refl; past = λ _. refl };
       whole = [];
       text = text.0;
       put = text.1;
@@ -176,7 +173,7 @@ one_command asked a b is_a is_b = let e = sym is_a ∙ is_b in cc
 pub completes : {D S K : Type 0} (d : DiskMembers D) (s : SourceMembers S) (k : SinkMembers K) (asked : Result Command Usage) (now : Moment) (old new : Things D S K) (status : Status) (history : List Entry) (told : List ℕ)
     → IsAnswered d s k asked now old new status history told → IsComplete d s k asked now old new status
 completes d s k asked now old new status history told a = λ tells sources held is_held inputs are command is_command answer says no_disk no_scripts no_sink.
-    let run = run_of d s k asked old new a.inputs a.held (record { text = a.whole; history = history; told = told; held = a.left }) in
+    let run = run_of d s k asked old new a.inputs a.held (record { text = a.whole; history = history; told = told; held = held_of d new.disk }) in
     by_kind run status (kind_of status) refl a.ends command is_command answer
     (λ (came : CameTo run status).
     let one = one_command asked came.0 command came.1 is_command in

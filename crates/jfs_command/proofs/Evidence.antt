@@ -1,5 +1,5 @@
 -- A disk that may not tell what it holds, and a page that was read of it: something that it may hold.
-use Rattle.std.proofs.Common.{◌≡◌, ◌<◌, ◌≤◌, ℕ, zero, suc, Bool, true, false, List, [], ◌∷◌, length, refl, sym, ap, ◌∙◌, arith}
+use Rattle.std.proofs.Common.{◌≡◌, ◌<◌, ◌≤◌, ℕ, zero, suc, Bool, true, false, List, [], ◌∷◌, length, refl, ap, ◌∙◌, arith}
 use Rattle.std.specs.Prelude.{nat_le}
 use Rattle.std.proofs.lemmas.Bool.{leb-true, leb-false}
 use Rattle.jfs_disk.specs.Image.{Image, page_of, ArePages}
@@ -47,11 +47,3 @@ holds_page8 d disk page pages is = chosen (nat_le 9 (d.page_count disk)) refl
       record { pages = refl; image = λ t. refl; past = λ t. refl },
       λ there. absurd (omega (arith, there, leb-false 9 (d.page_count disk) e)),
     )
-
--- a disk that shows the same holds the same
-pub still_holds : {D : Type 0} (d : Ghosts D) (old new : D) (held : Held) → IsHeld d old held → d.page_count new ≡ d.page_count old → (d.tells → d.image new ≡ d.image old) → (d.tells_crashes → d.past new ≡ d.past old) → IsHeld d new held
-still_holds d old new held is pages image past = record {
-  pages = is.pages ∙ sym pages;
-  image = λ t. is.image t ∙ sym (image t);
-  past = λ t. is.past t ∙ sym (past t);
-}

@@ -25,6 +25,13 @@ pub record Work : Type 0 where
   pub told : List ℕ
   pub held : Held
 
--- the work of a command without clients that changes nothing on the disk
-abbrev pub only_prints : Held → List ℕ → Work
-only_prints held text = record { text = text; history = []; told = []; held = held }
+-- what the disk holds by what it says of itself
+abbrev pub held_of : {D : Type 0} → Ghosts D → D → Held
+held_of d disk = record { pages = d.page_count disk; image = d.image disk; past = d.past disk }
+
+-- a command without clients that left the disk as it was, as far as that tells what a read gives and what a crash may leave
+pub record ChangesNothing (tells crashes : Type 0) (held : Held) (work : Work) : Type 0 where
+  pub history : work.history ≡ []
+  pub told : work.told ≡ []
+  pub image : tells → work.held.image ≡ held.image
+  pub past : crashes → work.held.past ≡ held.past

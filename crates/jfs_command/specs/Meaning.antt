@@ -10,7 +10,7 @@ use Rattle.jfs_command.specs.declared.outcome.End.TheVariants.{Own, Stopped}
 use Rattle.jfs_command.specs.declared.outcome.Outcome.{Outcome}
 use Rattle.jfs_command.specs.Status.{IsOwn}
 use Rattle.jfs_command.specs.Count.{Count, Stays, HasRisen}
-use Rattle.jfs_command.specs.Held.{Held, IsHeld, Work, only_prints}
+use Rattle.jfs_command.specs.Held.{Held, IsHeld, Work, held_of, ChangesNothing}
 
 -- a status of a command, and the whole text before the status's line
 pub record Answer : Type 0 where
@@ -23,24 +23,25 @@ finished text = record { status = Done; text = text }
 abbrev pub refused : Status → Answer
 refused status = record { status = status; text = [] }
 
--- Each command has one, in a file of its own.
+-- Each command has one, in a file of its own. `tells` and `crashes` say whether the disk tells what a read gives and what a crash
+-- may leave of it: nothing is known of what another disk holds afterwards.
 pub record Meaning : Type 1 where
   -- the pages that it looks at
   pub looks : Held → ℕ → Type 0
   -- its answers, each with its cause
   pub says : Held → Answer → Type 0
   -- the work that it has done where it comes to that status
-  pub does : Held → Status → Work → Type 0
+  pub does : (tells crashes : Type 0) → Held → Status → Work → Type 0
   -- the work that it may have done where it is stopped on the way
-  pub stops : Held → Work → Type 0
+  pub stops : (tells crashes : Type 0) → Held → Work → Type 0
 
 -- A command that gives one answer of each disk, has no clients and changes nothing. Only a look at a page can stop it.
 abbrev pub only_looks : (Held → ℕ → Type 0) → (Held → Answer) → Meaning
 only_looks looks answer = record {
   looks = looks;
   says = λ held a. a ≡ answer held;
-  does = λ held _ work. work ≡ only_prints held work.text;
-  stops = λ held work. ((n : ℕ) × looks held n) × (work ≡ only_prints held []);
+  does = λ tells crashes held _ work. ChangesNothing tells crashes held work;
+  stops = λ tells crashes held work. ((n : ℕ) × looks held n) × (work.text ≡ []) × ChangesNothing tells crashes held work;
 }
 
 -- two disks that are one to whoever looks at these pages alone
@@ -49,20 +50,20 @@ pub record LooksSame (looks : ℕ → Type 0) (a b : Held) : Type 0 where
   pub each : (n : ℕ) → looks n → page_of b.image n ≡ page_of a.image n
 
 -- The command comes to this status: what the disk holds says so. No other status has its cause, and no page decides that isn't looked at.
-pub record ComesTo (m : Meaning) (held : Held) (status : Status) (work : Work) : Type 0 where
+pub record ComesTo (m : Meaning) (tells crashes : Type 0) (held : Held) (status : Status) (work : Work) : Type 0 where
   pub says : m.says held (record { status = status; text = work.text })
-  pub does : m.does held status work
+  pub does : m.does tells crashes held status work
   pub looked : (other : Held) → LooksSame (m.looks held) held other → m.says other (record { status = status; text = work.text })
   pub one : (other : Held) → LooksSame (m.looks held) held other → (answer : Answer) → m.says other answer → answer.status ≡ status
 
 -- How a command ends by its meaning, with the faults of the disk and of the scripts' sources meanwhile.
-abbrev pub EndsBy : Meaning → Held → Work → Count → Count → End → Type 0
-EndsBy m held work disk scripts (Own status) = ComesTo m held status work × IsOwn status × Stays disk × Stays scripts
-EndsBy m held work disk scripts (Stopped stops.Scripts) = m.stops held work × HasRisen scripts × Stays disk
-EndsBy m held work disk scripts (Stopped stops.Disk) = m.stops held work × HasRisen disk × Stays scripts
-EndsBy m held work disk scripts (Stopped stops.Memory) = m.stops held work
+abbrev pub EndsBy : Meaning → Type 0 → Type 0 → Held → Work → Count → Count → End → Type 0
+EndsBy m tells crashes held work disk scripts (Own status) = ComesTo m tells crashes held status work × IsOwn status × Stays disk × Stays scripts
+EndsBy m tells crashes held work disk scripts (Stopped stops.Scripts) = m.stops tells crashes held work × HasRisen scripts × Stays disk
+EndsBy m tells crashes held work disk scripts (Stopped stops.Disk) = m.stops tells crashes held work × HasRisen disk × Stays scripts
+EndsBy m tells crashes held work disk scripts (Stopped stops.Memory) = m.stops tells crashes held work
 
--- what a function answers did, where it left the disk so
+-- what a function that answers so did, with what the disk then holds
 abbrev pub work_of : Outcome → Held → Work
 work_of outcome left = record { text = outcome.text.items; history = outcome.history.items; told = outcome.told.items; held = left }
 
@@ -70,6 +71,4 @@ work_of outcome left = record { text = outcome.text.items; history = outcome.his
 pub record Performs {D : Type 0} (d : Ghosts D) (m : Meaning) (old new : D) (outcome : Outcome) : Type 0 where
   pub held : Held
   pub before : IsHeld d old held
-  pub left : Held
-  pub after : IsHeld d new left
-  pub ends : EndsBy m held (work_of outcome left) (record { before = d.fault_count old; now = d.fault_count new }) (record { before = 0; now = 0 }) outcome.end
+  pub ends : EndsBy m d.tells d.tells_crashes held (work_of outcome (held_of d new)) (record { before = d.fault_count old; now = d.fault_count new }) (record { before = 0; now = 0 }) outcome.end

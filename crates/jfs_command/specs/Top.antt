@@ -13,15 +13,17 @@ use Rattle.jfs_command.specs.declared.outcome.Entry.{Entry}
 use Rattle.jfs_command.specs.declared.outcome.Outcome.{Outcome}
 use Rattle.jfs_command.specs.Status.{Kind, Finishes, Refuses, RefusesWord, ByScripts, BySink, ByDisk, ByMemory, kind_of, line_of}
 use Rattle.jfs_command.specs.Count.{Count, Stays, HasRisen}
-use Rattle.jfs_command.specs.Held.{Held, IsHeld, Work, only_prints}
+use Rattle.jfs_command.specs.Held.{Held, IsHeld, Work, held_of, ChangesNothing}
 use Rattle.jfs_command.specs.Inputs.{Inputs, AreInputs, source_faults}
 use Rattle.jfs_command.specs.Meaning.{Answer, ComesTo, EndsBy, work_of}
 use Rattle.jfs_command.specs.Meanings.{meaning_of}
 use Rattle.jfs_command.specs.Words.{scripts_asked}
 use Rattle.jfs_command.specs.Print.{IsFront, Puts}
 
--- What a status is judged by: what the words ask, what the command was given, what it did, and the faults meanwhile.
-pub record Run : Type 0 where
+-- What a status is judged by: what the disk tells, what the words ask, what the command was given and did, and the faults meanwhile.
+pub record Run : Type 1 where
+  pub tells : Type 0
+  pub crashes : Type 0
   pub asked : Result Command Usage
   pub inputs : Inputs
   pub held : Held
@@ -32,15 +34,15 @@ pub record Run : Type 0 where
 
 -- the command came to this status by itself
 abbrev pub CameTo : Run → Status → Type 0
-CameTo run status = (command : Command) × (run.asked ≡ Ok command) × ComesTo (meaning_of command run.inputs) run.held status run.work
+CameTo run status = (command : Command) × (run.asked ≡ Ok command) × ComesTo (meaning_of command run.inputs) run.tells run.crashes run.held status run.work
 
 -- it was stopped on the way
 abbrev pub WasStopped : Run → Type 0
-WasStopped run = (command : Command) × (run.asked ≡ Ok command) × (meaning_of command run.inputs).stops run.held run.work
+WasStopped run = (command : Command) × (run.asked ≡ Ok command) × (meaning_of command run.inputs).stops run.tells run.crashes run.held run.work
 
 -- no command was begun
 abbrev pub DidNothing : Run → Type 0
-DidNothing run = run.work ≡ only_prints run.held []
+DidNothing run = (run.work.text ≡ []) × ChangesNothing run.tells run.crashes run.held run.work
 
 -- The cause of a status, by its kind. Of what a run is given, one status at most has its cause beside faults and want of memory,
 -- and where a count rose no other status comes than its own or that of want of memory, which is free.
@@ -85,6 +87,8 @@ pub record Things (D S K : Type 0) : Type 0 where
 
 abbrev pub run_of : {D S K : Type 0} → DiskMembers D → SourceMembers S → SinkMembers K → Result Command Usage → Things D S K → Things D S K → Inputs → Held → Work → Run
 run_of d s k asked old new inputs held work = record {
+  tells = d.tells;
+  crashes = d.tells_crashes;
   asked = asked;
   inputs = inputs;
   held = held;
@@ -95,21 +99,19 @@ run_of d s k asked old new inputs held work = record {
 }
 
 -- The status of a run has its cause, and its text was put. Of a disk, sources or a sink that don't tell, there is something that
--- they may hold, give or have taken with which that is so.
+-- they may have held, given or taken with which that is so.
 pub record IsAnswered {D S K : Type 0} (d : DiskMembers D) (s : SourceMembers S) (k : SinkMembers K) (asked : Result Command Usage) (now : Moment)
     (old new : Things D S K) (status : Status) (history : List Entry) (told : List ℕ) : Type 0 where
   pub inputs : Inputs
   pub given : AreInputs s old.scripts now inputs
   pub held : Held
   pub before : IsHeld d old.disk held
-  pub left : Held
-  pub after : IsHeld d new.disk left
   -- the text before the status's line, and what was put of both
   pub whole : List ℕ
   pub text : List ℕ
   pub put : Puts k.tells (k.taken old.out) (k.taken new.out) text
-  pub ends : Ends (run_of d s k asked old new inputs held (record { text = whole; history = history; told = told; held = left })) status
-  pub prints : Prints (run_of d s k asked old new inputs held (record { text = whole; history = history; told = told; held = left })) status text
+  pub ends : Ends (run_of d s k asked old new inputs held (record { text = whole; history = history; told = told; held = held_of d new.disk })) status
+  pub prints : Prints (run_of d s k asked old new inputs held (record { text = whole; history = history; told = told; held = held_of d new.disk })) status text
 
 -- Where the command means an answer of what the disk holds and the sources give, and no count rises, the status is that answer's,
 -- or memory ran out. So an image that is accepted is never refused.
@@ -135,8 +137,6 @@ pub record PerformsCommand {D S : Type 0} (d : DiskMembers D) (s : SourceMembers
   pub given : AreInputs s scripts now inputs
   pub held : Held
   pub before : IsHeld d old held
-  pub left : Held
-  pub after : IsHeld d new left
-  pub ends : EndsBy (meaning_of command inputs) held (work_of outcome left)
+  pub ends : EndsBy (meaning_of command inputs) d.tells d.tells_crashes held (work_of outcome (held_of d new))
       (record { before = d.fault_count old; now = d.fault_count new })
       (record { before = source_faults s scripts; now = source_faults s later_scripts }) outcome.end
