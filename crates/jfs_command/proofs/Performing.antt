@@ -1,5 +1,5 @@
 -- What a command's function answers is what the command means.
-use Rattle.std.proofs.Common.{◌≡◌, ℕ, List, [], inl, inr, map, refl, sym, ap, ◌∙◌, arith}
+use Rattle.std.proofs.Common.{◌≡◌, ℕ, List, [], inl, inr, map, refl, sym, ap, subst, ◌∙◌, arith}
 use Rattle.std.proofs.lemmas.List.{length-map}
 use Rattle.jfs_bits.specs.declared.descriptor.Moment.{Moment}
 use Rattle.jfs_disk.specs.declared.disk.Disk.{Ghosts as DiskMembers}
@@ -46,13 +46,13 @@ any_sources m tells crashes held work disk n (Stopped stops.Scripts) (stopped, i
 any_sources m tells crashes held work disk n (Stopped stops.Disk) (stopped, risen, _) = (stopped, risen, refl)
 any_sources m tells crashes held work disk n (Stopped stops.Memory) stopped = stopped
 
-pub without_scripts : {D S : Type 0} (d : DiskMembers D) (s : SourceMembers S) (command : Command) (now : Moment) (old new : D) (scripts : List S) (outcome : Outcome)
-    → Performs d (meaning_of command (record { scripts = map s.remaining scripts; now = now })) old new outcome
+pub without_scripts : {D S : Type 0} (d : DiskMembers D) (s : SourceMembers S) (command : Command) (now : Moment) (old new : D) (scripts : List S) (outcome : Outcome) (which : Command) → command ≡ which
+    → Performs d (meaning_of which (record { scripts = map s.remaining scripts; now = now })) old new outcome
     → PerformsCommand d s command now old new scripts scripts outcome
-without_scripts d s command now old new scripts outcome p = record {
+without_scripts d s command now old new scripts outcome which is p = subst (λ (c : Command). PerformsCommand d s c now old new scripts scripts outcome) (sym is) (record {
   inputs = record { scripts = map s.remaining scripts; now = now };
   given = record { number = length-map scripts s.remaining; scripts = λ t. refl; moment = refl };
   held = p.held;
   before = p.before;
-  ends = any_sources (meaning_of command (record { scripts = map s.remaining scripts; now = now })) d.tells d.tells_crashes p.held (work_of outcome (held_of d new)) (record { before = d.fault_count old; now = d.fault_count new }) (source_faults s scripts) outcome.end p.ends;
-}
+  ends = any_sources (meaning_of which (record { scripts = map s.remaining scripts; now = now })) d.tells d.tells_crashes p.held (work_of outcome (held_of d new)) (record { before = d.fault_count old; now = d.fault_count new }) (source_faults s scripts) outcome.end p.ends;
+})

@@ -3,6 +3,7 @@ use Rattle.std.specs.Prelude.{ℕ, ◌+◌, ◌-◌, ◌/◌, ◌%◌, ◌&&◌,
 use Rattle.std.specs.List.{flat_map, list_all}
 use Rattle.std.specs.Fmt.{decimal}
 use Rattle.std.specs.Int.{w32, to_be_bytes}
+use Rattle.hex.specs.Hex.{encode_lower}
 
 -- a name, a space, a value and the line's end
 abbrev pub line : List ℕ → List ℕ → List ℕ
@@ -12,21 +13,17 @@ line name value = name ++ (32 ∷ value) ++ 10 ∷ []
 abbrev pub pair_text : ℕ → ℕ → List ℕ
 pair_text a b = decimal a ++ (32 ∷ decimal b)
 
--- a hexadecimal digit, `letter` in the place of 10
-abbrev pub hex_digit : ℕ → ℕ → ℕ
-hex_digit letter n = if nat_lt n 10 then 48 + n else letter + n - 10
-
--- the two digits of a byte
-abbrev pub hex_byte : ℕ → ℕ → List ℕ
-hex_byte letter b = hex_digit letter (b / 16) ∷ hex_digit letter (b % 16) ∷ []
-
 -- eight hexadecimal digits, in lower case
-unfoldable pub hex_text : ℕ → List ℕ
-hex_text n = flat_map (hex_byte 97) (to_be_bytes w32 n)
+abbrev pub hex_text : ℕ → List ℕ
+hex_text n = encode_lower (to_be_bytes w32 n)
 
--- a byte of a label: itself where it is visible and no `%`, else `%` and its two digits in upper case
+-- a hexadecimal digit, in upper case
+abbrev pub hex_digit : ℕ → ℕ
+hex_digit n = if nat_lt n 10 then 48 + n else 65 + n - 10
+
+-- a byte of a label: itself where it is visible and no `%`, else `%` and its two digits
 unfoldable pub label_byte : ℕ → List ℕ
-label_byte b = if nat_le 0x21 b && nat_le b 0x7E && not (b == 0x25) then b ∷ [] else 0x25 ∷ hex_byte 65 b
+label_byte b = if nat_le 0x21 b && nat_le b 0x7E && not (b == 0x25) then b ∷ [] else 0x25 ∷ hex_digit (b / 16) ∷ hex_digit (b % 16) ∷ []
 
 -- without the zeros at the end
 unfoldable pub trimmed : List ℕ → List ℕ

@@ -20,22 +20,19 @@ begins_with_dash (b ∷ bs) = b == 45
 abbrev pub is_name : List ℕ → Bool
 is_name word = is_utf8 word && not (begins_with_dash word)
 
-abbrev pub is_super : List ℕ → Bool
-is_super word = bytes_eq word (codes "super")
-
 abbrev usage : ℕ → Result Command Usage
 usage word = Err (record { word = word })
 
--- after `super`, one name
-abbrev pub after_super : List (List ℕ) → Result Command Usage
-after_super [] = usage 2
-after_super (image ∷ []) = if is_name image then Ok Super else usage 2
-after_super (image ∷ more ∷ rest) = if is_name image then usage 3 else usage 2
+-- after a command that takes an image and nothing else, one name
+abbrev pub image_alone : Command → List (List ℕ) → Result Command Usage
+image_alone command [] = usage 2
+image_alone command (image ∷ []) = if is_name image then Ok command else usage 2
+image_alone command (image ∷ more ∷ rest) = if is_name image then usage 3 else usage 2
 
 -- What the words ask for; else the first word that leaves the grammar, or the place after the last where one is missing.
 abbrev pub command_of : List (List ℕ) → Result Command Usage
 command_of [] = usage 1
-command_of (first ∷ rest) = if is_super first then after_super rest else usage 1
+command_of (first ∷ rest) = if bytes_eq first (codes "super") then image_alone Super rest else usage 1
 
 -- the words leave the grammar where it says, or memory ran out
 abbrev pub UsageIs : PathsError → Result Command Usage → Type 0

@@ -43,7 +43,7 @@ pub fn super_lines(alloc: Global, s: &Super) -> Result<Vec<u8>, AllocError>
         (s.size / 8).to_string(alloc)?.as_bytes(),
     )?;
     push_line(&mut out, b"agsize", s.agsize.to_string(alloc)?.as_bytes())?;
-    push_line(&mut out, b"flags", &hex(alloc, s.flag.0)?)?;
+    push_line(&mut out, b"flags", hex(alloc, s.flag.0)?.as_bytes())?;
     push_line(&mut out, b"state", s.state.0.to_string(alloc)?.as_bytes())?;
     let log = pair(alloc, s.logpxd.addr, s.logpxd.len.into())?;
     push_line(&mut out, b"log", log.as_bytes())?;

@@ -3,7 +3,7 @@
 ghost use Rattle.std.specs.Prelude.{◌≡◌, ◌<◌, ◌≤◌, ◌++◌, ◌∷◌, [], OnOk, IfOk, string_bytes, length};
 ghost use Rattle.std.specs.Fmt.{decimal};
 ghost use Rattle.std.specs.List.{flat_map};
-ghost use Rattle.jfs_command.specs.Text.{line, pair_text, hex_digit, hex_byte, hex_text, label_byte, label_text, trimmed};
+ghost use Rattle.jfs_command.specs.Text.{line, pair_text, hex_digit, hex_text, label_byte, label_text, trimmed};
 
 use std::alloc::{AllocError, Global};
 
@@ -26,39 +26,10 @@ pub fn pair(alloc: Global, a: u64, b: u64) -> Result<String, AllocError>
 }
 
 /// Eight hexadecimal digits.
-#[tactic(auto, unfolding(crate::specs::Text::hex_text))]
-pub fn hex(alloc: Global, n: u32) -> Result<Vec<u8>, AllocError>
-    ensures { IfOk result (λ text. text.items ≡ hex_text n) }
+pub fn hex(alloc: Global, n: u32) -> Result<String, AllocError>
+    ensures { IfOk result (λ text. string_bytes text ≡ hex_text n) }
 {
-    let mut out = Vec::with_capacity(alloc, 8)?;
-    let [first, second, third, fourth] = n.to_be_bytes();
-    push_hex_byte(&mut out, b'a', first)?;
-    push_hex_byte(&mut out, b'a', second)?;
-    push_hex_byte(&mut out, b'a', third)?;
-    push_hex_byte(&mut out, b'a', fourth)?;
-    Ok(out)
-}
-
-// The two digits of a byte, with `letter` for ten.
-fn push_hex_byte(out: &mut Vec<u8>, letter: u8, byte: u8) -> Result<(), AllocError>
-    requires { letter < 200 }
-    ensures { OnOk result (out.new.items ≡ out.old.items ++ hex_byte letter byte) }
-{
-    out.push(digit_of(letter, byte / 16))?;
-    out.push(digit_of(letter, byte % 16))?;
-    Ok(())
-}
-
-fn digit_of(letter: u8, digit: u8) -> u8
-    requires letter { letter < 200 }
-    requires digit { digit < 16 }
-    ensures { result ≡ hex_digit letter digit }
-{
-    if digit < 10 {
-        b'0' + digit
-    } else {
-        letter + digit - 10
-    }
+    hex::encode(alloc, n.to_be_bytes())
 }
 
 /// A label without its padding; a dash where nothing is left.
@@ -83,7 +54,8 @@ fn label_bytes(alloc: Global, bytes: &[u8]) -> Result<Vec<u8>, AllocError>
     Ok(out)
 }
 
-// The bytes before the zeros at the end.
+// The bytes before the zeros at the end. By hand: std trims text, and of `rposition` a run of calls is known, which
+// would have to be brought to the same lemma.
 fn without_padding(bytes: &[u8]) -> &[u8]
     ensures { result.now ≡ trimmed bytes.now }
 {
@@ -97,6 +69,7 @@ fn without_padding(bytes: &[u8]) -> &[u8]
     rest
 }
 
+// By hand: the kit's `percent_encoding` names its bytes by a mask of 128 bits, which says less than a range of bytes.
 #[tactic(auto, unfolding(crate::specs::Text::label_byte))]
 fn push_label_byte(out: &mut Vec<u8>, byte: u8) -> Result<(), AllocError>
     ensures { OnOk result (out.new.items ≡ out.old.items ++ label_byte byte) }
@@ -105,7 +78,19 @@ fn push_label_byte(out: &mut Vec<u8>, byte: u8) -> Result<(), AllocError>
         out.push(byte)?;
     } else {
         out.push(b'%')?;
-        push_hex_byte(out, b'A', byte)?;
+        out.push(digit_of(byte / 16))?;
+        out.push(digit_of(byte % 16))?;
     }
     Ok(())
+}
+
+fn digit_of(digit: u8) -> u8
+    requires { digit < 16 }
+    ensures { result ≡ hex_digit digit }
+{
+    if digit < 10 {
+        b'0' + digit
+    } else {
+        b'A' + digit - 10
+    }
 }

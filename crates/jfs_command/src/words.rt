@@ -1,8 +1,8 @@
 //! The grammar of the words. It is read by hand: there are few commands, and each refusal names its word.
 
 ghost use Rattle.std.specs.Prelude.{◌≡◌, Ok, IfOk, IfErr};
-ghost use Rattle.std.specs.Str.{is_utf8};
-ghost use Rattle.jfs_command.specs.Words.{texts, is_name, is_super, begins_with_dash, command_of, after_super, image_word, script_words, UsageIs};
+ghost use Rattle.std.specs.Str.{is_utf8, bytes_eq};
+ghost use Rattle.jfs_command.specs.Words.{texts, is_name, begins_with_dash, command_of, image_alone, image_word, script_words, UsageIs};
 
 use std::alloc::{AllocError, Global};
 
@@ -74,26 +74,26 @@ pub fn read_words(words: &[Vec<u8>]) -> Result<Command, Usage>
     ensures { result ≡ command_of (texts words.now) }
 {
     match words {
-        [first, rest @ ..] if is_super(first) => super_words(rest),
+        [first, rest @ ..] if is_word(first, b"super") => image_alone(Command::Super, rest),
         _ => Err(Usage { word: 1 }),
     }
 }
 
-// The words after `super`: one name.
-fn super_words(words: &[Vec<u8>]) -> Result<Command, Usage>
-    ensures { result ≡ after_super (texts words.now) }
+// The words after a command that takes an image and nothing else.
+fn image_alone(command: Command, words: &[Vec<u8>]) -> Result<Command, Usage>
+    ensures { result ≡ image_alone command (texts words.now) }
 {
     match words {
-        [image] if is_name(image) => Ok(Command::Super),
+        [image] if is_name(image) => Ok(command),
         [image, _, ..] if is_name(image) => Err(Usage { word: 3 }),
         _ => Err(Usage { word: 2 }),
     }
 }
 
-fn is_super(word: &[u8]) -> bool
-    ensures { result ≡ is_super word.now }
+fn is_word(word: &[u8], wanted: &[u8]) -> bool
+    ensures { result ≡ bytes_eq word.now wanted.now }
 {
-    word == b"super".as_slice()
+    word == wanted
 }
 
 // A word that may name a file: text that doesn't begin with a dash.
