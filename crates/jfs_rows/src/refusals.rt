@@ -3,7 +3,7 @@
 
 use crate::volume::{disk_with, run, sound_page};
 use jfs_command::Status;
-use jfs_disk::Page;
+use jfs_disk::{Disk, Page};
 use jfs_io::SureSink;
 
 /// A change of page 8: the place, the width in bytes, and the number that is put there.
@@ -127,5 +127,25 @@ fn accepts_what_breaks_no_rule(rt: HostRuntime) -> Result<(), std::test::Fail> {
             .ok_or("memory")?;
         assert_eq!(rt; ended.status, Status::Done);
     }
+    Ok(())
+}
+
+#[test]
+fn the_second_superblock_is_not_looked_at(rt: HostRuntime) -> Result<(), std::test::Fail> {
+    let alloc = rt.alloc();
+    let mut page = sound_page();
+    change(&mut page, &[(0, 4, 844318282)]);
+    let mut disk = disk_with(alloc, 4096, &page).ok_or("memory")?;
+    assert!(rt; disk.pages() > 15);
+    disk.write(15, &sound_page()).ok().ok_or("memory")?;
+    let mut out = SureSink::new(alloc);
+    let ended = run(&rt, alloc, &["super", "I"], disk, &mut out)
+        .ok()
+        .ok_or("memory")?;
+    assert_eq!(rt; ended.status.number(), 3);
+    assert_eq!(rt;
+        out.bytes(),
+        b"jfsd: bad image: page 8 rule magic value 844318282\n".as_slice()
+    );
     Ok(())
 }

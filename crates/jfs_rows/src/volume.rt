@@ -114,5 +114,6 @@ fn prints_the_superblock(rt: HostRuntime) -> Result<(), std::test::Fail> {
     assert_eq!(rt; ended.status, Status::Done);
     assert_eq!(rt; ended.status.number(), 0);
     assert_eq!(rt; out.bytes(), LINES.as_bytes());
+    assert!(rt; ended.history.is_empty() && ended.told.is_empty());
     Ok(())
 }
