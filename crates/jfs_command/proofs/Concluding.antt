@@ -22,7 +22,7 @@ use Rattle.jfs_command.specs.Inputs.{Inputs, AreInputs}
 use Rattle.jfs_command.specs.Meaning.{Answer, EndsBy, work_of}
 use Rattle.jfs_command.specs.Meanings.{meaning_of}
 use Rattle.jfs_command.specs.Print.{IsFront, Puts, Concludes}
-use Rattle.jfs_command.specs.Top.{Run, CameTo, EndsAs, Ends, PrintsAs, Prints, whole_text, Things, run_of, IsAnswered, IsComplete, PerformsCommand}
+use Rattle.jfs_command.specs.Top.{Run, CameTo, EndsAs, Ends, PrintsAs, Prints, whole_text, Devices, run_of, IsAnswered, IsComplete, PerformsCommand}
 
 -- ---- the cause of a status
 
@@ -117,7 +117,7 @@ concluded run tells old new status result ends before (inr (inr (same, inr (text
 abbrev sink_count : {K : Type 0} → SinkMembers K → K → K → Count
 sink_count k old new = record { before = k.fault_count old; now = k.fault_count new }
 
-pub answered : {D S K : Type 0} (d : DiskMembers D) (s : SourceMembers S) (k : SinkMembers K) (asked : Result Command Usage) (command : Command) → asked ≡ Ok command → (now : Moment) (old new : Things D S K) (outcome : Outcome) (text : List ℕ) (status result : Status)
+pub answered : {D S K : Type 0} (d : DiskMembers D) (s : SourceMembers S) (k : SinkMembers K) (asked : Result Command Usage) (command : Command) → asked ≡ Ok command → (now : Moment) (old new : Devices D S K) (outcome : Outcome) (text : List ℕ) (status result : Status)
     → PerformsCommand d s command now old.disk new.disk old.scripts new.scripts outcome → text ≡ outcome.text.items → status ≡ status_of outcome.end
     → Concludes k.tells (k.taken old.out) (k.taken new.out) (sink_count k old.out new.out) text status result
     → IsAnswered d s k asked now old new result outcome.history.items outcome.told.items
@@ -134,8 +134,8 @@ pub refused : {D S K : Type 0} (d : DiskMembers D) (s : SourceMembers S) (k : Si
     → history ≡ [] → told ≡ [] → Concludes k.tells (k.taken out) (k.taken later) (sink_count k out later) [] (statuses.Usage word) result
     → IsAnswered d s k asked now (record { disk = disk; scripts = scripts; out = out }) (record { disk = disk; scripts = scripts; out = later }) result history told
 refused {D} {S} {K} d s k asked word is now disk scripts out later result entries numbers no_history no_told concludes =
-    let old : Things D S K = record { disk = disk; scripts = scripts; out = out } in
-    let new : Things D S K = record { disk = disk; scripts = scripts; out = later } in
+    let old : Devices D S K = record { disk = disk; scripts = scripts; out = out } in
+    let new : Devices D S K = record { disk = disk; scripts = scripts; out = later } in
     let inputs : Inputs = record { scripts = map s.remaining scripts; now = now } in
     let text = concluded (run_of d s k asked old new inputs (held_of d disk) (record { text = []; history = []; told = []; held = held_of d disk })) k.tells (k.taken out) (k.taken later) (statuses.Usage word) result (is, (refl, record { history = refl; told = refl; image = λ _. refl; past = λ _. refl }), refl, refl) tt concludes in
     rw (no_history, no_told) (record {
@@ -170,7 +170,7 @@ one_inputs s scripts now a b (inr none) are_a are_b =
 one_command : (asked : Result Command Usage) (a b : Command) → asked ≡ Ok a → asked ≡ Ok b → a ≡ b
 one_command asked a b is_a is_b = let e = sym is_a ∙ is_b in cc
 
-pub completes : {D S K : Type 0} (d : DiskMembers D) (s : SourceMembers S) (k : SinkMembers K) (asked : Result Command Usage) (now : Moment) (old new : Things D S K) (status : Status) (history : List Entry) (told : List ℕ)
+pub completes : {D S K : Type 0} (d : DiskMembers D) (s : SourceMembers S) (k : SinkMembers K) (asked : Result Command Usage) (now : Moment) (old new : Devices D S K) (status : Status) (history : List Entry) (told : List ℕ)
     → IsAnswered d s k asked now old new status history told → IsComplete d s k asked now old new status
 completes d s k asked now old new status history told a = λ tells sources held is_held inputs are command is_command answer says no_disk no_scripts no_sink.
     let run = run_of d s k asked old new a.inputs a.held (record { text = a.whole; history = history; told = told; held = held_of d new.disk }) in

@@ -79,13 +79,13 @@ PrintsAs run status text ByMemory = (cause : Status) × Ends run cause × IsFron
 abbrev pub Prints : Run → Status → List ℕ → Type 0
 Prints run status text = PrintsAs run status text (kind_of status)
 
--- the disk, the sources and the sink of a run, before it and after it
-pub record Things (D S K : Type 0) : Type 0 where
+-- the devices of a run, as they are before it or after it
+pub record Devices (D S K : Type 0) : Type 0 where
   pub disk : D
   pub scripts : List S
   pub out : K
 
-abbrev pub run_of : {D S K : Type 0} → DiskMembers D → SourceMembers S → SinkMembers K → Result Command Usage → Things D S K → Things D S K → Inputs → Held → Work → Run
+abbrev pub run_of : {D S K : Type 0} → DiskMembers D → SourceMembers S → SinkMembers K → Result Command Usage → Devices D S K → Devices D S K → Inputs → Held → Work → Run
 run_of d s k asked old new inputs held work = record {
   tells = d.tells;
   crashes = d.tells_crashes;
@@ -101,7 +101,7 @@ run_of d s k asked old new inputs held work = record {
 -- The status of a run has its cause, and its text was put. Of a disk, sources or a sink that don't tell, there is something that
 -- they may have held, given or taken with which that is so.
 pub record IsAnswered {D S K : Type 0} (d : DiskMembers D) (s : SourceMembers S) (k : SinkMembers K) (asked : Result Command Usage) (now : Moment)
-    (old new : Things D S K) (status : Status) (history : List Entry) (told : List ℕ) : Type 0 where
+    (old new : Devices D S K) (status : Status) (history : List Entry) (told : List ℕ) : Type 0 where
   pub inputs : Inputs
   pub given : AreInputs s old.scripts now inputs
   pub held : Held
@@ -115,7 +115,7 @@ pub record IsAnswered {D S K : Type 0} (d : DiskMembers D) (s : SourceMembers S)
 
 -- Where the command means an answer of what the disk holds and the sources give, and no count rises, the status is that answer's,
 -- or memory ran out. So an image that is accepted is never refused.
-abbrev pub IsComplete : {D S K : Type 0} → DiskMembers D → SourceMembers S → SinkMembers K → Result Command Usage → Moment → Things D S K → Things D S K → Status → Type 0
+abbrev pub IsComplete : {D S K : Type 0} → DiskMembers D → SourceMembers S → SinkMembers K → Result Command Usage → Moment → Devices D S K → Devices D S K → Status → Type 0
 IsComplete d s k asked now old new status =
     d.tells → (s.tells ⊎ (old.scripts ≡ []))
     → (held : Held) → IsHeld d old.disk held → (inputs : Inputs) → AreInputs s old.scripts now inputs
@@ -124,7 +124,7 @@ IsComplete d s k asked now old new status =
     → (status ≡ answer.status) ⊎ (status ≡ OutOfMemory)
 
 -- the disk keeps its number of pages, sources are left alone where no word named a script, and no count falls
-pub record LeavesRest {D S K : Type 0} (d : DiskMembers D) (s : SourceMembers S) (k : SinkMembers K) (asked : Result Command Usage) (old new : Things D S K) : Type 0 where
+pub record LeavesRest {D S K : Type 0} (d : DiskMembers D) (s : SourceMembers S) (k : SinkMembers K) (asked : Result Command Usage) (old new : Devices D S K) : Type 0 where
   pub pages : d.page_count new.disk ≡ d.page_count old.disk
   pub scripts : scripts_asked asked ≡ [] → new.scripts ≡ old.scripts
   pub disk_count : d.fault_count old.disk ≤ d.fault_count new.disk
