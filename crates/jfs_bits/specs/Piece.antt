@@ -7,6 +7,9 @@ pub record Piece : Type 0 where
   pub at : ℕ
   pub bytes : List ℕ
 
+abbrev pub piece : ℕ → List ℕ → Piece
+piece at bytes = record { at = at; bytes = bytes }
+
 -- the page with each piece in its place
 unfoldable pub puts : List Piece → List ℕ → List ℕ
 puts [] page = page

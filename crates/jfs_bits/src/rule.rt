@@ -3,7 +3,7 @@
 ghost use Rattle.std.specs.Prelude.{◌≡◌, ◌≤◌, [], ◌∷◌};
 ghost use Rattle.jfs_bits.specs.Broken.{Answers};
 ghost use Rattle.jfs_bits.specs.Rule.{name_of};
-ghost use Rattle.jfs_bits.specs.Line.{l2_line};
+ghost use Rattle.jfs_bits.specs.Line.{kind_number, l2_line, line_size};
 
 /// What a page, a record or a line of a script can break: one variant for each rule name.
 #[derive(Clone, Copy, PartialEq, Eq, Debug)]
@@ -156,6 +156,13 @@ pub enum PageKind {
 }
 
 impl PageKind {
+    /// The kind's number, which is the page type of a page that isn't new.
+    pub fn number(self) -> u16
+        ensures { result ≡ kind_number self }
+    {
+        self as u16
+    }
+
     /// The logarithm of the bytes of a line, the unit of a page's ranges. (JFS Log: l2linesize.)
     pub fn l2_line(self) -> u16
         ensures value { result ≡ l2_line self }
@@ -167,5 +174,13 @@ impl PageKind {
             PageKind::Dtree => 5,
             PageKind::Index => 4,
         }
+    }
+
+    /// The bytes of a line.
+    pub fn line_size(self) -> usize
+        ensures value { result ≡ line_size self }
+        ensures most { result ≤ 128 }
+    {
+        1 << self.l2_line()
     }
 }

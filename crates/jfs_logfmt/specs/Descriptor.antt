@@ -3,7 +3,7 @@ use Rattle.std.specs.Prelude.{ℕ, List, [], ◌∷◌, replicate}
 use Rattle.byteorder.specs.Endian.{little_bytes}
 use Rattle.jfs_bits.specs.Field.{field_of}
 use Rattle.jfs_bits.specs.Descriptor.{pxd_of, pxd_bytes}
-use Rattle.jfs_bits.specs.Piece.{Piece, puts}
+use Rattle.jfs_bits.specs.Piece.{Piece, piece, puts}
 use Rattle.jfs_logfmt.specs.declared.descriptor.Descriptor.{Descriptor}
 
 -- the aggregate field, 4 bytes at 12, is not looked at
@@ -19,9 +19,6 @@ descriptor_of tail = record {
   count = field_of tail 26 2;
   at = pxd_of tail 28;
 }
-
-abbrev piece : ℕ → List ℕ → Piece
-piece at bytes = record { at = at; bytes = bytes }
 
 -- the bytes of each field, in its place
 unfoldable pub descriptor_pieces : Descriptor → List Piece

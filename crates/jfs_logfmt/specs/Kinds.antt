@@ -2,6 +2,7 @@
 use Rattle.std.specs.Prelude.{ℕ, ◌+◌, ◌==◌, Bool, true, false, [], ◌∷◌, Option, find, if◌then◌else◌}
 use Rattle.jfs_bits.specs.declared.rule.PageKind.{PageKind}
 use Rattle.jfs_bits.specs.declared.rule.PageKind.TheVariants as kinds
+use Rattle.jfs_bits.specs.Line.{kind_number}
 use Rattle.jfs_logfmt.specs.declared.kind.RecordType.{RecordType}
 use Rattle.jfs_logfmt.specs.declared.kind.RecordType.TheVariants as types
 use Rattle.jfs_logfmt.specs.declared.kind.PageType.{PageType}
@@ -16,12 +17,6 @@ type_number types.UpdateMap = 0x0008
 -- the same table the other way
 abbrev pub type_of : ℕ → Option RecordType
 type_of n = find (λ t. type_number t == n) (types.Commit ∷ types.SyncPt ∷ types.RedoPage ∷ types.NoRedoPage ∷ types.UpdateMap ∷ [])
-
-abbrev pub kind_number : PageKind → ℕ
-kind_number kinds.Inode = 1
-kind_number kinds.Xtree = 2
-kind_number kinds.Dtree = 4
-kind_number kinds.Index = 8
 
 -- with the flag NEW
 abbrev pub page_number : PageType → ℕ

@@ -2,7 +2,7 @@
 use Rattle.std.specs.Prelude.{ℕ, ◌==◌, ◌&&◌, Bool, List, [], ◌∷◌}
 use Rattle.byteorder.specs.Endian.{little_bytes}
 use Rattle.jfs_bits.specs.Field.{field_of, range_of}
-use Rattle.jfs_bits.specs.Piece.{Piece}
+use Rattle.jfs_bits.specs.Piece.{Piece, piece}
 use Rattle.jfs_logfmt.specs.declared.log_super.LogSuper.{LogSuper}
 
 -- its magic number and its version
@@ -17,9 +17,6 @@ log_super_of page = record {
   uuid = range_of page 36 16;
   label = range_of page 52 16;
 }
-
-abbrev piece : ℕ → List ℕ → Piece
-piece at bytes = record { at = at; bytes = bytes }
 
 -- magic, version, serial, size, bsize, l2bsize, flag, state, end, uuid, label
 unfoldable pub log_super_pieces : LogSuper → List Piece

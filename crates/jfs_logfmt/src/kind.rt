@@ -64,12 +64,7 @@ impl PageType {
     pub fn number(self) -> u16
         ensures { result ≡ page_number self }
     {
-        let kind = match self.kind {
-            PageKind::Inode => 1,
-            PageKind::Xtree => 2,
-            PageKind::Dtree => 4,
-            PageKind::Index => 8,
-        };
+        let kind = self.kind.number();
         if self.new_page { kind + 0x100 } else { kind }
     }
 

@@ -170,10 +170,8 @@ fn read_at_end(alloc: Global, bytes: &[u8], blocks: u32) -> Result<(Record, usiz
     }
     let start = front.len() - long;
     let (_, body) = front.split_at(start);
-    match record_of(alloc, of, d, body, blocks) {
-        Ok(r) => Ok((r, start)),
-        Err(e) => Err(e),
-    }
+    let record = record_of(alloc, of, d, body, blocks)?;
+    Ok((record, start))
 }
 
 /// Reads the record that ends where the bytes end, and where it starts.

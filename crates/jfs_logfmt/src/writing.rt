@@ -78,7 +78,7 @@ fn push_body(r: &Record, into: &mut Vec<u8>) -> Result<(), AllocError>
     ensures err { OnErr result (IsLonger into.old.items into.new.items) }
 {
     match r {
-        Record::Redo { kind, ranges, .. } => push_ranges(ranges, 1 << kind.l2_line(), into),
+        Record::Redo { kind, ranges, .. } => push_ranges(ranges, kind.line_size(), into),
         Record::Update { list, .. } => push_runs(list, into),
         Record::NoRedo { .. } | Record::Commit { .. } | Record::SyncPt { .. } => Ok(()),
     }

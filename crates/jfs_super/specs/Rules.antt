@@ -1,5 +1,5 @@
 -- The rules of a superblock, in the order in which they are looked at. (JFS Layout, and this project's profile.)
-use Rattle.std.specs.Prelude.{◌≡◌, ℕ, ◌+◌, ◌/◌, ◌%◌, ◌^◌, Bool, not, nat_le, ◌==◌, ◌&&◌, ◌||◌, List, [], ◌∷◌, ◌++◌, None}
+use Rattle.std.specs.Prelude.{◌≡◌, ℕ, ◌+◌, ◌/◌, ◌%◌, ◌^◌, Bool, not, nat_le, ◌==◌, ◌&&◌, ◌||◌, List, [], ◌∷◌, ◌++◌, None, refl}
 use Rattle.std.specs.Int.{div_ceil, is_power_of_two}
 use Rattle.std.specs.Int.RustNames.{bit_and}
 use Rattle.std.specs.List.{list_any}
@@ -8,6 +8,7 @@ use Rattle.jfs_bits.specs.declared.rule.Rule.{Rule}
 use Rattle.jfs_bits.specs.declared.rule.Rule.TheVariants as rules
 use Rattle.jfs_bits.specs.Broken.{Row, first_broken}
 use Rattle.jfs_super.specs.declared.fields.Super.{Super}
+use Rattle.jfs_super.specs.declared.fields.TheConstants.VolumeState.{CLEAN, MOUNTED, DIRTY, REDO_FAILED, EXTENDING}
 use Rattle.jfs_super.specs.declared.read.BadSuper.{BadSuper}
 
 -- a rule, the value of its field, and whether it holds
@@ -49,12 +50,20 @@ flag_rows s =
     row rules.Index s.flag.0 (not (has_flag s 0x200000)) ∷
     row rules.Compress s.compress (s.compress == 0) ∷ []
 
+-- the states of a volume, by their numbers on the disk
+abbrev pub known_states : List ℕ
+known_states = 0 ∷ 1 ∷ 2 ∷ 4 ∷ 8 ∷ []
+
+-- which state has which number
+pub states_are_numbered : (CLEAN.0 ≡ 0) × (MOUNTED.0 ≡ 1) × (DIRTY.0 ≡ 2) × (REDO_FAILED.0 ≡ 4) × (EXTENDING.0 ≡ 8)
+states_are_numbered = (refl, refl, refl, refl, refl)
+
 -- 64 to 2^23 whole blocks, at most 128 groups of a power of two, and a known state
 unfoldable pub size_rows : Super → List (Row BadSuper)
 size_rows s =
     row rules.Size s.size (s.size % 8 == 0 && nat_le 64 (blocks_of s) && nat_le (blocks_of s) (2 ^ 23)) ∷
     row rules.Agsize s.agsize (is_power_of_two s.agsize && nat_le 8192 s.agsize && nat_le (groups_of s) 128) ∷
-    row rules.State s.state.0 (list_any (λ state. state == s.state.0) (0 ∷ 1 ∷ 2 ∷ 4 ∷ 8 ∷ [])) ∷ []
+    row rules.State s.state.0 (list_any (λ state. state == s.state.0) known_states) ∷ []
 
 -- the log lies behind the blocks and within the disk; the second inode table has 4 blocks and the second inode map 2, within the blocks
 unfoldable pub log_rows : Super → ℕ → List (Row BadSuper)

@@ -3,7 +3,7 @@ use Rattle.std.specs.Prelude.{ℕ, List, [], ◌∷◌}
 use Rattle.byteorder.specs.Endian.{little_bytes}
 use Rattle.jfs_bits.specs.Field.{field_of, range_of}
 use Rattle.jfs_bits.specs.Descriptor.{pxd_of, pxd_bytes, moment_of, moment_bytes, FitsPxd}
-use Rattle.jfs_bits.specs.Piece.{Piece}
+use Rattle.jfs_bits.specs.Piece.{Piece, piece}
 use Rattle.jfs_super.specs.declared.fields.Super.{Super}
 
 abbrev pub super_of : List ℕ → Super
@@ -46,9 +46,6 @@ pub record FitsSuper (s : Super) : Type 0 where
   pub fsck : FitsPxd s.fsckpxd
   pub xfsck : FitsPxd s.xfsckpxd
   pub xlog : FitsPxd s.xlogpxd
-
-abbrev piece : ℕ → List ℕ → Piece
-piece at bytes = record { at = at; bytes = bytes }
 
 -- the bytes of each field, in its place
 unfoldable pub pieces : Super → List Piece
