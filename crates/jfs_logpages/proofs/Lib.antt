@@ -10,3 +10,6 @@ pub mod Runs
 pub mod ReadBack
 pub mod Moments
 pub mod Records
+pub mod Places
+pub mod Judged
+pub mod Answered

@@ -1,7 +1,7 @@
 -- What is read of a ring, as code names it.
-use Rattle.std.proofs.Common.{◌≡◌, ◌≤◌, ◌<◌, ◌+◌, ◌-◌, ◌/◌, ◌%◌, ℕ, suc, min, List, ◌++◌, length, take, get_or, refl, sym, ap, ◌∙◌, ◌⊎◌, inl, inr, arith, eq-eqb}
+use Rattle.std.proofs.Common.{◌≡◌, ◌≤◌, ◌<◌, ◌+◌, ◌-◌, ◌/◌, ◌%◌, ℕ, suc, min, List, ◌++◌, length, take, get_or, refl, sym, ap, subst, ◌∙◌, ◌⊎◌, inl, inr, arith, eq-eqb}
 use Rattle.std.proofs.Math.Nat.{mod-lt}
-use Rattle.std.proofs.lemmas.Bool.{cases_eq, ne_eqb}
+use Rattle.std.proofs.lemmas.Bool.{cases_eq, ne_eqb, le-leb, lt-leb}
 use Rattle.std.proofs.lemmas.List.{take-append-le, take_min}
 use Rattle.std.proofs.Math.Seq.{take-append-add}
 use Rattle.jfs_disk.specs.Image.{Image, page_of}
@@ -53,24 +53,24 @@ text-more ring image first n page text e size is =
     rw (next, is, e) refl
 
 pub end-here : (ring : ℕ) (image : Image) (first n end : ℕ) (page text : List ℕ) → page ≡ slot ring image (first + n) → length page ≡ 4096 → text ≡ bodies ring image first n
-    → (eor_of page ≡ 8 → ⊥) → end ≡ length text + min (eor_of page - 8) 4080
+    → 8 < eor_of page → end ≡ length text + min (eor_of page - 8) 4080
     → text_of ring image first (n + 1) ≡ take end (text ++ body_of page)
 end-here ring image first n end page text e size is some place =
     let next : n + 1 ≡ suc n = omega arith in
     let long = length-body page size in
     let shown : text_of ring image first (suc n) ≡ bodies ring image first n ++ take (eor_of (slot ring image (first + n)) - 8) (body_of (slot ring image (first + n))) =
-    rw (ne_eqb (eor_of (slot ring image (first + n))) 8 (λ g. some (ap eor_of e ∙ g))) refl in
+    rw (lt-leb (eor_of (slot ring image (first + n))) 8 (subst (λ (p : List ℕ). 8 < eor_of p) e some)) refl in
     ap (λ (m : ℕ). text_of ring image first m) next ∙ shown
     ∙ ap (λ (p : List ℕ). bodies ring image first n ++ take (eor_of p - 8) (body_of p)) (sym e)
     ∙ ap (λ (b : List ℕ). b ++ take (eor_of page - 8) (body_of page)) (sym is)
     ∙ ap (λ (b : List ℕ). text ++ b) (sym (take_min (eor_of page - 8) (body_of page)) ∙ ap (λ (m : ℕ). take (min (eor_of page - 8) m) (body_of page)) long)
     ∙ sym (ap (λ (m : ℕ). take m (text ++ body_of page)) place ∙ take-append-add text (body_of page) (min (eor_of page - 8) 4080))
 
-pub end-before : (ring : ℕ) (image : Image) (first n end : ℕ) (page text : List ℕ) → page ≡ slot ring image (first + n) → end ≤ length text → eor_of page ≡ 8
+pub end-before : (ring : ℕ) (image : Image) (first n end : ℕ) (page text : List ℕ) → page ≡ slot ring image (first + n) → end ≤ length text → eor_of page ≤ 8
     → text_of ring image first n ≡ take end text → text_of ring image first (n + 1) ≡ take end (text ++ body_of page)
 end-before ring image first n end page text e within none is =
     let next : n + 1 ≡ suc n = omega arith in
-    let shown : text_of ring image first (suc n) ≡ text_of ring image first n = rw (eq-eqb (eor_of (slot ring image (first + n))) 8 (sym (ap eor_of e) ∙ none)) refl in
+    let shown : text_of ring image first (suc n) ≡ text_of ring image first n = rw (le-leb (eor_of (slot ring image (first + n))) 8 (subst (λ (p : List ℕ). eor_of p ≤ 8) e none)) refl in
     ap (λ (m : ℕ). text_of ring image first m) next ∙ shown ∙ is ∙ sym (take-append-le end text (body_of page) within)
 
 -- a ring reads in one way

@@ -1,6 +1,6 @@
 -- A ring that shows pages up to one number reads as their text.
-use Rattle.std.proofs.Common.{◌≡◌, ◌≤◌, ◌<◌, ◌+◌, ◌-◌, ◌*◌, ◌/◌, ℕ, zero, suc, List, ◌++◌, length, take, drop, get_or, nat_eq, if◌then◌else◌, refl, sym, ap, ◌∙◌, ◌⊎◌, inl, inr, arith, eq-eqb}
-use Rattle.std.proofs.lemmas.Bool.{cases_lt, cases_eq, ne_eqb}
+use Rattle.std.proofs.Common.{◌≡◌, ◌≤◌, ◌<◌, ◌+◌, ◌-◌, ◌*◌, ◌/◌, ℕ, zero, suc, List, ◌++◌, length, take, drop, get_or, nat_le, if◌then◌else◌, refl, sym, ap, ◌∙◌, ◌⊎◌, inl, inr, arith}
+use Rattle.std.proofs.lemmas.Bool.{cases_lt, le-leb, lt-leb}
 use Rattle.std.proofs.lemmas.List.{length-append, length-take-le, length-drop, drop_all, ext_get_or, get_or-take, get_or-drop, get_or_append_left, get_or-append_right}
 use Rattle.jfs_disk.specs.Image.{Image}
 use Rattle.jfs_bits.specs.Field.{range_of}
@@ -53,7 +53,7 @@ text-shown ring image text ends first zero pages fits =
     sym (drop_all (4080 * first) (take (last_end ends (4080 * (first + 0))) text)
     (omega (arith, length-take-le (last_end ends (4080 * (first + 0))) text fits, last_end-within ends (4080 * (first + 0)))))
 text-shown ring image text ends first (suc n) pages fits =
-    by (λ f. text-shown ring image text ends first n (λ k h. pages k (omega arith)) f) (cases_eq (eor_of page) 8)
+    by (λ f. text-shown ring image text ends first n (λ k h. pages k (omega arith)) f) (cases_lt 8 (eor_of page))
   where
     page : List ℕ
     page = slot ring image (first + n)
@@ -71,12 +71,12 @@ text-shown ring image text ends first (suc n) pages fits =
     within = last_end-within ends (4080 * (first + suc n))
 
     by : (last_end ends (4080 * (first + n)) ≤ length text → text_of ring image first n ≡ drop (4080 * first) (take (last_end ends (4080 * (first + n))) text))
-        → (eor_of page ≡ 8) ⊎ (eor_of page ≡ 8 → ⊥)
-        → (if nat_eq (eor_of page) 8 then text_of ring image first n else bodies ring image first n ++ take (eor_of page - 8) (body_of page)) ≡ drop (4080 * first) (take cut text)
-    by rest (inl nothing) =
+        → (8 < eor_of page) ⊎ (eor_of page ≤ 8)
+        → (if nat_le (eor_of page) 8 then text_of ring image first n else bodies ring image first n ++ take (eor_of page - 8) (body_of page)) ≡ drop (4080 * first) (take cut text)
+    by rest (inr nothing) =
         let lower : last_end ends (4080 * (first + n)) ≡ cut = last_end-lower ends (4080 * (first + n)) (4080 * (first + suc n)) (omega arith) (omega (arith, eor, nothing)) in
-        rw (eq-eqb (eor_of page) 8 nothing) (rest (omega (arith, lower, fits)) ∙ ap (λ (c : ℕ). drop (4080 * first) (take c text)) lower)
-    by rest (inr some) = rw (ne_eqb (eor_of page) 8 some) (ends_here (omega (arith, cases_lt 8 (eor_of page), eor)))
+        rw (le-leb (eor_of page) 8 nothing) (rest (omega (arith, lower, fits)) ∙ ap (λ (c : ℕ). drop (4080 * first) (take c text)) lower)
+    by rest (inl some) = rw (lt-leb (eor_of page) 8 some) (ends_here (omega (arith, some, eor)))
       where
         front : length (bodies ring image first n) ≡ 4080 * n
         front = length-bodies ring image text ends first n (λ k h. pages k (omega arith))

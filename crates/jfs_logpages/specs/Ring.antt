@@ -1,5 +1,5 @@
 -- The ring of log pages: what a page holds, and what the ring reads as.
-use Rattle.std.specs.Prelude.{◌≡◌, ◌<◌, ◌≤◌, ◌+◌, ◌-◌, ◌*◌, ◌/◌, ◌%◌, ◌⊎◌, ℕ, zero, suc, min, max, List, [], ◌∷◌, ◌++◌, length, take, drop, get_or, map, replicate, nat_eq, nat_le, if◌then◌else◌}
+use Rattle.std.specs.Prelude.{◌≡◌, ◌<◌, ◌≤◌, ◌+◌, ◌-◌, ◌*◌, ◌/◌, ◌%◌, ◌⊎◌, ℕ, zero, suc, min, max, List, [], ◌∷◌, ◌++◌, length, take, drop, get_or, map, replicate, nat_le, if◌then◌else◌}
 use Rattle.jfs_disk.specs.Crash.{DiskState, IsCrashImage, AllSince, last_of}
 use Rattle.jfs_disk.specs.Image.{Image, page_of}
 use Rattle.byteorder.specs.Endian.{little_bytes}
@@ -49,12 +49,12 @@ abbrev pub bodies : ℕ → Image → ℕ → ℕ → List ℕ
 bodies ring image first zero = []
 bodies ring image first (suc n) = bodies ring image first n ++ body_of (slot ring image (first + n))
 
--- their text, up to the end of the last record on them
+-- their text, up to the end of the last record on them. An end before the body is taken as its start, one behind it as its end.
 abbrev pub text_of : ℕ → Image → ℕ → ℕ → List ℕ
 text_of ring image first zero = []
 text_of ring image first (suc n) =
     let page = slot ring image (first + n) in
-    if nat_eq (eor_of page) 8 then text_of ring image first n else bodies ring image first n ++ take (eor_of page - 8) (body_of page)
+    if nat_le (eor_of page) 8 then text_of ring image first n else bodies ring image first n ++ take (eor_of page - 8) (body_of page)
 
 -- what the ring reads as: the number of the oldest page that belongs to it, and the text from there on
 pub record Reads (ring : ℕ) (image : Image) (first : ℕ) (text : List ℕ) : Type 0 where

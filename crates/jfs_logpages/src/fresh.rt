@@ -16,7 +16,7 @@ use jfs_logfmt::{LogSuper, write_log_super};
 use uuid::Uuid;
 
 /// The label of a log that this project writes.
-const LABEL: [u8; 16] = *b"jfsd profile 1\0\0";
+pub const LABEL: [u8; 16] = *b"jfsd profile 1\0\0";
 
 /// The text of a SYNCPT that names itself.
 fn first_text() -> [u8; 36]

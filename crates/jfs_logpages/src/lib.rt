@@ -1,17 +1,28 @@
 //! The log's ring of pages: groups of records written at its end, and the ring read as text.
 #![tactic(auto)]
 
+mod backwards;
+mod chain;
+mod error;
 mod fault;
 mod fresh;
 mod group;
 mod group_text;
 mod last;
 mod log_side;
+mod newest;
 mod page;
+mod place;
+mod point;
 mod reading;
+mod ring;
+mod ring_text;
 mod text;
 
+pub use error::RingError;
 pub use fault::{LogFault, LogRefused};
 pub use fresh::write_fresh;
 pub use group_text::GroupText;
 pub use log_side::LogSide;
+pub use ring::read_ring;
+pub use ring_text::RingText;

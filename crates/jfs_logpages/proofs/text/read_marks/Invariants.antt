@@ -1,4 +1,4 @@
-use Rattle.std.proofs.Common.{◌≡◌, ◌<◌, ◌^◌, ℕ, length, get_or}
+use Rattle.std.proofs.Common.{◌≡◌, ◌<◌, ◌^◌, ℕ, length, get_or, drop}
 use Rattle.jfs_logpages.specs.Marks.{AreMarks}
 use Rattle.jfs_logpages.proofs.text.read_marks.Given as goal
 
@@ -8,5 +8,6 @@ invariant-loop-place g l = record {
   image : g.D.Disk.tells → g.D.Disk.image l.disk ≡ g.D.Disk.image l.initial.disk;
   size : length l.marks.items ≡ l.place;
   small : (p : ℕ) → get_or l.marks.items p 0 < 2 ^ 33;
-  marks : g.D.Disk.tells → AreMarks l.ring (g.D.Disk.image l.initial.disk) l.marks.items;
+  faults : g.D.Disk.fault_count l.disk ≡ g.D.Disk.fault_count l.initial.disk;
+  marks : g.D.Disk.tells → AreMarks l.ring (drop l.base (g.D.Disk.image l.initial.disk)) l.marks.items;
 }
