@@ -2,7 +2,7 @@
 use Rattle.std.specs.Prelude.{◌≡◌, ℕ, ◌+◌, ◌*◌, ◌^◌, ◌<◌, List, [], ◌∷◌, get_or}
 use Rattle.byteorder.specs.Endian.{little_bytes}
 use Rattle.jfs_bits.specs.Field.{field_of}
-use Rattle.jfs_bits.specs.Piece.{Piece}
+use Rattle.jfs_bits.specs.Piece.{Piece, piece}
 use Rattle.jfs_iag.specs.declared.control.InodeGroup.{InodeGroup}
 use Rattle.jfs_iag.specs.declared.control.InodeControl.{InodeControl}
 
@@ -30,28 +30,25 @@ pub record IsInodeControl (c : InodeControl) (page : List ℕ) : Type 0 where
   pub maxag : c.maxag ≡ field_of page 28 4
   pub groups : (g : ℕ) → g < 128 → get_or c.groups g no_group ≡ group_at page g
 
-abbrev piece : ℕ → ℕ → Piece
-piece at word = record { at = at; bytes = little_bytes 4 word }
-
 -- the fields before the groups
 unfoldable pub head_of : InodeControl → List Piece
 head_of c =
-    piece 0 c.freeiag ∷
-    piece 4 c.nextiag ∷
-    piece 8 c.numinos ∷
-    piece 12 c.numfree ∷
-    piece 16 c.nbperiext ∷
-    piece 20 c.l2nbperiext ∷
-    piece 24 c.diskblock ∷
-    piece 28 c.maxag ∷ []
+    piece 0 (little_bytes 4 c.freeiag) ∷
+    piece 4 (little_bytes 4 c.nextiag) ∷
+    piece 8 (little_bytes 4 c.numinos) ∷
+    piece 12 (little_bytes 4 c.numfree) ∷
+    piece 16 (little_bytes 4 c.nbperiext) ∷
+    piece 20 (little_bytes 4 c.l2nbperiext) ∷
+    piece 24 (little_bytes 4 c.diskblock) ∷
+    piece 28 (little_bytes 4 c.maxag) ∷ []
 
 -- the four numbers of a group
 unfoldable pub group_pieces : ℕ → InodeGroup → List Piece
 group_pieces g group =
-    piece (2048 + 16 * g) group.inofree ∷
-    piece (2048 + 16 * g + 4) group.extfree ∷
-    piece (2048 + 16 * g + 8) group.numinos ∷
-    piece (2048 + 16 * g + 12) group.numfree ∷ []
+    piece (2048 + 16 * g) (little_bytes 4 group.inofree) ∷
+    piece (2048 + 16 * g + 4) (little_bytes 4 group.extfree) ∷
+    piece (2048 + 16 * g + 8) (little_bytes 4 group.numinos) ∷
+    piece (2048 + 16 * g + 12) (little_bytes 4 group.numfree) ∷ []
 
 -- what has a place in these fields
 pub record FitsHead (c : InodeControl) : Type 0 where

@@ -4,7 +4,7 @@ use Rattle.byteorder.specs.Endian.{little_bytes}
 use Rattle.jfs_bits.specs.declared.descriptor.Pxd.{Pxd}
 use Rattle.jfs_bits.specs.Field.{field_of, range_of}
 use Rattle.jfs_bits.specs.Descriptor.{pxd_of}
-use Rattle.jfs_bits.specs.Piece.{Piece}
+use Rattle.jfs_bits.specs.Piece.{Piece, piece}
 use Rattle.jfs_iag.specs.declared.iag.Iag.{Iag}
 
 -- a descriptor of zeros
@@ -27,9 +27,6 @@ pub record IsIag (i : Iag) (page : List ℕ) : Type 0 where
   pub wmap : i.wmap ≡ range_of page 2048 512
   pub pmap : i.pmap ≡ range_of page 2560 512
   pub inoext : (e : ℕ) → e < 128 → get_or i.inoext e no_run ≡ pxd_of page (3072 + 8 * e)
-
-abbrev piece : ℕ → List ℕ → Piece
-piece at bytes = record { at = at; bytes = bytes }
 
 -- the fields before the extents
 unfoldable pub front_of : Iag → List Piece

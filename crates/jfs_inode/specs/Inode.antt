@@ -4,7 +4,7 @@ use Rattle.byteorder.specs.Endian.{little_bytes}
 use Rattle.jfs_bits.specs.Field.{field_of, range_of}
 use Rattle.jfs_bits.specs.Descriptor.{pxd_of, pxd_bytes, moment_of, moment_bytes, FitsPxd}
 use Rattle.jfs_bits.specs.Extent.{dxd_of, dxd_pieces, FitsDxd}
-use Rattle.jfs_bits.specs.Piece.{Piece}
+use Rattle.jfs_bits.specs.Piece.{Piece, piece}
 use Rattle.jfs_inode.specs.declared.fields.Dinode.{Dinode}
 
 -- the bytes of the inode in a slot of a page, which has eight
@@ -40,9 +40,6 @@ pub record FitsDinode (d : Dinode) : Type 0 where
   pub ixpxd : FitsPxd d.ixpxd
   pub acl : FitsDxd d.acl
   pub ea : FitsDxd d.ea
-
-abbrev piece : ℕ → List ℕ → Piece
-piece at bytes = record { at = at; bytes = bytes }
 
 -- the bytes of each field, in its place
 unfoldable pub pieces : Dinode → List Piece
