@@ -17,6 +17,7 @@ pub mod Levels
 pub mod Lowest
 pub mod OnePage
 pub mod Opened
+pub mod Owners
 pub mod PartByPart
 pub mod Pieces
 pub mod Powers

@@ -1,6 +1,6 @@
 -- The file of the block map: its control page, the control pages of levels 2, 1 and 0, then the dmaps. (JFS Layout, block map.)
 -- In all of this file `taken` is true of each block past the volume's end, since the pages have these set.
-use Rattle.std.specs.Prelude.{◌≡◌, ℕ, zero, suc, ◌+◌, ◌-◌, ◌*◌, ◌/◌, ◌%◌, ◌^◌, ◌<◌, ◌≤◌, nat_le, Bool, not, if◌then◌else◌, List, length, replicate, slice_index}
+use Rattle.std.specs.Prelude.{◌≡◌, ℕ, zero, suc, ◌+◌, ◌-◌, ◌*◌, ◌/◌, ◌%◌, ◌^◌, ◌<◌, ◌≤◌, nat_le, nat_lt, Bool, true, false, not, ◌&&◌, ◌||◌, ◌==◌, if◌then◌else◌, List, length, replicate, slice_index}
 use Rattle.std.specs.Int.{IsPowerOfTwo}
 use Rattle.jfs_bits.specs.Field.{range_of}
 use Rattle.jfs_dmap.specs.Dmap.{taken_in}
@@ -8,7 +8,7 @@ use Rattle.jfs_bits.specs.Bits.{greatest_run, count_below}
 use Rattle.jfs_dmapctl.specs.Control.{IsControl}
 use Rattle.jfs_dmapctl.specs.MapControl.{IsMapControl}
 use Rattle.jfs_dmapctl.specs.declared.map_control.MapControl.{MapControl}
-use Rattle.jfs_bmap.specs.Pages.{IsDmapOf, leaf_ranks}
+use Rattle.jfs_bmap.specs.Pages.{dmaps_of, IsDmapOf, leaf_ranks}
 
 -- 1 + 4 + 16 + .., so many powers of 4
 unfoldable pub powers_of_4 : ℕ → ℕ
@@ -73,3 +73,19 @@ IsMapPage blocks agsize taken (suc zero) page = IsControl 2 (λ v. 0) page
 IsMapPage blocks agsize taken (suc (suc zero)) page = IsControl 1 (λ v. 0) page
 IsMapPage blocks agsize taken (suc (suc (suc zero))) page = IsControl 0 (leaf_ranks taken) page
 IsMapPage blocks agsize taken (suc (suc (suc (suc k)))) page = IsDmapPage blocks taken k page
+
+-- How many pages the file has: the control page of the map, those of levels 2, 1 and 0, and the dmaps.
+abbrev pub pages_of : ℕ → ℕ
+pages_of blocks = 4 + dmaps_of blocks
+
+-- Page `n` is in use. The pages of levels 2 and 1 aren't, which stand above the highest level in use.
+abbrev pub is_in_use : ℕ → ℕ → Bool
+is_in_use blocks n = n == 0 || (nat_le 3 n && nat_lt n (pages_of blocks))
+
+-- Page `n` tells of block `b`: the dmap that has the block, and the pages above it.
+abbrev pub tells_of : ℕ → ℕ → Bool
+tells_of zero b = true
+tells_of (suc zero) b = false
+tells_of (suc (suc zero)) b = false
+tells_of (suc (suc (suc zero))) b = true
+tells_of (suc (suc (suc (suc k)))) b = b / 8192 == k

@@ -3,7 +3,7 @@
 ghost use Rattle.std.specs.Prelude.{◌≡◌, ◌+◌, ◌*◌, ◌%◌, ◌^◌, ◌≤◌, ◌↔◌, length, IfOk, IsTrue};
 ghost use Rattle.jfs_bmap.specs.Set.{HasFreeRun};
 ghost use Rattle.jfs_bmap.specs.States.{fresh, all_settled, free_count, busy_count, unowned_count, is_used, is_owned};
-ghost use Rattle.jfs_bmap.specs.MapFile.{AreGroups, IsMapPage};
+ghost use Rattle.jfs_bmap.specs.MapFile.{AreGroups, IsMapPage, is_in_use, pages_of};
 
 use crate::entries::Piece;
 use crate::freed::Freed;
@@ -132,6 +132,21 @@ impl BlockMap {
         ensures { result ≡ self.now.spare }
     {
         self.spare
+    }
+
+    /// The number of pages of the map's file.
+    pub fn pages(&self) -> u32
+        ensures { result ≡ pages_of (length self.now.states) }
+    {
+        4 + self.blocks().div_ceil(8192)
+    }
+
+    /// Whether page `n` of the map's file is in use. The pages of levels above the highest in use, 1 and 2, aren't: `format` alone
+    /// writes them.
+    pub fn is_in_use(&self, n: u32) -> bool
+        ensures { result ≡ is_in_use (length self.now.states) n }
+    {
+        n == 0 || (3 <= n && n < self.pages())
     }
 
     /// Writes page `n` of the map's file in its canonical form, those blocks set that have owners: the map's control page, the

@@ -6,9 +6,8 @@ ghost use Rattle.jfs_bmap.specs.Set.{taken_at};
 ghost use Rattle.jfs_bmap.specs.MapFile.{powers_of_4, AreGroups, IsMapControlOf};
 
 use crate::map_pages::MapPages;
-use jfs_bits::get_u8;
 use jfs_dmap::dmap_free;
-use jfs_dmapctl::MapControl;
+use jfs_dmapctl::{MapControl, ctl_root};
 
 impl MapPages {
     /// The numbers of the map's control page.
@@ -52,12 +51,11 @@ impl MapPages {
         groups
     }
 
-    /// The l2 of the greatest free aligned run, -1 where no block is free: the value at the control page's root.
+    /// The l2 of the greatest free aligned run, -1 where no block is free.
     fn greatest_run(&self) -> i8
         ensures { result ≡ greatest_run (taken_at self.now) 23 23 }
     {
-        let bytes: &[u8] = &self.control.0;
-        get_u8(bytes, 17).cast_signed()
+        ctl_root(&self.control)
     }
 }
 

@@ -15,5 +15,8 @@ mod reserve;
 mod settle;
 
 pub use block_map::BlockMap;
-pub use law::{map_pages_agree, root_is_greatest_run};
+pub use law::{
+    map_pages_agree, only_their_pages_change, owners_change, root_is_greatest_run,
+    roots_make_level_zero,
+};
 pub use reserve::{NoSpace, ReserveError};

@@ -4,6 +4,7 @@ ghost use Rattle.std.specs.Prelude.{◌≡◌, ◌+◌, ◌≤◌, ◌||◌, ◌
 ghost use Rattle.jfs_bits.specs.Bits.{is_free, is_in_run, is_full};
 ghost use Rattle.jfs_dmap.specs.Dmap.{blocks_of, first_block_of, taken_in, IsDmap};
 
+use crate::layout::{FREE, PERSISTENT_MAP, WORKING_MAP};
 use crate::words::{clear_in, mark_in, refresh};
 use jfs_bits::{get_u32, put_u32};
 use jfs_disk::Page;
@@ -20,10 +21,10 @@ pub fn dmap_mark(page: &mut Page, first: u32, n: u32)
     ensures first_block { first_block_of page.new.0 ≡ first_block_of page.old.0 }
 {
     let bytes: &mut [u8] = &mut page.0;
-    mark_in(bytes, 2048, first, n);
-    mark_in(bytes, 3072, first, n);
-    let free = get_u32(bytes, 4);
-    put_u32(bytes, 4, free - n);
+    mark_in(bytes, WORKING_MAP, first, n);
+    mark_in(bytes, PERSISTENT_MAP, first, n);
+    let free = get_u32(bytes, FREE);
+    put_u32(bytes, FREE, free - n);
     refresh(bytes, first / 32, (first + n + 31) / 32);
 }
 
@@ -39,9 +40,9 @@ pub fn dmap_clear(page: &mut Page, first: u32, n: u32)
     ensures first_block { first_block_of page.new.0 ≡ first_block_of page.old.0 }
 {
     let bytes: &mut [u8] = &mut page.0;
-    clear_in(bytes, 2048, first, n);
-    clear_in(bytes, 3072, first, n);
-    let free = get_u32(bytes, 4);
-    put_u32(bytes, 4, free + n);
+    clear_in(bytes, WORKING_MAP, first, n);
+    clear_in(bytes, PERSISTENT_MAP, first, n);
+    let free = get_u32(bytes, FREE);
+    put_u32(bytes, FREE, free + n);
     refresh(bytes, first / 32, (first + n + 31) / 32);
 }

@@ -4,6 +4,7 @@
 mod change;
 mod find;
 mod law;
+mod layout;
 mod page;
 mod read;
 mod words;

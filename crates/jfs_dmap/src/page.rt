@@ -7,6 +7,7 @@ ghost use Rattle.jfs_bits.specs.Bits.{is_taken, is_in_run, count_below};
 ghost use Rattle.jfs_buddy.specs.Buddy.{IsBuddyTree};
 ghost use Rattle.jfs_dmap.specs.Dmap.{blocks_of, first_block_of, head_of, tree_of, taken_in, IsDmap};
 
+use crate::layout::{FREE, PERSISTENT_MAP, TREE, TREE_END, WORKING_MAP};
 use crate::words::{mark_in, refresh};
 use jfs_bits::{bit, put_u8, put_u32, put_u64};
 use jfs_buddy::clear_tree;
@@ -25,10 +26,10 @@ pub fn dmap_canonical(set: &[u8], start: u64, nblocks: u32, page: &mut Page)
     let bytes: &mut [u8] = &mut page.0;
     bytes.fill(0);
     put_head(bytes, start, nblocks);
-    put_map(bytes, 2048, set, nblocks);
-    put_map(bytes, 3072, set, nblocks);
-    let free = count_free(&bytes[2048..3072]);
-    put_u32(bytes, 4, free);
+    put_map(bytes, WORKING_MAP, set, nblocks);
+    put_map(bytes, PERSISTENT_MAP, set, nblocks);
+    let free = count_free(&bytes[WORKING_MAP..PERSISTENT_MAP]);
+    put_u32(bytes, FREE, free);
     clear(bytes);
     refresh(bytes, 0, 256);
 }
@@ -86,5 +87,5 @@ fn clear(bytes: &mut [u8])
     ensures tree { IsBuddyTree 4 6 (λ v. 0) (tree_of bytes.new) }
     ensures stays { bytes.new ≡ put_bytes 33 (tree_of bytes.new) bytes.old }
 {
-    clear_tree(&mut bytes[33..374], 4, 6);
+    clear_tree(&mut bytes[TREE..TREE_END], 4, 6);
 }

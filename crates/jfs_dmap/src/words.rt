@@ -7,6 +7,7 @@ ghost use Rattle.jfs_buddy.specs.Buddy.{with_own, IsBuddyTree};
 ghost use Rattle.jfs_buddy.specs.Tree.{rank_of};
 ghost use Rattle.jfs_dmap.specs.Dmap.{map_of, tree_of, word_rank};
 
+use crate::layout::{TREE, TREE_END, WORKING_MAP};
 use jfs_bits::{clear_run, get_u32, max_bud, set_run};
 use jfs_buddy::{rank_of_value, set_leaf};
 
@@ -44,8 +45,8 @@ fn set_word(bytes: &mut [u8], word: u32)
     ensures tree { (own : ℕ → ℕ) → IsBuddyTree 4 6 own (tree_of bytes.old) → IsBuddyTree 4 6 (with_own own word (word_rank (map_of bytes.old) word)) (tree_of bytes.new) }
     ensures stays { bytes.new ≡ put_bytes 33 (tree_of bytes.new) bytes.old }
 {
-    let rank = rank_of_word(get_u32(bytes, 2048 + 4 * word as usize));
-    set_leaf(&mut bytes[33..374], 4, 6, word, rank);
+    let rank = rank_of_word(get_u32(bytes, WORKING_MAP + 4 * word as usize));
+    set_leaf(&mut bytes[TREE..TREE_END], 4, 6, word, rank);
 }
 
 /// Gives the leaves of the words from `first` to before `last` their ranks.

@@ -1,5 +1,6 @@
 -- A control page: the buddy tree over 1,024 dmaps, or over 1,024 control pages of the level below. (JFS Layout, dmapctl.)
 use Rattle.std.specs.Prelude.{◌≡◌, ℕ, ◌+◌, ◌*◌, ◌≤◌, ℤ, pos, negsuc, List, [], ◌∷◌, length, replicate, slice_index_or}
+use Rattle.std.specs.Int.{cast_signed, w8}
 use Rattle.byteorder.specs.Endian.{little_bytes}
 use Rattle.jfs_bits.specs.Field.{field_of, range_of}
 use Rattle.jfs_bits.specs.Piece.{Piece}
@@ -12,6 +13,10 @@ whole_of level = 13 + 10 * level
 
 abbrev pub tree_of : List ℕ → List ℕ
 tree_of page = range_of page 17 1365
+
+-- the value at the root
+abbrev pub root_of : List ℕ → ℤ
+root_of page = cast_signed w8 (field_of page 17 1)
 
 -- a leaf's value on a level: -1, or the l2 of its greatest free run
 abbrev pub IsValue : ℕ → ℤ → Type 0

@@ -5,6 +5,7 @@ ghost use Rattle.jfs_buddy.specs.Tree.{rank_of};
 ghost use Rattle.jfs_buddy.specs.Buddy.{with_own, IsLowestRun};
 ghost use Rattle.jfs_dmapctl.specs.Control.{whole_of, IsValue, IsControl};
 
+use crate::layout::{TREE, TREE_END, WHOLE};
 use crate::part::set_rank;
 use jfs_bits::get_u8;
 use jfs_buddy::{find_run, rank_of_value};
@@ -18,7 +19,7 @@ pub fn ctl_set(page: &mut Page, leaf: u32, value: i8)
     ensures { (level : ℕ) (own : ℕ → ℕ) → IsControl level own page.old.0 → IsValue level value → IsControl level (with_own own leaf (rank_of value)) page.new.0 }
 {
     let bytes: &mut [u8] = &mut page.0;
-    let whole = get_u8(bytes, 16) + 1;
+    let whole = get_u8(bytes, WHOLE) + 1;
     set_rank(bytes, whole, leaf, rank_of_value(value));
 }
 
@@ -30,9 +31,9 @@ pub fn ctl_find(page: &Page, l2: u32) -> Option<u32>
     ensures too_long { (level : ℕ) (own : ℕ → ℕ) → IsControl level own page.now.0 → whole_of level + 10 < l2 → IsNone result }
 {
     let bytes: &[u8] = &page.0;
-    let whole = get_u8(bytes, 16) + 1;
+    let whole = get_u8(bytes, WHOLE) + 1;
     if l2 > u32::from(whole) + 9 {
         return None;
     }
-    find_run(&bytes[17..1382], 5, whole, l2 as u8 + 1)
+    find_run(&bytes[TREE..TREE_END], 5, whole, l2 as u8 + 1)
 }

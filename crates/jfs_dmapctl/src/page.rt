@@ -6,6 +6,7 @@ ghost use Rattle.jfs_bits.specs.Piece.{puts};
 ghost use Rattle.jfs_buddy.specs.Buddy.{IsBuddyTree};
 ghost use Rattle.jfs_dmapctl.specs.Control.{whole_of, head_of, tree_of, value_at, ranks_of, IsValue, IsControl};
 
+use crate::layout::WHOLE;
 use crate::part::{clear, set_rank};
 use jfs_bits::{put_u8, put_u32};
 use jfs_buddy::rank_of_value;
@@ -35,7 +36,7 @@ fn put_head(bytes: &mut [u8], level: u32)
     put_u32(bytes, 4, 10);
     put_u32(bytes, 8, 341);
     put_u32(bytes, 12, 5);
-    put_u8(bytes, 16, 13 + 10 * level as u8);
+    put_u8(bytes, WHOLE, 13 + 10 * level as u8);
 }
 
 /// The rank of leaf `v`.

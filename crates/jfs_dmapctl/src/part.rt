@@ -5,6 +5,7 @@ ghost use Rattle.jfs_bits.specs.Field.{put_bytes};
 ghost use Rattle.jfs_buddy.specs.Buddy.{with_own, IsBuddyTree};
 ghost use Rattle.jfs_dmapctl.specs.Control.{tree_of};
 
+use crate::layout::{TREE, TREE_END};
 use jfs_buddy::{clear_tree, set_leaf};
 
 /// Gives a leaf its own rank.
@@ -15,7 +16,7 @@ pub fn set_rank(bytes: &mut [u8], whole: u8, leaf: u32, rank: u8)
     ensures tree { (own : ℕ → ℕ) → 0 < whole → rank ≤ whole → IsBuddyTree 5 whole own (tree_of bytes.old) → IsBuddyTree 5 whole (with_own own leaf rank) (tree_of bytes.new) }
     ensures stays { bytes.new ≡ put_bytes 17 (tree_of bytes.new) bytes.old }
 {
-    set_leaf(&mut bytes[17..1382], 5, whole, leaf, rank);
+    set_leaf(&mut bytes[TREE..TREE_END], 5, whole, leaf, rank);
 }
 
 /// Puts the tree without a free block.
@@ -24,5 +25,5 @@ pub fn clear(bytes: &mut [u8], whole: u8)
     ensures tree { 0 < whole → IsBuddyTree 5 whole (λ v. 0) (tree_of bytes.new) }
     ensures stays { bytes.new ≡ put_bytes 17 (tree_of bytes.new) bytes.old }
 {
-    clear_tree(&mut bytes[17..1382], 5, whole);
+    clear_tree(&mut bytes[TREE..TREE_END], 5, whole);
 }

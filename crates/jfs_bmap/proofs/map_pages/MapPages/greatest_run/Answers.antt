@@ -1,4 +1,4 @@
-use Rattle.std.proofs.Common.{◌≡◌, ◌∙◌, ℕ, Bool, sym, ap, to_z, w8, arith}
+use Rattle.std.proofs.Common.{◌≡◌, ◌∙◌, ℕ, Bool, sym, ap, w8, arith}
 use Rattle.std.proofs.lemmas.Int.{to_z-of_z}
 use Rattle.std.proofs.Math.Path.{fun_ext}
 use Rattle.jfs_bits.specs.Bits.{greatest_run}
@@ -12,8 +12,7 @@ pub returns : goal.returns
 returns c =
     let s = c.self.inside in
     let same : taken_on s.blocks s.dmaps.items ≡ taken_at c.args.self.now = fun_ext (λ b. sym (taken_at-held s.blocks s.dmaps.items c.args.self.now b c.self.view_is)) in
-    to_z-of_z w8 c.cast_signed.result (omega arith)
-    ∙ c.cast_signed.ensures
-    ∙ ap (to_z w8) c.get_u8.ensures.value
-    ∙ root-value (taken_on s.blocks s.dmaps.items) s.control.0 c.self.invariant.ranks (omega arith)
+    to_z-of_z w8 c.ctl_root.result (omega arith)
+    ∙ c.ctl_root.ensures.value
+    ∙ root-value (taken_on s.blocks s.dmaps.items) s.control.0 c.self.invariant.ranks (omega (arith, c.ctl_root.ensures.fits))
     ∙ ap (λ (f : ℕ → Bool). greatest_run f 23 23) same
