@@ -109,12 +109,52 @@ fn time_volume(rt: &HostRuntime, blocks: u32, taken: Use) -> io::Result<()>
     )
 }
 
-/// Prints a line for each size of volume and each pattern.
+/// Releases so many runs for entries of their own, that of the last entry first.
+fn release_each(map: &mut BlockMap, alloc: Global, runs: u32) -> Result<(), AllocError> {
+    map.make_room(runs)?;
+    for i in 0..runs {
+        let mut list = PxdList::new(alloc);
+        list.push(Pxd {
+            len: WANTED,
+            addr: 10 * u64::from(i),
+        })?;
+        map.release(&list, u64::from(runs - i));
+    }
+    Ok(())
+}
+
+/// The map of a volume of so many blocks, each of which has an owner.
+fn full_map(alloc: Global, blocks: u32) -> Result<BlockMap, AllocError>
+    requires some { 0 < blocks }
+    requires most { blocks ≤ 2 ^ 23 }
+    requires words { blocks % 32 ≡ 0 }
+{
+    let set = vec![in alloc; 255u8; (blocks / 8) as usize]?;
+    BlockMap::from_set(alloc, set.as_slice(), blocks, GROUP)
+}
+
+/// Prints how long it took to settle so many runs one at a time.
+fn time_settle(rt: &HostRuntime, runs: u32) -> io::Result<()> {
+    let mut map = full_map(rt.alloc(), 1048576)?;
+    release_each(&mut map, rt.alloc(), runs)?;
+    let start = Instant::now(rt)?;
+    for entry in 0..runs {
+        map.settle(u64::from(entry) + 1);
+    }
+    let micros = start.elapsed(rt)?.as_micros();
+    let busy = map.busy();
+    println!(rt; "{runs} runs settled one at a time in {micros} us, {busy} blocks busy")
+}
+
+/// Prints a line for each size of volume and each pattern, and for few and many runs that wait to be settled.
 pub fn time_map(rt: &HostRuntime) -> io::Result<()> {
     for blocks in [4096, 262144, 8388608] {
         for taken in [Use::None, Use::Owned, Use::Busy] {
             time_volume(rt, blocks, taken)?;
         }
+    }
+    for runs in [1000, 10000, 100000] {
+        time_settle(rt, runs)?;
     }
     Ok(())
 }

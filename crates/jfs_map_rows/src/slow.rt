@@ -142,3 +142,34 @@ pub fn count_busy(states: &[State]) -> u32 {
     }
     busy
 }
+
+/// The blocks without owners.
+pub fn count_unowned(states: &[State]) -> u32 {
+    let mut unowned = 0u32;
+    for state in states {
+        if *state != State::Owned {
+            unowned = unowned.saturating_add(1);
+        }
+    }
+    unowned
+}
+
+fn are_free_or_busy(states: &[State], first: usize, n: usize) -> bool {
+    for i in 0..n {
+        match states.get(first.saturating_add(i)) {
+            Some(State::Free | State::Busy(_)) => {}
+            _ => return false,
+        }
+    }
+    true
+}
+
+/// Whether an aligned run of four blocks is free once all busy blocks are settled.
+pub fn has_four_once_settled(states: &[State]) -> bool {
+    for first in 0..states.len() {
+        if first % 4 == 0 && are_free_or_busy(states, first, 4) {
+            return true;
+        }
+    }
+    false
+}

@@ -3,7 +3,10 @@
 ghost use Rattle.jfs_bmap.specs.States.{AreReserved};
 ghost use Rattle.jfs_map_rows.specs.Stays.{StaysReserved};
 
-use crate::slow::{State, choose, count_busy, count_free, lowest, put, put_runs, release, settle};
+use crate::slow::{
+    State, choose, count_busy, count_free, count_unowned, has_four_once_settled, lowest, put,
+    put_runs, release, settle,
+};
 use crate::slow_pages::{BLOCKS, are_canonical};
 use crate::volume::{map_of, release_all, release_run, take, take_four, try_four, try_out};
 use jfs_bits::{Pxd, PxdList, set_run};
@@ -168,6 +171,13 @@ fn settle_both(map: &mut BlockMap, states: &mut [State], told: u64)
     settle(states, told);
 }
 
+/// Whether both answer the questions that change nothing alike.
+fn answers_as(map: &BlockMap, states: &[State]) -> bool {
+    map.unowned() == count_unowned(states)
+        && map.has_four_once_settled() == has_four_once_settled(states)
+        && map.spare() == 0
+}
+
 /// Where a call begins: often just below the held blocks, or at one of a few places, so that calls meet one another's blocks.
 fn first_of(held: &PxdList, draw: u32, n: u32) -> u32 {
     match (held.get(0), draw >> 28) {
@@ -245,6 +255,7 @@ fn slow_set(rt: HostRuntime) {
         assert!(rt; same, "call {i}");
         assert_eq!(rt; map.free(), count_free(&states), "free after call {i}");
         assert_eq!(rt; map.busy(), count_busy(&states), "busy after call {i}");
+        assert!(rt; answers_as(&map, &states), "questions after call {i}");
         if i % 40 == 39 {
             assert!(rt; are_canonical(&map, &states), "after call {i}");
         }

@@ -118,3 +118,53 @@ fn lists_and_releases(rt: HostRuntime) {
         )
     );
 }
+
+// 64 blocks, of which 0 to 55 have owners: one run of four after another is reserved, released or busy.
+#[test]
+fn questions(rt: HostRuntime) {
+    let alloc = rt.alloc();
+    let mut set = [0u8; 8];
+    set_run(&mut set, 0, 56);
+    let mut map = map_of(alloc, &set, 64).expect(&rt, "memory");
+    assert_eq!(rt; map.unowned(), 8);
+    assert!(rt; map.has_four_once_settled());
+    // 56 to 59 get owners, 60 to 63 are only reserved.
+    assert_eq!(rt; take_four(&mut map), Some(Pxd { len: 4, addr: 56 }));
+    assert_eq!(rt; map.run_of_four(), Some(Pxd { len: 4, addr: 60 }));
+    assert_eq!(rt; map.unowned(), 4);
+    assert!(rt; !map.has_four_once_settled());
+    // No run of four lies in 6 to 10, also once they are settled; one does in 6 to 11, of which 11 waits for an earlier entry.
+    release_run(&mut map, alloc, Pxd { len: 5, addr: 6 }, 9).expect(&rt, "memory");
+    assert_eq!(rt; map.unowned(), 9);
+    assert!(rt; !map.has_four_once_settled());
+    release_run(&mut map, alloc, Pxd { len: 1, addr: 11 }, 8).expect(&rt, "memory");
+    assert!(rt; map.has_four_once_settled());
+    map.settle(8);
+    assert_eq!(rt; map.free(), 1);
+    assert_eq!(rt; map.busy(), 5);
+    assert!(rt; map.run_of_four().is_none());
+    assert!(rt; map.has_four_once_settled());
+    map.settle(9);
+    assert_eq!(rt; map.run_of_four(), Some(Pxd { len: 4, addr: 8 }));
+    assert_eq!(rt; map.unowned(), 10);
+    assert!(rt; !map.has_four_once_settled());
+    // Room for runs: a release takes it, and what is there already isn't made again.
+    map.make_room(5).expect(&rt, "memory");
+    assert_eq!(rt; map.spare(), 5);
+    release_run(&mut map, alloc, Pxd { len: 1, addr: 0 }, 10).expect(&rt, "memory");
+    assert_eq!(rt; map.spare(), 4);
+    map.make_room(3).expect(&rt, "memory");
+    assert_eq!(rt; map.spare(), 4);
+}
+
+// The file of 20,000 blocks: four control pages and three dmaps, of which the control pages of levels 2 and 1 aren't in use.
+#[test]
+fn pages_in_use(rt: HostRuntime) {
+    let map = map_of(rt.alloc(), [0u8; 2500].as_slice(), 20000).expect(&rt, "memory");
+    assert_eq!(rt; map.pages(), 7);
+    let mut in_use = [false; 8];
+    for n in 0..8u32 {
+        in_use[n as usize] = map.is_in_use(n);
+    }
+    assert_eq!(rt; in_use, [true, false, false, true, true, true, true, false]);
+}
