@@ -46,7 +46,7 @@ ends_level s o nodes (suc (suc below)) levels c low high e r =
 not_zero : (n : ℕ) → n ≤ 0 → n ≡ 0
 not_zero n h = omega (arith, h)
 
-zero_walk : {P E : Type 0} (s : Scale P E) (nodes : ℕ → Node P E) (c : Child P) (low : P) (high : Option P) → Rises s low (walk s nodes zero c) high → ⊥
+pub zero_walk : {P E : Type 0} (s : Scale P E) (nodes : ℕ → Node P E) (c : Child P) (low : P) (high : Option P) → Rises s low (walk s nodes zero c) high → ⊥
 unfolding walk
 zero_walk s nodes c low high r = r
 

@@ -31,7 +31,7 @@ own_key s x key (f ∷ fs) t h (inl e) = cc
 own_key s x key (f ∷ fs) t h (inr e) = e
 
 -- the child's fact, of the child as its page names it
-at_child : {P E : Type 0} (s : Scale P E) (x : E) (before after : ℕ → Node P E) (lower child : ℕ) (more : List (Child P)) (free left : List ℕ) (key : P) (front : List (Child P)) (t : Child P)
+pub at_child : {P E : Type 0} (s : Scale P E) (x : E) (before after : ℕ → Node P E) (lower child : ℕ) (more : List (Child P)) (free left : List ℕ) (key : P) (front : List (Child P)) (t : Child P)
     → t.page ≡ child → Grew s x before after (suc lower) child more free left → Grew s x before after (suc lower) (own key front t).page more free left
 at_child s x before after lower child more free left key front t to g = subst (λ p. Grew s x before after (suc lower) p more free left) (sym (own_page key front t ∙ to)) g
 
@@ -87,7 +87,7 @@ cons_walk s nodes lower c [] h is = absurd h
 cons_walk s nodes lower c (f ∷ fs) h is = ap (λ node. Key c.page c.key ∷ Page c.page ∷ body (walk s nodes (suc lower)) c (placed s (suc lower) c.key node)) is
 
 -- an inner page with these children
-has_walk : {P E : Type 0} (s : Scale P E) (nodes : ℕ → Node P E) (lower : ℕ) (c : Child P) (all : List (Child P))
+pub has_walk : {P E : Type 0} (s : Scale P E) (nodes : ℕ → Node P E) (lower : ℕ) (c : Child P) (all : List (Child P))
     → HasChildren (nodes c.page) all → walk s nodes (suc (suc lower)) c ≡ Key c.page c.key ∷ Page c.page ∷ flat_map (walk s nodes (suc lower)) (under c.key all)
 has_walk s nodes lower c all h = cons_walk s nodes lower c h.children h.some h.is ∙ ap (λ cs. Key c.page c.key ∷ Page c.page ∷ flat_map (walk s nodes (suc lower)) cs) (h.same c.key)
 

@@ -17,3 +17,7 @@ pub mod Telling
 pub mod Taking
 pub mod Finding
 pub mod Adding
+pub mod Tops
+pub mod RootSteps
+pub mod RootCalls
+pub mod Moving

@@ -10,10 +10,10 @@ use Rattle.jfs_tree.specs.declared.draft.Drafted.{Drafted}
 use Rattle.jfs_tree.specs.declared.form.Sibling.{Sibling}
 use Rattle.jfs_tree.proofs.Growing.{Route, inner_kept, inner_parted, leaf_kept, leaf_parted}
 
-itself : (n : ℕ) (a b : List ℕ) → (if n == n then a else b) ≡ a
+pub itself : (n : ℕ) (a b : List ℕ) → (if n == n then a else b) ≡ a
 itself n a b = grind arith
 
-another : (n m : ℕ) (a b : List ℕ) → n ≢ m → (if n == m then a else b) ≡ b
+pub another : (n m : ℕ) (a b : List ℕ) → n ≢ m → (if n == m then a else b) ≡ b
 another n m a b ne = grind arith
 
 count_last : (n q : ℕ) (xs : List ℕ) → count_in n (xs ++ q ∷ []) ≡ (if q == n then 1 else 0) + count_in n xs

@@ -4,3 +4,4 @@ pub mod Edit
 pub mod Form
 pub mod Draft
 pub mod Call
+pub mod Root

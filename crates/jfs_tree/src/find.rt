@@ -18,7 +18,7 @@ pub fn find_below<V: PageView, F: PageForm>(
     x: &F::Entry,
 ) -> Result<Option<F::Entry>, TreeError>
     requires page { page < V.PageView.block_count view.old }
-    requires blocks { F.PageForm.blocks form.now ≡ V.PageView.block_count view.old }
+    requires bound { F.PageForm.blocks form.now ≡ V.PageView.block_count view.old }
     requires size { F.PageForm.size form.now ≡ 4096 }
     requires point { IsPoint F.PageForm.scale x.now }
     ensures image { V.PageView.tells → V.PageView.image view.new ≡ V.PageView.image view.old }

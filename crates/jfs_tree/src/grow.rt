@@ -31,7 +31,7 @@ pub fn add_below<V: PageView, F: PageForm>(
     x: &F::Entry,
 ) -> Result<Grown<F::Key>, TreeError>
     requires page { page < V.PageView.block_count view.old }
-    requires blocks { F.PageForm.blocks form.now ≡ V.PageView.block_count view.old }
+    requires bound { F.PageForm.blocks form.now ≡ V.PageView.block_count view.old }
     requires size { F.PageForm.size form.now ≡ 4096 }
     requires good { F.PageForm.is_good form.now x.now }
     requires enough { most ≤ length fresh.old.items }

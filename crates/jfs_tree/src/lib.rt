@@ -6,12 +6,13 @@ mod find;
 mod form;
 mod grow;
 mod pages;
+mod root;
 mod take;
+mod take_root;
 mod tell;
 
 pub use draft::{Draft, Drafted};
-pub use find::find_below;
 pub use form::{NO_PAGE, Put, Sibling, TreeError, Way};
-pub use grow::{Grown, add_below};
 pub use pages::PageForm;
+pub use root::{add_entry, find_entry};
 pub use tell::tell_page;

@@ -1,7 +1,7 @@
 //! The pages of a kind of tree.
 
 ghost use Rattle.std.specs.Prelude.{◌≡◌, ◌<◌, ℕ, List, [], ◌∷◌, IfOk, length};
-ghost use Rattle.jfs_tree.specs.Walk.{Child, Node, Leaf, Scale, IsOrder};
+ghost use Rattle.jfs_tree.specs.Walk.{Child, Node, Leaf, Inner, Scale, IsOrder};
 ghost use Rattle.jfs_tree.specs.Edit.{IsApart, KeysRise, with_entry, found_in};
 ghost use Rattle.jfs_tree.specs.Form.{Leads, IsWithin, PutsRow, SplitsRows, PutsChild, AtPlace, SplitsChildren, as_child};
 
@@ -88,6 +88,17 @@ pub trait PageForm {
         requires full { is_full self.now bytes.old }
         ensures { (all : List (Child Self.Key)) → AtPlace (node self.now bytes.old) place (as_child child.now) all → KeysRise scale all →
             SplitsChildren all (node self.now bytes.new) (node self.now right.new) result };
+
+    /// Moves what a full root has to a page, `q`, and keeps one child.
+    fn move_down(&self, pages: &Self, q: u32, root: &mut [u8], page: &mut [u8])
+        requires size { (length root.old ≡ size self.now) × (length page.old ≡ size pages.now) }
+        requires pages { below self.now ≡ pages.now }
+        requires within { q < blocks self.now }
+        requires full { is_full self.now root.old }
+        ensures entries { (es : List Self.Entry) → node self.now root.old ≡ Leaf es → node pages.now page.new ≡ Leaf es }
+        ensures children { (cs : List (Child Self.Key)) → node self.now root.old ≡ Inner cs → node pages.now page.new ≡ Inner cs }
+        ensures root { node self.now root.new ≡ Inner (record { key = scale.least; page = q } ∷ []) }
+        ensures room { is_full pages.now page.new → ⊥ };
 
     ghost order: { IsOrder scale };
 }

@@ -127,7 +127,7 @@ fn put_two(draft: &mut Draft, page: u32, left: Page, q: u32, right: Page) -> Res
     put_one(draft, q, right)
 }
 
-fn put_one(draft: &mut Draft, n: u32, page: Page) -> Result<(), TreeError>
+pub(crate) fn put_one(draft: &mut Draft, n: u32, page: Page) -> Result<(), TreeError>
     ensures puts { OnOk result (PutsOne draft.old.pages.items draft.new.pages.items n page.0) }
     ensures cause { IfErr result (λ e. e ≡ TreeError.Memory) }
 {

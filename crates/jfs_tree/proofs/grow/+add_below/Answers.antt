@@ -11,7 +11,7 @@ returns-then-most-eq0-clause-bad g t c tells =
 
 pub take_grown-requires-clause-within : goal.take_grown-requires-clause-within
 take_grown-requires-clause-within g t c =
-    subst (λ n. IfSome c.in-Ok-add_below.grown.sibling (λ s. s.page < n)) (sym c.requires.blocks) (c.in-Ok-add_below.ensures.below (g.V.PageView.block_count c.args.view.now) c.requires.within).1
+    subst (λ n. IfSome c.in-Ok-add_below.grown.sibling (λ s. s.page < n)) (sym c.requires.bound) (c.in-Ok-add_below.ensures.below (g.V.PageView.block_count c.args.view.now) c.requires.within).1
 
 pub returns-in-Err-way-clause-bad : goal.returns-in-Err-way-clause-bad
 returns-in-Err-way-clause-bad g t c tells =

@@ -1,0 +1,114 @@
+//! Calls on a whole tree, from its root on.
+
+ghost use Rattle.std.specs.Prelude.{◌≡◌, ◌+◌, ◌<◌, ◌≤◌, ℕ, List, length, OnOk, IfOk, IfErr, IfSome};
+ghost use Rattle.jfs_tree.specs.Edit.{IsPoint};
+ghost use Rattle.jfs_tree.specs.Form.{AllBelow};
+ghost use Rattle.jfs_tree.specs.Call.{nodes, pages_of, CarriesFault};
+ghost use Rattle.jfs_tree.specs.Root.{AddsAlways, FindsAlways, NamesBroken, RefusesWhereBad, RootGrownDid};
+
+use crate::draft::Draft;
+use crate::find::find_below;
+use crate::form::{NO_PAGE, TreeError, Way};
+use crate::grow::{Grown, add_below};
+use crate::pages::PageForm;
+use crate::take_root::{root_takes_child, root_takes_here};
+use jfs_ranges::PageView;
+
+/// The entry of a root's tree that shares a place with `x`, which is one place. It reads one page a level.
+pub fn find_entry<V: PageView, F: PageForm>(
+    top: &F,
+    form: &F,
+    view: &mut V,
+    root: &[u8],
+    x: &F::Entry,
+) -> Result<Option<F::Entry>, TreeError>
+    requires root { length root.now ≡ F.PageForm.size top.now }
+    requires bound { (F.PageForm.blocks top.now ≡ V.PageView.block_count view.old) × (F.PageForm.blocks form.now ≡ V.PageView.block_count view.old) }
+    requires size { F.PageForm.size form.now ≡ 4096 }
+    requires point { IsPoint F.PageForm.scale x.now }
+    ensures image { V.PageView.tells → V.PageView.image view.new ≡ V.PageView.image view.old }
+    ensures count_of_blocks { V.PageView.block_count view.new ≡ V.PageView.block_count view.old }
+    ensures fault { CarriesFault (V.PageView.fault_count view.old) (V.PageView.fault_count view.new) result }
+    ensures found { V.PageView.tells → IfOk result (λ found.
+        FindsAlways F.PageForm.scale x.now (pages_of (F.PageForm.node form.now) (V.PageView.image view.old)) (F.PageForm.node top.now root.now) found) }
+    ensures bad { V.PageView.tells → IfErr result (λ e.
+        NamesBroken F.PageForm.scale (pages_of (F.PageForm.node form.now) (V.PageView.image view.old)) (F.PageForm.node top.now root.now) e) }
+{
+    match top.way(root, x) {
+        Err(rule) => Err(TreeError::Bad {
+            page: NO_PAGE,
+            rule,
+        }),
+        Ok(Way::Here) => Ok(top.find(root, x)),
+        Ok(Way::Down { place, page }) => find_below(form, view, 7, page, x),
+    }
+}
+
+/// Adds an entry to a root's tree. The root is changed in place, and the changed pages go into the draft; new pages are taken from the
+/// end of `fresh`. After an `Err` root, draft and `fresh` are to be thrown away.
+pub fn add_entry<V: PageView, F: PageForm>(
+    top: &F,
+    form: &F,
+    view: &mut V,
+    draft: &mut Draft,
+    fresh: &mut Vec<u32>,
+    root: &mut [u8],
+    x: &F::Entry,
+) -> Result<(), TreeError>
+    requires root { length root.old ≡ F.PageForm.size top.now }
+    requires bound { (F.PageForm.blocks top.now ≡ V.PageView.block_count view.old) × (F.PageForm.blocks form.now ≡ V.PageView.block_count view.old) }
+    requires size { F.PageForm.size form.now ≡ 4096 }
+    requires pages { F.PageForm.below top.now ≡ form.now }
+    requires good { (F.PageForm.is_good top.now x.now) × (F.PageForm.is_good form.now x.now) }
+    requires enough { 8 ≤ length fresh.old.items }
+    requires within { AllBelow (V.PageView.block_count view.old) fresh.old.items }
+    ensures image { V.PageView.tells → V.PageView.image view.new ≡ V.PageView.image view.old }
+    ensures count_of_blocks { V.PageView.block_count view.new ≡ V.PageView.block_count view.old }
+    ensures fault { CarriesFault (V.PageView.fault_count view.old) (V.PageView.fault_count view.new) result }
+    ensures adds { V.PageView.tells → OnOk result (AddsAlways F.PageForm.scale x.now
+        (nodes (F.PageForm.node form.now) draft.old.pages.items (V.PageView.image view.old))
+        (nodes (F.PageForm.node form.now) draft.new.pages.items (V.PageView.image view.old))
+        (F.PageForm.node top.now root.old) (F.PageForm.node top.now root.new) fresh.old.items fresh.new.items) }
+    ensures refused { V.PageView.tells → IfErr result (λ e. RefusesWhereBad F.PageForm.scale x.now
+        (nodes (F.PageForm.node form.now) draft.old.pages.items (V.PageView.image view.old)) (F.PageForm.node top.now root.old) fresh.old.items e) }
+{
+    let _blocks = view.blocks();
+    match top.way(root, x) {
+        Err(rule) => Err(TreeError::Bad {
+            page: NO_PAGE,
+            rule,
+        }),
+        Ok(Way::Here) => root_takes_here(top, form, draft, fresh, root, x),
+        Ok(Way::Down { place, page }) => match add_below(form, view, draft, fresh, 7, page, x) {
+            Ok(grown) => root_takes_grown(top, form, draft, fresh, root, place, grown),
+            Err(e) => Err(e),
+        },
+    }
+}
+
+/// Puts the page that may stand behind a child into the root.
+fn root_takes_grown<F: PageForm>(
+    top: &F,
+    form: &F,
+    draft: &mut Draft,
+    fresh: &mut Vec<u32>,
+    root: &mut [u8],
+    place: usize,
+    grown: Grown<F::Key>,
+) -> Result<(), TreeError>
+    requires root { length root.old ≡ F.PageForm.size top.now }
+    requires bound { F.PageForm.blocks form.now ≡ F.PageForm.blocks top.now }
+    requires size { F.PageForm.size form.now ≡ 4096 }
+    requires pages { F.PageForm.below top.now ≡ form.now }
+    requires child { IfSome grown.sibling (λ s. s.page < F.PageForm.blocks top.now) }
+    requires enough { 0 < length fresh.old.items }
+    requires within { AllBelow (F.PageForm.blocks top.now) fresh.old.items }
+    ensures did { RootGrownDid (F.PageForm.node form.now) F.PageForm.scale grown.levels place grown.sibling (F.PageForm.node top.now root.old) (F.PageForm.node top.now root.new) draft.old.pages.items draft.new.pages.items fresh.old.items fresh.new.items result }
+    ensures below { AllBelow (F.PageForm.blocks top.now) fresh.new.items }
+{
+    let Grown { sibling, levels } = grown;
+    match sibling {
+        None => Ok(()),
+        Some(new) => root_takes_child(top, form, draft, fresh, root, place, new, levels),
+    }
+}

@@ -1,0 +1,151 @@
+//! A root that takes an entry or a child; one without room moves to a new page first.
+
+ghost use Rattle.std.specs.Prelude.{◌≡◌, ◌+◌, ◌<◌, ◌≤◌, ℕ, List, length};
+ghost use Rattle.jfs_tree.specs.Form.{AllBelow};
+ghost use Rattle.jfs_tree.specs.Root.{RootHereDid, RootChildDid};
+
+use crate::draft::Draft;
+use crate::form::{NO_PAGE, Put, Sibling, TreeError};
+use crate::pages::PageForm;
+use crate::take::put_one;
+use jfs_bits::Rule;
+use jfs_disk::Page;
+
+/// Puts an entry into a root that is a leaf.
+pub(crate) fn root_takes_here<F: PageForm>(
+    top: &F,
+    form: &F,
+    draft: &mut Draft,
+    fresh: &mut Vec<u32>,
+    root: &mut [u8],
+    x: &F::Entry,
+) -> Result<(), TreeError>
+    requires root { length root.old ≡ F.PageForm.size top.now }
+    requires size { F.PageForm.size form.now ≡ 4096 }
+    requires pages { F.PageForm.below top.now ≡ form.now }
+    requires good { (F.PageForm.is_good top.now x.now) × (F.PageForm.is_good form.now x.now) }
+    requires enough { 0 < length fresh.old.items }
+    requires within { AllBelow (F.PageForm.blocks top.now) fresh.old.items }
+    ensures did { RootHereDid (F.PageForm.node form.now) F.PageForm.scale x.now (F.PageForm.node top.now root.old) (F.PageForm.node top.now root.new) draft.old.pages.items draft.new.pages.items fresh.old.items fresh.new.items result }
+    ensures below { AllBelow (F.PageForm.blocks top.now) fresh.new.items }
+{
+    match top.put(root, x) {
+        Put::Done => Ok(()),
+        Put::Clash => Err(TreeError::Bad {
+            page: NO_PAGE,
+            rule: Rule::Order,
+        }),
+        Put::Full => moves_with_entry(top, form, draft, fresh, root, x),
+    }
+}
+
+/// Moves a full root to a new page, and puts the entry there.
+fn moves_with_entry<F: PageForm>(
+    top: &F,
+    form: &F,
+    draft: &mut Draft,
+    fresh: &mut Vec<u32>,
+    root: &mut [u8],
+    x: &F::Entry,
+) -> Result<(), TreeError>
+    requires root { length root.old ≡ F.PageForm.size top.now }
+    requires size { F.PageForm.size form.now ≡ 4096 }
+    requires pages { F.PageForm.below top.now ≡ form.now }
+    requires good { F.PageForm.is_good form.now x.now }
+    requires full { F.PageForm.is_full top.now root.old }
+    requires enough { 0 < length fresh.old.items }
+    requires within { AllBelow (F.PageForm.blocks top.now) fresh.old.items }
+    ensures did { RootHereDid (F.PageForm.node form.now) F.PageForm.scale x.now (F.PageForm.node top.now root.old) (F.PageForm.node top.now root.new) draft.old.pages.items draft.new.pages.items fresh.old.items fresh.new.items result }
+    ensures below { AllBelow (F.PageForm.blocks top.now) fresh.new.items }
+{
+    let Some(q) = fresh.pop() else {
+        unreachable!();
+    };
+    let mut page = Page::zeros();
+    top.move_down(form, q, root, &mut page.0);
+    match form.put(&mut page.0, x) {
+        Put::Done => put_one(draft, q, page),
+        Put::Clash => Err(TreeError::Bad {
+            page: NO_PAGE,
+            rule: Rule::Order,
+        }),
+        Put::Full => unreachable!(),
+    }
+}
+
+/// Puts a child, which has so many levels, behind the one at a place of a root. A tree of 8 levels gets no ninth.
+pub(crate) fn root_takes_child<F: PageForm>(
+    top: &F,
+    form: &F,
+    draft: &mut Draft,
+    fresh: &mut Vec<u32>,
+    root: &mut [u8],
+    place: usize,
+    child: Sibling<F::Key>,
+    levels: u32,
+) -> Result<(), TreeError>
+    requires root { length root.old ≡ F.PageForm.size top.now }
+    requires bound { F.PageForm.blocks form.now ≡ F.PageForm.blocks top.now }
+    requires size { F.PageForm.size form.now ≡ 4096 }
+    requires pages { F.PageForm.below top.now ≡ form.now }
+    requires child { child.page < F.PageForm.blocks top.now }
+    requires enough { 0 < length fresh.old.items }
+    requires within { AllBelow (F.PageForm.blocks top.now) fresh.old.items }
+    ensures did { RootChildDid (F.PageForm.node form.now) F.PageForm.scale levels place child (F.PageForm.node top.now root.old) (F.PageForm.node top.now root.new) draft.old.pages.items draft.new.pages.items fresh.old.items fresh.new.items result }
+    ensures below { AllBelow (F.PageForm.blocks top.now) fresh.new.items }
+{
+    match top.put_child(root, place, &child) {
+        Put::Done => Ok(()),
+        Put::Clash => Err(TreeError::Bad {
+            page: NO_PAGE,
+            rule: Rule::Order,
+        }),
+        Put::Full => {
+            if levels >= 7 {
+                return Err(TreeError::Bad {
+                    page: NO_PAGE,
+                    rule: Rule::Deep,
+                });
+            }
+            moves_with_child(top, form, draft, fresh, root, place, child, levels)
+        }
+    }
+}
+
+/// Moves a full root to a new page, and puts the child there.
+fn moves_with_child<F: PageForm>(
+    top: &F,
+    form: &F,
+    draft: &mut Draft,
+    fresh: &mut Vec<u32>,
+    root: &mut [u8],
+    place: usize,
+    child: Sibling<F::Key>,
+    levels: u32,
+) -> Result<(), TreeError>
+    requires root { length root.old ≡ F.PageForm.size top.now }
+    requires bound { F.PageForm.blocks form.now ≡ F.PageForm.blocks top.now }
+    requires size { F.PageForm.size form.now ≡ 4096 }
+    requires pages { F.PageForm.below top.now ≡ form.now }
+    requires child { child.page < F.PageForm.blocks top.now }
+    requires full { F.PageForm.is_full top.now root.old }
+    requires room { levels < 7 }
+    requires enough { 0 < length fresh.old.items }
+    requires within { AllBelow (F.PageForm.blocks top.now) fresh.old.items }
+    ensures did { RootChildDid (F.PageForm.node form.now) F.PageForm.scale levels place child (F.PageForm.node top.now root.old) (F.PageForm.node top.now root.new) draft.old.pages.items draft.new.pages.items fresh.old.items fresh.new.items result }
+    ensures below { AllBelow (F.PageForm.blocks top.now) fresh.new.items }
+{
+    let Some(q) = fresh.pop() else {
+        unreachable!();
+    };
+    let mut page = Page::zeros();
+    top.move_down(form, q, root, &mut page.0);
+    match form.put_child(&mut page.0, place, &child) {
+        Put::Done => put_one(draft, q, page),
+        Put::Clash => Err(TreeError::Bad {
+            page: NO_PAGE,
+            rule: Rule::Order,
+        }),
+        Put::Full => unreachable!(),
+    }
+}
