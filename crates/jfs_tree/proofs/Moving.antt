@@ -1,13 +1,12 @@
 -- A root that moves to a new page, as the draft shows it.
-use Rattle.std.proofs.Common.{◌≡◌, ◌≢◌, ◌≤◌, ◌<◌, ◌⊎◌, inl, inr, refl, sym, ap, ◌∙◌, subst, ℕ, suc, ◌+◌, ◌==◌, if◌then◌else◌, List, [], ◌∷◌, ◌++◌, Option, Some, None, Result, Ok, Err, OnOk, IfErr, arith}
+use Rattle.std.proofs.Common.{◌≡◌, ◌<◌, inr, ap, ◌∙◌, ℕ, ◌+◌, List, [], ◌∷◌, ◌++◌, Result, Ok, Err, OnOk, IfErr, arith}
 use Rattle.jfs_bits.specs.declared.rule.Rule.{Rule}
-use Rattle.jfs_disk.specs.Image.{Image}
 use Rattle.jfs_ranges.specs.declared.view.ViewError.{ViewError}
 use Rattle.jfs_tree.specs.Walk.{Child, Node, Leaf, Inner, Scale}
 use Rattle.jfs_tree.specs.Edit.{IsApart, KeysRise, with_entry}
 use Rattle.jfs_tree.specs.Form.{AtPlace, HasChildren, as_child}
 use Rattle.jfs_tree.specs.Draft.{shown}
-use Rattle.jfs_tree.specs.Call.{PutsOne, nodes}
+use Rattle.jfs_tree.specs.Call.{PutsOne}
 use Rattle.jfs_tree.specs.Root.{RootChildDid, RootHereDid}
 use Rattle.jfs_tree.specs.declared.draft.Drafted.{Drafted}
 use Rattle.jfs_tree.specs.declared.form.Sibling.{Sibling}
@@ -27,8 +26,14 @@ pub here_moved : {P E : Type 0} (node : List ℕ → Node P E) (s : Scale P E) (
     → after ≡ Inner (record { key = s.least; page = q } ∷ []) → free ≡ left ++ q ∷ []
     → OnOk r (PutsOne old new q put) → IfErr r (λ e. e ≡ Memory) → RootHereDid node s x root after old new free left r
 here_moved node s x root after moved put q old new free left (Ok u) entries puts above pop is cause = λ image es leaf apart.
-    inr (q, omega arith, above, ap node (is image q ∙ itself q put (shown old image q)) ∙ puts es (entries es leaf) apart,
-      (λ n ne. ap node (is image n ∙ another n q put (shown old image n) ne)), taken_last free left q pop)
+    inr (
+      q,
+      omega arith,
+      above,
+      ap node (is image q ∙ itself q put (shown old image q)) ∙ puts es (entries es leaf) apart,
+      (λ n ne. ap node (is image n ∙ another n q put (shown old image n) ne)),
+      taken_last free left q pop,
+    )
 here_moved node s x root after moved put q old new free left (Err (View v)) entries puts above pop is cause = view_memory v cause
 here_moved node s x root after moved put q old new free left (Err (Bad page rule)) entries puts above pop is cause = absurd (bad_memory page rule cause)
 here_moved node s x root after moved put q old new free left (Err Memory) entries puts above pop is cause = tt
@@ -44,10 +49,18 @@ pub child_moved : {P E : Type 0} (node : List ℕ → Node P E) (s : Scale P E) 
     → ((all : List (Child P)) → AtPlace (node moved) place (as_child child) all → KeysRise s all → HasChildren (node put) all)
     → after ≡ Inner (record { key = s.least; page = q } ∷ []) → free ≡ left ++ q ∷ []
     → OnOk r (PutsOne old new q put) → IfErr r (λ e. e ≡ Memory) → RootChildDid node s levels place child root after old new free left r
-child_moved node s levels place child root after moved put q old new free left (Ok u) low children puts above pop is cause = λ image all at keys.
-    (node put, puts all (place_moved root (node moved) place (as_child child) all children at) keys,
-      inr (q, one_more_level levels low, above, ap node (is image q ∙ itself q put (shown old image q)),
-        (λ n ne. ap node (is image n ∙ another n q put (shown old image n) ne)), taken_last free left q pop))
+child_moved node s levels place child root after moved put q old new free left (Ok u) low children puts above pop is cause = λ image all at keys. (
+  node put,
+  puts all (place_moved root (node moved) place (as_child child) all children at) keys,
+  inr (
+    q,
+    one_more_level levels low,
+    above,
+    ap node (is image q ∙ itself q put (shown old image q)),
+    (λ n ne. ap node (is image n ∙ another n q put (shown old image n) ne)),
+    taken_last free left q pop,
+  ),
+)
 child_moved node s levels place child root after moved put q old new free left (Err (View v)) low children puts above pop is cause = view_memory v cause
 child_moved node s levels place child root after moved put q old new free left (Err (Bad page rule)) low children puts above pop is cause = absurd (bad_memory page rule cause)
 child_moved node s levels place child root after moved put q old new free left (Err Memory) low children puts above pop is cause = tt

@@ -1,15 +1,13 @@
 -- What calls on a whole tree answer, from what their parts do.
-use Rattle.std.proofs.Common.{◌≡◌, ◌≢◌, ◌≤◌, ◌<◌, ◌⊎◌, inl, inr, refl, sym, ap, ◌∙◌, subst, ℕ, zero, suc, ◌+◌, Bool, true, false, List, [], ◌∷◌, ◌++◌, ◌==◌, if◌then◌else◌, Option, Some, None, Result, Ok, Err, IfOk, IfErr, OnOk, arith}
-use Rattle.std.specs.List.{flat_map}
+use Rattle.std.proofs.Common.{◌≡◌, ◌≤◌, ◌⊎◌, inl, inr, refl, sym, ap, ◌∙◌, subst, ℕ, zero, suc, ◌+◌, List, [], ◌∷◌, ◌++◌, ◌==◌, if◌then◌else◌, Option, Some, None, Result, Ok, Err, IfOk, IfErr, OnOk, arith}
 use Rattle.jfs_bits.specs.declared.rule.Rule.{Rule}
-use Rattle.jfs_bits.specs.declared.rule.Rule.TheVariants as rules
 use Rattle.jfs_disk.specs.Image.{Image}
-use Rattle.jfs_tree.specs.Walk.{Child, Node, Leaf, Inner, Broken, Page, Key, Marks, Scale, Rises, IsOrder, rows_of, times, under, walk}
-use Rattle.jfs_tree.specs.Spells.{no_page, with_root, levels_of, top, tree_of, spells}
-use Rattle.jfs_tree.specs.Edit.{IsApart, IsPoint, IsCons, KeysRise, EndsAt, Ready, Took, Grew, Added, count_in, found_in, bound, own, with_entry}
-use Rattle.jfs_tree.specs.Form.{AllBelow, AtPlace, HasChildren, Leads, LeadsDown, as_child, children_of}
+use Rattle.jfs_tree.specs.Walk.{Child, Node, Leaf, Inner, Broken, Scale, Rises, IsOrder, rows_of, times, walk}
+use Rattle.jfs_tree.specs.Spells.{no_page, with_root, top, tree_of, spells}
+use Rattle.jfs_tree.specs.Edit.{IsApart, IsPoint, IsCons, EndsAt, Ready, Grew, count_in, found_in, own}
+use Rattle.jfs_tree.specs.Form.{AllBelow, HasChildren, LeadsDown, as_child, children_of}
 use Rattle.jfs_tree.specs.Call.{Breaks, BreaksWhereBad, Finds, RefutesWhereBad, nodes}
-use Rattle.jfs_tree.specs.Root.{Adds, AddsAlways, FindsAlways, IsSpare, NamesBroken, RefusesWhereBad, RootChildDid, RootGrownDid, RootHereDid, Settled}
+use Rattle.jfs_tree.specs.Root.{AddsAlways, FindsAlways, IsSpare, NamesBroken, RefusesWhereBad, RootGrownDid, RootHereDid, Settled}
 use Rattle.jfs_tree.specs.declared.draft.Drafted.{Drafted}
 use Rattle.jfs_tree.specs.declared.form.Sibling.{Sibling}
 use Rattle.jfs_tree.specs.declared.form.TreeError.{TreeError}
@@ -17,13 +15,13 @@ use Rattle.jfs_tree.specs.declared.form.TreeError.TheVariants.{View, Bad, Memory
 use Rattle.jfs_tree.proofs.Adding.{ends_level, inner_part}
 use Rattle.jfs_tree.proofs.Finding.{leaf_level, inner_level, broken_level}
 use Rattle.jfs_tree.proofs.Found.{find_down, leaf_rows}
-use Rattle.jfs_tree.proofs.Growing.{Route, own_page, own_key}
+use Rattle.jfs_tree.proofs.Growing.{own_page}
 use Rattle.jfs_tree.proofs.Once.{each_once}
 use Rattle.jfs_tree.proofs.RootSteps.{here_adds, root_keys, root_part, root_took, settled_adds}
-use Rattle.jfs_tree.proofs.Spelled.{Stands, stands, levels_found}
-use Rattle.jfs_tree.proofs.Steps.{inner_ready, times_inner}
+use Rattle.jfs_tree.proofs.Spelled.{stands, levels_found}
+use Rattle.jfs_tree.proofs.Steps.{times_inner}
 use Rattle.jfs_tree.proofs.Taking.{route_of, place_of}
-use Rattle.jfs_tree.proofs.Tops.{count_below, off_one, page_or, root_else, top_ready}
+use Rattle.jfs_tree.proofs.Tops.{off_one, root_else, top_ready}
 
 -- a root that is to take an entry, at the level of its leaves
 record At {P E : Type 0} (s : Scale P E) (x : E) (es : List E) (pages : ℕ → Node P E) (root : Node P E) (free : List ℕ) : Type 0 where
@@ -37,11 +35,15 @@ at_root : {P E : Type 0} (s : Scale P E) → IsOrder s → (x : E) (es : List E)
     → AllBelow blocks free → blocks ≤ no_page → (root ≡ Leaf [] → ⊥) → spells s pages root ≡ Ok es → IsApart s x es → IsSpare s pages root free → At s x es pages root free
 at_root s o x es pages root blocks free below within more spelled apart spare =
     elim (stands s pages root es spelled) [
-      inl e ↦ absurd (more e.0)
-    | inr st ↦ record {
-        levels = st.levels; most = st.most; is = st.is; rows = st.rows;
+      | inl e ↦ absurd (more e.0)
+      | inr st ↦ record {
+        levels = st.levels;
+        most = st.most;
+        is = st.is;
+        rows = st.rows;
         ready = top_ready s o x pages root st.levels blocks free st.is st.rises (subst (IsApart s x) (sym st.rows) apart) spare below within;
-      } ]
+      }
+    ]
 
 abbrev broken_node : (P E : Type 0) → Rule → Node P E
 broken_node P E rule = Broken rule
@@ -57,8 +59,9 @@ inner_node P E cs = Inner cs
 pub refuse_broken : {P E : Type 0} (s : Scale P E) (x : E) (pages : ℕ → Node P E) (root : Node P E) (rule : Rule) (free : List ℕ) (bad : ℕ) (named : Rule) → root ≡ Broken rule → RefusesWhereBad s x pages root free (Bad bad named)
 refuse_broken {P} {E} s x pages root rule free bad named is es spelled apart spare =
     elim (stands s pages root es spelled) [
-      inl e ↦ absurd (not_leaf (sym is ∙ e.0))
-    | inr st ↦ absurd (broken_level s (with_root root pages) st.levels (top s) rule s.least None is st.rises) ]
+      | inl e ↦ absurd (not_leaf (sym is ∙ e.0))
+      | inr st ↦ absurd (broken_level s (with_root root pages) st.levels (top s) rule s.least None is st.rises)
+    ]
   where
     not_leaf : broken_node P E rule ≡ leaf_node P E [] → ⊥
     not_leaf h = cc
@@ -68,12 +71,13 @@ pub refuse_here : {P E : Type 0} (node : List ℕ → Node P E) (s : Scale P E) 
 refuse_here node s o x pages root after old new free left rest (View v) is did = tt
 refuse_here {P} {E} node s o x pages root after old new free left rest (Bad bad rule) is did = λ es spelled apart spare.
     elim (stands s pages root es spelled) [
-      inl e ↦ absurd (did [] e.0 tt)
-    | inr st ↦
-        let level = leaf_level s (with_root root pages) st.levels (top s) rest s.least None is st.rises in
-        let rises = subst (λ l. Rises s s.least (walk s (with_root root pages) l (top s)) None) level st.rises in
-        let same : es ≡ rest = sym st.rows ∙ ap (λ l. rows_of (walk s (with_root root pages) l (top s))) level ∙ leaf_rows s (with_root root pages) (top s) rest s.least None is rises in
-        absurd (did rest is (subst (IsApart s x) same apart)) ]
+      | inl e ↦ absurd (did [] e.0 tt)
+      | inr st ↦
+          let level = leaf_level s (with_root root pages) st.levels (top s) rest s.least None is st.rises in
+          let rises = subst (λ l. Rises s s.least (walk s (with_root root pages) l (top s)) None) level st.rises in
+          let same : es ≡ rest = sym st.rows ∙ ap (λ l. rows_of (walk s (with_root root pages) l (top s))) level ∙ leaf_rows s (with_root root pages) (top s) rest s.least None is rises in
+          absurd (did rest is (subst (IsApart s x) same apart))
+    ]
 refuse_here node s o x pages root after old new free left rest Memory is did = tt
 
 leads_more : (P E : Type 0) (cs : List (Child P)) → inner_node P E cs ≡ leaf_node P E [] → ⊥
@@ -133,13 +137,15 @@ keeps_root {P} s o x pages mid root lower place child more free between leads re
     let off : times no_page T ≡ 0 = off_by (times no_page (walk s (with_root root pages) (suc (suc lower)) (top s))) _ (times no_page T) _ (count_in no_page free) zr o_root in
     let was : walk s pages (suc lower) u ≡ T = off_one s (with_root root pages) pages (suc lower) u (λ m ne. sym (root_else root pages m ne)) off in
     let none : times n T ≡ 0 = elim h [
-          inl i ↦ subst (λ m. times m T ≡ 0) (sym i) off
-        | inr t ↦ inner_none (times n (walk s (with_root root pages) (suc (suc lower)) (top s))) _ _ (times n T) _ z t ] in
+      | inl i ↦ subst (λ m. times m T ≡ 0) (sym i) off
+      | inr t ↦ inner_none (times n (walk s (with_root root pages) (suc (suc lower)) (top s))) _ _ (times n T) _ z t
+    ] in
     let g = subst (λ p. Grew s x pages mid (suc lower) p more free between) (sym (own_page s.least leads.front leads.child ∙ leads.to)) grew in
     g.keeps u.key n (ap (times n) was ∙ none) e
   where
     off_by : (w a t b f : ℕ) → w ≡ (if no_page == no_page then 1 else 0) + (a + (t + b)) → w + f ≤ 1 → t ≡ 0
     off_by w a t b f e h = omega (arith, e, h)
+
     inner_none : (w c a t b : ℕ) → w ≡ c + (a + (t + b)) → w ≡ 0 → t ≡ 0
     inner_none w c a t b e h = omega (arith, e, h)
 
@@ -164,21 +170,21 @@ grown_adds node s o x image root after old mid new place child levels blocks fre
     let g = subst (λ l. Grew s x (nodes node old image) (nodes node mid image) l child [] free between) w.level grew in
     let has : HasChildren root (leads.front ++ leads.child ∷ leads.back) = record { children = leads.front ++ leads.child ∷ leads.back; is = leads.is; some = cons_middle leads.front leads.child leads.back; same = λ k. refl } in
     settled_adds s o x es (nodes node old image) (nodes node mid image) (nodes node new image) root root after (walk s (with_root root (nodes node old image)) (suc (suc w.lower)) (top s)) (suc (suc w.lower)) blocks free between left
-      w.is w.rows w.most below_free below_left within w.ready.once g.takes
-      (root_took s o x root root (nodes node old image) (nodes node mid image) w.lower child [] free between leads.front leads.child leads.back (route_of s x root place child leads) g w.ready has)
-      (keeps_root s o x (nodes node old image) (nodes node mid image) root w.lower place child [] free between leads w.ready g)
-      (settle_none node s (suc (suc w.lower)) image root after mid new between left did.0 did.1 did.2)
+    w.is w.rows w.most below_free below_left within w.ready.once g.takes
+    (root_took s o x root root (nodes node old image) (nodes node mid image) w.lower child [] free between leads.front leads.child leads.back (route_of s x root place child leads) g w.ready has)
+    (keeps_root s o x (nodes node old image) (nodes node mid image) root w.lower place child [] free between leads w.ready g)
+    (settle_none node s (suc (suc w.lower)) image root after mid new between left did.0 did.1 did.2)
 grown_adds node s o x image root after old mid new place child levels blocks free between left (Some sibling) below_free below_left within leads grew did es spelled apart spare =
     let w = below_root s o x es (nodes node old image) root place child levels blocks free below_free within leads grew.ends spelled apart spare in
     let g = subst (λ l. Grew s x (nodes node old image) (nodes node mid image) l child (as_child sibling ∷ []) free between) w.level grew in
     let route = route_of s x root place child leads in
     let d = did image (leads.front ++ leads.child ∷ as_child sibling ∷ leads.back) (place_of s x root place child leads (as_child sibling))
-        (root_keys s o x root (nodes node old image) (nodes node mid image) w.lower child (as_child sibling ∷ []) free between leads.front leads.child leads.back route g w.ready) in
+    (root_keys s o x root (nodes node old image) (nodes node mid image) w.lower child (as_child sibling ∷ []) free between leads.front leads.child leads.back route g w.ready) in
     settled_adds s o x es (nodes node old image) (nodes node mid image) (nodes node new image) root d.0 after (walk s (with_root root (nodes node old image)) (suc (suc w.lower)) (top s)) (suc (suc w.lower)) blocks free between left
-      w.is w.rows w.most below_free below_left within w.ready.once g.takes
-      (root_took s o x root d.0 (nodes node old image) (nodes node mid image) w.lower child (as_child sibling ∷ []) free between leads.front leads.child leads.back route g w.ready d.1)
-      (keeps_root s o x (nodes node old image) (nodes node mid image) root w.lower place child (as_child sibling ∷ []) free between leads w.ready g)
-      (subst (λ l. Settled s l d.0 (nodes node mid image) (nodes node new image) after between left) (one_level levels w.lower w.level) d.2)
+    w.is w.rows w.most below_free below_left within w.ready.once g.takes
+    (root_took s o x root d.0 (nodes node old image) (nodes node mid image) w.lower child (as_child sibling ∷ []) free between leads.front leads.child leads.back route g w.ready d.1)
+    (keeps_root s o x (nodes node old image) (nodes node mid image) root w.lower place child (as_child sibling ∷ []) free between leads w.ready g)
+    (subst (λ l. Settled s l d.0 (nodes node mid image) (nodes node new image) after between left) (one_level levels w.lower w.level) d.2)
 
 eight : (levels lower : ℕ) → levels ≡ suc lower → suc (suc lower) ≤ 8 → 7 ≤ levels → suc (suc lower) ≡ 8
 eight levels lower h m l = omega (arith, h, m, l)
@@ -195,7 +201,7 @@ grown_refuses node s o x image root after old mid new place child levels blocks 
     let w = below_root s o x es (nodes node old image) root place child levels blocks free below_free within leads grew.ends spelled apart spare in
     let g = subst (λ l. Grew s x (nodes node old image) (nodes node mid image) l child (as_child sibling ∷ []) free between) w.level grew in
     let d = did (leads.front ++ leads.child ∷ as_child sibling ∷ leads.back) (place_of s x root place child leads (as_child sibling))
-        (root_keys s o x root (nodes node old image) (nodes node mid image) w.lower child (as_child sibling ∷ []) free between leads.front leads.child leads.back (route_of s x root place child leads) g w.ready) in
+    (root_keys s o x root (nodes node old image) (nodes node mid image) w.lower child (as_child sibling ∷ []) free between leads.front leads.child leads.back (route_of s x root place child leads) g w.ready) in
     (d.0, d.1, levels_found s o (with_root root (nodes node old image)) (suc (suc w.lower)) 8 (top s) s.least None w.most w.ready.rises ∙ ap Some (eight levels w.lower w.level w.most d.2))
 
 -- ---- what is found
@@ -209,19 +215,20 @@ part_off : {P E : Type 0} (s : Scale P E) → IsOrder s → (root : Node P E) (p
     → walk s pages (suc lower) (own s.least front t) ≡ walk s (with_root root pages) (suc lower) (own s.least front t)
 part_off s o root pages lower front t back is r =
     off_one s (with_root root pages) pages (suc lower) (own s.least front t) (λ n ne. sym (root_else root pages n ne))
-      (off_once (times no_page (walk s (with_root root pages) (suc (suc lower)) (top s))) _ (times no_page (walk s (with_root root pages) (suc lower) (own s.least front t))) _
-        (times_inner s (with_root root pages) lower (top s) front t back no_page is) (each_once s o (with_root root pages) (suc (suc lower)) (top s) s.least None r no_page))
+    (off_once (times no_page (walk s (with_root root pages) (suc (suc lower)) (top s))) _ (times no_page (walk s (with_root root pages) (suc lower) (own s.least front t))) _
+    (times_inner s (with_root root pages) lower (top s) front t back no_page is) (each_once s o (with_root root pages) (suc (suc lower)) (top s) s.least None r no_page))
 
 pub here_always : {P E : Type 0} (s : Scale P E) (x : E) (pages : ℕ → Node P E) (root : Node P E) (rest : List E) (found : Option E)
     → root ≡ Leaf rest → found ≡ found_in s x rest → FindsAlways s x pages root found
 here_always {P} {E} s x pages root rest found is finds es spelled =
     elim (stands s pages root es spelled) [
-      inl e ↦ finds ∙ ap (found_in s x) (leaf_is (sym is ∙ e.0) ∙ sym e.1)
-    | inr st ↦
-        let level = leaf_level s (with_root root pages) st.levels (top s) rest s.least None is st.rises in
-        let rises = subst (λ l. Rises s s.least (walk s (with_root root pages) l (top s)) None) level st.rises in
-        let same : rest ≡ es = sym (leaf_rows s (with_root root pages) (top s) rest s.least None is rises) ∙ ap (λ l. rows_of (walk s (with_root root pages) l (top s))) (sym level) ∙ st.rows in
-        finds ∙ ap (found_in s x) same ]
+      | inl e ↦ finds ∙ ap (found_in s x) (leaf_is (sym is ∙ e.0) ∙ sym e.1)
+      | inr st ↦
+          let level = leaf_level s (with_root root pages) st.levels (top s) rest s.least None is st.rises in
+          let rises = subst (λ l. Rises s s.least (walk s (with_root root pages) l (top s)) None) level st.rises in
+          let same : rest ≡ es = sym (leaf_rows s (with_root root pages) (top s) rest s.least None is rises) ∙ ap (λ l. rows_of (walk s (with_root root pages) l (top s))) (sym level) ∙ st.rows in
+          finds ∙ ap (found_in s x) same
+    ]
   where
     leaf_is : leaf_node P E rest ≡ leaf_node P E [] → rest ≡ []
     leaf_is h = cc
@@ -230,16 +237,17 @@ pub down_always : {P E : Type 0} (s : Scale P E) → IsOrder s → (x : E) → I
     → LeadsDown s x root place child → Finds s x pages child found → FindsAlways s x pages root found
 down_always {P} {E} s o x p pages root place child found leads finds es spelled =
     elim (stands s pages root es spelled) [
-      inl e ↦ absurd (leads_more P E (leads.front ++ leads.child ∷ leads.back) (sym leads.is ∙ e.0))
-    | inr st ↦
-        let l = inner_level s (with_root root pages) st.levels (top s) (leads.front ++ leads.child ∷ leads.back) s.least None leads.is st.rises in
-        let r = subst (λ i. Rises s s.least (walk s (with_root root pages) i (top s)) None) l.1 st.rises in
-        let t = find_down s o x p (with_root root pages) l.0 (top s) child leads.front leads.child leads.back s.least None (route_of s x root place child leads) (o.least_le (s.from x)) r in
-        let u = own s.least leads.front leads.child in
-        let off = part_off s o root pages l.0 leads.front leads.child leads.back leads.is r in
-        let there = subst (λ n. Finds s x pages n found) (sym (own_page s.least leads.front leads.child ∙ leads.to)) finds in
-        there (suc l.0) u.key t.0 (Some t.1) t.3 (subst (λ ms. Rises s t.0 ms (Some t.1)) (sym off) t.2) ∙ ap (λ ms. found_in s x (rows_of ms)) off ∙ sym t.4
-        ∙ ap (found_in s x) (ap (λ i. rows_of (walk s (with_root root pages) i (top s))) (sym l.1) ∙ st.rows) ]
+      | inl e ↦ absurd (leads_more P E (leads.front ++ leads.child ∷ leads.back) (sym leads.is ∙ e.0))
+      | inr st ↦
+          let l = inner_level s (with_root root pages) st.levels (top s) (leads.front ++ leads.child ∷ leads.back) s.least None leads.is st.rises in
+          let r = subst (λ i. Rises s s.least (walk s (with_root root pages) i (top s)) None) l.1 st.rises in
+          let t = find_down s o x p (with_root root pages) l.0 (top s) child leads.front leads.child leads.back s.least None (route_of s x root place child leads) (o.least_le (s.from x)) r in
+          let u = own s.least leads.front leads.child in
+          let off = part_off s o root pages l.0 leads.front leads.child leads.back leads.is r in
+          let there = subst (λ n. Finds s x pages n found) (sym (own_page s.least leads.front leads.child ∙ leads.to)) finds in
+          there (suc l.0) u.key t.0 (Some t.1) t.3 (subst (λ ms. Rises s t.0 ms (Some t.1)) (sym off) t.2) ∙ ap (λ ms. found_in s x (rows_of ms)) off ∙ sym t.4
+          ∙ ap (found_in s x) (ap (λ i. rows_of (walk s (with_root root pages) i (top s))) (sym l.1) ∙ st.rows)
+    ]
 
 -- what breaks a rule doesn't rise
 breaks_rises : {P E : Type 0} (s : Scale P E) → IsOrder s → (nodes : ℕ → Node P E) (most levels : ℕ) (c : Child P) (bad : ℕ) (rule : Rule) (low : P) (high : Option P)
@@ -258,9 +266,13 @@ breaks_rises s o nodes (suc most) levels c bad rule low high (inr (front, t, bac
     breaks_rises s o nodes most (suc l.0) u bad rule p.0 (Some p.1) (subst (λ n. Breaks nodes most n bad rule) (sym (own_page c.key front t)) b) (let i = l.1 in omega (arith, m, i)) p.2
 
 pub names_root : {P E : Type 0} (s : Scale P E) (pages : ℕ → Node P E) (root : Node P E) (rule : Rule) → root ≡ Broken rule → NamesBroken s pages root (Bad no_page rule)
-names_root {P} {E} s pages root rule is = (inl (refl, is), λ es spelled. elim (stands s pages root es spelled) [
-      inl e ↦ not_leaf (sym is ∙ e.0)
-    | inr st ↦ broken_level s (with_root root pages) st.levels (top s) rule s.least None is st.rises ])
+names_root {P} {E} s pages root rule is = (
+  inl (refl, is),
+  λ es spelled. elim (stands s pages root es spelled) [
+    | inl e ↦ not_leaf (sym is ∙ e.0)
+    | inr st ↦ broken_level s (with_root root pages) st.levels (top s) rule s.least None is st.rises
+  ],
+)
   where
     not_leaf : broken_node P E rule ≡ leaf_node P E [] → ⊥
     not_leaf h = cc
@@ -268,16 +280,19 @@ names_root {P} {E} s pages root rule is = (inl (refl, is), λ es spelled. elim (
 pub names_below : {P E : Type 0} (s : Scale P E) → IsOrder s → (x : E) (pages : ℕ → Node P E) (root : Node P E) (place child : ℕ) (e : TreeError) → LeadsDown s x root place child → BreaksWhereBad pages 7 child e → NamesBroken s pages root e
 names_below s o x pages root place child (View v) leads b = tt
 names_below {P} {E} s o x pages root place child (Bad bad rule) leads b =
-    let there = subst (λ n. Breaks pages 7 n bad rule) (sym leads.to) b in
-    (inr (leads.front, leads.child, leads.back, leads.is, there), λ es spelled. elim (stands s pages root es spelled) [
-      inl e ↦ leads_more P E (leads.front ++ leads.child ∷ leads.back) (sym leads.is ∙ e.0)
-    | inr st ↦
-        let l = inner_level s (with_root root pages) st.levels (top s) (leads.front ++ leads.child ∷ leads.back) s.least None leads.is st.rises in
-        let r = subst (λ i. Rises s s.least (walk s (with_root root pages) i (top s)) None) l.1 st.rises in
-        let p = inner_part s o (with_root root pages) l.0 (top s) leads.front leads.child leads.back s.least None leads.is r in
-        breaks_rises s o pages 7 (suc l.0) (own s.least leads.front leads.child) bad rule p.0 (Some p.1)
-          (subst (λ n. Breaks pages 7 n bad rule) (sym (own_page s.least leads.front leads.child)) there) (let m = st.most in let i = l.1 in omega (arith, m, i))
-          (subst (λ ms. Rises s p.0 ms (Some p.1)) (sym (part_off s o root pages l.0 leads.front leads.child leads.back leads.is r)) p.2) ])
+    let there = subst (λ n. Breaks pages 7 n bad rule) (sym leads.to) b in (
+      inr (leads.front, leads.child, leads.back, leads.is, there),
+      λ es spelled. elim (stands s pages root es spelled) [
+        | inl e ↦ leads_more P E (leads.front ++ leads.child ∷ leads.back) (sym leads.is ∙ e.0)
+        | inr st ↦
+            let l = inner_level s (with_root root pages) st.levels (top s) (leads.front ++ leads.child ∷ leads.back) s.least None leads.is st.rises in
+            let r = subst (λ i. Rises s s.least (walk s (with_root root pages) i (top s)) None) l.1 st.rises in
+            let p = inner_part s o (with_root root pages) l.0 (top s) leads.front leads.child leads.back s.least None leads.is r in
+            breaks_rises s o pages 7 (suc l.0) (own s.least leads.front leads.child) bad rule p.0 (Some p.1)
+            (subst (λ n. Breaks pages 7 n bad rule) (sym (own_page s.least leads.front leads.child)) there) (let m = st.most in let i = l.1 in omega (arith, m, i))
+            (subst (λ ms. Rises s p.0 ms (Some p.1)) (sym (part_off s o root pages l.0 leads.front leads.child leads.back leads.is r)) p.2)
+      ],
+    )
 names_below s o x pages root place child Memory leads b = tt
 
 pub found_below : {P E : Type 0} (s : Scale P E) → IsOrder s → (x : E) → IsPoint s x → (pages : ℕ → Node P E) (root : Node P E) (place child : ℕ) (r : Result (Option E) TreeError)

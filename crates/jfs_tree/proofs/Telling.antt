@@ -12,6 +12,9 @@ use Rattle.jfs_ranges.specs.declared.edit.Edit.TheVariants.{Lines}
 use Rattle.jfs_bits.specs.declared.rule.PageKind.{PageKind}
 use Rattle.jfs_bits.specs.Line.{line_size}
 use Rattle.jfs_ranges.specs.Apply.{place_of_line, byte_after, overlaid, apply_edit, apply_tx}
+use Rattle.jfs_ranges.specs.declared.edit.Edit.TheVariants.{NoRedo, Alloc, Free}
+use Rattle.jfs_tree.specs.Tell.{LeavesOthers, Turns}
+use Rattle.std.specs.Prelude.{◌≢◌}
 
 zero_more : (p : ℕ) → p ≡ p + 0
 zero_more p = omega arith
@@ -126,7 +129,7 @@ more_lines size a b h l = let m = mul-le-mul_left size l in omega (arith, m, h)
 pub run_pushed : {F : Type 0} (n : ℕ) (kind : PageKind) (tx later : List Edit) (size first end : ℕ) (bytes new : List ℕ) (r : Result (Unit {0}) F)
     → size ≡ line_size kind → 0 < size → first < end → size * end ≤ 4096
     → OnOk r (later ≡ tx ++ Lines n kind first bytes ∷ []) → (length new ≡ 4096) × (bytes ≡ take (size * end - size * first) (drop (size * first) new))
-    → OnOk r ((content old : List ℕ) → length old ≡ 4096 → apply_tx n tx content ≡ take (size * first) new ++ drop (size * first) old → apply_tx n later content ≡ take (size * end) new ++ drop (size * end) old)
+    → OnOk r (Turns n size first end new tx later)
 run_pushed n kind tx later size first end bytes new (Ok u) is some order within pushed b =
     λ content old size_old h. run_told n kind tx later first (size * first) (size * end) bytes new old content (ap (λ k. k * first) is) (more_lines size first end some order) within b.0 size_old pushed b.1 h
 run_pushed n kind tx later size first end bytes new (Err f) is some order within pushed b = pushed
@@ -146,6 +149,67 @@ less_or (suc a) (suc b) h = elim (less_or a b (omega (arith, h))) [ inl l ↦ in
 whole_past : (k : ℕ) (new old : List ℕ) → 4096 ≤ k → length new ≡ 4096 → length old ≡ 4096 → take k new ++ drop k old ≡ new
 whole_past k new old h sn so =
     ap (λ t. t ++ drop k old) (take_all k new (omega (arith, sn, h))) ∙ ap (λ t. new ++ t) (drop_all k old (omega (arith, so, h))) ∙ append-nil new
+
+length-overlaid : (at : ℕ) (new : List ℕ) (place : ℕ) (xs : List ℕ) → length (overlaid at new place xs) ≡ length xs
+length-overlaid at new place [] = refl
+length-overlaid at new place (x ∷ xs) = ap (λ k. suc k) (length-overlaid at new (suc place) xs)
+
+length-apply_edit : (n : ℕ) (edit : Edit) (xs : List ℕ) → length (apply_edit n edit xs) ≡ length xs
+length-apply_edit n (Lines page kind first bytes) xs = length-overlaid (place_of_line page kind first) bytes (4096 * n) xs
+length-apply_edit n (NoRedo page) xs = refl
+length-apply_edit n (Alloc run) xs = refl
+length-apply_edit n (Free run) xs = refl
+
+length-apply_tx : (n : ℕ) (tx : List Edit) (xs : List ℕ) → length (apply_tx n tx xs) ≡ length xs
+length-apply_tx n [] xs = refl
+length-apply_tx n (e ∷ tx) xs = length-apply_tx n tx (apply_edit n e xs) ∙ length-apply_edit n e xs
+
+apart_by : (n m at len : ℕ) → m ≢ n → at + len ≤ 4096 → (4096 * m + 4096 ≤ 4096 * n + at) ⊎ (4096 * n + at + len ≤ 4096 * m)
+apart_by n m at len ne within = elim (less_or_more m n ne) [
+  | inl l ↦ inl (omega (arith, l))
+  | inr l ↦ inr (omega (arith, l, within))
+]
+  where
+    less_or_more : (a b : ℕ) → a ≢ b → (a < b) ⊎ (b < a)
+    less_or_more a b ne = grind (arith, ne)
+
+-- lines of one page leave the others
+other_page : (n m : ℕ) (kind : PageKind) (first : ℕ) (bytes xs : List ℕ) → m ≢ n → line_size kind * first + length bytes ≤ 4096 → length xs ≡ 4096 → apply_edit m (Lines n kind first bytes) xs ≡ xs
+unfolding place_of_line
+other_page n m kind first bytes xs ne within size = elim (apart_by n m (line_size kind * first) (length bytes) ne within) [
+  | inl l ↦ overlaid_before (4096 * n + line_size kind * first) bytes (4096 * m) xs (omega (arith, l, size))
+  | inr l ↦ overlaid_behind (4096 * n + line_size kind * first) bytes (4096 * m) xs (omega (arith, l))
+]
+
+lines_length : (size first end : ℕ) (new : List ℕ) → size * first < size * end → size * end ≤ 4096 → length new ≡ 4096 → size * first + length (take (size * end - size * first) (drop (size * first) new)) ≤ 4096
+lines_length size first end new order within sn = let h = part_length (size * first) (size * end) new order within sn in omega (arith, h, order, within)
+
+pub others_pushed : {F : Type 0} (n : ℕ) (kind : PageKind) (tx later : List Edit) (size first end : ℕ) (bytes new : List ℕ) (r : Result (Unit {0}) F)
+    → size ≡ line_size kind → 0 < size → first < end → size * end ≤ 4096
+    → OnOk r (later ≡ tx ++ Lines n kind first bytes ∷ []) → (length new ≡ 4096) × (bytes ≡ take (size * end - size * first) (drop (size * first) new))
+    → OnOk r (LeavesOthers n tx later)
+others_pushed n kind tx later size first end bytes new (Ok u) is some order within pushed b = λ m ne content sized.
+    ap (λ t. apply_tx m t content) pushed ∙ apply_tx_append m tx (Lines n kind first bytes) content
+    ∙ other_page n m kind first bytes (apply_tx m tx content) ne
+    (let l = lines_length size first end new (more_lines size first end some order) within b.0 in let e = ap length b.1 in let k = ap (λ s. s * first) is in omega (arith, l, e, k))
+    (length-apply_tx m tx content ∙ sized)
+others_pushed n kind tx later size first end bytes new (Err f) is some order within pushed b = pushed
+
+pub others_more : (n : ℕ) (before tx later : List Edit) → LeavesOthers n before tx → LeavesOthers n tx later → LeavesOthers n before later
+others_more n before tx later a b m ne content sized = b m ne content sized ∙ a m ne content sized
+
+pub others_none : (n : ℕ) (tx : List Edit) → LeavesOthers n tx tx
+others_none n tx m ne content sized = refl
+
+-- a page that is told whole
+pub whole_told : {F : Type 0} (n size lines : ℕ) (new : List ℕ) (tx later : List Edit) (r : Result (Unit {0}) F) → size * lines ≡ 4096 → length new ≡ 4096
+    → OnOk r (Turns n size 0 lines new tx later) → OnOk r ((content : List ℕ) → length content ≡ 4096 → apply_tx n later content ≡ new)
+whole_told n size lines new tx later (Ok u) all sn turns = λ content sized.
+    let old = apply_tx n tx content in
+    let so : length old ≡ 4096 = length-apply_tx n tx content ∙ sized in
+    let none : 0 ≡ size * 0 = omega arith in
+    turns content old so (ap (λ k. take k new ++ drop k old) none) ∙ whole_past (size * lines) new old (omega (arith, all)) sn so
+whole_told n size lines new tx later (Err f) all sn turns = turns
 
 -- a line that did not change is passed over
 pub line_passed : (size end lines : ℕ) (new old : List ℕ) → size * lines ≡ 4096 → length new ≡ 4096 → length old ≡ 4096 → end ≤ lines
@@ -167,14 +231,11 @@ pub loop_on : (n : ℕ) (before : List Edit) (size first end lines : ℕ) (new o
     → size * lines ≡ 4096 → length new ≡ 4096 → length old ≡ 4096 → end ≤ lines
     → (end < lines → take size (drop (size * end) new) ≡ take size (drop (size * end) old))
     → ((content : List ℕ) → apply_tx n before content ≡ old → apply_tx n tx content ≡ take (size * first) new ++ drop (size * first) old)
-    → ((content o : List ℕ) → length o ≡ 4096 → apply_tx n tx content ≡ take (size * first) new ++ drop (size * first) o → apply_tx n later content ≡ take (size * end) new ++ drop (size * end) o)
-    → (end + 1 ≤ lines + 1) × ((content : List ℕ) → apply_tx n before content ≡ old → apply_tx n later content ≡ take (size * (end + 1)) new ++ drop (size * (end + 1)) old)
-loop_on n before size first end lines new old tx later all sn so within same inv step =
-    (omega (arith, within), λ content h. step content old so (inv content h) ∙ line_passed size end lines new old all sn so within same)
-
--- what a turn of the loop does to the transaction
-abbrev pub Turns : ℕ → ℕ → ℕ → ℕ → List ℕ → List Edit → List Edit → Type 0
-Turns n size first end new tx later = (content o : List ℕ) → length o ≡ 4096 → apply_tx n tx content ≡ take (size * first) new ++ drop (size * first) o → apply_tx n later content ≡ take (size * end) new ++ drop (size * end) o
+    → Turns n size first end new tx later
+    → LeavesOthers n before tx → LeavesOthers n tx later
+    → (end + 1 ≤ lines + 1) × ((content : List ℕ) → apply_tx n before content ≡ old → apply_tx n later content ≡ take (size * (end + 1)) new ++ drop (size * (end + 1)) old) × LeavesOthers n before later
+loop_on n before size first end lines new old tx later all sn so within same inv step others more =
+    (omega (arith, within), (λ content h. step content old so (inv content h) ∙ line_passed size end lines new old all sn so within same), others_more n before tx later others more)
 
 pub turn_none : (n size first end : ℕ) (new : List ℕ) (tx : List Edit) → first ≡ end → Turns n size first end new tx tx
 turn_none n size first end new tx e content o so h = h ∙ ap (λ k. take (size * k) new ++ drop (size * k) o) e

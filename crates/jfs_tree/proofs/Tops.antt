@@ -1,18 +1,17 @@
 -- The root of a tree, beside the pages below it.
-use Rattle.std.proofs.Common.{◌≡◌, ◌≢◌, ◌≤◌, ◌<◌, ◌⊎◌, inl, inr, refl, sym, ap, ◌∙◌, subst, ℕ, zero, suc, ◌+◌, Bool, true, false, List, [], ◌∷◌, ◌++◌, map, ◌==◌, if◌then◌else◌, Option, Some, None, Result, Ok, Err, arith}
+use Rattle.std.proofs.Common.{◌≡◌, ◌≢◌, ◌≤◌, ◌<◌, ◌⊎◌, inl, inr, refl, sym, ap, ◌∙◌, subst, ℕ, zero, suc, ◌+◌, Bool, true, false, List, [], ◌∷◌, ◌++◌, map, ◌==◌, if◌then◌else◌, Option, Some, None, arith}
 use Rattle.std.specs.List.{flat_map}
-use Rattle.std.proofs.lemmas.List.Concat.{flat_map-append}
 use Rattle.std.proofs.lemmas.Bool.{eqb-true}
 use Rattle.jfs_bits.specs.declared.rule.Rule.TheVariants as rules
-use Rattle.jfs_tree.specs.Walk.{Child, Node, Leaf, Inner, Broken, Mark, Page, Key, Row, Fault, Marks, Scale, UpTo, Rises, IsOrder, rows_of, times, placed, under, body, walk}
-use Rattle.jfs_tree.specs.Spells.{no_page, with_root, top, tree_of, spells, footprint}
-use Rattle.jfs_tree.specs.Edit.{Clear, IsApart, Ready, Took, Added, Grew, count_in, bound, own}
+use Rattle.jfs_tree.specs.Walk.{Child, Node, Leaf, Inner, Broken, Page, Key, Row, Fault, Marks, Scale, Rises, IsOrder, rows_of, times, placed, body, walk}
+use Rattle.jfs_tree.specs.Spells.{no_page, with_root, top, tree_of, footprint}
+use Rattle.jfs_tree.specs.Edit.{Clear, IsApart, Ready, Took, Added, count_in, bound}
 use Rattle.jfs_tree.specs.Form.{AllBelow}
 use Rattle.jfs_tree.specs.Root.{IsSpare, Adds}
 use Rattle.jfs_tree.proofs.Rising.{rises_cut}
 use Rattle.jfs_tree.proofs.Steps.{untouched}
 use Rattle.jfs_tree.proofs.Spelled.{tree_rises, spelled}
-use Rattle.jfs_tree.proofs.Frame.{rows-append, times-append, frame, all_same}
+use Rattle.jfs_tree.proofs.Frame.{rows-append, frame}
 use Rattle.jfs_tree.proofs.Once.{each_once}
 
 clear_join : {P E : Type 0} (s : Scale P E) (x : E) (a b : Marks P E) → Clear s x a → Clear s x b → Clear s x (a ++ b)
@@ -52,7 +51,7 @@ clear_all s o x f h (c ∷ cs) low high r a =
     let b = subst (IsApart s x) (rows-append (f c) (flat_map f cs)) a in
     let t = rises_cut s o low (f c) (flat_map f cs) high r in
     clear_join s x (f c) (flat_map f cs) (h c low (Some t.0) t.1 (apart_left s x (rows_of (f c)) (rows_of (flat_map f cs)) b)).1
-      (clear_all s o x f h cs t.0 high t.2 (apart_right s x (rows_of (f c)) (rows_of (flat_map f cs)) b))
+    (clear_all s o x f h cs t.0 high t.2 (apart_right s x (rows_of (f c)) (rows_of (flat_map f cs)) b))
 
 clear_body : {P E : Type 0} (s : Scale P E) → IsOrder s → (x : E) (f : Child P → Marks P E) (c : Child P) (below : ℕ) (node : Node P E) (low : P) (high : Option P)
     → ((d : Child P) (low : P) (high : Option P) → Rises s low (f d) high → IsApart s x (rows_of (f d)) → KeyClear s x d.key × Clear s x (f d))
@@ -143,7 +142,7 @@ top_ready s o x pages root levels blocks free is rises apart spare below within 
   once = λ n. one_or n (times n (walk s (with_root root pages) levels (top s))) (count_in n free)
       (each_once s o (with_root root pages) levels (top s) s.least None rises n) (spare.once n)
       (λ p. let ne : n ≢ no_page = λ e. not_counted (count_in no_page free) (count_in n free) (count_below blocks no_page free below within) p (ap (λ m. count_in m free) e) in
-        ap (times n) (sym is) ∙ sym (unfooted s pages root n ne) ∙ spare.apart n p);
+      ap (times n) (sym is) ∙ sym (unfooted s pages root n ne) ∙ spare.apart n p);
 }
 
 -- what a whole tree is afterwards
@@ -161,10 +160,12 @@ top_adds {P} {E} s o x es old new root after ms more blocks free left is rows mo
       spelled = spelled s o new after more most took.rises;
       added = subst (λ r. Added x r (rows_of (walk s (with_root after new) more (top s)))) rows took.rows;
       pages = λ n. elim (or_page n) [
-          inl e ↦ subst (λ m. footprint s new after m + count_in m left ≡ footprint s old root m + count_in m free) (sym e)
+        | inl e ↦ subst (λ m. footprint s new after m + count_in m left ≡ footprint s old root m + count_in m free) (sym e)
             (let a = no_foot s new after in let b = no_foot s old root in let c = count_below blocks no_page left below_left within in let d = count_below blocks no_page free below_free within in omega (arith, a, b, c, d))
-        | inr ne ↦ let a = unfooted s new after n ne in let b = unfooted s old root n ne in let c = ap (times n) now in let d = ap (times n) is in let h = took.pages n in omega (arith, a, b, c, d, h) ];
+        | inr ne ↦ let a = unfooted s new after n ne in let b = unfooted s old root n ne in let c = ap (times n) now in let d = ap (times n) is in let h = took.pages n in omega (arith, a, b, c, d, h)
+      ];
       keeps = λ n h e. elim (or_page n) [
-          inl i ↦ keeps n (inl i) e
-        | inr ne ↦ keeps n (inr (ap (times n) (sym is) ∙ sym (unfooted s old root n ne) ∙ h)) e ];
+        | inl i ↦ keeps n (inl i) e
+        | inr ne ↦ keeps n (inr (ap (times n) (sym is) ∙ sym (unfooted s old root n ne) ∙ h)) e
+      ];
     }

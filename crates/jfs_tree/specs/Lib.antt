@@ -3,5 +3,6 @@ pub mod Spells
 pub mod Edit
 pub mod Form
 pub mod Draft
+pub mod Tell
 pub mod Call
 pub mod Root

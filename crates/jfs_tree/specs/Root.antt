@@ -1,6 +1,5 @@
 -- What a call on a whole tree does.
 use Rattle.std.specs.Prelude.{◌≡◌, ◌≢◌, ◌⊎◌, ◌<◌, ◌≤◌, ℕ, ◌+◌, ◌==◌, if◌then◌else◌, List, [], ◌∷◌, ◌++◌, Option, Some, None, Result, Ok, Err}
-use Rattle.jfs_bits.specs.declared.rule.Rule.{Rule}
 use Rattle.jfs_bits.specs.declared.rule.Rule.TheVariants as rules
 use Rattle.jfs_tree.specs.Walk.{Child, Node, Leaf, Inner, Broken, Scale}
 use Rattle.jfs_tree.specs.Spells.{no_page, with_root, levels_of, spells, footprint}
@@ -56,7 +55,7 @@ abbrev pub Settled : {P E : Type 0} → Scale P E → ℕ → Node P E → (ℕ 
 Settled s levels node old new after free left =
     ((after ≡ node) × ((n : ℕ) → new n ≡ old n) × ((n : ℕ) → count_in n free ≡ count_in n left))
     ⊎ ((q : ℕ) × (levels < 8) × (after ≡ Inner (record { key = s.least; page = q } ∷ [])) × (new q ≡ node) × ((n : ℕ) → n ≢ q → new n ≡ old n)
-      × ((n : ℕ) → count_in n free ≡ (if q == n then 1 else 0) + count_in n left))
+    × ((n : ℕ) → count_in n free ≡ (if q == n then 1 else 0) + count_in n left))
 
 -- a root that is a leaf was to take an entry
 abbrev pub RootHereDid : {P E : Type 0} → (List ℕ → Node P E) → Scale P E → E → Node P E → Node P E → List Drafted → List Drafted → List ℕ → List ℕ → Result (Unit {0}) TreeError → Type 0

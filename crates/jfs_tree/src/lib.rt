@@ -15,4 +15,4 @@ pub use draft::{Draft, Drafted};
 pub use form::{NO_PAGE, Put, Sibling, TreeError, Way};
 pub use pages::PageForm;
 pub use root::{add_entry, find_entry};
-pub use tell::tell_page;
+pub use tell::{tell_page, tell_whole};

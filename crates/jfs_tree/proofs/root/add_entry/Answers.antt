@@ -1,4 +1,4 @@
-use Rattle.std.proofs.Common.{◌≡◌, ◌<◌, ◌≤◌, refl, sym, ap, ◌∙◌, subst, arith, Ok, IfSome}
+use Rattle.std.proofs.Common.{◌<◌, sym, subst, arith, Ok, IfSome}
 use Rattle.jfs_tree.specs.Spells.{no_page}
 use Rattle.jfs_tree.specs.Form.{AllBelow, Leads}
 use Rattle.jfs_tree.specs.Call.{nodes}
@@ -18,30 +18,30 @@ pub returns-in-Ok-Here-clause-adds : goal.returns-in-Ok-Here-clause-adds
 returns-in-Ok-Here-clause-adds g c tells =
     let leads = subst (λ w. Leads g.F.PageForm.scale c.args.x.now (g.F.PageForm.node c.args.top.now c.args.root.now) (Ok w)) c.in-Ok-Here.field-0-is c.in-Ok-Here.ensures.way in
     here_always_adds (g.F.PageForm.node c.args.form.now) g.F.PageForm.scale g.met.F.PageForm.order c.args.x.now (g.V.PageView.image c.args.view.now) (g.F.PageForm.node c.args.top.now c.args.root.now) (g.F.PageForm.node c.args.top.now c.root_takes_here.new.root) c.args.draft.now.pages.items c.root_takes_here.new.draft.pages.items leads.0 (g.V.PageView.block_count c.args.view.now) c.args.fresh.now.items c.root_takes_here.new.fresh.items c.root_takes_here.result
-      c.requires.within (subst (λ n. AllBelow n c.root_takes_here.new.fresh.items) c.requires.bound.0 c.root_takes_here.ensures.below) (let h = c.blocks-blocks.ensures in let i = c.blocks-blocks.type_inv in omega (arith, h, i)) leads.1 c.root_takes_here.ensures.did
+    c.requires.within (subst (λ n. AllBelow n c.root_takes_here.new.fresh.items) c.requires.bound.0 c.root_takes_here.ensures.below) (let h = c.blocks-blocks.ensures in let i = c.blocks-blocks.type_inv in omega (arith, h, i)) leads.1 c.root_takes_here.ensures.did
 
 pub returns-in-Ok-Here-clause-refused : goal.returns-in-Ok-Here-clause-refused
 returns-in-Ok-Here-clause-refused g c tells =
     let leads = subst (λ w. Leads g.F.PageForm.scale c.args.x.now (g.F.PageForm.node c.args.top.now c.args.root.now) (Ok w)) c.in-Ok-Here.field-0-is c.in-Ok-Here.ensures.way in
     here_always_refuses (g.F.PageForm.node c.args.form.now) g.F.PageForm.scale g.met.F.PageForm.order c.args.x.now (nodes (g.F.PageForm.node c.args.form.now) c.args.draft.now.pages.items (g.V.PageView.image c.args.view.now)) (g.F.PageForm.node c.args.top.now c.args.root.now) (g.F.PageForm.node c.args.top.now c.root_takes_here.new.root) c.args.draft.now.pages.items c.root_takes_here.new.draft.pages.items leads.0 c.args.fresh.now.items c.root_takes_here.new.fresh.items c.root_takes_here.result
-      leads.1 c.root_takes_here.ensures.did
+    leads.1 c.root_takes_here.ensures.did
 
 pub returns-in-Ok-clause-adds : goal.returns-in-Ok-clause-adds
 returns-in-Ok-clause-adds g c tells =
     let leads = subst (λ w. Leads g.F.PageForm.scale c.args.x.now (g.F.PageForm.node c.args.top.now c.args.root.now) (Ok w)) c.in-Ok-Down.field-0-is c.in-Ok-Down.ensures.way in
     grown_always_adds (g.F.PageForm.node c.args.form.now) g.F.PageForm.scale g.met.F.PageForm.order c.args.x.now (g.V.PageView.image c.args.view.now) (g.F.PageForm.node c.args.top.now c.args.root.now) (g.F.PageForm.node c.args.top.now c.root_takes_grown.new.root) c.args.draft.now.pages.items c.add_below.new.draft.pages.items c.root_takes_grown.new.draft.pages.items
-      c.in-Ok-Down.place c.in-Ok-Down.page c.in-Ok.grown.levels (g.V.PageView.block_count c.args.view.now) c.args.fresh.now.items c.add_below.new.fresh.items c.root_takes_grown.new.fresh.items c.in-Ok.grown.sibling c.root_takes_grown.result
-      c.requires.within (subst (λ n. AllBelow n c.root_takes_grown.new.fresh.items) c.requires.bound.0 c.root_takes_grown.ensures.below) (let h = c.blocks-blocks.ensures in let i = c.blocks-blocks.type_inv in omega (arith, h, i)) leads (c.in-Ok.ensures.grew tells) c.root_takes_grown.ensures.did
+    c.in-Ok-Down.place c.in-Ok-Down.page c.in-Ok.grown.levels (g.V.PageView.block_count c.args.view.now) c.args.fresh.now.items c.add_below.new.fresh.items c.root_takes_grown.new.fresh.items c.in-Ok.grown.sibling c.root_takes_grown.result
+    c.requires.within (subst (λ n. AllBelow n c.root_takes_grown.new.fresh.items) c.requires.bound.0 c.root_takes_grown.ensures.below) (let h = c.blocks-blocks.ensures in let i = c.blocks-blocks.type_inv in omega (arith, h, i)) leads (c.in-Ok.ensures.grew tells) c.root_takes_grown.ensures.did
 
 pub returns-in-Ok-clause-refused : goal.returns-in-Ok-clause-refused
 returns-in-Ok-clause-refused g c tells =
     let leads = subst (λ w. Leads g.F.PageForm.scale c.args.x.now (g.F.PageForm.node c.args.top.now c.args.root.now) (Ok w)) c.in-Ok-Down.field-0-is c.in-Ok-Down.ensures.way in
     grown_always_refuses (g.F.PageForm.node c.args.form.now) g.F.PageForm.scale g.met.F.PageForm.order c.args.x.now (g.V.PageView.image c.args.view.now) (g.F.PageForm.node c.args.top.now c.args.root.now) (g.F.PageForm.node c.args.top.now c.root_takes_grown.new.root) c.args.draft.now.pages.items c.add_below.new.draft.pages.items c.root_takes_grown.new.draft.pages.items
-      c.in-Ok-Down.place c.in-Ok-Down.page c.in-Ok.grown.levels (g.V.PageView.block_count c.args.view.now) c.args.fresh.now.items c.add_below.new.fresh.items c.root_takes_grown.new.fresh.items c.in-Ok.grown.sibling c.root_takes_grown.result
-      c.requires.within (let h = c.blocks-blocks.ensures in let i = c.blocks-blocks.type_inv in omega (arith, h, i)) leads (c.in-Ok.ensures.grew tells) c.root_takes_grown.ensures.did
+    c.in-Ok-Down.place c.in-Ok-Down.page c.in-Ok.grown.levels (g.V.PageView.block_count c.args.view.now) c.args.fresh.now.items c.add_below.new.fresh.items c.root_takes_grown.new.fresh.items c.in-Ok.grown.sibling c.root_takes_grown.result
+    c.requires.within (let h = c.blocks-blocks.ensures in let i = c.blocks-blocks.type_inv in omega (arith, h, i)) leads (c.in-Ok.ensures.grew tells) c.root_takes_grown.ensures.did
 
 pub returns-in-Err-add_below-clause-refused : goal.returns-in-Err-add_below-clause-refused
 returns-in-Err-add_below-clause-refused g c tells =
     let leads = subst (λ w. Leads g.F.PageForm.scale c.args.x.now (g.F.PageForm.node c.args.top.now c.args.root.now) (Ok w)) c.in-Ok-Down.field-0-is c.in-Ok-Down.ensures.way in
     refuse_down g.F.PageForm.scale g.met.F.PageForm.order c.args.x.now (nodes (g.F.PageForm.node c.args.form.now) c.args.draft.now.pages.items (g.V.PageView.image c.args.view.now)) (g.F.PageForm.node c.args.top.now c.args.root.now) c.in-Ok-Down.place c.in-Ok-Down.page (g.V.PageView.block_count c.args.view.now) c.args.fresh.now.items c.in-Err-add_below.e
-      c.requires.within (let h = c.blocks-blocks.ensures in let i = c.blocks-blocks.type_inv in omega (arith, h, i)) leads (c.in-Err-add_below.ensures.bad tells)
+    c.requires.within (let h = c.blocks-blocks.ensures in let i = c.blocks-blocks.type_inv in omega (arith, h, i)) leads (c.in-Err-add_below.ensures.bad tells)

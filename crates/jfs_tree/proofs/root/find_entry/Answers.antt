@@ -1,4 +1,4 @@
-use Rattle.std.proofs.Common.{◌≡◌, refl, sym, ap, ◌∙◌, subst, Ok, IfOk, IfErr}
+use Rattle.std.proofs.Common.{subst, Ok}
 use Rattle.jfs_tree.specs.Form.{Leads}
 use Rattle.jfs_tree.specs.Call.{pages_of}
 use Rattle.jfs_tree.proofs.RootCalls.{names_root, here_always, found_below, broken_below}

@@ -1,5 +1,6 @@
 use Rattle.std.proofs.Common.{sym, subst, arith}
-use Rattle.jfs_tree.proofs.Telling.{loop_on, Turns, turn_none}
+use Rattle.jfs_tree.proofs.Telling.{loop_on, turn_none, others_none}
+use Rattle.jfs_tree.specs.Tell.{LeavesOthers, Turns}
 use Rattle.jfs_tree.proofs.tell.tell_page.Goals as goal
 use Rattle.jfs_tree.proofs.tell.tell_page.Goals.{then-first-end+in_ok-tell_run, else-first-end}
 
@@ -8,7 +9,11 @@ loop-first-preserved c =
     loop_on c.args.n c.args.tx.now c.lines_of-size.result.0 c.loop-first.first c.run_end-end.result c.lines_of-size.result.1 c.args.new.now.0 c.args.old.now.0 c.loop-first.tx c.if-first-end.tx
     c.lines_of-size.ensures.lines c.bytes-new_size.ensures.size c.bytes-old_size.ensures.size c.run_end-end.ensures.order.1 c.run_end-end.ensures.same c.loop-first.invariant.1
     (elim c.if-first-end.branch [
-      | then-first-end+in_ok-tell_run w ↦ subst (Turns c.args.n c.lines_of-size.result.0 c.loop-first.first c.run_end-end.result c.args.new.now.0 c.loop-first.tx) (sym w.tx-is) w.in_ok-tell_run.ensures
+      | then-first-end+in_ok-tell_run w ↦ subst (Turns c.args.n c.lines_of-size.result.0 c.loop-first.first c.run_end-end.result c.args.new.now.0 c.loop-first.tx) (sym w.tx-is) w.in_ok-tell_run.ensures.told
       | else-first-end w ↦ subst (Turns c.args.n c.lines_of-size.result.0 c.loop-first.first c.run_end-end.result c.args.new.now.0 c.loop-first.tx) (sym w.tx-is)
           (turn_none c.args.n c.lines_of-size.result.0 c.loop-first.first c.run_end-end.result c.args.new.now.0 c.loop-first.tx (let a = c.run_end-end.ensures.order.0 in let b = w.if-first-end.false in omega (arith, a, b)))
+    ]) c.loop-first.invariant.2
+    (elim c.if-first-end.branch [
+      | then-first-end+in_ok-tell_run w ↦ subst (LeavesOthers c.args.n c.loop-first.tx) (sym w.tx-is) w.in_ok-tell_run.ensures.others
+      | else-first-end w ↦ subst (LeavesOthers c.args.n c.loop-first.tx) (sym w.tx-is) (others_none c.args.n c.loop-first.tx)
     ])
