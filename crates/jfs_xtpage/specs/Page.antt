@@ -1,0 +1,83 @@
+-- A page of an extent tree. (JFS Layout, xtree: a header of two slots, then entries of 16 bytes.)
+use Rattle.std.specs.Prelude.{◌≡◌, ◌⊎◌, ◌<◌, ◌≤◌, ℕ, zero, suc, ◌+◌, ◌-◌, ◌*◌, ◌%◌, ◌==◌, if◌then◌else◌, List, [], ◌∷◌, Option, Some, None}
+use Rattle.jfs_bits.specs.declared.extent.Xad.{Xad}
+use Rattle.jfs_bits.specs.declared.rule.Rule.{Rule}
+use Rattle.jfs_bits.specs.declared.rule.Rule.TheVariants as rules
+use Rattle.jfs_bits.specs.Broken.{AllHold}
+use Rattle.jfs_bits.specs.Field.{field_of}
+use Rattle.jfs_bits.specs.Descriptor.{pxd_of}
+use Rattle.jfs_bits.specs.Extent.{xad_of}
+use Rattle.jfs_xtpage.specs.declared.head.XtForm.{XtForm}
+use Rattle.jfs_xtpage.specs.declared.head.XtForm.TheVariants.{Root, Full, Small}
+use Rattle.jfs_xtpage.specs.declared.head.XtHead.{XtHead}
+
+-- the number of bytes
+abbrev pub bytes_of : XtForm → ℕ
+bytes_of Root = 288
+bytes_of Full = 4096
+bytes_of Small = 96
+
+abbrev pub head_of : List ℕ → XtHead
+head_of bytes = record {
+  next = field_of bytes 0 8;
+  prev = field_of bytes 8 8;
+  flag = field_of bytes 16 1;
+  nextindex = field_of bytes 18 2;
+  maxentry = field_of bytes 20 2;
+  at = pxd_of bytes 24;
+}
+
+-- entries begin at slot 2
+abbrev pub entry_of : List ℕ → ℕ → Xad
+entry_of bytes i = xad_of bytes (32 + 16 * i)
+
+abbrev pub count_of : List ℕ → ℕ
+count_of bytes = field_of bytes 18 2 - 2
+
+abbrev pub entries_from : List ℕ → ℕ → ℕ → List Xad
+entries_from bytes i zero = []
+entries_from bytes i (suc n) = entry_of bytes i ∷ entries_from bytes (suc i) n
+
+-- the page as a list
+abbrev pub entries_of : List ℕ → List Xad
+entries_of bytes = entries_from bytes 0 (count_of bytes)
+
+-- An extent takes the blocks of its file from its offset on; one without a length counts as one block, so that offsets rise.
+abbrev pub end_of : Xad → ℕ
+end_of x = x.offset + (if x.at.len == 0 then 1 else x.at.len)
+
+-- the low three bits: a root that is a leaf or inner, or a page that is
+abbrev pub FlagFits : XtForm → ℕ → Type 0
+FlagFits Root low = (low ≡ 3) ⊎ (low ≡ 5)
+FlagFits Full low = (low ≡ 2) ⊎ (low ≡ 4)
+FlagFits Small low = (low ≡ 3) ⊎ (low ≡ 5)
+
+-- the number of slots, with the two of the header
+abbrev pub MaxFits : XtForm → ℕ → Type 0
+MaxFits Root most = (most ≡ 10) ⊎ (most ≡ 18)
+MaxFits Full most = most ≡ 256
+MaxFits Small most = most ≡ 6
+
+-- offsets rise, and extents don't overlap
+abbrev pub IsRising : List ℕ → ℕ → Type 0
+IsRising bytes count = (i : ℕ) → suc i < count → end_of (entry_of bytes i) ≤ (entry_of bytes (suc i)).offset
+
+-- the rules of a page, in the order in which they are looked at
+abbrev pub xt_rules : List Rule
+xt_rules = rules.Flag ∷ rules.Max ∷ rules.Count ∷ rules.Order ∷ []
+
+abbrev pub Holds : XtForm → List ℕ → Rule → Type 0
+Holds form bytes rules.Flag = FlagFits form (field_of bytes 16 1 % 8)
+Holds form bytes rules.Max = MaxFits form (field_of bytes 20 2)
+Holds form bytes rules.Count = (2 ≤ field_of bytes 18 2) × (field_of bytes 18 2 ≤ field_of bytes 20 2)
+Holds form bytes rules.Order = IsRising bytes (count_of bytes)
+Holds form bytes rule = Unit {0}
+
+-- no rule is broken
+abbrev pub IsSound : XtForm → List ℕ → Type 0
+IsSound form bytes = AllHold (Holds form bytes) xt_rules
+
+-- the last entry that isn't past an offset
+abbrev pub IsLastAt : List ℕ → ℕ → Option ℕ → Type 0
+IsLastAt bytes offset (Some i) = (i < count_of bytes) × ((entry_of bytes i).offset ≤ offset) × ((j : ℕ) → i < j → j < count_of bytes → offset < (entry_of bytes j).offset)
+IsLastAt bytes offset None = (j : ℕ) → j < count_of bytes → offset < (entry_of bytes j).offset
