@@ -5,3 +5,4 @@ pub mod Heads
 pub mod Same
 pub mod Agreed
 pub mod Roots
+pub mod Counted

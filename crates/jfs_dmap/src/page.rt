@@ -9,7 +9,7 @@ ghost use Rattle.jfs_dmap.specs.Dmap.{blocks_of, first_block_of, head_of, tree_o
 
 use crate::layout::{FREE, PERSISTENT_MAP, TREE, TREE_END, WORKING_MAP};
 use crate::words::{mark_in, refresh};
-use jfs_bits::{bit, put_u8, put_u32, put_u64};
+use jfs_bits::{get_u32, put_u8, put_u32, put_u64};
 use jfs_buddy::clear_tree;
 use jfs_disk::Page;
 
@@ -60,23 +60,14 @@ fn put_map(bytes: &mut [u8], at: usize, set: &[u8], nblocks: u32)
     mark_in(bytes, at, nblocks, 8192 - nblocks);
 }
 
-/// 1 for a free block, 0 for a taken one.
-fn weight(map: &[u8], i: u32) -> u32
-    requires size { length map.now ≡ 1024 }
-    requires within { i < 8192 }
-    ensures { result ≡ (if not (is_taken map.now i) then 1 else 0) }
-{
-    if bit(map, i) { 0 } else { 1 }
-}
-
 /// The number of free blocks of a map.
 fn count_free(map: &[u8]) -> u32
     requires { length map.now ≡ 1024 }
     ensures { result ≡ count_below 8192 (λ b. not (is_taken map.now b)) }
 {
     let mut free = 0;
-    for i in 0..8192 {
-        free += weight(map, i);
+    for word in 0..256 {
+        free += get_u32(map, 4 * word).count_zeros();
     }
     free
 }
