@@ -7,3 +7,4 @@ pub mod Slots
 pub mod Crashed
 pub mod Tables
 pub mod Walks
+pub mod Cuts

@@ -44,7 +44,7 @@ state_in-none count slots e =
 
 -- ---- a place more
 
-page_at-more : (slots : Places) (k n : ℕ) → page_at (slots ++ replicate k None) n ≡ page_at slots n
+pub page_at-more : (slots : Places) (k n : ℕ) → page_at (slots ++ replicate k None) n ≡ page_at slots n
 page_at-more slots k n = by-place (cases_lt n (length slots))
   where
     by-rest : (n - length slots < k) ⊎ (k ≤ n - length slots) → get_or (replicate {A = Option (Box PageSlot Global)} k None) (n - length slots) None ≡ None

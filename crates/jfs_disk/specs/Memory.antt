@@ -8,7 +8,7 @@ use Rattle.jfs_disk.specs.Store.{past_in}
 use Rattle.jfs_disk.specs.declared.disk.Part.{Part}
 use Rattle.jfs_disk.specs.declared.plan.Kind.{Kind}
 use Rattle.jfs_disk.specs.declared.plan.Fail.{Fail}
-use Rattle.jfs_disk.specs.declared.plan.Counters.{Counters}
+use Rattle.jfs_disk.specs.declared.plan.Tally.{Tally}
 use Rattle.jfs_disk.specs.declared.memory.MemDisk.{MemDisk}
 
 abbrev pub page_count_of : MemDisk → ℕ
@@ -30,9 +30,13 @@ part_of disk = disk.plan.part
 abbrev pub fails_of : MemDisk → List Fail
 fails_of disk = disk.plan.fails.items
 
--- how many calls of each kind there were
-abbrev pub counters_of : MemDisk → Counters
-counters_of disk = disk.plan.counters
+-- how many calls there were
+abbrev pub tally_of : MemDisk → Tally
+tally_of disk = disk.plan.tally
+
+-- how many pages the disk can have when another is joined to it
+abbrev pub room_of : MemDisk → ℕ
+room_of disk = disk.store.room
 
 -- how many writes that failed found no memory to be pending
 abbrev pub lost_writes_of : MemDisk → ℕ
@@ -40,7 +44,7 @@ lost_writes_of disk = disk.lost_writes
 
 -- whether the next call of a kind fails by one of the fails
 abbrev pub will_fail : Kind → MemDisk → Bool
-will_fail kind disk = fails_next (fails_of disk) (part_of disk) kind (counters_of disk)
+will_fail kind disk = fails_next (fails_of disk) (part_of disk) kind (tally_of disk)
 
 -- A write that was planned to fail is pending. Where it finds no memory, the disk is as it was, and counts that.
 abbrev pub LeavesTrace : ℕ → List ℕ → MemDisk → MemDisk → Type 0

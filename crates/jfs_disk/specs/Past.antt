@@ -1,7 +1,7 @@
 -- The states of a disk in memory.
-use Rattle.std.specs.Prelude.{List, [], ◌∷◌, ◌++◌, map, take, drop}
+use Rattle.std.specs.Prelude.{List, [], ◌∷◌, ◌++◌}
 use Rattle.jfs_disk.specs.Crash.{DiskState, written, failed, settled, last_of}
-use Rattle.jfs_disk.specs.Cut.{joined}
+use Rattle.jfs_disk.specs.Cut.{lows_of, highs_of, joined}
 use Rattle.jfs_disk.specs.Table.{state_in}
 use Rattle.jfs_disk.specs.declared.past.Event.{Event}
 use Rattle.jfs_disk.specs.declared.past.Event.TheVariants.{Began, Wrote, WriteFailed, Synced, Low, High, Joined}
@@ -11,6 +11,6 @@ after_event (Began count slots) past = state_in count slots.now ∷ []
 after_event (Wrote n page) past = past ++ written n page.now.0 (last_of past) ∷ []
 after_event (WriteFailed n page) past = past ++ failed n page.now.0 0 (last_of past) ∷ []
 after_event Synced past = past ++ settled (last_of past) ∷ []
-after_event (Low at) past = map (λ (state : DiskState). take at state) past
-after_event (High at) past = map (λ (state : DiskState). drop at state) past
+after_event (Low at) past = lows_of at past
+after_event (High at) past = highs_of at past
 after_event (Joined high) past = joined past high.now.states

@@ -7,6 +7,7 @@ use Rattle.jfs_disk.specs.declared.plan.Kind.{Kind}
 use Rattle.jfs_disk.specs.declared.plan.Kind.TheVariants.{Read, Write, Sync}
 use Rattle.jfs_disk.specs.declared.plan.Fail.{Fail}
 use Rattle.jfs_disk.specs.declared.plan.Counters.{Counters}
+use Rattle.jfs_disk.specs.declared.plan.Tally.{Tally}
 
 abbrev pub same_part : Part → Part → Bool
 same_part Whole Whole = true
@@ -41,6 +42,22 @@ counted Read counters = record counters { reads = raised counters.reads }
 counted Write counters = record counters { writes = raised counters.writes }
 counted Sync counters = record counters { syncs = raised counters.syncs }
 
+-- how many calls there were on a part
+abbrev pub counters_on : Part → Tally → Counters
+counters_on Whole tally = tally.whole
+counters_on Low tally = tally.low
+counters_on High tally = tally.high
+
+-- one more call of a kind on a part
+abbrev pub tallied : Part → Kind → Tally → Tally
+tallied Whole kind tally = record tally { whole = counted kind tally.whole }
+tallied Low kind tally = record tally { low = counted kind tally.low }
+tallied High kind tally = record tally { high = counted kind tally.high }
+
+-- no calls yet
+abbrev pub untouched : Tally
+untouched = let none : Counters = record { reads = 0; writes = 0; syncs = 0 } in record { whole = none; low = none; high = none }
+
 -- whether the next call of a kind fails
-abbrev pub fails_next : List Fail → Part → Kind → Counters → Bool
-fails_next fails part kind counters = list_any (covers part kind (number_of kind (counted kind counters))) fails
+abbrev pub fails_next : List Fail → Part → Kind → Tally → Bool
+fails_next fails part kind tally = list_any (covers part kind (number_of kind (counters_on part (tallied part kind tally)))) fails

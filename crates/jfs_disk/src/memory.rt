@@ -1,21 +1,22 @@
 //! A disk in memory that can fail and crash.
 
-ghost use Rattle.std.specs.Prelude.{◌≡◌, ◌≢◌, ◌<◌, ◌≤◌, ◌⊎◌, ◌++◌, ◌∷◌, [], OnOk, OnErr, true, false, is_ok, set, if◌then◌else◌};
+ghost use Rattle.std.specs.Prelude.{◌≡◌, ◌≢◌, ◌<◌, ◌≤◌, ◌⊎◌, ◌++◌, ◌∷◌, [], take, drop, min, ◌+◌, ◌-◌, ◌^◌, OnOk, OnErr, IfOk, IfErr, true, false, is_ok, set, if◌then◌else◌};
 ghost use Rattle.jfs_disk.specs.Image.{zeros, page_of};
 ghost use Rattle.jfs_disk.specs.Crash.{seen_of, last_of, written, failed, settled, TearsPage, LeavesTorn, IsCrashImage, at_rest};
 ghost use Rattle.jfs_disk.specs.Choice.{IsChosen};
+ghost use Rattle.jfs_disk.specs.Cut.{lows_of, highs_of, joined};
 ghost use Rattle.jfs_disk.specs.Fault.{HasCause};
 ghost use Rattle.jfs_bits.specs.Count.{Rose};
-ghost use Rattle.jfs_disk.specs.Plan.{raised, counted};
+ghost use Rattle.jfs_disk.specs.Plan.{raised, tallied, untouched};
 ghost use Rattle.jfs_disk.specs.Store.{past_in};
-ghost use Rattle.jfs_disk.specs.Memory.{page_count_of, past_of_disk, image_of_disk, fault_count_of, part_of, fails_of, counters_of, lost_writes_of, will_fail, LeavesTrace};
+ghost use Rattle.jfs_disk.specs.Memory.{page_count_of, past_of_disk, image_of_disk, fault_count_of, part_of, fails_of, tally_of, room_of, lost_writes_of, will_fail, LeavesTrace};
 ghost use Rattle.jfs_disk.specs.TableLaw.{reads_crash_of, whole_of};
 ghost use Rattle.std.proofs.Common.{refl};
 
 use crate::choice::Choice;
 use crate::disk::{Disk, DiskError, Part};
 use crate::page::Page;
-use crate::plan::{Counters, Fail, Kind, Plan};
+use crate::plan::{Fail, Kind, Plan, Tally, copy_fails};
 use crate::store::Store;
 use std::alloc::Global;
 
@@ -34,19 +35,21 @@ impl MemDisk {
     /// A disk of so many pages of zeros, none of whose calls fails. It takes no memory yet.
     pub fn new(alloc: Global, pages: u32) -> MemDisk
         ensures pages { page_count_of result ≡ pages }
+        ensures room { room_of result ≡ 0 }
         ensures past { past_of_disk result ≡ at_rest (zeros pages) ∷ [] }
         ensures faults { fault_count_of result ≡ 0 }
         ensures lost { lost_writes_of result ≡ 0 }
         ensures part { part_of result ≡ Part.Whole }
         ensures fails { fails_of result ≡ [] }
-        ensures counters { counters_of result ≡ record { reads = 0; writes = 0; syncs = 0 } }
+        ensures tally { tally_of result ≡ untouched }
     {
         MemDisk {
             store: Store::new(alloc, pages),
             plan: Plan {
                 part: Part::Whole,
                 fails: Vec::new(alloc),
-                counters: Counters::new(),
+                tally: Tally::new(),
+                alloc,
             },
             faults: 0,
             lost_writes: 0,
@@ -56,8 +59,9 @@ impl MemDisk {
     /// The same disk, of which these calls fail, and which counts its calls anew.
     pub fn with_fails(self, fails: Vec<Fail>) -> MemDisk
         ensures fails { fails_of result ≡ fails.items }
-        ensures counters { counters_of result ≡ record { reads = 0; writes = 0; syncs = 0 } }
+        ensures tally { tally_of result ≡ untouched }
         ensures pages { page_count_of result ≡ page_count_of self }
+        ensures room { room_of result ≡ room_of self }
         ensures past { past_of_disk result ≡ past_of_disk self }
         ensures faults { fault_count_of result ≡ fault_count_of self }
         ensures lost { lost_writes_of result ≡ lost_writes_of self }
@@ -68,7 +72,8 @@ impl MemDisk {
             plan: Plan {
                 part: self.plan.part,
                 fails,
-                counters: Counters::new(),
+                tally: Tally::new(),
+                alloc: self.plan.alloc,
             },
             faults: self.faults,
             lost_writes: self.lost_writes,
@@ -82,11 +87,12 @@ impl MemDisk {
         ensures crash { IsCrashImage (last_of (past_of_disk self)) (image_of_disk result) }
         ensures past { past_of_disk result ≡ at_rest (image_of_disk result) ∷ [] }
         ensures pages { page_count_of result ≡ page_count_of self }
+        ensures room { room_of result ≡ room_of self }
         ensures faults { fault_count_of result ≡ 0 }
         ensures lost { lost_writes_of result ≡ 0 }
         ensures part { part_of result ≡ part_of self }
         ensures fails { fails_of result ≡ [] }
-        ensures counters { counters_of result ≡ record { reads = 0; writes = 0; syncs = 0 } }
+        ensures tally { tally_of result ≡ untouched }
     {
         let mut store = self.store;
         store.crash(choices);
@@ -97,7 +103,8 @@ impl MemDisk {
             plan: Plan {
                 part: self.plan.part,
                 fails,
-                counters: Counters::new(),
+                tally: Tally::new(),
+                alloc: self.plan.alloc,
             },
             faults: 0,
             lost_writes: 0,
@@ -117,6 +124,7 @@ impl MemDisk {
         ensures trace { LeavesTrace n from.now.0 self.old self.new }
         ensures image { image_of_disk self.new ≡ image_of_disk self.old }
         ensures pages { page_count_of self.new ≡ page_count_of self.old }
+        ensures room { room_of self.new ≡ room_of self.old }
         ensures faults { fault_count_of self.new ≡ fault_count_of self.old }
         ensures plan { self.new.plan ≡ self.old.plan }
     {
@@ -146,6 +154,8 @@ impl Disk for MemDisk {
 
     ghost fault_count = { fault_count_of };
 
+    ghost room = { room_of };
+
     ghost tells = { Unit {0} };
 
     ghost image = { image_of_disk };
@@ -164,10 +174,11 @@ impl Disk for MemDisk {
         ensures fails { result ≡ (if will_fail Kind.Read self.old then Err DiskError.Failed else Ok tt) }
         ensures bytes { OnOk result (into.new.0 ≡ page_of (image_of_disk self.old) n) }
         ensures pages { page_count_of self.new ≡ page_count_of self.old }
+        ensures room { room_of self.new ≡ room_of self.old }
         ensures past { past_of_disk self.new ≡ past_of_disk self.old }
         ensures faults { fault_count_of self.new ≡ (if will_fail Kind.Read self.old then raised (fault_count_of self.old) else fault_count_of self.old) }
         ensures cause { HasCause (fault_count_of self.old) (fault_count_of self.new) result }
-        ensures counters { counters_of self.new ≡ counted Kind.Read (counters_of self.old) }
+        ensures tally { tally_of self.new ≡ tallied (part_of self.old) Kind.Read (tally_of self.old) }
         ensures lost { lost_writes_of self.new ≡ lost_writes_of self.old }
         ensures plan { (part_of self.new ≡ part_of self.old) × (fails_of self.new ≡ fails_of self.old) }
     {
@@ -197,9 +208,10 @@ impl Disk for MemDisk {
         ensures page_stays { OnErr result (image_of_disk self.new ≡ image_of_disk self.old) }
         ensures error { result ≢ Err DiskError.Memory }
         ensures pages { page_count_of self.new ≡ page_count_of self.old }
+        ensures room { room_of self.new ≡ room_of self.old }
         ensures faults { fault_count_of self.new ≡ (if is_ok result then fault_count_of self.old else raised (fault_count_of self.old)) }
         ensures cause { HasCause (fault_count_of self.old) (fault_count_of self.new) result }
-        ensures counters { counters_of self.new ≡ counted Kind.Write (counters_of self.old) }
+        ensures tally { tally_of self.new ≡ tallied (part_of self.old) Kind.Write (tally_of self.old) }
         ensures plan { (part_of self.new ≡ part_of self.old) × (fails_of self.new ≡ fails_of self.old) }
     {
         if self.plan.count(Kind::Write) {
@@ -220,9 +232,10 @@ impl Disk for MemDisk {
         ensures past_failed { OnErr result (past_of_disk self.new ≡ past_of_disk self.old) }
         ensures error { result ≢ Err DiskError.Memory }
         ensures pages { page_count_of self.new ≡ page_count_of self.old }
+        ensures room { room_of self.new ≡ room_of self.old }
         ensures faults { fault_count_of self.new ≡ (if is_ok result then fault_count_of self.old else raised (fault_count_of self.old)) }
         ensures cause { HasCause (fault_count_of self.old) (fault_count_of self.new) result }
-        ensures counters { counters_of self.new ≡ counted Kind.Sync (counters_of self.old) }
+        ensures tally { tally_of self.new ≡ tallied (part_of self.old) Kind.Sync (tally_of self.old) }
         ensures lost { lost_writes_of self.new ≡ lost_writes_of self.old }
         ensures plan { (part_of self.new ≡ part_of self.old) × (fails_of self.new ≡ fails_of self.old) }
     {
@@ -235,6 +248,106 @@ impl Disk for MemDisk {
 
     fn faults(&self) -> u64 {
         self.faults
+    }
+
+    /// The parts have the same fails, and number their own calls.
+    fn cut(self, at: u32) -> Result<(Self, Self), Self>
+        requires { at ≤ page_count_of self }
+        ensures pages { IfOk result (λ parts. (page_count_of parts.0 ≡ at) × (page_count_of parts.1 ≡ page_count_of self - at)) }
+        ensures room { IfOk result (λ parts. (page_count_of self ≤ room_of parts.0) × (room_of self ≤ room_of parts.0)) }
+        ensures faults { IfOk result (λ parts. fault_count_of parts.0 + fault_count_of parts.1 ≡ fault_count_of self) }
+        ensures image { IfOk result (λ parts. (image_of_disk parts.0 ≡ take at (image_of_disk self)) × (image_of_disk parts.1 ≡ drop at (image_of_disk self))) }
+        ensures past { IfOk result (λ parts. (past_of_disk parts.0 ≡ lows_of at (past_of_disk self)) × (past_of_disk parts.1 ≡ highs_of at (past_of_disk self))) }
+        ensures part { IfOk result (λ parts. (part_of parts.0 ≡ Part.Low) × (part_of parts.1 ≡ Part.High)) }
+        ensures fails { IfOk result (λ parts. (fails_of parts.0 ≡ fails_of self) × (fails_of parts.1 ≡ fails_of self)) }
+        ensures tally { IfOk result (λ parts. (tally_of parts.0 ≡ tally_of self) × (tally_of parts.1 ≡ tally_of self)) }
+        ensures lost { IfOk result (λ parts. (lost_writes_of parts.0 ≡ lost_writes_of self) × (lost_writes_of parts.1 ≡ 0)) }
+
+        ensures same_pages { IfErr result (λ disk. page_count_of disk ≡ page_count_of self) }
+        ensures same_room { IfErr result (λ disk. room_of disk ≡ room_of self) }
+        ensures same_faults { IfErr result (λ disk. fault_count_of disk ≡ fault_count_of self) }
+        ensures same_image { IfErr result (λ disk. image_of_disk disk ≡ image_of_disk self) }
+        ensures same_past { IfErr result (λ disk. past_of_disk disk ≡ past_of_disk self) }
+        ensures same_plan { IfErr result (λ disk. (part_of disk ≡ part_of self) × (fails_of disk ≡ fails_of self) × (tally_of disk ≡ tally_of self)) }
+    {
+        let MemDisk {
+            store,
+            plan,
+            faults,
+            lost_writes,
+        } = self;
+        let alloc = plan.alloc;
+        let Ok(fails) = copy_fails(alloc, plan.fails.as_slice()) else {
+            return Err(MemDisk {
+                store,
+                plan,
+                faults,
+                lost_writes,
+            });
+        };
+        match store.cut(at) {
+            Ok((low, high)) => Ok((
+                MemDisk {
+                    store: low,
+                    plan: Plan {
+                        part: Part::Low,
+                        fails: plan.fails,
+                        tally: plan.tally,
+                        alloc,
+                    },
+                    faults,
+                    lost_writes,
+                },
+                MemDisk {
+                    store: high,
+                    plan: Plan {
+                        part: Part::High,
+                        fails,
+                        tally: plan.tally,
+                        alloc,
+                    },
+                    faults: 0,
+                    lost_writes: 0,
+                },
+            )),
+            Err(store) => Err(MemDisk {
+                store,
+                plan,
+                faults,
+                lost_writes,
+            }),
+        }
+    }
+
+    /// The disk is whole, and has the low part's fails. Each part's calls go on where they stood.
+    fn join(low: Self, high: Self) -> Self
+        requires { page_count_of low + page_count_of high ≤ room_of low }
+        ensures pages { page_count_of result ≡ page_count_of low + page_count_of high }
+        ensures room { room_of result ≡ room_of low }
+        ensures faults { fault_count_of result ≡ min (fault_count_of low + fault_count_of high) (2 ^ 64 - 1) }
+        ensures image { image_of_disk result ≡ image_of_disk low ++ image_of_disk high }
+        ensures state { last_of (past_of_disk result) ≡ last_of (past_of_disk low) ++ last_of (past_of_disk high) }
+        ensures past { past_of_disk result ≡ joined (past_of_disk low) (past_of_disk high) }
+        ensures part { part_of result ≡ Part.Whole }
+        ensures fails { fails_of result ≡ fails_of low }
+        ensures tally { tally_of result ≡ record (tally_of low) { high = (tally_of high).high } }
+        ensures lost { lost_writes_of result ≡ min (lost_writes_of low + lost_writes_of high) (2 ^ 64 - 1) }
+    {
+        MemDisk {
+            store: Store::join(low.store, high.store),
+            plan: Plan {
+                part: Part::Whole,
+                fails: low.plan.fails,
+                tally: Tally {
+                    whole: low.plan.tally.whole,
+                    low: low.plan.tally.low,
+                    high: high.plan.tally.high,
+                },
+                alloc: low.plan.alloc,
+            },
+            faults: low.faults.saturating_add(high.faults),
+            lost_writes: low.lost_writes.saturating_add(high.lost_writes),
+        }
     }
 
     ghost has_pages = { λ disk _. whole_of disk.store.count disk.store.slots.items disk.store.past.states disk.store.current };

@@ -1,11 +1,11 @@
 //! Which calls of a disk in memory fail.
 
-ghost use Rattle.std.specs.Prelude.{◌≡◌, ◌+◌, ◌-◌, ◌^◌, min};
+ghost use Rattle.std.specs.Prelude.{◌≡◌, ◌+◌, ◌-◌, ◌^◌, min, IfOk};
 ghost use Rattle.std.specs.List.{list_any};
-ghost use Rattle.jfs_disk.specs.Plan.{same_part, same_kind, covers, number_of, counted, fails_next};
+ghost use Rattle.jfs_disk.specs.Plan.{same_part, same_kind, covers, number_of, counted, counters_on, tallied, untouched, fails_next};
 
 use crate::disk::Part;
-use std::alloc::Global;
+use std::alloc::{AllocError, Global};
 
 /// A kind of device call.
 #[derive(Clone, Copy, PartialEq, Eq, Debug)]
@@ -66,12 +66,32 @@ pub struct Counters {
     pub syncs: u64,
 }
 
-/// The fails of a disk, the part that it is, and how many calls of each kind there were.
+/// How many calls there were on the disk as a whole and on each of its parts.
+#[derive(Clone, Copy, Drop)]
+pub struct Tally {
+    pub whole: Counters,
+    pub low: Counters,
+    pub high: Counters,
+}
+
+/// A copy of the fails.
+pub fn copy_fails(alloc: Global, fails: &[Fail]) -> Result<Vec<Fail>, AllocError>
+    ensures { IfOk result (λ copy. copy.items ≡ fails.now) }
+{
+    let mut copy = Vec::new(alloc);
+    for i in 0..fails.len() {
+        copy.push(fails[i])?;
+    }
+    Ok(copy)
+}
+
+/// The fails of a disk, the part that it is, and how many calls there were.
 #[derive(Drop)]
 pub struct Plan {
     pub part: Part,
     pub fails: Vec<Fail>,
-    pub counters: Counters,
+    pub tally: Tally,
+    pub alloc: Global,
 }
 
 impl Counters {
@@ -106,13 +126,36 @@ impl Counters {
     }
 }
 
+impl Tally {
+    pub fn new() -> Self
+        ensures { result ≡ untouched }
+    {
+        Tally {
+            whole: Counters::new(),
+            low: Counters::new(),
+            high: Counters::new(),
+        }
+    }
+
+    fn count(&mut self, part: Part, kind: Kind) -> u64
+        ensures tallied { self.new ≡ tallied part kind self.old }
+        ensures number { result ≡ number_of kind (counters_on part self.new) }
+    {
+        match part {
+            Part::Whole => self.whole.count(kind),
+            Part::Low => self.low.count(kind),
+            Part::High => self.high.count(kind),
+        }
+    }
+}
+
 impl Plan {
     /// Counts a call of this kind, and tells whether it fails.
     pub fn count(&mut self, kind: Kind) -> bool
-        ensures fails { result ≡ fails_next self.old.fails.items self.old.part kind self.old.counters }
-        ensures counted { self.new ≡ record self.old { counters = counted kind self.old.counters } }
+        ensures fails { result ≡ fails_next self.old.fails.items self.old.part kind self.old.tally }
+        ensures tallied { self.new ≡ record self.old { tally = tallied self.old.part kind self.old.tally } }
     {
-        let number = self.counters.count(kind);
+        let number = self.tally.count(self.part, kind);
         self.fails
             .iter()
             .any(|fail| fail.covers(self.part, kind, number))

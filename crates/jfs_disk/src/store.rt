@@ -9,7 +9,7 @@ use crate::choice::Choice;
 use crate::page::Page;
 use crate::past::{Event, Past};
 use crate::slot::PageSlot;
-use crate::table::{fail_place, lengthen, read_place, settle_all, write_place};
+use crate::table::{append, fail_place, lengthen, read_place, settle_all, split, write_place};
 use std::alloc::{AllocError, Global};
 
 /// So many pages: a place for each up to the last one that was written, and a slot where it was. A part that was cut off
@@ -28,11 +28,11 @@ pub struct Store {
 }
 
 impl Store {
-    ghost use Rattle.std.specs.Prelude.{◌++◌, ◌∷◌, ◌+◌, ◌-◌, [], map, take, drop, max, OnOk, OnErr, IfOk, IfErr, ℕ};
+    ghost use Rattle.std.specs.Prelude.{◌++◌, ◌∷◌, ◌+◌, ◌-◌, [], OnOk, OnErr, IfOk, IfErr};
     ghost use Rattle.jfs_disk.specs.Image.{zeros, page_of};
     ghost use Rattle.jfs_disk.specs.Crash.{DiskState, seen_of, written, failed, settled, at_rest};
     ghost use Rattle.jfs_disk.specs.Choice.{IsChosen};
-    ghost use Rattle.jfs_disk.specs.Cut.{joined};
+    ghost use Rattle.jfs_disk.specs.Cut.{lows_of, highs_of, joined};
     ghost use Rattle.jfs_disk.specs.Store.{past_in};
 
     /// A disk of so many pages of zeros.
@@ -134,5 +134,70 @@ impl Store {
         let _count = self.count;
         settle_all(&mut self.slots, &[]);
         self.past = self.past.then(&Event::Synced);
+    }
+
+    /// The part below page `at`, and the part from it on.
+    pub fn cut(self, at: u32) -> Result<(Store, Store), Store>
+        requires { at ≤ self.count }
+        ensures counts { IfOk result (λ parts. (parts.0.count ≡ at) × (parts.1.count ≡ self.count - at)) }
+        ensures room { IfOk result (λ parts. (self.count ≤ parts.0.room) × (self.room ≤ parts.0.room)) }
+        ensures past { IfOk result (λ parts. (past_in parts.0 ≡ lows_of at (past_in self)) × (past_in parts.1 ≡ highs_of at (past_in self))) }
+        ensures refused { IfErr result (λ store. (store.count ≡ self.count) × (store.room ≡ self.room) × (past_in store ≡ past_in self)) }
+    {
+        let Store {
+            alloc,
+            count,
+            room,
+            mut slots,
+            past,
+        } = self;
+        let reserved = room.max(count);
+        let keep = slots.len().min(at as usize);
+        let Ok(tail) = split(&mut slots, keep, reserved as usize) else {
+            return Err(Store {
+                alloc,
+                count,
+                room,
+                slots,
+                past,
+            });
+        };
+        let high = Store {
+            alloc,
+            count: count - at,
+            room: 0,
+            slots: tail,
+            past: past.then(&Event::High(at)),
+        };
+        let low = Store {
+            alloc,
+            count: at,
+            room: reserved,
+            slots,
+            past: past.then(&Event::Low(at)),
+        };
+        Ok((low, high))
+    }
+
+    /// Both parts together. It takes no memory.
+    pub fn join(low: Store, high: Store) -> Store
+        requires { low.count + high.count ≤ low.room }
+        ensures count { result.count ≡ low.count + high.count }
+        ensures room { result.room ≡ low.room }
+        ensures past { past_in result ≡ joined (past_in low) (past_in high) }
+    {
+        let past = low.past.then(&Event::Joined(&high.past));
+        let count = low.count + high.count;
+        let more = low.count as usize - low.slots.len();
+        let mut slots = low.slots;
+        lengthen(&mut slots, more);
+        append(&mut slots, high.slots);
+        Store {
+            alloc: low.alloc,
+            count,
+            room: low.room,
+            slots,
+            past,
+        }
     }
 }

@@ -1,6 +1,7 @@
 //! A disk in memory that never fails.
 
-ghost use Rattle.std.specs.Prelude.{◌≡◌, ◌<◌, [], IfOk, IsOk};
+ghost use Rattle.std.specs.Prelude.{◌≡◌, ◌<◌, ◌≤◌, [], IfOk, IsOk};
+ghost use Rattle.std.specs.Vec.{vec_capacity};
 ghost use Rattle.jfs_disk.specs.Image.{zeros, page_of, ArePages};
 ghost use Rattle.jfs_disk.specs.Pages.{contents};
 
@@ -13,6 +14,8 @@ use std::alloc::{AllocError, Global};
 pub struct SureDisk {
     pages: Vec<Page>,
     count: u32,
+    room: u32,
+    ghost reserved: { room ≤ vec_capacity pages },
     ghost whole: { ArePages count (contents pages.items) },
 }
 
@@ -25,6 +28,7 @@ impl SureDisk {
         Ok(SureDisk {
             pages: pages_of_zeros(alloc, pages)?,
             count: pages,
+            room: 0,
         })
     }
 }
@@ -43,6 +47,8 @@ impl Disk for SureDisk {
     ghost page_count = { λ disk. disk.count };
 
     ghost fault_count = { λ _. 0 };
+
+    ghost room = { λ disk. disk.room };
 
     ghost tells = { Unit {0} };
 
@@ -78,6 +84,43 @@ impl Disk for SureDisk {
 
     fn faults(&self) -> u64 {
         0
+    }
+
+    fn cut(self, at: u32) -> Result<(Self, Self), Self> {
+        let SureDisk {
+            mut pages,
+            count,
+            room,
+        } = self;
+        let Ok(high) = pages.split_off(at as usize) else {
+            return Err(SureDisk { pages, count, room });
+        };
+        let low = SureDisk {
+            pages,
+            count: at,
+            room: room.max(count),
+        };
+        let high = SureDisk {
+            pages: high,
+            count: count - at,
+            room: 0,
+        };
+        Ok((low, high))
+    }
+
+    fn join(low: Self, high: Self) -> Self {
+        let count = low.count + high.count;
+        let mut pages = low.pages;
+        let mut behind = high.pages;
+        match pages.append(&mut behind) {
+            Ok(()) => {}
+            Err(_) => unreachable!(),
+        }
+        SureDisk {
+            pages,
+            count,
+            room: low.room,
+        }
     }
 
     ghost has_pages = { λ disk _. disk.whole };

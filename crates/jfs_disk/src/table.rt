@@ -1,6 +1,6 @@
 //! The places of the pages of a disk in memory.
 
-ghost use Rattle.std.specs.Prelude.{◌≡◌, ◌<◌, ◌≤◌, ◌+◌, ◌^◌, ◌++◌, length, replicate, OnOk, OnErr, None, vec_len};
+ghost use Rattle.std.specs.Prelude.{◌≡◌, ◌<◌, ◌≤◌, ◌+◌, ◌^◌, ◌++◌, length, replicate, take, drop, OnOk, OnErr, IfOk, None, vec_len};
 ghost use Rattle.std.specs.Vec.{vec_capacity};
 ghost use Rattle.jfs_disk.specs.Crash.{page_written, page_failed};
 ghost use Rattle.jfs_disk.specs.Choice.{choice_of};
@@ -20,6 +20,37 @@ pub fn lengthen(slots: &mut Vec<Option<Box<PageSlot>>>, more: usize)
 {
     for _ in 0..more {
         let _ = slots.push(None);
+    }
+}
+
+/// Hands out the places from one on, and keeps those before it, with memory for so many.
+pub fn split(
+    slots: &mut Vec<Option<Box<PageSlot>>>,
+    keep: usize,
+    room: usize,
+) -> Result<Vec<Option<Box<PageSlot>>>, AllocError>
+    requires there { keep ≤ vec_len slots.old }
+    requires room { vec_len slots.old ≤ room }
+    ensures kept { OnOk result (slots.new.items ≡ take keep slots.old.items) }
+    ensures tail { IfOk result (λ tail. tail.items ≡ drop keep slots.old.items) }
+    ensures room { OnOk result (room ≤ vec_capacity slots.new) }
+    ensures err { OnErr result (slots.new.items ≡ slots.old.items) }
+    ensures capacity { vec_capacity slots.old ≤ vec_capacity slots.new }
+{
+    slots.reserve(room - slots.len())?;
+    Ok(slots.split_off(keep)?)
+}
+
+/// Puts places behind these. It takes no memory.
+pub fn append(slots: &mut Vec<Option<Box<PageSlot>>>, behind: Vec<Option<Box<PageSlot>>>)
+    requires { vec_len slots.old + vec_len behind ≤ vec_capacity slots.old }
+    ensures items { slots.new.items ≡ slots.old.items ++ behind.items }
+    ensures capacity { vec_capacity slots.old ≤ vec_capacity slots.new }
+{
+    let mut behind = behind;
+    match slots.append(&mut behind) {
+        Ok(()) => {}
+        Err(_) => unreachable!(),
     }
 }
 
