@@ -1,4 +1,4 @@
-//! How fast a disk in memory reads and writes, when it has made few writes and when it has made many.
+//! How fast a disk in memory reads and writes, when it has made few writes and when it has made many, and when it syncs.
 
 ghost use Rattle.std.specs.Prelude.{◌≡◌};
 
@@ -12,6 +12,12 @@ const PAGES: u32 = 1000;
 /// The calls that are timed.
 const TIMED: u32 = 10000;
 
+/// The writes between two syncs.
+const GROUP: u32 = 100;
+
+/// The writes that are synced by groups.
+const SYNCED: u32 = 100000;
+
 /// Writes so many pages, one after another.
 fn write_pages<D: Disk>(disk: &mut D, calls: u32)
     requires { D.page_count disk.old ≡ PAGES }
@@ -20,6 +26,20 @@ fn write_pages<D: Disk>(disk: &mut D, calls: u32)
     let page = Page([1; 4096]);
     for call in 0..calls {
         let _ = disk.write(call % PAGES, &page);
+    }
+}
+
+/// Writes so many pages, one after another, and syncs after each group of them.
+fn write_groups<D: Disk>(disk: &mut D, calls: u32)
+    requires { D.page_count disk.old ≡ PAGES }
+    ensures { D.page_count disk.new ≡ D.page_count disk.old }
+{
+    let page = Page([1; 4096]);
+    for call in 0..calls {
+        let _ = disk.write(call % PAGES, &page);
+        if call % GROUP == GROUP - 1 {
+            let _ = disk.sync();
+        }
     }
 }
 
@@ -49,5 +69,10 @@ pub fn time_disk(rt: &HostRuntime) -> io::Result<()> {
             "after {writes} writes: {TIMED} reads in {reads} us, {TIMED} writes in {more} us"
         )?;
     }
+    let mut disk = MemDisk::new(rt.alloc(), PAGES);
+    let start = Instant::now(rt)?;
+    write_groups(&mut disk, SYNCED);
+    let synced = start.elapsed(rt)?.as_micros();
+    println!(rt; "{SYNCED} writes with a sync each {GROUP}: {synced} us")?;
     Ok(())
 }

@@ -1,15 +1,17 @@
 //! A disk over a file. It tells nothing of its contents: what a real file holds is trusted.
 
-ghost use Rattle.std.specs.Prelude.{◌≡◌, ◌≢◌, ◌/◌, ◌-◌, ◌^◌, min, []};
+ghost use Rattle.std.specs.Prelude.{◌≡◌, ◌≢◌, ◌<◌, ◌≤◌, ◌+◌, ◌/◌, ◌-◌, ◌^◌, min, []};
 ghost use Rattle.jfs_disk.specs.Fault.{HasCause};
 
 use jfs_disk::{Disk, DiskError, Page};
+use std::alloc::{AllocError, Global};
 use std::fmt::{Display, Formatter};
 use std::fs::{File, OpenFile, OpenOptions, TryLockError};
 use std::io::{Seek, SeekFrom};
 use std::os::fd::AsRawFd;
 use std::os::unix::fs::FileExt;
 use std::rt::Files;
+use std::sync::Arc;
 use std::{fmt, io, str};
 
 const PAGE_BYTES: u64 = 4096;
@@ -61,11 +63,16 @@ impl Display for OpenError {
 
 /// An image: one open file for reads and, where the command writes, one for writes, and how often a call failed.
 /// Of a name that can't be opened it has no pages, and each call on it fails.
+/// A part of it is so many pages from its first one on, and shares the files.
 #[derive(Drop)]
 pub struct FileDisk {
-    files: Option<ImageFiles>,
+    files: Option<Arc<ImageFiles>>,
+    first: u32,
     pages: u32,
+    room: u32,
     faults: u64,
+    ghost within: { first + room < 2 ^ 32 },
+    ghost has_room: { pages ≤ room },
 }
 
 /// The file that is read, and the same file to be written.
@@ -80,6 +87,7 @@ impl FileDisk {
     /// read, exclusive to write. It doesn't wait for one.
     pub fn open<R: Files<File = File>>(
         rt: &R,
+        alloc: Global,
         name: &[u8],
         access: Access,
     ) -> Result<FileDisk, OpenError> {
@@ -103,9 +111,14 @@ impl FileDisk {
         };
         // The metadata of a block device has no length.
         let bytes = (&reads).seek(SeekFrom::End(0))?;
+        let pages = whole_pages(bytes);
+        let files = Arc::new(alloc, ImageFiles { reads, writes })
+            .map_err(|_| io::Error::from(io::ErrorKind::OutOfMemory))?;
         Ok(FileDisk {
-            files: Some(ImageFiles { reads, writes }),
-            pages: whole_pages(bytes),
+            files: Some(files),
+            first: 0,
+            pages,
+            room: pages,
             faults: 0,
         })
     }
@@ -114,7 +127,9 @@ impl FileDisk {
     pub fn closed() -> FileDisk {
         FileDisk {
             files: None,
+            first: 0,
             pages: 0,
+            room: 0,
             faults: 0,
         }
     }
@@ -122,6 +137,7 @@ impl FileDisk {
     // Counts a failed call.
     fn counted(&mut self, done: io::Result<()>) -> Result<(), DiskError>
         ensures pages { self.new.pages ≡ self.old.pages }
+        ensures room { self.new.room ≡ self.old.room }
         ensures cause { HasCause self.old.faults self.new.faults result }
         ensures no_memory { result ≢ Err DiskError.Memory }
     {
@@ -136,15 +152,26 @@ impl FileDisk {
 
     // The file that is written.
     fn written(&self) -> io::Result<&File> {
-        match &self.files {
-            Some(
-                ImageFiles {
-                    writes: Some(file),
-                    ..
-                },
-            ) => Ok(file),
-            _ => Err(io::Error::from(io::ErrorKind::NotFound)),
-        }
+        let writes = match &self.files {
+            Some(files) => files.writes.as_ref(),
+            None => None,
+        };
+        writes.ok_or_else(|| io::Error::from(io::ErrorKind::NotFound))
+    }
+
+    // Where a page lies in the file.
+    fn place_of(&self, n: u32) -> u64
+        requires { n < self.now.pages }
+    {
+        u64::from(self.first + n) * PAGE_BYTES
+    }
+}
+
+// The same files once more.
+fn shared(files: &Option<Arc<ImageFiles>>) -> Result<Option<Arc<ImageFiles>>, AllocError> {
+    match files {
+        Some(files) => Ok(Some(files.clone()?)),
+        None => Ok(None),
     }
 }
 
@@ -152,6 +179,8 @@ impl Disk for FileDisk {
     ghost page_count = { λ d. d.pages };
 
     ghost fault_count = { λ d. d.faults };
+
+    ghost room = { λ d. d.room };
 
     ghost tells = { ⊥ };
 
@@ -174,18 +203,18 @@ impl Disk for FileDisk {
     }
 
     fn read(&mut self, n: u32, into: &mut Page) -> Result<(), DiskError> {
+        let place = self.place_of(n);
         let done = match &self.files {
-            Some(files) => files
-                .reads
-                .read_exact_at(&mut into.0, u64::from(n) * PAGE_BYTES),
+            Some(files) => files.reads.read_exact_at(&mut into.0, place),
             None => Err(io::Error::from(io::ErrorKind::NotFound)),
         };
         self.counted(done)
     }
 
     fn write(&mut self, n: u32, from: &Page) -> Result<(), DiskError> {
+        let place = self.place_of(n);
         let done = match self.written() {
-            Ok(file) => file.write_all_at(&from.0, u64::from(n) * PAGE_BYTES),
+            Ok(file) => file.write_all_at(&from.0, place),
             Err(e) => Err(e),
         };
         self.counted(done)
@@ -202,6 +231,51 @@ impl Disk for FileDisk {
 
     fn faults(&self) -> u64 {
         self.faults
+    }
+
+    fn cut(self, at: u32) -> Result<(Self, Self), Self> {
+        let FileDisk {
+            files,
+            first,
+            pages,
+            room,
+            faults,
+        } = self;
+        let Ok(behind) = shared(&files) else {
+            return Err(FileDisk {
+                files,
+                first,
+                pages,
+                room,
+                faults,
+            });
+        };
+        let low = FileDisk {
+            files,
+            first,
+            pages: at,
+            room,
+            faults,
+        };
+        let high = FileDisk {
+            files: behind,
+            first: first + at,
+            pages: pages - at,
+            room: pages - at,
+            faults: 0,
+        };
+        Ok((low, high))
+    }
+
+    /// Of parts of one file alone: the pages are those of the low part's file.
+    fn join(low: Self, high: Self) -> Self {
+        FileDisk {
+            files: low.files,
+            first: low.first,
+            pages: low.pages + high.pages,
+            room: low.room,
+            faults: low.faults.saturating_add(high.faults),
+        }
     }
 }
 

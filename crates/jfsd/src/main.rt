@@ -29,7 +29,7 @@ fn main(rt: HostRuntime) -> ExitCode {
     let alloc = rt.alloc();
     let disk = match paths_of(alloc, &words) {
         Ok(paths) => match word(&words, paths.image) {
-            Some(name) => opened(&rt, name, access_of(&words)),
+            Some(name) => opened(&rt, alloc, name, access_of(&words)),
             None => FileDisk::closed(),
         },
         Err(PathsError::Usage(_)) => FileDisk::closed(),
@@ -87,8 +87,13 @@ fn access_of(words: &[Vec<u8>]) -> Access {
 }
 
 // The image of that name. Where it can't be opened, standard error has the reason, and the image is a disk without pages.
-fn opened<R: Files<File = File> + Eprint>(rt: &R, name: &[u8], access: Access) -> FileDisk {
-    match FileDisk::open(rt, name, access) {
+fn opened<R: Files<File = File> + Eprint>(
+    rt: &R,
+    alloc: Global,
+    name: &[u8],
+    access: Access,
+) -> FileDisk {
+    match FileDisk::open(rt, alloc, name, access) {
         Ok(disk) => disk,
         Err(reason) => {
             let name = str::from_utf8(name).unwrap_or("");
