@@ -62,12 +62,12 @@ whole_put run status ByDisk is ends before stays = inl (refl, stays)
 whole_put run status ByMemory is ends before stays = (status, subst (λ (k : Kind). EndsAs run status k) (sym is) ends, front_of_itself (whole_text run status))
 
 -- the status and its text where the sink failed
-pub record Told (run : Run) (status : Status) (text : List ℕ) : Type 0 where
+pub record Concluded (run : Run) (status : Status) (text : List ℕ) : Type 0 where
   pub ends : Ends run status
   pub prints : Prints run status text
 
-told : (run : Run) (status : Status) (text : List ℕ) (kind : Kind) → kind_of status ≡ kind → EndsAs run status kind → PrintsAs run status text kind → Told run status text
-told run status text kind is ends prints = record {
+judged : (run : Run) (status : Status) (text : List ℕ) (kind : Kind) → kind_of status ≡ kind → EndsAs run status kind → PrintsAs run status text kind → Concluded run status text
+judged run status text kind is ends prints = record {
   ends = subst (λ (k : Kind). EndsAs run status k) (sym is) ends;
   prints = subst (λ (k : Kind). PrintsAs run status text k) (sym is) prints;
 }
@@ -77,17 +77,17 @@ finished_line statuses.Done is = refl
 finished_line (statuses.Found count) is = refl
 finished_line _ is = absurd cc
 
-front_put : (run : Run) (status : Status) (text : List ℕ) (kind : Kind) → kind_of status ≡ kind → EndsAs run status kind → IsBeforeSink kind → HasRisen run.sink → IsFront text (whole_text run status) → Told run (sink_fault_after kind status) text
+front_put : (run : Run) (status : Status) (text : List ℕ) (kind : Kind) → kind_of status ≡ kind → EndsAs run status kind → IsBeforeSink kind → HasRisen run.sink → IsFront text (whole_text run status) → Concluded run (sink_fault_after kind status) text
 front_put run status text Finishes is (came, disk, scripts) before risen front = record {
   ends = ((status, is, came), risen, disk, scripts);
   prints = subst (λ (line : List ℕ). IsFront text (run.work.text ++ line)) (finished_line status is) front;
 }
-front_put run status text Refuses is ends before risen front = told run status text Refuses is ends (inr (front, risen))
-front_put run status text (RefusesWord word) is ends before risen front = told run status text (RefusesWord word) is ends (inr (front, risen))
-front_put run status text ByScripts is ends before risen front = told run status text ByScripts is ends (inr (front, risen))
+front_put run status text Refuses is ends before risen front = judged run status text Refuses is ends (inr (front, risen))
+front_put run status text (RefusesWord word) is ends before risen front = judged run status text (RefusesWord word) is ends (inr (front, risen))
+front_put run status text ByScripts is ends before risen front = judged run status text ByScripts is ends (inr (front, risen))
 front_put run status text BySink is ends before risen front = absurd before
-front_put run status text ByDisk is ends before risen front = told run status text ByDisk is ends (inr (front, risen))
-front_put run status text ByMemory is ends before risen front = told run status text ByMemory is ends (status, subst (λ (k : Kind). EndsAs run status k) (sym is) ends, front)
+front_put run status text ByDisk is ends before risen front = judged run status text ByDisk is ends (inr (front, risen))
+front_put run status text ByMemory is ends before risen front = judged run status text ByMemory is ends (status, subst (λ (k : Kind). EndsAs run status k) (sym is) ends, front)
 
 -- where memory runs out, what was done is what had been done
 for_memory : (run : Run) (status : Status) (kind : Kind) → EndsAs run status kind → EndsAs run statuses.OutOfMemory ByMemory
@@ -100,17 +100,17 @@ for_memory run status ByDisk (stopped, risen, scripts) = inr (inl stopped)
 for_memory run status ByMemory ends = ends
 
 pub concluded : (run : Run) (tells : Type 0) (old new : List ℕ) (status result : Status) → Ends run status → IsBeforeSink (kind_of status) → Concludes tells old new run.sink run.work.text status result
-    → (text : List ℕ) × Puts tells old new text × Told run result text
+    → (text : List ℕ) × Puts tells old new text × Concluded run result text
 concluded run tells old new status result ends before (inl (same, stays, put)) =
     let text = whole_text run status in
-    (text, put, subst (λ (s : Status). Told run s text) (sym same) (told run status text (kind_of status) refl ends (whole_put run status (kind_of status) refl ends before stays)))
+    (text, put, subst (λ (s : Status). Concluded run s text) (sym same) (judged run status text (kind_of status) refl ends (whole_put run status (kind_of status) refl ends before stays)))
 concluded run tells old new status result ends before (inr (inl (same, risen, (text, front, put)))) =
-    (text, put, subst (λ (s : Status). Told run s text) (sym same) (front_put run status text (kind_of status) refl ends before risen front))
+    (text, put, subst (λ (s : Status). Concluded run s text) (sym same) (front_put run status text (kind_of status) refl ends before risen front))
 concluded run tells old new status result ends before (inr (inr (same, inl (text, front, put)))) =
-    (text, put, subst (λ (s : Status). Told run s text) (sym same) (record { ends = for_memory run status (kind_of status) ends; prints = (status, ends, front) }))
+    (text, put, subst (λ (s : Status). Concluded run s text) (sym same) (record { ends = for_memory run status (kind_of status) ends; prints = (status, ends, front) }))
 concluded run tells old new status result ends before (inr (inr (same, inr (text, front, put)))) =
     let free = for_memory run status (kind_of status) ends in
-    (text, put, subst (λ (s : Status). Told run s text) (sym same) (record { ends = free; prints = (statuses.OutOfMemory, free, front) }))
+    (text, put, subst (λ (s : Status). Concluded run s text) (sym same) (record { ends = free; prints = (statuses.OutOfMemory, free, front) }))
 
 -- ---- the answer of a run
 

@@ -63,17 +63,17 @@ abbrev pub whole_text : Run → Status → List ℕ
 whole_text run status = run.work.text ++ line_of status
 
 -- all of the text; where the sink's count rose, a front of it
-abbrev pub IsTold : Run → Status → List ℕ → Type 0
-IsTold run status text = ((text ≡ whole_text run status) × Stays run.sink) ⊎ (IsFront text (whole_text run status) × HasRisen run.sink)
+abbrev pub IsPrinted : Run → Status → List ℕ → Type 0
+IsPrinted run status text = ((text ≡ whole_text run status) × Stays run.sink) ⊎ (IsFront text (whole_text run status) × HasRisen run.sink)
 
 -- What is printed, by the kind of the status. Where memory ran out it is a front of the text of some status that has its cause.
 abbrev pub PrintsAs : Run → Status → List ℕ → Kind → Type 0
 PrintsAs run status text Finishes = (text ≡ whole_text run status) × Stays run.sink
-PrintsAs run status text Refuses = IsTold run status text
-PrintsAs run status text (RefusesWord word) = IsTold run status text
-PrintsAs run status text ByScripts = IsTold run status text
+PrintsAs run status text Refuses = IsPrinted run status text
+PrintsAs run status text (RefusesWord word) = IsPrinted run status text
+PrintsAs run status text ByScripts = IsPrinted run status text
 PrintsAs run status text BySink = IsFront text (whole_text run status)
-PrintsAs run status text ByDisk = IsTold run status text
+PrintsAs run status text ByDisk = IsPrinted run status text
 PrintsAs run status text ByMemory = (cause : Status) × Ends run cause × IsFront text (whole_text run cause)
 
 abbrev pub Prints : Run → Status → List ℕ → Type 0

@@ -3,8 +3,8 @@ use Rattle.std.specs.Prelude.{◌+◌, ◌-◌, ◌^◌, ℕ, Bool, ◌&&◌, na
 use Rattle.jfs_io.specs.declared.failing.Failing.{Failing}
 
 -- one more, up to the last u64 value
-abbrev pub counted : ℕ → ℕ
-counted n = min (n + 1) (2 ^ 64 - 1)
+abbrev pub raised : ℕ → ℕ
+raised n = min (n + 1) (2 ^ 64 - 1)
 
 abbrev pub no_failing : Failing
 no_failing = record { first = 1; last = 0; calls = 0; faults = 0 }
@@ -15,10 +15,10 @@ failing_between first last f = record f { first = first; last = last; calls = 0 
 
 -- whether the next call fails
 abbrev pub is_failing : Failing → Bool
-is_failing f = nat_le f.first (counted f.calls) && nat_le (counted f.calls) f.last
+is_failing f = nat_le f.first (raised f.calls) && nat_le (raised f.calls) f.last
 
 abbrev pub after_call : Failing → Failing
-after_call f = record f { calls = counted f.calls; faults = if is_failing f then counted f.faults else f.faults }
+after_call f = record f { calls = raised f.calls; faults = if is_failing f then raised f.faults else f.faults }
 
 -- a source: the bytes that are left, and which calls fail
 pub record Feed : Type 0 where
