@@ -22,31 +22,31 @@ join one other at m n a b k past near = elim (cases_lt k (at + m)) [ inl h ↦ a
 meet : (x y p q v u : ℕ) → x ≡ p → x ≡ v → y ≡ q → y ≡ u → v ≡ u → p ≡ q
 meet x y p q v u a b c d e = sym a ∙ b ∙ e ∙ sym d ∙ c
 
-and-same : (a b c d : Bool) → a ≡ c → b ≡ d → (a && b) ≡ (c && d)
+pub and-same : (a b c d : Bool) → a ≡ c → b ≡ d → (a && b) ≡ (c && d)
 and-same a b c d e f = rw (e, f) refl
 
 -- ---- what follows from the same inodes and extents
 
-there-same : (iags : ℕ) (taken others : ℕ → Bool) (extent places : ℕ → Pxd) → AreSame iags taken others extent places → (e : ℕ) → e < 128 * iags → is_there (extent e) ≡ is_there (places e)
+pub there-same : (iags : ℕ) (taken others : ℕ → Bool) (extent places : ℕ → Pxd) → AreSame iags taken others extent places → (e : ℕ) → e < 128 * iags → is_there (extent e) ≡ is_there (places e)
 there-same iags taken others extent places s e h = ap is_there (s.extents e h)
 
-free-same : (iags : ℕ) (taken others : ℕ → Bool) (extent places : ℕ → Pxd) → AreSame iags taken others extent places → (e : ℕ) → e < 128 * iags → has_free taken extent e ≡ has_free others places e
+pub free-same : (iags : ℕ) (taken others : ℕ → Bool) (extent places : ℕ → Pxd) → AreSame iags taken others extent places → (e : ℕ) → e < 128 * iags → has_free taken extent e ≡ has_free others places e
 free-same iags taken others extent places s e h =
     and-same (is_there (extent e)) (any_below 32 (λ i. not (taken (32 * e + i)))) (is_there (places e)) (any_below 32 (λ i. not (others (32 * e + i))))
     (there-same iags taken others extent places s e h)
     (any_below-same 32 (λ i. not (taken (32 * e + i))) (λ i. not (others (32 * e + i))) (λ i k. ap not (s.inodes (32 * e + i) (omega arith))))
 
-inode-same : (iags : ℕ) (taken others : ℕ → Bool) (extent places : ℕ → Pxd) → AreSame iags taken others extent places → (i : ℕ) → i < 4096 * iags → is_free_inode taken extent i ≡ is_free_inode others places i
+pub inode-same : (iags : ℕ) (taken others : ℕ → Bool) (extent places : ℕ → Pxd) → AreSame iags taken others extent places → (i : ℕ) → i < 4096 * iags → is_free_inode taken extent i ≡ is_free_inode others places i
 inode-same iags taken others extent places s i h =
     and-same (is_there (extent (i / 32))) (not (taken i)) (is_there (places (i / 32))) (not (others i))
     (there-same iags taken others extent places s (i / 32) (omega arith)) (ap not (s.inodes i h))
 
-inodes-listed : (iags numag g : ℕ) (taken others : ℕ → Bool) (extent places : ℕ → Pxd) → AreSame iags taken others extent places → (k : ℕ) → k < iags → in_inode_list taken extent numag g k ≡ in_inode_list others places numag g k
+pub inodes-listed : (iags numag g : ℕ) (taken others : ℕ → Bool) (extent places : ℕ → Pxd) → AreSame iags taken others extent places → (k : ℕ) → k < iags → in_inode_list taken extent numag g k ≡ in_inode_list others places numag g k
 inodes-listed iags numag g taken others extent places s k h =
     and-same (k % numag == g) (has_free_inode taken extent k) (k % numag == g) (has_free_inode others places k) refl
     (any_below-same 128 (λ e. has_free taken extent (128 * k + e)) (λ e. has_free others places (128 * k + e)) (λ e b. free-same iags taken others extent places s (128 * k + e) (omega arith)))
 
-places-listed : (iags numag g : ℕ) (taken others : ℕ → Bool) (extent places : ℕ → Pxd) → AreSame iags taken others extent places → (k : ℕ) → k < iags → in_place_list extent numag g k ≡ in_place_list places numag g k
+pub places-listed : (iags numag g : ℕ) (taken others : ℕ → Bool) (extent places : ℕ → Pxd) → AreSame iags taken others extent places → (k : ℕ) → k < iags → in_place_list extent numag g k ≡ in_place_list places numag g k
 places-listed iags numag g taken others extent places s k h =
     and-same (k % numag == g) (has_free_place extent k) (k % numag == g) (has_free_place places k) refl
     (any_below-same 128 (λ e. not (is_there (extent (128 * k + e)))) (λ e. not (is_there (places (128 * k + e)))) (λ e b. ap not (there-same iags taken others extent places s (128 * k + e) (omega arith))))

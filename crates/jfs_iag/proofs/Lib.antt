@@ -2,3 +2,4 @@ pub mod Fronts
 pub mod Heads
 pub mod Maps
 pub mod Agreed
+pub mod Carried

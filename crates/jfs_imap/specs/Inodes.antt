@@ -1,11 +1,12 @@
 -- The inodes of a volume, as its inode map knows them.
-use Rattle.std.specs.Prelude.{◌≡◌, ℕ, ◌*◌, ◌<◌, ◌≤◌, ◌&&◌, Bool, true, false, not, nat_le, nat_lt, if◌then◌else◌, List, length, get_or, map, set}
+use Rattle.std.specs.Prelude.{◌≡◌, ℕ, ◌+◌, ◌*◌, ◌%◌, ◌<◌, ◌≤◌, ◌&&◌, Bool, true, false, not, nat_le, nat_lt, if◌then◌else◌, List, length, get_or, map, set}
 use Rattle.std.specs.List.{range_with_len}
 use Rattle.jfs_bits.specs.declared.descriptor.Pxd.{Pxd}
 use Rattle.jfs_bits.specs.Bits.{is_taken, is_in_run}
 use Rattle.jfs_bits.specs.Descriptor.{FitsPxd}
 use Rattle.jfs_iag.specs.Iag.{no_run}
-use Rattle.jfs_iag.specs.Canonical.{is_there, has_free, is_free_inode}
+use Rattle.jfs_iag.specs.declared.canonical.Links.{Links}
+use Rattle.jfs_iag.specs.Canonical.{is_there, has_free, is_free_inode, AreLinks, IsIagPage, IsControlPage}
 use Rattle.jfs_imap.specs.declared.inode_map.Pick.{Pick}
 use Rattle.jfs_imap.specs.declared.inode_map.Pick.TheVariants.{Number, NeedsExtent, NoInodes}
 
@@ -73,3 +74,14 @@ pub record AreKept (iags numag : ℕ) (set : List ℕ) (extents : List Pxd) (hav
   pub fits : (e : ℕ) → e < 128 * iags → FitsPxd (get_or extents e no_run)
   pub free : (e : ℕ) → get_or having e false ≡ has_free (is_taken set) (λ e. get_or extents e no_run) e
   pub places : (e : ℕ) → get_or lacking e false ≡ (nat_lt e (128 * iags) && not (is_there (get_or extents e no_run)))
+
+-- the page of IAG `k`, with its place in the canonical lists; the allocation group of IAG k is k mod numag
+abbrev pub IsPageOfIag : Inodes → ℕ → List ℕ → Type 0
+IsPageOfIag m k page =
+    (links : Links) × AreLinks (is_used m) (extent_at m) m.iags m.numag k links
+    × IsIagPage (λ i. is_used m (4096 * k + i)) (λ e. extent_at m (128 * k + e)) k (k % m.numag * m.agsize) links page
+
+-- Page `n` of the map's file in its canonical form: the control page, then a page for each IAG.
+pub record IsInodePage (m : Inodes) (n : ℕ) (page : List ℕ) : Type 0 where
+  pub control : n ≡ 0 → IsControlPage (is_used m) (extent_at m) m.iags m.numag page
+  pub iag : (k : ℕ) → n ≡ k + 1 → IsPageOfIag m k page

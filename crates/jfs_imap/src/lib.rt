@@ -2,7 +2,10 @@
 #![tactic(auto)]
 
 mod change;
+mod counts;
 mod inode_map;
+mod lists;
+mod pages;
 mod summary;
 
 pub use inode_map::{InodeMap, Pick};
