@@ -1,5 +1,5 @@
 -- The free blocks of a map, counted word by word.
-use Rattle.std.proofs.Common.{◌≡◌, ◌<◌, ◌≤◌, ◌+◌, ◌-◌, ◌*◌, ◌/◌, ◌%◌, ◌^◌, ℕ, zero, suc, Bool, true, false, not, List, refl, sym, ap, ◌∙◌, w32, arith}
+use Rattle.std.proofs.Common.{◌≡◌, ◌<◌, ◌+◌, ◌-◌, ◌*◌, ◌/◌, ◌%◌, ◌^◌, ℕ, zero, suc, not, List, refl, sym, ap, ◌∙◌, w32, arith}
 use Rattle.std.specs.Prelude.{◌==◌, if◌then◌else◌}
 use Rattle.std.specs.Int.{bit_at, bit_not, count_zeros}
 use Rattle.std.specs.Int.Count.{ones, ones_step}
@@ -8,7 +8,7 @@ use Rattle.std.proofs.lemmas.Nat.Bits.{bit_at_not, bit_at-lt}
 use Rattle.std.proofs.lemmas.Nat.{shr-shr, ones-le}
 use Rattle.jfs_bits.specs.Bits.{is_taken, is_taken_in, count_below}
 use Rattle.jfs_bits.specs.Field.{field_of}
-use Rattle.jfs_bits.proofs.Counts.{count_below-same, count_below-next, count_below-none, count_below-parts}
+use Rattle.jfs_bits.proofs.Counts.{count_below-same, count_below-parts}
 
 -- a bit of half a number
 half-bit : (y k : ℕ) → bit_at (y / 2) k ≡ bit_at y (k + 1)

@@ -1,4 +1,4 @@
-use Rattle.std.proofs.Common.{◌+◌, ◌*◌, ℕ, not, sym, arith}
+use Rattle.std.proofs.Common.{◌*◌, not, sym, arith}
 use Rattle.jfs_bits.specs.Bits.{is_taken}
 use Rattle.jfs_bits.proofs.Counts.{count_below-none, count_below-most}
 use Rattle.jfs_dmap.proofs.Counted.{count-word}
