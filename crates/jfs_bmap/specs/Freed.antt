@@ -1,4 +1,5 @@
--- The runs that entries released, and the entry that each busy block waits for.
+-- The runs that entries released, and the entry that each busy block waits for. These definitions stand for the prover alone: no clause of
+-- a public call needs them.
 use Rattle.std.specs.Prelude.{◌≡◌, ℕ, ◌/◌, ◌%◌, Bool, true, not, ◌&&◌, nat_le, List, [], map, slice_index_or}
 use Rattle.std.specs.List.{Contains}
 use Rattle.std.specs.Ordering.{nat_cmp, ordering_then}

@@ -17,7 +17,7 @@ unfoldable pub joined : (ℕ → ℕ) → ℕ → ℕ → ℕ → ℕ
 joined own whole zero v = own v
 joined own whole (suc top) v = if is_whole own whole (suc top) v then (if start_of (suc top) v == v then whole + suc top else 0) else joined own whole top v
 
--- the greatest whole run that has leaf `v` has 2 ^ k leaves
+-- For the prover alone: the greatest whole run that has leaf `v` has 2 ^ k leaves.
 pub record Level (own : ℕ → ℕ) (whole top v k : ℕ) : Type 0 where
   pub most : k ≤ top
   pub run : is_whole own whole k v ≡ true
@@ -37,11 +37,11 @@ IsLowestRun height own whole rank (Some leaf) = (leaf < leaves_of height) × Has
 abbrev pub with_own : (ℕ → ℕ) → ℕ → ℕ → ℕ → ℕ
 with_own own leaf rank v = if leaf == v then rank else own v
 
--- the ranks after the first leaves of the two halves of a run of 2 ^ (k + 1) leaves got others
+-- For the prover alone: the ranks after the first leaves of the two halves of a run of 2 ^ (k + 1) leaves got others.
 abbrev pub HalvesPut : ℕ → ℕ → ℕ → ℕ → (ℕ → ℕ) → (ℕ → ℕ) → Type 0
 HalvesPut k leaf left right old new = (v : ℕ) → new v ≡ (if start_of (suc k) leaf + 2 ^ k == v then right else (if start_of (suc k) leaf == v then left else old v))
 
--- the first leaves of both halves have this rank
+-- For the prover alone: the first leaves of both halves have this rank.
 abbrev pub HalvesShow : ℕ → ℕ → ℕ → (ℕ → ℕ) → Type 0
 HalvesShow k leaf rank ranks = (ranks (start_of (suc k) leaf) ≡ rank) × (ranks (start_of (suc k) leaf + 2 ^ k) ≡ rank)
 

@@ -28,7 +28,7 @@ leaf_at height tree v = rank_at tree (first_of height + v)
 abbrev pub greatest_of : (ℕ → ℕ) → ℕ → ℕ
 greatest_of ranks n = max (max (ranks (4 * n + 1)) (ranks (4 * n + 2))) (max (ranks (4 * n + 3)) (ranks (4 * n + 4)))
 
--- the ranks with that of node `n` replaced
+-- For the prover alone: the ranks with that of node `n` replaced.
 abbrev pub with_rank : (ℕ → ℕ) → ℕ → ℕ → ℕ → ℕ
 with_rank ranks n rank m = if n == m then rank else ranks m
 
@@ -36,6 +36,6 @@ with_rank ranks n rank m = if n == m then rank else ranks m
 abbrev pub HasMaxima : List ℕ → Type 0
 HasMaxima tree = (n : ℕ) → 4 * n + 4 < length tree → rank_at tree n ≡ greatest_of (rank_at tree) n
 
--- the first of the four children of node `n` whose rank is at least `least`, if one's is
+-- For the prover alone: the first of the four children of node `n` whose rank is at least `least`, if one's is.
 abbrev pub IsFirstFitting : (ℕ → ℕ) → ℕ → ℕ → ℕ → Type 0
 IsFirstFitting ranks n least child = (i : ℕ) × (i < 4) × (child ≡ 4 * n + 1 + i) × ((k : ℕ) → k < i → ranks (4 * n + 1 + k) < least) × (least ≤ greatest_of ranks n → least ≤ ranks child)

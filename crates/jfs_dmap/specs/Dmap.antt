@@ -29,7 +29,7 @@ taken_in page = is_taken (map_of page)
 abbrev pub word_rank : List ℕ → ℕ → ℕ
 word_rank map w = rank_of (max_bud_of (field_of map (4 * w) 4))
 
--- the fields that do not follow from the set
+-- the fields that do not follow from the set; for the prover alone
 unfoldable pub head_of : ℕ → ℕ → List Piece
 head_of start nblocks =
     record { at = 0; bytes = little_bytes 4 nblocks } ∷

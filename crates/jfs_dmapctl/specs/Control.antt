@@ -31,7 +31,7 @@ value_at values v = slice_index_or values v (negsuc 0)
 abbrev pub ranks_of : List ℤ → ℕ → ℕ
 ranks_of values v = rank_of (value_at values v)
 
--- the fields that do not follow from the leaves
+-- the fields that do not follow from the leaves; for the prover alone
 unfoldable pub head_of : ℕ → List Piece
 head_of level =
     record { at = 0; bytes = little_bytes 4 1024 } ∷

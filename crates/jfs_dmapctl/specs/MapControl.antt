@@ -24,7 +24,7 @@ pub record IsMapControl (m : MapControl) (page : List ℕ) : Type 0 where
   pub agsize : m.agsize ≡ field_of page 1080 8
   pub maxfreebud : m.maxfreebud ≡ cast_signed w8 (field_of page 1088 1)
 
--- the fields before the groups' counts
+-- the fields before the groups' counts; for the prover alone
 unfoldable pub front_of : MapControl → List Piece
 front_of m =
     record { at = 0; bytes = little_bytes 8 m.mapsize } ∷
@@ -40,7 +40,7 @@ front_of m =
     record { at = 48; bytes = little_bytes 4 m.agstart } ∷
     record { at = 52; bytes = little_bytes 4 m.agl2size } ∷ []
 
--- what has a place in these fields
+-- what has a place in these fields; for the prover alone
 pub record FitsFront (m : MapControl) : Type 0 where
   pub mapsize : m.mapsize < 2 ^ 64
   pub nfree : m.nfree < 2 ^ 64
