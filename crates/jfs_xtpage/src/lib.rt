@@ -2,9 +2,11 @@
 #![tactic(auto)]
 
 mod check;
+mod edit;
 mod find;
 mod head;
 
 pub use check::xt_check;
+pub use edit::{xt_cut, xt_link};
 pub use find::{xt_entry, xt_find};
 pub use head::{BadXt, XtForm, XtHead};
