@@ -1,12 +1,11 @@
 -- What stays where a page's header changes.
-use Rattle.std.proofs.Common.{◌≡◌, ◌≤◌, ◌<◌, ◌⊎◌, inl, inr, refl, sym, ap, ◌∙◌, subst, ℕ, suc, ◌+◌, ◌-◌, ◌*◌, ◌/◌, ◌%◌, ◌^◌, List, length, arith}
+use Rattle.std.proofs.Common.{◌≡◌, ◌≤◌, ◌<◌, inl, inr, refl, sym, ap, ◌∙◌, subst, ℕ, suc, ◌+◌, ◌*◌, ◌%◌, ◌^◌, List, length, arith}
 use Rattle.byteorder.specs.Endian.{little_bytes}
 use Rattle.byteorder.specs.Numbers.{length-bytes_low_first}
 use Rattle.jfs_bits.specs.Field.{field_of, put_bytes}
 use Rattle.jfs_bits.proofs.Ranges.{length-put_bytes}
 use Rattle.jfs_bits.proofs.Words.{field_of-put_same, field_of-put_other}
 use Rattle.jfs_xtpage.specs.declared.head.XtForm.{XtForm}
-use Rattle.jfs_xtpage.specs.declared.head.XtForm.TheVariants.{Root, Full, Small}
 use Rattle.jfs_xtpage.specs.Page.{count_of, end_of, entry_of, head_of, FlagFits, MaxFits, IsRising, IsSound}
 
 -- entries lie behind the header

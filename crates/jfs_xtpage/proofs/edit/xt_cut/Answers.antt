@@ -1,4 +1,4 @@
-use Rattle.std.proofs.Common.{◌+◌, ◌<◌, ◌^◌, arith}
+use Rattle.std.proofs.Common.{arith}
 use Rattle.jfs_xtpage.proofs.Header.{cut_count, cut_entries, cut_sound}
 use Rattle.jfs_xtpage.proofs.edit.xt_cut.Goals as goal
 
