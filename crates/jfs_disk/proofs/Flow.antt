@@ -58,11 +58,11 @@ AllSince-weaker P Q past t u h weaker all left since = weaker left (all left (Le
 
 -- ---- nothing pending
 
-history-settled : (state : DiskState) (n : ℕ) → n < length state → history_of (settled state) n ≡ record { seen = (history_of state n).seen; stable = (history_of state n).seen; writes = [] }
+pub history-settled : (state : DiskState) (n : ℕ) → n < length state → history_of (settled state) n ≡ record { seen = (history_of state n).seen; stable = (history_of state n).seen; writes = [] }
 unfolding settled
 history-settled state n h = get_or-map (λ (page : PageHistory). let rested : PageHistory = record { seen = page.seen; stable = page.seen; writes = [] } in rested) state n no_page no_page h
 
-length-settled : (state : DiskState) → length (settled state) ≡ length state
+pub length-settled : (state : DiskState) → length (settled state) ≡ length state
 unfolding settled
 length-settled state = length-map state (λ (page : PageHistory). let rested : PageHistory = record { seen = page.seen; stable = page.seen; writes = [] } in rested)
 
@@ -91,15 +91,15 @@ crash-resting state left rests crash = crash-settled state left (subst (λ (s : 
 
 -- ---- a write
 
-history-written : (n : ℕ) (bytes : List ℕ) (state : DiskState) → n < length state → history_of (written n bytes state) n ≡ record (history_of state n) { seen = bytes; writes = (history_of state n).writes ++ bytes ∷ [] }
+pub history-written : (n : ℕ) (bytes : List ℕ) (state : DiskState) → n < length state → history_of (written n bytes state) n ≡ record (history_of state n) { seen = bytes; writes = (history_of state n).writes ++ bytes ∷ [] }
 unfolding written
 history-written n bytes state h = get_or-set_same state n (record (history_of state n) { seen = bytes; writes = (history_of state n).writes ++ bytes ∷ [] }) no_page h
 
-history-apart : (n m : ℕ) (bytes : List ℕ) (state : DiskState) → (m ≡ n → ⊥) → history_of (written n bytes state) m ≡ history_of state m
+pub history-apart : (n m : ℕ) (bytes : List ℕ) (state : DiskState) → (m ≡ n → ⊥) → history_of (written n bytes state) m ≡ history_of state m
 unfolding written
 history-apart n m bytes state apart = get_or-set_other state n m (record (history_of state n) { seen = bytes; writes = (history_of state n).writes ++ bytes ∷ [] }) no_page apart
 
-length-written : (n : ℕ) (bytes : List ℕ) (state : DiskState) → length (written n bytes state) ≡ length state
+pub length-written : (n : ℕ) (bytes : List ℕ) (state : DiskState) → length (written n bytes state) ≡ length state
 unfolding written
 length-written n bytes state = length-set state n (record (history_of state n) { seen = bytes; writes = (history_of state n).writes ++ bytes ∷ [] })
 

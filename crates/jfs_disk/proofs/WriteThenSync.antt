@@ -3,7 +3,7 @@ use Rattle.std.proofs.Common.{◌≡◌, ◌<◌, ◌+◌, ◌-◌, ℕ, List, [
 use Rattle.std.proofs.lemmas.List.{length-append}
 use Rattle.jfs_disk.specs.Image.{Image, page_of, ArePages}
 use Rattle.jfs_disk.specs.Crash.{DiskState, IsCrashImage, seen_of, written, failed, settled, last_of, AllSince, TearsPage, LeavesTorn}
-use Rattle.jfs_disk.specs.Moment.{now_of, IsResting}
+use Rattle.jfs_disk.specs.Moment.{now_of, IsResting, IsLawful}
 use Rattle.jfs_disk.proofs.Outcomes.{last_of-push, tears_nothing}
 use Rattle.jfs_disk.proofs.Flow.{starts, goes_on, crash-settled, crash-resting, crash-resting-written, crash-resting-failed, length-seen_of}
 
@@ -40,36 +40,35 @@ synced-goes_on P past new t h before seen all e =
     (λ left crash. subst P (sym (crash-settled (last_of past) left crash))
     (all (seen_of (last_of past)) (record { moment = length past - 1; since = omega arith; reached = omega arith; crash = seen }))))
 
--- the same of an image of pages, as the trait of a disk gives it
-pub record Reads (count n : ℕ) (bytes : List ℕ) (image : Image) (past : List DiskState) : Type 0 where
-  pub pages : ArePages count image
-  pub now : image ≡ seen_of (last_of past)
-  pub state : 0 < length past
+-- a page of a disk has its place in the state, and 4,096 bytes
+pub there-of : (count n : ℕ) (image : Image) (past : List DiskState) → IsLawful count image past → n < count → n < length (last_of past)
+there-of count n image past laws there =
+    omega (arith, there, laws.pages.number, ap (λ (im : Image). length im) laws.now, length-seen_of (last_of past))
+
+pub page-of : (count n : ℕ) (image : Image) (past : List DiskState) → IsLawful count image past → n < count → length (page_of (seen_of (last_of past)) n) ≡ 4096
+page-of count n image past laws there =
+    ap (λ (im : Image). length (page_of im n)) (sym laws.now) ∙ laws.pages.sizes n there
+
+-- the same of a disk that tells all, and of a page that is written
+pub record Writes (count n : ℕ) (bytes : List ℕ) (image : Image) (past : List DiskState) : Type 0 where
+  pub laws : IsLawful count image past
   pub there : n < count
   pub size : length bytes ≡ 4096
 
-there-of : (count n : ℕ) (bytes : List ℕ) (image : Image) (past : List DiskState) → Reads count n bytes image past → n < length (last_of past)
-there-of count n bytes image past reads =
-    omega (arith, reads.there, reads.pages.number, ap (λ (im : Image). length im) reads.now, length-seen_of (last_of past))
-
-page-of : (count n : ℕ) (bytes : List ℕ) (image : Image) (past : List DiskState) → Reads count n bytes image past → length (page_of (seen_of (last_of past)) n) ≡ 4096
-page-of count n bytes image past reads =
-    ap (λ (im : Image). length (page_of im n)) (sym reads.now) ∙ reads.pages.sizes n reads.there
-
-pub all-failed : (count n : ℕ) (bytes : List ℕ) (image : Image) (past new : List DiskState) → Reads count n bytes image past → LeavesTorn n bytes past new → IsResting (last_of past) → AllTorn n bytes image new (now_of past)
+pub all-failed : (count n : ℕ) (bytes : List ℕ) (image : Image) (past new : List DiskState) → Writes count n bytes image past → LeavesTorn n bytes past new → IsResting (last_of past) → AllTorn n bytes image new (now_of past)
 all-failed count n bytes image past new reads leaves rests =
-    subst (λ (im : Image). AllTorn n bytes im new (now_of past)) (sym reads.now)
-    (failed-torn n bytes past new reads.state rests (there-of count n bytes image past reads) reads.size (page-of count n bytes image past reads) leaves)
+    subst (λ (im : Image). AllTorn n bytes im new (now_of past)) (sym reads.laws.now)
+    (failed-torn n bytes past new reads.laws.state rests (there-of count n image past reads.laws reads.there) reads.size (page-of count n image past reads.laws reads.there) leaves)
 
-pub all-written : (count n : ℕ) (bytes : List ℕ) (image : Image) (past new : List DiskState) → Reads count n bytes image past → new ≡ past ++ written n bytes (last_of past) ∷ [] → IsResting (last_of past) → AllTorn n bytes image new (now_of past)
+pub all-written : (count n : ℕ) (bytes : List ℕ) (image : Image) (past new : List DiskState) → Writes count n bytes image past → new ≡ past ++ written n bytes (last_of past) ∷ [] → IsResting (last_of past) → AllTorn n bytes image new (now_of past)
 all-written count n bytes image past new reads e rests =
-    subst (λ (im : Image). AllTorn n bytes im new (now_of past)) (sym reads.now)
-    (written-torn n bytes past new reads.state rests (there-of count n bytes image past reads) reads.size (page-of count n bytes image past reads) e)
+    subst (λ (im : Image). AllTorn n bytes im new (now_of past)) (sym reads.laws.now)
+    (written-torn n bytes past new reads.laws.state rests (there-of count n image past reads.laws reads.there) reads.size (page-of count n image past reads.laws reads.there) e)
 
-pub all-synced : (count n : ℕ) (bytes : List ℕ) (image seen : Image) (past mid new : List DiskState) → Reads count n bytes image past → mid ≡ past ++ written n bytes (last_of past) ∷ [] → IsResting (last_of past) → IsCrashImage (last_of mid) seen → seen ≡ seen_of (last_of mid) → new ≡ mid ++ settled (last_of mid) ∷ [] → AllTorn n bytes image new (now_of past)
+pub all-synced : (count n : ℕ) (bytes : List ℕ) (image seen : Image) (past mid new : List DiskState) → Writes count n bytes image past → mid ≡ past ++ written n bytes (last_of past) ∷ [] → IsResting (last_of past) → IsCrashImage (last_of mid) seen → seen ≡ seen_of (last_of mid) → new ≡ mid ++ settled (last_of mid) ∷ [] → AllTorn n bytes image new (now_of past)
 all-synced count n bytes image seen past mid new reads e rests crash now synced =
     let long : length mid ≡ length past + 1 = ap (λ (p : List DiskState). length p) e ∙ length-append past (written n bytes (last_of past) ∷ []) in
-    synced-goes_on (λ left. TearsPage n bytes image left) mid new (now_of past) (omega arith) (omega (arith, reads.state))
+    synced-goes_on (λ left. TearsPage n bytes image left) mid new (now_of past) (omega arith) (omega (arith, reads.laws.state))
     (subst (λ (im : Image). IsCrashImage (last_of mid) im) now crash) (all-written count n bytes image past mid reads e rests) synced
 
 pub stable-synced : (mid new : List DiskState) (seen left : Image) → new ≡ mid ++ settled (last_of mid) ∷ [] → seen ≡ seen_of (last_of mid) → IsCrashImage (last_of new) left → left ≡ seen

@@ -94,6 +94,10 @@ pub record LeftSince (past : List DiskState) (t : ℕ) (left : Image) : Type 0 w
 abbrev pub AllSince : (Image → Type 0) → List DiskState → ℕ → Type 0
 AllSince P past t = (left : Image) → LeftSince past t left → P left
 
+-- of each image that a crash may leave of a state, P holds
+abbrev pub Leaves : (Image → Type 0) → DiskState → Type 0
+Leaves P state = (left : Image) → IsCrashImage state left → P left
+
 -- ---- failed writes
 
 -- a read gives some sectors of the bytes that were to be written

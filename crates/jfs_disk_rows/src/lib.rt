@@ -3,14 +3,13 @@
 
 ghost use Rattle.std.specs.Prelude.{◌≡◌, ◌<◌, ◌≤◌, IfSome};
 
-mod stable;
-
-pub use stable::write_stable;
+pub use jfs_disk::write_stable;
 
 #[cfg(test)]
 mod tests {
-    use crate::write_stable;
-    use jfs_disk::{Choice, Disk, DiskError, Fail, Kind, MemDisk, Page, Part, SureDisk};
+    use jfs_disk::{
+        Choice, Disk, DiskError, Fail, Kind, MemDisk, Page, Part, SureDisk, write_stable,
+    };
     use std::test::Fail as TestFail;
 
     /// A choice of page 0, and the page that it leaves: `at` bytes `front`, then the rest `rest`.

@@ -6,12 +6,14 @@ ghost use Rattle.jfs_disk.specs.Crash.{last_of, written, settled, IsCrashImage, 
 ghost use Rattle.jfs_disk.specs.Moment.{now_of, IsResting};
 ghost use Rattle.jfs_disk.specs.Fault.{HasCause};
 
-use jfs_disk::{Disk, DiskError, Page};
+use crate::disk::{Disk, DiskError};
+use crate::page::Page;
 
 /// Writes page `n` and syncs. It never answers `Memory`.
 pub fn write_stable<D: Disk>(disk: &mut D, n: u32, page: &Page) -> Result<(), DiskError>
     requires { n < D.page_count disk.old }
     ensures pages { D.page_count disk.new ≡ D.page_count disk.old }
+    ensures room { D.room disk.new ≡ D.room disk.old }
     ensures image { OnOk result (D.tells → D.image disk.new ≡ set (D.image disk.old) n page.now.0) }
 
     // If nothing was pending, a crash at any moment since the start leaves the old image with that page torn.
