@@ -1,14 +1,16 @@
 //! Inodes, extents and pages of inode maps by bytes worked out by hand from the format, and the first rule that an inode breaks.
 #![tactic(auto)]
 
-ghost use Rattle.std.specs.Prelude.{◌≡◌, ◌<◌, ℕ, length, get_or};
+ghost use Rattle.std.specs.Prelude.{◌≡◌, ◌*◌, ◌<◌, ◌≤◌, ℕ, length, get_or, IfOk};
 ghost use Rattle.jfs_bits.specs.Descriptor.{FitsPxd};
 ghost use Rattle.jfs_iag.specs.Iag.{no_run};
 ghost use Rattle.jfs_inode.specs.Inode.{FitsDinode};
 
-use jfs_bits::{Dxd, Moment, Pxd};
+use jfs_bits::{Dxd, Moment, Pxd, PxdList};
 use jfs_iag::NO_EXTENT;
+use jfs_imap::{InodeMap, Pick};
 use jfs_inode::Dinode;
+use std::alloc::{AllocError, Global};
 
 #[cfg(test)]
 mod extents;
@@ -16,6 +18,8 @@ mod extents;
 mod groups;
 #[cfg(test)]
 mod inodes;
+#[cfg(test)]
+mod maps;
 
 /// The root directory of a new volume, with a value of its own in each field that a new volume leaves at 0.
 pub fn root() -> Dinode
@@ -68,4 +72,56 @@ pub fn extents_at(places: &[(u32, u64)]) -> [Pxd; 128]
         }
     }
     extents
+}
+
+/// The extent at a place, of those with 4 blocks at these places and addresses.
+fn extent_of(places: &[(u32, u64)], e: u32) -> Pxd
+    ensures { FitsPxd result }
+{
+    for place in places {
+        if place.0 == e {
+            return Pxd {
+                len: 4,
+                addr: place.1 % (1 << 40),
+            };
+        }
+    }
+    NO_EXTENT
+}
+
+/// The extent places of so many inode allocation groups, with extents of 4 blocks at these places and addresses.
+pub fn places_of(alloc: Global, places: &[(u32, u64)], iags: u32) -> Result<PxdList, AllocError>
+    requires { iags ≤ 65536 }
+    ensures size { IfOk result (λ list. length list ≡ 128 * iags) }
+    ensures fits { IfOk result (λ list. (e : ℕ) → e < 128 * iags → FitsPxd (get_or list e no_run)) }
+{
+    let mut list = PxdList::new(alloc);
+    for e in 0..128 * iags {
+        list.push(extent_of(places, e))?;
+    }
+    Ok(list)
+}
+
+/// Takes the inode that is picked.
+pub fn take_next(map: &mut InodeMap) -> Pick
+    ensures { map.new.iags ≡ map.old.iags }
+{
+    let pick = map.pick();
+    if let Pick::Number(n) = pick {
+        map.take(n);
+    }
+    pick
+}
+
+/// Adds an extent at an address where one is needed; the answer is its first inode.
+pub fn add_next(map: &mut InodeMap, addr: u64) -> Option<u32>
+    ensures { map.new.iags ≡ map.old.iags }
+{
+    match map.pick() {
+        Pick::NeedsExtent => Some(map.add_extent(Pxd {
+            len: 4,
+            addr: addr % (1 << 40),
+        })),
+        _ => None,
+    }
 }
