@@ -1,7 +1,7 @@
 -- A write and then a sync, moment by moment.
 use Rattle.std.proofs.Common.{◌≡◌, ◌<◌, ◌+◌, ◌-◌, ℕ, List, [], ◌∷◌, ◌++◌, length, refl, sym, ap, subst, ◌∙◌, inl, inr, arith}
 use Rattle.std.proofs.lemmas.List.{length-append}
-use Rattle.jfs_disk.specs.Image.{Image, page_of, ArePages}
+use Rattle.jfs_disk.specs.Image.{Image, page_of}
 use Rattle.jfs_disk.specs.Crash.{DiskState, IsCrashImage, seen_of, written, failed, settled, last_of, AllSince, TearsPage, LeavesTorn}
 use Rattle.jfs_disk.specs.Moment.{now_of, IsResting, IsLawful}
 use Rattle.jfs_disk.proofs.Outcomes.{last_of-push, tears_nothing}

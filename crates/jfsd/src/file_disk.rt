@@ -112,8 +112,9 @@ impl FileDisk {
         // The metadata of a block device has no length.
         let bytes = (&reads).seek(SeekFrom::End(0))?;
         let pages = whole_pages(bytes);
-        let files = Arc::new(alloc, ImageFiles { reads, writes })
-            .map_err(|_| io::Error::from(io::ErrorKind::OutOfMemory))?;
+        let files = Arc::new(alloc, ImageFiles { reads, writes }).map_err(|_| io::Error::from(
+            io::ErrorKind::OutOfMemory,
+        ))?;
         Ok(FileDisk {
             files: Some(files),
             first: 0,
