@@ -9,6 +9,7 @@ pub struct LogFault {
 }
 
 /// The log's part could not be made a fresh log; it is handed back.
+#[derive(Drop)]
 pub struct LogRefused<D> {
     pub part: D,
     pub why: LogFault,

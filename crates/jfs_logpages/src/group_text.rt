@@ -10,6 +10,7 @@ use std::alloc::{AllocError, Global};
 
 /// Records that are written to the log as one: their bytes, where each ends in them, and the
 /// number of the last entry that they belong to.
+#[derive(Drop)]
 pub struct GroupText {
     bytes: Vec<u8>,
     ends: Sequence<u32>,

@@ -20,6 +20,7 @@ use jfs_disk::{Disk, DiskError, Fault, Part};
 use uuid::Uuid;
 
 /// The log's part of a disk, and its last page, at whose end groups of records are written.
+#[derive(Drop)]
 pub struct LogSide<D: Disk> {
     part: D,
     last: Last,

@@ -1,0 +1,11 @@
+//! Tests of the log's ring, by rows worked out by hand.
+#![tactic(auto)]
+
+mod groups;
+
+pub use groups::fresh;
+
+#[cfg(test)]
+mod hostile;
+#[cfg(test)]
+mod rows;
