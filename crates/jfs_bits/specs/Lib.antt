@@ -1,9 +1,10 @@
-pub mod Count
+-- what the clauses say
 pub mod Field
-pub mod Bits
 pub mod Descriptor
 pub mod Extent
 pub mod Piece
-pub mod Rule
+pub mod Bits
 pub mod Line
+pub mod Rule
+pub mod Count
 pub mod Broken

@@ -1,9 +1,11 @@
+-- what the clauses say
 pub mod Set
-pub mod Pages
-pub mod MapFile
 pub mod States
 pub mod Choice
+pub mod Refusal
+pub mod Pages
+pub mod MapFile
+pub mod Laws
+-- lemmas and how things are kept: for the prover
 pub mod Freed
 pub mod Kept
-pub mod Refusal
-pub mod Laws

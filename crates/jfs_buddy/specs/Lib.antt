@@ -1,3 +1,4 @@
+-- what the clauses say
 pub mod Tree
 pub mod Buddy
 pub mod Laws

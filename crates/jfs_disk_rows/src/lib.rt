@@ -3,8 +3,6 @@
 
 ghost use Rattle.std.specs.Prelude.{◌≡◌, ◌<◌, ◌≤◌, IfSome};
 
-pub use jfs_disk::write_stable;
-
 #[cfg(test)]
 mod tests {
     use jfs_disk::{

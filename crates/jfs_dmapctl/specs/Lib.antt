@@ -1,3 +1,4 @@
+-- what the clauses say
 pub mod Control
 pub mod MapControl
 pub mod Laws

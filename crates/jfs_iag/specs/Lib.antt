@@ -1,3 +1,4 @@
+-- what the clauses say
 pub mod Iag
 pub mod Control
 pub mod Canonical

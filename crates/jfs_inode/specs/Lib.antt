@@ -1,2 +1,3 @@
+-- what the clauses say
 pub mod Inode
 pub mod Rules

@@ -1,3 +1,4 @@
+-- what the clauses say
 pub mod Kinds
 pub mod Descriptor
 pub mod Text

@@ -1,7 +1,9 @@
+-- what the clauses say
 pub mod Ring
-pub mod Marks
-pub mod Fresh
 pub mod Group
+pub mod Fresh
 pub mod Back
 pub mod Outcome
 pub mod ReadLog
+-- lemmas and how things are kept: for the prover
+pub mod Marks

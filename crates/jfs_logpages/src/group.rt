@@ -9,8 +9,7 @@ ghost use Rattle.jfs_logpages.specs.Ring.{ends_with, IsGroup, IsRing, IsWritten,
 
 use crate::last::Last;
 use crate::page::fill_page;
-use jfs_disk::{Disk, DiskError};
-use jfs_disk_rows::write_stable;
+use jfs_disk::{Disk, DiskError, write_stable};
 
 /// Appends a group to the ring's text, and syncs.
 pub fn write_group<D: Disk>(

@@ -1,3 +1,4 @@
+-- what the clauses say
 pub mod Super
 pub mod Rules
 pub mod Geometry

@@ -1,8 +1,9 @@
+-- what the clauses say
 pub mod Walk
 pub mod Spells
 pub mod Edit
-pub mod Form
 pub mod Draft
 pub mod Tell
 pub mod Call
 pub mod Root
+pub mod Form
