@@ -1,10 +1,14 @@
-//! Logs for the tests.
+//! Logs and groups for the tests.
 
-ghost use Rattle.std.specs.Prelude.{◌≡◌, ◌≤◌, ◌-◌, IfSome, None};
+ghost use Rattle.std.specs.Prelude.{◌≡◌, ◌<◌, ◌≤◌, ◌-◌, ◌^◌, IfOk, IfSome, None};
 ghost use Rattle.jfs_disk.specs.Memory.{page_count_of};
+ghost use Rattle.jfs_logfmt.specs.Written.{Fits};
 
+use jfs_bits::{Pxd, PxdList};
 use jfs_disk::MemDisk;
+use jfs_logfmt::Record;
 use jfs_logpages::LogSide;
+use std::alloc::{AllocError, Global};
 use uuid::Uuid;
 
 /// A fresh log of so many pages on a disk, `None` where the disk is too small or fails.
@@ -16,4 +20,23 @@ pub fn fresh(disk: MemDisk, pages: u32) -> Option<LogSide<MemDisk>>
         Ok(log) => Some(log),
         Err(_) => None,
     }
+}
+
+/// A record of `36 + 8 * runs` bytes.
+pub fn update(alloc: Global, tid: u32, back: u32, runs: u16) -> Result<Record, AllocError>
+    requires { runs < 2 ^ 13 }
+    ensures { IfOk result (λ r. Fits r) }
+{
+    let mut list = PxdList::new(alloc);
+    for _i in 0..runs {
+        list.push(Pxd { len: 1, addr: 100 })?;
+    }
+    Ok(Record::Update {
+        tid,
+        back,
+        fileset: 16,
+        inode: 4,
+        alloc: true,
+        list,
+    })
 }

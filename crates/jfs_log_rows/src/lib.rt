@@ -3,7 +3,7 @@
 
 mod groups;
 
-pub use groups::fresh;
+pub use groups::{fresh, update};
 
 #[cfg(test)]
 mod hostile;

@@ -82,6 +82,12 @@ long (records.NoRedo tid back fileset inode kind at) n = refl
 long (records.Commit tid back) n = refl
 long (records.SyncPt sync) n = refl
 
+-- data of fewer than 2 ^ 16 bytes, and the descriptor
+pub text_fits : (r : Record) → Fits r → length (text_of r) < 2 ^ 17
+text_fits r fits =
+    let d : Descriptor = described r (length (body_text r)) in
+    omega (arith, length-append (body_text r) (descriptor_bytes d), length-descriptor_bytes d, body_fits r fits)
+
 pub spelled : (r : Record) → Fits r → (let d : Descriptor = described r (length (body_text r)) in descriptor_of (descriptor_bytes d) ≡ d) → Spells (text_of r) r
 spelled r fits read =
     let n = length (body_text r) in

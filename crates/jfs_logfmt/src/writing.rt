@@ -180,12 +180,14 @@ fn push_text(r: &Record, into: &mut Vec<u8>) -> Result<(), AllocError>
 /// # Errors
 ///
 /// Want of memory alone; the bytes are then as before.
+#[tactic(auto, using(crate::proofs::Spelled::text_fits))]
 pub fn write_record(r: &Record, into: &mut Vec<u8>) -> Result<(), AllocError>
     requires { Fits r.now }
     // What is added is the record's text.
     ensures ok { OnOk result (into.new.items ≡ into.old.items ++ text_of r.now) }
     // It spells that record.
     ensures spells { OnOk result (Spells (text_of r.now) r.now) }
+    ensures most { length (text_of r.now) < 2 ^ 17 }
     ensures err { OnErr result (into.new.items ≡ into.old.items) }
 {
     let before = into.len();

@@ -36,8 +36,9 @@ impl GroupText {
     /// Adds a record of the entry `last`; a SYNCPT keeps the last entry.
     pub fn push(&mut self, record: &Record, last: u64) -> Result<(), AllocError>
         requires fits { Fits record.now }
-        requires small { length self.old.bytes.items + length (text_of record.now) < 2 ^ 32 }
+        requires small { length self.old.bytes.items < 2 ^ 31 }
         ensures bytes { OnOk result (self.new.bytes.items ≡ self.old.bytes.items ++ text_of record.now) }
+        ensures grows { OnOk result (length self.new.bytes.items < length self.old.bytes.items + 2 ^ 17) }
         ensures ends { OnOk result (self.new.ends ≡ self.old.ends ++ length self.new.bytes.items ∷ []) }
         ensures last { OnOk result (self.new.last ≡ last) }
         ensures kept { OnErr result ((self.new.bytes.items ≡ self.old.bytes.items) × (self.new.ends ≡ self.old.ends) × (self.new.last ≡ self.old.last)) }
