@@ -10,7 +10,8 @@ use Rattle.jfs_bits.specs.Field.{field_of}
 use Rattle.jfs_buddy.specs.Laws.{AreBytes}
 use Rattle.jfs_buddy.proofs.Places.{SameAt, field-same, range-same}
 use Rattle.jfs_dmapctl.specs.declared.map_control.MapControl.{MapControl}
-use Rattle.jfs_bmap.specs.MapFile.{powers_of_4, IsFirstPage, IsMapControlOf}
+use Rattle.jfs_bmap.specs.MapFile.{IsFirstPage, IsMapControlOf}
+use Rattle.jfs_buddy.specs.Tree.{first_of}
 
 -- places behind others
 beside-same : (one other : List ℕ) (at n m : ℕ) → SameAt one other at n → SameAt one other (at + n) m → SameAt one other at (n + m)
@@ -80,7 +81,7 @@ front-same blocks agsize taken one other bytes others a b =
     (field 36 4 m.aglevel n.aglevel a.held.aglevel b.held.aglevel s.aglevel))
     (field 40 4 m.agheight n.agheight a.held.agheight b.held.agheight s.agheight))
     (field 44 4 m.agwidth n.agwidth a.held.agwidth b.held.agwidth (mine.shape.width ∙ ap (λ (z : ℕ). 2 ^ ((z - 13 - 10 * m.aglevel) % 2)) s.agl2size ∙ ap (λ (z : ℕ). 2 ^ ((n.agl2size - 13 - 10 * z) % 2)) s.aglevel ∙ sym theirs.shape.width)))
-    (field 48 4 m.agstart n.agstart a.held.agstart b.held.agstart (mine.shape.start ∙ ap (λ (z : ℕ). powers_of_4 (5 - z)) s.agheight ∙ sym theirs.shape.start)))
+    (field 48 4 m.agstart n.agstart a.held.agstart b.held.agstart (mine.shape.start ∙ ap (λ (z : ℕ). first_of (5 - z)) s.agheight ∙ sym theirs.shape.start)))
     (field 52 4 m.agl2size n.agl2size a.held.agl2size b.held.agl2size s.agl2size)
 
 -- bytes with one value as signed numbers

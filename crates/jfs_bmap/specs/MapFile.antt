@@ -5,15 +5,11 @@ use Rattle.std.specs.Int.{IsPowerOfTwo}
 use Rattle.jfs_bits.specs.Field.{range_of}
 use Rattle.jfs_dmap.specs.Dmap.{taken_in}
 use Rattle.jfs_bits.specs.Bits.{greatest_run, count_below}
+use Rattle.jfs_buddy.specs.Tree.{first_of}
 use Rattle.jfs_dmapctl.specs.Control.{IsControl}
 use Rattle.jfs_dmapctl.specs.MapControl.{IsMapControl}
 use Rattle.jfs_dmapctl.specs.declared.map_control.MapControl.{MapControl}
 use Rattle.jfs_bmap.specs.Pages.{dmaps_of, IsDmapOf, leaf_ranks}
-
--- 1 + 4 + 16 + .., so many powers of 4
-unfoldable pub powers_of_4 : ℕ → ℕ
-powers_of_4 zero = 0
-powers_of_4 (suc n) = powers_of_4 n + 4 ^ n
 
 -- allocation groups: at most 128, each of a power of two of at least 8,192 blocks
 pub record AreGroups (blocks agsize : ℕ) : Type 0 where
@@ -30,7 +26,7 @@ pub record IsGroupShape (m : MapControl) : Type 0 where
   -- with v = agl2size - 13 - 10 * aglevel, a group has 2 ^ v leaves there: so many levels of four, and a rest of 1 or 2
   pub height : m.agheight ≡ (m.agl2size - 13 - 10 * m.aglevel) / 2
   pub width : m.agwidth ≡ 2 ^ ((m.agl2size - 13 - 10 * m.aglevel) % 2)
-  pub start : m.agstart ≡ powers_of_4 (5 - m.agheight)
+  pub start : m.agstart ≡ first_of (5 - m.agheight)
 
 -- the numbers of the canonical control page, for a volume of so many blocks in groups of `agsize`, of which the taken ones are set
 pub record IsMapControlOf (blocks agsize : ℕ) (taken : ℕ → Bool) (m : MapControl) : Type 0 where

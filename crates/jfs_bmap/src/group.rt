@@ -3,7 +3,8 @@
 ghost use Rattle.std.specs.Prelude.{◌≡◌, ◌<◌, ◌≤◌, ◌+◌, ◌-◌, ◌*◌, ◌/◌, ◌%◌, not, length, slice_index, ℕ};
 ghost use Rattle.jfs_bits.specs.Bits.{greatest_run, count_below};
 ghost use Rattle.jfs_bmap.specs.Set.{taken_at};
-ghost use Rattle.jfs_bmap.specs.MapFile.{powers_of_4, AreGroups, IsMapControlOf};
+ghost use Rattle.jfs_bmap.specs.MapFile.{AreGroups, IsMapControlOf};
+ghost use Rattle.jfs_buddy.specs.Tree.{first_of};
 
 use crate::map_pages::MapPages;
 use jfs_dmap::dmap_free;
@@ -62,7 +63,7 @@ impl MapPages {
 /// The first of the nodes that stand so many levels below a root: the sum of so many powers of 4.
 fn first_of_level(depth: u32) -> u32
     requires { depth ≤ 5 }
-    ensures { result ≡ powers_of_4 depth }
+    ensures { result ≡ first_of depth }
 {
     let mut first = 0;
     for _level in 0..depth {

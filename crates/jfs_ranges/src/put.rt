@@ -112,5 +112,5 @@ fn offset_of_line(kind: PageKind, first: u32) -> u64
     ensures offset { result ≡ line_size kind * first }
     ensures fits { result < 2 ^ 39 + 1 }
 {
-    (1 << kind.l2_line()) * u64::from(first)
+    kind.line_size() as u64 * u64::from(first)
 }
