@@ -10,7 +10,7 @@ use Rattle.jfs_bits.specs.Bits.{is_in_run}
 use Rattle.jfs_bits.specs.declared.descriptor.Pxd.{Pxd}
 use Rattle.jfs_bmap.specs.declared.freed.Freed.{Freed}
 use Rattle.jfs_bmap.specs.Set.{taken_at, cleared}
-use Rattle.jfs_bmap.specs.States.{released, released_state, settled, settled_state}
+use Rattle.jfs_bmap.specs.States.{released, released_state, blocks_settled, settled_state}
 use Rattle.jfs_bmap.specs.Freed.{covers, runs_in, entry_at, is_due, IsInOrder}
 use Rattle.jfs_bmap.specs.Kept.{Parts, state_in, ArePending, AreKept}
 use Rattle.jfs_bmap.proofs.Views.{length-cleared, taken_at-cleared}
@@ -112,7 +112,7 @@ module _ (p : Parts) (used : List Bool) (heap : List (Reverse Freed)) (told : �
         pending = pending;
       }
 
-  pub view-settled : (agsize spare : ℕ) → view_of freed_parts agsize spare ≡ settled told (view_of p agsize spare)
+  pub view-settled : (agsize spare : ℕ) → view_of freed_parts agsize spare ≡ blocks_settled told (view_of p agsize spare)
   view-settled agsize spare =
       view-changed (λ b state. settled_state told state) p freed_parts agsize spare refl (λ b.
       state_in-by freed_parts b ∙ rw (now b, state_in-by p b) (one (taken_at p.owned b) (taken_at p.held b) (taken_at p.used b) (entry_at p.entries b)))

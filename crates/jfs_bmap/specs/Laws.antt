@@ -7,7 +7,7 @@ use Rattle.jfs_dmapctl.specs.Control.{tree_of, IsControl}
 use Rattle.jfs_bmap.specs.Pages.{leaf_ranks}
 use Rattle.jfs_bits.specs.declared.descriptor.Pxd.{Pxd}
 use Rattle.jfs_bmap.specs.MapFile.{tells_of, IsMapPage}
-use Rattle.jfs_bmap.specs.States.{Free, Owned, Reserved, Blocks, state_of, is_owned, is_in_list, AreReserved, put_state, released, settled}
+use Rattle.jfs_bmap.specs.States.{Free, Owned, Reserved, Blocks, state_of, is_owned, is_in_list, AreReserved, put_state, released, blocks_settled}
 
 -- two canonical pages with one number, of volumes of the same size in the same groups with the same blocks taken, hold the same bytes
 abbrev pub MapPagesAgree : Type 0
@@ -31,7 +31,7 @@ pub record ChangeOwners : Type 0 where
   -- none where blocks are reserved, given back or settled
   pub reserve : (m : Blocks) (list : List Pxd) → ((b : ℕ) → is_in_list list b ≡ true → state_of m b ≡ Free) → (b : ℕ) → is_owned (put_state Reserved list m) b ≡ is_owned m b
   pub give_back : (m : Blocks) (list : List Pxd) → AreReserved m list → (b : ℕ) → is_owned (put_state Free list m) b ≡ is_owned m b
-  pub settle : (m : Blocks) (told b : ℕ) → is_owned (settled told m) b ≡ is_owned m b
+  pub settle : (m : Blocks) (told b : ℕ) → is_owned (blocks_settled told m) b ≡ is_owned m b
   -- only those of the runs where runs get owners or are released
   pub own : (m : Blocks) (list : List Pxd) (b : ℕ) → is_in_list list b ≡ false → is_owned (put_state Owned list m) b ≡ is_owned m b
   pub release : (m : Blocks) (list : List Pxd) (entry b : ℕ) → is_in_list list b ≡ false → is_owned (released list entry m) b ≡ is_owned m b

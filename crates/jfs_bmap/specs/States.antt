@@ -111,8 +111,8 @@ settled_state told Owned = Owned
 settled_state told Reserved = Reserved
 settled_state told (Busy entry) = if nat_le entry told then Free else Busy entry
 
-abbrev pub settled : ℕ → Blocks → Blocks
-settled told m = changed (λ b s. settled_state told s) m
+abbrev pub blocks_settled : ℕ → Blocks → Blocks
+blocks_settled told m = changed (λ b s. settled_state told s) m
 
 -- the map once every busy block is settled
 abbrev pub all_settled : Blocks → Blocks

@@ -1,7 +1,7 @@
 //! Blocks are released by entries, and are free once these are durable.
 
 ghost use Rattle.std.specs.Prelude.{◌≡◌, ◌<◌, ◌≤◌, ◌∷◌, [], max, length, OnOk, OnErr};
-ghost use Rattle.jfs_bmap.specs.States.{released, settled};
+ghost use Rattle.jfs_bmap.specs.States.{released, blocks_settled};
 
 use crate::block_map::BlockMap;
 use crate::disown::disown;
@@ -57,7 +57,7 @@ impl BlockMap {
     /// Frees the blocks that entries up to and with `told` released: in the time of the runs of these entries and the logarithm of
     /// all. Takes no memory.
     pub fn settle(&mut self, told: u64)
-        ensures { self.new ≡ settled told self.old }
+        ensures { self.new ≡ blocks_settled told self.old }
     {
         let entries = self.entries.as_slice();
         free_told(&mut self.freed, entries, told, &self.held, &mut self.used);

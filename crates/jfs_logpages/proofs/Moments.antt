@@ -3,12 +3,12 @@ use Rattle.std.proofs.Common.{◌≡◌, ◌≤◌, ◌<◌, ◌+◌, ◌-◌, �
 use Rattle.std.proofs.Math.Nat.{mod-lt}
 use Rattle.std.proofs.lemmas.List.{length-append, length-set, take_all}
 use Rattle.jfs_disk.specs.Image.{Image, ArePages}
-use Rattle.jfs_disk.specs.Crash.{DiskState, IsCrashImage, seen_of, history_of, written, failed, settled, torn, last_of, AllSince, TearsPage, LeavesTorn}
+use Rattle.jfs_disk.specs.Crash.{DiskState, IsCrashImage, seen_of, history_of, written, failed, settled, torn, last_of, AllSince, TearsPage, LeavesTorn, Leaves}
 use Rattle.jfs_disk.specs.Moment.{now_of, IsResting}
 use Rattle.jfs_disk.specs.Seen.{page_of-seen_of}
 use Rattle.jfs_disk.proofs.Outcomes.{last_of-push}
 use Rattle.jfs_disk.proofs.Flow.{starts, goes_on, crash-written, crash-failed, crash-resting, crash-settled, TakesPage, length-seen_of}
-use Rattle.jfs_logpages.specs.Ring.{slot, tail_number, last_end, AreEnds, ends_with, IsWritten, IsRing, Shows, Mid, ReadsPrefix, IsGroup, IsLast, Leaves, Further, Reads, ReadsWhole}
+use Rattle.jfs_logpages.specs.Ring.{slot, tail_number, last_end, AreEnds, ends_with, IsWritten, IsRing, Shows, Mid, ReadsPrefix, IsGroup, IsLast, Further, Reads, ReadsWhole}
 use Rattle.jfs_logpages.proofs.TornPage.{reads-written, MayStand, stands-written, torn-stands}
 use Rattle.jfs_logpages.proofs.Middle.{mid-open, mid-stands, mid-put, mid-shows, mid-start, ring-put, rewritten, rewrite-shows}
 use Rattle.jfs_logpages.proofs.TextRead.{reads-shown}

@@ -1,6 +1,6 @@
 -- The ring of log pages: what a page holds, and what the ring reads as.
 use Rattle.std.specs.Prelude.{◌≡◌, ◌<◌, ◌≤◌, ◌+◌, ◌-◌, ◌*◌, ◌/◌, ◌%◌, ◌⊎◌, ℕ, zero, suc, min, max, List, [], ◌∷◌, ◌++◌, length, take, drop, get_or, map, replicate, nat_le, if◌then◌else◌}
-use Rattle.jfs_disk.specs.Crash.{DiskState, IsCrashImage, AllSince, last_of}
+use Rattle.jfs_disk.specs.Crash.{DiskState, Leaves, AllSince, last_of}
 use Rattle.jfs_disk.specs.Image.{Image, page_of}
 use Rattle.byteorder.specs.Endian.{little_bytes}
 use Rattle.jfs_bits.specs.Piece.{Piece}
@@ -154,10 +154,6 @@ pub record IsGroup (ring : ℕ) (text group ends group_ends : List ℕ) (low hig
   pub long : ring ≤ low + 1
   pub order : low ≤ high
   pub near : high < low + ring / 2
-
--- what is known of each image that a crash may leave
-abbrev pub Leaves : (Image → Type 0) → DiskState → Type 0
-Leaves P state = (left : Image) → IsCrashImage state left → P left
 
 -- the ring reads as the whole text, half a ring back from its last page
 abbrev pub ReadsWhole : ℕ → List ℕ → ℕ → Image → Type 0

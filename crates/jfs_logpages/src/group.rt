@@ -1,11 +1,11 @@
 //! Writing a group.
 
 ghost use Rattle.std.specs.Prelude.{◌≡◌, ◌≢◌, ◌<◌, ◌≤◌, ◌+◌, ◌-◌, ◌*◌, ◌/◌, ◌^◌, ◌++◌, ℕ, List, length, OnOk};
-ghost use Rattle.jfs_disk.specs.Crash.{last_of, AllSince};
+ghost use Rattle.jfs_disk.specs.Crash.{last_of, AllSince, Leaves};
 ghost use Rattle.jfs_disk.specs.Moment.{IsResting, now_of};
 ghost use Rattle.jfs_disk.specs.Image.{Image};
 ghost use Rattle.jfs_disk.specs.Fault.{HasCause};
-ghost use Rattle.jfs_logpages.specs.Ring.{ends_with, IsGroup, IsRing, IsWritten, Mid, Leaves, ReadsPrefix, AreEnds, IsLast};
+ghost use Rattle.jfs_logpages.specs.Ring.{ends_with, IsGroup, IsRing, IsWritten, Mid, ReadsPrefix, AreEnds, IsLast};
 
 use crate::last::Last;
 use crate::page::fill_page;

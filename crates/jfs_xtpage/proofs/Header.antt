@@ -6,7 +6,7 @@ use Rattle.jfs_bits.specs.Field.{field_of, put_bytes}
 use Rattle.jfs_bits.proofs.Ranges.{length-put_bytes}
 use Rattle.jfs_bits.proofs.Words.{field_of-put_same, field_of-put_other}
 use Rattle.jfs_xtpage.specs.declared.head.XtForm.{XtForm}
-use Rattle.jfs_xtpage.specs.Page.{count_of, end_of, entry_of, head_of, FlagFits, MaxFits, IsRising, IsSound}
+use Rattle.jfs_xtpage.specs.Page.{count_of, end_of, entry_of, head_of, FlagFits, MaxFits, IsRising, IsXtPage}
 
 -- entries lie behind the header
 pub entry_kept : (at : ℕ) (new bytes : List ℕ) (i : ℕ) → at + length new ≤ 32 → at + length new ≤ length bytes → entry_of (put_bytes at new bytes) i ≡ entry_of bytes i
@@ -25,7 +25,7 @@ rising_kept old new count fewer same l r i h =
 
 -- a page with the same flag and greatest count, whose entries are the same or fewer
 pub sound_kept : (form : XtForm) (old new : List ℕ) → field_of new 16 1 ≡ field_of old 16 1 → field_of new 20 2 ≡ field_of old 20 2
-    → 2 ≤ field_of new 18 2 → field_of new 18 2 ≤ field_of old 18 2 → ((i : ℕ) → entry_of new i ≡ entry_of old i) → IsSound form old → IsSound form new
+    → 2 ≤ field_of new 18 2 → field_of new 18 2 ≤ field_of old 18 2 → ((i : ℕ) → entry_of new i ≡ entry_of old i) → IsXtPage form old → IsXtPage form new
 sound_kept form old new flag most least fewer same sound = (
   subst (λ f. FlagFits form (f % 8)) (sym flag) sound.0,
   (
@@ -46,7 +46,7 @@ cut_entries bytes new keep size is i =
     let w = length-bytes_low_first 0 2 (keep + 2) in
     ap (λ b. entry_of b i) is ∙ entry_kept 18 (little_bytes 2 (keep + 2)) bytes i (omega (arith, w)) (omega (arith, w, size))
 
-pub cut_sound : (bytes new : List ℕ) (keep : ℕ) (form : XtForm) → 32 ≤ length bytes → keep + 2 < 2 ^ 16 → keep ≤ count_of bytes → new ≡ put_bytes 18 (little_bytes 2 (keep + 2)) bytes → IsSound form bytes → IsSound form new
+pub cut_sound : (bytes new : List ℕ) (keep : ℕ) (form : XtForm) → 32 ≤ length bytes → keep + 2 < 2 ^ 16 → keep ≤ count_of bytes → new ≡ put_bytes 18 (little_bytes 2 (keep + 2)) bytes → IsXtPage form bytes → IsXtPage form new
 cut_sound bytes new keep form size fits fewer is sound =
     let w = length-bytes_low_first 0 2 (keep + 2) in
     let c = cut_count bytes new keep size fits is in
@@ -88,7 +88,7 @@ link_head bytes mid new next prev size fn fp a b =
       link_field bytes mid new next prev 28 4 size a b (omega arith),
     ) refl
 
-pub link_sound : (bytes mid new : List ℕ) (next prev : ℕ) (form : XtForm) → 32 ≤ length bytes → mid ≡ put_bytes 0 (little_bytes 8 next) bytes → new ≡ put_bytes 8 (little_bytes 8 prev) mid → IsSound form bytes → IsSound form new
+pub link_sound : (bytes mid new : List ℕ) (next prev : ℕ) (form : XtForm) → 32 ≤ length bytes → mid ≡ put_bytes 0 (little_bytes 8 next) bytes → new ≡ put_bytes 8 (little_bytes 8 prev) mid → IsXtPage form bytes → IsXtPage form new
 link_sound bytes mid new next prev form size a b sound =
     let c = link_field bytes mid new next prev 18 2 size a b (omega arith) in
     sound_kept form bytes new (link_field bytes mid new next prev 16 1 size a b (omega arith)) (link_field bytes mid new next prev 20 2 size a b (omega arith))

@@ -74,8 +74,8 @@ Holds form bytes rules.Order = IsRising bytes (count_of bytes)
 Holds form bytes rule = Unit {0}
 
 -- no rule is broken
-abbrev pub IsSound : XtForm → List ℕ → Type 0
-IsSound form bytes = AllHold (Holds form bytes) xt_rules
+abbrev pub IsXtPage : XtForm → List ℕ → Type 0
+IsXtPage form bytes = AllHold (Holds form bytes) xt_rules
 
 -- the last entry that isn't past an offset
 abbrev pub IsLastAt : List ℕ → ℕ → Option ℕ → Type 0

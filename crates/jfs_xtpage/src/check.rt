@@ -2,7 +2,7 @@
 
 ghost use Rattle.std.specs.Prelude.{◌≡◌, ◌<◌, ◌≤◌, ◌+◌, ◌*◌, ◌-◌, ◌%◌, ◌^◌, ℕ, length, IfOk, IfErr, true, false};
 ghost use Rattle.jfs_bits.specs.Broken.{AllHold, IsFirstBroken};
-ghost use Rattle.jfs_xtpage.specs.Page.{bytes_of, head_of, entry_of, end_of, FlagFits, MaxFits, IsRising, IsSound, Holds, xt_rules};
+ghost use Rattle.jfs_xtpage.specs.Page.{bytes_of, head_of, entry_of, end_of, FlagFits, MaxFits, IsRising, IsXtPage, Holds, xt_rules};
 
 use crate::head::{BadXt, XtForm, XtHead};
 use jfs_bits::{Rule, Xad, get_pxd, get_u8, get_u16, get_u64, get_xad};
@@ -10,7 +10,7 @@ use jfs_bits::{Rule, Xad, get_pxd, get_u8, get_u16, get_u64, get_xad};
 /// The header of a page that breaks no rule of its form, else the first rule that it breaks: `flag`, `max`, `count`, `order`.
 pub fn xt_check(bytes: &[u8], form: XtForm) -> Result<XtHead, BadXt>
     requires { length bytes.now ≡ bytes_of form }
-    ensures sound { IfOk result (λ head. IsSound form bytes.now × (head ≡ head_of bytes.now)) }
+    ensures sound { IfOk result (λ head. IsXtPage form bytes.now × (head ≡ head_of bytes.now)) }
     ensures broken { IfErr result (λ bad. IsFirstBroken (Holds form bytes.now) xt_rules bad.rule) }
 {
     let head = read_head(bytes);
