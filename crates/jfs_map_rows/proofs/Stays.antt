@@ -5,7 +5,7 @@ use Rattle.std.proofs.lemmas.Bool.{cases_lt, both_ways, false_from_ne_true}
 use Rattle.jfs_bits.specs.Bits.{is_in_run}
 use Rattle.jfs_bits.specs.declared.descriptor.Pxd.{Pxd}
 use Rattle.jfs_bmap.specs.Set.{IsLowest}
-use Rattle.jfs_bmap.specs.States.{BlockState, Free, Owned, Reserved, Busy, is_free_state, Blocks, state_of, is_used, is_in_list, AreReserved, put_state, released, released_state, settled, settled_state}
+use Rattle.jfs_bmap.specs.States.{BlockState, Free, Owned, Reserved, Busy, is_free_state, Blocks, state_of, is_used, is_in_list, AreReserved, put_state, released, released_state, blocks_settled, settled_state}
 use Rattle.jfs_bmap.proofs.States.{changed-at, in_list-one, free_run-at}
 use Rattle.jfs_bmap.proofs.Puts.{in_list-none, none-apart, free-not_reserved, put-other, state-past}
 use Rattle.jfs_bmap.proofs.Releases.{released-at}
@@ -49,5 +49,5 @@ released-stays runs entry m b here = released-at runs entry m b (reserved-there 
     either false s e = e
 
 -- where busy blocks are freed
-pub settled-stays : (told : ℕ) (m : Blocks) → StaysReserved m (settled told m)
+pub settled-stays : (told : ℕ) (m : Blocks) → StaysReserved m (blocks_settled told m)
 settled-stays told m b here = changed-at (λ c s. settled_state told s) m b (reserved-there m b here) ∙ ap (settled_state told) here
