@@ -1,5 +1,5 @@
 -- What is found below a page, and which page breaks a rule on the way.
-use Rattle.std.proofs.Common.{◌≡◌, inr, refl, sym, ap, ◌∙◌, subst, ℕ, zero, suc, List, ◌∷◌, ◌++◌, Option, Some, Result, Ok, Err, IfOk, IfErr}
+use Rattle.std.proofs.Common.{◌≡◌, inr, refl, sym, ap, ◌∙◌, subst, Bool, ℕ, zero, suc, List, ◌∷◌, ◌++◌, Option, Some, Result, Ok, Err, IfOk, IfErr}
 use Rattle.jfs_bits.specs.declared.rule.Rule.{Rule}
 use Rattle.jfs_disk.specs.Image.{Image, page_of}
 use Rattle.jfs_tree.specs.Walk.{Child, Node, Leaf, Inner, Broken, Marks, Scale, Rises, IsOrder, rows_of, placed, body, walk}
@@ -53,11 +53,11 @@ here_finds {P} node s x image page bytes found read leads finds = λ levels key 
     ∙ ap (found_in s x) (sym (leaf_rows s (pages_of node image) c leads.0 low high is (subst (λ l. Rises s low (walk s (pages_of node image) l c) high) at r)))
     ∙ ap (λ l. found_in s x (rows_of (walk s (pages_of node image) l c))) (sym at)
 
-pub down_finds : {P E : Type 0} (node : List ℕ → Node P E) (s : Scale P E) → IsOrder s → (x : E) → IsPoint s x → (image later : Image) (page place child : ℕ) (bytes : List ℕ) (r : Result (Option E) TreeError)
-    → later ≡ image → bytes ≡ page_of image page → Leads s x (node bytes) (Ok (Down place child))
+pub down_finds : {P E : Type 0} (node : List ℕ → Node P E) (s : Scale P E) → IsOrder s → (x : E) → IsPoint s x → (image later : Image) (page place child : ℕ) (last : Bool) (bytes : List ℕ) (r : Result (Option E) TreeError)
+    → later ≡ image → bytes ≡ page_of image page → Leads s x (node bytes) (Ok (Down place child last))
     → IfOk r (λ found. Finds s x (pages_of node later) child found) → IfOk r (λ found. Finds s x (pages_of node image) page found)
-down_finds node s o x p image later page place child bytes (Err e) same read leads finds = finds
-down_finds {P} node s o x p image later page place child bytes (Ok found) same read leads finds = λ levels key low high above r.
+down_finds node s o x p image later page place child last bytes (Err e) same read leads finds = finds
+down_finds {P} node s o x p image later page place child last bytes (Ok found) same read leads finds = λ levels key low high above r.
     let c : Child P = record { key = key; page = page } in
     let route = subst (λ n. Route s x n child leads.front leads.child leads.back) (ap node read) (route_of s x (node bytes) place child leads) in
     let at = inner_level s (pages_of node image) levels c (leads.front ++ leads.child ∷ leads.back) low high route.is r in
@@ -72,11 +72,11 @@ breaks_below s x nodes most page place child (View e) leads b = b
 breaks_below s x nodes most page place child (Bad bad rule) leads b = inr (leads.front, leads.child, leads.back, leads.is, subst (λ p. Breaks nodes most p bad rule) (sym leads.to) b)
 breaks_below s x nodes most page place child Memory leads b = b
 
-pub down_breaks : {P E : Type 0} (node : List ℕ → Node P E) (s : Scale P E) (x : E) (image later : Image) (most less page place child : ℕ) (bytes : List ℕ) (r : Result (Option E) TreeError)
-    → most ≡ suc less → later ≡ image → bytes ≡ page_of image page → Leads s x (node bytes) (Ok (Down place child))
+pub down_breaks : {P E : Type 0} (node : List ℕ → Node P E) (s : Scale P E) (x : E) (image later : Image) (most less page place child : ℕ) (last : Bool) (bytes : List ℕ) (r : Result (Option E) TreeError)
+    → most ≡ suc less → later ≡ image → bytes ≡ page_of image page → Leads s x (node bytes) (Ok (Down place child last))
     → IfErr r (λ e. BreaksWhereBad (pages_of node later) less child e) → IfErr r (λ e. BreaksWhereBad (pages_of node image) most page e)
-down_breaks node s x image later most less page place child bytes (Ok found) is_suc same read leads breaks = breaks
-down_breaks node s x image later most less page place child bytes (Err e) is_suc same read leads breaks =
+down_breaks node s x image later most less page place child last bytes (Ok found) is_suc same read leads breaks = breaks
+down_breaks node s x image later most less page place child last bytes (Err e) is_suc same read leads breaks =
     subst (λ m. BreaksWhereBad (pages_of node image) m page e) (sym is_suc)
     (breaks_below s x (pages_of node image) less page place child e (subst (λ n. LeadsDown s x n place child) (ap node read) leads)
     (subst (λ i. BreaksWhereBad (pages_of node i) less child e) same breaks))

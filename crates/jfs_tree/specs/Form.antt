@@ -1,5 +1,5 @@
 -- Where a page leads an entry, and what becomes of a page that takes one.
-use Rattle.std.specs.Prelude.{◌≡◌, ◌⊎◌, ◌<◌, ℕ, List, [], ◌∷◌, ◌++◌, length, Option, Some, None, true, Result, Ok, Err}
+use Rattle.std.specs.Prelude.{◌≡◌, ◌⊎◌, ◌<◌, ◌==◌, ℕ, suc, List, [], ◌∷◌, ◌++◌, length, Option, Some, None, true, Result, Ok, Err}
 use Rattle.jfs_bits.specs.declared.rule.Rule.{Rule}
 use Rattle.jfs_tree.specs.Walk.{Node, Leaf, Inner, Broken, Child, Scale, under}
 use Rattle.jfs_tree.specs.Edit.{IsPast, IsCons, IsApart, KeysRise, PartsRows, with_entry}
@@ -23,12 +23,17 @@ pub record LeadsDown {P E : Type 0} (s : Scale P E) (x : E) (node : Node P E) (p
 -- a leaf leads it nowhere else, and a page that breaks a rule names the first one
 abbrev pub Leads : {P E : Type 0} → Scale P E → E → Node P E → Result Way Rule → Type 0
 Leads {E = E} s x node (Ok Here) = (es : List E) × (node ≡ Leaf es)
-Leads s x node (Ok (Down place page)) = LeadsDown s x node place page
+Leads s x node (Ok (Down place page last)) = LeadsDown s x node place page
 Leads s x node (Err rule) = node ≡ Broken rule
 
 abbrev pub IsWithin : ℕ → Way → Type 0
 IsWithin blocks Here = Unit {0}
-IsWithin blocks (Down place page) = page < blocks
+IsWithin blocks (Down place page last) = page < blocks
+
+-- the way leads to the last child of its page, or doesn't
+abbrev pub TellsLast : {P E : Type 0} → Node P E → Way → Type 0
+TellsLast node Here = Unit {0}
+TellsLast {P} node (Down place page last) = (cs : List (Child P)) → node ≡ Inner cs → last ≡ (suc place == length cs)
 
 -- A leaf took the entry, or it is full and stays as it was, or the entry shares a place with one that is there.
 abbrev pub PutsRow : {P E : Type 0} → Scale P E → E → (List ℕ → Node P E) → (List ℕ → Type 0) → List ℕ → List ℕ → Put → Type 0
@@ -91,3 +96,7 @@ pub record SplitsChildren {P E : Type 0} (all : List (Child P)) (left right : No
 abbrev pub AllBelow : ℕ → List ℕ → Type 0
 AllBelow bound [] = Unit {0}
 AllBelow bound (n ∷ ns) = (n < bound) × AllBelow bound ns
+
+-- those that are left stand in front of those that were taken, in their order
+abbrev pub IsFront : List ℕ → List ℕ → Type 0
+IsFront left all = (taken : List ℕ) × (all ≡ left ++ taken)

@@ -46,6 +46,7 @@ pub fn find_below<V: PageView, F: PageForm>(
             Way::Down {
                 place: _,
                 page: child,
+                last: _,
             },
         ) => find_below(form, view, most - 1, child, x),
     }

@@ -8,8 +8,12 @@ use jfs_ranges::ViewError;
 pub enum Way {
     /// The page is a leaf.
     Here,
-    /// To the child at this place, which is this page.
-    Down { place: usize, page: u32 },
+    /// To the child at this place, which is this page; `last` where no child stands behind it.
+    Down {
+        place: usize,
+        page: u32,
+        last: bool,
+    },
 }
 
 /// What became of something that was to be put into a page.

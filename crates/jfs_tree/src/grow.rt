@@ -2,7 +2,7 @@
 
 ghost use Rattle.std.specs.Prelude.{◌≡◌, ◌==◌, ◌+◌, if◌then◌else◌, ◌<◌, ◌≤◌, ℕ, List, length, OnOk, IfOk, IfErr, IfSome, ◌^◌};
 ghost use Rattle.jfs_tree.specs.Edit.{Grew};
-ghost use Rattle.jfs_tree.specs.Form.{AllBelow, children_of};
+ghost use Rattle.jfs_tree.specs.Form.{AllBelow, IsFront, children_of};
 ghost use Rattle.jfs_tree.specs.Call.{nodes, GrownDid, GrownBelow, CarriesFault, RefutesWhereBad};
 
 use crate::draft::Draft;
@@ -20,7 +20,7 @@ pub struct Grown<K> {
     pub levels: u32,
 }
 
-/// Adds an entry below a page, at most so many levels deep. The changed pages go into the draft.
+/// Adds an entry below a page, at most so many levels deep; the page may be the last one of its level. The changed pages go into the draft.
 pub fn add_below<V: PageView, F: PageForm>(
     form: &F,
     view: &mut V,
@@ -28,6 +28,7 @@ pub fn add_below<V: PageView, F: PageForm>(
     fresh: &mut Vec<u32>,
     most: u32,
     page: u32,
+    last: bool,
     x: &F::Entry,
 ) -> Result<Grown<F::Key>, TreeError>
     requires page { page < V.PageView.block_count view.old }
@@ -47,6 +48,8 @@ pub fn add_below<V: PageView, F: PageForm>(
         (nodes (F.PageForm.node form.now) draft.old.pages.items (V.PageView.image view.old)) most page fresh.old.items e) }
     ensures used { IfOk result (λ grown. (length fresh.old.items ≤ length fresh.new.items + grown.levels) × (grown.levels ≤ most)) }
     ensures below { GrownBelow fresh.old.items fresh.new.items result }
+    ensures front { IsFront fresh.new.items fresh.old.items }
+    ensures key { IfOk result (λ grown. IfSome grown.sibling (λ s. F.PageForm.is_key s.key)) }
 {
     if most == 0 {
         return Err(TreeError::Bad {
@@ -61,14 +64,18 @@ pub fn add_below<V: PageView, F: PageForm>(
     match form.way(bytes.bytes(), x) {
         Err(rule) => Err(TreeError::Bad { page, rule }),
         Ok(Way::Here) => {
-            match take_here(form, draft, fresh, page, bytes, x) {
+            match take_here(form, draft, fresh, page, last, bytes, x) {
                 Ok(sibling) => Ok(Grown { sibling, levels: 1 }),
                 Err(e) => Err(e),
             }
         }
-        Ok(Way::Down { place, page: child }) => {
-            match add_below(form, view, draft, fresh, most - 1, child, x) {
-                Ok(grown) => take_grown(form, draft, fresh, page, bytes, place, grown),
+        Ok(Way::Down {
+            place,
+            page: child,
+            last: at_end,
+        }) => {
+            match add_below(form, view, draft, fresh, most - 1, child, last && at_end, x) {
+                Ok(grown) => take_grown(form, draft, fresh, page, last, bytes, place, grown),
                 Err(e) => Err(e),
             }
         }
@@ -81,18 +88,22 @@ fn take_grown<F: PageForm>(
     draft: &mut Draft,
     fresh: &mut Vec<u32>,
     page: u32,
+    last: bool,
     bytes: Page,
     place: usize,
     grown: Grown<F::Key>,
 ) -> Result<Grown<F::Key>, TreeError>
     requires size { F.PageForm.size form.now ≡ 4096 }
     requires within { IfSome grown.sibling (λ s. s.page < F.PageForm.blocks form.now) }
+    requires key { IfSome grown.sibling (λ s. F.PageForm.is_key s.key) }
     requires enough { 0 < length fresh.old.items }
     requires fits { grown.levels + 1 < 2 ^ 32 }
     ensures did { GrownDid (F.PageForm.node form.now) F.PageForm.scale bytes.0 page place grown.sibling draft.old.pages.items draft.new.pages.items fresh.old.items fresh.new.items result }
     ensures levels { IfOk result (λ g. g.levels ≡ grown.levels + 1) }
     ensures used { IfOk result (λ more. length fresh.old.items ≤ length fresh.new.items + 1) }
     ensures below { GrownBelow fresh.old.items fresh.new.items result }
+    ensures front { IsFront fresh.new.items fresh.old.items }
+    ensures key { IfOk result (λ grown. IfSome grown.sibling (λ s. F.PageForm.is_key s.key)) }
 {
     let Grown { sibling, levels } = grown;
     let levels = levels + 1;
@@ -101,7 +112,7 @@ fn take_grown<F: PageForm>(
             sibling: None,
             levels,
         }),
-        Some(new) => match take_child(form, draft, fresh, page, bytes, place, new) {
+        Some(new) => match take_child(form, draft, fresh, page, last, bytes, place, new) {
             Ok(sibling) => Ok(Grown { sibling, levels }),
             Err(e) => Err(e),
         },

@@ -3,7 +3,7 @@
 ghost use Rattle.std.specs.Prelude.{◌≡◌, ◌<◌, ℕ, List, [], ◌∷◌, IfOk, length};
 ghost use Rattle.jfs_tree.specs.Walk.{Child, Node, Leaf, Inner, Scale, IsOrder};
 ghost use Rattle.jfs_tree.specs.Edit.{IsApart, KeysRise, with_entry, found_in};
-ghost use Rattle.jfs_tree.specs.Form.{Leads, IsWithin, PutsRow, SplitsRows, PutsChild, AtPlace, SplitsChildren, as_child};
+ghost use Rattle.jfs_tree.specs.Form.{Leads, IsWithin, TellsLast, PutsRow, SplitsRows, PutsChild, AtPlace, SplitsChildren, as_child};
 
 use crate::form::{Put, Sibling, Way};
 use jfs_bits::Rule;
@@ -32,6 +32,9 @@ pub trait PageForm {
     /// There may be no room for one more.
     ghost is_full: { Self → List ℕ → Type 0 };
 
+    /// What can be a key on a page.
+    ghost is_key: { Self.Key → Type 0 };
+
     /// The form of the pages below a root.
     ghost below: { Self → Self };
 
@@ -39,7 +42,8 @@ pub trait PageForm {
     fn way(&self, bytes: &[u8], x: &Self::Entry) -> Result<Way, Rule>
         requires { length bytes.now ≡ size self.now }
         ensures way { Leads scale x.now (node self.now bytes.now) result }
-        ensures within { IfOk result (λ way. IsWithin (blocks self.now) way) };
+        ensures within { IfOk result (λ way. IsWithin (blocks self.now) way) }
+        ensures last { IfOk result (λ way. TellsLast (node self.now bytes.now) way) };
 
     /// The entry of a leaf that shares a place with `x`.
     fn find(&self, bytes: &[u8], x: &Self::Entry) -> Option<Self::Entry>
@@ -52,11 +56,13 @@ pub trait PageForm {
         requires good { is_good self.now x.now }
         ensures { PutsRow scale x.now (node self.now) (is_full self.now) bytes.old bytes.new result };
 
-    /// Puts the entry into page `n`, a leaf that has no room for it, and the leaf's last part into page `q`, whose key it answers.
+    /// Puts the entry into page `n`, a leaf that has no room for it, and the leaf's last part into page `q`, whose key it answers. `last` tells
+    /// that page `n` is the last one of its level.
     fn split(
         &self,
         n: u32,
         q: u32,
+        last: bool,
         bytes: &mut [u8],
         right: &mut [u8],
         x: &Self::Entry,
@@ -64,20 +70,24 @@ pub trait PageForm {
         requires size { (length bytes.old ≡ size self.now) × (length right.old ≡ size self.now) }
         requires good { is_good self.now x.now }
         requires full { is_full self.now bytes.old }
-        ensures { (es : List Self.Entry) → node self.now bytes.old ≡ Leaf es → IsApart scale x.now es →
-            SplitsRows scale (with_entry scale x.now es) (node self.now bytes.new) (node self.now right.new) result };
+        ensures parts { (es : List Self.Entry) → node self.now bytes.old ≡ Leaf es → IsApart scale x.now es →
+            SplitsRows scale (with_entry scale x.now es) (node self.now bytes.new) (node self.now right.new) result }
+        ensures key { is_key result };
 
     /// Puts a child behind the one at the place, where there is room.
     fn put_child(&self, bytes: &mut [u8], place: usize, child: &Sibling<Self::Key>) -> Put
         requires size { length bytes.old ≡ size self.now }
         requires within { child.now.page < blocks self.now }
+        requires key { is_key child.now.key }
         ensures { PutsChild scale (node self.now) (is_full self.now) place child.now bytes.old bytes.new result };
 
-    /// Puts a child into page `n`, an inner page that has no room for it, and the page's last part into page `q`, whose key it answers.
+    /// Puts a child into page `n`, an inner page that has no room for it, and the page's last part into page `q`, whose key it answers. `last`
+    /// tells that page `n` is the last one of its level.
     fn split_child(
         &self,
         n: u32,
         q: u32,
+        last: bool,
         bytes: &mut [u8],
         right: &mut [u8],
         place: usize,
@@ -85,9 +95,11 @@ pub trait PageForm {
     ) -> Self::Key
         requires size { (length bytes.old ≡ size self.now) × (length right.old ≡ size self.now) }
         requires within { child.now.page < blocks self.now }
+        requires key { is_key child.now.key }
         requires full { is_full self.now bytes.old }
-        ensures { (all : List (Child Self.Key)) → AtPlace (node self.now bytes.old) place (as_child child.now) all → KeysRise scale all →
-            SplitsChildren all (node self.now bytes.new) (node self.now right.new) result };
+        ensures parts { (all : List (Child Self.Key)) → AtPlace (node self.now bytes.old) place (as_child child.now) all → KeysRise scale all →
+            SplitsChildren all (node self.now bytes.new) (node self.now right.new) result }
+        ensures key { is_key result };
 
     /// Moves what a full root has to a page, `q`, and keeps one child.
     fn move_down(&self, pages: &Self, q: u32, root: &mut [u8], page: &mut [u8])

@@ -2,7 +2,7 @@
 
 ghost use Rattle.std.specs.Prelude.{◌≡◌, ◌+◌, ◌<◌, ◌≤◌, ℕ, List, length, OnOk, IfOk, IfErr, IfSome};
 ghost use Rattle.jfs_tree.specs.Edit.{IsPoint};
-ghost use Rattle.jfs_tree.specs.Form.{AllBelow};
+ghost use Rattle.jfs_tree.specs.Form.{AllBelow, IsFront};
 ghost use Rattle.jfs_tree.specs.Call.{nodes, pages_of, CarriesFault};
 ghost use Rattle.jfs_tree.specs.Root.{AddsAlways, FindsAlways, NamesBroken, RefusesWhereBad, RootGrownDid};
 
@@ -40,7 +40,11 @@ pub fn find_entry<V: PageView, F: PageForm>(
             rule,
         }),
         Ok(Way::Here) => Ok(top.find(root, x)),
-        Ok(Way::Down { place, page }) => find_below(form, view, 7, page, x),
+        Ok(Way::Down {
+            place: _,
+            page,
+            last: _,
+        }) => find_below(form, view, 7, page, x),
     }
 }
 
@@ -71,6 +75,7 @@ pub fn add_entry<V: PageView, F: PageForm>(
         (F.PageForm.node top.now root.old) (F.PageForm.node top.now root.new) fresh.old.items fresh.new.items) }
     ensures refused { V.PageView.tells → IfErr result (λ e. RefusesWhereBad F.PageForm.scale x.now
         (nodes (F.PageForm.node form.now) draft.old.pages.items (V.PageView.image view.old)) (F.PageForm.node top.now root.old) fresh.old.items e) }
+    ensures front { IsFront fresh.new.items fresh.old.items }
 {
     let _blocks = view.blocks();
     match top.way(root, x) {
@@ -79,7 +84,7 @@ pub fn add_entry<V: PageView, F: PageForm>(
             rule,
         }),
         Ok(Way::Here) => root_takes_here(top, form, draft, fresh, root, x),
-        Ok(Way::Down { place, page }) => match add_below(form, view, draft, fresh, 7, page, x) {
+        Ok(Way::Down { place, page, last }) => match add_below(form, view, draft, fresh, 7, page, last, x) {
             Ok(grown) => root_takes_grown(top, form, draft, fresh, root, place, grown),
             Err(e) => Err(e),
         },
@@ -101,10 +106,12 @@ fn root_takes_grown<F: PageForm>(
     requires size { F.PageForm.size form.now ≡ 4096 }
     requires pages { F.PageForm.below top.now ≡ form.now }
     requires child { IfSome grown.sibling (λ s. s.page < F.PageForm.blocks top.now) }
+    requires key { IfSome grown.sibling (λ s. F.PageForm.is_key s.key) }
     requires enough { 0 < length fresh.old.items }
     requires within { AllBelow (F.PageForm.blocks top.now) fresh.old.items }
     ensures did { RootGrownDid (F.PageForm.node form.now) F.PageForm.scale grown.levels place grown.sibling (F.PageForm.node top.now root.old) (F.PageForm.node top.now root.new) draft.old.pages.items draft.new.pages.items fresh.old.items fresh.new.items result }
     ensures below { AllBelow (F.PageForm.blocks top.now) fresh.new.items }
+    ensures front { IsFront fresh.new.items fresh.old.items }
 {
     let Grown { sibling, levels } = grown;
     match sibling {

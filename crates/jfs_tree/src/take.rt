@@ -1,6 +1,7 @@
 //! A page that takes an entry or a child, perhaps with a new page behind it.
 
-ghost use Rattle.std.specs.Prelude.{◌≡◌, ◌==◌, ◌+◌, if◌then◌else◌, ◌<◌, ◌≤◌, ℕ, List, length, OnOk, IfOk, IfErr};
+ghost use Rattle.std.specs.Prelude.{◌≡◌, ◌==◌, ◌+◌, if◌then◌else◌, ◌<◌, ◌≤◌, ℕ, List, length, OnOk, IfOk, IfErr, IfSome};
+ghost use Rattle.jfs_tree.specs.Form.{IsFront};
 ghost use Rattle.jfs_tree.specs.Call.{HereDid, ChildDid, StaysBelow, PutsOne, PutsTwo};
 
 use crate::draft::Draft;
@@ -9,12 +10,13 @@ use crate::pages::PageForm;
 use jfs_bits::Rule;
 use jfs_disk::Page;
 
-/// Puts an entry into page `page`, a leaf with these bytes.
+/// Puts an entry into page `page`, a leaf with these bytes, which may be the last page of its level.
 pub(crate) fn take_here<F: PageForm>(
     form: &F,
     draft: &mut Draft,
     fresh: &mut Vec<u32>,
     page: u32,
+    last: bool,
     mut bytes: Page,
     x: &F::Entry,
 ) -> Result<Option<Sibling<F::Key>>, TreeError>
@@ -24,6 +26,8 @@ pub(crate) fn take_here<F: PageForm>(
     ensures did { HereDid (F.PageForm.node form.now) F.PageForm.scale x.now bytes.0 page draft.old.pages.items draft.new.pages.items fresh.old.items fresh.new.items result }
     ensures used { IfOk result (λ more. length fresh.old.items ≤ length fresh.new.items + 1) }
     ensures below { StaysBelow fresh.old.items fresh.new.items result }
+    ensures front { IsFront fresh.new.items fresh.old.items }
+    ensures key { IfOk result (λ more. IfSome more (λ s. F.PageForm.is_key s.key)) }
 {
     match form.put(&mut bytes.0, x) {
         Put::Done => {
@@ -34,7 +38,7 @@ pub(crate) fn take_here<F: PageForm>(
             page,
             rule: Rule::Order,
         }),
-        Put::Full => split_here(form, draft, fresh, page, bytes, x),
+        Put::Full => split_here(form, draft, fresh, page, last, bytes, x),
     }
 }
 
@@ -43,6 +47,7 @@ fn split_here<F: PageForm>(
     draft: &mut Draft,
     fresh: &mut Vec<u32>,
     page: u32,
+    last: bool,
     mut bytes: Page,
     x: &F::Entry,
 ) -> Result<Option<Sibling<F::Key>>, TreeError>
@@ -53,12 +58,14 @@ fn split_here<F: PageForm>(
     ensures did { HereDid (F.PageForm.node form.now) F.PageForm.scale x.now bytes.0 page draft.old.pages.items draft.new.pages.items fresh.old.items fresh.new.items result }
     ensures used { IfOk result (λ more. length fresh.old.items ≤ length fresh.new.items + 1) }
     ensures below { StaysBelow fresh.old.items fresh.new.items result }
+    ensures front { IsFront fresh.new.items fresh.old.items }
+    ensures key { IfOk result (λ more. IfSome more (λ s. F.PageForm.is_key s.key)) }
 {
     let Some(q) = fresh.pop() else {
         unreachable!();
     };
     let mut right = Page::zeros();
-    let key = form.split(page, q, &mut bytes.0, &mut right.0, x);
+    let key = form.split(page, q, last, &mut bytes.0, &mut right.0, x);
     put_two(draft, page, bytes, q, right)?;
     Ok(Some(Sibling { key, page: q }))
 }
@@ -69,16 +76,20 @@ pub(crate) fn take_child<F: PageForm>(
     draft: &mut Draft,
     fresh: &mut Vec<u32>,
     page: u32,
+    last: bool,
     mut bytes: Page,
     place: usize,
     sibling: Sibling<F::Key>,
 ) -> Result<Option<Sibling<F::Key>>, TreeError>
     requires size { F.PageForm.size form.now ≡ 4096 }
     requires within { sibling.page < F.PageForm.blocks form.now }
+    requires key { F.PageForm.is_key sibling.key }
     requires enough { 0 < length fresh.old.items }
     ensures did { ChildDid (F.PageForm.node form.now) F.PageForm.scale bytes.0 page place sibling draft.old.pages.items draft.new.pages.items fresh.old.items fresh.new.items result }
     ensures used { IfOk result (λ more. length fresh.old.items ≤ length fresh.new.items + 1) }
     ensures below { StaysBelow fresh.old.items fresh.new.items result }
+    ensures front { IsFront fresh.new.items fresh.old.items }
+    ensures key { IfOk result (λ more. IfSome more (λ s. F.PageForm.is_key s.key)) }
 {
     match form.put_child(&mut bytes.0, place, &sibling) {
         Put::Done => {
@@ -89,7 +100,7 @@ pub(crate) fn take_child<F: PageForm>(
             page,
             rule: Rule::Order,
         }),
-        Put::Full => split_child(form, draft, fresh, page, bytes, place, sibling),
+        Put::Full => split_child(form, draft, fresh, page, last, bytes, place, sibling),
     }
 }
 
@@ -98,23 +109,27 @@ fn split_child<F: PageForm>(
     draft: &mut Draft,
     fresh: &mut Vec<u32>,
     page: u32,
+    last: bool,
     mut bytes: Page,
     place: usize,
     sibling: Sibling<F::Key>,
 ) -> Result<Option<Sibling<F::Key>>, TreeError>
     requires size { F.PageForm.size form.now ≡ 4096 }
     requires within { sibling.page < F.PageForm.blocks form.now }
+    requires key { F.PageForm.is_key sibling.key }
     requires enough { 0 < length fresh.old.items }
     requires full { F.PageForm.is_full form.now bytes.0 }
     ensures did { ChildDid (F.PageForm.node form.now) F.PageForm.scale bytes.0 page place sibling draft.old.pages.items draft.new.pages.items fresh.old.items fresh.new.items result }
     ensures used { IfOk result (λ more. length fresh.old.items ≤ length fresh.new.items + 1) }
     ensures below { StaysBelow fresh.old.items fresh.new.items result }
+    ensures front { IsFront fresh.new.items fresh.old.items }
+    ensures key { IfOk result (λ more. IfSome more (λ s. F.PageForm.is_key s.key)) }
 {
     let Some(q) = fresh.pop() else {
         unreachable!();
     };
     let mut right = Page::zeros();
-    let key = form.split_child(page, q, &mut bytes.0, &mut right.0, place, &sibling);
+    let key = form.split_child(page, q, last, &mut bytes.0, &mut right.0, place, &sibling);
     put_two(draft, page, bytes, q, right)?;
     Ok(Some(Sibling { key, page: q }))
 }

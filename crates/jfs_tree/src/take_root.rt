@@ -1,7 +1,7 @@
 //! A root that takes an entry or a child; one without room moves to a new page first.
 
 ghost use Rattle.std.specs.Prelude.{◌≡◌, ◌+◌, ◌<◌, ◌≤◌, ℕ, List, length};
-ghost use Rattle.jfs_tree.specs.Form.{AllBelow};
+ghost use Rattle.jfs_tree.specs.Form.{AllBelow, IsFront};
 ghost use Rattle.jfs_tree.specs.Root.{RootHereDid, RootChildDid};
 
 use crate::draft::Draft;
@@ -28,6 +28,7 @@ pub(crate) fn root_takes_here<F: PageForm>(
     requires within { AllBelow (F.PageForm.blocks top.now) fresh.old.items }
     ensures did { RootHereDid (F.PageForm.node form.now) F.PageForm.scale x.now (F.PageForm.node top.now root.old) (F.PageForm.node top.now root.new) draft.old.pages.items draft.new.pages.items fresh.old.items fresh.new.items result }
     ensures below { AllBelow (F.PageForm.blocks top.now) fresh.new.items }
+    ensures front { IsFront fresh.new.items fresh.old.items }
 {
     match top.put(root, x) {
         Put::Done => Ok(()),
@@ -57,6 +58,7 @@ fn moves_with_entry<F: PageForm>(
     requires within { AllBelow (F.PageForm.blocks top.now) fresh.old.items }
     ensures did { RootHereDid (F.PageForm.node form.now) F.PageForm.scale x.now (F.PageForm.node top.now root.old) (F.PageForm.node top.now root.new) draft.old.pages.items draft.new.pages.items fresh.old.items fresh.new.items result }
     ensures below { AllBelow (F.PageForm.blocks top.now) fresh.new.items }
+    ensures front { IsFront fresh.new.items fresh.old.items }
 {
     let Some(q) = fresh.pop() else {
         unreachable!();
@@ -89,10 +91,12 @@ pub(crate) fn root_takes_child<F: PageForm>(
     requires size { F.PageForm.size form.now ≡ 4096 }
     requires pages { F.PageForm.below top.now ≡ form.now }
     requires child { child.page < F.PageForm.blocks top.now }
+    requires key { F.PageForm.is_key child.key }
     requires enough { 0 < length fresh.old.items }
     requires within { AllBelow (F.PageForm.blocks top.now) fresh.old.items }
     ensures did { RootChildDid (F.PageForm.node form.now) F.PageForm.scale levels place child (F.PageForm.node top.now root.old) (F.PageForm.node top.now root.new) draft.old.pages.items draft.new.pages.items fresh.old.items fresh.new.items result }
     ensures below { AllBelow (F.PageForm.blocks top.now) fresh.new.items }
+    ensures front { IsFront fresh.new.items fresh.old.items }
 {
     match top.put_child(root, place, &child) {
         Put::Done => Ok(()),
@@ -128,12 +132,14 @@ fn moves_with_child<F: PageForm>(
     requires size { F.PageForm.size form.now ≡ 4096 }
     requires pages { F.PageForm.below top.now ≡ form.now }
     requires child { child.page < F.PageForm.blocks top.now }
+    requires key { F.PageForm.is_key child.key }
     requires full { F.PageForm.is_full top.now root.old }
     requires room { levels < 7 }
     requires enough { 0 < length fresh.old.items }
     requires within { AllBelow (F.PageForm.blocks top.now) fresh.old.items }
     ensures did { RootChildDid (F.PageForm.node form.now) F.PageForm.scale levels place child (F.PageForm.node top.now root.old) (F.PageForm.node top.now root.new) draft.old.pages.items draft.new.pages.items fresh.old.items fresh.new.items result }
     ensures below { AllBelow (F.PageForm.blocks top.now) fresh.new.items }
+    ensures front { IsFront fresh.new.items fresh.old.items }
 {
     let Some(q) = fresh.pop() else {
         unreachable!();

@@ -16,9 +16,9 @@ returns-in-Ok-Here-clause-found g c tells =
 pub returns-in-Ok-Down-clause-found : goal.returns-in-Ok-Down-clause-found
 returns-in-Ok-Down-clause-found g c tells =
     let leads = subst (λ w. Leads g.F.PageForm.scale c.args.x.now (g.F.PageForm.node c.args.top.now c.args.root.now) (Ok w)) c.in-Ok-Down.field-0-is c.in-Ok-Down.ensures.way in
-    found_below g.F.PageForm.scale g.met.F.PageForm.order c.args.x.now c.requires.point (pages_of (g.F.PageForm.node c.args.form.now) (g.V.PageView.image c.args.view.now)) (g.F.PageForm.node c.args.top.now c.args.root.now) c.in-Ok-Down.place c.in-Ok-Down.page c.find_below.result leads (c.find_below.ensures.found tells)
+    found_below g.F.PageForm.scale g.met.F.PageForm.order c.args.x.now c.requires.point (pages_of (g.F.PageForm.node c.args.form.now) (g.V.PageView.image c.args.view.now)) (g.F.PageForm.node c.args.top.now c.args.root.now) c.in-Ok-Down.field-0-0 c.in-Ok-Down.page c.find_below.result leads (c.find_below.ensures.found tells)
 
 pub returns-in-Ok-Down-clause-bad : goal.returns-in-Ok-Down-clause-bad
 returns-in-Ok-Down-clause-bad g c tells =
     let leads = subst (λ w. Leads g.F.PageForm.scale c.args.x.now (g.F.PageForm.node c.args.top.now c.args.root.now) (Ok w)) c.in-Ok-Down.field-0-is c.in-Ok-Down.ensures.way in
-    broken_below g.F.PageForm.scale g.met.F.PageForm.order c.args.x.now (pages_of (g.F.PageForm.node c.args.form.now) (g.V.PageView.image c.args.view.now)) (g.F.PageForm.node c.args.top.now c.args.root.now) c.in-Ok-Down.place c.in-Ok-Down.page c.find_below.result leads (c.find_below.ensures.bad tells)
+    broken_below g.F.PageForm.scale g.met.F.PageForm.order c.args.x.now (pages_of (g.F.PageForm.node c.args.form.now) (g.V.PageView.image c.args.view.now)) (g.F.PageForm.node c.args.top.now c.args.root.now) c.in-Ok-Down.field-0-0 c.in-Ok-Down.page c.find_below.result leads (c.find_below.ensures.bad tells)

@@ -8,7 +8,7 @@ returns-in_err-put_two-clause-below g c = λ bound h. let b = below_popped bound
 pub returns-clause-did : goal.returns-clause-did
 returns-clause-did g c =
     child_parted (g.F.PageForm.node c.args.form.now) g.F.PageForm.scale g.met.F.PageForm.order c.args.bytes.0 c.split_child-key.new.bytes c.split_child-key.new.right c.args.page c.args.place c.in-Some.q c.split_child-key.result c.args.sibling
-    c.args.draft.now.pages.items c.put_two.new.draft.pages.items c.args.fresh.now.items c.pop.new.self.items c.split_child-key.ensures c.in-Some.ensures.items c.in_ok-put_two.ensures.puts
+    c.args.draft.now.pages.items c.put_two.new.draft.pages.items c.args.fresh.now.items c.pop.new.self.items c.split_child-key.ensures.parts c.in-Some.ensures.items c.in_ok-put_two.ensures.puts
 
 pub returns-clause-below : goal.returns-clause-below
 returns-clause-below g c = λ bound h. below_popped bound c.in-Some.q c.args.fresh.now.items c.pop.new.self.items c.in-Some.ensures.items h

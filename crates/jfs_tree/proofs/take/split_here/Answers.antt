@@ -8,7 +8,7 @@ returns-in_err-put_two-clause-below g c = λ bound h. let b = below_popped bound
 pub returns-clause-did : goal.returns-clause-did
 returns-clause-did g c =
     here_parted (g.F.PageForm.node c.args.form.now) g.F.PageForm.scale g.met.F.PageForm.order c.args.x.now c.args.bytes.0 c.split-key.new.bytes c.split-key.new.right c.args.page c.in-Some.q c.split-key.result
-    c.args.draft.now.pages.items c.put_two.new.draft.pages.items c.args.fresh.now.items c.pop.new.self.items c.split-key.ensures c.in-Some.ensures.items c.in_ok-put_two.ensures.puts
+    c.args.draft.now.pages.items c.put_two.new.draft.pages.items c.args.fresh.now.items c.pop.new.self.items c.split-key.ensures.parts c.in-Some.ensures.items c.in_ok-put_two.ensures.puts
 
 pub returns-clause-below : goal.returns-clause-below
 returns-clause-below g c = λ bound h. below_popped bound c.in-Some.q c.args.fresh.now.items c.pop.new.self.items c.in-Some.ensures.items h
