@@ -56,12 +56,41 @@ known-super page s bad result e is = by (is_log_super page) refl (sym is ∙ e)
     by true h f = (h, ap (value s) f)
     by false h f = absurd (subst IsValue f tt)
 
+-- a page that was refused
+pub not-super : (page : List ℕ) (bad : BadRecord) (result : Result LogSuper BadRecord) (error : BadRecord) → result ≡ (if is_log_super page then Ok (log_super_of page) else Err bad) → result ≡ Err error → IsTrue (is_log_super page) → ⊥
+unfolding IsValue
+not-super page bad result error e is known = by (is_log_super page) known (sym e ∙ is)
+  where
+    by : (b : Bool) → b ≡ true → (if b then Ok (log_super_of page) else Err bad) ≡ Err error → ⊥
+    by true h f = subst IsValue f tt
+    by false h f = absurd cc
+
 pub same-label : (xs ys : List ℕ) (same r : Bool) → Decides same (xs ≡ ys) → r ≡ not same → r ≡ false → xs ≡ ys
 same-label xs ys same r decides e none = decides.0 (by same (sym e ∙ none))
   where
     by : (b : Bool) → not b ≡ false → b ≡ true
     by true h = refl
     by false h = sym h
+
+pub other-label : (xs ys : List ℕ) (same r : Bool) → Decides same (xs ≡ ys) → r ≡ not same → r ≡ true → xs ≡ ys → ⊥
+other-label xs ys same r decides e some is = by same (decides.1 is) (sym e ∙ some)
+  where
+    by : (b : Bool) → b ≡ true → not b ≡ true → ⊥
+    by true h f = absurd cc
+    by false h f = absurd cc
+
+-- a superblock of another size, or of another's label
+read-super : (log : Image) (page : List ℕ) (s : LogSuper) → page ≡ page_of log 1 → s ≡ log_super_of page → s ≡ log_super_of (page_of log 1)
+read-super log page s e is = is ∙ ap log_super_of e
+
+pub other-size : (pages : ℕ) (log : Image) (page : List ℕ) (s : LogSuper) → page ≡ page_of log 1 → IsTrue (is_log_super page) × (s ≡ log_super_of page) → (s.size ≡ pages → ⊥) → HasSuper pages log → ⊥
+other-size pages log page s e known apart has = apart (ap (λ (t : LogSuper). t.size) (read-super log page s e known.1) ∙ has.1)
+
+pub other-super : (pages : ℕ) (log : Image) (page : List ℕ) (s : LogSuper) → page ≡ page_of log 1 → IsTrue (is_log_super page) × (s ≡ log_super_of page) → s.size ≡ pages → (s.label ≡ own_label → ⊥)
+    → HasSuper pages log × (s.label ≡ label_of log) × (s.label ≡ own_label → ⊥)
+other-super pages log page s e known size apart =
+    let same = read-super log page s e known.1 in
+    ((subst (λ (p : List ℕ). IsTrue (is_log_super p)) e known.0, sym (ap (λ (t : LogSuper). t.size) same) ∙ size), ap (λ (t : LogSuper). t.label) same, apart)
 
 pub own-super : (pages : ℕ) (log : Image) (page : List ℕ) (s : LogSuper) → page ≡ page_of log 1 → IsTrue (is_log_super page) × (s ≡ log_super_of page) → s.size ≡ pages → s.label ≡ own_label → HasSuper pages log × (label_of log ≡ own_label)
 own-super pages log page s e known size label =

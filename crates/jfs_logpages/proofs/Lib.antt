@@ -8,6 +8,7 @@ pub mod Filled
 pub mod NextPage
 pub mod Runs
 pub mod ReadBack
+pub mod Shown
 pub mod Moments
 pub mod Records
 pub mod Places

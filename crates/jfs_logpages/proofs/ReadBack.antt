@@ -1,8 +1,8 @@
 -- What is read of a ring, as code names it.
-use Rattle.std.proofs.Common.{◌≡◌, ◌≤◌, ◌<◌, ◌+◌, ◌-◌, ◌/◌, ◌%◌, ℕ, suc, min, List, ◌++◌, length, take, get_or, refl, sym, ap, subst, ◌∙◌, ◌⊎◌, inl, inr, arith, eq-eqb}
+use Rattle.std.proofs.Common.{◌≡◌, ◌≤◌, ◌<◌, ◌+◌, ◌-◌, ◌/◌, ◌%◌, ℕ, zero, suc, min, List, [], ◌∷◌, ◌++◌, length, take, get_or, refl, sym, ap, subst, ◌∙◌, ◌⊎◌, inl, inr, arith, eq-eqb}
 use Rattle.std.proofs.Math.Nat.{mod-lt}
-use Rattle.std.proofs.lemmas.Bool.{cases_eq, ne_eqb, le-leb, lt-leb}
-use Rattle.std.proofs.lemmas.List.{take-append-le, take_min}
+use Rattle.std.proofs.lemmas.Bool.{cases_eq, cases_lt, ne_eqb, le-leb, lt-leb}
+use Rattle.std.proofs.lemmas.List.{take-append-le, take_min, length-append, get_or_append_left, get_or-append_right}
 use Rattle.std.proofs.Math.Seq.{take-append-add}
 use Rattle.jfs_disk.specs.Image.{Image, page_of}
 use Rattle.jfs_logpages.specs.Ring.{slot, head_number, tail_number, eor_of, body_of, bodies, IsNumbered, IsRun, Reads, text_of}
@@ -44,6 +44,17 @@ run-out ring image marks q some size are run = record {
   long = run.long;
   each = λ k h g. mark-at ring image marks k some size are ∙ noted ring k (slot ring image k) (run.each k h g);
 }
+
+-- one more page is noted
+pub marks-more : (ring : ℕ) (log : Image) (marks : List ℕ) (m place : ℕ) → length marks ≡ place → m ≡ mark_of ring place (page_of log (2 + place)) → AreMarks ring log marks → AreMarks ring log (marks ++ m ∷ [])
+marks-more ring log marks m place size e are p h = by (cases_lt p place)
+  where
+    by : (p < place) ⊎ (place ≤ p) → get_or (marks ++ m ∷ []) p 0 ≡ mark_of ring p (page_of log (2 + p))
+    by (inl low) = get_or_append_left marks (m ∷ []) 0 p (omega (arith, size)) ∙ are p (omega (arith, size))
+    by (inr high) =
+        let same : p ≡ place = omega (arith, h, high, size, length-append marks (m ∷ [])) in
+        let first : p - place ≡ 0 = omega arith in
+        get_or-append_right marks (m ∷ []) place p 0 size high ∙ ap (λ (i : ℕ). get_or (m ∷ []) i 0) first ∙ e ∙ ap (λ (i : ℕ). mark_of ring i (page_of log (2 + i))) (sym same)
 
 -- one more page is read
 pub text-more : (ring : ℕ) (image : Image) (first n : ℕ) (page text : List ℕ) → page ≡ slot ring image (first + n) → length page ≡ 4096 → text ≡ bodies ring image first n

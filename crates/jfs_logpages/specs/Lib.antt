@@ -7,3 +7,4 @@ pub mod Outcome
 pub mod ReadLog
 -- lemmas and how things are kept: for the prover
 pub mod Marks
+pub mod Shown

@@ -3,11 +3,12 @@
 ghost use Rattle.std.specs.Prelude.{◌≡◌, ◌<◌, ◌≤◌, ◌+◌, ◌-◌, ◌*◌, ◌/◌, ◌^◌, ⊤, ℕ, List, ◌∷◌, length, drop, IfOk, IfErr, OnOk, OnErr};
 ghost use Rattle.jfs_bits.specs.Count.{Rose};
 ghost use Rattle.jfs_disk.specs.Fault.{HasCause};
-ghost use Rattle.jfs_disk.specs.Image.{page_of};
+ghost use Rattle.jfs_disk.specs.Image.{Image, page_of};
 ghost use Rattle.jfs_logpages.specs.Fresh.{own_label};
 ghost use Rattle.jfs_logpages.specs.Outcome.{IsReadFault, IsBadLogOrFault, TellsNothing};
 ghost use Rattle.jfs_logpages.specs.ReadLog.{HasSuper, label_of, IsNotOwn, BreaksRing, IsReadLog};
 ghost use Rattle.jfs_logpages.specs.Ring.{Reads};
+ghost use Rattle.jfs_logpages.specs.Shown.{OfSome};
 
 use crate::backwards::read_records;
 use crate::error::RingError;
@@ -43,8 +44,8 @@ fn read_super<D: Disk>(disk: &mut D, base: u32, pages: u32) -> Result<(), RingEr
     requires some { 2 ≤ pages }
     ensures pages { D.page_count disk.new ≡ D.page_count disk.old }
     ensures image { D.tells → D.image disk.new ≡ D.image disk.old }
-    ensures own { OnOk result (D.tells → HasSuper pages (drop base (D.image disk.old)) × (label_of (drop base (D.image disk.old)) ≡ own_label)) }
-    ensures other { IfErr result (λ error. D.tells → IsNotOwn pages (drop base (D.image disk.old)) error) }
+    ensures own { OnOk result ((image : Image) × (D.tells → image ≡ D.image disk.old) × HasSuper pages (drop base image) × (label_of (drop base image) ≡ own_label)) }
+    ensures other { IfErr result (λ error. (image : Image) × (D.tells → image ≡ D.image disk.old) × IsNotOwn pages (drop base image) error) }
     ensures quiet { OnOk result (D.fault_count disk.new ≡ D.fault_count disk.old) }
     ensures cause { IfErr result (IsReadFault (D.fault_count disk.old) (D.fault_count disk.new)) }
 {
@@ -53,6 +54,7 @@ fn read_super<D: Disk>(disk: &mut D, base: u32, pages: u32) -> Result<(), RingEr
         Ok(()) => {}
         Err(error) => return Err(read_error(error, disk.faults())),
     }
+    let _size = page.bytes();
     let bad = RingError::BadLog {
         address: 4096,
         rule: Rule::Super,
@@ -84,9 +86,9 @@ fn read_newest<D: Disk>(
     requires small { base + (2 + ring) < 2 ^ 32 }
     ensures pages { D.page_count disk.new ≡ D.page_count disk.old }
     ensures image { D.tells → D.image disk.new ≡ D.image disk.old }
-    ensures text { IfOk result (λ read. D.tells → Reads ring (drop base (D.image disk.old)) read.0 read.1.items) }
+    ensures text { IfOk result (λ read. OfSome D.tells (D.image disk.old) (base + 1) (λ _ image. Reads ring (drop base image) read.0 read.1.items)) }
     ensures size { IfOk result (λ read. (length read.1.items ≤ 4080 * (ring / 2)) × (read.0 < 2 ^ 40)) }
-    ensures none { IfErr result (λ error. D.tells → IsBadLogOrFault (BreaksRing ring (drop base (D.image disk.old))) error) }
+    ensures none { IfErr result (λ error. OfSome D.tells (D.image disk.old) (base + 1) (λ _ image. IsBadLogOrFault (BreaksRing ring (drop base image)) error)) }
     ensures quiet { OnOk result (D.fault_count disk.new ≡ D.fault_count disk.old) }
     ensures cause { IfErr result (IsReadFault (D.fault_count disk.old) (D.fault_count disk.new)) }
 {
@@ -127,7 +129,8 @@ pub fn read_ring<D: Disk>(
     requires pages { (256 ≤ log.len) × (log.len ≤ 32768) }
     ensures pages { D.page_count disk.new ≡ D.page_count disk.old }
     ensures image { D.tells → D.image disk.new ≡ D.image disk.old }
-    ensures read { D.tells → IsReadLog log.len blocks (drop log.addr (D.image disk.old)) result }
+    // Of a disk that doesn't tell, there is some image by which the answer is right.
+    ensures read { (image : Image) × (D.tells → image ≡ D.image disk.old) × IsReadLog log.len blocks (drop log.addr image) result }
     ensures quiet { OnOk result (D.fault_count disk.new ≡ D.fault_count disk.old) }
     ensures cause { IfErr result (IsReadFault (D.fault_count disk.old) (D.fault_count disk.new)) }
 {

@@ -1,9 +1,10 @@
 //! Reading the ring's text from a disk.
 
-ghost use Rattle.std.specs.Prelude.{◌≡◌, ◌<◌, ◌≤◌, ◌+◌, ◌*◌, ◌/◌, ◌^◌, ℕ, length, drop, slice_index, OnOk, IfOk};
+ghost use Rattle.std.specs.Prelude.{◌≡◌, ◌<◌, ◌≤◌, ◌+◌, ◌*◌, ◌/◌, ◌^◌, ℕ, length, slice_index, IfOk};
 ghost use Rattle.jfs_disk.specs.Fault.{HasCause};
-ghost use Rattle.jfs_logpages.specs.Ring.{text_of};
-ghost use Rattle.jfs_logpages.specs.Marks.{mark_of, AreMarks};
+ghost use Rattle.jfs_disk.specs.Image.{Image};
+ghost use Rattle.jfs_logpages.specs.Marks.{mark_of};
+ghost use Rattle.jfs_logpages.specs.Shown.{OfSome, OfText, AreMarksOf, IsTextOf};
 
 use jfs_bits::{get_u16, get_u32};
 use jfs_disk::{Disk, DiskError, Page};
@@ -14,6 +15,7 @@ fn mark(ring: u32, place: u32, page: &Page) -> u64
     requires ring { 0 < ring }
     ensures value { result ≡ mark_of ring place page.now.0 }
     ensures small { result < 2 ^ 33 }
+    ensures size { length page.now.0 ≡ 4096 }
 {
     let bytes: &[u8] = &page.0;
     let number = get_u32(bytes, 0);
@@ -38,7 +40,7 @@ pub fn read_marks<D: Disk>(
     ensures image { D.tells → D.image disk.new ≡ D.image disk.old }
     ensures size { IfOk result (λ marks. length marks.items ≡ ring) }
     ensures small { IfOk result (λ marks. (p : ℕ) → slice_index marks.items p < 2 ^ 33) }
-    ensures marks { IfOk result (λ marks. D.tells → AreMarks ring (drop base (D.image disk.old)) marks.items) }
+    ensures marks { IfOk result (λ marks. OfSome D.tells (D.image disk.old) (base + 1) (λ _ image. AreMarksOf base ring marks.items image)) }
     ensures cause { HasCause (D.fault_count disk.old) (D.fault_count disk.new) result }
 {
     let mut marks = Vec::new(alloc);
@@ -68,7 +70,7 @@ pub fn read_text<D: Disk>(
     requires first_small { first < 2 ^ 40 }
     ensures pages { D.page_count disk.new ≡ D.page_count disk.old }
     ensures image { D.tells → D.image disk.new ≡ D.image disk.old }
-    ensures text { IfOk result (λ text. D.tells → text.items ≡ text_of ring (drop base (D.image disk.old)) first (ring / 2)) }
+    ensures text { IfOk result (λ text. OfText D.tells (D.image disk.old) base ring (IsTextOf base ring first text.items)) }
     ensures size { IfOk result (λ text. length text.items ≤ 4080 * (ring / 2)) }
     ensures cause { HasCause (D.fault_count disk.old) (D.fault_count disk.new) result }
 {

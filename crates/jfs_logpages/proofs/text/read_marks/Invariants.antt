@@ -1,5 +1,5 @@
-use Rattle.std.proofs.Common.{◌≡◌, ◌<◌, ◌^◌, ℕ, length, get_or, drop}
-use Rattle.jfs_logpages.specs.Marks.{AreMarks}
+use Rattle.std.proofs.Common.{◌≡◌, ◌<◌, ◌^◌, ◌+◌, ℕ, length, get_or}
+use Rattle.jfs_logpages.specs.Shown.{OfSome, AreMarksOf}
 use Rattle.jfs_logpages.proofs.text.read_marks.Given as goal
 
 abbrev pub invariant-loop-place : goal.invariant-loop-place
@@ -9,5 +9,5 @@ invariant-loop-place g l = record {
   size : length l.marks.items ≡ l.place;
   small : (p : ℕ) → get_or l.marks.items p 0 < 2 ^ 33;
   faults : g.D.Disk.fault_count l.disk ≡ g.D.Disk.fault_count l.initial.disk;
-  marks : g.D.Disk.tells → AreMarks l.ring (drop l.base (g.D.Disk.image l.initial.disk)) l.marks.items;
+  marks : OfSome g.D.Disk.tells (g.D.Disk.image l.initial.disk) (l.base + 1) (λ _ image. AreMarksOf l.base l.ring l.marks.items image);
 }

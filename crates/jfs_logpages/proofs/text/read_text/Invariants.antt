@@ -1,5 +1,5 @@
-use Rattle.std.proofs.Common.{◌≡◌, ◌≤◌, ◌*◌, take, drop, length}
-use Rattle.jfs_logpages.specs.Ring.{bodies, text_of}
+use Rattle.std.proofs.Common.{◌≡◌, ◌≤◌, ◌*◌, length}
+use Rattle.jfs_logpages.specs.Shown.{OfText, AreBodiesOf}
 use Rattle.jfs_logpages.proofs.text.read_text.Given as goal
 
 abbrev pub invariant-loop-n : goal.invariant-loop-n
@@ -9,6 +9,5 @@ invariant-loop-n g l = record {
   faults : g.D.Disk.fault_count l.disk ≡ g.D.Disk.fault_count l.initial.disk;
   size : length l.text.items ≡ 4080 * l.n;
   within : l.end ≤ length l.text.items;
-  bodies : g.D.Disk.tells → l.text.items ≡ bodies l.ring (drop l.base (g.D.Disk.image l.initial.disk)) l.first l.n;
-  text : g.D.Disk.tells → text_of l.ring (drop l.base (g.D.Disk.image l.initial.disk)) l.first l.n ≡ take l.end l.text.items;
+  read : OfText g.D.Disk.tells (g.D.Disk.image l.initial.disk) l.base l.ring (AreBodiesOf l.base l.ring l.first l.n l.end l.text.items);
 }
