@@ -5,6 +5,7 @@ pub mod TextRead
 pub mod Middle
 pub mod Grown
 pub mod Filled
+pub mod Histories
 pub mod NextPage
 pub mod Runs
 pub mod ReadBack

@@ -1,6 +1,7 @@
 -- A log as it is made: its superblock, and a ring with one record.
-use Rattle.std.specs.Prelude.{◌≡◌, ◌<◌, ◌≤◌, ◌+◌, ◌-◌, ◌⊎◌, ℕ, List, [], ◌∷◌, ◌++◌, replicate, codes}
+use Rattle.std.specs.Prelude.{◌≡◌, ◌<◌, ◌≤◌, ◌+◌, ◌-◌, ◌⊎◌, ℕ, List, [], ◌∷◌, ◌++◌, length, get_or, replicate, codes}
 use Rattle.jfs_disk.specs.Image.{Image, page_of}
+use Rattle.jfs_disk.specs.Crash.{DiskState, history_of, last_of}
 use Rattle.jfs_bits.specs.Piece.{puts}
 use Rattle.jfs_logfmt.specs.declared.log_record.Record.{Record}
 use Rattle.jfs_logfmt.specs.declared.log_record.Record.TheVariants.{SyncPt}
@@ -24,9 +25,20 @@ fresh_super pages uuid = record { serial = 0; size = pages; state = 0; uuid = uu
 abbrev pub super_page : ℕ → List ℕ → List ℕ
 super_page pages uuid = puts (log_super_pieces (fresh_super pages uuid)) (replicate 4096 0)
 
+-- a page outside of `count` ones from `first` on
+abbrev pub IsOutside : ℕ → ℕ → ℕ → Type 0
+IsOutside first count n = (n < first) ⊎ (first + count ≤ n)
+
 -- all pages but `count` ones from `first` on are as they were
 abbrev pub OthersStay : ℕ → ℕ → Image → Image → Type 0
-OthersStay first count old new = (n : ℕ) → (n < first) ⊎ (first + count ≤ n) → page_of new n ≡ page_of old n
+OthersStay first count old new = (n : ℕ) → IsOutside first count n → page_of new n ≡ page_of old n
+
+-- The past goes on, and at each moment since then a crash may leave of the kept pages what it might have left of them before.
+pub record HistoriesStay (kept : ℕ → Type 0) (old new : List DiskState) : Type 0 where
+  pub longer : length old ≤ length new
+  pub before : (k : ℕ) → k < length old → get_or new k [] ≡ get_or old k []
+  pub sizes : (k : ℕ) → length old ≤ k → k < length new → length (get_or new k []) ≡ length (last_of old)
+  pub pages : (k : ℕ) → length old ≤ k → k < length new → (n : ℕ) → kept n → history_of (get_or new k []) n ≡ history_of (last_of old) n
 
 -- a log of so many pages, of which the ring has all but the first two
 pub record IsFreshLog (pages : ℕ) (uuid : List ℕ) (log : Image) : Type 0 where

@@ -6,7 +6,7 @@ ghost use Rattle.jfs_disk.specs.Fault.{HasCause};
 ghost use Rattle.jfs_disk.specs.declared.disk.Part.TheVariants.{Whole};
 ghost use Rattle.jfs_disk.specs.Image.{page_of};
 ghost use Rattle.jfs_logfmt.specs.Written.{text_of};
-ghost use Rattle.jfs_logpages.specs.Fresh.{first_record, super_page, OthersStay, IsFreshLog};
+ghost use Rattle.jfs_logpages.specs.Fresh.{first_record, super_page, IsOutside, OthersStay, HistoriesStay, IsFreshLog};
 ghost use Rattle.jfs_logpages.specs.Ring.{IsLast, IsRing, fresh_text, fresh_ends};
 
 use crate::page::put_page;
@@ -36,6 +36,7 @@ fn write_super<D: Disk>(disk: &mut D, base: u32, pages: u32, uuid: Uuid) -> Resu
     ensures pages { D.page_count disk.new ≡ D.page_count disk.old }
     ensures image { OnOk result (D.tells → page_of (D.image disk.new) (base + 1) ≡ super_page pages uuid) }
     ensures others { D.tells → OthersStay (base + 1) 1 (D.image disk.old) (D.image disk.new) }
+    ensures past { D.tells_crashes → HistoriesStay (IsOutside (base + 1) 1) (D.past disk.old) (D.past disk.new) }
     ensures cause { HasCause (D.fault_count disk.old) (D.fault_count disk.new) result }
     ensures no_memory { result ≢ Err DiskError.Memory }
 {
@@ -62,6 +63,7 @@ fn write_ring<D: Disk>(disk: &mut D, base: u32, ring: u32) -> Result<Page, DiskE
     ensures last { IfOk result (λ page. IsLast ring (ring - 1) 36 page.0 (fresh_text ring (text_of first_record)) (fresh_ends ring)) }
     ensures image { OnOk result (D.tells → IsRing ring (fresh_text ring (text_of first_record)) (fresh_ends ring) (ring - 1) (drop base (D.image disk.new))) }
     ensures others { D.tells → OthersStay (base + 2) ring (D.image disk.old) (D.image disk.new) }
+    ensures past { D.tells_crashes → HistoriesStay (IsOutside (base + 2) ring) (D.past disk.old) (D.past disk.new) }
     ensures cause { HasCause (D.fault_count disk.old) (D.fault_count disk.new) result }
     ensures no_memory { IsErrOf result DiskError.Memory → ⊥ }
 {
@@ -90,6 +92,7 @@ pub fn write_log<D: Disk>(
     ensures last { IfOk result (λ page. IsLast (pages - 2) (pages - 3) 36 page.0 (fresh_text (pages - 2) (text_of first_record)) (fresh_ends (pages - 2))) }
     ensures image { OnOk result (D.tells → IsFreshLog pages uuid (drop base (D.image disk.new))) }
     ensures others { D.tells → OthersStay (base + 1) (pages - 1) (D.image disk.old) (D.image disk.new) }
+    ensures past { D.tells_crashes → HistoriesStay (IsOutside (base + 1) (pages - 1)) (D.past disk.old) (D.past disk.new) }
     ensures cause { HasCause (D.fault_count disk.old) (D.fault_count disk.new) result }
     ensures no_memory { IsErrOf result DiskError.Memory → ⊥ }
 {
@@ -110,8 +113,11 @@ pub fn write_fresh<D: Disk>(disk: &mut D, log: Pxd, uuid: Uuid) -> Result<(), Fa
     // At Ok the log is fresh; other pages never change, nor does the log's first one, which isn't used.
     ensures image { OnOk result (D.tells → IsFreshLog log.len uuid (drop log.addr (D.image disk.new))) }
     ensures others { D.tells → OthersStay (log.addr + 1) (log.len - 1) (D.image disk.old) (D.image disk.new) }
+    // The same of what a crash leaves of other pages, at each moment since the start.
+    ensures past { D.tells_crashes → HistoriesStay (IsOutside (log.addr + 1) (log.len - 1)) (D.past disk.old) (D.past disk.new) }
     ensures cause { IfErr result (λ fault. Rose (D.fault_count disk.old) (D.fault_count disk.new) × (fault ≡ record { part = Whole; count = D.fault_count disk.new })) }
     ensures quiet { OnOk result (D.fault_count disk.new ≡ D.fault_count disk.old) }
+    ensures later { D.fault_count disk.old ≤ D.fault_count disk.new }
 {
     let _pages = disk.pages();
     match write_log(disk, log.addr as u32, log.len, uuid) {

@@ -1,9 +1,10 @@
-use Rattle.std.proofs.Common.{◌≡◌, ◌+◌, ◌-◌, ℕ, List, length, drop, refl, ◌∙◌, arith, subst, sym, ap}
+use Rattle.std.proofs.Common.{◌≡◌, ◌<◌, ◌+◌, ◌-◌, ℕ, List, length, drop, refl, ◌∙◌, inl, inr, arith, subst, sym, ap}
 use Rattle.std.proofs.lemmas.List.{length-replicate, get_or-replicate}
 use Rattle.jfs_bits.specs.Field.{put_bytes}
 use Rattle.jfs_bits.specs.Piece.{puts}
 use Rattle.jfs_logfmt.specs.Written.{text_of}
-use Rattle.jfs_logpages.specs.Fresh.{first_record}
+use Rattle.jfs_logpages.specs.Fresh.{first_record, IsOutside}
+use Rattle.jfs_logpages.proofs.Histories.{histories-same, histories-join, histories-written, histories-failed}
 use Rattle.jfs_logpages.specs.Ring.{IsWritten, ring_pieces, fresh_text, fresh_ends}
 use Rattle.jfs_logpages.proofs.Filled.{blank-put, blank-written, fresh-last, fresh-is-last, fresh-is-ring, put-more, page_of-log, others-put}
 use Rattle.jfs_logpages.proofs.fresh.write_ring.Goals as goal
@@ -14,6 +15,10 @@ long text e size = sym (ap (λ (b : List ℕ). length b) e) ∙ size
 put : (ring : ℕ) (text old page : List ℕ) → text ≡ text_of first_record → page ≡ puts (ring_pieces (ring - 1) 44) (put_bytes (8 + 0) text old) → page ≡ puts (ring_pieces (ring - 1) 44) (put_bytes (8 + 0) (text_of first_record) old)
 put ring text old page e is = is ∙ ap (λ (b : List ℕ). puts (ring_pieces (ring - 1) 44) (put_bytes (8 + 0) b old)) e
 
+inside : (first count k : ℕ) → k < count → IsOutside first count (first + k) → ⊥
+inside first count k h (inl low) = omega (arith, low)
+inside first count k h (inr high) = omega (arith, high, h)
+
 pub loop-q-init : goal.loop-q-init
 loop-q-init g c = record {
   blank = rw c.zeros-page.ensures (length-replicate {A = ℕ} 4096 0, λ i h. get_or-replicate {A = ℕ} 4096 (8 + i) 0 0 (omega arith));
@@ -21,6 +26,7 @@ loop-q-init g c = record {
   faults = refl;
   written = λ t k h. absurd (omega arith);
   others = λ t n side. refl;
+  past = λ k. histories-same _ (g.D.Disk.past c.args.disk.now);
 }
 
 pub loop-q-preserved : goal.loop-q-preserved
@@ -36,6 +42,8 @@ loop-q-preserved g c =
           (omega (arith, (g.met.D.Disk.has_pages c.loop-q.disk t).number, inv.pages, c.requires.place)) (c.in_ok-write.ensures.image t)
           (blank-written c.args.ring c.loop-q.q (text_of first_record) old page (omega arith) (omega arith) inv.blank c.put_page.ensures.bytes) (inv.written t);
       others = λ t. others-put (c.args.base + 2) c.args.ring (c.args.base + 2 + c.loop-q.q) _ _ _ page (omega arith) (omega arith) (c.in_ok-write.ensures.image t) (inv.others t);
+      past = λ k. histories-join _ (g.D.Disk.past c.args.disk.now) (g.D.Disk.past c.loop-q.disk) (g.D.Disk.past c.write.new.self) (g.met.D.Disk.has_state c.args.disk.now k) (inv.past k)
+          (histories-written _ (g.D.Disk.past c.loop-q.disk) (g.D.Disk.past c.write.new.self) (c.args.base + 2 + c.loop-q.q) page (inside (c.args.base + 2) c.args.ring c.loop-q.q (omega arith)) (c.in_ok-write.ensures.past k));
     }
 
 pub returns-in_err-write-clause-others : goal.returns-in_err-write-clause-others
@@ -64,3 +72,18 @@ returns-clause-image g c = λ t.
     (λ k h. inv.written t k (omega arith)) in
     fresh-is-ring c.args.ring text ends (drop c.args.base (g.D.Disk.image c.write-2.new.self)) c.requires.ring
     (λ k h. subst (λ (page : List ℕ). IsWritten text ends k page) (sym (page_of-log c.args.base k (g.D.Disk.image c.write-2.new.self))) (all k (omega arith)))
+
+pub returns-in_err-write-clause-past : goal.returns-in_err-write-clause-past
+returns-in_err-write-clause-past g c = λ k.
+    histories-join _ (g.D.Disk.past c.args.disk.now) (g.D.Disk.past c.loop-q.disk) (g.D.Disk.past c.write.new.self) (g.met.D.Disk.has_state c.args.disk.now k) (c.loop-q.invariant.past k)
+    (histories-failed _ (g.D.Disk.past c.loop-q.disk) (g.D.Disk.past c.write.new.self) (c.args.base + 2 + c.loop-q.q) _ (inside (c.args.base + 2) c.args.ring c.loop-q.q (omega arith)) (c.in_err-write.ensures.past_failed k))
+
+pub returns-in_err-write-2-clause-past : goal.returns-in_err-write-2-clause-past
+returns-in_err-write-2-clause-past g c = λ k.
+    histories-join _ (g.D.Disk.past c.args.disk.now) (g.D.Disk.past c.loop-q.disk) (g.D.Disk.past c.write-2.new.self) (g.met.D.Disk.has_state c.args.disk.now k) (c.loop-q.invariant.past k)
+    (histories-failed _ (g.D.Disk.past c.loop-q.disk) (g.D.Disk.past c.write-2.new.self) (c.args.base + 2 + (c.args.ring - 1)) _ (inside (c.args.base + 2) c.args.ring (c.args.ring - 1) (omega (arith, c.requires.ring))) (c.in_err-write-2.ensures.past_failed k))
+
+pub returns-clause-past : goal.returns-clause-past
+returns-clause-past g c = λ k.
+    histories-join _ (g.D.Disk.past c.args.disk.now) (g.D.Disk.past c.loop-q.disk) (g.D.Disk.past c.write-2.new.self) (g.met.D.Disk.has_state c.args.disk.now k) (c.loop-q.invariant.past k)
+    (histories-written _ (g.D.Disk.past c.loop-q.disk) (g.D.Disk.past c.write-2.new.self) (c.args.base + 2 + (c.args.ring - 1)) _ (inside (c.args.base + 2) c.args.ring (c.args.ring - 1) (omega (arith, c.requires.ring))) (c.in_ok-write-2.ensures.past k))

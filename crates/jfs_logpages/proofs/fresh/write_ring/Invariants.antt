@@ -1,7 +1,7 @@
 use Rattle.std.proofs.Common.{◌≡◌, ◌<◌, ◌+◌, ℕ}
 use Rattle.jfs_disk.specs.Image.{page_of}
 use Rattle.jfs_logfmt.specs.Written.{text_of}
-use Rattle.jfs_logpages.specs.Fresh.{first_record, OthersStay}
+use Rattle.jfs_logpages.specs.Fresh.{first_record, IsOutside, OthersStay, HistoriesStay}
 use Rattle.jfs_logpages.specs.Ring.{IsWritten, fresh_text, fresh_ends}
 use Rattle.jfs_logpages.proofs.Filled.{IsBlank}
 use Rattle.jfs_logpages.proofs.fresh.write_ring.Given as goal
@@ -13,4 +13,5 @@ invariant-loop-q g l = record {
   faults : g.D.Disk.fault_count l.disk ≡ g.D.Disk.fault_count l.initial.disk;
   written : g.D.Disk.tells → (k : ℕ) → k < l.q → IsWritten (fresh_text l.ring (text_of first_record)) (fresh_ends l.ring) k (page_of (g.D.Disk.image l.disk) (l.base + 2 + k));
   others : g.D.Disk.tells → OthersStay (l.base + 2) l.ring (g.D.Disk.image l.initial.disk) (g.D.Disk.image l.disk);
+  past : g.D.Disk.tells_crashes → HistoriesStay (IsOutside (l.base + 2) l.ring) (g.D.Disk.past l.initial.disk) (g.D.Disk.past l.disk);
 }
