@@ -1,6 +1,7 @@
 -- A page of an extent tree. (JFS Layout, xtree: a header of two slots, then entries of 16 bytes.)
-use Rattle.std.specs.Prelude.{◌≡◌, ◌⊎◌, ◌<◌, ◌≤◌, ℕ, zero, suc, ◌+◌, ◌-◌, ◌*◌, ◌%◌, ◌==◌, if◌then◌else◌, List, [], ◌∷◌, Option, Some, None}
+use Rattle.std.specs.Prelude.{◌≡◌, ◌⊎◌, ◌<◌, ◌≤◌, ℕ, zero, suc, ◌+◌, ◌-◌, ◌*◌, ◌/◌, ◌%◌, ◌==◌, Bool, false, true, nat_le, length, if◌then◌else◌, List, [], ◌∷◌, Option, Some, None}
 use Rattle.jfs_bits.specs.declared.extent.Xad.{Xad}
+use Rattle.jfs_bits.specs.declared.descriptor.Pxd.{Pxd}
 use Rattle.jfs_bits.specs.declared.rule.Rule.{Rule}
 use Rattle.jfs_bits.specs.declared.rule.Rule.TheVariants as rules
 use Rattle.jfs_bits.specs.Broken.{AllHold}
@@ -81,3 +82,36 @@ IsXtPage form bytes = AllHold (Holds form bytes) xt_rules
 abbrev pub IsLastAt : List ℕ → ℕ → Option ℕ → Type 0
 IsLastAt bytes offset (Some i) = (i < count_of bytes) × ((entry_of bytes i).offset ≤ offset) × ((j : ℕ) → i < j → j < count_of bytes → offset < (entry_of bytes j).offset)
 IsLastAt bytes offset None = (j : ℕ) → j < count_of bytes → offset < (entry_of bytes j).offset
+
+-- extents rise from a block of the file on, and don't overlap
+abbrev pub rises_from : ℕ → List Xad → Bool
+rises_from low [] = true
+rises_from low (x ∷ xs) = if nat_le low x.offset then rises_from (end_of x) xs else false
+
+-- ---- what the calls make
+
+-- the slots lie within the bytes
+pub record IsLaidOut (bytes : List ℕ) : Type 0 where
+  pub least : 2 ≤ field_of bytes 18 2
+  pub most : field_of bytes 18 2 ≤ field_of bytes 20 2
+  pub within : 16 * field_of bytes 20 2 ≤ length bytes
+
+-- the slots of a new page
+abbrev pub slots_of : XtForm → ℕ
+slots_of Root = 18
+slots_of Full = 256
+slots_of Small = 6
+
+-- a leaf has bit 2, an inner page bit 4; the other bits stay
+abbrev pub kind_flag : ℕ → Bool → ℕ
+kind_flag flag leaf = flag / 8 * 8 + flag % 2 + (if leaf then 2 else 4)
+
+-- a root has the bits 1 and 0x80 beside its kind
+abbrev pub new_flag : XtForm → Bool → ℕ
+new_flag Root leaf = 129 + (if leaf then 2 else 4)
+new_flag Full leaf = if leaf then 2 else 4
+new_flag Small leaf = 129 + (if leaf then 2 else 4)
+
+-- a page without entries, which has no neighbours yet
+abbrev pub new_head : XtForm → Bool → Pxd → XtHead
+new_head form leaf at = record { next = 0; prev = 0; flag = new_flag form leaf; nextindex = 2; maxentry = slots_of form; at = at }

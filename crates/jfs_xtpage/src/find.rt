@@ -1,6 +1,6 @@
 //! The entries of a page, and the one at an offset.
 
-ghost use Rattle.std.specs.Prelude.{◌≡◌, ◌<◌, ◌≤◌, ◌+◌, ◌*◌, ◌-◌, ◌/◌, ℕ, length};
+ghost use Rattle.std.specs.Prelude.{◌≡◌, ◌<◌, ◌≤◌, ◌+◌, ◌*◌, ◌-◌, ◌/◌, ℕ, length, IfSome};
 ghost use Rattle.jfs_bits.specs.Extent.{FitsXad};
 ghost use Rattle.jfs_xtpage.specs.Page.{entry_of, count_of, IsRising, IsLastAt};
 
@@ -15,12 +15,12 @@ pub fn xt_entry(bytes: &[u8], i: u16) -> Xad
     get_xad(bytes, 32 + 16 * usize::from(i))
 }
 
-/// The last entry that isn't past the offset, by binary search; `None` exactly where each one is past it.
+/// The last entry that isn't past the offset, by binary search, where offsets rise; `None` exactly where each one is past it.
 pub fn xt_find(bytes: &[u8], offset: u64) -> Option<u16>
     requires within { 32 + 16 * count_of bytes.now ≤ length bytes.now }
     requires size { 32 ≤ length bytes.now }
-    requires rising { IsRising bytes.now (count_of bytes.now) }
-    ensures { IsLastAt bytes.now offset result }
+    ensures place { IfSome result (λ i. i < count_of bytes.now) }
+    ensures last { IsRising bytes.now (count_of bytes.now) → IsLastAt bytes.now offset result }
 {
     let mut low = 0;
     let mut high = get_u16(bytes, 18).saturating_sub(2);
