@@ -35,6 +35,9 @@ pub trait PageForm {
     /// What can be a key on a page.
     ghost is_key: { Self.Key → Type 0 };
 
+    /// The form is one of a root, which takes fewer entries than a page.
+    ghost is_root: { Self → Type 0 };
+
     /// The form of the pages below a root.
     ghost below: { Self → Self };
 
@@ -104,6 +107,7 @@ pub trait PageForm {
     /// Moves what a full root has to a page, `q`, and keeps one child.
     fn move_down(&self, pages: &Self, q: u32, root: &mut [u8], page: &mut [u8])
         requires size { (length root.old ≡ size self.now) × (length page.old ≡ size pages.now) }
+        requires top { is_root self.now }
         requires pages { below self.now ≡ pages.now }
         requires within { q < blocks self.now }
         requires full { is_full self.now root.old }

@@ -62,6 +62,7 @@ pub fn add_entry<V: PageView, F: PageForm>(
     requires root { length root.old ≡ F.PageForm.size top.now }
     requires bound { (F.PageForm.blocks top.now ≡ V.PageView.block_count view.old) × (F.PageForm.blocks form.now ≡ V.PageView.block_count view.old) }
     requires size { F.PageForm.size form.now ≡ 4096 }
+    requires top { F.PageForm.is_root top.now }
     requires pages { F.PageForm.below top.now ≡ form.now }
     requires good { (F.PageForm.is_good top.now x.now) × (F.PageForm.is_good form.now x.now) }
     requires enough { 8 ≤ length fresh.old.items }
@@ -104,6 +105,7 @@ fn root_takes_grown<F: PageForm>(
     requires root { length root.old ≡ F.PageForm.size top.now }
     requires bound { F.PageForm.blocks form.now ≡ F.PageForm.blocks top.now }
     requires size { F.PageForm.size form.now ≡ 4096 }
+    requires top { F.PageForm.is_root top.now }
     requires pages { F.PageForm.below top.now ≡ form.now }
     requires child { IfSome grown.sibling (λ s. s.page < F.PageForm.blocks top.now) }
     requires key { IfSome grown.sibling (λ s. F.PageForm.is_key s.key) }

@@ -22,6 +22,7 @@ pub(crate) fn root_takes_here<F: PageForm>(
 ) -> Result<(), TreeError>
     requires root { length root.old ≡ F.PageForm.size top.now }
     requires size { F.PageForm.size form.now ≡ 4096 }
+    requires top { F.PageForm.is_root top.now }
     requires pages { F.PageForm.below top.now ≡ form.now }
     requires good { (F.PageForm.is_good top.now x.now) × (F.PageForm.is_good form.now x.now) }
     requires enough { 0 < length fresh.old.items }
@@ -51,6 +52,7 @@ fn moves_with_entry<F: PageForm>(
 ) -> Result<(), TreeError>
     requires root { length root.old ≡ F.PageForm.size top.now }
     requires size { F.PageForm.size form.now ≡ 4096 }
+    requires top { F.PageForm.is_root top.now }
     requires pages { F.PageForm.below top.now ≡ form.now }
     requires good { F.PageForm.is_good form.now x.now }
     requires full { F.PageForm.is_full top.now root.old }
@@ -89,6 +91,7 @@ pub(crate) fn root_takes_child<F: PageForm>(
     requires root { length root.old ≡ F.PageForm.size top.now }
     requires bound { F.PageForm.blocks form.now ≡ F.PageForm.blocks top.now }
     requires size { F.PageForm.size form.now ≡ 4096 }
+    requires top { F.PageForm.is_root top.now }
     requires pages { F.PageForm.below top.now ≡ form.now }
     requires child { child.page < F.PageForm.blocks top.now }
     requires key { F.PageForm.is_key child.key }
@@ -130,6 +133,7 @@ fn moves_with_child<F: PageForm>(
     requires root { length root.old ≡ F.PageForm.size top.now }
     requires bound { F.PageForm.blocks form.now ≡ F.PageForm.blocks top.now }
     requires size { F.PageForm.size form.now ≡ 4096 }
+    requires top { F.PageForm.is_root top.now }
     requires pages { F.PageForm.below top.now ≡ form.now }
     requires child { child.page < F.PageForm.blocks top.now }
     requires key { F.PageForm.is_key child.key }
