@@ -1,10 +1,11 @@
 -- How text at the end of bytes is cut into its data and its descriptor.
-use Rattle.std.proofs.Common.{◌≡◌, ◌≤◌, ◌+◌, ◌-◌, ℕ, true, false, List, ◌++◌, length, take, drop, Option, Some, Result, Ok, Err, sym, ap, subst, ◌∙◌, append_assoc, arith}
+use Rattle.std.proofs.Common.{◌≡◌, ◌≤◌, ◌+◌, ◌-◌, ℕ, true, false, List, ◌++◌, length, take, drop, Option, Some, None, Result, Ok, Err, sym, ap, subst, ◌∙◌, append_assoc, arith}
 use Rattle.std.specs.Prelude.{nat_lt, IfOk}
 use Rattle.std.proofs.lemmas.List.{take_at, drop_at, take-append-drop, length-append}
 use Rattle.std.proofs.lemmas.Bool.Decides.{nat_tests}
 use Rattle.jfs_bits.specs.declared.rule.Rule.{Rule}
 use Rattle.jfs_bits.specs.Broken.{IsFirstBroken}
+use Rattle.jfs_bits.proofs.Broken.{same_broken}
 use Rattle.jfs_logfmt.specs.declared.descriptor.Descriptor.{Descriptor}
 use Rattle.jfs_logfmt.specs.declared.kind.RecordType.{RecordType}
 use Rattle.jfs_logfmt.specs.declared.log_record.Record.{Record}
@@ -60,7 +61,7 @@ cut bytes front text r e s =
     }
 
 -- a record of the volume at the end of bytes breaks no rule, whatever stands before it
-none_is_broken : (blocks : ℕ) (bytes front text : List ℕ) (r : Record) → bytes ≡ front ++ text → Spells text r → IsRecordOf blocks r → (rule : Rule) → FirstBroken blocks bytes rule → ⊥
+pub none_is_broken : (blocks : ℕ) (bytes front text : List ℕ) (r : Record) → bytes ≡ front ++ text → Spells text r → IsRecordOf blocks r → (rule : Rule) → FirstBroken blocks bytes rule → ⊥
 none_is_broken blocks bytes front text r e spells sound rule broken =
     let c = cut bytes front text r e spells in
     let d = descriptor_of (tail_of bytes) in
@@ -82,3 +83,17 @@ reads_it blocks bytes (Ok x) start found broken front text r e spells sound =
 reads_it blocks bytes (Err errors.Memory) start found broken front text r e spells sound = tt
 reads_it blocks bytes (Err (errors.Bad b)) start found broken front text r e spells sound =
     absurd (none_is_broken blocks bytes front text r e spells sound b.rule broken)
+
+-- bytes end with one record at most, and break one rule first
+pub one_at_end : (bytes front text : List ℕ) (r : Record) (other_front other_text : List ℕ) (s : Record) → bytes ≡ front ++ text → Spells text r → bytes ≡ other_front ++ other_text → Spells other_text s → (r ≡ s) × (length front ≡ length other_front)
+one_at_end bytes front text r other_front other_text s e spells f others =
+    let c = cut bytes front text r e spells in
+    let d = cut bytes other_front other_text s f others in
+    (said_once (descriptor_of (tail_of bytes)) (body_of bytes) r s c.says d.says, omega (arith, c.start, d.start))
+
+pub one_broken : (blocks : ℕ) (bytes : List ℕ) (one other : Rule) → FirstBroken blocks bytes one → FirstBroken blocks bytes other → one ≡ other
+one_broken blocks bytes one other first second = by (type_before bytes) first second
+  where
+    by : (of : Option RecordType) → IsFirstOf of blocks bytes one → IsFirstOf of blocks bytes other → one ≡ other
+    by None a b = a ∙ sym b
+    by (Some of) a b = same_broken (Keeps of blocks (length bytes - 36) (descriptor_of (tail_of bytes)) (body_of bytes)) record_rules one other a b

@@ -15,3 +15,5 @@ pub mod Records
 pub mod Places
 pub mod Judged
 pub mod Answered
+pub mod Stops
+pub mod OneAnswer

@@ -153,7 +153,7 @@ bodies-same : (ring : ℕ) (a b : Image) (first n : ℕ) → ((k : ℕ) → k < 
 bodies-same ring a b first zero same = refl
 bodies-same ring a b first (suc n) same = rw (bodies-same ring a b first n (λ k h. same k (omega (arith, h))), same n (omega arith)) refl
 
-text-same : (ring : ℕ) (a b : Image) (first n : ℕ) → ((k : ℕ) → k < n → slot ring b (first + k) ≡ slot ring a (first + k)) → text_of ring b first n ≡ text_of ring a first n
+pub text-same : (ring : ℕ) (a b : Image) (first n : ℕ) → ((k : ℕ) → k < n → slot ring b (first + k) ≡ slot ring a (first + k)) → text_of ring b first n ≡ text_of ring a first n
 text-same ring a b first zero same = refl
 text-same ring a b first (suc n) same =
     rw (bodies-same ring a b first n (λ k h. same k (omega (arith, h))), text-same ring a b first n (λ k h. same k (omega (arith, h))), same n (omega arith)) refl
