@@ -1,0 +1,11 @@
+pub mod Sums
+pub mod Owned
+pub mod Framed
+pub mod Homes
+pub mod Blocks
+pub mod Found
+pub mod Edited
+pub mod Set
+pub mod Drop
+pub mod Extent
+pub mod Data

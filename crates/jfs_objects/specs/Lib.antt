@@ -1,0 +1,8 @@
+-- what the clauses say
+pub mod Readers
+pub mod Volume
+pub mod Objects
+pub mod Owners
+pub mod Contents
+pub mod Changes
+pub mod Laws
