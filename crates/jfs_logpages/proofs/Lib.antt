@@ -17,3 +17,4 @@ pub mod Judged
 pub mod Answered
 pub mod Stops
 pub mod OneAnswer
+pub mod Begun

@@ -1,14 +1,14 @@
 -- A log as it is made: its superblock, and a ring with one record.
 use Rattle.std.specs.Prelude.{◌≡◌, ◌<◌, ◌≤◌, ◌+◌, ◌-◌, ◌⊎◌, ℕ, List, [], ◌∷◌, ◌++◌, length, get_or, replicate, codes}
 use Rattle.jfs_disk.specs.Image.{Image, page_of}
-use Rattle.jfs_disk.specs.Crash.{DiskState, history_of, last_of}
+use Rattle.jfs_disk.specs.Crash.{DiskState, history_of, last_of, torn, AllSince, Leaves}
 use Rattle.jfs_bits.specs.Piece.{puts}
 use Rattle.jfs_logfmt.specs.declared.log_record.Record.{Record}
 use Rattle.jfs_logfmt.specs.declared.log_record.Record.TheVariants.{SyncPt}
 use Rattle.jfs_logfmt.specs.declared.log_super.LogSuper.{LogSuper}
 use Rattle.jfs_logfmt.specs.Super.{log_super_pieces}
 use Rattle.jfs_logfmt.specs.Written.{text_of}
-use Rattle.jfs_logpages.specs.Ring.{IsRing, fresh_text, fresh_ends}
+use Rattle.jfs_logpages.specs.Ring.{IsWritten, IsRing, fresh_text, fresh_ends}
 
 -- redo begins at this record
 abbrev pub first_record : Record
@@ -39,6 +39,25 @@ pub record HistoriesStay (kept : ℕ → Type 0) (old new : List DiskState) : Ty
   pub before : (k : ℕ) → k < length old → get_or new k [] ≡ get_or old k []
   pub sizes : (k : ℕ) → length old ≤ k → k < length new → length (get_or new k []) ≡ length (last_of old)
   pub pages : (k : ℕ) → length old ≤ k → k < length new → (n : ℕ) → kept n → history_of (get_or new k []) n ≡ history_of (last_of old) n
+
+-- page n of a fresh log of so many pages that begins at page `base`: its superblock's, or one of its ring
+abbrev pub IsFreshPage : ℕ → ℕ → List ℕ → ℕ → List ℕ → Type 0
+IsFreshPage base pages uuid n page =
+    ((n ≡ base + 1) × (page ≡ super_page pages uuid))
+    ⊎ ((q : ℕ) × (q < pages - 2) × (n ≡ base + 2 + q) × IsWritten (fresh_text (pages - 2) (text_of first_record)) (fresh_ends (pages - 2)) q page)
+
+-- While a log is made: each page is as it was, or it is front sectors of the fresh one and then the rest of what was there, up to all 8 sectors.
+-- (So no more can be said of what the ring reads as: old pages among the fresh ones may belong to no ring that was written.)
+abbrev pub IsPartlyFresh : ℕ → ℕ → List ℕ → Image → Image → Type 0
+IsPartlyFresh base pages uuid old left =
+    (n : ℕ) → (page_of left n ≡ page_of old n)
+    ⊎ ((fresh : List ℕ) × (sectors : ℕ) × IsFreshPage base pages uuid n fresh × (sectors ≤ 8) × (page_of left n ≡ torn sectors fresh (page_of old n)))
+
+-- for the prover: so many pages of the ring are written, and the others, but for the superblock's, are as they were
+pub record IsBegun (base pages : ℕ) (uuid : List ℕ) (old : Image) (t done : ℕ) (past : List DiskState) : Type 0 where
+  pub since : t < length past
+  pub all : AllSince (IsPartlyFresh base pages uuid old) past t
+  pub still : (n : ℕ) → (n < base + 2) ⊎ (base + 2 + done ≤ n) → Leaves (λ left. page_of left n ≡ page_of old n) (last_of past)
 
 -- a log of so many pages, of which the ring has all but the first two
 pub record IsFreshLog (pages : ℕ) (uuid : List ℕ) (log : Image) : Type 0 where

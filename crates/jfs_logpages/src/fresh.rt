@@ -1,12 +1,14 @@
 //! A fresh log: its superblock, and a ring with one record.
 
-ghost use Rattle.std.specs.Prelude.{◌≡◌, ◌≢◌, ◌<◌, ◌≤◌, ◌+◌, ◌-◌, ◌⊎◌, ◌^◌, ℕ, length, drop, OnOk, IfOk, IfErr, IsErrOf};
+ghost use Rattle.std.specs.Prelude.{◌≡◌, ◌≢◌, ◌<◌, ◌≤◌, ◌+◌, ◌-◌, ◌⊎◌, ◌^◌, ℕ, List, length, drop, OnOk, IfOk, IfErr, IsErrOf};
 ghost use Rattle.jfs_bits.specs.Count.{Rose};
 ghost use Rattle.jfs_disk.specs.Fault.{HasCause};
 ghost use Rattle.jfs_disk.specs.declared.disk.Part.TheVariants.{Whole};
-ghost use Rattle.jfs_disk.specs.Image.{page_of};
+ghost use Rattle.jfs_disk.specs.Crash.{last_of, AllSince};
+ghost use Rattle.jfs_disk.specs.Image.{Image, page_of, ArePages};
+ghost use Rattle.jfs_disk.specs.Moment.{IsResting, now_of};
 ghost use Rattle.jfs_logfmt.specs.Written.{text_of};
-ghost use Rattle.jfs_logpages.specs.Fresh.{first_record, super_page, IsOutside, OthersStay, HistoriesStay, IsFreshLog};
+ghost use Rattle.jfs_logpages.specs.Fresh.{first_record, super_page, IsOutside, OthersStay, HistoriesStay, IsPartlyFresh, IsBegun, IsFreshLog};
 ghost use Rattle.jfs_logpages.specs.Ring.{IsLast, IsRing, fresh_text, fresh_ends};
 
 use crate::page::put_page;
@@ -37,6 +39,8 @@ fn write_super<D: Disk>(disk: &mut D, base: u32, pages: u32, uuid: Uuid) -> Resu
     ensures image { OnOk result (D.tells → page_of (D.image disk.new) (base + 1) ≡ super_page pages uuid) }
     ensures others { D.tells → OthersStay (base + 1) 1 (D.image disk.old) (D.image disk.new) }
     ensures past { D.tells_crashes → HistoriesStay (IsOutside (base + 1) 1) (D.past disk.old) (D.past disk.new) }
+    ensures all { D.tells → D.tells_crashes → (old : Image) (t done : ℕ) → ArePages (D.page_count disk.old) old → IsBegun base pages uuid old t done (D.past disk.old)
+        → AllSince (IsPartlyFresh base pages uuid old) (D.past disk.new) t }
     ensures cause { HasCause (D.fault_count disk.old) (D.fault_count disk.new) result }
     ensures no_memory { result ≢ Err DiskError.Memory }
 {
@@ -49,6 +53,7 @@ fn write_super<D: Disk>(disk: &mut D, base: u32, pages: u32, uuid: Uuid) -> Resu
         label: LABEL,
     };
     write_log_super(&s, &mut page);
+    let _size = page.bytes();
     disk.write(base + 1, &page)?;
     Ok(())
 }
@@ -64,6 +69,10 @@ fn write_ring<D: Disk>(disk: &mut D, base: u32, ring: u32) -> Result<Page, DiskE
     ensures image { OnOk result (D.tells → IsRing ring (fresh_text ring (text_of first_record)) (fresh_ends ring) (ring - 1) (drop base (D.image disk.new))) }
     ensures others { D.tells → OthersStay (base + 2) ring (D.image disk.old) (D.image disk.new) }
     ensures past { D.tells_crashes → HistoriesStay (IsOutside (base + 2) ring) (D.past disk.old) (D.past disk.new) }
+    ensures begun { IfOk result (λ _. D.tells → D.tells_crashes → (pages : ℕ) (uuid : List ℕ) (old : Image) (t : ℕ) → pages - 2 ≡ ring → ArePages (D.page_count disk.old) old
+        → IsBegun base pages uuid old t 0 (D.past disk.old) → IsBegun base pages uuid old t ring (D.past disk.new)) }
+    ensures all { D.tells → D.tells_crashes → (pages : ℕ) (uuid : List ℕ) (old : Image) (t : ℕ) → pages - 2 ≡ ring → ArePages (D.page_count disk.old) old
+        → IsBegun base pages uuid old t 0 (D.past disk.old) → AllSince (IsPartlyFresh base pages uuid old) (D.past disk.new) t }
     ensures cause { HasCause (D.fault_count disk.old) (D.fault_count disk.new) result }
     ensures no_memory { IsErrOf result DiskError.Memory → ⊥ }
 {
@@ -93,6 +102,8 @@ pub fn write_log<D: Disk>(
     ensures image { OnOk result (D.tells → IsFreshLog pages uuid (drop base (D.image disk.new))) }
     ensures others { D.tells → OthersStay (base + 1) (pages - 1) (D.image disk.old) (D.image disk.new) }
     ensures past { D.tells_crashes → HistoriesStay (IsOutside (base + 1) (pages - 1)) (D.past disk.old) (D.past disk.new) }
+    ensures moments { D.tells → D.tells_crashes → IsResting (last_of (D.past disk.old))
+        → AllSince (IsPartlyFresh base pages uuid (D.image disk.old)) (D.past disk.new) (now_of (D.past disk.old)) }
     ensures cause { HasCause (D.fault_count disk.old) (D.fault_count disk.new) result }
     ensures no_memory { IsErrOf result DiskError.Memory → ⊥ }
 {
@@ -115,6 +126,9 @@ pub fn write_fresh<D: Disk>(disk: &mut D, log: Pxd, uuid: Uuid) -> Result<(), Fa
     ensures others { D.tells → OthersStay (log.addr + 1) (log.len - 1) (D.image disk.old) (D.image disk.new) }
     // The same of what a crash leaves of other pages, at each moment since the start.
     ensures past { D.tells_crashes → HistoriesStay (IsOutside (log.addr + 1) (log.len - 1)) (D.past disk.old) (D.past disk.new) }
+    // And of the log's pages it leaves old ones, fresh ones, or fresh front sectors over old ones.
+    ensures moments { D.tells → D.tells_crashes → IsResting (last_of (D.past disk.old))
+        → AllSince (IsPartlyFresh log.addr log.len uuid (D.image disk.old)) (D.past disk.new) (now_of (D.past disk.old)) }
     ensures cause { IfErr result (λ fault. Rose (D.fault_count disk.old) (D.fault_count disk.new) × (fault ≡ record { part = Whole; count = D.fault_count disk.new })) }
     ensures quiet { OnOk result (D.fault_count disk.new ≡ D.fault_count disk.old) }
     ensures later { D.fault_count disk.old ≤ D.fault_count disk.new }

@@ -7,7 +7,7 @@ ghost use Rattle.jfs_disk.specs.Fault.{HasCause};
 ghost use Rattle.jfs_disk.specs.Moment.{IsResting, now_of};
 ghost use Rattle.jfs_bits.specs.Count.{Rose};
 ghost use Rattle.jfs_logfmt.specs.Written.{text_of};
-ghost use Rattle.jfs_logpages.specs.Fresh.{first_record, IsFreshLog, OthersStay};
+ghost use Rattle.jfs_logpages.specs.Fresh.{first_record, IsFreshLog, IsPartlyFresh, OthersStay};
 ghost use Rattle.jfs_logpages.specs.Group.{Holds, pages_of, room_of, number_after};
 ghost use Rattle.jfs_logpages.specs.Ring.{ends_with, fresh_text, fresh_ends, ReadsPrefix, ReadsWhole};
 
@@ -41,6 +41,7 @@ fn start<D: Disk>(part: &mut D, pages: u32, uuid: Uuid) -> Result<Last, DiskErro
     ensures image { OnOk result (D.tells → IsFreshLog pages uuid (D.image part.new)) }
     ensures others { D.tells → OthersStay 1 (pages - 1) (D.image part.old) (D.image part.new) }
     ensures resting { OnOk result (D.tells_crashes → IsResting (last_of (D.past part.new))) }
+    ensures moments { D.tells → D.tells_crashes → IsResting (last_of (D.past part.old)) → AllSince (IsPartlyFresh 0 pages uuid (D.image part.old)) (D.past part.new) (now_of (D.past part.old)) }
     ensures cause { HasCause (D.fault_count part.old) (D.fault_count part.new) result }
     ensures no_memory { IsErrOf result DiskError.Memory → ⊥ }
 {
@@ -71,6 +72,10 @@ impl<D: Disk> LogSide<D> {
         ensures image { IfOk result (λ side. D.tells → IsFreshLog pages uuid (D.image side.part)) }
         ensures others { IfOk result (λ side. D.tells → OthersStay 1 (pages - 1) (D.image part) (D.image side.part)) }
         ensures resting { IfOk result (λ side. D.tells_crashes → IsResting (last_of (D.past side.part))) }
+
+        // At each moment since the start, also after a failure, a crash leaves old pages, fresh ones, and fresh front sectors over old pages.
+        ensures moments { IfOk result (λ side. D.tells → D.tells_crashes → IsResting (last_of (D.past part)) → AllSince (IsPartlyFresh 0 pages uuid (D.image part)) (D.past side.part) (now_of (D.past part))) }
+        ensures moments_failed { IfErr result (λ refused. D.tells → D.tells_crashes → IsResting (last_of (D.past part)) → AllSince (IsPartlyFresh 0 pages uuid (D.image part)) (D.past refused.part) (now_of (D.past part))) }
 
         ensures handed_back { IfErr result (λ refused. (D.page_count refused.part ≡ D.page_count part) × (D.tells → OthersStay 1 (pages - 1) (D.image part) (D.image refused.part))) }
         ensures cause { IfErr result (λ refused. Rose (D.fault_count part) (D.fault_count refused.part) × (refused.why.fault ≡ record { part = High; count = D.fault_count refused.part })) }
