@@ -1,0 +1,3 @@
+-- what the clauses say
+pub mod Call
+pub mod Refusal
