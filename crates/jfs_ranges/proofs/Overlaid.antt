@@ -110,3 +110,15 @@ apply_edit-untouched n (Lines p kind first bytes) page size h = overlaid-none (p
 apply_edit-untouched n (NoRedo p) page size h = refl
 apply_edit-untouched n (Alloc p) page size h = refl
 apply_edit-untouched n (Free p) page size h = refl
+
+-- ---- an edit keeps a page's length
+
+length-overlaid : (at : ℕ) (new : List ℕ) (place : ℕ) (xs : List ℕ) → length (overlaid at new place xs) ≡ length xs
+length-overlaid at new place [] = refl
+length-overlaid at new place (x ∷ xs) = ap (λ (n : ℕ). suc n) (length-overlaid at new (suc place) xs)
+
+pub length-apply_edit : (n : ℕ) (edit : Edit) (page : List ℕ) → length (apply_edit n edit page) ≡ length page
+length-apply_edit n (Lines p kind first bytes) page = length-overlaid (place_of_line p kind first) bytes (4096 * n) page
+length-apply_edit n (NoRedo p) page = refl
+length-apply_edit n (Alloc p) page = refl
+length-apply_edit n (Free p) page = refl

@@ -3,8 +3,10 @@
 
 mod edit;
 mod put;
+mod touched;
 mod view;
 
 pub use edit::{Edit, Tx};
-pub use put::{apply, touches};
+pub use put::{apply, apply_edit, touches};
+pub use touched::PageRange;
 pub use view::{PageView, ViewError};

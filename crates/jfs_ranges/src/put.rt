@@ -31,7 +31,8 @@ pub fn touches(tx: &Tx, n: u32) -> bool
     false
 }
 
-fn apply_edit(edit: &Edit, n: u32, page: &mut Page)
+/// Puts those bytes of an edit into page `n` that lie in it.
+pub fn apply_edit(edit: &Edit, n: u32, page: &mut Page)
     ensures { page.new.0 ≡ apply_edit n edit.now page.old.0 }
 {
     if let Edit::Lines {
@@ -101,7 +102,7 @@ fn put_slice(bytes: &mut [u8], from: usize, piece: &[u8])
 
 /// The place of a line's first byte, counted from the start of the disk.
 #[tactic(auto, unfolding(crate::specs::Apply::place_of_line))]
-fn place_of_line(page: u32, kind: PageKind, first: u32) -> u64
+pub(crate) fn place_of_line(page: u32, kind: PageKind, first: u32) -> u64
     ensures place { result ≡ place_of_line page kind first }
     ensures fits { result < 2 ^ 45 }
 {

@@ -1,0 +1,6 @@
+mod Place
+mod Room
+mod Edited
+mod Changed
+mod Among
+mod Lend

@@ -1,0 +1,22 @@
+use Rattle.std.proofs.Common.{refl, sym}
+use Rattle.jfs_pages.specs.Whole.{page_of-image_in}
+use Rattle.jfs_pages.proofs.Lend.{image-same, carries, bytes-of}
+use Rattle.jfs_pages.proofs.view.PageCachePageView.page.Goals as goal
+
+pub returns : goal.returns
+returns g c =
+    let old = c.args.self.now in
+    let new = c.get.follows.lender-at-none in
+    let facts = c.get.follows.holds-at-none in
+    let image = g.D.Disk.image in (
+      (
+        refl,
+        λ _. tt,
+        record {
+          same_blocks = facts.0;
+          same_image = λ t. image-same old.blocks new.blocks (image old.disk) (image new.disk) old.kept new.kept facts.0 (facts.3 t);
+          count = carries _ _ c.get.result facts.7;
+        },
+      ),
+      record { bytes = bytes-of c.get.result _ _ _ (sym (page_of-image_in old.blocks (image old.disk) old.kept c.args.n c.requires)) c.get.ensures.bytes; after = tt },
+    )
