@@ -3,5 +3,11 @@ pub mod Printing
 pub mod Evidence
 pub mod SuperblockLemmas
 pub mod Performing
+pub mod Looking
 pub mod Showing
+pub mod LogLines
+pub mod LogSame
+pub mod LogOnce
+pub mod LogSaid
+pub mod LogShown
 pub mod Concluding

@@ -17,27 +17,6 @@ use Rattle.jfs_command.specs.Meaning.{Meaning, Answer, LooksSame, ComesTo, EndsB
 use Rattle.jfs_command.specs.Meanings.{meaning_of}
 use Rattle.jfs_command.specs.Top.{PerformsCommand}
 
--- a command that only looks comes to the answer of what the disk holds, if pages that it doesn't look at don't decide
-pub comes_to : (looks : Held → ℕ → Type 0) (answer : Held → Answer) (tells crashes : Type 0) (held : Held) (status : Status) (work : Work)
-    → (let said : Answer = record { status = status; text = work.text } in said ≡ answer held) → ChangesNothing tells crashes held work → ((other : Held) → LooksSame (looks held) held other → answer other ≡ answer held)
-    → ComesTo (only_looks looks answer) tells crashes held status work
-comes_to looks answer tells crashes held status work says same_disk same = record {
-  says = says;
-  does = same_disk;
-  looked = λ other is. says ∙ sym (same other is);
-  one = λ other is said e. ap (λ (a : Answer). a.status) (e ∙ same other is ∙ sym says);
-}
-
--- a disk that shows the same as before
-pub shows_same : {D : Type 0} (d : DiskMembers D) (old new : D) (held : Held) (outcome : Outcome) → IsHeld d old held → (d.tells → d.image new ≡ d.image old) → (d.tells_crashes → d.past new ≡ d.past old)
-    → outcome.history.items ≡ [] → outcome.told.items ≡ [] → ChangesNothing d.tells d.tells_crashes held (work_of outcome (held_of d new))
-shows_same d old new held outcome is image past no_history no_told = record {
-  history = no_history;
-  told = no_told;
-  image = λ t. image t ∙ sym (is.image t);
-  past = λ t. past t ∙ sym (is.past t);
-}
-
 -- a command without scripts leaves the sources' counts as they were, whatever they are
 any_sources : (m : Meaning) (tells crashes : Type 0) (held : Held) (work : Work) (disk : Count) (n : ℕ) (end : End) → EndsBy m tells crashes held work disk (record { before = 0; now = 0 }) end → EndsBy m tells crashes held work disk (record { before = n; now = n }) end
 any_sources m tells crashes held work disk n (Own status) (comes, own, stays, _) = (comes, own, stays, refl)

@@ -35,11 +35,11 @@ pub record Meaning : Type 1 where
   -- the work that it may have done where it is stopped on the way
   pub stops : (tells crashes : Type 0) → Held → Work → Type 0
 
--- A command that gives one answer of each disk, has no clients and changes nothing. Only a look at a page can stop it.
-abbrev pub only_looks : (Held → ℕ → Type 0) → (Held → Answer) → Meaning
-only_looks looks answer = record {
+-- A command that has no clients and changes nothing. Only a look at a page can stop it.
+abbrev pub only_looks : (Held → ℕ → Type 0) → (Held → Answer → Type 0) → Meaning
+only_looks looks says = record {
   looks = looks;
-  says = λ held a. a ≡ answer held;
+  says = says;
   does = λ tells crashes held _ work. ChangesNothing tells crashes held work;
   stops = λ tells crashes held work. ((n : ℕ) × looks held n) × (work.text ≡ []) × ChangesNothing tells crashes held work;
 }

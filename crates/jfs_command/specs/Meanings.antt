@@ -4,6 +4,8 @@ use Rattle.jfs_command.specs.declared.words.Command.TheVariants as commands
 use Rattle.jfs_command.specs.Inputs.{Inputs}
 use Rattle.jfs_command.specs.Meaning.{Meaning}
 use Rattle.jfs_command.specs.Super.{super_meaning}
+use Rattle.jfs_command.specs.Log.{log_meaning}
 
 abbrev pub meaning_of : Command → Inputs → Meaning
 meaning_of commands.Super inputs = super_meaning
+meaning_of commands.Log inputs = log_meaning

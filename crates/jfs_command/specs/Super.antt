@@ -1,5 +1,5 @@
 -- The command `super`: it prints the superblock, or names the first rule that it breaks.
-use Rattle.std.specs.Prelude.{ℕ, List, ◌++◌, codes}
+use Rattle.std.specs.Prelude.{◌≡◌, ℕ, List, ◌++◌, codes}
 use Rattle.std.specs.Fmt.{decimal}
 use Rattle.uuid.specs.Text.{lower, hyphenated_text}
 use Rattle.byteorder.specs.Endian.{little_bytes}
@@ -8,7 +8,7 @@ use Rattle.jfs_super.specs.Rules.{blocks_of}
 use Rattle.jfs_command.specs.Text.{line, pair_text, hex_text, label_text}
 use Rattle.jfs_command.specs.Held.{Held}
 use Rattle.jfs_command.specs.Meaning.{Meaning, Answer, finished, only_looks}
-use Rattle.jfs_command.specs.Superblock.{LooksAtSuper, after_superblock}
+use Rattle.jfs_command.specs.Superblock.{LooksAtSuper, AfterSuperblock}
 
 -- the ten lines of a superblock
 unfoldable pub super_text : Super → List ℕ
@@ -24,9 +24,9 @@ super_text s =
     ++ line (codes "uuid") (hyphenated_text lower s.uuid)
     ++ line (codes "label") (label_text s.label)
 
-abbrev pub super_answer : Held → Answer
-super_answer held = after_superblock held (λ s. finished (super_text s))
+abbrev pub SuperSays : Held → Answer → Type 0
+SuperSays held = AfterSuperblock held (λ s answer. answer ≡ finished (super_text s))
 
 -- it looks at page 8 alone
 abbrev pub super_meaning : Meaning
-super_meaning = only_looks LooksAtSuper super_answer
+super_meaning = only_looks LooksAtSuper SuperSays

@@ -22,13 +22,13 @@ superblock_of held = super_of (page_of held.image 8)
 abbrev pub LooksAtSuper : Held → ℕ → Type 0
 LooksAtSuper held n = (n ≡ 8) × (8 < held.pages)
 
-abbrev pub after_rules : Option BadSuper → Answer → Answer
-after_rules None next = next
-after_rules (Some bad) next = refused (BadImage 8 bad.rule bad.value)
+abbrev pub AfterRules : Option BadSuper → (Answer → Type 0) → Answer → Type 0
+AfterRules None Says answer = Says answer
+AfterRules (Some bad) Says answer = answer ≡ refused (BadImage 8 bad.rule bad.value)
 
 -- The superblock is refused at the first rule that it breaks. Where it breaks none, the command goes on.
-abbrev pub after_superblock : Held → (Super → Answer) → Answer
-after_superblock held next = after_rules (first_broken (rows (superblock_of held) held.pages)) (next (superblock_of held))
+abbrev pub AfterSuperblock : Held → (Super → Answer → Type 0) → Answer → Type 0
+AfterSuperblock held Says = AfterRules (first_broken (rows (superblock_of held) held.pages)) (Says (superblock_of held))
 
 -- ---- for the prover: what the function that looks at the superblock answers
 

@@ -4,7 +4,7 @@ use Rattle.std.specs.Str.{is_utf8, bytes_eq}
 use Rattle.std.specs.Global.{Vec}
 use Rattle.jfs_command.specs.declared.words.Usage.{Usage}
 use Rattle.jfs_command.specs.declared.words.Command.{Command}
-use Rattle.jfs_command.specs.declared.words.Command.TheVariants.{Super}
+use Rattle.jfs_command.specs.declared.words.Command.TheVariants.{Super, Log}
 use Rattle.jfs_command.specs.declared.words.PathsError.{PathsError}
 use Rattle.jfs_command.specs.declared.words.PathsError.TheVariants as errors
 
@@ -32,7 +32,10 @@ image_alone command (image ∷ more ∷ rest) = if is_name image then usage 3 el
 -- What the words ask for; else the first word that leaves the grammar, or the place after the last where one is missing.
 abbrev pub command_of : List (List ℕ) → Result Command Usage
 command_of [] = usage 1
-command_of (first ∷ rest) = if bytes_eq first (codes "super") then image_alone Super rest else usage 1
+command_of (first ∷ rest) =
+    if bytes_eq first (codes "super") then image_alone Super rest
+    else if bytes_eq first (codes "log") then image_alone Log rest
+    else usage 1
 
 -- the words leave the grammar where it says, or memory ran out
 abbrev pub UsageIs : PathsError → Result Command Usage → Type 0

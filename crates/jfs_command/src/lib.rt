@@ -2,6 +2,8 @@
 #![tactic(auto)]
 
 mod line;
+mod log;
+mod log_text;
 mod outcome;
 mod perform;
 mod print;

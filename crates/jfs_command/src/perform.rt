@@ -4,6 +4,7 @@ ghost use Rattle.std.specs.Prelude.{◌≡◌, ◌≤◌};
 ghost use Rattle.jfs_command.specs.Inputs.{source_faults};
 ghost use Rattle.jfs_command.specs.Top.{PerformsCommand};
 
+use crate::log::show_log;
 use crate::outcome::Outcome;
 use crate::show::show_super;
 use crate::words::Command;
@@ -27,5 +28,6 @@ pub fn perform<D: Disk, S: Source>(
 {
     match command {
         Command::Super => show_super(alloc, disk),
+        Command::Log => show_log(alloc, disk),
     }
 }

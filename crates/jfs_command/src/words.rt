@@ -17,6 +17,8 @@ pub struct Usage {
 pub enum Command {
     /// Print the superblock of the image.
     Super,
+    /// Print the records of the image's log.
+    Log,
 }
 
 impl Command {
@@ -75,6 +77,7 @@ pub fn read_words(words: &[Vec<u8>]) -> Result<Command, Usage>
 {
     match words {
         [first, rest @ ..] if is_word(first, b"super") => image_alone(Command::Super, rest),
+        [first, rest @ ..] if is_word(first, b"log") => image_alone(Command::Log, rest),
         _ => Err(Usage { word: 1 }),
     }
 }

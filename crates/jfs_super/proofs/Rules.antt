@@ -1,5 +1,5 @@
 -- What the rules say of a superblock that breaks none.
-use Rattle.std.proofs.Common.{◌≡◌, ◌≤◌, ◌<◌, ◌*◌, ◌%◌, ◌^◌, ℕ, Bool, true, false, count_ones, refl, arith}
+use Rattle.std.proofs.Common.{◌≡◌, ◌≤◌, ◌<◌, ◌+◌, ◌*◌, ◌%◌, ◌^◌, ℕ, Bool, true, false, count_ones, refl, arith}
 use Rattle.std.specs.Prelude.{nat_le, ◌==◌, ◌&&◌}
 use Rattle.std.specs.Int.{div_ceil, is_power_of_two}
 use Rattle.std.proofs.lemmas.Bool.{eqb-true, leb-true}
@@ -54,3 +54,11 @@ accepted_layout s pages h =
 pub accepted_pages : (s : Super) (pages : ℕ) → IsAccepted s pages → 9 ≤ pages
 unfolding rows shape_rows
 accepted_pages s pages h = leb-true 9 pages (each_holds (rows s pages) 0 (record { answer = record { rule = rules.Short; value = 0 }; holds = true }) h refl)
+
+-- an accepted superblock's log ends within the disk
+pub accepted_log : (s : Super) (pages : ℕ) → IsAccepted s pages → s.logpxd.addr + s.logpxd.len ≤ pages
+unfolding rows shape_rows flag_rows size_rows log_rows
+accepted_log s pages h =
+    let fine : Row BadSuper = record { answer = record { rule = rules.Short; value = 0 }; holds = true } in
+    let log = both (nat_le (blocks_of s) s.logpxd.addr && nat_le 256 s.logpxd.len && nat_le s.logpxd.len 32768) (ends_within s.logpxd pages) (each_holds (rows s pages) 15 fine h refl) in
+    leb-true (s.logpxd.addr + s.logpxd.len) pages log.1

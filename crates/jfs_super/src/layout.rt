@@ -1,6 +1,6 @@
 //! What a superblock says of the volume's layout.
 
-ghost use Rattle.std.specs.Prelude.{◌≡◌, ℕ};
+ghost use Rattle.std.specs.Prelude.{◌≡◌, ◌≤◌, ◌+◌, ℕ};
 ghost use Rattle.jfs_super.specs.Rules.{IsAccepted};
 ghost use Rattle.jfs_super.specs.Geometry.{geometry_of, file_limit_of, IsLayout};
 
@@ -17,6 +17,8 @@ pub fn geometry(s: &Super) -> Geometry
     requires { (pages : ℕ) × IsAccepted s.now pages }
     ensures layout { result ≡ geometry_of s.now }
     ensures bounds { IsLayout result }
+    // The log ends within the disk.
+    ensures within { (pages : ℕ) → IsAccepted s.now pages → result.log.addr + result.log.len ≤ pages }
 {
     let s = *s;
     Geometry {

@@ -1,0 +1,70 @@
+-- The command `log`: it prints the records of the log, whatever the volume's state is, or names what is wrong with the superblock or the log.
+use Rattle.std.specs.Prelude.{◌≡◌, ◌<◌, ◌+◌, ◌-◌, ◌⊎◌, ℕ, ⊤, List, ◌∷◌, length, drop, Result, Ok, Err}
+use Rattle.std.specs.Global.{Vec}
+use Rattle.jfs_bits.specs.declared.rule.Rule.{Rule}
+use Rattle.jfs_disk.specs.Image.{Image}
+use Rattle.jfs_super.specs.declared.fields.Super.{Super}
+use Rattle.jfs_super.specs.Rules.{blocks_of, IsAccepted}
+use Rattle.jfs_logpages.specs.Fresh.{own_label}
+use Rattle.jfs_logpages.specs.Ring.{Reads}
+use Rattle.jfs_logpages.specs.Back.{Met, FromSync}
+use Rattle.jfs_logpages.specs.ReadLog.{HasSuper, label_of, BreaksLog}
+use Rattle.jfs_logpages.specs.declared.error.RingError.{RingError}
+use Rattle.jfs_logpages.specs.declared.error.RingError.TheVariants as errors
+use Rattle.jfs_command.specs.declared.status.Status.TheVariants.{ForeignLog, BadLog}
+use Rattle.jfs_command.specs.declared.status.Stop.TheVariants as stops
+use Rattle.jfs_command.specs.declared.outcome.End.{End}
+use Rattle.jfs_command.specs.declared.outcome.End.TheVariants.{Own, Stopped}
+use Rattle.jfs_command.specs.Status.{IsOwn}
+use Rattle.jfs_command.specs.Count.{Count, Stays, HasRisen}
+use Rattle.jfs_command.specs.Held.{Held}
+use Rattle.jfs_command.specs.LogText.{log_text}
+use Rattle.jfs_command.specs.Meaning.{Meaning, Answer, finished, refused, only_looks}
+use Rattle.jfs_command.specs.Superblock.{superblock_of, LooksAtSuper, AfterSuperblock}
+
+-- the log's pages, and what lies behind them
+abbrev pub log_of : Held → Super → Image
+log_of held s = drop s.logpxd.addr held.image
+
+-- a page of the log; its first one isn't used
+abbrev pub IsLogPage : Super → ℕ → Type 0
+IsLogPage s n = (s.logpxd.addr < n) × (n < s.logpxd.addr + s.logpxd.len)
+
+-- page 8, where there is one, and the log of a superblock that is accepted
+abbrev pub LooksAtLog : Held → ℕ → Type 0
+LooksAtLog held n = LooksAtSuper held n ⊎ (IsAccepted (superblock_of held) held.pages × IsLogPage (superblock_of held) n)
+
+-- This project's log breaks no rule. The text of its ring begins with page number `first`; these are its records, from the place on that
+-- the newest SYNCPT gives.
+pub record HasRecords (pages blocks : ℕ) (log : Image) (first : ℕ) (text : List ℕ) (m : Met) (ms : List Met) : Type 0 where
+  pub super_block : HasSuper pages log
+  pub label : label_of log ≡ own_label
+  pub reads : Reads (pages - 2) log first text
+  pub records : FromSync (pages - 2) first blocks text m ms
+
+-- what is answered of a log of so many pages, on a volume of so many blocks
+pub data LogSays (pages blocks : ℕ) (log : Image) (answer : Answer) : Type 0 where
+  prints : (first : ℕ) → (text : List ℕ) → (m : Met) → (ms : List Met) → HasRecords pages blocks log first text m ms
+      → answer ≡ finished (log_text (pages - 2) first (length text) (m ∷ ms)) → LogSays pages blocks log answer
+  is_foreign : HasSuper pages log → (label_of log ≡ own_label → ⊥) → answer ≡ refused (ForeignLog (label_of log)) → LogSays pages blocks log answer
+  is_bad : (address : ℕ) → (rule : Rule) → BreaksLog pages blocks log address rule → answer ≡ refused (BadLog address rule) → LogSays pages blocks log answer
+
+-- it writes nothing
+abbrev pub log_meaning : Meaning
+log_meaning = only_looks LooksAtLog (λ held. AfterSuperblock held (λ s. LogSays s.logpxd.len (blocks_of s) (log_of held s)))
+
+-- ---- for the prover: what the function that reads the log answers
+
+-- how a command ends whose log was not read
+abbrev pub end_of : RingError → End
+end_of (errors.Read fault) = Stopped stops.Disk
+end_of (errors.ForeignLog label) = Own (ForeignLog label)
+end_of (errors.BadLog address rule) = Own (BadLog address rule)
+end_of errors.Memory = Stopped stops.Memory
+
+abbrev pub LogEnds : ℕ → ℕ → Image → Count → Result (Vec ℕ) End → Type 0
+LogEnds pages blocks log disk (Ok text) = LogSays pages blocks log (finished text.items) × Stays disk
+LogEnds pages blocks log disk (Err (Own status)) = LogSays pages blocks log (refused status) × IsOwn status × Stays disk
+LogEnds pages blocks log disk (Err (Stopped stops.Disk)) = HasRisen disk
+LogEnds pages blocks log disk (Err (Stopped stops.Memory)) = ⊤
+LogEnds pages blocks log disk (Err (Stopped stops.Scripts)) = ⊥
