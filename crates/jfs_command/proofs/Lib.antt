@@ -6,8 +6,5 @@ pub mod Performing
 pub mod Looking
 pub mod Showing
 pub mod LogLines
-pub mod LogSame
-pub mod LogOnce
-pub mod LogSaid
 pub mod LogShown
 pub mod Concluding

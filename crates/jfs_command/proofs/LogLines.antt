@@ -1,5 +1,5 @@
 -- The lines of records that are read once more, the oldest first.
-use Rattle.std.proofs.Common.{◌≡◌, ℕ, List, [], ◌∷◌, ◌++◌, length, take, drop, map, reverse, Result, Ok, Err, OnOk, refl, sym, ap, subst, ◌∙◌, append_assoc}
+use Rattle.std.proofs.Common.{◌≡◌, ℕ, List, [], ◌∷◌, ◌++◌, length, take, drop, map, reverse, Result, Ok, Err, OnOk, refl, sym, ap, ◌∙◌, append_assoc}
 use Rattle.std.proofs.lemmas.List.{append-nil, take-append-drop, reverse-append, length-map, length-reverse}
 use Rattle.jfs_logpages.specs.Back.{Met, IsMet, AreMet, address_at}
 use Rattle.jfs_command.specs.LogText.{record_line, record_lines}

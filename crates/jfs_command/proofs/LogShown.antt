@@ -1,5 +1,5 @@
 -- The command `log` does what it means.
-use Rattle.std.proofs.Common.{◌≡◌, ◌≤◌, ◌<◌, ◌+◌, ◌-◌, ◌⊎◌, ℕ, List, [], ◌∷◌, length, drop, map, reverse, Result, Ok, Err, get_or-drop, inl, inr, refl, sym, ap, subst, ◌∙◌, arith}
+use Rattle.std.proofs.Common.{◌≡◌, ◌<◌, ◌+◌, ◌⊎◌, ℕ, List, [], ◌∷◌, length, drop, map, reverse, Result, Ok, Err, get_or-drop, inl, inr, refl, sym, ap, subst, ◌∙◌, arith}
 use Rattle.std.specs.Global.{Vec}
 use Rattle.jfs_bits.specs.Count.{Rose}
 use Rattle.jfs_disk.specs.Image.{Image, page_of, ArePages}
@@ -10,11 +10,12 @@ use Rattle.jfs_super.specs.Rules.{blocks_of, IsAccepted}
 use Rattle.jfs_super.specs.Geometry.{geometry_of}
 use Rattle.jfs_super.proofs.Rules.{accepted_pages, accepted_layout}
 use Rattle.jfs_logpages.specs.Back.{Met, AreMet}
-use Rattle.jfs_logpages.specs.Outcome.{IsReadFault}
+use Rattle.jfs_logpages.specs.Outcome.{IsReadFault, IsRefusal, TellsNothing}
 use Rattle.jfs_logpages.specs.ReadLog.{IsReadLog}
 use Rattle.jfs_logpages.specs.declared.ring_text.RingText.{RingText}
 use Rattle.jfs_logpages.specs.declared.error.RingError.{RingError}
 use Rattle.jfs_logpages.specs.declared.error.RingError.TheVariants as errors
+use Rattle.jfs_logpages.proofs.OneAnswer.{has-one, looks}
 use Rattle.jfs_command.specs.declared.status.Status.{Status}
 use Rattle.jfs_command.specs.declared.status.Status.TheVariants as statuses
 use Rattle.jfs_command.specs.declared.status.Stop.TheVariants as stops
@@ -22,32 +23,67 @@ use Rattle.jfs_command.specs.declared.outcome.End.{End}
 use Rattle.jfs_command.specs.declared.outcome.End.TheVariants.{Own, Stopped}
 use Rattle.jfs_command.specs.declared.outcome.Outcome.{Outcome}
 use Rattle.jfs_command.specs.Status.{IsOwn}
-use Rattle.jfs_command.specs.Count.{Count, Stays, HasRisen}
+use Rattle.jfs_command.specs.Count.{Count, Stays}
 use Rattle.jfs_command.specs.Held.{Held}
 use Rattle.jfs_command.specs.Meaning.{Answer, LooksSame, Performs, finished, refused}
 use Rattle.jfs_command.specs.Superblock.{superblock_of, Looks}
 use Rattle.jfs_command.specs.LogText.{log_text}
-use Rattle.jfs_command.specs.Log.{log_of, LooksAtLog, HasRecords, LogSays, prints, is_foreign, is_bad, LogEnds, end_of, log_meaning}
+use Rattle.jfs_command.specs.Log.{log_of, LooksAtLog, LogSays, prints, is_foreign, is_bad, LogEnds, end_of, log_meaning}
 use Rattle.jfs_command.proofs.Looking.{GoesOn, ShowsSame, faults_of, comes, no_memory, disk_failed, seen, goes_on}
-use Rattle.jfs_command.proofs.LogSame.{SameLog, same_says}
-use Rattle.jfs_command.proofs.LogSaid.{one_status}
 
 -- ---- the log is one that may follow a look at the superblock
+
+same_says : (pages blocks : ℕ) (a b : Image) (answer : Answer) → 2 < pages → ((n : ℕ) → 0 < n → n < pages → page_of b n ≡ page_of a n) → LogSays pages blocks a answer → LogSays pages blocks b answer
+same_says pages blocks a b answer some same (prints read is m ms from e) = prints read (looks pages blocks a b some same (Ok read) is) m ms from e
+same_says pages blocks a b answer some same (is_foreign label is e) = is_foreign label (looks pages blocks a b some same (Err (errors.ForeignLog label)) is) e
+same_says pages blocks a b answer some same (is_bad address rule is e) = is_bad address rule (looks pages blocks a b some same (Err (errors.BadLog address rule)) is) e
+
+-- the status of a refusal
+abbrev status_for : RingError → Status
+status_for (errors.ForeignLog label) = statuses.ForeignLog label
+status_for (errors.BadLog address rule) = statuses.BadLog address rule
+status_for _ = statuses.Done
+
+one_refusal : (pages blocks : ℕ) (log : Image) (a b : RingError) → 2 < pages → (TellsNothing a → ⊥) → (TellsNothing b → ⊥) → IsReadLog pages blocks log (Err a) → IsReadLog pages blocks log (Err b) → status_for a ≡ status_for b
+one_refusal pages blocks log a b some tells_a tells_b x y = by (has-one pages blocks log some (Err a) (Err b) x y)
+  where
+    by : (a ≡ b) ⊎ (TellsNothing a ⊎ TellsNothing b) → status_for a ≡ status_for b
+    by (inl same) = ap (λ (e : RingError). status_for e) same
+    by (inr (inl nothing)) = absurd (tells_a nothing)
+    by (inr (inr nothing)) = absurd (tells_b nothing)
+
+status_is : (a b : Answer) → a ≡ b → a.status ≡ b.status
+status_is a b e = ap (λ (z : Answer). z.status) e
+
+one_status : (pages blocks : ℕ) (log : Image) (a b : Answer) → 2 < pages → LogSays pages blocks log a → LogSays pages blocks log b → a.status ≡ b.status
+one_status pages blocks log a b some (prints read is m ms from e) (prints read' is' m' ms' from' e') = status_is a _ e ∙ sym (status_is b _ e')
+one_status pages blocks log a b some (prints read is m ms from e) (is_foreign label is' e') = absurd (has-one pages blocks log some (Ok read) (Err (errors.ForeignLog label)) is is')
+one_status pages blocks log a b some (prints read is m ms from e) (is_bad address rule is' e') = absurd (has-one pages blocks log some (Ok read) (Err (errors.BadLog address rule)) is is')
+one_status pages blocks log a b some (is_foreign label is e) (prints read is' m ms from e') = absurd (has-one pages blocks log some (Err (errors.ForeignLog label)) (Ok read) is is')
+one_status pages blocks log a b some (is_bad address rule is e) (prints read is' m ms from e') = absurd (has-one pages blocks log some (Err (errors.BadLog address rule)) (Ok read) is is')
+one_status pages blocks log a b some (is_foreign label is e) (is_foreign label' is' e') =
+    status_is a _ e ∙ one_refusal pages blocks log (errors.ForeignLog label) (errors.ForeignLog label') some (λ n. n) (λ n. n) is is' ∙ sym (status_is b _ e')
+one_status pages blocks log a b some (is_foreign label is e) (is_bad address rule is' e') =
+    status_is a _ e ∙ one_refusal pages blocks log (errors.ForeignLog label) (errors.BadLog address rule) some (λ n. n) (λ n. n) is is' ∙ sym (status_is b _ e')
+one_status pages blocks log a b some (is_bad address rule is e) (is_foreign label is' e') =
+    status_is a _ e ∙ one_refusal pages blocks log (errors.BadLog address rule) (errors.ForeignLog label) some (λ n. n) (λ n. n) is is' ∙ sym (status_is b _ e')
+one_status pages blocks log a b some (is_bad address rule is e) (is_bad address' rule' is' e') =
+    status_is a _ e ∙ one_refusal pages blocks log (errors.BadLog address rule) (errors.BadLog address' rule') some (λ n. n) (λ n. n) is is' ∙ sym (status_is b _ e')
 
 abbrev pub log_says : Held → Super → Answer → Type 0
 log_says held s = LogSays s.logpxd.len (blocks_of s) (log_of held s)
 
-enough : (held : Held) → IsAccepted (superblock_of held) held.pages → 3 ≤ (superblock_of held).logpxd.len
+enough : (held : Held) → IsAccepted (superblock_of held) held.pages → 2 < (superblock_of held).logpxd.len
 enough held accepted = let layout = accepted_layout (superblock_of held) held.pages accepted in let shortest = layout.shortest in omega (arith, shortest)
 
+page_behind : (image : Image) (at n : ℕ) → page_of (drop at image) n ≡ page_of image (at + n)
+page_behind image at n = get_or-drop at image n []
+
 -- the log's pages are looked at
-same_log : (a b : Held) → IsAccepted (superblock_of a) a.pages → LooksSame (LooksAtLog a) a b → SameLog (superblock_of a).logpxd.len (log_of a (superblock_of a)) (log_of b (superblock_of a))
+same_log : (a b : Held) → IsAccepted (superblock_of a) a.pages → LooksSame (LooksAtLog a) a b → (n : ℕ) → 0 < n → n < (superblock_of a).logpxd.len → page_of (log_of b (superblock_of a)) n ≡ page_of (log_of a (superblock_of a)) n
 same_log a b accepted same n some less =
-    let s = superblock_of a in
-    page_behind b.image ∙ same.each (s.logpxd.addr + n) (inr (accepted, (omega (arith, some), omega (arith, less)))) ∙ sym (page_behind a.image)
-  where
-    page_behind : (image : Image) → page_of (drop (superblock_of a).logpxd.addr image) n ≡ page_of image ((superblock_of a).logpxd.addr + n)
-    page_behind image = get_or-drop (superblock_of a).logpxd.addr image n []
+    let at = (superblock_of a).logpxd.addr in
+    page_behind b.image at n ∙ same.each (at + n) (inr (accepted, (omega (arith, some), omega (arith, less)))) ∙ sym (page_behind a.image at n)
 
 pub log_goes : GoesOn LooksAtLog log_says
 log_goes = record {
@@ -69,22 +105,14 @@ pub lines_said : (pages blocks : ℕ) (log : Image) (read : RingText) (lines : L
 lines_said pages blocks log read lines count text is made is_text stays =
     let lines_are = made (is.m ∷ is.ms) is.m.start (refl, is.records.is, is.records.behind.met) is.ends in
     let ring_is = ap (λ (ring : ℕ). log_text ring read.first (length read.bytes.items) (is.m ∷ is.ms)) is.ring in
-    (prints read.first read.bytes.items is.m is.ms (record { super_block = is.super_block; label = is.label; reads = is.text; records = is.records })
-      (ap finished (is_text ∙ lines_are ∙ ring_is)), stays)
-
--- the log was read and is refused
-abbrev pub IsRefusal : RingError → Type 0
-IsRefusal (errors.Read fault) = ⊥
-IsRefusal (errors.ForeignLog label) = Unit {0}
-IsRefusal (errors.BadLog address rule) = Unit {0}
-IsRefusal errors.Memory = ⊥
+    (prints read is is.m is.ms is.records (ap finished (is_text ∙ lines_are ∙ ring_is)), stays)
 
 -- the end of a log that was not read
 pub not_read : (pages blocks : ℕ) (log : Image) (before now : ℕ) (error : RingError) → IsReadLog pages blocks log (Err error) → IsReadFault before now error → (IsRefusal error → now ≡ before)
     → LogEnds pages blocks log (record { before = before; now = now }) (Err (end_of error))
 not_read pages blocks log before now (errors.Read fault) is cause quiet = cause.0
 not_read pages blocks log before now (errors.ForeignLog label) is cause quiet =
-    (is_foreign is.0 (λ own. is.2 (is.1 ∙ own)) (ap (λ (l : List ℕ). refused (statuses.ForeignLog l)) is.1), tt, quiet tt)
+    (is_foreign label is refl, tt, quiet tt)
 not_read pages blocks log before now (errors.BadLog address rule) is cause quiet = (is_bad address rule is refl, tt, quiet tt)
 not_read pages blocks log before now errors.Memory is cause quiet = tt
 

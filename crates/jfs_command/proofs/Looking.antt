@@ -1,7 +1,7 @@
 -- Commands that look at the superblock, go on where it is accepted, and change nothing.
-use Rattle.std.proofs.Common.{◌≡◌, ◌<◌, ◌≤◌, ℕ, List, [], Option, Some, None, Ok, Err, drop, refl, sym, ap, subst, ◌∙◌, arith}
+use Rattle.std.proofs.Common.{◌≡◌, ◌<◌, ◌≤◌, ℕ, List, [], Option, Some, Ok, Err, drop, refl, sym, ap, subst, ◌∙◌, arith}
 use Rattle.jfs_bits.specs.Broken.{first_broken}
-use Rattle.jfs_disk.specs.Image.{Image, page_of, ArePages}
+use Rattle.jfs_disk.specs.Image.{Image, ArePages}
 use Rattle.jfs_disk.specs.declared.disk.Disk.{Ghosts}
 use Rattle.jfs_super.specs.declared.fields.Super.{Super}
 use Rattle.jfs_super.specs.declared.read.BadSuper.{BadSuper}
@@ -16,10 +16,10 @@ use Rattle.jfs_command.specs.declared.outcome.Outcome.{Outcome}
 use Rattle.jfs_command.specs.Status.{IsOwn}
 use Rattle.jfs_command.specs.Count.{Count, Stays, HasRisen}
 use Rattle.jfs_command.specs.Held.{Held, IsHeld, ChangesNothing, held_of}
-use Rattle.jfs_command.specs.Meaning.{Meaning, Answer, LooksSame, ComesTo, EndsBy, Performs, only_looks, refused, work_of}
+use Rattle.jfs_command.specs.Meaning.{Meaning, Answer, LooksSame, EndsBy, Performs, only_looks, refused, work_of}
 use Rattle.jfs_command.specs.Superblock.{superblock_of, AfterRules, AfterSuperblock, Looks}
 use Rattle.jfs_command.proofs.SuperblockLemmas.{SamePage8, same_first, same_after, one_after}
-use Rattle.jfs_command.proofs.Evidence.{HasPage8, has_page8}
+use Rattle.jfs_command.proofs.Evidence.{has_page8}
 
 -- What such a command says of what a disk holds and its superblock, where that is accepted: it rests on the pages that are looked at, page 8
 -- among them, and has one status.
@@ -71,12 +71,17 @@ pub comes : {D : Type 0} (d : Ghosts D) (old new : D) (outcome : Outcome) (looks
 comes d old new outcome looks says held answer goes is same is_text said own stays is_end =
     let with_text : List ℕ → Answer = λ text. record { status = answer.status; text = text } in
     let told = subst (λ (a : Answer). AfterSuperblock held (says held) a) (sym (ap with_text is_text)) said in
-    ends_as d (looks_and looks says) old new outcome held (Own answer.status) is_end is (record {
-      says = told;
-      does = changes_nothing d old new held outcome is same;
-      looked = λ other alike. looked looks says held other (with_text outcome.text.items) goes alike told;
-      one = λ other alike x also. one_after other (says other) x answer (λ accepted a b. goes.one other x answer accepted a b) also (looked looks says held other answer goes alike said);
-    }, own, stays, refl)
+    ends_as d (looks_and looks says) old new outcome held (Own answer.status) is_end is (
+      record {
+        says = told;
+        does = changes_nothing d old new held outcome is same;
+        looked = λ other alike. looked looks says held other (with_text outcome.text.items) goes alike told;
+        one = λ other alike x also. one_after other (says other) x answer (λ accepted a b. goes.one other x answer accepted a b) also (looked looks says held other answer goes alike said);
+      },
+      own,
+      stays,
+      refl,
+    )
 
 -- a command that was stopped had looked at page 8
 stopped : {D : Type 0} (d : Ghosts D) (old new : D) (outcome : Outcome) (looks : Held → ℕ → Type 0) (says : Held → Super → Answer → Type 0) → GoesOn looks says → 9 ≤ d.page_count old → ShowsSame d old new outcome

@@ -1,19 +1,18 @@
 -- What a command's function answers is what the command means.
-use Rattle.std.proofs.Common.{◌≡◌, ℕ, List, [], inl, inr, map, refl, sym, ap, subst, ◌∙◌, arith}
+use Rattle.std.proofs.Common.{◌≡◌, ℕ, List, inl, inr, map, refl, sym, subst, arith}
 use Rattle.std.proofs.lemmas.List.{length-map}
 use Rattle.jfs_bits.specs.declared.descriptor.Moment.{Moment}
 use Rattle.jfs_disk.specs.declared.disk.Disk.{Ghosts as DiskMembers}
 use Rattle.jfs_io.specs.declared.source.Source.{Ghosts as SourceMembers}
-use Rattle.jfs_command.specs.declared.status.Status.{Status}
 use Rattle.jfs_command.specs.declared.status.Stop.TheVariants as stops
 use Rattle.jfs_command.specs.declared.outcome.End.{End}
 use Rattle.jfs_command.specs.declared.outcome.End.TheVariants.{Own, Stopped}
 use Rattle.jfs_command.specs.declared.outcome.Outcome.{Outcome}
 use Rattle.jfs_command.specs.declared.words.Command.{Command}
 use Rattle.jfs_command.specs.Count.{Count}
-use Rattle.jfs_command.specs.Held.{Held, IsHeld, Work, held_of, ChangesNothing}
+use Rattle.jfs_command.specs.Held.{Held, Work, held_of}
 use Rattle.jfs_command.specs.Inputs.{source_faults}
-use Rattle.jfs_command.specs.Meaning.{Meaning, Answer, LooksSame, ComesTo, EndsBy, Performs, only_looks, work_of}
+use Rattle.jfs_command.specs.Meaning.{Meaning, EndsBy, Performs, work_of}
 use Rattle.jfs_command.specs.Meanings.{meaning_of}
 use Rattle.jfs_command.specs.Top.{PerformsCommand}
 

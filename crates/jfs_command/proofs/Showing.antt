@@ -1,5 +1,5 @@
 -- The command `super` does what it means.
-use Rattle.std.proofs.Common.{◌≡◌, ℕ, [], Ok, refl, sym, ap, subst, ◌∙◌}
+use Rattle.std.proofs.Common.{◌≡◌, [], Ok, refl, sym, ap, ◌∙◌}
 use Rattle.jfs_disk.specs.Image.{ArePages}
 use Rattle.jfs_disk.specs.declared.disk.Disk.{Ghosts}
 use Rattle.jfs_super.specs.declared.fields.Super.{Super}

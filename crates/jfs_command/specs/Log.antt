@@ -5,10 +5,9 @@ use Rattle.jfs_bits.specs.declared.rule.Rule.{Rule}
 use Rattle.jfs_disk.specs.Image.{Image}
 use Rattle.jfs_super.specs.declared.fields.Super.{Super}
 use Rattle.jfs_super.specs.Rules.{blocks_of, IsAccepted}
-use Rattle.jfs_logpages.specs.Fresh.{own_label}
-use Rattle.jfs_logpages.specs.Ring.{Reads}
 use Rattle.jfs_logpages.specs.Back.{Met, FromSync}
-use Rattle.jfs_logpages.specs.ReadLog.{HasSuper, label_of, BreaksLog}
+use Rattle.jfs_logpages.specs.ReadLog.{IsReadAs, IsNotOwn, BreaksLog}
+use Rattle.jfs_logpages.specs.declared.ring_text.RingText.{RingText}
 use Rattle.jfs_logpages.specs.declared.error.RingError.{RingError}
 use Rattle.jfs_logpages.specs.declared.error.RingError.TheVariants as errors
 use Rattle.jfs_command.specs.declared.status.Status.TheVariants.{ForeignLog, BadLog}
@@ -34,19 +33,14 @@ IsLogPage s n = (s.logpxd.addr < n) × (n < s.logpxd.addr + s.logpxd.len)
 abbrev pub LooksAtLog : Held → ℕ → Type 0
 LooksAtLog held n = LooksAtSuper held n ⊎ (IsAccepted (superblock_of held) held.pages × IsLogPage (superblock_of held) n)
 
--- This project's log breaks no rule. The text of its ring begins with page number `first`; these are its records, from the place on that
--- the newest SYNCPT gives.
-pub record HasRecords (pages blocks : ℕ) (log : Image) (first : ℕ) (text : List ℕ) (m : Met) (ms : List Met) : Type 0 where
-  pub super_block : HasSuper pages log
-  pub label : label_of log ≡ own_label
-  pub reads : Reads (pages - 2) log first text
-  pub records : FromSync (pages - 2) first blocks text m ms
-
 -- what is answered of a log of so many pages, on a volume of so many blocks
 pub data LogSays (pages blocks : ℕ) (log : Image) (answer : Answer) : Type 0 where
-  prints : (first : ℕ) → (text : List ℕ) → (m : Met) → (ms : List Met) → HasRecords pages blocks log first text m ms
-      → answer ≡ finished (log_text (pages - 2) first (length text) (m ∷ ms)) → LogSays pages blocks log answer
-  is_foreign : HasSuper pages log → (label_of log ≡ own_label → ⊥) → answer ≡ refused (ForeignLog (label_of log)) → LogSays pages blocks log answer
+  -- this project's log breaks no rule: its records are printed, from the place on that the newest SYNCPT gives
+  prints : (read : RingText) → IsReadAs pages blocks log read → (m : Met) → (ms : List Met) → FromSync (pages - 2) read.first blocks read.bytes.items m ms
+      → answer ≡ finished (log_text (pages - 2) read.first (length read.bytes.items) (m ∷ ms)) → LogSays pages blocks log answer
+  -- it has another label
+  is_foreign : (label : List ℕ) → IsNotOwn pages log (errors.ForeignLog label) → answer ≡ refused (ForeignLog label) → LogSays pages blocks log answer
+  -- this is the first rule that it breaks, and where
   is_bad : (address : ℕ) → (rule : Rule) → BreaksLog pages blocks log address rule → answer ≡ refused (BadLog address rule) → LogSays pages blocks log answer
 
 -- it writes nothing

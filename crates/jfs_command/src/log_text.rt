@@ -119,12 +119,7 @@ fn push_owner(out: &mut String, fileset: u32, inode: u32) -> Result<(), AllocErr
     }
 }
 
-fn push_page(
-    out: &mut String,
-    kind: PageKind,
-    new_page: bool,
-    at: Pxd,
-) -> Result<(), AllocError>
+fn push_page(out: &mut String, kind: PageKind, new_page: bool, at: Pxd) -> Result<(), AllocError>
     ensures { OnOk result (string_bytes out.new ≡ string_bytes out.old ++ page_words (page_name kind new_page) at) }
 {
     out.push_str(" ")?;

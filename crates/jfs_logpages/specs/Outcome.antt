@@ -31,6 +31,13 @@ TellsNothing (errors.Read fault) = ⊤
 TellsNothing (errors.BadLog address rule) = ⊥
 TellsNothing (errors.ForeignLog label) = ⊥
 
+-- the log is refused
+abbrev pub IsRefusal : RingError → Type 0
+IsRefusal errors.Memory = ⊥
+IsRefusal (errors.Read fault) = ⊥
+IsRefusal (errors.BadLog address rule) = ⊤
+IsRefusal (errors.ForeignLog label) = ⊤
+
 -- `Read` comes only where the disk's count rose, and carries it
 abbrev pub IsReadFault : ℕ → ℕ → RingError → Type 0
 IsReadFault before now (errors.Read fault) = Rose before now × (fault ≡ record { part = Whole; count = now })

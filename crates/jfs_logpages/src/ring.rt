@@ -5,7 +5,7 @@ ghost use Rattle.jfs_bits.specs.Count.{Rose};
 ghost use Rattle.jfs_disk.specs.Fault.{HasCause};
 ghost use Rattle.jfs_disk.specs.Image.{Image, page_of};
 ghost use Rattle.jfs_logpages.specs.Fresh.{own_label};
-ghost use Rattle.jfs_logpages.specs.Outcome.{IsReadFault, IsBadLogOrFault, TellsNothing};
+ghost use Rattle.jfs_logpages.specs.Outcome.{IsReadFault, IsBadLogOrFault, TellsNothing, IsRefusal};
 ghost use Rattle.jfs_logpages.specs.ReadLog.{HasSuper, label_of, IsNotOwn, BreaksRing, IsReadLog};
 ghost use Rattle.jfs_logpages.specs.Ring.{Reads};
 ghost use Rattle.jfs_logpages.specs.Shown.{OfSome};
@@ -44,9 +44,12 @@ fn read_super<D: Disk>(disk: &mut D, base: u32, pages: u32) -> Result<(), RingEr
     requires some { 2 ≤ pages }
     ensures pages { D.page_count disk.new ≡ D.page_count disk.old }
     ensures image { D.tells → D.image disk.new ≡ D.image disk.old }
+    ensures past { D.tells_crashes → D.past disk.new ≡ D.past disk.old }
+    ensures later { D.fault_count disk.old ≤ D.fault_count disk.new }
     ensures own { OnOk result ((image : Image) × (D.tells → image ≡ D.image disk.old) × HasSuper pages (drop base image) × (label_of (drop base image) ≡ own_label)) }
     ensures other { IfErr result (λ error. (image : Image) × (D.tells → image ≡ D.image disk.old) × IsNotOwn pages (drop base image) error) }
     ensures quiet { OnOk result (D.fault_count disk.new ≡ D.fault_count disk.old) }
+    ensures refused { IfErr result (λ error. IsRefusal error → D.fault_count disk.new ≡ D.fault_count disk.old) }
     ensures cause { IfErr result (IsReadFault (D.fault_count disk.old) (D.fault_count disk.new)) }
 {
     let mut page = Page::zeros();
@@ -86,10 +89,13 @@ fn read_newest<D: Disk>(
     requires small { base + (2 + ring) < 2 ^ 32 }
     ensures pages { D.page_count disk.new ≡ D.page_count disk.old }
     ensures image { D.tells → D.image disk.new ≡ D.image disk.old }
+    ensures past { D.tells_crashes → D.past disk.new ≡ D.past disk.old }
+    ensures later { D.fault_count disk.old ≤ D.fault_count disk.new }
     ensures text { IfOk result (λ read. OfSome D.tells (D.image disk.old) (base + 1) (λ _ image. Reads ring (drop base image) read.0 read.1.items)) }
     ensures size { IfOk result (λ read. (length read.1.items ≤ 4080 * (ring / 2)) × (read.0 < 2 ^ 40)) }
     ensures none { IfErr result (λ error. OfSome D.tells (D.image disk.old) (base + 1) (λ _ image. IsBadLogOrFault (BreaksRing ring (drop base image)) error)) }
     ensures quiet { OnOk result (D.fault_count disk.new ≡ D.fault_count disk.old) }
+    ensures refused { IfErr result (λ error. IsRefusal error → D.fault_count disk.new ≡ D.fault_count disk.old) }
     ensures cause { IfErr result (IsReadFault (D.fault_count disk.old) (D.fault_count disk.new)) }
 {
     let marks = match read_marks(alloc, disk, base, ring) {
@@ -129,9 +135,12 @@ pub fn read_ring<D: Disk>(
     requires pages { (256 ≤ log.len) × (log.len ≤ 32768) }
     ensures pages { D.page_count disk.new ≡ D.page_count disk.old }
     ensures image { D.tells → D.image disk.new ≡ D.image disk.old }
+    ensures past { D.tells_crashes → D.past disk.new ≡ D.past disk.old }
+    ensures later { D.fault_count disk.old ≤ D.fault_count disk.new }
     // Of a disk that doesn't tell, there is some image by which the answer is right.
     ensures read { (image : Image) × (D.tells → image ≡ D.image disk.old) × IsReadLog log.len blocks (drop log.addr image) result }
     ensures quiet { OnOk result (D.fault_count disk.new ≡ D.fault_count disk.old) }
+    ensures refused { IfErr result (λ error. IsRefusal error → D.fault_count disk.new ≡ D.fault_count disk.old) }
     ensures cause { IfErr result (IsReadFault (D.fault_count disk.old) (D.fault_count disk.new)) }
 {
     let _pages = disk.pages();

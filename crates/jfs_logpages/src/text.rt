@@ -38,6 +38,7 @@ pub fn read_marks<D: Disk>(
     requires small { base + (2 + ring) < 2 ^ 32 }
     ensures pages { D.page_count disk.new ≡ D.page_count disk.old }
     ensures image { D.tells → D.image disk.new ≡ D.image disk.old }
+    ensures past { D.tells_crashes → D.past disk.new ≡ D.past disk.old }
     ensures size { IfOk result (λ marks. length marks.items ≡ ring) }
     ensures small { IfOk result (λ marks. (p : ℕ) → slice_index marks.items p < 2 ^ 33) }
     ensures marks { IfOk result (λ marks. OfSome D.tells (D.image disk.old) (base + 1) (λ _ image. AreMarksOf base ring marks.items image)) }
@@ -70,6 +71,7 @@ pub fn read_text<D: Disk>(
     requires first_small { first < 2 ^ 40 }
     ensures pages { D.page_count disk.new ≡ D.page_count disk.old }
     ensures image { D.tells → D.image disk.new ≡ D.image disk.old }
+    ensures past { D.tells_crashes → D.past disk.new ≡ D.past disk.old }
     ensures text { IfOk result (λ text. OfText D.tells (D.image disk.old) base ring (IsTextOf base ring first text.items)) }
     ensures size { IfOk result (λ text. length text.items ≤ 4080 * (ring / 2)) }
     ensures cause { HasCause (D.fault_count disk.old) (D.fault_count disk.new) result }

@@ -21,6 +21,7 @@ loop-place-preserved g c =
     record {
       pages = c.in_ok-read.ensures.pages ∙ inv.pages;
       image = λ t. c.in_ok-read.ensures.image t ∙ inv.image t;
+      past = λ t. c.in_ok-read.ensures.past t ∙ inv.past t;
       faults = c.in_ok-read.ensures.cause.ok ∙ inv.faults;
       size = omega (arith, ap (λ (b : List ℕ). length b) c.in-Ok.ensures.items, length-append c.loop-place.marks.items (c.mark.result ∷ []), inv.size);
       small = rw c.in-Ok.ensures.items (small-more c.loop-place.marks.items c.mark.result (2 ^ 33) c.mark.ensures.small inv.small);
@@ -32,6 +33,7 @@ pub loop-place-init : goal.loop-place-init
 loop-place-init g c = record {
   pages = refl;
   image = λ t. refl;
+  past = λ t. refl;
   size = ap (λ (b : List ℕ). length b) c.new-marks.ensures.items;
   small = λ p. rw c.new-marks.ensures.items (omega arith);
   faults = refl;

@@ -6,6 +6,7 @@ abbrev pub invariant-loop-n : goal.invariant-loop-n
 invariant-loop-n g l = record {
   pages : g.D.Disk.page_count l.disk ≡ g.D.Disk.page_count l.initial.disk;
   image : g.D.Disk.tells → g.D.Disk.image l.disk ≡ g.D.Disk.image l.initial.disk;
+  past : g.D.Disk.tells_crashes → g.D.Disk.past l.disk ≡ g.D.Disk.past l.initial.disk;
   faults : g.D.Disk.fault_count l.disk ≡ g.D.Disk.fault_count l.initial.disk;
   size : length l.text.items ≡ 4080 * l.n;
   within : l.end ≤ length l.text.items;
