@@ -1,0 +1,6 @@
+pub mod Digits
+pub mod Words
+pub mod Lines
+pub mod Reading
+pub mod Given
+pub mod Targets

@@ -1,0 +1,16 @@
+//! Scripts of clients, and the text of a history.
+#![tactic(auto)]
+
+mod error;
+mod line;
+mod number;
+mod print;
+mod reader;
+mod script;
+mod target;
+mod verb;
+mod word;
+
+pub use error::ScriptError;
+pub use print::write_entry;
+pub use script::read_script;
