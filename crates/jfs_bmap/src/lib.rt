@@ -15,8 +15,10 @@ mod reserve;
 mod settle;
 
 pub use block_map::BlockMap;
+pub use group::{greatest_run_under, map_numbers};
 pub use law::{
     map_pages_agree, only_their_pages_change, owners_change, root_is_greatest_run,
     roots_make_level_zero,
 };
+pub use map_file::write_unused;
 pub use reserve::{NoSpace, ReserveError};

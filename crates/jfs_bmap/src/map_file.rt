@@ -47,7 +47,7 @@ impl MapPages {
 }
 
 /// Writes a control page of a level that isn't in use.
-fn write_unused(level: u32, page: &mut Page)
+pub fn write_unused(level: u32, page: &mut Page)
     requires { level ≤ 2 }
     ensures { IsControl level (λ v. 0) page.new.0 }
 {

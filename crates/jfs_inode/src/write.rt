@@ -1,6 +1,6 @@
 //! Writing an inode.
 
-ghost use Rattle.std.specs.Prelude.{◌≡◌, ◌*◌, ◌<◌, length};
+ghost use Rattle.std.specs.Prelude.{◌≡◌, ◌≢◌, ◌*◌, ◌<◌, ℕ, length};
 ghost use Rattle.jfs_bits.specs.Field.{put_bytes};
 ghost use Rattle.jfs_bits.specs.Piece.{puts};
 ghost use Rattle.jfs_inode.specs.Inode.{inode_at, dinode_of, pieces, FitsDinode};
@@ -14,7 +14,10 @@ pub fn write_dinode(page: &mut Page, slot: u32, d: &Dinode)
     requires slot { slot < 8 }
     requires fits { FitsDinode d.now }
     ensures bytes { page.new.0 ≡ put_bytes (512 * slot) (puts (pieces d.now) (inode_at page.old.0 slot)) page.old.0 }
+    ensures held { inode_at page.new.0 slot ≡ puts (pieces d.now) (inode_at page.old.0 slot) }
+    ensures others { (other : ℕ) → other < 8 → other ≢ slot → inode_at page.new.0 other ≡ inode_at page.old.0 other }
     ensures read_back { dinode_of (inode_at page.new.0 slot) ≡ d.now }
+    ensures size { length page.new.0 ≡ 4096 }
 {
     let at = 512 * slot as usize;
     put_fields(&mut page.0[at..at + 512], d);

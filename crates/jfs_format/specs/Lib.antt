@@ -1,0 +1,13 @@
+-- what the clauses say
+pub mod Layout
+pub mod Root
+pub mod Inodes
+pub mod Superblock
+pub mod Volume
+pub mod Answer
+-- for the prover
+pub mod Wrote
+pub mod Map
+pub mod Leaves
+pub mod Areas
+pub mod Steps

@@ -1,0 +1,16 @@
+//! A new volume: an empty file system over all pages of a disk.
+#![tactic(auto)]
+
+mod areas;
+mod block_map;
+mod formatter;
+mod inode_map;
+mod inodes;
+mod layout;
+mod superblock;
+mod tables;
+mod volume;
+mod write;
+
+pub use formatter::{FormatError, format};
+pub use layout::Layout;
