@@ -1,7 +1,8 @@
-//! Benchmarks. With no words it does nothing; the word `disk`, `map` or `tx` picks one.
+//! Benchmarks. With no words it does nothing; the word `disk`, `inodes`, `map` or `tx` picks one.
 #![tactic(auto)]
 
 mod disk;
+mod inodes;
 mod map;
 mod tx;
 
@@ -11,6 +12,7 @@ fn main(rt: HostRuntime) -> io::Result<()> {
     for word in env::args(&rt)?.skip(1) {
         match word.as_str() {
             "disk" => disk::time_disk(&rt)?,
+            "inodes" => inodes::time_inodes(&rt)?,
             "map" => map::time_map(&rt)?,
             "tx" => tx::time_tx(&rt)?,
             _ => {}
