@@ -1,0 +1,181 @@
+//! The line of an entry for each reply.
+
+use jfs_bits::{Blob, Moment, Rule};
+use jfs_disk::{Fault, Part};
+use jfs_name::{Name, NameEntry, NameList};
+use jfs_plain::{Call, Entry, NodeKind, Refusal, Reply, Stat};
+use jfs_script::write_entry;
+use std::alloc::{AllocError, Global};
+use std::test::*;
+
+// The line of the seventh entry, of client 2's line 3.
+fn line_of(alloc: Global, reply: Reply, durable: bool) -> Result<Vec<u8>, AllocError> {
+    let entry = Entry {
+        client: 2,
+        line: 3,
+        call: Call::Sync,
+        lazy: false,
+        reply,
+    };
+    let mut text = Vec::new(alloc);
+    write_entry(alloc, &entry, 7, durable, &mut text)?;
+    Ok(text)
+}
+
+fn blob(alloc: Global, bytes: &[u8]) -> Result<Blob, AllocError> {
+    let mut blob = Blob::new(alloc);
+    blob.extend_from_slice(bytes)?;
+    Ok(blob)
+}
+
+fn names(alloc: Global) -> Result<NameList, AllocError> {
+    let mut names = NameList::new(alloc);
+    for (units, inode) in [([0x61, 0x25], 5), ([0xe4, 0x62], 6)] {
+        let mut name = Name::new(alloc);
+        name.extend_from_slice(&units)?;
+        names.push(NameEntry { name, inode })?;
+    }
+    Ok(names)
+}
+
+fn stat(kind: NodeKind, mode: u32) -> Stat {
+    Stat {
+        kind,
+        mode,
+        nlink: 2,
+        uid: 3,
+        gid: 4,
+        size: 18_446_744_073_709_551_615,
+        inode: 5,
+        mtime: Moment {
+            sec: 1000,
+            nano: 99,
+        },
+    }
+}
+
+#[test]
+fn replies(rt: HostRuntime) -> Result<(), Fail> {
+    let alloc = rt.alloc();
+    assert_eq!(rt;
+        line_of(alloc, Reply::Done, true)?.as_slice(),
+        b"7 2.3 ok +\n".as_slice()
+    );
+    assert_eq!(rt;
+        line_of(alloc, Reply::Done, false)?.as_slice(),
+        b"7 2.3 ok -\n".as_slice()
+    );
+    let bytes = Reply::Bytes(blob(alloc, &[0, 0x4f, 0xff])?);
+    assert_eq!(rt;
+        line_of(alloc, bytes, false)?.as_slice(),
+        b"7 2.3 bytes 004fff -\n".as_slice()
+    );
+    let bytes = Reply::Bytes(blob(alloc, &[])?);
+    assert_eq!(rt;
+        line_of(alloc, bytes, false)?.as_slice(),
+        b"7 2.3 bytes - -\n".as_slice()
+    );
+    let target = Reply::Target(blob(alloc, b"a b%\x7f/")?);
+    assert_eq!(rt;
+        line_of(alloc, target, false)?.as_slice(),
+        b"7 2.3 target a%20b%25%7F/ -\n".as_slice()
+    );
+    let listed = Reply::Names(names(alloc)?);
+    assert_eq!(rt;
+        line_of(alloc, listed, false)?.as_slice(),
+        b"7 2.3 names 2 a%u0025 %u00E4b -\n".as_slice()
+    );
+    let listed = Reply::Names(NameList::new(alloc));
+    assert_eq!(rt;
+        line_of(alloc, listed, false)?.as_slice(),
+        b"7 2.3 names 0 -\n".as_slice()
+    );
+    Ok(())
+}
+
+#[test]
+fn stats(rt: HostRuntime) -> Result<(), Fail> {
+    let alloc = rt.alloc();
+    for (kind, mode, wanted) in [
+        (
+            NodeKind::Dir,
+            0,
+            b"7 2.3 stat dir 0000 2 3 4 18446744073709551615 5 1000 -\n".as_slice(),
+        ),
+        (
+            NodeKind::File,
+            420,
+            b"7 2.3 stat file 0644 2 3 4 18446744073709551615 5 1000 -\n",
+        ),
+        (
+            NodeKind::Link,
+            511,
+            b"7 2.3 stat link 0777 2 3 4 18446744073709551615 5 1000 -\n",
+        ),
+        (
+            NodeKind::Other,
+            4095,
+            b"7 2.3 stat other 7777 2 3 4 18446744073709551615 5 1000 -\n",
+        ),
+    ] {
+        let text = line_of(alloc, Reply::Attr(stat(kind, mode)), false)?;
+        assert_eq!(rt; text.as_slice(), wanted);
+    }
+    Ok(())
+}
+
+#[test]
+fn refusals(rt: HostRuntime) -> Result<(), Fail> {
+    let alloc = rt.alloc();
+    let low = Fault {
+        part: Part::Low,
+        count: 3,
+    };
+    let log = Fault {
+        part: Part::High,
+        count: 1,
+    };
+    for (refusal, wanted) in [
+        (
+            Refusal::NotFound,
+            b"7 2.3 refused 1 NotFound -\n".as_slice(),
+        ),
+        (Refusal::NotDir, b"7 2.3 refused 2 NotDir -\n"),
+        (Refusal::IsDir, b"7 2.3 refused 3 IsDir -\n"),
+        (Refusal::NotFile, b"7 2.3 refused 4 NotFile -\n"),
+        (Refusal::Exists, b"7 2.3 refused 5 Exists -\n"),
+        (Refusal::NotEmpty, b"7 2.3 refused 6 NotEmpty -\n"),
+        (Refusal::TooManyLinks, b"7 2.3 refused 7 TooManyLinks -\n"),
+        (Refusal::FileTooBig, b"7 2.3 refused 8 FileTooBig -\n"),
+        (Refusal::IntoItself, b"7 2.3 refused 9 IntoItself -\n"),
+        (
+            Refusal::NoSpace { free: 79 },
+            b"7 2.3 refused 10 NoSpace 79 -\n",
+        ),
+        (Refusal::NoInodes, b"7 2.3 refused 11 NoInodes -\n"),
+        (
+            Refusal::ReadOnly { fault: log },
+            b"7 2.3 refused 12 ReadOnly log 1 -\n",
+        ),
+        (
+            Refusal::IoFault { fault: low },
+            b"7 2.3 refused 13 IoFault low 3 -\n",
+        ),
+        (Refusal::OutOfMemory, b"7 2.3 refused 14 OutOfMemory -\n"),
+        (
+            Refusal::Damaged {
+                page: 36,
+                rule: Rule::Order,
+            },
+            b"7 2.3 refused 15 Damaged 36 order -\n",
+        ),
+        (
+            Refusal::TooDeep { inode: 2 },
+            b"7 2.3 refused 16 TooDeep 2 -\n",
+        ),
+    ] {
+        let text = line_of(alloc, Reply::Refused(refusal), false)?;
+        assert_eq!(rt; text.as_slice(), wanted);
+    }
+    Ok(())
+}
