@@ -7,7 +7,7 @@ use Rattle.std.proofs.lemmas.Nat.{pow_pos}
 use Rattle.jfs_bits.specs.Bits.{is_in_run, is_free, is_free_run, has_free_run, greatest_run, count_below}
 use Rattle.jfs_bits.proofs.Buds.{any_below-none, greatest_run-none}
 use Rattle.jfs_bits.proofs.Runs.{is_free-at}
-use Rattle.jfs_bits.proofs.Counts.{in_run, behind_run}
+use Rattle.jfs_bits.proofs.Counts.{in_run, behind_run, count_below-same}
 use Rattle.jfs_buddy.specs.Tree.{rank_of}
 use Rattle.jfs_buddy.proofs.Greatest.{greatest_run-same}
 use Rattle.jfs_dmap.specs.Dmap.{taken_in}
@@ -18,7 +18,7 @@ use Rattle.jfs_bmap.proofs.GreatestRuns.{greatest_run-value}
 use Rattle.jfs_bmap.proofs.OnePage.{leaf_ranks-most}
 use Rattle.jfs_bmap.proofs.Views.{control-same}
 use Rattle.jfs_format.specs.declared.layout.Layout.{Layout}
-use Rattle.jfs_format.specs.Layout.{IsLayout, owned_blocks, is_taken_block}
+use Rattle.jfs_format.specs.Layout.{IsLayout, owned_blocks, free_blocks, is_taken_block}
 use Rattle.jfs_format.specs.Leaves.{AreLeaves}
 
 -- ---- counts
@@ -108,3 +108,9 @@ leaf-rank l leaves v long are = elim (cases_lt v l.dmaps) [
 pub level-zero : (pages : ℕ) (l : Layout) (leaves : List ℤ) (page : List ℕ) → IsLayout pages l → AreLeaves (is_taken_block l) l.dmaps leaves → IsControl 0 (ranks_of leaves) page → IsControl 0 (leaf_ranks (is_taken_block l)) page
 level-zero pages l leaves page bounds are control =
     control-same 0 (ranks_of leaves) (leaf_ranks (is_taken_block l)) page (λ v h. leaf-rank l leaves v (omega (arith, bounds.dmaps)) are) (leaf_ranks-most (is_taken_block l)) control
+
+-- the free blocks are those between the owned ones and the end
+pub free-count : (l : Layout) → owned_blocks l ≤ l.blocks → count_below l.blocks (λ b. not (is_taken_block l b)) ≡ free_blocks l
+free-count l h =
+    count_below-same l.blocks (λ b. not (is_taken_block l b)) (λ i. not (is_taken_block l (0 + i))) (λ b k. let e : 0 + b ≡ b = omega arith in rw e refl)
+    ∙ count-between (owned_blocks l) l.blocks 0 l.blocks ∙ omega (arith, h)

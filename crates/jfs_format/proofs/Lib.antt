@@ -5,3 +5,4 @@ pub mod Maps
 pub mod Layouts
 pub mod Blocks
 pub mod Joined
+pub mod Accepted

@@ -14,8 +14,8 @@ use Rattle.jfs_iag.specs.Canonical.{is_there, has_free, is_free_inode, has_free_
 use Rattle.jfs_iag.specs.Laws.{AreSame}
 use Rattle.jfs_iag.proofs.Maps.{and_true, and_false}
 use Rattle.jfs_iag.proofs.Carried.{neighbors-carried, iag-carried}
-use Rattle.jfs_iag.proofs.Agreed.{inodes-listed, places-listed}
-use Rattle.jfs_imap.specs.Inodes.{is_used, extent_at, IsPageOfIag}
+use Rattle.jfs_iag.proofs.Agreed.{inode-same, inodes-listed, places-listed}
+use Rattle.jfs_imap.specs.Inodes.{is_used, is_free, extent_at, IsPageOfIag}
 use Rattle.jfs_format.specs.declared.layout.Layout.{Layout}
 use Rattle.jfs_format.specs.declared.tables.Table.{Table}
 use Rattle.jfs_format.specs.declared.tables.Table.TheVariants.{Aggregate, Fileset}
@@ -270,3 +270,15 @@ iag-made table l k start set extents links page within is bits runs are made =
 pub group-scaled : (b : Bool) → (if b then 32 else 0) ≡ 32 * (if b then 1 else 0)
 group-scaled true = refl
 group-scaled false = refl
+
+-- 32 inodes less those in use
+fileset-free : count_below 32 (λ i. not (in_use Fileset i)) ≡ 28
+unfolding count_below
+fileset-free = refl
+
+pub free-inodes : (pages : ℕ) (l : Layout) → IsLayout pages l → count_below (4096 * l.iags) (is_free (inodes_in Fileset l)) ≡ 28
+free-inodes pages l b =
+    let m = inodes_in Fileset l in
+    let place = place_of (extent_of Fileset l) in
+    count_below-same (4096 * l.iags) (is_free m) (is_free_inode (in_use Fileset) place) (λ i h. sym (inode-same l.iags (in_use Fileset) (is_used m) place (extent_at m) (same-in Fileset l) i h))
+    ∙ count-free Fileset l (4096 * l.iags) (omega (arith, (some-iags pages Fileset l b).0)) ∙ fileset-free

@@ -1,5 +1,5 @@
 -- A volume that lacks its superblock, and what a crash leaves on the way there.
-use Rattle.std.proofs.Common.{◌≡◌, ◌≤◌, ◌<◌, ◌+◌, ◌-◌, ℕ, List, [], length, drop, ap, ◌∙◌, ◌⊎◌, inl, inr, arith}
+use Rattle.std.proofs.Common.{◌≡◌, ◌≤◌, ◌<◌, ◌+◌, ◌-◌, ℕ, List, [], length, drop, refl, subst, ap, ◌∙◌, ◌⊎◌, inl, inr, arith}
 use Rattle.std.proofs.Math.ListN.{set}
 use Rattle.std.proofs.lemmas.List.{get_or-set_same, get_or-set_other, drop-set-lt}
 use Rattle.jfs_disk.specs.Image.{Image, page_of}
@@ -13,9 +13,10 @@ use Rattle.jfs_imap.specs.Inodes.{IsInodePage}
 use Rattle.jfs_bmap.specs.MapFile.{IsMapPage}
 use Rattle.jfs_format.specs.declared.tables.Table.TheVariants.{Aggregate, Fileset}
 use Rattle.jfs_bits.specs.declared.descriptor.Moment.{Moment}
+use Rattle.jfs_super.specs.Super.{super_of}
 use Rattle.jfs_format.specs.Layout.{IsLayout, layout_of, map_pages, second_table, second_map, inode_map, first_inodes, is_taken_block}
 use Rattle.jfs_format.specs.Inodes.{aggregate_inode, fileset_inode, IsTablePage}
-use Rattle.jfs_format.specs.Superblock.{label_field, super_page}
+use Rattle.jfs_format.specs.Superblock.{label_field, new_super, super_page}
 use Rattle.jfs_format.specs.Volume.{wanted, HasPages, inodes_in, IsAllButSuper, IsNewVolume, IsUnnamed, IsOnTheWay}
 use Rattle.jfs_format.specs.Wrote.{WroteWithin}
 use Rattle.jfs_format.specs.Areas.{IsUpToLog}
@@ -120,3 +121,11 @@ all-made pages v mid new b stay blocks log =
 pub way-of : (pages : ℕ) (uuid label : List ℕ) (now : Moment) (layout : Layout) (own field : List ℕ) (old left : Image) → layout ≡ layout_of pages → own ≡ uuid → field ≡ label_field label
     → IsOnTheWay (record { layout = layout; uuid = own; label = field; moment = now }) old left → IsOnTheWay (wanted pages uuid label now) old left
 way-of pages uuid label now layout own field old left l u b way = rw (l, u, b) at way
+
+pub super-read : (pages : ℕ) (uuid label : List ℕ) (now : Moment) (layout : Layout) (own field : List ℕ) (image : Image) → layout ≡ layout_of pages → own ≡ uuid → field ≡ label_field label
+    → page_of image 8 ≡ super_page (record { layout = layout; uuid = own; label = field; moment = now }) → super_of (super_page (record { layout = layout; uuid = own; label = field; moment = now })) ≡ new_super (record { layout = layout; uuid = own; label = field; moment = now })
+    → super_of (page_of image 8) ≡ new_super (wanted pages uuid label now)
+super-read pages uuid label now layout own field image l u b page reads =
+    let v : NewVolume = record { layout = layout; uuid = own; label = field; moment = now } in
+    let same : v ≡ wanted pages uuid label now = rw (l, u, b) refl in
+    subst (λ (w : NewVolume). super_of (page_of image 8) ≡ new_super w) same (ap super_of page ∙ reads)

@@ -5,6 +5,7 @@ pub mod Inodes
 pub mod Superblock
 pub mod Volume
 pub mod Answer
+pub mod Laws
 -- for the prover
 pub mod Wrote
 pub mod Map

@@ -7,7 +7,8 @@ ghost use Rattle.jfs_disk.specs.Moment.{IsResting, now_of};
 ghost use Rattle.jfs_disk.specs.Fault.{HasCause};
 ghost use Rattle.jfs_logpages.specs.Fresh.{OthersStay};
 ghost use Rattle.jfs_format.specs.Layout.{IsLayout, layout_of};
-ghost use Rattle.jfs_format.specs.Superblock.{super_page};
+ghost use Rattle.jfs_super.specs.Super.{super_of};
+ghost use Rattle.jfs_format.specs.Superblock.{new_super, super_page};
 ghost use Rattle.jfs_format.specs.Volume.{wanted, IsNewVolume, IsUnnamed, IsOnTheWay};
 ghost use Rattle.jfs_format.specs.Answer.{IsFormatAnswer};
 
@@ -35,6 +36,7 @@ fn write_primary<D: Disk>(disk: &mut D, v: NewVolume) -> Result<(), DiskError>
     ensures pages { D.page_count disk.new ≡ D.page_count disk.old }
     ensures image { OnOk result (D.tells → D.image disk.new ≡ set (D.image disk.old) 8 (super_page v)) }
     ensures others { D.tells → OthersStay 8 1 (D.image disk.old) (D.image disk.new) }
+    ensures reads { OnOk result (super_of (super_page v) ≡ new_super v) }
     ensures stable { OnOk result (D.tells_crashes → IsResting (last_of (D.past disk.new))) }
     // What a crash might have left before was on the way from an image to the volume, and so is each image that has the page torn:
     // then all that a crash leaves at each moment is.
@@ -57,6 +59,7 @@ fn write_volume<D: Disk>(disk: &mut D, v: NewVolume) -> Result<(), DiskError>
     requires { IsLayout (D.page_count disk.old) v.layout }
     ensures pages { D.page_count disk.new ≡ D.page_count disk.old }
     ensures volume { OnOk result (D.tells → IsNewVolume v (D.image disk.new)) }
+    ensures reads { OnOk result (super_of (super_page v) ≡ new_super v) }
     ensures unnamed { D.tells → (n : ℕ) → IsUnnamed v.layout n → page_of (D.image disk.new) n ≡ page_of (D.image disk.old) n }
     ensures stable { OnOk result (D.tells_crashes → IsResting (last_of (D.past disk.new))) }
     ensures moments { D.tells → D.tells_crashes → IsResting (last_of (D.past disk.old)) → AllSince (IsOnTheWay v (D.image disk.old)) (D.past disk.new) (now_of (D.past disk.old)) }
@@ -89,6 +92,8 @@ pub fn format<D: Disk>(
     ensures later { D.fault_count disk.old ≤ D.fault_count disk.new }
     // At Ok the pages are those of a new volume, and nothing is pending.
     ensures volume { OnOk result (D.tells → IsNewVolume (wanted (D.page_count disk.old) uuid label.now now) (D.image disk.new)) }
+    // Page 8 reads as the superblock, with the UUID and the label as given.
+    ensures reads { OnOk result (D.tells → super_of (page_of (D.image disk.new) 8) ≡ new_super (wanted (D.page_count disk.old) uuid label.now now)) }
     ensures stable { OnOk result (D.tells_crashes → IsResting (last_of (D.past disk.new))) }
     // Other pages never change.
     ensures unnamed { D.tells → (n : ℕ) → IsUnnamed (layout_of (D.page_count disk.old)) n → page_of (D.image disk.new) n ≡ page_of (D.image disk.old) n }

@@ -6,6 +6,7 @@ mod block_map;
 mod formatter;
 mod inode_map;
 mod inodes;
+mod law;
 mod layout;
 mod superblock;
 mod tables;
@@ -13,4 +14,5 @@ mod volume;
 mod write;
 
 pub use formatter::{FormatError, format};
+pub use law::{free_are_counted, new_inodes_are_accepted, new_superblock_is_accepted};
 pub use layout::Layout;

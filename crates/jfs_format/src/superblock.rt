@@ -1,7 +1,7 @@
 //! The superblock of a new volume.
 
 ghost use Rattle.std.specs.Prelude.{◌≡◌, ℕ};
-ghost use Rattle.jfs_super.specs.Super.{FitsSuper};
+ghost use Rattle.jfs_super.specs.Super.{FitsSuper, super_of};
 ghost use Rattle.jfs_format.specs.Layout.{IsLayout};
 ghost use Rattle.jfs_format.specs.Superblock.{new_super, super_page};
 
@@ -70,7 +70,8 @@ fn new_super(v: NewVolume) -> Super
 /// Puts the page of the superblock of a new volume.
 pub fn fill_super(page: &mut Page, v: NewVolume)
     requires { (pages : ℕ) × IsLayout pages v.layout }
-    ensures { page.new.0 ≡ super_page v }
+    ensures page { page.new.0 ≡ super_page v }
+    ensures reads { super_of page.new.0 ≡ new_super v }
 {
     *page = Page::zeros();
     write_super(&new_super(v), page);

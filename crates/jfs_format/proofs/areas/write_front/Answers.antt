@@ -33,5 +33,5 @@ returns-clause-front g c = λ t.
     record {
       aggregate_map = has-kept 9 2 15 1 map two three (inl (omega arith)) (c.in_ok-put.ensures.wrote.others t) (has-kept 9 2 11 4 map one two (inl (omega arith)) (c.in_ok-write_table.ensures.wrote.others t) (c.in_ok-write_inode_map.ensures.map t));
       aggregate_inodes = has-kept 11 4 15 1 table two three (inl (omega arith)) (c.in_ok-put.ensures.wrote.others t) (c.in_ok-write_table.ensures.table t);
-      second_super = c.in_ok-put.ensures.page t ∙ c.fill_super.ensures;
+      second_super = c.in_ok-put.ensures.page t ∙ c.fill_super.ensures.page;
     }
