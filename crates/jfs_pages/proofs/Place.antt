@@ -1,9 +1,10 @@
 -- What a search finds among dirty pages, and what an edit at that place does.
-use Rattle.std.proofs.Common.{◌≡◌, ◌≢◌, ℕ, zero, suc, ◌+◌, ◌-◌, ◌<◌, ◌≤◌, eqb, List, [], ◌∷◌, length, get_or, set, if◌then◌else◌, Option, Some, None, Result, Ok, Err, IfOk, IfErr, refl, sym, ap, ◌∙◌, subst, arith}
+use Rattle.std.proofs.Common.{◌≡◌, ◌≢◌, ℕ, zero, suc, ◌+◌, ◌-◌, ◌<◌, ◌≤◌, eqb, List, [], ◌∷◌, length, get_or, set, if◌then◌else◌, Option, Some, None, IfSome, slice_get, Result, Ok, Err, IfOk, IfErr, refl, sym, ap, ◌∙◌, subst, arith}
 use Rattle.std.specs.List.{insert, remove}
 use Rattle.std.specs.List.Sorted.{IsSearchInRange, IsBinarySearchResult, IsNonDecreasingBy}
 use Rattle.std.specs.Ordering.{nat_cmp, ordering_index}
 use Rattle.std.proofs.lemmas.Cmp.{ranked}
+use Rattle.std.proofs.lemmas.Option.{slice_get_within, get_or_from_slice_get}
 use Rattle.std.proofs.lemmas.List.Sorted.{IsNonDecreasingBy-from_default}
 use Rattle.std.proofs.lemmas.List.Edits.{length-insert, get_or-insert_below, get_or-insert_at, get_or-insert_above, length-remove, get_or-remove_below, get_or-remove_above}
 use Rattle.std.proofs.lemmas.Bool.Decides.{nat_tests}
@@ -114,3 +115,11 @@ module _ (l : List Dirty) (n at : ℕ) (gap : IsGapFor l n at) where
       let here : (i : ℕ) → i ≡ at → page_at new i ≡ n = λ i h. rw h (ap page (get_or-insert_at l at d no_dirty gap.in_range) ∙ e) in
       let above : (i : ℕ) → at < i → page_at new i ≡ page_at l (i - 1) = λ i h. subst (λ (q : ℕ). page_at new q ≡ page_at l (i - 1)) {x = i - 1 + 1} (omega arith) (ap page (get_or-insert_above l at d no_dirty (i - 1) (omega arith) gap.in_range)) in
       grind (arith, below i, here i, above i, below j, here j, above j, rising i j, rising i (j - 1), rising (i - 1) (j - 1), gap.lower_before i, gap.higher_after (j - 1))
+
+-- what is read at a place is found by its number
+pub found_among : (l : List Dirty) → IsRising l → (i : ℕ) (read : Option Dirty) → read ≡ slice_get l i → IfSome read (λ d. dirty_of l d.page ≡ Some d)
+found_among l rising i None e = tt
+found_among l rising i (Some d) e =
+    let is = get_or_from_slice_get l i d no_dirty (sym e) in
+    let at : IsAt l d.page i = record { in_range = slice_get_within l i d (sym e); has_page = ap (λ (one : Dirty). one.page) is } in
+    found_at l rising d.page i at ∙ ap (λ (one : Dirty). Some one) is

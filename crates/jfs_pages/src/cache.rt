@@ -28,7 +28,7 @@ pub struct PageCache<D: Disk> {
 }
 
 impl<D: Disk> PageCache<D> {
-    ghost use Rattle.std.specs.Prelude.{[], ◌&&◌, ◌||◌, ◌==◌, not, true, if◌then◌else◌, option_map, slice_get};
+    ghost use Rattle.std.specs.Prelude.{[], ◌&&◌, ◌||◌, ◌==◌, Some, IfSome, not, true, if◌then◌else◌, option_map, slice_get};
     ghost use Rattle.jfs_disk.specs.declared.disk.Part.TheVariants.{Low};
     ghost use Rattle.jfs_ranges.specs.Apply.{apply_tx, touches_tx};
     ghost use Rattle.jfs_pages.specs.Dirty.{IsDirty, IsRising, touched_by, is_among};
@@ -59,6 +59,7 @@ impl<D: Disk> PageCache<D> {
     /// The `i`-th dirty page, from 0 and by rising number, and `None` exactly where there is none. It is found at once.
     pub fn dirty_at(&self, i: u32) -> Option<Dirty>
         ensures page { result ≡ slice_get (dirty_in self.now.kept) i }
+        ensures found { IfSome result (λ dirty. dirty_of (dirty_in self.now.kept) dirty.page ≡ Some dirty) }
         ensures rising { IsRising (dirty_in self.now.kept) }
     {
         self.kept.dirty_at(i as usize)

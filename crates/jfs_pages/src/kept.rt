@@ -22,7 +22,7 @@ pub struct Kept {
 }
 
 impl Kept {
-    ghost use Rattle.std.specs.Prelude.{[], ◌<◌, ◌^◌, OnOk, OnErr, IfOk, IfErr, if◌then◌else◌, ◌==◌, ◌&&◌, not, None, is_some, slice_get, option_map};
+    ghost use Rattle.std.specs.Prelude.{[], ◌<◌, ◌^◌, OnOk, OnErr, IfSome, if◌then◌else◌, ◌==◌, ◌&&◌, not, None, is_some, slice_get, option_map};
     ghost use Rattle.jfs_ranges.specs.Apply.{apply_edit, touches_edit, touches_tx};
     ghost use Rattle.jfs_pages.specs.Dirty.{dirty_of, touched_by, IsRising};
     ghost use Rattle.jfs_pages.specs.Kept.{cached, dirty_in, held_in};
@@ -60,6 +60,7 @@ impl Kept {
     /// The `i`-th dirty page.
     pub fn dirty_at(&self, i: usize) -> Option<Dirty>
         ensures page { result ≡ slice_get (dirty_in self.now) i }
+        ensures found { IfSome result (λ dirty. dirty_of (dirty_in self.now) dirty.page ≡ Some dirty) }
         ensures rising { IsRising (dirty_in self.now) }
     {
         self.changes.at(i)
