@@ -21,3 +21,5 @@ pub mod Tops
 pub mod RootSteps
 pub mod RootCalls
 pub mod Moving
+pub mod DraftTold
+pub mod Within

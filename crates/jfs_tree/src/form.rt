@@ -9,11 +9,7 @@ pub enum Way {
     /// The page is a leaf.
     Here,
     /// To the child at this place, which is this page; `last` where no child stands behind it.
-    Down {
-        place: usize,
-        page: u32,
-        last: bool,
-    },
+    Down { place: usize, page: u32, last: bool },
 }
 
 /// What became of something that was to be put into a page.

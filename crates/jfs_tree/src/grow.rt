@@ -69,11 +69,13 @@ pub fn add_below<V: PageView, F: PageForm>(
                 Err(e) => Err(e),
             }
         }
-        Ok(Way::Down {
-            place,
-            page: child,
-            last: at_end,
-        }) => {
+        Ok(
+            Way::Down {
+                place,
+                page: child,
+                last: at_end,
+            },
+        ) => {
             match add_below(form, view, draft, fresh, most - 1, child, last && at_end, x) {
                 Ok(grown) => take_grown(form, draft, fresh, page, last, bytes, place, grown),
                 Err(e) => Err(e),

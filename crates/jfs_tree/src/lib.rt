@@ -1,6 +1,7 @@
 //! Trees of pages: what a root spells, and the calls that all kinds of trees share.
 #![tactic(auto)]
 
+mod copy;
 mod draft;
 mod find;
 mod form;
@@ -10,9 +11,12 @@ mod root;
 mod take;
 mod take_root;
 mod tell;
+mod tell_all;
 
+pub use copy::copy_tx;
 pub use draft::{Draft, Drafted};
 pub use form::{NO_PAGE, Put, Sibling, TreeError, Way};
 pub use pages::PageForm;
 pub use root::{add_entry, find_entry};
 pub use tell::{tell_page, tell_whole};
+pub use tell_all::tell_draft;

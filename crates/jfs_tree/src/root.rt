@@ -40,11 +40,13 @@ pub fn find_entry<V: PageView, F: PageForm>(
             rule,
         }),
         Ok(Way::Here) => Ok(top.find(root, x)),
-        Ok(Way::Down {
-            place: _,
-            page,
-            last: _,
-        }) => find_below(form, view, 7, page, x),
+        Ok(
+            Way::Down {
+                place: _,
+                page,
+                last: _,
+            },
+        ) => find_below(form, view, 7, page, x),
     }
 }
 
@@ -85,7 +87,9 @@ pub fn add_entry<V: PageView, F: PageForm>(
             rule,
         }),
         Ok(Way::Here) => root_takes_here(top, form, draft, fresh, root, x),
-        Ok(Way::Down { place, page, last }) => match add_below(form, view, draft, fresh, 7, page, last, x) {
+        Ok(Way::Down { place, page, last }) => match add_below(
+            form, view, draft, fresh, 7, page, last, x,
+        ) {
             Ok(grown) => root_takes_grown(top, form, draft, fresh, root, place, grown),
             Err(e) => Err(e),
         },

@@ -1,0 +1,36 @@
+use Rattle.std.proofs.Common.{◌≡◌, ◌<◌, ◌∙◌, ap, sym, subst, ◌+◌, [], take, length, get_or, arith}
+use Rattle.jfs_disk.specs.Image.{Image}
+use Rattle.jfs_tree.specs.declared.draft.Drafted.{Drafted}
+use Rattle.jfs_tree.specs.Tell.{TellsDraft, TellsOne}
+use Rattle.jfs_tree.proofs.DraftTold.{told_more, told_hidden}
+use Rattle.jfs_tree.proofs.tell_all.tell_draft.Goals as goal
+use Rattle.jfs_tree.proofs.tell_all.tell_draft.Goals.{then-is_newest+in_ok-tell_drafted, else-is_newest}
+
+pub loop-i-preserved : goal.loop-i-preserved
+loop-i-preserved g c =
+    let d : Drafted = record { number = 0; page = record { 0 = [] } } in
+    let ds = c.as_slice-pages.result.now in
+    let same = c.as_slice-pages.ensures.value in
+    let inv = c.loop-i.invariant in
+    elim c.if-is_newest.branch [
+      | then-is_newest+in_ok-tell_drafted w ↦ (
+        (λ t. ap (λ v. g.V.PageView.image v) w.view-is ∙ w.in_ok-tell_drafted.ensures.image t ∙ inv.0 t),
+        ap (λ v. g.V.PageView.block_count v) w.view-is ∙ w.in_ok-tell_drafted.ensures.count_of_blocks ∙ inv.1,
+        ap (λ v. g.V.PageView.fault_count v) w.view-is ∙ w.in_ok-tell_drafted.ensures.fault ∙ inv.2,
+        λ t. subst (λ xs. TellsDraft (g.V.PageView.block_count c.args.view.now) (g.V.PageView.image c.args.view.now) (take (c.loop-i.i + 1) xs) c.args.tx.now c.if-is_newest.tx) same
+            (subst (λ later. TellsDraft (g.V.PageView.block_count c.args.view.now) (g.V.PageView.image c.args.view.now) (take (c.loop-i.i + 1) ds) c.args.tx.now later) (sym w.tx-is)
+            (told_more (g.V.PageView.block_count c.args.view.now) (g.V.PageView.image c.args.view.now) ds c.loop-i.i d c.is_newest.result c.args.tx.now c.loop-i.tx w.tell_drafted.new.tx (let h = c.loop-i-test.true in omega (arith, h)) (c.is_newest.ensures d) w.if-is_newest.true
+            (subst (λ n. TellsOne n (g.V.PageView.image c.args.view.now) (get_or ds c.loop-i.i d).number (get_or ds c.loop-i.i d).page.0 c.loop-i.tx w.tell_drafted.new.tx) inv.1
+            (subst (λ (i : Image). TellsOne (g.V.PageView.block_count c.loop-i.view) i (get_or ds c.loop-i.i d).number (get_or ds c.loop-i.i d).page.0 c.loop-i.tx w.tell_drafted.new.tx) (inv.0 t) (w.in_ok-tell_drafted.ensures.told t)))
+            (subst (λ xs. TellsDraft (g.V.PageView.block_count c.args.view.now) (g.V.PageView.image c.args.view.now) (take c.loop-i.i xs) c.args.tx.now c.loop-i.tx) (sym same) (inv.3 t)))),
+      )
+      | else-is_newest w ↦ (
+        (λ t. ap (λ v. g.V.PageView.image v) w.view-is ∙ inv.0 t),
+        ap (λ v. g.V.PageView.block_count v) w.view-is ∙ inv.1,
+        ap (λ v. g.V.PageView.fault_count v) w.view-is ∙ inv.2,
+        λ t. subst (λ xs. TellsDraft (g.V.PageView.block_count c.args.view.now) (g.V.PageView.image c.args.view.now) (take (c.loop-i.i + 1) xs) c.args.tx.now c.if-is_newest.tx) same
+            (subst (λ later. TellsDraft (g.V.PageView.block_count c.args.view.now) (g.V.PageView.image c.args.view.now) (take (c.loop-i.i + 1) ds) c.args.tx.now later) (sym w.tx-is)
+            (told_hidden (g.V.PageView.block_count c.args.view.now) (g.V.PageView.image c.args.view.now) ds c.loop-i.i d c.is_newest.result c.args.tx.now c.loop-i.tx (let h = c.loop-i-test.true in omega (arith, h)) (c.is_newest.ensures d) w.if-is_newest.false
+            (subst (λ xs. TellsDraft (g.V.PageView.block_count c.args.view.now) (g.V.PageView.image c.args.view.now) (take c.loop-i.i xs) c.args.tx.now c.loop-i.tx) (sym same) (inv.3 t)))),
+      )
+    ]
