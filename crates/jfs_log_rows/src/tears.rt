@@ -1,5 +1,7 @@
 //! Groups of which a crash leaves each page torn in each way.
 
+ghost use Rattle.std.specs.Prelude.{◌<◌};
+
 use crate::{Plain, Trial, group, read};
 use jfs_disk::{Choice, Fail, Kind, MemDisk, Part};
 use std::alloc::{AllocError, Global};
@@ -44,7 +46,9 @@ fn tear(page: u32, sectors: u32) -> Choice {
 const ENDS: [(u32, usize); 4] = [(1_044_560, 1), (12_264, 3), (16_316, 4), (20_404, 6)];
 
 /// How many pages are whole, from the first on.
-fn whole(tears: [u32; 3]) -> usize {
+fn whole(tears: [u32; 3]) -> usize
+    ensures { result < 4 }
+{
     if tears[0] < 8 {
         0
     } else if tears[1] < 8 {
