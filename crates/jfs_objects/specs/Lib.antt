@@ -4,5 +4,6 @@ pub mod Volume
 pub mod Objects
 pub mod Owners
 pub mod Contents
+pub mod Image
 pub mod Changes
 pub mod Laws

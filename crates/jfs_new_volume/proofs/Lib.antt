@@ -1,0 +1,6 @@
+pub mod Runs
+pub mod Roots
+pub mod Files
+pub mod Maps
+pub mod Objects
+pub mod Agreed

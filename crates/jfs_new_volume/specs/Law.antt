@@ -1,0 +1,33 @@
+-- What a new volume means.
+use Rattle.std.specs.Prelude.{◌≡◌, ℕ, ◌==◌, nat_lt, if◌then◌else◌, [], ◌∷◌, Some, None}
+use Rattle.jfs_disk.specs.Image.{Image, page_of}
+use Rattle.jfs_tree.specs.Walk.{Page}
+use Rattle.jfs_tree.specs.Spells.{no_page}
+use Rattle.jfs_objects.specs.Readers.{Readers}
+use Rattle.jfs_objects.specs.Volume.{Volume}
+use Rattle.jfs_objects.specs.Objects.{Object, objects}
+use Rattle.jfs_objects.specs.Owners.{IsSound}
+use Rattle.jfs_objects.specs.Image.{volume_on}
+use Rattle.jfs_format.specs.Layout.{IsLayout}
+use Rattle.jfs_format.specs.Inodes.{fileset_inode}
+use Rattle.jfs_format.specs.Superblock.{new_super}
+use Rattle.jfs_format.specs.Volume.{IsNewVolume}
+use Rattle.jfs_format.specs.declared.volume.NewVolume.{NewVolume}
+use Rattle.jfs_new_volume.specs.Roots.{ReadsRoots}
+
+-- the volume on these pages, with the second inode table and map where the superblock says
+abbrev pub new_on : Readers → NewVolume → Image → Volume
+new_on r v image = volume_on r v.layout.blocks (new_super v).ait2 (new_super v).aim2 (page_of image)
+
+-- An inode of a new volume and its walk, which meets its root alone: the root directory has no name, the files have no extent.
+abbrev pub new_object : NewVolume → ℕ → Object
+new_object v n = record {
+  inode = fileset_inode v n;
+  names = if n == 2 then Page no_page ∷ [] else [];
+  extents = if n == 2 then [] else Page no_page ∷ [];
+}
+
+-- A new volume has the objects 0 to 3, its maps agree, and no tree breaks a rule.
+abbrev pub NewVolumeLaw : Type 0
+NewVolumeLaw = (r : Readers) (pages : ℕ) (v : NewVolume) (image : Image) → IsLayout pages v.layout → ReadsRoots r v.layout.blocks → IsNewVolume v image
+    → IsSound r (new_on r v image) × ((n : ℕ) → objects r (new_on r v image) n ≡ (if nat_lt n 4 then Some (new_object v n) else None))

@@ -1,0 +1,3 @@
+-- what the clause says
+pub mod Roots
+pub mod Law

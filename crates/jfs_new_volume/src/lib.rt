@@ -1,0 +1,6 @@
+//! What a new volume means: its objects, and that its maps agree with them.
+#![tactic(auto)]
+
+mod law;
+
+pub use law::new_volume_is_sound;
