@@ -6,3 +6,4 @@ pub mod Layouts
 pub mod Blocks
 pub mod Joined
 pub mod Accepted
+pub mod Roots

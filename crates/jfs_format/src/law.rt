@@ -1,6 +1,6 @@
 //! What the readers of a volume say of a new one.
 
-ghost use Rattle.jfs_format.specs.Laws.{SuperIsAccepted, InodesAreAccepted, FreeAreCounted};
+ghost use Rattle.jfs_format.specs.Laws.{SuperIsAccepted, InodesAreAccepted, FreeAreCounted, RootsRead};
 
 /// The superblock of a new volume breaks no rule on its disk.
 pub fn new_superblock_is_accepted()
@@ -15,4 +15,9 @@ pub fn new_inodes_are_accepted()
 /// The numbers of free blocks and of free inodes of a new volume are those of its sets.
 pub fn free_are_counted()
     ensures { FreeAreCounted }
+{}
+
+/// The roots of extent trees break no rule of their form, and have the extents that were asked for.
+pub fn roots_read()
+    ensures { RootsRead }
 {}

@@ -14,5 +14,5 @@ mod volume;
 mod write;
 
 pub use formatter::{FormatError, format};
-pub use law::{free_are_counted, new_inodes_are_accepted, new_superblock_is_accepted};
+pub use law::{free_are_counted, new_inodes_are_accepted, new_superblock_is_accepted, roots_read};
 pub use layout::Layout;
