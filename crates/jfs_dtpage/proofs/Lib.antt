@@ -6,3 +6,13 @@ pub mod Entries
 pub mod Rising
 pub mod Pages
 pub mod Meeting
+pub mod Shifts
+pub mod Released
+pub mod Putting
+pub mod Edited
+pub mod Counted
+pub mod Changes
+pub mod Joined
+pub mod Paged
+pub mod Same
+pub mod Empty

@@ -19,7 +19,7 @@ use Rattle.jfs_dtpage.proofs.Lists.{length-slots_at, get_or-slots_at, times-appe
 
 -- ---- slots that entries may have
 
-one_if : (b : Bool) → 1 ≤ (if b then 1 else 0) → b ≡ true
+pub one_if : (b : Bool) → 1 ≤ (if b then 1 else 0) → b ≡ true
 one_if true h = refl
 one_if false h = absurd (none h)
   where

@@ -1,11 +1,13 @@
 -- Where things stand in a page of a directory tree. (JFS Layout, dtree: `dtpage_t`, `dtroot_t`; slots of 32 bytes, of which the first is the header.)
-use Rattle.std.specs.Prelude.{ℕ, ◌+◌, ◌-◌, ◌*◌, ◌/◌, ◌%◌, Bool, true, false, ◌&&◌, ◌||◌, nat_le, nat_lt, ◌==◌, List}
+use Rattle.std.specs.Prelude.{◌≡◌, ℕ, ◌+◌, ◌-◌, ◌*◌, ◌/◌, ◌%◌, Bool, true, false, ◌&&◌, ◌||◌, nat_le, nat_lt, ◌==◌, List}
 use Rattle.jfs_bits.specs.Field.{field_of}
 use Rattle.jfs_bits.specs.Descriptor.{pxd_of}
+use Rattle.jfs_bits.specs.declared.descriptor.Pxd.{Pxd}
 use Rattle.jfs_dtpage.specs.Slots.{slots_for}
 use Rattle.jfs_dtpage.specs.declared.head.DtForm.{DtForm}
 use Rattle.jfs_dtpage.specs.declared.head.DtForm.TheVariants.{Root, Full}
 use Rattle.jfs_dtpage.specs.declared.head.DtHead.{DtHead}
+use Rattle.jfs_dtpage.specs.declared.head.Place.{Place}
 use Rattle.jfs_dtpage.specs.declared.head.Place.TheVariants.{InInode, OnVolume}
 
 -- the number of slots, with the header's
@@ -77,3 +79,18 @@ first_units false = 11
 -- the further slots that a name of so many units takes
 abbrev pub more_slots : Bool → ℕ → ℕ
 more_slots leaf units = slots_for (units - first_units leaf)
+
+-- The kind of page and what the header has by where the page stands are as they were.
+pub record KeepsHead (form : DtForm) (old new : List ℕ) : Type 0 where
+  pub flag : flag_of new ≡ flag_of old
+  pub place : (head_of form new).place ≡ (head_of form old).place
+
+-- other neighbours
+abbrev pub linked : ℕ → ℕ → Place → Place
+linked next prev (InInode parent) = InInode parent
+linked next prev (OnVolume old_next old_prev maxslot stblindex at) = OnVolume next prev maxslot stblindex at
+
+-- no neighbours, a page's whole number of slots, its table behind the header, and its own place
+abbrev pub made : Pxd → Place → Place
+made at (InInode parent) = InInode parent
+made at (OnVolume next prev maxslot stblindex old) = OnVolume 0 0 128 1 at

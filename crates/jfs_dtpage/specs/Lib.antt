@@ -4,3 +4,4 @@ pub mod Slots
 pub mod Form
 pub mod Order
 pub mod Met
+pub mod Given

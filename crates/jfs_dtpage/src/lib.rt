@@ -2,16 +2,25 @@
 #![tactic(auto)]
 
 mod check;
+mod edit;
 mod entry;
 mod find;
 mod follow;
 mod head;
 mod left;
+mod link;
+mod make;
+mod put;
 mod read;
+mod release;
+mod table;
 mod write;
 
 pub use check::dt_check;
+pub use edit::{dt_insert, dt_remove};
 pub use entry::{dt_child, dt_inode, dt_name};
 pub use find::dt_find;
 pub use head::{BadDt, DtEntry, DtForm, DtHead, PageFull, Place};
+pub use link::dt_link;
+pub use make::dt_new;
 pub use read::dt_slots;

@@ -6,7 +6,7 @@ ghost use Rattle.jfs_bits.specs.Descriptor.{pxd_of, FitsPxd};
 ghost use Rattle.jfs_dtpage.specs.Slots.{chain_end, next_of, follow, behind, units_at, gather, slots_for, times, AreWithin, Kept, KeptBut};
 
 use crate::read::{FURTHER_UNITS, next_of, start_of};
-use jfs_bits::{Pxd, put_pxd, put_u8, put_u16, put_u32};
+use jfs_bits::{Pxd, put_pxd, put_u8, put_u16, put_u32, put_u64};
 
 /// What ends a chain of slots.
 pub const END: u8 = 255;
@@ -33,6 +33,14 @@ pub fn put_inode(bytes: &mut [u8], at: usize, value: u32)
     ensures kept { Kept at 4 bytes.old bytes.new }
 {
     put_u32(bytes, at, value);
+}
+
+pub fn put_neighbour(bytes: &mut [u8], at: usize, value: u64)
+    requires { at + 8 ≤ length bytes.old }
+    ensures value { field_of bytes.new at 8 ≡ value }
+    ensures kept { Kept at 8 bytes.old bytes.new }
+{
+    put_u64(bytes, at, value);
 }
 
 pub fn put_child(bytes: &mut [u8], at: usize, value: Pxd)
