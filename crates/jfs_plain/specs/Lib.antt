@@ -1,3 +1,4 @@
 -- what the clauses say
 pub mod Call
 pub mod Refusal
+pub mod Limits

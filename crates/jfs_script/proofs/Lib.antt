@@ -4,3 +4,5 @@ pub mod Lines
 pub mod Reading
 pub mod Given
 pub mod Targets
+pub mod Limits
+pub mod Fitting

@@ -40,10 +40,10 @@ may_be_lazy verbs.Readlink = false
 may_be_lazy verbs.Sync = false
 may_be_lazy _ = true
 
-abbrev Makes : {A C : Type 0} → (A → C) → (Result A Rule → Type 0) → Result C Rule → Type 0
+abbrev pub Makes : {A C : Type 0} → (A → C) → (Result A Rule → Type 0) → Result C Rule → Type 0
 Makes make means = Then means (λ a r. r ≡ Ok (make a))
 
-abbrev NoWords : List (List ℕ) → Result (Unit {0}) Rule → Type 0
+abbrev pub NoWords : List (List ℕ) → Result (Unit {0}) Rule → Type 0
 NoWords [] r = r ≡ Ok tt
 NoWords (word ∷ words) r = r ≡ Err rules.Count
 
@@ -67,11 +67,11 @@ CallIs verbs.Readlink words = Makes (λ a. calls.Readlink a) (PathAlone words)
 CallIs verbs.Sync words = Makes (λ a. calls.Sync) (NoWords words)
 
 -- a call, if a caller may ask for it so
-abbrev FittingCallIs : Bool → Verb → List (List ℕ) → Result Call Rule → Type 0
+abbrev pub FittingCallIs : Bool → Verb → List (List ℕ) → Result Call Rule → Type 0
 FittingCallIs true verb words r = CallIs verb words r
 FittingCallIs false verb words r = r ≡ Err rules.Lazy
 
-abbrev NamedCallIs : (Verb → Bool) → Option Verb → List (List ℕ) → Result Call Rule → Type 0
+abbrev pub NamedCallIs : (Verb → Bool) → Option Verb → List (List ℕ) → Result Call Rule → Type 0
 NamedCallIs fits None words r = r ≡ Err rules.Word
 NamedCallIs fits (Some verb) words r = FittingCallIs (fits verb) verb words r
 
@@ -80,11 +80,11 @@ abbrev pub LazyCallIs : List (List ℕ) → Result Call Rule → Type 0
 LazyCallIs [] r = r ≡ Err rules.Count
 LazyCallIs (word ∷ words) r = NamedCallIs may_be_lazy (verb_of word) words r
 
-abbrev PlainCallIs : List ℕ → List (List ℕ) → Result Call Rule → Type 0
+abbrev pub PlainCallIs : List ℕ → List (List ℕ) → Result Call Rule → Type 0
 PlainCallIs word words r = NamedCallIs (λ _. true) (verb_of word) words r
 
 -- a call, perhaps after `lazy`
-abbrev CallAfter : Bool → List ℕ → List (List ℕ) → Result Request Rule → Type 0
+abbrev pub CallAfter : Bool → List ℕ → List (List ℕ) → Result Request Rule → Type 0
 CallAfter true word words r = Makes (λ call. record { call = call; lazy = true }) (LazyCallIs words) r
 CallAfter false word words r = Makes (λ call. record { call = call; lazy = false }) (PlainCallIs word words) r
 
@@ -92,11 +92,11 @@ abbrev pub RequestIs : List (List ℕ) → Result Request Rule → Type 0
 RequestIs [] r = r ≡ Err rules.Count
 RequestIs (word ∷ words) r = CallAfter (bytes_eq word (codes "lazy")) word words r
 
-abbrev TextIs : Bool → List ℕ → Result (Option Request) Rule → Type 0
+abbrev pub TextIs : Bool → List ℕ → Result (Option Request) Rule → Type 0
 TextIs true line r = Makes (λ q. Some q) (RequestIs (words_of line)) r
 TextIs false line r = r ≡ Err rules.Text
 
-abbrev UnlessSkipped : Bool → List ℕ → Result (Option Request) Rule → Type 0
+abbrev pub UnlessSkipped : Bool → List ℕ → Result (Option Request) Rule → Type 0
 UnlessSkipped true line r = r ≡ Ok None
 UnlessSkipped false line r = TextIs (is_text line) line r
 

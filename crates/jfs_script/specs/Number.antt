@@ -18,7 +18,7 @@ value_from base value (d ∷ ds) = value_from base (value * base + (d - 48)) ds
 abbrev pub numeral : ℕ → List ℕ → Option ℕ
 numeral base word = if list_all (is_digit base) word && nat_lt (value_from base 0 word) (2 ^ 64) then Some (value_from base 0 word) else None
 
-abbrev or_broken : Rule → (ℕ → Bool) → Option ℕ → Result ℕ Rule
+abbrev pub or_broken : Rule → (ℕ → Bool) → Option ℕ → Result ℕ Rule
 or_broken rule fits None = Err rule
 or_broken rule fits (Some n) = if fits n then Ok n else Err rule
 
@@ -34,7 +34,7 @@ count_of most offset word = if nat_le 1 (length word) && nat_le (length word) 20
 abbrev pub mode_of : List ℕ → Result ℕ Rule
 mode_of word = if (length word == 3) || (length word == 4) then or_broken rules.Mode (λ n. nat_lt n 4096) (numeral 8 word) else Err rules.Mode
 
-abbrev bytes_or_broken : Result (List ℕ) FromHexError → Result (List ℕ) Rule
+abbrev pub bytes_or_broken : Result (List ℕ) FromHexError → Result (List ℕ) Rule
 bytes_or_broken (Ok bytes) = Ok bytes
 bytes_or_broken (Err e) = Err rules.Hex
 
@@ -42,7 +42,7 @@ bytes_or_broken (Err e) = Err rules.Hex
 abbrev pub hex_of : List ℕ → Result (List ℕ) Rule
 hex_of word = if nat_le 2 (length word) && nat_le (length word) 8192 then bytes_or_broken (decode_of word) else Err rules.Hex
 
-abbrev byte_or_broken : Result (List ℕ) FromHexError → Result ℕ Rule
+abbrev pub byte_or_broken : Result (List ℕ) FromHexError → Result ℕ Rule
 byte_or_broken (Ok []) = Err rules.Byte
 byte_or_broken (Ok (b ∷ bs)) = Ok b
 byte_or_broken (Err e) = Err rules.Byte

@@ -1,10 +1,12 @@
 -- A script: its lines one after the other, each with a call or skipped.
 use Rattle.std.specs.Prelude.{◌≡◌, ◌⊎◌, ◌<◌, ◌≤◌, ℕ, ◌+◌, List, [], ◌∷◌, ◌++◌, length, take, Option, Some, None, Result, Ok, Err}
 use Rattle.std.specs.Global.{Vec}
+use Rattle.std.specs.List.{AllByRecursion}
 use Rattle.jfs_bits.specs.Count.{Rose}
 use Rattle.jfs_bits.specs.declared.rule.Rule.{Rule}
 use Rattle.jfs_plain.specs.declared.call.Line.{Line}
 use Rattle.jfs_plain.specs.declared.call.Request.{Request}
+use Rattle.jfs_plain.specs.Limits.{FitsRequest}
 use Rattle.jfs_script.specs.declared.error.ScriptError.{ScriptError}
 use Rattle.jfs_script.specs.declared.error.ScriptError.TheVariants as errors
 use Rattle.jfs_script.specs.Lines.{lines_of}
@@ -59,3 +61,7 @@ abbrev pub LeavesNone : List ℕ → Result (Vec Line) ScriptError → Type 0
 LeavesNone rest (Ok lines) = rest ≡ []
 LeavesNone rest (Err (errors.BadScript line rule)) = rest ≡ []
 LeavesNone rest (Err _) = Unit {0}
+
+-- all calls are within the limits of calls
+abbrev pub AllFit : List Line → Type 0
+AllFit lines = AllByRecursion (λ line. FitsRequest line.request) lines

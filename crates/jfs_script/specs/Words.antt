@@ -22,7 +22,7 @@ PathIs word (Err rule) = ((rule ≡ rules.Path) × (place : ℕ) × BreaksAt wor
 
 -- ---- so many words, and no more
 
-abbrev Miscounted : {C : Type 0} → ℕ → List (List ℕ) → Result C Rule → Type 0
+abbrev pub Miscounted : {C : Type 0} → ℕ → List (List ℕ) → Result C Rule → Type 0
 Miscounted n words r = (length words ≢ n) × (r ≡ Err rules.Count)
 
 abbrev pub OneWord : {C : Type 0} → (List ℕ → Result C Rule → Type 0) → List (List ℕ) → Result C Rule → Type 0

@@ -1,7 +1,7 @@
 //! Scripts read from a source.
 
-ghost use Rattle.std.specs.Prelude.{◌≡◌, ◌≤◌, ◌++◌, ℕ, List};
-ghost use Rattle.jfs_script.specs.Script.{Means, LeavesNone};
+ghost use Rattle.std.specs.Prelude.{◌≡◌, ◌≤◌, ◌++◌, ℕ, List, IfOk};
+ghost use Rattle.jfs_script.specs.Script.{Means, LeavesNone, AllFit};
 
 use crate::error::ScriptError;
 use crate::reader::Reader;
@@ -21,6 +21,7 @@ pub fn read_script<S: Source>(alloc: Global, source: &mut S) -> Result<Vec<Line>
     // A source that tells its bytes has the script; of another one the bytes that it gave are.
     ensures answer { (script : List ℕ) × (S.tells → script ≡ S.remaining source.old) × Means script (S.fault_count source.old) (S.fault_count source.new) result }
     ensures rest { S.tells → LeavesNone (S.remaining source.new) result }
+    ensures fits { IfOk result (λ lines. AllFit lines.items) }
     ensures later { S.fault_count source.old ≤ S.fault_count source.new }
 {
     let mut reader = Reader::new(alloc);

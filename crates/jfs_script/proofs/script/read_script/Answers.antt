@@ -2,6 +2,7 @@ use Rattle.std.proofs.Common.{◌≡◌, ◌<◌, ◌≤◌, ◌+◌, ◌-◌, �
 use Rattle.std.proofs.lemmas.List.{append-nil, length-take-le, length-drop}
 use Rattle.jfs_bits.specs.Count.{Rose}
 use Rattle.jfs_script.proofs.Reading.{IsPiece, piece_of, parts_after, more_taken, finished, stopped, too_long, means_err}
+use Rattle.jfs_script.proofs.Fitting.{finished_fits}
 use Rattle.jfs_script.proofs.script.read_script.Goals as goal
 
 pub returns-in-Err-clause-answer : goal.returns-in-Err-clause-answer
@@ -60,3 +61,8 @@ returns-clause-answer g c =
     let inv = c.loop-taken.invariant.so_far in
     let size : length inv.front ≡ 16777217 = omega (arith, inv.size, inv.within) in
     (inv.front ++ g.S.Source.remaining c.loop-taken.source, λ t. sym (inv.left t), too_long inv.front (g.S.Source.remaining c.loop-taken.source) 0 0 c.loop-taken.reader size inv.read)
+
+pub returns-then-count-eq0-clause-fits : goal.returns-then-count-eq0-clause-fits
+returns-then-count-eq0-clause-fits g c =
+    let inv = c.loop-taken.invariant.so_far in
+    finished_fits inv.front c.finish.result (c.finish.ensures inv.front inv.read)
