@@ -1,0 +1,10 @@
+use Rattle.std.proofs.Common.{◌∙◌, ap, [], length}
+use Rattle.jfs_xtree.specs.Spells.{root_form}
+use Rattle.jfs_xtree.proofs.Roots.{new_leaf_root, new_list_root}
+use Rattle.jfs_xtree.proofs.root.new_root.Goals as goal
+
+pub returns-clause-leaf : goal.returns-clause-leaf
+returns-clause-leaf c = λ blocks. new_leaf_root c.root_form-form.result (root_form (length c.args.root.now)) blocks c.xt_new.new.bytes _ c.root_form-form.ensures c.xt_new.ensures.head c.xt_new.ensures.entries
+
+pub returns-clause-list : goal.returns-clause-list
+returns-clause-list c = λ blocks pages. new_list_root c.root_form-form.result (root_form (length c.args.root.now)) blocks pages c.xt_new.new.bytes _ c.root_form-form.ensures c.xt_new.ensures.head c.xt_new.ensures.entries

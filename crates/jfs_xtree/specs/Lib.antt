@@ -1,0 +1,5 @@
+-- what a root spells, what the calls do, and how pages are read
+pub mod Spells
+pub mod Node
+pub mod Errors
+pub mod Laws

@@ -1,0 +1,64 @@
+-- What a root in an inode spells: the list of its extents. (JFS Layout: an extent tree has its root in the inode, in 288 bytes; a small root has 96.)
+use Rattle.std.specs.Prelude.{◌≡◌, ◌⊎◌, ◌<◌, ◌==◌, if◌then◌else◌, ℕ, List, [], ◌∷◌, ◌++◌, Option, Result, Ok, Err, length}
+use Rattle.jfs_bits.specs.declared.extent.Xad.{Xad}
+use Rattle.jfs_bits.specs.declared.descriptor.Pxd.{Pxd}
+use Rattle.jfs_bits.specs.declared.rule.Rule.{Rule}
+use Rattle.jfs_disk.specs.Image.{Image, page_of}
+use Rattle.jfs_ranges.specs.View.{CarriesCount}
+use Rattle.jfs_ranges.specs.declared.edit.Edit.{Edit}
+use Rattle.jfs_ranges.specs.Apply.{apply_tx}
+use Rattle.jfs_tree.specs.Walk.{Node}
+use Rattle.jfs_tree.specs.Spells.{spells, footprint}
+use Rattle.jfs_tree.specs.Edit.{found_in}
+use Rattle.jfs_tree.specs.declared.form.TreeError.{TreeError}
+use Rattle.jfs_tree.specs.declared.form.TreeError.TheVariants as tree
+use Rattle.jfs_xtpage.specs.declared.head.XtForm.{XtForm}
+use Rattle.jfs_xtpage.specs.declared.head.XtForm.TheVariants.{Root, Full, Small}
+use Rattle.jfs_xtree.specs.Node.{xt_scale, xt_node}
+use Rattle.jfs_xtree.specs.declared.error.XtError.{XtError}
+use Rattle.jfs_xtree.specs.declared.error.XtError.TheVariants.{View, Bad}
+
+-- a root has one of two sizes
+abbrev pub IsRootSize : ℕ → Type 0
+IsRootSize size = (size ≡ 288) ⊎ (size ≡ 96)
+
+abbrev pub root_form : ℕ → XtForm
+root_form size = if size == 96 then Small else Root
+
+-- the root, and the pages below it, on a volume whose file system part has so many blocks
+abbrev pub root_node : ℕ → List ℕ → Node ℕ Xad
+root_node blocks root = xt_node (root_form (length root)) blocks root
+
+abbrev pub page_nodes : ℕ → (ℕ → List ℕ) → ℕ → Node ℕ Xad
+page_nodes blocks pages n = xt_node Full blocks (pages n)
+
+-- what a root spells in these pages: its extents, or the first broken rule and the page that breaks it
+abbrev pub spells_extents : ℕ → (ℕ → List ℕ) → List ℕ → Result (List Xad) (ℕ × Rule)
+spells_extents blocks pages root = spells xt_scale (page_nodes blocks pages) (root_node blocks root)
+
+-- the pages below it, which are its own
+abbrev pub owned_pages : ℕ → (ℕ → List ℕ) → List ℕ → ℕ → ℕ
+owned_pages blocks pages root = footprint xt_scale (page_nodes blocks pages) (root_node blocks root)
+
+-- the extent of a list that has a block of the file
+abbrev pub point : ℕ → Xad
+point offset = record { flag = 0; offset = offset; at = record { len = 1; addr = 0 } }
+
+abbrev pub extent_at : ℕ → List Xad → Option Xad
+extent_at offset es = found_in xt_scale (point offset) es
+
+-- an error, as trees of pages name it
+abbrev pub tree_error : XtError → TreeError
+tree_error (View e) = tree.View e
+tree_error (Bad page rule) = tree.Bad page rule
+
+-- the count of faults rises only with a fault, which carries the count that it raised
+abbrev pub CarriesXt : {T : Type 0} → ℕ → ℕ → Result T XtError → Type 0
+CarriesXt before now (Ok it) = now ≡ before
+CarriesXt {T} before now (Err (View e)) = CarriesCount {T = T} before now (Err e)
+CarriesXt before now (Err (Bad page rule)) = now ≡ before
+
+-- a page could not be read, or memory ran out
+abbrev pub IsView : XtError → Type 0
+IsView (View e) = Unit {0}
+IsView (Bad page rule) = ⊥

@@ -1,0 +1,16 @@
+//! Extent trees: which blocks of the volume a file's blocks are.
+#![tactic(auto)]
+
+mod check;
+mod children;
+mod error;
+mod find;
+mod form;
+mod parts;
+mod place;
+mod root;
+
+pub use error::XtError;
+pub use find::lookup;
+pub use form::XtPages;
+pub use root::new_root;
