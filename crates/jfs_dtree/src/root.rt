@@ -1,0 +1,44 @@
+//! The root of a directory.
+
+ghost use Rattle.std.specs.Prelude.{◌≡◌, [], length, true};
+ghost use Rattle.jfs_dtpage.specs.declared.head.DtForm.TheVariants.{Root};
+ghost use Rattle.jfs_dtpage.specs.Form.{is_leaf};
+ghost use Rattle.jfs_dtpage.specs.Page.{entries_of, IsDtPage};
+ghost use Rattle.jfs_dtree.specs.Parent.{parent_of};
+
+use jfs_bits::{Pxd, get_u32, put_u32};
+use jfs_dtpage::{DtForm, dt_new};
+
+/// Where a root names the parent directory's inode.
+const PARENT: usize = 20;
+
+/// The parent directory's inode; the root directory names itself.
+pub fn parent(root: &[u8]) -> u32
+    requires { length root.now ≡ 288 }
+    ensures { result ≡ parent_of root.now }
+{
+    get_u32(root, PARENT)
+}
+
+/// Sets the parent directory's inode, and nothing else.
+pub fn set_parent(root: &mut [u8], parent: u32)
+    requires { length root.old ≡ 288 }
+    ensures parent { parent_of root.new ≡ parent }
+    ensures kind { is_leaf root.new ≡ is_leaf root.old }
+    ensures sound { IsDtPage Root root.old → IsDtPage Root root.new }
+    ensures entries { IsDtPage Root root.old → entries_of Root root.new ≡ entries_of Root root.old }
+{
+    put_u32(root, PARENT, parent);
+}
+
+/// Makes the root of an empty directory.
+pub fn new_root(root: &mut [u8], parent: u32)
+    requires { length root.old ≡ 288 }
+    ensures parent { parent_of root.new ≡ parent }
+    ensures sound { IsDtPage Root root.new }
+    ensures leaf { is_leaf root.new ≡ true }
+    ensures entries { entries_of Root root.new ≡ [] }
+{
+    dt_new(root, DtForm::Root, true, Pxd { len: 0, addr: 0 });
+    set_parent(root, parent);
+}
