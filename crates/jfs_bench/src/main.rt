@@ -1,8 +1,9 @@
-//! Benchmarks. With no words it does nothing; the word `disk`, `inodes`, `map` or `tx` picks one.
+//! Benchmarks. With no words it does nothing; the word `disk`, `inodes`, `log`, `map` or `tx` picks one.
 #![tactic(auto)]
 
 mod disk;
 mod inodes;
+mod log;
 mod map;
 mod tx;
 
@@ -13,6 +14,7 @@ fn main(rt: HostRuntime) -> io::Result<()> {
         match word.as_str() {
             "disk" => disk::time_disk(&rt)?,
             "inodes" => inodes::time_inodes(&rt)?,
+            "log" => log::time_log(&rt)?,
             "map" => map::time_map(&rt)?,
             "tx" => tx::time_tx(&rt)?,
             _ => {}
