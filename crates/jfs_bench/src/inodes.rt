@@ -63,7 +63,9 @@ pub fn time_inodes(rt: &HostRuntime) -> io::Result<()> {
         let start = Instant::now(rt)?;
         let found = take_often(&mut map, iags);
         let micros = start.elapsed(rt)?.as_micros();
-        println!(rt; "{iags} IAGs: {found} of {TIMED} inodes given back, found and taken in {micros} us")?;
+        println!(rt;
+            "{iags} IAGs: {found} of {TIMED} inodes given back, found and taken in {micros} us"
+        )?;
     }
     Ok(())
 }
