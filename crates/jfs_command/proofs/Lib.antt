@@ -7,4 +7,5 @@ pub mod Looking
 pub mod Showing
 pub mod LogLines
 pub mod LogShown
+pub mod Formatting
 pub mod Concluding

@@ -57,7 +57,7 @@ changes_nothing d old new held outcome is same = record {
   past = λ t. same.past t ∙ sym (is.past t);
 }
 
-ends_as : {D : Type 0} (d : Ghosts D) (m : Meaning) (old new : D) (outcome : Outcome) (held : Held) (end : End) → outcome.end ≡ end → IsHeld d old held
+pub ends_as : {D : Type 0} (d : Ghosts D) (m : Meaning) (old new : D) (outcome : Outcome) (held : Held) (end : End) → outcome.end ≡ end → IsHeld d old held
     → EndsBy m d.tells d.tells_crashes held (work_of outcome (held_of d new)) (faults_of d old new) (record { before = 0; now = 0 }) end → Performs d m old new outcome
 ends_as d m old new outcome held end is_end is ends = record {
   held = held;

@@ -1,10 +1,13 @@
 -- The grammar of the words of a command.
-use Rattle.std.specs.Prelude.{◌≡◌, ℕ, Bool, false, not, ◌&&◌, ◌==◌, if◌then◌else◌, List, [], ◌∷◌, map, codes, Result, Ok, Err}
+use Rattle.std.specs.Prelude.{◌≡◌, ℕ, Bool, false, not, nat_le, ◌&&◌, ◌==◌, if◌then◌else◌, List, [], ◌∷◌, length, map, codes, Option, Some, None, Result, Ok, Err}
+use Rattle.std.specs.List.{list_all}
 use Rattle.std.specs.Str.{is_utf8, bytes_eq}
 use Rattle.std.specs.Global.{Vec}
+use Rattle.uuid.specs.Text.{parsed}
+use Rattle.jfs_format.specs.Superblock.{label_field}
 use Rattle.jfs_command.specs.declared.words.Usage.{Usage}
 use Rattle.jfs_command.specs.declared.words.Command.{Command}
-use Rattle.jfs_command.specs.declared.words.Command.TheVariants.{Super, Log}
+use Rattle.jfs_command.specs.declared.words.Command.TheVariants.{Super, Log, Format}
 use Rattle.jfs_command.specs.declared.words.PathsError.{PathsError}
 use Rattle.jfs_command.specs.declared.words.PathsError.TheVariants as errors
 
@@ -20,6 +23,14 @@ begins_with_dash (b ∷ bs) = b == 45
 abbrev pub is_name : List ℕ → Bool
 is_name word = is_utf8 word && not (begins_with_dash word)
 
+-- a visible byte
+abbrev pub is_visible : ℕ → Bool
+is_visible b = nat_le 0x21 b && nat_le b 0x7E
+
+-- a label: 1 to 16 visible bytes, the first of them no dash
+abbrev pub is_label : List ℕ → Bool
+is_label word = nat_le 1 (length word) && (nat_le (length word) 16 && (list_all is_visible word && not (begins_with_dash word)))
+
 abbrev usage : ℕ → Result Command Usage
 usage word = Err (record { word = word })
 
@@ -29,12 +40,33 @@ image_alone command [] = usage 2
 image_alone command (image ∷ []) = if is_name image then Ok command else usage 2
 image_alone command (image ∷ more ∷ rest) = if is_name image then usage 3 else usage 2
 
+-- after an image and a UUID, a label or nothing
+abbrev pub with_label : List ℕ → List (List ℕ) → Result Command Usage
+with_label uuid [] = Ok (Format uuid (label_field []))
+with_label uuid (label ∷ []) = if is_label label then Ok (Format uuid (label_field label)) else usage 4
+with_label uuid (label ∷ more ∷ rest) = if is_label label then usage 5 else usage 4
+
+abbrev pub after_uuid : Option (List ℕ) → List (List ℕ) → Result Command Usage
+after_uuid None rest = usage 3
+after_uuid (Some uuid) rest = with_label uuid rest
+
+-- after an image, a UUID in any of its four forms
+abbrev pub with_uuid : List (List ℕ) → Result Command Usage
+with_uuid [] = usage 3
+with_uuid (uuid ∷ rest) = after_uuid (parsed uuid) rest
+
+-- the words of `format`: an image, a UUID, and perhaps a label
+abbrev pub image_and_uuid : List (List ℕ) → Result Command Usage
+image_and_uuid [] = usage 2
+image_and_uuid (image ∷ rest) = if is_name image then with_uuid rest else usage 2
+
 -- What the words ask for; else the first word that leaves the grammar, or the place after the last where one is missing.
 abbrev pub command_of : List (List ℕ) → Result Command Usage
 command_of [] = usage 1
 command_of (first ∷ rest) =
     if bytes_eq first (codes "super") then image_alone Super rest
     else if bytes_eq first (codes "log") then image_alone Log rest
+    else if bytes_eq first (codes "format") then image_and_uuid rest
     else usage 1
 
 -- the words leave the grammar where it says, or memory ran out

@@ -1,6 +1,7 @@
 //! The top call: the words of a command, its work on a disk, its status and its text.
 #![tactic(auto)]
 
+mod format;
 mod line;
 mod log;
 mod log_text;

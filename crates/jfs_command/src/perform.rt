@@ -4,6 +4,7 @@ ghost use Rattle.std.specs.Prelude.{◌≡◌, ◌≤◌};
 ghost use Rattle.jfs_command.specs.Inputs.{source_faults};
 ghost use Rattle.jfs_command.specs.Top.{PerformsCommand};
 
+use crate::format::format_volume;
 use crate::log::show_log;
 use crate::outcome::Outcome;
 use crate::show::show_super;
@@ -17,11 +18,11 @@ use std::alloc::Global;
 pub fn perform<D: Disk, S: Source>(
     alloc: Global,
     command: Command,
-    _now: Moment,
+    now: Moment,
     disk: &mut D,
     _scripts: &mut Vec<S>,
 ) -> Outcome
-    ensures meaning { PerformsCommand D.Disk S.Source command _now disk.old disk.new _scripts.old.items _scripts.new.items result }
+    ensures meaning { PerformsCommand D.Disk S.Source command now disk.old disk.new _scripts.old.items _scripts.new.items result }
     ensures pages { D.page_count disk.new ≡ D.page_count disk.old }
     ensures later { D.fault_count disk.old ≤ D.fault_count disk.new }
     ensures scripts { _scripts.new ≡ _scripts.old }
@@ -29,5 +30,6 @@ pub fn perform<D: Disk, S: Source>(
     match command {
         Command::Super => show_super(alloc, disk),
         Command::Log => show_log(alloc, disk),
+        Command::Format { uuid, label } => format_volume(alloc, disk, uuid, &label, now),
     }
 }

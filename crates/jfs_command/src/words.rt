@@ -1,10 +1,13 @@
 //! The grammar of the words. It is read by hand: there are few commands, and each refusal names its word.
 
-ghost use Rattle.std.specs.Prelude.{◌≡◌, Ok, IfOk, IfErr};
+ghost use Rattle.std.specs.Prelude.{◌≡◌, true, Ok, IfOk, IfErr};
+ghost use Rattle.std.specs.List.{list_all};
 ghost use Rattle.std.specs.Str.{is_utf8, bytes_eq};
-ghost use Rattle.jfs_command.specs.Words.{texts, is_name, begins_with_dash, command_of, image_alone, image_word, script_words, UsageIs};
+ghost use Rattle.jfs_format.specs.Superblock.{label_field};
+ghost use Rattle.jfs_command.specs.Words.{texts, is_visible, is_label, with_label, with_uuid, image_and_uuid, is_name, begins_with_dash, command_of, image_alone, image_word, script_words, UsageIs};
 
 use std::alloc::{AllocError, Global};
+use uuid::Uuid;
 
 /// The words leave the grammar at this word, counted from 1, or end before it.
 #[derive(Clone, Copy, PartialEq, Eq, Debug)]
@@ -19,19 +22,21 @@ pub enum Command {
     Super,
     /// Print the records of the image's log.
     Log,
+    /// Write an empty volume over all pages of the image; behind the label stand zeros.
+    Format { uuid: Uuid, label: [u8; 16] },
 }
 
 impl Command {
     /// The place of the word that names the image, counted from 1.
-    pub fn image(self) -> u32
-        ensures { result ≡ image_word self }
+    pub fn image(&self) -> u32
+        ensures { result ≡ image_word self.now }
     {
         2
     }
 
     /// The places of the words that name scripts. No command takes scripts yet.
-    pub fn scripts(self, alloc: Global) -> Result<Vec<u32>, AllocError>
-        ensures { IfOk result (λ places. places.items ≡ script_words self) }
+    pub fn scripts(&self, alloc: Global) -> Result<Vec<u32>, AllocError>
+        ensures { IfOk result (λ places. places.items ≡ script_words self.now) }
     {
         Ok(Vec::new(alloc))
     }
@@ -78,6 +83,7 @@ pub fn read_words(words: &[Vec<u8>]) -> Result<Command, Usage>
     match words {
         [first, rest @ ..] if is_word(first, b"super") => image_alone(Command::Super, rest),
         [first, rest @ ..] if is_word(first, b"log") => image_alone(Command::Log, rest),
+        [first, rest @ ..] if is_word(first, b"format") => image_and_uuid(rest),
         _ => Err(Usage { word: 1 }),
     }
 }
@@ -91,6 +97,68 @@ fn image_alone(command: Command, words: &[Vec<u8>]) -> Result<Command, Usage>
         [image, _, ..] if is_name(image) => Err(Usage { word: 3 }),
         _ => Err(Usage { word: 2 }),
     }
+}
+
+// The words of `format`: an image, a UUID, and perhaps a label.
+fn image_and_uuid(words: &[Vec<u8>]) -> Result<Command, Usage>
+    ensures { result ≡ image_and_uuid (texts words.now) }
+{
+    match words {
+        [image, rest @ ..] if is_name(image) => with_uuid(rest),
+        _ => Err(Usage { word: 2 }),
+    }
+}
+
+fn with_uuid(words: &[Vec<u8>]) -> Result<Command, Usage>
+    ensures { result ≡ with_uuid (texts words.now) }
+{
+    match words {
+        [uuid, rest @ ..] => match Uuid::try_parse_ascii(uuid) {
+            Ok(uuid) => with_label(uuid, rest),
+            Err(_) => Err(Usage { word: 3 }),
+        },
+        [] => Err(Usage { word: 3 }),
+    }
+}
+
+fn with_label(uuid: Uuid, words: &[Vec<u8>]) -> Result<Command, Usage>
+    ensures { result ≡ with_label uuid (texts words.now) }
+{
+    match words {
+        [] => Ok(Command::Format {
+            uuid,
+            label: [0; 16],
+        }),
+        [label] if is_label(label) => Ok(Command::Format {
+            uuid,
+            label: padded(label),
+        }),
+        [label, _, ..] if is_label(label) => Err(Usage { word: 5 }),
+        _ => Err(Usage { word: 4 }),
+    }
+}
+
+// A label and the zeros behind it.
+fn padded(label: &[u8]) -> [u8; 16]
+    requires { is_label label.now ≡ true }
+    ensures { result ≡ label_field label.now }
+{
+    let mut field = [0u8; 16];
+    field[..label.len()].copy_from_slice(label);
+    field
+}
+
+// A label has 1 to 16 visible bytes, the first of them no dash.
+fn is_label(word: &[u8]) -> bool
+    ensures { result ≡ is_label word.now }
+{
+    !word.is_empty() && word.len() <= 16 && all_visible(word) && !begins_with_dash(word)
+}
+
+fn all_visible(word: &[u8]) -> bool
+    ensures { result ≡ list_all is_visible word.now }
+{
+    word.iter().all(|byte| matches!(byte, 0x21..=0x7e))
 }
 
 fn is_word(word: &[u8], wanted: &[u8]) -> bool
