@@ -10,6 +10,7 @@ use Rattle.jfs_format.specs.declared.volume.NewVolume.{NewVolume}
 use Rattle.jfs_format.specs.declared.formatter.FormatError.{FormatError}
 use Rattle.jfs_format.specs.declared.formatter.FormatError.TheVariants as errors
 use Rattle.jfs_format.specs.Layout.{IsFormattable, layout_of, free_blocks}
+use Rattle.jfs_format.specs.Superblock.{new_super}
 use Rattle.jfs_format.specs.Volume.{wanted, IsNewVolume, IsOnTheWay, IsUnnamed}
 use Rattle.jfs_command.specs.declared.status.Status.{Status}
 use Rattle.jfs_command.specs.declared.status.Status.TheVariants.{Done, BadSize}
@@ -18,6 +19,7 @@ use Rattle.jfs_command.specs.declared.outcome.End.{End}
 use Rattle.jfs_command.specs.declared.outcome.End.TheVariants.{Own, Stopped}
 use Rattle.jfs_command.specs.Held.{Held, Work, ChangesNothing}
 use Rattle.jfs_command.specs.Meaning.{Meaning, Answer, finished, refused}
+use Rattle.jfs_command.specs.Superblock.{superblock_of}
 
 -- how many blocks the file system part has, and how many of them are free
 abbrev pub counts_text : ℕ → ℕ → List ℕ
@@ -43,6 +45,8 @@ pub record HasBegun (tells crashes : Type 0) (v : NewVolume) (held : Held) (work
 pub record HasFormatted (tells crashes : Type 0) (v : NewVolume) (held : Held) (work : Work) : Type 0 where
   pub begun : HasBegun tells crashes v held work
   pub volume : tells → IsNewVolume v work.held.image
+  -- page 8 reads as its superblock, with its UUID and label
+  pub reads : tells → superblock_of work.held ≡ new_super v
   pub stable : crashes → IsResting (last_of work.held.past)
 
 abbrev pub Formats : Status → (tells crashes : Type 0) → NewVolume → Held → Work → Type 0

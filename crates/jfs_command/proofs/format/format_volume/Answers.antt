@@ -15,6 +15,7 @@ returns-in-Ok-format_line-clause-meaning g c =
     (record {
       begun = record { history = made.history; told = made.told; unnamed = c.format.ensures.unnamed; moments = c.format.ensures.moments };
       volume = done.volume;
+      reads = done.reads;
       stable = done.stable;
     })
     (made.text ∙ ap (λ (v : Vec ℕ). v.items) c.into_bytes.ensures.value ∙ c.in-Ok-format_line.ensures
