@@ -1,5 +1,5 @@
 -- The command `log` does what it means.
-use Rattle.std.proofs.Common.{◌≡◌, ◌<◌, ◌+◌, ◌⊎◌, ℕ, List, [], ◌∷◌, length, drop, map, reverse, Result, Ok, Err, get_or-drop, inl, inr, refl, sym, ap, subst, ◌∙◌, arith}
+use Rattle.std.proofs.Common.{◌≡◌, ◌≤◌, ◌<◌, ◌+◌, ◌-◌, ◌*◌, ◌/◌, ◌⊎◌, ℕ, List, [], ◌∷◌, length, drop, map, reverse, Result, Ok, Err, get_or-drop, inl, inr, refl, sym, ap, subst, ◌∙◌, arith}
 use Rattle.std.specs.Global.{Vec}
 use Rattle.jfs_bits.specs.Count.{Rose}
 use Rattle.jfs_disk.specs.Image.{Image, page_of, ArePages}
@@ -9,14 +9,14 @@ use Rattle.jfs_super.specs.declared.fields.Geometry.{Geometry}
 use Rattle.jfs_super.specs.Rules.{blocks_of, IsAccepted}
 use Rattle.jfs_super.specs.Geometry.{geometry_of}
 use Rattle.jfs_super.proofs.Rules.{accepted_pages, accepted_layout}
-use Rattle.jfs_logpages.specs.Back.{Met, AreMet}
+use Rattle.jfs_logpages.specs.Back.{Met, AreMet, FromSync}
 use Rattle.jfs_logpages.specs.Outcome.{IsReadFault, IsRefusal, TellsNothing}
-use Rattle.jfs_logpages.specs.ReadLog.{IsReadLog}
+use Rattle.jfs_logpages.specs.ReadLog.{IsReadAs, IsReadLog}
 use Rattle.jfs_logpages.specs.declared.ring_text.RingText.{RingText}
 use Rattle.jfs_logpages.specs.declared.error.RingError.{RingError}
 use Rattle.jfs_logpages.specs.declared.error.RingError.TheVariants as errors
 use Rattle.jfs_logpages.proofs.OneAnswer.{has-one, looks}
-use Rattle.jfs_command.specs.declared.status.Status.{Status}
+use Rattle.jfs_logpages.proofs.Stops.{Ending, ends-once, read-ending}
 use Rattle.jfs_command.specs.declared.status.Status.TheVariants as statuses
 use Rattle.jfs_command.specs.declared.status.Stop.TheVariants as stops
 use Rattle.jfs_command.specs.declared.outcome.End.{End}
@@ -28,7 +28,7 @@ use Rattle.jfs_command.specs.Held.{Held}
 use Rattle.jfs_command.specs.Meaning.{Answer, LooksSame, Performs, finished, refused}
 use Rattle.jfs_command.specs.Superblock.{superblock_of, Looks}
 use Rattle.jfs_command.specs.LogText.{log_text}
-use Rattle.jfs_command.specs.Log.{log_of, LooksAtLog, LogSays, prints, is_foreign, is_bad, LogEnds, end_of, log_meaning}
+use Rattle.jfs_command.specs.Log.{log_of, LooksAtLog, LogSays, prints, is_foreign, is_bad, LogSaysOneThing, LogEnds, end_of, log_meaning}
 use Rattle.jfs_command.proofs.Looking.{GoesOn, ShowsSame, faults_of, comes, no_memory, disk_failed, seen, goes_on}
 
 -- ---- the log is one that may follow a look at the superblock
@@ -38,37 +38,54 @@ same_says pages blocks a b answer some same (prints read is m ms from e) = print
 same_says pages blocks a b answer some same (is_foreign label is e) = is_foreign label (looks pages blocks a b some same (Err (errors.ForeignLog label)) is) e
 same_says pages blocks a b answer some same (is_bad address rule is e) = is_bad address rule (looks pages blocks a b some same (Err (errors.BadLog address rule)) is) e
 
--- the status of a refusal
-abbrev status_for : RingError → Status
-status_for (errors.ForeignLog label) = statuses.ForeignLog label
-status_for (errors.BadLog address rule) = statuses.BadLog address rule
-status_for _ = statuses.Done
+-- what is answered of a refusal
+abbrev answer_for : RingError → Answer
+answer_for (errors.ForeignLog label) = refused (statuses.ForeignLog label)
+answer_for (errors.BadLog address rule) = refused (statuses.BadLog address rule)
+answer_for _ = refused statuses.Done
 
-one_refusal : (pages blocks : ℕ) (log : Image) (a b : RingError) → 2 < pages → (TellsNothing a → ⊥) → (TellsNothing b → ⊥) → IsReadLog pages blocks log (Err a) → IsReadLog pages blocks log (Err b) → status_for a ≡ status_for b
+one_refusal : (pages blocks : ℕ) (log : Image) (a b : RingError) → 2 < pages → (TellsNothing a → ⊥) → (TellsNothing b → ⊥) → IsReadLog pages blocks log (Err a) → IsReadLog pages blocks log (Err b) → answer_for a ≡ answer_for b
 one_refusal pages blocks log a b some tells_a tells_b x y = by (has-one pages blocks log some (Err a) (Err b) x y)
   where
-    by : (a ≡ b) ⊎ (TellsNothing a ⊎ TellsNothing b) → status_for a ≡ status_for b
-    by (inl same) = ap (λ (e : RingError). status_for e) same
+    by : (a ≡ b) ⊎ (TellsNothing a ⊎ TellsNothing b) → answer_for a ≡ answer_for b
+    by (inl same) = ap (λ (e : RingError). answer_for e) same
     by (inr (inl nothing)) = absurd (tells_a nothing)
     by (inr (inr nothing)) = absurd (tells_b nothing)
 
-status_is : (a b : Answer) → a ≡ b → a.status ≡ b.status
-status_is a b e = ap (λ (z : Answer). z.status) e
+-- the records of one text from the place on that the newest SYNCPT gives
+one_list : (ring first blocks : ℕ) (text : List ℕ) (m m' : Met) (ms ms' : List Met) → 0 < ring → length text ≤ 4080 * (ring / 2) → FromSync ring first blocks text m ms → FromSync ring first blocks text m' ms' → m ∷ ms ≡ m' ∷ ms'
+one_list ring first blocks text m m' ms ms' some half x y =
+    list_of (ends-once ring first blocks text (Ok (m ∷ ms)) (Ok (m' ∷ ms')) some half (read-ending ring first blocks text m ms x) (read-ending ring first blocks text m' ms' y))
+  where
+    list_of : {xs ys : List Met} → (let x : Ending = Ok xs in let y : Ending = Ok ys in x ≡ y) → xs ≡ ys
+    list_of e = cc
 
-one_status : (pages blocks : ℕ) (log : Image) (a b : Answer) → 2 < pages → LogSays pages blocks log a → LogSays pages blocks log b → a.status ≡ b.status
-one_status pages blocks log a b some (prints read is m ms from e) (prints read' is' m' ms' from' e') = status_is a _ e ∙ sym (status_is b _ e')
-one_status pages blocks log a b some (prints read is m ms from e) (is_foreign label is' e') = absurd (has-one pages blocks log some (Ok read) (Err (errors.ForeignLog label)) is is')
-one_status pages blocks log a b some (prints read is m ms from e) (is_bad address rule is' e') = absurd (has-one pages blocks log some (Ok read) (Err (errors.BadLog address rule)) is is')
-one_status pages blocks log a b some (is_foreign label is e) (prints read is' m ms from e') = absurd (has-one pages blocks log some (Err (errors.ForeignLog label)) (Ok read) is is')
-one_status pages blocks log a b some (is_bad address rule is e) (prints read is' m ms from e') = absurd (has-one pages blocks log some (Err (errors.BadLog address rule)) (Ok read) is is')
-one_status pages blocks log a b some (is_foreign label is e) (is_foreign label' is' e') =
-    status_is a _ e ∙ one_refusal pages blocks log (errors.ForeignLog label) (errors.ForeignLog label') some (λ n. n) (λ n. n) is is' ∙ sym (status_is b _ e')
-one_status pages blocks log a b some (is_foreign label is e) (is_bad address rule is' e') =
-    status_is a _ e ∙ one_refusal pages blocks log (errors.ForeignLog label) (errors.BadLog address rule) some (λ n. n) (λ n. n) is is' ∙ sym (status_is b _ e')
-one_status pages blocks log a b some (is_bad address rule is e) (is_foreign label is' e') =
-    status_is a _ e ∙ one_refusal pages blocks log (errors.BadLog address rule) (errors.ForeignLog label) some (λ n. n) (λ n. n) is is' ∙ sym (status_is b _ e')
-one_status pages blocks log a b some (is_bad address rule is e) (is_bad address' rule' is' e') =
-    status_is a _ e ∙ one_refusal pages blocks log (errors.BadLog address rule) (errors.BadLog address' rule') some (λ n. n) (λ n. n) is is' ∙ sym (status_is b _ e')
+one_text : (pages blocks : ℕ) (log : Image) (a b : RingText) (m m' : Met) (ms ms' : List Met) → 2 < pages → IsReadAs pages blocks log a → IsReadAs pages blocks log b → FromSync (pages - 2) a.first blocks a.bytes.items m ms → FromSync (pages - 2) b.first blocks b.bytes.items m' ms'
+    → log_text (pages - 2) a.first (length a.bytes.items) (m ∷ ms) ≡ log_text (pages - 2) b.first (length b.bytes.items) (m' ∷ ms')
+one_text pages blocks log a b m m' ms ms' some x y from from' =
+    let ring = pages - 2 in
+    let same = has-one pages blocks log some (Ok a) (Ok b) x y in
+    let half : length a.bytes.items ≤ 4080 * (ring / 2) = subst (λ (n : ℕ). length a.bytes.items ≤ 4080 * (n / 2)) x.ring a.half in
+    let moved = subst (λ (n : ℕ). FromSync ring n blocks a.bytes.items m' ms') (sym same.0) (subst (λ (t : List ℕ). FromSync ring b.first blocks t m' ms') (sym same.1) from') in
+    let records = one_list ring a.first blocks a.bytes.items m m' ms ms' (omega (arith, some)) half from moved in
+    ap (λ (all : List Met). log_text ring a.first (length a.bytes.items) all) records
+    ∙ ap (λ (n : ℕ). log_text ring n (length a.bytes.items) (m' ∷ ms')) same.0
+    ∙ ap (λ (t : List ℕ). log_text ring b.first (length t) (m' ∷ ms')) same.1
+
+pub one_thing : LogSaysOneThing
+one_thing pages blocks log a b some (prints read is m ms from e) (prints read' is' m' ms' from' e') = e ∙ ap finished (one_text pages blocks log read read' m m' ms ms' some is is' from from') ∙ sym e'
+one_thing pages blocks log a b some (prints read is m ms from e) (is_foreign label is' e') = absurd (has-one pages blocks log some (Ok read) (Err (errors.ForeignLog label)) is is')
+one_thing pages blocks log a b some (prints read is m ms from e) (is_bad address rule is' e') = absurd (has-one pages blocks log some (Ok read) (Err (errors.BadLog address rule)) is is')
+one_thing pages blocks log a b some (is_foreign label is e) (prints read is' m ms from e') = absurd (has-one pages blocks log some (Err (errors.ForeignLog label)) (Ok read) is is')
+one_thing pages blocks log a b some (is_bad address rule is e) (prints read is' m ms from e') = absurd (has-one pages blocks log some (Err (errors.BadLog address rule)) (Ok read) is is')
+one_thing pages blocks log a b some (is_foreign label is e) (is_foreign label' is' e') =
+    e ∙ one_refusal pages blocks log (errors.ForeignLog label) (errors.ForeignLog label') some (λ n. n) (λ n. n) is is' ∙ sym e'
+one_thing pages blocks log a b some (is_foreign label is e) (is_bad address rule is' e') =
+    e ∙ one_refusal pages blocks log (errors.ForeignLog label) (errors.BadLog address rule) some (λ n. n) (λ n. n) is is' ∙ sym e'
+one_thing pages blocks log a b some (is_bad address rule is e) (is_foreign label is' e') =
+    e ∙ one_refusal pages blocks log (errors.BadLog address rule) (errors.ForeignLog label) some (λ n. n) (λ n. n) is is' ∙ sym e'
+one_thing pages blocks log a b some (is_bad address rule is e) (is_bad address' rule' is' e') =
+    e ∙ one_refusal pages blocks log (errors.BadLog address rule) (errors.BadLog address' rule') some (λ n. n) (λ n. n) is is' ∙ sym e'
 
 abbrev pub log_says : Held → Super → Answer → Type 0
 log_says held s = LogSays s.logpxd.len (blocks_of s) (log_of held s)
@@ -89,7 +106,7 @@ pub log_goes : GoesOn LooksAtLog log_says
 log_goes = record {
   page8 = λ held there. inl (refl, there);
   rests = λ a b answer accepted same said. same_says (superblock_of a).logpxd.len (blocks_of (superblock_of a)) (log_of a (superblock_of a)) (log_of b (superblock_of a)) answer (enough a accepted) (same_log a b accepted same) said;
-  one = λ held x y accepted said also. one_status (superblock_of held).logpxd.len (blocks_of (superblock_of held)) (log_of held (superblock_of held)) x y (enough held accepted) said also;
+  one = λ held x y accepted said also. ap (λ (z : Answer). z.status) (one_thing (superblock_of held).logpxd.len (blocks_of (superblock_of held)) (log_of held (superblock_of held)) x y (enough held accepted) said also);
 }
 
 -- ---- what was read of the log

@@ -43,6 +43,10 @@ pub data LogSays (pages blocks : ℕ) (log : Image) (answer : Answer) : Type 0 w
   -- this is the first rule that it breaks, and where
   is_bad : (address : ℕ) → (rule : Rule) → BreaksLog pages blocks log address rule → answer ≡ refused (BadLog address rule) → LogSays pages blocks log answer
 
+-- of one log one answer is given, text and all
+abbrev pub LogSaysOneThing : Type 0
+LogSaysOneThing = (pages blocks : ℕ) (log : Image) (a b : Answer) → 2 < pages → LogSays pages blocks log a → LogSays pages blocks log b → a ≡ b
+
 -- it writes nothing
 abbrev pub log_meaning : Meaning
 log_meaning = only_looks LooksAtLog (λ held. AfterSuperblock held (λ s. LogSays s.logpxd.len (blocks_of s) (log_of held s)))

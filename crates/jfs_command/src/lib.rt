@@ -2,6 +2,7 @@
 #![tactic(auto)]
 
 mod format;
+mod law;
 mod line;
 mod log;
 mod log_text;
@@ -15,6 +16,7 @@ mod text;
 mod top;
 mod words;
 
+pub use law::log_says_one_thing;
 pub use outcome::Entry;
 pub use status::Status;
 pub use top::{Ended, jfs_top};

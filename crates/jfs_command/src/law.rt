@@ -1,0 +1,8 @@
+//! What is true of all answers of a command.
+
+ghost use Rattle.jfs_command.specs.Log.{LogSaysOneThing};
+
+/// Of one log one answer is given, text and all.
+pub fn log_says_one_thing()
+    ensures { LogSaysOneThing }
+{}
