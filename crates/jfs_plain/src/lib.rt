@@ -1,11 +1,26 @@
 //! File calls, their replies, and what each does to a plain file tree.
 #![tactic(auto)]
 
+mod asked;
 mod call;
+mod content;
+mod contents;
 mod copy;
+mod entries;
+mod fresh;
+mod moves;
+mod naming;
+mod node;
+mod plain;
 mod refusal;
+mod removal;
+mod rename;
 mod reply;
+mod step;
 
 pub use call::{Ack, Call, Entry, Line, Request};
+pub use entries::Entries;
+pub use node::{Node, Times};
+pub use plain::PlainTree;
 pub use refusal::Refusal;
 pub use reply::{NodeKind, Reply, Stat};
