@@ -1,16 +1,16 @@
 -- Changes one after another.
-use Rattle.std.proofs.Common.{◌≡◌, ◌⊎◌, inl, inr, refl, sym, ap, subst, ◌∙◌, ℕ, Bool, true, false, nat_le, nat_lt, ◌+◌, ◌-◌, ◌&&◌, List, length, get_or, if◌then◌else◌, ◌==◌, Option, Some, None, option_map, Result, Ok, Err}
+use Rattle.std.proofs.Common.{◌≡◌, ◌⊎◌, inl, inr, refl, sym, ap, subst, ◌∙◌, ℕ, Bool, true, false, not, nat_le, nat_lt, ◌+◌, ◌-◌, ◌&&◌, List, length, get_or, if◌then◌else◌, ◌==◌, Option, Some, None, option_map, Result, Ok, Err}
 use Rattle.jfs_bits.specs.declared.descriptor.Moment.{Moment}
 use Rattle.jfs_plain.specs.declared.refusal.Refusal.{Refusal}
 use Rattle.jfs_plain.specs.declared.refusal.Refusal.TheVariants.{OutOfMemory}
 use Rattle.jfs_plain.specs.declared.reply.Reply.{Reply}
-use Rattle.jfs_plain.specs.declared.reply.Reply.TheVariants.{Refused}
+use Rattle.jfs_plain.specs.declared.reply.Reply.TheVariants.{Done, Refused}
 use Rattle.jfs_plain.specs.declared.node.Node.{Node}
 use Rattle.jfs_plain.specs.declared.plain.PlainTree.{PlainTree}
-use Rattle.jfs_plain.specs.Tree.{Tree, Place, and_then}
-use Rattle.jfs_plain.specs.Moves.{Same, stamped, falls, changed, made, dropped, filled, cut, byte_after, unnamed, leads, gains, moves, rises, shifts, arrives, displaced}
-use Rattle.jfs_plain.specs.Step.{Outcome, Answers, refuse, unless, within_limit, departs}
-use Rattle.jfs_plain.specs.Plain.{Became, Meets, tree_of}
+use Rattle.jfs_plain.specs.Tree.{Tree, Place, Found, and_then}
+use Rattle.jfs_plain.specs.Moves.{Same, stamped, falls, changed, made, dropped, filled, cut, byte_after, unnamed, leads, loses, moves, rises, shifts, displaced}
+use Rattle.jfs_plain.specs.Step.{Room, Outcome, Answers, refuse, unless, within_limit, links_of, gained, departs, why_barred, why_kept, renamed}
+use Rattle.jfs_plain.specs.Plain.{Became, Meets, ample, tree_of}
 
 pub same : (t : Tree) → Same t t
 same t = record { nodes = λ n. refl; bytes = λ n i. refl }
@@ -68,20 +68,34 @@ then_within f e = ap (λ o. within_limit o f) e
 
 -- ---- the changes of a rename
 
-pub same_shifts : (from to : ℕ) {t u : Tree} → Same t u → Same (shifts from to t) (shifts from to u)
-same_shifts from to s = same_either (from == to) s (same_changed from falls (same_changed to rises s))
+pub and_shifts : (is_dir : Bool) (from to : ℕ) {t : Tree} {mid new : PlainTree} → Same t (tree_of mid) → Became mid new (shifts is_dir from to) → Same (shifts is_dir from to t) (tree_of new)
+and_shifts is_dir from to s b = same_then (same_either (is_dir && not (from == to)) (same_changed from falls (same_changed to rises s)) s) (became b)
 
-pub same_arrives : (n : ℕ) (is_dir : Bool) (from to : ℕ) (now : Moment) {t u : Tree} → Same t u → Same (arrives n is_dir from to now t) (arrives n is_dir from to now u)
-same_arrives n is_dir from to now s = same_changed n (stamped now) (same_either is_dir (same_changed n (moves to) (same_shifts from to s)) s)
-
-pub same_displaced : (n : ℕ) (was_dir : Bool) (links dir : ℕ) (now : Moment) {t u : Tree} → Same t u → Same (displaced n was_dir links dir now t) (displaced n was_dir links dir now u)
-same_displaced n was_dir links dir now s = same_either was_dir (same_dropped n (same_changed dir falls s)) (same_unnamed n links now s)
+pub and_displaced : (n : ℕ) (by_dir : Bool) (links from : ℕ) (now : Moment) {t : Tree} {mid new : PlainTree} → Same t (tree_of mid) → Became mid new (displaced n by_dir links from now) → Same (displaced n by_dir links from now t) (tree_of new)
+and_displaced n by_dir links from now s b = same_then (same_either by_dir (same_changed from falls (same_dropped n s)) (same_unnamed n links now s)) (became b)
 
 pub and_departs : (n : ℕ) (is_dir : Bool) (p : Place) (to : ℕ) (now : Moment) {t : Tree} {mid new : PlainTree} → Same t (tree_of mid) → Became mid new (departs n is_dir p to now) → Same (departs n is_dir p to now t) (tree_of new)
-and_departs n is_dir p to now s b = same_then (same_changed _ _ (same_arrives n is_dir p.dir to now s)) (became b)
+and_departs n is_dir p to now s b = same_then (same_changed p.dir (loses p.name now) (same_changed n (stamped now) (same_either is_dir (same_changed n (moves to) s) s))) (became b)
 
-pub and_displaced : (n : ℕ) (was_dir : Bool) (links dir : ℕ) (now : Moment) {t : Tree} {mid new : PlainTree} → Same t (tree_of mid) → Became mid new (displaced n was_dir links dir now) → Same (displaced n was_dir links dir now t) (tree_of new)
-and_displaced n was_dir links dir now s b = same_then (same_displaced n was_dir links dir now s) (became b)
+if_true : (b : Bool) (x y : Outcome) → b ≡ true → (if b then x else y) ≡ x
+if_true b x y e = ap (λ z. if z then x else y) e
+
+if_false : (b : Bool) (x y : Outcome) → b ≡ false → (if b then x else y) ≡ y
+if_false b x y e = ap (λ z. if z then x else y) e
+
+-- two names of one object
+pub to_same : (room : Room) (t : Tree) (n : ℕ) (by_dir inside : Bool) (p q : Place) (now : Moment) (o : Option Found) (old : Found) → o ≡ Some old → (old.inode == n) ≡ true → renamed room t n by_dir inside p q now o ≡ Ok (Done, t)
+to_same room t n by_dir inside p q now o old e s = ap (λ x. renamed room t n by_dir inside p q now x) e ∙ if_true (old.inode == n) _ _ s
+
+-- to a place where nothing is
+pub to_free : (limit fresh : ℕ) (t : Tree) (n : ℕ) (by_dir inside : Bool) (p q : Place) (now : Moment) (o : Option Found) → o ≡ None → why_barred by_dir inside (p.dir == q.dir) (links_of t q.dir) ≡ None
+    → renamed (ample limit fresh) t n by_dir inside p q now o ≡ Ok (Done, departs n by_dir p q.dir now (shifts by_dir p.dir q.dir (gained q n now t)))
+to_free limit fresh t n by_dir inside p q now o e w = ap (λ x. renamed (ample limit fresh) t n by_dir inside p q now x) e ∙ unless_none _ w
+
+-- to the place of another
+pub to_taken : (limit fresh : ℕ) (t : Tree) (n : ℕ) (by_dir inside : Bool) (p q : Place) (now : Moment) (o : Option Found) (old : Found) → o ≡ Some old → (old.inode == n) ≡ false → why_kept limit by_dir inside old.node ≡ None
+    → renamed (ample limit fresh) t n by_dir inside p q now o ≡ Ok (Done, departs n by_dir p q.dir now (displaced old.inode by_dir old.node.links p.dir now (changed q.dir (leads q.name n now) t)))
+to_taken limit fresh t n by_dir inside p q now o old e d w = ap (λ x. renamed (ample limit fresh) t n by_dir inside p q now x) e ∙ if_false (old.inode == n) _ _ d ∙ unless_none _ w
 
 -- ---- contents
 
@@ -90,9 +104,9 @@ same_filled n offset new s = record { nodes = s.nodes; bytes = λ k i j. if n ==
 
 -- ---- the plain step
 
-pub done_steps : {t u : Tree} {out : Outcome} {reply : Reply} → Meets t out (Ok reply) u → Answers t out reply u
-done_steps {t} {u} {out} {reply} m = subst (λ x. Answers t x reply u) (sym m.1) (refl, m.2)
+pub done_steps : (t u : Tree) (out : Outcome) (reply : Reply) → Meets t out (Ok reply) u → Answers t out reply u
+done_steps t u out reply m = subst (λ x. Answers t x reply u) (sym m.1) (refl, m.2)
 
-pub refused_steps : {t u : Tree} {out : Outcome} {why : Refusal} → Meets t out (Err why) u → Answers t out (Refused why) u ⊎ ((Refused why ≡ Refused OutOfMemory) × Same t u)
-refused_steps {t} {u} {out} {why} (inl e, s) = inl (subst (λ x. Answers t x (Refused why) u) (sym e) (refl, s))
-refused_steps (inr e, s) = inr (ap Refused e, s)
+pub refused_steps : (t u : Tree) (out : Outcome) (why : Refusal) → Meets t out (Err why) u → Answers t out (Refused why) u ⊎ ((Refused why ≡ Refused OutOfMemory) × Same t u)
+refused_steps t u out why (inl e, s) = inl (subst (λ x. Answers t x (Refused why) u) (sym e) (refl, s))
+refused_steps t u out why (inr e, s) = inr (ap Refused e, s)

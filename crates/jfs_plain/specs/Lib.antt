@@ -2,3 +2,8 @@
 pub mod Call
 pub mod Refusal
 pub mod Limits
+pub mod Names
+pub mod Tree
+pub mod Moves
+pub mod Step
+pub mod Plain
