@@ -10,6 +10,7 @@ pub mod Found
 pub mod Judge
 pub mod Once
 pub mod Replace
+mod Rekey
 pub mod Roots
 pub mod Spelled
 pub mod Footprint
@@ -23,3 +24,7 @@ pub mod RootCalls
 pub mod Moving
 pub mod DraftTold
 pub mod Within
+mod Shrinking
+mod Shrank
+mod Losing
+mod Removed

@@ -2,8 +2,10 @@
 pub mod Walk
 pub mod Spells
 pub mod Edit
+pub mod Shrink
 pub mod Draft
 pub mod Tell
 pub mod Call
 pub mod Root
 pub mod Form
+pub mod Removal

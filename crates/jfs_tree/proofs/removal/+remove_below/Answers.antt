@@ -1,0 +1,51 @@
+use Rattle.std.proofs.Common.{◌≡◌, ◌-◌, [], sym, ap, ◌∙◌, subst, arith, Ok, Err, None, List}
+use Rattle.jfs_tree.specs.Draft.{shown}
+use Rattle.jfs_tree.specs.Form.{Leads}
+use Rattle.jfs_tree.specs.Call.{pages_of, Finds}
+use Rattle.jfs_tree.specs.Removal.{entry_of}
+use Rattle.jfs_tree.specs.declared.draft.Drafted.{Drafted}
+use Rattle.jfs_tree.proofs.Finding.{down_finds, down_breaks}
+use Rattle.jfs_tree.proofs.Removed.{here_shrank, here_found, down_shrank, down_found}
+use Rattle.jfs_tree.proofs.removal.+remove_below.Goals as goal
+
+pub returns-in-Ok-Here-clause-shrank : goal.returns-in-Ok-Here-clause-shrank
+returns-in-Ok-Here-clause-shrank g t c tells =
+    let leads = subst (λ w. Leads g.F.PageForm.scale c.args.x.now (g.F.PageForm.node c.args.form.now c.bytes.result.now) (Ok w)) c.in-Ok-Here.field-0-is c.in-Ok-Here.ensures.way in
+    here_shrank (g.F.PageForm.node c.args.form.now) g.F.PageForm.scale c.args.x.now c.in-Ok.bytes.0 c.args.page c.args.draft.now.pages.items c.remove_here.new.draft.pages.items c.args.freed.now.items c.remove_here.new.freed.items (g.V.PageView.image c.args.view.now)
+    leads.0 c.remove_here.result c.remove_here.ensures.did c.requires.fresh (c.in-Ok.ensures.bytes tells) (ap (g.F.PageForm.node c.args.form.now) (sym c.bytes.ensures.value) ∙ leads.1)
+
+pub returns-in-Ok-Here-clause-found : goal.returns-in-Ok-Here-clause-found
+returns-in-Ok-Here-clause-found g t c tells =
+    let leads = subst (λ w. Leads g.F.PageForm.scale c.args.x.now (g.F.PageForm.node c.args.form.now c.bytes.result.now) (Ok w)) c.in-Ok-Here.field-0-is c.in-Ok-Here.ensures.way in
+    here_found (g.F.PageForm.node c.args.form.now) g.F.PageForm.scale c.args.x.now c.in-Ok.bytes.0 c.args.page c.args.draft.now.pages.items c.remove_here.new.draft.pages.items c.args.freed.now.items c.remove_here.new.freed.items (g.V.PageView.image c.args.view.now)
+    c.remove_here.result c.remove_here.ensures.did c.requires.fresh (c.in-Ok.ensures.bytes tells) (rw (sym c.bytes.ensures.value) leads)
+
+pub returns-in-Ok-Some-clause-shrank : goal.returns-in-Ok-Some-clause-shrank
+returns-in-Ok-Some-clause-shrank g t c tells =
+    let leads = subst (λ w. Leads g.F.PageForm.scale c.args.x.now (g.F.PageForm.node c.args.form.now c.bytes.result.now) (Ok w)) c.in-Ok-Down.field-0-is c.in-Ok-Down.ensures.way in
+    let image = g.V.PageView.image c.args.view.now in
+    down_shrank (g.F.PageForm.node c.args.form.now) g.F.PageForm.scale c.args.x.now c.in-Ok.bytes.0 c.args.page c.in-Ok-Down.place c.in-Ok-Down.child c.in-Ok-Some.shrunk c.in-Ok-Some.field-0 c.remove_below.new.draft.pages.items c.remove_place.new.draft.pages.items c.args.freed.now.items c.remove_below.new.freed.items c.remove_place.new.freed.items image (g.V.PageView.image c.read.new.view) c.remove_place.result
+    c.remove_place.ensures.did c.remove_place.ensures.same (c.read.ensures.kept tells) (c.in-Ok.ensures.bytes tells ∙ ap (λ (d : List Drafted). shown d image c.args.page) c.requires.fresh) (rw (sym c.bytes.ensures.value) leads) c.in-Ok-Some.field-0-is (c.in-Ok-Some.ensures.shrank tells)
+
+pub returns-in-Ok-Some-clause-found : goal.returns-in-Ok-Some-clause-found
+returns-in-Ok-Some-clause-found g t c tells =
+    let leads = subst (λ w. Leads g.F.PageForm.scale c.args.x.now (g.F.PageForm.node c.args.form.now c.bytes.result.now) (Ok w)) c.in-Ok-Down.field-0-is c.in-Ok-Down.ensures.way in
+    let image = g.V.PageView.image c.args.view.now in
+    down_found (g.F.PageForm.node c.args.form.now) g.F.PageForm.scale g.met.F.PageForm.order c.args.x.now c.requires.point image (g.V.PageView.image c.read.new.view) c.args.page c.in-Ok-Down.place c.in-Ok-Down.child c.in-Ok-Down.field-0-2 c.in-Ok.bytes.0 c.in-Ok-Some.shrunk c.in-Ok-Some.field-0 c.remove_place.result
+    c.remove_place.ensures.same (c.read.ensures.kept tells) (c.in-Ok.ensures.bytes tells ∙ ap (λ (d : List Drafted). shown d image c.args.page) c.requires.fresh) (rw (sym c.bytes.ensures.value) leads) c.in-Ok-Some.field-0-is (c.in-Ok-Some.ensures.found tells)
+
+pub returns-in-Ok-None-clause-found : goal.returns-in-Ok-None-clause-found
+returns-in-Ok-None-clause-found g t c tells =
+    let leads = subst (λ w. Leads g.F.PageForm.scale c.args.x.now (g.F.PageForm.node c.args.form.now c.bytes.result.now) (Ok w)) c.in-Ok-Down.field-0-is c.in-Ok-Down.ensures.way in
+    let image = g.V.PageView.image c.args.view.now in
+    let below = subst (λ o. Finds g.F.PageForm.scale c.args.x.now (pages_of (g.F.PageForm.node c.args.form.now) (g.V.PageView.image c.read.new.view)) c.in-Ok-Down.child (entry_of o)) c.in-Ok-None.field-0-is (c.in-Ok-None.ensures.found tells) in
+    down_finds (g.F.PageForm.node c.args.form.now) g.F.PageForm.scale g.met.F.PageForm.order c.args.x.now c.requires.point image (g.V.PageView.image c.read.new.view) c.args.page c.in-Ok-Down.place c.in-Ok-Down.child c.in-Ok-Down.field-0-2 c.in-Ok.bytes.0 (Ok None)
+    (c.read.ensures.kept tells) (c.in-Ok.ensures.bytes tells ∙ ap (λ (d : List Drafted). shown d image c.args.page) c.requires.fresh) (rw (sym c.bytes.ensures.value) leads) below
+
+pub returns-in-Err-remove_below-clause-bad : goal.returns-in-Err-remove_below-clause-bad
+returns-in-Err-remove_below-clause-bad g t c tells =
+    let leads = subst (λ w. Leads g.F.PageForm.scale c.args.x.now (g.F.PageForm.node c.args.form.now c.bytes.result.now) (Ok w)) c.in-Ok-Down.field-0-is c.in-Ok-Down.ensures.way in
+    let image = g.V.PageView.image c.args.view.now in
+    down_breaks (g.F.PageForm.node c.args.form.now) g.F.PageForm.scale c.args.x.now image (g.V.PageView.image c.read.new.view) c.args.most (c.args.most - 1) c.args.page c.in-Ok-Down.place c.in-Ok-Down.child c.in-Ok-Down.field-0-2 c.in-Ok.bytes.0 (Err c.in-Err-remove_below.e)
+    (let h = c.if-most-eq0.false in omega (arith, h)) (c.read.ensures.kept tells) (c.in-Ok.ensures.bytes tells ∙ ap (λ (d : List Drafted). shown d image c.args.page) c.requires.fresh) (rw (sym c.bytes.ensures.value) leads)
+    (c.in-Err-remove_below.ensures.bad tells)

@@ -1,0 +1,188 @@
+//! An entry that is taken out of the part of a tree below a page.
+
+ghost use Rattle.std.specs.Prelude.{◌≡◌, ◌+◌, ◌<◌, ◌≤◌, ◌^◌, [], Some, IfOk, IfErr, OnOk, IfSome, IfNone, length};
+ghost use Rattle.jfs_tree.specs.Edit.{IsPoint};
+ghost use Rattle.jfs_tree.specs.Call.{pages_of, nodes, Finds, BreaksWhereBad, CarriesFault};
+ghost use Rattle.jfs_tree.specs.Shrink.{IsLoose, Shrank};
+ghost use Rattle.jfs_tree.specs.Removal.{TakesRow, TakesChild, TellsEmpty, Settles, LostHere, LostBelow, entry_of, kept_in};
+
+use crate::draft::Draft;
+use crate::form::{TreeError, Way};
+use crate::pages::PageForm;
+use crate::take::put_one;
+use jfs_bits::Rule;
+use jfs_disk::Page;
+use jfs_ranges::PageView;
+
+/// The pages of a kind of tree from which entries are taken one by one.
+pub trait PageLoss: PageForm {
+    /// Takes the entry that shares a place with `x` out of a leaf.
+    fn remove(&self, bytes: &mut [u8], x: &Self::Entry) -> Option<Self::Entry>
+        requires { length bytes.old ≡ Self.size self.now }
+        ensures { TakesRow Self.scale x.now (Self.node self.now bytes.old) (Self.node self.now bytes.new) result };
+
+    /// Takes the child at the place out of an inner page.
+    fn remove_child(&self, bytes: &mut [u8], place: usize)
+        requires { length bytes.old ≡ Self.size self.now }
+        ensures { TakesChild place (Self.node self.now bytes.old) (Self.node self.now bytes.new) };
+
+    /// Whether a page has no entry and no child.
+    fn is_empty(&self, bytes: &[u8]) -> bool
+        requires { length bytes.now ≡ Self.size self.now }
+        ensures { TellsEmpty (Self.node self.now bytes.now) result };
+
+    /// Keys stay where entries go.
+    ghost loose: { IsLoose Self.scale };
+}
+
+/// What the part below a page lost: the entry, and the page itself where that was its last one. The part has so many levels.
+#[derive(Drop)]
+pub struct Shrunk<E> {
+    pub entry: E,
+    pub kept: bool,
+    pub levels: u32,
+}
+
+/// Takes the entry that shares a place with `x`, which is one place, out of the part below a page, at most so many levels deep. Pages that are
+/// empty then are free. The changed pages go into the draft, which has none yet. Where there is no such entry, nothing changes.
+pub fn remove_below<V: PageView, F: PageLoss>(
+    form: &F,
+    view: &mut V,
+    draft: &mut Draft,
+    freed: &mut Vec<u32>,
+    most: u32,
+    page: u32,
+    x: &F::Entry,
+) -> Result<Option<Shrunk<F::Entry>>, TreeError>
+    requires page { page < V.PageView.block_count view.old }
+    requires bound { F.PageForm.blocks form.now ≡ V.PageView.block_count view.old }
+    requires size { F.PageForm.size form.now ≡ 4096 }
+    requires point { IsPoint F.PageForm.scale x.now }
+    requires fresh { draft.old.pages.items ≡ [] }
+    ensures image { V.PageView.tells → V.PageView.image view.new ≡ V.PageView.image view.old }
+    ensures count_of_blocks { V.PageView.block_count view.new ≡ V.PageView.block_count view.old }
+    ensures fault { CarriesFault (V.PageView.fault_count view.old) (V.PageView.fault_count view.new) result }
+    ensures shrank { V.PageView.tells → IfOk result (λ found. IfSome found (λ shrunk. Shrank F.PageForm.scale shrunk.entry
+        (pages_of (F.PageForm.node form.now) (V.PageView.image view.old))
+        (nodes (F.PageForm.node form.now) draft.new.pages.items (V.PageView.image view.old))
+        shrunk.levels page shrunk.kept freed.old.items freed.new.items)) }
+    ensures found { V.PageView.tells → IfOk result (λ found. Finds F.PageForm.scale x.now
+        (pages_of (F.PageForm.node form.now) (V.PageView.image view.old)) page (entry_of found)) }
+    ensures absent { IfOk result (λ found. IfNone found ((draft.new.pages.items ≡ []) × (freed.new.items ≡ freed.old.items))) }
+    ensures bad { V.PageView.tells → IfErr result (λ e. BreaksWhereBad
+        (pages_of (F.PageForm.node form.now) (V.PageView.image view.old)) most page e) }
+    ensures levels { IfOk result (λ found. IfSome found (λ shrunk. shrunk.levels ≤ most)) }
+{
+    if most == 0 {
+        return Err(TreeError::Bad {
+            page,
+            rule: Rule::Deep,
+        });
+    }
+    let bytes = match draft.read(view, page) {
+        Ok(bytes) => bytes,
+        Err(e) => return Err(TreeError::View(e)),
+    };
+    match form.way(bytes.bytes(), x) {
+        Err(rule) => Err(TreeError::Bad { page, rule }),
+        Ok(Way::Here) => remove_here(form, draft, freed, page, bytes, x),
+        Ok(
+            Way::Down {
+                place,
+                page: child,
+                last: _,
+            },
+        ) => {
+            match remove_below(form, view, draft, freed, most - 1, child, x) {
+                Ok(Some(shrunk)) => remove_place(form, draft, freed, page, bytes, place, shrunk),
+                Ok(None) => Ok(None),
+                Err(e) => Err(e),
+            }
+        }
+    }
+}
+
+/// Takes an entry out of page `page`, a leaf with these bytes.
+fn remove_here<F: PageLoss>(
+    form: &F,
+    draft: &mut Draft,
+    freed: &mut Vec<u32>,
+    page: u32,
+    mut bytes: Page,
+    x: &F::Entry,
+) -> Result<Option<Shrunk<F::Entry>>, TreeError>
+    requires size { F.PageForm.size form.now ≡ 4096 }
+    ensures did { IfOk result (LostHere (F.PageForm.node form.now) F.PageForm.scale x.now bytes.0 page draft.old.pages.items draft.new.pages.items freed.old.items freed.new.items) }
+    ensures levels { IfOk result (λ found. IfSome found (λ shrunk. shrunk.levels ≡ 1)) }
+    ensures cause { IfErr result (λ e. e ≡ TreeError.Memory) }
+{
+    let Some(entry) = form.remove(&mut bytes.0, x) else {
+        return Ok(None);
+    };
+    let kept = !form.is_empty(bytes.bytes());
+    settle(draft, freed, page, bytes, kept)?;
+    Ok(Some(Shrunk {
+        entry,
+        kept,
+        levels: 1,
+    }))
+}
+
+/// Takes the child at a place, which may have gone with its last entry, out of page `page`, an inner page with these bytes.
+fn remove_place<F: PageLoss>(
+    form: &F,
+    draft: &mut Draft,
+    freed: &mut Vec<u32>,
+    page: u32,
+    mut bytes: Page,
+    place: usize,
+    shrunk: Shrunk<F::Entry>,
+) -> Result<Option<Shrunk<F::Entry>>, TreeError>
+    requires size { F.PageForm.size form.now ≡ 4096 }
+    requires fits { shrunk.levels + 1 < 2 ^ 32 }
+    ensures did { IfOk result (λ found. IfSome found (λ more. (x : F.Entry) → LostBelow (F.PageForm.node form.now) F.PageForm.scale x bytes.0 page place shrunk draft.old.pages.items draft.new.pages.items freed.old.items freed.new.items more)) }
+    ensures same { IfOk result (λ found. found ≡ Some (record { entry = shrunk.entry; kept = kept_in found; levels = shrunk.levels + 1 })) }
+    ensures cause { IfErr result (λ e. e ≡ TreeError.Memory) }
+{
+    let Shrunk {
+        entry,
+        kept,
+        levels,
+    } = shrunk;
+    let levels = levels + 1;
+    if kept {
+        return Ok(Some(Shrunk {
+            entry,
+            kept,
+            levels,
+        }));
+    }
+    form.remove_child(&mut bytes.0, place);
+    let kept = !form.is_empty(bytes.bytes());
+    settle(draft, freed, page, bytes, kept)?;
+    Ok(Some(Shrunk {
+        entry,
+        kept,
+        levels,
+    }))
+}
+
+/// A page is kept, with these bytes, or it is free.
+fn settle(
+    draft: &mut Draft,
+    freed: &mut Vec<u32>,
+    page: u32,
+    bytes: Page,
+    kept: bool,
+) -> Result<(), TreeError>
+    ensures settles { OnOk result (Settles kept page bytes.0 draft.old.pages.items draft.new.pages.items freed.old.items freed.new.items) }
+    ensures cause { IfErr result (λ e. e ≡ TreeError.Memory) }
+{
+    if kept {
+        return put_one(draft, page, bytes);
+    }
+    match freed.push(page) {
+        Ok(()) => Ok(()),
+        Err(_) => Err(TreeError::Memory),
+    }
+}
