@@ -8,6 +8,8 @@ mod faults;
 #[cfg(test)]
 mod fields;
 #[cfg(test)]
+mod format;
+#[cfg(test)]
 mod log;
 #[cfg(test)]
 mod refusals;

@@ -1,0 +1,7 @@
+//! Extent trees by rows worked out by hand, on hostile pages, and with reads that fail.
+#![tactic(auto)]
+
+#[cfg(test)]
+mod hostile;
+#[cfg(test)]
+mod shelf;
