@@ -1,5 +1,6 @@
 -- what a root spells, what the calls do, and how pages are read
 pub mod Spells
+pub mod Adding
 pub mod Node
 pub mod Errors
 pub mod Laws
