@@ -1,15 +1,14 @@
 -- An entry that was added to the tree, seen from the transaction.
-use Rattle.std.proofs.Common.{◌≡◌, ◌⊎◌, inl, inr, ◌<◌, ◌≤◌, refl, sym, ap, ◌∙◌, subst, ℕ, suc, ◌+◌, ◌==◌, if◌then◌else◌, List, [], ◌∷◌, length, map, Bool, true, false, ◌&&◌, Option, Some, Result, Ok, Err, IfOk, arith}
+use Rattle.std.proofs.Common.{◌≡◌, ◌<◌, ap, ◌∙◌, subst, ℕ, ◌+◌, List, [], ◌∷◌, length, map, true, Result, Ok, Err, IfOk, arith}
 use Rattle.std.specs.Prelude.{reverse, nat_le}
 use Rattle.jfs_bits.specs.declared.extent.Xad.{Xad}
 use Rattle.jfs_disk.specs.Image.{Image, page_of}
 use Rattle.jfs_ranges.specs.declared.edit.Edit.{Edit}
-use Rattle.jfs_ranges.specs.Apply.{apply_tx}
-use Rattle.jfs_tree.specs.Walk.{Child, Node, Leaf, Inner}
-use Rattle.jfs_tree.specs.Spells.{spells, footprint}
-use Rattle.jfs_tree.specs.Edit.{IsPoint, count_in, found_in}
-use Rattle.jfs_tree.specs.Root.{IsSpare, AddsAlways, FindsAlways, NamesBroken, RefusesWhereBad}
-use Rattle.jfs_tree.specs.Call.{nodes, pages_of}
+use Rattle.jfs_tree.specs.Walk.{Node}
+use Rattle.jfs_tree.specs.Spells.{footprint}
+use Rattle.jfs_tree.specs.Edit.{count_in}
+use Rattle.jfs_tree.specs.Root.{AddsAlways, RefusesWhereBad}
+use Rattle.jfs_tree.specs.Call.{nodes}
 use Rattle.jfs_tree.specs.Draft.{shown}
 use Rattle.jfs_tree.specs.Tell.{TellsDraft}
 use Rattle.jfs_tree.specs.declared.draft.Drafted.{Drafted}
@@ -18,17 +17,14 @@ use Rattle.jfs_tree.specs.declared.form.TreeError.TheVariants.{View, Bad, Memory
 use Rattle.jfs_tree.proofs.Footprint.{spells_frame, footprint_frame}
 use Rattle.jfs_tree.proofs.Within.{AllPages, HasPages, footprint_within}
 use Rattle.jfs_xtpage.specs.declared.head.XtForm.{XtForm}
-use Rattle.jfs_xtpage.specs.declared.head.XtForm.TheVariants.{Root, Full, Small}
-use Rattle.jfs_xtpage.specs.declared.head.XtHead.{XtHead}
-use Rattle.jfs_bits.specs.declared.descriptor.Pxd.{Pxd}
-use Rattle.jfs_xtpage.specs.Page.{bytes_of, head_of, entries_of, new_head, slots_of}
-use Rattle.jfs_xtree.specs.Node.{xt_scale, xt_node, is_within, all_within, child_of, IsRoot}
-use Rattle.jfs_xtree.specs.Spells.{IsRootSize, root_form, root_node, page_nodes, spells_extents, owned_pages, point, tree_error}
+use Rattle.jfs_xtpage.specs.declared.head.XtForm.TheVariants.{Full}
+use Rattle.jfs_xtpage.specs.Page.{entries_of}
+use Rattle.jfs_xtree.specs.Node.{xt_scale, xt_node, is_within, all_within, child_of}
+use Rattle.jfs_xtree.specs.Spells.{root_form, root_node, page_nodes, tree_error}
 use Rattle.jfs_xtree.specs.Errors.{handed_on}
-use Rattle.jfs_xtree.specs.Adding.{LeadsTo, after_tx, AddsExtent, HasOneMore}
-use Rattle.std.proofs.lemmas.Bool.{leb-true, leb-false, le-leb, lt-leb}
+use Rattle.jfs_xtree.specs.Adding.{after_tx, AddsExtent}
+use Rattle.std.proofs.lemmas.Bool.{leb-true}
 use Rattle.jfs_xtree.proofs.Reading.{and_true, inner_is}
-use Rattle.jfs_xtree.proofs.Pages.{new_leaf}
 use Rattle.jfs_xtree.proofs.Runs.{count_reverse}
 
 one_within : (blocks : ℕ) (x : Xad) → is_within blocks x ≡ true → x.at.addr < blocks

@@ -1,22 +1,21 @@
 -- What the calls of a page's form leave, from what its parts say.
-use Rattle.std.proofs.Common.{◌≡◌, ◌≤◌, ◌<◌, ◌⊎◌, inl, inr, refl, sym, ap, ◌∙◌, subst, ℕ, zero, suc, ◌+◌, ◌-◌, ◌*◌, ◌/◌, ◌%◌, ◌==◌, ◌||◌, ◌&&◌, List, [], ◌∷◌, ◌++◌, map, length, take, drop, Bool, true, false, if◌then◌else◌, Option, arith}
+use Rattle.std.proofs.Common.{◌≡◌, ◌≤◌, ◌<◌, ◌⊎◌, inl, inr, refl, sym, ap, ◌∙◌, subst, ℕ, ◌+◌, ◌-◌, ◌*◌, ◌/◌, ◌%◌, ◌==◌, ◌||◌, ◌&&◌, List, [], ◌∷◌, ◌++◌, map, length, take, drop, Bool, true, false, arith}
 use Rattle.std.specs.Prelude.{nat_le}
 use Rattle.std.proofs.lemmas.Bool.{le-leb, leb-true, cases_lt}
 use Rattle.std.proofs.lemmas.Bool.Decides.{nat_tests}
 use Rattle.jfs_bits.specs.declared.extent.Xad.{Xad}
 use Rattle.jfs_bits.specs.declared.descriptor.Pxd.{Pxd}
 use Rattle.jfs_bits.specs.Field.{field_of}
-use Rattle.jfs_tree.specs.Walk.{Child, Node, Leaf, Inner, Scale}
-use Rattle.jfs_tree.specs.Edit.{IsApart, IsCons, with_entry, found_in}
-use Rattle.jfs_tree.specs.Form.{AtPlace, SplitsRows}
+use Rattle.jfs_tree.specs.Walk.{Child, Leaf, Inner}
+use Rattle.jfs_tree.specs.Edit.{IsApart, IsCons, with_entry}
+use Rattle.jfs_tree.specs.Form.{SplitsRows}
 use Rattle.jfs_xtpage.specs.declared.head.XtForm.{XtForm}
 use Rattle.jfs_xtpage.specs.declared.head.XtForm.TheVariants.{Root, Full, Small}
 use Rattle.jfs_xtpage.specs.declared.head.XtHead.{XtHead}
-use Rattle.jfs_xtpage.specs.Page.{head_of, entries_of, entries_from, count_of, rises_from, new_head, new_flag, slots_of, kind_flag, IsRising, IsLaidOut}
-use Rattle.jfs_xtpage.proofs.Entries.{length-entries}
+use Rattle.jfs_xtpage.specs.Page.{head_of, entries_of, count_of, rises_from, new_head, kind_flag, IsRising}
 use Rattle.jfs_xtree.specs.Node.{xt_scale, xt_node, fits_flag, fits_max, fits_count, is_leaf, is_within, all_within, child_of, child_entry, with_at, IsGood, IsRoot, HasNoRoom, IsSound, SameKind, BeginsAt, IsPlace, GoesBetween}
 use Rattle.jfs_xtree.proofs.Reading.{leaf_is, inner_is, is_rising, and_true, sound_inner}
-use Rattle.jfs_xtree.proofs.Pages.{IsNew, leaf_made, new_leaf, new_inner, rises_entry, within_entry, rises_front, rises_back, within_front, within_back, parts_rows, sound_kept}
+use Rattle.jfs_xtree.proofs.Pages.{IsNew, leaf_made, new_leaf, new_inner, rises_entry, within_entry, rises_front, rises_back, within_front, within_back, parts_rows}
 use Rattle.jfs_xtree.proofs.Found.{entry_placed, apart_goes}
 use Rattle.jfs_xtree.proofs.Inners.{child_within}
 

@@ -1,10 +1,10 @@
 -- The place of an extent among a leaf's entries, and the entry that shares a block with it.
-use Rattle.std.proofs.Common.{◌≡◌, ◌≤◌, ◌<◌, ◌⊎◌, inl, inr, refl, sym, ap, ◌∙◌, subst, ℕ, zero, suc, ◌+◌, ◌-◌, List, [], ◌∷◌, ◌++◌, length, take, drop, Bool, true, false, if◌then◌else◌, Option, Some, None, arith}
+use Rattle.std.proofs.Common.{◌≡◌, ◌≤◌, ◌<◌, ◌⊎◌, inl, inr, refl, sym, ap, ◌∙◌, subst, ℕ, zero, suc, ◌+◌, ◌-◌, List, ◌∷◌, true, Option, Some, None, arith}
 use Rattle.std.specs.Prelude.{nat_le}
-use Rattle.std.proofs.lemmas.Bool.{leb-true, leb-false, le-leb, lt-leb}
+use Rattle.std.proofs.lemmas.Bool.{leb-true, le-leb, lt-leb}
 use Rattle.jfs_bits.specs.declared.extent.Xad.{Xad}
 use Rattle.jfs_tree.specs.Edit.{IsApart, with_entry, found_in}
-use Rattle.jfs_xtpage.specs.Page.{entries_of, entries_from, entry_of, count_of, end_of, rises_from, IsRising}
+use Rattle.jfs_xtpage.specs.Page.{entries_of, entries_from, entry_of, count_of, end_of, rises_from}
 use Rattle.jfs_xtree.specs.Node.{xt_scale, with_at, IsPlace, GoesBetween}
 use Rattle.jfs_xtree.specs.Laws.{ends_after}
 use Rattle.jfs_xtree.proofs.Reading.{is_rising}

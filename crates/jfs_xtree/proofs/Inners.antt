@@ -1,20 +1,20 @@
 -- Children of an inner page: the way through it, and one more behind a place.
-use Rattle.std.proofs.Common.{◌≡◌, ◌≤◌, ◌<◌, ◌⊎◌, inl, inr, refl, sym, ap, ◌∙◌, subst, ℕ, zero, suc, ◌+◌, ◌-◌, ◌==◌, List, [], ◌∷◌, ◌++◌, map, length, take, drop, Bool, true, false, ◌&&◌, if◌then◌else◌, Option, Some, None, arith}
-use Rattle.std.specs.Prelude.{nat_le, nat_lt, ⊤}
+use Rattle.std.proofs.Common.{◌≡◌, ◌≤◌, ◌<◌, ◌⊎◌, inl, inr, refl, sym, ap, ◌∙◌, subst, ℕ, zero, suc, ◌+◌, ◌-◌, ◌==◌, List, [], ◌∷◌, ◌++◌, map, length, take, drop, Bool, true, false, if◌then◌else◌, arith}
+use Rattle.std.specs.Prelude.{nat_le, ⊤}
 use Rattle.std.proofs.lemmas.Bool.{leb-true, leb-false, le-leb, lt-leb}
 use Rattle.std.proofs.lemmas.Bool.Decides.{nat_tests}
 use Rattle.std.proofs.lemmas.List.{length-take-le}
 use Rattle.jfs_bits.specs.declared.extent.Xad.{Xad}
 use Rattle.jfs_bits.specs.Field.{field_of}
-use Rattle.jfs_tree.specs.Walk.{Child, Node, Leaf, Inner, Broken, Scale, under}
+use Rattle.jfs_tree.specs.Walk.{Child, Inner, under}
 use Rattle.jfs_tree.specs.Edit.{IsPast, IsCons, KeysAbove, KeysRise}
 use Rattle.jfs_tree.specs.Form.{AtPlace, HasChildren, LeadsDown, SplitsChildren}
 use Rattle.jfs_xtpage.specs.declared.head.XtForm.{XtForm}
 use Rattle.jfs_xtpage.specs.Page.{head_of, entries_of, entries_from, entry_of, count_of, end_of, rises_from}
 use Rattle.jfs_xtpage.proofs.Entries.{length-entries, replaced, last}
-use Rattle.jfs_xtree.specs.Node.{xt_scale, is_leaf, is_within, all_within, child_of, child_entry, xt_node, lowered, with_at, IsSound, SameKind, LeadsAt, TakesChild, BeginsAt}
-use Rattle.jfs_xtree.proofs.Reading.{truth, and_true, inner_is, is_rising}
-use Rattle.jfs_xtree.proofs.Pages.{IsNew, inner_made, new_inner, rises_more, rises_less, rises_weaker, rises_front, rises_back, within_both, within_front, within_back}
+use Rattle.jfs_xtree.specs.Node.{xt_scale, is_within, all_within, child_of, child_entry, xt_node, lowered, with_at, SameKind, LeadsAt, TakesChild, BeginsAt}
+use Rattle.jfs_xtree.proofs.Reading.{truth, and_true, inner_is}
+use Rattle.jfs_xtree.proofs.Pages.{IsNew, inner_made, new_inner, rises_more, rises_less, rises_front, rises_back, within_both, within_front, within_back}
 
 -- ---- a list at a place
 

@@ -1,17 +1,16 @@
 -- Pages that are made from others.
-use Rattle.std.proofs.Common.{◌≡◌, ◌≤◌, ◌<◌, ◌⊎◌, inl, inr, refl, sym, ap, ◌∙◌, subst, ℕ, zero, suc, ◌+◌, ◌-◌, List, [], ◌∷◌, ◌++◌, map, length, Bool, true, false, ◌&&◌, ◌||◌, ◌==◌, ◌*◌, Option, Some, if◌then◌else◌, arith}
+use Rattle.std.proofs.Common.{◌≡◌, ◌≤◌, ◌<◌, ◌⊎◌, inl, inr, refl, sym, ap, ◌∙◌, subst, ℕ, List, [], ◌∷◌, ◌++◌, map, length, Bool, true, false, ◌&&◌, ◌||◌, ◌==◌, ◌*◌, Option, Some, if◌then◌else◌, arith}
 use Rattle.std.specs.Prelude.{nat_le}
-use Rattle.std.proofs.lemmas.Bool.{leb-true, leb-false, le-leb, lt-leb}
+use Rattle.std.proofs.lemmas.Bool.{leb-true, leb-false, le-leb}
 use Rattle.std.proofs.lemmas.Bool.Decides.{nat_tests}
 use Rattle.jfs_bits.specs.declared.extent.Xad.{Xad}
-use Rattle.jfs_tree.specs.Walk.{Child, Node, Leaf, Inner, Broken, Scale, Rises, Row}
-use Rattle.jfs_tree.specs.Edit.{IsApart, PartsRows, FitsFirst, with_entry}
+use Rattle.jfs_tree.specs.Walk.{Leaf, Inner, Rises, Row}
+use Rattle.jfs_tree.specs.Edit.{IsApart, PartsRows, with_entry}
 use Rattle.jfs_xtpage.specs.declared.head.XtForm.{XtForm}
 use Rattle.jfs_xtpage.specs.declared.head.XtForm.TheVariants.{Root, Full, Small}
 use Rattle.jfs_xtpage.specs.declared.head.XtHead.{XtHead}
-use Rattle.jfs_xtpage.specs.Page.{bytes_of, head_of, entries_of, entries_from, entry_of, count_of, end_of, rises_from, new_flag, slots_of, IsLaidOut}
-use Rattle.jfs_xtree.specs.Node.{xt_scale, fits_flag, fits_max, fits_count, is_leaf, is_within, all_within, child_of, by_kind, xt_node, IsSound, SameKind, BeginsAt, HasNoRoom}
-use Rattle.jfs_xtree.specs.Laws.{ends_after}
+use Rattle.jfs_xtpage.specs.Page.{bytes_of, head_of, entries_of, end_of, rises_from, new_flag, slots_of, IsLaidOut}
+use Rattle.jfs_xtree.specs.Node.{xt_scale, fits_flag, fits_max, is_leaf, is_within, all_within, child_of, xt_node, IsSound, SameKind, BeginsAt, HasNoRoom}
 use Rattle.jfs_xtree.proofs.Reading.{truth, and_true, sound_leaf, sound_inner}
 
 -- ---- heads

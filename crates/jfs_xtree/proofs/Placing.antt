@@ -1,6 +1,6 @@
 -- Where an extent goes among the entries of a page.
-use Rattle.std.proofs.Common.{◌≡◌, ◌≤◌, ◌<◌, ◌⊎◌, inl, inr, refl, sym, ap, ◌∙◌, subst, ℕ, zero, suc, ◌+◌, ◌-◌, List, [], ◌∷◌, ◌++◌, length, take, drop, Bool, true, false, Some, arith}
-use Rattle.jfs_xtpage.specs.Page.{entry_of, count_of, end_of, IsRising, IsLastAt}
+use Rattle.std.proofs.Common.{ℕ, ◌+◌, List, Some, arith}
+use Rattle.jfs_xtpage.specs.Page.{count_of, IsRising, IsLastAt}
 use Rattle.jfs_xtpage.proofs.Rising.{later}
 use Rattle.jfs_xtree.specs.Node.{IsPlace}
 

@@ -1,18 +1,18 @@
 -- What a page reads as, by the answers of the code that looks at its rules.
-use Rattle.std.proofs.Common.{◌≡◌, ◌≢◌, ◌≤◌, ◌<◌, ◌⊎◌, inl, inr, refl, sym, ap, ◌∙◌, subst, ℕ, zero, suc, ◌+◌, ◌-◌, ◌%◌, List, [], ◌∷◌, ◌++◌, map, length, Bool, true, false, ◌&&◌, ◌||◌, ◌==◌, if◌then◌else◌, arith}
+use Rattle.std.proofs.Common.{◌≡◌, ◌≤◌, ◌<◌, ◌⊎◌, inl, inr, refl, sym, ap, ◌∙◌, subst, ℕ, zero, suc, ◌+◌, ◌-◌, ◌%◌, List, [], ◌∷◌, map, length, Bool, true, false, ◌&&◌, if◌then◌else◌, arith}
 use Rattle.std.specs.Prelude.{nat_le}
-use Rattle.std.proofs.lemmas.Bool.{leb-true, leb-false, le-leb, lt-leb, ne_eqb}
+use Rattle.std.proofs.lemmas.Bool.{leb-true, le-leb, ne_eqb}
 use Rattle.jfs_bits.specs.declared.extent.Xad.{Xad}
 use Rattle.jfs_bits.specs.declared.rule.Rule.{Rule}
 use Rattle.jfs_bits.specs.declared.rule.Rule.TheVariants as rules
 use Rattle.jfs_bits.specs.Field.{field_of}
-use Rattle.jfs_bits.specs.Broken.{AllHold, IsFirstBroken}
+use Rattle.jfs_bits.specs.Broken.{IsFirstBroken}
 use Rattle.jfs_tree.specs.Walk.{Child, Node, Leaf, Inner, Broken}
 use Rattle.jfs_xtpage.specs.declared.head.XtForm.{XtForm}
 use Rattle.jfs_xtpage.specs.declared.head.XtForm.TheVariants.{Root, Full, Small}
 use Rattle.jfs_xtpage.specs.declared.head.XtHead.{XtHead}
 use Rattle.jfs_xtpage.specs.Page.{head_of, entries_of, entries_from, entry_of, count_of, end_of, rises_from, FlagFits, MaxFits, IsRising, IsXtPage, Holds, xt_rules}
-use Rattle.jfs_xtree.specs.Node.{fits_flag, fits_max, fits_count, is_leaf, is_within, all_within, child_of, by_kind, node_of, xt_node, IsSound}
+use Rattle.jfs_xtree.specs.Node.{fits_flag, fits_max, fits_count, is_leaf, is_within, all_within, child_of, by_kind, xt_node, IsSound}
 
 pub truth : (b : Bool) → (b ≡ true) ⊎ (b ≡ false)
 truth true = inl refl

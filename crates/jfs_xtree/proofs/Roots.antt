@@ -1,13 +1,12 @@
 -- Roots by their size, and what is found and refused, as the calls say it.
-use Rattle.std.proofs.Common.{◌≡◌, ◌⊎◌, inl, inr, ◌<◌, ◌≤◌, refl, sym, ap, ◌∙◌, subst, ℕ, suc, ◌+◌, ◌==◌, if◌then◌else◌, List, [], ◌∷◌, length, map, Bool, true, false, ◌&&◌, Option, Some, Result, Ok, Err, arith}
-use Rattle.std.specs.Prelude.{reverse, nat_le}
+use Rattle.std.proofs.Common.{◌≡◌, inl, inr, ◌≤◌, refl, sym, ap, ◌∙◌, subst, ℕ, ◌+◌, List, [], true, Option, Ok, arith}
 use Rattle.jfs_bits.specs.declared.extent.Xad.{Xad}
 use Rattle.jfs_disk.specs.Image.{Image, page_of}
-use Rattle.jfs_tree.specs.Walk.{Child, Node, Leaf, Inner}
-use Rattle.jfs_tree.specs.Spells.{spells, footprint}
-use Rattle.jfs_tree.specs.Edit.{IsPoint, count_in, found_in}
-use Rattle.jfs_tree.specs.Root.{IsSpare, AddsAlways, FindsAlways, NamesBroken, RefusesWhereBad}
-use Rattle.jfs_tree.specs.Call.{nodes, pages_of}
+use Rattle.jfs_tree.specs.Walk.{Node, Leaf}
+use Rattle.jfs_tree.specs.Spells.{spells}
+use Rattle.jfs_tree.specs.Edit.{IsPoint, found_in}
+use Rattle.jfs_tree.specs.Root.{FindsAlways, NamesBroken}
+use Rattle.jfs_tree.specs.Call.{pages_of}
 use Rattle.jfs_tree.specs.declared.form.TreeError.{TreeError}
 use Rattle.jfs_tree.specs.declared.form.TreeError.TheVariants.{View, Bad, Memory}
 use Rattle.jfs_xtpage.specs.declared.head.XtForm.{XtForm}
@@ -15,11 +14,10 @@ use Rattle.jfs_xtpage.specs.declared.head.XtForm.TheVariants.{Root, Full, Small}
 use Rattle.jfs_xtpage.specs.declared.head.XtHead.{XtHead}
 use Rattle.jfs_bits.specs.declared.descriptor.Pxd.{Pxd}
 use Rattle.jfs_xtpage.specs.Page.{bytes_of, head_of, entries_of, new_head, slots_of}
-use Rattle.jfs_xtree.specs.Node.{xt_scale, xt_node, is_within, all_within, child_of, IsRoot}
-use Rattle.jfs_xtree.specs.Spells.{IsRootSize, root_form, root_node, page_nodes, spells_extents, owned_pages, point, tree_error}
+use Rattle.jfs_xtree.specs.Node.{xt_scale, xt_node, IsRoot}
+use Rattle.jfs_xtree.specs.Spells.{IsRootSize, root_form, page_nodes, point, tree_error}
 use Rattle.jfs_xtree.specs.Errors.{handed_on}
-use Rattle.std.proofs.lemmas.Bool.{leb-true, leb-false, le-leb, lt-leb}
-use Rattle.jfs_xtree.proofs.Reading.{and_true, inner_is}
+use Rattle.std.proofs.lemmas.Bool.{leb-false, le-leb, lt-leb}
 use Rattle.jfs_xtree.proofs.Pages.{new_leaf}
 
 -- a root's form has its size, and is a root's

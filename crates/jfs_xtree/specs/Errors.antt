@@ -1,5 +1,4 @@
 -- How errors are handed on.
-use Rattle.std.specs.Prelude.{◌≡◌}
 use Rattle.jfs_ranges.specs.declared.view.ViewError.TheVariants as view
 use Rattle.jfs_tree.specs.declared.form.TreeError.{TreeError}
 use Rattle.jfs_tree.specs.declared.form.TreeError.TheVariants as tree

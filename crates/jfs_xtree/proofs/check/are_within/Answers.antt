@@ -1,4 +1,4 @@
-use Rattle.std.proofs.Common.{◌∙◌, ap, sym, ◌&&◌, ◌+◌, ◌-◌, true, ◌≡◌}
+use Rattle.std.proofs.Common.{◌∙◌, ap, sym, ◌&&◌, ◌+◌, ◌-◌}
 use Rattle.jfs_bits.specs.declared.extent.Xad.{Xad}
 use Rattle.jfs_xtpage.specs.Page.{entries_from}
 use Rattle.jfs_xtree.specs.Node.{is_within, all_within}

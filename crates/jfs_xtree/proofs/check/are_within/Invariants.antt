@@ -1,4 +1,4 @@
-use Rattle.std.proofs.Common.{◌≡◌, ◌-◌, ◌≤◌}
+use Rattle.std.proofs.Common.{◌≡◌, ◌-◌}
 use Rattle.jfs_xtpage.specs.Page.{entries_from}
 use Rattle.jfs_xtree.specs.Node.{all_within}
 use Rattle.jfs_xtree.proofs.check.are_within.Given as goal

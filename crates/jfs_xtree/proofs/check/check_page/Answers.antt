@@ -1,4 +1,4 @@
-use Rattle.std.proofs.Common.{◌≡◌, ◌∙◌, ap, sym, subst, true, false}
+use Rattle.std.proofs.Common.{◌∙◌, ap, sym, true, false}
 use Rattle.jfs_xtpage.specs.declared.head.XtHead.{XtHead}
 use Rattle.jfs_xtree.specs.Node.{is_leaf}
 use Rattle.jfs_xtree.proofs.Reading.{broken_itself, broken_range, broken_deep, sound, as_read}

@@ -1,8 +1,5 @@
-use Rattle.std.proofs.Common.{◌≡◌, ap, sym, ◌∙◌, arith, take, drop, ◌++◌, ◌∷◌, ◌+◌, ◌==◌, refl}
-use Rattle.std.proofs.lemmas.Bool.{le-leb}
-use Rattle.jfs_bits.specs.declared.extent.Xad.{Xad}
+use Rattle.std.proofs.Common.{ap, sym, ◌∙◌, arith, take, drop, ◌++◌, ◌∷◌, ◌+◌, ◌==◌}
 use Rattle.jfs_xtpage.specs.Page.{entries_of, entry_of, end_of}
-use Rattle.jfs_xtree.specs.Node.{lowered}
 use Rattle.jfs_xtree.proofs.Inners.{cut_at, lowered_not}
 use Rattle.jfs_xtree.proofs.children.make_way.Goals as goal
 

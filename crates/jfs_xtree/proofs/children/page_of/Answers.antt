@@ -1,4 +1,4 @@
-use Rattle.std.proofs.Common.{ap, sym, ◌∙◌, arith, ◌<◌, ◌+◌}
+use Rattle.std.proofs.Common.{ap, arith}
 use Rattle.jfs_bits.specs.declared.extent.Xad.{Xad}
 use Rattle.jfs_xtpage.specs.Page.{count_of}
 use Rattle.jfs_xtree.proofs.Inners.{page_within}

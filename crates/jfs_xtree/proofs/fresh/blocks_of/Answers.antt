@@ -1,5 +1,4 @@
-use Rattle.std.proofs.Common.{◌∙◌, ap, sym, subst, length, arith}
-use Rattle.jfs_bits.specs.declared.descriptor.Pxd.{Pxd}
+use Rattle.std.proofs.Common.{sym, subst}
 use Rattle.jfs_tree.specs.Form.{AllBelow}
 use Rattle.jfs_xtree.specs.Adding.{blocks_of}
 use Rattle.jfs_xtree.proofs.Runs.{below_at, runs_more}

@@ -1,6 +1,5 @@
-use Rattle.std.proofs.Common.{◌∙◌, ap, sym, subst, length, arith}
+use Rattle.std.proofs.Common.{◌∙◌, ap, sym, subst, length}
 use Rattle.std.specs.Prelude.{reverse}
-use Rattle.std.proofs.lemmas.List.{length-reverse}
 use Rattle.jfs_disk.specs.Image.{page_of}
 use Rattle.jfs_tree.specs.Form.{AllBelow}
 use Rattle.jfs_tree.specs.Root.{RefusesWhereBad}

@@ -1,4 +1,4 @@
-use Rattle.std.proofs.Common.{◌∙◌, ap, sym, ◌++◌, ◌-◌, take, drop, arith}
+use Rattle.std.proofs.Common.{◌∙◌, ap, sym, ◌++◌, ◌-◌, drop, arith}
 use Rattle.jfs_xtpage.specs.Page.{entries_of, count_of}
 use Rattle.jfs_xtpage.proofs.Entries.{length-entries}
 use Rattle.jfs_xtree.specs.Node.{with_at}

@@ -1,4 +1,4 @@
-use Rattle.std.proofs.Common.{◌≡◌, ◌∙◌, ap, sym, ◌++◌, ◌-◌, [], arith}
+use Rattle.std.proofs.Common.{◌≡◌, ◌∙◌, ap, sym, ◌++◌, ◌-◌, arith}
 use Rattle.jfs_bits.specs.Field.{field_of}
 use Rattle.jfs_xtpage.specs.Page.{entries_of, entries_from, count_of}
 use Rattle.jfs_xtpage.proofs.Entries.{length-entries}

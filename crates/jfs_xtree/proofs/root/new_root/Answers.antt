@@ -1,4 +1,4 @@
-use Rattle.std.proofs.Common.{◌∙◌, ap, [], length}
+use Rattle.std.proofs.Common.{length}
 use Rattle.jfs_xtree.specs.Spells.{root_form}
 use Rattle.jfs_xtree.proofs.Roots.{new_leaf_root, new_list_root}
 use Rattle.jfs_xtree.proofs.root.new_root.Goals as goal

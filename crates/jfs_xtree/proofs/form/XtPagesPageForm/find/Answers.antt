@@ -1,4 +1,4 @@
-use Rattle.std.proofs.Common.{◌≡◌, ◌∙◌, sym, ap, refl}
+use Rattle.std.proofs.Common.{◌∙◌, ap}
 use Rattle.jfs_xtpage.specs.Page.{head_of, entries_of}
 use Rattle.jfs_tree.specs.Edit.{found_in}
 use Rattle.jfs_xtree.specs.Node.{xt_scale}

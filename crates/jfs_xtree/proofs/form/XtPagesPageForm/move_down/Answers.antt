@@ -1,7 +1,7 @@
-use Rattle.std.proofs.Common.{◌≡◌, ◌∙◌, sym, ap, subst, [], ◌∷◌, arith}
+use Rattle.std.proofs.Common.{◌≡◌, ◌∙◌, sym, ap, subst}
 use Rattle.jfs_bits.specs.declared.extent.Xad.{Xad}
 use Rattle.jfs_tree.specs.Walk.{Leaf, Inner}
-use Rattle.jfs_xtpage.specs.Page.{head_of, entries_of, new_head}
+use Rattle.jfs_xtpage.specs.Page.{entries_of}
 use Rattle.jfs_xtree.specs.Node.{xt_node, is_leaf, with_at}
 use Rattle.jfs_xtree.specs.declared.form.XtPages.{XtPages}
 use Rattle.jfs_xtree.proofs.Pages.{full_laid_out}

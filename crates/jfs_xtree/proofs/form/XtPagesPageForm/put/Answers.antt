@@ -1,4 +1,3 @@
-use Rattle.std.proofs.Common.{◌≡◌, ◌∙◌, sym, ap, refl}
 use Rattle.jfs_xtpage.specs.Page.{head_of, entries_of}
 use Rattle.jfs_xtree.proofs.Reading.{leaf_is}
 use Rattle.jfs_xtree.proofs.Forms.{not_laid, clash_refuted, leaf_put, same_kind}

@@ -1,7 +1,6 @@
-use Rattle.std.proofs.Common.{◌≡◌, ◌∙◌, sym, ap, ◌+◌, arith}
+use Rattle.std.proofs.Common.{◌∙◌, sym, ap, ◌+◌}
 use Rattle.jfs_bits.specs.declared.extent.Xad.{Xad}
 use Rattle.jfs_xtpage.specs.Page.{head_of, entries_of}
-use Rattle.jfs_tree.specs.Form.{HasChildren}
 use Rattle.jfs_xtree.specs.Node.{with_at}
 use Rattle.jfs_xtree.proofs.Reading.{inner_is}
 use Rattle.jfs_xtree.proofs.Inners.{takes_of, child_put}

@@ -1,4 +1,3 @@
-use Rattle.jfs_tree.specs.Form.{SplitsRows}
 use Rattle.jfs_xtree.proofs.Forms.{leaf_split}
 use Rattle.jfs_xtree.proofs.form.XtPagesPageForm.split.Goals as goal
 

@@ -1,4 +1,4 @@
-use Rattle.std.proofs.Common.{◌≡◌, ap, sym, ◌∙◌, subst, arith, true, false, ◌+◌, ◌==◌, suc, length}
+use Rattle.std.proofs.Common.{◌≡◌, ap, sym, ◌∙◌, subst, arith, ◌+◌, ◌==◌, suc, length}
 use Rattle.jfs_xtpage.specs.declared.head.XtHead.{XtHead}
 use Rattle.jfs_xtpage.specs.Page.{entries_of, count_of}
 use Rattle.jfs_xtpage.proofs.Entries.{length-entries}
