@@ -1,5 +1,5 @@
 -- An entry that was added to the tree, seen from the transaction.
-use Rattle.std.proofs.Common.{◌≡◌, ◌<◌, ap, ◌∙◌, subst, ℕ, ◌+◌, List, [], ◌∷◌, length, map, true, Result, Ok, Err, IfOk, arith}
+use Rattle.std.proofs.Common.{sym, ◌≡◌, ◌<◌, ap, ◌∙◌, subst, ℕ, ◌+◌, List, [], ◌∷◌, length, map, true, Result, Ok, Err, IfOk, arith}
 use Rattle.std.specs.Prelude.{reverse, nat_le}
 use Rattle.jfs_bits.specs.declared.extent.Xad.{Xad}
 use Rattle.jfs_disk.specs.Image.{Image, page_of}
@@ -7,7 +7,7 @@ use Rattle.jfs_ranges.specs.declared.edit.Edit.{Edit}
 use Rattle.jfs_tree.specs.Walk.{Node}
 use Rattle.jfs_tree.specs.Spells.{footprint}
 use Rattle.jfs_tree.specs.Edit.{count_in}
-use Rattle.jfs_tree.specs.Root.{AddsAlways, RefusesWhereBad}
+use Rattle.jfs_tree.specs.Root.{IsSpare, AddsAlways, RefusesWhereBad}
 use Rattle.jfs_tree.specs.Call.{nodes}
 use Rattle.jfs_tree.specs.Draft.{shown}
 use Rattle.jfs_tree.specs.Tell.{TellsDraft}
@@ -42,14 +42,25 @@ refuses_on x pages root free (View e) h = h
 refuses_on x pages root free (Bad page rule) h = h
 refuses_on x pages root free Memory h = h
 
-pub refuses_as : (b blocks : ℕ) (form rf : XtForm) (x : Xad) (image : Image) (root stack free : List ℕ) (ds : List Drafted) (e : TreeError) → b ≡ blocks → form ≡ rf → stack ≡ free → ds ≡ [] → RefusesWhereBad xt_scale x (nodes (xt_node Full b) ds image) (xt_node form b root) stack e
+spare_reversed : (pages : ℕ → Node ℕ Xad) (root : Node ℕ Xad) (free : List ℕ) → IsSpare xt_scale pages root free → IsSpare xt_scale pages root (reverse free)
+spare_reversed pages root free spare = record {
+  once = λ n. (let h = spare.once n in let c = count_reverse n free in omega (arith, h, c));
+  apart = λ n h. spare.apart n (let c = count_reverse n free in omega (arith, h, c));
+}
+
+refuses_free : (x : Xad) (pages : ℕ → Node ℕ Xad) (root : Node ℕ Xad) (free : List ℕ) (e : TreeError) → RefusesWhereBad xt_scale x pages root (reverse free) e → RefusesWhereBad xt_scale x pages root free e
+refuses_free x pages root free (View e) h = h
+refuses_free x pages root free (Bad page rule) h = λ es spelled apart spare. h es spelled apart (spare_reversed pages root free spare)
+refuses_free x pages root free Memory h = h
+
+pub refuses_as : (b blocks : ℕ) (form rf : XtForm) (x : Xad) (image : Image) (root stack free : List ℕ) (ds : List Drafted) (e : TreeError) → b ≡ blocks → form ≡ rf → stack ≡ reverse free → ds ≡ [] → RefusesWhereBad xt_scale x (nodes (xt_node Full b) ds image) (xt_node form b root) stack e
     → RefusesWhereBad xt_scale x (page_nodes blocks (page_of image)) (xt_node rf blocks root) free (tree_error (handed_on e))
 refuses_as b blocks form rf x image root stack free ds e eb ef es ed h =
-    refuses_on x (page_nodes blocks (page_of image)) (xt_node rf blocks root) free e
-    (subst (λ f. RefusesWhereBad xt_scale x (nodes (xt_node Full blocks) [] image) (xt_node f blocks root) free e) ef
-      (subst (λ k. RefusesWhereBad xt_scale x (nodes (xt_node Full k) [] image) (xt_node form k root) free e) eb
+    refuses_on x (page_nodes blocks (page_of image)) (xt_node rf blocks root) free e (refuses_free x (page_nodes blocks (page_of image)) (xt_node rf blocks root) free e
+    (subst (λ f. RefusesWhereBad xt_scale x (nodes (xt_node Full blocks) [] image) (xt_node f blocks root) (reverse free) e) ef
+      (subst (λ k. RefusesWhereBad xt_scale x (nodes (xt_node Full k) [] image) (xt_node form k root) (reverse free) e) eb
         (subst (λ g. RefusesWhereBad xt_scale x (nodes (xt_node Full b) [] image) (xt_node form b root) g e) es
-          (subst (λ d. RefusesWhereBad xt_scale x (nodes (xt_node Full b) d image) (xt_node form b root) stack e) ed h))))
+          (subst (λ d. RefusesWhereBad xt_scale x (nodes (xt_node Full b) d image) (xt_node form b root) stack e) ed h)))))
 
 -- the draft's pages are those that all edits lead to
 pub adds_extent : (b blocks : ℕ) (form : XtForm) (image : Image) (x : Xad) (root after : List ℕ) (ds drafts : List Drafted) (free left stack rest : List ℕ) (tx later : List Edit) → b ≡ blocks → form ≡ root_form (length root) → ds ≡ []
@@ -62,7 +73,7 @@ adds_extent b blocks form image x root after ds drafts free left stack rest tx l
         (subst (λ d. AddsAlways xt_scale x (nodes (xt_node Full b) d image) (nodes (xt_node Full b) drafts image) (xt_node form b root) (xt_node form b after) stack rest) ed given)) in
     let counts = λ (n : ℕ). ap (count_in n) is_stack ∙ count_reverse n free in
     let lefts = λ (n : ℕ). ap (count_in n) is_left ∙ count_reverse n rest in
-    let a = adds es spelled apart (record { once = λ n. (let h = spare.once n in let c = counts n in omega (arith, h, c)); apart = λ n h. spare.apart n (let c = counts n in omega (arith, h, c)) }) in
+    let a = adds es spelled apart (subst (IsSpare xt_scale (page_nodes blocks (page_of image)) (root_node blocks root)) (sym is_stack) (spare_reversed (page_nodes blocks (page_of image)) (root_node blocks root) free spare)) in
     let drafted = nodes (xt_node Full blocks) drafts image in
     let now = page_nodes blocks (after_tx base later) in
     let node = xt_node (root_form (length root)) blocks after in

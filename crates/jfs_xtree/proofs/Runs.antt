@@ -1,17 +1,19 @@
 -- Blocks of runs, a stack of them, and what is left of it.
-use Rattle.std.proofs.Common.{◌≡◌, ◌<◌, ◌≤◌, refl, sym, ap, ◌∙◌, subst, ℕ, zero, suc, ◌+◌, ◌-◌, ◌==◌, if◌then◌else◌, List, [], ◌∷◌, ◌++◌, length, take, drop, get_or, append_assoc, arith}
+use Rattle.std.proofs.Common.{◌≡◌, ◌<◌, refl, sym, ap, ◌∙◌, subst, ℕ, zero, suc, ◌+◌, ◌-◌, ◌==◌, if◌then◌else◌, List, [], ◌∷◌, ◌++◌, length, take, drop, get_or, append_assoc, arith}
 use Rattle.std.specs.Prelude.{reverse}
-use Rattle.std.proofs.lemmas.List.{append-nil, reverse-append, reverse-reverse, length-reverse, length-append, drop_at}
+use Rattle.std.proofs.lemmas.List.{append-nil, reverse-append, reverse-reverse, length-reverse, length-append, drop_at, take-append-drop}
 use Rattle.std.proofs.lemmas.Grind.{take_at_read}
 use Rattle.jfs_bits.specs.declared.descriptor.Pxd.{Pxd}
 use Rattle.jfs_ranges.specs.declared.edit.Edit.{Edit}
 use Rattle.jfs_ranges.specs.declared.edit.Edit.TheVariants.{Alloc}
-use Rattle.jfs_ranges.specs.Apply.{apply_tx}
+use Rattle.jfs_ranges.specs.Apply.{apply_edit, apply_tx}
 use Rattle.jfs_tree.specs.Edit.{count_in}
 use Rattle.jfs_tree.specs.Form.{AllBelow, IsFront}
-use Rattle.jfs_tree.proofs.Telling.{apply_tx_append}
+use Rattle.jfs_tree.specs.Tell.{TellsDraft}
+use Rattle.jfs_tree.specs.declared.draft.Drafted.{Drafted}
+use Rattle.jfs_disk.specs.Image.{Image}
 use Rattle.jfs_tree.proofs.Taking.{taken_last}
-use Rattle.jfs_xtree.specs.Adding.{run_from, blocks_of, TakenInOrder}
+use Rattle.jfs_xtree.specs.Adding.{run_from, blocks_of, allocs_of, EndsWith, TakenInOrder}
 
 pub run_more : (a k : ℕ) → run_from a (k + 1) ≡ run_from a k ++ (a + k) ∷ []
 run_more a k = ap (run_from a) (one k) ∙ by a k
@@ -47,8 +49,23 @@ blocks_last (q ∷ ps) p = ap (λ xs. run_from q.addr q.len ++ xs) (blocks_last 
 pub blocks_one : (ps : List Pxd) (n : ℕ) → blocks_of (ps ++ record { len = 1; addr = n } ∷ []) ≡ blocks_of ps ++ n ∷ []
 blocks_one ps n = blocks_last ps (record { len = 1; addr = n })
 
-pub alloc_more : (m : ℕ) (later : List Edit) (p : Pxd) (content : List ℕ) → apply_tx m (later ++ Alloc p ∷ []) content ≡ apply_tx m later content
-alloc_more m later p content = apply_tx_append m later (Alloc p) content
+allocs_last : (ns : List ℕ) (n : ℕ) → allocs_of (ns ++ n ∷ []) ≡ allocs_of ns ++ Alloc (record { len = 1; addr = n }) ∷ []
+allocs_last [] n = refl
+allocs_last (m ∷ ns) n = ap (λ es. Alloc (record { len = 1; addr = m }) ∷ es) (allocs_last ns n)
+
+pub allocs_more : (old tx more : List Edit) (ns : List ℕ) (i d : ℕ) (p : Pxd) → tx ≡ old ++ allocs_of (take i ns) → i < length ns → p ≡ record { len = 1; addr = get_or ns i d } → more ≡ tx ++ Alloc p ∷ [] → more ≡ old ++ allocs_of (take (i + 1) ns)
+allocs_more old tx more ns i d p h l is e =
+    e ∙ ap (λ es. es ++ Alloc p ∷ []) h ∙ append_assoc old (allocs_of (take i ns)) (Alloc p ∷ []) ∙ ap (λ (q : Pxd). old ++ (allocs_of (take i ns) ++ Alloc q ∷ [])) is
+    ∙ ap (λ es. old ++ es) (sym (allocs_last (take i ns) (get_or ns i d))) ∙ ap (λ xs. old ++ allocs_of xs) (sym (take_at_read ns i d l).1)
+
+allocs_leave : (m : ℕ) (tx : List Edit) (ns content : List ℕ) → apply_tx m (tx ++ allocs_of ns) content ≡ apply_tx m tx content
+allocs_leave m [] [] content = refl
+allocs_leave m [] (n ∷ ns) content = allocs_leave m [] ns content
+allocs_leave m (e ∷ tx) ns content = allocs_leave m tx ns (apply_edit m e content)
+
+-- a draft is still told where pages are taken besides
+pub told_still : (blocks : ℕ) (image : Image) (drafts : List Drafted) (tx copy later more : List Edit) (ns : List ℕ) → copy ≡ tx → more ≡ later ++ allocs_of ns → TellsDraft blocks image drafts copy later → TellsDraft blocks image drafts tx more
+told_still blocks image drafts tx copy later more ns is e told = λ m h content l here. ap (λ es. apply_tx m es content) e ∙ allocs_leave m later ns content ∙ told m h content l (ap (λ es. apply_tx m es content) is ∙ here)
 
 reverse_cons : (x : ℕ) (xs : List ℕ) → reverse (x ∷ xs) ≡ reverse xs ++ x ∷ []
 reverse_cons x xs = reverse-append (x ∷ []) xs
@@ -66,24 +83,21 @@ count_reverse n [] = refl
 count_reverse n (x ∷ xs) = taken_last (reverse (x ∷ xs)) (reverse xs) x (reverse_cons x xs) n ∙ ap (λ k. (if x == n then 1 else 0) + k) (count_reverse n xs)
 
 -- what is left of a stack stands at the end of the blocks
-pub left_over : (all stack left : List ℕ) → stack ≡ reverse all → IsFront left stack → (length left ≤ length all) × (drop (length all - length left) all ≡ reverse left) × TakenInOrder all (reverse left)
+left_over : (all stack left : List ℕ) → stack ≡ reverse all → IsFront left stack → drop (length all - length left) all ≡ reverse left
 left_over all stack left is front =
     let whole : all ≡ reverse front.0 ++ reverse left = sym (reverse-reverse all) ∙ ap reverse (sym is ∙ front.1) ∙ reverse-append left front.0 in
     let a = length-append (reverse front.0) (reverse left) in
     let b = length-reverse left in
     let c = ap length whole in
-    (
-      omega (arith, a, b, c),
-      ap (λ k. drop k all) (let k : length all - length left ≡ length (reverse front.0) = omega (arith, a, b, c) in k) ∙ ap (drop (length (reverse front.0))) whole ∙ drop_at (reverse front.0) (reverse left) (length (reverse front.0)) refl,
-      (reverse front.0, whole),
-    )
+    ap (λ k. drop k all) (let k : length all - length left ≡ length (reverse front.0) = omega (arith, a, b, c) in k) ∙ ap (drop (length (reverse front.0))) whole ∙ drop_at (reverse front.0) (reverse left) (length (reverse front.0)) refl
 
 -- by the code's numbers
-pub left_named : (all given stack left rest : List ℕ) (n : ℕ) → given ≡ all → n ≡ length left → stack ≡ reverse all → IsFront left stack → rest ≡ drop (length given - n) given → (rest ≡ reverse left) × TakenInOrder all rest
+pub left_named : (all given stack left rest : List ℕ) (n : ℕ) → given ≡ all → n ≡ length left → stack ≡ reverse all → IsFront left stack → rest ≡ drop (length given - n) given → rest ≡ reverse left
 left_named all given stack left rest n is_all is_n is front cut =
-    let t = left_over all stack left is front in
-    let e : rest ≡ reverse left = cut ∙ ap (λ xs. drop (length xs - n) xs) is_all ∙ ap (λ k. drop (length all - k) all) is_n ∙ t.1 in
-    (e, subst (TakenInOrder all) (sym e) t.2)
+    cut ∙ ap (λ xs. drop (length xs - n) xs) is_all ∙ ap (λ k. drop (length all - k) all) is_n ∙ left_over all stack left is front
+
+pub taken_named : (all given rest : List ℕ) (n : ℕ) (later : List Edit) → given ≡ all → rest ≡ drop n given → EndsWith later (allocs_of (take n given)) → TakenInOrder all rest later
+taken_named all given rest n later is cut ends = (take n given, sym is ∙ sym (take-append-drop n given) ∙ ap (λ xs. take n given ++ xs) (sym cut), ends)
 
 pub list_more : (ps more : List Pxd) (ns : List ℕ) (i d : ℕ) (p : Pxd) → blocks_of ps ≡ take i ns → i < length ns → p ≡ record { len = 1; addr = get_or ns i d } → more ≡ ps ++ p ∷ [] → blocks_of more ≡ take (i + 1) ns
 list_more ps more ns i d p h l is e = ap blocks_of e ∙ ap (λ (q : Pxd). blocks_of (ps ++ q ∷ [])) is ∙ blocks_one ps (get_or ns i d) ∙ ap (λ xs. xs ++ get_or ns i d ∷ []) h ∙ sym (take_at_read ns i d l).1

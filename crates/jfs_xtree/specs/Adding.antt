@@ -3,6 +3,7 @@ use Rattle.std.specs.Prelude.{◌≡◌, ◌<◌, ◌+◌, ℕ, zero, suc, List,
 use Rattle.jfs_bits.specs.declared.extent.Xad.{Xad}
 use Rattle.jfs_bits.specs.declared.descriptor.Pxd.{Pxd}
 use Rattle.jfs_ranges.specs.declared.edit.Edit.{Edit}
+use Rattle.jfs_ranges.specs.declared.edit.Edit.TheVariants.{Alloc}
 use Rattle.jfs_ranges.specs.Apply.{apply_tx}
 use Rattle.jfs_tree.specs.Edit.{Added, IsApart, count_in}
 use Rattle.jfs_tree.specs.Root.{IsSpare}
@@ -19,9 +20,17 @@ abbrev pub blocks_of : List Pxd → List ℕ
 blocks_of [] = []
 blocks_of (p ∷ ps) = run_from p.addr p.len ++ blocks_of ps
 
--- blocks were taken from the front, in their order
-abbrev pub TakenInOrder : List ℕ → List ℕ → Type 0
-TakenInOrder free left = (taken : List ℕ) × (free ≡ taken ++ left)
+-- the edits that take these blocks, one by one
+abbrev pub allocs_of : List ℕ → List Edit
+allocs_of [] = []
+allocs_of (n ∷ ns) = Alloc (record { len = 1; addr = n }) ∷ allocs_of ns
+
+abbrev pub EndsWith : List Edit → List Edit → Type 0
+EndsWith edits last = (before : List Edit) × (edits ≡ before ++ last)
+
+-- Blocks were taken from the front, in their order; the last edits are those that take them.
+abbrev pub TakenInOrder : List ℕ → List ℕ → List Edit → Type 0
+TakenInOrder free left later = (taken : List ℕ) × (free ≡ taken ++ left) × EndsWith later (allocs_of taken)
 
 -- the edits lead these pages to those
 abbrev pub LeadsTo : ℕ → (ℕ → List ℕ) → List Edit → (ℕ → List ℕ) → Type 0

@@ -1,15 +1,14 @@
 //! One extent more.
 
-ghost use Rattle.std.specs.Prelude.{◌≡◌, ◌⊎◌, ◌<◌, ◌≤◌, ◌-◌, ◌++◌, ℕ, List, length, drop, reverse, OnOk, OnErr, IfOk, IfErr};
+ghost use Rattle.std.specs.Prelude.{◌≡◌, ◌⊎◌, ◌<◌, ◌≤◌, ◌-◌, ◌++◌, ℕ, List, length, take, drop, reverse, OnOk, OnErr, IfOk, IfErr};
 ghost use Rattle.jfs_disk.specs.Image.{page_of};
 ghost use Rattle.jfs_tree.specs.Form.{AllBelow};
 ghost use Rattle.jfs_tree.specs.Root.{RefusesWhereBad};
 ghost use Rattle.jfs_tree.specs.Tell.{TellsDraft};
 ghost use Rattle.jfs_ranges.specs.View.{CarriesCount};
-ghost use Rattle.jfs_ranges.specs.Apply.{apply_tx};
 ghost use Rattle.jfs_xtree.specs.Node.{xt_scale, IsGood};
 ghost use Rattle.jfs_xtree.specs.Spells.{IsRootSize, IsView, root_node, page_nodes, tree_error, CarriesXt};
-ghost use Rattle.jfs_xtree.specs.Adding.{blocks_of, TakenInOrder, AddsExtent};
+ghost use Rattle.jfs_xtree.specs.Adding.{blocks_of, allocs_of, EndsWith, TakenInOrder, AddsExtent};
 
 use crate::error::XtError;
 use crate::find::{handed_on, root_form};
@@ -23,7 +22,7 @@ use jfs_xtpage::XtForm;
 use std::alloc::{AllocError, Global};
 
 /// Adds an extent, which has a length, lies in the file system part and shares no block of the file with another. Pages that it needs are taken from
-/// `fresh` in its order; the transaction gets an `Alloc` of each, and the changed lines and new pages; the extent's own blocks are the caller's.
+/// `fresh` in its order; the transaction gets the changed lines and new pages, and then an `Alloc` of each; the extent's own blocks are the caller's.
 /// After an `Err` root, `fresh` and transaction are as before. A tree of 8 levels gets no ninth: that is `Bad` with rule `deep` at the root.
 pub fn add<V: PageView>(
     alloc: Global,
@@ -41,9 +40,9 @@ pub fn add<V: PageView>(
     ensures count_of_blocks { V.PageView.block_count view.new ≡ V.PageView.block_count view.old }
     ensures fault { CarriesXt (V.PageView.fault_count view.old) (V.PageView.fault_count view.new) result }
     ensures adds { V.PageView.tells → OnOk result (AddsExtent (V.PageView.block_count view.old) (page_of (V.PageView.image view.old)) x root.old root.new (blocks_of fresh.old) (blocks_of fresh.new) tx.old tx.new) }
-    ensures taken { OnOk result (TakenInOrder (blocks_of fresh.old) (blocks_of fresh.new)) }
+    ensures taken { OnOk result (TakenInOrder (blocks_of fresh.old) (blocks_of fresh.new) tx.new) }
     ensures kept { OnErr result ((root.new ≡ root.old) × (fresh.new ≡ fresh.old) × (tx.new ≡ tx.old)) }
-    ensures refused { V.PageView.tells → IfErr result (λ e. RefusesWhereBad xt_scale x (page_nodes (V.PageView.block_count view.old) (page_of (V.PageView.image view.old))) (root_node (V.PageView.block_count view.old) root.old) (reverse (blocks_of fresh.old)) (tree_error e)) }
+    ensures refused { V.PageView.tells → IfErr result (λ e. RefusesWhereBad xt_scale x (page_nodes (V.PageView.block_count view.old) (page_of (V.PageView.image view.old))) (root_node (V.PageView.block_count view.old) root.old) (blocks_of fresh.old) (tree_error e)) }
 {
     let Ok(old) = copy_of(alloc, root) else {
         return Err(XtError::View(ViewError::Memory));
@@ -93,8 +92,8 @@ fn plan<V: PageView>(
     ensures count_of_blocks { V.PageView.block_count view.new ≡ V.PageView.block_count view.old }
     ensures fault { CarriesXt (V.PageView.fault_count view.old) (V.PageView.fault_count view.new) result }
     ensures adds { V.PageView.tells → IfOk result (λ p. AddsExtent (V.PageView.block_count view.old) (page_of (V.PageView.image view.old)) x.now root.old root.new (blocks_of fresh.now) (blocks_of p.fresh) tx.now p.tx) }
-    ensures taken { IfOk result (λ p. TakenInOrder (blocks_of fresh.now) (blocks_of p.fresh)) }
-    ensures refused { V.PageView.tells → IfErr result (λ e. RefusesWhereBad xt_scale x.now (page_nodes (V.PageView.block_count view.old) (page_of (V.PageView.image view.old))) (root_node (V.PageView.block_count view.old) root.old) (reverse (blocks_of fresh.now)) (tree_error e)) }
+    ensures taken { IfOk result (λ p. TakenInOrder (blocks_of fresh.now) (blocks_of p.fresh) p.tx) }
+    ensures refused { V.PageView.tells → IfErr result (λ e. RefusesWhereBad xt_scale x.now (page_nodes (V.PageView.block_count view.old) (page_of (V.PageView.image view.old))) (root_node (V.PageView.block_count view.old) root.old) (blocks_of fresh.now) (tree_error e)) }
 {
     let blocks = view.blocks();
     let form = root_form(root);
@@ -139,6 +138,7 @@ fn finish<V: PageView>(
     ensures fault { CarriesXt (V.PageView.fault_count view.old) (V.PageView.fault_count view.new) result }
     ensures told { V.PageView.tells → IfOk result (λ p. TellsDraft (V.PageView.block_count view.old) (V.PageView.image view.old) draft.now.pages.items tx.now p.tx) }
     ensures rest { IfOk result (λ p. blocks_of p.fresh ≡ drop (length all.now - left) all.now) }
+    ensures allocs { IfOk result (λ p. EndsWith p.tx (allocs_of (take (length all.now - left) all.now))) }
     ensures read { IfErr result (λ e. IsView e) }
 {
     let taken = all.len() - left;
@@ -151,7 +151,8 @@ fn finish<V: PageView>(
     }
 }
 
-/// The transaction with the pages that were taken, and what changed.
+#[tactic(auto, using(crate::proofs::Runs::told_still))]
+/// The transaction with what changed, and then the pages that were taken.
 fn tell<V: PageView>(
     alloc: Global,
     view: &mut V,
@@ -163,24 +164,24 @@ fn tell<V: PageView>(
     ensures count_of_blocks { V.PageView.block_count view.new ≡ V.PageView.block_count view.old }
     ensures fault { CarriesCount (V.PageView.fault_count view.old) (V.PageView.fault_count view.new) result }
     ensures told { V.PageView.tells → IfOk result (λ later. TellsDraft (V.PageView.block_count view.old) (V.PageView.image view.old) draft.now.pages.items tx.now later) }
+    ensures allocs { IfOk result (λ later. EndsWith later (allocs_of taken.now)) }
 {
-    let Ok(mut later) = with_pages(alloc, taken, tx) else {
+    let Ok(mut later) = copy_tx(alloc, tx) else {
         return Err(ViewError::Memory);
     };
-    match tell_draft(alloc, view, draft, taken, PageKind::Xtree, &mut later) {
+    tell_draft(alloc, view, draft, taken, PageKind::Xtree, &mut later)?;
+    match take_pages(taken, &mut later) {
         Ok(()) => Ok(later),
-        Err(e) => Err(e),
+        Err(_) => Err(ViewError::Memory),
     }
 }
 
-#[tactic(auto, using(crate::proofs::Runs::alloc_more))]
-/// A copy of the transaction in which the pages are taken besides, in their order.
-fn with_pages(alloc: Global, taken: &[u32], tx: &Tx) -> Result<Tx, AllocError>
-    ensures { IfOk result (λ later. (m : ℕ) (content : List ℕ) → apply_tx m later content ≡ apply_tx m tx.now content) }
+/// Takes these pages, in their order.
+fn take_pages(taken: &[u32], tx: &mut Tx) -> Result<(), AllocError>
+    ensures { OnOk result (tx.new ≡ tx.old ++ allocs_of taken.now) }
 {
-    let mut later = copy_tx(alloc, tx)?;
     for n in taken {
-        later.push(Edit::Alloc(page_at(*n)))?;
+        tx.push(Edit::Alloc(page_at(*n)))?;
     }
-    Ok(later)
+    Ok(())
 }
