@@ -1,6 +1,6 @@
 //! A plain file tree by maps.
 
-ghost use Rattle.std.specs.Prelude.{◌≡◌, Ok, Err, IfOk, IfErr};
+ghost use Rattle.std.specs.Prelude.{◌≡◌, Ok, Err, IfOk, IfErr, is_none};
 ghost use Rattle.jfs_plain.specs.Tree.{root, enter, walk, object, place, new_place, named_in, passes, object_as, place_as};
 ghost use Rattle.jfs_plain.specs.Step.{links_of};
 ghost use Rattle.jfs_plain.specs.Plain.{tree_of, node_at};
@@ -34,6 +34,13 @@ pub(crate) struct Supply {
 }
 
 impl PlainTree {
+    /// Whether no object has this number.
+    pub fn is_free(&self, n: u32) -> bool
+        ensures { result ≡ is_none (node_at self.now n) }
+    {
+        self.nodes.get(&n).is_none()
+    }
+
     /// The object that a path leads to, and its number.
     pub(crate) fn object(&self, path: &[Name]) -> Result<(u32, &Node), Refusal>
         ensures ok { IfOk result (λ found. object (tree_of self.now) path.now ≡ object_as found.0 found.1.now) }

@@ -1,4 +1,4 @@
-//! Tests of scripts and of the text of a history, by lines and limits worked out by hand.
+//! Tests of scripts, of calls on a plain tree and of the text of a history, by lines and limits worked out by hand.
 #![tactic(auto)]
 
 use jfs_io::SureSource;
@@ -15,6 +15,8 @@ mod limits;
 mod lines;
 #[cfg(test)]
 mod text;
+#[cfg(test)]
+mod tree;
 
 /// What a script of these bytes asks for.
 pub fn script_of(alloc: Global, text: &[u8]) -> Result<Vec<Line>, ScriptError> {
