@@ -58,9 +58,9 @@ pub refuses_as : (b blocks : ℕ) (form rf : XtForm) (x : Xad) (image : Image) (
 refuses_as b blocks form rf x image root stack free ds e eb ef es ed h =
     refuses_on x (page_nodes blocks (page_of image)) (xt_node rf blocks root) free e (refuses_free x (page_nodes blocks (page_of image)) (xt_node rf blocks root) free e
     (subst (λ f. RefusesWhereBad xt_scale x (nodes (xt_node Full blocks) [] image) (xt_node f blocks root) (reverse free) e) ef
-      (subst (λ k. RefusesWhereBad xt_scale x (nodes (xt_node Full k) [] image) (xt_node form k root) (reverse free) e) eb
-        (subst (λ g. RefusesWhereBad xt_scale x (nodes (xt_node Full b) [] image) (xt_node form b root) g e) es
-          (subst (λ d. RefusesWhereBad xt_scale x (nodes (xt_node Full b) d image) (xt_node form b root) stack e) ed h)))))
+    (subst (λ k. RefusesWhereBad xt_scale x (nodes (xt_node Full k) [] image) (xt_node form k root) (reverse free) e) eb
+    (subst (λ g. RefusesWhereBad xt_scale x (nodes (xt_node Full b) [] image) (xt_node form b root) g e) es
+    (subst (λ d. RefusesWhereBad xt_scale x (nodes (xt_node Full b) d image) (xt_node form b root) stack e) ed h)))))
 
 -- the draft's pages are those that all edits lead to
 pub adds_extent : (b blocks : ℕ) (form : XtForm) (image : Image) (x : Xad) (root after : List ℕ) (ds drafts : List Drafted) (free left stack rest : List ℕ) (tx later : List Edit) → b ≡ blocks → form ≡ root_form (length root) → ds ≡ []
@@ -69,8 +69,8 @@ pub adds_extent : (b blocks : ℕ) (form : XtForm) (image : Image) (x : Xad) (ro
 adds_extent b blocks form image x root after ds drafts free left stack rest tx later eb ef ed given told is_stack is_left = λ base leads es spelled apart spare.
     let adds : AddsAlways xt_scale x (nodes (xt_node Full blocks) [] image) (nodes (xt_node Full blocks) drafts image) (root_node blocks root) (xt_node (root_form (length root)) blocks after) stack rest =
     subst (λ f. AddsAlways xt_scale x (nodes (xt_node Full blocks) [] image) (nodes (xt_node Full blocks) drafts image) (xt_node f blocks root) (xt_node f blocks after) stack rest) ef
-      (subst (λ k. AddsAlways xt_scale x (nodes (xt_node Full k) [] image) (nodes (xt_node Full k) drafts image) (xt_node form k root) (xt_node form k after) stack rest) eb
-        (subst (λ d. AddsAlways xt_scale x (nodes (xt_node Full b) d image) (nodes (xt_node Full b) drafts image) (xt_node form b root) (xt_node form b after) stack rest) ed given)) in
+    (subst (λ k. AddsAlways xt_scale x (nodes (xt_node Full k) [] image) (nodes (xt_node Full k) drafts image) (xt_node form k root) (xt_node form k after) stack rest) eb
+    (subst (λ d. AddsAlways xt_scale x (nodes (xt_node Full b) d image) (nodes (xt_node Full b) drafts image) (xt_node form b root) (xt_node form b after) stack rest) ed given)) in
     let counts = λ (n : ℕ). ap (count_in n) is_stack ∙ count_reverse n free in
     let lefts = λ (n : ℕ). ap (count_in n) is_left ∙ count_reverse n rest in
     let a = adds es spelled apart (subst (IsSpare xt_scale (page_nodes blocks (page_of image)) (root_node blocks root)) (sym is_stack) (spare_reversed (page_nodes blocks (page_of image)) (root_node blocks root) free spare)) in

@@ -20,10 +20,13 @@ run_more a k = ap (run_from a) (one k) ∙ by a k
   where
     one : (k : ℕ) → k + 1 ≡ suc k
     one k = omega arith
+
     next : (a k : ℕ) → suc a + k ≡ a + suc k
     next a k = omega arith
+
     here : (a : ℕ) → a ≡ a + zero
     here a = omega arith
+
     by : (a k : ℕ) → run_from a (suc k) ≡ run_from a k ++ (a + k) ∷ []
     by a zero = ap (λ n. n ∷ []) (here a)
     by a (suc k) = ap (λ xs. a ∷ xs) (by (suc a) k ∙ ap (λ n. run_from (suc a) k ++ n ∷ []) (next a k))
