@@ -2,6 +2,10 @@
 #![tactic(auto)]
 
 #[cfg(test)]
+mod adding;
+#[cfg(test)]
 mod hostile;
 #[cfg(test)]
 mod shelf;
+#[cfg(test)]
+mod volume;

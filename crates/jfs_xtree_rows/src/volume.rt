@@ -1,0 +1,149 @@
+//! A file on a volume in memory, and beside its tree the plain list of its extents.
+
+ghost use Rattle.std.specs.Prelude.{◌≡◌, ◌<◌, ◌≤◌, ◌+◌, ℕ, [], ◌∷◌, IfOk, length};
+ghost use Rattle.jfs_xtree.specs.Node.{IsGood};
+
+use jfs_bits::{Pxd, PxdList, Xad};
+use jfs_disk::Page;
+use jfs_ranges::{PageView, Tx, ViewError, apply};
+use jfs_xtree::{XtError, add, lookup, new_root};
+use std::alloc::{AllocError, Global};
+
+/// The pages of a volume of 64 blocks.
+#[derive(Drop)]
+pub struct Volume {
+    pages: Vec<Page>,
+}
+
+impl PageView for Volume {
+    ghost block_count = { λ volume. 64 };
+
+    ghost fault_count = { λ volume. 0 };
+
+    ghost image = { λ volume. [] };
+
+    ghost tells = { ⊥ };
+
+    ghost has_pages = { λ volume told. absurd told };
+
+    fn blocks(&self) -> u32 {
+        64
+    }
+
+    fn page(&mut self, n: u32) -> Result<&Page, ViewError> {
+        match self.pages.get(n as usize) {
+            Some(page) => Ok(page),
+            None => Err(ViewError::Memory),
+        }
+    }
+}
+
+/// A file whose tree's pages are the blocks before `next`, and what was added to it, in the order of the calls.
+#[derive(Drop)]
+pub struct File {
+    volume: Volume,
+    root: [u8; 288],
+    next: u32,
+    plain: Vec<Xad>,
+}
+
+impl File {
+    /// No extent, and no page.
+    pub fn new(alloc: Global) -> Result<File, AllocError> {
+        let mut pages = Vec::new(alloc);
+        for _ in 0..64 {
+            pages.push(Page::zeros())?;
+        }
+        let mut root = [0; 288];
+        new_root(&mut root);
+        Ok(File {
+            volume: Volume { pages },
+            root,
+            next: 0,
+            plain: Vec::new(alloc),
+        })
+    }
+
+    /// How many pages the tree took.
+    pub fn pages(&self) -> u32 {
+        self.next
+    }
+
+    /// Adds an extent to the tree, and where it is taken, to the plain list.
+    pub fn adds(&mut self, alloc: Global, x: Xad) -> Result<Result<(), XtError>, AllocError>
+        requires { IsGood 64 x }
+    {
+        let mut fresh = eight(alloc, self.next.min(56))?;
+        let mut tx = Tx::new(alloc);
+        let answer = add(
+            alloc,
+            &mut self.volume,
+            &mut self.root,
+            x,
+            &mut fresh,
+            &mut tx,
+        );
+        if answer.is_ok() {
+            let taken = 8usize.saturating_sub(fresh.len()) as u32;
+            self.next = self.next.saturating_add(taken);
+            self.applies(&tx);
+            self.plain.push(x)?;
+        }
+        Ok(answer)
+    }
+
+    fn applies(&mut self, tx: &Tx) {
+        let mut n: u32 = 0;
+        for page in self.volume.pages.iter_mut() {
+            apply(tx, n, page);
+            n = n.saturating_add(1);
+        }
+    }
+
+    /// Whether the tree gives what the plain list gives, for each block of the file before `end`.
+    pub fn agrees(&mut self, end: u64) -> Result<bool, XtError> {
+        for offset in 0..end {
+            let found = lookup(&mut self.volume, &self.root, offset)?;
+            if found != self.plain_at(offset) {
+                return Ok(false);
+            }
+        }
+        Ok(true)
+    }
+
+    fn plain_at(&self, offset: u64) -> Option<Xad> {
+        for x in &self.plain {
+            if x.offset <= offset && offset - x.offset < u64::from(x.at.len) {
+                return Some(*x);
+            }
+        }
+        None
+    }
+}
+
+/// Eight free blocks from this one on.
+fn eight(alloc: Global, first: u32) -> Result<PxdList, AllocError>
+    ensures { IfOk result (λ fresh. fresh ≡ record { len = 8; addr = first } ∷ []) }
+{
+    let mut fresh = PxdList::new(alloc);
+    fresh.push(Pxd {
+        len: 8,
+        addr: u64::from(first),
+    })?;
+    Ok(fresh)
+}
+
+/// So many blocks of a file from `offset` on, in block 40 of the volume and those behind it.
+pub fn blocks(offset: u32, len: u8) -> Xad
+    requires { (0 < len) × (len ≤ 24) }
+    ensures { IsGood 64 result }
+{
+    Xad {
+        flag: 0,
+        offset: u64::from(offset),
+        at: Pxd {
+            len: u32::from(len),
+            addr: 40,
+        },
+    }
+}
