@@ -2,39 +2,61 @@
 
 use crate::script_of;
 use jfs_bits::Moment;
-use jfs_plain::{Entry, PlainTree};
+use jfs_plain::{Entry, Line, PlainTree};
 use jfs_script::write_entry;
-use std::alloc::Global;
+use std::alloc::{AllocError, Global};
 use std::test::*;
 
-/// The first row whose reply isn't as wanted, of a new tree with this file limit. Row i, from 0, comes at second 100 + i, and inode 4 + i is free for it.
+/// What a call on a tree is answered, as it is printed; nothing where the number isn't free.
+fn told(
+    alloc: Global,
+    tree: &mut PlainTree,
+    line: Line,
+    fresh: u32,
+    now: Moment,
+) -> Result<Vec<u8>, AllocError> {
+    let mut text = Vec::new(alloc);
+    if tree.is_free(fresh) {
+        let reply = tree.step(&line.request.call, fresh, now);
+        let entry = Entry {
+            client: 1,
+            line: 1,
+            call: line.request.call,
+            lazy: false,
+            reply,
+        };
+        write_entry(alloc, &entry, 1, false, &mut text)?;
+    }
+    Ok(text)
+}
+
+/// Whether row i, from 0, is answered as wanted: it comes at second 100 + i, and inode 4 + i is free for it.
+fn is_told(
+    alloc: Global,
+    tree: &mut PlainTree,
+    row: u32,
+    text: &str,
+    wanted: &str,
+) -> Result<bool, Fail> {
+    let now = Moment {
+        sec: row.wrapping_add(100),
+        nano: 5,
+    };
+    let Some(line) = script_of(alloc, text.as_bytes())?.pop() else {
+        return Ok(false);
+    };
+    let told = told(alloc, tree, line, row.wrapping_add(4), now)?;
+    let expected = format!(in alloc; "1 1.1 {wanted} -\n")?;
+    Ok(told.as_slice() == expected.as_bytes())
+}
+
+/// The first row whose reply isn't as wanted, of a new tree with this file limit.
 fn first_wrong(alloc: Global, file_limit: u64, rows: &[(&str, &str)]) -> Result<Option<u32>, Fail> {
     let mut tree = PlainTree::new(alloc, file_limit, Moment { sec: 7, nano: 0 })?;
-    let mut row: u32 = 0;
+    let mut row = 0u32;
     for (text, wanted) in rows {
-        let now = Moment {
-            sec: row.wrapping_add(100),
-            nano: 5,
-        };
-        let fresh = row.wrapping_add(4);
-        for line in script_of(alloc, text.as_bytes())? {
-            if !tree.is_free(fresh) {
-                return Ok(Some(row));
-            }
-            let reply = tree.step(&line.request.call, fresh, now);
-            let entry = Entry {
-                client: 1,
-                line: 1,
-                call: line.request.call,
-                lazy: false,
-                reply,
-            };
-            let mut told = Vec::new(alloc);
-            write_entry(alloc, &entry, 1, false, &mut told)?;
-            let expected = format!(in alloc; "1 1.1 {wanted} -\n")?;
-            if told.as_slice() != expected.as_bytes() {
-                return Ok(Some(row));
-            }
+        if !is_told(alloc, &mut tree, row, text, wanted)? {
+            return Ok(Some(row));
         }
         row = row.wrapping_add(1);
     }
