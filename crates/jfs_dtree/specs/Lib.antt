@@ -1,2 +1,4 @@
 -- what the clauses say
 pub mod Parent
+pub mod Rules
+pub mod Node

@@ -1,0 +1,64 @@
+-- What a root or page of a directory tree reads as. (JFS Layout, dtree.)
+use Rattle.std.specs.Prelude.{ℕ, ◌+◌, ◌*◌, Bool, true, false, not, ◌&&◌, nat_le, if◌then◌else◌, List, [], ◌∷◌, ◌++◌, map, Option, Some, None}
+use Rattle.std.specs.Ordering.{is_lt, nat_cmp}
+use Rattle.std.specs.Cmp.Lexicographic.{slice_cmp}
+use Rattle.jfs_bits.specs.declared.descriptor.Pxd.{Pxd}
+use Rattle.jfs_bits.specs.declared.rule.Rule.{Rule}
+use Rattle.jfs_bits.specs.declared.rule.Rule.TheVariants as rules
+use Rattle.jfs_bits.specs.Broken.{first_broken}
+use Rattle.jfs_bits.specs.Descriptor.{pxd_of}
+use Rattle.jfs_bits.specs.Field.{field_of}
+use Rattle.jfs_name.specs.declared.name.NameEntry.{NameEntry}
+use Rattle.jfs_dtpage.specs.declared.head.DtForm.{DtForm}
+use Rattle.jfs_dtpage.specs.Form.{is_leaf}
+use Rattle.jfs_dtpage.specs.Page.{name_of, table_of}
+use Rattle.jfs_tree.specs.Walk.{Child, Node, Leaf, Inner, Broken, Scale}
+use Rattle.jfs_dtree.specs.Rules.{rows}
+
+-- Names in order: unit by unit as numbers, and a prefix comes first.
+abbrev pub not_after : List ℕ → List ℕ → Bool
+not_after a b = not (is_lt (slice_cmp nat_cmp b a))
+
+-- A name takes the place from itself up to the least name that comes after it. A key stands at or before the first name below it.
+abbrev pub name_scale : Scale (List ℕ) NameEntry
+name_scale = record {
+  le = not_after;
+  least = [];
+  from = λ e. e.name;
+  to = λ e. e.name ++ 0 ∷ [];
+  fits = λ key e. not_after key e.name;
+}
+
+-- the entry of a leaf by its first slot
+abbrev pub entry_at : List ℕ → ℕ → NameEntry
+entry_at bytes slot = record { name = name_of true bytes slot; inode = field_of bytes (32 * slot) 4 }
+
+-- an inner page's entry names the first block of its run, which is a page
+abbrev pub child_at : List ℕ → ℕ → Child (List ℕ)
+child_at bytes slot = record { key = name_of false bytes slot; page = (pxd_of bytes (32 * slot)).addr }
+
+-- the run has a length and lies within the blocks of the file system part
+abbrev pub is_within : ℕ → Pxd → Bool
+is_within blocks at = nat_le 1 at.len && nat_le (at.addr + at.len) blocks
+
+abbrev pub all_within : ℕ → List ℕ → List ℕ → Bool
+all_within blocks bytes [] = true
+all_within blocks bytes (slot ∷ slots) = is_within blocks (pxd_of bytes (32 * slot)) && all_within blocks bytes slots
+
+-- an inner page isn't empty
+abbrev pub inner : List (Child (List ℕ)) → Node (List ℕ) NameEntry
+inner [] = Broken rules.Deep
+inner (c ∷ cs) = Inner (c ∷ cs)
+
+-- a page that breaks no rule of its own
+abbrev pub by_kind : Bool → ℕ → List ℕ → List ℕ → Node (List ℕ) NameEntry
+by_kind true blocks bytes slots = Leaf (map (entry_at bytes) slots)
+by_kind false blocks bytes slots = if all_within blocks bytes slots then inner (map (child_at bytes) slots) else Broken rules.Range
+
+abbrev pub unless_broken : Option Rule → Node (List ℕ) NameEntry → Node (List ℕ) NameEntry
+unless_broken (Some rule) node = Broken rule
+unless_broken None node = node
+
+-- the page, in its form, on a volume whose file system part has so many blocks
+unfoldable pub dt_node : DtForm → ℕ → List ℕ → Node (List ℕ) NameEntry
+dt_node form blocks bytes = unless_broken (first_broken (rows form bytes)) (by_kind (is_leaf bytes) blocks bytes (table_of form bytes))
