@@ -1,6 +1,12 @@
 //! Directories: names by trees of pages whose root stands in the directory's inode. (JFS White Paper, directory organization.)
 #![tactic(auto)]
 
+mod entry;
+mod error;
+mod form;
 mod root;
 
+pub use entry::{DirEntry, NameKey};
+pub use error::DtError;
+pub use form::DtPages;
 pub use root::{new_root, parent, set_parent};
