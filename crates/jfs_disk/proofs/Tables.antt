@@ -1,5 +1,5 @@
 -- The state of a disk in memory, page by page.
-use Rattle.std.proofs.Common.{◌≡◌, ◌≤◌, ◌<◌, ◌+◌, ◌-◌, ℕ, List, [], ◌∷◌, ◌++◌, length, get_or, map, Option, None, Box, refl, sym, ap, ◌∙◌, ◌⊎◌, inl, inr, arith}
+use Rattle.std.proofs.Common.{◌≡◌, ◌≤◌, ◌<◌, ◌+◌, ◌-◌, ℕ, List, [], ◌∷◌, ◌++◌, length, get_or, map, Option, None, Box, Bool, true, false, refl, sym, ap, ◌∙◌, ◌⊎◌, inl, inr, arith}
 use Rattle.std.specs.Global.{Global}
 use Rattle.std.proofs.Math.ListN.{set, replicate}
 use Rattle.std.proofs.Math.Seq.{get_or-append_right as get_or-append_after}
@@ -12,6 +12,7 @@ use Rattle.jfs_disk.specs.Choice.{left_by, choice_of, IsChosen}
 use Rattle.jfs_disk.specs.Seen.{page_of-seen_of}
 use Rattle.jfs_disk.specs.Table.{blank, page_in, page_at, state_in}
 use Rattle.jfs_disk.specs.TableLaw.{history-state_in, length-state_in}
+use Rattle.jfs_disk.specs.Put.{page_after, state_after}
 use Rattle.jfs_disk.specs.Settled.{settled_by, AreSettled}
 use Rattle.jfs_disk.specs.declared.choice.Choice.{Choice}
 use Rattle.jfs_disk.specs.declared.slot.PageSlot.{PageSlot}
@@ -82,31 +83,21 @@ state-set f count slots n place h there e =
         ∙ history-state_in count slots m g
         ∙ sym (ap page_in (get_or-set_other slots n m place None apart))
 
-pub state_in-written : (count : ℕ) (slots : Places) (n : ℕ) (bytes : List ℕ) (place : Option (Box PageSlot Global)) → n < count → n < length slots → page_in place ≡ page_written bytes (page_at slots n) → written n bytes (state_in count slots) ≡ state_in count (set slots n place)
-unfolding written
-state_in-written count slots n bytes place h there e = state-set (page_written bytes) count slots n place h there e
+state_in-after : (fails : Bool) (count : ℕ) (slots : Places) (n : ℕ) (bytes : List ℕ) (place : Option (Box PageSlot Global)) → n < count → n < length slots → page_in place ≡ page_after fails bytes (page_at slots n) → state_after fails n bytes (state_in count slots) ≡ state_in count (set slots n place)
+unfolding written failed
+state_in-after false count slots n bytes place h there e = state-set (page_written bytes) count slots n place h there e
+state_in-after true count slots n bytes place h there e = state-set (page_failed bytes 0) count slots n place h there e
 
-pub state_in-failed : (count : ℕ) (slots : Places) (n : ℕ) (bytes : List ℕ) (place : Option (Box PageSlot Global)) → n < count → n < length slots → page_in place ≡ page_failed bytes 0 (page_at slots n) → failed n bytes 0 (state_in count slots) ≡ state_in count (set slots n place)
-unfolding failed
-state_in-failed count slots n bytes place h there e = state-set (page_failed bytes 0) count slots n place h there e
-
--- the state after a write, and after one that failed
+-- the state after a write
 last-push : (past new : List DiskState) (state : DiskState) → new ≡ past ++ state ∷ [] → last_of new ≡ state
 last-push past new state e = ap last_of e ∙ last_of-push past state
 
-pub last_of-wrote : (past new : List DiskState) (count : ℕ) (slots : Places) (n : ℕ) (bytes : List ℕ) (was place : Option (Box PageSlot Global)) → last_of past ≡ state_in count slots → n < count → n < length slots → was ≡ get_or slots n was → page_in place ≡ page_written bytes (page_in was)
-    → new ≡ past ++ written n bytes (last_of past) ∷ [] → last_of new ≡ state_in count (set slots n place)
-last_of-wrote past new count slots n bytes was place now h there read e added =
-    last-push past new (written n bytes (last_of past)) added
-    ∙ ap (λ (state : DiskState). written n bytes state) now
-    ∙ state_in-written count slots n bytes place h there (e ∙ ap (λ (p : Option (Box PageSlot Global)). page_written bytes (page_in p)) (get_or_read slots n was there read None))
-
-pub last_of-failed : (past new : List DiskState) (count : ℕ) (slots : Places) (n : ℕ) (bytes : List ℕ) (was place : Option (Box PageSlot Global)) → last_of past ≡ state_in count slots → n < count → n < length slots → was ≡ get_or slots n was → page_in place ≡ page_failed bytes 0 (page_in was)
-    → new ≡ past ++ failed n bytes 0 (last_of past) ∷ [] → last_of new ≡ state_in count (set slots n place)
-last_of-failed past new count slots n bytes was place now h there read e added =
-    last-push past new (failed n bytes 0 (last_of past)) added
-    ∙ ap (λ (state : DiskState). failed n bytes 0 state) now
-    ∙ state_in-failed count slots n bytes place h there (e ∙ ap (λ (p : Option (Box PageSlot Global)). page_failed bytes 0 (page_in p)) (get_or_read slots n was there read None))
+pub last_of-after : (fails : Bool) (past new : List DiskState) (count : ℕ) (slots : Places) (n : ℕ) (bytes : List ℕ) (was place : Option (Box PageSlot Global)) → last_of past ≡ state_in count slots → n < count → n < length slots → was ≡ get_or slots n was → page_in place ≡ page_after fails bytes (page_in was)
+    → new ≡ past ++ state_after fails n bytes (last_of past) ∷ [] → last_of new ≡ state_in count (set slots n place)
+last_of-after fails past new count slots n bytes was place now h there read e added =
+    last-push past new (state_after fails n bytes (last_of past)) added
+    ∙ ap (λ (state : DiskState). state_after fails n bytes state) now
+    ∙ state_in-after fails count slots n bytes place h there (e ∙ ap (λ (p : Option (Box PageSlot Global)). page_after fails bytes (page_in p)) (get_or_read slots n was there read None))
 
 -- a place that keeps its page
 pub state_in-kept : (count : ℕ) (slots : Places) (n : ℕ) (place : Option (Box PageSlot Global)) → n < length slots → page_in place ≡ page_at slots n → state_in count (set slots n place) ≡ state_in count slots

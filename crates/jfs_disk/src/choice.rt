@@ -8,7 +8,7 @@ use crate::page::Page;
 
 /// What a crash leaves of a page: the first `sectors` sectors of content `top`, then the rest of content `base`.
 /// Content 0 is the stable one, content `k` the `k`-th write since the last sync. A write that failed counts as two.
-#[derive(Clone, Copy, PartialEq, Eq, Debug)]
+#[derive(Clone, Copy)]
 pub struct Choice {
     pub page: u32,
     pub base: u32,

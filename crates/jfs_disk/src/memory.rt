@@ -16,7 +16,7 @@ ghost use Rattle.std.proofs.Common.{refl};
 use crate::choice::Choice;
 use crate::disk::{Disk, DiskError, Part};
 use crate::page::Page;
-use crate::plan::{Fail, Kind, Plan, Tally, copy_fails};
+use crate::plan::{Fail, Kind, Plan, Tally};
 use crate::store::Store;
 use std::alloc::Global;
 
@@ -128,7 +128,7 @@ impl MemDisk {
         ensures faults { fault_count_of self.new ≡ fault_count_of self.old }
         ensures plan { self.new.plan ≡ self.old.plan }
     {
-        match self.store.fail_write(n, from) {
+        match self.store.write(n, from, true) {
             Ok(()) => {}
             Err(_) => self.lost_writes = self.lost_writes.saturating_add(1),
         }
@@ -218,7 +218,7 @@ impl Disk for MemDisk {
             self.leave_trace(n, from);
             return Err(self.fault());
         }
-        match self.store.write(n, from) {
+        match self.store.write(n, from, false) {
             Ok(()) => Ok(()),
             Err(_) => Err(self.fault()),
         }
@@ -270,21 +270,16 @@ impl Disk for MemDisk {
         ensures same_past { IfErr result (λ disk. past_of_disk disk ≡ past_of_disk self) }
         ensures same_plan { IfErr result (λ disk. (part_of disk ≡ part_of self) × (fails_of disk ≡ fails_of self) × (tally_of disk ≡ tally_of self)) }
     {
+        let alloc = self.plan.alloc;
+        let Ok(fails) = self.plan.fails.as_slice().to_vec(alloc) else {
+            return Err(self);
+        };
         let MemDisk {
             store,
             plan,
             faults,
             lost_writes,
         } = self;
-        let alloc = plan.alloc;
-        let Ok(fails) = copy_fails(alloc, plan.fails.as_slice()) else {
-            return Err(MemDisk {
-                store,
-                plan,
-                faults,
-                lost_writes,
-            });
-        };
         match store.cut(at) {
             Ok((low, high)) => Ok((
                 MemDisk {

@@ -26,9 +26,8 @@ unsafe impl Send for Past {}
 pub enum Event<'a> {
     /// It is what these slots keep, of so many pages, and had no state before.
     Began(u32, &'a [Option<Box<PageSlot>>]),
-    Wrote(u32, &'a Page),
-    /// A write failed, and left the page as it was.
-    WriteFailed(u32, &'a Page),
+    /// A write, and whether it failed and left the page as it was.
+    Wrote(u32, &'a Page, bool),
     Synced,
     /// It is the part below this page.
     Low(u32),

@@ -1,14 +1,14 @@
 //! Which calls of a disk in memory fail.
 
-ghost use Rattle.std.specs.Prelude.{◌≡◌, ◌+◌, ◌-◌, ◌^◌, min, IfOk};
+ghost use Rattle.std.specs.Prelude.{◌≡◌, ◌+◌, ◌-◌, ◌^◌, min};
 ghost use Rattle.std.specs.List.{list_any};
 ghost use Rattle.jfs_disk.specs.Plan.{same_part, same_kind, covers, number_of, counted, counters_on, tallied, untouched, fails_next};
 
 use crate::disk::Part;
-use std::alloc::{AllocError, Global};
+use std::alloc::Global;
 
 /// A kind of device call.
-#[derive(Clone, Copy, PartialEq, Eq, Debug)]
+#[derive(Clone, Copy)]
 pub enum Kind {
     Read,
     Write,
@@ -16,7 +16,7 @@ pub enum Kind {
 }
 
 /// The calls of this kind on this part numbered `first` to `last`, from 1, fail.
-#[derive(Clone, Copy, PartialEq, Eq, Debug)]
+#[derive(Clone, Copy)]
 pub struct Fail {
     pub part: Part,
     pub kind: Kind,
@@ -72,17 +72,6 @@ pub struct Tally {
     pub whole: Counters,
     pub low: Counters,
     pub high: Counters,
-}
-
-/// A copy of the fails.
-pub fn copy_fails(alloc: Global, fails: &[Fail]) -> Result<Vec<Fail>, AllocError>
-    ensures { IfOk result (λ copy. copy.items ≡ fails.now) }
-{
-    let mut copy = Vec::new(alloc);
-    for i in 0..fails.len() {
-        copy.push(fails[i])?;
-    }
-    Ok(copy)
 }
 
 /// The fails of a disk, the part that it is, and how many calls there were.

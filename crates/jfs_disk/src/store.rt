@@ -9,7 +9,7 @@ use crate::choice::Choice;
 use crate::page::Page;
 use crate::past::{Event, Past};
 use crate::slot::PageSlot;
-use crate::table::{append, fail_place, lengthen, read_place, settle_all, split, write_place};
+use crate::table::{append, lengthen, read_place, settle_all, split, write_place};
 use std::alloc::{AllocError, Global};
 
 /// So many pages: a place for each up to the last one that was written, and a slot where it was. A part that was cut off
@@ -30,7 +30,8 @@ pub struct Store {
 impl Store {
     ghost use Rattle.std.specs.Prelude.{◌++◌, ◌∷◌, ◌+◌, ◌-◌, [], OnOk, OnErr, IfOk, IfErr};
     ghost use Rattle.jfs_disk.specs.Image.{zeros, page_of};
-    ghost use Rattle.jfs_disk.specs.Crash.{DiskState, seen_of, written, failed, settled, at_rest};
+    ghost use Rattle.jfs_disk.specs.Crash.{DiskState, seen_of, settled, at_rest};
+    ghost use Rattle.jfs_disk.specs.Put.{state_after};
     ghost use Rattle.jfs_disk.specs.Choice.{IsChosen};
     ghost use Rattle.jfs_disk.specs.Cut.{lows_of, highs_of, joined};
     ghost use Rattle.jfs_disk.specs.Store.{past_in};
@@ -87,29 +88,17 @@ impl Store {
         Ok(())
     }
 
-    pub fn write(&mut self, n: u32, from: &Page) -> Result<(), AllocError>
+    /// A write. One that fails is pending, and leaves the page as it was. At `Err` there was no memory.
+    pub fn write(&mut self, n: u32, from: &Page, fails: bool) -> Result<(), AllocError>
         requires { n < self.old.count }
         ensures count { self.new.count ≡ self.old.count }
         ensures room { self.new.room ≡ self.old.room }
-        ensures past { OnOk result (past_in self.new ≡ past_in self.old ++ written n from.now.0 (last_of (past_in self.old)) ∷ []) }
+        ensures past { OnOk result (past_in self.new ≡ past_in self.old ++ state_after fails n from.now.0 (last_of (past_in self.old)) ∷ []) }
         ensures err { OnErr result (past_in self.new ≡ past_in self.old) }
     {
         self.make_place(n)?;
-        write_place(&mut self.slots[n as usize], self.alloc, from)?;
-        self.past = self.past.then(&Event::Wrote(n, from));
-        Ok(())
-    }
-
-    pub fn fail_write(&mut self, n: u32, from: &Page) -> Result<(), AllocError>
-        requires { n < self.old.count }
-        ensures count { self.new.count ≡ self.old.count }
-        ensures room { self.new.room ≡ self.old.room }
-        ensures past { OnOk result (past_in self.new ≡ past_in self.old ++ failed n from.now.0 0 (last_of (past_in self.old)) ∷ []) }
-        ensures err { OnErr result (past_in self.new ≡ past_in self.old) }
-    {
-        self.make_place(n)?;
-        fail_place(&mut self.slots[n as usize], self.alloc, from)?;
-        self.past = self.past.then(&Event::WriteFailed(n, from));
+        write_place(&mut self.slots[n as usize], self.alloc, from, fails)?;
+        self.past = self.past.then(&Event::Wrote(n, from, fails));
         Ok(())
     }
 

@@ -2,9 +2,10 @@
 
 ghost use Rattle.std.specs.Prelude.{◌≡◌, ◌<◌, ◌≤◌, ◌+◌, ◌^◌, ◌++◌, length, replicate, take, drop, OnOk, OnErr, IfOk, None, vec_len};
 ghost use Rattle.std.specs.Vec.{vec_capacity};
-ghost use Rattle.jfs_disk.specs.Crash.{page_written, page_failed};
 ghost use Rattle.jfs_disk.specs.Choice.{choice_of};
+ghost use Rattle.jfs_disk.specs.Slot.{history_in};
 ghost use Rattle.jfs_disk.specs.Table.{page_in};
+ghost use Rattle.jfs_disk.specs.Put.{page_after};
 ghost use Rattle.jfs_disk.specs.Settled.{settled_by, AreSettled};
 
 use crate::choice::{Choice, find_choice};
@@ -38,7 +39,7 @@ pub fn split(
     ensures capacity { vec_capacity slots.old ≤ vec_capacity slots.new }
 {
     slots.reserve(room - slots.len())?;
-    Ok(slots.split_off(keep)?)
+    slots.split_off(keep)
 }
 
 /// Puts places behind these. It takes no memory.
@@ -64,44 +65,35 @@ pub fn read_place(place: &Option<Box<PageSlot>>, into: &mut Page)
     }
 }
 
-/// A write of a page that succeeded.
+/// A write of a page. One that fails is pending, and leaves the page as it was.
 pub fn write_place(
     place: &mut Option<Box<PageSlot>>,
     alloc: Global,
     from: &Page,
+    fails: bool,
 ) -> Result<(), AllocError>
-    ensures ok { OnOk result (page_in place.new ≡ page_written from.now.0 (page_in place.old)) }
+    ensures ok { OnOk result (page_in place.new ≡ page_after fails from.now.0 (page_in place.old)) }
     ensures err { OnErr result (page_in place.new ≡ page_in place.old) }
 {
     match place {
-        Some(slot) => slot.write(from),
+        Some(slot) => write_slot(slot, from, fails),
         None => {
             let mut slot = PageSlot::new(alloc, &Page::zeros())?;
-            slot.write(from)?;
+            write_slot(&mut slot, from, fails)?;
             *place = Some(Box::new(alloc, slot)?);
             Ok(())
         }
     }
 }
 
-/// A write of a page that failed, and left the page as it was.
-pub fn fail_place(
-    place: &mut Option<Box<PageSlot>>,
-    alloc: Global,
-    from: &Page,
-) -> Result<(), AllocError>
-    ensures ok { OnOk result (page_in place.new ≡ page_failed from.now.0 0 (page_in place.old)) }
-    ensures err { OnErr result (page_in place.new ≡ page_in place.old) }
+fn write_slot(slot: &mut PageSlot, from: &Page, fails: bool) -> Result<(), AllocError>
+    ensures ok { OnOk result (history_in slot.new ≡ page_after fails from.now.0 (history_in slot.old)) }
+    ensures err { OnErr result (history_in slot.new ≡ history_in slot.old) }
 {
-    match place {
-        Some(slot) => slot.fail(from, 0),
-        None => {
-            let mut slot = PageSlot::new(alloc, &Page::zeros())?;
-            slot.fail(from, 0)?;
-            *place = Some(Box::new(alloc, slot)?);
-            Ok(())
-        }
+    if fails {
+        return slot.fail(from, 0);
     }
+    slot.write(from)
 }
 
 /// Each page is what a crash leaves of it by its first choice, with nothing pending.
