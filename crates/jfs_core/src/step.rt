@@ -63,7 +63,7 @@ pub struct StepRefused {
 }
 
 /// Why a run ended before its last step.
-#[derive(Clone, Copy, PartialEq, Eq, Debug)]
+#[derive(Clone, Copy, Debug)]
 pub enum RunError {
     /// A step isn't allowed.
     Refused(StepRefused),

@@ -101,22 +101,13 @@ impl PageSlot {
         ensures { result.0 ≡ left_by choice (history_in self.now) (history_in self.now).seen }
     {
         match choice {
-            Some(choice) => self.torn_by(choice),
-            None => Page(self.seen().0),
+            Some(choice) if self.fits(choice) => torn(
+                self.content(choice.top as usize),
+                self.content(choice.base as usize),
+                choice.sectors as usize,
+            ),
+            _ => Page(self.seen().0),
         }
-    }
-
-    fn torn_by(&self, choice: Choice) -> Page
-        ensures { result.0 ≡ torn_by choice (history_in self.now) (history_in self.now).seen }
-    {
-        if !self.fits(choice) {
-            return Page(self.seen().0);
-        }
-        torn(
-            self.content(choice.top as usize),
-            self.content(choice.base as usize),
-            choice.sectors as usize,
-        )
     }
 
     fn fits(&self, choice: Choice) -> bool
