@@ -2,3 +2,4 @@
 pub mod Parent
 pub mod Rules
 pub mod Node
+pub mod Laws

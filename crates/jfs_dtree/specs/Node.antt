@@ -1,5 +1,5 @@
 -- What a root or page of a directory tree reads as. (JFS Layout, dtree.)
-use Rattle.std.specs.Prelude.{ℕ, ◌+◌, ◌*◌, Bool, true, false, not, ◌&&◌, nat_le, if◌then◌else◌, List, [], ◌∷◌, ◌++◌, map, Option, Some, None}
+use Rattle.std.specs.Prelude.{◌<◌, ◌≤◌, ℕ, ◌+◌, ◌*◌, Bool, true, false, not, ◌&&◌, nat_le, if◌then◌else◌, List, [], ◌∷◌, ◌++◌, map, length, Option, Some, None}
 use Rattle.std.specs.Ordering.{is_lt, nat_cmp}
 use Rattle.std.specs.Cmp.Lexicographic.{slice_cmp}
 use Rattle.jfs_bits.specs.declared.descriptor.Pxd.{Pxd}
@@ -10,8 +10,9 @@ use Rattle.jfs_bits.specs.Descriptor.{pxd_of}
 use Rattle.jfs_bits.specs.Field.{field_of}
 use Rattle.jfs_name.specs.declared.name.NameEntry.{NameEntry}
 use Rattle.jfs_dtpage.specs.declared.head.DtForm.{DtForm}
-use Rattle.jfs_dtpage.specs.Form.{is_leaf}
-use Rattle.jfs_dtpage.specs.Page.{name_of, table_of}
+use Rattle.jfs_dtpage.specs.declared.head.DtForm.TheVariants.{Root, Full}
+use Rattle.jfs_dtpage.specs.Form.{free_of, is_leaf}
+use Rattle.jfs_dtpage.specs.Page.{name_of, table_of, IsDtPage}
 use Rattle.jfs_tree.specs.Walk.{Child, Node, Leaf, Inner, Broken, Scale}
 use Rattle.jfs_dtree.specs.Rules.{rows}
 
@@ -62,3 +63,21 @@ unless_broken None node = node
 -- the page, in its form, on a volume whose file system part has so many blocks
 unfoldable pub dt_node : DtForm → ℕ → List ℕ → Node (List ℕ) NameEntry
 dt_node form blocks bytes = unless_broken (first_broken (rows form bytes)) (by_kind (is_leaf bytes) blocks bytes (table_of form bytes))
+
+-- ---- what a page can take
+
+-- a name has 255 units at most, and so has a key
+abbrev pub IsGood : NameEntry → Type 0
+IsGood e = length e.name ≤ 255
+
+abbrev pub IsKey : List ℕ → Type 0
+IsKey key = length key ≤ 255
+
+-- Fewer slots are free than the longest name takes. A root, which has 8, may have no room at any time.
+pub record HasNoRoom (form : DtForm) (bytes : List ℕ) : Type 0 where
+  pub sound : IsDtPage form bytes
+  pub few : free_of bytes < 18
+
+abbrev pub IsRoot : DtForm → Type 0
+IsRoot Root = Unit {0}
+IsRoot Full = ⊥
