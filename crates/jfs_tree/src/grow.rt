@@ -34,6 +34,7 @@ pub fn add_below<V: PageView, F: PageForm>(
     requires page { page < V.PageView.block_count view.old }
     requires bound { F.PageForm.blocks form.now ≡ V.PageView.block_count view.old }
     requires size { F.PageForm.size form.now ≡ 4096 }
+    requires below { F.PageForm.is_root form.now → ⊥ }
     requires good { F.PageForm.is_good form.now x.now }
     requires enough { most ≤ length fresh.old.items }
     requires within { AllBelow (V.PageView.block_count view.old) fresh.old.items }
@@ -96,6 +97,7 @@ fn take_grown<F: PageForm>(
     grown: Grown<F::Key>,
 ) -> Result<Grown<F::Key>, TreeError>
     requires size { F.PageForm.size form.now ≡ 4096 }
+    requires below { F.PageForm.is_root form.now → ⊥ }
     requires within { IfSome grown.sibling (λ s. s.page < F.PageForm.blocks form.now) }
     requires key { IfSome grown.sibling (λ s. F.PageForm.is_key s.key) }
     requires enough { 0 < length fresh.old.items }

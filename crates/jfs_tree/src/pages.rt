@@ -59,8 +59,8 @@ pub trait PageForm {
         requires good { is_good self.now x.now }
         ensures { PutsRow scale x.now (node self.now) (is_full self.now) bytes.old bytes.new result };
 
-    /// Puts the entry into page `n`, a leaf that has no room for it, and the leaf's last part into page `q`, whose key it answers. `last` tells
-    /// that page `n` is the last one of its level.
+    /// Puts the entry into page `n`, a leaf below a root that has no room for it, and the leaf's last part into page `q`, whose key it answers.
+    /// `last` tells that page `n` is the last one of its level. A root is never split: it moves down.
     fn split(
         &self,
         n: u32,
@@ -70,6 +70,7 @@ pub trait PageForm {
         right: &mut [u8],
         x: &Self::Entry,
     ) -> Self::Key
+        requires below { is_root self.now → ⊥ }
         requires size { (length bytes.old ≡ size self.now) × (length right.old ≡ size self.now) }
         requires good { is_good self.now x.now }
         requires full { is_full self.now bytes.old }
@@ -84,8 +85,8 @@ pub trait PageForm {
         requires key { is_key child.now.key }
         ensures { PutsChild scale (node self.now) (is_full self.now) place child.now bytes.old bytes.new result };
 
-    /// Puts a child into page `n`, an inner page that has no room for it, and the page's last part into page `q`, whose key it answers. `last`
-    /// tells that page `n` is the last one of its level.
+    /// Puts a child into page `n`, an inner page below a root that has no room for it, and the page's last part into page `q`, whose key it
+    /// answers. `last` tells that page `n` is the last one of its level.
     fn split_child(
         &self,
         n: u32,
@@ -96,6 +97,7 @@ pub trait PageForm {
         place: usize,
         child: &Sibling<Self::Key>,
     ) -> Self::Key
+        requires below { is_root self.now → ⊥ }
         requires size { (length bytes.old ≡ size self.now) × (length right.old ≡ size self.now) }
         requires within { child.now.page < blocks self.now }
         requires key { is_key child.now.key }

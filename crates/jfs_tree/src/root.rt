@@ -65,7 +65,7 @@ pub fn add_entry<V: PageView, F: PageForm>(
     requires bound { (F.PageForm.blocks top.now ≡ V.PageView.block_count view.old) × (F.PageForm.blocks form.now ≡ V.PageView.block_count view.old) }
     requires size { F.PageForm.size form.now ≡ 4096 }
     requires top { F.PageForm.is_root top.now }
-    requires pages { F.PageForm.below top.now ≡ form.now }
+    requires pages { (F.PageForm.below top.now ≡ form.now) × (F.PageForm.is_root form.now → ⊥) }
     requires good { (F.PageForm.is_good top.now x.now) × (F.PageForm.is_good form.now x.now) }
     requires enough { 8 ≤ length fresh.old.items }
     requires within { AllBelow (V.PageView.block_count view.old) fresh.old.items }

@@ -21,6 +21,7 @@ pub(crate) fn take_here<F: PageForm>(
     x: &F::Entry,
 ) -> Result<Option<Sibling<F::Key>>, TreeError>
     requires size { F.PageForm.size form.now ≡ 4096 }
+    requires below { F.PageForm.is_root form.now → ⊥ }
     requires good { F.PageForm.is_good form.now x.now }
     requires enough { 0 < length fresh.old.items }
     ensures did { HereDid (F.PageForm.node form.now) F.PageForm.scale x.now bytes.0 page draft.old.pages.items draft.new.pages.items fresh.old.items fresh.new.items result }
@@ -52,6 +53,7 @@ fn split_here<F: PageForm>(
     x: &F::Entry,
 ) -> Result<Option<Sibling<F::Key>>, TreeError>
     requires size { F.PageForm.size form.now ≡ 4096 }
+    requires below { F.PageForm.is_root form.now → ⊥ }
     requires good { F.PageForm.is_good form.now x.now }
     requires enough { 0 < length fresh.old.items }
     requires full { F.PageForm.is_full form.now bytes.0 }
@@ -82,6 +84,7 @@ pub(crate) fn take_child<F: PageForm>(
     sibling: Sibling<F::Key>,
 ) -> Result<Option<Sibling<F::Key>>, TreeError>
     requires size { F.PageForm.size form.now ≡ 4096 }
+    requires below { F.PageForm.is_root form.now → ⊥ }
     requires within { sibling.page < F.PageForm.blocks form.now }
     requires key { F.PageForm.is_key sibling.key }
     requires enough { 0 < length fresh.old.items }
@@ -115,6 +118,7 @@ fn split_child<F: PageForm>(
     sibling: Sibling<F::Key>,
 ) -> Result<Option<Sibling<F::Key>>, TreeError>
     requires size { F.PageForm.size form.now ≡ 4096 }
+    requires below { F.PageForm.is_root form.now → ⊥ }
     requires within { sibling.page < F.PageForm.blocks form.now }
     requires key { F.PageForm.is_key sibling.key }
     requires enough { 0 < length fresh.old.items }
