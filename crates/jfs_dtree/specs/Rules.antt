@@ -1,5 +1,5 @@
 -- The rules of a page as tests, in the order in which they are looked at. (JFS Layout, dtree.)
-use Rattle.std.specs.Prelude.{ℕ, ◌+◌, ◌%◌, Bool, true, ◌&&◌, ◌||◌, ◌==◌, nat_le, List, [], ◌∷◌, ◌++◌}
+use Rattle.std.specs.Prelude.{ℕ, ◌+◌, ◌%◌, Bool, true, ◌&&◌, ◌||◌, ◌==◌, nat_le, List, [], ◌∷◌, ◌++◌, map}
 use Rattle.std.specs.List.{list_all, range_with_len}
 use Rattle.std.specs.Ordering.{is_lt, nat_cmp}
 use Rattle.std.specs.Cmp.Lexicographic.{slice_cmp}
@@ -51,9 +51,5 @@ holds form bytes rules.Free = fits_free form bytes
 holds form bytes rules.Order = rises (names_of form bytes)
 holds form bytes rule = true
 
-abbrev pub rows_of : DtForm → List ℕ → List Rule → List (Row Rule)
-rows_of form bytes [] = []
-rows_of form bytes (rule ∷ more) = row_of (holds form bytes) rule ∷ rows_of form bytes more
-
 abbrev pub rows : DtForm → List ℕ → List (Row Rule)
-rows form bytes = rows_of form bytes dt_rules
+rows form bytes = map (row_of (holds form bytes)) dt_rules
