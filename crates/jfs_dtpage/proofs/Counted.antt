@@ -1,15 +1,15 @@
 -- How many slots a page has for its entries.
-use Rattle.std.proofs.Common.{◌≡◌, ◌≤◌, ◌<◌, ◌+◌, ℕ, zero, suc, Bool, true, false, List, [], ◌∷◌, length, refl, ap, ◌∙◌, subst, inl, inr, length-append, arith}
+use Rattle.std.proofs.Common.{◌≡◌, ◌≤◌, ◌<◌, ◌⊎◌, ◌+◌, ℕ, zero, suc, Bool, true, false, List, [], ◌∷◌, length, refl, ap, ◌∙◌, subst, inl, inr, length-append, arith}
 use Rattle.std.specs.Prelude.{if◌then◌else◌, nat_le, nat_lt, ◌&&◌, ◌||◌}
 use Rattle.std.specs.List.{flat_map, AllByRecursion}
-use Rattle.std.proofs.lemmas.Bool.{cases_eq, le-ltb, lt-leb, or_from, and_right}
+use Rattle.std.proofs.lemmas.Bool.{cases_eq, cases_lt, lt-ltb, le-leb, le-ltb, lt-leb, or_from, and_right}
 use Rattle.jfs_bits.specs.Field.{field_of}
 use Rattle.jfs_dtpage.specs.declared.head.DtForm.{DtForm}
 use Rattle.jfs_dtpage.specs.declared.head.DtForm.TheVariants.{Root, Full}
 use Rattle.jfs_dtpage.specs.Form.{slots_of, most_of, count_of, is_leaf, is_usable}
 use Rattle.jfs_dtpage.specs.Slots.{times}
 use Rattle.jfs_dtpage.specs.Page.{chain_of, table_of, taken_of, usable, TableFits}
-use Rattle.jfs_dtpage.proofs.Lists.{times_here, times_other, all_from}
+use Rattle.jfs_dtpage.proofs.Lists.{times_here, times_other, times_rest, all_from}
 use Rattle.jfs_dtpage.proofs.Pages.{usable_range, table_length}
 
 -- ---- a list of different numbers below a bound is no longer than the bound
@@ -113,6 +113,65 @@ usable_fit Full bytes xs fits h =
 
     above : (t p : ℕ) → 1 ≤ t → t + p ≡ 0 → ⊥
     above t p low e = omega (arith, low, e)
+
+total_each : (n : ℕ) (ys : List ℕ) → ((k : ℕ) → k < n → 1 ≤ times k ys) → n ≤ total n ys
+unfolding total
+total_each zero ys h = omega arith
+total_each (suc n) ys h = let a = total_each n ys (λ k l. h k (omega (arith, l))) in let b = h n (omega arith) in omega (arith, a, b)
+
+-- each number below a bound stands in the list, and none else
+long : (n : ℕ) (ys : List ℕ) → ((k : ℕ) → k < n → 1 ≤ times k ys) → AllByRecursion (λ y. y < n) ys → n ≤ length ys
+long n ys each all = let a = total_each n ys each in let b = total_length n ys all in omega (arith, a, b)
+
+is_there : (k x : ℕ) (xs : List ℕ) → x ≡ k → 1 ≤ times k (x ∷ xs)
+is_there k x xs e = subst (λ (j : ℕ). 1 ≤ times j (x ∷ xs)) e (let a = times_here x xs in omega (arith, a))
+
+is_behind : (k x : ℕ) (xs : List ℕ) → 1 ≤ times k xs → 1 ≤ times k (x ∷ xs)
+is_behind k x xs h = let a = times_rest k x xs in omega (arith, a, h)
+
+full_usable : (bytes : List ℕ) (k : ℕ) → 1 ≤ k → k < 128 → (k < field_of bytes 21 1) ⊎ (field_of bytes 21 1 + 4 ≤ k) → usable Full bytes k ≡ 1
+full_usable bytes k a b (inl c) = rw (le-leb 1 k a, lt-ltb k 128 b, lt-ltb k (field_of bytes 21 1) c) refl
+full_usable bytes k a b (inr c) = rw (le-leb 1 k a, lt-ltb k 128 b, le-ltb k (field_of bytes 21 1) (omega (arith, c)), le-leb (field_of bytes 21 1 + 4) k c) refl
+
+-- a slot of the header, of the table, or among these
+full_each : (bytes xs : List ℕ) (t k : ℕ) → t ≡ field_of bytes 21 1 → k < 128 → times k xs ≡ usable Full bytes k → 1 ≤ times k (0 ∷ t ∷ (t + 1) ∷ (t + 2) ∷ (t + 3) ∷ xs)
+full_each bytes xs t k is l h = elim (cases_eq 0 k) [
+  | inl e ↦ is_there k 0 (t ∷ (t + 1) ∷ (t + 2) ∷ (t + 3) ∷ xs) e
+  | inr some ↦ is_behind k 0 (t ∷ (t + 1) ∷ (t + 2) ∷ (t + 3) ∷ xs) (elim (cases_eq t k) [
+    | inl e ↦ is_there k t ((t + 1) ∷ (t + 2) ∷ (t + 3) ∷ xs) e
+    | inr a ↦ is_behind k t ((t + 1) ∷ (t + 2) ∷ (t + 3) ∷ xs) (elim (cases_eq (t + 1) k) [
+      | inl e ↦ is_there k (t + 1) ((t + 2) ∷ (t + 3) ∷ xs) e
+      | inr b ↦ is_behind k (t + 1) ((t + 2) ∷ (t + 3) ∷ xs) (elim (cases_eq (t + 2) k) [
+        | inl e ↦ is_there k (t + 2) ((t + 3) ∷ xs) e
+        | inr c ↦ is_behind k (t + 2) ((t + 3) ∷ xs) (elim (cases_eq (t + 3) k) [
+          | inl e ↦ is_there k (t + 3) xs e
+          | inr d ↦ is_behind k (t + 3) xs (let u = full_usable bytes k (omega (arith, some)) l (beside (field_of bytes 21 1) k t is a b c d) in omega (arith, h, u))
+        ])
+      ])
+    ])
+  ])
+]
+  where
+    beside : (u k t : ℕ) → t ≡ u → (t ≡ k → ⊥) → (t + 1 ≡ k → ⊥) → (t + 2 ≡ k → ⊥) → (t + 3 ≡ k → ⊥) → (k < u) ⊎ (u + 4 ≤ k)
+    beside u k t is a b c d = elim (cases_lt k u) [ inl l ↦ inl l | inr m ↦ inr (omega (arith, is, a, b, c, d, m)) ]
+
+-- slots that entries may have, all of them, are as many as the page has
+pub usable_whole : (form : DtForm) (bytes : List ℕ) (xs : List ℕ) → TableFits form bytes → ((k : ℕ) → times k xs ≡ usable form bytes k) → length xs ≡ most_of form
+usable_whole Root bytes xs fits h =
+    let most = usable_fit Root bytes xs fits (λ k. let a = h k in omega (arith, a)) in
+    let n = long 9 (0 ∷ xs) (λ k l. elim (cases_eq 0 k) [ inl e ↦ is_there k 0 xs e | inr o ↦ is_behind k 0 xs (let a = h k in let u = root_usable k (omega (arith, o)) l in omega (arith, a, u)) ])
+    (omega arith, all_range Root bytes xs (λ k. let a = h k in omega (arith, a))) in
+    omega (arith, n, most)
+  where
+    root_usable : (k : ℕ) → 1 ≤ k → k < 9 → usable Root bytes k ≡ 1
+    root_usable k a b = rw (le-leb 1 k a, lt-ltb k 9 b) refl
+usable_whole Full bytes xs fits h =
+    let t = field_of bytes 21 1 in
+    let high = fits.2 in
+    let most = usable_fit Full bytes xs fits (λ k. let a = h k in omega (arith, a)) in
+    let n = long 128 (0 ∷ t ∷ (t + 1) ∷ (t + 2) ∷ (t + 3) ∷ xs) (λ k l. full_each bytes xs t k refl l (h k))
+    (omega arith, (omega (arith, high), (omega (arith, high), (omega (arith, high), (omega (arith, high), all_range Full bytes xs (λ k. let a = h k in omega (arith, a))))))) in
+    omega (arith, n, most)
 
 -- each entry has a slot at least
 pub length_chains : (leaf : Bool) (bytes : List ℕ) (xs : List ℕ) → length xs ≤ length (flat_map (chain_of leaf bytes) xs)

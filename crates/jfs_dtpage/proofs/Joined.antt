@@ -117,7 +117,7 @@ room_left form old place slot page h e k =
     let d = ap (λ (s : ℕ). times k (chain_of (is_leaf old) old s)) e in
     omega (arith, a, b, d)
 
-length_chain : (leaf : Bool) (bytes : List ℕ) (slot : ℕ) → length (chain_of leaf bytes slot) ≡ suc (more_slots leaf (length_of leaf bytes slot))
+pub length_chain : (leaf : Bool) (bytes : List ℕ) (slot : ℕ) → length (chain_of leaf bytes slot) ≡ suc (more_slots leaf (length_of leaf bytes slot))
 unfolding chain_of
 length_chain leaf bytes slot = ap suc (length-follow bytes (link_of leaf bytes slot) (more_slots leaf (length_of leaf bytes slot)))
 

@@ -16,3 +16,4 @@ pub mod Joined
 pub mod Paged
 pub mod Same
 pub mod Empty
+pub mod Filled

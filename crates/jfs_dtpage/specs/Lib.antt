@@ -5,3 +5,4 @@ pub mod Form
 pub mod Order
 pub mod Met
 pub mod Given
+pub mod Fill

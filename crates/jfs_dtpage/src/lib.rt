@@ -18,7 +18,7 @@ mod write;
 
 pub use check::dt_check;
 pub use edit::{dt_insert, dt_remove};
-pub use entry::{dt_child, dt_inode, dt_name};
+pub use entry::{count_of, dt_child, dt_inode, dt_name, free_of, is_leaf};
 pub use find::dt_find;
 pub use head::{BadDt, DtEntry, DtForm, DtHead, PageFull, Place};
 pub use link::dt_link;
