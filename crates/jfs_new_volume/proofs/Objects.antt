@@ -4,10 +4,11 @@ use Rattle.std.proofs.lemmas.Bool.{cases_lt}
 use Rattle.std.proofs.lemmas.Bool.Decides.{nat_tests}
 use Rattle.jfs_bits.specs.declared.extent.Xad.{Xad}
 use Rattle.jfs_inode.specs.declared.fields.Dinode.{Dinode}
+use Rattle.jfs_name.specs.declared.name.NameEntry.{NameEntry}
 use Rattle.jfs_disk.specs.Image.{Image, page_of}
 use Rattle.jfs_tree.specs.Walk.{Node, Leaf, Page}
 use Rattle.jfs_tree.specs.Spells.{no_page, tree_of}
-use Rattle.jfs_objects.specs.Readers.{Name, Readers}
+use Rattle.jfs_objects.specs.Readers.{Readers}
 use Rattle.jfs_objects.specs.Volume.{home, page_in, slot_of}
 use Rattle.jfs_objects.specs.Objects.{IsWhole, objects, spelled, has_names, has_extents, is_live, met}
 use Rattle.jfs_objects.specs.Owners.{holds}
@@ -45,10 +46,10 @@ sum_is x y e f = omega (arith, e, f)
 
 pub has_no_block : (r : Readers) (v : NewVolume) (n b : ℕ) → n < 4 → holds r (Some (new_object v n)) b ≡ 0
 unfolding holds
-has_no_block r v zero b l = sum_is (met {P = List ℕ} {E = Name} [] b) (met {P = ℕ} {E = Xad} (Page no_page ∷ []) b) (nothing_met (List ℕ) Name b) (none_meets ℕ Xad b)
-has_no_block r v (suc zero) b l = sum_is (met {P = List ℕ} {E = Name} [] b) (met {P = ℕ} {E = Xad} (Page no_page ∷ []) b) (nothing_met (List ℕ) Name b) (none_meets ℕ Xad b)
-has_no_block r v (suc (suc zero)) b l = sum_is (met {P = List ℕ} {E = Name} (Page no_page ∷ []) b) (met {P = ℕ} {E = Xad} [] b) (none_meets (List ℕ) Name b) (nothing_met ℕ Xad b)
-has_no_block r v (suc (suc (suc zero))) b l = sum_is (met {P = List ℕ} {E = Name} [] b) (met {P = ℕ} {E = Xad} (Page no_page ∷ []) b) (nothing_met (List ℕ) Name b) (none_meets ℕ Xad b)
+has_no_block r v zero b l = sum_is (met {P = List ℕ} {E = NameEntry} [] b) (met {P = ℕ} {E = Xad} (Page no_page ∷ []) b) (nothing_met (List ℕ) NameEntry b) (none_meets ℕ Xad b)
+has_no_block r v (suc zero) b l = sum_is (met {P = List ℕ} {E = NameEntry} [] b) (met {P = ℕ} {E = Xad} (Page no_page ∷ []) b) (nothing_met (List ℕ) NameEntry b) (none_meets ℕ Xad b)
+has_no_block r v (suc (suc zero)) b l = sum_is (met {P = List ℕ} {E = NameEntry} (Page no_page ∷ []) b) (met {P = ℕ} {E = Xad} [] b) (none_meets (List ℕ) NameEntry b) (nothing_met ℕ Xad b)
+has_no_block r v (suc (suc (suc zero))) b l = sum_is (met {P = List ℕ} {E = NameEntry} [] b) (met {P = ℕ} {E = Xad} (Page no_page ∷ []) b) (nothing_met (List ℕ) NameEntry b) (none_meets ℕ Xad b)
 has_no_block r v (suc (suc (suc (suc n)))) b l = absurd (omega (arith, l))
 
 module _ (r : Readers) (pages : ℕ) (v : NewVolume) (image : Image) (layout : IsLayout pages v.layout) (roots : ReadsRoots r v.layout.blocks) (is : IsNewVolume v image) where
@@ -62,7 +63,7 @@ module _ (r : Readers) (pages : ℕ) (v : NewVolume) (image : Image) (layout : I
   unfolding spelled
   directory_spelled d a b root =
       ap₂ (λ (x y : Bool). record { inode = d; names = if x then tree_of r.names_order (λ b. r.names_page (page_of image b)) (r.names_root d) else []; extents = if y then tree_of r.extents_order (λ b. r.extents_page (page_of image b)) (r.extents_root d) else [] }) a b
-      ∙ ap (λ (node : Node (List ℕ) Name). record { inode = d; names = tree_of r.names_order (λ b. r.names_page (page_of image b)) node; extents = [] }) root
+      ∙ ap (λ (node : Node (List ℕ) NameEntry). record { inode = d; names = tree_of r.names_order (λ b. r.names_page (page_of image b)) node; extents = [] }) root
 
   spelled_is : (n : ℕ) → n < 4 → spelled r (page_of image) (fileset_inode v n) ≡ new_object v n
   spelled_is zero l = file_spelled (fileset_inode v zero) refl refl (roots.empty (fileset_inode v zero) refl)

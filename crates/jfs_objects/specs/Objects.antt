@@ -4,15 +4,16 @@ use Rattle.jfs_bits.specs.declared.extent.Xad.{Xad}
 use Rattle.jfs_bits.specs.declared.rule.Rule.{Rule}
 use Rattle.jfs_inode.specs.Rules.{type_of}
 use Rattle.jfs_inode.specs.declared.fields.Dinode.{Dinode}
+use Rattle.jfs_name.specs.declared.name.NameEntry.{NameEntry}
 use Rattle.jfs_tree.specs.Walk.{Marks, Scale, times}
 use Rattle.jfs_tree.specs.Spells.{no_page, tree_of, judge}
-use Rattle.jfs_objects.specs.Readers.{Name, Readers}
+use Rattle.jfs_objects.specs.Readers.{Readers}
 use Rattle.jfs_objects.specs.Volume.{Volume, home, slot_of}
 
 -- An object: its inode, and the walks through its trees. A directory has names, a file and a long symbolic link have extents.
 pub record Object : Type 0 where
   pub inode : Dinode
-  pub names : Marks (List ℕ) Name
+  pub names : Marks (List ℕ) NameEntry
   pub extents : Marks ℕ Xad
 
 abbrev pub has_names : Dinode → Bool
@@ -22,7 +23,7 @@ has_names d = type_of d == 0x4000
 abbrev pub has_extents : Dinode → Bool
 has_extents d = type_of d == 0x8000 || (type_of d == 0xa000 && nat_le 256 d.size)
 
-abbrev pub names_of : Readers → (ℕ → List ℕ) → Dinode → Marks (List ℕ) Name
+abbrev pub names_of : Readers → (ℕ → List ℕ) → Dinode → Marks (List ℕ) NameEntry
 names_of r page d = if has_names d then tree_of r.names_order (λ b. r.names_page (page b)) (r.names_root d) else []
 
 abbrev pub extents_of : Readers → (ℕ → List ℕ) → Dinode → Marks ℕ Xad
@@ -61,7 +62,7 @@ listed s ms = judge s s.least ms
 
 -- no tree of the object breaks a rule
 pub record IsWhole (r : Readers) (o : Object) : Type 0 where
-  pub names : List Name
+  pub names : List NameEntry
   pub extents : List Xad
   pub names_are : listed r.names_order o.names ≡ Ok names
   pub extents_are : listed r.extents_order o.extents ≡ Ok extents

@@ -2,18 +2,14 @@
 use Rattle.std.specs.Prelude.{ℕ, List}
 use Rattle.jfs_bits.specs.declared.extent.Xad.{Xad}
 use Rattle.jfs_inode.specs.declared.fields.Dinode.{Dinode}
+use Rattle.jfs_name.specs.declared.name.NameEntry.{NameEntry}
 use Rattle.jfs_tree.specs.Walk.{Node, Scale}
-
--- a name in a directory, and the inode that it leads to
-pub record Name : Type 0 where
-  pub units : List ℕ
-  pub inode : ℕ
 
 -- A root stands in an inode; the pages below it stand on the volume.
 pub record Readers : Type 0 where
-  pub names_order : Scale (List ℕ) Name
-  pub names_root : Dinode → Node (List ℕ) Name
-  pub names_page : List ℕ → Node (List ℕ) Name
+  pub names_order : Scale (List ℕ) NameEntry
+  pub names_root : Dinode → Node (List ℕ) NameEntry
+  pub names_page : List ℕ → Node (List ℕ) NameEntry
   pub extents_order : Scale ℕ Xad
   pub extents_root : Dinode → Node ℕ Xad
   pub extents_page : List ℕ → Node ℕ Xad

@@ -1,0 +1,4 @@
+pub mod Stays
+pub mod Changed
+pub mod New
+pub mod Free

@@ -1,0 +1,9 @@
+//! What a volume means: its file tree, its room, and when it is consistent.
+#![tactic(auto)]
+
+mod law;
+
+pub use law::{
+    data_leaves_nodes, free_blocks_are_unused, inode_extent_leaves_the_tree,
+    new_trees_are_consistent, one_node_goes, one_node_is_set,
+};
