@@ -1,18 +1,17 @@
 -- What a root or page of a directory tree reads as. (JFS Layout, dtree.)
-use Rattle.std.specs.Prelude.{◌<◌, ◌≤◌, ℕ, ◌+◌, ◌*◌, Bool, true, false, not, ◌&&◌, nat_le, if◌then◌else◌, List, [], ◌∷◌, ◌++◌, map, length, Option, Some, None}
+use Rattle.std.specs.Prelude.{◌<◌, ◌≤◌, ℕ, ◌+◌, Bool, true, false, not, ◌&&◌, nat_le, if◌then◌else◌, List, [], ◌∷◌, ◌++◌, map, length, Option, Some, None}
+use Rattle.std.specs.List.{list_all}
 use Rattle.std.specs.Ordering.{is_lt, nat_cmp}
 use Rattle.std.specs.Cmp.Lexicographic.{slice_cmp}
 use Rattle.jfs_bits.specs.declared.descriptor.Pxd.{Pxd}
 use Rattle.jfs_bits.specs.declared.rule.Rule.{Rule}
 use Rattle.jfs_bits.specs.declared.rule.Rule.TheVariants as rules
 use Rattle.jfs_bits.specs.Broken.{first_broken}
-use Rattle.jfs_bits.specs.Descriptor.{pxd_of}
-use Rattle.jfs_bits.specs.Field.{field_of}
 use Rattle.jfs_name.specs.declared.name.NameEntry.{NameEntry}
 use Rattle.jfs_dtpage.specs.declared.head.DtForm.{DtForm}
 use Rattle.jfs_dtpage.specs.declared.head.DtForm.TheVariants.{Root, Full}
 use Rattle.jfs_dtpage.specs.Form.{free_of, is_leaf}
-use Rattle.jfs_dtpage.specs.Page.{name_of, table_of, IsDtPage}
+use Rattle.jfs_dtpage.specs.Page.{Entry, Named, Below, entries_of, IsDtPage}
 use Rattle.jfs_tree.specs.Walk.{Child, Node, Leaf, Inner, Broken, Scale}
 use Rattle.jfs_dtree.specs.Rules.{rows}
 
@@ -30,21 +29,23 @@ name_scale = record {
   fits = λ key e. not_after key e.name;
 }
 
--- the entry of a leaf by its first slot
-abbrev pub entry_at : List ℕ → ℕ → NameEntry
-entry_at bytes slot = record { name = name_of true bytes slot; inode = field_of bytes (32 * slot) 4 }
+-- a leaf's entry
+abbrev pub named : Entry → NameEntry
+named (Named inode name) = record { name = name; inode = inode }
+named (Below at key) = record { name = key; inode = 0 }
 
 -- an inner page's entry names the first block of its run, which is a page
-abbrev pub child_at : List ℕ → ℕ → Child (List ℕ)
-child_at bytes slot = record { key = name_of false bytes slot; page = (pxd_of bytes (32 * slot)).addr }
+abbrev pub below : Entry → Child (List ℕ)
+below (Named inode name) = record { key = name; page = 0 }
+below (Below at key) = record { key = key; page = at.addr }
 
 -- the run has a length and lies within the blocks of the file system part
 abbrev pub is_within : ℕ → Pxd → Bool
 is_within blocks at = nat_le 1 at.len && nat_le (at.addr + at.len) blocks
 
-abbrev pub all_within : ℕ → List ℕ → List ℕ → Bool
-all_within blocks bytes [] = true
-all_within blocks bytes (slot ∷ slots) = is_within blocks (pxd_of bytes (32 * slot)) && all_within blocks bytes slots
+abbrev pub child_within : ℕ → Entry → Bool
+child_within blocks (Named inode name) = true
+child_within blocks (Below at key) = is_within blocks at
 
 -- an inner page isn't empty
 abbrev pub inner : List (Child (List ℕ)) → Node (List ℕ) NameEntry
@@ -52,9 +53,9 @@ inner [] = Broken rules.Deep
 inner (c ∷ cs) = Inner (c ∷ cs)
 
 -- a page that breaks no rule of its own
-abbrev pub by_kind : Bool → ℕ → List ℕ → List ℕ → Node (List ℕ) NameEntry
-by_kind true blocks bytes slots = Leaf (map (entry_at bytes) slots)
-by_kind false blocks bytes slots = if all_within blocks bytes slots then inner (map (child_at bytes) slots) else Broken rules.Range
+abbrev pub by_kind : Bool → ℕ → List Entry → Node (List ℕ) NameEntry
+by_kind true blocks es = Leaf (map named es)
+by_kind false blocks es = if list_all (child_within blocks) es then inner (map below es) else Broken rules.Range
 
 abbrev pub unless_broken : Option Rule → Node (List ℕ) NameEntry → Node (List ℕ) NameEntry
 unless_broken (Some rule) node = Broken rule
@@ -62,7 +63,7 @@ unless_broken None node = node
 
 -- the page, in its form, on a volume whose file system part has so many blocks
 unfoldable pub dt_node : DtForm → ℕ → List ℕ → Node (List ℕ) NameEntry
-dt_node form blocks bytes = unless_broken (first_broken (rows form bytes)) (by_kind (is_leaf bytes) blocks bytes (table_of form bytes))
+dt_node form blocks bytes = unless_broken (first_broken (rows form bytes)) (by_kind (is_leaf bytes) blocks (entries_of form bytes))
 
 -- ---- what a page can take
 
