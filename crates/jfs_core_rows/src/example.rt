@@ -45,57 +45,114 @@ fn all_redone(
     Ok(true)
 }
 
+/// Steps, the one that is refused, and what redo then gives, whatever a crash leaves.
+struct Stage {
+    steps: &'static [Do],
+    refused: Option<StepRefused>,
+    contents: u32,
+    n: u64,
+    wanted: (u8, u8),
+}
+
+const NOT_SYNCED: Option<StepRefused> = Some(StepRefused {
+    at: 0,
+    why: Why::NotSynced,
+});
+
+// One page of zeros, and the stages one after another.
+const STAGES: [Stage; 9] = [
+    // Entry 1 sets sector 0's first line, is acknowledged, and goes home. The disk holds the zeros, stable, and the page after
+    // entry 1, pending: entry 1 is unsynced.
+    Stage {
+        steps: &[Do::Set(0, 0, 1), Do::Take, Do::Group, Do::Told, Do::Home(0)],
+        refused: None,
+        contents: 2,
+        n: 1,
+        wanted: (1, 0),
+    },
+    // Entry 2 sets sector 1's first line, and the page goes home once more, with no sync between. The contents are the zeros,
+    // the page after entry 1 and the page after entry 2; entries 1 to 2 are unsynced. The page isn't dirty any more.
+    // Whatever a crash leaves, each cell has its value after entry 0, 1 or 2: sector 0 of the newest write over the zeros has
+    // entry 1 and not entry 2, for one. Redo of entries 1 and 2 gives both lines.
+    Stage {
+        steps: &[
+            Do::Set(0, 32, 2),
+            Do::Take,
+            Do::Group,
+            Do::Told,
+            Do::Home(0),
+        ],
+        refused: None,
+        contents: 3,
+        n: 2,
+        wanted: (1, 2),
+    },
+    // No sync count may pass entry 1: the zeros may be all that a crash leaves, and a log that begins after entry 1 couldn't
+    // bring its line back. That the page isn't dirty, and that its first write back had entry 1 alone, is not enough.
+    // A refused step changes nothing: redo still begins at entry 1.
+    Stage {
+        steps: &[Do::Point(1)],
+        refused: NOT_SYNCED,
+        contents: 3,
+        n: 2,
+        wanted: (1, 2),
+    },
+    Stage {
+        steps: &[Do::Point(2)],
+        refused: NOT_SYNCED,
+        contents: 3,
+        n: 2,
+        wanted: (1, 2),
+    },
+    // After a sync the page after entry 2 is the only content, and the count may pass both entries. A group makes it stable.
+    Stage {
+        steps: &[Do::Sync, Do::Point(2), Do::Take, Do::Group],
+        refused: None,
+        contents: 1,
+        n: 2,
+        wanted: (1, 2),
+    },
+    // Entry 3 sets sector 0's line anew and goes home. The log now holds entry 3 alone, and that is enough: sector 1's line is
+    // in each content that a crash may leave.
+    Stage {
+        steps: &[Do::Set(0, 0, 3), Do::Take, Do::Group, Do::Told, Do::Home(0)],
+        refused: None,
+        contents: 2,
+        n: 3,
+        wanted: (3, 2),
+    },
+    // Count 3 is refused until the next sync, count 1 would fall, and count 2 stays allowed: what is unsynced begins past it.
+    Stage {
+        steps: &[Do::Point(3)],
+        refused: NOT_SYNCED,
+        contents: 2,
+        n: 3,
+        wanted: (3, 2),
+    },
+    Stage {
+        steps: &[Do::Point(1)],
+        refused: NOT_SYNCED,
+        contents: 2,
+        n: 3,
+        wanted: (3, 2),
+    },
+    Stage {
+        steps: &[Do::Point(2)],
+        refused: None,
+        contents: 2,
+        n: 3,
+        wanted: (3, 2),
+    },
+];
+
 #[test]
 fn a_page_written_back_twice(rt: HostRuntime) -> Result<(), Fail> {
     let alloc = rt.alloc();
     let mut core = CoreState::new(alloc, &zeros(alloc, 1)?)?;
-
-    // Entry 1 sets sector 0's first line, is acknowledged, and goes home. The disk holds the zeros, stable, and the page after
-    // entry 1, pending: entry 1 is unsynced.
-    let first = [Do::Set(0, 0, 1), Do::Take, Do::Group, Do::Told, Do::Home(0)];
-    assert_eq!(rt; run(alloc, &mut core, &first)?, None);
-
-    // Entry 2 sets sector 1's first line, and the page goes home once more, with no sync between. The contents are the zeros,
-    // the page after entry 1 and the page after entry 2; entries 1 to 2 are unsynced. The page isn't dirty any more.
-    let second = [
-        Do::Set(0, 32, 2),
-        Do::Take,
-        Do::Group,
-        Do::Told,
-        Do::Home(0),
-    ];
-    assert_eq!(rt; run(alloc, &mut core, &second)?, None);
-
-    // Whatever a crash leaves, each cell has its value after entry 0, 1 or 2: sector 0 of the newest write over the zeros has
-    // entry 1 and not entry 2, for one. Redo of entries 1 and 2 gives both lines.
-    assert!(rt; all_redone(alloc, &core, 3, 2, (1, 2))?);
-
-    // No sync count may pass entry 1: the zeros may be all that a crash leaves, and a log that begins after entry 1 couldn't
-    // bring its line back. That the page isn't dirty, and that its first write back had entry 1 alone, is not enough.
-    let refused = Some(StepRefused {
-        at: 0,
-        why: Why::NotSynced,
-    });
-    assert_eq!(rt; run(alloc, &mut core, &[Do::Point(1)])?, refused);
-    assert_eq!(rt; run(alloc, &mut core, &[Do::Point(2)])?, refused);
-
-    // A refused step changes nothing: redo still begins at entry 1.
-    assert!(rt; all_redone(alloc, &core, 3, 2, (1, 2))?);
-
-    // After a sync the page after entry 2 is the only content, and the count may pass both entries. A group makes it stable.
-    let synced = [Do::Sync, Do::Point(2), Do::Take, Do::Group];
-    assert_eq!(rt; run(alloc, &mut core, &synced)?, None);
-    assert!(rt; all_redone(alloc, &core, 1, 2, (1, 2))?);
-
-    // Entry 3 sets sector 0's line anew and goes home. Count 3 is refused until the next sync, count 1 would fall, and count 2
-    // stays allowed: what is unsynced begins past it.
-    let third = [Do::Set(0, 0, 3), Do::Take, Do::Group, Do::Told, Do::Home(0)];
-    assert_eq!(rt; run(alloc, &mut core, &third)?, None);
-    assert_eq!(rt; run(alloc, &mut core, &[Do::Point(3)])?, refused);
-    assert_eq!(rt; run(alloc, &mut core, &[Do::Point(1)])?, refused);
-    assert_eq!(rt; run(alloc, &mut core, &[Do::Point(2)])?, None);
-
-    // The log now holds entry 3 alone, and that is enough: sector 1's line is in each content that a crash may leave.
-    assert!(rt; all_redone(alloc, &core, 2, 3, (3, 2))?);
+    for stage in &STAGES {
+        assert!(rt; stage.steps.len() <= 100);
+        assert_eq!(rt; run(alloc, &mut core, stage.steps)?, stage.refused);
+        assert!(rt; all_redone(alloc, &core, stage.contents, stage.n, stage.wanted)?);
+    }
     Ok(())
 }

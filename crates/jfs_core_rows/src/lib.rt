@@ -69,43 +69,58 @@ pub fn set_line(
 
 /// The step that a table means.
 pub fn step_of(alloc: Global, code: Do) -> Result<Step, AllocError> {
-    let mut tx = Tx::new(alloc);
-    Ok(match code {
-        Do::Set(page, line, byte) => {
-            set_line(alloc, &mut tx, page, line, byte)?;
-            Step::Append { tx }
-        }
+    match code {
+        Do::Set(page, line, byte) => set(alloc, page, line, byte),
         Do::SetBoth(page, line, other, next, byte) => {
-            set_line(alloc, &mut tx, page, line, byte)?;
-            set_line(alloc, &mut tx, other, next, byte)?;
-            Step::Append { tx }
+            set_both(alloc, (page, line), (other, next), byte)
         }
-        Do::Nothing => Step::Append { tx },
-        Do::Take => Step::Take,
-        Do::Group => Step::GroupWrite,
-        Do::Told => Step::Told,
-        Do::Home(page) => Step::Home { page },
-        Do::Sync => Step::LowSync,
-        Do::Point(c) => Step::SyncPoint { c },
-        Do::FailRead => failed(FaultOf::Read),
-        Do::FailSync => failed(FaultOf::LowSync),
-        Do::FailGroup => failed(FaultOf::GroupWrite),
-        Do::FailHome(page, byte, sectors) => {
-            let mut bytes = Page::zeros();
-            for i in 0..16 {
-                bytes.0[i] = byte;
-            }
-            failed(FaultOf::LowWrite {
-                page,
-                bytes,
-                sectors,
-            })
-        }
-    })
+        Do::Nothing => Ok(Step::Append { tx: Tx::new(alloc) }),
+        Do::Take => Ok(Step::Take),
+        Do::Group => Ok(Step::GroupWrite),
+        Do::Told => Ok(Step::Told),
+        Do::Home(page) => Ok(Step::Home { page }),
+        Do::Sync => Ok(Step::LowSync),
+        Do::Point(c) => Ok(Step::SyncPoint { c }),
+        Do::FailRead => Ok(failed(FaultOf::Read)),
+        Do::FailSync => Ok(failed(FaultOf::LowSync)),
+        Do::FailGroup => Ok(failed(FaultOf::GroupWrite)),
+        Do::FailHome(page, byte, sectors) => Ok(failed(FaultOf::LowWrite {
+            page,
+            bytes: first_line(byte),
+            sectors,
+        })),
+    }
+}
+
+fn set(alloc: Global, page: u32, line: u32, byte: u8) -> Result<Step, AllocError> {
+    let mut tx = Tx::new(alloc);
+    set_line(alloc, &mut tx, page, line, byte)?;
+    Ok(Step::Append { tx })
+}
+
+fn set_both(
+    alloc: Global,
+    one: (u32, u32),
+    other: (u32, u32),
+    byte: u8,
+) -> Result<Step, AllocError> {
+    let mut tx = Tx::new(alloc);
+    set_line(alloc, &mut tx, one.0, one.1, byte)?;
+    set_line(alloc, &mut tx, other.0, other.1, byte)?;
+    Ok(Step::Append { tx })
 }
 
 fn failed(of: FaultOf) -> Step {
     Step::Fault { fault: FAULT, of }
+}
+
+/// A page whose first 16 bytes are these and whose other bytes are 0.
+fn first_line(byte: u8) -> Page {
+    let mut page = Page::zeros();
+    for i in 0..16 {
+        page.0[i] = byte;
+    }
+    page
 }
 
 /// Pages of zeros.
