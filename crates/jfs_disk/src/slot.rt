@@ -22,7 +22,7 @@ pub struct PageSlot {
 impl PageSlot {
     ghost use Rattle.std.specs.Prelude.{IfOk, OnOk, OnErr};
     ghost use Rattle.jfs_disk.specs.Crash.{resting, page_written, page_failed, content_of};
-    ghost use Rattle.jfs_disk.specs.Choice.{fits, torn_by, left_by};
+    ghost use Rattle.jfs_disk.specs.Choice.{fits, left_by};
     ghost use Rattle.jfs_disk.specs.Slot.{history_in};
 
     /// A page with these bytes, stable, and nothing pending.
