@@ -1,0 +1,10 @@
+-- what the clauses say
+pub mod Kind
+pub mod Subject
+pub mod Mount
+pub mod Inodes
+pub mod Names
+pub mod Trees
+pub mod Blocks
+pub mod Maps
+pub mod Findings
