@@ -4,3 +4,5 @@ pub mod Files
 pub mod Maps
 pub mod Objects
 pub mod Agreed
+pub mod RealRoots
+pub mod Tree

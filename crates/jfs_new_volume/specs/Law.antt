@@ -13,6 +13,9 @@ use Rattle.jfs_format.specs.Inodes.{fileset_inode}
 use Rattle.jfs_format.specs.Superblock.{new_super}
 use Rattle.jfs_format.specs.Volume.{IsNewVolume}
 use Rattle.jfs_format.specs.declared.volume.NewVolume.{NewVolume}
+use Rattle.jfs_plain.specs.Moves.{Same}
+use Rattle.jfs_plain.specs.Plain.{new_tree}
+use Rattle.jfs_meaning.specs.Image.{tree_of, IsConsistentImage}
 use Rattle.jfs_new_volume.specs.Roots.{ReadsRoots}
 
 -- the volume on these pages, with the second inode table and map where the superblock says
@@ -31,3 +34,8 @@ new_object v n = record {
 abbrev pub NewVolumeLaw : Type 0
 NewVolumeLaw = (r : Readers) (pages : ℕ) (v : NewVolume) (image : Image) → IsLayout pages v.layout → ReadsRoots r v.layout.blocks → IsNewVolume v image
     → IsSound r (new_on r v image) × ((n : ℕ) → objects r (new_on r v image) n ≡ (if nat_lt n 4 then Some (new_object v n) else None))
+
+-- What its pages mean by its superblock is consistent, and is the tree of a new volume of that moment.
+abbrev pub NewTreeLaw : Type 0
+NewTreeLaw = (pages : ℕ) (v : NewVolume) (image : Image) → IsLayout pages v.layout → IsNewVolume v image
+    → IsConsistentImage (new_super v) (page_of image) × Same (new_tree v.moment) (tree_of (new_super v) (page_of image))
