@@ -1,12 +1,12 @@
 -- A draft that is told page by page.
-use Rattle.std.proofs.Common.{◌≡◌, ◌≢◌, ◌<◌, ◌⊎◌, inl, inr, refl, sym, ap, ◌∙◌, subst, ℕ, suc, ◌+◌, Bool, true, false, not, ◌==◌, if◌then◌else◌, List, [], ◌∷◌, ◌++◌, length, take, get_or, arith}
+use Rattle.std.proofs.Common.{◌≡◌, ◌<◌, inl, inr, refl, sym, ap, ◌∙◌, subst, ℕ, ◌+◌, Bool, true, false, not, ◌==◌, if◌then◌else◌, List, [], ◌∷◌, ◌++◌, length, take, get_or, arith}
 use Rattle.std.proofs.lemmas.Bool.{cases_eq, eq-eqb, ne_eqb}
 use Rattle.std.proofs.lemmas.Grind.{take_at_read}
 use Rattle.jfs_disk.specs.Image.{Image, page_of}
 use Rattle.jfs_ranges.specs.declared.edit.Edit.{Edit}
 use Rattle.jfs_ranges.specs.Apply.{apply_tx}
 use Rattle.jfs_tree.specs.Draft.{shown}
-use Rattle.jfs_tree.specs.Tell.{LeavesOthers, TellsDraft, TellsOne, occurs}
+use Rattle.jfs_tree.specs.Tell.{TellsDraft, TellsOne, occurs}
 use Rattle.jfs_tree.specs.declared.draft.Drafted.{Drafted}
 
 same_as_here : (a b : ℕ) → (a == b) ≡ (b == a)

@@ -28,3 +28,5 @@ mod Shrinking
 mod Shrank
 mod Losing
 mod Removed
+mod RootLosing
+mod RootLost

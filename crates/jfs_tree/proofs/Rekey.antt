@@ -1,8 +1,8 @@
 -- Where the first child of a page goes, the next takes the page's key: a lower key changes nothing else.
-use Rattle.std.proofs.Common.{◌≡◌, refl, sym, ap, ◌∙◌, subst, ℕ, zero, suc, ◌+◌, ◌==◌, Bool, true, false, if◌then◌else◌, List, [], ◌∷◌, ◌++◌, map, Option, Some}
+use Rattle.std.proofs.Common.{◌≡◌, refl, sym, ap, ◌∙◌, ℕ, zero, suc, ◌+◌, ◌==◌, Bool, true, false, if◌then◌else◌, List, [], ◌∷◌, ◌++◌, map, Option, Some}
 use Rattle.std.specs.List.{flat_map}
 use Rattle.jfs_bits.specs.declared.rule.Rule.TheVariants as rules
-use Rattle.jfs_tree.specs.Walk.{Child, Node, Leaf, Inner, Broken, Page, Key, Row, Fault, Marks, Scale, Rises, IsOrder, rows_of, times, placed, under, body, walk}
+use Rattle.jfs_tree.specs.Walk.{Child, Node, Leaf, Inner, Broken, Page, Key, Row, Marks, Scale, Rises, IsOrder, rows_of, times, placed, body, walk}
 use Rattle.jfs_tree.specs.Shrink.{IsLoose}
 use Rattle.jfs_tree.proofs.Frame.{times-append, rows-append}
 use Rattle.jfs_tree.proofs.Rising.{rises_lower, rises_join, rises_cut}

@@ -80,7 +80,7 @@ refuse_here {P} {E} node s o x pages root after old new free left rest (Bad bad 
     ]
 refuse_here node s o x pages root after old new free left rest Memory is did = tt
 
-leads_more : (P E : Type 0) (cs : List (Child P)) → inner_node P E cs ≡ leaf_node P E [] → ⊥
+pub leads_more : (P E : Type 0) (cs : List (Child P)) → inner_node P E cs ≡ leaf_node P E [] → ⊥
 leads_more P E cs h = cc
 
 pub refuse_down : {P E : Type 0} (s : Scale P E) → IsOrder s → (x : E) (pages : ℕ → Node P E) (root : Node P E) (place child blocks : ℕ) (free : List ℕ) (e : TreeError)
@@ -149,7 +149,7 @@ keeps_root {P} s o x pages mid root lower place child more free between leads re
     inner_none : (w c a t b : ℕ) → w ≡ c + (a + (t + b)) → w ≡ 0 → t ≡ 0
     inner_none w c a t b e h = omega (arith, e, h)
 
-cons_middle : {X : Type 0} (a : List X) (m : X) (b : List X) → IsCons (a ++ m ∷ b)
+pub cons_middle : {X : Type 0} (a : List X) (m : X) (b : List X) → IsCons (a ++ m ∷ b)
 cons_middle [] m b = tt
 cons_middle (x ∷ a) m b = tt
 
@@ -206,11 +206,11 @@ grown_refuses node s o x image root after old mid new place child levels blocks 
 
 -- ---- what is found
 
-off_once : (w a t b : ℕ) → w ≡ (if no_page == no_page then 1 else 0) + (a + (t + b)) → w ≤ 1 → t ≡ 0
+pub off_once : (w a t b : ℕ) → w ≡ (if no_page == no_page then 1 else 0) + (a + (t + b)) → w ≤ 1 → t ≡ 0
 off_once w a t b e h = omega (arith, e, h)
 
 -- the part of what rises below a child of the root, wherever the root stands
-part_off : {P E : Type 0} (s : Scale P E) → IsOrder s → (root : Node P E) (pages : ℕ → Node P E) (lower : ℕ) (front : List (Child P)) (t : Child P) (back : List (Child P))
+pub part_off : {P E : Type 0} (s : Scale P E) → IsOrder s → (root : Node P E) (pages : ℕ → Node P E) (lower : ℕ) (front : List (Child P)) (t : Child P) (back : List (Child P))
     → root ≡ Inner (front ++ t ∷ back) → Rises s s.least (walk s (with_root root pages) (suc (suc lower)) (top s)) None
     → walk s pages (suc lower) (own s.least front t) ≡ walk s (with_root root pages) (suc lower) (own s.least front t)
 part_off s o root pages lower front t back is r =

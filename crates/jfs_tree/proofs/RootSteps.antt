@@ -19,7 +19,7 @@ use Rattle.jfs_tree.proofs.Roots.{root_moves}
 use Rattle.jfs_tree.proofs.Tops.{off_one, off_root, root_else, page_or, count_below, top_adds, top_ready}
 use Rattle.jfs_tree.proofs.Adding.{zero_walk}
 
-same_root : {P E : Type 0} (root : Node P E) (a b : ℕ → Node P E) (n : ℕ) → n ≡ no_page → with_root root a n ≡ with_root root b n
+pub same_root : {P E : Type 0} (root : Node P E) (a b : ℕ → Node P E) (n : ℕ) → n ≡ no_page → with_root root a n ≡ with_root root b n
 same_root root a b n e = subst (λ m. with_root root a m ≡ with_root root b m) (sym e) refl
 
 none_left : (w a t b f : ℕ) → w ≡ (if no_page == no_page then 1 else 0) + (a + (t + b)) → w + f ≤ 1 → (t ≡ 0) × (f ≡ 0)

@@ -1,5 +1,5 @@
 -- The part below a page that lost an entry.
-use Rattle.std.proofs.Common.{◌≡◌, ◌≢◌, ◌≤◌, ◌<◌, refl, sym, ap, ◌∙◌, subst, ℕ, zero, suc, ◌+◌, ◌==◌, Bool, true, false, if◌then◌else◌, List, [], ◌∷◌, ◌++◌, Option, arith}
+use Rattle.std.proofs.Common.{◌≡◌, ◌≢◌, ◌≤◌, ◌<◌, refl, sym, ap, ◌∙◌, subst, ℕ, suc, ◌+◌, ◌==◌, Bool, true, false, if◌then◌else◌, List, [], ◌∷◌, ◌++◌, Option, arith}
 use Rattle.std.specs.List.{flat_map}
 use Rattle.jfs_tree.specs.Walk.{Child, Node, Leaf, Inner, Page, Key, Marks, Scale, Rises, IsOrder, times, placed, under, body, walk}
 use Rattle.jfs_tree.specs.Edit.{count_in, own, IsCons, EndsAt}
@@ -10,7 +10,7 @@ use Rattle.jfs_tree.proofs.Steps.{under_parts, times_inner}
 use Rattle.jfs_tree.proofs.Shrinking.{leaf_kept, leaf_gone, inner_lost, walk_children, first_rekeyed, page_gone}
 
 -- a page stands in its own part
-reads_own : {P E : Type 0} (s : Scale P E) (nodes : ℕ → Node P E) (below : ℕ) (c : Child P) → 0 < times c.page (walk s nodes (suc below) c)
+pub reads_own : {P E : Type 0} (s : Scale P E) (nodes : ℕ → Node P E) (below : ℕ) (c : Child P) → 0 < times c.page (walk s nodes (suc below) c)
 unfolding walk
 reads_own s nodes below c = reads_itself c.page (body (walk s nodes below) c (placed s below c.key (nodes c.page)))
 
@@ -40,7 +40,7 @@ shrank_leaf_gone s o before after page e free freed was pages others = record {
 
 -- ---- an inner page
 
-own_is : {P : Type 0} (key : P) (front : List (Child P)) (t : Child P) (child : ℕ) → t.page ≡ child → own key front t ≡ record { key = (own key front t).key; page = child }
+pub own_is : {P : Type 0} (key : P) (front : List (Child P)) (t : Child P) (child : ℕ) → t.page ≡ child → own key front t ≡ record { key = (own key front t).key; page = child }
 own_is key [] t child e = ap (λ (p : ℕ). record { key = key; page = p }) e
 own_is key (f ∷ fs) t child e = ap (λ (p : ℕ). record { key = t.key; page = p }) e
 
@@ -94,6 +94,14 @@ shrank_child_kept {P} {E} s o e before middle lower page child front t back free
     cons_middle [] t back = tt
     cons_middle (f ∷ fs) t back = tt
 
+-- where the first child goes, the next takes the page's key
+pub place_gone : {P E : Type 0} (s : Scale P E) → IsOrder s → IsLoose s → (nodes : ℕ → Node P E) (levels n : ℕ) (key : P) (old : Marks P E) (e : E) (low : P) (high : Option P) (free freed : List ℕ) (front back : List (Child P))
+    → Lost s e low old (Key n key ∷ Page n ∷ flat_map (walk s nodes levels) (under key front ++ ([] ++ back))) high free freed
+    → Lost s e low old (Key n key ∷ Page n ∷ flat_map (walk s nodes levels) (under key (front ++ back))) high free freed
+place_gone s o loose nodes levels n key old e low high free freed [] [] lost = lost
+place_gone s o loose nodes levels n key old e low high free freed [] (b ∷ bs) lost = first_rekeyed s o loose nodes levels n key b bs old e low high free freed lost
+place_gone s o loose nodes levels n key old e low high free freed (f ∷ fs) back lost = lost
+
 -- the child's place on the page goes with it
 pub shrank_child_gone : {P E : Type 0} (s : Scale P E) → IsOrder s → IsLoose s → (e : E) (before middle after : ℕ → Node P E) (lower page child : ℕ) (front : List (Child P)) (t : Child P) (back cs : List (Child P)) (free between : List ℕ)
     → before page ≡ Inner (front ++ t ∷ back) → t.page ≡ child → Shrank s e before middle (suc lower) child false free between
@@ -106,16 +114,9 @@ shrank_child_gone {P} {E} s o loose e before middle after lower page child front
       let lost = lost_with s o e before middle lower page child front t back false free between was to g after here key low high r once in
       let walked = walk_children s after lower c cs (front ++ back) is some (same key) in
       subst (λ ms. Lost s e low (walk s before (suc (suc lower)) c) ms high free between) (sym (append_nil (walk s after (suc (suc lower)) c) ∙ walked))
-      (left key low high (walk s before (suc (suc lower)) c) front back lost);
+      (place_gone s o loose after (suc lower) page key (walk s before (suc (suc lower)) c) e low high free between front back lost);
   keeps = λ key n none. here n (another s before (suc lower) (record { key = key; page = page }) n none) ∙ page_keeps s o e before middle lower page child front t back false free between was to g key n none;
 }
-  where
-    left : (key low : P) (high : Option P) (old : Marks P E) (front back : List (Child P))
-        → Lost s e low old (Key page key ∷ Page page ∷ flat_map (walk s after (suc lower)) (under key front ++ ([] ++ back))) high free between
-        → Lost s e low old (Key page key ∷ Page page ∷ flat_map (walk s after (suc lower)) (under key (front ++ back))) high free between
-    left key low high old [] [] lost = lost
-    left key low high old [] (b ∷ bs) lost = first_rekeyed s o loose after (suc lower) page key b bs old e low high free between lost
-    left key low high old (f ∷ fs) back lost = lost
 
 -- the page had no other child, and goes too
 pub shrank_page_gone : {P E : Type 0} (s : Scale P E) → IsOrder s → (e : E) (before middle after : ℕ → Node P E) (lower page child : ℕ) (t : Child P) (free between freed : List ℕ)

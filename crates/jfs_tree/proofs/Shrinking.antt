@@ -1,18 +1,17 @@
 -- A page that loses an entry, or a child that went with its last one.
-use Rattle.std.proofs.Common.{◌≡◌, ◌≢◌, ◌≤◌, ◌<◌, refl, sym, ap, ◌∙◌, subst, ℕ, zero, suc, ◌+◌, ◌==◌, Bool, true, false, if◌then◌else◌, List, [], ◌∷◌, ◌++◌, map, Option, Some, None, arith, append_assoc}
+use Rattle.std.proofs.Common.{◌≡◌, ◌≢◌, ◌≤◌, refl, sym, ap, ◌∙◌, subst, ℕ, suc, ◌+◌, ◌==◌, true, if◌then◌else◌, List, [], ◌∷◌, ◌++◌, map, Option, Some, arith, append_assoc}
 use Rattle.std.specs.List.{flat_map}
-use Rattle.std.proofs.lemmas.List.Concat.{flat_map-append}
 use Rattle.jfs_tree.specs.Walk.{Child, Node, Leaf, Inner, Page, Key, Row, Fault, Marks, Scale, UpTo, Rises, IsOrder, rows_of, times, under, walk}
-use Rattle.jfs_tree.specs.Edit.{count_in, own, Keeps, bound, Tail, StartsWithKey, FitsFirst, IsCons}
-use Rattle.jfs_tree.specs.Shrink.{TakenOut, IsLoose, Lost, kept_of, Shrank}
+use Rattle.jfs_tree.specs.Edit.{count_in, own, bound, Tail, FitsFirst, IsCons}
+use Rattle.jfs_tree.specs.Shrink.{TakenOut, IsLoose, Lost}
 use Rattle.jfs_tree.proofs.Rising.{upto_lower, rises_lower, rises_join, rises_cut}
 use Rattle.jfs_tree.proofs.Frame.{times-append, rows-append}
 use Rattle.jfs_tree.proofs.Between.{append_nil, cut_at_key}
 use Rattle.jfs_tree.proofs.Keys.{child_from}
-use Rattle.jfs_tree.proofs.Steps.{inner_is, inner_walk, under_parts, starts_or_none, once_here, times_inner}
+use Rattle.jfs_tree.proofs.Steps.{inner_is, inner_walk, starts_or_none, times_inner}
 use Rattle.jfs_tree.proofs.Leaves.{rows_leaf, times_leaf, leaf_fits, cons_rows}
 use Rattle.jfs_tree.proofs.Replace.{IsLocal, Changed, changed_between, replaced_walk}
-use Rattle.jfs_tree.proofs.Rekey.{Rekeyed, rekeyed}
+use Rattle.jfs_tree.proofs.Rekey.{rekeyed}
 
 taken_is_local : {E : Type 0} (e : E) → IsLocal (TakenOut e)
 taken_is_local e = record {

@@ -145,6 +145,23 @@ top_ready s o x pages root levels blocks free is rises apart spare below within 
       ap (times n) (sym is) ∙ sym (unfooted s pages root n ne) ∙ spare.apart n p);
 }
 
+-- the pages of a tree and the free ones, before and after
+pub footed : {P E : Type 0} (s : Scale P E) (old new : ℕ → Node P E) (root after : Node P E) (ms ns : Marks P E) (free left : List ℕ)
+    → tree_of s old root ≡ ms → tree_of s new after ≡ ns → count_in no_page left ≡ count_in no_page free → ((n : ℕ) → times n ns + count_in n left ≡ times n ms + count_in n free)
+    → (n : ℕ) → footprint s new after n + count_in n left ≡ footprint s old root n + count_in n free
+footed s old new root after ms ns free left was is apart pages n = elim (page_or n) [
+  | inl e ↦ subst (λ m. footprint s new after m + count_in m left ≡ footprint s old root m + count_in m free) (sym e)
+      (let a = no_foot s new after in let b = no_foot s old root in omega (arith, a, b, apart))
+  | inr ne ↦ let a = unfooted s new after n ne in let b = unfooted s old root n ne in let c = ap (times n) is in let d = ap (times n) was in let h = pages n in omega (arith, a, b, c, d, h)
+]
+
+-- a page that isn't in the footprint is the root's number, or isn't read
+pub off_foot : {P E : Type 0} (s : Scale P E) (pages : ℕ → Node P E) (root : Node P E) (ms : Marks P E) (n : ℕ) → tree_of s pages root ≡ ms → footprint s pages root n ≡ 0 → (n ≡ no_page) ⊎ (times n ms ≡ 0)
+off_foot s pages root ms n is h = elim (page_or n) [
+  | inl e ↦ inl e
+  | inr ne ↦ inr (ap (times n) (sym is) ∙ sym (unfooted s pages root n ne) ∙ h)
+]
+
 -- what a whole tree is afterwards
 pub top_adds : {P E : Type 0} (s : Scale P E) → IsOrder s → (x : E) (es : List E) (old new : ℕ → Node P E) (root after : Node P E) (ms : Marks P E) (more blocks : ℕ) (free left : List ℕ)
     → tree_of s old root ≡ ms → rows_of ms ≡ es
@@ -154,18 +171,11 @@ pub top_adds : {P E : Type 0} (s : Scale P E) → IsOrder s → (x : E) (es : Li
     → Adds s x es old new root after free left
 top_adds {P} {E} s o x es old new root after ms more blocks free left is rows most below_free below_left within took keeps =
     let now = tree_rises s o new after more most took.rises in
-    let or_page : (n : ℕ) → (n ≡ no_page) ⊎ (n ≢ no_page) = λ n. page_or n in
     record {
       list = rows_of (walk s (with_root after new) more (top s));
       spelled = spelled s o new after more most took.rises;
       added = subst (λ r. Added x r (rows_of (walk s (with_root after new) more (top s)))) rows took.rows;
-      pages = λ n. elim (or_page n) [
-        | inl e ↦ subst (λ m. footprint s new after m + count_in m left ≡ footprint s old root m + count_in m free) (sym e)
-            (let a = no_foot s new after in let b = no_foot s old root in let c = count_below blocks no_page left below_left within in let d = count_below blocks no_page free below_free within in omega (arith, a, b, c, d))
-        | inr ne ↦ let a = unfooted s new after n ne in let b = unfooted s old root n ne in let c = ap (times n) now in let d = ap (times n) is in let h = took.pages n in omega (arith, a, b, c, d, h)
-      ];
-      keeps = λ n h e. elim (or_page n) [
-        | inl i ↦ keeps n (inl i) e
-        | inr ne ↦ keeps n (inr (ap (times n) (sym is) ∙ sym (unfooted s old root n ne) ∙ h)) e
-      ];
+      pages = footed s old new root after ms (walk s (with_root after new) more (top s)) free left is now
+          (count_below blocks no_page left below_left within ∙ sym (count_below blocks no_page free below_free within)) took.pages;
+      keeps = λ n h e. keeps n (off_foot s old root ms n is h) e;
     }

@@ -9,3 +9,4 @@ pub mod Call
 pub mod Root
 pub mod Form
 pub mod Removal
+pub mod RootLoss

@@ -2,7 +2,7 @@
 use Rattle.std.specs.Prelude.{◌≡◌, ◌==◌, ℕ, suc, Bool, true, false, List, [], ◌∷◌, ◌++◌, length, Option, Some, None}
 use Rattle.jfs_disk.specs.Image.{Image}
 use Rattle.jfs_tree.specs.Walk.{Child, Node, Leaf, Inner, Scale, under}
-use Rattle.jfs_tree.specs.Edit.{found_in}
+use Rattle.jfs_tree.specs.Edit.{IsCons, found_in}
 use Rattle.jfs_tree.specs.Form.{LeadsDown}
 use Rattle.jfs_tree.specs.Draft.{shown}
 use Rattle.jfs_tree.specs.Call.{nodes, PutsOne}
@@ -15,15 +15,27 @@ abbrev pub TakesRow : {P E : Type 0} → Scale P E → E → Node P E → Node P
 TakesRow {E = E} s x old new None = (es : List E) → old ≡ Leaf es → found_in s x es ≡ None
 TakesRow {E = E} s x old new (Some e) = (es : List E) → old ≡ Leaf es → (found_in s x es ≡ Some e) × ((left : List E) × TakenOut e es left × (new ≡ Leaf left))
 
+-- a page without children
+abbrev pub IsLeaf : {P E : Type 0} → Node P E → Type 0
+IsLeaf {E = E} node = (es : List E) × (node ≡ Leaf es)
+
+-- an inner page with a child at this place
+abbrev pub HasChildAt : {P E : Type 0} → ℕ → Node P E → Type 0
+HasChildAt {P} place node = (front : List (Child P)) × (t : Child P) × (back : List (Child P)) × (node ≡ Inner (front ++ t ∷ back)) × (length front ≡ place)
+
+-- and with others
+abbrev pub HasOthers : {P E : Type 0} → ℕ → Node P E → Type 0
+HasOthers {P} place node = (front : List (Child P)) × (t : Child P) × (back : List (Child P)) × (node ≡ Inner (front ++ t ∷ back)) × (length front ≡ place) × IsCons (front ++ back)
+
 -- an inner page lost the child at a place; the first child's key isn't looked at
 abbrev pub TakesChild : {P E : Type 0} → ℕ → Node P E → Node P E → Type 0
 TakesChild {P} place old new = (front : List (Child P)) (t : Child P) (back : List (Child P)) → old ≡ Inner (front ++ t ∷ back) → length front ≡ place
     → (cs : List (Child P)) × (new ≡ Inner cs) × (length cs ≡ length (front ++ back)) × ((key : P) → under key cs ≡ under key (front ++ back))
 
--- whether a page has no entry and no child
-pub record TellsEmpty {P E : Type 0} (node : Node P E) (empty : Bool) : Type 0 where
-  pub leaf : (es : List E) → node ≡ Leaf es → empty ≡ (length es == 0)
-  pub inner : (cs : List (Child P)) → node ≡ Inner cs → empty ≡ (length cs == 0)
+-- whether a page has one entry, or one child, alone
+pub record TellsSingle {P E : Type 0} (node : Node P E) (single : Bool) : Type 0 where
+  pub leaf : (es : List E) → node ≡ Leaf es → single ≡ (length es == 1)
+  pub inner : (cs : List (Child P)) → node ≡ Inner cs → single ≡ (length cs == 1)
 
 -- A page is kept, with these bytes, or it is free.
 abbrev pub Settles : Bool → ℕ → List ℕ → List Drafted → List Drafted → List ℕ → List ℕ → Type 0

@@ -3,37 +3,16 @@
 ghost use Rattle.std.specs.Prelude.{◌≡◌, ◌+◌, ◌<◌, ◌≤◌, ◌^◌, [], Some, IfOk, IfErr, OnOk, IfSome, IfNone, length};
 ghost use Rattle.jfs_tree.specs.Edit.{IsPoint};
 ghost use Rattle.jfs_tree.specs.Call.{pages_of, nodes, Finds, BreaksWhereBad, CarriesFault};
-ghost use Rattle.jfs_tree.specs.Shrink.{IsLoose, Shrank};
-ghost use Rattle.jfs_tree.specs.Removal.{TakesRow, TakesChild, TellsEmpty, Settles, LostHere, LostBelow, entry_of, kept_in};
+ghost use Rattle.jfs_tree.specs.Shrink.{Shrank};
+ghost use Rattle.jfs_tree.specs.Removal.{IsLeaf, HasChildAt, Settles, LostHere, LostBelow, entry_of, kept_in};
 
 use crate::draft::Draft;
 use crate::form::{TreeError, Way};
-use crate::pages::PageForm;
+use crate::loss::PageLoss;
 use crate::take::put_one;
 use jfs_bits::Rule;
 use jfs_disk::Page;
 use jfs_ranges::PageView;
-
-/// The pages of a kind of tree from which entries are taken one by one.
-pub trait PageLoss: PageForm {
-    /// Takes the entry that shares a place with `x` out of a leaf.
-    fn remove(&self, bytes: &mut [u8], x: &Self::Entry) -> Option<Self::Entry>
-        requires { length bytes.old ≡ Self.size self.now }
-        ensures { TakesRow Self.scale x.now (Self.node self.now bytes.old) (Self.node self.now bytes.new) result };
-
-    /// Takes the child at the place out of an inner page.
-    fn remove_child(&self, bytes: &mut [u8], place: usize)
-        requires { length bytes.old ≡ Self.size self.now }
-        ensures { TakesChild place (Self.node self.now bytes.old) (Self.node self.now bytes.new) };
-
-    /// Whether a page has no entry and no child.
-    fn is_empty(&self, bytes: &[u8]) -> bool
-        requires { length bytes.now ≡ Self.size self.now }
-        ensures { TellsEmpty (Self.node self.now bytes.now) result };
-
-    /// Keys stay where entries go.
-    ghost loose: { IsLoose Self.scale };
-}
 
 /// What the part below a page lost: the entry, and the page itself where that was its last one. The part has so many levels.
 #[derive(Drop)]
@@ -102,7 +81,7 @@ pub fn remove_below<V: PageView, F: PageLoss>(
     }
 }
 
-/// Takes an entry out of page `page`, a leaf with these bytes.
+/// Takes an entry out of page `page`, a leaf with these bytes. A leaf goes with its last entry.
 fn remove_here<F: PageLoss>(
     form: &F,
     draft: &mut Draft,
@@ -112,23 +91,25 @@ fn remove_here<F: PageLoss>(
     x: &F::Entry,
 ) -> Result<Option<Shrunk<F::Entry>>, TreeError>
     requires size { F.PageForm.size form.now ≡ 4096 }
+    requires leaf { IsLeaf (F.PageForm.node form.now bytes.0) }
     ensures did { IfOk result (LostHere (F.PageForm.node form.now) F.PageForm.scale x.now bytes.0 page draft.old.pages.items draft.new.pages.items freed.old.items freed.new.items) }
     ensures levels { IfOk result (λ found. IfSome found (λ shrunk. shrunk.levels ≡ 1)) }
     ensures cause { IfErr result (λ e. e ≡ TreeError.Memory) }
 {
+    let alone = form.is_single(bytes.bytes());
     let Some(entry) = form.remove(&mut bytes.0, x) else {
         return Ok(None);
     };
-    let kept = !form.is_empty(bytes.bytes());
-    settle(draft, freed, page, bytes, kept)?;
+    settle(draft, freed, page, bytes, !alone)?;
     Ok(Some(Shrunk {
         entry,
-        kept,
+        kept: !alone,
         levels: 1,
     }))
 }
 
-/// Takes the child at a place, which may have gone with its last entry, out of page `page`, an inner page with these bytes.
+/// Takes the child at a place, which may have gone with its last entry, out of page `page`, an inner page with these bytes. A page goes with
+/// its last child.
 fn remove_place<F: PageLoss>(
     form: &F,
     draft: &mut Draft,
@@ -139,6 +120,7 @@ fn remove_place<F: PageLoss>(
     shrunk: Shrunk<F::Entry>,
 ) -> Result<Option<Shrunk<F::Entry>>, TreeError>
     requires size { F.PageForm.size form.now ≡ 4096 }
+    requires there { HasChildAt place (F.PageForm.node form.now bytes.0) }
     requires fits { shrunk.levels + 1 < 2 ^ 32 }
     ensures did { IfOk result (λ found. IfSome found (λ more. (x : F.Entry) → LostBelow (F.PageForm.node form.now) F.PageForm.scale x bytes.0 page place shrunk draft.old.pages.items draft.new.pages.items freed.old.items freed.new.items more)) }
     ensures same { IfOk result (λ found. found ≡ Some (record { entry = shrunk.entry; kept = kept_in found; levels = shrunk.levels + 1 })) }
@@ -157,12 +139,14 @@ fn remove_place<F: PageLoss>(
             levels,
         }));
     }
-    form.remove_child(&mut bytes.0, place);
-    let kept = !form.is_empty(bytes.bytes());
-    settle(draft, freed, page, bytes, kept)?;
+    let alone = form.is_single(bytes.bytes());
+    if !alone {
+        form.remove_child(&mut bytes.0, place);
+    }
+    settle(draft, freed, page, bytes, !alone)?;
     Ok(Some(Shrunk {
         entry,
-        kept,
+        kept: !alone,
         levels,
     }))
 }

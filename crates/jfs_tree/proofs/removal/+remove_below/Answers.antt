@@ -1,4 +1,4 @@
-use Rattle.std.proofs.Common.{◌≡◌, ◌-◌, [], sym, ap, ◌∙◌, subst, arith, Ok, Err, None, List}
+use Rattle.std.proofs.Common.{◌-◌, sym, ap, ◌∙◌, subst, arith, Ok, Err, None, List}
 use Rattle.jfs_tree.specs.Draft.{shown}
 use Rattle.jfs_tree.specs.Form.{Leads}
 use Rattle.jfs_tree.specs.Call.{pages_of, Finds}
@@ -49,3 +49,8 @@ returns-in-Err-remove_below-clause-bad g t c tells =
     down_breaks (g.F.PageForm.node c.args.form.now) g.F.PageForm.scale c.args.x.now image (g.V.PageView.image c.read.new.view) c.args.most (c.args.most - 1) c.args.page c.in-Ok-Down.place c.in-Ok-Down.child c.in-Ok-Down.field-0-2 c.in-Ok.bytes.0 (Err c.in-Err-remove_below.e)
     (let h = c.if-most-eq0.false in omega (arith, h)) (c.read.ensures.kept tells) (c.in-Ok.ensures.bytes tells ∙ ap (λ (d : List Drafted). shown d image c.args.page) c.requires.fresh) (rw (sym c.bytes.ensures.value) leads)
     (c.in-Err-remove_below.ensures.bad tells)
+
+pub remove_place-requires-clause-there : goal.remove_place-requires-clause-there
+remove_place-requires-clause-there g t c =
+    let leads = subst (λ w. Leads g.F.PageForm.scale c.args.x.now (g.F.PageForm.node c.args.form.now c.bytes.result.now) (Ok w)) c.in-Ok-Down.field-0-is c.in-Ok-Down.ensures.way in
+    (leads.front, leads.child, leads.back, ap (g.F.PageForm.node c.args.form.now) (sym c.bytes.ensures.value) ∙ leads.is, leads.at)

@@ -1,10 +1,10 @@
 use Rattle.std.proofs.Common.{subst}
-use Rattle.jfs_tree.specs.Removal.{TellsEmpty}
+use Rattle.jfs_tree.specs.Removal.{TellsSingle}
 use Rattle.jfs_tree.proofs.Losing.{here_lost}
 use Rattle.jfs_tree.proofs.removal.remove_here.Goals as goal
 
 pub returns-clause-did : goal.returns-clause-did
 returns-clause-did g c =
     here_lost (g.F.PageForm.node c.args.form.now) g.F.PageForm.scale g.met.F.PageForm.order g.met.F.PageLoss.loose c.args.x.now c.in-Some.entry c.args.bytes.0 c.remove.new.bytes c.args.page
-    c.args.draft.now.pages.items c.settle.new.draft.pages.items c.args.freed.now.items c.settle.new.freed.items c.is_empty-kept.result
-    c.in-Some.ensures (subst (λ b. TellsEmpty (g.F.PageForm.node c.args.form.now b) c.is_empty-kept.result) c.bytes.ensures.value c.is_empty-kept.ensures) c.in_ok-settle.ensures.settles
+    c.args.draft.now.pages.items c.settle.new.draft.pages.items c.args.freed.now.items c.settle.new.freed.items c.is_single-alone.result
+    c.in-Some.ensures.takes (subst (λ b. TellsSingle (g.F.PageForm.node c.args.form.now b) c.is_single-alone.result) c.bytes.ensures.value c.is_single-alone.ensures) c.in_ok-settle.ensures.settles

@@ -1,4 +1,4 @@
-use Rattle.std.proofs.Common.{◌≡◌, ◌<◌, ◌∙◌, ap, sym, subst, ◌+◌, [], take, length, get_or, arith}
+use Rattle.std.proofs.Common.{◌∙◌, ap, sym, subst, ◌+◌, [], take, get_or, arith}
 use Rattle.jfs_disk.specs.Image.{Image}
 use Rattle.jfs_tree.specs.declared.draft.Drafted.{Drafted}
 use Rattle.jfs_tree.specs.Tell.{TellsDraft, TellsOne}

@@ -1,0 +1,59 @@
+use Rattle.std.proofs.Common.{sym, subst, ℕ, List, None, Some, Ok}
+use Rattle.jfs_tree.specs.Form.{Leads}
+use Rattle.jfs_tree.specs.Call.{nodes, pages_of, Finds}
+use Rattle.jfs_tree.specs.Shrink.{Shrank}
+use Rattle.jfs_tree.specs.Removal.{entry_of}
+use Rattle.jfs_tree.specs.RootLoss.{RemovesAlways}
+use Rattle.jfs_tree.specs.declared.draft.Drafted.{Drafted}
+use Rattle.jfs_tree.proofs.RootCalls.{names_root, names_below, down_always}
+use Rattle.jfs_tree.proofs.Removed.{ShrankTo}
+use Rattle.jfs_tree.proofs.RootLost.{here_removes, down_removes}
+use Rattle.jfs_tree.proofs.remove_root.remove_entry.Goals as goal
+
+pub root_loses-requires-clause-there : goal.root_loses-requires-clause-there
+root_loses-requires-clause-there g c =
+    let leads = subst (λ w. Leads g.F.PageForm.scale c.args.x.now (g.F.PageForm.node c.args.top.now c.args.root.now) (Ok w)) c.in-Ok-Down.field-0-is c.in-Ok-Down.ensures.way in
+    (leads.front, leads.child, leads.back, leads.is, leads.at)
+
+pub returns-in-Err-clause-bad : goal.returns-in-Err-clause-bad
+returns-in-Err-clause-bad g c tells =
+    names_root g.F.PageForm.scale (pages_of (g.F.PageForm.node c.args.form.now) (g.V.PageView.image c.args.view.now)) (g.F.PageForm.node c.args.top.now c.args.root.now) c.in-Err.rule c.in-Err.ensures.way
+
+pub remove-requires-clause-leaf : goal.remove-requires-clause-leaf
+remove-requires-clause-leaf g c =
+    subst (λ w. Leads g.F.PageForm.scale c.args.x.now (g.F.PageForm.node c.args.top.now c.args.root.now) (Ok w)) c.in-Ok-Here.field-0-is c.in-Ok-Here.ensures.way
+
+pub returns-in-Ok-Here-clause-removes : goal.returns-in-Ok-Here-clause-removes
+returns-in-Ok-Here-clause-removes g c tells =
+    let node = g.F.PageForm.node c.args.form.now in
+    let image = g.V.PageView.image c.args.view.now in
+    let leads = subst (λ w. Leads g.F.PageForm.scale c.args.x.now (g.F.PageForm.node c.args.top.now c.args.root.now) (Ok w)) c.in-Ok-Here.field-0-is c.in-Ok-Here.ensures.way in
+    subst (λ (d : List Drafted). RemovesAlways g.F.PageForm.scale c.args.x.now (pages_of node image) (nodes node d image) (g.F.PageForm.node c.args.top.now c.args.root.now) (g.F.PageForm.node c.args.top.now c.remove.new.bytes) c.args.freed.now.items c.remove.result) (sym c.requires.fresh.0)
+    (subst (λ (f : List ℕ). RemovesAlways g.F.PageForm.scale c.args.x.now (pages_of node image) (pages_of node image) (g.F.PageForm.node c.args.top.now c.args.root.now) (g.F.PageForm.node c.args.top.now c.remove.new.bytes) f c.remove.result) (sym c.requires.fresh.1)
+    (here_removes g.F.PageForm.scale g.met.F.PageForm.order g.met.F.PageLoss.loose c.args.x.now (pages_of node image) (g.F.PageForm.node c.args.top.now c.args.root.now) (g.F.PageForm.node c.args.top.now c.remove.new.bytes) leads.0 c.remove.result leads.1 c.remove.ensures.takes))
+
+pub returns-in-Ok-Some-clause-removes : goal.returns-in-Ok-Some-clause-removes
+returns-in-Ok-Some-clause-removes g c tells =
+    let node = g.F.PageForm.node c.args.form.now in
+    let image = g.V.PageView.image c.args.view.now in
+    let leads = subst (λ w. Leads g.F.PageForm.scale c.args.x.now (g.F.PageForm.node c.args.top.now c.args.root.now) (Ok w)) c.in-Ok-Down.field-0-is c.in-Ok-Down.ensures.way in
+    let shrunk = c.in-Ok-Some.shrunk in
+    let found = subst (λ o. Finds g.F.PageForm.scale c.args.x.now (pages_of node image) c.in-Ok-Down.page (entry_of o)) c.in-Ok-Some.field-0-is (c.in-Ok-Some.ensures.found tells) in
+    let shrank = subst (λ o. ShrankTo node g.F.PageForm.scale image c.remove_below.new.draft.pages.items c.in-Ok-Down.page c.args.freed.now.items c.remove_below.new.freed.items o) c.in-Ok-Some.field-0-is (c.in-Ok-Some.ensures.shrank tells) in
+    subst (λ e. RemovesAlways g.F.PageForm.scale c.args.x.now (pages_of node image) (nodes node c.remove_below.new.draft.pages.items image) (g.F.PageForm.node c.args.top.now c.args.root.now) (g.F.PageForm.node c.args.top.now c.root_loses.new.root) c.remove_below.new.freed.items (Some e)) (sym c.root_loses.ensures.entry)
+    (down_removes g.F.PageForm.scale g.met.F.PageForm.order g.met.F.PageLoss.loose c.args.x.now c.requires.point (pages_of node image) (nodes node c.remove_below.new.draft.pages.items image) (g.F.PageForm.node c.args.top.now c.args.root.now) (g.F.PageForm.node c.args.top.now c.root_loses.new.root)
+    c.in-Ok-Down.place c.in-Ok-Down.page shrunk.levels shrunk.entry shrunk.kept c.remove_below.new.freed.items leads found
+    (subst (λ (f : List ℕ). Shrank g.F.PageForm.scale shrunk.entry (pages_of node image) (nodes node c.remove_below.new.draft.pages.items image) shrunk.levels c.in-Ok-Down.page shrunk.kept f c.remove_below.new.freed.items) c.requires.fresh.1 shrank) c.root_loses.ensures.did)
+
+pub returns-in-Ok-None-clause-removes : goal.returns-in-Ok-None-clause-removes
+returns-in-Ok-None-clause-removes g c tells es spelled =
+    let leads = subst (λ w. Leads g.F.PageForm.scale c.args.x.now (g.F.PageForm.node c.args.top.now c.args.root.now) (Ok w)) c.in-Ok-Down.field-0-is c.in-Ok-Down.ensures.way in (
+      down_always g.F.PageForm.scale g.met.F.PageForm.order c.args.x.now c.requires.point (pages_of (g.F.PageForm.node c.args.form.now) (g.V.PageView.image c.args.view.now)) (g.F.PageForm.node c.args.top.now c.args.root.now) c.in-Ok-Down.place c.in-Ok-Down.page None
+          leads (subst (λ o. Finds g.F.PageForm.scale c.args.x.now (pages_of (g.F.PageForm.node c.args.form.now) (g.V.PageView.image c.args.view.now)) c.in-Ok-Down.page (entry_of o)) c.in-Ok-None.field-0-is (c.in-Ok-None.ensures.found tells)) es spelled,
+      tt,
+    )
+
+pub returns-in-Err-remove_below-clause-bad : goal.returns-in-Err-remove_below-clause-bad
+returns-in-Err-remove_below-clause-bad g c tells =
+    let leads = subst (λ w. Leads g.F.PageForm.scale c.args.x.now (g.F.PageForm.node c.args.top.now c.args.root.now) (Ok w)) c.in-Ok-Down.field-0-is c.in-Ok-Down.ensures.way in
+    names_below g.F.PageForm.scale g.met.F.PageForm.order c.args.x.now (pages_of (g.F.PageForm.node c.args.form.now) (g.V.PageView.image c.args.view.now)) (g.F.PageForm.node c.args.top.now c.args.root.now) c.in-Ok-Down.place c.in-Ok-Down.page c.in-Err-remove_below.e leads (c.in-Err-remove_below.ensures.bad tells)

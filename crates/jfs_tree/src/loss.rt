@@ -1,0 +1,38 @@
+//! Pages that lose entries and children.
+
+ghost use Rattle.std.specs.Prelude.{◌≡◌, [], IfNone, length};
+ghost use Rattle.jfs_tree.specs.Walk.{Leaf};
+ghost use Rattle.jfs_tree.specs.Shrink.{IsLoose};
+ghost use Rattle.jfs_tree.specs.Removal.{IsLeaf, HasOthers, TakesRow, TakesChild, TellsSingle};
+
+use crate::pages::PageForm;
+
+/// The pages of a kind of tree from which entries are taken one by one.
+pub trait PageLoss: PageForm {
+    /// Takes the entry that shares a place with `x` out of a leaf; where there is none, the leaf stays as it is.
+    fn remove(&self, bytes: &mut [u8], x: &Self::Entry) -> Option<Self::Entry>
+        requires size { length bytes.old ≡ Self.size self.now }
+        requires leaf { IsLeaf (Self.node self.now bytes.old) }
+        ensures takes { TakesRow Self.scale x.now (Self.node self.now bytes.old) (Self.node self.now bytes.new) result }
+        ensures kept { IfNone result (bytes.new ≡ bytes.old) };
+
+    /// Takes the child at the place out of an inner page that has others.
+    fn remove_child(&self, bytes: &mut [u8], place: usize)
+        requires size { length bytes.old ≡ Self.size self.now }
+        requires others { HasOthers place (Self.node self.now bytes.old) }
+        ensures { TakesChild place (Self.node self.now bytes.old) (Self.node self.now bytes.new) };
+
+    /// Whether a page has one entry alone, or one child alone.
+    fn is_single(&self, bytes: &[u8]) -> bool
+        requires { length bytes.now ≡ Self.size self.now }
+        ensures { TellsSingle (Self.node self.now bytes.now) result };
+
+    /// Makes a root a leaf without entries.
+    fn empty(&self, root: &mut [u8])
+        requires size { length root.old ≡ Self.size self.now }
+        requires top { Self.is_root self.now }
+        ensures { Self.node self.now root.new ≡ Leaf [] };
+
+    /// Keys stay where entries go.
+    ghost loose: { IsLoose Self.scale };
+}
