@@ -1,3 +1,5 @@
 pub mod Kept
 pub mod Decided
 pub mod Nodes
+pub mod Places
+pub mod Leading

@@ -3,3 +3,4 @@ pub mod Parent
 pub mod Rules
 pub mod Node
 pub mod Laws
+pub mod Place

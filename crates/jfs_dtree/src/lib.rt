@@ -1,9 +1,12 @@
 //! Directories: names by trees of pages whose root stands in the directory's inode. (JFS White Paper, directory organization.)
 #![tactic(auto)]
 
+mod check;
 mod entry;
 mod error;
 mod form;
+mod lead;
+mod leaf;
 mod root;
 
 pub use entry::{DirEntry, NameKey};
