@@ -2,11 +2,19 @@
 use Rattle.std.proofs.Common.{◌≡◌, ℕ, List, [], Result, Err, inl, inr, refl, sym, ap, subst, ◌∙◌}
 use Rattle.jfs_bits.specs.declared.descriptor.Moment.{Moment}
 use Rattle.jfs_disk.specs.declared.disk.Disk.{Ghosts}
+use Rattle.jfs_disk.specs.Image.{Image, page_of}
+use Rattle.jfs_super.specs.declared.fields.Super.{Super}
+use Rattle.jfs_plain.specs.Moves.{Same}
+use Rattle.jfs_plain.specs.Plain.{new_tree}
+use Rattle.jfs_meaning.specs.Image.{tree_of, IsConsistentImage}
+use Rattle.jfs_new_volume.proofs.Tree.{new_volume_tree}
 use Rattle.jfs_format.specs.declared.formatter.FormatError.{FormatError}
 use Rattle.jfs_format.specs.declared.formatter.FormatError.TheVariants as errors
 use Rattle.jfs_format.specs.Answer.{IsFormatAnswer}
 use Rattle.jfs_format.specs.Layout.{IsFormattable, layout_of}
-use Rattle.jfs_format.specs.Volume.{wanted}
+use Rattle.jfs_format.specs.Superblock.{new_super}
+use Rattle.jfs_format.specs.Volume.{wanted, IsNewVolume}
+use Rattle.jfs_format.proofs.Layouts.{layout-bounds}
 use Rattle.jfs_command.specs.declared.status.Status.TheVariants.{Done, BadSize}
 use Rattle.jfs_command.specs.declared.status.Stop.TheVariants as stops
 use Rattle.jfs_command.specs.declared.outcome.End.TheVariants.{Own, Stopped}
@@ -41,6 +49,16 @@ comes d old new outcome uuid label now answer says does is_text own stays is_end
       stays,
       refl,
     )
+
+-- what the pages of a new volume mean
+pub record Means (now : Moment) (s : Super) (image : Image) : Type 0 where
+  pub tree : Same (new_tree now) (tree_of s (page_of image))
+  pub consistent : IsConsistentImage s (page_of image)
+
+pub means : (pages : ℕ) (uuid label : List ℕ) (now : Moment) (s : Super) (image : Image) → IsFormattable pages → IsNewVolume (wanted pages uuid label now) image → s ≡ new_super (wanted pages uuid label now) → Means now s image
+means pages uuid label now s image fits volume is =
+    let done = new_volume_tree pages (wanted pages uuid label now) image (layout-bounds pages fits) volume in
+    subst (λ (s : Super). Means now s image) (sym is) (record { tree = done.1; consistent = done.0 })
 
 -- a new volume
 pub formatted : {D : Type 0} (d : Ghosts D) (old new : D) (outcome : Outcome) (uuid label : List ℕ) (now : Moment) → IsFormattable (d.page_count old)

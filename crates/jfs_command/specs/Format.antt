@@ -12,6 +12,9 @@ use Rattle.jfs_format.specs.declared.formatter.FormatError.TheVariants as errors
 use Rattle.jfs_format.specs.Layout.{IsFormattable, layout_of, free_blocks}
 use Rattle.jfs_format.specs.Superblock.{new_super}
 use Rattle.jfs_format.specs.Volume.{wanted, IsNewVolume, IsOnTheWay, IsUnnamed}
+use Rattle.jfs_plain.specs.Moves.{Same}
+use Rattle.jfs_plain.specs.Plain.{new_tree}
+use Rattle.jfs_meaning.specs.Image.{tree_of, IsConsistentImage}
 use Rattle.jfs_command.specs.declared.status.Status.{Status}
 use Rattle.jfs_command.specs.declared.status.Status.TheVariants.{Done, BadSize}
 use Rattle.jfs_command.specs.declared.status.Stop.TheVariants as stops
@@ -47,6 +50,9 @@ pub record HasFormatted (tells crashes : Type 0) (v : NewVolume) (held : Held) (
   pub volume : tells → IsNewVolume v work.held.image
   -- page 8 reads as its superblock, with its UUID and label
   pub reads : tells → superblock_of work.held ≡ new_super v
+  -- by it the pages mean the tree of `PlainTree::new`, and are consistent: their maps agree, and no rule is broken
+  pub tree : tells → Same (new_tree v.moment) (tree_of (superblock_of work.held) (page_of work.held.image))
+  pub consistent : tells → IsConsistentImage (superblock_of work.held) (page_of work.held.image)
   pub stable : crashes → IsResting (last_of work.held.past)
 
 abbrev pub Formats : Status → (tells crashes : Type 0) → NewVolume → Held → Work → Type 0

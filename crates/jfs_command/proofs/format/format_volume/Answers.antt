@@ -3,7 +3,9 @@ use Rattle.std.proofs.Common.{ℕ, ap, ◌∙◌}
 use Rattle.jfs_format.specs.declared.layout.Layout.{Layout}
 use Rattle.jfs_format.specs.Layout.{layout_of}
 use Rattle.jfs_command.specs.Format.{format_text}
-use Rattle.jfs_command.proofs.Formatting.{formatted, begun_no_memory, refused_or_failed}
+use Rattle.jfs_command.specs.Held.{held_of}
+use Rattle.jfs_command.specs.Superblock.{superblock_of}
+use Rattle.jfs_command.proofs.Formatting.{means, formatted, begun_no_memory, refused_or_failed}
 use Rattle.jfs_command.proofs.format.format_volume.Goals as goal
 
 pub returns-in-Ok-format_line-clause-meaning : goal.returns-in-Ok-format_line-clause-meaning
@@ -11,11 +13,14 @@ returns-in-Ok-format_line-clause-meaning g c =
     let d = g.D.Disk in
     let made = c.new.ensures in
     let done = c.in-Ok.ensures in
+    let meant = λ (t : d.tells). means (d.page_count c.args.disk.now) c.args.uuid c.args.label.now c.args.now (superblock_of (held_of d c.format.new.disk)) (d.image c.format.new.disk) done.answer.0 (done.volume t) (done.reads t) in
     formatted d c.args.disk.now c.format.new.disk c.new.result c.args.uuid c.args.label.now c.args.now done.answer.0
     (record {
       begun = record { history = made.history; told = made.told; unnamed = c.format.ensures.unnamed; moments = c.format.ensures.moments };
       volume = done.volume;
       reads = done.reads;
+      tree = λ t. (meant t).tree;
+      consistent = λ t. (meant t).consistent;
       stable = done.stable;
     })
     (made.text ∙ ap (λ (v : Vec ℕ). v.items) c.into_bytes.ensures.value ∙ c.in-Ok-format_line.ensures
