@@ -30,3 +30,5 @@ mod Losing
 mod Removed
 mod RootLosing
 mod RootLost
+pub mod Runs
+pub mod Adds

@@ -1,19 +1,12 @@
 -- The pages of a tree lie below a bound where all children do.
 use Rattle.std.proofs.Common.{◌≡◌, ◌<◌, ◌⊎◌, inl, inr, refl, sym, subst, ℕ, zero, suc, ◌+◌, Bool, true, false, ◌==◌, if◌then◌else◌, List, [], ◌∷◌, map, Option, Some, None, arith}
 use Rattle.std.specs.List.{flat_map}
-use Rattle.std.specs.Prelude.{⊤}
 use Rattle.std.proofs.lemmas.Bool.{cases_eq, cases_lt, eq-eqb, ne_eqb}
 use Rattle.jfs_bits.specs.declared.rule.Rule.{Rule}
 use Rattle.jfs_tree.specs.Walk.{Child, Node, Leaf, Inner, Broken, Page, Row, Marks, Scale, placed, under, body, walk, times}
 use Rattle.jfs_tree.specs.Spells.{no_page, with_root, levels_of, along_first, first_path, top, at_levels, tree_of, footprint}
+pub use Rattle.jfs_tree.specs.Fresh.{AllPages, HasPages}
 use Rattle.jfs_tree.proofs.Frame.{times-append}
-
-abbrev pub AllPages : {P : Type 0} → ℕ → List (Child P) → Type 0
-AllPages bound [] = ⊤
-AllPages bound (c ∷ cs) = (c.page < bound) × AllPages bound cs
-
-abbrev pub HasPages : {P E : Type 0} → ℕ → Node P E → Type 0
-HasPages {P} bound node = (cs : List (Child P)) → node ≡ Inner cs → AllPages bound cs
 
 rows_none : (P : Type 0) {E : Type 0} (n p : ℕ) (es : List E) → times {P = P} n (map (Row p) es) ≡ 0
 rows_none P n p [] = refl

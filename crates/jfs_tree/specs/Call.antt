@@ -101,3 +101,9 @@ GrownDid node s bytes page place more old new between left (Err Memory) = Unit {
 
 abbrev pub GrownBelow : {P : Type 0} → List ℕ → List ℕ → Result (Grown P) TreeError → Type 0
 GrownBelow free left result = (bound : ℕ) → AllBelow bound free → AllBelow bound left × IfOk result (λ grown. IfSome grown.sibling (λ s. s.page < bound))
+
+-- a page could not be read, or memory ran out
+abbrev pub IsRead : TreeError → Type 0
+IsRead (View e) = Unit {0}
+IsRead (Bad page rule) = ⊥
+IsRead Memory = Unit {0}

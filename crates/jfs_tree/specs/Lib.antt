@@ -10,3 +10,5 @@ pub mod Root
 pub mod Form
 pub mod Removal
 pub mod RootLoss
+pub mod Fresh
+pub mod Adds

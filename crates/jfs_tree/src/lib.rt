@@ -1,10 +1,12 @@
 //! Trees of pages: what a root spells, and the calls that all kinds of trees share.
 #![tactic(auto)]
 
+mod add_told;
 mod copy;
 mod draft;
 mod find;
 mod form;
+mod fresh;
 mod grow;
 mod loss;
 mod pages;
@@ -16,9 +18,11 @@ mod take_root;
 mod tell;
 mod tell_all;
 
+pub use add_told::add_and_tell;
 pub use copy::copy_tx;
 pub use draft::{Draft, Drafted};
 pub use form::{NO_PAGE, Put, Sibling, TreeError, Way};
+pub use fresh::page_at;
 pub use loss::PageLoss;
 pub use pages::PageForm;
 pub use removal::{Shrunk, remove_below};

@@ -1,0 +1,34 @@
+use Rattle.std.proofs.Common.{◌-◌, ◌∙◌, ap, sym, subst, length}
+use Rattle.std.specs.Prelude.{reverse}
+use Rattle.jfs_tree.specs.Form.{AllBelow}
+use Rattle.jfs_tree.specs.Fresh.{blocks_of}
+use Rattle.jfs_tree.proofs.Runs.{below_reverse, left_named, taken_named}
+use Rattle.jfs_tree.proofs.Adds.{refuses_as, adds_told, told_as, ok_maps}
+use Rattle.jfs_tree.proofs.add_told.plan.Goals as goal
+
+pub add_entry-requires-clause-within : goal.add_entry-requires-clause-within
+add_entry-requires-clause-within g c =
+    subst (AllBelow (g.V.PageView.block_count c.args.view.now)) (sym (c.reversed-stack.ensures ∙ ap reverse c.in-Ok-blocks_of.ensures)) (below_reverse (g.V.PageView.block_count c.args.view.now) (blocks_of c.args.fresh.now) c.requires.within)
+
+pub returns-in-Err-clause-refused : goal.returns-in-Err-clause-refused
+returns-in-Err-clause-refused g c tells =
+    refuses_as g.F.PageForm.scale c.args.x.now (g.F.PageForm.node c.args.form.now) (g.V.PageView.image c.args.view.now) (g.F.PageForm.node c.args.top.now c.args.root.now) c.reversed-stack.result.items (blocks_of c.args.fresh.now) c.new-draft.result.pages.items c.in-Err.e
+    (c.reversed-stack.ensures ∙ ap reverse c.in-Ok-blocks_of.ensures) c.new-draft.ensures (c.in-Err.ensures.refused tells)
+
+pub returns-clause-adds : goal.returns-clause-adds
+returns-clause-adds g c tells =
+    let blocks = g.V.PageView.block_count c.args.view.now in
+    let image = g.V.PageView.image c.args.view.now in
+    ok_maps c.finish.result (c.finish.ensures.told tells) c.finish.ensures.rest (λ p told rest.
+    adds_told g.F.PageForm.scale c.args.x.now (g.F.PageForm.node c.args.form.now) blocks image (g.F.PageForm.node c.args.top.now c.args.root.now) (g.F.PageForm.node c.args.top.now c.add_entry.new.root)
+    c.new-draft.result.pages.items c.add_entry.new.draft.pages.items (blocks_of c.args.fresh.now) (blocks_of p.fresh) c.reversed-stack.result.items c.add_entry.new.fresh.items c.args.tx.now p.tx
+    (c.requires.children c.add_entry.new.root).0 (λ bytes. (c.requires.children bytes).1) c.new-draft.ensures (c.in_default-add_entry.ensures.adds tells)
+    (told_as (g.V.PageView.block_count c.add_entry.new.view) blocks (g.V.PageView.image c.add_entry.new.view) image c.add_entry.new.draft.pages.items c.args.tx.now p.tx c.add_entry.ensures.count_of_blocks (c.add_entry.ensures.image tells) told)
+    (c.reversed-stack.ensures ∙ ap reverse c.in-Ok-blocks_of.ensures)
+    (left_named (blocks_of c.args.fresh.now) c.as_slice.result.now c.reversed-stack.result.items c.add_entry.new.fresh.items (blocks_of p.fresh) c.len.result
+    (c.as_slice.ensures.value ∙ c.in-Ok.ensures) (c.len.ensures ∙ c.add_entry.new.fresh.ok.0) (c.reversed-stack.ensures ∙ ap reverse c.in-Ok-blocks_of.ensures) c.add_entry.ensures.front rest))
+
+pub returns-clause-taken : goal.returns-clause-taken
+returns-clause-taken g c =
+    ok_maps c.finish.result c.finish.ensures.rest c.finish.ensures.allocs (λ p rest ends.
+    taken_named (blocks_of c.args.fresh.now) c.as_slice.result.now (blocks_of p.fresh) (length c.as_slice.result.now - c.len.result) p.tx (c.as_slice.ensures.value ∙ c.in-Ok.ensures) rest ends)

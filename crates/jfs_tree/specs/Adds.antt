@@ -1,0 +1,26 @@
+-- What is added to a root's list, seen from the transaction.
+use Rattle.std.specs.Prelude.{◌≡◌, ◌<◌, ℕ, ◌+◌, List, Ok}
+use Rattle.jfs_ranges.specs.declared.edit.Edit.{Edit}
+use Rattle.jfs_tree.specs.Walk.{Node, Scale}
+use Rattle.jfs_tree.specs.Spells.{spells, footprint}
+use Rattle.jfs_tree.specs.Edit.{Added, IsApart, count_in}
+use Rattle.jfs_tree.specs.Root.{IsSpare}
+use Rattle.jfs_tree.specs.Fresh.{LeadsTo, after_tx}
+
+-- what pages read as
+abbrev pub read_as : {P E : Type 0} → (List ℕ → Node P E) → (ℕ → List ℕ) → ℕ → Node P E
+read_as node pages n = node (pages n)
+
+-- A root that spelled these entries spells one more. The pages that it has more are the free ones that aren't left, and no other page of the file system reads otherwise.
+pub record HasOneMore {P E : Type 0} (s : Scale P E) (blocks : ℕ) (x : E) (es : List E) (old new : ℕ → Node P E) (root after : Node P E) (free left : List ℕ) : Type 0 where
+  pub list : List E
+  pub spelled : spells s new after ≡ Ok list
+  pub added : Added x es list
+  pub owned : (n : ℕ) → footprint s new after n + count_in n left ≡ footprint s old root n + count_in n free
+  pub keeps : (n : ℕ) → n < blocks → footprint s old root n ≡ 0 → count_in n free ≡ count_in n left → new n ≡ old n
+
+-- Whatever list the root spelled, if the entry is apart from it and the free blocks aren't pages of the tree: where the edits before lead to the pages that the view shows,
+-- all edits lead to pages in which the root spells one entry more.
+abbrev pub AddsTold : {P E : Type 0} → Scale P E → (List ℕ → Node P E) → ℕ → (ℕ → List ℕ) → E → Node P E → Node P E → List ℕ → List ℕ → List Edit → List Edit → Type 0
+AddsTold {E = E} s node blocks pages x root after free left tx later = (base : ℕ → List ℕ) → LeadsTo blocks base tx pages → (es : List E) → spells s (read_as node pages) root ≡ Ok es → IsApart s x es → IsSpare s (read_as node pages) root free
+    → HasOneMore s blocks x es (read_as node pages) (read_as node (after_tx base later)) root after free left
