@@ -8,3 +8,5 @@ pub mod Trees
 pub mod Blocks
 pub mod Maps
 pub mod Findings
+pub mod Clean
+pub mod Laws

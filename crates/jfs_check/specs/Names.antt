@@ -9,7 +9,7 @@ use Rattle.jfs_objects.specs.Objects.{Object, has_names, listed}
 use Rattle.jfs_objects.specs.Owners.{entries}
 use Rattle.jfs_meaning.specs.Node.{node_with, target_in}
 use Rattle.jfs_meaning.specs.Tree.{byte_on}
-use Rattle.jfs_meaning.specs.Consistent.{is_reserved, names_to, links_due, HasItsName}
+use Rattle.jfs_meaning.specs.Consistent.{is_reserved, leading_to, names_in, names_to, links_due}
 use Rattle.jfs_check.specs.Subject.{Subject, volume, object, IsObject, page_named}
 
 -- The file tree as far as it can be read: a directory whose tree breaks a rule has no names.
@@ -58,10 +58,15 @@ MiscountsLinks s page n = (o : Object) × IsObject s n page o × (is_reserved n 
 
 -- ---- parents
 
--- The root is its own parent and has no name; any other directory has one name, and its parent has it.
+-- the one name of a directory, which its parent has
+pub record HasOneName (s : Subject) (n : ℕ) (node : Node) : Type 0 where
+  pub one : names_to (most s) (readable s) n ≡ 1
+  pub by_parent : leading_to n (names_in ((readable s).nodes node.parent)) ≡ 1
+
+-- The root is its own parent and has no name; any other directory has one name, in its parent.
 pub record IsPlaced (s : Subject) (n : ℕ) (node : Node) : Type 0 where
   pub top : n ≡ root → (node.parent ≡ root) × (names_to (most s) (readable s) root ≡ 0)
-  pub below : n ≢ root → HasItsName (most s) (readable s) n node
+  pub below : n ≢ root → HasOneName s n node
 
 -- A directory's names and its parent don't agree.
 abbrev pub LosesParent : Subject → ℕ → ℕ → Type 0

@@ -20,8 +20,15 @@ pub data BreaksExtents (s : Subject) (page : ℕ) : Type 0 where
   of_file : (k tree_page : ℕ) (rule : Rule) → Contains files k → listed s.readers.extents_order (file_walk s.readers s.page k) ≡ Err (tree_page, rule) → page ≡ page_named (11 + k / 8) tree_page → BreaksExtents s page
 
 -- A directory tree breaks a rule first on this page.
-pub data BreaksNames (s : Subject) (page : ℕ) : Type 0 where
-  of_object : (n inode_page tree_page : ℕ) (o : Object) (rule : Rule) → IsObject s n inode_page o → listed s.readers.names_order o.names ≡ Err (tree_page, rule) → page ≡ page_named inode_page tree_page → BreaksNames s page
+pub record BreaksNames (s : Subject) (page : ℕ) : Type 0 where
+  pub n : ℕ
+  pub inode_page : ℕ
+  pub tree_page : ℕ
+  pub o : Object
+  pub rule : Rule
+  pub is : IsObject s n inode_page o
+  pub breaks : listed s.readers.names_order o.names ≡ Err (tree_page, rule)
+  pub on : page ≡ page_named inode_page tree_page
 
 -- ---- pages with few entries
 

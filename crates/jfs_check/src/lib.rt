@@ -2,5 +2,7 @@
 #![tactic(auto)]
 
 mod finding;
+mod law;
 
 pub use finding::{Finding, FindingKind};
+pub use law::{clean_volumes_are_sound, findings_are_one_list};

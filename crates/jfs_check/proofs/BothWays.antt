@@ -1,0 +1,11 @@
+-- Nothing is found exactly on a sound volume.
+use Rattle.jfs_check.specs.Laws.{CleanLaw, subject_of}
+use Rattle.jfs_check.proofs.Clean.{clean}
+use Rattle.jfs_check.proofs.Sound.{sound, mounted_is}
+use Rattle.jfs_check.proofs.Fixed.{fixed_ends}
+
+pub clean_law : CleanLaw
+clean_law = record {
+  sound = λ super pages page accepted none. sound (subject_of super page) none (fixed_ends super pages page accepted (mounted_is (subject_of super page) none));
+  clean = λ super page is. clean (subject_of super page) is;
+}

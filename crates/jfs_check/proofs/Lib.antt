@@ -1,0 +1,10 @@
+pub mod OneList
+pub mod Stable
+pub mod Canonical
+pub mod Mounted
+pub mod Range
+pub mod Fixed
+pub mod Clean
+pub mod InUse
+pub mod Sound
+pub mod BothWays

@@ -1,0 +1,13 @@
+//! What findings tell of a volume.
+
+ghost use Rattle.jfs_check.specs.Laws.{CleanLaw, OneListLaw};
+
+/// A volume without findings is a sound one, and a sound one has none.
+pub fn clean_volumes_are_sound()
+    ensures { CleanLaw }
+{}
+
+/// A volume has one list of findings at most.
+pub fn findings_are_one_list()
+    ensures { OneListLaw }
+{}
