@@ -32,3 +32,4 @@ mod RootLosing
 mod RootLost
 pub mod Runs
 pub mod Adds
+pub mod Rooms

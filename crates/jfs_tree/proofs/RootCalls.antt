@@ -66,47 +66,61 @@ refuse_broken {P} {E} s x pages root rule free bad named is es spelled apart spa
     not_leaf : broken_node P E rule ≡ leaf_node P E [] → ⊥
     not_leaf h = cc
 
-pub refuse_here : {P E : Type 0} (node : List ℕ → Node P E) (s : Scale P E) → IsOrder s → (x : E) (pages : ℕ → Node P E) (root after : Node P E) (old new : List Drafted) (free left : List ℕ) (rest : List E) (e : TreeError)
-    → root ≡ Leaf rest → RootHereDid node s x root after old new free left (Err e) → RefusesWhereBad s x pages root free e
-refuse_here node s o x pages root after old new free left rest (View v) is did = tt
-refuse_here {P} {E} node s o x pages root after old new free left rest (Bad bad rule) is did = λ es spelled apart spare.
+-- a root that is a leaf spells its entries
+pub leaf_spells : {P E : Type 0} (s : Scale P E) (pages : ℕ → Node P E) (root : Node P E) (rest es : List E) → root ≡ Leaf rest → spells s pages root ≡ Ok es → rest ≡ es
+leaf_spells {P} {E} s pages root rest es is spelled =
     elim (stands s pages root es spelled) [
-      | inl e ↦ absurd (did [] e.0 tt)
+      | inl e ↦ leaf_is (sym is ∙ e.0) ∙ sym e.1
       | inr st ↦
           let level = leaf_level s (with_root root pages) st.levels (top s) rest s.least None is st.rises in
           let rises = subst (λ l. Rises s s.least (walk s (with_root root pages) l (top s)) None) level st.rises in
-          let same : es ≡ rest = sym st.rows ∙ ap (λ l. rows_of (walk s (with_root root pages) l (top s))) level ∙ leaf_rows s (with_root root pages) (top s) rest s.least None is rises in
-          absurd (did rest is (subst (IsApart s x) same apart))
+          sym (leaf_rows s (with_root root pages) (top s) rest s.least None is rises) ∙ ap (λ l. rows_of (walk s (with_root root pages) l (top s))) (sym level) ∙ st.rows
     ]
+  where
+    leaf_is : leaf_node P E rest ≡ leaf_node P E [] → rest ≡ []
+    leaf_is h = cc
+
+pub refuse_here : {P E : Type 0} (node : List ℕ → Node P E) (s : Scale P E) → IsOrder s → (x : E) (pages : ℕ → Node P E) (root after : Node P E) (old new : List Drafted) (free left : List ℕ) (rest : List E) (e : TreeError)
+    → root ≡ Leaf rest → RootHereDid node s x root after old new free left (Err e) → RefusesWhereBad s x pages root free e
+refuse_here node s o x pages root after old new free left rest (View v) is did = tt
+refuse_here node s o x pages root after old new free left rest (Bad bad rule) is did = λ es spelled apart spare.
+    absurd (did rest is (subst (IsApart s x) (sym (leaf_spells s pages root rest es is spelled)) apart))
 refuse_here node s o x pages root after old new free left rest Memory is did = tt
 
 pub leads_more : (P E : Type 0) (cs : List (Child P)) → inner_node P E cs ≡ leaf_node P E [] → ⊥
 leads_more P E cs h = cc
 
-pub refuse_down : {P E : Type 0} (s : Scale P E) → IsOrder s → (x : E) (pages : ℕ → Node P E) (root : Node P E) (place child blocks : ℕ) (free : List ℕ) (e : TreeError)
-    → AllBelow blocks free → blocks ≤ no_page → LeadsDown s x root place child → RefutesWhereBad s x pages 7 child free e → RefusesWhereBad s x pages root free e
-refuse_down s o x pages root place child blocks free (View v) below within leads refutes = tt
-refuse_down {P} {E} s o x pages root place child blocks free (Bad bad rule) below within leads refutes = λ es spelled apart spare.
+-- a root that spells a list that is apart from the entry leads it to a part into which it can go
+pub down_refuted : {P E : Type 0} (s : Scale P E) → IsOrder s → (x : E) (pages : ℕ → Node P E) (root : Node P E) (place child blocks : ℕ) (free : List ℕ) (bad : ℕ) (rule : Rule) (es : List E)
+    → AllBelow blocks free → blocks ≤ no_page → LeadsDown s x root place child → RefutesWhereBad s x pages 7 child free (Bad bad rule)
+    → spells s pages root ≡ Ok es → IsApart s x es → IsSpare s pages root free → ⊥
+down_refuted {P} {E} s o x pages root place child blocks free bad rule es below within leads refutes spelled apart spare =
     let a = at_root s o x es pages root blocks free below within (λ h. leads_more P E (leads.front ++ leads.child ∷ leads.back) (sym leads.is ∙ h)) spelled apart spare in
     let l = inner_level s (with_root root pages) a.levels (top s) (leads.front ++ leads.child ∷ leads.back) s.least None leads.is a.ready.rises in
     let r = subst (λ i. Ready s x s.least s.least (walk s (with_root root pages) i (top s)) None free) l.1 a.ready in
     let p = root_part s o x root pages l.0 child free leads.front leads.child leads.back (route_of s x root place child leads) r in
     let there = subst (λ q. RefutesWhereBad s x pages 7 q free (Bad bad rule)) (sym (own_page s.least leads.front leads.child ∙ leads.to)) refutes in
-    absurd (there (suc l.0) (own s.least leads.front leads.child).key p.0 p.1 (let m = a.most in let i = l.1 in omega (arith, m, i)) p.2)
+    there (suc l.0) (own s.least leads.front leads.child).key p.0 p.1 (let m = a.most in let i = l.1 in omega (arith, m, i)) p.2
+
+pub refuse_down : {P E : Type 0} (s : Scale P E) → IsOrder s → (x : E) (pages : ℕ → Node P E) (root : Node P E) (place child blocks : ℕ) (free : List ℕ) (e : TreeError)
+    → AllBelow blocks free → blocks ≤ no_page → LeadsDown s x root place child → RefutesWhereBad s x pages 7 child free e → RefusesWhereBad s x pages root free e
+refuse_down s o x pages root place child blocks free (View v) below within leads refutes = tt
+refuse_down s o x pages root place child blocks free (Bad bad rule) below within leads refutes =
+    λ es spelled apart spare. absurd (down_refuted s o x pages root place child blocks free bad rule es below within leads refutes spelled apart spare)
 refuse_down s o x pages root place child blocks free Memory below within leads refutes = tt
 
 -- ---- a root whose child grew
 
 -- the level of the child, and that the root is ready
-record Below {P E : Type 0} (s : Scale P E) (x : E) (es : List E) (pages : ℕ → Node P E) (root : Node P E) (free : List ℕ) (levels : ℕ) : Type 0 where
-  lower : ℕ
-  level : levels ≡ suc lower
-  most : suc (suc lower) ≤ 8
-  is : tree_of s pages root ≡ walk s (with_root root pages) (suc (suc lower)) (top s)
-  rows : rows_of (walk s (with_root root pages) (suc (suc lower)) (top s)) ≡ es
-  ready : Ready s x s.least s.least (walk s (with_root root pages) (suc (suc lower)) (top s)) None free
+pub record Below {P E : Type 0} (s : Scale P E) (x : E) (es : List E) (pages : ℕ → Node P E) (root : Node P E) (free : List ℕ) (levels : ℕ) : Type 0 where
+  pub lower : ℕ
+  pub level : levels ≡ suc lower
+  pub most : suc (suc lower) ≤ 8
+  pub is : tree_of s pages root ≡ walk s (with_root root pages) (suc (suc lower)) (top s)
+  pub rows : rows_of (walk s (with_root root pages) (suc (suc lower)) (top s)) ≡ es
+  pub ready : Ready s x s.least s.least (walk s (with_root root pages) (suc (suc lower)) (top s)) None free
 
-below_root : {P E : Type 0} (s : Scale P E) → IsOrder s → (x : E) (es : List E) (pages : ℕ → Node P E) (root : Node P E) (place child levels blocks : ℕ) (free : List ℕ)
+pub below_root : {P E : Type 0} (s : Scale P E) → IsOrder s → (x : E) (es : List E) (pages : ℕ → Node P E) (root : Node P E) (place child levels blocks : ℕ) (free : List ℕ)
     → AllBelow blocks free → blocks ≤ no_page → (leads : LeadsDown s x root place child) → EndsAt pages levels child
     → spells s pages root ≡ Ok es → IsApart s x es → IsSpare s pages root free → Below s x es pages root free levels
 below_root {P} {E} s o x es pages root place child levels blocks free below within leads ends spelled apart spare =
@@ -220,18 +234,7 @@ part_off s o root pages lower front t back is r =
 
 pub here_always : {P E : Type 0} (s : Scale P E) (x : E) (pages : ℕ → Node P E) (root : Node P E) (rest : List E) (found : Option E)
     → root ≡ Leaf rest → found ≡ found_in s x rest → FindsAlways s x pages root found
-here_always {P} {E} s x pages root rest found is finds es spelled =
-    elim (stands s pages root es spelled) [
-      | inl e ↦ finds ∙ ap (found_in s x) (leaf_is (sym is ∙ e.0) ∙ sym e.1)
-      | inr st ↦
-          let level = leaf_level s (with_root root pages) st.levels (top s) rest s.least None is st.rises in
-          let rises = subst (λ l. Rises s s.least (walk s (with_root root pages) l (top s)) None) level st.rises in
-          let same : rest ≡ es = sym (leaf_rows s (with_root root pages) (top s) rest s.least None is rises) ∙ ap (λ l. rows_of (walk s (with_root root pages) l (top s))) (sym level) ∙ st.rows in
-          finds ∙ ap (found_in s x) same
-    ]
-  where
-    leaf_is : leaf_node P E rest ≡ leaf_node P E [] → rest ≡ []
-    leaf_is h = cc
+here_always s x pages root rest found is finds es spelled = finds ∙ ap (found_in s x) (leaf_spells s pages root rest es is spelled)
 
 pub down_always : {P E : Type 0} (s : Scale P E) → IsOrder s → (x : E) → IsPoint s x → (pages : ℕ → Node P E) (root : Node P E) (place child : ℕ) (found : Option E)
     → LeadsDown s x root place child → Finds s x pages child found → FindsAlways s x pages root found

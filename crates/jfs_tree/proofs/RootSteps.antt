@@ -90,7 +90,7 @@ root_took s o x root taken old mid lower child more free between front t back ro
     subst (λ ms. Took s x s.least (walk s (with_root root old) (suc (suc lower)) (top s)) ms None free between) (sym (has_walk s (with_root taken mid) lower (top s) (front ++ t ∷ (more ++ back)) has))
     (root_level s o x root taken old mid lower child more free between front t back route grew ready)
 
-same_all : {P E : Type 0} (s : Scale P E) (a b : Node P E) (old new : ℕ → Node P E) (levels : ℕ) → a ≡ b → ((n : ℕ) → new n ≡ old n) → walk s (with_root a new) levels (top s) ≡ walk s (with_root b old) levels (top s)
+pub same_all : {P E : Type 0} (s : Scale P E) (a b : Node P E) (old new : ℕ → Node P E) (levels : ℕ) → a ≡ b → ((n : ℕ) → new n ≡ old n) → walk s (with_root a new) levels (top s) ≡ walk s (with_root b old) levels (top s)
 same_all s a b old new levels e same =
     frame s (with_root b old) (with_root a new) levels (top s) (λ n p. ap (λ r. with_root r new n) e ∙ ap (λ m. if n == no_page then b else m) (same n))
 

@@ -20,9 +20,13 @@ pub record LeadsDown {P E : Type 0} (s : Scale P E) (x : E) (node : Node P E) (p
   pub past : IsPast s x back
   pub above : (front ≡ []) ⊎ (s.le child.key (s.from x) ≡ true)
 
+-- a page without children
+abbrev pub IsLeaf : {P E : Type 0} → Node P E → Type 0
+IsLeaf {E = E} node = (es : List E) × (node ≡ Leaf es)
+
 -- a leaf leads it nowhere else, and a page that breaks a rule names the first one
 abbrev pub Leads : {P E : Type 0} → Scale P E → E → Node P E → Result Way Rule → Type 0
-Leads {E = E} s x node (Ok Here) = (es : List E) × (node ≡ Leaf es)
+Leads s x node (Ok Here) = IsLeaf node
 Leads s x node (Ok (Down place page last)) = LeadsDown s x node place page
 Leads s x node (Err rule) = node ≡ Broken rule
 
@@ -40,6 +44,12 @@ abbrev pub PutsRow : {P E : Type 0} → Scale P E → E → (List ℕ → Node P
 PutsRow {E = E} s x node is_full old new Done = (es : List E) → node old ≡ Leaf es → IsApart s x es → node new ≡ Leaf (with_entry s x es)
 PutsRow s x node is_full old new Full = (new ≡ old) × is_full old
 PutsRow {E = E} s x node is_full old new Clash = (es : List E) → node old ≡ Leaf es → IsApart s x es → ⊥
+
+-- so where a page was full
+abbrev pub IfFull : Put → Type 0 → Type 0
+IfFull Done fact = Unit {0}
+IfFull Full fact = fact
+IfFull Clash fact = Unit {0}
 
 abbrev pub as_child : {P : Type 0} → Sibling P → Child P
 as_child s = record { key = s.key; page = s.page }

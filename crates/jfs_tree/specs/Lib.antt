@@ -12,3 +12,4 @@ pub mod Removal
 pub mod RootLoss
 pub mod Fresh
 pub mod Adds
+pub mod Room

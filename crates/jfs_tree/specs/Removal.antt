@@ -15,10 +15,6 @@ abbrev pub TakesRow : {P E : Type 0} → Scale P E → E → Node P E → Node P
 TakesRow {E = E} s x old new None = (es : List E) → old ≡ Leaf es → found_in s x es ≡ None
 TakesRow {E = E} s x old new (Some e) = (es : List E) → old ≡ Leaf es → (found_in s x es ≡ Some e) × ((left : List E) × TakenOut e es left × (new ≡ Leaf left))
 
--- a page without children
-abbrev pub IsLeaf : {P E : Type 0} → Node P E → Type 0
-IsLeaf {E = E} node = (es : List E) × (node ≡ Leaf es)
-
 -- an inner page with a child at this place
 abbrev pub HasChildAt : {P E : Type 0} → ℕ → Node P E → Type 0
 HasChildAt {P} place node = (front : List (Child P)) × (t : Child P) × (back : List (Child P)) × (node ≡ Inner (front ++ t ∷ back)) × (length front ≡ place)

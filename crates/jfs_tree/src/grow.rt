@@ -3,6 +3,7 @@
 ghost use Rattle.std.specs.Prelude.{◌≡◌, ◌==◌, ◌+◌, if◌then◌else◌, ◌<◌, ◌≤◌, ℕ, List, length, OnOk, IfOk, IfErr, IfSome, ◌^◌};
 ghost use Rattle.jfs_tree.specs.Edit.{Grew};
 ghost use Rattle.jfs_tree.specs.Form.{AllBelow, IsFront, children_of};
+ghost use Rattle.jfs_tree.specs.Room.{GrowsWhereFull, TakesMore, at_page};
 ghost use Rattle.jfs_tree.specs.Call.{nodes, GrownDid, GrownBelow, CarriesFault, RefutesWhereBad};
 
 use crate::draft::Draft;
@@ -48,6 +49,11 @@ pub fn add_below<V: PageView, F: PageForm>(
     ensures bad { V.PageView.tells → IfErr result (λ e. RefutesWhereBad F.PageForm.scale x.now
         (nodes (F.PageForm.node form.now) draft.old.pages.items (V.PageView.image view.old)) most page fresh.old.items e) }
     ensures used { IfOk result (λ grown. (length fresh.old.items ≤ length fresh.new.items + grown.levels) × (grown.levels ≤ most)) }
+    ensures room { V.PageView.tells → IfOk result (λ grown. GrowsWhereFull F.PageForm.scale x.now
+        (nodes (F.PageForm.node form.now) draft.old.pages.items (V.PageView.image view.old))
+        (at_page (F.PageForm.is_full form.now) draft.old.pages.items (V.PageView.image view.old))
+        (at_page (λ bytes. F.PageForm.has_no_room form.now bytes x.now) draft.old.pages.items (V.PageView.image view.old))
+        grown.levels page grown.sibling fresh.old.items fresh.new.items) }
     ensures below { GrownBelow fresh.old.items fresh.new.items result }
     ensures front { IsFront fresh.new.items fresh.old.items }
     ensures key { IfOk result (λ grown. IfSome grown.sibling (λ s. F.PageForm.is_key s.key)) }
@@ -105,6 +111,7 @@ fn take_grown<F: PageForm>(
     ensures did { GrownDid (F.PageForm.node form.now) F.PageForm.scale bytes.0 page place grown.sibling draft.old.pages.items draft.new.pages.items fresh.old.items fresh.new.items result }
     ensures levels { IfOk result (λ g. g.levels ≡ grown.levels + 1) }
     ensures used { IfOk result (λ more. length fresh.old.items ≤ length fresh.new.items + 1) }
+    ensures room { IfOk result (λ g. TakesMore (F.PageForm.is_full form.now bytes.0) grown.sibling g.sibling fresh.old.items fresh.new.items) }
     ensures below { GrownBelow fresh.old.items fresh.new.items result }
     ensures front { IsFront fresh.new.items fresh.old.items }
     ensures key { IfOk result (λ grown. IfSome grown.sibling (λ s. F.PageForm.is_key s.key)) }

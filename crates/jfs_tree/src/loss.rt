@@ -2,8 +2,9 @@
 
 ghost use Rattle.std.specs.Prelude.{◌≡◌, [], IfNone, length};
 ghost use Rattle.jfs_tree.specs.Walk.{Leaf};
+ghost use Rattle.jfs_tree.specs.Form.{IsLeaf};
 ghost use Rattle.jfs_tree.specs.Shrink.{IsLoose};
-ghost use Rattle.jfs_tree.specs.Removal.{IsLeaf, HasOthers, TakesRow, TakesChild, TellsSingle};
+ghost use Rattle.jfs_tree.specs.Removal.{HasOthers, TakesRow, TakesChild, TellsSingle};
 
 use crate::pages::PageForm;
 

@@ -3,7 +3,7 @@
 ghost use Rattle.std.specs.Prelude.{◌≡◌, ◌<◌, ℕ, List, [], ◌∷◌, IfOk, length};
 ghost use Rattle.jfs_tree.specs.Walk.{Child, Node, Leaf, Inner, Scale, IsOrder};
 ghost use Rattle.jfs_tree.specs.Edit.{IsApart, KeysRise, with_entry, found_in};
-ghost use Rattle.jfs_tree.specs.Form.{Leads, IsWithin, TellsLast, PutsRow, SplitsRows, PutsChild, AtPlace, SplitsChildren, as_child};
+ghost use Rattle.jfs_tree.specs.Form.{Leads, IsWithin, TellsLast, IfFull, PutsRow, SplitsRows, PutsChild, AtPlace, SplitsChildren, as_child};
 
 use crate::form::{Put, Sibling, Way};
 use jfs_bits::Rule;
@@ -32,6 +32,12 @@ pub trait PageForm {
     /// There may be no room for one more.
     ghost is_full: { Self → List ℕ → Type 0 };
 
+    /// There is no room for the entry.
+    ghost has_no_room: { Self → List ℕ → Self.Entry → Type 0 };
+
+    /// There is no room for a child with the key.
+    ghost has_no_place: { Self → List ℕ → Self.Key → Type 0 };
+
     /// What can be a key on a page.
     ghost is_key: { Self.Key → Type 0 };
 
@@ -57,7 +63,8 @@ pub trait PageForm {
     fn put(&self, bytes: &mut [u8], x: &Self::Entry) -> Put
         requires size { length bytes.old ≡ size self.now }
         requires good { is_good self.now x.now }
-        ensures { PutsRow scale x.now (node self.now) (is_full self.now) bytes.old bytes.new result };
+        ensures row { PutsRow scale x.now (node self.now) (is_full self.now) bytes.old bytes.new result }
+        ensures room { IfFull result (has_no_room self.now bytes.old x.now) };
 
     /// Puts the entry into page `n`, a leaf below a root that has no room for it, and the leaf's last part into page `q`, whose key it answers.
     /// `last` tells that page `n` is the last one of its level. A root is never split: it moves down.
@@ -83,7 +90,8 @@ pub trait PageForm {
         requires size { length bytes.old ≡ size self.now }
         requires within { child.now.page < blocks self.now }
         requires key { is_key child.now.key }
-        ensures { PutsChild scale (node self.now) (is_full self.now) place child.now bytes.old bytes.new result };
+        ensures child { PutsChild scale (node self.now) (is_full self.now) place child.now bytes.old bytes.new result }
+        ensures room { IfFull result (has_no_place self.now bytes.old child.now.key) };
 
     /// Puts a child into page `n`, an inner page below a root that has no room for it, and the page's last part into page `q`, whose key it
     /// answers. `last` tells that page `n` is the last one of its level.

@@ -3,8 +3,9 @@
 ghost use Rattle.std.specs.Prelude.{◌≡◌, ◌+◌, ◌<◌, ◌≤◌, ◌^◌, [], Some, IfOk, IfErr, OnOk, IfSome, IfNone, length};
 ghost use Rattle.jfs_tree.specs.Edit.{IsPoint};
 ghost use Rattle.jfs_tree.specs.Call.{pages_of, nodes, Finds, BreaksWhereBad, CarriesFault};
+ghost use Rattle.jfs_tree.specs.Form.{IsLeaf};
 ghost use Rattle.jfs_tree.specs.Shrink.{Shrank};
-ghost use Rattle.jfs_tree.specs.Removal.{IsLeaf, HasChildAt, Settles, LostHere, LostBelow, entry_of, kept_in};
+ghost use Rattle.jfs_tree.specs.Removal.{HasChildAt, Settles, LostHere, LostBelow, entry_of, kept_in};
 
 use crate::draft::Draft;
 use crate::form::{TreeError, Way};

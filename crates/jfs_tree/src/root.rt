@@ -3,6 +3,7 @@
 ghost use Rattle.std.specs.Prelude.{◌≡◌, ◌+◌, ◌<◌, ◌≤◌, ℕ, List, length, OnOk, IfOk, IfErr, IfSome};
 ghost use Rattle.jfs_tree.specs.Edit.{IsPoint};
 ghost use Rattle.jfs_tree.specs.Form.{AllBelow, IsFront};
+ghost use Rattle.jfs_tree.specs.Room.{FullFrom, LevelsWhereFull, TakesWhereFull, RootGrownRoom, at_page};
 ghost use Rattle.jfs_tree.specs.Call.{nodes, pages_of, CarriesFault};
 ghost use Rattle.jfs_tree.specs.Root.{AddsAlways, FindsAlways, NamesBroken, RefusesWhereBad, RootGrownDid};
 
@@ -78,6 +79,23 @@ pub fn add_entry<V: PageView, F: PageForm>(
         (F.PageForm.node top.now root.old) (F.PageForm.node top.now root.new) fresh.old.items fresh.new.items) }
     ensures refused { V.PageView.tells → IfErr result (λ e. RefusesWhereBad F.PageForm.scale x.now
         (nodes (F.PageForm.node form.now) draft.old.pages.items (V.PageView.image view.old)) (F.PageForm.node top.now root.old) fresh.old.items e) }
+    ensures taken { V.PageView.tells → OnOk result (TakesWhereFull F.PageForm.scale x.now
+        (nodes (F.PageForm.node form.now) draft.old.pages.items (V.PageView.image view.old))
+        (at_page (F.PageForm.is_full form.now) draft.old.pages.items (V.PageView.image view.old))
+        (at_page (λ bytes. F.PageForm.has_no_room form.now bytes x.now) draft.old.pages.items (V.PageView.image view.old))
+        (F.PageForm.node top.now root.old) ((F.PageForm.is_full top.now root.old) × (F.PageForm.has_no_room top.now root.old x.now))
+        (λ key. (F.PageForm.is_full top.now root.old) × (F.PageForm.has_no_place top.now root.old key))
+        fresh.old.items fresh.new.items) }
+    ensures levels { V.PageView.tells → LevelsWhereFull F.PageForm.scale x.now
+        (nodes (F.PageForm.node form.now) draft.old.pages.items (V.PageView.image view.old))
+        (nodes (F.PageForm.node form.now) draft.new.pages.items (V.PageView.image view.old))
+        (F.PageForm.node top.now root.old) (F.PageForm.node top.now root.new) fresh.old.items
+        (FullFrom F.PageForm.scale x.now
+        (nodes (F.PageForm.node form.now) draft.old.pages.items (V.PageView.image view.old))
+        (at_page (F.PageForm.is_full form.now) draft.old.pages.items (V.PageView.image view.old))
+        (at_page (λ bytes. F.PageForm.has_no_room form.now bytes x.now) draft.old.pages.items (V.PageView.image view.old))
+        (F.PageForm.node top.now root.old) ((F.PageForm.is_full top.now root.old) × (F.PageForm.has_no_room top.now root.old x.now))
+        (λ key. (F.PageForm.is_full top.now root.old) × (F.PageForm.has_no_place top.now root.old key))) result }
     ensures front { IsFront fresh.new.items fresh.old.items }
 {
     let _blocks = view.blocks();
@@ -116,6 +134,7 @@ fn root_takes_grown<F: PageForm>(
     requires enough { 0 < length fresh.old.items }
     requires within { AllBelow (F.PageForm.blocks top.now) fresh.old.items }
     ensures did { RootGrownDid (F.PageForm.node form.now) F.PageForm.scale grown.levels place grown.sibling (F.PageForm.node top.now root.old) (F.PageForm.node top.now root.new) draft.old.pages.items draft.new.pages.items fresh.old.items fresh.new.items result }
+    ensures room { RootGrownRoom F.PageForm.scale (λ key. (F.PageForm.is_full top.now root.old) × (F.PageForm.has_no_place top.now root.old key)) place grown.sibling (F.PageForm.node top.now root.old) fresh.old.items fresh.new.items result }
     ensures below { AllBelow (F.PageForm.blocks top.now) fresh.new.items }
     ensures front { IsFront fresh.new.items fresh.old.items }
 {

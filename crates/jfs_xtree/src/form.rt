@@ -39,6 +39,10 @@ impl PageForm for XtPages {
 
     ghost is_full = { λ f. HasNoRoom f.form };
 
+    ghost has_no_room = { λ f bytes x. HasNoRoom f.form bytes };
+
+    ghost has_no_place = { λ f bytes key. HasNoRoom f.form bytes };
+
     ghost is_key = { λ k. k < 2 ^ 40 };
 
     ghost is_root = { λ f. IsRoot f.form };

@@ -3,6 +3,7 @@ use Rattle.jfs_bits.specs.declared.rule.Rule.TheVariants as rules
 use Rattle.jfs_tree.specs.Call.{nodes}
 use Rattle.jfs_tree.specs.Form.{Leads}
 use Rattle.jfs_tree.proofs.Adding.{refute_zero, refute_broken, refute_here, refute_down, grown_ok, grown_bad}
+use Rattle.jfs_tree.proofs.Rooms.{grown_room}
 use Rattle.jfs_tree.proofs.grow.+add_below.Goals as goal
 
 pub returns-then-most-eq0-clause-bad : goal.returns-then-most-eq0-clause-bad
@@ -52,3 +53,10 @@ returns-in-Err-add_below-clause-bad g t c tells =
     refute_down g.F.PageForm.scale g.met.F.PageForm.order c.args.x.now (nodes (g.F.PageForm.node c.args.form.now) c.args.draft.now.pages.items (g.V.PageView.image c.args.view.now)) c.args.most (c.args.most - 1) c.args.page c.in-Ok-Down.place c.in-Ok-Down.child c.args.fresh.now.items c.in-Err-add_below.e
     (let h = c.if-most-eq0.false in omega (arith, h)) (rw (sym (c.in-Ok.ensures.bytes tells), sym c.bytes.ensures.value) leads)
     (rw (sym (c.read.ensures.kept tells)) (c.in-Err-add_below.ensures.bad tells))
+
+pub returns-in-Ok-add_below-clause-room : goal.returns-in-Ok-add_below-clause-room
+returns-in-Ok-add_below-clause-room g t c tells =
+    let leads = subst (λ w. Leads g.F.PageForm.scale c.args.x.now (g.F.PageForm.node c.args.form.now c.bytes.result.now) (Ok w)) c.in-Ok-Down.field-0-is c.in-Ok-Down.ensures.way in
+    grown_room (g.F.PageForm.node c.args.form.now) g.F.PageForm.scale c.args.x.now (g.F.PageForm.is_full c.args.form.now) (λ bytes. g.F.PageForm.has_no_room c.args.form.now bytes c.args.x.now) c.args.draft.now.pages.items (g.V.PageView.image c.args.view.now) (g.V.PageView.image c.read.new.view)
+    c.args.page c.in-Ok-Down.place c.in-Ok-Down.child c.in-Ok-add_below.grown.levels c.in-Ok.bytes.0 c.in-Ok-add_below.grown.sibling c.args.fresh.now.items c.add_below.new.fresh.items c.take_grown.new.fresh.items c.take_grown.result
+    (c.read.ensures.kept tells) (c.in-Ok.ensures.bytes tells) (rw (sym c.bytes.ensures.value) leads) (c.in-Ok-add_below.ensures.room tells) c.take_grown.ensures.levels c.take_grown.ensures.room

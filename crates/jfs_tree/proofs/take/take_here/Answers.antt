@@ -4,4 +4,4 @@ use Rattle.jfs_tree.proofs.take.take_here.Goals as goal
 pub returns-in_ok-put_one-in-Done-clause-did : goal.returns-in_ok-put_one-in-Done-clause-did
 returns-in_ok-put_one-in-Done-clause-did g c =
     here_kept (g.F.PageForm.node c.args.form.now) g.F.PageForm.scale g.met.F.PageForm.order c.args.x.now c.args.bytes.0 c.put.new.bytes c.args.page c.args.draft.now.pages.items c.put_one.new.draft.pages.items c.args.fresh.now.items
-    c.in-Done.ensures c.in_ok-put_one-in-Done.ensures.puts
+    c.in-Done.ensures.row c.in_ok-put_one-in-Done.ensures.puts

@@ -9,7 +9,7 @@ pub returns-in-Done-clause-did : goal.returns-in-Done-clause-did
 returns-in-Done-clause-did g c =
     here_moved (g.F.PageForm.node c.args.form.now) g.F.PageForm.scale c.args.x.now (g.F.PageForm.node c.args.top.now c.args.root.now) (g.F.PageForm.node c.args.top.now c.move_down.new.root) c.move_down.new.page c.put.new.bytes c.in-Some.q
     c.args.draft.now.pages.items c.put_one.new.draft.pages.items c.args.fresh.now.items c.pop.new.self.items c.put_one.result
-    c.move_down.ensures.entries c.in-Done.ensures c.move_down.ensures.root c.in-Some.ensures.items c.put_one.ensures.puts c.put_one.ensures.cause
+    c.move_down.ensures.entries c.in-Done.ensures.row c.move_down.ensures.root c.in-Some.ensures.items c.put_one.ensures.puts c.put_one.ensures.cause
 
 pub returns-in-Done-clause-below : goal.returns-in-Done-clause-below
 returns-in-Done-clause-below g c = (below_popped (g.F.PageForm.blocks c.args.top.now) c.in-Some.q c.args.fresh.now.items c.pop.new.self.items c.in-Some.ensures.items c.requires.within).0

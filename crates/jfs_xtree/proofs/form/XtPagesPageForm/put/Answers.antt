@@ -3,16 +3,16 @@ use Rattle.jfs_xtree.proofs.Reading.{leaf_is}
 use Rattle.jfs_xtree.proofs.Forms.{not_laid, clash_refuted, leaf_put, same_kind}
 use Rattle.jfs_xtree.proofs.form.XtPagesPageForm.put.Goals as goal
 
-pub returns-then-not-is_laid_out : goal.returns-then-not-is_laid_out
-returns-then-not-is_laid_out c = λ es leaf apart.
+pub returns-then-not-is_laid_out-clause-row : goal.returns-then-not-is_laid_out-clause-row
+returns-then-not-is_laid_out-clause-row c = λ es leaf apart.
     not_laid c.args.self.now.form c.args.self.now.blocks (head_of c.args.bytes.now) (entries_of c.args.bytes.now) c.is_laid_out.result c.is_laid_out.ensures.is c.if-not-is_laid_out.true
     (leaf_is c.args.self.now.form c.args.self.now.blocks c.args.bytes.now es leaf).0
 
-pub returns-then-not-goes_between : goal.returns-then-not-goes_between
-returns-then-not-goes_between c = λ es leaf apart.
+pub returns-then-not-goes_between-clause-row : goal.returns-then-not-goes_between-clause-row
+returns-then-not-goes_between-clause-row c = λ es leaf apart.
     clash_refuted c.args.self.now.form c.args.self.now.blocks c.args.bytes.now c.place_of-place.result c.args.x.now es (c.goes_between.ensures.clashes c.if-not-goes_between.true) c.place_of-place.ensures.place leaf apart
 
-pub returns-in-Ok : goal.returns-in-Ok
-returns-in-Ok c = λ es leaf apart.
+pub returns-in-Ok-clause-row : goal.returns-in-Ok-clause-row
+returns-in-Ok-clause-row c = λ es leaf apart.
     leaf_put c.args.self.now.form c.args.self.now.blocks c.args.bytes.now c.xt_insert.new.bytes c.place_of-place.result c.args.x.now es leaf apart c.requires.good c.place_of-place.ensures.place
     (same_kind c.args.bytes.now c.xt_insert.new.bytes c.in-Ok.ensures.head (c.is_laid_out.ensures.laid c.if-not-is_laid_out.false).least c.in-Ok.ensures.room) c.in-Ok.ensures.entries

@@ -8,15 +8,15 @@ use Rattle.jfs_xtree.proofs.Forms.{not_laid, same_through, less_of}
 use Rattle.jfs_xtree.proofs.form.XtPagesPageForm.put_child.Goals as goal
 use Rattle.jfs_xtree.proofs.form.XtPagesPageForm.put_child.Goals.{then-not-is_laid_out-via-then-not-is_laid_out, then-not-is_laid_out-via-else-not-is_laid_out+then-not-takes_child}
 
-pub returns-then-not-is_laid_out : goal.returns-then-not-is_laid_out
-returns-then-not-is_laid_out c = λ all at rise. elim c.then-not-is_laid_out.branch [
+pub returns-then-not-is_laid_out-clause-child : goal.returns-then-not-is_laid_out-clause-child
+returns-then-not-is_laid_out-clause-child c = λ all at rise. elim c.then-not-is_laid_out.branch [
   | then-not-is_laid_out-via-then-not-is_laid_out w ↦ not_laid c.args.self.now.form c.args.self.now.blocks (head_of c.args.bytes.now) (entries_of c.args.bytes.now) c.is_laid_out.result c.is_laid_out.ensures.is w.if-not-is_laid_out.true
       (inner_is c.args.self.now.form c.args.self.now.blocks c.args.bytes.now _ at.was).0
   | then-not-is_laid_out-via-else-not-is_laid_out+then-not-takes_child w ↦ w.takes_child.ensures.clashes w.if-not-takes_child.true (takes_of c.args.self.now.form c.args.self.now.blocks c.args.bytes.now c.args.place _ all at rise)
 ]
 
-pub returns : goal.returns
-returns c = λ all at rise.
+pub returns-clause-child : goal.returns-clause-child
+returns-clause-child c = λ all at rise.
     let laid = c.is_laid_out.ensures.laid c.if-not-is_laid_out.false in
     let a = c.get_u16.ensures.value in
     let b = c.get_u16-2.ensures.value in
