@@ -1,21 +1,18 @@
 -- A sound volume has no finding.
-use Rattle.std.proofs.Common.{◌≡◌, ◌≢◌, ◌≤◌, ◌<◌, ◌⊎◌, inl, inr, refl, sym, ap, ap₂, ◌∙◌, subst, ℕ, zero, suc, ◌+◌, ◌*◌, ◌/◌, Bool, true, false, not, ◌&&◌, ◌||◌, ◌==◌, nat_le, nat_lt, if◌then◌else◌, List, [], ◌∷◌, ◌++◌, Option, Some, None, is_some, option_map, arith}
+use Rattle.std.proofs.Common.{◌≡◌, ◌≤◌, ◌<◌, refl, sym, ap, ◌∙◌, subst, ℕ, Bool, true, false, ◌&&◌, nat_lt, List, Option, Some, None, arith}
 use Rattle.std.specs.declared.result.Result.{Result}
 use Rattle.std.specs.declared.result.Result.TheVariants.{Ok, Err}
-use Rattle.std.proofs.lemmas.Bool.{cases_lt, ltb-true, true≢false}
-use Rattle.std.proofs.lemmas.Bool.Decides.{nat_tests}
+use Rattle.std.proofs.lemmas.Bool.{ltb-true, true≢false}
 use Rattle.jfs_bits.specs.declared.rule.Rule.{Rule}
-use Rattle.jfs_objects.specs.Objects.{Object, listed}
+use Rattle.jfs_objects.specs.Objects.{listed}
 use Rattle.jfs_objects.specs.Owners.{owners, holds, bit, Agrees}
 use Rattle.jfs_objects.specs.Image.{is_block_used}
 use Rattle.jfs_objects.proofs.Owned.{owned, is_bit}
-use Rattle.jfs_check.specs.Subject.{Subject, blocks, volume, object, IsObject}
-use Rattle.jfs_check.specs.Mount.{broken_mount}
+use Rattle.jfs_check.specs.Subject.{Subject, blocks, volume}
 use Rattle.jfs_check.specs.Names.{leads}
 use Rattle.jfs_check.specs.Trees.{BreaksExtents, of_object, of_file}
 use Rattle.jfs_check.specs.Findings.{Says, SaysUnless}
 use Rattle.jfs_check.specs.Clean.{HasNoFinding, IsSoundVolume}
-use Rattle.jfs_check.specs.declared.finding.Finding.{Finding}
 use Rattle.jfs_check.specs.declared.finding.FindingKind.{FindingKind}
 use Rattle.jfs_check.specs.declared.finding.FindingKind.TheVariants as kinds
 

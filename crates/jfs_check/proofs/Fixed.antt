@@ -1,15 +1,14 @@
 -- The fixed areas lie within the file system part.
-use Rattle.std.proofs.Common.{◌≡◌, ◌≤◌, ◌<◌, ◌⊎◌, inl, inr, refl, sym, ap, ap₂, ◌∙◌, subst, ℕ, zero, suc, ◌+◌, ◌/◌, ◌%◌, ◌^◌, Bool, true, false, ◌&&◌, ◌==◌, nat_le, nat_lt, if◌then◌else◌, List, [], ◌∷◌, arith}
+use Rattle.std.proofs.Common.{◌≡◌, ◌≤◌, refl, sym, ap, ◌∙◌, ℕ, zero, suc, ◌+◌, ◌%◌, ◌^◌, Bool, true, false, ◌&&◌, ◌==◌, nat_le, nat_lt, if◌then◌else◌, List, [], ◌∷◌, arith}
 use Rattle.std.specs.declared.result.Result.{Result}
 use Rattle.std.specs.declared.result.Result.TheVariants.{Ok, Err}
-use Rattle.std.proofs.lemmas.Bool.{leb-true, ltb-true, and_parts, cases_lt}
+use Rattle.std.proofs.lemmas.Bool.{leb-true, ltb-true, and_parts}
 use Rattle.jfs_bits.specs.declared.descriptor.Pxd.{Pxd}
 use Rattle.jfs_bits.specs.declared.extent.Xad.{Xad}
 use Rattle.jfs_bits.specs.declared.rule.Rule.{Rule}
 use Rattle.jfs_bits.specs.declared.rule.Rule.TheVariants as rules
 use Rattle.jfs_bits.specs.Broken.{Row}
 use Rattle.jfs_bits.proofs.Broken.{each_holds}
-use Rattle.jfs_inode.specs.declared.fields.Dinode.{Dinode}
 use Rattle.jfs_super.specs.Rules.{IsAccepted, blocks_of, ends_within, rows, shape_rows, flag_rows, size_rows, log_rows}
 use Rattle.jfs_super.specs.declared.fields.Super.{Super}
 use Rattle.jfs_super.specs.declared.read.BadSuper.{BadSuper}
@@ -18,16 +17,16 @@ use Rattle.jfs_xtpage.specs.declared.head.XtForm.{XtForm}
 use Rattle.jfs_xtpage.specs.declared.head.XtForm.TheVariants as forms
 use Rattle.jfs_xtree.proofs.Adds.{has_pages}
 use Rattle.jfs_xtree.proofs.Reading.{leaf_is}
-use Rattle.jfs_tree.specs.Walk.{Node, Leaf, Marks, rows_of}
-use Rattle.jfs_tree.specs.Spells.{footprint, judge}
+use Rattle.jfs_tree.specs.Walk.{rows_of}
+use Rattle.jfs_tree.specs.Spells.{footprint}
 use Rattle.jfs_tree.proofs.Judge.{judged}
 use Rattle.jfs_tree.proofs.Within.{footprint_within}
 use Rattle.jfs_objects.specs.Objects.{met, listed}
-use Rattle.jfs_objects.specs.Owners.{unless_broken, entries, run_has, covers, extents_have, fixed}
+use Rattle.jfs_objects.specs.Owners.{unless_broken, entries, run_has, covers, fixed}
 use Rattle.jfs_objects.specs.Image.{aggregate_at, file_walk, file_extents, file_has, area_on}
 use Rattle.jfs_meaning.specs.Readers.{readers, root_of}
 use Rattle.jfs_check.specs.Laws.{subject_of}
-use Rattle.jfs_check.specs.Subject.{Subject, volume}
+use Rattle.jfs_check.specs.Subject.{volume}
 use Rattle.jfs_check.proofs.Range.{HasRows, tree_rows}
 use Rattle.jfs_check.proofs.Mounted.{IsMounted, extents_end}
 

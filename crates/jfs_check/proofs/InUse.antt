@@ -1,5 +1,5 @@
 -- The inode map's bits are those of the inodes in use, where its pages are canonical in what is compared.
-use Rattle.std.proofs.Common.{◌≡◌, ◌≤◌, ◌<◌, ◌⊎◌, inl, inr, refl, sym, ap, ◌∙◌, subst, ℕ, zero, suc, ◌+◌, ◌*◌, ◌/◌, ◌%◌, Bool, true, false, not, ◌&&◌, ◌==◌, if◌then◌else◌, get_or, length, map, Option, Some, None, is_some, arith}
+use Rattle.std.proofs.Common.{◌≡◌, ◌<◌, inl, inr, refl, sym, ap, ◌∙◌, ℕ, suc, ◌+◌, ◌*◌, ◌/◌, ◌%◌, Bool, true, false, not, ◌&&◌, ◌==◌, if◌then◌else◌, map, Option, Some, None, is_some, arith}
 use Rattle.std.specs.List.{range_with_len}
 use Rattle.std.proofs.lemmas.Bool.{cases_lt}
 use Rattle.std.proofs.lemmas.List.FromFn.{get_or-map-range_with_len, length-map-range_with_len}
@@ -7,12 +7,12 @@ use Rattle.jfs_bits.specs.Bits.{is_taken}
 use Rattle.jfs_bits.specs.Field.{range_of}
 use Rattle.jfs_iag.specs.Canonical.{is_there}
 use Rattle.jfs_objects.specs.Volume.{home, page_in}
-use Rattle.jfs_objects.specs.Image.{file_page, iag_page, extent_place, extent_on, extents_on, is_inode_used}
+use Rattle.jfs_objects.specs.Image.{iag_page, extent_on, extents_on, is_inode_used}
 use Rattle.jfs_objects.proofs.Owned.{get_past}
 use Rattle.jfs_objects.proofs.Found.{no_home}
 use Rattle.jfs_check.specs.Subject.{Subject, volume, object}
 use Rattle.jfs_check.specs.Mount.{iags, extent_at}
-use Rattle.jfs_check.specs.Maps.{IsIagAs, IsInodeMapPage}
+use Rattle.jfs_check.specs.Maps.{IsInodeMapPage}
 
 -- where an inode has a page, its extent is there
 pub record HasExtent (s : Subject) (n : ℕ) : Type 0 where

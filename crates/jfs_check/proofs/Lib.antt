@@ -8,3 +8,4 @@ pub mod Clean
 pub mod InUse
 pub mod Sound
 pub mod BothWays
+pub mod Compared

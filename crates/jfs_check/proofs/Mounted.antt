@@ -1,5 +1,5 @@
 -- What a volume has that breaks no rule of a mount.
-use Rattle.std.proofs.Common.{◌≡◌, ◌≤◌, ◌<◌, refl, sym, ap, ◌∙◌, subst, ℕ, zero, suc, ◌+◌, ◌*◌, ◌/◌, ◌%◌, Bool, true, false, not, ◌&&◌, ◌||◌, ◌==◌, nat_le, nat_lt, if◌then◌else◌, List, [], ◌∷◌, get_or, map, Option, Some, None, is_some, arith}
+use Rattle.std.proofs.Common.{◌≡◌, ◌≤◌, ◌<◌, refl, sym, ap, ◌∙◌, ℕ, zero, suc, ◌+◌, ◌*◌, Bool, true, false, not, ◌&&◌, ◌||◌, ◌==◌, nat_le, nat_lt, if◌then◌else◌, map, Option, Some, None, is_some, arith}
 use Rattle.std.specs.List.{range_with_len, prefix_len}
 use Rattle.std.proofs.lemmas.Bool.{eqb-true, leb-true, ltb-true, and_parts}
 use Rattle.std.proofs.lemmas.List.FromFn.{get_or-range_with_len}
@@ -10,7 +10,7 @@ use Rattle.jfs_bmap.specs.MapFile.{pages_of}
 use Rattle.jfs_iag.specs.Canonical.{is_there}
 use Rattle.jfs_objects.specs.Volume.{home, slot_of}
 use Rattle.jfs_objects.specs.Owners.{extent_has, extents_have}
-use Rattle.jfs_objects.specs.Image.{extent_place, extent_on, extents_on}
+use Rattle.jfs_objects.specs.Image.{extent_on, extents_on}
 use Rattle.jfs_check.specs.Subject.{Subject, blocks, volume, IsFilePage}
 use Rattle.jfs_check.specs.Mount.{place, covered, fitting, iags, extent_at, fits_extent, root_row, mount_rows, broken_mount}
 

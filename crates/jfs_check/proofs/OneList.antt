@@ -1,13 +1,11 @@
 -- Two lists in strict order with the same members are one.
-use Rattle.std.proofs.Common.{◌≡◌, ◌<◌, ◌⊎◌, inl, inr, refl, sym, ap, ap₂, ◌∙◌, subst, ℕ, zero, suc, ◌+◌, Bool, true, false, ◌&&◌, ◌||◌, ◌==◌, nat_lt, List, [], ◌∷◌, length, arith}
+use Rattle.std.proofs.Common.{◌≡◌, ◌<◌, ◌⊎◌, inl, inr, refl, sym, ap₂, subst, ℕ, zero, suc, Bool, true, false, ◌&&◌, ◌||◌, ◌==◌, nat_lt, List, [], ◌∷◌, arith}
 use Rattle.std.specs.List.{Contains}
-use Rattle.std.proofs.lemmas.Bool.{cases_order, ltb-true, ltb-false, lt-ltb, eqb-true, eq-eqb, ne_eqb, and_parts, or_right, or_left, true≢false}
+use Rattle.std.proofs.lemmas.Bool.{ltb-true, eqb-true, and_parts}
 use Rattle.jfs_check.specs.Kind.{number_of}
-use Rattle.jfs_check.specs.Findings.{is_before, Rise, AreFindings}
+use Rattle.jfs_check.specs.Findings.{is_before, Rise}
 use Rattle.jfs_check.specs.Laws.{OneListLaw}
 use Rattle.jfs_check.specs.declared.finding.Finding.{Finding}
-use Rattle.jfs_check.specs.declared.finding.FindingKind.{FindingKind}
-use Rattle.jfs_check.specs.declared.finding.FindingKind.TheVariants as kinds
 
 -- ---- the order
 

@@ -1,31 +1,29 @@
 -- A volume without findings is sound.
-use Rattle.std.proofs.Common.{◌≡◌, ◌≢◌, ◌≤◌, ◌<◌, ◌⊎◌, inl, inr, refl, sym, ap, ap₂, ◌∙◌, subst, ℕ, zero, suc, ◌+◌, ◌*◌, ◌/◌, ◌==◌, Bool, true, false, ◌&&◌, nat_le, nat_lt, if◌then◌else◌, List, Option, Some, None, is_some, arith}
+use Rattle.std.proofs.Common.{◌≡◌, ◌≤◌, ◌<◌, inl, inr, refl, sym, ap, ◌∙◌, subst, ℕ, zero, suc, ◌+◌, ◌/◌, true, nat_lt, List, Option, Some, None, is_some, arith}
 use Rattle.std.specs.List.{Contains}
 use Rattle.std.specs.declared.result.Result.{Result}
 use Rattle.std.specs.declared.result.Result.TheVariants.{Ok, Err}
-use Rattle.std.proofs.lemmas.Bool.{cases_lt, ltb-true, true_from_ne_false, false_from_ne_true}
+use Rattle.std.proofs.lemmas.Bool.{cases_lt, true_from_ne_false, false_from_ne_true}
 use Rattle.std.proofs.lemmas.Bool.Decides.{nat_tests}
 use Rattle.jfs_bits.specs.declared.extent.Xad.{Xad}
 use Rattle.jfs_bits.specs.declared.rule.Rule.{Rule}
 use Rattle.jfs_bits.specs.Broken.{first_broken}
 use Rattle.jfs_inode.specs.Rules.{rows}
-use Rattle.jfs_inode.specs.declared.read.BadInode.{BadInode}
-use Rattle.jfs_name.specs.declared.name.NameEntry.{NameEntry}
 use Rattle.jfs_bmap.specs.MapFile.{is_in_use, pages_of}
 use Rattle.jfs_plain.specs.Tree.{root}
 use Rattle.jfs_plain.specs.declared.node.Node.{Node}
 use Rattle.jfs_objects.specs.Volume.{home, room}
-use Rattle.jfs_objects.specs.Objects.{Object, IsWhole, has_names, has_extents, objects, listed}
-use Rattle.jfs_objects.specs.Owners.{owners, fixed, holds, bit, sum_below, Agrees, IsSound}
+use Rattle.jfs_objects.specs.Objects.{Object, IsWhole, listed}
+use Rattle.jfs_objects.specs.Owners.{owners, fixed, holds, bit, sum_below, Agrees}
 use Rattle.jfs_objects.specs.Image.{file_page, file_walk}
 use Rattle.jfs_objects.proofs.Owned.{holds_none}
 use Rattle.jfs_objects.proofs.Found.{no_home}
-use Rattle.jfs_meaning.specs.Consistent.{is_reserved, leading_to, names_in, names_to, links_due}
+use Rattle.jfs_meaning.specs.Consistent.{leading_to, names_in, names_to, links_due}
 use Rattle.jfs_check.specs.Subject.{Subject, blocks, volume, object, IsObject, IsFilePage, page_named}
 use Rattle.jfs_check.specs.Mount.{BadMount, broken_mount, iags, extent_at}
 use Rattle.jfs_check.specs.Inodes.{blocks_owned, is_past}
-use Rattle.jfs_check.specs.Names.{readable, readable_node, most, leads, StandsAt, HasOneName, IsPlaced}
-use Rattle.jfs_check.specs.Trees.{files, of_object, of_file, extent_nodes, IsThinIn}
+use Rattle.jfs_check.specs.Names.{readable, readable_node, most, leads, IsPlaced}
+use Rattle.jfs_check.specs.Trees.{files, of_object, of_file}
 use Rattle.jfs_check.specs.Blocks.{is_owned}
 use Rattle.jfs_check.specs.Maps.{has_to_be_taken, IsBlockMapPage, IsInodeMapPage}
 use Rattle.jfs_check.specs.Findings.{Says, SaysUnless}

@@ -1,5 +1,5 @@
 -- What isn't refuted holds, where it can be tested.
-use Rattle.std.proofs.Common.{◌≡◌, ◌≤◌, ◌<◌, ◌⊎◌, inl, inr, refl, sym, ap, ap₂, ◌∙◌, ℕ, zero, suc, ◌+◌, ◌*◌, Bool, true, false, List, [], ◌∷◌, ℤ, pos, negsuc, arith}
+use Rattle.std.proofs.Common.{◌≡◌, ◌≤◌, inl, inr, refl, ap, ap₂, ℕ, Bool, true, false, List, [], ◌∷◌, ℤ, pos, negsuc, arith}
 use Rattle.std.proofs.lemmas.Bool.{cases_eq, cases_lt}
 
 abbrev pub IsStable : Type 0 → Type 0

@@ -1,5 +1,5 @@
 -- What is wrong with the owners of blocks, and with the blocks' bits.
-use Rattle.std.specs.Prelude.{◌≡◌, ◌≢◌, ◌<◌, ◌≤◌, ℕ, ◌+◌, ◌/◌, Bool, nat_lt, Some}
+use Rattle.std.specs.Prelude.{◌≢◌, ◌<◌, ◌≤◌, ℕ, ◌+◌, ◌/◌, Bool, nat_lt, Some}
 use Rattle.jfs_objects.specs.Objects.{Object}
 use Rattle.jfs_objects.specs.Owners.{owners, holds}
 use Rattle.jfs_check.specs.Subject.{Subject, blocks, volume, IsObject, IsFilePage}

@@ -1,12 +1,14 @@
 -- What findings tell.
-use Rattle.std.specs.Prelude.{◌≡◌, ◌≤◌, ◌<◌, ℕ, ◌+◌, List}
-use Rattle.jfs_bits.specs.declared.extent.Xad.{Xad}
+use Rattle.std.specs.Prelude.{◌≡◌, ℕ, Bool, List}
 use Rattle.jfs_bits.specs.declared.descriptor.Pxd.{Pxd}
-use Rattle.jfs_inode.specs.declared.fields.Dinode.{Dinode}
 use Rattle.jfs_super.specs.Rules.{IsAccepted, blocks_of}
 use Rattle.jfs_super.specs.declared.fields.Super.{Super}
+use Rattle.jfs_bmap.specs.MapFile.{IsMapPage}
+use Rattle.jfs_iag.specs.Canonical.{IsIagPage, IsControlPage}
+use Rattle.jfs_iag.specs.declared.canonical.Links.{Links}
 use Rattle.jfs_meaning.specs.Readers.{readers}
 use Rattle.jfs_check.specs.Subject.{Subject}
+use Rattle.jfs_check.specs.Maps.{IsMapPageAs, IsIagAs, IsInodeControlAs}
 use Rattle.jfs_check.specs.Clean.{HasNoFinding, IsSoundVolume}
 use Rattle.jfs_check.specs.Findings.{AreFindings}
 use Rattle.jfs_check.specs.declared.finding.Finding.{Finding}
@@ -23,3 +25,9 @@ pub record CleanLaw : Type 0 where
 -- There is one list of the findings at most.
 abbrev pub OneListLaw : Type 0
 OneListLaw = (s : Subject) (one other : List Finding) → AreFindings s one → AreFindings s other → one ≡ other
+
+-- What is compared of the maps' pages is a part of their canonical form: a canonical page passes.
+pub record CanonicalLaw : Type 0 where
+  pub block_map : (blocks agsize n : ℕ) (taken : ℕ → Bool) (page : List ℕ) → IsMapPage blocks agsize taken n page → IsMapPageAs blocks agsize taken n page
+  pub iag : (taken : ℕ → Bool) (extent : ℕ → Pxd) (number start : ℕ) (links : Links) (page : List ℕ) → IsIagPage taken extent number start links page → IsIagAs taken extent number page
+  pub control : (taken : ℕ → Bool) (extent : ℕ → Pxd) (iags numag : ℕ) (page : List ℕ) → IsControlPage taken extent iags numag page → IsInodeControlAs taken extent iags page

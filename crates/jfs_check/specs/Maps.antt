@@ -1,5 +1,5 @@
 -- What is wrong with the pages of the two maps: they aren't as the owners of blocks and the inodes in use say. (JFS Layout, block map and inode map.)
-use Rattle.std.specs.Prelude.{◌≡◌, ◌<◌, ℕ, zero, suc, ◌+◌, ◌-◌, ◌*◌, ◌/◌, ◌^◌, Bool, true, not, ◌||◌, nat_le, List, replicate, is_some}
+use Rattle.std.specs.Prelude.{◌≡◌, ◌<◌, ℕ, zero, suc, ◌+◌, ◌*◌, ◌/◌, ◌^◌, Bool, true, not, ◌||◌, nat_le, List, replicate, is_some}
 use Rattle.std.specs.Int.{cast_signed, w8}
 use Rattle.jfs_bits.specs.declared.descriptor.Pxd.{Pxd}
 use Rattle.jfs_bits.specs.Bits.{is_taken, greatest_run, count_below}

@@ -7,7 +7,6 @@ use Rattle.jfs_bits.specs.declared.rule.Rule.TheVariants as rules
 use Rattle.jfs_bits.specs.Broken.{Row, first_broken}
 use Rattle.jfs_bits.specs.Descriptor.{pxd_of}
 use Rattle.jfs_bits.specs.Field.{field_of}
-use Rattle.jfs_inode.specs.declared.fields.Dinode.{Dinode}
 use Rattle.jfs_inode.specs.Rules.{type_of}
 use Rattle.jfs_iag.specs.Canonical.{is_there}
 use Rattle.jfs_bmap.specs.MapFile.{pages_of}

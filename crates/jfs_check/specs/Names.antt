@@ -1,5 +1,5 @@
 -- What is wrong with names, link counts and parents.
-use Rattle.std.specs.Prelude.{◌≡◌, ◌≢◌, ℕ, Bool, true, false, not, ◌&&◌, List, ◌∷◌, ◌++◌, is_some, Option, option_map, Ok}
+use Rattle.std.specs.Prelude.{◌≡◌, ◌≢◌, ℕ, Bool, true, false, not, ◌&&◌, List, ◌∷◌, ◌++◌, is_some, option_map, Ok}
 use Rattle.jfs_name.specs.declared.name.NameEntry.{NameEntry}
 use Rattle.jfs_plain.specs.Tree.{Tree, root}
 use Rattle.jfs_plain.specs.declared.node.Node.{Node}

@@ -1,6 +1,6 @@
 //! What findings tell of a volume.
 
-ghost use Rattle.jfs_check.specs.Laws.{CleanLaw, OneListLaw};
+ghost use Rattle.jfs_check.specs.Laws.{CanonicalLaw, CleanLaw, OneListLaw};
 
 /// A volume without findings is a sound one, and a sound one has none.
 pub fn clean_volumes_are_sound()
@@ -10,4 +10,9 @@ pub fn clean_volumes_are_sound()
 /// A volume has one list of findings at most.
 pub fn findings_are_one_list()
     ensures { OneListLaw }
+{}
+
+/// A page of a map in its canonical form is no finding.
+pub fn canonical_pages_pass()
+    ensures { CanonicalLaw }
 {}
