@@ -23,6 +23,13 @@ unfolding entry_of
 entry_name true bytes slot = refl
 entry_name false bytes slot = refl
 
+pub names_listed : (form : DtForm) (bytes : List ℕ) → names_of form bytes ≡ map name_in (entries_of form bytes)
+names_listed form bytes = listed (is_leaf bytes) bytes (table_of form bytes)
+  where
+    listed : (leaf : Bool) (bytes xs : List ℕ) → map (name_of leaf bytes) xs ≡ map name_in (map (entry_of leaf bytes) xs)
+    listed leaf bytes [] = refl
+    listed leaf bytes (x ∷ xs) = rw (entry_name leaf bytes x, listed leaf bytes xs) refl
+
 -- entries whose slots are as they were
 pub all_same : (leaf : Bool) (old new : List ℕ) (xs : List ℕ) → ((k : ℕ) → 1 ≤ times k (flat_map (chain_of leaf old) xs) → SameSlot old new k) → AllByRecursion (SameEntry leaf old new) xs
 all_same leaf old new [] h = tt

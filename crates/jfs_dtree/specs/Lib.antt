@@ -4,3 +4,4 @@ pub mod Rules
 pub mod Node
 pub mod Laws
 pub mod Place
+pub mod Parts

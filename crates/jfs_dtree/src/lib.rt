@@ -8,6 +8,7 @@ mod form;
 mod lead;
 mod leaf;
 mod root;
+mod split_parts;
 
 pub use entry::{DirEntry, NameKey};
 pub use error::DtError;

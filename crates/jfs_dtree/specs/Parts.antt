@@ -1,0 +1,58 @@
+-- What a split leaves of a page. (JFS Layout, dtree: a key of a leaf is a front of a name.)
+use Rattle.std.specs.Prelude.{◌≡◌, ◌⊎◌, ◌<◌, ◌≤◌, ◌+◌, ◌==◌, if◌then◌else◌, ℕ, Bool, true, false, List, [], ◌∷◌, ◌++◌}
+use Rattle.std.specs.List.{insert}
+use Rattle.jfs_bits.specs.Field.{field_of}
+use Rattle.jfs_dtpage.specs.declared.head.DtForm.TheVariants.{Full}
+use Rattle.jfs_dtpage.specs.declared.head.Place.TheVariants.{OnVolume}
+use Rattle.jfs_dtpage.specs.Form.{head_of, is_leaf, free_of, linked, KeepsHead}
+use Rattle.jfs_dtpage.specs.Page.{Entry, entries_of, IsDtPage}
+use Rattle.jfs_dtpage.specs.Fill.{slots_of_entry, slots_in}
+
+-- with the next entry these take more than 70 slots
+abbrev pub TakesTooMuch : List Entry → List Entry → Type 0
+TakesTooMuch left [] = ⊥
+TakesTooMuch left (next ∷ more) = 70 < slots_in left + slots_of_entry next
+
+-- The left page keeps the longest front that takes 70 slots at most, and something is left for the right one.
+abbrev pub IsLongestFront : List Entry → List Entry → Type 0
+IsLongestFront left right = (slots_in left ≤ 70) × TakesTooMuch left right
+
+-- An entry that is to stand alone does so on the right page; else the left page keeps the longest front.
+abbrev pub IsParted : Bool → List Entry → Entry → List Entry → List Entry → Type 0
+IsParted true old e left right = (left ≡ old) × (right ≡ e ∷ [])
+IsParted false old e left right = IsLongestFront left right
+
+-- Page q, which is new, stands behind page n and before the page that was behind it.
+pub record AreNeighbours (n q : ℕ) (old left right : List ℕ) : Type 0 where
+  pub left_is : (head_of Full left).place ≡ linked q (field_of old 8 8) (head_of Full old).place
+  pub right_is : (head_of Full right).place ≡ OnVolume (field_of old 0 8) n 128 1 (record { len = 1; addr = q })
+
+-- The key of a right leaf: its first name, cut after the first unit in which it differs from the left leaf's last one.
+abbrev pub cut_key : List ℕ → List ℕ → List ℕ
+cut_key before [] = []
+cut_key [] (unit ∷ units) = unit ∷ []
+cut_key (other ∷ before) (unit ∷ units) = if other == unit then unit ∷ cut_key before units else unit ∷ []
+
+-- ---- for the prover alone
+
+-- two pages of one kind with these entries in order
+pub record ArePages (all : List Entry) (left right : List ℕ) : Type 0 where
+  pub left_sound : IsDtPage Full left
+  pub right_sound : IsDtPage Full right
+  pub kind : is_leaf right ≡ is_leaf left
+  pub rows : entries_of Full left ++ entries_of Full right ≡ all
+
+-- the last entry of one list is the first of the other
+pub record MovesLast (old_left old_right left right : List Entry) : Type 0 where
+  pub last : Entry
+  pub was : old_left ≡ left ++ last ∷ []
+  pub now : right ≡ last ∷ old_right
+  pub small : slots_of_entry last ≤ 18
+
+-- what moves of last entries leave, while the left page takes more than 70 slots
+pub record Sheds (old_left old_right left right : List ℕ) : Type 0 where
+  pub pages : ArePages (entries_of Full old_left ++ entries_of Full old_right) left right
+  pub head_left : KeepsHead Full old_left left
+  pub head_right : KeepsHead Full old_right right
+  pub few : free_of left ≤ 70
+  pub next : ((entries_of Full left ≡ entries_of Full old_left) × (entries_of Full right ≡ entries_of Full old_right)) ⊎ TakesTooMuch (entries_of Full left) (entries_of Full right)
