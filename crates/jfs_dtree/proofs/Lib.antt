@@ -5,3 +5,5 @@ pub mod Places
 pub mod Leading
 pub mod Lists
 pub mod Moves
+pub mod Down
+pub mod Keys

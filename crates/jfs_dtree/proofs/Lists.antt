@@ -1,8 +1,8 @@
 -- Lists in two parts, and one more among them.
-use Rattle.std.proofs.Common.{◌≡◌, ◌≤◌, ◌<◌, ◌+◌, ℕ, zero, suc, List, [], ◌∷◌, ◌++◌, length, map, get_or, refl, sym, ap, ◌∙◌, subst, arith}
+use Rattle.std.proofs.Common.{◌≡◌, ◌≤◌, ◌<◌, ◌+◌, ℕ, zero, suc, List, [], ◌∷◌, ◌++◌, length, map, take, get_or, refl, sym, ap, ◌∙◌, subst, arith}
 use Rattle.std.specs.Prelude.{slice_get, Some}
 use Rattle.std.specs.List.{insert, remove}
-use Rattle.std.proofs.lemmas.List.{get_or_append_left, get_or-append-add, length-append}
+use Rattle.std.proofs.lemmas.List.{get_or_append_left, get_or-append-add, get_or-take, length-append, length-take}
 use Rattle.std.proofs.lemmas.Option.{same_Some}
 use Rattle.jfs_dtpage.specs.Order.{IsBefore, name_at, IsRising, GoesAt}
 
@@ -47,6 +47,11 @@ last_moves (y ∷ z ∷ xs) x zero e is = absurd (wrong (length xs) e)
     wrong n e = omega (arith, e)
 last_moves (y ∷ xs) x (suc n) e is = ap (λ (z : List _). y ∷ z) (last_moves xs x n (omega (arith, e)) is)
 
+pub take_more : {X : Type 0} (xs : List X) (p : ℕ) (x : X) → slice_get xs p ≡ Some x → insert (take p xs) p x ≡ take (suc p) xs
+take_more [] p x is = absurd cc
+take_more (y ∷ xs) zero x is = ap (λ (z : _). z ∷ []) (sym (same_Some y x is))
+take_more (y ∷ xs) (suc p) x is = ap (λ (z : List _). y ∷ z) (take_more xs p x is)
+
 pub regroup : {X : Type 0} (a b : List X) (x : X) → a ++ x ∷ b ≡ (a ++ x ∷ []) ++ b
 regroup [] b x = refl
 regroup (y ∷ a) b x = ap (λ (z : List _). y ∷ z) (regroup a b x)
@@ -75,3 +80,14 @@ goes_back a b p m name e g = record {
   before = λ i l. subst (λ (n : List ℕ). IsBefore n name) (get_or-append-add a b i []) (g.before (length a + i) (omega (arith, l, e)));
   behind = λ i h l. subst (IsBefore name) (get_or-append-add a b i []) (g.behind (length a + i) (omega (arith, h, e)) (let n = length-append a b in omega (arith, n, l)));
 }
+
+-- a name goes behind those before it
+pub goes_last : (names : List (List ℕ)) (p : ℕ) → p < length names → IsRising names → GoesAt (take p names) p (name_at names p)
+goes_last names p h rising = record {
+  within = (let n = length-take p names in omega (arith, n, h));
+  before = λ i l. subst (λ (n : List ℕ). IsBefore n (name_at names p)) (sym (get_or-take p names i [] l)) (rising i p l h);
+  behind = λ i m l. absurd (let n = length-take p names in wrong i p (length (take p names)) m l (omega (arith, n)));
+}
+  where
+    wrong : (i p n : ℕ) → p ≤ i → i < n → n ≤ p → ⊥
+    wrong i p n a b c = omega (arith, a, b, c)

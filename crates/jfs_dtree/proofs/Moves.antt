@@ -55,7 +55,7 @@ some_slots (e ∷ es) h = tt
 pub some_entries : (bytes : List ℕ) → IsDtPage Full bytes → free_of bytes ≤ 70 → IsCons (entries_of Full bytes)
 some_entries bytes page few = some_slots (entries_of Full bytes) (let a = filled Full bytes page in omega (arith, a, few))
 
-cons_some : (es : List Entry) → IsCons es → 0 < length es
+pub cons_some : (es : List Entry) → IsCons es → 0 < length es
 cons_some [] c = absurd c
 cons_some (e ∷ es) c = omega arith
 

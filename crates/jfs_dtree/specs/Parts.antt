@@ -1,11 +1,15 @@
 -- What a split leaves of a page. (JFS Layout, dtree: a key of a leaf is a front of a name.)
-use Rattle.std.specs.Prelude.{◌≡◌, ◌⊎◌, ◌<◌, ◌≤◌, ◌+◌, ◌==◌, if◌then◌else◌, ℕ, Bool, true, false, List, [], ◌∷◌, ◌++◌}
+use Rattle.std.specs.Prelude.{◌≡◌, ◌⊎◌, ◌<◌, ◌≤◌, ◌+◌, ◌-◌, ◌==◌, ◌&&◌, if◌then◌else◌, ℕ, Bool, true, false, List, [], ◌∷◌, ◌++◌}
 use Rattle.std.specs.List.{insert}
+use Rattle.std.specs.Ordering.{is_lt, nat_cmp}
+use Rattle.std.specs.Cmp.Lexicographic.{slice_cmp}
 use Rattle.jfs_bits.specs.Field.{field_of}
+use Rattle.jfs_name.specs.declared.name.NameEntry.{NameEntry}
 use Rattle.jfs_dtpage.specs.declared.head.DtForm.TheVariants.{Full}
 use Rattle.jfs_dtpage.specs.declared.head.Place.TheVariants.{OnVolume}
-use Rattle.jfs_dtpage.specs.Form.{head_of, is_leaf, free_of, linked, KeepsHead}
-use Rattle.jfs_dtpage.specs.Page.{Entry, entries_of, IsDtPage}
+use Rattle.jfs_dtpage.specs.Form.{head_of, is_leaf, count_of, free_of, linked, KeepsHead}
+use Rattle.jfs_dtpage.specs.Order.{name_at, GoesAt}
+use Rattle.jfs_dtpage.specs.Page.{Entry, Named, Below, name_in, entries_of, names_of, IsDtPage}
 use Rattle.jfs_dtpage.specs.Fill.{slots_of_entry, slots_in}
 
 -- with the next entry these take more than 70 slots
@@ -32,6 +36,23 @@ abbrev pub cut_key : List ℕ → List ℕ → List ℕ
 cut_key before [] = []
 cut_key [] (unit ∷ units) = unit ∷ []
 cut_key (other ∷ before) (unit ∷ units) = if other == unit then unit ∷ cut_key before units else unit ∷ []
+
+-- A name joins a leaf that becomes two: the entries in two parts, the pages beside each other, and the key.
+pub record SplitsLeaf (n q : ℕ) (last : Bool) (x : NameEntry) (old left right : List ℕ) (key : List ℕ) : Type 0 where
+  pub place : ℕ
+  pub goes : GoesAt (names_of Full old) place x.name
+  pub parted : IsParted (last && place == count_of old) (entries_of Full old) (Named x.inode x.name) (entries_of Full left) (entries_of Full right)
+  pub neighbours : AreNeighbours n q old left right
+  pub key_is : key ≡ cut_key (name_at (names_of Full left) (count_of left - 1)) (name_at (names_of Full right) 0)
+
+-- the first entry's key is empty, where it isn't lower than a key
+abbrev pub emptied : Entry → Entry
+emptied (Named inode name) = Named inode []
+emptied (Below at key) = Below at []
+
+abbrev pub lowered : List ℕ → List Entry → List Entry
+lowered key [] = []
+lowered key (e ∷ es) = (if is_lt (slice_cmp nat_cmp (name_in e) key) then e else emptied e) ∷ es
 
 -- ---- for the prover alone
 

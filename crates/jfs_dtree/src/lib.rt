@@ -7,7 +7,9 @@ mod error;
 mod form;
 mod lead;
 mod leaf;
+mod move_down;
 mod root;
+mod split;
 mod split_parts;
 
 pub use entry::{DirEntry, NameKey};

@@ -13,7 +13,10 @@ ghost use Rattle.jfs_tree.specs.Edit.{IsCons};
 ghost use Rattle.jfs_dtree.specs.Parts.{IsParted, IsLongestFront, AreNeighbours, ArePages, MovesLast, Sheds};
 
 use jfs_bits::{Pxd, get_u64};
-use jfs_dtpage::{DtEntry, DtForm, count_of, dt_child, dt_inode, dt_insert, dt_link, dt_name, dt_new, dt_remove, free_of, is_leaf};
+use jfs_dtpage::{
+    DtEntry, DtForm, count_of, dt_child, dt_inode, dt_insert, dt_link, dt_name, dt_new, dt_remove,
+    free_of, is_leaf,
+};
 
 /// With fewer free slots than these a page, which has 123, takes more than 70.
 const LEAST_FREE: u8 = 53;
