@@ -1,7 +1,7 @@
 -- Keys between two leaves.
-use Rattle.std.proofs.Common.{◌≡◌, ◌≤◌, ◌<◌, ◌⊎◌, ◌+◌, ◌-◌, inl, inr, refl, sym, ap, ◌∙◌, subst, ℕ, zero, suc, Bool, true, false, List, [], ◌∷◌, ◌++◌, length, map, Option, Some, ◌==◌, if◌then◌else◌, arith}
+use Rattle.std.proofs.Common.{◌≡◌, ◌⊎◌, ◌-◌, inl, inr, refl, sym, ap, ◌∙◌, subst, ℕ, zero, suc, Bool, true, false, List, [], ◌∷◌, ◌++◌, length, map, Option, Some, ◌==◌, arith}
 use Rattle.std.specs.List.{insert}
-use Rattle.std.specs.Ordering.{nat_cmp, ordering_then, MatchOrdering}
+use Rattle.std.specs.Ordering.{nat_cmp, ordering_then}
 use Rattle.std.specs.Cmp.{tied_itself, nat_cmp_total, ranked}
 use Rattle.std.specs.Cmp.Lexicographic.{slice_cmp}
 use Rattle.std.specs.declared.cmp.Ordering.{Ordering}
@@ -12,10 +12,10 @@ use Rattle.jfs_name.specs.declared.name.NameEntry.{NameEntry}
 use Rattle.jfs_dtpage.specs.declared.head.DtForm.TheVariants.{Full}
 use Rattle.jfs_dtpage.specs.Form.{is_leaf, count_of}
 use Rattle.jfs_dtpage.specs.Order.{IsBefore, IsRising, GoesAt, name_at}
-use Rattle.jfs_dtpage.specs.Page.{Entry, Named, name_in, entries_of, names_of}
+use Rattle.jfs_dtpage.specs.Page.{Named, name_in, entries_of, names_of}
 use Rattle.jfs_dtpage.proofs.Pages.{names_length}
 use Rattle.jfs_tree.specs.Walk.{Leaf, Rises, Row}
-use Rattle.jfs_tree.specs.Edit.{IsCons, PartsRows, FitsFirst, with_entry}
+use Rattle.jfs_tree.specs.Edit.{IsCons, FitsFirst, with_entry}
 use Rattle.jfs_tree.specs.Form.{SplitsRows}
 use Rattle.jfs_dtree.specs.Node.{not_after, name_scale, named, dt_node}
 use Rattle.jfs_dtree.specs.Laws.{next_of, next_after, before_up, name_refl}

@@ -1,4 +1,4 @@
-use Rattle.std.proofs.Common.{◌≤◌, length, ◌∙◌, arith}
+use Rattle.std.proofs.Common.{◌∙◌, arith}
 use Rattle.std.proofs.lemmas.List.{take_all}
 use Rattle.jfs_dtpage.specs.declared.head.DtForm.TheVariants.{Root}
 use Rattle.jfs_dtpage.specs.Page.{entries_of}

@@ -1,4 +1,4 @@
-use Rattle.std.proofs.Common.{◌≡◌, [], ◌∙◌}
+use Rattle.std.proofs.Common.{◌∙◌}
 use Rattle.jfs_dtpage.specs.declared.head.DtForm.TheVariants.{Root}
 use Rattle.jfs_dtree.proofs.Moves.{kept_leaf}
 use Rattle.jfs_dtree.proofs.Down.{moved_leaf, moved_inner, moved_room, root_left}

@@ -1,8 +1,8 @@
-use Rattle.std.proofs.Common.{◌≡◌, ◌≤◌, ◌-◌, ◌++◌, ◌∷◌, [], ℕ, suc, List, length, sym, ap, ◌∙◌, subst, arith}
+use Rattle.std.proofs.Common.{◌≡◌, ◌-◌, ◌++◌, ◌∷◌, [], suc, List, length, sym, ap, ◌∙◌, subst, arith}
 use Rattle.std.proofs.lemmas.List.{length-take}
 use Rattle.jfs_dtpage.specs.declared.head.DtForm.TheVariants.{Full}
 use Rattle.jfs_dtpage.specs.Order.{IsRising, GoesAt}
-use Rattle.jfs_dtpage.specs.Page.{Entry, entries_of, names_of, name_in}
+use Rattle.jfs_dtpage.specs.Page.{Entry, entries_of, names_of}
 use Rattle.jfs_dtpage.specs.Given.{given}
 use Rattle.jfs_dtpage.proofs.Pages.{names_length}
 use Rattle.jfs_dtree.specs.Parts.{MovesLast}

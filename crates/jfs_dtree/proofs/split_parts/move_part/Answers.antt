@@ -1,8 +1,8 @@
-use Rattle.std.proofs.Common.{◌≡◌, ◌≤◌, ◌++◌, ℕ, List, sym, ap, ◌∙◌, arith}
+use Rattle.std.proofs.Common.{◌++◌, List, ap, ◌∙◌, arith}
 use Rattle.jfs_dtpage.specs.declared.head.DtForm.TheVariants.{Full}
 use Rattle.jfs_dtpage.specs.Page.{Entry, entries_of}
 use Rattle.jfs_dtpage.specs.Given.{given}
-use Rattle.jfs_dtree.proofs.Moves.{entries_count, kept_leaf, small_entry, some_entries, too_much_some, empty_free, alone, first_there}
+use Rattle.jfs_dtree.proofs.Moves.{entries_count, kept_leaf, small_entry, some_entries, empty_free, alone, first_there}
 use Rattle.jfs_dtree.proofs.split_parts.move_part.Goals as goal
 
 pub insert-requires-clause-room : goal.insert-requires-clause-room

@@ -1,8 +1,7 @@
-use Rattle.std.proofs.Common.{◌≤◌, ◌<◌, ◌+◌, length, arith}
+use Rattle.std.proofs.Common.{arith}
 use Rattle.jfs_dtpage.specs.declared.head.DtForm.TheVariants.{Full}
-use Rattle.jfs_dtpage.specs.Form.{count_of, free_of}
 use Rattle.jfs_dtpage.specs.Page.{entries_of}
-use Rattle.jfs_dtree.proofs.Moves.{entries_count, some_count, moves_fewer, sheds_none, sheds_more, room_behind}
+use Rattle.jfs_dtree.proofs.Moves.{entries_count, some_count, moves_fewer, sheds_more, room_behind}
 use Rattle.jfs_dtree.proofs.split_parts.shed.Goals as goal
 
 pub move_last-requires-clause-some : goal.move_last-requires-clause-some

@@ -1,4 +1,4 @@
-use Rattle.std.proofs.Common.{◌≡◌, ℕ, length}
+use Rattle.std.proofs.Common.{◌≡◌, length}
 use Rattle.jfs_dtpage.specs.Form.{count_of}
 use Rattle.jfs_dtree.specs.Parts.{Sheds}
 use Rattle.jfs_dtree.proofs.split_parts.shed.Given as goal

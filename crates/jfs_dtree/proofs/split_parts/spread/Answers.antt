@@ -1,9 +1,7 @@
-use Rattle.std.proofs.Common.{◌≡◌, ◌≤◌, ◌<◌, ◌+◌, ◌-◌, ◌++◌, ℕ, List, length, map, sym, ap, ◌∙◌, subst, arith}
-use Rattle.std.specs.List.{insert}
+use Rattle.std.proofs.Common.{◌-◌, ℕ, List, map, sym, ◌∙◌, subst, arith}
 use Rattle.jfs_dtpage.specs.declared.head.DtForm.TheVariants.{Full}
-use Rattle.jfs_dtpage.specs.Form.{count_of, free_of}
 use Rattle.jfs_dtpage.specs.Order.{IsRising, GoesAt}
-use Rattle.jfs_dtpage.specs.Page.{Entry, entries_of, names_of, name_in}
+use Rattle.jfs_dtpage.specs.Page.{Entry, names_of, name_in}
 use Rattle.jfs_dtpage.specs.Given.{given}
 use Rattle.jfs_dtpage.proofs.Pages.{names_length}
 use Rattle.jfs_dtree.proofs.Lists.{goes_front, goes_back}
