@@ -2,3 +2,14 @@ pub mod Stays
 pub mod Changed
 pub mod New
 pub mod Free
+pub mod Books
+pub mod Appear
+pub mod Found
+pub mod Moves
+pub mod Same
+pub mod Reached
+pub mod Makes
+pub mod Unlinks
+pub mod Departs
+pub mod Renames
+pub mod Steps

@@ -8,7 +8,7 @@ use Rattle.jfs_plain.specs.Moves.{Same, new_directory}
 use Rattle.jfs_plain.specs.Plain.{new_tree}
 use Rattle.jfs_plain.specs.declared.node.Node.{Node}
 use Rattle.jfs_objects.specs.Owners.{sum_below}
-use Rattle.jfs_meaning.specs.Consistent.{is_reserved, leading_to, names_in, names_to, links_due, AreLed, IsConsistentTree}
+use Rattle.jfs_meaning.specs.Consistent.{is_reserved, leading_to, names_in, links_due, IsConsistentTree}
 use Rattle.jfs_meaning.specs.Laws.{NewTreeLaw}
 
 pub sum_zero : (n : ℕ) (f : ℕ → ℕ) → ((k : ℕ) → f k ≡ 0) → sum_below n f ≡ 0
@@ -39,9 +39,6 @@ module _ (most : ℕ) (now : Moment) (t : Tree) (room : 4 ≤ most) (same : Same
       early (suc (suc (suc zero))) l = refl
       early (suc (suc (suc (suc n)))) l = absurd (omega (arith, l))
 
-  unnamed : (n : ℕ) → names_to most t n ≡ 0
-  unnamed n = sum_zero most (λ dir. leading_to n (names_in (t.nodes dir))) (λ dir. ap (leading_to n) (no_names dir))
-
   -- the root alone has no reserved number
   is_root : (n : ℕ) (o : Node) → t.nodes n ≡ Some o → is_reserved n ≡ false → n ≡ root
   is_root n o there free = elim (cases_lt n 4) [ inl l ↦ early n l free | inr l ↦ absurd (cc (there, none_late n l)) ]
@@ -62,10 +59,11 @@ module _ (most : ℕ) (now : Moment) (t : Tree) (room : 4 ≤ most) (same : Same
   pub consistent : IsConsistentTree most t
   consistent = record {
     within = λ n l. none_late n (omega (arith, room, l));
-    top = (new_directory 493 root now, record { there = same.nodes root; directory = refl; parent = refl; unnamed = unnamed root });
-    names = λ dir. subst (AreLed t) (sym (no_names dir)) tt;
+    top = (new_directory 493 root now, record { there = same.nodes root; directory = refl; parent = refl });
+    files = λ n o there file. ap names_in (sym there) ∙ no_names n;
+    names = λ dir n l. (let z = ap (leading_to n) (no_names dir) in absurd (omega (arith, l, z)));
     links = λ n o there free. (let e = is_root n o there free in subst (λ (o : Node). o.links ≡ links_due most t n o) (root_is o (sym (ap t.nodes e) ∙ there)) refl);
-    parents = λ n o there dir free apart. absurd (apart (is_root n o there free));
+    parents = λ n o there dir late. absurd (cc (there, none_late n late));
   }
 
 pub new_tree_consistent : NewTreeLaw

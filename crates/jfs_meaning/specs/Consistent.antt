@@ -1,5 +1,5 @@
 -- A consistent tree, and a consistent volume. (POSIX: directory hierarchy, link count. JFS: a directory has 2 links and one more for each subdirectory.)
-use Rattle.std.specs.Prelude.{◌≡◌, ◌≢◌, ◌≤◌, ℕ, ◌+◌, ◌==◌, ◌||◌, Bool, true, false, if◌then◌else◌, List, [], ◌∷◌, is_some, Option, Some, None}
+use Rattle.std.specs.Prelude.{◌≡◌, ◌≤◌, ◌<◌, ℕ, ◌+◌, ◌==◌, ◌||◌, Bool, true, false, if◌then◌else◌, List, [], count_by, is_some, Option, Some, None}
 use Rattle.jfs_bits.specs.Broken.{first_broken}
 use Rattle.jfs_inode.specs.Rules.{rows}
 use Rattle.jfs_name.specs.declared.name.NameEntry.{NameEntry}
@@ -19,16 +19,19 @@ is_reserved n = n == 0 || n == 1 || n == 3
 
 -- how many of these names lead to an inode
 abbrev pub leading_to : ℕ → List NameEntry → ℕ
-leading_to n [] = 0
-leading_to n (e ∷ es) = bit (e.inode == n) + leading_to n es
+leading_to n es = count_by (λ e. e.inode == n) es
 
 abbrev pub names_in : Option Node → List NameEntry
 names_in None = []
 names_in (Some o) = o.names
 
--- how many names of all directories do, where all inodes have lower numbers than `most`
+-- how many names of a directory do
+abbrev pub names_for : Tree → ℕ → ℕ → ℕ
+names_for t dir n = leading_to n (names_in (t.nodes dir))
+
+-- and of all directories, where all inodes have lower numbers than `most`
 abbrev pub names_to : ℕ → Tree → ℕ → ℕ
-names_to most t n = sum_below most (λ dir. leading_to n (names_in (t.nodes dir)))
+names_to most t n = sum_below most (λ dir. names_for t dir n)
 
 abbrev pub is_directory : Option Node → Bool
 is_directory None = false
@@ -36,8 +39,7 @@ is_directory (Some o) = is_dir o.kind
 
 -- how many of these names lead to directories
 abbrev pub subdirectories : Tree → List NameEntry → ℕ
-subdirectories t [] = 0
-subdirectories t (e ∷ es) = bit (is_directory (t.nodes e.inode)) + subdirectories t es
+subdirectories t es = count_by (λ e. is_directory (t.nodes e.inode)) es
 
 -- the link count that an object should have
 abbrev pub links_due : ℕ → Tree → ℕ → Node → ℕ
@@ -45,29 +47,28 @@ links_due most t n o = if is_dir o.kind then 2 + subdirectories t o.names else n
 
 -- ---- a consistent tree
 
--- each name of a directory leads to an object that isn't reserved
-abbrev pub AreLed : Tree → List NameEntry → Type 0
-AreLed t [] = Unit {0}
-AreLed t (e ∷ es) = (is_some (t.nodes e.inode) ≡ true) × (is_reserved e.inode ≡ false) × AreLed t es
+-- Objects from 4 on have names; the reserved ones and the root have none.
+abbrev pub MayBeNamed : Tree → ℕ → Type 0
+MayBeNamed t n = (4 ≤ n) × (is_some (t.nodes n) ≡ true)
 
--- a directory that isn't the root has one name, which its parent has
-pub record HasItsName (most : ℕ) (t : Tree) (n : ℕ) (o : Node) : Type 0 where
-  pub one : names_to most t n ≡ 1
-  pub by_parent : leading_to n (names_in (t.nodes o.parent)) ≡ 1
+-- one name, in its parent
+abbrev pub HasItsName : Tree → ℕ → Node → Type 0
+HasItsName t n o = (dir : ℕ) → names_for t dir n ≡ bit (dir == o.parent)
 
--- the root is a directory without a name, and its own parent
-pub record IsRoot (most : ℕ) (t : Tree) (o : Node) : Type 0 where
+-- the root is a directory, and its own parent
+pub record IsRoot (t : Tree) (o : Node) : Type 0 where
   pub there : t.nodes root ≡ Some o
   pub directory : is_dir o.kind ≡ true
   pub parent : o.parent ≡ root
-  pub unnamed : names_to most t root ≡ 0
 
 pub record IsConsistentTree (most : ℕ) (t : Tree) : Type 0 where
   pub within : (n : ℕ) → most ≤ n → t.nodes n ≡ None
-  pub top : (o : Node) × IsRoot most t o
-  pub names : (dir : ℕ) → AreLed t (names_in (t.nodes dir))
+  pub top : (o : Node) × IsRoot t o
+  -- only directories have names, and each leads to an object that may have one
+  pub files : (n : ℕ) (o : Node) → t.nodes n ≡ Some o → is_dir o.kind ≡ false → o.names ≡ []
+  pub names : (dir n : ℕ) → 0 < names_for t dir n → MayBeNamed t n
   pub links : (n : ℕ) (o : Node) → t.nodes n ≡ Some o → is_reserved n ≡ false → o.links ≡ links_due most t n o
-  pub parents : (n : ℕ) (o : Node) → t.nodes n ≡ Some o → is_dir o.kind ≡ true → is_reserved n ≡ false → n ≢ root → HasItsName most t n o
+  pub parents : (n : ℕ) (o : Node) → t.nodes n ≡ Some o → is_dir o.kind ≡ true → 4 ≤ n → HasItsName t n o
 
 -- ---- a consistent volume
 

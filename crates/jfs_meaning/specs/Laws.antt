@@ -1,12 +1,15 @@
 -- What edits of one object do to the tree.
-use Rattle.std.specs.Prelude.{◌≡◌, ◌≢◌, ◌≤◌, ℕ, not, false, List, Option, Some, None}
+use Rattle.std.specs.Prelude.{◌≡◌, ◌≢◌, ◌≤◌, ◌<◌, ℕ, not, false, List, Option, Some, None}
 use Rattle.jfs_bits.specs.Bits.{count_below}
 use Rattle.jfs_bits.specs.declared.descriptor.Moment.{Moment}
 use Rattle.jfs_inode.specs.declared.fields.Dinode.{Dinode}
 use Rattle.jfs_plain.specs.Tree.{Tree}
 use Rattle.jfs_plain.specs.Moves.{Same}
 use Rattle.jfs_plain.specs.Plain.{new_tree}
+use Rattle.jfs_plain.specs.Step.{Room, PlainStep}
+use Rattle.jfs_plain.specs.declared.call.Call.{Call}
 use Rattle.jfs_plain.specs.declared.node.Node.{Node}
+use Rattle.jfs_plain.specs.declared.reply.Reply.{Reply}
 use Rattle.jfs_objects.specs.Readers.{Readers}
 use Rattle.jfs_objects.specs.Volume.{Volume}
 use Rattle.jfs_objects.specs.Objects.{Object, objects, spelled}
@@ -47,6 +50,15 @@ DataTreeLaw = (r : Readers) (v w : Volume) (n : ℕ) → IsSound r v → WritesD
 -- Where maps agree, the blocks without an owner are those that aren't in use.
 abbrev pub FreeLaw : Type 0
 FreeLaw = (r : Readers) (v : Volume) (blocks : ℕ) → Agrees r v → free_blocks r v blocks ≡ count_below blocks (λ b. not (v.used b))
+
+-- The number for a new object is free, and may have a name.
+abbrev pub IsFresh : ℕ → Tree → Option ℕ → Type 0
+IsFresh most t None = Unit {0}
+IsFresh most t (Some n) = (4 ≤ n) × (n < most) × (t.nodes n ≡ None)
+
+-- A call keeps a tree consistent.
+abbrev pub StepLaw : Type 0
+StepLaw = (most : ℕ) (t u : Tree) (room : Room) (call : Call) (now : Moment) (reply : Reply) → IsConsistentTree most t → IsFresh most t room.inode → PlainStep t room call now reply u → IsConsistentTree most u
 
 -- The tree of a new volume is consistent.
 abbrev pub NewTreeLaw : Type 0

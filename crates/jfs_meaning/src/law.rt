@@ -1,6 +1,6 @@
 //! Laws of a volume's tree.
 
-ghost use Rattle.jfs_meaning.specs.Laws.{SetTreeLaw, DropTreeLaw, ExtentTreeLaw, DataTreeLaw, FreeLaw, NewTreeLaw};
+ghost use Rattle.jfs_meaning.specs.Laws.{SetTreeLaw, DropTreeLaw, ExtentTreeLaw, DataTreeLaw, FreeLaw, NewTreeLaw, StepLaw};
 
 /// Setting an object, or making one, changes its node and its contents alone.
 pub fn one_node_is_set()
@@ -30,4 +30,9 @@ pub fn free_blocks_are_unused()
 /// The tree of a new volume is consistent.
 pub fn new_trees_are_consistent()
     ensures { NewTreeLaw }
+{}
+
+/// Every call keeps a tree consistent, whatever it is answered.
+pub fn calls_keep_trees_consistent()
+    ensures { StepLaw }
 {}

@@ -4,6 +4,6 @@
 mod law;
 
 pub use law::{
-    data_leaves_nodes, free_blocks_are_unused, inode_extent_leaves_the_tree,
-    new_trees_are_consistent, one_node_goes, one_node_is_set,
+    calls_keep_trees_consistent, data_leaves_nodes, free_blocks_are_unused,
+    inode_extent_leaves_the_tree, new_trees_are_consistent, one_node_goes, one_node_is_set,
 };
