@@ -29,7 +29,7 @@ cut_at bytes i h =
 pub length_front : (bytes : List ℕ) (i : ℕ) → i < count_of bytes → length (take i (entries_of bytes)) ≡ i
 length_front bytes i h = let l = length-entries bytes 0 (count_of bytes) in length-take-le i (entries_of bytes) (omega (arith, h, l))
 
-map_cut : (a : List Xad) (e : Xad) (b : List Xad) → map child_of (a ++ e ∷ b) ≡ map child_of a ++ child_of e ∷ map child_of b
+pub map_cut : (a : List Xad) (e : Xad) (b : List Xad) → map child_of (a ++ e ∷ b) ≡ map child_of a ++ child_of e ∷ map child_of b
 map_cut [] e b = refl
 map_cut (x ∷ a) e b = ap (λ cs. child_of x ∷ cs) (map_cut a e b)
 

@@ -8,3 +8,10 @@ pub mod Forms
 pub mod Runs
 pub mod Roots
 pub mod Adds
+pub mod CutFrees
+pub mod CutRows
+pub mod CutWalks
+pub mod CutInners
+pub mod CutSteps
+pub mod CutTold
+pub mod CutRoots

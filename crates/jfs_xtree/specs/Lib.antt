@@ -4,3 +4,5 @@ pub mod Adding
 pub mod Node
 pub mod Errors
 pub mod Laws
+pub mod Cutting
+pub mod CutParts

@@ -2,7 +2,11 @@
 #![tactic(auto)]
 
 mod check;
+mod free_below;
 mod children;
+mod cut_leaf;
+mod cut_page;
+mod cutting;
 mod error;
 mod find;
 mod form;
@@ -12,6 +16,7 @@ mod parts;
 mod place;
 mod root;
 
+pub use cutting::cut_to;
 pub use error::XtError;
 pub use find::lookup;
 pub use form::XtPages;

@@ -1,0 +1,304 @@
+-- A whole tree that is cut at a block of the file, seen from the transaction.
+use Rattle.std.proofs.Common.{◌≡◌, ◌≢◌, ◌≤◌, ◌<◌, ◌⊎◌, inl, inr, refl, sym, ap, ◌∙◌, subst, ℕ, zero, suc, ◌+◌, ◌*◌, ◌/◌, ◌%◌, ◌==◌, ◌||◌, Bool, true, false, if◌then◌else◌, List, [], ◌∷◌, ◌++◌, map, length, Option, Some, None, Result, Ok, Err, OnOk, IfOk, arith}
+use Rattle.std.specs.Prelude.{nat_le}
+use Rattle.std.proofs.lemmas.Bool.{eqb-true, lt-leb, le-leb}
+use Rattle.std.proofs.lemmas.Bool.Decides.{nat_tests}
+use Rattle.jfs_bits.specs.declared.extent.Xad.{Xad}
+use Rattle.jfs_bits.specs.declared.descriptor.Pxd.{Pxd}
+use Rattle.jfs_disk.specs.Image.{Image, page_of}
+use Rattle.jfs_ranges.specs.declared.edit.Edit.{Edit}
+use Rattle.jfs_tree.specs.Walk.{Child, Node, Leaf, Inner, Broken, Page, Key, Marks, Rises, rows_of, times, placed, body, walk}
+use Rattle.jfs_tree.specs.Spells.{no_page, with_root, top, tree_of, spells, footprint}
+use Rattle.jfs_tree.specs.Edit.{count_in, IsPast}
+use Rattle.jfs_bits.specs.declared.rule.Rule.{Rule}
+use Rattle.jfs_tree.specs.Form.{LeadsDown}
+use Rattle.jfs_tree.specs.Root.{NamesBroken}
+use Rattle.jfs_tree.specs.Call.{nodes}
+use Rattle.jfs_tree.specs.Draft.{shown}
+use Rattle.jfs_tree.specs.Tell.{TellsDraft}
+use Rattle.jfs_tree.specs.declared.draft.Drafted.{Drafted}
+use Rattle.jfs_tree.specs.declared.form.TreeError.{TreeError}
+use Rattle.jfs_tree.specs.declared.form.TreeError.TheVariants.{View, Bad, Memory}
+use Rattle.jfs_tree.proofs.Frame.{frame, same_body}
+use Rattle.jfs_tree.proofs.Once.{each_once}
+use Rattle.jfs_tree.proofs.Spelled.{Stands, stands, tree_rises, spelled}
+use Rattle.jfs_tree.proofs.Tops.{root_else, page_or}
+use Rattle.jfs_tree.proofs.Footprint.{spells_frame, footprint_frame}
+use Rattle.jfs_tree.proofs.Within.{footprint_within}
+use Rattle.jfs_tree.proofs.RootCalls.{names_root, names_below}
+use Rattle.jfs_xtpage.specs.declared.head.XtForm.{XtForm}
+use Rattle.jfs_xtpage.specs.declared.head.XtForm.TheVariants.{Root, Full, Small}
+use Rattle.jfs_xtpage.specs.declared.head.XtHead.{XtHead}
+use Rattle.jfs_xtpage.specs.Page.{head_of, entries_of, count_of, end_of, rises_from, kind_flag}
+use Rattle.jfs_xtpage.proofs.Entries.{length-entries}
+use Rattle.jfs_xtree.specs.Laws.{order, ends_after}
+use Rattle.jfs_xtree.specs.Node.{xt_scale, xt_node, fits_flag, fits_max, is_leaf, child_of, all_within, IsSound, SameKind}
+use Rattle.jfs_xtree.specs.Spells.{root_form, root_node, page_nodes, tree_error}
+use Rattle.jfs_xtree.specs.Errors.{handed_on}
+use Rattle.jfs_xtree.specs.Adding.{EndsWith, LeadsTo, after_tx}
+use Rattle.jfs_xtree.specs.Cutting.{kept_below, gone_past, page_frees, run_frees, HasOnlyBelow, CutsExtents}
+use Rattle.jfs_xtree.specs.CutParts.{CutPart, CutsNode, BreaksUnder, KeepsSome, naming, shows, if_kept}
+use Rattle.jfs_xtree.proofs.Reading.{leaf_is, sound_leaf, sound_inner}
+use Rattle.jfs_xtree.proofs.Pages.{rises_less, rises_back}
+use Rattle.jfs_xtree.proofs.Inners.{map_cut}
+use Rattle.jfs_xtree.proofs.Adds.{has_pages}
+use Rattle.jfs_xtree.proofs.CutInners.{differs, here_zero}
+
+-- ---- the root of a tree that was cut
+
+record RootCut (bound : ℕ) (before after : ℕ → Node ℕ Xad) (es : List Xad) (root new : Node ℕ Xad) (freed : List ℕ) (runs : List Pxd) : Type 0 where
+  spelled : spells xt_scale after new ≡ Ok (kept_below bound es)
+  gone : runs ≡ gone_past bound es
+  owned : (n : ℕ) → footprint xt_scale after new n + count_in n freed ≡ footprint xt_scale before root n
+  keeps : (n : ℕ) → n ≢ no_page → footprint xt_scale after new n ≡ 0 → after n ≡ before n
+
+foot : (pages : ℕ → Node ℕ Xad) (root : Node ℕ Xad) (n : ℕ) → n ≢ no_page → footprint xt_scale pages root n ≡ times n (tree_of xt_scale pages root)
+unfolding footprint
+foot pages root n ne = by (n == no_page) refl
+  where
+    by : (b : Bool) → (n == no_page) ≡ b → (if b then 0 else times n (tree_of xt_scale pages root)) ≡ times n (tree_of xt_scale pages root)
+    by true e = absurd (ne (eqb-true n no_page e))
+    by false e = refl
+
+no_foot : (pages : ℕ → Node ℕ Xad) (root : Node ℕ Xad) → footprint xt_scale pages root no_page ≡ 0
+unfolding footprint
+no_foot pages root = refl
+
+spells_none : (pages : ℕ → Node ℕ Xad) → spells xt_scale pages (Leaf []) ≡ Ok []
+unfolding spells
+spells_none pages = refl
+
+not_named : (n : ℕ) → n ≢ no_page → times {P = ℕ} {E = Xad} n (Page no_page ∷ []) ≡ 0
+not_named n ne = by (no_page == n) refl
+  where
+    by : (b : Bool) → (no_page == n) ≡ b → (if b then 1 else 0) + 0 ≡ 0
+    by true e = absurd (ne (sym (eqb-true no_page n e)))
+    by false e = refl
+
+-- the root among the pages, or apart from them
+apart : (pages : ℕ → Node ℕ Xad) (root : Node ℕ Xad) (below : ℕ) → times no_page (shows pages below (top xt_scale) root) ≡ 0 → shows (with_root root pages) below (top xt_scale) root ≡ shows pages below (top xt_scale) root
+apart pages root below none =
+    same_body pages (with_root root pages) (walk xt_scale pages below) (walk xt_scale (with_root root pages) below) (top xt_scale) (placed xt_scale below 0 root) (frame xt_scale pages (with_root root pages) below)
+    (λ n p. root_else root pages n (differs n no_page 0 (λ m. times m (shows pages below (top xt_scale) root)) none p))
+
+among : (pages : ℕ → Node ℕ Xad) (root : Node ℕ Xad) (below : ℕ) → times no_page (shows (with_root root pages) below (top xt_scale) root) ≡ 0 → shows pages below (top xt_scale) root ≡ shows (with_root root pages) below (top xt_scale) root
+among pages root below none =
+    same_body (with_root root pages) pages (walk xt_scale (with_root root pages) below) (walk xt_scale pages below) (top xt_scale) (placed xt_scale below 0 root) (frame xt_scale (with_root root pages) pages below)
+    (λ n p. sym (root_else root pages n (differs n no_page 0 (λ m. times m (shows (with_root root pages) below (top xt_scale) root)) none p)))
+
+top_kept : (bound : ℕ) (before after : ℕ → Node ℕ Xad) (es : List Xad) (root new : Node ℕ Xad) (freed : List ℕ) (runs : List Pxd) (below : ℕ) → suc below ≤ 8 → tree_of xt_scale before root ≡ Key no_page 0 ∷ Page no_page ∷ shows before below (top xt_scale) root
+    → rows_of (shows before below (top xt_scale) root) ≡ es → times no_page (shows before below (top xt_scale) root) ≡ 0 → CutPart bound before after 0 (shows before below (top xt_scale) root) (shows after below (top xt_scale) new) None freed runs
+    → RootCut bound before after es root new freed runs
+unfolding walk
+top_kept bound before after es root new freed runs below most tree rows none cut =
+    let M = shows after below (top xt_scale) new in
+    let off : times no_page M ≡ 0 = let p = cut.pages no_page in omega (arith, p, none) in
+    let same = apart after new below off in
+    let rises : Rises xt_scale 0 (walk xt_scale (with_root new after) (suc below) (top xt_scale)) None = (refl, subst (λ ms. Rises xt_scale 0 ms None) (sym same) cut.rises) in
+    let now = tree_rises xt_scale order after new (suc below) most rises in
+    record {
+      spelled = spelled xt_scale order after new (suc below) most rises ∙ ap (λ ms. Ok (rows_of ms)) same ∙ ap (λ xs. Ok xs) (cut.rows ∙ ap (kept_below bound) rows);
+      gone = cut.gone ∙ ap (gone_past bound) rows;
+      owned = λ n. elim (page_or n) [
+        | inl e ↦ subst (λ m. footprint xt_scale after new m + count_in m freed ≡ footprint xt_scale before root m) (sym e) (let a = no_foot after new in let b = no_foot before root in let p = cut.pages no_page in omega (arith, a, b, p, none))
+        | inr ne ↦ (let a = foot after new n ne in let b = foot before root n ne in let d = ap (times n) now in let f = ap (times n) tree in let g = ap (times n) same in let p = cut.pages n in omega (arith, a, b, d, f, g, p))
+      ];
+      keeps = λ n ne z. cut.keeps n (let a = foot after new n ne in let d = ap (times n) now in let g = ap (times n) same in omega (arith, a, d, g, z));
+    }
+
+top_gone : (bound : ℕ) (before after : ℕ → Node ℕ Xad) (es : List Xad) (root : Node ℕ Xad) (freed : List ℕ) (runs : List Pxd) (below : ℕ) → tree_of xt_scale before root ≡ Key no_page 0 ∷ Page no_page ∷ shows before below (top xt_scale) root
+    → rows_of (shows before below (top xt_scale) root) ≡ es → times no_page (shows before below (top xt_scale) root) ≡ 0 → CutPart bound before after 0 (shows before below (top xt_scale) root) [] None freed runs
+    → RootCut bound before after es root (Leaf []) freed runs
+top_gone bound before after es root freed runs below tree rows none cut = record {
+  spelled = spells_none after ∙ ap (λ xs. Ok xs) (cut.rows ∙ ap (kept_below bound) rows);
+  gone = cut.gone ∙ ap (gone_past bound) rows;
+  owned = λ n. elim (page_or n) [
+    | inl e ↦ subst (λ m. footprint xt_scale after (Leaf []) m + count_in m freed ≡ footprint xt_scale before root m) (sym e) (let a = no_foot after (Leaf []) in let b = no_foot before root in let p = cut.pages no_page in omega (arith, a, b, p, none))
+    | inr ne ↦ (let a = foot after (Leaf []) n ne in let b = foot before root n ne in let d = not_named n ne in let f = ap (times n) tree in let p = cut.pages n in omega (arith, a, b, d, f, p))
+  ];
+  keeps = λ n ne z. cut.keeps n refl;
+}
+
+root_by : (bound : ℕ) (before after : ℕ → Node ℕ Xad) (es : List Xad) (root mid new : Node ℕ Xad) (kept : Bool) (freed : List ℕ) (runs : List Pxd) (levels : ℕ) → levels ≤ 8 → tree_of xt_scale before root ≡ walk xt_scale (with_root root before) levels (top xt_scale)
+    → Rises xt_scale 0 (walk xt_scale (with_root root before) levels (top xt_scale)) None → rows_of (walk xt_scale (with_root root before) levels (top xt_scale)) ≡ es
+    → CutsNode bound before after root mid kept freed runs → (kept ≡ true → new ≡ mid) → (kept ≡ false → new ≡ Leaf []) → RootCut bound before after es root new freed runs
+unfolding walk
+root_by bound before after es root mid new kept freed runs zero most tree r rows cuts stays empties = absurd r
+root_by bound before after es root mid new kept freed runs (suc below) most tree r rows cuts stays empties =
+    let S = shows (with_root root before) below (top xt_scale) root in
+    let once = each_once xt_scale order (with_root root before) (suc below) (top xt_scale) 0 None r in
+    let none : times no_page S ≡ 0 = let h = once no_page in here_zero no_page (times no_page S) (times no_page S) 0 h (omega arith) in
+    let same = among before root below none in
+    let cut = cuts below (top xt_scale) None (subst (λ ms. Rises xt_scale 0 ms None) (sym same) r.1) (λ n. let h = once n in let e = ap (times n) same in omega (arith, h, e)) in
+    by kept refl (tree ∙ ap (λ ms. Key no_page 0 ∷ Page no_page ∷ ms) (sym same)) (ap rows_of same ∙ rows) (ap (times no_page) same ∙ none) cut
+  where
+    by : (k : Bool) → kept ≡ k → tree_of xt_scale before root ≡ Key no_page 0 ∷ Page no_page ∷ shows before below (top xt_scale) root → rows_of (shows before below (top xt_scale) root) ≡ es → times no_page (shows before below (top xt_scale) root) ≡ 0
+        → CutPart bound before after 0 (shows before below (top xt_scale) root) (if_kept k (shows after below (top xt_scale) mid)) None freed runs → RootCut bound before after es root new freed runs
+    by true e tree rows none cut = subst (λ node. RootCut bound before after es root node freed runs) (sym (stays e)) (top_kept bound before after es root mid freed runs below most tree rows none cut)
+    by false e tree rows none cut = subst (λ node. RootCut bound before after es root node freed runs) (sym (empties e)) (top_gone bound before after es root freed runs below tree rows none cut)
+
+-- a root without extents
+root_empty : (bound : ℕ) (before after : ℕ → Node ℕ Xad) (freed : List ℕ) (runs : List Pxd) → freed ≡ [] → runs ≡ [] → ((n : ℕ) → after n ≡ before n) → RootCut bound before after [] (Leaf []) (Leaf []) freed runs
+root_empty bound before after freed runs none empty same = record {
+  spelled = spells_none after;
+  gone = empty;
+  owned = λ n. elim (page_or n) [
+    | inl e ↦ subst (λ m. footprint xt_scale after (Leaf []) m + count_in m freed ≡ footprint xt_scale before (Leaf []) m) (sym e) (let a = no_foot after (Leaf []) in let b = no_foot before (Leaf []) in let f = ap (count_in no_page) none in omega (arith, a, b, f))
+    | inr ne ↦ (let a = foot after (Leaf []) n ne in let b = foot before (Leaf []) n ne in let f = ap (count_in n) none in omega (arith, a, b, f))
+  ];
+  keeps = λ n ne z. same n;
+}
+
+-- ---- by the code's names
+
+three : (f : ℕ) → (f % 8 == 3 || f % 8 == 5) ≡ true → (f / 8 * 8 + f % 2 + 2) % 8 ≡ 3
+three f e = odd f (side f e)
+  where
+    side : (f : ℕ) → (f % 8 == 3 || f % 8 == 5) ≡ true → (f % 8 ≡ 3) ⊎ (f % 8 ≡ 5)
+    side f e = grind (arith, nat_tests)
+
+    odd : (f : ℕ) → (f % 8 ≡ 3) ⊎ (f % 8 ≡ 5) → (f / 8 * 8 + f % 2 + 2) % 8 ≡ 3
+    odd f (inl h) = omega (arith, h)
+    odd f (inr h) = omega (arith, h)
+
+two : (f : ℕ) → (f % 8 == 2 || f % 8 == 4) ≡ true → (f / 8 * 8 + f % 2 + 2) % 8 ≡ 2
+two f e = even f (side f e)
+  where
+    side : (f : ℕ) → (f % 8 == 2 || f % 8 == 4) ≡ true → (f % 8 ≡ 2) ⊎ (f % 8 ≡ 4)
+    side f e = grind (arith, nat_tests)
+
+    even : (f : ℕ) → (f % 8 ≡ 2) ⊎ (f % 8 ≡ 4) → (f / 8 * 8 + f % 2 + 2) % 8 ≡ 2
+    even f (inl h) = omega (arith, h)
+    even f (inr h) = omega (arith, h)
+
+leaf_flag : (form : XtForm) (f : ℕ) → fits_flag form f ≡ true → (fits_flag form (kind_flag f true) ≡ true) × (is_leaf (kind_flag f true) ≡ true)
+leaf_flag Root f e = let h = three f e in (rw h refl, rw h refl)
+leaf_flag Small f e = let h = three f e in (rw h refl, rw h refl)
+leaf_flag Full f e = let h = two f e in (rw h refl, rw h refl)
+
+-- a root whose entries are all gone
+closed : (form : XtForm) (blocks : ℕ) (root mid new : List ℕ) (kept : Bool) → IsSound form blocks (head_of root) (entries_of root) → SameKind (head_of root) (head_of mid) → KeepsSome (entries_of mid) kept
+    → (kept ≡ false → (head_of new ≡ record (head_of mid) { flag = kind_flag (head_of mid).flag true }) × (entries_of new ≡ entries_of mid)) → kept ≡ false → xt_node form blocks new ≡ Leaf []
+closed form blocks root mid new true sound kind some done e = absurd cc
+closed form blocks root mid new false sound kind some done e =
+    let d = done refl in
+    let none : entries_of new ≡ [] = d.1 ∙ some in
+    let k = leaf_flag form (head_of root).flag sound.flag in
+    let f : (head_of new).flag ≡ kind_flag (head_of root).flag true = ap (λ (h : XtHead). h.flag) d.0 ∙ ap (λ n. kind_flag n true) kind.flag in
+    let m : (head_of new).maxentry ≡ (head_of root).maxentry = ap (λ (h : XtHead). h.maxentry) d.0 ∙ kind.max in
+    let n : (head_of new).nextindex ≡ (head_of mid).nextindex = ap (λ (h : XtHead). h.nextindex) d.0 in
+    let l = kind.least in let a = kind.most in let x = kind.max in
+    sound_leaf form blocks new (record {
+      flag = ap (fits_flag form) f ∙ k.0;
+      max = ap (fits_max form) m ∙ sound.max;
+      count = rw (le-leb 2 (head_of new).nextindex (omega (arith, n, l)), le-leb (head_of new).nextindex (head_of new).maxentry (omega (arith, n, m, a, x))) refl;
+      order = ap (rises_from 0) none;
+      range = ap (all_within blocks) none;
+    }) (ap is_leaf f ∙ k.1) ∙ ap (λ xs. Leaf xs) none
+
+kept_none_is : (xs : List Xad) (kept : Bool) → xs ≡ [] → KeepsSome xs kept → kept ≡ false
+kept_none_is xs true e k = absurd (let l = ap length e in omega (arith, l, k))
+kept_none_is xs false e k = refl
+
+root_done : (form : XtForm) (blocks bound : ℕ) (root mid new : List ℕ) (image : Image) (drafts : List Drafted) (kept : Bool) (freed : List ℕ) (runs : List Pxd) (es : List Xad) → IsSound form blocks (head_of root) (entries_of root)
+    → CutsNode bound (page_nodes blocks (page_of image)) (nodes (xt_node Full blocks) drafts image) (xt_node form blocks root) (xt_node form blocks mid) kept freed runs
+    → (is_leaf (head_of root).flag ≡ true → (entries_of mid ≡ kept_below bound (entries_of root)) × (runs ≡ gone_past bound (entries_of root)) × (drafts ≡ []) × (freed ≡ [])) → SameKind (head_of root) (head_of mid) → KeepsSome (entries_of mid) kept
+    → (kept ≡ true → new ≡ mid) → (kept ≡ false → (head_of new ≡ record (head_of mid) { flag = kind_flag (head_of mid).flag true }) × (entries_of new ≡ entries_of mid))
+    → spells xt_scale (page_nodes blocks (page_of image)) (xt_node form blocks root) ≡ Ok es
+    → RootCut bound (page_nodes blocks (page_of image)) (nodes (xt_node Full blocks) drafts image) es (xt_node form blocks root) (xt_node form blocks new) freed runs
+root_done form blocks bound root mid new image drafts kept freed runs es sound cuts leaf kind some stays empties spelt =
+    let before = page_nodes blocks (page_of image) in
+    let after = nodes (xt_node Full blocks) drafts image in
+    let ends = closed form blocks root mid new kept sound kind some empties in
+    elim (stands xt_scale before (xt_node form blocks root) es spelt) [
+      | inl e ↦
+          let t = leaf_is form blocks root [] e.0 in
+          let l = leaf t.1 in
+          let z = kept_none_is (entries_of mid) kept (l.0 ∙ ap (kept_below bound) t.2) some in
+          subst (λ xs. RootCut bound before after xs (xt_node form blocks root) (xt_node form blocks new) freed runs) (sym e.1)
+          (subst (λ node. RootCut bound before after [] node (xt_node form blocks new) freed runs) (sym e.0)
+          (subst (λ node. RootCut bound before after [] (Leaf []) node freed runs) (sym (ends z))
+          (root_empty bound before after freed runs l.3 (l.1 ∙ ap (gone_past bound) t.2) (λ n. ap (λ ds. xt_node Full blocks (shown ds image n)) l.2))))
+      | inr st ↦ root_by bound before after es (xt_node form blocks root) (xt_node form blocks mid) (xt_node form blocks new) kept freed runs st.levels st.most st.is st.rises st.rows cuts (λ e. ap (xt_node form blocks) (stays e)) ends
+    ]
+
+less_page : (n blocks : ℕ) → n < blocks → blocks < 4294967296 → n ≢ no_page
+less_page n blocks l b e = by n e l b
+  where
+    by : (n : ℕ) → n ≡ 4294967295 → n < blocks → blocks < 4294967296 → ⊥
+    by n e l b = omega (arith, e, l, b)
+
+-- with the root in this form
+record HasOnlyBelowIn (form : XtForm) (blocks bound : ℕ) (es : List Xad) (pages later : ℕ → List ℕ) (root after : List ℕ) (freed : List ℕ) : Type 0 where
+  spelled : spells xt_scale (page_nodes blocks later) (xt_node form blocks after) ≡ Ok (kept_below bound es)
+  owned : (n : ℕ) → footprint xt_scale (page_nodes blocks later) (xt_node form blocks after) n + count_in n freed ≡ footprint xt_scale (page_nodes blocks pages) (xt_node form blocks root) n
+  keeps : (n : ℕ) → n < blocks → footprint xt_scale (page_nodes blocks later) (xt_node form blocks after) n ≡ 0 → page_nodes blocks later n ≡ page_nodes blocks pages n
+
+as_root : (form : XtForm) (blocks bound : ℕ) (es : List Xad) (pages later : ℕ → List ℕ) (root after : List ℕ) (freed : List ℕ) → form ≡ root_form (length root) → HasOnlyBelowIn form blocks bound es pages later root after freed → HasOnlyBelow blocks bound es pages later root after freed
+as_root form blocks bound es pages later root after freed is h =
+    let g = subst (λ f. HasOnlyBelowIn f blocks bound es pages later root after freed) is h in
+    record { spelled = g.spelled; owned = g.owned; keeps = g.keeps }
+
+-- the draft's pages are those that all edits lead to
+pub cuts_extents : (blocks bound : ℕ) (form : XtForm) (image : Image) (root mid new : List ℕ) (drafts : List Drafted) (kept : Bool) (freed : List ℕ) (runs : List Pxd) (tx later : List Edit) → blocks < 4294967296 → form ≡ root_form (length root) → IsSound form blocks (head_of root) (entries_of root)
+    → CutsNode bound (page_nodes blocks (page_of image)) (nodes (xt_node Full blocks) drafts image) (xt_node form blocks root) (xt_node form blocks mid) kept freed runs
+    → (is_leaf (head_of root).flag ≡ true → (entries_of mid ≡ kept_below bound (entries_of root)) × (runs ≡ gone_past bound (entries_of root)) × (drafts ≡ []) × (freed ≡ [])) → SameKind (head_of root) (head_of mid) → KeepsSome (entries_of mid) kept
+    → (kept ≡ true → new ≡ mid) → (kept ≡ false → (head_of new ≡ record (head_of mid) { flag = kind_flag (head_of mid).flag true }) × (entries_of new ≡ entries_of mid))
+    → TellsDraft blocks image drafts tx later → EndsWith later (page_frees freed ++ run_frees runs) → CutsExtents blocks (page_of image) bound root new tx later
+cuts_extents blocks bound form image root mid new drafts kept freed runs tx later small is sound cuts leaf kind some stays empties told ends es spelt =
+    let drafted = nodes (xt_node Full blocks) drafts image in
+    let c = root_done form blocks bound root mid new image drafts kept freed runs es sound cuts leaf kind some stays empties (subst (λ f. spells xt_scale (page_nodes blocks (page_of image)) (xt_node f blocks root) ≡ Ok es) (sym is) spelt) in
+    (freed, subst (λ ps. EndsWith later (page_frees freed ++ run_frees ps)) c.gone ends,
+      λ base leads.
+      let now = page_nodes blocks (after_tx base later) in
+      let agree = λ (n : ℕ) (h : n < blocks). ap (xt_node Full blocks) (told n h (base n) (leads n h).0 (leads n h).1) in
+      let frame = λ (n : ℕ) (h : 0 < footprint xt_scale drafted (xt_node form blocks new) n). agree n (footprint_within xt_scale drafted (xt_node form blocks new) n blocks (has_pages form blocks new) (λ m. has_pages Full blocks (shown drafts image m)) h) in
+      let whole : HasOnlyBelowIn form blocks bound es (page_of image) (after_tx base later) root new freed = record {
+        spelled = spells_frame xt_scale drafted now (xt_node form blocks new) frame ∙ c.spelled;
+        owned = λ n. (let f = footprint_frame xt_scale drafted now (xt_node form blocks new) frame n in let p = c.owned n in omega (arith, f, p));
+        keeps = λ n h z. agree n h ∙ c.keeps n (less_page n blocks h small) (sym (footprint_frame xt_scale drafted now (xt_node form blocks new) frame n) ∙ z);
+      } in
+      as_root form blocks bound es (page_of image) (after_tx base later) root new freed is whole)
+
+-- ---- a page that breaks a rule
+
+leads_at : (form : XtForm) (blocks : ℕ) (root : List ℕ) (front : List Xad) (x : Xad) (back : List Xad) → IsSound form blocks (head_of root) (entries_of root) → is_leaf (head_of root).flag ≡ false → 0 < length (entries_of root) → entries_of root ≡ front ++ x ∷ back
+    → LeadsDown xt_scale x (xt_node form blocks root) (length (map child_of front)) x.at.addr
+leads_at form blocks root front x back sound flag some all = record {
+  front = map child_of front;
+  child = child_of x;
+  back = map child_of back;
+  is = sound_inner form blocks root sound flag some ∙ ap (λ xs. Inner (map child_of xs)) all ∙ ap (λ cs. Inner cs) (map_cut front x back);
+  at = refl;
+  to = refl;
+  past = past back (rises_back front (x ∷ back) 0 (ap (rises_from 0) (sym all) ∙ sound.order));
+  above = inr (le-leb x.offset x.offset (omega arith));
+}
+  where
+    past : (back : List Xad) → rises_from 0 (x ∷ back) ≡ true → IsPast xt_scale x (map child_of back)
+    past [] r = tt
+    past (b ∷ bs) r =
+        let t = rises_less 0 x (b ∷ bs) r in
+        let u = rises_less (end_of x) b bs t.1 in
+        let h = u.0 in let w = ends_after x in lt-leb b.offset x.offset (omega (arith, h, w))
+
+no_entry : (front : List Xad) (x : Xad) (back : List Xad) → [] ≡ front ++ x ∷ back → ⊥
+no_entry [] x back e = cc
+no_entry (f ∷ fs) x back e = cc
+
+pub cut_names : (form : XtForm) (blocks : ℕ) (root : List ℕ) (image : Image) (e : TreeError) → IsSound form blocks (head_of root) (entries_of root) → (is_leaf (head_of root).flag ≡ false → 2 < (head_of root).nextindex)
+    → BreaksUnder (page_nodes blocks (page_of image)) 7 (naming (is_leaf (head_of root).flag) (entries_of root)) e → NamesBroken xt_scale (page_nodes blocks (page_of image)) (xt_node form blocks root) (tree_error (handed_on e))
+cut_names form blocks root image e sound some b = by (is_leaf (head_of root).flag) refl e b
+  where
+    by : (f : Bool) → is_leaf (head_of root).flag ≡ f → (e : TreeError) → BreaksUnder (page_nodes blocks (page_of image)) 7 (naming f (entries_of root)) e → NamesBroken xt_scale (page_nodes blocks (page_of image)) (xt_node form blocks root) (tree_error (handed_on e))
+    by f flag (View e) b = tt
+    by f flag Memory b = tt
+    by true flag (Bad bad rule) (front, x, back, all, b) = absurd (no_entry front x back all)
+    by false flag (Bad bad rule) (front, x, back, all, b) =
+        let long = some flag in
+        let size = length-entries root 0 (count_of root) in
+        names_below xt_scale order x (page_nodes blocks (page_of image)) (xt_node form blocks root) (length (map child_of front)) x.at.addr (Bad bad rule) (leads_at form blocks root front x back sound flag (omega (arith, size, long)) all) b
+
+pub root_names : (form rf : XtForm) (b blocks : ℕ) (root : List ℕ) (image : Image) (rule : Rule) → b ≡ blocks → form ≡ rf → xt_node form b root ≡ Broken rule → NamesBroken xt_scale (page_nodes blocks (page_of image)) (xt_node rf blocks root) (Bad no_page rule)
+root_names form rf b blocks root image rule eb ef is =
+    names_root xt_scale (page_nodes blocks (page_of image)) (xt_node rf blocks root) rule (subst (λ f. xt_node f blocks root ≡ Broken rule) ef (subst (λ n. xt_node form n root ≡ Broken rule) eb is))

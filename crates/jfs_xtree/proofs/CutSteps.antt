@@ -1,0 +1,253 @@
+-- The steps of a cut, from what the code says of its pages.
+use Rattle.std.proofs.Common.{◌≡◌, ◌≢◌, ◌≤◌, ◌<◌, ◌⊎◌, inl, inr, refl, sym, ap, ◌∙◌, subst, ℕ, zero, suc, ◌+◌, ◌-◌, ◌==◌, Bool, true, false, ◌&&◌, if◌then◌else◌, List, [], ◌∷◌, ◌++◌, map, length, take, drop, Result, Ok, Err, IfOk, IfErr, OnOk, arith, append_assoc}
+use Rattle.std.specs.Prelude.{nat_le, nat_lt}
+use Rattle.std.proofs.lemmas.Bool.{leb-true, leb-false, le-leb, lt-leb, ne_eqb}
+use Rattle.std.proofs.lemmas.Bool.Decides.{nat_tests}
+use Rattle.std.proofs.lemmas.List.{take-append-drop}
+use Rattle.jfs_bits.specs.declared.extent.Xad.{Xad}
+use Rattle.jfs_bits.specs.declared.descriptor.Pxd.{Pxd}
+use Rattle.jfs_bits.specs.Field.{field_of}
+use Rattle.jfs_disk.specs.Image.{Image, page_of}
+use Rattle.jfs_tree.specs.Walk.{Child, Node, Leaf, Inner}
+use Rattle.jfs_tree.specs.Edit.{IsCons}
+use Rattle.jfs_tree.specs.Shrink.{kept_of}
+use Rattle.jfs_tree.specs.Removal.{Settles}
+use Rattle.jfs_tree.specs.Draft.{shown}
+use Rattle.jfs_tree.specs.Call.{nodes, Breaks}
+use Rattle.jfs_tree.specs.declared.draft.Drafted.{Drafted}
+use Rattle.jfs_tree.specs.declared.form.TreeError.{TreeError}
+use Rattle.jfs_tree.specs.declared.form.TreeError.TheVariants.{View, Bad, Memory}
+use Rattle.jfs_xtpage.specs.declared.head.XtForm.{XtForm}
+use Rattle.jfs_xtpage.specs.declared.head.XtForm.TheVariants.{Full}
+use Rattle.jfs_xtpage.specs.declared.head.XtHead.{XtHead}
+use Rattle.jfs_xtpage.specs.Page.{head_of, entries_of, entry_of, count_of, end_of, rises_from, IsLaidOut}
+use Rattle.jfs_tree.proofs.Between.{append_nil}
+use Rattle.jfs_xtpage.proofs.Entries.{first, length-entries}
+use Rattle.jfs_xtree.specs.Laws.{ends_after}
+use Rattle.jfs_xtree.specs.Node.{xt_node, is_leaf, is_within, all_within, child_of, IsSound, SameKind, LeadsAt}
+use Rattle.jfs_xtree.specs.Spells.{page_nodes}
+use Rattle.jfs_xtree.specs.Cutting.{up_to, kept_below, gone_past}
+use Rattle.jfs_xtree.specs.CutParts.{CutsNode, CutsPage, FreesUnder, BreaksUnder, BreaksAt, KeepsSome, AllFrom, naming}
+use Rattle.jfs_xtree.proofs.Reading.{and_true, is_rising, sound_leaf, sound_inner}
+use Rattle.jfs_xtree.proofs.Pages.{leaf_made, inner_made, rises_less, rises_more, rises_weaker, rises_front, within_both, within_front}
+use Rattle.jfs_xtree.proofs.Inners.{cut_at, length_front, map_cut}
+use Rattle.jfs_xtree.proofs.CutRows.{from_place, take_one_more}
+use Rattle.jfs_xtree.proofs.CutFrees.{breaks_at, breaks_below}
+use Rattle.jfs_xtree.proofs.CutWalks.{leaf_cuts, up_to_end, up_to_offset}
+use Rattle.jfs_xtree.proofs.CutInners.{IsAbove, FirstFrom, inner_cuts, page_kept, page_gone}
+
+-- ---- a leaf
+
+kept_rises : (bound low : ℕ) (es : List Xad) → rises_from low es ≡ true → rises_from low (kept_below bound es) ≡ true
+kept_rises bound low [] r = refl
+kept_rises bound low (e ∷ es) r = let t = rises_less low e es r in by t.0 (nat_le bound e.offset) refl (kept_rises bound (end_of e) es t.1)
+  where
+    by : low ≤ e.offset → (t : Bool) → nat_le bound e.offset ≡ t → rises_from (end_of e) (kept_below bound es) ≡ true → rises_from low (if t then kept_below bound es else up_to bound e ∷ kept_below bound es) ≡ true
+    by l true is h = let w = ends_after e in rises_weaker (kept_below bound es) (end_of e) low (omega (arith, l, w)) h
+    by l false is h =
+        let o = up_to_offset bound e in
+        rises_more low (up_to bound e) (kept_below bound es) (omega (arith, l, o)) (rises_weaker (kept_below bound es) (end_of e) (end_of (up_to bound e)) (up_to_end bound e (leb-false bound e.offset is)) h)
+
+within_up_to : (blocks bound : ℕ) (e : Xad) → e.offset < bound → is_within blocks e ≡ true → is_within blocks (up_to bound e) ≡ true
+within_up_to blocks bound e l w = by (nat_le (end_of e) bound) refl
+  where
+    both : (a b : Bool) → a ≡ true → b ≡ true → (a && b) ≡ true
+    both a b p q = rw (p, q) refl
+
+    shorter : bound < end_of e → e.at.addr + (bound - e.offset) ≤ e.at.addr + e.at.len
+    shorter h = grind (arith, h, l)
+
+    by : (t : Bool) → nat_le (end_of e) bound ≡ t → is_within blocks (if t then e else record { flag = e.flag; offset = e.offset; at = record { len = bound - e.offset; addr = e.at.addr } }) ≡ true
+    by true is = w
+    by false is =
+        let p = and_true (nat_le 1 e.at.len) (nat_le (e.at.addr + e.at.len) blocks) w in
+        let m = leb-true (e.at.addr + e.at.len) blocks p.1 in
+        let s = shorter (leb-false (end_of e) bound is) in
+        both (nat_le 1 (bound - e.offset)) (nat_le (e.at.addr + (bound - e.offset)) blocks) (le-leb 1 (bound - e.offset) (omega (arith, l))) (le-leb (e.at.addr + (bound - e.offset)) blocks (omega (arith, m, s)))
+
+kept_within : (blocks bound : ℕ) (es : List Xad) → all_within blocks es ≡ true → all_within blocks (kept_below bound es) ≡ true
+kept_within blocks bound [] w = refl
+kept_within blocks bound (e ∷ es) w = let t = and_true (is_within blocks e) (all_within blocks es) w in by t.0 (nat_le bound e.offset) refl (kept_within blocks bound es t.1)
+  where
+    by : is_within blocks e ≡ true → (t : Bool) → nat_le bound e.offset ≡ t → all_within blocks (kept_below bound es) ≡ true → all_within blocks (if t then kept_below bound es else up_to bound e ∷ kept_below bound es) ≡ true
+    by w true is h = h
+    by w false is h = within_both blocks (up_to bound e) (kept_below bound es) (within_up_to blocks bound e (leb-false bound e.offset is) w) h
+
+some_if : (xs : List Xad) (kept : Bool) → KeepsSome xs kept → kept ≡ true → 0 < length xs
+some_if xs true k e = k
+some_if xs false k e = absurd cc
+
+none_if : (xs : List Xad) (kept : Bool) → KeepsSome xs kept → kept ≡ false → xs ≡ []
+none_if xs true k e = absurd cc
+none_if xs false k e = k
+
+pub leaf_done : (form : XtForm) (blocks bound : ℕ) (bytes new : List ℕ) (image : Image) (drafts : List Drafted) (freed : List ℕ) (old runs : List Pxd) (r : Result Bool TreeError) → IsSound form blocks (head_of bytes) (entries_of bytes) → is_leaf (head_of bytes).flag ≡ true
+    → drafts ≡ [] → freed ≡ [] → old ≡ [] → OnOk r (entries_of new ≡ kept_below bound (entries_of bytes)) → OnOk r (runs ≡ old ++ gone_past bound (entries_of bytes)) → OnOk r (SameKind (head_of bytes) (head_of new)) → IfOk r (KeepsSome (entries_of new))
+    → IfOk r (λ kept. CutsNode bound (page_nodes blocks (page_of image)) (nodes (xt_node Full blocks) drafts image) (xt_node form blocks bytes) (xt_node form blocks new) kept freed runs)
+leaf_done form blocks bound bytes new image drafts freed old runs (Err e) sound leaf none free empty rows gone kind some = tt
+leaf_done form blocks bound bytes new image drafts freed old runs (Ok kept) sound leaf none free empty rows gone kind some =
+    let was = sound_leaf form blocks bytes sound leaf in
+    let is = leaf_made form blocks bytes new (entries_of bytes) (kept_below bound (entries_of bytes)) sound leaf kind rows (kept_rises bound 0 (entries_of bytes) sound.order) (kept_within blocks bound (entries_of bytes) sound.range) in
+    let keeps = subst (λ xs. KeepsSome xs kept) rows some in
+    subst (λ o. CutsNode bound (page_nodes blocks (page_of image)) (nodes (xt_node Full blocks) drafts image) o (xt_node form blocks new) kept freed runs) (sym was)
+    (subst (λ o. CutsNode bound (page_nodes blocks (page_of image)) (nodes (xt_node Full blocks) drafts image) (Leaf (entries_of bytes)) o kept freed runs) (sym is)
+    (leaf_cuts bound (page_nodes blocks (page_of image)) (nodes (xt_node Full blocks) drafts image) (entries_of bytes) kept freed runs (λ n. ap (λ ds. xt_node Full blocks (shown ds image n)) none) free
+    (gone ∙ ap (λ ps. ps ++ gone_past bound (entries_of bytes)) empty) (some_if (kept_below bound (entries_of bytes)) kept keeps) (none_if (kept_below bound (entries_of bytes)) kept keeps)))
+
+-- ---- a page that was cut is put or freed
+
+itself : (n : ℕ) → (n == n) ≡ true
+itself n = grind (arith, nat_tests)
+
+pub page_settled : (blocks bound page : ℕ) (image view : Image) (bytes new : List ℕ) (kept : Bool) (one two : List Drafted) (first free : List ℕ) (runs later : List Pxd) → view ≡ image → bytes ≡ page_of image page
+    → CutsNode bound (page_nodes blocks (page_of view)) (nodes (xt_node Full blocks) one view) (xt_node Full blocks bytes) (xt_node Full blocks new) kept first runs → Settles kept page new one two first free → later ≡ runs
+    → CutsPage bound (page_nodes blocks (page_of image)) (nodes (xt_node Full blocks) two image) page kept free later
+page_settled blocks bound page image view bytes new kept one two first free runs later same is cuts settles run =
+    subst (CutsPage bound (page_nodes blocks (page_of image)) (nodes (xt_node Full blocks) two image) page kept free) (sym run)
+    (by kept (subst (λ b. CutsNode bound (page_nodes blocks (page_of image)) (nodes (xt_node Full blocks) one image) (xt_node Full blocks b) (xt_node Full blocks new) kept first runs) is
+    (subst (λ (i : Image). CutsNode bound (page_nodes blocks (page_of i)) (nodes (xt_node Full blocks) one i) (xt_node Full blocks bytes) (xt_node Full blocks new) kept first runs) same cuts)) settles)
+  where
+    by : (kept : Bool) → CutsNode bound (page_nodes blocks (page_of image)) (nodes (xt_node Full blocks) one image) (page_nodes blocks (page_of image) page) (xt_node Full blocks new) kept first runs → Settles kept page new one two first free
+        → CutsPage bound (page_nodes blocks (page_of image)) (nodes (xt_node Full blocks) two image) page kept free runs
+    by true cuts s =
+        subst (λ f. CutsPage bound (page_nodes blocks (page_of image)) (nodes (xt_node Full blocks) two image) page true f runs) (sym s.1)
+        (page_kept bound (page_nodes blocks (page_of image)) (nodes (xt_node Full blocks) one image) (nodes (xt_node Full blocks) two image) page (xt_node Full blocks new) first runs cuts
+        (ap (xt_node Full blocks) (s.0 image page ∙ ap (λ t. if t then new else shown one image page) (itself page)))
+        (λ n ne. ap (xt_node Full blocks) (s.0 image n ∙ ap (λ t. if t then new else shown one image n) (ne_eqb n page ne))))
+    by false cuts s = page_gone bound (page_nodes blocks (page_of image)) (nodes (xt_node Full blocks) one image) (nodes (xt_node Full blocks) two image) page (xt_node Full blocks new) first free runs cuts s.1 (λ n. ap (λ ds. xt_node Full blocks (shown ds image n)) s.0)
+
+-- ---- an inner page
+
+first_of_all : (bound : ℕ) (xs : List Xad) → AllFrom bound xs → FirstFrom bound (map child_of xs)
+first_of_all bound [] h = tt
+first_of_all bound (x ∷ xs) h = h.0
+
+above_of : (limit : ℕ) (front : List Xad) (t : Child ℕ) → (0 < length front → t.key ≤ limit) → IsAbove limit (map child_of front) t
+above_of limit [] t h = tt
+above_of limit (x ∷ front) t h = h (omega arith)
+
+cons_of : (front : List Xad) → 0 < length front → IsCons (map child_of front)
+cons_of [] h = absurd (omega (arith, h))
+cons_of (x ∷ front) h = tt
+
+none_of : (front : List Xad) → length front ≡ 0 → map child_of front ≡ []
+none_of [] h = refl
+none_of (x ∷ front) h = absurd (omega (arith, h))
+
+-- the children that are left
+left_is : (bytes : List ℕ) (place left : ℕ) (k : Bool) → place < count_of bytes → left ≡ place + (if k then 1 else 0) → map child_of (take left (entries_of bytes)) ≡ map child_of (take place (entries_of bytes)) ++ kept_of k (child_of (entry_of bytes place))
+left_is bytes place left true l e =
+    ap (λ n. map child_of (take n (entries_of bytes))) e ∙ ap (λ xs. map child_of (take (place + 1) xs)) (cut_at bytes place l)
+    ∙ ap (map child_of) (take_one_more (take place (entries_of bytes)) (entry_of bytes place) (drop (place + 1) (entries_of bytes)) place (sym (length_front bytes place l)))
+    ∙ map_cut (take place (entries_of bytes)) (entry_of bytes place) []
+left_is bytes place left false l e =
+    ap (λ n. map child_of (take n (entries_of bytes))) (let h : left ≡ place = omega (arith, e) in h) ∙ sym (append_nil (map child_of (take place (entries_of bytes))))
+
+left_sound : (form : XtForm) (blocks : ℕ) (bytes new : List ℕ) (left : ℕ) → IsSound form blocks (head_of bytes) (entries_of bytes) → is_leaf (head_of bytes).flag ≡ false → SameKind (head_of bytes) (head_of new) → entries_of new ≡ take left (entries_of bytes) → 0 < length (take left (entries_of bytes))
+    → xt_node form blocks new ≡ Inner (map child_of (take left (entries_of bytes)))
+left_sound form blocks bytes new left sound flag kind entries some =
+    let whole = take-append-drop left (entries_of bytes) in
+    inner_made form blocks bytes new (entries_of bytes) (take left (entries_of bytes)) sound flag kind entries some
+    (rises_front (take left (entries_of bytes)) (drop left (entries_of bytes)) 0 (ap (rises_from 0) whole ∙ sound.order))
+    (within_front blocks (take left (entries_of bytes)) (drop left (entries_of bytes)) (ap (all_within blocks) whole ∙ sound.range))
+
+length_left : (bytes : List ℕ) (left : ℕ) → left ≤ count_of bytes → length (take left (entries_of bytes)) ≡ left
+length_left bytes left l = ap length (sym (first bytes 0 left (count_of bytes) l)) ∙ length-entries bytes 0 left
+
+pub left_some : (bytes new : List ℕ) (left : ℕ) (kept : Bool) → left ≤ count_of bytes → entries_of new ≡ take left (entries_of bytes) → (kept ≡ true → 0 < left) → (kept ≡ false → left ≡ 0) → KeepsSome (entries_of new) kept
+left_some bytes new left true l entries some none = let h = length_left bytes left l in let e = ap length entries in let s = some refl in omega (arith, h, e, s)
+left_some bytes new left false l entries some none = entries ∙ ap (λ n. take n (entries_of bytes)) (none refl)
+
+pub inner_done : (form : XtForm) (blocks bound last place left : ℕ) (k kept : Bool) (bytes new : List ℕ) (image : Image) (after : ℕ → Node ℕ Xad) (n : ℕ) (one freed : List ℕ) (first runs : List Pxd) → IsSound form blocks (head_of bytes) (entries_of bytes) → is_leaf (head_of bytes).flag ≡ false
+    → last ≡ bound - 1 → LeadsAt bytes last place → n ≡ (entry_of bytes place).at.addr → left ≡ place + (if k then 1 else 0) → (kept ≡ true → 0 < left) → (kept ≡ false → left ≡ 0) → SameKind (head_of bytes) (head_of new) → entries_of new ≡ take left (entries_of bytes)
+    → CutsPage bound (page_nodes blocks (page_of image)) after n k one first → FreesUnder (page_nodes blocks (page_of image)) (drop (place + 1) (entries_of bytes)) one freed first runs
+    → CutsNode bound (page_nodes blocks (page_of image)) after (xt_node form blocks bytes) (xt_node form blocks new) kept freed runs
+inner_done form blocks bound last place left k kept bytes new image after n one freed first runs sound flag is_last leads at is_left some none kind entries cuts frees =
+    let before = page_nodes blocks (page_of image) in
+    let a = take place (entries_of bytes) in
+    let b = drop (place + 1) (entries_of bytes) in
+    let size = length-entries bytes 0 (count_of bytes) in
+    let inside = leads.within in
+    let long = length_front bytes place inside in
+    let was = sound_inner form blocks bytes sound flag (omega (arith, size, inside)) ∙ ap (λ xs. Inner (map child_of xs)) (cut_at bytes place inside) ∙ ap (λ cs. Inner cs) (map_cut a (entry_of bytes place) b) in
+    let most : left ≤ count_of bytes = fits k is_left inside in
+    subst (λ o. CutsNode bound before after o (xt_node form blocks new) kept freed runs) (sym was)
+    (inner_cuts bound before after (map child_of a) (child_of (entry_of bytes place)) b k kept (xt_node form blocks new) one freed first runs (subst (λ m. CutsPage bound before after m k one first) at cuts) frees
+    (above_of bound a (child_of (entry_of bytes place)) (λ h. let l = leads.above (omega (arith, h, long)) in omega (arith, l, is_last)))
+    (first_of_all bound b (from_place bytes bound (place + 1) (omega (arith, inside)) (λ j p q. let l = leads.past j (omega (arith, p)) q in omega (arith, l, is_last))))
+    (λ e. let s = some e in let m = length_left bytes left most in (
+      left_sound form blocks bytes new left sound flag kind entries (omega (arith, s, m)) ∙ ap (λ cs. Inner cs) (left_is bytes place left k inside is_left),
+      λ z. cons_of a (positive k z is_left s long),
+    ))
+    (λ e. let z = none e in (none_of a (nothing k is_left z long), not_kept k is_left z)))
+  where
+    fits : (k : Bool) → left ≡ place + (if k then 1 else 0) → place < count_of bytes → left ≤ count_of bytes
+    fits true e l = omega (arith, e, l)
+    fits false e l = omega (arith, e, l)
+
+    positive : (k : Bool) → k ≡ false → left ≡ place + (if k then 1 else 0) → 0 < left → length (take place (entries_of bytes)) ≡ place → 0 < length (take place (entries_of bytes))
+    positive true z e l h = absurd cc
+    positive false z e l h = omega (arith, e, l, h)
+
+    nothing : (k : Bool) → left ≡ place + (if k then 1 else 0) → left ≡ 0 → length (take place (entries_of bytes)) ≡ place → length (take place (entries_of bytes)) ≡ 0
+    nothing true e z h = absurd (omega (arith, e, z))
+    nothing false e z h = omega (arith, e, z, h)
+
+    not_kept : (k : Bool) → left ≡ place + (if k then 1 else 0) → left ≡ 0 → k ≡ false
+    not_kept true e z = absurd (omega (arith, e, z))
+    not_kept false e z = refl
+
+-- ---- a page that breaks a rule
+
+pub memory_breaks : (nodes : ℕ → Node ℕ Xad) (most : ℕ) (xs : List Xad) (r : Result Bool TreeError) → IfErr r (λ e. e ≡ Memory) → IfErr r (λ e. BreaksUnder nodes most xs e)
+memory_breaks nodes most xs (Ok kept) h = tt
+memory_breaks nodes most xs (Err e) h = subst (λ f. BreaksUnder nodes most xs f) (sym h) tt
+
+no_entry : (front : List Xad) (x : Xad) (back : List Xad) → [] ≡ front ++ x ∷ back → ⊥
+no_entry [] x back e = cc
+no_entry (f ∷ fs) x back e = cc
+
+pub breaks_child : (blocks n most less : ℕ) (image view : Image) (page : List ℕ) (e : TreeError) → view ≡ image → page ≡ page_of image n → IsSound Full blocks (head_of page) (entries_of page) → (is_leaf (head_of page).flag ≡ false → 2 < (head_of page).nextindex) → most ≡ suc less
+    → BreaksUnder (page_nodes blocks (page_of view)) less (naming (is_leaf (head_of page).flag) (entries_of page)) e → BreaksAt (page_nodes blocks (page_of image)) most n e
+breaks_child blocks n most less image view page e same is sound some more b =
+    by (is_leaf (head_of page).flag) refl e (subst (λ (i : Image). BreaksUnder (page_nodes blocks (page_of i)) less (naming (is_leaf (head_of page).flag) (entries_of page)) e) same b)
+  where
+    by : (f : Bool) → is_leaf (head_of page).flag ≡ f → (e : TreeError) → BreaksUnder (page_nodes blocks (page_of image)) less (naming f (entries_of page)) e → BreaksAt (page_nodes blocks (page_of image)) most n e
+    by f flag (View e) b = tt
+    by f flag Memory b = tt
+    by true flag (Bad bad rule) (front, x, back, all, b) = absurd (no_entry front x back all)
+    by false flag (Bad bad rule) b =
+        let long = some flag in
+        let size = length-entries page 0 (count_of page) in
+        breaks_below (page_nodes blocks (page_of image)) most less n (entries_of page) (Bad bad rule) (ap (xt_node Full blocks) (sym is) ∙ sound_inner Full blocks page sound flag (omega (arith, size, long))) more b
+
+pub breaks_here : (nodes : ℕ → Node ℕ Xad) (most place n : ℕ) (bytes : List ℕ) (e : TreeError) → is_leaf (head_of bytes).flag ≡ false → n ≡ (entry_of bytes place).at.addr → place < count_of bytes → BreaksAt nodes most n e → BreaksUnder nodes most (naming (is_leaf (head_of bytes).flag) (entries_of bytes)) e
+breaks_here nodes most place n bytes e flag at inside b = subst (λ f. BreaksUnder nodes most (naming f (entries_of bytes)) e) (sym flag) (breaks_at nodes most bytes 0 place n e at (omega arith) inside b)
+
+pub breaks_behind : (nodes : ℕ → Node ℕ Xad) (most k : ℕ) (bytes : List ℕ) (e : TreeError) → is_leaf (head_of bytes).flag ≡ false → BreaksUnder nodes most (drop k (entries_of bytes)) e → BreaksUnder nodes most (naming (is_leaf (head_of bytes).flag) (entries_of bytes)) e
+breaks_behind nodes most k bytes e flag b = subst (λ f. BreaksUnder nodes most (naming f (entries_of bytes)) e) (sym flag) (by e b)
+  where
+    by : (e : TreeError) → BreaksUnder nodes most (drop k (entries_of bytes)) e → BreaksUnder nodes most (entries_of bytes) e
+    by (View e) b = tt
+    by (Bad bad rule) (front, x, back, all, b) =
+        (take k (entries_of bytes) ++ front, x, back, sym (take-append-drop k (entries_of bytes)) ∙ ap (λ xs. take k (entries_of bytes) ++ xs) all ∙ sym (append_assoc (take k (entries_of bytes)) front (x ∷ back)), b)
+    by Memory b = tt
+
+-- ---- by the code's numbers
+
+pub is_some : (n : ℕ) → nat_lt 0 n ≡ true → 0 < n
+is_some n e = grind (arith, nat_tests)
+
+pub is_none : (n : ℕ) → nat_lt 0 n ≡ false → n ≡ 0
+is_none n e = grind (arith, nat_tests)
+
+pub one_or_none : (k : Bool) → (if k then 1 else 0) ≤ 1
+one_or_none true = omega arith
+one_or_none false = omega arith
+
+pub kind_cut : (bytes new : List ℕ) (left : ℕ) → IsLaidOut bytes → left ≤ count_of bytes → head_of new ≡ record (head_of bytes) { nextindex = left + 2 } → SameKind (head_of bytes) (head_of new)
+kind_cut bytes new left laid l is =
+    let n : field_of new 18 2 ≡ left + 2 = ap (λ (h : XtHead). h.nextindex) is in
+    let m : field_of new 20 2 ≡ field_of bytes 20 2 = ap (λ (h : XtHead). h.maxentry) is in
+    let a = laid.least in let b = laid.most in
+    record { flag = ap (λ (h : XtHead). h.flag) is; max = m; least = omega (arith, n); most = omega (arith, n, m, l, a, b) }

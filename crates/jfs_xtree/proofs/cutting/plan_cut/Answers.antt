@@ -1,0 +1,34 @@
+use Rattle.std.proofs.Common.{◌≡◌, ap, sym, subst, ◌∙◌, length, arith, false, ◌<◌}
+use Rattle.jfs_disk.specs.Image.{page_of}
+use Rattle.jfs_tree.specs.Root.{NamesBroken}
+use Rattle.jfs_xtpage.specs.declared.head.XtHead.{XtHead}
+use Rattle.jfs_xtree.specs.Node.{xt_scale, xt_node, is_leaf}
+use Rattle.jfs_xtree.specs.Spells.{root_form, root_node, page_nodes, tree_error}
+use Rattle.jfs_xtree.specs.Errors.{handed_on}
+use Rattle.jfs_xtree.specs.Cutting.{CutsExtents}
+use Rattle.jfs_xtree.proofs.Adds.{told_as}
+use Rattle.jfs_xtree.proofs.CutRoots.{cuts_extents, cut_names, root_names}
+use Rattle.jfs_xtree.proofs.cutting.plan_cut.Goals as goal
+
+pub returns-in-Err-clause-bad : goal.returns-in-Err-clause-bad
+returns-in-Err-clause-bad g c tells =
+    root_names c.root_form-form.result (root_form (length c.args.root.now)) c.blocks-blocks.result (g.V.PageView.block_count c.args.view.now) c.args.root.now (g.V.PageView.image c.args.view.now) c.in-Err.rule c.blocks-blocks.ensures c.root_form-form.ensures c.in-Err.ensures.broken
+
+pub returns-in-Err-cut_page-clause-bad : goal.returns-in-Err-cut_page-clause-bad
+returns-in-Err-cut_page-clause-bad g c tells =
+    let image = g.V.PageView.image c.args.view.now in
+    let head = c.in_default.ensures.sound.0 in
+    subst (λ r. NamesBroken xt_scale (page_nodes (g.V.PageView.block_count c.args.view.now) (page_of image)) (root_node (g.V.PageView.block_count c.args.view.now) c.args.root.now) (tree_error r)) (sym c.handed_on.ensures)
+    (subst (λ b. NamesBroken xt_scale (page_nodes b (page_of image)) (root_node b c.args.root.now) (tree_error (handed_on c.in-Err-cut_page.e))) c.blocks-blocks.ensures
+    (subst (λ f. NamesBroken xt_scale (page_nodes c.blocks-blocks.result (page_of image)) (xt_node f c.blocks-blocks.result c.args.root.now) (tree_error (handed_on c.in-Err-cut_page.e))) c.root_form-form.ensures
+    (cut_names c.root_form-form.result c.blocks-blocks.result c.args.root.now image c.in-Err-cut_page.e c.in_default.ensures.sound.1 (subst (λ (h : XtHead). is_leaf h.flag ≡ false → 2 < h.nextindex) head c.in_default.ensures.some) (c.in-Err-cut_page.ensures.bad tells))))
+
+pub returns-in-Ok-tell_cut-clause-cuts : goal.returns-in-Ok-tell_cut-clause-cuts
+returns-in-Ok-tell_cut-clause-cuts g c tells =
+    let image = g.V.PageView.image c.args.view.now in
+    let small = c.blocks-blocks.type_inv in
+    subst (λ b. CutsExtents b (page_of image) c.args.bound c.args.root.now c.close_root.new.root c.args.tx.now c.in-Ok-tell_cut.later) c.blocks-blocks.ensures
+    (cuts_extents c.blocks-blocks.result c.args.bound c.root_form-form.result image c.args.root.now c.cut_page.new.bytes c.close_root.new.root c.cut_page.new.cut.draft.pages.items c.in-Ok.kept c.cut_page.new.cut.pages.items c.cut_page.new.cut.runs c.args.tx.now c.in-Ok-tell_cut.later
+    (omega (arith, small)) c.root_form-form.ensures c.in_default.ensures.sound.1 (c.in-Ok.ensures.cuts tells) c.in-Ok.ensures.leaf c.in-Ok.ensures.kind c.in-Ok.ensures.kept c.close_root.ensures.stays c.close_root.ensures.empties
+    (told_as (g.V.PageView.block_count c.cut_page.new.view) c.blocks-blocks.result (g.V.PageView.image c.cut_page.new.view) image c.cut_page.new.cut.draft.pages.items c.args.tx.now c.in-Ok-tell_cut.later (c.in-Ok.ensures.count_of_blocks ∙ sym c.blocks-blocks.ensures) (c.in-Ok.ensures.image tells) (c.in-Ok-tell_cut.ensures.told tells))
+    c.in-Ok-tell_cut.ensures.frees)

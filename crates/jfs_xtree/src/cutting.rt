@@ -1,0 +1,160 @@
+//! A file's extents that are cut at a block of the file.
+
+ghost use Rattle.std.specs.Prelude.{◌≡◌, ◌⊎◌, ◌<◌, ◌≤◌, ◌++◌, [], ℕ, List, length, true, false, OnOk, OnErr, IfOk, IfErr};
+ghost use Rattle.jfs_disk.specs.Image.{page_of};
+ghost use Rattle.jfs_tree.specs.Call.{CarriesFault};
+ghost use Rattle.jfs_tree.specs.Root.{NamesBroken};
+ghost use Rattle.jfs_tree.specs.Tell.{TellsDraft};
+ghost use Rattle.jfs_ranges.specs.View.{CarriesCount};
+ghost use Rattle.jfs_xtpage.specs.Page.{head_of, entries_of, kind_flag};
+ghost use Rattle.jfs_xtree.specs.Node.{xt_scale};
+ghost use Rattle.jfs_xtree.specs.Spells.{IsRootSize, IsView, root_node, page_nodes, tree_error, CarriesXt};
+ghost use Rattle.jfs_xtree.specs.Adding.{EndsWith};
+ghost use Rattle.jfs_xtree.specs.Cutting.{CutsExtents, page_frees, run_frees};
+
+use crate::check::check_page;
+use crate::cut_page::cut_page;
+use crate::error::XtError;
+use crate::find::{handed_on, root_form};
+use crate::free_below::Cut;
+use crate::inserting::copy_of;
+use crate::parts::page_at;
+use jfs_bits::{PageKind, Pxd, PxdList};
+use jfs_ranges::{Edit, PageView, Tx, ViewError};
+use jfs_tree::{Draft, NO_PAGE, copy_tx, tell_draft};
+use jfs_xtpage::xt_set_kind;
+use std::alloc::{AllocError, Global};
+
+/// Cuts a file's extents at block `blocks` of the file: what begins below it stays, the last one shortened to end there. The transaction gets the changed
+/// lines, then for each page of the tree that is no more its `NoRedo` and its `Free`, and then a `Free` of each run of blocks that the extents lost, in their order.
+/// Pages on the way to the bound are read, and those that are freed; a root whose children are all gone is a leaf without extents.
+/// After an `Err` root and transaction are as before.
+pub fn cut_to<V: PageView>(
+    alloc: Global,
+    view: &mut V,
+    root: &mut [u8],
+    blocks: u64,
+    tx: &mut Tx,
+) -> Result<(), XtError>
+    requires root { IsRootSize (length root.old) }
+    ensures image { V.PageView.tells → V.PageView.image view.new ≡ V.PageView.image view.old }
+    ensures count_of_blocks { V.PageView.block_count view.new ≡ V.PageView.block_count view.old }
+    ensures fault { CarriesXt (V.PageView.fault_count view.old) (V.PageView.fault_count view.new) result }
+    ensures cuts { V.PageView.tells → OnOk result (CutsExtents (V.PageView.block_count view.old) (page_of (V.PageView.image view.old)) blocks root.old root.new tx.old tx.new) }
+    ensures kept { OnErr result ((root.new ≡ root.old) × (tx.new ≡ tx.old)) }
+    ensures bad { V.PageView.tells → IfErr result (λ e.
+        NamesBroken xt_scale (page_nodes (V.PageView.block_count view.old) (page_of (V.PageView.image view.old))) (root_node (V.PageView.block_count view.old) root.old) (tree_error e)) }
+{
+    let Ok(old) = copy_of(alloc, root) else {
+        return Err(XtError::View(ViewError::Memory));
+    };
+    match plan_cut(alloc, view, root, blocks, tx) {
+        Ok(later) => {
+            *tx = later;
+            Ok(())
+        }
+        Err(e) => {
+            root.copy_from_slice(old.as_slice());
+            Err(e)
+        }
+    }
+}
+
+#[tactic(auto, using(crate::proofs::Roots::form_fits))]
+/// Cuts a root's tree; the transaction as it is afterwards.
+fn plan_cut<V: PageView>(
+    alloc: Global,
+    view: &mut V,
+    root: &mut [u8],
+    bound: u64,
+    tx: &Tx,
+) -> Result<Tx, XtError>
+    requires root { IsRootSize (length root.old) }
+    ensures image { V.PageView.tells → V.PageView.image view.new ≡ V.PageView.image view.old }
+    ensures count_of_blocks { V.PageView.block_count view.new ≡ V.PageView.block_count view.old }
+    ensures fault { CarriesXt (V.PageView.fault_count view.old) (V.PageView.fault_count view.new) result }
+    ensures cuts { V.PageView.tells → IfOk result (λ later. CutsExtents (V.PageView.block_count view.old) (page_of (V.PageView.image view.old)) bound root.old root.new tx.now later) }
+    ensures bad { V.PageView.tells → IfErr result (λ e.
+        NamesBroken xt_scale (page_nodes (V.PageView.block_count view.old) (page_of (V.PageView.image view.old))) (root_node (V.PageView.block_count view.old) root.old) (tree_error e)) }
+{
+    let blocks = view.blocks();
+    let form = root_form(root);
+    if let Err(rule) = check_page(root, form, blocks) {
+        return Err(XtError::Bad {
+            page: NO_PAGE,
+            rule,
+        });
+    }
+    let mut cut = Cut {
+        draft: Draft::new(alloc),
+        pages: Vec::new(alloc),
+        runs: PxdList::new(alloc),
+    };
+    match cut_page(form, blocks, view, &mut cut, 7, root, bound) {
+        Ok(kept) => close_root(root, kept),
+        Err(e) => return Err(handed_on(e)),
+    }
+    match tell_cut(alloc, view, &cut, tx) {
+        Ok(later) => Ok(later),
+        Err(e) => Err(XtError::View(e)),
+    }
+}
+
+/// A root without children is a leaf.
+fn close_root(root: &mut [u8], kept: bool)
+    requires { 32 ≤ length root.old }
+    ensures stays { kept ≡ true → root.new ≡ root.old }
+    ensures empties { kept ≡ false → (head_of root.new ≡ record (head_of root.old) { flag = kind_flag (head_of root.old).flag true }) × (entries_of root.new ≡ entries_of root.old) }
+{
+    if !kept {
+        xt_set_kind(root, true);
+    }
+}
+
+#[tactic(auto, using(crate::proofs::CutTold::told_cut))]
+/// The transaction with what changed, and then what is freed.
+fn tell_cut<V: PageView>(alloc: Global, view: &mut V, cut: &Cut, tx: &Tx) -> Result<Tx, ViewError>
+    ensures image { V.PageView.tells → V.PageView.image view.new ≡ V.PageView.image view.old }
+    ensures count_of_blocks { V.PageView.block_count view.new ≡ V.PageView.block_count view.old }
+    ensures fault { CarriesCount (V.PageView.fault_count view.old) (V.PageView.fault_count view.new) result }
+    ensures told { V.PageView.tells → IfOk result (λ later. TellsDraft (V.PageView.block_count view.old) (V.PageView.image view.old) cut.now.draft.pages.items tx.now later) }
+    ensures frees { IfOk result (λ later. EndsWith later (page_frees cut.now.pages.items ++ run_frees cut.now.runs)) }
+{
+    let Ok(mut later) = copy_tx(alloc, tx) else {
+        return Err(ViewError::Memory);
+    };
+    tell_draft(alloc, view, &cut.draft, &[], PageKind::Xtree, &mut later)?;
+    match free_all(cut.pages.as_slice(), &cut.runs, &mut later) {
+        Ok(()) => Ok(later),
+        Err(_) => Err(ViewError::Memory),
+    }
+}
+
+/// Frees these pages, whose records are not to be redone, and these runs.
+fn free_all(pages: &[u32], runs: &PxdList, tx: &mut Tx) -> Result<(), AllocError>
+    ensures { OnOk result (tx.new ≡ tx.old ++ (page_frees pages.now ++ run_frees runs.now)) }
+{
+    free_pages(pages, tx)?;
+    free_runs(runs.as_slice(), tx)
+}
+
+/// Frees these pages, in their order.
+fn free_pages(pages: &[u32], tx: &mut Tx) -> Result<(), AllocError>
+    ensures { OnOk result (tx.new ≡ tx.old ++ page_frees pages.now) }
+{
+    for n in pages {
+        tx.push(Edit::NoRedo { page: *n })?;
+        tx.push(Edit::Free(page_at(*n)))?;
+    }
+    Ok(())
+}
+
+/// Frees these runs of blocks, in their order.
+fn free_runs(runs: &[Pxd], tx: &mut Tx) -> Result<(), AllocError>
+    ensures { OnOk result (tx.new ≡ tx.old ++ run_frees runs.now) }
+{
+    for run in runs {
+        tx.push(Edit::Free(*run))?;
+    }
+    Ok(())
+}
