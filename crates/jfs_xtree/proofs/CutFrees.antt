@@ -1,9 +1,9 @@
 -- Pages that are freed with all that stands below them.
-use Rattle.std.proofs.Common.{◌≡◌, ◌≤◌, ◌<◌, inr, refl, sym, ap, ◌∙◌, subst, Bool, true, false, ℕ, zero, suc, ◌+◌, ◌-◌, ◌==◌, if◌then◌else◌, List, [], ◌∷◌, ◌++◌, map, length, drop, Option, Some, arith, append_assoc}
+use Rattle.std.proofs.Common.{◌≡◌, ◌≤◌, ◌<◌, inr, refl, sym, ap, ◌∙◌, subst, Bool, true, false, ℕ, zero, suc, ◌+◌, ◌-◌, List, [], ◌∷◌, ◌++◌, map, length, drop, Option, Some, arith, append_assoc}
 use Rattle.std.specs.List.{flat_map}
 use Rattle.jfs_bits.specs.declared.extent.Xad.{Xad}
 use Rattle.jfs_bits.specs.declared.descriptor.Pxd.{Pxd}
-use Rattle.jfs_tree.specs.Walk.{Child, Node, Leaf, Inner, Page, Key, Marks, Rises, rows_of, times, under, walk}
+use Rattle.jfs_tree.specs.Walk.{Child, Node, Leaf, Inner, Page, Key, Rises, rows_of, times, under, walk}
 use Rattle.jfs_tree.specs.Edit.{count_in}
 use Rattle.jfs_tree.specs.Call.{Breaks}
 use Rattle.jfs_tree.proofs.Rising.{rises_cut}
@@ -14,7 +14,7 @@ use Rattle.jfs_tree.proofs.Leaves.{leaf_fits, cons_rows, rows_leaf, times_leaf}
 use Rattle.jfs_tree.proofs.Finding.{leaf_level, inner_level}
 use Rattle.jfs_tree.proofs.Taking.{taken_last}
 use Rattle.jfs_xtpage.specs.declared.head.XtForm.TheVariants.{Full}
-use Rattle.jfs_xtpage.specs.Page.{head_of, entries_of, entries_from, entry_of, count_of}
+use Rattle.jfs_xtpage.specs.Page.{head_of, entries_of, entry_of, count_of}
 use Rattle.jfs_bits.specs.Field.{field_of}
 use Rattle.jfs_disk.specs.Image.{Image, page_of}
 use Rattle.jfs_tree.specs.declared.form.TreeError.{TreeError}
@@ -114,7 +114,7 @@ frees_cons nodes x xs free mid freed runs between later here rest (c ∷ cs) sam
     let g = rest cs p.1 levels t.0 high t.2 in (
       λ n. (let i = h.0 n in let j = g.0 n in let k = times-append n a b in omega (arith, i, j, k)),
       g.1 ∙ ap (λ ps. ps ++ runs_of (rows_of b)) h.1 ∙ append_assoc runs (runs_of (rows_of a)) (runs_of (rows_of b))
-      ∙ ap (λ ps. runs ++ ps) (sym (ap runs_of (rows-append a b) ∙ runs_both (rows_of a) (rows_of b))),
+          ∙ ap (λ ps. runs ++ ps) (sym (ap runs_of (rows-append a b) ∙ runs_both (rows_of a) (rows_of b))),
     )
 
 -- no entry

@@ -1,12 +1,11 @@
 -- An inner page that is cut at a block of the file, and a page with what stands below it.
-use Rattle.std.proofs.Common.{◌≡◌, ◌≢◌, ◌≤◌, ◌<◌, ◌⊎◌, inl, inr, refl, sym, ap, ◌∙◌, subst, ℕ, zero, suc, ◌+◌, ◌==◌, Bool, true, false, if◌then◌else◌, List, [], ◌∷◌, ◌++◌, map, length, Option, Some, None, arith, append_assoc}
-use Rattle.std.specs.Prelude.{nat_le}
+use Rattle.std.proofs.Common.{◌≡◌, ◌≢◌, ◌≤◌, ◌<◌, refl, sym, ap, ◌∙◌, subst, ℕ, zero, suc, ◌+◌, ◌==◌, Bool, true, false, if◌then◌else◌, List, [], ◌∷◌, ◌++◌, map, Option, Some, arith}
 use Rattle.std.specs.List.{flat_map}
-use Rattle.std.proofs.lemmas.Bool.{leb-true, leb-false, le-leb, lt-leb}
+use Rattle.std.proofs.lemmas.Bool.{leb-true}
 use Rattle.std.proofs.lemmas.List.Concat.{flat_map-append}
 use Rattle.jfs_bits.specs.declared.extent.Xad.{Xad}
 use Rattle.jfs_bits.specs.declared.descriptor.Pxd.{Pxd}
-use Rattle.jfs_tree.specs.Walk.{Child, Node, Leaf, Inner, Broken, Page, Key, Row, Fault, Marks, UpTo, Rises, rows_of, times, placed, under, body, walk}
+use Rattle.jfs_tree.specs.Walk.{Child, Node, Inner, Page, Key, Row, Fault, Marks, Rises, rows_of, times, placed, under, body, walk}
 use Rattle.jfs_tree.specs.Edit.{count_in, own, bound, Tail, IsCons}
 use Rattle.jfs_tree.specs.Shrink.{kept_of}
 use Rattle.jfs_tree.proofs.Rising.{rises_higher, rises_join, rises_cut}
@@ -20,7 +19,7 @@ use Rattle.jfs_tree.proofs.Taking.{taken_last}
 use Rattle.jfs_xtree.specs.Laws.{order}
 use Rattle.jfs_xtree.specs.Node.{xt_scale, child_of}
 use Rattle.jfs_xtree.specs.Cutting.{kept_below, gone_past}
-use Rattle.jfs_xtree.specs.CutParts.{CutPart, CutsNode, CutsPage, FreesUnder, AllFrom, shows, if_kept, pages_of_children, pages_of_entries, runs_of}
+use Rattle.jfs_xtree.specs.CutParts.{CutPart, CutsNode, CutsPage, FreesUnder, AllFrom, shows, runs_of}
 use Rattle.jfs_xtree.proofs.CutRows.{kept_none, gone_all, kept_append, gone_append}
 use Rattle.jfs_xtree.proofs.CutFrees.{entry_pages}
 use Rattle.jfs_xtree.proofs.CutWalks.{span, rows_before, rows_from}

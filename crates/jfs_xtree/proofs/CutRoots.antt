@@ -1,13 +1,12 @@
 -- A whole tree that is cut at a block of the file, seen from the transaction.
-use Rattle.std.proofs.Common.{◌≡◌, ◌≢◌, ◌≤◌, ◌<◌, ◌⊎◌, inl, inr, refl, sym, ap, ◌∙◌, subst, ℕ, zero, suc, ◌+◌, ◌*◌, ◌/◌, ◌%◌, ◌==◌, ◌||◌, Bool, true, false, if◌then◌else◌, List, [], ◌∷◌, ◌++◌, map, length, Option, Some, None, Result, Ok, Err, OnOk, IfOk, arith}
-use Rattle.std.specs.Prelude.{nat_le}
+use Rattle.std.proofs.Common.{◌≡◌, ◌≢◌, ◌≤◌, ◌<◌, ◌⊎◌, inl, inr, refl, sym, ap, ◌∙◌, subst, ℕ, zero, suc, ◌+◌, ◌*◌, ◌/◌, ◌%◌, ◌==◌, ◌||◌, Bool, true, false, if◌then◌else◌, List, [], ◌∷◌, ◌++◌, map, length, None, Ok, arith}
 use Rattle.std.proofs.lemmas.Bool.{eqb-true, lt-leb, le-leb}
 use Rattle.std.proofs.lemmas.Bool.Decides.{nat_tests}
 use Rattle.jfs_bits.specs.declared.extent.Xad.{Xad}
 use Rattle.jfs_bits.specs.declared.descriptor.Pxd.{Pxd}
 use Rattle.jfs_disk.specs.Image.{Image, page_of}
 use Rattle.jfs_ranges.specs.declared.edit.Edit.{Edit}
-use Rattle.jfs_tree.specs.Walk.{Child, Node, Leaf, Inner, Broken, Page, Key, Marks, Rises, rows_of, times, placed, body, walk}
+use Rattle.jfs_tree.specs.Walk.{Node, Leaf, Inner, Broken, Page, Key, Rises, rows_of, times, placed, walk}
 use Rattle.jfs_tree.specs.Spells.{no_page, with_root, top, tree_of, spells, footprint}
 use Rattle.jfs_tree.specs.Edit.{count_in, IsPast}
 use Rattle.jfs_bits.specs.declared.rule.Rule.{Rule}
@@ -21,7 +20,7 @@ use Rattle.jfs_tree.specs.declared.form.TreeError.{TreeError}
 use Rattle.jfs_tree.specs.declared.form.TreeError.TheVariants.{View, Bad, Memory}
 use Rattle.jfs_tree.proofs.Frame.{frame, same_body}
 use Rattle.jfs_tree.proofs.Once.{each_once}
-use Rattle.jfs_tree.proofs.Spelled.{Stands, stands, tree_rises, spelled}
+use Rattle.jfs_tree.proofs.Spelled.{stands, tree_rises, spelled}
 use Rattle.jfs_tree.proofs.Tops.{root_else, page_or}
 use Rattle.jfs_tree.proofs.Footprint.{spells_frame, footprint_frame}
 use Rattle.jfs_tree.proofs.Within.{footprint_within}
@@ -33,9 +32,9 @@ use Rattle.jfs_xtpage.specs.Page.{head_of, entries_of, count_of, end_of, rises_f
 use Rattle.jfs_xtpage.proofs.Entries.{length-entries}
 use Rattle.jfs_xtree.specs.Laws.{order, ends_after}
 use Rattle.jfs_xtree.specs.Node.{xt_scale, xt_node, fits_flag, fits_max, is_leaf, child_of, all_within, IsSound, SameKind}
-use Rattle.jfs_xtree.specs.Spells.{root_form, root_node, page_nodes, tree_error}
+use Rattle.jfs_xtree.specs.Spells.{root_form, page_nodes, tree_error}
 use Rattle.jfs_xtree.specs.Errors.{handed_on}
-use Rattle.jfs_xtree.specs.Adding.{EndsWith, LeadsTo, after_tx}
+use Rattle.jfs_xtree.specs.Adding.{EndsWith, after_tx}
 use Rattle.jfs_xtree.specs.Cutting.{kept_below, gone_past, page_frees, run_frees, HasOnlyBelow, CutsExtents}
 use Rattle.jfs_xtree.specs.CutParts.{CutPart, CutsNode, BreaksUnder, KeepsSome, naming, shows, if_kept}
 use Rattle.jfs_xtree.proofs.Reading.{leaf_is, sound_leaf, sound_inner}
@@ -247,18 +246,20 @@ pub cuts_extents : (blocks bound : ℕ) (form : XtForm) (image : Image) (root mi
     → TellsDraft blocks image drafts tx later → EndsWith later (page_frees freed ++ run_frees runs) → CutsExtents blocks (page_of image) bound root new tx later
 cuts_extents blocks bound form image root mid new drafts kept freed runs tx later small is sound cuts leaf kind some stays empties told ends es spelt =
     let drafted = nodes (xt_node Full blocks) drafts image in
-    let c = root_done form blocks bound root mid new image drafts kept freed runs es sound cuts leaf kind some stays empties (subst (λ f. spells xt_scale (page_nodes blocks (page_of image)) (xt_node f blocks root) ≡ Ok es) (sym is) spelt) in
-    (freed, subst (λ ps. EndsWith later (page_frees freed ++ run_frees ps)) c.gone ends,
+    let c = root_done form blocks bound root mid new image drafts kept freed runs es sound cuts leaf kind some stays empties (subst (λ f. spells xt_scale (page_nodes blocks (page_of image)) (xt_node f blocks root) ≡ Ok es) (sym is) spelt) in (
+      freed,
+      subst (λ ps. EndsWith later (page_frees freed ++ run_frees ps)) c.gone ends,
       λ base leads.
-      let now = page_nodes blocks (after_tx base later) in
-      let agree = λ (n : ℕ) (h : n < blocks). ap (xt_node Full blocks) (told n h (base n) (leads n h).0 (leads n h).1) in
-      let frame = λ (n : ℕ) (h : 0 < footprint xt_scale drafted (xt_node form blocks new) n). agree n (footprint_within xt_scale drafted (xt_node form blocks new) n blocks (has_pages form blocks new) (λ m. has_pages Full blocks (shown drafts image m)) h) in
-      let whole : HasOnlyBelowIn form blocks bound es (page_of image) (after_tx base later) root new freed = record {
-        spelled = spells_frame xt_scale drafted now (xt_node form blocks new) frame ∙ c.spelled;
-        owned = λ n. (let f = footprint_frame xt_scale drafted now (xt_node form blocks new) frame n in let p = c.owned n in omega (arith, f, p));
-        keeps = λ n h z. agree n h ∙ c.keeps n (less_page n blocks h small) (sym (footprint_frame xt_scale drafted now (xt_node form blocks new) frame n) ∙ z);
-      } in
-      as_root form blocks bound es (page_of image) (after_tx base later) root new freed is whole)
+          let now = page_nodes blocks (after_tx base later) in
+          let agree = λ (n : ℕ) (h : n < blocks). ap (xt_node Full blocks) (told n h (base n) (leads n h).0 (leads n h).1) in
+          let frame = λ (n : ℕ) (h : 0 < footprint xt_scale drafted (xt_node form blocks new) n). agree n (footprint_within xt_scale drafted (xt_node form blocks new) n blocks (has_pages form blocks new) (λ m. has_pages Full blocks (shown drafts image m)) h) in
+          let whole : HasOnlyBelowIn form blocks bound es (page_of image) (after_tx base later) root new freed = record {
+            spelled = spells_frame xt_scale drafted now (xt_node form blocks new) frame ∙ c.spelled;
+            owned = λ n. (let f = footprint_frame xt_scale drafted now (xt_node form blocks new) frame n in let p = c.owned n in omega (arith, f, p));
+            keeps = λ n h z. agree n h ∙ c.keeps n (less_page n blocks h small) (sym (footprint_frame xt_scale drafted now (xt_node form blocks new) frame n) ∙ z);
+          } in
+          as_root form blocks bound es (page_of image) (after_tx base later) root new freed is whole,
+    )
 
 -- ---- a page that breaks a rule
 

@@ -9,7 +9,7 @@ use Rattle.jfs_xtpage.specs.Page.{entries_of, entries_from, entry_of, count_of, 
 use Rattle.jfs_xtpage.proofs.Entries.{last}
 use Rattle.jfs_xtree.specs.Laws.{ends_after}
 use Rattle.jfs_xtree.specs.Cutting.{up_to, kept_below, gone_of, gone_past}
-use Rattle.jfs_xtree.specs.CutParts.{AllFrom, KeepsSome, runs_of}
+use Rattle.jfs_xtree.specs.CutParts.{AllFrom, runs_of}
 use Rattle.jfs_xtree.proofs.Pages.{rises_less}
 use Rattle.jfs_xtree.proofs.Inners.{cut_at, length_front}
 

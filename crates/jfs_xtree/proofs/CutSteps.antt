@@ -1,7 +1,7 @@
 -- The steps of a cut, from what the code says of its pages.
-use Rattle.std.proofs.Common.{◌≡◌, ◌≢◌, ◌≤◌, ◌<◌, ◌⊎◌, inl, inr, refl, sym, ap, ◌∙◌, subst, ℕ, zero, suc, ◌+◌, ◌-◌, ◌==◌, Bool, true, false, ◌&&◌, if◌then◌else◌, List, [], ◌∷◌, ◌++◌, map, length, take, drop, Result, Ok, Err, IfOk, IfErr, OnOk, arith, append_assoc}
+use Rattle.std.proofs.Common.{◌≡◌, ◌≤◌, ◌<◌, refl, sym, ap, ◌∙◌, subst, ℕ, suc, ◌+◌, ◌-◌, ◌==◌, Bool, true, false, ◌&&◌, if◌then◌else◌, List, [], ◌∷◌, ◌++◌, map, length, take, drop, Result, Ok, Err, IfOk, IfErr, OnOk, arith, append_assoc}
 use Rattle.std.specs.Prelude.{nat_le, nat_lt}
-use Rattle.std.proofs.lemmas.Bool.{leb-true, leb-false, le-leb, lt-leb, ne_eqb}
+use Rattle.std.proofs.lemmas.Bool.{leb-true, leb-false, le-leb, ne_eqb}
 use Rattle.std.proofs.lemmas.Bool.Decides.{nat_tests}
 use Rattle.std.proofs.lemmas.List.{take-append-drop}
 use Rattle.jfs_bits.specs.declared.extent.Xad.{Xad}
@@ -13,7 +13,7 @@ use Rattle.jfs_tree.specs.Edit.{IsCons}
 use Rattle.jfs_tree.specs.Shrink.{kept_of}
 use Rattle.jfs_tree.specs.Removal.{Settles}
 use Rattle.jfs_tree.specs.Draft.{shown}
-use Rattle.jfs_tree.specs.Call.{nodes, Breaks}
+use Rattle.jfs_tree.specs.Call.{nodes}
 use Rattle.jfs_tree.specs.declared.draft.Drafted.{Drafted}
 use Rattle.jfs_tree.specs.declared.form.TreeError.{TreeError}
 use Rattle.jfs_tree.specs.declared.form.TreeError.TheVariants.{View, Bad, Memory}
@@ -28,7 +28,7 @@ use Rattle.jfs_xtree.specs.Node.{xt_node, is_leaf, is_within, all_within, child_
 use Rattle.jfs_xtree.specs.Spells.{page_nodes}
 use Rattle.jfs_xtree.specs.Cutting.{up_to, kept_below, gone_past}
 use Rattle.jfs_xtree.specs.CutParts.{CutsNode, CutsPage, FreesUnder, BreaksUnder, BreaksAt, KeepsSome, AllFrom, naming}
-use Rattle.jfs_xtree.proofs.Reading.{and_true, is_rising, sound_leaf, sound_inner}
+use Rattle.jfs_xtree.proofs.Reading.{and_true, sound_leaf, sound_inner}
 use Rattle.jfs_xtree.proofs.Pages.{leaf_made, inner_made, rises_less, rises_more, rises_weaker, rises_front, within_both, within_front}
 use Rattle.jfs_xtree.proofs.Inners.{cut_at, length_front, map_cut}
 use Rattle.jfs_xtree.proofs.CutRows.{from_place, take_one_more}

@@ -1,31 +1,22 @@
 -- The part of a tree below a page that is cut at a block of the file.
-use Rattle.std.proofs.Common.{◌≡◌, ◌≢◌, ◌≤◌, ◌<◌, refl, sym, ap, ◌∙◌, subst, ℕ, zero, suc, ◌+◌, ◌-◌, ◌==◌, Bool, true, false, if◌then◌else◌, List, [], ◌∷◌, ◌++◌, map, length, Option, Some, None, arith, append_assoc}
+use Rattle.std.proofs.Common.{◌≡◌, ◌≤◌, ◌<◌, refl, sym, ap, ◌∙◌, subst, ℕ, zero, suc, ◌+◌, ◌-◌, ◌==◌, Bool, true, false, if◌then◌else◌, List, [], ◌∷◌, map, length, Option, Some, arith}
 use Rattle.std.specs.Prelude.{nat_le, ◌||◌}
-use Rattle.std.specs.List.{flat_map}
-use Rattle.std.proofs.lemmas.Bool.{leb-true, leb-false, le-leb, lt-leb}
-use Rattle.std.proofs.lemmas.List.Concat.{flat_map-append}
+use Rattle.std.proofs.lemmas.Bool.{leb-true, leb-false, le-leb}
 use Rattle.jfs_bits.specs.declared.extent.Xad.{Xad}
 use Rattle.jfs_bits.specs.declared.descriptor.Pxd.{Pxd}
 use Rattle.jfs_bits.specs.declared.rule.Rule.TheVariants as rules
-use Rattle.jfs_tree.specs.Walk.{Child, Node, Leaf, Inner, Broken, Page, Key, Row, Fault, Marks, UpTo, Rises, rows_of, times, placed, under, body, walk}
-use Rattle.jfs_tree.specs.Edit.{count_in, own, bound, Tail, IsCons, FitsFirst}
-use Rattle.jfs_tree.specs.Shrink.{kept_of}
-use Rattle.jfs_tree.proofs.Rising.{upto_lower, rises_lower, rises_higher, rises_join, rises_cut}
-use Rattle.jfs_tree.proofs.Frame.{times-append, rows-append, frame, same_body}
-use Rattle.jfs_tree.proofs.Between.{append_nil, rows_three, times_three, cut_at_key}
-use Rattle.jfs_tree.proofs.Keys.{rises_up, child_from}
-use Rattle.jfs_tree.proofs.Steps.{under_parts, placed_inner, untouched, starts_or_none}
+use Rattle.jfs_tree.specs.Walk.{Child, Node, Leaf, Broken, Page, Key, Row, Fault, Marks, UpTo, Rises, rows_of, times, placed, body, walk}
+use Rattle.jfs_tree.specs.Edit.{count_in, bound, FitsFirst}
+use Rattle.jfs_tree.proofs.Rising.{upto_lower, rises_lower, rises_cut}
+use Rattle.jfs_tree.proofs.Between.{append_nil}
+use Rattle.jfs_tree.proofs.Keys.{rises_up}
 use Rattle.jfs_tree.proofs.Leaves.{rows_leaf, times_leaf, placed_leaf}
-use Rattle.jfs_tree.proofs.Growing.{own_page}
-use Rattle.jfs_tree.proofs.Once.{each_once}
-use Rattle.jfs_tree.proofs.Taking.{taken_last}
 use Rattle.jfs_xtpage.specs.Page.{end_of}
 use Rattle.jfs_xtree.specs.Laws.{order, ends_after}
-use Rattle.jfs_xtree.specs.Node.{xt_scale, child_of}
+use Rattle.jfs_xtree.specs.Node.{xt_scale}
 use Rattle.jfs_xtree.specs.Cutting.{up_to, kept_below, gone_past}
-use Rattle.jfs_xtree.specs.CutParts.{CutPart, CutsNode, CutsPage, FreesUnder, AllFrom, shows, if_kept, pages_of_children, pages_of_entries, runs_of}
-use Rattle.jfs_xtree.proofs.CutRows.{kept_none, gone_all, kept_append, gone_append, kept_first, gone_first}
-use Rattle.jfs_xtree.proofs.CutFrees.{entry_pages}
+use Rattle.jfs_xtree.specs.CutParts.{CutsNode, AllFrom, shows}
+use Rattle.jfs_xtree.proofs.CutRows.{kept_none, gone_all, kept_first, gone_first}
 
 -- what rises comes up to its end
 pub span : (low : ℕ) (ms : Marks ℕ Xad) (high : Option ℕ) → Rises xt_scale low ms high → UpTo xt_scale low high

@@ -1,5 +1,5 @@
 -- Parts of a cut, for the prover alone.
-use Rattle.std.specs.Prelude.{◌≡◌, ◌<◌, ◌≤◌, ◌+◌, ℕ, Bool, true, false, length, if◌then◌else◌, List, [], ◌∷◌, ◌++◌, map, Option, Result, Ok, Err}
+use Rattle.std.specs.Prelude.{◌≡◌, ◌<◌, ◌≤◌, ◌+◌, ℕ, Bool, true, false, length, if◌then◌else◌, List, [], ◌∷◌, ◌++◌, map, Option}
 use Rattle.std.specs.List.{flat_map}
 use Rattle.jfs_bits.specs.declared.extent.Xad.{Xad}
 use Rattle.jfs_bits.specs.declared.descriptor.Pxd.{Pxd}

@@ -14,11 +14,7 @@ use jfs_tree::TreeError;
 use jfs_xtpage::{xt_cut, xt_entry, xt_put};
 
 /// Keeps a leaf's extents below the bound, and frees the blocks of the others. Whether any is left.
-pub(crate) fn cut_leaf(
-    runs: &mut PxdList,
-    bytes: &mut [u8],
-    bound: u64,
-) -> Result<bool, TreeError>
+pub(crate) fn cut_leaf(runs: &mut PxdList, bytes: &mut [u8], bound: u64) -> Result<bool, TreeError>
     requires page { IsLaidOut bytes.old }
     requires order { rises_from 0 (entries_of bytes.old) ≡ true }
     ensures rows { OnOk result (entries_of bytes.new ≡ kept_below bound (entries_of bytes.old)) }
@@ -51,12 +47,7 @@ fn first_past(bytes: &[u8], bound: u64) -> u16
 }
 
 /// Frees what the last extent that is kept has past the bound, and the extents behind it.
-fn push_rest(
-    runs: &mut PxdList,
-    bytes: &[u8],
-    keep: u16,
-    bound: u64,
-) -> Result<(), TreeError>
+fn push_rest(runs: &mut PxdList, bytes: &[u8], keep: u16, bound: u64) -> Result<(), TreeError>
     requires page { IsLaidOut bytes.now }
     requires order { rises_from 0 (entries_of bytes.now) ≡ true }
     requires most { keep ≤ count_of bytes.now }

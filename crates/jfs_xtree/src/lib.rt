@@ -2,7 +2,6 @@
 #![tactic(auto)]
 
 mod check;
-mod free_below;
 mod children;
 mod cut_leaf;
 mod cut_page;
@@ -10,6 +9,7 @@ mod cutting;
 mod error;
 mod find;
 mod form;
+mod free_below;
 mod fresh;
 mod inserting;
 mod parts;

@@ -1,4 +1,4 @@
-use Rattle.std.proofs.Common.{◌≡◌, ◌-◌, ◌∙◌, ap, take, subst, arith}
+use Rattle.std.proofs.Common.{◌-◌, ◌∙◌, ap, take, arith}
 use Rattle.jfs_xtpage.specs.Page.{entries_of}
 use Rattle.jfs_xtree.proofs.CutRows.{rows_none, rows_at}
 use Rattle.jfs_xtree.proofs.cut_leaf.cut_leaf.Goals as goal

@@ -1,8 +1,4 @@
-use Rattle.std.proofs.Common.{◌≡◌, ◌++◌, ◌-◌, ◌+◌, ap, sym, ◌∙◌, arith, take, drop, []}
-use Rattle.jfs_bits.specs.declared.extent.Xad.{Xad}
-use Rattle.jfs_xtpage.specs.Page.{entries_of}
-use Rattle.jfs_xtree.specs.Cutting.{gone_past, gone_of}
-use Rattle.jfs_xtree.specs.CutParts.{runs_of}
+use Rattle.std.proofs.Common.{◌-◌, arith}
 use Rattle.jfs_xtree.proofs.CutRows.{gone_none_before, gone_at}
 use Rattle.jfs_xtree.proofs.cut_leaf.push_rest.Goals as goal
 use Rattle.jfs_xtree.proofs.cut_leaf.push_rest.Goals.{then-keep-gt0+in_ok-push_tail, else-keep-gt0}

@@ -1,13 +1,13 @@
-use Rattle.std.proofs.Common.{◌≡◌, ap, sym, subst, ◌∙◌, arith, ◌+◌, ◌-◌, drop, true, false, if◌then◌else◌, ℕ, List, Ok, Err}
+use Rattle.std.proofs.Common.{ap, sym, subst, ◌∙◌, arith, ◌+◌, ◌-◌, drop, List}
 use Rattle.std.specs.Prelude.{nat_lt}
 use Rattle.jfs_disk.specs.Image.{Image, page_of}
 use Rattle.jfs_tree.specs.Call.{nodes}
 use Rattle.jfs_tree.specs.declared.draft.Drafted.{Drafted}
 use Rattle.jfs_xtpage.specs.declared.head.XtForm.TheVariants.{Full}
-use Rattle.jfs_xtpage.specs.Page.{entries_of, count_of}
+use Rattle.jfs_xtpage.specs.Page.{entries_of}
 use Rattle.jfs_xtree.specs.Node.{xt_node, is_leaf}
 use Rattle.jfs_xtree.specs.Spells.{page_nodes}
-use Rattle.jfs_xtree.specs.CutParts.{CutsPage, FreesUnder, BreaksUnder, BreaksAt}
+use Rattle.jfs_xtree.specs.CutParts.{CutsPage, FreesUnder, BreaksUnder}
 use Rattle.jfs_xtree.proofs.Reading.{is_rising}
 use Rattle.jfs_xtree.proofs.CutSteps.{leaf_done, page_settled, inner_done, left_some, breaks_child, breaks_here, breaks_behind, is_some, is_none, one_or_none, kind_cut}
 use Rattle.jfs_xtree.proofs.cut_page.+cut_page.Goals as goal

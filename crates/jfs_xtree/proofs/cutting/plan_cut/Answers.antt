@@ -1,4 +1,4 @@
-use Rattle.std.proofs.Common.{◌≡◌, ap, sym, subst, ◌∙◌, length, arith, false, ◌<◌}
+use Rattle.std.proofs.Common.{◌≡◌, sym, subst, ◌∙◌, length, arith, false, ◌<◌}
 use Rattle.jfs_disk.specs.Image.{page_of}
 use Rattle.jfs_tree.specs.Root.{NamesBroken}
 use Rattle.jfs_xtpage.specs.declared.head.XtHead.{XtHead}

@@ -1,5 +1,4 @@
-use Rattle.std.proofs.Common.{◌≡◌, ◌++◌, ◌∷◌, [], ap, sym, subst, ◌∙◌, arith, ◌+◌, ◌-◌, drop, ℕ, List}
-use Rattle.jfs_bits.specs.declared.descriptor.Pxd.{Pxd}
+use Rattle.std.proofs.Common.{◌++◌, ap, sym, subst, ◌∙◌, arith, ◌+◌, ◌-◌, drop}
 use Rattle.jfs_disk.specs.Image.{Image, page_of}
 use Rattle.jfs_xtpage.specs.Page.{entries_of}
 use Rattle.jfs_xtree.specs.Spells.{page_nodes}

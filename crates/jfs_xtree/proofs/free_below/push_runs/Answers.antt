@@ -1,4 +1,4 @@
-use Rattle.std.proofs.Common.{◌≡◌, ◌-◌, ap, drop, arith}
+use Rattle.std.proofs.Common.{drop, arith}
 use Rattle.jfs_xtpage.specs.Page.{entries_of}
 use Rattle.jfs_xtree.proofs.CutFrees.{run_pushed, runs_pushed}
 use Rattle.jfs_xtree.proofs.free_below.push_runs.Goals as goal
