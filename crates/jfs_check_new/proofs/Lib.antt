@@ -1,0 +1,4 @@
+mod Files
+mod Objects
+mod Maps
+mod NewClean

@@ -1,0 +1,2 @@
+-- what the clause says
+pub mod Law
