@@ -13,3 +13,4 @@ pub mod RootLoss
 pub mod Fresh
 pub mod Adds
 pub mod Room
+pub mod Walking

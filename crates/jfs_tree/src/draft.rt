@@ -68,7 +68,7 @@ impl Draft {
     }
 }
 
-fn copy_of(page: &Page) -> Page
+pub(crate) fn copy_of(page: &Page) -> Page
     ensures { result.0 ≡ page.now.0 }
 {
     Page(page.0)

@@ -17,6 +17,11 @@ mod take;
 mod take_root;
 mod tell;
 mod tell_all;
+mod walk_down;
+mod walk_leaf;
+mod walk_read;
+mod walk_root;
+mod walk_visit;
 
 pub use add_told::add_and_tell;
 pub use copy::copy_tx;
@@ -30,3 +35,6 @@ pub use remove_root::remove_entry;
 pub use root::{add_entry, find_entry};
 pub use tell::{tell_page, tell_whole};
 pub use tell_all::tell_draft;
+pub use walk_read::{PageRead, Shape};
+pub use walk_root::walk_tree;
+pub use walk_visit::Visitor;
