@@ -33,7 +33,7 @@ mod RootLost
 pub mod Runs
 pub mod Adds
 pub mod Rooms
-mod Walked
+pub mod Walked
 mod WalkSteps
 mod WalkFirst
 mod WalkRoot

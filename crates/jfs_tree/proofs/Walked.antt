@@ -1,8 +1,9 @@
 -- Walks, cut and joined, and what they tell of a root.
-use Rattle.std.proofs.Common.{◌≡◌, inl, inr, refl, sym, ap, ◌∙◌, subst, ℕ, Bool, true, false, List, [], ◌∷◌, ◌++◌, if◌then◌else◌, Result, Ok, Err}
+use Rattle.std.proofs.Common.{◌≡◌, inl, inr, refl, sym, ap, ◌∙◌, subst, ℕ, Bool, true, false, List, [], ◌∷◌, ◌++◌, if◌then◌else◌, ◌+◌, ◌==◌, append_assoc, arith, Result, Ok, Err}
+use Rattle.std.proofs.lemmas.List.{append-nil}
 use Rattle.jfs_bits.specs.declared.rule.Rule.{Rule}
 use Rattle.jfs_bits.specs.declared.rule.Rule.TheVariants as rules
-use Rattle.jfs_tree.specs.Walk.{Page, Key, Row, Fault, Marks, Scale, rows_of}
+use Rattle.jfs_tree.specs.Walk.{Page, Key, Row, Fault, Marks, Scale, rows_of, times}
 use Rattle.jfs_tree.specs.Spells.{judge, with_row}
 use Rattle.jfs_tree.specs.Walking.{Stops, Meets}
 use Rattle.jfs_tree.specs.declared.form.TreeError.{TreeError}
@@ -137,3 +138,58 @@ met_bad {P} s page row low v (Row n e ∷ ms) p rule w h = elim h [
   | inr t ↦ named n p rules.Order rule v w (judge s low (Row n e ∷ ms)) (if_false (s.le low (s.from e)) (with_row e (judge s (s.to e) ms)) _ t.0) t.1
 ]
 met_bad s page row low v (Fault n f ∷ ms) p rule w h = named n p f rule v w (judge s low (Fault n f ∷ ms)) refl h
+
+-- ---- what a visitor has at the end
+
+-- one that keeps the entries
+pub gathers : {P E V : Type 0} (s : Scale P E) (page : V → ℕ → V → Type 0) (row : V → ℕ → E → V → Type 0) (kept : V → List E)
+    → ((v : V) (n : ℕ) (u : V) → page v n u → kept u ≡ kept v) → ((v : V) (n : ℕ) (e : E) (u : V) → row v n e u → kept u ≡ kept v ++ e ∷ [])
+    → (low : P) (v : V) (ms : Marks P E) (m : P) (w : V) → Meets s page row low v ms (Ok m) w → kept w ≡ kept v ++ rows_of ms
+gathers s page row kept p q low v [] m w h = ap kept h.1 ∙ sym (append-nil (kept v))
+gathers s page row kept p q low v (Page n ∷ ms) m w h = elim h [
+  | inl t ↦ absurd (not_both m (View t.0) t.1)
+  | inr t ↦ gathers s page row kept p q low t.0 ms m w t.2 ∙ ap (λ es. es ++ rows_of ms) (p v n t.0 t.1)
+]
+gathers s page row kept p q low v (Key n k ∷ ms) m w h = elim h [
+  | inl t ↦ gathers s page row kept p q k v ms m w t.1
+  | inr t ↦ stops_on n rules.Order v w m t.1
+]
+gathers s page row kept p q low v (Row n e ∷ ms) m w h = elim h [
+  | inl t ↦ elim t.1 [
+    | inl x ↦ absurd (not_both m Memory x)
+    | inr x ↦ gathers s page row kept p q (s.to e) x.0 ms m w x.2 ∙ ap (λ es. es ++ rows_of ms) (q v n e x.0 x.1) ∙ append_assoc (kept v) (e ∷ []) (rows_of ms)
+  ]
+  | inr t ↦ stops_on n rules.Order v w m t.1
+]
+gathers s page row kept p q low v (Fault n rule ∷ ms) m w h = stops_on n rule v w m h
+
+plus_last : (a b c d : ℕ) → a ≡ b + c → c ≡ d → a ≡ b + d
+plus_last a b c d e f = omega (arith, e, f)
+
+plus_first : (a b c x d : ℕ) → a ≡ b + c → c ≡ x + d → a ≡ (x + b) + d
+plus_first a b c x d e f = omega (arith, e, f)
+
+-- one that counts a page
+pub counts : {P E V : Type 0} (s : Scale P E) (page : V → ℕ → V → Type 0) (row : V → ℕ → E → V → Type 0) (count : V → ℕ) (p : ℕ)
+    → ((v : V) (n : ℕ) (u : V) → page v n u → count u ≡ (if n == p then 1 else 0) + count v) → ((v : V) (n : ℕ) (e : E) (u : V) → row v n e u → count u ≡ count v)
+    → (low : P) (v : V) (ms : Marks P E) (m : P) (w : V) → Meets s page row low v ms (Ok m) w → count w ≡ times p ms + count v
+counts s page row count p f g low v [] m w h = ap count h.1 ∙ plus_zero (count v)
+  where
+    plus_zero : (n : ℕ) → n ≡ 0 + n
+    plus_zero n = omega arith
+counts s page row count p f g low v (Page n ∷ ms) m w h = elim h [
+  | inl t ↦ absurd (not_both m (View t.0) t.1)
+  | inr t ↦ plus_first (count w) (times p ms) (count t.0) (if n == p then 1 else 0) (count v) (counts s page row count p f g low t.0 ms m w t.2) (f v n t.0 t.1)
+]
+counts s page row count p f g low v (Key n k ∷ ms) m w h = elim h [
+  | inl t ↦ counts s page row count p f g k v ms m w t.1
+  | inr t ↦ stops_on n rules.Order v w m t.1
+]
+counts s page row count p f g low v (Row n e ∷ ms) m w h = elim h [
+  | inl t ↦ elim t.1 [
+    | inl x ↦ absurd (not_both m Memory x)
+    | inr x ↦ plus_last (count w) (times p ms) (count x.0) (count v) (counts s page row count p f g (s.to e) x.0 ms m w x.2) (g v n e x.0 x.1)
+  ]
+  | inr t ↦ stops_on n rules.Order v w m t.1
+]
+counts s page row count p f g low v (Fault n rule ∷ ms) m w h = stops_on n rule v w m h

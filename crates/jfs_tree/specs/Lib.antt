@@ -14,3 +14,4 @@ pub mod Fresh
 pub mod Adds
 pub mod Room
 pub mod Walking
+pub mod Laws
