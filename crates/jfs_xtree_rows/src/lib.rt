@@ -4,6 +4,10 @@
 #[cfg(test)]
 mod adding;
 #[cfg(test)]
+mod cut_hostile;
+#[cfg(test)]
+mod cutting;
+#[cfg(test)]
 mod hostile;
 #[cfg(test)]
 mod shelf;

@@ -5,8 +5,8 @@ ghost use Rattle.jfs_xtree.specs.Node.{IsGood};
 
 use jfs_bits::{Pxd, PxdList, Xad};
 use jfs_disk::Page;
-use jfs_ranges::{PageView, Tx, ViewError, apply};
-use jfs_xtree::{XtError, add, lookup, new_root};
+use jfs_ranges::{Edit, PageView, Tx, ViewError, apply};
+use jfs_xtree::{XtError, add, cut_to, lookup, new_root};
 use std::alloc::{AllocError, Global};
 
 /// The pages of a volume of 64 blocks.
@@ -92,6 +92,26 @@ impl File {
         Ok(answer)
     }
 
+    /// Cuts the tree at a block, and the plain list too; what the transaction tells of free pages and blocks.
+    pub fn cuts(&mut self, alloc: Global, bound: u64) -> Result<Result<Told, XtError>, AllocError> {
+        let mut tx = Tx::new(alloc);
+        if let Err(e) = cut_to(alloc, &mut self.volume, &mut self.root, bound, &mut tx) {
+            return Ok(Err(e));
+        }
+        self.applies(&tx);
+        self.cuts_plain(bound);
+        Ok(Ok(count_told(&tx)))
+    }
+
+    fn cuts_plain(&mut self, bound: u64) {
+        for x in self.plain.iter_mut() {
+            let left = bound.saturating_sub(x.offset);
+            if u64::from(x.at.len) > left {
+                x.at.len = left as u32;
+            }
+        }
+    }
+
     fn applies(&mut self, tx: &Tx) {
         let mut n: u32 = 0;
         for page in self.volume.pages.iter_mut() {
@@ -119,6 +139,28 @@ impl File {
         }
         None
     }
+}
+
+/// What a cut told: how many pages' records aren't to be redone, and how many blocks are free, also those of the pages.
+#[derive(Clone, Copy, PartialEq, Eq, Debug)]
+pub struct Told {
+    pub pages: u32,
+    pub blocks: u64,
+}
+
+fn count_told(tx: &Tx) -> Told {
+    let mut told = Told {
+        pages: 0,
+        blocks: 0,
+    };
+    for edit in tx.as_slice() {
+        match edit {
+            Edit::NoRedo { .. } => told.pages = told.pages.saturating_add(1),
+            Edit::Free(run) => told.blocks = told.blocks.saturating_add(u64::from(run.len)),
+            _ => {}
+        }
+    }
+    told
 }
 
 /// Eight free blocks from this one on.
