@@ -1,6 +1,7 @@
 -- An entry that was added to the tree, seen from the transaction.
-use Rattle.std.proofs.Common.{sym, ◌≡◌, ◌<◌, ap, ◌∙◌, subst, ℕ, List, [], Result, Ok, Err, IfOk, arith}
+use Rattle.std.proofs.Common.{length, ◌+◌, suc, ◌⊎◌, inl, inr, sym, ◌≡◌, ◌<◌, ap, ◌∙◌, subst, ℕ, List, [], Result, Ok, Err, IfOk, arith}
 use Rattle.std.specs.Prelude.{reverse}
+use Rattle.std.proofs.lemmas.List.{length-reverse}
 use Rattle.jfs_disk.specs.Image.{Image, page_of}
 use Rattle.jfs_ranges.specs.declared.edit.Edit.{Edit}
 use Rattle.jfs_tree.specs.Walk.{Node, Scale}
@@ -11,7 +12,8 @@ use Rattle.jfs_tree.specs.Call.{nodes}
 use Rattle.jfs_tree.specs.Draft.{shown}
 use Rattle.jfs_tree.specs.Tell.{TellsDraft}
 use Rattle.jfs_tree.specs.Fresh.{after_tx, HasPages}
-use Rattle.jfs_tree.specs.Adds.{read_as, AddsTold}
+use Rattle.jfs_tree.specs.Adds.{read_as, on_page, AddsTold, RefusesWhereFull}
+use Rattle.jfs_tree.specs.Room.{at_page, FullDown, FullUp, FullFrom, TakesWhereFull, LevelsWhereFull}
 use Rattle.jfs_tree.specs.declared.draft.Drafted.{Drafted}
 use Rattle.jfs_tree.specs.declared.form.TreeError.{TreeError}
 use Rattle.jfs_tree.specs.declared.form.TreeError.TheVariants.{View, Bad, Memory}
@@ -56,6 +58,46 @@ module _ {P E : Type 0} (s : Scale P E) (x : E) (node : List ℕ → Node P E) w
         owned = λ n. (let f = footprint_frame s drafted now after frame n in let p = a.pages n in let c = counts n in let l = lefts n in omega (arith, f, p, c, l));
         keeps = λ n h z e. agree n h ∙ a.keeps n z (counts n ∙ e ∙ lefts n);
       }
+
+  -- ---- room
+
+  full_free : (pages : ℕ → Node P E) (root : Node P E) (free : List ℕ) (full : Type 0) (e : TreeError) → RefusesWhereFull s x pages root (reverse free) full e → RefusesWhereFull s x pages root free full e
+  full_free pages root free full (View e) h = h
+  full_free pages root free full (Bad page rule) h = λ es spelled apart spare. h es spelled apart (spare_reversed pages root free spare)
+  full_free pages root free full Memory h = h
+
+  levels_refuse : (old new : ℕ → Node P E) (root after : Node P E) (free : List ℕ) (full : Type 0) (e : TreeError) → LevelsWhereFull s x old new root after free full (Err e) → RefusesWhereFull s x old root free full e
+  levels_refuse old new root after free full (View e) h = h
+  levels_refuse old new root after free full (Bad page rule) h = h
+  levels_refuse old new root after free full Memory h = h
+
+  pub full_as : (image : Image) (root after : Node P E) (is_full lacks : List ℕ → Type 0) (no_room : Type 0) (no_place : P → Type 0) (stack free : List ℕ) (ds drafts : List Drafted) (e : TreeError) → stack ≡ reverse free → ds ≡ []
+      → LevelsWhereFull s x (nodes node ds image) (nodes node drafts image) root after stack (FullFrom s x (nodes node ds image) (at_page is_full ds image) (at_page lacks ds image) root no_room no_place) (Err e)
+      → RefusesWhereFull s x (read_as node (page_of image)) root free (FullFrom s x (read_as node (page_of image)) (on_page is_full (page_of image)) (on_page lacks (page_of image)) root no_room no_place) e
+  full_as image root after is_full lacks no_room no_place stack free ds drafts e es ed h =
+      let full = λ (d : List Drafted). FullFrom s x (nodes node d image) (at_page is_full d image) (at_page lacks d image) root no_room no_place in
+      full_free (read_as node (page_of image)) root free (full []) e
+      (subst (λ g. RefusesWhereFull s x (nodes node [] image) root g (full []) e) es
+      (subst (λ d. RefusesWhereFull s x (nodes node d image) root stack (full d) e) ed (levels_refuse (nodes node ds image) (nodes node drafts image) root after stack (full ds) e h)))
+
+  takes_named : (pages : ℕ → Node P E) (is_full lacks : ℕ → Type 0) (root : Node P E) (no_room : Type 0) (no_place : P → Type 0) (free left stack rest : List ℕ) → length stack ≡ length free → length rest ≡ length left
+      → TakesWhereFull s x pages is_full lacks root no_room no_place stack rest → TakesWhereFull s x pages is_full lacks root no_room no_place free left
+  takes_named pages is_full lacks root no_room no_place free left stack rest a b (inl none) = inl (omega (arith, a, b, none))
+  takes_named pages is_full lacks root no_room no_place free left stack rest a b (inr (inl here)) = let n = here.2 in inr (inl (here.0, here.1, omega (arith, a, b, n)))
+  takes_named pages is_full lacks root no_room no_place free left stack rest a b (inr (inr down)) = inr (inr (down.0, down.1, down.2, down.3, by down.4))
+    where
+      by : (((taken : ℕ) × FullUp s x pages is_full lacks down.2 down.1 taken × (length stack ≡ length rest + taken)) ⊎ (FullDown s x pages is_full lacks down.2 down.1 × ((key : P) × no_place key) × (length stack ≡ length rest + suc down.2)))
+          → (((taken : ℕ) × FullUp s x pages is_full lacks down.2 down.1 taken × (length free ≡ length left + taken)) ⊎ (FullDown s x pages is_full lacks down.2 down.1 × ((key : P) × no_place key) × (length free ≡ length left + suc down.2)))
+      by (inl up) = let n = up.2 in inl (up.0, up.1, omega (arith, a, b, n))
+      by (inr all) = let n = all.2 in inr (all.0, all.1, omega (arith, a, b, n))
+
+  pub takes_as : (image : Image) (root : Node P E) (is_full lacks : List ℕ → Type 0) (no_room : Type 0) (no_place : P → Type 0) (free left stack rest : List ℕ) (ds : List Drafted) → ds ≡ [] → stack ≡ reverse free → left ≡ reverse rest
+      → TakesWhereFull s x (nodes node ds image) (at_page is_full ds image) (at_page lacks ds image) root no_room no_place stack rest
+      → TakesWhereFull s x (read_as node (page_of image)) (on_page is_full (page_of image)) (on_page lacks (page_of image)) root no_room no_place free left
+  takes_as image root is_full lacks no_room no_place free left stack rest ds ed is_stack is_left h =
+      takes_named (read_as node (page_of image)) (on_page is_full (page_of image)) (on_page lacks (page_of image)) root no_room no_place free left stack rest
+      (ap length is_stack ∙ length-reverse free) (sym (ap length is_left ∙ length-reverse rest))
+      (subst (λ d. TakesWhereFull s x (nodes node d image) (at_page is_full d image) (at_page lacks d image) root no_room no_place stack rest) ed h)
 
 pub told_as : (now blocks : ℕ) (view image : Image) (drafts : List Drafted) (tx later : List Edit) → now ≡ blocks → view ≡ image → TellsDraft now view drafts tx later → TellsDraft blocks image drafts tx later
 told_as now blocks view image drafts tx later en ei told = subst (λ i. TellsDraft blocks i drafts tx later) ei (subst (λ b. TellsDraft b view drafts tx later) en told)

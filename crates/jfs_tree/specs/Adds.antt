@@ -6,6 +6,8 @@ use Rattle.jfs_tree.specs.Spells.{spells, footprint}
 use Rattle.jfs_tree.specs.Edit.{Added, IsApart, count_in}
 use Rattle.jfs_tree.specs.Root.{IsSpare}
 use Rattle.jfs_tree.specs.Fresh.{LeadsTo, after_tx}
+use Rattle.jfs_tree.specs.declared.form.TreeError.{TreeError}
+use Rattle.jfs_tree.specs.declared.form.TreeError.TheVariants.{View, Bad, Memory}
 
 -- what pages read as
 abbrev pub read_as : {P E : Type 0} → (List ℕ → Node P E) → (ℕ → List ℕ) → ℕ → Node P E
@@ -24,3 +26,13 @@ pub record HasOneMore {P E : Type 0} (s : Scale P E) (blocks : ℕ) (x : E) (es 
 abbrev pub AddsTold : {P E : Type 0} → Scale P E → (List ℕ → Node P E) → ℕ → (ℕ → List ℕ) → E → Node P E → Node P E → List ℕ → List ℕ → List Edit → List Edit → Type 0
 AddsTold {E = E} s node blocks pages x root after free left tx later = (base : ℕ → List ℕ) → LeadsTo blocks base tx pages → (es : List E) → spells s (read_as node pages) root ≡ Ok es → IsApart s x es → IsSpare s (read_as node pages) root free
     → HasOneMore s blocks x es (read_as node pages) (read_as node (after_tx base later)) root after free left
+
+-- An entry is refused only where no page on its way has room, in whatever list the root spells.
+abbrev pub RefusesWhereFull : {P E : Type 0} → Scale P E → E → (ℕ → Node P E) → Node P E → List ℕ → Type 0 → TreeError → Type 0
+RefusesWhereFull s x pages root free full (View e) = Unit {0}
+RefusesWhereFull {E = E} s x pages root free full (Bad bad rule) = (es : List E) → spells s pages root ≡ Ok es → IsApart s x es → IsSpare s pages root free → full
+RefusesWhereFull s x pages root free full Memory = Unit {0}
+
+-- what holds of the bytes of a page
+abbrev pub on_page : (List ℕ → Type 0) → (ℕ → List ℕ) → ℕ → Type 0
+on_page holds pages n = holds (pages n)

@@ -3,7 +3,7 @@ use Rattle.std.specs.Prelude.{reverse}
 use Rattle.jfs_tree.specs.Form.{AllBelow}
 use Rattle.jfs_tree.specs.Fresh.{blocks_of}
 use Rattle.jfs_tree.proofs.Runs.{below_reverse, left_named, taken_named}
-use Rattle.jfs_tree.proofs.Adds.{refuses_as, adds_told, told_as, ok_maps}
+use Rattle.jfs_tree.proofs.Adds.{refuses_as, adds_told, told_as, ok_maps, full_as, takes_as}
 use Rattle.jfs_tree.proofs.add_told.plan.Goals as goal
 
 pub add_entry-requires-clause-within : goal.add_entry-requires-clause-within
@@ -32,3 +32,25 @@ pub returns-clause-taken : goal.returns-clause-taken
 returns-clause-taken g c =
     ok_maps c.finish.result c.finish.ensures.rest c.finish.ensures.allocs (λ p rest ends.
     taken_named (blocks_of c.args.fresh.now) c.as_slice.result.now (blocks_of p.fresh) (length c.as_slice.result.now - c.len.result) p.tx (c.as_slice.ensures.value ∙ c.in-Ok.ensures) rest ends)
+
+pub returns-in-Err-clause-full : goal.returns-in-Err-clause-full
+returns-in-Err-clause-full g c tells =
+    full_as g.F.PageForm.scale c.args.x.now (g.F.PageForm.node c.args.form.now) (g.V.PageView.image c.args.view.now) (g.F.PageForm.node c.args.top.now c.args.root.now) (g.F.PageForm.node c.args.top.now c.add_entry.new.root)
+    (g.F.PageForm.is_full c.args.form.now) (λ bytes. g.F.PageForm.has_no_room c.args.form.now bytes c.args.x.now)
+    (g.F.PageForm.is_full c.args.top.now c.args.root.now × g.F.PageForm.has_no_room c.args.top.now c.args.root.now c.args.x.now)
+    (λ key. g.F.PageForm.is_full c.args.top.now c.args.root.now × g.F.PageForm.has_no_place c.args.top.now c.args.root.now key)
+    c.reversed-stack.result.items (blocks_of c.args.fresh.now) c.new-draft.result.pages.items c.add_entry.new.draft.pages.items c.in-Err.e
+    (c.reversed-stack.ensures ∙ ap reverse c.in-Ok-blocks_of.ensures) c.new-draft.ensures (c.in-Err.ensures.levels tells)
+
+pub returns-clause-room : goal.returns-clause-room
+returns-clause-room g c tells =
+    ok_maps c.finish.result c.finish.ensures.rest c.finish.ensures.rest (λ p rest again.
+    takes_as g.F.PageForm.scale c.args.x.now (g.F.PageForm.node c.args.form.now) (g.V.PageView.image c.args.view.now) (g.F.PageForm.node c.args.top.now c.args.root.now)
+    (g.F.PageForm.is_full c.args.form.now) (λ bytes. g.F.PageForm.has_no_room c.args.form.now bytes c.args.x.now)
+    (g.F.PageForm.is_full c.args.top.now c.args.root.now × g.F.PageForm.has_no_room c.args.top.now c.args.root.now c.args.x.now)
+    (λ key. g.F.PageForm.is_full c.args.top.now c.args.root.now × g.F.PageForm.has_no_place c.args.top.now c.args.root.now key)
+    (blocks_of c.args.fresh.now) (blocks_of p.fresh) c.reversed-stack.result.items c.add_entry.new.fresh.items c.new-draft.result.pages.items c.new-draft.ensures
+    (c.reversed-stack.ensures ∙ ap reverse c.in-Ok-blocks_of.ensures)
+    (left_named (blocks_of c.args.fresh.now) c.as_slice.result.now c.reversed-stack.result.items c.add_entry.new.fresh.items (blocks_of p.fresh) c.len.result
+    (c.as_slice.ensures.value ∙ c.in-Ok.ensures) (c.len.ensures ∙ c.add_entry.new.fresh.ok.0) (c.reversed-stack.ensures ∙ ap reverse c.in-Ok-blocks_of.ensures) c.add_entry.ensures.front rest)
+    (c.in_default-add_entry.ensures.taken tells))
