@@ -9,3 +9,5 @@ pub mod InUse
 pub mod Sound
 pub mod BothWays
 pub mod Compared
+pub mod Readable
+pub mod Consistent

@@ -7,6 +7,7 @@ use Rattle.jfs_bmap.specs.MapFile.{IsMapPage}
 use Rattle.jfs_iag.specs.Canonical.{IsIagPage, IsControlPage}
 use Rattle.jfs_iag.specs.declared.canonical.Links.{Links}
 use Rattle.jfs_meaning.specs.Readers.{readers}
+use Rattle.jfs_meaning.specs.Image.{IsConsistentImage}
 use Rattle.jfs_check.specs.Subject.{Subject}
 use Rattle.jfs_check.specs.Maps.{IsMapPageAs, IsIagAs, IsInodeControlAs}
 use Rattle.jfs_check.specs.Clean.{HasNoFinding, IsSoundVolume}
@@ -21,6 +22,10 @@ subject_of super page = record { readers = readers (blocks_of super); super = su
 pub record CleanLaw : Type 0 where
   pub sound : (super : Super) (pages : ℕ) (page : ℕ → List ℕ) → IsAccepted super pages → HasNoFinding (subject_of super page) → IsSoundVolume (subject_of super page)
   pub clean : (super : Super) (page : ℕ → List ℕ) → IsSoundVolume (subject_of super page) → HasNoFinding (subject_of super page)
+
+-- A sound volume is consistent in the sense that the calls on files need and keep.
+abbrev pub ConsistentLaw : Type 0
+ConsistentLaw = (super : Super) (page : ℕ → List ℕ) → IsSoundVolume (subject_of super page) → IsConsistentImage super page
 
 -- There is one list of the findings at most.
 abbrev pub OneListLaw : Type 0

@@ -1,10 +1,15 @@
 //! What findings tell of a volume.
 
-ghost use Rattle.jfs_check.specs.Laws.{CanonicalLaw, CleanLaw, OneListLaw};
+ghost use Rattle.jfs_check.specs.Laws.{CanonicalLaw, CleanLaw, ConsistentLaw, OneListLaw};
 
 /// A volume without findings is a sound one, and a sound one has none.
 pub fn clean_volumes_are_sound()
     ensures { CleanLaw }
+{}
+
+/// A sound volume is consistent: so one without findings is.
+pub fn sound_volumes_are_consistent()
+    ensures { ConsistentLaw }
 {}
 
 /// A volume has one list of findings at most.
