@@ -3,6 +3,7 @@ use Rattle.std.proofs.Common.{◌≡◌, ◌≢◌, ◌≤◌, ◌<◌, inl, inr
 use Rattle.std.specs.Prelude.{cond}
 use Rattle.std.specs.declared.result.Result.{Result}
 use Rattle.std.proofs.lemmas.Bool.{cases_lt, eqb-true, eq-eqb, ne_eqb, and_parts}
+use Rattle.std.proofs.lemmas.Bool.Decides.{nat_tests}
 use Rattle.std.proofs.lemmas.List.Sums.{sum_by-cons}
 use Rattle.jfs_bits.specs.declared.rule.Rule.{Rule}
 use Rattle.jfs_name.specs.declared.name.NameEntry.{NameEntry}
@@ -18,11 +19,11 @@ use Rattle.jfs_objects.proofs.Owned.{outside}
 use Rattle.jfs_objects.proofs.Found.{object_at}
 use Rattle.jfs_objects.proofs.Sums.{eq_or_not, sum_one, sum_two}
 use Rattle.jfs_meaning.specs.Node.{node_in}
+use Rattle.jfs_meaning.proofs.New.{sum_zero}
 use Rattle.jfs_meaning.specs.Consistent.{is_reserved, leading_to, names_in, names_for, names_to, links_due, MayBeNamed, HasItsName, IsRoot, IsConsistent}
 use Rattle.jfs_check.specs.Subject.{Subject, volume, object}
 use Rattle.jfs_check.specs.Names.{readable, readable_node, most, leads, StandsAt}
-use Rattle.jfs_check.specs.Clean.{IsSoundVolume}
-use Rattle.jfs_check.specs.Laws.{ConsistentLaw, subject_of}
+use Rattle.jfs_check.specs.Clean.{IsSoundVolume, IsTidy}
 use Rattle.jfs_check.proofs.Mounted.{mounted, has_top}
 use Rattle.jfs_check.proofs.Readable.{file_tree, same_nodes, spelled_object, kind_is, same_for, same_counts, same_links}
 
@@ -183,5 +184,31 @@ module _ (s : Subject) (is : IsSoundVolume s) where
     };
   }
 
-pub consistent_law : ConsistentLaw
-consistent_law super page is = consistent (subject_of super page) is
+  -- no reserved inode has a name, and so none is a directory
+  never_named : (n : ℕ) → n < 4 → names_to (most s) (file_tree s) n ≡ 0
+  never_named n l = sum_zero (most s) (λ dir. names_for (file_tree s) dir n) (λ dir. elim (cases_lt 0 (names_for (file_tree s) dir n)) [
+    | inl some ↦ absurd (let m = (may_be_named dir n some).0 in omega (arith, m, l))
+    | inr none ↦ omega (arith, none)
+  ])
+
+  not_reserved : (n : ℕ) (o : Object) → object s n ≡ Some o → has_names o.inode ≡ true → is_reserved n ≡ false
+  not_reserved n o e d = by (is_reserved n) refl
+    where
+      low : (n : ℕ) → is_reserved n ≡ true → (n < 4) × (n ≢ 2)
+      low n h = (grind (arith, nat_tests), λ e. cc (sym (ap is_reserved e) ∙ h))
+
+      by : (x : Bool) → is_reserved n ≡ x → is_reserved n ≡ false
+      by false h = h
+      by true h = absurd (let w = low n h in let one = ((is.parents n o e d).below w.1).one in let zero_is = never_named n w.0 in let same = same_counts (file_tree s) (readable s) nodes_are (most s) n in omega (arith, one, zero_is, same))
+
+  pub tidy : IsTidy s
+  tidy = record {
+    mounts = is.mounts;
+    files = is.files;
+    reserved = not_reserved;
+    nblocks = is.nblocks;
+    ends = is.ends;
+    full = is.full;
+    block_map = is.block_map;
+    inode_map = is.inode_map;
+  }

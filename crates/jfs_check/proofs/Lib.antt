@@ -11,3 +11,4 @@ pub mod BothWays
 pub mod Compared
 pub mod Readable
 pub mod Consistent
+pub mod Tidy

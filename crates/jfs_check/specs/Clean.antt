@@ -42,3 +42,15 @@ pub record IsSoundVolume (s : Subject) : Type 0 where
   -- the pages of both maps are canonical in what is compared
   pub block_map : (j : ℕ) → is_in_use (blocks s) j ≡ true → IsBlockMapPage s j
   pub inode_map : (j : ℕ) → j < suc (iags s) → IsInodeMapPage s j
+
+-- What only a check looks at: beside a consistent file tree, its maps and its owners.
+pub record IsTidy (s : Subject) : Type 0 where
+  pub mounts : broken_mount s ≡ None
+  pub files : (k : ℕ) → Contains files k → (es : List Xad) × (listed s.readers.extents_order (file_walk s.readers s.page k) ≡ Ok es)
+  -- no reserved inode is a directory
+  pub reserved : (n : ℕ) (o : Object) → object s n ≡ Some o → has_names o.inode ≡ true → is_reserved n ≡ false
+  pub nblocks : (n : ℕ) (o : Object) → object s n ≡ Some o → o.inode.nblocks ≡ blocks_owned s.readers o
+  pub ends : (n : ℕ) (o : Object) → object s n ≡ Some o → is_past s.readers o ≡ false
+  pub full : (n : ℕ) (o : Object) → object s n ≡ Some o → has_extents o.inode ≡ true → (page : ℕ) → IsThinIn (extent_nodes s o.inode) page → ⊥
+  pub block_map : (j : ℕ) → is_in_use (blocks s) j ≡ true → IsBlockMapPage s j
+  pub inode_map : (j : ℕ) → j < suc (iags s) → IsInodeMapPage s j

@@ -10,7 +10,7 @@ use Rattle.jfs_meaning.specs.Readers.{readers}
 use Rattle.jfs_meaning.specs.Image.{IsConsistentImage}
 use Rattle.jfs_check.specs.Subject.{Subject}
 use Rattle.jfs_check.specs.Maps.{IsMapPageAs, IsIagAs, IsInodeControlAs}
-use Rattle.jfs_check.specs.Clean.{HasNoFinding, IsSoundVolume}
+use Rattle.jfs_check.specs.Clean.{HasNoFinding, IsSoundVolume, IsTidy}
 use Rattle.jfs_check.specs.Findings.{AreFindings}
 use Rattle.jfs_check.specs.declared.finding.Finding.{Finding}
 
@@ -23,9 +23,11 @@ pub record CleanLaw : Type 0 where
   pub sound : (super : Super) (pages : ℕ) (page : ℕ → List ℕ) → IsAccepted super pages → HasNoFinding (subject_of super page) → IsSoundVolume (subject_of super page)
   pub clean : (super : Super) (page : ℕ → List ℕ) → IsSoundVolume (subject_of super page) → HasNoFinding (subject_of super page)
 
--- A sound volume is consistent in the sense that the calls on files need and keep.
-abbrev pub ConsistentLaw : Type 0
-ConsistentLaw = (super : Super) (page : ℕ → List ℕ) → IsSoundVolume (subject_of super page) → IsConsistentImage super page
+-- A sound volume is one that is consistent in the sense that the calls on files need and keep, and tidy in what only a check looks at.
+pub record ConsistentLaw : Type 0 where
+  pub consistent : (super : Super) (page : ℕ → List ℕ) → IsSoundVolume (subject_of super page) → IsConsistentImage super page
+  pub tidy : (super : Super) (page : ℕ → List ℕ) → IsSoundVolume (subject_of super page) → IsTidy (subject_of super page)
+  pub sound : (super : Super) (page : ℕ → List ℕ) → IsConsistentImage super page → IsTidy (subject_of super page) → IsSoundVolume (subject_of super page)
 
 -- There is one list of the findings at most.
 abbrev pub OneListLaw : Type 0

@@ -7,8 +7,8 @@ pub fn clean_volumes_are_sound()
     ensures { CleanLaw }
 {}
 
-/// A sound volume is consistent: so one without findings is.
-pub fn sound_volumes_are_consistent()
+/// A sound volume, and so one without findings, is one that is consistent and tidy.
+pub fn sound_volumes_are_consistent_and_tidy()
     ensures { ConsistentLaw }
 {}
 

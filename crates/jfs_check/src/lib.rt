@@ -7,5 +7,5 @@ mod law;
 pub use finding::{Finding, FindingKind};
 pub use law::{
     canonical_pages_pass, clean_volumes_are_sound, findings_are_one_list,
-    sound_volumes_are_consistent,
+    sound_volumes_are_consistent_and_tidy,
 };
