@@ -13,3 +13,4 @@ pub mod Unlinks
 pub mod Departs
 pub mod Renames
 pub mod Steps
+pub mod Fresh

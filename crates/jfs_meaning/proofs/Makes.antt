@@ -8,9 +8,8 @@ use Rattle.jfs_plain.specs.Step.{entry_as, gained}
 use Rattle.jfs_plain.specs.declared.node.Node.{Node}
 use Rattle.jfs_tree.specs.Edit.{count_in}
 use Rattle.jfs_objects.specs.Owners.{bit}
-use Rattle.jfs_objects.proofs.Sums.{zero_or_more}
+use Rattle.jfs_objects.proofs.Sums.{zero_or_more, sum_zero}
 use Rattle.jfs_meaning.specs.Consistent.{leading_to, names_in, names_for, names_to, is_directory, subdirectories, links_due, HasItsName, IsConsistentTree}
-use Rattle.jfs_meaning.proofs.New.{sum_zero}
 use Rattle.jfs_meaning.proofs.Books.{number_of, Books, Changes, open_books, close_books, changed_books, counted, charge, is_it, only_none, only_one}
 use Rattle.jfs_meaning.proofs.Appear.{comes, same_names}
 use Rattle.jfs_meaning.proofs.Moves.{changed_here, kept, takes, turns}

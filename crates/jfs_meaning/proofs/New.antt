@@ -7,14 +7,9 @@ use Rattle.jfs_plain.specs.Tree.{Tree, root}
 use Rattle.jfs_plain.specs.Moves.{Same, new_directory}
 use Rattle.jfs_plain.specs.Plain.{new_tree}
 use Rattle.jfs_plain.specs.declared.node.Node.{Node}
-use Rattle.jfs_objects.specs.Owners.{sum_below}
 use Rattle.jfs_meaning.specs.Consistent.{is_reserved, leading_to, names_in, links_due, IsConsistentTree}
 use Rattle.jfs_meaning.specs.Laws.{NewTreeLaw}
-
-pub sum_zero : (n : ℕ) (f : ℕ → ℕ) → ((k : ℕ) → f k ≡ 0) → sum_below n f ≡ 0
-unfolding sum_below
-sum_zero zero f h = refl
-sum_zero (suc n) f h = let a = sum_zero n f h in let b = h n in omega (arith, a, b)
+use Rattle.jfs_meaning.proofs.Books.{some_is}
 
 module _ (most : ℕ) (now : Moment) (t : Tree) (room : 4 ≤ most) (same : Same (new_tree now) t) where
   late : (n : ℕ) → 4 ≤ n → (new_tree now).nodes n ≡ None
@@ -49,9 +44,6 @@ module _ (most : ℕ) (now : Moment) (t : Tree) (room : 4 ≤ most) (same : Same
       early (suc (suc zero)) l e = refl
       early (suc (suc (suc zero))) l e = absurd (cc (e))
       early (suc (suc (suc (suc n)))) l e = absurd (omega (arith, l))
-
-  some_is : {x y : Node} → Some x ≡ Some y → x ≡ y
-  some_is h = cc (h)
 
   root_is : (o : Node) → t.nodes root ≡ Some o → new_directory 493 root now ≡ o
   root_is o there = some_is (sym (same.nodes root) ∙ there)

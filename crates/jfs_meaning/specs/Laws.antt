@@ -1,5 +1,5 @@
 -- What edits of one object do to the tree.
-use Rattle.std.specs.Prelude.{◌≡◌, ◌≢◌, ◌≤◌, ◌<◌, ℕ, not, false, List, Option, Some, None}
+use Rattle.std.specs.Prelude.{◌≡◌, ◌≢◌, ◌≤◌, ◌<◌, ℕ, not, false, List, is_some, Option, Some, None}
 use Rattle.jfs_bits.specs.Bits.{count_below}
 use Rattle.jfs_bits.specs.declared.descriptor.Moment.{Moment}
 use Rattle.jfs_inode.specs.declared.fields.Dinode.{Dinode}
@@ -11,15 +11,15 @@ use Rattle.jfs_plain.specs.declared.call.Call.{Call}
 use Rattle.jfs_plain.specs.declared.node.Node.{Node}
 use Rattle.jfs_plain.specs.declared.reply.Reply.{Reply}
 use Rattle.jfs_objects.specs.Readers.{Readers}
-use Rattle.jfs_objects.specs.Volume.{Volume}
+use Rattle.jfs_objects.specs.Volume.{Volume, room}
 use Rattle.jfs_objects.specs.Objects.{Object, objects, spelled}
 use Rattle.jfs_objects.specs.Owners.{Agrees, IsSound}
 use Rattle.jfs_objects.specs.Changes.{put, WritesData, SetsObject, DropsObject, AddsExtent}
 use Rattle.jfs_meaning.specs.Contents.{byte_in}
 use Rattle.jfs_meaning.specs.Node.{node_of, is_symbolic}
 use Rattle.jfs_meaning.specs.Tree.{node_on, byte_on, tree_on}
-use Rattle.jfs_meaning.specs.Consistent.{IsConsistentTree}
-use Rattle.jfs_meaning.specs.Room.{free_blocks}
+use Rattle.jfs_meaning.specs.Consistent.{IsConsistentTree, IsConsistent}
+use Rattle.jfs_meaning.specs.Room.{free_blocks, room_on}
 
 -- One node and its contents are others; all other nodes and contents are as they were.
 pub record ChangesOneNode (r : Readers) (v w : Volume) (n : ℕ) (node : Option Node) (bytes : ℕ → ℕ) : Type 0 where
@@ -55,6 +55,14 @@ FreeLaw = (r : Readers) (v : Volume) (blocks : ℕ) → Agrees r v → free_bloc
 abbrev pub IsFresh : ℕ → Tree → Option ℕ → Type 0
 IsFresh most t None = Unit {0}
 IsFresh most t (Some n) = (4 ≤ n) × (n < most) × (t.nodes n ≡ None)
+
+-- Where maps agree and no tree breaks a rule, the nodes of the tree are the inodes in use.
+abbrev pub NodesLaw : Type 0
+NodesLaw = (r : Readers) (v : Volume) (n : ℕ) → IsSound r v → is_some (node_on r v n) ≡ v.in_use n
+
+-- The room of a consistent volume has such a number, or none.
+abbrev pub FreshLaw : Type 0
+FreshLaw = (r : Readers) (v : Volume) (blocks log_pages : ℕ) → IsConsistent r v → IsFresh (room v) (tree_on r v) (room_on r v blocks log_pages).inode
 
 -- A call keeps a tree consistent.
 abbrev pub StepLaw : Type 0

@@ -1,6 +1,6 @@
 //! Laws of a volume's tree.
 
-ghost use Rattle.jfs_meaning.specs.Laws.{SetTreeLaw, DropTreeLaw, ExtentTreeLaw, DataTreeLaw, FreeLaw, NewTreeLaw, StepLaw};
+ghost use Rattle.jfs_meaning.specs.Laws.{SetTreeLaw, DropTreeLaw, ExtentTreeLaw, DataTreeLaw, FreeLaw, NewTreeLaw, StepLaw, NodesLaw, FreshLaw};
 
 /// Setting an object, or making one, changes its node and its contents alone.
 pub fn one_node_is_set()
@@ -30,6 +30,16 @@ pub fn free_blocks_are_unused()
 /// The tree of a new volume is consistent.
 pub fn new_trees_are_consistent()
     ensures { NewTreeLaw }
+{}
+
+/// Where maps agree and no tree breaks a rule, the nodes of a volume's tree are its inodes in use.
+pub fn nodes_are_in_use()
+    ensures { NodesLaw }
+{}
+
+/// The number that the room of a consistent volume gives a new object is free, and isn't reserved.
+pub fn fresh_numbers_are_free()
+    ensures { FreshLaw }
 {}
 
 /// Every call keeps a tree consistent, whatever it is answered.

@@ -1,12 +1,13 @@
 -- The maps of a new volume agree with its objects.
-use Rattle.std.proofs.Common.{◌≡◌, ◌<◌, refl, sym, ap, ◌∙◌, subst, ℕ, zero, suc, ◌+◌, Bool, true, false, nat_lt, if◌then◌else◌, Some, None, is_some, arith}
+use Rattle.std.proofs.Common.{◌≡◌, ◌<◌, refl, sym, ap, ◌∙◌, subst, ℕ, ◌+◌, Bool, true, false, nat_lt, if◌then◌else◌, Some, None, is_some, arith}
 use Rattle.std.proofs.lemmas.Bool.Decides.{nat_tests}
 use Rattle.jfs_disk.specs.Image.{Image}
 use Rattle.jfs_objects.specs.Readers.{Readers}
 use Rattle.jfs_objects.specs.Volume.{room}
 use Rattle.jfs_objects.specs.Objects.{Object, IsWhole, objects}
-use Rattle.jfs_objects.specs.Owners.{holds, sum_below, bit, extents_have, Agrees, IsSound}
+use Rattle.jfs_objects.specs.Owners.{holds, bit, extents_have, Agrees, IsSound}
 use Rattle.jfs_objects.specs.Image.{area_on}
+use Rattle.jfs_objects.proofs.Sums.{sum_zero}
 use Rattle.jfs_objects.proofs.Owned.{holds_none}
 use Rattle.jfs_format.specs.Layout.{IsLayout, map_pages, inode_map, owned_blocks}
 use Rattle.jfs_format.specs.Superblock.{new_super}
@@ -18,11 +19,6 @@ use Rattle.jfs_new_volume.proofs.Runs.{run, joined, from_first}
 use Rattle.jfs_new_volume.proofs.Files.{has_is, no_bad_blocks}
 use Rattle.jfs_new_volume.proofs.Maps.{extents_have_it, block_is, inode_is}
 use Rattle.jfs_new_volume.proofs.Objects.{whole_is, has_no_block, objects_are}
-
-sum_zero : (n : ℕ) (f : ℕ → ℕ) → ((k : ℕ) → f k ≡ 0) → sum_below n f ≡ 0
-unfolding sum_below
-sum_zero zero f h = refl
-sum_zero (suc n) f h = let a = sum_zero n f h in let b = h n in omega (arith, a, b)
 
 module _ (r : Readers) (pages : ℕ) (v : NewVolume) (image : Image) (layout : IsLayout pages v.layout) (roots : ReadsRoots r v.layout.blocks) (is : IsNewVolume v image) where
   below : (n : ℕ) → nat_lt n 4 ≡ true → n < 4

@@ -8,6 +8,12 @@ unfolding sum_below
 sum_same zero f g h = refl
 sum_same (suc n) f g h = let a = sum_same n f g (λ k l. h k (omega arith)) in let b = h n (omega arith) in omega (arith, a, b)
 
+-- nothing anywhere
+pub sum_zero : (n : ℕ) (f : ℕ → ℕ) → ((k : ℕ) → f k ≡ 0) → sum_below n f ≡ 0
+unfolding sum_below
+sum_zero zero f h = refl
+sum_zero (suc n) f h = let a = sum_zero n f h in let b = h n in omega (arith, a, b)
+
 -- one place changed
 pub sum_put : (n : ℕ) (f g : ℕ → ℕ) (m : ℕ) → m < n → ((k : ℕ) → k < n → k ≢ m → g k ≡ f k) → sum_below n g + f m ≡ sum_below n f + g m
 unfolding sum_below
