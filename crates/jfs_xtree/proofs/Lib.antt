@@ -15,3 +15,4 @@ pub mod CutInners
 pub mod CutSteps
 pub mod CutTold
 pub mod CutRoots
+pub mod Entered

@@ -151,20 +151,21 @@ parts_rows front (x ∷ back) key b = record {
     part [] n low high r = (subst (λ k. nat_le low k ≡ true) (sym b) r.0, (le-leb key x.offset (omega (arith, b)), r.1))
     part (f ∷ front) n low high r = let t = part front n (end_of f) high r.1 in ((r.0, t.0), t.1)
 
+-- the number of slots of a form
+either_is : (m a b : ℕ) → (m == a || m == b) ≡ true → (m ≡ a) ⊎ (m ≡ b)
+either_is m a b e = grind (arith, nat_tests)
+
+only : (m a : ℕ) → (m == a) ≡ true → m ≡ a
+only m a e = grind (arith, nat_tests)
+
+pub slots : (form : XtForm) (m : ℕ) → fits_max form m ≡ true → (6 ≤ m) × (m ≤ slots_of form) × (16 * m ≤ bytes_of form)
+slots Root m e = elim (either_is m 10 18 e) [ inl h ↦ (omega (arith, h), omega (arith, h), omega (arith, h)) | inr h ↦ (omega (arith, h), omega (arith, h), omega (arith, h)) ]
+slots Full m e = let h = only m 256 e in (omega (arith, h), omega (arith, h), omega (arith, h))
+slots Small m e = let h = only m 6 e in (omega (arith, h), omega (arith, h), omega (arith, h))
+
 -- a full page's slots lie within its bytes
 pub full_laid_out : (form : XtForm) (bytes : List ℕ) → length bytes ≡ bytes_of form → HasNoRoom form bytes → IsLaidOut bytes × (6 ≤ (head_of bytes).maxentry) × ((head_of bytes).maxentry ≤ slots_of form)
 full_laid_out form bytes size full =
     let m = slots form (head_of bytes).maxentry full.max in
     let a = full.all in
     (record { least = (let h = m.0 in omega (arith, h, a)); most = omega (arith, a); within = (let h = m.2 in omega (arith, h, size)) }, m.0, m.1)
-  where
-    either_is : (m a b : ℕ) → (m == a || m == b) ≡ true → (m ≡ a) ⊎ (m ≡ b)
-    either_is m a b e = grind (arith, nat_tests)
-
-    only : (m a : ℕ) → (m == a) ≡ true → m ≡ a
-    only m a e = grind (arith, nat_tests)
-
-    slots : (form : XtForm) (m : ℕ) → fits_max form m ≡ true → (6 ≤ m) × (m ≤ slots_of form) × (16 * m ≤ bytes_of form)
-    slots Root m e = elim (either_is m 10 18 e) [ inl h ↦ (omega (arith, h), omega (arith, h), omega (arith, h)) | inr h ↦ (omega (arith, h), omega (arith, h), omega (arith, h)) ]
-    slots Full m e = let h = only m 256 e in (omega (arith, h), omega (arith, h), omega (arith, h))
-    slots Small m e = let h = only m 6 e in (omega (arith, h), omega (arith, h), omega (arith, h))

@@ -6,3 +6,4 @@ pub mod Errors
 pub mod Laws
 pub mod Cutting
 pub mod CutParts
+pub mod Extents

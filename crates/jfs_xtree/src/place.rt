@@ -104,7 +104,7 @@ pub(crate) fn find_at(bytes: &[u8], place: u16, x: &Xad) -> Option<Xad>
 }
 
 /// The blocks of its file that an extent takes.
-fn length_of(x: &Xad) -> u64
+pub(crate) fn length_of(x: &Xad) -> u64
     ensures { x.now.offset + result ≡ end_of x.now }
 {
     let len = x.at.len;
