@@ -85,7 +85,7 @@ the_first : (key : List ℕ) (back : List NameEntry) → IsCons back → not_aft
 the_first key [] some h = absurd some
 the_first key (b ∷ back) some h = h
 
-cons_map : {X Y : Type 0} (f : X → Y) (xs : List X) → IsCons xs → IsCons (map f xs)
+pub cons_map : {X Y : Type 0} (f : X → Y) (xs : List X) → IsCons xs → IsCons (map f xs)
 cons_map f [] c = absurd c
 cons_map f (x ∷ xs) c = tt
 

@@ -7,3 +7,4 @@ pub mod Lists
 pub mod Moves
 pub mod Down
 pub mod Keys
+pub mod Offspring

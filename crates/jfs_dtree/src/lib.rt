@@ -2,6 +2,7 @@
 #![tactic(auto)]
 
 mod check;
+mod children;
 mod entry;
 mod error;
 mod form;
