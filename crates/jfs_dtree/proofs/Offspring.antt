@@ -1,6 +1,6 @@
 -- Children of an inner page: the first one's key, which isn't looked at, and the place of one more.
-use Rattle.std.proofs.Common.{◌≡◌, ◌≤◌, ◌<◌, ◌⊎◌, ◌+◌, ◌-◌, ◌&&◌, inl, inr, refl, sym, ap, ◌∙◌, subst, ℕ, zero, suc, Bool, true, false, List, [], ◌∷◌, ◌++◌, length, map, get_or, drop, Option, Some, if◌then◌else◌, Result, Ok, Err, arith}
-use Rattle.std.specs.Prelude.{slice_get, nat_le}
+use Rattle.std.proofs.Common.{◌≡◌, ◌≤◌, ◌<◌, ◌⊎◌, ◌+◌, ◌&&◌, inl, inr, refl, sym, ap, ◌∙◌, subst, ℕ, zero, suc, Bool, true, false, List, [], ◌∷◌, ◌++◌, length, map, Some, if◌then◌else◌, Ok, arith}
+use Rattle.std.specs.Prelude.{slice_get}
 use Rattle.std.specs.List.{insert, remove, list_all}
 use Rattle.std.specs.Ordering.{is_lt, nat_cmp}
 use Rattle.std.specs.Cmp.{tied_itself}
@@ -15,7 +15,7 @@ use Rattle.jfs_bits.specs.declared.descriptor.Pxd.{Pxd}
 use Rattle.jfs_name.specs.declared.name.NameEntry.{NameEntry}
 use Rattle.jfs_dtpage.specs.declared.head.DtForm.{DtForm}
 use Rattle.jfs_dtpage.specs.declared.head.DtForm.TheVariants.{Full}
-use Rattle.jfs_dtpage.specs.Form.{free_of, count_of, is_leaf, KeepsHead}
+use Rattle.jfs_dtpage.specs.Form.{free_of, is_leaf}
 use Rattle.jfs_dtpage.specs.Order.{IsBefore, IsRising, IsFound, GoesAt, name_at}
 use Rattle.jfs_dtpage.specs.Page.{Entry, Named, Below, name_in, entries_of, names_of, IsDtPage}
 use Rattle.jfs_dtpage.specs.Fill.{slots_of_entry, slots_in}

@@ -1,4 +1,4 @@
-use Rattle.std.proofs.Common.{◌≡◌, ◌≤◌, ◌<◌, ◌∙◌, [], ℕ, List, length, ap, sym, arith}
+use Rattle.std.proofs.Common.{◌∙◌, [], List, length, ap, arith}
 use Rattle.std.specs.List.{insert}
 use Rattle.std.proofs.lemmas.List.{length-take}
 use Rattle.jfs_dtpage.specs.Order.{name_at}

@@ -1,7 +1,6 @@
-use Rattle.std.proofs.Common.{◌≡◌, ◌<◌, ◌+◌, Bool, true, false, ℕ, suc, List, Ok, Err, sym, ap, ◌∙◌, subst, arith}
+use Rattle.std.proofs.Common.{◌≡◌, ℕ, suc, List, Ok, sym, ap, ◌∙◌, subst, arith}
 use Rattle.std.specs.List.{insert}
 use Rattle.std.proofs.lemmas.Bool.{true≢false}
-use Rattle.jfs_bits.specs.declared.descriptor.Pxd.{Pxd}
 use Rattle.jfs_dtpage.specs.declared.head.DtForm.TheVariants.{Full}
 use Rattle.jfs_dtpage.specs.Order.{GoesAt, IsFound}
 use Rattle.jfs_dtpage.specs.Page.{Entry, Below, entries_of, names_of}
