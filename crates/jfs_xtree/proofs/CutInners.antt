@@ -134,9 +134,6 @@ other_page page n rest h = ((λ e. off page n rest h e), omega (arith, h))
     off : (page n rest : ℕ) → (if page == n then 1 else 0) + rest ≡ 0 → n ≡ page → ⊥
     off page n rest h e = grind arith
 
-not_here : (page n a b : ℕ) → (if page == page then 1 else 0) + a ≤ 1 → b ≤ a → 0 < b → ⊥
-not_here page n a b h l m = grind arith
-
 pub differs : (n page a : ℕ) (f : ℕ → ℕ) → f page ≡ 0 → 0 < f n → n ≢ page
 differs n page a f z p e = zero_not (f n) (f page) z p (ap f e)
   where

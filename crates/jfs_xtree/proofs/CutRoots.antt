@@ -42,6 +42,7 @@ use Rattle.jfs_xtree.proofs.Pages.{rises_less, rises_back}
 use Rattle.jfs_xtree.proofs.Inners.{map_cut}
 use Rattle.jfs_xtree.proofs.Adds.{has_pages}
 use Rattle.jfs_xtree.proofs.CutInners.{differs, here_zero}
+use Rattle.jfs_xtree.proofs.CutSteps.{no_entry}
 
 -- ---- the root of a tree that was cut
 
@@ -282,10 +283,6 @@ leads_at form blocks root front x back sound flag some all = record {
         let t = rises_less 0 x (b ∷ bs) r in
         let u = rises_less (end_of x) b bs t.1 in
         let h = u.0 in let w = ends_after x in lt-leb b.offset x.offset (omega (arith, h, w))
-
-no_entry : (front : List Xad) (x : Xad) (back : List Xad) → [] ≡ front ++ x ∷ back → ⊥
-no_entry [] x back e = cc
-no_entry (f ∷ fs) x back e = cc
 
 pub cut_names : (form : XtForm) (blocks : ℕ) (root : List ℕ) (image : Image) (e : TreeError) → IsSound form blocks (head_of root) (entries_of root) → (is_leaf (head_of root).flag ≡ false → 2 < (head_of root).nextindex)
     → BreaksUnder (page_nodes blocks (page_of image)) 7 (naming (is_leaf (head_of root).flag) (entries_of root)) e → NamesBroken xt_scale (page_nodes blocks (page_of image)) (xt_node form blocks root) (tree_error (handed_on e))

@@ -1,5 +1,5 @@
 -- The steps of a cut, from what the code says of its pages.
-use Rattle.std.proofs.Common.{◌≡◌, ◌≤◌, ◌<◌, refl, sym, ap, ◌∙◌, subst, ℕ, suc, ◌+◌, ◌-◌, ◌==◌, Bool, true, false, ◌&&◌, if◌then◌else◌, List, [], ◌∷◌, ◌++◌, map, length, take, drop, Result, Ok, Err, IfOk, IfErr, OnOk, arith, append_assoc}
+use Rattle.std.proofs.Common.{◌≡◌, ◌≤◌, ◌<◌, refl, sym, ap, ◌∙◌, subst, ℕ, suc, ◌+◌, ◌-◌, ◌==◌, Bool, true, false, ◌&&◌, if◌then◌else◌, List, [], ◌∷◌, ◌++◌, map, length, take, drop, Result, Ok, Err, IfOk, OnOk, arith, append_assoc}
 use Rattle.std.specs.Prelude.{nat_le, nat_lt}
 use Rattle.std.proofs.lemmas.Bool.{leb-true, leb-false, le-leb, ne_eqb}
 use Rattle.std.proofs.lemmas.Bool.Decides.{nat_tests}
@@ -199,11 +199,7 @@ inner_done form blocks bound last place left k kept bytes new image after n one 
 
 -- ---- a page that breaks a rule
 
-pub memory_breaks : (nodes : ℕ → Node ℕ Xad) (most : ℕ) (xs : List Xad) (r : Result Bool TreeError) → IfErr r (λ e. e ≡ Memory) → IfErr r (λ e. BreaksUnder nodes most xs e)
-memory_breaks nodes most xs (Ok kept) h = tt
-memory_breaks nodes most xs (Err e) h = subst (λ f. BreaksUnder nodes most xs f) (sym h) tt
-
-no_entry : (front : List Xad) (x : Xad) (back : List Xad) → [] ≡ front ++ x ∷ back → ⊥
+pub no_entry : (front : List Xad) (x : Xad) (back : List Xad) → [] ≡ front ++ x ∷ back → ⊥
 no_entry [] x back e = cc
 no_entry (f ∷ fs) x back e = cc
 
