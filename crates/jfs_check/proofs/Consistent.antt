@@ -17,9 +17,8 @@ use Rattle.jfs_objects.specs.Objects.{Object, has_names, spelled, listed}
 use Rattle.jfs_objects.specs.Owners.{bit, entries}
 use Rattle.jfs_objects.proofs.Owned.{outside}
 use Rattle.jfs_objects.proofs.Found.{object_at}
-use Rattle.jfs_objects.proofs.Sums.{eq_or_not, sum_one, sum_two}
+use Rattle.jfs_objects.proofs.Sums.{eq_or_not, sum_one, sum_two, sum_zero}
 use Rattle.jfs_meaning.specs.Node.{node_in}
-use Rattle.jfs_meaning.proofs.New.{sum_zero}
 use Rattle.jfs_meaning.specs.Consistent.{is_reserved, leading_to, names_in, names_for, names_to, links_due, MayBeNamed, HasItsName, IsRoot, IsConsistent}
 use Rattle.jfs_check.specs.Subject.{Subject, volume, object}
 use Rattle.jfs_check.specs.Names.{readable, readable_node, most, leads, StandsAt}

@@ -15,8 +15,7 @@ use Rattle.jfs_objects.specs.Objects.{Object, has_names}
 use Rattle.jfs_objects.specs.Changes.{put}
 use Rattle.jfs_objects.specs.Owners.{bit, entries, sum_below}
 use Rattle.jfs_objects.proofs.Owned.{outside}
-use Rattle.jfs_objects.proofs.Sums.{eq_or_not, sum_put, put_here, put_other}
-use Rattle.jfs_meaning.proofs.New.{sum_zero}
+use Rattle.jfs_objects.proofs.Sums.{eq_or_not, sum_put, sum_zero, put_here, put_other}
 use Rattle.jfs_meaning.specs.Node.{node_in}
 use Rattle.jfs_meaning.specs.Consistent.{is_reserved, leading_to, names_in, names_for, names_to, links_due, IsConsistent}
 use Rattle.jfs_check.specs.Subject.{Subject, volume, object}
