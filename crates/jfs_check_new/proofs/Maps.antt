@@ -1,9 +1,7 @@
 -- The maps of a new volume, as a check looks at them.
-use Rattle.std.proofs.Common.{◌≡◌, ◌≤◌, ◌<◌, refl, sym, ap, ap₂, ◌∙◌, subst, ℕ, zero, suc, ◌+◌, ◌-◌, ◌*◌, ◌/◌, ◌%◌, Bool, true, false, ◌&&◌, ◌||◌, ◌==◌, not, nat_le, nat_lt, if◌then◌else◌, List, get_or, replicate, Option, Some, None, is_some, inl, inr, arith}
-use Rattle.std.proofs.lemmas.Bool.{cases_lt}
+use Rattle.std.proofs.Common.{◌≡◌, ◌<◌, refl, sym, ap, ◌∙◌, ℕ, zero, suc, ◌+◌, ◌-◌, ◌*◌, ◌/◌, ◌%◌, false, nat_lt, List, get_or, replicate, arith}
 use Rattle.std.proofs.lemmas.Bool.Decides.{nat_tests}
 use Rattle.std.proofs.lemmas.List.FromFn.{get_or-map-range_with_len}
-use Rattle.jfs_bits.specs.declared.descriptor.Pxd.{Pxd}
 use Rattle.jfs_bits.specs.Bits.{is_in_run}
 use Rattle.jfs_bits.specs.Descriptor.{pxd_of}
 use Rattle.jfs_disk.specs.Image.{Image, page_of}
@@ -13,7 +11,7 @@ use Rattle.jfs_iag.specs.Canonical.{IsIagPage}
 use Rattle.jfs_imap.specs.Inodes.{is_used, extent_at}
 use Rattle.jfs_objects.specs.Readers.{Readers}
 use Rattle.jfs_objects.specs.Image.{file_page, iag_page}
-use Rattle.jfs_format.specs.Layout.{IsLayout, inode_map, map_pages, first_inodes}
+use Rattle.jfs_format.specs.Layout.{IsLayout, inode_map, map_pages}
 use Rattle.jfs_format.specs.Inodes.{in_use}
 use Rattle.jfs_format.specs.Volume.{inodes_in, IsNewVolume}
 use Rattle.jfs_format.specs.declared.tables.Table.TheVariants.{Fileset}

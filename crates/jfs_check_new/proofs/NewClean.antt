@@ -1,6 +1,6 @@
 -- A new volume is sound.
-use Rattle.std.proofs.Common.{◌≡◌, ◌≤◌, ◌<◌, refl, sym, ap, ap₂, ◌∙◌, subst, ℕ, zero, suc, ◌+◌, ◌-◌, ◌*◌, ◌/◌, ◌%◌, ◌^◌, Bool, true, false, ◌&&◌, ◌||◌, ◌==◌, not, nat_le, nat_lt, if◌then◌else◌, List, [], Option, Some, None, is_some, inl, inr, arith}
-use Rattle.std.proofs.lemmas.Bool.{cases_lt, eq-eqb, le-leb, and_from}
+use Rattle.std.proofs.Common.{◌≡◌, ◌≤◌, ◌<◌, refl, sym, ap, ap₂, ◌∙◌, subst, ℕ, zero, suc, ◌+◌, ◌*◌, ◌%◌, Bool, true, false, ◌&&◌, ◌||◌, ◌==◌, not, nat_le, nat_lt, if◌then◌else◌, List, [], Option, Some, None, is_some, arith}
+use Rattle.std.proofs.lemmas.Bool.{eq-eqb, le-leb, and_from}
 use Rattle.std.proofs.lemmas.Bool.Decides.{nat_tests}
 use Rattle.jfs_bits.specs.declared.descriptor.Pxd.{Pxd}
 use Rattle.jfs_bits.specs.Field.{field_of}
@@ -9,15 +9,14 @@ use Rattle.jfs_disk.specs.Image.{Image, page_of}
 use Rattle.jfs_inode.specs.declared.fields.Dinode.{Dinode}
 use Rattle.jfs_inode.specs.Rules.{type_of}
 use Rattle.jfs_super.specs.Rules.{blocks_of}
-use Rattle.jfs_tree.specs.Walk.{Node, Leaf}
+use Rattle.jfs_tree.specs.Walk.{Leaf}
 use Rattle.jfs_iag.specs.Canonical.{is_there}
 use Rattle.jfs_bmap.specs.MapFile.{IsMapPage, is_in_use, pages_of}
 use Rattle.jfs_imap.specs.Inodes.{is_used, extent_at as new_extent}
-use Rattle.jfs_objects.specs.Readers.{Readers}
-use Rattle.jfs_objects.specs.Volume.{Volume, home, page_in, slot_of}
-use Rattle.jfs_objects.specs.Objects.{Object, has_names, has_extents, objects}
+use Rattle.jfs_objects.specs.Volume.{Volume, home}
+use Rattle.jfs_objects.specs.Objects.{Object, has_extents, objects}
 use Rattle.jfs_objects.specs.Owners.{IsSound, owners, bit}
-use Rattle.jfs_objects.specs.Image.{volume_on, file_page, iags_on, is_block_used}
+use Rattle.jfs_objects.specs.Image.{volume_on, file_page, is_block_used}
 use Rattle.jfs_meaning.specs.Readers.{readers}
 use Rattle.jfs_format.specs.Layout.{IsLayout, map_pages, inode_map, first_inodes, owned_blocks, is_taken_block}
 use Rattle.jfs_format.specs.Inodes.{fileset_inode}
@@ -36,9 +35,8 @@ use Rattle.jfs_new_volume.proofs.Tree.{new_volume_tree}
 use Rattle.jfs_check.specs.Subject.{Subject, blocks, volume, object}
 use Rattle.jfs_check.specs.Mount.{broken_mount, mount_rows, covered, fitting, fits_extent, extent_at, iags, place, root_row}
 use Rattle.jfs_check.specs.Inodes.{blocks_owned, is_past}
-use Rattle.jfs_check.specs.Names.{leads, StandsAt}
-use Rattle.jfs_check.specs.Trees.{extent_nodes, IsThinIn}
-use Rattle.jfs_check.specs.Blocks.{is_owned}
+use Rattle.jfs_check.specs.Names.{StandsAt}
+use Rattle.jfs_check.specs.Trees.{extent_nodes}
 use Rattle.jfs_check.specs.Maps.{has_to_be_taken, IsMapPageAs, IsInodePageAs, IsBlockMapPage, IsInodeMapPage}
 use Rattle.jfs_check.specs.Clean.{IsSoundVolume}
 use Rattle.jfs_check.specs.Laws.{subject_of}

@@ -1,5 +1,5 @@
 -- The objects of a new volume, as a check looks at them.
-use Rattle.std.proofs.Common.{◌≡◌, ◌≢◌, ◌≤◌, ◌<◌, refl, sym, ap, ◌∙◌, subst, ℕ, zero, suc, ◌+◌, ◌==◌, Bool, true, false, nat_lt, if◌then◌else◌, List, [], ◌∷◌, ◌++◌, Option, Some, None, option_map, arith}
+use Rattle.std.proofs.Common.{◌≡◌, ◌≤◌, ◌<◌, refl, sym, ap, ◌∙◌, subst, ℕ, zero, suc, Bool, true, false, nat_lt, if◌then◌else◌, List, [], ◌∷◌, ◌++◌, Some, None, option_map, arith}
 use Rattle.std.specs.List.{flat_map}
 use Rattle.std.proofs.lemmas.Bool.{cases_lt}
 use Rattle.std.proofs.lemmas.Bool.Decides.{nat_tests}
@@ -8,13 +8,12 @@ use Rattle.jfs_bits.specs.Field.{field_of, range_of}
 use Rattle.jfs_bits.specs.Field as bytes
 use Rattle.jfs_bits.specs.Piece as parts
 use Rattle.jfs_name.specs.declared.name.NameEntry.{NameEntry}
-use Rattle.jfs_disk.specs.Image.{Image, page_of}
 use Rattle.jfs_tree.specs.Walk.{Node, Leaf, Page, Row, Marks}
-use Rattle.jfs_tree.specs.Spells.{no_page, with_root}
+use Rattle.jfs_tree.specs.Spells.{no_page}
 use Rattle.jfs_objects.specs.Readers.{Readers}
 use Rattle.jfs_objects.specs.Objects.{Object, has_names, has_extents}
 use Rattle.jfs_plain.specs.Tree.{root}
-use Rattle.jfs_meaning.specs.Consistent.{is_reserved, leading_to, names_in, names_to, links_due}
+use Rattle.jfs_meaning.specs.Consistent.{is_reserved, leading_to, names_in, links_due}
 use Rattle.jfs_meaning.proofs.New.{sum_zero}
 use Rattle.jfs_format.specs.Root.{empty_root, no_extents}
 use Rattle.jfs_format.specs.declared.volume.NewVolume.{NewVolume}
@@ -22,7 +21,7 @@ use Rattle.jfs_new_volume.specs.Law.{new_object}
 use Rattle.jfs_check.specs.Subject.{Subject, object}
 use Rattle.jfs_check.specs.Inodes.{blocks_owned, is_past}
 use Rattle.jfs_check.specs.Names.{readable, readable_node, most, StandsAt, IsPlaced}
-use Rattle.jfs_check.specs.Trees.{level, pages_below, IsThinIn, extent_nodes}
+use Rattle.jfs_check.specs.Trees.{level, pages_below, IsThinIn}
 
 -- a walk that meets a root alone, or nothing, has no entry
 no_mark : {P E : Type 0} (page : ℕ) (e : E) (front back : Marks P E) → (let none : Marks P E = [] in none) ≡ front ++ Row page e ∷ back → ⊥
