@@ -37,3 +37,4 @@ pub mod Walked
 mod WalkSteps
 mod WalkFirst
 mod WalkRoot
+mod RunsTold

@@ -140,7 +140,7 @@ times_next size i = omega arith
 no_less : (a : ℕ) → suc a ≤ zero → ⊥
 no_less a h = omega (arith, h)
 
-less_or : (a b : ℕ) → a ≤ b → (a < b) ⊎ (a ≡ b)
+pub less_or : (a b : ℕ) → a ≤ b → (a < b) ⊎ (a ≡ b)
 less_or zero zero h = inr refl
 less_or zero (suc b) h = inl (omega arith)
 less_or (suc a) zero h = absurd (no_less a h)

@@ -1,9 +1,12 @@
 -- What edits of one page do.
-use Rattle.std.specs.Prelude.{◌≡◌, ◌≢◌, ◌<◌, ◌*◌, ◌==◌, ℕ, Bool, true, false, if◌then◌else◌, List, [], ◌∷◌, ◌++◌, length, take, drop}
+use Rattle.std.specs.Prelude.{◌≡◌, ◌≢◌, ◌⊎◌, ◌<◌, ◌≤◌, ◌-◌, ◌*◌, ◌==◌, ℕ, Bool, true, false, if◌then◌else◌, List, [], ◌∷◌, ◌++◌, length, take, drop}
 use Rattle.jfs_disk.specs.Image.{Image, page_of}
 use Rattle.jfs_tree.specs.Draft.{shown}
 use Rattle.jfs_tree.specs.declared.draft.Drafted.{Drafted}
+use Rattle.jfs_bits.specs.declared.rule.PageKind.{PageKind}
+use Rattle.jfs_bits.specs.Line.{line_size}
 use Rattle.jfs_ranges.specs.declared.edit.Edit.{Edit}
+use Rattle.jfs_ranges.specs.declared.edit.Edit.TheVariants.{Lines, NoRedo, Alloc, Free}
 use Rattle.jfs_ranges.specs.Apply.{apply_tx}
 
 -- what was added changes no page but this one
@@ -21,6 +24,33 @@ TellsOne blocks image n page tx later = ((content : List ℕ) → n < blocks →
 abbrev pub occurs : ℕ → List Drafted → Bool
 occurs n [] = false
 occurs n (d ∷ ds) = if d.number == n then true else occurs n ds
+
+-- bytes of a page, line by line, so many bytes a line
+abbrev pub lines_from : ℕ → ℕ → ℕ → List ℕ → List ℕ
+lines_from size first end page = take (size * end - size * first) (drop (size * first) page)
+
+abbrev pub SameLine : ℕ → ℕ → List ℕ → List ℕ → Type 0
+SameLine size i old new = take size (drop (size * i) new) ≡ take size (drop (size * i) old)
+
+-- The edits of a page, from one of its lines on: the runs of lines that changed, each as long as can be, and nothing else.
+abbrev pub IsRuns : ℕ → PageKind → List ℕ → List ℕ → ℕ → List Edit → Type 0
+IsRuns n kind old new first [] = (i : ℕ) → first ≤ i → line_size kind * i < 4096 → SameLine (line_size kind) i old new
+IsRuns n kind old new first (Lines page own at bytes ∷ edits) = (page ≡ n) × (own ≡ kind) × (first ≤ at)
+    × ((i : ℕ) → first ≤ i → i < at → line_size kind * i < 4096 → SameLine (line_size kind) i old new)
+    × ((end : ℕ) × (at < end) × (line_size kind * end ≤ 4096) × (bytes ≡ lines_from (line_size kind) at end new)
+    × ((i : ℕ) → at ≤ i → i < end → SameLine (line_size kind) i old new → ⊥)
+    × (line_size kind * end < 4096 → SameLine (line_size kind) end old new) × IsRuns n kind old new end edits)
+IsRuns n kind old new first (NoRedo page ∷ edits) = ⊥
+IsRuns n kind old new first (Alloc blocks ∷ edits) = ⊥
+IsRuns n kind old new first (Free blocks ∷ edits) = ⊥
+
+-- these edits were appended, and they are the page's runs
+abbrev pub TellsRuns : ℕ → PageKind → List ℕ → List ℕ → List Edit → List Edit → Type 0
+TellsRuns n kind old new tx later = (edits : List Edit) × (later ≡ tx ++ edits) × IsRuns n kind old new 0 edits
+
+-- the whole page was appended
+abbrev pub TellsWhole : ℕ → PageKind → List ℕ → List Edit → List Edit → Type 0
+TellsWhole n kind new tx later = later ≡ tx ++ Lines n kind 0 new ∷ []
 
 -- for the prover alone: a page whose first lines are the new ones has more of them
 abbrev pub Turns : ℕ → ℕ → ℕ → ℕ → List ℕ → List Edit → List Edit → Type 0
