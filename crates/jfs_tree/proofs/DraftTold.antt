@@ -33,17 +33,17 @@ shown_fresh (e ∷ ds) image m no_one = elim (cases_eq m e.number) [
     miss : (a b : Bool) → a ≡ false → (if a then true else b) ≡ false → b ≡ false
     miss a b e f = cc
 
-more : (ds : List Drafted) (i : ℕ) (d : Drafted) → i < length ds → take (i + 1) ds ≡ take i ds ++ get_or ds i d ∷ []
+pub more : (ds : List Drafted) (i : ℕ) (d : Drafted) → i < length ds → take (i + 1) ds ≡ take i ds ++ get_or ds i d ∷ []
 more ds i d h = (take_at_read ds i d h).1
 
 pub told_none : (blocks : ℕ) (image : Image) (ds : List Drafted) (tx : List Edit) → TellsDraft blocks image (take 0 ds) tx tx
 told_none blocks image ds tx m within content size is = is
 
-not_true : (b r : Bool) → r ≡ not b → r ≡ true → b ≡ false
+pub not_true : (b r : Bool) → r ≡ not b → r ≡ true → b ≡ false
 not_true true r e f = cc
 not_true false r e f = refl
 
-not_false : (b r : Bool) → r ≡ not b → r ≡ false → b ≡ true
+pub not_false : (b r : Bool) → r ≡ not b → r ≡ false → b ≡ true
 not_false true r e f = refl
 not_false false r e f = cc
 

@@ -38,3 +38,4 @@ mod WalkSteps
 mod WalkFirst
 mod WalkRoot
 mod RunsTold
+mod DraftEdited

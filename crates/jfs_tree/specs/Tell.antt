@@ -1,5 +1,6 @@
 -- What edits of one page do.
-use Rattle.std.specs.Prelude.{◌≡◌, ◌≢◌, ◌⊎◌, ◌<◌, ◌≤◌, ◌-◌, ◌*◌, ◌==◌, ℕ, Bool, true, false, if◌then◌else◌, List, [], ◌∷◌, ◌++◌, length, take, drop}
+use Rattle.std.specs.Prelude.{◌≡◌, ◌≢◌, ◌<◌, ◌≤◌, ◌-◌, ◌*◌, ◌==◌, ◌||◌, nat_le, ℕ, Bool, true, false, if◌then◌else◌, List, [], ◌∷◌, ◌++◌, length, take, drop}
+use Rattle.std.specs.List.{list_any}
 use Rattle.jfs_disk.specs.Image.{Image, page_of}
 use Rattle.jfs_tree.specs.Draft.{shown}
 use Rattle.jfs_tree.specs.declared.draft.Drafted.{Drafted}
@@ -8,6 +9,11 @@ use Rattle.jfs_bits.specs.Line.{line_size}
 use Rattle.jfs_ranges.specs.declared.edit.Edit.{Edit}
 use Rattle.jfs_ranges.specs.declared.edit.Edit.TheVariants.{Lines, NoRedo, Alloc, Free}
 use Rattle.jfs_ranges.specs.Apply.{apply_tx}
+
+-- whether a page is among these
+abbrev pub occurs : ℕ → List Drafted → Bool
+occurs n [] = false
+occurs n (d ∷ ds) = if d.number == n then true else occurs n ds
 
 -- what was added changes no page but this one
 abbrev pub LeavesOthers : ℕ → List Edit → List Edit → Type 0
@@ -19,11 +25,6 @@ TellsDraft blocks image drafts tx later = (m : ℕ) → m < blocks → (content 
 
 abbrev pub TellsOne : ℕ → Image → ℕ → List ℕ → List Edit → List Edit → Type 0
 TellsOne blocks image n page tx later = ((content : List ℕ) → n < blocks → length content ≡ 4096 → apply_tx n tx content ≡ page_of image n → apply_tx n later content ≡ page) × LeavesOthers n tx later
-
--- whether a page is among these
-abbrev pub occurs : ℕ → List Drafted → Bool
-occurs n [] = false
-occurs n (d ∷ ds) = if d.number == n then true else occurs n ds
 
 -- bytes of a page, line by line, so many bytes a line
 abbrev pub lines_from : ℕ → ℕ → ℕ → List ℕ → List ℕ
@@ -51,6 +52,33 @@ TellsRuns n kind old new tx later = (edits : List Edit) × (later ≡ tx ++ edit
 -- the whole page was appended
 abbrev pub TellsWhole : ℕ → PageKind → List ℕ → List Edit → List Edit → Type 0
 TellsWhole n kind new tx later = later ≡ tx ++ Lines n kind 0 new ∷ []
+
+-- whether a number is among these
+abbrev pub is_in : ℕ → List ℕ → Bool
+is_in n taken = list_any (λ m. m == n) taken
+
+-- the edits of a page that was taken, or is none of the view's: it is told whole; of another its runs
+abbrev pub PageEdits : Bool → ℕ → PageKind → List ℕ → List ℕ → List Edit → Type 0
+PageEdits true n kind old new edits = edits ≡ Lines n kind 0 new ∷ []
+PageEdits false n kind old new edits = IsRuns n kind old new 0 edits
+
+abbrev pub TellsPage : ℕ → Image → List ℕ → PageKind → ℕ → List ℕ → List Edit → List Edit → Type 0
+TellsPage blocks image taken kind n new tx later = (edits : List Edit) × (later ≡ tx ++ edits) × PageEdits (nat_le blocks n || is_in n taken) n kind (page_of image n) new edits
+
+-- a page that a newer one of the same number hides isn't told
+abbrev pub DraftedEdits : Bool → ℕ → Image → List ℕ → PageKind → ℕ → List ℕ → List Edit → Type 0
+DraftedEdits true blocks image taken kind n new edits = edits ≡ []
+DraftedEdits false blocks image taken kind n new edits = PageEdits (nat_le blocks n || is_in n taken) n kind (page_of image n) new edits
+
+-- The edits of a draft behind these newer pages: those of each page as it is now, and nothing else.
+abbrev pub DraftEdits : ℕ → Image → List ℕ → PageKind → List Drafted → List Drafted → List Edit → Type 0
+DraftEdits blocks image taken kind newer [] edits = edits ≡ []
+DraftEdits blocks image taken kind newer (d ∷ ds) edits = (own : List Edit) × (rest : List Edit) × (edits ≡ own ++ rest)
+    × DraftedEdits (occurs d.number newer) blocks image taken kind d.number d.page.0 own × DraftEdits blocks image taken kind (newer ++ d ∷ []) ds rest
+
+-- these edits were appended, and they are the draft's
+abbrev pub TellsExactly : ℕ → Image → List ℕ → PageKind → List Drafted → List Edit → List Edit → Type 0
+TellsExactly blocks image taken kind drafts tx later = (edits : List Edit) × (later ≡ tx ++ edits) × DraftEdits blocks image taken kind [] drafts edits
 
 -- for the prover alone: a page whose first lines are the new ones has more of them
 abbrev pub Turns : ℕ → ℕ → ℕ → ℕ → List ℕ → List Edit → List Edit → Type 0

@@ -17,13 +17,17 @@ loop-first-preserved c =
     (elim c.if-first-end.branch [
       | then-first-end+in_ok-tell_run w ↦ subst (LeavesOthers c.args.n c.loop-first.tx) (sym w.tx-is) w.in_ok-tell_run.ensures.others
       | else-first-end w ↦ subst (LeavesOthers c.args.n c.loop-first.tx) (sym w.tx-is) (others_none c.args.n c.loop-first.tx)
-    ]) in
-    (told.0, told.1, told.2, runs_on c.args.n c.args.kind c.args.old.now.0 c.args.new.now.0 c.lines_of-size.result.0 c.loop-first.first c.run_end-end.result c.lines_of-size.result.1 c.args.tx.now c.loop-first.tx c.if-first-end.tx
-    c.lines_of-size.ensures.size.0 c.lines_of-size.ensures.lines c.run_end-end.ensures.order.1 c.run_end-end.ensures.same c.run_end-end.ensures.changed
-    (elim c.if-first-end.branch [
-      | then-first-end+in_ok-tell_run w ↦ inl (w.if-first-end.true, w.tx-is ∙ w.in_ok-tell_run.ensures.edit)
-      | else-first-end w ↦ inr (let a = c.run_end-end.ensures.order.0 in let b = w.if-first-end.false in omega (arith, a, b), w.tx-is)
-    ]) c.loop-first.invariant.3)
+    ]) in (
+      told.0,
+      told.1,
+      told.2,
+      runs_on c.args.n c.args.kind c.args.old.now.0 c.args.new.now.0 c.lines_of-size.result.0 c.loop-first.first c.run_end-end.result c.lines_of-size.result.1 c.args.tx.now c.loop-first.tx c.if-first-end.tx
+          c.lines_of-size.ensures.size.0 c.lines_of-size.ensures.lines c.run_end-end.ensures.order.1 c.run_end-end.ensures.same c.run_end-end.ensures.changed
+          (elim c.if-first-end.branch [
+            | then-first-end+in_ok-tell_run w ↦ inl (w.if-first-end.true, w.tx-is ∙ w.in_ok-tell_run.ensures.edit)
+            | else-first-end w ↦ inr (let a = c.run_end-end.ensures.order.0 in let b = w.if-first-end.false in omega (arith, a, b), w.tx-is)
+          ]) c.loop-first.invariant.3,
+    )
 
 pub returns-clause-runs : goal.returns-clause-runs
 returns-clause-runs c =

@@ -1,7 +1,8 @@
-use Rattle.std.proofs.Common.{◌∙◌, ap, sym, subst, ◌+◌, [], take, get_or, arith}
+use Rattle.std.proofs.Common.{◌∙◌, ap, sym, subst, ◌+◌, [], length, take, get_or, arith}
 use Rattle.jfs_disk.specs.Image.{Image}
 use Rattle.jfs_tree.specs.declared.draft.Drafted.{Drafted}
-use Rattle.jfs_tree.specs.Tell.{TellsDraft, TellsOne}
+use Rattle.jfs_tree.specs.Tell.{TellsDraft, TellsOne, TellsPage}
+use Rattle.jfs_tree.proofs.DraftEdited.{DraftSoFar, page_told, page_hidden, all_told}
 use Rattle.jfs_tree.proofs.DraftTold.{told_more, told_hidden}
 use Rattle.jfs_tree.proofs.tell_all.tell_draft.Goals as goal
 use Rattle.jfs_tree.proofs.tell_all.tell_draft.Goals.{then-is_newest+in_ok-tell_drafted, else-is_newest}
@@ -23,6 +24,12 @@ loop-i-preserved g c =
             (subst (λ n. TellsOne n (g.V.PageView.image c.args.view.now) (get_or ds c.loop-i.i d).number (get_or ds c.loop-i.i d).page.0 c.loop-i.tx w.tell_drafted.new.tx) inv.1
             (subst (λ (i : Image). TellsOne (g.V.PageView.block_count c.loop-i.view) i (get_or ds c.loop-i.i d).number (get_or ds c.loop-i.i d).page.0 c.loop-i.tx w.tell_drafted.new.tx) (inv.0 t) (w.in_ok-tell_drafted.ensures.told t)))
             (subst (λ xs. TellsDraft (g.V.PageView.block_count c.args.view.now) (g.V.PageView.image c.args.view.now) (take c.loop-i.i xs) c.args.tx.now c.loop-i.tx) (sym same) (inv.3 t)))),
+        λ t. subst (λ xs. DraftSoFar (g.V.PageView.block_count c.args.view.now) (g.V.PageView.image c.args.view.now) c.args.taken.now c.args.kind xs (c.loop-i.i + 1) c.args.tx.now c.if-is_newest.tx) same
+            (subst (λ later. DraftSoFar (g.V.PageView.block_count c.args.view.now) (g.V.PageView.image c.args.view.now) c.args.taken.now c.args.kind ds (c.loop-i.i + 1) c.args.tx.now later) (sym w.tx-is)
+            (page_told (g.V.PageView.block_count c.args.view.now) (g.V.PageView.image c.args.view.now) c.args.taken.now c.args.kind ds c.loop-i.i d c.is_newest.result c.args.tx.now c.loop-i.tx w.tell_drafted.new.tx (let h = c.loop-i-test.true in omega (arith, h)) (c.is_newest.ensures d) w.if-is_newest.true
+            (subst (λ n. TellsPage n (g.V.PageView.image c.args.view.now) c.args.taken.now c.args.kind (get_or ds c.loop-i.i d).number (get_or ds c.loop-i.i d).page.0 c.loop-i.tx w.tell_drafted.new.tx) inv.1
+            (subst (λ (i : Image). TellsPage (g.V.PageView.block_count c.loop-i.view) i c.args.taken.now c.args.kind (get_or ds c.loop-i.i d).number (get_or ds c.loop-i.i d).page.0 c.loop-i.tx w.tell_drafted.new.tx) (inv.0 t) (w.in_ok-tell_drafted.ensures.edits t)))
+            (subst (λ xs. DraftSoFar (g.V.PageView.block_count c.args.view.now) (g.V.PageView.image c.args.view.now) c.args.taken.now c.args.kind xs c.loop-i.i c.args.tx.now c.loop-i.tx) (sym same) (inv.4 t)))),
       )
       | else-is_newest w ↦ (
         (λ t. ap (λ v. g.V.PageView.image v) w.view-is ∙ inv.0 t),
@@ -32,5 +39,14 @@ loop-i-preserved g c =
             (subst (λ later. TellsDraft (g.V.PageView.block_count c.args.view.now) (g.V.PageView.image c.args.view.now) (take (c.loop-i.i + 1) ds) c.args.tx.now later) (sym w.tx-is)
             (told_hidden (g.V.PageView.block_count c.args.view.now) (g.V.PageView.image c.args.view.now) ds c.loop-i.i d c.is_newest.result c.args.tx.now c.loop-i.tx (let h = c.loop-i-test.true in omega (arith, h)) (c.is_newest.ensures d) w.if-is_newest.false
             (subst (λ xs. TellsDraft (g.V.PageView.block_count c.args.view.now) (g.V.PageView.image c.args.view.now) (take c.loop-i.i xs) c.args.tx.now c.loop-i.tx) (sym same) (inv.3 t)))),
+        λ t. subst (λ xs. DraftSoFar (g.V.PageView.block_count c.args.view.now) (g.V.PageView.image c.args.view.now) c.args.taken.now c.args.kind xs (c.loop-i.i + 1) c.args.tx.now c.if-is_newest.tx) same
+            (subst (λ later. DraftSoFar (g.V.PageView.block_count c.args.view.now) (g.V.PageView.image c.args.view.now) c.args.taken.now c.args.kind ds (c.loop-i.i + 1) c.args.tx.now later) (sym w.tx-is)
+            (page_hidden (g.V.PageView.block_count c.args.view.now) (g.V.PageView.image c.args.view.now) c.args.taken.now c.args.kind ds c.loop-i.i d c.is_newest.result c.args.tx.now c.loop-i.tx (let h = c.loop-i-test.true in omega (arith, h)) (c.is_newest.ensures d) w.if-is_newest.false
+            (subst (λ xs. DraftSoFar (g.V.PageView.block_count c.args.view.now) (g.V.PageView.image c.args.view.now) c.args.taken.now c.args.kind xs c.loop-i.i c.args.tx.now c.loop-i.tx) (sym same) (inv.4 t)))),
       )
     ]
+
+pub returns-clause-edits : goal.returns-clause-edits
+returns-clause-edits g c tells =
+    all_told (g.V.PageView.block_count c.args.view.now) (g.V.PageView.image c.args.view.now) c.args.taken.now c.args.kind c.args.draft.now.pages.items c.loop-i.i c.args.tx.now c.loop-i.tx
+    (let h = c.loop-i-test.false in let e = ap length c.as_slice-pages.ensures.value in omega (arith, h, e)) (c.loop-i.invariant.4 tells)
