@@ -1,5 +1,5 @@
 -- Children of an inner page: the first one's key, which isn't looked at, and the place of one more.
-use Rattle.std.proofs.Common.{◌≡◌, ◌≤◌, ◌<◌, ◌⊎◌, ◌+◌, ◌&&◌, inl, inr, refl, sym, ap, ◌∙◌, subst, ℕ, zero, suc, Bool, true, false, List, [], ◌∷◌, ◌++◌, length, map, Some, if◌then◌else◌, Ok, arith}
+use Rattle.std.proofs.Common.{◌==◌, ◌≡◌, ◌≤◌, ◌<◌, ◌⊎◌, ◌+◌, ◌&&◌, inl, inr, refl, sym, ap, ◌∙◌, subst, ℕ, zero, suc, Bool, true, false, List, [], ◌∷◌, ◌++◌, length, map, Some, if◌then◌else◌, Ok, arith}
 use Rattle.std.specs.Prelude.{slice_get}
 use Rattle.std.specs.List.{insert, remove, list_all}
 use Rattle.std.specs.Ordering.{is_lt, nat_cmp}
@@ -15,7 +15,7 @@ use Rattle.jfs_bits.specs.declared.descriptor.Pxd.{Pxd}
 use Rattle.jfs_name.specs.declared.name.NameEntry.{NameEntry}
 use Rattle.jfs_dtpage.specs.declared.head.DtForm.{DtForm}
 use Rattle.jfs_dtpage.specs.declared.head.DtForm.TheVariants.{Full}
-use Rattle.jfs_dtpage.specs.Form.{free_of, is_leaf}
+use Rattle.jfs_dtpage.specs.Form.{KeepsHead, count_of, free_of, is_leaf, linked}
 use Rattle.jfs_dtpage.specs.Order.{IsBefore, IsRising, IsFound, GoesAt, name_at}
 use Rattle.jfs_dtpage.specs.Page.{Entry, Named, Below, name_in, entries_of, names_of, IsDtPage}
 use Rattle.jfs_dtpage.specs.Fill.{slots_of_entry, slots_in}
@@ -26,12 +26,14 @@ use Rattle.jfs_tree.specs.Walk.{Child, Node, Inner, under}
 use Rattle.jfs_tree.specs.Edit.{IsCons, KeysAbove, KeysRise}
 use Rattle.jfs_dtree.specs.Node.{name_scale, below, child_within, dt_node}
 use Rattle.jfs_dtree.specs.Laws.{before_of}
-use Rattle.jfs_dtree.specs.Parts.{lowered, emptied, ArePages}
+use Rattle.jfs_dtree.specs.Parts.{lowered, emptied, next_in, prev_in, IsParted, AreNeighbours, SplitsInner, ArePages}
+use Rattle.jfs_dtpage.specs.declared.head.Place.{Place}
+use Rattle.jfs_dtpage.specs.declared.head.Place.TheVariants.{OnVolume}
 use Rattle.jfs_tree.specs.Form.{AtPlace, HasChildren, SplitsChildren}
 use Rattle.jfs_dtree.proofs.Nodes.{inner_is, inner_read}
 use Rattle.jfs_dtree.proofs.Lists.{map_insert}
 use Rattle.jfs_dtree.proofs.Keys.{cons_map}
-use Rattle.jfs_dtree.proofs.Moves.{small_entry}
+use Rattle.jfs_dtree.proofs.Moves.{small_entry, entries_count}
 
 -- ---- the first key made empty
 
@@ -392,3 +394,28 @@ child_parted blocks left right key entries all pages kind some more m is =
     split_like (dt_node Full blocks left) (dt_node Full blocks right) key all l r (inner_read Full blocks left pages.left_sound kind (all_front (child_within blocks) l r within) some)
     (inner_read Full blocks right pages.right_sound (pages.kind ∙ kind) (all_back (child_within blocks) l r within) more) some more
     (subst (λ (es : List Entry). Like (map below es) all) (sym pages.rows) m.like) (is ∙ ap (λ (ns : List (List ℕ)). name_at ns 0) (names_listed Full right))
+
+lowered_length : (key : List ℕ) (es : List Entry) → length (lowered key es) ≡ length es
+lowered_length key [] = refl
+lowered_length key (e ∷ es) = refl
+
+-- the parts of a page that became two, by what it was before its first key gave way
+pub parted_inner : (n q : ℕ) (last : Bool) (old mid left right name key : List ℕ) (child : Child (List ℕ)) (at : Pxd) (place : ℕ) → name ≡ child.key → at ≡ record { len = 1; addr = child.page } → GoesAt (names_of Full mid) place name
+    → entries_of Full mid ≡ lowered name (entries_of Full old) → KeepsHead Full old mid → IsParted (last && place == count_of mid) (entries_of Full mid) (Below at name) (entries_of Full left) (entries_of Full right) → AreNeighbours n q mid left right
+    → key ≡ name_at (names_of Full right) 0 → SplitsInner n q last child old left right key
+parted_inner n q last old mid left right name key child at place same is goes entries head parted beside key_is =
+    let rows : entries_of Full mid ≡ lowered child.key (entries_of Full old) = entries ∙ ap (λ k. lowered k (entries_of Full old)) same in
+    let count : count_of mid ≡ count_of old = sym (entries_count Full mid) ∙ ap length rows ∙ lowered_length child.key (entries_of Full old) ∙ entries_count Full old in
+    record {
+      place = place;
+      goes = subst (λ (ns : List (List ℕ)). GoesAt ns place child.key) (names_listed Full mid ∙ ap (map name_in) rows) (subst (GoesAt (names_of Full mid) place) same goes);
+      parted = subst (λ (k : ℕ). IsParted (last && place == k) (lowered child.key (entries_of Full old)) (Below (record { len = 1; addr = child.page }) child.key) (entries_of Full left) (entries_of Full right)) count
+          (subst (λ (es : List Entry). IsParted (last && place == count_of mid) es (Below (record { len = 1; addr = child.page }) child.key) (entries_of Full left) (entries_of Full right)) rows
+          (subst (λ (p : Pxd). IsParted (last && place == count_of mid) (entries_of Full mid) (Below p child.key) (entries_of Full left) (entries_of Full right)) is
+          (subst (λ k. IsParted (last && place == count_of mid) (entries_of Full mid) (Below at k) (entries_of Full left) (entries_of Full right)) same parted)));
+      neighbours = record {
+        left_is = beside.left_is ∙ ap (λ (p : Place). linked q (prev_in p) p) head.place;
+        right_is = beside.right_is ∙ ap (λ (p : Place). OnVolume (next_in p) n 128 1 (record { len = 1; addr = q })) head.place;
+      };
+      key_is = key_is;
+    }

@@ -1,11 +1,12 @@
 -- What a split leaves of a page. (JFS Layout, dtree: a key of a leaf is a front of a name.)
-use Rattle.std.specs.Prelude.{◌≡◌, ◌⊎◌, ◌<◌, ◌≤◌, ◌+◌, ◌-◌, ◌==◌, ◌&&◌, if◌then◌else◌, ℕ, Bool, true, false, List, [], ◌∷◌, ◌++◌}
+use Rattle.std.specs.Prelude.{◌≡◌, ◌⊎◌, ◌<◌, ◌≤◌, ◌+◌, ◌-◌, ◌==◌, ◌&&◌, if◌then◌else◌, ℕ, Bool, true, false, List, [], ◌∷◌, ◌++◌, map}
 use Rattle.std.specs.Ordering.{is_lt, nat_cmp}
 use Rattle.std.specs.Cmp.Lexicographic.{slice_cmp}
-use Rattle.jfs_bits.specs.Field.{field_of}
 use Rattle.jfs_name.specs.declared.name.NameEntry.{NameEntry}
 use Rattle.jfs_dtpage.specs.declared.head.DtForm.TheVariants.{Full}
-use Rattle.jfs_dtpage.specs.declared.head.Place.TheVariants.{OnVolume}
+use Rattle.jfs_dtpage.specs.declared.head.Place.{Place}
+use Rattle.jfs_dtpage.specs.declared.head.Place.TheVariants.{InInode, OnVolume}
+use Rattle.jfs_tree.specs.Walk.{Child}
 use Rattle.jfs_dtpage.specs.Form.{head_of, is_leaf, count_of, free_of, linked, KeepsHead}
 use Rattle.jfs_dtpage.specs.Order.{name_at, GoesAt}
 use Rattle.jfs_dtpage.specs.Page.{Entry, Named, Below, name_in, entries_of, names_of, IsDtPage}
@@ -25,10 +26,19 @@ abbrev pub IsParted : Bool → List Entry → Entry → List Entry → List Entr
 IsParted true old e left right = (left ≡ old) × (right ≡ e ∷ [])
 IsParted false old e left right = IsLongestFront left right
 
+-- the neighbours that a place names
+abbrev pub next_in : Place → ℕ
+next_in (InInode parent) = 0
+next_in (OnVolume next prev maxslot stblindex at) = next
+
+abbrev pub prev_in : Place → ℕ
+prev_in (InInode parent) = 0
+prev_in (OnVolume next prev maxslot stblindex at) = prev
+
 -- Page q, which is new, stands behind page n and before the page that was behind it.
 pub record AreNeighbours (n q : ℕ) (old left right : List ℕ) : Type 0 where
-  pub left_is : (head_of Full left).place ≡ linked q (field_of old 8 8) (head_of Full old).place
-  pub right_is : (head_of Full right).place ≡ OnVolume (field_of old 0 8) n 128 1 (record { len = 1; addr = q })
+  pub left_is : (head_of Full left).place ≡ linked q (prev_in (head_of Full old).place) (head_of Full old).place
+  pub right_is : (head_of Full right).place ≡ OnVolume (next_in (head_of Full old).place) n 128 1 (record { len = 1; addr = q })
 
 -- The key of a right leaf: its first name, cut after the first unit in which it differs from the left leaf's last one.
 abbrev pub cut_key : List ℕ → List ℕ → List ℕ
@@ -52,6 +62,14 @@ emptied (Below at key) = Below at []
 abbrev pub lowered : List ℕ → List Entry → List Entry
 lowered key [] = []
 lowered key (e ∷ es) = (if is_lt (slice_cmp nat_cmp (name_in e) key) then e else emptied e) ∷ es
+
+-- A child joins an inner page that becomes two, and its key is the first one of the right page, whole: a cut one would stand before names of the left page.
+pub record SplitsInner (n q : ℕ) (last : Bool) (child : Child (List ℕ)) (old left right : List ℕ) (key : List ℕ) : Type 0 where
+  pub place : ℕ
+  pub goes : GoesAt (map name_in (lowered child.key (entries_of Full old))) place child.key
+  pub parted : IsParted (last && place == count_of old) (lowered child.key (entries_of Full old)) (Below (record { len = 1; addr = child.page }) child.key) (entries_of Full left) (entries_of Full right)
+  pub neighbours : AreNeighbours n q old left right
+  pub key_is : key ≡ name_at (names_of Full right) 0
 
 -- ---- for the prover alone
 

@@ -10,7 +10,7 @@ ghost use Rattle.jfs_tree.specs.Walk.{Child, Inner};
 ghost use Rattle.jfs_tree.specs.Edit.{KeysRise};
 ghost use Rattle.jfs_tree.specs.Form.{PutsChild, AtPlace, SplitsChildren, as_child};
 ghost use Rattle.jfs_dtree.specs.Node.{name_scale, dt_node, HasNoRoom, IsKey};
-ghost use Rattle.jfs_dtree.specs.Parts.{lowered};
+ghost use Rattle.jfs_dtree.specs.Parts.{lowered, SplitsInner};
 
 use crate::entry::NameKey;
 use crate::split_parts::{insert, page_at, part};
@@ -104,6 +104,8 @@ pub(crate) fn split_child(
     requires full { HasNoRoom Full bytes.old }
     ensures parts { (blocks : ℕ) (all : List (Child (List ℕ))) → child.now.page < blocks → AtPlace (dt_node Full blocks bytes.old) place (as_child child.now) all → KeysRise name_scale all →
         SplitsChildren all (dt_node Full blocks bytes.new) (dt_node Full blocks right.new) result }
+    ensures rules { (blocks : ℕ) (all : List (Child (List ℕ))) → AtPlace (dt_node Full blocks bytes.old) place (as_child child.now) all → KeysRise name_scale all →
+        SplitsInner n q last (as_child child.now) bytes.old bytes.new right.new result }
     ensures key { IsKey result }
 {
     if is_leaf(bytes) {

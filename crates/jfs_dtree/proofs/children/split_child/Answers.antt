@@ -7,7 +7,7 @@ use Rattle.jfs_dtpage.specs.Page.{Entry, Below, entries_of, names_of}
 use Rattle.jfs_dtree.specs.Parts.{lowered, ArePages}
 use Rattle.jfs_dtree.proofs.Nodes.{inner_is}
 use Rattle.jfs_dtree.proofs.Moves.{cons_some, entries_count, some_count, kept_leaf}
-use Rattle.jfs_dtree.proofs.Offspring.{child_goes, found_at, goes_once, more_children, child_parted}
+use Rattle.jfs_dtree.proofs.Offspring.{child_goes, found_at, goes_once, more_children, child_parted, parted_inner}
 use Rattle.jfs_dtree.proofs.children.split_child.Goals as goal
 
 pub returns-then-is_leaf-clause-parts : goal.returns-then-is_leaf-clause-parts
@@ -43,3 +43,18 @@ returns-clause-parts c = λ blocks all within at rise.
     (subst (λ (es : List Entry). ArePages es c.part.new.bytes c.part.new.right) rows c.part.ensures.pages)
     (c.part.ensures.kind ∙ kept_leaf Full c.args.bytes.now c.make_way.new.bytes c.make_way.ensures.head ∙ (inner_is Full blocks c.args.bytes.now _ at.was).1) c.part.ensures.some.0 c.part.ensures.some.1
     (more_children Full blocks c.args.bytes.now c.args.place c.args.child.now.key c.args.child.now.page c.page_at.result all at c.page_at.ensures.is within) c.first_key.ensures.is
+
+pub returns-then-is_leaf-clause-rules : goal.returns-then-is_leaf-clause-rules
+returns-then-is_leaf-clause-rules c = λ blocks all at rise. absurd (true≢false (sym c.if-is_leaf.true ∙ c.is_leaf.ensures ∙ (inner_is Full blocks c.args.bytes.now _ at.was).1))
+
+pub returns-in_default-clause-rules : goal.returns-in_default-clause-rules
+returns-in_default-clause-rules c = λ blocks all at rise. absurd (
+    found_at (names_of Full c.make_way.new.bytes) (suc c.args.place) c.args.child.now.key
+    (child_goes Full blocks c.args.bytes.now c.make_way.new.bytes c.args.place _ all at rise c.make_way.ensures.page (c.make_way.ensures.entries ∙ ap (λ k. lowered k (entries_of Full c.args.bytes.now)) c.units-key.ensures.units))
+    c.in_default.field-0 (subst (λ k. IsFound (names_of Full c.make_way.new.bytes) k (Ok c.in_default.field-0)) c.units-key.ensures.units c.in_default.ensures)
+    )
+
+pub returns-clause-rules : goal.returns-clause-rules
+returns-clause-rules c = λ blocks all at rise.
+    parted_inner c.args.n c.args.q c.args.last c.args.bytes.now c.make_way.new.bytes c.part.new.bytes c.part.new.right c.units-key.result.now c.first_key.result _ c.page_at.result c.in-Err.next c.units-key.ensures.units c.page_at.ensures.is
+    c.in-Err.ensures c.make_way.ensures.entries c.make_way.ensures.head c.part.ensures.parted c.part.ensures.neighbours c.first_key.ensures.is
