@@ -8,3 +8,4 @@ pub mod Moves
 pub mod Down
 pub mod Keys
 pub mod Offspring
+pub mod Grown

@@ -4,7 +4,8 @@ use Rattle.jfs_dtpage.specs.Order.{GoesAt, IsFound}
 use Rattle.jfs_dtpage.specs.Page.{Entry, Below, entries_of, names_of}
 use Rattle.jfs_dtree.specs.Parts.{lowered}
 use Rattle.jfs_dtree.proofs.Moves.{kept_leaf}
-use Rattle.jfs_dtree.proofs.Offspring.{child_goes, found_at, goes_once, more_children, child_put, room_stays}
+use Rattle.jfs_dtree.proofs.Offspring.{child_goes, found_at, goes_once, room_stays}
+use Rattle.jfs_dtree.proofs.Grown.{more_children, child_put}
 use Rattle.jfs_dtree.proofs.children.put_child.Goals as goal
 use Rattle.jfs_dtree.proofs.children.put_child.Goals.{then-next-eq0-via-then-next-eq0, then-next-eq0-via-else-next-eq0+then-next-place}
 

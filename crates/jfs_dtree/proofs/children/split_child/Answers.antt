@@ -7,7 +7,8 @@ use Rattle.jfs_dtpage.specs.Page.{Entry, Below, entries_of, names_of}
 use Rattle.jfs_dtree.specs.Parts.{lowered, ArePages}
 use Rattle.jfs_dtree.proofs.Nodes.{inner_is}
 use Rattle.jfs_dtree.proofs.Moves.{cons_some, entries_count, some_count, kept_leaf}
-use Rattle.jfs_dtree.proofs.Offspring.{child_goes, found_at, goes_once, more_children, child_parted, parted_inner}
+use Rattle.jfs_dtree.proofs.Offspring.{child_goes, found_at, goes_once}
+use Rattle.jfs_dtree.proofs.Grown.{more_children, child_parted, parted_inner}
 use Rattle.jfs_dtree.proofs.children.split_child.Goals as goal
 
 pub returns-then-is_leaf-clause-parts : goal.returns-then-is_leaf-clause-parts
