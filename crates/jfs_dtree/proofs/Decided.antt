@@ -97,7 +97,7 @@ once_decides form bytes xs = (
   λ h. tested_from (λ slot. nat_le (times slot xs) (usable form bytes slot)) xs (λ slot some. le-leb (times slot xs) (usable form bytes slot) (h slot)),
 )
 
-chains_decide : (form : DtForm) (bytes : List ℕ) → Decides (fits_chains form bytes) (ChainsFit form bytes)
+pub chains_decide : (form : DtForm) (bytes : List ℕ) → Decides (fits_chains form bytes) (ChainsFit form bytes)
 chains_decide form bytes =
     let a = all_decides (ends bytes) (ends_decides bytes) (table_of form bytes) in
     let b = once_decides form bytes (taken_of form bytes) in

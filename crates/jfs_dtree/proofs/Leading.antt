@@ -21,7 +21,7 @@ use Rattle.jfs_tree.specs.Form.{LeadsDown}
 use Rattle.jfs_dtree.specs.Node.{not_after, name_scale, below, is_within, child_within}
 use Rattle.jfs_dtree.specs.Place.{LeadsAt}
 use Rattle.jfs_dtree.specs.Laws.{before_up, name_refl, not_from}
-use Rattle.jfs_dtree.proofs.Places.{names_are}
+use Rattle.jfs_dtpage.proofs.Joined.{names_listed}
 
 -- ---- the place
 
@@ -63,7 +63,7 @@ keys_below [] = refl
 keys_below (e ∷ entries) = rw (entry_key e, keys_below entries) refl
 
 pub keys_are : (form : DtForm) (bytes : List ℕ) → names_of form bytes ≡ key_names (map below (entries_of form bytes))
-keys_are form bytes = names_are form bytes ∙ keys_below (entries_of form bytes)
+keys_are form bytes = names_listed form bytes ∙ keys_below (entries_of form bytes)
 
 cut : {X : Type 0} (xs : List X) (place : ℕ) (x : X) → slice_get xs place ≡ Some x → xs ≡ take place xs ++ x ∷ drop (suc place) xs
 cut [] place x e = absurd cc
@@ -115,19 +115,22 @@ within_more blocks (x ∷ entries) zero at key e = ap (λ (f : Entry). child_wit
     inside y x e = cc
 within_more blocks (x ∷ entries) (suc place) at key e = within_more blocks entries place at key e
 
+pub run_below : (blocks : ℕ) (at : Pxd) → is_within blocks at ≡ true → at.addr < blocks
+run_below blocks at w =
+    let p = and_parts (nat_le 1 at.len) (nat_le (at.addr + at.len) blocks) w in
+    let a = leb-true 1 at.len p.0 in let b = leb-true (at.addr + at.len) blocks p.1 in omega (arith, a, b)
+
 pub within_at : (blocks : ℕ) (entries : List Entry) (place : ℕ) (at : Pxd) (key : List ℕ) → slice_get entries place ≡ Some (Below at key) → list_all (child_within blocks) entries ≡ true → at.addr < blocks
 within_at blocks [] place at key e all = absurd cc
 within_at blocks (x ∷ entries) zero at key e all =
-    let w = subst (λ (f : Entry). child_within blocks f ≡ true) (inside x (Below at key) e) (and_parts (child_within blocks x) (list_all (child_within blocks) entries) all).0 in
-    let p = and_parts (nat_le 1 at.len) (nat_le (at.addr + at.len) blocks) w in
-    let a = leb-true 1 at.len p.0 in let b = leb-true (at.addr + at.len) blocks p.1 in omega (arith, a, b)
+    run_below blocks at (subst (λ (f : Entry). child_within blocks f ≡ true) (inside x (Below at key) e) (and_parts (child_within blocks x) (list_all (child_within blocks) entries) all).0)
   where
     inside : (y x : Entry) → Some y ≡ Some x → y ≡ x
     inside y x e = cc
 within_at blocks (x ∷ entries) (suc place) at key e all = within_at blocks entries place at key e (and_parts (child_within blocks x) (list_all (child_within blocks) entries) all).1
 
 pub entries_length : (form : DtForm) (bytes : List ℕ) → length (entries_of form bytes) ≡ count_of bytes
-entries_length form bytes = sym (ap length (names_are form bytes) ∙ length-map (entries_of form bytes) name_in) ∙ names_length form bytes
+entries_length form bytes = sym (ap length (names_listed form bytes) ∙ length-map (entries_of form bytes) name_in) ∙ names_length form bytes
 
 pub some_entries : (form : DtForm) (bytes : List ℕ) → 0 < count_of bytes → IsCons (entries_of form bytes)
 some_entries form bytes h = by (entries_of form bytes) (let l = entries_length form bytes in omega (arith, h, l))

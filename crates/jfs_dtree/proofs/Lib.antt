@@ -9,3 +9,6 @@ pub mod Down
 pub mod Keys
 pub mod Offspring
 pub mod Grown
+pub mod Listed
+pub mod Roots
+pub mod Parented

@@ -1,5 +1,5 @@
 -- Places of names among a leaf's entries.
-use Rattle.std.proofs.Common.{◌≡◌, ◌≤◌, ◌<◌, inl, inr, refl, sym, ap, ◌∙◌, subst, ℕ, zero, suc, ◌/◌, ◌%◌, ◌==◌, Bool, true, false, List, [], ◌∷◌, length, map, Some, None, Ok, arith}
+use Rattle.std.proofs.Common.{◌≡◌, ◌≤◌, ◌<◌, inl, inr, refl, sym, ap, ◌∙◌, subst, ℕ, zero, suc, ◌/◌, ◌%◌, ◌==◌, true, false, List, [], ◌∷◌, length, map, Some, None, Ok, arith}
 use Rattle.std.specs.Prelude.{slice_get}
 use Rattle.std.specs.List.{insert}
 use Rattle.std.proofs.lemmas.Bool.{true≢false}
@@ -9,27 +9,17 @@ use Rattle.jfs_name.specs.declared.name.NameEntry.{NameEntry}
 use Rattle.jfs_dtpage.specs.declared.head.DtForm.{DtForm}
 use Rattle.jfs_dtpage.specs.Form.{is_leaf, count_of, KeepsHead}
 use Rattle.jfs_dtpage.specs.Order.{IsBefore, name_at, GoesAt, IsFound}
-use Rattle.jfs_dtpage.specs.Page.{Entry, Named, Below, name_in, name_of, entry_of, entries_of, names_of, table_of, IsDtPage}
+use Rattle.jfs_dtpage.specs.Page.{Entry, Named, Below, name_in, entries_of, names_of, IsDtPage}
 use Rattle.jfs_dtpage.proofs.Pages.{names_length}
 use Rattle.jfs_tree.specs.Walk.{Leaf}
 use Rattle.jfs_tree.specs.Edit.{IsApart, with_entry, found_in}
 use Rattle.jfs_dtree.specs.Node.{not_after, name_scale, named, dt_node}
 use Rattle.jfs_dtree.specs.Laws.{next_of, longer, next_after, not_from}
+use Rattle.jfs_dtpage.proofs.Joined.{names_listed}
+use Rattle.jfs_dtree.proofs.Lists.{map_insert}
 use Rattle.jfs_dtree.proofs.Nodes.{leaf_is, leaf_read}
 
 -- ---- the names of a page are those of its entries
-
-entry_name : (leaf : Bool) (bytes : List ℕ) (slot : ℕ) → name_in (entry_of leaf bytes slot) ≡ name_of leaf bytes slot
-unfolding entry_of
-entry_name true bytes slot = refl
-entry_name false bytes slot = refl
-
-names_from : (leaf : Bool) (bytes slots : List ℕ) → map (name_of leaf bytes) slots ≡ map name_in (map (entry_of leaf bytes) slots)
-names_from leaf bytes [] = refl
-names_from leaf bytes (slot ∷ slots) = rw (entry_name leaf bytes slot, names_from leaf bytes slots) refl
-
-pub names_are : (form : DtForm) (bytes : List ℕ) → names_of form bytes ≡ map name_in (entries_of form bytes)
-names_are form bytes = names_from (is_leaf bytes) bytes (table_of form bytes)
 
 abbrev pub row_names : List NameEntry → List (List ℕ)
 row_names es = map (λ (e : NameEntry). e.name) es
@@ -43,17 +33,17 @@ rows_named [] = refl
 rows_named (e ∷ entries) = rw (row_name e, rows_named entries) refl
 
 pub row_names_are : (form : DtForm) (bytes : List ℕ) → names_of form bytes ≡ row_names (map named (entries_of form bytes))
-row_names_are form bytes = names_are form bytes ∙ rows_named (entries_of form bytes)
+row_names_are form bytes = names_listed form bytes ∙ rows_named (entries_of form bytes)
 
 -- ---- before and behind a name
 
-before_trans : (a b c : List ℕ) → IsBefore a b → IsBefore b c → IsBefore a c
+pub before_trans : (a b c : List ℕ) → IsBefore a b → IsBefore b c → IsBefore a c
 before_trans a b c p q = nat_list_cmp_total.trans a b c p q
 
-reaches : (a b : List ℕ) → IsBefore a b → not_after (next_of b) a ≡ false
+pub reaches : (a b : List ℕ) → IsBefore a b → not_after (next_of b) a ≡ false
 reaches a b h = not_from a (next_of b) (before_trans a b (next_of b) h (longer b))
 
-itself : (a b : List ℕ) → a ≡ b → not_after (next_of a) b ≡ false
+pub itself : (a b : List ℕ) → a ≡ b → not_after (next_of a) b ≡ false
 itself a b e = subst (λ c. not_after (next_of a) c ≡ false) e (not_from a (next_of a) (longer a))
 
 none_before : (n : ℕ) → n < 0 → ⊥
@@ -138,12 +128,6 @@ placed_row form bytes name x place same goes =
     placed (map named (entries_of form bytes)) place x (omega (arith, w, rows_length form bytes)) (before_rows form bytes name x place same goes) (behind_rows form bytes name x place same goes)
 
 -- ---- a leaf that takes a name
-
-map_insert : {X Y : Type 0} (f : X → Y) (xs : List X) (i : ℕ) (x : X) → map f (insert xs i x) ≡ insert (map f xs) i (f x)
-map_insert f [] zero x = refl
-map_insert f [] (suc i) x = refl
-map_insert f (y ∷ xs) zero x = refl
-map_insert f (y ∷ xs) (suc i) x = ap (λ ys. f y ∷ ys) (map_insert f xs i x)
 
 pub leaf_put : (form : DtForm) (blocks : ℕ) (old new name : List ℕ) (x : NameEntry) (inode place : ℕ) (es : List NameEntry) → dt_node form blocks old ≡ Leaf es → name ≡ x.name → inode ≡ x.inode → GoesAt (names_of form old) place name
     → IsDtPage form new → entries_of form new ≡ insert (entries_of form old) place (Named inode name) → KeepsHead form old new → dt_node form blocks new ≡ Leaf (with_entry name_scale x es)

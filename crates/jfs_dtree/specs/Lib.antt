@@ -5,3 +5,6 @@ pub mod Node
 pub mod Laws
 pub mod Place
 pub mod Parts
+pub mod Spells
+pub mod Adding
+pub mod Errors

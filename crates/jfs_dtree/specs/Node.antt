@@ -10,7 +10,7 @@ use Rattle.jfs_bits.specs.Broken.{first_broken}
 use Rattle.jfs_name.specs.declared.name.NameEntry.{NameEntry}
 use Rattle.jfs_dtpage.specs.declared.head.DtForm.{DtForm}
 use Rattle.jfs_dtpage.specs.declared.head.DtForm.TheVariants.{Root, Full}
-use Rattle.jfs_dtpage.specs.Form.{free_of, is_leaf}
+use Rattle.jfs_dtpage.specs.Form.{free_of, is_leaf, more_slots}
 use Rattle.jfs_dtpage.specs.Page.{Entry, Named, Below, entries_of, IsDtPage}
 use Rattle.jfs_tree.specs.Walk.{Child, Node, Leaf, Inner, Broken, Scale}
 use Rattle.jfs_dtree.specs.Rules.{rows}
@@ -78,6 +78,10 @@ IsKey key = length key ≤ 255
 pub record HasNoRoom (form : DtForm) (bytes : List ℕ) : Type 0 where
   pub sound : IsDtPage form bytes
   pub few : free_of bytes < 18
+
+-- fewer slots are free than a name or key of so many units takes
+abbrev pub LacksRoom : Bool → ℕ → List ℕ → Type 0
+LacksRoom leaf units bytes = free_of bytes < 1 + more_slots leaf units
 
 abbrev pub IsRoot : DtForm → Type 0
 IsRoot Root = Unit {0}

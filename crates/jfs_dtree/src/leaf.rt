@@ -4,10 +4,10 @@ ghost use Rattle.std.specs.Prelude.{◌≡◌, ◌<◌, ◌≤◌, ◌+◌, ℕ,
 ghost use Rattle.jfs_name.specs.declared.name.NameEntry.{NameEntry};
 ghost use Rattle.jfs_tree.specs.Walk.{Node, Leaf};
 ghost use Rattle.jfs_tree.specs.Edit.{found_in};
-ghost use Rattle.jfs_tree.specs.Form.{PutsRow};
+ghost use Rattle.jfs_tree.specs.Form.{IfFull, PutsRow};
 ghost use Rattle.jfs_dtpage.specs.Form.{bytes_of, count_of, is_leaf};
 ghost use Rattle.jfs_dtpage.specs.Page.{entries_of, IsDtPage};
-ghost use Rattle.jfs_dtree.specs.Node.{name_scale, named, dt_node, IsGood, HasNoRoom};
+ghost use Rattle.jfs_dtree.specs.Node.{name_scale, named, dt_node, IsGood, HasNoRoom, LacksRoom};
 
 use crate::check::is_sound_leaf;
 use crate::entry::DirEntry;
@@ -45,7 +45,8 @@ fn entry_at(bytes: &[u8], form: DtForm, place: u32) -> DirEntry
 pub(crate) fn put_name(bytes: &mut [u8], form: DtForm, x: &DirEntry) -> Put
     requires size { length bytes.old ≡ bytes_of form }
     requires good { IsGood x.now }
-    ensures { (blocks : ℕ) → PutsRow name_scale x.now (dt_node form blocks) (HasNoRoom form) bytes.old bytes.new result }
+    ensures row { (blocks : ℕ) → PutsRow name_scale x.now (dt_node form blocks) (HasNoRoom form) bytes.old bytes.new result }
+    ensures room { IfFull result (LacksRoom true (length x.now.name) bytes.old) }
 {
     if !is_sound_leaf(bytes, form) {
         return Put::Clash;

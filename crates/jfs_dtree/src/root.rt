@@ -1,6 +1,9 @@
 //! The root of a directory.
 
-ghost use Rattle.std.specs.Prelude.{◌≡◌, [], length, true};
+ghost use Rattle.std.specs.Prelude.{◌≡◌, ℕ, List, [], length, true, Ok};
+ghost use Rattle.jfs_tree.specs.Walk.{Leaf};
+ghost use Rattle.jfs_dtree.specs.Node.{dt_node};
+ghost use Rattle.jfs_dtree.specs.Spells.{root_node, spells_names};
 ghost use Rattle.jfs_dtpage.specs.declared.head.DtForm.TheVariants.{Root};
 ghost use Rattle.jfs_dtpage.specs.Form.{is_leaf};
 ghost use Rattle.jfs_dtpage.specs.Page.{entries_of, IsDtPage};
@@ -20,24 +23,27 @@ pub fn parent(root: &[u8]) -> u32
     get_u32(root, PARENT)
 }
 
-/// Sets the parent directory's inode, and nothing else.
+/// Sets the parent directory's inode, and nothing else: the root reads as before, whatever it reads as.
 pub fn set_parent(root: &mut [u8], parent: u32)
     requires { length root.old ≡ 288 }
     ensures parent { parent_of root.new ≡ parent }
     ensures kind { is_leaf root.new ≡ is_leaf root.old }
+    ensures node { (blocks : ℕ) → dt_node Root blocks root.new ≡ dt_node Root blocks root.old }
     ensures sound { IsDtPage Root root.old → IsDtPage Root root.new }
     ensures entries { IsDtPage Root root.old → entries_of Root root.new ≡ entries_of Root root.old }
 {
     put_u32(root, PARENT, parent);
 }
 
-/// Makes the root of an empty directory.
+/// Makes the root of an empty directory: a leaf without entries, which spells the empty list.
 pub fn new_root(root: &mut [u8], parent: u32)
     requires { length root.old ≡ 288 }
     ensures parent { parent_of root.new ≡ parent }
     ensures sound { IsDtPage Root root.new }
     ensures leaf { is_leaf root.new ≡ true }
     ensures entries { entries_of Root root.new ≡ [] }
+    ensures node { (blocks : ℕ) → root_node blocks root.new ≡ Leaf [] }
+    ensures list { (blocks : ℕ) (pages : ℕ → List ℕ) → spells_names blocks pages root.new ≡ Ok [] }
 {
     dt_new(root, DtForm::Root, true, Pxd { len: 0, addr: 0 });
     set_parent(root, parent);

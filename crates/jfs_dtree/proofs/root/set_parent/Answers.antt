@@ -7,6 +7,7 @@ use Rattle.jfs_dtpage.specs.declared.head.DtForm.TheVariants.{Root}
 use Rattle.jfs_dtpage.proofs.Kept.{kept_put}
 use Rattle.jfs_dtpage.proofs.Same.{entries_alike, page_alike}
 use Rattle.jfs_dtree.proofs.Kept.{parent_alike}
+use Rattle.jfs_dtree.proofs.Parented.{parent_node}
 use Rattle.jfs_dtree.proofs.root.set_parent.Goals as goal
 
 pub returns : goal.returns
@@ -17,6 +18,7 @@ returns c =
     record {
       parent = ap (λ (b : List ℕ). field_of b 20 4) c.put_u32.ensures.bytes ∙ field_of-put_same 20 4 c.args.parent c.args.root.now refl size (let h = c.put_u32.ensures.fits in omega (arith, h));
       kind = ap (λ (f : ℕ). f / 2 % 2 == 1) alike.flag;
+      node = λ blocks. parent_node c.args.root.now c.put_u32.new.bytes kept blocks;
       sound = λ page. page_alike Root c.args.root.now c.put_u32.new.bytes page alike;
       entries = λ page. entries_alike Root c.args.root.now c.put_u32.new.bytes page alike;
     }

@@ -1,0 +1,141 @@
+-- Roots and what is found, added and refused, as the calls say it.
+use Rattle.std.proofs.Common.{◌≡◌, refl, sym, ap, ◌∙◌, subst, ℕ, ◌*◌, List, [], ◌∷◌, map, Bool, true, false, Option, None, Ok}
+use Rattle.std.specs.List.{list_all}
+use Rattle.std.specs.Option.{option_map}
+use Rattle.std.proofs.lemmas.Bool.{and_parts, eq-eqb, true≢false}
+use Rattle.std.specs.Prelude.{◌==◌, if◌then◌else◌}
+use Rattle.jfs_disk.specs.Image.{Image, page_of}
+use Rattle.jfs_name.specs.declared.name.NameEntry.{NameEntry}
+use Rattle.jfs_plain.specs.Names.{named}
+use Rattle.jfs_dtpage.specs.declared.head.DtForm.{DtForm}
+use Rattle.jfs_dtpage.specs.declared.head.DtForm.TheVariants.{Root, Full}
+use Rattle.jfs_bits.specs.Descriptor.{pxd_of}
+use Rattle.jfs_dtpage.specs.Form.{is_leaf}
+use Rattle.jfs_dtpage.specs.Page.{entry_of, entries_of, table_of, IsDtPage}
+use Rattle.jfs_tree.specs.Walk.{Node, Leaf}
+use Rattle.jfs_tree.specs.Edit.{IsApart}
+use Rattle.jfs_tree.specs.Fresh.{AllPages, HasPages}
+use Rattle.jfs_tree.specs.Adds.{read_as, AddsTold, RefusesWhereFull}
+use Rattle.jfs_tree.specs.Root.{FindsAlways, NamesBroken, RefusesWhereBad}
+use Rattle.jfs_bits.specs.declared.rule.Rule.{Rule}
+use Rattle.jfs_bits.specs.declared.rule.Rule.TheVariants as rules
+use Rattle.jfs_ranges.specs.declared.edit.Edit.{Edit}
+use Rattle.jfs_tree.specs.Fresh.{after_tx}
+use Rattle.jfs_tree.specs.Call.{pages_of}
+use Rattle.jfs_tree.specs.declared.form.TreeError.{TreeError}
+use Rattle.jfs_tree.specs.declared.form.TreeError.TheVariants.{View, Bad, Memory}
+use Rattle.jfs_dtree.specs.Node.{named as named_entry, name_scale, below, is_within, child_within, dt_node}
+use Rattle.jfs_dtree.specs.Spells.{root_node, page_nodes, spells_names, FailsWhereBad}
+use Rattle.jfs_tree.specs.Spells.{no_page, spells}
+use Rattle.jfs_dtree.specs.declared.error.DtError.TheVariants.{TooDeep, Bad as BadPage}
+use Rattle.jfs_dtree.specs.Errors.{handed_on}
+use Rattle.jfs_dtree.specs.Adding.{AddsName, NoRoomOnWay, TakesPages, RefusesName, refusal}
+use Rattle.jfs_dtree.proofs.Nodes.{inner_is, leaf_read}
+use Rattle.jfs_dtree.proofs.Leading.{run_below}
+use Rattle.jfs_dtree.proofs.Listed.{found_named, apart_named, added_as}
+
+-- ---- children lie within the blocks
+
+all_pages : (blocks : ℕ) (bytes slots : List ℕ) → list_all (child_within blocks) (map (entry_of false bytes) slots) ≡ true → AllPages blocks (map below (map (entry_of false bytes) slots))
+unfolding entry_of
+all_pages blocks bytes [] w = tt
+all_pages blocks bytes (slot ∷ slots) w =
+    let p = and_parts (is_within blocks (pxd_of bytes (32 * slot))) (list_all (child_within blocks) (map (entry_of false bytes) slots)) w in
+    (run_below blocks (pxd_of bytes (32 * slot)) p.0, all_pages blocks bytes slots p.1)
+
+pub has_pages : (form : DtForm) (blocks : ℕ) (bytes : List ℕ) → HasPages blocks (dt_node form blocks bytes)
+has_pages form blocks bytes cs e =
+    let t = inner_is form blocks bytes cs e in
+    let within = subst (λ leaf. list_all (child_within blocks) (map (entry_of leaf bytes) (table_of form bytes)) ≡ true) t.1 t.2 in
+    subst (AllPages blocks) (subst (λ leaf. map below (map (entry_of leaf bytes) (table_of form bytes)) ≡ cs) t.1 t.4) (all_pages blocks bytes (table_of form bytes) within)
+
+-- ---- what is found
+
+pub finds_as : (b blocks : ℕ) (image : Image) (root name : List ℕ) (x : NameEntry) (found : Option NameEntry) (inode : Option ℕ) → b ≡ blocks → x.name ≡ name → inode ≡ option_map (λ (e : NameEntry). e.inode) found
+    → FindsAlways name_scale x (pages_of (dt_node Full b) image) (dt_node Root b root) found → (es : List NameEntry) → spells_names blocks (page_of image) root ≡ Ok es → inode ≡ named name es
+finds_as b blocks image root name x found inode eb en ei h es spelled =
+    let f = subst (λ k. FindsAlways name_scale x (pages_of (dt_node Full k) image) (dt_node Root k root) found) eb h es spelled in
+    ei ∙ ap (option_map (λ (e : NameEntry). e.inode)) f ∙ found_named (page_nodes blocks (page_of image)) (root_node blocks root) es x spelled ∙ ap (λ n. named n es) en
+
+fails_on : (pages : ℕ → Node (List ℕ) NameEntry) (root : Node (List ℕ) NameEntry) (e : TreeError) → NamesBroken name_scale pages root e → FailsWhereBad pages root (handed_on e)
+fails_on pages root (View e) h = h
+fails_on pages root (Bad page rule) h = h
+fails_on pages root Memory h = tt
+
+pub fails_as : (b blocks : ℕ) (image : Image) (root : List ℕ) (e : TreeError) → b ≡ blocks → NamesBroken name_scale (pages_of (dt_node Full b) image) (dt_node Root b root) e → FailsWhereBad (page_nodes blocks (page_of image)) (root_node blocks root) (handed_on e)
+fails_as b blocks image root e eb h = fails_on (page_nodes blocks (page_of image)) (root_node blocks root) e (subst (λ k. NamesBroken name_scale (pages_of (dt_node Full k) image) (dt_node Root k root) e) eb h)
+
+-- ---- what is added
+
+-- what is known of a name that wasn't found
+abbrev pub IsNew : ℕ → (ℕ → List ℕ) → List ℕ → List ℕ → Type 0
+IsNew blocks pages root name = (es : List NameEntry) → spells_names blocks pages root ≡ Ok es → named name es ≡ None
+
+pub adds_as : (b count blocks : ℕ) (view image : Image) (root after name : List ℕ) (x : NameEntry) (inode : ℕ) (free left : List ℕ) (tx later : List Edit) → b ≡ count → count ≡ blocks → view ≡ image → x ≡ record { name = name; inode = inode }
+    → IsNew blocks (page_of image) root name → AddsTold name_scale (dt_node Full b) count (page_of view) x (dt_node Root b root) (dt_node Root b after) free left tx later
+    → AddsName blocks (page_of image) (record { name = name; inode = inode }) root after free left tx later
+adds_as b count blocks view image root after name x inode free left tx later eb ec ev ex is_new told = λ base leads es spelled spare.
+    let new : NameEntry = record { name = name; inode = inode } in
+    let t : AddsTold name_scale (dt_node Full blocks) blocks (page_of image) new (dt_node Root blocks root) (dt_node Root blocks after) free left tx later =
+    subst (λ y. AddsTold name_scale (dt_node Full blocks) blocks (page_of image) y (dt_node Root blocks root) (dt_node Root blocks after) free left tx later) ex
+    (subst (λ i. AddsTold name_scale (dt_node Full blocks) blocks (page_of i) x (dt_node Root blocks root) (dt_node Root blocks after) free left tx later) ev
+    (subst (λ n. AddsTold name_scale (dt_node Full n) n (page_of view) x (dt_node Root n root) (dt_node Root n after) free left tx later) ec
+    (subst (λ n. AddsTold name_scale (dt_node Full n) count (page_of view) x (dt_node Root n root) (dt_node Root n after) free left tx later) eb told))) in
+    let a = t base leads es spelled (apart_named (page_nodes blocks (page_of image)) (root_node blocks root) es new spelled (is_new es spelled)) spare in
+    record {
+      is_new = is_new es spelled;
+      spelled = a.spelled ∙ ap (λ list. Ok list) (added_as (page_nodes blocks (after_tx base later)) (root_node blocks after) es a.list new a.spelled a.added);
+      owned = a.owned;
+      keeps = a.keeps;
+    }
+
+-- ---- what is refused
+
+refused_at : (blocks : ℕ) (pages : ℕ → List ℕ) (root free : List ℕ) (new : NameEntry) (page : ℕ) (rule : Rule) → IsNew blocks pages root new.name → RefusesWhereBad name_scale new (page_nodes blocks pages) (root_node blocks root) free (Bad page rule)
+    → RefusesWhereFull name_scale new (page_nodes blocks pages) (root_node blocks root) free (NoRoomOnWay blocks pages new root) (Bad page rule) → RefusesName blocks pages new root free (refusal (Bad page rule))
+refused_at blocks pages root free new page rules.Deep is_new h full = by (page == no_page) refl
+  where
+    apart : (es : List NameEntry) → spells_names blocks pages root ≡ Ok es → IsApart name_scale new es
+    apart es spelled = apart_named (page_nodes blocks pages) (root_node blocks root) es new spelled (is_new es spelled)
+
+    by : (b : Bool) → (page == no_page) ≡ b → RefusesName blocks pages new root free (if b then TooDeep else BadPage page rules.Deep)
+    by true e = λ es spelled spare. ((h es spelled (apart es spelled) spare).2, full es spelled (apart es spelled) spare)
+    by false e = λ es spelled spare. true≢false (sym (eq-eqb page no_page (h es spelled (apart es spelled) spare).0) ∙ e)
+refused_at blocks pages root free new page rule is_new h full = λ es spelled spare.
+    let t = h es spelled (apart_named (page_nodes blocks pages) (root_node blocks root) es new spelled (is_new es spelled)) spare in let e = t.1 in cc
+
+-- what a call on the tree says, in the words of its pages
+abbrev RefusesBoth : ℕ → ℕ → Image → List ℕ → NameEntry → List ℕ → TreeError → Type 0
+RefusesBoth b blocks image root x free e = RefusesWhereBad name_scale x (read_as (dt_node Full b) (page_of image)) (dt_node Root b root) free e
+    × RefusesWhereFull name_scale x (read_as (dt_node Full b) (page_of image)) (dt_node Root b root) free (NoRoomOnWay b (page_of image) x root) e
+
+pub refuses_as : (b count blocks : ℕ) (view image : Image) (root name : List ℕ) (x : NameEntry) (inode : ℕ) (free : List ℕ) (e : TreeError) → b ≡ count → count ≡ blocks → view ≡ image → x ≡ record { name = name; inode = inode }
+    → IsNew blocks (page_of image) root name → RefusesWhereBad name_scale x (read_as (dt_node Full b) (page_of view)) (dt_node Root b root) free e
+    → RefusesWhereFull name_scale x (read_as (dt_node Full b) (page_of view)) (dt_node Root b root) free (NoRoomOnWay b (page_of view) x root) e
+    → RefusesName blocks (page_of image) (record { name = name; inode = inode }) root free (refusal e)
+refuses_as b count blocks view image root name x inode free e eb ec ev ex is_new h full =
+    by e (subst (λ y. RefusesBoth blocks blocks image root y free e) ex (subst (λ i. RefusesBoth blocks blocks i root x free e) ev (subst (λ n. RefusesBoth n blocks view root x free e) (eb ∙ ec) (h, full))))
+  where
+    by : (e : TreeError) → RefusesBoth blocks blocks image root (record { name = name; inode = inode }) free e → RefusesName blocks (page_of image) (record { name = name; inode = inode }) root free (refusal e)
+    by (View e) h = tt
+    by (Bad page rule) h = refused_at blocks (page_of image) root free (record { name = name; inode = inode }) page rule is_new h.0 h.1
+    by Memory h = tt
+
+-- ---- which pages are taken
+
+pub takes_as : (b count blocks : ℕ) (view image : Image) (root name : List ℕ) (x : NameEntry) (inode : ℕ) (free left : List ℕ) → b ≡ count → count ≡ blocks → view ≡ image → x ≡ record { name = name; inode = inode }
+    → TakesPages b (page_of view) x root free left → TakesPages blocks (page_of image) (record { name = name; inode = inode }) root free left
+takes_as b count blocks view image root name x inode free left eb ec ev ex takes =
+    subst (λ y. TakesPages blocks (page_of image) y root free left) ex (subst (λ i. TakesPages blocks (page_of i) x root free left) ev (subst (λ n. TakesPages n (page_of view) x root free left) (eb ∙ ec) takes))
+
+-- ---- a root without names
+
+spells_none : (blocks : ℕ) (pages : ℕ → List ℕ) → spells name_scale (page_nodes blocks pages) (Leaf []) ≡ Ok []
+unfolding spells
+spells_none blocks pages = refl
+
+pub new_root_node : (root : List ℕ) → IsDtPage Root root → is_leaf root ≡ true → entries_of Root root ≡ [] → (blocks : ℕ) → root_node blocks root ≡ Leaf []
+new_root_node root sound kind none blocks = leaf_read Root blocks root sound kind ∙ ap (λ es. Leaf (map named_entry es)) none
+
+pub new_root_list : (root : List ℕ) → IsDtPage Root root → is_leaf root ≡ true → entries_of Root root ≡ [] → (blocks : ℕ) (pages : ℕ → List ℕ) → spells_names blocks pages root ≡ Ok []
+new_root_list root sound kind none blocks pages = ap (spells name_scale (page_nodes blocks pages)) (new_root_node root sound kind none blocks) ∙ spells_none blocks pages

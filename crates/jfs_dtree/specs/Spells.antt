@@ -1,0 +1,46 @@
+-- What a root in a directory's inode spells: the names in their order, each with its inode. (JFS White Paper, directory organization; JFS Layout: the root has 288 bytes.)
+use Rattle.std.specs.Prelude.{◌≡◌, ℕ, List, Result, Ok, Err}
+use Rattle.jfs_bits.specs.declared.rule.Rule.{Rule}
+use Rattle.jfs_name.specs.declared.name.NameEntry.{NameEntry}
+use Rattle.jfs_ranges.specs.View.{CarriesCount}
+use Rattle.jfs_dtpage.specs.declared.head.DtForm.TheVariants.{Root, Full}
+use Rattle.jfs_tree.specs.Walk.{Node}
+use Rattle.jfs_tree.specs.Spells.{spells, footprint}
+use Rattle.jfs_tree.specs.Adds.{read_as}
+use Rattle.jfs_tree.specs.Root.{NamesBroken}
+use Rattle.jfs_tree.specs.declared.form.TreeError.TheVariants as tree
+use Rattle.jfs_dtree.specs.Node.{name_scale, dt_node}
+use Rattle.jfs_dtree.specs.declared.error.DtError.{DtError}
+use Rattle.jfs_dtree.specs.declared.error.DtError.TheVariants.{View, Bad, Exists, Missing, TooDeep}
+
+-- the root, and the pages below it, on a volume whose file system part has so many blocks
+abbrev pub root_node : ℕ → List ℕ → Node (List ℕ) NameEntry
+root_node blocks root = dt_node Root blocks root
+
+abbrev pub page_nodes : ℕ → (ℕ → List ℕ) → ℕ → Node (List ℕ) NameEntry
+page_nodes blocks pages = read_as (dt_node Full blocks) pages
+
+-- the names, or the first broken rule and the page that breaks it
+abbrev pub spells_names : ℕ → (ℕ → List ℕ) → List ℕ → Result (List NameEntry) (ℕ × Rule)
+spells_names blocks pages root = spells name_scale (page_nodes blocks pages) (root_node blocks root)
+
+-- the pages below it, which are its own
+abbrev pub owned_pages : ℕ → (ℕ → List ℕ) → List ℕ → ℕ → ℕ
+owned_pages blocks pages root = footprint name_scale (page_nodes blocks pages) (root_node blocks root)
+
+-- the count of faults rises only with a fault, which carries the count that it raised
+abbrev pub CarriesDt : {T : Type 0} → ℕ → ℕ → Result T DtError → Type 0
+CarriesDt before now (Ok it) = now ≡ before
+CarriesDt {T} before now (Err (View e)) = CarriesCount {T = T} before now (Err e)
+CarriesDt before now (Err (Bad page rule)) = now ≡ before
+CarriesDt before now (Err Exists) = now ≡ before
+CarriesDt before now (Err Missing) = now ≡ before
+CarriesDt before now (Err TooDeep) = now ≡ before
+
+-- a call that only looks names a page where it breaks a rule on the way down, and then the root spells no list
+abbrev pub FailsWhereBad : (ℕ → Node (List ℕ) NameEntry) → Node (List ℕ) NameEntry → DtError → Type 0
+FailsWhereBad pages root (View e) = Unit {0}
+FailsWhereBad pages root (Bad page rule) = NamesBroken name_scale pages root (tree.Bad page rule)
+FailsWhereBad pages root Exists = ⊥
+FailsWhereBad pages root Missing = ⊥
+FailsWhereBad pages root TooDeep = ⊥
