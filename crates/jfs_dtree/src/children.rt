@@ -8,8 +8,8 @@ ghost use Rattle.jfs_dtpage.specs.Page.{entries_of, names_of, IsDtPage};
 ghost use Rattle.jfs_dtpage.specs.Order.{name_at};
 ghost use Rattle.jfs_tree.specs.Walk.{Child, Inner};
 ghost use Rattle.jfs_tree.specs.Edit.{KeysRise};
-ghost use Rattle.jfs_tree.specs.Form.{PutsChild, AtPlace, SplitsChildren, as_child};
-ghost use Rattle.jfs_dtree.specs.Node.{name_scale, dt_node, HasNoRoom, IsKey};
+ghost use Rattle.jfs_tree.specs.Form.{IfFull, PutsChild, AtPlace, SplitsChildren, as_child};
+ghost use Rattle.jfs_dtree.specs.Node.{name_scale, dt_node, HasNoRoom, LacksRoom, IsKey};
 ghost use Rattle.jfs_dtree.specs.Parts.{lowered, SplitsInner};
 
 use crate::entry::NameKey;
@@ -65,7 +65,8 @@ pub(crate) fn put_child(
     child: &Sibling<NameKey>,
 ) -> Put
     requires size { length bytes.old ≡ bytes_of form }
-    ensures { (blocks : ℕ) → child.now.page < blocks → PutsChild name_scale (dt_node form blocks) (HasNoRoom form) place child.now bytes.old bytes.new result }
+    ensures child { (blocks : ℕ) → child.now.page < blocks → PutsChild name_scale (dt_node form blocks) (HasNoRoom form) place child.now bytes.old bytes.new result }
+    ensures room { IfFull result (LacksRoom false (length child.now.key) bytes.old) }
 {
     if !is_sound_inner(bytes, form) {
         return Put::Clash;

@@ -1,6 +1,7 @@
 //! Directories: names by trees of pages whose root stands in the directory's inode. (JFS White Paper, directory organization.)
 #![tactic(auto)]
 
+mod adding;
 mod check;
 mod children;
 mod entry;
@@ -8,12 +9,15 @@ mod error;
 mod form;
 mod lead;
 mod leaf;
+mod lookup;
 mod move_down;
 mod root;
 mod split;
 mod split_parts;
 
+pub use adding::add;
 pub use entry::{DirEntry, NameKey};
 pub use error::DtError;
 pub use form::DtPages;
+pub use lookup::find;
 pub use root::{new_root, parent, set_parent};

@@ -9,14 +9,14 @@ use Rattle.jfs_dtree.proofs.Grown.{more_children, child_put}
 use Rattle.jfs_dtree.proofs.children.put_child.Goals as goal
 use Rattle.jfs_dtree.proofs.children.put_child.Goals.{then-next-eq0-via-then-next-eq0, then-next-eq0-via-else-next-eq0+then-next-place}
 
-pub returns-in_default : goal.returns-in_default
-returns-in_default c = λ blocks within all at rise.
+pub returns-in_default-clause-child : goal.returns-in_default-clause-child
+returns-in_default-clause-child c = λ blocks within all at rise.
     found_at (names_of c.args.form c.make_way.new.bytes) (suc c.args.place) c.args.child.now.key
     (child_goes c.args.form blocks c.args.bytes.now c.make_way.new.bytes c.args.place _ all at rise c.make_way.ensures.page (c.make_way.ensures.entries ∙ ap (λ k. lowered k (entries_of c.args.form c.args.bytes.now)) c.units-key.ensures.units))
     c.in_default.field-0 (subst (λ k. IsFound (names_of c.args.form c.make_way.new.bytes) k (Ok c.in_default.field-0)) c.units-key.ensures.units c.in_default.ensures)
 
-pub returns-then-next-eq0 : goal.returns-then-next-eq0
-returns-then-next-eq0 c = λ blocks within all at rise.
+pub returns-then-next-eq0-clause-child : goal.returns-then-next-eq0-clause-child
+returns-then-next-eq0-clause-child c = λ blocks within all at rise.
     let u = c.units-key.ensures.units in
     let goes = child_goes c.args.form blocks c.args.bytes.now c.make_way.new.bytes c.args.place _ all at rise c.make_way.ensures.page (c.make_way.ensures.entries ∙ ap (λ k. lowered k (entries_of c.args.form c.args.bytes.now)) u) in
     let next : c.in-Err.next ≡ suc c.args.place =
@@ -33,8 +33,8 @@ insert-requires-clause-room c =
     let v = c.dt_slots.ensures.value in
     omega (arith, a, b, v, c.from.ensures, c.free_of.ensures)
 
-pub returns : goal.returns
-returns c = λ blocks within all at rise.
+pub returns-clause-child : goal.returns-clause-child
+returns-clause-child c = λ blocks within all at rise.
     let u = c.units-key.ensures.units in
     let a = c.if-next-eq0.false in
     let b = c.if-next-place.false in

@@ -1,0 +1,20 @@
+use Rattle.std.proofs.Common.{sym, ap, ◌∙◌, subst}
+use Rattle.jfs_disk.specs.Image.{page_of}
+use Rattle.jfs_name.specs.declared.name.NameEntry.{NameEntry}
+use Rattle.jfs_dtree.specs.Laws.{point}
+use Rattle.jfs_dtree.specs.Spells.{root_node, page_nodes, FailsWhereBad}
+use Rattle.jfs_dtree.proofs.Roots.{finds_as, fails_as}
+use Rattle.jfs_dtree.proofs.lookup.find.Goals as goal
+
+pub find_entry-requires-clause-point : goal.find_entry-requires-clause-point
+find_entry-requires-clause-point g c = point c.new-x.result
+
+pub returns-in-Ok-clause-found : goal.returns-in-Ok-clause-found
+returns-in-Ok-clause-found g c tells =
+    finds_as c.blocks-blocks.result (g.V.PageView.block_count c.args.view.now) (g.V.PageView.image c.args.view.now) c.args.root.now c.args.name.now c.new-x.result c.in-Ok.found c.inode_of.result
+    c.blocks-blocks.ensures (ap (λ (e : NameEntry). e.name) c.new-x.ensures ∙ c.as_slice.ensures) c.inode_of.ensures (c.in-Ok.ensures.found tells)
+
+pub returns-in-Err-clause-bad : goal.returns-in-Err-clause-bad
+returns-in-Err-clause-bad g c tells =
+    subst (FailsWhereBad (page_nodes (g.V.PageView.block_count c.args.view.now) (page_of (g.V.PageView.image c.args.view.now))) (root_node (g.V.PageView.block_count c.args.view.now) c.args.root.now)) (sym c.handed_on.ensures)
+    (fails_as c.blocks-blocks.result (g.V.PageView.block_count c.args.view.now) (g.V.PageView.image c.args.view.now) c.args.root.now c.in-Err.e c.blocks-blocks.ensures (c.in-Err.ensures.bad tells))

@@ -1,0 +1,100 @@
+//! One name more.
+
+ghost use Rattle.std.specs.Prelude.{◌≡◌, ◌<◌, ◌≤◌, ◌==◌, if◌then◌else◌, ℕ, List, length, OnOk, OnErr, IfOk, IfErr};
+ghost use Rattle.jfs_disk.specs.Image.{page_of};
+ghost use Rattle.jfs_tree.specs.Form.{AllBelow};
+ghost use Rattle.jfs_tree.specs.Fresh.{blocks_of, TakenInOrder};
+ghost use Rattle.jfs_dtree.specs.Spells.{CarriesDt};
+ghost use Rattle.jfs_dtree.specs.Adding.{AddsName, TakesPages, RefusesName, refusal};
+
+use crate::entry::DirEntry;
+use crate::error::DtError;
+use crate::form::DtPages;
+use crate::lookup::find;
+use jfs_bits::{PageKind, PxdList, Rule};
+use jfs_dtpage::DtForm;
+use jfs_name::Name;
+use jfs_ranges::{PageView, Tx, ViewError};
+use jfs_tree::{NO_PAGE, TreeError, add_and_tell};
+use std::alloc::Global;
+
+#[tactic(auto, using(crate::proofs::Roots::has_pages))]
+/// Adds a name of at most 255 units to a directory whose root has these 288 bytes: `Exists` exactly where the directory has the name. Pages that it
+/// needs are taken from `fresh` in its order; the transaction gets the changed lines and new pages, and then an `Alloc` of each. After an `Err` root,
+/// `fresh` and transaction are as before. A tree of 8 levels gets no ninth: that is `TooDeep`.
+pub fn add<V: PageView>(
+    alloc: Global,
+    view: &mut V,
+    root: &mut [u8],
+    name: &Name,
+    inode: u32,
+    fresh: &mut PxdList,
+    tx: &mut Tx,
+) -> Result<(), DtError>
+    requires root { length root.old ≡ 288 }
+    requires name { length name.now ≤ 255 }
+    requires enough { 8 ≤ length (blocks_of fresh.old) }
+    requires within { AllBelow (V.PageView.block_count view.old) (blocks_of fresh.old) }
+    ensures image { V.PageView.tells → V.PageView.image view.new ≡ V.PageView.image view.old }
+    ensures count_of_blocks { V.PageView.block_count view.new ≡ V.PageView.block_count view.old }
+    ensures fault { CarriesDt (V.PageView.fault_count view.old) (V.PageView.fault_count view.new) result }
+    ensures adds { V.PageView.tells → OnOk result (AddsName (V.PageView.block_count view.old) (page_of (V.PageView.image view.old)) (record { name = name.now; inode = inode }) root.old root.new (blocks_of fresh.old) (blocks_of fresh.new) tx.old tx.new) }
+    ensures taken { OnOk result (TakenInOrder (blocks_of fresh.old) (blocks_of fresh.new) tx.new) }
+    ensures kept { OnErr result ((root.new ≡ root.old) × (fresh.new ≡ fresh.old) × (tx.new ≡ tx.old)) }
+    ensures room { V.PageView.tells → OnOk result (TakesPages (V.PageView.block_count view.old) (page_of (V.PageView.image view.old)) (record { name = name.now; inode = inode }) root.old (blocks_of fresh.old) (blocks_of fresh.new)) }
+    ensures refused { V.PageView.tells → IfErr result (λ e. RefusesName (V.PageView.block_count view.old) (page_of (V.PageView.image view.old)) (record { name = name.now; inode = inode }) root.old (blocks_of fresh.old) e) }
+{
+    match find(view, root, name) {
+        Ok(None) => {}
+        Ok(Some(_)) => return Err(DtError::Exists),
+        Err(e) => return Err(e),
+    }
+    let blocks = view.blocks();
+    let top = DtPages {
+        form: DtForm::Root,
+        blocks,
+    };
+    let pages = DtPages {
+        form: DtForm::Full,
+        blocks,
+    };
+    let x = DirEntry::new(name.as_slice(), inode);
+    match add_and_tell(
+        alloc,
+        &top,
+        &pages,
+        view,
+        root,
+        &x,
+        fresh,
+        PageKind::Dtree,
+        tx,
+    ) {
+        Ok(()) => Ok(()),
+        Err(e) => Err(refusal(e)),
+    }
+}
+
+/// Why a name that isn't there was refused.
+fn refusal(e: TreeError) -> DtError
+    ensures { result ≡ refusal e }
+{
+    match e {
+        TreeError::View(e) => DtError::View(e),
+        TreeError::Bad {
+            page,
+            rule: Rule::Deep,
+        } => {
+            if page == NO_PAGE {
+                DtError::TooDeep
+            } else {
+                DtError::Bad {
+                    page,
+                    rule: Rule::Deep,
+                }
+            }
+        }
+        TreeError::Bad { page, rule } => DtError::Bad { page, rule },
+        TreeError::Memory => DtError::View(ViewError::Memory),
+    }
+}

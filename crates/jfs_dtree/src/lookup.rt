@@ -1,0 +1,67 @@
+//! A name looked up in a directory.
+
+ghost use Rattle.std.specs.Prelude.{◌≡◌, ◌<◌, ◌≤◌, ◌==◌, if◌then◌else◌, ℕ, List, length, IfOk, IfErr, Ok};
+ghost use Rattle.std.specs.Option.{option_map};
+ghost use Rattle.jfs_name.specs.declared.name.NameEntry.{NameEntry};
+ghost use Rattle.jfs_plain.specs.Names.{named};
+ghost use Rattle.jfs_disk.specs.Image.{page_of};
+ghost use Rattle.jfs_dtree.specs.Spells.{root_node, page_nodes, spells_names, CarriesDt, FailsWhereBad};
+ghost use Rattle.jfs_dtree.specs.Errors.{handed_on};
+
+use crate::entry::DirEntry;
+use crate::error::DtError;
+use crate::form::DtPages;
+use jfs_dtpage::DtForm;
+use jfs_name::Name;
+use jfs_ranges::{PageView, ViewError};
+use jfs_tree::{TreeError, find_entry};
+
+#[tactic(auto, using(crate::specs::Laws::point))]
+/// The inode that a name names in a directory whose root has these 288 bytes; `None` exactly where the directory doesn't have the name. It reads one
+/// page a level.
+pub fn find<V: PageView>(view: &mut V, root: &[u8], name: &Name) -> Result<Option<u32>, DtError>
+    requires root { length root.now ≡ 288 }
+    requires name { length name.now ≤ 255 }
+    ensures image { V.PageView.tells → V.PageView.image view.new ≡ V.PageView.image view.old }
+    ensures count_of_blocks { V.PageView.block_count view.new ≡ V.PageView.block_count view.old }
+    ensures fault { CarriesDt (V.PageView.fault_count view.old) (V.PageView.fault_count view.new) result }
+    ensures found { V.PageView.tells → IfOk result (λ found. (es : List NameEntry) →
+        spells_names (V.PageView.block_count view.old) (page_of (V.PageView.image view.old)) root.now ≡ Ok es → found ≡ named name.now es) }
+    ensures bad { V.PageView.tells → IfErr result (λ e.
+        FailsWhereBad (page_nodes (V.PageView.block_count view.old) (page_of (V.PageView.image view.old))) (root_node (V.PageView.block_count view.old) root.now) e) }
+{
+    let blocks = view.blocks();
+    let top = DtPages {
+        form: DtForm::Root,
+        blocks,
+    };
+    let pages = DtPages {
+        form: DtForm::Full,
+        blocks,
+    };
+    let x = DirEntry::new(name.as_slice(), 0);
+    match find_entry(&top, &pages, view, root, &x) {
+        Ok(found) => Ok(inode_of(found)),
+        Err(e) => Err(handed_on(e)),
+    }
+}
+
+fn inode_of(found: Option<DirEntry>) -> Option<u32>
+    ensures { result ≡ option_map (λ (e : NameEntry). e.inode) found }
+{
+    match found {
+        Some(entry) => Some(entry.inode()),
+        None => None,
+    }
+}
+
+/// An error of the tree's pages, handed on.
+fn handed_on(e: TreeError) -> DtError
+    ensures { result ≡ handed_on e }
+{
+    match e {
+        TreeError::View(e) => DtError::View(e),
+        TreeError::Bad { page, rule } => DtError::Bad { page, rule },
+        TreeError::Memory => DtError::View(ViewError::Memory),
+    }
+}
