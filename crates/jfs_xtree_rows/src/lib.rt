@@ -10,6 +10,10 @@ mod cutting;
 #[cfg(test)]
 mod hostile;
 #[cfg(test)]
+mod listed;
+#[cfg(test)]
+mod rack;
+#[cfg(test)]
 mod shelf;
 #[cfg(test)]
 mod volume;
