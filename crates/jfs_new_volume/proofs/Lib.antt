@@ -6,3 +6,4 @@ pub mod Objects
 pub mod Agreed
 pub mod RealRoots
 pub mod Tree
+pub mod Room

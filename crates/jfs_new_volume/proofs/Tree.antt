@@ -116,7 +116,7 @@ module _ (r : Readers) (pages : ℕ) (v : NewVolume) (image : Image) (layout : I
   pub consistent : IsConsistent r (new_on r v image)
   consistent = record { sound = sound; inodes = inodes; tree = new_tree_consistent (room (new_on r v image)) v.moment (tree_on r (new_on r v image)) enough same }
 
-blocks_are : (v : NewVolume) → blocks_of (new_super v) ≡ v.layout.blocks
+pub blocks_are : (v : NewVolume) → blocks_of (new_super v) ≡ v.layout.blocks
 unfolding new_super
 blocks_are v = omega arith
 

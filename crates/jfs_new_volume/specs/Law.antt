@@ -8,14 +8,16 @@ use Rattle.jfs_objects.specs.Volume.{Volume}
 use Rattle.jfs_objects.specs.Objects.{Object, objects}
 use Rattle.jfs_objects.specs.Owners.{IsSound}
 use Rattle.jfs_objects.specs.Image.{volume_on}
-use Rattle.jfs_format.specs.Layout.{IsLayout}
+use Rattle.jfs_format.specs.Layout.{IsLayout, free_blocks}
 use Rattle.jfs_format.specs.Inodes.{fileset_inode}
 use Rattle.jfs_format.specs.Superblock.{new_super}
 use Rattle.jfs_format.specs.Volume.{IsNewVolume}
 use Rattle.jfs_format.specs.declared.volume.NewVolume.{NewVolume}
 use Rattle.jfs_plain.specs.Moves.{Same}
 use Rattle.jfs_plain.specs.Plain.{new_tree}
-use Rattle.jfs_meaning.specs.Image.{tree_of, IsConsistentImage}
+use Rattle.jfs_plain.specs.Step.{Room}
+use Rattle.jfs_super.specs.Geometry.{file_limit_of}
+use Rattle.jfs_meaning.specs.Image.{tree_of, room_of, IsConsistentImage}
 use Rattle.jfs_new_volume.specs.Roots.{ReadsRoots}
 
 -- the volume on these pages, with the second inode table and map where the superblock says
@@ -39,3 +41,12 @@ NewVolumeLaw = (r : Readers) (pages : ℕ) (v : NewVolume) (image : Image) → I
 abbrev pub NewTreeLaw : Type 0
 NewTreeLaw = (pages : ℕ) (v : NewVolume) (image : Image) → IsLayout pages v.layout → IsNewVolume v image
     → IsConsistentImage (new_super v) (page_of image) × Same (new_tree v.moment) (tree_of (new_super v) (page_of image))
+
+-- The room of a new volume: all blocks behind its areas are free, and a new object gets inode 4.
+pub record HasNewRoom (v : NewVolume) (room : Room) : Type 0 where
+  pub limit : room.limit ≡ file_limit_of v.layout.log.len
+  pub free : room.free ≡ free_blocks v.layout
+  pub inode : room.inode ≡ Some 4
+
+abbrev pub NewRoomLaw : Type 0
+NewRoomLaw = (pages : ℕ) (v : NewVolume) (image : Image) → IsLayout pages v.layout → IsNewVolume v image → HasNewRoom v (room_of (new_super v) (page_of image))

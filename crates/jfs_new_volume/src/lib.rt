@@ -3,4 +3,4 @@
 
 mod law;
 
-pub use law::{new_volume_has_the_new_tree, new_volume_is_sound};
+pub use law::{new_volume_has_room, new_volume_has_the_new_tree, new_volume_is_sound};
