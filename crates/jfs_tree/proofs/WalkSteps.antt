@@ -50,21 +50,6 @@ pub leaf_goes : {P E V : Type 0} (s : Scale P E) (page : V → ℕ → V → Typ
     → slice_get xs 0 ≡ Some x → s.fits key x ≡ true → Meets s page row key v (map (Row n) xs) r w → Meets s page row key v (leaf_shown s n key xs) r w
 leaf_goes s page row n key v xs x r w at fits h = subst (λ ms. Meets s page row key v ms r w) (sym (leaf_fits s n key xs x at fits)) h
 
-leaf_breaks : {P E : Type 0} (s : Scale P E) (n : ℕ) (key : P) (xs : List E) (x : E) → slice_get xs 0 ≡ Some x → s.fits key x ≡ false → leaf_shown s n key xs ≡ Fault n rules.Order ∷ []
-leaf_breaks s n key [] x at fits = cc
-leaf_breaks {P} {E} s n key (y ∷ ys) x at fits = by (s.fits key y) (ap (s.fits key) (same y x at) ∙ fits)
-  where
-    same : (a b : E) → Some a ≡ Some b → a ≡ b
-    same a b h = cc
-
-    by : (b : Bool) → b ≡ false → (let all : Marks P E = map (Row n) (y ∷ ys) in if b then all else (Fault n rules.Order ∷ [])) ≡ Fault n rules.Order ∷ []
-    by true h = cc
-    by false h = refl
-
-pub leaf_refused : {P E V : Type 0} (s : Scale P E) (page : V → ℕ → V → Type 0) (row : V → ℕ → E → V → Type 0) (n : ℕ) (key : P) (v : V) (xs : List E) (x : E)
-    → slice_get xs 0 ≡ Some x → s.fits key x ≡ false → Meets s page row key v (leaf_shown s n key xs) (Err (Bad n rules.Order)) v
-leaf_refused s page row n key v xs x at fits = subst (λ ms. Meets s page row key v ms (Err (Bad n rules.Order)) v) (sym (leaf_breaks s n key xs x at fits)) (refl, refl)
-
 -- ---- children behind the first one
 
 walk_is : {P E : Type 0} (s : Scale P E) (nodes : ℕ → Node P E) (below : ℕ) (c : Child P) → walk s nodes (suc below) c ≡ Key c.page c.key ∷ page_shown s nodes below c.page c.key
@@ -131,24 +116,6 @@ module _ {P E V : Type 0} (s : Scale P E) (page : V → ℕ → V → Type 0) (r
   page_fails below (View e) h = inl (e, refl, h)
   page_fails below (Bad bad rule) h = subst (λ m. Meets s page row key v (page_shown s nodes below n key) (Err (Bad m rule)) u) (sym h.1) (breaks below rule (broken_placed s below key node rule h.2) h.0)
   page_fails below Memory h = absurd h
-
-  -- a leaf above the level of the first one, or an inner page at that level
-  pub leaf_above : (below count : ℕ) → 0 < below → Counts node (shape.Leaf count) → page v n u → Meets s page row key v (page_shown s nodes below n key) (Err (Bad n rules.Deep)) u
-  leaf_above zero count l h sees = absurd (omega (arith, l))
-  leaf_above (suc below) count l h sees = breaks (suc below) rules.Deep (by node h.0 h.1) sees
-    where
-      by : (m : Node P E) → count ≡ length (rows_in m) → 0 < count → placed s (suc below) key m ≡ Broken rules.Deep
-      by (Leaf es) c some = refl
-      by (Inner cs) c some = absurd (omega (arith, c, some))
-      by (Broken rule) c some = absurd (omega (arith, c, some))
-
-  pub inner_at : (count : ℕ) → Counts node (shape.Inner count) → page v n u → Meets s page row key v (page_shown s nodes 0 n key) (Err (Bad n rules.Deep)) u
-  inner_at count h sees = breaks 0 rules.Deep (by node h.0 h.1) sees
-    where
-      by : (m : Node P E) → count ≡ length (children_in m) → 0 < count → placed s 0 key m ≡ Broken rules.Deep
-      by (Leaf es) c some = absurd (omega (arith, c, some))
-      by (Inner cs) c some = refl
-      by (Broken rule) c some = absurd (omega (arith, c, some))
 
   pub leaf_met : (count : ℕ) (r : Result P TreeError) (w : V) → Counts node (shape.Leaf count) → page v n u → Meets s page row key u (leaf_shown s n key (rows_in node)) r w → Meets s page row key v (page_shown s nodes 0 n key) r w
   leaf_met count r w h sees met = inr (u, sees, subst (λ ms. Meets s page row key u ms r w) (sym (ap (λ m. body (walk s nodes 0) (record { key = key; page = n }) (placed s 0 key m)) is ∙ by node h.0 h.1)) met)
