@@ -14,10 +14,11 @@ use Rattle.jfs_plain.specs.Tree.{root}
 use Rattle.jfs_plain.specs.declared.node.Node.{Node}
 use Rattle.jfs_objects.specs.Volume.{home, room}
 use Rattle.jfs_objects.specs.Objects.{Object, IsWhole, listed}
-use Rattle.jfs_objects.specs.Owners.{owners, fixed, holds, bit, sum_below, Agrees}
+use Rattle.jfs_objects.specs.Owners.{owners, fixed, holds, bit, Agrees}
 use Rattle.jfs_objects.specs.Image.{file_page, file_walk}
 use Rattle.jfs_objects.proofs.Owned.{holds_none}
 use Rattle.jfs_objects.proofs.Found.{no_home}
+use Rattle.jfs_objects.proofs.Sums.{sum_zero}
 use Rattle.jfs_meaning.specs.Consistent.{leading_to, names_in, names_to, links_due}
 use Rattle.jfs_check.specs.Subject.{Subject, blocks, volume, object, IsObject, IsFilePage, page_named}
 use Rattle.jfs_check.specs.Mount.{BadMount, broken_mount, iags, extent_at}
@@ -44,11 +45,6 @@ bit_of : (n : ℕ) → n ≤ 1 → n ≡ bit (nat_lt 0 n)
 bit_of zero l = refl
 bit_of (suc zero) l = refl
 bit_of (suc (suc n)) l = absurd (omega (arith, l))
-
-sum_none : (n : ℕ) (f : ℕ → ℕ) → ((k : ℕ) → f k ≡ 0) → sum_below n f ≡ 0
-unfolding sum_below
-sum_none zero f h = refl
-sum_none (suc n) f h = let a = sum_none n f h in let b = h n in omega (arith, a, b)
 
 -- a walk that breaks no rule spells a list
 spelled_list : {E : Type 0} (r : Result (List E) (ℕ × Rule)) → ((page : ℕ) (rule : Rule) → r ≡ Err (page, rule) → ⊥) → (es : List E) × (r ≡ Ok es)
@@ -142,7 +138,7 @@ module _ (s : Subject) (none : HasNoFinding s) where
         none_there : (b : ℕ) → blocks s ≤ b → owners s.readers (volume s) b ≡ 0
         none_there b l =
             let a = ends b l in
-            let sum = sum_none (room (volume s)) (λ n. holds s.readers (object s n) b) (holds_nothing b l) in
+            let sum = sum_zero (room (volume s)) (λ n. holds s.readers (object s n) b) (holds_nothing b l) in
             omega (arith, a, sum)
 
     pub sound : IsSoundVolume s

@@ -14,7 +14,7 @@ use Rattle.jfs_objects.specs.Readers.{Readers}
 use Rattle.jfs_objects.specs.Objects.{Object, has_names, has_extents}
 use Rattle.jfs_plain.specs.Tree.{root}
 use Rattle.jfs_meaning.specs.Consistent.{is_reserved, leading_to, names_in, links_due}
-use Rattle.jfs_meaning.proofs.New.{sum_zero}
+use Rattle.jfs_objects.proofs.Sums.{sum_zero}
 use Rattle.jfs_format.specs.Root.{empty_root, no_extents}
 use Rattle.jfs_format.specs.declared.volume.NewVolume.{NewVolume}
 use Rattle.jfs_new_volume.specs.Law.{new_object}
