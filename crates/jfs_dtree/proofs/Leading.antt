@@ -73,7 +73,7 @@ cut {X} (y ∷ xs) zero x e = ap (λ (z : X). z ∷ xs) (inside y x e)
     inside y x e = cc
 cut (y ∷ xs) (suc place) x e = ap (λ ys. y ∷ ys) (cut xs place x e)
 
-key_at : (cs : List (Child (List ℕ))) (place : ℕ) (c : Child (List ℕ)) → slice_get cs place ≡ Some c → name_at (key_names cs) place ≡ c.key
+pub key_at : (cs : List (Child (List ℕ))) (place : ℕ) (c : Child (List ℕ)) → slice_get cs place ≡ Some c → name_at (key_names cs) place ≡ c.key
 key_at [] place c e = absurd cc
 key_at (b ∷ cs) zero c e = cc
 key_at (b ∷ cs) (suc place) c e = key_at cs place c e

@@ -12,3 +12,4 @@ pub mod Grown
 pub mod Listed
 pub mod Roots
 pub mod Parented
+pub mod Entered

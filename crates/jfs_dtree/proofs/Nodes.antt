@@ -46,10 +46,10 @@ deep_read form blocks bytes sound kind none = sound_node form blocks bytes sound
 -- ---- a page from its node
 
 -- what a page is where it reads as a leaf
-abbrev LeafPage : DtForm → List ℕ → List NameEntry → Type 0
+abbrev pub LeafPage : DtForm → List ℕ → List NameEntry → Type 0
 LeafPage form bytes es = IsDtPage form bytes × (is_leaf bytes ≡ true) × (map named (entries_of form bytes) ≡ es)
 
-abbrev InnerPage : DtForm → ℕ → List ℕ → List (Child (List ℕ)) → Type 0
+abbrev pub InnerPage : DtForm → ℕ → List ℕ → List (Child (List ℕ)) → Type 0
 InnerPage form blocks bytes cs = IsDtPage form bytes × (is_leaf bytes ≡ false) × (list_all (child_within blocks) (entries_of form bytes) ≡ true) × IsCons (entries_of form bytes) × (map below (entries_of form bytes) ≡ cs)
 
 same_rows : (es fs : List NameEntry) → ◌≡◌ {A = Node (List ℕ) NameEntry} (Leaf es) (Leaf fs) → es ≡ fs

@@ -8,3 +8,4 @@ pub mod Parts
 pub mod Spells
 pub mod Adding
 pub mod Errors
+pub mod Reach

@@ -44,3 +44,11 @@ FailsWhereBad pages root (Bad page rule) = NamesBroken name_scale pages root (tr
 FailsWhereBad pages root Exists = ⊥
 FailsWhereBad pages root Missing = ⊥
 FailsWhereBad pages root TooDeep = ⊥
+
+-- a call that reads the whole tree names the first broken rule and its page
+abbrev pub NamesFirstBroken : (ℕ → Node (List ℕ) NameEntry) → Node (List ℕ) NameEntry → DtError → Type 0
+NamesFirstBroken pages root (View e) = Unit {0}
+NamesFirstBroken pages root (Bad page rule) = spells name_scale pages root ≡ Err (page, rule)
+NamesFirstBroken pages root Exists = ⊥
+NamesFirstBroken pages root Missing = ⊥
+NamesFirstBroken pages root TooDeep = ⊥

@@ -47,7 +47,7 @@ fn child_place(bytes: &[u8], form: DtForm, name: &[u16]) -> u32
 }
 
 /// The page of the child at a place.
-fn child_page(bytes: &[u8], form: DtForm, place: u32, blocks: u32) -> u32
+pub(crate) fn child_page(bytes: &[u8], form: DtForm, place: u32, blocks: u32) -> u32
     requires size { length bytes.now ≡ bytes_of form }
     requires page { IsDtPage form bytes.now }
     requires inner { is_leaf bytes.now ≡ false }

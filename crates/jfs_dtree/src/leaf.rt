@@ -29,7 +29,7 @@ pub(crate) fn found_at(bytes: &[u8], form: DtForm, x: &DirEntry) -> Option<DirEn
 }
 
 /// The entry at a place of a leaf.
-fn entry_at(bytes: &[u8], form: DtForm, place: u32) -> DirEntry
+pub(crate) fn entry_at(bytes: &[u8], form: DtForm, place: u32) -> DirEntry
     requires size { length bytes.now ≡ bytes_of form }
     requires page { IsDtPage form bytes.now }
     requires leaf { is_leaf bytes.now ≡ true }

@@ -56,7 +56,7 @@ fn inode_of(found: Option<DirEntry>) -> Option<u32>
 }
 
 /// An error of the tree's pages, handed on.
-fn handed_on(e: TreeError) -> DtError
+pub(crate) fn handed_on(e: TreeError) -> DtError
     ensures { result ≡ handed_on e }
 {
     match e {
