@@ -9,11 +9,19 @@ ghost use Rattle.jfs_dtpage.specs.Page.{IsDtPage};
 use jfs_dtpage::{DtEntry, DtForm, PageFull, dt_find, dt_insert, dt_remove};
 
 #[cfg(test)]
+mod growing;
+#[cfg(test)]
 mod names;
+#[cfg(test)]
+mod own_row;
 #[cfg(test)]
 mod pages;
 #[cfg(test)]
 mod slots;
+#[cfg(test)]
+mod units;
+#[cfg(test)]
+mod volume;
 
 /// Puts a name into a leaf; whether it wasn't there.
 pub fn add(bytes: &mut [u8], form: DtForm, name: &[u16], inode: u32) -> Result<bool, PageFull>

@@ -1,0 +1,195 @@
+//! A directory on a volume in memory, and beside its tree the plain list of its names.
+
+ghost use Rattle.std.specs.Prelude.{◌≡◌, ◌≤◌, [], ◌∷◌, IfOk, length};
+
+use jfs_bits::{Pxd, PxdList};
+use jfs_disk::Page;
+use jfs_dtree::{DtError, add, find, new_root};
+use jfs_name::{Name, NameEntry};
+use jfs_ranges::{Edit, PageView, Tx, ViewError, apply};
+use std::alloc::{AllocError, Global};
+use std::cmp::Ordering;
+
+/// The blocks of the volume.
+const BLOCKS: u32 = 256;
+
+/// The pages of a volume.
+#[derive(Drop)]
+pub struct Volume {
+    pages: Vec<Page>,
+}
+
+impl PageView for Volume {
+    ghost block_count = { λ volume. 256 };
+
+    ghost fault_count = { λ volume. 0 };
+
+    ghost image = { λ volume. [] };
+
+    ghost tells = { ⊥ };
+
+    ghost has_pages = { λ volume told. absurd told };
+
+    fn blocks(&self) -> u32 {
+        256
+    }
+
+    fn page(&mut self, n: u32) -> Result<&Page, ViewError> {
+        match self.pages.get(n as usize) {
+            Some(page) => Ok(page),
+            None => Err(ViewError::Memory),
+        }
+    }
+}
+
+/// A directory, the blocks that its tree took and gave back, and its names in order. Blocks are handed to the tree one after the other, and
+/// none twice.
+#[derive(Drop)]
+pub struct Dir {
+    pub volume: Volume,
+    pub root: [u8; 288],
+    pub told: Told,
+    pub plain: Vec<NameEntry>,
+}
+
+/// What the transactions told: how many blocks were taken, how many are free, and how many pages' records aren't to be redone. `left` is
+/// how many the calls took from the blocks that they were handed.
+#[derive(Clone, Copy, PartialEq, Eq, Debug)]
+pub struct Told {
+    pub left: u32,
+    pub taken: u32,
+    pub free: u32,
+    pub ended: u32,
+}
+
+impl Told {
+    fn adds(&mut self, tx: &Tx) {
+        for edit in tx.as_slice() {
+            match edit {
+                Edit::NoRedo { .. } => self.ended = self.ended.saturating_add(1),
+                Edit::Alloc(run) => self.taken = self.taken.saturating_add(run.len),
+                Edit::Free(run) => self.free = self.free.saturating_add(run.len),
+                Edit::Lines { .. } => {}
+            }
+        }
+    }
+}
+
+impl Dir {
+    /// The root directory without names, and without pages.
+    pub fn new(alloc: Global) -> Result<Dir, AllocError> {
+        let mut pages = Vec::new(alloc);
+        for _ in 0..BLOCKS {
+            pages.push(Page::zeros())?;
+        }
+        let mut root = [0; 288];
+        new_root(&mut root, 2);
+        Ok(Dir {
+            volume: Volume { pages },
+            root,
+            told: Told {
+                left: 0,
+                taken: 0,
+                free: 0,
+                ended: 0,
+            },
+            plain: Vec::new(alloc),
+        })
+    }
+
+    /// How many pages the tree has, by what was told.
+    pub fn pages(&self) -> u32 {
+        self.told.taken.saturating_sub(self.told.free)
+    }
+
+    /// Adds a name to the tree, and where it is taken, to the plain list.
+    pub fn adds(
+        &mut self,
+        alloc: Global,
+        name: Name,
+        inode: u32,
+    ) -> Result<Result<(), DtError>, AllocError>
+        requires { length name ≤ 255 }
+    {
+        let mut fresh = eight(alloc, self.told.taken.min(BLOCKS - 8))?;
+        let mut tx = Tx::new(alloc);
+        let answer = add(
+            alloc,
+            &mut self.volume,
+            &mut self.root,
+            &name,
+            inode,
+            &mut fresh,
+            &mut tx,
+        );
+        if answer.is_ok() {
+            self.told.left = self
+                .told
+                .left
+                .saturating_add(8u32.saturating_sub(blocks_of(&fresh)));
+            self.applies(&tx);
+            let place = self.place_of(name.as_slice()).min(self.plain.len());
+            self.plain.insert(place, NameEntry { name, inode })?;
+        }
+        Ok(answer)
+    }
+
+    fn applies(&mut self, tx: &Tx) {
+        self.told.adds(tx);
+        let mut n: u32 = 0;
+        for page in self.volume.pages.iter_mut() {
+            apply(tx, n, page);
+            n = n.saturating_add(1);
+        }
+    }
+
+    /// How many names of the plain list come before a name.
+    fn place_of(&self, name: &[u16]) -> usize {
+        let mut place: usize = 0;
+        for entry in &self.plain {
+            match entry.name.as_slice().cmp(&name) {
+                Ordering::Less => place = place.saturating_add(1),
+                Ordering::Equal | Ordering::Greater => {}
+            }
+        }
+        place
+    }
+
+    /// The inode of a name, by the plain list.
+    pub fn inode_of(&self, name: &[u16]) -> Option<u32> {
+        for entry in &self.plain {
+            if entry.name.as_slice() == name {
+                return Some(entry.inode);
+            }
+        }
+        None
+    }
+
+    /// Whether the tree finds for a name what the plain list has.
+    pub fn finds(&mut self, name: &Name) -> bool
+        requires { length name.now ≤ 255 }
+    {
+        let inode = self.inode_of(name.as_slice());
+        find(&mut self.volume, &self.root, name) == Ok(inode)
+    }
+}
+
+fn blocks_of(fresh: &PxdList) -> u32 {
+    let mut blocks: u32 = 0;
+    for run in fresh.as_slice() {
+        blocks = blocks.saturating_add(run.len);
+    }
+    blocks
+}
+
+/// Eight free blocks from this one on.
+fn eight(alloc: Global, first: u32) -> Result<PxdList, AllocError>
+    ensures { IfOk result (λ fresh. fresh ≡ record { len = 8; addr = first } ∷ []) }
+{
+    let mut fresh = PxdList::new(alloc);
+    fresh.push(Pxd {
+        len: 8,
+        addr: u64::from(first),
+    })?;
+    Ok(fresh)
+}
