@@ -3,7 +3,8 @@
 ghost use Rattle.std.specs.Prelude.{◌≡◌, ◌<◌, ◌≤◌, ◌+◌, [], ◌∷◌, ℕ, List, length, take};
 ghost use Rattle.jfs_name.specs.declared.name.NameEntry.{NameEntry};
 ghost use Rattle.jfs_dtpage.specs.declared.head.DtForm.TheVariants.{Root, Full};
-ghost use Rattle.jfs_dtpage.specs.Form.{count_of, is_leaf};
+ghost use Rattle.jfs_dtpage.specs.Form.{count_of, head_of, is_leaf, KeepsHead};
+ghost use Rattle.jfs_dtpage.specs.declared.head.Place.TheVariants.{OnVolume};
 ghost use Rattle.jfs_dtpage.specs.Page.{entries_of, IsDtPage};
 ghost use Rattle.jfs_tree.specs.Walk.{Child, Leaf, Inner};
 ghost use Rattle.jfs_dtree.specs.Node.{dt_node, HasNoRoom};
@@ -21,6 +22,7 @@ pub(crate) fn move_down(q: u32, root: &mut [u8], page: &mut [u8])
     ensures root { (blocks : ℕ) → q < blocks → dt_node Root blocks root.new ≡ Inner (record { key = []; page = q } ∷ []) }
     ensures room { HasNoRoom Full page.new → ⊥ }
     ensures parent { parent_of root.new ≡ parent_of root.old }
+    ensures place { (head_of Full page.new).place ≡ OnVolume 0 0 128 1 (record { len = 1; addr = q }) }
 {
     dt_new(page, DtForm::Full, is_leaf(root), page_at(q));
     copy_entries(root, page);
@@ -40,7 +42,7 @@ fn copy_entries(root: &[u8], page: &mut [u8])
     requires kind { is_leaf page.old ≡ is_leaf root.now }
     ensures page { IsDtPage Full page.new }
     ensures entries { entries_of Full page.new ≡ entries_of Root root.now }
-    ensures kind { is_leaf page.new ≡ is_leaf root.now }
+    ensures head { KeepsHead Full page.old page.new }
 {
     for place in 0..u32::from(count_of(root)) {
         copy_entry(root, page, place);
@@ -56,7 +58,7 @@ fn copy_entry(root: &[u8], page: &mut [u8], place: u32)
     requires kind { is_leaf page.old ≡ is_leaf root.now }
     ensures page { IsDtPage Full page.new }
     ensures entries { entries_of Full page.new ≡ take (place + 1) (entries_of Root root.now) }
-    ensures kind { is_leaf page.new ≡ is_leaf root.now }
+    ensures head { KeepsHead Full page.old page.new }
 {
     let mut buffer = [0u16; 255];
     let units = dt_name(root, DtForm::Root, place, &mut buffer) as usize;

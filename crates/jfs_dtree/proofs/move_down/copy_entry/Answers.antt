@@ -6,7 +6,7 @@ use Rattle.jfs_dtpage.specs.Order.{GoesAt}
 use Rattle.jfs_dtpage.specs.Page.{Entry, entries_of, names_of}
 use Rattle.jfs_dtpage.specs.Given.{given}
 use Rattle.jfs_dtree.proofs.Lists.{take_more}
-use Rattle.jfs_dtree.proofs.Moves.{kept_leaf, small_entry}
+use Rattle.jfs_dtree.proofs.Moves.{small_entry}
 use Rattle.jfs_dtree.proofs.Down.{copied_place, copied_room}
 use Rattle.jfs_dtree.proofs.move_down.copy_entry.Goals as goal
 
@@ -28,5 +28,5 @@ returns c =
       page = c.insert.ensures.page;
       entries = c.insert.ensures.entries ∙ ap (λ (z : List Entry). insert z c.args.place (given c.entry_at-e.result)) c.requires.before ∙ take_more (entries_of Root c.args.root.now) c.args.place (given c.entry_at-e.result) c.entry_at-e.ensures.is
           ∙ ap (λ (n : ℕ). take n (entries_of Root c.args.root.now)) next;
-      kind = kept_leaf Full c.args.page.now c.insert.new.bytes c.insert.ensures.head ∙ c.requires.kind;
+      head = c.insert.ensures.head;
     }
