@@ -39,3 +39,5 @@ mod WalkFirst
 mod WalkRoot
 mod RunsTold
 mod DraftEdited
+pub mod LinesOnly
+pub mod Removes

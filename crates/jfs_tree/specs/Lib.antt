@@ -15,3 +15,4 @@ pub mod Adds
 pub mod Room
 pub mod Walking
 pub mod Laws
+pub mod Removes

@@ -80,6 +80,14 @@ DraftEdits blocks image taken kind newer (d ∷ ds) edits = (own : List Edit) ×
 abbrev pub TellsExactly : ℕ → Image → List ℕ → PageKind → List Drafted → List Edit → List Edit → Type 0
 TellsExactly blocks image taken kind drafts tx later = (edits : List Edit) × (later ≡ tx ++ edits) × DraftEdits blocks image taken kind [] drafts edits
 
+-- edits of lines alone
+abbrev pub AllLines : List Edit → Type 0
+AllLines [] = Unit {0}
+AllLines (Lines page kind first bytes ∷ edits) = AllLines edits
+AllLines (NoRedo page ∷ edits) = ⊥
+AllLines (Alloc blocks ∷ edits) = ⊥
+AllLines (Free blocks ∷ edits) = ⊥
+
 -- for the prover alone: a page whose first lines are the new ones has more of them
 abbrev pub Turns : ℕ → ℕ → ℕ → ℕ → List ℕ → List Edit → List Edit → Type 0
 Turns n size first end new tx later = (content old : List ℕ) → length old ≡ 4096 → apply_tx n tx content ≡ take (size * first) new ++ drop (size * first) old → apply_tx n later content ≡ take (size * end) new ++ drop (size * end) old

@@ -76,7 +76,7 @@ pub fn add_and_tell<V: PageView, F: PageForm>(
     }
 }
 
-fn copy_of(alloc: Global, bytes: &[u8]) -> Result<Vec<u8>, AllocError>
+pub(crate) fn copy_of(alloc: Global, bytes: &[u8]) -> Result<Vec<u8>, AllocError>
     ensures { IfOk result (λ copy. copy.items ≡ bytes.now) }
 {
     let mut copy = Vec::new(alloc);

@@ -1,0 +1,35 @@
+-- What is taken out of a root's list, seen from the transaction.
+use Rattle.std.specs.Prelude.{◌≡◌, ◌<◌, ℕ, ◌+◌, List, [], ◌∷◌, ◌++◌, Option, IfSome, Ok}
+use Rattle.jfs_ranges.specs.declared.edit.Edit.{Edit}
+use Rattle.jfs_ranges.specs.declared.edit.Edit.TheVariants.{NoRedo, Free}
+use Rattle.jfs_tree.specs.Walk.{Node, Scale}
+use Rattle.jfs_tree.specs.Spells.{spells, footprint}
+use Rattle.jfs_tree.specs.Edit.{count_in, found_in}
+use Rattle.jfs_tree.specs.Shrink.{TakenOut}
+use Rattle.jfs_tree.specs.Tell.{AllLines}
+use Rattle.jfs_tree.specs.Fresh.{LeadsTo, after_tx}
+use Rattle.jfs_tree.specs.Adds.{read_as}
+
+-- the edits that free these pages, whose records are not to be redone
+abbrev pub page_frees : List ℕ → List Edit
+page_frees [] = []
+page_frees (n ∷ ns) = NoRedo n ∷ Free (record { len = 1; addr = n }) ∷ page_frees ns
+
+-- lines were appended, and then what frees these pages; nothing else
+abbrev pub TellsFreed : List ℕ → List Edit → List Edit → Type 0
+TellsFreed freed tx later = (lines : List Edit) × AllLines lines × (later ≡ tx ++ (lines ++ page_frees freed))
+
+-- A root that spelled these entries spells all but one. The pages that it has no more are the freed ones, and no page outside its tree reads otherwise.
+pub record HasOneLess {P E : Type 0} (s : Scale P E) (blocks : ℕ) (e : E) (es : List E) (old new : ℕ → Node P E) (root after : Node P E) (freed : List ℕ) : Type 0 where
+  pub list : List E
+  pub spelled : spells s new after ≡ Ok list
+  pub gone : TakenOut e es list
+  pub owned : (n : ℕ) → footprint s new after n + count_in n freed ≡ footprint s old root n
+  pub keeps : (n : ℕ) → n < blocks → footprint s old root n ≡ 0 → new n ≡ old n
+
+-- Whatever list the root spelled, the entry in it that shares a place with x was taken out: where the edits before lead to the pages that the view shows, all edits lead
+-- to pages in which the root spells one entry less. The last edits free the pages that it has no more.
+abbrev pub RemovesTold : {P E : Type 0} → Scale P E → (List ℕ → Node P E) → ℕ → (ℕ → List ℕ) → E → Node P E → Node P E → List Edit → List Edit → Option E → Type 0
+RemovesTold {E = E} s node blocks pages x root after tx later found = (es : List E) → spells s (read_as node pages) root ≡ Ok es → (found ≡ found_in s x es)
+    × IfSome found (λ e. (freed : List ℕ) × TellsFreed freed tx later
+    × ((base : ℕ → List ℕ) → LeadsTo blocks base tx pages → HasOneLess s blocks e es (read_as node pages) (read_as node (after_tx base later)) root after freed))

@@ -1,0 +1,112 @@
+//! One entry less, told as edits.
+
+ghost use Rattle.std.specs.Prelude.{◌≡◌, ◌<◌, ◌≤◌, ◌++◌, [], ℕ, List, length, OnOk, OnErr, IfOk, IfErr, IfNone};
+ghost use Rattle.jfs_disk.specs.Image.{page_of};
+ghost use Rattle.jfs_ranges.specs.View.{CarriesCount};
+ghost use Rattle.jfs_tree.specs.Adds.{read_as};
+ghost use Rattle.jfs_tree.specs.Call.{CarriesFault};
+ghost use Rattle.jfs_tree.specs.Edit.{IsPoint};
+ghost use Rattle.jfs_tree.specs.Fresh.{HasPages};
+ghost use Rattle.jfs_tree.specs.Removes.{RemovesTold, TellsFreed, page_frees};
+ghost use Rattle.jfs_tree.specs.Root.{NamesBroken};
+ghost use Rattle.jfs_tree.specs.Tell.{TellsDraft};
+
+use crate::add_told::copy_of;
+use crate::copy::copy_tx;
+use crate::draft::Draft;
+use crate::form::TreeError;
+use crate::fresh::page_at;
+use crate::loss::PageLoss;
+use crate::remove_root::remove_entry;
+use crate::tell_all::tell_draft;
+use jfs_bits::PageKind;
+use jfs_ranges::{Edit, PageView, Tx, ViewError};
+use std::alloc::{AllocError, Global};
+
+/// Takes the entry that shares a place with `x`, which is one place, out of a root's tree, and answers it. The transaction gets the changed lines, and then
+/// of each page that is empty now its `NoRedo` and its `Free`. A root whose last child goes is a leaf without entries. Where there is no such entry, and
+/// after an `Err`, root and transaction are as before.
+pub fn remove_and_tell<V: PageView, F: PageLoss>(
+    alloc: Global,
+    top: &F,
+    form: &F,
+    view: &mut V,
+    root: &mut [u8],
+    x: &F::Entry,
+    kind: PageKind,
+    tx: &mut Tx,
+) -> Result<Option<F::Entry>, TreeError>
+    requires root { length root.old ≡ F.PageForm.size top.now }
+    requires bound { (F.PageForm.blocks top.now ≡ V.PageView.block_count view.old) × (F.PageForm.blocks form.now ≡ V.PageView.block_count view.old) }
+    requires size { F.PageForm.size form.now ≡ 4096 }
+    requires top { F.PageForm.is_root top.now }
+    requires point { IsPoint F.PageForm.scale x.now }
+    requires children { (bytes : List ℕ) → HasPages (V.PageView.block_count view.old) (F.PageForm.node top.now bytes) × HasPages (V.PageView.block_count view.old) (F.PageForm.node form.now bytes) }
+    ensures image { V.PageView.tells → V.PageView.image view.new ≡ V.PageView.image view.old }
+    ensures count_of_blocks { V.PageView.block_count view.new ≡ V.PageView.block_count view.old }
+    ensures fault { CarriesFault (V.PageView.fault_count view.old) (V.PageView.fault_count view.new) result }
+    ensures removes { V.PageView.tells → IfOk result (RemovesTold F.PageForm.scale (F.PageForm.node form.now) (V.PageView.block_count view.old) (page_of (V.PageView.image view.old)) x.now
+        (F.PageForm.node top.now root.old) (F.PageForm.node top.now root.new) tx.old tx.new) }
+    ensures absent { IfOk result (λ found. IfNone found ((root.new ≡ root.old) × (tx.new ≡ tx.old))) }
+    ensures kept { OnErr result ((root.new ≡ root.old) × (tx.new ≡ tx.old)) }
+    ensures bad { V.PageView.tells → IfErr result (λ e.
+        NamesBroken F.PageForm.scale (read_as (F.PageForm.node form.now) (page_of (V.PageView.image view.old))) (F.PageForm.node top.now root.old) e) }
+{
+    let Ok(old) = copy_of(alloc, root) else {
+        return Err(TreeError::Memory);
+    };
+    let mut draft = Draft::new(alloc);
+    let mut freed = Vec::new(alloc);
+    let entry = match remove_entry(top, form, view, &mut draft, &mut freed, root, x) {
+        Ok(Some(entry)) => entry,
+        Ok(None) => return Ok(None),
+        Err(e) => return Err(e),
+    };
+    match tell_freed(alloc, view, &draft, freed.as_slice(), kind, tx) {
+        Ok(later) => {
+            *tx = later;
+            Ok(Some(entry))
+        }
+        Err(e) => {
+            root.copy_from_slice(old.as_slice());
+            Err(TreeError::View(e))
+        }
+    }
+}
+
+#[tactic(auto, using(crate::proofs::Removes::told_freed, crate::proofs::Removes::edits_freed))]
+/// The transaction with what changed, and then the pages that are free.
+fn tell_freed<V: PageView>(
+    alloc: Global,
+    view: &mut V,
+    draft: &Draft,
+    freed: &[u32],
+    kind: PageKind,
+    tx: &Tx,
+) -> Result<Tx, ViewError>
+    ensures image { V.PageView.tells → V.PageView.image view.new ≡ V.PageView.image view.old }
+    ensures count_of_blocks { V.PageView.block_count view.new ≡ V.PageView.block_count view.old }
+    ensures fault { CarriesCount (V.PageView.fault_count view.old) (V.PageView.fault_count view.new) result }
+    ensures told { V.PageView.tells → IfOk result (λ later. TellsDraft (V.PageView.block_count view.old) (V.PageView.image view.old) draft.now.pages.items tx.now later) }
+    ensures edits { V.PageView.tells → IfOk result (λ later. TellsFreed freed.now tx.now later) }
+{
+    let Ok(mut later) = copy_tx(alloc, tx) else {
+        return Err(ViewError::Memory);
+    };
+    tell_draft(alloc, view, draft, &[], kind, &mut later)?;
+    match free_pages(freed, &mut later) {
+        Ok(()) => Ok(later),
+        Err(_) => Err(ViewError::Memory),
+    }
+}
+
+/// Frees these pages, in their order; their records are not to be redone.
+pub fn free_pages(pages: &[u32], tx: &mut Tx) -> Result<(), AllocError>
+    ensures { OnOk result (tx.new ≡ tx.old ++ page_frees pages.now) }
+{
+    for n in pages {
+        tx.push(Edit::NoRedo { page: *n })?;
+        tx.push(Edit::Free(page_at(*n)))?;
+    }
+    Ok(())
+}
