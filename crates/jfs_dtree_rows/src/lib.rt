@@ -11,11 +11,15 @@ use jfs_dtpage::{DtEntry, DtForm, PageFull, dt_find, dt_insert, dt_remove};
 #[cfg(test)]
 mod growing;
 #[cfg(test)]
+mod hostile;
+#[cfg(test)]
 mod names;
 #[cfg(test)]
 mod own_row;
 #[cfg(test)]
 mod pages;
+#[cfg(test)]
+mod parting;
 #[cfg(test)]
 mod slots;
 #[cfg(test)]

@@ -3,7 +3,8 @@
 ghost use Rattle.std.specs.Prelude.{◌≡◌, ◌≤◌, [], ◌∷◌, IfOk, length};
 
 use jfs_bits::{Pxd, PxdList};
-use jfs_disk::Page;
+use jfs_disk::{Fault, Page, Part};
+use jfs_dtpage::{DtForm, dt_new};
 use jfs_dtree::{DtError, add, find, new_root};
 use jfs_name::{Name, NameEntry};
 use jfs_ranges::{Edit, PageView, Tx, ViewError, apply};
@@ -13,16 +14,18 @@ use std::cmp::Ordering;
 /// The blocks of the volume.
 const BLOCKS: u32 = 256;
 
-/// The pages of a volume.
+/// The pages of a volume, of which one may be bad.
 #[derive(Drop)]
 pub struct Volume {
     pages: Vec<Page>,
+    pub bad: u32,
+    faults: u64,
 }
 
 impl PageView for Volume {
     ghost block_count = { λ volume. 256 };
 
-    ghost fault_count = { λ volume. 0 };
+    ghost fault_count = { λ volume. volume.faults };
 
     ghost image = { λ volume. [] };
 
@@ -35,6 +38,13 @@ impl PageView for Volume {
     }
 
     fn page(&mut self, n: u32) -> Result<&Page, ViewError> {
+        if n == self.bad {
+            self.faults = self.faults.saturating_add(1);
+            return Err(ViewError::Read(Fault {
+                part: Part::Low,
+                count: self.faults,
+            }));
+        }
         match self.pages.get(n as usize) {
             Some(page) => Ok(page),
             None => Err(ViewError::Memory),
@@ -85,7 +95,11 @@ impl Dir {
         let mut root = [0; 288];
         new_root(&mut root, 2);
         Ok(Dir {
-            volume: Volume { pages },
+            volume: Volume {
+                pages,
+                bad: BLOCKS,
+                faults: 0,
+            },
             root,
             told: Told {
                 left: 0,
@@ -165,12 +179,86 @@ impl Dir {
         None
     }
 
+    /// What the tree finds for a name.
+    pub fn find(&mut self, name: &Name) -> Result<Option<u32>, DtError>
+        requires { length name.now ≤ 255 }
+    {
+        find(&mut self.volume, &self.root, name)
+    }
+
     /// Whether the tree finds for a name what the plain list has.
     pub fn finds(&mut self, name: &Name) -> bool
         requires { length name.now ≤ 255 }
     {
-        let inode = self.inode_of(name.as_slice());
-        find(&mut self.volume, &self.root, name) == Ok(inode)
+        self.find(name) == Ok(self.inode_of(name.as_slice()))
+    }
+
+    /// Whether a name is refused for this reason, and root, blocks and transaction stay as they were.
+    pub fn refuses(&mut self, alloc: Global, name: &Name, why: DtError) -> Result<bool, AllocError>
+        requires { length name.now ≤ 255 }
+    {
+        let root = self.root;
+        let mut fresh = eight(alloc, 200)?;
+        let mut tx = Tx::new(alloc);
+        tx.push(Edit::NoRedo { page: 9 })?;
+        let answer = add(
+            alloc,
+            &mut self.volume,
+            &mut self.root,
+            name,
+            9,
+            &mut fresh,
+            &mut tx,
+        );
+        Ok(answer == Err(why) && self.root == root && blocks_of(&fresh) == 8 && tx.len() == 1)
+    }
+}
+
+/// Pages as bytes.
+impl Dir {
+    /// A byte of a page, or 255 where there is none.
+    pub fn byte(&self, page: usize, at: usize) -> u8 {
+        match self.volume.pages.get(page) {
+            Some(page) => match page.bytes().get(at) {
+                Some(byte) => *byte,
+                None => 255,
+            },
+            None => 255,
+        }
+    }
+
+    /// Sets a byte of a page.
+    pub fn puts(&mut self, page: usize, at: usize, byte: u8) {
+        if let Some(page) = self.volume.pages.get_mut(page) {
+            if at < 4096 {
+                page.0[at] = byte;
+            }
+        }
+    }
+
+    /// Swaps a page's first two entries.
+    pub fn swaps(&mut self, page: usize) {
+        let (first, second) = (self.byte(page, 32), self.byte(page, 33));
+        self.puts(page, 32, second);
+        self.puts(page, 33, first);
+    }
+
+    /// Makes a page an inner page without children.
+    pub fn empties(&mut self, page: usize) {
+        if let Some(page) = self.volume.pages.get_mut(page) {
+            dt_new(&mut page.0, DtForm::Full, false, Pxd { len: 1, addr: 2 });
+        }
+    }
+
+    /// Makes a page a copy of another one.
+    pub fn copies(&mut self, from: usize, to: usize) {
+        let Some(page) = self.volume.pages.get(from) else {
+            return;
+        };
+        let bytes = page.0;
+        if let Some(page) = self.volume.pages.get_mut(to) {
+            page.0 = bytes;
+        }
     }
 }
 
