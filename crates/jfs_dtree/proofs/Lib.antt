@@ -13,3 +13,6 @@ pub mod Listed
 pub mod Roots
 pub mod Parented
 pub mod Entered
+pub mod Losses
+pub mod Delisted
+pub mod Lessened

@@ -22,7 +22,7 @@ use Rattle.jfs_dtree.proofs.Places.{before_trans, reaches, itself}
 
 -- ---- names that rise from a name on
 
-Ascends : List ℕ → List NameEntry → Type 0
+unfoldable pub Ascends : List ℕ → List NameEntry → Type 0
 Ascends low [] = ⊤
 Ascends low (e ∷ es) = (not_after low e.name ≡ true) × Ascends (next_of e.name) es
 
@@ -39,13 +39,13 @@ rises_ascends low (Key n k ∷ ms) high r = ascends_lower low k (rows_of ms) r.0
 rises_ascends low (Row n e ∷ ms) high r = (r.0, rises_ascends (next_of e.name) ms high r.1)
 rises_ascends low (Fault n f ∷ ms) high r = absurd r
 
-spelled_ascends : (pages : ℕ → Node (List ℕ) NameEntry) (root : Node (List ℕ) NameEntry) (es : List NameEntry) → spells name_scale pages root ≡ Ok es → Ascends [] es
+pub spelled_ascends : (pages : ℕ → Node (List ℕ) NameEntry) (root : Node (List ℕ) NameEntry) (es : List NameEntry) → spells name_scale pages root ≡ Ok es → Ascends [] es
 unfolding spells
 spelled_ascends pages root es h = let j = judged name_scale [] (tree_of name_scale pages root) es h in subst (Ascends []) j.1 (rises_ascends [] (tree_of name_scale pages root) None j.0)
 
 -- ---- a name and those that come after it
 
-next_before : (a b : List ℕ) → not_after (next_of a) b ≡ true → IsBefore a b
+pub next_before : (a b : List ℕ) → not_after (next_of a) b ≡ true → IsBefore a b
 next_before a b h = by (slice_cmp nat_cmp a b) refl
   where
     by : (r : Ordering) → slice_cmp nat_cmp a b ≡ r → IsBefore a b
@@ -57,7 +57,7 @@ before_next : (a b c : List ℕ) → IsBefore a b → not_after b c ≡ true →
 before_next a b c h g = next_before a c (name_trans (next_of a) b c (next_after a b h) g)
 
 -- the comparison of an entry with a name that it comes after
-turned : (a b : List ℕ) → IsBefore a b → slice_cmp nat_cmp b a ≡ Greater
+pub turned : (a b : List ℕ) → IsBefore a b → slice_cmp nat_cmp b a ≡ Greater
 turned a b h = nat_list_cmp_total.antisymm b a ∙ ap ordering_reverse h
 
 none_named : (es : List NameEntry) (low x : List ℕ) → Ascends low es → IsBefore x low → named x es ≡ None
@@ -110,12 +110,12 @@ apart_named pages root es x h n = apart_from es [] x (spelled_ascends pages root
 
 -- ---- the place of a new name
 
-reach : (front back : List NameEntry) (x : NameEntry) (low : List ℕ) → Ascends low (front ++ x ∷ back) → not_after low x.name ≡ true
+pub reach : (front back : List NameEntry) (x : NameEntry) (low : List ℕ) → Ascends low (front ++ x ∷ back) → not_after low x.name ≡ true
 unfolding Ascends
 reach [] back x low r = r.0
 reach (f ∷ front) back x low r = name_trans low f.name x.name r.0 (next_from f.name x.name (reach front back x (next_of f.name) r.1))
 
-one_next : (n : ℕ) → 1 + n ≡ suc n
+pub one_next : (n : ℕ) → 1 + n ≡ suc n
 one_next n = omega arith
 
 insert_at : (front back : List NameEntry) (x : NameEntry) (low : List ℕ) → Ascends low (front ++ x ∷ back) → with_name x (front ++ back) ≡ front ++ x ∷ back

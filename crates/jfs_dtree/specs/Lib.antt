@@ -9,3 +9,4 @@ pub mod Spells
 pub mod Adding
 pub mod Errors
 pub mod Reach
+pub mod Removing

@@ -1,0 +1,27 @@
+use Rattle.std.proofs.Common.{sym, ap, ◌∙◌, subst, ℕ, List}
+use Rattle.jfs_disk.specs.Image.{page_of}
+use Rattle.jfs_name.specs.declared.name.NameEntry.{NameEntry}
+use Rattle.jfs_dtree.specs.Laws.{point}
+use Rattle.jfs_dtree.specs.Removing.{MissesName}
+use Rattle.jfs_dtree.proofs.Lessened.{removes_as, missed_as, misses_as}
+use Rattle.jfs_dtree.proofs.removing.remove.Goals as goal
+
+pub remove_and_tell-requires-clause-point : goal.remove_and_tell-requires-clause-point
+remove_and_tell-requires-clause-point g c = point c.new-x.result
+
+pub returns-in-Ok-Some-clause-removes : goal.returns-in-Ok-Some-clause-removes
+returns-in-Ok-Some-clause-removes g c tells =
+    let with_units = λ (units : List ℕ). (let e : NameEntry = record { name = units; inode = 0 } in e) in
+    removes_as c.blocks-blocks.result (g.V.PageView.block_count c.args.view.now) (g.V.PageView.image c.args.view.now) c.args.root.now c.remove_and_tell.new.root c.set_parent.new.root c.args.name.now c.new-x.result c.in-Ok-Some.entry c.in-Ok-Some.field-0 c.inode.result
+    c.args.tx.now c.remove_and_tell.new.tx c.blocks-blocks.ensures (c.new-x.ensures ∙ ap with_units c.as_slice.ensures) c.inode.ensures c.in-Ok-Some.field-0-is c.set_parent.ensures.node (c.in-Ok-Some.ensures.removes tells)
+
+pub returns-in-Ok-None-clause-missed : goal.returns-in-Ok-None-clause-missed
+returns-in-Ok-None-clause-missed g c tells =
+    let with_units = λ (units : List ℕ). (let e : NameEntry = record { name = units; inode = 0 } in e) in
+    missed_as c.blocks-blocks.result (g.V.PageView.block_count c.args.view.now) (g.V.PageView.image c.args.view.now) c.args.root.now c.remove_and_tell.new.root c.args.name.now c.new-x.result c.in-Ok-None.field-0
+    c.args.tx.now c.remove_and_tell.new.tx c.blocks-blocks.ensures (c.new-x.ensures ∙ ap with_units c.as_slice.ensures) c.in-Ok-None.field-0-is (c.in-Ok-None.ensures.removes tells)
+
+pub returns-in-Err-clause-missed : goal.returns-in-Err-clause-missed
+returns-in-Err-clause-missed g c tells =
+    subst (MissesName (g.V.PageView.block_count c.args.view.now) (page_of (g.V.PageView.image c.args.view.now)) c.args.name.now c.args.root.now) (sym c.handed_on.ensures)
+    (misses_as c.blocks-blocks.result (g.V.PageView.block_count c.args.view.now) (g.V.PageView.image c.args.view.now) c.args.root.now c.args.name.now c.in-Err.e c.blocks-blocks.ensures (c.in-Err.ensures.bad tells))

@@ -1,0 +1,61 @@
+//! One name less.
+
+ghost use Rattle.std.specs.Prelude.{◌≡◌, ◌<◌, ◌≤◌, ℕ, List, length, OnErr, IfOk, IfErr};
+ghost use Rattle.jfs_disk.specs.Image.{page_of};
+ghost use Rattle.jfs_dtree.specs.Parent.{parent_of};
+ghost use Rattle.jfs_dtree.specs.Spells.{CarriesDt};
+ghost use Rattle.jfs_dtree.specs.Removing.{RemovesName, MissesName};
+
+use crate::entry::DirEntry;
+use crate::error::DtError;
+use crate::form::DtPages;
+use crate::lookup::handed_on;
+use crate::root::{parent, set_parent};
+use jfs_bits::PageKind;
+use jfs_dtpage::DtForm;
+use jfs_name::Name;
+use jfs_ranges::{PageView, Tx};
+use jfs_tree::remove_and_tell;
+use std::alloc::Global;
+
+#[tactic(auto, using(crate::proofs::Roots::has_pages))]
+/// Takes a name of at most 255 units out of a directory whose root has these 288 bytes, and answers the inode that it named: `Missing` exactly where the
+/// directory doesn't have the name. The transaction gets the changed lines, and then of each page that is empty now its `NoRedo` and its `Free`. The parent
+/// stays. After an `Err` root and transaction are as before.
+pub fn remove<V: PageView>(
+    alloc: Global,
+    view: &mut V,
+    root: &mut [u8],
+    name: &Name,
+    tx: &mut Tx,
+) -> Result<u32, DtError>
+    requires root { length root.old ≡ 288 }
+    requires name { length name.now ≤ 255 }
+    ensures image { V.PageView.tells → V.PageView.image view.new ≡ V.PageView.image view.old }
+    ensures count_of_blocks { V.PageView.block_count view.new ≡ V.PageView.block_count view.old }
+    ensures fault { CarriesDt (V.PageView.fault_count view.old) (V.PageView.fault_count view.new) result }
+    ensures removes { V.PageView.tells → IfOk result (RemovesName (V.PageView.block_count view.old) (page_of (V.PageView.image view.old)) name.now root.old root.new tx.old tx.new) }
+    ensures parent { parent_of root.new ≡ parent_of root.old }
+    ensures kept { OnErr result ((root.new ≡ root.old) × (tx.new ≡ tx.old)) }
+    ensures missed { V.PageView.tells → IfErr result (MissesName (V.PageView.block_count view.old) (page_of (V.PageView.image view.old)) name.now root.old) }
+{
+    let blocks = view.blocks();
+    let top = DtPages {
+        form: DtForm::Root,
+        blocks,
+    };
+    let pages = DtPages {
+        form: DtForm::Full,
+        blocks,
+    };
+    let up = parent(root);
+    let x = DirEntry::new(name.as_slice(), 0);
+    match remove_and_tell(alloc, &top, &pages, view, root, &x, PageKind::Dtree, tx) {
+        Ok(Some(entry)) => {
+            set_parent(root, up);
+            Ok(entry.inode())
+        }
+        Ok(None) => Err(DtError::Missing),
+        Err(e) => Err(handed_on(e)),
+    }
+}
