@@ -3,7 +3,7 @@ use Rattle.std.proofs.Common.{◌≡◌, sym, ap, ◌∙◌, subst, ℕ, ◌+◌
 use Rattle.std.specs.Option.{option_map}
 use Rattle.jfs_disk.specs.Image.{Image, page_of}
 use Rattle.jfs_name.specs.declared.name.NameEntry.{NameEntry}
-use Rattle.jfs_plain.specs.Names.{named}
+use Rattle.jfs_name.specs.Directory.{named}
 use Rattle.jfs_dtpage.specs.declared.head.DtForm.TheVariants.{Root, Full}
 use Rattle.jfs_ranges.specs.declared.edit.Edit.{Edit}
 use Rattle.jfs_tree.specs.Spells.{spells, footprint}

@@ -9,7 +9,7 @@ use Rattle.std.specs.declared.cmp.Ordering.TheVariants.{Less, Equal, Greater}
 use Rattle.std.proofs.lemmas.Bool.{true≢false}
 use Rattle.std.proofs.lemmas.Cmp.{nat_list_cmp_total}
 use Rattle.jfs_name.specs.declared.name.NameEntry.{NameEntry}
-use Rattle.jfs_plain.specs.Names.{named, place_for, with_name}
+use Rattle.jfs_name.specs.Directory.{named, place_for, with_name}
 use Rattle.jfs_dtpage.specs.Order.{IsBefore}
 use Rattle.jfs_dtpage.proofs.Rising.{same_names, before_other}
 use Rattle.jfs_tree.specs.Walk.{Node, Page, Key, Row, Fault, Marks, Rises, rows_of}

@@ -1,7 +1,7 @@
 -- What is taken out of a directory's names.
 use Rattle.std.specs.Prelude.{◌≡◌, ◌<◌, ℕ, ◌+◌, List, Some, None, Ok}
 use Rattle.jfs_name.specs.declared.name.NameEntry.{NameEntry}
-use Rattle.jfs_plain.specs.Names.{named, without_name}
+use Rattle.jfs_name.specs.Directory.{named, without_name}
 use Rattle.jfs_ranges.specs.declared.edit.Edit.{Edit}
 use Rattle.jfs_tree.specs.Edit.{count_in}
 use Rattle.jfs_tree.specs.Fresh.{LeadsTo, after_tx}

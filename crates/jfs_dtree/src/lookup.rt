@@ -3,7 +3,7 @@
 ghost use Rattle.std.specs.Prelude.{◌≡◌, ◌<◌, ◌≤◌, ◌==◌, if◌then◌else◌, ℕ, List, length, IfOk, IfErr, Ok};
 ghost use Rattle.std.specs.Option.{option_map};
 ghost use Rattle.jfs_name.specs.declared.name.NameEntry.{NameEntry};
-ghost use Rattle.jfs_plain.specs.Names.{named};
+ghost use Rattle.jfs_name.specs.Directory.{named};
 ghost use Rattle.jfs_disk.specs.Image.{page_of};
 ghost use Rattle.jfs_dtree.specs.Spells.{root_node, page_nodes, spells_names, CarriesDt, FailsWhereBad};
 ghost use Rattle.jfs_dtree.specs.Errors.{handed_on};

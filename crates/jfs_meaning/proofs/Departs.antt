@@ -3,7 +3,7 @@ use Rattle.std.proofs.Common.{◌≡◌, refl, sym, ap, ◌∙◌, subst, ℕ, z
 use Rattle.std.specs.Prelude.{slice_get, slice_set}
 use Rattle.jfs_bits.specs.declared.descriptor.Moment.{Moment}
 use Rattle.jfs_name.specs.declared.name.NameEntry.{NameEntry}
-use Rattle.jfs_plain.specs.Names.{named, is_same}
+use Rattle.jfs_name.specs.Directory.{named, is_same}
 use Rattle.jfs_plain.specs.Tree.{Tree, root, Place, named_in}
 use Rattle.jfs_plain.specs.Moves.{loses, moves, stamped, changed}
 use Rattle.jfs_plain.specs.Step.{lost, departs}

@@ -3,7 +3,7 @@ use Rattle.std.proofs.Common.{◌≡◌, ◌<◌, refl, sym, ap, ap₂, ◌∙�
 use Rattle.std.specs.Prelude.{slice_get}
 use Rattle.std.proofs.lemmas.List.Sums.{get_or-le-sum_by}
 use Rattle.jfs_name.specs.declared.name.NameEntry.{NameEntry}
-use Rattle.jfs_plain.specs.Names.{named, is_same, place_of}
+use Rattle.jfs_name.specs.Directory.{named, is_same, place_of}
 use Rattle.jfs_plain.specs.Tree.{Tree, root, is_dir, and_then, walk, enter, enter_from, wanted, Found, found, object, Place, place, place_from, place_as, in_directory, named_in, at_place, unless_there, new_place}
 use Rattle.jfs_plain.specs.declared.node.Node.{Node}
 use Rattle.jfs_plain.specs.declared.refusal.Refusal.{Refusal}

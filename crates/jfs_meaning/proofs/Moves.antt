@@ -4,7 +4,7 @@ use Rattle.std.specs.Prelude.{option_map, sum_by}
 use Rattle.std.proofs.lemmas.List.Sums.{sum_by-insert, sum_by-remove, sum_by-set}
 use Rattle.jfs_bits.specs.declared.descriptor.Moment.{Moment}
 use Rattle.jfs_name.specs.declared.name.NameEntry.{NameEntry}
-use Rattle.jfs_plain.specs.Names.{place_for, place_of, set_inode}
+use Rattle.jfs_name.specs.Directory.{place_for, place_of, set_inode}
 use Rattle.jfs_plain.specs.Tree.{Tree, is_dir}
 use Rattle.jfs_plain.specs.Moves.{gains, loses, leads, changed}
 use Rattle.jfs_plain.specs.Step.{entry_as}

@@ -1,7 +1,7 @@
 -- Whatever a path leads to is the root, or has a name.
 use Rattle.std.proofs.Common.{◌≡◌, ◌⊎◌, ◌≤◌, ◌<◌, refl, sym, ap, ◌∙◌, subst, ℕ, ◌==◌, ◌||◌, Bool, true, false, if◌then◌else◌, List, [], ◌∷◌, Option, Some, None, Result, Ok, Err, inl, inr, arith}
 use Rattle.std.proofs.lemmas.Bool.Decides.{nat_tests}
-use Rattle.jfs_plain.specs.Names.{named}
+use Rattle.jfs_name.specs.Directory.{named}
 use Rattle.jfs_plain.specs.Tree.{Tree, root, is_dir, and_then, walk, enter, enter_from, wanted, Found, found, object, Place, place, place_from, at_place, named_in}
 use Rattle.jfs_plain.specs.declared.node.Node.{Node}
 use Rattle.jfs_plain.specs.declared.refusal.Refusal.{Refusal}

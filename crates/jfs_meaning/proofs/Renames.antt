@@ -4,7 +4,7 @@ use Rattle.std.specs.Prelude.{option_map}
 use Rattle.std.proofs.lemmas.Bool.{cases_lt}
 use Rattle.jfs_bits.specs.declared.descriptor.Moment.{Moment}
 use Rattle.jfs_name.specs.declared.name.NameEntry.{NameEntry}
-use Rattle.jfs_plain.specs.Names.{named, place_of, place_for, set_inode}
+use Rattle.jfs_name.specs.Directory.{named, place_of, place_for, set_inode}
 use Rattle.jfs_plain.specs.Tree.{Tree, root, is_dir, Place, at_place}
 use Rattle.jfs_plain.specs.Moves.{gains, leads, rises, falls, stamped, changed, dropped, unnamed, shifts, displaced}
 use Rattle.jfs_plain.specs.Step.{entry_as, gained, departs}

@@ -2,7 +2,6 @@
 pub mod Call
 pub mod Refusal
 pub mod Limits
-pub mod Names
 pub mod Tree
 pub mod Moves
 pub mod Step

@@ -1,6 +1,6 @@
 -- A file tree: objects by their inode numbers, and what the files hold. (JFS White Paper; POSIX: file hierarchy, path resolution.)
 use Rattle.std.specs.Prelude.{ℕ, Bool, true, false, List, [], ◌∷◌, Option, Some, None, Result, Ok, Err, if◌then◌else◌, ◌==◌}
-use Rattle.jfs_plain.specs.Names.{named}
+use Rattle.jfs_name.specs.Directory.{named}
 use Rattle.jfs_plain.specs.declared.node.Node.{Node}
 use Rattle.jfs_plain.specs.declared.refusal.Refusal.{Refusal}
 use Rattle.jfs_plain.specs.declared.refusal.Refusal.TheVariants.{NotFound, NotDir, Exists}

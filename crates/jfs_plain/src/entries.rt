@@ -2,7 +2,7 @@
 
 ghost use Rattle.std.specs.Prelude.{◌≡◌, ◌==◌, ◌∷◌, [], List, length, OnOk, OnErr, IfOk, ◌≤◌};
 ghost use Rattle.jfs_name.specs.declared.name.NameEntry.{NameEntry};
-ghost use Rattle.jfs_plain.specs.Names.{is_before, is_same, named, place_of, place_for, with_name, without_name, with_inode};
+ghost use Rattle.jfs_name.specs.Directory.{is_before, is_same, named, place_of, place_for, with_name, without_name, with_inode};
 
 use crate::copy::copy_name;
 use jfs_name::{Name, NameEntry, NameList};

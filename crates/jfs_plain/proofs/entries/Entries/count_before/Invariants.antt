@@ -1,5 +1,5 @@
 use Rattle.std.proofs.Common.{◌≡◌, ◌+◌, drop}
-use Rattle.jfs_plain.specs.Names.{place_for}
+use Rattle.jfs_name.specs.Directory.{place_for}
 use Rattle.jfs_plain.proofs.entries.Entries.count_before.Given as goal
 
 abbrev pub invariant-loop-entry : goal.invariant-loop-entry

@@ -1,5 +1,5 @@
 use Rattle.std.proofs.Common.{◌≡◌, ◌+◌, drop}
-use Rattle.jfs_plain.specs.Names.{place_of}
+use Rattle.jfs_name.specs.Directory.{place_of}
 use Rattle.jfs_plain.proofs.entries.Entries.count_others.Given as goal
 
 abbrev pub invariant-loop-entry : goal.invariant-loop-entry

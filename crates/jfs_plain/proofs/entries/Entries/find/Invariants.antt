@@ -1,5 +1,5 @@
 use Rattle.std.proofs.Common.{◌≡◌, drop}
-use Rattle.jfs_plain.specs.Names.{named}
+use Rattle.jfs_name.specs.Directory.{named}
 use Rattle.jfs_plain.proofs.entries.Entries.find.Given as goal
 
 abbrev pub invariant-loop-entry : goal.invariant-loop-entry
