@@ -2,7 +2,7 @@
 
 ghost use Rattle.std.specs.Prelude.{◌≤◌};
 
-use crate::units::{name_of, numbered};
+use crate::units::numbered;
 use crate::volume::Dir;
 use jfs_bits::Rule;
 use jfs_disk::{Fault, Part};
@@ -14,11 +14,11 @@ use std::test::*;
 /// A root that stands for itself where it is at fault.
 const ROOT: u32 = 4294967295;
 
-fn bad(page: u32, rule: Rule) -> DtError {
+pub fn bad(page: u32, rule: Rule) -> DtError {
     DtError::Bad { page, rule }
 }
 
-fn fault(count: u64) -> DtError {
+pub fn fault(count: u64) -> DtError {
     DtError::View(ViewError::Read(Fault {
         part: Part::Low,
         count,
@@ -26,7 +26,7 @@ fn fault(count: u64) -> DtError {
 }
 
 /// A directory with so many names of 241 units. Of eight, the root's child is page 2, whose children are the leaves 0 and 1.
-fn dir_of(alloc: Global, count: u32) -> Result<Dir, AllocError> {
+pub fn dir_of(alloc: Global, count: u32) -> Result<Dir, AllocError> {
     let mut dir = Dir::new(alloc)?;
     for number in 0..count {
         let name = numbered(alloc, 238, number)?;
@@ -35,10 +35,24 @@ fn dir_of(alloc: Global, count: u32) -> Result<Dir, AllocError> {
     Ok(dir)
 }
 
-/// Whether each call refuses a name for this reason.
+/// Whether each call on a name refuses it for this reason.
 fn refuses(alloc: Global, dir: &mut Dir, number: u32, why: DtError) -> Result<bool, AllocError> {
     let name = numbered(alloc, 238, number)?;
-    Ok(dir.find(&name) == Err(why) && dir.refuses(alloc, &name, why)?)
+    Ok(
+        dir.find(&name) == Err(why)
+            && dir.refuses(alloc, &name, why)?
+            && dir.keeps(alloc, &name, why)?,
+    )
+}
+
+/// Whether the list of all names is refused for this reason too.
+fn refuses_all(
+    alloc: Global,
+    dir: &mut Dir,
+    number: u32,
+    why: DtError,
+) -> Result<bool, AllocError> {
+    Ok(refuses(alloc, dir, number, why)? && dir.list_fault(alloc) == Some(why))
 }
 
 /// Whether the name is found where it was added.
@@ -94,7 +108,7 @@ fn a_page_that_breaks_a_rule(rt: HostRuntime) -> Result<(), Fail> {
         let (n, place) = (usize::from(page), usize::from(at));
         let before = dir.byte(n, place);
         dir.puts(n, place, byte);
-        assert!(rt; refuses(rt.alloc(), &mut dir, 3, bad(u32::from(page), rule))?);
+        assert!(rt; refuses_all(rt.alloc(), &mut dir, 3, bad(u32::from(page), rule))?);
         dir.puts(n, place, before);
         assert!(rt; finds(rt.alloc(), &mut dir, 3)?);
     }
@@ -108,7 +122,7 @@ fn a_root_that_breaks_a_rule(rt: HostRuntime) -> Result<(), Fail> {
         let place = usize::from(at);
         let before = dir.root[place];
         dir.root[place] = byte;
-        assert!(rt; refuses(rt.alloc(), &mut dir, 3, bad(ROOT, rule))?);
+        assert!(rt; refuses_all(rt.alloc(), &mut dir, 3, bad(ROOT, rule))?);
         dir.root[place] = before;
         assert!(rt; finds(rt.alloc(), &mut dir, 3)?);
     }
@@ -119,10 +133,10 @@ fn a_root_that_breaks_a_rule(rt: HostRuntime) -> Result<(), Fail> {
 fn names_and_keys_that_do_not_rise(rt: HostRuntime) -> Result<(), Fail> {
     let mut dir = dir_of(rt.alloc(), 8)?;
     dir.swaps(2);
-    assert!(rt; refuses(rt.alloc(), &mut dir, 3, bad(2, Rule::Order))?);
+    assert!(rt; refuses_all(rt.alloc(), &mut dir, 3, bad(2, Rule::Order))?);
     dir.swaps(2);
     dir.swaps(0);
-    assert!(rt; refuses(rt.alloc(), &mut dir, 3, bad(0, Rule::Order))?);
+    assert!(rt; refuses_all(rt.alloc(), &mut dir, 3, bad(0, Rule::Order))?);
     // the other leaf is as it was
     assert!(rt; finds(rt.alloc(), &mut dir, 7)?);
     Ok(())
@@ -132,10 +146,10 @@ fn names_and_keys_that_do_not_rise(rt: HostRuntime) -> Result<(), Fail> {
 fn pages_without_children(rt: HostRuntime) -> Result<(), Fail> {
     let mut dir = dir_of(rt.alloc(), 8)?;
     dir.empties(2);
-    assert!(rt; refuses(rt.alloc(), &mut dir, 3, bad(2, Rule::Deep))?);
+    assert!(rt; refuses_all(rt.alloc(), &mut dir, 3, bad(2, Rule::Deep))?);
     new_root(&mut dir.root, 2);
     dir.root[16] = 0x85;
-    assert!(rt; refuses(rt.alloc(), &mut dir, 3, bad(ROOT, Rule::Deep))?);
+    assert!(rt; refuses_all(rt.alloc(), &mut dir, 3, bad(ROOT, Rule::Deep))?);
     Ok(())
 }
 
@@ -143,7 +157,7 @@ fn pages_without_children(rt: HostRuntime) -> Result<(), Fail> {
 fn a_page_that_names_itself(rt: HostRuntime) -> Result<(), Fail> {
     let mut dir = dir_of(rt.alloc(), 8)?;
     dir.puts(2, 164, 2);
-    assert!(rt; refuses(rt.alloc(), &mut dir, 3, bad(2, Rule::Deep))?);
+    assert!(rt; refuses_all(rt.alloc(), &mut dir, 3, bad(2, Rule::Deep))?);
     assert!(rt; finds(rt.alloc(), &mut dir, 7)?);
     Ok(())
 }
@@ -204,13 +218,16 @@ fn pages_that_cannot_be_read(rt: HostRuntime) -> Result<(), Fail> {
     dir.volume.bad = 2;
     assert_eq!(rt; dir.find(&name), Err(fault(1)));
     assert!(rt; dir.refuses(rt.alloc(), &other, fault(2))?);
+    assert!(rt; dir.keeps(rt.alloc(), &name, fault(3))?);
     dir.volume.bad = 0;
-    assert_eq!(rt; dir.find(&name), Err(fault(3)));
-    assert!(rt; dir.refuses(rt.alloc(), &other, fault(4))?);
+    assert_eq!(rt; dir.find(&name), Err(fault(4)));
+    assert!(rt; dir.refuses(rt.alloc(), &other, fault(5))?);
+    assert!(rt; dir.keeps(rt.alloc(), &name, fault(6))?);
     assert!(rt; finds(rt.alloc(), &mut dir, 7)?);
     // the leaf beside the one with the name isn't read
     dir.volume.bad = 1;
     assert!(rt; dir.adds(rt.alloc(), other, 9)?.is_ok());
-    assert!(rt; finds(rt.alloc(), &mut dir, 3)?);
+    assert_eq!(rt; dir.removes(rt.alloc(), &name), Ok(3));
+    assert!(rt; dir.keeps(rt.alloc(), &name, DtError::Missing)?);
     Ok(())
 }

@@ -13,6 +13,10 @@ mod growing;
 #[cfg(test)]
 mod hostile;
 #[cfg(test)]
+mod listing;
+#[cfg(test)]
+mod mixed;
+#[cfg(test)]
 mod names;
 #[cfg(test)]
 mod own_row;

@@ -4,6 +4,9 @@ ghost use Rattle.std.specs.Prelude.{◌≤◌};
 
 use crate::units::name_of;
 use crate::volume::{Dir, Told};
+use jfs_bits::Pxd;
+use jfs_dtree::{DtError, parent, remove};
+use jfs_ranges::{Edit, Tx};
 use std::alloc::{AllocError, Global};
 use std::test::*;
 
@@ -34,6 +37,40 @@ fn finds_all(alloc: Global, dir: &mut Dir) -> Result<bool, AllocError> {
         }
     }
     Ok(true)
+}
+
+/// Whether `f1` to `f8` are removed.
+fn removes_eight(alloc: Global, dir: &mut Dir) -> Result<bool, AllocError> {
+    for number in 1..9 {
+        let name = name_of(alloc, &[0x66, 48 + number])?;
+        if dir.removes(alloc, &name) != Ok(u32::from(number)) {
+            return Ok(false);
+        }
+    }
+    Ok(true)
+}
+
+/// The edits of the call that removes `f9`.
+fn removes_ninth(alloc: Global, dir: &mut Dir) -> Result<Tx, DtError> {
+    let Ok(name) = name_of(alloc, &[0x66, 57]) else {
+        return Err(DtError::Missing);
+    };
+    let mut tx = Tx::new(alloc);
+    remove(alloc, &mut dir.volume, &mut dir.root, &name, &mut tx)?;
+    Ok(tx)
+}
+
+/// Whether a transaction is that page 0 isn't to be redone, and is free.
+fn gives_back(tx: &Tx) -> bool {
+    let ends = match tx.get(0) {
+        Some(Edit::NoRedo { page }) => *page == 0,
+        _ => false,
+    };
+    let frees = match tx.get(1) {
+        Some(Edit::Free(run)) => *run == (Pxd { len: 1, addr: 0 }),
+        _ => false,
+    };
+    tx.len() == 2 && ends && frees
 }
 
 /// The flag, the number of entries and the number of free slots of a root.
@@ -68,5 +105,14 @@ fn nine_names(rt: HostRuntime) -> Result<(), Fail> {
         }
     );
     assert!(rt; finds_all(rt.alloc(), &mut dir)?);
+    assert!(rt; removes_eight(rt.alloc(), &mut dir)?);
+    assert_eq!(rt; dir.pages(), 1);
+    assert_eq!(rt; dir.told.free, 0);
+    match removes_ninth(rt.alloc(), &mut dir) {
+        Ok(tx) => assert!(rt; gives_back(&tx)),
+        Err(_) => assert!(rt; false),
+    }
+    assert_eq!(rt; head(&dir), (0x83, 0, 8));
+    assert_eq!(rt; parent(&dir.root), 2);
     Ok(())
 }

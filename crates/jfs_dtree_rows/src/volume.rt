@@ -5,8 +5,8 @@ ghost use Rattle.std.specs.Prelude.{◌≡◌, ◌≤◌, [], ◌∷◌, IfOk, l
 use jfs_bits::{Pxd, PxdList};
 use jfs_disk::{Fault, Page, Part};
 use jfs_dtpage::{DtForm, dt_new};
-use jfs_dtree::{DtError, add, find, new_root};
-use jfs_name::{Name, NameEntry};
+use jfs_dtree::{DtError, add, find, list, new_root, remove};
+use jfs_name::{Name, NameEntry, NameList};
 use jfs_ranges::{Edit, PageView, Tx, ViewError, apply};
 use std::alloc::{AllocError, Global};
 use std::cmp::Ordering;
@@ -148,6 +148,22 @@ impl Dir {
         Ok(answer)
     }
 
+    /// Takes a name out of the tree, and where that is done, out of the plain list.
+    pub fn removes(&mut self, alloc: Global, name: &Name) -> Result<u32, DtError>
+        requires { length name.now ≤ 255 }
+    {
+        let mut tx = Tx::new(alloc);
+        let answer = remove(alloc, &mut self.volume, &mut self.root, name, &mut tx);
+        if answer.is_ok() {
+            self.applies(&tx);
+            let place = self.place_of(name.as_slice());
+            if place < self.plain.len() {
+                let _gone = self.plain.remove(place);
+            }
+        }
+        answer
+    }
+
     fn applies(&mut self, tx: &Tx) {
         self.told.adds(tx);
         let mut n: u32 = 0;
@@ -193,6 +209,27 @@ impl Dir {
         self.find(name) == Ok(self.inode_of(name.as_slice()))
     }
 
+    /// The names of the tree in their order.
+    pub fn list(&mut self, alloc: Global) -> Result<NameList, DtError> {
+        list(alloc, &mut self.volume, &self.root)
+    }
+
+    /// Why the names of the tree aren't listed.
+    pub fn list_fault(&mut self, alloc: Global) -> Option<DtError> {
+        match self.list(alloc) {
+            Ok(_) => None,
+            Err(e) => Some(e),
+        }
+    }
+
+    /// Whether the names of the tree are those of the plain list.
+    pub fn lists(&mut self, alloc: Global) -> bool {
+        match self.list(alloc) {
+            Ok(names) => are_same(names.as_slice(), self.plain.as_slice()),
+            Err(_) => false,
+        }
+    }
+
     /// Whether a name is refused for this reason, and root, blocks and transaction stay as they were.
     pub fn refuses(&mut self, alloc: Global, name: &Name, why: DtError) -> Result<bool, AllocError>
         requires { length name.now ≤ 255 }
@@ -211,6 +248,17 @@ impl Dir {
             &mut tx,
         );
         Ok(answer == Err(why) && self.root == root && blocks_of(&fresh) == 8 && tx.len() == 1)
+    }
+
+    /// Whether a name isn't taken out for this reason, and root and transaction stay as they were.
+    pub fn keeps(&mut self, alloc: Global, name: &Name, why: DtError) -> Result<bool, AllocError>
+        requires { length name.now ≤ 255 }
+    {
+        let root = self.root;
+        let mut tx = Tx::new(alloc);
+        tx.push(Edit::NoRedo { page: 9 })?;
+        let answer = remove(alloc, &mut self.volume, &mut self.root, name, &mut tx);
+        Ok(answer == Err(why) && self.root == root && tx.len() == 1)
     }
 }
 
@@ -260,6 +308,15 @@ impl Dir {
             page.0 = bytes;
         }
     }
+}
+
+fn are_same(names: &[NameEntry], plain: &[NameEntry]) -> bool {
+    for (entry, other) in names.iter().zip(plain.iter()) {
+        if entry.name.as_slice() != other.name.as_slice() || entry.inode != other.inode {
+            return false;
+        }
+    }
+    names.len() == plain.len()
 }
 
 fn blocks_of(fresh: &PxdList) -> u32 {
