@@ -6,6 +6,7 @@ mod call;
 mod content;
 mod contents;
 mod copy;
+mod copy_call;
 mod entries;
 mod fresh;
 mod moves;
