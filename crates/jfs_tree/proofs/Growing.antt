@@ -152,7 +152,7 @@ two_walks s nodes lower c q front r rs is_c is_q =
 fewer : (l m i : ℕ) → m ≡ i + l → l ≤ m
 fewer l m i h = omega (arith, h)
 
-not_taken : (q n l m : ℕ) → m ≡ (if q == n then 1 else 0) + l → m ≡ l → n ≢ q
+pub not_taken : (q n l m : ℕ) → m ≡ (if q == n then 1 else 0) + l → m ≡ l → n ≢ q
 not_taken q n l m h e f = grind arith
 
 pub once_itself : (n rest f : ℕ) → ((if n == n then 1 else 0) + rest) + f ≤ 1 → f ≡ 0
@@ -195,7 +195,7 @@ inner_parted {P} s o x before middle after lower page child q more free between 
       takes = λ n. let h = grew.takes n in let i = fewer _ _ _ (taken n) in omega (arith, h, i);
     }
 
-leaf_other : {P E : Type 0} (s : Scale P E) (before : ℕ → Node P E) (lower page n : ℕ) (key : P) → times n (walk s before (suc lower) (record { key = key; page = page })) ≡ 0 → n ≢ page
+pub leaf_other : {P E : Type 0} (s : Scale P E) (before : ℕ → Node P E) (lower page n : ℕ) (key : P) → times n (walk s before (suc lower) (record { key = key; page = page })) ≡ 0 → n ≢ page
 unfolding walk
 leaf_other s before lower page n key h = not_page page n _ h
 

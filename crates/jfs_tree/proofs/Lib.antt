@@ -41,3 +41,4 @@ mod RunsTold
 mod DraftEdited
 pub mod LinesOnly
 pub mod Removes
+mod BytesKept

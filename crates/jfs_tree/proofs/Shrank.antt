@@ -7,16 +7,13 @@ use Rattle.jfs_tree.specs.Shrink.{IsLoose, Lost, kept_of, Shrank}
 use Rattle.jfs_tree.proofs.Frame.{reads_itself}
 use Rattle.jfs_tree.proofs.Between.{append_nil}
 use Rattle.jfs_tree.proofs.Steps.{under_parts, times_inner}
+use Rattle.jfs_tree.proofs.Growing.{leaf_other}
 use Rattle.jfs_tree.proofs.Shrinking.{leaf_kept, leaf_gone, inner_lost, walk_children, first_rekeyed, page_gone}
 
 -- a page stands in its own part
 pub reads_own : {P E : Type 0} (s : Scale P E) (nodes : ℕ → Node P E) (below : ℕ) (c : Child P) → 0 < times c.page (walk s nodes (suc below) c)
 unfolding walk
 reads_own s nodes below c = reads_itself c.page (body (walk s nodes below) c (placed s below c.key (nodes c.page)))
-
--- so a page that is in no part is another one
-another : {P E : Type 0} (s : Scale P E) (nodes : ℕ → Node P E) (below : ℕ) (c : Child P) (n : ℕ) → times n (walk s nodes (suc below) c) ≡ 0 → n ≢ c.page
-another s nodes below c n none e = let h = reads_own s nodes below c in let k = ap (λ m. times m (walk s nodes (suc below) c)) e in omega (arith, h, k, none)
 
 -- ---- a leaf
 
@@ -26,7 +23,7 @@ pub shrank_leaf_kept : {P E : Type 0} (s : Scale P E) → IsOrder s → IsLoose 
 shrank_leaf_kept {P} s o loose before after page front e back free was is some others = record {
   ends = (front ++ e ∷ back, was);
   shrinks = λ key low high r once. leaf_kept s o loose before after (record { key = key; page = page }) front e back free low high was is some r;
-  keeps = λ key n none. others n (another s before 0 (record { key = key; page = page }) n none);
+  keeps = λ key n none. others n (leaf_other s before 0 page n key none);
 }
 
 pub shrank_leaf_gone : {P E : Type 0} (s : Scale P E) → IsOrder s → (before after : ℕ → Node P E) (page : ℕ) (e : E) (free freed : List ℕ)
@@ -115,7 +112,7 @@ shrank_child_gone {P} {E} s o loose e before middle after lower page child front
       let walked = walk_children s after lower c cs (front ++ back) is some (same key) in
       subst (λ ms. Lost s e low (walk s before (suc (suc lower)) c) ms high free between) (sym (append_nil (walk s after (suc (suc lower)) c) ∙ walked))
       (place_gone s o loose after (suc lower) page key (walk s before (suc (suc lower)) c) e low high free between front back lost);
-  keeps = λ key n none. here n (another s before (suc lower) (record { key = key; page = page }) n none) ∙ page_keeps s o e before middle lower page child front t back false free between was to g key n none;
+  keeps = λ key n none. here n (leaf_other s before (suc lower) page n key none) ∙ page_keeps s o e before middle lower page child front t back false free between was to g key n none;
 }
 
 -- the page had no other child, and goes too

@@ -45,7 +45,7 @@ two_first old new page q left right a ne image = a image page ∙ another page q
 two_last : (old new : List Drafted) (page q : ℕ) (left right : List ℕ) → PutsTwo old new page left q right → (image : Image) → shown new image q ≡ right
 two_last old new page q left right a image = a image q ∙ itself q right _
 
-two_others : (old new : List Drafted) (page q : ℕ) (left right : List ℕ) → PutsTwo old new page left q right → (image : Image) (n : ℕ) → n ≢ page → n ≢ q → shown new image n ≡ shown old image n
+pub two_others : (old new : List Drafted) (page q : ℕ) (left right : List ℕ) → PutsTwo old new page left q right → (image : Image) (n : ℕ) → n ≢ page → n ≢ q → shown new image n ≡ shown old image n
 two_others old new page q left right a image n ne nq = a image n ∙ another n q right _ nq ∙ another n page left (shown old image n) ne
 
 pub here_parted : {P E : Type 0} (node : List ℕ → Node P E) (s : Scale P E) → IsOrder s → (x : E) (bytes left_page right_page : List ℕ) (page q : ℕ) (key : P) (old new : List Drafted) (free left : List ℕ)

@@ -1,11 +1,11 @@
 -- What a call on the part below a page did, or why it failed.
-use Rattle.std.specs.Prelude.{◌≡◌, ◌⊎◌, ◌<◌, ◌≤◌, ℕ, zero, suc, ◌==◌, if◌then◌else◌, List, [], ◌∷◌, ◌++◌, Option, true, Result, Ok, Err, IfOk, IfSome}
+use Rattle.std.specs.Prelude.{◌≡◌, ◌≢◌, ◌⊎◌, ◌<◌, ◌≤◌, ℕ, zero, suc, ◌==◌, if◌then◌else◌, List, [], ◌∷◌, ◌++◌, Option, true, Result, Ok, Err, IfOk, IfSome}
 use Rattle.jfs_bits.specs.declared.rule.Rule.{Rule}
 use Rattle.jfs_bits.specs.declared.rule.Rule.TheVariants as rules
 use Rattle.jfs_disk.specs.Image.{Image, page_of}
 use Rattle.jfs_ranges.specs.View.{CarriesCount}
-use Rattle.jfs_tree.specs.Walk.{Node, Leaf, Inner, Broken, Child, Scale, Rises, rows_of, walk}
-use Rattle.jfs_tree.specs.Edit.{Grew, Ready, IsApart, KeysRise, found_in}
+use Rattle.jfs_tree.specs.Walk.{Node, Leaf, Inner, Broken, Child, Scale, Rises, rows_of, times, walk}
+use Rattle.jfs_tree.specs.Edit.{Grew, Ready, IsApart, KeysRise, count_in, found_in}
 use Rattle.jfs_tree.specs.Form.{LeadsDown, AtPlace, AllBelow, as_child, children_of}
 use Rattle.jfs_tree.specs.Draft.{shown}
 use Rattle.jfs_tree.specs.declared.draft.Drafted.{Drafted}
@@ -107,3 +107,15 @@ abbrev pub IsRead : TreeError → Type 0
 IsRead (View e) = Unit {0}
 IsRead (Bad page rule) = ⊥
 IsRead Memory = Unit {0}
+
+-- a page that is neither this one nor taken keeps its bytes
+abbrev pub StaysOff : ℕ → List Drafted → List Drafted → List ℕ → List ℕ → Type 0
+StaysOff page old new free left = (image : Image) (m : ℕ) → m ≢ page → count_in m free ≡ count_in m left → shown new image m ≡ shown old image m
+
+-- and so does one that is neither below the page nor taken
+abbrev pub KeepsBytes : {P E : Type 0} → Scale P E → (ℕ → Node P E) → Image → List Drafted → List Drafted → ℕ → ℕ → List ℕ → List ℕ → Type 0
+KeepsBytes {P} s nodes image old new levels page free left = (key : P) (m : ℕ) → times m (walk s nodes levels (record { key = key; page = page })) ≡ 0 → count_in m free ≡ count_in m left → shown new image m ≡ shown old image m
+
+-- where no page is changed but those that were taken
+abbrev pub StaysTaken : List Drafted → List Drafted → List ℕ → List ℕ → Type 0
+StaysTaken old new free left = (image : Image) (m : ℕ) → count_in m free ≡ count_in m left → shown new image m ≡ shown old image m

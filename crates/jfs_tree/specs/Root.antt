@@ -7,6 +7,7 @@ use Rattle.jfs_tree.specs.Edit.{Added, IsApart, KeysRise, count_in, found_in, wi
 use Rattle.jfs_disk.specs.Image.{Image}
 use Rattle.jfs_tree.specs.Form.{AtPlace, HasChildren, as_child}
 use Rattle.jfs_tree.specs.Call.{Breaks, nodes}
+use Rattle.jfs_tree.specs.Draft.{shown}
 use Rattle.jfs_tree.specs.declared.draft.Drafted.{Drafted}
 use Rattle.jfs_tree.specs.declared.form.Sibling.{Sibling}
 use Rattle.jfs_tree.specs.declared.form.TreeError.{TreeError}
@@ -47,6 +48,11 @@ RefusesWhereBad s x pages root free (View e) = Unit {0}
 RefusesWhereBad {E = E} s x pages root free (Bad bad rule) = (es : List E) → spells s pages root ≡ Ok es → IsApart s x es → IsSpare s pages root free
     → (bad ≡ no_page) × (rule ≡ rules.Deep) × (levels_of (with_root root pages) 8 no_page ≡ Some 8)
 RefusesWhereBad s x pages root free Memory = Unit {0}
+
+-- Whatever list the root spells, if the entry is apart from it and the free pages aren't in the tree, a page that is neither in the tree nor taken keeps its bytes.
+abbrev pub KeepsAlways : {P E : Type 0} → Scale P E → E → (ℕ → Node P E) → Node P E → Image → List Drafted → List Drafted → List ℕ → List ℕ → Type 0
+KeepsAlways {E = E} s x pages root image old new free left = (es : List E) → spells s pages root ≡ Ok es → IsApart s x es → IsSpare s pages root free
+    → (n : ℕ) → footprint s pages root n ≡ 0 → count_in n free ≡ count_in n left → shown new image n ≡ shown old image n
 
 -- ---- parts of a call, for the prover alone
 

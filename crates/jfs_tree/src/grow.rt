@@ -4,7 +4,7 @@ ghost use Rattle.std.specs.Prelude.{◌≡◌, ◌==◌, ◌+◌, if◌then◌el
 ghost use Rattle.jfs_tree.specs.Edit.{Grew};
 ghost use Rattle.jfs_tree.specs.Form.{AllBelow, IsFront, children_of};
 ghost use Rattle.jfs_tree.specs.Room.{GrowsWhereFull, TakesMore, at_page};
-ghost use Rattle.jfs_tree.specs.Call.{nodes, GrownDid, GrownBelow, CarriesFault, RefutesWhereBad};
+ghost use Rattle.jfs_tree.specs.Call.{nodes, GrownDid, GrownBelow, KeepsBytes, StaysOff, CarriesFault, RefutesWhereBad};
 
 use crate::draft::Draft;
 use crate::form::{Sibling, TreeError, Way};
@@ -54,6 +54,8 @@ pub fn add_below<V: PageView, F: PageForm>(
         (at_page (F.PageForm.is_full form.now) draft.old.pages.items (V.PageView.image view.old))
         (at_page (λ bytes. F.PageForm.has_no_room form.now bytes x.now) draft.old.pages.items (V.PageView.image view.old))
         grown.levels page grown.sibling fresh.old.items fresh.new.items) }
+    ensures keeps { V.PageView.tells → IfOk result (λ grown. KeepsBytes F.PageForm.scale (nodes (F.PageForm.node form.now) draft.old.pages.items (V.PageView.image view.old)) (V.PageView.image view.old)
+        draft.old.pages.items draft.new.pages.items grown.levels page fresh.old.items fresh.new.items) }
     ensures below { GrownBelow fresh.old.items fresh.new.items result }
     ensures front { IsFront fresh.new.items fresh.old.items }
     ensures key { IfOk result (λ grown. IfSome grown.sibling (λ s. F.PageForm.is_key s.key)) }
@@ -112,6 +114,7 @@ fn take_grown<F: PageForm>(
     ensures levels { IfOk result (λ g. g.levels ≡ grown.levels + 1) }
     ensures used { IfOk result (λ more. length fresh.old.items ≤ length fresh.new.items + 1) }
     ensures room { IfOk result (λ g. TakesMore (F.PageForm.is_full form.now bytes.0) grown.sibling g.sibling fresh.old.items fresh.new.items) }
+    ensures keeps { OnOk result (StaysOff page draft.old.pages.items draft.new.pages.items fresh.old.items fresh.new.items) }
     ensures below { GrownBelow fresh.old.items fresh.new.items result }
     ensures front { IsFront fresh.new.items fresh.old.items }
     ensures key { IfOk result (λ grown. IfSome grown.sibling (λ s. F.PageForm.is_key s.key)) }

@@ -2,7 +2,7 @@
 
 ghost use Rattle.std.specs.Prelude.{◌≡◌, ◌+◌, ◌<◌, ◌≤◌, ◌^◌, [], Some, IfOk, IfErr, OnOk, IfSome, IfNone, length};
 ghost use Rattle.jfs_tree.specs.Edit.{IsPoint};
-ghost use Rattle.jfs_tree.specs.Call.{pages_of, nodes, Finds, BreaksWhereBad, CarriesFault};
+ghost use Rattle.jfs_tree.specs.Call.{pages_of, nodes, Finds, BreaksWhereBad, CarriesFault, KeepsBytes, StaysOff};
 ghost use Rattle.jfs_tree.specs.Form.{IsLeaf};
 ghost use Rattle.jfs_tree.specs.Shrink.{Shrank};
 ghost use Rattle.jfs_tree.specs.Removal.{HasChildAt, Settles, LostHere, LostBelow, entry_of, kept_in};
@@ -51,6 +51,8 @@ pub fn remove_below<V: PageView, F: PageLoss>(
     ensures absent { IfOk result (λ found. IfNone found ((draft.new.pages.items ≡ []) × (freed.new.items ≡ freed.old.items))) }
     ensures bad { V.PageView.tells → IfErr result (λ e. BreaksWhereBad
         (pages_of (F.PageForm.node form.now) (V.PageView.image view.old)) most page e) }
+    ensures keeps { V.PageView.tells → IfOk result (λ found. IfSome found (λ shrunk. KeepsBytes F.PageForm.scale (pages_of (F.PageForm.node form.now) (V.PageView.image view.old)) (V.PageView.image view.old)
+        [] draft.new.pages.items shrunk.levels page [] [])) }
     ensures levels { IfOk result (λ found. IfSome found (λ shrunk. shrunk.levels ≤ most)) }
 {
     if most == 0 {
@@ -95,6 +97,7 @@ fn remove_here<F: PageLoss>(
     requires leaf { IsLeaf (F.PageForm.node form.now bytes.0) }
     ensures did { IfOk result (LostHere (F.PageForm.node form.now) F.PageForm.scale x.now bytes.0 page draft.old.pages.items draft.new.pages.items freed.old.items freed.new.items) }
     ensures levels { IfOk result (λ found. IfSome found (λ shrunk. shrunk.levels ≡ 1)) }
+    ensures keeps { OnOk result (StaysOff page draft.old.pages.items draft.new.pages.items [] []) }
     ensures cause { IfErr result (λ e. e ≡ TreeError.Memory) }
 {
     let alone = form.is_single(bytes.bytes());
@@ -125,6 +128,7 @@ fn remove_place<F: PageLoss>(
     requires fits { shrunk.levels + 1 < 2 ^ 32 }
     ensures did { IfOk result (λ found. IfSome found (λ more. (x : F.Entry) → LostBelow (F.PageForm.node form.now) F.PageForm.scale x bytes.0 page place shrunk draft.old.pages.items draft.new.pages.items freed.old.items freed.new.items more)) }
     ensures same { IfOk result (λ found. found ≡ Some (record { entry = shrunk.entry; kept = kept_in found; levels = shrunk.levels + 1 })) }
+    ensures keeps { OnOk result (StaysOff page draft.old.pages.items draft.new.pages.items [] []) }
     ensures cause { IfErr result (λ e. e ≡ TreeError.Memory) }
 {
     let Shrunk {
@@ -161,6 +165,7 @@ fn settle(
     kept: bool,
 ) -> Result<(), TreeError>
     ensures settles { OnOk result (Settles kept page bytes.0 draft.old.pages.items draft.new.pages.items freed.old.items freed.new.items) }
+    ensures keeps { OnOk result (StaysOff page draft.old.pages.items draft.new.pages.items [] []) }
     ensures cause { IfErr result (λ e. e ≡ TreeError.Memory) }
 {
     if kept {

@@ -1,11 +1,11 @@
 //! An entry that is taken out of a whole tree, from its root on.
 
-ghost use Rattle.std.specs.Prelude.{◌≡◌, [], IfOk, IfErr, IfNone, length};
+ghost use Rattle.std.specs.Prelude.{◌≡◌, [], IfOk, IfErr, IfNone, OnOk, length};
 ghost use Rattle.jfs_tree.specs.Edit.{IsPoint};
 ghost use Rattle.jfs_tree.specs.Call.{nodes, pages_of, CarriesFault};
 ghost use Rattle.jfs_tree.specs.Root.{NamesBroken};
 ghost use Rattle.jfs_tree.specs.Removal.{HasChildAt};
-ghost use Rattle.jfs_tree.specs.RootLoss.{RemovesAlways, RootLost};
+ghost use Rattle.jfs_tree.specs.RootLoss.{KeepsOthers, RemovesAlways, RootLost};
 
 use crate::draft::Draft;
 use crate::form::{NO_PAGE, TreeError, Way};
@@ -38,6 +38,7 @@ pub fn remove_entry<V: PageView, F: PageLoss>(
         (pages_of (F.PageForm.node form.now) (V.PageView.image view.old))
         (nodes (F.PageForm.node form.now) draft.new.pages.items (V.PageView.image view.old))
         (F.PageForm.node top.now root.old) (F.PageForm.node top.now root.new) freed.new.items found) }
+    ensures keeps { V.PageView.tells → OnOk result (KeepsOthers F.PageForm.scale (pages_of (F.PageForm.node form.now) (V.PageView.image view.old)) (F.PageForm.node top.now root.old) (V.PageView.image view.old) draft.new.pages.items) }
     ensures absent { IfOk result (λ found. IfNone found ((root.new ≡ root.old) × (draft.new.pages.items ≡ []) × (freed.new.items ≡ []))) }
     ensures kept { IfErr result (λ e. root.new ≡ root.old) }
     ensures bad { V.PageView.tells → IfErr result (λ e.

@@ -4,8 +4,8 @@ ghost use Rattle.std.specs.Prelude.{◌≡◌, ◌+◌, ◌<◌, ◌≤◌, ℕ,
 ghost use Rattle.jfs_tree.specs.Edit.{IsPoint};
 ghost use Rattle.jfs_tree.specs.Form.{AllBelow, IsFront};
 ghost use Rattle.jfs_tree.specs.Room.{FullFrom, LevelsWhereFull, TakesWhereFull, RootGrownRoom, at_page};
-ghost use Rattle.jfs_tree.specs.Call.{nodes, pages_of, CarriesFault};
-ghost use Rattle.jfs_tree.specs.Root.{AddsAlways, FindsAlways, NamesBroken, RefusesWhereBad, RootGrownDid};
+ghost use Rattle.jfs_tree.specs.Call.{nodes, pages_of, CarriesFault, StaysTaken};
+ghost use Rattle.jfs_tree.specs.Root.{AddsAlways, FindsAlways, KeepsAlways, NamesBroken, RefusesWhereBad, RootGrownDid};
 
 use crate::draft::Draft;
 use crate::find::find_below;
@@ -96,6 +96,8 @@ pub fn add_entry<V: PageView, F: PageForm>(
         (at_page (λ bytes. F.PageForm.has_no_room form.now bytes x.now) draft.old.pages.items (V.PageView.image view.old))
         (F.PageForm.node top.now root.old) ((F.PageForm.is_full top.now root.old) × (F.PageForm.has_no_room top.now root.old x.now))
         (λ key. (F.PageForm.is_full top.now root.old) × (F.PageForm.has_no_place top.now root.old key))) result }
+    ensures keeps { V.PageView.tells → OnOk result (KeepsAlways F.PageForm.scale x.now (nodes (F.PageForm.node form.now) draft.old.pages.items (V.PageView.image view.old)) (F.PageForm.node top.now root.old) (V.PageView.image view.old)
+        draft.old.pages.items draft.new.pages.items fresh.old.items fresh.new.items) }
     ensures front { IsFront fresh.new.items fresh.old.items }
 {
     let _blocks = view.blocks();
@@ -135,6 +137,7 @@ fn root_takes_grown<F: PageForm>(
     requires within { AllBelow (F.PageForm.blocks top.now) fresh.old.items }
     ensures did { RootGrownDid (F.PageForm.node form.now) F.PageForm.scale grown.levels place grown.sibling (F.PageForm.node top.now root.old) (F.PageForm.node top.now root.new) draft.old.pages.items draft.new.pages.items fresh.old.items fresh.new.items result }
     ensures room { RootGrownRoom F.PageForm.scale (λ key. (F.PageForm.is_full top.now root.old) × (F.PageForm.has_no_place top.now root.old key)) place grown.sibling (F.PageForm.node top.now root.old) fresh.old.items fresh.new.items result }
+    ensures keeps { OnOk result (StaysTaken draft.old.pages.items draft.new.pages.items fresh.old.items fresh.new.items) }
     ensures below { AllBelow (F.PageForm.blocks top.now) fresh.new.items }
     ensures front { IsFront fresh.new.items fresh.old.items }
 {

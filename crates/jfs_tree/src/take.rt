@@ -3,7 +3,7 @@
 ghost use Rattle.std.specs.Prelude.{◌≡◌, ◌==◌, ◌+◌, if◌then◌else◌, ◌<◌, ◌≤◌, ℕ, List, length, OnOk, IfOk, IfErr, IfSome};
 ghost use Rattle.jfs_tree.specs.Form.{IsFront};
 ghost use Rattle.jfs_tree.specs.Room.{TakesOne};
-ghost use Rattle.jfs_tree.specs.Call.{HereDid, ChildDid, StaysBelow, PutsOne, PutsTwo};
+ghost use Rattle.jfs_tree.specs.Call.{HereDid, ChildDid, StaysBelow, StaysOff, PutsOne, PutsTwo};
 
 use crate::draft::Draft;
 use crate::form::{Put, Sibling, TreeError};
@@ -28,6 +28,7 @@ pub(crate) fn take_here<F: PageForm>(
     ensures did { HereDid (F.PageForm.node form.now) F.PageForm.scale x.now bytes.0 page draft.old.pages.items draft.new.pages.items fresh.old.items fresh.new.items result }
     ensures used { IfOk result (λ more. length fresh.old.items ≤ length fresh.new.items + 1) }
     ensures room { IfOk result (λ more. TakesOne ((F.PageForm.is_full form.now bytes.0) × (F.PageForm.has_no_room form.now bytes.0 x.now)) more fresh.old.items fresh.new.items) }
+    ensures keeps { OnOk result (StaysOff page draft.old.pages.items draft.new.pages.items fresh.old.items fresh.new.items) }
     ensures below { StaysBelow fresh.old.items fresh.new.items result }
     ensures front { IsFront fresh.new.items fresh.old.items }
     ensures key { IfOk result (λ more. IfSome more (λ s. F.PageForm.is_key s.key)) }
@@ -62,6 +63,7 @@ fn split_here<F: PageForm>(
     ensures did { HereDid (F.PageForm.node form.now) F.PageForm.scale x.now bytes.0 page draft.old.pages.items draft.new.pages.items fresh.old.items fresh.new.items result }
     ensures used { IfOk result (λ more. length fresh.old.items ≤ length fresh.new.items + 1) }
     ensures room { IfOk result (λ more. TakesOne ((F.PageForm.is_full form.now bytes.0) × (F.PageForm.has_no_room form.now bytes.0 x.now)) more fresh.old.items fresh.new.items) }
+    ensures keeps { OnOk result (StaysOff page draft.old.pages.items draft.new.pages.items fresh.old.items fresh.new.items) }
     ensures below { StaysBelow fresh.old.items fresh.new.items result }
     ensures front { IsFront fresh.new.items fresh.old.items }
     ensures key { IfOk result (λ more. IfSome more (λ s. F.PageForm.is_key s.key)) }
@@ -94,6 +96,7 @@ pub(crate) fn take_child<F: PageForm>(
     ensures did { ChildDid (F.PageForm.node form.now) F.PageForm.scale bytes.0 page place sibling draft.old.pages.items draft.new.pages.items fresh.old.items fresh.new.items result }
     ensures used { IfOk result (λ more. length fresh.old.items ≤ length fresh.new.items + 1) }
     ensures room { IfOk result (λ more. TakesOne (F.PageForm.is_full form.now bytes.0) more fresh.old.items fresh.new.items) }
+    ensures keeps { OnOk result (StaysOff page draft.old.pages.items draft.new.pages.items fresh.old.items fresh.new.items) }
     ensures below { StaysBelow fresh.old.items fresh.new.items result }
     ensures front { IsFront fresh.new.items fresh.old.items }
     ensures key { IfOk result (λ more. IfSome more (λ s. F.PageForm.is_key s.key)) }
@@ -130,6 +133,7 @@ fn split_child<F: PageForm>(
     ensures did { ChildDid (F.PageForm.node form.now) F.PageForm.scale bytes.0 page place sibling draft.old.pages.items draft.new.pages.items fresh.old.items fresh.new.items result }
     ensures used { IfOk result (λ more. length fresh.old.items ≤ length fresh.new.items + 1) }
     ensures room { IfOk result (λ more. TakesOne (F.PageForm.is_full form.now bytes.0) more fresh.old.items fresh.new.items) }
+    ensures keeps { OnOk result (StaysOff page draft.old.pages.items draft.new.pages.items fresh.old.items fresh.new.items) }
     ensures below { StaysBelow fresh.old.items fresh.new.items result }
     ensures front { IsFront fresh.new.items fresh.old.items }
     ensures key { IfOk result (λ more. IfSome more (λ s. F.PageForm.is_key s.key)) }

@@ -2,6 +2,7 @@
 
 ghost use Rattle.std.specs.Prelude.{◌≡◌, ◌+◌, ◌<◌, ◌≤◌, ℕ, List, OnOk, length};
 ghost use Rattle.jfs_tree.specs.Form.{AllBelow, IsFront};
+ghost use Rattle.jfs_tree.specs.Call.{StaysTaken};
 ghost use Rattle.jfs_tree.specs.Room.{RootRoom, RootChildRoom};
 ghost use Rattle.jfs_tree.specs.Root.{RootHereDid, RootChildDid};
 
@@ -30,6 +31,7 @@ pub(crate) fn root_takes_here<F: PageForm>(
     requires within { AllBelow (F.PageForm.blocks top.now) fresh.old.items }
     ensures did { RootHereDid (F.PageForm.node form.now) F.PageForm.scale x.now (F.PageForm.node top.now root.old) (F.PageForm.node top.now root.new) draft.old.pages.items draft.new.pages.items fresh.old.items fresh.new.items result }
     ensures room { OnOk result (RootRoom ((F.PageForm.is_full top.now root.old) × (F.PageForm.has_no_room top.now root.old x.now)) fresh.old.items fresh.new.items) }
+    ensures keeps { OnOk result (StaysTaken draft.old.pages.items draft.new.pages.items fresh.old.items fresh.new.items) }
     ensures below { AllBelow (F.PageForm.blocks top.now) fresh.new.items }
     ensures front { IsFront fresh.new.items fresh.old.items }
 {
@@ -62,6 +64,7 @@ fn moves_with_entry<F: PageForm>(
     requires within { AllBelow (F.PageForm.blocks top.now) fresh.old.items }
     ensures did { RootHereDid (F.PageForm.node form.now) F.PageForm.scale x.now (F.PageForm.node top.now root.old) (F.PageForm.node top.now root.new) draft.old.pages.items draft.new.pages.items fresh.old.items fresh.new.items result }
     ensures one { length fresh.old.items ≡ length fresh.new.items + 1 }
+    ensures keeps { OnOk result (StaysTaken draft.old.pages.items draft.new.pages.items fresh.old.items fresh.new.items) }
     ensures below { AllBelow (F.PageForm.blocks top.now) fresh.new.items }
     ensures front { IsFront fresh.new.items fresh.old.items }
 {
@@ -102,6 +105,7 @@ pub(crate) fn root_takes_child<F: PageForm>(
     requires within { AllBelow (F.PageForm.blocks top.now) fresh.old.items }
     ensures did { RootChildDid (F.PageForm.node form.now) F.PageForm.scale levels place child (F.PageForm.node top.now root.old) (F.PageForm.node top.now root.new) draft.old.pages.items draft.new.pages.items fresh.old.items fresh.new.items result }
     ensures room { RootChildRoom F.PageForm.scale ((F.PageForm.is_full top.now root.old) × (F.PageForm.has_no_place top.now root.old child.key)) place child (F.PageForm.node top.now root.old) fresh.old.items fresh.new.items result }
+    ensures keeps { OnOk result (StaysTaken draft.old.pages.items draft.new.pages.items fresh.old.items fresh.new.items) }
     ensures below { AllBelow (F.PageForm.blocks top.now) fresh.new.items }
     ensures front { IsFront fresh.new.items fresh.old.items }
 {
@@ -147,6 +151,7 @@ fn moves_with_child<F: PageForm>(
     requires within { AllBelow (F.PageForm.blocks top.now) fresh.old.items }
     ensures did { RootChildDid (F.PageForm.node form.now) F.PageForm.scale levels place child (F.PageForm.node top.now root.old) (F.PageForm.node top.now root.new) draft.old.pages.items draft.new.pages.items fresh.old.items fresh.new.items result }
     ensures one { length fresh.old.items ≡ length fresh.new.items + 1 }
+    ensures keeps { OnOk result (StaysTaken draft.old.pages.items draft.new.pages.items fresh.old.items fresh.new.items) }
     ensures below { AllBelow (F.PageForm.blocks top.now) fresh.new.items }
     ensures front { IsFront fresh.new.items fresh.old.items }
 {

@@ -4,6 +4,7 @@ use Rattle.jfs_tree.specs.Call.{nodes}
 use Rattle.jfs_tree.specs.Form.{Leads}
 use Rattle.jfs_tree.proofs.Adding.{refute_zero, refute_broken, refute_here, refute_down, grown_ok, grown_bad}
 use Rattle.jfs_tree.proofs.Rooms.{grown_room}
+use Rattle.jfs_tree.proofs.BytesKept.{here_keeps, grown_keeps}
 use Rattle.jfs_tree.proofs.grow.+add_below.Goals as goal
 
 pub returns-then-most-eq0-clause-bad : goal.returns-then-most-eq0-clause-bad
@@ -60,3 +61,15 @@ returns-in-Ok-add_below-clause-room g t c tells =
     grown_room (g.F.PageForm.node c.args.form.now) g.F.PageForm.scale c.args.x.now (g.F.PageForm.is_full c.args.form.now) (λ bytes. g.F.PageForm.has_no_room c.args.form.now bytes c.args.x.now) c.args.draft.now.pages.items (g.V.PageView.image c.args.view.now) (g.V.PageView.image c.read.new.view)
     c.args.page c.in-Ok-Down.place c.in-Ok-Down.child c.in-Ok-add_below.grown.levels c.in-Ok.bytes.0 c.in-Ok-add_below.grown.sibling c.args.fresh.now.items c.add_below.new.fresh.items c.take_grown.new.fresh.items c.take_grown.result
     (c.read.ensures.kept tells) (c.in-Ok.ensures.bytes tells) (rw (sym c.bytes.ensures.value) leads) (c.in-Ok-add_below.ensures.room tells) c.take_grown.ensures.levels c.take_grown.ensures.room
+
+pub returns-in-Ok-take_here-clause-keeps : goal.returns-in-Ok-take_here-clause-keeps
+returns-in-Ok-take_here-clause-keeps g t c tells =
+    here_keeps g.F.PageForm.scale (nodes (g.F.PageForm.node c.args.form.now) c.args.draft.now.pages.items (g.V.PageView.image c.args.view.now)) (g.V.PageView.image c.args.view.now) c.args.draft.now.pages.items c.take_here.new.draft.pages.items c.args.page c.args.fresh.now.items c.take_here.new.fresh.items
+    c.in-Ok-take_here.ensures.keeps
+
+pub returns-in-Ok-add_below-clause-keeps : goal.returns-in-Ok-add_below-clause-keeps
+returns-in-Ok-add_below-clause-keeps g t c tells =
+    let leads = subst (λ w. Leads g.F.PageForm.scale c.args.x.now (g.F.PageForm.node c.args.form.now c.bytes.result.now) (Ok w)) c.in-Ok-Down.field-0-is c.in-Ok-Down.ensures.way in
+    grown_keeps (g.F.PageForm.node c.args.form.now) g.F.PageForm.scale c.args.x.now c.args.draft.now.pages.items c.add_below.new.draft.pages.items c.take_grown.new.draft.pages.items (g.V.PageView.image c.args.view.now) (g.V.PageView.image c.read.new.view)
+    c.args.page c.in-Ok-Down.place c.in-Ok-Down.child c.in-Ok-add_below.grown.levels c.in-Ok.bytes.0 c.args.fresh.now.items c.add_below.new.fresh.items c.take_grown.new.fresh.items c.take_grown.result
+    (c.read.ensures.kept tells) (c.in-Ok.ensures.bytes tells) (rw (sym c.bytes.ensures.value) leads) (c.in-Ok-add_below.ensures.keeps tells) c.take_grown.ensures.keeps c.in-Ok-add_below.ensures.front c.take_grown.ensures.front c.take_grown.ensures.levels

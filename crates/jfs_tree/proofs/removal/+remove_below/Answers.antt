@@ -6,6 +6,7 @@ use Rattle.jfs_tree.specs.Removal.{entry_of}
 use Rattle.jfs_tree.specs.declared.draft.Drafted.{Drafted}
 use Rattle.jfs_tree.proofs.Finding.{down_finds, down_breaks}
 use Rattle.jfs_tree.proofs.Removed.{here_shrank, here_found, down_shrank, down_found}
+use Rattle.jfs_tree.proofs.BytesKept.{here_less, down_less}
 use Rattle.jfs_tree.proofs.removal.+remove_below.Goals as goal
 
 pub returns-in-Ok-Here-clause-shrank : goal.returns-in-Ok-Here-clause-shrank
@@ -54,3 +55,15 @@ pub remove_place-requires-clause-there : goal.remove_place-requires-clause-there
 remove_place-requires-clause-there g t c =
     let leads = subst (λ w. Leads g.F.PageForm.scale c.args.x.now (g.F.PageForm.node c.args.form.now c.bytes.result.now) (Ok w)) c.in-Ok-Down.field-0-is c.in-Ok-Down.ensures.way in
     (leads.front, leads.child, leads.back, ap (g.F.PageForm.node c.args.form.now) (sym c.bytes.ensures.value) ∙ leads.is, leads.at)
+
+pub returns-in-Ok-Here-clause-keeps : goal.returns-in-Ok-Here-clause-keeps
+returns-in-Ok-Here-clause-keeps g t c tells =
+    here_less (g.F.PageForm.node c.args.form.now) g.F.PageForm.scale (g.V.PageView.image c.args.view.now) c.args.draft.now.pages.items c.remove_here.new.draft.pages.items c.args.page c.remove_here.result
+    c.remove_here.ensures.keeps c.remove_here.ensures.levels c.requires.fresh
+
+pub returns-in-Ok-Some-clause-keeps : goal.returns-in-Ok-Some-clause-keeps
+returns-in-Ok-Some-clause-keeps g t c tells =
+    let leads = subst (λ w. Leads g.F.PageForm.scale c.args.x.now (g.F.PageForm.node c.args.form.now c.bytes.result.now) (Ok w)) c.in-Ok-Down.field-0-is c.in-Ok-Down.ensures.way in
+    let image = g.V.PageView.image c.args.view.now in
+    down_less (g.F.PageForm.node c.args.form.now) g.F.PageForm.scale c.args.x.now image (g.V.PageView.image c.read.new.view) c.remove_below.new.draft.pages.items c.remove_place.new.draft.pages.items c.args.page c.in-Ok-Down.place c.in-Ok-Down.child c.in-Ok.bytes.0 c.in-Ok-Some.shrunk c.in-Ok-Some.field-0 c.remove_place.result
+    c.remove_place.ensures.same c.remove_place.ensures.keeps (c.read.ensures.kept tells) (c.in-Ok.ensures.bytes tells ∙ ap (λ (d : List Drafted). shown d image c.args.page) c.requires.fresh) (rw (sym c.bytes.ensures.value) leads) c.in-Ok-Some.field-0-is (c.in-Ok-Some.ensures.keeps tells)

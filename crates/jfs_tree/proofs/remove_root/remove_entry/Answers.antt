@@ -8,6 +8,7 @@ use Rattle.jfs_tree.specs.declared.draft.Drafted.{Drafted}
 use Rattle.jfs_tree.proofs.RootCalls.{names_root, names_below, down_always}
 use Rattle.jfs_tree.proofs.Removed.{ShrankTo}
 use Rattle.jfs_tree.proofs.RootLost.{here_removes, down_removes}
+use Rattle.jfs_tree.proofs.BytesKept.{LossKeeps, others_keep}
 use Rattle.jfs_tree.proofs.remove_root.remove_entry.Goals as goal
 
 pub root_loses-requires-clause-there : goal.root_loses-requires-clause-there
@@ -57,3 +58,14 @@ pub returns-in-Err-remove_below-clause-bad : goal.returns-in-Err-remove_below-cl
 returns-in-Err-remove_below-clause-bad g c tells =
     let leads = subst (λ w. Leads g.F.PageForm.scale c.args.x.now (g.F.PageForm.node c.args.top.now c.args.root.now) (Ok w)) c.in-Ok-Down.field-0-is c.in-Ok-Down.ensures.way in
     names_below g.F.PageForm.scale g.met.F.PageForm.order c.args.x.now (pages_of (g.F.PageForm.node c.args.form.now) (g.V.PageView.image c.args.view.now)) (g.F.PageForm.node c.args.top.now c.args.root.now) c.in-Ok-Down.place c.in-Ok-Down.page c.in-Err-remove_below.e leads (c.in-Err-remove_below.ensures.bad tells)
+
+pub returns-in-Ok-Some-clause-keeps : goal.returns-in-Ok-Some-clause-keeps
+returns-in-Ok-Some-clause-keeps g c tells =
+    let node = g.F.PageForm.node c.args.form.now in
+    let image = g.V.PageView.image c.args.view.now in
+    let leads = subst (λ w. Leads g.F.PageForm.scale c.args.x.now (g.F.PageForm.node c.args.top.now c.args.root.now) (Ok w)) c.in-Ok-Down.field-0-is c.in-Ok-Down.ensures.way in
+    let shrank = subst (λ o. ShrankTo node g.F.PageForm.scale image c.remove_below.new.draft.pages.items c.in-Ok-Down.page c.args.freed.now.items c.remove_below.new.freed.items o) c.in-Ok-Some.field-0-is (c.in-Ok-Some.ensures.shrank tells) in
+    let shrunk = c.in-Ok-Some.shrunk in
+    others_keep node g.F.PageForm.scale g.met.F.PageForm.order c.args.x.now image (g.F.PageForm.node c.args.top.now c.args.root.now) c.remove_below.new.draft.pages.items c.in-Ok-Down.place c.in-Ok-Down.page shrunk c.remove_below.new.freed.items leads
+    (subst (λ (f : List ℕ). Shrank g.F.PageForm.scale shrunk.entry (pages_of node image) (nodes node c.remove_below.new.draft.pages.items image) shrunk.levels c.in-Ok-Down.page shrunk.kept f c.remove_below.new.freed.items) c.requires.fresh.1 shrank)
+    (subst (LossKeeps node g.F.PageForm.scale image c.remove_below.new.draft.pages.items c.in-Ok-Down.page) c.in-Ok-Some.field-0-is (c.in-Ok-Some.ensures.keeps tells))

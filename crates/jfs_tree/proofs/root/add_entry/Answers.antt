@@ -5,6 +5,7 @@ use Rattle.jfs_tree.specs.Call.{nodes}
 use Rattle.jfs_tree.specs.Room.{FullFrom, at_page}
 use Rattle.jfs_tree.proofs.RootCalls.{refuse_broken, refuse_down, here_always_adds, here_always_refuses, grown_always_adds, grown_always_refuses}
 use Rattle.jfs_tree.proofs.Rooms.{root_takes, grown_levels, down_levels, broken_root, here_levels}
+use Rattle.jfs_tree.proofs.BytesKept.{always_keeps}
 use Rattle.jfs_tree.proofs.root.add_entry.Goals as goal
 
 pub root_takes_grown-requires-clause-child : goal.root_takes_grown-requires-clause-child
@@ -86,3 +87,10 @@ returns-in-Err-add_below-clause-levels g c tells =
     (at_page (g.F.PageForm.is_full c.args.form.now) c.args.draft.now.pages.items (g.V.PageView.image c.args.view.now)) (at_page (λ bytes. g.F.PageForm.has_no_room c.args.form.now bytes c.args.x.now) c.args.draft.now.pages.items (g.V.PageView.image c.args.view.now))
     (g.F.PageForm.is_full c.args.top.now c.args.root.now × g.F.PageForm.has_no_room c.args.top.now c.args.root.now c.args.x.now) (λ key. g.F.PageForm.is_full c.args.top.now c.args.root.now × g.F.PageForm.has_no_place c.args.top.now c.args.root.now key)
     c.requires.within (let h = c.blocks-blocks.ensures in let i = c.blocks-blocks.type_inv in omega (arith, h, i)) leads c.in-Err-add_below.e (nodes (g.F.PageForm.node c.args.form.now) c.add_below.new.draft.pages.items (g.V.PageView.image c.args.view.now)) (c.in-Err-add_below.ensures.bad tells)
+
+pub returns-in-Ok-clause-keeps : goal.returns-in-Ok-clause-keeps
+returns-in-Ok-clause-keeps g c tells =
+    let leads = subst (λ w. Leads g.F.PageForm.scale c.args.x.now (g.F.PageForm.node c.args.top.now c.args.root.now) (Ok w)) c.in-Ok-Down.field-0-is c.in-Ok-Down.ensures.way in
+    always_keeps (g.F.PageForm.node c.args.form.now) g.F.PageForm.scale g.met.F.PageForm.order c.args.x.now (g.V.PageView.image c.args.view.now) (g.F.PageForm.node c.args.top.now c.args.root.now) c.args.draft.now.pages.items c.add_below.new.draft.pages.items c.root_takes_grown.new.draft.pages.items
+    c.in-Ok-Down.place c.in-Ok-Down.page c.in-Ok.grown.levels (g.V.PageView.block_count c.args.view.now) c.args.fresh.now.items c.add_below.new.fresh.items c.root_takes_grown.new.fresh.items c.in-Ok.grown.sibling c.root_takes_grown.result
+    c.requires.within (let h = c.blocks-blocks.ensures in let i = c.blocks-blocks.type_inv in omega (arith, h, i)) leads (c.in-Ok.ensures.grew tells) (c.in-Ok.ensures.keeps tells) c.root_takes_grown.ensures.keeps c.in-Ok.ensures.front c.root_takes_grown.ensures.front

@@ -1,5 +1,6 @@
 use Rattle.std.proofs.Common.{rules}
 use Rattle.jfs_tree.proofs.Taking.{child_parted, below_popped}
+use Rattle.jfs_tree.proofs.BytesKept.{two_off}
 use Rattle.jfs_tree.proofs.take.split_child.Goals as goal
 
 pub returns-in_err-put_two-clause-below : goal.returns-in_err-put_two-clause-below
@@ -12,3 +13,7 @@ returns-clause-did g c =
 
 pub returns-clause-below : goal.returns-clause-below
 returns-clause-below g c = λ bound h. below_popped bound c.in-Some.q c.args.fresh.now.items c.pop.new.self.items c.in-Some.ensures.items h
+
+pub returns-clause-keeps : goal.returns-clause-keeps
+returns-clause-keeps g c =
+    two_off c.args.draft.now.pages.items c.put_two.new.draft.pages.items c.args.page c.in-Some.q c.split_child-key.new.bytes c.split_child-key.new.right c.args.fresh.now.items c.pop.new.self.items c.in_ok-put_two.ensures.puts c.in-Some.ensures.items

@@ -1,5 +1,6 @@
 use Rattle.jfs_tree.proofs.Taking.{below_popped}
 use Rattle.jfs_tree.proofs.Moving.{child_moved}
+use Rattle.jfs_tree.proofs.BytesKept.{moved_keeps}
 use Rattle.jfs_tree.proofs.take_root.moves_with_child.Goals as goal
 
 pub move_down-requires-clause-within : goal.move_down-requires-clause-within
@@ -16,3 +17,7 @@ returns-in-Done-clause-below g c = (below_popped (g.F.PageForm.blocks c.args.top
 
 pub returns-in-Clash-clause-below : goal.returns-in-Clash-clause-below
 returns-in-Clash-clause-below g c = (below_popped (g.F.PageForm.blocks c.args.top.now) c.in-Some.q c.args.fresh.now.items c.pop.new.self.items c.in-Some.ensures.items c.requires.within).0
+
+pub returns-in-Done-clause-keeps : goal.returns-in-Done-clause-keeps
+returns-in-Done-clause-keeps g c =
+    moved_keeps c.args.draft.now.pages.items c.put_one.new.draft.pages.items c.in-Some.q c.put_child.new.bytes c.args.fresh.now.items c.pop.new.self.items c.put_one.result c.put_one.ensures.puts c.in-Some.ensures.items
