@@ -6,5 +6,5 @@ mod read;
 mod write;
 
 pub use fields::Dinode;
-pub use read::{BadInode, read_dinode};
+pub use read::{BadInode, inode_in, read_dinode};
 pub use write::write_dinode;

@@ -30,8 +30,8 @@ pub fn read_dinode(page: &Page, slot: u32, number: u32) -> Result<Dinode, BadIno
     Ok(d)
 }
 
-/// The inode in a slot, as it stands.
-fn inode_in(page: &Page, slot: u32) -> Dinode
+/// The inode in slot 0 to 7 of a page as it stands, whatever rules it breaks.
+pub fn inode_in(page: &Page, slot: u32) -> Dinode
     requires { slot < 8 }
     ensures value { result ≡ dinode_of (inode_at page.now.0 slot) }
     ensures fits { FitsDinode result }

@@ -1,0 +1,2 @@
+-- what reading gives, and when it fails
+pub mod Reading
