@@ -19,12 +19,12 @@ use Rattle.jfs_dtree.specs.Spells.{root_node, page_nodes, spells_names, owned_pa
 use Rattle.jfs_dtree.specs.declared.error.DtError.{DtError}
 use Rattle.jfs_dtree.specs.declared.error.DtError.TheVariants.{View, Bad, Exists, Missing, TooDeep}
 
--- A root that spelled these names spells one more, which is new. The pages that it has more are the free ones that aren't left, and no other page of the file system reads otherwise.
+-- A root that spelled these names spells one more, which is new. The pages that it has more are the free ones that aren't left, and each other page of the file system that isn't its own keeps its bytes.
 pub record HasOneMoreName (blocks : ℕ) (new : NameEntry) (es : List NameEntry) (pages later : ℕ → List ℕ) (root after : List ℕ) (free left : List ℕ) : Type 0 where
   pub is_new : named new.name es ≡ None
   pub spelled : spells_names blocks later after ≡ Ok (with_name new es)
   pub owned : (n : ℕ) → owned_pages blocks later after n + count_in n left ≡ owned_pages blocks pages root n + count_in n free
-  pub keeps : (n : ℕ) → n < blocks → owned_pages blocks pages root n ≡ 0 → count_in n free ≡ count_in n left → page_nodes blocks later n ≡ page_nodes blocks pages n
+  pub keeps : (n : ℕ) → n < blocks → owned_pages blocks pages root n ≡ 0 → count_in n free ≡ count_in n left → later n ≡ pages n
 
 -- Whatever names the root spelled, if the free blocks aren't pages of the tree: where the edits before lead to the pages that the view shows, all edits lead to pages in which
 -- the root spells one name more.

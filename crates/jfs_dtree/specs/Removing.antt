@@ -13,11 +13,11 @@ use Rattle.jfs_dtree.specs.Spells.{root_node, page_nodes, spells_names, owned_pa
 use Rattle.jfs_dtree.specs.declared.error.DtError.{DtError}
 use Rattle.jfs_dtree.specs.declared.error.DtError.TheVariants.{View, Bad, Exists, Missing, TooDeep}
 
--- A root that spelled these names spells all but one. The pages that it has no more are the freed ones, and no page that isn't its own reads otherwise.
+-- A root that spelled these names spells all but one. The pages that it has no more are the freed ones, and each page of the file system that isn't its own keeps its bytes.
 pub record HasOneLessName (blocks : ℕ) (name : List ℕ) (es : List NameEntry) (pages later : ℕ → List ℕ) (root after : List ℕ) (freed : List ℕ) : Type 0 where
   pub spelled : spells_names blocks later after ≡ Ok (without_name name es)
   pub owned : (n : ℕ) → owned_pages blocks later after n + count_in n freed ≡ owned_pages blocks pages root n
-  pub keeps : (n : ℕ) → n < blocks → owned_pages blocks pages root n ≡ 0 → page_nodes blocks later n ≡ page_nodes blocks pages n
+  pub keeps : (n : ℕ) → n < blocks → owned_pages blocks pages root n ≡ 0 → later n ≡ pages n
 
 -- Whatever names the root spelled, this one named the inode. The transaction has the changed lines, and then what frees the pages that the root has no more; where the edits before
 -- lead to the pages that the view shows, all edits lead to pages in which the root spells the other names.

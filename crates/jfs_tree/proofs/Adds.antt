@@ -7,7 +7,7 @@ use Rattle.jfs_ranges.specs.declared.edit.Edit.{Edit}
 use Rattle.jfs_tree.specs.Walk.{Node, Scale}
 use Rattle.jfs_tree.specs.Spells.{footprint}
 use Rattle.jfs_tree.specs.Edit.{count_in}
-use Rattle.jfs_tree.specs.Root.{IsSpare, AddsAlways, RefusesWhereBad}
+use Rattle.jfs_tree.specs.Root.{IsSpare, AddsAlways, KeepsAlways, RefusesWhereBad}
 use Rattle.jfs_tree.specs.Call.{nodes}
 use Rattle.jfs_tree.specs.Draft.{shown}
 use Rattle.jfs_tree.specs.Tell.{TellsDraft}
@@ -41,12 +41,14 @@ module _ {P E : Type 0} (s : Scale P E) (x : E) (node : List ℕ → Node P E) w
 
   -- the draft's pages are those that all edits lead to
   pub adds_told : (blocks : ℕ) (image : Image) (root after : Node P E) (ds drafts : List Drafted) (free left stack rest : List ℕ) (tx later : List Edit) → HasPages blocks after → ((bytes : List ℕ) → HasPages blocks (node bytes)) → ds ≡ []
-      → AddsAlways s x (nodes node ds image) (nodes node drafts image) root after stack rest → TellsDraft blocks image drafts tx later → stack ≡ reverse free → left ≡ reverse rest → AddsTold s node blocks (page_of image) x root after free left tx later
-  adds_told blocks image root after ds drafts free left stack rest tx later top_has has ed given told is_stack is_left = λ base leads es spelled apart spare.
+      → AddsAlways s x (nodes node ds image) (nodes node drafts image) root after stack rest → KeepsAlways s x (nodes node ds image) root image ds drafts stack rest → TellsDraft blocks image drafts tx later → stack ≡ reverse free → left ≡ reverse rest → AddsTold s node blocks (page_of image) x root after free left tx later
+  adds_told blocks image root after ds drafts free left stack rest tx later top_has has ed given kept told is_stack is_left = λ base leads es spelled apart spare.
       let adds : AddsAlways s x (nodes node [] image) (nodes node drafts image) root after stack rest = subst (λ d. AddsAlways s x (nodes node d image) (nodes node drafts image) root after stack rest) ed given in
       let counts = λ (n : ℕ). ap (count_in n) is_stack ∙ count_reverse n free in
       let lefts = λ (n : ℕ). ap (count_in n) is_left ∙ count_reverse n rest in
-      let a = adds es spelled apart (subst (IsSpare s (read_as node (page_of image)) root) (sym is_stack) (spare_reversed (read_as node (page_of image)) root free spare)) in
+      let clear = subst (IsSpare s (read_as node (page_of image)) root) (sym is_stack) (spare_reversed (read_as node (page_of image)) root free spare) in
+      let a = adds es spelled apart clear in
+      let keeps = (subst (λ (d : List Drafted). KeepsAlways s x (nodes node d image) root image d drafts stack rest) ed kept) es spelled apart clear in
       let drafted = nodes node drafts image in
       let now = read_as node (after_tx base later) in
       let agree = λ (n : ℕ) (h : n < blocks). ap node (told n h (base n) (leads n h).0 (leads n h).1) in
@@ -56,7 +58,7 @@ module _ {P E : Type 0} (s : Scale P E) (x : E) (node : List ℕ → Node P E) w
         spelled = spells_frame s drafted now after frame ∙ a.spelled;
         added = a.added;
         owned = λ n. (let f = footprint_frame s drafted now after frame n in let p = a.pages n in let c = counts n in let l = lefts n in omega (arith, f, p, c, l));
-        keeps = λ n h z e. agree n h ∙ a.keeps n z (counts n ∙ e ∙ lefts n);
+        keeps = λ n h z e. told n h (base n) (leads n h).0 (leads n h).1 ∙ keeps n z (counts n ∙ e ∙ lefts n);
       }
 
   -- ---- room

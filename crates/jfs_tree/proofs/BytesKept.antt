@@ -1,13 +1,13 @@
 -- Pages that keep their bytes, not just what they read as.
-use Rattle.std.proofs.Common.{◌≡◌, ◌≢◌, ◌≤◌, inl, inr, refl, sym, ap, ◌∙◌, subst, ℕ, zero, suc, ◌+◌, ◌==◌, if◌then◌else◌, List, [], ◌∷◌, ◌++◌, Option, Some, None, Result, Ok, Err, IfOk, IfSome, OnOk, arith}
+use Rattle.std.proofs.Common.{◌≡◌, ◌≤◌, inl, inr, refl, sym, ap, ◌∙◌, subst, ℕ, zero, suc, ◌+◌, List, [], ◌∷◌, ◌++◌, Option, Some, None, Result, Ok, Err, IfOk, IfSome, OnOk, arith}
 use Rattle.jfs_disk.specs.Image.{Image, page_of}
-use Rattle.jfs_tree.specs.Walk.{Child, Node, Leaf, Inner, Scale, Rises, IsOrder, times, walk}
-use Rattle.jfs_tree.specs.Spells.{no_page, with_root, top, tree_of, spells, footprint}
-use Rattle.jfs_tree.specs.Edit.{IsApart, EndsAt, Grew, count_in, own}
+use Rattle.jfs_tree.specs.Walk.{Child, Node, Inner, Scale, Rises, IsOrder, times, walk}
+use Rattle.jfs_tree.specs.Spells.{no_page, with_root, top, tree_of, footprint}
+use Rattle.jfs_tree.specs.Edit.{EndsAt, Grew, count_in, own}
 use Rattle.jfs_tree.specs.Form.{AllBelow, IsFront, LeadsDown, children_of}
 use Rattle.jfs_tree.specs.Draft.{shown}
 use Rattle.jfs_tree.specs.Call.{KeepsBytes, PutsOne, PutsTwo, StaysOff, StaysTaken, nodes, pages_of}
-use Rattle.jfs_tree.specs.Root.{IsSpare, KeepsAlways}
+use Rattle.jfs_tree.specs.Root.{KeepsAlways}
 use Rattle.jfs_tree.specs.Shrink.{Shrank}
 use Rattle.jfs_tree.specs.RootLoss.{KeepsOthers}
 use Rattle.jfs_tree.specs.declared.draft.Drafted.{Drafted}

@@ -1,5 +1,5 @@
 -- An entry that was taken out of the tree, seen from the transaction.
-use Rattle.std.proofs.Common.{◌≡◌, ◌<◌, refl, sym, ap, ◌∙◌, subst, ℕ, ◌+◌, List, [], ◌∷◌, ◌++◌, length, take, get_or, Option, Some, None, append_assoc, arith}
+use Rattle.std.proofs.Common.{◌≡◌, ◌<◌, refl, sym, ap, ◌∙◌, ℕ, ◌+◌, List, [], ◌∷◌, ◌++◌, length, take, get_or, Option, Some, None, append_assoc, arith}
 use Rattle.std.proofs.lemmas.Grind.{take_at_read}
 use Rattle.jfs_bits.specs.declared.descriptor.Pxd.{Pxd}
 use Rattle.jfs_bits.specs.declared.rule.PageKind.{PageKind}
@@ -14,7 +14,7 @@ use Rattle.jfs_tree.specs.Draft.{shown}
 use Rattle.jfs_tree.specs.Tell.{TellsDraft, TellsExactly}
 use Rattle.jfs_tree.specs.Fresh.{after_tx, HasPages}
 use Rattle.jfs_tree.specs.Adds.{read_as}
-use Rattle.jfs_tree.specs.RootLoss.{Removes, RemovesAlways}
+use Rattle.jfs_tree.specs.RootLoss.{KeepsOthers, RemovesAlways}
 use Rattle.jfs_tree.specs.Removes.{RemovesTold, TellsFreed, page_frees}
 use Rattle.jfs_tree.specs.declared.draft.Drafted.{Drafted}
 use Rattle.jfs_tree.proofs.Footprint.{spells_frame, footprint_frame}
@@ -53,10 +53,10 @@ edits_freed blocks image kind drafts tx copy later more ns is e told =
 module _ {P E : Type 0} (s : Scale P E) (x : E) (node : List ℕ → Node P E) (blocks : ℕ) (image : Image) (root after : Node P E) (drafts : List Drafted) (freed : List ℕ) (tx later : List Edit)
     (top_has : HasPages blocks after) (has : (bytes : List ℕ) → HasPages blocks (node bytes)) where
   -- the draft's pages are those that all edits lead to
-  pub removes_told : (found : Option E) → RemovesAlways s x (pages_of node image) (nodes node drafts image) root after freed found → TellsDraft blocks image drafts tx later → TellsFreed freed tx later
+  pub removes_told : (found : Option E) → RemovesAlways s x (pages_of node image) (nodes node drafts image) root after freed found → KeepsOthers s (pages_of node image) root image drafts → TellsDraft blocks image drafts tx later → TellsFreed freed tx later
       → RemovesTold s node blocks (page_of image) x root after tx later found
-  removes_told None given told edits = λ es spelled. ((given es spelled).0, tt)
-  removes_told (Some e) given told edits = λ es spelled.
+  removes_told None given kept told edits = λ es spelled. ((given es spelled).0, tt)
+  removes_told (Some e) given kept told edits = λ es spelled.
       let a = given es spelled in (
         a.0,
         (
@@ -72,7 +72,7 @@ module _ {P E : Type 0} (s : Scale P E) (x : E) (node : List ℕ → Node P E) (
                 spelled = spells_frame s drafted now after frame ∙ a.1.spelled;
                 gone = a.1.gone;
                 owned = λ n. (let f = footprint_frame s drafted now after frame n in let p = a.1.pages n in omega (arith, f, p));
-                keeps = λ n h z. agree n h ∙ a.1.keeps n z;
+                keeps = λ n h z. told n h (base n) (leads n h).0 (leads n h).1 ∙ kept es spelled n z;
               },
         ),
       )

@@ -13,19 +13,19 @@ use Rattle.jfs_tree.specs.declared.form.TreeError.TheVariants.{View, Bad, Memory
 abbrev pub read_as : {P E : Type 0} → (List ℕ → Node P E) → (ℕ → List ℕ) → ℕ → Node P E
 read_as node pages n = node (pages n)
 
--- A root that spelled these entries spells one more. The pages that it has more are the free ones that aren't left, and no other page of the file system reads otherwise.
-pub record HasOneMore {P E : Type 0} (s : Scale P E) (blocks : ℕ) (x : E) (es : List E) (old new : ℕ → Node P E) (root after : Node P E) (free left : List ℕ) : Type 0 where
+-- A root that spelled these entries spells one more. The pages that it has more are the free ones that aren't left, and each other page of the file system that isn't its own keeps its bytes.
+pub record HasOneMore {P E : Type 0} (s : Scale P E) (node : List ℕ → Node P E) (blocks : ℕ) (x : E) (es : List E) (pages later : ℕ → List ℕ) (root after : Node P E) (free left : List ℕ) : Type 0 where
   pub list : List E
-  pub spelled : spells s new after ≡ Ok list
+  pub spelled : spells s (read_as node later) after ≡ Ok list
   pub added : Added x es list
-  pub owned : (n : ℕ) → footprint s new after n + count_in n left ≡ footprint s old root n + count_in n free
-  pub keeps : (n : ℕ) → n < blocks → footprint s old root n ≡ 0 → count_in n free ≡ count_in n left → new n ≡ old n
+  pub owned : (n : ℕ) → footprint s (read_as node later) after n + count_in n left ≡ footprint s (read_as node pages) root n + count_in n free
+  pub keeps : (n : ℕ) → n < blocks → footprint s (read_as node pages) root n ≡ 0 → count_in n free ≡ count_in n left → later n ≡ pages n
 
 -- Whatever list the root spelled, if the entry is apart from it and the free blocks aren't pages of the tree: where the edits before lead to the pages that the view shows,
 -- all edits lead to pages in which the root spells one entry more.
 abbrev pub AddsTold : {P E : Type 0} → Scale P E → (List ℕ → Node P E) → ℕ → (ℕ → List ℕ) → E → Node P E → Node P E → List ℕ → List ℕ → List Edit → List Edit → Type 0
 AddsTold {E = E} s node blocks pages x root after free left tx later = (base : ℕ → List ℕ) → LeadsTo blocks base tx pages → (es : List E) → spells s (read_as node pages) root ≡ Ok es → IsApart s x es → IsSpare s (read_as node pages) root free
-    → HasOneMore s blocks x es (read_as node pages) (read_as node (after_tx base later)) root after free left
+    → HasOneMore s node blocks x es pages (after_tx base later) root after free left
 
 -- An entry is refused only where no page on its way has room, in whatever list the root spells.
 abbrev pub RefusesWhereFull : {P E : Type 0} → Scale P E → E → (ℕ → Node P E) → Node P E → List ℕ → Type 0 → TreeError → Type 0

@@ -19,17 +19,17 @@ page_frees (n ∷ ns) = NoRedo n ∷ Free (record { len = 1; addr = n }) ∷ pag
 abbrev pub TellsFreed : List ℕ → List Edit → List Edit → Type 0
 TellsFreed freed tx later = (lines : List Edit) × AllLines lines × (later ≡ tx ++ (lines ++ page_frees freed))
 
--- A root that spelled these entries spells all but one. The pages that it has no more are the freed ones, and no page outside its tree reads otherwise.
-pub record HasOneLess {P E : Type 0} (s : Scale P E) (blocks : ℕ) (e : E) (es : List E) (old new : ℕ → Node P E) (root after : Node P E) (freed : List ℕ) : Type 0 where
+-- A root that spelled these entries spells all but one. The pages that it has no more are the freed ones, and each page of the file system that isn't its own keeps its bytes.
+pub record HasOneLess {P E : Type 0} (s : Scale P E) (node : List ℕ → Node P E) (blocks : ℕ) (e : E) (es : List E) (pages later : ℕ → List ℕ) (root after : Node P E) (freed : List ℕ) : Type 0 where
   pub list : List E
-  pub spelled : spells s new after ≡ Ok list
+  pub spelled : spells s (read_as node later) after ≡ Ok list
   pub gone : TakenOut e es list
-  pub owned : (n : ℕ) → footprint s new after n + count_in n freed ≡ footprint s old root n
-  pub keeps : (n : ℕ) → n < blocks → footprint s old root n ≡ 0 → new n ≡ old n
+  pub owned : (n : ℕ) → footprint s (read_as node later) after n + count_in n freed ≡ footprint s (read_as node pages) root n
+  pub keeps : (n : ℕ) → n < blocks → footprint s (read_as node pages) root n ≡ 0 → later n ≡ pages n
 
 -- Whatever list the root spelled, the entry in it that shares a place with x was taken out: where the edits before lead to the pages that the view shows, all edits lead
 -- to pages in which the root spells one entry less. The last edits free the pages that it has no more.
 abbrev pub RemovesTold : {P E : Type 0} → Scale P E → (List ℕ → Node P E) → ℕ → (ℕ → List ℕ) → E → Node P E → Node P E → List Edit → List Edit → Option E → Type 0
 RemovesTold {E = E} s node blocks pages x root after tx later found = (es : List E) → spells s (read_as node pages) root ≡ Ok es → (found ≡ found_in s x es)
     × IfSome found (λ e. (freed : List ℕ) × TellsFreed freed tx later
-    × ((base : ℕ → List ℕ) → LeadsTo blocks base tx pages → HasOneLess s blocks e es (read_as node pages) (read_as node (after_tx base later)) root after freed))
+    × ((base : ℕ → List ℕ) → LeadsTo blocks base tx pages → HasOneLess s node blocks e es pages (after_tx base later) root after freed))

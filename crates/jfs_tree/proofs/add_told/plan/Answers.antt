@@ -22,7 +22,7 @@ returns-clause-adds g c tells =
     ok_maps c.finish.result (c.finish.ensures.told tells) c.finish.ensures.rest (λ p told rest.
     adds_told g.F.PageForm.scale c.args.x.now (g.F.PageForm.node c.args.form.now) blocks image (g.F.PageForm.node c.args.top.now c.args.root.now) (g.F.PageForm.node c.args.top.now c.add_entry.new.root)
     c.new-draft.result.pages.items c.add_entry.new.draft.pages.items (blocks_of c.args.fresh.now) (blocks_of p.fresh) c.reversed-stack.result.items c.add_entry.new.fresh.items c.args.tx.now p.tx
-    (c.requires.children c.add_entry.new.root).0 (λ bytes. (c.requires.children bytes).1) c.new-draft.ensures (c.in_default-add_entry.ensures.adds tells)
+    (c.requires.children c.add_entry.new.root).0 (λ bytes. (c.requires.children bytes).1) c.new-draft.ensures (c.in_default-add_entry.ensures.adds tells) (c.in_default-add_entry.ensures.keeps tells)
     (told_as (g.V.PageView.block_count c.add_entry.new.view) blocks (g.V.PageView.image c.add_entry.new.view) image c.add_entry.new.draft.pages.items c.args.tx.now p.tx c.add_entry.ensures.count_of_blocks (c.add_entry.ensures.image tells) told)
     (c.reversed-stack.ensures ∙ ap reverse c.in-Ok-blocks_of.ensures)
     (left_named (blocks_of c.args.fresh.now) c.as_slice.result.now c.reversed-stack.result.items c.add_entry.new.fresh.items (blocks_of p.fresh) c.len.result

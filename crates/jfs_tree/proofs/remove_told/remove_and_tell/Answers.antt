@@ -15,6 +15,6 @@ returns-in-Ok-tell_freed-clause-removes g c tells =
     subst (RemovesTold g.F.PageForm.scale node blocks (page_of image) c.args.x.now (g.F.PageForm.node c.args.top.now c.args.root.now) (g.F.PageForm.node c.args.top.now c.remove_entry.new.root) c.args.tx.now later) c.in-Ok-Some.field-0-is
     (removes_told g.F.PageForm.scale c.args.x.now node blocks image (g.F.PageForm.node c.args.top.now c.args.root.now) (g.F.PageForm.node c.args.top.now c.remove_entry.new.root) drafts c.remove_entry.new.freed.items c.args.tx.now later
     (c.requires.children c.remove_entry.new.root).0 (λ bytes. (c.requires.children bytes).1) c.in-Ok-Some.field-0
-    (c.in-Ok-Some.ensures.removes tells)
+    (c.in-Ok-Some.ensures.removes tells) (c.in-Ok-Some.ensures.keeps tells)
     (told_as (g.V.PageView.block_count c.remove_entry.new.view) blocks (g.V.PageView.image c.remove_entry.new.view) image drafts c.args.tx.now later c.in-Ok-Some.ensures.count_of_blocks (c.in-Ok-Some.ensures.image tells) (c.in-Ok-tell_freed.ensures.told tells))
     (subst (λ (f : List ℕ). TellsFreed f c.args.tx.now later) c.as_slice.ensures.value (c.in-Ok-tell_freed.ensures.edits tells)))
