@@ -1,31 +1,25 @@
--- An entry that was added to the tree, seen from the transaction.
-use Rattle.std.proofs.Common.{sym, ◌≡◌, ◌<◌, ap, ◌∙◌, subst, ℕ, ◌+◌, List, [], ◌∷◌, length, map, true, Result, Ok, Err, IfOk, arith}
-use Rattle.std.specs.Prelude.{reverse, nat_le}
+-- An extent that was added to the tree, and one that was refused, by the file's root and pages.
+use Rattle.std.proofs.Common.{◌≡◌, ◌<◌, ◌⊎◌, inl, inr, subst, ℕ, suc, ◌+◌, List, [], ◌∷◌, length, map, true, arith}
+use Rattle.std.specs.Prelude.{nat_le}
 use Rattle.jfs_bits.specs.declared.extent.Xad.{Xad}
 use Rattle.jfs_disk.specs.Image.{Image, page_of}
 use Rattle.jfs_ranges.specs.declared.edit.Edit.{Edit}
 use Rattle.jfs_tree.specs.Walk.{Node}
-use Rattle.jfs_tree.specs.Spells.{footprint}
-use Rattle.jfs_tree.specs.Edit.{count_in}
-use Rattle.jfs_tree.specs.Root.{IsSpare, AddsAlways, RefusesWhereBad}
-use Rattle.jfs_tree.specs.Call.{nodes}
-use Rattle.jfs_tree.specs.Draft.{shown}
-use Rattle.jfs_tree.specs.Tell.{TellsDraft}
-use Rattle.jfs_tree.specs.declared.draft.Drafted.{Drafted}
+use Rattle.jfs_tree.specs.Root.{RefusesWhereBad}
+use Rattle.jfs_tree.specs.Fresh.{AllPages, HasPages}
+use Rattle.jfs_tree.specs.Adds.{read_as, on_page, AddsTold, RefusesWhereFull}
+use Rattle.jfs_tree.specs.Room.{FullDown, FullUp, FullFrom, TakesWhereFull}
 use Rattle.jfs_tree.specs.declared.form.TreeError.{TreeError}
 use Rattle.jfs_tree.specs.declared.form.TreeError.TheVariants.{View, Bad, Memory}
-use Rattle.jfs_tree.proofs.Footprint.{spells_frame, footprint_frame}
-use Rattle.jfs_tree.proofs.Within.{AllPages, HasPages, footprint_within}
 use Rattle.jfs_xtpage.specs.declared.head.XtForm.{XtForm}
 use Rattle.jfs_xtpage.specs.declared.head.XtForm.TheVariants.{Full}
 use Rattle.jfs_xtpage.specs.Page.{entries_of}
-use Rattle.jfs_xtree.specs.Node.{xt_scale, xt_node, is_within, all_within, child_of}
-use Rattle.jfs_xtree.specs.Spells.{root_form, root_node, page_nodes, tree_error}
+use Rattle.jfs_xtree.specs.Node.{xt_scale, xt_node, is_within, all_within, child_of, HasNoRoom}
+use Rattle.jfs_xtree.specs.Spells.{root_form, page_nodes, root_node, tree_error}
 use Rattle.jfs_xtree.specs.Errors.{handed_on}
-use Rattle.jfs_xtree.specs.Adding.{after_tx, AddsExtent}
+use Rattle.jfs_xtree.specs.Adding.{AddsExtent, NoRoomAtRoot, NoRoomOnWay, TakesPages, RefusesFull}
 use Rattle.std.proofs.lemmas.Bool.{leb-true}
 use Rattle.jfs_xtree.proofs.Reading.{and_true, inner_is}
-use Rattle.jfs_xtree.proofs.Runs.{count_reverse}
 
 one_within : (blocks : ℕ) (x : Xad) → is_within blocks x ≡ true → x.at.addr < blocks
 one_within blocks x w = let t = and_true (nat_le 1 x.at.len) (nat_le (x.at.addr + x.at.len) blocks) w in let a = leb-true 1 x.at.len t.0 in let b = leb-true (x.at.addr + x.at.len) blocks t.1 in omega (arith, a, b)
@@ -37,59 +31,70 @@ pages_all blocks (x ∷ es) w = let t = and_true (is_within blocks x) (all_withi
 pub has_pages : (form : XtForm) (blocks : ℕ) (bytes : List ℕ) → HasPages blocks (xt_node form blocks bytes)
 has_pages form blocks bytes cs e = let t = inner_is form blocks bytes cs e in subst (AllPages blocks) t.2 (pages_all blocks (entries_of bytes) t.0.range)
 
+pub adds_as : (b blocks : ℕ) (form : XtForm) (image : Image) (x : Xad) (root after free left : List ℕ) (tx later : List Edit) → b ≡ blocks → form ≡ root_form (length root)
+    → AddsTold xt_scale (xt_node Full b) blocks (page_of image) x (xt_node form b root) (xt_node form b after) free left tx later → AddsExtent blocks (page_of image) x root after free left tx later
+adds_as b blocks form image x root after free left tx later eb ef told =
+    subst (λ f. AddsTold xt_scale (xt_node Full blocks) blocks (page_of image) x (xt_node f blocks root) (xt_node f blocks after) free left tx later) ef
+    (subst (λ n. AddsTold xt_scale (xt_node Full n) blocks (page_of image) x (xt_node form n root) (xt_node form n after) free left tx later) eb told)
+
+-- ---- what is refused
+
 refuses_on : (x : Xad) (pages : ℕ → Node ℕ Xad) (root : Node ℕ Xad) (free : List ℕ) (e : TreeError) → RefusesWhereBad xt_scale x pages root free e → RefusesWhereBad xt_scale x pages root free (tree_error (handed_on e))
 refuses_on x pages root free (View e) h = h
 refuses_on x pages root free (Bad page rule) h = h
 refuses_on x pages root free Memory h = h
 
-spare_reversed : (pages : ℕ → Node ℕ Xad) (root : Node ℕ Xad) (free : List ℕ) → IsSpare xt_scale pages root free → IsSpare xt_scale pages root (reverse free)
-spare_reversed pages root free spare = record {
-  once = λ n. (let h = spare.once n in let c = count_reverse n free in omega (arith, h, c));
-  apart = λ n h. spare.apart n (let c = count_reverse n free in omega (arith, h, c));
-}
-
-refuses_free : (x : Xad) (pages : ℕ → Node ℕ Xad) (root : Node ℕ Xad) (free : List ℕ) (e : TreeError) → RefusesWhereBad xt_scale x pages root (reverse free) e → RefusesWhereBad xt_scale x pages root free e
-refuses_free x pages root free (View e) h = h
-refuses_free x pages root free (Bad page rule) h = λ es spelled apart spare. h es spelled apart (spare_reversed pages root free spare)
-refuses_free x pages root free Memory h = h
-
-pub refuses_as : (b blocks : ℕ) (form rf : XtForm) (x : Xad) (image : Image) (root stack free : List ℕ) (ds : List Drafted) (e : TreeError) → b ≡ blocks → form ≡ rf → stack ≡ reverse free → ds ≡ [] → RefusesWhereBad xt_scale x (nodes (xt_node Full b) ds image) (xt_node form b root) stack e
+pub refuses_as : (b blocks : ℕ) (form rf : XtForm) (x : Xad) (image : Image) (root free : List ℕ) (e : TreeError) → b ≡ blocks → form ≡ rf → RefusesWhereBad xt_scale x (read_as (xt_node Full b) (page_of image)) (xt_node form b root) free e
     → RefusesWhereBad xt_scale x (page_nodes blocks (page_of image)) (xt_node rf blocks root) free (tree_error (handed_on e))
-refuses_as b blocks form rf x image root stack free ds e eb ef es ed h =
-    refuses_on x (page_nodes blocks (page_of image)) (xt_node rf blocks root) free e (refuses_free x (page_nodes blocks (page_of image)) (xt_node rf blocks root) free e
-    (subst (λ f. RefusesWhereBad xt_scale x (nodes (xt_node Full blocks) [] image) (xt_node f blocks root) (reverse free) e) ef
-    (subst (λ k. RefusesWhereBad xt_scale x (nodes (xt_node Full k) [] image) (xt_node form k root) (reverse free) e) eb
-    (subst (λ g. RefusesWhereBad xt_scale x (nodes (xt_node Full b) [] image) (xt_node form b root) g e) es
-    (subst (λ d. RefusesWhereBad xt_scale x (nodes (xt_node Full b) d image) (xt_node form b root) stack e) ed h)))))
+refuses_as b blocks form rf x image root free e eb ef h =
+    refuses_on x (page_nodes blocks (page_of image)) (xt_node rf blocks root) free e
+    (subst (λ f. RefusesWhereBad xt_scale x (page_nodes blocks (page_of image)) (xt_node f blocks root) free e) ef
+    (subst (λ n. RefusesWhereBad xt_scale x (read_as (xt_node Full n) (page_of image)) (xt_node form n root) free e) eb h))
 
--- the draft's pages are those that all edits lead to
-pub adds_extent : (b blocks : ℕ) (form : XtForm) (image : Image) (x : Xad) (root after : List ℕ) (ds drafts : List Drafted) (free left stack rest : List ℕ) (tx later : List Edit) → b ≡ blocks → form ≡ root_form (length root) → ds ≡ []
-    → AddsAlways xt_scale x (nodes (xt_node Full b) ds image) (nodes (xt_node Full b) drafts image) (xt_node form b root) (xt_node form b after) stack rest
-    → TellsDraft blocks image drafts tx later → stack ≡ reverse free → left ≡ reverse rest → AddsExtent blocks (page_of image) x root after free left tx later
-adds_extent b blocks form image x root after ds drafts free left stack rest tx later eb ef ed given told is_stack is_left = λ base leads es spelled apart spare.
-    let adds : AddsAlways xt_scale x (nodes (xt_node Full blocks) [] image) (nodes (xt_node Full blocks) drafts image) (root_node blocks root) (xt_node (root_form (length root)) blocks after) stack rest =
-    subst (λ f. AddsAlways xt_scale x (nodes (xt_node Full blocks) [] image) (nodes (xt_node Full blocks) drafts image) (xt_node f blocks root) (xt_node f blocks after) stack rest) ef
-    (subst (λ k. AddsAlways xt_scale x (nodes (xt_node Full k) [] image) (nodes (xt_node Full k) drafts image) (xt_node form k root) (xt_node form k after) stack rest) eb
-    (subst (λ d. AddsAlways xt_scale x (nodes (xt_node Full b) d image) (nodes (xt_node Full b) drafts image) (xt_node form b root) (xt_node form b after) stack rest) ed given)) in
-    let counts = λ (n : ℕ). ap (count_in n) is_stack ∙ count_reverse n free in
-    let lefts = λ (n : ℕ). ap (count_in n) is_left ∙ count_reverse n rest in
-    let a = adds es spelled apart (subst (IsSpare xt_scale (page_nodes blocks (page_of image)) (root_node blocks root)) (sym is_stack) (spare_reversed (page_nodes blocks (page_of image)) (root_node blocks root) free spare)) in
-    let drafted = nodes (xt_node Full blocks) drafts image in
-    let now = page_nodes blocks (after_tx base later) in
-    let node = xt_node (root_form (length root)) blocks after in
-    let agree = λ (n : ℕ) (h : n < blocks). ap (xt_node Full blocks) (told n h (base n) (leads n h).0 (leads n h).1) in
-    let frame = λ (n : ℕ) (h : 0 < footprint xt_scale drafted node n). agree n (footprint_within xt_scale drafted node n blocks (has_pages (root_form (length root)) blocks after) (λ m. has_pages Full blocks (shown drafts image m)) h) in
-    record {
-      list = a.list;
-      spelled = spells_frame xt_scale drafted now node frame ∙ a.spelled;
-      added = a.added;
-      owned = λ n. (let f = footprint_frame xt_scale drafted now node frame n in let p = a.pages n in let c = counts n in let l = lefts n in omega (arith, f, p, c, l));
-      keeps = λ n h z e. agree n h ∙ a.keeps n z (counts n ∙ e ∙ lefts n);
-    }
+-- ---- where there is no room: a page is full where it lacks room for one extent
 
-pub told_as : (now blocks : ℕ) (view image : Image) (drafts : List Drafted) (tx later : List Edit) → now ≡ blocks → view ≡ image → TellsDraft now view drafts tx later → TellsDraft blocks image drafts tx later
-told_as now blocks view image drafts tx later en ei told = subst (λ i. TellsDraft blocks i drafts tx later) ei (subst (λ b. TellsDraft b view drafts tx later) en told)
+-- what a call on the tree says of a root
+abbrev FullTwice : ℕ → (ℕ → List ℕ) → XtForm → Xad → List ℕ → Type 0
+FullTwice blocks pages form x root = FullFrom xt_scale x (read_as (xt_node Full blocks) pages) (on_page (HasNoRoom Full) pages) (on_page (HasNoRoom Full) pages) (xt_node form blocks root)
+    (HasNoRoom form root × HasNoRoom form root) (λ key. HasNoRoom form root × HasNoRoom form root)
 
-pub ok_maps : {A E : Type 0} {P Q R : A → Type 0} (r : Result A E) → IfOk r P → IfOk r Q → ((a : A) → P a → Q a → R a) → IfOk r R
-ok_maps (Ok a) p q f = f a p q
-ok_maps (Err e) p q f = p
+abbrev TakesTwice : ℕ → (ℕ → List ℕ) → XtForm → Xad → List ℕ → List ℕ → List ℕ → Type 0
+TakesTwice blocks pages form x root free left = TakesWhereFull xt_scale x (read_as (xt_node Full blocks) pages) (on_page (HasNoRoom Full) pages) (on_page (HasNoRoom Full) pages) (xt_node form blocks root)
+    (HasNoRoom form root × HasNoRoom form root) (λ key. HasNoRoom form root × HasNoRoom form root) free left
+
+full_once : (blocks : ℕ) (pages : ℕ → List ℕ) (x : Xad) (root : List ℕ) → FullTwice blocks pages (root_form (length root)) x root → NoRoomOnWay blocks pages x root
+full_once blocks pages x root (inl here) = inl (here.0, here.1.0)
+full_once blocks pages x root (inr down) = inr (down.0, down.1, down.2, down.3, down.4, down.5, down.6.0)
+
+full_on : (blocks : ℕ) (pages : ℕ → List ℕ) (x : Xad) (root free : List ℕ) (e : TreeError)
+    → RefusesWhereFull xt_scale x (page_nodes blocks pages) (root_node blocks root) free (FullTwice blocks pages (root_form (length root)) x root) e → RefusesFull blocks pages x root free (tree_error (handed_on e))
+full_on blocks pages x root free (View e) h = h
+full_on blocks pages x root free (Bad page rule) h = λ es spelled apart spare. full_once blocks pages x root (h es spelled apart spare)
+full_on blocks pages x root free Memory h = h
+
+pub full_as : (b blocks : ℕ) (form : XtForm) (x : Xad) (image : Image) (root free : List ℕ) (e : TreeError) → b ≡ blocks → form ≡ root_form (length root)
+    → RefusesWhereFull xt_scale x (read_as (xt_node Full b) (page_of image)) (xt_node form b root) free (FullTwice b (page_of image) form x root) e → RefusesFull blocks (page_of image) x root free (tree_error (handed_on e))
+full_as b blocks form x image root free e eb ef h =
+    full_on blocks (page_of image) x root free e
+    (subst (λ f. RefusesWhereFull xt_scale x (page_nodes blocks (page_of image)) (xt_node f blocks root) free (FullTwice blocks (page_of image) f x root) e) ef
+    (subst (λ n. RefusesWhereFull xt_scale x (read_as (xt_node Full n) (page_of image)) (xt_node form n root) free (FullTwice n (page_of image) form x root) e) eb h))
+
+takes_once : (blocks : ℕ) (pages : ℕ → List ℕ) (x : Xad) (root free left : List ℕ) → TakesTwice blocks pages (root_form (length root)) x root free left → TakesPages blocks pages x root free left
+takes_once blocks pages x root free left (inl none) = inl none
+takes_once blocks pages x root free left (inr (inl here)) = inr (inl (here.0, here.1.0, here.2))
+takes_once blocks pages x root free left (inr (inr down)) = inr (inr (down.0, down.1, down.2, down.3, by down.4))
+  where
+    full : ℕ → Type 0
+    full = on_page (HasNoRoom Full) pages
+
+    by : (((taken : ℕ) × FullUp xt_scale x (page_nodes blocks pages) full full down.2 down.1 taken × (length free ≡ length left + taken))
+        ⊎ (FullDown xt_scale x (page_nodes blocks pages) full full down.2 down.1 × ((key : ℕ) × (NoRoomAtRoot root × NoRoomAtRoot root)) × (length free ≡ length left + suc down.2)))
+        → (((taken : ℕ) × FullUp xt_scale x (page_nodes blocks pages) full full down.2 down.1 taken × (length free ≡ length left + taken))
+        ⊎ (FullDown xt_scale x (page_nodes blocks pages) full full down.2 down.1 × ((key : ℕ) × NoRoomAtRoot root) × (length free ≡ length left + suc down.2)))
+    by (inl up) = inl up
+    by (inr all) = inr (all.0, (all.1.0, all.1.1.0), all.2)
+
+pub takes_as : (b blocks : ℕ) (form : XtForm) (x : Xad) (image : Image) (root free left : List ℕ) → b ≡ blocks → form ≡ root_form (length root) → TakesTwice b (page_of image) form x root free left → TakesPages blocks (page_of image) x root free left
+takes_as b blocks form x image root free left eb ef h =
+    takes_once blocks (page_of image) x root free left
+    (subst (λ f. TakesTwice blocks (page_of image) f x root free left) ef (subst (λ n. TakesTwice n (page_of image) form x root free left) eb h))

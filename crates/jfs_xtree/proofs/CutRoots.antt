@@ -34,8 +34,9 @@ use Rattle.jfs_xtree.specs.Laws.{order, ends_after}
 use Rattle.jfs_xtree.specs.Node.{xt_scale, xt_node, fits_flag, fits_max, is_leaf, child_of, all_within, IsSound, SameKind}
 use Rattle.jfs_xtree.specs.Spells.{root_form, page_nodes, tree_error}
 use Rattle.jfs_xtree.specs.Errors.{handed_on}
-use Rattle.jfs_xtree.specs.Adding.{EndsWith, after_tx}
-use Rattle.jfs_xtree.specs.Cutting.{kept_below, gone_past, page_frees, run_frees, HasOnlyBelow, CutsExtents}
+use Rattle.jfs_tree.specs.Fresh.{EndsWith, after_tx}
+use Rattle.jfs_tree.specs.Removes.{page_frees}
+use Rattle.jfs_xtree.specs.Cutting.{kept_below, gone_past, run_frees, HasOnlyBelow, CutsExtents}
 use Rattle.jfs_xtree.specs.CutParts.{CutPart, CutsNode, BreaksUnder, KeepsSome, naming, shows, if_kept}
 use Rattle.jfs_xtree.proofs.Reading.{leaf_is, sound_leaf, sound_inner}
 use Rattle.jfs_xtree.proofs.Pages.{rises_less, rises_back}

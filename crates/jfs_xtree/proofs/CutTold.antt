@@ -4,22 +4,13 @@ use Rattle.std.proofs.lemmas.Grind.{take_at_read}
 use Rattle.jfs_bits.specs.declared.descriptor.Pxd.{Pxd}
 use Rattle.jfs_disk.specs.Image.{Image}
 use Rattle.jfs_ranges.specs.declared.edit.Edit.{Edit}
-use Rattle.jfs_ranges.specs.declared.edit.Edit.TheVariants.{NoRedo, Free}
+use Rattle.jfs_ranges.specs.declared.edit.Edit.TheVariants.{Free}
 use Rattle.jfs_ranges.specs.Apply.{apply_edit, apply_tx}
+use Rattle.jfs_tree.specs.Removes.{page_frees}
 use Rattle.jfs_tree.specs.Tell.{TellsDraft}
 use Rattle.jfs_tree.specs.declared.draft.Drafted.{Drafted}
-use Rattle.jfs_xtree.specs.Cutting.{page_frees, run_frees}
-
-pages_last : (ns : List ℕ) (n : ℕ) → page_frees (ns ++ n ∷ []) ≡ page_frees ns ++ NoRedo n ∷ Free (record { len = 1; addr = n }) ∷ []
-pages_last [] n = refl
-pages_last (m ∷ ns) n = ap (λ es. NoRedo m ∷ Free (record { len = 1; addr = m }) ∷ es) (pages_last ns n)
-
-pub page_more : (old tx mid more : List Edit) (ns : List ℕ) (i d : ℕ) (p : Pxd) → tx ≡ old ++ page_frees (take i ns) → i < length ns → mid ≡ tx ++ NoRedo (get_or ns i d) ∷ [] → p ≡ record { len = 1; addr = get_or ns i d } → more ≡ mid ++ Free p ∷ []
-    → more ≡ old ++ page_frees (take (i + 1) ns)
-page_more old tx mid more ns i d p h l first is e =
-    let n = get_or ns i d in
-    e ∙ ap (λ es. es ++ Free p ∷ []) first ∙ append_assoc tx (NoRedo n ∷ []) (Free p ∷ []) ∙ ap (λ es. es ++ NoRedo n ∷ Free p ∷ []) h ∙ append_assoc old (page_frees (take i ns)) (NoRedo n ∷ Free p ∷ [])
-    ∙ ap (λ (q : Pxd). old ++ (page_frees (take i ns) ++ NoRedo n ∷ Free q ∷ [])) is ∙ ap (λ es. old ++ es) (sym (pages_last (take i ns) n)) ∙ ap (λ xs. old ++ page_frees xs) (sym (take_at_read ns i d l).1)
+use Rattle.jfs_tree.proofs.Removes.{told_freed}
+use Rattle.jfs_xtree.specs.Cutting.{run_frees}
 
 runs_last : (ps : List Pxd) (p : Pxd) → run_frees (ps ++ p ∷ []) ≡ run_frees ps ++ Free p ∷ []
 runs_last [] p = refl
@@ -35,11 +26,8 @@ runs_leave m [] [] content = refl
 runs_leave m [] (p ∷ ps) content = runs_leave m [] ps content
 runs_leave m (e ∷ tx) ps content = runs_leave m tx ps (apply_edit m e content)
 
-frees_leave : (m : ℕ) (tx : List Edit) (ns : List ℕ) (ps : List Pxd) (content : List ℕ) → apply_tx m (tx ++ (page_frees ns ++ run_frees ps)) content ≡ apply_tx m tx content
-frees_leave m [] [] ps content = runs_leave m [] ps content
-frees_leave m [] (n ∷ ns) ps content = frees_leave m [] ns ps content
-frees_leave m (e ∷ tx) ns ps content = frees_leave m tx ns ps (apply_edit m e content)
-
 -- a draft is still told where pages and runs are freed besides
 pub told_cut : (blocks : ℕ) (image : Image) (drafts : List Drafted) (tx copy later more : List Edit) (ns : List ℕ) (ps : List Pxd) → copy ≡ tx → more ≡ later ++ (page_frees ns ++ run_frees ps) → TellsDraft blocks image drafts copy later → TellsDraft blocks image drafts tx more
-told_cut blocks image drafts tx copy later more ns ps is e told = λ m h content l here. ap (λ es. apply_tx m es content) e ∙ frees_leave m later ns ps content ∙ told m h content l (ap (λ es. apply_tx m es content) is ∙ here)
+told_cut blocks image drafts tx copy later more ns ps is e told = λ m h content l here.
+    ap (λ es. apply_tx m es content) (e ∙ sym (append_assoc later (page_frees ns) (run_frees ps))) ∙ runs_leave m (later ++ page_frees ns) ps content
+    ∙ told_freed blocks image drafts tx copy later (later ++ page_frees ns) ns is refl told m h content l here

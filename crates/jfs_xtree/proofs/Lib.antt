@@ -5,7 +5,6 @@ pub mod Pages
 pub mod Found
 pub mod Inners
 pub mod Forms
-pub mod Runs
 pub mod Roots
 pub mod Adds
 pub mod CutFrees

@@ -3,13 +3,14 @@ use Rattle.std.specs.Prelude.{◌≡◌, ◌<◌, ◌+◌, ◌-◌, ℕ, nat_le,
 use Rattle.jfs_bits.specs.declared.extent.Xad.{Xad}
 use Rattle.jfs_bits.specs.declared.descriptor.Pxd.{Pxd}
 use Rattle.jfs_ranges.specs.declared.edit.Edit.{Edit}
-use Rattle.jfs_ranges.specs.declared.edit.Edit.TheVariants.{NoRedo, Free}
+use Rattle.jfs_ranges.specs.declared.edit.Edit.TheVariants.{Free}
 use Rattle.jfs_tree.specs.Edit.{count_in}
 use Rattle.jfs_tree.specs.Spells.{spells, footprint}
+use Rattle.jfs_tree.specs.Fresh.{EndsWith, LeadsTo, after_tx}
+use Rattle.jfs_tree.specs.Removes.{page_frees}
 use Rattle.jfs_xtpage.specs.Page.{end_of}
 use Rattle.jfs_xtree.specs.Node.{xt_scale, xt_node}
 use Rattle.jfs_xtree.specs.Spells.{page_nodes, root_form, spells_extents, owned_pages}
-use Rattle.jfs_xtree.specs.Adding.{EndsWith, LeadsTo, after_tx}
 
 -- an extent up to a block of the file, where it reaches past it; its flag and its first blocks stay
 abbrev pub up_to : ℕ → Xad → Xad
@@ -28,11 +29,7 @@ abbrev pub gone_past : ℕ → List Xad → List Pxd
 gone_past bound [] = []
 gone_past bound (x ∷ xs) = gone_of bound x ++ gone_past bound xs
 
--- the edits that free these pages, whose records are not to be redone, and these runs of blocks
-abbrev pub page_frees : List ℕ → List Edit
-page_frees [] = []
-page_frees (n ∷ ns) = NoRedo n ∷ Free (record { len = 1; addr = n }) ∷ page_frees ns
-
+-- the edits that free these runs of blocks
 abbrev pub run_frees : List Pxd → List Edit
 run_frees [] = []
 run_frees (p ∷ ps) = Free p ∷ run_frees ps

@@ -5,9 +5,9 @@ ghost use Rattle.jfs_bits.specs.Extent.{FitsXad};
 ghost use Rattle.jfs_xtpage.specs.Page.{head_of, entries_of, entry_of, count_of, end_of, IsLaidOut, IsRising};
 ghost use Rattle.jfs_xtree.specs.Node.{all_within, child_entry, lowered, LeadsAt, TakesChild};
 
-use crate::parts::page_at;
 use crate::place::end_of;
 use jfs_bits::{Pxd, Xad, get_u16};
+use jfs_tree::page_at;
 use jfs_xtpage::{xt_entry, xt_find, xt_put};
 
 /// The place of the last child that doesn't begin past the offset, or of the first one.

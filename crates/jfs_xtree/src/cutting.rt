@@ -3,25 +3,24 @@
 ghost use Rattle.std.specs.Prelude.{◌≡◌, ◌⊎◌, ◌<◌, ◌≤◌, ◌++◌, [], ℕ, List, length, true, false, OnOk, OnErr, IfOk, IfErr};
 ghost use Rattle.jfs_disk.specs.Image.{page_of};
 ghost use Rattle.jfs_tree.specs.Call.{CarriesFault};
+ghost use Rattle.jfs_tree.specs.Fresh.{EndsWith};
+ghost use Rattle.jfs_tree.specs.Removes.{page_frees};
 ghost use Rattle.jfs_tree.specs.Root.{NamesBroken};
 ghost use Rattle.jfs_tree.specs.Tell.{TellsDraft};
 ghost use Rattle.jfs_ranges.specs.View.{CarriesCount};
 ghost use Rattle.jfs_xtpage.specs.Page.{head_of, entries_of, kind_flag};
 ghost use Rattle.jfs_xtree.specs.Node.{xt_scale};
 ghost use Rattle.jfs_xtree.specs.Spells.{IsRootSize, IsView, root_node, page_nodes, tree_error, CarriesXt};
-ghost use Rattle.jfs_xtree.specs.Adding.{EndsWith};
-ghost use Rattle.jfs_xtree.specs.Cutting.{CutsExtents, page_frees, run_frees};
+ghost use Rattle.jfs_xtree.specs.Cutting.{CutsExtents, run_frees};
 
 use crate::check::check_page;
 use crate::cut_page::cut_page;
 use crate::error::XtError;
 use crate::find::{handed_on, root_form};
 use crate::free_below::Cut;
-use crate::inserting::copy_of;
-use crate::parts::page_at;
 use jfs_bits::{PageKind, Pxd, PxdList};
 use jfs_ranges::{Edit, PageView, Tx, ViewError};
-use jfs_tree::{Draft, NO_PAGE, copy_tx, tell_draft};
+use jfs_tree::{Draft, NO_PAGE, copy_tx, free_pages, tell_draft};
 use jfs_xtpage::xt_set_kind;
 use std::alloc::{AllocError, Global};
 
@@ -58,6 +57,14 @@ pub fn cut_to<V: PageView>(
             Err(e)
         }
     }
+}
+
+fn copy_of(alloc: Global, bytes: &[u8]) -> Result<Vec<u8>, AllocError>
+    ensures { IfOk result (λ copy. copy.items ≡ bytes.now) }
+{
+    let mut copy = Vec::new(alloc);
+    copy.extend_from_slice(bytes)?;
+    Ok(copy)
 }
 
 #[tactic(auto, using(crate::proofs::Roots::form_fits))]
@@ -136,17 +143,6 @@ fn free_all(pages: &[u32], runs: &PxdList, tx: &mut Tx) -> Result<(), AllocError
 {
     free_pages(pages, tx)?;
     free_runs(runs.as_slice(), tx)
-}
-
-/// Frees these pages, in their order.
-fn free_pages(pages: &[u32], tx: &mut Tx) -> Result<(), AllocError>
-    ensures { OnOk result (tx.new ≡ tx.old ++ page_frees pages.now) }
-{
-    for n in pages {
-        tx.push(Edit::NoRedo { page: *n })?;
-        tx.push(Edit::Free(page_at(*n)))?;
-    }
-    Ok(())
 }
 
 /// Frees these runs of blocks, in their order.

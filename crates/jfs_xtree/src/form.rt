@@ -9,10 +9,10 @@ ghost use Rattle.jfs_xtree.specs.Laws.{order};
 
 use crate::check::{check_page, is_leaf};
 use crate::children::{child_entry, child_place, make_way, page_of, takes_child};
-use crate::parts::{insert, page_at, part};
+use crate::parts::{insert, part};
 use crate::place::{find_at, goes_between, is_laid_out, place_of};
 use jfs_bits::{Rule, Xad, get_u8, get_u16};
-use jfs_tree::{PageForm, Put, Sibling, Way};
+use jfs_tree::{PageForm, Put, Sibling, Way, page_at};
 use jfs_xtpage::{XtForm, xt_insert, xt_new, xt_set_kind, xt_split};
 
 /// Roots or pages of extent trees, on a volume whose file system part has so many blocks.

@@ -11,7 +11,6 @@ mod error;
 mod find;
 mod form;
 mod free_below;
-mod fresh;
 mod inserting;
 mod listing;
 mod parts;

@@ -7,17 +7,8 @@ ghost use Rattle.jfs_xtpage.specs.Page.{bytes_of, head_of, entries_of, count_of,
 ghost use Rattle.jfs_xtree.specs.Node.{with_at, SameKind, BeginsAt};
 
 use jfs_bits::{Pxd, Xad, get_u16, get_u64};
+use jfs_tree::page_at;
 use jfs_xtpage::{XtForm, xt_entry, xt_insert, xt_link, xt_new, xt_split};
-
-/// The place of one page.
-pub(crate) fn page_at(n: u32) -> Pxd
-    ensures { result ≡ record { len = 1; addr = n } }
-{
-    Pxd {
-        len: 1,
-        addr: u64::from(n),
-    }
-}
 
 /// Puts an extent at a place of a page that has room.
 pub(crate) fn insert(bytes: &mut [u8], place: u16, x: Xad)

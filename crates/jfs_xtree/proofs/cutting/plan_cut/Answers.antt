@@ -6,7 +6,7 @@ use Rattle.jfs_xtree.specs.Node.{xt_scale, xt_node, is_leaf}
 use Rattle.jfs_xtree.specs.Spells.{root_form, root_node, page_nodes, tree_error}
 use Rattle.jfs_xtree.specs.Errors.{handed_on}
 use Rattle.jfs_xtree.specs.Cutting.{CutsExtents}
-use Rattle.jfs_xtree.proofs.Adds.{told_as}
+use Rattle.jfs_tree.proofs.Adds.{told_as}
 use Rattle.jfs_xtree.proofs.CutRoots.{cuts_extents, cut_names, root_names}
 use Rattle.jfs_xtree.proofs.cutting.plan_cut.Goals as goal
 

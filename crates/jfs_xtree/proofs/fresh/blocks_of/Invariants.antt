@@ -1,6 +1,0 @@
-use Rattle.std.proofs.Common.{◌≡◌, take}
-use Rattle.jfs_xtree.specs.Adding.{blocks_of}
-use Rattle.jfs_xtree.proofs.fresh.blocks_of.Given as goal
-
-abbrev pub invariant-loop-pxd : goal.invariant-loop-pxd
-invariant-loop-pxd l = l.all.items ≡ blocks_of (take l.pxd-index l.pxd-items)

@@ -1,6 +1,0 @@
-use Rattle.std.proofs.Common.{◌≡◌, take}
-use Rattle.jfs_xtree.specs.Adding.{blocks_of}
-use Rattle.jfs_xtree.proofs.fresh.list_of.Given as goal
-
-abbrev pub invariant-loop-n : goal.invariant-loop-n
-invariant-loop-n l = blocks_of l.list ≡ take l.n-index l.blocks

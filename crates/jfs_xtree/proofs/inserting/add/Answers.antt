@@ -1,0 +1,31 @@
+use Rattle.std.proofs.Common.{sym, subst, length}
+use Rattle.jfs_disk.specs.Image.{page_of}
+use Rattle.jfs_tree.specs.Root.{RefusesWhereBad}
+use Rattle.jfs_tree.specs.Fresh.{blocks_of}
+use Rattle.jfs_xtree.specs.Node.{xt_scale}
+use Rattle.jfs_xtree.specs.Spells.{root_form, root_node, page_nodes, tree_error}
+use Rattle.jfs_xtree.specs.Adding.{RefusesFull}
+use Rattle.jfs_xtree.proofs.Adds.{adds_as, refuses_as, full_as, takes_as}
+use Rattle.jfs_xtree.proofs.inserting.add.Goals as goal
+
+pub returns-in-Ok-clause-adds : goal.returns-in-Ok-clause-adds
+returns-in-Ok-clause-adds g c tells =
+    adds_as c.blocks-blocks.result (g.V.PageView.block_count c.args.view.now) c.root_form-form.result (g.V.PageView.image c.args.view.now) c.args.x c.args.root.now c.add_and_tell.new.root (blocks_of c.args.fresh.now) (blocks_of c.add_and_tell.new.fresh) c.args.tx.now c.add_and_tell.new.tx
+    c.blocks-blocks.ensures c.root_form-form.ensures (c.in-Ok.ensures.adds tells)
+
+pub returns-in-Ok-clause-room : goal.returns-in-Ok-clause-room
+returns-in-Ok-clause-room g c tells =
+    takes_as c.blocks-blocks.result (g.V.PageView.block_count c.args.view.now) c.root_form-form.result c.args.x (g.V.PageView.image c.args.view.now) c.args.root.now (blocks_of c.args.fresh.now) (blocks_of c.add_and_tell.new.fresh)
+    c.blocks-blocks.ensures c.root_form-form.ensures (c.in-Ok.ensures.room tells)
+
+pub returns-in-Err-clause-refused : goal.returns-in-Err-clause-refused
+returns-in-Err-clause-refused g c tells =
+    subst (λ r. RefusesWhereBad xt_scale c.args.x (page_nodes (g.V.PageView.block_count c.args.view.now) (page_of (g.V.PageView.image c.args.view.now))) (root_node (g.V.PageView.block_count c.args.view.now) c.args.root.now) (blocks_of c.args.fresh.now) (tree_error r)) (sym c.handed_on.ensures)
+    (refuses_as c.blocks-blocks.result (g.V.PageView.block_count c.args.view.now) c.root_form-form.result (root_form (length c.args.root.now)) c.args.x (g.V.PageView.image c.args.view.now) c.args.root.now (blocks_of c.args.fresh.now) c.in-Err.e
+    c.blocks-blocks.ensures c.root_form-form.ensures (c.in-Err.ensures.refused tells))
+
+pub returns-in-Err-clause-full : goal.returns-in-Err-clause-full
+returns-in-Err-clause-full g c tells =
+    subst (λ r. RefusesFull (g.V.PageView.block_count c.args.view.now) (page_of (g.V.PageView.image c.args.view.now)) c.args.x c.args.root.now (blocks_of c.args.fresh.now) (tree_error r)) (sym c.handed_on.ensures)
+    (full_as c.blocks-blocks.result (g.V.PageView.block_count c.args.view.now) c.root_form-form.result c.args.x (g.V.PageView.image c.args.view.now) c.args.root.now (blocks_of c.args.fresh.now) c.in-Err.e
+    c.blocks-blocks.ensures c.root_form-form.ensures (c.in-Err.ensures.full tells))
