@@ -3,7 +3,7 @@
 ghost use Rattle.std.specs.Prelude.{◌≡◌, ◌<◌, ◌≤◌, ◌==◌, if◌then◌else◌, ℕ, List, length, OnOk, OnErr, IfOk, IfErr};
 ghost use Rattle.jfs_disk.specs.Image.{page_of};
 ghost use Rattle.jfs_tree.specs.Form.{AllBelow};
-ghost use Rattle.jfs_tree.specs.Fresh.{blocks_of, TakenInOrder};
+ghost use Rattle.jfs_tree.specs.Fresh.{blocks_of, TakenInOrder, TellsTaken};
 ghost use Rattle.jfs_dtree.specs.Spells.{CarriesDt};
 ghost use Rattle.jfs_dtree.specs.Adding.{AddsName, TakesPages, RefusesName, refusal};
 
@@ -40,6 +40,7 @@ pub fn add<V: PageView>(
     ensures fault { CarriesDt (V.PageView.fault_count view.old) (V.PageView.fault_count view.new) result }
     ensures adds { V.PageView.tells → OnOk result (AddsName (V.PageView.block_count view.old) (page_of (V.PageView.image view.old)) (record { name = name.now; inode = inode }) root.old root.new (blocks_of fresh.old) (blocks_of fresh.new) tx.old tx.new) }
     ensures taken { OnOk result (TakenInOrder (blocks_of fresh.old) (blocks_of fresh.new) tx.new) }
+    ensures edits { V.PageView.tells → OnOk result (TellsTaken (blocks_of fresh.old) (blocks_of fresh.new) tx.old tx.new) }
     ensures kept { OnErr result ((root.new ≡ root.old) × (fresh.new ≡ fresh.old) × (tx.new ≡ tx.old)) }
     ensures room { V.PageView.tells → OnOk result (TakesPages (V.PageView.block_count view.old) (page_of (V.PageView.image view.old)) (record { name = name.now; inode = inode }) root.old (blocks_of fresh.old) (blocks_of fresh.new)) }
     ensures refused { V.PageView.tells → IfErr result (λ e. RefusesName (V.PageView.block_count view.old) (page_of (V.PageView.image view.old)) (record { name = name.now; inode = inode }) root.old (blocks_of fresh.old) e) }

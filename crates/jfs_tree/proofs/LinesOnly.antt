@@ -1,11 +1,11 @@
 -- What a draft tells are lines alone.
-use Rattle.std.proofs.Common.{◌≡◌, sym, subst, ℕ, Bool, true, false, List, [], ◌∷◌, ◌++◌}
+use Rattle.std.proofs.Common.{◌≡◌, sym, ap, ◌∙◌, subst, ℕ, Bool, true, false, List, [], ◌∷◌, ◌++◌, append_assoc}
 use Rattle.std.specs.Prelude.{◌||◌, nat_le}
 use Rattle.jfs_bits.specs.declared.rule.PageKind.{PageKind}
 use Rattle.jfs_disk.specs.Image.{Image, page_of}
 use Rattle.jfs_ranges.specs.declared.edit.Edit.{Edit}
 use Rattle.jfs_ranges.specs.declared.edit.Edit.TheVariants.{Lines, NoRedo, Alloc, Free}
-use Rattle.jfs_tree.specs.Tell.{AllLines, DraftEdits, DraftedEdits, IsRuns, PageEdits, TellsExactly, is_in, occurs}
+use Rattle.jfs_tree.specs.Tell.{AllLines, DraftEdits, DraftedEdits, IsRuns, PageEdits, TellsExactly, TellsThen, is_in, occurs}
 use Rattle.jfs_tree.specs.declared.draft.Drafted.{Drafted}
 
 runs_lines : (n : ℕ) (kind : PageKind) (old new : List ℕ) (first : ℕ) (edits : List Edit) → IsRuns n kind old new first edits → AllLines edits
@@ -38,3 +38,9 @@ draft_lines blocks image taken kind newer (d ∷ ds) edits (own, rest, is, one, 
 -- the edits that tell a draft
 pub told_lines : (blocks : ℕ) (image : Image) (taken : List ℕ) (kind : PageKind) (drafts : List Drafted) (tx later : List Edit) → TellsExactly blocks image taken kind drafts tx later → (lines : List Edit) × AllLines lines × (later ≡ tx ++ lines)
 told_lines blocks image taken kind drafts tx later (edits, is, all) = (edits, draft_lines blocks image taken kind [] drafts edits all, is)
+
+-- and others behind them
+pub edits_then : (blocks : ℕ) (image : Image) (taken : List ℕ) (kind : PageKind) (drafts : List Drafted) (tx copy later more last : List Edit) → copy ≡ tx → more ≡ later ++ last → TellsExactly blocks image taken kind drafts copy later → TellsThen last tx more
+edits_then blocks image taken kind drafts tx copy later more last is e told =
+    let t = told_lines blocks image taken kind drafts copy later told in
+    (t.0, t.1, e ∙ ap (λ es. es ++ last) (t.2 ∙ ap (λ es. es ++ t.0) is) ∙ append_assoc tx t.0 last)

@@ -2,7 +2,6 @@
 use Rattle.std.proofs.Common.{◌≡◌, ◌<◌, refl, sym, ap, ◌∙◌, ℕ, ◌+◌, List, [], ◌∷◌, ◌++◌, length, take, get_or, Option, Some, None, append_assoc, arith}
 use Rattle.std.proofs.lemmas.Grind.{take_at_read}
 use Rattle.jfs_bits.specs.declared.descriptor.Pxd.{Pxd}
-use Rattle.jfs_bits.specs.declared.rule.PageKind.{PageKind}
 use Rattle.jfs_disk.specs.Image.{Image, page_of}
 use Rattle.jfs_ranges.specs.declared.edit.Edit.{Edit}
 use Rattle.jfs_ranges.specs.declared.edit.Edit.TheVariants.{NoRedo, Free}
@@ -11,7 +10,7 @@ use Rattle.jfs_tree.specs.Walk.{Node, Scale}
 use Rattle.jfs_tree.specs.Spells.{footprint}
 use Rattle.jfs_tree.specs.Call.{nodes, pages_of}
 use Rattle.jfs_tree.specs.Draft.{shown}
-use Rattle.jfs_tree.specs.Tell.{TellsDraft, TellsExactly}
+use Rattle.jfs_tree.specs.Tell.{TellsDraft}
 use Rattle.jfs_tree.specs.Fresh.{after_tx, HasPages}
 use Rattle.jfs_tree.specs.Adds.{read_as}
 use Rattle.jfs_tree.specs.RootLoss.{KeepsOthers, RemovesAlways}
@@ -19,7 +18,6 @@ use Rattle.jfs_tree.specs.Removes.{RemovesTold, TellsFreed, page_frees}
 use Rattle.jfs_tree.specs.declared.draft.Drafted.{Drafted}
 use Rattle.jfs_tree.proofs.Footprint.{spells_frame, footprint_frame}
 use Rattle.jfs_tree.proofs.Within.{footprint_within}
-use Rattle.jfs_tree.proofs.LinesOnly.{told_lines}
 
 -- ---- pages that are free
 
@@ -42,11 +40,6 @@ frees_leave m (e ∷ tx) ns content = frees_leave m tx ns (apply_edit m e conten
 -- a draft is still told where pages are freed besides
 pub told_freed : (blocks : ℕ) (image : Image) (drafts : List Drafted) (tx copy later more : List Edit) (ns : List ℕ) → copy ≡ tx → more ≡ later ++ page_frees ns → TellsDraft blocks image drafts copy later → TellsDraft blocks image drafts tx more
 told_freed blocks image drafts tx copy later more ns is e told = λ m h content l here. ap (λ es. apply_tx m es content) e ∙ frees_leave m later ns content ∙ told m h content l (ap (λ es. apply_tx m es content) is ∙ here)
-
-pub edits_freed : (blocks : ℕ) (image : Image) (kind : PageKind) (drafts : List Drafted) (tx copy later more : List Edit) (ns : List ℕ) → copy ≡ tx → more ≡ later ++ page_frees ns → TellsExactly blocks image [] kind drafts copy later → TellsFreed ns tx more
-edits_freed blocks image kind drafts tx copy later more ns is e told =
-    let t = told_lines blocks image [] kind drafts copy later told in
-    (t.0, t.1, e ∙ ap (λ es. es ++ page_frees ns) (t.2 ∙ ap (λ es. es ++ t.0) is) ∙ append_assoc tx t.0 (page_frees ns))
 
 -- ---- the entry
 

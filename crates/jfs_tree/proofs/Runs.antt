@@ -9,11 +9,11 @@ use Rattle.jfs_ranges.specs.declared.edit.Edit.TheVariants.{Alloc}
 use Rattle.jfs_ranges.specs.Apply.{apply_edit, apply_tx}
 use Rattle.jfs_tree.specs.Edit.{count_in}
 use Rattle.jfs_tree.specs.Form.{AllBelow, IsFront}
-use Rattle.jfs_tree.specs.Tell.{TellsDraft}
+use Rattle.jfs_tree.specs.Tell.{TellsDraft, TellsThen}
 use Rattle.jfs_tree.specs.declared.draft.Drafted.{Drafted}
 use Rattle.jfs_disk.specs.Image.{Image}
 use Rattle.jfs_tree.proofs.Taking.{taken_last}
-use Rattle.jfs_tree.specs.Fresh.{run_from, blocks_of, allocs_of, EndsWith, TakenInOrder}
+use Rattle.jfs_tree.specs.Fresh.{run_from, blocks_of, allocs_of, EndsWith, TakenInOrder, TellsTaken}
 
 pub run_more : (a k : ℕ) → run_from a (k + 1) ≡ run_from a k ++ (a + k) ∷ []
 run_more a k = ap (run_from a) (one k) ∙ by a k
@@ -101,6 +101,9 @@ left_named all given stack left rest n is_all is_n is front cut =
 
 pub taken_named : (all given rest : List ℕ) (n : ℕ) (later : List Edit) → given ≡ all → rest ≡ drop n given → EndsWith later (allocs_of (take n given)) → TakenInOrder all rest later
 taken_named all given rest n later is cut ends = (take n given, sym is ∙ sym (take-append-drop n given) ∙ ap (λ xs. take n given ++ xs) (sym cut), ends)
+
+pub taken_edits : (all given rest : List ℕ) (n : ℕ) (tx later : List Edit) → given ≡ all → rest ≡ drop n given → TellsThen (allocs_of (take n given)) tx later → TellsTaken all rest tx later
+taken_edits all given rest n tx later is cut edits = (take n given, sym is ∙ sym (take-append-drop n given) ∙ ap (λ xs. take n given ++ xs) (sym cut), edits)
 
 pub list_more : (ps more : List Pxd) (ns : List ℕ) (i d : ℕ) (p : Pxd) → blocks_of ps ≡ take i ns → i < length ns → p ≡ record { len = 1; addr = get_or ns i d } → more ≡ ps ++ p ∷ [] → blocks_of more ≡ take (i + 1) ns
 list_more ps more ns i d p h l is e = ap blocks_of e ∙ ap (λ (q : Pxd). blocks_of (ps ++ q ∷ [])) is ∙ blocks_one ps (get_or ns i d) ∙ ap (λ xs. xs ++ get_or ns i d ∷ []) h ∙ sym (take_at_read ns i d l).1

@@ -4,6 +4,7 @@ use Rattle.jfs_bits.specs.declared.descriptor.Pxd.{Pxd}
 use Rattle.jfs_ranges.specs.declared.edit.Edit.{Edit}
 use Rattle.jfs_ranges.specs.declared.edit.Edit.TheVariants.{Alloc}
 use Rattle.jfs_ranges.specs.Apply.{apply_tx}
+use Rattle.jfs_tree.specs.Tell.{TellsThen}
 use Rattle.jfs_tree.specs.Walk.{Child, Node, Inner}
 
 -- the blocks of a run, and of runs
@@ -26,6 +27,10 @@ EndsWith edits last = (before : List Edit) × (edits ≡ before ++ last)
 -- Blocks were taken from the front, in their order; the last edits are those that take them.
 abbrev pub TakenInOrder : List ℕ → List ℕ → List Edit → Type 0
 TakenInOrder free left later = (taken : List ℕ) × (free ≡ taken ++ left) × EndsWith later (allocs_of taken)
+
+-- Blocks were taken from the front, in their order; lines were appended, and then the edits that take them; nothing else.
+abbrev pub TellsTaken : List ℕ → List ℕ → List Edit → List Edit → Type 0
+TellsTaken free left tx later = (taken : List ℕ) × (free ≡ taken ++ left) × TellsThen (allocs_of taken) tx later
 
 -- the edits lead these pages to those
 abbrev pub LeadsTo : ℕ → (ℕ → List ℕ) → List Edit → (ℕ → List ℕ) → Type 0

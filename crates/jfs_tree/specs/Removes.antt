@@ -1,12 +1,12 @@
 -- What is taken out of a root's list, seen from the transaction.
-use Rattle.std.specs.Prelude.{◌≡◌, ◌<◌, ℕ, ◌+◌, List, [], ◌∷◌, ◌++◌, Option, IfSome, Ok}
+use Rattle.std.specs.Prelude.{◌≡◌, ◌<◌, ℕ, ◌+◌, List, [], ◌∷◌, Option, IfSome, Ok}
 use Rattle.jfs_ranges.specs.declared.edit.Edit.{Edit}
 use Rattle.jfs_ranges.specs.declared.edit.Edit.TheVariants.{NoRedo, Free}
 use Rattle.jfs_tree.specs.Walk.{Node, Scale}
 use Rattle.jfs_tree.specs.Spells.{spells, footprint}
 use Rattle.jfs_tree.specs.Edit.{count_in, found_in}
 use Rattle.jfs_tree.specs.Shrink.{TakenOut}
-use Rattle.jfs_tree.specs.Tell.{AllLines}
+use Rattle.jfs_tree.specs.Tell.{TellsThen}
 use Rattle.jfs_tree.specs.Fresh.{LeadsTo, after_tx}
 use Rattle.jfs_tree.specs.Adds.{read_as}
 
@@ -17,7 +17,7 @@ page_frees (n ∷ ns) = NoRedo n ∷ Free (record { len = 1; addr = n }) ∷ pag
 
 -- lines were appended, and then what frees these pages; nothing else
 abbrev pub TellsFreed : List ℕ → List Edit → List Edit → Type 0
-TellsFreed freed tx later = (lines : List Edit) × AllLines lines × (later ≡ tx ++ (lines ++ page_frees freed))
+TellsFreed freed tx later = TellsThen (page_frees freed) tx later
 
 -- A root that spelled these entries spells all but one. The pages that it has no more are the freed ones, and each page of the file system that isn't its own keeps its bytes.
 pub record HasOneLess {P E : Type 0} (s : Scale P E) (node : List ℕ → Node P E) (blocks : ℕ) (e : E) (es : List E) (pages later : ℕ → List ℕ) (root after : Node P E) (freed : List ℕ) : Type 0 where

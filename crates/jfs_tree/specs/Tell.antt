@@ -88,6 +88,10 @@ AllLines (NoRedo page ∷ edits) = ⊥
 AllLines (Alloc blocks ∷ edits) = ⊥
 AllLines (Free blocks ∷ edits) = ⊥
 
+-- lines were appended, and then these edits; nothing else
+abbrev pub TellsThen : List Edit → List Edit → List Edit → Type 0
+TellsThen last tx later = (lines : List Edit) × AllLines lines × (later ≡ tx ++ (lines ++ last))
+
 -- for the prover alone: a page whose first lines are the new ones has more of them
 abbrev pub Turns : ℕ → ℕ → ℕ → ℕ → List ℕ → List Edit → List Edit → Type 0
 Turns n size first end new tx later = (content old : List ℕ) → length old ≡ 4096 → apply_tx n tx content ≡ take (size * first) new ++ drop (size * first) old → apply_tx n later content ≡ take (size * end) new ++ drop (size * end) old
