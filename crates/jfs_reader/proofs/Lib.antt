@@ -1,1 +1,4 @@
 pub mod Listed
+pub mod Named
+pub mod Parts
+pub mod Homes

@@ -1,5 +1,5 @@
 -- What a root that was read spells is what its inode's tree spells.
-use Rattle.std.proofs.Common.{◌≡◌, refl, sym, ◌∙◌, ℕ, List, Result, Ok, Err, IfOk, IfErr, length}
+use Rattle.std.proofs.Common.{◌≡◌, true, refl, sym, ◌∙◌, ℕ, List, Result, Ok, Err, IfOk, IfErr, length}
 use Rattle.jfs_bits.specs.declared.extent.Xad.{Xad}
 use Rattle.jfs_bits.specs.declared.rule.Rule.{Rule}
 use Rattle.jfs_disk.specs.Image.{Image, page_of}
@@ -12,8 +12,8 @@ use Rattle.jfs_xtree.specs.Node.{xt_scale, xt_node}
 use Rattle.jfs_xtree.specs.Spells.{root_node, page_nodes, spells_extents, tree_error}
 use Rattle.jfs_xtree.specs.declared.error.XtError.{XtError}
 use Rattle.jfs_xtree.specs.declared.error.XtError.TheVariants.{View, Bad}
-use Rattle.jfs_objects.specs.Objects.{listed}
-use Rattle.jfs_meaning.specs.Readers.{root_of}
+use Rattle.jfs_objects.specs.Objects.{has_extents, extents_of, listed}
+use Rattle.jfs_meaning.specs.Readers.{readers, root_of}
 use Rattle.jfs_reader.specs.Reading.{ExtentsAre}
 
 -- what an inode's extent tree spells
@@ -38,3 +38,9 @@ pub extents_are : (blocks now : ℕ) (image after : Image) (root : List ℕ) (d 
     → IfErr r (λ e. NamesFirst xt_scale (page_nodes now (page_of after)) (root_node now root) (tree_error e))
     → ExtentsAre (in_inode blocks image d) r
 extents_are blocks now image after root d r e f g h ok bad = told now after root (in_inode blocks image d) r (same_list blocks now image after root d e f g h) ok bad
+
+pub object_extents : (blocks : ℕ) (image : Image) (root : List ℕ) (d : Dinode) (r : Result (List Xad) XtError) → has_extents d ≡ true → root ≡ root_of d → length root ≡ 288
+    → IfOk r (λ es. spells_extents blocks (page_of image) root ≡ Ok es)
+    → IfErr r (λ e. NamesFirst xt_scale (page_nodes blocks (page_of image)) (root_node blocks root) (tree_error e))
+    → ExtentsAre (listed xt_scale (extents_of (readers blocks) (page_of image) d)) r
+object_extents blocks image root d r has g h ok bad = rw has (extents_are blocks blocks image image root d r refl refl g h ok bad)

@@ -1,2 +1,3 @@
 -- what reading gives, and when it fails
 pub mod Reading
+pub mod Map

@@ -3,6 +3,9 @@ use Rattle.std.specs.Prelude.{◌≡◌, ◌<◌, ◌≤◌, ℕ, List, Option, 
 use Rattle.jfs_bits.specs.declared.extent.Xad.{Xad}
 use Rattle.jfs_bits.specs.declared.rule.Rule.{Rule}
 use Rattle.jfs_ranges.specs.View.{CarriesCount}
+use Rattle.jfs_name.specs.declared.name.NameEntry.{NameEntry}
+use Rattle.jfs_dtree.specs.declared.error.DtError.{DtError}
+use Rattle.jfs_dtree.specs.declared.error.DtError.TheVariants as names
 use Rattle.jfs_xtree.specs.declared.error.XtError.{XtError}
 use Rattle.jfs_xtree.specs.declared.error.XtError.TheVariants as tree
 use Rattle.jfs_reader.specs.declared.error.ReadError.{ReadError}
@@ -13,6 +16,15 @@ abbrev pub ExtentsAre : Result (List Xad) (ℕ × Rule) → Result (List Xad) Xt
 ExtentsAre spelled (Ok es) = spelled ≡ Ok es
 ExtentsAre spelled (Err (tree.View e)) = Unit {0}
 ExtentsAre spelled (Err (tree.Bad page rule)) = spelled ≡ Err (page, rule)
+
+-- and so are names
+abbrev pub NamesAre : Result (List NameEntry) (ℕ × Rule) → Result (List NameEntry) DtError → Type 0
+NamesAre spelled (Ok es) = spelled ≡ Ok es
+NamesAre spelled (Err (names.View e)) = Unit {0}
+NamesAre spelled (Err (names.Bad page rule)) = spelled ≡ Err (page, rule)
+NamesAre spelled (Err names.Exists) = ⊥
+NamesAre spelled (Err names.Missing) = ⊥
+NamesAre spelled (Err names.TooDeep) = ⊥
 
 -- the block, if there is one, is a page of so many
 abbrev pub IsBelow : ℕ → Option ℕ → Type 0

@@ -11,7 +11,7 @@ ghost use Rattle.jfs_meaning.specs.Readers.{readers, root_of};
 ghost use Rattle.jfs_reader.specs.Reading.{ExtentsAre};
 
 use jfs_bits::{XadList, get_array};
-use jfs_inode::inode_in;
+use jfs_inode::{Dinode, inode_in};
 use jfs_ranges::{PageView, ViewError};
 use jfs_xtree::{XtError, extents};
 use std::alloc::Global;
@@ -47,6 +47,13 @@ fn aggregate_root<V: PageView>(view: &mut V, k: u32) -> Result<[u8; 288], ViewEr
         Ok(page) => page,
         Err(e) => return Err(e),
     };
-    let d = inode_in(page, k % 8);
-    Ok(get_array(&d.rest, 96))
+    Ok(root_in(&inode_in(page, k % 8)))
+}
+
+/// The root of the tree in an inode.
+pub(crate) fn root_in(d: &Dinode) -> [u8; 288]
+    ensures root { result ≡ root_of d.now }
+    ensures width { length result ≡ 288 }
+{
+    get_array(&d.rest, 96)
 }

@@ -4,7 +4,12 @@
 mod blocks;
 mod error;
 mod files;
+mod map;
+mod object;
+mod used;
 
 pub use blocks::{page_of_block, read_part};
 pub use error::ReadError;
 pub use files::file_extents;
+pub use map::InodeMap;
+pub use object::{extents_of, names_of, read_inode};
