@@ -3,7 +3,8 @@
 ghost use Rattle.std.specs.Prelude.{◌≡◌, ◌<◌, ◌≤◌, ◌==◌, if◌then◌else◌, ℕ, List, length, OnOk, OnErr, IfOk, IfErr};
 ghost use Rattle.jfs_disk.specs.Image.{page_of};
 ghost use Rattle.jfs_tree.specs.Form.{AllBelow};
-ghost use Rattle.jfs_tree.specs.Fresh.{blocks_of, TakenInOrder, TellsTaken};
+ghost use Rattle.jfs_tree.specs.Fresh.{blocks_of, TakenInOrder};
+ghost use Rattle.jfs_dtree.specs.Parent.{parent_of};
 ghost use Rattle.jfs_dtree.specs.Spells.{CarriesDt};
 ghost use Rattle.jfs_dtree.specs.Adding.{AddsName, TakesPages, RefusesName, refusal};
 
@@ -11,6 +12,7 @@ use crate::entry::DirEntry;
 use crate::error::DtError;
 use crate::form::DtPages;
 use crate::lookup::find;
+use crate::root::{parent, set_parent};
 use jfs_bits::{PageKind, PxdList, Rule};
 use jfs_dtpage::DtForm;
 use jfs_name::Name;
@@ -20,8 +22,8 @@ use std::alloc::Global;
 
 #[tactic(auto, using(crate::proofs::Roots::has_pages))]
 /// Adds a name of at most 255 units to a directory whose root has these 288 bytes: `Exists` exactly where the directory has the name. Pages that it
-/// needs are taken from `fresh` in its order; the transaction gets the changed lines and new pages, and then an `Alloc` of each. After an `Err` root,
-/// `fresh` and transaction are as before. A tree of 8 levels gets no ninth: that is `TooDeep`.
+/// needs are taken from `fresh` in its order; the transaction gets the changed lines and new pages, and then an `Alloc` of each. The parent stays. After an
+/// `Err` root, `fresh` and transaction are as before. A tree of 8 levels gets no ninth: that is `TooDeep`.
 pub fn add<V: PageView>(
     alloc: Global,
     view: &mut V,
@@ -39,8 +41,8 @@ pub fn add<V: PageView>(
     ensures count_of_blocks { V.PageView.block_count view.new ≡ V.PageView.block_count view.old }
     ensures fault { CarriesDt (V.PageView.fault_count view.old) (V.PageView.fault_count view.new) result }
     ensures adds { V.PageView.tells → OnOk result (AddsName (V.PageView.block_count view.old) (page_of (V.PageView.image view.old)) (record { name = name.now; inode = inode }) root.old root.new (blocks_of fresh.old) (blocks_of fresh.new) tx.old tx.new) }
-    ensures taken { OnOk result (TakenInOrder (blocks_of fresh.old) (blocks_of fresh.new) tx.new) }
-    ensures edits { V.PageView.tells → OnOk result (TellsTaken (blocks_of fresh.old) (blocks_of fresh.new) tx.old tx.new) }
+    ensures taken { OnOk result (TakenInOrder (blocks_of fresh.old) (blocks_of fresh.new) tx.old tx.new) }
+    ensures parent { parent_of root.new ≡ parent_of root.old }
     ensures kept { OnErr result ((root.new ≡ root.old) × (fresh.new ≡ fresh.old) × (tx.new ≡ tx.old)) }
     ensures room { V.PageView.tells → OnOk result (TakesPages (V.PageView.block_count view.old) (page_of (V.PageView.image view.old)) (record { name = name.now; inode = inode }) root.old (blocks_of fresh.old) (blocks_of fresh.new)) }
     ensures refused { V.PageView.tells → IfErr result (λ e. RefusesName (V.PageView.block_count view.old) (page_of (V.PageView.image view.old)) (record { name = name.now; inode = inode }) root.old (blocks_of fresh.old) e) }
@@ -59,6 +61,7 @@ pub fn add<V: PageView>(
         form: DtForm::Full,
         blocks,
     };
+    let up = parent(root);
     let x = DirEntry::new(name.as_slice(), inode);
     match add_and_tell(
         alloc,
@@ -71,7 +74,10 @@ pub fn add<V: PageView>(
         PageKind::Dtree,
         tx,
     ) {
-        Ok(()) => Ok(()),
+        Ok(()) => {
+            set_parent(root, up);
+            Ok(())
+        }
         Err(e) => Err(refusal(e)),
     }
 }

@@ -1,6 +1,8 @@
 //! The root of a directory.
 
 ghost use Rattle.std.specs.Prelude.{◌≡◌, ℕ, List, [], length, true, Ok};
+ghost use Rattle.byteorder.specs.Endian.{little_bytes};
+ghost use Rattle.jfs_bits.specs.Field.{put_bytes};
 ghost use Rattle.jfs_tree.specs.Walk.{Leaf};
 ghost use Rattle.jfs_dtree.specs.Node.{dt_node};
 ghost use Rattle.jfs_dtree.specs.Spells.{root_node, spells_names};
@@ -26,6 +28,7 @@ pub fn parent(root: &[u8]) -> u32
 /// Sets the parent directory's inode, and nothing else: the root reads as before, whatever it reads as.
 pub fn set_parent(root: &mut [u8], parent: u32)
     requires { length root.old ≡ 288 }
+    ensures bytes { root.new ≡ put_bytes 20 (little_bytes 4 parent) root.old }
     ensures parent { parent_of root.new ≡ parent }
     ensures kind { is_leaf root.new ≡ is_leaf root.old }
     ensures node { (blocks : ℕ) → dt_node Root blocks root.new ≡ dt_node Root blocks root.old }

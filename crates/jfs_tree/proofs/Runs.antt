@@ -13,7 +13,7 @@ use Rattle.jfs_tree.specs.Tell.{TellsDraft, TellsThen}
 use Rattle.jfs_tree.specs.declared.draft.Drafted.{Drafted}
 use Rattle.jfs_disk.specs.Image.{Image}
 use Rattle.jfs_tree.proofs.Taking.{taken_last}
-use Rattle.jfs_tree.specs.Fresh.{run_from, blocks_of, allocs_of, EndsWith, TakenInOrder, TellsTaken}
+use Rattle.jfs_tree.specs.Fresh.{run_from, blocks_of, allocs_of, TakenInOrder}
 
 pub run_more : (a k : ℕ) → run_from a (k + 1) ≡ run_from a k ++ (a + k) ∷ []
 run_more a k = ap (run_from a) (one k) ∙ by a k
@@ -99,11 +99,8 @@ pub left_named : (all given stack left rest : List ℕ) (n : ℕ) → given ≡ 
 left_named all given stack left rest n is_all is_n is front cut =
     cut ∙ ap (λ xs. drop (length xs - n) xs) is_all ∙ ap (λ k. drop (length all - k) all) is_n ∙ left_over all stack left is front
 
-pub taken_named : (all given rest : List ℕ) (n : ℕ) (later : List Edit) → given ≡ all → rest ≡ drop n given → EndsWith later (allocs_of (take n given)) → TakenInOrder all rest later
-taken_named all given rest n later is cut ends = (take n given, sym is ∙ sym (take-append-drop n given) ∙ ap (λ xs. take n given ++ xs) (sym cut), ends)
-
-pub taken_edits : (all given rest : List ℕ) (n : ℕ) (tx later : List Edit) → given ≡ all → rest ≡ drop n given → TellsThen (allocs_of (take n given)) tx later → TellsTaken all rest tx later
-taken_edits all given rest n tx later is cut edits = (take n given, sym is ∙ sym (take-append-drop n given) ∙ ap (λ xs. take n given ++ xs) (sym cut), edits)
+pub taken_named : (all given rest : List ℕ) (n : ℕ) (tx later : List Edit) → given ≡ all → rest ≡ drop n given → TellsThen (allocs_of (take n given)) tx later → TakenInOrder all rest tx later
+taken_named all given rest n tx later is cut ends = (take n given, sym is ∙ sym (take-append-drop n given) ∙ ap (λ xs. take n given ++ xs) (sym cut), ends)
 
 pub list_more : (ps more : List Pxd) (ns : List ℕ) (i d : ℕ) (p : Pxd) → blocks_of ps ≡ take i ns → i < length ns → p ≡ record { len = 1; addr = get_or ns i d } → more ≡ ps ++ p ∷ [] → blocks_of more ≡ take (i + 1) ns
 list_more ps more ns i d p h l is e = ap blocks_of e ∙ ap (λ (q : Pxd). blocks_of (ps ++ q ∷ [])) is ∙ blocks_one ps (get_or ns i d) ∙ ap (λ xs. xs ++ get_or ns i d ∷ []) h ∙ sym (take_at_read ns i d l).1

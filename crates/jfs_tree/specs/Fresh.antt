@@ -21,16 +21,9 @@ abbrev pub allocs_of : List ℕ → List Edit
 allocs_of [] = []
 allocs_of (n ∷ ns) = Alloc (record { len = 1; addr = n }) ∷ allocs_of ns
 
-abbrev pub EndsWith : List Edit → List Edit → Type 0
-EndsWith edits last = (before : List Edit) × (edits ≡ before ++ last)
-
--- Blocks were taken from the front, in their order; the last edits are those that take them.
-abbrev pub TakenInOrder : List ℕ → List ℕ → List Edit → Type 0
-TakenInOrder free left later = (taken : List ℕ) × (free ≡ taken ++ left) × EndsWith later (allocs_of taken)
-
--- Blocks were taken from the front, in their order; lines were appended, and then the edits that take them; nothing else.
-abbrev pub TellsTaken : List ℕ → List ℕ → List Edit → List Edit → Type 0
-TellsTaken free left tx later = (taken : List ℕ) × (free ≡ taken ++ left) × TellsThen (allocs_of taken) tx later
+-- Blocks were taken from the front, in their order. Lines were appended, and then the edits that take these blocks; nothing else.
+abbrev pub TakenInOrder : List ℕ → List ℕ → List Edit → List Edit → Type 0
+TakenInOrder free left tx later = (taken : List ℕ) × (free ≡ taken ++ left) × TellsThen (allocs_of taken) tx later
 
 -- the edits lead these pages to those
 abbrev pub LeadsTo : ℕ → (ℕ → List ℕ) → List Edit → (ℕ → List ℕ) → Type 0

@@ -88,6 +88,10 @@ AllLines (NoRedo page ∷ edits) = ⊥
 AllLines (Alloc blocks ∷ edits) = ⊥
 AllLines (Free blocks ∷ edits) = ⊥
 
+-- lines were appended, and nothing else
+abbrev pub TellsLines : List Edit → List Edit → Type 0
+TellsLines tx later = (lines : List Edit) × AllLines lines × (later ≡ tx ++ lines)
+
 -- lines were appended, and then these edits; nothing else
 abbrev pub TellsThen : List Edit → List Edit → List Edit → Type 0
 TellsThen last tx later = (lines : List Edit) × AllLines lines × (later ≡ tx ++ (lines ++ last))

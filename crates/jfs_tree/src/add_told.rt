@@ -7,7 +7,7 @@ ghost use Rattle.jfs_tree.specs.Adds.{read_as, on_page, AddsTold, RefusesWhereFu
 ghost use Rattle.jfs_tree.specs.Room.{TakesWhereFull, FullFrom};
 ghost use Rattle.jfs_tree.specs.Call.{CarriesFault, IsRead};
 ghost use Rattle.jfs_tree.specs.Form.{AllBelow};
-ghost use Rattle.jfs_tree.specs.Fresh.{blocks_of, allocs_of, EndsWith, TakenInOrder, TellsTaken, HasPages};
+ghost use Rattle.jfs_tree.specs.Fresh.{blocks_of, allocs_of, TakenInOrder, HasPages};
 ghost use Rattle.jfs_tree.specs.Root.{RefusesWhereBad};
 ghost use Rattle.jfs_tree.specs.Tell.{TellsDraft, TellsThen};
 
@@ -50,8 +50,7 @@ pub fn add_and_tell<V: PageView, F: PageForm>(
     ensures fault { CarriesFault (V.PageView.fault_count view.old) (V.PageView.fault_count view.new) result }
     ensures adds { V.PageView.tells → OnOk result (AddsTold F.PageForm.scale (F.PageForm.node form.now) (V.PageView.block_count view.old) (page_of (V.PageView.image view.old)) x.now
         (F.PageForm.node top.now root.old) (F.PageForm.node top.now root.new) (blocks_of fresh.old) (blocks_of fresh.new) tx.old tx.new) }
-    ensures taken { OnOk result (TakenInOrder (blocks_of fresh.old) (blocks_of fresh.new) tx.new) }
-    ensures edits { V.PageView.tells → OnOk result (TellsTaken (blocks_of fresh.old) (blocks_of fresh.new) tx.old tx.new) }
+    ensures taken { OnOk result (TakenInOrder (blocks_of fresh.old) (blocks_of fresh.new) tx.old tx.new) }
     ensures kept { OnErr result ((root.new ≡ root.old) × (fresh.new ≡ fresh.old) × (tx.new ≡ tx.old)) }
     ensures refused { V.PageView.tells → IfErr result (λ e. RefusesWhereBad F.PageForm.scale x.now (read_as (F.PageForm.node form.now) (page_of (V.PageView.image view.old))) (F.PageForm.node top.now root.old) (blocks_of fresh.old) e) }
     ensures room { V.PageView.tells → OnOk result (TakesWhereFull F.PageForm.scale x.now (read_as (F.PageForm.node form.now) (page_of (V.PageView.image view.old)))
@@ -117,8 +116,7 @@ fn plan<V: PageView, F: PageForm>(
     ensures fault { CarriesFault (V.PageView.fault_count view.old) (V.PageView.fault_count view.new) result }
     ensures adds { V.PageView.tells → IfOk result (λ p. AddsTold F.PageForm.scale (F.PageForm.node form.now) (V.PageView.block_count view.old) (page_of (V.PageView.image view.old)) x.now
         (F.PageForm.node top.now root.old) (F.PageForm.node top.now root.new) (blocks_of fresh.now) (blocks_of p.fresh) tx.now p.tx) }
-    ensures taken { IfOk result (λ p. TakenInOrder (blocks_of fresh.now) (blocks_of p.fresh) p.tx) }
-    ensures edits { V.PageView.tells → IfOk result (λ p. TellsTaken (blocks_of fresh.now) (blocks_of p.fresh) tx.now p.tx) }
+    ensures taken { IfOk result (λ p. TakenInOrder (blocks_of fresh.now) (blocks_of p.fresh) tx.now p.tx) }
     ensures refused { V.PageView.tells → IfErr result (λ e. RefusesWhereBad F.PageForm.scale x.now (read_as (F.PageForm.node form.now) (page_of (V.PageView.image view.old))) (F.PageForm.node top.now root.old) (blocks_of fresh.now) e) }
     ensures room { V.PageView.tells → IfOk result (λ p. (TakesWhereFull F.PageForm.scale x.now (read_as (F.PageForm.node form.now) (page_of (V.PageView.image view.old)))
         (on_page (F.PageForm.is_full form.now) (page_of (V.PageView.image view.old))) (on_page (λ bytes. F.PageForm.has_no_room form.now bytes x.now) (page_of (V.PageView.image view.old))) (F.PageForm.node top.now root.old)
@@ -158,8 +156,7 @@ fn finish<V: PageView>(
     ensures fault { CarriesFault (V.PageView.fault_count view.old) (V.PageView.fault_count view.new) result }
     ensures told { V.PageView.tells → IfOk result (λ p. TellsDraft (V.PageView.block_count view.old) (V.PageView.image view.old) draft.now.pages.items tx.now p.tx) }
     ensures rest { IfOk result (λ p. blocks_of p.fresh ≡ drop (length all.now - left) all.now) }
-    ensures allocs { IfOk result (λ p. EndsWith p.tx (allocs_of (take (length all.now - left) all.now))) }
-    ensures edits { V.PageView.tells → IfOk result (λ p. TellsThen (allocs_of (take (length all.now - left) all.now)) tx.now p.tx) }
+    ensures allocs { IfOk result (λ p. TellsThen (allocs_of (take (length all.now - left) all.now)) tx.now p.tx) }
     ensures read { IfErr result (λ e. IsRead e) }
 {
     let taken = all.len() - left;
@@ -172,7 +169,7 @@ fn finish<V: PageView>(
     }
 }
 
-#[tactic(auto, using(crate::proofs::Runs::told_still))]
+#[tactic(auto, using(crate::proofs::Runs::told_still, crate::proofs::LinesOnly::lines_then))]
 /// The transaction with what changed, and then the pages that were taken.
 fn tell<V: PageView>(
     alloc: Global,
@@ -186,8 +183,7 @@ fn tell<V: PageView>(
     ensures count_of_blocks { V.PageView.block_count view.new ≡ V.PageView.block_count view.old }
     ensures fault { CarriesCount (V.PageView.fault_count view.old) (V.PageView.fault_count view.new) result }
     ensures told { V.PageView.tells → IfOk result (λ later. TellsDraft (V.PageView.block_count view.old) (V.PageView.image view.old) draft.now.pages.items tx.now later) }
-    ensures allocs { IfOk result (λ later. EndsWith later (allocs_of taken.now)) }
-    ensures edits { V.PageView.tells → IfOk result (λ later. TellsThen (allocs_of taken.now) tx.now later) }
+    ensures allocs { IfOk result (λ later. TellsThen (allocs_of taken.now) tx.now later) }
 {
     let Ok(mut later) = copy_tx(alloc, tx) else {
         return Err(ViewError::Memory);

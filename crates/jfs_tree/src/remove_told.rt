@@ -74,7 +74,7 @@ pub fn remove_and_tell<V: PageView, F: PageLoss>(
     }
 }
 
-#[tactic(auto, using(crate::proofs::Removes::told_freed))]
+#[tactic(auto, using(crate::proofs::Removes::told_freed, crate::proofs::LinesOnly::lines_then))]
 /// The transaction with what changed, and then the pages that are free.
 fn tell_freed<V: PageView>(
     alloc: Global,

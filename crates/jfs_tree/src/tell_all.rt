@@ -2,7 +2,7 @@
 
 ghost use Rattle.std.specs.Prelude.{◌≡◌, ◌<◌, ◌≤◌, ◌+◌, ℕ, List, OnOk, IfOk, length, take, not, get_or};
 ghost use Rattle.jfs_ranges.specs.View.{CarriesCount};
-ghost use Rattle.jfs_tree.specs.Tell.{TellsOne, TellsDraft, TellsExactly, TellsPage, occurs};
+ghost use Rattle.jfs_tree.specs.Tell.{TellsOne, TellsDraft, TellsExactly, TellsLines, TellsPage, occurs};
 
 use crate::draft::{Draft, Drafted};
 use crate::tell::{tell_page, tell_whole};
@@ -23,6 +23,7 @@ pub fn tell_draft<V: PageView>(
     ensures count_of_blocks { V.PageView.block_count view.new ≡ V.PageView.block_count view.old }
     ensures fault { CarriesCount (V.PageView.fault_count view.old) (V.PageView.fault_count view.new) result }
     ensures edits { V.PageView.tells → OnOk result (TellsExactly (V.PageView.block_count view.old) (V.PageView.image view.old) taken.now kind draft.now.pages.items tx.old tx.new) }
+    ensures lines { OnOk result (TellsLines tx.old tx.new) }
     ensures told { V.PageView.tells → OnOk result (TellsDraft (V.PageView.block_count view.old) (V.PageView.image view.old) draft.now.pages.items tx.old tx.new) }
 {
     let pages = draft.pages.as_slice();
@@ -34,6 +35,7 @@ pub fn tell_draft<V: PageView>(
     Ok(())
 }
 
+#[tactic(auto, using(crate::proofs::LinesOnly::whole_told))]
 /// Tells one changed page.
 fn tell_drafted<V: PageView>(
     alloc: Global,
@@ -47,6 +49,7 @@ fn tell_drafted<V: PageView>(
     ensures count_of_blocks { V.PageView.block_count view.new ≡ V.PageView.block_count view.old }
     ensures fault { CarriesCount (V.PageView.fault_count view.old) (V.PageView.fault_count view.new) result }
     ensures edits { V.PageView.tells → OnOk result (TellsPage (V.PageView.block_count view.old) (V.PageView.image view.old) taken.now kind drafted.now.number drafted.now.page.0 tx.old tx.new) }
+    ensures lines { OnOk result (TellsLines tx.old tx.new) }
     ensures told { V.PageView.tells → OnOk result (TellsOne (V.PageView.block_count view.old) (V.PageView.image view.old) drafted.now.number drafted.now.page.0 tx.old tx.new) }
 {
     let n = drafted.number;

@@ -14,7 +14,7 @@ use Rattle.jfs_tree.specs.Form.{LeadsDown}
 use Rattle.jfs_tree.specs.Root.{NamesBroken}
 use Rattle.jfs_tree.specs.Call.{nodes}
 use Rattle.jfs_tree.specs.Draft.{shown}
-use Rattle.jfs_tree.specs.Tell.{TellsDraft}
+use Rattle.jfs_tree.specs.Tell.{TellsDraft, TellsThen}
 use Rattle.jfs_tree.specs.declared.draft.Drafted.{Drafted}
 use Rattle.jfs_tree.specs.declared.form.TreeError.{TreeError}
 use Rattle.jfs_tree.specs.declared.form.TreeError.TheVariants.{View, Bad, Memory}
@@ -34,7 +34,7 @@ use Rattle.jfs_xtree.specs.Laws.{order, ends_after}
 use Rattle.jfs_xtree.specs.Node.{xt_scale, xt_node, fits_flag, fits_max, is_leaf, child_of, all_within, IsSound, SameKind}
 use Rattle.jfs_xtree.specs.Spells.{root_form, page_nodes, tree_error}
 use Rattle.jfs_xtree.specs.Errors.{handed_on}
-use Rattle.jfs_tree.specs.Fresh.{EndsWith, after_tx}
+use Rattle.jfs_tree.specs.Fresh.{after_tx}
 use Rattle.jfs_tree.specs.Removes.{page_frees}
 use Rattle.jfs_xtree.specs.Cutting.{kept_below, gone_past, run_frees, HasOnlyBelow, CutsExtents}
 use Rattle.jfs_xtree.specs.CutParts.{CutPart, CutsNode, BreaksUnder, KeepsSome, naming, shows, if_kept}
@@ -245,12 +245,12 @@ pub cuts_extents : (blocks bound : ℕ) (form : XtForm) (image : Image) (root mi
     → CutsNode bound (page_nodes blocks (page_of image)) (nodes (xt_node Full blocks) drafts image) (xt_node form blocks root) (xt_node form blocks mid) kept freed runs
     → (is_leaf (head_of root).flag ≡ true → (entries_of mid ≡ kept_below bound (entries_of root)) × (runs ≡ gone_past bound (entries_of root)) × (drafts ≡ []) × (freed ≡ [])) → SameKind (head_of root) (head_of mid) → KeepsSome (entries_of mid) kept
     → (kept ≡ true → new ≡ mid) → (kept ≡ false → (head_of new ≡ record (head_of mid) { flag = kind_flag (head_of mid).flag true }) × (entries_of new ≡ entries_of mid))
-    → TellsDraft blocks image drafts tx later → EndsWith later (page_frees freed ++ run_frees runs) → CutsExtents blocks (page_of image) bound root new tx later
+    → TellsDraft blocks image drafts tx later → TellsThen (page_frees freed ++ run_frees runs) tx later → CutsExtents blocks (page_of image) bound root new tx later
 cuts_extents blocks bound form image root mid new drafts kept freed runs tx later small is sound cuts leaf kind some stays empties told ends es spelt =
     let drafted = nodes (xt_node Full blocks) drafts image in
     let c = root_done form blocks bound root mid new image drafts kept freed runs es sound cuts leaf kind some stays empties (subst (λ f. spells xt_scale (page_nodes blocks (page_of image)) (xt_node f blocks root) ≡ Ok es) (sym is) spelt) in (
       freed,
-      subst (λ ps. EndsWith later (page_frees freed ++ run_frees ps)) c.gone ends,
+      subst (λ ps. TellsThen (page_frees freed ++ run_frees ps) tx later) c.gone ends,
       λ base leads.
           let now = page_nodes blocks (after_tx base later) in
           let agree = λ (n : ℕ) (h : n < blocks). ap (xt_node Full blocks) (told n h (base n) (leads n h).0 (leads n h).1) in

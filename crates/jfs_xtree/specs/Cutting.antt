@@ -6,8 +6,9 @@ use Rattle.jfs_ranges.specs.declared.edit.Edit.{Edit}
 use Rattle.jfs_ranges.specs.declared.edit.Edit.TheVariants.{Free}
 use Rattle.jfs_tree.specs.Edit.{count_in}
 use Rattle.jfs_tree.specs.Spells.{spells, footprint}
-use Rattle.jfs_tree.specs.Fresh.{EndsWith, LeadsTo, after_tx}
+use Rattle.jfs_tree.specs.Fresh.{LeadsTo, after_tx}
 use Rattle.jfs_tree.specs.Removes.{page_frees}
+use Rattle.jfs_tree.specs.Tell.{TellsThen}
 use Rattle.jfs_xtpage.specs.Page.{end_of}
 use Rattle.jfs_xtree.specs.Node.{xt_scale, xt_node}
 use Rattle.jfs_xtree.specs.Spells.{page_nodes, root_form, spells_extents, owned_pages}
@@ -40,9 +41,9 @@ pub record HasOnlyBelow (blocks bound : ℕ) (es : List Xad) (pages later : ℕ 
   pub owned : (n : ℕ) → footprint xt_scale (page_nodes blocks later) (xt_node (root_form (length root)) blocks after) n + count_in n freed ≡ owned_pages blocks pages root n
   pub keeps : (n : ℕ) → n < blocks → footprint xt_scale (page_nodes blocks later) (xt_node (root_form (length root)) blocks after) n ≡ 0 → page_nodes blocks later n ≡ page_nodes blocks pages n
 
--- Whatever list the root spelled: the last edits free the tree's pages that are no more, and the blocks past the bound in the list's order; where the edits before lead
--- to the pages that the view shows, all edits lead to pages in which the root spells the extents below the bound.
+-- Whatever list the root spelled: lines were appended, then what frees the tree's pages that are no more, and then what frees the blocks past the bound in the list's order;
+-- nothing else. Where the edits before lead to the pages that the view shows, all edits lead to pages in which the root spells the extents below the bound.
 abbrev pub CutsExtents : ℕ → (ℕ → List ℕ) → ℕ → List ℕ → List ℕ → List Edit → List Edit → Type 0
 CutsExtents blocks pages bound root after tx later = (es : List Xad) → spells_extents blocks pages root ≡ Ok es
-    → (freed : List ℕ) × EndsWith later (page_frees freed ++ run_frees (gone_past bound es))
+    → (freed : List ℕ) × TellsThen (page_frees freed ++ run_frees (gone_past bound es)) tx later
     × ((base : ℕ → List ℕ) → LeadsTo blocks base tx pages → HasOnlyBelow blocks bound es pages (after_tx base later) root after freed)

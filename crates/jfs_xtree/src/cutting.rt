@@ -3,10 +3,9 @@
 ghost use Rattle.std.specs.Prelude.{◌≡◌, ◌⊎◌, ◌<◌, ◌≤◌, ◌++◌, [], ℕ, List, length, true, false, OnOk, OnErr, IfOk, IfErr};
 ghost use Rattle.jfs_disk.specs.Image.{page_of};
 ghost use Rattle.jfs_tree.specs.Call.{CarriesFault};
-ghost use Rattle.jfs_tree.specs.Fresh.{EndsWith};
 ghost use Rattle.jfs_tree.specs.Removes.{page_frees};
 ghost use Rattle.jfs_tree.specs.Root.{NamesBroken};
-ghost use Rattle.jfs_tree.specs.Tell.{TellsDraft};
+ghost use Rattle.jfs_tree.specs.Tell.{TellsDraft, TellsThen};
 ghost use Rattle.jfs_ranges.specs.View.{CarriesCount};
 ghost use Rattle.jfs_xtpage.specs.Page.{head_of, entries_of, kind_flag};
 ghost use Rattle.jfs_xtree.specs.Node.{xt_scale};
@@ -118,14 +117,14 @@ fn close_root(root: &mut [u8], kept: bool)
     }
 }
 
-#[tactic(auto, using(crate::proofs::CutTold::told_cut))]
+#[tactic(auto, using(crate::proofs::CutTold::told_cut, jfs_tree::proofs::LinesOnly::lines_then))]
 /// The transaction with what changed, and then what is freed.
 fn tell_cut<V: PageView>(alloc: Global, view: &mut V, cut: &Cut, tx: &Tx) -> Result<Tx, ViewError>
     ensures image { V.PageView.tells → V.PageView.image view.new ≡ V.PageView.image view.old }
     ensures count_of_blocks { V.PageView.block_count view.new ≡ V.PageView.block_count view.old }
     ensures fault { CarriesCount (V.PageView.fault_count view.old) (V.PageView.fault_count view.new) result }
     ensures told { V.PageView.tells → IfOk result (λ later. TellsDraft (V.PageView.block_count view.old) (V.PageView.image view.old) cut.now.draft.pages.items tx.now later) }
-    ensures frees { IfOk result (λ later. EndsWith later (page_frees cut.now.pages.items ++ run_frees cut.now.runs)) }
+    ensures frees { IfOk result (λ later. TellsThen (page_frees cut.now.pages.items ++ run_frees cut.now.runs) tx.now later) }
 {
     let Ok(mut later) = copy_tx(alloc, tx) else {
         return Err(ViewError::Memory);

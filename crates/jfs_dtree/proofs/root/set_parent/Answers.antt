@@ -16,6 +16,7 @@ returns c =
     let kept = kept_put 20 4 (little_bytes 4 c.args.parent) c.args.root.now c.put_u32.new.bytes refl size c.put_u32.ensures.bytes in
     let alike = parent_alike c.args.root.now c.put_u32.new.bytes kept in
     record {
+      bytes = c.put_u32.ensures.bytes;
       parent = ap (λ (b : List ℕ). field_of b 20 4) c.put_u32.ensures.bytes ∙ field_of-put_same 20 4 c.args.parent c.args.root.now refl size (let h = c.put_u32.ensures.fits in omega (arith, h));
       kind = ap (λ (f : ℕ). f / 2 % 2 == 1) alike.flag;
       node = λ blocks. parent_node c.args.root.now c.put_u32.new.bytes kept blocks;

@@ -2,7 +2,7 @@ use Rattle.std.proofs.Common.{◌-◌, ◌∙◌, ap, sym, subst, length}
 use Rattle.std.specs.Prelude.{reverse}
 use Rattle.jfs_tree.specs.Form.{AllBelow}
 use Rattle.jfs_tree.specs.Fresh.{blocks_of}
-use Rattle.jfs_tree.proofs.Runs.{below_reverse, left_named, taken_named, taken_edits}
+use Rattle.jfs_tree.proofs.Runs.{below_reverse, left_named, taken_named}
 use Rattle.jfs_tree.proofs.Adds.{refuses_as, adds_told, told_as, ok_maps, full_as, takes_as}
 use Rattle.jfs_tree.proofs.add_told.plan.Goals as goal
 
@@ -31,7 +31,7 @@ returns-clause-adds g c tells =
 pub returns-clause-taken : goal.returns-clause-taken
 returns-clause-taken g c =
     ok_maps c.finish.result c.finish.ensures.rest c.finish.ensures.allocs (λ p rest ends.
-    taken_named (blocks_of c.args.fresh.now) c.as_slice.result.now (blocks_of p.fresh) (length c.as_slice.result.now - c.len.result) p.tx (c.as_slice.ensures.value ∙ c.in-Ok.ensures) rest ends)
+    taken_named (blocks_of c.args.fresh.now) c.as_slice.result.now (blocks_of p.fresh) (length c.as_slice.result.now - c.len.result) c.args.tx.now p.tx (c.as_slice.ensures.value ∙ c.in-Ok.ensures) rest ends)
 
 pub returns-in-Err-clause-full : goal.returns-in-Err-clause-full
 returns-in-Err-clause-full g c tells =
@@ -54,8 +54,3 @@ returns-clause-room g c tells =
     (left_named (blocks_of c.args.fresh.now) c.as_slice.result.now c.reversed-stack.result.items c.add_entry.new.fresh.items (blocks_of p.fresh) c.len.result
     (c.as_slice.ensures.value ∙ c.in-Ok.ensures) (c.len.ensures ∙ c.add_entry.new.fresh.ok.0) (c.reversed-stack.ensures ∙ ap reverse c.in-Ok-blocks_of.ensures) c.add_entry.ensures.front rest)
     (c.in_default-add_entry.ensures.taken tells))
-
-pub returns-clause-edits : goal.returns-clause-edits
-returns-clause-edits g c tells =
-    ok_maps c.finish.result c.finish.ensures.rest (c.finish.ensures.edits tells) (λ p rest edits.
-    taken_edits (blocks_of c.args.fresh.now) c.as_slice.result.now (blocks_of p.fresh) (length c.as_slice.result.now - c.len.result) c.args.tx.now p.tx (c.as_slice.ensures.value ∙ c.in-Ok.ensures) rest edits)

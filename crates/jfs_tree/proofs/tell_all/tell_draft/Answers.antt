@@ -1,9 +1,10 @@
 use Rattle.std.proofs.Common.{◌∙◌, ap, sym, subst, ◌+◌, [], length, take, get_or, arith}
 use Rattle.jfs_disk.specs.Image.{Image}
 use Rattle.jfs_tree.specs.declared.draft.Drafted.{Drafted}
-use Rattle.jfs_tree.specs.Tell.{TellsDraft, TellsOne, TellsPage}
+use Rattle.jfs_tree.specs.Tell.{TellsDraft, TellsLines, TellsOne, TellsPage}
 use Rattle.jfs_tree.proofs.DraftEdited.{DraftSoFar, page_told, page_hidden, all_told}
 use Rattle.jfs_tree.proofs.DraftTold.{told_more, told_hidden}
+use Rattle.jfs_tree.proofs.LinesOnly.{more_told}
 use Rattle.jfs_tree.proofs.tell_all.tell_draft.Goals as goal
 use Rattle.jfs_tree.proofs.tell_all.tell_draft.Goals.{then-is_newest+in_ok-tell_drafted, else-is_newest}
 
@@ -30,6 +31,7 @@ loop-i-preserved g c =
             (subst (λ n. TellsPage n (g.V.PageView.image c.args.view.now) c.args.taken.now c.args.kind (get_or ds c.loop-i.i d).number (get_or ds c.loop-i.i d).page.0 c.loop-i.tx w.tell_drafted.new.tx) inv.1
             (subst (λ (i : Image). TellsPage (g.V.PageView.block_count c.loop-i.view) i c.args.taken.now c.args.kind (get_or ds c.loop-i.i d).number (get_or ds c.loop-i.i d).page.0 c.loop-i.tx w.tell_drafted.new.tx) (inv.0 t) (w.in_ok-tell_drafted.ensures.edits t)))
             (subst (λ xs. DraftSoFar (g.V.PageView.block_count c.args.view.now) (g.V.PageView.image c.args.view.now) c.args.taken.now c.args.kind xs c.loop-i.i c.args.tx.now c.loop-i.tx) (sym same) (inv.4 t)))),
+        subst (TellsLines c.args.tx.now) (sym w.tx-is) (more_told c.args.tx.now c.loop-i.tx w.tell_drafted.new.tx inv.5 w.in_ok-tell_drafted.ensures.lines),
       )
       | else-is_newest w ↦ (
         (λ t. ap (λ v. g.V.PageView.image v) w.view-is ∙ inv.0 t),
@@ -43,6 +45,7 @@ loop-i-preserved g c =
             (subst (λ later. DraftSoFar (g.V.PageView.block_count c.args.view.now) (g.V.PageView.image c.args.view.now) c.args.taken.now c.args.kind ds (c.loop-i.i + 1) c.args.tx.now later) (sym w.tx-is)
             (page_hidden (g.V.PageView.block_count c.args.view.now) (g.V.PageView.image c.args.view.now) c.args.taken.now c.args.kind ds c.loop-i.i d c.is_newest.result c.args.tx.now c.loop-i.tx (let h = c.loop-i-test.true in omega (arith, h)) (c.is_newest.ensures d) w.if-is_newest.false
             (subst (λ xs. DraftSoFar (g.V.PageView.block_count c.args.view.now) (g.V.PageView.image c.args.view.now) c.args.taken.now c.args.kind xs c.loop-i.i c.args.tx.now c.loop-i.tx) (sym same) (inv.4 t)))),
+        subst (TellsLines c.args.tx.now) (sym w.tx-is) inv.5,
       )
     ]
 
