@@ -1,6 +1,7 @@
 //! Pages in memory, for trees that grow.
 
 ghost use Rattle.std.specs.Prelude.{◌≡◌, ◌<◌, ◌≤◌, ◌+◌, [], ◌∷◌, IfOk, true};
+ghost use Rattle.jfs_ranges.specs.View.{no_device};
 
 use jfs_bits::{Pxd, PxdList};
 use jfs_disk::Page;
@@ -26,6 +27,10 @@ impl PageView for Store {
     ghost image = { λ store. [] };
 
     ghost tells = { ⊥ };
+
+    ghost crashes = { ⊥ };
+
+    ghost device = { λ store. no_device };
 
     ghost has_pages = { λ store told. absurd told };
 

@@ -1,14 +1,9 @@
-pub mod OneList
-pub mod Stable
-pub mod Canonical
-pub mod Mounted
-pub mod Range
-pub mod Fixed
-pub mod Clean
-pub mod InUse
-pub mod Sound
-pub mod BothWays
-pub mod Compared
-pub mod Readable
-pub mod Consistent
-pub mod Tidy
+mod Placed
+mod Filed
+mod Walked
+mod Wholly
+mod Mapped
+mod Table
+mod Concluded
+mod AllParts
+mod Answered

@@ -1,12 +1,7 @@
 -- what the clauses say
-pub mod Kind
-pub mod Subject
-pub mod Mount
-pub mod Inodes
-pub mod Names
-pub mod Trees
-pub mod Blocks
-pub mod Maps
-pub mod Findings
-pub mod Clean
-pub mod Laws
+pub mod Checked
+-- how a check ends early, and what its steps give; for the prover alone
+pub mod Ends
+pub mod Look
+pub mod Looked
+pub mod Places

@@ -1,11 +1,18 @@
-//! What a checker finds on a volume.
+//! The checker of a volume.
 #![tactic(auto)]
 
-mod finding;
-mod law;
+mod checked;
+mod checking;
+mod conclude;
+mod counts;
+mod ended;
+mod examine;
+mod files;
+mod fresh;
+mod look;
+mod maps;
+mod places;
+mod whole;
 
-pub use finding::{Finding, FindingKind};
-pub use law::{
-    canonical_pages_pass, clean_volumes_are_sound, findings_are_one_list,
-    sound_volumes_are_consistent_and_tidy,
-};
+pub use checked::{CheckError, Checked};
+pub use checking::{check, check_view};

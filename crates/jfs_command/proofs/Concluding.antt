@@ -177,10 +177,10 @@ completes d s k asked now old new status history told a = λ tells sources held 
     by_kind run status (kind_of status) refl a.ends command is_command answer
     (λ (came : CameTo run status).
     let one = one_command asked came.0 command came.1 is_command in
-    came.2.one held
+    came.2.one (inl tells) held
     (record { pages = is_held.pages ∙ sym a.before.pages; each = λ n _. ap (λ (i : Image). page_of i n) (is_held.image tells ∙ sym (a.before.image tells)) })
     answer
-    (subst (λ (c : Command). (meaning_of c a.inputs).says held answer) (sym one) (subst (λ (i : Inputs). (meaning_of command i).says held answer) (sym (one_inputs s old.scripts now a.inputs inputs sources a.given are)) says)))
+    (subst (λ (c : Command). (meaning_of c a.inputs).says d.tells held answer) (sym one) (subst (λ (i : Inputs). (meaning_of command i).says d.tells held answer) (sym (one_inputs s old.scripts now a.inputs inputs sources a.given are)) says)))
     no_disk no_scripts no_sink
   where
     by_kind : (run : Run) (status : Status) (kind : Kind) → kind_of status ≡ kind → EndsAs run status kind → (command : Command) → run.asked ≡ Ok command → (answer : Answer) → (CameTo run status → answer.status ≡ status)

@@ -43,7 +43,7 @@ comes d old new outcome uuid label now answer says does is_text own stays is_end
         says = said;
         does = does;
         looked = λ other same. subst (λ (n : ℕ). FormatSays n (with_text outcome.text.items)) (sym same.pages) said;
-        one = λ other same x also. one_status (d.page_count old) x (with_text outcome.text.items) (subst (λ (n : ℕ). FormatSays n x) same.pages also) said;
+        one = λ judged other same x also. one_status (d.page_count old) x (with_text outcome.text.items) (subst (λ (n : ℕ). FormatSays n x) same.pages also) said;
       },
       own,
       stays,

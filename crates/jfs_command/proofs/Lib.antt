@@ -8,4 +8,5 @@ pub mod Showing
 pub mod LogLines
 pub mod LogShown
 pub mod Formatting
+pub mod Checking
 pub mod Concluding

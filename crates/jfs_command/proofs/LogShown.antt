@@ -25,11 +25,11 @@ use Rattle.jfs_command.specs.declared.outcome.Outcome.{Outcome}
 use Rattle.jfs_command.specs.Status.{IsOwn}
 use Rattle.jfs_command.specs.Count.{Count, Stays}
 use Rattle.jfs_command.specs.Held.{Held}
-use Rattle.jfs_command.specs.Meaning.{Answer, LooksSame, Performs, finished, refused}
+use Rattle.jfs_command.specs.Meaning.{Answer, LooksSame, Performs, finished, refused, every_status}
 use Rattle.jfs_command.specs.Superblock.{superblock_of, Looks}
 use Rattle.jfs_command.specs.LogText.{log_text}
 use Rattle.jfs_command.specs.Log.{log_of, LooksAtLog, LogSays, prints, is_foreign, is_bad, LogSaysOneThing, LogEnds, end_of, log_meaning}
-use Rattle.jfs_command.proofs.Looking.{GoesOn, ShowsSame, faults_of, comes, no_memory, disk_failed, seen, goes_on}
+use Rattle.jfs_command.proofs.Looking.{Behind, GoesOn, ShowsSame, faults_of, comes, no_memory, disk_failed, seen, goes_on}
 
 -- ---- the log is one that may follow a look at the superblock
 
@@ -87,8 +87,11 @@ one_thing pages blocks log a b some (is_bad address rule is e) (is_foreign label
 one_thing pages blocks log a b some (is_bad address rule is e) (is_bad address' rule' is' e') =
     e ∙ one_refusal pages blocks log (errors.BadLog address rule) (errors.BadLog address' rule') some (λ n. n) (λ n. n) is is' ∙ sym e'
 
-abbrev pub log_says : Held → Super → Answer → Type 0
+abbrev log_says : Held → Super → Answer → Type 0
 log_says held s = LogSays s.logpxd.len (blocks_of s) (log_of held s)
+
+abbrev pub log_behind : Behind
+log_behind = record { looks = LooksAtLog; says = λ tells. log_says; judged = every_status }
 
 enough : (held : Held) → IsAccepted (superblock_of held) held.pages → 2 < (superblock_of held).logpxd.len
 enough held accepted = let layout = accepted_layout (superblock_of held) held.pages accepted in let shortest = layout.shortest in omega (arith, shortest)
@@ -102,11 +105,11 @@ same_log a b accepted same n some less =
     let at = (superblock_of a).logpxd.addr in
     page_behind b.image at n ∙ same.each (at + n) (inr (accepted, (omega (arith, some), omega (arith, less)))) ∙ sym (page_behind a.image at n)
 
-pub log_goes : GoesOn LooksAtLog log_says
+pub log_goes : GoesOn log_behind
 log_goes = record {
   page8 = λ held there. inl (refl, there);
-  rests = λ a b answer accepted same said. same_says (superblock_of a).logpxd.len (blocks_of (superblock_of a)) (log_of a (superblock_of a)) (log_of b (superblock_of a)) answer (enough a accepted) (same_log a b accepted same) said;
-  one = λ held x y accepted said also. ap (λ (z : Answer). z.status) (one_thing (superblock_of held).logpxd.len (blocks_of (superblock_of held)) (log_of held (superblock_of held)) x y (enough held accepted) said also);
+  rests = λ tells a b answer accepted same said. same_says (superblock_of a).logpxd.len (blocks_of (superblock_of a)) (log_of a (superblock_of a)) (log_of b (superblock_of a)) answer (enough a accepted) (same_log a b accepted same) said;
+  one = λ tells held x y judged accepted said also. ap (λ (z : Answer). z.status) (one_thing (superblock_of held).logpxd.len (blocks_of (superblock_of held)) (log_of held (superblock_of held)) x y (enough held accepted) said also);
 }
 
 -- ---- what was read of the log
@@ -157,7 +160,7 @@ said d old mid new s image result outcome answer runs says stays own same is_tex
     let least = layout.least in
     let behind = layout.behind in
     let log = subst (λ (log : Image). LogSays s.logpxd.len (blocks_of s) log answer) (sym (found.behind s.logpxd.addr (omega (arith, least, behind)))) says in
-    comes d old new outcome LooksAtLog log_says found.held answer log_goes found.is same is_text (goes_on log_says found.held s answer found.block found.accepted log) own (stays ∙ runs.looked.4) is_end
+    comes d old new outcome log_behind found.held answer log_goes found.is same is_text (goes_on log_says found.held s answer found.block found.accepted log) own (stays ∙ runs.looked.4) is_end
 
 pub log_shown : {D : Type 0} (d : Ghosts D) (old mid new : D) (s : Super) (image : Image) (text : Vec ℕ) (outcome : Outcome) → Runs d old mid new s image (Ok text) → ShowsSame d old new outcome
     → outcome.text.items ≡ text.items → outcome.end ≡ Own statuses.Done → Performs d log_meaning old new outcome
@@ -167,6 +170,6 @@ pub log_not_shown : {D : Type 0} (d : Ghosts D) (old mid new : D) (s : Super) (i
     → outcome.text.items ≡ [] → outcome.end ≡ end → Performs d log_meaning old new outcome
 log_not_shown d old mid new s image (Own status) outcome runs same no_text is_end = said d old mid new s image (Err (Own status)) outcome (refused status) runs runs.ends.0 runs.ends.2 runs.ends.1 same no_text is_end
 log_not_shown d old mid new s image (Stopped stops.Disk) outcome runs same no_text is_end =
-    disk_failed d old new outcome LooksAtLog log_says log_goes (accepted_pages s (d.page_count old) runs.looked.3) same no_text (subst (λ (n : ℕ). Rose n (d.fault_count new)) runs.looked.4 runs.ends) is_end
-log_not_shown d old mid new s image (Stopped stops.Memory) outcome runs same no_text is_end = no_memory d old new outcome LooksAtLog log_says log_goes (accepted_pages s (d.page_count old) runs.looked.3) same no_text is_end
+    disk_failed d old new outcome log_behind log_goes (accepted_pages s (d.page_count old) runs.looked.3) same no_text (subst (λ (n : ℕ). Rose n (d.fault_count new)) runs.looked.4 runs.ends) is_end
+log_not_shown d old mid new s image (Stopped stops.Memory) outcome runs same no_text is_end = no_memory d old new outcome log_behind log_goes (accepted_pages s (d.page_count old) runs.looked.3) same no_text is_end
 log_not_shown d old mid new s image (Stopped stops.Scripts) outcome runs same no_text is_end = absurd runs.ends

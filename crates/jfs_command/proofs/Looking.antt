@@ -1,5 +1,5 @@
 -- Commands that look at the superblock, go on where it is accepted, and change nothing.
-use Rattle.std.proofs.Common.{◌≡◌, ◌<◌, ◌≤◌, ℕ, List, [], Option, Some, Ok, Err, drop, refl, sym, ap, subst, ◌∙◌, arith}
+use Rattle.std.proofs.Common.{◌≡◌, ◌<◌, ◌≤◌, ◌⊎◌, ℕ, List, [], Option, Some, Ok, Err, drop, refl, sym, ap, subst, ◌∙◌, arith}
 use Rattle.jfs_bits.specs.Broken.{first_broken}
 use Rattle.jfs_disk.specs.Image.{Image, ArePages}
 use Rattle.jfs_disk.specs.declared.disk.Disk.{Ghosts}
@@ -8,6 +8,7 @@ use Rattle.jfs_super.specs.declared.read.BadSuper.{BadSuper}
 use Rattle.jfs_super.specs.Super.{super_of}
 use Rattle.jfs_super.specs.Rules.{rows, IsAccepted}
 use Rattle.jfs_super.proofs.Rules.{accepted_pages}
+use Rattle.jfs_command.specs.declared.status.Status.{Status}
 use Rattle.jfs_command.specs.declared.status.Status.TheVariants as statuses
 use Rattle.jfs_command.specs.declared.status.Stop.TheVariants as stops
 use Rattle.jfs_command.specs.declared.outcome.End.{End}
@@ -21,26 +22,33 @@ use Rattle.jfs_command.specs.Superblock.{superblock_of, AfterRules, AfterSuperbl
 use Rattle.jfs_command.proofs.SuperblockLemmas.{SamePage8, same_first, same_after, one_after}
 use Rattle.jfs_command.proofs.Evidence.{has_page8}
 
--- What such a command says of what a disk holds and its superblock, where that is accepted: it rests on the pages that are looked at, page 8
--- among them, and has one status.
-pub record GoesOn (looks : Held → ℕ → Type 0) (says : Held → Super → Answer → Type 0) : Type 0 where
-  pub page8 : (held : Held) → 8 < held.pages → looks held 8
-  pub rests : (a b : Held) → (answer : Answer) → IsAccepted (superblock_of a) a.pages → LooksSame (looks a) a b → says a (superblock_of a) answer → says b (superblock_of a) answer
-  pub one : (held : Held) → (x y : Answer) → IsAccepted (superblock_of held) held.pages → says held (superblock_of held) x → says held (superblock_of held) y → x.status ≡ y.status
+-- Such a command: the pages that it looks at, what it says of what a disk holds and its superblock where that is accepted, and the
+-- statuses that are judged of each disk.
+pub record Behind : Type 1 where
+  pub looks : Held → ℕ → Type 0
+  pub says : (tells : Type 0) → Held → Super → Answer → Type 0
+  pub judged : Status → Type 0
+
+-- What it says rests on the pages that are looked at, page 8 among them, and has one status where that is judged.
+pub record GoesOn (c : Behind) : Type 1 where
+  pub page8 : (held : Held) → 8 < held.pages → c.looks held 8
+  pub rests : (tells : Type 0) → (a b : Held) → (answer : Answer) → IsAccepted (superblock_of a) a.pages → LooksSame (c.looks a) a b → c.says tells a (superblock_of a) answer → c.says tells b (superblock_of a) answer
+  pub one : (tells : Type 0) → (held : Held) → (x y : Answer) → tells ⊎ c.judged y.status → IsAccepted (superblock_of held) held.pages
+      → c.says tells held (superblock_of held) x → c.says tells held (superblock_of held) y → x.status ≡ y.status
 
 -- what the command means
-abbrev pub looks_and : (Held → ℕ → Type 0) → (Held → Super → Answer → Type 0) → Meaning
-looks_and looks says = only_looks looks (λ held. AfterSuperblock held (says held))
+abbrev pub looks_and : Behind → Meaning
+looks_and c = only_looks c.looks (λ tells held. AfterSuperblock held (c.says tells held)) c.judged
 
 abbrev pub faults_of : {D : Type 0} → Ghosts D → D → D → Count
 faults_of d old new = record { before = d.fault_count old; now = d.fault_count new }
 
-page8_same : (looks : Held → ℕ → Type 0) (says : Held → Super → Answer → Type 0) (a b : Held) → GoesOn looks says → LooksSame (looks a) a b → SamePage8 a b
-page8_same looks says a b goes same = record { pages = same.pages; page = λ there. same.each 8 (goes.page8 a there) }
+page8_same : (c : Behind) (a b : Held) → GoesOn c → LooksSame (c.looks a) a b → SamePage8 a b
+page8_same c a b goes same = record { pages = same.pages; page = λ there. same.each 8 (goes.page8 a there) }
 
-looked : (looks : Held → ℕ → Type 0) (says : Held → Super → Answer → Type 0) (a b : Held) (answer : Answer) → GoesOn looks says → LooksSame (looks a) a b → AfterSuperblock a (says a) answer → AfterSuperblock b (says b) answer
-looked looks says a b answer goes same said =
-    same_after a b (says a) (says b) answer (page8_same looks says a b goes same) (λ accepted said. goes.rests a b answer accepted same said) said
+looked : (c : Behind) (tells : Type 0) (a b : Held) (answer : Answer) → GoesOn c → LooksSame (c.looks a) a b → AfterSuperblock a (c.says tells a) answer → AfterSuperblock b (c.says tells b) answer
+looked c tells a b answer goes same said =
+    same_after a b (c.says tells a) (c.says tells b) answer (page8_same c a b goes same) (λ accepted said. goes.rests tells a b answer accepted same said) said
 
 -- What a command did that ran from one disk to another and left what it shows as it was.
 pub record ShowsSame {D : Type 0} (d : Ghosts D) (old new : D) (outcome : Outcome) : Type 0 where
@@ -66,17 +74,17 @@ ends_as d m old new outcome held end is_end is ends = record {
 }
 
 -- the command comes to an answer
-pub comes : {D : Type 0} (d : Ghosts D) (old new : D) (outcome : Outcome) (looks : Held → ℕ → Type 0) (says : Held → Super → Answer → Type 0) (held : Held) (answer : Answer) → GoesOn looks says → IsHeld d old held → ShowsSame d old new outcome
-    → outcome.text.items ≡ answer.text → AfterSuperblock held (says held) answer → IsOwn answer.status → Stays (faults_of d old new) → outcome.end ≡ Own answer.status → Performs d (looks_and looks says) old new outcome
-comes d old new outcome looks says held answer goes is same is_text said own stays is_end =
+pub comes : {D : Type 0} (d : Ghosts D) (old new : D) (outcome : Outcome) (c : Behind) (held : Held) (answer : Answer) → GoesOn c → IsHeld d old held → ShowsSame d old new outcome
+    → outcome.text.items ≡ answer.text → AfterSuperblock held (c.says d.tells held) answer → IsOwn answer.status → Stays (faults_of d old new) → outcome.end ≡ Own answer.status → Performs d (looks_and c) old new outcome
+comes d old new outcome c held answer goes is same is_text said own stays is_end =
     let with_text : List ℕ → Answer = λ text. record { status = answer.status; text = text } in
-    let told = subst (λ (a : Answer). AfterSuperblock held (says held) a) (sym (ap with_text is_text)) said in
-    ends_as d (looks_and looks says) old new outcome held (Own answer.status) is_end is (
+    let told = subst (λ (a : Answer). AfterSuperblock held (c.says d.tells held) a) (sym (ap with_text is_text)) said in
+    ends_as d (looks_and c) old new outcome held (Own answer.status) is_end is (
       record {
         says = told;
         does = changes_nothing d old new held outcome is same;
-        looked = λ other alike. looked looks says held other (with_text outcome.text.items) goes alike told;
-        one = λ other alike x also. one_after other (says other) x answer (λ accepted a b. goes.one other x answer accepted a b) also (looked looks says held other answer goes alike said);
+        looked = λ other alike. looked c d.tells held other (with_text outcome.text.items) goes alike told;
+        one = λ judged other alike x also. one_after other (c.says d.tells other) x answer (λ accepted a b. goes.one d.tells other x answer judged accepted a b) also (looked c d.tells held other answer goes alike said);
       },
       own,
       stays,
@@ -84,22 +92,22 @@ comes d old new outcome looks says held answer goes is same is_text said own sta
     )
 
 -- a command that was stopped had looked at page 8
-stopped : {D : Type 0} (d : Ghosts D) (old new : D) (outcome : Outcome) (looks : Held → ℕ → Type 0) (says : Held → Super → Answer → Type 0) → GoesOn looks says → 9 ≤ d.page_count old → ShowsSame d old new outcome
-    → outcome.text.items ≡ [] → (looks_and looks says).stops d.tells d.tells_crashes (held_of d old) (work_of outcome (held_of d new))
-stopped d old new outcome looks says goes there same no_text =
+stopped : {D : Type 0} (d : Ghosts D) (old new : D) (outcome : Outcome) (c : Behind) → GoesOn c → 9 ≤ d.page_count old → ShowsSame d old new outcome
+    → outcome.text.items ≡ [] → (looks_and c).stops d.tells d.tells_crashes (held_of d old) (work_of outcome (held_of d new))
+stopped d old new outcome c goes there same no_text =
     ((8, goes.page8 (held_of d old) (omega (arith, there))), no_text, changes_nothing d old new (held_of d old) outcome (record { pages = refl; image = λ t. refl; past = λ t. refl }) same)
 
-pub no_memory : {D : Type 0} (d : Ghosts D) (old new : D) (outcome : Outcome) (looks : Held → ℕ → Type 0) (says : Held → Super → Answer → Type 0) → GoesOn looks says → 9 ≤ d.page_count old → ShowsSame d old new outcome
-    → outcome.text.items ≡ [] → outcome.end ≡ Stopped stops.Memory → Performs d (looks_and looks says) old new outcome
-no_memory d old new outcome looks says goes there same no_text is_end =
-    ends_as d (looks_and looks says) old new outcome (held_of d old) (Stopped stops.Memory) is_end (record { pages = refl; image = λ t. refl; past = λ t. refl })
-    (stopped d old new outcome looks says goes there same no_text)
+pub no_memory : {D : Type 0} (d : Ghosts D) (old new : D) (outcome : Outcome) (c : Behind) → GoesOn c → 9 ≤ d.page_count old → ShowsSame d old new outcome
+    → outcome.text.items ≡ [] → outcome.end ≡ Stopped stops.Memory → Performs d (looks_and c) old new outcome
+no_memory d old new outcome c goes there same no_text is_end =
+    ends_as d (looks_and c) old new outcome (held_of d old) (Stopped stops.Memory) is_end (record { pages = refl; image = λ t. refl; past = λ t. refl })
+    (stopped d old new outcome c goes there same no_text)
 
-pub disk_failed : {D : Type 0} (d : Ghosts D) (old new : D) (outcome : Outcome) (looks : Held → ℕ → Type 0) (says : Held → Super → Answer → Type 0) → GoesOn looks says → 9 ≤ d.page_count old → ShowsSame d old new outcome
-    → outcome.text.items ≡ [] → HasRisen (faults_of d old new) → outcome.end ≡ Stopped stops.Disk → Performs d (looks_and looks says) old new outcome
-disk_failed d old new outcome looks says goes there same no_text risen is_end =
-    ends_as d (looks_and looks says) old new outcome (held_of d old) (Stopped stops.Disk) is_end (record { pages = refl; image = λ t. refl; past = λ t. refl })
-    (stopped d old new outcome looks says goes there same no_text, risen, refl)
+pub disk_failed : {D : Type 0} (d : Ghosts D) (old new : D) (outcome : Outcome) (c : Behind) → GoesOn c → 9 ≤ d.page_count old → ShowsSame d old new outcome
+    → outcome.text.items ≡ [] → HasRisen (faults_of d old new) → outcome.end ≡ Stopped stops.Disk → Performs d (looks_and c) old new outcome
+disk_failed d old new outcome c goes there same no_text risen is_end =
+    ends_as d (looks_and c) old new outcome (held_of d old) (Stopped stops.Disk) is_end (record { pages = refl; image = λ t. refl; past = λ t. refl })
+    (stopped d old new outcome c goes there same no_text, risen, refl)
 
 -- ---- the look at the superblock
 
@@ -132,17 +140,17 @@ goes_on says held s answer block accepted said =
     subst (λ (o : Option BadSuper). AfterRules o (says held (superblock_of held)) answer) (sym none) (subst (λ (t : Super). says held t answer) (sym block) said)
 
 -- a look that went no further
-pub not_looked : {D : Type 0} (d : Ghosts D) (old new : D) (end : End) (outcome : Outcome) (looks : Held → ℕ → Type 0) (says : Held → Super → Answer → Type 0) → GoesOn looks says → (d.tells → ArePages (d.page_count old) (d.image old))
-    → Looks d.tells (d.page_count old) (d.image old) (faults_of d old new) (Err end) → ShowsSame d old new outcome → outcome.text.items ≡ [] → outcome.end ≡ end → Performs d (looks_and looks says) old new outcome
-not_looked d old new (Own (statuses.BadImage number rule value)) outcome looks says goes pages (page, is8, number_is, broken, stays) same no_text is_end =
+pub not_looked : {D : Type 0} (d : Ghosts D) (old new : D) (end : End) (outcome : Outcome) (c : Behind) → GoesOn c → (d.tells → ArePages (d.page_count old) (d.image old))
+    → Looks d.tells (d.page_count old) (d.image old) (faults_of d old new) (Err end) → ShowsSame d old new outcome → outcome.text.items ≡ [] → outcome.end ≡ end → Performs d (looks_and c) old new outcome
+not_looked d old new (Own (statuses.BadImage number rule value)) outcome c goes pages (page, is8, number_is, broken, stays) same no_text is_end =
     let found = has_page8 d old (d.image old) page pages (λ t. refl) is8 in
     let held : Held = found.held in
     let first : first_broken (rows (superblock_of held) held.pages) ≡ Some (record { rule = rule; value = value }) =
     same_first (superblock_of held) (super_of page) held.pages (λ there. ap super_of (found.there there)) ∙ ap (λ (n : ℕ). first_broken (rows (super_of page) n)) found.is.pages ∙ broken in
-    comes d old new outcome looks says held (refused (statuses.BadImage number rule value)) goes found.is same no_text
-    (subst (λ (o : Option BadSuper). AfterRules o (says held (superblock_of held)) (refused (statuses.BadImage number rule value))) (sym first) (ap (λ (n : ℕ). refused (statuses.BadImage n rule value)) number_is))
+    comes d old new outcome c held (refused (statuses.BadImage number rule value)) goes found.is same no_text
+    (subst (λ (o : Option BadSuper). AfterRules o (c.says d.tells held (superblock_of held)) (refused (statuses.BadImage number rule value))) (sym first) (ap (λ (n : ℕ). refused (statuses.BadImage n rule value)) number_is))
     tt stays is_end
-not_looked d old new (Stopped stops.Disk) outcome looks says goes pages (there, risen) same no_text is_end = disk_failed d old new outcome looks says goes there same no_text risen is_end
-not_looked d old new (Stopped stops.Memory) outcome looks says goes pages there same no_text is_end = no_memory d old new outcome looks says goes there same no_text is_end
-not_looked d old new (Stopped stops.Scripts) outcome looks says goes pages h same no_text is_end = absurd h
-not_looked d old new (Own _) outcome looks says goes pages h same no_text is_end = absurd h
+not_looked d old new (Stopped stops.Disk) outcome c goes pages (there, risen) same no_text is_end = disk_failed d old new outcome c goes there same no_text risen is_end
+not_looked d old new (Stopped stops.Memory) outcome c goes pages there same no_text is_end = no_memory d old new outcome c goes there same no_text is_end
+not_looked d old new (Stopped stops.Scripts) outcome c goes pages h same no_text is_end = absurd h
+not_looked d old new (Own _) outcome c goes pages h same no_text is_end = absurd h

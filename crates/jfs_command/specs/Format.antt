@@ -21,7 +21,7 @@ use Rattle.jfs_command.specs.declared.status.Stop.TheVariants as stops
 use Rattle.jfs_command.specs.declared.outcome.End.{End}
 use Rattle.jfs_command.specs.declared.outcome.End.TheVariants.{Own, Stopped}
 use Rattle.jfs_command.specs.Held.{Held, Work, ChangesNothing}
-use Rattle.jfs_command.specs.Meaning.{Meaning, Answer, finished, refused}
+use Rattle.jfs_command.specs.Meaning.{Meaning, Answer, finished, refused, every_status}
 use Rattle.jfs_command.specs.Superblock.{superblock_of}
 
 -- how many blocks the file system part has, and how many of them are free
@@ -63,7 +63,8 @@ Formats _ tells crashes v held work = ChangesNothing tells crashes held work
 abbrev pub format_meaning : List ℕ → List ℕ → Moment → Meaning
 format_meaning uuid label now = record {
   looks = λ held n. ⊥;
-  says = λ held answer. FormatSays held.pages answer;
+  says = λ tells held answer. FormatSays held.pages answer;
+  judged = every_status;
   does = λ tells crashes held status work. Formats status tells crashes (wanted held.pages uuid label now) held work;
   stops = λ tells crashes held work. IsFormattable held.pages × (work.text ≡ []) × HasBegun tells crashes (wanted held.pages uuid label now) held work;
 }

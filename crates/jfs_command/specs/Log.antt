@@ -18,7 +18,7 @@ use Rattle.jfs_command.specs.Status.{IsOwn}
 use Rattle.jfs_command.specs.Count.{Count, Stays, HasRisen}
 use Rattle.jfs_command.specs.Held.{Held}
 use Rattle.jfs_command.specs.LogText.{log_text}
-use Rattle.jfs_command.specs.Meaning.{Meaning, Answer, finished, refused, only_looks}
+use Rattle.jfs_command.specs.Meaning.{Meaning, Answer, finished, refused, every_status, only_looks}
 use Rattle.jfs_command.specs.Superblock.{superblock_of, LooksAtSuper, AfterSuperblock}
 
 -- the log's pages, and what lies behind them
@@ -49,7 +49,7 @@ LogSaysOneThing = (pages blocks : ℕ) (log : Image) (a b : Answer) → 2 < page
 
 -- it writes nothing
 abbrev pub log_meaning : Meaning
-log_meaning = only_looks LooksAtLog (λ held. AfterSuperblock held (λ s. LogSays s.logpxd.len (blocks_of s) (log_of held s)))
+log_meaning = only_looks LooksAtLog (λ tells held. AfterSuperblock held (λ s. LogSays s.logpxd.len (blocks_of s) (log_of held s))) every_status
 
 -- ---- for the prover: what the function that reads the log answers
 

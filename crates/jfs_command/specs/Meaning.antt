@@ -1,5 +1,5 @@
 -- What a command means, said of the disk alone. Faults, want of memory and the sink are no part of it.
-use Rattle.std.specs.Prelude.{◌≡◌, ℕ, List, []}
+use Rattle.std.specs.Prelude.{◌≡◌, ◌⊎◌, ℕ, List, []}
 use Rattle.jfs_disk.specs.Image.{page_of}
 use Rattle.jfs_disk.specs.declared.disk.Disk.{Ghosts}
 use Rattle.jfs_command.specs.declared.status.Status.{Status}
@@ -28,18 +28,26 @@ refused status = record { status = status; text = [] }
 pub record Meaning : Type 1 where
   -- the pages that it looks at
   pub looks : Held → ℕ → Type 0
-  -- its answers, each with its cause
-  pub says : Held → Answer → Type 0
+  -- its answers, each with its cause; of a disk that doesn't tell, what can be said of them
+  pub says : (tells : Type 0) → Held → Answer → Type 0
+  -- The statuses that are judged of each disk, and not only of one that tells. Of a disk that doesn't tell, no image fits what a
+  -- command saw that looked at one page twice and saw two contents.
+  pub judged : Status → Type 0
   -- the work that it has done where it comes to that status
   pub does : (tells crashes : Type 0) → Held → Status → Work → Type 0
   -- the work that it may have done where it is stopped on the way
   pub stops : (tells crashes : Type 0) → Held → Work → Type 0
 
+-- all statuses are judged of each disk
+abbrev pub every_status : Status → Type 0
+every_status status = Unit {0}
+
 -- A command that has no clients and changes nothing. Only a look at a page can stop it.
-abbrev pub only_looks : (Held → ℕ → Type 0) → (Held → Answer → Type 0) → Meaning
-only_looks looks says = record {
+abbrev pub only_looks : (Held → ℕ → Type 0) → ((tells : Type 0) → Held → Answer → Type 0) → (Status → Type 0) → Meaning
+only_looks looks says judged = record {
   looks = looks;
   says = says;
+  judged = judged;
   does = λ tells crashes held _ work. ChangesNothing tells crashes held work;
   stops = λ tells crashes held work. ((n : ℕ) × looks held n) × (work.text ≡ []) × ChangesNothing tells crashes held work;
 }
@@ -49,12 +57,13 @@ pub record LooksSame (looks : ℕ → Type 0) (a b : Held) : Type 0 where
   pub pages : b.pages ≡ a.pages
   pub each : (n : ℕ) → looks n → page_of b.image n ≡ page_of a.image n
 
--- The command comes to this status: what the disk holds says so. No other status has its cause, and no page decides that isn't looked at.
+-- The command comes to this status: what the disk holds says so. No page decides that isn't looked at, and no other status has its cause
+-- where the disk tells, or the status is judged of each disk.
 pub record ComesTo (m : Meaning) (tells crashes : Type 0) (held : Held) (status : Status) (work : Work) : Type 0 where
-  pub says : m.says held (record { status = status; text = work.text })
+  pub says : m.says tells held (record { status = status; text = work.text })
   pub does : m.does tells crashes held status work
-  pub looked : (other : Held) → LooksSame (m.looks held) held other → m.says other (record { status = status; text = work.text })
-  pub one : (other : Held) → LooksSame (m.looks held) held other → (answer : Answer) → m.says other answer → answer.status ≡ status
+  pub looked : (other : Held) → LooksSame (m.looks held) held other → m.says tells other (record { status = status; text = work.text })
+  pub one : tells ⊎ m.judged status → (other : Held) → LooksSame (m.looks held) held other → (answer : Answer) → m.says tells other answer → answer.status ≡ status
 
 -- How a command ends by its meaning, with the faults of the disk and of the scripts' sources meanwhile.
 abbrev pub EndsBy : Meaning → Type 0 → Type 0 → Held → Work → Count → Count → End → Type 0

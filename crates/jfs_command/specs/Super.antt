@@ -7,7 +7,7 @@ use Rattle.jfs_super.specs.declared.fields.Super.{Super}
 use Rattle.jfs_super.specs.Rules.{blocks_of}
 use Rattle.jfs_command.specs.Text.{line, pair_text, hex_text, label_text}
 use Rattle.jfs_command.specs.Held.{Held}
-use Rattle.jfs_command.specs.Meaning.{Meaning, Answer, finished, only_looks}
+use Rattle.jfs_command.specs.Meaning.{Meaning, Answer, finished, every_status, only_looks}
 use Rattle.jfs_command.specs.Superblock.{LooksAtSuper, AfterSuperblock}
 
 -- the ten lines of a superblock
@@ -29,4 +29,4 @@ SuperSays held = AfterSuperblock held (λ s answer. answer ≡ finished (super_t
 
 -- it looks at page 8 alone
 abbrev pub super_meaning : Meaning
-super_meaning = only_looks LooksAtSuper SuperSays
+super_meaning = only_looks LooksAtSuper (λ tells. SuperSays) every_status

@@ -1,6 +1,7 @@
 -- The superblock that a disk holds, as commands look at it.
-use Rattle.std.specs.Prelude.{◌≡◌, ◌<◌, ◌≤◌, ℕ, List, Option, Some, None, Result, Ok, Err}
+use Rattle.std.specs.Prelude.{◌≡◌, ◌<◌, ◌≤◌, ℕ, Bool, true, false, List, Option, Some, None, Result, Ok, Err}
 use Rattle.jfs_bits.specs.Broken.{first_broken}
+use Rattle.jfs_bits.specs.declared.rule.Rule.TheVariants as rules
 use Rattle.jfs_disk.specs.Image.{Image, page_of}
 use Rattle.jfs_super.specs.declared.fields.Super.{Super}
 use Rattle.jfs_super.specs.declared.read.BadSuper.{BadSuper}
@@ -29,6 +30,11 @@ AfterRules (Some bad) Says answer = answer ≡ refused (BadImage 8 bad.rule bad.
 -- The superblock is refused at the first rule that it breaks. Where it breaks none, the command goes on.
 abbrev pub AfterSuperblock : Held → (Super → Answer → Type 0) → Answer → Type 0
 AfterSuperblock held Says = AfterRules (first_broken (rows (superblock_of held) held.pages)) (Says (superblock_of held))
+
+-- A state that the command doesn't take is refused, after all other rules of the superblock.
+abbrev pub AfterState : (is_taken : Bool) → (state : ℕ) → (Answer → Type 0) → Answer → Type 0
+AfterState true state Says answer = Says answer
+AfterState false state Says answer = answer ≡ refused (BadImage 8 rules.State state)
 
 -- ---- for the prover: what the function that looks at the superblock answers
 

@@ -44,8 +44,8 @@ WasStopped run = (command : Command) × (run.asked ≡ Ok command) × (meaning_o
 abbrev pub DidNothing : Run → Type 0
 DidNothing run = (run.work.text ≡ []) × ChangesNothing run.tells run.crashes run.held run.work
 
--- The cause of a status, by its kind. Of what a run is given, one status at most has its cause beside faults and want of memory,
--- and where a count rose no other status comes than its own or that of want of memory, which is free.
+-- The cause of a status, by its kind. Of what a run is given, one status at most has its cause beside faults and want of memory, of
+-- those that are judged (`Meaning`); and where a count rose no other status comes than its own or that of want of memory, which is free.
 abbrev pub EndsAs : Run → Status → Kind → Type 0
 EndsAs run status Finishes = CameTo run status × Stays run.disk × Stays run.scripts
 EndsAs run status Refuses = CameTo run status × Stays run.disk × Stays run.scripts
@@ -119,7 +119,7 @@ abbrev pub IsComplete : {D S K : Type 0} → DiskMembers D → SourceMembers S �
 IsComplete d s k asked now old new status =
     d.tells → (s.tells ⊎ (old.scripts ≡ []))
     → (held : Held) → IsHeld d old.disk held → (inputs : Inputs) → AreInputs s old.scripts now inputs
-    → (command : Command) → asked ≡ Ok command → (answer : Answer) → (meaning_of command inputs).says held answer
+    → (command : Command) → asked ≡ Ok command → (answer : Answer) → (meaning_of command inputs).says d.tells held answer
     → ¬ (Rose (d.fault_count old.disk) (d.fault_count new.disk)) → ¬ (Rose (source_faults s old.scripts) (source_faults s new.scripts)) → ¬ (Rose (k.fault_count old.out) (k.fault_count new.out))
     → (status ≡ answer.status) ⊎ (status ≡ OutOfMemory)
 

@@ -7,7 +7,7 @@ use Rattle.uuid.specs.Text.{parsed}
 use Rattle.jfs_format.specs.Superblock.{label_field}
 use Rattle.jfs_command.specs.declared.words.Usage.{Usage}
 use Rattle.jfs_command.specs.declared.words.Command.{Command}
-use Rattle.jfs_command.specs.declared.words.Command.TheVariants.{Super, Log, Format}
+use Rattle.jfs_command.specs.declared.words.Command.TheVariants.{Super, Log, Check, Format}
 use Rattle.jfs_command.specs.declared.words.PathsError.{PathsError}
 use Rattle.jfs_command.specs.declared.words.PathsError.TheVariants as errors
 
@@ -66,6 +66,7 @@ command_of [] = usage 1
 command_of (first ∷ rest) =
     if bytes_eq first (codes "super") then image_alone Super rest
     else if bytes_eq first (codes "log") then image_alone Log rest
+    else if bytes_eq first (codes "check") then image_alone Check rest
     else if bytes_eq first (codes "format") then image_and_uuid rest
     else usage 1
 

@@ -1,8 +1,14 @@
 //! What is true of all answers of a command.
 
+ghost use Rattle.jfs_command.specs.Check.{CheckSaysOneThing};
 ghost use Rattle.jfs_command.specs.Log.{LogSaysOneThing};
 
 /// Of one log one answer is given, text and all.
 pub fn log_says_one_thing()
     ensures { LogSaysOneThing }
+{}
+
+/// Of one volume one answer is given, text and all, where the disk tells.
+pub fn check_says_one_thing()
+    ensures { CheckSaysOneThing }
 {}

@@ -1,6 +1,7 @@
 //! The top call: the words of a command, its work on a disk, its status and its text.
 #![tactic(auto)]
 
+mod check;
 mod format;
 mod law;
 mod line;
@@ -16,7 +17,7 @@ mod text;
 mod top;
 mod words;
 
-pub use law::log_says_one_thing;
+pub use law::{check_says_one_thing, log_says_one_thing};
 pub use outcome::Entry;
 pub use status::Status;
 pub use top::{Ended, jfs_top};

@@ -4,6 +4,7 @@ ghost use Rattle.std.specs.Prelude.{◌≡◌, ◌≤◌};
 ghost use Rattle.jfs_command.specs.Inputs.{source_faults};
 ghost use Rattle.jfs_command.specs.Top.{PerformsCommand};
 
+use crate::check::check_volume;
 use crate::format::format_volume;
 use crate::log::show_log;
 use crate::outcome::Outcome;
@@ -30,6 +31,7 @@ pub fn perform<D: Disk, S: Source>(
     match command {
         Command::Super => show_super(alloc, disk),
         Command::Log => show_log(alloc, disk),
+        Command::Check => check_volume(alloc, disk),
         Command::Format { uuid, label } => format_volume(alloc, disk, uuid, &label, now),
     }
 }

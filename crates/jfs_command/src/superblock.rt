@@ -9,7 +9,7 @@ use jfs_disk::{Disk, DiskError, Page};
 use jfs_super::{Super, read_super};
 
 /// The page of the primary superblock.
-const SUPERBLOCK: u32 = 8;
+pub const SUPERBLOCK: u32 = 8;
 
 /// Reads the superblock; page 8 is read once, and not at all where there is none.
 pub fn look<D: Disk>(disk: &mut D) -> Result<Super, End>

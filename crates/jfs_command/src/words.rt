@@ -22,6 +22,8 @@ pub enum Command {
     Super,
     /// Print the records of the image's log.
     Log,
+    /// List what is wrong with the volume of the image.
+    Check,
     /// Write an empty volume over all pages of the image; behind the label stand zeros.
     Format { uuid: Uuid, label: [u8; 16] },
 }
@@ -83,6 +85,7 @@ pub fn read_words(words: &[Vec<u8>]) -> Result<Command, Usage>
     match words {
         [first, rest @ ..] if is_word(first, b"super") => image_alone(Command::Super, rest),
         [first, rest @ ..] if is_word(first, b"log") => image_alone(Command::Log, rest),
+        [first, rest @ ..] if is_word(first, b"check") => image_alone(Command::Check, rest),
         [first, rest @ ..] if is_word(first, b"format") => image_and_uuid(rest),
         _ => Err(Usage { word: 1 }),
     }

@@ -1,6 +1,6 @@
 ghost use Rattle.std.specs.Prelude.{◌≡◌, ◌<◌, ℕ, List, [], ◌∷◌, IfOk, get_or, length};
 ghost use Rattle.jfs_disk.specs.Image.{page_of};
-ghost use Rattle.jfs_ranges.specs.View.{IsLent};
+ghost use Rattle.jfs_ranges.specs.View.{IsLent, no_device};
 ghost use Rattle.jfs_core_rows.specs.Views.{two_whole};
 
 use jfs_disk::{Fault, Page, Part};
@@ -13,7 +13,7 @@ fn first_bytes<V: PageView>(view: &mut V) -> Result<(u8, u8), ViewError>
     ensures first { IfOk result (λ bytes. V.tells → bytes.0 ≡ get_or (page_of (V.image view.old) 0) 0 0) }
     ensures second { IfOk result (λ bytes. V.tells → bytes.1 ≡ get_or (page_of (V.image view.old) 1) 0 0) }
     ensures lent { IsLent V.tells (V.block_count view.old) (V.block_count view.new) (V.image view.old) (V.image view.new)
-        (V.fault_count view.old) (V.fault_count view.new) result }
+        (V.device view.old) (V.device view.new) (V.fault_count view.old) (V.fault_count view.new) result }
 {
     let first = match view.page(0) {
         Ok(page) => page.0[0],
@@ -60,6 +60,10 @@ impl PageView for Shelf {
     ghost image = { λ shelf. shelf.low.0 ∷ shelf.high.0 ∷ [] };
 
     ghost tells = { Unit {0} };
+
+    ghost crashes = { Unit {0} };
+
+    ghost device = { λ shelf. no_device };
 
     ghost has_pages = { λ shelf told. two_whole shelf.low.0 shelf.high.0 shelf.low_size shelf.high_size };
 

@@ -1,5 +1,5 @@
 -- Children of an inner page: the place to which it leads a name.
-use Rattle.std.proofs.Common.{◌≡◌, ◌<◌, ◌⊎◌, inl, inr, refl, sym, ap, ◌∙◌, subst, ℕ, zero, suc, ◌+◌, ◌-◌, ◌==◌, ◌&&◌, true, List, [], ◌∷◌, ◌++◌, length, map, take, drop, Some, Ok, arith}
+use Rattle.std.proofs.Common.{◌≡◌, ◌<◌, ◌≤◌, ◌⊎◌, inl, inr, refl, sym, ap, ◌∙◌, subst, ℕ, zero, suc, ◌+◌, ◌-◌, ◌==◌, ◌&&◌, true, List, [], ◌∷◌, ◌++◌, length, map, take, drop, Some, Ok, arith}
 use Rattle.std.specs.Prelude.{slice_get, nat_le}
 use Rattle.std.specs.List.{list_all}
 use Rattle.std.specs.Option.{option_map}
@@ -15,9 +15,11 @@ use Rattle.jfs_dtpage.specs.Form.{count_of, head_of}
 use Rattle.jfs_dtpage.specs.Order.{IsBefore, name_at, IsRising, GoesAt, IsFound}
 use Rattle.jfs_dtpage.specs.Page.{Entry, Named, Below, name_in, entries_of, names_of}
 use Rattle.jfs_dtpage.proofs.Pages.{names_length}
+use Rattle.jfs_dtpage.proofs.Rising.{high_moves}
 use Rattle.jfs_tree.specs.Walk.{Child, Node, Inner}
 use Rattle.jfs_tree.specs.Edit.{IsPast, IsCons}
 use Rattle.jfs_tree.specs.Form.{LeadsDown}
+use Rattle.jfs_tree.proofs.Path.{AllPast, leads_alone}
 use Rattle.jfs_dtree.specs.Node.{not_after, name_scale, below, is_within, child_within}
 use Rattle.jfs_dtree.specs.Place.{LeadsAt}
 use Rattle.jfs_dtree.specs.Laws.{before_up, name_refl, not_from}
@@ -84,9 +86,19 @@ past_from [] (suc n) x h = tt
 past_from (c ∷ cs) zero x h = not_from x.name c.key (h (omega arith))
 past_from (c ∷ cs) (suc n) x h = past_from cs n x (λ l. h (omega (arith, l)))
 
-pub leads_down : (node : Node (List ℕ) NameEntry) (cs : List (Child (List ℕ))) (x : NameEntry) (place page : ℕ) (c : Child (List ℕ)) → node ≡ Inner cs → LeadsAt (key_names cs) x.name place → slice_get cs place ≡ Some c → c.page ≡ page
+all_past : (cs : List (Child (List ℕ))) (n : ℕ) (name : List ℕ) → ((i : ℕ) → n ≤ i → i < length (key_names cs) → IsBefore name (name_at (key_names cs) i)) → AllPast name_scale name (drop n cs)
+all_past [] zero name h = tt
+all_past [] (suc n) name h = tt
+all_past (c ∷ cs) zero name h = (not_from name c.key (h zero (omega arith) (omega arith)), all_past cs zero name (λ i a l. h (suc i) (omega arith) (omega (arith, l))))
+all_past (c ∷ cs) (suc n) name h = all_past cs n name (λ i a l. h (suc i) (omega (arith, a)) (omega (arith, l)))
+
+-- where keys rise, all behind the place are past the name
+rest_past : (cs : List (Child (List ℕ))) (name : List ℕ) (place : ℕ) → IsRising (key_names cs) → LeadsAt (key_names cs) name place → AllPast name_scale name (drop (suc place) cs)
+rest_past cs name place rising leads = all_past cs (suc place) name (λ i a l. high_moves (key_names cs) name (suc place) rising (leads.past (omega (arith, a, l))) i a l)
+
+pub leads_down : (node : Node (List ℕ) NameEntry) (cs : List (Child (List ℕ))) (x : NameEntry) (place page : ℕ) (c : Child (List ℕ)) → node ≡ Inner cs → IsRising (key_names cs) → LeadsAt (key_names cs) x.name place → slice_get cs place ≡ Some c → c.page ≡ page
     → LeadsDown name_scale x node place page
-leads_down node cs x place page c is leads at to = record {
+leads_down node cs x place page c is rising leads at to = record {
   front = take place cs;
   child = c;
   back = drop (suc place) cs;
@@ -95,6 +107,7 @@ leads_down node cs x place page c is leads at to = record {
   to = to;
   past = past_from cs (suc place) x leads.past;
   above = side place leads.above at;
+  alone = leads_alone name_scale x.name node (take place cs) c (drop (suc place) cs) (is ∙ ap (λ ds. Inner ds) (cut cs place c at)) (side place leads.above at) (rest_past cs x.name place rising leads) ∙ ap Some to;
 }
   where
     side : (place : ℕ) → (0 < place → not_after (name_at (key_names cs) place) x.name ≡ true) → slice_get cs place ≡ Some c → (take place cs ≡ []) ⊎ (not_after c.key x.name ≡ true)

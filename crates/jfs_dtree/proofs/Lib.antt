@@ -10,6 +10,7 @@ pub mod Keys
 pub mod Offspring
 pub mod Grown
 pub mod Listed
+pub mod Tight
 pub mod Roots
 pub mod Parented
 pub mod Entered

@@ -74,6 +74,11 @@ single_is form blocks count bytes single is tells = record {
       tells ∙ ap (λ n. n == 1) (is ∙ sym (entries_length form bytes) ∙ sym (length-map (entries_of form bytes) below) ∙ ap length page.4);
 }
 
+pub bare_is : (form : DtForm) (blocks count : ℕ) (bytes : List ℕ) → count ≡ count_of bytes → (es : List NameEntry) → dt_node form blocks bytes ≡ Leaf es → (count == 0) ≡ (length es == 0)
+bare_is form blocks count bytes is es leaf =
+    let page = leaf_is form blocks bytes es leaf in
+    ap (λ n. n == 0) (is ∙ sym (entries_length form bytes) ∙ sym (length-map (entries_of form bytes) named) ∙ ap length page.2)
+
 -- ---- an inner page
 
 middle_length : {X : Type 0} (front : List X) (x : X) (back : List X) → length front < length (front ++ x ∷ back)

@@ -1,9 +1,8 @@
 -- Roots and what is found, added and refused, as the calls say it.
-use Rattle.std.proofs.Common.{◌≡◌, refl, sym, ap, ◌∙◌, subst, ℕ, ◌*◌, List, [], ◌∷◌, map, Bool, true, false, Option, None, Ok}
+use Rattle.std.proofs.Common.{◌≡◌, inl, inr, refl, sym, ap, ◌∙◌, subst, ℕ, ◌*◌, List, [], ◌∷◌, map, Bool, true, false, Option, Some, None, Result, Ok, Err}
 use Rattle.std.specs.List.{list_all}
 use Rattle.std.specs.Option.{option_map}
-use Rattle.std.proofs.lemmas.Bool.{and_parts, eq-eqb, true≢false}
-use Rattle.std.specs.Prelude.{◌==◌, if◌then◌else◌}
+use Rattle.std.proofs.lemmas.Bool.{and_parts, true≢false}
 use Rattle.jfs_disk.specs.Image.{Image, page_of}
 use Rattle.jfs_name.specs.declared.name.NameEntry.{NameEntry}
 use Rattle.jfs_name.specs.Directory.{named}
@@ -15,21 +14,25 @@ use Rattle.jfs_dtpage.specs.Page.{entry_of, entries_of, table_of, IsDtPage}
 use Rattle.jfs_tree.specs.Walk.{Node, Leaf}
 use Rattle.jfs_tree.specs.Edit.{IsApart}
 use Rattle.jfs_tree.specs.Fresh.{AllPages, HasPages}
-use Rattle.jfs_tree.specs.Adds.{read_as, AddsTold, RefusesWhereFull}
+use Rattle.jfs_tree.specs.Adds.{read_as, AddsTold, LevelsTold, RefusesWhereFull}
+use Rattle.jfs_tree.specs.Path.{broken_on_way, TellsBroken}
+use Rattle.jfs_tree.specs.Room.{GrowsLevel}
 use Rattle.jfs_tree.specs.Root.{FindsAlways, NamesBroken, RefusesWhereBad}
 use Rattle.jfs_bits.specs.declared.rule.Rule.{Rule}
-use Rattle.jfs_bits.specs.declared.rule.Rule.TheVariants as rules
 use Rattle.jfs_ranges.specs.declared.edit.Edit.{Edit}
 use Rattle.jfs_tree.specs.Fresh.{after_tx}
 use Rattle.jfs_tree.specs.Call.{pages_of}
 use Rattle.jfs_tree.specs.declared.form.TreeError.{TreeError}
 use Rattle.jfs_tree.specs.declared.form.TreeError.TheVariants.{View, Bad, Memory}
 use Rattle.jfs_dtree.specs.Node.{named as named_entry, name_scale, below, is_within, child_within, dt_node}
-use Rattle.jfs_dtree.specs.Spells.{root_node, page_nodes, spells_names, FailsWhereBad}
-use Rattle.jfs_tree.specs.Spells.{no_page, spells}
-use Rattle.jfs_dtree.specs.declared.error.DtError.TheVariants.{TooDeep, Bad as BadPage}
+use Rattle.jfs_dtree.specs.Spells.{root_node, page_nodes, spells_names, broken_for, FailsWhereBad, TellsWay}
+use Rattle.jfs_tree.specs.Spells.{spells}
+use Rattle.jfs_dtree.specs.declared.error.DtError.{DtError}
+use Rattle.jfs_dtree.specs.declared.error.DtError.TheVariants as dt
 use Rattle.jfs_dtree.specs.Errors.{handed_on}
-use Rattle.jfs_dtree.specs.Adding.{AddsName, NoRoomOnWay, TakesPages, RefusesName, refusal}
+use Rattle.jfs_dtree.specs.Adding.{AddsName, NoRoomAtRoot, NoPlaceAtRoot, NoRoomOnWay, is_full_in, lacks_in, TakesPages, KeepsLevels, RefusesName, AddTellsWay}
+use Rattle.jfs_dtree.specs.Room.{is_deep, DeepIs, FollowsRoom}
+use Rattle.jfs_dtree.proofs.Tight.{full_deep}
 use Rattle.jfs_dtree.proofs.Nodes.{inner_is, leaf_read}
 use Rattle.jfs_dtree.proofs.Leading.{run_below}
 use Rattle.jfs_dtree.proofs.Listed.{found_named, apart_named, added_as}
@@ -91,35 +94,89 @@ adds_as b count blocks view image root after name x inode free left tx later eb 
 
 -- ---- what is refused
 
-refused_at : (blocks : ℕ) (pages : ℕ → List ℕ) (root free : List ℕ) (new : NameEntry) (page : ℕ) (rule : Rule) → IsNew blocks pages root new.name → RefusesWhereBad name_scale new (page_nodes blocks pages) (root_node blocks root) free (Bad page rule)
-    → RefusesWhereFull name_scale new (page_nodes blocks pages) (root_node blocks root) free (NoRoomOnWay blocks pages new root) (Bad page rule) → RefusesName blocks pages new root free (refusal (Bad page rule))
-refused_at blocks pages root free new page rules.Deep is_new h full = by (page == no_page) refl
-  where
-    apart : (es : List NameEntry) → spells_names blocks pages root ≡ Ok es → IsApart name_scale new es
-    apart es spelled = apart_named (page_nodes blocks pages) (root_node blocks root) es new spelled (is_new es spelled)
-
-    by : (b : Bool) → (page == no_page) ≡ b → RefusesName blocks pages new root free (if b then TooDeep else BadPage page rules.Deep)
-    by true e = λ es spelled spare. ((h es spelled (apart es spelled) spare).2, full es spelled (apart es spelled) spare)
-    by false e = λ es spelled spare. true≢false (sym (eq-eqb page no_page (h es spelled (apart es spelled) spare).0) ∙ e)
-refused_at blocks pages root free new page rule is_new h full = λ es spelled spare.
-    let t = h es spelled (apart_named (page_nodes blocks pages) (root_node blocks root) es new spelled (is_new es spelled)) spare in let e = t.1 in cc
-
 -- what a call on the tree says, in the words of its pages
 abbrev RefusesBoth : ℕ → ℕ → Image → List ℕ → NameEntry → List ℕ → TreeError → Type 0
 RefusesBoth b blocks image root x free e = RefusesWhereBad name_scale x (read_as (dt_node Full b) (page_of image)) (dt_node Root b root) free e
     × RefusesWhereFull name_scale x (read_as (dt_node Full b) (page_of image)) (dt_node Root b root) free (NoRoomOnWay b (page_of image) x root) e
 
 pub refuses_as : (b count blocks : ℕ) (view image : Image) (root name : List ℕ) (x : NameEntry) (inode : ℕ) (free : List ℕ) (e : TreeError) → b ≡ count → count ≡ blocks → view ≡ image → x ≡ record { name = name; inode = inode }
-    → IsNew blocks (page_of image) root name → RefusesWhereBad name_scale x (read_as (dt_node Full b) (page_of view)) (dt_node Root b root) free e
+    → IsNew blocks (page_of image) root name → DeepIs blocks (page_of image) root name false → RefusesWhereBad name_scale x (read_as (dt_node Full b) (page_of view)) (dt_node Root b root) free e
     → RefusesWhereFull name_scale x (read_as (dt_node Full b) (page_of view)) (dt_node Root b root) free (NoRoomOnWay b (page_of view) x root) e
-    → RefusesName blocks (page_of image) (record { name = name; inode = inode }) root free (refusal e)
-refuses_as b count blocks view image root name x inode free e eb ec ev ex is_new h full =
+    → RefusesName blocks (page_of image) (record { name = name; inode = inode }) root free (handed_on e)
+refuses_as b count blocks view image root name x inode free e eb ec ev ex is_new shallow h full =
     by e (subst (λ y. RefusesBoth blocks blocks image root y free e) ex (subst (λ i. RefusesBoth blocks blocks i root x free e) ev (subst (λ n. RefusesBoth n blocks view root x free e) (eb ∙ ec) (h, full))))
   where
-    by : (e : TreeError) → RefusesBoth blocks blocks image root (record { name = name; inode = inode }) free e → RefusesName blocks (page_of image) (record { name = name; inode = inode }) root free (refusal e)
+    by : (e : TreeError) → RefusesBoth blocks blocks image root (record { name = name; inode = inode }) free e → RefusesName blocks (page_of image) (record { name = name; inode = inode }) root free (handed_on e)
     by (View e) h = tt
-    by (Bad page rule) h = refused_at blocks (page_of image) root free (record { name = name; inode = inode }) page rule is_new h.0 h.1
+    by (Bad page rule) h = λ es spelled spare.
+        let new : NameEntry = record { name = name; inode = inode } in
+        let apart = apart_named (page_nodes blocks (page_of image)) (root_node blocks root) es new spelled (is_new es spelled) in
+        true≢false (sym (full_deep blocks (page_of image) name root new (lacks_in new (page_of image)) (NoRoomAtRoot new root) (NoPlaceAtRoot root) refl (h.0 es spelled apart spare).2 (h.1 es spelled apart spare)) ∙ shallow es spelled)
     by Memory h = tt
+
+pub deep_as : (b blocks : ℕ) (view image : Image) (root name : List ℕ) (x : NameEntry) (d deep : Bool) → b ≡ blocks → view ≡ image → x.name ≡ name → d ≡ deep → DeepIs b (page_of view) root x.name d → DeepIs blocks (page_of image) root name deep
+deep_as b blocks view image root name x d deep eb ev en ed h =
+    subst (DeepIs blocks (page_of image) root name) ed (subst (λ n. DeepIs blocks (page_of image) root n d) en (subst (λ i. DeepIs blocks (page_of i) root x.name d) ev (subst (λ k. DeepIs k (page_of view) root x.name d) eb h)))
+
+-- where a page on the way breaks a rule, the root spells no list
+pub found_no_room : (blocks : ℕ) (pages : ℕ → List ℕ) (root name : List ℕ) (e : DtError) → FailsWhereBad (page_nodes blocks pages) (root_node blocks root) e → FollowsRoom blocks pages root name (Err e)
+found_no_room blocks pages root name (dt.View e) h = tt
+found_no_room blocks pages root name (dt.Bad page rule) h = λ es spelled. absurd (h.1 es spelled)
+found_no_room blocks pages root name dt.Exists h = absurd h
+found_no_room blocks pages root name dt.Missing h = absurd h
+found_no_room blocks pages root name dt.TooDeep h = absurd h
+
+pub shallow_follows : (blocks : ℕ) (pages : ℕ → List ℕ) (root name : List ℕ) (e : TreeError) → DeepIs blocks pages root name false → FollowsRoom blocks pages root name (Err (handed_on e))
+shallow_follows blocks pages root name (View e) shallow = tt
+shallow_follows blocks pages root name (Bad page rule) shallow = shallow
+shallow_follows blocks pages root name Memory shallow = tt
+
+-- ---- the levels
+
+-- one level more, in the words of its pages
+abbrev pub Grows : ℕ → (ℕ → List ℕ) → NameEntry → List ℕ → List ℕ → (ℕ → Node (List ℕ) NameEntry) → Type 0
+Grows blocks pages x root after new = GrowsLevel name_scale x (read_as (dt_node Full blocks) pages) (is_full_in pages) (lacks_in x pages) (dt_node Root blocks root) (NoRoomAtRoot x root) (NoPlaceAtRoot root) (dt_node Root blocks after) new
+
+pub levels_as : (b count blocks : ℕ) (view image : Image) (root after name : List ℕ) (x : NameEntry) (inode : ℕ) (free : List ℕ) (tx later : List Edit) → b ≡ count → count ≡ blocks → view ≡ image → x ≡ record { name = name; inode = inode }
+    → IsNew blocks (page_of image) root name → LevelsTold name_scale (dt_node Full b) count (page_of view) x (dt_node Root b root) (dt_node Root b after) free tx later (Grows b (page_of view) x root after)
+    → KeepsLevels blocks (page_of image) (record { name = name; inode = inode }) root after free tx later
+levels_as b count blocks view image root after name x inode free tx later eb ec ev ex is_new told = λ base leads es spelled spare.
+    let new : NameEntry = record { name = name; inode = inode } in
+    let t = subst (λ y. LevelsTold name_scale (dt_node Full blocks) blocks (page_of image) y (dt_node Root blocks root) (dt_node Root blocks after) free tx later (Grows blocks (page_of image) y root after)) ex
+    (subst (λ i. LevelsTold name_scale (dt_node Full blocks) blocks (page_of i) x (dt_node Root blocks root) (dt_node Root blocks after) free tx later (Grows blocks (page_of i) x root after)) ev
+    (subst (λ n. LevelsTold name_scale (dt_node Full n) n (page_of view) x (dt_node Root n root) (dt_node Root n after) free tx later (Grows n (page_of view) x root after)) ec
+    (subst (λ n. LevelsTold name_scale (dt_node Full n) count (page_of view) x (dt_node Root n root) (dt_node Root n after) free tx later (Grows n (page_of view) x root after)) eb told))) in
+    t base leads es spelled (apart_named (page_nodes blocks (page_of image)) (root_node blocks root) es new spelled (is_new es spelled)) spare
+
+-- ---- the first broken rule on the way
+
+pub first_as : (b blocks : ℕ) (image : Image) (root name : List ℕ) (x : NameEntry) → b ≡ blocks → x.name ≡ name
+    → broken_on_way name_scale (page_nodes b (page_of image)) x.name (root_node b root) ≡ broken_for blocks (page_of image) root name
+first_as b blocks image root name x eb en = ap (λ k. broken_for k (page_of image) root x.name) eb ∙ ap (broken_for blocks (page_of image) root) en
+
+pub told_failed : (first later : Option (ℕ × Rule)) (e : TreeError) (r : DtError) → r ≡ handed_on e → first ≡ later → TellsBroken {T = Unit {0}} first (Err e) → TellsWay {T = Unit {0}} later (Err r)
+told_failed first later e r is same h = subst (λ d. TellsWay {T = Unit {0}} later (Err d)) (sym is) (by e h)
+  where
+    by : (e : TreeError) → TellsBroken {T = Unit {0}} first (Err e) → TellsWay {T = Unit {0}} later (Err (handed_on e))
+    by (View v) h = tt
+    by (Bad page rule) h = sym same ∙ h
+    by Memory h = tt
+
+pub found_tells : (pages : ℕ → Node (List ℕ) NameEntry) (root : Node (List ℕ) NameEntry) (first : Option (ℕ × Rule)) (e : DtError) → FailsWhereBad pages root e → TellsWay {T = Unit {0}} first (Err e) → AddTellsWay first (Err e)
+found_tells pages root first (dt.View e) fails h = tt
+found_tells pages root first (dt.Bad page rule) fails h = inl h
+found_tells pages root first dt.Exists fails h = absurd fails
+found_tells pages root first dt.Missing fails h = absurd fails
+found_tells pages root first dt.TooDeep fails h = absurd fails
+
+-- a failure, as the calls answer it
+abbrev pub failed : DtError → Result (Unit {0}) DtError
+failed e = Err e
+
+pub added_tells : (first : Option (ℕ × Rule)) (e : TreeError) → first ≡ None → AddTellsWay first (Err (handed_on e))
+added_tells first (View e) none = tt
+added_tells first (Bad page rule) none = inr none
+added_tells first Memory none = tt
 
 -- ---- which pages are taken
 

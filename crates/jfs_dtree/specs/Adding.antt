@@ -1,20 +1,18 @@
 -- What is added to a directory's names, and why a name is refused.
-use Rattle.std.specs.Prelude.{◌≡◌, ◌<◌, ◌==◌, if◌then◌else◌, ℕ, ◌+◌, true, false, List, length, Some, None, Ok}
-use Rattle.jfs_bits.specs.declared.rule.Rule.TheVariants as rules
+use Rattle.std.specs.Prelude.{◌≡◌, ◌⊎◌, ◌<◌, ℕ, ◌+◌, true, false, List, length, Option, Some, None, Result, Ok, Err}
+use Rattle.jfs_bits.specs.declared.rule.Rule.{Rule}
 use Rattle.jfs_name.specs.declared.name.NameEntry.{NameEntry}
 use Rattle.jfs_name.specs.Directory.{named, with_name}
 use Rattle.jfs_ranges.specs.declared.edit.Edit.{Edit}
-use Rattle.jfs_ranges.specs.declared.view.ViewError.TheVariants as view
 use Rattle.jfs_tree.specs.Spells.{no_page, with_root, levels_of}
 use Rattle.jfs_tree.specs.Edit.{count_in}
 use Rattle.jfs_tree.specs.Root.{IsSpare}
 use Rattle.jfs_tree.specs.Fresh.{LeadsTo, after_tx}
-use Rattle.jfs_tree.specs.declared.form.TreeError.{TreeError}
-use Rattle.jfs_tree.specs.declared.form.TreeError.TheVariants as tree
 use Rattle.jfs_dtpage.specs.declared.head.DtForm.TheVariants.{Root, Full}
 use Rattle.jfs_tree.specs.Adds.{on_page}
-use Rattle.jfs_tree.specs.Room.{FullFrom, TakesWhereFull}
+use Rattle.jfs_tree.specs.Room.{FullFrom, GrowsLevel, TakesWhereFull}
 use Rattle.jfs_dtree.specs.Node.{name_scale, HasNoRoom, LacksRoom}
+use Rattle.jfs_dtree.specs.Room.{is_deep}
 use Rattle.jfs_dtree.specs.Spells.{root_node, page_nodes, spells_names, owned_pages}
 use Rattle.jfs_dtree.specs.declared.error.DtError.{DtError}
 use Rattle.jfs_dtree.specs.declared.error.DtError.TheVariants.{View, Bad, Exists, Missing, TooDeep}
@@ -54,18 +52,27 @@ NoRoomOnWay blocks pages new root = FullFrom name_scale new (page_nodes blocks p
 abbrev pub TakesPages : ℕ → (ℕ → List ℕ) → NameEntry → List ℕ → List ℕ → List ℕ → Type 0
 TakesPages blocks pages new root free left = TakesWhereFull name_scale new (page_nodes blocks pages) (is_full_in pages) (lacks_in new pages) (root_node blocks root) (NoRoomAtRoot new root) (NoPlaceAtRoot root) free left
 
--- The cause of a refusal: the name is there; the tree has 8 levels, and no page on the name's way has room; a page is named only where the root spells no list.
+-- Whatever names the root spelled: where the edits before lead to the pages that the view shows, all edits lead to pages in which the tree has as many levels as before, or
+-- it had to get one more: a root that is a leaf has no room for the name; or no page on the name's way below the root has room, and the root moved for a child's key that it had no room for.
+abbrev pub KeepsLevels : ℕ → (ℕ → List ℕ) → NameEntry → List ℕ → List ℕ → List ℕ → List Edit → List Edit → Type 0
+KeepsLevels blocks pages new root after free tx later = (base : ℕ → List ℕ) → LeadsTo blocks base tx pages → (es : List NameEntry) → spells_names blocks pages root ≡ Ok es
+    → IsSpare name_scale (page_nodes blocks pages) (root_node blocks root) free
+    → (levels_of (with_root (root_node blocks after) (page_nodes blocks (after_tx base later))) 8 no_page ≡ levels_of (with_root (root_node blocks root) (page_nodes blocks pages)) 8 no_page)
+    ⊎ GrowsLevel name_scale new (page_nodes blocks pages) (is_full_in pages) (lacks_in new pages) (root_node blocks root) (NoRoomAtRoot new root) (NoPlaceAtRoot root) (root_node blocks after) (page_nodes blocks (after_tx base later))
+
+-- The cause of a refusal: the name is there; it isn't, and the tree is too deep for it; a page is named only where the root spells no list.
 abbrev pub RefusesName : ℕ → (ℕ → List ℕ) → NameEntry → List ℕ → List ℕ → DtError → Type 0
 RefusesName blocks pages new root free (View e) = Unit {0}
 RefusesName blocks pages new root free (Bad page rule) = (es : List NameEntry) → spells_names blocks pages root ≡ Ok es → IsSpare name_scale (page_nodes blocks pages) (root_node blocks root) free → ⊥
 RefusesName blocks pages new root free Exists = (es : List NameEntry) → spells_names blocks pages root ≡ Ok es → (inode : ℕ) × (named new.name es ≡ Some inode)
 RefusesName blocks pages new root free Missing = ⊥
-RefusesName blocks pages new root free TooDeep = (es : List NameEntry) → spells_names blocks pages root ≡ Ok es → IsSpare name_scale (page_nodes blocks pages) (root_node blocks root) free
-    → (levels_of (with_root (root_node blocks root) (page_nodes blocks pages)) 8 no_page ≡ Some 8) × NoRoomOnWay blocks pages new root
+RefusesName blocks pages new root free TooDeep = (es : List NameEntry) → spells_names blocks pages root ≡ Ok es → (named new.name es ≡ None) × (is_deep blocks pages root new.name ≡ true)
 
--- an error of the tree's pages, where a page on the name's way is known to break no rule
-abbrev pub refusal : TreeError → DtError
-refusal (tree.View e) = View e
-refusal (tree.Bad page rules.Deep) = if page == no_page then TooDeep else Bad page rules.Deep
-refusal (tree.Bad page rule) = Bad page rule
-refusal tree.Memory = View view.Memory
+-- A page is named where it is the first on the name's way that breaks a rule, or where none does, and the pages on the way don't stand in order; else none on the way breaks one.
+abbrev pub AddTellsWay : Option (ℕ × Rule) → Result (Unit {0}) DtError → Type 0
+AddTellsWay first (Ok it) = first ≡ None
+AddTellsWay first (Err (View e)) = Unit {0}
+AddTellsWay first (Err (Bad page rule)) = (first ≡ Some (page, rule)) ⊎ (first ≡ None)
+AddTellsWay first (Err Exists) = first ≡ None
+AddTellsWay first (Err Missing) = ⊥
+AddTellsWay first (Err TooDeep) = first ≡ None

@@ -6,6 +6,7 @@ pub mod Laws
 pub mod Place
 pub mod Parts
 pub mod Spells
+pub mod Room
 pub mod Adding
 pub mod Errors
 pub mod Reach

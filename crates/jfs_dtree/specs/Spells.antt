@@ -1,5 +1,5 @@
 -- What a root in a directory's inode spells: the names in their order, each with its inode. (JFS White Paper, directory organization; JFS Layout: the root has 288 bytes.)
-use Rattle.std.specs.Prelude.{◌≡◌, ℕ, List, Result, Ok, Err}
+use Rattle.std.specs.Prelude.{◌≡◌, ℕ, List, Option, Some, None, Result, Ok, Err}
 use Rattle.jfs_bits.specs.declared.rule.Rule.{Rule}
 use Rattle.jfs_name.specs.declared.name.NameEntry.{NameEntry}
 use Rattle.jfs_ranges.specs.View.{CarriesCount}
@@ -7,6 +7,7 @@ use Rattle.jfs_dtpage.specs.declared.head.DtForm.TheVariants.{Root, Full}
 use Rattle.jfs_tree.specs.Walk.{Node}
 use Rattle.jfs_tree.specs.Spells.{spells, footprint}
 use Rattle.jfs_tree.specs.Adds.{read_as}
+use Rattle.jfs_tree.specs.Path.{broken_on_way}
 use Rattle.jfs_tree.specs.Root.{NamesBroken}
 use Rattle.jfs_tree.specs.declared.form.TreeError.TheVariants as tree
 use Rattle.jfs_dtree.specs.Node.{name_scale, dt_node}
@@ -44,6 +45,19 @@ FailsWhereBad pages root (Bad page rule) = NamesBroken name_scale pages root (tr
 FailsWhereBad pages root Exists = ⊥
 FailsWhereBad pages root Missing = ⊥
 FailsWhereBad pages root TooDeep = ⊥
+
+-- the first broken rule on a name's way down, and the page that breaks it
+abbrev pub broken_for : ℕ → (ℕ → List ℕ) → List ℕ → List ℕ → Option (ℕ × Rule)
+broken_for blocks pages root name = broken_on_way name_scale (page_nodes blocks pages) name (root_node blocks root)
+
+-- A page is named exactly where it is the first on the name's way that breaks a rule, and where none does, the call goes through or tells of names.
+abbrev pub TellsWay : {T : Type 0} → Option (ℕ × Rule) → Result T DtError → Type 0
+TellsWay first (Ok it) = first ≡ None
+TellsWay first (Err (View e)) = Unit {0}
+TellsWay first (Err (Bad page rule)) = first ≡ Some (page, rule)
+TellsWay first (Err Exists) = first ≡ None
+TellsWay first (Err Missing) = first ≡ None
+TellsWay first (Err TooDeep) = first ≡ None
 
 -- a call that reads the whole tree names the first broken rule and its page
 abbrev pub NamesFirstBroken : (ℕ → Node (List ℕ) NameEntry) → Node (List ℕ) NameEntry → DtError → Type 0

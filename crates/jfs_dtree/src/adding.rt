@@ -1,29 +1,34 @@
 //! One name more.
 
-ghost use Rattle.std.specs.Prelude.{◌≡◌, ◌<◌, ◌≤◌, ◌==◌, if◌then◌else◌, ℕ, List, length, OnOk, OnErr, IfOk, IfErr};
+ghost use Rattle.std.specs.Prelude.{◌≡◌, ◌<◌, ◌≤◌, ℕ, List, length, OnOk, OnErr, IfOk, IfErr};
 ghost use Rattle.jfs_disk.specs.Image.{page_of};
+ghost use Rattle.jfs_bits.specs.declared.rule.PageKind.TheVariants.{Dtree};
+ghost use Rattle.jfs_tree.specs.Changes.{TellsTaken};
 ghost use Rattle.jfs_tree.specs.Form.{AllBelow};
 ghost use Rattle.jfs_tree.specs.Fresh.{blocks_of, TakenInOrder};
 ghost use Rattle.jfs_dtree.specs.Parent.{parent_of};
-ghost use Rattle.jfs_dtree.specs.Spells.{CarriesDt};
-ghost use Rattle.jfs_dtree.specs.Adding.{AddsName, TakesPages, RefusesName, refusal};
+ghost use Rattle.jfs_dtree.specs.Spells.{CarriesDt, broken_for};
+ghost use Rattle.jfs_dtree.specs.Room.{FollowsRoom};
+ghost use Rattle.jfs_dtree.specs.Adding.{AddsName, TakesPages, KeepsLevels, RefusesName, AddTellsWay};
 
+use crate::deep::is_deep;
 use crate::entry::DirEntry;
 use crate::error::DtError;
 use crate::form::DtPages;
-use crate::lookup::find;
+use crate::lookup::{find, handed_on};
 use crate::root::{parent, set_parent};
-use jfs_bits::{PageKind, PxdList, Rule};
+use jfs_bits::{PageKind, PxdList};
 use jfs_dtpage::DtForm;
 use jfs_name::Name;
-use jfs_ranges::{PageView, Tx, ViewError};
-use jfs_tree::{NO_PAGE, TreeError, add_and_tell};
+use jfs_ranges::{PageView, Tx};
+use jfs_tree::add_and_tell;
 use std::alloc::Global;
 
 #[tactic(auto, using(crate::proofs::Roots::has_pages))]
 /// Adds a name of at most 255 units to a directory whose root has these 288 bytes: `Exists` exactly where the directory has the name. Pages that it
 /// needs are taken from `fresh` in its order; the transaction gets the changed lines and new pages, and then an `Alloc` of each. The parent stays. After an
-/// `Err` root, `fresh` and transaction are as before. A tree of 8 levels gets no ninth: that is `TooDeep`.
+/// `Err` root, `fresh` and transaction are as before. `TooDeep` comes, of a name that is new, exactly where the tree has 8
+/// levels and each page below the root on the name's way has fewer than 18 free slots, which is what a longest name may take.
 pub fn add<V: PageView>(
     alloc: Global,
     view: &mut V,
@@ -39,12 +44,17 @@ pub fn add<V: PageView>(
     requires within { AllBelow (V.PageView.block_count view.old) (blocks_of fresh.old) }
     ensures image { V.PageView.tells → V.PageView.image view.new ≡ V.PageView.image view.old }
     ensures count_of_blocks { V.PageView.block_count view.new ≡ V.PageView.block_count view.old }
+    ensures device { V.PageView.device view.new ≡ V.PageView.device view.old }
     ensures fault { CarriesDt (V.PageView.fault_count view.old) (V.PageView.fault_count view.new) result }
     ensures adds { V.PageView.tells → OnOk result (AddsName (V.PageView.block_count view.old) (page_of (V.PageView.image view.old)) (record { name = name.now; inode = inode }) root.old root.new (blocks_of fresh.old) (blocks_of fresh.new) tx.old tx.new) }
     ensures taken { OnOk result (TakenInOrder (blocks_of fresh.old) (blocks_of fresh.new) tx.old tx.new) }
+    ensures edits { V.PageView.tells → OnOk result (TellsTaken (V.PageView.block_count view.old) Dtree (page_of (V.PageView.image view.old)) (blocks_of fresh.old) (blocks_of fresh.new) tx.old tx.new) }
     ensures parent { parent_of root.new ≡ parent_of root.old }
     ensures kept { OnErr result ((root.new ≡ root.old) × (fresh.new ≡ fresh.old) × (tx.new ≡ tx.old)) }
     ensures room { V.PageView.tells → OnOk result (TakesPages (V.PageView.block_count view.old) (page_of (V.PageView.image view.old)) (record { name = name.now; inode = inode }) root.old (blocks_of fresh.old) (blocks_of fresh.new)) }
+    ensures deep { V.PageView.tells → FollowsRoom (V.PageView.block_count view.old) (page_of (V.PageView.image view.old)) root.old name.now result }
+    ensures levels { V.PageView.tells → OnOk result (KeepsLevels (V.PageView.block_count view.old) (page_of (V.PageView.image view.old)) (record { name = name.now; inode = inode }) root.old root.new (blocks_of fresh.old) tx.old tx.new) }
+    ensures way { V.PageView.tells → AddTellsWay (broken_for (V.PageView.block_count view.old) (page_of (V.PageView.image view.old)) root.old name.now) result }
     ensures refused { V.PageView.tells → IfErr result (λ e. RefusesName (V.PageView.block_count view.old) (page_of (V.PageView.image view.old)) (record { name = name.now; inode = inode }) root.old (blocks_of fresh.old) e) }
 {
     match find(view, root, name) {
@@ -61,8 +71,13 @@ pub fn add<V: PageView>(
         form: DtForm::Full,
         blocks,
     };
-    let up = parent(root);
     let x = DirEntry::new(name.as_slice(), inode);
+    match is_deep(view, root, &x, blocks) {
+        Ok(true) => return Err(DtError::TooDeep),
+        Ok(false) => {}
+        Err(e) => return Err(DtError::View(e)),
+    }
+    let up = parent(root);
     match add_and_tell(
         alloc,
         &top,
@@ -78,30 +93,6 @@ pub fn add<V: PageView>(
             set_parent(root, up);
             Ok(())
         }
-        Err(e) => Err(refusal(e)),
-    }
-}
-
-/// Why a name that isn't there was refused.
-fn refusal(e: TreeError) -> DtError
-    ensures { result ≡ refusal e }
-{
-    match e {
-        TreeError::View(e) => DtError::View(e),
-        TreeError::Bad {
-            page,
-            rule: Rule::Deep,
-        } => {
-            if page == NO_PAGE {
-                DtError::TooDeep
-            } else {
-                DtError::Bad {
-                    page,
-                    rule: Rule::Deep,
-                }
-            }
-        }
-        TreeError::Bad { page, rule } => DtError::Bad { page, rule },
-        TreeError::Memory => DtError::View(ViewError::Memory),
+        Err(e) => Err(handed_on(e)),
     }
 }

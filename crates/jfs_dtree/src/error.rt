@@ -16,6 +16,6 @@ pub enum DtError {
     Exists,
     /// The directory doesn't have the name.
     Missing,
-    /// The tree has 8 levels, and no page on the name's way has room.
+    /// The tree has 8 levels, and each page below its root on the name's way has fewer free slots than a longest name takes, which is 18.
     TooDeep,
 }

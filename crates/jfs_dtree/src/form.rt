@@ -13,7 +13,7 @@ use crate::leaf::{found_at, put_name};
 use crate::move_down::move_down;
 use crate::split::split;
 use jfs_bits::Rule;
-use jfs_dtpage::DtForm;
+use jfs_dtpage::{DtForm, count_of};
 use jfs_tree::{PageForm, Put, Sibling, Way};
 
 /// Roots or pages of directory trees, on a volume whose file system part has so many blocks.
@@ -48,10 +48,16 @@ impl PageForm for DtPages {
 
     ghost is_root = { λ f. IsRoot f.form };
 
+    ghost fills = { ⊥ };
+
     ghost below = { λ f. record { form = Full; blocks = f.blocks } };
 
     fn way(&self, bytes: &[u8], x: &DirEntry) -> Result<Way, Rule> {
         way_of(bytes, self.form, self.blocks, x)
+    }
+
+    fn is_bare(&self, bytes: &[u8]) -> bool {
+        count_of(bytes) == 0
     }
 
     fn find(&self, bytes: &[u8], x: &DirEntry) -> Option<DirEntry> {

@@ -4,6 +4,7 @@
 mod adding;
 mod check;
 mod children;
+mod deep;
 mod entries;
 mod entry;
 mod error;

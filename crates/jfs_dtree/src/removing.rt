@@ -1,9 +1,11 @@
 //! One name less.
 
-ghost use Rattle.std.specs.Prelude.{◌≡◌, ◌<◌, ◌≤◌, ℕ, List, length, OnErr, IfOk, IfErr};
+ghost use Rattle.std.specs.Prelude.{◌≡◌, ◌<◌, ◌≤◌, ℕ, List, length, OnOk, OnErr, IfOk, IfErr};
 ghost use Rattle.jfs_disk.specs.Image.{page_of};
+ghost use Rattle.jfs_bits.specs.declared.rule.PageKind.TheVariants.{Dtree};
+ghost use Rattle.jfs_tree.specs.Changes.{TellsGone};
 ghost use Rattle.jfs_dtree.specs.Parent.{parent_of};
-ghost use Rattle.jfs_dtree.specs.Spells.{CarriesDt};
+ghost use Rattle.jfs_dtree.specs.Spells.{CarriesDt, broken_for, TellsWay};
 ghost use Rattle.jfs_dtree.specs.Removing.{RemovesName, MissesName};
 
 use crate::entry::DirEntry;
@@ -33,10 +35,13 @@ pub fn remove<V: PageView>(
     requires name { length name.now ≤ 255 }
     ensures image { V.PageView.tells → V.PageView.image view.new ≡ V.PageView.image view.old }
     ensures count_of_blocks { V.PageView.block_count view.new ≡ V.PageView.block_count view.old }
+    ensures device { V.PageView.device view.new ≡ V.PageView.device view.old }
     ensures fault { CarriesDt (V.PageView.fault_count view.old) (V.PageView.fault_count view.new) result }
     ensures removes { V.PageView.tells → IfOk result (RemovesName (V.PageView.block_count view.old) (page_of (V.PageView.image view.old)) name.now root.old root.new tx.old tx.new) }
+    ensures edits { V.PageView.tells → OnOk result (TellsGone (V.PageView.block_count view.old) Dtree (page_of (V.PageView.image view.old)) tx.old tx.new) }
     ensures parent { parent_of root.new ≡ parent_of root.old }
     ensures kept { OnErr result ((root.new ≡ root.old) × (tx.new ≡ tx.old)) }
+    ensures way { V.PageView.tells → TellsWay (broken_for (V.PageView.block_count view.old) (page_of (V.PageView.image view.old)) root.old name.now) result }
     ensures missed { V.PageView.tells → IfErr result (MissesName (V.PageView.block_count view.old) (page_of (V.PageView.image view.old)) name.now root.old) }
 {
     let blocks = view.blocks();

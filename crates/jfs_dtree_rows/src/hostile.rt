@@ -2,7 +2,7 @@
 
 ghost use Rattle.std.specs.Prelude.{◌≤◌};
 
-use crate::units::numbered;
+use crate::units::{name_of, numbered};
 use crate::volume::Dir;
 use jfs_bits::Rule;
 use jfs_disk::{Fault, Part};
@@ -154,6 +154,17 @@ fn pages_without_children(rt: HostRuntime) -> Result<(), Fail> {
 }
 
 #[test]
+fn a_leaf_without_names(rt: HostRuntime) -> Result<(), Fail> {
+    let mut dir = dir_of(rt.alloc(), 8)?;
+    dir.empties(0);
+    dir.puts(0, 16, 0x82);
+    assert!(rt; refuses_all(rt.alloc(), &mut dir, 3, bad(0, Rule::Deep))?);
+    // the other leaf is as it was
+    assert!(rt; finds(rt.alloc(), &mut dir, 7)?);
+    Ok(())
+}
+
+#[test]
 fn a_page_that_names_itself(rt: HostRuntime) -> Result<(), Fail> {
     let mut dir = dir_of(rt.alloc(), 8)?;
     dir.puts(2, 164, 2);
@@ -193,6 +204,23 @@ fn eight_full_levels(rt: HostRuntime) -> Result<(), Fail> {
     assert!(rt; dir.refuses(rt.alloc(), &name, DtError::TooDeep)?);
     let known = numbered(rt.alloc(), 238, 55)?;
     assert!(rt; dir.refuses(rt.alloc(), &known, DtError::Exists)?);
+    Ok(())
+}
+
+#[test]
+fn a_name_that_would_fit(rt: HostRuntime) -> Result<(), Fail> {
+    let mut dir = dir_of(rt.alloc(), 56)?;
+    deepen(&mut dir, 5);
+    // the leaf has four free slots, of which the name takes one
+    let short = name_of(rt.alloc(), &[0x6f])?;
+    assert!(rt; dir.refuses(rt.alloc(), &short, DtError::TooDeep)?);
+    // without one of its names it has 21, which any name fits into
+    let other = numbered(rt.alloc(), 238, 54)?;
+    assert_eq!(rt; dir.removes(rt.alloc(), &other), Ok(54));
+    let again = name_of(rt.alloc(), &[0x6f])?;
+    assert!(rt; dir.adds(rt.alloc(), again, 57)?.is_ok());
+    assert!(rt; dir.finds(&short));
+    assert!(rt; finds(rt.alloc(), &mut dir, 55)?);
     Ok(())
 }
 

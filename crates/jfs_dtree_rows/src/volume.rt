@@ -1,6 +1,7 @@
 //! A directory on a volume in memory, and beside its tree the plain list of its names.
 
 ghost use Rattle.std.specs.Prelude.{◌≡◌, ◌≤◌, [], ◌∷◌, IfOk, length};
+ghost use Rattle.jfs_ranges.specs.View.{no_device};
 
 use jfs_bits::{Pxd, PxdList};
 use jfs_disk::{Fault, Page, Part};
@@ -30,6 +31,10 @@ impl PageView for Volume {
     ghost image = { λ volume. [] };
 
     ghost tells = { ⊥ };
+
+    ghost crashes = { ⊥ };
+
+    ghost device = { λ volume. no_device };
 
     ghost has_pages = { λ volume told. absurd told };
 

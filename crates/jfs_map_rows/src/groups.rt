@@ -11,7 +11,7 @@ use std::alloc::{AllocError, Global};
 /// agheight, agwidth, agstart; and the free blocks of the first three groups.
 type Groups = (u32, u32, u64, [u32; 6], [u64; 3]);
 
-const ROWS: [Groups; 12] = [
+static ROWS: [Groups; 12] = [
     (4096, 13, 8192, [1, 0, 0, 0, 1, 341], [4096, 0, 0]),
     (8192, 13, 8192, [1, 0, 0, 0, 1, 341], [8192, 0, 0]),
     (8193, 13, 8192, [2, 1, 0, 0, 1, 341], [8192, 1, 0]),
@@ -39,26 +39,42 @@ fn numbers_of(alloc: Global, blocks: u32, l2: u32) -> Result<MapControl, AllocEr
     Ok(read_map_control(&page))
 }
 
+/// Whether the free blocks of the groups are these, and of all others none.
+fn are_free(agfree: &[u64; 128], free: &[u64; 3]) -> bool {
+    for k in 0..128 {
+        if agfree[k] != free.get(k).copied().unwrap_or(0) {
+            return false;
+        }
+    }
+    true
+}
+
+fn shape_of(numbers: &MapControl) -> [u32; 6] {
+    [
+        numbers.numag,
+        numbers.maxag,
+        numbers.aglevel,
+        numbers.agheight,
+        numbers.agwidth,
+        numbers.agstart,
+    ]
+}
+
+/// Whether the control page has these numbers; nothing where the row is of no such volume, or there is no memory.
+fn is_so(alloc: Global, row: &Groups) -> Option<bool> {
+    let (blocks, l2, agsize, shape, free) = row;
+    let (blocks, l2) = (*blocks, *l2);
+    if blocks < 1 || 20000 < blocks || l2 < 13 || 32 <= l2 {
+        return None;
+    }
+    let numbers = numbers_of(alloc, blocks, l2).ok()?;
+    let is_size = numbers.agl2size == l2 && numbers.agsize == *agsize;
+    Some(is_size && shape_of(&numbers) == *shape && are_free(&numbers.agfree, free))
+}
+
 #[test]
 fn groups_of_many_sizes(rt: HostRuntime) {
-    let alloc = rt.alloc();
-    for (blocks, l2, agsize, shape, free) in ROWS {
-        assert!(rt; 0 < blocks && blocks <= 20000 && 13 <= l2 && l2 < 32);
-        let numbers = numbers_of(alloc, blocks, l2).expect(&rt, "memory");
-        assert_eq!(rt; numbers.agl2size, l2);
-        assert_eq!(rt; numbers.agsize, agsize, "size at {l2}");
-        let written = [
-            numbers.numag,
-            numbers.maxag,
-            numbers.aglevel,
-            numbers.agheight,
-            numbers.agwidth,
-            numbers.agstart,
-        ];
-        assert_eq!(rt; written, shape, "shape at {l2}");
-        for k in 0..128 {
-            let wanted = free.get(k).copied().unwrap_or(0);
-            assert_eq!(rt; numbers.agfree[k], wanted, "free of group {k} at {l2}");
-        }
+    for row in ROWS.iter() {
+        assert!(rt; is_so(rt.alloc(), row) == Some(true), "{row:?}");
     }
 }

@@ -1,8 +1,11 @@
 //! The map of a small volume, worked out by hand.
 
+ghost use Rattle.std.specs.Prelude.{◌≤◌};
+
 use crate::volume::{map_of, release_run, take, take_first_of_two, take_four, try_four, try_out};
 use jfs_bits::{Pxd, PxdList, set_run};
-use jfs_bmap::{NoSpace, ReserveError};
+use jfs_bmap::{BlockMap, NoSpace, ReserveError};
+use std::alloc::{AllocError, Global};
 
 /// Whether a list has these runs, each by its first block and length.
 fn are_runs(list: &PxdList, runs: &[(u64, u32)]) -> bool {
@@ -37,124 +40,211 @@ fn are_given(answer: &Result<PxdList, ReserveError>, runs: &[(u64, u32)]) -> boo
     }
 }
 
+/// Runs, each by its first block and length.
+type Runs = &'static [(u64, u32)];
+
+/// A call or a question, and what is to be answered. Runs of four are told by their first block.
+#[derive(Clone, Copy)]
+enum Row {
+    Free(u32),
+    Busy(u32),
+    Unowned(u32),
+    Spare(u32),
+    FourOnceSettled(bool),
+    /// The place where blocks are wanted, how many, and the runs that are given.
+    Take(u32, u32, Runs),
+    /// The same, but they are given back.
+    TryOut(u32, u32, Runs),
+    /// How many blocks are wanted, and how many are free.
+    Refused(u32, u32),
+    /// The lengths of two lists, of which the first gets owners.
+    FirstOfTwo(u32, u32, Runs),
+    TakeFour(Option<u64>),
+    TryFour(Option<u64>),
+    /// It stays reserved.
+    RunOfFour(Option<u64>),
+    /// The first block, the length and the entry.
+    Release(u64, u32, u64),
+    Settle(u64),
+    MakeRoom(u32),
+}
+
+fn is_four(run: Option<Pxd>, first: Option<u64>) -> bool {
+    match (run, first) {
+        (Some(run), Some(first)) => run.len == 4 && run.addr == first,
+        (None, None) => true,
+        _ => false,
+    }
+}
+
+fn is_taken(map: &mut BlockMap, alloc: Global, hint: u32, n: u32, runs: Runs) -> bool {
+    are_given(&take(map, alloc, hint, n), runs)
+}
+
+fn is_tried(map: &mut BlockMap, alloc: Global, hint: u32, n: u32, runs: Runs) -> bool {
+    are_given(&try_out(map, alloc, hint, n), runs)
+}
+
+fn is_short(map: &mut BlockMap, alloc: Global, n: u32, free: u32) -> bool {
+    is_refused(&take(map, alloc, 0, n), free)
+}
+
+fn is_first_taken(map: &mut BlockMap, alloc: Global, first: u32, second: u32, runs: Runs) -> bool {
+    are_given(&take_first_of_two(map, alloc, first, second), runs)
+}
+
+fn is_released(map: &mut BlockMap, alloc: Global, addr: u64, len: u32, entry: u64) -> bool {
+    release_run(map, alloc, Pxd { len, addr }, entry).is_ok()
+}
+
+/// Whether what is asked is answered so.
+fn is_so(map: &mut BlockMap, alloc: Global, row: Row) -> bool {
+    match row {
+        Row::Free(count) => map.free() == count,
+        Row::Busy(count) => map.busy() == count,
+        Row::Unowned(count) => map.unowned() == count,
+        Row::Spare(count) => map.spare() == count,
+        Row::FourOnceSettled(is_there) => map.has_four_once_settled() == is_there,
+        Row::Take(hint, n, runs) => is_taken(map, alloc, hint, n, runs),
+        Row::TryOut(hint, n, runs) => is_tried(map, alloc, hint, n, runs),
+        Row::Refused(n, free) => is_short(map, alloc, n, free),
+        Row::FirstOfTwo(first, second, runs) => is_first_taken(map, alloc, first, second, runs),
+        Row::TakeFour(first) => is_four(take_four(map), first),
+        Row::TryFour(first) => is_four(try_four(map), first),
+        Row::RunOfFour(first) => is_four(map.run_of_four(), first),
+        Row::Release(addr, len, entry) => is_released(map, alloc, addr, len, entry),
+        Row::Settle(told) => {
+            map.settle(told);
+            true
+        }
+        Row::MakeRoom(n) => map.make_room(n).is_ok(),
+    }
+}
+
+/// The first row, from 0, that isn't answered so by a map of 64 blocks, of which the lowest ones have owners.
+fn first_wrong(alloc: Global, owned: u32, rows: &[Row]) -> Result<Option<usize>, AllocError>
+    requires { owned ≤ 64 }
+{
+    let mut set = [0u8; 8];
+    set_run(&mut set, 0, owned);
+    let mut map = map_of(alloc, &set, 64)?;
+    if map.blocks() != 64 {
+        return Ok(Some(0));
+    }
+    for (i, row) in rows.iter().enumerate() {
+        if !is_so(&mut map, alloc, *row) {
+            return Ok(Some(i));
+        }
+    }
+    Ok(None)
+}
+
+// The last of the taken blocks are the lowest: 50, 51 and 55 are left.
+static BUSY: [Row; 18] = [
+    Row::Free(10),
+    Row::Release(50, 4, 7),
+    Row::Busy(4),
+    Row::Free(10),
+    Row::Refused(11, 10),
+    Row::Settle(6),
+    Row::Refused(11, 10),
+    Row::Settle(7),
+    Row::Busy(0),
+    Row::Free(14),
+    Row::TryOut(0, 11, &[(56, 8), (52, 3)]),
+    Row::Free(14),
+    Row::Take(0, 11, &[(56, 8), (52, 3)]),
+    Row::Free(3),
+    Row::Take(55, 2, &[(55, 1), (50, 1)]),
+    Row::RunOfFour(None),
+    Row::Take(7, 0, &[]),
+    Row::Free(1),
+];
+
 // 64 blocks, of which 0 to 53 have owners.
 #[test]
 fn busy_blocks(rt: HostRuntime) {
-    let alloc = rt.alloc();
-    let mut set = [0u8; 8];
-    set_run(&mut set, 0, 54);
-    let mut map = map_of(alloc, &set, 64).expect(&rt, "memory");
-    assert_eq!(rt; map.free(), 10);
-    let freed = Pxd { len: 4, addr: 50 };
-    release_run(&mut map, alloc, freed, 7).expect(&rt, "memory");
-    assert_eq!(rt; map.busy(), 4);
-    assert_eq!(rt; map.free(), 10);
-    assert!(rt; is_refused(&take(&mut map, alloc, 0, 11), 10));
-    map.settle(6);
-    assert!(rt; is_refused(&take(&mut map, alloc, 0, 11), 10));
-    map.settle(7);
-    assert_eq!(rt; map.busy(), 0);
-    assert_eq!(rt; map.free(), 14);
-    let runs = [(56, 8), (52, 3)];
-    assert!(rt; are_given(&try_out(&mut map, alloc, 0, 11), runs.as_slice()));
-    assert_eq!(rt; map.free(), 14);
-    assert!(rt; are_given(&take(&mut map, alloc, 0, 11), runs.as_slice()));
-    assert_eq!(rt; map.free(), 3);
-    // The last of them is the lowest: 50, 51 and 55 are left.
-    assert!(rt; are_given(&take(&mut map, alloc, 55, 2), [(55, 1), (50, 1)].as_slice()));
-    assert!(rt; map.run_of_four().is_none());
-    assert!(rt; are_given(&take(&mut map, alloc, 7, 0), [].as_slice()));
+    assert_eq!(rt;
+        first_wrong(rt.alloc(), 54, &BUSY).expect(&rt, "memory"),
+        None
+    );
 }
+
+// The second list begins at the lowest aligned run of 16 behind the first one's 8 blocks. Later blocks 0 to 7 are busy already when they are
+// released again, 12 to 15 and those past the end have no owner.
+static LISTS: [Row; 23] = [
+    Row::FirstOfTwo(8, 16, &[(0, 8)]),
+    Row::Free(56),
+    Row::TryFour(Some(8)),
+    Row::TakeFour(Some(8)),
+    Row::Take(60, 10, &[(60, 4), (16, 6)]),
+    Row::Free(42),
+    Row::Release(0, 8, 3),
+    Row::Release(0, 2, 2),
+    Row::Release(4, 12, 5),
+    Row::Release(60, 4000, 6),
+    Row::Busy(16),
+    Row::Free(42),
+    Row::Settle(2),
+    Row::Busy(16),
+    Row::Settle(3),
+    Row::Busy(8),
+    Row::TryOut(2, 7, &[(2, 6), (0, 1)]),
+    Row::Settle(5),
+    Row::Busy(4),
+    Row::Settle(u64::MAX),
+    Row::Free(58),
+    Row::Refused(59, 58),
+    Row::Take(u32::MAX, 58, &[(32, 32), (0, 16), (24, 8), (22, 2)]),
+];
 
 // 64 free blocks; what lies past them is never handed out, and a release passes over it.
 #[test]
 fn lists_and_releases(rt: HostRuntime) {
-    let alloc = rt.alloc();
-    let mut map = map_of(alloc, [0u8; 8].as_slice(), 64).expect(&rt, "memory");
-    assert_eq!(rt; map.blocks(), 64);
-    // The second list begins at the lowest aligned run of 16 behind the first one's 8 blocks.
-    let first = take_first_of_two(&mut map, alloc, 8, 16);
-    assert!(rt; are_given(&first, [(0, 8)].as_slice()));
-    assert_eq!(rt; map.free(), 56);
-    assert_eq!(rt; try_four(&mut map), Some(Pxd { len: 4, addr: 8 }));
-    assert_eq!(rt; take_four(&mut map), Some(Pxd { len: 4, addr: 8 }));
-    assert!(rt;
-        are_given(
-            &take(&mut map, alloc, 60, 10),
-            [(60, 4), (16, 6)].as_slice()
-        )
-    );
-    assert_eq!(rt; map.free(), 42);
-    // Blocks 0 to 7 are busy already when they are released again, 12 to 15 and those past the end have no owner.
-    release_run(&mut map, alloc, Pxd { len: 8, addr: 0 }, 3).expect(&rt, "memory");
-    release_run(&mut map, alloc, Pxd { len: 2, addr: 0 }, 2).expect(&rt, "memory");
-    release_run(&mut map, alloc, Pxd { len: 12, addr: 4 }, 5).expect(&rt, "memory");
-    release_run(
-        &mut map,
-        alloc,
-        Pxd {
-            len: 4000,
-            addr: 60,
-        },
-        6,
-    )
-    .expect(&rt, "memory");
-    assert_eq!(rt; map.busy(), 16);
-    assert_eq!(rt; map.free(), 42);
-    map.settle(2);
-    assert_eq!(rt; map.busy(), 16);
-    map.settle(3);
-    assert_eq!(rt; map.busy(), 8);
-    assert!(rt; are_given(&try_out(&mut map, alloc, 2, 7), [(2, 6), (0, 1)].as_slice()));
-    map.settle(5);
-    assert_eq!(rt; map.busy(), 4);
-    map.settle(u64::MAX);
-    assert_eq!(rt; map.free(), 58);
-    assert!(rt; is_refused(&take(&mut map, alloc, 0, 59), 58));
-    assert!(rt;
-        are_given(
-            &take(&mut map, alloc, u32::MAX, 58),
-            [(32, 32), (0, 16), (24, 8), (22, 2)].as_slice()
-        )
+    assert_eq!(rt;
+        first_wrong(rt.alloc(), 0, &LISTS).expect(&rt, "memory"),
+        None
     );
 }
+
+// 56 to 59 get owners, 60 to 63 are only reserved. No run of four lies in 6 to 10, also once they are settled; one does in 6 to 11, of which
+// 11 waits for an earlier entry. In the end, room for runs: a release takes it, and what is there already isn't made again.
+static QUESTIONS: [Row; 26] = [
+    Row::Unowned(8),
+    Row::FourOnceSettled(true),
+    Row::TakeFour(Some(56)),
+    Row::RunOfFour(Some(60)),
+    Row::Unowned(4),
+    Row::FourOnceSettled(false),
+    Row::Release(6, 5, 9),
+    Row::Unowned(9),
+    Row::FourOnceSettled(false),
+    Row::Release(11, 1, 8),
+    Row::FourOnceSettled(true),
+    Row::Settle(8),
+    Row::Free(1),
+    Row::Busy(5),
+    Row::RunOfFour(None),
+    Row::FourOnceSettled(true),
+    Row::Settle(9),
+    Row::RunOfFour(Some(8)),
+    Row::Unowned(10),
+    Row::FourOnceSettled(false),
+    Row::MakeRoom(5),
+    Row::Spare(5),
+    Row::Release(0, 1, 10),
+    Row::Spare(4),
+    Row::MakeRoom(3),
+    Row::Spare(4),
+];
 
 // 64 blocks, of which 0 to 55 have owners: one run of four after another is reserved, released or busy.
 #[test]
 fn questions(rt: HostRuntime) {
-    let alloc = rt.alloc();
-    let mut set = [0u8; 8];
-    set_run(&mut set, 0, 56);
-    let mut map = map_of(alloc, &set, 64).expect(&rt, "memory");
-    assert_eq!(rt; map.unowned(), 8);
-    assert!(rt; map.has_four_once_settled());
-    // 56 to 59 get owners, 60 to 63 are only reserved.
-    assert_eq!(rt; take_four(&mut map), Some(Pxd { len: 4, addr: 56 }));
-    assert_eq!(rt; map.run_of_four(), Some(Pxd { len: 4, addr: 60 }));
-    assert_eq!(rt; map.unowned(), 4);
-    assert!(rt; !map.has_four_once_settled());
-    // No run of four lies in 6 to 10, also once they are settled; one does in 6 to 11, of which 11 waits for an earlier entry.
-    release_run(&mut map, alloc, Pxd { len: 5, addr: 6 }, 9).expect(&rt, "memory");
-    assert_eq!(rt; map.unowned(), 9);
-    assert!(rt; !map.has_four_once_settled());
-    release_run(&mut map, alloc, Pxd { len: 1, addr: 11 }, 8).expect(&rt, "memory");
-    assert!(rt; map.has_four_once_settled());
-    map.settle(8);
-    assert_eq!(rt; map.free(), 1);
-    assert_eq!(rt; map.busy(), 5);
-    assert!(rt; map.run_of_four().is_none());
-    assert!(rt; map.has_four_once_settled());
-    map.settle(9);
-    assert_eq!(rt; map.run_of_four(), Some(Pxd { len: 4, addr: 8 }));
-    assert_eq!(rt; map.unowned(), 10);
-    assert!(rt; !map.has_four_once_settled());
-    // Room for runs: a release takes it, and what is there already isn't made again.
-    map.make_room(5).expect(&rt, "memory");
-    assert_eq!(rt; map.spare(), 5);
-    release_run(&mut map, alloc, Pxd { len: 1, addr: 0 }, 10).expect(&rt, "memory");
-    assert_eq!(rt; map.spare(), 4);
-    map.make_room(3).expect(&rt, "memory");
-    assert_eq!(rt; map.spare(), 4);
+    assert_eq!(rt;
+        first_wrong(rt.alloc(), 56, &QUESTIONS).expect(&rt, "memory"),
+        None
+    );
 }
 
 // The file of 20,000 blocks: four control pages and three dmaps, of which the control pages of levels 2 and 1 aren't in use.

@@ -2,6 +2,7 @@
 
 ghost use Rattle.jfs_pages.specs.Kept.{image_in};
 ghost use Rattle.jfs_pages.specs.Whole.{whole_in};
+ghost use Rattle.jfs_ranges.specs.View.{device_of};
 
 use crate::cache::PageCache;
 use jfs_disk::{Disk, Page};
@@ -15,6 +16,10 @@ impl<D: Disk> PageView for PageCache<D> {
     ghost image = { λ cache. image_in cache.blocks (D.image cache.disk) cache.kept };
 
     ghost tells = { D.tells };
+
+    ghost crashes = { D.tells_crashes };
+
+    ghost device = { λ cache. device_of D.Disk cache.disk };
 
     fn blocks(&self) -> u32 {
         self.blocks

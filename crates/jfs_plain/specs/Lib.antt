@@ -6,3 +6,4 @@ pub mod Tree
 pub mod Moves
 pub mod Step
 pub mod Plain
+pub mod Build

@@ -46,6 +46,9 @@ links_of t n = links_in (t.nodes n)
 abbrev pub is_short : Room → ℕ → Bool
 is_short room need = nat_lt room.free (need + 64)
 
+abbrev pub why_short : Room → ℕ → Option Refusal
+why_short room need = if is_short room need then Some (NoSpace room.free) else None
+
 abbrev pub is_deep : Room → Place → Bool
 is_deep room p = room.deep p.dir p.name
 

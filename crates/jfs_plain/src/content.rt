@@ -29,6 +29,13 @@ impl Content {
         }
     }
 
+    /// These bytes, and zeros behind them.
+    pub fn from_bytes(bytes: Vec<u8>) -> Content
+        ensures { result ≡ bytes.items }
+    {
+        Content { bytes }
+    }
+
     /// The byte at an offset.
     pub fn byte(&self, offset: u64) -> u8
         ensures { result ≡ get_or self.now offset 0 }

@@ -93,8 +93,8 @@ impl PlainTree {
         Ok((n, node))
     }
 
-    /// Byte `i` of a file.
-    fn byte(&self, n: u32, i: u64) -> u8
+    /// Byte `i` of a file; 0 where it holds none.
+    pub fn byte(&self, n: u32, i: u64) -> u8
         ensures { result ≡ byte_at self.now n i }
     {
         match self.contents.get(&n) {

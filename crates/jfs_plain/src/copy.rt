@@ -63,7 +63,8 @@ pub fn copy_names(alloc: Global, names: &NameList) -> Result<NameList, AllocErro
     Ok(same)
 }
 
-fn copy_entry(alloc: Global, entry: &NameEntry) -> Result<NameEntry, AllocError>
+/// An equal name with its inode.
+pub(crate) fn copy_entry(alloc: Global, entry: &NameEntry) -> Result<NameEntry, AllocError>
     ensures { IfOk result (λ same. same ≡ entry.now) }
 {
     Ok(NameEntry {

@@ -4,7 +4,7 @@ ghost use Rattle.std.specs.Prelude.{◌≡◌, ◌==◌, ◌∷◌, [], List, le
 ghost use Rattle.jfs_name.specs.declared.name.NameEntry.{NameEntry};
 ghost use Rattle.jfs_name.specs.Directory.{is_before, is_same, named, place_of, place_for, with_name, without_name, with_inode};
 
-use crate::copy::copy_name;
+use crate::copy::{copy_entry, copy_name};
 use jfs_name::{Name, NameEntry, NameList};
 use std::alloc::{AllocError, Global};
 use std::marker::Model;
@@ -29,6 +29,17 @@ impl Entries {
         Entries {
             all: Vec::new(alloc),
         }
+    }
+
+    /// These names, which are in their order.
+    pub fn listed(alloc: Global, names: &NameList) -> Result<Entries, AllocError>
+        ensures { IfOk result (λ same. same ≡ names.now) }
+    {
+        let mut all = Vec::new(alloc);
+        for entry in names.as_slice() {
+            all.push(copy_entry(alloc, entry)?)?;
+        }
+        Ok(Entries { all })
     }
 
     pub fn is_empty(&self) -> bool

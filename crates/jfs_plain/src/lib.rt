@@ -2,6 +2,7 @@
 #![tactic(auto)]
 
 mod asked;
+mod build;
 mod call;
 mod content;
 mod contents;
@@ -23,5 +24,5 @@ pub use call::{Ack, Call, Entry, Line, Request};
 pub use entries::Entries;
 pub use node::{Node, Times};
 pub use plain::PlainTree;
-pub use refusal::Refusal;
+pub use refusal::{Refusal, why_short};
 pub use reply::{NodeKind, Reply, Stat};

@@ -1,6 +1,7 @@
 //! Why a call is refused.
 
 ghost use Rattle.std.specs.Prelude.{◌≡◌};
+ghost use Rattle.jfs_plain.specs.Step.{Room, why_short};
 ghost use Rattle.jfs_plain.specs.declared.refusal.Refusal.TheVariants.{OutOfMemory};
 ghost use Rattle.jfs_plain.specs.Refusal.{number_of, name_of};
 
@@ -88,6 +89,19 @@ impl Refusal {
             Refusal::TooDeep { .. } => "TooDeep",
         }
     }
+}
+
+/// The blocks that are always kept.
+const KEPT: u64 = 64;
+
+/// Why a call that may need so many blocks is refused for want of space, of a volume with so many free ones. Calls that need none are never refused so.
+pub fn why_short(free: u32, need: u32) -> Option<Refusal>
+    ensures { (room : Room) → room.free ≡ free → result ≡ why_short room need }
+{
+    if u64::from(free) < u64::from(need) + KEPT {
+        return Some(Refusal::NoSpace { free });
+    }
+    None
 }
 
 impl From<AllocError> for Refusal {

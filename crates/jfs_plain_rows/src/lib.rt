@@ -14,6 +14,8 @@ mod limits;
 #[cfg(test)]
 mod lines;
 #[cfg(test)]
+mod room;
+#[cfg(test)]
 mod text;
 #[cfg(test)]
 mod tree;

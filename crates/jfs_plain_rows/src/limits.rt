@@ -69,86 +69,115 @@ fn numbers(rt: HostRuntime) -> Result<(), Fail> {
     Ok(())
 }
 
+/// A front, a piece, how many times it comes, an end, and the rule that the line breaks.
+type Long = (
+    &'static [u8],
+    &'static [u8],
+    usize,
+    &'static [u8],
+    Option<Rule>,
+);
+
+// 2,046 names of one unit and one of two take 4,095 bytes, 2,048 names of one unit 4,096.
+static LONG_WORDS: [Long; 9] = [
+    (b"stat /", b"n", 255, b"", None),
+    (b"stat /", b"n", 256, b"", Some(Rule::Name)),
+    (b"create /", b"n", 256, b" 0644", Some(Rule::Name)),
+    (b"stat ", b"/a", 2046, b"/ab", None),
+    (b"stat ", b"/a", 2048, b"", Some(Rule::Path)),
+    (b"symlink /a ", b"%41", 255, b"", None),
+    (b"symlink /a ", b"x", 256, b"", Some(Rule::Target)),
+    (b"write /a 0 ", b"41", 4096, b"", None),
+    (b"write /a 0 ", b"41", 4097, b"", Some(Rule::Hex)),
+];
+
+// Whether a script of such a line is read, or refused by such an error.
+fn is_answered(
+    alloc: Global,
+    front: &[u8],
+    piece: &[u8],
+    times: usize,
+    end: &[u8],
+    error: Option<ScriptError>,
+) -> Result<bool, AllocError> {
+    let text = repeated(alloc, front, piece, times, end)?;
+    Ok(error_of(alloc, &text) == error)
+}
+
+fn broken(rule: Option<Rule>) -> Option<ScriptError> {
+    match rule {
+        Some(rule) => breaks(rule),
+        None => None,
+    }
+}
+
 #[test]
 fn names_paths_and_targets(rt: HostRuntime) -> Result<(), Fail> {
-    let alloc = rt.alloc();
-    assert_eq!(rt;
-        error_of(alloc, &repeated(alloc, b"stat /", b"n", 255, b"")?),
-        None
-    );
-    assert_eq!(rt;
-        error_of(alloc, &repeated(alloc, b"stat /", b"n", 256, b"")?),
-        breaks(Rule::Name)
-    );
-    assert_eq!(rt;
-        error_of(alloc, &repeated(alloc, b"create /", b"n", 256, b" 0644")?),
-        breaks(Rule::Name)
-    );
-    // 2,046 names of one unit and one of two take 4,095 bytes, 2,048 names of one unit 4,096.
-    assert_eq!(rt;
-        error_of(alloc, &repeated(alloc, b"stat ", b"/a", 2046, b"/ab")?),
-        None
-    );
-    assert_eq!(rt;
-        error_of(alloc, &repeated(alloc, b"stat ", b"/a", 2048, b"")?),
-        breaks(Rule::Path)
-    );
-    assert_eq!(rt;
-        error_of(alloc, &repeated(alloc, b"symlink /a ", b"%41", 255, b"")?),
-        None
-    );
-    assert_eq!(rt;
-        error_of(alloc, &repeated(alloc, b"symlink /a ", b"x", 256, b"")?),
-        breaks(Rule::Target)
-    );
-    assert_eq!(rt;
-        error_of(alloc, &repeated(alloc, b"write /a 0 ", b"41", 4096, b"")?),
-        None
-    );
-    assert_eq!(rt;
-        error_of(alloc, &repeated(alloc, b"write /a 0 ", b"41", 4097, b"")?),
-        breaks(Rule::Hex)
-    );
+    for (front, piece, times, end, rule) in LONG_WORDS.iter() {
+        let is_so = is_answered(rt.alloc(), front, piece, *times, end, broken(*rule))?;
+        assert!(rt; is_so, "{front:?} {times}");
+    }
     Ok(())
+}
+
+/// A word that comes first, a piece, how many times it comes, and the end of the script; the count of what is too much, if it is.
+type Many = (
+    &'static [u8],
+    &'static [u8],
+    usize,
+    &'static [u8],
+    Option<u32>,
+);
+
+// Too many lines come before a bad one.
+static MANY_LINES: [Many; 4] = [
+    (b"", b"\n", 4096, b"", None),
+    (b"", b"\n", 4095, b"sync", None),
+    (b"", b"\n", 4096, b"\n", Some(4097)),
+    (b"foo", b"\n", 4096, b"#", Some(4097)),
+];
+
+// 4,096 lines in 16,777,216 bytes, and one byte more: both are met in that byte. Then 4,096 lines of which the last is too long.
+static MANY_BYTES: [(usize, usize, &[u8], Option<u32>); 4] = [
+    (MOST_BYTES, 0, b"", None),
+    (MOST_BYTES + 1, 0, b"", Some(16_777_217)),
+    (MOST_BYTES - 4096, 4096, b"#", Some(4097)),
+    (MOST_BYTES - 4096, 4095, b"##", Some(16_777_217)),
+];
+
+fn too_much(count: Option<u32>) -> Option<ScriptError> {
+    match count {
+        Some(count) => Some(ScriptError::TooMuch { count }),
+        None => None,
+    }
+}
+
+// Whether a note of so many bytes, so many ends of lines and an end are answered so.
+fn is_long_answered(
+    alloc: Global,
+    bytes: usize,
+    times: usize,
+    end: &[u8],
+    error: Option<ScriptError>,
+) -> Result<bool, AllocError> {
+    let mut text = vec![in alloc; b'#'; bytes]?;
+    for _ in 0..times {
+        text.push(b'\n')?;
+    }
+    text.extend_from_slice(end)?;
+    Ok(error_of(alloc, &text) == error)
 }
 
 #[test]
 fn lines_and_bytes(rt: HostRuntime) -> Result<(), Fail> {
-    let alloc = rt.alloc();
-    let lines = Some(ScriptError::TooMuch { count: 4097 });
-    let bytes = Some(ScriptError::TooMuch { count: 16_777_217 });
-    assert_eq!(rt;
-        error_of(alloc, &repeated(alloc, b"", b"\n", 4096, b"")?),
-        None
-    );
-    assert_eq!(rt;
-        error_of(alloc, &repeated(alloc, b"", b"\n", 4095, b"sync")?),
-        None
-    );
-    assert_eq!(rt;
-        error_of(alloc, &repeated(alloc, b"", b"\n", 4096, b"\n")?),
-        lines
-    );
-    // Too many lines come before a bad one.
-    assert_eq!(rt;
-        error_of(alloc, &repeated(alloc, b"foo", b"\n", 4096, b"#")?),
-        lines
-    );
-    let note = vec![in alloc; b'#'; MOST_BYTES]?;
-    assert_eq!(rt; error_of(alloc, &note), None);
-    let note = vec![in alloc; b'#'; MOST_BYTES + 1]?;
-    assert_eq!(rt; error_of(alloc, &note), bytes);
-    // 4,096 lines in 16,777,216 bytes, and one byte more: both are met in that byte.
-    let note = vec![in alloc; b'#'; MOST_BYTES - 4096]?;
-    assert_eq!(rt;
-        error_of(alloc, &repeated(alloc, &note, b"\n", 4096, b"#")?),
-        lines
-    );
-    // 4,096 lines of which the last is too long.
-    assert_eq!(rt;
-        error_of(alloc, &repeated(alloc, &note, b"\n", 4095, b"##")?),
-        bytes
-    );
+    for (front, piece, times, end, count) in MANY_LINES.iter() {
+        let is_so = is_answered(rt.alloc(), front, piece, *times, end, too_much(*count))?;
+        assert!(rt; is_so, "{front:?} {times}");
+    }
+    for (bytes, times, end, count) in MANY_BYTES.iter() {
+        let is_so = is_long_answered(rt.alloc(), *bytes, *times, end, too_much(*count))?;
+        assert!(rt; is_so, "{bytes} {times}");
+    }
     Ok(())
 }
 

@@ -6,87 +6,69 @@ use jfs_script::ScriptError;
 use std::alloc::Global;
 use std::test::*;
 
-#[derive(Clone, Copy)]
-struct Case {
-    line: &'static [u8],
-    rule: Option<Rule>,
-}
-
-fn bad(line: &'static [u8], rule: Rule) -> Case {
-    Case {
-        line,
-        rule: Some(rule),
-    }
-}
-
-fn good(line: &'static [u8]) -> Case {
-    Case { line, rule: None }
-}
-
-fn rules() -> [Case; 51] {
-    [
-        // A byte that isn't printed, also where the word is unknown; a carriage return inside, and one without a line feed.
-        bad(b"mkdir\t/a 0755", Rule::Text),
-        bad(b"foo \x7f", Rule::Text),
-        bad(b"stat /\xc3\xa4", Rule::Text),
-        bad(b"sync\r", Rule::Text),
-        bad(b"sync\r\r\n", Rule::Text),
-        // Words.
-        bad(b"foo", Rule::Word),
-        bad(b"Sync", Rule::Word),
-        bad(b"lazy foo", Rule::Word),
-        bad(b"mkdir/a 0755", Rule::Word),
-        // `lazy` before calls that don't change, before their words are counted.
-        bad(b"lazy stat /", Rule::Lazy),
-        bad(b"lazy stat", Rule::Lazy),
-        bad(b"lazy sync", Rule::Lazy),
-        bad(b"lazy read / 0 1", Rule::Lazy),
-        bad(b"lazy list /", Rule::Lazy),
-        bad(b"lazy readlink /", Rule::Lazy),
-        // The number of words, before what they say.
-        bad(b"lazy", Rule::Count),
-        bad(b"sync now", Rule::Count),
-        bad(b"mkdir a", Rule::Count),
-        bad(b"stat", Rule::Count),
-        bad(b"fill /f 0 1", Rule::Count),
-        bad(b"lazy unlink /a /b", Rule::Count),
-        // Paths.
-        bad(b"stat a", Rule::Path),
-        bad(b"stat //", Rule::Path),
-        bad(b"stat /a/", Rule::Path),
-        bad(b"stat /..", Rule::Path),
-        bad(b"stat /%u0000", Rule::Path),
-        bad(b"stat /%41", Rule::Path),
-        bad(b"rename /a b", Rule::Path),
-        bad(b"chmod a 9", Rule::Path),
-        // Modes.
-        bad(b"mkdir /a 0999", Rule::Mode),
-        bad(b"mkdir /a 77", Rule::Mode),
-        bad(b"mkdir /a 00755", Rule::Mode),
-        bad(b"chmod /a -755", Rule::Mode),
-        // Numbers, and then what stands behind them.
-        bad(b"truncate /a -1", Rule::Number),
-        bad(b"truncate /a +1", Rule::Number),
-        bad(b"truncate /a 0x1", Rule::Number),
-        bad(b"write /a x 4", Rule::Number),
-        bad(b"fill /a 0 0 g", Rule::Number),
-        // Hexadecimal digits, bytes, targets.
-        bad(b"write /a 0 4", Rule::Hex),
-        bad(b"write /a 0 4g", Rule::Hex),
-        bad(b"fill /a 0 1 4", Rule::Byte),
-        bad(b"fill /a 0 1 411", Rule::Byte),
-        bad(b"fill /a 0 1 g1", Rule::Byte),
-        bad(b"symlink /a %00", Rule::Target),
-        bad(b"symlink /a x%4", Rule::Target),
-        bad(b"symlink /a %u0041", Rule::Target),
-        // Spaces at both ends and between, both cases of digits, an end with a carriage return.
-        good(b"  mkdir   /a  0755  "),
-        good(b"lazy   write /a 0 aB\r\n"),
-        good(b"symlink /a %2F../%ff"),
-        good(b"  # any \x01 byte"),
-        good(b"   \r\n"),
-    ]
-}
+/// Lines, and the rule that each breaks.
+static RULES: [(&[u8], Option<Rule>); 51] = [
+    // A byte that isn't printed, also where the word is unknown; a carriage return inside, and one without a line feed.
+    (b"mkdir\t/a 0755", Some(Rule::Text)),
+    (b"foo \x7f", Some(Rule::Text)),
+    (b"stat /\xc3\xa4", Some(Rule::Text)),
+    (b"sync\r", Some(Rule::Text)),
+    (b"sync\r\r\n", Some(Rule::Text)),
+    // Words.
+    (b"foo", Some(Rule::Word)),
+    (b"Sync", Some(Rule::Word)),
+    (b"lazy foo", Some(Rule::Word)),
+    (b"mkdir/a 0755", Some(Rule::Word)),
+    // `lazy` before calls that don't change, before their words are counted.
+    (b"lazy stat /", Some(Rule::Lazy)),
+    (b"lazy stat", Some(Rule::Lazy)),
+    (b"lazy sync", Some(Rule::Lazy)),
+    (b"lazy read / 0 1", Some(Rule::Lazy)),
+    (b"lazy list /", Some(Rule::Lazy)),
+    (b"lazy readlink /", Some(Rule::Lazy)),
+    // The number of words, before what they say.
+    (b"lazy", Some(Rule::Count)),
+    (b"sync now", Some(Rule::Count)),
+    (b"mkdir a", Some(Rule::Count)),
+    (b"stat", Some(Rule::Count)),
+    (b"fill /f 0 1", Some(Rule::Count)),
+    (b"lazy unlink /a /b", Some(Rule::Count)),
+    // Paths.
+    (b"stat a", Some(Rule::Path)),
+    (b"stat //", Some(Rule::Path)),
+    (b"stat /a/", Some(Rule::Path)),
+    (b"stat /..", Some(Rule::Path)),
+    (b"stat /%u0000", Some(Rule::Path)),
+    (b"stat /%41", Some(Rule::Path)),
+    (b"rename /a b", Some(Rule::Path)),
+    (b"chmod a 9", Some(Rule::Path)),
+    // Modes.
+    (b"mkdir /a 0999", Some(Rule::Mode)),
+    (b"mkdir /a 77", Some(Rule::Mode)),
+    (b"mkdir /a 00755", Some(Rule::Mode)),
+    (b"chmod /a -755", Some(Rule::Mode)),
+    // Numbers, and then what stands behind them.
+    (b"truncate /a -1", Some(Rule::Number)),
+    (b"truncate /a +1", Some(Rule::Number)),
+    (b"truncate /a 0x1", Some(Rule::Number)),
+    (b"write /a x 4", Some(Rule::Number)),
+    (b"fill /a 0 0 g", Some(Rule::Number)),
+    // Hexadecimal digits, bytes, targets.
+    (b"write /a 0 4", Some(Rule::Hex)),
+    (b"write /a 0 4g", Some(Rule::Hex)),
+    (b"fill /a 0 1 4", Some(Rule::Byte)),
+    (b"fill /a 0 1 411", Some(Rule::Byte)),
+    (b"fill /a 0 1 g1", Some(Rule::Byte)),
+    (b"symlink /a %00", Some(Rule::Target)),
+    (b"symlink /a x%4", Some(Rule::Target)),
+    (b"symlink /a %u0041", Some(Rule::Target)),
+    // Spaces at both ends and between, both cases of digits, an end with a carriage return.
+    (b"  mkdir   /a  0755  ", None),
+    (b"lazy   write /a 0 aB\r\n", None),
+    (b"symlink /a %2F../%ff", None),
+    (b"  # any \x01 byte", None),
+    (b"   \r\n", None),
+];
 
 // The rule that the first line breaks, `None` where it breaks none; `Grow`, which no line breaks, for other answers.
 fn rule_of(alloc: Global, line: &[u8]) -> Option<Rule> {
@@ -99,9 +81,8 @@ fn rule_of(alloc: Global, line: &[u8]) -> Option<Rule> {
 
 #[test]
 fn first_rules(rt: HostRuntime) -> Result<(), Fail> {
-    let alloc = rt.alloc();
-    for (i, case) in rules().iter().enumerate() {
-        assert_eq!(rt; rule_of(alloc, case.line), case.rule, "at {i}");
+    for (line, rule) in RULES.iter() {
+        assert!(rt; rule_of(rt.alloc(), line) == *rule, "{rule:?} {line:?}");
     }
     Ok(())
 }

@@ -54,42 +54,32 @@ fn stat(kind: NodeKind, mode: u32) -> Stat {
     }
 }
 
+// Whether an entry with this reply has this line.
+fn is_line(alloc: Global, reply: Reply, durable: bool, wanted: &str) -> Result<bool, AllocError> {
+    let text = line_of(alloc, reply, durable)?;
+    Ok(text.as_slice() == wanted.as_bytes())
+}
+
+fn is_bytes(alloc: Global, bytes: &[u8], wanted: &str) -> Result<bool, AllocError> {
+    is_line(alloc, Reply::Bytes(blob(alloc, bytes)?), false, wanted)
+}
+
+fn is_target(alloc: Global, bytes: &[u8], wanted: &str) -> Result<bool, AllocError> {
+    is_line(alloc, Reply::Target(blob(alloc, bytes)?), false, wanted)
+}
+
 #[test]
 fn replies(rt: HostRuntime) -> Result<(), Fail> {
     let alloc = rt.alloc();
-    assert_eq!(rt;
-        line_of(alloc, Reply::Done, true)?.as_slice(),
-        b"7 2.3 ok +\n".as_slice()
-    );
-    assert_eq!(rt;
-        line_of(alloc, Reply::Done, false)?.as_slice(),
-        b"7 2.3 ok -\n".as_slice()
-    );
-    let bytes = Reply::Bytes(blob(alloc, &[0, 0x4f, 0xff])?);
-    assert_eq!(rt;
-        line_of(alloc, bytes, false)?.as_slice(),
-        b"7 2.3 bytes 004fff -\n".as_slice()
-    );
-    let bytes = Reply::Bytes(blob(alloc, &[])?);
-    assert_eq!(rt;
-        line_of(alloc, bytes, false)?.as_slice(),
-        b"7 2.3 bytes - -\n".as_slice()
-    );
-    let target = Reply::Target(blob(alloc, b"a b%\x7f/")?);
-    assert_eq!(rt;
-        line_of(alloc, target, false)?.as_slice(),
-        b"7 2.3 target a%20b%25%7F/ -\n".as_slice()
-    );
+    assert!(rt; is_line(alloc, Reply::Done, true, "7 2.3 ok +\n")?);
+    assert!(rt; is_line(alloc, Reply::Done, false, "7 2.3 ok -\n")?);
+    assert!(rt; is_bytes(alloc, b"\0\x4f\xff", "7 2.3 bytes 004fff -\n")?);
+    assert!(rt; is_bytes(alloc, b"", "7 2.3 bytes - -\n")?);
+    assert!(rt; is_target(alloc, b"a b%\x7f/", "7 2.3 target a%20b%25%7F/ -\n")?);
     let listed = Reply::Names(names(alloc)?);
-    assert_eq!(rt;
-        line_of(alloc, listed, false)?.as_slice(),
-        b"7 2.3 names 2 a%u0025 %u00E4b -\n".as_slice()
-    );
+    assert!(rt; is_line(alloc, listed, false, "7 2.3 names 2 a%u0025 %u00E4b -\n")?);
     let listed = Reply::Names(NameList::new(alloc));
-    assert_eq!(rt;
-        line_of(alloc, listed, false)?.as_slice(),
-        b"7 2.3 names 0 -\n".as_slice()
-    );
+    assert!(rt; is_line(alloc, listed, false, "7 2.3 names 0 -\n")?);
     Ok(())
 }
 

@@ -1,7 +1,9 @@
 -- A view of pages, after it lent one.
-use Rattle.std.specs.Prelude.{◌≡◌, ◌<◌, ℕ, Result, Ok, Err, length}
+use Rattle.std.specs.Prelude.{◌≡◌, ◌<◌, ℕ, List, [], Result, Ok, Err, length}
 use Rattle.jfs_bits.specs.Count.{Rose}
 use Rattle.jfs_disk.specs.Image.{Image, page_of}
+use Rattle.jfs_disk.specs.Crash.{DiskState}
+use Rattle.jfs_disk.specs.declared.disk.Disk.{Ghosts}
 use Rattle.jfs_ranges.specs.declared.view.ViewError.{ViewError}
 use Rattle.jfs_ranges.specs.declared.view.ViewError.TheVariants.{Read, Memory}
 
@@ -11,10 +13,25 @@ CarriesCount before now (Ok page) = now ≡ before
 CarriesCount before now (Err (Read fault)) = Rose before now × (fault.count ≡ now)
 CarriesCount before now (Err Memory) = now ≡ before
 
--- a page was lent, or wasn't: the number of blocks and the pages stay
-pub record IsLent {T : Type 0} (tells : Type 0) (blocks blocks_after : ℕ) (image image_after : Image) (before now : ℕ) (result : Result T ViewError) : Type 0 where
+-- what a view's device has beside what the view shows of it: its number of pages and, where it tells what a crash may leave, the states that it has had
+pub record Device (crashes : Type 0) : Type 0 where
+  pub pages : ℕ
+  pub states : crashes → List DiskState
+
+-- a disk as the device of a view
+abbrev pub device_of : {D : Type 0} → (d : Ghosts D) → D → Device d.tells_crashes
+device_of d disk = record { pages = d.page_count disk; states = λ told. d.past disk }
+
+-- a view's device that is nothing but the pages that it shows
+abbrev pub no_device : {crashes : Type 0} → Device crashes
+no_device = record { pages = 0; states = λ told. [] }
+
+-- a page was lent, or wasn't: the number of blocks, the pages and the device stay
+pub record IsLent {T crashes : Type 0} (tells : Type 0) (blocks blocks_after : ℕ) (image image_after : Image) (device device_after : Device crashes)
+    (before now : ℕ) (result : Result T ViewError) : Type 0 where
   pub same_blocks : blocks_after ≡ blocks
   pub same_image : tells → image_after ≡ image
+  pub same_device : device_after ≡ device
   pub count : CarriesCount before now result
 
 -- each page has 4,096 bytes

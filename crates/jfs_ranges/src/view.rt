@@ -4,7 +4,7 @@ ghost use Rattle.std.specs.Prelude.{◌≡◌, ◌<◌, ℕ, IfOk};
 ghost use Rattle.std.specs.Borrow.{sem};
 ghost use Rattle.std.specs.Io.BufRead.{Rests};
 ghost use Rattle.jfs_disk.specs.Image.{Image, page_of};
-ghost use Rattle.jfs_ranges.specs.View.{IsLent, AreWhole};
+ghost use Rattle.jfs_ranges.specs.View.{Device, IsLent, AreWhole};
 
 use jfs_disk::{Fault, Page};
 
@@ -31,6 +31,12 @@ pub trait PageView {
     /// Whether the view tells its pages.
     ghost tells: { Type 0 };
 
+    /// Whether the view's device tells what a crash may leave.
+    ghost crashes: { Type 0 };
+
+    /// What the view's device has beside the pages that the view shows. Reading leaves it.
+    ghost device: { Self → Device crashes };
+
     /// The number of blocks of the file system part.
     fn blocks(&self) -> u32
         ensures { result ≡ block_count self.now };
@@ -40,9 +46,9 @@ pub trait PageView {
         requires { n < block_count self.old }
         ensures bytes { IfOk result (λ page. tells → page.now.0 ≡ page_of (image self.old) n) }
 
-        // Once the page is given back, the view has the same pages, and its count rose only with a fault.
+        // Once the page is given back, the view has the same pages and device, and its count rose only with a fault.
         ensures* after { sem 𝓛 (Rests Self.row self.entry (λ new. IsLent tells
-            (block_count self.old) (block_count new) (image self.old) (image new) (fault_count self.old) (fault_count new) result)) };
+            (block_count self.old) (block_count new) (image self.old) (image new) (device self.old) (device new) (fault_count self.old) (fault_count new) result)) };
 
     /// Each page has 4,096 bytes.
     ghost has_pages: { (view : Self) → tells → AreWhole (block_count view) (image view) };

@@ -19,7 +19,7 @@ nothing : (i width : ℕ) → little_from i width [] ≡ 0
 nothing i zero = refl
 nothing i (suc width) = let rest = nothing (suc i) width in omega (arith, rest)
 
-no_field : (at width : ℕ) → field_of [] at width ≡ 0
+pub no_field : (at width : ℕ) → field_of [] at width ≡ 0
 unfolding field_of
 no_field at width = nothing at width
 

@@ -29,6 +29,7 @@ impl InodeMap {
     pub fn read<V: PageView>(view: &mut V, extents: XadList) -> Result<InodeMap, ReadError>
         ensures image { V.PageView.tells → V.PageView.image view.new ≡ V.PageView.image view.old }
         ensures count_of_blocks { V.PageView.block_count view.new ≡ V.PageView.block_count view.old }
+        ensures device { V.PageView.device view.new ≡ V.PageView.device view.old }
         ensures fault { CarriesRead (V.PageView.fault_count view.old) (V.PageView.fault_count view.new) result }
         ensures outside { IfErr result (OutsideIsPast (V.PageView.block_count view.old) (block_of extents 0)) }
         ensures kept { IfOk result (λ map. map.extents ≡ extents) }
@@ -49,6 +50,7 @@ impl InodeMap {
     pub fn extent<V: PageView>(&self, view: &mut V, e: u32) -> Result<Option<u64>, ReadError>
         ensures image { V.PageView.tells → V.PageView.image view.new ≡ V.PageView.image view.old }
         ensures count_of_blocks { V.PageView.block_count view.new ≡ V.PageView.block_count view.old }
+        ensures device { V.PageView.device view.new ≡ V.PageView.device view.old }
         ensures fault { CarriesRead (V.PageView.fault_count view.old) (V.PageView.fault_count view.new) result }
         ensures outside { IfErr result (OutsideIsPast (V.PageView.block_count view.old) (block_of self.now.extents (suc (e / 128)))) }
         ensures fits { IfOk result (IsBelow (2 ^ 40)) }
@@ -68,6 +70,7 @@ impl InodeMap {
     pub fn home<V: PageView>(&self, view: &mut V, n: u32) -> Result<Option<u64>, ReadError>
         ensures image { V.PageView.tells → V.PageView.image view.new ≡ V.PageView.image view.old }
         ensures count_of_blocks { V.PageView.block_count view.new ≡ V.PageView.block_count view.old }
+        ensures device { V.PageView.device view.new ≡ V.PageView.device view.old }
         ensures fault { CarriesRead (V.PageView.fault_count view.old) (V.PageView.fault_count view.new) result }
         ensures outside { IfErr result (OutsideIsPast (V.PageView.block_count view.old) (iag_block self.now n)) }
         ensures page { V.PageView.tells → IfOk result (λ page.

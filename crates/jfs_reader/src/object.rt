@@ -25,6 +25,7 @@ use std::alloc::Global;
 pub fn read_inode<V: PageView>(view: &mut V, page: u64, n: u32) -> Result<Dinode, ReadError>
     ensures image { V.PageView.tells → V.PageView.image view.new ≡ V.PageView.image view.old }
     ensures count_of_blocks { V.PageView.block_count view.new ≡ V.PageView.block_count view.old }
+    ensures device { V.PageView.device view.new ≡ V.PageView.device view.old }
     ensures fault { CarriesRead (V.PageView.fault_count view.old) (V.PageView.fault_count view.new) result }
     ensures outside { IfErr result (OutsideIsPast (V.PageView.block_count view.old) (Some page)) }
     ensures inode { V.PageView.tells → IfOk result (λ d. d ≡ slot_of (page_of (V.PageView.image view.old) page) (n % 8)) }
@@ -43,6 +44,7 @@ pub fn read_inode<V: PageView>(view: &mut V, page: u64, n: u32) -> Result<Dinode
 pub fn names_of<V: PageView>(alloc: Global, view: &mut V, d: &Dinode) -> Result<NameList, DtError>
     ensures image { V.PageView.tells → V.PageView.image view.new ≡ V.PageView.image view.old }
     ensures count_of_blocks { V.PageView.block_count view.new ≡ V.PageView.block_count view.old }
+    ensures device { V.PageView.device view.new ≡ V.PageView.device view.old }
     ensures fault { CarriesDt (V.PageView.fault_count view.old) (V.PageView.fault_count view.new) result }
     ensures list { V.PageView.tells →
         NamesAre (listed name_scale (names_of (readers (V.PageView.block_count view.old)) (page_of (V.PageView.image view.old)) d.now)) result }
@@ -58,6 +60,7 @@ pub fn names_of<V: PageView>(alloc: Global, view: &mut V, d: &Dinode) -> Result<
 pub fn extents_of<V: PageView>(alloc: Global, view: &mut V, d: &Dinode) -> Result<XadList, XtError>
     ensures image { V.PageView.tells → V.PageView.image view.new ≡ V.PageView.image view.old }
     ensures count_of_blocks { V.PageView.block_count view.new ≡ V.PageView.block_count view.old }
+    ensures device { V.PageView.device view.new ≡ V.PageView.device view.old }
     ensures fault { CarriesXt (V.PageView.fault_count view.old) (V.PageView.fault_count view.new) result }
     ensures list { V.PageView.tells →
         ExtentsAre (listed xt_scale (extents_of (readers (V.PageView.block_count view.old)) (page_of (V.PageView.image view.old)) d.now)) result }

@@ -20,6 +20,7 @@ impl InodeMap {
     pub fn is_used<V: PageView>(&self, view: &mut V, n: u32) -> Result<bool, ReadError>
         ensures image { V.PageView.tells → V.PageView.image view.new ≡ V.PageView.image view.old }
         ensures count_of_blocks { V.PageView.block_count view.new ≡ V.PageView.block_count view.old }
+        ensures device { V.PageView.device view.new ≡ V.PageView.device view.old }
         ensures fault { CarriesRead (V.PageView.fault_count view.old) (V.PageView.fault_count view.new) result }
         ensures outside { IfErr result (OutsideIsPast (V.PageView.block_count view.old) (iag_block self.now n)) }
         ensures used { V.PageView.tells → IfOk result (λ used.
@@ -37,6 +38,7 @@ impl InodeMap {
     fn is_marked<V: PageView>(&self, view: &mut V, n: u32) -> Result<bool, ReadError>
         ensures image { V.PageView.tells → V.PageView.image view.new ≡ V.PageView.image view.old }
         ensures count_of_blocks { V.PageView.block_count view.new ≡ V.PageView.block_count view.old }
+        ensures device { V.PageView.device view.new ≡ V.PageView.device view.old }
         ensures fault { CarriesRead (V.PageView.fault_count view.old) (V.PageView.fault_count view.new) result }
         ensures outside { IfErr result (OutsideIsPast (V.PageView.block_count view.old) (iag_block self.now n)) }
         ensures marked { V.PageView.tells → IfOk result (λ marked.

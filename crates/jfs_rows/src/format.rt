@@ -1,11 +1,15 @@
 //! The command `format`, and what `super` and `log` then print. Texts are worked out by hand.
 
 use crate::refusals::change;
-use crate::volume::{LINES, disk_with, run, sound_page};
+use crate::volume::{
+    LINES, after, after_number, disk_with, failing, fails_at, is_wrong_word, sound_page, status_of,
+};
 use jfs_command::Status;
-use jfs_disk::{Disk, Fail, Kind, MemDisk, Page, Part};
+use jfs_disk::{Disk, Fail, Kind, MemDisk, Page};
 use jfs_io::SureSink;
 use std::alloc::Global;
+use std::sync::Wait;
+use std::thread::Threads;
 
 const UUID: &str = "00112233-4455-6677-8899-aabbccddeeff";
 
@@ -14,7 +18,7 @@ const FORMATTED: &str = "formatted 3008 blocks, 2975 free\n";
 const LOG: &str = "4190252 0 SYNCPT 0\nlog 1 records, end 4190252\n";
 
 /// Words, and the place of the first that leaves the grammar.
-const WRONG_WORDS: [(&[&str], u32); 15] = [
+static WRONG_WORDS: [(&[&str], u32); 15] = [
     (&["format"], 2),
     (&["format", "-I", UUID], 2),
     (&["format", "I"], 3),
@@ -33,7 +37,7 @@ const WRONG_WORDS: [(&[&str], u32); 15] = [
 ];
 
 /// The forms in which a UUID may stand.
-const FORMS: [&str; 5] = [
+static FORMS: [&str; 5] = [
     UUID,
     "00112233445566778899aabbccddeeff",
     "{00112233-4455-6677-8899-aabbccddeeff}",
@@ -62,159 +66,149 @@ fn page8(disk: &mut MemDisk) -> Option<Page> {
     Some(page)
 }
 
+/// Whether page 8 is as it was.
+fn is_left(disk: Option<MemDisk>) -> Option<bool> {
+    let page = page8(&mut disk?)?;
+    Some(page.0.as_slice() == old_page().0.as_slice())
+}
+
 #[test]
-fn names_the_wrong_word_of_format(rt: HostRuntime) -> Result<(), std::test::Fail> {
-    let alloc = rt.alloc();
-    for (words, place) in WRONG_WORDS {
-        let disk = MemDisk::new(alloc, 4096);
-        let mut out = SureSink::new(alloc);
-        let ended = run(&rt, alloc, words, disk, &mut out).ok().ok_or("memory")?;
-        assert_eq!(rt; ended.status, Status::Usage { word: place });
-        let text = format!(in alloc; "jfsd: usage: word {place}\n")?;
-        assert_eq!(rt; out.bytes(), text.as_bytes());
+fn names_the_wrong_word_of_format(rt: HostRuntime) {
+    for (words, place) in WRONG_WORDS.iter() {
+        let alloc = rt.alloc();
+        let is_so = is_wrong_word(&rt, alloc, words, *place, Some(MemDisk::new(alloc, 4096)));
+        assert!(rt; is_so == Some(true), "{words:?}");
     }
-    Ok(())
 }
 
 #[test]
-fn a_new_volume_is_described(rt: HostRuntime) -> Result<(), std::test::Fail> {
+fn a_new_volume_is_described(rt: HostRuntime) {
     let alloc = rt.alloc();
-    for uuid in FORMS {
-        let disk = old_disk(alloc, 4096).ok_or("memory")?;
-        let mut out = SureSink::new(alloc);
-        let ended = run(&rt, alloc, &["format", "I", uuid, "data"], disk, &mut out)
-            .ok()
-            .ok_or("memory")?;
-        assert_eq!(rt; ended.status, Status::Done);
-        assert_eq!(rt; out.bytes(), FORMATTED.as_bytes());
-        assert!(rt; ended.history.is_empty() && ended.told.is_empty());
-
-        let mut out = SureSink::new(alloc);
-        let ended = run(&rt, alloc, &["super", "I"], ended.disk, &mut out)
-            .ok()
-            .ok_or("memory")?;
-        assert_eq!(rt; ended.status, Status::Done);
-        assert_eq!(rt; out.bytes(), LINES.as_bytes());
-
-        let mut out = SureSink::new(alloc);
-        let ended = run(&rt, alloc, &["log", "I"], ended.disk, &mut out)
-            .ok()
-            .ok_or("memory")?;
-        assert_eq!(rt; ended.status, Status::Done);
-        assert_eq!(rt; out.bytes(), LOG.as_bytes());
-    }
-    Ok(())
-}
-
-#[test]
-fn labels_stand_whole_or_not_at_all(rt: HostRuntime) -> Result<(), std::test::Fail> {
-    let alloc = rt.alloc();
-    let lines = LINES.strip_suffix("data\n").ok_or("lines")?;
-    for (words, label) in [
-        (["format", "I", UUID].as_slice(), "-"),
-        (
-            &["format", "I", UUID, "sixteen%bytes~!@"],
-            "sixteen%25bytes~!@",
-        ),
-        (&["format", "I", UUID, "a"], "a"),
-    ] {
-        let mut out = SureSink::new(alloc);
-        let disk = old_disk(alloc, 4096).ok_or("memory")?;
-        let ended = run(&rt, alloc, words, disk, &mut out).ok().ok_or("memory")?;
-        assert_eq!(rt; ended.status, Status::Done);
-        let mut out = SureSink::new(alloc);
-        run(&rt, alloc, &["super", "I"], ended.disk, &mut out)
-            .ok()
-            .ok_or("memory")?;
-        let text = format!(in alloc; "{lines}{label}\n")?;
-        assert_eq!(rt; out.bytes(), text.as_bytes());
-    }
-    Ok(())
-}
-
-#[test]
-fn a_disk_of_another_size_is_left_alone(rt: HostRuntime) -> Result<(), std::test::Fail> {
-    let alloc = rt.alloc();
-    for pages in [0, 1, 4095] {
-        let mut out = SureSink::new(alloc);
-        let disk = old_disk(alloc, pages).ok_or("memory")?;
-        let ended = run(&rt, alloc, &["format", "I", UUID], disk, &mut out)
-            .ok()
-            .ok_or("memory")?;
-        assert_eq!(rt; ended.status.number(), 12);
-        let text = format!(in alloc; "jfsd: bad size: {pages}\n")?;
-        assert_eq!(rt; out.bytes(), text.as_bytes());
-        if pages > 8 {
-            let mut disk = ended.disk;
-            assert_eq!(rt; page8(&mut disk).ok_or("page")?.0, old_page().0);
-        }
-    }
-    Ok(())
-}
-
-/// An old disk on which the calls of this kind fail from this one on.
-fn failing(alloc: Global, kind: Kind, first: u64) -> Option<MemDisk> {
-    let mut fails = Vec::new(alloc);
-    let part = Part::Whole;
-    let last = u64::MAX;
-    fails
-        .push(Fail {
-            part,
-            kind,
-            first,
-            last,
-        })
-        .ok()?;
-    Some(old_disk(alloc, 4096)?.with_fails(fails))
-}
-
-#[test]
-fn a_failed_call_leaves_page_8(rt: HostRuntime) -> Result<(), std::test::Fail> {
-    let alloc = rt.alloc();
-    // 24 pages in front, 1,022 ring pages and the log's superblock are written before a sync, and then page 8.
-    for n in 0..1048 {
-        if 40 < n && n < 1020 {
-            continue;
-        }
-        let disk = if n == 0 {
-            failing(alloc, Kind::Sync, 1)
-        } else {
-            failing(alloc, Kind::Write, n)
-        };
-        let mut out = SureSink::new(alloc);
-        let ended = run(
+    for uuid in FORMS.iter() {
+        let words = ["format", "I", *uuid, "data"];
+        let disk = after(
             &rt,
             alloc,
-            &["format", "I", UUID],
-            disk.ok_or("memory")?,
-            &mut out,
-        )
-        .ok()
-        .ok_or("memory")?;
-        assert_eq!(rt; ended.status, Status::DiskFault);
-        assert_eq!(rt; out.bytes(), b"jfsd: disk fault\n".as_slice());
-        let mut disk = ended.disk;
-        assert_eq!(rt; page8(&mut disk).ok_or("page")?.0, old_page().0);
+            &words,
+            old_disk(alloc, 4096),
+            Status::Done,
+            FORMATTED,
+        );
+        let disk = after(&rt, alloc, &["super", "I"], disk, Status::Done, LINES);
+        let disk = after(&rt, alloc, &["log", "I"], disk, Status::Done, LOG);
+        assert!(rt; disk.is_some(), "{uuid}");
     }
-    Ok(())
+}
+
+/// Words, and the label that is then printed.
+static LABELS: [(&[&str], &str); 3] = [
+    (&["format", "I", UUID], "-"),
+    (
+        &["format", "I", UUID, "sixteen%bytes~!@"],
+        "sixteen%25bytes~!@",
+    ),
+    (&["format", "I", UUID, "a"], "a"),
+];
+
+/// Whether a volume is described with this label.
+fn has_label<R: Threads + Wait + Sync>(
+    rt: &R,
+    alloc: Global,
+    disk: Option<MemDisk>,
+    label: &str,
+) -> Option<bool> {
+    let lines = LINES.strip_suffix("data\n")?;
+    let text = format!(in alloc; "{lines}{label}\n").ok()?;
+    Some(after(
+        rt,
+        alloc,
+        &["super", "I"],
+        disk,
+        Status::Done,
+        text.as_str(),
+    )
+    .is_some())
 }
 
 #[test]
-fn the_last_calls_count_too(rt: HostRuntime) -> Result<(), std::test::Fail> {
-    let alloc = rt.alloc();
-    for (kind, first, number) in [
-        (Kind::Write, 1048, 7),
-        (Kind::Sync, 2, 7),
-        (Kind::Write, 1049, 0),
-        (Kind::Sync, 3, 0),
-        (Kind::Read, 1, 0),
-    ] {
-        let disk = failing(alloc, kind, first).ok_or("memory")?;
-        let mut out = SureSink::new(alloc);
-        let ended = run(&rt, alloc, &["format", "I", UUID], disk, &mut out)
-            .ok()
-            .ok_or("memory")?;
-        assert_eq!(rt; ended.status.number(), number);
+fn labels_stand_whole_or_not_at_all(rt: HostRuntime) {
+    for (words, label) in LABELS.iter() {
+        let alloc = rt.alloc();
+        let disk = after(
+            &rt,
+            alloc,
+            words,
+            old_disk(alloc, 4096),
+            Status::Done,
+            FORMATTED,
+        );
+        assert!(rt; has_label(&rt, alloc, disk, label) == Some(true), "{label}");
     }
-    Ok(())
+}
+
+/// The disk after a size was refused.
+fn refused_size<R: Threads + Wait + Sync>(rt: &R, alloc: Global, pages: u32) -> Option<MemDisk> {
+    let text = format!(in alloc; "jfsd: bad size: {pages}\n").ok()?;
+    let disk = old_disk(alloc, pages);
+    after_number(rt, alloc, &["format", "I", UUID], disk, 12, text.as_str())
+}
+
+#[test]
+fn a_disk_of_another_size_is_left_alone(rt: HostRuntime) {
+    let alloc = rt.alloc();
+    for pages in [0, 1] {
+        assert!(rt; refused_size(&rt, alloc, pages).is_some(), "{pages}");
+    }
+    assert!(rt; is_left(refused_size(&rt, alloc, 4095)) == Some(true));
+}
+
+/// Whether a fault ends the command and leaves page 8.
+fn is_fault<R: Threads + Wait + Sync>(rt: &R, alloc: Global, fail: Fail) -> bool {
+    let disk = failing(alloc, old_disk(alloc, 4096), fail);
+    let text = "jfsd: disk fault\n";
+    let words = ["format", "I", UUID];
+    is_left(after(rt, alloc, &words, disk, Status::DiskFault, text)) == Some(true)
+}
+
+#[test]
+fn a_failed_call_leaves_page_8(rt: HostRuntime) {
+    // 24 pages in front, 1,022 ring pages and the log's superblock are written before a sync, and then page 8.
+    let alloc = rt.alloc();
+    assert!(rt; is_fault(&rt, alloc, fails_at(Kind::Sync, 1, u64::MAX)));
+    for n in 1..1048 {
+        if n <= 40 || 1020 <= n {
+            assert!(rt;
+                is_fault(&rt, alloc, fails_at(Kind::Write, n, u64::MAX)),
+                "{n}"
+            );
+        }
+    }
+}
+
+/// A kind of calls, the first that fails, and the status.
+static LAST_CALLS: [(Kind, u64, u8); 5] = [
+    (Kind::Write, 1048, 7),
+    (Kind::Sync, 2, 7),
+    (Kind::Write, 1049, 0),
+    (Kind::Sync, 3, 0),
+    (Kind::Read, 1, 0),
+];
+
+/// The number of the status where a disk fails so.
+fn number_where<R: Threads + Wait + Sync>(rt: &R, alloc: Global, fail: Fail) -> Option<u8> {
+    let disk = failing(alloc, old_disk(alloc, 4096), fail);
+    let mut out = SureSink::new(alloc);
+    let status = status_of(rt, alloc, &["format", "I", UUID], disk, &mut out)?;
+    Some(status.number())
+}
+
+#[test]
+fn the_last_calls_count_too(rt: HostRuntime) {
+    for (kind, first, number) in LAST_CALLS.iter() {
+        let fail = fails_at(*kind, *first, u64::MAX);
+        assert!(rt;
+            number_where(&rt, rt.alloc(), fail) == Some(*number),
+            "{first}"
+        );
+    }
 }

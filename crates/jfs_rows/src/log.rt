@@ -1,11 +1,13 @@
 //! The command `log`, over logs that the tests write number by number. Texts and addresses are worked out by hand.
 
+use crate::faults::faults_of;
 use crate::refusals::{Change, change};
-use crate::volume::{disk_with, run, sound_page};
+use crate::volume::{after, after_number, disk_with, failing_all, fails_at, sound_page};
 use jfs_command::Status;
-use jfs_disk::{Disk, Fail, Kind, MemDisk, Page, Part};
-use jfs_io::SureSink;
+use jfs_disk::{Disk, Kind, MemDisk, Page};
 use std::alloc::Global;
+use std::sync::Wait;
+use std::thread::Threads;
 
 /// The page at which the log begins.
 const LOG: u32 = 3072;
@@ -26,7 +28,7 @@ const fn log_super(pages: u64) -> [Change; 7] {
 /// A SYNCPT that names itself, and the transaction of one `chmod` of the root: a line of its inode, and a COMMIT. They stand on the
 /// last page of a log of 1,024 pages.
 #[rattlefmt::skip]
-const ONE_CHMOD: [Change; 15] = [
+static ONE_CHMOD: [Change; 15] = [
     (16, 2, 0x4000),
     (172, 2, 8), (174, 2, 1),
     (176, 4, 1), (184, 2, 0x0800), (186, 2, 132), (192, 4, 16), (196, 4, 0), (200, 2, 1), (202, 2, 7), (204, 4, 1), (208, 4, 29),
@@ -42,7 +44,7 @@ log 3 records, end 4190456
 
 /// The same of a log of 256 pages, then a transaction with records of all other types, and a SYNCPT that gives its first one.
 #[rattlefmt::skip]
-const ALL_TYPES: [Change; 65] = [
+static ALL_TYPES: [Change; 65] = [
     (16, 2, 0x4000),
     (172, 2, 8), (174, 2, 1),
     (176, 4, 1), (184, 2, 0x0800), (186, 2, 132), (192, 4, 16), (196, 4, 0), (200, 2, 1), (202, 2, 7), (204, 4, 1), (208, 4, 29),
@@ -63,7 +65,7 @@ const ALL_TYPES: [Change; 65] = [
 
 /// A run that is freed.
 #[rattlefmt::skip]
-const FREED: [Change; 10] = [
+static FREED: [Change; 10] = [
     (500, 4, 1), (504, 4, 40),
     (508, 4, 2), (512, 4, 1044980), (516, 2, 8), (518, 2, 8), (524, 4, 16), (528, 4, 5), (532, 2, 4), (534, 2, 1),
 ];
@@ -81,7 +83,7 @@ log 7 records, end 1045096
 
 /// Changes of page 1 or of the last page of that log of 256 pages, and the place and the rule that are answered.
 #[rattlefmt::skip]
-const BROKEN: [(u32, Change, u32, &str); 17] = [
+static BROKEN: [(u32, Change, u32, &str); 17] = [
     (1, (0, 4, 0), 4096, "super"),
     (1, (4, 4, 2), 4096, "super"),
     (1, (12, 4, 255), 4096, "super"),
@@ -157,170 +159,152 @@ fn all_types(alloc: Global) -> Option<MemDisk> {
     disk_with_log(alloc, 0, 256, &[&ALL_TYPES, &FREED], 616)
 }
 
+/// Whether the command ends with this status and this text.
+fn is_told<R: Threads + Wait + Sync>(
+    rt: &R,
+    alloc: Global,
+    disk: Option<MemDisk>,
+    number: u8,
+    text: &str,
+) -> bool {
+    after_number(rt, alloc, &["log", "I"], disk, number, text).is_some()
+}
+
 #[test]
-fn one_chmod_is_printed_in_every_state(rt: HostRuntime) -> Result<(), std::test::Fail> {
-    let alloc = rt.alloc();
+fn one_chmod_is_printed_in_every_state(rt: HostRuntime) {
     for state in [0, 1, 2, 4, 8] {
-        let disk = disk_with_log(alloc, state, 1024, &[&ONE_CHMOD], 248).ok_or("memory")?;
-        let mut out = SureSink::new(alloc);
-        let ended = run(&rt, alloc, &["log", "I"], disk, &mut out)
-            .ok()
-            .ok_or("memory")?;
-        assert_eq!(rt; ended.status, Status::Done);
-        assert_eq!(rt; out.bytes(), ONE_CHMOD_TEXT.as_bytes());
-        assert!(rt; ended.history.is_empty() && ended.told.is_empty());
+        let alloc = rt.alloc();
+        let disk = disk_with_log(alloc, state, 1024, &[&ONE_CHMOD], 248);
+        assert!(rt; is_told(&rt, alloc, disk, 0, ONE_CHMOD_TEXT), "{state}");
     }
-    Ok(())
 }
 
 #[test]
-fn records_of_all_types_from_the_sync_address_on(rt: HostRuntime) -> Result<(), std::test::Fail> {
+fn records_of_all_types_from_the_sync_address_on(rt: HostRuntime) {
     let alloc = rt.alloc();
-    let mut out = SureSink::new(alloc);
-    let disk = all_types(alloc).ok_or("memory")?;
-    let ended = run(&rt, alloc, &["log", "I"], disk, &mut out)
-        .ok()
-        .ok_or("memory")?;
-    assert_eq!(rt; ended.status, Status::Done);
-    assert_eq!(rt; out.bytes(), ALL_TYPES_TEXT.as_bytes());
-    Ok(())
+    assert!(rt; is_told(&rt, alloc, all_types(alloc), 0, ALL_TYPES_TEXT));
+}
+
+/// The log with records of all types and changes of one page.
+fn all_types_but(alloc: Global, n: u32, changes: &[Change]) -> Option<MemDisk> {
+    let mut disk = all_types(alloc)?;
+    alter(&mut disk, n, changes)?;
+    Some(disk)
+}
+
+/// Whether a log breaks this rule at this address.
+fn is_broken<R: Threads + Wait + Sync>(
+    rt: &R,
+    alloc: Global,
+    disk: Option<MemDisk>,
+    address: u32,
+    rule: &str,
+) -> Option<bool> {
+    let text = format!(in alloc; "jfsd: bad log: address {address} rule {rule}\n").ok()?;
+    Some(is_told(rt, alloc, disk, 10, text.as_str()))
 }
 
 #[test]
-fn a_broken_log_prints_its_rule_alone(rt: HostRuntime) -> Result<(), std::test::Fail> {
-    let alloc = rt.alloc();
-    for (n, changed, address, rule) in BROKEN {
-        let mut disk = all_types(alloc).ok_or("memory")?;
-        alter(&mut disk, n, &[changed]).ok_or("memory")?;
-        let mut out = SureSink::new(alloc);
-        let ended = run(&rt, alloc, &["log", "I"], disk, &mut out)
-            .ok()
-            .ok_or("memory")?;
-        let text = format!(in alloc; "jfsd: bad log: address {address} rule {rule}\n")?;
-        assert_eq!(rt; out.bytes(), text.as_bytes());
-        assert_eq!(rt; ended.status.number(), 10);
+fn a_broken_log_prints_its_rule_alone(rt: HostRuntime) {
+    for (n, changed, address, rule) in BROKEN.iter() {
+        let alloc = rt.alloc();
+        let disk = all_types_but(alloc, *n, &[*changed]);
+        let is_so = is_broken(&rt, alloc, disk, *address, rule);
+        assert!(rt; is_so == Some(true), "{rule} {address}");
     }
-    Ok(())
+}
+
+/// The log with two pages that are torn.
+fn torn_twice(alloc: Global) -> Option<MemDisk> {
+    let mut disk = all_types_but(alloc, 102, &[(4088, 4, 7)])?;
+    alter(&mut disk, 202, &[(4088, 4, 7)])?;
+    Some(disk)
 }
 
 #[test]
-fn a_ring_without_a_half_that_stands(rt: HostRuntime) -> Result<(), std::test::Fail> {
+fn a_ring_without_a_half_that_stands(rt: HostRuntime) {
     let alloc = rt.alloc();
     // Page numbers 100 and 200 are torn, so no 127 pages in a row stand.
-    let mut disk = all_types(alloc).ok_or("memory")?;
-    for n in [102, 202] {
-        alter(&mut disk, n, &[(4088, 4, 7)]).ok_or("memory")?;
-    }
-    let mut out = SureSink::new(alloc);
-    let ended = run(&rt, alloc, &["log", "I"], disk, &mut out)
-        .ok()
-        .ok_or("memory")?;
-    assert_eq!(rt;
-        out.bytes(),
-        b"jfsd: bad log: address 0 rule ring\n".as_slice()
-    );
-    assert_eq!(rt; ended.status.number(), 10);
-
+    let is_so = is_broken(&rt, alloc, torn_twice(alloc), 0, "ring");
+    assert!(rt; is_so == Some(true));
     // No record ends in the newest half.
-    let mut out = SureSink::new(alloc);
-    let disk = disk_with_log(alloc, 0, 256, &[&ALL_TYPES, &FREED], 8).ok_or("memory")?;
-    let ended = run(&rt, alloc, &["log", "I"], disk, &mut out)
-        .ok()
-        .ok_or("memory")?;
-    assert_eq!(rt;
-        out.bytes(),
-        b"jfsd: bad log: address 0 rule sync\n".as_slice()
-    );
-    assert_eq!(rt; ended.status.number(), 10);
-    Ok(())
+    let disk = disk_with_log(alloc, 0, 256, &[&ALL_TYPES, &FREED], 8);
+    let is_so = is_broken(&rt, alloc, disk, 0, "sync");
+    assert!(rt; is_so == Some(true));
+}
+
+/// The two halves of a label, and what is told of it.
+static LABELS: [(&[u8; 8], &[u8; 8], &str); 4] = [
+    (b"other\0\0\0", &[0; 8], "jfsd: foreign log: other\n"),
+    (&[0; 8], &[0; 8], "jfsd: foreign log: -\n"),
+    (
+        b"jfsd pro",
+        b"file2\0\0\0",
+        "jfsd: foreign log: jfsd%20profile2\n",
+    ),
+    (
+        b"jfsd pro",
+        b"file 1\0x",
+        "jfsd: foreign log: jfsd%20profile%201%00x\n",
+    ),
+];
+
+/// A log with this label. Nothing else of it is to be looked at.
+fn labelled(alloc: Global, first: &[u8; 8], second: &[u8; 8]) -> Option<MemDisk> {
+    let mut disk = all_types_but(alloc, 255, &[(552, 2, 0x2000)])?;
+    let label = [
+        (52, 8, u64::from_le_bytes(*first)),
+        (60, 8, u64::from_le_bytes(*second)),
+    ];
+    alter(&mut disk, 1, &label)?;
+    Some(disk)
 }
 
 #[test]
-fn a_foreign_label_is_told(rt: HostRuntime) -> Result<(), std::test::Fail> {
-    let alloc = rt.alloc();
-    for (first, second, text) in [
-        (*b"other\0\0\0", [0; 8], "jfsd: foreign log: other\n"),
-        ([0; 8], [0; 8], "jfsd: foreign log: -\n"),
-        (
-            *b"jfsd pro",
-            *b"file2\0\0\0",
-            "jfsd: foreign log: jfsd%20profile2\n",
-        ),
-        (
-            *b"jfsd pro",
-            *b"file 1\0x",
-            "jfsd: foreign log: jfsd%20profile%201%00x\n",
-        ),
-    ] {
-        let mut disk = all_types(alloc).ok_or("memory")?;
-        // Nothing else of the log is looked at.
-        alter(&mut disk, 255, &[(552, 2, 0x2000)]).ok_or("memory")?;
-        alter(
-            &mut disk,
-            1,
-            &[
-                (52, 8, u64::from_le_bytes(first)),
-                (60, 8, u64::from_le_bytes(second)),
-            ],
-        )
-        .ok_or("memory")?;
-        let mut out = SureSink::new(alloc);
-        let ended = run(&rt, alloc, &["log", "I"], disk, &mut out)
-            .ok()
-            .ok_or("memory")?;
-        assert_eq!(rt; out.bytes(), text.as_bytes());
-        assert_eq!(rt; ended.status.number(), 9);
+fn a_foreign_label_is_told(rt: HostRuntime) {
+    for (first, second, text) in LABELS.iter() {
+        let alloc = rt.alloc();
+        let disk = labelled(alloc, first, second);
+        assert!(rt; is_told(&rt, alloc, disk, 9, text), "{text}");
     }
-    Ok(())
 }
 
 #[test]
-fn the_superblock_comes_first(rt: HostRuntime) -> Result<(), std::test::Fail> {
+fn the_superblock_comes_first(rt: HostRuntime) {
     let alloc = rt.alloc();
-    let disk = disk_with_log(alloc, 3, 256, &[], 8).ok_or("memory")?;
-    let mut out = SureSink::new(alloc);
-    let ended = run(&rt, alloc, &["log", "I"], disk, &mut out)
-        .ok()
-        .ok_or("memory")?;
-    assert_eq!(rt;
-        out.bytes(),
-        b"jfsd: bad image: page 8 rule state value 3\n".as_slice()
-    );
-    assert_eq!(rt; ended.status.number(), 3);
-    Ok(())
+    let disk = disk_with_log(alloc, 3, 256, &[], 8);
+    let text = "jfsd: bad image: page 8 rule state value 3\n";
+    assert!(rt; is_told(&rt, alloc, disk, 3, text));
+}
+
+/// The log with records of all types, on a disk all of whose reads from this one on fail, and each write and sync.
+fn failing_from(alloc: Global, first: u64) -> Option<MemDisk> {
+    let fails = [
+        fails_at(Kind::Read, first, u64::MAX),
+        fails_at(Kind::Write, 1, u64::MAX),
+        fails_at(Kind::Sync, 1, u64::MAX),
+    ];
+    failing_all(alloc, all_types(alloc), &fails)
 }
 
 #[test]
-fn a_disk_that_fails_at_each_read(rt: HostRuntime) -> Result<(), std::test::Fail> {
+fn a_disk_that_fails_at_each_read(rt: HostRuntime) {
     let alloc = rt.alloc();
+    let words = ["log", "I"];
     // Page 8, the log's superblock, each of 254 ring pages, and once more the 127 of the newest half.
-    for first in 1..385 {
-        let mut fails = Vec::new(alloc);
-        let kinds = [(Kind::Read, first), (Kind::Write, 1), (Kind::Sync, 1)];
-        for (kind, first) in kinds {
-            let part = Part::Whole;
-            let last = u64::MAX;
-            fails.push(Fail {
-                part,
-                kind,
-                first,
-                last,
-            })?;
-        }
-        let disk = all_types(alloc).ok_or("memory")?.with_fails(fails);
-        let mut out = SureSink::new(alloc);
-        let ended = run(&rt, alloc, &["log", "I"], disk, &mut out)
-            .ok()
-            .ok_or("memory")?;
-        if first < 384 {
-            assert_eq!(rt; ended.status, Status::DiskFault);
-            assert_eq!(rt; out.bytes(), b"jfsd: disk fault\n".as_slice());
-            assert_eq!(rt; ended.disk.faults(), 1);
-        } else {
-            assert_eq!(rt; ended.status, Status::Done);
-            assert_eq!(rt; out.bytes(), ALL_TYPES_TEXT.as_bytes());
-            assert_eq!(rt; ended.disk.faults(), 0);
-        }
+    for first in 1..384 {
+        let disk = failing_from(alloc, first);
+        let disk = after(
+            &rt,
+            alloc,
+            &words,
+            disk,
+            Status::DiskFault,
+            "jfsd: disk fault\n",
+        );
+        assert!(rt; faults_of(&disk) == Some(1), "{first}");
     }
-    Ok(())
+    let disk = failing_from(alloc, 384);
+    let disk = after(&rt, alloc, &words, disk, Status::Done, ALL_TYPES_TEXT);
+    assert!(rt; faults_of(&disk) == Some(0));
 }

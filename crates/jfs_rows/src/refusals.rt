@@ -1,10 +1,13 @@
 //! Superblocks with one or two changed fields, and the rule and the value that they must answer. Each is worked out by
 //! hand from the layout of page 8.
 
-use crate::volume::{disk_with, run, sound_page};
+use crate::volume::{after_number, disk_with, sound_page, status_of};
 use jfs_command::Status;
-use jfs_disk::{Disk, Page};
+use jfs_disk::{Disk, MemDisk, Page};
 use jfs_io::SureSink;
+use std::alloc::Global;
+use std::sync::Wait;
+use std::thread::Threads;
 
 /// A change of page 8: the place, the width in bytes, and the number that is put there.
 pub type Change = (usize, usize, u64);
@@ -13,7 +16,7 @@ pub type Change = (usize, usize, u64);
 type Row = (&'static [Change], u32, &'static str, u64);
 
 #[rattlefmt::skip]
-const REFUSED: [Row; 54] = [
+static REFUSED: [Row; 54] = [
     (&[(0, 4, 844318282)], 4096, "magic", 844318282),
     (&[(0, 4, 0)], 4096, "magic", 0),
     (&[(0, 4, 827541067)], 4096, "magic", 827541067),
@@ -72,7 +75,7 @@ const REFUSED: [Row; 54] = [
 
 /// Changes that break no rule.
 #[rattlefmt::skip]
-const ACCEPTED: [Change; 10] = [
+static ACCEPTED: [Change; 10] = [
     (4, 4, 1),
     (40, 4, 1),
     (40, 4, 2),
@@ -96,56 +99,59 @@ pub fn change(page: &mut Page, changes: &[Change]) {
     }
 }
 
-#[test]
-fn names_the_first_broken_rule(rt: HostRuntime) -> Result<(), std::test::Fail> {
-    let alloc = rt.alloc();
-    for (changes, pages, rule, value) in REFUSED {
-        let mut page = sound_page();
-        change(&mut page, changes);
-        let disk = disk_with(alloc, pages, &page).ok_or("memory")?;
-        let mut out = SureSink::new(alloc);
-        let ended = run(&rt, alloc, &["super", "I"], disk, &mut out)
-            .ok()
-            .ok_or("memory")?;
-        let text = format!(in alloc; "jfsd: bad image: page 8 rule {rule} value {value}\n")?;
-        assert_eq!(rt; out.bytes(), text.as_bytes(), "rule {rule} value {value}");
-        assert_eq!(rt; ended.status.number(), 3);
-    }
-    Ok(())
-}
-
-#[test]
-fn accepts_what_breaks_no_rule(rt: HostRuntime) -> Result<(), std::test::Fail> {
-    let alloc = rt.alloc();
-    for changed in ACCEPTED {
-        let mut page = sound_page();
-        change(&mut page, &[changed]);
-        let disk = disk_with(alloc, 4096, &page).ok_or("memory")?;
-        let mut out = SureSink::new(alloc);
-        let ended = run(&rt, alloc, &["super", "I"], disk, &mut out)
-            .ok()
-            .ok_or("memory")?;
-        assert_eq!(rt; ended.status, Status::Done);
-    }
-    Ok(())
-}
-
-#[test]
-fn the_second_superblock_is_not_looked_at(rt: HostRuntime) -> Result<(), std::test::Fail> {
-    let alloc = rt.alloc();
+/// A disk whose page 8 has these changes.
+fn changed_disk(alloc: Global, pages: u32, changes: &[Change]) -> Option<MemDisk> {
     let mut page = sound_page();
-    change(&mut page, &[(0, 4, 844318282)]);
-    let mut disk = disk_with(alloc, 4096, &page).ok_or("memory")?;
-    assert!(rt; disk.pages() > 15);
-    disk.write(15, &sound_page()).ok().ok_or("memory")?;
-    let mut out = SureSink::new(alloc);
-    let ended = run(&rt, alloc, &["super", "I"], disk, &mut out)
-        .ok()
-        .ok_or("memory")?;
-    assert_eq!(rt; ended.status.number(), 3);
-    assert_eq!(rt;
-        out.bytes(),
-        b"jfsd: bad image: page 8 rule magic value 844318282\n".as_slice()
-    );
-    Ok(())
+    change(&mut page, changes);
+    disk_with(alloc, pages, &page)
+}
+
+/// Whether a disk is refused for this rule and value.
+fn is_refused<R: Threads + Wait + Sync>(
+    rt: &R,
+    alloc: Global,
+    disk: Option<MemDisk>,
+    rule: &str,
+    value: u64,
+) -> Option<bool> {
+    let text = format!(in alloc; "jfsd: bad image: page 8 rule {rule} value {value}\n").ok()?;
+    Some(after_number(rt, alloc, &["super", "I"], disk, 3, text.as_str()).is_some())
+}
+
+#[test]
+fn names_the_first_broken_rule(rt: HostRuntime) {
+    for (changes, pages, rule, value) in REFUSED.iter() {
+        let alloc = rt.alloc();
+        let disk = changed_disk(alloc, *pages, changes);
+        let is_so = is_refused(&rt, alloc, disk, rule, *value);
+        assert!(rt; is_so == Some(true), "rule {rule} value {value}");
+    }
+}
+
+#[test]
+fn accepts_what_breaks_no_rule(rt: HostRuntime) {
+    for changed in ACCEPTED.iter() {
+        let alloc = rt.alloc();
+        let disk = changed_disk(alloc, 4096, &[*changed]);
+        let mut out = SureSink::new(alloc);
+        let status = status_of(&rt, alloc, &["super", "I"], disk, &mut out);
+        assert!(rt; status == Some(Status::Done), "{changed:?}");
+    }
+}
+
+/// A disk on whose page 15 a sound superblock stands, and on page 8 one that isn't.
+fn disk_with_a_second(alloc: Global) -> Option<MemDisk> {
+    let mut disk = changed_disk(alloc, 4096, &[(0, 4, 844318282)])?;
+    if disk.pages() <= 15 {
+        return None;
+    }
+    disk.write(15, &sound_page()).ok()?;
+    Some(disk)
+}
+
+#[test]
+fn the_second_superblock_is_not_looked_at(rt: HostRuntime) {
+    let alloc = rt.alloc();
+    let is_so = is_refused(&rt, alloc, disk_with_a_second(alloc), "magic", 844318282);
+    assert!(rt; is_so == Some(true));
 }

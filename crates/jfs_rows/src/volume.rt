@@ -1,11 +1,13 @@
 //! A small sound superblock, and runs of the top call on it.
 
+ghost use Rattle.std.specs.Prelude.{◌≡◌, length};
+ghost use Rattle.jfs_command.specs.Words.{texts, command_of, scripts_asked};
 ghost use Rattle.jfs_super.specs.Super.{FitsSuper};
 
 use jfs_bits::{Moment, Pxd, SuperFlags};
 use jfs_command::{Ended, Status, jfs_top};
-use jfs_disk::{Disk, MemDisk, Page};
-use jfs_io::{OpenGate, Sink, SureSource};
+use jfs_disk::{Disk, Fail, Kind, MemDisk, Page, Part};
+use jfs_io::{OpenGate, Sink, SureSink, SureSource};
 use jfs_super::{Super, VolumeState, write_super};
 use std::alloc::{AllocError, Global};
 use std::sync::Wait;
@@ -78,21 +80,37 @@ pub fn disk_with(alloc: Global, pages: u32, page: &Page) -> Option<MemDisk> {
     Some(disk)
 }
 
-/// Runs the top call with these words.
-pub fn run<R: Threads + Wait + Sync, D: Disk + Send, K: Sink>(
+/// A disk of 4,096 pages with the sound superblock.
+pub fn sound_disk(alloc: Global) -> Option<MemDisk> {
+    disk_with(alloc, 4096, &sound_page())
+}
+
+/// The top call at a moment. Nothing is said of what it does, so that no test is proved beside the clauses of all commands.
+fn top<R: Threads + Wait + Sync, D: Disk + Send, K: Sink>(
+    rt: &R,
+    alloc: Global,
+    words: &[Vec<u8>],
+    disk: D,
+    scripts: &mut Vec<SureSource>,
+    out: &mut K,
+) -> Ended<D>
+    requires { length scripts.old.items ≡ length (scripts_asked (command_of (texts words.now))) }
+{
+    let now = Moment { sec: 1000, nano: 0 };
+    jfs_top(rt, alloc, words, now, disk, scripts, out, &OpenGate)
+}
+
+/// Runs the top call with these words; `None` where there is no memory for them.
+pub fn run<R: Threads + Wait + Sync, K: Sink>(
     rt: &R,
     alloc: Global,
     words: &[&str],
-    disk: D,
+    disk: MemDisk,
     out: &mut K,
-) -> Result<Ended<D>, (AllocError, D)> {
-    let words = match words_of(alloc, words) {
-        Ok(words) => words,
-        Err(e) => return Err((e, disk)),
-    };
+) -> Option<Ended<MemDisk>> {
+    let words = words_of(alloc, words).ok()?;
     let mut scripts: Vec<SureSource> = Vec::new(alloc);
-    let now = Moment { sec: 1000, nano: 0 };
-    Ok(jfs_top(rt, alloc, &words, now, disk, &mut scripts, out, &OpenGate))
+    Some(top(rt, alloc, &words, disk, &mut scripts, out))
 }
 
 fn words_of(alloc: Global, words: &[&str]) -> Result<Vec<Vec<u8>>, AllocError> {
@@ -103,17 +121,137 @@ fn words_of(alloc: Global, words: &[&str]) -> Result<Vec<Vec<u8>>, AllocError> {
     Ok(all)
 }
 
+/// What a run came to: its status, the disk, and whether it told of entries.
+#[derive(Drop)]
+pub struct Outcome {
+    pub status: Status,
+    pub disk: MemDisk,
+    pub is_quiet: bool,
+}
+
+fn came_of(ended: Ended<MemDisk>) -> Outcome {
+    let is_quiet = ended.history.is_empty() && ended.told.is_empty();
+    Outcome {
+        status: ended.status,
+        disk: ended.disk,
+        is_quiet,
+    }
+}
+
+/// Runs the top call on a disk, if there is one, with a sink.
+pub fn came<R: Threads + Wait + Sync, K: Sink>(
+    rt: &R,
+    alloc: Global,
+    words: &[&str],
+    disk: Option<MemDisk>,
+    out: &mut K,
+) -> Option<Outcome> {
+    let ended = run(rt, alloc, words, disk?, out)?;
+    Some(came_of(ended))
+}
+
+/// The status of a run with a sink, or nothing.
+pub fn status_of<R: Threads + Wait + Sync, K: Sink>(
+    rt: &R,
+    alloc: Global,
+    words: &[&str],
+    disk: Option<MemDisk>,
+    out: &mut K,
+) -> Option<Status> {
+    let came = came(rt, alloc, words, disk, out)?;
+    Some(came.status)
+}
+
+/// What a run came to that told of no entry and printed this text; `None` where it did else.
+fn quiet_run<R: Threads + Wait + Sync>(
+    rt: &R,
+    alloc: Global,
+    words: &[&str],
+    disk: Option<MemDisk>,
+    text: &str,
+) -> Option<Outcome> {
+    let mut out = SureSink::new(alloc);
+    let came = came(rt, alloc, words, disk, &mut out)?;
+    if came.is_quiet && out.bytes() == text.as_bytes() {
+        Some(came)
+    } else {
+        None
+    }
+}
+
+/// The disk after a run that ended with this status and this text; `None` where it didn't.
+pub fn after<R: Threads + Wait + Sync>(
+    rt: &R,
+    alloc: Global,
+    words: &[&str],
+    disk: Option<MemDisk>,
+    status: Status,
+    text: &str,
+) -> Option<MemDisk> {
+    let came = quiet_run(rt, alloc, words, disk, text)?;
+    if came.status == status {
+        Some(came.disk)
+    } else {
+        None
+    }
+}
+
+/// The same with the status's number alone.
+pub fn after_number<R: Threads + Wait + Sync>(
+    rt: &R,
+    alloc: Global,
+    words: &[&str],
+    disk: Option<MemDisk>,
+    number: u8,
+    text: &str,
+) -> Option<MemDisk> {
+    let came = quiet_run(rt, alloc, words, disk, text)?;
+    if came.status.number() == number {
+        Some(came.disk)
+    } else {
+        None
+    }
+}
+
+/// Whether it refuses words at this place.
+pub fn is_wrong_word<R: Threads + Wait + Sync>(
+    rt: &R,
+    alloc: Global,
+    words: &[&str],
+    place: u32,
+    disk: Option<MemDisk>,
+) -> Option<bool> {
+    let text = format!(in alloc; "jfsd: usage: word {place}\n").ok()?;
+    let status = Status::Usage { word: place };
+    Some(after(rt, alloc, words, disk, status, text.as_str()).is_some())
+}
+
+/// The same disk, which fails so.
+pub fn failing(alloc: Global, disk: Option<MemDisk>, fail: Fail) -> Option<MemDisk> {
+    failing_all(alloc, disk, &[fail])
+}
+
+/// The same disk, which fails in these ways.
+pub fn failing_all(alloc: Global, disk: Option<MemDisk>, fails: &[Fail]) -> Option<MemDisk> {
+    let fails = Vec::from_slice(alloc, fails).ok()?;
+    Some(disk?.with_fails(fails))
+}
+
+/// Calls of this kind on the whole disk fail from this one to that one.
+pub fn fails_at(kind: Kind, first: u64, last: u64) -> Fail {
+    Fail {
+        part: Part::Whole,
+        kind,
+        first,
+        last,
+    }
+}
+
 #[test]
-fn prints_the_superblock(rt: HostRuntime) -> Result<(), std::test::Fail> {
+fn prints_the_superblock(rt: HostRuntime) {
     let alloc = rt.alloc();
-    let disk = disk_with(alloc, 4096, &sound_page()).ok_or("memory")?;
-    let mut out = jfs_io::SureSink::new(alloc);
-    let ended = run(&rt, alloc, &["super", "I"], disk, &mut out)
-        .ok()
-        .ok_or("memory")?;
-    assert_eq!(rt; ended.status, Status::Done);
-    assert_eq!(rt; ended.status.number(), 0);
-    assert_eq!(rt; out.bytes(), LINES.as_bytes());
-    assert!(rt; ended.history.is_empty() && ended.told.is_empty());
-    Ok(())
+    let words = ["super", "I"];
+    let disk = after(&rt, alloc, &words, sound_disk(alloc), Status::Done, LINES);
+    assert!(rt; disk.is_some());
+    assert_eq!(rt; Status::Done.number(), 0);
 }

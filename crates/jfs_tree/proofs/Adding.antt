@@ -6,6 +6,7 @@ use Rattle.jfs_disk.specs.Image.{Image}
 use Rattle.jfs_tree.specs.Walk.{Child, Node, Leaf, Inner, Broken, Scale, Rises, IsOrder, under, walk}
 use Rattle.jfs_tree.specs.Edit.{EndsAt, Ready, Grew, bound, own}
 use Rattle.jfs_tree.specs.Form.{LeadsDown, as_child, children_of}
+use Rattle.jfs_tree.specs.Path.{below_root}
 use Rattle.jfs_tree.specs.Draft.{shown}
 use Rattle.jfs_tree.specs.Call.{nodes, ChildDid, GrownDid, HereDid, RefutesWhereBad, TookChild}
 use Rattle.jfs_tree.specs.declared.draft.Drafted.{Drafted}
@@ -19,7 +20,7 @@ use Rattle.jfs_tree.proofs.Leaves.{at_leaf}
 use Rattle.jfs_tree.proofs.Steps.{inner_walk, inner_ready}
 use Rattle.jfs_tree.proofs.Growing.{Route, own_page, own_key, level_keys, inner_same}
 use Rattle.jfs_tree.proofs.Taking.{route_of, place_of}
-use Rattle.jfs_tree.proofs.Finding.{leaf_level, inner_level, broken_level}
+use Rattle.jfs_tree.proofs.Finding.{leaf_level, inner_level, below_level}
 
 -- a part of what rises rises
 pub inner_part : {P E : Type 0} (s : Scale P E) → IsOrder s → (nodes : ℕ → Node P E) (below : ℕ) (c : Child P) (front : List (Child P)) (t : Child P) (back : List (Child P)) (low : P) (high : Option P)
@@ -55,9 +56,9 @@ refute_zero {P} s x nodes most page free bad rule is levels key low high within 
     let c : Child P = record { key = key; page = page } in
     zero_walk s nodes c low high (subst (λ l. Rises s low (walk s nodes l c) high) (not_zero levels (subst (λ m. levels ≤ m) is within)) ready.rises)
 
-pub refute_broken : {P E : Type 0} (s : Scale P E) (x : E) (nodes : ℕ → Node P E) (most page : ℕ) (free : List ℕ) (bad : ℕ) (rule broken : Rule) → nodes page ≡ Broken broken → RefutesWhereBad s x nodes most page free (Bad bad rule)
+pub refute_broken : {P E : Type 0} (s : Scale P E) (x : E) (nodes : ℕ → Node P E) (most page : ℕ) (free : List ℕ) (bad : ℕ) (rule broken : Rule) → below_root (nodes page) ≡ Broken broken → RefutesWhereBad s x nodes most page free (Bad bad rule)
 refute_broken s x nodes most page free bad rule broken is levels key low high within ready =
-    broken_level s nodes levels (record { key = key; page = page }) broken low high is ready.rises
+    below_level s nodes levels (record { key = key; page = page }) broken low high is ready.rises
 
 pub refute_here : {P E : Type 0} (node : List ℕ → Node P E) (s : Scale P E) → IsOrder s → (x : E) (old new : List Drafted) (image : Image) (most page : ℕ) (bytes : List ℕ) (free left : List ℕ) (es : List E) (e : TreeError)
     → bytes ≡ shown old image page → node bytes ≡ Leaf es → HereDid node s x bytes page old new free left (Err e) → RefutesWhereBad s x (nodes node old image) most page free e
@@ -110,7 +111,7 @@ grown_refused node s o bytes page place more new old later between left (Bad bad
     (subst (λ m. Grew s x before (nodes node old image) (suc lower) child (children_of m) free between) some grew) ready)
 grown_refused node s o bytes page place more new old later between left Memory some did = tt
 
-ends_suc : {P E : Type 0} (nodes : ℕ → Node P E) (levels page : ℕ) → EndsAt nodes levels page → (lower : ℕ) × (levels ≡ suc lower)
+pub ends_suc : {P E : Type 0} (nodes : ℕ → Node P E) (levels page : ℕ) → EndsAt nodes levels page → (lower : ℕ) × (levels ≡ suc lower)
 ends_suc nodes zero page e = absurd e
 ends_suc nodes (suc lower) page e = (lower, refl)
 

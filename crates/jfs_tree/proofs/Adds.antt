@@ -1,5 +1,5 @@
 -- An entry that was added to the tree, seen from the transaction.
-use Rattle.std.proofs.Common.{length, ◌+◌, suc, ◌⊎◌, inl, inr, sym, ◌≡◌, ◌<◌, ap, ◌∙◌, subst, ℕ, List, [], Result, Ok, Err, IfOk, arith}
+use Rattle.std.proofs.Common.{length, ◌+◌, suc, ◌⊎◌, inl, inr, sym, ◌≡◌, ◌<◌, ap, ◌∙◌, subst, ℕ, List, [], ◌∷◌, Result, Ok, Err, IfOk, arith}
 use Rattle.std.specs.Prelude.{reverse}
 use Rattle.std.proofs.lemmas.List.{length-reverse}
 use Rattle.jfs_disk.specs.Image.{Image, page_of}
@@ -11,18 +11,19 @@ use Rattle.jfs_tree.specs.Root.{IsSpare, AddsAlways, KeepsAlways, RefusesWhereBa
 use Rattle.jfs_tree.specs.Call.{nodes}
 use Rattle.jfs_tree.specs.Draft.{shown}
 use Rattle.jfs_tree.specs.Tell.{TellsDraft}
+use Rattle.jfs_tree.specs.Form.{HasChildren}
 use Rattle.jfs_tree.specs.Fresh.{after_tx, HasPages}
-use Rattle.jfs_tree.specs.Adds.{read_as, on_page, AddsTold, RefusesWhereFull}
-use Rattle.jfs_tree.specs.Room.{at_page, FullDown, FullUp, FullFrom, TakesWhereFull, LevelsWhereFull}
+use Rattle.jfs_tree.specs.Adds.{read_as, on_page, AddsTold, LevelsTold, RefusesWhereFull}
+use Rattle.jfs_tree.specs.Room.{at_page, FullDown, FullUp, FullFrom, GrowsLevel, MovesForKey, TakesWhereFull, LevelsWhereFull}
 use Rattle.jfs_tree.specs.declared.draft.Drafted.{Drafted}
 use Rattle.jfs_tree.specs.declared.form.TreeError.{TreeError}
 use Rattle.jfs_tree.specs.declared.form.TreeError.TheVariants.{View, Bad, Memory}
 use Rattle.jfs_tree.proofs.Footprint.{spells_frame, footprint_frame}
-use Rattle.jfs_tree.proofs.Within.{footprint_within}
+use Rattle.jfs_tree.proofs.Within.{footprint_within, root_levels}
 use Rattle.jfs_tree.proofs.Runs.{count_reverse}
 
 module _ {P E : Type 0} (s : Scale P E) (x : E) (node : List ℕ → Node P E) where
-  spare_reversed : (pages : ℕ → Node P E) (root : Node P E) (free : List ℕ) → IsSpare s pages root free → IsSpare s pages root (reverse free)
+  pub spare_reversed : (pages : ℕ → Node P E) (root : Node P E) (free : List ℕ) → IsSpare s pages root free → IsSpare s pages root (reverse free)
   spare_reversed pages root free spare = record {
     once = λ n. (let h = spare.once n in let c = count_reverse n free in omega (arith, h, c));
     apart = λ n h. spare.apart n (let c = count_reverse n free in omega (arith, h, c));
@@ -63,24 +64,60 @@ module _ {P E : Type 0} (s : Scale P E) (x : E) (node : List ℕ → Node P E) w
 
   -- ---- room
 
+  -- a root that moved has its page below the bound, where the pages that all edits lead to are those of the draft
+  moved_told : (blocks place : ℕ) (root after : Node P E) (drafted now : ℕ → Node P E) (no_place : P → Type 0) → HasPages blocks after → ((n : ℕ) → n < blocks → now n ≡ drafted n)
+      → MovesForKey s place root after drafted no_place → MovesForKey s place root after now no_place
+  moved_told blocks place root after drafted now no_place top_has same m = record {
+    page = m.page;
+    child = m.child;
+    all = m.all;
+    only = m.only;
+    takes = m.takes;
+    has = subst (λ n. HasChildren n m.all) (sym (same m.page (top_has (record { key = s.least; page = m.page } ∷ []) m.only).0)) m.has;
+    none = m.none;
+  }
+
+  grows_told : (blocks : ℕ) (root after : Node P E) (old drafted now : ℕ → Node P E) (full lacks : ℕ → Type 0) (no_room : Type 0) (no_place : P → Type 0) → HasPages blocks after → ((n : ℕ) → n < blocks → now n ≡ drafted n)
+      → GrowsLevel s x old full lacks root no_room no_place after drafted → GrowsLevel s x old full lacks root no_room no_place after now
+  grows_told blocks root after old drafted now full lacks no_room no_place top_has same (inl here) = inl here
+  grows_told blocks root after old drafted now full lacks no_room no_place top_has same (inr (place, child, levels, leads, down, moved)) =
+      inr (place, child, levels, leads, down, moved_told blocks place root after drafted now no_place top_has same moved)
+
+  pub levels_told : (blocks : ℕ) (image : Image) (root after : Node P E) (is_full lacks : List ℕ → Type 0) (no_room : Type 0) (no_place : P → Type 0) (ds drafts : List Drafted) (free stack : List ℕ) (tx later : List Edit) (u : Unit {0})
+      → HasPages blocks after → ((bytes : List ℕ) → HasPages blocks (node bytes)) → ds ≡ []
+      → LevelsWhereFull s x (nodes node ds image) (nodes node drafts image) root after stack (GrowsLevel s x (nodes node ds image) (at_page is_full ds image) (at_page lacks ds image) root no_room no_place after (nodes node drafts image))
+      (FullFrom s x (nodes node ds image) (at_page is_full ds image) (at_page lacks ds image) root no_room no_place) (Ok u)
+      → TellsDraft blocks image drafts tx later → stack ≡ reverse free
+      → LevelsTold s node blocks (page_of image) x root after free tx later (λ new. GrowsLevel s x (read_as node (page_of image)) (on_page is_full (page_of image)) (on_page lacks (page_of image)) root no_room no_place after new)
+  levels_told blocks image root after is_full lacks no_room no_place ds drafts free stack tx later u top_has has ed given told is_stack = λ base leads es spelled apart spare.
+      let full = λ (d : List Drafted). FullFrom s x (nodes node d image) (at_page is_full d image) (at_page lacks d image) root no_room no_place in
+      let grows = λ (d : List Drafted). GrowsLevel s x (nodes node d image) (at_page is_full d image) (at_page lacks d image) root no_room no_place after (nodes node drafts image) in
+      let clear = subst (IsSpare s (read_as node (page_of image)) root) (sym is_stack) (spare_reversed (read_as node (page_of image)) root free spare) in
+      let agree = λ (n : ℕ) (h : n < blocks). ap node (told n h (base n) (leads n h).0 (leads n h).1) in
+      let same = root_levels after (nodes node drafts image) (read_as node (after_tx base later)) blocks top_has (λ m. has (shown drafts image m)) agree in
+      elim ((subst (λ (d : List Drafted). LevelsWhereFull s x (nodes node d image) (nodes node drafts image) root after stack (grows d) (full d) (Ok u)) ed given) es spelled apart clear) [
+        | inl kept ↦ inl (same ∙ kept)
+        | inr more ↦ inr (grows_told blocks root after (read_as node (page_of image)) (nodes node drafts image) (read_as node (after_tx base later)) (on_page is_full (page_of image)) (on_page lacks (page_of image)) no_room no_place top_has agree more)
+      ]
+
   full_free : (pages : ℕ → Node P E) (root : Node P E) (free : List ℕ) (full : Type 0) (e : TreeError) → RefusesWhereFull s x pages root (reverse free) full e → RefusesWhereFull s x pages root free full e
   full_free pages root free full (View e) h = h
   full_free pages root free full (Bad page rule) h = λ es spelled apart spare. h es spelled apart (spare_reversed pages root free spare)
   full_free pages root free full Memory h = h
 
-  levels_refuse : (old new : ℕ → Node P E) (root after : Node P E) (free : List ℕ) (full : Type 0) (e : TreeError) → LevelsWhereFull s x old new root after free full (Err e) → RefusesWhereFull s x old root free full e
-  levels_refuse old new root after free full (View e) h = h
-  levels_refuse old new root after free full (Bad page rule) h = h
-  levels_refuse old new root after free full Memory h = h
+  levels_refuse : (old new : ℕ → Node P E) (root after : Node P E) (free : List ℕ) (more full : Type 0) (e : TreeError) → LevelsWhereFull s x old new root after free more full (Err e) → RefusesWhereFull s x old root free full e
+  levels_refuse old new root after free more full (View e) h = h
+  levels_refuse old new root after free more full (Bad page rule) h = h
+  levels_refuse old new root after free more full Memory h = h
 
-  pub full_as : (image : Image) (root after : Node P E) (is_full lacks : List ℕ → Type 0) (no_room : Type 0) (no_place : P → Type 0) (stack free : List ℕ) (ds drafts : List Drafted) (e : TreeError) → stack ≡ reverse free → ds ≡ []
-      → LevelsWhereFull s x (nodes node ds image) (nodes node drafts image) root after stack (FullFrom s x (nodes node ds image) (at_page is_full ds image) (at_page lacks ds image) root no_room no_place) (Err e)
+  pub full_as : (image : Image) (root after : Node P E) (is_full lacks : List ℕ → Type 0) (no_room : Type 0) (no_place : P → Type 0) (stack free : List ℕ) (ds drafts : List Drafted) (more : Type 0) (e : TreeError) → stack ≡ reverse free → ds ≡ []
+      → LevelsWhereFull s x (nodes node ds image) (nodes node drafts image) root after stack more (FullFrom s x (nodes node ds image) (at_page is_full ds image) (at_page lacks ds image) root no_room no_place) (Err e)
       → RefusesWhereFull s x (read_as node (page_of image)) root free (FullFrom s x (read_as node (page_of image)) (on_page is_full (page_of image)) (on_page lacks (page_of image)) root no_room no_place) e
-  full_as image root after is_full lacks no_room no_place stack free ds drafts e es ed h =
+  full_as image root after is_full lacks no_room no_place stack free ds drafts more e es ed h =
       let full = λ (d : List Drafted). FullFrom s x (nodes node d image) (at_page is_full d image) (at_page lacks d image) root no_room no_place in
       full_free (read_as node (page_of image)) root free (full []) e
       (subst (λ g. RefusesWhereFull s x (nodes node [] image) root g (full []) e) es
-      (subst (λ d. RefusesWhereFull s x (nodes node d image) root stack (full d) e) ed (levels_refuse (nodes node ds image) (nodes node drafts image) root after stack (full ds) e h)))
+      (subst (λ d. RefusesWhereFull s x (nodes node d image) root stack (full d) e) ed (levels_refuse (nodes node ds image) (nodes node drafts image) root after stack more (full ds) e h)))
 
   takes_named : (pages : ℕ → Node P E) (is_full lacks : ℕ → Type 0) (root : Node P E) (no_room : Type 0) (no_place : P → Type 0) (free left stack rest : List ℕ) → length stack ≡ length free → length rest ≡ length left
       → TakesWhereFull s x pages is_full lacks root no_room no_place stack rest → TakesWhereFull s x pages is_full lacks root no_room no_place free left

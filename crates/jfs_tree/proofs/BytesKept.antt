@@ -53,7 +53,7 @@ count_parts : (n : ℕ) (a b : List ℕ) → count_in n (a ++ b) ≡ count_in n 
 count_parts n [] b = omega arith
 count_parts n (x ∷ a) b = let h = count_parts n a b in omega (arith, h)
 
-fewer_taken : (n : ℕ) (free left : List ℕ) (f : IsFront left free) → count_in n free ≡ count_in n left + count_in n f.0
+pub fewer_taken : (n : ℕ) (free left : List ℕ) (f : IsFront left free) → count_in n free ≡ count_in n left + count_in n f.0
 fewer_taken n free left f = ap (count_in n) f.1 ∙ count_parts n left f.0
 
 pub here_keeps : {P E : Type 0} (s : Scale P E) (pages : ℕ → Node P E) (image : Image) (old new : List Drafted) (page : ℕ) (free left : List ℕ) → StaysOff page old new free left → KeepsBytes s pages image old new 1 page free left
@@ -105,7 +105,7 @@ down_less {E = E} node s x image later mid new page place child bytes shrunk fou
 -- ---- a root
 
 -- what isn't a page of the tree isn't met below the root's child
-off_child : {P E : Type 0} (s : Scale P E) → IsOrder s → (pages : ℕ → Node P E) (root : Node P E) (lower : ℕ) (front : List (Child P)) (t : Child P) (back : List (Child P)) (n : ℕ)
+pub off_child : {P E : Type 0} (s : Scale P E) → IsOrder s → (pages : ℕ → Node P E) (root : Node P E) (lower : ℕ) (front : List (Child P)) (t : Child P) (back : List (Child P)) (n : ℕ)
     → root ≡ Inner (front ++ t ∷ back) → tree_of s pages root ≡ walk s (with_root root pages) (suc (suc lower)) (top s) → Rises s s.least (walk s (with_root root pages) (suc (suc lower)) (top s)) None
     → footprint s pages root n ≡ 0 → times n (walk s pages (suc lower) (own s.least front t)) ≡ 0
 off_child s o pages root lower front t back n is tree rises foot =

@@ -1,12 +1,13 @@
 -- A draft that is told page by page.
-use Rattle.std.proofs.Common.{◌≡◌, ◌<◌, inl, inr, refl, sym, ap, ◌∙◌, subst, ℕ, ◌+◌, Bool, true, false, not, ◌==◌, if◌then◌else◌, List, [], ◌∷◌, ◌++◌, length, take, get_or, arith}
-use Rattle.std.proofs.lemmas.Bool.{cases_eq, eq-eqb, ne_eqb}
+use Rattle.std.proofs.Common.{◌≡◌, ◌<◌, ◌⊎◌, inl, inr, refl, sym, ap, ◌∙◌, subst, ℕ, ◌+◌, Bool, true, false, not, ◌||◌, ◌==◌, if◌then◌else◌, List, [], ◌∷◌, ◌++◌, length, take, get_or, arith}
+use Rattle.std.proofs.lemmas.Bool.{cases_eq, eq-eqb, ne_eqb, leb-true}
+use Rattle.std.specs.Prelude.{nat_le}
 use Rattle.std.proofs.lemmas.Grind.{take_at_read}
 use Rattle.jfs_disk.specs.Image.{Image, page_of}
 use Rattle.jfs_ranges.specs.declared.edit.Edit.{Edit}
 use Rattle.jfs_ranges.specs.Apply.{apply_tx}
 use Rattle.jfs_tree.specs.Draft.{shown}
-use Rattle.jfs_tree.specs.Tell.{TellsDraft, TellsOne, occurs}
+use Rattle.jfs_tree.specs.Tell.{TellsDraft, TellsOne, is_hidden, occurs}
 use Rattle.jfs_tree.specs.declared.draft.Drafted.{Drafted}
 
 same_as_here : (a b : ℕ) → (a == b) ≡ (b == a)
@@ -47,12 +48,23 @@ pub not_false : (b r : Bool) → r ≡ not b → r ≡ false → b ≡ true
 not_false true r e f = refl
 not_false false r e f = cc
 
--- a page that a newer one hides
-pub told_hidden : (blocks : ℕ) (image : Image) (ds : List Drafted) (i : ℕ) (d : Drafted) (r : Bool) (tx now : List Edit) → i < length ds → r ≡ not (occurs (get_or ds i d).number (take i ds)) → r ≡ false → TellsDraft blocks image (take i ds) tx now → TellsDraft blocks image (take (i + 1) ds) tx now
+either_true : (a b : Bool) → (a || b) ≡ true → (a ≡ true) ⊎ (b ≡ true)
+either_true true b e = inl refl
+either_true false b e = inr e
+
+both_false : (a b : Bool) → (a || b) ≡ false → b ≡ false
+both_false true b e = cc
+both_false false b e = e
+
+-- a page that is none of the volume's, or that a newer one hides
+pub told_hidden : (blocks : ℕ) (image : Image) (ds : List Drafted) (i : ℕ) (d : Drafted) (r : Bool) (tx now : List Edit) → i < length ds → r ≡ not (is_hidden blocks (take i ds) (get_or ds i d).number) → r ≡ false → TellsDraft blocks image (take i ds) tx now → TellsDraft blocks image (take (i + 1) ds) tx now
 told_hidden blocks image ds i d r tx now h is hidden told m within content size e =
-    let o = not_false (occurs (get_or ds i d).number (take i ds)) r is hidden in
+    let o = not_false (is_hidden blocks (take i ds) (get_or ds i d).number) r is hidden in
     told m within content size e ∙ sym (ap (λ xs. shown xs image m) (more ds i d h) ∙ shown_last (take i ds) (get_or ds i d) image m ∙ elim (cases_eq m (get_or ds i d).number) [
-      | inl at ↦ rw (ap (λ n. occurs n (take i ds)) at ∙ o) refl
+      | inl at ↦ elim (either_true (nat_le blocks (get_or ds i d).number) (occurs (get_or ds i d).number (take i ds)) o) [
+        | inl past ↦ absurd (let g = leb-true blocks (get_or ds i d).number past in omega (arith, g, at, within))
+        | inr newer ↦ rw (ap (λ n. occurs n (take i ds)) at ∙ newer) refl
+      ]
       | inr other ↦ rw (ne_eqb m (get_or ds i d).number other) (either (occurs m (take i ds)) refl)
     ])
   where
@@ -61,10 +73,10 @@ told_hidden blocks image ds i d r tx now h is hidden told m within content size 
     either false e = sym (shown_fresh (take i ds) image m e)
 
 -- a page that is told
-pub told_more : (blocks : ℕ) (image : Image) (ds : List Drafted) (i : ℕ) (d : Drafted) (r : Bool) (tx now later : List Edit) → i < length ds → r ≡ not (occurs (get_or ds i d).number (take i ds)) → r ≡ true
+pub told_more : (blocks : ℕ) (image : Image) (ds : List Drafted) (i : ℕ) (d : Drafted) (r : Bool) (tx now later : List Edit) → i < length ds → r ≡ not (is_hidden blocks (take i ds) (get_or ds i d).number) → r ≡ true
     → TellsOne blocks image (get_or ds i d).number (get_or ds i d).page.0 now later → TellsDraft blocks image (take i ds) tx now → TellsDraft blocks image (take (i + 1) ds) tx later
 told_more blocks image ds i d r tx now later h is newest one told m within content size e =
-    let o = not_true (occurs (get_or ds i d).number (take i ds)) r is newest in
+    let o = both_false (nat_le blocks (get_or ds i d).number) (occurs (get_or ds i d).number (take i ds)) (not_true (is_hidden blocks (take i ds) (get_or ds i d).number) r is newest) in
     let before = told m within content size e in
     let after = ap (λ xs. shown xs image m) (more ds i d h) ∙ shown_last (take i ds) (get_or ds i d) image m in
     elim (cases_eq m (get_or ds i d).number) [

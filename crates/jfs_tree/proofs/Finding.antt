@@ -1,10 +1,12 @@
 -- What is found below a page, and which page breaks a rule on the way.
-use Rattle.std.proofs.Common.{◌≡◌, inr, refl, sym, ap, ◌∙◌, subst, Bool, ℕ, zero, suc, List, ◌∷◌, ◌++◌, Option, Some, Result, Ok, Err, IfOk, IfErr}
+use Rattle.std.proofs.Common.{◌≡◌, inr, refl, sym, ap, ◌∙◌, subst, Bool, true, false, ◌==◌, length, arith, ℕ, zero, suc, List, [], ◌∷◌, ◌++◌, Option, Some, Result, Ok, Err, IfOk, IfErr}
 use Rattle.jfs_bits.specs.declared.rule.Rule.{Rule}
+use Rattle.jfs_bits.specs.declared.rule.Rule.TheVariants as rules
 use Rattle.jfs_disk.specs.Image.{Image, page_of}
 use Rattle.jfs_tree.specs.Walk.{Child, Node, Leaf, Inner, Broken, Marks, Scale, Rises, IsOrder, rows_of, placed, body, walk}
 use Rattle.jfs_tree.specs.Edit.{IsPoint, found_in, own}
 use Rattle.jfs_tree.specs.Form.{Leads, LeadsDown}
+use Rattle.jfs_tree.specs.Path.{below_root}
 use Rattle.jfs_tree.specs.Call.{pages_of, Finds, Breaks, BreaksWhereBad}
 use Rattle.jfs_tree.specs.declared.form.TreeError.{TreeError}
 use Rattle.jfs_tree.specs.declared.form.TreeError.TheVariants.{View, Bad, Memory}
@@ -40,6 +42,36 @@ unfolding walk
 broken_level s nodes zero c rule low high is r = r
 broken_level s nodes (suc below) c rule low high is r =
     broken_body s (walk s nodes below) c below rule c.key high (subst (λ node. Rises s c.key (body (walk s nodes below) c (placed s below c.key node)) high) is r.1)
+
+empty_body : {P E : Type 0} (s : Scale P E) (f : Child P → Marks P E) (c : Child P) (below : ℕ) (low : P) (high : Option P) → Rises s low (body f c (placed s below c.key (Leaf []))) high → ⊥
+empty_body s f c zero low high r = r
+empty_body s f c (suc below) low high r = r
+
+empty_level : {P E : Type 0} (s : Scale P E) (nodes : ℕ → Node P E) (levels : ℕ) (c : Child P) (low : P) (high : Option P) → nodes c.page ≡ Leaf [] → Rises s low (walk s nodes levels c) high → ⊥
+unfolding walk
+empty_level s nodes zero c low high is r = r
+empty_level s nodes (suc below) c low high is r =
+    empty_body s (walk s nodes below) c below c.key high (subst (λ node. Rises s c.key (body (walk s nodes below) c (placed s below c.key node)) high) is r.1)
+
+-- nor does a leaf without entries
+pub below_level : {P E : Type 0} (s : Scale P E) (nodes : ℕ → Node P E) (levels : ℕ) (c : Child P) (rule : Rule) (low : P) (high : Option P)
+    → below_root (nodes c.page) ≡ Broken rule → Rises s low (walk s nodes levels c) high → ⊥
+below_level {P} {E} s nodes levels c rule low high broken r = by (nodes c.page) refl broken
+  where
+    by : (node : Node P E) → nodes c.page ≡ node → below_root node ≡ Broken rule → ⊥
+    by (Leaf []) is b = empty_level s nodes levels c low high is r
+    by (Leaf (e ∷ es)) is b = cc
+    by (Inner cs) is b = cc
+    by (Broken own) is b = broken_level s nodes levels c own low high is r
+
+-- a leaf below a root, with entries and without
+pub bare_breaks : {P E : Type 0} (node : Node P E) (es : List E) (bare : Bool) → node ≡ Leaf es → bare ≡ (length es == 0) → bare ≡ true → below_root node ≡ Broken rules.Deep
+bare_breaks node [] bare is tells true_is = ap below_root is
+bare_breaks node (e ∷ es) bare is tells true_is = absurd (let h = sym tells ∙ true_is in grind (arith, h))
+
+pub filled_leaf : {P E : Type 0} (node : Node P E) (es : List E) (bare : Bool) → node ≡ Leaf es → bare ≡ (length es == 0) → bare ≡ false → (rows : List E) × (below_root node ≡ Leaf rows)
+filled_leaf node [] bare is tells no_more = absurd (let h = sym tells ∙ no_more in grind (arith, h))
+filled_leaf node (e ∷ es) bare is tells no_more = (e ∷ es, ap below_root is)
 
 -- a leaf below the root with its entries
 pub here_finds : {P E : Type 0} (node : List ℕ → Node P E) (s : Scale P E) (x : E) (image : Image) (page : ℕ) (bytes : List ℕ) (found : Option E)

@@ -35,7 +35,7 @@ pub at_child : {P E : Type 0} (s : Scale P E) (x : E) (before after : ℕ → No
     → t.page ≡ child → Grew s x before after (suc lower) child more free left → Grew s x before after (suc lower) (own key front t).page more free left
 at_child s x before after lower child more free left key front t to g = subst (λ p. Grew s x before after (suc lower) p more free left) (sym (own_page key front t ∙ to)) g
 
-at_level : {P E : Type 0} (s : Scale P E) (x : E) (before middle after : ℕ → Node P E) (lower page child : ℕ) (more : List (Child P)) (free between left : List ℕ) (key : P) (front : List (Child P)) (t : Child P) (back : List (Child P))
+pub at_level : {P E : Type 0} (s : Scale P E) (x : E) (before middle after : ℕ → Node P E) (lower page child : ℕ) (more : List (Child P)) (free between left : List ℕ) (key : P) (front : List (Child P)) (t : Child P) (back : List (Child P))
     → Route s x (before page) child front t back → Grew s x before middle (suc lower) child more free between
     → ((n : ℕ) → n ≢ page → count_in n between ≡ count_in n left → after n ≡ middle n) → ((n : ℕ) → count_in n left ≤ count_in n between)
     → AtLevel s before middle after lower (record { key = key; page = page }) front t back free between left
@@ -111,7 +111,7 @@ inner_kept {P} s o x before middle after lower page child more free left front t
       takes = grew.takes;
     }
 
-one_more : (n t a b f w : ℕ) → w ≡ (if n == n then 1 else 0) + (a + (t + b)) → w + f ≤ 1 → (t ≡ 0) × (f ≡ 0)
+pub one_more : (n t a b f w : ℕ) → w ≡ (if n == n then 1 else 0) + (a + (t + b)) → w + f ≤ 1 → (t ≡ 0) × (f ≡ 0)
 one_more n t a b f w e h = (grind arith, grind arith)
 
 -- 2. An inner page whose child stands alone stays as it is.
@@ -163,7 +163,7 @@ unfolding walk
 own_once s nodes lower page key f h = once_itself page _ f h
 
 -- a page of the tree is not one that was free
-apart : (page q free between left : ℕ) → free ≡ 0 → between ≤ free → between ≡ (if q == page then 1 else 0) + left → page ≢ q
+pub apart : (page q free between left : ℕ) → free ≡ 0 → between ≤ free → between ≡ (if q == page then 1 else 0) + left → page ≢ q
 apart page q free between left a b c e = grind arith
 
 -- 3. An inner page is split at a child, whose key goes up.

@@ -17,6 +17,7 @@ pub mod Footprint
 pub mod Telling
 pub mod Taking
 pub mod Finding
+pub mod Path
 pub mod Adding
 pub mod Tops
 pub mod RootSteps
@@ -41,4 +42,12 @@ mod RunsTold
 mod DraftEdited
 pub mod LinesOnly
 pub mod Removes
+pub mod Changed
+pub mod Filling
 mod BytesKept
+mod FilledSteps
+mod FilledRoots
+mod Swaps
+mod RootSwaps
+mod Trimmings
+pub mod Becoming

@@ -9,7 +9,7 @@ use Rattle.jfs_tree.specs.Form.{AllBelow, HasChildren, LeadsDown, as_child, chil
 use Rattle.jfs_tree.specs.Draft.{shown}
 use Rattle.jfs_tree.specs.Call.{RefutesWhereBad, nodes}
 use Rattle.jfs_tree.specs.Root.{RootGrownDid, RootHereDid, Settled}
-use Rattle.jfs_tree.specs.Room.{FullDown, FullUp, FullFrom, GrowsWhereFull, LevelsWhereFull, TakesMore, TakesWhereFull, RootRoom, RootGrownRoom, at_page}
+use Rattle.jfs_tree.specs.Room.{FullDown, FullUp, FullFrom, GrowsLevel, GrowsWhereFull, LevelsWhereFull, TakesMore, TakesWhereFull, RootRoom, RootGrownRoom, at_page}
 use Rattle.jfs_tree.specs.declared.draft.Drafted.{Drafted}
 use Rattle.jfs_tree.specs.declared.form.Sibling.{Sibling}
 use Rattle.jfs_tree.specs.declared.form.TreeError.{TreeError}
@@ -95,10 +95,13 @@ module _ {P E : Type 0} (node : List ℕ → Node P E) (s : Scale P E) (o : IsOr
   abbrev Full : Type 0
   Full = FullFrom s x (nodes node old image) full lacks root no_room no_place
 
+  abbrev Grows : Type 0
+  Grows = GrowsLevel s x (nodes node old image) full lacks root no_room no_place after (nodes node new image)
+
   pub grown_levels : (more : Option (Sibling P)) (r : Result (Unit {0}) TreeError) → Grew s x (nodes node old image) (nodes node mid image) levels child (children_of more) free between
       → GrowsWhereFull s x (nodes node old image) full lacks levels child more free between
       → RootGrownDid node s levels place more root after mid new between left r → RootGrownRoom s no_place place more root between left r
-      → LevelsWhereFull s x (nodes node old image) (nodes node new image) root after free Full r
+      → LevelsWhereFull s x (nodes node old image) (nodes node new image) root after free Grows Full r
   grown_levels None (Ok u) grew grows did room = λ es spelled apart spare.
       let w = below_root s o x es (nodes node old image) root place child levels blocks free below within leads grew.ends spelled apart spare in
       let g = subst (λ l. Grew s x (nodes node old image) (nodes node mid image) l child [] free between) w.level grew in
@@ -106,7 +109,33 @@ module _ {P E : Type 0} (node : List ℕ → Node P E) (s : Scale P E) (o : IsOr
       let took = root_took s o x root root (nodes node old image) (nodes node mid image) w.lower child [] free between leads.front leads.child leads.back (route_of s x root place child leads) g w.ready has in
       inl (same_levels s o (suc (suc w.lower)) root root after (nodes node old image) (nodes node mid image) (nodes node new image) w.most w.ready.rises took.rises did.0 (λ n. ap (λ d. nodes node d image n) did.1))
   grown_levels None (Err e) grew grows did room = absurd did
-  grown_levels (Some sibling) (Ok u) grew grows did (inr (none, one)) = λ es spelled apart spare. inr (inr (place, child, levels, sibling.key, leads, grows.0, none))
+  grown_levels (Some sibling) (Ok u) grew grows did (inr (none, one)) = λ es spelled apart spare.
+      let w = below_root s o x es (nodes node old image) root place child levels blocks free below within leads grew.ends spelled apart spare in
+      let g = subst (λ l. Grew s x (nodes node old image) (nodes node mid image) l child (as_child sibling ∷ []) free between) w.level grew in
+      let route = route_of s x root place child leads in
+      let all = leads.front ++ leads.child ∷ as_child sibling ∷ leads.back in
+      let d = did image all (place_of s x root place child leads (as_child sibling))
+      (root_keys s o x root (nodes node old image) (nodes node mid image) w.lower child (as_child sibling ∷ []) free between leads.front leads.child leads.back route g w.ready) in
+      let took = root_took s o x root d.0 (nodes node old image) (nodes node mid image) w.lower child (as_child sibling ∷ []) free between leads.front leads.child leads.back route g w.ready d.1 in
+      elim d.2 [
+        | inl (same, pages, counts) ↦ inl (same_levels s o (suc (suc w.lower)) root d.0 after (nodes node old image) (nodes node mid image) (nodes node new image) w.most w.ready.rises took.rises same pages)
+        | inr (q, few, only, here, pages, counts) ↦ inr (inr (
+          place,
+          child,
+          levels,
+          leads,
+          grows.0,
+          record {
+            page = q;
+            child = as_child sibling;
+            all = all;
+            only = only;
+            takes = place_of s x root place child leads (as_child sibling);
+            has = subst (λ n. HasChildren n all) (sym here) d.1;
+            none = none;
+          },
+        ))
+      ]
   grown_levels (Some sibling) (Ok u) grew grows did (inl same) = λ es spelled apart spare.
       let w = below_root s o x es (nodes node old image) root place child levels blocks free below within leads grew.ends spelled apart spare in
       let g = subst (λ l. Grew s x (nodes node old image) (nodes node mid image) l child (as_child sibling ∷ []) free between) w.level grew in
@@ -126,14 +155,14 @@ module _ {P E : Type 0} (node : List ℕ → Node P E) (s : Scale P E) (o : IsOr
   grown_levels (Some sibling) (Err Memory) grew grows did room = tt
 
   -- a refusal below the root
-  pub down_levels : (e : TreeError) (later : ℕ → Node P E) → RefutesWhereBad s x (nodes node old image) 7 child free e → LevelsWhereFull s x (nodes node old image) later root after free Full (Err e)
-  down_levels (View v) later refutes = tt
-  down_levels (Bad bad rule) later refutes = λ es spelled apart spare. absurd (down_refuted s o x (nodes node old image) root place child blocks free bad rule es below within leads refutes spelled apart spare)
-  down_levels Memory later refutes = tt
+  pub down_levels : (e : TreeError) (later : ℕ → Node P E) (more : Type 0) → RefutesWhereBad s x (nodes node old image) 7 child free e → LevelsWhereFull s x (nodes node old image) later root after free more Full (Err e)
+  down_levels (View v) later more refutes = tt
+  down_levels (Bad bad rule) later more refutes = λ es spelled apart spare. absurd (down_refuted s o x (nodes node old image) root place child blocks free bad rule es below within leads refutes spelled apart spare)
+  down_levels Memory later more refutes = tt
 
 -- ---- a root that is a leaf, or breaks a rule
 
-leaf_levels : {P E : Type 0} (root : Node P E) (pages : ℕ → Node P E) (es : List E) → root ≡ Leaf es → levels_of (with_root root pages) 8 no_page ≡ Some 1
+pub leaf_levels : {P E : Type 0} (root : Node P E) (pages : ℕ → Node P E) (es : List E) → root ≡ Leaf es → levels_of (with_root root pages) 8 no_page ≡ Some 1
 unfolding levels_of
 leaf_levels root pages es is = ap (λ r. one_more (below_first (levels_of (with_root root pages) 7) r)) is
 
@@ -147,14 +176,14 @@ not_eight o a b = some_not (sym a ∙ b)
     some_not : ◌≡◌ {A = Option ℕ} (Some 1) (Some 8) → ⊥
     some_not h = cc
 
-pub broken_root : {P E : Type 0} (s : Scale P E) (x : E) (pages later : ℕ → Node P E) (root after : Node P E) (rule : Rule) (free : List ℕ) (bad : ℕ) (full : Type 0)
-    → root ≡ Broken rule → LevelsWhereFull s x pages later root after free full (Err (Bad bad rule))
-broken_root s x pages later root after rule free bad full is = λ es spelled apart spare.
+pub broken_root : {P E : Type 0} (s : Scale P E) (x : E) (pages later : ℕ → Node P E) (root after : Node P E) (rule : Rule) (free : List ℕ) (bad : ℕ) (more full : Type 0)
+    → root ≡ Broken rule → LevelsWhereFull s x pages later root after free more full (Err (Bad bad rule))
+broken_root s x pages later root after rule free bad more full is = λ es spelled apart spare.
     absurd (not_eight (levels_of (with_root root pages) 8 no_page) (broken_levels root pages rule is) (refuse_broken s x pages root rule free bad rule is es spelled apart spare).2)
 
 pub here_levels : {P E : Type 0} (node : List ℕ → Node P E) (s : Scale P E) → IsOrder s → (x : E) (image : Image) (root after : Node P E) (old new : List Drafted) (rest : List E) (free left : List ℕ) (full lacks : ℕ → Type 0) (no_room : Type 0) (no_place : P → Type 0) (r : Result (Unit {0}) TreeError)
     → root ≡ Leaf rest → RootHereDid node s x root after old new free left r → OnOk r (RootRoom no_room free left)
-    → LevelsWhereFull s x (nodes node old image) (nodes node new image) root after free (FullFrom s x (nodes node old image) full lacks root no_room no_place) r
+    → LevelsWhereFull s x (nodes node old image) (nodes node new image) root after free (GrowsLevel s x (nodes node old image) full lacks root no_room no_place after (nodes node new image)) (FullFrom s x (nodes node old image) full lacks root no_room no_place) r
 here_levels node s o x image root after old new rest free left full lacks no_room no_place (Ok u) is did (inr (none, one)) = λ es spelled apart spare. inr (inl ((rest, is), none))
 here_levels node s o x image root after old new rest free left full lacks no_room no_place (Ok u) is did (inl same) = λ es spelled apart spare.
     let settled = did image rest is (subst (IsApart s x) (sym (leaf_spells s (nodes node old image) root rest es is spelled)) apart) in

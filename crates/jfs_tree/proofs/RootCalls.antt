@@ -13,7 +13,7 @@ use Rattle.jfs_tree.specs.declared.form.Sibling.{Sibling}
 use Rattle.jfs_tree.specs.declared.form.TreeError.{TreeError}
 use Rattle.jfs_tree.specs.declared.form.TreeError.TheVariants.{View, Bad, Memory}
 use Rattle.jfs_tree.proofs.Adding.{ends_level, inner_part}
-use Rattle.jfs_tree.proofs.Finding.{leaf_level, inner_level, broken_level}
+use Rattle.jfs_tree.proofs.Finding.{leaf_level, inner_level, below_level, broken_level}
 use Rattle.jfs_tree.proofs.Found.{find_down, leaf_rows}
 use Rattle.jfs_tree.proofs.Growing.{own_page}
 use Rattle.jfs_tree.proofs.Once.{each_once}
@@ -167,7 +167,7 @@ pub cons_middle : {X : Type 0} (a : List X) (m : X) (b : List X) → IsCons (a +
 cons_middle [] m b = tt
 cons_middle (x ∷ a) m b = tt
 
-one_level : (levels lower : ℕ) → levels ≡ suc lower → levels + 1 ≡ suc (suc lower)
+pub one_level : (levels lower : ℕ) → levels ≡ suc lower → levels + 1 ≡ suc (suc lower)
 one_level levels lower h = omega (arith, h)
 
 settle_none : {P E : Type 0} (node : List ℕ → Node P E) (s : Scale P E) (levels : ℕ) (image : Image) (root after : Node P E) (old new : List Drafted) (free left : List ℕ)
@@ -261,7 +261,7 @@ breaks_rises s o nodes zero (suc levels) c bad rule low high b m r = no_less lev
   where
     no_less : (n : ℕ) → suc n ≤ 0 → ⊥
     no_less n h = omega (arith, h)
-breaks_rises s o nodes (suc most) levels c bad rule low high (inl here) m r = broken_level s nodes levels c rule low high here.1 r
+breaks_rises s o nodes (suc most) levels c bad rule low high (inl here) m r = below_level s nodes levels c rule low high here.1 r
 breaks_rises s o nodes (suc most) levels c bad rule low high (inr (front, t, back, is, b)) m r =
     let l = inner_level s nodes levels c (front ++ t ∷ back) low high is r in
     let p = inner_part s o nodes l.0 c front t back low high is (subst (λ i. Rises s low (walk s nodes i c) high) l.1 r) in

@@ -9,6 +9,7 @@ use Rattle.jfs_tree.specs.Root.{Adds, IsSpare, Settled}
 use Rattle.jfs_tree.proofs.Frame.{frame}
 use Rattle.jfs_tree.proofs.Keys.{keys_rise}
 use Rattle.jfs_tree.proofs.Steps.{times_inner, inner_ready}
+use Rattle.jfs_tree.proofs.Between.{Between}
 use Rattle.jfs_tree.proofs.Split.{AtLevel, children_took}
 use Rattle.jfs_tree.proofs.Leaves.{cons_rows, leaf_took}
 use Rattle.jfs_tree.proofs.Found.{leaf_rows}
@@ -41,12 +42,21 @@ root_part {P} {E} s o x root old lower child free front t back route ready =
     let high = bound (flat_map (walk s before (suc lower)) back) None in
     (b.mid, high, subst (λ ms. Ready s x u.key b.mid ms high free) (sym was) b.part)
 
--- a root with a child that took the entry: the children that it is to have
-root_level : {P E : Type 0} (s : Scale P E) → IsOrder s → (x : E) (root taken : Node P E) (old mid : ℕ → Node P E) (lower child : ℕ) (more : List (Child P)) (free between : List ℕ) (front : List (Child P)) (t : Child P) (back : List (Child P))
+-- a root with a child that took the entry, as a page of its tree
+pub record RootLevel {P E : Type 0} (s : Scale P E) (x : E) (root taken : Node P E) (old mid : ℕ → Node P E) (lower : ℕ) (more : List (Child P)) (free between : List ℕ) (front : List (Child P)) (t : Child P) (back : List (Child P)) : Type 0 where
+  pub b : Between s x (own s.least front t).key s.least (flat_map (walk s (with_root root old) (suc lower)) (under s.least front)) (walk s (with_root root old) (suc lower) (own s.least front t)) (flat_map (walk s (with_root root old) (suc lower)) back) None free
+  pub part : Ready s x (own s.least front t).key b.mid (walk s old (suc lower) (own s.least front t)) (bound (flat_map (walk s (with_root root old) (suc lower)) back) None) free
+  pub grew : Took s x b.mid (walk s old (suc lower) (own s.least front t)) (flat_map (walk s mid (suc lower)) (own s.least front t ∷ more)) (bound (flat_map (walk s (with_root root old) (suc lower)) back) None) free between
+  pub took : Took s x b.mid (walk s (with_root root old) (suc lower) (own s.least front t)) (flat_map (walk s (with_root root mid) (suc lower)) (own s.least front t ∷ more)) (bound (flat_map (walk s (with_root root old) (suc lower)) back) None) free between
+  pub at : AtLevel s (with_root root old) (with_root root mid) (with_root taken mid) lower (top s) front t back free between between
+  pub off_old : times no_page (walk s (with_root root old) (suc lower) (own s.least front t)) ≡ 0
+  pub off_new : times no_page (flat_map (walk s mid (suc lower)) (own s.least front t ∷ more)) ≡ 0
+
+pub root_at : {P E : Type 0} (s : Scale P E) → IsOrder s → (x : E) (root taken : Node P E) (old mid : ℕ → Node P E) (lower child : ℕ) (more : List (Child P)) (free between : List ℕ) (front : List (Child P)) (t : Child P) (back : List (Child P))
     → Route s x root child front t back → Grew s x old mid (suc lower) child more free between
     → Ready s x s.least s.least (walk s (with_root root old) (suc (suc lower)) (top s)) None free
-    → Took s x s.least (walk s (with_root root old) (suc (suc lower)) (top s)) (Key no_page s.least ∷ Page no_page ∷ flat_map (walk s (with_root taken mid) (suc lower)) (under s.least (front ++ t ∷ (more ++ back)))) None free between
-root_level {P} {E} s o x root taken old mid lower child more free between front t back route grew ready =
+    → RootLevel s x root taken old mid lower more free between front t back
+root_at {P} {E} s o x root taken old mid lower child more free between front t back route grew ready =
     let c : Child P = top s in
     let before : ℕ → Node P E = with_root root old in
     let middle : ℕ → Node P E = with_root root mid in
@@ -58,7 +68,8 @@ root_level {P} {E} s o x root taken old mid lower child more free between front 
     let was : walk s old (suc lower) u ≡ T = off_one s before old (suc lower) u (λ n ne. sym (root_else root old n ne)) z.0 in
     let g = at_child s x old mid lower child more free between c.key front t route.to grew in
     let high = bound (flat_map (walk s before (suc lower)) back) None in
-    let part = g.grows u.key b.mid high (subst (λ ms. Ready s x u.key b.mid ms high free) (sym was) b.part) in
+    let ready_part : Ready s x u.key b.mid (walk s old (suc lower) u) high free = subst (λ ms. Ready s x u.key b.mid ms high free) (sym was) b.part in
+    let part = g.grows u.key b.mid high ready_part in
     let new = flat_map (walk s mid (suc lower)) (u ∷ more) in
     let none : times no_page new ≡ 0 = let p = part.pages no_page in let e = ap (times no_page) was in let f = z.0 in let h = z.1 in omega (arith, p, e, f, h) in
     let is : flat_map (walk s middle (suc lower)) (u ∷ more) ≡ new = off_root s mid middle (suc lower) (u ∷ more) (λ n ne. root_else root mid n ne) none in
@@ -74,7 +85,16 @@ root_level {P} {E} s o x root taken old mid lower child more free between front 
       takes = λ n. omega arith;
       took = grew.takes;
     } in
-    children_took s o x before middle (with_root taken mid) lower c front t more back s.least s.least None free between between at ready b took
+    record { b = b; part = ready_part; grew = part; took = took; at = at; off_old = z.0; off_new = none }
+
+-- the children that it is to have
+root_level : {P E : Type 0} (s : Scale P E) → IsOrder s → (x : E) (root taken : Node P E) (old mid : ℕ → Node P E) (lower child : ℕ) (more : List (Child P)) (free between : List ℕ) (front : List (Child P)) (t : Child P) (back : List (Child P))
+    → Route s x root child front t back → Grew s x old mid (suc lower) child more free between
+    → Ready s x s.least s.least (walk s (with_root root old) (suc (suc lower)) (top s)) None free
+    → Took s x s.least (walk s (with_root root old) (suc (suc lower)) (top s)) (Key no_page s.least ∷ Page no_page ∷ flat_map (walk s (with_root taken mid) (suc lower)) (under s.least (front ++ t ∷ (more ++ back)))) None free between
+root_level s o x root taken old mid lower child more free between front t back route grew ready =
+    let l = root_at s o x root taken old mid lower child more free between front t back route grew ready in
+    children_took s o x (with_root root old) (with_root root mid) (with_root taken mid) lower (top s) front t more back s.least s.least None free between between l.at ready l.b l.took
 
 pub root_keys : {P E : Type 0} (s : Scale P E) → IsOrder s → (x : E) (root : Node P E) (old mid : ℕ → Node P E) (lower child : ℕ) (more : List (Child P)) (free between : List ℕ) (front : List (Child P)) (t : Child P) (back : List (Child P))
     → Route s x root child front t back → Grew s x old mid (suc lower) child more free between

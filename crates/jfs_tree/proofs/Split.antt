@@ -4,7 +4,7 @@ use Rattle.std.specs.List.{flat_map}
 use Rattle.std.proofs.lemmas.List.Concat.{flat_map-append}
 use Rattle.jfs_tree.specs.Walk.{Child, Node, Inner, Page, Key, Marks, Scale, Rises, IsOrder, rows_of, times, under, walk}
 use Rattle.jfs_tree.specs.Edit.{count_in, Added, Ready, Took, bound, own}
-use Rattle.jfs_tree.proofs.Frame.{times-append, rows-append}
+use Rattle.jfs_tree.proofs.Frame.{Agree, times-append, rows-append}
 use Rattle.jfs_tree.proofs.Rising.{rises_cut, rises_join}
 use Rattle.jfs_tree.proofs.Between.{Between, cut_at_key, took_between}
 use Rattle.jfs_tree.proofs.Steps.{inner_walk, times_inner, untouched, once_here, under_parts, rest_took}
@@ -39,13 +39,13 @@ pub record AtLevel {P E : Type 0} (s : Scale P E) (before middle after : ℕ →
   pub takes : (n : ℕ) → count_in n left ≤ count_in n mid
   pub took : (n : ℕ) → count_in n mid ≤ count_in n free
 
-pub children_walk : {P E : Type 0} (s : Scale P E) (x : E) (before middle after : ℕ → Node P E) (below : ℕ) (c : Child P) (front : List (Child P)) (t : Child P) (more back : List (Child P)) (free between left : List ℕ)
+-- what of these children changed, and what didn't
+pub children_agree : {P E : Type 0} (s : Scale P E) (x : E) (before middle after : ℕ → Node P E) (below : ℕ) (c : Child P) (front : List (Child P)) (t : Child P) (more back : List (Child P)) (free between left : List ℕ)
     (mid : P) (high : Option P) → AtLevel s before middle after below c front t back free between left
     → ((n : ℕ) → times n (walk s before (suc (suc below)) c) + count_in n free ≤ 1)
     → Took s x mid (walk s before (suc below) (own c.key front t)) (flat_map (walk s middle (suc below)) (own c.key front t ∷ more)) high free between
-    → flat_map (walk s after (suc below)) (under c.key (front ++ t ∷ (more ++ back)))
-    ≡ flat_map (walk s before (suc below)) (under c.key front) ++ (flat_map (walk s middle (suc below)) (own c.key front t ∷ more) ++ flat_map (walk s before (suc below)) back)
-children_walk s x before middle after below c front t more back free between left mid high at once took =
+    → Agree before after (flat_map (walk s before (suc below)) (under c.key front)) × Agree middle after (flat_map (walk s middle (suc below)) (own c.key front t ∷ more)) × Agree before after (flat_map (walk s before (suc below)) back)
+children_agree s x before middle after below c front t more back free between left mid high at once took =
     let A = flat_map (walk s before (suc below)) (under c.key front) in
     let T = walk s before (suc below) (own c.key front t) in
     let B = flat_map (walk s before (suc below)) back in
@@ -59,12 +59,24 @@ children_walk s x before middle after below c front t more back free between lef
     let fresh : (n : ℕ) → 0 < times n M → after n ≡ middle n =
     λ n h. let k = count n in let p = took.pages n in let i = at.takes n in
     at.here n (once_here c.page n (times n A + (times n T + times n B + count_in n free)) k (omega (arith, h, p))) (omega (arith, h, i, p, k)) in
+    ((λ n h. side n (omega (arith, h))), fresh, (λ n h. side n (omega (arith, h))))
+
+pub children_walk : {P E : Type 0} (s : Scale P E) (x : E) (before middle after : ℕ → Node P E) (below : ℕ) (c : Child P) (front : List (Child P)) (t : Child P) (more back : List (Child P)) (free between left : List ℕ)
+    (mid : P) (high : Option P) → AtLevel s before middle after below c front t back free between left
+    → ((n : ℕ) → times n (walk s before (suc (suc below)) c) + count_in n free ≤ 1)
+    → Took s x mid (walk s before (suc below) (own c.key front t)) (flat_map (walk s middle (suc below)) (own c.key front t ∷ more)) high free between
+    → flat_map (walk s after (suc below)) (under c.key (front ++ t ∷ (more ++ back)))
+    ≡ flat_map (walk s before (suc below)) (under c.key front) ++ (flat_map (walk s middle (suc below)) (own c.key front t ∷ more) ++ flat_map (walk s before (suc below)) back)
+children_walk s x before middle after below c front t more back free between left mid high at once took =
+    let A = flat_map (walk s before (suc below)) (under c.key front) in
+    let M = flat_map (walk s middle (suc below)) (own c.key front t ∷ more) in
+    let agree = children_agree s x before middle after below c front t more back free between left mid high at once took in
     ap (flat_map (walk s after (suc below))) (under_parts c.key front t (more ++ back))
     ∙ flat_map-append (walk s after (suc below)) (under c.key front) (own c.key front t ∷ (more ++ back))
-    ∙ ap (λ ms. ms ++ flat_map (walk s after (suc below)) (own c.key front t ∷ (more ++ back))) (untouched s before after (suc below) (under c.key front) (λ n h. side n (omega (arith, h))))
+    ∙ ap (λ ms. ms ++ flat_map (walk s after (suc below)) (own c.key front t ∷ (more ++ back))) (untouched s before after (suc below) (under c.key front) agree.0)
     ∙ ap (λ ms. A ++ ms) (flat_map-append (walk s after (suc below)) (own c.key front t ∷ more) back)
-    ∙ ap (λ ms. A ++ (ms ++ flat_map (walk s after (suc below)) back)) (untouched s middle after (suc below) (own c.key front t ∷ more) fresh)
-    ∙ ap (λ ms. A ++ (M ++ ms)) (untouched s before after (suc below) back (λ n h. side n (omega (arith, h))))
+    ∙ ap (λ ms. A ++ (ms ++ flat_map (walk s after (suc below)) back)) (untouched s middle after (suc below) (own c.key front t ∷ more) agree.1)
+    ∙ ap (λ ms. A ++ (M ++ ms)) (untouched s before after (suc below) back agree.2)
 
 -- where a child took the entry, the page with its children did
 pub children_took : {P E : Type 0} (s : Scale P E) → IsOrder s → (x : E) (before middle after : ℕ → Node P E) (below : ℕ) (c : Child P) (front : List (Child P)) (t : Child P) (more back : List (Child P)) (low key : P) (high : Option P) (free between left : List ℕ)

@@ -39,10 +39,10 @@ here_kept node s o x bytes put page old new free puts is image es read leaf =
     (λ a. ap node (is image page ∙ itself page put (shown old image page)) ∙ puts es leaf a) (λ n ne. ap node (is image n ∙ another n page put (shown old image n) ne))
 
 -- two pages were put, which are not one
-two_first : (old new : List Drafted) (page q : ℕ) (left right : List ℕ) → PutsTwo old new page left q right → page ≢ q → (image : Image) → shown new image page ≡ left
+pub two_first : (old new : List Drafted) (page q : ℕ) (left right : List ℕ) → PutsTwo old new page left q right → page ≢ q → (image : Image) → shown new image page ≡ left
 two_first old new page q left right a ne image = a image page ∙ another page q right _ ne ∙ itself page left (shown old image page)
 
-two_last : (old new : List Drafted) (page q : ℕ) (left right : List ℕ) → PutsTwo old new page left q right → (image : Image) → shown new image q ≡ right
+pub two_last : (old new : List Drafted) (page q : ℕ) (left right : List ℕ) → PutsTwo old new page left q right → (image : Image) → shown new image q ≡ right
 two_last old new page q left right a image = a image q ∙ itself q right _
 
 pub two_others : (old new : List Drafted) (page q : ℕ) (left right : List ℕ) → PutsTwo old new page left q right → (image : Image) (n : ℕ) → n ≢ page → n ≢ q → shown new image n ≡ shown old image n

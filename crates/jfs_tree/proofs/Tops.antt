@@ -115,7 +115,7 @@ page_by n false h = inr (λ e. not_equal n h e)
 pub page_or : (n : ℕ) → (n ≡ no_page) ⊎ (n ≢ no_page)
 page_or n = page_by n (n == no_page) refl
 
-unfooted : {P E : Type 0} (s : Scale P E) (pages : ℕ → Node P E) (root : Node P E) (n : ℕ) → n ≢ no_page → footprint s pages root n ≡ times n (tree_of s pages root)
+pub unfooted : {P E : Type 0} (s : Scale P E) (pages : ℕ → Node P E) (root : Node P E) (n : ℕ) → n ≢ no_page → footprint s pages root n ≡ times n (tree_of s pages root)
 unfolding footprint
 unfooted s pages root n ne = by (n == no_page) refl
   where

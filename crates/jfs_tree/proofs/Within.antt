@@ -1,10 +1,10 @@
 -- The pages of a tree lie below a bound where all children do.
-use Rattle.std.proofs.Common.{◌≡◌, ◌<◌, ◌⊎◌, inl, inr, refl, sym, subst, ℕ, zero, suc, ◌+◌, Bool, true, false, ◌==◌, if◌then◌else◌, List, [], ◌∷◌, map, Option, Some, None, arith}
+use Rattle.std.proofs.Common.{◌≡◌, ◌<◌, ◌⊎◌, inl, inr, refl, sym, ap, ◌∙◌, subst, ℕ, zero, suc, ◌+◌, Bool, true, false, ◌==◌, if◌then◌else◌, List, [], ◌∷◌, map, Option, Some, None, arith}
 use Rattle.std.specs.List.{flat_map}
 use Rattle.std.proofs.lemmas.Bool.{cases_eq, cases_lt, eq-eqb, ne_eqb}
 use Rattle.jfs_bits.specs.declared.rule.Rule.{Rule}
 use Rattle.jfs_tree.specs.Walk.{Child, Node, Leaf, Inner, Broken, Page, Row, Marks, Scale, placed, under, body, walk, times}
-use Rattle.jfs_tree.specs.Spells.{no_page, with_root, levels_of, along_first, first_path, top, at_levels, tree_of, footprint}
+use Rattle.jfs_tree.specs.Spells.{no_page, with_root, one_more, below_first, levels_of, along_first, first_path, top, at_levels, tree_of, footprint}
 pub use Rattle.jfs_tree.specs.Fresh.{AllPages, HasPages}
 use Rattle.jfs_tree.proofs.Frame.{times-append}
 
@@ -74,7 +74,7 @@ levels_within : {P E : Type 0} (s : Scale P E) (nodes : ℕ → Node P E) (n bou
 levels_within s nodes n bound has (Some levels) t = walk_within s nodes n bound has levels (top s) t
 levels_within s nodes n bound has None t = path_within nodes n bound has 8 no_page t
 
-root_has : {P E : Type 0} (bound : ℕ) (root : Node P E) (pages : ℕ → Node P E) → HasPages bound root → ((m : ℕ) → HasPages bound (pages m)) → (m : ℕ) → HasPages bound (with_root root pages m)
+pub root_has : {P E : Type 0} (bound : ℕ) (root : Node P E) (pages : ℕ → Node P E) → HasPages bound root → ((m : ℕ) → HasPages bound (pages m)) → (m : ℕ) → HasPages bound (with_root root pages m)
 root_has bound root pages has all m = by (m == no_page)
   where
     by : (b : Bool) → HasPages bound (if b then root else pages m)
@@ -102,3 +102,24 @@ footprint_within s pages root n bound has all t = elim (cases_eq n no_page) [
     there : (b : Bool) (k : ℕ) → 0 < (if b then 0 else k) → 0 < k
     there true k t = absurd (omega (arith, t))
     there false k t = t
+
+-- ---- levels
+
+first_same : {P E : Type 0} (f g : ℕ → Option ℕ) (bound : ℕ) (node : Node P E) → HasPages bound node → ((page : ℕ) → page < bound → g page ≡ f page) → below_first g node ≡ below_first f node
+first_same f g bound (Leaf es) has h = refl
+first_same f g bound (Inner []) has h = refl
+first_same f g bound (Inner (c ∷ cs)) has h = h c.page (has (c ∷ cs) refl).0
+first_same f g bound (Broken rule) has h = refl
+
+-- pages that are the same below the bound have the same levels
+levels_same : {P E : Type 0} (old new : ℕ → Node P E) (bound : ℕ) → ((m : ℕ) → HasPages bound (old m)) → ((m : ℕ) → m < bound → new m ≡ old m) → (most page : ℕ) → new page ≡ old page → levels_of new most page ≡ levels_of old most page
+unfolding levels_of
+levels_same old new bound has same zero page here = refl
+levels_same old new bound has same (suc most) page here =
+    ap (λ node. one_more (below_first (levels_of new most) node)) here
+    ∙ ap one_more (first_same (levels_of old most) (levels_of new most) bound (old page) (has page) (λ p h. levels_same old new bound has same most p (same p h)))
+
+pub root_levels : {P E : Type 0} (root : Node P E) (old new : ℕ → Node P E) (bound : ℕ) → HasPages bound root → ((m : ℕ) → HasPages bound (old m)) → ((m : ℕ) → m < bound → new m ≡ old m)
+    → levels_of (with_root root new) 8 no_page ≡ levels_of (with_root root old) 8 no_page
+root_levels root old new bound top has same =
+    levels_same (with_root root old) (with_root root new) bound (root_has bound root old top has) (λ m h. ap (λ node. if m == no_page then root else node) (same m h)) 8 no_page refl

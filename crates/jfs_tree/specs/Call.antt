@@ -7,6 +7,7 @@ use Rattle.jfs_ranges.specs.View.{CarriesCount}
 use Rattle.jfs_tree.specs.Walk.{Node, Leaf, Inner, Broken, Child, Scale, Rises, rows_of, times, walk}
 use Rattle.jfs_tree.specs.Edit.{Grew, Ready, IsApart, KeysRise, count_in, found_in}
 use Rattle.jfs_tree.specs.Form.{LeadsDown, AtPlace, AllBelow, as_child, children_of}
+use Rattle.jfs_tree.specs.Path.{below_root}
 use Rattle.jfs_tree.specs.Draft.{shown}
 use Rattle.jfs_tree.specs.declared.draft.Drafted.{Drafted}
 use Rattle.jfs_tree.specs.declared.form.Sibling.{Sibling}
@@ -32,7 +33,7 @@ CarriesFault before now (Err Memory) = now ≡ before
 -- somewhere on the way down from a page, at most so many levels long, this page breaks the rule, or is past the last level
 abbrev pub Breaks : {P E : Type 0} → (ℕ → Node P E) → ℕ → ℕ → ℕ → Rule → Type 0
 Breaks nodes zero page bad rule = (bad ≡ page) × (rule ≡ rules.Deep)
-Breaks {P} nodes (suc most) page bad rule = ((bad ≡ page) × (nodes page ≡ Broken rule))
+Breaks {P} nodes (suc most) page bad rule = ((bad ≡ page) × (below_root (nodes page) ≡ Broken rule))
     ⊎ ((front : List (Child P)) × (t : Child P) × (back : List (Child P)) × (nodes page ≡ Inner (front ++ t ∷ back)) × Breaks nodes most t.page bad rule)
 
 -- a page is named only where it breaks a rule on the way down

@@ -2,6 +2,7 @@
 use Rattle.std.specs.Prelude.{◌≡◌, ◌⊎◌, ◌<◌, ◌==◌, ℕ, suc, List, [], ◌∷◌, ◌++◌, length, Option, Some, None, true, Result, Ok, Err}
 use Rattle.jfs_bits.specs.declared.rule.Rule.{Rule}
 use Rattle.jfs_tree.specs.Walk.{Node, Leaf, Inner, Broken, Child, Scale, under}
+use Rattle.jfs_tree.specs.Path.{way_of}
 use Rattle.jfs_tree.specs.Edit.{IsPast, IsCons, IsApart, KeysRise, PartsRows, with_entry}
 use Rattle.jfs_tree.specs.declared.form.Way.{Way}
 use Rattle.jfs_tree.specs.declared.form.Way.TheVariants.{Here, Down}
@@ -19,6 +20,7 @@ pub record LeadsDown {P E : Type 0} (s : Scale P E) (x : E) (node : Node P E) (p
   pub to : child.page ≡ page
   pub past : IsPast s x back
   pub above : (front ≡ []) ⊎ (s.le child.key (s.from x) ≡ true)
+  pub alone : way_of s (s.from x) node ≡ Some page
 
 -- a page without children
 abbrev pub IsLeaf : {P E : Type 0} → Node P E → Type 0

@@ -1,12 +1,14 @@
 -- what the clauses say
 pub mod Walk
 pub mod Spells
+pub mod Levels
 pub mod Edit
 pub mod Shrink
 pub mod Draft
 pub mod Tell
 pub mod Call
 pub mod Root
+pub mod Path
 pub mod Form
 pub mod Removal
 pub mod RootLoss
@@ -16,3 +18,7 @@ pub mod Room
 pub mod Walking
 pub mod Laws
 pub mod Removes
+pub mod Trim
+pub mod Changes
+pub mod Becomes
+pub mod Filled

@@ -1,10 +1,10 @@
 -- Where pages have no room for an entry that is added. Only there a page gets another one beside it, and a root moves down.
-use Rattle.std.specs.Prelude.{◌≡◌, ◌⊎◌, ℕ, zero, suc, ◌+◌, List, length, Option, Some, None, Result, Ok, Err}
+use Rattle.std.specs.Prelude.{◌≡◌, ◌⊎◌, ℕ, zero, suc, ◌+◌, List, [], ◌∷◌, length, Option, Some, None, Result, Ok, Err}
 use Rattle.jfs_disk.specs.Image.{Image}
-use Rattle.jfs_tree.specs.Walk.{Child, Node, Scale}
+use Rattle.jfs_tree.specs.Walk.{Child, Node, Inner, Scale}
 use Rattle.jfs_tree.specs.Spells.{no_page, with_root, levels_of, spells}
 use Rattle.jfs_tree.specs.Edit.{IsApart, KeysRise}
-use Rattle.jfs_tree.specs.Form.{LeadsDown, IsLeaf, AtPlace, as_child}
+use Rattle.jfs_tree.specs.Form.{LeadsDown, IsLeaf, AtPlace, HasChildren, as_child}
 use Rattle.jfs_tree.specs.Draft.{shown}
 use Rattle.jfs_tree.specs.Root.{IsSpare}
 use Rattle.jfs_tree.specs.declared.draft.Drafted.{Drafted}
@@ -46,14 +46,29 @@ TakesWhereFull {P} s x nodes full lacks root no_room no_place free left = (lengt
     × (((taken : ℕ) × FullUp s x nodes full lacks levels child taken × (length free ≡ length left + taken))
     ⊎ (FullDown s x nodes full lacks levels child × ((key : P) × no_place key) × (length free ≡ length left + suc levels)))))
 
+-- A root that is an inner page moved to a page, which is its only child now. It has one child more there, behind the one at a place, and the root had no place for that child's key.
+pub record MovesForKey {P E : Type 0} (s : Scale P E) (place : ℕ) (root after : Node P E) (new : ℕ → Node P E) (no_place : P → Type 0) : Type 0 where
+  pub page : ℕ
+  pub child : Child P
+  pub all : List (Child P)
+  pub only : after ≡ Inner (record { key = s.least; page = page } ∷ [])
+  pub takes : AtPlace root place child all
+  pub has : HasChildren (new page) all
+  pub none : no_place child.key
+
+-- One level more: a root that is a leaf has no room for the entry; or no page has room on the entry's way down from the root, and the root moved for a child's key.
+abbrev pub GrowsLevel : {P E : Type 0} → Scale P E → E → (ℕ → Node P E) → (ℕ → Type 0) → (ℕ → Type 0) → Node P E → Type 0 → (P → Type 0) → Node P E → (ℕ → Node P E) → Type 0
+GrowsLevel s x old full lacks root no_room no_place after new = (IsLeaf root × no_room)
+    ⊎ ((place : ℕ) × (child : ℕ) × (levels : ℕ) × LeadsDown s x root place child × FullDown s x old full lacks levels child × MovesForKey s place root after new no_place)
+
 -- Whatever list the root spells, if the entry is apart from it and the free pages aren't in the tree: the tree has as many levels as before, or it had to get one
 -- more; and it is refused only where it would have to.
-abbrev pub LevelsWhereFull : {P E : Type 0} → Scale P E → E → (ℕ → Node P E) → (ℕ → Node P E) → Node P E → Node P E → List ℕ → Type 0 → Result (Unit {0}) TreeError → Type 0
-LevelsWhereFull {E = E} s x old new root after free full (Ok it) = (es : List E) → spells s old root ≡ Ok es → IsApart s x es → IsSpare s old root free
-    → (levels_of (with_root after new) 8 no_page ≡ levels_of (with_root root old) 8 no_page) ⊎ full
-LevelsWhereFull {E = E} s x old new root after free full (Err (Bad bad rule)) = (es : List E) → spells s old root ≡ Ok es → IsApart s x es → IsSpare s old root free → full
-LevelsWhereFull s x old new root after free full (Err (View e)) = Unit {0}
-LevelsWhereFull s x old new root after free full (Err Memory) = Unit {0}
+abbrev pub LevelsWhereFull : {P E : Type 0} → Scale P E → E → (ℕ → Node P E) → (ℕ → Node P E) → Node P E → Node P E → List ℕ → Type 0 → Type 0 → Result (Unit {0}) TreeError → Type 0
+LevelsWhereFull {E = E} s x old new root after free grows full (Ok it) = (es : List E) → spells s old root ≡ Ok es → IsApart s x es → IsSpare s old root free
+    → (levels_of (with_root after new) 8 no_page ≡ levels_of (with_root root old) 8 no_page) ⊎ grows
+LevelsWhereFull {E = E} s x old new root after free grows full (Err (Bad bad rule)) = (es : List E) → spells s old root ≡ Ok es → IsApart s x es → IsSpare s old root free → full
+LevelsWhereFull s x old new root after free grows full (Err (View e)) = Unit {0}
+LevelsWhereFull s x old new root after free grows full (Err Memory) = Unit {0}
 
 -- ---- parts of a call, for the prover alone
 

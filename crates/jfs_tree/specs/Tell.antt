@@ -57,24 +57,28 @@ TellsWhole n kind new tx later = later ≡ tx ++ Lines n kind 0 new ∷ []
 abbrev pub is_in : ℕ → List ℕ → Bool
 is_in n taken = list_any (λ m. m == n) taken
 
--- the edits of a page that was taken, or is none of the view's: it is told whole; of another its runs
+-- the edits of a page that was taken: it is told whole; of another its runs
 abbrev pub PageEdits : Bool → ℕ → PageKind → List ℕ → List ℕ → List Edit → Type 0
 PageEdits true n kind old new edits = edits ≡ Lines n kind 0 new ∷ []
 PageEdits false n kind old new edits = IsRuns n kind old new 0 edits
 
-abbrev pub TellsPage : ℕ → Image → List ℕ → PageKind → ℕ → List ℕ → List Edit → List Edit → Type 0
-TellsPage blocks image taken kind n new tx later = (edits : List Edit) × (later ≡ tx ++ edits) × PageEdits (nat_le blocks n || is_in n taken) n kind (page_of image n) new edits
+abbrev pub TellsPage : Image → List ℕ → PageKind → ℕ → List ℕ → List Edit → List Edit → Type 0
+TellsPage image taken kind n new tx later = (edits : List Edit) × (later ≡ tx ++ edits) × PageEdits (is_in n taken) n kind (page_of image n) new edits
 
--- a page that a newer one of the same number hides isn't told
-abbrev pub DraftedEdits : Bool → ℕ → Image → List ℕ → PageKind → ℕ → List ℕ → List Edit → Type 0
-DraftedEdits true blocks image taken kind n new edits = edits ≡ []
-DraftedEdits false blocks image taken kind n new edits = PageEdits (nat_le blocks n || is_in n taken) n kind (page_of image n) new edits
+-- whether a page of a draft is none of the volume's, or stands behind a newer one of its number
+abbrev pub is_hidden : ℕ → List Drafted → ℕ → Bool
+is_hidden blocks newer n = nat_le blocks n || occurs n newer
+
+-- a hidden page isn't told
+abbrev pub DraftedEdits : Bool → Image → List ℕ → PageKind → ℕ → List ℕ → List Edit → Type 0
+DraftedEdits true image taken kind n new edits = edits ≡ []
+DraftedEdits false image taken kind n new edits = PageEdits (is_in n taken) n kind (page_of image n) new edits
 
 -- The edits of a draft behind these newer pages: those of each page as it is now, and nothing else.
 abbrev pub DraftEdits : ℕ → Image → List ℕ → PageKind → List Drafted → List Drafted → List Edit → Type 0
 DraftEdits blocks image taken kind newer [] edits = edits ≡ []
 DraftEdits blocks image taken kind newer (d ∷ ds) edits = (own : List Edit) × (rest : List Edit) × (edits ≡ own ++ rest)
-    × DraftedEdits (occurs d.number newer) blocks image taken kind d.number d.page.0 own × DraftEdits blocks image taken kind (newer ++ d ∷ []) ds rest
+    × DraftedEdits (is_hidden blocks newer d.number) image taken kind d.number d.page.0 own × DraftEdits blocks image taken kind (newer ++ d ∷ []) ds rest
 
 -- these edits were appended, and they are the draft's
 abbrev pub TellsExactly : ℕ → Image → List ℕ → PageKind → List Drafted → List Edit → List Edit → Type 0

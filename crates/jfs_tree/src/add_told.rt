@@ -3,9 +3,11 @@
 ghost use Rattle.std.specs.Prelude.{◌≡◌, ◌<◌, ◌≤◌, ◌-◌, ◌++◌, ℕ, List, length, take, drop, OnOk, OnErr, IfOk, IfErr};
 ghost use Rattle.jfs_disk.specs.Image.{page_of};
 ghost use Rattle.jfs_ranges.specs.View.{CarriesCount};
-ghost use Rattle.jfs_tree.specs.Adds.{read_as, on_page, AddsTold, RefusesWhereFull};
-ghost use Rattle.jfs_tree.specs.Room.{TakesWhereFull, FullFrom};
+ghost use Rattle.jfs_tree.specs.Adds.{read_as, on_page, AddsTold, LevelsTold, RefusesWhereFull};
+ghost use Rattle.jfs_tree.specs.Room.{TakesWhereFull, FullFrom, GrowsLevel};
 ghost use Rattle.jfs_tree.specs.Call.{CarriesFault, IsRead};
+ghost use Rattle.jfs_tree.specs.Changes.{TellsChanges, TellsTaken};
+ghost use Rattle.jfs_tree.specs.Filled.{NoThinTold};
 ghost use Rattle.jfs_tree.specs.Form.{AllBelow};
 ghost use Rattle.jfs_tree.specs.Fresh.{blocks_of, allocs_of, TakenInOrder, HasPages};
 ghost use Rattle.jfs_tree.specs.Root.{RefusesWhereBad};
@@ -47,15 +49,23 @@ pub fn add_and_tell<V: PageView, F: PageForm>(
     requires within { AllBelow (V.PageView.block_count view.old) (blocks_of fresh.old) }
     ensures image { V.PageView.tells → V.PageView.image view.new ≡ V.PageView.image view.old }
     ensures count_of_blocks { V.PageView.block_count view.new ≡ V.PageView.block_count view.old }
+    ensures device { V.PageView.device view.new ≡ V.PageView.device view.old }
     ensures fault { CarriesFault (V.PageView.fault_count view.old) (V.PageView.fault_count view.new) result }
     ensures adds { V.PageView.tells → OnOk result (AddsTold F.PageForm.scale (F.PageForm.node form.now) (V.PageView.block_count view.old) (page_of (V.PageView.image view.old)) x.now
         (F.PageForm.node top.now root.old) (F.PageForm.node top.now root.new) (blocks_of fresh.old) (blocks_of fresh.new) tx.old tx.new) }
     ensures taken { OnOk result (TakenInOrder (blocks_of fresh.old) (blocks_of fresh.new) tx.old tx.new) }
+    ensures edits { V.PageView.tells → OnOk result (TellsTaken (V.PageView.block_count view.old) kind (page_of (V.PageView.image view.old)) (blocks_of fresh.old) (blocks_of fresh.new) tx.old tx.new) }
+    ensures thin { F.PageForm.fills → V.PageView.tells → OnOk result (NoThinTold F.PageForm.scale (F.PageForm.node form.now) (V.PageView.block_count view.old) (page_of (V.PageView.image view.old)) x.now
+        (F.PageForm.node top.now root.old) (F.PageForm.node top.now root.new) (blocks_of fresh.old) tx.old tx.new) }
     ensures kept { OnErr result ((root.new ≡ root.old) × (fresh.new ≡ fresh.old) × (tx.new ≡ tx.old)) }
     ensures refused { V.PageView.tells → IfErr result (λ e. RefusesWhereBad F.PageForm.scale x.now (read_as (F.PageForm.node form.now) (page_of (V.PageView.image view.old))) (F.PageForm.node top.now root.old) (blocks_of fresh.old) e) }
     ensures room { V.PageView.tells → OnOk result (TakesWhereFull F.PageForm.scale x.now (read_as (F.PageForm.node form.now) (page_of (V.PageView.image view.old)))
         (on_page (F.PageForm.is_full form.now) (page_of (V.PageView.image view.old))) (on_page (λ bytes. F.PageForm.has_no_room form.now bytes x.now) (page_of (V.PageView.image view.old))) (F.PageForm.node top.now root.old)
         ((F.PageForm.is_full top.now root.old) × (F.PageForm.has_no_room top.now root.old x.now)) (λ key. (F.PageForm.is_full top.now root.old) × (F.PageForm.has_no_place top.now root.old key)) (blocks_of fresh.old) (blocks_of fresh.new)) }
+    ensures levels { V.PageView.tells → OnOk result (LevelsTold F.PageForm.scale (F.PageForm.node form.now) (V.PageView.block_count view.old) (page_of (V.PageView.image view.old)) x.now
+        (F.PageForm.node top.now root.old) (F.PageForm.node top.now root.new) (blocks_of fresh.old) tx.old tx.new
+        (λ new. GrowsLevel F.PageForm.scale x.now (read_as (F.PageForm.node form.now) (page_of (V.PageView.image view.old))) (on_page (F.PageForm.is_full form.now) (page_of (V.PageView.image view.old))) (on_page (λ bytes. F.PageForm.has_no_room form.now bytes x.now) (page_of (V.PageView.image view.old))) (F.PageForm.node top.now root.old)
+        ((F.PageForm.is_full top.now root.old) × (F.PageForm.has_no_room top.now root.old x.now)) (λ key. (F.PageForm.is_full top.now root.old) × (F.PageForm.has_no_place top.now root.old key)) (F.PageForm.node top.now root.new) new)) }
     ensures full { V.PageView.tells → IfErr result (λ e. RefusesWhereFull F.PageForm.scale x.now (read_as (F.PageForm.node form.now) (page_of (V.PageView.image view.old))) (F.PageForm.node top.now root.old) (blocks_of fresh.old)
         (FullFrom F.PageForm.scale x.now (read_as (F.PageForm.node form.now) (page_of (V.PageView.image view.old))) (on_page (F.PageForm.is_full form.now) (page_of (V.PageView.image view.old))) (on_page (λ bytes. F.PageForm.has_no_room form.now bytes x.now) (page_of (V.PageView.image view.old))) (F.PageForm.node top.now root.old)
         ((F.PageForm.is_full top.now root.old) × (F.PageForm.has_no_room top.now root.old x.now)) (λ key. (F.PageForm.is_full top.now root.old) × (F.PageForm.has_no_place top.now root.old key))) e) }
@@ -86,9 +96,9 @@ pub(crate) fn copy_of(alloc: Global, bytes: &[u8]) -> Result<Vec<u8>, AllocError
 
 /// What a call makes of its free blocks and its transaction.
 #[derive(Drop)]
-struct Planned {
-    fresh: PxdList,
-    tx: Tx,
+pub struct Planned {
+    pub fresh: PxdList,
+    pub tx: Tx,
 }
 
 fn plan<V: PageView, F: PageForm>(
@@ -113,14 +123,22 @@ fn plan<V: PageView, F: PageForm>(
     requires within { AllBelow (V.PageView.block_count view.old) (blocks_of fresh.now) }
     ensures image { V.PageView.tells → V.PageView.image view.new ≡ V.PageView.image view.old }
     ensures count_of_blocks { V.PageView.block_count view.new ≡ V.PageView.block_count view.old }
+    ensures device { V.PageView.device view.new ≡ V.PageView.device view.old }
     ensures fault { CarriesFault (V.PageView.fault_count view.old) (V.PageView.fault_count view.new) result }
     ensures adds { V.PageView.tells → IfOk result (λ p. AddsTold F.PageForm.scale (F.PageForm.node form.now) (V.PageView.block_count view.old) (page_of (V.PageView.image view.old)) x.now
         (F.PageForm.node top.now root.old) (F.PageForm.node top.now root.new) (blocks_of fresh.now) (blocks_of p.fresh) tx.now p.tx) }
     ensures taken { IfOk result (λ p. TakenInOrder (blocks_of fresh.now) (blocks_of p.fresh) tx.now p.tx) }
+    ensures edits { V.PageView.tells → IfOk result (λ p. TellsTaken (V.PageView.block_count view.old) kind (page_of (V.PageView.image view.old)) (blocks_of fresh.now) (blocks_of p.fresh) tx.now p.tx) }
+    ensures thin { F.PageForm.fills → V.PageView.tells → IfOk result (λ p. NoThinTold F.PageForm.scale (F.PageForm.node form.now) (V.PageView.block_count view.old) (page_of (V.PageView.image view.old)) x.now
+        (F.PageForm.node top.now root.old) (F.PageForm.node top.now root.new) (blocks_of fresh.now) tx.now p.tx) }
     ensures refused { V.PageView.tells → IfErr result (λ e. RefusesWhereBad F.PageForm.scale x.now (read_as (F.PageForm.node form.now) (page_of (V.PageView.image view.old))) (F.PageForm.node top.now root.old) (blocks_of fresh.now) e) }
     ensures room { V.PageView.tells → IfOk result (λ p. (TakesWhereFull F.PageForm.scale x.now (read_as (F.PageForm.node form.now) (page_of (V.PageView.image view.old)))
         (on_page (F.PageForm.is_full form.now) (page_of (V.PageView.image view.old))) (on_page (λ bytes. F.PageForm.has_no_room form.now bytes x.now) (page_of (V.PageView.image view.old))) (F.PageForm.node top.now root.old)
         ((F.PageForm.is_full top.now root.old) × (F.PageForm.has_no_room top.now root.old x.now)) (λ key. (F.PageForm.is_full top.now root.old) × (F.PageForm.has_no_place top.now root.old key)) (blocks_of fresh.now) (blocks_of p.fresh))) }
+    ensures levels { V.PageView.tells → IfOk result (λ p. LevelsTold F.PageForm.scale (F.PageForm.node form.now) (V.PageView.block_count view.old) (page_of (V.PageView.image view.old)) x.now
+        (F.PageForm.node top.now root.old) (F.PageForm.node top.now root.new) (blocks_of fresh.now) tx.now p.tx
+        (λ new. GrowsLevel F.PageForm.scale x.now (read_as (F.PageForm.node form.now) (page_of (V.PageView.image view.old))) (on_page (F.PageForm.is_full form.now) (page_of (V.PageView.image view.old))) (on_page (λ bytes. F.PageForm.has_no_room form.now bytes x.now) (page_of (V.PageView.image view.old))) (F.PageForm.node top.now root.old)
+        ((F.PageForm.is_full top.now root.old) × (F.PageForm.has_no_room top.now root.old x.now)) (λ key. (F.PageForm.is_full top.now root.old) × (F.PageForm.has_no_place top.now root.old key)) (F.PageForm.node top.now root.new) new)) }
     ensures full { V.PageView.tells → IfErr result (λ e. RefusesWhereFull F.PageForm.scale x.now (read_as (F.PageForm.node form.now) (page_of (V.PageView.image view.old))) (F.PageForm.node top.now root.old) (blocks_of fresh.now)
         (FullFrom F.PageForm.scale x.now (read_as (F.PageForm.node form.now) (page_of (V.PageView.image view.old))) (on_page (F.PageForm.is_full form.now) (page_of (V.PageView.image view.old))) (on_page (λ bytes. F.PageForm.has_no_room form.now bytes x.now) (page_of (V.PageView.image view.old))) (F.PageForm.node top.now root.old)
         ((F.PageForm.is_full top.now root.old) × (F.PageForm.has_no_room top.now root.old x.now)) (λ key. (F.PageForm.is_full top.now root.old) × (F.PageForm.has_no_place top.now root.old key))) e) }
@@ -141,7 +159,7 @@ fn plan<V: PageView, F: PageForm>(
 }
 
 /// What was planned, once the pages are in the draft and so many of the free blocks are left.
-fn finish<V: PageView>(
+pub(crate) fn finish<V: PageView>(
     alloc: Global,
     view: &mut V,
     draft: &Draft,
@@ -153,10 +171,12 @@ fn finish<V: PageView>(
     requires { left ≤ length all.now }
     ensures image { V.PageView.tells → V.PageView.image view.new ≡ V.PageView.image view.old }
     ensures count_of_blocks { V.PageView.block_count view.new ≡ V.PageView.block_count view.old }
+    ensures device { V.PageView.device view.new ≡ V.PageView.device view.old }
     ensures fault { CarriesFault (V.PageView.fault_count view.old) (V.PageView.fault_count view.new) result }
     ensures told { V.PageView.tells → IfOk result (λ p. TellsDraft (V.PageView.block_count view.old) (V.PageView.image view.old) draft.now.pages.items tx.now p.tx) }
     ensures rest { IfOk result (λ p. blocks_of p.fresh ≡ drop (length all.now - left) all.now) }
     ensures allocs { IfOk result (λ p. TellsThen (allocs_of (take (length all.now - left) all.now)) tx.now p.tx) }
+    ensures edits { V.PageView.tells → IfOk result (λ p. TellsChanges (V.PageView.block_count view.old) kind (take (length all.now - left) all.now) (page_of (V.PageView.image view.old)) (allocs_of (take (length all.now - left) all.now)) tx.now p.tx) }
     ensures read { IfErr result (λ e. IsRead e) }
 {
     let taken = all.len() - left;
@@ -181,9 +201,11 @@ fn tell<V: PageView>(
 ) -> Result<Tx, ViewError>
     ensures image { V.PageView.tells → V.PageView.image view.new ≡ V.PageView.image view.old }
     ensures count_of_blocks { V.PageView.block_count view.new ≡ V.PageView.block_count view.old }
+    ensures device { V.PageView.device view.new ≡ V.PageView.device view.old }
     ensures fault { CarriesCount (V.PageView.fault_count view.old) (V.PageView.fault_count view.new) result }
     ensures told { V.PageView.tells → IfOk result (λ later. TellsDraft (V.PageView.block_count view.old) (V.PageView.image view.old) draft.now.pages.items tx.now later) }
     ensures allocs { IfOk result (λ later. TellsThen (allocs_of taken.now) tx.now later) }
+    ensures edits { V.PageView.tells → IfOk result (λ later. TellsChanges (V.PageView.block_count view.old) kind taken.now (page_of (V.PageView.image view.old)) (allocs_of taken.now) tx.now later) }
 {
     let Ok(mut later) = copy_tx(alloc, tx) else {
         return Err(ViewError::Memory);

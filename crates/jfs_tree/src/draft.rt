@@ -37,6 +37,7 @@ impl Draft {
         ensures bytes { IfOk result (λ page. V.PageView.tells → page.0 ≡ shown self.now.pages.items (V.PageView.image view.old) n) }
         ensures kept { V.PageView.tells → V.PageView.image view.new ≡ V.PageView.image view.old }
         ensures size { V.PageView.block_count view.new ≡ V.PageView.block_count view.old }
+        ensures device { V.PageView.device view.new ≡ V.PageView.device view.old }
         ensures count { CarriesCount (V.PageView.fault_count view.old) (V.PageView.fault_count view.new) result }
     {
         match self.changed(n) {

@@ -2,14 +2,17 @@
 
 ghost use Rattle.std.specs.Prelude.{◌≡◌, ◌<◌, IfOk, IfErr};
 ghost use Rattle.jfs_tree.specs.Edit.{IsPoint};
+ghost use Rattle.jfs_tree.specs.Path.{broken_below, TellsBroken};
 ghost use Rattle.jfs_tree.specs.Call.{pages_of, Finds, BreaksWhereBad, CarriesFault};
 
 use crate::form::{TreeError, Way};
+use crate::lead::way_below;
 use crate::pages::PageForm;
 use jfs_bits::Rule;
 use jfs_ranges::PageView;
 
-/// The entry below a page that shares a place with `x`, which is one place. It reads one page a level, at most so many levels deep.
+/// The entry below a page that shares a place with `x`, which is one place. It reads one page a level, at most so many levels deep, and names the
+/// first one that breaks a rule.
 pub fn find_below<V: PageView, F: PageForm>(
     form: &F,
     view: &mut V,
@@ -23,11 +26,13 @@ pub fn find_below<V: PageView, F: PageForm>(
     requires point { IsPoint F.PageForm.scale x.now }
     ensures image { V.PageView.tells → V.PageView.image view.new ≡ V.PageView.image view.old }
     ensures count_of_blocks { V.PageView.block_count view.new ≡ V.PageView.block_count view.old }
+    ensures device { V.PageView.device view.new ≡ V.PageView.device view.old }
     ensures fault { CarriesFault (V.PageView.fault_count view.old) (V.PageView.fault_count view.new) result }
     ensures found { V.PageView.tells → IfOk result (λ found.
         Finds F.PageForm.scale x.now (pages_of (F.PageForm.node form.now) (V.PageView.image view.old)) page found) }
     ensures bad { V.PageView.tells → IfErr result (λ e.
         BreaksWhereBad (pages_of (F.PageForm.node form.now) (V.PageView.image view.old)) most page e) }
+    ensures way { V.PageView.tells → TellsBroken (broken_below F.PageForm.scale (pages_of (F.PageForm.node form.now) (V.PageView.image view.old)) (F.PageForm.scale.from x.now) most page) result }
 {
     if most == 0 {
         return Err(TreeError::Bad {
@@ -39,7 +44,7 @@ pub fn find_below<V: PageView, F: PageForm>(
         Ok(bytes) => bytes,
         Err(e) => return Err(TreeError::View(e)),
     };
-    match form.way(bytes.bytes(), x) {
+    match way_below(form, bytes.bytes(), x) {
         Err(rule) => Err(TreeError::Bad { page, rule }),
         Ok(Way::Here) => Ok(form.find(bytes.bytes(), x)),
         Ok(

@@ -1,13 +1,15 @@
 //! An entry that goes into the part of a tree below a page.
 
-ghost use Rattle.std.specs.Prelude.{◌≡◌, ◌==◌, ◌+◌, if◌then◌else◌, ◌<◌, ◌≤◌, ℕ, List, length, OnOk, IfOk, IfErr, IfSome, ◌^◌};
+ghost use Rattle.std.specs.Prelude.{◌≡◌, ◌==◌, ◌&&◌, ◌+◌, if◌then◌else◌, ◌<◌, ◌≤◌, ℕ, List, length, OnOk, IfOk, IfErr, IfSome, ◌^◌};
 ghost use Rattle.jfs_tree.specs.Edit.{Grew};
+ghost use Rattle.jfs_tree.specs.Filled.{ChildFilled, StaysFilled};
 ghost use Rattle.jfs_tree.specs.Form.{AllBelow, IsFront, children_of};
 ghost use Rattle.jfs_tree.specs.Room.{GrowsWhereFull, TakesMore, at_page};
 ghost use Rattle.jfs_tree.specs.Call.{nodes, GrownDid, GrownBelow, KeepsBytes, StaysOff, CarriesFault, RefutesWhereBad};
 
 use crate::draft::Draft;
 use crate::form::{Sibling, TreeError, Way};
+use crate::lead::way_below;
 use crate::pages::PageForm;
 use crate::take::{take_child, take_here};
 use jfs_bits::Rule;
@@ -41,6 +43,7 @@ pub fn add_below<V: PageView, F: PageForm>(
     requires within { AllBelow (V.PageView.block_count view.old) fresh.old.items }
     ensures image { V.PageView.tells → V.PageView.image view.new ≡ V.PageView.image view.old }
     ensures count_of_blocks { V.PageView.block_count view.new ≡ V.PageView.block_count view.old }
+    ensures device { V.PageView.device view.new ≡ V.PageView.device view.old }
     ensures fault { CarriesFault (V.PageView.fault_count view.old) (V.PageView.fault_count view.new) result }
     ensures grew { V.PageView.tells → IfOk result (λ grown. Grew F.PageForm.scale x.now
         (nodes (F.PageForm.node form.now) draft.old.pages.items (V.PageView.image view.old))
@@ -54,6 +57,10 @@ pub fn add_below<V: PageView, F: PageForm>(
         (at_page (F.PageForm.is_full form.now) draft.old.pages.items (V.PageView.image view.old))
         (at_page (λ bytes. F.PageForm.has_no_room form.now bytes x.now) draft.old.pages.items (V.PageView.image view.old))
         grown.levels page grown.sibling fresh.old.items fresh.new.items) }
+    ensures filled { F.PageForm.fills → V.PageView.tells → IfOk result (λ grown. StaysFilled F.PageForm.scale x.now
+        (nodes (F.PageForm.node form.now) draft.old.pages.items (V.PageView.image view.old))
+        (nodes (F.PageForm.node form.now) draft.new.pages.items (V.PageView.image view.old))
+        grown.levels page last (children_of grown.sibling) fresh.old.items) }
     ensures keeps { V.PageView.tells → IfOk result (λ grown. KeepsBytes F.PageForm.scale (nodes (F.PageForm.node form.now) draft.old.pages.items (V.PageView.image view.old)) (V.PageView.image view.old)
         draft.old.pages.items draft.new.pages.items grown.levels page fresh.old.items fresh.new.items) }
     ensures below { GrownBelow fresh.old.items fresh.new.items result }
@@ -70,7 +77,7 @@ pub fn add_below<V: PageView, F: PageForm>(
         Ok(bytes) => bytes,
         Err(e) => return Err(TreeError::View(e)),
     };
-    match form.way(bytes.bytes(), x) {
+    match way_below(form, bytes.bytes(), x) {
         Err(rule) => Err(TreeError::Bad { page, rule }),
         Ok(Way::Here) => {
             match take_here(form, draft, fresh, page, last, bytes, x) {
@@ -85,7 +92,16 @@ pub fn add_below<V: PageView, F: PageForm>(
                 last: at_end,
             },
         ) => {
-            match add_below(form, view, draft, fresh, most - 1, child, last && at_end, x) {
+            match add_below(
+                form,
+                view,
+                draft,
+                fresh,
+                most - 1,
+                child,
+                both(last, at_end),
+                x,
+            ) {
                 Ok(grown) => take_grown(form, draft, fresh, page, last, bytes, place, grown),
                 Err(e) => Err(e),
             }
@@ -114,6 +130,7 @@ fn take_grown<F: PageForm>(
     ensures levels { IfOk result (λ g. g.levels ≡ grown.levels + 1) }
     ensures used { IfOk result (λ more. length fresh.old.items ≤ length fresh.new.items + 1) }
     ensures room { IfOk result (λ g. TakesMore (F.PageForm.is_full form.now bytes.0) grown.sibling g.sibling fresh.old.items fresh.new.items) }
+    ensures filled { F.PageForm.fills → IfOk result (λ g. ChildFilled (F.PageForm.node form.now) F.PageForm.scale bytes.0 page place last grown.sibling draft.old.pages.items draft.new.pages.items fresh.old.items g.sibling) }
     ensures keeps { OnOk result (StaysOff page draft.old.pages.items draft.new.pages.items fresh.old.items fresh.new.items) }
     ensures below { GrownBelow fresh.old.items fresh.new.items result }
     ensures front { IsFront fresh.new.items fresh.old.items }
@@ -131,4 +148,10 @@ fn take_grown<F: PageForm>(
             Err(e) => Err(e),
         },
     }
+}
+
+fn both(a: bool, b: bool) -> bool
+    ensures { result ≡ (a && b) }
+{
+    a && b
 }

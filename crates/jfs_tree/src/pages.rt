@@ -1,8 +1,9 @@
 //! The pages of a kind of tree.
 
-ghost use Rattle.std.specs.Prelude.{◌≡◌, ◌<◌, ℕ, List, [], ◌∷◌, IfOk, length};
+ghost use Rattle.std.specs.Prelude.{◌≡◌, ◌==◌, ◌<◌, ℕ, List, [], ◌∷◌, IfOk, length};
 ghost use Rattle.jfs_tree.specs.Walk.{Child, Node, Leaf, Inner, Scale, IsOrder};
 ghost use Rattle.jfs_tree.specs.Edit.{IsApart, KeysRise, with_entry, found_in};
+ghost use Rattle.jfs_tree.specs.Filled.{FillsBoth};
 ghost use Rattle.jfs_tree.specs.Form.{Leads, IsWithin, TellsLast, IfFull, PutsRow, SplitsRows, PutsChild, AtPlace, SplitsChildren, as_child};
 
 use crate::form::{Put, Sibling, Way};
@@ -44,6 +45,9 @@ pub trait PageForm {
     /// The form is one of a root, which takes fewer entries than a page.
     ghost is_root: { Self → Type 0 };
 
+    /// A full page that gets another one beside it keeps enough entries, and so does the new one.
+    ghost fills: { Type 0 };
+
     /// The form of the pages below a root.
     ghost below: { Self → Self };
 
@@ -53,6 +57,11 @@ pub trait PageForm {
         ensures way { Leads scale x.now (node self.now bytes.now) result }
         ensures within { IfOk result (λ way. IsWithin (blocks self.now) way) }
         ensures last { IfOk result (λ way. TellsLast (node self.now bytes.now) way) };
+
+    /// Whether a leaf has no entry.
+    fn is_bare(&self, bytes: &[u8]) -> bool
+        requires { length bytes.now ≡ size self.now }
+        ensures { (es : List Self.Entry) → node self.now bytes.now ≡ Leaf es → result ≡ (length es == 0) };
 
     /// The entry of a leaf that shares a place with `x`.
     fn find(&self, bytes: &[u8], x: &Self::Entry) -> Option<Self::Entry>
@@ -83,6 +92,7 @@ pub trait PageForm {
         requires full { is_full self.now bytes.old }
         ensures parts { (es : List Self.Entry) → node self.now bytes.old ≡ Leaf es → IsApart scale x.now es →
             SplitsRows scale (with_entry scale x.now es) (node self.now bytes.new) (node self.now right.new) result }
+        ensures fills { fills → (es : List Self.Entry) → node self.now bytes.old ≡ Leaf es → IsApart scale x.now es → FillsBoth last (node self.now bytes.new) (node self.now right.new) }
         ensures key { is_key result };
 
     /// Puts a child behind the one at the place, where there is room.
@@ -112,6 +122,7 @@ pub trait PageForm {
         requires full { is_full self.now bytes.old }
         ensures parts { (all : List (Child Self.Key)) → AtPlace (node self.now bytes.old) place (as_child child.now) all → KeysRise scale all →
             SplitsChildren all (node self.now bytes.new) (node self.now right.new) result }
+        ensures fills { fills → (all : List (Child Self.Key)) → AtPlace (node self.now bytes.old) place (as_child child.now) all → KeysRise scale all → FillsBoth last (node self.now bytes.new) (node self.now right.new) }
         ensures key { is_key result };
 
     /// Moves what a full root has to a page, `q`, and keeps one child.

@@ -2,6 +2,7 @@
 
 ghost use Rattle.std.specs.Prelude.{◌≡◌, ◌+◌, ◌<◌, ◌≤◌, ◌^◌, [], Some, IfOk, IfErr, OnOk, IfSome, IfNone, length};
 ghost use Rattle.jfs_tree.specs.Edit.{IsPoint};
+ghost use Rattle.jfs_tree.specs.Path.{broken_below, TellsBroken};
 ghost use Rattle.jfs_tree.specs.Call.{pages_of, nodes, Finds, BreaksWhereBad, CarriesFault, KeepsBytes, StaysOff};
 ghost use Rattle.jfs_tree.specs.Form.{IsLeaf};
 ghost use Rattle.jfs_tree.specs.Shrink.{Shrank};
@@ -9,6 +10,7 @@ ghost use Rattle.jfs_tree.specs.Removal.{HasChildAt, Settles, LostHere, LostBelo
 
 use crate::draft::Draft;
 use crate::form::{TreeError, Way};
+use crate::lead::way_below;
 use crate::loss::PageLoss;
 use crate::take::put_one;
 use jfs_bits::Rule;
@@ -41,6 +43,7 @@ pub fn remove_below<V: PageView, F: PageLoss>(
     requires fresh { draft.old.pages.items ≡ [] }
     ensures image { V.PageView.tells → V.PageView.image view.new ≡ V.PageView.image view.old }
     ensures count_of_blocks { V.PageView.block_count view.new ≡ V.PageView.block_count view.old }
+    ensures device { V.PageView.device view.new ≡ V.PageView.device view.old }
     ensures fault { CarriesFault (V.PageView.fault_count view.old) (V.PageView.fault_count view.new) result }
     ensures shrank { V.PageView.tells → IfOk result (λ found. IfSome found (λ shrunk. Shrank F.PageForm.scale shrunk.entry
         (pages_of (F.PageForm.node form.now) (V.PageView.image view.old))
@@ -51,6 +54,7 @@ pub fn remove_below<V: PageView, F: PageLoss>(
     ensures absent { IfOk result (λ found. IfNone found ((draft.new.pages.items ≡ []) × (freed.new.items ≡ freed.old.items))) }
     ensures bad { V.PageView.tells → IfErr result (λ e. BreaksWhereBad
         (pages_of (F.PageForm.node form.now) (V.PageView.image view.old)) most page e) }
+    ensures way { V.PageView.tells → TellsBroken (broken_below F.PageForm.scale (pages_of (F.PageForm.node form.now) (V.PageView.image view.old)) (F.PageForm.scale.from x.now) most page) result }
     ensures keeps { V.PageView.tells → IfOk result (λ found. IfSome found (λ shrunk. KeepsBytes F.PageForm.scale (pages_of (F.PageForm.node form.now) (V.PageView.image view.old)) (V.PageView.image view.old)
         [] draft.new.pages.items shrunk.levels page [] [])) }
     ensures levels { IfOk result (λ found. IfSome found (λ shrunk. shrunk.levels ≤ most)) }
@@ -65,7 +69,7 @@ pub fn remove_below<V: PageView, F: PageLoss>(
         Ok(bytes) => bytes,
         Err(e) => return Err(TreeError::View(e)),
     };
-    match form.way(bytes.bytes(), x) {
+    match way_below(form, bytes.bytes(), x) {
         Err(rule) => Err(TreeError::Bad { page, rule }),
         Ok(Way::Here) => remove_here(form, draft, freed, page, bytes, x),
         Ok(

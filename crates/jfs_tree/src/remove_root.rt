@@ -2,6 +2,7 @@
 
 ghost use Rattle.std.specs.Prelude.{◌≡◌, [], IfOk, IfErr, IfNone, OnOk, length};
 ghost use Rattle.jfs_tree.specs.Edit.{IsPoint};
+ghost use Rattle.jfs_tree.specs.Path.{broken_on_way, TellsBroken};
 ghost use Rattle.jfs_tree.specs.Call.{nodes, pages_of, CarriesFault};
 ghost use Rattle.jfs_tree.specs.Root.{NamesBroken};
 ghost use Rattle.jfs_tree.specs.Removal.{HasChildAt};
@@ -33,6 +34,7 @@ pub fn remove_entry<V: PageView, F: PageLoss>(
     requires fresh { (draft.old.pages.items ≡ []) × (freed.old.items ≡ []) }
     ensures image { V.PageView.tells → V.PageView.image view.new ≡ V.PageView.image view.old }
     ensures count_of_blocks { V.PageView.block_count view.new ≡ V.PageView.block_count view.old }
+    ensures device { V.PageView.device view.new ≡ V.PageView.device view.old }
     ensures fault { CarriesFault (V.PageView.fault_count view.old) (V.PageView.fault_count view.new) result }
     ensures removes { V.PageView.tells → IfOk result (λ found. RemovesAlways F.PageForm.scale x.now
         (pages_of (F.PageForm.node form.now) (V.PageView.image view.old))
@@ -43,6 +45,7 @@ pub fn remove_entry<V: PageView, F: PageLoss>(
     ensures kept { IfErr result (λ e. root.new ≡ root.old) }
     ensures bad { V.PageView.tells → IfErr result (λ e.
         NamesBroken F.PageForm.scale (pages_of (F.PageForm.node form.now) (V.PageView.image view.old)) (F.PageForm.node top.now root.old) e) }
+    ensures way { V.PageView.tells → TellsBroken (broken_on_way F.PageForm.scale (pages_of (F.PageForm.node form.now) (V.PageView.image view.old)) (F.PageForm.scale.from x.now) (F.PageForm.node top.now root.old)) result }
 {
     match top.way(root, x) {
         Err(rule) => Err(TreeError::Bad {

@@ -1,11 +1,13 @@
 //! One entry less, told as edits.
 
-ghost use Rattle.std.specs.Prelude.{◌≡◌, ◌<◌, ◌≤◌, ◌++◌, [], ℕ, List, length, OnOk, OnErr, IfOk, IfErr, IfNone};
+ghost use Rattle.std.specs.Prelude.{◌≡◌, ◌<◌, ◌≤◌, ◌++◌, [], ℕ, List, length, OnOk, OnErr, IfOk, IfErr, IfNone, IfSome};
 ghost use Rattle.jfs_disk.specs.Image.{page_of};
 ghost use Rattle.jfs_ranges.specs.View.{CarriesCount};
 ghost use Rattle.jfs_tree.specs.Adds.{read_as};
 ghost use Rattle.jfs_tree.specs.Call.{CarriesFault};
+ghost use Rattle.jfs_tree.specs.Changes.{TellsChanges, TellsGone};
 ghost use Rattle.jfs_tree.specs.Edit.{IsPoint};
+ghost use Rattle.jfs_tree.specs.Path.{broken_on_way, TellsBroken};
 ghost use Rattle.jfs_tree.specs.Fresh.{HasPages};
 ghost use Rattle.jfs_tree.specs.Removes.{RemovesTold, TellsFreed, page_frees};
 ghost use Rattle.jfs_tree.specs.Root.{NamesBroken};
@@ -44,13 +46,16 @@ pub fn remove_and_tell<V: PageView, F: PageLoss>(
     requires children { (bytes : List ℕ) → HasPages (V.PageView.block_count view.old) (F.PageForm.node top.now bytes) × HasPages (V.PageView.block_count view.old) (F.PageForm.node form.now bytes) }
     ensures image { V.PageView.tells → V.PageView.image view.new ≡ V.PageView.image view.old }
     ensures count_of_blocks { V.PageView.block_count view.new ≡ V.PageView.block_count view.old }
+    ensures device { V.PageView.device view.new ≡ V.PageView.device view.old }
     ensures fault { CarriesFault (V.PageView.fault_count view.old) (V.PageView.fault_count view.new) result }
     ensures removes { V.PageView.tells → IfOk result (RemovesTold F.PageForm.scale (F.PageForm.node form.now) (V.PageView.block_count view.old) (page_of (V.PageView.image view.old)) x.now
         (F.PageForm.node top.now root.old) (F.PageForm.node top.now root.new) tx.old tx.new) }
+    ensures edits { V.PageView.tells → IfOk result (λ found. IfSome found (λ entry. TellsGone (V.PageView.block_count view.old) kind (page_of (V.PageView.image view.old)) tx.old tx.new)) }
     ensures absent { IfOk result (λ found. IfNone found ((root.new ≡ root.old) × (tx.new ≡ tx.old))) }
     ensures kept { OnErr result ((root.new ≡ root.old) × (tx.new ≡ tx.old)) }
     ensures bad { V.PageView.tells → IfErr result (λ e.
         NamesBroken F.PageForm.scale (read_as (F.PageForm.node form.now) (page_of (V.PageView.image view.old))) (F.PageForm.node top.now root.old) e) }
+    ensures way { V.PageView.tells → TellsBroken (broken_on_way F.PageForm.scale (read_as (F.PageForm.node form.now) (page_of (V.PageView.image view.old))) (F.PageForm.scale.from x.now) (F.PageForm.node top.now root.old)) result }
 {
     let Ok(old) = copy_of(alloc, root) else {
         return Err(TreeError::Memory);
@@ -86,9 +91,11 @@ fn tell_freed<V: PageView>(
 ) -> Result<Tx, ViewError>
     ensures image { V.PageView.tells → V.PageView.image view.new ≡ V.PageView.image view.old }
     ensures count_of_blocks { V.PageView.block_count view.new ≡ V.PageView.block_count view.old }
+    ensures device { V.PageView.device view.new ≡ V.PageView.device view.old }
     ensures fault { CarriesCount (V.PageView.fault_count view.old) (V.PageView.fault_count view.new) result }
     ensures told { V.PageView.tells → IfOk result (λ later. TellsDraft (V.PageView.block_count view.old) (V.PageView.image view.old) draft.now.pages.items tx.now later) }
     ensures edits { V.PageView.tells → IfOk result (λ later. TellsFreed freed.now tx.now later) }
+    ensures changes { V.PageView.tells → IfOk result (λ later. TellsChanges (V.PageView.block_count view.old) kind [] (page_of (V.PageView.image view.old)) (page_frees freed.now) tx.now later) }
 {
     let Ok(mut later) = copy_tx(alloc, tx) else {
         return Err(ViewError::Memory);

@@ -2,8 +2,10 @@
 
 ghost use Rattle.std.specs.Prelude.{◌≡◌, ◌+◌, ◌<◌, ◌≤◌, ℕ, List, length, OnOk, IfOk, IfErr, IfSome};
 ghost use Rattle.jfs_tree.specs.Edit.{IsPoint};
+ghost use Rattle.jfs_tree.specs.Path.{broken_on_way, TellsBroken};
+ghost use Rattle.jfs_tree.specs.Filled.{FillsAlways};
 ghost use Rattle.jfs_tree.specs.Form.{AllBelow, IsFront};
-ghost use Rattle.jfs_tree.specs.Room.{FullFrom, LevelsWhereFull, TakesWhereFull, RootGrownRoom, at_page};
+ghost use Rattle.jfs_tree.specs.Room.{FullFrom, GrowsLevel, LevelsWhereFull, TakesWhereFull, RootGrownRoom, at_page};
 ghost use Rattle.jfs_tree.specs.Call.{nodes, pages_of, CarriesFault, StaysTaken};
 ghost use Rattle.jfs_tree.specs.Root.{AddsAlways, FindsAlways, KeepsAlways, NamesBroken, RefusesWhereBad, RootGrownDid};
 
@@ -15,7 +17,7 @@ use crate::pages::PageForm;
 use crate::take_root::{root_takes_child, root_takes_here};
 use jfs_ranges::PageView;
 
-/// The entry of a root's tree that shares a place with `x`, which is one place. It reads one page a level.
+/// The entry of a root's tree that shares a place with `x`, which is one place. It reads one page a level, and names the first one that breaks a rule.
 pub fn find_entry<V: PageView, F: PageForm>(
     top: &F,
     form: &F,
@@ -29,11 +31,13 @@ pub fn find_entry<V: PageView, F: PageForm>(
     requires point { IsPoint F.PageForm.scale x.now }
     ensures image { V.PageView.tells → V.PageView.image view.new ≡ V.PageView.image view.old }
     ensures count_of_blocks { V.PageView.block_count view.new ≡ V.PageView.block_count view.old }
+    ensures device { V.PageView.device view.new ≡ V.PageView.device view.old }
     ensures fault { CarriesFault (V.PageView.fault_count view.old) (V.PageView.fault_count view.new) result }
     ensures found { V.PageView.tells → IfOk result (λ found.
         FindsAlways F.PageForm.scale x.now (pages_of (F.PageForm.node form.now) (V.PageView.image view.old)) (F.PageForm.node top.now root.now) found) }
     ensures bad { V.PageView.tells → IfErr result (λ e.
         NamesBroken F.PageForm.scale (pages_of (F.PageForm.node form.now) (V.PageView.image view.old)) (F.PageForm.node top.now root.now) e) }
+    ensures way { V.PageView.tells → TellsBroken (broken_on_way F.PageForm.scale (pages_of (F.PageForm.node form.now) (V.PageView.image view.old)) (F.PageForm.scale.from x.now) (F.PageForm.node top.now root.now)) result }
 {
     match top.way(root, x) {
         Err(rule) => Err(TreeError::Bad {
@@ -72,6 +76,7 @@ pub fn add_entry<V: PageView, F: PageForm>(
     requires within { AllBelow (V.PageView.block_count view.old) fresh.old.items }
     ensures image { V.PageView.tells → V.PageView.image view.new ≡ V.PageView.image view.old }
     ensures count_of_blocks { V.PageView.block_count view.new ≡ V.PageView.block_count view.old }
+    ensures device { V.PageView.device view.new ≡ V.PageView.device view.old }
     ensures fault { CarriesFault (V.PageView.fault_count view.old) (V.PageView.fault_count view.new) result }
     ensures adds { V.PageView.tells → OnOk result (AddsAlways F.PageForm.scale x.now
         (nodes (F.PageForm.node form.now) draft.old.pages.items (V.PageView.image view.old))
@@ -90,12 +95,24 @@ pub fn add_entry<V: PageView, F: PageForm>(
         (nodes (F.PageForm.node form.now) draft.old.pages.items (V.PageView.image view.old))
         (nodes (F.PageForm.node form.now) draft.new.pages.items (V.PageView.image view.old))
         (F.PageForm.node top.now root.old) (F.PageForm.node top.now root.new) fresh.old.items
+        (GrowsLevel F.PageForm.scale x.now
+        (nodes (F.PageForm.node form.now) draft.old.pages.items (V.PageView.image view.old))
+        (at_page (F.PageForm.is_full form.now) draft.old.pages.items (V.PageView.image view.old))
+        (at_page (λ bytes. F.PageForm.has_no_room form.now bytes x.now) draft.old.pages.items (V.PageView.image view.old))
+        (F.PageForm.node top.now root.old) ((F.PageForm.is_full top.now root.old) × (F.PageForm.has_no_room top.now root.old x.now))
+        (λ key. (F.PageForm.is_full top.now root.old) × (F.PageForm.has_no_place top.now root.old key))
+        (F.PageForm.node top.now root.new) (nodes (F.PageForm.node form.now) draft.new.pages.items (V.PageView.image view.old)))
         (FullFrom F.PageForm.scale x.now
         (nodes (F.PageForm.node form.now) draft.old.pages.items (V.PageView.image view.old))
         (at_page (F.PageForm.is_full form.now) draft.old.pages.items (V.PageView.image view.old))
         (at_page (λ bytes. F.PageForm.has_no_room form.now bytes x.now) draft.old.pages.items (V.PageView.image view.old))
         (F.PageForm.node top.now root.old) ((F.PageForm.is_full top.now root.old) × (F.PageForm.has_no_room top.now root.old x.now))
         (λ key. (F.PageForm.is_full top.now root.old) × (F.PageForm.has_no_place top.now root.old key))) result }
+    ensures filled { F.PageForm.fills → V.PageView.tells → OnOk result (FillsAlways F.PageForm.scale x.now
+        (nodes (F.PageForm.node form.now) draft.old.pages.items (V.PageView.image view.old))
+        (nodes (F.PageForm.node form.now) draft.new.pages.items (V.PageView.image view.old))
+        (F.PageForm.node top.now root.old) (F.PageForm.node top.now root.new) fresh.old.items) }
+    ensures used { OnOk result (length fresh.old.items ≤ length fresh.new.items + 8) }
     ensures keeps { V.PageView.tells → OnOk result (KeepsAlways F.PageForm.scale x.now (nodes (F.PageForm.node form.now) draft.old.pages.items (V.PageView.image view.old)) (F.PageForm.node top.now root.old) (V.PageView.image view.old)
         draft.old.pages.items draft.new.pages.items fresh.old.items fresh.new.items) }
     ensures front { IsFront fresh.new.items fresh.old.items }

@@ -1,8 +1,9 @@
 //! A page that takes an entry or a child, perhaps with a new page behind it.
 
-ghost use Rattle.std.specs.Prelude.{◌≡◌, ◌==◌, ◌+◌, if◌then◌else◌, ◌<◌, ◌≤◌, ℕ, List, length, OnOk, IfOk, IfErr, IfSome};
+ghost use Rattle.std.specs.Prelude.{◌≡◌, ◌==◌, ◌+◌, if◌then◌else◌, ◌<◌, ◌≤◌, ℕ, List, length, OnOk, IfOk, IfErr, IfSome, Some};
 ghost use Rattle.jfs_tree.specs.Form.{IsFront};
 ghost use Rattle.jfs_tree.specs.Room.{TakesOne};
+ghost use Rattle.jfs_tree.specs.Filled.{HereFilled, ChildFilled};
 ghost use Rattle.jfs_tree.specs.Call.{HereDid, ChildDid, StaysBelow, StaysOff, PutsOne, PutsTwo};
 
 use crate::draft::Draft;
@@ -28,6 +29,7 @@ pub(crate) fn take_here<F: PageForm>(
     ensures did { HereDid (F.PageForm.node form.now) F.PageForm.scale x.now bytes.0 page draft.old.pages.items draft.new.pages.items fresh.old.items fresh.new.items result }
     ensures used { IfOk result (λ more. length fresh.old.items ≤ length fresh.new.items + 1) }
     ensures room { IfOk result (λ more. TakesOne ((F.PageForm.is_full form.now bytes.0) × (F.PageForm.has_no_room form.now bytes.0 x.now)) more fresh.old.items fresh.new.items) }
+    ensures filled { F.PageForm.fills → IfOk result (λ more. HereFilled (F.PageForm.node form.now) F.PageForm.scale x.now bytes.0 page last draft.old.pages.items draft.new.pages.items fresh.old.items more) }
     ensures keeps { OnOk result (StaysOff page draft.old.pages.items draft.new.pages.items fresh.old.items fresh.new.items) }
     ensures below { StaysBelow fresh.old.items fresh.new.items result }
     ensures front { IsFront fresh.new.items fresh.old.items }
@@ -63,6 +65,7 @@ fn split_here<F: PageForm>(
     ensures did { HereDid (F.PageForm.node form.now) F.PageForm.scale x.now bytes.0 page draft.old.pages.items draft.new.pages.items fresh.old.items fresh.new.items result }
     ensures used { IfOk result (λ more. length fresh.old.items ≤ length fresh.new.items + 1) }
     ensures room { IfOk result (λ more. TakesOne ((F.PageForm.is_full form.now bytes.0) × (F.PageForm.has_no_room form.now bytes.0 x.now)) more fresh.old.items fresh.new.items) }
+    ensures filled { F.PageForm.fills → IfOk result (λ more. HereFilled (F.PageForm.node form.now) F.PageForm.scale x.now bytes.0 page last draft.old.pages.items draft.new.pages.items fresh.old.items more) }
     ensures keeps { OnOk result (StaysOff page draft.old.pages.items draft.new.pages.items fresh.old.items fresh.new.items) }
     ensures below { StaysBelow fresh.old.items fresh.new.items result }
     ensures front { IsFront fresh.new.items fresh.old.items }
@@ -96,6 +99,7 @@ pub(crate) fn take_child<F: PageForm>(
     ensures did { ChildDid (F.PageForm.node form.now) F.PageForm.scale bytes.0 page place sibling draft.old.pages.items draft.new.pages.items fresh.old.items fresh.new.items result }
     ensures used { IfOk result (λ more. length fresh.old.items ≤ length fresh.new.items + 1) }
     ensures room { IfOk result (λ more. TakesOne (F.PageForm.is_full form.now bytes.0) more fresh.old.items fresh.new.items) }
+    ensures filled { F.PageForm.fills → IfOk result (λ more. ChildFilled (F.PageForm.node form.now) F.PageForm.scale bytes.0 page place last (Some sibling) draft.old.pages.items draft.new.pages.items fresh.old.items more) }
     ensures keeps { OnOk result (StaysOff page draft.old.pages.items draft.new.pages.items fresh.old.items fresh.new.items) }
     ensures below { StaysBelow fresh.old.items fresh.new.items result }
     ensures front { IsFront fresh.new.items fresh.old.items }
@@ -133,6 +137,7 @@ fn split_child<F: PageForm>(
     ensures did { ChildDid (F.PageForm.node form.now) F.PageForm.scale bytes.0 page place sibling draft.old.pages.items draft.new.pages.items fresh.old.items fresh.new.items result }
     ensures used { IfOk result (λ more. length fresh.old.items ≤ length fresh.new.items + 1) }
     ensures room { IfOk result (λ more. TakesOne (F.PageForm.is_full form.now bytes.0) more fresh.old.items fresh.new.items) }
+    ensures filled { F.PageForm.fills → IfOk result (λ more. ChildFilled (F.PageForm.node form.now) F.PageForm.scale bytes.0 page place last (Some sibling) draft.old.pages.items draft.new.pages.items fresh.old.items more) }
     ensures keeps { OnOk result (StaysOff page draft.old.pages.items draft.new.pages.items fresh.old.items fresh.new.items) }
     ensures below { StaysBelow fresh.old.items fresh.new.items result }
     ensures front { IsFront fresh.new.items fresh.old.items }

@@ -2,7 +2,7 @@
 
 ghost use Rattle.std.specs.Prelude.{◌≡◌, ◌<◌, ◌≤◌, ◌+◌, ℕ, List, OnOk, IfOk, length, take, not, get_or};
 ghost use Rattle.jfs_ranges.specs.View.{CarriesCount};
-ghost use Rattle.jfs_tree.specs.Tell.{TellsOne, TellsDraft, TellsExactly, TellsLines, TellsPage, occurs};
+ghost use Rattle.jfs_tree.specs.Tell.{TellsOne, TellsDraft, TellsExactly, TellsLines, TellsPage, is_hidden, occurs};
 
 use crate::draft::{Draft, Drafted};
 use crate::tell::{tell_page, tell_whole};
@@ -10,7 +10,8 @@ use jfs_bits::PageKind;
 use jfs_ranges::{PageView, Tx, ViewError};
 use std::alloc::Global;
 
-/// Tells each page of a draft as it is now: those that were taken whole, the others by the lines in which they differ from the view's.
+/// Tells each page of a draft as it is now: those that were taken whole, the others by the lines in which they differ from the view's. A page that
+/// is none of the view's isn't told.
 pub fn tell_draft<V: PageView>(
     alloc: Global,
     view: &mut V,
@@ -21,14 +22,16 @@ pub fn tell_draft<V: PageView>(
 ) -> Result<(), ViewError>
     ensures image { V.PageView.tells → V.PageView.image view.new ≡ V.PageView.image view.old }
     ensures count_of_blocks { V.PageView.block_count view.new ≡ V.PageView.block_count view.old }
+    ensures device { V.PageView.device view.new ≡ V.PageView.device view.old }
     ensures fault { CarriesCount (V.PageView.fault_count view.old) (V.PageView.fault_count view.new) result }
     ensures edits { V.PageView.tells → OnOk result (TellsExactly (V.PageView.block_count view.old) (V.PageView.image view.old) taken.now kind draft.now.pages.items tx.old tx.new) }
     ensures lines { OnOk result (TellsLines tx.old tx.new) }
     ensures told { V.PageView.tells → OnOk result (TellsDraft (V.PageView.block_count view.old) (V.PageView.image view.old) draft.now.pages.items tx.old tx.new) }
 {
+    let blocks = view.blocks();
     let pages = draft.pages.as_slice();
     for i in 0..pages.len() {
-        if is_newest(pages, i) {
+        if is_told(pages, i, blocks) {
             tell_drafted(alloc, view, &pages[i], taken, kind, tx)?;
         }
     }
@@ -45,15 +48,17 @@ fn tell_drafted<V: PageView>(
     kind: PageKind,
     tx: &mut Tx,
 ) -> Result<(), ViewError>
+    requires within { drafted.now.number < V.PageView.block_count view.old }
     ensures image { V.PageView.tells → V.PageView.image view.new ≡ V.PageView.image view.old }
     ensures count_of_blocks { V.PageView.block_count view.new ≡ V.PageView.block_count view.old }
+    ensures device { V.PageView.device view.new ≡ V.PageView.device view.old }
     ensures fault { CarriesCount (V.PageView.fault_count view.old) (V.PageView.fault_count view.new) result }
-    ensures edits { V.PageView.tells → OnOk result (TellsPage (V.PageView.block_count view.old) (V.PageView.image view.old) taken.now kind drafted.now.number drafted.now.page.0 tx.old tx.new) }
+    ensures edits { V.PageView.tells → OnOk result (TellsPage (V.PageView.image view.old) taken.now kind drafted.now.number drafted.now.page.0 tx.old tx.new) }
     ensures lines { OnOk result (TellsLines tx.old tx.new) }
     ensures told { V.PageView.tells → OnOk result (TellsOne (V.PageView.block_count view.old) (V.PageView.image view.old) drafted.now.number drafted.now.page.0 tx.old tx.new) }
 {
     let n = drafted.number;
-    if n >= view.blocks() || taken.contains(&n) {
+    if taken.contains(&n) {
         return match tell_whole(alloc, tx, n, kind, &drafted.page) {
             Ok(()) => Ok(()),
             Err(_) => Err(ViewError::Memory),
@@ -64,6 +69,14 @@ fn tell_drafted<V: PageView>(
         Ok(()) => Ok(()),
         Err(_) => Err(ViewError::Memory),
     }
+}
+
+/// Whether a page is one of so many blocks, and no page in front of it has its number.
+fn is_told(pages: &[Drafted], i: usize, blocks: u32) -> bool
+    requires { i < length pages.now }
+    ensures { (d : Drafted) → result ≡ not (is_hidden blocks (take i pages.now) (get_or pages.now i d).number) }
+{
+    pages[i].number < blocks && is_newest(pages, i)
 }
 
 /// Whether no page in front of this one has its number.

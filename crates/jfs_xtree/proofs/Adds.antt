@@ -6,6 +6,7 @@ use Rattle.jfs_disk.specs.Image.{Image, page_of}
 use Rattle.jfs_ranges.specs.declared.edit.Edit.{Edit}
 use Rattle.jfs_tree.specs.Walk.{Node}
 use Rattle.jfs_tree.specs.Root.{RefusesWhereBad}
+use Rattle.jfs_tree.specs.Filled.{NoThinTold}
 use Rattle.jfs_tree.specs.Fresh.{AllPages, HasPages}
 use Rattle.jfs_tree.specs.Adds.{read_as, on_page, AddsTold, RefusesWhereFull}
 use Rattle.jfs_tree.specs.Room.{FullDown, FullUp, FullFrom, TakesWhereFull}
@@ -17,7 +18,7 @@ use Rattle.jfs_xtpage.specs.Page.{entries_of}
 use Rattle.jfs_xtree.specs.Node.{xt_scale, xt_node, is_within, all_within, child_of, HasNoRoom}
 use Rattle.jfs_xtree.specs.Spells.{root_form, page_nodes, root_node, tree_error}
 use Rattle.jfs_xtree.specs.Errors.{handed_on}
-use Rattle.jfs_xtree.specs.Adding.{AddsExtent, NoRoomAtRoot, NoRoomOnWay, TakesPages, RefusesFull}
+use Rattle.jfs_xtree.specs.Adding.{AddsExtent, NoRoomAtRoot, NoRoomOnWay, TakesPages, RefusesFull, KeepsNoThin}
 use Rattle.std.proofs.lemmas.Bool.{leb-true}
 use Rattle.jfs_xtree.proofs.Reading.{and_true, inner_is}
 
@@ -36,6 +37,12 @@ pub adds_as : (b blocks : ℕ) (form : XtForm) (image : Image) (x : Xad) (root a
 adds_as b blocks form image x root after free left tx later eb ef told =
     subst (λ f. AddsTold xt_scale (xt_node Full blocks) blocks (page_of image) x (xt_node f blocks root) (xt_node f blocks after) free left tx later) ef
     (subst (λ n. AddsTold xt_scale (xt_node Full n) blocks (page_of image) x (xt_node form n root) (xt_node form n after) free left tx later) eb told)
+
+pub thin_as : (b blocks : ℕ) (form : XtForm) (image : Image) (x : Xad) (root after free : List ℕ) (tx later : List Edit) → b ≡ blocks → form ≡ root_form (length root)
+    → NoThinTold xt_scale (xt_node Full b) blocks (page_of image) x (xt_node form b root) (xt_node form b after) free tx later → KeepsNoThin blocks (page_of image) x root after free tx later
+thin_as b blocks form image x root after free tx later eb ef told =
+    subst (λ f. NoThinTold xt_scale (xt_node Full blocks) blocks (page_of image) x (xt_node f blocks root) (xt_node f blocks after) free tx later) ef
+    (subst (λ n. NoThinTold xt_scale (xt_node Full n) blocks (page_of image) x (xt_node form n root) (xt_node form n after) free tx later) eb told)
 
 -- ---- what is refused
 

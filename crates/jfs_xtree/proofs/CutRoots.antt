@@ -11,6 +11,7 @@ use Rattle.jfs_tree.specs.Spells.{no_page, with_root, top, tree_of, spells, foot
 use Rattle.jfs_tree.specs.Edit.{count_in, IsPast}
 use Rattle.jfs_bits.specs.declared.rule.Rule.{Rule}
 use Rattle.jfs_tree.specs.Form.{LeadsDown}
+use Rattle.jfs_tree.proofs.Path.{AllPast, leads_alone}
 use Rattle.jfs_tree.specs.Root.{NamesBroken}
 use Rattle.jfs_tree.specs.Call.{nodes}
 use Rattle.jfs_tree.specs.Draft.{shown}
@@ -19,6 +20,8 @@ use Rattle.jfs_tree.specs.declared.draft.Drafted.{Drafted}
 use Rattle.jfs_tree.specs.declared.form.TreeError.{TreeError}
 use Rattle.jfs_tree.specs.declared.form.TreeError.TheVariants.{View, Bad, Memory}
 use Rattle.jfs_tree.proofs.Frame.{frame, same_body}
+use Rattle.jfs_tree.specs.Levels.{InLine, IsFilled, HasNoThin, pages_below}
+use Rattle.jfs_tree.proofs.Filling.{below_stays, page_filled, filled_same, filled_of, filled_not_thin}
 use Rattle.jfs_tree.proofs.Once.{each_once}
 use Rattle.jfs_tree.proofs.Spelled.{stands, tree_rises, spelled}
 use Rattle.jfs_tree.proofs.Tops.{root_else, page_or}
@@ -39,7 +42,7 @@ use Rattle.jfs_tree.specs.Removes.{page_frees}
 use Rattle.jfs_xtree.specs.Cutting.{kept_below, gone_past, run_frees, HasOnlyBelow, CutsExtents}
 use Rattle.jfs_xtree.specs.CutParts.{CutPart, CutsNode, BreaksUnder, KeepsSome, naming, shows, if_kept}
 use Rattle.jfs_xtree.proofs.Reading.{leaf_is, sound_leaf, sound_inner}
-use Rattle.jfs_xtree.proofs.Pages.{rises_less, rises_back}
+use Rattle.jfs_xtree.proofs.Pages.{rises_less, rises_back, rises_weaker}
 use Rattle.jfs_xtree.proofs.Inners.{map_cut}
 use Rattle.jfs_xtree.proofs.Adds.{has_pages}
 use Rattle.jfs_xtree.proofs.CutInners.{differs, here_zero}
@@ -47,11 +50,12 @@ use Rattle.jfs_xtree.proofs.CutSteps.{no_entry}
 
 -- ---- the root of a tree that was cut
 
-record RootCut (bound : ℕ) (before after : ℕ → Node ℕ Xad) (es : List Xad) (root new : Node ℕ Xad) (freed : List ℕ) (runs : List Pxd) : Type 0 where
-  spelled : spells xt_scale after new ≡ Ok (kept_below bound es)
+record RootCut (blocks bound : ℕ) (before after : ℕ → List ℕ) (es : List Xad) (root new : Node ℕ Xad) (freed : List ℕ) (runs : List Pxd) : Type 0 where
+  spelled : spells xt_scale (page_nodes blocks after) new ≡ Ok (kept_below bound es)
   gone : runs ≡ gone_past bound es
-  owned : (n : ℕ) → footprint xt_scale after new n + count_in n freed ≡ footprint xt_scale before root n
-  keeps : (n : ℕ) → n ≢ no_page → footprint xt_scale after new n ≡ 0 → after n ≡ before n
+  owned : (n : ℕ) → footprint xt_scale (page_nodes blocks after) new n + count_in n freed ≡ footprint xt_scale (page_nodes blocks before) root n
+  keeps : (n : ℕ) → n ≢ no_page → footprint xt_scale (page_nodes blocks after) new n ≡ 0 → after n ≡ before n
+  filled : ((depth : ℕ) → IsFilled (with_root root (page_nodes blocks before)) depth true no_page) → (depth : ℕ) → IsFilled (with_root new (page_nodes blocks after)) depth true no_page
 
 foot : (pages : ℕ → Node ℕ Xad) (root : Node ℕ Xad) (n : ℕ) → n ≢ no_page → footprint xt_scale pages root n ≡ times n (tree_of xt_scale pages root)
 unfolding footprint
@@ -87,67 +91,76 @@ among pages root below none =
     same_body (with_root root pages) pages (walk xt_scale (with_root root pages) below) (walk xt_scale pages below) (top xt_scale) (placed xt_scale below 0 root) (frame xt_scale (with_root root pages) pages below)
     (λ n p. sym (root_else root pages n (differs n no_page 0 (λ m. times m (shows (with_root root pages) below (top xt_scale) root)) none p)))
 
-top_kept : (bound : ℕ) (before after : ℕ → Node ℕ Xad) (es : List Xad) (root new : Node ℕ Xad) (freed : List ℕ) (runs : List Pxd) (below : ℕ) → suc below ≤ 8 → tree_of xt_scale before root ≡ Key no_page 0 ∷ Page no_page ∷ shows before below (top xt_scale) root
-    → rows_of (shows before below (top xt_scale) root) ≡ es → times no_page (shows before below (top xt_scale) root) ≡ 0 → CutPart bound before after 0 (shows before below (top xt_scale) root) (shows after below (top xt_scale) new) None freed runs
-    → RootCut bound before after es root new freed runs
+top_kept : (blocks bound : ℕ) (before after : ℕ → List ℕ) (es : List Xad) (root new : Node ℕ Xad) (freed : List ℕ) (runs : List Pxd) (below : ℕ) → suc below ≤ 8 → tree_of xt_scale (page_nodes blocks before) root ≡ Key no_page 0 ∷ Page no_page ∷ shows (page_nodes blocks before) below (top xt_scale) root
+    → rows_of (shows (page_nodes blocks before) below (top xt_scale) root) ≡ es → times no_page (shows (page_nodes blocks before) below (top xt_scale) root) ≡ 0 → CutPart bound before after 0 (shows (page_nodes blocks before) below (top xt_scale) root) (shows (page_nodes blocks after) below (top xt_scale) new) None freed runs
+    → ((depth : ℕ) → InLine (IsFilled (with_root root (page_nodes blocks before)) depth) true (pages_below root) → InLine (IsFilled (page_nodes blocks after) depth) true (pages_below new))
+    → RootCut blocks bound before after es root new freed runs
 unfolding walk
-top_kept bound before after es root new freed runs below most tree rows none cut =
-    let M = shows after below (top xt_scale) new in
+top_kept blocks bound before after es root new freed runs below most tree rows none cut fill =
+    let M = shows (page_nodes blocks after) below (top xt_scale) new in
     let off : times no_page M ≡ 0 = let p = cut.pages no_page in omega (arith, p, none) in
-    let same = apart after new below off in
-    let rises : Rises xt_scale 0 (walk xt_scale (with_root new after) (suc below) (top xt_scale)) None = (refl, subst (λ ms. Rises xt_scale 0 ms None) (sym same) cut.rises) in
-    let now = tree_rises xt_scale order after new (suc below) most rises in
+    let same = apart (page_nodes blocks after) new below off in
+    let rises : Rises xt_scale 0 (walk xt_scale (with_root new (page_nodes blocks after)) (suc below) (top xt_scale)) None = (refl, subst (λ ms. Rises xt_scale 0 ms None) (sym same) cut.rises) in
+    let now = tree_rises xt_scale order (page_nodes blocks after) new (suc below) most rises in
     record {
-      spelled = spelled xt_scale order after new (suc below) most rises ∙ ap (λ ms. Ok (rows_of ms)) same ∙ ap (λ xs. Ok xs) (cut.rows ∙ ap (kept_below bound) rows);
+      spelled = spelled xt_scale order (page_nodes blocks after) new (suc below) most rises ∙ ap (λ ms. Ok (rows_of ms)) same ∙ ap (λ xs. Ok xs) (cut.rows ∙ ap (kept_below bound) rows);
       gone = cut.gone ∙ ap (gone_past bound) rows;
       owned = λ n. elim (page_or n) [
-        | inl e ↦ subst (λ m. footprint xt_scale after new m + count_in m freed ≡ footprint xt_scale before root m) (sym e) (let a = no_foot after new in let b = no_foot before root in let p = cut.pages no_page in omega (arith, a, b, p, none))
-        | inr ne ↦ (let a = foot after new n ne in let b = foot before root n ne in let d = ap (times n) now in let f = ap (times n) tree in let g = ap (times n) same in let p = cut.pages n in omega (arith, a, b, d, f, g, p))
+        | inl e ↦ subst (λ m. footprint xt_scale (page_nodes blocks after) new m + count_in m freed ≡ footprint xt_scale (page_nodes blocks before) root m) (sym e) (let a = no_foot (page_nodes blocks after) new in let b = no_foot (page_nodes blocks before) root in let p = cut.pages no_page in omega (arith, a, b, p, none))
+        | inr ne ↦ (let a = foot (page_nodes blocks after) new n ne in let b = foot (page_nodes blocks before) root n ne in let d = ap (times n) now in let f = ap (times n) tree in let g = ap (times n) same in let p = cut.pages n in omega (arith, a, b, d, f, g, p))
       ];
-      keeps = λ n ne z. cut.keeps n (let a = foot after new n ne in let d = ap (times n) now in let g = ap (times n) same in omega (arith, a, d, g, z));
+      keeps = λ n ne z. cut.keeps n (let a = foot (page_nodes blocks after) new n ne in let d = ap (times n) now in let g = ap (times n) same in omega (arith, a, d, g, z));
+      filled = λ h depth. page_filled (with_root root (page_nodes blocks before)) (with_root new (page_nodes blocks after)) no_page new
+          (λ d line. below_stays xt_scale order (page_nodes blocks after) (with_root new (page_nodes blocks after)) below d (top xt_scale) new 0 None true cut.rises
+          (λ n p. root_else new (page_nodes blocks after) n (differs n no_page 0 (λ m. times m M) off p)) (fill d line)) refl depth (h depth);
     }
 
-top_gone : (bound : ℕ) (before after : ℕ → Node ℕ Xad) (es : List Xad) (root : Node ℕ Xad) (freed : List ℕ) (runs : List Pxd) (below : ℕ) → tree_of xt_scale before root ≡ Key no_page 0 ∷ Page no_page ∷ shows before below (top xt_scale) root
-    → rows_of (shows before below (top xt_scale) root) ≡ es → times no_page (shows before below (top xt_scale) root) ≡ 0 → CutPart bound before after 0 (shows before below (top xt_scale) root) [] None freed runs
-    → RootCut bound before after es root (Leaf []) freed runs
-top_gone bound before after es root freed runs below tree rows none cut = record {
-  spelled = spells_none after ∙ ap (λ xs. Ok xs) (cut.rows ∙ ap (kept_below bound) rows);
+top_gone : (blocks bound : ℕ) (before after : ℕ → List ℕ) (es : List Xad) (root : Node ℕ Xad) (freed : List ℕ) (runs : List Pxd) (below : ℕ) → tree_of xt_scale (page_nodes blocks before) root ≡ Key no_page 0 ∷ Page no_page ∷ shows (page_nodes blocks before) below (top xt_scale) root
+    → rows_of (shows (page_nodes blocks before) below (top xt_scale) root) ≡ es → times no_page (shows (page_nodes blocks before) below (top xt_scale) root) ≡ 0 → CutPart bound before after 0 (shows (page_nodes blocks before) below (top xt_scale) root) [] None freed runs
+    → RootCut blocks bound before after es root (Leaf []) freed runs
+top_gone blocks bound before after es root freed runs below tree rows none cut = record {
+  spelled = spells_none (page_nodes blocks after) ∙ ap (λ xs. Ok xs) (cut.rows ∙ ap (kept_below bound) rows);
   gone = cut.gone ∙ ap (gone_past bound) rows;
   owned = λ n. elim (page_or n) [
-    | inl e ↦ subst (λ m. footprint xt_scale after (Leaf []) m + count_in m freed ≡ footprint xt_scale before root m) (sym e) (let a = no_foot after (Leaf []) in let b = no_foot before root in let p = cut.pages no_page in omega (arith, a, b, p, none))
-    | inr ne ↦ (let a = foot after (Leaf []) n ne in let b = foot before root n ne in let d = not_named n ne in let f = ap (times n) tree in let p = cut.pages n in omega (arith, a, b, d, f, p))
+    | inl e ↦ subst (λ m. footprint xt_scale (page_nodes blocks after) (Leaf []) m + count_in m freed ≡ footprint xt_scale (page_nodes blocks before) root m) (sym e) (let a = no_foot (page_nodes blocks after) (Leaf []) in let b = no_foot (page_nodes blocks before) root in let p = cut.pages no_page in omega (arith, a, b, p, none))
+    | inr ne ↦ (let a = foot (page_nodes blocks after) (Leaf []) n ne in let b = foot (page_nodes blocks before) root n ne in let d = not_named n ne in let f = ap (times n) tree in let p = cut.pages n in omega (arith, a, b, d, f, p))
   ];
   keeps = λ n ne z. cut.keeps n refl;
+  filled = λ h depth. page_filled (with_root root (page_nodes blocks before)) (with_root (Leaf []) (page_nodes blocks after)) no_page (Leaf []) (λ d line. tt) refl depth (h depth);
 }
 
-root_by : (bound : ℕ) (before after : ℕ → Node ℕ Xad) (es : List Xad) (root mid new : Node ℕ Xad) (kept : Bool) (freed : List ℕ) (runs : List Pxd) (levels : ℕ) → levels ≤ 8 → tree_of xt_scale before root ≡ walk xt_scale (with_root root before) levels (top xt_scale)
-    → Rises xt_scale 0 (walk xt_scale (with_root root before) levels (top xt_scale)) None → rows_of (walk xt_scale (with_root root before) levels (top xt_scale)) ≡ es
-    → CutsNode bound before after root mid kept freed runs → (kept ≡ true → new ≡ mid) → (kept ≡ false → new ≡ Leaf []) → RootCut bound before after es root new freed runs
+root_by : (blocks bound : ℕ) (before after : ℕ → List ℕ) (es : List Xad) (root mid new : Node ℕ Xad) (kept : Bool) (freed : List ℕ) (runs : List Pxd) (levels : ℕ) → levels ≤ 8 → tree_of xt_scale (page_nodes blocks before) root ≡ walk xt_scale (with_root root (page_nodes blocks before)) levels (top xt_scale)
+    → Rises xt_scale 0 (walk xt_scale (with_root root (page_nodes blocks before)) levels (top xt_scale)) None → rows_of (walk xt_scale (with_root root (page_nodes blocks before)) levels (top xt_scale)) ≡ es
+    → CutsNode blocks bound before after root mid kept freed runs → (kept ≡ true → new ≡ mid) → (kept ≡ false → new ≡ Leaf []) → RootCut blocks bound before after es root new freed runs
 unfolding walk
-root_by bound before after es root mid new kept freed runs zero most tree r rows cuts stays empties = absurd r
-root_by bound before after es root mid new kept freed runs (suc below) most tree r rows cuts stays empties =
-    let S = shows (with_root root before) below (top xt_scale) root in
-    let once = each_once xt_scale order (with_root root before) (suc below) (top xt_scale) 0 None r in
+root_by blocks bound before after es root mid new kept freed runs zero most tree r rows cuts stays empties = absurd r
+root_by blocks bound before after es root mid new kept freed runs (suc below) most tree r rows cuts stays empties =
+    let S = shows (with_root root (page_nodes blocks before)) below (top xt_scale) root in
+    let once = each_once xt_scale order (with_root root (page_nodes blocks before)) (suc below) (top xt_scale) 0 None r in
     let none : times no_page S ≡ 0 = let h = once no_page in here_zero no_page (times no_page S) (times no_page S) 0 h (omega arith) in
-    let same = among before root below none in
-    let cut = cuts below (top xt_scale) None (subst (λ ms. Rises xt_scale 0 ms None) (sym same) r.1) (λ n. let h = once n in let e = ap (times n) same in omega (arith, h, e)) in
-    by kept refl (tree ∙ ap (λ ms. Key no_page 0 ∷ Page no_page ∷ ms) (sym same)) (ap rows_of same ∙ rows) (ap (times no_page) same ∙ none) cut
+    let same = among (page_nodes blocks before) root below none in
+    let part = cuts below (top xt_scale) None (subst (λ ms. Rises xt_scale 0 ms None) (sym same) r.1) (λ n. let h = once n in let e = ap (times n) same in omega (arith, h, e)) in
+    by kept refl (tree ∙ ap (λ ms. Key no_page 0 ∷ Page no_page ∷ ms) (sym same)) (ap rows_of same ∙ rows) (ap (times no_page) same ∙ none) part.0
+    (λ e depth line. part.1 e depth (below_stays xt_scale order (with_root root (page_nodes blocks before)) (page_nodes blocks before) below depth (top xt_scale) root 0 None true r.1
+    (λ n p. sym (root_else root (page_nodes blocks before) n (differs n no_page 0 (λ m. times m S) none p))) line))
   where
-    by : (k : Bool) → kept ≡ k → tree_of xt_scale before root ≡ Key no_page 0 ∷ Page no_page ∷ shows before below (top xt_scale) root → rows_of (shows before below (top xt_scale) root) ≡ es → times no_page (shows before below (top xt_scale) root) ≡ 0
-        → CutPart bound before after 0 (shows before below (top xt_scale) root) (if_kept k (shows after below (top xt_scale) mid)) None freed runs → RootCut bound before after es root new freed runs
-    by true e tree rows none cut = subst (λ node. RootCut bound before after es root node freed runs) (sym (stays e)) (top_kept bound before after es root mid freed runs below most tree rows none cut)
-    by false e tree rows none cut = subst (λ node. RootCut bound before after es root node freed runs) (sym (empties e)) (top_gone bound before after es root freed runs below tree rows none cut)
+    by : (k : Bool) → kept ≡ k → tree_of xt_scale (page_nodes blocks before) root ≡ Key no_page 0 ∷ Page no_page ∷ shows (page_nodes blocks before) below (top xt_scale) root → rows_of (shows (page_nodes blocks before) below (top xt_scale) root) ≡ es → times no_page (shows (page_nodes blocks before) below (top xt_scale) root) ≡ 0
+        → CutPart bound before after 0 (shows (page_nodes blocks before) below (top xt_scale) root) (if_kept k (shows (page_nodes blocks after) below (top xt_scale) mid)) None freed runs
+        → (kept ≡ true → (depth : ℕ) → InLine (IsFilled (with_root root (page_nodes blocks before)) depth) true (pages_below root) → InLine (IsFilled (page_nodes blocks after) depth) true (pages_below mid)) → RootCut blocks bound before after es root new freed runs
+    by true e tree rows none cut fill = subst (λ node. RootCut blocks bound before after es root node freed runs) (sym (stays e)) (top_kept blocks bound before after es root mid freed runs below most tree rows none cut (fill e))
+    by false e tree rows none cut fill = subst (λ node. RootCut blocks bound before after es root node freed runs) (sym (empties e)) (top_gone blocks bound before after es root freed runs below tree rows none cut)
 
 -- a root without extents
-root_empty : (bound : ℕ) (before after : ℕ → Node ℕ Xad) (freed : List ℕ) (runs : List Pxd) → freed ≡ [] → runs ≡ [] → ((n : ℕ) → after n ≡ before n) → RootCut bound before after [] (Leaf []) (Leaf []) freed runs
-root_empty bound before after freed runs none empty same = record {
-  spelled = spells_none after;
+root_empty : (blocks bound : ℕ) (before after : ℕ → List ℕ) (freed : List ℕ) (runs : List Pxd) → freed ≡ [] → runs ≡ [] → ((n : ℕ) → after n ≡ before n) → RootCut blocks bound before after [] (Leaf []) (Leaf []) freed runs
+root_empty blocks bound before after freed runs none empty same = record {
+  spelled = spells_none (page_nodes blocks after);
   gone = empty;
   owned = λ n. elim (page_or n) [
-    | inl e ↦ subst (λ m. footprint xt_scale after (Leaf []) m + count_in m freed ≡ footprint xt_scale before (Leaf []) m) (sym e) (let a = no_foot after (Leaf []) in let b = no_foot before (Leaf []) in let f = ap (count_in no_page) none in omega (arith, a, b, f))
-    | inr ne ↦ (let a = foot after (Leaf []) n ne in let b = foot before (Leaf []) n ne in let f = ap (count_in n) none in omega (arith, a, b, f))
+    | inl e ↦ subst (λ m. footprint xt_scale (page_nodes blocks after) (Leaf []) m + count_in m freed ≡ footprint xt_scale (page_nodes blocks before) (Leaf []) m) (sym e) (let a = no_foot (page_nodes blocks after) (Leaf []) in let b = no_foot (page_nodes blocks before) (Leaf []) in let f = ap (count_in no_page) none in omega (arith, a, b, f))
+    | inr ne ↦ (let a = foot (page_nodes blocks after) (Leaf []) n ne in let b = foot (page_nodes blocks before) (Leaf []) n ne in let f = ap (count_in n) none in omega (arith, a, b, f))
   ];
   keeps = λ n ne z. same n;
+  filled = λ h depth. page_filled (with_root (Leaf []) (page_nodes blocks before)) (with_root (Leaf []) (page_nodes blocks after)) no_page (Leaf []) (λ d line. tt) refl depth (h depth);
 }
 
 -- ---- by the code's names
@@ -202,25 +215,25 @@ kept_none_is xs true e k = absurd (let l = ap length e in omega (arith, l, k))
 kept_none_is xs false e k = refl
 
 root_done : (form : XtForm) (blocks bound : ℕ) (root mid new : List ℕ) (image : Image) (drafts : List Drafted) (kept : Bool) (freed : List ℕ) (runs : List Pxd) (es : List Xad) → IsSound form blocks (head_of root) (entries_of root)
-    → CutsNode bound (page_nodes blocks (page_of image)) (nodes (xt_node Full blocks) drafts image) (xt_node form blocks root) (xt_node form blocks mid) kept freed runs
+    → CutsNode blocks bound (page_of image) (shown drafts image) (xt_node form blocks root) (xt_node form blocks mid) kept freed runs
     → (is_leaf (head_of root).flag ≡ true → (entries_of mid ≡ kept_below bound (entries_of root)) × (runs ≡ gone_past bound (entries_of root)) × (drafts ≡ []) × (freed ≡ [])) → SameKind (head_of root) (head_of mid) → KeepsSome (entries_of mid) kept
     → (kept ≡ true → new ≡ mid) → (kept ≡ false → (head_of new ≡ record (head_of mid) { flag = kind_flag (head_of mid).flag true }) × (entries_of new ≡ entries_of mid))
     → spells xt_scale (page_nodes blocks (page_of image)) (xt_node form blocks root) ≡ Ok es
-    → RootCut bound (page_nodes blocks (page_of image)) (nodes (xt_node Full blocks) drafts image) es (xt_node form blocks root) (xt_node form blocks new) freed runs
+    → RootCut blocks bound (page_of image) (shown drafts image) es (xt_node form blocks root) (xt_node form blocks new) freed runs
 root_done form blocks bound root mid new image drafts kept freed runs es sound cuts leaf kind some stays empties spelt =
-    let before = page_nodes blocks (page_of image) in
-    let after = nodes (xt_node Full blocks) drafts image in
+    let before = page_of image in
+    let after = shown drafts image in
     let ends = closed form blocks root mid new kept sound kind some empties in
-    elim (stands xt_scale before (xt_node form blocks root) es spelt) [
+    elim (stands xt_scale (page_nodes blocks before) (xt_node form blocks root) es spelt) [
       | inl e ↦
           let t = leaf_is form blocks root [] e.0 in
           let l = leaf t.1 in
           let z = kept_none_is (entries_of mid) kept (l.0 ∙ ap (kept_below bound) t.2) some in
-          subst (λ xs. RootCut bound before after xs (xt_node form blocks root) (xt_node form blocks new) freed runs) (sym e.1)
-          (subst (λ node. RootCut bound before after [] node (xt_node form blocks new) freed runs) (sym e.0)
-          (subst (λ node. RootCut bound before after [] (Leaf []) node freed runs) (sym (ends z))
-          (root_empty bound before after freed runs l.3 (l.1 ∙ ap (gone_past bound) t.2) (λ n. ap (λ ds. xt_node Full blocks (shown ds image n)) l.2))))
-      | inr st ↦ root_by bound before after es (xt_node form blocks root) (xt_node form blocks mid) (xt_node form blocks new) kept freed runs st.levels st.most st.is st.rises st.rows cuts (λ e. ap (xt_node form blocks) (stays e)) ends
+          subst (λ xs. RootCut blocks bound before after xs (xt_node form blocks root) (xt_node form blocks new) freed runs) (sym e.1)
+          (subst (λ node. RootCut blocks bound before after [] node (xt_node form blocks new) freed runs) (sym e.0)
+          (subst (λ node. RootCut blocks bound before after [] (Leaf []) node freed runs) (sym (ends z))
+          (root_empty blocks bound before after freed runs l.3 (l.1 ∙ ap (gone_past bound) t.2) (λ n. ap (λ ds. shown ds image n) l.2))))
+      | inr st ↦ root_by blocks bound before after es (xt_node form blocks root) (xt_node form blocks mid) (xt_node form blocks new) kept freed runs st.levels st.most st.is st.rises st.rows cuts (λ e. ap (xt_node form blocks) (stays e)) ends
     ]
 
 less_page : (n blocks : ℕ) → n < blocks → blocks < 4294967296 → n ≢ no_page
@@ -233,22 +246,24 @@ less_page n blocks l b e = by n e l b
 record HasOnlyBelowIn (form : XtForm) (blocks bound : ℕ) (es : List Xad) (pages later : ℕ → List ℕ) (root after : List ℕ) (freed : List ℕ) : Type 0 where
   spelled : spells xt_scale (page_nodes blocks later) (xt_node form blocks after) ≡ Ok (kept_below bound es)
   owned : (n : ℕ) → footprint xt_scale (page_nodes blocks later) (xt_node form blocks after) n + count_in n freed ≡ footprint xt_scale (page_nodes blocks pages) (xt_node form blocks root) n
-  keeps : (n : ℕ) → n < blocks → footprint xt_scale (page_nodes blocks later) (xt_node form blocks after) n ≡ 0 → page_nodes blocks later n ≡ page_nodes blocks pages n
+  keeps : (n : ℕ) → n < blocks → footprint xt_scale (page_nodes blocks later) (xt_node form blocks after) n ≡ 0 → later n ≡ pages n
+  thin : HasNoThin (with_root (xt_node form blocks root) (page_nodes blocks pages)) → HasNoThin (with_root (xt_node form blocks after) (page_nodes blocks later))
 
 as_root : (form : XtForm) (blocks bound : ℕ) (es : List Xad) (pages later : ℕ → List ℕ) (root after : List ℕ) (freed : List ℕ) → form ≡ root_form (length root) → HasOnlyBelowIn form blocks bound es pages later root after freed → HasOnlyBelow blocks bound es pages later root after freed
 as_root form blocks bound es pages later root after freed is h =
     let g = subst (λ f. HasOnlyBelowIn f blocks bound es pages later root after freed) is h in
-    record { spelled = g.spelled; owned = g.owned; keeps = g.keeps }
+    record { spelled = g.spelled; owned = g.owned; keeps = g.keeps; thin = g.thin }
 
 -- the draft's pages are those that all edits lead to
 pub cuts_extents : (blocks bound : ℕ) (form : XtForm) (image : Image) (root mid new : List ℕ) (drafts : List Drafted) (kept : Bool) (freed : List ℕ) (runs : List Pxd) (tx later : List Edit) → blocks < 4294967296 → form ≡ root_form (length root) → IsSound form blocks (head_of root) (entries_of root)
-    → CutsNode bound (page_nodes blocks (page_of image)) (nodes (xt_node Full blocks) drafts image) (xt_node form blocks root) (xt_node form blocks mid) kept freed runs
+    → CutsNode blocks bound (page_of image) (shown drafts image) (xt_node form blocks root) (xt_node form blocks mid) kept freed runs
     → (is_leaf (head_of root).flag ≡ true → (entries_of mid ≡ kept_below bound (entries_of root)) × (runs ≡ gone_past bound (entries_of root)) × (drafts ≡ []) × (freed ≡ [])) → SameKind (head_of root) (head_of mid) → KeepsSome (entries_of mid) kept
     → (kept ≡ true → new ≡ mid) → (kept ≡ false → (head_of new ≡ record (head_of mid) { flag = kind_flag (head_of mid).flag true }) × (entries_of new ≡ entries_of mid))
     → TellsDraft blocks image drafts tx later → TellsThen (page_frees freed ++ run_frees runs) tx later → CutsExtents blocks (page_of image) bound root new tx later
 cuts_extents blocks bound form image root mid new drafts kept freed runs tx later small is sound cuts leaf kind some stays empties told ends es spelt =
     let drafted = nodes (xt_node Full blocks) drafts image in
-    let c = root_done form blocks bound root mid new image drafts kept freed runs es sound cuts leaf kind some stays empties (subst (λ f. spells xt_scale (page_nodes blocks (page_of image)) (xt_node f blocks root) ≡ Ok es) (sym is) spelt) in (
+    let spells_old = subst (λ f. spells xt_scale (page_nodes blocks (page_of image)) (xt_node f blocks root) ≡ Ok es) (sym is) spelt in
+    let c = root_done form blocks bound root mid new image drafts kept freed runs es sound cuts leaf kind some stays empties spells_old in (
       freed,
       subst (λ ps. TellsThen (page_frees freed ++ run_frees ps) tx later) c.gone ends,
       λ base leads.
@@ -258,7 +273,9 @@ cuts_extents blocks bound form image root mid new drafts kept freed runs tx late
           let whole : HasOnlyBelowIn form blocks bound es (page_of image) (after_tx base later) root new freed = record {
             spelled = spells_frame xt_scale drafted now (xt_node form blocks new) frame ∙ c.spelled;
             owned = λ n. (let f = footprint_frame xt_scale drafted now (xt_node form blocks new) frame n in let p = c.owned n in omega (arith, f, p));
-            keeps = λ n h z. agree n h ∙ c.keeps n (less_page n blocks h small) (sym (footprint_frame xt_scale drafted now (xt_node form blocks new) frame n) ∙ z);
+            keeps = λ n h z. told n h (base n) (leads n h).0 (leads n h).1 ∙ c.keeps n (less_page n blocks h small) (sym (footprint_frame xt_scale drafted now (xt_node form blocks new) frame n) ∙ z);
+            thin = λ none page. filled_not_thin (with_root (xt_node form blocks new) now) page
+                (filled_same xt_scale order drafted now (xt_node form blocks new) (kept_below bound es) c.spelled frame (c.filled (filled_of xt_scale order (page_nodes blocks (page_of image)) (xt_node form blocks root) es spells_old none)));
           } in
           as_root form blocks bound es (page_of image) (after_tx base later) root new freed is whole,
     )
@@ -276,8 +293,18 @@ leads_at form blocks root front x back sound flag some all = record {
   to = refl;
   past = past back (rises_back front (x ∷ back) 0 (ap (rises_from 0) (sym all) ∙ sound.order));
   above = inr (le-leb x.offset x.offset (omega arith));
+  alone = leads_alone xt_scale x.offset (xt_node form blocks root) (map child_of front) (child_of x) (map child_of back)
+      (sound_inner form blocks root sound flag some ∙ ap (λ xs. Inner (map child_of xs)) all ∙ ap (λ cs. Inner cs) (map_cut front x back))
+      (inr (le-leb x.offset x.offset (omega arith))) (all_behind x.offset x back (omega arith) (rises_back front (x ∷ back) 0 (ap (rises_from 0) (sym all) ∙ sound.order)));
 }
   where
+    all_behind : (at : ℕ) (y : Xad) (back : List Xad) → at ≤ y.offset → rises_from 0 (y ∷ back) ≡ true → AllPast xt_scale at (map child_of back)
+    all_behind at y [] l r = tt
+    all_behind at y (b ∷ bs) l r =
+        let t = rises_less 0 y (b ∷ bs) r in
+        let u = rises_less (end_of y) b bs t.1 in
+        let h = u.0 in let w = ends_after y in (lt-leb b.offset at (omega (arith, h, w, l)), all_behind at b bs (omega (arith, h, w, l)) (rises_weaker (b ∷ bs) (end_of y) 0 (omega arith) t.1))
+
     past : (back : List Xad) → rises_from 0 (x ∷ back) ≡ true → IsPast xt_scale x (map child_of back)
     past [] r = tt
     past (b ∷ bs) r =

@@ -13,7 +13,6 @@ use Rattle.jfs_tree.specs.Edit.{IsCons}
 use Rattle.jfs_tree.specs.Shrink.{kept_of}
 use Rattle.jfs_tree.specs.Removal.{Settles}
 use Rattle.jfs_tree.specs.Draft.{shown}
-use Rattle.jfs_tree.specs.Call.{nodes}
 use Rattle.jfs_tree.specs.declared.draft.Drafted.{Drafted}
 use Rattle.jfs_tree.specs.declared.form.TreeError.{TreeError}
 use Rattle.jfs_tree.specs.declared.form.TreeError.TheVariants.{View, Bad, Memory}
@@ -83,15 +82,15 @@ none_if xs false k e = k
 
 pub leaf_done : (form : XtForm) (blocks bound : ℕ) (bytes new : List ℕ) (image : Image) (drafts : List Drafted) (freed : List ℕ) (old runs : List Pxd) (r : Result Bool TreeError) → IsSound form blocks (head_of bytes) (entries_of bytes) → is_leaf (head_of bytes).flag ≡ true
     → drafts ≡ [] → freed ≡ [] → old ≡ [] → OnOk r (entries_of new ≡ kept_below bound (entries_of bytes)) → OnOk r (runs ≡ old ++ gone_past bound (entries_of bytes)) → OnOk r (SameKind (head_of bytes) (head_of new)) → IfOk r (KeepsSome (entries_of new))
-    → IfOk r (λ kept. CutsNode bound (page_nodes blocks (page_of image)) (nodes (xt_node Full blocks) drafts image) (xt_node form blocks bytes) (xt_node form blocks new) kept freed runs)
+    → IfOk r (λ kept. CutsNode blocks bound (page_of image) (shown drafts image) (xt_node form blocks bytes) (xt_node form blocks new) kept freed runs)
 leaf_done form blocks bound bytes new image drafts freed old runs (Err e) sound leaf none free empty rows gone kind some = tt
 leaf_done form blocks bound bytes new image drafts freed old runs (Ok kept) sound leaf none free empty rows gone kind some =
     let was = sound_leaf form blocks bytes sound leaf in
     let is = leaf_made form blocks bytes new (entries_of bytes) (kept_below bound (entries_of bytes)) sound leaf kind rows (kept_rises bound 0 (entries_of bytes) sound.order) (kept_within blocks bound (entries_of bytes) sound.range) in
     let keeps = subst (λ xs. KeepsSome xs kept) rows some in
-    subst (λ o. CutsNode bound (page_nodes blocks (page_of image)) (nodes (xt_node Full blocks) drafts image) o (xt_node form blocks new) kept freed runs) (sym was)
-    (subst (λ o. CutsNode bound (page_nodes blocks (page_of image)) (nodes (xt_node Full blocks) drafts image) (Leaf (entries_of bytes)) o kept freed runs) (sym is)
-    (leaf_cuts bound (page_nodes blocks (page_of image)) (nodes (xt_node Full blocks) drafts image) (entries_of bytes) kept freed runs (λ n. ap (λ ds. xt_node Full blocks (shown ds image n)) none) free
+    subst (λ o. CutsNode blocks bound (page_of image) (shown drafts image) o (xt_node form blocks new) kept freed runs) (sym was)
+    (subst (λ o. CutsNode blocks bound (page_of image) (shown drafts image) (Leaf (entries_of bytes)) o kept freed runs) (sym is)
+    (leaf_cuts blocks bound (page_of image) (shown drafts image) (entries_of bytes) kept freed runs (λ n. ap (λ ds. shown ds image n) none) free
     (gone ∙ ap (λ ps. ps ++ gone_past bound (entries_of bytes)) empty) (some_if (kept_below bound (entries_of bytes)) kept keeps) (none_if (kept_below bound (entries_of bytes)) kept keeps)))
 
 -- ---- a page that was cut is put or freed
@@ -100,21 +99,21 @@ itself : (n : ℕ) → (n == n) ≡ true
 itself n = grind (arith, nat_tests)
 
 pub page_settled : (blocks bound page : ℕ) (image view : Image) (bytes new : List ℕ) (kept : Bool) (one two : List Drafted) (first free : List ℕ) (runs later : List Pxd) → view ≡ image → bytes ≡ page_of image page
-    → CutsNode bound (page_nodes blocks (page_of view)) (nodes (xt_node Full blocks) one view) (xt_node Full blocks bytes) (xt_node Full blocks new) kept first runs → Settles kept page new one two first free → later ≡ runs
-    → CutsPage bound (page_nodes blocks (page_of image)) (nodes (xt_node Full blocks) two image) page kept free later
+    → CutsNode blocks bound (page_of view) (shown one view) (xt_node Full blocks bytes) (xt_node Full blocks new) kept first runs → Settles kept page new one two first free → later ≡ runs
+    → CutsPage blocks bound (page_of image) (shown two image) page kept free later
 page_settled blocks bound page image view bytes new kept one two first free runs later same is cuts settles run =
-    subst (CutsPage bound (page_nodes blocks (page_of image)) (nodes (xt_node Full blocks) two image) page kept free) (sym run)
-    (by kept (subst (λ b. CutsNode bound (page_nodes blocks (page_of image)) (nodes (xt_node Full blocks) one image) (xt_node Full blocks b) (xt_node Full blocks new) kept first runs) is
-    (subst (λ (i : Image). CutsNode bound (page_nodes blocks (page_of i)) (nodes (xt_node Full blocks) one i) (xt_node Full blocks bytes) (xt_node Full blocks new) kept first runs) same cuts)) settles)
+    subst (CutsPage blocks bound (page_of image) (shown two image) page kept free) (sym run)
+    (by kept (subst (λ b. CutsNode blocks bound (page_of image) (shown one image) (xt_node Full blocks b) (xt_node Full blocks new) kept first runs) is
+    (subst (λ (i : Image). CutsNode blocks bound (page_of i) (shown one i) (xt_node Full blocks bytes) (xt_node Full blocks new) kept first runs) same cuts)) settles)
   where
-    by : (kept : Bool) → CutsNode bound (page_nodes blocks (page_of image)) (nodes (xt_node Full blocks) one image) (page_nodes blocks (page_of image) page) (xt_node Full blocks new) kept first runs → Settles kept page new one two first free
-        → CutsPage bound (page_nodes blocks (page_of image)) (nodes (xt_node Full blocks) two image) page kept free runs
+    by : (kept : Bool) → CutsNode blocks bound (page_of image) (shown one image) (page_nodes blocks (page_of image) page) (xt_node Full blocks new) kept first runs → Settles kept page new one two first free
+        → CutsPage blocks bound (page_of image) (shown two image) page kept free runs
     by true cuts s =
-        subst (λ f. CutsPage bound (page_nodes blocks (page_of image)) (nodes (xt_node Full blocks) two image) page true f runs) (sym s.1)
-        (page_kept bound (page_nodes blocks (page_of image)) (nodes (xt_node Full blocks) one image) (nodes (xt_node Full blocks) two image) page (xt_node Full blocks new) first runs cuts
+        subst (λ f. CutsPage blocks bound (page_of image) (shown two image) page true f runs) (sym s.1)
+        (page_kept blocks bound (page_of image) (shown one image) (shown two image) page (xt_node Full blocks new) first runs cuts
         (ap (xt_node Full blocks) (s.0 image page ∙ ap (λ t. if t then new else shown one image page) (itself page)))
-        (λ n ne. ap (xt_node Full blocks) (s.0 image n ∙ ap (λ t. if t then new else shown one image n) (ne_eqb n page ne))))
-    by false cuts s = page_gone bound (page_nodes blocks (page_of image)) (nodes (xt_node Full blocks) one image) (nodes (xt_node Full blocks) two image) page (xt_node Full blocks new) first free runs cuts s.1 (λ n. ap (λ ds. xt_node Full blocks (shown ds image n)) s.0)
+        (λ n ne. s.0 image n ∙ ap (λ t. if t then new else shown one image n) (ne_eqb n page ne)))
+    by false cuts s = page_gone blocks bound (page_of image) (shown one image) (shown two image) page (xt_node Full blocks new) first free runs cuts s.1 (λ n. ap (λ ds. shown ds image n) s.0)
 
 -- ---- an inner page
 
@@ -158,12 +157,11 @@ pub left_some : (bytes new : List ℕ) (left : ℕ) (kept : Bool) → left ≤ c
 left_some bytes new left true l entries some none = let h = length_left bytes left l in let e = ap length entries in let s = some refl in omega (arith, h, e, s)
 left_some bytes new left false l entries some none = entries ∙ ap (λ n. take n (entries_of bytes)) (none refl)
 
-pub inner_done : (form : XtForm) (blocks bound last place left : ℕ) (k kept : Bool) (bytes new : List ℕ) (image : Image) (after : ℕ → Node ℕ Xad) (n : ℕ) (one freed : List ℕ) (first runs : List Pxd) → IsSound form blocks (head_of bytes) (entries_of bytes) → is_leaf (head_of bytes).flag ≡ false
+pub inner_done : (form : XtForm) (blocks bound last place left : ℕ) (k kept : Bool) (bytes new : List ℕ) (image : Image) (after : ℕ → List ℕ) (n : ℕ) (one freed : List ℕ) (first runs : List Pxd) → IsSound form blocks (head_of bytes) (entries_of bytes) → is_leaf (head_of bytes).flag ≡ false
     → last ≡ bound - 1 → LeadsAt bytes last place → n ≡ (entry_of bytes place).at.addr → left ≡ place + (if k then 1 else 0) → (kept ≡ true → 0 < left) → (kept ≡ false → left ≡ 0) → SameKind (head_of bytes) (head_of new) → entries_of new ≡ take left (entries_of bytes)
-    → CutsPage bound (page_nodes blocks (page_of image)) after n k one first → FreesUnder (page_nodes blocks (page_of image)) (drop (place + 1) (entries_of bytes)) one freed first runs
-    → CutsNode bound (page_nodes blocks (page_of image)) after (xt_node form blocks bytes) (xt_node form blocks new) kept freed runs
+    → CutsPage blocks bound (page_of image) after n k one first → FreesUnder (page_nodes blocks (page_of image)) (drop (place + 1) (entries_of bytes)) one freed first runs
+    → CutsNode blocks bound (page_of image) after (xt_node form blocks bytes) (xt_node form blocks new) kept freed runs
 inner_done form blocks bound last place left k kept bytes new image after n one freed first runs sound flag is_last leads at is_left some none kind entries cuts frees =
-    let before = page_nodes blocks (page_of image) in
     let a = take place (entries_of bytes) in
     let b = drop (place + 1) (entries_of bytes) in
     let size = length-entries bytes 0 (count_of bytes) in
@@ -171,8 +169,8 @@ inner_done form blocks bound last place left k kept bytes new image after n one 
     let long = length_front bytes place inside in
     let was = sound_inner form blocks bytes sound flag (omega (arith, size, inside)) ∙ ap (λ xs. Inner (map child_of xs)) (cut_at bytes place inside) ∙ ap (λ cs. Inner cs) (map_cut a (entry_of bytes place) b) in
     let most : left ≤ count_of bytes = fits k is_left inside in
-    subst (λ o. CutsNode bound before after o (xt_node form blocks new) kept freed runs) (sym was)
-    (inner_cuts bound before after (map child_of a) (child_of (entry_of bytes place)) b k kept (xt_node form blocks new) one freed first runs (subst (λ m. CutsPage bound before after m k one first) at cuts) frees
+    subst (λ o. CutsNode blocks bound (page_of image) after o (xt_node form blocks new) kept freed runs) (sym was)
+    (inner_cuts blocks bound (page_of image) after (map child_of a) (child_of (entry_of bytes place)) b k kept (xt_node form blocks new) one freed first runs (subst (λ m. CutsPage blocks bound (page_of image) after m k one first) at cuts) frees
     (above_of bound a (child_of (entry_of bytes place)) (λ h. let l = leads.above (omega (arith, h, long)) in omega (arith, l, is_last)))
     (first_of_all bound b (from_place bytes bound (place + 1) (omega (arith, inside)) (λ j p q. let l = leads.past j (omega (arith, p)) q in omega (arith, l, is_last))))
     (λ e. let s = some e in let m = length_left bytes left most in (

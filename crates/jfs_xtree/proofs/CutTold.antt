@@ -2,14 +2,17 @@
 use Rattle.std.proofs.Common.{◌≡◌, ◌<◌, refl, sym, ap, ◌∙◌, ℕ, ◌+◌, List, [], ◌∷◌, ◌++◌, length, take, get_or, append_assoc}
 use Rattle.std.proofs.lemmas.Grind.{take_at_read}
 use Rattle.jfs_bits.specs.declared.descriptor.Pxd.{Pxd}
-use Rattle.jfs_disk.specs.Image.{Image}
+use Rattle.jfs_bits.specs.declared.rule.PageKind.TheVariants.{Xtree}
+use Rattle.jfs_disk.specs.Image.{Image, page_of}
 use Rattle.jfs_ranges.specs.declared.edit.Edit.{Edit}
 use Rattle.jfs_ranges.specs.declared.edit.Edit.TheVariants.{Free}
 use Rattle.jfs_ranges.specs.Apply.{apply_edit, apply_tx}
 use Rattle.jfs_tree.specs.Removes.{page_frees}
-use Rattle.jfs_tree.specs.Tell.{TellsDraft}
+use Rattle.jfs_tree.specs.Tell.{TellsDraft, TellsExactly}
+use Rattle.jfs_tree.specs.Changes.{TellsChanges}
 use Rattle.jfs_tree.specs.declared.draft.Drafted.{Drafted}
 use Rattle.jfs_tree.proofs.Removes.{told_freed}
+use Rattle.jfs_tree.proofs.Changed.{changes}
 use Rattle.jfs_xtree.specs.Cutting.{run_frees}
 
 runs_last : (ps : List Pxd) (p : Pxd) → run_frees (ps ++ p ∷ []) ≡ run_frees ps ++ Free p ∷ []
@@ -31,3 +34,8 @@ pub told_cut : (blocks : ℕ) (image : Image) (drafts : List Drafted) (tx copy l
 told_cut blocks image drafts tx copy later more ns ps is e told = λ m h content l here.
     ap (λ es. apply_tx m es content) (e ∙ sym (append_assoc later (page_frees ns) (run_frees ps))) ∙ runs_leave m (later ++ page_frees ns) ps content
     ∙ told_freed blocks image drafts tx copy later (later ++ page_frees ns) ns is refl told m h content l here
+
+-- the changed lines of different pages, and then what is freed
+pub changes_cut : (blocks : ℕ) (image : Image) (drafts : List Drafted) (tx copy later more : List Edit) (ns : List ℕ) (ps : List Pxd) → copy ≡ tx → more ≡ later ++ (page_frees ns ++ run_frees ps) → TellsExactly blocks image [] Xtree drafts copy later
+    → TellsDraft blocks image drafts copy later → TellsChanges blocks Xtree [] (page_of image) (page_frees ns ++ run_frees ps) tx more
+changes_cut blocks image drafts tx copy later more ns ps is e are told = changes blocks image [] Xtree drafts tx copy later more (page_frees ns ++ run_frees ps) is e are (told_cut blocks image drafts tx copy later more ns ps is e told)

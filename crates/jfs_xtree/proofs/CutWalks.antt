@@ -5,7 +5,7 @@ use Rattle.std.proofs.lemmas.Bool.{leb-true, leb-false, le-leb}
 use Rattle.jfs_bits.specs.declared.extent.Xad.{Xad}
 use Rattle.jfs_bits.specs.declared.descriptor.Pxd.{Pxd}
 use Rattle.jfs_bits.specs.declared.rule.Rule.TheVariants as rules
-use Rattle.jfs_tree.specs.Walk.{Child, Node, Leaf, Broken, Page, Key, Row, Fault, Marks, UpTo, Rises, rows_of, times, placed, body, walk}
+use Rattle.jfs_tree.specs.Walk.{Child, Leaf, Broken, Page, Key, Row, Fault, Marks, UpTo, Rises, rows_of, times, placed, body, walk}
 use Rattle.jfs_tree.specs.Edit.{count_in, bound, FitsFirst}
 use Rattle.jfs_tree.proofs.Rising.{upto_lower, rises_lower, rises_cut}
 use Rattle.jfs_tree.proofs.Between.{append_nil}
@@ -15,6 +15,7 @@ use Rattle.jfs_xtpage.specs.Page.{end_of}
 use Rattle.jfs_xtree.specs.Laws.{order, ends_after}
 use Rattle.jfs_xtree.specs.Node.{xt_scale}
 use Rattle.jfs_xtree.specs.Cutting.{up_to, kept_below, gone_past}
+use Rattle.jfs_xtree.specs.Spells.{page_nodes}
 use Rattle.jfs_xtree.specs.CutParts.{CutsNode, AllFrom, shows}
 use Rattle.jfs_xtree.proofs.CutRows.{kept_none, gone_all, kept_first, gone_first}
 
@@ -103,27 +104,31 @@ leaf_shows f c (e ∷ es) high r = by (xt_scale.fits c.key e) r
     by false r = absurd r
 
 -- a leaf that keeps its extents below the bound
-pub leaf_cuts : (bound : ℕ) (before after : ℕ → Node ℕ Xad) (es : List Xad) (kept : Bool) (freed : List ℕ) (runs : List Pxd) → ((n : ℕ) → after n ≡ before n) → freed ≡ [] → runs ≡ gone_past bound es → (kept ≡ true → 0 < length (kept_below bound es)) → (kept ≡ false → kept_below bound es ≡ [])
-    → CutsNode bound before after (Leaf es) (Leaf (kept_below bound es)) kept freed runs
-leaf_cuts bound before after es kept freed runs same none gone some gone_all (suc below) c high r once = absurd r
-leaf_cuts bound before after es true freed runs same none gone some nothing zero c high r once =
-    let t = leaf_shows (walk xt_scale before zero) c es high r in
+pub leaf_cuts : (blocks bound : ℕ) (before after : ℕ → List ℕ) (es : List Xad) (kept : Bool) (freed : List ℕ) (runs : List Pxd) → ((n : ℕ) → after n ≡ before n) → freed ≡ [] → runs ≡ gone_past bound es → (kept ≡ true → 0 < length (kept_below bound es)) → (kept ≡ false → kept_below bound es ≡ [])
+    → CutsNode blocks bound before after (Leaf es) (Leaf (kept_below bound es)) kept freed runs
+leaf_cuts blocks bound before after es kept freed runs same none gone some gone_all (suc below) c high r once = absurd r
+leaf_cuts blocks bound before after es true freed runs same none gone some nothing zero c high r once =
+    let t = leaf_shows (walk xt_scale (page_nodes blocks before) zero) c es high r in
     let rr = subst (λ ms. Rises xt_scale c.key ms high) t.0 r in
     let fits = fits_kept bound c.key c.key c.page es high rr t.1 (some refl) in
-    let new : shows after zero c (Leaf (kept_below bound es)) ≡ map (Row c.page) (kept_below bound es) = ap (body (walk xt_scale after zero) c) (placed_leaf xt_scale c.key (kept_below bound es) fits) in
-    record {
-      rows = ap rows_of new ∙ rows_leaf ℕ c.page (kept_below bound es) ∙ sym (ap (kept_below bound) (ap rows_of t.0 ∙ rows_leaf ℕ c.page es));
-      gone = gone ∙ sym (ap (gone_past bound) (ap rows_of t.0 ∙ rows_leaf ℕ c.page es));
-      rises = subst (λ ms. Rises xt_scale c.key ms high) (sym new) (rises_kept bound c.page c.key es high rr);
-      pages = λ n. (let a = ap (times n) new in let b = times_leaf ℕ n c.page (kept_below bound es) in let d = ap (times n) t.0 in let e = times_leaf ℕ n c.page es in let f = ap (count_in n) none in omega (arith, a, b, d, e, f));
-      keeps = λ n z. same n;
-    }
-leaf_cuts bound before after es false freed runs same none gone some nothing zero c high r once =
-    let t = leaf_shows (walk xt_scale before zero) c es high r in
-    record {
-      rows = sym (ap (kept_below bound) (ap rows_of t.0 ∙ rows_leaf ℕ c.page es) ∙ nothing refl);
-      gone = gone ∙ sym (ap (gone_past bound) (ap rows_of t.0 ∙ rows_leaf ℕ c.page es));
-      rises = span c.key (shows before zero c (Leaf es)) high r;
-      pages = λ n. (let d = ap (times n) t.0 in let e = times_leaf ℕ n c.page es in let f = ap (count_in n) none in omega (arith, d, e, f));
-      keeps = λ n z. same n;
-    }
+    let new : shows (page_nodes blocks after) zero c (Leaf (kept_below bound es)) ≡ map (Row c.page) (kept_below bound es) = ap (body (walk xt_scale (page_nodes blocks after) zero) c) (placed_leaf xt_scale c.key (kept_below bound es) fits) in (
+      record {
+        rows = ap rows_of new ∙ rows_leaf ℕ c.page (kept_below bound es) ∙ sym (ap (kept_below bound) (ap rows_of t.0 ∙ rows_leaf ℕ c.page es));
+        gone = gone ∙ sym (ap (gone_past bound) (ap rows_of t.0 ∙ rows_leaf ℕ c.page es));
+        rises = subst (λ ms. Rises xt_scale c.key ms high) (sym new) (rises_kept bound c.page c.key es high rr);
+        pages = λ n. (let a = ap (times n) new in let b = times_leaf ℕ n c.page (kept_below bound es) in let d = ap (times n) t.0 in let e = times_leaf ℕ n c.page es in let f = ap (count_in n) none in omega (arith, a, b, d, e, f));
+        keeps = λ n z. same n;
+      },
+      λ e depth line. tt,
+    )
+leaf_cuts blocks bound before after es false freed runs same none gone some nothing zero c high r once =
+    let t = leaf_shows (walk xt_scale (page_nodes blocks before) zero) c es high r in (
+      record {
+        rows = sym (ap (kept_below bound) (ap rows_of t.0 ∙ rows_leaf ℕ c.page es) ∙ nothing refl);
+        gone = gone ∙ sym (ap (gone_past bound) (ap rows_of t.0 ∙ rows_leaf ℕ c.page es));
+        rises = span c.key (shows (page_nodes blocks before) zero c (Leaf es)) high r;
+        pages = λ n. (let d = ap (times n) t.0 in let e = times_leaf ℕ n c.page es in let f = ap (count_in n) none in omega (arith, d, e, f));
+        keeps = λ n z. same n;
+      },
+      λ e depth line. tt,
+    )

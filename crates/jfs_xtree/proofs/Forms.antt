@@ -1,7 +1,7 @@
 -- What the calls of a page's form leave, from what its parts say.
-use Rattle.std.proofs.Common.{◌≡◌, ◌≤◌, ◌<◌, ◌⊎◌, inl, inr, refl, sym, ap, ◌∙◌, subst, ℕ, ◌+◌, ◌-◌, ◌*◌, ◌/◌, ◌%◌, ◌==◌, ◌||◌, ◌&&◌, List, [], ◌∷◌, ◌++◌, map, length, take, drop, Bool, true, false, arith}
+use Rattle.std.proofs.Common.{◌≡◌, ◌≤◌, ◌<◌, ◌⊎◌, inl, inr, refl, sym, ap, ◌∙◌, subst, ℕ, suc, ◌+◌, ◌-◌, ◌*◌, ◌/◌, ◌%◌, ◌==◌, ◌||◌, ◌&&◌, List, [], ◌∷◌, ◌++◌, map, length, take, drop, Bool, true, false, arith}
 use Rattle.std.specs.Prelude.{nat_le}
-use Rattle.std.proofs.lemmas.Bool.{le-leb, leb-true, cases_lt}
+use Rattle.std.proofs.lemmas.Bool.{le-leb, leb-true, ne_eqb, cases_lt}
 use Rattle.std.proofs.lemmas.Bool.Decides.{nat_tests}
 use Rattle.jfs_bits.specs.declared.extent.Xad.{Xad}
 use Rattle.jfs_bits.specs.declared.descriptor.Pxd.{Pxd}
@@ -13,6 +13,7 @@ use Rattle.jfs_xtpage.specs.declared.head.XtForm.{XtForm}
 use Rattle.jfs_xtpage.specs.declared.head.XtForm.TheVariants.{Root, Full, Small}
 use Rattle.jfs_xtpage.specs.declared.head.XtHead.{XtHead}
 use Rattle.jfs_xtpage.specs.Page.{head_of, entries_of, count_of, rises_from, new_head, kind_flag, IsRising}
+use Rattle.jfs_xtpage.proofs.Entries.{length-entries}
 use Rattle.jfs_xtree.specs.Node.{xt_scale, xt_node, fits_flag, fits_max, fits_count, is_leaf, is_within, all_within, child_of, child_entry, with_at, IsGood, IsRoot, HasNoRoom, IsSound, SameKind, BeginsAt, IsPlace, GoesBetween}
 use Rattle.jfs_xtree.proofs.Reading.{leaf_is, inner_is, is_rising, and_true, sound_inner}
 use Rattle.jfs_xtree.proofs.Pages.{IsNew, leaf_made, new_leaf, new_inner, rises_entry, within_entry, rises_front, rises_back, within_front, within_back, parts_rows}
@@ -177,3 +178,14 @@ kind_through old mid new same k = subst (λ (h : XtHead). SameKind h (head_of ne
 
 pub new_as : (form : XtForm) (bytes : List ℕ) (leaf : Bool) (at : Pxd) → form ≡ Full → head_of bytes ≡ new_head form leaf at → head_of bytes ≡ new_head Full leaf at
 new_as form bytes leaf at is made = made ∙ ap (λ f. new_head f leaf at) is
+
+-- ---- a leaf without entries
+
+bare_as : (es : List Xad) (n : ℕ) → length es ≡ n - 2 → 2 ≤ n → (n == 2) ≡ (length es == 0)
+bare_as [] n is least = ap (λ m. m == 2) (let h : n ≡ 2 = omega (arith, is, least) in h)
+bare_as (x ∷ es) n is least = ne_eqb n 2 (λ h. omega (arith, is, h)) ∙ sym (ne_eqb (suc (length es)) 0 (λ h. omega (arith, h)))
+
+pub bare_is : (form : XtForm) (blocks next : ℕ) (bytes : List ℕ) → next ≡ field_of bytes 18 2 → (es : List Xad) → xt_node form blocks bytes ≡ Leaf es → (next == 2) ≡ (length es == 0)
+bare_is form blocks next bytes is es leaf =
+    let t = leaf_is form blocks bytes es leaf in
+    ap (λ n. n == 2) is ∙ bare_as es (field_of bytes 18 2) (ap length (sym t.2) ∙ length-entries bytes 0 (count_of bytes)) (leb-true 2 (field_of bytes 18 2) (and_true (nat_le 2 (field_of bytes 18 2)) (nat_le (field_of bytes 18 2) (field_of bytes 20 2)) t.0.count).0)

@@ -1,5 +1,5 @@
 -- Children of an inner page: the way through it, and one more behind a place.
-use Rattle.std.proofs.Common.{◌≡◌, ◌≤◌, ◌<◌, ◌⊎◌, inl, inr, refl, sym, ap, ◌∙◌, subst, ℕ, zero, suc, ◌+◌, ◌-◌, ◌==◌, List, [], ◌∷◌, ◌++◌, map, length, take, drop, Bool, true, false, if◌then◌else◌, arith}
+use Rattle.std.proofs.Common.{◌≡◌, ◌≤◌, ◌<◌, ◌⊎◌, inl, inr, refl, sym, ap, ◌∙◌, subst, ℕ, zero, suc, ◌+◌, ◌-◌, ◌==◌, List, [], ◌∷◌, ◌++◌, map, length, take, drop, Bool, true, false, if◌then◌else◌, Some, arith}
 use Rattle.std.specs.Prelude.{nat_le, ⊤}
 use Rattle.std.proofs.lemmas.Bool.{leb-true, leb-false, le-leb, lt-leb}
 use Rattle.std.proofs.lemmas.Bool.Decides.{nat_tests}
@@ -9,6 +9,7 @@ use Rattle.jfs_bits.specs.Field.{field_of}
 use Rattle.jfs_tree.specs.Walk.{Child, Inner, under}
 use Rattle.jfs_tree.specs.Edit.{IsPast, IsCons, KeysAbove, KeysRise}
 use Rattle.jfs_tree.specs.Form.{AtPlace, HasChildren, LeadsDown, SplitsChildren}
+use Rattle.jfs_tree.proofs.Path.{AllPast, leads_alone}
 use Rattle.jfs_xtpage.specs.declared.head.XtForm.{XtForm}
 use Rattle.jfs_xtpage.specs.Page.{head_of, entries_of, entries_from, entry_of, count_of, end_of, rises_from}
 use Rattle.jfs_xtpage.proofs.Entries.{length-entries, replaced, last}
@@ -74,6 +75,10 @@ past_list : (bytes : List ℕ) (x : Xad) (p m : ℕ) → (0 < m → x.offset < (
 past_list bytes x p zero h = tt
 past_list bytes x p (suc m) h = lt-leb (entry_of bytes p).offset x.offset (h (omega arith))
 
+all_past : (bytes : List ℕ) (x : Xad) (p m : ℕ) → ((j : ℕ) → p ≤ j → j < p + m → x.offset < (entry_of bytes j).offset) → AllPast xt_scale x.offset (map child_of (entries_from bytes p m))
+all_past bytes x p zero h = tt
+all_past bytes x p (suc m) h = (lt-leb (entry_of bytes p).offset x.offset (h p (omega arith) (omega arith)), all_past bytes x (suc p) m (λ j a l. h j (omega (arith, a)) (omega (arith, l))))
+
 nothing : (bytes : List ℕ) → take 0 (entries_of bytes) ≡ []
 nothing bytes = refl
 
@@ -89,6 +94,12 @@ leads_down form blocks bytes x place page is at to = record {
   past = subst (λ xs. IsPast xt_scale x (map child_of xs)) (last bytes 0 (place + 1) (count_of bytes) (place + 1) (count_of bytes - (place + 1)) (let w = at.within in omega (arith, w)) (omega arith))
       (past_list bytes x (place + 1) (count_of bytes - (place + 1)) (λ h. at.past (place + 1) (omega arith) (omega (arith, h))));
   above = side place at.above;
+  alone = leads_alone xt_scale x.offset (xt_node form blocks bytes) (map child_of (take place (entries_of bytes))) (child_of (entry_of bytes place)) (map child_of (drop (place + 1) (entries_of bytes)))
+      (is ∙ ap (λ xs. Inner (map child_of xs)) (cut_at bytes place at.within) ∙ ap (λ cs. Inner cs) (map_cut (take place (entries_of bytes)) (entry_of bytes place) (drop (place + 1) (entries_of bytes))))
+      (side place at.above)
+      (subst (λ xs. AllPast xt_scale x.offset (map child_of xs)) (last bytes 0 (place + 1) (count_of bytes) (place + 1) (count_of bytes - (place + 1)) (let w = at.within in omega (arith, w)) (omega arith))
+      (all_past bytes x (place + 1) (count_of bytes - (place + 1)) (λ j a l. at.past j (omega (arith, a)) (let w = at.within in omega (arith, l, w)))))
+      ∙ ap Some (sym to);
 }
   where
     side : (place : ℕ) → (0 < place → (entry_of bytes place).offset ≤ x.offset) → (map child_of (take place (entries_of bytes)) ≡ []) ⊎ (nat_le (entry_of bytes place).offset x.offset ≡ true)

@@ -15,3 +15,9 @@ pub mod CutSteps
 pub mod CutTold
 pub mod CutRoots
 pub mod Entered
+pub mod Written
+pub mod WrittenIn
+pub mod Trims
+pub mod WriteSteps
+pub mod WriteCalls
+mod Halves

@@ -8,6 +8,7 @@ use Rattle.jfs_bits.specs.declared.rule.Rule.TheVariants as rules
 use Rattle.jfs_bits.specs.Field.{field_of}
 use Rattle.jfs_bits.specs.Broken.{IsFirstBroken}
 use Rattle.jfs_tree.specs.Walk.{Child, Node, Leaf, Inner, Broken}
+use Rattle.jfs_tree.specs.Path.{below_root}
 use Rattle.jfs_xtpage.specs.declared.head.XtForm.{XtForm}
 use Rattle.jfs_xtpage.specs.declared.head.XtForm.TheVariants.{Root, Full, Small}
 use Rattle.jfs_xtpage.specs.declared.head.XtHead.{XtHead}
@@ -141,6 +142,14 @@ broken_deep form blocks bytes s kind e =
 
 pub sound_leaf : (form : XtForm) (blocks : ℕ) (bytes : List ℕ) → IsSound form blocks (head_of bytes) (entries_of bytes) → is_leaf (head_of bytes).flag ≡ true → xt_node form blocks bytes ≡ Leaf (entries_of bytes)
 sound_leaf form blocks bytes s kind = sound_node form blocks bytes s ∙ ap (λ b. by_kind b (entries_of bytes)) kind
+
+-- a page without entries, below a root
+pub empty_breaks : (form : XtForm) (blocks : ℕ) (bytes : List ℕ) → IsSound form blocks (head_of bytes) (entries_of bytes) → (head_of bytes).nextindex ≡ 2 → below_root (xt_node form blocks bytes) ≡ Broken rules.Deep
+empty_breaks form blocks bytes s e = by (is_leaf (head_of bytes).flag) refl
+  where
+    by : (kind : Bool) → is_leaf (head_of bytes).flag ≡ kind → below_root (xt_node form blocks bytes) ≡ Broken rules.Deep
+    by true kind = ap below_root (sound_leaf form blocks bytes s kind) ∙ ap (λ n. below_root (by_kind true (entries_from bytes 0 n))) (let z : field_of bytes 18 2 - 2 ≡ 0 = omega (arith, e) in z)
+    by false kind = ap below_root (broken_deep form blocks bytes s kind e)
 
 inner_kind : (xs : List Xad) → 0 < length xs → by_kind false xs ≡ Inner (map child_of xs)
 inner_kind [] h = absurd (omega (arith, h))

@@ -1,5 +1,8 @@
 -- Roots by their size, and what is found and refused, as the calls say it.
-use Rattle.std.proofs.Common.{◌≡◌, inl, inr, ◌≤◌, refl, sym, ap, ◌∙◌, subst, ℕ, ◌+◌, List, [], true, Option, Ok, arith}
+use Rattle.std.proofs.Common.{◌≡◌, inl, inr, ◌≤◌, refl, sym, ap, ◌∙◌, subst, ℕ, ◌+◌, List, [], true, Option, Some, None, Ok, Err, arith}
+use Rattle.jfs_bits.specs.declared.rule.Rule.{Rule}
+use Rattle.jfs_tree.specs.Path.{broken_on_way, TellsBroken}
+use Rattle.jfs_xtree.specs.declared.error.XtError.{XtError}
 use Rattle.jfs_bits.specs.declared.extent.Xad.{Xad}
 use Rattle.jfs_disk.specs.Image.{Image, page_of}
 use Rattle.jfs_tree.specs.Walk.{Node, Leaf}
@@ -15,7 +18,7 @@ use Rattle.jfs_xtpage.specs.declared.head.XtHead.{XtHead}
 use Rattle.jfs_bits.specs.declared.descriptor.Pxd.{Pxd}
 use Rattle.jfs_xtpage.specs.Page.{bytes_of, head_of, entries_of, new_head, slots_of}
 use Rattle.jfs_xtree.specs.Node.{xt_scale, xt_node, IsRoot}
-use Rattle.jfs_xtree.specs.Spells.{IsRootSize, root_form, page_nodes, point, tree_error}
+use Rattle.jfs_xtree.specs.Spells.{IsRootSize, root_form, page_nodes, point, tree_error, TellsWay}
 use Rattle.jfs_xtree.specs.Errors.{handed_on}
 use Rattle.std.proofs.lemmas.Bool.{leb-false, le-leb, lt-leb}
 use Rattle.jfs_xtree.proofs.Pages.{new_leaf}
@@ -49,6 +52,21 @@ pub names_as : (b blocks : ℕ) (form rf : XtForm) (image : Image) (root : List 
 names_as b blocks form rf image root e eb ef h =
     names_on (page_nodes blocks (page_of image)) (xt_node rf blocks root) e
     (subst (λ f. NamesBroken xt_scale (pages_of (xt_node Full blocks) image) (xt_node f blocks root) e) ef (subst (λ k. NamesBroken xt_scale (pages_of (xt_node Full k) image) (xt_node form k root) e) eb h))
+
+pub first_as : (b blocks : ℕ) (form rf : XtForm) (x : Xad) (offset : ℕ) (image : Image) (root : List ℕ) → b ≡ blocks → form ≡ rf → x.offset ≡ offset
+    → broken_on_way xt_scale (page_nodes b (page_of image)) x.offset (xt_node form b root) ≡ broken_on_way xt_scale (page_nodes blocks (page_of image)) offset (xt_node rf blocks root)
+first_as b blocks form rf x offset image root eb ef ex =
+    ap (λ k. broken_on_way xt_scale (page_nodes k (page_of image)) x.offset (xt_node form k root)) eb
+    ∙ ap (λ f. broken_on_way xt_scale (page_nodes blocks (page_of image)) x.offset (xt_node f blocks root)) ef
+    ∙ ap (λ at. broken_on_way xt_scale (page_nodes blocks (page_of image)) at (xt_node rf blocks root)) ex
+
+pub told_failed : (first later : Option (ℕ × Rule)) (e : TreeError) (r : XtError) → r ≡ handed_on e → first ≡ later → TellsBroken {T = Unit {0}} first (Err e) → TellsWay {T = Unit {0}} later (Err r)
+told_failed first later e r is same h = subst (λ d. TellsWay {T = Unit {0}} later (Err d)) (sym is) (by e h)
+  where
+    by : (e : TreeError) → TellsBroken {T = Unit {0}} first (Err e) → TellsWay {T = Unit {0}} later (Err (handed_on e))
+    by (View v) h = tt
+    by (Bad page rule) h = sym same ∙ h
+    by Memory h = tt
 
 -- a root without extents
 pub new_leaf_root : (form rf : XtForm) (blocks : ℕ) (bytes : List ℕ) (at : Pxd) → form ≡ rf → head_of bytes ≡ new_head form true at → entries_of bytes ≡ [] → xt_node rf blocks bytes ≡ Leaf []

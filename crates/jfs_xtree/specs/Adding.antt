@@ -3,6 +3,7 @@ use Rattle.std.specs.Prelude.{ℕ, List, length}
 use Rattle.jfs_bits.specs.declared.extent.Xad.{Xad}
 use Rattle.jfs_ranges.specs.declared.edit.Edit.{Edit}
 use Rattle.jfs_tree.specs.Adds.{on_page, AddsTold, RefusesWhereFull}
+use Rattle.jfs_tree.specs.Filled.{NoThinTold}
 use Rattle.jfs_tree.specs.Room.{FullFrom, TakesWhereFull}
 use Rattle.jfs_tree.specs.declared.form.TreeError.{TreeError}
 use Rattle.jfs_xtpage.specs.declared.head.XtForm.TheVariants.{Full}
@@ -13,6 +14,10 @@ use Rattle.jfs_xtree.specs.Spells.{page_nodes, root_form, root_node}
 -- all edits lead to pages in which the root spells one extent more. The pages that it has more are the free ones that aren't left, and no other page of the file system reads otherwise.
 abbrev pub AddsExtent : ℕ → (ℕ → List ℕ) → Xad → List ℕ → List ℕ → List ℕ → List ℕ → List Edit → List Edit → Type 0
 AddsExtent blocks pages x root after free left tx later = AddsTold xt_scale (xt_node Full blocks) blocks pages x (root_node blocks root) (xt_node (root_form (length root)) blocks after) free left tx later
+
+-- And where each page but the last of its level held at least 64 entries, each does.
+abbrev pub KeepsNoThin : ℕ → (ℕ → List ℕ) → Xad → List ℕ → List ℕ → List ℕ → List Edit → List Edit → Type 0
+KeepsNoThin blocks pages x root after free tx later = NoThinTold xt_scale (xt_node Full blocks) blocks pages x (root_node blocks root) (xt_node (root_form (length root)) blocks after) free tx later
 
 -- no slot of a root is left
 abbrev pub NoRoomAtRoot : List ℕ → Type 0

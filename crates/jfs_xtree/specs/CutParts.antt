@@ -6,14 +6,16 @@ use Rattle.jfs_bits.specs.declared.descriptor.Pxd.{Pxd}
 use Rattle.jfs_tree.specs.Walk.{Child, Node, Marks, Rises, rows_of, times, placed, body, walk}
 use Rattle.jfs_tree.specs.Edit.{count_in}
 use Rattle.jfs_tree.specs.Shrink.{kept_of}
+use Rattle.jfs_tree.specs.Levels.{InLine, IsFilled, pages_below}
 use Rattle.jfs_tree.specs.Call.{Breaks}
 use Rattle.jfs_tree.specs.declared.form.TreeError.{TreeError}
 use Rattle.jfs_tree.specs.declared.form.TreeError.TheVariants.{View, Bad, Memory}
 use Rattle.jfs_xtree.specs.Node.{xt_scale}
+use Rattle.jfs_xtree.specs.Spells.{page_nodes}
 use Rattle.jfs_xtree.specs.Cutting.{kept_below, gone_past}
 
--- A part was cut: its entries are those below the bound, its pages are those that it has still and those that are free now, and no other page changed.
-pub record CutPart (bound : ℕ) (before after : ℕ → Node ℕ Xad) (low : ℕ) (old new : Marks ℕ Xad) (high : Option ℕ) (freed : List ℕ) (runs : List Pxd) : Type 0 where
+-- A part was cut: its entries are those below the bound, its pages are those that it has still and those that are free now, and each page that isn't its own now keeps its bytes.
+pub record CutPart (bound : ℕ) (before after : ℕ → List ℕ) (low : ℕ) (old new : Marks ℕ Xad) (high : Option ℕ) (freed : List ℕ) (runs : List Pxd) : Type 0 where
   pub rows : rows_of new ≡ kept_below bound (rows_of old)
   pub gone : runs ≡ gone_past bound (rows_of old)
   pub rises : Rises xt_scale low new high
@@ -27,15 +29,26 @@ shows nodes below c node = body (walk xt_scale nodes below) c (placed xt_scale b
 abbrev pub if_kept : Bool → Marks ℕ Xad → Marks ℕ Xad
 if_kept kept ms = if kept then ms else []
 
+-- where the levels below the old node were filled, those below the new one are
+abbrev pub FillsNode : ℕ → (ℕ → List ℕ) → (ℕ → List ℕ) → Node ℕ Xad → Node ℕ Xad → Type 0
+FillsNode blocks before after old new = (depth : ℕ) → InLine (IsFilled (page_nodes blocks before) depth) true (pages_below old) → InLine (IsFilled (page_nodes blocks after) depth) true (pages_below new)
+
+abbrev pub FillsPage : ℕ → (ℕ → List ℕ) → (ℕ → List ℕ) → ℕ → Type 0
+FillsPage blocks before after page = (depth : ℕ) → IsFilled (page_nodes blocks before) depth true page → IsFilled (page_nodes blocks after) depth true page
+
 -- a page was cut that read as the old node, and reads as the new one where anything is left
-abbrev pub CutsNode : ℕ → (ℕ → Node ℕ Xad) → (ℕ → Node ℕ Xad) → Node ℕ Xad → Node ℕ Xad → Bool → List ℕ → List Pxd → Type 0
-CutsNode bound before after old new kept freed runs = (below : ℕ) (c : Child ℕ) (high : Option ℕ) → Rises xt_scale c.key (shows before below c old) high → ((n : ℕ) → times n (shows before below c old) ≤ 1)
-    → CutPart bound before after c.key (shows before below c old) (if_kept kept (shows after below c new)) high freed runs
+abbrev pub CutsNode : ℕ → ℕ → (ℕ → List ℕ) → (ℕ → List ℕ) → Node ℕ Xad → Node ℕ Xad → Bool → List ℕ → List Pxd → Type 0
+CutsNode blocks bound before after old new kept freed runs = (below : ℕ) (c : Child ℕ) (high : Option ℕ)
+    → Rises xt_scale c.key (shows (page_nodes blocks before) below c old) high → ((n : ℕ) → times n (shows (page_nodes blocks before) below c old) ≤ 1)
+    → CutPart bound before after c.key (shows (page_nodes blocks before) below c old) (if_kept kept (shows (page_nodes blocks after) below c new)) high freed runs
+    × (kept ≡ true → FillsNode blocks before after old new)
 
 -- the part below a page was cut, wherever it rises: the page is kept, or is free too
-abbrev pub CutsPage : ℕ → (ℕ → Node ℕ Xad) → (ℕ → Node ℕ Xad) → ℕ → Bool → List ℕ → List Pxd → Type 0
-CutsPage bound before after page kept freed runs = (levels key low : ℕ) (high : Option ℕ) → Rises xt_scale low (walk xt_scale before levels (record { key = key; page = page })) high
-    → CutPart bound before after low (walk xt_scale before levels (record { key = key; page = page })) (flat_map (walk xt_scale after levels) (kept_of kept (record { key = key; page = page }))) high freed runs
+abbrev pub CutsPage : ℕ → ℕ → (ℕ → List ℕ) → (ℕ → List ℕ) → ℕ → Bool → List ℕ → List Pxd → Type 0
+CutsPage blocks bound before after page kept freed runs = (levels key low : ℕ) (high : Option ℕ) → Rises xt_scale low (walk xt_scale (page_nodes blocks before) levels (record { key = key; page = page })) high
+    → CutPart bound before after low (walk xt_scale (page_nodes blocks before) levels (record { key = key; page = page }))
+    (flat_map (walk xt_scale (page_nodes blocks after) levels) (kept_of kept (record { key = key; page = page }))) high freed runs
+    × (kept ≡ true → FillsPage blocks before after page)
 
 -- the pages of children, and of entries
 abbrev pub pages_of_children : List (Child ℕ) → List ℕ

@@ -5,10 +5,13 @@ use Rattle.jfs_bits.specs.declared.descriptor.Pxd.{Pxd}
 use Rattle.jfs_ranges.specs.declared.edit.Edit.{Edit}
 use Rattle.jfs_ranges.specs.declared.edit.Edit.TheVariants.{Free}
 use Rattle.jfs_tree.specs.Edit.{count_in}
-use Rattle.jfs_tree.specs.Spells.{spells, footprint}
+use Rattle.jfs_tree.specs.Spells.{spells, footprint, with_root}
+use Rattle.jfs_tree.specs.Levels.{HasNoThin}
 use Rattle.jfs_tree.specs.Fresh.{LeadsTo, after_tx}
 use Rattle.jfs_tree.specs.Removes.{page_frees}
 use Rattle.jfs_tree.specs.Tell.{TellsThen}
+use Rattle.jfs_tree.specs.Changes.{TellsChanges}
+use Rattle.jfs_bits.specs.declared.rule.PageKind.TheVariants.{Xtree}
 use Rattle.jfs_xtpage.specs.Page.{end_of}
 use Rattle.jfs_xtree.specs.Node.{xt_scale, xt_node}
 use Rattle.jfs_xtree.specs.Spells.{page_nodes, root_form, spells_extents, owned_pages}
@@ -35,11 +38,17 @@ abbrev pub run_frees : List Pxd → List Edit
 run_frees [] = []
 run_frees (p ∷ ps) = Free p ∷ run_frees ps
 
--- A root that spelled these extents spells those below the bound. The pages that it has no more are those that were freed, and no page that isn't its own reads otherwise.
+-- A root that spelled these extents spells those below the bound. The pages that it has no more are those that were freed, and each page of the file system that isn't its own keeps its bytes.
+-- Where each page but the last of its level held at least 64 entries, each does.
 pub record HasOnlyBelow (blocks bound : ℕ) (es : List Xad) (pages later : ℕ → List ℕ) (root after : List ℕ) (freed : List ℕ) : Type 0 where
   pub spelled : spells xt_scale (page_nodes blocks later) (xt_node (root_form (length root)) blocks after) ≡ Ok (kept_below bound es)
   pub owned : (n : ℕ) → footprint xt_scale (page_nodes blocks later) (xt_node (root_form (length root)) blocks after) n + count_in n freed ≡ owned_pages blocks pages root n
-  pub keeps : (n : ℕ) → n < blocks → footprint xt_scale (page_nodes blocks later) (xt_node (root_form (length root)) blocks after) n ≡ 0 → page_nodes blocks later n ≡ page_nodes blocks pages n
+  pub keeps : (n : ℕ) → n < blocks → footprint xt_scale (page_nodes blocks later) (xt_node (root_form (length root)) blocks after) n ≡ 0 → later n ≡ pages n
+  pub thin : HasNoThin (with_root (xt_node (root_form (length root)) blocks root) (page_nodes blocks pages)) → HasNoThin (with_root (xt_node (root_form (length root)) blocks after) (page_nodes blocks later))
+
+-- Changed lines are told, then that these pages are free, and then that these runs of blocks are.
+abbrev pub TellsCut : ℕ → (ℕ → List ℕ) → List Edit → List Edit → Type 0
+TellsCut blocks pages tx later = (freed : List ℕ) × (runs : List Pxd) × TellsChanges blocks Xtree [] pages (page_frees freed ++ run_frees runs) tx later
 
 -- Whatever list the root spelled: lines were appended, then what frees the tree's pages that are no more, and then what frees the blocks past the bound in the list's order;
 -- nothing else. Where the edits before lead to the pages that the view shows, all edits lead to pages in which the root spells the extents below the bound.

@@ -7,3 +7,6 @@ pub mod Laws
 pub mod Cutting
 pub mod CutParts
 pub mod Extents
+pub mod Writing
+pub mod Trimming
+pub mod WriteParts

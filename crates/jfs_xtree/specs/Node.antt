@@ -109,6 +109,10 @@ pub record SameKind (old new : XtHead) : Type 0 where
   pub least : 2 ≤ new.nextindex
   pub most : new.nextindex ≤ new.maxentry
 
+-- Page q, which is new, stands behind page n and before the page that was behind it.
+abbrev pub AreNeighbours : ℕ → ℕ → XtHead → XtHead → XtHead → Type 0
+AreNeighbours n q old left right = (left.next ≡ q) × (left.prev ≡ old.prev) × (right.next ≡ old.next) × (right.prev ≡ n)
+
 -- one more extent at a place
 abbrev pub with_at : List Xad → ℕ → Xad → List Xad
 with_at xs i x = take i xs ++ x ∷ drop i xs

@@ -1,11 +1,12 @@
 -- What a root in an inode spells: the list of its extents. (JFS Layout: an extent tree has its root in the inode, in 288 bytes; a small root has 96.)
-use Rattle.std.specs.Prelude.{◌≡◌, ◌⊎◌, ◌==◌, if◌then◌else◌, ℕ, List, Option, Result, Ok, Err, length}
+use Rattle.std.specs.Prelude.{◌≡◌, ◌⊎◌, ◌==◌, if◌then◌else◌, ℕ, List, Option, Some, None, Result, Ok, Err, length}
 use Rattle.jfs_bits.specs.declared.extent.Xad.{Xad}
 use Rattle.jfs_bits.specs.declared.rule.Rule.{Rule}
 use Rattle.jfs_ranges.specs.View.{CarriesCount}
 use Rattle.jfs_tree.specs.Walk.{Node}
 use Rattle.jfs_tree.specs.Spells.{spells, footprint}
 use Rattle.jfs_tree.specs.Edit.{found_in}
+use Rattle.jfs_tree.specs.Path.{broken_on_way}
 use Rattle.jfs_tree.specs.declared.form.TreeError.{TreeError}
 use Rattle.jfs_tree.specs.declared.form.TreeError.TheVariants as tree
 use Rattle.jfs_xtpage.specs.declared.head.XtForm.{XtForm}
@@ -53,6 +54,16 @@ abbrev pub CarriesXt : {T : Type 0} → ℕ → ℕ → Result T XtError → Typ
 CarriesXt before now (Ok it) = now ≡ before
 CarriesXt {T} before now (Err (View e)) = CarriesCount {T = T} before now (Err e)
 CarriesXt before now (Err (Bad page rule)) = now ≡ before
+
+-- the first broken rule on the way to a block of the file, and the page that breaks it
+abbrev pub broken_for : ℕ → (ℕ → List ℕ) → List ℕ → ℕ → Option (ℕ × Rule)
+broken_for blocks pages root offset = broken_on_way xt_scale (page_nodes blocks pages) offset (root_node blocks root)
+
+-- A page is named exactly where it is the first on the way that breaks a rule, and where none does, the call goes through.
+abbrev pub TellsWay : {T : Type 0} → Option (ℕ × Rule) → Result T XtError → Type 0
+TellsWay first (Ok it) = first ≡ None
+TellsWay first (Err (View e)) = Unit {0}
+TellsWay first (Err (Bad page rule)) = first ≡ Some (page, rule)
 
 -- a page could not be read, or memory ran out
 abbrev pub IsView : XtError → Type 0

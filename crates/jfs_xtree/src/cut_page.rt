@@ -2,7 +2,8 @@
 
 ghost use Rattle.std.specs.Prelude.{◌≡◌, ◌<◌, ◌≤◌, ◌+◌, ◌++◌, ◌∷◌, [], ℕ, length, take, drop, true, false, if◌then◌else◌, OnOk, IfOk, IfErr};
 ghost use Rattle.jfs_disk.specs.Image.{page_of};
-ghost use Rattle.jfs_tree.specs.Call.{CarriesFault, nodes};
+ghost use Rattle.jfs_tree.specs.Call.{CarriesFault};
+ghost use Rattle.jfs_tree.specs.Draft.{shown};
 ghost use Rattle.jfs_tree.specs.Removal.{Settles};
 ghost use Rattle.jfs_xtpage.specs.Page.{bytes_of, head_of, entries_of, count_of, IsLaidOut};
 ghost use Rattle.jfs_xtpage.specs.declared.head.XtForm.TheVariants.{Full};
@@ -39,9 +40,10 @@ pub(crate) fn cut_page<V: PageView>(
     requires fresh { (cut.old.draft.pages.items ≡ []) × (cut.old.pages.items ≡ []) × (cut.old.runs ≡ []) }
     ensures image { V.PageView.tells → V.PageView.image view.new ≡ V.PageView.image view.old }
     ensures count_of_blocks { V.PageView.block_count view.new ≡ V.PageView.block_count view.old }
+    ensures device { V.PageView.device view.new ≡ V.PageView.device view.old }
     ensures fault { CarriesFault (V.PageView.fault_count view.old) (V.PageView.fault_count view.new) result }
-    ensures cuts { V.PageView.tells → IfOk result (λ kept. CutsNode bound (page_nodes blocks (page_of (V.PageView.image view.old)))
-        (nodes (xt_node Full blocks) cut.new.draft.pages.items (V.PageView.image view.old)) (xt_node form blocks bytes.old) (xt_node form blocks bytes.new) kept cut.new.pages.items cut.new.runs) }
+    ensures cuts { V.PageView.tells → IfOk result (λ kept. CutsNode blocks bound (page_of (V.PageView.image view.old))
+        (shown cut.new.draft.pages.items (V.PageView.image view.old)) (xt_node form blocks bytes.old) (xt_node form blocks bytes.new) kept cut.new.pages.items cut.new.runs) }
     ensures leaf { is_leaf (head_of bytes.old).flag ≡ true → OnOk result ((entries_of bytes.new ≡ kept_below bound (entries_of bytes.old)) × (cut.new.runs ≡ gone_past bound (entries_of bytes.old)) × (cut.new.draft.pages.items ≡ []) × (cut.new.pages.items ≡ [])) }
     ensures kind { OnOk result (SameKind (head_of bytes.old) (head_of bytes.new)) }
     ensures kept { IfOk result (KeepsSome (entries_of bytes.new)) }

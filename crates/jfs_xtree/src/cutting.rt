@@ -2,7 +2,9 @@
 
 ghost use Rattle.std.specs.Prelude.{◌≡◌, ◌⊎◌, ◌<◌, ◌≤◌, ◌++◌, [], ℕ, List, length, true, false, OnOk, OnErr, IfOk, IfErr};
 ghost use Rattle.jfs_disk.specs.Image.{page_of};
+ghost use Rattle.jfs_bits.specs.declared.rule.PageKind.TheVariants.{Xtree};
 ghost use Rattle.jfs_tree.specs.Call.{CarriesFault};
+ghost use Rattle.jfs_tree.specs.Changes.{TellsChanges};
 ghost use Rattle.jfs_tree.specs.Removes.{page_frees};
 ghost use Rattle.jfs_tree.specs.Root.{NamesBroken};
 ghost use Rattle.jfs_tree.specs.Tell.{TellsDraft, TellsThen};
@@ -10,7 +12,7 @@ ghost use Rattle.jfs_ranges.specs.View.{CarriesCount};
 ghost use Rattle.jfs_xtpage.specs.Page.{head_of, entries_of, kind_flag};
 ghost use Rattle.jfs_xtree.specs.Node.{xt_scale};
 ghost use Rattle.jfs_xtree.specs.Spells.{IsRootSize, IsView, root_node, page_nodes, tree_error, CarriesXt};
-ghost use Rattle.jfs_xtree.specs.Cutting.{CutsExtents, run_frees};
+ghost use Rattle.jfs_xtree.specs.Cutting.{CutsExtents, TellsCut, run_frees};
 
 use crate::check::check_page;
 use crate::cut_page::cut_page;
@@ -25,7 +27,8 @@ use std::alloc::{AllocError, Global};
 
 /// Cuts a file's extents at block `blocks` of the file: what begins below it stays, the last one shortened to end there. The transaction gets the changed
 /// lines, then for each page of the tree that is no more its `NoRedo` and its `Free`, and then a `Free` of each run of blocks that the extents lost, in their order.
-/// Pages on the way to the bound are read, and those that are freed; a root whose children are all gone is a leaf without extents.
+/// Pages on the way to the bound are read, and those that are freed; a root whose children are all gone is a leaf without extents. Other pages keep their bytes,
+/// and where each page but the last of its level held at least 64 entries, each does.
 /// After an `Err` root and transaction are as before.
 pub fn cut_to<V: PageView>(
     alloc: Global,
@@ -37,8 +40,10 @@ pub fn cut_to<V: PageView>(
     requires root { IsRootSize (length root.old) }
     ensures image { V.PageView.tells → V.PageView.image view.new ≡ V.PageView.image view.old }
     ensures count_of_blocks { V.PageView.block_count view.new ≡ V.PageView.block_count view.old }
+    ensures device { V.PageView.device view.new ≡ V.PageView.device view.old }
     ensures fault { CarriesXt (V.PageView.fault_count view.old) (V.PageView.fault_count view.new) result }
     ensures cuts { V.PageView.tells → OnOk result (CutsExtents (V.PageView.block_count view.old) (page_of (V.PageView.image view.old)) blocks root.old root.new tx.old tx.new) }
+    ensures edits { V.PageView.tells → OnOk result (TellsCut (V.PageView.block_count view.old) (page_of (V.PageView.image view.old)) tx.old tx.new) }
     ensures kept { OnErr result ((root.new ≡ root.old) × (tx.new ≡ tx.old)) }
     ensures bad { V.PageView.tells → IfErr result (λ e.
         NamesBroken xt_scale (page_nodes (V.PageView.block_count view.old) (page_of (V.PageView.image view.old))) (root_node (V.PageView.block_count view.old) root.old) (tree_error e)) }
@@ -78,8 +83,10 @@ fn plan_cut<V: PageView>(
     requires root { IsRootSize (length root.old) }
     ensures image { V.PageView.tells → V.PageView.image view.new ≡ V.PageView.image view.old }
     ensures count_of_blocks { V.PageView.block_count view.new ≡ V.PageView.block_count view.old }
+    ensures device { V.PageView.device view.new ≡ V.PageView.device view.old }
     ensures fault { CarriesXt (V.PageView.fault_count view.old) (V.PageView.fault_count view.new) result }
     ensures cuts { V.PageView.tells → IfOk result (λ later. CutsExtents (V.PageView.block_count view.old) (page_of (V.PageView.image view.old)) bound root.old root.new tx.now later) }
+    ensures edits { V.PageView.tells → IfOk result (λ later. TellsCut (V.PageView.block_count view.old) (page_of (V.PageView.image view.old)) tx.now later) }
     ensures bad { V.PageView.tells → IfErr result (λ e.
         NamesBroken xt_scale (page_nodes (V.PageView.block_count view.old) (page_of (V.PageView.image view.old))) (root_node (V.PageView.block_count view.old) root.old) (tree_error e)) }
 {
@@ -122,9 +129,11 @@ fn close_root(root: &mut [u8], kept: bool)
 fn tell_cut<V: PageView>(alloc: Global, view: &mut V, cut: &Cut, tx: &Tx) -> Result<Tx, ViewError>
     ensures image { V.PageView.tells → V.PageView.image view.new ≡ V.PageView.image view.old }
     ensures count_of_blocks { V.PageView.block_count view.new ≡ V.PageView.block_count view.old }
+    ensures device { V.PageView.device view.new ≡ V.PageView.device view.old }
     ensures fault { CarriesCount (V.PageView.fault_count view.old) (V.PageView.fault_count view.new) result }
     ensures told { V.PageView.tells → IfOk result (λ later. TellsDraft (V.PageView.block_count view.old) (V.PageView.image view.old) cut.now.draft.pages.items tx.now later) }
     ensures frees { IfOk result (λ later. TellsThen (page_frees cut.now.pages.items ++ run_frees cut.now.runs) tx.now later) }
+    ensures changes { V.PageView.tells → IfOk result (λ later. TellsChanges (V.PageView.block_count view.old) Xtree [] (page_of (V.PageView.image view.old)) (page_frees cut.now.pages.items ++ run_frees cut.now.runs) tx.now later) }
 {
     let Ok(mut later) = copy_tx(alloc, tx) else {
         return Err(ViewError::Memory);

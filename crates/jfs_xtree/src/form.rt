@@ -2,9 +2,13 @@
 
 ghost use Rattle.std.specs.Prelude.{◌≡◌, ◌<◌, ◌≤◌, ◌+◌, ◌*◌, ◌-◌, ◌^◌, ℕ, List, length, IfOk, true, false};
 ghost use Rattle.jfs_bits.specs.Extent.{FitsXad};
-ghost use Rattle.jfs_xtpage.specs.Page.{bytes_of};
+ghost use Rattle.jfs_xtpage.specs.Page.{bytes_of, head_of};
 ghost use Rattle.jfs_xtpage.specs.declared.head.XtForm.TheVariants.{Full};
-ghost use Rattle.jfs_xtree.specs.Node.{xt_scale, xt_node, IsGood, HasNoRoom, IsRoot};
+ghost use Rattle.jfs_tree.specs.Walk.{Child, Leaf};
+ghost use Rattle.jfs_tree.specs.Edit.{IsApart, KeysRise, with_entry};
+ghost use Rattle.jfs_tree.specs.Filled.{FillsBoth};
+ghost use Rattle.jfs_tree.specs.Form.{AtPlace, SplitsRows, SplitsChildren, as_child};
+ghost use Rattle.jfs_xtree.specs.Node.{xt_scale, xt_node, AreNeighbours, IsGood, HasNoRoom, IsRoot};
 ghost use Rattle.jfs_xtree.specs.Laws.{order};
 
 use crate::check::{check_page, is_leaf};
@@ -47,6 +51,8 @@ impl PageForm for XtPages {
 
     ghost is_root = { λ f. IsRoot f.form };
 
+    ghost fills = { Unit {0} };
+
     ghost below = { λ f. record { form = Full; blocks = f.blocks } };
 
     fn way(&self, bytes: &[u8], x: &Xad) -> Result<Way, Rule> {
@@ -60,6 +66,10 @@ impl PageForm for XtPages {
             page: page_of(bytes, place, self.blocks),
             last: place + 3 == head.nextindex,
         })
+    }
+
+    fn is_bare(&self, bytes: &[u8]) -> bool {
+        get_u16(bytes, 18) == 2
     }
 
     fn find(&self, bytes: &[u8], x: &Xad) -> Option<Xad> {
@@ -83,15 +93,18 @@ impl PageForm for XtPages {
         }
     }
 
-    fn split(
-        &self,
-        n: u32,
-        q: u32,
-        last: bool,
-        bytes: &mut [u8],
-        right: &mut [u8],
-        x: &Xad,
-    ) -> u64 {
+    fn split(&self, n: u32, q: u32, last: bool, bytes: &mut [u8], right: &mut [u8], x: &Xad) -> u64
+        requires below { IsRoot self.now.form → ⊥ }
+        requires size { (length bytes.old ≡ bytes_of self.now.form) × (length right.old ≡ bytes_of self.now.form) }
+        requires good { IsGood self.now.blocks x.now }
+        requires full { HasNoRoom self.now.form bytes.old }
+        ensures parts { (es : List Xad) → xt_node self.now.form self.now.blocks bytes.old ≡ Leaf es → IsApart xt_scale x.now es →
+            SplitsRows xt_scale (with_entry xt_scale x.now es) (xt_node self.now.form self.now.blocks bytes.new) (xt_node self.now.form self.now.blocks right.new) result }
+        ensures fills { Unit {0} → (es : List Xad) → xt_node self.now.form self.now.blocks bytes.old ≡ Leaf es → IsApart xt_scale x.now es →
+            FillsBoth last (xt_node self.now.form self.now.blocks bytes.new) (xt_node self.now.form self.now.blocks right.new) }
+        ensures key { result < 2 ^ 40 }
+        ensures links { AreNeighbours n q (head_of bytes.old) (head_of bytes.new) (head_of right.new) }
+    {
         let place = place_of(bytes, x.offset);
         part(n, q, last, self.form, true, bytes, right, place, *x)
     }
@@ -117,7 +130,19 @@ impl PageForm for XtPages {
         right: &mut [u8],
         place: usize,
         child: &Sibling<u64>,
-    ) -> u64 {
+    ) -> u64
+        requires below { IsRoot self.now.form → ⊥ }
+        requires size { (length bytes.old ≡ bytes_of self.now.form) × (length right.old ≡ bytes_of self.now.form) }
+        requires within { child.now.page < self.now.blocks }
+        requires key { child.now.key < 2 ^ 40 }
+        requires full { HasNoRoom self.now.form bytes.old }
+        ensures parts { (all : List (Child ℕ)) → AtPlace (xt_node self.now.form self.now.blocks bytes.old) place (as_child child.now) all → KeysRise xt_scale all →
+            SplitsChildren all (xt_node self.now.form self.now.blocks bytes.new) (xt_node self.now.form self.now.blocks right.new) result }
+        ensures fills { Unit {0} → (all : List (Child ℕ)) → AtPlace (xt_node self.now.form self.now.blocks bytes.old) place (as_child child.now) all → KeysRise xt_scale all →
+            FillsBoth last (xt_node self.now.form self.now.blocks bytes.new) (xt_node self.now.form self.now.blocks right.new) }
+        ensures key { result < 2 ^ 40 }
+        ensures links { AreNeighbours n q (head_of bytes.old) (head_of bytes.new) (head_of right.new) }
+    {
         let before = place.min(usize::from(get_u16(bytes, 18) - 3)) as u16;
         make_way(bytes, before, child.key);
         part(

@@ -41,6 +41,7 @@ pub(crate) fn free_children<V: PageView>(
     requires bound { blocks ≡ V.PageView.block_count view.old }
     ensures image { V.PageView.tells → V.PageView.image view.new ≡ V.PageView.image view.old }
     ensures count_of_blocks { V.PageView.block_count view.new ≡ V.PageView.block_count view.old }
+    ensures device { V.PageView.device view.new ≡ V.PageView.device view.old }
     ensures fault { CarriesFault (V.PageView.fault_count view.old) (V.PageView.fault_count view.new) result }
     ensures frees { V.PageView.tells → OnOk result (FreesUnder (page_nodes blocks (page_of (V.PageView.image view.old))) (drop from (entries_of bytes.now))
         cut.old.pages.items cut.new.pages.items cut.old.runs cut.new.runs) }
@@ -64,7 +65,8 @@ pub(crate) fn free_children<V: PageView>(
     Ok(())
 }
 
-/// A copy of page `n`, which breaks no rule; `deep` where no level is left for it.
+#[tactic(auto, using(crate::proofs::Reading::empty_breaks))]
+/// A copy of page `n`, which breaks no rule; `deep` where it has no entry, or no level is left for it.
 pub(crate) fn read_page<V: PageView>(
     blocks: u32,
     view: &mut V,
@@ -74,6 +76,7 @@ pub(crate) fn read_page<V: PageView>(
     requires page { n < V.PageView.block_count view.old }
     ensures image { V.PageView.tells → V.PageView.image view.new ≡ V.PageView.image view.old }
     ensures count_of_blocks { V.PageView.block_count view.new ≡ V.PageView.block_count view.old }
+    ensures device { V.PageView.device view.new ≡ V.PageView.device view.old }
     ensures fault { CarriesFault (V.PageView.fault_count view.old) (V.PageView.fault_count view.new) result }
     ensures most { IfOk result (λ page. 0 < most) }
     ensures bytes { V.PageView.tells → IfOk result (λ page. page.0 ≡ page_of (V.PageView.image view.old) n) }
@@ -93,7 +96,15 @@ pub(crate) fn read_page<V: PageView>(
         Err(e) => return Err(TreeError::View(e)),
     };
     match check_page(page.bytes(), XtForm::Full, blocks) {
-        Ok(_) => Ok(page),
+        Ok(head) => {
+            if head.nextindex == 2 {
+                return Err(TreeError::Bad {
+                    page: n,
+                    rule: Rule::Deep,
+                });
+            }
+            Ok(page)
+        }
         Err(rule) => Err(TreeError::Bad { page: n, rule }),
     }
 }

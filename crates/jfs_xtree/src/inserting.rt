@@ -2,12 +2,14 @@
 
 ghost use Rattle.std.specs.Prelude.{◌≡◌, ◌⊎◌, ◌<◌, ◌≤◌, ℕ, List, length, OnOk, OnErr, IfErr};
 ghost use Rattle.jfs_disk.specs.Image.{page_of};
+ghost use Rattle.jfs_bits.specs.declared.rule.PageKind.TheVariants.{Xtree};
+ghost use Rattle.jfs_tree.specs.Changes.{TellsTaken};
 ghost use Rattle.jfs_tree.specs.Form.{AllBelow};
 ghost use Rattle.jfs_tree.specs.Fresh.{blocks_of, TakenInOrder};
 ghost use Rattle.jfs_tree.specs.Root.{RefusesWhereBad};
 ghost use Rattle.jfs_xtree.specs.Node.{xt_scale, IsGood};
 ghost use Rattle.jfs_xtree.specs.Spells.{IsRootSize, root_node, page_nodes, tree_error, CarriesXt};
-ghost use Rattle.jfs_xtree.specs.Adding.{AddsExtent, TakesPages, RefusesFull};
+ghost use Rattle.jfs_xtree.specs.Adding.{AddsExtent, KeepsNoThin, TakesPages, RefusesFull};
 
 use crate::error::XtError;
 use crate::find::{handed_on, root_form};
@@ -37,9 +39,12 @@ pub fn add<V: PageView>(
     requires within { AllBelow (V.PageView.block_count view.old) (blocks_of fresh.old) }
     ensures image { V.PageView.tells → V.PageView.image view.new ≡ V.PageView.image view.old }
     ensures count_of_blocks { V.PageView.block_count view.new ≡ V.PageView.block_count view.old }
+    ensures device { V.PageView.device view.new ≡ V.PageView.device view.old }
     ensures fault { CarriesXt (V.PageView.fault_count view.old) (V.PageView.fault_count view.new) result }
     ensures adds { V.PageView.tells → OnOk result (AddsExtent (V.PageView.block_count view.old) (page_of (V.PageView.image view.old)) x root.old root.new (blocks_of fresh.old) (blocks_of fresh.new) tx.old tx.new) }
     ensures taken { OnOk result (TakenInOrder (blocks_of fresh.old) (blocks_of fresh.new) tx.old tx.new) }
+    ensures edits { V.PageView.tells → OnOk result (TellsTaken (V.PageView.block_count view.old) Xtree (page_of (V.PageView.image view.old)) (blocks_of fresh.old) (blocks_of fresh.new) tx.old tx.new) }
+    ensures thin { V.PageView.tells → OnOk result (KeepsNoThin (V.PageView.block_count view.old) (page_of (V.PageView.image view.old)) x root.old root.new (blocks_of fresh.old) tx.old tx.new) }
     ensures room { V.PageView.tells → OnOk result (TakesPages (V.PageView.block_count view.old) (page_of (V.PageView.image view.old)) x root.old (blocks_of fresh.old) (blocks_of fresh.new)) }
     ensures kept { OnErr result ((root.new ≡ root.old) × (fresh.new ≡ fresh.old) × (tx.new ≡ tx.old)) }
     ensures refused { V.PageView.tells → IfErr result (λ e. RefusesWhereBad xt_scale x (page_nodes (V.PageView.block_count view.old) (page_of (V.PageView.image view.old))) (root_node (V.PageView.block_count view.old) root.old) (blocks_of fresh.old) (tree_error e)) }

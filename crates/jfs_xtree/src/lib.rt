@@ -16,6 +16,9 @@ mod listing;
 mod parts;
 mod place;
 mod root;
+mod trim;
+mod write_law;
+mod writing;
 
 pub use cutting::cut_to;
 pub use entries::Reached;
@@ -25,3 +28,5 @@ pub use form::XtPages;
 pub use inserting::add;
 pub use listing::extents;
 pub use root::new_root;
+pub use write_law::{writing_is_block_by_block, writing_stands_in_place};
+pub use writing::write_extent;

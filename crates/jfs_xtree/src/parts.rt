@@ -4,7 +4,7 @@ ghost use Rattle.std.specs.Prelude.{◌≡◌, ◌<◌, ◌≤◌, ◌+◌, ◌*
 ghost use Rattle.jfs_bits.specs.Extent.{FitsXad};
 ghost use Rattle.jfs_tree.specs.Edit.{IsCons};
 ghost use Rattle.jfs_xtpage.specs.Page.{bytes_of, head_of, entries_of, count_of, new_flag, slots_of, IsLaidOut};
-ghost use Rattle.jfs_xtree.specs.Node.{with_at, SameKind, BeginsAt};
+ghost use Rattle.jfs_xtree.specs.Node.{with_at, AreNeighbours, SameKind, BeginsAt};
 
 use jfs_bits::{Pxd, Xad, get_u16, get_u64};
 use jfs_tree::page_at;
@@ -50,6 +50,9 @@ pub(crate) fn part(
     ensures begins { BeginsAt result (entries_of right.new) }
     ensures left { SameKind (head_of bytes.old) (head_of bytes.new) }
     ensures right { ((head_of right.new).flag ≡ new_flag form leaf) × ((head_of right.new).maxentry ≡ slots_of form) × (2 ≤ (head_of right.new).nextindex) × ((head_of right.new).nextindex ≤ slots_of form) }
+    ensures last { last ≡ true → place ≡ count_of bytes.old → (count_of bytes.new ≡ count_of bytes.old) × (count_of right.new ≡ 1) }
+    ensures halves { (last ≡ true → place < count_of bytes.old) → (count_of bytes.old / 2 ≤ count_of bytes.new) × (count_of bytes.old / 2 ≤ count_of right.new) }
+    ensures links { AreNeighbours n q (head_of bytes.old) (head_of bytes.new) (head_of right.new) }
     ensures key { result < 2 ^ 40 }
 {
     xt_new(right, form, leaf, page_at(q));
@@ -73,6 +76,9 @@ fn move_part(last: bool, bytes: &mut [u8], right: &mut [u8], place: u16, x: Xad)
     ensures left { SameKind (head_of bytes.old) (head_of bytes.new) }
     ensures right { SameKind (head_of right.old) (head_of right.new) }
     ensures some { (3 ≤ (head_of bytes.new).nextindex) × (3 ≤ (head_of right.new).nextindex) }
+    ensures last { last ≡ true → place ≡ count_of bytes.old → (count_of bytes.new ≡ count_of bytes.old) × (count_of right.new ≡ 1) }
+    ensures halves { (last ≡ true → place < count_of bytes.old) → (count_of bytes.old / 2 ≤ count_of bytes.new) × (count_of bytes.old / 2 ≤ count_of right.new) }
+    ensures links { ((head_of bytes.new).next ≡ (head_of bytes.old).next) × ((head_of bytes.new).prev ≡ (head_of bytes.old).prev) }
 {
     let count = get_u16(bytes, 18) - 2;
     if last && place == count {
@@ -95,6 +101,8 @@ fn halve(bytes: &mut [u8], right: &mut [u8], place: u16, x: Xad, keep: u16)
     ensures left { SameKind (head_of bytes.old) (head_of bytes.new) }
     ensures right { SameKind (head_of right.old) (head_of right.new) }
     ensures some { (3 ≤ (head_of bytes.new).nextindex) × (3 ≤ (head_of right.new).nextindex) }
+    ensures halves { (count_of bytes.old / 2 ≤ count_of bytes.new) × (count_of bytes.old / 2 ≤ count_of right.new) }
+    ensures links { ((head_of bytes.new).next ≡ (head_of bytes.old).next) × ((head_of bytes.new).prev ≡ (head_of bytes.old).prev) }
 {
     xt_split(bytes, right, keep);
     if place <= keep {

@@ -1,7 +1,8 @@
 //! A root without extents.
 
 ghost use Rattle.std.specs.Prelude.{◌≡◌, ◌⊎◌, ◌==◌, if◌then◌else◌, ℕ, List, [], length, Ok};
-ghost use Rattle.jfs_tree.specs.Spells.{spells};
+ghost use Rattle.jfs_tree.specs.Levels.{HasNoThin};
+ghost use Rattle.jfs_tree.specs.Spells.{spells, with_root};
 ghost use Rattle.jfs_tree.specs.Walk.{Leaf};
 ghost use Rattle.jfs_xtree.specs.Node.{xt_scale, xt_node};
 ghost use Rattle.jfs_xtree.specs.Spells.{IsRootSize, root_form, page_nodes};
@@ -15,6 +16,7 @@ pub fn new_root(root: &mut [u8])
     requires { IsRootSize (length root.old) }
     ensures leaf { (blocks : ℕ) → xt_node (root_form (length root.old)) blocks root.new ≡ Leaf [] }
     ensures list { (blocks : ℕ) (pages : ℕ → List ℕ) → spells xt_scale (page_nodes blocks pages) (xt_node (root_form (length root.old)) blocks root.new) ≡ Ok [] }
+    ensures thin { (blocks : ℕ) (pages : ℕ → List ℕ) → HasNoThin (with_root (xt_node (root_form (length root.old)) blocks root.new) (page_nodes blocks pages)) }
 {
     let form = root_form(root);
     xt_new(root, form, true, Pxd { len: 0, addr: 0 });

@@ -119,6 +119,8 @@ fn a_page_that_breaks_a_rule(rt: HostRuntime) -> Result<(), Fail> {
     assert_eq!(rt; found(&mut shelf, &root, 40), bad(2, Rule::Range));
     head(&mut shelf.two.0, 4, 2, 256);
     assert_eq!(rt; found(&mut shelf, &root, 40), bad(2, Rule::Deep));
+    head(&mut shelf.two.0, 2, 2, 256);
+    assert_eq!(rt; found(&mut shelf, &root, 40), bad(2, Rule::Deep));
     // the other page is as it was
     assert_eq!(rt; found(&mut shelf, &root, 4), Ok(Some(extent(3, 3, 20))));
     Ok(())

@@ -2,6 +2,7 @@
 
 ghost use Rattle.std.specs.Prelude.{◌≡◌, ◌<◌, ◌≤◌, ◌+◌, ◌*◌, ℕ, [], length};
 ghost use Rattle.jfs_bits.specs.Extent.{FitsXad};
+ghost use Rattle.jfs_ranges.specs.View.{no_device};
 
 use crate::shelf::{entry, extent, head};
 use jfs_bits::{Xad, XadList};
@@ -27,6 +28,10 @@ impl PageView for Rack {
     ghost image = { λ rack. [] };
 
     ghost tells = { ⊥ };
+
+    ghost crashes = { ⊥ };
+
+    ghost device = { λ rack. no_device };
 
     ghost has_pages = { λ rack told. absurd told };
 

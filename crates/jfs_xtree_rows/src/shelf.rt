@@ -2,6 +2,7 @@
 
 ghost use Rattle.std.specs.Prelude.{◌≡◌, ◌<◌, ◌≤◌, ◌+◌, ◌*◌, ℕ, [], IfOk, length};
 ghost use Rattle.jfs_bits.specs.Extent.{FitsXad};
+ghost use Rattle.jfs_ranges.specs.View.{no_device};
 
 use jfs_bits::{Pxd, Xad, put_u8, put_u16, put_xad};
 use jfs_disk::{Fault, Page, Part};
@@ -38,6 +39,10 @@ impl PageView for Shelf {
     ghost image = { λ shelf. [] };
 
     ghost tells = { ⊥ };
+
+    ghost crashes = { ⊥ };
+
+    ghost device = { λ shelf. no_device };
 
     ghost has_pages = { λ shelf told. absurd told };
 

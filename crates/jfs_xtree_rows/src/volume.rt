@@ -1,6 +1,7 @@
 //! A file on a volume in memory, and beside its tree the plain list of its extents.
 
 ghost use Rattle.std.specs.Prelude.{◌≡◌, ◌<◌, ◌≤◌, ◌+◌, ℕ, [], ◌∷◌, IfOk, length};
+ghost use Rattle.jfs_ranges.specs.View.{no_device};
 ghost use Rattle.jfs_xtree.specs.Node.{IsGood};
 
 use jfs_bits::{Pxd, PxdList, Xad};
@@ -23,6 +24,10 @@ impl PageView for Volume {
     ghost image = { λ volume. [] };
 
     ghost tells = { ⊥ };
+
+    ghost crashes = { ⊥ };
+
+    ghost device = { λ volume. no_device };
 
     ghost has_pages = { λ volume told. absurd told };
 

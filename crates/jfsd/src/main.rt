@@ -81,7 +81,7 @@ fn word(words: &[Vec<u8>], place: u32) -> Option<&[u8]> {
 // What the command, which the first word names, does with its image.
 fn access_of(words: &[Vec<u8>]) -> Access {
     match word(words, 1) {
-        Some(b"super" | b"log") => Access::Read,
+        Some(b"super" | b"log" | b"check") => Access::Read,
         _ => Access::Write,
     }
 }

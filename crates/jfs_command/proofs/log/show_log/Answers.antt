@@ -1,7 +1,6 @@
 use Rattle.std.proofs.Common.{◌∙◌}
-use Rattle.jfs_command.specs.Log.{LooksAtLog}
 use Rattle.jfs_command.proofs.Looking.{not_looked}
-use Rattle.jfs_command.proofs.LogShown.{log_says, log_goes, log_shown, log_not_shown}
+use Rattle.jfs_command.proofs.LogShown.{log_behind, log_goes, log_shown, log_not_shown}
 use Rattle.jfs_command.proofs.log.show_log.Goals as goal
 
 pub returns-in-Ok-read_lines-clause-meaning : goal.returns-in-Ok-read_lines-clause-meaning
@@ -27,6 +26,6 @@ returns-in-Err-read_lines-clause-meaning g c =
 pub returns-in-Err-clause-meaning : goal.returns-in-Err-clause-meaning
 returns-in-Err-clause-meaning g c =
     let made = c.new-in-Err-2 in
-    not_looked g.D.Disk c.args.disk.now c.look.new.disk c.in-Err.end made.result LooksAtLog log_says log_goes (g.met.D.Disk.has_pages c.args.disk.now) c.in-Err.ensures.cause
+    not_looked g.D.Disk c.args.disk.now c.look.new.disk c.in-Err.end made.result log_behind log_goes (g.met.D.Disk.has_pages c.args.disk.now) c.in-Err.ensures.cause
     (record { image = c.look.ensures.image; past = c.look.ensures.past; history = made.ensures.history; told = made.ensures.told })
     (made.ensures.text ∙ c.new-in-Err.ensures.items) made.ensures.end

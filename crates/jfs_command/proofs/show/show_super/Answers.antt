@@ -1,7 +1,6 @@
 use Rattle.std.proofs.Common.{◌∙◌}
-use Rattle.jfs_command.specs.Superblock.{LooksAtSuper}
 use Rattle.jfs_command.proofs.Looking.{not_looked}
-use Rattle.jfs_command.proofs.Showing.{super_says, super_goes, shown, no_room}
+use Rattle.jfs_command.proofs.Showing.{super_behind, super_goes, shown, no_room}
 use Rattle.jfs_command.proofs.show.show_super.Goals as goal
 
 pub returns-in-Ok-super_lines-clause-meaning : goal.returns-in-Ok-super_lines-clause-meaning
@@ -20,6 +19,6 @@ returns-in-Err-super_lines-clause-meaning g c =
 pub returns-in-Err-clause-meaning : goal.returns-in-Err-clause-meaning
 returns-in-Err-clause-meaning g c =
     let made = c.new-in-Err-2 in
-    not_looked g.D.Disk c.args.disk.now c.look.new.disk c.in-Err.end made.result LooksAtSuper super_says super_goes (g.met.D.Disk.has_pages c.args.disk.now) c.in-Err.ensures.cause
+    not_looked g.D.Disk c.args.disk.now c.look.new.disk c.in-Err.end made.result super_behind super_goes (g.met.D.Disk.has_pages c.args.disk.now) c.in-Err.ensures.cause
     (record { image = c.look.ensures.image; past = c.look.ensures.past; history = made.ensures.history; told = made.ensures.told })
     (made.ensures.text ∙ c.new-in-Err.ensures.items) made.ensures.end

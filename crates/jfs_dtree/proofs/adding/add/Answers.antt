@@ -1,40 +1,98 @@
-use Rattle.std.proofs.Common.{sym, ap, ◌∙◌, subst, ℕ, List}
+use Rattle.std.proofs.Common.{sym, ap, ◌∙◌, subst, ℕ, List, None, true, false}
 use Rattle.jfs_disk.specs.Image.{page_of}
 use Rattle.jfs_name.specs.declared.name.NameEntry.{NameEntry}
+use Rattle.jfs_bits.specs.declared.rule.PageKind.TheVariants.{Dtree}
+use Rattle.jfs_tree.specs.Changes.{TellsTaken}
 use Rattle.jfs_tree.specs.Fresh.{blocks_of}
-use Rattle.jfs_tree.specs.Adds.{AddsTold}
+use Rattle.jfs_tree.specs.Adds.{read_as, AddsTold, LevelsTold}
 use Rattle.jfs_dtpage.specs.declared.head.DtForm.TheVariants.{Root, Full}
 use Rattle.jfs_dtree.specs.Node.{name_scale, dt_node}
-use Rattle.jfs_dtree.specs.Adding.{RefusesName}
-use Rattle.jfs_dtree.proofs.Roots.{adds_as, refuses_as, takes_as}
+use Rattle.jfs_dtree.specs.Spells.{root_node, page_nodes, broken_for}
+use Rattle.jfs_dtree.specs.Room.{FollowsRoom, DeepIs}
+use Rattle.jfs_tree.specs.Room.{GrowsLevel}
+use Rattle.jfs_dtree.specs.Adding.{NoRoomAtRoot, NoPlaceAtRoot, is_full_in, lacks_in, RefusesName, AddTellsWay}
+use Rattle.jfs_dtree.proofs.Roots.{adds_as, refuses_as, takes_as, levels_as, found_no_room, shallow_follows, found_tells, added_tells, deep_as, failed}
 use Rattle.jfs_dtree.proofs.adding.add.Goals as goal
 
 pub returns-in-Ok-clause-adds : goal.returns-in-Ok-clause-adds
 returns-in-Ok-clause-adds g c tells =
     let with_units = λ (units : List ℕ). (let e : NameEntry = record { name = units; inode = c.args.inode } in e) in
     let b = c.blocks-blocks.result in
-    let count = g.V.PageView.block_count c.find.new.view in
-    let image = g.V.PageView.image c.find.new.view in
+    let count = g.V.PageView.block_count c.is_deep.new.view in
+    let image = g.V.PageView.image c.is_deep.new.view in
     let free = blocks_of c.args.fresh.now in
     let left = blocks_of c.add_and_tell.new.fresh in
     adds_as b count (g.V.PageView.block_count c.args.view.now) image (g.V.PageView.image c.args.view.now)
     c.args.root.now c.set_parent.new.root c.args.name.now c.new-x.result c.args.inode free left c.args.tx.now c.add_and_tell.new.tx
-    c.blocks-blocks.ensures c.find.ensures.count_of_blocks (c.find.ensures.image tells) (c.new-x.ensures ∙ ap with_units c.as_slice.ensures)
+    (c.blocks-blocks.ensures ∙ sym c.is_deep.ensures.count_of_blocks) (c.is_deep.ensures.count_of_blocks ∙ c.find.ensures.count_of_blocks) (c.is_deep.ensures.image tells ∙ c.find.ensures.image tells) (c.new-x.ensures ∙ ap with_units c.as_slice.ensures)
     (λ es spelled. sym (c.in-Ok-None.ensures.found tells es spelled) ∙ c.in-Ok-None.field-0-is)
     (subst (λ node. AddsTold name_scale (dt_node Full b) count (page_of image) c.new-x.result (dt_node Root b c.args.root.now) node free left c.args.tx.now c.add_and_tell.new.tx) (sym (c.set_parent.ensures.node b)) (c.in-Ok.ensures.adds tells))
+
+pub returns-in-Ok-clause-levels : goal.returns-in-Ok-clause-levels
+returns-in-Ok-clause-levels g c tells =
+    let with_units = λ (units : List ℕ). (let e : NameEntry = record { name = units; inode = c.args.inode } in e) in
+    let b = c.blocks-blocks.result in
+    let count = g.V.PageView.block_count c.is_deep.new.view in
+    let image = g.V.PageView.image c.is_deep.new.view in
+    let free = blocks_of c.args.fresh.now in
+    levels_as b count (g.V.PageView.block_count c.args.view.now) image (g.V.PageView.image c.args.view.now)
+    c.args.root.now c.set_parent.new.root c.args.name.now c.new-x.result c.args.inode free c.args.tx.now c.add_and_tell.new.tx
+    (c.blocks-blocks.ensures ∙ sym c.is_deep.ensures.count_of_blocks) (c.is_deep.ensures.count_of_blocks ∙ c.find.ensures.count_of_blocks) (c.is_deep.ensures.image tells ∙ c.find.ensures.image tells) (c.new-x.ensures ∙ ap with_units c.as_slice.ensures)
+    (λ es spelled. sym (c.in-Ok-None.ensures.found tells es spelled) ∙ c.in-Ok-None.field-0-is)
+    (subst (λ node. LevelsTold name_scale (dt_node Full b) count (page_of image) c.new-x.result (dt_node Root b c.args.root.now) node free c.args.tx.now c.add_and_tell.new.tx
+    (GrowsLevel name_scale c.new-x.result (read_as (dt_node Full b) (page_of image)) (is_full_in (page_of image)) (lacks_in c.new-x.result (page_of image)) (dt_node Root b c.args.root.now) (NoRoomAtRoot c.new-x.result c.args.root.now) (NoPlaceAtRoot c.args.root.now) node))
+    (sym (c.set_parent.ensures.node b)) (c.in-Ok.ensures.levels tells))
 
 pub returns-in-Err-add_and_tell-clause-refused : goal.returns-in-Err-add_and_tell-clause-refused
 returns-in-Err-add_and_tell-clause-refused g c tells =
     let with_units = λ (units : List ℕ). (let e : NameEntry = record { name = units; inode = c.args.inode } in e) in
-    subst (RefusesName (g.V.PageView.block_count c.args.view.now) (page_of (g.V.PageView.image c.args.view.now)) (with_units c.args.name.now) c.args.root.now (blocks_of c.args.fresh.now)) (sym c.refusal.ensures)
-    (refuses_as c.blocks-blocks.result (g.V.PageView.block_count c.find.new.view) (g.V.PageView.block_count c.args.view.now) (g.V.PageView.image c.find.new.view) (g.V.PageView.image c.args.view.now)
+    subst (RefusesName (g.V.PageView.block_count c.args.view.now) (page_of (g.V.PageView.image c.args.view.now)) (with_units c.args.name.now) c.args.root.now (blocks_of c.args.fresh.now)) (sym c.handed_on.ensures)
+    (refuses_as c.blocks-blocks.result (g.V.PageView.block_count c.is_deep.new.view) (g.V.PageView.block_count c.args.view.now) (g.V.PageView.image c.is_deep.new.view) (g.V.PageView.image c.args.view.now)
     c.args.root.now c.args.name.now c.new-x.result c.args.inode (blocks_of c.args.fresh.now) c.in-Err-add_and_tell.e
-    c.blocks-blocks.ensures c.find.ensures.count_of_blocks (c.find.ensures.image tells) (c.new-x.ensures ∙ ap with_units c.as_slice.ensures)
-    (λ es spelled. sym (c.in-Ok-None.ensures.found tells es spelled) ∙ c.in-Ok-None.field-0-is) (c.in-Err-add_and_tell.ensures.refused tells) (c.in-Err-add_and_tell.ensures.full tells))
+    (c.blocks-blocks.ensures ∙ sym c.is_deep.ensures.count_of_blocks) (c.is_deep.ensures.count_of_blocks ∙ c.find.ensures.count_of_blocks) (c.is_deep.ensures.image tells ∙ c.find.ensures.image tells) (c.new-x.ensures ∙ ap with_units c.as_slice.ensures)
+    (λ es spelled. sym (c.in-Ok-None.ensures.found tells es spelled) ∙ c.in-Ok-None.field-0-is) (deep_as c.blocks-blocks.result (g.V.PageView.block_count c.args.view.now) (g.V.PageView.image c.find.new.view) (g.V.PageView.image c.args.view.now) c.args.root.now c.args.name.now c.new-x.result c.in-Ok-false.field-0 false (c.blocks-blocks.ensures ∙ c.find.ensures.count_of_blocks) (c.find.ensures.image tells)
+    (ap (λ (e : NameEntry). e.name) c.new-x.ensures ∙ c.as_slice.ensures) c.in-Ok-false.field-0-test (c.in-Ok-false.ensures.deep tells)) (c.in-Err-add_and_tell.ensures.refused tells) (c.in-Err-add_and_tell.ensures.full tells))
 
 pub returns-in-Ok-clause-room : goal.returns-in-Ok-clause-room
 returns-in-Ok-clause-room g c tells =
     let with_units = λ (units : List ℕ). (let e : NameEntry = record { name = units; inode = c.args.inode } in e) in
-    takes_as c.blocks-blocks.result (g.V.PageView.block_count c.find.new.view) (g.V.PageView.block_count c.args.view.now) (g.V.PageView.image c.find.new.view) (g.V.PageView.image c.args.view.now)
+    takes_as c.blocks-blocks.result (g.V.PageView.block_count c.is_deep.new.view) (g.V.PageView.block_count c.args.view.now) (g.V.PageView.image c.is_deep.new.view) (g.V.PageView.image c.args.view.now)
     c.args.root.now c.args.name.now c.new-x.result c.args.inode (blocks_of c.args.fresh.now) (blocks_of c.add_and_tell.new.fresh)
-    c.blocks-blocks.ensures c.find.ensures.count_of_blocks (c.find.ensures.image tells) (c.new-x.ensures ∙ ap with_units c.as_slice.ensures) (c.in-Ok.ensures.room tells)
+    (c.blocks-blocks.ensures ∙ sym c.is_deep.ensures.count_of_blocks) (c.is_deep.ensures.count_of_blocks ∙ c.find.ensures.count_of_blocks) (c.is_deep.ensures.image tells ∙ c.find.ensures.image tells) (c.new-x.ensures ∙ ap with_units c.as_slice.ensures) (c.in-Ok.ensures.room tells)
+
+pub returns-in-Ok-clause-deep : goal.returns-in-Ok-clause-deep
+returns-in-Ok-clause-deep g c tells = (deep_as c.blocks-blocks.result (g.V.PageView.block_count c.args.view.now) (g.V.PageView.image c.find.new.view) (g.V.PageView.image c.args.view.now) c.args.root.now c.args.name.now c.new-x.result c.in-Ok-false.field-0 false (c.blocks-blocks.ensures ∙ c.find.ensures.count_of_blocks) (c.find.ensures.image tells)
+    (ap (λ (e : NameEntry). e.name) c.new-x.ensures ∙ c.as_slice.ensures) c.in-Ok-false.field-0-test (c.in-Ok-false.ensures.deep tells))
+
+pub returns-in-Err-add_and_tell-clause-deep : goal.returns-in-Err-add_and_tell-clause-deep
+returns-in-Err-add_and_tell-clause-deep g c tells =
+    subst (λ e. FollowsRoom (g.V.PageView.block_count c.args.view.now) (page_of (g.V.PageView.image c.args.view.now)) c.args.root.now c.args.name.now (failed e)) (sym c.handed_on.ensures)
+    (shallow_follows (g.V.PageView.block_count c.args.view.now) (page_of (g.V.PageView.image c.args.view.now)) c.args.root.now c.args.name.now c.in-Err-add_and_tell.e (deep_as c.blocks-blocks.result (g.V.PageView.block_count c.args.view.now) (g.V.PageView.image c.find.new.view) (g.V.PageView.image c.args.view.now) c.args.root.now c.args.name.now c.new-x.result c.in-Ok-false.field-0 false (c.blocks-blocks.ensures ∙ c.find.ensures.count_of_blocks) (c.find.ensures.image tells)
+    (ap (λ (e : NameEntry). e.name) c.new-x.ensures ∙ c.as_slice.ensures) c.in-Ok-false.field-0-test (c.in-Ok-false.ensures.deep tells)))
+
+pub returns-in-Err-add_and_tell-clause-way : goal.returns-in-Err-add_and_tell-clause-way
+returns-in-Err-add_and_tell-clause-way g c tells =
+    subst (λ e. AddTellsWay (broken_for (g.V.PageView.block_count c.args.view.now) (page_of (g.V.PageView.image c.args.view.now)) c.args.root.now c.args.name.now) (failed e)) (sym c.handed_on.ensures)
+    (added_tells (broken_for (g.V.PageView.block_count c.args.view.now) (page_of (g.V.PageView.image c.args.view.now)) c.args.root.now c.args.name.now) c.in-Err-add_and_tell.e (c.in-Ok-None.ensures.way tells))
+
+pub returns-in-Ok-true-clause-deep : goal.returns-in-Ok-true-clause-deep
+returns-in-Ok-true-clause-deep g c tells = (deep_as c.blocks-blocks.result (g.V.PageView.block_count c.args.view.now) (g.V.PageView.image c.find.new.view) (g.V.PageView.image c.args.view.now) c.args.root.now c.args.name.now c.new-x.result c.in-Ok-true.field-0 true (c.blocks-blocks.ensures ∙ c.find.ensures.count_of_blocks) (c.find.ensures.image tells)
+    (ap (λ (e : NameEntry). e.name) c.new-x.ensures ∙ c.as_slice.ensures) c.in-Ok-true.field-0-test (c.in-Ok-true.ensures.deep tells))
+
+pub returns-in-Ok-true-clause-refused : goal.returns-in-Ok-true-clause-refused
+returns-in-Ok-true-clause-refused g c tells = λ es spelled. (
+  (sym (c.in-Ok-None.ensures.found tells es spelled) ∙ c.in-Ok-None.field-0-is),
+  (deep_as c.blocks-blocks.result (g.V.PageView.block_count c.args.view.now) (g.V.PageView.image c.find.new.view) (g.V.PageView.image c.args.view.now) c.args.root.now c.args.name.now c.new-x.result c.in-Ok-true.field-0 true (c.blocks-blocks.ensures ∙ c.find.ensures.count_of_blocks) (c.find.ensures.image tells)
+      (ap (λ (e : NameEntry). e.name) c.new-x.ensures ∙ c.as_slice.ensures) c.in-Ok-true.field-0-test (c.in-Ok-true.ensures.deep tells)) es spelled,
+)
+
+pub returns-in-Err-clause-deep : goal.returns-in-Err-clause-deep
+returns-in-Err-clause-deep g c tells = found_no_room (g.V.PageView.block_count c.args.view.now) (page_of (g.V.PageView.image c.args.view.now)) c.args.root.now c.args.name.now c.in-Err.e (c.in-Err.ensures.bad tells)
+
+pub returns-in-Err-clause-way : goal.returns-in-Err-clause-way
+returns-in-Err-clause-way g c tells = found_tells (page_nodes (g.V.PageView.block_count c.args.view.now) (page_of (g.V.PageView.image c.args.view.now))) (root_node (g.V.PageView.block_count c.args.view.now) c.args.root.now) _ c.in-Err.e (c.in-Err.ensures.bad tells) (c.in-Err.ensures.way tells)
+
+pub returns-in-Ok-clause-edits : goal.returns-in-Ok-clause-edits
+returns-in-Ok-clause-edits g c tells =
+    subst (λ blocks. TellsTaken blocks Dtree (page_of (g.V.PageView.image c.args.view.now)) (blocks_of c.args.fresh.now) (blocks_of c.add_and_tell.new.fresh) c.args.tx.now c.add_and_tell.new.tx) (c.is_deep.ensures.count_of_blocks ∙ c.find.ensures.count_of_blocks)
+    (subst (λ image. TellsTaken (g.V.PageView.block_count c.is_deep.new.view) Dtree (page_of image) (blocks_of c.args.fresh.now) (blocks_of c.add_and_tell.new.fresh) c.args.tx.now c.add_and_tell.new.tx) (c.is_deep.ensures.image tells ∙ c.find.ensures.image tells) (c.in-Ok.ensures.edits tells))

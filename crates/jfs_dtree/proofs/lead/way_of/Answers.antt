@@ -1,4 +1,5 @@
 use Rattle.std.proofs.Common.{◌∙◌, sym, subst, map, arith}
+use Rattle.jfs_dtpage.specs.Order.{IsRising}
 use Rattle.jfs_dtpage.specs.Page.{entries_of, names_of}
 use Rattle.jfs_dtpage.proofs.Pages.{names_length}
 use Rattle.jfs_dtree.specs.Node.{below, dt_node, named}
@@ -31,6 +32,7 @@ returns-clause-way c =
     let at = c.child_page.ensures.page in
     leads_down (dt_node c.args.form c.args.blocks c.args.bytes.now) (map below (entries_of c.args.form c.args.bytes.now)) c.args.x.now c.child_place-place.result c.child_page.result (record { key = at.1; page = at.0.addr })
     (inner_read c.args.form c.args.blocks c.args.bytes.now c.in_ok-head.ensures.sound.0 kind inner.0 inner.1)
+    (subst IsRising (keys_are c.args.form c.args.bytes.now) c.in_ok-head.ensures.sound.0.1.1.1.1.0)
     (subst (λ keys. LeadsAt keys c.args.x.now.name c.child_place-place.result) (keys_are c.args.form c.args.bytes.now) (subst (λ name. LeadsAt (names_of c.args.form c.args.bytes.now) name c.child_place-place.result) c.name.ensures.units c.child_place-place.ensures))
     (child_at (entries_of c.args.form c.args.bytes.now) c.child_place-place.result c.child_page.result at.0 at.1 at.2) (sym at.3)
 

@@ -3,6 +3,7 @@ use Rattle.jfs_disk.specs.Image.{page_of}
 use Rattle.jfs_name.specs.declared.name.NameEntry.{NameEntry}
 use Rattle.jfs_dtree.specs.Laws.{point}
 use Rattle.jfs_dtree.specs.Removing.{MissesName}
+use Rattle.jfs_dtree.proofs.Roots.{first_as, told_failed}
 use Rattle.jfs_dtree.proofs.Lessened.{removes_as, missed_as, misses_as}
 use Rattle.jfs_dtree.proofs.removing.remove.Goals as goal
 
@@ -25,3 +26,19 @@ pub returns-in-Err-clause-missed : goal.returns-in-Err-clause-missed
 returns-in-Err-clause-missed g c tells =
     subst (MissesName (g.V.PageView.block_count c.args.view.now) (page_of (g.V.PageView.image c.args.view.now)) c.args.name.now c.args.root.now) (sym c.handed_on.ensures)
     (misses_as c.blocks-blocks.result (g.V.PageView.block_count c.args.view.now) (g.V.PageView.image c.args.view.now) c.args.root.now c.args.name.now c.in-Err.e c.blocks-blocks.ensures (c.in-Err.ensures.bad tells))
+
+pub returns-in-Ok-Some-clause-way : goal.returns-in-Ok-Some-clause-way
+returns-in-Ok-Some-clause-way g c tells =
+    sym (first_as c.blocks-blocks.result (g.V.PageView.block_count c.args.view.now) (g.V.PageView.image c.args.view.now) c.args.root.now c.args.name.now c.new-x.result c.blocks-blocks.ensures (ap (λ (e : NameEntry). e.name) c.new-x.ensures ∙ c.as_slice.ensures))
+    ∙ c.in-Ok-Some.ensures.way tells
+
+pub returns-in-Ok-None-clause-way : goal.returns-in-Ok-None-clause-way
+returns-in-Ok-None-clause-way g c tells =
+    sym (first_as c.blocks-blocks.result (g.V.PageView.block_count c.args.view.now) (g.V.PageView.image c.args.view.now) c.args.root.now c.args.name.now c.new-x.result c.blocks-blocks.ensures (ap (λ (e : NameEntry). e.name) c.new-x.ensures ∙ c.as_slice.ensures))
+    ∙ c.in-Ok-None.ensures.way tells
+
+pub returns-in-Err-clause-way : goal.returns-in-Err-clause-way
+returns-in-Err-clause-way g c tells =
+    told_failed _ _ c.in-Err.e c.handed_on.result c.handed_on.ensures
+    (first_as c.blocks-blocks.result (g.V.PageView.block_count c.args.view.now) (g.V.PageView.image c.args.view.now) c.args.root.now c.args.name.now c.new-x.result c.blocks-blocks.ensures (ap (λ (e : NameEntry). e.name) c.new-x.ensures ∙ c.as_slice.ensures))
+    (c.in-Err.ensures.way tells)

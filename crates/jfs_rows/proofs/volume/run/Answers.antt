@@ -9,5 +9,5 @@ none_asked : (asked : Result Command Usage) → 0 ≡ length (scripts_asked aske
 none_asked (Ok command) = refl
 none_asked (Err usage) = refl
 
-pub jfs_top-requires-after_bounds : goal.jfs_top-requires-after_bounds
-jfs_top-requires-after_bounds g c κs within = ap (λ l. length l) c.new-scripts.ensures.items ∙ none_asked (command_of (texts c.deref.result.now))
+pub top-requires-after_bounds : goal.top-requires-after_bounds
+top-requires-after_bounds g c κs within = ap (λ l. length l) c.new-scripts.ensures.items ∙ none_asked (command_of (texts c.deref.result.now))

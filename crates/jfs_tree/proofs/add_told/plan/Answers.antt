@@ -1,9 +1,14 @@
-use Rattle.std.proofs.Common.{◌-◌, ◌∙◌, ap, sym, subst, length}
+use Rattle.std.proofs.Common.{◌-◌, ◌∙◌, ap, sym, subst, length, take}
 use Rattle.std.specs.Prelude.{reverse}
+use Rattle.jfs_tree.specs.Call.{nodes}
+use Rattle.jfs_tree.specs.Room.{GrowsLevel, at_page}
 use Rattle.jfs_tree.specs.Form.{AllBelow}
-use Rattle.jfs_tree.specs.Fresh.{blocks_of}
+use Rattle.jfs_disk.specs.Image.{page_of}
+use Rattle.jfs_tree.specs.Fresh.{allocs_of, blocks_of}
+use Rattle.jfs_tree.proofs.Changed.{changes_as, taken_changes}
 use Rattle.jfs_tree.proofs.Runs.{below_reverse, left_named, taken_named}
-use Rattle.jfs_tree.proofs.Adds.{refuses_as, adds_told, told_as, ok_maps, full_as, takes_as}
+use Rattle.jfs_tree.proofs.Adds.{refuses_as, adds_told, levels_told, told_as, ok_maps, full_as, takes_as}
+use Rattle.jfs_tree.proofs.FilledRoots.{thin_told}
 use Rattle.jfs_tree.proofs.add_told.plan.Goals as goal
 
 pub add_entry-requires-clause-within : goal.add_entry-requires-clause-within
@@ -28,10 +33,33 @@ returns-clause-adds g c tells =
     (left_named (blocks_of c.args.fresh.now) c.as_slice.result.now c.reversed-stack.result.items c.add_entry.new.fresh.items (blocks_of p.fresh) c.len.result
     (c.as_slice.ensures.value ∙ c.in-Ok.ensures) (c.len.ensures ∙ c.add_entry.new.fresh.ok.0) (c.reversed-stack.ensures ∙ ap reverse c.in-Ok-blocks_of.ensures) c.add_entry.ensures.front rest))
 
+pub returns-clause-levels : goal.returns-clause-levels
+returns-clause-levels g c tells =
+    let blocks = g.V.PageView.block_count c.args.view.now in
+    let image = g.V.PageView.image c.args.view.now in
+    ok_maps c.finish.result (c.finish.ensures.told tells) c.finish.ensures.rest (λ p told rest.
+    levels_told g.F.PageForm.scale c.args.x.now (g.F.PageForm.node c.args.form.now) blocks image (g.F.PageForm.node c.args.top.now c.args.root.now) (g.F.PageForm.node c.args.top.now c.add_entry.new.root)
+    (g.F.PageForm.is_full c.args.form.now) (λ bytes. g.F.PageForm.has_no_room c.args.form.now bytes c.args.x.now)
+    (g.F.PageForm.is_full c.args.top.now c.args.root.now × g.F.PageForm.has_no_room c.args.top.now c.args.root.now c.args.x.now)
+    (λ key. g.F.PageForm.is_full c.args.top.now c.args.root.now × g.F.PageForm.has_no_place c.args.top.now c.args.root.now key)
+    c.new-draft.result.pages.items c.add_entry.new.draft.pages.items (blocks_of c.args.fresh.now) c.reversed-stack.result.items c.args.tx.now p.tx tt
+    (c.requires.children c.add_entry.new.root).0 (λ bytes. (c.requires.children bytes).1) c.new-draft.ensures (c.in_default-add_entry.ensures.levels tells)
+    (told_as (g.V.PageView.block_count c.add_entry.new.view) blocks (g.V.PageView.image c.add_entry.new.view) image c.add_entry.new.draft.pages.items c.args.tx.now p.tx c.add_entry.ensures.count_of_blocks (c.add_entry.ensures.image tells) told)
+    (c.reversed-stack.ensures ∙ ap reverse c.in-Ok-blocks_of.ensures))
+
 pub returns-clause-taken : goal.returns-clause-taken
 returns-clause-taken g c =
     ok_maps c.finish.result c.finish.ensures.rest c.finish.ensures.allocs (λ p rest ends.
     taken_named (blocks_of c.args.fresh.now) c.as_slice.result.now (blocks_of p.fresh) (length c.as_slice.result.now - c.len.result) c.args.tx.now p.tx (c.as_slice.ensures.value ∙ c.in-Ok.ensures) rest ends)
+
+pub returns-clause-edits : goal.returns-clause-edits
+returns-clause-edits g c tells =
+    let blocks = g.V.PageView.block_count c.args.view.now in
+    let image = g.V.PageView.image c.args.view.now in
+    let taken = take (length c.as_slice.result.now - c.len.result) c.as_slice.result.now in
+    ok_maps c.finish.result c.finish.ensures.rest (c.finish.ensures.edits tells) (λ p rest edits.
+    taken_changes blocks c.args.kind (page_of image) (blocks_of c.args.fresh.now) c.as_slice.result.now (blocks_of p.fresh) (length c.as_slice.result.now - c.len.result) c.args.tx.now p.tx (c.as_slice.ensures.value ∙ c.in-Ok.ensures) rest
+    (changes_as (g.V.PageView.block_count c.add_entry.new.view) blocks c.args.kind (g.V.PageView.image c.add_entry.new.view) image taken (allocs_of taken) c.args.tx.now p.tx c.add_entry.ensures.count_of_blocks (c.add_entry.ensures.image tells) edits))
 
 pub returns-in-Err-clause-full : goal.returns-in-Err-clause-full
 returns-in-Err-clause-full g c tells =
@@ -39,7 +67,10 @@ returns-in-Err-clause-full g c tells =
     (g.F.PageForm.is_full c.args.form.now) (λ bytes. g.F.PageForm.has_no_room c.args.form.now bytes c.args.x.now)
     (g.F.PageForm.is_full c.args.top.now c.args.root.now × g.F.PageForm.has_no_room c.args.top.now c.args.root.now c.args.x.now)
     (λ key. g.F.PageForm.is_full c.args.top.now c.args.root.now × g.F.PageForm.has_no_place c.args.top.now c.args.root.now key)
-    c.reversed-stack.result.items (blocks_of c.args.fresh.now) c.new-draft.result.pages.items c.add_entry.new.draft.pages.items c.in-Err.e
+    c.reversed-stack.result.items (blocks_of c.args.fresh.now) c.new-draft.result.pages.items c.add_entry.new.draft.pages.items
+    (GrowsLevel g.F.PageForm.scale c.args.x.now (nodes (g.F.PageForm.node c.args.form.now) c.new-draft.result.pages.items (g.V.PageView.image c.args.view.now)) (at_page (g.F.PageForm.is_full c.args.form.now) c.new-draft.result.pages.items (g.V.PageView.image c.args.view.now)) (at_page (λ bytes. g.F.PageForm.has_no_room c.args.form.now bytes c.args.x.now) c.new-draft.result.pages.items (g.V.PageView.image c.args.view.now))
+    (g.F.PageForm.node c.args.top.now c.args.root.now) (g.F.PageForm.is_full c.args.top.now c.args.root.now × g.F.PageForm.has_no_room c.args.top.now c.args.root.now c.args.x.now) (λ key. g.F.PageForm.is_full c.args.top.now c.args.root.now × g.F.PageForm.has_no_place c.args.top.now c.args.root.now key)
+    (g.F.PageForm.node c.args.top.now c.add_entry.new.root) (nodes (g.F.PageForm.node c.args.form.now) c.add_entry.new.draft.pages.items (g.V.PageView.image c.args.view.now))) c.in-Err.e
     (c.reversed-stack.ensures ∙ ap reverse c.in-Ok-blocks_of.ensures) c.new-draft.ensures (c.in-Err.ensures.levels tells)
 
 pub returns-clause-room : goal.returns-clause-room
@@ -54,3 +85,14 @@ returns-clause-room g c tells =
     (left_named (blocks_of c.args.fresh.now) c.as_slice.result.now c.reversed-stack.result.items c.add_entry.new.fresh.items (blocks_of p.fresh) c.len.result
     (c.as_slice.ensures.value ∙ c.in-Ok.ensures) (c.len.ensures ∙ c.add_entry.new.fresh.ok.0) (c.reversed-stack.ensures ∙ ap reverse c.in-Ok-blocks_of.ensures) c.add_entry.ensures.front rest)
     (c.in_default-add_entry.ensures.taken tells))
+
+pub returns-clause-thin : goal.returns-clause-thin
+returns-clause-thin g c fills tells =
+    let blocks = g.V.PageView.block_count c.args.view.now in
+    let image = g.V.PageView.image c.args.view.now in
+    ok_maps c.finish.result (c.finish.ensures.told tells) c.finish.ensures.rest (λ p told rest.
+    thin_told g.F.PageForm.scale g.met.F.PageForm.order c.args.x.now (g.F.PageForm.node c.args.form.now) blocks image (g.F.PageForm.node c.args.top.now c.args.root.now) (g.F.PageForm.node c.args.top.now c.add_entry.new.root)
+    c.new-draft.result.pages.items c.add_entry.new.draft.pages.items (blocks_of c.args.fresh.now) c.reversed-stack.result.items c.add_entry.new.fresh.items c.args.tx.now p.tx
+    (c.requires.children c.add_entry.new.root).0 (λ bytes. (c.requires.children bytes).1) c.new-draft.ensures (c.in_default-add_entry.ensures.adds tells) (c.in_default-add_entry.ensures.filled fills tells)
+    (told_as (g.V.PageView.block_count c.add_entry.new.view) blocks (g.V.PageView.image c.add_entry.new.view) image c.add_entry.new.draft.pages.items c.args.tx.now p.tx c.add_entry.ensures.count_of_blocks (c.add_entry.ensures.image tells) told)
+    (c.reversed-stack.ensures ∙ ap reverse c.in-Ok-blocks_of.ensures))

@@ -1,5 +1,8 @@
 use Rattle.std.proofs.Common.{sym, ap, ◌∙◌, subst, ◌-◌, arith, Ok}
 use Rattle.jfs_tree.specs.Form.{Leads}
+use Rattle.jfs_tree.specs.Call.{pages_of}
+use Rattle.jfs_tree.specs.Path.{below_root}
+use Rattle.jfs_tree.proofs.Path.{way_deep, way_breaks, way_ends, way_goes}
 use Rattle.jfs_tree.proofs.Finding.{here_finds, down_finds, down_breaks}
 use Rattle.jfs_tree.proofs.find.+find_below.Goals as goal
 
@@ -22,3 +25,25 @@ returns-in-Ok-Down-clause-bad g t c tells =
     (let h = c.if-most-eq0.false in omega (arith, h)) (c.page.follows.holds-at-none.same_image tells) (c.in-Ok.ensures.bytes tells)
     (rw (sym c.bytes.ensures.value) (subst (λ w. Leads g.F.PageForm.scale c.args.x.now (g.F.PageForm.node c.args.form.now c.bytes.result.now) (Ok w)) c.in-Ok-Down.field-0-is c.in-Ok-Down.ensures.way))
     (c.find_below.ensures.bad tells)
+
+pub returns-then-most-eq0-clause-way : goal.returns-then-most-eq0-clause-way
+returns-then-most-eq0-clause-way g t c tells =
+    way_deep g.F.PageForm.scale (pages_of (g.F.PageForm.node c.args.form.now) (g.V.PageView.image c.args.view.now)) (g.F.PageForm.scale.from c.args.x.now) c.args.most c.args.page c.if-most-eq0.true
+
+pub returns-in-Err-way_below-clause-way : goal.returns-in-Err-way_below-clause-way
+returns-in-Err-way_below-clause-way g t c tells =
+    way_breaks (g.F.PageForm.node c.args.form.now) g.F.PageForm.scale c.args.x.now (g.V.PageView.image c.args.view.now) c.args.most (c.args.most - 1) c.args.page c.in-Ok.bytes.now.0
+    (let h = c.if-most-eq0.false in omega (arith, h)) (c.in-Ok.ensures.bytes tells) c.in-Err-way_below.rule (ap (λ b. below_root (g.F.PageForm.node c.args.form.now b)) (sym c.bytes.ensures.value) ∙ c.in-Err-way_below.ensures.below)
+
+pub returns-in-Ok-Here-clause-way : goal.returns-in-Ok-Here-clause-way
+returns-in-Ok-Here-clause-way g t c tells =
+    way_ends (g.F.PageForm.node c.args.form.now) g.F.PageForm.scale c.args.x.now (g.V.PageView.image c.args.view.now) c.args.most (c.args.most - 1) c.args.page c.in-Ok.bytes.now.0
+    (let h = c.if-most-eq0.false in omega (arith, h)) (c.in-Ok.ensures.bytes tells)
+    (rw (sym c.bytes.ensures.value) (subst (λ w. Leads g.F.PageForm.scale c.args.x.now (below_root (g.F.PageForm.node c.args.form.now c.bytes.result.now)) (Ok w)) c.in-Ok-Here.field-0-is c.in-Ok-Here.ensures.below))
+
+pub returns-in-Ok-Down-clause-way : goal.returns-in-Ok-Down-clause-way
+returns-in-Ok-Down-clause-way g t c tells =
+    way_goes (g.F.PageForm.node c.args.form.now) g.F.PageForm.scale c.args.x.now (g.V.PageView.image c.args.view.now) c.args.most (c.args.most - 1) c.args.page c.in-Ok.bytes.now.0
+    (let h = c.if-most-eq0.false in omega (arith, h)) (c.in-Ok.ensures.bytes tells) (g.V.PageView.image c.page.follows.lender-at-none) c.in-Ok-Down.field-0-0 c.in-Ok-Down.child c.in-Ok-Down.field-0-2 c.find_below.result (c.page.follows.holds-at-none.same_image tells)
+    (rw (sym c.bytes.ensures.value) (subst (λ w. Leads g.F.PageForm.scale c.args.x.now (g.F.PageForm.node c.args.form.now c.bytes.result.now) (Ok w)) c.in-Ok-Down.field-0-is c.in-Ok-Down.ensures.way))
+    (c.find_below.ensures.way tells)

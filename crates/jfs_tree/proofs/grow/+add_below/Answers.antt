@@ -1,10 +1,12 @@
 use Rattle.std.proofs.Common.{sym, ap, ◌∙◌, subst, ◌-◌, arith, Ok, IfSome, ◌<◌}
 use Rattle.jfs_bits.specs.declared.rule.Rule.TheVariants as rules
 use Rattle.jfs_tree.specs.Call.{nodes}
-use Rattle.jfs_tree.specs.Form.{Leads}
+use Rattle.jfs_tree.specs.Form.{Leads, TellsLast}
+use Rattle.jfs_tree.specs.Path.{below_root}
 use Rattle.jfs_tree.proofs.Adding.{refute_zero, refute_broken, refute_here, refute_down, grown_ok, grown_bad}
 use Rattle.jfs_tree.proofs.Rooms.{grown_room}
 use Rattle.jfs_tree.proofs.BytesKept.{here_keeps, grown_keeps}
+use Rattle.jfs_tree.proofs.FilledSteps.{grown_filled}
 use Rattle.jfs_tree.proofs.grow.+add_below.Goals as goal
 
 pub returns-then-most-eq0-clause-bad : goal.returns-then-most-eq0-clause-bad
@@ -15,10 +17,10 @@ pub take_grown-requires-clause-within : goal.take_grown-requires-clause-within
 take_grown-requires-clause-within g t c =
     subst (λ n. IfSome c.in-Ok-add_below.grown.sibling (λ s. s.page < n)) (sym c.requires.bound) (c.in-Ok-add_below.ensures.below (g.V.PageView.block_count c.args.view.now) c.requires.within).1
 
-pub returns-in-Err-way-clause-bad : goal.returns-in-Err-way-clause-bad
-returns-in-Err-way-clause-bad g t c tells =
-    refute_broken g.F.PageForm.scale c.args.x.now (nodes (g.F.PageForm.node c.args.form.now) c.args.draft.now.pages.items (g.V.PageView.image c.args.view.now)) c.args.most c.args.page c.args.fresh.now.items c.args.page c.in-Err-way.rule c.in-Err-way.rule
-    (ap (g.F.PageForm.node c.args.form.now) (sym (c.in-Ok.ensures.bytes tells) ∙ sym c.bytes.ensures.value) ∙ c.in-Err-way.ensures.way)
+pub returns-in-Err-way_below-clause-bad : goal.returns-in-Err-way_below-clause-bad
+returns-in-Err-way_below-clause-bad g t c tells =
+    refute_broken g.F.PageForm.scale c.args.x.now (nodes (g.F.PageForm.node c.args.form.now) c.args.draft.now.pages.items (g.V.PageView.image c.args.view.now)) c.args.most c.args.page c.args.fresh.now.items c.args.page c.in-Err-way_below.rule c.in-Err-way_below.rule
+    (ap (λ b. below_root (g.F.PageForm.node c.args.form.now b)) (sym (c.in-Ok.ensures.bytes tells) ∙ sym c.bytes.ensures.value) ∙ c.in-Err-way_below.ensures.below)
 
 pub returns-in-Ok-take_here-clause-grew : goal.returns-in-Ok-take_here-clause-grew
 returns-in-Ok-take_here-clause-grew g t c tells =
@@ -73,3 +75,17 @@ returns-in-Ok-add_below-clause-keeps g t c tells =
     grown_keeps (g.F.PageForm.node c.args.form.now) g.F.PageForm.scale c.args.x.now c.args.draft.now.pages.items c.add_below.new.draft.pages.items c.take_grown.new.draft.pages.items (g.V.PageView.image c.args.view.now) (g.V.PageView.image c.read.new.view)
     c.args.page c.in-Ok-Down.place c.in-Ok-Down.child c.in-Ok-add_below.grown.levels c.in-Ok.bytes.0 c.args.fresh.now.items c.add_below.new.fresh.items c.take_grown.new.fresh.items c.take_grown.result
     (c.read.ensures.kept tells) (c.in-Ok.ensures.bytes tells) (rw (sym c.bytes.ensures.value) leads) (c.in-Ok-add_below.ensures.keeps tells) c.take_grown.ensures.keeps c.in-Ok-add_below.ensures.front c.take_grown.ensures.front c.take_grown.ensures.levels
+
+pub returns-in-Ok-take_here-clause-filled : goal.returns-in-Ok-take_here-clause-filled
+returns-in-Ok-take_here-clause-filled g t c fills tells =
+    let leads = subst (λ w. Leads g.F.PageForm.scale c.args.x.now (g.F.PageForm.node c.args.form.now c.bytes.result.now) (Ok w)) c.in-Ok-Here.field-0-is c.in-Ok-Here.ensures.way in
+    c.in-Ok-take_here.ensures.filled fills (g.V.PageView.image c.args.view.now) leads.0 (c.in-Ok.ensures.bytes tells) (ap (g.F.PageForm.node c.args.form.now) (sym c.bytes.ensures.value) ∙ leads.1)
+
+pub returns-in-Ok-add_below-clause-filled : goal.returns-in-Ok-add_below-clause-filled
+returns-in-Ok-add_below-clause-filled g t c fills tells =
+    let leads = subst (λ w. Leads g.F.PageForm.scale c.args.x.now (g.F.PageForm.node c.args.form.now c.bytes.result.now) (Ok w)) c.in-Ok-Down.field-0-is c.in-Ok-Down.ensures.way in
+    let ends = subst (λ w. TellsLast (g.F.PageForm.node c.args.form.now c.bytes.result.now) w) c.in-Ok-Down.field-0-is c.in-Ok-Down.ensures.last in
+    grown_filled (g.F.PageForm.node c.args.form.now) g.F.PageForm.scale c.args.x.now c.args.draft.now.pages.items c.add_below.new.draft.pages.items c.take_grown.new.draft.pages.items (g.V.PageView.image c.args.view.now) (g.V.PageView.image c.read.new.view)
+    c.args.page c.in-Ok-Down.place c.in-Ok-Down.child c.in-Ok-add_below.grown.levels c.args.last c.in-Ok-Down.at_end c.in-Ok.bytes.0 c.in-Ok-add_below.grown.sibling c.args.fresh.now.items c.add_below.new.fresh.items c.take_grown.new.fresh.items c.take_grown.result
+    (c.read.ensures.kept tells) (c.in-Ok.ensures.bytes tells) (rw (sym c.bytes.ensures.value) leads) (rw (sym c.bytes.ensures.value) ends) (c.in-Ok-add_below.ensures.grew tells)
+    (rw (sym c.both.ensures) (c.in-Ok-add_below.ensures.filled fills tells)) c.take_grown.ensures.levels (c.take_grown.ensures.filled fills)

@@ -1,4 +1,5 @@
 use Rattle.jfs_tree.proofs.Adding.{grown_none, grown_some, grown_refused}
+use Rattle.jfs_tree.proofs.FilledSteps.{grown_none_filled, grown_some_filled}
 use Rattle.jfs_tree.proofs.grow.take_grown.Goals as goal
 
 pub returns-in-None-clause-did : goal.returns-in-None-clause-did
@@ -14,3 +15,11 @@ pub returns-in-Err-clause-did : goal.returns-in-Err-clause-did
 returns-in-Err-clause-did g c =
     grown_refused (g.F.PageForm.node c.args.form.now) g.F.PageForm.scale g.met.F.PageForm.order c.args.bytes.0 c.args.page c.args.place c.args.grown.sibling c.in-Some.new c.args.draft.now.pages.items c.take_child.new.draft.pages.items c.args.fresh.now.items c.take_child.new.fresh.items
     c.in-Err.e c.in-Some.is c.in-Err.ensures.did
+
+pub returns-in-None-clause-filled : goal.returns-in-None-clause-filled
+returns-in-None-clause-filled g c fills =
+    grown_none_filled (g.F.PageForm.node c.args.form.now) g.F.PageForm.scale g.met.F.PageForm.order c.args.bytes.0 c.args.page c.args.place c.args.last c.args.grown.sibling c.args.draft.now.pages.items c.args.fresh.now.items c.in-None.is
+
+pub returns-in-Ok-clause-filled : goal.returns-in-Ok-clause-filled
+returns-in-Ok-clause-filled g c fills =
+    grown_some_filled (g.F.PageForm.node c.args.form.now) g.F.PageForm.scale c.args.bytes.0 c.args.page c.args.place c.args.last c.args.grown.sibling c.in-Some.new c.args.draft.now.pages.items c.take_child.new.draft.pages.items c.args.fresh.now.items c.in-Ok.sibling c.in-Some.is (c.in-Ok.ensures.filled fills)

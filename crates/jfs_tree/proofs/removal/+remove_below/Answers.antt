@@ -2,8 +2,10 @@ use Rattle.std.proofs.Common.{◌-◌, sym, ap, ◌∙◌, subst, arith, Ok, Err
 use Rattle.jfs_tree.specs.Draft.{shown}
 use Rattle.jfs_tree.specs.Form.{Leads}
 use Rattle.jfs_tree.specs.Call.{pages_of, Finds}
+use Rattle.jfs_tree.specs.Path.{below_root, broken_below}
 use Rattle.jfs_tree.specs.Removal.{entry_of}
 use Rattle.jfs_tree.specs.declared.draft.Drafted.{Drafted}
+use Rattle.jfs_tree.proofs.Path.{way_deep, way_breaks, way_ends, way_is, way_fails, way_read}
 use Rattle.jfs_tree.proofs.Finding.{down_finds, down_breaks}
 use Rattle.jfs_tree.proofs.Removed.{here_shrank, here_found, down_shrank, down_found}
 use Rattle.jfs_tree.proofs.BytesKept.{here_less, down_less}
@@ -67,3 +69,40 @@ returns-in-Ok-Some-clause-keeps g t c tells =
     let image = g.V.PageView.image c.args.view.now in
     down_less (g.F.PageForm.node c.args.form.now) g.F.PageForm.scale c.args.x.now image (g.V.PageView.image c.read.new.view) c.remove_below.new.draft.pages.items c.remove_place.new.draft.pages.items c.args.page c.in-Ok-Down.place c.in-Ok-Down.child c.in-Ok.bytes.0 c.in-Ok-Some.shrunk c.in-Ok-Some.field-0 c.remove_place.result
     c.remove_place.ensures.same c.remove_place.ensures.keeps (c.read.ensures.kept tells) (c.in-Ok.ensures.bytes tells ∙ ap (λ (d : List Drafted). shown d image c.args.page) c.requires.fresh) (rw (sym c.bytes.ensures.value) leads) c.in-Ok-Some.field-0-is (c.in-Ok-Some.ensures.keeps tells)
+
+pub returns-then-most-eq0-clause-way : goal.returns-then-most-eq0-clause-way
+returns-then-most-eq0-clause-way g t c tells =
+    way_deep g.F.PageForm.scale (pages_of (g.F.PageForm.node c.args.form.now) (g.V.PageView.image c.args.view.now)) (g.F.PageForm.scale.from c.args.x.now) c.args.most c.args.page c.if-most-eq0.true
+
+pub returns-in-Err-way_below-clause-way : goal.returns-in-Err-way_below-clause-way
+returns-in-Err-way_below-clause-way g t c tells =
+    way_breaks (g.F.PageForm.node c.args.form.now) g.F.PageForm.scale c.args.x.now (g.V.PageView.image c.args.view.now) c.args.most (c.args.most - 1) c.args.page c.in-Ok.bytes.0
+    (let h = c.if-most-eq0.false in omega (arith, h)) (c.in-Ok.ensures.bytes tells ∙ ap (λ (d : List Drafted). shown d (g.V.PageView.image c.args.view.now) c.args.page) c.requires.fresh) c.in-Err-way_below.rule (ap (λ b. below_root (g.F.PageForm.node c.args.form.now b)) (sym c.bytes.ensures.value) ∙ c.in-Err-way_below.ensures.below)
+
+pub returns-in-Ok-Here-clause-way : goal.returns-in-Ok-Here-clause-way
+returns-in-Ok-Here-clause-way g t c tells =
+    let leads = subst (λ w. Leads g.F.PageForm.scale c.args.x.now (below_root (g.F.PageForm.node c.args.form.now c.bytes.result.now)) (Ok w)) c.in-Ok-Here.field-0-is c.in-Ok-Here.ensures.below in
+    let first = broken_below g.F.PageForm.scale (pages_of (g.F.PageForm.node c.args.form.now) (g.V.PageView.image c.args.view.now)) (g.F.PageForm.scale.from c.args.x.now) c.args.most c.args.page in
+    way_read first c.remove_here.result (way_ends (g.F.PageForm.node c.args.form.now) g.F.PageForm.scale c.args.x.now (g.V.PageView.image c.args.view.now) c.args.most (c.args.most - 1) c.args.page c.in-Ok.bytes.0
+    (let h = c.if-most-eq0.false in omega (arith, h)) (c.in-Ok.ensures.bytes tells ∙ ap (λ (d : List Drafted). shown d (g.V.PageView.image c.args.view.now) c.args.page) c.requires.fresh) (rw (sym c.bytes.ensures.value) leads)) c.remove_here.ensures.cause
+
+pub returns-in-Ok-Some-clause-way : goal.returns-in-Ok-Some-clause-way
+returns-in-Ok-Some-clause-way g t c tells =
+    let leads = subst (λ w. Leads g.F.PageForm.scale c.args.x.now (g.F.PageForm.node c.args.form.now c.bytes.result.now) (Ok w)) c.in-Ok-Down.field-0-is c.in-Ok-Down.ensures.way in
+    let first = broken_below g.F.PageForm.scale (pages_of (g.F.PageForm.node c.args.form.now) (g.V.PageView.image c.args.view.now)) (g.F.PageForm.scale.from c.args.x.now) c.args.most c.args.page in
+    way_read first c.remove_place.result
+    (way_is (g.F.PageForm.node c.args.form.now) g.F.PageForm.scale c.args.x.now (g.V.PageView.image c.args.view.now) c.args.most (c.args.most - 1) c.args.page c.in-Ok.bytes.0
+    (let h = c.if-most-eq0.false in omega (arith, h)) (c.in-Ok.ensures.bytes tells ∙ ap (λ (d : List Drafted). shown d (g.V.PageView.image c.args.view.now) c.args.page) c.requires.fresh) (g.V.PageView.image c.read.new.view) c.in-Ok-Down.place c.in-Ok-Down.child c.in-Ok-Down.field-0-2 (c.read.ensures.kept tells) (rw (sym c.bytes.ensures.value) leads) ∙ c.in-Ok-Some.ensures.way tells)
+    c.remove_place.ensures.cause
+
+pub returns-in-Ok-None-clause-way : goal.returns-in-Ok-None-clause-way
+returns-in-Ok-None-clause-way g t c tells =
+    let leads = subst (λ w. Leads g.F.PageForm.scale c.args.x.now (g.F.PageForm.node c.args.form.now c.bytes.result.now) (Ok w)) c.in-Ok-Down.field-0-is c.in-Ok-Down.ensures.way in
+    way_is (g.F.PageForm.node c.args.form.now) g.F.PageForm.scale c.args.x.now (g.V.PageView.image c.args.view.now) c.args.most (c.args.most - 1) c.args.page c.in-Ok.bytes.0
+    (let h = c.if-most-eq0.false in omega (arith, h)) (c.in-Ok.ensures.bytes tells ∙ ap (λ (d : List Drafted). shown d (g.V.PageView.image c.args.view.now) c.args.page) c.requires.fresh) (g.V.PageView.image c.read.new.view) c.in-Ok-Down.place c.in-Ok-Down.child c.in-Ok-Down.field-0-2 (c.read.ensures.kept tells) (rw (sym c.bytes.ensures.value) leads) ∙ c.in-Ok-None.ensures.way tells
+
+pub returns-in-Err-remove_below-clause-way : goal.returns-in-Err-remove_below-clause-way
+returns-in-Err-remove_below-clause-way g t c tells =
+    let leads = subst (λ w. Leads g.F.PageForm.scale c.args.x.now (g.F.PageForm.node c.args.form.now c.bytes.result.now) (Ok w)) c.in-Ok-Down.field-0-is c.in-Ok-Down.ensures.way in
+    way_fails (g.F.PageForm.node c.args.form.now) g.F.PageForm.scale c.args.x.now (g.V.PageView.image c.args.view.now) c.args.most (c.args.most - 1) c.args.page c.in-Ok.bytes.0
+    (let h = c.if-most-eq0.false in omega (arith, h)) (c.in-Ok.ensures.bytes tells ∙ ap (λ (d : List Drafted). shown d (g.V.PageView.image c.args.view.now) c.args.page) c.requires.fresh) c.remove_below.result (g.V.PageView.image c.read.new.view) c.in-Ok-Down.place c.in-Ok-Down.child c.in-Ok-Down.field-0-2 c.in-Err-remove_below.e (c.read.ensures.kept tells) (rw (sym c.bytes.ensures.value) leads) (c.in-Err-remove_below.ensures.way tells)

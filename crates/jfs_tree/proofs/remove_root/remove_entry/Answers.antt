@@ -1,10 +1,11 @@
-use Rattle.std.proofs.Common.{sym, subst, ℕ, List, None, Some, Ok}
+use Rattle.std.proofs.Common.{sym, ◌∙◌, subst, ℕ, List, None, Some, Ok}
 use Rattle.jfs_tree.specs.Form.{Leads}
 use Rattle.jfs_tree.specs.Call.{nodes, pages_of, Finds}
 use Rattle.jfs_tree.specs.Shrink.{Shrank}
 use Rattle.jfs_tree.specs.Removal.{entry_of}
 use Rattle.jfs_tree.specs.RootLoss.{RemovesAlways}
 use Rattle.jfs_tree.specs.declared.draft.Drafted.{Drafted}
+use Rattle.jfs_tree.proofs.Path.{root_breaks, root_leaf, root_is, way_lost}
 use Rattle.jfs_tree.proofs.RootCalls.{names_root, names_below, down_always}
 use Rattle.jfs_tree.proofs.Removed.{ShrankTo}
 use Rattle.jfs_tree.proofs.RootLost.{here_removes, down_removes}
@@ -69,3 +70,26 @@ returns-in-Ok-Some-clause-keeps g c tells =
     others_keep node g.F.PageForm.scale g.met.F.PageForm.order c.args.x.now image (g.F.PageForm.node c.args.top.now c.args.root.now) c.remove_below.new.draft.pages.items c.in-Ok-Down.place c.in-Ok-Down.page shrunk c.remove_below.new.freed.items leads
     (subst (λ (f : List ℕ). Shrank g.F.PageForm.scale shrunk.entry (pages_of node image) (nodes node c.remove_below.new.draft.pages.items image) shrunk.levels c.in-Ok-Down.page shrunk.kept f c.remove_below.new.freed.items) c.requires.fresh.1 shrank)
     (subst (LossKeeps node g.F.PageForm.scale image c.remove_below.new.draft.pages.items c.in-Ok-Down.page) c.in-Ok-Some.field-0-is (c.in-Ok-Some.ensures.keeps tells))
+
+pub returns-in-Err-clause-way : goal.returns-in-Err-clause-way
+returns-in-Err-clause-way g c tells = root_breaks g.F.PageForm.scale (g.F.PageForm.scale.from c.args.x.now) (pages_of (g.F.PageForm.node c.args.form.now) (g.V.PageView.image c.args.view.now)) (g.F.PageForm.node c.args.top.now c.args.root.now) c.in-Err.rule c.in-Err.ensures.way
+
+pub returns-in-Ok-Here-clause-way : goal.returns-in-Ok-Here-clause-way
+returns-in-Ok-Here-clause-way g c tells =
+    let leads = subst (λ w. Leads g.F.PageForm.scale c.args.x.now (g.F.PageForm.node c.args.top.now c.args.root.now) (Ok w)) c.in-Ok-Here.field-0-is c.in-Ok-Here.ensures.way in
+    root_leaf g.F.PageForm.scale (g.F.PageForm.scale.from c.args.x.now) (pages_of (g.F.PageForm.node c.args.form.now) (g.V.PageView.image c.args.view.now)) (g.F.PageForm.node c.args.top.now c.args.root.now) leads.0 leads.1
+
+pub returns-in-Ok-Some-clause-way : goal.returns-in-Ok-Some-clause-way
+returns-in-Ok-Some-clause-way g c tells =
+    let leads = subst (λ w. Leads g.F.PageForm.scale c.args.x.now (g.F.PageForm.node c.args.top.now c.args.root.now) (Ok w)) c.in-Ok-Down.field-0-is c.in-Ok-Down.ensures.way in
+    root_is g.F.PageForm.scale c.args.x.now (pages_of (g.F.PageForm.node c.args.form.now) (g.V.PageView.image c.args.view.now)) (g.F.PageForm.node c.args.top.now c.args.root.now) c.in-Ok-Down.place c.in-Ok-Down.page leads ∙ c.in-Ok-Some.ensures.way tells
+
+pub returns-in-Ok-None-clause-way : goal.returns-in-Ok-None-clause-way
+returns-in-Ok-None-clause-way g c tells =
+    let leads = subst (λ w. Leads g.F.PageForm.scale c.args.x.now (g.F.PageForm.node c.args.top.now c.args.root.now) (Ok w)) c.in-Ok-Down.field-0-is c.in-Ok-Down.ensures.way in
+    root_is g.F.PageForm.scale c.args.x.now (pages_of (g.F.PageForm.node c.args.form.now) (g.V.PageView.image c.args.view.now)) (g.F.PageForm.node c.args.top.now c.args.root.now) c.in-Ok-Down.place c.in-Ok-Down.page leads ∙ c.in-Ok-None.ensures.way tells
+
+pub returns-in-Err-remove_below-clause-way : goal.returns-in-Err-remove_below-clause-way
+returns-in-Err-remove_below-clause-way g c tells =
+    let leads = subst (λ w. Leads g.F.PageForm.scale c.args.x.now (g.F.PageForm.node c.args.top.now c.args.root.now) (Ok w)) c.in-Ok-Down.field-0-is c.in-Ok-Down.ensures.way in
+    way_lost g.F.PageForm.scale c.args.x.now (pages_of (g.F.PageForm.node c.args.form.now) (g.V.PageView.image c.args.view.now)) (g.F.PageForm.node c.args.top.now c.args.root.now) c.in-Ok-Down.place c.in-Ok-Down.page c.in-Err-remove_below.e leads (c.in-Err-remove_below.ensures.way tells)

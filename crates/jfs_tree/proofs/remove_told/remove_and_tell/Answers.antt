@@ -1,6 +1,7 @@
-use Rattle.std.proofs.Common.{subst, ℕ, List}
+use Rattle.std.proofs.Common.{subst, ℕ, List, []}
 use Rattle.jfs_disk.specs.Image.{page_of}
-use Rattle.jfs_tree.specs.Removes.{RemovesTold, TellsFreed}
+use Rattle.jfs_tree.specs.Removes.{RemovesTold, TellsFreed, page_frees}
+use Rattle.jfs_tree.proofs.Changed.{changes_as}
 use Rattle.jfs_tree.proofs.Adds.{told_as}
 use Rattle.jfs_tree.proofs.Removes.{removes_told}
 use Rattle.jfs_tree.proofs.remove_told.remove_and_tell.Goals as goal
@@ -18,3 +19,10 @@ returns-in-Ok-tell_freed-clause-removes g c tells =
     (c.in-Ok-Some.ensures.removes tells) (c.in-Ok-Some.ensures.keeps tells)
     (told_as (g.V.PageView.block_count c.remove_entry.new.view) blocks (g.V.PageView.image c.remove_entry.new.view) image drafts c.args.tx.now later c.in-Ok-Some.ensures.count_of_blocks (c.in-Ok-Some.ensures.image tells) (c.in-Ok-tell_freed.ensures.told tells))
     (subst (λ (f : List ℕ). TellsFreed f c.args.tx.now later) c.as_slice.ensures.value (c.in-Ok-tell_freed.ensures.edits tells)))
+
+pub returns-in-Ok-tell_freed-clause-edits : goal.returns-in-Ok-tell_freed-clause-edits
+returns-in-Ok-tell_freed-clause-edits g c tells = (
+  c.as_slice.result.now,
+  changes_as (g.V.PageView.block_count c.remove_entry.new.view) (g.V.PageView.block_count c.args.view.now) c.args.kind (g.V.PageView.image c.remove_entry.new.view) (g.V.PageView.image c.args.view.now) [] (page_frees c.as_slice.result.now)
+      c.args.tx.now c.in-Ok-tell_freed.later c.in-Ok-Some.ensures.count_of_blocks (c.in-Ok-Some.ensures.image tells) (c.in-Ok-tell_freed.ensures.changes tells),
+)

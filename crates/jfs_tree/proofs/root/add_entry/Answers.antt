@@ -1,11 +1,13 @@
 use Rattle.std.proofs.Common.{◌<◌, sym, subst, arith, [], Ok, IfSome}
 use Rattle.jfs_tree.specs.Spells.{no_page}
-use Rattle.jfs_tree.specs.Form.{AllBelow, Leads}
+use Rattle.jfs_tree.specs.Form.{AllBelow, Leads, TellsLast}
 use Rattle.jfs_tree.specs.Call.{nodes}
-use Rattle.jfs_tree.specs.Room.{FullFrom, at_page}
+use Rattle.jfs_tree.specs.Room.{FullFrom, GrowsLevel, at_page}
 use Rattle.jfs_tree.proofs.RootCalls.{refuse_broken, refuse_down, here_always_adds, here_always_refuses, grown_always_adds, grown_always_refuses}
 use Rattle.jfs_tree.proofs.Rooms.{root_takes, grown_levels, down_levels, broken_root, here_levels}
 use Rattle.jfs_tree.proofs.BytesKept.{always_keeps}
+use Rattle.jfs_tree.proofs.Becoming.{root_uses, grown_uses}
+use Rattle.jfs_tree.proofs.FilledRoots.{here_always_fills, grown_always_fills}
 use Rattle.jfs_tree.proofs.root.add_entry.Goals as goal
 
 pub root_takes_grown-requires-clause-child : goal.root_takes_grown-requires-clause-child
@@ -52,6 +54,9 @@ returns-in-Err-add_below-clause-refused g c tells =
 pub returns-in-Err-clause-levels : goal.returns-in-Err-clause-levels
 returns-in-Err-clause-levels g c tells =
     broken_root g.F.PageForm.scale c.args.x.now (nodes (g.F.PageForm.node c.args.form.now) c.args.draft.now.pages.items (g.V.PageView.image c.args.view.now)) (nodes (g.F.PageForm.node c.args.form.now) c.args.draft.now.pages.items (g.V.PageView.image c.args.view.now)) (g.F.PageForm.node c.args.top.now c.args.root.now) (g.F.PageForm.node c.args.top.now c.args.root.now) c.in-Err.rule c.args.fresh.now.items no_page
+    (GrowsLevel g.F.PageForm.scale c.args.x.now (nodes (g.F.PageForm.node c.args.form.now) c.args.draft.now.pages.items (g.V.PageView.image c.args.view.now)) (at_page (g.F.PageForm.is_full c.args.form.now) c.args.draft.now.pages.items (g.V.PageView.image c.args.view.now)) (at_page (λ bytes. g.F.PageForm.has_no_room c.args.form.now bytes c.args.x.now) c.args.draft.now.pages.items (g.V.PageView.image c.args.view.now))
+    (g.F.PageForm.node c.args.top.now c.args.root.now) (g.F.PageForm.is_full c.args.top.now c.args.root.now × g.F.PageForm.has_no_room c.args.top.now c.args.root.now c.args.x.now) (λ key. g.F.PageForm.is_full c.args.top.now c.args.root.now × g.F.PageForm.has_no_place c.args.top.now c.args.root.now key)
+    (g.F.PageForm.node c.args.top.now c.args.root.now) (nodes (g.F.PageForm.node c.args.form.now) c.args.draft.now.pages.items (g.V.PageView.image c.args.view.now)))
     (FullFrom g.F.PageForm.scale c.args.x.now (nodes (g.F.PageForm.node c.args.form.now) c.args.draft.now.pages.items (g.V.PageView.image c.args.view.now)) (at_page (g.F.PageForm.is_full c.args.form.now) c.args.draft.now.pages.items (g.V.PageView.image c.args.view.now)) (at_page (λ bytes. g.F.PageForm.has_no_room c.args.form.now bytes c.args.x.now) c.args.draft.now.pages.items (g.V.PageView.image c.args.view.now)) (g.F.PageForm.node c.args.top.now c.args.root.now) (g.F.PageForm.is_full c.args.top.now c.args.root.now × g.F.PageForm.has_no_room c.args.top.now c.args.root.now c.args.x.now) (λ key. g.F.PageForm.is_full c.args.top.now c.args.root.now × g.F.PageForm.has_no_place c.args.top.now c.args.root.now key)) c.in-Err.ensures.way
 
 pub returns-in-Ok-Here-clause-levels : goal.returns-in-Ok-Here-clause-levels
@@ -86,7 +91,10 @@ returns-in-Err-add_below-clause-levels g c tells =
     c.args.draft.now.pages.items [] [] c.in-Ok-Down.place c.in-Ok-Down.page 0 (g.V.PageView.block_count c.args.view.now) c.args.fresh.now.items [] []
     (at_page (g.F.PageForm.is_full c.args.form.now) c.args.draft.now.pages.items (g.V.PageView.image c.args.view.now)) (at_page (λ bytes. g.F.PageForm.has_no_room c.args.form.now bytes c.args.x.now) c.args.draft.now.pages.items (g.V.PageView.image c.args.view.now))
     (g.F.PageForm.is_full c.args.top.now c.args.root.now × g.F.PageForm.has_no_room c.args.top.now c.args.root.now c.args.x.now) (λ key. g.F.PageForm.is_full c.args.top.now c.args.root.now × g.F.PageForm.has_no_place c.args.top.now c.args.root.now key)
-    c.requires.within (let h = c.blocks-blocks.ensures in let i = c.blocks-blocks.type_inv in omega (arith, h, i)) leads c.in-Err-add_below.e (nodes (g.F.PageForm.node c.args.form.now) c.add_below.new.draft.pages.items (g.V.PageView.image c.args.view.now)) (c.in-Err-add_below.ensures.bad tells)
+    c.requires.within (let h = c.blocks-blocks.ensures in let i = c.blocks-blocks.type_inv in omega (arith, h, i)) leads c.in-Err-add_below.e (nodes (g.F.PageForm.node c.args.form.now) c.add_below.new.draft.pages.items (g.V.PageView.image c.args.view.now))
+    (GrowsLevel g.F.PageForm.scale c.args.x.now (nodes (g.F.PageForm.node c.args.form.now) c.args.draft.now.pages.items (g.V.PageView.image c.args.view.now)) (at_page (g.F.PageForm.is_full c.args.form.now) c.args.draft.now.pages.items (g.V.PageView.image c.args.view.now)) (at_page (λ bytes. g.F.PageForm.has_no_room c.args.form.now bytes c.args.x.now) c.args.draft.now.pages.items (g.V.PageView.image c.args.view.now))
+    (g.F.PageForm.node c.args.top.now c.args.root.now) (g.F.PageForm.is_full c.args.top.now c.args.root.now × g.F.PageForm.has_no_room c.args.top.now c.args.root.now c.args.x.now) (λ key. g.F.PageForm.is_full c.args.top.now c.args.root.now × g.F.PageForm.has_no_place c.args.top.now c.args.root.now key)
+    (g.F.PageForm.node c.args.top.now c.args.root.now) (nodes (g.F.PageForm.node c.args.form.now) c.add_below.new.draft.pages.items (g.V.PageView.image c.args.view.now))) (c.in-Err-add_below.ensures.bad tells)
 
 pub returns-in-Ok-clause-keeps : goal.returns-in-Ok-clause-keeps
 returns-in-Ok-clause-keeps g c tells =
@@ -94,3 +102,26 @@ returns-in-Ok-clause-keeps g c tells =
     always_keeps (g.F.PageForm.node c.args.form.now) g.F.PageForm.scale g.met.F.PageForm.order c.args.x.now (g.V.PageView.image c.args.view.now) (g.F.PageForm.node c.args.top.now c.args.root.now) c.args.draft.now.pages.items c.add_below.new.draft.pages.items c.root_takes_grown.new.draft.pages.items
     c.in-Ok-Down.place c.in-Ok-Down.page c.in-Ok.grown.levels (g.V.PageView.block_count c.args.view.now) c.args.fresh.now.items c.add_below.new.fresh.items c.root_takes_grown.new.fresh.items c.in-Ok.grown.sibling c.root_takes_grown.result
     c.requires.within (let h = c.blocks-blocks.ensures in let i = c.blocks-blocks.type_inv in omega (arith, h, i)) leads (c.in-Ok.ensures.grew tells) (c.in-Ok.ensures.keeps tells) c.root_takes_grown.ensures.keeps c.in-Ok.ensures.front c.root_takes_grown.ensures.front
+
+pub returns-in-Ok-Here-clause-used : goal.returns-in-Ok-Here-clause-used
+returns-in-Ok-Here-clause-used g c =
+    root_uses c.root_takes_here.result (g.F.PageForm.is_full c.args.top.now c.args.root.now × g.F.PageForm.has_no_room c.args.top.now c.args.root.now c.args.x.now) c.args.fresh.now.items c.root_takes_here.new.fresh.items c.root_takes_here.ensures.room
+
+pub returns-in-Ok-clause-used : goal.returns-in-Ok-clause-used
+returns-in-Ok-clause-used g c =
+    grown_uses g.F.PageForm.scale (λ key. g.F.PageForm.is_full c.args.top.now c.args.root.now × g.F.PageForm.has_no_place c.args.top.now c.args.root.now key) c.in-Ok-Down.place c.in-Ok.grown.sibling (g.F.PageForm.node c.args.top.now c.args.root.now)
+    c.args.fresh.now.items c.add_below.new.fresh.items c.root_takes_grown.new.fresh.items c.in-Ok.grown.levels c.root_takes_grown.result c.in-Ok.ensures.used.0 c.in-Ok.ensures.used.1 c.root_takes_grown.ensures.room
+
+pub returns-in-Ok-Here-clause-filled : goal.returns-in-Ok-Here-clause-filled
+returns-in-Ok-Here-clause-filled g c fills tells =
+    let leads = subst (λ w. Leads g.F.PageForm.scale c.args.x.now (g.F.PageForm.node c.args.top.now c.args.root.now) (Ok w)) c.in-Ok-Here.field-0-is c.in-Ok-Here.ensures.way in
+    here_always_fills (g.F.PageForm.node c.args.form.now) g.F.PageForm.scale c.args.x.now (g.V.PageView.image c.args.view.now) (g.F.PageForm.node c.args.top.now c.args.root.now) (g.F.PageForm.node c.args.top.now c.root_takes_here.new.root) c.args.draft.now.pages.items c.root_takes_here.new.draft.pages.items leads.0 (g.V.PageView.block_count c.args.view.now) c.args.fresh.now.items c.root_takes_here.new.fresh.items c.root_takes_here.result
+    c.requires.within (let h = c.blocks-blocks.ensures in let i = c.blocks-blocks.type_inv in omega (arith, h, i)) leads.1 c.root_takes_here.ensures.did
+
+pub returns-in-Ok-clause-filled : goal.returns-in-Ok-clause-filled
+returns-in-Ok-clause-filled g c fills tells =
+    let leads = subst (λ w. Leads g.F.PageForm.scale c.args.x.now (g.F.PageForm.node c.args.top.now c.args.root.now) (Ok w)) c.in-Ok-Down.field-0-is c.in-Ok-Down.ensures.way in
+    let ends = subst (λ w. TellsLast (g.F.PageForm.node c.args.top.now c.args.root.now) w) c.in-Ok-Down.field-0-is c.in-Ok-Down.ensures.last in
+    grown_always_fills (g.F.PageForm.node c.args.form.now) g.F.PageForm.scale g.met.F.PageForm.order c.args.x.now (g.V.PageView.image c.args.view.now) (g.F.PageForm.node c.args.top.now c.args.root.now) (g.F.PageForm.node c.args.top.now c.root_takes_grown.new.root) c.args.draft.now.pages.items c.add_below.new.draft.pages.items c.root_takes_grown.new.draft.pages.items
+    c.in-Ok-Down.place c.in-Ok-Down.page c.in-Ok.grown.levels (g.V.PageView.block_count c.args.view.now) c.args.fresh.now.items c.add_below.new.fresh.items c.root_takes_grown.new.fresh.items c.in-Ok.grown.sibling c.in-Ok-Down.last c.root_takes_grown.result
+    c.requires.within (let h = c.blocks-blocks.ensures in let i = c.blocks-blocks.type_inv in omega (arith, h, i)) leads ends (c.in-Ok.ensures.grew tells) (c.in-Ok.ensures.filled fills tells) c.root_takes_grown.ensures.did

@@ -1,6 +1,7 @@
 use Rattle.std.proofs.Common.{rules}
 use Rattle.jfs_tree.proofs.Taking.{child_parted, below_popped}
 use Rattle.jfs_tree.proofs.BytesKept.{two_off}
+use Rattle.jfs_tree.proofs.FilledSteps.{child_parts_filled}
 use Rattle.jfs_tree.proofs.take.split_child.Goals as goal
 
 pub returns-in_err-put_two-clause-below : goal.returns-in_err-put_two-clause-below
@@ -17,3 +18,8 @@ returns-clause-below g c = λ bound h. below_popped bound c.in-Some.q c.args.fre
 pub returns-clause-keeps : goal.returns-clause-keeps
 returns-clause-keeps g c =
     two_off c.args.draft.now.pages.items c.put_two.new.draft.pages.items c.args.page c.in-Some.q c.split_child-key.new.bytes c.split_child-key.new.right c.args.fresh.now.items c.pop.new.self.items c.in_ok-put_two.ensures.puts c.in-Some.ensures.items
+
+pub returns-clause-filled : goal.returns-clause-filled
+returns-clause-filled g c fills =
+    child_parts_filled (g.F.PageForm.node c.args.form.now) g.F.PageForm.scale g.met.F.PageForm.order c.args.bytes.0 c.split_child-key.new.bytes c.split_child-key.new.right c.args.page c.args.place c.in-Some.q c.split_child-key.result c.args.last c.args.sibling
+    c.args.draft.now.pages.items c.put_two.new.draft.pages.items c.args.fresh.now.items c.pop.new.self.items c.split_child-key.ensures.parts (c.split_child-key.ensures.fills fills) c.in-Some.ensures.items c.in_ok-put_two.ensures.puts

@@ -1,6 +1,7 @@
 use Rattle.std.proofs.Common.{rules}
 use Rattle.jfs_tree.proofs.Taking.{here_parted, below_popped}
 use Rattle.jfs_tree.proofs.BytesKept.{two_off}
+use Rattle.jfs_tree.proofs.FilledSteps.{here_parts_filled}
 use Rattle.jfs_tree.proofs.take.split_here.Goals as goal
 
 pub returns-in_err-put_two-clause-below : goal.returns-in_err-put_two-clause-below
@@ -17,3 +18,8 @@ returns-clause-below g c = λ bound h. below_popped bound c.in-Some.q c.args.fre
 pub returns-clause-keeps : goal.returns-clause-keeps
 returns-clause-keeps g c =
     two_off c.args.draft.now.pages.items c.put_two.new.draft.pages.items c.args.page c.in-Some.q c.split-key.new.bytes c.split-key.new.right c.args.fresh.now.items c.pop.new.self.items c.in_ok-put_two.ensures.puts c.in-Some.ensures.items
+
+pub returns-clause-filled : goal.returns-clause-filled
+returns-clause-filled g c fills =
+    here_parts_filled (g.F.PageForm.node c.args.form.now) g.F.PageForm.scale g.met.F.PageForm.order c.args.x.now c.args.bytes.0 c.split-key.new.bytes c.split-key.new.right c.args.page c.in-Some.q c.split-key.result c.args.last
+    c.args.draft.now.pages.items c.put_two.new.draft.pages.items c.args.fresh.now.items c.pop.new.self.items c.split-key.ensures.parts (c.split-key.ensures.fills fills) c.in-Some.ensures.items c.in_ok-put_two.ensures.puts

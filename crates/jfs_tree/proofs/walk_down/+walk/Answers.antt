@@ -30,6 +30,7 @@ walk_others-loop-i-preserved g t c =
           (g.F.PageRead.place c.args.low.now) (g.F.PageRead.place c.loop-i.low) c.args.visitor.now c.loop-i.visitor (inv.3 told) c.child-child.ensures.is root (g.F.PageRead.place c.walk_page.new.low) c.walk_page.new.visitor (g.F.PageRead.place c.walk_key.new.low) c.in-Ok.ensures.passes.0 c.in-Ok.ensures.passes.1
           (subst (λ (i : Image). PageMet g.F.PageForm.scale g.W.Visitor.sees_page g.W.Visitor.sees_entry (pages_of (g.F.PageForm.node c.args.form.now) i) root c.args.below c.child-child.result.page (g.F.PageRead.place c.walk_key.new.low) c.loop-i.visitor (Ok (g.F.PageRead.place c.walk_page.new.low)) c.walk_page.new.visitor)
           (inv.0 told) (c.in-Ok-walk_page.ensures.met told root)),
+      c.walk_page.ensures.device ∙ inv.4,
     )
 
 pub walk_page-returns-in-Leaf-clause-fault : goal.walk_page-returns-in-Leaf-clause-fault

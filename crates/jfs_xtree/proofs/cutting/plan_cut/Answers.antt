@@ -1,12 +1,15 @@
-use Rattle.std.proofs.Common.{◌≡◌, sym, subst, ◌∙◌, length, arith, false, ◌<◌}
+use Rattle.std.proofs.Common.{◌≡◌, ◌++◌, [], sym, subst, ◌∙◌, length, arith, false, ◌<◌}
 use Rattle.jfs_disk.specs.Image.{page_of}
+use Rattle.jfs_bits.specs.declared.rule.PageKind.TheVariants.{Xtree}
+use Rattle.jfs_tree.specs.Removes.{page_frees}
 use Rattle.jfs_tree.specs.Root.{NamesBroken}
 use Rattle.jfs_xtpage.specs.declared.head.XtHead.{XtHead}
 use Rattle.jfs_xtree.specs.Node.{xt_scale, xt_node, is_leaf}
 use Rattle.jfs_xtree.specs.Spells.{root_form, root_node, page_nodes, tree_error}
 use Rattle.jfs_xtree.specs.Errors.{handed_on}
-use Rattle.jfs_xtree.specs.Cutting.{CutsExtents}
+use Rattle.jfs_xtree.specs.Cutting.{CutsExtents, run_frees}
 use Rattle.jfs_tree.proofs.Adds.{told_as}
+use Rattle.jfs_tree.proofs.Changed.{changes_as}
 use Rattle.jfs_xtree.proofs.CutRoots.{cuts_extents, cut_names, root_names}
 use Rattle.jfs_xtree.proofs.cutting.plan_cut.Goals as goal
 
@@ -32,3 +35,13 @@ returns-in-Ok-tell_cut-clause-cuts g c tells =
     (omega (arith, small)) c.root_form-form.ensures c.in_default.ensures.sound.1 (c.in-Ok.ensures.cuts tells) c.in-Ok.ensures.leaf c.in-Ok.ensures.kind c.in-Ok.ensures.kept c.close_root.ensures.stays c.close_root.ensures.empties
     (told_as (g.V.PageView.block_count c.cut_page.new.view) c.blocks-blocks.result (g.V.PageView.image c.cut_page.new.view) image c.cut_page.new.cut.draft.pages.items c.args.tx.now c.in-Ok-tell_cut.later (c.in-Ok.ensures.count_of_blocks ∙ sym c.blocks-blocks.ensures) (c.in-Ok.ensures.image tells) (c.in-Ok-tell_cut.ensures.told tells))
     c.in-Ok-tell_cut.ensures.frees)
+
+pub returns-in-Ok-tell_cut-clause-edits : goal.returns-in-Ok-tell_cut-clause-edits
+returns-in-Ok-tell_cut-clause-edits g c tells =
+    let freed = c.cut_page.new.cut.pages.items in
+    let runs = c.cut_page.new.cut.runs in (
+      freed,
+      runs,
+      changes_as (g.V.PageView.block_count c.cut_page.new.view) (g.V.PageView.block_count c.args.view.now) Xtree (g.V.PageView.image c.cut_page.new.view) (g.V.PageView.image c.args.view.now) [] (page_frees freed ++ run_frees runs) c.args.tx.now c.in-Ok-tell_cut.later
+          c.in-Ok.ensures.count_of_blocks (c.in-Ok.ensures.image tells) (c.in-Ok-tell_cut.ensures.changes tells),
+    )

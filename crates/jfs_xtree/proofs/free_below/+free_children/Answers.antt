@@ -46,6 +46,7 @@ loop-i-preserved g t c =
             c.is_leaf.ensures c.get_u8.ensures.value w.if-is_leaf.true)
             c.in_ok-push_page.ensures.pages (w.in_ok-push_runs.ensures.runs ∙ ap (λ b. c.loop-i.cut.runs ++ runs_of (entries_of b)) w.bytes-then-is_leaf.ensures.value)
             (subst (λ (k : Cut). FreesUnder (page_nodes c.args.blocks (page_of image)) entries k.pages.items end k.runs later) w.cut-is rest)),
+        ap (λ v. g.V.PageView.device v) w.view-is ∙ c.in-Ok.ensures.device ∙ inv.6,
       )
       | else-is_leaf+in_default w ↦ (
         (λ tells. ap (λ v. g.V.PageView.image v) w.view-is ∙ w.in_default.ensures.image tells ∙ c.in-Ok.ensures.image tells ∙ inv.0 tells),
@@ -62,6 +63,7 @@ loop-i-preserved g t c =
             (subst (λ (i : Image). FreesUnder (page_nodes c.args.blocks (page_of i)) (entries_of c.in-Ok.page.0) c.push_page.new.pages.items w.free_children.new.cut.pages.items c.loop-i.cut.runs w.free_children.new.cut.runs) (c.in-Ok.ensures.image tells ∙ inv.0 tells)
             (subst (λ b. FreesUnder (page_nodes c.args.blocks (page_of (g.V.PageView.image c.read_page.new.view))) (entries_of b) c.push_page.new.pages.items w.free_children.new.cut.pages.items c.loop-i.cut.runs w.free_children.new.cut.runs) w.bytes-else-is_leaf.ensures.value (w.in_default.ensures.frees tells)))
             (subst (λ (k : Cut). FreesUnder (page_nodes c.args.blocks (page_of image)) entries k.pages.items end k.runs later) w.cut-is rest)),
+        ap (λ v. g.V.PageView.device v) w.view-is ∙ w.in_default.ensures.device ∙ c.in-Ok.ensures.device ∙ inv.6,
       )
     ]
 

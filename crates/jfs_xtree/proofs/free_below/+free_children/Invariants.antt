@@ -15,3 +15,4 @@ invariant-loop-i g l =
     × (l.cut.draft.pages.items ≡ l.fn.cut.draft.pages.items) × (l.fn.from ≤ l.i)
     × (g.V.PageView.tells → (end : List ℕ) (later : List Pxd) → FreesUnder (page_nodes l.blocks (page_of (g.V.PageView.image l.fn.view))) (drop l.i (entries_of l.bytes)) l.cut.pages.items end l.cut.runs later
     → FreesUnder (page_nodes l.blocks (page_of (g.V.PageView.image l.fn.view))) (drop l.fn.from (entries_of l.bytes)) l.fn.cut.pages.items end l.fn.cut.runs later)
+    × (g.V.PageView.device l.view ≡ g.V.PageView.device l.fn.view)

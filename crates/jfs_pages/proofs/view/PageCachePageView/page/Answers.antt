@@ -1,4 +1,5 @@
 use Rattle.std.proofs.Common.{refl, sym}
+use Rattle.jfs_ranges.proofs.Device.{same_device}
 use Rattle.jfs_pages.specs.Whole.{page_of-image_in}
 use Rattle.jfs_pages.proofs.Lend.{image-same, carries, bytes-of}
 use Rattle.jfs_pages.proofs.view.PageCachePageView.page.Goals as goal
@@ -15,6 +16,7 @@ returns g c =
         record {
           same_blocks = facts.0;
           same_image = λ t. image-same old.blocks new.blocks (image old.disk) (image new.disk) old.kept new.kept facts.0 (facts.3 t);
+          same_device = same_device g.D.Disk old.disk new.disk facts.5 facts.4.states;
           count = carries _ _ c.get.result facts.7;
         },
       ),

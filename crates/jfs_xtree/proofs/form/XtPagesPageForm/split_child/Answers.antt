@@ -1,9 +1,11 @@
-use Rattle.std.proofs.Common.{◌≡◌, ◌∙◌, sym, ap, subst, ◌+◌, ◌==◌, ◌++◌, ◌∷◌, take, drop, arith}
+use Rattle.std.proofs.Common.{◌≡◌, ◌∙◌, sym, ap, subst, ◌+◌, ◌-◌, ◌==◌, ◌++◌, ◌∷◌, take, drop, arith}
 use Rattle.jfs_bits.specs.declared.extent.Xad.{Xad}
-use Rattle.jfs_xtpage.specs.Page.{entries_of, entry_of}
+use Rattle.jfs_xtpage.specs.Page.{head_of, entries_of, entry_of, count_of}
+use Rattle.jfs_xtpage.specs.declared.head.XtHead.{XtHead}
 use Rattle.jfs_xtree.specs.Node.{with_at, lowered, child_entry}
 use Rattle.jfs_xtree.proofs.Inners.{takes_of, child_parted}
 use Rattle.jfs_xtree.proofs.Forms.{kind_through}
+use Rattle.jfs_xtree.proofs.Halves.{full_count, both_counts, inner_fills}
 use Rattle.jfs_xtree.proofs.form.XtPagesPageForm.split_child.Goals as goal
 
 pub returns-clause-parts : goal.returns-clause-parts
@@ -18,3 +20,14 @@ returns-clause-parts c = λ all at rise.
     (subst (λ p. entries_of c.make_way.new.bytes ≡ take p (entries_of c.args.bytes.now) ++ lowered (p == 0) c.args.child.now.key (entry_of c.args.bytes.now p) ∷ drop (p + 1) (entries_of c.args.bytes.now)) is c.make_way.ensures.entries)
     (kind_through c.args.bytes.now c.make_way.new.bytes c.part.new.bytes c.make_way.ensures.head c.part.ensures.left) c.part.ensures.right
     (ap (λ p. with_at (entries_of c.make_way.new.bytes) (p + 1) (child_entry c.args.child.now.key c.args.child.now.page)) (sym is) ∙ ap (λ (x : Xad). with_at (entries_of c.make_way.new.bytes) (c.min-before.result + 1) x) (sym c.child_entry.ensures.is) ∙ c.part.ensures.rows) c.part.ensures.some c.part.ensures.begins
+
+pub returns-clause-fills : goal.returns-clause-fills
+returns-clause-fills c = λ fills all at rise.
+    let within = (takes_of c.args.self.now.form c.args.self.now.blocks c.args.bytes.now c.args.place _ all at rise).within in
+    let v = c.get_u16.ensures.value in
+    let f = c.from.ensures in
+    let m = c.min-before.ensures in
+    let same : count_of c.make_way.new.bytes ≡ count_of c.args.bytes.now = ap (λ (h : XtHead). h.nextindex - 2) c.make_way.ensures.head in
+    inner_fills c.args.self.now.form c.args.self.now.blocks c.part.new.bytes c.part.new.right c.args.last all c.part.result (returns-clause-parts c all at rise)
+    (both_counts c.args.last (c.min-before.result + 1) (count_of c.make_way.new.bytes) (count_of c.part.new.bytes) (count_of c.part.new.right)
+    (same ∙ full_count c.args.self.now.form c.args.bytes.now c.requires.below c.requires.full) (omega (arith, same, within, v, f, m)) c.part.ensures.last c.part.ensures.halves)

@@ -1,5 +1,0 @@
-use Rattle.jfs_check.proofs.BothWays.{clean_law}
-use Rattle.jfs_check.proofs.law.clean_volumes_are_sound.Goals as goal
-
-pub returns : goal.returns
-returns c = clean_law

@@ -1,0 +1,75 @@
+//! What is found of the inodes in use.
+
+ghost use Rattle.std.specs.Prelude.{◌≡◌, ◌<◌, ◌*◌, ◌%◌, ◌||◌, length, ℕ, OnOk};
+ghost use Rattle.jfs_bits.specs.Bits.{is_taken, is_in_run};
+ghost use Rattle.jfs_disk.specs.Image.{page_of};
+ghost use Rattle.jfs_inode.specs.Inode.{FitsDinode};
+ghost use Rattle.jfs_ranges.specs.View.{CarriesCount};
+ghost use Rattle.jfs_findings.specs.Gains.{Gains};
+ghost use Rattle.jfs_check.specs.Look.{Sees, IsOfFound};
+
+use jfs_bits::set_run;
+use jfs_each::EachInode;
+use jfs_findings::Finding;
+use jfs_inode::Dinode;
+use jfs_object_check::{check_object, check_thin};
+use jfs_owners::Owners;
+use jfs_ranges::{PageView, ViewError};
+use std::alloc::Global;
+
+/// What was found so far: who owns the blocks, a bit for each inode whether it is in use, and what is wrong.
+#[derive(Drop)]
+pub(crate) struct Look {
+    pub(crate) alloc: Global,
+    pub(crate) owners: Owners,
+    pub(crate) used: Vec<u8>,
+    pub(crate) findings: Vec<Finding>,
+}
+
+impl EachInode for Look {
+    ghost sees = { λ blocks image old n f new. Sees blocks image old n f new };
+
+    fn inode<V: PageView>(
+        &mut self,
+        view: &mut V,
+        n: u32,
+        page: u32,
+        inode: &Dinode,
+    ) -> Result<(), ViewError> {
+        look_over(self.alloc, view, n, page, inode, &mut self.findings)?;
+        self.owners.add_object(view, inode)?;
+        mark(self.used.as_mut_slice(), n);
+        Ok(())
+    }
+}
+
+/// Adds the findings of inode `n`, which stands on that page.
+fn look_over<V: PageView>(
+    alloc: Global,
+    view: &mut V,
+    n: u32,
+    page: u32,
+    inode: &Dinode,
+    findings: &mut Vec<Finding>,
+) -> Result<(), ViewError>
+    requires fits { FitsDinode inode.now }
+    ensures image { V.PageView.tells → V.PageView.image view.new ≡ V.PageView.image view.old }
+    ensures count_of_blocks { V.PageView.block_count view.new ≡ V.PageView.block_count view.old }
+    ensures device { V.PageView.device view.new ≡ V.PageView.device view.old }
+    ensures fault { CarriesCount (V.PageView.fault_count view.old) (V.PageView.fault_count view.new) result }
+    ensures found { V.PageView.tells → OnOk result (Gains (IsOfFound (V.PageView.block_count view.old) (page_of (V.PageView.image view.old)) n
+        (record { page = page; inode = inode.now })) findings.old.items findings.new.items) }
+{
+    check_object(view, n, page, inode, findings)?;
+    check_thin(alloc, view, n, inode, findings)?;
+    Ok(())
+}
+
+/// Marks inode `n` as in use.
+fn mark(used: &mut [u8], n: u32)
+    ensures { (i : ℕ) → length used.old % 4 ≡ 0 → n < 8 * length used.old → is_taken used.new i ≡ (is_in_run n 1 i || is_taken used.old i) }
+{
+    if used.len() % 4 == 0 && n as usize / 8 < used.len() {
+        set_run(used, n, 1);
+    }
+}

@@ -1,0 +1,2 @@
+-- the inodes in use, one after the other
+pub mod Each

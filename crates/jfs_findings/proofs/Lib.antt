@@ -1,0 +1,14 @@
+pub mod OneList
+pub mod Stable
+pub mod Canonical
+pub mod Mounted
+pub mod Fixed
+pub mod Clean
+pub mod InUse
+pub mod Sound
+pub mod BothWays
+pub mod Compared
+pub mod Readable
+pub mod Consistent
+pub mod Tidy
+pub mod Ordered

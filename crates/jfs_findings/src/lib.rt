@@ -1,0 +1,13 @@
+//! What a checker finds on a volume.
+#![tactic(auto)]
+
+mod finding;
+mod law;
+mod order;
+
+pub use finding::{Finding, FindingKind};
+pub use law::{
+    canonical_pages_pass, clean_volumes_are_sound, findings_are_one_list,
+    sound_volumes_are_consistent_and_tidy,
+};
+pub use order::put_in_order;

@@ -1,0 +1,14 @@
+pub mod Viewed
+pub mod Bytes
+pub mod Within
+pub mod Holding
+pub mod Mounted
+pub mod Stood
+pub mod Opening
+pub mod Grown
+pub mod Whole
+pub mod Judging
+pub mod Counting
+pub mod Lowest
+pub mod Tallying
+pub mod Spaces

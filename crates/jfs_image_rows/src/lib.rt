@@ -1,0 +1,15 @@
+//! The file trees and the rooms of images made by hand, and of a volume that was formatted.
+#![tactic(auto)]
+
+#[cfg(test)]
+mod formatted;
+#[cfg(test)]
+mod made;
+#[cfg(test)]
+mod nodes;
+#[cfg(test)]
+mod none;
+#[cfg(test)]
+mod rooms;
+#[cfg(test)]
+mod words;

@@ -1,0 +1,101 @@
+-- What is noted of a page of the block map's file.
+use Rattle.std.proofs.Common.{◌≡◌, ◌≢◌, ◌≤◌, ◌<◌, ◌+◌, ◌-◌, ◌*◌, ◌^◌, ◌↔◌, ℕ, suc, Bool, true, false, IsTrue, inl, inr, List, [], ◌∷◌, ◌++◌, Some, None, Option, refl, sym, ap, subst, ◌∙◌, arith}
+use Rattle.std.specs.Prelude.{min, nat_le, nat_lt, ◌==◌, ◌&&◌}
+use Rattle.std.proofs.lemmas.Bool.{cases_eq, or_cases, and_parts, eqb-true, ltb-true}
+use Rattle.jfs_bits.specs.declared.extent.Xad.{Xad}
+use Rattle.jfs_bits.specs.Bits.{is_taken}
+use Rattle.jfs_bits.specs.Field.{range_of}
+use Rattle.jfs_bmap.specs.MapFile.{IsMapPage, is_in_use, pages_of}
+use Rattle.jfs_objects.specs.Contents.{block_of}
+use Rattle.jfs_findings.specs.Gains.{Gains}
+use Rattle.jfs_findings.specs.Maps.{IsMapPageAs}
+use Rattle.jfs_findings.specs.declared.finding.Finding.{Finding}
+use Rattle.jfs_findings.specs.declared.finding.FindingKind.TheVariants as kinds
+use Rattle.jfs_map_check.specs.Findings.{finding, IsOtherAt, IsOtherBit, IsWrongPage, IsWrongBit, IsWrongAt, IsWrongIn, IsWrongBelow}
+use Rattle.jfs_map_check.proofs.Gaining.{gains_then, gains_as}
+
+-- ---- bits
+
+module _ (k n : ℕ) (have want : List ℕ) where
+  pub bit_more : (i : ℕ) (xs ys zs : List Finding) → Gains (IsOtherBit k n have want i) xs ys → Gains (IsOtherAt n (8192 * k + i) have want i) ys zs → Gains (IsOtherBit k n have want (i + 1)) xs zs
+  bit_more i xs ys zs g h =
+      gains_then (IsOtherBit k n have want i) (IsOtherAt n (8192 * k + i) have want i) (IsOtherBit k n have want (i + 1)) xs ys zs g h
+      (λ f p. let l = p.below in record { block = p.block; below = omega (arith, l); is = p.is; differs = p.differs })
+      (λ f p. record { block = i; below = omega arith; is = p.is; differs = p.differs })
+      (λ f p. elim (cases_eq p.block i) [
+        | inl e ↦ inr (record { is = p.is ∙ ap (λ (b : ℕ). finding kinds.Map n (8192 * k + b)) e; differs = subst (λ (b : ℕ). (is_taken have b ≢ is_taken want b)) e p.differs })
+        | inr other ↦ (let l = p.below in inl (record { block = p.block; below = omega (arith, l, other); is = p.is; differs = p.differs }))
+      ])
+
+-- the two maps as parts of their pages
+pub bits_of : (k n i count : ℕ) (a b have want : List ℕ) (xs ys : List Finding) → a ≡ have → b ≡ want → i ≡ count → Gains (IsOtherBit k n a b i) xs ys → Gains (IsOtherBit k n have want count) xs ys
+bits_of k n i count a b have want xs ys ea eb ei g =
+    subst (λ (z : ℕ). Gains (IsOtherBit k n have want z) xs ys) ei
+    (subst (λ (z : List ℕ). Gains (IsOtherBit k n have z i) xs ys) eb
+    (subst (λ (z : List ℕ). Gains (IsOtherBit k n z b i) xs ys) ea g))
+
+-- ---- a page
+
+module _ (blocks agsize : ℕ) (taken : ℕ → Bool) (j n : ℕ) (page : List ℕ) where
+  -- a page that is no dmap has no block's bit
+  pub no_dmap : (xs ys : List Finding) → j < 4 → Gains (IsWrongPage blocks agsize taken j n page) xs ys → Gains (IsWrongAt blocks agsize taken j n page) xs ys
+  no_dmap xs ys small g =
+      gains_as (IsWrongPage blocks agsize taken j n page) (IsWrongAt blocks agsize taken j n page) xs ys g (λ f p. inl p)
+      (λ f p. elim p [ inl q ↦ q | inr q ↦ absurd (let d = q.dmap in omega (arith, d, small)) ])
+
+  -- the canonical page's bits are the set's
+  bit_is : (canon : List ℕ) → 4 ≤ j → IsMapPage blocks agsize taken j canon → (i : ℕ) → i < 8192 → 8192 * (j - 4) + i < blocks → is_taken (range_of canon 3072 1024) i ≡ taken (8192 * (j - 4) + i)
+  bit_is canon most is i small within =
+      let e : j ≡ suc (suc (suc (suc (j - 4)))) = omega arith in
+      let d = subst (λ (m : ℕ). IsMapPage blocks agsize taken m canon) e is in
+      d.dmap.canonical.same i ∙ d.set i within small
+
+  pub dmap_noted : (canon : List ℕ) (count : ℕ) (xs ys zs : List Finding) → 4 ≤ j → count ≡ min (blocks - 8192 * (j - 4)) 8192 → IsMapPage blocks agsize taken j canon
+      → Gains (IsWrongPage blocks agsize taken j n page) xs ys → Gains (IsOtherBit (j - 4) n (range_of page 3072 1024) (range_of canon 3072 1024) count) ys zs → Gains (IsWrongAt blocks agsize taken j n page) xs zs
+  dmap_noted canon count xs ys zs most size is g h =
+      gains_then (IsWrongPage blocks agsize taken j n page) (IsOtherBit (j - 4) n (range_of page 3072 1024) (range_of canon 3072 1024) count) (IsWrongAt blocks agsize taken j n page) xs ys zs g h
+      (λ f p. inl p)
+      (λ f p.
+      let l = p.below in
+      let small : p.block < 8192 = omega (arith, l, size) in
+      let within : 8192 * (j - 4) + p.block < blocks = omega (arith, l, size) in
+      inr (record { dmap = most; block = p.block; small = small; within = within; is = p.is; differs = λ e. p.differs (e ∙ sym (bit_is canon most is p.block small within)) }))
+      (λ f p. elim p [
+        | inl q ↦ inl q
+        | inr q ↦ (
+            let small = q.small in
+            let within = q.within in
+            inr (record { block = q.block; below = omega (arith, small, within, size); is = q.is; differs = λ e. q.differs (e ∙ bit_is canon most is q.block small within) }))
+      ])
+
+-- a dmap in use has a block of the volume
+pub has_block : (blocks j : ℕ) → is_in_use blocks j ≡ true → 4 ≤ j → 8192 * (j - 4) < blocks
+has_block blocks j used most =
+    elim (or_cases (j == 0) (nat_le 3 j && nat_lt j (pages_of blocks)) used) [
+      | inl e ↦ absurd (let z = eqb-true j 0 e in omega (arith, z, most))
+      | inr e ↦ (let l = ltb-true j (pages_of blocks) (and_parts (nat_le 3 j) (nat_lt j (pages_of blocks)) e).1 in omega (arith, l, most))
+    ]
+
+-- ---- a page of the file
+
+module _ (blocks agsize : ℕ) (taken : ℕ → Bool) (pages : ℕ → List ℕ) (extents : List Xad) (j : ℕ) where
+  pub there : (n : ℕ) (page : List ℕ) (xs ys : List Finding) → is_in_use blocks j ≡ true → block_of extents j ≡ Some n → page ≡ pages n → Gains (IsWrongAt blocks agsize taken j n page) xs ys → Gains (IsWrongIn blocks agsize taken pages extents j) xs ys
+  there n page xs ys used at is g =
+      gains_as (IsWrongAt blocks agsize taken j n page) (IsWrongIn blocks agsize taken pages extents j) xs ys g
+      (λ f p. record { used = used; page = n; stands = at; wrong = subst (λ (z : List ℕ). IsWrongAt blocks agsize taken j n z f) is p })
+      (λ f p.
+      let e : p.page ≡ n = (let s = p.stands in cc) in
+      subst (λ (z : List ℕ). IsWrongAt blocks agsize taken j n z f) (ap pages e ∙ sym is) (subst (λ (m : ℕ). IsWrongAt blocks agsize taken j m (pages p.page) f) e p.wrong))
+
+-- ---- page by page
+
+module _ (blocks agsize : ℕ) (taken : ℕ → Bool) (pages : ℕ → List ℕ) (extents : List Xad) where
+  pub one_more : (j : ℕ) (xs ys zs : List Finding) → Gains (IsWrongBelow blocks agsize taken pages extents j) xs ys → Gains (IsWrongIn blocks agsize taken pages extents j) ys zs → Gains (IsWrongBelow blocks agsize taken pages extents (j + 1)) xs zs
+  one_more j xs ys zs g h =
+      gains_then (IsWrongBelow blocks agsize taken pages extents j) (IsWrongIn blocks agsize taken pages extents j) (IsWrongBelow blocks agsize taken pages extents (j + 1)) xs ys zs g h
+      (λ f p. let l = p.below in record { at = p.at; below = omega (arith, l); wrong = p.wrong })
+      (λ f p. record { at = j; below = omega arith; wrong = p })
+      (λ f p. elim (cases_eq p.at j) [
+        | inl e ↦ inr (subst (λ (i : ℕ). IsWrongIn blocks agsize taken pages extents i f) e p.wrong)
+        | inr other ↦ (let l = p.below in inl (record { at = p.at; below = omega (arith, l, other); wrong = p.wrong }))
+      ])

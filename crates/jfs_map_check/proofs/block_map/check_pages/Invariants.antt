@@ -1,0 +1,15 @@
+use Rattle.std.proofs.Common.{◌≡◌, length}
+use Rattle.jfs_disk.specs.Image.{page_of}
+use Rattle.jfs_bmap.specs.States.{is_owned}
+use Rattle.jfs_findings.specs.Gains.{Gains}
+use Rattle.jfs_map_check.specs.Findings.{IsWrongBelow}
+use Rattle.jfs_map_check.proofs.block_map.check_pages.Given as goal
+
+abbrev pub invariant-loop-j : goal.invariant-loop-j
+invariant-loop-j g l = record {
+  image : g.V.PageView.tells → g.V.PageView.image l.view ≡ g.V.PageView.image l.fn.view;
+  count_of_blocks : g.V.PageView.block_count l.view ≡ g.V.PageView.block_count l.fn.view;
+  device : g.V.PageView.device l.view ≡ g.V.PageView.device l.fn.view;
+  fault : g.V.PageView.fault_count l.view ≡ g.V.PageView.fault_count l.fn.view;
+  findings : g.V.PageView.tells → Gains (IsWrongBelow (length l.map.states) l.map.agsize (is_owned l.map) (page_of (g.V.PageView.image l.fn.view)) l.extents l.j) l.fn.findings.items l.findings.items;
+}

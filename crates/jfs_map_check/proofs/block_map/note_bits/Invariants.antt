@@ -1,0 +1,6 @@
+use Rattle.jfs_findings.specs.Gains.{Gains}
+use Rattle.jfs_map_check.specs.Findings.{IsOtherBit}
+use Rattle.jfs_map_check.proofs.block_map.note_bits.Given as goal
+
+abbrev pub invariant-loop-i : goal.invariant-loop-i
+invariant-loop-i l = Gains (IsOtherBit l.k l.n l.have l.want l.i) l.fn.findings.items l.findings.items

@@ -1,0 +1,7 @@
+pub mod Range
+pub mod Within
+pub mod Passed
+pub mod Rows
+pub mod Order
+pub mod Read
+pub mod Inodes

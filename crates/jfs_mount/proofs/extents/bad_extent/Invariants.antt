@@ -1,0 +1,15 @@
+use Rattle.std.proofs.Common.{◌≡◌, ◌≤◌, ◌<◌, ℕ}
+use Rattle.jfs_disk.specs.Image.{page_of}
+use Rattle.jfs_objects.specs.Contents.{block_of}
+use Rattle.jfs_mount.proofs.Inodes.{AllFit}
+use Rattle.jfs_mount.proofs.extents.bad_extent.Given as goal
+
+abbrev pub invariant-loop-i : goal.invariant-loop-i
+invariant-loop-i g l = record {
+  image : g.V.PageView.tells → g.V.PageView.image l.view ≡ g.V.PageView.image l.fn.view;
+  blocks : g.V.PageView.block_count l.view ≡ g.V.PageView.block_count l.fn.view;
+  device : g.V.PageView.device l.view ≡ g.V.PageView.device l.fn.view;
+  count : g.V.PageView.fault_count l.view ≡ g.V.PageView.fault_count l.fn.view;
+  same : (k : ℕ) → l.i < k → block_of l.rest k ≡ block_of l.maps.inodes.extents k;
+  fit : g.V.PageView.tells → AllFit l.maps.blocks (page_of (g.V.PageView.image l.fn.view)) l.maps.inodes.extents l.i;
+}

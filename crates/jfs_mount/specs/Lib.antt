@@ -1,0 +1,5 @@
+-- what the clauses say
+pub mod Subject
+pub mod Mount
+pub mod Files
+pub mod Steps

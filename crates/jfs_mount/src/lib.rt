@@ -1,0 +1,15 @@
+//! What a mount looks at before it reads a volume.
+#![tactic(auto)]
+
+mod bad;
+mod blocks;
+mod extents;
+mod files;
+mod maps;
+mod mount;
+mod numbers;
+mod root;
+
+pub use bad::BadMount;
+pub use maps::Maps;
+pub use mount::{first_broken, mounted_maps};

@@ -1,0 +1,11 @@
+pub mod Counted
+pub mod Found
+pub mod Walks
+pub mod Behind
+pub mod Every
+pub mod OfObjects
+pub mod Ends
+pub mod Beside
+pub mod Bottom
+pub mod OfThin
+pub mod Thinly

@@ -1,0 +1,31 @@
+-- The pages of a level, one after the other.
+use Rattle.std.specs.Prelude.{◌≡◌, ◌<◌, ℕ, suc, List, length, get_or}
+use Rattle.jfs_bits.specs.declared.extent.Xad.{Xad}
+use Rattle.jfs_tree.specs.Walk.{Node}
+use Rattle.jfs_tree.specs.Spells.{with_root}
+use Rattle.jfs_tree.specs.Levels.{entry_count, level}
+use Rattle.jfs_xtpage.specs.declared.head.XtForm.TheVariants.{Root}
+use Rattle.jfs_xtree.specs.Node.{xt_node}
+use Rattle.jfs_xtree.specs.Spells.{page_nodes}
+use Rattle.jfs_findings.specs.declared.finding.Finding.{Finding}
+use Rattle.jfs_findings.specs.declared.finding.FindingKind.TheVariants as kinds
+
+-- this page of inode `n` is such a one
+abbrev pub Tells : ℕ → (ℕ → Type 0) → Finding → Type 0
+Tells n is f = (f.kind ≡ kinds.Thin) × (f.value ≡ n) × is f.page
+
+-- it is that one of a list of pages, has few entries, and isn't the last one
+abbrev pub IsThinAt : {P E : Type 0} → (ℕ → Node P E) → List ℕ → ℕ → ℕ → Type 0
+IsThinAt nodes line j page = (suc j < length line) × (page ≡ get_or line j 0) × (entry_count (nodes page) < 64)
+
+-- among so many at the front
+abbrev pub IsThinOn : {P E : Type 0} → (ℕ → Node P E) → List ℕ → ℕ → ℕ → Type 0
+IsThinOn nodes line i page = (j : ℕ) × (j < i) × IsThinAt nodes line j page
+
+-- on one of so many levels
+abbrev pub IsThinAbove : {P E : Type 0} → (ℕ → Node P E) → ℕ → ℕ → Type 0
+IsThinAbove nodes depth page = (d : ℕ) × (d < depth) × IsThinOn nodes (level nodes d) (length (level nodes d)) page
+
+-- the pages of a tree, with its root
+abbrev pub tree_nodes : ℕ → (ℕ → List ℕ) → List ℕ → ℕ → Node ℕ Xad
+tree_nodes blocks pages root = with_root (xt_node Root blocks root) (page_nodes blocks pages)

@@ -1,0 +1,91 @@
+//! What a checker finds of one object.
+
+ghost use Rattle.std.specs.Prelude.{◌≡◌, ◌⊎◌, false, true, not, OnOk};
+ghost use Rattle.jfs_disk.specs.Image.{page_of};
+ghost use Rattle.jfs_ranges.specs.View.{CarriesCount};
+ghost use Rattle.jfs_inode.specs.Inode.{FitsDinode};
+ghost use Rattle.jfs_objects.specs.Objects.{spelled};
+ghost use Rattle.jfs_meaning.specs.Readers.{readers};
+ghost use Rattle.jfs_findings.specs.Gains.{Gains};
+ghost use Rattle.jfs_findings.specs.Inodes.{attribute_blocks};
+ghost use Rattle.jfs_findings.specs.declared.finding.FindingKind.TheVariants.{Nblocks, Past};
+ghost use Rattle.jfs_object_check.specs.Object.{IsOf};
+ghost use Rattle.jfs_object_check.specs.Tally.{less, is_met};
+ghost use Rattle.jfs_object_check.specs.Steps.{IsBehind, Only};
+
+use crate::attributes::{attribute_blocks, check_run};
+use crate::note::note_if;
+use crate::rules::breaks_rule;
+use crate::tally::{Tally, is_met, less};
+use crate::trees::{check_extents, check_names};
+use jfs_findings::{Finding, FindingKind};
+use jfs_inode::Dinode;
+use jfs_ranges::{PageView, ViewError};
+use std::alloc::AllocError;
+
+/// Whether an inode tells another number of blocks than it owns, where so many are left after its trees.
+fn miscounts(tally: &Tally, inode: &Dinode) -> bool
+    ensures { result ≡ not (is_met (less (less tally.now.left (attribute_blocks inode.now.acl)) (attribute_blocks inode.now.ea))) }
+{
+    let left = tally.left;
+    let acl = attribute_blocks(&inode.acl);
+    let ea = attribute_blocks(&inode.ea);
+    !is_met(less(less(left, acl), ea))
+}
+
+/// What the counts of inode `n` tell, once its trees were walked through: its attributes' blocks behind the volume's, a number of blocks that isn't that of
+/// those that it owns, and an extent behind its size.
+fn check_counts(
+    blocks: u32,
+    n: u32,
+    at: u32,
+    inode: &Dinode,
+    tally: Tally,
+    findings: &mut Vec<Finding>,
+) -> Result<(), AllocError>
+    ensures found { FitsDinode inode.now → OnOk result (Gains (λ f. (IsBehind blocks at inode.now.acl f ⊎ IsBehind blocks at inode.now.ea f)
+        ⊎ (Only Nblocks at n (is_met (less (less tally.left (attribute_blocks inode.now.acl)) (attribute_blocks inode.now.ea)) ≡ false) f
+        ⊎ Only Past at n (tally.past ≡ true) f)) findings.old.items findings.new.items) }
+{
+    let acl = inode.acl;
+    let ea = inode.ea;
+    check_run(blocks, at, &acl, findings)?;
+    check_run(blocks, at, &ea, findings)?;
+    let wrong = miscounts(&tally, inode);
+    note_if(wrong, FindingKind::Nblocks, at, u64::from(n), findings)?;
+    note_if(tally.past, FindingKind::Past, at, u64::from(n), findings)
+}
+
+/// Looks at inode `n`, which is in use and stands on page `at`, and at the pages of its tree. Adds a finding for each rule of an inode or a tree that is
+/// broken, for each block of its attributes behind the volume's, for a number of blocks that isn't that of those that it owns, and for an extent that begins
+/// behind its size. It reads each page of the tree once, and holds no list.
+pub fn check_object<V: PageView>(
+    view: &mut V,
+    n: u32,
+    at: u32,
+    inode: &Dinode,
+    findings: &mut Vec<Finding>,
+) -> Result<(), ViewError>
+    ensures image { V.PageView.tells → V.PageView.image view.new ≡ V.PageView.image view.old }
+    ensures count_of_blocks { V.PageView.block_count view.new ≡ V.PageView.block_count view.old }
+    ensures device { V.PageView.device view.new ≡ V.PageView.device view.old }
+    ensures fault { CarriesCount (V.PageView.fault_count view.old) (V.PageView.fault_count view.new) result }
+    // An inode as it is read from a page has runs that fit.
+    ensures found { V.PageView.tells → FitsDinode inode.now → OnOk result (Gains
+        (IsOf (readers (V.PageView.block_count view.old)) (V.PageView.block_count view.old) (page_of (V.PageView.image view.old)) n at
+        (spelled (readers (V.PageView.block_count view.old)) (page_of (V.PageView.image view.old)) inode.now)) findings.old.items findings.new.items) }
+{
+    let breaks = breaks_rule(inode, n);
+    match note_if(breaks, FindingKind::Inode, at, u64::from(n), findings) {
+        Ok(()) => {}
+        Err(_) => return Err(ViewError::Memory),
+    }
+    let mut tally = Tally::of(inode);
+    check_names(view, at, inode, &mut tally, findings)?;
+    check_extents(view, at, inode, &mut tally, findings)?;
+    let blocks = view.blocks();
+    match check_counts(blocks, n, at, inode, tally, findings) {
+        Ok(()) => Ok(()),
+        Err(_) => Err(ViewError::Memory),
+    }
+}

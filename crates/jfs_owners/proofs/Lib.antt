@@ -1,0 +1,9 @@
+pub mod Marks
+pub mod Counted
+pub mod Walked
+pub mod Seen
+pub mod Totals
+pub mod Places
+pub mod Joined
+pub mod Gained
+pub mod Inodes

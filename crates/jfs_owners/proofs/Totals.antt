@@ -1,0 +1,128 @@
+-- What trees, files and objects hold is what was counted.
+use Rattle.std.proofs.Common.{◌≡◌, sym, ap, ◌∙◌, refl, subst, ℕ, ◌+◌, Bool, true, false, if◌then◌else◌, ◌==◌, List, [], Result, Ok, Err, Some, IfOk, arith}
+use Rattle.jfs_bits.specs.declared.rule.Rule.{Rule}
+use Rattle.jfs_bits.specs.declared.extent.Xad.{Xad}
+use Rattle.jfs_bits.specs.declared.descriptor.Pxd.{Pxd}
+use Rattle.jfs_disk.specs.Image.{Image, page_of}
+use Rattle.jfs_inode.specs.declared.fields.Dinode.{Dinode}
+use Rattle.jfs_name.specs.declared.name.NameEntry.{NameEntry}
+use Rattle.jfs_tree.specs.Walk.{Marks, rows_of}
+use Rattle.jfs_tree.specs.Spells.{tree_of}
+use Rattle.jfs_tree.specs.Call.{pages_of}
+use Rattle.jfs_xtpage.specs.declared.head.XtForm.TheVariants as extents
+use Rattle.jfs_xtree.specs.Node.{xt_scale, xt_node}
+use Rattle.jfs_dtpage.specs.declared.head.DtForm.TheVariants as names
+use Rattle.jfs_dtree.specs.Node.{name_scale, dt_node}
+use Rattle.jfs_objects.specs.Objects.{met, listed, has_names, has_extents, names_of, extents_of, spelled}
+use Rattle.jfs_objects.specs.Owners.{unless_broken, entries, covers, run_has, holds}
+use Rattle.jfs_objects.specs.Image.{aggregate_at, file_has, area_on}
+use Rattle.jfs_meaning.specs.Readers.{readers, root_of}
+use Rattle.jfs_ranges.specs.declared.view.ViewError.{ViewError}
+use Rattle.jfs_owners.specs.Counts.{OwnerSets, Adds, page_has}
+use Rattle.jfs_owners.specs.Held.{Sees, extents_walk, extents_held, names_walk, names_held, attributes_of}
+use Rattle.jfs_owners.proofs.Counted.{adds_none, adds_same, adds_next}
+use Rattle.jfs_owners.proofs.Walked.{walk_adds, no_pages}
+
+-- ---- trees
+
+data_of : (l : Result (List Xad) (ℕ × Rule)) (es : List Xad) (n b : ℕ) → l ≡ Ok es → n + covers b es ≡ unless_broken l n + covers b (entries l)
+data_of l es n b e = rw e refl
+
+no_data : (l : Result (List Xad) (ℕ × Rule)) (f : ℕ × Rule) (n b : ℕ) → l ≡ Err f → unless_broken l n + covers b (entries l) ≡ 0
+no_data l f n b e = rw e refl
+
+pages_alone : {E : Type 0} (l : Result (List E) (ℕ × Rule)) (es : List E) (n : ℕ) → l ≡ Ok es → n + 0 ≡ unless_broken l n
+pages_alone l es n e = rw e (omega arith)
+
+no_pages_of : {E : Type 0} (l : Result (List E) (ℕ × Rule)) (f : ℕ × Rule) (n : ℕ) → l ≡ Err f → unless_broken l n ≡ 0
+no_pages_of l f n e = rw e refl
+
+extents_add : (ms : Marks ℕ Xad) (shown : Bool) (old new : OwnerSets) → Sees xt_scale (λ (o : OwnerSets) (n : ℕ) (w : OwnerSets). Adds (page_has n) o w) (λ (o : OwnerSets) (n : ℕ) (x : Xad) (w : OwnerSets). Adds (run_has x.at) o w) ms old new shown
+    → Adds (extents_held ms) old new
+extents_add ms true old new h =
+    adds_same (λ b. met ms b + covers b (rows_of ms)) (extents_held ms) old new (λ b. data_of (listed xt_scale ms) (rows_of ms) (met ms b) b h.0)
+    (walk_adds xt_scale (λ (o : OwnerSets) (n : ℕ) (x : Xad) (w : OwnerSets). Adds (run_has x.at) o w) (λ (x : Xad). run_has x.at) covers (λ b. refl) (λ b e es. refl) (λ v n e u a. a) 0 old ms h.1.0 new h.1.1)
+extents_add ms false old new h = adds_none (extents_held ms) old new h.1 (λ b. no_data (listed xt_scale ms) h.0.0 (met ms b) b h.0.1)
+
+names_add : (ms : Marks (List ℕ) NameEntry) (shown : Bool) (old new : OwnerSets) → Sees name_scale (λ (o : OwnerSets) (n : ℕ) (w : OwnerSets). Adds (page_has n) o w) (λ (o : OwnerSets) (n : ℕ) (x : NameEntry) (w : OwnerSets). w ≡ o) ms old new shown
+    → Adds (names_held ms) old new
+names_add ms true old new h =
+    adds_same (λ b. met ms b + 0) (names_held ms) old new (λ b. pages_alone (listed name_scale ms) (rows_of ms) (met ms b) h.0)
+    (walk_adds name_scale (λ (o : OwnerSets) (n : ℕ) (x : NameEntry) (w : OwnerSets). w ≡ o) (λ (x : NameEntry) (b : ℕ). 0) (λ (b : ℕ) (es : List NameEntry). 0) (λ b. refl) (λ b e es. refl)
+    (λ v n e u a. adds_none (λ b. 0) v u a (λ b. refl)) [] old ms h.1.0 new h.1.1)
+names_add ms false old new h = adds_none (names_held ms) old new h.1 (λ b. no_pages_of (listed name_scale ms) h.0.0 (met ms b) h.0.1)
+
+pub extents_counted : (n blocks : ℕ) (image : Image) (root : List ℕ) (shown : Bool) (old new : OwnerSets) → n ≡ blocks
+    → Sees xt_scale (λ (o : OwnerSets) (n : ℕ) (w : OwnerSets). Adds (page_has n) o w) (λ (o : OwnerSets) (n : ℕ) (x : Xad) (w : OwnerSets). Adds (run_has x.at) o w)
+    (tree_of xt_scale (pages_of (xt_node extents.Full n) image) (xt_node extents.Root n root)) old new shown
+    → Adds (extents_held (extents_walk blocks (page_of image) root)) old new
+extents_counted n blocks image root shown old new e h =
+    subst (λ (m : ℕ). Adds (extents_held (extents_walk m (page_of image) root)) old new) e (extents_add (tree_of xt_scale (pages_of (xt_node extents.Full n) image) (xt_node extents.Root n root)) shown old new h)
+
+pub names_counted : (n blocks : ℕ) (image : Image) (root : List ℕ) (shown : Bool) (old new : OwnerSets) → n ≡ blocks
+    → Sees name_scale (λ (o : OwnerSets) (n : ℕ) (w : OwnerSets). Adds (page_has n) o w) (λ (o : OwnerSets) (n : ℕ) (x : NameEntry) (w : OwnerSets). w ≡ o)
+    (tree_of name_scale (pages_of (dt_node names.Full n) image) (dt_node names.Root n root)) old new shown
+    → Adds (names_held (names_walk blocks (page_of image) root)) old new
+names_counted n blocks image root shown old new e h =
+    subst (λ (m : ℕ). Adds (names_held (names_walk m (page_of image) root)) old new) e (names_add (tree_of name_scale (pages_of (dt_node names.Full n) image) (dt_node names.Root n root)) shown old new h)
+
+-- ---- the trees of an object
+
+pub lacks_names : (blocks : ℕ) (image : Image) (d : Dinode) (o : OwnerSets) → has_names d ≡ false → Adds (names_held (names_of (readers blocks) (page_of image) d)) o o
+lacks_names blocks image d o h = adds_none (names_held (names_of (readers blocks) (page_of image) d)) o o refl (λ b. rw h (no_pages name_scale b))
+
+pub lacks_extents : (blocks : ℕ) (image : Image) (d : Dinode) (o : OwnerSets) → has_extents d ≡ false → Adds (extents_held (extents_of (readers blocks) (page_of image) d)) o o
+lacks_extents blocks image d o h = adds_none (extents_held (extents_of (readers blocks) (page_of image) d)) o o refl (λ b. rw h (let z = no_pages xt_scale b in omega (arith, z)))
+
+pub has_its_names : {T : Type 0} (blocks : ℕ) (image : Image) (root : List ℕ) (d : Dinode) (r : Result T ViewError) (old new : OwnerSets) → has_names d ≡ true → root ≡ root_of d
+    → IfOk r (λ it. Adds (names_held (names_walk blocks (page_of image) root)) old new) → IfOk r (λ it. Adds (names_held (names_of (readers blocks) (page_of image) d)) old new)
+has_its_names blocks image root d (Ok it) old new h e a = rw (h, sym e) a
+has_its_names blocks image root d (Err f) old new h e a = tt
+
+pub has_its_extents : {T : Type 0} (blocks : ℕ) (image : Image) (root : List ℕ) (d : Dinode) (r : Result T ViewError) (old new : OwnerSets) → has_extents d ≡ true → root ≡ root_of d
+    → IfOk r (λ it. Adds (extents_held (extents_walk blocks (page_of image) root)) old new) → IfOk r (λ it. Adds (extents_held (extents_of (readers blocks) (page_of image) d)) old new)
+has_its_extents blocks image root d (Ok it) old new h e a = rw (h, sym e) a
+has_its_extents blocks image root d (Err f) old new h e a = tt
+
+sum_of_parts : (attributes names pages blocks : ℕ) → attributes + names + (pages + blocks) ≡ names + pages + blocks + attributes
+sum_of_parts attributes names pages blocks = omega arith
+
+-- an object has its attributes, its names and its extents
+pub object_counted : {T : Type 0} (blocks now : ℕ) (image after : Image) (d : Dinode) (r : Result T ViewError) (o p q w : OwnerSets) → now ≡ blocks → after ≡ image
+    → Adds (attributes_of d) o p → Adds (names_held (names_of (readers blocks) (page_of image) d)) p q
+    → IfOk r (λ it. Adds (extents_held (extents_of (readers now) (page_of after) d)) q w) → IfOk r (λ it. Adds (holds (readers blocks) (Some (spelled (readers blocks) (page_of image) d))) o w)
+unfolding holds spelled
+object_counted blocks now image after d (Ok it) o p q w e f a n x =
+    let walk = names_of (readers blocks) (page_of image) d in
+    let tree = extents_of (readers blocks) (page_of image) d in
+    let y = subst (λ (i : Image). Adds (extents_held (extents_of (readers blocks) (page_of i) d)) q w) f (subst (λ (m : ℕ). Adds (extents_held (extents_of (readers m) (page_of after) d)) q w) e x) in
+    adds_same (λ b. attributes_of d b + names_held walk b + extents_held tree b) (holds (readers blocks) (Some (spelled (readers blocks) (page_of image) d))) o w
+    (λ b. sum_of_parts (attributes_of d b) (names_held walk b) (unless_broken (listed xt_scale tree) (met tree b)) (covers b (entries (listed xt_scale tree))))
+    (adds_next (λ b. attributes_of d b + names_held walk b) (extents_held tree) o q w (adds_next (attributes_of d) (names_held walk) o p q a n) y)
+object_counted blocks now image after d (Err g) o p q w e f a n x = tt
+
+-- ---- the fixed areas
+
+pub file_counted : {T : Type 0} (blocks now : ℕ) (image after : Image) (root : List ℕ) (k : ℕ) (r : Result T ViewError) (old new : OwnerSets) → now ≡ blocks → after ≡ image → root ≡ root_of (aggregate_at (page_of image) k)
+    → IfOk r (λ it. Adds (extents_held (extents_walk now (page_of after) root)) old new) → IfOk r (λ it. Adds (file_has (readers blocks) (page_of image) k) old new)
+unfolding file_has
+file_counted blocks now image after root k (Ok it) old new e f g h =
+    let same : extents_walk now (page_of after) root ≡ extents_walk blocks (page_of image) (root_of (aggregate_at (page_of image) k)) = rw (e, f, g) refl in
+    subst (λ (ms : Marks ℕ Xad). Adds (extents_held ms) old new) same h
+file_counted blocks now image after root k (Err x) old new e f g h = tt
+
+pub area_counted : {T : Type 0} (blocks b1 b2 : ℕ) (image i1 i2 : Image) (table map : Pxd) (r : Result T ViewError) (o p q s t u w : OwnerSets) → b1 ≡ blocks → i1 ≡ image → b2 ≡ b1 → i2 ≡ i1
+    → Adds (run_has (record { len = 16; addr = 0 })) o p → Adds (run_has table) p q → Adds (run_has map) q s
+    → Adds (file_has (readers blocks) (page_of image) 2) s t → Adds (file_has (readers b1) (page_of i1) 4) t u → IfOk r (λ it. Adds (file_has (readers b2) (page_of i2) 16) u w)
+    → IfOk r (λ it. Adds (area_on (readers blocks) table map (page_of image)) o w)
+unfolding area_on
+area_counted blocks b1 b2 image i1 i2 table map (Ok it) o p q s t u w e f g h a b c x y z =
+    let has = λ (k : ℕ). file_has (readers blocks) (page_of image) k in
+    let front : Pxd = record { len = 16; addr = 0 } in
+    let y2 : Adds (has 4) t u = subst (λ (i : Image). Adds (file_has (readers blocks) (page_of i) 4) t u) f (subst (λ (m : ℕ). Adds (file_has (readers m) (page_of i1) 4) t u) e y) in
+    let z2 : Adds (has 16) u w = subst (λ (i : Image). Adds (file_has (readers blocks) (page_of i) 16) u w) (h ∙ f) (subst (λ (m : ℕ). Adds (file_has (readers m) (page_of i2) 16) u w) (g ∙ e) z) in
+    adds_next (λ n. run_has front n + run_has table n + run_has map n + has 2 n + has 4 n) (has 16) o u w
+    (adds_next (λ n. run_has front n + run_has table n + run_has map n + has 2 n) (has 4) o t u
+    (adds_next (λ n. run_has front n + run_has table n + run_has map n) (has 2) o s t
+    (adds_next (λ n. run_has front n + run_has table n) (run_has map) o q s (adds_next (run_has front) (run_has table) o p q a b) c) x) y2) z2
+area_counted blocks b1 b2 image i1 i2 table map (Err x) o p q s t u w e f g h a b c d y z = tt

@@ -1,0 +1,4 @@
+-- how often blocks were counted, and what is counted
+pub mod Counts
+pub mod Held
+pub mod Shared

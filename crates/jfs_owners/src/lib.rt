@@ -1,0 +1,14 @@
+//! Who owns the blocks of a volume, in two bits a block.
+#![tactic(auto)]
+
+mod extents;
+mod fixed;
+mod object;
+mod objects;
+mod owners;
+mod shared;
+mod shown;
+mod trees;
+mod words;
+
+pub use owners::Owners;

@@ -1,0 +1,94 @@
+//! The blocks of a volume that have owners.
+
+ghost use Rattle.std.specs.Prelude.{◌≡◌, ◌+◌, ◌*◌, ◌%◌, ◌<◌, ◌≤◌, nat_lt, length, ℕ, IfOk};
+ghost use Rattle.jfs_owners.specs.Counts.{Counts, Adds};
+ghost use Rattle.jfs_objects.specs.Owners.{run_has};
+
+use crate::words::add_run;
+use jfs_bits::{Pxd, bit};
+use std::alloc::{AllocError, Global};
+use std::marker::Model;
+
+/// For each block of a volume, whether it has an owner and whether it has two or more: two bits a block. An owner counts once for each place
+/// that names the block.
+#[derive(Drop)]
+pub struct Owners {
+    pub(crate) blocks: u32,
+    pub(crate) owned: Vec<u8>,
+    pub(crate) shared: Vec<u8>,
+}
+
+impl Model for Owners {
+    ghost use Rattle.jfs_owners.specs.Counts.{OwnerSets, AreSized};
+
+    ghost Value = { OwnerSets };
+
+    ghost view = { λ o. record { blocks = o.blocks; owned = o.owned.items; shared = o.shared.items } };
+
+    ghost invariant = { λ o. AreSized o.blocks o.owned.items o.shared.items };
+}
+
+impl Owners {
+    /// So many blocks, none of which has an owner. `Err` is want of memory.
+    pub fn new(alloc: Global, blocks: u32) -> Result<Owners, AllocError>
+        ensures blocks { IfOk result (λ o. o.blocks ≡ blocks) }
+        ensures counts { IfOk result (λ o. Counts o (λ b. 0)) }
+    {
+        let size = 4 * blocks.div_ceil(32) as usize;
+        let owned = vec![in alloc; 0; size]?;
+        let shared = vec![in alloc; 0; size]?;
+        Ok(Owners {
+            blocks,
+            owned,
+            shared,
+        })
+    }
+
+    #[tactic(auto, using(crate::proofs::Counted::adds_run))]
+    /// Counts each block of a run once more. The part of the run behind the last block is passed over.
+    pub fn add(&mut self, run: Pxd)
+        ensures { Adds (run_has run) self.old self.new }
+    {
+        let blocks = self.blocks;
+        let first = run.addr.min(u64::from(blocks)) as u32;
+        let end = first + run.len.min(blocks - first);
+        add_run(
+            self.owned.as_mut_slice(),
+            self.shared.as_mut_slice(),
+            first,
+            end,
+        );
+    }
+
+    /// The number of blocks.
+    pub fn blocks(&self) -> u32
+        ensures { result ≡ self.now.blocks }
+    {
+        self.blocks
+    }
+
+    /// Whether block `b` has an owner.
+    pub fn is_owned(&self, b: u32) -> bool
+        requires { b < self.now.blocks }
+        ensures { (count : ℕ → ℕ) → Counts self.now count → result ≡ nat_lt 0 (count b) }
+    {
+        bit(self.owned.as_slice(), b)
+    }
+
+    /// Whether block `b` has two owners or more.
+    pub fn is_shared(&self, b: u32) -> bool
+        requires { b < self.now.blocks }
+        ensures { (count : ℕ → ℕ) → Counts self.now count → result ≡ nat_lt 1 (count b) }
+    {
+        bit(self.shared.as_slice(), b)
+    }
+
+    /// The blocks with owners: a bit for each block, in words as in the block map.
+    pub fn as_set(&self) -> &[u8]
+        ensures set { result.now ≡ self.now.owned }
+        ensures size { self.now.blocks ≤ 8 * length result.now }
+        ensures words { length result.now % 4 ≡ 0 }
+    {
+        self.owned.as_slice()
+    }
+}

@@ -1,0 +1,67 @@
+//! Trees shown to a visitor, if they break no rule.
+
+ghost use Rattle.std.specs.Prelude.{◌≡◌, length, IfOk};
+ghost use Rattle.jfs_ranges.specs.View.{CarriesCount};
+ghost use Rattle.jfs_tree.specs.Spells.{tree_of};
+ghost use Rattle.jfs_tree.specs.Call.{pages_of};
+ghost use Rattle.jfs_owners.specs.Held.{Sees, HandsOn};
+
+use jfs_ranges::{PageView, ViewError};
+use jfs_tree::{PageRead, TreeError, Visitor, walk_tree};
+use std::alloc::AllocError;
+
+/// Looks at a tree for its rules alone.
+#[derive(Drop)]
+struct Judge {}
+
+impl<E> Visitor<E> for Judge {
+    ghost sees_page = { λ old n new. Unit {0} };
+
+    ghost sees_entry = { λ old n x new. Unit {0} };
+
+    fn page(&mut self, _n: u32) {}
+
+    fn entry(&mut self, _n: u32, _x: &E) -> Result<(), AllocError> {
+        Ok(())
+    }
+}
+
+/// A tree that breaks a rule isn't shown; any other error is the view's.
+fn not_shown(e: TreeError) -> Result<bool, ViewError>
+    ensures { HandsOn e result }
+{
+    match e {
+        TreeError::View(e) => Err(e),
+        TreeError::Bad { .. } => Ok(false),
+        TreeError::Memory => Err(ViewError::Memory),
+    }
+}
+
+/// Shows a root's tree to a visitor, if it breaks no rule, and answers whether it was shown. Each page is read twice at most.
+pub(crate) fn show_tree<V: PageView, F: PageRead, W: Visitor<F::Entry>>(
+    top: &F,
+    form: &F,
+    view: &mut V,
+    root: &[u8],
+    visitor: &mut W,
+) -> Result<bool, ViewError>
+    requires root { length root.now ≡ F.PageForm.size top.now }
+    requires bound { (F.PageForm.blocks top.now ≡ V.PageView.block_count view.old) × (F.PageForm.blocks form.now ≡ V.PageView.block_count view.old) }
+    requires size { F.PageForm.size form.now ≡ 4096 }
+    ensures image { V.PageView.tells → V.PageView.image view.new ≡ V.PageView.image view.old }
+    ensures count_of_blocks { V.PageView.block_count view.new ≡ V.PageView.block_count view.old }
+    ensures device { V.PageView.device view.new ≡ V.PageView.device view.old }
+    ensures fault { CarriesCount (V.PageView.fault_count view.old) (V.PageView.fault_count view.new) result }
+    ensures sees { V.PageView.tells → IfOk result (Sees F.PageForm.scale W.sees_page W.sees_entry
+        (tree_of F.PageForm.scale (pages_of (F.PageForm.node form.now) (V.PageView.image view.old)) (F.PageForm.node top.now root.now)) visitor.old visitor.new) }
+{
+    let mut judge = Judge {};
+    match walk_tree(top, form, view, root, &mut judge) {
+        Ok(()) => {}
+        Err(e) => return not_shown(e),
+    }
+    match walk_tree(top, form, view, root, visitor) {
+        Ok(()) => Ok(true),
+        Err(e) => not_shown(e),
+    }
+}

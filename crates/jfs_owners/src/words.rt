@@ -1,0 +1,48 @@
+//! Runs of blocks counted in two sets of bits, word by word.
+
+ghost use Rattle.std.specs.Prelude.{◌≡◌, ◌+◌, ◌*◌, ◌/◌, ◌%◌, ◌<◌, ◌≤◌, ◌&&◌, ◌||◌, ◌==◌, nat_le, nat_lt, length, ℕ};
+ghost use Rattle.jfs_bits.specs.Bits.{is_taken, is_taken_in};
+
+use jfs_bits::{get_u32, put_u32};
+
+/// The bits of the blocks of a word from `from` to before `to`.
+fn mask_of(from: u32, to: u32) -> u32
+    requires order { from ≤ to }
+    requires within { to ≤ 32 }
+    ensures { (i : ℕ) → i < 32 → is_taken_in result i ≡ (nat_le from i && nat_lt i to) }
+{
+    ((1u64 << (32 - from)) - (1u64 << (32 - to))) as u32
+}
+
+/// Counts blocks of word `w` once more, by their bits.
+fn add_in_word(owned: &mut [u8], shared: &mut [u8], w: u64, mask: u32)
+    requires whole_words { length owned.old % 4 ≡ 0 }
+    requires same { length shared.old ≡ length owned.old }
+    requires within { 4 * w < length owned.old }
+    ensures owned { (b : ℕ) → is_taken owned.new b ≡ (b / 32 == w && is_taken_in mask (b % 32) || is_taken owned.old b) }
+    ensures shared { (b : ℕ) → is_taken shared.new b ≡ (b / 32 == w && is_taken_in mask (b % 32) && is_taken owned.old b || is_taken shared.old b) }
+{
+    let at = 4 * w as usize;
+    let word = get_u32(owned, at);
+    let twice = get_u32(shared, at);
+    put_u32(shared, at, twice | (word & mask));
+    put_u32(owned, at, word | mask);
+}
+
+/// Counts the blocks from `first` to before `end` once more.
+pub(crate) fn add_run(owned: &mut [u8], shared: &mut [u8], first: u32, end: u32)
+    requires whole_words { length owned.old % 4 ≡ 0 }
+    requires same { length shared.old ≡ length owned.old }
+    requires order { first ≤ end }
+    requires within { end ≤ 8 * length owned.old }
+    ensures owned { (b : ℕ) → is_taken owned.new b ≡ ((nat_le first b && nat_lt b end) || is_taken owned.old b) }
+    ensures shared { (b : ℕ) → is_taken shared.new b ≡ ((nat_le first b && nat_lt b end) && is_taken owned.old b || is_taken shared.old b) }
+{
+    let first = u64::from(first);
+    let end = u64::from(end);
+    for w in first / 32..end.div_ceil(32) {
+        let from = first.max(32 * w) - 32 * w;
+        let to = end.min(32 * w + 32) - 32 * w;
+        add_in_word(owned, shared, w, mask_of(from as u32, to as u32));
+    }
+}
