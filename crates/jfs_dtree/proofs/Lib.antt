@@ -17,3 +17,6 @@ pub mod Entered
 pub mod Losses
 pub mod Delisted
 pub mod Lessened
+pub mod Emptied
+pub mod Behind
+pub mod Refused

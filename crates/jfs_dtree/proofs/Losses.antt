@@ -46,7 +46,7 @@ all_without p (x ∷ xs) (suc i) h = let t = and_parts (p x) (list_all p xs) h i
 
 -- ---- a leaf
 
-kind_kept : (form : DtForm) (old new : List ℕ) (b : Bool) → KeepsHead form old new → is_leaf old ≡ b → is_leaf new ≡ b
+pub kind_kept : (form : DtForm) (old new : List ℕ) (b : Bool) → KeepsHead form old new → is_leaf old ≡ b → is_leaf new ≡ b
 kind_kept form old new b head kind = ap (λ (f : ℕ). f / 2 % 2 == 1) head.flag ∙ kind
 
 pub name_taken : (form : DtForm) (blocks : ℕ) (old new name : List ℕ) (x e : NameEntry) (place : ℕ) → name ≡ x.name → IsFound (names_of form old) name (Ok place) → slice_get (map named (entries_of form old)) place ≡ Some e

@@ -1,5 +1,5 @@
 -- The first key of an inner page, which isn't looked at, and the place of one more child.
-use Rattle.std.proofs.Common.{◌≡◌, ◌≤◌, ◌<◌, ◌⊎◌, ◌+◌, inl, inr, refl, sym, ap, ◌∙◌, subst, ℕ, suc, Bool, true, false, List, [], ◌∷◌, ◌++◌, length, map, Some, if◌then◌else◌, Ok, arith}
+use Rattle.std.proofs.Common.{◌≡◌, ◌≤◌, ◌<◌, ◌⊎◌, ◌+◌, inl, inr, refl, sym, ap, ◌∙◌, subst, ℕ, zero, suc, Bool, true, false, List, [], ◌∷◌, ◌++◌, length, map, Some, if◌then◌else◌, Ok, arith}
 use Rattle.std.specs.Prelude.{slice_get}
 use Rattle.std.specs.List.{insert, remove}
 use Rattle.std.specs.Ordering.{is_lt, nat_cmp}
@@ -52,7 +52,7 @@ made_low form bytes key found r at first is cmp more =
     first_high key at (name_at (names_of form bytes) 0) (entries_of form bytes) first
     (subst (λ (ns : List (List ℕ)). is_lt (slice_cmp nat_cmp (name_at ns 0) key) ≡ false) (names_listed form bytes) (subst (λ n. is_lt (slice_cmp nat_cmp n key) ≡ false) is (ap is_lt (sym cmp) ∙ not_less r more)))
 
-after_any : (a b : List ℕ) → IsBefore a b → IsBefore [] b
+pub after_any : (a b : List ℕ) → IsBefore a b → IsBefore [] b
 after_any [] [] h = absurd cc
 after_any (x ∷ a) [] h = absurd cc
 after_any a (y ∷ b) h = refl
@@ -134,7 +134,7 @@ abbrev pub rest_of : List (Child (List ℕ)) → List (Child (List ℕ))
 rest_of [] = []
 rest_of (c ∷ cs) = cs
 
-head_key : (e : Entry) (es : List Entry) (c : Child (List ℕ)) (cs : List (Child (List ℕ))) → map below (e ∷ es) ≡ c ∷ cs → name_in e ≡ c.key
+pub head_key : (e : Entry) (es : List Entry) (c : Child (List ℕ)) (cs : List (Child (List ℕ))) → map below (e ∷ es) ≡ c ∷ cs → name_in e ≡ c.key
 head_key e es c cs is = sym (below_key e) ∙ ap key_of is
 
 after_key : (key : List ℕ) (es : List Entry) (back : List (Child (List ℕ))) → map below es ≡ back → KeysAbove name_scale key back → 0 < length (map name_in es) → IsBefore key (name_at (map name_in es) 0)
@@ -153,7 +153,7 @@ between_below low (e ∷ es) (f ∷ front) before child back is k =
     let b = between_below f.key es front before child back (ap rest_of is) k.1 in
     record { within = (let w = b.within in omega (arith, w)); above = b.above; next = λ h. b.next (omega (arith, h)) }
 
-name_lowered : (key : List ℕ) (e : Entry) → IsBefore [] key → IsBefore (name_in (if is_lt (slice_cmp nat_cmp (name_in e) key) then e else emptied e)) key
+pub name_lowered : (key : List ℕ) (e : Entry) → IsBefore [] key → IsBefore (name_in (if is_lt (slice_cmp nat_cmp (name_in e) key) then e else emptied e)) key
 name_lowered key e some = either (is_lt (slice_cmp nat_cmp (name_in e) key)) refl
   where
     less : (r : Ordering) → is_lt r ≡ true → r ≡ Less
@@ -191,6 +191,30 @@ child_goes form blocks old mid place child all at rise sound entries =
     let b = between_low (entries_of form old) at.front at.before child at.back t.4 (subst (KeysRise name_scale) at.is rise) in
     subst (λ (p : ℕ). GoesAt (names_of form mid) (suc p) child.key) at.at
     (subst (λ (ns : List (List ℕ)). GoesAt ns (suc (length at.front)) child.key) (sym names) (between_goes (map name_in (lowered child.key (entries_of form old))) (length at.front) child.key (subst IsRising names sound.1.1.1.1.0) b))
+
+-- the names still rise where the first one is made empty
+low_rises : (key : List ℕ) (es : List Entry) → IsRising (map name_in es) → IsRising (map name_in (lowered key es))
+low_rises key [] r = r
+low_rises key (e ∷ es) r = by (is_lt (slice_cmp nat_cmp (name_in e) key))
+  where
+    none : (e : Entry) → name_in (emptied e) ≡ []
+    none (Named inode name) = refl
+    none (Below at name) = refl
+
+    by : (b : Bool) → IsRising (map name_in ((if b then e else emptied e) ∷ es))
+    by true i j h l = r i j h l
+    by false zero zero h l = absurd (omega (arith, h))
+    by false zero (suc j) h l = subst (λ n. IsBefore n (name_at (map name_in es) j)) (sym (none e)) (after_any (name_in e) (name_at (map name_in es) j) (r 0 (suc j) h l))
+    by false (suc i) zero h l = absurd (omega (arith, h))
+    by false (suc i) (suc j) h l = r (suc i) (suc j) h l
+
+pub key_goes : (form : DtForm) (blocks : ℕ) (bytes : List ℕ) (place : ℕ) (child : Child (List ℕ)) (all : List (Child (List ℕ))) → AtPlace (dt_node form blocks bytes) place child all → KeysRise name_scale all
+    → GoesAt (map name_in (lowered child.key (entries_of form bytes))) (suc place) child.key
+key_goes form blocks bytes place child all at rise =
+    let t = inner_is form blocks bytes (at.front ++ at.before ∷ at.back) at.was in
+    let b = between_low (entries_of form bytes) at.front at.before child at.back t.4 (subst (KeysRise name_scale) at.is rise) in
+    subst (λ (p : ℕ). GoesAt (map name_in (lowered child.key (entries_of form bytes))) (suc p) child.key) at.at
+    (between_goes (map name_in (lowered child.key (entries_of form bytes))) (length at.front) child.key (low_rises child.key (entries_of form bytes) (subst IsRising (names_listed form bytes) t.0.1.1.1.1.0)) b)
 
 not_itself : (a : List ℕ) → IsBefore a a → ⊥
 not_itself a h = same (slice_cmp nat_cmp a a) h (tied_itself nat_list_cmp_total a)

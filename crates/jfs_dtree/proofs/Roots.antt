@@ -1,5 +1,5 @@
 -- Roots and what is found, added and refused, as the calls say it.
-use Rattle.std.proofs.Common.{◌≡◌, inl, inr, refl, sym, ap, ◌∙◌, subst, ℕ, ◌*◌, List, [], ◌∷◌, map, Bool, true, false, Option, Some, None, Result, Ok, Err}
+use Rattle.std.proofs.Common.{◌≡◌, inl, refl, sym, ap, ◌∙◌, subst, ℕ, ◌*◌, List, [], ◌∷◌, map, Bool, true, false, Option, Some, None, Result, Ok, Err}
 use Rattle.std.specs.List.{list_all}
 use Rattle.std.specs.Option.{option_map}
 use Rattle.std.proofs.lemmas.Bool.{and_parts, true≢false}
@@ -162,21 +162,16 @@ told_failed first later e r is same h = subst (λ d. TellsWay {T = Unit {0}} lat
     by (Bad page rule) h = sym same ∙ h
     by Memory h = tt
 
-pub found_tells : (pages : ℕ → Node (List ℕ) NameEntry) (root : Node (List ℕ) NameEntry) (first : Option (ℕ × Rule)) (e : DtError) → FailsWhereBad pages root e → TellsWay {T = Unit {0}} first (Err e) → AddTellsWay first (Err e)
-found_tells pages root first (dt.View e) fails h = tt
-found_tells pages root first (dt.Bad page rule) fails h = inl h
-found_tells pages root first dt.Exists fails h = absurd fails
-found_tells pages root first dt.Missing fails h = absurd fails
-found_tells pages root first dt.TooDeep fails h = absurd fails
+pub found_tells : (pages : ℕ → Node (List ℕ) NameEntry) (root : Node (List ℕ) NameEntry) (first : Option (ℕ × Rule)) (clashes : ℕ → Type 0) (e : DtError) → FailsWhereBad pages root e → TellsWay {T = Unit {0}} first (Err e) → AddTellsWay first clashes (Err e)
+found_tells pages root first clashes (dt.View e) fails h = tt
+found_tells pages root first clashes (dt.Bad page rule) fails h = inl h
+found_tells pages root first clashes dt.Exists fails h = absurd fails
+found_tells pages root first clashes dt.Missing fails h = absurd fails
+found_tells pages root first clashes dt.TooDeep fails h = absurd fails
 
 -- a failure, as the calls answer it
 abbrev pub failed : DtError → Result (Unit {0}) DtError
 failed e = Err e
-
-pub added_tells : (first : Option (ℕ × Rule)) (e : TreeError) → first ≡ None → AddTellsWay first (Err (handed_on e))
-added_tells first (View e) none = tt
-added_tells first (Bad page rule) none = inr none
-added_tells first Memory none = tt
 
 -- ---- which pages are taken
 

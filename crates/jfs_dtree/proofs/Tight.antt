@@ -28,7 +28,7 @@ use Rattle.jfs_dtree.specs.Room.{is_eight, is_tight, is_deep, DeepIs, child_tigh
 
 -- ---- one page
 
-tight_at : (blocks : ℕ) (pages : ℕ → List ℕ) (name : List ℕ) (left page : ℕ) (node : Node (List ℕ) NameEntry) → page_nodes blocks pages page ≡ node
+pub tight_at : (blocks : ℕ) (pages : ℕ → List ℕ) (name : List ℕ) (left page : ℕ) (node : Node (List ℕ) NameEntry) → page_nodes blocks pages page ≡ node
     → tight_below blocks pages name (suc left) page ≡ (is_tight (pages page) && node_tight (tight_below blocks pages name left) left name node)
 unfolding tight_below
 tight_at blocks pages name left page node is = ap (λ n. is_tight (pages page) && node_tight (tight_below blocks pages name left) left name n) is
@@ -37,7 +37,7 @@ tight_never : (blocks : ℕ) (pages : ℕ → List ℕ) (name : List ℕ) (page 
 unfolding tight_below
 tight_never blocks pages name page = refl
 
-leads_tight : (below : ℕ → Bool) (left : ℕ) (name : List ℕ) (node : Node (List ℕ) NameEntry) (child : ℕ) → way_of name_scale name node ≡ Some child → node_tight below left name node ≡ below child
+pub leads_tight : (below : ℕ → Bool) (left : ℕ) (name : List ℕ) (node : Node (List ℕ) NameEntry) (child : ℕ) → way_of name_scale name node ≡ Some child → node_tight below left name node ≡ below child
 leads_tight below left name (Leaf es) child h = cc
 leads_tight below left name (Inner cs) child h = ap (child_tight below) h
 leads_tight below left name (Broken rule) child h = cc

@@ -1,6 +1,7 @@
 -- What is added to a directory's names, and why a name is refused.
 use Rattle.std.specs.Prelude.{◌≡◌, ◌⊎◌, ◌<◌, ℕ, ◌+◌, true, false, List, length, Option, Some, None, Result, Ok, Err}
 use Rattle.jfs_bits.specs.declared.rule.Rule.{Rule}
+use Rattle.jfs_bits.specs.declared.rule.Rule.TheVariants as rules
 use Rattle.jfs_name.specs.declared.name.NameEntry.{NameEntry}
 use Rattle.jfs_name.specs.Directory.{named, with_name}
 use Rattle.jfs_ranges.specs.declared.edit.Edit.{Edit}
@@ -10,6 +11,7 @@ use Rattle.jfs_tree.specs.Root.{IsSpare}
 use Rattle.jfs_tree.specs.Fresh.{LeadsTo, after_tx}
 use Rattle.jfs_dtpage.specs.declared.head.DtForm.TheVariants.{Root, Full}
 use Rattle.jfs_tree.specs.Adds.{on_page}
+use Rattle.jfs_tree.specs.Refusal.{ClashesOnWay}
 use Rattle.jfs_tree.specs.Room.{FullFrom, GrowsLevel, TakesWhereFull}
 use Rattle.jfs_dtree.specs.Node.{name_scale, HasNoRoom, LacksRoom}
 use Rattle.jfs_dtree.specs.Room.{is_deep}
@@ -68,11 +70,16 @@ RefusesName blocks pages new root free Exists = (es : List NameEntry) → spells
 RefusesName blocks pages new root free Missing = ⊥
 RefusesName blocks pages new root free TooDeep = (es : List NameEntry) → spells_names blocks pages root ≡ Ok es → (named new.name es ≡ None) × (is_deep blocks pages root new.name ≡ true)
 
--- A page is named where it is the first on the name's way that breaks a rule, or where none does, and the pages on the way don't stand in order; else none on the way breaks one.
-abbrev pub AddTellsWay : Option (ℕ × Rule) → Result (Unit {0}) DtError → Type 0
-AddTellsWay first (Ok it) = first ≡ None
-AddTellsWay first (Err (View e)) = Unit {0}
-AddTellsWay first (Err (Bad page rule)) = (first ≡ Some (page, rule)) ⊎ (first ≡ None)
-AddTellsWay first (Err Exists) = first ≡ None
-AddTellsWay first (Err Missing) = ⊥
-AddTellsWay first (Err TooDeep) = first ≡ None
+-- A new name clashes at a page on its way: with a name of a leaf; or an inner page leads it to a child, no page on the way from there on has room, and on one of them the names, the new one among them, or the keys but
+-- for the first don't stand from the child's key on up to the next child's.
+abbrev pub ClashesFor : ℕ → (ℕ → List ℕ) → NameEntry → List ℕ → ℕ → Type 0
+ClashesFor blocks pages new root = ClashesOnWay name_scale (page_nodes blocks pages) new (is_full_in pages) (lacks_in new pages) (root_node blocks root)
+
+-- A page is named where it is the first on the name's way that breaks a rule by itself, with that rule, or where none does, with rule `order` where the name clashes at it. Else none on the way breaks a rule.
+abbrev pub AddTellsWay : Option (ℕ × Rule) → (ℕ → Type 0) → Result (Unit {0}) DtError → Type 0
+AddTellsWay first clashes (Ok it) = first ≡ None
+AddTellsWay first clashes (Err (View e)) = Unit {0}
+AddTellsWay first clashes (Err (Bad page rule)) = (first ≡ Some (page, rule)) ⊎ ((first ≡ None) × (rule ≡ rules.Order) × clashes page)
+AddTellsWay first clashes (Err Exists) = first ≡ None
+AddTellsWay first clashes (Err Missing) = ⊥
+AddTellsWay first clashes (Err TooDeep) = first ≡ None

@@ -11,3 +11,4 @@ pub mod Adding
 pub mod Errors
 pub mod Reach
 pub mod Removing
+pub mod Leftmost

@@ -57,3 +57,7 @@ node_tight below left name (Broken rule) = false
 unfoldable pub tight_below : ℕ → (ℕ → List ℕ) → List ℕ → ℕ → ℕ → Bool
 tight_below blocks pages name zero page = false
 tight_below blocks pages name (suc left) page = is_tight (pages page) && node_tight (tight_below blocks pages name left) left name (dt_node Full blocks (pages page))
+
+-- so has the way below a root, whatever it spells
+abbrev pub TightFrom : ℕ → (ℕ → List ℕ) → List ℕ → List ℕ → Bool → Type 0
+TightFrom blocks pages root name deep = (child : ℕ) → way_of name_scale name (root_node blocks root) ≡ Some child → tight_below blocks pages name 7 child ≡ deep

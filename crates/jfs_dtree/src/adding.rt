@@ -9,7 +9,7 @@ ghost use Rattle.jfs_tree.specs.Fresh.{blocks_of, TakenInOrder};
 ghost use Rattle.jfs_dtree.specs.Parent.{parent_of};
 ghost use Rattle.jfs_dtree.specs.Spells.{CarriesDt, broken_for};
 ghost use Rattle.jfs_dtree.specs.Room.{FollowsRoom};
-ghost use Rattle.jfs_dtree.specs.Adding.{AddsName, TakesPages, KeepsLevels, RefusesName, AddTellsWay};
+ghost use Rattle.jfs_dtree.specs.Adding.{AddsName, TakesPages, KeepsLevels, RefusesName, ClashesFor, AddTellsWay};
 
 use crate::deep::is_deep;
 use crate::entry::DirEntry;
@@ -28,7 +28,8 @@ use std::alloc::Global;
 /// Adds a name of at most 255 units to a directory whose root has these 288 bytes: `Exists` exactly where the directory has the name. Pages that it
 /// needs are taken from `fresh` in its order; the transaction gets the changed lines and new pages, and then an `Alloc` of each. The parent stays. After an
 /// `Err` root, `fresh` and transaction are as before. `TooDeep` comes, of a name that is new, exactly where the tree has 8
-/// levels and each page below the root on the name's way has fewer than 18 free slots, which is what a longest name may take.
+/// levels and each page below the root on the name's way has fewer than 18 free slots, which is what a longest name may take. `Bad` names the first page on
+/// the name's way that breaks a rule by itself; where none does, with rule `order` a page at which the name clashes with what is stored.
 pub fn add<V: PageView>(
     alloc: Global,
     view: &mut V,
@@ -54,7 +55,8 @@ pub fn add<V: PageView>(
     ensures room { V.PageView.tells → OnOk result (TakesPages (V.PageView.block_count view.old) (page_of (V.PageView.image view.old)) (record { name = name.now; inode = inode }) root.old (blocks_of fresh.old) (blocks_of fresh.new)) }
     ensures deep { V.PageView.tells → FollowsRoom (V.PageView.block_count view.old) (page_of (V.PageView.image view.old)) root.old name.now result }
     ensures levels { V.PageView.tells → OnOk result (KeepsLevels (V.PageView.block_count view.old) (page_of (V.PageView.image view.old)) (record { name = name.now; inode = inode }) root.old root.new (blocks_of fresh.old) tx.old tx.new) }
-    ensures way { V.PageView.tells → AddTellsWay (broken_for (V.PageView.block_count view.old) (page_of (V.PageView.image view.old)) root.old name.now) result }
+    ensures way { V.PageView.tells → AddTellsWay (broken_for (V.PageView.block_count view.old) (page_of (V.PageView.image view.old)) root.old name.now)
+        (ClashesFor (V.PageView.block_count view.old) (page_of (V.PageView.image view.old)) (record { name = name.now; inode = inode }) root.old) result }
     ensures refused { V.PageView.tells → IfErr result (λ e. RefusesName (V.PageView.block_count view.old) (page_of (V.PageView.image view.old)) (record { name = name.now; inode = inode }) root.old (blocks_of fresh.old) e) }
 {
     match find(view, root, name) {

@@ -1,14 +1,14 @@
 //! Children of an inner page.
 
-ghost use Rattle.std.specs.Prelude.{◌≡◌, ◌<◌, ◌≤◌, ◌+◌, ℕ, List, length, true, false};
+ghost use Rattle.std.specs.Prelude.{◌≡◌, ◌<◌, ◌≤◌, ◌+◌, ℕ, suc, List, length, map, true, false};
 ghost use Rattle.jfs_dtpage.specs.declared.head.DtForm.{DtForm};
 ghost use Rattle.jfs_dtpage.specs.declared.head.DtForm.TheVariants.{Full};
 ghost use Rattle.jfs_dtpage.specs.Form.{bytes_of, count_of, free_of, is_leaf, KeepsHead};
-ghost use Rattle.jfs_dtpage.specs.Page.{entries_of, names_of, IsDtPage};
-ghost use Rattle.jfs_dtpage.specs.Order.{name_at};
+ghost use Rattle.jfs_dtpage.specs.Page.{entries_of, name_in, names_of, IsDtPage};
+ghost use Rattle.jfs_dtpage.specs.Order.{GoesAt, name_at};
 ghost use Rattle.jfs_tree.specs.Walk.{Child, Inner};
 ghost use Rattle.jfs_tree.specs.Edit.{KeysRise};
-ghost use Rattle.jfs_tree.specs.Form.{IfFull, PutsChild, AtPlace, SplitsChildren, as_child};
+ghost use Rattle.jfs_tree.specs.Form.{IfFull, PutsChild, AtPlace, SplitsChildren, GoesBehind, as_child};
 ghost use Rattle.jfs_dtree.specs.Node.{name_scale, dt_node, HasNoRoom, LacksRoom, IsKey};
 ghost use Rattle.jfs_dtree.specs.Parts.{lowered, SplitsInner};
 
@@ -57,6 +57,24 @@ pub(crate) fn make_way(bytes: &mut [u8], form: DtForm, key: &[u16])
     }
 }
 
+/// Whether a key goes behind the child at a place; the first child's key isn't looked at.
+fn goes_behind(bytes: &[u8], form: DtForm, place: usize, key: &[u16]) -> bool
+    requires size { length bytes.now ≡ bytes_of form }
+    requires page { IsDtPage form bytes.now }
+    requires some { 0 < count_of bytes.now }
+    ensures within { result ≡ true → place < count_of bytes.now }
+    ensures goes { result ≡ true → GoesAt (map name_in (lowered key.now (entries_of form bytes.now))) (suc place) key.now }
+    ensures clashes { result ≡ false → GoesAt (map name_in (lowered key.now (entries_of form bytes.now))) (suc place) key.now → ⊥ }
+{
+    if key.is_empty() {
+        return false;
+    }
+    match dt_find(bytes, form, key) {
+        Ok(found) => found == 0 && place == 0,
+        Err(next) => next.saturating_sub(1) as usize == place,
+    }
+}
+
 /// Puts a child behind the one at the place, where its key is between their keys and there is room.
 pub(crate) fn put_child(
     form: DtForm,
@@ -67,26 +85,24 @@ pub(crate) fn put_child(
     requires size { length bytes.old ≡ bytes_of form }
     ensures child { (blocks : ℕ) → child.now.page < blocks → PutsChild name_scale (dt_node form blocks) (HasNoRoom form) place child.now bytes.old bytes.new result }
     ensures room { IfFull result (LacksRoom false (length child.now.key) bytes.old) }
+    ensures goes { (blocks : ℕ) → IfFull result (GoesBehind name_scale (dt_node form blocks bytes.old) place (as_child child.now)) }
 {
     if !is_sound_inner(bytes, form) {
         return Put::Clash;
     }
     let key = child.key.units();
+    if !goes_behind(bytes, form, place, key) {
+        return Put::Clash;
+    }
     if u32::from(free_of(bytes)) < dt_slots(key.len() as u32, false) {
         return Put::Full;
     }
     make_way(bytes, form, key);
-    let Err(next) = dt_find(bytes, form, key) else {
-        return Put::Clash;
-    };
-    if next == 0 || next as usize - 1 != place {
-        return Put::Clash;
-    }
     let e = DtEntry::Inner {
         at: page_at(child.page),
         name: key,
     };
-    insert(bytes, form, next, e);
+    insert(bytes, form, place as u32 + 1, e);
     Put::Done
 }
 

@@ -3,7 +3,7 @@
 ghost use Rattle.std.specs.Prelude.{◌≡◌, ◌<◌, List, length, IfOk};
 ghost use Rattle.jfs_disk.specs.Image.{page_of};
 ghost use Rattle.jfs_ranges.specs.View.{CarriesCount};
-ghost use Rattle.jfs_dtree.specs.Room.{DeepIs, tight_below};
+ghost use Rattle.jfs_dtree.specs.Room.{DeepIs, TightFrom, tight_below};
 
 use crate::entry::DirEntry;
 use crate::lead::way_of;
@@ -29,6 +29,7 @@ pub(crate) fn is_deep<V: PageView>(
     ensures device { V.PageView.device view.new ≡ V.PageView.device view.old }
     ensures fault { CarriesCount (V.PageView.fault_count view.old) (V.PageView.fault_count view.new) result }
     ensures deep { V.PageView.tells → IfOk result (DeepIs blocks (page_of (V.PageView.image view.old)) root.now x.now.name) }
+    ensures tight { V.PageView.tells → IfOk result (TightFrom blocks (page_of (V.PageView.image view.old)) root.now x.now.name) }
 {
     match way_of(root, DtForm::Root, blocks, x) {
         Ok(

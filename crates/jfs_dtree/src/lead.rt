@@ -2,7 +2,7 @@
 
 ghost use Rattle.std.specs.Prelude.{◌≡◌, ◌<◌, ◌≤◌, ◌+◌, ◌-◌, ℕ, length, IfOk, true, false};
 ghost use Rattle.std.specs.List.{list_all};
-ghost use Rattle.jfs_tree.specs.Form.{Leads, IsWithin, TellsLast};
+ghost use Rattle.jfs_tree.specs.Form.{Leads, IsWithin, TellsLast, HasRisingKeys};
 ghost use Rattle.jfs_dtpage.specs.Form.{bytes_of, count_of, is_leaf};
 ghost use Rattle.jfs_dtpage.specs.Page.{entries_of, names_of, IsDtPage};
 ghost use Rattle.jfs_dtree.specs.Node.{name_scale, child_within, dt_node};
@@ -20,6 +20,7 @@ pub(crate) fn way_of(bytes: &[u8], form: DtForm, blocks: u32, x: &DirEntry) -> R
     ensures way { Leads name_scale x.now (dt_node form blocks bytes.now) result }
     ensures within { IfOk result (λ way. IsWithin blocks way) }
     ensures last { IfOk result (λ way. TellsLast (dt_node form blocks bytes.now) way) }
+    ensures rise { HasRisingKeys name_scale (dt_node form blocks bytes.now) }
 {
     let head = check_page(bytes, form, blocks)?;
     if is_leaf(bytes) {

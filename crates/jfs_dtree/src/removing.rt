@@ -4,6 +4,7 @@ ghost use Rattle.std.specs.Prelude.{◌≡◌, ◌<◌, ◌≤◌, ℕ, List, le
 ghost use Rattle.jfs_disk.specs.Image.{page_of};
 ghost use Rattle.jfs_bits.specs.declared.rule.PageKind.TheVariants.{Dtree};
 ghost use Rattle.jfs_tree.specs.Changes.{TellsGone};
+ghost use Rattle.jfs_dtree.specs.Leftmost.{KeepsEmptyFirstKeys};
 ghost use Rattle.jfs_dtree.specs.Parent.{parent_of};
 ghost use Rattle.jfs_dtree.specs.Spells.{CarriesDt, broken_for, TellsWay};
 ghost use Rattle.jfs_dtree.specs.Removing.{RemovesName, MissesName};
@@ -23,7 +24,7 @@ use std::alloc::Global;
 #[tactic(auto, using(crate::proofs::Roots::has_pages))]
 /// Takes a name of at most 255 units out of a directory whose root has these 288 bytes, and answers the inode that it named: `Missing` exactly where the
 /// directory doesn't have the name. The transaction gets the changed lines, and then of each page that is empty now its `NoRedo` and its `Free`. The parent
-/// stays. After an `Err` root and transaction are as before.
+/// stays, and the first keys on the leftmost way stay empty. After an `Err` root and transaction are as before.
 pub fn remove<V: PageView>(
     alloc: Global,
     view: &mut V,
@@ -38,6 +39,7 @@ pub fn remove<V: PageView>(
     ensures device { V.PageView.device view.new ≡ V.PageView.device view.old }
     ensures fault { CarriesDt (V.PageView.fault_count view.old) (V.PageView.fault_count view.new) result }
     ensures removes { V.PageView.tells → IfOk result (RemovesName (V.PageView.block_count view.old) (page_of (V.PageView.image view.old)) name.now root.old root.new tx.old tx.new) }
+    ensures left { V.PageView.tells → OnOk result (KeepsEmptyFirstKeys (V.PageView.block_count view.old) (page_of (V.PageView.image view.old)) root.old root.new tx.old tx.new) }
     ensures edits { V.PageView.tells → OnOk result (TellsGone (V.PageView.block_count view.old) Dtree (page_of (V.PageView.image view.old)) tx.old tx.new) }
     ensures parent { parent_of root.new ≡ parent_of root.old }
     ensures kept { OnErr result ((root.new ≡ root.old) × (tx.new ≡ tx.old)) }

@@ -4,6 +4,7 @@ ghost use Rattle.std.specs.Prelude.{◌≡◌, ℕ, List, [], length, true, Ok};
 ghost use Rattle.byteorder.specs.Endian.{little_bytes};
 ghost use Rattle.jfs_bits.specs.Field.{put_bytes};
 ghost use Rattle.jfs_tree.specs.Walk.{Leaf};
+ghost use Rattle.jfs_dtree.specs.Leftmost.{HasEmptyFirstKeys};
 ghost use Rattle.jfs_dtree.specs.Node.{dt_node};
 ghost use Rattle.jfs_dtree.specs.Spells.{root_node, spells_names};
 ghost use Rattle.jfs_dtpage.specs.declared.head.DtForm.TheVariants.{Root};
@@ -47,6 +48,7 @@ pub fn new_root(root: &mut [u8], parent: u32)
     ensures entries { entries_of Root root.new ≡ [] }
     ensures node { (blocks : ℕ) → root_node blocks root.new ≡ Leaf [] }
     ensures list { (blocks : ℕ) (pages : ℕ → List ℕ) → spells_names blocks pages root.new ≡ Ok [] }
+    ensures left { (blocks : ℕ) (pages : ℕ → List ℕ) → HasEmptyFirstKeys blocks pages root.new }
 {
     dt_new(root, DtForm::Root, true, Pxd { len: 0, addr: 0 });
     set_parent(root, parent);

@@ -143,6 +143,17 @@ fn names_and_keys_that_do_not_rise(rt: HostRuntime) -> Result<(), Fail> {
 }
 
 #[test]
+fn a_full_leaf_with_names_of_another(rt: HostRuntime) -> Result<(), Fail> {
+    let mut dir = dir_of(rt.alloc(), 56)?;
+    // the first leaf holds the names of the last one, and page 2, which is full, has no place for a key among them
+    dir.copies(8, 0);
+    let name = numbered(rt.alloc(), 237, 3)?;
+    assert_eq!(rt; dir.find(&name), Ok(None));
+    assert!(rt; dir.refuses(rt.alloc(), &name, bad(2, Rule::Order))?);
+    Ok(())
+}
+
+#[test]
 fn pages_without_children(rt: HostRuntime) -> Result<(), Fail> {
     let mut dir = dir_of(rt.alloc(), 8)?;
     dir.empties(2);

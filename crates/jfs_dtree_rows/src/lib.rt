@@ -13,6 +13,8 @@ mod growing;
 #[cfg(test)]
 mod hostile;
 #[cfg(test)]
+mod leftmost;
+#[cfg(test)]
 mod listing;
 #[cfg(test)]
 mod mixed;

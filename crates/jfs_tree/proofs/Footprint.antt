@@ -17,7 +17,7 @@ unfolding OneMore
 less_one None h e = cc
 less_one (Some k) h e = (k, sym (some_same (suc k) h e), refl)
 
-levels_suc : {P E : Type 0} (nodes : ℕ → Node P E) (most page h : ℕ) → levels_of nodes most page ≡ Some h → (k : ℕ) × (h ≡ suc k)
+pub levels_suc : {P E : Type 0} (nodes : ℕ → Node P E) (most page h : ℕ) → levels_of nodes most page ≡ Some h → (k : ℕ) × (h ≡ suc k)
 unfolding levels_of OneMore
 levels_suc nodes zero page h e = cc
 levels_suc nodes (suc most) page h e = let t = less_one (below_first (levels_of nodes most) (nodes page)) h e in (t.0, t.1)

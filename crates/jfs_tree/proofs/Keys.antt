@@ -19,7 +19,7 @@ not_true true h = absurd (h refl)
 not_true false h = refl
 
 -- an entry reaches past its key
-past_row : {P E : Type 0} (s : Scale P E) → IsOrder s → (key m : P) (e : E) → s.le key (s.from e) ≡ true → s.le (s.to e) m ≡ true → s.le m key ≡ false
+pub past_row : {P E : Type 0} (s : Scale P E) → IsOrder s → (key m : P) (e : E) → s.le key (s.from e) ≡ true → s.le (s.to e) m ≡ true → s.le m key ≡ false
 past_row s o key m e above up =
     not_true (s.le m key) (λ h. true≢false (sym (o.trans_le (s.to e) m (s.from e) up (o.trans_le m key (s.from e) h above)) ∙ o.takes_place e))
 

@@ -51,3 +51,7 @@ mod Swaps
 mod RootSwaps
 mod Trimmings
 pub mod Becoming
+pub mod Lowered
+mod LeastFirst
+mod LeastKept
+pub mod Refusing

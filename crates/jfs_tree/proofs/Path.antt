@@ -43,14 +43,14 @@ leads_alone {P} {E} s at node front c back is above past = ap (way_of s at) is �
 
 -- ---- the first broken rule
 
-leads_on : {P E : Type 0} (s : Scale P E) (at : P) (below : ℕ → Option (ℕ × Rule)) (page child : ℕ) (node : Node P E) → way_of s at node ≡ Some child → broken_at s at below page node ≡ below child
+pub leads_on : {P E : Type 0} (s : Scale P E) (at : P) (below : ℕ → Option (ℕ × Rule)) (page child : ℕ) (node : Node P E) → way_of s at node ≡ Some child → broken_at s at below page node ≡ below child
 leads_on s at below page child (Leaf es) h = cc
 leads_on s at below page child (Inner []) h = cc
 leads_on s at below page child (Inner (c ∷ cs)) h = ap (further below) h
 leads_on s at below page child (Broken rule) h = cc
 
 -- a page that leads to a child leads there below a root
-below_leads : {P E : Type 0} (s : Scale P E) (at : P) (child : ℕ) (node : Node P E) → way_of s at node ≡ Some child → way_of s at (below_root node) ≡ Some child
+pub below_leads : {P E : Type 0} (s : Scale P E) (at : P) (child : ℕ) (node : Node P E) → way_of s at node ≡ Some child → way_of s at (below_root node) ≡ Some child
 below_leads s at child (Leaf es) h = cc
 below_leads s at child (Inner cs) h = h
 below_leads s at child (Broken rule) h = cc
@@ -60,7 +60,7 @@ pub way_deep : {P E : Type 0} (s : Scale P E) (nodes : ℕ → Node P E) (at : P
 unfolding broken_below
 way_deep s nodes at most page is = ap (λ m. broken_below s nodes at m page) is
 
-reads : {P E : Type 0} (s : Scale P E) (nodes : ℕ → Node P E) (at : P) (most less page : ℕ) (node : Node P E) → most ≡ suc less → node ≡ nodes page
+pub reads : {P E : Type 0} (s : Scale P E) (nodes : ℕ → Node P E) (at : P) (most less page : ℕ) (node : Node P E) → most ≡ suc less → node ≡ nodes page
     → broken_below s nodes at most page ≡ broken_at s at (broken_below s nodes at less) page (below_root node)
 unfolding broken_below
 reads s nodes at most less page node is read = ap (λ m. broken_below s nodes at m page) is ∙ ap (λ n. broken_at s at (broken_below s nodes at less) page (below_root n)) (sym read)

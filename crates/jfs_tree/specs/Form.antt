@@ -93,6 +93,14 @@ PutsChild {P} s node is_full place child old new Done = (all : List (Child P)) �
 PutsChild s node is_full place child old new Full = (new ≡ old) × is_full old
 PutsChild {P} s node is_full place child old new Clash = (all : List (Child P)) → AtPlace (node old) place (as_child child) all → KeysRise s all → ⊥
 
+-- the keys of an inner page's children rise
+abbrev pub HasRisingKeys : {P E : Type 0} → Scale P E → Node P E → Type 0
+HasRisingKeys {P} s node = (cs : List (Child P)) → node ≡ Inner cs → KeysRise s cs
+
+-- and they still do with one more child behind the one at a place
+abbrev pub GoesBehind : {P E : Type 0} → Scale P E → Node P E → ℕ → Child P → Type 0
+GoesBehind {P} s node place child = (all : List (Child P)) → AtPlace node place child all → KeysRise s all
+
 -- children on two pages; the key of the right page is its first child's
 pub record SplitsChildren {P E : Type 0} (all : List (Child P)) (left right : Node P E) (key : P) : Type 0 where
   pub front : List (Child P)

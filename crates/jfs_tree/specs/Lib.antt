@@ -22,3 +22,5 @@ pub mod Trim
 pub mod Changes
 pub mod Becomes
 pub mod Filled
+pub mod Leftmost
+pub mod Refusal

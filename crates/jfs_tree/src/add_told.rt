@@ -10,6 +10,8 @@ ghost use Rattle.jfs_tree.specs.Changes.{TellsChanges, TellsTaken};
 ghost use Rattle.jfs_tree.specs.Filled.{NoThinTold};
 ghost use Rattle.jfs_tree.specs.Form.{AllBelow};
 ghost use Rattle.jfs_tree.specs.Fresh.{blocks_of, allocs_of, TakenInOrder, HasPages};
+ghost use Rattle.jfs_tree.specs.Path.{broken_on_way};
+ghost use Rattle.jfs_tree.specs.Refusal.{ClashesOnWay, HasAllLevels, TellsAdding};
 ghost use Rattle.jfs_tree.specs.Root.{RefusesWhereBad};
 ghost use Rattle.jfs_tree.specs.Tell.{TellsDraft, TellsThen};
 
@@ -25,8 +27,9 @@ use jfs_ranges::{Edit, PageView, Tx, ViewError};
 use std::alloc::{AllocError, Global};
 
 /// Adds an entry to a root's tree. Pages that it needs are taken from `fresh` in its order; the transaction gets the changed lines and new pages,
-/// and then an `Alloc` of each. After an `Err` root, `fresh` and transaction are as before. A tree of 8 levels gets no ninth: that is `Bad` with
-/// rule `deep` at the root.
+/// and then an `Alloc` of each. After an `Err` root, `fresh` and transaction are as before. `Bad` names the first page on the entry's way that
+/// breaks a rule by itself; where none does, with rule `order` a page at which the entry clashes with what is stored. A tree of 8 levels gets no
+/// ninth: that is `Bad` with rule `deep` at the root.
 pub fn add_and_tell<V: PageView, F: PageForm>(
     alloc: Global,
     top: &F,
@@ -66,6 +69,11 @@ pub fn add_and_tell<V: PageView, F: PageForm>(
         (F.PageForm.node top.now root.old) (F.PageForm.node top.now root.new) (blocks_of fresh.old) tx.old tx.new
         (λ new. GrowsLevel F.PageForm.scale x.now (read_as (F.PageForm.node form.now) (page_of (V.PageView.image view.old))) (on_page (F.PageForm.is_full form.now) (page_of (V.PageView.image view.old))) (on_page (λ bytes. F.PageForm.has_no_room form.now bytes x.now) (page_of (V.PageView.image view.old))) (F.PageForm.node top.now root.old)
         ((F.PageForm.is_full top.now root.old) × (F.PageForm.has_no_room top.now root.old x.now)) (λ key. (F.PageForm.is_full top.now root.old) × (F.PageForm.has_no_place top.now root.old key)) (F.PageForm.node top.now root.new) new)) }
+    ensures way { V.PageView.tells → TellsAdding
+        (broken_on_way F.PageForm.scale (read_as (F.PageForm.node form.now) (page_of (V.PageView.image view.old))) (F.PageForm.scale.from x.now) (F.PageForm.node top.now root.old))
+        (ClashesOnWay F.PageForm.scale (read_as (F.PageForm.node form.now) (page_of (V.PageView.image view.old))) x.now (on_page (F.PageForm.is_full form.now) (page_of (V.PageView.image view.old))) (on_page (λ bytes. F.PageForm.has_no_room form.now bytes x.now) (page_of (V.PageView.image view.old))) (F.PageForm.node top.now root.old))
+        (HasAllLevels F.PageForm.scale (read_as (F.PageForm.node form.now) (page_of (V.PageView.image view.old))) x.now (on_page (F.PageForm.is_full form.now) (page_of (V.PageView.image view.old))) (on_page (λ bytes. F.PageForm.has_no_room form.now bytes x.now) (page_of (V.PageView.image view.old)))
+        (F.PageForm.node top.now root.old) (λ key. (F.PageForm.is_full top.now root.old) × (F.PageForm.has_no_place top.now root.old key))) result }
     ensures full { V.PageView.tells → IfErr result (λ e. RefusesWhereFull F.PageForm.scale x.now (read_as (F.PageForm.node form.now) (page_of (V.PageView.image view.old))) (F.PageForm.node top.now root.old) (blocks_of fresh.old)
         (FullFrom F.PageForm.scale x.now (read_as (F.PageForm.node form.now) (page_of (V.PageView.image view.old))) (on_page (F.PageForm.is_full form.now) (page_of (V.PageView.image view.old))) (on_page (λ bytes. F.PageForm.has_no_room form.now bytes x.now) (page_of (V.PageView.image view.old))) (F.PageForm.node top.now root.old)
         ((F.PageForm.is_full top.now root.old) × (F.PageForm.has_no_room top.now root.old x.now)) (λ key. (F.PageForm.is_full top.now root.old) × (F.PageForm.has_no_place top.now root.old key))) e) }
@@ -139,6 +147,11 @@ fn plan<V: PageView, F: PageForm>(
         (F.PageForm.node top.now root.old) (F.PageForm.node top.now root.new) (blocks_of fresh.now) tx.now p.tx
         (λ new. GrowsLevel F.PageForm.scale x.now (read_as (F.PageForm.node form.now) (page_of (V.PageView.image view.old))) (on_page (F.PageForm.is_full form.now) (page_of (V.PageView.image view.old))) (on_page (λ bytes. F.PageForm.has_no_room form.now bytes x.now) (page_of (V.PageView.image view.old))) (F.PageForm.node top.now root.old)
         ((F.PageForm.is_full top.now root.old) × (F.PageForm.has_no_room top.now root.old x.now)) (λ key. (F.PageForm.is_full top.now root.old) × (F.PageForm.has_no_place top.now root.old key)) (F.PageForm.node top.now root.new) new)) }
+    ensures way { V.PageView.tells → TellsAdding
+        (broken_on_way F.PageForm.scale (read_as (F.PageForm.node form.now) (page_of (V.PageView.image view.old))) (F.PageForm.scale.from x.now) (F.PageForm.node top.now root.old))
+        (ClashesOnWay F.PageForm.scale (read_as (F.PageForm.node form.now) (page_of (V.PageView.image view.old))) x.now (on_page (F.PageForm.is_full form.now) (page_of (V.PageView.image view.old))) (on_page (λ bytes. F.PageForm.has_no_room form.now bytes x.now) (page_of (V.PageView.image view.old))) (F.PageForm.node top.now root.old))
+        (HasAllLevels F.PageForm.scale (read_as (F.PageForm.node form.now) (page_of (V.PageView.image view.old))) x.now (on_page (F.PageForm.is_full form.now) (page_of (V.PageView.image view.old))) (on_page (λ bytes. F.PageForm.has_no_room form.now bytes x.now) (page_of (V.PageView.image view.old)))
+        (F.PageForm.node top.now root.old) (λ key. (F.PageForm.is_full top.now root.old) × (F.PageForm.has_no_place top.now root.old key))) result }
     ensures full { V.PageView.tells → IfErr result (λ e. RefusesWhereFull F.PageForm.scale x.now (read_as (F.PageForm.node form.now) (page_of (V.PageView.image view.old))) (F.PageForm.node top.now root.old) (blocks_of fresh.now)
         (FullFrom F.PageForm.scale x.now (read_as (F.PageForm.node form.now) (page_of (V.PageView.image view.old))) (on_page (F.PageForm.is_full form.now) (page_of (V.PageView.image view.old))) (on_page (λ bytes. F.PageForm.has_no_room form.now bytes x.now) (page_of (V.PageView.image view.old))) (F.PageForm.node top.now root.old)
         ((F.PageForm.is_full top.now root.old) × (F.PageForm.has_no_room top.now root.old x.now)) (λ key. (F.PageForm.is_full top.now root.old) × (F.PageForm.has_no_place top.now root.old key))) e) }

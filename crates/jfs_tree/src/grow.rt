@@ -4,6 +4,8 @@ ghost use Rattle.std.specs.Prelude.{◌≡◌, ◌==◌, ◌&&◌, ◌+◌, if�
 ghost use Rattle.jfs_tree.specs.Edit.{Grew};
 ghost use Rattle.jfs_tree.specs.Filled.{ChildFilled, StaysFilled};
 ghost use Rattle.jfs_tree.specs.Form.{AllBelow, IsFront, children_of};
+ghost use Rattle.jfs_tree.specs.Path.{broken_below};
+ghost use Rattle.jfs_tree.specs.Refusal.{GrownCut, GrownClash, TellsGrowing};
 ghost use Rattle.jfs_tree.specs.Room.{GrowsWhereFull, TakesMore, at_page};
 ghost use Rattle.jfs_tree.specs.Call.{nodes, GrownDid, GrownBelow, KeepsBytes, StaysOff, CarriesFault, RefutesWhereBad};
 
@@ -23,7 +25,8 @@ pub struct Grown<K> {
     pub levels: u32,
 }
 
-/// Adds an entry below a page, at most so many levels deep; the page may be the last one of its level. The changed pages go into the draft.
+/// Adds an entry below a page, at most so many levels deep; the page may be the last one of its level. The changed pages go into the draft. `Bad` names the
+/// first page on the entry's way that breaks a rule by itself; where none does, a page at which the entry clashes with what is stored.
 pub fn add_below<V: PageView, F: PageForm>(
     form: &F,
     view: &mut V,
@@ -66,6 +69,10 @@ pub fn add_below<V: PageView, F: PageForm>(
     ensures below { GrownBelow fresh.old.items fresh.new.items result }
     ensures front { IsFront fresh.new.items fresh.old.items }
     ensures key { IfOk result (λ grown. IfSome grown.sibling (λ s. F.PageForm.is_key s.key)) }
+    ensures way { V.PageView.tells → TellsGrowing F.PageForm.scale (nodes (F.PageForm.node form.now) draft.old.pages.items (V.PageView.image view.old)) x.now
+        (at_page (F.PageForm.is_full form.now) draft.old.pages.items (V.PageView.image view.old))
+        (at_page (λ bytes. F.PageForm.has_no_room form.now bytes x.now) draft.old.pages.items (V.PageView.image view.old)) most page
+        (broken_below F.PageForm.scale (nodes (F.PageForm.node form.now) draft.old.pages.items (V.PageView.image view.old)) (F.PageForm.scale.from x.now) most page) result }
 {
     if most == 0 {
         return Err(TreeError::Bad {
@@ -135,6 +142,8 @@ fn take_grown<F: PageForm>(
     ensures below { GrownBelow fresh.old.items fresh.new.items result }
     ensures front { IsFront fresh.new.items fresh.old.items }
     ensures key { IfOk result (λ grown. IfSome grown.sibling (λ s. F.PageForm.is_key s.key)) }
+    ensures cut { IfOk result (λ g. GrownCut (F.PageForm.node form.now bytes.0) place grown.sibling g.sibling) }
+    ensures clash { IfErr result (λ e. GrownClash F.PageForm.scale (F.PageForm.node form.now bytes.0) page place grown.sibling e) }
 {
     let Grown { sibling, levels } = grown;
     let levels = levels + 1;

@@ -1,7 +1,7 @@
 //! Where a page below a root leads an entry.
 
 ghost use Rattle.std.specs.Prelude.{◌≡◌, length, IfOk, Ok};
-ghost use Rattle.jfs_tree.specs.Form.{Leads, IsWithin, TellsLast};
+ghost use Rattle.jfs_tree.specs.Form.{Leads, IsWithin, TellsLast, HasRisingKeys};
 ghost use Rattle.jfs_tree.specs.Path.{below_root};
 
 use crate::form::Way;
@@ -15,6 +15,7 @@ pub(crate) fn way_below<F: PageForm>(form: &F, bytes: &[u8], x: &F::Entry) -> Re
     ensures way { IfOk result (λ way. Leads F.PageForm.scale x.now (F.PageForm.node form.now bytes.now) (Ok way)) }
     ensures within { IfOk result (λ way. IsWithin (F.PageForm.blocks form.now) way) }
     ensures last { IfOk result (λ way. TellsLast (F.PageForm.node form.now bytes.now) way) }
+    ensures rise { HasRisingKeys F.PageForm.scale (F.PageForm.node form.now bytes.now) }
 {
     match form.way(bytes, x) {
         Err(rule) => Err(rule),

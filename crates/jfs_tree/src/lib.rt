@@ -10,6 +10,7 @@ mod fresh;
 mod grow;
 mod law;
 mod lead;
+mod leftmost;
 mod loss;
 mod pages;
 mod plan_told;

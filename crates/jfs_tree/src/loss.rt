@@ -1,8 +1,9 @@
 //! Pages that lose entries and children.
 
-ghost use Rattle.std.specs.Prelude.{◌≡◌, [], IfNone, length};
+ghost use Rattle.std.specs.Prelude.{◌≡◌, ◌<◌, [], IfNone, IfSome, length};
 ghost use Rattle.jfs_tree.specs.Walk.{Leaf};
 ghost use Rattle.jfs_tree.specs.Form.{IsLeaf};
+ghost use Rattle.jfs_tree.specs.Leftmost.{LowersFirst};
 ghost use Rattle.jfs_tree.specs.Shrink.{IsLoose};
 ghost use Rattle.jfs_tree.specs.Removal.{HasOthers, TakesRow, TakesChild, TellsSingle};
 
@@ -22,6 +23,12 @@ pub trait PageLoss: PageForm {
         requires size { length bytes.old ≡ Self.size self.now }
         requires others { HasOthers place (Self.node self.now bytes.old) }
         ensures { TakesChild place (Self.node self.now bytes.old) (Self.node self.now bytes.new) };
+
+    /// Makes the key of an inner page's first child the least one, and answers that child's page. Another page stays as it is.
+    fn lower_first(&self, bytes: &mut [u8]) -> Option<u32>
+        requires { length bytes.old ≡ Self.size self.now }
+        ensures first { LowersFirst Self.scale (Self.node self.now bytes.old) (Self.node self.now bytes.new) result }
+        ensures within { IfSome result (λ page. page < Self.blocks self.now) };
 
     /// Whether a page has one entry alone, or one child alone.
     fn is_single(&self, bytes: &[u8]) -> bool

@@ -4,7 +4,7 @@ ghost use Rattle.std.specs.Prelude.{◌≡◌, ◌==◌, ◌<◌, ℕ, List, [],
 ghost use Rattle.jfs_tree.specs.Walk.{Child, Node, Leaf, Inner, Scale, IsOrder};
 ghost use Rattle.jfs_tree.specs.Edit.{IsApart, KeysRise, with_entry, found_in};
 ghost use Rattle.jfs_tree.specs.Filled.{FillsBoth};
-ghost use Rattle.jfs_tree.specs.Form.{Leads, IsWithin, TellsLast, IfFull, PutsRow, SplitsRows, PutsChild, AtPlace, SplitsChildren, as_child};
+ghost use Rattle.jfs_tree.specs.Form.{Leads, IsWithin, TellsLast, IfFull, PutsRow, SplitsRows, PutsChild, AtPlace, SplitsChildren, HasRisingKeys, GoesBehind, as_child};
 
 use crate::form::{Put, Sibling, Way};
 use jfs_bits::Rule;
@@ -56,7 +56,8 @@ pub trait PageForm {
         requires { length bytes.now ≡ size self.now }
         ensures way { Leads scale x.now (node self.now bytes.now) result }
         ensures within { IfOk result (λ way. IsWithin (blocks self.now) way) }
-        ensures last { IfOk result (λ way. TellsLast (node self.now bytes.now) way) };
+        ensures last { IfOk result (λ way. TellsLast (node self.now bytes.now) way) }
+        ensures rise { HasRisingKeys scale (node self.now bytes.now) };
 
     /// Whether a leaf has no entry.
     fn is_bare(&self, bytes: &[u8]) -> bool
@@ -95,13 +96,14 @@ pub trait PageForm {
         ensures fills { fills → (es : List Self.Entry) → node self.now bytes.old ≡ Leaf es → IsApart scale x.now es → FillsBoth last (node self.now bytes.new) (node self.now right.new) }
         ensures key { is_key result };
 
-    /// Puts a child behind the one at the place, where there is room.
+    /// Puts a child behind the one at the place, where its key is between their keys and there is room.
     fn put_child(&self, bytes: &mut [u8], place: usize, child: &Sibling<Self::Key>) -> Put
         requires size { length bytes.old ≡ size self.now }
         requires within { child.now.page < blocks self.now }
         requires key { is_key child.now.key }
         ensures child { PutsChild scale (node self.now) (is_full self.now) place child.now bytes.old bytes.new result }
-        ensures room { IfFull result (has_no_place self.now bytes.old child.now.key) };
+        ensures room { IfFull result (has_no_place self.now bytes.old child.now.key) }
+        ensures goes { IfFull result (GoesBehind scale (node self.now bytes.old) place (as_child child.now)) };
 
     /// Puts a child into page `n`, an inner page below a root that has no room for it, and the page's last part into page `q`, whose key it
     /// answers. `last` tells that page `n` is the last one of its level.

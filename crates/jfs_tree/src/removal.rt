@@ -1,10 +1,14 @@
 //! An entry that is taken out of the part of a tree below a page.
 
-ghost use Rattle.std.specs.Prelude.{◌≡◌, ◌+◌, ◌<◌, ◌≤◌, ◌^◌, [], Some, IfOk, IfErr, OnOk, IfSome, IfNone, length};
+ghost use Rattle.std.specs.Prelude.{◌≡◌, ◌+◌, ◌<◌, ◌≤◌, ◌^◌, ℕ, [], Some, IfOk, IfErr, OnOk, IfSome, IfNone, length};
 ghost use Rattle.jfs_tree.specs.Edit.{IsPoint};
 ghost use Rattle.jfs_tree.specs.Path.{broken_below, TellsBroken};
 ghost use Rattle.jfs_tree.specs.Call.{pages_of, nodes, Finds, BreaksWhereBad, CarriesFault, KeepsBytes, StaysOff};
 ghost use Rattle.jfs_tree.specs.Form.{IsLeaf};
+ghost use Rattle.jfs_tree.specs.Draft.{shown};
+ghost use Rattle.jfs_tree.specs.Leftmost.{LeavesOrGoes};
+ghost use Rattle.jfs_tree.specs.Walk.{Node};
+ghost use Rattle.jfs_disk.specs.Image.{Image};
 ghost use Rattle.jfs_tree.specs.Shrink.{Shrank};
 ghost use Rattle.jfs_tree.specs.Removal.{HasChildAt, Settles, LostHere, LostBelow, entry_of, kept_in};
 
@@ -58,6 +62,8 @@ pub fn remove_below<V: PageView, F: PageLoss>(
     ensures keeps { V.PageView.tells → IfOk result (λ found. IfSome found (λ shrunk. KeepsBytes F.PageForm.scale (pages_of (F.PageForm.node form.now) (V.PageView.image view.old)) (V.PageView.image view.old)
         [] draft.new.pages.items shrunk.levels page [] [])) }
     ensures levels { IfOk result (λ found. IfSome found (λ shrunk. shrunk.levels ≤ most)) }
+    ensures inner { V.PageView.tells → IfOk result (λ found. IfSome found (λ shrunk. LeavesOrGoes (pages_of (F.PageForm.node form.now) (V.PageView.image view.old))
+        (nodes (F.PageForm.node form.now) draft.new.pages.items (V.PageView.image view.old)) shrunk.kept freed.new.items)) }
 {
     if most == 0 {
         return Err(TreeError::Bad {
@@ -101,6 +107,8 @@ fn remove_here<F: PageLoss>(
     requires leaf { IsLeaf (F.PageForm.node form.now bytes.0) }
     ensures did { IfOk result (LostHere (F.PageForm.node form.now) F.PageForm.scale x.now bytes.0 page draft.old.pages.items draft.new.pages.items freed.old.items freed.new.items) }
     ensures levels { IfOk result (λ found. IfSome found (λ shrunk. shrunk.levels ≡ 1)) }
+    ensures inner { IfOk result (λ found. IfSome found (λ shrunk. (image : Image) → bytes.0 ≡ shown draft.old.pages.items image page
+        → LeavesOrGoes (nodes (F.PageForm.node form.now) draft.old.pages.items image) (nodes (F.PageForm.node form.now) draft.new.pages.items image) shrunk.kept freed.new.items)) }
     ensures keeps { OnOk result (StaysOff page draft.old.pages.items draft.new.pages.items [] []) }
     ensures cause { IfErr result (λ e. e ≡ TreeError.Memory) }
 {
@@ -131,6 +139,8 @@ fn remove_place<F: PageLoss>(
     requires there { HasChildAt place (F.PageForm.node form.now bytes.0) }
     requires fits { shrunk.levels + 1 < 2 ^ 32 }
     ensures did { IfOk result (λ found. IfSome found (λ more. (x : F.Entry) → LostBelow (F.PageForm.node form.now) F.PageForm.scale x bytes.0 page place shrunk draft.old.pages.items draft.new.pages.items freed.old.items freed.new.items more)) }
+    ensures inner { IfOk result (λ found. IfSome found (λ more. (image : Image) (before : ℕ → Node F.Key F.Entry) → LeavesOrGoes before (nodes (F.PageForm.node form.now) draft.old.pages.items image) shrunk.kept freed.old.items
+        → LeavesOrGoes before (nodes (F.PageForm.node form.now) draft.new.pages.items image) more.kept freed.new.items)) }
     ensures same { IfOk result (λ found. found ≡ Some (record { entry = shrunk.entry; kept = kept_in found; levels = shrunk.levels + 1 })) }
     ensures keeps { OnOk result (StaysOff page draft.old.pages.items draft.new.pages.items [] []) }
     ensures cause { IfErr result (λ e. e ≡ TreeError.Memory) }

@@ -2,6 +2,7 @@
 
 ghost use Rattle.std.specs.Prelude.{◌≡◌, [], IfOk, IfErr, IfNone, OnOk, length};
 ghost use Rattle.jfs_tree.specs.Edit.{IsPoint};
+ghost use Rattle.jfs_tree.specs.Leftmost.{RootOrGoes};
 ghost use Rattle.jfs_tree.specs.Path.{broken_on_way, TellsBroken};
 ghost use Rattle.jfs_tree.specs.Call.{nodes, pages_of, CarriesFault};
 ghost use Rattle.jfs_tree.specs.Root.{NamesBroken};
@@ -41,6 +42,8 @@ pub fn remove_entry<V: PageView, F: PageLoss>(
         (nodes (F.PageForm.node form.now) draft.new.pages.items (V.PageView.image view.old))
         (F.PageForm.node top.now root.old) (F.PageForm.node top.now root.new) freed.new.items found) }
     ensures keeps { V.PageView.tells → OnOk result (KeepsOthers F.PageForm.scale (pages_of (F.PageForm.node form.now) (V.PageView.image view.old)) (F.PageForm.node top.now root.old) (V.PageView.image view.old) draft.new.pages.items) }
+    ensures inner { V.PageView.tells → OnOk result (RootOrGoes (pages_of (F.PageForm.node form.now) (V.PageView.image view.old)) (nodes (F.PageForm.node form.now) draft.new.pages.items (V.PageView.image view.old))
+        (F.PageForm.node top.now root.old) (F.PageForm.node top.now root.new) freed.new.items) }
     ensures absent { IfOk result (λ found. IfNone found ((root.new ≡ root.old) × (draft.new.pages.items ≡ []) × (freed.new.items ≡ []))) }
     ensures kept { IfErr result (λ e. root.new ≡ root.old) }
     ensures bad { V.PageView.tells → IfErr result (λ e.

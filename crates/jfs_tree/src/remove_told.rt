@@ -7,6 +7,7 @@ ghost use Rattle.jfs_tree.specs.Adds.{read_as};
 ghost use Rattle.jfs_tree.specs.Call.{CarriesFault};
 ghost use Rattle.jfs_tree.specs.Changes.{TellsChanges, TellsGone};
 ghost use Rattle.jfs_tree.specs.Edit.{IsPoint};
+ghost use Rattle.jfs_tree.specs.Leftmost.{StaysLeftmost};
 ghost use Rattle.jfs_tree.specs.Path.{broken_on_way, TellsBroken};
 ghost use Rattle.jfs_tree.specs.Fresh.{HasPages};
 ghost use Rattle.jfs_tree.specs.Removes.{RemovesTold, TellsFreed, page_frees};
@@ -18,16 +19,16 @@ use crate::copy::copy_tx;
 use crate::draft::Draft;
 use crate::form::TreeError;
 use crate::fresh::page_at;
+use crate::leftmost::remove_leftmost;
 use crate::loss::PageLoss;
-use crate::remove_root::remove_entry;
 use crate::tell_all::tell_draft;
 use jfs_bits::PageKind;
 use jfs_ranges::{Edit, PageView, Tx, ViewError};
 use std::alloc::{AllocError, Global};
 
 /// Takes the entry that shares a place with `x`, which is one place, out of a root's tree, and answers it. The transaction gets the changed lines, and then
-/// of each page that is empty now its `NoRedo` and its `Free`. A root whose last child goes is a leaf without entries. Where there is no such entry, and
-/// after an `Err`, root and transaction are as before.
+/// of each page that is empty now its `NoRedo` and its `Free`. A root whose last child goes is a leaf without entries. The first keys on the leftmost way stay
+/// the least ones. Where there is no such entry, and after an `Err`, root and transaction are as before.
 pub fn remove_and_tell<V: PageView, F: PageLoss>(
     alloc: Global,
     top: &F,
@@ -50,6 +51,8 @@ pub fn remove_and_tell<V: PageView, F: PageLoss>(
     ensures fault { CarriesFault (V.PageView.fault_count view.old) (V.PageView.fault_count view.new) result }
     ensures removes { V.PageView.tells → IfOk result (RemovesTold F.PageForm.scale (F.PageForm.node form.now) (V.PageView.block_count view.old) (page_of (V.PageView.image view.old)) x.now
         (F.PageForm.node top.now root.old) (F.PageForm.node top.now root.new) tx.old tx.new) }
+    ensures left { V.PageView.tells → OnOk result (StaysLeftmost F.PageForm.scale (F.PageForm.node form.now) (V.PageView.block_count view.old) (page_of (V.PageView.image view.old))
+        (F.PageForm.node top.now root.old) (F.PageForm.node top.now root.new) tx.old tx.new) }
     ensures edits { V.PageView.tells → IfOk result (λ found. IfSome found (λ entry. TellsGone (V.PageView.block_count view.old) kind (page_of (V.PageView.image view.old)) tx.old tx.new)) }
     ensures absent { IfOk result (λ found. IfNone found ((root.new ≡ root.old) × (tx.new ≡ tx.old))) }
     ensures kept { OnErr result ((root.new ≡ root.old) × (tx.new ≡ tx.old)) }
@@ -62,10 +65,13 @@ pub fn remove_and_tell<V: PageView, F: PageLoss>(
     };
     let mut draft = Draft::new(alloc);
     let mut freed = Vec::new(alloc);
-    let entry = match remove_entry(top, form, view, &mut draft, &mut freed, root, x) {
+    let entry = match remove_leftmost(top, form, view, &mut draft, &mut freed, root, x) {
         Ok(Some(entry)) => entry,
         Ok(None) => return Ok(None),
-        Err(e) => return Err(e),
+        Err(e) => {
+            root.copy_from_slice(old.as_slice());
+            return Err(e);
+        }
     };
     match tell_freed(alloc, view, &draft, freed.as_slice(), kind, tx) {
         Ok(later) => {

@@ -3,6 +3,7 @@
 ghost use Rattle.std.specs.Prelude.{◌≡◌, ◌+◌, ◌<◌, ◌≤◌, ℕ, List, length, OnOk, IfOk, IfErr, IfSome};
 ghost use Rattle.jfs_tree.specs.Edit.{IsPoint};
 ghost use Rattle.jfs_tree.specs.Path.{broken_on_way, TellsBroken};
+ghost use Rattle.jfs_tree.specs.Refusal.{ClashesOnWay, HasAllLevels, RootGrownClash, TellsAdding};
 ghost use Rattle.jfs_tree.specs.Filled.{FillsAlways};
 ghost use Rattle.jfs_tree.specs.Form.{AllBelow, IsFront};
 ghost use Rattle.jfs_tree.specs.Room.{FullFrom, GrowsLevel, LevelsWhereFull, TakesWhereFull, RootGrownRoom, at_page};
@@ -56,7 +57,8 @@ pub fn find_entry<V: PageView, F: PageForm>(
 }
 
 /// Adds an entry to a root's tree. The root is changed in place, and the changed pages go into the draft; new pages are taken from the
-/// end of `fresh`. After an `Err` root, draft and `fresh` are to be thrown away.
+/// end of `fresh`. After an `Err` root, draft and `fresh` are to be thrown away. `Bad` names the first page on the entry's way that breaks a rule by itself;
+/// where none does, with rule `order` a page at which the entry clashes with what is stored, or with rule `deep` the root of a tree of 8 levels without room.
 pub fn add_entry<V: PageView, F: PageForm>(
     top: &F,
     form: &F,
@@ -116,6 +118,15 @@ pub fn add_entry<V: PageView, F: PageForm>(
     ensures keeps { V.PageView.tells → OnOk result (KeepsAlways F.PageForm.scale x.now (nodes (F.PageForm.node form.now) draft.old.pages.items (V.PageView.image view.old)) (F.PageForm.node top.now root.old) (V.PageView.image view.old)
         draft.old.pages.items draft.new.pages.items fresh.old.items fresh.new.items) }
     ensures front { IsFront fresh.new.items fresh.old.items }
+    ensures way { V.PageView.tells → TellsAdding
+        (broken_on_way F.PageForm.scale (nodes (F.PageForm.node form.now) draft.old.pages.items (V.PageView.image view.old)) (F.PageForm.scale.from x.now) (F.PageForm.node top.now root.old))
+        (ClashesOnWay F.PageForm.scale (nodes (F.PageForm.node form.now) draft.old.pages.items (V.PageView.image view.old)) x.now
+        (at_page (F.PageForm.is_full form.now) draft.old.pages.items (V.PageView.image view.old))
+        (at_page (λ bytes. F.PageForm.has_no_room form.now bytes x.now) draft.old.pages.items (V.PageView.image view.old)) (F.PageForm.node top.now root.old))
+        (HasAllLevels F.PageForm.scale (nodes (F.PageForm.node form.now) draft.old.pages.items (V.PageView.image view.old)) x.now
+        (at_page (F.PageForm.is_full form.now) draft.old.pages.items (V.PageView.image view.old))
+        (at_page (λ bytes. F.PageForm.has_no_room form.now bytes x.now) draft.old.pages.items (V.PageView.image view.old))
+        (F.PageForm.node top.now root.old) (λ key. (F.PageForm.is_full top.now root.old) × (F.PageForm.has_no_place top.now root.old key))) result }
 {
     let _blocks = view.blocks();
     match top.way(root, x) {
@@ -157,6 +168,7 @@ fn root_takes_grown<F: PageForm>(
     ensures keeps { OnOk result (StaysTaken draft.old.pages.items draft.new.pages.items fresh.old.items fresh.new.items) }
     ensures below { AllBelow (F.PageForm.blocks top.now) fresh.new.items }
     ensures front { IsFront fresh.new.items fresh.old.items }
+    ensures clash { IfErr result (λ e. RootGrownClash F.PageForm.scale (F.PageForm.node top.now root.old) grown.levels place (λ key. (F.PageForm.is_full top.now root.old) × (F.PageForm.has_no_place top.now root.old key)) grown.sibling e) }
 {
     let Grown { sibling, levels } = grown;
     match sibling {

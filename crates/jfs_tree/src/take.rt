@@ -1,9 +1,10 @@
 //! A page that takes an entry or a child, perhaps with a new page behind it.
 
 ghost use Rattle.std.specs.Prelude.{◌≡◌, ◌==◌, ◌+◌, if◌then◌else◌, ◌<◌, ◌≤◌, ℕ, List, length, OnOk, IfOk, IfErr, IfSome, Some};
-ghost use Rattle.jfs_tree.specs.Form.{IsFront};
+ghost use Rattle.jfs_tree.specs.Form.{GoesBehind, IsFront, as_child};
 ghost use Rattle.jfs_tree.specs.Room.{TakesOne};
 ghost use Rattle.jfs_tree.specs.Filled.{HereFilled, ChildFilled};
+ghost use Rattle.jfs_tree.specs.Refusal.{HereCut, ChildCut, HereClash, ChildClash};
 ghost use Rattle.jfs_tree.specs.Call.{HereDid, ChildDid, StaysBelow, StaysOff, PutsOne, PutsTwo};
 
 use crate::draft::Draft;
@@ -34,6 +35,8 @@ pub(crate) fn take_here<F: PageForm>(
     ensures below { StaysBelow fresh.old.items fresh.new.items result }
     ensures front { IsFront fresh.new.items fresh.old.items }
     ensures key { IfOk result (λ more. IfSome more (λ s. F.PageForm.is_key s.key)) }
+    ensures cut { IfOk result (λ more. HereCut F.PageForm.scale x.now (F.PageForm.node form.now bytes.0) more) }
+    ensures clash { IfErr result (λ e. HereClash F.PageForm.scale x.now (F.PageForm.node form.now bytes.0) page e) }
 {
     match form.put(&mut bytes.0, x) {
         Put::Done => {
@@ -70,6 +73,8 @@ fn split_here<F: PageForm>(
     ensures below { StaysBelow fresh.old.items fresh.new.items result }
     ensures front { IsFront fresh.new.items fresh.old.items }
     ensures key { IfOk result (λ more. IfSome more (λ s. F.PageForm.is_key s.key)) }
+    ensures cut { IfOk result (λ more. HereCut F.PageForm.scale x.now (F.PageForm.node form.now bytes.0) more) }
+    ensures clash { IfErr result (λ e. HereClash F.PageForm.scale x.now (F.PageForm.node form.now bytes.0) page e) }
 {
     let Some(q) = fresh.pop() else {
         unreachable!();
@@ -104,6 +109,8 @@ pub(crate) fn take_child<F: PageForm>(
     ensures below { StaysBelow fresh.old.items fresh.new.items result }
     ensures front { IsFront fresh.new.items fresh.old.items }
     ensures key { IfOk result (λ more. IfSome more (λ s. F.PageForm.is_key s.key)) }
+    ensures cut { IfOk result (λ more. ChildCut (F.PageForm.node form.now bytes.0) place sibling more) }
+    ensures clash { IfErr result (λ e. ChildClash F.PageForm.scale (F.PageForm.node form.now bytes.0) page place sibling e) }
 {
     match form.put_child(&mut bytes.0, place, &sibling) {
         Put::Done => {
@@ -134,6 +141,7 @@ fn split_child<F: PageForm>(
     requires key { F.PageForm.is_key sibling.key }
     requires enough { 0 < length fresh.old.items }
     requires full { F.PageForm.is_full form.now bytes.0 }
+    requires goes { GoesBehind F.PageForm.scale (F.PageForm.node form.now bytes.0) place (as_child sibling) }
     ensures did { ChildDid (F.PageForm.node form.now) F.PageForm.scale bytes.0 page place sibling draft.old.pages.items draft.new.pages.items fresh.old.items fresh.new.items result }
     ensures used { IfOk result (λ more. length fresh.old.items ≤ length fresh.new.items + 1) }
     ensures room { IfOk result (λ more. TakesOne (F.PageForm.is_full form.now bytes.0) more fresh.old.items fresh.new.items) }
@@ -142,6 +150,8 @@ fn split_child<F: PageForm>(
     ensures below { StaysBelow fresh.old.items fresh.new.items result }
     ensures front { IsFront fresh.new.items fresh.old.items }
     ensures key { IfOk result (λ more. IfSome more (λ s. F.PageForm.is_key s.key)) }
+    ensures cut { IfOk result (λ more. ChildCut (F.PageForm.node form.now bytes.0) place sibling more) }
+    ensures clash { IfErr result (λ e. ChildClash F.PageForm.scale (F.PageForm.node form.now bytes.0) page place sibling e) }
 {
     let Some(q) = fresh.pop() else {
         unreachable!();

@@ -1,9 +1,11 @@
 //! A root that takes an entry or a child; one without room moves to a new page first.
 
-ghost use Rattle.std.specs.Prelude.{◌≡◌, ◌+◌, ◌<◌, ◌≤◌, ℕ, List, OnOk, length};
+ghost use Rattle.std.specs.Prelude.{◌≡◌, ◌+◌, ◌<◌, ◌≤◌, ℕ, List, OnOk, IfErr, length};
 ghost use Rattle.jfs_tree.specs.Form.{AllBelow, IsFront};
 ghost use Rattle.jfs_tree.specs.Call.{StaysTaken};
+ghost use Rattle.jfs_tree.specs.Spells.{no_page};
 ghost use Rattle.jfs_tree.specs.Room.{RootRoom, RootChildRoom};
+ghost use Rattle.jfs_tree.specs.Refusal.{HereClash, RootClash};
 ghost use Rattle.jfs_tree.specs.Root.{RootHereDid, RootChildDid};
 
 use crate::draft::Draft;
@@ -34,6 +36,7 @@ pub(crate) fn root_takes_here<F: PageForm>(
     ensures keeps { OnOk result (StaysTaken draft.old.pages.items draft.new.pages.items fresh.old.items fresh.new.items) }
     ensures below { AllBelow (F.PageForm.blocks top.now) fresh.new.items }
     ensures front { IsFront fresh.new.items fresh.old.items }
+    ensures clash { IfErr result (λ e. HereClash F.PageForm.scale x.now (F.PageForm.node top.now root.old) no_page e) }
 {
     match top.put(root, x) {
         Put::Done => Ok(()),
@@ -67,6 +70,7 @@ fn moves_with_entry<F: PageForm>(
     ensures keeps { OnOk result (StaysTaken draft.old.pages.items draft.new.pages.items fresh.old.items fresh.new.items) }
     ensures below { AllBelow (F.PageForm.blocks top.now) fresh.new.items }
     ensures front { IsFront fresh.new.items fresh.old.items }
+    ensures clash { IfErr result (λ e. HereClash F.PageForm.scale x.now (F.PageForm.node top.now root.old) no_page e) }
 {
     let Some(q) = fresh.pop() else {
         unreachable!();
@@ -108,6 +112,7 @@ pub(crate) fn root_takes_child<F: PageForm>(
     ensures keeps { OnOk result (StaysTaken draft.old.pages.items draft.new.pages.items fresh.old.items fresh.new.items) }
     ensures below { AllBelow (F.PageForm.blocks top.now) fresh.new.items }
     ensures front { IsFront fresh.new.items fresh.old.items }
+    ensures clash { IfErr result (λ e. RootClash F.PageForm.scale (F.PageForm.node top.now root.old) levels place (λ key. (F.PageForm.is_full top.now root.old) × (F.PageForm.has_no_place top.now root.old key)) child e) }
 {
     match top.put_child(root, place, &child) {
         Put::Done => Ok(()),
@@ -154,6 +159,7 @@ fn moves_with_child<F: PageForm>(
     ensures keeps { OnOk result (StaysTaken draft.old.pages.items draft.new.pages.items fresh.old.items fresh.new.items) }
     ensures below { AllBelow (F.PageForm.blocks top.now) fresh.new.items }
     ensures front { IsFront fresh.new.items fresh.old.items }
+    ensures clash { IfErr result (λ e. RootClash F.PageForm.scale (F.PageForm.node top.now root.old) levels place (λ key. (F.PageForm.is_full top.now root.old) × (F.PageForm.has_no_place top.now root.old key)) child e) }
 {
     let Some(q) = fresh.pop() else {
         unreachable!();

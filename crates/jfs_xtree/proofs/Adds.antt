@@ -1,5 +1,5 @@
 -- An extent that was added to the tree, and one that was refused, by the file's root and pages.
-use Rattle.std.proofs.Common.{◌≡◌, ◌<◌, ◌⊎◌, inl, inr, subst, ℕ, suc, ◌+◌, List, [], ◌∷◌, length, map, true, arith}
+use Rattle.std.proofs.Common.{◌≡◌, ◌<◌, ◌⊎◌, inl, inr, subst, ℕ, suc, ◌+◌, List, [], ◌∷◌, length, map, true, None, Result, Err, arith}
 use Rattle.std.specs.Prelude.{nat_le}
 use Rattle.jfs_bits.specs.declared.extent.Xad.{Xad}
 use Rattle.jfs_disk.specs.Image.{Image, page_of}
@@ -16,9 +16,12 @@ use Rattle.jfs_xtpage.specs.declared.head.XtForm.{XtForm}
 use Rattle.jfs_xtpage.specs.declared.head.XtForm.TheVariants.{Full}
 use Rattle.jfs_xtpage.specs.Page.{entries_of}
 use Rattle.jfs_xtree.specs.Node.{xt_scale, xt_node, is_within, all_within, child_of, HasNoRoom}
-use Rattle.jfs_xtree.specs.Spells.{root_form, page_nodes, root_node, tree_error}
+use Rattle.jfs_xtree.specs.Spells.{root_form, page_nodes, root_node, tree_error, broken_for}
 use Rattle.jfs_xtree.specs.Errors.{handed_on}
-use Rattle.jfs_xtree.specs.Adding.{AddsExtent, NoRoomAtRoot, NoRoomOnWay, TakesPages, RefusesFull, KeepsNoThin}
+use Rattle.jfs_xtree.specs.Adding.{AddsExtent, NoRoomAtRoot, NoRoomOnWay, TakesPages, RefusesFull, KeepsNoThin, ClashesFor, IsFullAndDeep, AddTellsWay}
+use Rattle.jfs_xtree.specs.declared.error.XtError.{XtError}
+use Rattle.jfs_tree.specs.Path.{broken_on_way}
+use Rattle.jfs_tree.specs.Refusal.{ClashesOnWay, HasAllLevels, TellsRefusal}
 use Rattle.std.proofs.lemmas.Bool.{leb-true}
 use Rattle.jfs_xtree.proofs.Reading.{and_true, inner_is}
 
@@ -105,3 +108,34 @@ pub takes_as : (b blocks : ℕ) (form : XtForm) (x : Xad) (image : Image) (root 
 takes_as b blocks form x image root free left eb ef h =
     takes_once blocks (page_of image) x root free left
     (subst (λ f. TakesTwice blocks (page_of image) f x root free left) ef (subst (λ n. TakesTwice n (page_of image) form x root free left) eb h))
+
+-- ---- why an extent is refused on its way
+
+-- what a call on the tree tells of a refusal
+abbrev TellsTwice : ℕ → (ℕ → List ℕ) → XtForm → Xad → List ℕ → TreeError → Type 0
+TellsTwice blocks pages form x root e = TellsRefusal (broken_on_way xt_scale (read_as (xt_node Full blocks) pages) x.offset (xt_node form blocks root)) (ClashesOnWay xt_scale (read_as (xt_node Full blocks) pages) x (on_page (HasNoRoom Full) pages) (on_page (HasNoRoom Full) pages) (xt_node form blocks root))
+    (HasAllLevels xt_scale (read_as (xt_node Full blocks) pages) x (on_page (HasNoRoom Full) pages) (on_page (HasNoRoom Full) pages) (xt_node form blocks root) (λ key. HasNoRoom form root × HasNoRoom form root)) e
+
+-- a failure, as the call answers it
+abbrev pub failed : XtError → Result (Unit {0}) XtError
+failed e = Err e
+
+tells_once : (blocks : ℕ) (pages : ℕ → List ℕ) (x : Xad) (root : List ℕ) (e : TreeError) → TellsTwice blocks pages (root_form (length root)) x root e
+    → AddTellsWay (broken_for blocks pages root x.offset) (ClashesFor blocks pages x root) (IsFullAndDeep blocks pages x root) (failed (handed_on e))
+tells_once blocks pages x root (View v) h = tt
+tells_once blocks pages x root (Bad page rule) (inl first) = inl first
+tells_once blocks pages x root (Bad page rule) (inr (none, inl clash)) = inr (none, inl clash)
+tells_once blocks pages x root (Bad page rule) (inr (none, inr (named, deep, (place, child, leads, full, (key, room))))) = inr (none, inr (named, deep, (place, child, leads, full, (key, room.0))))
+tells_once blocks pages x root Memory h = tt
+
+pub tells_as : (b blocks : ℕ) (form : XtForm) (x : Xad) (image : Image) (root : List ℕ) (e : TreeError) → b ≡ blocks → form ≡ root_form (length root) → TellsTwice b (page_of image) form x root e
+    → AddTellsWay (broken_for blocks (page_of image) root x.offset) (ClashesFor blocks (page_of image) x root) (IsFullAndDeep blocks (page_of image) x root) (failed (handed_on e))
+tells_as b blocks form x image root e eb ef h =
+    tells_once blocks (page_of image) x root e
+    (subst (λ f. TellsTwice blocks (page_of image) f x root e) ef (subst (λ n. TellsTwice n (page_of image) form x root e) eb h))
+
+pub went_in : (b blocks : ℕ) (form : XtForm) (x : Xad) (image : Image) (root : List ℕ) → b ≡ blocks → form ≡ root_form (length root) → broken_on_way xt_scale (read_as (xt_node Full b) (page_of image)) x.offset (xt_node form b root) ≡ None
+    → broken_for blocks (page_of image) root x.offset ≡ None
+went_in b blocks form x image root eb ef h =
+    subst (λ f. broken_on_way xt_scale (page_nodes blocks (page_of image)) x.offset (xt_node f blocks root) ≡ None) ef
+    (subst (λ n. broken_on_way xt_scale (read_as (xt_node Full n) (page_of image)) x.offset (xt_node form n root) ≡ None) eb h)

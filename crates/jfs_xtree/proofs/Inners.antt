@@ -142,15 +142,15 @@ next_entry bytes key p zero n h = absurd (omega (arith, h))
 next_entry bytes key p (suc m) n h = n
 
 -- the parts of a page at which a child is put
-record Cut (form : XtForm) (blocks : ℕ) (bytes : List ℕ) (place : ℕ) (c : Child ℕ) (all : List (Child ℕ)) : Type 0 where
-  within : place < count_of bytes
-  all_is : all ≡ map child_of (take place (entries_of bytes)) ++ child_of (entry_of bytes place) ∷ c ∷ map child_of (drop (place + 1) (entries_of bytes))
+pub record Cut (form : XtForm) (blocks : ℕ) (bytes : List ℕ) (place : ℕ) (c : Child ℕ) (all : List (Child ℕ)) : Type 0 where
+  pub within : place < count_of bytes
+  pub all_is : all ≡ map child_of (take place (entries_of bytes)) ++ child_of (entry_of bytes place) ∷ c ∷ map child_of (drop (place + 1) (entries_of bytes))
 
 longer : (a : List (Child ℕ)) (x : Child ℕ) (c : List (Child ℕ)) → length a < length (a ++ x ∷ c)
 longer [] x c = omega arith
 longer (y ∷ a) x c = let h = longer a x c in omega (arith, h)
 
-cut_of : (form : XtForm) (blocks : ℕ) (bytes : List ℕ) (place : ℕ) (c : Child ℕ) (all : List (Child ℕ)) → AtPlace (xt_node form blocks bytes) place c all → Cut form blocks bytes place c all
+pub cut_of : (form : XtForm) (blocks : ℕ) (bytes : List ℕ) (place : ℕ) (c : Child ℕ) (all : List (Child ℕ)) → AtPlace (xt_node form blocks bytes) place c all → Cut form blocks bytes place c all
 cut_of form blocks bytes place c all at =
     let t = inner_is form blocks bytes (at.front ++ at.before ∷ at.back) at.was in
     let n : length (at.front ++ at.before ∷ at.back) ≡ count_of bytes = ap length (sym t.2) ∙ length_map (entries_of bytes) ∙ length-entries bytes 0 (count_of bytes) in

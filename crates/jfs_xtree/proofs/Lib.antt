@@ -21,3 +21,4 @@ pub mod Trims
 pub mod WriteSteps
 pub mod WriteCalls
 mod Halves
+pub mod Behind

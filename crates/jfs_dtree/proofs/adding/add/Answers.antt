@@ -8,10 +8,11 @@ use Rattle.jfs_tree.specs.Adds.{read_as, AddsTold, LevelsTold}
 use Rattle.jfs_dtpage.specs.declared.head.DtForm.TheVariants.{Root, Full}
 use Rattle.jfs_dtree.specs.Node.{name_scale, dt_node}
 use Rattle.jfs_dtree.specs.Spells.{root_node, page_nodes, broken_for}
-use Rattle.jfs_dtree.specs.Room.{FollowsRoom, DeepIs}
+use Rattle.jfs_dtree.specs.Room.{FollowsRoom, DeepIs, TightFrom}
 use Rattle.jfs_tree.specs.Room.{GrowsLevel}
-use Rattle.jfs_dtree.specs.Adding.{NoRoomAtRoot, NoPlaceAtRoot, is_full_in, lacks_in, RefusesName, AddTellsWay}
-use Rattle.jfs_dtree.proofs.Roots.{adds_as, refuses_as, takes_as, levels_as, found_no_room, shallow_follows, found_tells, added_tells, deep_as, failed}
+use Rattle.jfs_dtree.specs.Adding.{NoRoomAtRoot, NoPlaceAtRoot, is_full_in, lacks_in, RefusesName, ClashesFor, AddTellsWay}
+use Rattle.jfs_dtree.proofs.Roots.{adds_as, refuses_as, takes_as, levels_as, found_no_room, shallow_follows, found_tells, deep_as, failed}
+use Rattle.jfs_dtree.proofs.Refused.{refusal_tells}
 use Rattle.jfs_dtree.proofs.adding.add.Goals as goal
 
 pub returns-in-Ok-clause-adds : goal.returns-in-Ok-clause-adds
@@ -72,8 +73,12 @@ returns-in-Err-add_and_tell-clause-deep g c tells =
 
 pub returns-in-Err-add_and_tell-clause-way : goal.returns-in-Err-add_and_tell-clause-way
 returns-in-Err-add_and_tell-clause-way g c tells =
-    subst (λ e. AddTellsWay (broken_for (g.V.PageView.block_count c.args.view.now) (page_of (g.V.PageView.image c.args.view.now)) c.args.root.now c.args.name.now) (failed e)) (sym c.handed_on.ensures)
-    (added_tells (broken_for (g.V.PageView.block_count c.args.view.now) (page_of (g.V.PageView.image c.args.view.now)) c.args.root.now c.args.name.now) c.in-Err-add_and_tell.e (c.in-Ok-None.ensures.way tells))
+    let with_units = λ (units : List ℕ). (let e : NameEntry = record { name = units; inode = c.args.inode } in e) in
+    let loose = subst (λ i. TightFrom c.blocks-blocks.result (page_of i) c.args.root.now c.new-x.result.name false) (sym (c.is_deep.ensures.image tells))
+    (subst (TightFrom c.blocks-blocks.result (page_of (g.V.PageView.image c.find.new.view)) c.args.root.now c.new-x.result.name) c.in-Ok-false.field-0-test (c.in-Ok-false.ensures.tight tells)) in
+    subst (λ e. AddTellsWay (broken_for (g.V.PageView.block_count c.args.view.now) (page_of (g.V.PageView.image c.args.view.now)) c.args.root.now c.args.name.now) (ClashesFor (g.V.PageView.block_count c.args.view.now) (page_of (g.V.PageView.image c.args.view.now)) (with_units c.args.name.now) c.args.root.now) (failed e)) (sym c.handed_on.ensures)
+    (refusal_tells c.blocks-blocks.result (g.V.PageView.block_count c.args.view.now) (g.V.PageView.image c.is_deep.new.view) (g.V.PageView.image c.args.view.now) c.args.root.now c.args.name.now c.new-x.result c.args.inode c.in-Err-add_and_tell.e
+    (c.blocks-blocks.ensures ∙ c.find.ensures.count_of_blocks) (c.is_deep.ensures.image tells ∙ c.find.ensures.image tells) (c.new-x.ensures ∙ ap with_units c.as_slice.ensures) loose (c.in-Err-add_and_tell.ensures.way tells))
 
 pub returns-in-Ok-true-clause-deep : goal.returns-in-Ok-true-clause-deep
 returns-in-Ok-true-clause-deep g c tells = (deep_as c.blocks-blocks.result (g.V.PageView.block_count c.args.view.now) (g.V.PageView.image c.find.new.view) (g.V.PageView.image c.args.view.now) c.args.root.now c.args.name.now c.new-x.result c.in-Ok-true.field-0 true (c.blocks-blocks.ensures ∙ c.find.ensures.count_of_blocks) (c.find.ensures.image tells)
@@ -90,7 +95,7 @@ pub returns-in-Err-clause-deep : goal.returns-in-Err-clause-deep
 returns-in-Err-clause-deep g c tells = found_no_room (g.V.PageView.block_count c.args.view.now) (page_of (g.V.PageView.image c.args.view.now)) c.args.root.now c.args.name.now c.in-Err.e (c.in-Err.ensures.bad tells)
 
 pub returns-in-Err-clause-way : goal.returns-in-Err-clause-way
-returns-in-Err-clause-way g c tells = found_tells (page_nodes (g.V.PageView.block_count c.args.view.now) (page_of (g.V.PageView.image c.args.view.now))) (root_node (g.V.PageView.block_count c.args.view.now) c.args.root.now) _ c.in-Err.e (c.in-Err.ensures.bad tells) (c.in-Err.ensures.way tells)
+returns-in-Err-clause-way g c tells = found_tells (page_nodes (g.V.PageView.block_count c.args.view.now) (page_of (g.V.PageView.image c.args.view.now))) (root_node (g.V.PageView.block_count c.args.view.now) c.args.root.now) _ _ c.in-Err.e (c.in-Err.ensures.bad tells) (c.in-Err.ensures.way tells)
 
 pub returns-in-Ok-clause-edits : goal.returns-in-Ok-clause-edits
 returns-in-Ok-clause-edits g c tells =

@@ -6,6 +6,7 @@ use Rattle.jfs_dtree.specs.Node.{below, dt_node, named}
 use Rattle.jfs_dtree.specs.Place.{LeadsAt}
 use Rattle.jfs_dtree.proofs.Nodes.{leaf_read, inner_read, inner_is}
 use Rattle.jfs_dtree.proofs.Leading.{count_some, leads_down, child_at, keys_are, tells_last, head_count}
+use Rattle.jfs_dtree.proofs.Behind.{rising_keys}
 use Rattle.jfs_dtree.proofs.lead.way_of.Goals as goal
 
 pub returns-then-is_leaf-clause-way : goal.returns-then-is_leaf-clause-way
@@ -40,3 +41,9 @@ pub returns-clause-last : goal.returns-clause-last
 returns-clause-last c = λ cs is.
     tells_last c.args.form c.args.bytes.now cs c.child_place-place.result c.from.result (inner_is c.args.form c.args.blocks c.args.bytes.now cs is).4
     (c.from.ensures ∙ head_count c.args.form c.args.bytes.now c.in_ok-head.head c.in_ok-head.ensures.sound.1)
+
+pub returns-then-is_leaf-clause-rise : goal.returns-then-is_leaf-clause-rise
+returns-then-is_leaf-clause-rise c = rising_keys c.args.form c.args.blocks c.args.bytes.now
+
+pub returns-clause-rise : goal.returns-clause-rise
+returns-clause-rise c = rising_keys c.args.form c.args.blocks c.args.bytes.now

@@ -5,6 +5,7 @@ use Rattle.jfs_dtree.specs.Laws.{point}
 use Rattle.jfs_dtree.specs.Removing.{MissesName}
 use Rattle.jfs_dtree.proofs.Roots.{first_as, told_failed}
 use Rattle.jfs_dtree.proofs.Lessened.{removes_as, missed_as, misses_as}
+use Rattle.jfs_dtree.proofs.Emptied.{left_as}
 use Rattle.jfs_dtree.proofs.removing.remove.Goals as goal
 
 pub remove_and_tell-requires-clause-point : goal.remove_and_tell-requires-clause-point
@@ -42,3 +43,8 @@ returns-in-Err-clause-way g c tells =
     told_failed _ _ c.in-Err.e c.handed_on.result c.handed_on.ensures
     (first_as c.blocks-blocks.result (g.V.PageView.block_count c.args.view.now) (g.V.PageView.image c.args.view.now) c.args.root.now c.args.name.now c.new-x.result c.blocks-blocks.ensures (ap (λ (e : NameEntry). e.name) c.new-x.ensures ∙ c.as_slice.ensures))
     (c.in-Err.ensures.way tells)
+
+pub returns-in-Ok-Some-clause-left : goal.returns-in-Ok-Some-clause-left
+returns-in-Ok-Some-clause-left g c tells =
+    left_as c.blocks-blocks.result (g.V.PageView.block_count c.args.view.now) (g.V.PageView.image c.args.view.now) c.args.root.now c.remove_and_tell.new.root c.set_parent.new.root c.args.tx.now c.remove_and_tell.new.tx
+    c.blocks-blocks.ensures c.set_parent.ensures.node (c.in-Ok-Some.ensures.left tells)

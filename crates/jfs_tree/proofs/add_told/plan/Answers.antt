@@ -9,6 +9,7 @@ use Rattle.jfs_tree.proofs.Changed.{changes_as, taken_changes}
 use Rattle.jfs_tree.proofs.Runs.{below_reverse, left_named, taken_named}
 use Rattle.jfs_tree.proofs.Adds.{refuses_as, adds_told, levels_told, told_as, ok_maps, full_as, takes_as}
 use Rattle.jfs_tree.proofs.FilledRoots.{thin_told}
+use Rattle.jfs_tree.proofs.Refusing.{tells_refused, tells_planned}
 use Rattle.jfs_tree.proofs.add_told.plan.Goals as goal
 
 pub add_entry-requires-clause-within : goal.add_entry-requires-clause-within
@@ -96,3 +97,11 @@ returns-clause-thin g c fills tells =
     (c.requires.children c.add_entry.new.root).0 (λ bytes. (c.requires.children bytes).1) c.new-draft.ensures (c.in_default-add_entry.ensures.adds tells) (c.in_default-add_entry.ensures.filled fills tells)
     (told_as (g.V.PageView.block_count c.add_entry.new.view) blocks (g.V.PageView.image c.add_entry.new.view) image c.add_entry.new.draft.pages.items c.args.tx.now p.tx c.add_entry.ensures.count_of_blocks (c.add_entry.ensures.image tells) told)
     (c.reversed-stack.ensures ∙ ap reverse c.in-Ok-blocks_of.ensures))
+
+pub returns-in-Err-clause-way : goal.returns-in-Err-clause-way
+returns-in-Err-clause-way g c tells =
+    tells_refused g.F.PageForm.scale (g.F.PageForm.node c.args.form.now) (g.V.PageView.image c.args.view.now) c.args.x.now (g.F.PageForm.node c.args.top.now c.args.root.now) (g.F.PageForm.is_full c.args.form.now) (λ bytes. g.F.PageForm.has_no_room c.args.form.now bytes c.args.x.now) (λ key. g.F.PageForm.is_full c.args.top.now c.args.root.now × g.F.PageForm.has_no_place c.args.top.now c.args.root.now key) c.new-draft.result.pages.items c.new-draft.ensures c.in-Err.e (c.in-Err.ensures.way tells)
+
+pub returns-clause-way : goal.returns-clause-way
+returns-clause-way g c tells =
+    tells_planned g.F.PageForm.scale (g.F.PageForm.node c.args.form.now) (g.V.PageView.image c.args.view.now) c.args.x.now (g.F.PageForm.node c.args.top.now c.args.root.now) (g.F.PageForm.is_full c.args.form.now) (λ bytes. g.F.PageForm.has_no_room c.args.form.now bytes c.args.x.now) (λ key. g.F.PageForm.is_full c.args.top.now c.args.root.now × g.F.PageForm.has_no_place c.args.top.now c.args.root.now key) c.new-draft.result.pages.items c.new-draft.ensures tt c.finish.result (c.in_default-add_entry.ensures.way tells) c.finish.ensures.read

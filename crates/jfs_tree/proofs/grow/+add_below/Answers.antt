@@ -1,12 +1,15 @@
-use Rattle.std.proofs.Common.{sym, ap, ◌∙◌, subst, ◌-◌, arith, Ok, IfSome, ◌<◌}
+use Rattle.std.proofs.Common.{refl, sym, ap, ◌∙◌, subst, ◌-◌, arith, Ok, Err, IfSome, ◌<◌}
 use Rattle.jfs_bits.specs.declared.rule.Rule.TheVariants as rules
 use Rattle.jfs_tree.specs.Call.{nodes}
 use Rattle.jfs_tree.specs.Form.{Leads, TellsLast}
-use Rattle.jfs_tree.specs.Path.{below_root}
+use Rattle.jfs_tree.specs.Path.{below_root, broken_below}
+use Rattle.jfs_tree.specs.Refusal.{TellsGrowing}
+use Rattle.jfs_tree.specs.Room.{at_page}
 use Rattle.jfs_tree.proofs.Adding.{refute_zero, refute_broken, refute_here, refute_down, grown_ok, grown_bad}
 use Rattle.jfs_tree.proofs.Rooms.{grown_room}
 use Rattle.jfs_tree.proofs.BytesKept.{here_keeps, grown_keeps}
 use Rattle.jfs_tree.proofs.FilledSteps.{grown_filled}
+use Rattle.jfs_tree.proofs.Refusing.{tells_deep, tells_broken, tells_taken, tells_clash, tells_below, tells_grown}
 use Rattle.jfs_tree.proofs.grow.+add_below.Goals as goal
 
 pub returns-then-most-eq0-clause-bad : goal.returns-then-most-eq0-clause-bad
@@ -89,3 +92,40 @@ returns-in-Ok-add_below-clause-filled g t c fills tells =
     c.args.page c.in-Ok-Down.place c.in-Ok-Down.child c.in-Ok-add_below.grown.levels c.args.last c.in-Ok-Down.at_end c.in-Ok.bytes.0 c.in-Ok-add_below.grown.sibling c.args.fresh.now.items c.add_below.new.fresh.items c.take_grown.new.fresh.items c.take_grown.result
     (c.read.ensures.kept tells) (c.in-Ok.ensures.bytes tells) (rw (sym c.bytes.ensures.value) leads) (rw (sym c.bytes.ensures.value) ends) (c.in-Ok-add_below.ensures.grew tells)
     (rw (sym c.both.ensures) (c.in-Ok-add_below.ensures.filled fills tells)) c.take_grown.ensures.levels (c.take_grown.ensures.filled fills)
+
+pub returns-then-most-eq0-clause-way : goal.returns-then-most-eq0-clause-way
+returns-then-most-eq0-clause-way g t c tells = tells_deep g.F.PageForm.scale (nodes (g.F.PageForm.node c.args.form.now) c.args.draft.now.pages.items (g.V.PageView.image c.args.view.now)) c.args.x.now (at_page (g.F.PageForm.is_full c.args.form.now) c.args.draft.now.pages.items (g.V.PageView.image c.args.view.now)) (at_page (λ bytes. g.F.PageForm.has_no_room c.args.form.now bytes c.args.x.now) c.args.draft.now.pages.items (g.V.PageView.image c.args.view.now)) c.args.most c.args.page c.if-most-eq0.true
+
+pub returns-in-Err-way_below-clause-way : goal.returns-in-Err-way_below-clause-way
+returns-in-Err-way_below-clause-way g t c tells =
+    tells_broken g.F.PageForm.scale g.met.F.PageForm.order (nodes (g.F.PageForm.node c.args.form.now) c.args.draft.now.pages.items (g.V.PageView.image c.args.view.now)) c.args.x.now (at_page (g.F.PageForm.is_full c.args.form.now) c.args.draft.now.pages.items (g.V.PageView.image c.args.view.now)) (at_page (λ bytes. g.F.PageForm.has_no_room c.args.form.now bytes c.args.x.now) c.args.draft.now.pages.items (g.V.PageView.image c.args.view.now)) c.args.most (c.args.most - 1) c.args.page (let h = c.if-most-eq0.false in omega (arith, h)) c.in-Err-way_below.rule
+    (ap (λ b. below_root (g.F.PageForm.node c.args.form.now b)) (sym (c.in-Ok.ensures.bytes tells) ∙ sym c.bytes.ensures.value) ∙ c.in-Err-way_below.ensures.below)
+
+pub returns-in-Ok-take_here-clause-way : goal.returns-in-Ok-take_here-clause-way
+returns-in-Ok-take_here-clause-way g t c tells =
+    let below = subst (λ w. Leads g.F.PageForm.scale c.args.x.now (below_root (g.F.PageForm.node c.args.form.now c.bytes.result.now)) (Ok w)) c.in-Ok-Here.field-0-is c.in-Ok-Here.ensures.below in
+    let leads = subst (λ w. Leads g.F.PageForm.scale c.args.x.now (g.F.PageForm.node c.args.form.now c.bytes.result.now) (Ok w)) c.in-Ok-Here.field-0-is c.in-Ok-Here.ensures.way in
+    tells_taken g.F.PageForm.scale g.met.F.PageForm.order (nodes (g.F.PageForm.node c.args.form.now) c.args.draft.now.pages.items (g.V.PageView.image c.args.view.now)) c.args.x.now (at_page (g.F.PageForm.is_full c.args.form.now) c.args.draft.now.pages.items (g.V.PageView.image c.args.view.now)) (at_page (λ bytes. g.F.PageForm.has_no_room c.args.form.now bytes c.args.x.now) c.args.draft.now.pages.items (g.V.PageView.image c.args.view.now)) c.args.most (c.args.most - 1) c.args.page (let h = c.if-most-eq0.false in omega (arith, h)) (record { sibling = c.in-Ok-take_here.sibling; levels = 1 }) c.in-Ok-take_here.sibling refl
+    (rw (sym (c.in-Ok.ensures.bytes tells), sym c.bytes.ensures.value) below) (rw (sym (c.in-Ok.ensures.bytes tells), sym c.bytes.ensures.value) leads) (rw (sym (c.in-Ok.ensures.bytes tells)) c.in-Ok-take_here.ensures.cut)
+
+pub returns-in-Err-take_here-clause-way : goal.returns-in-Err-take_here-clause-way
+returns-in-Err-take_here-clause-way g t c tells =
+    let below = subst (λ w. Leads g.F.PageForm.scale c.args.x.now (below_root (g.F.PageForm.node c.args.form.now c.bytes.result.now)) (Ok w)) c.in-Ok-Here.field-0-is c.in-Ok-Here.ensures.below in
+    let leads = subst (λ w. Leads g.F.PageForm.scale c.args.x.now (g.F.PageForm.node c.args.form.now c.bytes.result.now) (Ok w)) c.in-Ok-Here.field-0-is c.in-Ok-Here.ensures.way in
+    tells_clash g.F.PageForm.scale g.met.F.PageForm.order (nodes (g.F.PageForm.node c.args.form.now) c.args.draft.now.pages.items (g.V.PageView.image c.args.view.now)) c.args.x.now (at_page (g.F.PageForm.is_full c.args.form.now) c.args.draft.now.pages.items (g.V.PageView.image c.args.view.now)) (at_page (λ bytes. g.F.PageForm.has_no_room c.args.form.now bytes c.args.x.now) c.args.draft.now.pages.items (g.V.PageView.image c.args.view.now)) c.args.most (c.args.most - 1) c.args.page (let h = c.if-most-eq0.false in omega (arith, h)) c.in-Err-take_here.e
+    (rw (sym (c.in-Ok.ensures.bytes tells), sym c.bytes.ensures.value) below) (rw (sym (c.in-Ok.ensures.bytes tells), sym c.bytes.ensures.value) leads) (rw (sym (c.in-Ok.ensures.bytes tells)) c.in-Err-take_here.ensures.clash)
+
+pub returns-in-Err-add_below-clause-way : goal.returns-in-Err-add_below-clause-way
+returns-in-Err-add_below-clause-way g t c tells =
+    let leads = subst (λ w. Leads g.F.PageForm.scale c.args.x.now (g.F.PageForm.node c.args.form.now c.bytes.result.now) (Ok w)) c.in-Ok-Down.field-0-is c.in-Ok-Down.ensures.way in
+    tells_below g.F.PageForm.scale g.met.F.PageForm.order (nodes (g.F.PageForm.node c.args.form.now) c.args.draft.now.pages.items (g.V.PageView.image c.args.view.now)) c.args.x.now (at_page (g.F.PageForm.is_full c.args.form.now) c.args.draft.now.pages.items (g.V.PageView.image c.args.view.now)) (at_page (λ bytes. g.F.PageForm.has_no_room c.args.form.now bytes c.args.x.now) c.args.draft.now.pages.items (g.V.PageView.image c.args.view.now)) c.args.most (c.args.most - 1) c.args.page (let h = c.if-most-eq0.false in omega (arith, h)) c.in-Ok-Down.place c.in-Ok-Down.child c.in-Err-add_below.e
+    (rw (sym (c.in-Ok.ensures.bytes tells), sym c.bytes.ensures.value) leads) (subst (λ i. TellsGrowing g.F.PageForm.scale (nodes (g.F.PageForm.node c.args.form.now) c.args.draft.now.pages.items i) c.args.x.now (at_page (g.F.PageForm.is_full c.args.form.now) c.args.draft.now.pages.items i) (at_page (λ bytes. g.F.PageForm.has_no_room c.args.form.now bytes c.args.x.now) c.args.draft.now.pages.items i) (c.args.most - 1) c.in-Ok-Down.child
+    (broken_below g.F.PageForm.scale (nodes (g.F.PageForm.node c.args.form.now) c.args.draft.now.pages.items i) (g.F.PageForm.scale.from c.args.x.now) (c.args.most - 1) c.in-Ok-Down.child) (Err c.in-Err-add_below.e)) (c.read.ensures.kept tells) (c.in-Err-add_below.ensures.way tells))
+
+pub returns-in-Ok-add_below-clause-way : goal.returns-in-Ok-add_below-clause-way
+returns-in-Ok-add_below-clause-way g t c tells =
+    let leads = subst (λ w. Leads g.F.PageForm.scale c.args.x.now (g.F.PageForm.node c.args.form.now c.bytes.result.now) (Ok w)) c.in-Ok-Down.field-0-is c.in-Ok-Down.ensures.way in
+    tells_grown g.F.PageForm.scale g.met.F.PageForm.order (nodes (g.F.PageForm.node c.args.form.now) c.args.draft.now.pages.items (g.V.PageView.image c.args.view.now)) c.args.x.now (at_page (g.F.PageForm.is_full c.args.form.now) c.args.draft.now.pages.items (g.V.PageView.image c.args.view.now)) (at_page (λ bytes. g.F.PageForm.has_no_room c.args.form.now bytes c.args.x.now) c.args.draft.now.pages.items (g.V.PageView.image c.args.view.now)) c.args.most (c.args.most - 1) c.args.page (let h = c.if-most-eq0.false in omega (arith, h)) c.in-Ok-Down.place c.in-Ok-Down.child c.in-Ok-add_below.grown.levels c.in-Ok-add_below.grown c.in-Ok-add_below.grown.sibling c.args.fresh.now.items c.add_below.new.fresh.items c.take_grown.result refl
+    (rw (sym (c.read.ensures.kept tells)) (c.in-Ok-add_below.ensures.room tells))
+    (rw (sym (c.in-Ok.ensures.bytes tells), sym c.bytes.ensures.value) c.way_below.ensures.rise) (rw (sym (c.in-Ok.ensures.bytes tells), sym c.bytes.ensures.value) leads) (rw (sym (c.read.ensures.kept tells)) (c.in-Ok-add_below.ensures.way tells))
+    (rw (sym (c.in-Ok.ensures.bytes tells)) c.take_grown.ensures.cut) (rw (sym (c.in-Ok.ensures.bytes tells)) c.take_grown.ensures.clash)

@@ -9,6 +9,7 @@ use Rattle.jfs_tree.proofs.Path.{way_deep, way_breaks, way_ends, way_is, way_fai
 use Rattle.jfs_tree.proofs.Finding.{down_finds, down_breaks}
 use Rattle.jfs_tree.proofs.Removed.{here_shrank, here_found, down_shrank, down_found}
 use Rattle.jfs_tree.proofs.BytesKept.{here_less, down_less}
+use Rattle.jfs_tree.proofs.LeastKept.{here_goes, down_goes}
 use Rattle.jfs_tree.proofs.removal.+remove_below.Goals as goal
 
 pub returns-in-Ok-Here-clause-shrank : goal.returns-in-Ok-Here-clause-shrank
@@ -106,3 +107,13 @@ returns-in-Err-remove_below-clause-way g t c tells =
     let leads = subst (λ w. Leads g.F.PageForm.scale c.args.x.now (g.F.PageForm.node c.args.form.now c.bytes.result.now) (Ok w)) c.in-Ok-Down.field-0-is c.in-Ok-Down.ensures.way in
     way_fails (g.F.PageForm.node c.args.form.now) g.F.PageForm.scale c.args.x.now (g.V.PageView.image c.args.view.now) c.args.most (c.args.most - 1) c.args.page c.in-Ok.bytes.0
     (let h = c.if-most-eq0.false in omega (arith, h)) (c.in-Ok.ensures.bytes tells ∙ ap (λ (d : List Drafted). shown d (g.V.PageView.image c.args.view.now) c.args.page) c.requires.fresh) c.remove_below.result (g.V.PageView.image c.read.new.view) c.in-Ok-Down.place c.in-Ok-Down.child c.in-Ok-Down.field-0-2 c.in-Err-remove_below.e (c.read.ensures.kept tells) (rw (sym c.bytes.ensures.value) leads) (c.in-Err-remove_below.ensures.way tells)
+
+pub returns-in-Ok-Here-clause-inner : goal.returns-in-Ok-Here-clause-inner
+returns-in-Ok-Here-clause-inner g t c tells =
+    here_goes (g.F.PageForm.node c.args.form.now) (g.V.PageView.image c.args.view.now) c.args.draft.now.pages.items c.remove_here.new.draft.pages.items c.args.page c.in-Ok.bytes.0 c.remove_here.new.freed.items c.remove_here.result
+    c.remove_here.ensures.inner c.requires.fresh (c.in-Ok.ensures.bytes tells)
+
+pub returns-in-Ok-Some-clause-inner : goal.returns-in-Ok-Some-clause-inner
+returns-in-Ok-Some-clause-inner g t c tells =
+    down_goes (g.F.PageForm.node c.args.form.now) (g.V.PageView.image c.args.view.now) (g.V.PageView.image c.read.new.view) c.remove_below.new.draft.pages.items c.remove_place.new.draft.pages.items c.remove_below.new.freed.items c.remove_place.new.freed.items c.in-Ok-Some.shrunk c.in-Ok-Some.field-0 c.remove_place.result
+    c.remove_place.ensures.inner (c.read.ensures.kept tells) c.in-Ok-Some.field-0-is (c.in-Ok-Some.ensures.inner tells)

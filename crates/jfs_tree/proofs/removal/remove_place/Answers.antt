@@ -1,7 +1,9 @@
-use Rattle.std.proofs.Common.{◌+◌, sym, subst}
+use Rattle.std.proofs.Common.{◌+◌, sym, subst, not}
 use Rattle.jfs_disk.specs.declared.page.Page.{Page}
+use Rattle.jfs_tree.specs.Call.{nodes}
 use Rattle.jfs_tree.specs.Removal.{TakesChild, TellsSingle}
 use Rattle.jfs_tree.proofs.Losing.{others_at, below_kept, below_less, below_gone}
+use Rattle.jfs_tree.proofs.LeastKept.{place_goes}
 use Rattle.jfs_tree.proofs.removal.remove_place.Goals.{then-not-alone, else-not-alone}
 use Rattle.jfs_tree.proofs.removal.remove_place.Goals as goal
 
@@ -25,3 +27,9 @@ returns-clause-did g c x =
           c.args.draft.now.pages.items c.settle.new.draft.pages.items c.args.freed.now.items c.settle.new.freed.items c.is_single-alone.result (c.args.shrunk.levels + 1)
           c.if-kept.false w.if-not-alone.false tells c.in_ok-settle.ensures.settles
     ]
+
+pub returns-clause-inner : goal.returns-clause-inner
+returns-clause-inner g c image before below =
+    let node = g.F.PageForm.node c.args.form.now in
+    place_goes before (nodes node c.args.draft.now.pages.items image) (nodes node c.settle.new.draft.pages.items image) c.args.draft.now.pages.items c.settle.new.draft.pages.items c.args.page c.if-not-alone.bytes.0 (not c.is_single-alone.result) c.args.shrunk.kept
+    c.args.freed.now.items c.settle.new.freed.items c.if-kept.false c.in_ok-settle.ensures.settles below

@@ -1,4 +1,4 @@
-use Rattle.std.proofs.Common.{sym, ◌∙◌, subst, ℕ, List, None, Some, Ok}
+use Rattle.std.proofs.Common.{◌≡◌, sym, ◌∙◌, subst, ℕ, List, [], None, Some, Ok, IfNone}
 use Rattle.jfs_tree.specs.Form.{Leads}
 use Rattle.jfs_tree.specs.Call.{nodes, pages_of, Finds}
 use Rattle.jfs_tree.specs.Shrink.{Shrank}
@@ -10,6 +10,7 @@ use Rattle.jfs_tree.proofs.RootCalls.{names_root, names_below, down_always}
 use Rattle.jfs_tree.proofs.Removed.{ShrankTo}
 use Rattle.jfs_tree.proofs.RootLost.{here_removes, down_removes}
 use Rattle.jfs_tree.proofs.BytesKept.{LossKeeps, others_keep}
+use Rattle.jfs_tree.proofs.LeastKept.{GoesTo, leaf_root_goes, none_kept, nothing_goes, root_goes}
 use Rattle.jfs_tree.proofs.remove_root.remove_entry.Goals as goal
 
 pub root_loses-requires-clause-there : goal.root_loses-requires-clause-there
@@ -93,3 +94,21 @@ pub returns-in-Err-remove_below-clause-way : goal.returns-in-Err-remove_below-cl
 returns-in-Err-remove_below-clause-way g c tells =
     let leads = subst (λ w. Leads g.F.PageForm.scale c.args.x.now (g.F.PageForm.node c.args.top.now c.args.root.now) (Ok w)) c.in-Ok-Down.field-0-is c.in-Ok-Down.ensures.way in
     way_lost g.F.PageForm.scale c.args.x.now (pages_of (g.F.PageForm.node c.args.form.now) (g.V.PageView.image c.args.view.now)) (g.F.PageForm.node c.args.top.now c.args.root.now) c.in-Ok-Down.place c.in-Ok-Down.page c.in-Err-remove_below.e leads (c.in-Err-remove_below.ensures.way tells)
+
+pub returns-in-Ok-Here-clause-inner : goal.returns-in-Ok-Here-clause-inner
+returns-in-Ok-Here-clause-inner g c tells =
+    let leads = subst (λ w. Leads g.F.PageForm.scale c.args.x.now (g.F.PageForm.node c.args.top.now c.args.root.now) (Ok w)) c.in-Ok-Here.field-0-is c.in-Ok-Here.ensures.way in
+    leaf_root_goes (g.F.PageForm.node c.args.form.now) g.F.PageForm.scale c.args.x.now (g.V.PageView.image c.args.view.now) c.args.draft.now.pages.items (g.F.PageForm.node c.args.top.now c.args.root.now) (g.F.PageForm.node c.args.top.now c.remove.new.bytes)
+    c.args.freed.now.items c.remove.result c.requires.fresh.0 leads c.remove.ensures.takes (none_kept (g.F.PageForm.node c.args.top.now) c.args.root.now c.remove.new.bytes c.remove.result c.remove.ensures.kept)
+
+pub returns-in-Ok-Some-clause-inner : goal.returns-in-Ok-Some-clause-inner
+returns-in-Ok-Some-clause-inner g c tells =
+    let node = g.F.PageForm.node c.args.form.now in
+    let image = g.V.PageView.image c.args.view.now in
+    root_goes (pages_of node image) (nodes node c.remove_below.new.draft.pages.items image) (g.F.PageForm.node c.args.top.now c.args.root.now) (g.F.PageForm.node c.args.top.now c.root_loses.new.root) c.in-Ok-Down.place c.in-Ok-Some.shrunk.kept c.remove_below.new.freed.items
+    (subst (GoesTo node image c.remove_below.new.draft.pages.items c.remove_below.new.freed.items) c.in-Ok-Some.field-0-is (c.in-Ok-Some.ensures.inner tells)) c.root_loses.ensures.did
+
+pub returns-in-Ok-None-clause-inner : goal.returns-in-Ok-None-clause-inner
+returns-in-Ok-None-clause-inner g c tells =
+    nothing_goes (g.F.PageForm.node c.args.form.now) (g.V.PageView.image c.args.view.now) c.remove_below.new.draft.pages.items (g.F.PageForm.node c.args.top.now c.args.root.now) c.remove_below.new.freed.items
+    (subst (λ o. IfNone o ((c.remove_below.new.draft.pages.items ≡ []) × (c.remove_below.new.freed.items ≡ c.args.freed.now.items))) c.in-Ok-None.field-0-is c.in-Ok-None.ensures.absent).0

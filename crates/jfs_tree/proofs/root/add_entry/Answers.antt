@@ -1,4 +1,4 @@
-use Rattle.std.proofs.Common.{◌<◌, sym, subst, arith, [], Ok, IfSome}
+use Rattle.std.proofs.Common.{◌<◌, refl, sym, subst, arith, [], Ok, IfSome}
 use Rattle.jfs_tree.specs.Spells.{no_page}
 use Rattle.jfs_tree.specs.Form.{AllBelow, Leads, TellsLast}
 use Rattle.jfs_tree.specs.Call.{nodes}
@@ -8,6 +8,8 @@ use Rattle.jfs_tree.proofs.Rooms.{root_takes, grown_levels, down_levels, broken_
 use Rattle.jfs_tree.proofs.BytesKept.{always_keeps}
 use Rattle.jfs_tree.proofs.Becoming.{root_uses, grown_uses}
 use Rattle.jfs_tree.proofs.FilledRoots.{here_always_fills, grown_always_fills}
+use Rattle.jfs_tree.specs.Refusal.{HasAllLevels}
+use Rattle.jfs_tree.proofs.Refusing.{adding_breaks, adding_here, adding_below, adding_grown}
 use Rattle.jfs_tree.proofs.root.add_entry.Goals as goal
 
 pub root_takes_grown-requires-clause-child : goal.root_takes_grown-requires-clause-child
@@ -125,3 +127,22 @@ returns-in-Ok-clause-filled g c fills tells =
     grown_always_fills (g.F.PageForm.node c.args.form.now) g.F.PageForm.scale g.met.F.PageForm.order c.args.x.now (g.V.PageView.image c.args.view.now) (g.F.PageForm.node c.args.top.now c.args.root.now) (g.F.PageForm.node c.args.top.now c.root_takes_grown.new.root) c.args.draft.now.pages.items c.add_below.new.draft.pages.items c.root_takes_grown.new.draft.pages.items
     c.in-Ok-Down.place c.in-Ok-Down.page c.in-Ok.grown.levels (g.V.PageView.block_count c.args.view.now) c.args.fresh.now.items c.add_below.new.fresh.items c.root_takes_grown.new.fresh.items c.in-Ok.grown.sibling c.in-Ok-Down.last c.root_takes_grown.result
     c.requires.within (let h = c.blocks-blocks.ensures in let i = c.blocks-blocks.type_inv in omega (arith, h, i)) leads ends (c.in-Ok.ensures.grew tells) (c.in-Ok.ensures.filled fills tells) c.root_takes_grown.ensures.did
+
+pub returns-in-Err-clause-way : goal.returns-in-Err-clause-way
+returns-in-Err-clause-way g c tells = adding_breaks g.F.PageForm.scale (nodes (g.F.PageForm.node c.args.form.now) c.args.draft.now.pages.items (g.V.PageView.image c.args.view.now)) c.args.x.now (at_page (g.F.PageForm.is_full c.args.form.now) c.args.draft.now.pages.items (g.V.PageView.image c.args.view.now)) (at_page (λ bytes. g.F.PageForm.has_no_room c.args.form.now bytes c.args.x.now) c.args.draft.now.pages.items (g.V.PageView.image c.args.view.now)) (g.F.PageForm.node c.args.top.now c.args.root.now) (HasAllLevels g.F.PageForm.scale (nodes (g.F.PageForm.node c.args.form.now) c.args.draft.now.pages.items (g.V.PageView.image c.args.view.now)) c.args.x.now (at_page (g.F.PageForm.is_full c.args.form.now) c.args.draft.now.pages.items (g.V.PageView.image c.args.view.now)) (at_page (λ bytes. g.F.PageForm.has_no_room c.args.form.now bytes c.args.x.now) c.args.draft.now.pages.items (g.V.PageView.image c.args.view.now)) (g.F.PageForm.node c.args.top.now c.args.root.now) (λ key. g.F.PageForm.is_full c.args.top.now c.args.root.now × g.F.PageForm.has_no_place c.args.top.now c.args.root.now key)) c.in-Err.rule c.in-Err.ensures.way
+
+pub returns-in-Ok-Here-clause-way : goal.returns-in-Ok-Here-clause-way
+returns-in-Ok-Here-clause-way g c tells =
+    let leads = subst (λ w. Leads g.F.PageForm.scale c.args.x.now (g.F.PageForm.node c.args.top.now c.args.root.now) (Ok w)) c.in-Ok-Here.field-0-is c.in-Ok-Here.ensures.way in
+    adding_here g.F.PageForm.scale (nodes (g.F.PageForm.node c.args.form.now) c.args.draft.now.pages.items (g.V.PageView.image c.args.view.now)) c.args.x.now (at_page (g.F.PageForm.is_full c.args.form.now) c.args.draft.now.pages.items (g.V.PageView.image c.args.view.now)) (at_page (λ bytes. g.F.PageForm.has_no_room c.args.form.now bytes c.args.x.now) c.args.draft.now.pages.items (g.V.PageView.image c.args.view.now)) (g.F.PageForm.node c.args.top.now c.args.root.now) (HasAllLevels g.F.PageForm.scale (nodes (g.F.PageForm.node c.args.form.now) c.args.draft.now.pages.items (g.V.PageView.image c.args.view.now)) c.args.x.now (at_page (g.F.PageForm.is_full c.args.form.now) c.args.draft.now.pages.items (g.V.PageView.image c.args.view.now)) (at_page (λ bytes. g.F.PageForm.has_no_room c.args.form.now bytes c.args.x.now) c.args.draft.now.pages.items (g.V.PageView.image c.args.view.now)) (g.F.PageForm.node c.args.top.now c.args.root.now) (λ key. g.F.PageForm.is_full c.args.top.now c.args.root.now × g.F.PageForm.has_no_place c.args.top.now c.args.root.now key)) leads.0 c.root_takes_here.result leads.1 c.root_takes_here.ensures.clash
+
+pub returns-in-Err-add_below-clause-way : goal.returns-in-Err-add_below-clause-way
+returns-in-Err-add_below-clause-way g c tells =
+    let leads = subst (λ w. Leads g.F.PageForm.scale c.args.x.now (g.F.PageForm.node c.args.top.now c.args.root.now) (Ok w)) c.in-Ok-Down.field-0-is c.in-Ok-Down.ensures.way in
+    adding_below g.F.PageForm.scale (nodes (g.F.PageForm.node c.args.form.now) c.args.draft.now.pages.items (g.V.PageView.image c.args.view.now)) c.args.x.now (at_page (g.F.PageForm.is_full c.args.form.now) c.args.draft.now.pages.items (g.V.PageView.image c.args.view.now)) (at_page (λ bytes. g.F.PageForm.has_no_room c.args.form.now bytes c.args.x.now) c.args.draft.now.pages.items (g.V.PageView.image c.args.view.now)) (g.F.PageForm.node c.args.top.now c.args.root.now) (HasAllLevels g.F.PageForm.scale (nodes (g.F.PageForm.node c.args.form.now) c.args.draft.now.pages.items (g.V.PageView.image c.args.view.now)) c.args.x.now (at_page (g.F.PageForm.is_full c.args.form.now) c.args.draft.now.pages.items (g.V.PageView.image c.args.view.now)) (at_page (λ bytes. g.F.PageForm.has_no_room c.args.form.now bytes c.args.x.now) c.args.draft.now.pages.items (g.V.PageView.image c.args.view.now)) (g.F.PageForm.node c.args.top.now c.args.root.now) (λ key. g.F.PageForm.is_full c.args.top.now c.args.root.now × g.F.PageForm.has_no_place c.args.top.now c.args.root.now key)) c.in-Ok-Down.place c.in-Ok-Down.page c.in-Err-add_below.e leads (c.in-Err-add_below.ensures.way tells)
+
+pub returns-in-Ok-clause-way : goal.returns-in-Ok-clause-way
+returns-in-Ok-clause-way g c tells =
+    let leads = subst (λ w. Leads g.F.PageForm.scale c.args.x.now (g.F.PageForm.node c.args.top.now c.args.root.now) (Ok w)) c.in-Ok-Down.field-0-is c.in-Ok-Down.ensures.way in
+    adding_grown g.F.PageForm.scale (nodes (g.F.PageForm.node c.args.form.now) c.args.draft.now.pages.items (g.V.PageView.image c.args.view.now)) c.args.x.now (at_page (g.F.PageForm.is_full c.args.form.now) c.args.draft.now.pages.items (g.V.PageView.image c.args.view.now)) (at_page (λ bytes. g.F.PageForm.has_no_room c.args.form.now bytes c.args.x.now) c.args.draft.now.pages.items (g.V.PageView.image c.args.view.now)) (g.F.PageForm.node c.args.top.now c.args.root.now) (λ key. g.F.PageForm.is_full c.args.top.now c.args.root.now × g.F.PageForm.has_no_place c.args.top.now c.args.root.now key) c.in-Ok-Down.place c.in-Ok-Down.page c.in-Ok.grown.levels c.in-Ok.grown c.in-Ok.grown.sibling c.args.fresh.now.items c.add_below.new.fresh.items c.root_takes_grown.result refl
+    c.way.ensures.rise leads (c.in-Ok.ensures.way tells) (c.in-Ok.ensures.room tells) c.in-Ok.ensures.used.1 c.root_takes_grown.ensures.clash

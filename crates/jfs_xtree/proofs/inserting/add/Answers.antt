@@ -3,9 +3,9 @@ use Rattle.jfs_disk.specs.Image.{page_of}
 use Rattle.jfs_tree.specs.Root.{RefusesWhereBad}
 use Rattle.jfs_tree.specs.Fresh.{blocks_of}
 use Rattle.jfs_xtree.specs.Node.{xt_scale}
-use Rattle.jfs_xtree.specs.Spells.{root_form, root_node, page_nodes, tree_error}
-use Rattle.jfs_xtree.specs.Adding.{RefusesFull}
-use Rattle.jfs_xtree.proofs.Adds.{adds_as, thin_as, refuses_as, full_as, takes_as}
+use Rattle.jfs_xtree.specs.Spells.{root_form, root_node, page_nodes, tree_error, broken_for}
+use Rattle.jfs_xtree.specs.Adding.{RefusesFull, ClashesFor, IsFullAndDeep, AddTellsWay}
+use Rattle.jfs_xtree.proofs.Adds.{adds_as, thin_as, refuses_as, full_as, takes_as, tells_as, went_in, failed}
 use Rattle.jfs_xtree.proofs.inserting.add.Goals as goal
 
 pub returns-in-Ok-clause-adds : goal.returns-in-Ok-clause-adds
@@ -34,3 +34,15 @@ pub returns-in-Ok-clause-thin : goal.returns-in-Ok-clause-thin
 returns-in-Ok-clause-thin g c tells =
     thin_as c.blocks-blocks.result (g.V.PageView.block_count c.args.view.now) c.root_form-form.result (g.V.PageView.image c.args.view.now) c.args.x c.args.root.now c.add_and_tell.new.root (blocks_of c.args.fresh.now) c.args.tx.now c.add_and_tell.new.tx
     c.blocks-blocks.ensures c.root_form-form.ensures (c.in-Ok.ensures.thin tt tells)
+
+pub returns-in-Ok-clause-way : goal.returns-in-Ok-clause-way
+returns-in-Ok-clause-way g c tells =
+    went_in c.blocks-blocks.result (g.V.PageView.block_count c.args.view.now) c.root_form-form.result c.args.x (g.V.PageView.image c.args.view.now) c.args.root.now c.blocks-blocks.ensures c.root_form-form.ensures (c.in-Ok.ensures.way tells)
+
+pub returns-in-Err-clause-way : goal.returns-in-Err-clause-way
+returns-in-Err-clause-way g c tells =
+    subst (λ r. AddTellsWay (broken_for (g.V.PageView.block_count c.args.view.now) (page_of (g.V.PageView.image c.args.view.now)) c.args.root.now c.args.x.offset)
+    (ClashesFor (g.V.PageView.block_count c.args.view.now) (page_of (g.V.PageView.image c.args.view.now)) c.args.x c.args.root.now)
+    (IsFullAndDeep (g.V.PageView.block_count c.args.view.now) (page_of (g.V.PageView.image c.args.view.now)) c.args.x c.args.root.now) (failed r)) (sym c.handed_on.ensures)
+    (tells_as c.blocks-blocks.result (g.V.PageView.block_count c.args.view.now) c.root_form-form.result c.args.x (g.V.PageView.image c.args.view.now) c.args.root.now c.in-Err.e
+    c.blocks-blocks.ensures c.root_form-form.ensures (c.in-Err.ensures.way tells))

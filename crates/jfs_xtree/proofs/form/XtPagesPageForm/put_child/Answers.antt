@@ -3,6 +3,7 @@ use Rattle.jfs_bits.specs.declared.extent.Xad.{Xad}
 use Rattle.jfs_xtpage.specs.Page.{head_of, entries_of}
 use Rattle.jfs_xtree.specs.Node.{with_at}
 use Rattle.jfs_xtree.proofs.Reading.{inner_is}
+use Rattle.jfs_xtree.proofs.Behind.{goes_behind}
 use Rattle.jfs_xtree.proofs.Inners.{takes_of, child_put}
 use Rattle.jfs_xtree.proofs.Forms.{not_laid, same_through, less_of}
 use Rattle.jfs_xtree.proofs.form.XtPagesPageForm.put_child.Goals as goal
@@ -23,3 +24,6 @@ returns-clause-child c = λ all at rise.
     child_put c.args.self.now.form c.args.self.now.blocks c.args.bytes.now c.make_way.new.bytes c.insert.new.bytes c.args.place c.args.child.now.key c.args.child.now.page all at rise c.requires.within c.make_way.ensures.entries
     (same_through c.args.bytes.now c.make_way.new.bytes c.insert.new.bytes c.make_way.ensures.head c.insert.ensures.head laid.least (less_of _ _ laid.most (λ e. c.if-get_u16.false (a ∙ e ∙ sym b))))
     (c.insert.ensures.entries ∙ ap (λ (x : Xad). with_at (entries_of c.make_way.new.bytes) (c.args.place + 1) x) c.child_entry.ensures.is)
+
+pub returns-then-get_u16-clause-goes : goal.returns-then-get_u16-clause-goes
+returns-then-get_u16-clause-goes c = goes_behind c.args.self.now.form c.args.self.now.blocks c.args.bytes.now c.args.place _ (c.takes_child.ensures.takes c.if-not-takes_child.false)

@@ -6,6 +6,7 @@ use Rattle.jfs_tree.specs.Form.{LeadsDown}
 use Rattle.jfs_xtree.specs.Node.{is_leaf, xt_scale, xt_node}
 use Rattle.jfs_xtree.proofs.Reading.{sound_leaf, sound_inner, inner_is, is_rising}
 use Rattle.jfs_xtree.proofs.Inners.{leads_down, tells_last}
+use Rattle.jfs_xtree.proofs.Behind.{rising_keys}
 use Rattle.jfs_xtree.proofs.form.XtPagesPageForm.way.Goals as goal
 
 pub returns-then-is_leaf-clause-way : goal.returns-then-is_leaf-clause-way
@@ -32,3 +33,9 @@ returns-clause-last c = λ cs is.
     let some = t.3 in
     subst (λ place. (c.child_place-place.result + 3 == c.in_ok-head.head.nextindex) ≡ (suc place == length cs)) (sym c.from.ensures)
     (tells_last c.args.bytes.now cs c.child_place-place.result c.in_ok-head.head.nextindex t.2 (ap (λ (h : XtHead). h.nextindex) c.in_ok-head.ensures.sound.0) (omega (arith, size, some)))
+
+pub returns-then-is_leaf-clause-rise : goal.returns-then-is_leaf-clause-rise
+returns-then-is_leaf-clause-rise c = rising_keys c.args.self.now.form c.args.self.now.blocks c.args.bytes.now
+
+pub returns-clause-rise : goal.returns-clause-rise
+returns-clause-rise c = rising_keys c.args.self.now.form c.args.self.now.blocks c.args.bytes.now
