@@ -7,3 +7,4 @@ mod Table
 mod Concluded
 mod AllParts
 mod Answered
+mod Keeps

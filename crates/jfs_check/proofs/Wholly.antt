@@ -20,10 +20,12 @@ use Rattle.jfs_object_check.proofs.Found.{gains_both}
 use Rattle.jfs_owners.specs.Counts.{OwnerSets, Counts, Adds}
 use Rattle.jfs_owners.specs.Held.{owned_below}
 use Rattle.jfs_owners.proofs.Joined.{counts_fixed, counts_all}
-use Rattle.jfs_each.specs.Each.{found_at, Visits}
+use Rattle.jfs_each.specs.Each.{Found, found_at, Visits}
 use Rattle.jfs_check.specs.Look.{Sees}
 use Rattle.jfs_check.specs.Looked.{IsOfTrees, Looked}
 use Rattle.jfs_check.specs.declared.look.Look.{Look}
+use Rattle.jfs_link_check.specs.Notes.{NotedBelow, AreNoted}
+use Rattle.jfs_link_check.proofs.Noted.{all_noted}
 use Rattle.jfs_check.proofs.Walked.{LookedBelow, walked, all_first}
 
 pub fixed_counted : (s : Super) (blocks now : ℕ) (image after : Image) (inodes : InodeMap) (o p q : OwnerSets) → blocks_of s ≡ blocks → now ≡ blocks → after ≡ image → Counts o (λ b. 0)
@@ -67,3 +69,12 @@ module _ (super : Super) (image : Image) (inodes : InodeMap) (is : IsInodeMap (r
     where
       below : (n m : ℕ) (b : Bool) → n < m → (nat_lt n m && b) ≡ b
       below n m b l = ap (λ t. t && b) (lt-ltb n m l)
+
+-- all inodes in use were noted
+pub noted_all : (blocks now : ℕ) (image after : Image) (places : List (Option ℕ)) (iags : ℕ) (old new : Look) → now ≡ blocks → after ≡ image → length places ≡ 128 * iags
+    → ((blocks : ℕ) (page : ℕ → List ℕ) (found : ℕ → Option Found) → NotedBelow blocks page found (4096 * iags) 0 old.notes)
+    → Visits (Sees now after) (found_at (page_of after) places) 0 (32 * length places) old new → AreNoted blocks (page_of image) places new.notes
+noted_all blocks now image after places iags old new same stays size none v =
+    let start = subst (λ (m : ℕ). NotedBelow now (page_of after) (found_at (page_of after) places) m 0 old.notes) (let e : 4096 * iags ≡ 32 * length places = omega (arith, size) in e) (none now (page_of after) (found_at (page_of after) places)) in
+    let all = all_noted (λ (w : Look). w.notes) (Sees now after) now (page_of after) (found_at (page_of after) places) (32 * length places) (λ n f w u s. s.notes) old new start v in
+    subst (λ (n : ℕ). AreNoted n (page_of image) places new.notes) same (subst (λ (i : Image). AreNoted now (page_of i) places new.notes) stays all)

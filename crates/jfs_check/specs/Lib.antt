@@ -5,3 +5,5 @@ pub mod Ends
 pub mod Look
 pub mod Looked
 pub mod Places
+-- pages that are kept, for the prover alone
+pub mod Kept

@@ -27,6 +27,7 @@ pub(crate) fn conclude(look: Look, iags: u32) -> Checked
         alloc: _,
         owners,
         used,
+        notes: _,
         mut findings,
     } = look;
     let free = count_free(&owners);

@@ -65,7 +65,7 @@ pub(crate) fn find_all<V: PageView>(
     }
     let used = look.used.as_slice();
     check_maps(alloc, view, s, maps, &look.owners, used, &mut look.findings)?;
-    check_links(alloc, view, places, &mut look.findings)?;
+    check_links(alloc, view, places, &look.notes, &mut look.findings)?;
     Ok(look)
 }
 

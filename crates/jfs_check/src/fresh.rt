@@ -1,6 +1,6 @@
 //! Before anything was looked at.
 
-ghost use Rattle.std.specs.Prelude.{◌≡◌, ◌≤◌, ◌*◌, ◌/◌, ◌+◌, ◌%◌, [], replicate, IfOk};
+ghost use Rattle.std.specs.Prelude.{◌≡◌, ◌≤◌, ◌*◌, ◌/◌, ◌+◌, ◌%◌, ℕ, List, Option, [], replicate, IfOk};
 ghost use Rattle.jfs_disk.specs.Image.{page_of};
 ghost use Rattle.jfs_ranges.specs.View.{CarriesCount};
 ghost use Rattle.jfs_super.specs.Rules.{blocks_of};
@@ -8,10 +8,13 @@ ghost use Rattle.jfs_super.specs.declared.fields.Super.{Super};
 ghost use Rattle.jfs_meaning.specs.Readers.{readers};
 ghost use Rattle.jfs_mount.specs.Subject.{subject_of, volume};
 ghost use Rattle.jfs_reader.specs.Map.{IsInodeMap};
+ghost use Rattle.jfs_each.specs.Each.{Found};
+ghost use Rattle.jfs_link_check.specs.Notes.{NotedBelow};
 ghost use Rattle.jfs_owners.specs.Counts.{Counts};
 ghost use Rattle.jfs_owners.specs.Held.{owned_below};
 
 use crate::look::Look;
+use jfs_link_check::LinkNotes;
 use jfs_mount::Maps;
 use jfs_owners::Owners;
 use jfs_ranges::{PageView, ViewError};
@@ -24,14 +27,17 @@ pub(crate) fn fresh(alloc: Global, blocks: u32, iags: u32) -> Result<Look, Alloc
     requires { iags ≤ 65536 }
     ensures counts { IfOk result (λ look. Counts look.owners (λ b. 0)) }
     ensures used { IfOk result (λ look. look.used.items ≡ replicate (512 * iags) 0) }
+    ensures notes { IfOk result (λ look. (blocks : ℕ) (page : ℕ → List ℕ) (found : ℕ → Option Found) → NotedBelow blocks page found (4096 * iags) 0 look.notes) }
     ensures findings { IfOk result (λ look. look.findings.items ≡ []) }
 {
     let owners = Owners::new(alloc, blocks)?;
     let used = vec![in alloc; 0; 512 * iags as usize]?;
+    let notes = LinkNotes::new(alloc, 4096 * iags)?;
     Ok(Look {
         alloc,
         owners,
         used,
+        notes,
         findings: Vec::new(alloc),
     })
 }

@@ -9,6 +9,8 @@ mod ended;
 mod examine;
 mod files;
 mod fresh;
+mod keeping;
+mod kept;
 mod look;
 mod maps;
 mod places;

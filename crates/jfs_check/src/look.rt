@@ -12,17 +12,19 @@ use jfs_bits::set_run;
 use jfs_each::EachInode;
 use jfs_findings::Finding;
 use jfs_inode::Dinode;
+use jfs_link_check::{LinkNotes, note_inode};
 use jfs_object_check::{check_object, check_thin};
 use jfs_owners::Owners;
 use jfs_ranges::{PageView, ViewError};
 use std::alloc::Global;
 
-/// What was found so far: who owns the blocks, a bit for each inode whether it is in use, and what is wrong.
+/// What was found so far: who owns the blocks, a bit for each inode whether it is in use, what was noted of its names, and what is wrong.
 #[derive(Drop)]
 pub(crate) struct Look {
     pub(crate) alloc: Global,
     pub(crate) owners: Owners,
     pub(crate) used: Vec<u8>,
+    pub(crate) notes: LinkNotes,
     pub(crate) findings: Vec<Finding>,
 }
 
@@ -38,6 +40,7 @@ impl EachInode for Look {
     ) -> Result<(), ViewError> {
         look_over(self.alloc, view, n, page, inode, &mut self.findings)?;
         self.owners.add_object(view, inode)?;
+        note_inode(self.alloc, view, n, inode, &mut self.notes)?;
         mark(self.used.as_mut_slice(), n);
         Ok(())
     }

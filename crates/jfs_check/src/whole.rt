@@ -8,6 +8,7 @@ ghost use Rattle.jfs_meaning.specs.Readers.{readers};
 ghost use Rattle.jfs_mount.specs.Subject.{subject_of, volume};
 ghost use Rattle.jfs_reader.specs.Map.{IsInodeMap};
 ghost use Rattle.jfs_each.specs.Each.{AllFit};
+ghost use Rattle.jfs_link_check.specs.Notes.{AreNoted};
 ghost use Rattle.jfs_check.specs.Looked.{IsOfTrees, Looked};
 
 use crate::files::check_files;
@@ -19,7 +20,7 @@ use jfs_ranges::{PageView, ViewError};
 use jfs_super::Super;
 use std::alloc::Global;
 
-/// Looks at the aggregate's files and at each inode in use; `places` has the first blocks of all inode extents.
+/// Looks at the aggregate's files and at each inode in use, and notes its names; `places` has the first blocks of all inode extents.
 pub(crate) fn look_at_all<V: PageView>(
     alloc: Global,
     view: &mut V,
@@ -41,6 +42,7 @@ pub(crate) fn look_at_all<V: PageView>(
         IsInodeMap (readers (blocks_of s.now)) (page_of (V.PageView.image view.old)) maps.now.inodes →
         places.now ≡ (volume (subject_of s.now (page_of (V.PageView.image view.old)))).extents →
         Looked (subject_of s.now (page_of (V.PageView.image view.old))) (IsOfTrees (subject_of s.now (page_of (V.PageView.image view.old)))) look) }
+    ensures noted { V.PageView.tells → IfOk result (λ look. AreNoted (V.PageView.block_count view.old) (page_of (V.PageView.image view.old)) places.now look.notes) }
 {
     let blocks = view.blocks();
     let mut look = match fresh(alloc, blocks, maps.inodes.iags) {

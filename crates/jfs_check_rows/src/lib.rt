@@ -4,10 +4,16 @@
 #[cfg(test)]
 mod clean;
 #[cfg(test)]
+mod counted;
+#[cfg(test)]
 mod hostile;
 #[cfg(test)]
 mod kinds;
 #[cfg(test)]
 mod made;
 #[cfg(test)]
+mod reads;
+#[cfg(test)]
 mod several;
+#[cfg(test)]
+mod trees;

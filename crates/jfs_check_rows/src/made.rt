@@ -24,7 +24,7 @@ pub fn small_disk(alloc: Global) -> Option<SureDisk> {
 }
 
 /// Puts words into pages.
-fn put(disk: &mut SureDisk, words: &[Word]) {
+pub fn put(disk: &mut SureDisk, words: &[Word]) {
     for (n, at, value) in words {
         put_word(disk, *n, *at, *value);
     }
@@ -45,7 +45,7 @@ fn put_word(disk: &mut SureDisk, n: u32, at: usize, value: u32) {
 }
 
 /// A disk, checked by its superblock on page 8.
-fn check_disk(alloc: Global, disk: &mut SureDisk) -> Option<Checked> {
+pub fn check_disk<D: Disk>(alloc: Global, disk: &mut D) -> Option<Checked> {
     let pages = disk.pages();
     if pages < 9 {
         return None;
@@ -60,10 +60,15 @@ fn check_disk(alloc: Global, disk: &mut SureDisk) -> Option<Checked> {
     }
 }
 
+/// Writes a new volume, and tells whether that was done.
+pub fn write_new(disk: &mut SureDisk) -> bool {
+    let now = Moment { sec: 1000, nano: 7 };
+    format(disk, Uuid::from_bytes([7; 16]), b"data", now).is_ok()
+}
+
 /// A new volume with these words instead of its own, checked.
 pub fn checked(alloc: Global, disk: &mut SureDisk, words: &[Word]) -> Option<Checked> {
-    let now = Moment { sec: 1000, nano: 7 };
-    if format(disk, Uuid::from_bytes([7; 16]), b"data", now).is_err() {
+    if !write_new(disk) {
         return None;
     }
     put(disk, words);

@@ -26,7 +26,7 @@ use Rattle.jfs_command.specs.Status.{Kind, Finishes, Refuses, IsOwn, kind_of}
 use Rattle.jfs_command.specs.Count.{Stays}
 use Rattle.jfs_command.specs.Meaning.{Answer, Performs, refused}
 use Rattle.jfs_command.specs.Superblock.{superblock_of, AfterState, Looks}
-use Rattle.jfs_command.specs.Check.{is_taken, finding_line, found_line, clean_line, status_for, answer_for, IsChecked, CheckSaysOneThing, CheckSays, LooksAtVolume, IsRefused, CheckEnds, check_meaning}
+use Rattle.jfs_command.specs.Check.{is_taken, finding_line, found_line, clean_line, status_for, answer_for, ListsFindings, CheckSaysOneThing, CheckSays, LooksAtVolume, IsRefused, CheckEnds, check_meaning}
 use Rattle.jfs_command.proofs.Looking.{Behind, GoesOn, ShowsSame, faults_of, comes, no_memory, disk_failed, seen, goes_on}
 
 -- ---- the check is one that may follow a look at the superblock
@@ -43,7 +43,7 @@ one_after_state : (taken : Bool) (state : ℕ) (says : Answer → Type 0) (x y :
 one_after_state true state says x y one a b = one a b
 one_after_state false state says x y one a b = ap (λ (z : Answer). z.status) (a ∙ sym b)
 
-moved : (tells : Type 0) (s t : Subject) (answer : Answer) → (tells → s ≡ t) → IsChecked tells s answer → IsChecked tells t answer
+moved : (tells : Type 0) (s t : Subject) (answer : Answer) → (tells → s ≡ t) → ListsFindings tells s answer → ListsFindings tells t answer
 moved tells s t answer same c = record {
   findings = c.findings;
   free = c.free;
@@ -56,7 +56,7 @@ moved tells s t answer same c = record {
 -- what is said of one image is said of another with the same pages
 same_says : (tells : Type 0) (a b : Image) (s : Super) (answer : Answer) → (tells → is_taken s.state.0 ≡ true → (n : ℕ) → page_of b n ≡ page_of a n) → CheckSays tells a s answer → CheckSays tells b s answer
 same_says tells a b s answer same said =
-    next_after (is_taken s.state.0) s.state.0 (IsChecked tells (subject_of s (page_of a))) (IsChecked tells (subject_of s (page_of b))) answer
+    next_after (is_taken s.state.0) s.state.0 (ListsFindings tells (subject_of s (page_of a))) (ListsFindings tells (subject_of s (page_of b))) answer
     (λ taken c. moved tells (subject_of s (page_of a)) (subject_of s (page_of b)) answer (λ told. ap (λ (page : ℕ → List ℕ). subject_of s page) (fun_ext (λ n. sym (same told taken n)))) c) said
 
 finishes : (b : Bool) (count : ℕ) → kind_of (cond b Done (Found count)) ≡ Finishes
@@ -66,7 +66,7 @@ finishes false count = refl
 never : (k : Kind) → k ≡ Finishes → k ≡ Refuses → ⊥
 never k finished refused = let e = sym finished ∙ refused in absurd cc
 
-one_status : (tells : Type 0) (s : Subject) (x y : Answer) → tells ⊎ IsRefused y.status → IsChecked tells s x → IsChecked tells s y → x.status ≡ y.status
+one_status : (tells : Type 0) (s : Subject) (x y : Answer) → tells ⊎ IsRefused y.status → ListsFindings tells s x → ListsFindings tells s y → x.status ≡ y.status
 one_status tells s x y (inl told) a b =
     ap (λ (z : Answer). z.status) a.is ∙ ap (λ (fs : List Finding). status_for fs) (one_list s a.findings b.findings (a.all told) (b.all told)) ∙ sym (ap (λ (z : Answer). z.status) b.is)
 one_status tells s x y (inr refuses) a b =
@@ -78,7 +78,7 @@ check_goes = record {
   rests = λ tells a b answer accepted same said. same_says tells a.image b.image (superblock_of a) answer (λ told taken n. same.each n (inr (accepted, taken))) said;
   one = λ tells held x y judged accepted said also.
       let s = superblock_of held in
-      one_after_state (is_taken s.state.0) s.state.0 (IsChecked tells (subject_of s (page_of held.image))) x y (one_status tells (subject_of s (page_of held.image)) x y judged) said also;
+      one_after_state (is_taken s.state.0) s.state.0 (ListsFindings tells (subject_of s (page_of held.image))) x y (one_status tells (subject_of s (page_of held.image)) x y judged) said also;
 }
 
 -- ---- one answer, text and all

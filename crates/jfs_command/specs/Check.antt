@@ -56,7 +56,7 @@ answer_for findings free inodes = record { status = status_for findings; text = 
 -- ---- what it means
 
 -- The answer lists findings: all of the volume's, where the disk tells. Of another disk the form of the text alone is said, since no image need fit what it gave.
-pub record IsChecked (tells : Type 0) (s : Subject) (answer : Answer) : Type 0 where
+pub record ListsFindings (tells : Type 0) (s : Subject) (answer : Answer) : Type 0 where
   pub findings : List Finding
   pub free : ℕ
   pub inodes : ℕ
@@ -66,17 +66,17 @@ pub record IsChecked (tells : Type 0) (s : Subject) (answer : Answer) : Type 0 w
 
 -- of one volume one answer is given, text and all
 abbrev pub CheckSaysOneThing : Type 0
-CheckSaysOneThing = (s : Subject) (a b : Answer) → IsChecked ⊤ s a → IsChecked ⊤ s b → a ≡ b
+CheckSaysOneThing = (s : Subject) (a b : Answer) → ListsFindings ⊤ s a → ListsFindings ⊤ s b → a ≡ b
 
 -- what is answered of an image whose superblock is accepted
 abbrev pub CheckSays : (tells : Type 0) → Image → Super → Answer → Type 0
-CheckSays tells image s = AfterState (is_taken s.state.0) s.state.0 (IsChecked tells (subject_of s (page_of image)))
+CheckSays tells image s = AfterState (is_taken s.state.0) s.state.0 (ListsFindings tells (subject_of s (page_of image)))
 
 -- page 8, where there is one, and all pages of a volume that is taken
 abbrev pub LooksAtVolume : Held → ℕ → Type 0
 LooksAtVolume held n = LooksAtSuper held n ⊎ (IsAccepted (superblock_of held) held.pages × (is_taken (superblock_of held).state.0 ≡ true))
 
--- Page 8 is read once and judged by that, so its refusal is judged of each disk. All else is read more than once.
+-- Page 8 is read once and judged by that, so its refusal is judged of each disk. All else may be read more than once.
 abbrev pub IsRefused : Status → Type 0
 IsRefused status = kind_of status ≡ Refuses
 

@@ -1,4 +1,4 @@
-//! The second look: each inode in use is judged by the notes of all.
+//! Each inode in use is judged by the notes of all.
 
 ghost use Rattle.std.specs.Prelude.{◌≡◌, ◌<◌, ◌≤◌, ◌*◌, IfOk, OnOk, length};
 ghost use Rattle.jfs_disk.specs.Image.{page_of};
@@ -17,15 +17,15 @@ use std::alloc::Global;
 
 /// Judges each inode in use.
 #[derive(Drop)]
-pub(crate) struct Judging {
+pub(crate) struct Judging<'a> {
     pub(crate) alloc: Global,
-    pub(crate) notes: LinkNotes,
+    pub(crate) notes: &'a LinkNotes,
     pub(crate) findings: Vec<Finding>,
 }
 
-impl EachInode for Judging {
-    ghost sees = { λ blocks image old n f new. (new.notes ≡ old.notes) × (n < length old.notes.counts.counts →
-        Judges old.notes.uses.items old.notes.counts n f.page f.inode (places_with blocks (page_of image) f.inode) (λ is. Gains is old.findings.items new.findings.items)) };
+impl<'a> EachInode for Judging<'a> {
+    ghost sees = { λ blocks image old n f new. (new.notes ≡ old.notes) × (n < length old.notes.now.counts.counts →
+        Judges old.notes.now.uses.items old.notes.now.counts n f.page f.inode (places_with blocks (page_of image) f.inode) (λ is. Gains is old.findings.items new.findings.items)) };
 
     fn inode<V: PageView>(
         &mut self,
@@ -37,7 +37,7 @@ impl EachInode for Judging {
         judge_inode(
             self.alloc,
             view,
-            &self.notes,
+            self.notes,
             n,
             page,
             inode,

@@ -12,3 +12,5 @@ mod places;
 
 pub use counts::NameCounts;
 pub use links::check_links;
+pub use notes::LinkNotes;
+pub use noting::note_inode;

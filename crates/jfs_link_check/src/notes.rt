@@ -1,8 +1,9 @@
-//! What is kept of each inode number between the two looks at a volume.
+//! What is kept of each inode number until all inodes were seen.
 
-ghost use Rattle.std.specs.Prelude.{◌≡◌, ◌≢◌, ◌<◌, ℕ, length, IfOk};
-ghost use Rattle.jfs_link_check.specs.Counts.{CountsBelow};
+ghost use Rattle.std.specs.Prelude.{◌≡◌, ◌≢◌, ◌<◌, ℕ, List, Option, length, IfOk};
+ghost use Rattle.jfs_each.specs.Each.{Found};
 ghost use Rattle.jfs_link_check.specs.Uses.{use_of, use_at, none_used};
+ghost use Rattle.jfs_link_check.specs.Notes.{NotedBelow};
 
 use crate::counts::NameCounts;
 use jfs_inode::Dinode;
@@ -20,21 +21,27 @@ pub(crate) enum Use {
 
 /// For each inode number its use, the number of names that lead to it, and the directory that named it last: 13 bytes a number.
 #[derive(Drop)]
-pub(crate) struct LinkNotes {
+pub struct LinkNotes {
     pub(crate) uses: Vec<Use>,
     pub(crate) counts: NameCounts,
 }
 
 impl LinkNotes {
-    /// Notes of so many inode numbers, before any was seen.
-    pub(crate) fn new(alloc: Global, most: u32) -> Result<LinkNotes, AllocError>
-        ensures uses { IfOk result (λ notes. notes.uses.items ≡ none_used most) }
-        ensures counts { IfOk result (λ notes. (names : ℕ → ℕ → ℕ) → CountsBelow most names 0 notes.counts) }
+    /// Notes of so many inode numbers, before any was seen. `Err` is want of memory.
+    pub fn new(alloc: Global, most: u32) -> Result<LinkNotes, AllocError>
+        ensures { IfOk result (λ notes. (blocks : ℕ) (page : ℕ → List ℕ) (found : ℕ → Option Found) → NotedBelow blocks page found most 0 notes) }
     {
         let counts = NameCounts::new(alloc, most)?;
-        let uses = vec![in alloc; Use::Free; most as usize]?;
+        let uses = none_used(alloc, most as usize)?;
         Ok(LinkNotes { uses, counts })
     }
+}
+
+/// No inode is in use.
+fn none_used(alloc: Global, most: usize) -> Result<Vec<Use>, AllocError>
+    ensures { IfOk result (λ uses. uses.items ≡ none_used most) }
+{
+    vec![in alloc; Use::Free; most]
 }
 
 /// What an inode in use stands for.
