@@ -1,0 +1,114 @@
+-- Pages that stay filled where a range is written.
+use Rattle.std.proofs.Common.{◌≡◌, ◌≤◌, ◌<◌, refl, sym, ap, ◌∙◌, subst, ℕ, zero, suc, Bool, false, List, [], ◌∷◌, ◌++◌, map, length, Option, arith}
+use Rattle.jfs_bits.specs.declared.extent.Xad.{Xad}
+use Rattle.jfs_tree.specs.Walk.{Child, Node, Leaf, Inner, Rises, times, under}
+use Rattle.jfs_tree.specs.Levels.{InLine, IsFilled, entry_count, pages_below}
+use Rattle.jfs_tree.specs.Edit.{IsCons}
+use Rattle.jfs_tree.specs.Form.{HasChildren}
+use Rattle.jfs_tree.proofs.Filling.{line_front, line_both, numbers, numbers-append, numbers_under, children_stay}
+use Rattle.jfs_xtpage.specs.declared.head.XtForm.TheVariants.{Full}
+use Rattle.jfs_xtree.specs.Laws.{order}
+use Rattle.jfs_xtree.specs.Node.{xt_scale, xt_node, child_of}
+use Rattle.jfs_xtree.specs.Spells.{page_nodes}
+use Rattle.jfs_xtree.specs.CutParts.{pages_of_entries}
+use Rattle.jfs_put_range.specs.Parts.{KeepsFilled, parts_under}
+
+pub pages_are : (xs : List Xad) → numbers (map child_of xs) ≡ pages_of_entries xs
+pages_are [] = refl
+pages_are (x ∷ xs) = ap (λ ns. x.at.addr ∷ ns) (pages_are xs)
+
+pages_both : (a b : List Xad) → pages_of_entries (a ++ b) ≡ pages_of_entries a ++ pages_of_entries b
+pages_both [] b = refl
+pages_both (x ∷ a) b = ap (λ ns. x.at.addr ∷ ns) (pages_both a b)
+
+count_are : (xs : List Xad) → length (map child_of xs) ≡ length xs
+count_are [] = refl
+count_are (x ∷ xs) = ap suc (count_are xs)
+
+-- ---- pages that no call changes
+
+entries_stay : (blocks : ℕ) (old new : ℕ → List ℕ) (levels depth key : ℕ) (xs : List Xad) (low : ℕ) (high : Option ℕ) (last : Bool) → Rises xt_scale low (parts_under blocks old levels key xs) high
+    → ((n : ℕ) → 0 < times n (parts_under blocks old levels key xs) → new n ≡ old n)
+    → InLine (IsFilled (page_nodes blocks old) depth) last (pages_of_entries xs) → InLine (IsFilled (page_nodes blocks new) depth) last (pages_of_entries xs)
+entries_stay blocks old new levels depth key xs low high last r agree line =
+    let cs = under key (map child_of xs) in
+    let is : numbers cs ≡ pages_of_entries xs = numbers_under key (map child_of xs) ∙ pages_are xs in
+    subst (InLine (IsFilled (page_nodes blocks new) depth) last) is
+    (children_stay xt_scale order (page_nodes blocks old) (page_nodes blocks new) levels depth cs low high last r (λ n some. ap (xt_node Full blocks) (agree n some)) (subst (InLine (IsFilled (page_nodes blocks old) depth) last) (sym is) line))
+
+-- ---- two parts, one beside the other
+
+pub both_keep : (blocks : ℕ) (before middle after : ℕ → List ℕ) (height key bound low : ℕ) (e r : Xad) (rs hs ts : List Xad) (mid high : Option ℕ) → Rises xt_scale bound (parts_under blocks before height bound (r ∷ rs)) high
+    → ((n : ℕ) → 0 < times n (parts_under blocks before height bound (r ∷ rs)) → middle n ≡ before n) → Rises xt_scale low (parts_under blocks middle height key hs) mid
+    → ((n : ℕ) → 0 < times n (parts_under blocks middle height key hs) → after n ≡ middle n)
+    → KeepsFilled blocks before middle (pages_of_entries (e ∷ [])) (pages_of_entries hs) → KeepsFilled blocks middle after (pages_of_entries (r ∷ rs)) (pages_of_entries ts)
+    → KeepsFilled blocks before after (pages_of_entries (e ∷ r ∷ rs)) (pages_of_entries (hs ++ ts))
+both_keep blocks before middle after height key bound low e r rs hs ts mid high rb keeps rh later h t depth last line =
+    subst (InLine (IsFilled (page_nodes blocks after) depth) last) (sym (pages_both hs ts))
+    (line_both (page_nodes blocks after) depth last (pages_of_entries hs) (pages_of_entries ts)
+    (entries_stay blocks middle after height depth key hs low mid false rh later (h depth false line.0))
+    (t depth last (entries_stay blocks before middle height depth bound (r ∷ rs) bound high last rb keeps line.1)))
+
+-- ---- leaves
+
+leaf_filled : (nodes : ℕ → Node ℕ Xad) (depth n : ℕ) (last : Bool) (es : List Xad) → nodes n ≡ Leaf es → (last ≡ false → 64 ≤ length es) → IsFilled nodes depth last n
+unfolding IsFilled
+leaf_filled nodes zero n last es is enough = tt
+leaf_filled nodes (suc depth) n last es is enough = (
+  (λ e. subst (λ (b : Node ℕ Xad). 64 ≤ entry_count b) (sym is) (enough e)),
+  subst (λ (b : Node ℕ Xad). InLine (IsFilled nodes depth) last (pages_below b)) (sym is) tt,
+)
+
+pub leaf_keeps : (blocks : ℕ) (before after : ℕ → List ℕ) (n : ℕ) (es list : List Xad) → page_nodes blocks before n ≡ Leaf es → page_nodes blocks after n ≡ Leaf list → length es ≤ length list → KeepsFilled blocks before after (n ∷ []) (n ∷ [])
+unfolding IsFilled
+leaf_keeps blocks before after n es list was is more zero last filled = tt
+leaf_keeps blocks before after n es list was is more (suc depth) last filled =
+    leaf_filled (page_nodes blocks after) (suc depth) n last list is (λ e. (let h = filled.0 e in let c = ap (λ (b : Node ℕ Xad). entry_count b) was in omega (arith, h, c, more)))
+
+pub leaf_fills : (blocks : ℕ) (before after : ℕ → List ℕ) (n q : ℕ) (front back : List Xad) → page_nodes blocks after n ≡ Leaf front → page_nodes blocks after q ≡ Leaf back → 64 ≤ length front → 64 ≤ length back → KeepsFilled blocks before after (n ∷ []) (n ∷ q ∷ [])
+leaf_fills blocks before after n q front back first second f b depth last filled =
+    (leaf_filled (page_nodes blocks after) depth n false front first (λ e. f), leaf_filled (page_nodes blocks after) depth q last back second (λ e. b))
+
+-- ---- inner pages
+
+has_filled : (nodes : ℕ → Node ℕ Xad) (depth n : ℕ) (last : Bool) (cs : List (Child ℕ)) → HasChildren (nodes n) cs → (last ≡ false → 64 ≤ entry_count (nodes n)) → InLine (IsFilled nodes depth) last (numbers cs) → IsFilled nodes (suc depth) last n
+unfolding IsFilled
+has_filled nodes depth n last cs has enough line = (
+  enough,
+  subst (InLine (IsFilled nodes depth) last)
+      (sym (ap (λ (b : Node ℕ Xad). pages_below b) has.is ∙ sym (numbers_under 0 has.children) ∙ ap numbers (has.same 0) ∙ numbers_under 0 cs)) line,
+)
+
+-- the line below an inner page, once its children are written and the page is put
+line_below : (blocks : ℕ) (before middle after : ℕ → List ℕ) (n lower depth key : ℕ) (high : Option ℕ) (es made : List Xad) (last : Bool) → page_nodes blocks before n ≡ Inner (map child_of es) → Rises xt_scale key (parts_under blocks middle (suc lower) key made) high
+    → ((m : ℕ) → 0 < times m (parts_under blocks middle (suc lower) key made) → after m ≡ middle m) → KeepsFilled blocks before middle (pages_of_entries es) (pages_of_entries made)
+    → InLine (IsFilled (page_nodes blocks before) depth) last (pages_below (page_nodes blocks before n)) → InLine (IsFilled (page_nodes blocks after) depth) last (numbers (map child_of made))
+line_below blocks before middle after n lower depth key high es made last was r agree keeps line =
+    subst (InLine (IsFilled (page_nodes blocks after) depth) last) (sym (pages_are made))
+    (entries_stay blocks middle after (suc lower) depth key made key high last r agree
+    (keeps depth last (subst (InLine (IsFilled (page_nodes blocks before) depth) last) (ap (λ (b : Node ℕ Xad). pages_below b) was ∙ pages_are es) line)))
+
+pub inner_keeps : (blocks : ℕ) (before middle after : ℕ → List ℕ) (n lower key : ℕ) (high : Option ℕ) (es made : List Xad) → page_nodes blocks before n ≡ Inner (map child_of es) → Rises xt_scale key (parts_under blocks middle (suc lower) key made) high
+    → ((m : ℕ) → 0 < times m (parts_under blocks middle (suc lower) key made) → after m ≡ middle m) → KeepsFilled blocks before middle (pages_of_entries es) (pages_of_entries made)
+    → length es ≤ length made → 0 < length made → page_nodes blocks after n ≡ Inner (map child_of made) → KeepsFilled blocks before after (n ∷ []) (n ∷ [])
+unfolding IsFilled
+inner_keeps blocks before middle after n lower key high es made was r agree keeps more some is zero last filled = tt
+inner_keeps blocks before middle after n lower key high es made was r agree keeps more some is (suc depth) last filled =
+    has_filled (page_nodes blocks after) depth n last (map child_of made) (record { children = map child_of made; is = is; some = cons made some; same = λ k. refl })
+    (λ e. (let h = filled.0 e in let c = ap (λ (b : Node ℕ Xad). entry_count b) was in let d = ap (λ (b : Node ℕ Xad). entry_count b) is in let i = count_are es in let j = count_are made in omega (arith, h, c, d, i, j, more)))
+    (line_below blocks before middle after n lower depth key high es made last was r agree keeps filled.1)
+  where
+    cons : (ys : List Xad) → 0 < length ys → IsCons (map child_of ys)
+    cons [] l = absurd (omega (arith, l))
+    cons (y ∷ ys) l = tt
+
+pub inner_fills : (blocks : ℕ) (before middle after : ℕ → List ℕ) (n q lower key : ℕ) (high : Option ℕ) (es made : List Xad) (front : List (Child ℕ)) (first : Child ℕ) (back : List (Child ℕ)) → page_nodes blocks before n ≡ Inner (map child_of es)
+    → Rises xt_scale key (parts_under blocks middle (suc lower) key made) high → ((m : ℕ) → 0 < times m (parts_under blocks middle (suc lower) key made) → after m ≡ middle m) → KeepsFilled blocks before middle (pages_of_entries es) (pages_of_entries made)
+    → map child_of made ≡ front ++ first ∷ back → HasChildren (page_nodes blocks after n) front → HasChildren (page_nodes blocks after q) (first ∷ back) → 64 ≤ entry_count (page_nodes blocks after n) → 64 ≤ entry_count (page_nodes blocks after q)
+    → KeepsFilled blocks before after (n ∷ []) (n ∷ q ∷ [])
+unfolding IsFilled
+inner_fills blocks before middle after n q lower key high es made front first back was r agree keeps all here there f b zero last filled = (tt, tt)
+inner_fills blocks before middle after n q lower key high es made front first back was r agree keeps all here there f b (suc depth) last filled =
+    let line = subst (InLine (IsFilled (page_nodes blocks after) depth) last) (ap numbers all ∙ numbers-append front (first ∷ back)) (line_below blocks before middle after n lower depth key high es made last was r agree keeps filled.1) in
+    let t = line_front (IsFilled (page_nodes blocks after) depth) last (numbers front) first.page (numbers back) line in
+    (has_filled (page_nodes blocks after) depth n false front here (λ e. f) t.0, has_filled (page_nodes blocks after) depth q last (first ∷ back) there (λ e. b) t.1)

@@ -1,0 +1,30 @@
+use Rattle.std.proofs.Common.{ap, ◌∙◌}
+use Rattle.std.specs.Prelude.{reverse}
+use Rattle.jfs_tree.specs.Fresh.{blocks_of}
+use Rattle.jfs_tree.proofs.Adds.{told_as, ok_maps}
+use Rattle.jfs_put_range.proofs.RootRanges.{writes_range, writes_thick, refuses_deep}
+use Rattle.jfs_put_range.proofs.call.plan_range.Goals as goal
+
+pub returns-clause-writes : goal.returns-clause-writes
+returns-clause-writes g c tells =
+    let blocks = g.V.PageView.block_count c.args.view.now in
+    let image = g.V.PageView.image c.args.view.now in
+    ok_maps c.tell_steps.result (c.tell_steps.ensures.told tells) c.tell_steps.ensures.rest (λ p told rest.
+    writes_range c.blocks-blocks.result blocks c.root_form-form.result image c.args.root.now c.new-draft.result.pages.items (blocks_of c.args.fresh.now) c.in-Ok.stack.items c.blocks-blocks.ensures c.root_form-form.ensures c.new-draft.ensures c.in-Ok.ensures.stack
+    c.as_slice.result.now c.args.xs.now c.put_root.new.root c.put_root.new.draft.pages.items (blocks_of p.fresh) c.put_root.new.stack.items c.args.tx.now p.tx c.as_slice.ensures (c.in_default-put_root.ensures.steps tells)
+    (told_as (g.V.PageView.block_count c.put_root.new.view) blocks (g.V.PageView.image c.put_root.new.view) image c.put_root.new.draft.pages.items c.args.tx.now p.tx c.put_root.ensures.count_of_blocks (c.put_root.ensures.image tells) told)
+    (rest ∙ ap reverse c.as_slice-2.ensures.value))
+
+pub returns-in-Err-clause-refused : goal.returns-in-Err-clause-refused
+returns-in-Err-clause-refused g c tells =
+    refuses_deep c.blocks-blocks.result (g.V.PageView.block_count c.args.view.now) c.root_form-form.result (g.V.PageView.image c.args.view.now) c.args.root.now c.new-draft.result.pages.items (blocks_of c.args.fresh.now) c.in-Ok.stack.items
+    c.blocks-blocks.ensures c.root_form-form.ensures c.new-draft.ensures c.in-Ok.ensures.stack c.in-Err.e (c.in-Err.ensures.refuses tells)
+
+pub returns-clause-thin : goal.returns-clause-thin
+returns-clause-thin g c tells =
+    let blocks = g.V.PageView.block_count c.args.view.now in
+    let image = g.V.PageView.image c.args.view.now in
+    ok_maps c.tell_steps.result (c.tell_steps.ensures.told tells) c.tell_steps.ensures.rest (λ p told rest.
+    writes_thick c.blocks-blocks.result blocks c.root_form-form.result image c.args.root.now c.new-draft.result.pages.items (blocks_of c.args.fresh.now) c.in-Ok.stack.items c.blocks-blocks.ensures c.root_form-form.ensures c.new-draft.ensures c.in-Ok.ensures.stack
+    c.as_slice.result.now c.args.xs.now c.put_root.new.root c.put_root.new.draft.pages.items c.put_root.new.stack.items c.args.tx.now p.tx c.as_slice.ensures (c.in_default-put_root.ensures.steps tells) (c.in_default-put_root.ensures.filled tells)
+    (told_as (g.V.PageView.block_count c.put_root.new.view) blocks (g.V.PageView.image c.put_root.new.view) image c.put_root.new.draft.pages.items c.args.tx.now p.tx c.put_root.ensures.count_of_blocks (c.put_root.ensures.image tells) told))

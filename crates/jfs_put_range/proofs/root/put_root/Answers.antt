@@ -1,0 +1,6 @@
+use Rattle.jfs_put_range.proofs.RootRanges.{broken_refuses}
+use Rattle.jfs_put_range.proofs.root.put_root.Goals as goal
+
+pub returns-in-Err-clause-refuses : goal.returns-in-Err-clause-refuses
+returns-in-Err-clause-refuses g c tells =
+    broken_refuses c.args.top.now.form c.args.top.now.blocks (g.V.PageView.image c.args.view.now) c.args.root.now c.args.draft.now.pages.items c.args.stack.now.items c.in-Err.e c.in-Err.ensures.bad

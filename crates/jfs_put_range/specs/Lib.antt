@@ -1,0 +1,4 @@
+-- where a range of blocks may lie that is written, what becomes of the tree, and the parts of the call, below the root and at it
+pub mod Call
+pub mod Parts
+pub mod Tops

@@ -1,0 +1,150 @@
+//! A range that is written into a file's tree of extents.
+
+ghost use Rattle.std.specs.Prelude.{◌≡◌, ◌≤◌, ◌+◌, ℕ, List, length, OnOk, OnErr, IfOk, IfErr};
+ghost use Rattle.jfs_bits.specs.declared.extent.Xad.{Xad};
+ghost use Rattle.jfs_bits.specs.declared.rule.PageKind.TheVariants.{Xtree};
+ghost use Rattle.jfs_disk.specs.Image.{page_of};
+ghost use Rattle.jfs_tree.specs.Call.{CarriesFault};
+ghost use Rattle.jfs_tree.specs.Changes.{TellsTaken};
+ghost use Rattle.jfs_tree.specs.Form.{AllBelow};
+ghost use Rattle.jfs_tree.specs.Fresh.{blocks_of, TakenInOrder};
+ghost use Rattle.jfs_xtree.specs.Errors.{handed_on};
+ghost use Rattle.jfs_xtree.specs.Spells.{IsRootSize, root_form, tree_error, CarriesXt};
+ghost use Rattle.jfs_put_range.specs.Call.{IsShortRange, WritesRange, KeepsNoThin, RefusesOnlyDeep};
+
+use crate::root::put_root;
+use jfs_bits::{PageKind, PxdList, Xad, XadList};
+use jfs_ranges::{PageView, Tx, ViewError};
+use jfs_tree::{Draft, Planned, TreeError, fresh_stack, tell_steps};
+use jfs_xtpage::XtForm;
+use jfs_xtree::{XtError, XtPages};
+use std::alloc::{AllocError, Global};
+
+/// Writes a range of blocks into a file's list: extents in rising order, which lie within 17 consecutive blocks of the file and end below its block 2^40. They stand in place
+/// of what the list had of these blocks, cut where an entry begins or ends; an entry that reached past the blocks keeps its other parts, and what is written into a hole is
+/// merged with a recorded left neighbour that it continues. Each page on the way is changed once. New pages are taken from `fresh` in its order, at most 15; the transaction
+/// gets the changed lines and new pages, and then an `Alloc` of each new page. After an `Err` root, `fresh` and transaction are as before. A tree of 8 levels gets no ninth:
+/// where its root has no room for two more entries, it can be refused, as `Bad` with rule `deep` at the root.
+pub fn put_range<V: PageView>(
+    alloc: Global,
+    view: &mut V,
+    root: &mut [u8],
+    xs: &XadList,
+    fresh: &mut PxdList,
+    tx: &mut Tx,
+) -> Result<(), XtError>
+    requires root { IsRootSize (length root.old) }
+    requires range { IsShortRange (V.PageView.block_count view.old) xs.now }
+    requires enough { 15 ≤ length (blocks_of fresh.old) }
+    requires within { AllBelow (V.PageView.block_count view.old) (blocks_of fresh.old) }
+    ensures image { V.PageView.tells → V.PageView.image view.new ≡ V.PageView.image view.old }
+    ensures count_of_blocks { V.PageView.block_count view.new ≡ V.PageView.block_count view.old }
+    ensures device { V.PageView.device view.new ≡ V.PageView.device view.old }
+    ensures fault { CarriesXt (V.PageView.fault_count view.old) (V.PageView.fault_count view.new) result }
+    ensures writes { V.PageView.tells → OnOk result (WritesRange (V.PageView.block_count view.old) (page_of (V.PageView.image view.old)) xs.now root.old root.new (blocks_of fresh.old) (blocks_of fresh.new) tx.old tx.new) }
+    ensures taken { OnOk result (TakenInOrder (blocks_of fresh.old) (blocks_of fresh.new) tx.old tx.new) }
+    ensures edits { V.PageView.tells → OnOk result (TellsTaken (V.PageView.block_count view.old) Xtree (page_of (V.PageView.image view.old)) (blocks_of fresh.old) (blocks_of fresh.new) tx.old tx.new) }
+    ensures thin { V.PageView.tells → OnOk result (KeepsNoThin (V.PageView.block_count view.old) (page_of (V.PageView.image view.old)) root.old root.new (blocks_of fresh.old) tx.old tx.new) }
+    ensures most { OnOk result (length (blocks_of fresh.old) ≤ length (blocks_of fresh.new) + 15) }
+    ensures kept { OnErr result ((root.new ≡ root.old) × (fresh.new ≡ fresh.old) × (tx.new ≡ tx.old)) }
+    ensures refused { V.PageView.tells → IfErr result (λ e. RefusesOnlyDeep (V.PageView.block_count view.old) (page_of (V.PageView.image view.old)) root.old (blocks_of fresh.old) (tree_error e)) }
+{
+    let Ok(old) = copy_of(alloc, root) else {
+        return Err(XtError::View(ViewError::Memory));
+    };
+    match plan_range(alloc, view, root, xs, fresh, tx) {
+        Ok(planned) => {
+            *fresh = planned.fresh;
+            *tx = planned.tx;
+            Ok(())
+        }
+        Err(e) => {
+            root.copy_from_slice(old.as_slice());
+            Err(handed_on(e))
+        }
+    }
+}
+
+fn copy_of(alloc: Global, bytes: &[u8]) -> Result<Vec<u8>, AllocError>
+    ensures { IfOk result (λ copy. copy.items ≡ bytes.now) }
+{
+    let mut copy = Vec::new(alloc);
+    copy.extend_from_slice(bytes)?;
+    Ok(copy)
+}
+
+#[tactic(auto, using(jfs_xtree::proofs::Roots::form_fits))]
+/// The free blocks that are left and the transaction, once the range stands in the root's list.
+fn plan_range<V: PageView>(
+    alloc: Global,
+    view: &mut V,
+    root: &mut [u8],
+    xs: &XadList,
+    fresh: &PxdList,
+    tx: &Tx,
+) -> Result<Planned, TreeError>
+    requires root { IsRootSize (length root.old) }
+    requires range { IsShortRange (V.PageView.block_count view.old) xs.now }
+    requires enough { 15 ≤ length (blocks_of fresh.now) }
+    requires within { AllBelow (V.PageView.block_count view.old) (blocks_of fresh.now) }
+    ensures image { V.PageView.tells → V.PageView.image view.new ≡ V.PageView.image view.old }
+    ensures count_of_blocks { V.PageView.block_count view.new ≡ V.PageView.block_count view.old }
+    ensures device { V.PageView.device view.new ≡ V.PageView.device view.old }
+    ensures fault { CarriesFault (V.PageView.fault_count view.old) (V.PageView.fault_count view.new) result }
+    ensures writes { V.PageView.tells → IfOk result (λ p. WritesRange (V.PageView.block_count view.old) (page_of (V.PageView.image view.old)) xs.now root.old root.new (blocks_of fresh.now) (blocks_of p.fresh) tx.now p.tx) }
+    ensures taken { IfOk result (λ p. TakenInOrder (blocks_of fresh.now) (blocks_of p.fresh) tx.now p.tx) }
+    ensures edits { V.PageView.tells → IfOk result (λ p. TellsTaken (V.PageView.block_count view.old) Xtree (page_of (V.PageView.image view.old)) (blocks_of fresh.now) (blocks_of p.fresh) tx.now p.tx) }
+    ensures thin { V.PageView.tells → IfOk result (λ p. KeepsNoThin (V.PageView.block_count view.old) (page_of (V.PageView.image view.old)) root.old root.new (blocks_of fresh.now) tx.now p.tx) }
+    ensures most { IfOk result (λ p. length (blocks_of fresh.now) ≤ length (blocks_of p.fresh) + 15) }
+    ensures refused { V.PageView.tells → IfErr result (λ e. RefusesOnlyDeep (V.PageView.block_count view.old) (page_of (V.PageView.image view.old)) root.old (blocks_of fresh.now) e) }
+{
+    let blocks = view.blocks();
+    let form = root_form(root);
+    let top = XtPages { form, blocks };
+    let Ok(mut stack) = fresh_stack(alloc, fresh, blocks) else {
+        return Err(TreeError::Memory);
+    };
+    let mut draft = Draft::new(alloc);
+    if let Err(e) = put_root(
+        alloc,
+        &top,
+        view,
+        &mut draft,
+        &mut stack,
+        root,
+        xs.as_slice(),
+    ) {
+        return Err(e);
+    }
+    tell_steps(
+        alloc,
+        view,
+        &draft,
+        fresh,
+        stack.as_slice(),
+        PageKind::Xtree,
+        tx,
+    )
+}
+
+/// The form of a root, by its size.
+fn root_form(root: &[u8]) -> XtForm
+    ensures { result ≡ root_form (length root.now) }
+{
+    if root.len() == 96 {
+        XtForm::Small
+    } else {
+        XtForm::Root
+    }
+}
+
+/// An error of the tree's pages, handed on.
+fn handed_on(e: TreeError) -> XtError
+    ensures { result ≡ handed_on e }
+{
+    match e {
+        TreeError::View(e) => XtError::View(e),
+        TreeError::Bad { page, rule } => XtError::Bad { page, rule },
+        TreeError::Memory => XtError::View(ViewError::Memory),
+    }
+}

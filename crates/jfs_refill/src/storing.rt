@@ -1,0 +1,128 @@
+//! A list of entries that goes to a page of a draft, or to two.
+
+ghost use Rattle.std.specs.Prelude.{◌≡◌, ◌<◌, ◌≤◌, ◌+◌, ◌*◌, ◌/◌, ◌^◌, ℕ, length, OnOk, IfOk, IfErr, IfSome};
+ghost use Rattle.std.specs.List.{All};
+ghost use Rattle.jfs_bits.specs.Extent.{FitsXad};
+ghost use Rattle.jfs_tree.specs.Call.{PutsOne, PutsTwo, StaysBelow, StaysOff};
+ghost use Rattle.jfs_tree.specs.Form.{IsFront};
+ghost use Rattle.jfs_xtpage.specs.Page.{head_of, IsLaidOut};
+ghost use Rattle.jfs_xtree.specs.Node.{is_leaf};
+ghost use Rattle.jfs_refill.specs.Stored.{Halved, Stored};
+ghost use Rattle.jfs_refill.specs.Spread.{InnerSpreads, LeafSpreads};
+
+use crate::refilling::refill;
+use jfs_bits::{Xad, get_u8, get_u64};
+use jfs_disk::Page;
+use jfs_tree::{Draft, Sibling, TreeError, page_at};
+use jfs_xtpage::{XtForm, xt_entry, xt_link, xt_new};
+
+/// The most entries of a page below a root.
+const ENTRIES: usize = 254;
+
+/// Puts a list in place of the entries of page `n`, which has these bytes; the draft has the page then. Where the list is too long for a page, its second half goes
+/// to the page at the end of `stack`, which is answered with its first offset. The back link of the page behind, which no rule of the format reads, stays.
+pub fn store(
+    draft: &mut Draft,
+    stack: &mut Vec<u32>,
+    n: u32,
+    mut page: Page,
+    list: &[Xad],
+) -> Result<Option<Sibling<u64>>, TreeError>
+    requires page { IsLaidOut page.0 }
+    requires slots { (head_of page.0).maxentry ≡ 256 }
+    requires most { length list.now ≤ 508 }
+    requires fits { All FitsXad list.now }
+    requires enough { 254 < length list.now → 0 < length stack.old.items }
+    ensures stored { IfOk result (Stored list.now page.0 n draft.old.pages.items draft.new.pages.items stack.old.items stack.new.items) }
+    ensures leaf { (blocks : ℕ) → IfOk result (LeafSpreads blocks list.now page.0 n draft.old.pages.items draft.new.pages.items stack.old.items stack.new.items) }
+    ensures inner { (blocks : ℕ) → IfOk result (InnerSpreads blocks list.now page.0 n draft.old.pages.items draft.new.pages.items stack.old.items stack.new.items) }
+    ensures keeps { OnOk result (StaysOff n draft.old.pages.items draft.new.pages.items stack.old.items stack.new.items) }
+    ensures below { StaysBelow stack.old.items stack.new.items result }
+    ensures front { IsFront stack.new.items stack.old.items }
+    ensures key { IfOk result (λ more. IfSome more (λ s. s.key < 2 ^ 40)) }
+    ensures cause { IfErr result (λ e. e ≡ TreeError.Memory) }
+{
+    if list.len() > ENTRIES {
+        return split(draft, stack, n, page, list);
+    }
+    refill(&mut page.0, list);
+    put_page(draft, n, page)?;
+    Ok(None)
+}
+
+/// Puts a list that is too long for a page to page `n` and to the page at the end of `stack`.
+fn split(
+    draft: &mut Draft,
+    stack: &mut Vec<u32>,
+    n: u32,
+    mut page: Page,
+    list: &[Xad],
+) -> Result<Option<Sibling<u64>>, TreeError>
+    requires page { IsLaidOut page.0 }
+    requires slots { (head_of page.0).maxentry ≡ 256 }
+    requires long { 254 < length list.now }
+    requires most { length list.now ≤ 508 }
+    requires fits { All FitsXad list.now }
+    requires enough { 0 < length stack.old.items }
+    ensures stored { IfOk result (Stored list.now page.0 n draft.old.pages.items draft.new.pages.items stack.old.items stack.new.items) }
+    ensures keeps { OnOk result (StaysOff n draft.old.pages.items draft.new.pages.items stack.old.items stack.new.items) }
+    ensures below { StaysBelow stack.old.items stack.new.items result }
+    ensures front { IsFront stack.new.items stack.old.items }
+    ensures key { IfOk result (λ more. IfSome more (λ s. s.key < 2 ^ 40)) }
+    ensures cause { IfErr result (λ e. e ≡ TreeError.Memory) }
+{
+    let Some(q) = stack.pop() else {
+        unreachable!();
+    };
+    let mut second = Page::zeros();
+    let key = halve(n, q, &mut page.0, &mut second.0, list);
+    put_two(draft, n, page, q, second)?;
+    Ok(Some(Sibling { key, page: q }))
+}
+
+/// Puts the first half of a list in place of the entries of page `n`, and the second half into the new page `q`, whose first offset is answered.
+fn halve(n: u32, q: u32, bytes: &mut [u8], second: &mut [u8], list: &[Xad]) -> u64
+    requires page { IsLaidOut bytes.old }
+    requires slots { (head_of bytes.old).maxentry ≡ 256 }
+    requires size { length second.old ≡ 4096 }
+    requires long { 254 < length list.now }
+    requires most { length list.now ≤ 508 }
+    requires fits { All FitsXad list.now }
+    ensures halved { Halved list.now n q result bytes.old bytes.new second.new }
+    ensures key { result < 2 ^ 40 }
+{
+    xt_new(second, XtForm::Full, is_leaf(get_u8(bytes, 16)), page_at(q));
+    let (front, back) = list.split_at(list.len() / 2);
+    refill(bytes, front);
+    refill(second, back);
+    let next = get_u64(bytes, 0);
+    let prev = get_u64(bytes, 8);
+    xt_link(bytes, u64::from(q), prev);
+    xt_link(second, next, u64::from(n));
+    xt_entry(second, 0).offset
+}
+
+/// A leaf has bit 2.
+pub(crate) fn is_leaf(flag: u8) -> bool
+    ensures { result ≡ is_leaf flag }
+{
+    flag % 8 == 2 || flag % 8 == 3
+}
+
+fn put_two(draft: &mut Draft, n: u32, first: Page, q: u32, second: Page) -> Result<(), TreeError>
+    ensures puts { OnOk result (PutsTwo draft.old.pages.items draft.new.pages.items n first.0 q second.0) }
+    ensures cause { IfErr result (λ e. e ≡ TreeError.Memory) }
+{
+    put_page(draft, n, first)?;
+    put_page(draft, q, second)
+}
+
+pub(crate) fn put_page(draft: &mut Draft, n: u32, page: Page) -> Result<(), TreeError>
+    ensures puts { OnOk result (PutsOne draft.old.pages.items draft.new.pages.items n page.0) }
+    ensures cause { IfErr result (λ e. e ≡ TreeError.Memory) }
+{
+    match draft.put(n, page) {
+        Ok(()) => Ok(()),
+        Err(_) => Err(TreeError::Memory),
+    }
+}

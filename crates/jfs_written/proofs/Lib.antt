@@ -1,0 +1,8 @@
+pub mod Cuts
+pub mod Sides
+pub mod Walks
+pub mod Each
+pub mod Counts
+pub mod Blocks
+pub mod Steps
+pub mod Uncut
