@@ -28,7 +28,6 @@ use Rattle.jfs_xtree.specs.Node.{xt_scale, xt_node, all_within, child_of, IsRoot
 use Rattle.jfs_xtree.specs.Spells.{root_form, page_nodes}
 use Rattle.jfs_xtree.specs.WriteParts.{drafted}
 use Rattle.jfs_xtree.proofs.Adds.{has_pages}
-use Rattle.jfs_xtree.proofs.WriteCalls.{below_left}
 use Rattle.jfs_written.specs.Range.{with_range}
 use Rattle.jfs_refill.specs.Refilled.{IsList}
 use Rattle.jfs_refill.specs.Rooted.{RootStored, SettlesList}
@@ -39,6 +38,14 @@ use Rattle.jfs_put_range.proofs.LeafPages.{leaf_list}
 use Rattle.jfs_put_range.proofs.Lists.{as_part, some_range}
 use Rattle.jfs_put_range.proofs.Settling.{settles, settles_filled, fewer_left}
 use Rattle.jfs_put_range.proofs.Standing.{leaf_stood, leaf_filled, inner_stood, inner_refuted}
+
+front_below : (b : ℕ) (left taken : List ℕ) → AllBelow b (left ++ taken) → AllBelow b left
+front_below b [] taken h = tt
+front_below b (n ∷ left) taken h = (h.0, front_below b left taken h.1)
+
+-- what is left lies where all did
+below_left : (b : ℕ) (left all : List ℕ) → IsFront left all → AllBelow b all → AllBelow b left
+below_left b left all front h = front_below b left front.0 (subst (AllBelow b) front.1 h)
 
 -- a root that gets a list, whatever its form and the blocks
 abbrev pub SettlesAlways : ℕ → List Xad → List ℕ → List ℕ → List Drafted → List Drafted → List ℕ → List ℕ → Result (Unit {0}) TreeError → Type 0

@@ -8,17 +8,15 @@ ghost use Rattle.jfs_tree.specs.Call.{CarriesFault};
 ghost use Rattle.jfs_tree.specs.Changes.{TellsTaken};
 ghost use Rattle.jfs_tree.specs.Form.{AllBelow};
 ghost use Rattle.jfs_tree.specs.Fresh.{blocks_of, TakenInOrder};
-ghost use Rattle.jfs_xtree.specs.Errors.{handed_on};
-ghost use Rattle.jfs_xtree.specs.Spells.{IsRootSize, root_form, tree_error, CarriesXt};
+ghost use Rattle.jfs_xtree.specs.Spells.{IsRootSize, tree_error, CarriesXt};
 ghost use Rattle.jfs_put_range.specs.Call.{IsShortRange, WritesRange, KeepsNoThin, RefusesOnlyDeep};
 
 use crate::root::put_root;
 use jfs_bits::{PageKind, PxdList, Xad, XadList};
 use jfs_ranges::{PageView, Tx, ViewError};
-use jfs_tree::{Draft, Planned, TreeError, fresh_stack, tell_steps};
-use jfs_xtpage::XtForm;
-use jfs_xtree::{XtError, XtPages};
-use std::alloc::{AllocError, Global};
+use jfs_tree::{Draft, Planned, TreeError, copy_of, fresh_stack, tell_steps};
+use jfs_xtree::{XtError, XtPages, handed_on, root_form};
+use std::alloc::Global;
 
 /// Writes a range of blocks into a file's list: extents in rising order, which lie within 17 consecutive blocks of the file and end below its block 2^40. They stand in place
 /// of what the list had of these blocks, cut where an entry begins or ends; an entry that reached past the blocks keeps its other parts, and what is written into a hole is
@@ -63,14 +61,6 @@ pub fn put_range<V: PageView>(
             Err(handed_on(e))
         }
     }
-}
-
-fn copy_of(alloc: Global, bytes: &[u8]) -> Result<Vec<u8>, AllocError>
-    ensures { IfOk result (λ copy. copy.items ≡ bytes.now) }
-{
-    let mut copy = Vec::new(alloc);
-    copy.extend_from_slice(bytes)?;
-    Ok(copy)
 }
 
 #[tactic(auto, using(jfs_xtree::proofs::Roots::form_fits))]
@@ -125,26 +115,4 @@ fn plan_range<V: PageView>(
         PageKind::Xtree,
         tx,
     )
-}
-
-/// The form of a root, by its size.
-fn root_form(root: &[u8]) -> XtForm
-    ensures { result ≡ root_form (length root.now) }
-{
-    if root.len() == 96 {
-        XtForm::Small
-    } else {
-        XtForm::Root
-    }
-}
-
-/// An error of the tree's pages, handed on.
-fn handed_on(e: TreeError) -> XtError
-    ensures { result ≡ handed_on e }
-{
-    match e {
-        TreeError::View(e) => XtError::View(e),
-        TreeError::Bad { page, rule } => XtError::Bad { page, rule },
-        TreeError::Memory => XtError::View(ViewError::Memory),
-    }
 }

@@ -10,13 +10,10 @@ ghost use Rattle.jfs_put_range.specs.Parts.{IsOpened, IsPart, WrotePage, Refutes
 use crate::open::Opened;
 use crate::part::Part;
 use jfs_bits::Rule;
-use jfs_refill::store;
+use jfs_refill::{ENTRIES, store};
 use jfs_tree::{Draft, Sibling, TreeError};
 use jfs_written::written;
 use std::alloc::Global;
-
-/// The most entries of a page below a root.
-const ENTRIES: usize = 254;
 
 /// What the part below a page became: perhaps one more page stands behind it, and it has so many levels.
 #[derive(Drop)]

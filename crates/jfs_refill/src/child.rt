@@ -3,11 +3,12 @@
 ghost use Rattle.std.specs.Prelude.{◌≡◌, ◌<◌, ◌^◌, ◌++◌, OnOk, IfSome, if◌then◌else◌};
 ghost use Rattle.std.specs.List.{All};
 ghost use Rattle.jfs_bits.specs.Extent.{FitsXad};
-ghost use Rattle.jfs_xtree.specs.Node.{child_entry, lowered};
+ghost use Rattle.jfs_xtree.specs.Node.{lowered};
 ghost use Rattle.jfs_refill.specs.Grown.{grown_entries};
 
 use jfs_bits::{Pxd, Xad};
-use jfs_tree::{Sibling, page_at};
+use jfs_tree::Sibling;
+use jfs_xtree::child_entry;
 use std::alloc::AllocError;
 
 /// Puts a child's entry at the end of a list, and behind it the entry of the page that was split off the child, where there is one. `first` tells that the child is the
@@ -50,18 +51,5 @@ fn lowered(first: bool, key: u64, child: Xad) -> Xad
             len: 1,
             addr: child.at.addr,
         },
-    }
-}
-
-/// The entry of a page from a key on.
-pub(crate) fn child_entry(key: u64, page: u32) -> Xad
-    requires { key < 2 ^ 40 }
-    ensures is { result ≡ child_entry key page }
-    ensures fits { FitsXad result }
-{
-    Xad {
-        flag: 0,
-        offset: key,
-        at: page_at(page),
     }
 }

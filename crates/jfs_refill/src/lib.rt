@@ -11,4 +11,4 @@ pub use child::push_grown;
 pub use entries::items;
 pub use refilling::refill;
 pub use root::store_root;
-pub use storing::store;
+pub use storing::{ENTRIES, store};

@@ -11,13 +11,12 @@ ghost use Rattle.jfs_xtree.specs.Node.{IsRoot};
 ghost use Rattle.jfs_refill.specs.Refilled.{IsList};
 ghost use Rattle.jfs_refill.specs.Rooted.{MovesRoot, RootStored, SettlesList};
 
-use crate::child::child_entry;
 use crate::refilling::refill;
-use crate::storing::{is_leaf, put_page};
 use jfs_bits::{Rule, Xad, get_u8, get_u16};
 use jfs_disk::Page;
-use jfs_tree::{Draft, NO_PAGE, TreeError, page_at};
+use jfs_tree::{Draft, NO_PAGE, TreeError, page_at, put_one};
 use jfs_xtpage::{XtForm, xt_new, xt_set_kind};
+use jfs_xtree::{child_entry, is_leaf};
 
 /// Puts a list in place of a root's entries; the tree has so many levels. A list that is too long for the root goes to the page at the end of `stack`, and the root keeps
 /// that page as its only child. A tree of 8 levels gets no ninth: that is `Bad` with rule `deep` at the root, and then nothing changes.
@@ -85,5 +84,5 @@ fn move_down(
     refill(&mut page.0, list);
     xt_set_kind(root, false);
     refill(root, &[child_entry(0, q)]);
-    put_page(draft, q, page)
+    put_one(draft, q, page)
 }

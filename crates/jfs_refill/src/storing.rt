@@ -3,21 +3,21 @@
 ghost use Rattle.std.specs.Prelude.{◌≡◌, ◌<◌, ◌≤◌, ◌+◌, ◌*◌, ◌/◌, ◌^◌, ℕ, length, OnOk, IfOk, IfErr, IfSome};
 ghost use Rattle.std.specs.List.{All};
 ghost use Rattle.jfs_bits.specs.Extent.{FitsXad};
-ghost use Rattle.jfs_tree.specs.Call.{PutsOne, PutsTwo, StaysBelow, StaysOff};
+ghost use Rattle.jfs_tree.specs.Call.{StaysBelow, StaysOff};
 ghost use Rattle.jfs_tree.specs.Form.{IsFront};
 ghost use Rattle.jfs_xtpage.specs.Page.{head_of, IsLaidOut};
-ghost use Rattle.jfs_xtree.specs.Node.{is_leaf};
 ghost use Rattle.jfs_refill.specs.Stored.{Halved, Stored};
 ghost use Rattle.jfs_refill.specs.Spread.{InnerSpreads, LeafSpreads};
 
 use crate::refilling::refill;
 use jfs_bits::{Xad, get_u8, get_u64};
 use jfs_disk::Page;
-use jfs_tree::{Draft, Sibling, TreeError, page_at};
+use jfs_tree::{Draft, Sibling, TreeError, page_at, put_one, put_two};
 use jfs_xtpage::{XtForm, xt_entry, xt_link, xt_new};
+use jfs_xtree::is_leaf;
 
 /// The most entries of a page below a root.
-const ENTRIES: usize = 254;
+pub const ENTRIES: usize = 254;
 
 /// Puts a list in place of the entries of page `n`, which has these bytes; the draft has the page then. Where the list is too long for a page, its second half goes
 /// to the page at the end of `stack`, which is answered with its first offset. The back link of the page behind, which no rule of the format reads, stays.
@@ -46,7 +46,7 @@ pub fn store(
         return split(draft, stack, n, page, list);
     }
     refill(&mut page.0, list);
-    put_page(draft, n, page)?;
+    put_one(draft, n, page)?;
     Ok(None)
 }
 
@@ -100,29 +100,4 @@ fn halve(n: u32, q: u32, bytes: &mut [u8], second: &mut [u8], list: &[Xad]) -> u
     xt_link(bytes, u64::from(q), prev);
     xt_link(second, next, u64::from(n));
     xt_entry(second, 0).offset
-}
-
-/// A leaf has bit 2.
-pub(crate) fn is_leaf(flag: u8) -> bool
-    ensures { result ≡ is_leaf flag }
-{
-    flag % 8 == 2 || flag % 8 == 3
-}
-
-fn put_two(draft: &mut Draft, n: u32, first: Page, q: u32, second: Page) -> Result<(), TreeError>
-    ensures puts { OnOk result (PutsTwo draft.old.pages.items draft.new.pages.items n first.0 q second.0) }
-    ensures cause { IfErr result (λ e. e ≡ TreeError.Memory) }
-{
-    put_page(draft, n, first)?;
-    put_page(draft, q, second)
-}
-
-pub(crate) fn put_page(draft: &mut Draft, n: u32, page: Page) -> Result<(), TreeError>
-    ensures puts { OnOk result (PutsOne draft.old.pages.items draft.new.pages.items n page.0) }
-    ensures cause { IfErr result (λ e. e ≡ TreeError.Memory) }
-{
-    match draft.put(n, page) {
-        Ok(()) => Ok(()),
-        Err(_) => Err(TreeError::Memory),
-    }
 }

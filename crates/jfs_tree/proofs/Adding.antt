@@ -128,9 +128,6 @@ grown_ok node s x old mid new image later page place child levels bytes more fre
     subst (λ l. Grew s x (nodes node old image) (nodes node new image) l page (children_of g.sibling) free left) (let i = at.1 in omega (arith, count, i))
     (did image x (nodes node old image) at.0 child free (ap node (sym read)) leads there)
 
-suc_is : (a b : ℕ) → suc a ≡ suc b → a ≡ b
-suc_is a b h = omega (arith, h)
-
 pub grown_bad : {P E : Type 0} (node : List ℕ → Node P E) (s : Scale P E) → IsOrder s → (x : E) (old mid new : List Drafted) (image later : Image) (most page place child levels : ℕ) (bytes : List ℕ) (more : Option (Sibling P)) (free between left : List ℕ) (r : Result (Grown P) TreeError)
     → later ≡ image → bytes ≡ shown old image page → LeadsDown s x (node bytes) place child
     → Grew s x (nodes node old later) (nodes node mid later) levels child (children_of more) free between

@@ -14,9 +14,6 @@ DraftSoFar blocks image taken kind ds i tx now = (edits : List Edit) × (now ≡
     × ((rest : List Edit) → DraftEdits blocks image taken kind (take i ds) (drop i ds) rest → DraftEdits blocks image taken kind [] ds (edits ++ rest))
 
 module _ (blocks : ℕ) (image : Image) (taken : List ℕ) (kind : PageKind) (ds : List Drafted) where
-  pub no_page_yet : (tx : List Edit) → DraftSoFar blocks image taken kind ds 0 tx tx
-  no_page_yet tx = ([], sym (append-nil tx), λ rest h. h)
-
   next_page : (i : ℕ) (d : Drafted) (own : List Edit) (tx now later : List Edit) → i < length ds → later ≡ now ++ own
       → DraftedEdits (is_hidden blocks (take i ds) (get_or ds i d).number) image taken kind (get_or ds i d).number (get_or ds i d).page.0 own
       → DraftSoFar blocks image taken kind ds i tx now → DraftSoFar blocks image taken kind ds (i + 1) tx later

@@ -10,9 +10,6 @@ use Rattle.jfs_tree.specs.Draft.{shown}
 use Rattle.jfs_tree.specs.Tell.{TellsDraft, TellsOne, is_hidden, occurs}
 use Rattle.jfs_tree.specs.declared.draft.Drafted.{Drafted}
 
-same_as_here : (a b : ℕ) → (a == b) ≡ (b == a)
-same_as_here a b = grind arith
-
 -- one more behind these
 shown_last : (ds : List Drafted) (d : Drafted) (image : Image) (m : ℕ) → shown (ds ++ d ∷ []) image m ≡ (if occurs m ds then shown ds image m else (if m == d.number then d.page.0 else page_of image m))
 shown_last [] d image m = refl
@@ -36,9 +33,6 @@ shown_fresh (e ∷ ds) image m no_one = elim (cases_eq m e.number) [
 
 pub more : (ds : List Drafted) (i : ℕ) (d : Drafted) → i < length ds → take (i + 1) ds ≡ take i ds ++ get_or ds i d ∷ []
 more ds i d h = (take_at_read ds i d h).1
-
-pub told_none : (blocks : ℕ) (image : Image) (ds : List Drafted) (tx : List Edit) → TellsDraft blocks image (take 0 ds) tx tx
-told_none blocks image ds tx m within content size is = is
 
 pub not_true : (b r : Bool) → r ≡ not b → r ≡ true → b ≡ false
 not_true true r e f = cc

@@ -1,12 +1,12 @@
 -- Filled levels of a whole tree that took an entry.
-use Rattle.std.proofs.Common.{◌≡◌, ◌≢◌, ◌≤◌, ◌<◌, inl, inr, refl, sym, ap, ◌∙◌, subst, ℕ, zero, suc, ◌+◌, Bool, true, false, List, [], ◌∷◌, ◌++◌, length, ◌==◌, ◌&&◌, if◌then◌else◌, Option, Some, None, Result, Ok, Err, OnOk, IfOk, arith}
+use Rattle.std.proofs.Common.{◌≡◌, ◌≢◌, ◌≤◌, ◌<◌, inl, inr, refl, sym, ap, ◌∙◌, subst, ℕ, zero, suc, ◌+◌, Bool, true, List, [], ◌∷◌, ◌++◌, length, ◌==◌, if◌then◌else◌, Option, Some, None, Result, Ok, Err, OnOk, arith}
 use Rattle.std.specs.Prelude.{reverse}
 use Rattle.std.specs.List.{flat_map}
 use Rattle.jfs_disk.specs.Image.{Image, page_of}
 use Rattle.jfs_ranges.specs.declared.edit.Edit.{Edit}
 use Rattle.jfs_tree.specs.Walk.{Child, Node, Leaf, Inner, Marks, Scale, Rises, IsOrder, times, placed, body, walk}
 use Rattle.jfs_tree.specs.Spells.{no_page, with_root, top, footprint}
-use Rattle.jfs_tree.specs.Levels.{InLine, IsFilled, HasNoThin, entry_count, pages_below}
+use Rattle.jfs_tree.specs.Levels.{InLine, IsFilled, pages_below}
 use Rattle.jfs_tree.specs.Edit.{IsApart, Ready, Grew, bound, own, count_in, with_entry}
 use Rattle.jfs_tree.specs.Form.{AllBelow, HasChildren, LeadsDown, as_child, children_of}
 use Rattle.jfs_tree.specs.Draft.{shown}
@@ -27,7 +27,7 @@ use Rattle.jfs_tree.proofs.RootCalls.{below_root, cons_middle, leaf_spells, one_
 use Rattle.jfs_tree.proofs.RootSteps.{root_at, root_keys, root_took}
 use Rattle.jfs_tree.proofs.Shrank.{own_is}
 use Rattle.jfs_tree.proofs.Taking.{route_of, place_of}
-use Rattle.jfs_tree.proofs.Tops.{count_below, page_or, root_else}
+use Rattle.jfs_tree.proofs.Tops.{count_below, root_else}
 use Rattle.jfs_tree.proofs.Within.{footprint_within}
 use Rattle.jfs_tree.proofs.Adds.{spare_reversed}
 

@@ -47,9 +47,6 @@ pub mod Filling
 mod BytesKept
 mod FilledSteps
 mod FilledRoots
-mod Swaps
-mod RootSwaps
-mod Trimmings
 pub mod Becoming
 pub mod Lowered
 mod LeastFirst

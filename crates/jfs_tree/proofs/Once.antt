@@ -38,13 +38,6 @@ clean_right (Key n k ∷ ms) b h = clean_right ms b h
 clean_right (Row n e ∷ ms) b h = clean_right ms b h
 clean_right (Fault n f ∷ ms) b h = absurd h
 
-clean_join : {P E : Type 0} (a b : Marks P E) → Clean a → Clean b → Clean (a ++ b)
-clean_join [] b h k = k
-clean_join (Page n ∷ ms) b h k = clean_join ms b h k
-clean_join (Key n l ∷ ms) b h k = clean_join ms b h k
-clean_join (Row n e ∷ ms) b h k = clean_join ms b h k
-clean_join (Fault n f ∷ ms) b h k = absurd h
-
 -- the entries that begin where one does
 abbrev pub begins_with : {P E : Type 0} → Scale P E → E → E → Bool
 begins_with s x e = s.le (s.from e) (s.from x) && s.le (s.from x) (s.from e)

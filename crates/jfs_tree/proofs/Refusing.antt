@@ -1,5 +1,5 @@
 -- Why an entry is refused on its way, page by page.
-use Rattle.std.proofs.Common.{◌≡◌, ◌⊎◌, ◌≤◌, inl, inr, refl, sym, ap, ◌∙◌, subst, ℕ, zero, suc, Bool, true, false, List, [], ◌∷◌, ◌++◌, map, if◌then◌else◌, Option, Some, None, Result, Ok, Err, IfOk, IfErr, arith}
+use Rattle.std.proofs.Common.{◌≡◌, ◌≤◌, inl, inr, refl, sym, ap, ◌∙◌, subst, ℕ, suc, Bool, true, false, List, [], ◌∷◌, ◌++◌, map, if◌then◌else◌, Option, Some, None, Result, Ok, Err, IfOk, IfErr, arith}
 use Rattle.jfs_bits.specs.declared.rule.Rule.{Rule}
 use Rattle.jfs_bits.specs.declared.rule.Rule.TheVariants as rules
 use Rattle.jfs_tree.specs.Walk.{Child, Node, Leaf, Inner, Broken, Row, Scale, Rises, IsOrder}
@@ -10,7 +10,7 @@ use Rattle.jfs_disk.specs.Image.{Image, page_of}
 use Rattle.jfs_tree.specs.Adds.{read_as, on_page}
 use Rattle.jfs_tree.specs.Call.{IsRead, nodes}
 use Rattle.jfs_tree.specs.declared.draft.Drafted.{Drafted}
-use Rattle.jfs_tree.specs.Path.{below_root, broken_at, broken_below, broken_on_way, way_of}
+use Rattle.jfs_tree.specs.Path.{below_root, broken_at, broken_below, broken_on_way}
 use Rattle.jfs_tree.specs.Room.{FullDown, GrowsWhereFull, at_page}
 use Rattle.jfs_tree.specs.Refusal.{begin_of, end_of, IsBetween, AllBetween, FitsIn, FitsOnward, FitsDown, Misfits, ClashesAt, ClashesBelow, ClashesOnWay, HasAllLevels, TellsRefusal, TellsAdding, CutsRows, HereCut, ChildCut, GrownCut, HereClash, NeverRises, GrownClash, RootGrownClash, KeyFits, TellsGrowing}
 use Rattle.jfs_tree.specs.declared.form.Sibling.{Sibling}

@@ -13,9 +13,6 @@ use Rattle.jfs_tree.proofs.Telling.{less_or}
 abbrev pub RunsSoFar : ℕ → PageKind → List ℕ → List ℕ → ℕ → List Edit → List Edit → Type 0
 RunsSoFar n kind old new first tx now = (edits : List Edit) × (now ≡ tx ++ edits) × ((rest : List Edit) → IsRuns n kind old new first rest → IsRuns n kind old new 0 (edits ++ rest))
 
-pub none_yet : (n : ℕ) (kind : PageKind) (old new : List ℕ) (tx : List Edit) → RunsSoFar n kind old new 0 tx tx
-none_yet n kind old new tx = ([], sym (append-nil tx), λ rest h. h)
-
 module _ (n : ℕ) (kind : PageKind) (old new : List ℕ) where
   abbrev Same : ℕ → Type 0
   Same i = SameLine (line_size kind) i old new

@@ -1,5 +1,5 @@
 -- Pages that stay filled where an entry is added: a full page that gets another one beside it keeps enough entries.
-use Rattle.std.specs.Prelude.{◌≡◌, ◌≤◌, ◌==◌, ◌&&◌, ℕ, suc, Bool, true, false, List, [], ◌∷◌, map, length, Option, Ok}
+use Rattle.std.specs.Prelude.{◌≡◌, ◌≤◌, ◌==◌, ◌&&◌, ℕ, suc, Bool, true, false, List, ◌∷◌, map, length, Option, Ok}
 use Rattle.jfs_disk.specs.Image.{Image}
 use Rattle.jfs_tree.specs.Walk.{Child, Node, Leaf, Inner, Scale, walk}
 use Rattle.jfs_tree.specs.Spells.{no_page, with_root, spells}

@@ -18,7 +18,6 @@ pub mod Room
 pub mod Walking
 pub mod Laws
 pub mod Removes
-pub mod Trim
 pub mod Changes
 pub mod Becomes
 pub mod Filled

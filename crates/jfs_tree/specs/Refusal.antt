@@ -15,7 +15,7 @@ use Rattle.jfs_tree.specs.declared.form.TreeError.TheVariants.{View, Bad, Memory
 
 -- ---- what fits in the place that the pages above give
 
--- A page's place for a child is from the child's key on up to the next child's. The first child's key isn't looked at, and after the last one there is no end.
+-- A page's place for a child is between the child's key and the next child's: a leaf's entries go from the one on up to the other, an inner page's keys are strictly between the two. The first child's key isn't looked at, and after the last one there is no end.
 abbrev pub begin_of : {P E : Type 0} → Scale P E → List (Child P) → Child P → P
 begin_of s front child = (own s.least front child).key
 

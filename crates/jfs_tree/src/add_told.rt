@@ -94,7 +94,8 @@ pub fn add_and_tell<V: PageView, F: PageForm>(
     }
 }
 
-pub(crate) fn copy_of(alloc: Global, bytes: &[u8]) -> Result<Vec<u8>, AllocError>
+/// A copy of bytes, as of a root before a call that may fail.
+pub fn copy_of(alloc: Global, bytes: &[u8]) -> Result<Vec<u8>, AllocError>
     ensures { IfOk result (λ copy. copy.items ≡ bytes.now) }
 {
     let mut copy = Vec::new(alloc);

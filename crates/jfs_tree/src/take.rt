@@ -162,7 +162,14 @@ fn split_child<F: PageForm>(
     Ok(Some(Sibling { key, page: q }))
 }
 
-fn put_two(draft: &mut Draft, page: u32, left: Page, q: u32, right: Page) -> Result<(), TreeError>
+/// The draft has pages `page` and `q` with these bytes from now on. `Memory` is the only error; the draft is then to be thrown away.
+pub fn put_two(
+    draft: &mut Draft,
+    page: u32,
+    left: Page,
+    q: u32,
+    right: Page,
+) -> Result<(), TreeError>
     ensures puts { OnOk result (PutsTwo draft.old.pages.items draft.new.pages.items page left.0 q right.0) }
     ensures cause { IfErr result (λ e. e ≡ TreeError.Memory) }
 {
@@ -170,7 +177,8 @@ fn put_two(draft: &mut Draft, page: u32, left: Page, q: u32, right: Page) -> Res
     put_one(draft, q, right)
 }
 
-pub(crate) fn put_one(draft: &mut Draft, n: u32, page: Page) -> Result<(), TreeError>
+/// The draft has page `n` with these bytes from now on. `Memory` is the only error; the draft is then to be thrown away.
+pub fn put_one(draft: &mut Draft, n: u32, page: Page) -> Result<(), TreeError>
     ensures puts { OnOk result (PutsOne draft.old.pages.items draft.new.pages.items n page.0) }
     ensures cause { IfErr result (λ e. e ≡ TreeError.Memory) }
 {

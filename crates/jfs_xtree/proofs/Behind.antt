@@ -15,7 +15,8 @@ use Rattle.jfs_xtree.specs.Node.{xt_scale, child_of, xt_node, TakesChild}
 use Rattle.jfs_xtree.specs.Laws.{order}
 use Rattle.jfs_xtree.proofs.Reading.{inner_is}
 use Rattle.jfs_xtree.proofs.Pages.{rises_less}
-use Rattle.jfs_xtree.proofs.Inners.{cut_at, cut_of, map_cut}
+use Rattle.jfs_xtree.proofs.Ways.{cut_at, map_cut}
+use Rattle.jfs_xtree.proofs.Inners.{cut_of}
 
 end_past : (x : Xad) → x.offset < extent_end x
 end_past x = leb-false (extent_end x) x.offset (order.takes_place x)

@@ -25,7 +25,7 @@ use Rattle.jfs_xtree.specs.Spells.{page_nodes}
 use Rattle.jfs_xtree.specs.Laws.{order}
 use Rattle.jfs_xtree.specs.CutParts.{FreesUnder, BreaksUnder, BreaksAt, pages_of_children, pages_of_entries, runs_of}
 use Rattle.jfs_xtree.proofs.Reading.{sound_leaf, sound_inner}
-use Rattle.jfs_xtree.proofs.Inners.{map_cut}
+use Rattle.jfs_xtree.proofs.Ways.{map_cut}
 
 -- ---- the entries from a place on
 

@@ -43,7 +43,7 @@ use Rattle.jfs_xtree.specs.Cutting.{kept_below, gone_past, run_frees, HasOnlyBel
 use Rattle.jfs_xtree.specs.CutParts.{CutPart, CutsNode, BreaksUnder, KeepsSome, naming, shows, if_kept}
 use Rattle.jfs_xtree.proofs.Reading.{leaf_is, sound_leaf, sound_inner}
 use Rattle.jfs_xtree.proofs.Pages.{rises_less, rises_back, rises_weaker}
-use Rattle.jfs_xtree.proofs.Inners.{map_cut}
+use Rattle.jfs_xtree.proofs.Ways.{map_cut}
 use Rattle.jfs_xtree.proofs.Adds.{has_pages}
 use Rattle.jfs_xtree.proofs.CutInners.{differs, here_zero}
 use Rattle.jfs_xtree.proofs.CutSteps.{no_entry}

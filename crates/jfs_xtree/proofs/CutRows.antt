@@ -11,7 +11,7 @@ use Rattle.jfs_xtree.specs.Laws.{ends_after}
 use Rattle.jfs_xtree.specs.Cutting.{up_to, kept_below, gone_of, gone_past}
 use Rattle.jfs_xtree.specs.CutParts.{AllFrom, runs_of}
 use Rattle.jfs_xtree.proofs.Pages.{rises_less}
-use Rattle.jfs_xtree.proofs.Inners.{cut_at, length_front}
+use Rattle.jfs_xtree.proofs.Ways.{cut_at, length_front}
 
 -- ---- extents at and past the bound
 

@@ -29,7 +29,7 @@ use Rattle.jfs_xtree.specs.Cutting.{up_to, kept_below, gone_past}
 use Rattle.jfs_xtree.specs.CutParts.{CutsNode, CutsPage, FreesUnder, BreaksUnder, BreaksAt, KeepsSome, AllFrom, naming}
 use Rattle.jfs_xtree.proofs.Reading.{and_true, sound_leaf, sound_inner}
 use Rattle.jfs_xtree.proofs.Pages.{leaf_made, inner_made, rises_less, rises_more, rises_weaker, rises_front, within_both, within_front}
-use Rattle.jfs_xtree.proofs.Inners.{cut_at, length_front, map_cut}
+use Rattle.jfs_xtree.proofs.Ways.{cut_at, length_front, map_cut}
 use Rattle.jfs_xtree.proofs.CutRows.{from_place, take_one_more}
 use Rattle.jfs_xtree.proofs.CutFrees.{breaks_at, breaks_below}
 use Rattle.jfs_xtree.proofs.CutWalks.{leaf_cuts, up_to_end, up_to_offset}

@@ -29,11 +29,6 @@ differ r b e f t = cc
 pub not_laid : (form : XtForm) (blocks : ℕ) (head : XtHead) (xs : List Xad) (r : Bool) → r ≡ (fits_flag form head.flag && fits_max form head.maxentry && fits_count head) → r ≡ false → IsSound form blocks head xs → ⊥
 not_laid form blocks head xs r is f s = differ r (fits_flag form head.flag && fits_max form head.maxentry && fits_count head) is f (sound_laid form blocks head xs s)
 
-pub laid_parts : (a b c : Bool) (r : Bool) → r ≡ (a && b && c) → r ≡ true → (a ≡ true) × (b ≡ true)
-laid_parts true true c r e t = (refl, refl)
-laid_parts true false c r e t = absurd cc
-laid_parts false b c r e t = absurd cc
-
 pub good_within : (blocks : ℕ) (x : Xad) → IsGood blocks x → is_within blocks x ≡ true
 good_within blocks x g = rw (le-leb 1 x.at.len g.some, le-leb (x.at.addr + x.at.len) blocks g.within) refl
 

@@ -1,5 +1,5 @@
 -- How full the two pages are that a full page became.
-use Rattle.std.proofs.Common.{◌≡◌, ◌≤◌, ◌<◌, inl, inr, refl, sym, ap, ◌∙◌, subst, ℕ, ◌-◌, ◌/◌, ◌==◌, ◌||◌, Bool, true, false, List, length, map, arith}
+use Rattle.std.proofs.Common.{◌≡◌, ◌≤◌, ◌<◌, inl, inr, refl, sym, ap, ◌∙◌, ℕ, ◌/◌, Bool, true, false, List, length, arith}
 use Rattle.std.proofs.lemmas.Bool.{cases_lt, eqb-true}
 use Rattle.std.proofs.lemmas.List.{length-map}
 use Rattle.jfs_bits.specs.Field.{field_of}
@@ -7,10 +7,10 @@ use Rattle.jfs_bits.specs.declared.extent.Xad.{Xad}
 use Rattle.jfs_tree.specs.Walk.{Child, Node, Leaf, Inner}
 use Rattle.jfs_tree.specs.Levels.{entry_count}
 use Rattle.jfs_tree.specs.Filled.{FillsBoth}
-use Rattle.jfs_tree.specs.Form.{HasChildren, SplitsRows, SplitsChildren}
+use Rattle.jfs_tree.specs.Form.{SplitsRows, SplitsChildren}
 use Rattle.jfs_xtpage.specs.declared.head.XtForm.{XtForm}
 use Rattle.jfs_xtpage.specs.declared.head.XtForm.TheVariants.{Root, Full, Small}
-use Rattle.jfs_xtpage.specs.Page.{head_of, entries_of, count_of}
+use Rattle.jfs_xtpage.specs.Page.{entries_of, count_of}
 use Rattle.jfs_xtpage.proofs.Entries.{length-entries}
 use Rattle.jfs_xtree.specs.Node.{xt_scale, xt_node, fits_max, child_of, HasNoRoom, IsRoot}
 use Rattle.jfs_xtree.proofs.Reading.{leaf_is, inner_is}

@@ -3,6 +3,7 @@ pub mod Reading
 pub mod Placing
 pub mod Pages
 pub mod Found
+pub mod Ways
 pub mod Inners
 pub mod Forms
 pub mod Roots
@@ -17,8 +18,5 @@ pub mod CutRoots
 pub mod Entered
 pub mod Written
 pub mod WrittenIn
-pub mod Trims
-pub mod WriteSteps
-pub mod WriteCalls
 mod Halves
 pub mod Behind

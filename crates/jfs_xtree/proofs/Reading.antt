@@ -234,12 +234,6 @@ cut_more bytes i c m e f = ap (entries_from bytes i) e ∙ ap (λ p. entry_of by
 pub within_more : (blocks : ℕ) (bytes : List ℕ) (i c : ℕ) → i < c → all_within blocks (entries_from bytes i (c - i)) ≡ (is_within blocks (entry_of bytes i) && all_within blocks (entries_from bytes (i + 1) (c - (i + 1))))
 within_more blocks bytes i c l = ap (all_within blocks) (cut_more bytes i c (c - (i + 1)) (omega (arith, l)) refl)
 
-pub within_start : (blocks : ℕ) (bytes : List ℕ) (c : ℕ) → all_within blocks (entries_from bytes 0 c) ≡ all_within blocks (entries_from bytes 0 (c - 0))
-within_start blocks bytes c = ap (λ n. all_within blocks (entries_from bytes 0 n)) (omega arith)
-
-pub within_end : (blocks : ℕ) (bytes : List ℕ) (i c : ℕ) → c ≤ i → all_within blocks (entries_from bytes i (c - i)) ≡ true
-within_end blocks bytes i c l = ap (λ n. all_within blocks (entries_from bytes i n)) (let z : c - i ≡ 0 = omega (arith, l) in z)
-
 -- the code's answer
 pub as_read : (blocks : ℕ) (bytes : List ℕ) (head : XtHead) (r b : Bool) → head ≡ head_of bytes → r ≡ all_within blocks (entries_from bytes 0 (head.nextindex - 2)) → r ≡ b → all_within blocks (entries_of bytes) ≡ b
 as_read blocks bytes head r b is e f = ap (λ (h : XtHead). all_within blocks (entries_from bytes 0 (h.nextindex - 2))) (sym is) ∙ sym e ∙ f

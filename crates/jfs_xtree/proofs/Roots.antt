@@ -1,5 +1,5 @@
 -- Roots by their size, and what is found and refused, as the calls say it.
-use Rattle.std.proofs.Common.{◌≡◌, inl, inr, ◌≤◌, refl, sym, ap, ◌∙◌, subst, ℕ, ◌+◌, List, [], true, Option, Some, None, Ok, Err, arith}
+use Rattle.std.proofs.Common.{◌≡◌, inl, inr, ◌≤◌, refl, sym, ap, ◌∙◌, subst, ℕ, ◌+◌, List, [], true, Option, Ok, Err, arith}
 use Rattle.jfs_bits.specs.declared.rule.Rule.{Rule}
 use Rattle.jfs_tree.specs.Path.{broken_on_way, TellsBroken}
 use Rattle.jfs_xtree.specs.declared.error.XtError.{XtError}

@@ -8,5 +8,4 @@ pub mod Cutting
 pub mod CutParts
 pub mod Extents
 pub mod Writing
-pub mod Trimming
 pub mod WriteParts

@@ -1,5 +1,5 @@
 -- What a file's extents are once blocks of it were written.
-use Rattle.std.specs.Prelude.{◌≡◌, ◌⊎◌, ◌≤◌, ℕ, ◌+◌, ◌-◌, ◌^◌, ◌==◌, ◌&&◌, ◌||◌, Bool, true, false, not, nat_le, nat_lt, if◌then◌else◌, List, [], ◌∷◌, ◌++◌, Option, Some, None}
+use Rattle.std.specs.Prelude.{◌≡◌, ◌≤◌, ℕ, ◌+◌, ◌-◌, ◌^◌, ◌==◌, ◌&&◌, ◌||◌, Bool, true, not, nat_le, nat_lt, if◌then◌else◌, List, [], ◌∷◌, ◌++◌, Option, Some, None}
 use Rattle.std.specs.Int.RustNames.{bit_and}
 use Rattle.jfs_bits.specs.declared.extent.Xad.{Xad}
 use Rattle.jfs_xtpage.specs.Page.{end_of, rises_from}
@@ -47,11 +47,6 @@ with_written x es = (if is_hole x es then joined (kept_below x.offset es) x else
 abbrev pub with_all_written : List Xad → List Xad → List Xad
 with_all_written [] es = es
 with_all_written (x ∷ xs) es = with_all_written xs (with_written x es)
-
--- Each block of the extent was a hole, or wasn't recorded and has the address that it had.
-abbrev pub MayWrite : Xad → List Xad → Type 0
-MayWrite x [] = Unit {0}
-MayWrite x (e ∷ es) = ((end_of e ≤ x.offset) ⊎ ((end_of x ≤ e.offset) ⊎ ((is_recorded e ≡ false) × (e.at.addr + x.offset ≡ x.at.addr + e.offset)))) × MayWrite x es
 
 -- ---- block by block
 

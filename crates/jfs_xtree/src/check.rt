@@ -51,8 +51,8 @@ fn is_within(x: &Xad, blocks: u32) -> bool
     len >= 1 && addr + u64::from(len) <= u64::from(blocks)
 }
 
-/// A leaf has bit 2.
-pub(crate) fn is_leaf(flag: u8) -> bool
+/// Whether the flag of a page that breaks no rule is a leaf's: a leaf has the bit 0x02, an inner page 0x04.
+pub fn is_leaf(flag: u8) -> bool
     ensures { result ≡ is_leaf flag }
 {
     flag % 8 == 2 || flag % 8 == 3

@@ -80,7 +80,7 @@ fn with_one_block(before: Xad, first: bool) -> Xad
 }
 
 /// The entry of a child: a page, and the key from which on its entries stand.
-pub(crate) fn child_entry(key: u64, page: u32) -> Xad
+pub fn child_entry(key: u64, page: u32) -> Xad
     ensures is { result ≡ child_entry key page }
     ensures fits { key < 2 ^ 40 → FitsXad result }
 {

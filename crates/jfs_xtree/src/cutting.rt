@@ -21,7 +21,7 @@ use crate::find::{handed_on, root_form};
 use crate::free_below::Cut;
 use jfs_bits::{PageKind, Pxd, PxdList};
 use jfs_ranges::{Edit, PageView, Tx, ViewError};
-use jfs_tree::{Draft, NO_PAGE, copy_tx, free_pages, tell_draft};
+use jfs_tree::{Draft, NO_PAGE, copy_of, copy_tx, free_pages, tell_draft};
 use jfs_xtpage::xt_set_kind;
 use std::alloc::{AllocError, Global};
 
@@ -61,14 +61,6 @@ pub fn cut_to<V: PageView>(
             Err(e)
         }
     }
-}
-
-fn copy_of(alloc: Global, bytes: &[u8]) -> Result<Vec<u8>, AllocError>
-    ensures { IfOk result (λ copy. copy.items ≡ bytes.now) }
-{
-    let mut copy = Vec::new(alloc);
-    copy.extend_from_slice(bytes)?;
-    Ok(copy)
 }
 
 #[tactic(auto, using(crate::proofs::Roots::form_fits))]

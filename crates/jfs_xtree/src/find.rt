@@ -45,7 +45,7 @@ pub fn lookup<V: PageView>(view: &mut V, root: &[u8], offset: u64) -> Result<Opt
 }
 
 /// The form of a root, by its size.
-pub(crate) fn root_form(root: &[u8]) -> XtForm
+pub fn root_form(root: &[u8]) -> XtForm
     ensures { result ≡ root_form (length root.now) }
 {
     if root.len() == 96 {
@@ -65,8 +65,8 @@ pub(crate) fn point(offset: u64) -> Xad
     }
 }
 
-/// An error of the tree's pages, handed on.
-pub(crate) fn handed_on(e: TreeError) -> XtError
+/// An error of a tree's pages as one of a file's extents; want of memory is one of the view.
+pub fn handed_on(e: TreeError) -> XtError
     ensures { result ≡ handed_on e }
 {
     match e {

@@ -13,10 +13,10 @@ returns-then-list-gt-ENTRIES-clause-inner c = λ blocks.
 
 pub returns-clause-leaf : goal.returns-clause-leaf
 returns-clause-leaf c = λ blocks.
-    leaf_spreads blocks c.args.list.now c.args.page.0 c.args.n c.args.draft.now.pages.items c.put_page.new.draft.pages.items c.args.stack.now.items c.args.stack.now.items None
-    ((let l = c.if-list-gt-ENTRIES.false in omega (arith, l)), refl, record { page = c.refill.new.bytes; puts = c.in_ok-put_page.ensures.puts; entries = c.refill.ensures.entries; head = c.refill.ensures.head; reads = c.refill.ensures.reads Full })
+    leaf_spreads blocks c.args.list.now c.args.page.0 c.args.n c.args.draft.now.pages.items c.put_one.new.draft.pages.items c.args.stack.now.items c.args.stack.now.items None
+    ((let l = c.if-list-gt-ENTRIES.false in omega (arith, l)), refl, record { page = c.refill.new.bytes; puts = c.in_ok-put_one.ensures.puts; entries = c.refill.ensures.entries; head = c.refill.ensures.head; reads = c.refill.ensures.reads Full })
 
 pub returns-clause-inner : goal.returns-clause-inner
 returns-clause-inner c = λ blocks.
-    inner_spreads blocks c.args.list.now c.args.page.0 c.args.n c.args.draft.now.pages.items c.put_page.new.draft.pages.items c.args.stack.now.items c.args.stack.now.items None
-    ((let l = c.if-list-gt-ENTRIES.false in omega (arith, l)), refl, record { page = c.refill.new.bytes; puts = c.in_ok-put_page.ensures.puts; entries = c.refill.ensures.entries; head = c.refill.ensures.head; reads = c.refill.ensures.reads Full })
+    inner_spreads blocks c.args.list.now c.args.page.0 c.args.n c.args.draft.now.pages.items c.put_one.new.draft.pages.items c.args.stack.now.items c.args.stack.now.items None
+    ((let l = c.if-list-gt-ENTRIES.false in omega (arith, l)), refl, record { page = c.refill.new.bytes; puts = c.in_ok-put_one.ensures.puts; entries = c.refill.ensures.entries; head = c.refill.ensures.head; reads = c.refill.ensures.reads Full })

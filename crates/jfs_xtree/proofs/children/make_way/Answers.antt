@@ -1,6 +1,7 @@
 use Rattle.std.proofs.Common.{ap, sym, ◌∙◌, arith, take, drop, ◌++◌, ◌∷◌, ◌+◌, ◌==◌}
 use Rattle.jfs_xtpage.specs.Page.{entries_of, entry_of, end_of}
-use Rattle.jfs_xtree.proofs.Inners.{cut_at, lowered_not}
+use Rattle.jfs_xtree.proofs.Ways.{cut_at}
+use Rattle.jfs_xtree.proofs.Inners.{lowered_not}
 use Rattle.jfs_xtree.proofs.children.make_way.Goals as goal
 
 pub returns-else-end_of-key-clause-entries : goal.returns-else-end_of-key-clause-entries

@@ -1,7 +1,7 @@
 use Rattle.std.proofs.Common.{ap, arith}
 use Rattle.jfs_bits.specs.declared.extent.Xad.{Xad}
 use Rattle.jfs_xtpage.specs.Page.{count_of}
-use Rattle.jfs_xtree.proofs.Inners.{page_within}
+use Rattle.jfs_xtree.proofs.Ways.{page_within}
 use Rattle.jfs_xtree.proofs.children.page_of.Goals as goal
 
 pub overflow_cast-result : goal.overflow_cast-result

@@ -1,6 +1,6 @@
 use Rattle.std.proofs.Common.{ap, sym, ◌∙◌, arith, take, drop, ◌++◌, ◌∷◌, ◌+◌}
 use Rattle.jfs_xtpage.specs.Page.{entries_of, entry_of, end_of}
-use Rattle.jfs_xtree.proofs.Inners.{cut_at}
+use Rattle.jfs_xtree.proofs.Ways.{cut_at}
 use Rattle.jfs_xtree.proofs.CutRows.{up_to_same}
 use Rattle.jfs_xtree.proofs.cut_leaf.shorten.Goals as goal
 

@@ -1,6 +1,6 @@
 use Rattle.std.proofs.Common.{◌≡◌, ◌∙◌, sym, ap, subst, ◌+◌, ◌-◌, ◌==◌, ◌++◌, ◌∷◌, take, drop, arith}
 use Rattle.jfs_bits.specs.declared.extent.Xad.{Xad}
-use Rattle.jfs_xtpage.specs.Page.{head_of, entries_of, entry_of, count_of}
+use Rattle.jfs_xtpage.specs.Page.{entries_of, entry_of, count_of}
 use Rattle.jfs_xtpage.specs.declared.head.XtHead.{XtHead}
 use Rattle.jfs_xtree.specs.Node.{with_at, lowered, child_entry}
 use Rattle.jfs_xtree.proofs.Inners.{takes_of, child_parted}

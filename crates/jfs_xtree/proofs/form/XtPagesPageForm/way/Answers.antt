@@ -5,7 +5,7 @@ use Rattle.jfs_xtpage.proofs.Entries.{length-entries}
 use Rattle.jfs_tree.specs.Form.{LeadsDown}
 use Rattle.jfs_xtree.specs.Node.{is_leaf, xt_scale, xt_node}
 use Rattle.jfs_xtree.proofs.Reading.{sound_leaf, sound_inner, inner_is, is_rising}
-use Rattle.jfs_xtree.proofs.Inners.{leads_down, tells_last}
+use Rattle.jfs_xtree.proofs.Ways.{leads_down, tells_last}
 use Rattle.jfs_xtree.proofs.Behind.{rising_keys}
 use Rattle.jfs_xtree.proofs.form.XtPagesPageForm.way.Goals as goal
 
