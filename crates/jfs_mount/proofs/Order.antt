@@ -1,14 +1,11 @@
 -- The rows of a mount, one after another, up to the first that is broken.
-use Rattle.std.proofs.Common.{◌≡◌, refl, sym, ◌∙◌, subst, true, false, List, [], ◌∷◌, Option, Some, None, is_some, Result, Ok, Err, IfOk}
+use Rattle.std.proofs.Common.{◌≡◌, refl, sym, ap, ◌∙◌, ℕ, List, [], ◌∷◌, Option, Some, None}
 use Rattle.jfs_bits.specs.Broken.{Row, first_broken}
-use Rattle.jfs_disk.specs.Image.{Image, page_of}
-use Rattle.jfs_super.specs.declared.fields.Super.{Super}
+use Rattle.jfs_bits.proofs.Broken.{later, earlier}
 use Rattle.jfs_objects.specs.Volume.{home}
-use Rattle.jfs_mount.specs.Subject.{Subject, subject_of, volume}
+use Rattle.jfs_mount.specs.Subject.{Subject, volume}
 use Rattle.jfs_mount.specs.Mount.{BadMount, bmap_row, imap_row, mapsize_row, nextiag_row, extents_row, root_row, mount_rows, broken_mount}
-use Rattle.jfs_mount.specs.Steps.{AreRead, Finds, FindsRoot, broken}
-use Rattle.jfs_mount.specs.declared.maps.Maps.{Maps}
-use Rattle.jfs_mount.proofs.Rows.{goes_on, stops, is_none}
+use Rattle.jfs_mount.specs.Steps.{broken}
 
 -- the rows from each one on
 abbrev pub from_root : Subject → List (Row BadMount)
@@ -30,19 +27,32 @@ pub all_rows : (s : Subject) → broken_mount s ≡ first_broken (bmap_row s ∷
 unfolding mount_rows
 all_rows s = refl
 
-pub next : (m : Option BadMount) (r : Row BadMount) (rows : List (Row BadMount)) (o : Option BadMount) → m ≡ first_broken (r ∷ rows) → o ≡ broken r → false ≡ is_some o → m ≡ first_broken rows
-next m r rows o e f h = e ∙ goes_on r rows o f (is_none o (sym h))
+-- a rule that holds leaves the answer to the rules after it
+pub passes : (m : Option BadMount) (r : Row BadMount) (rows : List (Row BadMount)) → m ≡ first_broken (r ∷ rows) → None ≡ broken r → m ≡ first_broken rows
+passes m r rows e h = e ∙ later (r ∷ []) rows (sym h)
 
-pub here : (m : Option BadMount) (r : Row BadMount) (rows : List (Row BadMount)) (o : Option BadMount) → m ≡ first_broken (r ∷ rows) → o ≡ broken r → true ≡ is_some o → o ≡ m
-here m r rows o e f h = stops r rows o f (sym h) ∙ sym e
+pub fails : (m : Option BadMount) (r : Row BadMount) (rows : List (Row BadMount)) (bad : BadMount) → m ≡ first_broken (r ∷ rows) → Some bad ≡ broken r → m ≡ Some bad
+fails m r rows bad e h = e ∙ earlier (r ∷ []) rows bad (sym h)
 
-pub finds_same : (row : Subject → Row BadMount) (i j : Image) (maps : Maps) (o : Option BadMount) → i ≡ j → Finds row i maps o → Finds row j maps o
-finds_same row i j maps o e h = subst (λ (i : Image). Finds row i maps o) e h
+module _ (s : Subject) (bmap : None ≡ broken (bmap_row s)) where
+  pub after_bmap : broken_mount s ≡ first_broken (from_imap s)
+  after_bmap = passes _ (bmap_row s) (from_imap s) (all_rows s) bmap
 
--- the root's row is the last one
-pub last : {E : Type 0} (i j : Image) (maps : Maps) (r : Result (Option BadMount) E) → i ≡ j → IfOk r (FindsRoot i maps)
-    → ((s : Super) → AreRead (subject_of s (page_of j)) maps → broken (extents_row (subject_of s (page_of j))) ≡ None)
-    → ((s : Super) → AreRead (subject_of s (page_of j)) maps → broken_mount (subject_of s (page_of j)) ≡ first_broken (from_root (subject_of s (page_of j))))
-    → IfOk r (λ bad. (s : Super) → AreRead (subject_of s (page_of j)) maps → bad ≡ broken_mount (subject_of s (page_of j)))
-last i j maps (Ok bad) e h fits rest = λ s is. subst (λ (i : Image). FindsRoot i maps bad) e h s is (fits s is) ∙ sym (rest s is)
-last i j maps (Err error) e h fits rest = tt
+  module _ (imap : None ≡ broken (imap_row s)) where
+    pub after_imap : broken_mount s ≡ first_broken (from_mapsize s)
+    after_imap = passes _ (imap_row s) (from_mapsize s) after_bmap imap
+
+    module _ (mapsize : None ≡ broken (mapsize_row s)) where
+      pub after_mapsize : broken_mount s ≡ first_broken (from_nextiag s)
+      after_mapsize = passes _ (mapsize_row s) (from_nextiag s) after_imap mapsize
+
+      module _ (nextiag : None ≡ broken (nextiag_row s)) where
+        pub after_nextiag : broken_mount s ≡ first_broken (from_extents s)
+        after_nextiag = passes _ (nextiag_row s) (from_extents s) after_mapsize nextiag
+
+        pub after_extents : None ≡ broken (extents_row s) → broken_mount s ≡ first_broken (from_root s)
+        after_extents extents = passes _ (extents_row s) (from_root s) after_nextiag extents
+
+-- the root's rule is the last one
+pub root_decides : (s : Subject) (places : List (Option ℕ)) (o : Option BadMount) → places ≡ (volume s).extents → o ≡ broken (root_row s (home places 2)) → broken_mount s ≡ first_broken (from_root s) → broken_mount s ≡ o
+root_decides s places o e h rest = rest ∙ ap (λ (places : List (Option ℕ)). broken (root_row s (home places 2))) (sym e) ∙ sym h

@@ -1,14 +1,13 @@
 -- What each step finds is its row's answer, and the first that finds any has the mount's.
-use Rattle.std.proofs.Common.{◌≡◌, ◌<◌, ◌≤◌, refl, sym, ap, ◌∙◌, subst, ℕ, suc, ◌+◌, ◌*◌, ◌/◌, Bool, true, false, ◌&&◌, ◌==◌, nat_le, if◌then◌else◌, List, [], ◌∷◌, Option, Some, None, is_some, arith}
+use Rattle.std.proofs.Common.{◌≡◌, ◌≤◌, refl, sym, ap, ◌∙◌, ℕ, suc, true, false, ◌&&◌, ◌==◌, nat_le, if◌then◌else◌, List, [], Option, Some, None, is_some}
 use Rattle.std.specs.List.{range_with_len, prefix_len}
 use Rattle.std.specs.Option.{unwrap_or}
-use Rattle.std.proofs.lemmas.Bool.{eq-eqb, ne_eqb, le-leb, lt-leb}
+use Rattle.std.proofs.lemmas.Bool.{eq-eqb, ne_eqb, le-leb}
 use Rattle.jfs_bits.specs.declared.extent.Xad.{Xad}
 use Rattle.jfs_bits.specs.declared.rule.Rule.{Rule}
 use Rattle.jfs_bits.specs.declared.rule.Rule.TheVariants as rules
-use Rattle.jfs_bits.specs.Broken.{Row, first_broken}
+use Rattle.jfs_bits.specs.Broken.{Row}
 use Rattle.jfs_bits.specs.Field.{field_of}
-use Rattle.jfs_bits.proofs.Broken.{later, earlier}
 use Rattle.jfs_bmap.specs.MapFile.{pages_of}
 use Rattle.jfs_objects.specs.Contents.{block_of, bytes_at}
 use Rattle.jfs_objects.specs.Image.{file_extents, file_page}
@@ -22,22 +21,6 @@ holds r h = rw h refl
 
 pub breaks : (r : Row BadMount) (bad : BadMount) → r.holds ≡ false → bad ≡ r.answer → Some bad ≡ broken r
 breaks r bad h e = rw h (ap Some e)
-
--- ---- one row after another
-
-pub goes_on : (r : Row BadMount) (rows : List (Row BadMount)) (o : Option BadMount) → o ≡ broken r → o ≡ None → first_broken (r ∷ rows) ≡ first_broken rows
-goes_on r rows o e h = later (r ∷ []) rows (sym e ∙ h)
-
-stops_at : (r : Row BadMount) (rows : List (Row BadMount)) (o : Option BadMount) (b : BadMount) → o ≡ broken r → o ≡ Some b → o ≡ first_broken (r ∷ rows)
-stops_at r rows o b e h = h ∙ sym (earlier (r ∷ []) rows b (sym e ∙ h))
-
-pub stops : (r : Row BadMount) (rows : List (Row BadMount)) (o : Option BadMount) → o ≡ broken r → is_some o ≡ true → o ≡ first_broken (r ∷ rows)
-stops r rows (Some b) e h = stops_at r rows (Some b) b e refl
-stops r rows None e h = cc h
-
-pub is_none : {A : Type 0} (o : Option A) → is_some o ≡ false → o ≡ None
-is_none None h = refl
-is_none (Some b) h = cc h
 
 -- ---- each row
 

@@ -81,7 +81,3 @@ mount_rows s = bmap_row s ∷ imap_row s ∷ mapsize_row s ∷ nextiag_row s ∷
 -- the first rule that a mount finds broken
 abbrev pub broken_mount : Subject → Option BadMount
 broken_mount s = first_broken (mount_rows s)
-
--- States that a check takes: clean, dirty, and one whose redo failed. Others are refused with the superblock's rule `state`.
-abbrev pub is_checked_state : ℕ → Bool
-is_checked_state state = state == 0 || state == 2 || state == 4

@@ -11,5 +11,6 @@ mod numbers;
 mod root;
 
 pub use bad::BadMount;
-pub use maps::Maps;
-pub use mount::{first_broken, mounted_maps};
+pub use blocks::from_block;
+pub use maps::{Maps, Mounted};
+pub use mount::{first_broken, mounted};

@@ -1,4 +1,4 @@
-//! The files of the two maps.
+//! What a mount reads of a volume.
 
 ghost use Rattle.jfs_mount.specs.Files.{LieWithin};
 
@@ -16,4 +16,13 @@ pub struct Maps {
     pub inodes: InodeMap,
     ghost map_lies: { LieWithin blocks block_map },
     ghost inodes_lie: { LieWithin blocks inodes.extents },
+}
+
+/// A volume that breaks no rule of a mount.
+#[derive(Drop)]
+pub struct Mounted {
+    /// The files of the two maps.
+    pub maps: Maps,
+    /// The first block of each inode extent that is there; each IAG has 128 places.
+    pub places: Vec<Option<u32>>,
 }

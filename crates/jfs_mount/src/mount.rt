@@ -1,18 +1,19 @@
 //! The first rule of a mount that is broken.
 
-ghost use Rattle.std.specs.Prelude.{◌≡◌, ◌≤◌, None, IfOk};
+ghost use Rattle.std.specs.Prelude.{◌≡◌, ◌≤◌, ◌*◌, IfOk, length};
 ghost use Rattle.jfs_disk.specs.Image.{page_of};
 ghost use Rattle.jfs_ranges.specs.View.{CarriesCount};
 ghost use Rattle.jfs_super.specs.Rules.{blocks_of};
 ghost use Rattle.jfs_super.specs.declared.fields.Super.{Super};
+ghost use Rattle.jfs_each.specs.Each.{AllFit};
 ghost use Rattle.jfs_mount.specs.Subject.{subject_of};
 ghost use Rattle.jfs_mount.specs.Mount.{broken_mount};
-ghost use Rattle.jfs_mount.specs.Steps.{AreRead, Mounts};
+ghost use Rattle.jfs_mount.specs.Steps.{FindsAll, IsMounted, Mounts};
 
 use crate::bad::BadMount;
-use crate::extents::bad_extent;
+use crate::extents::places_of;
 use crate::files::read_maps;
-use crate::maps::Maps;
+use crate::maps::{Maps, Mounted};
 use crate::numbers::{bad_bmap, bad_imap, bad_mapsize, bad_nextiag};
 use crate::root::bad_root;
 use jfs_ranges::{PageView, ViewError};
@@ -33,64 +34,72 @@ pub fn first_broken<V: PageView>(alloc: Global, view: &mut V) -> Result<Option<B
     ensures mount { V.PageView.tells → IfOk result (λ bad. (s : Super) → blocks_of s ≡ V.PageView.block_count view.old →
         bad ≡ broken_mount (subject_of s (page_of (V.PageView.image view.old)))) }
 {
-    let maps = read_maps(alloc, view)?;
-    first_of(view, &maps)
+    match mounted(alloc, view)? {
+        Ok(_) => Ok(None),
+        Err(bad) => Ok(Some(bad)),
+    }
 }
 
-/// The maps of a volume that breaks no rule of a mount; else the first rule that is broken, as `first_broken` has it.
+/// The maps of a volume that breaks no rule of a mount, and the places of its inode extents; else the first rule that is broken, as `first_broken` has it. Each page
+/// of the inode map is read once.
 ///
 /// # Errors
 ///
 /// A page could not be read, or memory ran out.
-pub fn mounted_maps<V: PageView>(
+pub fn mounted<V: PageView>(
     alloc: Global,
     view: &mut V,
-) -> Result<Result<Maps, BadMount>, ViewError>
+) -> Result<Result<Mounted, BadMount>, ViewError>
     requires { 15 ≤ V.PageView.block_count view.old }
     ensures image { V.PageView.tells → V.PageView.image view.new ≡ V.PageView.image view.old }
     ensures count_of_blocks { V.PageView.block_count view.new ≡ V.PageView.block_count view.old }
     ensures device { V.PageView.device view.new ≡ V.PageView.device view.old }
     ensures fault { CarriesCount (V.PageView.fault_count view.old) (V.PageView.fault_count view.new) result }
-    ensures maps { IfOk result (λ answer. IfOk answer (λ maps. (maps.blocks ≡ V.PageView.block_count view.old) × (maps.inodes.iags ≤ 65536))) }
+    ensures maps { IfOk result (λ answer. IfOk answer (IsMounted (V.PageView.block_count view.old))) }
     ensures mounts { V.PageView.tells → IfOk result (λ answer. (s : Super) → blocks_of s ≡ V.PageView.block_count view.old →
         Mounts (subject_of s (page_of (V.PageView.image view.old))) answer) }
 {
     let maps = read_maps(alloc, view)?;
-    match first_of(view, &maps)? {
-        Some(bad) => Ok(Err(bad)),
-        None => Ok(Ok(maps)),
+    match places_if_sound(alloc, view, &maps)? {
+        Ok(places) => Ok(Ok(Mounted { maps, places })),
+        Err(bad) => Ok(Err(bad)),
     }
 }
 
-fn first_of<V: PageView>(view: &mut V, maps: &Maps) -> Result<Option<BadMount>, ViewError>
+/// The places of the inode extents, where the maps break no rule; else the first rule that is broken.
+fn places_if_sound<V: PageView>(
+    alloc: Global,
+    view: &mut V,
+    maps: &Maps,
+) -> Result<Result<Vec<Option<u32>>, BadMount>, ViewError>
     requires { maps.now.blocks ≡ V.PageView.block_count view.old }
     ensures image { V.PageView.tells → V.PageView.image view.new ≡ V.PageView.image view.old }
     ensures count_of_blocks { V.PageView.block_count view.new ≡ V.PageView.block_count view.old }
     ensures device { V.PageView.device view.new ≡ V.PageView.device view.old }
     ensures fault { CarriesCount (V.PageView.fault_count view.old) (V.PageView.fault_count view.new) result }
-    ensures mount { V.PageView.tells → IfOk result (λ bad. (s : Super) → AreRead (subject_of s (page_of (V.PageView.image view.old))) maps.now →
-        bad ≡ broken_mount (subject_of s (page_of (V.PageView.image view.old)))) }
-    ensures few { IfOk result (λ bad. bad ≡ None → maps.now.inodes.iags ≤ 65536) }
+    ensures few { IfOk result (λ answer. IfOk answer (λ places. maps.now.inodes.iags ≤ 65536)) }
+    ensures all { IfOk result (λ answer. IfOk answer (λ places. length places.items ≡ 128 * maps.now.inodes.iags)) }
+    ensures fit { IfOk result (λ answer. IfOk answer (λ places. AllFit maps.now.blocks places.items)) }
+    ensures finds { V.PageView.tells → IfOk result (FindsAll (V.PageView.image view.old) maps.now) }
 {
-    let bmap = bad_bmap(maps);
-    if bmap.is_some() {
-        return Ok(bmap);
+    if let Some(bad) = bad_bmap(maps) {
+        return Ok(Err(bad));
     }
-    let imap = bad_imap(maps);
-    if imap.is_some() {
-        return Ok(imap);
+    if let Some(bad) = bad_imap(maps) {
+        return Ok(Err(bad));
     }
-    let mapsize = bad_mapsize(view, maps)?;
-    if mapsize.is_some() {
-        return Ok(mapsize);
+    if let Some(bad) = bad_mapsize(view, maps)? {
+        return Ok(Err(bad));
     }
-    let nextiag = bad_nextiag(maps);
-    if nextiag.is_some() {
-        return Ok(nextiag);
+    if let Some(bad) = bad_nextiag(maps) {
+        return Ok(Err(bad));
     }
-    let extents = bad_extent(view, maps)?;
-    if extents.is_some() {
-        return Ok(extents);
+    let places = match places_of(alloc, view, maps)? {
+        Ok(places) => places,
+        Err(bad) => return Ok(Err(bad)),
+    };
+    match bad_root(view, maps, places.as_slice())? {
+        Some(bad) => Ok(Err(bad)),
+        None => Ok(Ok(places)),
     }
-    bad_root(view, maps)
 }

@@ -1,7 +1,8 @@
 //! Rules on the pages of the maps' files and on the maps' numbers.
 
-ghost use Rattle.std.specs.Prelude.{◌≡◌, ◌≤◌, ◌==◌, if◌then◌else◌, Some, None, IfOk};
+ghost use Rattle.std.specs.Prelude.{◌≡◌, ◌≤◌, ◌==◌, if◌then◌else◌, ℕ, true, is_some, Some, None, IfOk};
 ghost use Rattle.jfs_bits.specs.declared.rule.Rule.TheVariants.{Mapsize};
+ghost use Rattle.jfs_objects.specs.Contents.{block_of};
 ghost use Rattle.jfs_ranges.specs.View.{CarriesCount};
 ghost use Rattle.jfs_mount.specs.Subject.{Subject};
 ghost use Rattle.jfs_mount.specs.Mount.{bmap_row, imap_row, mapsize_row, nextiag_row};
@@ -21,7 +22,7 @@ pub(crate) fn bad_bmap(maps: &Maps) -> Option<BadMount>
     ensures { (s : Subject) → AreRead s maps.now → result ≡ broken (bmap_row s) }
 {
     let pages = 4 + (u64::from(maps.blocks) + 8191) / 8192;
-    let covered = covered(maps.block_map.as_slice(), maps.blocks, pages);
+    let covered = covered(maps.block_map.as_slice(), pages);
     if covered == pages {
         return None;
     }
@@ -34,10 +35,11 @@ pub(crate) fn bad_bmap(maps: &Maps) -> Option<BadMount>
 
 /// The extents of the inode map's file cover all its pages: one, and one for each IAG.
 pub(crate) fn bad_imap(maps: &Maps) -> Option<BadMount>
-    ensures { (s : Subject) → AreRead s maps.now → result ≡ broken (imap_row s) }
+    ensures finds { (s : Subject) → AreRead s maps.now → result ≡ broken (imap_row s) }
+    ensures covered { result ≡ None → (j : ℕ) → j ≤ maps.now.inodes.iags → is_some (block_of maps.now.inodes.extents j) ≡ true }
 {
     let pages = u64::from(maps.inodes.iags) + 1;
-    let covered = covered(maps.inodes.extents.as_slice(), maps.blocks, pages);
+    let covered = covered(maps.inodes.extents.as_slice(), pages);
     if covered == pages {
         return None;
     }

@@ -1,10 +1,10 @@
 //! The rule on the root directory.
 
-ghost use Rattle.std.specs.Prelude.{◌≡◌, ◌<◌, ◌==◌, if◌then◌else◌, Some, None, IfOk, unwrap_or};
+ghost use Rattle.std.specs.Prelude.{◌≡◌, ◌<◌, ◌==◌, if◌then◌else◌, Some, None, IfOk};
 ghost use Rattle.jfs_disk.specs.Image.{page_of};
 ghost use Rattle.jfs_inode.specs.Rules.{type_of};
-ghost use Rattle.jfs_objects.specs.Contents.{block_of};
-ghost use Rattle.jfs_objects.specs.Volume.{slot_of};
+ghost use Rattle.jfs_objects.specs.Volume.{home, slot_of};
+ghost use Rattle.jfs_each.specs.Each.{AllFit};
 ghost use Rattle.jfs_bits.specs.declared.rule.Rule.TheVariants.{Root};
 ghost use Rattle.jfs_ranges.specs.View.{CarriesCount};
 ghost use Rattle.jfs_mount.specs.Steps.{FindsRoot};
@@ -15,45 +15,36 @@ use crate::maps::Maps;
 use jfs_bits::Rule;
 use jfs_inode::{Dinode, inode_in};
 use jfs_ranges::{PageView, ViewError};
-use jfs_reader::ReadError;
 
-/// Inode 2 is a directory. Its inode extent was found to lie within the blocks; on a view that tells another place now, it is that extent which breaks a rule.
+/// Inode 2, the root, is a directory.
 pub(crate) fn bad_root<V: PageView>(
     view: &mut V,
     maps: &Maps,
+    places: &[Option<u32>],
 ) -> Result<Option<BadMount>, ViewError>
-    requires { maps.now.blocks ≡ V.PageView.block_count view.old }
+    requires blocks { maps.now.blocks ≡ V.PageView.block_count view.old }
+    requires fit { AllFit maps.now.blocks places.now }
     ensures image { V.PageView.tells → V.PageView.image view.new ≡ V.PageView.image view.old }
     ensures count_of_blocks { V.PageView.block_count view.new ≡ V.PageView.block_count view.old }
     ensures device { V.PageView.device view.new ≡ V.PageView.device view.old }
     ensures fault { CarriesCount (V.PageView.fault_count view.old) (V.PageView.fault_count view.new) result }
-    ensures finds { V.PageView.tells → IfOk result (FindsRoot (V.PageView.image view.old) maps.now) }
+    ensures finds { V.PageView.tells → IfOk result (FindsRoot (V.PageView.image view.old) maps.now places.now) }
 {
-    let home = match maps.inodes.home(view, 2) {
-        Ok(home) => home,
-        Err(ReadError::View(e)) => return Err(e),
-        Err(ReadError::Outside) => unreachable!(),
-    };
-    match home {
-        Some(page) => {
-            if page < u64::from(maps.blocks) {
-                return bad_directory(view, page as u32);
-            }
-            Ok(Some(on_first_iag(maps, Rule::Extents, page)))
-        }
-        None => Ok(Some(on_first_iag(maps, Rule::Root, 0))),
+    match root_page(places) {
+        Some(page) => bad_directory(view, page),
+        None => Ok(Some(BadMount {
+            rule: Rule::Root,
+            page: page_or_zero(maps.inodes.extents.as_slice(), maps.blocks, 1),
+            value: 0,
+        })),
     }
 }
 
-/// A rule that the page of the first IAG breaks.
-fn on_first_iag(maps: &Maps, rule: Rule, value: u64) -> BadMount
-    ensures { result ≡ record { rule = rule; page = unwrap_or (block_of maps.now.inodes.extents 1) 0; value = value } }
+/// The page of inode 2, the first one of the first inode extent.
+fn root_page(places: &[Option<u32>]) -> Option<u32>
+    ensures { result ≡ home places.now 2 }
 {
-    BadMount {
-        rule,
-        page: page_or_zero(maps.inodes.extents.as_slice(), maps.blocks, 1),
-        value,
-    }
+    *places.first()?
 }
 
 /// The inode in slot 2 of this page is a directory.

@@ -34,8 +34,8 @@ pub fn file_extents<V: PageView>(alloc: Global, view: &mut V, k: u32) -> Result<
     }
 }
 
-/// The root of the tree in inode `k` of the aggregate.
-fn aggregate_root<V: PageView>(view: &mut V, k: u32) -> Result<[u8; 288], ViewError>
+/// The root of the tree in inode `k` of the aggregate, whose inodes stand on pages 11 to 14. (JFS Layout.) A fault is the view's.
+pub fn aggregate_root<V: PageView>(view: &mut V, k: u32) -> Result<[u8; 288], ViewError>
     requires number { k < 32 }
     requires size { 15 ≤ V.PageView.block_count view.old }
     ensures image { V.PageView.tells → V.PageView.image view.new ≡ V.PageView.image view.old }
@@ -53,7 +53,7 @@ fn aggregate_root<V: PageView>(view: &mut V, k: u32) -> Result<[u8; 288], ViewEr
 }
 
 /// The root of the tree in an inode.
-pub(crate) fn root_in(d: &Dinode) -> [u8; 288]
+pub fn root_in(d: &Dinode) -> [u8; 288]
     ensures root { result ≡ root_of d.now }
     ensures width { length result ≡ 288 }
 {

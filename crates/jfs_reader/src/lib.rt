@@ -11,7 +11,7 @@ mod view;
 
 pub use blocks::{page_of_block, read_part};
 pub use error::ReadError;
-pub use files::file_extents;
+pub use files::{aggregate_root, file_extents, root_in};
 pub use map::InodeMap;
-pub use object::{extents_of, names_of, read_inode};
+pub use object::{extents_of, has_extents, has_names, names_of, read_inode};
 pub use view::DiskView;

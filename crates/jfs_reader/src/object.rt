@@ -71,13 +71,15 @@ pub fn extents_of<V: PageView>(alloc: Global, view: &mut V, d: &Dinode) -> Resul
     extents(alloc, view, &root_in(d))
 }
 
-fn has_names(d: &Dinode) -> bool
+/// Only a directory has names.
+pub fn has_names(d: &Dinode) -> bool
     ensures { result ≡ has_names d.now }
 {
     d.mode & Dinode::TYPE == Dinode::DIRECTORY
 }
 
-fn has_extents(d: &Dinode) -> bool
+/// A file has extents, and a symbolic link whose target doesn't stand in its inode.
+pub fn has_extents(d: &Dinode) -> bool
     ensures { result ≡ has_extents d.now }
 {
     let mode = d.mode;

@@ -1,4 +1,4 @@
-use Rattle.std.proofs.Common.{◌+◌, ◌/◌, ap, arith}
+use Rattle.std.proofs.Common.{◌+◌, ◌/◌, ap}
 use Rattle.jfs_mount.proofs.Rows.{counted, bmap_holds, bmap_breaks}
 use Rattle.jfs_mount.proofs.numbers.bad_bmap.Goals as goal
 

@@ -1,8 +1,9 @@
-use Rattle.std.proofs.Common.{◌≡◌, ◌≤◌, ◌<◌, ℕ}
+use Rattle.std.proofs.Common.{◌≡◌, ◌<◌, ◌*◌, ℕ, length}
 use Rattle.jfs_disk.specs.Image.{page_of}
 use Rattle.jfs_objects.specs.Contents.{block_of}
-use Rattle.jfs_mount.proofs.Inodes.{AllFit}
-use Rattle.jfs_mount.proofs.extents.bad_extent.Given as goal
+use Rattle.jfs_each.specs.Each.{AllFit}
+use Rattle.jfs_mount.proofs.Inodes.{AreAdded}
+use Rattle.jfs_mount.proofs.extents.places_of.Given as goal
 
 abbrev pub invariant-loop-i : goal.invariant-loop-i
 invariant-loop-i g l = record {
@@ -11,5 +12,7 @@ invariant-loop-i g l = record {
   device : g.V.PageView.device l.view ≡ g.V.PageView.device l.fn.view;
   count : g.V.PageView.fault_count l.view ≡ g.V.PageView.fault_count l.fn.view;
   same : (k : ℕ) → l.i < k → block_of l.rest k ≡ block_of l.maps.inodes.extents k;
-  fit : g.V.PageView.tells → AllFit l.maps.blocks (page_of (g.V.PageView.image l.fn.view)) l.maps.inodes.extents l.i;
+  all : length l.places.items ≡ 128 * l.i;
+  fit : AllFit l.maps.blocks l.places.items;
+  added : g.V.PageView.tells → AreAdded l.maps.blocks (page_of (g.V.PageView.image l.fn.view)) l.maps.inodes.extents (128 * l.i) l.places.items;
 }
