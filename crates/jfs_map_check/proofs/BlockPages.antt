@@ -4,13 +4,13 @@ use Rattle.std.specs.Int.{cast_signed, cast_unsigned}
 use Rattle.std.proofs.lemmas.Int.{of_z-to_z}
 use Rattle.std.proofs.lemmas.Bool.{cases_lt}
 use Rattle.std.proofs.lemmas.Nat.{pow_below}
-use Rattle.jfs_bits.specs.Field.{field_of, range_of, AreBytes}
+use Rattle.jfs_bits.specs.Field.{field_of, range_of}
 use Rattle.jfs_bmap.specs.MapFile.{IsFirstPage, IsMapPage}
 use Rattle.jfs_bmap.proofs.Agreed.{map-pages-same}
-use Rattle.jfs_map_check.specs.Compared.{AgreeOutside, IsSameControl}
+use Rattle.jfs_map_check.specs.Compared.{AgreeOutside, AreBytesOutside, IsSameControl}
 use Rattle.jfs_findings.specs.Maps.{IsFirstPageAs, IsMapPageAs, without_pad}
 use Rattle.jfs_findings.proofs.Compared.{map_page_as}
-use Rattle.jfs_map_check.proofs.Pads.{bytes-pad, is_other, agrees}
+use Rattle.jfs_map_check.proofs.Pads.{bytes-pad, bytes-around, is_other, agrees}
 
 -- ---- the control page
 
@@ -48,12 +48,12 @@ first_decided blocks agsize taken page canon r is small little same =
 
 -- ---- the pages with a pad
 
-padded_decided : (blocks agsize : ℕ) (taken : ℕ → Bool) (n at width : ℕ) (page canon : List ℕ) (r : Bool) → at + width ≤ 4096 → length page ≡ 4096 → AreBytes page → AreBytes canon
+padded_decided : (blocks agsize : ℕ) (taken : ℕ → Bool) (n at width : ℕ) (page canon : List ℕ) (r : Bool) → at + width ≤ 4096 → length page ≡ 4096 → AreBytesOutside at (at + width) page → AreBytesOutside at (at + width) canon
     → length canon ≡ 4096 → range_of canon at width ≡ replicate width 0 → IsMapPage blocks agsize taken n canon
     → IsTrue r ↔ AgreeOutside at (at + width) page canon → IsTrue r ↔ IsMapPage blocks agsize taken n (without_pad at width page)
 padded_decided blocks agsize taken n at width page canon r within size bytes more long pad is same = (
   λ y. subst (IsMapPage blocks agsize taken n) (sym (is_other at width page size within canon long pad (same.0 y))) is,
-  λ p. same.1 (agrees at width page size within canon (map-pages-same blocks agsize n taken taken (without_pad at width page) canon (λ b. refl) (bytes-pad at width page size within bytes) more p is)),
+  λ p. same.1 (agrees at width page size within canon (map-pages-same blocks agsize n taken taken (without_pad at width page) canon (λ b. refl) (bytes-pad at width page size within bytes) (bytes-around at width canon long pad more) p is)),
 )
 
 -- ---- each page
@@ -68,12 +68,12 @@ module _ (blocks agsize : ℕ) (taken : ℕ → Bool) (n : ℕ) (page canon : Li
   pub decided_first : n ≡ 0 → field_of page 1088 1 < 2 ^ 8 → field_of canon 1088 1 < 2 ^ 8 → IsTrue r ↔ IsSameControl page canon → IsTrue r ↔ IsMapPageAs blocks agsize taken n page
   decided_first e small little same = decided_at 0 e (first_decided blocks agsize taken page canon r (canon_at 0 e) small little same)
 
-  pub decided_control : n ≡ 3 → length page ≡ 4096 → AreBytes page → AreBytes canon → IsTrue r ↔ AgreeOutside 1382 4096 page canon → IsTrue r ↔ IsMapPageAs blocks agsize taken n page
+  pub decided_control : n ≡ 3 → length page ≡ 4096 → AreBytesOutside 1382 4096 page → AreBytesOutside 1382 4096 canon → IsTrue r ↔ AgreeOutside 1382 4096 page canon → IsTrue r ↔ IsMapPageAs blocks agsize taken n page
   decided_control e size bytes more same =
       let c = canon_at 3 e in
       decided_at 3 e (padded_decided blocks agsize taken 3 1382 2714 page canon r (omega arith) size bytes more c.size c.pad c same)
 
-  pub decided_dmap : 4 ≤ n → length page ≡ 4096 → AreBytes page → AreBytes canon → IsTrue r ↔ AgreeOutside 374 2048 page canon → IsTrue r ↔ IsMapPageAs blocks agsize taken n page
+  pub decided_dmap : 4 ≤ n → length page ≡ 4096 → AreBytesOutside 374 2048 page → AreBytesOutside 374 2048 canon → IsTrue r ↔ AgreeOutside 374 2048 page canon → IsTrue r ↔ IsMapPageAs blocks agsize taken n page
   decided_dmap most size bytes more same =
       let e : n ≡ suc (suc (suc (suc (n - 4)))) = omega arith in
       let c = canon_at (suc (suc (suc (suc (n - 4))))) e in

@@ -1,5 +1,5 @@
 -- IAGs by their parts of the inodes in use, one after the other.
-use Rattle.std.proofs.Common.{◌≡◌, ◌≤◌, ◌<◌, ◌+◌, ◌-◌, ◌*◌, ◌/◌, ◌%◌, ◌↔◌, ◌&&◌, ℕ, zero, suc, Bool, true, false, not, IsTrue, inl, inr, List, [], take, drop, Option, Some, None, Result, Ok, Err, IfOk, refl, sym, ap, ap₂, subst, ◌∙◌, arith}
+use Rattle.std.proofs.Common.{◌≡◌, ◌≤◌, ◌<◌, ◌+◌, ◌-◌, ◌*◌, ◌/◌, ◌%◌, ◌↔◌, ◌&&◌, ℕ, zero, suc, Bool, false, not, IsTrue, inl, inr, List, [], take, drop, Some, None, Result, Ok, Err, IfOk, refl, sym, ap, ap₂, subst, ◌∙◌, arith}
 use Rattle.std.proofs.lemmas.Bool.{cases_eq}
 use Rattle.byteorder.specs.Endian.{little_from}
 use Rattle.jfs_bits.specs.declared.descriptor.Pxd.{Pxd}
@@ -13,13 +13,13 @@ use Rattle.jfs_iag.proofs.Agreed.{there-same, free-same, inode-same}
 use Rattle.jfs_imap.proofs.Listed.{same-part}
 use Rattle.jfs_imap.proofs.Sums.{count-next}
 use Rattle.jfs_disk.specs.Image.{Image, page_of}
-use Rattle.jfs_objects.specs.Contents.{block_of, bytes_at}
+use Rattle.jfs_objects.specs.Contents.{block_of}
 use Rattle.jfs_reader.specs.declared.error.ReadError.{ReadError}
 use Rattle.jfs_findings.specs.Gains.{Gains}
 use Rattle.jfs_findings.specs.Maps.{IsIagAs}
 use Rattle.jfs_findings.specs.declared.finding.Finding.{Finding}
 use Rattle.jfs_map_check.specs.declared.iag_page.IagReport.{IagReport}
-use Rattle.jfs_map_check.specs.Inodes.{bytes_in, places_of, extent_in, part_of, IsWrongIag, IsWrongIagIn, IsWrongIagBelow, AreCounts, AreTotals}
+use Rattle.jfs_map_check.specs.Inodes.{places_of, extent_in, part_of, IsWrongIag, IsWrongIagIn, IsWrongIagBelow, AreCounts, AreTotals}
 use Rattle.jfs_map_check.proofs.Gaining.{gains_none, gains_then, gains_as}
 
 -- ---- the same inodes and extents
@@ -125,6 +125,26 @@ module _ (taken : ℕ → Bool) (pages : ℕ → List ℕ) (es : List Xad) (k : 
     extents = extents ∙ sym (count_below-nothing 128 (λ e. is_there (extent_in pages es (128 * k + e))) (λ e h. no_place e h at));
     free = free ∙ sym (count_below-nothing 4096 (λ i. is_free_inode taken (extent_in pages es) (4096 * k + i)) (λ i h. free_at i ∙ ap (λ (b : Bool). b && not (part_of taken k i)) (no_place (i / 32) (omega (arith, h)) at)));
   }
+
+-- the same by extents that have the same block there
+module _ (taken : ℕ → Bool) (pages : ℕ → List ℕ) (es rest : List Xad) (k : ℕ) where
+  extent_by : (e : ℕ) → e < 128 → block_of rest (suc k) ≡ block_of es (suc k) → extent_in pages rest (128 * k + e) ≡ extent_in pages es (128 * k + e)
+  extent_by e h same =
+      let quotient : (128 * k + e) / 128 ≡ k = omega (arith, h) in
+      rw (quotient, same) refl
+
+  pub counts_by : (report : IagReport) → block_of rest (suc k) ≡ block_of es (suc k) → AreCounts taken pages rest k report → AreCounts taken pages es k report
+  counts_by report same c = record {
+    extents = c.extents ∙ count_below-same 128 (λ e. is_there (extent_in pages rest (128 * k + e))) (λ e. is_there (extent_in pages es (128 * k + e))) (λ e h. ap is_there (extent_by e h same));
+    free = c.free ∙ count_below-same 4096 (λ i. is_free_inode taken (extent_in pages rest) (4096 * k + i)) (λ i. is_free_inode taken (extent_in pages es) (4096 * k + i)) (λ i h.
+        free_at taken pages rest k i ∙ ap (λ (b : Bool). b && not (part_of taken k i)) (ap is_there (extent_by (i / 32) (omega (arith, h)) same)) ∙ sym (free_at taken pages es k i));
+  }
+
+  pub gains_by : (xs ys : List Finding) → block_of rest (suc k) ≡ block_of es (suc k) → Gains (IsWrongIagIn taken pages rest k) xs ys → Gains (IsWrongIagIn taken pages es k) xs ys
+  gains_by xs ys same g =
+      gains_as (IsWrongIagIn taken pages rest k) (IsWrongIagIn taken pages es k) xs ys g
+      (λ f p. record { page = p.page; stands = sym same ∙ p.stands; wrong = p.wrong })
+      (λ f p. record { page = p.page; stands = same ∙ p.stands; wrong = p.wrong })
 
 -- ---- all IAGs
 

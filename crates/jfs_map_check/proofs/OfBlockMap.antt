@@ -1,6 +1,6 @@
 -- What is wrong with the pages of the block map's file are the volume's findings of the block map.
-use Rattle.std.proofs.Common.{◌≡◌, ◌≢◌, ◌≤◌, ◌<◌, ◌+◌, ◌-◌, ◌*◌, ◌/◌, ◌%◌, ℕ, Bool, true, false, inl, inr, List, Some, length, refl, sym, ap, subst, ◌∙◌, arith}
-use Rattle.std.specs.Prelude.{nat_le, nat_lt, ◌==◌, ◌&&◌, ◌||◌, if◌then◌else◌}
+use Rattle.std.proofs.Common.{◌≡◌, ◌≤◌, ◌<◌, ◌+◌, ◌-◌, ◌*◌, ◌/◌, ◌%◌, ℕ, Bool, true, false, inl, inr, List, length, refl, sym, ap, subst, ◌∙◌, arith}
+use Rattle.std.specs.Prelude.{nat_le, nat_lt, ◌==◌, ◌&&◌, if◌then◌else◌}
 use Rattle.std.proofs.Math.Path.{fun_ext}
 use Rattle.std.proofs.lemmas.Bool.{cases_lt, lt-ltb, lt-leb, le-leb, or_right, or_cases, and_from, and_parts, eqb-true, ltb-true}
 use Rattle.std.proofs.lemmas.List.{get_or_past}
@@ -13,7 +13,6 @@ use Rattle.jfs_bmap.specs.States as states
 use Rattle.jfs_bmap.specs.MapFile.{is_in_use, pages_of}
 use Rattle.jfs_bmap.proofs.Views.{length-each_below, each_below-at}
 use Rattle.jfs_super.specs.declared.fields.Super.{Super}
-use Rattle.jfs_objects.specs.Contents.{block_of, bytes_at}
 use Rattle.jfs_objects.specs.Image.{file_extents, file_page, is_block_used}
 use Rattle.jfs_mount.specs.Subject.{Subject, blocks, volume, IsFilePage, subject_of}
 use Rattle.jfs_findings.specs.Blocks.{is_owned, IsMisMapped}
@@ -23,7 +22,7 @@ use Rattle.jfs_findings.specs.Gains.{Gains}
 use Rattle.jfs_findings.specs.declared.finding.Finding.{Finding}
 use Rattle.jfs_findings.specs.declared.finding.FindingKind.{FindingKind}
 use Rattle.jfs_findings.specs.declared.finding.FindingKind.TheVariants as kinds
-use Rattle.jfs_map_check.specs.Findings.{KnowsOwners, IsOfBlockMap, IsWrongPage, IsWrongBit, IsWrongIn, IsWrongBelow, finding}
+use Rattle.jfs_map_check.specs.Findings.{KnowsOwners, IsOfBlockMap, IsWrongPage, IsWrongBit, IsWrongBelow, finding}
 use Rattle.jfs_map_check.proofs.Gaining.{gains_as}
 
 -- the page of a file that stands on a block

@@ -1,5 +1,5 @@
 -- What is wrong with the pages of the inode map's file are the volume's findings of the inode map.
-use Rattle.std.proofs.Common.{◌≡◌, ◌≤◌, ◌<◌, ◌+◌, ◌*◌, ◌/◌, ◌%◌, ◌⊎◌, ◌&&◌, ℕ, zero, suc, Bool, not, inl, inr, List, Option, Some, None, is_some, refl, sym, ap, ap₂, subst, ◌∙◌, arith}
+use Rattle.std.proofs.Common.{◌≡◌, ◌<◌, ◌+◌, ◌*◌, ◌/◌, ◌%◌, ◌⊎◌, ◌&&◌, ℕ, zero, suc, Bool, not, inl, inr, List, Option, Some, None, is_some, refl, sym, ap, ap₂, subst, ◌∙◌, arith}
 use Rattle.std.specs.Option.{option_map}
 use Rattle.jfs_bits.specs.declared.extent.Xad.{Xad}
 use Rattle.jfs_bits.specs.Bits.{is_taken, count_below}
@@ -21,7 +21,7 @@ use Rattle.jfs_findings.specs.declared.finding.FindingKind.{FindingKind}
 use Rattle.jfs_findings.specs.declared.finding.FindingKind.TheVariants as kinds
 use Rattle.jfs_map_check.specs.declared.inode_map.Control.{Control}
 use Rattle.jfs_map_check.specs.Findings.{finding}
-use Rattle.jfs_map_check.specs.Inodes.{KnowsInodes, IsOfInodeMap, bytes_in, places_of, extent_in, part_of, IsWrongIag, IsWrongIagIn, IsWrongIagBelow, AreTotals, control_of, IsWrongControl}
+use Rattle.jfs_map_check.specs.Inodes.{KnowsInodes, IsOfInodeMap, bytes_in, places_of, extent_in, part_of, IsWrongIagBelow, AreTotals, control_of, IsWrongControl}
 use Rattle.jfs_map_check.proofs.Gaining.{gains_then}
 use Rattle.jfs_map_check.proofs.Iags.{iag_same, turned}
 use Rattle.jfs_map_check.proofs.OfBlockMap.{page_is}

@@ -6,6 +6,10 @@ use Rattle.jfs_iag.specs.declared.iag.Iag.{Iag}
 use Rattle.jfs_iag.specs.Iag.{no_run}
 use Rattle.jfs_iag.specs.Canonical.{is_there}
 
+-- The pages hold the same bytes from `from` to before `to`.
+abbrev pub AgreeWithin : ℕ → ℕ → List ℕ → List ℕ → Type 0
+AgreeWithin from to one other = (k : ℕ) → from ≤ k → k < to → slice_index one k ≡ slice_index other k
+
 -- The pages hold the same bytes but for those from `from` to before `to`.
 abbrev pub AgreeOutside : ℕ → ℕ → List ℕ → List ℕ → Type 0
 AgreeOutside from to one other = (k : ℕ) → k < 4096 → (k < from) ⊎ (to ≤ k) → slice_index one k ≡ slice_index other k
@@ -28,3 +32,11 @@ pub record IsSameIag (have want : Iag) : Type 0 where
   pub extsmap : (e : ℕ) → e < 128 → is_taken have.extsmap e ≡ is_taken want.extsmap e
   pub wmap : (i : ℕ) → i < 4096 → is_there (get_or have.inoext (i / 32) no_run) ≡ true → is_taken have.wmap i ≡ is_taken want.wmap i
   pub pmap : (i : ℕ) → i < 4096 → is_there (get_or have.inoext (i / 32) no_run) ≡ true → is_taken have.pmap i ≡ is_taken want.pmap i
+
+-- ---- numbers of a page that are bytes, for the prover alone
+
+abbrev pub AreBytesWithin : ℕ → ℕ → List ℕ → Type 0
+AreBytesWithin from to page = (k : ℕ) → from ≤ k → k < to → slice_index page k < 256
+
+abbrev pub AreBytesOutside : ℕ → ℕ → List ℕ → Type 0
+AreBytesOutside from to page = (k : ℕ) → k < 4096 → (k < from) ⊎ (to ≤ k) → slice_index page k < 256

@@ -1,5 +1,5 @@
 -- What is found on the pages of the block map.
-use Rattle.std.specs.Prelude.{◌≡◌, ◌≢◌, ◌<◌, ◌≤◌, ◌⊎◌, ℕ, suc, ◌+◌, ◌-◌, ◌*◌, Bool, true, List, Option, Some}
+use Rattle.std.specs.Prelude.{◌≡◌, ◌≢◌, ◌<◌, ◌≤◌, ◌⊎◌, ℕ, ◌+◌, ◌-◌, ◌*◌, Bool, true, List, Some}
 use Rattle.jfs_bits.specs.declared.extent.Xad.{Xad}
 use Rattle.jfs_bits.specs.Bits.{is_taken}
 use Rattle.jfs_bits.specs.Field.{range_of}
@@ -47,10 +47,11 @@ pub record IsOtherAt (n block : ℕ) (have want : List ℕ) (i : ℕ) (f : Findi
   pub is : f ≡ finding kinds.Map n block
   pub differs : is_taken have i ≢ is_taken want i
 
--- of one of the first `count` blocks of dmap `k`, which stands on page `n`
-pub record IsOtherBit (k n : ℕ) (have want : List ℕ) (count : ℕ) (f : Finding) : Type 0 where
+-- of one of the blocks of dmap `k`, which stands on page `n`, from block `first` to before block `end`
+pub record IsOtherBit (k n : ℕ) (have want : List ℕ) (first end : ℕ) (f : Finding) : Type 0 where
   pub block : ℕ
-  pub below : block < count
+  pub past : first ≤ block
+  pub below : block < end
   pub is : f ≡ finding kinds.Map n (8192 * k + block)
   pub differs : is_taken have block ≢ is_taken want block
 

@@ -1,6 +1,6 @@
 //! The findings of the block map.
 
-ghost use Rattle.std.specs.Prelude.{◌≡◌, ◌+◌, ◌*◌, ◌%◌, ◌^◌, ◌<◌, ◌≤◌, true, length, IfOk, IfErr};
+ghost use Rattle.std.specs.Prelude.{◌≡◌, ◌+◌, ◌*◌, ◌%◌, ◌^◌, ◌<◌, ◌≤◌, min, true, length, IsTrue, IfOk, IfErr};
 ghost use Rattle.jfs_disk.specs.Image.{page_of};
 ghost use Rattle.jfs_bits.specs.Field.{range_of};
 ghost use Rattle.jfs_super.specs.declared.fields.Super.{Super};
@@ -9,14 +9,17 @@ ghost use Rattle.jfs_bmap.specs.MapFile.{AreGroups, IsMapPage, is_in_use, pages_
 ghost use Rattle.jfs_objects.specs.Contents.{block_of};
 ghost use Rattle.jfs_reader.specs.Reading.{CarriesRead, OutsideIsPast};
 ghost use Rattle.jfs_mount.specs.Subject.{subject_of};
+ghost use Rattle.jfs_findings.specs.Maps.{IsMapPageAs};
 ghost use Rattle.jfs_findings.specs.Gains.{Gains};
 ghost use Rattle.jfs_map_check.specs.Findings.{KnowsOwners, IsOfBlockMap, SomeIsPast, IsOtherAt, IsOtherBit, IsWrongPage, IsWrongAt, IsWrongIn, IsWrongBelow};
 
 use crate::block_page::is_canonical;
+use crate::compare::same_word;
 use jfs_bits::{Xad, bit};
 use jfs_bmap::BlockMap;
 use jfs_disk::Page;
 use jfs_findings::{Finding, FindingKind};
+use jfs_mount::from_block;
 use jfs_ranges::{PageView, ViewError};
 use jfs_reader::{ReadError, page_of_block};
 use std::alloc::{AllocError, Global};
@@ -71,8 +74,10 @@ fn check_pages<V: PageView>(
         Gains (IsWrongBelow (length map.now.states) map.now.agsize (is_owned map.now) (page_of (V.PageView.image view.old)) extents.now (pages_of (length map.now.states))) findings.old.items findings.new.items) }
 {
     let mut canonical = Page::zeros();
+    let mut rest = extents;
     for j in 0..map.pages() {
-        check_page(view, map, extents, j, &mut canonical, findings)?;
+        rest = from_block(rest, u64::from(j));
+        check_page(view, map, rest, j, &mut canonical, findings)?;
     }
     Ok(())
 }
@@ -128,7 +133,7 @@ fn note_page(
     }
 }
 
-/// The same; an error is want of memory.
+/// The same; an error is want of memory. A canonical page has each block's bit.
 fn note_all(
     map: &BlockMap,
     j: u32,
@@ -140,8 +145,8 @@ fn note_all(
     requires { is_in_use (length map.now.states) j ≡ true }
     ensures { IfOk result (λ it. Gains (IsWrongAt (length map.now.states) map.now.agsize (is_owned map.now) j n page.now.0) findings.old.items findings.new.items) }
 {
-    note_canonical(map, j, n, page, canonical, findings)?;
-    if j < 4 {
+    let passed = note_canonical(map, j, n, page, canonical, findings)?;
+    if passed || j < 4 {
         return Ok(());
     }
     let count = (map.blocks() - 8192 * (j - 4)).min(8192);
@@ -149,7 +154,7 @@ fn note_all(
     Ok(())
 }
 
-/// Adds a page that isn't canonical in what is compared. `canonical` gets the page in its canonical form.
+/// Adds a page that isn't canonical in what is compared, and tells whether it is. `canonical` gets the page in its canonical form.
 fn note_canonical(
     map: &BlockMap,
     j: u32,
@@ -157,19 +162,20 @@ fn note_canonical(
     page: &Page,
     canonical: &mut Page,
     findings: &mut Vec<Finding>,
-) -> Result<(), AllocError>
+) -> Result<bool, AllocError>
     ensures canonical { IsMapPage (length map.now.states) map.now.agsize (is_owned map.now) j canonical.new.0 }
-    ensures findings { IfOk result (λ it. Gains (IsWrongPage (length map.now.states) map.now.agsize (is_owned map.now) j n page.now.0) findings.old.items findings.new.items) }
+    ensures passed { IfOk result (λ passed. IsTrue passed → IsMapPageAs (length map.now.states) map.now.agsize (is_owned map.now) j page.now.0) }
+    ensures findings { IfOk result (λ passed. Gains (IsWrongPage (length map.now.states) map.now.agsize (is_owned map.now) j n page.now.0) findings.old.items findings.new.items) }
 {
     if is_canonical(map, j, page, canonical) {
-        return Ok(());
+        return Ok(true);
     }
     findings.push(Finding {
         kind: FindingKind::Bmap,
         page: n,
         value: 0,
     })?;
-    Ok(())
+    Ok(false)
 }
 
 /// Adds the first `count` blocks of dmap `k`, which stands on page `n`, as far as their bits in the persistent map aren't those of the canonical page.
@@ -183,11 +189,38 @@ fn note_bits(
 ) -> Result<(), AllocError>
     requires most { count ≤ 8192 }
     requires within { 8192 * k + count ≤ 2 ^ 23 }
-    ensures { IfOk result (λ it. Gains (IsOtherBit k n (range_of page.now.0 3072 1024) (range_of canonical.now.0 3072 1024) count) findings.old.items findings.new.items) }
+    ensures { IfOk result (λ it. Gains (IsOtherBit k n (range_of page.now.0 3072 1024) (range_of canonical.now.0 3072 1024) 0 count) findings.old.items findings.new.items) }
 {
     let have: &[u8] = &page.0[3072..4096];
     let want: &[u8] = &canonical.0[3072..4096];
-    for i in 0..count {
+    for w in 0..count.div_ceil(32) {
+        note_word(have, want, w, n, k, count, findings)?;
+    }
+    Ok(())
+}
+
+/// Adds those of the first `count` blocks of dmap `k`, which stands on page `n`, whose bits in word `w` of its map differ from those of another map.
+fn note_word(
+    have: &[u8],
+    want: &[u8],
+    w: u32,
+    n: u32,
+    k: u32,
+    count: u32,
+    findings: &mut Vec<Finding>,
+) -> Result<(), AllocError>
+    requires size { length have.now ≡ 1024 }
+    requires size_too { length want.now ≡ 1024 }
+    requires word { 32 * w < count }
+    requires most { count ≤ 8192 }
+    requires within { 8192 * k + count ≤ 2 ^ 23 }
+    ensures { IfOk result (λ it. Gains (IsOtherBit k n have.now want.now (32 * w) (min (32 * w + 32) count)) findings.old.items findings.new.items) }
+{
+    if same_word(have, want, w) {
+        return Ok(());
+    }
+    let end = (32 * w + 32).min(count);
+    for i in 32 * w..end {
         note_bit(have, want, i, n, 8192 * k + i, findings)?;
     }
     Ok(())

@@ -8,7 +8,8 @@ ghost use Rattle.jfs_iag.specs.Canonical.{is_there, is_free_inode};
 ghost use Rattle.jfs_map_check.specs.Compared.{IsSameIag};
 ghost use Rattle.jfs_findings.specs.Maps.{IsIagAs};
 
-use jfs_bits::{Pxd, bit};
+use crate::compare::same_word;
+use jfs_bits::Pxd;
 use jfs_disk::Page;
 use jfs_iag::{Iag, iag_canonical, is_there, read_iag};
 
@@ -58,20 +59,20 @@ fn same_iag(have: &Iag, want: &Iag) -> bool
 fn same_bits(one: &[u8; 16], other: &[u8; 16]) -> bool
     ensures { IsTrue result ↔ ((e : ℕ) → e < 128 → is_taken one.now e ≡ is_taken other.now e) }
 {
-    for e in 0..128 {
-        if bit(one, e) != bit(other, e) {
+    for w in 0..4 {
+        if !same_word(one, other, w) {
             return false;
         }
     }
     true
 }
 
-/// Whether two maps have the same bits for the inodes of the extents that are there.
+/// Whether two maps have the same bits for the inodes of the extents that are there, of which each has a word.
 fn same_inodes(one: &[u8; 512], other: &[u8; 512], extents: &[Pxd; 128]) -> bool
     ensures { IsTrue result ↔ ((i : ℕ) → i < 4096 → is_there (get_or extents.now (i / 32) no_run) ≡ true → is_taken one.now i ≡ is_taken other.now i) }
 {
-    for i in 0..4096 {
-        if is_there(extents[(i / 32) as usize]) && bit(one, i) != bit(other, i) {
+    for e in 0..128 {
+        if is_there(extents[e as usize]) && !same_word(one, other, e) {
             return false;
         }
     }

@@ -18,6 +18,7 @@ use crate::iag_page::{IagReport, judge_iag};
 use jfs_bits::{Xad, get_u32};
 use jfs_disk::Page;
 use jfs_findings::{Finding, FindingKind};
+use jfs_mount::from_block;
 use jfs_ranges::{PageView, ViewError};
 use jfs_reader::{ReadError, page_of_block};
 use std::alloc::AllocError;
@@ -148,8 +149,10 @@ fn check_iags<V: PageView>(
 {
     let mut there = 0;
     let mut free = 0;
+    let mut rest = extents;
     for k in 0..iags {
-        let report = check_iag(view, used, extents, k, findings)?;
+        rest = from_block(rest, u64::from(k) + 1);
+        let report = check_iag(view, used, rest, k, findings)?;
         there += report.extents;
         free += report.free;
     }

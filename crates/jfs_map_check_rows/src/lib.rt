@@ -1,7 +1,7 @@
 //! Pages of both maps, changed byte by byte: which changes are told, and which aren't compared.
 #![tactic(auto)]
 
-use jfs_bits::set_run;
+use jfs_bits::{Pxd, set_run};
 use jfs_bmap::BlockMap;
 use jfs_disk::Page;
 use jfs_iag::{NO_EXTENT, iag_canonical};
@@ -15,10 +15,10 @@ pub fn small_map(alloc: Global) -> Result<BlockMap, AllocError> {
     BlockMap::from_set(alloc, &set, 100, 8192)
 }
 
-/// Changes a bit of the byte at `at`, if there is one.
-fn change(page: &mut Page, at: usize) {
+/// Changes bits of the byte at `at`, if there is one.
+fn change(page: &mut Page, at: usize, bits: u8) {
     if at < 4096 {
-        page.0[at] ^= 1;
+        page.0[at] ^= bits;
     }
 }
 
@@ -27,7 +27,7 @@ pub fn passes(map: &BlockMap, n: u32, at: usize) -> bool {
     let mut page = Page::zeros();
     let mut canonical = Page::zeros();
     map.write_page(n, &mut page);
-    change(&mut page, at);
+    change(&mut page, at, 1);
     is_canonical(map, n, &page, &mut canonical)
 }
 
@@ -36,7 +36,17 @@ pub fn iag_passes(at: usize) -> bool {
     let set = [0u8; 512];
     let mut page = Page::zeros();
     iag_canonical(&set, &[NO_EXTENT; 128], 7, 0, &mut page);
-    change(&mut page, at);
+    change(&mut page, at, 1);
+    judge_iag(&set, 7, &page).canonical
+}
+
+/// Whether the page of IAG 7 passes, whose 128 extents are there and have no inode in use, with these bits changed at `at`.
+pub fn full_iag_passes(at: usize, bits: u8) -> bool {
+    let set = [0u8; 512];
+    let extent = Pxd { len: 4, addr: 1000 };
+    let mut page = Page::zeros();
+    iag_canonical(&set, &[extent; 128], 7, 0, &mut page);
+    change(&mut page, at, bits);
     judge_iag(&set, 7, &page).canonical
 }
 

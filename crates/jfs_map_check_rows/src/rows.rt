@@ -1,6 +1,6 @@
 //! Rows of changes, worked out by hand from the format.
 
-use crate::{iag_passes, passes, small_map};
+use crate::{full_iag_passes, iag_passes, passes, small_map};
 
 // Pages of the block map's file and places where a change is told: of the control page its numbers, of level 0 its head, root and
 // leaves, of a dmap its counts, tree, and both maps, up to the bit past the last block.
@@ -52,6 +52,27 @@ const IAG_TOLD: [usize; 5] = [8, 32, 48, 64, 68];
 // And those that aren't compared: its group, its lists, unused bytes, maps of extents that aren't there; and no change.
 const IAG_PASSED: [usize; 8] = [0, 12, 28, 72, 2047, 2048, 2560, 4096];
 
+// Bits of an IAG whose extents are there, at the borders of the words of 32 bits: of the summaries extents 0, 31, 32 and 127, of both maps inodes 0, 31, 32 and
+// 4,095.
+const BORDERS: [(usize, u8); 16] = [
+    (35, 0x80),
+    (32, 1),
+    (39, 0x80),
+    (44, 1),
+    (51, 0x80),
+    (48, 1),
+    (55, 0x80),
+    (60, 1),
+    (2051, 0x80),
+    (2048, 1),
+    (2055, 0x80),
+    (2556, 1),
+    (2563, 0x80),
+    (2560, 1),
+    (2567, 0x80),
+    (3068, 1),
+];
+
 #[test]
 fn block_map_rows(rt: HostRuntime) {
     let map = small_map(rt.alloc()).expect(&rt, "memory");
@@ -70,5 +91,13 @@ fn inode_map_rows(rt: HostRuntime) {
     }
     for at in IAG_PASSED {
         assert!(rt; iag_passes(at), "byte {at}");
+    }
+}
+
+#[test]
+fn border_rows(rt: HostRuntime) {
+    assert!(rt; full_iag_passes(4096, 1), "no change");
+    for (at, bits) in BORDERS {
+        assert!(rt; !full_iag_passes(at, bits), "byte {at} bits {bits}");
     }
 }

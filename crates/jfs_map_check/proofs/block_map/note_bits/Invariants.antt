@@ -1,6 +1,8 @@
+use Rattle.std.proofs.Common.{◌*◌}
+use Rattle.std.specs.Prelude.{min}
 use Rattle.jfs_findings.specs.Gains.{Gains}
 use Rattle.jfs_map_check.specs.Findings.{IsOtherBit}
 use Rattle.jfs_map_check.proofs.block_map.note_bits.Given as goal
 
-abbrev pub invariant-loop-i : goal.invariant-loop-i
-invariant-loop-i l = Gains (IsOtherBit l.k l.n l.have l.want l.i) l.fn.findings.items l.findings.items
+abbrev pub invariant-loop-w : goal.invariant-loop-w
+invariant-loop-w l = Gains (IsOtherBit l.k l.n l.have l.want 0 (min (32 * l.w) l.count)) l.fn.findings.items l.findings.items

@@ -1,12 +1,14 @@
-use Rattle.std.proofs.Common.{◌≡◌, ◌≤◌, ◌*◌}
+use Rattle.std.proofs.Common.{◌≡◌, ◌≤◌, ◌<◌, ◌*◌, ℕ}
 use Rattle.jfs_bits.specs.Bits.{is_taken}
 use Rattle.jfs_disk.specs.Image.{page_of}
+use Rattle.jfs_objects.specs.Contents.{block_of}
 use Rattle.jfs_findings.specs.Gains.{Gains}
 use Rattle.jfs_map_check.specs.Inodes.{IsWrongIagBelow, AreTotals}
 use Rattle.jfs_map_check.proofs.inode_map.check_iags.Given as goal
 
 abbrev pub invariant-loop-k : goal.invariant-loop-k
 invariant-loop-k g l = record {
+  rest : (j : ℕ) → l.k < j → block_of l.rest j ≡ block_of l.extents j;
   image : g.V.PageView.tells → g.V.PageView.image l.view ≡ g.V.PageView.image l.fn.view;
   count_of_blocks : g.V.PageView.block_count l.view ≡ g.V.PageView.block_count l.fn.view;
   device : g.V.PageView.device l.view ≡ g.V.PageView.device l.fn.view;
