@@ -1,28 +1,21 @@
 -- All findings, put in order, are the volume's.
-use Rattle.std.proofs.Common.{◌≡◌, ◌<◌, ◌≤◌, inl, inr, refl, sym, ap, ◌∙◌, subst, ℕ, zero, suc, ◌+◌, ◌*◌, Bool, true, false, not, ◌&&◌, ◌==◌, if◌then◌else◌, List, [], ◌∷◌, length, is_some, Option, Some, None, arith}
+use Rattle.std.proofs.Common.{◌≡◌, inl, inr, sym, ap, ◌∙◌, subst, ℕ, zero, suc, ◌*◌, ◌==◌, List, [], ◌∷◌, length, is_some, Option, Some, None, arith}
 use Rattle.std.specs.List.{Contains}
 use Rattle.std.proofs.lemmas.List.FromFn.{length-map-range_with_len}
 use Rattle.jfs_bits.specs.Bits.{is_taken, count_below}
 use Rattle.jfs_bits.proofs.Counts.{count_below-same}
-use Rattle.jfs_super.specs.Rules.{blocks_of}
-use Rattle.jfs_super.specs.declared.fields.Super.{Super}
 use Rattle.jfs_objects.specs.Owners.{owners}
 use Rattle.jfs_objects.specs.Image.{extent_on, extents_on}
 use Rattle.jfs_owners.specs.Counts.{Counts}
-use Rattle.jfs_mount.specs.Subject.{Subject, subject_of, volume, object, blocks}
-use Rattle.jfs_mount.specs.Mount.{BadMount, broken_mount, iags, extent_at}
+use Rattle.jfs_mount.specs.Subject.{Subject, volume, object, blocks}
+use Rattle.jfs_mount.specs.Mount.{BadMount, broken_mount, iags}
 use Rattle.jfs_findings.specs.Gains.{Gains, HasSame}
 use Rattle.jfs_findings.specs.Findings.{AreFindings, IsFinding, SaysUnless, Rise}
 use Rattle.jfs_findings.specs.declared.finding.Finding.{Finding}
 use Rattle.jfs_findings.specs.declared.finding.FindingKind.TheVariants as kinds
-use Rattle.jfs_findings.proofs.Mounted.{mounted, extent_fits}
-use Rattle.jfs_check.specs.Ends.{FitsIn, BreaksMount}
-use Rattle.jfs_check.specs.Places.{BreaksFit}
 use Rattle.jfs_check.specs.Looked.{IsOfAny, Looked}
 use Rattle.jfs_check.specs.Checked.{IsChecked}
 use Rattle.jfs_check.specs.declared.checked.Checked.{Checked}
-use Rattle.jfs_check.specs.declared.ended.Ended.{Ended}
-use Rattle.jfs_check.specs.declared.ended.Ended.TheVariants.{View, Broken}
 use Rattle.jfs_check.specs.declared.look.Look.{Look}
 use Rattle.jfs_check.proofs.Table.{any_says, says_any}
 
@@ -48,8 +41,8 @@ module _ (s : Subject) (mounts : broken_mount s ≡ None) where
   unfolding extents_on
   places_are = length-map-range_with_len (extent_on s.readers s.page) 0 (128 * iags s)
 
-  pub concluded : (look : Look) (number : ℕ) (c : Checked) → look.owners.blocks ≡ blocks s → iags s ≡ number → Looked s (IsOfAny s) look → Rise c.findings.items → HasSame look.findings.items c.findings.items
-      → ((count : ℕ → ℕ) → Counts look.owners count → c.free ≡ count_below look.owners.blocks (λ b. count b == 0)) → c.inodes ≡ count_below (4096 * number) (is_taken look.used.items) → IsChecked s c
+  pub concluded : (look : Look) (number : ℕ) (c : Checked) → look.census.owners.blocks ≡ blocks s → iags s ≡ number → Looked s (IsOfAny s) look → Rise c.findings.items → HasSame look.findings.items c.findings.items
+      → ((count : ℕ → ℕ) → Counts look.census.owners count → c.free ≡ count_below look.census.owners.blocks (λ b. count b == 0)) → c.inodes ≡ count_below (4096 * number) (is_taken look.used.items) → IsChecked s c
   concluded look number c size number_is k order same free inodes = record {
     findings = are_findings look.findings.items c.findings.items k.findings order same;
     counts = λ _. (
@@ -78,17 +71,3 @@ only_finding s bad c e is = record {
     one : (f : Finding) → Contains (record { kind = kinds.Aggregate; page = bad.page; value = bad.value } ∷ []) f → f ≡ record { kind = kinds.Aggregate; page = bad.page; value = bad.value }
     one f (zero, l, h) = sym h
     one f (suc n, l, h) = absurd (omega (arith, l))
-
--- ---- inode extents fit, where no rule is broken
-
-pub all_fit : (super : Super) (page : ℕ → List ℕ) → broken_mount (subject_of super page) ≡ None → (e : ℕ) → e < 128 * iags (subject_of super page) → FitsIn (blocks_of super) (extent_on (subject_of super page).readers page e)
-all_fit super page none e l first at = by ((extent_at (subject_of super page) e).len == 0 && (extent_at (subject_of super page) e).addr == 0) refl at
-  where
-    by : (x : Bool) → ((extent_at (subject_of super page) e).len == 0 && (extent_at (subject_of super page) e).addr == 0) ≡ x
-        → (if x then None else Some (extent_at (subject_of super page) e).addr) ≡ Some first → first + 4 ≤ blocks_of super
-    by true t h = absurd (cc h)
-    by false t h = (let f = extent_fits (subject_of super page) (mounted (subject_of super page) none) e l (ap not t) in let q : (extent_at (subject_of super page) e).addr ≡ first = cc h in omega (arith, f, q))
-
-pub never_breaks : (super : Super) (page : ℕ → List ℕ) (x : Ended) → broken_mount (subject_of super page) ≡ None → BreaksFit (blocks_of super) page x → BreaksMount (subject_of super page) x
-never_breaks super page (View e) none h = tt
-never_breaks super page (Broken bad) none h = absurd (h (λ e l. all_fit super page none e l))

@@ -1,4 +1,4 @@
-mod Placed
+mod Seen
 mod Filed
 mod Walked
 mod Wholly
@@ -6,5 +6,3 @@ mod Mapped
 mod Table
 mod Concluded
 mod AllParts
-mod Answered
-mod Keeps

@@ -72,7 +72,7 @@ module _ (super : Super) (image : Image) where
   IsOfFirst count g = (n : ℕ) × (n < count) × ((at : ℕ) × (o : Object) × IsObject sub n at o × IsOfIt n at o g)
 
   pub record LookedBelow (bytes : ℕ) (old : List Finding) (count : ℕ) (w : Look) : Type 0 where
-    pub owners : Counts w.owners (owned_below sub.readers (volume sub) count)
+    pub owners : Counts w.census.owners (owned_below sub.readers (volume sub) count)
     pub size : length w.used.items ≡ bytes
     pub used : (i : ℕ) → i < 8 * bytes → is_taken w.used.items i ≡ (nat_lt i count && is_some (object sub i))
     pub findings : Gains (IsOfFirst count) old w.findings.items
@@ -81,7 +81,7 @@ module _ (super : Super) (image : Image) where
     -- an inode that isn't in use
     skip : (n : ℕ) (w : Look) → object sub n ≡ None → LookedBelow size old n w → LookedBelow size old (suc n) w
     skip n w none h = record {
-      owners = subst (λ (k : ℕ). Counts w.owners (owned_below sub.readers (volume sub) k)) (let e : n + 1 ≡ suc n = omega arith in e) (counts_skip sub.readers (volume sub) n w.owners none h.owners);
+      owners = subst (λ (k : ℕ). Counts w.census.owners (owned_below sub.readers (volume sub) k)) (let e : n + 1 ≡ suc n = omega arith in e) (counts_skip sub.readers (volume sub) n w.census.owners none h.owners);
       size = h.size;
       used = λ i l. h.used i l ∙ same i (is_some (object sub i)) (λ e. ap (λ k. is_some (object sub k)) e ∙ ap is_some none);
       findings = record {
@@ -105,7 +105,7 @@ module _ (super : Super) (image : Image) where
     next n w u f within e s h =
         let is = object_found n f e in
         record {
-          owners = subst (λ (k : ℕ). Counts u.owners (owned_below sub.readers (volume sub) k)) (let e : n + 1 ≡ suc n = omega arith in e) (counts_next sub.readers (volume sub) n (Some (spelled sub.readers (page_of image) f.inode)) w.owners u.owners is.is s.owners h.owners);
+          owners = subst (λ (k : ℕ). Counts u.census.owners (owned_below sub.readers (volume sub) k)) (let e : n + 1 ≡ suc n = omega arith in e) (counts_next sub.readers (volume sub) n (Some (spelled sub.readers (page_of image) f.inode)) w.census.owners u.census.owners is.is s.trees.owners h.owners);
           size = s.size ∙ h.size;
           used = λ i l.
               s.used i (ap (λ k. k % 4) h.size ∙ words) (let m = h.size in omega (arith, m, within))

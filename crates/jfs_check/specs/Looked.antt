@@ -33,6 +33,6 @@ AreInUse s set = (n : ℕ) → n < 4096 * iags s → is_taken set n ≡ is_some 
 
 -- Who owns each block and which inodes are in use is known, and these are the findings.
 pub record Looked (s : Subject) (is : Finding → Type 0) (look : Look) : Type 0 where
-  pub owners : Counts look.owners (owners s.readers (volume s))
+  pub owners : Counts look.census.owners (owners s.readers (volume s))
   pub used : AreInUse s look.used.items
   pub findings : Gains is [] look.findings.items

@@ -1,6 +1,6 @@
 //! A volume, checked.
 
-ghost use Rattle.std.specs.Prelude.{◌≡◌, ◌≤◌, [], IfOk, OnOk, None, length, replicate};
+ghost use Rattle.std.specs.Prelude.{◌≡◌, ◌≤◌, [], IfOk};
 ghost use Rattle.jfs_disk.specs.Image.{page_of};
 ghost use Rattle.jfs_super.specs.Rules.{IsAccepted, blocks_of};
 ghost use Rattle.jfs_super.specs.Geometry.{geometry_of, IsLayout};
@@ -9,18 +9,19 @@ ghost use Rattle.jfs_findings.specs.Findings.{AreFindings};
 ghost use Rattle.jfs_check.specs.Checked.{IsChecked, CarriesCheck, AreCounted};
 
 use crate::checked::{CheckError, Checked};
-use crate::conclude::only;
-use crate::ended::Ended;
 use crate::examine::examine;
-use crate::keeping::KeptView;
-use crate::kept::KeptPages;
-use jfs_disk::Disk;
+use jfs_disk::{Disk, Part};
 use jfs_ranges::{PageView, ViewError};
+use jfs_reader::DiskView;
 use jfs_super::{Super, geometry};
 use std::alloc::Global;
 
 /// Everything that is wrong with the volume of a view, in order; and, of one that a mount takes, how many blocks are free and how many inodes are in use.
 /// Only reads it.
+///
+/// # Errors
+///
+/// A page could not be read, or memory ran out.
 pub fn check_view<V: PageView>(
     alloc: Global,
     view: &mut V,
@@ -36,19 +37,15 @@ pub fn check_view<V: PageView>(
 {
     match examine(alloc, view, s) {
         Ok(checked) => Ok(checked),
-        Err(Ended::View(ViewError::Read(fault))) => Err(CheckError::Read(fault)),
-        Err(Ended::View(ViewError::Memory)) => Err(CheckError::Memory),
-        Err(Ended::Broken(bad)) => match only(alloc, bad) {
-            Ok(checked) => Ok(checked),
-            Err(_) => Err(CheckError::Memory),
-        },
+        Err(ViewError::Read(fault)) => Err(CheckError::Read(fault)),
+        Err(ViewError::Memory) => Err(CheckError::Memory),
     }
 }
 
-/// The same of a view of a disk that keeps pages; it keeps its loan of the disk.
+/// The same of a view of a disk; it keeps its loan of the disk.
 fn check_loan<'a, D: Disk>(
     alloc: Global,
-    view: &mut KeptView<'a, D>,
+    view: &mut DiskView<'a, D>,
     s: &Super,
 ) -> Result<Checked, CheckError>
     requires layout { IsLayout (geometry_of s.now) }
@@ -66,9 +63,9 @@ fn check_loan<'a, D: Disk>(
 /// Everything that is wrong with the volume of a disk, in order, where its superblock is accepted; and, of one that a mount takes, how many blocks are free
 /// and how many inodes are in use. Of a volume that breaks a rule of a mount this is the only finding. Nothing is written.
 ///
-/// It keeps the 256 pages that it read last, and one more for each 1,024 blocks, up to 65,536: a page is read again only after as many others were read. So it takes
-/// a megabyte and six bytes a block; and beside that and the findings two bits a block and 14 bytes for each inode that there is a place for, less than two bytes a
-/// block while the block map is compared, the names of one directory, the pages of two levels of one extent tree, and the extents of one file of the aggregate.
+/// Each page is read twice at most for each tree or place that names it; one page is held at a time, and of a tree that is walked through one a level. Beside the
+/// findings, of which those of names are held twice at the end, it takes two bits a block and 21 bytes for each inode that there is a place for, less than two bytes a
+/// block while the block map is compared, the pages of two levels of one extent tree, and the extents of the files of both maps.
 ///
 /// # Errors
 ///
@@ -85,30 +82,6 @@ pub fn check<D: Disk>(alloc: Global, disk: &mut D, s: &Super) -> Result<Checked,
 {
     let _faults = disk.faults();
     let layout = geometry(s);
-    match KeptPages::new(alloc, layout.blocks) {
-        Ok(mut kept) => check_kept(alloc, disk, layout.blocks, s, &mut kept),
-        Err(_) => Err(CheckError::Memory),
-    }
-}
-
-/// The same, with room for pages, of which none is kept yet.
-fn check_kept<D: Disk>(
-    alloc: Global,
-    disk: &mut D,
-    blocks: u32,
-    s: &Super,
-    kept: &mut KeptPages,
-) -> Result<Checked, CheckError>
-    requires none { kept.old.numbers.items ≡ replicate (length kept.old.pages.items) None }
-    requires layout { IsLayout (geometry_of s.now) }
-    requires part { blocks_of s.now ≡ blocks }
-    requires place { blocks ≤ D.page_count disk.old }
-    ensures image { D.tells → D.image disk.new ≡ D.image disk.old }
-    ensures pages { D.page_count disk.new ≡ D.page_count disk.old }
-    ensures past { D.tells_crashes → D.past disk.new ≡ D.past disk.old }
-    ensures fault { CarriesCheck (D.fault_count disk.old) (D.fault_count disk.new) result }
-    ensures checked { D.tells → IfOk result (IsChecked (subject_of s.now (page_of (D.image disk.old)))) }
-{
-    let mut view = KeptView::new(disk, blocks, kept);
+    let mut view = DiskView::new(disk, Part::Whole, layout.blocks);
     check_loan(alloc, &mut view, s)
 }

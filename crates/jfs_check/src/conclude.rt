@@ -8,10 +8,10 @@ ghost use Rattle.jfs_findings.specs.Gains.{HasSame};
 ghost use Rattle.jfs_findings.specs.declared.finding.FindingKind.TheVariants.{Aggregate};
 
 use crate::checked::Checked;
-use crate::counts::{count_free, count_set};
 use crate::look::Look;
 use jfs_findings::{Finding, FindingKind, put_in_order};
 use jfs_mount::BadMount;
+use jfs_owners::count_taken;
 use std::alloc::{AllocError, Global};
 
 /// All findings in order, and what the owners of blocks and the inodes in use amount to.
@@ -20,18 +20,17 @@ pub(crate) fn conclude(look: Look, iags: u32) -> Checked
     requires size { length look.used.items ≡ 512 * iags }
     ensures order { Rise result.findings.items }
     ensures same { HasSame look.findings.items result.findings.items }
-    ensures free { (count : ℕ → ℕ) → Counts look.owners count → result.free ≡ count_below look.owners.blocks (λ b. count b == 0) }
+    ensures free { (count : ℕ → ℕ) → Counts look.census.owners count → result.free ≡ count_below look.census.owners.blocks (λ b. count b == 0) }
     ensures inodes { result.inodes ≡ count_below (4096 * iags) (is_taken look.used.items) }
 {
     let Look {
         alloc: _,
-        owners,
+        census,
         used,
-        notes: _,
         mut findings,
     } = look;
-    let free = count_free(&owners);
-    let inodes = count_set(used.as_slice(), 4096 * iags);
+    let free = census.owners.free();
+    let inodes = count_taken(used.as_slice(), 4096 * iags);
     put_in_order(&mut findings);
     Checked {
         findings,

@@ -4,16 +4,11 @@
 mod checked;
 mod checking;
 mod conclude;
-mod counts;
-mod ended;
 mod examine;
 mod files;
 mod fresh;
-mod keeping;
-mod kept;
 mod look;
 mod maps;
-mod places;
 mod whole;
 
 pub use checked::{CheckError, Checked};

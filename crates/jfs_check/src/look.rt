@@ -1,30 +1,28 @@
 //! What is found of the inodes in use.
 
-ghost use Rattle.std.specs.Prelude.{◌≡◌, ◌<◌, ◌*◌, ◌%◌, ◌||◌, length, ℕ, OnOk};
+ghost use Rattle.std.specs.Prelude.{◌≡◌, ◌<◌, ◌*◌, ◌%◌, ◌||◌, length, ℕ, IfOk, OnOk};
 ghost use Rattle.jfs_bits.specs.Bits.{is_taken, is_in_run};
 ghost use Rattle.jfs_disk.specs.Image.{page_of};
 ghost use Rattle.jfs_inode.specs.Inode.{FitsDinode};
 ghost use Rattle.jfs_ranges.specs.View.{CarriesCount};
 ghost use Rattle.jfs_findings.specs.Gains.{Gains};
-ghost use Rattle.jfs_check.specs.Look.{Sees, IsOfFound};
+ghost use Rattle.jfs_check.specs.Look.{Sees, SeesTrees, IsOfFound};
 
 use jfs_bits::set_run;
 use jfs_each::EachInode;
 use jfs_findings::Finding;
 use jfs_inode::Dinode;
-use jfs_link_check::{LinkNotes, note_inode};
-use jfs_object_check::{check_object, check_thin};
-use jfs_owners::Owners;
+use jfs_link_check::{Census, count_names};
+use jfs_object_check::{check_object, count_extents};
 use jfs_ranges::{PageView, ViewError};
 use std::alloc::Global;
 
-/// What was found so far: who owns the blocks, a bit for each inode whether it is in use, what was noted of its names, and what is wrong.
+/// What was found so far: who owns the blocks and where names lead, a bit for each inode whether it is in use, and what is wrong.
 #[derive(Drop)]
 pub(crate) struct Look {
     pub(crate) alloc: Global,
-    pub(crate) owners: Owners,
+    pub(crate) census: Census,
     pub(crate) used: Vec<u8>,
-    pub(crate) notes: LinkNotes,
     pub(crate) findings: Vec<Finding>,
 }
 
@@ -38,21 +36,28 @@ impl EachInode for Look {
         page: u32,
         inode: &Dinode,
     ) -> Result<(), ViewError> {
-        look_over(self.alloc, view, n, page, inode, &mut self.findings)?;
-        self.owners.add_object(view, inode)?;
-        note_inode(self.alloc, view, n, inode, &mut self.notes)?;
+        look_over(
+            self.alloc,
+            view,
+            n,
+            page,
+            inode,
+            &mut self.census,
+            &mut self.findings,
+        )?;
         mark(self.used.as_mut_slice(), n);
         Ok(())
     }
 }
 
-/// Adds the findings of inode `n`, which stands on that page.
+/// Looks at inode `n`, which stands on that page, and walks through its tree: once for its rules, and once more for what it holds, where it breaks none.
 fn look_over<V: PageView>(
     alloc: Global,
     view: &mut V,
     n: u32,
     page: u32,
     inode: &Dinode,
+    census: &mut Census,
     findings: &mut Vec<Finding>,
 ) -> Result<(), ViewError>
     requires fits { FitsDinode inode.now }
@@ -60,11 +65,17 @@ fn look_over<V: PageView>(
     ensures count_of_blocks { V.PageView.block_count view.new ≡ V.PageView.block_count view.old }
     ensures device { V.PageView.device view.new ≡ V.PageView.device view.old }
     ensures fault { CarriesCount (V.PageView.fault_count view.old) (V.PageView.fault_count view.new) result }
+    ensures seen { V.PageView.tells → IfOk result (λ it. SeesTrees (V.PageView.block_count view.old) (page_of (V.PageView.image view.old)) n
+        (record { page = page; inode = inode.now }) census.old census.new) }
     ensures found { V.PageView.tells → OnOk result (Gains (IsOfFound (V.PageView.block_count view.old) (page_of (V.PageView.image view.old)) n
         (record { page = page; inode = inode.now })) findings.old.items findings.new.items) }
 {
-    check_object(view, n, page, inode, findings)?;
-    check_thin(alloc, view, n, inode, findings)?;
+    let sound = check_object(view, n, page, inode, findings)?;
+    census.owners.add_attributes(inode);
+    count_names(view, n, page, inode, sound.names, census)?;
+    if sound.extents {
+        count_extents(alloc, view, n, inode, &mut census.owners, findings)?;
+    }
     Ok(())
 }
 

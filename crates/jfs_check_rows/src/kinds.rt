@@ -7,7 +7,7 @@ use std::test::*;
 type Row = (&'static [Word], &'static [Found]);
 
 #[rattlefmt::skip]
-static ROWS: [Row; 28] = [
+static ROWS: [Row; 30] = [
     // A mount's rules: the files of the maps are a page too short, the block map is of another number of blocks, there is no IAG, an inode extent has three blocks, and the root
     // is a regular file. Nothing else is looked at.
     (&[(11, 1288, 4)], &[(Kind::Aggregate, 11, 4)]),
@@ -53,6 +53,9 @@ static ROWS: [Row; 28] = [
     (&[(20, 3076, 0xc000_0000)], &[(Kind::Map, 20, 33), (Kind::Bmap, 20, 0)]),
     // The persistent map has block 32 as free, which has the inodes 24 to 31.
     (&[(20, 3076, 0)], &[(Kind::Map, 20, 32), (Kind::Bmap, 20, 0)]),
+    // The persistent map has in use blocks 63 and 64, on both sides of a border of words, and the last one, 3,007; and it has as free the place behind the last.
+    (&[(20, 3076, 0x8000_0001), (20, 3080, 0x8000_0000), (20, 3444, 1)], &[(Kind::Map, 20, 63), (Kind::Map, 20, 64), (Kind::Map, 20, 3007), (Kind::Bmap, 20, 0)]),
+    (&[(20, 3448, 0x7fff_ffff)], &[(Kind::Bmap, 20, 0)]),
     // The control page counts 2,974 free blocks in place of 2,975, and so does the dmap.
     (&[(16, 8, 2974)], &[(Kind::Bmap, 16, 0)]),
     (&[(20, 4, 2974)], &[(Kind::Bmap, 20, 0)]),

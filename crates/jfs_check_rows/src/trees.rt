@@ -102,3 +102,21 @@ pub fn put_file(disk: &mut SureDisk, page: u32) {
     ];
     put(disk, &words);
 }
+
+/// The extent tree of inode `i` of page `inodes`, with one extent from block 0 of the file on: its root, and a leaf on page `page`.
+pub fn put_extent_below(
+    disk: &mut SureDisk,
+    inodes: u32,
+    i: usize,
+    page: u32,
+    len: u32,
+    addr: u32,
+) {
+    let root = 512 * (i % 8) + 224;
+    #[rattlefmt::skip]
+    let words = [
+        (inodes, root + 16, 0x0003_0085), (inodes, root + 36, 0), (inodes, root + 40, 1), (inodes, root + 44, page),
+        (page, 16, 0x0003_0082), (page, 20, 256), (page, 40, len), (page, 44, addr),
+    ];
+    put(disk, &words);
+}

@@ -1,25 +1,23 @@
 -- A tree that is put together number by number.
-use Rattle.std.proofs.Common.{◌≡◌, ◌≢◌, ◌<◌, ◌≤◌, inl, inr, refl, sym, ap, ◌∙◌, subst, ℕ, suc, ◌+◌, ◌*◌, ◌/◌, Bool, true, false, ◌==◌, nat_lt, if◌then◌else◌, get_or, List, Option, Some, None, arith}
+use Rattle.std.proofs.Common.{◌≡◌, ◌≢◌, ◌<◌, ◌≤◌, inl, inr, sym, ap, ◌∙◌, subst, ℕ, suc, ◌*◌, ◌/◌, Bool, true, false, ◌==◌, nat_lt, if◌then◌else◌, get_or, List, Option, Some, None, arith}
 use Rattle.std.proofs.lemmas.Bool.{cases_lt, cases_eq, eq-eqb, ne_eqb}
 use Rattle.std.proofs.lemmas.Bool.Decides.{nat_tests}
 use Rattle.jfs_bits.specs.Broken.{first_broken}
 use Rattle.jfs_disk.specs.Image.{Image, page_of}
 use Rattle.jfs_inode.specs.Rules.{rows}
-use Rattle.jfs_plain.specs.Tree.{Tree}
-use Rattle.jfs_plain.specs.Plain.{node_at, byte_at, Became, tree_of}
+use Rattle.jfs_plain.specs.Plain.{node_at, Became}
 use Rattle.jfs_plain.specs.Build.{IsEmpty, holding}
 use Rattle.jfs_plain.specs.declared.node.Node.{Node}
 use Rattle.jfs_plain.specs.declared.plain.PlainTree.{PlainTree}
 use Rattle.jfs_objects.specs.Objects.{Object, IsWhole}
-use Rattle.jfs_objects.specs.Volume.{home}
-use Rattle.jfs_objects.specs.Image.{iags_on, extents_on}
+use Rattle.jfs_objects.specs.Image.{iags_on}
 use Rattle.jfs_objects.proofs.Found.{no_home}
 use Rattle.jfs_meaning.specs.Tree.{node_on, byte_on}
 use Rattle.jfs_meaning.specs.Node.{node_in}
 use Rattle.jfs_meaning.specs.Contents.{byte_in}
 use Rattle.jfs_reader.proofs.Homes.{home_past}
 use Rattle.jfs_mount.specs.Subject.{object, volume}
-use Rattle.jfs_image.specs.Image.{HasTree, super_on, subject_on}
+use Rattle.jfs_image.specs.Image.{subject_on}
 use Rattle.jfs_image.specs.Held.{IsHeld}
 use Rattle.jfs_image.specs.Tree.{IsUpTo}
 

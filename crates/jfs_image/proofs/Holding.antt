@@ -1,5 +1,5 @@
 -- An object as it was read.
-use Rattle.std.proofs.Common.{◌≡◌, refl, sym, ap, ◌∙◌, subst, ℕ, ◌/◌, ◌%◌, ◌&&◌, nat_lt, Bool, true, false, if◌then◌else◌, List, [], get_or, Option, Some, None, Result, Ok, Err}
+use Rattle.std.proofs.Common.{◌≡◌, refl, sym, ap, ◌∙◌, ℕ, ◌/◌, ◌%◌, ◌&&◌, nat_lt, Bool, true, false, if◌then◌else◌, List, [], get_or, Option, Some, None, Result, Ok}
 use Rattle.std.specs.Prelude.{is_none}
 use Rattle.jfs_bits.specs.declared.extent.Xad.{Xad}
 use Rattle.jfs_bits.specs.declared.rule.Rule.{Rule}
@@ -13,10 +13,10 @@ use Rattle.jfs_name.specs.declared.name.NameEntry.{NameEntry}
 use Rattle.jfs_plain.specs.Step.{bytes_from}
 use Rattle.jfs_plain.specs.declared.node.Node.{Node}
 use Rattle.jfs_objects.specs.Readers.{Readers}
-use Rattle.jfs_objects.specs.Objects.{Object, IsWhole, spelled, names_of, extents_of, listed}
+use Rattle.jfs_objects.specs.Objects.{spelled, names_of, listed}
 use Rattle.jfs_objects.specs.Owners.{entries}
 use Rattle.jfs_objects.specs.Contents.{block_of, bytes_at}
-use Rattle.jfs_meaning.specs.Contents.{byte_of, byte_in, is_regular}
+use Rattle.jfs_meaning.specs.Contents.{byte_of, is_regular}
 use Rattle.jfs_meaning.specs.Node.{is_symbolic, node_from, node_with}
 use Rattle.jfs_image.specs.Held.{byte_in_file, target_in, IsHeld, Breaks, NamesMay, ExtentsMay}
 use Rattle.jfs_image.proofs.Bytes.{byte_at}

@@ -1,5 +1,5 @@
 -- What is judged of an inode, and of what stands at its number.
-use Rattle.std.proofs.Common.{◌≡◌, refl, sym, ap, ◌∙◌, subst, ℕ, true, false, List, Option, Some, None, Result, Ok, Err, IfOk, Bool}
+use Rattle.std.proofs.Common.{◌≡◌, sym, ap, ◌∙◌, subst, ℕ, true, List, Some, Result, Ok, Err, IfOk, Bool}
 use Rattle.std.specs.Prelude.{is_none}
 use Rattle.jfs_bits.specs.declared.extent.Xad.{Xad}
 use Rattle.jfs_bits.specs.Broken.{first_broken}
@@ -10,10 +10,10 @@ use Rattle.jfs_name.specs.declared.name.NameEntry.{NameEntry}
 use Rattle.jfs_super.specs.Rules.{blocks_of}
 use Rattle.jfs_objects.specs.Readers.{Readers}
 use Rattle.jfs_objects.specs.Objects.{spelled}
-use Rattle.jfs_objects.proofs.Found.{no_home, object_at, no_object_at}
+use Rattle.jfs_objects.proofs.Found.{object_at, no_object_at}
 use Rattle.jfs_meaning.specs.Readers.{readers}
-use Rattle.jfs_mount.specs.Subject.{object, volume}
-use Rattle.jfs_image.specs.Image.{HasTree, super_on, subject_on}
+use Rattle.jfs_mount.specs.Subject.{volume}
+use Rattle.jfs_image.specs.Image.{super_on, subject_on}
 use Rattle.jfs_image.specs.Held.{NamesMay, ExtentsMay}
 use Rattle.jfs_image.specs.Standing.{InodeIs}
 use Rattle.jfs_image.specs.Judged.{IsSoundInode, JudgesAs, Judges}

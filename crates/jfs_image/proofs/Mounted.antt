@@ -1,5 +1,5 @@
 -- Where a mount finds no rule broken, each inode extent lies within the blocks.
-use Rattle.std.proofs.Common.{◌≡◌, ◌<◌, ◌≤◌, inl, inr, refl, sym, ap, ◌∙◌, subst, ℕ, suc, ◌+◌, ◌*◌, ◌/◌, ◌%◌, Bool, true, false, not, ◌==◌, ◌&&◌, ◌||◌, if◌then◌else◌, List, length, get_or, Option, Some, None, arith}
+use Rattle.std.proofs.Common.{◌≡◌, ◌<◌, ◌≤◌, inl, inr, refl, sym, ap, ◌∙◌, ℕ, ◌+◌, ◌*◌, ◌/◌, ◌%◌, Bool, true, false, not, ◌==◌, ◌&&◌, ◌||◌, if◌then◌else◌, get_or, Option, Some, None, arith}
 use Rattle.std.specs.Prelude.{nat_le}
 use Rattle.std.specs.List.{range_with_len}
 use Rattle.std.proofs.lemmas.Bool.{cases_lt, leb-true}
@@ -11,7 +11,7 @@ use Rattle.jfs_bits.specs.declared.rule.Rule.TheVariants as rules
 use Rattle.jfs_bits.proofs.Broken.{each_holds}
 use Rattle.jfs_iag.specs.Canonical.{is_there}
 use Rattle.jfs_objects.specs.Volume.{home, page_in}
-use Rattle.jfs_objects.specs.Image.{extent_place, extent_on, extents_on, iags_on}
+use Rattle.jfs_objects.specs.Image.{extent_place, extent_on}
 use Rattle.jfs_reader.proofs.Homes.{home_past, home_there}
 use Rattle.jfs_xtree.proofs.Reading.{and_true}
 use Rattle.jfs_mount.specs.Subject.{Subject, blocks, volume}

@@ -1,5 +1,5 @@
 -- An image that is opened, or isn't.
-use Rattle.std.proofs.Common.{◌≡◌, ◌<◌, ◌≤◌, ◌^◌, refl, sym, ap, ◌∙◌, subst, ℕ, suc, Bool, true, false, nat_le, List, [], length, get_or, Option, Some, None, Result, Ok, Err, arith}
+use Rattle.std.proofs.Common.{◌≡◌, ◌<◌, ◌≤◌, ◌^◌, refl, sym, ap, ◌∙◌, subst, ℕ, Bool, true, false, List, [], length, Option, Some, None, Ok, Err, arith}
 use Rattle.std.specs.Prelude.{is_none, slice_get}
 use Rattle.std.proofs.lemmas.Bool.{leb-true}
 use Rattle.std.proofs.lemmas.List.{length-map, get_or-map}
@@ -11,7 +11,7 @@ use Rattle.jfs_bits.specs.declared.rule.Rule.{Rule}
 use Rattle.jfs_bits.specs.Broken.{first_broken}
 use Rattle.jfs_bits.proofs.Broken.{each_holds}
 use Rattle.jfs_disk.specs.declared.page.Page.{Page}
-use Rattle.jfs_disk.specs.Image.{Image, page_of}
+use Rattle.jfs_disk.specs.Image.{page_of}
 use Rattle.jfs_disk.specs.Pages.{contents}
 use Rattle.jfs_super.specs.Super.{super_of}
 use Rattle.jfs_super.specs.Rules.{IsAccepted, rows, shape_rows}
@@ -24,7 +24,7 @@ use Rattle.jfs_objects.specs.Image.{file_extents, file_walk}
 use Rattle.jfs_objects.specs.Contents.{block_of}
 use Rattle.jfs_meaning.specs.Readers.{readers}
 use Rattle.jfs_reader.specs.Reading.{IsPast}
-use Rattle.jfs_image.specs.Image.{HasTree, super_on, subject_on}
+use Rattle.jfs_image.specs.Image.{HasTree, super_on}
 use Rattle.jfs_image.specs.Opened.{IsSuper}
 use Rattle.jfs_image.proofs.Within.{file_within, block_within}
 

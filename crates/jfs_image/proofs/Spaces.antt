@@ -1,25 +1,22 @@
 -- Free runs of blocks, and the room of an image.
-use Rattle.std.proofs.Common.{◌≡◌, ◌<◌, ◌≤◌, inl, inr, refl, sym, ap, ◌∙◌, subst, ℕ, zero, suc, ◌+◌, ◌*◌, ◌/◌, ◌==◌, Bool, true, false, not, ◌&&◌, nat_lt, if◌then◌else◌, List, length, get_or, map, Option, Some, None, is_some, arith}
+use Rattle.std.proofs.Common.{◌≡◌, ◌<◌, inl, inr, refl, sym, ap, ◌∙◌, subst, ℕ, zero, suc, ◌+◌, ◌*◌, ◌/◌, ◌==◌, Bool, true, false, not, ◌&&◌, nat_lt, if◌then◌else◌, length, Option, Some, None, is_some, arith}
 use Rattle.std.proofs.lemmas.Bool.{cases_lt}
-use Rattle.std.proofs.lemmas.Bool.Decides.{nat_tests}
 use Rattle.std.proofs.lemmas.List.FromFn.{length-map-range_with_len, get_or-map-range_with_len}
 use Rattle.jfs_bits.specs.Bits.{all_below, any_below, count_below, is_free, is_free_run}
-use Rattle.jfs_bits.specs.Broken.{first_broken}
 use Rattle.jfs_disk.specs.Image.{Image, page_of}
-use Rattle.jfs_inode.specs.Rules.{rows}
-use Rattle.jfs_super.specs.Rules.{IsAccepted, blocks_of}
+use Rattle.jfs_super.specs.Rules.{IsAccepted}
 use Rattle.jfs_super.specs.declared.fields.Super.{Super}
 use Rattle.jfs_objects.specs.Volume.{room}
-use Rattle.jfs_objects.specs.Objects.{Object, IsWhole}
+use Rattle.jfs_objects.specs.Objects.{Object}
 use Rattle.jfs_objects.specs.Image.{extent_on, extents_on, iags_on}
 use Rattle.jfs_meaning.specs.Image.{room_of}
-use Rattle.jfs_meaning.specs.Readers.{readers}
 use Rattle.jfs_meaning.specs.Room.{or_else, lowest, is_free_inode, is_empty_place, first_of, has_run}
-use Rattle.jfs_owners.specs.Counts.{OwnerSets, Counts}
+use Rattle.jfs_owners.specs.Counts.{Counts}
 use Rattle.jfs_owners.specs.Held.{owned_below}
+use Rattle.jfs_owners.proofs.SetBits.{tested}
 use Rattle.jfs_mount.specs.Subject.{object, volume, blocks}
 use Rattle.jfs_image.specs.Image.{HasTree, super_on, subject_on}
-use Rattle.jfs_image.specs.View.{image_of, blocks_in}
+use Rattle.jfs_image.specs.View.{image_of}
 use Rattle.jfs_image.specs.Opened.{IsOpened}
 use Rattle.jfs_image.specs.Tallied.{IsTallied}
 use Rattle.jfs_image.specs.Room.{FreshIs, IsRoomOf}
@@ -31,12 +28,6 @@ use Rattle.jfs_image.proofs.Lowest.{lowest_same}
 use Rattle.jfs_image.proofs.Whole.{iags_are}
 
 -- ---- four blocks
-
-pub tested : (n : ℕ) → nat_lt 0 n ≡ not (n == 0)
-tested n = elim (cases_lt 0 n) [
-  | inl l ↦ (let a : nat_lt 0 n ≡ true = grind (arith, nat_tests) in let b : (n == 0) ≡ false = grind (arith, nat_tests) in a ∙ sym (ap not b))
-  | inr l ↦ (let a : nat_lt 0 n ≡ false = grind (arith, nat_tests) in let b : (n == 0) ≡ true = grind (arith, nat_tests) in a ∙ sym (ap not b))
-]
 
 pub all_next : (n m : ℕ) (f : ℕ → Bool) → m ≡ n + 1 → all_below n f ≡ true → f n ≡ true → all_below m f ≡ true
 unfolding all_below
@@ -75,23 +66,6 @@ owned_in count j i b r at told it = ap (λ (k : ℕ). not (not (count k == 0))) 
 
 pub unowned_in : (count : ℕ → ℕ) (j i b : ℕ) (r : Bool) → b ≡ j * 4 + i → r ≡ nat_lt 0 (count b) → r ≡ false → free_in count j i ≡ true
 unowned_in count j i b r at told isnt = ap (λ (k : ℕ). not (not (count k == 0))) (sym at) ∙ ap not (sym (tested (count b)) ∙ sym told ∙ isnt)
-
-abbrev pub one_if : Bool → ℕ
-one_if b = if b then 1 else 0
-
-one_none : (b : Bool) → not b ≡ true → one_if b ≡ 0
-one_none true e = absurd cc
-one_none false e = refl
-
-one_there : (b : Bool) → not b ≡ false → one_if b ≡ 1
-one_there true e = refl
-one_there false e = absurd cc
-
-pub owned_one : (n : ℕ) (r : Bool) → r ≡ nat_lt 0 n → r ≡ true → one_if (n == 0) ≡ 0
-owned_one n r told it = one_none (n == 0) (sym (tested n) ∙ sym told ∙ it)
-
-pub unowned_one : (n : ℕ) (r : Bool) → r ≡ nat_lt 0 n → r ≡ false → one_if (n == 0) ≡ 1
-unowned_one n r told isnt = one_there (n == 0) (sym (tested n) ∙ sym told ∙ isnt)
 
 -- a place with an extent, and one without
 pub empty_there : (o x : Option ℕ) (r : Bool) → o ≡ x → is_some o ≡ not r → r ≡ true → not (is_some x) ≡ true

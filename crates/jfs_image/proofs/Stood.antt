@@ -1,14 +1,13 @@
 -- What stands at a number, by its inode.
-use Rattle.std.proofs.Common.{◌≡◌, ◌<◌, ◌≤◌, refl, sym, ap, ◌∙◌, subst, ℕ, suc, ◌/◌, ◌%◌, true, false, List, Option, Some, None, Result, Ok, Err, IfOk, arith}
+use Rattle.std.proofs.Common.{◌≡◌, ◌<◌, refl, sym, subst, ℕ, suc, ◌/◌, true, List, Option, Some, None, Result, Ok, Err, IfOk, arith}
 use Rattle.jfs_disk.specs.Image.{Image, page_of}
 use Rattle.jfs_inode.specs.declared.fields.Dinode.{Dinode}
 use Rattle.jfs_bits.specs.declared.extent.Xad.{Xad}
 use Rattle.jfs_super.specs.Rules.{blocks_of}
 use Rattle.jfs_xtree.specs.Node.{all_within}
-use Rattle.jfs_objects.specs.Volume.{home, slot_of}
-use Rattle.jfs_objects.specs.Objects.{is_live, spelled}
-use Rattle.jfs_objects.specs.Contents.{block_of}
-use Rattle.jfs_objects.specs.Image.{extents_on, file_extents}
+use Rattle.jfs_objects.specs.Volume.{home}
+use Rattle.jfs_objects.specs.Objects.{spelled}
+use Rattle.jfs_objects.specs.Image.{extents_on}
 use Rattle.jfs_objects.proofs.Found.{no_home, object_at, no_object_at}
 use Rattle.jfs_meaning.specs.Readers.{readers}
 use Rattle.jfs_reader.specs.Reading.{IsPast, OutsideIsPast}
@@ -16,11 +15,9 @@ use Rattle.jfs_reader.specs.Map.{IsInodeMap, iag_block}
 use Rattle.jfs_reader.specs.declared.map.InodeMap.{InodeMap}
 use Rattle.jfs_reader.specs.declared.error.ReadError.{ReadError}
 use Rattle.jfs_reader.specs.declared.error.ReadError.TheVariants.{View, Outside}
-use Rattle.jfs_mount.specs.Subject.{object, volume}
-use Rattle.jfs_image.specs.Image.{HasTree, super_on, subject_on}
-use Rattle.jfs_image.specs.View.{image_of, blocks_in}
-use Rattle.jfs_image.specs.Standing.{IsReady, ReadsInode, InodeIs, Stands, StandsAs}
-use Rattle.jfs_image.specs.declared.view.ListView.{ListView}
+use Rattle.jfs_mount.specs.Subject.{volume}
+use Rattle.jfs_image.specs.Image.{super_on, subject_on}
+use Rattle.jfs_image.specs.Standing.{ReadsInode, InodeIs, Stands, StandsAs}
 use Rattle.jfs_image.specs.declared.standing.Standing.{Standing}
 use Rattle.jfs_image.specs.declared.standing.Standing.TheVariants as standing
 use Rattle.jfs_image.proofs.Within.{file_within, block_within}

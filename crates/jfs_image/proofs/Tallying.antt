@@ -1,5 +1,5 @@
 -- What was counted, number by number.
-use Rattle.std.proofs.Common.{◌≡◌, ◌<◌, ◌≤◌, inl, inr, refl, sym, ap, ◌∙◌, subst, ℕ, suc, ◌+◌, ◌*◌, Bool, true, false, not, ◌&&◌, List, Option, Some, None, is_some, arith}
+use Rattle.std.proofs.Common.{◌≡◌, ◌<◌, inl, inr, refl, sym, ap, ◌∙◌, subst, ℕ, suc, ◌+◌, false, not, ◌&&◌, Option, Some, None, is_some, arith}
 use Rattle.std.proofs.lemmas.Bool.{cases_lt}
 use Rattle.jfs_bits.specs.Broken.{first_broken}
 use Rattle.jfs_disk.specs.Image.{Image, page_of}
@@ -7,7 +7,6 @@ use Rattle.jfs_inode.specs.Rules.{rows}
 use Rattle.jfs_inode.specs.declared.fields.Dinode.{Dinode}
 use Rattle.jfs_super.specs.Rules.{blocks_of}
 use Rattle.jfs_super.specs.declared.fields.Super.{Super}
-use Rattle.jfs_objects.specs.Readers.{Readers}
 use Rattle.jfs_objects.specs.Volume.{home}
 use Rattle.jfs_objects.specs.Objects.{Object, IsWhole, spelled}
 use Rattle.jfs_objects.specs.Owners.{holds, sum_below, extents_have}
@@ -17,8 +16,8 @@ use Rattle.jfs_meaning.specs.Readers.{readers}
 use Rattle.jfs_meaning.specs.Room.{or_else, lowest, is_free_inode}
 use Rattle.jfs_owners.specs.Counts.{OwnerSets, Counts, Adds}
 use Rattle.jfs_owners.specs.Held.{owned_below}
-use Rattle.jfs_mount.specs.Subject.{object, volume, blocks}
-use Rattle.jfs_image.specs.Image.{HasTree, super_on, subject_on}
+use Rattle.jfs_mount.specs.Subject.{object, volume}
+use Rattle.jfs_image.specs.Image.{super_on, subject_on}
 use Rattle.jfs_image.specs.View.{image_of, blocks_in}
 use Rattle.jfs_image.specs.Judged.{HasHome, IsSoundInode}
 use Rattle.jfs_image.specs.Opened.{IsOpened}

@@ -1,5 +1,5 @@
 -- Pages of a list, by their places, and bytes of them.
-use Rattle.std.proofs.Common.{◌≡◌, ◌<◌, ◌≤◌, inl, inr, refl, sym, ap, ◌∙◌, ℕ, List, [], length, get_or, map, arith, Option, Some, None, Err}
+use Rattle.std.proofs.Common.{◌≡◌, ◌<◌, ◌≤◌, inl, inr, sym, ap, ◌∙◌, ℕ, List, [], length, get_or, arith, Option, Some, None, Err}
 use Rattle.std.specs.Prelude.{slice_get}
 use Rattle.std.proofs.lemmas.List.{get_or-map, get_or_past, length-map}
 use Rattle.std.proofs.lemmas.Option.{get_or_from_slice_get, slice_get_cases}

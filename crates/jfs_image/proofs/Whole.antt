@@ -1,11 +1,10 @@
 -- The whole tree of an image.
-use Rattle.std.proofs.Common.{◌≡◌, ◌<◌, ◌≤◌, ◌^◌, inl, inr, refl, sym, ap, ◌∙◌, subst, ℕ, ◌*◌, Bool, true, false, nat_lt, if◌then◌else◌, length, Option, Some, None, arith}
+use Rattle.std.proofs.Common.{◌≡◌, ◌<◌, ◌≤◌, inl, inr, refl, sym, ap, ◌∙◌, subst, ℕ, ◌*◌, Bool, true, false, nat_lt, if◌then◌else◌, length, Option, Some, None, arith}
 use Rattle.std.proofs.lemmas.Bool.{cases_lt}
 use Rattle.std.proofs.lemmas.Bool.Decides.{nat_tests}
 use Rattle.jfs_disk.specs.Image.{Image, page_of}
-use Rattle.jfs_super.specs.Rules.{IsAccepted, blocks_of}
+use Rattle.jfs_super.specs.Rules.{IsAccepted}
 use Rattle.jfs_super.specs.declared.fields.Super.{Super}
-use Rattle.jfs_plain.specs.Plain.{node_at, byte_at}
 use Rattle.jfs_plain.specs.declared.plain.PlainTree.{PlainTree}
 use Rattle.jfs_objects.specs.Objects.{Object}
 use Rattle.jfs_objects.specs.Image.{iags_on}
@@ -14,8 +13,8 @@ use Rattle.jfs_meaning.specs.Tree.{node_on, byte_on}
 use Rattle.jfs_meaning.specs.Node.{node_in}
 use Rattle.jfs_meaning.specs.Contents.{byte_in}
 use Rattle.jfs_mount.specs.Subject.{object, volume}
-use Rattle.jfs_image.specs.Image.{HasTree, super_on, subject_on}
-use Rattle.jfs_image.specs.Opened.{IsOpened, IsSuper}
+use Rattle.jfs_image.specs.Image.{subject_on}
+use Rattle.jfs_image.specs.Opened.{IsOpened}
 use Rattle.jfs_image.specs.Tree.{IsUpTo, IsTreeOf}
 use Rattle.jfs_image.specs.View.{image_of}
 use Rattle.jfs_image.specs.declared.opened.Opened.{Opened}

@@ -1,5 +1,5 @@
 -- What a tree of extents spells lies within the blocks of the file system part.
-use Rattle.std.proofs.Common.{◌≡◌, ◌<◌, refl, sym, subst, ap, ◌∙◌, ℕ, zero, suc, ◌+◌, ◌-◌, Bool, true, false, ◌&&◌, ◌==◌, if◌then◌else◌, List, [], ◌∷◌, ◌++◌, map, Option, Some, None, Result, Ok, Err, arith}
+use Rattle.std.proofs.Common.{◌≡◌, ◌<◌, refl, subst, ap, ◌∙◌, ℕ, zero, suc, ◌+◌, ◌-◌, Bool, true, false, ◌&&◌, ◌==◌, if◌then◌else◌, List, [], ◌∷◌, ◌++◌, Option, Some, None, Result, Ok, Err, arith}
 use Rattle.std.specs.Prelude.{nat_le, nat_lt}
 use Rattle.std.specs.Int.RustNames.{bit_and}
 use Rattle.std.specs.List.{flat_map}
@@ -9,15 +9,13 @@ use Rattle.jfs_bits.specs.declared.extent.Xad.{Xad}
 use Rattle.jfs_bits.specs.declared.rule.Rule.{Rule}
 use Rattle.jfs_xtpage.specs.declared.head.XtForm.{XtForm}
 use Rattle.jfs_xtpage.specs.declared.head.XtForm.TheVariants.{Root, Full}
-use Rattle.jfs_xtpage.specs.Page.{entries_of}
-use Rattle.jfs_tree.specs.Walk.{Child, Node, Leaf, Inner, Broken, Row, Marks, Scale, placed, under, body, walk, rows_of}
+use Rattle.jfs_tree.specs.Walk.{Child, Node, Leaf, Inner, Broken, Marks, Scale, placed, under, body, walk, rows_of}
 use Rattle.jfs_tree.specs.Spells.{no_page, with_root, levels_of, along_first, first_path, top, at_levels, tree_of, judge}
 use Rattle.jfs_tree.proofs.Frame.{rows-append}
 use Rattle.jfs_tree.proofs.Leaves.{rows_leaf}
 use Rattle.jfs_tree.proofs.Judge.{judged}
 use Rattle.jfs_xtree.specs.Node.{xt_scale, xt_node, is_within, all_within}
 use Rattle.jfs_xtree.proofs.Reading.{and_true, leaf_is}
-use Rattle.jfs_inode.specs.declared.fields.Dinode.{Dinode}
 use Rattle.jfs_objects.specs.Owners.{entries}
 use Rattle.jfs_objects.specs.Objects.{listed}
 use Rattle.jfs_objects.specs.Contents.{block_in, block_of}

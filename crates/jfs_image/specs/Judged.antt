@@ -1,5 +1,5 @@
 -- What stands at a number, and whether it breaks a rule.
-use Rattle.std.specs.Prelude.{◌≡◌, ℕ, true, false, List, Option, Some, None}
+use Rattle.std.specs.Prelude.{◌≡◌, ℕ, true, false, List, Some, None}
 use Rattle.jfs_bits.specs.Broken.{first_broken}
 use Rattle.jfs_disk.specs.Image.{Image, page_of}
 use Rattle.jfs_inode.specs.Rules.{rows}

@@ -1,5 +1,5 @@
 -- An image that was opened.
-use Rattle.std.specs.Prelude.{◌≡◌, ◌<◌, ◌≤◌, ◌^◌, ℕ, length, Option, Some, None}
+use Rattle.std.specs.Prelude.{◌≡◌, ◌<◌, ◌≤◌, ◌^◌, length, Option, Some, None}
 use Rattle.jfs_disk.specs.Image.{Image}
 use Rattle.jfs_super.specs.Rules.{IsAccepted}
 use Rattle.jfs_super.specs.Geometry.{file_limit_of}

@@ -9,7 +9,7 @@ ghost use Rattle.jfs_image.specs.Room.{RoomIs, FreshIs};
 
 use crate::open::open;
 use crate::opened::Opened;
-use crate::space::{empty_place, free_blocks, has_run};
+use crate::space::{empty_place, has_run};
 use crate::tallied::Tally;
 use crate::tally::tally;
 use jfs_disk::PageList;
@@ -41,7 +41,7 @@ pub fn room_of(alloc: Global, image: &PageList) -> Result<Option<Room>, AllocErr
     };
     let inode = fresh(&opened, &tally)?;
     Ok(Some(Room {
-        free: free_blocks(&tally.owners),
+        free: tally.owners.free(),
         inode,
     }))
 }

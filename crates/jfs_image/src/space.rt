@@ -1,8 +1,8 @@
 //! How much space is left.
 
-ghost use Rattle.std.specs.Prelude.{◌≡◌, ◌<◌, ◌≤◌, ◌+◌, ◌*◌, ◌/◌, ◌==◌, not, if◌then◌else◌, ℕ, IfOk, is_some};
+ghost use Rattle.std.specs.Prelude.{◌≡◌, ◌<◌, ◌+◌, ◌*◌, ◌/◌, ◌==◌, not, ℕ, IfOk, is_some};
 ghost use Rattle.jfs_disk.specs.Image.{page_of};
-ghost use Rattle.jfs_bits.specs.Bits.{any_below, count_below, is_free_run};
+ghost use Rattle.jfs_bits.specs.Bits.{any_below, is_free_run};
 ghost use Rattle.jfs_objects.specs.Image.{extent_on};
 ghost use Rattle.jfs_meaning.specs.Readers.{readers};
 ghost use Rattle.jfs_meaning.specs.Room.{lowest};
@@ -15,27 +15,6 @@ use crate::view::ListView;
 use jfs_owners::Owners;
 use jfs_reader::InodeMap;
 use std::alloc::AllocError;
-
-/// The number of blocks without an owner.
-pub(crate) fn free_blocks(owners: &Owners) -> u32
-    ensures { (count : ℕ → ℕ) → Counts owners.now count → result ≡ count_below owners.now.blocks (λ b. count b == 0) }
-{
-    let blocks = owners.blocks();
-    let mut free: u32 = 0;
-    for b in 0..blocks {
-        free += unowned(owners, b);
-    }
-    free
-}
-
-/// 1 for a block without an owner, else 0.
-fn unowned(owners: &Owners, b: u32) -> u32
-    requires { b < owners.now.blocks }
-    ensures one { (count : ℕ → ℕ) → Counts owners.now count → result ≡ (if count b == 0 then 1 else 0) }
-    ensures small { result ≤ 1 }
-{
-    if owners.is_owned(b) { 0 } else { 1 }
-}
 
 /// Whether an aligned run of four blocks has no owner.
 pub(crate) fn has_run(owners: &Owners) -> bool

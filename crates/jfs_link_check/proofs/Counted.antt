@@ -1,17 +1,16 @@
 -- Counts over one directory more.
 use Rattle.std.proofs.Common.{◌≡◌, ◌<◌, refl, sym, ap, ◌∙◌, subst, ℕ, suc, ◌+◌, Bool, true, false, ◌==◌, if◌then◌else◌, List, length, get_or, replicate, arith}
 use Rattle.std.proofs.lemmas.Bool.{eqb-true, eqb-false}
+use Rattle.std.proofs.lemmas.Bool.Decides.{nat_tests}
 use Rattle.std.proofs.lemmas.List.{get_or-replicate, length-replicate}
-use Rattle.jfs_name.specs.declared.name.NameEntry.{NameEntry}
 use Rattle.jfs_objects.specs.Owners.{sum_below}
-use Rattle.jfs_meaning.specs.Consistent.{leading_to}
-use Rattle.jfs_link_check.specs.Counts.{CountedNames, CountsBelow, count_of, namer_of, ends}
+use Rattle.jfs_link_check.specs.Counts.{CountedNames, CountsBelow, AddsNames, count_of, namer_of, ends}
 
-pub sum_more : (m : ℕ) (f : ℕ → ℕ) → sum_below (suc m) f ≡ sum_below m f + f m
+sum_more : (m : ℕ) (f : ℕ → ℕ) → sum_below (suc m) f ≡ sum_below m f + f m
 unfolding sum_below
 sum_more m f = refl
 
-pub sum_none : (f : ℕ → ℕ) → sum_below 0 f ≡ 0
+sum_none : (f : ℕ → ℕ) → sum_below 0 f ≡ 0
 unfolding sum_below
 sum_none f = refl
 
@@ -25,17 +24,44 @@ none_counted most names c e = record {
     zeros : (n : ℕ) → n < most → count_of c n ≡ 0
     zeros n l = ap (λ (l : List ℕ). get_or l n 0) e ∙ get_or-replicate most n 0 0 l
 
+-- ---- names of one directory
+
+pub adds_nothing : (dir : ℕ) (lead : ℕ → ℕ) (c : CountedNames) → ((n : ℕ) → lead n ≡ 0) → AddsNames dir lead c c
+adds_nothing dir lead c none = record {
+  size = refl;
+  counts = λ n l. let none_here = none n in omega (arith, none_here);
+  namers = λ n l. sym (ap (λ (k : ℕ). if k == 0 then namer_of c n else dir) (none n));
+}
+
+-- the same counts, otherwise said
+pub adds_as : (dir : ℕ) (f g : ℕ → ℕ) (a b : CountedNames) → ((n : ℕ) → f n ≡ g n) → AddsNames dir f a b → AddsNames dir g a b
+adds_as dir f g a b same h = record {
+  size = h.size;
+  counts = λ n l. let is = h.counts n l in let e = same n in omega (arith, is, e);
+  namers = λ n l. h.namers n l ∙ ap (λ (k : ℕ). if k == 0 then namer_of a n else dir) (same n);
+}
+
+-- some names, and then others
+pub adds_both : (dir : ℕ) (f g lead : ℕ → ℕ) (a b c : CountedNames) → ((n : ℕ) → lead n ≡ f n + g n) → AddsNames dir f a b → AddsNames dir g b c → AddsNames dir lead a c
+adds_both dir f g lead a b c all h k = record {
+  size = k.size ∙ h.size;
+  counts = λ n l. (
+      let first = h.counts n l in let second = k.counts n (let size = h.size in omega (arith, l, size)) in let sum = all n in
+      omega (arith, first, second, sum));
+  namers = λ n l. last (f n) (g n) (lead n) (namer_of a n) (namer_of b n) (namer_of c n) (all n) (h.namers n l) (k.namers n (let size = h.size in omega (arith, l, size)));
+}
+  where
+    last : (f g lead x y z : ℕ) → lead ≡ f + g → y ≡ (if f == 0 then x else dir) → z ≡ (if g == 0 then y else dir) → z ≡ (if lead == 0 then x else dir)
+    last f g lead x y z sum first second = grind (arith, nat_tests)
+
 -- a directory whose names were counted
-module _ (most dir : ℕ) (of : ℕ → ℕ → ℕ) (lead : ℕ → ℕ) (old new : CountedNames) (is : CountsBelow most of dir old) (same : (n : ℕ) → of dir n ≡ lead n)
-    (size : length new.counts ≡ length old.counts)
-    (counts : (n : ℕ) → n < length old.counts → ends (count_of new n) ≡ ends (count_of old n + lead n))
-    (namers : (n : ℕ) → n < length old.counts → namer_of new n ≡ (if lead n == 0 then namer_of old n else dir)) where
+module _ (most dir : ℕ) (of : ℕ → ℕ → ℕ) (lead : ℕ → ℕ) (old new : CountedNames) (is : CountsBelow most of dir old) (same : (n : ℕ) → of dir n ≡ lead n) (adds : AddsNames dir lead old new) where
   within : (n : ℕ) → n < most → n < length old.counts
   within n l = let s = is.size in omega (arith, l, s)
 
   count_is : (n : ℕ) → n < most → ends (count_of new n) ≡ ends (sum_below (suc dir) (λ d. of d n))
   count_is n l =
-      let now = counts n (within n l) in
+      let now = adds.counts n (within n l) in
       let was = is.counts n l in
       let more = sum_more dir (λ d. of d n) in
       let here = same n in
@@ -49,27 +75,25 @@ module _ (most dir : ℕ) (of : ℕ → ℕ → ℕ) (lead : ℕ → ℕ) (old n
 
       before : lead n ≡ 0 → P (namer_of old n)
       before e =
-          let now = counts n (within n l) in
+          let now = adds.counts n (within n l) in
           let some : 0 < count_of old n = omega (arith, h, now, e) in
           let was = is.namers n l some in
           (let w = was.0 in omega (arith, w), was.1)
 
       by : (b : Bool) → (lead n == 0) ≡ b → P (namer_of new n)
-      by true e = subst P (sym (namers n (within n l) ∙ ap (λ (b : Bool). if b then namer_of old n else dir) e)) (before (eqb-true (lead n) 0 e))
+      by true e = subst P (sym (adds.namers n (within n l) ∙ ap (λ (b : Bool). if b then namer_of old n else dir) e)) (before (eqb-true (lead n) 0 e))
       by false e =
           let here = same n in
           let some = eqb-false (lead n) 0 e in
-          subst P (sym (namers n (within n l) ∙ ap (λ (b : Bool). if b then namer_of old n else dir) e)) (omega arith, (let n0 : lead n ≡ 0 → ⊥ = some in omega (arith, here, n0)))
+          subst P (sym (adds.namers n (within n l) ∙ ap (λ (b : Bool). if b then namer_of old n else dir) e)) (omega arith, (let n0 : lead n ≡ 0 → ⊥ = some in omega (arith, here, n0)))
 
   pub counted : CountsBelow most of (suc dir) new
-  counted = record { size = size ∙ is.size; counts = count_is; namers = namer_is }
+  counted = record { size = adds.size ∙ is.size; counts = count_is; namers = namer_is }
 
--- the same, of lists that were read and written
-pub added : (most dir : ℕ) (of : ℕ → ℕ → ℕ) (names given : List NameEntry) (old : CountedNames) (c0 c1 n0 n1 counts_now namers_now : List ℕ) → counts_now ≡ c1 → namers_now ≡ n1 → c0 ≡ old.counts → n0 ≡ old.namers → given ≡ names → length c1 ≡ length c0
-    → ((n : ℕ) → n < length c0 → ends (get_or c1 n 0) ≡ ends (get_or c0 n 0 + leading_to n given))
-    → ((n : ℕ) → n < length c0 → get_or n1 n 0 ≡ (if leading_to n given == 0 then get_or n0 n 0 else dir))
-    → CountsBelow most of dir old → ((n : ℕ) → of dir n ≡ leading_to n names)
-    → CountsBelow most of (suc dir) (record { counts = counts_now; namers = namers_now })
-added most dir of names given old c0 c1 n0 n1 counts_now namers_now h j e f g size counts namers is same =
-    rw (h, j) (counted most dir of (λ n. leading_to n given) (record { counts = c0; namers = n0 }) (record { counts = c1; namers = n1 })
-    (rw (e, f) is) (λ n. same n ∙ ap (λ (es : List NameEntry). leading_to n es) (sym g)) size counts namers)
+-- an inode without names
+pub passed : (most dir : ℕ) (of : ℕ → ℕ → ℕ) (c : CountedNames) → CountsBelow most of dir c → ((n : ℕ) → of dir n ≡ 0) → CountsBelow most of (suc dir) c
+passed most dir of c is none = record {
+  size = is.size;
+  counts = λ n l. let was = is.counts n l in let more = sum_more dir (λ d. of d n) in let here = none n in omega (arith, was, more, here);
+  namers = λ n l h. let w = is.namers n l h in (let low = w.0 in omega (arith, low), w.1);
+}

@@ -1,9 +1,10 @@
 pub mod Counted
 pub mod Named
 pub mod Walked
-pub mod Astray
+pub mod Standing
+pub mod Used
+pub mod Directory
 pub mod Noted
-pub mod Judged
 pub mod Due
 pub mod Readable
 pub mod Told

@@ -1,14 +1,14 @@
 -- What is found at each number is what can be read of the file tree.
-use Rattle.std.proofs.Common.{◌≡◌, ◌<◌, ◌≤◌, refl, sym, ap, ◌∙◌, subst, ℕ, ◌*◌, ◌/◌, ◌%◌, Bool, true, false, not, ◌&&◌, if◌then◌else◌, List, length, Option, Some, None, is_some, option_map, arith}
-use Rattle.std.proofs.lemmas.List.{get_or_past}
+use Rattle.std.proofs.Common.{◌≡◌, ◌<◌, refl, sym, ap, ◌∙◌, subst, ℕ, ◌%◌, Bool, true, false, not, ◌&&◌, if◌then◌else◌, List, Option, Some, None, is_some, option_map}
 use Rattle.jfs_inode.specs.declared.fields.Dinode.{Dinode}
 use Rattle.jfs_super.specs.Rules.{blocks_of}
 use Rattle.jfs_super.specs.declared.fields.Super.{Super}
-use Rattle.jfs_objects.specs.Volume.{home, page_in, slot_of}
+use Rattle.jfs_objects.specs.Volume.{home, slot_of}
 use Rattle.jfs_objects.specs.Objects.{Object, has_names, is_live, objects, object_in, spelled}
 use Rattle.jfs_objects.specs.Image.{extents_on}
 use Rattle.jfs_objects.proofs.Sums.{sum_same}
 use Rattle.jfs_meaning.specs.Readers.{readers}
+use Rattle.jfs_meaning.specs.Node.{parent_in}
 use Rattle.jfs_meaning.specs.Consistent.{is_reserved, leading_to, names_in, names_for, is_directory}
 use Rattle.jfs_mount.specs.Subject.{Subject, subject_of, object, IsObject}
 use Rattle.jfs_findings.specs.Names.{readable, readable_node, leads}
@@ -17,8 +17,9 @@ use Rattle.jfs_each.specs.Each.{Found, live_in, found_at}
 use Rattle.jfs_link_check.specs.Counts.{CountedNames, CountsBelow, ends}
 use Rattle.jfs_link_check.specs.Uses.{use_in, use_of, use_at, is_used, is_directory as holds_names, may_be_named}
 use Rattle.jfs_link_check.specs.Notes.{names_by, names_found}
-use Rattle.jfs_link_check.specs.declared.notes.Use.{Use}
-use Rattle.jfs_link_check.specs.declared.notes.Use.TheVariants.{Directory, Other}
+use Rattle.jfs_link_check.specs.declared.uses.Use.{Use}
+use Rattle.jfs_link_check.specs.declared.uses.Use.TheVariants.{Directory, Other}
+use Rattle.jfs_link_check.proofs.Standing.{stands}
 
 -- counts by other words for the same numbers
 pub counts_as : (most k : ℕ) (of other : ℕ → ℕ → ℕ) (c : CountedNames) → ((dir n : ℕ) → of dir n ≡ other dir n) → CountsBelow most of k c → CountsBelow most other k c
@@ -50,25 +51,8 @@ module _ (super : Super) (page : ℕ → List ℕ) where
       by None = refl
       by (Some p) = live (is_live n (slot_of (page p) (n % 8))) p (slot_of (page p) (n % 8))
 
-  stands : (n : ℕ) (f : Found) → found n ≡ Some f → home (extents_on (readers (blocks_of super)) page) n ≡ Some f.page
-  stands n f e = by (home (extents_on (readers (blocks_of super)) page) n) refl
-    where
-      none_is : None ≡ Some f → ⊥
-      none_is h = cc h
-
-      some_is : (g : Found) → Some g ≡ Some f → g ≡ f
-      some_is g h = cc h
-
-      live : (b : Bool) (p : ℕ) (d : Dinode) → (if b then Some (record { page = p; inode = d }) else None) ≡ Some f → p ≡ f.page
-      live true p d h = ap (λ (g : Found). g.page) (some_is (record { page = p; inode = d }) h)
-      live false p d h = absurd (none_is h)
-
-      by : (h : Option ℕ) → home (extents_on (readers (blocks_of super)) page) n ≡ h → home (extents_on (readers (blocks_of super)) page) n ≡ Some f.page
-      by None is = absurd (none_is (sym (ap (live_in page n) is) ∙ e))
-      by (Some p) is = is ∙ ap Some (live (is_live n (slot_of (page p) (n % 8))) p (slot_of (page p) (n % 8)) (sym (ap (live_in page n) is) ∙ e))
-
   pub is_object : (n : ℕ) (f : Found) → found n ≡ Some f → IsObject subject n f.page (object_of f)
-  is_object n f e = record { is = seen n ∙ ap (option_map object_of) e; stands = stands n f e }
+  is_object n f e = record { is = seen n ∙ ap (option_map object_of) e; stands = stands page (extents_on (readers (blocks_of super)) page) n f e }
 
   pub found_of : (n at : ℕ) (o : Object) → IsObject subject n at o → (f : Found) × (found n ≡ Some f) × (f.page ≡ at) × (object_of f ≡ o)
   found_of n at o is = by (found n) refl
@@ -84,10 +68,7 @@ module _ (super : Super) (page : ℕ → List ℕ) where
 
       by : (x : Option Found) → found n ≡ x → (f : Found) × (found n ≡ Some f) × (f.page ≡ at) × (object_of f ≡ o)
       by None e = absurd (none_is o (sym (seen n ∙ ap (option_map object_of) e) ∙ is.is))
-      by (Some f) e = (f, e, same_page f.page at (sym (stands n f e) ∙ is.stands), some_is (object_of f) o (sym (seen n ∙ ap (option_map object_of) e) ∙ is.is))
-
-  pub none_past : (n : ℕ) → 32 * length (extents_on (readers (blocks_of super)) page) ≤ n → found n ≡ None
-  none_past n l = ap (λ (o : Option ℕ). live_in page n (page_in o n)) (get_or_past (extents_on (readers (blocks_of super)) page) (n / 32) None (omega (arith, l)))
+      by (Some f) e = (f, e, same_page f.page at (sym (stands page (extents_on (readers (blocks_of super)) page) n f e) ∙ is.stands), some_is (object_of f) o (sym (seen n ∙ ap (option_map object_of) e) ∙ is.is))
 
   names_at : (o : Option Found) → names_in (option_map (readable_node subject) (option_map object_of o)) ≡ names_found (blocks_of super) page o
   unfolding spelled
@@ -100,7 +81,7 @@ module _ (super : Super) (page : ℕ → List ℕ) where
   use_is : (d : Dinode) → holds_names (use_of d) ≡ has_names d
   use_is d = by (has_names d)
     where
-      by : (b : Bool) → holds_names (if b then Directory else Other) ≡ b
+      by : (b : Bool) → holds_names (if b then Directory (parent_in d) else Other d.nlink) ≡ b
       by true = refl
       by false = refl
 
@@ -113,7 +94,7 @@ module _ (super : Super) (page : ℕ → List ℕ) where
   used_at None = refl
   used_at (Some f) = by (has_names f.inode)
     where
-      by : (b : Bool) → is_used (if b then Directory else Other) ≡ true
+      by : (b : Bool) → is_used (if b then Directory (parent_in f.inode) else Other f.inode.nlink) ≡ true
       by true = refl
       by false = refl
 

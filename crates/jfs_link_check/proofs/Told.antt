@@ -9,6 +9,7 @@ use Rattle.jfs_super.specs.declared.fields.Super.{Super}
 use Rattle.jfs_dtree.specs.Node.{name_scale}
 use Rattle.jfs_tree.specs.Walk.{Mark, Page, Key, Row, Fault, Marks}
 use Rattle.jfs_objects.specs.Objects.{Object, has_names, names_of, listed, spelled}
+use Rattle.jfs_objects.specs.Image.{extents_on}
 use Rattle.jfs_meaning.specs.Readers.{readers}
 use Rattle.jfs_meaning.specs.Node.{parent_in}
 use Rattle.jfs_meaning.specs.Consistent.{is_reserved, is_directory, names_for, names_to, links_due}
@@ -24,12 +25,12 @@ use Rattle.jfs_object_check.proofs.Found.{gains_as}
 use Rattle.jfs_each.specs.Each.{Found}
 use Rattle.jfs_link_check.specs.Found.{is_of_names, IsOfNames}
 use Rattle.jfs_link_check.specs.Uses.{use_at, use_in, is_directory as holds_names, may_be_named}
-use Rattle.jfs_link_check.specs.Places.{places_in, sound_places}
-use Rattle.jfs_link_check.specs.Judged.{IsAstray, IsJudged, IsPlacedBy, due_by, places_with}
-use Rattle.jfs_link_check.specs.declared.notes.Use.{Use}
+use Rattle.jfs_link_check.specs.Places.{places_in, sound_places, places_with}
+use Rattle.jfs_link_check.specs.Judged.{IsAstray, IsJudged, IsPlacedBy, due_by}
+use Rattle.jfs_link_check.specs.declared.uses.Use.{Use}
 use Rattle.jfs_link_check.proofs.Walked.{as_many}
-use Rattle.jfs_link_check.proofs.Judged.{IsOfBelow}
-use Rattle.jfs_link_check.proofs.Readable.{subject, found, object_of, is_object, found_of, none_past, directory_same, leads_same}
+use Rattle.jfs_link_check.proofs.Standing.{none_past}
+use Rattle.jfs_link_check.proofs.Readable.{subject, found, object_of, is_object, found_of, directory_same, leads_same}
 
 -- ---- names that lead to nothing
 
@@ -154,19 +155,20 @@ module _ (super : Super) (page : ℕ → List ℕ) (uses : List Use) (are : (n :
         λ p. h.3.1 (placed_from n d (subst (λ (m : ℕ). IsPlaced s m (readable_node s (object_of super page d))) h.2 p)),
       )
 
-  abbrev Of : Finding → Type 0
-  Of f = IsOfBelow (blocks_of super) page (found super page) uses names (most s) (most s) f
+  -- a finding of some inode
+  abbrev pub IsOfSome : Finding → Type 0
+  IsOfSome f = (n : ℕ) × (n < most s) × (d : Found) × (found super page n ≡ Some d) × Is n d f
 
   within : (n : ℕ) (d : Found) → found super page n ≡ Some d → n < most s
-  within n d e = elim (cases_lt n (most s)) [ inl l ↦ l | inr l ↦ absurd (none_is d (sym (none_past super page n l) ∙ e)) ]
+  within n d e = elim (cases_lt n (most s)) [ inl l ↦ l | inr l ↦ absurd (none_is d (sym (none_past page (extents_on (readers (blocks_of super)) page) n l) ∙ e)) ]
     where
       none_is : (d : Found) → None ≡ Some d → ⊥
       none_is d h = cc h
 
-  of_one : (n : ℕ) (d : Found) (f : Finding) → found super page n ≡ Some d → Is n d f → Of f
+  of_one : (n : ℕ) (d : Found) (f : Finding) → found super page n ≡ Some d → Is n d f → IsOfSome f
   of_one n d f e h = (n, within n d e, d, e, h)
 
-  from_says : (kind : FindingKind) (p v : ℕ) → is_of_names kind ≡ true → Says s kind p v → Of (record { kind = kind; page = p; value = v })
+  from_says : (kind : FindingKind) (p v : ℕ) → is_of_names kind ≡ true → Says s kind p v → IsOfSome (record { kind = kind; page = p; value = v })
   unfolding spelled
   from_says kinds.Aggregate p v k h = absurd (cc k)
   from_says kinds.Iag p v k h = absurd (cc k)
@@ -217,5 +219,5 @@ module _ (super : Super) (page : ℕ → List ℕ) (uses : List Use) (are : (n :
   from_says kinds.Map p v k h = absurd (cc k)
   from_says kinds.Bmap p v k h = absurd (cc k)
 
-  pub all_told : (old new : List Finding) → Gains Of old new → Gains (IsOfNames s) old new
+  pub all_told : (old new : List Finding) → Gains IsOfSome old new → Gains (IsOfNames s) old new
   all_told old new g = gains_as (λ f h. to_says h.0 h.2 f h.3 h.4) (λ f h. from_says f.kind f.page f.value h.0 h.1) g

@@ -1,5 +1,5 @@
 -- How often inodes are named, and by which directories.
-use Rattle.std.specs.Prelude.{◌≡◌, ◌<◌, ◌≤◌, ◌-◌, ◌^◌, ℕ, List, length, get_or, min}
+use Rattle.std.specs.Prelude.{◌≡◌, ◌<◌, ◌≤◌, ◌+◌, ◌-◌, ◌^◌, ◌==◌, if◌then◌else◌, ℕ, List, length, get_or, min}
 use Rattle.jfs_objects.specs.Owners.{sum_below}
 
 -- for each inode the number of names that lead to it, and the directory that named it last
@@ -30,3 +30,11 @@ CountsAll names c = CountsBelow (length c.counts) names (length c.counts) c
 -- no inode past the last one names it
 abbrev pub NamesPast : ℕ → (ℕ → ℕ → ℕ) → ℕ → Type 0
 NamesPast most names n = (dir : ℕ) → most ≤ dir → names dir n ≡ 0
+
+-- ---- for the prover alone
+
+-- names of directory `dir` were counted, of which so many lead to each inode
+pub record AddsNames (dir : ℕ) (lead : ℕ → ℕ) (old new : CountedNames) : Type 0 where
+  pub size : length new.counts ≡ length old.counts
+  pub counts : (n : ℕ) → n < length old.counts → ends (count_of new n) ≡ ends (count_of old n + lead n)
+  pub namers : (n : ℕ) → n < length old.counts → namer_of new n ≡ (if lead n == 0 then namer_of old n else dir)

@@ -1,5 +1,5 @@
 -- What is noted of the inodes of a volume.
-use Rattle.std.specs.Prelude.{◌≡◌, ◌≢◌, ◌<◌, ◌≤◌, ◌*◌, ℕ, suc, List, [], length, Option, Some, None}
+use Rattle.std.specs.Prelude.{◌≡◌, ◌<◌, ◌*◌, ◌^◌, ℕ, suc, ◌+◌, List, [], length, Option, Some, None}
 use Rattle.jfs_inode.specs.declared.fields.Dinode.{Dinode}
 use Rattle.jfs_name.specs.declared.name.NameEntry.{NameEntry}
 use Rattle.jfs_dtree.specs.Node.{name_scale}
@@ -7,11 +7,13 @@ use Rattle.jfs_objects.specs.Objects.{names_of, listed}
 use Rattle.jfs_objects.specs.Owners.{entries}
 use Rattle.jfs_meaning.specs.Readers.{readers}
 use Rattle.jfs_meaning.specs.Consistent.{leading_to}
+use Rattle.jfs_findings.specs.Gains.{Gains}
 use Rattle.jfs_each.specs.Each.{Found, found_at}
-use Rattle.jfs_link_check.specs.Counts.{CountsBelow}
-use Rattle.jfs_link_check.specs.Uses.{use_of, use_in, use_at}
-use Rattle.jfs_link_check.specs.declared.notes.LinkNotes.{LinkNotes}
-use Rattle.jfs_link_check.specs.declared.notes.Use.TheVariants.{Free}
+use Rattle.jfs_link_check.specs.Counts.{CountsBelow, AddsNames, ends}
+use Rattle.jfs_link_check.specs.Uses.{use_in, use_at}
+use Rattle.jfs_link_check.specs.Places.{Place, places_with, names_to, subdirectories}
+use Rattle.jfs_link_check.specs.Judged.{IsAstray, IsOfDirectory, IsOfBelow}
+use Rattle.jfs_link_check.specs.declared.notes.NameNotes.{NameNotes}
 
 -- the names of an inode's tree; one that breaks a rule has none
 abbrev pub names_with : ℕ → (ℕ → List ℕ) → Dinode → List NameEntry
@@ -25,20 +27,31 @@ names_found blocks page (Some f) = names_with blocks page f.inode
 abbrev pub names_by : ℕ → (ℕ → List ℕ) → (ℕ → Option Found) → ℕ → ℕ → ℕ
 names_by blocks page found dir n = leading_to n (names_found blocks page (found dir))
 
--- inode `n` was noted: what it stands for, and the names that it has
-pub record AddsInode (blocks : ℕ) (page : ℕ → List ℕ) (n : ℕ) (d : Dinode) (old new : LinkNotes) : Type 0 where
-  pub size : length new.uses.items ≡ length old.uses.items
-  pub here : n < length old.uses.items → use_at new.uses.items n ≡ use_of d
-  pub others : (k : ℕ) → k ≢ n → use_at new.uses.items k ≡ use_at old.uses.items k
+-- inode `n`, which stands on page `at`, was noted: the names that it has, and what is wrong with them and with a directory's link count
+pub record NotesInode (blocks : ℕ) (page : ℕ → List ℕ) (n at : ℕ) (d : Dinode) (old new : NameNotes) : Type 0 where
+  pub uses : new.uses ≡ old.uses
   pub counts : (most : ℕ) (of : ℕ → ℕ → ℕ) → CountsBelow most of n old.counts → ((k : ℕ) → of n k ≡ leading_to k (names_with blocks page d)) → CountsBelow most of (suc n) new.counts
+  pub findings : Gains (IsOfDirectory old.uses n at d (places_with blocks page d)) old.findings.items new.findings.items
 
--- all inodes below a number were noted, of so many numbers
-pub record NotedBelow (blocks : ℕ) (page : ℕ → List ℕ) (found : ℕ → Option Found) (most below : ℕ) (notes : LinkNotes) : Type 0 where
-  pub size : length notes.uses.items ≡ most
-  pub before : (n : ℕ) → n < below → use_at notes.uses.items n ≡ use_in (found n)
-  pub after : (n : ℕ) → below ≤ n → use_at notes.uses.items n ≡ Free
+-- the uses of so many numbers are known, and all inodes below a number were noted
+pub record NotedBelow (blocks : ℕ) (page : ℕ → List ℕ) (found : ℕ → Option Found) (most below : ℕ) (notes : NameNotes) : Type 0 where
+  pub size : length notes.uses ≡ most
+  pub uses : (n : ℕ) → use_at notes.uses n ≡ use_in (found n)
+  pub pages : (n : ℕ) (f : Found) → found n ≡ Some f → f.page < 2 ^ 32
   pub counts : CountsBelow most (names_by blocks page found) below notes.counts
+  pub findings : Gains (IsOfBelow blocks page found notes.uses below) [] notes.findings.items
 
 -- all inodes of a volume of so many blocks with these pages were noted, whose inode extents begin at these places
-abbrev pub AreNoted : ℕ → (ℕ → List ℕ) → List (Option ℕ) → LinkNotes → Type 0
+abbrev pub AreNoted : ℕ → (ℕ → List ℕ) → List (Option ℕ) → NameNotes → Type 0
 AreNoted blocks page places notes = NotedBelow blocks page (found_at page places) (32 * length places) (32 * length places) notes
+
+-- ---- for the prover alone
+
+-- Names were seen, of the directory that is being walked through.
+pub record Sees (ps : List Place) (old new : NameNotes) : Type 0 where
+  pub uses : new.uses ≡ old.uses
+  pub number : new.here.number ≡ old.here.number
+  pub page : new.here.page ≡ old.here.page
+  pub counts : AddsNames old.here.number (λ n. names_to n ps) old.counts new.counts
+  pub below : ends new.here.subdirectories ≡ ends (old.here.subdirectories + subdirectories old.uses ps)
+  pub findings : Gains (IsAstray old.uses old.here.page ps) old.findings.items new.findings.items

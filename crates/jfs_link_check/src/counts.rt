@@ -1,18 +1,16 @@
 //! How often inodes are named.
 
-ghost use Rattle.std.specs.Prelude.{◌≡◌, ◌<◌, ◌≤◌, ◌↔◌, suc, ℕ, length, replicate, IfOk, IsTrue};
-ghost use Rattle.jfs_meaning.specs.Consistent.{leading_to};
+ghost use Rattle.std.specs.Prelude.{◌≡◌, ◌<◌, ◌≤◌, ◌↔◌, ◌==◌, if◌then◌else◌, ℕ, length, replicate, IfOk, IsTrue};
 ghost use Rattle.jfs_objects.specs.Owners.{sum_below};
-ghost use Rattle.jfs_link_check.specs.Counts.{CountsBelow, CountsAll, NamesPast, count_of, namer_of};
+ghost use Rattle.jfs_link_check.specs.Counts.{CountsBelow, CountsAll, NamesPast, AddsNames, count_of, namer_of};
+ghost use Rattle.jfs_link_check.specs.Judged.{IsPlacedBy};
 
-use crate::count::count_names;
-use jfs_name::NameList;
 use std::alloc::{AllocError, Global};
 use std::marker::Model;
 
 /// For each inode the number of names that lead to it, and the directory that named it last: 12 bytes an inode.
 #[derive(Drop)]
-pub struct NameCounts {
+pub(crate) struct NameCounts {
     counts: Vec<u64>,
     namers: Vec<u32>,
 }
@@ -29,67 +27,78 @@ impl Model for NameCounts {
 }
 
 impl NameCounts {
-    /// Counts of so many inodes, before any directory was counted. `Err` is want of memory.
-    pub fn new(alloc: Global, most: u32) -> Result<NameCounts, AllocError>
+    /// Counts of so many inodes, before any name was counted. `Err` is want of memory.
+    pub(crate) fn new(alloc: Global, most: usize) -> Result<NameCounts, AllocError>
         ensures { IfOk result (λ c. (names : ℕ → ℕ → ℕ) → CountsBelow most names 0 c) }
     {
-        let counts = zeros(alloc, most as usize)?;
-        let namers = vec![in alloc; 0; most as usize]?;
+        let counts = zeros(alloc, most)?;
+        let namers = vec![in alloc; 0; most]?;
         Ok(NameCounts { counts, namers })
     }
 
-    /// Counts the names of the next directory. (An inode that is no directory has none.)
-    pub fn add(&mut self, dir: u32, names: &NameList)
-        ensures { (most : ℕ) (of : ℕ → ℕ → ℕ) → CountsBelow most of dir self.old → ((n : ℕ) → of dir n ≡ leading_to n names.now) → CountsBelow most of (suc dir) self.new }
+    /// Counts a name of directory `dir` that leads to inode `n`. One that leads past the last inode counts for none.
+    pub(crate) fn add(&mut self, dir: u32, n: usize)
+        ensures { AddsNames dir (λ k. if n == k then 1 else 0) self.old self.new }
     {
-        count_names(
-            self.counts.as_mut_slice(),
-            self.namers.as_mut_slice(),
-            dir,
-            names.as_slice(),
-        );
+        if n < self.counts.len() {
+            self.counts[n] = self.counts[n].saturating_add(1);
+            self.namers[n] = dir;
+        }
     }
 
     /// How many inodes are counted for.
-    pub fn len(&self) -> usize
+    pub(crate) fn len(&self) -> usize
         ensures { result ≡ length self.now.counts }
     {
         self.counts.len()
     }
 
     /// How many names lead to inode `n`, up to the last `u64` value.
-    pub fn count(&self, n: u32) -> u64
+    fn count(&self, n: usize) -> u64
         requires { n < length self.now.counts }
         ensures { result ≡ count_of self.now n }
     {
-        self.counts[n as usize]
+        self.counts[n]
     }
 
     /// The directory that named inode `n` last.
-    pub fn namer(&self, n: u32) -> u32
+    fn namer(&self, n: usize) -> u32
         requires { n < length self.now.counts }
         ensures { result ≡ namer_of self.now n }
     {
-        self.namers[n as usize]
+        self.namers[n]
     }
 
     #[tactic(auto, using(crate::proofs::Named::links_told, crate::proofs::Named::told_links))]
     /// Whether the names that lead to inode `n` are as many as its link count says.
-    pub fn has_links(&self, n: u32, links: u32) -> bool
+    pub(crate) fn has_links(&self, n: usize, links: u32) -> bool
         requires { n < length self.now.counts }
         ensures { (names : ℕ → ℕ → ℕ) → CountsAll names self.now → (IsTrue result ↔ (sum_below (length self.now.counts) (λ dir. names dir n) ≡ links)) }
     {
-        self.counts[n as usize] == u64::from(links)
+        self.counts[n] == u64::from(links)
     }
 
     #[tactic(auto, using(crate::proofs::Named::once_by, crate::proofs::Named::by_once))]
     /// Whether one name leads to inode `n`, and its parent has it.
-    pub fn is_named_once_by(&self, n: u32, parent: u32) -> bool
+    fn is_named_once_by(&self, n: usize, parent: u32) -> bool
         requires { n < length self.now.counts }
         ensures { (names : ℕ → ℕ → ℕ) → CountsAll names self.now → NamesPast (length self.now.counts) names n →
             (IsTrue result ↔ ((sum_below (length self.now.counts) (λ dir. names dir n) ≡ 1) × (names parent n ≡ 1))) }
     {
         self.count(n) == 1 && self.namer(n) == parent
+    }
+
+    /// Whether directory `n` with this parent has its one name there. The root has none, and is its own parent.
+    pub(crate) fn is_placed(&self, n: usize, parent: u32) -> bool
+        requires { n < length self.now.counts }
+        ensures { (names : ℕ → ℕ → ℕ) → CountsAll names self.now → NamesPast (length self.now.counts) names n →
+            (IsTrue result ↔ IsPlacedBy names (length self.now.counts) n parent) }
+    {
+        if n == 2 {
+            parent == 2 && self.has_links(n, 0)
+        } else {
+            self.is_named_once_by(n, parent)
+        }
     }
 }
 

@@ -1,16 +1,13 @@
 //! Names, link counts and parents of a volume, checked.
 #![tactic(auto)]
 
-mod count;
+mod census;
 mod counts;
-mod judge;
-mod judging;
 mod links;
 mod notes;
-mod noting;
-mod places;
+mod uses;
 
-pub use counts::NameCounts;
+pub use census::{Census, count_names};
 pub use links::check_links;
-pub use notes::LinkNotes;
-pub use noting::note_inode;
+pub use notes::NameNotes;
+pub use uses::{Use, Uses, uses_of};

@@ -1,76 +1,109 @@
-//! What is kept of each inode number until all inodes were seen.
+//! What is noted of the names of a volume.
 
-ghost use Rattle.std.specs.Prelude.{◌≡◌, ◌≢◌, ◌<◌, ℕ, List, Option, length, IfOk};
-ghost use Rattle.jfs_each.specs.Each.{Found};
-ghost use Rattle.jfs_link_check.specs.Uses.{use_of, use_at, none_used};
-ghost use Rattle.jfs_link_check.specs.Notes.{NotedBelow};
+ghost use Rattle.std.specs.Prelude.{◌≡◌, ◌≢◌, ◌↔◌, ◌+◌, ◌*◌, ◌∷◌, [], ℕ, List, Option, length, IfOk, OnOk, IsTrue, false};
+ghost use Rattle.jfs_meaning.specs.Consistent.{is_reserved};
+ghost use Rattle.jfs_findings.specs.Gains.{Gains};
+ghost use Rattle.jfs_findings.specs.declared.finding.FindingKind.TheVariants.{Links};
+ghost use Rattle.jfs_object_check.specs.Steps.{Only};
+ghost use Rattle.jfs_each.specs.Each.{found_at};
+ghost use Rattle.jfs_link_check.specs.Counts.{ends};
+ghost use Rattle.jfs_link_check.specs.Uses.{AreUses};
+ghost use Rattle.jfs_link_check.specs.Notes.{NotedBelow, Sees};
 
 use crate::counts::NameCounts;
-use jfs_inode::Dinode;
-use jfs_object_check::has_names;
+use crate::uses::{Uses, is_reserved};
+use jfs_findings::{Finding, FindingKind};
+use jfs_object_check::{note_if, page_named};
 use std::alloc::{AllocError, Global};
 
-/// What an inode number stands for.
-#[derive(Clone, Copy, PartialEq, Eq, Debug)]
-pub(crate) enum Use {
-    /// An inode that isn't in use.
-    Free,
-    Directory,
-    Other,
-}
-
-/// For each inode number its use, the number of names that lead to it, and the directory that named it last: 13 bytes a number.
+/// The directory whose names are being seen.
 #[derive(Drop)]
-pub struct LinkNotes {
-    pub(crate) uses: Vec<Use>,
+pub(crate) struct Here {
+    pub(crate) number: u32,
+    /// The page of its inode.
+    pub(crate) page: u32,
+    /// How many of its names led to directories so far, up to the last `u64` value.
+    pub(crate) subdirectories: u64,
+}
+
+/// For each inode number its use, the number of names that lead to it, and the directory that named it last: 20 bytes a number. Beside them, what is wrong with
+/// the names and with the link counts of directories so far.
+#[derive(Drop)]
+pub struct NameNotes {
+    pub(crate) uses: Uses,
     pub(crate) counts: NameCounts,
+    pub(crate) findings: Vec<Finding>,
+    pub(crate) here: Here,
 }
 
-impl LinkNotes {
-    /// Notes of so many inode numbers, before any was seen. `Err` is want of memory.
-    pub fn new(alloc: Global, most: u32) -> Result<LinkNotes, AllocError>
-        ensures { IfOk result (λ notes. (blocks : ℕ) (page : ℕ → List ℕ) (found : ℕ → Option Found) → NotedBelow blocks page found most 0 notes) }
+impl NameNotes {
+    /// Notes of a volume whose inode numbers have these uses, before any name was seen. `Err` is want of memory.
+    pub fn new(alloc: Global, uses: Uses) -> Result<NameNotes, AllocError>
+        ensures { IfOk result (λ notes. (blocks : ℕ) (page : ℕ → List ℕ) (places : List (Option ℕ)) → AreUses page places uses →
+            NotedBelow blocks page (found_at page places) (32 * length places) 0 notes) }
     {
-        let counts = NameCounts::new(alloc, most)?;
-        let uses = none_used(alloc, most as usize)?;
-        Ok(LinkNotes { uses, counts })
+        let counts = NameCounts::new(alloc, uses.len())?;
+        let findings = Vec::new(alloc);
+        let here = Here {
+            number: 0,
+            page: 0,
+            subdirectories: 0,
+        };
+        Ok(NameNotes {
+            uses,
+            counts,
+            findings,
+            here,
+        })
+    }
+
+    /// Begins with directory `n`, whose inode stands on page `at`: none of its names was seen.
+    pub(crate) fn begin(&mut self, n: u32, at: u32)
+        ensures { self.new ≡ record self.old { here = record { number = n; page = at; subdirectories = 0 } } }
+    {
+        self.here = Here {
+            number: n,
+            page: at,
+            subdirectories: 0,
+        };
+    }
+
+    /// A name of this directory, which stands on that page of its tree and leads to inode `n`: it is counted, and is a finding where it leads to no inode in use or
+    /// to a reserved one.
+    pub(crate) fn see(&mut self, page: u32, n: u32) -> Result<(), AllocError>
+        ensures { OnOk result (Sees (record { page = page; inode = n } ∷ []) self.old self.new) }
+    {
+        let inode = n as usize;
+        self.counts.add(self.here.number, inode);
+        let more = u64::from(self.uses.is_directory(inode));
+        self.here.subdirectories = self.here.subdirectories.saturating_add(more);
+        let on = page_named(self.here.page, page);
+        let leads = self.uses.may_be_named(inode);
+        let value = u64::from(n);
+        note_if(!leads, FindingKind::Name, on, value, &mut self.findings)
+    }
+
+    /// Judges the link count of this directory, all of whose names were seen. One that isn't due is a finding.
+    pub(crate) fn judge_links(&mut self, links: u32) -> Result<(), AllocError>
+        ensures stays { (self.new.uses ≡ self.old.uses) × (self.new.counts ≡ self.old.counts) }
+        ensures found { OnOk result ((count : ℕ) → ends self.old.here.subdirectories ≡ ends count →
+            Gains (Only Links self.old.here.page self.old.here.number ((is_reserved self.old.here.number ≡ false) × (links ≢ 2 + count)))
+            self.old.findings.items self.new.findings.items) }
+    {
+        let wrong = miscounts(&self.here, links);
+        let value = u64::from(self.here.number);
+        let page = self.here.page;
+        note_if(wrong, FindingKind::Links, page, value, &mut self.findings)
     }
 }
 
-/// No inode is in use.
-fn none_used(alloc: Global, most: usize) -> Result<Vec<Use>, AllocError>
-    ensures { IfOk result (λ uses. uses.items ≡ none_used most) }
+/// Whether this link count isn't the one that is due of a directory, all of whose names were seen: two links, and one for each subdirectory. A reserved one is
+/// passed over.
+fn miscounts(here: &Here, links: u32) -> bool
+    ensures { (count : ℕ) → ends here.now.subdirectories ≡ ends count → (IsTrue result ↔ ((is_reserved here.now.number ≡ false) × (links ≢ 2 + count))) }
 {
-    vec![in alloc; Use::Free; most]
-}
-
-/// What an inode in use stands for.
-pub(crate) fn use_of(inode: &Dinode) -> Use
-    ensures { result ≡ use_of inode.now }
-{
-    if has_names(inode) {
-        Use::Directory
-    } else {
-        Use::Other
+    if is_reserved(here.number as usize) {
+        return false;
     }
-}
-
-/// What inode `n` stands for. Past the last number there is none in use.
-pub(crate) fn use_at(uses: &[Use], n: u32) -> Use
-    ensures { result ≡ use_at uses.now n }
-{
-    let n = n as usize;
-    if n < uses.len() { uses[n] } else { Use::Free }
-}
-
-/// Notes what inode `n` stands for.
-pub(crate) fn set_use(uses: &mut Vec<Use>, n: u32, is: Use)
-    ensures size { length uses.new.items ≡ length uses.old.items }
-    ensures here { n < length uses.old.items → use_at uses.new.items n ≡ is }
-    ensures others { (k : ℕ) → k ≢ n → use_at uses.new.items k ≡ use_at uses.old.items k }
-{
-    let n = n as usize;
-    if n < uses.len() {
-        uses[n] = is;
-    }
+    u64::from(links) != here.subdirectories.saturating_add(2)
 }

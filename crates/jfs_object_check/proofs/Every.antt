@@ -1,13 +1,11 @@
 -- All that is found of an object.
-use Rattle.std.proofs.Common.{◌≡◌, ◌≢◌, ◌⊎◌, inl, inr, refl, sym, ap, ◌∙◌, subst, ℕ, ◌+◌, ◌-◌, ◌<◌, ◌≤◌, Bool, true, false, ◌||◌, ◌==◌, nat_le, if◌then◌else◌, List, [], ◌∷◌, Option, Some, None, is_some, Result, Ok, Err, arith}
-use Rattle.std.specs.Int.{div_ceil}
+use Rattle.std.proofs.Common.{◌≡◌, ◌≢◌, ◌⊎◌, inl, inr, refl, sym, ap, ◌∙◌, subst, ℕ, ◌+◌, ◌-◌, ◌<◌, ◌≤◌, Bool, true, false, ◌||◌, ◌==◌, nat_le, if◌then◌else◌, List, [], Option, Some, None, is_some, Result, Ok, Err, arith}
 use Rattle.std.specs.List.{list_any}
-use Rattle.std.proofs.lemmas.Bool.{true≢false, cases_lt, cases_eq, eq-eqb, eqb-true, ne_eqb, le-leb, lt-leb}
+use Rattle.std.proofs.lemmas.Bool.{true≢false, cases_lt, cases_eq, eq-eqb, ne_eqb, le-leb, lt-leb}
 use Rattle.jfs_bits.specs.declared.extent.Xad.{Xad}
 use Rattle.jfs_bits.specs.declared.rule.Rule.{Rule}
 use Rattle.jfs_bits.specs.Broken.{first_broken}
 use Rattle.jfs_inode.specs.declared.fields.Dinode.{Dinode}
-use Rattle.jfs_inode.specs.declared.read.BadInode.{BadInode}
 use Rattle.jfs_inode.specs.Rules.{rows}
 use Rattle.jfs_dtpage.specs.declared.head.DtForm.TheVariants as names
 use Rattle.jfs_dtree.specs.Node.{name_scale, dt_node}

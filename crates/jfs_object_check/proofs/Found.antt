@@ -1,13 +1,9 @@
 -- How a list of findings grows, step by step.
-use Rattle.std.proofs.Common.{◌≡◌, ◌⊎◌, inl, inr, refl, sym, ap, ◌∙◌, subst, ℕ, Bool, true, false, List, [], ◌∷◌, ◌++◌, Option, Some, None, is_some, Result, Ok, Err}
+use Rattle.std.proofs.Common.{◌≡◌, ◌⊎◌, inl, inr, refl, sym, ap, ◌∙◌, subst, ℕ, Bool, true, false, List, [], ◌∷◌, ◌++◌, Result, Ok, Err}
 use Rattle.std.specs.Prelude.{OnOk, IfErr, IfOk}
 use Rattle.std.specs.List.{Contains}
 use Rattle.std.proofs.lemmas.List.Elements.{Contains-append_left, Contains-push, Contains-push_cases}
 use Rattle.jfs_bits.specs.declared.rule.Rule.{Rule}
-use Rattle.jfs_bits.specs.declared.extent.Xad.{Xad}
-use Rattle.jfs_xtree.specs.declared.error.XtError.{XtError}
-use Rattle.jfs_xtree.specs.declared.error.XtError.TheVariants as xt
-use Rattle.jfs_reader.specs.Reading.{ExtentsAre}
 use Rattle.jfs_ranges.specs.declared.view.ViewError.{ViewError}
 use Rattle.jfs_tree.specs.Walk.{Node, Marks, Scale, rows_of}
 use Rattle.jfs_tree.specs.Spells.{tree_of, spells}
@@ -15,13 +11,10 @@ use Rattle.jfs_tree.specs.Walking.{NamesFirst}
 use Rattle.jfs_tree.specs.declared.form.TreeError.{TreeError}
 use Rattle.jfs_tree.specs.declared.form.TreeError.TheVariants.{View, Bad, Memory}
 use Rattle.jfs_objects.specs.Objects.{listed}
-use Rattle.jfs_objects.specs.Owners.{unless_broken, entries}
 use Rattle.jfs_mount.specs.Subject.{page_named}
-use Rattle.jfs_findings.specs.Inodes.{pages_met}
 use Rattle.jfs_findings.specs.Gains.{Gains}
 use Rattle.jfs_findings.specs.declared.finding.Finding.{Finding}
 use Rattle.jfs_findings.specs.declared.finding.FindingKind.{FindingKind}
-use Rattle.jfs_object_check.specs.Object.{BreaksOn}
 use Rattle.jfs_object_check.specs.Steps.{Only, IsBroken, EndsAs, Settles, IsSound}
 
 -- ---- growing lists
@@ -86,12 +79,12 @@ broken_is : {E : Type 0} (l : Result (List E) (ℕ × Rule)) (f : ℕ × Rule) �
 broken_is l f e = subst (λ l. IsSound l false) (sym e) refl
 
 module _ {P E : Type 0} (s : Scale P E) (ms : Marks P E) (kind : FindingKind) (at : ℕ) (old new : List Finding) where
-  pub broken_found : (page : ℕ) (rule : Rule) → listed s ms ≡ Err (page, rule) → Gains (Only kind (page_named at page) 0 (Unit {0})) old new → Gains (IsBroken kind s ms at) old new
+  broken_found : (page : ℕ) (rule : Rule) → listed s ms ≡ Err (page, rule) → Gains (Only kind (page_named at page) 0 (Unit {0})) old new → Gains (IsBroken kind s ms at) old new
   broken_found page rule e g = gains_as
       (λ f h. (h.0, record { tree_page = page; rule = rule; breaks = e; on = h.1 }, h.2))
       (λ f h. (h.0, h.1.on ∙ ap (page_named at) (err_is h.1.tree_page page h.1.rule rule [] (sym h.1.breaks ∙ e)), h.2, tt)) g
 
-  pub none_found : (es : List E) → listed s ms ≡ Ok es → new ≡ old → Gains (IsBroken kind s ms at) old new
+  none_found : (es : List E) → listed s ms ≡ Ok es → new ≡ old → Gains (IsBroken kind s ms at) old new
   none_found es e same = subst (Gains (IsBroken kind s ms at) old) (sym same) (gains_none (IsBroken kind s ms at) old (λ f h. ok_err es (h.1.tree_page, h.1.rule) (sym e ∙ h.1.breaks)))
 
   -- what a walk's end gives
@@ -117,10 +110,3 @@ module _ {P E : Type 0} (s : Scale P E) (ms : Marks P E) (kind : FindingKind) (a
 
 pub as_named : (kind : FindingKind) (at page p : ℕ) (old new : List Finding) → p ≡ page_named at page → Gains (Only kind p 0 (true ≡ true)) old new → Gains (Only kind (page_named at page) 0 (Unit {0})) old new
 as_named kind at page p old new named g = gains_as (λ f h. (h.0, h.1 ∙ named, h.2, tt)) (λ f h. (h.0, h.1 ∙ sym named, h.2, refl)) g
-
-pub file_found : {P E : Type 0} (s : Scale P E) (ms : Marks P E) (kind : FindingKind) (at page p : ℕ) (rule : Rule) (old new : List Finding) → listed s ms ≡ Err (page, rule) → p ≡ page_named at page
-    → Gains (Only kind p 0 (true ≡ true)) old new → Gains (IsBroken kind s ms at) old new
-file_found s ms kind at page p rule old new e named g = broken_found s ms kind at old new page rule e (gains_as (λ f h. (h.0, h.1 ∙ named, h.2, tt)) (λ f h. (h.0, h.1 ∙ sym named, h.2, refl)) g)
-
-pub list_is : (l : Result (List Xad) (ℕ × Rule)) (r : Result (List Xad) XtError) (page : ℕ) (rule : Rule) → r ≡ Err (xt.Bad page rule) → ExtentsAre l r → l ≡ Err (page, rule)
-list_is l r page rule e h = subst (ExtentsAre l) e h

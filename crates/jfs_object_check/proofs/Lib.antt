@@ -9,3 +9,4 @@ pub mod Beside
 pub mod Bottom
 pub mod OfThin
 pub mod Thinly
+pub mod Holding

@@ -1,6 +1,5 @@
 -- The findings of objects, kind by kind.
-use Rattle.std.proofs.Common.{◌≡◌, ◌⊎◌, inl, inr, refl, sym, ap, subst, ℕ, true, false, Some, ◌+◌, ◌/◌}
-use Rattle.std.specs.List.{Contains}
+use Rattle.std.proofs.Common.{◌≡◌, ◌⊎◌, inl, inr, refl, sym, subst, ℕ, true, Some}
 use Rattle.jfs_bits.specs.Broken.{first_broken}
 use Rattle.jfs_inode.specs.declared.read.BadInode.{BadInode}
 use Rattle.jfs_inode.specs.Rules.{rows}
@@ -11,7 +10,7 @@ use Rattle.jfs_findings.specs.Findings.{Says}
 use Rattle.jfs_findings.specs.declared.finding.Finding.{Finding}
 use Rattle.jfs_findings.specs.declared.finding.FindingKind.{FindingKind}
 use Rattle.jfs_findings.specs.declared.finding.FindingKind.TheVariants as kinds
-use Rattle.jfs_object_check.specs.Object.{SaysOf, IsOf}
+use Rattle.jfs_object_check.specs.Object.{SaysOf}
 use Rattle.jfs_object_check.specs.Laws.{IsOfSome, IsOfFile, ObjectsLaw, is_of_objects}
 
 -- the object stands where the finding says

@@ -2,12 +2,10 @@
 use Rattle.std.proofs.Common.{◌≡◌, ◌≢◌, ◌⊎◌, inl, inr, refl, sym, ap, ◌∙◌, subst, ℕ, zero, suc, ◌+◌, ◌<◌, ◌≤◌, Bool, true, false, ◌&&◌, ◌==◌, nat_lt, if◌then◌else◌, List, [], ◌∷◌, ◌++◌, length, get_or, take, drop, drop-cons, length-append, Result, Ok, Err, arith}
 use Rattle.std.specs.Prelude.{OnOk}
 use Rattle.std.specs.List.{flat_map}
-use Rattle.jfs_disk.specs.Image.{Image, page_of}
 use Rattle.jfs_ranges.specs.declared.view.ViewError.{ViewError}
 use Rattle.std.proofs.Math.Seq.{split_at, get_or-append_seam}
 use Rattle.std.proofs.lemmas.Bool.{cases_lt, eqb-true, ltb-true, lt-ltb, and_parts, and_from}
 use Rattle.jfs_bits.specs.declared.extent.Xad.{Xad}
-use Rattle.jfs_bits.specs.declared.rule.Rule.{Rule}
 use Rattle.jfs_inode.specs.declared.fields.Dinode.{Dinode}
 use Rattle.jfs_tree.specs.Walk.{Node, Marks}
 use Rattle.jfs_tree.specs.Spells.{no_page, with_root, tree_of, spells}
@@ -183,7 +181,7 @@ module _ (blocks : ℕ) (page : ℕ → List ℕ) (d : Dinode) (has : has_extent
       ] in
       ((t.depth, least, (j, omega (arith, more), (more, at, t.few))), (λ e. absurd (omega (arith, within, e, at, w))))
 
-  pub thin_found : (n at : ℕ) (root : List ℕ) (old new : List Finding) → root ≡ root_of d → Gains (Tells n (IsThinAbove (tree_nodes blocks page root) 8)) old new
+  thin_found : (n at : ℕ) (root : List ℕ) (old new : List Finding) → root ≡ root_of d → Gains (Tells n (IsThinAbove (tree_nodes blocks page root) 8)) old new
       → Gains (IsThinOf (readers blocks) page n at (spelled (readers blocks) page d)) old new
   unfolding spelled nodes
   thin_found n at root old new is g =
@@ -192,25 +190,14 @@ module _ (blocks : ℕ) (page : ℕ → List ℕ) (d : Dinode) (has : has_extent
       (λ f h. let s = h.2 in let t = of_thin s.tree_page s.thin in (h.0, h.1, subst (IsThinAbove nodes 8) (sym (s.on ∙ named at s.tree_page t.1)) t.0))
       (subst (λ r. Gains (Tells n (IsThinAbove (tree_nodes blocks page r) 8)) old new) is g)
 
--- the same, where a call may have failed, and the view that it was given has the same pages
-pub thin_seen : {T : Type 0} (blocks b n at : ℕ) (image seen : Image) (d : Dinode) (root : List ℕ) (r : Result T ViewError) (es : List Xad) (old new : List Finding) → has_extents d ≡ true → listed xt_scale (extents_of (readers blocks) (page_of image) d) ≡ Ok es
-    → blocks ≤ no_page → b ≡ blocks → seen ≡ image → root ≡ root_of d → OnOk r (Gains (Tells n (IsThinAbove (tree_nodes b (page_of seen) root) 8)) old new)
-    → OnOk r (Gains (IsThinOf (readers blocks) (page_of image) n at (spelled (readers blocks) (page_of image) d)) old new)
-thin_seen blocks b n at image seen d root (Ok it) es old new has sound w eb ei is g =
-    thin_found blocks (page_of image) d has es sound w n at root old new is
-    (subst (λ (z : Image). Gains (Tells n (IsThinAbove (tree_nodes blocks (page_of z) root) 8)) old new) ei (subst (λ m. Gains (Tells n (IsThinAbove (tree_nodes m (page_of seen) root) 8)) old new) eb g))
-thin_seen blocks b n at image seen d root (Err e) es old new has sound w eb ei is g = tt
+  -- the same, where a call may have failed
+  pub thin_seen : {T : Type 0} (n at : ℕ) (root : List ℕ) (r : Result T ViewError) (old new : List Finding) → root ≡ root_of d → OnOk r (Gains (Tells n (IsThinAbove (tree_nodes blocks page root) 8)) old new)
+      → OnOk r (Gains (IsThinOf (readers blocks) page n at (spelled (readers blocks) page d)) old new)
+  thin_seen n at root (Ok it) old new is g = thin_found n at root old new is g
+  thin_seen n at root (Err e) old new is g = tt
 
--- ---- an inode without extents, or with a tree that breaks a rule
+-- ---- an inode without extents
 
 pub no_extents : (blocks n at : ℕ) (page : ℕ → List ℕ) (d : Dinode) (fs : List Finding) → has_extents d ≡ false → Gains (IsThinOf (readers blocks) page n at (spelled (readers blocks) page d)) fs fs
 unfolding spelled
 no_extents blocks n at page d fs none = gains_none (IsThinOf (readers blocks) page n at (spelled (readers blocks) page d)) fs (λ f h. let s = h.2 in let e = sym none ∙ s.has in cc e)
-
-ok_err : {E : Type 0} (es : List E) (f : ℕ × Rule) → (let x : Result (List E) (ℕ × Rule) = Ok es in x) ≡ Err f → ⊥
-ok_err es f e = cc
-
-pub tree_breaks : (blocks n at : ℕ) (page : ℕ → List ℕ) (d : Dinode) (fs : List Finding) (bad : ℕ × Rule) → listed xt_scale (extents_of (readers blocks) page d) ≡ Err bad
-    → Gains (IsThinOf (readers blocks) page n at (spelled (readers blocks) page d)) fs fs
-unfolding spelled
-tree_breaks blocks n at page d fs bad breaks = gains_none (IsThinOf (readers blocks) page n at (spelled (readers blocks) page d)) fs (λ f h. let s = h.2 in ok_err s.extents bad (sym s.sound ∙ breaks))

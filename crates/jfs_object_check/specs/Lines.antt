@@ -1,12 +1,15 @@
 -- The pages of a level, one after the other.
-use Rattle.std.specs.Prelude.{◌≡◌, ◌<◌, ℕ, suc, List, length, get_or}
+use Rattle.std.specs.Prelude.{◌≡◌, ◌<◌, ℕ, zero, suc, ◌+◌, List, [], ◌∷◌, length, get_or}
 use Rattle.jfs_bits.specs.declared.extent.Xad.{Xad}
 use Rattle.jfs_tree.specs.Walk.{Node}
 use Rattle.jfs_tree.specs.Spells.{with_root}
 use Rattle.jfs_tree.specs.Levels.{entry_count, level}
+use Rattle.jfs_tree.specs.Walking.{rows_in}
 use Rattle.jfs_xtpage.specs.declared.head.XtForm.TheVariants.{Root}
 use Rattle.jfs_xtree.specs.Node.{xt_node}
 use Rattle.jfs_xtree.specs.Spells.{page_nodes}
+use Rattle.jfs_objects.specs.Owners.{covers}
+use Rattle.jfs_owners.specs.Counts.{page_has}
 use Rattle.jfs_findings.specs.declared.finding.Finding.{Finding}
 use Rattle.jfs_findings.specs.declared.finding.FindingKind.TheVariants as kinds
 
@@ -29,3 +32,21 @@ IsThinAbove nodes depth page = (d : ℕ) × (d < depth) × IsThinOn nodes (level
 -- the pages of a tree, with its root
 abbrev pub tree_nodes : ℕ → (ℕ → List ℕ) → List ℕ → ℕ → Node ℕ Xad
 tree_nodes blocks pages root = with_root (xt_node Root blocks root) (page_nodes blocks pages)
+
+-- how often a leaf's extents have a block
+abbrev pub rows_have : Node ℕ Xad → ℕ → ℕ
+rows_have node b = covers b (rows_in node)
+
+-- how often a page does, with its extents
+abbrev pub page_holds : (ℕ → Node ℕ Xad) → ℕ → ℕ → ℕ
+page_holds nodes n b = page_has n b + rows_have (nodes n) b
+
+-- how often pages do
+abbrev pub line_has : (ℕ → Node ℕ Xad) → List ℕ → ℕ → ℕ
+line_has nodes [] b = 0
+line_has nodes (n ∷ line) b = page_holds nodes n b + line_has nodes line b
+
+-- how often so many levels do
+unfoldable pub levels_have : (ℕ → Node ℕ Xad) → ℕ → ℕ → ℕ
+levels_have nodes zero b = 0
+levels_have nodes (suc depth) b = levels_have nodes depth b + line_has nodes (level nodes depth) b

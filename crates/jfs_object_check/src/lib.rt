@@ -2,19 +2,19 @@
 #![tactic(auto)]
 
 mod attributes;
-mod files;
 mod law;
+mod levels;
+mod nodes;
 mod note;
 mod object;
+mod root;
 mod rules;
 mod tally;
-mod thin;
 mod trees;
 
-pub use files::check_file;
 pub use law::{findings_are_of_objects, thin_findings_are_of_objects};
+pub use levels::count_extents;
 pub use note::note_if;
-pub use object::check_object;
-pub use rules::has_names;
-pub use thin::check_thin;
-pub use trees::{page_named, root_in};
+pub use object::{Soundness, check_object};
+pub use root::check_root;
+pub use trees::page_named;

@@ -1,9 +1,8 @@
 //! The rules of an inode.
 
-ghost use Rattle.std.specs.Prelude.{◌≡◌, ◌==◌, nat_le, ◌&&◌, ◌||◌, is_some};
+ghost use Rattle.std.specs.Prelude.{◌≡◌, is_some};
 ghost use Rattle.jfs_bits.specs.Broken.{first_broken};
 ghost use Rattle.jfs_inode.specs.Rules.{rows};
-ghost use Rattle.jfs_objects.specs.Objects.{has_names, has_extents};
 
 use jfs_inode::Dinode;
 
@@ -16,21 +15,4 @@ pub(crate) fn breaks_rule(inode: &Dinode, n: u32) -> bool
     let kind = inode.mode & Dinode::TYPE;
     let links = inode.nlink;
     number != n || !Dinode::TYPES.contains(&kind) || links > 65535
-}
-
-/// Only a directory has names.
-pub fn has_names(inode: &Dinode) -> bool
-    ensures { result ≡ has_names inode.now }
-{
-    inode.mode & Dinode::TYPE == Dinode::DIRECTORY
-}
-
-/// A file has extents, and a symbolic link whose target doesn't stand in its inode.
-pub(crate) fn has_extents(inode: &Dinode) -> bool
-    ensures { result ≡ has_extents inode.now }
-{
-    let mode = inode.mode;
-    let size = inode.size;
-    let kind = mode & Dinode::TYPE;
-    kind == Dinode::REGULAR || (kind == Dinode::LINK && size >= 256)
 }

@@ -1,6 +1,6 @@
 //! The trees of an object.
 
-ghost use Rattle.std.specs.Prelude.{◌≡◌, ◌==◌, ℕ, if◌then◌else◌, length, OnOk, IfOk};
+ghost use Rattle.std.specs.Prelude.{◌≡◌, ◌==◌, ℕ, if◌then◌else◌, OnOk, IfOk};
 ghost use Rattle.jfs_disk.specs.Image.{page_of};
 ghost use Rattle.jfs_ranges.specs.View.{CarriesCount};
 ghost use Rattle.jfs_tree.specs.Call.{CarriesFault};
@@ -8,7 +8,7 @@ ghost use Rattle.jfs_xtree.specs.Node.{xt_scale};
 ghost use Rattle.jfs_dtree.specs.Node.{name_scale};
 ghost use Rattle.jfs_objects.specs.Objects.{names_of, extents_of, listed};
 ghost use Rattle.jfs_objects.specs.Owners.{unless_broken, entries};
-ghost use Rattle.jfs_meaning.specs.Readers.{readers, root_of};
+ghost use Rattle.jfs_meaning.specs.Readers.{readers};
 ghost use Rattle.jfs_mount.specs.Subject.{page_named};
 ghost use Rattle.jfs_findings.specs.Inodes.{pages_met};
 ghost use Rattle.jfs_findings.specs.Gains.{Gains};
@@ -18,25 +18,16 @@ ghost use Rattle.jfs_object_check.specs.Tally.{with_pages, with_tree};
 ghost use Rattle.jfs_object_check.specs.Steps.{EndsAs, Settles, IsBroken, IsSound};
 
 use crate::note::note_if;
-use crate::rules::{has_extents, has_names};
 use crate::tally::Tally;
-use jfs_bits::get_array;
 use jfs_dtpage::DtForm;
 use jfs_dtree::DtPages;
 use jfs_findings::{Finding, FindingKind};
 use jfs_inode::Dinode;
 use jfs_ranges::{PageView, ViewError};
+use jfs_reader::{has_extents, has_names, root_in};
 use jfs_tree::{NO_PAGE, TreeError, walk_tree};
 use jfs_xtpage::XtForm;
 use jfs_xtree::XtPages;
-
-/// The root of the tree in an inode.
-pub fn root_in(inode: &Dinode) -> [u8; 288]
-    ensures root { result ≡ root_of inode.now }
-    ensures width { length result ≡ 288 }
-{
-    get_array(&inode.rest, 96)
-}
 
 /// A page of a tree whose inode stands on page `at`; a root stands there.
 pub fn page_named(at: u32, page: u32) -> u32
@@ -71,7 +62,7 @@ fn walk_names<V: PageView>(view: &mut V, inode: &Dinode, tally: &mut Tally) -> R
 }
 
 /// Walks through the extents of an object.
-pub(crate) fn walk_extents<V: PageView>(
+fn walk_extents<V: PageView>(
     view: &mut V,
     inode: &Dinode,
     tally: &mut Tally,
@@ -140,6 +131,8 @@ pub(crate) fn check_names<V: PageView>(
     ensures counted { V.PageView.tells → OnOk result (tally.new ≡ with_pages
         (unless_broken (listed name_scale (names_of (readers (V.PageView.block_count view.old)) (page_of (V.PageView.image view.old)) inode.now))
         (pages_met (names_of (readers (V.PageView.block_count view.old)) (page_of (V.PageView.image view.old)) inode.now))) tally.old) }
+    ensures sound { V.PageView.tells → IfOk result (λ sound. IsSound
+        (listed name_scale (names_of (readers (V.PageView.block_count view.old)) (page_of (V.PageView.image view.old)) inode.now)) sound) }
 {
     let mut seen = *tally;
     let answer = walk_names(view, inode, &mut seen);

@@ -1,9 +1,10 @@
 pub mod Marks
+pub mod SetBits
 pub mod Counted
 pub mod Walked
 pub mod Seen
 pub mod Totals
 pub mod Places
+pub mod Areas
 pub mod Joined
 pub mod Gained
-pub mod Inodes

@@ -11,7 +11,7 @@ use Rattle.jfs_bits.specs.Field.{field_of, put_bytes}
 use Rattle.jfs_bits.specs.Bits.{is_taken, is_taken_in}
 use Rattle.jfs_bits.proofs.Words.{is_taken-or}
 
-both_taken : (word mask i : ℕ) → is_taken_in (bit_and word mask) i ≡ (is_taken_in mask i && is_taken_in word i)
+pub both_taken : (word mask i : ℕ) → is_taken_in (bit_and word mask) i ≡ (is_taken_in mask i && is_taken_in word i)
 unfolding is_taken_in
 both_taken word mask i = ap (λ (z : ℕ). z == 1) (bit_at_and word mask (31 - i)) ∙ both (bit_at word (31 - i)) (bit_at mask (31 - i)) (bit_at-lt word (31 - i)) (bit_at-lt mask (31 - i))
   where

@@ -1,8 +1,7 @@
 -- What trees, files and objects hold is what was counted.
-use Rattle.std.proofs.Common.{◌≡◌, sym, ap, ◌∙◌, refl, subst, ℕ, ◌+◌, Bool, true, false, if◌then◌else◌, ◌==◌, List, [], Result, Ok, Err, Some, IfOk, arith}
+use Rattle.std.proofs.Common.{◌≡◌, sym, refl, subst, ℕ, ◌+◌, Bool, true, false, List, [], Result, Ok, Err, Some, IfOk, arith}
 use Rattle.jfs_bits.specs.declared.rule.Rule.{Rule}
 use Rattle.jfs_bits.specs.declared.extent.Xad.{Xad}
-use Rattle.jfs_bits.specs.declared.descriptor.Pxd.{Pxd}
 use Rattle.jfs_disk.specs.Image.{Image, page_of}
 use Rattle.jfs_inode.specs.declared.fields.Dinode.{Dinode}
 use Rattle.jfs_name.specs.declared.name.NameEntry.{NameEntry}
@@ -15,7 +14,6 @@ use Rattle.jfs_dtpage.specs.declared.head.DtForm.TheVariants as names
 use Rattle.jfs_dtree.specs.Node.{name_scale, dt_node}
 use Rattle.jfs_objects.specs.Objects.{met, listed, has_names, has_extents, names_of, extents_of, spelled}
 use Rattle.jfs_objects.specs.Owners.{unless_broken, entries, covers, run_has, holds}
-use Rattle.jfs_objects.specs.Image.{aggregate_at, file_has, area_on}
 use Rattle.jfs_meaning.specs.Readers.{readers, root_of}
 use Rattle.jfs_ranges.specs.declared.view.ViewError.{ViewError}
 use Rattle.jfs_owners.specs.Counts.{OwnerSets, Adds, page_has}
@@ -28,7 +26,7 @@ use Rattle.jfs_owners.proofs.Walked.{walk_adds, no_pages}
 data_of : (l : Result (List Xad) (ℕ × Rule)) (es : List Xad) (n b : ℕ) → l ≡ Ok es → n + covers b es ≡ unless_broken l n + covers b (entries l)
 data_of l es n b e = rw e refl
 
-no_data : (l : Result (List Xad) (ℕ × Rule)) (f : ℕ × Rule) (n b : ℕ) → l ≡ Err f → unless_broken l n + covers b (entries l) ≡ 0
+pub no_data : (l : Result (List Xad) (ℕ × Rule)) (f : ℕ × Rule) (n b : ℕ) → l ≡ Err f → unless_broken l n + covers b (entries l) ≡ 0
 no_data l f n b e = rw e refl
 
 pages_alone : {E : Type 0} (l : Result (List E) (ℕ × Rule)) (es : List E) (n : ℕ) → l ≡ Ok es → n + 0 ≡ unless_broken l n
@@ -59,6 +57,16 @@ pub extents_counted : (n blocks : ℕ) (image : Image) (root : List ℕ) (shown 
 extents_counted n blocks image root shown old new e h =
     subst (λ (m : ℕ). Adds (extents_held (extents_walk m (page_of image) root)) old new) e (extents_add (tree_of xt_scale (pages_of (xt_node extents.Full n) image) (xt_node extents.Root n root)) shown old new h)
 
+-- by one walk
+pub sound_counted : {T : Type 0} (n blocks : ℕ) (image : Image) (root : List ℕ) (r : Result T ViewError) (old new : OwnerSets) → n ≡ blocks
+    → IfOk r (λ it. (es : List Xad) → listed xt_scale (extents_walk n (page_of image) root) ≡ Ok es
+    → Sees xt_scale (λ (o : OwnerSets) (n : ℕ) (w : OwnerSets). Adds (page_has n) o w) (λ (o : OwnerSets) (n : ℕ) (x : Xad) (w : OwnerSets). Adds (run_has x.at) o w) (extents_walk n (page_of image) root) old new true)
+    → IfOk r (λ it. (es : List Xad) → listed xt_scale (extents_walk blocks (page_of image) root) ≡ Ok es → Adds (extents_held (extents_walk blocks (page_of image) root)) old new)
+sound_counted n blocks image root (Ok it) old new e h =
+    subst (λ (m : ℕ). ((es : List Xad) → listed xt_scale (extents_walk m (page_of image) root) ≡ Ok es → Adds (extents_held (extents_walk m (page_of image) root)) old new)) e
+    (λ es is. extents_add (extents_walk n (page_of image) root) true old new (h es is))
+sound_counted n blocks image root (Err f) old new e h = tt
+
 pub names_counted : (n blocks : ℕ) (image : Image) (root : List ℕ) (shown : Bool) (old new : OwnerSets) → n ≡ blocks
     → Sees name_scale (λ (o : OwnerSets) (n : ℕ) (w : OwnerSets). Adds (page_has n) o w) (λ (o : OwnerSets) (n : ℕ) (x : NameEntry) (w : OwnerSets). w ≡ o)
     (tree_of name_scale (pages_of (dt_node names.Full n) image) (dt_node names.Root n root)) old new shown
@@ -87,42 +95,27 @@ has_its_extents blocks image root d (Err f) old new h e a = tt
 sum_of_parts : (attributes names pages blocks : ℕ) → attributes + names + (pages + blocks) ≡ names + pages + blocks + attributes
 sum_of_parts attributes names pages blocks = omega arith
 
--- an object has its attributes, its names and its extents
+-- an object holds its attributes, its names and its extents
+pub holds_parts : (blocks : ℕ) (page : ℕ → List ℕ) (d : Dinode) (b : ℕ)
+    → attributes_of d b + names_held (names_of (readers blocks) page d) b + extents_held (extents_of (readers blocks) page d) b ≡ holds (readers blocks) (Some (spelled (readers blocks) page d)) b
+unfolding holds spelled
+holds_parts blocks page d b =
+    let tree = extents_of (readers blocks) page d in
+    sum_of_parts (attributes_of d b) (names_held (names_of (readers blocks) page d) b) (unless_broken (listed xt_scale tree) (met tree b)) (covers b (entries (listed xt_scale tree)))
+
+-- so it is counted part by part
+pub object_joined : (blocks : ℕ) (page : ℕ → List ℕ) (d : Dinode) (o p q w : OwnerSets) → Adds (attributes_of d) o p → Adds (names_held (names_of (readers blocks) page d)) p q
+    → Adds (extents_held (extents_of (readers blocks) page d)) q w → Adds (holds (readers blocks) (Some (spelled (readers blocks) page d))) o w
+object_joined blocks page d o p q w a n x =
+    let walk = names_of (readers blocks) page d in
+    let tree = extents_of (readers blocks) page d in
+    adds_same (λ b. attributes_of d b + names_held walk b + extents_held tree b) (holds (readers blocks) (Some (spelled (readers blocks) page d))) o w (holds_parts blocks page d)
+    (adds_next (λ b. attributes_of d b + names_held walk b) (extents_held tree) o q w (adds_next (attributes_of d) (names_held walk) o p q a n) x)
+
 pub object_counted : {T : Type 0} (blocks now : ℕ) (image after : Image) (d : Dinode) (r : Result T ViewError) (o p q w : OwnerSets) → now ≡ blocks → after ≡ image
     → Adds (attributes_of d) o p → Adds (names_held (names_of (readers blocks) (page_of image) d)) p q
     → IfOk r (λ it. Adds (extents_held (extents_of (readers now) (page_of after) d)) q w) → IfOk r (λ it. Adds (holds (readers blocks) (Some (spelled (readers blocks) (page_of image) d))) o w)
-unfolding holds spelled
 object_counted blocks now image after d (Ok it) o p q w e f a n x =
-    let walk = names_of (readers blocks) (page_of image) d in
-    let tree = extents_of (readers blocks) (page_of image) d in
-    let y = subst (λ (i : Image). Adds (extents_held (extents_of (readers blocks) (page_of i) d)) q w) f (subst (λ (m : ℕ). Adds (extents_held (extents_of (readers m) (page_of after) d)) q w) e x) in
-    adds_same (λ b. attributes_of d b + names_held walk b + extents_held tree b) (holds (readers blocks) (Some (spelled (readers blocks) (page_of image) d))) o w
-    (λ b. sum_of_parts (attributes_of d b) (names_held walk b) (unless_broken (listed xt_scale tree) (met tree b)) (covers b (entries (listed xt_scale tree))))
-    (adds_next (λ b. attributes_of d b + names_held walk b) (extents_held tree) o q w (adds_next (attributes_of d) (names_held walk) o p q a n) y)
+    object_joined blocks (page_of image) d o p q w a n
+    (subst (λ (i : Image). Adds (extents_held (extents_of (readers blocks) (page_of i) d)) q w) f (subst (λ (m : ℕ). Adds (extents_held (extents_of (readers m) (page_of after) d)) q w) e x))
 object_counted blocks now image after d (Err g) o p q w e f a n x = tt
-
--- ---- the fixed areas
-
-pub file_counted : {T : Type 0} (blocks now : ℕ) (image after : Image) (root : List ℕ) (k : ℕ) (r : Result T ViewError) (old new : OwnerSets) → now ≡ blocks → after ≡ image → root ≡ root_of (aggregate_at (page_of image) k)
-    → IfOk r (λ it. Adds (extents_held (extents_walk now (page_of after) root)) old new) → IfOk r (λ it. Adds (file_has (readers blocks) (page_of image) k) old new)
-unfolding file_has
-file_counted blocks now image after root k (Ok it) old new e f g h =
-    let same : extents_walk now (page_of after) root ≡ extents_walk blocks (page_of image) (root_of (aggregate_at (page_of image) k)) = rw (e, f, g) refl in
-    subst (λ (ms : Marks ℕ Xad). Adds (extents_held ms) old new) same h
-file_counted blocks now image after root k (Err x) old new e f g h = tt
-
-pub area_counted : {T : Type 0} (blocks b1 b2 : ℕ) (image i1 i2 : Image) (table map : Pxd) (r : Result T ViewError) (o p q s t u w : OwnerSets) → b1 ≡ blocks → i1 ≡ image → b2 ≡ b1 → i2 ≡ i1
-    → Adds (run_has (record { len = 16; addr = 0 })) o p → Adds (run_has table) p q → Adds (run_has map) q s
-    → Adds (file_has (readers blocks) (page_of image) 2) s t → Adds (file_has (readers b1) (page_of i1) 4) t u → IfOk r (λ it. Adds (file_has (readers b2) (page_of i2) 16) u w)
-    → IfOk r (λ it. Adds (area_on (readers blocks) table map (page_of image)) o w)
-unfolding area_on
-area_counted blocks b1 b2 image i1 i2 table map (Ok it) o p q s t u w e f g h a b c x y z =
-    let has = λ (k : ℕ). file_has (readers blocks) (page_of image) k in
-    let front : Pxd = record { len = 16; addr = 0 } in
-    let y2 : Adds (has 4) t u = subst (λ (i : Image). Adds (file_has (readers blocks) (page_of i) 4) t u) f (subst (λ (m : ℕ). Adds (file_has (readers m) (page_of i1) 4) t u) e y) in
-    let z2 : Adds (has 16) u w = subst (λ (i : Image). Adds (file_has (readers blocks) (page_of i) 16) u w) (h ∙ f) (subst (λ (m : ℕ). Adds (file_has (readers m) (page_of i2) 16) u w) (g ∙ e) z) in
-    adds_next (λ n. run_has front n + run_has table n + run_has map n + has 2 n + has 4 n) (has 16) o u w
-    (adds_next (λ n. run_has front n + run_has table n + run_has map n + has 2 n) (has 4) o t u
-    (adds_next (λ n. run_has front n + run_has table n + run_has map n) (has 2) o s t
-    (adds_next (λ n. run_has front n + run_has table n) (run_has map) o q s (adds_next (run_has front) (run_has table) o p q a b) c) x) y2) z2
-area_counted blocks b1 b2 image i1 i2 table map (Err x) o p q s t u w e f g h a b c d y z = tt

@@ -4,7 +4,6 @@
 mod extents;
 mod fixed;
 mod object;
-mod objects;
 mod owners;
 mod shared;
 mod shown;
@@ -12,3 +11,5 @@ mod trees;
 mod words;
 
 pub use owners::Owners;
+pub use shown::Judge;
+pub use words::count_taken;

@@ -1,45 +1,26 @@
 //! What an object holds.
 
-ghost use Rattle.std.specs.Prelude.{◌≡◌, Some, length, IfOk};
+ghost use Rattle.std.specs.Prelude.{◌≡◌, Some, IfOk};
 ghost use Rattle.jfs_disk.specs.Image.{page_of};
 ghost use Rattle.jfs_ranges.specs.View.{CarriesCount};
-ghost use Rattle.jfs_objects.specs.Objects.{has_names, has_extents, names_of, extents_of, spelled};
+ghost use Rattle.jfs_objects.specs.Objects.{names_of, extents_of, spelled};
 ghost use Rattle.jfs_objects.specs.Owners.{dxd_has, holds};
-ghost use Rattle.jfs_meaning.specs.Readers.{readers, root_of};
+ghost use Rattle.jfs_meaning.specs.Readers.{readers};
 ghost use Rattle.jfs_owners.specs.Counts.{Adds};
 ghost use Rattle.jfs_owners.specs.Held.{extents_held, names_held, attributes_of};
 
 use crate::owners::Owners;
-use jfs_bits::{Dxd, get_array};
+use jfs_bits::Dxd;
 use jfs_inode::Dinode;
 use jfs_ranges::{PageView, ViewError};
-
-/// The root of the tree in an inode.
-pub(crate) fn root_in(d: &Dinode) -> [u8; 288]
-    ensures root { result ≡ root_of d.now }
-    ensures width { length result ≡ 288 }
-{
-    get_array(&d.rest, 96)
-}
-
-fn has_names(d: &Dinode) -> bool
-    ensures { result ≡ has_names d.now }
-{
-    d.mode & Dinode::TYPE == Dinode::DIRECTORY
-}
-
-fn has_extents(d: &Dinode) -> bool
-    ensures { result ≡ has_extents d.now }
-{
-    let mode = d.mode;
-    let size = d.size;
-    let kind = mode & Dinode::TYPE;
-    kind == Dinode::REGULAR || (kind == Dinode::LINK && size >= 256)
-}
+use jfs_reader::{has_extents, has_names, root_in};
 
 impl Owners {
-    /// Counts what an object holds: the pages of its tree and the blocks of its extents, where the tree breaks no rule, and the runs of its attributes. At
-    /// `Err` some of it may be counted.
+    /// Counts what an object holds: the pages of its tree and the blocks of its extents, where the tree breaks no rule, and the runs of its attributes.
+    ///
+    /// # Errors
+    ///
+    /// A page could not be read, or memory ran out. Some of it may be counted then.
     pub fn add_object<V: PageView>(&mut self, view: &mut V, d: &Dinode) -> Result<(), ViewError>
         ensures image { V.PageView.tells → V.PageView.image view.new ≡ V.PageView.image view.old }
         ensures count_of_blocks { V.PageView.block_count view.new ≡ V.PageView.block_count view.old }
@@ -56,7 +37,7 @@ impl Owners {
     }
 
     /// Counts the runs of an inode's attributes.
-    fn add_attributes(&mut self, d: &Dinode)
+    pub fn add_attributes(&mut self, d: &Dinode)
         ensures { Adds (attributes_of d.now) self.old self.new }
     {
         let acl = d.acl;

@@ -1,10 +1,11 @@
 //! The blocks of a volume that have owners.
 
-ghost use Rattle.std.specs.Prelude.{◌≡◌, ◌+◌, ◌*◌, ◌%◌, ◌<◌, ◌≤◌, nat_lt, length, ℕ, IfOk};
+ghost use Rattle.std.specs.Prelude.{◌≡◌, ◌+◌, ◌*◌, ◌%◌, ◌<◌, ◌≤◌, ◌==◌, nat_lt, not, length, ℕ, IfOk};
+ghost use Rattle.jfs_bits.specs.Bits.{is_taken, count_below};
 ghost use Rattle.jfs_owners.specs.Counts.{Counts, Adds};
 ghost use Rattle.jfs_objects.specs.Owners.{run_has};
 
-use crate::words::add_run;
+use crate::words::{add_run, count_taken};
 use jfs_bits::{Pxd, bit};
 use std::alloc::{AllocError, Global};
 use std::marker::Model;
@@ -81,6 +82,15 @@ impl Owners {
         ensures { (count : ℕ → ℕ) → Counts self.now count → result ≡ nat_lt 1 (count b) }
     {
         bit(self.shared.as_slice(), b)
+    }
+
+    /// How many blocks have no owner.
+    pub fn free(&self) -> u32
+        ensures counts { (count : ℕ → ℕ) → Counts self.now count → result ≡ count_below self.now.blocks (λ b. count b == 0) }
+        ensures plain { result ≡ count_below self.now.blocks (λ b. not (is_taken self.now.owned b)) }
+    {
+        let blocks = self.blocks;
+        blocks - count_taken(self.owned.as_slice(), blocks)
     }
 
     /// The blocks with owners: a bit for each block, in words as in the block map.

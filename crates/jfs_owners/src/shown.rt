@@ -1,18 +1,19 @@
 //! Trees shown to a visitor, if they break no rule.
 
-ghost use Rattle.std.specs.Prelude.{◌≡◌, length, IfOk};
+ghost use Rattle.std.specs.Prelude.{◌≡◌, length, List, true, Ok, IfOk};
 ghost use Rattle.jfs_ranges.specs.View.{CarriesCount};
 ghost use Rattle.jfs_tree.specs.Spells.{tree_of};
 ghost use Rattle.jfs_tree.specs.Call.{pages_of};
+ghost use Rattle.jfs_objects.specs.Objects.{listed};
 ghost use Rattle.jfs_owners.specs.Held.{Sees, HandsOn};
 
 use jfs_ranges::{PageView, ViewError};
 use jfs_tree::{PageRead, TreeError, Visitor, walk_tree};
 use std::alloc::AllocError;
 
-/// Looks at a tree for its rules alone.
+/// A visitor that keeps nothing: for a walk that looks at a tree for its rules alone.
 #[derive(Drop)]
-struct Judge {}
+pub struct Judge {}
 
 impl<E> Visitor<E> for Judge {
     ghost sees_page = { λ old n new. Unit {0} };
@@ -34,6 +35,34 @@ fn not_shown(e: TreeError) -> Result<bool, ViewError>
         TreeError::View(e) => Err(e),
         TreeError::Bad { .. } => Ok(false),
         TreeError::Memory => Err(ViewError::Memory),
+    }
+}
+
+/// Shows a root's tree to a visitor, each page once. Of a tree that breaks a rule it may show any part.
+pub(crate) fn show_sound<V: PageView, F: PageRead, W: Visitor<F::Entry>>(
+    top: &F,
+    form: &F,
+    view: &mut V,
+    root: &[u8],
+    visitor: &mut W,
+) -> Result<(), ViewError>
+    requires root { length root.now ≡ F.PageForm.size top.now }
+    requires bound { (F.PageForm.blocks top.now ≡ V.PageView.block_count view.old) × (F.PageForm.blocks form.now ≡ V.PageView.block_count view.old) }
+    requires size { F.PageForm.size form.now ≡ 4096 }
+    ensures image { V.PageView.tells → V.PageView.image view.new ≡ V.PageView.image view.old }
+    ensures count_of_blocks { V.PageView.block_count view.new ≡ V.PageView.block_count view.old }
+    ensures device { V.PageView.device view.new ≡ V.PageView.device view.old }
+    ensures fault { CarriesCount (V.PageView.fault_count view.old) (V.PageView.fault_count view.new) result }
+    ensures sees { V.PageView.tells → IfOk result (λ it. (es : List F.Entry) →
+        listed F.PageForm.scale (tree_of F.PageForm.scale (pages_of (F.PageForm.node form.now) (V.PageView.image view.old)) (F.PageForm.node top.now root.now)) ≡ Ok es →
+        Sees F.PageForm.scale W.sees_page W.sees_entry
+        (tree_of F.PageForm.scale (pages_of (F.PageForm.node form.now) (V.PageView.image view.old)) (F.PageForm.node top.now root.now)) visitor.old visitor.new true) }
+{
+    match walk_tree(top, form, view, root, visitor) {
+        Ok(()) => Ok(()),
+        Err(TreeError::View(e)) => Err(e),
+        Err(TreeError::Memory) => Err(ViewError::Memory),
+        Err(TreeError::Bad { .. }) => Ok(()),
     }
 }
 
@@ -60,8 +89,6 @@ pub(crate) fn show_tree<V: PageView, F: PageRead, W: Visitor<F::Entry>>(
         Ok(()) => {}
         Err(e) => return not_shown(e),
     }
-    match walk_tree(top, form, view, root, visitor) {
-        Ok(()) => Ok(true),
-        Err(e) => not_shown(e),
-    }
+    show_sound(top, form, view, root, visitor)?;
+    Ok(true)
 }

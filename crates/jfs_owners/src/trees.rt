@@ -1,14 +1,17 @@
 //! What trees hold.
 
-ghost use Rattle.std.specs.Prelude.{◌≡◌, length, IfOk};
+ghost use Rattle.std.specs.Prelude.{◌≡◌, length, List, Ok, IfOk};
+ghost use Rattle.jfs_bits.specs.declared.extent.Xad.{Xad};
 ghost use Rattle.jfs_disk.specs.Image.{page_of};
 ghost use Rattle.jfs_ranges.specs.View.{CarriesCount};
+ghost use Rattle.jfs_xtree.specs.Node.{xt_scale};
+ghost use Rattle.jfs_objects.specs.Objects.{listed};
 ghost use Rattle.jfs_objects.specs.Owners.{run_has};
 ghost use Rattle.jfs_owners.specs.Counts.{Adds, page_has};
 ghost use Rattle.jfs_owners.specs.Held.{extents_walk, extents_held, names_walk, names_held};
 
 use crate::owners::Owners;
-use crate::shown::show_tree;
+use crate::shown::{show_sound, show_tree};
 use jfs_bits::{Pxd, Xad};
 use jfs_dtpage::DtForm;
 use jfs_dtree::{DirEntry, DtPages};
@@ -50,7 +53,7 @@ impl Visitor<DirEntry> for Owners {
 impl Owners {
     #[tactic(auto, using(crate::proofs::Counted::adds_page, crate::proofs::Counted::adds_no_page))]
     /// Counts a page that a walk meets. The root is none.
-    fn add_page(&mut self, n: u32)
+    pub fn add_page(&mut self, n: u32)
         ensures { Adds (page_has n) self.old self.new }
     {
         if n != NO_PAGE {
@@ -88,6 +91,38 @@ impl Owners {
             Ok(_) => Ok(()),
             Err(e) => Err(e),
         }
+    }
+
+    /// Counts what the extent tree of a root in an inode holds, if the tree breaks no rule: its pages, and the blocks of its extents. Each page is read once. Of a
+    /// tree that breaks a rule any part may be counted.
+    ///
+    /// # Errors
+    ///
+    /// A page could not be read, or memory ran out. Some of it may be counted then.
+    pub fn add_sound_extents<V: PageView>(
+        &mut self,
+        view: &mut V,
+        root: &[u8],
+    ) -> Result<(), ViewError>
+        requires root { length root.now ≡ 288 }
+        ensures image { V.PageView.tells → V.PageView.image view.new ≡ V.PageView.image view.old }
+        ensures count_of_blocks { V.PageView.block_count view.new ≡ V.PageView.block_count view.old }
+        ensures device { V.PageView.device view.new ≡ V.PageView.device view.old }
+        ensures fault { CarriesCount (V.PageView.fault_count view.old) (V.PageView.fault_count view.new) result }
+        ensures adds { V.PageView.tells → IfOk result (λ it. (es : List Xad) →
+            listed xt_scale (extents_walk (V.PageView.block_count view.old) (page_of (V.PageView.image view.old)) root.now) ≡ Ok es →
+            Adds (extents_held (extents_walk (V.PageView.block_count view.old) (page_of (V.PageView.image view.old)) root.now)) self.old self.new) }
+    {
+        let blocks = view.blocks();
+        let top = XtPages {
+            form: XtForm::Root,
+            blocks,
+        };
+        let pages = XtPages {
+            form: XtForm::Full,
+            blocks,
+        };
+        show_sound(&top, &pages, view, root, self)
     }
 
     /// Counts what the directory tree of a root in an inode holds: its pages. One that breaks a rule holds nothing.

@@ -1,7 +1,7 @@
-//! Runs of blocks counted in two sets of bits, word by word.
+//! Sets of bits by their words: runs of blocks counted in two of them, and the bits of one counted.
 
 ghost use Rattle.std.specs.Prelude.{◌≡◌, ◌+◌, ◌*◌, ◌/◌, ◌%◌, ◌<◌, ◌≤◌, ◌&&◌, ◌||◌, ◌==◌, nat_le, nat_lt, length, ℕ};
-ghost use Rattle.jfs_bits.specs.Bits.{is_taken, is_taken_in};
+ghost use Rattle.jfs_bits.specs.Bits.{is_taken, is_taken_in, count_below};
 
 use jfs_bits::{get_u32, put_u32};
 
@@ -45,4 +45,19 @@ pub(crate) fn add_run(owned: &mut [u8], shared: &mut [u8], first: u32, end: u32)
         let to = end.min(32 * w + 32) - 32 * w;
         add_in_word(owned, shared, w, mask_of(from as u32, to as u32));
     }
+}
+
+/// How many of the first `n` bits of a set are set, which has a bit for each block in 32-bit little-endian words as the block map has.
+pub fn count_taken(set: &[u8], n: u32) -> u32
+    requires words { length set.now % 4 ≡ 0 }
+    requires within { n ≤ 8 * length set.now }
+    ensures { result ≡ count_below n (is_taken set.now) }
+{
+    let mut count = 0;
+    for w in 0..n.div_ceil(32) {
+        let first = 32 * w;
+        let mask = mask_of(0, (n - first).min(32));
+        count += (get_u32(set, 4 * w as usize) & mask).count_ones();
+    }
+    count
 }

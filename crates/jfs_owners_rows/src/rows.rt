@@ -23,6 +23,16 @@ const ROW: [u8; 70] = *b"2.............................1112111111111111111111111
 fn runs_by_hand(rt: HostRuntime) -> Result<(), AllocError> {
     let owners = owners_of(rt.alloc(), 70, RUNS.as_slice())?;
     assert!(rt; is_row(&owners, ROW.as_slice()));
+    assert!(rt; owners.free() == 33);
+    Ok(())
+}
+
+#[test]
+fn extents_by_hand(rt: HostRuntime) -> Result<(), AllocError> {
+    let mut owners = owners_of(rt.alloc(), 12, [(0, 2)].as_slice())?;
+    owners.add_inode_extents([Some(1), None, Some(5), Some(10)].as_slice());
+    assert!(rt; is_row(&owners, b"121111111.11".as_slice()));
+    assert!(rt; owners.free() == 1);
     Ok(())
 }
 

@@ -1,28 +1,18 @@
-use Rattle.std.proofs.Common.{◌∙◌, sym, subst}
-use Rattle.jfs_disk.specs.Image.{page_of}
+use Rattle.std.proofs.Common.{◌∙◌, sym, subst, Ok}
+use Rattle.jfs_disk.specs.Image.{Image, page_of}
 use Rattle.jfs_mount.specs.Subject.{subject_of}
 use Rattle.jfs_mount.specs.Steps.{Mounts}
+use Rattle.jfs_check.specs.Looked.{IsOfAny, Looked}
 use Rattle.jfs_check.proofs.Concluded.{concluded}
-use Rattle.jfs_check.proofs.Answered.{breaks_mount, places_told, all_looked}
 use Rattle.jfs_check.proofs.examine.examine.Goals as goal
 
-pub returns-in-Err-places_of-clause-broken : goal.returns-in-Err-places_of-clause-broken
-returns-in-Err-places_of-clause-broken g c tells =
+pub returns-clause-checked : goal.returns-clause-checked
+returns-clause-checked g c tells =
     let s = c.args.s.now in
-    let m = c.in-Ok-Ok.ensures in
-    let mounts = subst (Mounts (subject_of s (page_of (g.V.PageView.image c.args.view.now)))) c.in-Ok-Ok.field-0-is (m.mounts tells s c.requires.part) in
-    breaks_mount s (g.V.PageView.block_count c.args.view.now) (g.V.PageView.block_count c.mounted_maps.new.view) (g.V.PageView.image c.args.view.now) (g.V.PageView.image c.mounted_maps.new.view) c.requires.part m.count_of_blocks (m.image tells)
-    c.in-Ok-Ok.maps c.in-Err-places_of.x mounts.0 mounts.1 (c.in-Err-places_of.ensures.broken tells)
-
-pub returns-in-Ok-find_all-clause-checked : goal.returns-in-Ok-find_all-clause-checked
-returns-in-Ok-find_all-clause-checked g c tells =
-    let s = c.args.s.now in
-    let m = c.in-Ok-Ok.ensures in
-    let p = c.in-Ok.ensures in
-    let f = c.in-Ok-find_all.ensures in
-    let mounts = subst (Mounts (subject_of s (page_of (g.V.PageView.image c.args.view.now)))) c.in-Ok-Ok.field-0-is (m.mounts tells s c.requires.part) in
-    let at = places_told s (g.V.PageView.block_count c.args.view.now) (g.V.PageView.block_count c.mounted_maps.new.view) (g.V.PageView.image c.args.view.now) (g.V.PageView.image c.mounted_maps.new.view) c.requires.part m.count_of_blocks (m.image tells)
-    c.in-Ok-Ok.maps c.in-Ok.places.items mounts.0 (p.places tells) in
-    let looked = all_looked s (g.V.PageView.image c.args.view.now) (g.V.PageView.image c.places_of.new.view) (p.image tells ∙ m.image tells) c.in-Ok-Ok.maps c.as_slice.result.now c.in-Ok-find_all.look mounts.0 (c.as_slice.ensures.value ∙ at) (f.found tells) in
-    concluded (subject_of s (page_of (g.V.PageView.image c.args.view.now))) mounts.1 c.in-Ok-find_all.look c.in-Ok-Ok.maps.inodes.iags c.conclude.result
-    (f.owned ∙ p.count_of_blocks ∙ m.count_of_blocks ∙ sym c.requires.part) mounts.0.inodes.iags looked c.conclude.ensures.order c.conclude.ensures.same c.conclude.ensures.free c.conclude.ensures.inodes
+    let image = g.V.PageView.image c.args.view.now in
+    let one = c.in_ok-mounted.ensures in
+    let all = c.in_ok-look.ensures in
+    let mounts = subst (Mounts (subject_of s (page_of image))) c.in-Ok.is (one.mounts tells s c.requires.part) in
+    let looked = subst (λ (i : Image). (Mounts (subject_of s (page_of i)) (Ok c.in-Ok.mounted) → Looked (subject_of s (page_of i)) (IsOfAny (subject_of s (page_of i))) c.in_ok-look.look)) (one.image tells) (all.found tells) mounts in
+    concluded (subject_of s (page_of image)) mounts.1 c.in_ok-look.look c.in-Ok.mounted.maps.inodes.iags c.conclude.result (all.owned ∙ one.count_of_blocks ∙ sym c.requires.part) mounts.0.inodes.iags looked
+    c.conclude.ensures.order c.conclude.ensures.same c.conclude.ensures.free c.conclude.ensures.inodes

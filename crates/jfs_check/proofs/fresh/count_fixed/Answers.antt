@@ -1,8 +1,14 @@
-use Rattle.jfs_check.proofs.Wholly.{fixed_counted}
+use Rattle.std.proofs.Common.{subst, List, Option, ℕ}
+use Rattle.jfs_disk.specs.Image.{page_of}
+use Rattle.jfs_super.specs.Rules.{blocks_of}
+use Rattle.jfs_objects.specs.Owners.{extents_have}
+use Rattle.jfs_meaning.specs.Readers.{readers}
+use Rattle.jfs_owners.specs.Counts.{Adds}
+use Rattle.jfs_owners.proofs.Joined.{counts_fixed}
 use Rattle.jfs_check.proofs.fresh.count_fixed.Goals as goal
 
-pub returns-in-Ok-clause-counts : goal.returns-in-Ok-clause-counts
-returns-in-Ok-clause-counts g c tells none is =
-    let area = c.in_ok-add_area.ensures in
-    fixed_counted c.args.s.now (g.V.PageView.block_count c.args.view.now) (g.V.PageView.block_count c.add_area.new.view) (g.V.PageView.image c.args.view.now) (g.V.PageView.image c.add_area.new.view) c.args.maps.now.inodes
-    c.args.owners.now c.add_area.new.self c.add_inode_extents.new.self c.requires.part area.count_of_blocks (area.image tells) none (area.adds tells) (c.in-Ok.ensures.adds tells) is
+pub returns-clause-counts : goal.returns-clause-counts
+returns-clause-counts g c tells none sound at =
+    let s = c.args.s.now in
+    counts_fixed (readers (blocks_of s)) (blocks_of s) s.ait2 s.aim2 (page_of (g.V.PageView.image c.args.view.now)) c.args.owners.now c.count_area.new.owners c.add_inode_extents.new.self none (c.in_ok-count_area.ensures.held tells sound)
+    (subst (λ (ps : List (Option ℕ)). Adds (extents_have ps) c.count_area.new.owners c.add_inode_extents.new.self) at c.add_inode_extents.ensures)

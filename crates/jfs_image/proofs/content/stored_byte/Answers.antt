@@ -1,4 +1,4 @@
-use Rattle.std.proofs.Common.{◌≡◌, ◌∙◌, ◌/◌, ◌%◌, sym, subst}
+use Rattle.std.proofs.Common.{◌∙◌, ◌/◌, ◌%◌, sym, subst}
 use Rattle.jfs_objects.specs.Contents.{block_of}
 use Rattle.jfs_reader.specs.Reading.{PageIs}
 use Rattle.std.proofs.Common.{Err, ℕ}

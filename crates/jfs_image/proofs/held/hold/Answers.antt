@@ -1,4 +1,4 @@
-use Rattle.std.proofs.Common.{◌≡◌, ◌∙◌, ap, subst, if◌then◌else◌, List, []}
+use Rattle.std.proofs.Common.{◌∙◌, ap, subst, if◌then◌else◌, List, []}
 use Rattle.jfs_bits.specs.declared.extent.Xad.{Xad}
 use Rattle.jfs_disk.specs.Image.{page_of}
 use Rattle.jfs_plain.specs.Step.{bytes_from}

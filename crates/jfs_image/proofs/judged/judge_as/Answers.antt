@@ -1,4 +1,4 @@
-use Rattle.std.proofs.Common.{◌≡◌, refl, subst, sym, ◌∙◌}
+use Rattle.std.proofs.Common.{refl, subst, sym, ◌∙◌}
 use Rattle.jfs_disk.specs.Image.{page_of}
 use Rattle.jfs_meaning.specs.Readers.{readers}
 use Rattle.jfs_image.specs.View.{image_of, blocks_in}

@@ -1,4 +1,4 @@
-use Rattle.std.proofs.Common.{◌≡◌, subst, sym}
+use Rattle.std.proofs.Common.{subst}
 use Rattle.jfs_disk.specs.Image.{Image}
 use Rattle.jfs_disk.specs.Pages.{contents}
 use Rattle.jfs_image.specs.View.{image_of}
@@ -32,5 +32,5 @@ fresh-requires-clause-tallied c = subst (TallyIs (image_of c.in-Some.opened.view
 pub returns : goal.returns
 returns c =
     let is : IsOpened (contents c.args.image.now) c.in-Some.opened = subst (OpenedIs (contents c.args.image.now)) c.in-Some.is c.in_ok-opened.ensures in
-    room_told (contents c.args.image.now) c.in-Some.opened is c.in-Some-2.tally (record { free = c.free_blocks.result; inode = c.in_ok-inode.inode })
-    (subst (TallyIs (image_of c.in-Some.opened.view) c.in-Some.opened.map.iags) c.in-Some-2.is c.in_ok-tally.ensures) c.free_blocks.ensures c.in_ok-inode.ensures
+    room_told (contents c.args.image.now) c.in-Some.opened is c.in-Some-2.tally (record { free = c.free.result; inode = c.in_ok-inode.inode })
+    (subst (TallyIs (image_of c.in-Some.opened.view) c.in-Some.opened.map.iags) c.in-Some-2.is c.in_ok-tally.ensures) c.free.ensures.counts c.in_ok-inode.ensures

@@ -1,4 +1,4 @@
-use Rattle.std.proofs.Common.{◌≡◌, ◌<◌, ◌∙◌, ℕ, not, is_some, ap, sym, arith, below_more}
+use Rattle.std.proofs.Common.{not, is_some, arith, below_more}
 use Rattle.jfs_disk.specs.Image.{page_of}
 use Rattle.jfs_objects.specs.Image.{extent_on}
 use Rattle.jfs_meaning.specs.Readers.{readers}

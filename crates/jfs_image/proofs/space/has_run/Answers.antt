@@ -1,4 +1,4 @@
-use Rattle.std.proofs.Common.{◌≡◌, ◌<◌, ◌==◌, ◌/◌, ◌∙◌, ℕ, not, sym, arith, below_more}
+use Rattle.std.proofs.Common.{◌==◌, ◌/◌, ◌∙◌, not, sym, arith, below_more}
 use Rattle.jfs_bits.specs.Bits.{is_free_run}
 use Rattle.jfs_bits.proofs.Buds.{any_below-from, any_below-none}
 use Rattle.jfs_image.proofs.space.has_run.Goals as goal

@@ -1,4 +1,4 @@
-use Rattle.std.proofs.Common.{◌≡◌, ◌+◌, ◌*◌, ◌∙◌, ℕ, refl, sym, ap, subst, true, arith}
+use Rattle.std.proofs.Common.{◌≡◌, ◌+◌, ◌*◌, ℕ, refl, sym, subst, true, arith}
 use Rattle.jfs_bits.specs.Bits.{all_below}
 use Rattle.jfs_image.proofs.Spaces.{free_in, all_next, all_none, free_run, owned_run, owned_in, unowned_in}
 use Rattle.jfs_image.proofs.space.is_free_run.Goals as goal

@@ -1,4 +1,3 @@
-use Rattle.std.proofs.Common.{◌≡◌}
 use Rattle.jfs_bits.proofs.Fields.{range_between}
 use Rattle.jfs_image.proofs.target.short_target.Goals as goal
 

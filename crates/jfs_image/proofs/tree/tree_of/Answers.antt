@@ -1,4 +1,4 @@
-use Rattle.std.proofs.Common.{subst, arith, ◌≡◌, ◌≤◌, ◌*◌}
+use Rattle.std.proofs.Common.{subst, arith, ◌≤◌}
 use Rattle.jfs_disk.specs.Image.{Image}
 use Rattle.jfs_disk.specs.Pages.{contents}
 use Rattle.jfs_image.specs.Opened.{OpenedIs, IsOpened}

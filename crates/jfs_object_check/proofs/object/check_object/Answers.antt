@@ -16,5 +16,5 @@ returns-in-Ok-check_counts-clause-found g c = λ tells fits.
     (page_of (g.V.PageView.image c.args.view.now)) (page_of (g.V.PageView.image c.check_names.new.view))
     c.args.n c.args.at c.args.inode.now c.of-tally.result c.check_names.new.tally c.check_extents.new.tally c.breaks_rule-breaks.result
     n1 (ap page_of i1) (c.blocks-blocks.ensures ∙ n2 ∙ n1) c.of-tally.ensures c.breaks_rule-breaks.ensures
-    (c.in_ok-check_names.ensures.counted tells) (c.in_ok-check_extents.ensures.counted tells)
-    (subst (λ v. Gains (Only kinds.Inode c.args.at v (c.breaks_rule-breaks.result ≡ true)) c.args.findings.now.items c.note_if.new.findings.items) c.from.ensures c.in-Ok.ensures.found) (c.in_ok-check_names.ensures.found tells) (c.in_ok-check_extents.ensures.found tells) (c.in-Ok-check_counts.ensures.found fits)
+    (c.in_ok-names.ensures.counted tells) (c.in_ok-extents.ensures.counted tells)
+    (subst (λ v. Gains (Only kinds.Inode c.args.at v (c.breaks_rule-breaks.result ≡ true)) c.args.findings.now.items c.note_if.new.findings.items) c.from.ensures c.in-Ok.ensures.found) (c.in_ok-names.ensures.found tells) (c.in_ok-extents.ensures.found tells) (c.in-Ok-check_counts.ensures.found fits)

@@ -1,4 +1,4 @@
-use Rattle.std.proofs.Common.{◌≡◌, ◌<◌, refl, sym, ◌∙◌, ◌+◌, ◌-◌, ◌*◌, arith}
+use Rattle.std.proofs.Common.{◌<◌, refl, sym, ◌∙◌, ◌+◌, ◌-◌, ◌*◌, arith}
 use Rattle.std.specs.Prelude.{min}
 use Rattle.jfs_owners.proofs.Gained.{with_word, no_word}
 use Rattle.jfs_owners.proofs.shared.find_marked.Goals as goal

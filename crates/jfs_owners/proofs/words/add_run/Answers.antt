@@ -1,5 +1,5 @@
-use Rattle.std.proofs.Common.{◌≡◌, ◌<◌, ◌-◌, ◌*◌, ◌+◌, ◌/◌, ◌%◌, ◌&&◌, ◌||◌, ◌∙◌, ℕ, ap}
-use Rattle.std.specs.Prelude.{◌==◌, max, min, nat_le, nat_lt}
+use Rattle.std.proofs.Common.{◌≡◌, ◌<◌, ◌-◌, ◌*◌, ◌+◌, ◌&&◌, ◌∙◌, ℕ}
+use Rattle.std.specs.Prelude.{max, min, nat_le, nat_lt}
 use Rattle.jfs_bits.specs.Bits.{is_taken, is_taken_in}
 use Rattle.jfs_owners.proofs.Marks.{more_owned, more_shared}
 use Rattle.jfs_owners.proofs.words.add_run.Goals as goal

@@ -1,4 +1,4 @@
-use Rattle.jfs_owners.proofs.Totals.{file_counted}
+use Rattle.jfs_owners.proofs.Areas.{file_counted}
 use Rattle.jfs_owners.proofs.owners.Owners.add_file.Goals as goal
 
 pub returns-in-Ok-clause-adds : goal.returns-in-Ok-clause-adds
