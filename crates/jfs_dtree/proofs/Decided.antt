@@ -24,9 +24,6 @@ use Rattle.jfs_dtpage.proofs.Pages.{usable_range}
 use Rattle.jfs_dtpage.proofs.Rising.{rising_from_next}
 use Rattle.jfs_dtree.specs.Rules.{fits_flag, fits_table, fits_slots, ends, fits_chains, fits_free, rises, holds, rows}
 
-decides_le : (a b : ℕ) → Decides (nat_le a b) (a ≤ b)
-decides_le a b = (leb-true a b, le-leb a b)
-
 -- ---- flag and slots
 
 flag_decides : (form : DtForm) (low : ℕ) → Decides (fits_flag form low) (FlagFits form low)

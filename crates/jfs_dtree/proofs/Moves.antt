@@ -62,10 +62,6 @@ cons_some (e ∷ es) c = omega arith
 pub some_count : (bytes : List ℕ) → IsDtPage Full bytes → free_of bytes ≤ 70 → 0 < count_of bytes
 some_count bytes page few = let a = cons_some (entries_of Full bytes) (some_entries bytes page few) in let b = entries_count Full bytes in omega (arith, a, b)
 
-pub too_much_some : (left right : List Entry) → TakesTooMuch left right → IsCons right
-too_much_some left [] t = t
-too_much_some left (e ∷ right) t = tt
-
 -- ---- one move
 
 pub moved_rows : (l r l' r' : List Entry) → MovesLast l r l' r' → l' ++ r' ≡ l ++ r
@@ -87,9 +83,6 @@ moves_fewer l r l' r' m = ap length m.was ∙ one_more l' m.last
 
 too_much_here : (l r r' : List Entry) (last : Entry) → r' ≡ last ∷ r → 70 < slots_in l + slots_of_entry last → TakesTooMuch l r'
 too_much_here l r r' last e h = subst (TakesTooMuch l) (sym e) h
-
-pub sheds_none : (left right : List ℕ) → ArePages (entries_of Full left ++ entries_of Full right) left right → free_of left ≤ 70 → Sheds left right left right
-sheds_none left right p few = record { pages = p; head_left = record { flag = refl; place = refl }; head_right = record { flag = refl; place = refl }; few = few; next = inl (refl, refl) }
 
 pub sheds_more : (old_left old_right l r l' r' : List ℕ) → Sheds old_left old_right l r → free_of l < 53 → ArePages (entries_of Full l ++ entries_of Full r) l' r' → MovesLast (entries_of Full l) (entries_of Full r) (entries_of Full l') (entries_of Full r')
     → KeepsHead Full l l' → KeepsHead Full r r' → Sheds old_left old_right l' r'

@@ -1,5 +1,5 @@
 -- Roots and what is found, added and refused, as the calls say it.
-use Rattle.std.proofs.Common.{◌≡◌, inl, refl, sym, ap, ◌∙◌, subst, ℕ, ◌*◌, List, [], ◌∷◌, map, Bool, true, false, Option, Some, None, Result, Ok, Err}
+use Rattle.std.proofs.Common.{◌≡◌, inl, refl, sym, ap, ◌∙◌, subst, ℕ, ◌*◌, List, [], ◌∷◌, map, Bool, true, false, Option, None, Result, Ok, Err}
 use Rattle.std.specs.List.{list_all}
 use Rattle.std.specs.Option.{option_map}
 use Rattle.std.proofs.lemmas.Bool.{and_parts, true≢false}
@@ -12,7 +12,6 @@ use Rattle.jfs_bits.specs.Descriptor.{pxd_of}
 use Rattle.jfs_dtpage.specs.Form.{is_leaf}
 use Rattle.jfs_dtpage.specs.Page.{entry_of, entries_of, table_of, IsDtPage}
 use Rattle.jfs_tree.specs.Walk.{Node, Leaf}
-use Rattle.jfs_tree.specs.Edit.{IsApart}
 use Rattle.jfs_tree.specs.Fresh.{AllPages, HasPages}
 use Rattle.jfs_tree.specs.Adds.{read_as, AddsTold, LevelsTold, RefusesWhereFull}
 use Rattle.jfs_tree.specs.Path.{broken_on_way, TellsBroken}
@@ -31,7 +30,7 @@ use Rattle.jfs_dtree.specs.declared.error.DtError.{DtError}
 use Rattle.jfs_dtree.specs.declared.error.DtError.TheVariants as dt
 use Rattle.jfs_dtree.specs.Errors.{handed_on}
 use Rattle.jfs_dtree.specs.Adding.{AddsName, NoRoomAtRoot, NoPlaceAtRoot, NoRoomOnWay, is_full_in, lacks_in, TakesPages, KeepsLevels, RefusesName, AddTellsWay}
-use Rattle.jfs_dtree.specs.Room.{is_deep, DeepIs, FollowsRoom}
+use Rattle.jfs_dtree.specs.Room.{DeepIs, FollowsRoom}
 use Rattle.jfs_dtree.proofs.Tight.{full_deep}
 use Rattle.jfs_dtree.proofs.Nodes.{inner_is, leaf_read}
 use Rattle.jfs_dtree.proofs.Leading.{run_below}

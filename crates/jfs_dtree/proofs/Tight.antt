@@ -1,5 +1,5 @@
 -- The way of a name, page by page: whether each page has too few free slots.
-use Rattle.std.proofs.Common.{◌≡◌, ◌≤◌, ◌<◌, ◌⊎◌, inl, inr, refl, sym, ap, ◌∙◌, subst, ℕ, zero, suc, ◌+◌, ◌==◌, ◌&&◌, Bool, true, false, List, [], ◌∷◌, ◌++◌, Option, Some, None, Result, Ok, Err, IfOk, arith}
+use Rattle.std.proofs.Common.{◌≡◌, ◌≤◌, ◌<◌, inl, inr, refl, sym, ap, ◌∙◌, subst, ℕ, zero, suc, ◌==◌, ◌&&◌, Bool, true, false, List, [], ◌∷◌, ◌++◌, Option, Some, None, Result, Ok, Err, IfOk, arith}
 use Rattle.std.specs.Prelude.{nat_lt}
 use Rattle.std.specs.List.{list_all}
 use Rattle.std.proofs.lemmas.Bool.Decides.{nat_tests}
@@ -23,7 +23,7 @@ use Rattle.jfs_tree.proofs.Rooms.{leaf_levels}
 use Rattle.jfs_tree.proofs.RootCalls.{part_off, names_root}
 use Rattle.jfs_dtree.specs.Laws.{order}
 use Rattle.jfs_dtree.specs.Node.{name_scale, dt_node, HasNoRoom}
-use Rattle.jfs_dtree.specs.Spells.{root_node, page_nodes, spells_names}
+use Rattle.jfs_dtree.specs.Spells.{root_node, page_nodes}
 use Rattle.jfs_dtree.specs.Room.{is_eight, is_tight, is_deep, DeepIs, child_tight, node_tight, tight_below}
 
 -- ---- one page

@@ -27,9 +27,6 @@ not_gt : (r : Bool) → not r ≡ true → r ≡ false
 not_gt true e = absurd cc
 not_gt false e = refl
 
-gt_not : (r : Bool) → r ≡ false → not r ≡ true
-gt_not r e = ap not e
-
 not_true : (r : Bool) → not r ≡ false → r ≡ true
 not_true true e = refl
 not_true false e = absurd cc

@@ -13,7 +13,6 @@ use crate::check::check_page;
 use crate::entry::{DirEntry, NameKey};
 use crate::form::DtPages;
 use crate::lead::child_page;
-use crate::leaf::entry_at;
 use crate::reached::Reached;
 use jfs_bits::Rule;
 use jfs_dtpage::{DtForm, dt_name, is_leaf};
@@ -65,8 +64,12 @@ impl PageRead for DtPages {
         Ok(Shape::Inner(count))
     }
 
-    fn entry(&self, bytes: &[u8], i: usize) -> DirEntry {
-        entry_at(bytes, self.form, i as u32)
+    fn any_entry(&self) -> DirEntry {
+        DirEntry::new(&[], 0)
+    }
+
+    fn read_entry(&self, bytes: &[u8], i: usize, x: &mut DirEntry) {
+        x.read(bytes, self.form, i as u32);
     }
 
     fn child(&self, bytes: &[u8], i: usize) -> Sibling<NameKey> {
@@ -97,7 +100,10 @@ impl PageRead for DtPages {
         Reached::At(NameKey::new(key.units()))
     }
 
-    fn past(&self, x: &DirEntry) -> Reached {
-        Reached::Behind(NameKey::new(x.name()))
+    fn pass(&self, x: &DirEntry, low: &mut Reached) {
+        match low {
+            Reached::Behind(last) => last.set(x.name()),
+            Reached::At(_) => *low = Reached::Behind(NameKey::new(x.name())),
+        }
     }
 }

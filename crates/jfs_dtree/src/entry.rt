@@ -1,8 +1,12 @@
 //! Names with their inodes, and keys, without memory of their own.
 
-ghost use Rattle.std.specs.Prelude.{◌≡◌, ◌≤◌, ◌<◌, ◌^◌, ℕ, List, length, take};
+ghost use Rattle.std.specs.Prelude.{◌≡◌, ◌≤◌, ◌<◌, ◌^◌, ℕ, List, length, take, map, slice_get, true, Some};
 ghost use Rattle.jfs_name.specs.declared.name.NameEntry.{NameEntry};
+ghost use Rattle.jfs_dtpage.specs.Form.{bytes_of, count_of, is_leaf};
+ghost use Rattle.jfs_dtpage.specs.Page.{entries_of, IsDtPage};
+ghost use Rattle.jfs_dtree.specs.Node.{named};
 
+use jfs_dtpage::{DtForm, dt_inode, dt_name};
 use std::marker::Model;
 
 /// A name of at most 255 units, and the number of its inode.
@@ -24,12 +28,25 @@ impl DirEntry {
         requires { length name.now ≤ 255 }
         ensures { result ≡ record { name = name.now; inode = inode } }
     {
-        let (units, length) = held(name);
+        let mut units = [0u16; 255];
+        units[..name.len()].copy_from_slice(name);
         DirEntry {
             units,
-            length,
+            length: name.len() as u8,
             inode,
         }
+    }
+
+    /// Reads the entry at a place of a leaf over this one.
+    pub(crate) fn read(&mut self, bytes: &[u8], form: DtForm, place: u32)
+        requires size { length bytes.now ≡ bytes_of form }
+        requires page { IsDtPage form bytes.now }
+        requires leaf { is_leaf bytes.now ≡ true }
+        requires place { place < count_of bytes.now }
+        ensures { slice_get (map named (entries_of form bytes.now)) place ≡ Some self.new }
+    {
+        self.length = dt_name(bytes, form, place, &mut self.units) as u8;
+        self.inode = dt_inode(bytes, form, place);
     }
 
     /// The units of the name.
@@ -65,8 +82,21 @@ impl NameKey {
         requires { length key.now ≤ 255 }
         ensures { result ≡ key.now }
     {
-        let (units, length) = held(key);
-        NameKey { units, length }
+        let mut made = NameKey {
+            units: [0; 255],
+            length: 0,
+        };
+        made.set(key);
+        made
+    }
+
+    /// Becomes this key.
+    pub(crate) fn set(&mut self, key: &[u16])
+        requires { length key.now ≤ 255 }
+        ensures { self.new ≡ key.now }
+    {
+        self.units[..key.len()].copy_from_slice(key);
+        self.length = key.len() as u8;
     }
 
     pub fn units(&self) -> &[u16]
@@ -75,14 +105,4 @@ impl NameKey {
     {
         &self.units[..usize::from(self.length)]
     }
-}
-
-/// Units in front of zeros, and their number.
-fn held(given: &[u16]) -> ([u16; 255], u8)
-    requires { length given.now ≤ 255 }
-    ensures { take result.1 result.0 ≡ given.now }
-{
-    let mut units = [0u16; 255];
-    units[..given.len()].copy_from_slice(given);
-    (units, given.len() as u8)
 }

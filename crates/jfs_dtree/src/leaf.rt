@@ -11,7 +11,7 @@ ghost use Rattle.jfs_dtree.specs.Node.{name_scale, named, dt_node, IsGood, HasNo
 
 use crate::check::is_sound_leaf;
 use crate::entry::DirEntry;
-use jfs_dtpage::{DtEntry, DtForm, dt_find, dt_inode, dt_insert, dt_name};
+use jfs_dtpage::{DtEntry, DtForm, dt_find, dt_insert};
 use jfs_tree::Put;
 
 /// The entry of a leaf that has the name.
@@ -36,9 +36,9 @@ pub(crate) fn entry_at(bytes: &[u8], form: DtForm, place: u32) -> DirEntry
     requires place { place < count_of bytes.now }
     ensures { slice_get (map named (entries_of form bytes.now)) place ≡ Some result }
 {
-    let mut units = [0u16; 255];
-    let count = dt_name(bytes, form, place, &mut units) as usize;
-    DirEntry::new(&units[..count], dt_inode(bytes, form, place))
+    let mut x = DirEntry::new(&[], 0);
+    x.read(bytes, form, place);
+    x
 }
 
 /// Puts an entry into a leaf that doesn't have its name, where there is room.

@@ -68,8 +68,9 @@ pub(crate) fn walk_leaf<F: PageRead, W: Visitor<F::Entry>>(
     ensures met { Meets F.PageForm.scale W.sees_page W.sees_entry (F.place low.old) visitor.old (leaf_shown F.PageForm.scale page (F.place low.old) (rows_in (F.PageForm.node form.now bytes.now))) (ended (F.place low.new) result) visitor.new }
     ensures fault { (n : ℕ) → CarriesFault n n result }
 {
-    let first = form.entry(bytes, 0);
-    if !form.fits(low, &first) {
+    let mut x = form.any_entry();
+    form.read_entry(bytes, 0, &mut x);
+    if !form.fits(low, &x) {
         return Err(TreeError::Bad {
             page,
             rule: Rule::Order,
@@ -92,8 +93,9 @@ pub(crate) fn walk_rows<F: PageRead, W: Visitor<F::Entry>>(
     ensures met { Meets F.PageForm.scale W.sees_page W.sees_entry (F.place low.old) visitor.old (map (Row page) (rows_in (F.PageForm.node form.now bytes.now))) (ended (F.place low.new) result) visitor.new }
     ensures fault { (n : ℕ) → CarriesFault n n result }
 {
+    let mut x = form.any_entry();
     for i in 0..count {
-        let x = form.entry(bytes, i);
+        form.read_entry(bytes, i, &mut x);
         if !form.takes_entry(low, &x) {
             return Err(TreeError::Bad {
                 page,
@@ -104,7 +106,7 @@ pub(crate) fn walk_rows<F: PageRead, W: Visitor<F::Entry>>(
             Ok(()) => {}
             Err(_) => return Err(TreeError::Memory),
         }
-        *low = form.past(&x);
+        form.pass(&x, low);
     }
     Ok(())
 }

@@ -28,11 +28,14 @@ pub trait PageRead: PageForm {
         requires { length bytes.now ≡ Self.size self.now }
         ensures { Shows (Self.node self.now bytes.now) result };
 
-    /// Entry `i` of a leaf.
-    fn entry(&self, bytes: &[u8], i: usize) -> Self::Entry
+    /// An entry to read others into. What it says doesn't matter.
+    fn any_entry(&self) -> Self::Entry;
+
+    /// Reads entry `i` of a leaf over another one.
+    fn read_entry(&self, bytes: &[u8], i: usize, x: &mut Self::Entry)
         requires size { length bytes.now ≡ Self.size self.now }
         requires place { i < length (rows_in (Self.node self.now bytes.now)) }
-        ensures { slice_get (rows_in (Self.node self.now bytes.now)) i ≡ Some result };
+        ensures { slice_get (rows_in (Self.node self.now bytes.now)) i ≡ Some x.new };
 
     /// Child `i` of an inner page.
     fn child(&self, bytes: &[u8], i: usize) -> Sibling<Self::Key>
@@ -61,7 +64,7 @@ pub trait PageRead: PageForm {
     fn at_key(&self, key: &Self::Key) -> Self::Bound
         ensures { place result ≡ key.now };
 
-    /// The place behind an entry.
-    fn past(&self, x: &Self::Entry) -> Self::Bound
-        ensures { place result ≡ Self.scale.to x.now };
+    /// Moves the place behind an entry.
+    fn pass(&self, x: &Self::Entry, low: &mut Self::Bound)
+        ensures { place low.new ≡ Self.scale.to x.now };
 }

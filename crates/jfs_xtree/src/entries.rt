@@ -8,7 +8,7 @@ use crate::check::{check_page, is_leaf};
 use crate::children::page_of;
 use crate::form::XtPages;
 use crate::place::length_of;
-use jfs_bits::{Rule, Xad};
+use jfs_bits::{Pxd, Rule, Xad};
 use jfs_tree::{PageRead, Shape, Sibling};
 use jfs_xtpage::xt_entry;
 
@@ -55,8 +55,16 @@ impl PageRead for XtPages {
         Ok(Shape::Inner(count))
     }
 
-    fn entry(&self, bytes: &[u8], i: usize) -> Xad {
-        xt_entry(bytes, i as u16)
+    fn any_entry(&self) -> Xad {
+        Xad {
+            flag: 0,
+            offset: 0,
+            at: Pxd { len: 0, addr: 0 },
+        }
+    }
+
+    fn read_entry(&self, bytes: &[u8], i: usize, x: &mut Xad) {
+        *x = xt_entry(bytes, i as u16);
     }
 
     fn child(&self, bytes: &[u8], i: usize) -> Sibling<u64> {
@@ -87,7 +95,7 @@ impl PageRead for XtPages {
         Reached::At(*key)
     }
 
-    fn past(&self, x: &Xad) -> Reached {
-        Reached::Behind(*x)
+    fn pass(&self, x: &Xad, low: &mut Reached) {
+        *low = Reached::Behind(*x);
     }
 }

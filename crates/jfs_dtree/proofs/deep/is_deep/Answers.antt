@@ -1,4 +1,4 @@
-use Rattle.std.proofs.Common.{sym, ap, ◌∙◌, subst, false, Ok}
+use Rattle.std.proofs.Common.{subst, false, Ok}
 use Rattle.jfs_disk.specs.Image.{page_of}
 use Rattle.jfs_dtpage.specs.declared.head.DtForm.TheVariants.{Root}
 use Rattle.jfs_tree.specs.Form.{Leads}

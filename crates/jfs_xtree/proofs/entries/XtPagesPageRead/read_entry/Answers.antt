@@ -1,6 +1,6 @@
 use Rattle.std.proofs.Common.{arith}
 use Rattle.jfs_xtree.proofs.Entered.{row_place, place_within, row_gets}
-use Rattle.jfs_xtree.proofs.entries.XtPagesPageRead.entry.Goals as goal
+use Rattle.jfs_xtree.proofs.entries.XtPagesPageRead.read_entry.Goals as goal
 
 pub overflow_cast-i : goal.overflow_cast-i
 overflow_cast-i c = let h = (place_within c.args.self.now.form c.args.self.now.blocks c.args.bytes.now c.args.i c.requires.size (row_place c.args.self.now.form c.args.self.now.blocks c.args.bytes.now c.args.i c.requires.place).0).1 in omega (arith, h)
