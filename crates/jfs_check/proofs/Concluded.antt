@@ -1,6 +1,5 @@
 -- All findings, put in order, are the volume's.
-use Rattle.std.proofs.Common.{◌≡◌, inl, inr, sym, ap, ◌∙◌, subst, ℕ, zero, suc, ◌*◌, ◌==◌, List, [], ◌∷◌, length, is_some, Option, Some, None, arith}
-use Rattle.std.specs.List.{Contains}
+use Rattle.std.proofs.Common.{◌≡◌, inl, inr, sym, ap, ◌∙◌, subst, ℕ, ◌*◌, ◌==◌, List, [], length, is_some, Option, None, arith}
 use Rattle.std.proofs.lemmas.List.FromFn.{length-map-range_with_len}
 use Rattle.jfs_bits.specs.Bits.{is_taken, count_below}
 use Rattle.jfs_bits.proofs.Counts.{count_below-same}
@@ -12,7 +11,6 @@ use Rattle.jfs_mount.specs.Mount.{BadMount, broken_mount, iags}
 use Rattle.jfs_findings.specs.Gains.{Gains, HasSame}
 use Rattle.jfs_findings.specs.Findings.{AreFindings, IsFinding, SaysUnless, Rise}
 use Rattle.jfs_findings.specs.declared.finding.Finding.{Finding}
-use Rattle.jfs_findings.specs.declared.finding.FindingKind.TheVariants as kinds
 use Rattle.jfs_check.specs.Looked.{IsOfAny, Looked}
 use Rattle.jfs_check.specs.Checked.{IsChecked}
 use Rattle.jfs_check.specs.declared.checked.Checked.{Checked}
@@ -52,22 +50,3 @@ module _ (s : Subject) (mounts : broken_mount s ≡ None) where
           ∙ ap (λ m. count_below m (λ n. is_some (object s n))) (let e = places_are in let q : 4096 * iags s ≡ 32 * length (volume s).extents = omega (arith, e) in q),
     );
   }
-
--- ---- a broken rule
-
-pub only_finding : (s : Subject) (bad : BadMount) (c : Checked) → broken_mount s ≡ Some bad → c.findings.items ≡ record { kind = kinds.Aggregate; page = bad.page; value = bad.value } ∷ [] → IsChecked s c
-only_finding s bad c e is = record {
-  findings = subst (AreFindings s) (sym is) (record {
-    each = λ f h. subst (λ (o : Option BadMount). SaysUnless o s f) (sym e) (one f h);
-    all = λ f h. (0, omega arith, sym (subst (λ (o : Option BadMount). SaysUnless o s f) e h));
-    order = tt;
-  });
-  counts = λ none. absurd (not_none (sym e ∙ none));
-}
-  where
-    not_none : Some bad ≡ None → ⊥
-    not_none h = cc h
-
-    one : (f : Finding) → Contains (record { kind = kinds.Aggregate; page = bad.page; value = bad.value } ∷ []) f → f ≡ record { kind = kinds.Aggregate; page = bad.page; value = bad.value }
-    one f (zero, l, h) = sym h
-    one f (suc n, l, h) = absurd (omega (arith, l))

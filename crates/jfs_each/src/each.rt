@@ -1,6 +1,6 @@
 //! The inodes in use, one after the other.
 
-ghost use Rattle.std.specs.Prelude.{◌≡◌, ◌≤◌, ◌<◌, ◌+◌, ◌*◌, ◌/◌, ◌%◌, ℕ, Some, IfOk, length};
+ghost use Rattle.std.specs.Prelude.{◌≡◌, ◌≤◌, ◌<◌, ◌+◌, ◌*◌, ◌/◌, ◌%◌, ℕ, Some, IfOk, OnOk, length};
 ghost use Rattle.jfs_disk.specs.Image.{Image, page_of};
 ghost use Rattle.jfs_inode.specs.Inode.{FitsDinode};
 ghost use Rattle.jfs_inode.specs.declared.fields.Dinode.{Dinode};
@@ -58,17 +58,19 @@ pub fn each_inode<V: PageView, W: EachInode>(
     ensures visits { V.PageView.tells → IfOk result (λ it. Visits (W.sees (V.PageView.block_count view.old) (V.PageView.image view.old))
         (found_at (page_of (V.PageView.image view.old)) places.now) 0 (32 * length places.now) visitor.old visitor.new) }
 {
+    let mut copy = Page::zeros();
     for e in 0..places.len() {
-        each_in_place(view, e as u32, places[e], visitor)?;
+        each_in_place(view, e as u32, places[e], &mut copy, visitor)?;
     }
     Ok(())
 }
 
-/// The inodes of extent `e`, where it is there.
+/// The inodes of extent `e`, where it is there. `copy` is room for a page, whatever it holds.
 fn each_in_place<V: PageView, W: EachInode>(
     view: &mut V,
     e: u32,
     place: Option<u32>,
+    copy: &mut Page,
     visitor: &mut W,
 ) -> Result<(), ViewError>
     requires fits { (first : ℕ) → place ≡ Some first → first + 4 ≤ V.PageView.block_count view.old }
@@ -81,16 +83,17 @@ fn each_in_place<V: PageView, W: EachInode>(
         (page_of (V.PageView.image view.old)) e place visitor.old visitor.new) }
 {
     match place {
-        Some(first) => each_in_extent(view, e, first, visitor),
+        Some(first) => each_in_extent(view, e, first, copy, visitor),
         None => Ok(()),
     }
 }
 
-/// The 32 inodes of extent `e`, which begins at that block.
+/// The 32 inodes of extent `e`, which begins at that block. `copy` is room for a page.
 fn each_in_extent<V: PageView, W: EachInode>(
     view: &mut V,
     e: u32,
     first: u32,
+    copy: &mut Page,
     visitor: &mut W,
 ) -> Result<(), ViewError>
     requires fits { first + 4 ≤ V.PageView.block_count view.old }
@@ -104,16 +107,17 @@ fn each_in_extent<V: PageView, W: EachInode>(
 {
     let _blocks = view.blocks();
     for d in 0..4 {
-        each_on_page(view, 32 * e + 8 * d, first + d, visitor)?;
+        each_on_page(view, 32 * e + 8 * d, first + d, copy, visitor)?;
     }
     Ok(())
 }
 
-/// The eight inodes from `from` on, which stand on that page.
+/// The eight inodes from `from` on, which stand on that page. It is copied, since what sees them reads other pages meanwhile.
 fn each_on_page<V: PageView, W: EachInode>(
     view: &mut V,
     from: u32,
     page: u32,
+    copy: &mut Page,
     visitor: &mut W,
 ) -> Result<(), ViewError>
     requires slots { from % 8 ≡ 0 }
@@ -126,23 +130,26 @@ fn each_on_page<V: PageView, W: EachInode>(
     ensures visits { V.PageView.tells → IfOk result (λ it. Visits (W.sees (V.PageView.block_count view.old) (V.PageView.image view.old))
         (λ n. live_in (page_of (V.PageView.image view.old)) n (Some page)) from 8 visitor.old visitor.new) }
 {
-    match copy_of_page(view, page) {
-        Ok(copy) => each_slot(view, from, page, &copy, visitor),
+    match copy_page(view, page, copy) {
+        Ok(()) => each_slot(view, from, page, copy, visitor),
         Err(e) => Err(e),
     }
 }
 
-/// A copy of a page. What sees its inodes reads other pages meanwhile.
-fn copy_of_page<V: PageView>(view: &mut V, page: u32) -> Result<Page, ViewError>
+/// Copies a page over another one.
+fn copy_page<V: PageView>(view: &mut V, page: u32, copy: &mut Page) -> Result<(), ViewError>
     requires within { page < V.PageView.block_count view.old }
     ensures image { V.PageView.tells → V.PageView.image view.new ≡ V.PageView.image view.old }
     ensures count_of_blocks { V.PageView.block_count view.new ≡ V.PageView.block_count view.old }
     ensures device { V.PageView.device view.new ≡ V.PageView.device view.old }
     ensures fault { CarriesCount (V.PageView.fault_count view.old) (V.PageView.fault_count view.new) result }
-    ensures copy { V.PageView.tells → IfOk result (λ copy. copy.0 ≡ page_of (V.PageView.image view.old) page) }
+    ensures copy { V.PageView.tells → OnOk result (copy.new.0 ≡ page_of (V.PageView.image view.old) page) }
 {
     match view.page(page) {
-        Ok(bytes) => Ok(Page(bytes.0)),
+        Ok(bytes) => {
+            copy.0.copy_from_slice(&bytes.0);
+            Ok(())
+        }
         Err(e) => Err(e),
     }
 }

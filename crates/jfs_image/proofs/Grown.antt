@@ -6,7 +6,7 @@ use Rattle.jfs_bits.specs.Broken.{first_broken}
 use Rattle.jfs_disk.specs.Image.{Image, page_of}
 use Rattle.jfs_inode.specs.Rules.{rows}
 use Rattle.jfs_plain.specs.Plain.{node_at, Became}
-use Rattle.jfs_plain.specs.Build.{IsEmpty, holding}
+use Rattle.jfs_plain.specs.Build.{holding}
 use Rattle.jfs_plain.specs.declared.node.Node.{Node}
 use Rattle.jfs_plain.specs.declared.plain.PlainTree.{PlainTree}
 use Rattle.jfs_objects.specs.Objects.{Object, IsWhole}
@@ -20,9 +20,6 @@ use Rattle.jfs_mount.specs.Subject.{object, volume}
 use Rattle.jfs_image.specs.Image.{subject_on}
 use Rattle.jfs_image.specs.Held.{IsHeld}
 use Rattle.jfs_image.specs.Tree.{IsUpTo}
-
-not_below : (n : ℕ) → nat_lt n 0 ≡ false
-not_below n = grind (arith, nat_tests)
 
 same_test : (k n : ℕ) → n ≢ k → nat_lt k (suc n) ≡ nat_lt k n
 same_test k n other = elim (cases_lt k n) [
@@ -54,14 +51,6 @@ none_more {X} f none n k e = elim (cases_eq n k) [
 module _ (image : Image) where
   nodes : ℕ → Option Node
   nodes n = node_on (subject_on image).readers (volume (subject_on image)) n
-
-  pub up_to_none : (limit : ℕ) (p : PlainTree) → IsEmpty limit p → IsUpTo image 0 p
-  up_to_none limit p is = record {
-    nodes = λ n. is.0.nodes n ∙ ap (λ (b : Bool). if b then node_on (subject_on image).readers (volume (subject_on image)) n else None) (sym (not_below n));
-    bytes = λ n i. is.0.bytes n i ∙ ap (λ (b : Bool). if b then byte_on (subject_on image).readers (volume (subject_on image)) n i else 0) (sym (not_below n));
-    inodes = λ n o l at. absurd (omega (arith, l));
-    trees = λ n o l at. absurd (omega (arith, l));
-  }
 
   none_at : (n : ℕ) → object (subject_on image) n ≡ None → None ≡ node_on (subject_on image).readers (volume (subject_on image)) n
   none_at n e = sym (ap (node_in (subject_on image).readers (page_of image)) e)

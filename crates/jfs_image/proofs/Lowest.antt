@@ -30,9 +30,6 @@ lowest_same (suc n) f g same =
     ap (λ (o : Option ℕ). or_else o (if f n then Some n else None)) (lowest_same n f g (λ k l. same k (omega (arith, l))))
     ∙ ap (λ (x : Bool). or_else (lowest n g) (if x then Some n else None)) (same n (omega arith))
 
-or_some : (n : ℕ) (o : Option ℕ) → or_else (Some n) o ≡ Some n
-or_some n o = refl
-
 later : (n k : ℕ) (test : ℕ → Bool) → Some k ≡ lowest n test → Some k ≡ lowest (suc n) test
 unfolding lowest
 later n k test e = ap (λ (o : Option ℕ). or_else o (if test n then Some n else None)) e

@@ -1,13 +1,12 @@
 -- An image that is opened, or isn't.
-use Rattle.std.proofs.Common.{◌≡◌, ◌<◌, ◌≤◌, ◌^◌, refl, sym, ap, ◌∙◌, subst, ℕ, Bool, true, false, List, [], length, Option, Some, None, Ok, Err, arith}
-use Rattle.std.specs.Prelude.{is_none, slice_get}
+use Rattle.std.proofs.Common.{◌≡◌, ◌<◌, ◌≤◌, ◌^◌, refl, sym, ap, ◌∙◌, subst, ℕ, true, List, [], length, Option, Some, None, arith}
+use Rattle.std.specs.Prelude.{slice_get}
 use Rattle.std.proofs.lemmas.Bool.{leb-true}
 use Rattle.std.proofs.lemmas.List.{length-map, get_or-map}
 use Rattle.std.proofs.lemmas.Option.{get_or_from_slice_get, slice_get_cases}
 use Rattle.std.proofs.Common.{inl, inr}
 use Rattle.jfs_bits.specs.declared.extent.Xad.{Xad}
 use Rattle.jfs_bits.specs.declared.rule.Rule.TheVariants as rules
-use Rattle.jfs_bits.specs.declared.rule.Rule.{Rule}
 use Rattle.jfs_bits.specs.Broken.{first_broken}
 use Rattle.jfs_bits.proofs.Broken.{each_holds}
 use Rattle.jfs_disk.specs.declared.page.Page.{Page}
@@ -17,10 +16,8 @@ use Rattle.jfs_super.specs.Super.{super_of}
 use Rattle.jfs_super.specs.Rules.{IsAccepted, rows, shape_rows}
 use Rattle.jfs_super.specs.declared.fields.Super.{Super}
 use Rattle.jfs_super.specs.declared.read.BadSuper.{BadSuper}
-use Rattle.jfs_xtree.specs.Node.{xt_scale, all_within}
-use Rattle.jfs_objects.specs.Objects.{listed}
-use Rattle.jfs_objects.specs.Owners.{entries}
-use Rattle.jfs_objects.specs.Image.{file_extents, file_walk}
+use Rattle.jfs_xtree.specs.Node.{all_within}
+use Rattle.jfs_objects.specs.Image.{file_extents}
 use Rattle.jfs_objects.specs.Contents.{block_of}
 use Rattle.jfs_meaning.specs.Readers.{readers}
 use Rattle.jfs_reader.specs.Reading.{IsPast}
@@ -52,9 +49,6 @@ no_ninth pages e has = elim (slice_get_cases pages 8).1 [
   | inr t ↦ (let l = t.0 in let n = nine (super_on (contents pages)) (length (contents pages)) has.super in let m = length-map pages bytes_in in omega (arith, l, n, m))
 ]
 
-pub too_many : (pages : List Page) → 2 ^ 32 ≤ length pages → HasTree (contents pages) → ⊥
-too_many pages l has = let n = has.pages in let m = length-map pages bytes_in in omega (arith, l, n, m)
-
 pub is_super : (pages : List Page) (n : ℕ) (p : Page) (s : Super) → Some p ≡ slice_get pages 8 → n ≡ length pages → n < 2 ^ 32 → IsAccepted s n → s ≡ super_of p.0 → IsSuper (contents pages) s
 is_super pages n p s at e few accepted is = record {
   pages = let m = length-map pages bytes_in in omega (arith, e, few, m);
@@ -69,21 +63,7 @@ pub no_super : (pages : List Page) (n : ℕ) (p : Page) (bad : BadSuper) → Som
 no_super pages n p bad at e broken has = never_bad bad (sym has.super ∙ sym (ap (λ (bytes : List ℕ). first_broken (rows (super_of bytes) (length (contents pages)))) (page_there pages 8 p at))
     ∙ ap (λ (k : ℕ). first_broken (rows (super_of p.0) k)) (length-map pages bytes_in ∙ sym e) ∙ broken)
 
--- ---- the mount, and the inode map
-
-pub no_mount : {A : Type 0} (o : Option A) (may : Bool) → may ≡ is_none o → may ≡ false → o ≡ None → ⊥
-no_mount None may e f h = cc
-no_mount (Some bad) may e f h = cc
-
-pub mounts : {A : Type 0} (o : Option A) (may : Bool) → may ≡ is_none o → may ≡ true → o ≡ None
-mounts None may e t = refl
-mounts (Some bad) may e t = absurd cc
-
-pub extents_read : (blocks : ℕ) (page : ℕ → List ℕ) (es : List Xad) → listed xt_scale (file_walk (readers blocks) page 16) ≡ Ok es → file_extents (readers blocks) page 16 ≡ es
-extents_read blocks page es e = ap entries e
-
-pub extents_none : (blocks : ℕ) (page : ℕ → List ℕ) (bad : ℕ) (rule : Rule) → listed xt_scale (file_walk (readers blocks) page 16) ≡ Err (bad, rule) → file_extents (readers blocks) page 16 ≡ []
-extents_none blocks page bad rule e = ap entries e
+-- ---- the inode map's file
 
 pub never_outside : (blocks : ℕ) (page : ℕ → List ℕ) (es : List Xad) (j : ℕ) → file_extents (readers blocks) page 16 ≡ es → IsPast blocks (block_of es j) → ⊥
 never_outside blocks page es j e past = by (block_of es j) refl past

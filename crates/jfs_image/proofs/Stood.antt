@@ -23,15 +23,8 @@ use Rattle.jfs_image.specs.declared.standing.Standing.TheVariants as standing
 use Rattle.jfs_image.proofs.Within.{file_within, block_within}
 use Rattle.jfs_image.proofs.Mounted.{home_below}
 
-pub reads_err : (image : Image) (blocks page n : ℕ) (e : ReadError) → OutsideIsPast blocks (Some page) e → ReadsInode image blocks page n (Err e)
-reads_err image blocks page n (View e) past = _
-reads_err image blocks page n Outside past = past
-
 -- the inode on the page where it stands
 module _ (image : Image) (blocks n : ℕ) (same : blocks_of (super_on image) ≡ blocks) where
-  pub inode_none : None ≡ home (extents_on (readers blocks) (page_of image)) n → InodeIs image n (Ok None)
-  inode_none at = subst (λ (b : ℕ). home (extents_on (readers b) (page_of image)) n ≡ None) (sym same) (sym at)
-
   pub inode_there : (p : ℕ) (r : Result (Option Dinode) ReadError) → Some p ≡ home (extents_on (readers blocks) (page_of image)) n → ReadsInode image blocks p n r → InodeIs image n r
   inode_there p (Ok None) at reads = absurd reads
   inode_there p (Ok (Some d)) at reads = (p, subst (λ (b : ℕ). home (extents_on (readers b) (page_of image)) n ≡ Some p) (sym same) (sym at), reads)

@@ -2,7 +2,7 @@
 use Rattle.std.proofs.Common.{◌≡◌, ◌<◌, ◌≤◌, inl, inr, sym, ap, ◌∙◌, ℕ, List, [], length, get_or, arith, Option, Some, None, Err}
 use Rattle.std.specs.Prelude.{slice_get}
 use Rattle.std.proofs.lemmas.List.{get_or-map, get_or_past, length-map}
-use Rattle.std.proofs.lemmas.Option.{get_or_from_slice_get, slice_get_cases}
+use Rattle.std.proofs.lemmas.Option.{slice_get_cases}
 use Rattle.jfs_disk.specs.declared.page.Page.{Page}
 use Rattle.jfs_disk.specs.Image.{Image, page_of}
 use Rattle.jfs_disk.specs.Pages.{contents}
@@ -21,13 +21,7 @@ size_at pages items i d e l s = ap (λ (ps : List Page). length (page_of (conten
 not_none : (p : Page) → (let none : Option Page = None in Some p ≡ none) → ⊥
 not_none p e = cc
 
--- a byte of a page that is there, and of one that isn't
-pub byte_there : (pages : List Page) (n at : ℕ) (p : Page) → Some p ≡ slice_get pages n → get_or p.0 at 0 ≡ get_or (page_of (contents pages) n) at 0
-byte_there pages n at p e = elim (slice_get_cases pages n).1 [
-  | inl t ↦ sym (ap (λ (bytes : List ℕ). get_or bytes at 0) (get_or-map bytes_in pages n p [] t.1 ∙ ap bytes_in (get_or_from_slice_get pages n p p (sym e))))
-  | inr t ↦ absurd (not_none p (e ∙ t.1))
-]
-
+-- a byte of a page that isn't there
 pub byte_past : (image : Image) (n at : ℕ) → length image ≤ n → 0 ≡ get_or (page_of image n) at 0
 byte_past image n at l = sym (ap (λ (bytes : List ℕ). get_or bytes at 0) (get_or_past image n [] l))
 

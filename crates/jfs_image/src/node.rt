@@ -4,11 +4,12 @@ ghost use Rattle.std.specs.Prelude.{◌≡◌, IfOk};
 ghost use Rattle.jfs_inode.specs.Rules.{type_of};
 ghost use Rattle.jfs_meaning.specs.Node.{kind_of, times_of, size_of, parent_in, node_with};
 
-use jfs_bits::{Blob, get_array};
+use jfs_bits::Blob;
 use jfs_dtree::parent;
 use jfs_inode::Dinode;
 use jfs_name::NameList;
 use jfs_plain::{Entries, Node, NodeKind, Times};
+use jfs_reader::root_in;
 use std::alloc::{AllocError, Global};
 
 /// The node of an inode with this target and these names.
@@ -68,8 +69,7 @@ fn parent_in(d: &Dinode) -> u32
     if d.mode & Dinode::TYPE != Dinode::DIRECTORY {
         return 0;
     }
-    let root: [u8; 288] = get_array(&d.rest, 96);
-    parent(&root)
+    parent(root_in(d))
 }
 
 fn times_of(d: &Dinode) -> Times

@@ -1,54 +1,23 @@
 -- One inode whose tree was counted, or passed over.
-use Rattle.std.proofs.Common.{◌≡◌, ◌≢◌, ◌⊎◌, inl, inr, refl, sym, ◌∙◌, subst, ℕ, suc, ◌+◌, ◌==◌, Bool, true, false, List, [], Result, Ok, Err, arith}
-use Rattle.jfs_bits.specs.declared.rule.Rule.{Rule}
+use Rattle.std.proofs.Common.{◌≡◌, ◌≢◌, ◌⊎◌, inl, inr, refl, sym, ◌∙◌, subst, ℕ, suc, ◌+◌, ◌==◌, true, false, List, [], arith}
+use Rattle.std.proofs.lemmas.Bool.{both_ways}
 use Rattle.jfs_inode.specs.declared.fields.Dinode.{Dinode}
-use Rattle.jfs_name.specs.declared.name.NameEntry.{NameEntry}
 use Rattle.jfs_dtree.specs.Node.{name_scale}
-use Rattle.jfs_tree.specs.Walk.{Marks}
 use Rattle.jfs_objects.specs.Objects.{has_names, names_of}
-use Rattle.jfs_objects.specs.Owners.{unless_broken}
 use Rattle.jfs_meaning.specs.Readers.{readers}
 use Rattle.jfs_meaning.specs.Consistent.{is_reserved, leading_to}
 use Rattle.jfs_findings.specs.Gains.{Gains}
 use Rattle.jfs_findings.specs.declared.finding.Finding.{Finding}
 use Rattle.jfs_findings.specs.declared.finding.FindingKind.TheVariants as kinds
-use Rattle.jfs_object_check.specs.Steps.{Only, IsSound}
+use Rattle.jfs_object_check.specs.Steps.{Only}
 use Rattle.jfs_object_check.proofs.Found.{gains_none, gains_both, gains_as}
-use Rattle.jfs_owners.specs.Counts.{OwnerSets, Adds}
-use Rattle.jfs_owners.proofs.Counted.{adds_none}
 use Rattle.jfs_link_check.specs.Counts.{CountedNames, CountsBelow, ends}
-use Rattle.jfs_link_check.specs.Places.{Place, places_in, sound_places, places_with, names_to, subdirectories}
+use Rattle.jfs_link_check.specs.Places.{Place, places_with, names_to, subdirectories}
 use Rattle.jfs_link_check.specs.Judged.{IsAstray, IsOfDirectory}
 use Rattle.jfs_link_check.specs.Notes.{NotesInode, Sees, names_with}
 use Rattle.jfs_link_check.specs.declared.notes.NameNotes.{NameNotes}
 use Rattle.jfs_link_check.proofs.Counted.{counted, passed}
-use Rattle.jfs_link_check.proofs.Walked.{sees_none, as_many}
-
--- ---- its tree
-
-both_ways : (b : Bool) → b ≡ true → b ≡ false → ⊥
-both_ways b t f = cc (t, f)
-
-module _ (has : ℕ → ℕ) (ms : Marks (List ℕ) NameEntry) (sound : Bool) where
-  -- one that breaks a rule, which isn't walked through
-  pub tree_broken : (l : Result (List NameEntry) (ℕ × Rule)) (o : OwnerSets) (v : NameNotes) → IsSound l sound → sound ≡ false → Adds (λ b. unless_broken l (has b)) o o × Sees (sound_places l ms) v v
-  tree_broken (Ok es) o v is e = absurd (both_ways sound is e)
-  tree_broken (Err fault) o v is e = (adds_none (λ b. 0) o o refl (λ b. refl), sees_none v)
-
-  -- one that breaks none, which was
-  pub tree_whole : (l : Result (List NameEntry) (ℕ × Rule)) (o p : OwnerSets) (v w : NameNotes) → IsSound l sound → sound ≡ true → Adds has o p × Sees (places_in ms) v w → Adds (λ b. unless_broken l (has b)) o p × Sees (sound_places l ms) v w
-  tree_whole (Ok es) o p v w is e h = h
-  tree_whole (Err fault) o p v w is e h = absurd (both_ways sound e is)
-
-  -- which then breaks none
-  pub never_broken : {X : Type 0} (l : Result (List NameEntry) (ℕ × Rule)) (fault : ℕ × Rule) → IsSound l sound → sound ≡ true → l ≡ Err fault → X
-  never_broken (Ok es) fault is e bad = absurd (ok_err es fault bad)
-    where
-      ok_err : (es : List NameEntry) (f : ℕ × Rule) → (let x : Result (List NameEntry) (ℕ × Rule) = Ok es in x) ≡ Err f → ⊥
-      ok_err es f e = cc
-  never_broken (Err x) fault is e bad = absurd (both_ways sound e is)
-
--- ---- its notes
+use Rattle.jfs_link_check.proofs.Walked.{as_many}
 
 module _ (blocks : ℕ) (page : ℕ → List ℕ) (n at : ℕ) (d : Dinode) where
   abbrev ps : List Place
@@ -70,7 +39,7 @@ module _ (blocks : ℕ) (page : ℕ → List ℕ) (n at : ℕ) (d : Dinode) wher
 
       never : (f : Finding) → IsOfDirectory notes.uses n at d ps f → ⊥
       never f (inl x) = subst (λ (qs : List Place). IsAstray notes.uses at qs f) no_places x
-      never f (inr x) = both_ways (has_names d) x.3.1 h
+      never f (inr x) = both_ways (has_names d) h x.3.1
 
   -- a directory
   pub noted : (old begun seen new : NameNotes) (links : ℕ) → has_names d ≡ true → begun ≡ record old { here = record { number = n; page = at; subdirectories = 0 } } → Sees ps begun seen → links ≡ d.nlink

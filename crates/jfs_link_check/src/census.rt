@@ -69,7 +69,7 @@ fn walk_names<V: PageView>(
         form: DtForm::Full,
         blocks,
     };
-    walk_tree(&top, &pages, view, &root_in(inode), census)
+    walk_tree(&top, &pages, view, root_in(inode), census)
 }
 
 /// Counts the pages of a directory's tree, and its names, if the tree breaks no rule. One that broke none before and now breaks one, as a failing device may tell

@@ -54,7 +54,7 @@ fn use_of(inode: &Dinode) -> Use
 {
     if has_names(inode) {
         Use::Directory {
-            parent: parent(&root_in(inode)),
+            parent: parent(root_in(inode)),
         }
     } else {
         Use::Other { links: inode.nlink }

@@ -1,8 +1,6 @@
 -- How a list of findings grows, step by step.
-use Rattle.std.proofs.Common.{◌≡◌, ◌⊎◌, inl, inr, refl, sym, ap, ◌∙◌, subst, ℕ, Bool, true, false, List, [], ◌∷◌, ◌++◌, Result, Ok, Err}
+use Rattle.std.proofs.Common.{◌≡◌, ◌⊎◌, inl, inr, refl, sym, ap, ◌∙◌, subst, ℕ, Bool, true, false, List, [], Result, Ok, Err}
 use Rattle.std.specs.Prelude.{OnOk, IfErr, IfOk}
-use Rattle.std.specs.List.{Contains}
-use Rattle.std.proofs.lemmas.List.Elements.{Contains-append_left, Contains-push, Contains-push_cases}
 use Rattle.jfs_bits.specs.declared.rule.Rule.{Rule}
 use Rattle.jfs_ranges.specs.declared.view.ViewError.{ViewError}
 use Rattle.jfs_tree.specs.Walk.{Node, Marks, Scale, rows_of}
@@ -35,21 +33,6 @@ gains_as to from g = record {
   all = λ f w. g.all f (from f w);
   only = λ f w. elim (g.only f w) [ inl x ↦ inl x | inr x ↦ inr (to f x) ];
 }
-
-as_one : (kind : FindingKind) (page value : ℕ) (f : Finding) → f.kind ≡ kind → f.page ≡ page → f.value ≡ value → (let g : Finding = record { kind = kind; page = page; value = value } in g) ≡ f
-as_one kind page value f k p v = λ i. record { kind = sym k i; page = sym p i; value = sym v i }
-
-pub gains_one : (kind : FindingKind) (page value : ℕ) (fact : Type 0) (old new : List Finding) → fact → new ≡ old ++ record { kind = kind; page = page; value = value } ∷ [] → Gains (Only kind page value fact) old new
-gains_one kind page value fact old new so is =
-    let g : Finding = record { kind = kind; page = page; value = value } in
-    record {
-      kept = λ f h. subst (λ fs. Contains fs f) (sym is) (Contains-append_left old (g ∷ []) f h);
-      all = λ f h. subst (λ fs. Contains fs f) (sym is) (subst (Contains (old ++ g ∷ [])) (as_one kind page value f h.0 h.1 h.2) (Contains-push old g));
-      only = λ f h. elim (Contains-push_cases old g f (subst (λ fs. Contains fs f) is h)) [ inl x ↦ inl x | inr e ↦ inr (sym (ap (λ (x : Finding). x.kind) e), sym (ap (λ (x : Finding). x.page) e), sym (ap (λ (x : Finding). x.value) e), so) ];
-    }
-
-pub gains_nothing : (kind : FindingKind) (page value : ℕ) (fact : Type 0) (old new : List Finding) → (fact → ⊥) → new ≡ old → Gains (Only kind page value fact) old new
-gains_nothing kind page value fact old new never same = subst (Gains (Only kind page value fact) old) (sym same) (gains_none (Only kind page value fact) old (λ f h. never h.3))
 
 -- ---- trees
 

@@ -10,3 +10,4 @@ pub mod Bottom
 pub mod OfThin
 pub mod Thinly
 pub mod Holding
+pub mod Growing

@@ -32,9 +32,6 @@ use Rattle.jfs_object_check.proofs.Bottom.{eight_levels}
 
 -- ---- page by page
 
-pub none_yet : {P E : Type 0} (nodes : ℕ → Node P E) (n : ℕ) (line : List ℕ) (fs : List Finding) → Gains (Tells n (IsThinOn nodes line 0)) fs fs
-none_yet nodes n line fs = gains_none (Tells n (IsThinOn nodes line 0)) fs (λ f h. let l = h.2.1 in omega (arith, l))
-
 pub one_thin : {P E : Type 0} (nodes : ℕ → Node P E) (n : ℕ) (line : List ℕ) (i page count value behind : ℕ) (thin : Bool) (f0 f1 f2 : List Finding) → page ≡ get_or line i 0 → count ≡ entry_count (nodes page)
     → thin ≡ (nat_lt count 64 && nat_lt 0 behind) → behind + (i + 1) ≡ length line → value ≡ n
     → Gains (Tells n (IsThinOn nodes line i)) f0 f1 → Gains (Only kinds.Thin page value (thin ≡ true)) f1 f2 → Gains (Tells n (IsThinOn nodes line (i + 1))) f0 f2

@@ -1,6 +1,7 @@
 -- The pages of a level, one after the other.
-use Rattle.std.specs.Prelude.{◌≡◌, ◌<◌, ℕ, zero, suc, ◌+◌, List, [], ◌∷◌, length, get_or}
+use Rattle.std.specs.Prelude.{◌≡◌, ◌<◌, ℕ, zero, suc, ◌+◌, true, if◌then◌else◌, List, [], ◌∷◌, length, get_or}
 use Rattle.jfs_bits.specs.declared.extent.Xad.{Xad}
+use Rattle.jfs_inode.specs.declared.fields.Dinode.{Dinode}
 use Rattle.jfs_tree.specs.Walk.{Node}
 use Rattle.jfs_tree.specs.Spells.{with_root}
 use Rattle.jfs_tree.specs.Levels.{entry_count, level}
@@ -8,7 +9,9 @@ use Rattle.jfs_tree.specs.Walking.{rows_in}
 use Rattle.jfs_xtpage.specs.declared.head.XtForm.TheVariants.{Root}
 use Rattle.jfs_xtree.specs.Node.{xt_node}
 use Rattle.jfs_xtree.specs.Spells.{page_nodes}
+use Rattle.jfs_objects.specs.Objects.{has_extents}
 use Rattle.jfs_objects.specs.Owners.{covers}
+use Rattle.jfs_meaning.specs.Readers.{root_of}
 use Rattle.jfs_owners.specs.Counts.{page_has}
 use Rattle.jfs_findings.specs.declared.finding.Finding.{Finding}
 use Rattle.jfs_findings.specs.declared.finding.FindingKind.TheVariants as kinds
@@ -50,3 +53,13 @@ line_has nodes (n ∷ line) b = page_holds nodes n b + line_has nodes line b
 unfoldable pub levels_have : (ℕ → Node ℕ Xad) → ℕ → ℕ → ℕ
 levels_have nodes zero b = 0
 levels_have nodes (suc depth) b = levels_have nodes depth b + line_has nodes (level nodes depth) b
+
+-- ---- the extent tree of an inode, whether it breaks a rule or not
+
+-- how often its first eight levels do
+abbrev pub inode_has : ℕ → (ℕ → List ℕ) → Dinode → ℕ → ℕ
+inode_has blocks pages d b = if has_extents d then levels_have (tree_nodes blocks pages (root_of d)) 8 b else 0
+
+-- a page there with few entries that isn't the last of its level
+abbrev pub IsThinLevel : ℕ → (ℕ → List ℕ) → ℕ → Dinode → Finding → Type 0
+IsThinLevel blocks pages n d f = (has_extents d ≡ true) × Tells n (IsThinAbove (tree_nodes blocks pages (root_of d)) 8) f

@@ -18,7 +18,7 @@ ghost use Rattle.jfs_findings.specs.Gains.{Gains};
 ghost use Rattle.jfs_owners.specs.Counts.{Adds};
 ghost use Rattle.jfs_owners.specs.Held.{extents_held};
 ghost use Rattle.jfs_object_check.specs.Thin.{IsThinOf};
-ghost use Rattle.jfs_object_check.specs.Lines.{Tells, IsThinOn, IsThinAbove, tree_nodes, line_has, levels_have};
+ghost use Rattle.jfs_object_check.specs.Lines.{Tells, IsThinOn, IsThinAbove, IsThinLevel, tree_nodes, line_has, levels_have, inode_has};
 
 use crate::nodes::{count_node, count_page};
 use crate::note::note_if;
@@ -33,7 +33,7 @@ use std::alloc::Global;
 
 /// Goes through the extent tree of inode `n`, which breaks no rule, if it has one. Counts its pages and the blocks of its extents, and adds a finding for each
 /// page with fewer than 64 entries that isn't the last of its level: its page is that page, and its value the inode's number. The root is the last of its level.
-/// It reads each page once, level by level, and takes 4 bytes for each page of a level and of the one below it.
+/// Of a tree that breaks a rule, the same of its first eight levels, where a page that breaks a rule holds itself alone. It reads each page once, level by level, and takes 4 bytes for each page of a level and of the one below it.
 ///
 /// # Errors
 ///
@@ -56,11 +56,15 @@ pub fn count_extents<V: PageView>(
         (spelled (readers (V.PageView.block_count view.old)) (page_of (V.PageView.image view.old)) inode.now)) findings.old.items findings.new.items) }
     ensures held { V.PageView.tells → (es : List Xad) → listed xt_scale (extents_of (readers (V.PageView.block_count view.old)) (page_of (V.PageView.image view.old)) inode.now) ≡ Ok es →
         OnOk result (Adds (extents_held (extents_of (readers (V.PageView.block_count view.old)) (page_of (V.PageView.image view.old)) inode.now)) owners.old owners.new) }
+    // Of any tree: what the first eight levels hold, where a page that breaks a rule holds itself alone.
+    ensures levels { V.PageView.tells → OnOk result (Adds (inode_has (V.PageView.block_count view.old) (page_of (V.PageView.image view.old)) inode.now) owners.old owners.new) }
+    ensures thin_levels { V.PageView.tells → OnOk result (Gains
+        (IsThinLevel (V.PageView.block_count view.old) (page_of (V.PageView.image view.old)) n inode.now) findings.old.items findings.new.items) }
 {
     if !has_extents(inode) {
         return Ok(());
     }
-    count_levels(alloc, view, n, &root_in(inode), owners, findings)
+    count_levels(alloc, view, n, root_in(inode), owners, findings)
 }
 
 /// The root and the pages below it, level by level: a tree that breaks no rule has no more than eight levels with its root.

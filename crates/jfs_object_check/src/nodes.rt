@@ -82,8 +82,10 @@ fn add_rows(form: &XtPages, bytes: &[u8], count: usize, owners: &mut Owners)
     requires count { count ≡ length (rows_in (xt_node form.now.form form.now.blocks bytes.now)) }
     ensures { Adds (rows_have (xt_node form.now.form form.now.blocks bytes.now)) owners.old owners.new }
 {
+    let mut x = form.any_entry();
     for i in 0..count {
-        owners.add(form.entry(bytes, i).at);
+        form.read_entry(bytes, i, &mut x);
+        owners.add(x.at);
     }
 }
 

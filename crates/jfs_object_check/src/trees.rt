@@ -58,7 +58,7 @@ fn walk_names<V: PageView>(view: &mut V, inode: &Dinode, tally: &mut Tally) -> R
         form: DtForm::Full,
         blocks,
     };
-    walk_tree(&top, &pages, view, &root_in(inode), tally)
+    walk_tree(&top, &pages, view, root_in(inode), tally)
 }
 
 /// Walks through the extents of an object.
@@ -88,7 +88,7 @@ fn walk_extents<V: PageView>(
         form: XtForm::Full,
         blocks,
     };
-    walk_tree(&top, &pages, view, &root_in(inode), tally)
+    walk_tree(&top, &pages, view, root_in(inode), tally)
 }
 
 /// What the end of a walk tells: whether the tree breaks no rule. A broken one is a finding.

@@ -1,20 +1,17 @@
 -- The fixed areas, counted part by part.
 use Rattle.std.proofs.Common.{◌≡◌, ◌∙◌, refl, ap, subst, ℕ, ◌+◌, List, Result, Ok, Err, IfOk}
-use Rattle.jfs_bits.specs.declared.rule.Rule.{Rule}
 use Rattle.jfs_bits.specs.declared.extent.Xad.{Xad}
 use Rattle.jfs_bits.specs.declared.descriptor.Pxd.{Pxd}
 use Rattle.jfs_disk.specs.Image.{Image, page_of}
 use Rattle.jfs_tree.specs.Walk.{Marks}
 use Rattle.jfs_objects.specs.Readers.{Readers}
-use Rattle.jfs_objects.specs.Objects.{met, listed}
 use Rattle.jfs_objects.specs.Owners.{run_has}
 use Rattle.jfs_objects.specs.Image.{aggregate_at, file_walk, file_has, area_on}
 use Rattle.jfs_meaning.specs.Readers.{readers, root_of}
 use Rattle.jfs_ranges.specs.declared.view.ViewError.{ViewError}
 use Rattle.jfs_owners.specs.Counts.{OwnerSets, Adds}
 use Rattle.jfs_owners.specs.Held.{areas_have, extents_walk, extents_held}
-use Rattle.jfs_owners.proofs.Counted.{adds_none, adds_same, adds_next}
-use Rattle.jfs_owners.proofs.Totals.{no_data}
+use Rattle.jfs_owners.proofs.Counted.{adds_same, adds_next}
 
 -- ---- a file
 
@@ -36,14 +33,6 @@ file_counted blocks now image after root k (Ok it) old new e f g h =
 file_counted blocks now image after root k (Err x) old new e f g h = tt
 
 module _ (r : Readers) (page : ℕ → List ℕ) where
-  -- a file whose tree breaks a rule has nothing
-  pub broken_file : (k : ℕ) (fault : ℕ × Rule) → listed r.extents_order (file_walk r page k) ≡ Err fault → (b : ℕ) → file_has r page k b ≡ 0
-  unfolding file_has
-  broken_file k fault e b = no_data (listed r.extents_order (file_walk r page k)) fault (met (file_walk r page k) b) b e
-
-  pub broken_file_adds : (k : ℕ) (fault : ℕ × Rule) (o : OwnerSets) → listed r.extents_order (file_walk r page k) ≡ Err fault → Adds (file_has r page k) o o
-  broken_file_adds k fault o e = adds_none (file_has r page k) o o refl (broken_file k fault e)
-
   -- ---- all of them
 
   -- The fixed areas have what pages 0 to 15 and the second inode table and map have, and the files of inodes 2, 4 and 16.

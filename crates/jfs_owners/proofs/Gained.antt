@@ -41,9 +41,6 @@ gains_one x fs = record {
 -- ---- the blocks whose bits are set
 
 module _ (set : List ℕ) where
-  pub none_marked : (from to : ℕ) (fs : List Finding) → to ≤ from → Gains (IsMarked set from to) fs fs
-  none_marked from to fs h = gains_none (IsMarked set from to) fs (λ f m. (let a = m.first in let b = m.last in omega (arith, h, a, b)))
-
   pub marked_parts : (from mid to : ℕ) (a b c : List Finding) → from ≤ mid → mid ≤ to → Gains (IsMarked set from mid) a b → Gains (IsMarked set mid to) b c → Gains (IsMarked set from to) a c
   marked_parts from mid to a b c h k =
       gains_both (IsMarked set from mid) (IsMarked set mid to) (IsMarked set from to) a b c

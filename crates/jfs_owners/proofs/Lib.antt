@@ -3,6 +3,7 @@ pub mod SetBits
 pub mod Counted
 pub mod Walked
 pub mod Seen
+pub mod Fronts
 pub mod Totals
 pub mod Places
 pub mod Areas

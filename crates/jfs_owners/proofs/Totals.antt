@@ -1,5 +1,5 @@
 -- What trees, files and objects hold is what was counted.
-use Rattle.std.proofs.Common.{◌≡◌, sym, refl, subst, ℕ, ◌+◌, Bool, true, false, List, [], Result, Ok, Err, Some, IfOk, arith}
+use Rattle.std.proofs.Common.{◌≡◌, refl, subst, ℕ, ◌+◌, Bool, true, false, List, [], Result, Ok, Err, Some, IfOk, arith}
 use Rattle.jfs_bits.specs.declared.rule.Rule.{Rule}
 use Rattle.jfs_bits.specs.declared.extent.Xad.{Xad}
 use Rattle.jfs_disk.specs.Image.{Image, page_of}
@@ -12,9 +12,9 @@ use Rattle.jfs_xtpage.specs.declared.head.XtForm.TheVariants as extents
 use Rattle.jfs_xtree.specs.Node.{xt_scale, xt_node}
 use Rattle.jfs_dtpage.specs.declared.head.DtForm.TheVariants as names
 use Rattle.jfs_dtree.specs.Node.{name_scale, dt_node}
-use Rattle.jfs_objects.specs.Objects.{met, listed, has_names, has_extents, names_of, extents_of, spelled}
+use Rattle.jfs_objects.specs.Objects.{met, listed, has_extents, names_of, extents_of, spelled}
 use Rattle.jfs_objects.specs.Owners.{unless_broken, entries, covers, run_has, holds}
-use Rattle.jfs_meaning.specs.Readers.{readers, root_of}
+use Rattle.jfs_meaning.specs.Readers.{readers}
 use Rattle.jfs_ranges.specs.declared.view.ViewError.{ViewError}
 use Rattle.jfs_owners.specs.Counts.{OwnerSets, Adds, page_has}
 use Rattle.jfs_owners.specs.Held.{Sees, extents_walk, extents_held, names_walk, names_held, attributes_of}
@@ -76,21 +76,8 @@ names_counted n blocks image root shown old new e h =
 
 -- ---- the trees of an object
 
-pub lacks_names : (blocks : ℕ) (image : Image) (d : Dinode) (o : OwnerSets) → has_names d ≡ false → Adds (names_held (names_of (readers blocks) (page_of image) d)) o o
-lacks_names blocks image d o h = adds_none (names_held (names_of (readers blocks) (page_of image) d)) o o refl (λ b. rw h (no_pages name_scale b))
-
 pub lacks_extents : (blocks : ℕ) (image : Image) (d : Dinode) (o : OwnerSets) → has_extents d ≡ false → Adds (extents_held (extents_of (readers blocks) (page_of image) d)) o o
 lacks_extents blocks image d o h = adds_none (extents_held (extents_of (readers blocks) (page_of image) d)) o o refl (λ b. rw h (let z = no_pages xt_scale b in omega (arith, z)))
-
-pub has_its_names : {T : Type 0} (blocks : ℕ) (image : Image) (root : List ℕ) (d : Dinode) (r : Result T ViewError) (old new : OwnerSets) → has_names d ≡ true → root ≡ root_of d
-    → IfOk r (λ it. Adds (names_held (names_walk blocks (page_of image) root)) old new) → IfOk r (λ it. Adds (names_held (names_of (readers blocks) (page_of image) d)) old new)
-has_its_names blocks image root d (Ok it) old new h e a = rw (h, sym e) a
-has_its_names blocks image root d (Err f) old new h e a = tt
-
-pub has_its_extents : {T : Type 0} (blocks : ℕ) (image : Image) (root : List ℕ) (d : Dinode) (r : Result T ViewError) (old new : OwnerSets) → has_extents d ≡ true → root ≡ root_of d
-    → IfOk r (λ it. Adds (extents_held (extents_walk blocks (page_of image) root)) old new) → IfOk r (λ it. Adds (extents_held (extents_of (readers blocks) (page_of image) d)) old new)
-has_its_extents blocks image root d (Ok it) old new h e a = rw (h, sym e) a
-has_its_extents blocks image root d (Err f) old new h e a = tt
 
 sum_of_parts : (attributes names pages blocks : ℕ) → attributes + names + (pages + blocks) ≡ names + pages + blocks + attributes
 sum_of_parts attributes names pages blocks = omega arith

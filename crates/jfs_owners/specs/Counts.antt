@@ -1,5 +1,5 @@
 -- How often blocks were counted, told by two bits a block.
-use Rattle.std.specs.Prelude.{◌≡◌, ◌<◌, ◌≤◌, ℕ, ◌+◌, ◌*◌, ◌%◌, ◌==◌, nat_lt, List, length, if◌then◌else◌}
+use Rattle.std.specs.Prelude.{◌≡◌, ◌<◌, ◌≤◌, ℕ, ◌+◌, ◌*◌, ◌%◌, ◌==◌, nat_lt, true, List, length, if◌then◌else◌}
 use Rattle.jfs_bits.specs.Bits.{is_taken}
 use Rattle.jfs_tree.specs.Spells.{no_page}
 
@@ -30,3 +30,5 @@ pub record AreSized (blocks : ℕ) (owned shared : List ℕ) : Type 0 where
   pub words : length owned % 4 ≡ 0
   pub all : blocks ≤ 8 * length owned
   pub same : length shared ≡ length owned
+  -- a block with two owners has one
+  pub nested : (b : ℕ) → is_taken shared b ≡ true → is_taken owned b ≡ true

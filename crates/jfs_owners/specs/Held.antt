@@ -1,5 +1,5 @@
 -- What the parts of a volume hold: how often each of them names a block.
-use Rattle.std.specs.Prelude.{◌≡◌, ℕ, ◌+◌, Bool, true, false, List, Result, Ok, Err}
+use Rattle.std.specs.Prelude.{◌≡◌, ℕ, ◌+◌, Bool, true, false, if◌then◌else◌, List, [], ◌∷◌, Result, Ok, Err}
 use Rattle.jfs_bits.specs.declared.descriptor.Pxd.{Pxd}
 use Rattle.jfs_bits.specs.declared.extent.Xad.{Xad}
 use Rattle.jfs_bits.specs.declared.rule.Rule.{Rule}
@@ -7,7 +7,7 @@ use Rattle.jfs_inode.specs.declared.fields.Dinode.{Dinode}
 use Rattle.jfs_name.specs.declared.name.NameEntry.{NameEntry}
 use Rattle.jfs_ranges.specs.declared.view.ViewError.{ViewError}
 use Rattle.jfs_ranges.specs.declared.view.ViewError.TheVariants as view
-use Rattle.jfs_tree.specs.Walk.{Marks, Scale, rows_of}
+use Rattle.jfs_tree.specs.Walk.{Page, Key, Row, Fault, Marks, Scale, rows_of}
 use Rattle.jfs_tree.specs.Spells.{tree_of}
 use Rattle.jfs_tree.specs.Walking.{Meets}
 use Rattle.jfs_tree.specs.declared.form.TreeError.{TreeError}
@@ -37,6 +37,18 @@ extents_held walk b = unless_broken (listed xt_scale walk) (met walk b) + covers
 abbrev pub names_held : Marks (List ℕ) NameEntry → ℕ → ℕ
 names_held walk b = unless_broken (listed name_scale walk) (met walk b)
 
+-- what a walk meets in front of the first key or entry that doesn't rise and of the first broken rule
+abbrev pub front : {P E : Type 0} → Scale P E → P → Marks P E → Marks P E
+front s low [] = []
+front s low (Page n ∷ ms) = Page n ∷ front s low ms
+front s low (Key n k ∷ ms) = if s.le low k then Key n k ∷ front s k ms else []
+front s low (Row n e ∷ ms) = if s.le low (s.from e) then Row n e ∷ front s (s.to e) ms else []
+front s low (Fault n rule ∷ ms) = []
+
+-- the pages and the blocks of extents there
+abbrev pub extents_front : Marks ℕ Xad → ℕ → ℕ
+extents_front walk b = met (front xt_scale xt_scale.least walk) b + covers b (rows_of (front xt_scale xt_scale.least walk))
+
 abbrev pub attributes_of : Dinode → ℕ → ℕ
 attributes_of d b = dxd_has d.acl b + dxd_has d.ea b
 
@@ -44,6 +56,10 @@ attributes_of d b = dxd_has d.acl b + dxd_has d.ea b
 abbrev pub Sees : {P E V : Type 0} → Scale P E → (V → ℕ → V → Type 0) → (V → ℕ → E → V → Type 0) → Marks P E → V → V → Bool → Type 0
 Sees {P} s page row ms old new true = (listed s ms ≡ Ok (rows_of ms)) × ((end : P) × Meets s page row s.least old ms (Ok end) new)
 Sees s page row ms old new false = ((fault : ℕ × Rule) × (listed s ms ≡ Err fault)) × (new ≡ old)
+
+-- a visitor saw what stands in front of the first broken rule, which is all of a tree that breaks none
+abbrev pub SeesFront : {P E V : Type 0} → Scale P E → (V → ℕ → V → Type 0) → (V → ℕ → E → V → Type 0) → Marks P E → V → V → Type 0
+SeesFront {P} s page row ms old new = (end : P) × Meets s page row s.least old (front s s.least ms) (Ok end) new
 
 -- a tree that breaks a rule isn't shown; whatever else ends a walk is the view's error
 abbrev pub HandsOn : TreeError → Result Bool ViewError → Type 0

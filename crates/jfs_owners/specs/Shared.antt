@@ -12,8 +12,6 @@ pub record SaysShared (s : Subject) (f : Finding) : Type 0 where
   pub is : IsShared s f.value
   pub page : f.page ≡ f.value
 
--- ---- for the prover alone
-
 -- the same of the blocks from `from` to before `to` whose bits are set
 pub record IsMarked (set : List ℕ) (from to : ℕ) (f : Finding) : Type 0 where
   pub kind : f.kind ≡ kinds.Shared

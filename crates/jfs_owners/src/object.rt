@@ -68,7 +68,7 @@ impl Owners {
         if !has_names(d) {
             return Ok(());
         }
-        self.add_names(view, &root_in(d))
+        self.add_names(view, root_in(d))
     }
 
     /// Counts the pages and the blocks of a file or of a long symbolic link.
@@ -83,6 +83,6 @@ impl Owners {
         if !has_extents(d) {
             return Ok(());
         }
-        self.add_extents(view, &root_in(d))
+        self.add_extents(view, root_in(d))
     }
 }

@@ -71,7 +71,8 @@ impl Owners {
     /// Whether block `b` has an owner.
     pub fn is_owned(&self, b: u32) -> bool
         requires { b < self.now.blocks }
-        ensures { (count : ℕ → ℕ) → Counts self.now count → result ≡ nat_lt 0 (count b) }
+        ensures counts { (count : ℕ → ℕ) → Counts self.now count → result ≡ nat_lt 0 (count b) }
+        ensures plain { result ≡ is_taken self.now.owned b }
     {
         bit(self.owned.as_slice(), b)
     }
@@ -79,7 +80,8 @@ impl Owners {
     /// Whether block `b` has two owners or more.
     pub fn is_shared(&self, b: u32) -> bool
         requires { b < self.now.blocks }
-        ensures { (count : ℕ → ℕ) → Counts self.now count → result ≡ nat_lt 1 (count b) }
+        ensures counts { (count : ℕ → ℕ) → Counts self.now count → result ≡ nat_lt 1 (count b) }
+        ensures plain { result ≡ is_taken self.now.shared b }
     {
         bit(self.shared.as_slice(), b)
     }

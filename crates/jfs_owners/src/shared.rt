@@ -15,8 +15,9 @@ use std::alloc::AllocError;
 impl Owners {
     /// Appends a finding for each block that has two owners or more, and none for another. `Err` is want of memory; then some may be appended.
     pub fn find_shared(&self, findings: &mut Vec<Finding>) -> Result<(), AllocError>
-        ensures { IfOk result (λ it. (s : Subject) → self.now.blocks ≡ blocks s → Counts self.now (owners s.readers (volume s)) →
+        ensures shared { IfOk result (λ it. (s : Subject) → self.now.blocks ≡ blocks s → Counts self.now (owners s.readers (volume s)) →
             Gains (SaysShared s) findings.old.items findings.new.items) }
+        ensures marked { IfOk result (λ it. Gains (IsMarked self.now.shared 0 self.now.blocks) findings.old.items findings.new.items) }
     {
         let blocks = self.blocks;
         find_marked(self.shared.as_slice(), blocks, findings)

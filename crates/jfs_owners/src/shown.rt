@@ -1,11 +1,11 @@
-//! Trees shown to a visitor, if they break no rule.
+//! Trees shown to a visitor.
 
 ghost use Rattle.std.specs.Prelude.{◌≡◌, length, List, true, Ok, IfOk};
 ghost use Rattle.jfs_ranges.specs.View.{CarriesCount};
 ghost use Rattle.jfs_tree.specs.Spells.{tree_of};
 ghost use Rattle.jfs_tree.specs.Call.{pages_of};
 ghost use Rattle.jfs_objects.specs.Objects.{listed};
-ghost use Rattle.jfs_owners.specs.Held.{Sees, HandsOn};
+ghost use Rattle.jfs_owners.specs.Held.{Sees, SeesFront, HandsOn};
 
 use jfs_ranges::{PageView, ViewError};
 use jfs_tree::{PageRead, TreeError, Visitor, walk_tree};
@@ -38,7 +38,7 @@ fn not_shown(e: TreeError) -> Result<bool, ViewError>
     }
 }
 
-/// Shows a root's tree to a visitor, each page once. Of a tree that breaks a rule it may show any part.
+/// Shows a root's tree to a visitor, each page once: the whole of one that breaks no rule, and of any other what stands in front of the first broken rule.
 pub(crate) fn show_sound<V: PageView, F: PageRead, W: Visitor<F::Entry>>(
     top: &F,
     form: &F,
@@ -57,6 +57,8 @@ pub(crate) fn show_sound<V: PageView, F: PageRead, W: Visitor<F::Entry>>(
         listed F.PageForm.scale (tree_of F.PageForm.scale (pages_of (F.PageForm.node form.now) (V.PageView.image view.old)) (F.PageForm.node top.now root.now)) ≡ Ok es →
         Sees F.PageForm.scale W.sees_page W.sees_entry
         (tree_of F.PageForm.scale (pages_of (F.PageForm.node form.now) (V.PageView.image view.old)) (F.PageForm.node top.now root.now)) visitor.old visitor.new true) }
+    ensures front { V.PageView.tells → IfOk result (λ it. SeesFront F.PageForm.scale W.sees_page W.sees_entry
+        (tree_of F.PageForm.scale (pages_of (F.PageForm.node form.now) (V.PageView.image view.old)) (F.PageForm.node top.now root.now)) visitor.old visitor.new) }
 {
     match walk_tree(top, form, view, root, visitor) {
         Ok(()) => Ok(()),

@@ -8,7 +8,7 @@ ghost use Rattle.jfs_xtree.specs.Node.{xt_scale};
 ghost use Rattle.jfs_objects.specs.Objects.{listed};
 ghost use Rattle.jfs_objects.specs.Owners.{run_has};
 ghost use Rattle.jfs_owners.specs.Counts.{Adds, page_has};
-ghost use Rattle.jfs_owners.specs.Held.{extents_walk, extents_held, names_walk, names_held};
+ghost use Rattle.jfs_owners.specs.Held.{extents_walk, extents_held, extents_front, names_walk, names_held};
 
 use crate::owners::Owners;
 use crate::shown::{show_sound, show_tree};
@@ -94,7 +94,7 @@ impl Owners {
     }
 
     /// Counts what the extent tree of a root in an inode holds, if the tree breaks no rule: its pages, and the blocks of its extents. Each page is read once. Of a
-    /// tree that breaks a rule any part may be counted.
+    /// tree that breaks a rule, what stands in front of the first broken one is counted.
     ///
     /// # Errors
     ///
@@ -112,6 +112,9 @@ impl Owners {
         ensures adds { V.PageView.tells → IfOk result (λ it. (es : List Xad) →
             listed xt_scale (extents_walk (V.PageView.block_count view.old) (page_of (V.PageView.image view.old)) root.now) ≡ Ok es →
             Adds (extents_held (extents_walk (V.PageView.block_count view.old) (page_of (V.PageView.image view.old)) root.now)) self.old self.new) }
+        // Of any tree: what stands in front of the first rule that it breaks.
+        ensures front { V.PageView.tells → IfOk result (λ it.
+            Adds (extents_front (extents_walk (V.PageView.block_count view.old) (page_of (V.PageView.image view.old)) root.now)) self.old self.new) }
     {
         let blocks = view.blocks();
         let top = XtPages {

@@ -49,13 +49,14 @@ pub fn aggregate_root<V: PageView>(view: &mut V, k: u32) -> Result<[u8; 288], Vi
         Ok(page) => page,
         Err(e) => return Err(e),
     };
-    Ok(root_in(&inode_in(page, k % 8)))
+    let inode = inode_in(page, k % 8);
+    Ok(get_array(&inode.rest, 96))
 }
 
-/// The root of the tree in an inode.
-pub fn root_in(d: &Dinode) -> [u8; 288]
-    ensures root { result ≡ root_of d.now }
-    ensures width { length result ≡ 288 }
+/// The root of the tree in an inode: its 288 bytes from byte 224 on. (JFS Layout.)
+pub fn root_in(d: &Dinode) -> &[u8]
+    ensures root { result.now ≡ root_of d.now }
+    ensures width { length result.now ≡ 288 }
 {
-    get_array(&d.rest, 96)
+    &d.rest[96..384]
 }

@@ -52,7 +52,7 @@ pub fn names_of<V: PageView>(alloc: Global, view: &mut V, d: &Dinode) -> Result<
     if !has_names(d) {
         return Ok(NameList::new(alloc));
     }
-    list(alloc, view, &root_in(d))
+    list(alloc, view, root_in(d))
 }
 
 /// The extents of an object, in rising order: `Ok` exactly where its tree spells a list, which is this one; else the first broken rule, with its page. A file has
@@ -68,7 +68,7 @@ pub fn extents_of<V: PageView>(alloc: Global, view: &mut V, d: &Dinode) -> Resul
     if !has_extents(d) {
         return Ok(XadList::new(alloc));
     }
-    extents(alloc, view, &root_in(d))
+    extents(alloc, view, root_in(d))
 }
 
 /// Only a directory has names.

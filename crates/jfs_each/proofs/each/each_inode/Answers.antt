@@ -1,9 +1,12 @@
-use Rattle.std.proofs.Common.{◌∙◌, refl, ℕ, List}
+use Rattle.std.proofs.Common.{◌≤◌, ◌+◌, ◌∙◌, refl, sym, subst, ℕ, List}
 use Rattle.std.specs.Prelude.{get_or, None}
 use Rattle.jfs_disk.specs.Image.{page_of}
 use Rattle.jfs_each.specs.Each.{Found, found_at, VisitsPlace}
 use Rattle.jfs_each.proofs.Visiting.{visits_none, place_visits, moved}
 use Rattle.jfs_each.proofs.each.each_inode.Goals as goal
+
+pub each_in_place-requires-clause-fits : goal.each_in_place-requires-clause-fits
+each_in_place-requires-clause-fits g c = λ first is. subst (λ n. first + 4 ≤ n) (sym c.loop-e.invariant.blocks) (c.requires.fit c.loop-e.e first is)
 
 pub loop-e-init : goal.loop-e-init
 loop-e-init g c = record {

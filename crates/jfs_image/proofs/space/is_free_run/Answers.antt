@@ -9,11 +9,11 @@ loop-i-init c = λ count is. all_none (free_in count c.args.j)
 pub loop-i-preserved : goal.loop-i-preserved
 loop-i-preserved c = λ count is.
     all_next c.loop-i.i (c.loop-i.i + 1) (free_in count c.args.j) refl (c.loop-i.invariant count is)
-    (unowned_in count c.args.j c.loop-i.i (4 * c.args.j + c.loop-i.i) c.is_owned.result (omega arith) (c.is_owned.ensures count is) c.if-is_owned.false)
+    (unowned_in count c.args.j c.loop-i.i (4 * c.args.j + c.loop-i.i) c.is_owned.result (omega arith) (c.is_owned.ensures.counts count is) c.if-is_owned.false)
 
 pub returns-then-is_owned : goal.returns-then-is_owned
 returns-then-is_owned c = λ count is.
-    sym (owned_run count c.args.j c.loop-i.i (let l = c.loop-i-test.true in omega (arith, l)) (owned_in count c.args.j c.loop-i.i (4 * c.args.j + c.loop-i.i) c.is_owned.result (omega arith) (c.is_owned.ensures count is) c.if-is_owned.true))
+    sym (owned_run count c.args.j c.loop-i.i (let l = c.loop-i-test.true in omega (arith, l)) (owned_in count c.args.j c.loop-i.i (4 * c.args.j + c.loop-i.i) c.is_owned.result (omega arith) (c.is_owned.ensures.counts count is) c.if-is_owned.true))
 
 pub returns : goal.returns
 returns c = λ count is.
