@@ -1,5 +1,5 @@
 -- The lines of records that are read once more, the oldest first.
-use Rattle.std.proofs.Common.{◌≡◌, ℕ, List, [], ◌∷◌, ◌++◌, length, take, drop, map, reverse, Result, Ok, Err, OnOk, refl, sym, ap, ◌∙◌, append_assoc}
+use Rattle.std.proofs.Common.{◌≡◌, ℕ, List, [], ◌∷◌, ◌++◌, length, take, drop, map, reverse, Result, Ok, Err, OnOk, sym, ap, ◌∙◌, append_assoc}
 use Rattle.std.proofs.lemmas.List.{append-nil, take-append-drop, reverse-append, length-map, length-reverse}
 use Rattle.jfs_logpages.specs.Back.{Met, IsMet, AreMet, address_at}
 use Rattle.jfs_command.specs.LogText.{record_line, record_lines}
@@ -20,9 +20,6 @@ pub record Left (blocks : ℕ) (text : List ℕ) (ring first : ℕ) (all : List 
   pub met : AreMet blocks text from ms
   pub ends : map (λ (m : Met). m.end) ms ≡ reverse rest
   pub lines : record_lines ring first all ≡ out ++ record_lines ring first ms
-
-pub all_left : (blocks : ℕ) (text : List ℕ) (ring first from : ℕ) (all : List Met) (rest : List ℕ) → AreMet blocks text from all → map (λ (m : Met). m.end) all ≡ reverse rest → Left blocks text ring first all rest []
-all_left blocks text ring first from all rest met ends = record { from = from; ms = all; met = met; ends = ends; lines = refl }
 
 -- the next one
 pub record Next (blocks : ℕ) (text : List ℕ) (ring first : ℕ) (all : List Met) (newer out : List ℕ) (end : ℕ) : Type 0 where

@@ -1,6 +1,6 @@
 -- Steps of the loop that puts a text piece by piece, and of two texts in a row.
-use Rattle.std.proofs.Common.{◌≡◌, ℕ, List, [], ◌++◌, length, take, drop, refl, sym, ap, ◌∙◌, append_assoc}
-use Rattle.std.proofs.lemmas.List.{append-nil, take-append-drop, nil_from_length}
+use Rattle.std.proofs.Common.{◌≡◌, ℕ, List, ◌++◌, take, drop, sym, ap, ◌∙◌, append_assoc}
+use Rattle.std.proofs.lemmas.List.{take-append-drop}
 use Rattle.jfs_command.specs.Print.{Puts, PutsFront}
 
 -- a front of the text was put, the rest is left, and the sink's count is as before
@@ -10,9 +10,6 @@ pub record Progress (tells : Type 0) (old new : List ℕ) (before now : ℕ) (te
   pub put : Puts tells old new front
   pub same : now ≡ before
 
-pub starts : (tells : Type 0) (old : List ℕ) (before : ℕ) (text : List ℕ) → Progress tells old old before before text text
-starts tells old before text = record { front = []; split = refl; put = λ _. sym (append-nil old); same = refl }
-
 pub goes_on : (tells : Type 0) (old mid new : List ℕ) (before now after : ℕ) (text rest : List ℕ) (n : ℕ) → Progress tells old mid before now text rest → (tells → new ≡ mid ++ take n rest) → after ≡ now → Progress tells old new before after text (drop n rest)
 goes_on tells old mid new before now after text rest n p put same = record {
   front = p.front ++ take n rest;
@@ -20,14 +17,6 @@ goes_on tells old mid new before now after text rest n p put same = record {
   put = λ t. put t ∙ ap (λ (z : List ℕ). z ++ take n rest) (p.put t) ∙ append_assoc old p.front (take n rest);
   same = same ∙ p.same;
 }
-
--- what was put when a piece was refused
-pub stops : (tells : Type 0) (old mid new : List ℕ) (before now : ℕ) (text rest : List ℕ) → Progress tells old mid before now text rest → (tells → new ≡ mid) → PutsFront tells old new text
-stops tells old mid new before now text rest p same = (p.front, (rest, p.split), λ t. same t ∙ p.put t)
-
-pub ends : (tells : Type 0) (old mid : List ℕ) (before now : ℕ) (text rest : List ℕ) → Progress tells old mid before now text rest → length rest ≡ 0 → Puts tells old mid text
-ends tells old mid before now text rest p e t =
-    p.put t ∙ ap (λ (z : List ℕ). old ++ z) (sym (p.split ∙ ap (λ (z : List ℕ). p.front ++ z) (nil_from_length rest e) ∙ append-nil p.front))
 
 -- a front of a text is one of the text with a line after it
 pub front_before : (tells : Type 0) (old new text line : List ℕ) → PutsFront tells old new text → PutsFront tells old new (text ++ line)

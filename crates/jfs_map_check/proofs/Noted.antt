@@ -1,11 +1,11 @@
 -- What is noted of a page of the block map's file.
 use Rattle.std.proofs.Common.{◌≡◌, ◌≢◌, ◌≤◌, ◌<◌, ◌⊎◌, ◌+◌, ◌-◌, ◌*◌, ℕ, suc, Bool, true, IsTrue, inl, inr, List, Some, sym, ap, subst, ◌∙◌, arith}
-use Rattle.std.specs.Prelude.{min, nat_le, nat_lt, ◌==◌, ◌&&◌}
-use Rattle.std.proofs.lemmas.Bool.{cases_eq, cases_lt, or_cases, and_parts, eqb-true, ltb-true}
+use Rattle.std.specs.Prelude.{min}
+use Rattle.std.proofs.lemmas.Bool.{cases_eq, cases_lt}
 use Rattle.jfs_bits.specs.declared.extent.Xad.{Xad}
 use Rattle.jfs_bits.specs.Bits.{is_taken}
 use Rattle.jfs_bits.specs.Field.{range_of}
-use Rattle.jfs_bmap.specs.MapFile.{IsMapPage, is_in_use, pages_of}
+use Rattle.jfs_bmap.specs.MapFile.{IsMapPage, is_in_use}
 use Rattle.jfs_objects.specs.Contents.{block_of}
 use Rattle.jfs_findings.specs.Gains.{Gains}
 use Rattle.jfs_findings.specs.Maps.{IsMapPageAs}
@@ -109,14 +109,6 @@ module _ (blocks agsize : ℕ) (taken : ℕ → Bool) (j n : ℕ) (page : List �
             let within = q.within in
             inr (record { block = q.block; past = omega arith; below = omega (arith, small, within, size); is = q.is; differs = λ e. q.differs (e ∙ bit_is canon most is q.block small within) }))
       ])
-
--- a dmap in use has a block of the volume
-pub has_block : (blocks j : ℕ) → is_in_use blocks j ≡ true → 4 ≤ j → 8192 * (j - 4) < blocks
-has_block blocks j used most =
-    elim (or_cases (j == 0) (nat_le 3 j && nat_lt j (pages_of blocks)) used) [
-      | inl e ↦ absurd (let z = eqb-true j 0 e in omega (arith, z, most))
-      | inr e ↦ (let l = ltb-true j (pages_of blocks) (and_parts (nat_le 3 j) (nat_lt j (pages_of blocks)) e).1 in omega (arith, l, most))
-    ]
 
 -- ---- a page of the file
 

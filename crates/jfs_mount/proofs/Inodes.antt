@@ -4,7 +4,7 @@ use Rattle.std.specs.List.{range_with_len}
 use Rattle.std.specs.Option.{unwrap_or}
 use Rattle.std.proofs.lemmas.Bool.{eq-eqb, ne_eqb, leb-true, and_parts, cases_lt}
 use Rattle.std.proofs.lemmas.List.{get_or_push, get_or_append_left, get_or_past}
-use Rattle.std.proofs.lemmas.List.FromFn.{map-range_with_len_more, length-map-range_with_len}
+use Rattle.std.proofs.lemmas.List.FromFn.{map-range_with_len_more}
 use Rattle.jfs_bits.specs.declared.descriptor.Pxd.{Pxd}
 use Rattle.jfs_bits.specs.declared.extent.Xad.{Xad}
 use Rattle.jfs_bits.specs.declared.rule.Rule.TheVariants as rules
@@ -35,9 +35,6 @@ places_before page es n = map (λ e. extent_place (extent_there page es e)) (ran
 pub record AreAdded (blocks : ℕ) (page : ℕ → List ℕ) (es : List Xad) (n : ℕ) (places : List (Option ℕ)) : Type 0 where
   pub fit : (e : ℕ) → e < n → fits_in blocks (extent_there page es e) ≡ true
   pub all : places ≡ places_before page es n
-
-pub none_added : (blocks : ℕ) (page : ℕ → List ℕ) (es : List Xad) (n : ℕ) → n ≡ 0 → AreAdded blocks page es n []
-none_added blocks page es n e = record { fit = λ i l. absurd (omega (arith, e, l)); all = ap (places_before page es) (sym e) }
 
 -- ---- places one after the other
 
@@ -77,10 +74,6 @@ iag_added blocks page es i old new before adds = record {
       ∙ ap (places_before page es) (let e : 128 * i + 128 ≡ 128 * (i + 1) = omega arith in e);
 }
 
-pub iag_length : (blocks : ℕ) (page : List ℕ) (old new : List (Option ℕ)) → AddsIag blocks page old new None → length new ≡ length old + 128
-iag_length blocks page old new adds =
-    ap length adds.0 ∙ length-append old (map (λ k. extent_place (extent_in page k)) (range_with_len 0 128)) ∙ ap (λ n. length old + n) (length-map-range_with_len (λ k. extent_place (extent_in page k)) 0 128)
-
 -- what was found on a page of a view with the same blocks and pages
 pub iag_stays : (now blocks : ℕ) (after image : Image) (rest es : List Xad) (j i : ℕ) (old new : List (Option ℕ)) (o p : Option ℕ) → now ≡ blocks → after ≡ image → j ≡ suc i → block_of rest j ≡ block_of es j → o ≡ p
     → AddsIag now (page_there (page_of after) rest j) old new o → AddsIag blocks (page_there (page_of image) es (suc i)) old new p
@@ -98,9 +91,6 @@ one_fit blocks page n p is fits before k l = elim (cases_lt k n) [
   | inl h ↦ before k h
   | inr h ↦ ap (λ m. fits_in blocks (extent_in page m)) (let same : k ≡ n = omega (arith, l, h) in same) ∙ ap (fits_in blocks) (sym is) ∙ fits
 ]
-
-pub none_fit : (blocks : ℕ) → AllFit blocks []
-none_fit blocks e first h = absurd (cc h)
 
 pub one_fits : (blocks : ℕ) (xs : List (Option ℕ)) (x : Option ℕ) (p : Pxd) → AllFit blocks xs → fits_in blocks p ≡ true → x ≡ extent_place p → AllFit blocks (xs ++ x ∷ [])
 one_fits blocks xs x p all fits is e first h = elim (cases_lt e (length xs)) [

@@ -3,5 +3,4 @@ pub mod Within
 pub mod Passed
 pub mod Rows
 pub mod Order
-pub mod Read
 pub mod Inodes

@@ -1,8 +1,8 @@
 -- What each step finds is its row's answer, and the first that finds any has the mount's.
-use Rattle.std.proofs.Common.{◌≡◌, ◌≤◌, refl, sym, ap, ◌∙◌, ℕ, suc, true, false, ◌&&◌, ◌==◌, nat_le, if◌then◌else◌, List, [], Option, Some, None, is_some}
+use Rattle.std.proofs.Common.{◌≡◌, refl, sym, ap, ◌∙◌, ℕ, suc, true, false, ◌==◌, if◌then◌else◌, List, [], Option, Some, None, is_some}
 use Rattle.std.specs.List.{range_with_len, prefix_len}
 use Rattle.std.specs.Option.{unwrap_or}
-use Rattle.std.proofs.lemmas.Bool.{eq-eqb, ne_eqb, le-leb}
+use Rattle.std.proofs.lemmas.Bool.{eq-eqb, ne_eqb}
 use Rattle.jfs_bits.specs.declared.extent.Xad.{Xad}
 use Rattle.jfs_bits.specs.declared.rule.Rule.{Rule}
 use Rattle.jfs_bits.specs.declared.rule.Rule.TheVariants as rules
@@ -12,7 +12,7 @@ use Rattle.jfs_bmap.specs.MapFile.{pages_of}
 use Rattle.jfs_objects.specs.Contents.{block_of, bytes_at}
 use Rattle.jfs_objects.specs.Image.{file_extents, file_page}
 use Rattle.jfs_mount.specs.Subject.{Subject, blocks}
-use Rattle.jfs_mount.specs.Mount.{BadMount, covered, iags, page_of_file, bmap_row, imap_row, mapsize_row, nextiag_row}
+use Rattle.jfs_mount.specs.Mount.{BadMount, covered, iags, page_of_file, bmap_row, imap_row, mapsize_row}
 use Rattle.jfs_mount.specs.Steps.{AreRead, broken}
 use Rattle.jfs_mount.specs.declared.maps.Maps.{Maps}
 
@@ -71,10 +71,6 @@ module _ (s : Subject) (maps : Maps) (is : AreRead s maps) where
         let counts = covered_is 16 (suc (iags s)) n maps.inodes.extents is.inodes.extents pages ∙ sym is_count in
         breaks (imap_row s) _ (ne_eqb _ _ (λ h. e (sym counts ∙ h ∙ pages))) (same_bad rules.Imap 13 13 _ _ refl (sym counts))
 
-  -- the first page of the block map's file
-  number_of : Option (List ℕ) → ℕ
-  number_of o = field_of (unwrap_or o []) 0 8
-
   first_page : file_page s.readers s.page 2 0 ≡ unwrap_or (bytes_at s.page (block_of maps.block_map 0)) []
   unfolding file_page
   first_page = ap (λ (es : List Xad). unwrap_or (bytes_at s.page (block_of es 0)) []) is.block_map
@@ -83,10 +79,3 @@ module _ (s : Subject) (maps : Maps) (is : AreRead s maps) where
       → o ≡ (if value == maps.blocks then None else Some (record { rule = rules.Mapsize; page = page; value = value })) → o ≡ broken (mapsize_row s)
   mapsize_is page value o e f g =
       g ∙ sym (rw (ap (λ p. field_of p 0 8) first_page ∙ f, place_is 2 0 maps.block_map is.block_map ∙ e, blocks_are) refl)
-
-  pub nextiag_holds : 1 ≤ maps.inodes.iags → maps.inodes.iags ≤ 65536 → None ≡ broken (nextiag_row s)
-  nextiag_holds l w = holds (nextiag_row s) (rw (iags_are, le-leb 1 maps.inodes.iags l, le-leb maps.inodes.iags 65536 w) refl)
-
-  pub nextiag_breaks : (page : ℕ) → (nat_le 1 maps.inodes.iags && nat_le maps.inodes.iags 65536) ≡ false → page ≡ unwrap_or (block_of maps.inodes.extents 0) 0
-      → Some (record { rule = rules.Nextiag; page = page; value = maps.inodes.iags }) ≡ broken (nextiag_row s)
-  nextiag_breaks page h e = breaks (nextiag_row s) _ (ap (λ n. nat_le 1 n && nat_le n 65536) iags_are ∙ h) (same_bad rules.Nextiag _ _ _ _ (e ∙ sym (place_is 16 0 maps.inodes.extents is.inodes.extents)) (sym iags_are))

@@ -1,5 +1,5 @@
 -- The extents of a file of the aggregate lie within the file system part.
-use Rattle.std.proofs.Common.{◌≡◌, refl, sym, ap, ◌∙◌, ℕ, ◌+◌, ◌-◌, Bool, true, false, ◌&&◌, ◌==◌, nat_le, nat_lt, if◌then◌else◌, bit_and, List, [], ◌∷◌, Option, Some, None, arith}
+use Rattle.std.proofs.Common.{◌≡◌, refl, sym, ap, ◌∙◌, ℕ, ◌+◌, ◌-◌, Bool, true, false, ◌&&◌, ◌==◌, nat_le, nat_lt, if◌then◌else◌, bit_and, List, [], ◌∷◌, Some, None, arith}
 use Rattle.std.specs.declared.result.Result.{Result}
 use Rattle.std.specs.declared.result.Result.TheVariants.{Ok, Err}
 use Rattle.std.proofs.lemmas.Bool.{leb-true, ltb-true, and_parts}
@@ -16,7 +16,6 @@ use Rattle.jfs_objects.specs.Objects.{listed}
 use Rattle.jfs_objects.specs.Owners.{entries}
 use Rattle.jfs_objects.specs.Image.{aggregate_at, file_walk, file_extents}
 use Rattle.jfs_meaning.specs.Readers.{readers, root_of}
-use Rattle.jfs_reader.specs.Reading.{IsPast}
 use Rattle.jfs_mount.specs.Files.{IsWithin, LieWithin}
 use Rattle.jfs_mount.proofs.Range.{HasRows, tree_rows}
 
@@ -34,10 +33,6 @@ module _ (blocks : ℕ) (page : ℕ → List ℕ) (k : ℕ) where
   -- what was read of a tree, where it lies within the blocks
   pub told_extents : (now : ℕ) (es given : List Xad) → now ≡ blocks → listed xt_scale (file_walk (readers blocks) page k) ≡ Ok es → (all_within now es ≡ true → given ≡ es) → given ≡ file_extents (readers blocks) page k
   told_extents now es given same spelled h = h (ap (λ n. all_within n es) same ∙ entries_within (Ok es) spelled) ∙ sym (ap entries spelled)
-
-  -- a tree that breaks a rule has none
-  pub told_none : (page_at : ℕ) (rule : Rule) → listed xt_scale (file_walk (readers blocks) page k) ≡ Err (page_at, rule) → [] ≡ file_extents (readers blocks) page k
-  told_none page_at rule broken = sym (ap entries broken)
 
 -- ---- blocks of such extents
 
@@ -67,11 +62,3 @@ lie blocks (x ∷ es) h k = by (lie blocks es (and_parts (is_within blocks x) (a
     by : IsWithin blocks (block_of es k) → (b : Bool) → (nat_le x.offset k && nat_lt k (x.offset + x.at.len)) ≡ b → IsWithin blocks (if b then block_in x k else block_of es k)
     by rest true e = in_extent blocks x k (and_parts (is_within blocks x) (all_within blocks es) h).0 e
     by rest false e = rest
-
-pub none_lie : (blocks : ℕ) → LieWithin blocks []
-none_lie blocks k b e = absurd (not_some b e)
-
--- a block that is a page isn't past the pages
-pub not_past : (blocks : ℕ) (o : Option ℕ) → IsWithin blocks o → IsPast blocks o → ⊥
-not_past blocks None h past = past
-not_past blocks (Some b) h past = let l = h b refl in omega (arith, l, past)

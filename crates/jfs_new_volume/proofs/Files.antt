@@ -26,9 +26,6 @@ pub slot_is : (first : ℕ) (inode : ℕ → Dinode) (image : Image) → HasPage
 slot_is first inode image h k l = ((h (k / 8) (omega (arith, l))).slots (k % 8) (omega arith)).reads ∙ ap inode (omega arith)
 
 module _ (r : Readers) (v : NewVolume) (image : Image) (roots : ReadsRoots r v.layout.blocks) (is : IsNewVolume v image) where
-  page : ℕ → List ℕ
-  page = page_of image
-
   pub aggregate_is : (k : ℕ) → k < 32 → aggregate_at (page_of image) k ≡ aggregate_inode v k
   aggregate_is k l = slot_is 11 (aggregate_inode v) image is.rest.aggregate_inodes k l
 

@@ -66,9 +66,6 @@ module _ (r : Readers) (pages : ℕ) (v : NewVolume) (image : Image) (layout : I
   no_run_at (suc n) zero = refl
   no_run_at (suc n) (suc i) = no_run_at n i
 
-  first_extent : extent_at (inodes_in Fileset v.layout) 0 ≡ record { len = 4; addr = first_inodes v.layout }
-  first_extent = refl
-
   later_extent : (e : ℕ) → 0 < e → extent_at (inodes_in Fileset v.layout) e ≡ no_run
   later_extent zero l = absurd (omega (arith, l))
   later_extent (suc e) l = no_run_at (128 * v.layout.iags - 1) e

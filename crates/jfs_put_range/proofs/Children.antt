@@ -27,7 +27,7 @@ use Rattle.jfs_written.proofs.Cuts.{all_to_append}
 use Rattle.jfs_written.proofs.Each.{rises_append}
 use Rattle.jfs_refill.specs.Grown.{grown_entries}
 use Rattle.jfs_refill.proofs.Growth.{grown_rises}
-use Rattle.jfs_put_range.specs.Parts.{Takes, Wrote, WrotePage, RefutesPage, WroteChildren, RefutesChildren, Follows, KeepsFilled, part_of, parts_below, parts_under, is_none}
+use Rattle.jfs_put_range.specs.Parts.{Takes, Wrote, WrotePage, WroteChildren, RefutesChildren, Follows, KeepsFilled, part_of, parts_below, parts_under, is_none}
 use Rattle.jfs_put_range.proofs.Rows.{begins_more, children_begin}
 use Rattle.jfs_put_range.proofs.Beside.{wrote_none, wrote_beside, parts_stay, second_agrees, first_agrees}
 use Rattle.jfs_put_range.proofs.Filled.{both_keep}
@@ -120,13 +120,6 @@ child_written blocks xs left right top before after levels x more free rest w he
       grown_count top x more,
       subst (KeepsFilled blocks before after (x.at.addr ∷ [])) (sym (grown_pages top x more)) g.2,
     )
-
-pub child_refuted : (blocks : ℕ) (xs : List Xad) (left right top : Bool) (before : ℕ → List ℕ) (most : ℕ) (x : Xad) (free : List ℕ) (e : TreeError)
-    → RefutesPage blocks xs left right before most x.at.addr free e → RefutesChildren blocks xs left right top before most (x ∷ []) free e
-child_refuted blocks xs left right top before most x free (View v) r = tt
-child_refuted blocks xs left right top before most x free (Bad bad rule) r = λ height key low high first within rises begins takes.
-    r height key low high first within (subst (λ ms. Takes xs left right first key low ms high free) (append_nil (part_of blocks before height (record { key = key; page = x.at.addr }))) takes)
-child_refuted blocks xs left right top before most x free Memory r = tt
 
 -- ---- a child, and those behind it
 

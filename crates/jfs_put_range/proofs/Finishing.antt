@@ -1,9 +1,5 @@
 -- What the code of a page's call needs and has.
-use Rattle.std.proofs.Common.{◌≡◌, ◌≤◌, ◌<◌, ap, ◌∙◌, subst, ℕ, suc, ◌+◌, Bool, true, false, List, [], ◌∷◌, ◌++◌, length, Option, arith}
-use Rattle.std.specs.Prelude.{nat_le}
-use Rattle.std.specs.List.{All, AllByRecursion as Each}
-use Rattle.std.proofs.lemmas.Bool.{leb-true}
-use Rattle.std.proofs.lemmas.List.Elements.{All-from_recursion, recursion_from_All}
+use Rattle.std.proofs.Common.{◌≡◌, ◌<◌, ap, ◌∙◌, subst, ℕ, suc, ◌+◌, Bool, true, false, List, [], ◌++◌, length, Option, arith}
 use Rattle.jfs_bits.specs.declared.extent.Xad.{Xad}
 use Rattle.jfs_disk.specs.Image.{Image}
 use Rattle.jfs_tree.specs.Form.{IsFront}
@@ -12,9 +8,8 @@ use Rattle.jfs_tree.specs.Draft.{shown}
 use Rattle.jfs_tree.specs.declared.draft.Drafted.{Drafted}
 use Rattle.jfs_tree.specs.declared.form.Sibling.{Sibling}
 use Rattle.jfs_tree.specs.declared.form.TreeError.{TreeError}
-use Rattle.jfs_xtree.specs.Node.{is_within, all_within, IsGood}
+use Rattle.jfs_xtree.specs.Node.{all_within}
 use Rattle.jfs_xtree.specs.Writing.{AllLong}
-use Rattle.jfs_xtree.proofs.Reading.{and_true}
 use Rattle.jfs_written.specs.Range.{with_range}
 use Rattle.jfs_written.proofs.Each.{good_long}
 use Rattle.jfs_refill.specs.Stored.{Stored}
@@ -29,21 +24,8 @@ opened_long blocks bytes es leaf o = good_long blocks es (all_good blocks es o.r
 pub part_long : (blocks : ℕ) (xs : List Xad) → IsPart blocks xs → AllLong xs
 part_long blocks xs p = good_long blocks xs p.range.good
 
-pub part_some : (blocks : ℕ) (xs : List Xad) → IsPart blocks xs → All (λ x. 1 ≤ x.at.len) xs
-part_some blocks xs p = All-from_recursion (λ x. 1 ≤ x.at.len) xs (by xs (recursion_from_All (IsGood blocks) xs p.range.good))
-  where
-    by : (xs : List Xad) → Each (IsGood blocks) xs → Each (λ x. 1 ≤ x.at.len) xs
-    by [] g = tt
-    by (x ∷ xs) g = (g.0.some, by xs g.1)
-
 pub list_done : (slice list xs2 es2 xs es : List Xad) → slice ≡ list → list ≡ with_range xs2 es2 → xs2 ≡ xs → es2 ≡ es → slice ≡ with_range xs es
 list_done slice list xs2 es2 xs es a b c d = a ∙ b ∙ ap (λ ys. with_range ys es2) c ∙ ap (with_range xs) d
-
--- a child's entry names a page
-pub child_page : (blocks : ℕ) (x : Xad) (xs : List Xad) → all_within blocks (x ∷ xs) ≡ true → x.at.addr < blocks
-child_page blocks x xs w =
-    let t = and_true (nat_le 1 x.at.len) (nat_le (x.at.addr + x.at.len) blocks) (and_true (is_within blocks x) (all_within blocks xs) w).0 in
-    let a = leb-true 1 x.at.len t.0 in let b = leb-true (x.at.addr + x.at.len) blocks t.1 in omega (arith, a, b)
 
 module _ (tells : Type 0) (blocks blocks1 : ℕ) (xs : List Xad) (left right : Bool) (d0 : List Drafted) (image image1 : Image) (n : ℕ) (bytes : List ℕ) (es es1 : List Xad) (leaf : Bool) (free : List ℕ)
     (same : image1 ≡ image) (size : blocks1 ≡ blocks) (o : IsOpened blocks bytes es leaf) (inner : leaf ≡ false) (read : bytes ≡ shown d0 image n) (slice : es1 ≡ es) where

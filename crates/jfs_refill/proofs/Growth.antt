@@ -1,41 +1,15 @@
 -- The children of a page one of which may have a page more behind it: what a caller needs of the new list.
-use Rattle.std.proofs.Common.{◌≡◌, ◌≤◌, ◌<◌, refl, ap, ℕ, ◌+◌, Bool, true, false, if◌then◌else◌, List, [], ◌∷◌, ◌++◌, map, Option, Some, None, IfSome, arith}
+use Rattle.std.proofs.Common.{◌≡◌, ◌≤◌, ◌<◌, refl, ℕ, ◌+◌, Bool, true, false, if◌then◌else◌, List, ◌∷◌, ◌++◌, Option, Some, None, IfSome, arith}
 use Rattle.std.specs.Prelude.{nat_le}
 use Rattle.std.proofs.lemmas.Bool.{le-leb, leb-true}
 use Rattle.jfs_bits.specs.declared.extent.Xad.{Xad}
-use Rattle.jfs_tree.specs.Walk.{Child, under}
-use Rattle.jfs_tree.specs.Form.{as_child, children_of}
 use Rattle.jfs_tree.specs.declared.form.Sibling.{Sibling}
 use Rattle.jfs_xtpage.specs.Page.{end_of, rises_from}
-use Rattle.jfs_xtree.specs.Node.{is_within, all_within, child_of, child_entry, lowered}
+use Rattle.jfs_xtree.specs.Node.{is_within, all_within, child_entry, lowered}
 use Rattle.jfs_xtree.proofs.Inners.{child_within}
 use Rattle.jfs_xtree.proofs.Pages.{rises_more, within_both}
 use Rattle.jfs_xtree.proofs.Reading.{and_true}
 use Rattle.jfs_refill.specs.Grown.{grown_entries}
-
-same_child : (key : ℕ) (x : Xad) → child_of (lowered false key x) ≡ child_of x
-same_child key x = by (nat_le (end_of x) key)
-  where
-    by : (b : Bool) → child_of (if b then x else record { flag = x.flag; offset = x.offset; at = record { len = 1; addr = x.at.addr } }) ≡ child_of x
-    by true = refl
-    by false = refl
-
-same_page : (first : Bool) (key : ℕ) (x : Xad) → (child_of (lowered first key x)).page ≡ x.at.addr
-same_page first key x = by (nat_le (end_of x) key)
-  where
-    by : (b : Bool) → (child_of (if b then x else record { flag = x.flag; offset = if first then 0 else x.offset; at = record { len = 1; addr = x.at.addr } })).page ≡ x.at.addr
-    by true = refl
-    by false = refl
-
--- the children: the one that was there, and the one behind it
-pub grown_children : (x : Xad) (more : Option (Sibling ℕ)) → map child_of (grown_entries false x more) ≡ child_of x ∷ children_of more
-grown_children x None = refl
-grown_children x (Some s) = ap (λ c. c ∷ as_child s ∷ []) (same_child s.key x)
-
--- the same of a page's first child, but for its key, at which nothing looks
-pub first_children : (key : ℕ) (x : Xad) (more : Option (Sibling ℕ)) (xs : List Xad) → under key (map child_of (grown_entries true x more ++ xs)) ≡ under key (child_of x ∷ (children_of more ++ map child_of xs))
-first_children key x None xs = refl
-first_children key x (Some s) xs = ap (λ (p : ℕ). let c : Child ℕ = record { key = key; page = p } in c ∷ as_child s ∷ map child_of xs) (same_page true s.key x)
 
 lowered_within : (blocks : ℕ) (first : Bool) (key : ℕ) (x : Xad) → is_within blocks x ≡ true → is_within blocks (lowered first key x) ≡ true
 lowered_within blocks first key x w = by (nat_le (end_of x) key)
@@ -44,7 +18,7 @@ lowered_within blocks first key x w = by (nat_le (end_of x) key)
     by true = w
     by false = let t = and_true (nat_le 1 x.at.len) (nat_le (x.at.addr + x.at.len) blocks) w in let a = leb-true 1 x.at.len t.0 in let b = leb-true (x.at.addr + x.at.len) blocks t.1 in rw (le-leb (x.at.addr + 1) blocks (omega (arith, a, b))) refl
 
--- they lie within the blocks
+-- the entries of the new list lie within the blocks
 pub grown_within : (blocks : ℕ) (first : Bool) (x : Xad) (more : Option (Sibling ℕ)) (xs : List Xad) → is_within blocks x ≡ true → IfSome more (λ s. s.page < blocks) → all_within blocks xs ≡ true → all_within blocks (grown_entries first x more ++ xs) ≡ true
 grown_within blocks first x None xs a b w = within_both blocks x xs a w
 grown_within blocks first x (Some s) xs a b w =

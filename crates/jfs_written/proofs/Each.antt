@@ -6,7 +6,6 @@ use Rattle.std.proofs.lemmas.Bool.{eqb-true}
 use Rattle.std.proofs.lemmas.Bool.Decides.{nat_tests}
 use Rattle.std.proofs.lemmas.List.Elements.{All-from_recursion, recursion_from_All}
 use Rattle.jfs_bits.specs.declared.extent.Xad.{Xad}
-use Rattle.jfs_bits.specs.Extent.{FitsXad}
 use Rattle.jfs_xtpage.specs.Page.{end_of, rises_from}
 use Rattle.jfs_xtree.specs.Laws.{ends_after}
 use Rattle.jfs_xtree.specs.Cutting.{kept_below}
@@ -249,10 +248,6 @@ is_range_from blocks b xs top h =
 
 pub is_cut_to_ranges : (xs : List Xad) → IsCutToRanges xs
 is_cut_to_ranges xs blocks bound top h = (is_range_below blocks bound xs h, below_ends bound xs, is_range_from blocks bound xs top h, from_begins bound xs)
-
--- what the code asks of lists of good extents
-pub good_fit : (blocks : ℕ) (xs : List Xad) → All (IsGood blocks) xs → All FitsXad xs
-good_fit blocks xs h = All-from_recursion FitsXad xs (each_more (IsGood blocks) FitsXad (λ x g. g.fits) xs (recursion_from_All (IsGood blocks) xs h))
 
 pub good_long : (blocks : ℕ) (xs : List Xad) → All (IsGood blocks) xs → AllLong xs
 good_long blocks xs h = all_long xs (each_more (IsGood blocks) (λ x. 1 ≤ x.at.len) (λ x g. g.some) xs (recursion_from_All (IsGood blocks) xs h))

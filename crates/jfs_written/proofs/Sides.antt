@@ -121,10 +121,6 @@ pub all_written_to : (top : ℕ) (ps es : List Xad) → AllTo top es → AllTo t
 all_written_to top [] es h g = h
 all_written_to top (p ∷ ps) es h g = all_written_to top ps (with_written p es) (written_to top p es h g.0) g.1
 
-pub all_written_from : (low : ℕ) (ps es : List Xad) → AllFrom low es → AllFrom low ps → AllFrom low (with_all_written ps es)
-all_written_from low [] es h g = h
-all_written_from low (p ∷ ps) es h g = all_written_from low ps (with_written p es) (written_from low p es h g.0) g.1
-
 -- ---- before the block
 
 or_right : (s t : Bool) → t ≡ true → (s || t) ≡ true
