@@ -9,6 +9,12 @@ ghost use Rattle.jfs_dtpage.specs.Page.{IsDtPage};
 use jfs_dtpage::{DtEntry, DtForm, PageFull, dt_find, dt_insert, dt_remove};
 
 #[cfg(test)]
+mod calls;
+#[cfg(test)]
+mod changes;
+#[cfg(test)]
+mod facts;
+#[cfg(test)]
 mod growing;
 #[cfg(test)]
 mod hostile;
@@ -27,11 +33,17 @@ mod pages;
 #[cfg(test)]
 mod parting;
 #[cfg(test)]
+mod refusals;
+#[cfg(test)]
 mod slots;
+#[cfg(test)]
+mod steps;
 #[cfg(test)]
 mod units;
 #[cfg(test)]
 mod volume;
+#[cfg(test)]
+mod way;
 
 /// Puts a name into a leaf; whether it wasn't there.
 pub fn add(bytes: &mut [u8], form: DtForm, name: &[u16], inode: u32) -> Result<bool, PageFull>

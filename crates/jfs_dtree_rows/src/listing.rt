@@ -1,59 +1,88 @@
 //! All names of trees by hand: each page is looked at, and those at fault are named.
 
-use crate::hostile::{bad, dir_of, fault};
-use crate::volume::Dir;
+use crate::changes::Change::{Clear, Empty, Lose, Put};
+use crate::facts::Fact::{ListFails, ListFault, Lists};
+use crate::steps::Step::{self, AddAll, Do, Is};
+use crate::steps::held;
+use crate::units::Kind::Long;
 use jfs_bits::Rule;
-use jfs_dtree::new_root;
+use jfs_dtree::DtError;
 use std::test::*;
 
-#[test]
-fn names_in_order(rt: HostRuntime) -> Result<(), Fail> {
-    let mut dir = Dir::new(rt.alloc())?;
-    assert!(rt; dir.lists(rt.alloc()));
-    let mut dir = dir_of(rt.alloc(), 60)?;
-    assert!(rt; dir.lists(rt.alloc()));
-    new_root(&mut dir.root, 2);
-    assert!(rt; !dir.lists(rt.alloc()));
-    Ok(())
-}
+static IN_ORDER: [Step; 5] = [
+    Is(Lists(true)),
+    AddAll(Long, 0, 60),
+    Is(Lists(true)),
+    Do(Clear),
+    Is(Lists(false)),
+];
 
 #[test]
-fn a_page_named_twice(rt: HostRuntime) -> Result<(), Fail> {
-    let mut dir = dir_of(rt.alloc(), 8)?;
+fn names_in_order(rt: HostRuntime) {
+    assert_eq!(rt; held(rt.alloc(), &IN_ORDER), 5);
+}
+
+static TWICE: [Step; 3] = [
+    AddAll(Long, 0, 8),
     // the second child is the first one: its first name comes before its key
-    dir.puts(2, 196, 0);
-    assert_eq!(rt; dir.list_fault(rt.alloc()), Some(bad(0, Rule::Order)));
-    Ok(())
-}
+    Do(Put(2, 196, 0)),
+    Is(ListFails(DtError::Bad {
+        page: 0,
+        rule: Rule::Order,
+    })),
+];
 
 #[test]
-fn a_page_that_names_itself(rt: HostRuntime) -> Result<(), Fail> {
-    let mut dir = dir_of(rt.alloc(), 8)?;
-    dir.puts(2, 196, 2);
-    assert_eq!(rt; dir.list_fault(rt.alloc()), Some(bad(2, Rule::Deep)));
-    Ok(())
+fn a_page_named_twice(rt: HostRuntime) {
+    assert_eq!(rt; held(rt.alloc(), &TWICE), 3);
 }
 
-#[test]
-fn a_leaf_without_names(rt: HostRuntime) -> Result<(), Fail> {
-    let mut dir = dir_of(rt.alloc(), 8)?;
-    dir.empties(1);
-    assert_eq!(rt; dir.list_fault(rt.alloc()), Some(bad(1, Rule::Deep)));
-    dir.puts(1, 16, 0x82);
-    assert_eq!(rt; dir.list_fault(rt.alloc()), Some(bad(1, Rule::Deep)));
-    Ok(())
-}
+static ITSELF: [Step; 3] = [
+    AddAll(Long, 0, 8),
+    Do(Put(2, 196, 2)),
+    Is(ListFails(DtError::Bad {
+        page: 2,
+        rule: Rule::Deep,
+    })),
+];
 
 #[test]
-fn each_page_that_cannot_be_read(rt: HostRuntime) -> Result<(), Fail> {
-    let mut dir = dir_of(rt.alloc(), 8)?;
-    dir.volume.bad = 2;
-    assert_eq!(rt; dir.list_fault(rt.alloc()), Some(fault(1)));
-    dir.volume.bad = 0;
-    assert_eq!(rt; dir.list_fault(rt.alloc()), Some(fault(2)));
-    dir.volume.bad = 1;
-    assert_eq!(rt; dir.list_fault(rt.alloc()), Some(fault(3)));
-    dir.volume.bad = 3;
-    assert!(rt; dir.lists(rt.alloc()));
-    Ok(())
+fn a_page_that_names_itself(rt: HostRuntime) {
+    assert_eq!(rt; held(rt.alloc(), &ITSELF), 3);
+}
+
+static NAMELESS: [Step; 5] = [
+    AddAll(Long, 0, 8),
+    Do(Empty(1)),
+    Is(ListFails(DtError::Bad {
+        page: 1,
+        rule: Rule::Deep,
+    })),
+    Do(Put(1, 16, 0x82)),
+    Is(ListFails(DtError::Bad {
+        page: 1,
+        rule: Rule::Deep,
+    })),
+];
+
+#[test]
+fn a_leaf_without_names(rt: HostRuntime) {
+    assert_eq!(rt; held(rt.alloc(), &NAMELESS), 5);
+}
+
+static UNREAD: [Step; 9] = [
+    AddAll(Long, 0, 8),
+    Do(Lose(2)),
+    Is(ListFault(1)),
+    Do(Lose(0)),
+    Is(ListFault(2)),
+    Do(Lose(1)),
+    Is(ListFault(3)),
+    Do(Lose(3)),
+    Is(Lists(true)),
+];
+
+#[test]
+fn each_page_that_cannot_be_read(rt: HostRuntime) {
+    assert_eq!(rt; held(rt.alloc(), &UNREAD), 9);
 }

@@ -1,125 +1,109 @@
 //! What a split of a leaf leaves, worked out by hand: names of 13 units take one slot of the 123, those of 241 units 17.
+//!
+//! A page's byte 17 is the number of its entries, 18 that of its free slots; its bytes 0 and 8 are the pages behind it and before it.
 
-ghost use Rattle.std.specs.Prelude.{◌≤◌};
-
-use crate::units::padded;
-use crate::volume::Dir;
-use std::alloc::{AllocError, Global};
+use crate::facts::Fact::{Byte, Child};
+use crate::steps::Step::{self, Add, AddAll, Is};
+use crate::steps::held;
+use crate::units::Kind::{Behind, Even, Small};
 use std::test::*;
 
-/// Whether the name with this number and so many units behind it is added.
-fn adds(alloc: Global, dir: &mut Dir, number: u32, more: u8) -> Result<bool, AllocError>
-    requires { more ≤ 251 }
-{
-    let name = padded(alloc, number, more)?;
-    Ok(dir.adds(alloc, name, number)?.is_ok())
-}
-
-/// Whether `count` names of 13 units are added, with even numbers from `from` on.
-fn adds_even(alloc: Global, dir: &mut Dir, from: u32, count: u32) -> Result<bool, AllocError> {
-    for k in 0..count {
-        if !adds(alloc, dir, from.saturating_add(k.saturating_mul(2)), 9)? {
-            return Ok(false);
-        }
-    }
-    Ok(true)
-}
-
-/// The numbers of entries of two pages.
-fn entries(dir: &Dir, one: usize, other: usize) -> (u8, u8) {
-    (dir.byte(one, 17), dir.byte(other, 17))
-}
-
-/// Whether the page behind a page is this one, and that page's neighbours are these.
-fn follows(dir: &Dir, page: usize, next: u8, behind: u8) -> bool {
-    dir.byte(page, 0) == next
-        && dir.byte(usize::from(next), 8) as usize == page
-        && dir.byte(usize::from(next), 0) == behind
-}
-
-/// The child of the root's entry at a place, the number of units of its key, and the last of these.
-fn child(dir: &Dir, place: usize) -> (u8, u8, u8) {
-    let at = 32 * usize::from(dir.root[24 + place.min(7)].min(8));
-    let units = dir.root[at + 9];
-    (
-        dir.root[at + 4],
-        units,
-        dir.root[at + 8 + 2 * usize::from(units.min(11))],
-    )
-}
-
-/// A leaf, page 0, that is full of names of one slot, with numbers 0 to 244.
-fn full(alloc: Global) -> Result<Option<Dir>, AllocError> {
-    let mut dir = Dir::new(alloc)?;
-    if !adds_even(alloc, &mut dir, 0, 123)? || dir.byte(0, 18) != 0 {
-        return Ok(None);
-    }
-    Ok(Some(dir))
-}
-
-#[test]
-fn past_the_end_of_the_last_leaf(rt: HostRuntime) -> Result<(), Fail> {
-    let mut dir = full(rt.alloc())?.expect(&rt, "a full leaf");
-    assert!(rt; adds(rt.alloc(), &mut dir, 246, 9)?);
-    assert_eq!(rt; entries(&dir, 0, 1), (123, 1));
-    assert!(rt; follows(&dir, 0, 1, 0));
+static AT_THE_END: [Step; 10] = [
+    // a leaf, page 0, that is full of names of one slot, with numbers 0 to 244
+    AddAll(Even, 0, 123),
+    Is(Byte(0, 18, 0)),
+    Add(Small, 246, 246),
+    Is(Byte(0, 17, 123)),
+    Is(Byte(1, 17, 1)),
+    Is(Byte(0, 0, 1)),
+    Is(Byte(1, 8, 0)),
+    Is(Byte(1, 0, 0)),
     // `n246` is told from `n244` by its fourth unit
-    assert_eq!(rt; child(&dir, 0), (0, 0, 255));
-    assert_eq!(rt; child(&dir, 1), (1, 4, b'6'));
-    Ok(())
-}
+    Is(Child(0, 0, 0, 255)),
+    Is(Child(1, 1, 4, b'6')),
+];
 
 #[test]
-fn past_the_end_of_another_leaf(rt: HostRuntime) -> Result<(), Fail> {
-    let mut dir = full(rt.alloc())?.expect(&rt, "a full leaf");
-    assert!(rt; adds(rt.alloc(), &mut dir, 246, 9)?);
-    assert!(rt; adds(rt.alloc(), &mut dir, 245, 9)?);
+fn past_the_end_of_the_last_leaf(rt: HostRuntime) {
+    assert_eq!(rt; held(rt.alloc(), &AT_THE_END), 10);
+}
+
+static OF_ANOTHER: [Step; 11] = [
+    AddAll(Even, 0, 123),
+    Is(Byte(0, 18, 0)),
+    Add(Small, 246, 246),
+    Add(Small, 245, 245),
     // 70 of 124 names are left, numbers 0 to 138
-    assert_eq!(rt; entries(&dir, 0, 2), (70, 54));
-    assert!(rt; follows(&dir, 0, 2, 1));
-    assert_eq!(rt; child(&dir, 1), (2, 3, b'4'));
-    assert_eq!(rt; child(&dir, 2), (1, 4, b'6'));
-    Ok(())
-}
+    Is(Byte(0, 17, 70)),
+    Is(Byte(2, 17, 54)),
+    Is(Byte(0, 0, 2)),
+    Is(Byte(2, 8, 0)),
+    Is(Byte(2, 0, 1)),
+    Is(Child(1, 2, 3, b'4')),
+    Is(Child(2, 1, 4, b'6')),
+];
 
 #[test]
-fn among_the_first(rt: HostRuntime) -> Result<(), Fail> {
-    let mut dir = full(rt.alloc())?.expect(&rt, "a full leaf");
-    assert!(rt; adds(rt.alloc(), &mut dir, 1, 9)?);
+fn past_the_end_of_another_leaf(rt: HostRuntime) {
+    assert_eq!(rt; held(rt.alloc(), &OF_ANOTHER), 11);
+}
+
+static AMONG_THE_FIRST: [Step; 6] = [
+    AddAll(Even, 0, 123),
+    Is(Byte(0, 18, 0)),
+    Add(Small, 1, 1),
     // the name that is added is one of the 70, and number 138 the right leaf's first
-    assert_eq!(rt; entries(&dir, 0, 1), (70, 54));
-    assert_eq!(rt; child(&dir, 1), (1, 4, b'8'));
-    Ok(())
-}
+    Is(Byte(0, 17, 70)),
+    Is(Byte(1, 17, 54)),
+    Is(Child(1, 1, 4, b'8')),
+];
 
 #[test]
-fn among_the_last(rt: HostRuntime) -> Result<(), Fail> {
-    let mut dir = full(rt.alloc())?.expect(&rt, "a full leaf");
-    assert!(rt; adds(rt.alloc(), &mut dir, 201, 9)?);
-    assert_eq!(rt; entries(&dir, 0, 1), (70, 54));
-    assert_eq!(rt; child(&dir, 1), (1, 3, b'4'));
-    Ok(())
+fn among_the_first(rt: HostRuntime) {
+    assert_eq!(rt; held(rt.alloc(), &AMONG_THE_FIRST), 6);
 }
 
+static AMONG_THE_LAST: [Step; 6] = [
+    AddAll(Even, 0, 123),
+    Is(Byte(0, 18, 0)),
+    Add(Small, 201, 201),
+    Is(Byte(0, 17, 70)),
+    Is(Byte(1, 17, 54)),
+    Is(Child(1, 1, 3, b'4')),
+];
+
 #[test]
-fn a_long_name_at_the_border(rt: HostRuntime) -> Result<(), Fail> {
-    let mut dir = Dir::new(rt.alloc())?;
+fn among_the_last(rt: HostRuntime) {
+    assert_eq!(rt; held(rt.alloc(), &AMONG_THE_LAST), 6);
+}
+
+static AT_THE_BORDER: [Step; 7] = [
     // 60 names of one slot, one of 17, and 46 of one slot
-    assert!(rt; adds_even(rt.alloc(), &mut dir, 0, 60)?);
-    assert!(rt; adds(rt.alloc(), &mut dir, 121, 237)?);
-    assert!(rt; adds_even(rt.alloc(), &mut dir, 200, 46)?);
-    assert_eq!(rt; dir.byte(0, 18), 0);
+    AddAll(Even, 0, 60),
+    Add(Behind, 121, 121),
+    AddAll(Even, 100, 146),
+    Is(Byte(0, 18, 0)),
     // 61 slots, and not 78
-    assert!(rt; adds(rt.alloc(), &mut dir, 1, 9)?);
-    assert_eq!(rt; entries(&dir, 0, 1), (61, 47));
-    Ok(())
-}
+    Add(Small, 1, 1),
+    Is(Byte(0, 17, 61)),
+    Is(Byte(1, 17, 47)),
+];
 
 #[test]
-fn a_long_name_that_is_added(rt: HostRuntime) -> Result<(), Fail> {
-    let mut dir = full(rt.alloc())?.expect(&rt, "a full leaf");
+fn a_long_name_at_the_border(rt: HostRuntime) {
+    assert_eq!(rt; held(rt.alloc(), &AT_THE_BORDER), 7);
+}
+
+static ADDED: [Step; 5] = [
+    AddAll(Even, 0, 123),
+    Is(Byte(0, 18, 0)),
     // 53 names of one slot and this one take 70
-    assert!(rt; adds(rt.alloc(), &mut dir, 105, 237)?);
-    assert_eq!(rt; entries(&dir, 0, 1), (54, 70));
-    Ok(())
+    Add(Behind, 105, 105),
+    Is(Byte(0, 17, 54)),
+    Is(Byte(1, 17, 70)),
+];
+
+#[test]
+fn a_long_name_that_is_added(rt: HostRuntime) {
+    assert_eq!(rt; held(rt.alloc(), &ADDED), 5);
 }

@@ -69,7 +69,7 @@ pub struct Dir {
 
 /// What the transactions told: how many blocks were taken, how many are free, and how many pages' records aren't to be redone. `left` is
 /// how many the calls took from the blocks that they were handed.
-#[derive(Clone, Copy, PartialEq, Eq, Debug)]
+#[derive(Drop, PartialEq, Eq)]
 pub struct Told {
     pub left: u32,
     pub taken: u32,
@@ -78,6 +78,10 @@ pub struct Told {
 }
 
 impl Told {
+    fn uses(&mut self, blocks: u32) {
+        self.left = self.left.saturating_add(blocks);
+    }
+
     fn adds(&mut self, tx: &Tx) {
         for edit in tx.as_slice() {
             match edit {
@@ -121,36 +125,62 @@ impl Dir {
         self.told.taken.saturating_sub(self.told.free)
     }
 
-    /// Adds a name to the tree, and where it is taken, to the plain list.
-    pub fn adds(
+    /// What the tree answers where a name is added with eight blocks from `first` on, and how many of these it left.
+    fn add_with(
         &mut self,
         alloc: Global,
-        name: Name,
+        name: &Name,
         inode: u32,
-    ) -> Result<Result<(), DtError>, AllocError>
-        requires { length name ≤ 255 }
+        first: u32,
+        tx: &mut Tx,
+    ) -> (Result<(), DtError>, u32)
+        requires name { length name.now ≤ 255 }
+        requires first { first ≤ 248 }
     {
-        let mut fresh = eight(alloc, self.told.taken.min(BLOCKS - 8))?;
-        let mut tx = Tx::new(alloc);
+        let Ok(mut fresh) = eight(alloc, first) else {
+            return (Err(DtError::View(ViewError::Memory)), 0);
+        };
         let answer = add(
             alloc,
             &mut self.volume,
             &mut self.root,
-            &name,
+            name,
             inode,
             &mut fresh,
-            &mut tx,
+            tx,
         );
+        (answer, blocks_of(&fresh))
+    }
+
+    /// What the tree answers where a name is removed.
+    pub fn remove_with(&mut self, alloc: Global, name: &Name, tx: &mut Tx) -> Result<u32, DtError>
+        requires { length name.now ≤ 255 }
+    {
+        remove(alloc, &mut self.volume, &mut self.root, name, tx)
+    }
+
+    /// Adds a name to the tree, and where it is taken, to the plain list.
+    pub fn adds(&mut self, alloc: Global, name: Name, inode: u32) -> Result<(), DtError>
+        requires { length name ≤ 255 }
+    {
+        let mut tx = Tx::new(alloc);
+        let first = self.told.taken.min(BLOCKS - 8);
+        let (answer, left) = self.add_with(alloc, &name, inode, first, &mut tx);
         if answer.is_ok() {
-            self.told.left = self
-                .told
-                .left
-                .saturating_add(8u32.saturating_sub(blocks_of(&fresh)));
+            self.told.uses(8u32.saturating_sub(left));
             self.applies(&tx);
-            let place = self.place_of(name.as_slice()).min(self.plain.len());
-            self.plain.insert(place, NameEntry { name, inode })?;
+            return self.notes(name, inode);
         }
-        Ok(answer)
+        answer
+    }
+
+    /// Puts a name into the plain list.
+    fn notes(&mut self, name: Name, inode: u32) -> Result<(), DtError> {
+        let place = self.place_of(name.as_slice()).min(self.plain.len());
+        match self.plain.insert(place, NameEntry { name, inode }) {
+            Ok(()) => Ok(()),
+            Err(_) => Err(DtError::View(ViewError::Memory)),
+        }
     }
 
     /// Takes a name out of the tree, and where that is done, out of the plain list.
@@ -158,15 +188,20 @@ impl Dir {
         requires { length name.now ≤ 255 }
     {
         let mut tx = Tx::new(alloc);
-        let answer = remove(alloc, &mut self.volume, &mut self.root, name, &mut tx);
+        let answer = self.remove_with(alloc, name, &mut tx);
         if answer.is_ok() {
             self.applies(&tx);
-            let place = self.place_of(name.as_slice());
-            if place < self.plain.len() {
-                let _gone = self.plain.remove(place);
-            }
+            self.drops(name);
         }
         answer
+    }
+
+    /// Takes a name out of the plain list.
+    fn drops(&mut self, name: &Name) {
+        let place = self.place_of(name.as_slice());
+        if place < self.plain.len() {
+            let _gone = self.plain.remove(place);
+        }
     }
 
     fn applies(&mut self, tx: &Tx) {
@@ -215,15 +250,15 @@ impl Dir {
     }
 
     /// The names of the tree in their order.
-    pub fn list(&mut self, alloc: Global) -> Result<NameList, DtError> {
+    fn list(&mut self, alloc: Global) -> Result<NameList, DtError> {
         list(alloc, &mut self.volume, &self.root)
     }
 
-    /// Why the names of the tree aren't listed.
-    pub fn list_fault(&mut self, alloc: Global) -> Option<DtError> {
+    /// Whether the names of the tree aren't listed for this reason.
+    pub fn list_fails(&mut self, alloc: Global, why: DtError) -> bool {
         match self.list(alloc) {
-            Ok(_) => None,
-            Err(e) => Some(e),
+            Ok(_) => false,
+            Err(e) => e == why,
         }
     }
 
@@ -236,39 +271,33 @@ impl Dir {
     }
 
     /// Whether a name is refused for this reason, and root, blocks and transaction stay as they were.
-    pub fn refuses(&mut self, alloc: Global, name: &Name, why: DtError) -> Result<bool, AllocError>
+    pub fn refuses(&mut self, alloc: Global, name: &Name, why: DtError) -> bool
         requires { length name.now ≤ 255 }
     {
         let root = self.root;
-        let mut fresh = eight(alloc, 200)?;
-        let mut tx = Tx::new(alloc);
-        tx.push(Edit::NoRedo { page: 9 })?;
-        let answer = add(
-            alloc,
-            &mut self.volume,
-            &mut self.root,
-            name,
-            9,
-            &mut fresh,
-            &mut tx,
-        );
-        Ok(answer == Err(why) && self.root == root && blocks_of(&fresh) == 8 && tx.len() == 1)
+        let mut tx = one_edit(alloc);
+        let (answer, left) = self.add_with(alloc, name, 9, 200, &mut tx);
+        answer == Err(why) && self.root == root && left == 8 && tx.len() == 1
     }
 
     /// Whether a name isn't taken out for this reason, and root and transaction stay as they were.
-    pub fn keeps(&mut self, alloc: Global, name: &Name, why: DtError) -> Result<bool, AllocError>
+    pub fn keeps(&mut self, alloc: Global, name: &Name, why: DtError) -> bool
         requires { length name.now ≤ 255 }
     {
         let root = self.root;
-        let mut tx = Tx::new(alloc);
-        tx.push(Edit::NoRedo { page: 9 })?;
-        let answer = remove(alloc, &mut self.volume, &mut self.root, name, &mut tx);
-        Ok(answer == Err(why) && self.root == root && tx.len() == 1)
+        let mut tx = one_edit(alloc);
+        let answer = self.remove_with(alloc, name, &mut tx);
+        answer == Err(why) && self.root == root && tx.len() == 1
     }
 }
 
 /// Pages as bytes.
 impl Dir {
+    /// Takes all names out of the root.
+    pub fn clears(&mut self) {
+        new_root(&mut self.root, 2);
+    }
+
     /// A byte of a page, or 255 where there is none.
     pub fn byte(&self, page: usize, at: usize) -> u8 {
         match self.volume.pages.get(page) {
@@ -330,6 +359,15 @@ fn blocks_of(fresh: &PxdList) -> u32 {
         blocks = blocks.saturating_add(run.len);
     }
     blocks
+}
+
+/// A transaction of one edit, or of none where memory ran out.
+fn one_edit(alloc: Global) -> Tx {
+    let mut tx = Tx::new(alloc);
+    match tx.push(Edit::NoRedo { page: 9 }) {
+        Ok(()) => tx,
+        Err(_) => Tx::new(alloc),
+    }
 }
 
 /// Eight free blocks from this one on.

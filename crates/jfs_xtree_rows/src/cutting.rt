@@ -1,93 +1,60 @@
 //! Extents cut inside, at borders and to nothing, beside the plain list; what is free is counted by hand.
 
-ghost use Rattle.std.specs.Prelude.{◌<◌, ◌≤◌};
-
-use crate::volume::{File, Told, blocks};
-use std::alloc::{AllocError, Global};
+use crate::steps::Step::{self, Add, AddAll, Agree, Cut, Pages};
+use crate::steps::held;
 use std::test::*;
 
-/// Whether a cut tells so many pages, and so many blocks, and the tree then gives what the plain list gives.
-fn cuts(
-    alloc: Global,
-    file: &mut File,
-    bound: u64,
-    pages: u32,
-    blocks: u64,
-) -> Result<bool, AllocError> {
-    let answer = file.cuts(alloc, bound)?;
-    Ok(answer == Ok(Told { pages, blocks }) && file.agrees(1600) == Ok(true))
-}
-
-/// Whether so many blocks from `offset` on are taken.
-fn takes(alloc: Global, file: &mut File, offset: u32, len: u8) -> Result<bool, AllocError>
-    requires { (0 < len) × (len ≤ 24) }
-{
-    Ok(file.adds(alloc, blocks(offset, len))?.is_ok())
-}
-
-/// So many blocks of the file at each step, at places 0 to `count`.
-fn in_steps(
-    alloc: Global,
-    file: &mut File,
-    count: u32,
-    step: u32,
-    len: u8,
-) -> Result<bool, AllocError>
-    requires { (0 < len) × (len ≤ 24) }
-{
-    for k in 0..count {
-        if !takes(alloc, file, k.saturating_mul(step), len)? {
-            return Ok(false);
-        }
-    }
-    Ok(true)
-}
-
-#[test]
-fn a_root_alone(rt: HostRuntime) -> Result<(), Fail> {
-    let mut file = File::new(rt.alloc())?;
+static ALONE: [Step; 10] = [
     // nothing is there yet
-    assert!(rt; cuts(rt.alloc(), &mut file, 0, 0, 0)?);
-    assert!(rt; takes(rt.alloc(), &mut file, 10, 3)?);
-    assert!(rt; takes(rt.alloc(), &mut file, 20, 3)?);
+    Cut(0, 0, 0),
+    Add(10, 3),
+    Add(20, 3),
     // past the end, at the end, inside the last one, before it, at a border and between them
-    assert!(rt; cuts(rt.alloc(), &mut file, 18446744073709551615, 0, 0)?);
-    assert!(rt; cuts(rt.alloc(), &mut file, 23, 0, 0)?);
-    assert!(rt; cuts(rt.alloc(), &mut file, 22, 0, 1)?);
-    assert!(rt; cuts(rt.alloc(), &mut file, 20, 0, 2)?);
-    assert!(rt; cuts(rt.alloc(), &mut file, 13, 0, 0)?);
-    assert!(rt; cuts(rt.alloc(), &mut file, 11, 0, 2)?);
-    assert!(rt; cuts(rt.alloc(), &mut file, 10, 0, 1)?);
-    Ok(())
-}
+    Cut(18446744073709551615, 0, 0),
+    Cut(23, 0, 0),
+    Cut(22, 0, 1),
+    Cut(20, 0, 2),
+    Cut(13, 0, 0),
+    Cut(11, 0, 2),
+    Cut(10, 0, 1),
+];
 
 #[test]
-fn two_levels(rt: HostRuntime) -> Result<(), Fail> {
-    let mut file = File::new(rt.alloc())?;
+fn a_root_alone(rt: HostRuntime) {
+    assert_eq!(rt; held(rt.alloc(), &ALONE), 10);
+}
+
+static TWO_LEVELS: [Step; 11] = [
     // three pages: 254 extents, 254 and 1, of two blocks each
-    assert!(rt; in_steps(rt.alloc(), &mut file, 509, 3, 2)?);
-    assert_eq!(rt; file.pages(), 3);
+    AddAll(0, 509, 3, 2),
+    Pages(3),
     // inside the last extent, and before it: its page goes with it
-    assert!(rt; cuts(rt.alloc(), &mut file, 1525, 0, 1)?);
-    assert!(rt; cuts(rt.alloc(), &mut file, 1524, 1, 2)?);
+    Cut(1525, 0, 1),
+    Cut(1524, 1, 2),
     // inside the second page, then to the first page's last extent
-    assert!(rt; cuts(rt.alloc(), &mut file, 1000, 0, 349)?);
-    assert!(rt; cuts(rt.alloc(), &mut file, 762, 1, 160)?);
-    assert!(rt; cuts(rt.alloc(), &mut file, 1, 0, 507)?);
-    assert!(rt; cuts(rt.alloc(), &mut file, 0, 1, 2)?);
+    Cut(1000, 0, 349),
+    Cut(762, 1, 160),
+    Cut(1, 0, 507),
+    Cut(0, 1, 2),
     // the root is a leaf that takes extents again
-    assert!(rt; in_steps(rt.alloc(), &mut file, 16, 3, 2)?);
-    assert_eq!(rt; file.pages(), 3);
-    assert_eq!(rt; file.agrees(100), Ok(true));
-    Ok(())
-}
+    AddAll(0, 16, 3, 2),
+    Pages(3),
+    Agree(100),
+];
 
 #[test]
-fn two_pages_to_nothing(rt: HostRuntime) -> Result<(), Fail> {
-    let mut file = File::new(rt.alloc())?;
-    assert!(rt; in_steps(rt.alloc(), &mut file, 255, 2, 1)?);
-    assert_eq!(rt; file.pages(), 2);
+fn two_levels(rt: HostRuntime) {
+    assert_eq!(rt; held(rt.alloc(), &TWO_LEVELS), 11);
+}
+
+static TO_NOTHING: [Step; 3] = [
+    AddAll(0, 255, 2, 1),
+    Pages(2),
     // 255 blocks of extents and both pages
-    assert!(rt; cuts(rt.alloc(), &mut file, 0, 2, 257)?);
-    Ok(())
+    Cut(0, 2, 257),
+];
+
+#[test]
+fn two_pages_to_nothing(rt: HostRuntime) {
+    assert_eq!(rt; held(rt.alloc(), &TO_NOTHING), 3);
 }

@@ -14,6 +14,12 @@ mod listed;
 #[cfg(test)]
 mod rack;
 #[cfg(test)]
+mod racks;
+#[cfg(test)]
 mod shelf;
+#[cfg(test)]
+mod steps;
+#[cfg(test)]
+mod trees;
 #[cfg(test)]
 mod volume;

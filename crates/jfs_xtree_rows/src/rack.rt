@@ -3,6 +3,7 @@
 ghost use Rattle.std.specs.Prelude.{◌≡◌, ◌<◌, ◌≤◌, ◌+◌, ◌*◌, ℕ, [], length};
 ghost use Rattle.jfs_bits.specs.Extent.{FitsXad};
 ghost use Rattle.jfs_ranges.specs.View.{no_device};
+ghost use Rattle.jfs_xtree.specs.Spells.{IsRootSize};
 
 use crate::shelf::{entry, extent, head};
 use jfs_bits::{Xad, XadList};
@@ -131,15 +132,24 @@ pub fn root(second: Blocks) -> [u8; 288] {
     root
 }
 
+/// The extents.
+pub fn listed(alloc: Global, rack: &mut Rack, root: &[u8]) -> Result<XadList, XtError>
+    requires { IsRootSize (length root.now) }
+{
+    extents(alloc, rack, root)
+}
+
+/// Whether there is a list of extents.
+pub fn is_listed(alloc: Global, rack: &mut Rack, root: &[u8; 288]) -> bool {
+    listed(alloc, rack, root).is_ok()
+}
+
 /// Whether the extents are these.
-pub fn lists(
-    alloc: Global,
-    rack: &mut Rack,
-    root: &[u8; 288],
-    all: &[Blocks],
-) -> Result<bool, XtError> {
-    let found = extents(alloc, rack, root)?;
-    Ok(found.len() == all.len() && are(found.as_slice(), all))
+pub fn lists(alloc: Global, rack: &mut Rack, root: &[u8; 288], all: &[Blocks]) -> bool {
+    match listed(alloc, rack, root) {
+        Ok(found) => found.len() == all.len() && are(found.as_slice(), all),
+        Err(_) => false,
+    }
 }
 
 fn are(found: &[Xad], all: &[Blocks]) -> bool {
@@ -153,7 +163,7 @@ fn are(found: &[Xad], all: &[Blocks]) -> bool {
 
 /// Whether the list is refused for this.
 pub fn refuses(alloc: Global, rack: &mut Rack, root: &[u8; 288], why: XtError) -> bool {
-    match extents(alloc, rack, root) {
+    match listed(alloc, rack, root) {
         Ok(_) => false,
         Err(e) => e == why,
     }

@@ -75,37 +75,46 @@ impl File {
     }
 
     /// Adds an extent to the tree, and where it is taken, to the plain list.
-    pub fn adds(&mut self, alloc: Global, x: Xad) -> Result<Result<(), XtError>, AllocError>
+    pub fn adds(&mut self, alloc: Global, x: Xad) -> Result<(), XtError>
         requires { IsGood 64 x }
     {
-        let mut fresh = eight(alloc, self.next.min(56))?;
         let mut tx = Tx::new(alloc);
-        let answer = add(
-            alloc,
-            &mut self.volume,
-            &mut self.root,
-            x,
-            &mut fresh,
-            &mut tx,
-        );
-        if answer.is_ok() {
-            let taken = 8usize.saturating_sub(fresh.len()) as u32;
-            self.next = self.next.saturating_add(taken);
-            self.applies(&tx);
-            self.plain.push(x)?;
+        let first = self.next.min(56);
+        let left = self.add_with(alloc, x, first, &mut tx)?;
+        let taken = 8usize.saturating_sub(left) as u32;
+        self.next = self.next.saturating_add(taken);
+        self.applies(&tx);
+        match self.plain.push(x) {
+            Ok(()) => Ok(()),
+            Err(_) => Err(XtError::View(ViewError::Memory)),
         }
-        Ok(answer)
+    }
+
+    /// Adds an extent to the tree with eight blocks from `first` on; how many of these are left.
+    fn add_with(&mut self, alloc: Global, x: Xad, first: u32, tx: &mut Tx) -> Result<usize, XtError>
+        requires extent { IsGood 64 x }
+        requires first { first ≤ 56 }
+    {
+        let Ok(mut fresh) = eight(alloc, first) else {
+            return Err(XtError::View(ViewError::Memory));
+        };
+        match add(alloc, &mut self.volume, &mut self.root, x, &mut fresh, tx) {
+            Ok(()) => Ok(fresh.len()),
+            Err(e) => Err(e),
+        }
     }
 
     /// Cuts the tree at a block, and the plain list too; what the transaction tells of free pages and blocks.
-    pub fn cuts(&mut self, alloc: Global, bound: u64) -> Result<Result<Told, XtError>, AllocError> {
+    pub fn cuts(&mut self, alloc: Global, bound: u64) -> Result<Told, XtError> {
         let mut tx = Tx::new(alloc);
-        if let Err(e) = cut_to(alloc, &mut self.volume, &mut self.root, bound, &mut tx) {
-            return Ok(Err(e));
-        }
+        self.cut_with(alloc, bound, &mut tx)?;
         self.applies(&tx);
         self.cuts_plain(bound);
-        Ok(Ok(count_told(&tx)))
+        Ok(count_told(&tx))
+    }
+
+    fn cut_with(&mut self, alloc: Global, bound: u64, tx: &mut Tx) -> Result<(), XtError> {
+        cut_to(alloc, &mut self.volume, &mut self.root, bound, tx)
     }
 
     fn cuts_plain(&mut self, bound: u64) {
@@ -126,14 +135,17 @@ impl File {
     }
 
     /// Whether the tree gives what the plain list gives, for each block of the file before `end`.
-    pub fn agrees(&mut self, end: u64) -> Result<bool, XtError> {
+    pub fn agrees(&mut self, end: u64) -> bool {
         for offset in 0..end {
-            let found = lookup(&mut self.volume, &self.root, offset)?;
-            if found != self.plain_at(offset) {
-                return Ok(false);
+            if self.found(offset) != Ok(self.plain_at(offset)) {
+                return false;
             }
         }
-        Ok(true)
+        true
+    }
+
+    fn found(&mut self, offset: u64) -> Result<Option<Xad>, XtError> {
+        lookup(&mut self.volume, &self.root, offset)
     }
 
     fn plain_at(&self, offset: u64) -> Option<Xad> {
@@ -147,7 +159,7 @@ impl File {
 }
 
 /// What a cut told: how many pages' records aren't to be redone, and how many blocks are free, also those of the pages.
-#[derive(Clone, Copy, PartialEq, Eq, Debug)]
+#[derive(Drop, PartialEq, Eq)]
 pub struct Told {
     pub pages: u32,
     pub blocks: u64,
@@ -180,16 +192,15 @@ fn eight(alloc: Global, first: u32) -> Result<PxdList, AllocError>
     Ok(fresh)
 }
 
-/// So many blocks of a file from `offset` on, in block 40 of the volume and those behind it.
+/// So many blocks of a file from `offset` on, 1 to 24, in block 40 of the volume and those behind it.
 pub fn blocks(offset: u32, len: u8) -> Xad
-    requires { (0 < len) × (len ≤ 24) }
     ensures { IsGood 64 result }
 {
     Xad {
         flag: 0,
         offset: u64::from(offset),
         at: Pxd {
-            len: u32::from(len),
+            len: u32::from(len.max(1).min(24)),
             addr: 40,
         },
     }

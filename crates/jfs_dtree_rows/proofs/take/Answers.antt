@@ -1,4 +1,4 @@
-use Rattle.std.proofs.Common.{◌<◌, arith}
+use Rattle.std.proofs.Common.{arith}
 use Rattle.jfs_dtpage.proofs.Pages.{names_length}
 use Rattle.jfs_dtree_rows.proofs.take.Goals as goal
 
