@@ -8,7 +8,7 @@ use Rattle.jfs_plain.specs.declared.reply.Reply.TheVariants.{Done, Refused}
 use Rattle.jfs_plain.specs.declared.node.Node.{Node}
 use Rattle.jfs_plain.specs.declared.plain.PlainTree.{PlainTree}
 use Rattle.jfs_plain.specs.Tree.{Tree, Place, Found, and_then}
-use Rattle.jfs_plain.specs.Moves.{Same, stamped, falls, changed, made, dropped, filled, cut, byte_after, unnamed, leads, loses, moves, rises, shifts, displaced}
+use Rattle.jfs_plain.specs.Moves.{Same, stamped, falls, changed, made, dropped, filled, unnamed, leads, loses, moves, rises, shifts, displaced}
 use Rattle.jfs_plain.specs.Step.{Room, Outcome, Answers, refuse, unless, within_limit, links_of, gained, departs, why_barred, why_kept, renamed}
 use Rattle.jfs_plain.specs.Plain.{Became, Meets, ample, tree_of}
 

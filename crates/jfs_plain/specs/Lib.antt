@@ -5,5 +5,6 @@ pub mod Limits
 pub mod Tree
 pub mod Moves
 pub mod Step
+pub mod CallStep
 pub mod Plain
 pub mod Build

@@ -1,9 +1,9 @@
 -- Changes of one object each. A call is made of them.
-use Rattle.std.specs.Prelude.{◌≡◌, ℕ, Bool, not, ◌+◌, ◌-◌, ◌&&◌, ◌==◌, nat_le, nat_lt, if◌then◌else◌, length, get_or, max, List, [], Option, Some, None, option_map}
+use Rattle.std.specs.Prelude.{◌≡◌, ℕ, Bool, not, ◌+◌, ◌-◌, ◌&&◌, ◌==◌, nat_le, nat_lt, if◌then◌else◌, length, get_or, List, [], Some, None, option_map}
 use Rattle.jfs_bits.specs.declared.descriptor.Moment.{Moment}
 use Rattle.jfs_name.specs.declared.name.NameEntry.{NameEntry}
 use Rattle.jfs_name.specs.Directory.{with_name, without_name, with_inode}
-use Rattle.jfs_plain.specs.Tree.{Tree, Place}
+use Rattle.jfs_plain.specs.Tree.{Tree}
 use Rattle.jfs_plain.specs.declared.node.Node.{Node}
 use Rattle.jfs_plain.specs.declared.node.Times.{Times}
 use Rattle.jfs_plain.specs.declared.reply.NodeKind.{NodeKind}

@@ -1,11 +1,11 @@
 -- The tree that the maps of a `PlainTree` are, and what a change of them may leave.
 use Rattle.std.specs.Prelude.{◌≡◌, ◌⊎◌, ℕ, false, List, [], Option, Some, None, Result, Ok, Err, get_or, unwrap_or, if◌then◌else◌, ◌==◌, ◌^◌, nat_lt}
-use Rattle.std.specs.BTreeMap.{BTreeMap, get}
+use Rattle.std.specs.BTreeMap.{get}
 use Rattle.std.specs.Ordering.{nat_cmp}
 use Rattle.jfs_bits.specs.declared.descriptor.Moment.{Moment}
 use Rattle.jfs_plain.specs.Tree.{Tree, root}
 use Rattle.jfs_plain.specs.Moves.{Same, new_directory, new_file}
-use Rattle.jfs_plain.specs.Step.{Room, Outcome, Answers, PlainStep}
+use Rattle.jfs_plain.specs.Step.{Room, Outcome, PlainStep}
 use Rattle.jfs_plain.specs.declared.call.Call.{Call}
 use Rattle.jfs_plain.specs.declared.node.Node.{Node}
 use Rattle.jfs_plain.specs.declared.plain.PlainTree.{PlainTree}
@@ -52,7 +52,7 @@ abbrev pub Meets : Tree → Outcome → Result Reply Refusal → Tree → Type 0
 Meets t out (Ok reply) u = (v : Tree) × (out ≡ Ok (reply, v)) × Same v u
 Meets t out (Err why) u = ((out ≡ Err why) ⊎ (why ≡ OutOfMemory)) × Same t u
 
--- the plain step with ample room, or want of memory, which leaves the tree
-abbrev pub Steps : PlainTree → Call → ℕ → Moment → Reply → PlainTree → Type 0
-Steps old call fresh now reply new =
-    PlainStep (tree_of old) (ample old.file_limit fresh) call now reply (tree_of new) ⊎ ((reply ≡ Refused OutOfMemory) × Same (tree_of old) (tree_of new))
+-- The plain step with ample room, or want of memory, which leaves the tree. The file limit stays.
+pub record Steps (old : PlainTree) (call : Call) (fresh : ℕ) (now : Moment) (reply : Reply) (new : PlainTree) : Type 0 where
+  pub step : PlainStep (tree_of old) (ample old.file_limit fresh) call now reply (tree_of new) ⊎ ((reply ≡ Refused OutOfMemory) × Same (tree_of old) (tree_of new))
+  pub limit : new.file_limit ≡ old.file_limit

@@ -1,10 +1,10 @@
 -- What each call does to a file tree, and when it is refused: the causes stand in the order in which they are looked at. (POSIX: mkdir, open with O_CREAT and
 -- O_EXCL, symlink, link, unlink, rmdir, rename, chmod, pwrite, truncate, pread, stat, readdir, readlink, sync.)
-use Rattle.std.specs.Prelude.{◌≡◌, ℕ, zero, suc, ◌+◌, ◌-◌, ◌*◌, ◌/◌, Bool, true, false, not, ◌&&◌, ◌||◌, ◌==◌, nat_le, nat_lt, if◌then◌else◌, length, replicate, min, max, List, [], ◌∷◌, Option, Some, None, is_some, Result, Ok, Err}
+use Rattle.std.specs.Prelude.{◌≡◌, ℕ, zero, suc, ◌+◌, ◌-◌, ◌/◌, Bool, not, ◌&&◌, ◌||◌, ◌==◌, nat_le, nat_lt, if◌then◌else◌, length, replicate, min, max, List, [], ◌∷◌, Option, Some, None, Result, Ok, Err}
 use Rattle.jfs_bits.specs.declared.descriptor.Moment.{Moment}
 use Rattle.jfs_name.specs.declared.name.NameEntry.{NameEntry}
-use Rattle.jfs_plain.specs.Tree.{Tree, root, is_dir, is_file, is_link, and_then, walk, Found, object, Place, place, at_place, new_place, passes}
-use Rattle.jfs_plain.specs.Moves.{stamped, written, gains, loses, leads, rises, falls, moves, permits, sized, arrives, displaced, shifts, new_directory, new_file, new_link, changed, made, dropped, unnamed, filled, cut, Same}
+use Rattle.jfs_plain.specs.Tree.{Tree, is_dir, is_file, is_link, and_then, Found, object, Place, place, at_place, new_place, passes}
+use Rattle.jfs_plain.specs.Moves.{stamped, gains, loses, leads, rises, falls, permits, sized, arrives, displaced, shifts, new_directory, new_file, new_link, changed, made, dropped, unnamed, filled, cut, Same}
 use Rattle.jfs_plain.specs.declared.call.Call.{Call}
 use Rattle.jfs_plain.specs.declared.call.Call.TheVariants as calls
 use Rattle.jfs_plain.specs.declared.node.Node.{Node}
@@ -59,6 +59,27 @@ has_names o = not (length o.names == 0)
 abbrev pub blocks_in : ℕ → ℕ → ℕ
 blocks_in offset count = (offset + count - 1) / 4096 + 1 - offset / 4096
 
+-- ---- how many blocks a call may need: for an object with its name, for a name, and for bytes of a file
+
+abbrev pub need_of_object : ℕ
+need_of_object = 12
+
+abbrev pub need_of_name : ℕ
+need_of_name = 8
+
+abbrev pub need_of_bytes : ℕ → ℕ → ℕ
+need_of_bytes offset count = blocks_in offset count + 8
+
+abbrev pub need : Call → ℕ
+need (calls.Mkdir path mode) = need_of_object
+need (calls.Create path mode) = need_of_object
+need (calls.Symlink path target) = need_of_object
+need (calls.Link from to) = need_of_name
+need (calls.Rename from to) = need_of_name
+need (calls.Write path offset new) = need_of_bytes offset (length new)
+need (calls.Fill path offset count byte) = need_of_bytes offset count
+need _ = 0
+
 -- a file that is above the limit, with its last name
 abbrev pub is_last_of_big : ℕ → Node → Bool
 is_last_of_big limit o = is_file o.kind && nat_le o.links 1 && nat_lt limit o.size
@@ -81,7 +102,7 @@ with_fresh (Some n) f = f n
 -- a new object at a place, and what else becomes of the tree
 abbrev pub makes : Room → Place → Moment → Node → (Tree → Tree) → Tree → Outcome
 makes room p now o after t =
-    refuse (is_short room 12) (NoSpace room.free)
+    refuse (is_short room need_of_object) (NoSpace room.free)
     (with_fresh room.inode (λ n. refuse (is_deep room p) (TooDeep p.dir)
     (Ok (Done, after (gained p n now (made n o t))))))
 
@@ -101,7 +122,7 @@ link room t from to now = and_then (object t from) (λ o.
     refuse (is_dir o.node.kind) IsDir
     (and_then (new_place t to) (λ p.
     refuse (is_full o.node.links) TooManyLinks
-    (refuse (is_short room 8) (NoSpace room.free)
+    (refuse (is_short room need_of_name) (NoSpace room.free)
     (refuse (is_deep room p) (TooDeep p.dir)
     (Ok (Done, changed o.inode (stamped now) (changed o.inode rises (gained p o.inode now t)))))))))
 
@@ -163,13 +184,13 @@ unless (Some why) rest = Err why
 abbrev pub renamed : Room → Tree → ℕ → Bool → Bool → Place → Place → Moment → Option Found → Outcome
 renamed room t n by_dir inside p q now None =
     unless (why_barred by_dir inside (p.dir == q.dir) (links_of t q.dir))
-    (refuse (is_short room 8) (NoSpace room.free)
+    (refuse (is_short room need_of_name) (NoSpace room.free)
     (refuse (is_deep room q) (TooDeep q.dir)
     (Ok (Done, departs n by_dir p q.dir now (shifts by_dir p.dir q.dir (gained q n now t))))))
 renamed room t n by_dir inside p q now (Some old) =
     if old.inode == n then Ok (Done, t) else
     (unless (why_kept room.limit by_dir inside old.node)
-    (refuse (is_short room 8) (NoSpace room.free)
+    (refuse (is_short room need_of_name) (NoSpace room.free)
     (refuse (is_deep room q) (TooDeep q.dir)
     (Ok (Done, departs n by_dir p q.dir now (displaced old.inode by_dir old.node.links p.dir now (changed q.dir (leads q.name n now) t)))))))
 
@@ -200,7 +221,7 @@ within_limit (Some size) f = f size
 
 abbrev pub write : Room → Tree → List (List ℕ) → ℕ → List ℕ → Moment → Outcome
 write room t path offset new now = and_then (file t path) (λ o. within_limit (size_after room.limit o.node.size (offset + length new)) (λ size.
-    refuse (is_short room (blocks_in offset (length new) + 8)) (NoSpace room.free)
+    refuse (is_short room (need_of_bytes offset (length new))) (NoSpace room.free)
     (Ok (Done, changed o.inode (sized size now) (filled o.inode offset new t)))))
 
 abbrev pub truncate : Room → Tree → List (List ℕ) → ℕ → Moment → Outcome

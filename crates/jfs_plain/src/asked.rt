@@ -40,7 +40,8 @@ impl PlainTree {
     }
 
     pub(crate) fn chmod(&mut self, path: &[Name], mode: u32, now: Moment) -> Result<Reply, Refusal>
-        ensures { Meets (tree_of self.old) (chmod (tree_of self.old) path.now mode now) result (tree_of self.new) }
+        ensures answer { Meets (tree_of self.old) (chmod (tree_of self.old) path.now mode now) result (tree_of self.new) }
+        ensures limit { self.new.file_limit ≡ self.old.file_limit }
     {
         let (n, _) = self.object(path)?;
         self.permit(n, mode);

@@ -1,5 +1,8 @@
 //! What callers ask for.
 
+ghost use Rattle.std.specs.Prelude.{◌≡◌, ◌<◌, ◌≤◌};
+ghost use Rattle.jfs_plain.specs.Step.{blocks_in};
+
 use crate::reply::Reply;
 use jfs_bits::Blob;
 use jfs_disk::Fault;
@@ -110,9 +113,20 @@ pub struct Entry {
     pub reply: Reply,
 }
 
+/// How many blocks a new object with its name may need.
+const OBJECT_BLOCKS: u32 = 12;
+
+/// How many blocks a name may need.
+const NAME_BLOCKS: u32 = 8;
+
+/// How many blocks a range of bytes may need beside those of its data.
+const TREE_BLOCKS: u32 = 8;
+
 impl Call {
     ghost use Rattle.std.specs.Prelude.{◌≡◌};
     ghost use Rattle.jfs_plain.specs.Call.{is_changing};
+    ghost use Rattle.jfs_plain.specs.Limits.{FitsCall};
+    ghost use Rattle.jfs_plain.specs.Step.{need};
 
     /// Whether the call may change the tree.
     pub fn is_changing(&self) -> bool
@@ -127,4 +141,30 @@ impl Call {
                 | Call::Sync
         )
     }
+
+    /// How many blocks the call may need. Those that it frees don't count.
+    pub fn need(&self) -> u32
+        requires { FitsCall self.now }
+        ensures { result ≡ need self.now }
+    {
+        match self {
+            Call::Mkdir { .. } | Call::Create { .. } | Call::Symlink { .. } => OBJECT_BLOCKS,
+            Call::Link { .. } | Call::Rename { .. } => NAME_BLOCKS,
+            Call::Write { offset, bytes, .. } => {
+                blocks_in(*offset, bytes.as_slice().len() as u32) + TREE_BLOCKS
+            }
+            Call::Fill { offset, count, .. } => blocks_in(*offset, *count) + TREE_BLOCKS,
+            _ => 0,
+        }
+    }
+}
+
+/// How many blocks a range of bytes touches.
+fn blocks_in(offset: u64, count: u32) -> u32
+    requires some { 0 < count }
+    requires few { count ≤ 65536 }
+    ensures blocks { result ≡ blocks_in offset count }
+    ensures few { result ≤ 17 }
+{
+    ((offset % 4096) as u32 + count).div_ceil(4096)
 }

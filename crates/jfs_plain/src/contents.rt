@@ -23,7 +23,8 @@ impl PlainTree {
         bytes: &[u8],
         supply: Supply,
     ) -> Result<Reply, Refusal>
-        ensures { Meets (tree_of self.old) (write (ample self.old.file_limit supply.inode) (tree_of self.old) path.now offset bytes.now supply.now) result (tree_of self.new) }
+        ensures answer { Meets (tree_of self.old) (write (ample self.old.file_limit supply.inode) (tree_of self.old) path.now offset bytes.now supply.now) result (tree_of self.new) }
+        ensures limit { self.new.file_limit ≡ self.old.file_limit }
     {
         let (n, node) = self.file(path)?;
         let length = bytes.len() as u64;
@@ -43,7 +44,8 @@ impl PlainTree {
         byte: u8,
         supply: Supply,
     ) -> Result<Reply, Refusal>
-        ensures { Meets (tree_of self.old) (write (ample self.old.file_limit supply.inode) (tree_of self.old) path.now offset (replicate count byte) supply.now) result (tree_of self.new) }
+        ensures answer { Meets (tree_of self.old) (write (ample self.old.file_limit supply.inode) (tree_of self.old) path.now offset (replicate count byte) supply.now) result (tree_of self.new) }
+        ensures limit { self.new.file_limit ≡ self.old.file_limit }
     {
         let bytes = repeated(self.alloc, byte, count as usize)?;
         self.write(path, offset, bytes.as_slice(), supply)
@@ -55,7 +57,8 @@ impl PlainTree {
         size: u64,
         supply: Supply,
     ) -> Result<Reply, Refusal>
-        ensures { Meets (tree_of self.old) (truncate (ample self.old.file_limit supply.inode) (tree_of self.old) path.now size supply.now) result (tree_of self.new) }
+        ensures answer { Meets (tree_of self.old) (truncate (ample self.old.file_limit supply.inode) (tree_of self.old) path.now size supply.now) result (tree_of self.new) }
+        ensures limit { self.new.file_limit ≡ self.old.file_limit }
     {
         let (n, node) = self.file(path)?;
         if node.size.max(size) > self.file_limit {

@@ -10,6 +10,7 @@ mod copy;
 mod copy_call;
 mod entries;
 mod fresh;
+mod law;
 mod moves;
 mod naming;
 mod node;
@@ -22,6 +23,7 @@ mod step;
 
 pub use call::{Ack, Call, Entry, Line, Request};
 pub use entries::Entries;
+pub use law::{call_steps_are_plain, refusal_leaves_tree};
 pub use node::{Node, Times};
 pub use plain::PlainTree;
 pub use refusal::{Refusal, why_short};

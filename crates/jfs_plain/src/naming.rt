@@ -23,7 +23,8 @@ impl PlainTree {
         now: Moment,
     ) -> Result<Reply, Refusal>
         requires { node_at self.old fresh ≡ None }
-        ensures { Meets (tree_of self.old) (mkdir (ample self.old.file_limit fresh) (tree_of self.old) path.now mode now) result (tree_of self.new) }
+        ensures answer { Meets (tree_of self.old) (mkdir (ample self.old.file_limit fresh) (tree_of self.old) path.now mode now) result (tree_of self.new) }
+        ensures limit { self.new.file_limit ≡ self.old.file_limit }
     {
         let (dir, name) = self.new_place(path)?;
         if self.links(dir) >= MOST_LINKS {
@@ -43,7 +44,8 @@ impl PlainTree {
         now: Moment,
     ) -> Result<Reply, Refusal>
         requires { node_at self.old fresh ≡ None }
-        ensures { Meets (tree_of self.old) (create (ample self.old.file_limit fresh) (tree_of self.old) path.now mode now) result (tree_of self.new) }
+        ensures answer { Meets (tree_of self.old) (create (ample self.old.file_limit fresh) (tree_of self.old) path.now mode now) result (tree_of self.new) }
+        ensures limit { self.new.file_limit ≡ self.old.file_limit }
     {
         let (dir, name) = self.new_place(path)?;
         let node = Node::file(self.alloc, mode, now);
@@ -59,7 +61,8 @@ impl PlainTree {
         now: Moment,
     ) -> Result<Reply, Refusal>
         requires { node_at self.old fresh ≡ None }
-        ensures { Meets (tree_of self.old) (symlink (ample self.old.file_limit fresh) (tree_of self.old) path.now target.now now) result (tree_of self.new) }
+        ensures answer { Meets (tree_of self.old) (symlink (ample self.old.file_limit fresh) (tree_of self.old) path.now target.now now) result (tree_of self.new) }
+        ensures limit { self.new.file_limit ≡ self.old.file_limit }
     {
         let (dir, name) = self.new_place(path)?;
         let kept = copy_bytes(self.alloc, target)?;
@@ -74,7 +77,8 @@ impl PlainTree {
         to: &[Name],
         supply: Supply,
     ) -> Result<Reply, Refusal>
-        ensures { Meets (tree_of self.old) (link (ample self.old.file_limit supply.inode) (tree_of self.old) from.now to.now supply.now) result (tree_of self.new) }
+        ensures answer { Meets (tree_of self.old) (link (ample self.old.file_limit supply.inode) (tree_of self.old) from.now to.now supply.now) result (tree_of self.new) }
+        ensures limit { self.new.file_limit ≡ self.old.file_limit }
     {
         let (n, node) = self.object(from)?;
         if node.is_dir() {

@@ -13,7 +13,8 @@ use jfs_name::Name;
 
 impl PlainTree {
     pub(crate) fn unlink(&mut self, path: &[Name], supply: Supply) -> Result<Reply, Refusal>
-        ensures { Meets (tree_of self.old) (unlink (ample self.old.file_limit supply.inode) (tree_of self.old) path.now supply.now) result (tree_of self.new) }
+        ensures answer { Meets (tree_of self.old) (unlink (ample self.old.file_limit supply.inode) (tree_of self.old) path.now supply.now) result (tree_of self.new) }
+        ensures limit { self.new.file_limit ≡ self.old.file_limit }
     {
         let (n, node) = self.object(path)?;
         if node.is_dir() {
@@ -30,7 +31,8 @@ impl PlainTree {
     }
 
     pub(crate) fn rmdir(&mut self, path: &[Name], now: Moment) -> Result<Reply, Refusal>
-        ensures { Meets (tree_of self.old) (rmdir (tree_of self.old) path.now now) result (tree_of self.new) }
+        ensures answer { Meets (tree_of self.old) (rmdir (tree_of self.old) path.now now) result (tree_of self.new) }
+        ensures limit { self.new.file_limit ≡ self.old.file_limit }
     {
         if path.is_empty() {
             return Err(Refusal::IntoItself);

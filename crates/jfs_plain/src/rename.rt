@@ -20,7 +20,8 @@ impl PlainTree {
         to: &[Name],
         supply: Supply,
     ) -> Result<Reply, Refusal>
-        ensures { Meets (tree_of self.old) (rename (ample self.old.file_limit supply.inode) (tree_of self.old) from.now to.now supply.now) result (tree_of self.new) }
+        ensures answer { Meets (tree_of self.old) (rename (ample self.old.file_limit supply.inode) (tree_of self.old) from.now to.now supply.now) result (tree_of self.new) }
+        ensures limit { self.new.file_limit ≡ self.old.file_limit }
     {
         let (n, node) = self.object(from)?;
         if from.is_empty() || to.is_empty() {
@@ -43,7 +44,8 @@ impl PlainTree {
         to: (u32, &Name),
         supply: Supply,
     ) -> Result<Reply, Refusal>
-        ensures { Meets (tree_of self.old) (renamed (ample self.old.file_limit supply.inode) (tree_of self.old) n is_dir inside (place_at from.entry.0 from.entry.1.now) (place_at to.entry.0 to.entry.1.now) supply.now (occupant (tree_of self.old) (place_at to.entry.0 to.entry.1.now))) result (tree_of self.new) }
+        ensures answer { Meets (tree_of self.old) (renamed (ample self.old.file_limit supply.inode) (tree_of self.old) n is_dir inside (place_at from.entry.0 from.entry.1.now) (place_at to.entry.0 to.entry.1.now) supply.now (occupant (tree_of self.old) (place_at to.entry.0 to.entry.1.now))) result (tree_of self.new) }
+        ensures limit { self.new.file_limit ≡ self.old.file_limit }
     {
         match self.occupant(to.0, to.1) {
             None => {

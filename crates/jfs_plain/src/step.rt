@@ -24,7 +24,8 @@ impl PlainTree {
 
     fn perform(&mut self, call: &Call, supply: Supply) -> Result<Reply, Refusal>
         requires { node_at self.old supply.inode ≡ None }
-        ensures { Meets (tree_of self.old) (outcome (ample self.old.file_limit supply.inode) (tree_of self.old) call.now supply.now) result (tree_of self.new) }
+        ensures answer { Meets (tree_of self.old) (outcome (ample self.old.file_limit supply.inode) (tree_of self.old) call.now supply.now) result (tree_of self.new) }
+        ensures limit { self.new.file_limit ≡ self.old.file_limit }
     {
         match call {
             Call::Mkdir { path, mode } => self.mkdir(

@@ -3,7 +3,7 @@
 use crate::tree::first_wrong_of;
 use jfs_bits::Moment;
 use jfs_name::{Name, NameEntry};
-use jfs_plain::{Node, PlainTree, Refusal, why_short};
+use jfs_plain::{Call, Node, PlainTree, Refusal, why_short};
 use std::alloc::{AllocError, Global};
 use std::test::*;
 
@@ -93,4 +93,9 @@ fn space(rt: HostRuntime) {
         let why = why_short(free, need);
         assert_eq!(rt; why, is_short.then_some(Refusal::NoSpace { free }));
     }
+}
+
+#[test]
+fn need(rt: HostRuntime) {
+    assert_eq!(rt; Call::Sync.need(), 0);
 }

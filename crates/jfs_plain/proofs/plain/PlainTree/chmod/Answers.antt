@@ -1,8 +1,5 @@
-use Rattle.std.proofs.Common.{◌≡◌, ◌∙◌, ap, sym, refl, rules, arith}
-use Rattle.jfs_plain.specs.declared.reply.Reply.TheVariants.{Done, Attr, Names, Target}
-use Rattle.jfs_plain.specs.Plain.{tree_of}
-use Rattle.jfs_plain.proofs.Chained.{same, became, became_made, and_changed, and_dropped, and_unnamed, then_ok, unless_false}
+use Rattle.jfs_plain.proofs.Chained.{became, and_changed, then_ok}
 use Rattle.jfs_plain.proofs.plain.PlainTree.chmod.Goals as goal
 
-pub returns : goal.returns
-returns c = (_, then_ok _ c.in_ok-n.ensures.ok, and_changed _ _ (became c.permit.ensures) c.stamp.ensures)
+pub returns-clause-answer : goal.returns-clause-answer
+returns-clause-answer c = (_, then_ok _ c.in_ok-n.ensures.ok, and_changed _ _ (became c.permit.ensures) c.stamp.ensures)

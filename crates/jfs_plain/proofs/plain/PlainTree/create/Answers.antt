@@ -1,8 +1,5 @@
-use Rattle.std.proofs.Common.{◌≡◌, ◌∙◌, ap, sym, refl, rules, arith}
-use Rattle.jfs_plain.specs.declared.reply.Reply.TheVariants.{Done, Attr, Names, Target}
-use Rattle.jfs_plain.specs.Plain.{tree_of}
-use Rattle.jfs_plain.proofs.Chained.{same, became, became_made, and_changed, and_dropped, and_unnamed, then_ok, unless_false}
+use Rattle.jfs_plain.proofs.Chained.{became_made, then_ok}
 use Rattle.jfs_plain.proofs.plain.PlainTree.create.Goals as goal
 
-pub returns : goal.returns
-returns c = (_, then_ok _ c.in_ok-dir.ensures.ok, became_made _ _ _ c.file-node.ensures c.in_ok-add.ensures.ok)
+pub returns-clause-answer : goal.returns-clause-answer
+returns-clause-answer c = (_, then_ok _ c.in_ok-dir.ensures.ok, became_made _ _ _ c.file-node.ensures c.in_ok-add.ensures.ok)

@@ -1,5 +1,5 @@
 use Rattle.std.proofs.Common.{◌≡◌, drop}
-use Rattle.jfs_plain.specs.Tree.{root, passes, passes_from}
+use Rattle.jfs_plain.specs.Tree.{passes, passes_from}
 use Rattle.jfs_plain.specs.Plain.{tree_of}
 use Rattle.jfs_plain.proofs.plain.PlainTree.passes.Given as goal
 

@@ -1,5 +1,5 @@
 use Rattle.std.proofs.Common.{◌≡◌, drop}
-use Rattle.jfs_plain.specs.Tree.{root, place, place_from}
+use Rattle.jfs_plain.specs.Tree.{place, place_from}
 use Rattle.jfs_plain.specs.Plain.{tree_of}
 use Rattle.jfs_plain.proofs.plain.PlainTree.place.Given as goal
 

@@ -1,9 +1,9 @@
-use Rattle.std.proofs.Common.{◌≡◌, ◌∙◌, ◌+◌, ◌-◌, ap, sym, refl, rules, arith, Ok, length, min, false}
+use Rattle.std.proofs.Common.{◌≡◌, ◌∙◌, ◌+◌, ◌-◌, ap, sym, rules, arith, Ok, min}
 use Rattle.jfs_plain.specs.declared.reply.Reply.TheVariants.{Bytes}
-use Rattle.jfs_plain.specs.Step.{is_short, blocks_in, bytes_from}
-use Rattle.jfs_plain.specs.Plain.{ample, byte_at, tree_of}
-use Rattle.jfs_plain.proofs.Chained.{same, became, and_changed, then_ok, then_within, unless_false}
-use Rattle.jfs_plain.proofs.Splice.{enough, bytes_more, bytes_none}
+use Rattle.jfs_plain.specs.Step.{bytes_from}
+use Rattle.jfs_plain.specs.Plain.{byte_at, tree_of}
+use Rattle.jfs_plain.proofs.Chained.{same, then_ok}
+use Rattle.jfs_plain.proofs.Splice.{bytes_more, bytes_none}
 use Rattle.jfs_plain.proofs.plain.PlainTree.read.Goals as goal
 
 pub loop-i-preserved : goal.loop-i-preserved

@@ -1,9 +1,8 @@
-use Rattle.std.proofs.Common.{◌≡◌, ◌∙◌, ap, sym, refl, rules, arith, Ok, not, ◌==◌, length, false}
-use Rattle.jfs_plain.specs.Tree.{is_dir, is_link}
-use Rattle.jfs_plain.specs.Step.{is_full, is_last_of_big, has_names}
-use Rattle.jfs_plain.specs.declared.reply.Reply.TheVariants.{Names, Target}
+use Rattle.std.proofs.Common.{◌∙◌, ap, sym, rules, Ok, not}
+use Rattle.jfs_plain.specs.Tree.{is_link}
+use Rattle.jfs_plain.specs.declared.reply.Reply.TheVariants.{Target}
 use Rattle.jfs_plain.specs.Plain.{tree_of}
-use Rattle.jfs_plain.proofs.Chained.{same, became, and_changed, and_dropped, and_unnamed, then_ok, unless_false}
+use Rattle.jfs_plain.proofs.Chained.{same, then_ok, unless_false}
 use Rattle.jfs_plain.proofs.plain.PlainTree.readlink.Goals as goal
 
 pub returns : goal.returns

@@ -1,7 +1,7 @@
-use Rattle.std.proofs.Common.{◌≡◌, ◌∙◌, ap, sym, refl, rules, arith, Ok}
-use Rattle.jfs_plain.specs.declared.reply.Reply.TheVariants.{Done, Attr, Names, Target}
+use Rattle.std.proofs.Common.{◌∙◌, ap, sym, Ok}
+use Rattle.jfs_plain.specs.declared.reply.Reply.TheVariants.{Attr}
 use Rattle.jfs_plain.specs.Plain.{tree_of}
-use Rattle.jfs_plain.proofs.Chained.{same, became, became_made, and_changed, and_dropped, and_unnamed, then_ok, unless_false}
+use Rattle.jfs_plain.proofs.Chained.{same, then_ok}
 use Rattle.jfs_plain.proofs.plain.PlainTree.stat.Goals as goal
 
 pub returns : goal.returns

@@ -1,13 +1,12 @@
-use Rattle.std.proofs.Common.{◌≡◌, ◌∙◌, ◌+◌, ◌-◌, ap, sym, refl, rules, arith, Ok, length, min, false, Some, ◌<◌, ◌^◌}
-use Rattle.jfs_plain.specs.declared.reply.Reply.TheVariants.{Bytes}
+use Rattle.std.proofs.Common.{◌≡◌, ◌∙◌, ◌+◌, rules, length, Some, ◌<◌, ◌^◌}
 use Rattle.jfs_plain.specs.Step.{is_short, blocks_in, size_after}
-use Rattle.jfs_plain.specs.Plain.{ample, byte_at, tree_of}
-use Rattle.jfs_plain.proofs.Chained.{same, became, and_changed, then_ok, then_within, unless_false}
-use Rattle.jfs_plain.proofs.Splice.{enough, bytes_more, bytes_none}
+use Rattle.jfs_plain.specs.Plain.{ample}
+use Rattle.jfs_plain.proofs.Chained.{became, and_changed, then_ok, then_within, unless_false}
+use Rattle.jfs_plain.proofs.Splice.{enough}
 use Rattle.jfs_plain.proofs.plain.PlainTree.write.Goals as goal
 
-pub returns : goal.returns
-returns c =
+pub returns-clause-answer : goal.returns-clause-answer
+returns-clause-answer c =
     let size : size_after c.args.self.now.file_limit c.in_ok-n.node.now.size (c.args.offset + length c.args.bytes.now) ≡ Some c.in-Some.size = search rules in
     let fits : c.args.offset + length c.args.bytes.now < 2 ^ 64 = search rules in (
       _,
