@@ -7,3 +7,4 @@ pub mod ReadBack
 pub mod Outcomes
 pub mod Spelled
 pub mod Once
+pub mod Numbers

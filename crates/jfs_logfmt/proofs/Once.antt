@@ -30,14 +30,14 @@ ranges_once (suc n) size (x ∷ xs) rs qs h s t =
     a.list ∙ ap (λ (l : List LineRange). l ++ a.range ∷ []) before ∙ ap (λ (q : LineRange). b.before ++ q ∷ []) same.1 ∙ sym b.list
 
 -- a page type by its number
-page_once : (kind other : PageKind) (new_page new_other : Bool) (n : ℕ) → n ≡ page_number (page_type kind new_page) → n ≡ page_number (page_type other new_other) → (kind ≡ other) × (new_page ≡ new_other)
+pub page_once : (kind other : PageKind) (new_page new_other : Bool) (n : ℕ) → n ≡ page_number (page_type kind new_page) → n ≡ page_number (page_type other new_other) → (kind ≡ other) × (new_page ≡ new_other)
 page_once kind other new_page new_other n h k =
     let e : Some (page_type kind new_page) ≡ Some (page_type other new_other) =
     sym (page_of-number kind new_page) ∙ ap (λ (m : ℕ). page_of m) (sym h ∙ k) ∙ page_of-number other new_other in
     let same : page_type kind new_page ≡ page_type other new_other = cc in
     (ap (λ (p : PageType). p.kind) same, ap (λ (p : PageType). p.new_page) same)
 
-map_once : (alloc other : Bool) (n : ℕ) → n ≡ map_number alloc → n ≡ map_number other → alloc ≡ other
+pub map_once : (alloc other : Bool) (n : ℕ) → n ≡ map_number alloc → n ≡ map_number other → alloc ≡ other
 map_once alloc other n h k =
     let e : Some alloc ≡ Some other = sym (map_of-number alloc) ∙ ap (λ (m : ℕ). map_of m) (sym h ∙ k) ∙ map_of-number other in cc
 

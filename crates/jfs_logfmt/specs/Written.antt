@@ -1,5 +1,5 @@
 -- The text that is written of a record: zeros where nothing is used.
-use Rattle.std.specs.Prelude.{◌≡◌, ℕ, ◌*◌, ◌/◌, ◌^◌, ◌<◌, ⊤, List, [], ◌++◌, length, flat_map, false}
+use Rattle.std.specs.Prelude.{◌≡◌, ℕ, ◌+◌, ◌*◌, ◌/◌, ◌^◌, ◌<◌, ⊤, List, [], ◌++◌, length, flat_map, false}
 use Rattle.std.specs.List.{AllByRecursion}
 use Rattle.byteorder.specs.Endian.{little_bytes}
 use Rattle.jfs_bits.specs.declared.descriptor.Pxd.{Pxd}
@@ -13,6 +13,7 @@ use Rattle.jfs_logfmt.specs.declared.log_record.Record.TheVariants as records
 use Rattle.jfs_logfmt.specs.Kinds.{type_number, page_number, page_type, map_number}
 use Rattle.jfs_bits.specs.Line.{l2_line, line_size}
 use Rattle.jfs_logfmt.specs.Descriptor.{descriptor_bytes}
+use Rattle.jfs_logfmt.specs.Text.{Spells}
 
 -- a range's bytes, its first line and its number of lines
 abbrev pub range_text : ℕ → LineRange → List ℕ
@@ -60,6 +61,22 @@ Fits (records.NoRedo tid back fileset inode kind at) = FitsPxd at
 Fits (records.Update tid back fileset inode alloc list) = AllByRecursion FitsPxd list × (length list < 2 ^ 13)
 Fits (records.Commit tid back) = ⊤
 Fits (records.SyncPt sync) = ⊤
+
+-- the record's numbers have 32 bits each, which their types say in the code
+abbrev pub HasNumbers : Record → Type 0
+HasNumbers (records.Redo tid back fileset inode kind new_page at ranges) = (tid < 2 ^ 32) × (back < 2 ^ 32) × (fileset < 2 ^ 32) × (inode < 2 ^ 32)
+HasNumbers (records.NoRedo tid back fileset inode kind at) = (tid < 2 ^ 32) × (back < 2 ^ 32) × (fileset < 2 ^ 32) × (inode < 2 ^ 32)
+HasNumbers (records.Update tid back fileset inode alloc list) = (tid < 2 ^ 32) × (back < 2 ^ 32) × (fileset < 2 ^ 32) × (inode < 2 ^ 32)
+HasNumbers (records.Commit tid back) = (tid < 2 ^ 32) × (back < 2 ^ 32)
+HasNumbers (records.SyncPt sync) = sync < 2 ^ 32
+
+-- the text that is written of a record spells it
+abbrev pub SpellsWritten : Type 0
+SpellsWritten = (r : Record) → Fits r → HasNumbers r → Spells (text_of r) r
+
+-- its data, and 36 bytes
+abbrev pub HasSize : Type 0
+HasSize = (r : Record) → length (text_of r) ≡ length (body_text r) + 36
 
 -- new is old with more at its end
 abbrev pub IsLonger : List ℕ → List ℕ → Type 0

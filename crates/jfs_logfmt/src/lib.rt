@@ -11,7 +11,8 @@ mod reading;
 mod run;
 mod writing;
 
-pub use law::spells_one_at_most;
+pub use kind::PageType;
+pub use law::{spells_one_at_most, written_is_spelled};
 pub use log_record::{BadRecord, Record, RecordError};
 pub use log_super::{LogSuper, read_log_super, write_log_super};
 pub use reading::read_record_before;

@@ -1,9 +1,9 @@
 -- A log while it is made, moment by moment.
-use Rattle.std.proofs.Common.{◌≡◌, ◌≤◌, ◌<◌, ◌+◌, ◌-◌, ℕ, List, [], ◌∷◌, ◌++◌, length, set, refl, sym, ap, subst, ◌∙◌, ◌⊎◌, inl, inr, arith}
+use Rattle.std.proofs.Common.{◌≡◌, ◌≤◌, ◌<◌, ◌+◌, ◌-◌, ℕ, List, [], ◌∷◌, ◌++◌, length, refl, sym, ap, subst, ◌∙◌, ◌⊎◌, inl, inr, arith}
 use Rattle.std.proofs.lemmas.Bool.{cases_eq}
 use Rattle.std.proofs.lemmas.List.{length-append, get_or-set_same, get_or-set_other}
 use Rattle.jfs_disk.specs.Image.{Image, page_of, ArePages}
-use Rattle.jfs_disk.specs.Crash.{DiskState, IsCrashImage, seen_of, history_of, written, failed, torn, last_of, LeftSince, AllSince, LeavesTorn, Leaves}
+use Rattle.jfs_disk.specs.Crash.{DiskState, IsCrashImage, seen_of, history_of, written, failed, torn, last_of, AllSince, LeavesTorn, Leaves}
 use Rattle.jfs_disk.specs.Moment.{now_of, IsResting, IsLawful}
 use Rattle.jfs_disk.specs.Seen.{page_of-seen_of}
 use Rattle.jfs_disk.proofs.Outcomes.{last_of-push}

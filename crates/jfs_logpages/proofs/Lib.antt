@@ -18,3 +18,8 @@ pub mod Answered
 pub mod Stops
 pub mod OneAnswer
 pub mod Begun
+pub mod WrittenRecords
+pub mod Fronts
+pub mod Positions
+pub mod OneReading
+pub mod Joined

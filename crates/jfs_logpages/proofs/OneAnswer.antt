@@ -1,15 +1,14 @@
 -- A log has one answer.
-use Rattle.std.proofs.Common.{◌≡◌, ◌≤◌, ◌<◌, ◌+◌, ◌-◌, ◌*◌, ◌/◌, ◌%◌, ℕ, zero, suc, List, [], ◌∷◌, ◌++◌, length, take, drop, map, reverse, nat_le, Bool, true, false, IsTrue, if◌then◌else◌, Result, Ok, Err, refl, sym, ap, subst, ◌∙◌, ◌⊎◌, inl, inr, arith}
+use Rattle.std.proofs.Common.{◌≡◌, ◌≤◌, ◌<◌, ◌+◌, ◌-◌, ◌*◌, ◌/◌, ◌%◌, ℕ, zero, suc, List, ◌∷◌, ◌++◌, length, take, drop, map, reverse, nat_le, Bool, true, false, IsTrue, if◌then◌else◌, Result, Ok, Err, sym, ap, subst, ◌∙◌, inl, inr, arith}
 use Rattle.std.proofs.Math.Nat.{mod-lt}
 use Rattle.std.proofs.lemmas.List.{length-append, length-take, reverse-reverse}
 use Rattle.jfs_bits.specs.Field.{range_of}
 use Rattle.jfs_logfmt.specs.Super.{is_log_super, log_super_of}
 use Rattle.jfs_bits.specs.declared.rule.Rule.{Rule}
 use Rattle.jfs_disk.specs.Image.{Image, page_of}
-use Rattle.jfs_logpages.specs.Back.{Met, FromSync}
-use Rattle.jfs_logpages.specs.Laws.{SaysSame, HasOneAnswer, LooksAtLog}
-use Rattle.jfs_logpages.specs.Outcome.{TellsNothing}
-use Rattle.jfs_logpages.specs.ReadLog.{HasSuper, label_of, IsNotOwn, BreaksSuper, BreaksRing, BreaksText, BreaksLog, IsReadAs, IsReadLog}
+use Rattle.jfs_logpages.specs.Back.{Met}
+use Rattle.jfs_logpages.specs.Laws.{HasOneAnswer, LooksAtLog}
+use Rattle.jfs_logpages.specs.ReadLog.{HasSuper, label_of, IsNotOwn, BreaksText, BreaksLog, IsReadAs, IsReadLog}
 use Rattle.jfs_logpages.specs.Ring.{slot, eor_of, body_of, bodies, text_of, IsNumbered, IsRun, Reads}
 use Rattle.jfs_logpages.specs.declared.ring_text.RingText.{RingText}
 use Rattle.jfs_logpages.specs.declared.error.RingError.{RingError}

@@ -1,17 +1,17 @@
 -- Images that a disk may hold, by the pages that were read of it.
-use Rattle.std.proofs.Common.{◌≡◌, ◌≤◌, ◌<◌, ◌+◌, ◌-◌, ◌%◌, ◌/◌, ℕ, zero, suc, min, IsTrue, List, [], ◌∷◌, ◌++◌, length, take, drop, refl, sym, ap, subst, ◌∙◌, ◌⊎◌, inl, inr, arith}
+use Rattle.std.proofs.Common.{◌≡◌, ◌≤◌, ◌<◌, ◌+◌, ◌-◌, ◌%◌, ℕ, zero, suc, min, IsTrue, List, [], ◌∷◌, ◌++◌, length, take, drop, refl, sym, ap, subst, ◌∙◌, ◌⊎◌, inl, inr, arith}
 use Rattle.std.proofs.Math.Nat.{mod-lt}
 use Rattle.std.proofs.lemmas.Bool.{cases_lt, cases_eq}
 use Rattle.std.proofs.lemmas.List.{get_or_past, get_or-drop, length-append}
 use Rattle.jfs_disk.specs.Image.{Image, page_of}
-use Rattle.jfs_bits.specs.Field.{field_of, range_of, put_bytes}
+use Rattle.jfs_bits.specs.Field.{range_of, put_bytes}
 use Rattle.jfs_bits.proofs.Ranges.{length-put_bytes, range_of-put_other}
 use Rattle.jfs_bits.proofs.Parts.{part-held, part-kept, length-range_of, field-from_range}
 use Rattle.jfs_logfmt.specs.Super.{is_log_super, log_super_of}
 use Rattle.jfs_logpages.specs.Fresh.{own_label}
 use Rattle.jfs_logpages.specs.ReadLog.{HasSuper, label_of}
-use Rattle.jfs_logpages.specs.Ring.{slot, head_number, tail_number, eor_of, body_of, bodies, text_of, IsNumbered, IsRun}
-use Rattle.jfs_logpages.specs.Marks.{mark_of, AreMarks}
+use Rattle.jfs_logpages.specs.Ring.{slot, head_number, tail_number, eor_of, body_of, bodies, text_of, IsRun}
+use Rattle.jfs_logpages.specs.Marks.{mark_of}
 use Rattle.jfs_logpages.specs.Shown.{OfSome, OfText, ring_page, AreSized, AreNumberedAs, AreMarksOf, AreBodiesOf}
 use Rattle.jfs_logpages.proofs.Filled.{page_of-log}
 use Rattle.jfs_logpages.proofs.Middle.{places-apart}

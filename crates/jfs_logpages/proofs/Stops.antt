@@ -1,5 +1,5 @@
 -- Where a reading of the records ends: at one place, and with one answer.
-use Rattle.std.proofs.Common.{◌≡◌, ◌≤◌, ◌<◌, ◌+◌, ◌-◌, ◌*◌, ◌/◌, ℕ, zero, suc, IsTrue, List, [], ◌∷◌, ◌++◌, length, take, drop, Option, Some, None, Result, Ok, Err, refl, sym, ap, subst, ◌∙◌, ◌⊎◌, inl, inr, append_assoc, arith}
+use Rattle.std.proofs.Common.{◌≡◌, ◌≤◌, ◌<◌, ◌*◌, ◌/◌, ℕ, IsTrue, List, [], ◌∷◌, ◌++◌, length, take, drop, Option, Some, None, Result, Ok, Err, refl, sym, ap, subst, ◌∙◌, ◌⊎◌, inl, inr, append_assoc, arith}
 use Rattle.std.proofs.lemmas.List.{take-append-drop, length-take-le, append-nil}
 use Rattle.jfs_bits.specs.declared.rule.Rule.{Rule}
 use Rattle.jfs_bits.specs.declared.rule.Rule.TheVariants as rules
@@ -16,7 +16,7 @@ use Rattle.jfs_logpages.proofs.Places.{gives-once}
 before-text : (start end : ℕ) (text : List ℕ) → start < end → end ≤ length text → length (take start (take end text)) ≡ start
 before-text start end text begins ends = length-take-le start (take end text) (omega (arith, begins, length-take-le end text ends))
 
-met-at : (blocks : ℕ) (text : List ℕ) (a b : Met) → a.end ≡ b.end → IsMet blocks text a → IsMet blocks text b → (a.start ≡ b.start) × (a.is ≡ b.is)
+pub met-at : (blocks : ℕ) (text : List ℕ) (a b : Met) → a.end ≡ b.end → IsMet blocks text a → IsMet blocks text b → (a.start ≡ b.start) × (a.is ≡ b.is)
 met-at blocks text a b e is other =
     let bytes = take a.end text in
     let same : take b.end text ≡ bytes = ap (λ (n : ℕ). take n text) (sym e) in
@@ -27,7 +27,7 @@ met-at blocks text a b e is other =
       one.0,
     )
 
-met-once : (blocks : ℕ) (text : List ℕ) (a b : Met) → a.end ≡ b.end → IsMet blocks text a → IsMet blocks text b → a ≡ b
+pub met-once : (blocks : ℕ) (text : List ℕ) (a b : Met) → a.end ≡ b.end → IsMet blocks text a → IsMet blocks text b → a ≡ b
 met-once blocks text a b e is other =
     let same = met-at blocks text a b e is other in
     ap (λ (n : ℕ). record { start = n; end = a.end; is = a.is }) same.0

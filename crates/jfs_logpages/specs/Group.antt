@@ -1,5 +1,5 @@
 -- The text of a group of records, and the log that it is written to.
-use Rattle.std.specs.Prelude.{◌<◌, ◌≤◌, ◌+◌, ◌-◌, ◌/◌, ℕ, suc, List, [], ◌∷◌, length, take, drop}
+use Rattle.std.specs.Prelude.{◌<◌, ◌≤◌, ◌+◌, ◌-◌, ◌*◌, ◌/◌, ℕ, suc, List, [], ◌∷◌, length, take, drop}
 use Rattle.std.specs.Coded.{×_prop, le_prop}
 use mathlib.Core.Logic.{∥∥₁_prop}
 use Rattle.jfs_disk.specs.Image.{Image}
@@ -38,6 +38,10 @@ further_pages fill size = (fill + size - 1) / 4080
 -- the number of the last page, once so many bytes are written behind the text
 abbrev pub number_after : Last → ℕ → ℕ
 number_after last size = last.number + further_pages last.fill size
+
+-- how many bytes of the log's text there are, counted from page number 0 on
+abbrev pub position_of : Last → ℕ
+position_of last = 4080 * last.number + last.fill
 
 -- the log's part holds a text whose records end at these places; the writer knows its last page
 pub record Holds (last : Last) (text ends : List ℕ) (image : Image) : Type 0 where

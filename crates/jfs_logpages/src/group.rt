@@ -5,6 +5,7 @@ ghost use Rattle.jfs_disk.specs.Crash.{last_of, AllSince, Leaves};
 ghost use Rattle.jfs_disk.specs.Moment.{IsResting, now_of};
 ghost use Rattle.jfs_disk.specs.Image.{Image};
 ghost use Rattle.jfs_disk.specs.Fault.{HasCause};
+ghost use Rattle.jfs_logpages.specs.Group.{position_of};
 ghost use Rattle.jfs_logpages.specs.Ring.{ends_with, IsGroup, IsRing, IsWritten, Mid, ReadsPrefix, AreEnds, IsLast};
 
 use crate::last::Last;
@@ -29,6 +30,7 @@ pub fn write_group<D: Disk>(
     ensures ring { last.new.ring ≡ last.old.ring }
     ensures fill { (0 < last.new.fill) × (last.new.fill ≤ 4080) }
     ensures number { OnOk result (last.new.number ≡ last.old.number + (last.old.fill + length group.now - 1) / 4080) }
+    ensures position { OnOk result (position_of last.new ≡ position_of last.old + length group.now) }
 
     // At each moment since the start a crash leaves a ring that reads as the text and then some of the group's records.
     ensures moments { D.tells → D.tells_crashes → (text old_ends : List ℕ) → IsLast last.old.ring last.old.number last.old.fill last.old.page.0 text old_ends

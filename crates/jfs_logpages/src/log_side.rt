@@ -8,7 +8,7 @@ ghost use Rattle.jfs_disk.specs.Moment.{IsResting, now_of};
 ghost use Rattle.jfs_bits.specs.Count.{Rose};
 ghost use Rattle.jfs_logfmt.specs.Written.{text_of};
 ghost use Rattle.jfs_logpages.specs.Fresh.{first_record, IsFreshLog, IsPartlyFresh, OthersStay};
-ghost use Rattle.jfs_logpages.specs.Group.{Holds, pages_of, room_of, number_after};
+ghost use Rattle.jfs_logpages.specs.Group.{Holds, pages_of, room_of, position_of, number_after};
 ghost use Rattle.jfs_logpages.specs.Ring.{ends_with, fresh_text, fresh_ends, ReadsPrefix, ReadsWhole};
 
 use crate::fault::{LogFault, LogRefused};
@@ -65,6 +65,7 @@ impl<D: Disk> LogSide<D> {
         requires place { pages ≤ D.page_count part }
         requires pages { (256 ≤ pages) × (pages ≤ 32768) }
         ensures size { IfOk result (λ side. (side.last.ring ≡ pages - 2) × (side.last.number ≡ pages - 3) × (side.last.fill ≡ 36) × (D.page_count side.part ≡ D.page_count part)) }
+        ensures position { IfOk result (λ side. position_of side.last ≡ 4080 * (pages - 3) + 36) }
         ensures counts { IfOk result (λ side. (side.durable ≡ 0) × (side.halted ≡ None) × (D.fault_count side.part ≡ D.fault_count part)) }
 
         // The part is a fresh log, its other pages are as they were, and nothing is pending.
@@ -124,6 +125,13 @@ impl<D: Disk> LogSide<D> {
         self.last.ring / 4
     }
 
+    /// How many bytes of text the log has, counted from the ring's page number 0 on. A page holds 4,080 of them.
+    pub fn position(&self) -> u64
+        ensures { result ≡ position_of self.now.last }
+    {
+        4080 * u64::from(self.last.number) + self.last.fill as u64
+    }
+
     /// Hands back the part.
     pub fn into_part(self) -> D
         ensures { result ≡ self.part }
@@ -147,7 +155,8 @@ impl<D: Disk> LogSide<D> {
         requires running { self.old.halted ≡ None }
         requires room { pages_of (length text.now.bytes.items) ≤ room_of self.old.last.ring }
         requires later { self.old.durable ≤ text.now.last }
-        requires numbers { number_after self.old.last (length text.now.bytes.items) < 2 ^ 32 }
+        // Page numbers have 32 bits.
+        requires numbers { position_of self.old.last + length text.now.bytes.items ≤ 4080 * 2 ^ 32 }
         ensures size { (self.new.last.ring ≡ self.old.last.ring) × (D.page_count self.new.part ≡ D.page_count self.old.part) }
 
         // At each moment since the start, also after a failure, a crash leaves a ring that reads as the old text and
@@ -155,14 +164,15 @@ impl<D: Disk> LogSide<D> {
         ensures moments { D.tells → D.tells_crashes → (before ends : List ℕ)
             → Holds self.old.last before ends (D.image self.old.part)
             → IsResting (last_of (D.past self.old.part))
-            → AllSince (ReadsPrefix self.old.last.ring before text.now.bytes.items text.now.ends (number_after self.old.last (length text.now.bytes.items)))
+            → AllSince (ReadsPrefix self.old.last.ring before text.now.bytes.items text.now.ends.items (number_after self.old.last (length text.now.bytes.items)))
             (D.past self.new.part) (now_of (D.past self.old.part)) }
 
         // At Ok the log is the old text and the whole group, which the ring reads as, and nothing is pending.
         ensures number { OnOk result (self.new.last.number ≡ number_after self.old.last (length text.now.bytes.items)) }
+        ensures position { OnOk result (position_of self.new.last ≡ position_of self.old.last + length text.now.bytes.items) }
         ensures holds { OnOk result (D.tells → (before ends : List ℕ)
             → Holds self.old.last before ends (D.image self.old.part)
-            → Holds self.new.last (before ++ text.now.bytes.items) (ends_with (length before) ends text.now.ends) (D.image self.new.part)
+            → Holds self.new.last (before ++ text.now.bytes.items) (ends_with (length before) ends text.now.ends.items) (D.image self.new.part)
             × ReadsWhole self.new.last.ring (before ++ text.now.bytes.items) self.new.last.number (D.image self.new.part)) }
         ensures resting { OnOk result (D.tells_crashes → IsResting (last_of (D.past self.old.part)) → IsResting (last_of (D.past self.new.part))) }
         ensures durable { OnOk result ((self.new.durable ≡ text.now.last) × (self.new.halted ≡ None) × (D.fault_count self.new.part ≡ D.fault_count self.old.part)) }

@@ -12,6 +12,17 @@ pub struct Window {
     pub size: usize,
 }
 
+/// The address just past so many bytes of the ring's text, counted from page number 0 on.
+pub fn address(ring: u32, position: u64) -> u32
+    requires ring { (0 < ring) × (ring < 2 ^ 16) }
+    requires some { 0 < position }
+    ensures { result ≡ address_at ring 0 position }
+{
+    let before = position - 1;
+    let page = (before / 4080) % u64::from(ring);
+    4096 * (2 + page as u32) + (9 + (before % 4080) as u32)
+}
+
 impl Window {
     /// The address just past so many bytes of the text.
     pub fn address(self, place: usize) -> u32

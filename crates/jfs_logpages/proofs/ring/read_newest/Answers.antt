@@ -1,4 +1,4 @@
-use Rattle.std.proofs.Common.{◌<◌, ◌+◌, ◌-◌, ◌/◌, ◌∙◌, ℕ, drop, Err, refl, sym, ap, subst, arith}
+use Rattle.std.proofs.Common.{◌<◌, ◌+◌, ◌-◌, ◌∙◌, ℕ, drop, Err, refl, sym, ap, subst, arith}
 use Rattle.jfs_bits.specs.Count.{Rose}
 use Rattle.jfs_logpages.specs.ReadLog.{BreaksRing}
 use Rattle.jfs_logpages.specs.Outcome.{IsReadFault}

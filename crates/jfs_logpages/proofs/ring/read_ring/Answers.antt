@@ -1,4 +1,4 @@
-use Rattle.std.proofs.Common.{◌∙◌, drop, refl, sym}
+use Rattle.std.proofs.Common.{◌∙◌, sym}
 use Rattle.jfs_logpages.proofs.Answered.{bad-ring, bad-text}
 use Rattle.jfs_logpages.proofs.Shown.{super-kept}
 use Rattle.jfs_logpages.proofs.ring.read_ring.Goals as goal

@@ -1,4 +1,4 @@
-use Rattle.std.proofs.Common.{◌≡◌, ◌<◌, ◌≤◌, ◌+◌, ◌-◌, ◌++◌, [], ◌∷◌, ◌^◌, ℕ, zero, suc, List, length, get_or, drop, refl, sym, ap, ◌∙◌, ◌⊎◌, inl, inr, arith}
+use Rattle.std.proofs.Common.{◌<◌, ◌≤◌, ◌-◌, ◌++◌, [], ◌∷◌, ◌^◌, ℕ, zero, suc, List, length, get_or, refl, ap, ◌∙◌, ◌⊎◌, inl, inr, arith}
 use Rattle.std.proofs.lemmas.Bool.{cases_lt}
 use Rattle.std.proofs.lemmas.List.{length-append, get_or_append_left, get_or-append_right}
 use Rattle.jfs_logpages.proofs.Shown.{marks-none, marks-read}

@@ -1,4 +1,4 @@
-use Rattle.std.proofs.Common.{◌≡◌, ◌+◌, ◌%◌, ◌∙◌, ◌++◌, ℕ, List, length, take, drop, refl, sym, ap, ◌≤◌, ◌/◌, inl, inr, arith}
+use Rattle.std.proofs.Common.{◌≡◌, ◌+◌, ◌%◌, ◌∙◌, ◌++◌, ℕ, List, length, take, drop, refl, sym, ap, ◌/◌, inl, inr, arith}
 use Rattle.std.proofs.lemmas.List.{length-append}
 use Rattle.jfs_bits.specs.Field.{range_of}
 use Rattle.jfs_disk.specs.Image.{Image, page_of}

@@ -13,7 +13,7 @@ invariant_of-self-in-Ok c =
     let old = c.args.self.now in
     let text = text_of c.args.record.now in
     record {
-      records = pushed old.bytes.items old.ends text _ _ c.len.result c.in_ok-write_record.ensures.ok (omega (arith, c.len.ensures)) c.in-Ok.ensures.ok
-          (AreRecords-push 0 old.bytes.items old.ends text c.args.record.now c.in_ok-write_record.ensures.spells old.records);
+      records = pushed old.bytes.items old.ends.items text _ _ c.len.result c.in_ok-write_record.ensures.ok (omega (arith, c.len.ensures)) c.in-Ok.ensures.items
+          (AreRecords-push 0 old.bytes.items old.ends.items text c.args.record.now c.in_ok-write_record.ensures.spells old.records);
       small = omega (arith, ap (λ (b : List ℕ). length b) c.in_ok-write_record.ensures.ok, length-append old.bytes.items text, c.requires.small);
     }
