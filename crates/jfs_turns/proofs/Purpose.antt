@@ -2,9 +2,13 @@
 use Rattle.std.proofs.Common.{◌≡◌, ℕ, List, [], ◌∷◌, ◌++◌, length, get_or, ap, sym, refl, subst, ◌∙◌, arith, cond, eqb, ne_eqb, append-nil}
 use Rattle.atomic_table.specs.Table.{State}
 use Rattle.jfs_turns.specs.Lists.{IsPrefix, Lacks, HasOwn, entries_of}
+use Rattle.jfs_turns.specs.Views.{Seated}
 use Rattle.jfs_turns.specs.Standing.{Standing}
+use Rattle.jfs_turns.specs.Told.{Learned, LearnedLog, appended, marked_points}
+use Rattle.std.proofs.Math.Nat.{le-max_left}
+use Rattle.jfs_turns.proofs.Steps.{prefix_refl}
 use Rattle.jfs_turns.specs.Rule.{Ruled}
-use Rattle.jfs_turns.specs.Laws.{Has, SeenIsPrefix, SeesItsOwn, AtMostOne, DurableIsTheLogSides, BothAgree}
+use Rattle.jfs_turns.specs.Laws.{Has, Grows, KnowledgeGrows, SeenIsPrefix, SeesItsOwn, AtMostOne, DurableIsTheLogSides, BothAgree}
 use Rattle.jfs_turns.specs.declared.view.View.{View}
 use Rattle.jfs_turns.specs.declared.view.Held.{Held}
 
@@ -19,6 +23,54 @@ module _ {E : Type 0} (client : E → ℕ) where
 
   same_own : (k : ℕ) (xs ys : List E) → HasOwn client k xs ys → entries_of client k ys ≡ entries_of client k xs
   same_own k xs ys h = ap (entries_of client k) (sym h.1) ∙ own_goes_on k xs h.0 h.2
+
+module _ {V L E : Type 0} (client : E → ℕ) where
+  stays : (m : Seated V L E) → Grows m m
+  stays m = (prefix_refl m.0.list, prefix_refl m.0.points, omega arith, omega arith, refl)
+
+  learned_grows : (m m' : Seated V L E) → Learned client m m' → Grows m m'
+  learned_grows m m' l = ((l.1.0, l.1.1), l.2, l.3, l.4, ap (λ (v : View E). v.base) l.0)
+
+  learned_log_grows : (m m' : Seated V L E) → LearnedLog m m' → Grows m m'
+  learned_log_grows m m' l = let e = l.0 in (
+    ([], append-nil m.0.list ∙ sym (ap (λ (v : View E). v.list) e)),
+    ([], append-nil m.0.points ∙ sym (ap (λ (v : View E). v.points) e)),
+    omega (arith, l.1, ap (λ (v : View E). v.durable) e),
+    omega (arith, l.2, ap (λ (v : View E). v.stable) e),
+    ap (λ (v : View E). v.base) e,
+  )
+
+  appended_grows : (m m' : Seated V L E) → appended (λ e. Unit {0}) m m' → Grows m m'
+  appended_grows m m' a = let e = a.1.2 in (
+    (a.1.0 ∷ [], sym (ap (λ (v : View E). v.list) e)),
+    ([], append-nil m.0.points ∙ sym (ap (λ (v : View E). v.points) e)),
+    omega (arith, ap (λ (v : View E). v.durable) e),
+    omega (arith, ap (λ (v : View E). v.stable) e),
+    ap (λ (v : View E). v.base) e,
+  )
+
+  points_grow : (k : ℕ) (m m' : Seated V L E) → marked_points (λ ps. Unit {0}) k m m' → Grows m m'
+  points_grow k m m' a = let t = a.1 in let e = t.4 in (
+    ([], append-nil m.0.list ∙ sym (ap (λ (v : View E). v.list) e)),
+    (t.2.0, t.2.1 ∙ sym (ap (λ (v : View E). v.points) e)),
+    omega (arith, ap (λ (v : View E). v.durable) e),
+    omega (arith, ap (λ (v : View E). v.stable) e),
+    ap (λ (v : View E). v.base) e,
+  )
+
+  pub knowledge_grows : KnowledgeGrows V L client
+  knowledge_grows m m' = let s = stays m in (
+    learned_grows m m',
+    learned_log_grows m m',
+    (λ e. subst (Grows m) (sym e) s),
+    (λ e. subst (Grows m) (sym e) s),
+    (λ e. subst (Grows m) (sym e) s),
+    appended_grows m m',
+    (λ r e. subst (Grows m) (sym e.0) (s.0, s.1, e.1, s.3, refl)),
+    (λ k e. subst (Grows m) (sym e) (s.0, s.1, le-max_left m.0.durable k, s.3, refl)),
+    (λ k e. points_grow k m m' e),
+    (λ k e. subst (Grows m) (sym e) (s.0, s.1, s.2, le-max_left m.0.stable k, refl)),
+  )
 
 module _ {V L E : Type 0} (client : E → ℕ) (of_volume : Standing V E) (of_log : Standing L E) where
   pub seen_is_prefix : SeenIsPrefix client of_volume of_log

@@ -4,7 +4,9 @@ use mathlib.Core.Option.{some}
 use lib.ListN.{get_elem?}
 use Rattle.atomic_table.specs.Table.{State}
 use Rattle.jfs_turns.specs.Lists.{IsPrefix, entries_of}
+use Rattle.jfs_turns.specs.Views.{Seated}
 use Rattle.jfs_turns.specs.Standing.{Standing}
+use Rattle.jfs_turns.specs.Told.{Learned, LearnedLog, gave_volume, gave_log, marked_taken, appended, saw_durable, raised, marked_points, marked_stable}
 use Rattle.jfs_turns.specs.Rule.{Now, words_of, Ruled}
 use Rattle.jfs_turns.specs.declared.view.View.{View}
 use Rattle.jfs_turns.specs.declared.view.Held.{Held}
@@ -12,6 +14,17 @@ use Rattle.jfs_turns.specs.declared.view.Held.{Held}
 -- the seat j is live and has the view v
 abbrev pub Has : {V L E : Type 0} → State (Held V L) (View E) → ℕ → View E → Type 0
 Has s j v = (get_elem? s.views j ≡ some v) × (v.live ≡ true)
+
+-- What a seat knows goes on: its lists are prefixes of its later ones, and its bounds never fall.
+abbrev pub Grows : {V L E : Type 0} → Seated V L E → Seated V L E → Type 0
+Grows m m' = IsPrefix m.0.list m'.0.list × IsPrefix m.0.points m'.0.points × (m.0.durable ≤ m'.0.durable) × (m.0.stable ≤ m'.0.stable) × (m'.0.base ≡ m.0.base)
+
+-- Each step of each call tells no less than was known, whatever a caller says of an entry or of syncpoints.
+abbrev pub KnowledgeGrows : {E : Type 0} → Type 0 → Type 0 → (E → ℕ) → Type 0
+KnowledgeGrows {E} V L client = (m m' : Seated V L E) →
+    (Learned client m m' → Grows m m') × (LearnedLog m m' → Grows m m') × (gave_volume m m' → Grows m m') × (gave_log m m' → Grows m m') × (marked_taken m m' → Grows m m')
+    × (appended (λ e. Unit {0}) m m' → Grows m m') × ((r : ℕ) → saw_durable m r m' → Grows m m') × ((k : ℕ) → raised k m m' → Grows m m')
+    × ((k : ℕ) → marked_points (λ ps. Unit {0}) k m m' → Grows m m') × ((k : ℕ) → marked_stable k m m' → Grows m m')
 
 module _ {V L E : Type 0} (client : E → ℕ) (of_volume : Standing V E) (of_log : Standing L E) where
   -- The lists of entries and of syncpoints that a seat has seen are prefixes of the volume's, which are as long as words 2 and 4

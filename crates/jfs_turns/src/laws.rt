@@ -1,8 +1,13 @@
 //! What the rule of the table is for.
 
-ghost use Rattle.jfs_turns.specs.Laws.{SeenIsPrefix, SeesItsOwn, AtMostOne, DurableIsTheLogSides, BothAgree};
+ghost use Rattle.jfs_turns.specs.Laws.{KnowledgeGrows, SeenIsPrefix, SeesItsOwn, AtMostOne, DurableIsTheLogSides, BothAgree};
 
 use crate::stands::{HasClient, Stands};
+
+/// A list that a seat has seen is a prefix of every list that it sees later, and its bounds on the counts never fall.
+pub fn knowledge_grows<V: Stands<E>, L: Stands<E>, E: HasClient>()
+    ensures { KnowledgeGrows V L E.client }
+{}
 
 /// A list that a seat has seen is a prefix of the volume's list, at every later moment too. So with syncpoints.
 pub fn seen_is_a_prefix<V: Stands<E>, L: Stands<E>, E: HasClient>()

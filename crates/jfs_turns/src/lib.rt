@@ -16,8 +16,8 @@ mod view;
 pub use both::BothTurns;
 pub use facts::{Based, EntryFact, PointsFact};
 pub use laws::{
-    at_most_one_holder, both_turns_agree, durable_count_is_the_log_sides, seen_is_a_prefix,
-    sees_its_own_entries,
+    at_most_one_holder, both_turns_agree, durable_count_is_the_log_sides, knowledge_grows,
+    seen_is_a_prefix, sees_its_own_entries,
 };
 pub use log_turn::LogTurn;
 pub use stands::{HasClient, Stands};
