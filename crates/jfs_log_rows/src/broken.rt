@@ -1,185 +1,109 @@
-//! The log after one change of the root's mode, and that log with one rule broken, or two.
+//! Logs with one rule broken, or two, and the rule that is told.
 
-use crate::{Trial, inode_record, push, read};
+use crate::logs::Log::{Fresh, OneChange, Zeros};
+use crate::logs::{Log, read_changed};
 use jfs_bits::Rule;
-use jfs_disk::{Disk, MemDisk, Page};
-use jfs_logfmt::Record;
-use jfs_logpages::{GroupText, RingError};
-use std::alloc::{AllocError, Global};
-use std::test::Fail as TestFail;
+use jfs_logpages::{RingError, RingText};
+use std::alloc::Global;
 
-/// The part of a log of 1,024 pages with one transaction: the line of page 29 with which the root's inode begins, and a COMMIT.
-fn one_change(alloc: Global) -> Result<MemDisk, AllocError> {
-    let mut text = GroupText::new(alloc, 0);
-    push(&mut text, &inode_record(alloc, 1)?, 1)?;
-    let commit = Record::Commit {
-        tid: 1,
-        back: 4_190_420,
-    };
-    push(&mut text, &commit, 1)?;
-    match Trial::new(MemDisk::new(alloc, 1024), 1024) {
-        Ok(trial) => match trial.write(&text) {
-            Ok(trial) => Ok(trial.into_part()),
-            Err(part) => Ok(part),
-        },
-        Err(part) => Ok(part),
+// A log whose bytes are changed, each by its page of the log, its offset and its value; and the rule that it then breaks, at that address.
+type Row = (Log, &'static [(u32, usize, u8)], u32, Rule);
+
+#[rattlefmt::skip]
+static ROWS: [Row; 38] = [
+    // One byte of the last page is changed, behind one change of mode. On that page the SYNCPT begins at 8; the REDOPAGE's line at 44, its place at 172 and its
+    // descriptor at 176; the COMMIT at 212.
+    (OneChange, &[(1023, 221, 0x20)], 4_190_456, Rule::BadType),
+    (OneChange, &[(1023, 222, 1)], 4_190_456, Rule::Length),
+    (OneChange, &[(1023, 186, 0x85)], 4_190_420, Rule::Range),
+    (OneChange, &[(1023, 202, 4)], 4_190_420, Rule::Lines),
+    (OneChange, &[(1023, 174, 2)], 4_190_420, Rule::Range),
+    (OneChange, &[(1023, 174, 0)], 4_190_420, Rule::Range),
+    (OneChange, &[(1023, 172, 0x20)], 4_190_420, Rule::Range),
+    (OneChange, &[(1023, 208, 15)], 4_190_420, Rule::Place),
+    (OneChange, &[(1023, 209, 12)], 4_190_420, Rule::Place),
+    (OneChange, &[(1023, 200, 0x10)], 4_190_420, Rule::Kind),
+    (OneChange, &[(1023, 201, 1)], 4_190_420, Rule::Kind),
+    (OneChange, &[(1023, 204, 2)], 4_190_420, Rule::Kind),
+    (OneChange, &[(1023, 216, 0xd5)], 4_190_420, Rule::Chain),
+    (OneChange, &[(1023, 212, 2)], 4_190_420, Rule::Chain),
+    (OneChange, &[(1023, 180, 1)], 4_190_252, Rule::Chain),
+    (OneChange, &[(1023, 17, 0x20)], 4_190_252, Rule::BadType),
+    (OneChange, &[(1023, 24, 1)], 4_190_252, Rule::Sync),
+    // Two bytes are changed. Records are read from the end backwards, and the rules of each are looked at in their order; the superblock comes before all.
+    (OneChange, &[(1023, 221, 0x20), (1023, 222, 1)], 4_190_456, Rule::BadType),
+    (OneChange, &[(1023, 222, 1), (1023, 202, 4)], 4_190_456, Rule::Length),
+    (OneChange, &[(1023, 202, 4), (1023, 174, 2)], 4_190_420, Rule::Lines),
+    (OneChange, &[(1023, 174, 2), (1023, 208, 15)], 4_190_420, Rule::Range),
+    (OneChange, &[(1023, 208, 15), (1023, 200, 0x10)], 4_190_420, Rule::Place),
+    (OneChange, &[(1023, 200, 0x10), (1023, 216, 0xd5)], 4_190_420, Rule::Kind),
+    (OneChange, &[(1023, 216, 0xd5), (1023, 17, 0x20)], 4_190_420, Rule::Chain),
+    (OneChange, &[(1023, 180, 1), (1023, 24, 1)], 4_190_252, Rule::Chain),
+    (OneChange, &[(1, 0, 0), (1, 52, 0x6f)], 4096, Rule::Super),
+    (OneChange, &[(1, 12, 1), (1023, 221, 0x20)], 4096, Rule::Super),
+    // The SYNCPT gives the COMMIT's end, which stands behind it: that is no place where redo may begin.
+    (OneChange, &[(1023, 24, 0xf8), (1023, 25, 0xf0), (1023, 26, 0x3f)], 4_190_252, Rule::Sync),
+    // Nowhere half a ring stands, and the last record is none: the ring is looked at first.
+    (OneChange, &[(302, 0, 0), (702, 0, 0), (1023, 221, 0x20)], 0, Rule::Ring),
+    // One byte of a fresh log is changed. The last page of the ring has the SYNCPT at 8 to 43; without it half a ring of pages still stands, with no record.
+    (Fresh, &[(1, 0, 0)], 4096, Rule::Super),
+    (Fresh, &[(1, 4, 2)], 4096, Rule::Super),
+    (Fresh, &[(1, 12, 1)], 4096, Rule::Super),
+    (Fresh, &[(1023, 0, 0)], 0, Rule::Sync),
+    (Fresh, &[(1023, 17, 0x20)], 4_190_252, Rule::BadType),
+    (Fresh, &[(1023, 18, 1)], 4_190_252, Rule::Length),
+    (Fresh, &[(1023, 24, 1)], 4_190_252, Rule::Sync),
+    // The numbers 300 and 700 don't stand, so that nowhere 511 pages in a row do.
+    (Fresh, &[(302, 0, 0), (702, 0, 0)], 0, Rule::Ring),
+    // A log of zeros has no superblock.
+    (Zeros, &[], 4096, Rule::Super),
+];
+
+/// Whether the log breaks the row's rule.
+fn breaks(alloc: Global, row: &Row) -> bool {
+    match read_changed(alloc, row.0, row.1) {
+        Err(RingError::BadLog { address, rule }) => address == row.2 && rule == row.3,
+        _ => false,
+    }
+}
+
+#[test]
+fn the_first_broken_rule_is_told(rt: HostRuntime) {
+    for i in 0..ROWS.len() {
+        assert!(rt; breaks(rt.alloc(), &ROWS[i]), "row {i}");
+    }
+}
+
+// The label is looked at before the ring.
+#[test]
+fn a_foreign_label_is_told(rt: HostRuntime) {
+    let read = read_changed(rt.alloc(), Fresh, &[(1, 52, 0x6f), (1023, 0, 0)]);
+    assert!(rt; is_foreign(&read));
+}
+
+/// Whether a log isn't read for its label.
+fn is_foreign(read: &Result<RingText, RingError>) -> bool {
+    match read {
+        Err(RingError::ForeignLog { label }) => label == b"ofsd profile 1\0\0",
+        _ => false,
     }
 }
 
 // The SYNCPT ends at 4190252, behind it the REDOPAGE has 168 bytes and the COMMIT 36.
 #[test]
-fn a_change_of_mode_is_three_records(rt: HostRuntime) -> Result<(), TestFail> {
-    let mut part = one_change(rt.alloc())?;
-    match read(rt.alloc(), &mut part, 1024) {
-        Ok(read) => {
-            let before = 510 * 4080;
-            assert_eq!(rt; read.end(), 4_190_456);
-            assert_eq!(rt;
-                read.ends(),
-                [before + 240, before + 204, before + 36].as_slice()
-            );
-            assert_eq!(rt; read.bytes().len(), 2_081_040);
-            assert_eq!(rt; read.address(2_081_004), 4_190_420);
-            assert_eq!(rt; read.address(2_080_836), 4_190_252);
-        }
+fn a_change_of_mode_is_three_records(rt: HostRuntime) {
+    match read_changed(rt.alloc(), OneChange, &[]) {
+        Ok(read) => assert!(rt; is_one_change(&read)),
         Err(_) => panic!(rt; "not read"),
     }
-    Ok(())
 }
 
-// One byte of the log's last page is changed, at this offset, and the log then breaks this rule at that address. On the page the SYNCPT
-// begins at 8; the REDOPAGE's line at 44, its place at 172 and its descriptor at 176; the COMMIT at 212.
-const ROWS: [(usize, u8, u32, Rule); 17] = [
-    (221, 0x20, 4_190_456, Rule::BadType),
-    (222, 1, 4_190_456, Rule::Length),
-    (186, 0x85, 4_190_420, Rule::Range),
-    (202, 4, 4_190_420, Rule::Lines),
-    (174, 2, 4_190_420, Rule::Range),
-    (174, 0, 4_190_420, Rule::Range),
-    (172, 0x20, 4_190_420, Rule::Range),
-    (208, 15, 4_190_420, Rule::Place),
-    (209, 12, 4_190_420, Rule::Place),
-    (200, 0x10, 4_190_420, Rule::Kind),
-    (201, 1, 4_190_420, Rule::Kind),
-    (204, 2, 4_190_420, Rule::Kind),
-    (216, 0xd5, 4_190_420, Rule::Chain),
-    (212, 2, 4_190_420, Rule::Chain),
-    (180, 1, 4_190_252, Rule::Chain),
-    (17, 0x20, 4_190_252, Rule::BadType),
-    (24, 1, 4_190_252, Rule::Sync),
-];
-
-// Two bytes are changed, each by its page, its offset and its value. Records are read from the end backwards, and the rules of each
-// are looked at in their order; the superblock comes before all.
-const PAIRS: [((u32, usize, u8), (u32, usize, u8), u32, Rule); 10] = [
-    ((1023, 221, 0x20), (1023, 222, 1), 4_190_456, Rule::BadType),
-    ((1023, 222, 1), (1023, 202, 4), 4_190_456, Rule::Length),
-    ((1023, 202, 4), (1023, 174, 2), 4_190_420, Rule::Lines),
-    ((1023, 174, 2), (1023, 208, 15), 4_190_420, Rule::Range),
-    ((1023, 208, 15), (1023, 200, 0x10), 4_190_420, Rule::Place),
-    ((1023, 200, 0x10), (1023, 216, 0xd5), 4_190_420, Rule::Kind),
-    ((1023, 216, 0xd5), (1023, 17, 0x20), 4_190_420, Rule::Chain),
-    ((1023, 180, 1), (1023, 24, 1), 4_190_252, Rule::Chain),
-    ((1, 0, 0), (1, 52, 0x6f), 4096, Rule::Super),
-    ((1, 12, 1), (1023, 221, 0x20), 4096, Rule::Super),
-];
-
-/// Changes one byte of a page.
-fn change(disk: &mut MemDisk, page: u32, at: usize, byte: u8) -> bool {
-    let mut bytes = Page::zeros();
-    if page >= disk.pages() || disk.read(page, &mut bytes).is_err() {
-        return false;
-    }
-    let _size = bytes.bytes();
-    if at < 4096 {
-        bytes.0[at] = byte;
-    }
-    disk.write(page, &bytes).is_ok()
-}
-
-#[test]
-fn one_rule_is_broken(rt: HostRuntime) -> Result<(), TestFail> {
-    for (at, byte, address, rule) in &ROWS {
-        let mut part = one_change(rt.alloc())?;
-        assert!(rt; change(&mut part, 1023, *at, *byte));
-        match read(rt.alloc(), &mut part, 1024) {
-            Err(error) => {
-                assert_eq!(rt;
-                    error,
-                    RingError::BadLog {
-                        address: *address,
-                        rule: *rule
-                    }
-                );
-            }
-            Ok(_) => panic!(rt; "read"),
-        }
-    }
-    Ok(())
-}
-
-#[test]
-fn the_first_of_two_broken_rules_is_told(rt: HostRuntime) -> Result<(), TestFail> {
-    for (one, other, address, rule) in &PAIRS {
-        let mut part = one_change(rt.alloc())?;
-        assert!(rt; change(&mut part, one.0, one.1, one.2));
-        assert!(rt; change(&mut part, other.0, other.1, other.2));
-        match read(rt.alloc(), &mut part, 1024) {
-            Err(error) => {
-                assert_eq!(rt;
-                    error,
-                    RingError::BadLog {
-                        address: *address,
-                        rule: *rule
-                    }
-                );
-            }
-            Ok(_) => panic!(rt; "read"),
-        }
-    }
-    Ok(())
-}
-
-// The SYNCPT gives the COMMIT's end, which stands behind it: that is no place where redo may begin.
-#[test]
-fn a_syncpt_gives_no_later_place(rt: HostRuntime) -> Result<(), TestFail> {
-    let mut part = one_change(rt.alloc())?;
-    assert!(rt; change(&mut part, 1023, 24, 0xf8));
-    assert!(rt; change(&mut part, 1023, 25, 0xf0));
-    assert!(rt; change(&mut part, 1023, 26, 0x3f));
-    match read(rt.alloc(), &mut part, 1024) {
-        Err(error) => {
-            assert_eq!(rt;
-                error,
-                RingError::BadLog {
-                    address: 4_190_252,
-                    rule: Rule::Sync
-                }
-            );
-        }
-        Ok(_) => panic!(rt; "read"),
-    }
-    Ok(())
-}
-
-// Nowhere half a ring stands, and the last record is none: the ring is looked at first.
-#[test]
-fn the_ring_comes_before_its_records(rt: HostRuntime) -> Result<(), TestFail> {
-    let mut part = one_change(rt.alloc())?;
-    assert!(rt; change(&mut part, 302, 0, 0));
-    assert!(rt; change(&mut part, 702, 0, 0));
-    assert!(rt; change(&mut part, 1023, 221, 0x20));
-    match read(rt.alloc(), &mut part, 1024) {
-        Err(error) => {
-            assert_eq!(rt;
-                error,
-                RingError::BadLog {
-                    address: 0,
-                    rule: Rule::Ring
-                }
-            );
-        }
-        Ok(_) => panic!(rt; "read"),
-    }
-    Ok(())
+/// Whether these are a SYNCPT and one change of mode.
+fn is_one_change(read: &RingText) -> bool {
+    let before = 510 * 4080;
+    read.end() == 4_190_456
+        && read.ends() == [before + 240, before + 204, before + 36].as_slice()
+        && read.bytes().len() == 2_081_040
+        && read.address(2_081_004) == 4_190_420
+        && read.address(2_080_836) == 4_190_252
 }

@@ -1,14 +1,15 @@
 //! Each device call of a log fails in turn, and what is read then.
 
-use crate::{Plain, Trial, group, read};
+use crate::groups::{group, read};
+use crate::plain::Plain;
+use crate::trial::Trial;
 use jfs_bits::Rule;
 use jfs_disk::{Fail, Fault, Kind, MemDisk, Part};
 use jfs_logpages::RingError;
 use std::alloc::{AllocError, Global};
-use std::test::Fail as TestFail;
 
-/// A disk of 256 pages, of whose calls of this kind one fails.
-fn disk(alloc: Global, kind: Kind, number: u64) -> Result<MemDisk, AllocError> {
+/// The call of this kind with this number fails.
+pub fn one_fail(alloc: Global, kind: Kind, number: u64) -> Result<Vec<Fail>, AllocError> {
     let fails = vec![in alloc;
         Fail {
             part: Part::Whole,
@@ -17,7 +18,12 @@ fn disk(alloc: Global, kind: Kind, number: u64) -> Result<MemDisk, AllocError> {
             last: number
         },
     ]?;
-    Ok(MemDisk::new(alloc, 256).with_fails(fails))
+    Ok(fails)
+}
+
+/// A disk of 256 pages, of whose calls of this kind one fails.
+fn disk(alloc: Global, kind: Kind, number: u64) -> Result<MemDisk, AllocError> {
+    Ok(MemDisk::new(alloc, 256).with_fails(one_fail(alloc, kind, number)?))
 }
 
 /// The part of a log of 256 pages on which two groups were written, as far as no call failed. Each has a SYNCPT, three
@@ -45,7 +51,7 @@ fn two_groups(alloc: Global, disk: MemDisk) -> Result<MemDisk, AllocError> {
 // Making the log takes 255 writes, of which the last is the superblock's, and a sync. Behind the 36 bytes on page number 253 the
 // first group takes one write, a sync, two writes and a sync, and the second one, which ends on page 258, a write, a sync, three writes
 // and a sync. Of each call: where the log ends after it failed, and how many records there are from the newest SYNCPT on.
-const ROWS: [(Kind, u64, u32, usize); 13] = [
+static ROWS: [(Kind, u64, u32, usize); 13] = [
     (Kind::Sync, 1, 1_044_524, 1),
     (Kind::Write, 256, 1_044_524, 1),
     (Kind::Sync, 2, 1_044_560, 1),
@@ -61,78 +67,69 @@ const ROWS: [(Kind, u64, u32, usize); 13] = [
     (Kind::Write, 263, 28_580, 5),
 ];
 
-#[test]
-fn a_log_ends_before_the_call_that_failed(rt: HostRuntime) -> Result<(), TestFail> {
-    for (kind, number, end, records) in &ROWS {
-        let mut part = two_groups(rt.alloc(), disk(rt.alloc(), *kind, *number)?)?;
-        match read(rt.alloc(), &mut part, 256) {
-            Ok(read) => {
-                assert_eq!(rt; read.end(), *end);
-                assert_eq!(rt; read.ends().len(), *records);
-            }
-            Err(_) => panic!(rt; "not read"),
-        }
+/// Whether the log ends there, with so many records from the newest SYNCPT on, once this call failed.
+fn ends_at(alloc: Global, row: &(Kind, u64, u32, usize)) -> Result<bool, AllocError> {
+    let mut part = two_groups(alloc, disk(alloc, row.0, row.1)?)?;
+    match read(alloc, &mut part, 256) {
+        Ok(read) => Ok(read.end() == row.2 && read.ends().len() == row.3),
+        Err(_) => Ok(false),
     }
-    Ok(())
+}
+
+#[test]
+fn a_log_ends_before_the_call_that_failed(rt: HostRuntime) {
+    for i in 0..ROWS.len() {
+        assert!(rt; ends_at(rt.alloc(), &ROWS[i]) == Ok(true), "row {i}");
+    }
+}
+
+/// Whether a log isn't read, since it has no superblock, where this write failed.
+fn has_none(alloc: Global, number: u64) -> Result<bool, AllocError> {
+    let mut part = two_groups(alloc, disk(alloc, Kind::Write, number)?)?;
+    match read(alloc, &mut part, 256) {
+        Err(RingError::BadLog { address, rule }) => Ok(address == 4096 && rule == Rule::Super),
+        _ => Ok(false),
+    }
 }
 
 // The superblock is written last, so a log that was not made has none.
 #[test]
-fn a_log_that_is_half_made_is_none(rt: HostRuntime) -> Result<(), TestFail> {
+fn a_log_that_is_half_made_is_none(rt: HostRuntime) {
     for number in 1..=255 {
-        let mut part = two_groups(rt.alloc(), disk(rt.alloc(), Kind::Write, number)?)?;
-        match read(rt.alloc(), &mut part, 256) {
-            Err(error) => {
-                assert_eq!(rt;
-                    error,
-                    RingError::BadLog {
-                        address: 4096,
-                        rule: Rule::Super
-                    }
-                );
-            }
-            Ok(_) => panic!(rt; "read"),
+        assert!(rt; has_none(rt.alloc(), number) == Ok(true), "write {number}");
+    }
+}
+
+/// Whether the log is read, as one of its reads fails: each by its count, and those behind the last one not at all.
+fn tells_reads(alloc: Global) -> Result<bool, AllocError> {
+    let mut part = two_groups(alloc, MemDisk::new(alloc, 256))?;
+    for number in 1..=383 {
+        part = part.with_fails(one_fail(alloc, Kind::Read, number)?);
+        if !tells_read(alloc, &mut part, number) {
+            return Ok(false);
         }
     }
-    Ok(())
+    Ok(true)
+}
+
+/// Whether the read that fails is told, if there are so many.
+fn tells_read(alloc: Global, part: &mut MemDisk, number: u64) -> bool {
+    match read(alloc, part, 256) {
+        Err(RingError::Read(fault)) => {
+            number <= 382
+                && fault
+                    == Fault {
+                        part: Part::Whole,
+                        count: number,
+                    }
+        }
+        Ok(_) => number == 383,
+        Err(_) => false,
+    }
 }
 
 // A log of 256 pages is read by one read of its superblock, 254 of the ring's numbers and 127 of the newest half's text.
 #[test]
-fn a_read_that_fails_is_told(rt: HostRuntime) -> Result<(), TestFail> {
-    let mut part = two_groups(rt.alloc(), MemDisk::new(rt.alloc(), 256))?;
-    for number in 1..=382 {
-        let fails = vec![in rt.alloc();
-            Fail {
-                part: Part::Whole,
-                kind: Kind::Read,
-                first: number,
-                last: number
-            },
-        ]?;
-        part = part.with_fails(fails);
-        match read(rt.alloc(), &mut part, 256) {
-            Err(error) => {
-                assert_eq!(rt;
-                    error,
-                    RingError::Read(Fault {
-                        part: Part::Whole,
-                        count: number
-                    })
-                );
-            }
-            Ok(_) => panic!(rt; "read"),
-        }
-    }
-    let fails = vec![in rt.alloc();
-        Fail {
-            part: Part::Whole,
-            kind: Kind::Read,
-            first: 383,
-            last: 383
-        },
-    ]?;
-    part = part.with_fails(fails);
-    assert!(rt; read(rt.alloc(), &mut part, 256).is_ok());
-    Ok(())
+fn a_read_that_fails_is_told(rt: HostRuntime) {
+    assert!(rt; tells_reads(rt.alloc()) == Ok(true));
 }

@@ -2,22 +2,17 @@
 
 ghost use Rattle.std.specs.Prelude.{◌<◌};
 
-use crate::{Plain, Trial, group, read};
-use jfs_disk::{Choice, Fail, Kind, MemDisk, Part};
+use crate::failing::one_fail;
+use crate::groups::{group, read};
+use crate::plain::Plain;
+use crate::trial::Trial;
+use jfs_disk::{Choice, Kind, MemDisk};
 use std::alloc::{AllocError, Global};
-use std::test::Fail as TestFail;
 
 /// The part of a log of 256 pages on which a group of 16,252 bytes was written, up to a sync that failed: a SYNCPT, four
 /// lists and a COMMIT, behind the 36 bytes on page number 253.
 fn unsynced(alloc: Global, sync: u64) -> Result<MemDisk, AllocError> {
-    let fails = vec![in alloc;
-        Fail {
-            part: Part::Whole,
-            kind: Kind::Sync,
-            first: sync,
-            last: sync
-        },
-    ]?;
+    let fails = one_fail(alloc, Kind::Sync, sync)?;
     let plain = Plain::fresh(alloc, 254)?;
     let trial = match Trial::new(MemDisk::new(alloc, 256).with_fails(fails), 256) {
         Ok(trial) => trial,
@@ -74,40 +69,50 @@ fn ends_before(alloc: Global, tears: [u32; 3]) -> Result<bool, AllocError> {
     }
 }
 
-// The page numbers 254 to 256 stand at the log's pages 2 to 4. A page that is torn stands nowhere.
+// The page numbers 254 to 256 stand at the log's pages 2 to 4. A page that is torn stands nowhere: one page after any of its sectors; and each page lost, torn
+// or whole, whatever the others are.
 #[test]
-fn a_log_ends_before_the_first_torn_page(rt: HostRuntime) -> Result<(), TestFail> {
+fn a_log_ends_before_the_first_torn_page(rt: HostRuntime) {
     for sectors in 0..=8 {
-        assert!(rt; ends_before(rt.alloc(), [sectors, 8, 8])?);
-        assert!(rt; ends_before(rt.alloc(), [8, sectors, 8])?);
-        assert!(rt; ends_before(rt.alloc(), [8, 8, sectors])?);
+        assert!(rt;
+            ends_before(rt.alloc(), [sectors, 8, 8]) == Ok(true),
+            "first {sectors}"
+        );
+        assert!(rt;
+            ends_before(rt.alloc(), [8, sectors, 8]) == Ok(true),
+            "second {sectors}"
+        );
+        assert!(rt;
+            ends_before(rt.alloc(), [8, 8, sectors]) == Ok(true),
+            "third {sectors}"
+        );
     }
-    Ok(())
+    for tears in 0..27 {
+        let sectors = [4 * (tears / 9), 4 * (tears / 3 % 3), 4 * (tears % 3)];
+        assert!(rt;
+            ends_before(rt.alloc(), sectors) == Ok(true),
+            "tears {tears}"
+        );
+    }
 }
 
-// Each page lost, torn or whole, whatever the others are.
-#[test]
-fn torn_pages_stand_nowhere(rt: HostRuntime) -> Result<(), TestFail> {
-    for first in &[0, 4, 8] {
-        for second in &[0, 4, 8] {
-            for third in &[0, 4, 8] {
-                assert!(rt; ends_before(rt.alloc(), [*first, *second, *third])?);
-            }
-        }
+/// Whether the log ends there, where the last page was written again with 36 bytes more, and so many of its front sectors are left.
+fn rewrite_ends(alloc: Global, sectors: u32) -> Result<bool, AllocError> {
+    let mut crashed = unsynced(alloc, 2)?.crashed(&[tear(255, sectors)]);
+    let end = if sectors < 8 { 1_044_524 } else { 1_044_560 };
+    match read(alloc, &mut crashed, 256) {
+        Ok(read) => Ok(read.end() == end),
+        Err(_) => Ok(false),
     }
-    Ok(())
 }
 
-// The last page is written again with 36 bytes more. Torn, it has the smaller end.
+// Torn, the last page has the smaller end.
 #[test]
-fn a_torn_rewrite_reads_as_the_old_page(rt: HostRuntime) -> Result<(), TestFail> {
+fn a_torn_rewrite_reads_as_the_old_page(rt: HostRuntime) {
     for sectors in 0..=8 {
-        let mut crashed = unsynced(rt.alloc(), 2)?.crashed(&[tear(255, sectors)]);
-        let end = if sectors < 8 { 1_044_524 } else { 1_044_560 };
-        match read(rt.alloc(), &mut crashed, 256) {
-            Ok(read) => assert_eq!(rt; read.end(), end),
-            Err(_) => panic!(rt; "not read"),
-        }
+        assert!(rt;
+            rewrite_ends(rt.alloc(), sectors) == Ok(true),
+            "{sectors} sectors"
+        );
     }
-    Ok(())
 }
