@@ -1,0 +1,14 @@
+pub mod Joined
+pub mod ReadBack
+pub mod Whole
+pub mod Chain
+pub mod ReadFronts
+pub mod Choice
+pub mod WholeCells
+pub mod Sizes
+pub mod Crashes
+pub mod SoFar
+pub mod OwnPoints
+pub mod Marked
+pub mod Steps
+pub mod Examples

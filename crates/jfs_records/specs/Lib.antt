@@ -1,0 +1,11 @@
+-- what the clauses say
+pub mod Records
+pub mod Sizes
+pub mod Entries
+pub mod Limits
+pub mod Committed
+pub mod Redo
+pub mod Marks
+pub mod Laws
+-- for the prover
+pub mod Steps
