@@ -7,7 +7,7 @@ use std::test::*;
 type Row = (&'static [Word], &'static [Found]);
 
 #[rattlefmt::skip]
-static ROWS: [Row; 30] = [
+static ROWS: [Row; 32] = [
     // A mount's rules: the files of the maps are a page too short, the block map is of another number of blocks, there is no IAG, an inode extent has three blocks, and the root
     // is a regular file. Nothing else is looked at.
     (&[(11, 1288, 4)], &[(Kind::Aggregate, 11, 4)]),
@@ -33,6 +33,11 @@ static ROWS: [Row; 30] = [
     (&[(29, 1560, 4096), (29, 1568, 1), (29, 1776, 0x0003_0083), (29, 1800, 1), (29, 1804, 29)], &[(Kind::Shared, 29, 29)]),
     // Inode 3 has attributes in block 3,008, the first one behind the volume's.
     (&[(29, 1568, 1), (29, 1640, 0x20), (29, 1648, 1), (29, 1652, 3008)], &[(Kind::Outside, 29, 3008)]),
+    // It has 16,777,215 blocks of attributes behind the volume, from block 4,000 on: the first one is told. And it has a list of access in the blocks 3,010 and 3,011 and attributes in
+    // 3,009 to 3,012: the first one of each run is told.
+    (&[(29, 1568, 0xff_ffff), (29, 1640, 0x20), (29, 1648, 0xff_ffff), (29, 1652, 4000)], &[(Kind::Outside, 29, 4000)]),
+    (&[(29, 1568, 6), (29, 1624, 0x20), (29, 1632, 2), (29, 1636, 3010), (29, 1640, 0x20), (29, 1648, 4), (29, 1652, 3009)],
+        &[(Kind::Outside, 29, 3009), (Kind::Outside, 29, 3010)]),
     // The root has the name `a`, in slot 1, of inode 9, which isn't in use; and of inode 3, which is reserved.
     (&[(29, 1264, 0x0207_0183), (29, 1272, 1), (29, 1280, 9), (29, 1284, 0x0061_01ff)], &[(Kind::Name, 29, 9)]),
     (&[(29, 1264, 0x0207_0183), (29, 1272, 1), (29, 1280, 3), (29, 1284, 0x0061_01ff)], &[(Kind::Name, 29, 3)]),

@@ -10,6 +10,7 @@ use Rattle.jfs_objects.specs.Image.{is_block_used}
 use Rattle.jfs_objects.proofs.Owned.{owned, is_bit}
 use Rattle.jfs_mount.specs.Subject.{Subject, blocks, volume}
 use Rattle.jfs_findings.specs.Names.{leads}
+use Rattle.jfs_findings.proofs.Runs.{past_first, run_is_owned}
 use Rattle.jfs_findings.specs.Trees.{BreaksExtents, of_object, of_file}
 use Rattle.jfs_findings.specs.Findings.{Says, SaysUnless}
 use Rattle.jfs_findings.specs.Clean.{HasNoFinding, IsSoundVolume}
@@ -57,8 +58,10 @@ module _ (s : Subject) (is : IsSoundVolume s) where
   says kinds.Dtree page value h = let b = h.0 in let w = is.sound.whole b.n b.o b.is.is in never_both (listed s.readers.names_order b.o.names) w.names (b.tree_page, b.rule) w.names_are b.breaks
   says kinds.Shared page value h = let two = h.0.1 in let e = agrees.blocks value in let o = is_bit ((volume s).used value) in omega (arith, two, e, o)
   says kinds.Outside page value h =
-      let some = owned s.readers (volume s) agrees h.0 value (subst (λ o. 0 < holds s.readers o value) (sym h.2.is) h.4) in
-      let e = agrees.blocks value ∙ ap bit (unused_block s value h.3) in
+      let past = past_first (blocks s) h.3 value h.5 in
+      let held = run_is_owned s.readers h.1 value h.3 h.4 past.1 in
+      let some = owned s.readers (volume s) agrees h.0 value (subst (λ o. 0 < holds s.readers o value) (sym h.2.is) held) in
+      let e = agrees.blocks value ∙ ap bit (unused_block s value past.0) in
       omega (arith, some, e)
   says kinds.Name page value h = true≢false (sym (is.names h.directory h.o h.is.is h.tree_page h.e h.stands) ∙ sym (ap (leads s) h.to) ∙ h.nothing)
   says kinds.Links page value h = h.3 (is.links value h.0 h.1.is h.2)

@@ -3,6 +3,7 @@ pub mod Stable
 pub mod Canonical
 pub mod Mounted
 pub mod Fixed
+pub mod Runs
 pub mod Clean
 pub mod InUse
 pub mod Sound

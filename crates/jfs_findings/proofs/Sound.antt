@@ -1,5 +1,5 @@
 -- A volume without findings is sound.
-use Rattle.std.proofs.Common.{◌≡◌, ◌≤◌, ◌<◌, inl, inr, refl, sym, ap, ◌∙◌, subst, ℕ, zero, suc, ◌+◌, ◌/◌, true, nat_lt, List, Option, Some, None, is_some, arith}
+use Rattle.std.proofs.Common.{◌≡◌, ◌≤◌, ◌<◌, inl, inr, refl, sym, ap, ◌∙◌, subst, ℕ, zero, suc, ◌+◌, ◌/◌, true, nat_lt, max, List, Option, Some, None, is_some, arith}
 use Rattle.std.specs.List.{Contains}
 use Rattle.std.specs.declared.result.Result.{Result}
 use Rattle.std.specs.declared.result.Result.TheVariants.{Ok, Err}
@@ -26,6 +26,7 @@ use Rattle.jfs_findings.specs.Inodes.{blocks_owned, is_past}
 use Rattle.jfs_findings.specs.Names.{readable, readable_node, most, leads, IsPlaced}
 use Rattle.jfs_findings.specs.Trees.{files, of_object, of_file}
 use Rattle.jfs_findings.specs.Blocks.{is_owned}
+use Rattle.jfs_findings.proofs.Runs.{owned_in_run, first_past}
 use Rattle.jfs_findings.specs.Maps.{has_to_be_taken, IsBlockMapPage, IsInodeMapPage}
 use Rattle.jfs_findings.specs.Findings.{Says, SaysUnless}
 use Rattle.jfs_findings.specs.Clean.{HasNoFinding, IsSoundVolume}
@@ -121,7 +122,7 @@ module _ (s : Subject) (none : HasNoFinding s) where
       by : (o : Option Object) → object s n ≡ o → holds s.readers (object s n) b ≡ 0
       by None e = ap (λ o. holds s.readers o b) e ∙ holds_none s.readers b
       by (Some o) e = elim (cases_lt 0 (holds s.readers (Some o) b)) [
-        | inl some ↦ (let at = stands n o e in absurd (says kinds.Outside at.0 b (n, o, at.1, l, some)))
+        | inl some ↦ (let at = stands n o e in let run = owned_in_run s.readers o b some in absurd (says kinds.Outside at.0 (max (blocks s) run.0.addr) (n, o, at.1, run.0, run.1, first_past (blocks s) run.0 b l run.2)))
         | inr zero_is ↦ ap (λ o. holds s.readers o b) e ∙ omega (arith, zero_is)
       ]
 

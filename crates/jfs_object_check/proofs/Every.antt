@@ -1,7 +1,10 @@
 -- All that is found of an object.
 use Rattle.std.proofs.Common.{◌≡◌, ◌≢◌, ◌⊎◌, inl, inr, refl, sym, ap, ◌∙◌, subst, ℕ, ◌+◌, ◌-◌, ◌<◌, ◌≤◌, Bool, true, false, ◌||◌, ◌==◌, nat_le, if◌then◌else◌, List, [], Option, Some, None, is_some, Result, Ok, Err, arith}
 use Rattle.std.specs.List.{list_any}
+use Rattle.std.specs.Int.RustNames.{bit_and}
 use Rattle.std.proofs.lemmas.Bool.{true≢false, cases_lt, cases_eq, eq-eqb, ne_eqb, le-leb, lt-leb}
+use Rattle.jfs_bits.specs.declared.descriptor.Pxd.{Pxd}
+use Rattle.jfs_bits.specs.declared.extent.Dxd.{Dxd}
 use Rattle.jfs_bits.specs.declared.extent.Xad.{Xad}
 use Rattle.jfs_bits.specs.declared.rule.Rule.{Rule}
 use Rattle.jfs_bits.specs.Broken.{first_broken}
@@ -13,9 +16,11 @@ use Rattle.jfs_dtree.proofs.Roots as dt
 use Rattle.jfs_xtree.specs.Node.{xt_scale}
 use Rattle.jfs_tree.specs.Spells.{tree_of}
 use Rattle.jfs_objects.specs.Objects.{Object, has_names, has_extents, names_of, extents_of, spelled, listed, met}
-use Rattle.jfs_objects.specs.Owners.{holds, unless_broken, entries, covers, dxd_has}
+use Rattle.jfs_objects.specs.Owners.{unless_broken, entries, covers, run_has, tree_held}
 use Rattle.jfs_meaning.specs.Readers.{readers, root_of}
 use Rattle.jfs_findings.specs.Inodes.{pages_met, blocks_in, attribute_blocks, blocks_owned, is_past}
+use Rattle.jfs_findings.specs.Blocks.{HasRun, of_trees, of_data, of_attributes, IsFirstPast}
+use Rattle.jfs_findings.proofs.Runs.{in_run, covers_run, past_first}
 use Rattle.jfs_findings.specs.Gains.{Gains}
 use Rattle.jfs_findings.specs.declared.finding.Finding.{Finding}
 use Rattle.jfs_findings.specs.declared.finding.FindingKind.{FindingKind}
@@ -79,15 +84,17 @@ extents_end blocks page d b w = by (has_extents d)
     by true = (pages_end blocks page d b w, data_end blocks page d b w)
     by false = (nothing (b == 4294967295), refl)
 
--- behind the end an object has the blocks of its attributes alone
-held_behind : (blocks : ℕ) (page : ℕ → List ℕ) (d : Dinode) (b : ℕ) → blocks ≤ b → holds (readers blocks) (Some (spelled (readers blocks) page d)) b ≡ dxd_has d.acl b + dxd_has d.ea b
-unfolding holds spelled
-held_behind blocks page d b w =
+-- behind the end an object has neither pages nor data
+trees_end : (blocks : ℕ) (page : ℕ → List ℕ) (d : Dinode) (b : ℕ) → blocks ≤ b → tree_held (readers blocks) (spelled (readers blocks) page d) b ≡ 0
+unfolding spelled
+trees_end blocks page d b w =
     let n = unless_zero (listed name_scale (names_of (readers blocks) page d)) (met (names_of (readers blocks) page d) b) (names_end blocks page d b w) in
-    let e = extents_end blocks page d b w in
-    let x = e.0 in
-    let y = e.1 in
-    omega (arith, n, x, y)
+    let e = (extents_end blocks page d b w).0 in
+    omega (arith, n, e)
+
+no_data_past : (blocks : ℕ) (page : ℕ → List ℕ) (d : Dinode) (b : ℕ) → blocks ≤ b → covers b (entries (listed xt_scale (spelled (readers blocks) page d).extents)) ≡ 0
+unfolding spelled
+no_data_past blocks page d b w = (extents_end blocks page d b w).1
 
 -- ---- all kinds
 
@@ -97,9 +104,6 @@ some_is None h = absurd (cc h)
 
 is_some_at : {A : Type 0} (o : Option A) (a : A) → o ≡ Some a → is_some o ≡ true
 is_some_at o a e = ap is_some e
-
-either : (a b : ℕ) → 0 < a + b → (0 < a) ⊎ (0 < b)
-either a b h = elim (cases_lt 0 a) [ inl l ↦ inl l | inr l ↦ inr (omega (arith, h, l)) ]
 
 module _ (blocks : ℕ) (page : ℕ → List ℕ) (n at : ℕ) (d : Dinode) where
   abbrev o : Object
@@ -116,18 +120,39 @@ module _ (blocks : ℕ) (page : ℕ → List ℕ) (n at : ℕ) (d : Dinode) wher
     told : (f : Finding) (kind : FindingKind) → f.kind ≡ kind → SaysOf (readers blocks) blocks page n at o kind f.page f.value → IsOf (readers blocks) blocks page n at o f
     told f kind e h = subst (λ k. SaysOf (readers blocks) blocks page n at o k f.page f.value) (sym e) h
 
-    behind : (f : Finding) (x : ℕ) → f.page ≡ at → blocks ≤ f.value → f.kind ≡ kinds.Outside → 0 < dxd_has d.acl f.value + dxd_has d.ea f.value → IsOf (readers blocks) blocks page n at o f
-    behind f x p w k h = told f kinds.Outside k (p, w, subst (λ m. 0 < m) (sym (held_behind blocks page d f.value w)) h)
+    behind : (f : Finding) (x : Dxd) → (x ≡ o.inode.acl) ⊎ (x ≡ o.inode.ea) → IsBehind blocks at x f → IsOf (readers blocks) blocks page n at o f
+    behind f x of h = told f kinds.Outside h.0 (h.1, x.at, of_attributes x of h.2 refl, h.3)
 
     to : (f : Finding) → Steps met past f → IsOf (readers blocks) blocks page n at o f
     unfolding spelled
     to f (inl h) = told f kinds.Inode h.0 (h.1, h.2, some_is (first_broken (rows d n)) h.3)
     to f (inr (inl h)) = told f kinds.Dtree h.0 (h.1, h.2)
     to f (inr (inr (inl h))) = told f kinds.Xtree h.0 (h.1, h.2)
-    to f (inr (inr (inr (inl (inl h))))) = let m = h.3 in behind f 0 h.1 h.2 h.0 (omega (arith, m))
-    to f (inr (inr (inr (inl (inr h))))) = let m = h.3 in behind f 0 h.1 h.2 h.0 (omega (arith, m))
+    to f (inr (inr (inr (inl (inl h))))) = behind f d.acl (inl refl) h
+    to f (inr (inr (inr (inl (inr h))))) = behind f d.ea (inr refl) h
     to f (inr (inr (inr (inr (inl h))))) = told f kinds.Nblocks h.0 (h.1, h.2, λ e. true≢false (sym (eq-eqb d.nblocks (blocks_owned (readers blocks) o) e) ∙ sym met_is ∙ h.3))
     to f (inr (inr (inr (inr (inr h))))) = told f kinds.Past h.0 (h.1, h.2, sym past_is ∙ h.3)
+
+    -- only a run of attributes reaches behind the end
+    outside : (p v : ℕ) → p ≡ at → (run : Pxd) → HasRun (readers blocks) o run → IsFirstPast blocks run v → Steps met past (record { kind = kinds.Outside; page = p; value = v })
+    unfolding spelled
+    outside p v p_is run (of_trees held one) first =
+        let t = past_first blocks run v first in
+        let w = t.0 in
+        let l = in_run run v t.1 in
+        let low = l.0 in
+        let high = l.1 in
+        let none = trees_end blocks page d run.addr (omega (arith, w, low, high, one)) in
+        absurd (omega (arith, held, none))
+    outside p v p_is run (of_data e among is) first =
+        let t = past_first blocks run v first in
+        let some = covers_run v (entries (listed xt_scale o.extents)) e among (subst (λ (q : Pxd). 0 < run_has q v) is t.1) in
+        let none = no_data_past blocks page d v t.0 in
+        absurd (omega (arith, some, none))
+    outside p v p_is run (of_attributes x (inl is) bit run_is) first =
+        inr (inr (inr (inl (inl (refl, p_is, subst (λ (y : Dxd). bit_and y.flag 0x20 ≡ 0x20) is bit, subst (λ (q : Pxd). IsFirstPast blocks q v) (run_is ∙ ap (λ (y : Dxd). y.at) is) first)))))
+    outside p v p_is run (of_attributes x (inr is) bit run_is) first =
+        inr (inr (inr (inl (inr (refl, p_is, subst (λ (y : Dxd). bit_and y.flag 0x20 ≡ 0x20) is bit, subst (λ (q : Pxd). IsFirstPast blocks q v) (run_is ∙ ap (λ (y : Dxd). y.at) is) first)))))
 
     from_kind : (kind : FindingKind) (p v : ℕ) → SaysOf (readers blocks) blocks page n at o kind p v → Steps met past (record { kind = kind; page = p; value = v })
     unfolding spelled
@@ -137,10 +162,7 @@ module _ (blocks : ℕ) (page : ℕ → List ℕ) (n at : ℕ) (d : Dinode) wher
     from_kind kinds.Xtree p v h = inr (inr (inl (refl, h.0, h.1)))
     from_kind kinds.Dtree p v h = inr (inl (refl, h.0, h.1))
     from_kind kinds.Shared p v h = absurd h
-    from_kind kinds.Outside p v h = elim (either (dxd_has d.acl v) (dxd_has d.ea v) (subst (λ m. 0 < m) (held_behind blocks page d v h.1) h.2)) [
-      | inl m ↦ inr (inr (inr (inl (inl (refl, h.0, h.1, m)))))
-      | inr m ↦ inr (inr (inr (inl (inr (refl, h.0, h.1, m)))))
-    ]
+    from_kind kinds.Outside p v h = outside p v h.0 h.1 h.2 h.3
     from_kind kinds.Name p v h = absurd h
     from_kind kinds.Links p v h = absurd h
     from_kind kinds.Parent p v h = absurd h

@@ -25,7 +25,7 @@ module _ (s : Subject) where
   says kinds.Xtree page value n at o is h = (of_object n at h.0.tree_page o h.0.rule is h.0.breaks h.0.on, h.1)
   says kinds.Dtree page value n at o is h = (record { n = n; inode_page = at; tree_page = h.0.tree_page; o = o; rule = h.0.rule; is = is; breaks = h.0.breaks; on = h.0.on }, h.1)
   says kinds.Shared page value n at o is h = absurd h
-  says kinds.Outside page value n at o is h = (n, o, subst (λ q. IsObject s n q o) (sym h.0) is, h.1, h.2)
+  says kinds.Outside page value n at o is h = (n, o, subst (λ q. IsObject s n q o) (sym h.0) is, h.1, h.2, h.3)
   says kinds.Name page value n at o is h = absurd h
   says kinds.Links page value n at o is h = absurd h
   says kinds.Parent page value n at o is h = absurd h
@@ -54,7 +54,7 @@ module _ (s : Subject) where
   found kinds.Xtree page value k h = of_extents page value h.0 h.1
   found kinds.Dtree page value k h = let b = h.0 in inl (b.n, b.inode_page, b.o, b.is, (record { tree_page = b.tree_page; rule = b.rule; breaks = b.breaks; on = b.on }, h.1))
   found kinds.Shared page value k h = absurd (cc k)
-  found kinds.Outside page value k h = inl (h.0, page, h.1, h.2, (refl, h.3, h.4))
+  found kinds.Outside page value k h = inl (h.0, page, h.1, h.2, (refl, h.3, h.4, h.5))
   found kinds.Name page value k h = absurd (cc k)
   found kinds.Links page value k h = absurd (cc k)
   found kinds.Parent page value k h = absurd (cc k)

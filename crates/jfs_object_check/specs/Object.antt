@@ -1,5 +1,6 @@
 -- What is found of one object: inode `n`, which stands on page `at` and spells `o`, on a volume of so many blocks.
-use Rattle.std.specs.Prelude.{◌≡◌, ◌≢◌, ◌<◌, ◌≤◌, ℕ, true, List, Some, Err}
+use Rattle.std.specs.Prelude.{◌≡◌, ◌≢◌, ℕ, true, List, Some, Err}
+use Rattle.jfs_bits.specs.declared.descriptor.Pxd.{Pxd}
 use Rattle.jfs_bits.specs.declared.rule.Rule.{Rule}
 use Rattle.jfs_bits.specs.Broken.{first_broken}
 use Rattle.jfs_inode.specs.declared.read.BadInode.{BadInode}
@@ -7,9 +8,9 @@ use Rattle.jfs_inode.specs.Rules.{rows}
 use Rattle.jfs_tree.specs.Walk.{Marks, Scale}
 use Rattle.jfs_objects.specs.Readers.{Readers}
 use Rattle.jfs_objects.specs.Objects.{Object, listed}
-use Rattle.jfs_objects.specs.Owners.{holds}
 use Rattle.jfs_mount.specs.Subject.{page_named}
 use Rattle.jfs_findings.specs.Inodes.{blocks_owned, is_past}
+use Rattle.jfs_findings.specs.Blocks.{HasRun, IsFirstPast}
 use Rattle.jfs_findings.specs.declared.finding.Finding.{Finding}
 use Rattle.jfs_findings.specs.declared.finding.FindingKind.{FindingKind}
 use Rattle.jfs_findings.specs.declared.finding.FindingKind.TheVariants as kinds
@@ -29,7 +30,7 @@ SaysOf r blocks pages n at o kinds.Inode page value = (page ≡ at) × (value �
 SaysOf r blocks pages n at o kinds.Xtree page value = BreaksOn r.extents_order o.extents at page × (value ≡ 0)
 SaysOf r blocks pages n at o kinds.Dtree page value = BreaksOn r.names_order o.names at page × (value ≡ 0)
 SaysOf r blocks pages n at o kinds.Shared page value = ⊥
-SaysOf r blocks pages n at o kinds.Outside page value = (page ≡ at) × (blocks ≤ value) × (0 < holds r (Some o) value)
+SaysOf r blocks pages n at o kinds.Outside page value = (page ≡ at) × (run : Pxd) × HasRun r o run × IsFirstPast blocks run value
 SaysOf r blocks pages n at o kinds.Name page value = ⊥
 SaysOf r blocks pages n at o kinds.Links page value = ⊥
 SaysOf r blocks pages n at o kinds.Parent page value = ⊥

@@ -1,5 +1,6 @@
 -- What a step of looking at an object answers, and which findings a list gains by it.
-use Rattle.std.specs.Prelude.{◌≡◌, ◌<◌, ◌≤◌, ℕ, Bool, true, false, Result, Ok, Err, List}
+use Rattle.std.specs.Int.RustNames.{bit_and}
+use Rattle.std.specs.Prelude.{◌≡◌, ℕ, Bool, true, false, Result, Ok, Err, List}
 use Rattle.jfs_bits.specs.declared.extent.Dxd.{Dxd}
 use Rattle.jfs_bits.specs.declared.rule.Rule.{Rule}
 use Rattle.jfs_ranges.specs.declared.view.ViewError.{ViewError}
@@ -8,8 +9,8 @@ use Rattle.jfs_tree.specs.Walk.{Marks, Scale, rows_of}
 use Rattle.jfs_tree.specs.declared.form.TreeError.{TreeError}
 use Rattle.jfs_tree.specs.declared.form.TreeError.TheVariants.{View, Bad, Memory}
 use Rattle.jfs_objects.specs.Objects.{listed}
-use Rattle.jfs_objects.specs.Owners.{dxd_has}
 use Rattle.jfs_mount.specs.Subject.{page_named}
+use Rattle.jfs_findings.specs.Blocks.{IsFirstPast}
 use Rattle.jfs_findings.specs.Gains.{Gains}
 use Rattle.jfs_findings.specs.declared.finding.Finding.{Finding}
 use Rattle.jfs_findings.specs.declared.finding.FindingKind.{FindingKind}
@@ -24,9 +25,9 @@ Only kind page value fact f = (f.kind ≡ kind) × (f.page ≡ page) × (f.value
 abbrev pub IsBroken : {P E : Type 0} → FindingKind → Scale P E → Marks P E → ℕ → Finding → Type 0
 IsBroken kind order marks at f = (f.kind ≡ kind) × BreaksOn order marks at f.page × (f.value ≡ 0)
 
--- a block of a run of attributes behind so many blocks
+-- the first block of a run of attributes that lies behind so many blocks
 abbrev pub IsBehind : ℕ → ℕ → Dxd → Finding → Type 0
-IsBehind blocks at d f = (f.kind ≡ kinds.Outside) × (f.page ≡ at) × (blocks ≤ f.value) × (0 < dxd_has d f.value)
+IsBehind blocks at d f = (f.kind ≡ kinds.Outside) × (f.page ≡ at) × (bit_and d.flag 0x20 ≡ 0x20) × IsFirstPast blocks d.at f.value
 
 -- A walk comes to its end exactly where the tree breaks no rule; else it names the first broken one, unless a page wasn't given.
 abbrev pub EndsAs : {P E T : Type 0} → Scale P E → Marks P E → Result T TreeError → Type 0

@@ -23,7 +23,7 @@ pub(crate) fn attribute_blocks(d: &Dxd) -> u32
     }
 }
 
-/// The blocks of a run of attributes that lie behind so many: a finding each.
+/// A run of attributes that reaches behind so many blocks: a finding for its first block there.
 pub(crate) fn check_run(
     blocks: u32,
     at: u32,
@@ -35,8 +35,6 @@ pub(crate) fn check_run(
     let addr = d.at.addr;
     let first = addr.max(u64::from(blocks));
     let end = addr.saturating_add(u64::from(attribute_blocks(d)));
-    for b in first..end {
-        note_if(true, FindingKind::Outside, at, b, findings)?;
-    }
+    note_if(first < end, FindingKind::Outside, at, first, findings)?;
     Ok(())
 }
