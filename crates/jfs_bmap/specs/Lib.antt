@@ -5,6 +5,7 @@ pub mod Choice
 pub mod Refusal
 pub mod Pages
 pub mod MapFile
+pub mod OwnedBlocks
 pub mod Laws
 -- lemmas and how things are kept: for the prover
 pub mod Freed

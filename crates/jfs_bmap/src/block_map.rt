@@ -138,7 +138,7 @@ impl BlockMap {
     pub fn pages(&self) -> u32
         ensures { result ≡ pages_of (length self.now.states) }
     {
-        4 + self.blocks().div_ceil(8192)
+        self.owned.file_pages()
     }
 
     /// Whether page `n` of the map's file is in use. The pages of levels above the highest in use, 1 and 2, aren't: `format` alone
@@ -146,7 +146,7 @@ impl BlockMap {
     pub fn is_in_use(&self, n: u32) -> bool
         ensures { result ≡ is_in_use (length self.now.states) n }
     {
-        n == 0 || (3 <= n && n < self.pages())
+        self.owned.is_in_use(n)
     }
 
     /// Writes page `n` of the map's file in its canonical form, those blocks set that have owners: the map's control page, the

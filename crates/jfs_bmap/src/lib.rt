@@ -9,6 +9,7 @@ mod group;
 mod law;
 mod map_file;
 mod map_pages;
+mod owned_map;
 mod page_of_set;
 mod release;
 mod reserve;
@@ -21,4 +22,5 @@ pub use law::{
     roots_make_level_zero,
 };
 pub use map_file::write_unused;
+pub use owned_map::OwnedMap;
 pub use reserve::{NoSpace, ReserveError};

@@ -1,9 +1,9 @@
 //! The pages of the block map's file.
 
-ghost use Rattle.std.specs.Prelude.{◌≤◌, ◌*◌, length};
+ghost use Rattle.std.specs.Prelude.{◌≡◌, ◌≤◌, ◌*◌, length};
 ghost use Rattle.jfs_dmapctl.specs.Control.{IsControl};
 ghost use Rattle.jfs_bmap.specs.Set.{taken_at};
-ghost use Rattle.jfs_bmap.specs.MapFile.{AreGroups, IsFirstPage, IsDmapPage, IsMapPage};
+ghost use Rattle.jfs_bmap.specs.MapFile.{AreGroups, IsFirstPage, IsDmapPage, IsMapPage, is_in_use, pages_of};
 
 use crate::map_pages::MapPages;
 use jfs_disk::Page;
@@ -11,6 +11,21 @@ use jfs_dmap::dmap_canonical;
 use jfs_dmapctl::{ctl_canonical, write_map_control};
 
 impl MapPages {
+    /// The number of pages of the file.
+    pub fn file_pages(&self) -> u32
+        ensures { result ≡ pages_of (length self.now) }
+    {
+        4 + self.blocks().div_ceil(8192)
+    }
+
+    /// Whether page `n` of the file is in use. The pages of levels above the highest in use, 1 and 2, aren't: `format` alone
+    /// writes them.
+    pub fn is_in_use(&self, n: u32) -> bool
+        ensures { result ≡ is_in_use (length self.now) n }
+    {
+        n == 0 || (3 <= n && n < self.file_pages())
+    }
+
     /// Writes page `n` of the file in its canonical form: the map's control page, the control pages of levels 2, 1 and 0, then the
     /// dmaps; one past the last has no block.
     pub fn write_page(&self, agsize: u32, n: u32, page: &mut Page)

@@ -64,7 +64,7 @@ fn check_loan<'a, D: Disk>(
 /// and how many inodes are in use. Of a volume that breaks a rule of a mount this is the only finding. Nothing is written.
 ///
 /// Each page is read twice at most for each tree or place that names it; one page is held at a time, and of a tree that is walked through one a level. Beside the
-/// findings, of which those of names are held twice at the end, it takes two bits a block and 21 bytes for each inode that there is a place for, less than two bytes a
+/// findings, of which those of names are held twice at the end, it takes two bits a block and 21 bytes for each inode that there is a place for, half a byte a
 /// block while the block map is compared, the pages of two levels of one extent tree, and the extents of the files of both maps.
 ///
 /// # Errors

@@ -7,11 +7,10 @@ use Rattle.std.proofs.lemmas.List.{get_or_past}
 use Rattle.jfs_bits.specs.declared.extent.Xad.{Xad}
 use Rattle.jfs_bits.specs.Bits.{is_taken}
 use Rattle.jfs_bits.specs.Field.{range_of}
-use Rattle.jfs_bmap.specs.Set.{each_below}
-use Rattle.jfs_bmap.specs.States.{Free, Owned, Blocks, is_owned_state, fresh}
-use Rattle.jfs_bmap.specs.States as states
+use Rattle.jfs_bmap.specs.Set.{taken_at}
+use Rattle.jfs_bmap.specs.OwnedBlocks.{OwnedBlocks, owned_of}
 use Rattle.jfs_bmap.specs.MapFile.{is_in_use, pages_of}
-use Rattle.jfs_bmap.proofs.Views.{length-each_below, each_below-at}
+use Rattle.jfs_bmap.proofs.Views.{length-each_below, taken_at-each_below}
 use Rattle.jfs_super.specs.declared.fields.Super.{Super}
 use Rattle.jfs_objects.specs.Image.{file_extents, file_page, is_block_used}
 use Rattle.jfs_mount.specs.Subject.{Subject, blocks, volume, IsFilePage, subject_of}
@@ -120,40 +119,42 @@ module _ (s : Subject) where
 
 -- the owned blocks of a map of the set
 module _ (s : Subject) (size group : ℕ) (set : List ℕ) (es : List Xad) (k : KnowsOwners s size group set es) where
-  owned_at : (b : ℕ) → states.is_owned (fresh set size group) b ≡ has_to_be_taken s b
+  abbrev blocks_in : List Bool
+  blocks_in = (owned_of set size group).owned
+
+  size_in : length blocks_in ≡ size
+  size_in = length-each_below size (is_taken set)
+
+  owned_at : (b : ℕ) → taken_at blocks_in b ≡ has_to_be_taken s b
   owned_at b = elim (cases_lt b size) [
-    | inl h ↦ ap is_owned_state (each_below-at size (λ b. if is_taken set b then Owned else Free) b Owned h) ∙ by (is_taken set b) ∙ k.owned b (in_volume b h) ∙ sym (set_is s b (in_volume b h))
-    | inr h ↦ ap is_owned_state (get_or_past (each_below size (λ b. if is_taken set b then Owned else Free)) b Owned (omega (arith, length-each_below size (λ b. if is_taken set b then Owned else Free), h))) ∙ sym (past b h)
+    | inl h ↦ taken_at-each_below size (is_taken set) b h ∙ k.owned b (in_volume b h) ∙ sym (set_is s b (in_volume b h))
+    | inr h ↦ get_or_past blocks_in b true (omega (arith, size_in, h)) ∙ sym (past b h)
   ]
     where
       in_volume : (b : ℕ) → b < size → b < blocks s
       in_volume b h = let e = k.count in omega (arith, h, e)
 
-      by : (t : Bool) → is_owned_state (if t then Owned else Free) ≡ t
-      by true = refl
-      by false = refl
-
       past : (b : ℕ) → size ≤ b → has_to_be_taken s b ≡ true
       past b h = rw (le-leb (blocks s) b (let e = k.count in omega (arith, h, e))) refl
 
-  pub block_map_gains : (xs ys : List Finding) → Gains (IsWrongBelow (length (fresh set size group).states) group (states.is_owned (fresh set size group)) s.page es (pages_of (length (fresh set size group).states))) xs ys → Gains (IsOfBlockMap s) xs ys
+  pub block_map_gains : (xs ys : List Finding) → Gains (IsWrongBelow (length blocks_in) group (taken_at blocks_in) s.page es (pages_of (length blocks_in))) xs ys → Gains (IsOfBlockMap s) xs ys
   block_map_gains xs ys g =
-      let number : length (fresh set size group).states ≡ blocks s = length-each_below size (λ b. if is_taken set b then Owned else Free) ∙ sym k.count in
-      let taken : states.is_owned (fresh set size group) ≡ has_to_be_taken s = fun_ext owned_at in
-      let one = subst (λ (n : ℕ). Gains (IsWrongBelow n group (states.is_owned (fresh set size group)) s.page es (pages_of n)) xs ys) number g in
+      let number : length blocks_in ≡ blocks s = size_in ∙ sym k.count in
+      let taken : taken_at blocks_in ≡ has_to_be_taken s = fun_ext owned_at in
+      let one = subst (λ (n : ℕ). Gains (IsWrongBelow n group (taken_at blocks_in) s.page es (pages_of n)) xs ys) number g in
       let two = subst (λ (t : ℕ → Bool). Gains (IsWrongBelow (blocks s) group t s.page es (pages_of (blocks s))) xs ys) taken one in
       let three = subst (λ (n : ℕ). Gains (IsWrongBelow (blocks s) n (has_to_be_taken s) s.page es (pages_of (blocks s))) xs ys) (sym k.groups) two in
       let four = subst (λ (e : List Xad). Gains (IsWrongBelow (blocks s) s.super.agsize (has_to_be_taken s) s.page e (pages_of (blocks s))) xs ys) (sym k.extents) three in
       gains_as (IsWrongBelow (blocks s) s.super.agsize (has_to_be_taken s) s.page (file_extents s.readers s.page 2) (pages_of (blocks s))) (IsOfBlockMap s) xs ys four (to_finding s) (from_finding s)
 
 -- a map that was made of a set has its blocks
-pub made_size : (size group : ℕ) (set : List ℕ) (map : Blocks) → map ≡ fresh set size group → length map.states ≡ size
-made_size size group set map is = ap (λ (m : Blocks). length m.states) is ∙ length-each_below size (λ b. if is_taken set b then Owned else Free)
+pub made_size : (size group : ℕ) (set : List ℕ) (map : OwnedBlocks) → map ≡ owned_of set size group → length map.owned ≡ size
+made_size size group set map is = ap (λ (m : OwnedBlocks). length m.owned) is ∙ length-each_below size (is_taken set)
 
 -- the same of such a map
-pub of_block_map : (super : Super) (page : ℕ → List ℕ) (size group : ℕ) (set : List ℕ) (es : List Xad) (map : Blocks) (xs ys : List Finding) → map ≡ fresh set size group
-    → Gains (IsWrongBelow (length map.states) map.agsize (states.is_owned map) page es (pages_of (length map.states))) xs ys
+pub of_block_map : (super : Super) (page : ℕ → List ℕ) (size group : ℕ) (set : List ℕ) (es : List Xad) (map : OwnedBlocks) (xs ys : List Finding) → map ≡ owned_of set size group
+    → Gains (IsWrongBelow (length map.owned) map.agsize (taken_at map.owned) page es (pages_of (length map.owned))) xs ys
     → KnowsOwners (subject_of super page) size group set es → Gains (IsOfBlockMap (subject_of super page)) xs ys
 of_block_map super page size group set es map xs ys is g k =
     block_map_gains (subject_of super page) size group set es k xs ys
-    (subst (λ (m : Blocks). Gains (IsWrongBelow (length m.states) m.agsize (states.is_owned m) page es (pages_of (length m.states))) xs ys) is g)
+    (subst (λ (m : OwnedBlocks). Gains (IsWrongBelow (length m.owned) m.agsize (taken_at m.owned) page es (pages_of (length m.owned))) xs ys) is g)

@@ -4,7 +4,7 @@ ghost use Rattle.std.specs.Prelude.{◌≡◌, ◌+◌, ◌*◌, ◌%◌, ◌^�
 ghost use Rattle.jfs_disk.specs.Image.{page_of};
 ghost use Rattle.jfs_bits.specs.Field.{range_of};
 ghost use Rattle.jfs_super.specs.declared.fields.Super.{Super};
-ghost use Rattle.jfs_bmap.specs.States.{is_owned};
+ghost use Rattle.jfs_bmap.specs.Set.{taken_at};
 ghost use Rattle.jfs_bmap.specs.MapFile.{AreGroups, IsMapPage, is_in_use, pages_of};
 ghost use Rattle.jfs_objects.specs.Contents.{block_of};
 ghost use Rattle.jfs_reader.specs.Reading.{CarriesRead, OutsideIsPast};
@@ -16,7 +16,7 @@ ghost use Rattle.jfs_map_check.specs.Findings.{KnowsOwners, IsOfBlockMap, SomeIs
 use crate::block_page::is_canonical;
 use crate::compare::same_word;
 use jfs_bits::{Xad, bit};
-use jfs_bmap::BlockMap;
+use jfs_bmap::OwnedMap;
 use jfs_disk::Page;
 use jfs_findings::{Finding, FindingKind};
 use jfs_mount::from_block;
@@ -26,7 +26,7 @@ use std::alloc::{AllocError, Global};
 
 /// Adds the findings of the block map to a list: each page of its file that isn't canonical in what is compared, and each block whose bit in the
 /// persistent map differs from its having an owner. `owned` has a bit for each block of the volume, in words as in the maps, set where the block has an
-/// owner; `extents` are those of the map's file, and a page without a block is passed over. Reads each page once, and takes less than two bytes a block.
+/// owner; `extents` are those of the map's file, and a page without a block is passed over. Reads each page once, and takes half a byte a block and some pages.
 /// An error is the view's, want of memory, or `Outside`, where the extents name a block past the volume's end. (JFS Layout, block map.)
 pub fn check_block_map<V: PageView>(
     alloc: Global,
@@ -50,7 +50,7 @@ pub fn check_block_map<V: PageView>(
         Gains (IsOfBlockMap (subject_of super (page_of (V.PageView.image view.old)))) findings.old.items findings.new.items) }
 {
     let blocks = view.blocks();
-    let map = match BlockMap::from_set(alloc, owned, blocks, agsize) {
+    let map = match OwnedMap::from_set(alloc, owned, blocks, agsize) {
         Ok(map) => map,
         Err(_) => return Err(ReadError::View(ViewError::Memory)),
     };
@@ -60,18 +60,18 @@ pub fn check_block_map<V: PageView>(
 /// Adds the findings of all pages of the map's file.
 fn check_pages<V: PageView>(
     view: &mut V,
-    map: &BlockMap,
+    map: &OwnedMap,
     extents: &[Xad],
     findings: &mut Vec<Finding>,
 ) -> Result<(), ReadError>
-    requires { length map.now.states ≡ V.PageView.block_count view.old }
+    requires { length map.now.owned ≡ V.PageView.block_count view.old }
     ensures image { V.PageView.tells → V.PageView.image view.new ≡ V.PageView.image view.old }
     ensures count_of_blocks { V.PageView.block_count view.new ≡ V.PageView.block_count view.old }
     ensures device { V.PageView.device view.new ≡ V.PageView.device view.old }
     ensures fault { CarriesRead (V.PageView.fault_count view.old) (V.PageView.fault_count view.new) result }
     ensures outside { IfErr result (SomeIsPast (V.PageView.block_count view.old) extents.now) }
     ensures findings { V.PageView.tells → IfOk result (λ it.
-        Gains (IsWrongBelow (length map.now.states) map.now.agsize (is_owned map.now) (page_of (V.PageView.image view.old)) extents.now (pages_of (length map.now.states))) findings.old.items findings.new.items) }
+        Gains (IsWrongBelow (length map.now.owned) map.now.agsize (taken_at map.now.owned) (page_of (V.PageView.image view.old)) extents.now (pages_of (length map.now.owned))) findings.old.items findings.new.items) }
 {
     let mut canonical = Page::zeros();
     let mut rest = extents;
@@ -85,20 +85,20 @@ fn check_pages<V: PageView>(
 /// Adds the findings of page `j` of the map's file.
 fn check_page<V: PageView>(
     view: &mut V,
-    map: &BlockMap,
+    map: &OwnedMap,
     extents: &[Xad],
     j: u32,
     canonical: &mut Page,
     findings: &mut Vec<Finding>,
 ) -> Result<(), ReadError>
-    requires { length map.now.states ≡ V.PageView.block_count view.old }
+    requires { length map.now.owned ≡ V.PageView.block_count view.old }
     ensures image { V.PageView.tells → V.PageView.image view.new ≡ V.PageView.image view.old }
     ensures count_of_blocks { V.PageView.block_count view.new ≡ V.PageView.block_count view.old }
     ensures device { V.PageView.device view.new ≡ V.PageView.device view.old }
     ensures fault { CarriesRead (V.PageView.fault_count view.old) (V.PageView.fault_count view.new) result }
     ensures outside { IfErr result (OutsideIsPast (V.PageView.block_count view.old) (block_of extents.now j)) }
     ensures findings { V.PageView.tells → IfOk result (λ it.
-        Gains (IsWrongIn (length map.now.states) map.now.agsize (is_owned map.now) (page_of (V.PageView.image view.old)) extents.now j) findings.old.items findings.new.items) }
+        Gains (IsWrongIn (length map.now.owned) map.now.agsize (taken_at map.now.owned) (page_of (V.PageView.image view.old)) extents.now j) findings.old.items findings.new.items) }
 {
     if !map.is_in_use(j) {
         return Ok(());
@@ -116,16 +116,16 @@ fn check_page<V: PageView>(
 
 /// Adds what is wrong with page `j` of the map's file, which stands on page `n`.
 fn note_page(
-    map: &BlockMap,
+    map: &OwnedMap,
     j: u32,
     n: u32,
     page: &Page,
     canonical: &mut Page,
     findings: &mut Vec<Finding>,
 ) -> Result<(), ReadError>
-    requires { is_in_use (length map.now.states) j ≡ true }
+    requires { is_in_use (length map.now.owned) j ≡ true }
     ensures memory { IfErr result (λ e. e ≡ ReadError.View ViewError.Memory) }
-    ensures findings { IfOk result (λ it. Gains (IsWrongAt (length map.now.states) map.now.agsize (is_owned map.now) j n page.now.0) findings.old.items findings.new.items) }
+    ensures findings { IfOk result (λ it. Gains (IsWrongAt (length map.now.owned) map.now.agsize (taken_at map.now.owned) j n page.now.0) findings.old.items findings.new.items) }
 {
     match note_all(map, j, n, page, canonical, findings) {
         Ok(()) => Ok(()),
@@ -135,15 +135,15 @@ fn note_page(
 
 /// The same; an error is want of memory. A canonical page has each block's bit.
 fn note_all(
-    map: &BlockMap,
+    map: &OwnedMap,
     j: u32,
     n: u32,
     page: &Page,
     canonical: &mut Page,
     findings: &mut Vec<Finding>,
 ) -> Result<(), AllocError>
-    requires { is_in_use (length map.now.states) j ≡ true }
-    ensures { IfOk result (λ it. Gains (IsWrongAt (length map.now.states) map.now.agsize (is_owned map.now) j n page.now.0) findings.old.items findings.new.items) }
+    requires { is_in_use (length map.now.owned) j ≡ true }
+    ensures { IfOk result (λ it. Gains (IsWrongAt (length map.now.owned) map.now.agsize (taken_at map.now.owned) j n page.now.0) findings.old.items findings.new.items) }
 {
     let passed = note_canonical(map, j, n, page, canonical, findings)?;
     if passed || j < 4 {
@@ -156,16 +156,16 @@ fn note_all(
 
 /// Adds a page that isn't canonical in what is compared, and tells whether it is. `canonical` gets the page in its canonical form.
 fn note_canonical(
-    map: &BlockMap,
+    map: &OwnedMap,
     j: u32,
     n: u32,
     page: &Page,
     canonical: &mut Page,
     findings: &mut Vec<Finding>,
 ) -> Result<bool, AllocError>
-    ensures canonical { IsMapPage (length map.now.states) map.now.agsize (is_owned map.now) j canonical.new.0 }
-    ensures passed { IfOk result (λ passed. IsTrue passed → IsMapPageAs (length map.now.states) map.now.agsize (is_owned map.now) j page.now.0) }
-    ensures findings { IfOk result (λ passed. Gains (IsWrongPage (length map.now.states) map.now.agsize (is_owned map.now) j n page.now.0) findings.old.items findings.new.items) }
+    ensures canonical { IsMapPage (length map.now.owned) map.now.agsize (taken_at map.now.owned) j canonical.new.0 }
+    ensures passed { IfOk result (λ passed. IsTrue passed → IsMapPageAs (length map.now.owned) map.now.agsize (taken_at map.now.owned) j page.now.0) }
+    ensures findings { IfOk result (λ passed. Gains (IsWrongPage (length map.now.owned) map.now.agsize (taken_at map.now.owned) j n page.now.0) findings.old.items findings.new.items) }
 {
     if is_canonical(map, j, page, canonical) {
         return Ok(true);

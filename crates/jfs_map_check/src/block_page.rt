@@ -2,21 +2,21 @@
 
 ghost use Rattle.std.specs.Prelude.{◌<◌, ◌↔◌, ◌^◌, length, IsTrue};
 ghost use Rattle.jfs_bits.specs.Field.{field_of};
-ghost use Rattle.jfs_bmap.specs.States.{is_owned};
+ghost use Rattle.jfs_bmap.specs.Set.{taken_at};
 ghost use Rattle.jfs_bmap.specs.MapFile.{IsMapPage};
 ghost use Rattle.jfs_map_check.specs.Compared.{IsSameControl};
 ghost use Rattle.jfs_findings.specs.Maps.{IsMapPageAs};
 
 use crate::compare::{agree_outside, same_groups};
 use jfs_bits::{get_u8, get_u32, get_u64};
-use jfs_bmap::BlockMap;
+use jfs_bmap::OwnedMap;
 use jfs_disk::Page;
 
 /// Whether page `n` of a block map's file is canonical in what is compared, where these blocks have owners. `canonical` gets the
 /// page in its canonical form.
-pub fn is_canonical(map: &BlockMap, n: u32, page: &Page, canonical: &mut Page) -> bool
-    ensures canonical { IsMapPage (length map.now.states) map.now.agsize (is_owned map.now) n canonical.new.0 }
-    ensures page { IsTrue result ↔ IsMapPageAs (length map.now.states) map.now.agsize (is_owned map.now) n page.now.0 }
+pub fn is_canonical(map: &OwnedMap, n: u32, page: &Page, canonical: &mut Page) -> bool
+    ensures canonical { IsMapPage (length map.now.owned) map.now.agsize (taken_at map.now.owned) n canonical.new.0 }
+    ensures page { IsTrue result ↔ IsMapPageAs (length map.now.owned) map.now.agsize (taken_at map.now.owned) n page.now.0 }
 {
     map.write_page(n, canonical);
     match n {

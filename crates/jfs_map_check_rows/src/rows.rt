@@ -1,6 +1,6 @@
 //! Rows of changes, worked out by hand from the format.
 
-use crate::{full_iag_passes, iag_passes, passes, small_map};
+use crate::changed::{full_iag_passes, iag_passes, passes, small_map};
 
 // Pages of the block map's file and places where a change is told: of the control page its numbers, of level 0 its head, root and
 // leaves, of a dmap its counts, tree, and both maps, up to the bit past the last block.

@@ -1,6 +1,6 @@
 use Rattle.std.proofs.Common.{◌≡◌, Some, length, sym, ◌∙◌}
 use Rattle.jfs_disk.specs.Image.{page_of}
-use Rattle.jfs_bmap.specs.States.{is_owned}
+use Rattle.jfs_bmap.specs.Set.{taken_at}
 use Rattle.jfs_objects.specs.Contents.{block_of}
 use Rattle.jfs_findings.specs.Gains.{Gains}
 use Rattle.jfs_map_check.specs.Findings.{IsWrongAt, IsWrongIn}
@@ -14,8 +14,8 @@ returns-in-Ok-clause-findings g c tells =
     let pages = page_of (g.V.PageView.image c.args.view.now) in
     let n = c.in-Ok-Some.n in
     let at : block_of c.args.extents.now c.args.j ≡ Some n = cc (c.in-Ok-Some.ensures.0) in
-    if_ok (Gains (IsWrongAt (length m.states) m.agsize (is_owned m) c.args.j n c.in-Ok.page.now.0) c.args.findings.now.items c.note_page.new.findings.items)
-    (Gains (IsWrongIn (length m.states) m.agsize (is_owned m) pages c.args.extents.now c.args.j) c.args.findings.now.items c.note_page.new.findings.items)
+    if_ok (Gains (IsWrongAt (length m.owned) m.agsize (taken_at m.owned) c.args.j n c.in-Ok.page.now.0) c.args.findings.now.items c.note_page.new.findings.items)
+    (Gains (IsWrongIn (length m.owned) m.agsize (taken_at m.owned) pages c.args.extents.now c.args.j) c.args.findings.now.items c.note_page.new.findings.items)
     c.note_page.result
-    (there (length m.states) m.agsize (is_owned m) pages c.args.extents.now c.args.j n c.in-Ok.page.now.0 c.args.findings.now.items c.note_page.new.findings.items (sym c.is_in_use.ensures ∙ c.if-not-is_in_use.false) at (c.in-Ok.ensures.bytes tells))
+    (there (length m.owned) m.agsize (taken_at m.owned) pages c.args.extents.now c.args.j n c.in-Ok.page.now.0 c.args.findings.now.items c.note_page.new.findings.items (sym c.is_in_use.ensures ∙ c.if-not-is_in_use.false) at (c.in-Ok.ensures.bytes tells))
     c.note_page.ensures.findings

@@ -2,7 +2,7 @@ use Rattle.std.proofs.Common.{◌≡◌, length, subst, ◌∙◌, arith}
 use Rattle.std.specs.Prelude.{Option, ℕ}
 use Rattle.std.proofs.lemmas.Result.{err_from_is_err_and}
 use Rattle.jfs_disk.specs.Image.{Image, page_of}
-use Rattle.jfs_bmap.specs.States.{is_owned}
+use Rattle.jfs_bmap.specs.Set.{taken_at}
 use Rattle.jfs_objects.specs.Contents.{block_of}
 use Rattle.jfs_reader.specs.Reading.{OutsideIsPast}
 use Rattle.jfs_findings.specs.Gains.{Gains}
@@ -26,9 +26,9 @@ loop-j-preserved g c =
       device = e.device ∙ i.device;
       fault = e.fault ∙ i.fault;
       findings = λ tells.
-          one_more (length m.states) m.agsize (is_owned m) pages c.args.extents.now c.loop-j.j c.args.findings.now.items c.loop-j.findings.items c.check_page.new.findings.items (i.findings tells)
-          (from_rest (length m.states) m.agsize (is_owned m) pages c.args.extents.now c.loop-j.j rest c.loop-j.findings.items c.check_page.new.findings.items here
-          (subst (λ (z : Image). Gains (IsWrongIn (length m.states) m.agsize (is_owned m) (page_of z) rest c.loop-j.j) c.loop-j.findings.items c.check_page.new.findings.items) (i.image tells) (e.findings tells)));
+          one_more (length m.owned) m.agsize (taken_at m.owned) pages c.args.extents.now c.loop-j.j c.args.findings.now.items c.loop-j.findings.items c.check_page.new.findings.items (i.findings tells)
+          (from_rest (length m.owned) m.agsize (taken_at m.owned) pages c.args.extents.now c.loop-j.j rest c.loop-j.findings.items c.check_page.new.findings.items here
+          (subst (λ (z : Image). Gains (IsWrongIn (length m.owned) m.agsize (taken_at m.owned) (page_of z) rest c.loop-j.j) c.loop-j.findings.items c.check_page.new.findings.items) (i.image tells) (e.findings tells)));
     }
 
 pub returns-in_err-check_page-clause-outside : goal.returns-in_err-check_page-clause-outside

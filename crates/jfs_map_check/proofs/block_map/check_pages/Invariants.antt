@@ -1,6 +1,6 @@
 use Rattle.std.proofs.Common.{◌≡◌, ◌≤◌, ℕ, length}
 use Rattle.jfs_disk.specs.Image.{page_of}
-use Rattle.jfs_bmap.specs.States.{is_owned}
+use Rattle.jfs_bmap.specs.Set.{taken_at}
 use Rattle.jfs_objects.specs.Contents.{block_of}
 use Rattle.jfs_findings.specs.Gains.{Gains}
 use Rattle.jfs_map_check.specs.Findings.{IsWrongBelow}
@@ -13,5 +13,5 @@ invariant-loop-j g l = record {
   count_of_blocks : g.V.PageView.block_count l.view ≡ g.V.PageView.block_count l.fn.view;
   device : g.V.PageView.device l.view ≡ g.V.PageView.device l.fn.view;
   fault : g.V.PageView.fault_count l.view ≡ g.V.PageView.fault_count l.fn.view;
-  findings : g.V.PageView.tells → Gains (IsWrongBelow (length l.map.states) l.map.agsize (is_owned l.map) (page_of (g.V.PageView.image l.fn.view)) l.extents l.j) l.fn.findings.items l.findings.items;
+  findings : g.V.PageView.tells → Gains (IsWrongBelow (length l.map.owned) l.map.agsize (taken_at l.map.owned) (page_of (g.V.PageView.image l.fn.view)) l.extents l.j) l.fn.findings.items l.findings.items;
 }
