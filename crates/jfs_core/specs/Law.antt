@@ -9,7 +9,7 @@ use Rattle.jfs_core.specs.declared.step.StepRefused.{StepRefused}
 use Rattle.jfs_core.specs.declared.step.RunError.TheVariants.{Refused}
 use Rattle.jfs_core.specs.Image.{AgreesOnMeta}
 use Rattle.jfs_core.specs.Core.{Core, low_of}
-use Rattle.jfs_core.specs.Step.{AreAllowed, after_steps, does, told_page}
+use Rattle.jfs_core.specs.Step.{AreAllowed, IsAllowed, after_steps, does, told_page}
 use Rattle.jfs_core.specs.Run.{IsRun}
 use Rattle.jfs_core.specs.Sound.{IsSound, IsLogImage, Survives}
 
@@ -17,6 +17,10 @@ use Rattle.jfs_core.specs.Sound.{IsSound, IsLogImage, Survives}
 abbrev pub AcknowledgedEntriesSurvive : Type 0
 AcknowledgedEntriesSurvive = (core : Core) (steps : List Step) → IsSound core → AreAllowed core steps → (low : Image) (c n : ℕ) →
     IsCrashImage (low_of (after_steps core steps)) low → IsLogImage (after_steps core steps) c n → Survives core (after_steps core steps) low c n
+
+-- Each allowed step keeps a sound core sound.
+abbrev pub StepsKeepCoresSound : Type 0
+StepsKeepCoresSound = (core : Core) (step : Step) → IsAllowed core step → IsSound core → IsSound (does core step)
 
 -- What a step writes is what the device calls write: a step home writes its page, one that fails tears it, a low sync
 -- settles, and no other step touches the disk.

@@ -1,11 +1,16 @@
 //! What the core is for.
 
-ghost use Rattle.jfs_core.specs.Law.{AcknowledgedEntriesSurvive, StepsAreDeviceCalls, RefusedIsNotAllowed, AgreementIsEquality};
+ghost use Rattle.jfs_core.specs.Law.{AcknowledgedEntriesSurvive, StepsKeepCoresSound, StepsAreDeviceCalls, RefusedIsNotAllowed, AgreementIsEquality};
 
 /// For every list of allowed steps from a sound core, and whatever a crash then leaves, redo gives the image after the first
 /// entries of the history, and all that were acknowledged before the steps are among them.
 pub fn acknowledged_entries_survive()
     ensures { AcknowledgedEntriesSurvive }
+{}
+
+/// Each step that is allowed in a sound core leaves a sound core.
+pub fn steps_keep_cores_sound()
+    ensures { StepsKeepCoresSound }
 {}
 
 /// What each step does to the low part is what the calls of a disk do: a write back is a write of its page, a failed one a

@@ -15,7 +15,7 @@ mod step;
 
 pub use law::{
     acknowledged_entries_survive, agreement_is_equality, refused_is_not_allowed,
-    steps_are_device_calls,
+    steps_are_device_calls, steps_keep_cores_sound,
 };
 pub use run::run_steps;
 pub use state::CoreState;

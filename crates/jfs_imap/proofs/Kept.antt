@@ -90,10 +90,10 @@ pub place-taken : (iags numag : ℕ) (set : List ℕ) (extents : List Pxd) (havi
 place-taken iags numag set extents having lacking e k clear within =
     not_false (is_there (get_or extents e no_run)) (sym (and_true (nat_lt e (128 * iags)) (not (is_there (get_or extents e no_run))) (lt-ltb e (128 * iags) (omega (arith, within, k.extents_size)))) ∙ sym (k.places e) ∙ clear)
 
-pub needs-extent : (iags numag agsize : ℕ) (set : List ℕ) (extents : List Pxd) (having lacking : List Bool) (e : ℕ) → AreKept iags numag set extents having lacking → IsFirstMarked having None → IsFirstMarked lacking (Some e) → IsPick (inodes_of set extents iags agsize numag) NeedsExtent
+pub needs-extent : (iags numag agsize : ℕ) (set : List ℕ) (extents : List Pxd) (having lacking : List Bool) (e : ℕ) → AreKept iags numag set extents having lacking → IsFirstMarked having None → IsFirstMarked lacking (Some e) → IsPick (inodes_of set extents iags agsize numag) (NeedsExtent e)
 needs-extent iags numag agsize set extents having lacking e k none first =
     let p = place-there iags numag set extents having lacking e k first.1 in
-    (none-free iags numag agsize set extents having lacking k none, (e, p.0, p.1))
+    (none-free iags numag agsize set extents having lacking k none, (p.0, p.1, λ q h. place-taken iags numag set extents having lacking q k (first.2 q h) (omega (arith, h, p.0))))
 
 pub no-inodes : (iags numag agsize : ℕ) (set : List ℕ) (extents : List Pxd) (having lacking : List Bool) → AreKept iags numag set extents having lacking → IsFirstMarked having None → IsFirstMarked lacking None → IsPick (inodes_of set extents iags agsize numag) NoInodes
 no-inodes iags numag agsize set extents having lacking k none full =

@@ -1,5 +1,5 @@
 -- The inodes of a volume, as its inode map knows them.
-use Rattle.std.specs.Prelude.{◌≡◌, ℕ, ◌+◌, ◌*◌, ◌%◌, ◌<◌, ◌≤◌, ◌&&◌, Bool, true, false, not, nat_le, nat_lt, if◌then◌else◌, List, length, get_or, map, set}
+use Rattle.std.specs.Prelude.{◌≡◌, ℕ, ◌+◌, ◌*◌, ◌/◌, ◌%◌, ◌<◌, ◌≤◌, ◌&&◌, Bool, true, false, not, nat_le, nat_lt, if◌then◌else◌, List, length, get_or, map, set, Option, Some, None}
 use Rattle.std.specs.List.{range_with_len}
 use Rattle.jfs_bits.specs.declared.descriptor.Pxd.{Pxd}
 use Rattle.jfs_bits.specs.Bits.{is_taken, is_in_run}
@@ -29,6 +29,13 @@ extent_at m e = get_or m.extents e no_run
 abbrev pub is_free : Inodes → ℕ → Bool
 is_free m i = is_free_inode (is_used m) (extent_at m) i
 
+-- the page of inode `i` in its extent, and in the map, where its extent is there: it has slot `i % 8` of that page
+abbrev pub home_in : Pxd → ℕ → Option ℕ
+home_in extent i = if is_there extent then Some (extent.addr + i % 32 / 8) else None
+
+abbrev pub home_of : Inodes → ℕ → Option ℕ
+home_of m i = home_in (extent_at m (i / 32)) i
+
 -- the bits of the first `n` numbers of a map
 abbrev pub bits_of : ℕ → List ℕ → List Bool
 bits_of n set = map (is_taken set) (range_with_len 0 n)
@@ -40,10 +47,14 @@ inodes_of set extents iags agsize numag = record { taken = bits_of (4096 * iags)
 abbrev pub NoneFree : Inodes → Type 0
 NoneFree m = (i : ℕ) → is_free m i ≡ false
 
+-- the lowest place without an extent
+abbrev pub IsLowestPlace : Inodes → ℕ → Type 0
+IsLowestPlace m e = (e < length m.extents) × (is_there (extent_at m e) ≡ false) × ((p : ℕ) → p < e → is_there (extent_at m p) ≡ true)
+
 -- the lowest free inode; an extent is needed where none is free and a place for one is; else there is no inode
 abbrev pub IsPick : Inodes → Pick → Type 0
 IsPick m (Number n) = (is_free m n ≡ true) × ((i : ℕ) → i < n → is_free m i ≡ false)
-IsPick m NeedsExtent = NoneFree m × ((e : ℕ) × (e < length m.extents) × (is_there (extent_at m e) ≡ false))
+IsPick m (NeedsExtent place) = NoneFree m × IsLowestPlace m place
 IsPick m NoInodes = NoneFree m × ((e : ℕ) → e < length m.extents → is_there (extent_at m e) ≡ true)
 
 -- inode `n` taken, and given back: one below 4 or one that isn't in use stays as it is
@@ -52,10 +63,6 @@ with_taken n m = record m { taken = set m.taken n true }
 
 abbrev pub with_put_back : ℕ → Inodes → Inodes
 with_put_back n m = if nat_le 4 n && is_used m n then record m { taken = set m.taken n false } else m
-
--- the lowest place without an extent
-abbrev pub IsLowestPlace : Inodes → ℕ → Type 0
-IsLowestPlace m e = (e < length m.extents) × (is_there (extent_at m e) ≡ false) × ((p : ℕ) → p < e → is_there (extent_at m p) ≡ true)
 
 -- an extent put into place `e`: its 32 inodes are free
 abbrev pub with_extent : ℕ → Pxd → Inodes → Inodes

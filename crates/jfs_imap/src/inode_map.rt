@@ -18,8 +18,8 @@ use std::marker::Model;
 pub enum Pick {
     /// The lowest free number.
     Number(u32),
-    /// No inode is free, but a place for an inode extent is.
-    NeedsExtent,
+    /// No inode is free, but a place for an inode extent is: the lowest one, whose first inode is `32 * place`.
+    NeedsExtent { place: u32 },
     /// Neither is free.
     NoInodes,
 }
@@ -90,7 +90,7 @@ impl InodeMap {
             return Pick::Number(32 * e + first_clear(word));
         }
         match self.places.first() {
-            Some(_place) => Pick::NeedsExtent,
+            Some(place) => Pick::NeedsExtent { place },
             None => Pick::NoInodes,
         }
     }

@@ -3,6 +3,7 @@
 
 mod change;
 mod counts;
+mod home;
 mod inode_map;
 mod lists;
 mod pages;

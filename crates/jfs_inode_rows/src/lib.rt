@@ -118,7 +118,7 @@ pub fn add_next(map: &mut InodeMap, addr: u64) -> Option<u32>
     ensures { map.new.iags ≡ map.old.iags }
 {
     match map.pick() {
-        Pick::NeedsExtent => Some(map.add_extent(Pxd {
+        Pick::NeedsExtent { .. } => Some(map.add_extent(Pxd {
             len: 4,
             addr: addr % (1 << 40),
         })),

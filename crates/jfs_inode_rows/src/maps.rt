@@ -24,8 +24,18 @@ fn picks_takes_and_gives_back(rt: HostRuntime) -> Result<(), std::test::Fail> {
     map.put_back(3);
     map.put_back(1000);
     assert_eq!(rt; take_next(&mut map), Pick::Number(9));
-    assert_eq!(rt; take_next(&mut map), Pick::NeedsExtent);
+    assert_eq!(rt; take_next(&mut map), Pick::NeedsExtent { place: 1 });
     assert_eq!(rt; add_next(&mut map, 50), Some(32));
+    assert_eq!(rt;
+        (
+            map.home(9),
+            map.home(39),
+            map.home(64),
+            map.home(4104),
+            map.home(12288)
+        ),
+        (Some(30), Some(50), None, Some(41), None)
+    );
     assert_eq!(rt; take_next(&mut map), Pick::Number(32));
     map.put_back(4100);
     assert_eq!(rt; add_next(&mut map, 60), None);

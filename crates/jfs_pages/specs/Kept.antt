@@ -2,6 +2,7 @@
 use Rattle.std.specs.Prelude.{◌≡◌, ◌⊎◌, ℕ, true, List, map, Option, unwrap_or, IsSome}
 use Rattle.std.specs.List.{range_with_len}
 use Rattle.jfs_disk.specs.Image.{Image, page_of}
+use Rattle.jfs_ranges.specs.View.{Pending}
 use Rattle.jfs_pages.specs.declared.dirty.Dirty.{Dirty}
 use Rattle.jfs_pages.specs.declared.kept.Kept.{Kept}
 use Rattle.jfs_pages.specs.Dirty.{IsDirty, is_among}
@@ -18,6 +19,10 @@ dirty_in kept = kept.changes.dirty.items
 -- the pages that are held
 abbrev pub held_in : Kept → List ℕ
 held_in kept = kept.changes.held.items
+
+-- a dirty page, as one that a view holds in memory alone
+abbrev pub pending_of : Dirty → Pending
+pending_of dirty = record { page = dirty.page; first = dirty.first; last = dirty.last }
 
 -- what the cache gives of page n, over what its disk gives
 abbrev pub shown : Image → Kept → ℕ → List ℕ

@@ -1,6 +1,6 @@
 //! The page cache.
 
-ghost use Rattle.std.specs.Prelude.{◌≡◌, ◌<◌, ◌≤◌, ◌^◌, ℕ, None, IsSome};
+ghost use Rattle.std.specs.Prelude.{◌≡◌, ◌<◌, ◌≤◌, ◌^◌, ℕ, None, IsSome, length};
 ghost use Rattle.jfs_disk.specs.Image.{page_of};
 ghost use Rattle.jfs_pages.specs.Dirty.{dirty_of};
 ghost use Rattle.jfs_pages.specs.Kept.{cached, dirty_in, held_in, shown};
@@ -63,6 +63,20 @@ impl<D: Disk> PageCache<D> {
         ensures rising { IsRising (dirty_in self.now.kept) }
     {
         self.kept.dirty_at(i as usize)
+    }
+
+    /// How many pages are dirty.
+    pub fn dirty_count(&self) -> usize
+        ensures { result ≡ length (dirty_in self.now.kept) }
+    {
+        self.kept.dirty_count()
+    }
+
+    /// Page `n`, where it is dirty, and `None` exactly where it isn't. It is found in O(log n).
+    pub fn dirty_page(&self, n: u32) -> Option<Dirty>
+        ensures { result ≡ dirty_of (dirty_in self.now.kept) n }
+    {
+        self.kept.dirty(n)
     }
 
     /// Hands back the disk.

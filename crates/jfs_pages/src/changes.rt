@@ -38,6 +38,13 @@ impl Changes {
         self.dirty.get(i).copied()
     }
 
+    /// How many pages are dirty.
+    pub fn len(&self) -> usize
+        ensures { result ≡ length self.now.dirty.items }
+    {
+        self.dirty.len()
+    }
+
     /// Page `page`, where it is dirty.
     pub fn find(&self, page: u32) -> Option<Dirty>
         ensures { result ≡ dirty_of self.now.dirty.items page }

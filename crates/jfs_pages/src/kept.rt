@@ -66,6 +66,13 @@ impl Kept {
         self.changes.at(i)
     }
 
+    /// How many pages are dirty.
+    pub fn dirty_count(&self) -> usize
+        ensures { result ≡ length (dirty_in self.now) }
+    {
+        self.changes.len()
+    }
+
     /// Page `n`, where it is dirty.
     pub fn dirty(&self, n: u32) -> Option<Dirty>
         ensures { result ≡ dirty_of (dirty_in self.now) n }

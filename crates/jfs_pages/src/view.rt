@@ -1,6 +1,7 @@
 //! The cache as a view of pages.
 
-ghost use Rattle.jfs_pages.specs.Kept.{image_in};
+ghost use Rattle.std.specs.Prelude.{map};
+ghost use Rattle.jfs_pages.specs.Kept.{image_in, dirty_in, pending_of};
 ghost use Rattle.jfs_pages.specs.Whole.{whole_in};
 ghost use Rattle.jfs_ranges.specs.View.{device_of};
 
@@ -19,7 +20,7 @@ impl<D: Disk> PageView for PageCache<D> {
 
     ghost crashes = { D.tells_crashes };
 
-    ghost device = { λ cache. device_of D.Disk cache.disk };
+    ghost device = { λ cache. record (device_of D.Disk cache.disk) { pending = map pending_of (dirty_in cache.kept) } };
 
     fn blocks(&self) -> u32 {
         self.blocks

@@ -1,2 +1,3 @@
 pub mod Overlaid
 pub mod Device
+pub mod OnTop

@@ -1,3 +1,4 @@
 -- what the clauses say
 pub mod Apply
 pub mod View
+pub mod Laid

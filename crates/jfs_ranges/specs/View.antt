@@ -13,18 +13,27 @@ CarriesCount before now (Ok page) = now ≡ before
 CarriesCount before now (Err (Read fault)) = Rose before now × (fault.count ≡ now)
 CarriesCount before now (Err Memory) = now ≡ before
 
--- what a view's device has beside what the view shows of it: its number of pages and, where it tells what a crash may leave, the states that it has had
+-- a page that a view holds in memory alone: the first and the last entry that changed it since it went home
+pub record Pending : Type 0 where
+  pub page : ℕ
+  pub first : ℕ
+  pub last : ℕ
+
+-- what a view's device has beside what the view shows of it: its number of pages, how many it may have at the most, the pages that are to go home and, where it tells what a crash may
+-- leave, the states that it has had
 pub record Device (crashes : Type 0) : Type 0 where
   pub pages : ℕ
+  pub room : ℕ
+  pub pending : List Pending
   pub states : crashes → List DiskState
 
 -- a disk as the device of a view
 abbrev pub device_of : {D : Type 0} → (d : Ghosts D) → D → Device d.tells_crashes
-device_of d disk = record { pages = d.page_count disk; states = λ told. d.past disk }
+device_of d disk = record { pages = d.page_count disk; room = d.room disk; pending = []; states = λ told. d.past disk }
 
 -- a view's device that is nothing but the pages that it shows
 abbrev pub no_device : {crashes : Type 0} → Device crashes
-no_device = record { pages = 0; states = λ told. [] }
+no_device = record { pages = 0; room = 0; pending = []; states = λ told. [] }
 
 -- a page was lent, or wasn't: the number of blocks, the pages and the device stay
 pub record IsLent {T crashes : Type 0} (tells : Type 0) (blocks blocks_after : ℕ) (image image_after : Image) (device device_after : Device crashes)

@@ -10,7 +10,7 @@ abbrev loan_in : {crashes : Type 0} → Device (Unit {0} ⊎ crashes) → ℕ
 loan_in device = get_or (get_or (get_or (device.states (inl tt)) 0 []) 0 no_page).seen 0 0
 
 abbrev rest_of : {crashes : Type 0} → Device (Unit {0} ⊎ crashes) → Device crashes
-rest_of device = record { pages = device.pages; states = λ told. device.states (inr told) }
+rest_of device = record { pages = device.pages; room = device.room; pending = device.pending; states = λ told. device.states (inr told) }
 
 module _ {D : Type 0} (d : Ghosts D) (old new : D) (loan loan_new : ℕ) (same : borrowed d new loan_new ≡ borrowed d old loan) where
   pub same_loan : loan_new ≡ loan

@@ -11,4 +11,4 @@ states_of_loan d disk loan (inl it) = (record { seen = loan ∷ []; stable = [];
 states_of_loan d disk loan (inr told) = d.past disk
 
 abbrev pub borrowed : {D : Type 0} → (d : Ghosts D) → D → ℕ → Device (Unit {0} ⊎ d.tells_crashes)
-borrowed d disk loan = record { pages = d.page_count disk; states = states_of_loan d disk loan }
+borrowed d disk loan = record { pages = d.page_count disk; room = d.room disk; pending = []; states = states_of_loan d disk loan }

@@ -20,7 +20,7 @@ returns-in-Some c =
 pub returns-in-Some-first : goal.returns-in-Some-first
 returns-in-Some-first c =
     let i = c.self.inside in
-    rw (← c.self.view_is) (needs-extent i.iags i.numag i.agsize i.set.items i.extents.items i.free i.places c.in-Some-first._place c.self.invariant c.in_default.ensures c.in-Some-first.ensures)
+    rw (← c.self.view_is) (needs-extent i.iags i.numag i.agsize i.set.items i.extents.items i.free i.places c.in-Some-first.place c.self.invariant c.in_default.ensures c.in-Some-first.ensures)
 
 pub returns-in-None : goal.returns-in-None
 returns-in-None c =

@@ -1,8 +1,15 @@
-use Rattle.std.proofs.Common.{refl, sym}
+use Rattle.std.proofs.Common.{refl, sym, ◌≡◌, List, map}
+use Rattle.jfs_ranges.specs.View.{Device}
+use Rattle.jfs_pages.specs.declared.dirty.Dirty.{Dirty}
 use Rattle.jfs_ranges.proofs.Device.{same_device}
+use Rattle.jfs_pages.specs.Kept.{pending_of}
 use Rattle.jfs_pages.specs.Whole.{page_of-image_in}
 use Rattle.jfs_pages.proofs.Lend.{image-same, carries, bytes-of}
 use Rattle.jfs_pages.proofs.view.PageCachePageView.page.Goals as goal
+
+-- the same device and the same dirty pages
+same_pending : {crashes : Type 0} {a b : Device crashes} {xs ys : List Dirty} → a ≡ b → xs ≡ ys → record a { pending = map pending_of xs } ≡ record b { pending = map pending_of ys }
+same_pending e f = λ i. record (e i) { pending = map pending_of (f i) }
 
 pub returns : goal.returns
 returns g c =
@@ -16,7 +23,7 @@ returns g c =
         record {
           same_blocks = facts.0;
           same_image = λ t. image-same old.blocks new.blocks (image old.disk) (image new.disk) old.kept new.kept facts.0 (facts.3 t);
-          same_device = same_device g.D.Disk old.disk new.disk facts.5 facts.4.states;
+          same_device = same_pending (same_device g.D.Disk old.disk new.disk facts.5 facts.6 facts.4.states) facts.1.dirty;
           count = carries _ _ c.get.result facts.7;
         },
       ),
