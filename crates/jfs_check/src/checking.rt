@@ -69,7 +69,8 @@ fn check_loan<'a, D: Disk>(
 ///
 /// # Errors
 ///
-/// The disk failed, or memory ran out.
+/// The disk failed, or memory ran out. A volume whose inode map has more than 128 pages and one for each 64 blocks, as where they name one extent over and over, is
+/// answered as want of memory, so what a check takes is bounded by the volume.
 pub fn check<D: Disk>(alloc: Global, disk: &mut D, s: &Super) -> Result<Checked, CheckError>
     requires accepted { IsAccepted s.now (D.page_count disk.old) }
     ensures findings { IfOk result (λ c. D.tells → AreFindings (subject_of s.now (page_of (D.image disk.old))) c.findings.items) }
