@@ -8,7 +8,7 @@ mod out_sink;
 use file_disk::{Access, FileDisk, is_standard};
 use file_source::FileSource;
 use jfs_bits::Moment;
-use jfs_command::{PathsError, jfs_top, paths_of};
+use jfs_command::{PathsError, Status, jfs_top, paths_of};
 use jfs_io::OpenGate;
 use out_sink::OutSink;
 use std::alloc::{AllocError, Global};
@@ -18,12 +18,23 @@ use std::rt::{Clock, Env, Files};
 use std::time::{Duration, SystemTime, UNIX_EPOCH};
 use std::{env, fs, io, str};
 
+/// The grammar of the words, a line a command. (docs/jfsd.8 says what each does.)
+const GRAMMAR: &str = "\
+usage: jfsd format IMAGE UUID [LABEL]
+       jfsd super IMAGE
+       jfsd log IMAGE
+       jfsd check IMAGE
+";
+
 fn main(rt: HostRuntime) -> ExitCode {
     let _placeholders = Placeholders::open(&rt);
     let mut out = OutSink::new(io::writer(&rt));
     let words = match words(&rt) {
         Ok(words) => words,
-        Err(WordsError::NotText) => return end_with(&rt, b"jfsd: usage: word 1\n", 2),
+        Err(WordsError::NotText) => {
+            tell_grammar(&rt);
+            return end_with(&rt, b"jfsd: usage: word 1\n", 2);
+        }
         Err(WordsError::Memory) => return end_with(&rt, b"jfsd: out of memory\n", 8),
     };
     let alloc = rt.alloc();
@@ -46,7 +57,15 @@ fn main(rt: HostRuntime) -> ExitCode {
         &mut out,
         &OpenGate,
     );
+    if matches!(ended.status, Status::Usage { .. }) {
+        tell_grammar(&rt);
+    }
     ExitCode::from(ended.status.number())
+}
+
+// Standard error has the grammar where the words left it.
+fn tell_grammar<R: Eprint>(rt: &R) {
+    let _ = eprint!(rt; "{GRAMMAR}");
 }
 
 /// Files under the numbers of standard input, output and error where the caller closed these. Without them an image could
