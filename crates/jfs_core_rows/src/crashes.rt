@@ -1,6 +1,6 @@
 ghost use Rattle.std.specs.Prelude.{◌≤◌, ◌^◌, length};
 
-use crate::{Do, run, zeros};
+use crate::runs::{Do, run, zeros};
 use jfs_core::CoreState;
 use jfs_disk::{Choice, Page, PageList};
 use std::alloc::{AllocError, Global};

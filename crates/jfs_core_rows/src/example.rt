@@ -1,6 +1,6 @@
 //! One page that is written back twice between two syncs of the low part, and the sync points that are refused meanwhile.
 
-use crate::{Do, run, zeros};
+use crate::runs::{Do, run, zeros};
 use jfs_core::{CoreState, StepRefused, Why};
 use jfs_disk::Choice;
 use std::alloc::{AllocError, Global};

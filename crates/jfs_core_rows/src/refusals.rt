@@ -1,4 +1,4 @@
-use crate::{Do, run, zeros};
+use crate::runs::{Do, run, zeros};
 use jfs_core::{CoreState, StepRefused, Why};
 use std::test::*;
 
