@@ -2,7 +2,7 @@
 
 ghost use Rattle.std.specs.Prelude.{◌≡◌, ◌<◌, ◌≤◌, ◌^◌, length, None, IfOk};
 ghost use Rattle.jfs_logfmt.specs.Written.{Fits};
-ghost use Rattle.jfs_logpages.specs.Group.{pages_of, room_of};
+ghost use Rattle.jfs_logpages.specs.Group.{pages_of, position_of, room_of};
 
 use jfs_bits::{Blob, LineRange, PageKind, Pxd, Ranges};
 use jfs_disk::{Disk, MemDisk, Page};
@@ -53,7 +53,8 @@ fn group_of(alloc: Global, records: u32) -> Result<GroupText, AllocError> {
 /// Writes a group so often, and whether that went well.
 fn write_groups(log: LogSide<MemDisk>, text: &GroupText, groups: u32) -> bool
     requires running { log.halted ≡ None }
-    requires number { log.last.number ≤ 2 ^ 20 }
+    requires number { position_of log.last ≤ 2 ^ 33 }
+    requires ring { log.last.ring ≤ 2 ^ 15 }
     requires room { pages_of (length text.now.bytes.items) ≤ room_of log.last.ring }
     requires durable { log.durable ≤ text.now.last }
     requires groups { groups ≤ 2 ^ 10 }
