@@ -10,7 +10,7 @@ use Rattle.jfs_turns.specs.Lists.{IsPrefix, HasOwn, AreOwn}
 use Rattle.jfs_turns.specs.Views.{fresh_pass, kept, took_back, IsFree}
 use Rattle.jfs_turns.specs.Standing.{Standing}
 use Rattle.jfs_turns.specs.Rule.{IsKept}
-use Rattle.jfs_turns.specs.Passes.{ArePasses, AreNew, End, AtEnd, GoesOn, IsOfLast}
+use Rattle.jfs_turns.specs.Passes.{ArePasses, AreNew, End, AtEnd, IsOfLast}
 use Rattle.jfs_turns.specs.declared.turns.Pass.{Pass}
 use Rattle.jfs_turns.proofs.Steps.{at_only, at_length}
 use Rattle.jfs_turns.proofs.Seats.{all_back, at_end}

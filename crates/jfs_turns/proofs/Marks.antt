@@ -1,5 +1,5 @@
 -- The steps that mark what was taken and the syncpoints keep the rule.
-use Rattle.std.proofs.Common.{◌≡◌, ◌≢◌, ℕ, ◌≤◌, List, [], ◌∷◌, ◌++◌, length, sym, refl, ap, ◌∙◌, subst, arith, true, false, inl, append_assoc, le_trans, max, length-append}
+use Rattle.std.proofs.Common.{◌≡◌, ◌≢◌, ℕ, ◌≤◌, List, [], ◌∷◌, ◌++◌, length, sym, refl, ap, ◌∙◌, subst, arith, true, false, inl, append_assoc, le_trans, max}
 use Rattle.std.proofs.Math.Nat.{le-max_left, le-max_right, max-le}
 use Rattle.atomic_table.specs.Table.{keeps, Allows}
 use Rattle.jfs_turns.specs.Lists.{IsPrefix}

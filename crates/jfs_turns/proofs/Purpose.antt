@@ -8,7 +8,7 @@ use Rattle.jfs_turns.specs.Told.{Learned, LearnedLog, appended, marked_points}
 use Rattle.std.proofs.Math.Nat.{le-max_left}
 use Rattle.jfs_turns.proofs.Steps.{prefix_refl}
 use Rattle.jfs_turns.specs.Rule.{Ruled}
-use Rattle.jfs_turns.specs.Laws.{Has, Grows, KnowledgeGrows, SeenIsPrefix, SeesItsOwn, AtMostOne, DurableIsTheLogSides, BothAgree}
+use Rattle.jfs_turns.specs.Laws.{Grows, KnowledgeGrows, SeenIsPrefix, SeesItsOwn, AtMostOne, DurableIsTheLogSides, BothAgree}
 use Rattle.jfs_turns.specs.declared.view.View.{View}
 use Rattle.jfs_turns.specs.declared.view.Held.{Held}
 

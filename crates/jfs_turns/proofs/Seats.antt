@@ -7,7 +7,7 @@ use lib.ListN.{get_elem?}
 use Rattle.atomic_table.specs.Table.{State, keeps, Allows, Splits, Joins}
 use Rattle.atomic_table.proofs.Lists.{at_set, set_else, set_again, at_longer}
 use Rattle.std.proofs.Math.Nat.{le-max_left, max-le}
-use Rattle.jfs_turns.specs.Lists.{IsPrefix, HasOwn, AreOwn}
+use Rattle.jfs_turns.specs.Lists.{HasOwn, AreOwn}
 use Rattle.jfs_turns.specs.Views.{Seated, blank, aside, without, rejoined, fresh_pass, dealt_one, took_back, IsKeeper, IsFree}
 use Rattle.jfs_turns.specs.Standing.{Standing, VolumeStands}
 use Rattle.jfs_turns.specs.Rule.{IsKept, Now, Deals, Knows, Fits, IsEarlier, IsLast, IsOrdered, Holder, has_volume, has_log, VolumeHome, LogHome, Parts}

@@ -1,8 +1,7 @@
-use Rattle.std.proofs.Common.{rules, arith, ◌≡◌, ◌+◌, List, length, length-append, [], ◌∷◌, ap, sym, subst, ◌∙◌}
+use Rattle.std.proofs.Common.{rules, arith, ◌≡◌, ◌+◌, length, length-append, [], ◌∷◌, ap, sym, subst, ◌∙◌}
 use mathlib.Core.Option.{some-injective}
 use lib.ListN.{get_elem?}
 use Rattle.jfs_turns.specs.Passes.{ArePasses, AtEnd}
-use Rattle.jfs_turns.specs.declared.turns.Pass.{Pass}
 use Rattle.jfs_turns.proofs.Seats.{takes_back}
 use Rattle.jfs_turns.proofs.Closing.{AreBack, last_pass, front_passes, none_back, one_back, ends, same_volume, same_log}
 use Rattle.jfs_turns.proofs.turns.Turns.close.Goals as goal

@@ -1,8 +1,7 @@
-use Rattle.std.proofs.Common.{◌≡◌, ◌+◌, ◌++◌, ◌∷◌, ◌≤◌, ℕ, List, [], length, map}
+use Rattle.std.proofs.Common.{◌≡◌, ◌+◌, [], length}
 use Rattle.jfs_turns.specs.Views.{IsFree}
 use Rattle.jfs_turns.specs.Passes.{ArePasses}
 use Rattle.jfs_turns.proofs.Closing.{AreBack}
-use Rattle.jfs_turns.specs.declared.turns.Pass.{Pass}
 use Rattle.jfs_turns.proofs.turns.Turns.close.Given as goal
 
 abbrev pub invariant-loop-pass : goal.invariant-loop-pass
