@@ -13,7 +13,7 @@ use Rattle.jfs_command.specs.declared.status.Status.TheVariants as statuses
 use Rattle.jfs_command.specs.declared.status.Stop.TheVariants as stops
 use Rattle.jfs_command.specs.declared.outcome.End.{End}
 use Rattle.jfs_command.specs.declared.outcome.End.TheVariants.{Own, Stopped}
-use Rattle.jfs_command.specs.declared.outcome.Entry.{Entry}
+use Rattle.jfs_plain.specs.declared.call.Entry.{Entry}
 use Rattle.jfs_command.specs.declared.outcome.Outcome.{Outcome}
 use Rattle.jfs_command.specs.Status.{Kind, Finishes, Refuses, RefusesWord, ByScripts, BySink, ByDisk, ByMemory, IsOwnKind, kind_of, status_of, sink_fault_after, line_of}
 use Rattle.jfs_command.specs.Count.{Count, Stays, HasRisen}
@@ -22,7 +22,7 @@ use Rattle.jfs_command.specs.Inputs.{Inputs, AreInputs}
 use Rattle.jfs_command.specs.Meaning.{Answer, EndsBy, work_of}
 use Rattle.jfs_command.specs.Meanings.{meaning_of}
 use Rattle.jfs_command.specs.Print.{IsFront, Puts, Concludes}
-use Rattle.jfs_command.specs.Top.{Run, CameTo, EndsAs, Ends, PrintsAs, Prints, whole_text, Devices, run_of, IsAnswered, IsComplete, PerformsCommand}
+use Rattle.jfs_command.specs.Top.{Run, CameTo, NothingFailed, EndsAs, Ends, PrintsAs, Prints, whole_text, Devices, run_of, IsAnswered, IsComplete, PerformsCommand}
 
 -- ---- the cause of a status
 
@@ -31,21 +31,21 @@ abbrev pub IsBeforeSink : Kind → Type 0
 IsBeforeSink BySink = ⊥
 IsBeforeSink _ = Unit {0}
 
-own_ends : (run : Run) (status : Status) (kind : Kind) → IsOwnKind kind → CameTo run status → Stays run.disk → Stays run.scripts → EndsAs run status kind × IsBeforeSink kind
-own_ends run status Finishes own came disk scripts = ((came, disk, scripts), tt)
-own_ends run status Refuses own came disk scripts = ((came, disk, scripts), tt)
-own_ends run status (RefusesWord word) own came disk scripts = absurd own
-own_ends run status ByScripts own came disk scripts = absurd own
-own_ends run status BySink own came disk scripts = absurd own
-own_ends run status ByDisk own came disk scripts = absurd own
-own_ends run status ByMemory own came disk scripts = absurd own
+own_ends : (run : Run) (status : Status) (kind : Kind) → IsOwnKind kind → CameTo run status → NothingFailed run → EndsAs run status kind × IsBeforeSink kind
+own_ends run status Finishes own came none = ((came, none), tt)
+own_ends run status Refuses own came none = ((came, none), tt)
+own_ends run status (RefusesWord word) own came none = absurd own
+own_ends run status ByScripts own came none = absurd own
+own_ends run status BySink own came none = absurd own
+own_ends run status ByDisk own came none = absurd own
+own_ends run status ByMemory own came none = absurd own
 
 -- the status of a command that ended has its cause
-pub caused : (run : Run) (command : Command) (end : End) → run.asked ≡ Ok command → EndsBy (meaning_of command run.inputs) run.tells run.crashes run.held run.work run.disk run.scripts end → Ends run (status_of end) × IsBeforeSink (kind_of (status_of end))
-caused run command (Own status) asked (comes, own, disk, scripts) = own_ends run status (kind_of status) own (command, asked, comes) disk scripts
-caused run command (Stopped stops.Scripts) asked (stopped, risen, disk) = (((command, asked, stopped), risen, disk), tt)
-caused run command (Stopped stops.Disk) asked (stopped, risen, scripts) = (((command, asked, stopped), risen, scripts), tt)
-caused run command (Stopped stops.Memory) asked stopped = (inr (inl (command, asked, stopped)), tt)
+pub caused : (run : Run) (command : Command) (end : End) → run.asked ≡ Ok command → EndsBy (meaning_of command run.inputs) run.tells run.crashes run.held run.work run.faults end → Ends run (status_of end) × IsBeforeSink (kind_of (status_of end))
+caused run command (Own status) asked (comes, own, disk, scripts) = own_ends run status (kind_of status) own (command, asked, comes) (disk, scripts)
+caused run command (Stopped stops.Scripts) asked (stopped, by) = ((command, asked, stopped, by), tt)
+caused run command (Stopped stops.Disk) asked (stopped, by) = ((command, asked, stopped, by), tt)
+caused run command (Stopped stops.Memory) asked (stopped, by) = (inr (inl (stops.Memory, (command, asked, stopped, by))), tt)
 
 -- ---- the text of a status
 
@@ -78,8 +78,8 @@ finished_line (statuses.Found count) is = refl
 finished_line _ is = absurd cc
 
 front_put : (run : Run) (status : Status) (text : List ℕ) (kind : Kind) → kind_of status ≡ kind → EndsAs run status kind → IsBeforeSink kind → HasRisen run.sink → IsFront text (whole_text run status) → Concluded run (sink_fault_after kind status) text
-front_put run status text Finishes is (came, disk, scripts) before risen front = record {
-  ends = ((status, is, came), risen, disk, scripts);
+front_put run status text Finishes is (came, none) before risen front = record {
+  ends = ((status, is, came), risen, none);
   prints = subst (λ (line : List ℕ). IsFront text (run.work.text ++ line)) (finished_line status is) front;
 }
 front_put run status text Refuses is ends before risen front = judged run status text Refuses is ends (inr (front, risen))
@@ -91,12 +91,12 @@ front_put run status text ByMemory is ends before risen front = judged run statu
 
 -- where memory runs out, what was done is what had been done
 for_memory : (run : Run) (status : Status) (kind : Kind) → EndsAs run status kind → EndsAs run statuses.OutOfMemory ByMemory
-for_memory run status Finishes (came, disk, scripts) = inr (inr (status, came))
-for_memory run status Refuses (came, disk, scripts) = inr (inr (status, came))
-for_memory run status (RefusesWord word) (asked, nothing, disk, scripts) = inl nothing
-for_memory run status ByScripts (stopped, risen, disk) = inr (inl stopped)
-for_memory run status BySink ((own, is, came), risen, disk, scripts) = inr (inr (own, came))
-for_memory run status ByDisk (stopped, risen, scripts) = inr (inl stopped)
+for_memory run status Finishes (came, none) = inr (inr (status, came, none))
+for_memory run status Refuses (came, none) = inr (inr (status, came, none))
+for_memory run status (RefusesWord word) (asked, nothing, none) = inl (nothing, none)
+for_memory run status ByScripts stopped = inr (inl (stops.Scripts, stopped))
+for_memory run status BySink ((own, is, came), risen, none) = inr (inr (own, came, none))
+for_memory run status ByDisk stopped = inr (inl (stops.Disk, stopped))
 for_memory run status ByMemory ends = ends
 
 pub concluded : (run : Run) (tells : Type 0) (old new : List ℕ) (status result : Status) → Ends run status → IsBeforeSink (kind_of status) → Concludes tells old new run.sink run.work.text status result
@@ -137,7 +137,7 @@ refused {D} {S} {K} d s k asked word is now disk scripts out later result entrie
     let old : Devices D S K = record { disk = disk; scripts = scripts; out = out } in
     let new : Devices D S K = record { disk = disk; scripts = scripts; out = later } in
     let inputs : Inputs = record { scripts = map s.remaining scripts; now = now } in
-    let text = concluded (run_of d s k asked old new inputs (held_of d disk) (record { text = []; history = []; told = []; held = held_of d disk })) k.tells (k.taken out) (k.taken later) (statuses.Usage word) result (is, (refl, record { history = refl; told = refl; image = λ _. refl; past = λ _. refl }), refl, refl) tt concludes in
+    let text = concluded (run_of d s k asked old new inputs (held_of d disk) (record { text = []; history = []; told = []; held = held_of d disk })) k.tells (k.taken out) (k.taken later) (statuses.Usage word) result (is, (refl, record { history = refl; told = refl; image = λ _. refl; past = λ _. refl }), (refl, refl)) tt concludes in
     rw (no_history, no_told) (record {
       inputs = inputs;
       given = record { number = length-map scripts s.remaining; scripts = λ _. refl; moment = refl };
@@ -184,11 +184,11 @@ completes d s k asked now old new status history told a = λ tells sources held 
     no_disk no_scripts no_sink
   where
     by_kind : (run : Run) (status : Status) (kind : Kind) → kind_of status ≡ kind → EndsAs run status kind → (command : Command) → run.asked ≡ Ok command → (answer : Answer) → (CameTo run status → answer.status ≡ status)
-        → ¬ (HasRisen run.disk) → ¬ (HasRisen run.scripts) → ¬ (HasRisen run.sink) → (status ≡ answer.status) ⊎ (status ≡ statuses.OutOfMemory)
-    by_kind run status Finishes is (came, disk, scripts) command asked answer one no_disk no_scripts no_sink = inl (sym (one came))
-    by_kind run status Refuses is (came, disk, scripts) command asked answer one no_disk no_scripts no_sink = inl (sym (one came))
-    by_kind run status (RefusesWord word) is (words, nothing, disk, scripts) command asked answer one no_disk no_scripts no_sink = let e = sym words ∙ asked in absurd cc
-    by_kind run status ByScripts is (stopped, risen, disk) command asked answer one no_disk no_scripts no_sink = absurd (no_scripts risen)
-    by_kind run status BySink is (own, risen, disk, scripts) command asked answer one no_disk no_scripts no_sink = absurd (no_sink risen)
-    by_kind run status ByDisk is (stopped, risen, scripts) command asked answer one no_disk no_scripts no_sink = absurd (no_disk risen)
+        → ¬ (HasRisen run.faults.disk) → ¬ (HasRisen run.faults.scripts) → ¬ (HasRisen run.sink) → (status ≡ answer.status) ⊎ (status ≡ statuses.OutOfMemory)
+    by_kind run status Finishes is (came, none) command asked answer one no_disk no_scripts no_sink = inl (sym (one came))
+    by_kind run status Refuses is (came, none) command asked answer one no_disk no_scripts no_sink = inl (sym (one came))
+    by_kind run status (RefusesWord word) is (words, nothing, none) command asked answer one no_disk no_scripts no_sink = let e = sym words ∙ asked in absurd cc
+    by_kind run status ByScripts is (own, said, stopped, by) command asked answer one no_disk no_scripts no_sink = absurd (no_scripts by.0)
+    by_kind run status BySink is (own, risen, none) command asked answer one no_disk no_scripts no_sink = absurd (no_sink risen)
+    by_kind run status ByDisk is (own, said, stopped, by) command asked answer one no_disk no_scripts no_sink = absurd (no_disk by.0)
     by_kind run status ByMemory is ends command asked answer one no_disk no_scripts no_sink = inr (memory_is status is)

@@ -8,6 +8,9 @@ use Rattle.jfs_plain.specs.Moves.{Same}
 use Rattle.jfs_plain.specs.Plain.{new_tree}
 use Rattle.jfs_meaning.specs.Image.{tree_of, IsConsistentImage}
 use Rattle.jfs_new_volume.proofs.Tree.{new_volume_tree}
+use Rattle.jfs_mount.specs.Subject.{subject_of}
+use Rattle.jfs_findings.specs.Clean.{HasNoFinding}
+use Rattle.jfs_findings_new.proofs.NewClean.{new_clean}
 use Rattle.jfs_format.specs.declared.formatter.FormatError.{FormatError}
 use Rattle.jfs_format.specs.declared.formatter.FormatError.TheVariants as errors
 use Rattle.jfs_format.specs.Answer.{IsFormatAnswer}
@@ -38,7 +41,7 @@ comes : {D : Type 0} (d : Ghosts D) (old new : D) (outcome : Outcome) (uuid labe
 comes d old new outcome uuid label now answer says does is_text own stays is_end =
     let with_text : List ℕ → Answer = λ text. record { status = answer.status; text = text } in
     let said = subst (λ (a : Answer). FormatSays (d.page_count old) a) (sym (ap with_text is_text)) says in
-    ends_as d (format_meaning uuid label now) old new outcome (held_of d old) (Own answer.status) is_end (record { pages = refl; image = λ t. refl; past = λ t. refl }) (
+    ends_as d (format_meaning uuid label now) old new outcome (held_of d old) (Own answer.status) is_end (record { pages = refl; image = λ t. refl; past = λ t. refl }) (λ sources. (
       record {
         says = said;
         does = does;
@@ -48,17 +51,20 @@ comes d old new outcome uuid label now answer says does is_text own stays is_end
       own,
       stays,
       refl,
-    )
+    ))
 
 -- what the pages of a new volume mean
 pub record Means (now : Moment) (s : Super) (image : Image) : Type 0 where
   pub tree : Same (new_tree now) (tree_of s (page_of image))
   pub consistent : IsConsistentImage s (page_of image)
+  pub clean : HasNoFinding (subject_of s (page_of image))
 
 pub means : (pages : ℕ) (uuid label : List ℕ) (now : Moment) (s : Super) (image : Image) → IsFormattable pages → IsNewVolume (wanted pages uuid label now) image → s ≡ new_super (wanted pages uuid label now) → Means now s image
 means pages uuid label now s image fits volume is =
-    let done = new_volume_tree pages (wanted pages uuid label now) image (layout-bounds pages fits) volume in
-    subst (λ (s : Super). Means now s image) (sym is) (record { tree = done.1; consistent = done.0 })
+    let layout = layout-bounds pages fits in
+    let done = new_volume_tree pages (wanted pages uuid label now) image layout volume in
+    let clean = (new_clean pages (wanted pages uuid label now) image layout volume).1 in
+    subst (λ (s : Super). Means now s image) (sym is) (record { tree = done.1; consistent = done.0; clean = clean })
 
 -- a new volume
 pub formatted : {D : Type 0} (d : Ghosts D) (old new : D) (outcome : Outcome) (uuid label : List ℕ) (now : Moment) → IsFormattable (d.page_count old)
@@ -80,13 +86,13 @@ pub begun_no_memory : {D : Type 0} (d : Ghosts D) (old new : D) (outcome : Outco
     → HasBegun d.tells d.tells_crashes (wanted (d.page_count old) uuid label now) (held_of d old) (work_of outcome (held_of d new))
     → outcome.text.items ≡ [] → outcome.end ≡ Stopped stops.Memory → Performs d (format_meaning uuid label now) old new outcome
 begun_no_memory d old new outcome uuid label now fits begun no_text is_end =
-    ends_as d (format_meaning uuid label now) old new outcome (held_of d old) (Stopped stops.Memory) is_end (record { pages = refl; image = λ t. refl; past = λ t. refl }) (fits, no_text, begun)
+    ends_as d (format_meaning uuid label now) old new outcome (held_of d old) (Stopped stops.Memory) is_end (record { pages = refl; image = λ t. refl; past = λ t. refl }) (λ sources. ((fits, no_text, begun), tt))
 
 begun_disk_failed : {D : Type 0} (d : Ghosts D) (old new : D) (outcome : Outcome) (uuid label : List ℕ) (now : Moment) → IsFormattable (d.page_count old)
     → HasBegun d.tells d.tells_crashes (wanted (d.page_count old) uuid label now) (held_of d old) (work_of outcome (held_of d new))
     → outcome.text.items ≡ [] → HasRisen (faults_of d old new) → outcome.end ≡ Stopped stops.Disk → Performs d (format_meaning uuid label now) old new outcome
 begun_disk_failed d old new outcome uuid label now fits begun no_text risen is_end =
-    ends_as d (format_meaning uuid label now) old new outcome (held_of d old) (Stopped stops.Disk) is_end (record { pages = refl; image = λ t. refl; past = λ t. refl }) ((fits, no_text, begun), risen, refl)
+    ends_as d (format_meaning uuid label now) old new outcome (held_of d old) (Stopped stops.Disk) is_end (record { pages = refl; image = λ t. refl; past = λ t. refl }) (λ sources. ((fits, no_text, begun), (risen, refl)))
 
 -- no volume
 pub refused_or_failed : {D : Type 0} (d : Ghosts D) (old new : D) (outcome : Outcome) (uuid label : List ℕ) (now : Moment) (error : FormatError) (result : Result (Unit {0}) FormatError) → result ≡ Err error → IsFormatAnswer d old new result

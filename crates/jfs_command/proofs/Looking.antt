@@ -17,7 +17,7 @@ use Rattle.jfs_command.specs.declared.outcome.Outcome.{Outcome}
 use Rattle.jfs_command.specs.Status.{IsOwn}
 use Rattle.jfs_command.specs.Count.{Count, Stays, HasRisen}
 use Rattle.jfs_command.specs.Held.{Held, IsHeld, ChangesNothing, held_of}
-use Rattle.jfs_command.specs.Meaning.{Meaning, Answer, LooksSame, EndsBy, Performs, only_looks, refused, work_of}
+use Rattle.jfs_command.specs.Meaning.{Meaning, Answer, LooksSame, EndsBy, Performs, faults_beside, only_looks, refused, work_of}
 use Rattle.jfs_command.specs.Superblock.{superblock_of, AfterRules, AfterSuperblock, Looks}
 use Rattle.jfs_command.proofs.SuperblockLemmas.{SamePage8, same_first, same_after, one_after}
 use Rattle.jfs_command.proofs.Evidence.{has_page8}
@@ -66,11 +66,11 @@ changes_nothing d old new held outcome is same = record {
 }
 
 pub ends_as : {D : Type 0} (d : Ghosts D) (m : Meaning) (old new : D) (outcome : Outcome) (held : Held) (end : End) → outcome.end ≡ end → IsHeld d old held
-    → EndsBy m d.tells d.tells_crashes held (work_of outcome (held_of d new)) (faults_of d old new) (record { before = 0; now = 0 }) end → Performs d m old new outcome
+    → ((sources : ℕ) → EndsBy m d.tells d.tells_crashes held (work_of outcome (held_of d new)) (faults_beside sources (faults_of d old new)) end) → Performs d m old new outcome
 ends_as d m old new outcome held end is_end is ends = record {
   held = held;
   before = is;
-  ends = subst (λ (e : End). EndsBy m d.tells d.tells_crashes held (work_of outcome (held_of d new)) (faults_of d old new) (record { before = 0; now = 0 }) e) (sym is_end) ends;
+  ends = λ sources. subst (λ (e : End). EndsBy m d.tells d.tells_crashes held (work_of outcome (held_of d new)) (faults_beside sources (faults_of d old new)) e) (sym is_end) (ends sources);
 }
 
 -- the command comes to an answer
@@ -79,7 +79,7 @@ pub comes : {D : Type 0} (d : Ghosts D) (old new : D) (outcome : Outcome) (c : B
 comes d old new outcome c held answer goes is same is_text said own stays is_end =
     let with_text : List ℕ → Answer = λ text. record { status = answer.status; text = text } in
     let told = subst (λ (a : Answer). AfterSuperblock held (c.says d.tells held) a) (sym (ap with_text is_text)) said in
-    ends_as d (looks_and c) old new outcome held (Own answer.status) is_end is (
+    ends_as d (looks_and c) old new outcome held (Own answer.status) is_end is (λ sources. (
       record {
         says = told;
         does = changes_nothing d old new held outcome is same;
@@ -89,11 +89,11 @@ comes d old new outcome c held answer goes is same is_text said own stays is_end
       own,
       stays,
       refl,
-    )
+    ))
 
 -- a command that was stopped had looked at page 8
 stopped : {D : Type 0} (d : Ghosts D) (old new : D) (outcome : Outcome) (c : Behind) → GoesOn c → 9 ≤ d.page_count old → ShowsSame d old new outcome
-    → outcome.text.items ≡ [] → (looks_and c).stops d.tells d.tells_crashes (held_of d old) (work_of outcome (held_of d new))
+    → outcome.text.items ≡ [] → ((n : ℕ) × c.looks (held_of d old) n) × (outcome.text.items ≡ []) × ChangesNothing d.tells d.tells_crashes (held_of d old) (work_of outcome (held_of d new))
 stopped d old new outcome c goes there same no_text =
     ((8, goes.page8 (held_of d old) (omega (arith, there))), no_text, changes_nothing d old new (held_of d old) outcome (record { pages = refl; image = λ t. refl; past = λ t. refl }) same)
 
@@ -101,13 +101,13 @@ pub no_memory : {D : Type 0} (d : Ghosts D) (old new : D) (outcome : Outcome) (c
     → outcome.text.items ≡ [] → outcome.end ≡ Stopped stops.Memory → Performs d (looks_and c) old new outcome
 no_memory d old new outcome c goes there same no_text is_end =
     ends_as d (looks_and c) old new outcome (held_of d old) (Stopped stops.Memory) is_end (record { pages = refl; image = λ t. refl; past = λ t. refl })
-    (stopped d old new outcome c goes there same no_text)
+    (λ sources. (stopped d old new outcome c goes there same no_text, tt))
 
 pub disk_failed : {D : Type 0} (d : Ghosts D) (old new : D) (outcome : Outcome) (c : Behind) → GoesOn c → 9 ≤ d.page_count old → ShowsSame d old new outcome
     → outcome.text.items ≡ [] → HasRisen (faults_of d old new) → outcome.end ≡ Stopped stops.Disk → Performs d (looks_and c) old new outcome
 disk_failed d old new outcome c goes there same no_text risen is_end =
     ends_as d (looks_and c) old new outcome (held_of d old) (Stopped stops.Disk) is_end (record { pages = refl; image = λ t. refl; past = λ t. refl })
-    (stopped d old new outcome c goes there same no_text, risen, refl)
+    (λ sources. (stopped d old new outcome c goes there same no_text, (risen, refl)))
 
 -- ---- the look at the superblock
 

@@ -7,6 +7,11 @@ pub record Count : Type 0 where
   pub before : ℕ
   pub now : ℕ
 
+-- how often the disk and the sources of scripts failed
+pub record Faults : Type 0 where
+  pub disk : Count
+  pub scripts : Count
+
 abbrev pub Stays : Count → Type 0
 Stays count = count.now ≡ count.before
 

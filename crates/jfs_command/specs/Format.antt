@@ -15,6 +15,8 @@ use Rattle.jfs_format.specs.Volume.{wanted, IsNewVolume, IsOnTheWay, IsUnnamed}
 use Rattle.jfs_plain.specs.Moves.{Same}
 use Rattle.jfs_plain.specs.Plain.{new_tree}
 use Rattle.jfs_meaning.specs.Image.{tree_of, IsConsistentImage}
+use Rattle.jfs_mount.specs.Subject.{subject_of}
+use Rattle.jfs_findings.specs.Clean.{HasNoFinding}
 use Rattle.jfs_command.specs.declared.status.Status.{Status}
 use Rattle.jfs_command.specs.declared.status.Status.TheVariants.{Done, BadSize}
 use Rattle.jfs_command.specs.declared.status.Stop.TheVariants as stops
@@ -53,6 +55,8 @@ pub record HasFormatted (tells crashes : Type 0) (v : NewVolume) (held : Held) (
   -- by it the pages mean the tree of `PlainTree::new`, and are consistent: their maps agree, and no rule is broken
   pub tree : tells → Same (new_tree v.moment) (tree_of (superblock_of work.held) (page_of work.held.image))
   pub consistent : tells → IsConsistentImage (superblock_of work.held) (page_of work.held.image)
+  -- and a check finds nothing
+  pub clean : tells → HasNoFinding (subject_of (superblock_of work.held) (page_of work.held.image))
   pub stable : crashes → IsResting (last_of work.held.past)
 
 abbrev pub Formats : Status → (tells crashes : Type 0) → NewVolume → Held → Work → Type 0
@@ -66,7 +70,7 @@ format_meaning uuid label now = record {
   says = λ tells held answer. FormatSays held.pages answer;
   judged = every_status;
   does = λ tells crashes held status work. Formats status tells crashes (wanted held.pages uuid label now) held work;
-  stops = λ tells crashes held work. IsFormattable held.pages × (work.text ≡ []) × HasBegun tells crashes (wanted held.pages uuid label now) held work;
+  stops = λ stop faults tells crashes held work. IsFormattable held.pages × (work.text ≡ []) × HasBegun tells crashes (wanted held.pages uuid label now) held work;
 }
 
 -- ---- for the prover: how the command ends where no volume was made

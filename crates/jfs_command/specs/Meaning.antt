@@ -4,12 +4,13 @@ use Rattle.jfs_disk.specs.Image.{page_of}
 use Rattle.jfs_disk.specs.declared.disk.Disk.{Ghosts}
 use Rattle.jfs_command.specs.declared.status.Status.{Status}
 use Rattle.jfs_command.specs.declared.status.Status.TheVariants.{Done}
+use Rattle.jfs_command.specs.declared.status.Stop.{Stop}
 use Rattle.jfs_command.specs.declared.status.Stop.TheVariants as stops
 use Rattle.jfs_command.specs.declared.outcome.End.{End}
 use Rattle.jfs_command.specs.declared.outcome.End.TheVariants.{Own, Stopped}
 use Rattle.jfs_command.specs.declared.outcome.Outcome.{Outcome}
 use Rattle.jfs_command.specs.Status.{IsOwn}
-use Rattle.jfs_command.specs.Count.{Count, Stays, HasRisen}
+use Rattle.jfs_command.specs.Count.{Count, Faults, Stays, HasRisen}
 use Rattle.jfs_command.specs.Held.{Held, IsHeld, Work, held_of, ChangesNothing}
 
 -- a status of a command, and the whole text before the status's line
@@ -35,8 +36,8 @@ pub record Meaning : Type 1 where
   pub judged : Status → Type 0
   -- the work that it has done where it comes to that status
   pub does : (tells crashes : Type 0) → Held → Status → Work → Type 0
-  -- the work that it may have done where it is stopped on the way
-  pub stops : (tells crashes : Type 0) → Held → Work → Type 0
+  -- The work that it may have done where it is stopped on the way, by what stopped it, and the counts of faults meanwhile: each stop has a case of its own.
+  pub stops : Stop → Faults → (tells crashes : Type 0) → Held → Work → Type 0
 
 -- all statuses are judged of each disk
 abbrev pub every_status : Status → Type 0
@@ -49,7 +50,7 @@ only_looks looks says judged = record {
   says = says;
   judged = judged;
   does = λ tells crashes held _ work. ChangesNothing tells crashes held work;
-  stops = λ tells crashes held work. ((n : ℕ) × looks held n) × (work.text ≡ []) × ChangesNothing tells crashes held work;
+  stops = λ stop faults tells crashes held work. ((n : ℕ) × looks held n) × (work.text ≡ []) × ChangesNothing tells crashes held work;
 }
 
 -- two disks that are one to whoever looks at these pages alone
@@ -65,19 +66,27 @@ pub record ComesTo (m : Meaning) (tells crashes : Type 0) (held : Held) (status 
   pub looked : (other : Held) → LooksSame (m.looks held) held other → m.says tells other (record { status = status; text = work.text })
   pub one : tells ⊎ m.judged status → (other : Held) → LooksSame (m.looks held) held other → (answer : Answer) → m.says tells other answer → answer.status ≡ status
 
+-- What stopped a command. The scripts are read before anything else is done; so a source that fails leaves no entry, and the disk as it was.
+abbrev pub StopsBy : Stop → Faults → (tells crashes : Type 0) → Held → Work → Type 0
+StopsBy stops.Scripts faults tells crashes held work = HasRisen faults.scripts × Stays faults.disk × ChangesNothing tells crashes held work
+StopsBy stops.Disk faults tells crashes held work = HasRisen faults.disk × Stays faults.scripts
+StopsBy stops.Memory faults tells crashes held work = Unit {0}
+
 -- How a command ends by its meaning, with the faults of the disk and of the scripts' sources meanwhile.
-abbrev pub EndsBy : Meaning → Type 0 → Type 0 → Held → Work → Count → Count → End → Type 0
-EndsBy m tells crashes held work disk scripts (Own status) = ComesTo m tells crashes held status work × IsOwn status × Stays disk × Stays scripts
-EndsBy m tells crashes held work disk scripts (Stopped stops.Scripts) = m.stops tells crashes held work × HasRisen scripts × Stays disk
-EndsBy m tells crashes held work disk scripts (Stopped stops.Disk) = m.stops tells crashes held work × HasRisen disk × Stays scripts
-EndsBy m tells crashes held work disk scripts (Stopped stops.Memory) = m.stops tells crashes held work
+abbrev pub EndsBy : Meaning → Type 0 → Type 0 → Held → Work → Faults → End → Type 0
+EndsBy m tells crashes held work faults (Own status) = ComesTo m tells crashes held status work × IsOwn status × Stays faults.disk × Stays faults.scripts
+EndsBy m tells crashes held work faults (Stopped stop) = m.stops stop faults tells crashes held work × StopsBy stop faults tells crashes held work
 
 -- what a function that answers so did, with what the disk then holds
 abbrev pub work_of : Outcome → Held → Work
 work_of outcome left = record { text = outcome.text.items; history = outcome.history.items; told = outcome.told.items; held = left }
 
+-- the faults of a disk, beside sources that none was taken from, however often calls on them had failed
+abbrev pub faults_beside : ℕ → Count → Faults
+faults_beside sources disk = record { disk = disk; scripts = record { before = sources; now = sources } }
+
 -- The function of a command without scripts does what the command means.
 pub record Performs {D : Type 0} (d : Ghosts D) (m : Meaning) (old new : D) (outcome : Outcome) : Type 0 where
   pub held : Held
   pub before : IsHeld d old held
-  pub ends : EndsBy m d.tells d.tells_crashes held (work_of outcome (held_of d new)) (record { before = d.fault_count old; now = d.fault_count new }) (record { before = 0; now = 0 }) outcome.end
+  pub ends : (sources : ℕ) → EndsBy m d.tells d.tells_crashes held (work_of outcome (held_of d new)) (faults_beside sources (record { before = d.fault_count old; now = d.fault_count new })) outcome.end

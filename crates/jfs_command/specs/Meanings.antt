@@ -1,6 +1,7 @@
 -- What each command means.
 use Rattle.jfs_command.specs.declared.words.Command.{Command}
-use Rattle.jfs_command.specs.declared.words.Command.TheVariants as commands
+use Rattle.jfs_command.specs.declared.words.Job.{Job}
+use Rattle.jfs_command.specs.declared.words.Job.TheVariants as jobs
 use Rattle.jfs_command.specs.Inputs.{Inputs}
 use Rattle.jfs_command.specs.Meaning.{Meaning}
 use Rattle.jfs_command.specs.Super.{super_meaning}
@@ -8,8 +9,11 @@ use Rattle.jfs_command.specs.Log.{log_meaning}
 use Rattle.jfs_command.specs.Check.{check_meaning}
 use Rattle.jfs_command.specs.Format.{format_meaning}
 
+abbrev pub job_meaning : Job → Inputs → Meaning
+job_meaning jobs.Super inputs = super_meaning
+job_meaning jobs.Log inputs = log_meaning
+job_meaning jobs.Check inputs = check_meaning
+job_meaning (jobs.Format uuid label) inputs = format_meaning uuid label inputs.now
+
 abbrev pub meaning_of : Command → Inputs → Meaning
-meaning_of commands.Super inputs = super_meaning
-meaning_of commands.Log inputs = log_meaning
-meaning_of commands.Check inputs = check_meaning
-meaning_of (commands.Format uuid label) inputs = format_meaning uuid label inputs.now
+meaning_of command inputs = job_meaning command.job inputs

@@ -5,17 +5,19 @@ use Rattle.jfs_bits.specs.declared.descriptor.Moment.{Moment}
 use Rattle.jfs_disk.specs.declared.disk.Disk.{Ghosts as DiskMembers}
 use Rattle.jfs_io.specs.declared.source.Source.{Ghosts as SourceMembers}
 use Rattle.jfs_io.specs.declared.sink.Sink.{Ghosts as SinkMembers}
+use Rattle.jfs_plain.specs.declared.call.Entry.{Entry}
 use Rattle.jfs_command.specs.declared.words.Usage.{Usage}
 use Rattle.jfs_command.specs.declared.words.Command.{Command}
 use Rattle.jfs_command.specs.declared.status.Status.{Status}
 use Rattle.jfs_command.specs.declared.status.Status.TheVariants.{OutOfMemory}
-use Rattle.jfs_command.specs.declared.outcome.Entry.{Entry}
+use Rattle.jfs_command.specs.declared.status.Stop.{Stop}
+use Rattle.jfs_command.specs.declared.status.Stop.TheVariants as stops
 use Rattle.jfs_command.specs.declared.outcome.Outcome.{Outcome}
 use Rattle.jfs_command.specs.Status.{Kind, Finishes, Refuses, RefusesWord, ByScripts, BySink, ByDisk, ByMemory, kind_of, line_of}
-use Rattle.jfs_command.specs.Count.{Count, Stays, HasRisen}
+use Rattle.jfs_command.specs.Count.{Count, Faults, Stays, HasRisen}
 use Rattle.jfs_command.specs.Held.{Held, IsHeld, Work, held_of, ChangesNothing}
 use Rattle.jfs_command.specs.Inputs.{Inputs, AreInputs, source_faults}
-use Rattle.jfs_command.specs.Meaning.{Answer, ComesTo, EndsBy, work_of}
+use Rattle.jfs_command.specs.Meaning.{Answer, ComesTo, StopsBy, EndsBy, work_of}
 use Rattle.jfs_command.specs.Meanings.{meaning_of}
 use Rattle.jfs_command.specs.Words.{scripts_asked}
 use Rattle.jfs_command.specs.Print.{IsFront, Puts}
@@ -28,17 +30,21 @@ pub record Run : Type 1 where
   pub inputs : Inputs
   pub held : Held
   pub work : Work
-  pub disk : Count
-  pub scripts : Count
+  pub faults : Faults
   pub sink : Count
 
 -- the command came to this status by itself
 abbrev pub CameTo : Run → Status → Type 0
 CameTo run status = (command : Command) × (run.asked ≡ Ok command) × ComesTo (meaning_of command run.inputs) run.tells run.crashes run.held status run.work
 
--- it was stopped on the way
-abbrev pub WasStopped : Run → Type 0
-WasStopped run = (command : Command) × (run.asked ≡ Ok command) × (meaning_of command run.inputs).stops run.tells run.crashes run.held run.work
+-- it was stopped on the way by that
+abbrev pub WasStopped : Run → Stop → Type 0
+WasStopped run stop = (command : Command) × (run.asked ≡ Ok command) × (meaning_of command run.inputs).stops stop run.faults run.tells run.crashes run.held run.work
+    × StopsBy stop run.faults run.tells run.crashes run.held run.work
+
+-- no call on the disk or a source failed
+abbrev pub NothingFailed : Run → Type 0
+NothingFailed run = Stays run.faults.disk × Stays run.faults.scripts
 
 -- no command was begun
 abbrev pub DidNothing : Run → Type 0
@@ -47,13 +53,13 @@ DidNothing run = (run.work.text ≡ []) × ChangesNothing run.tells run.crashes 
 -- The cause of a status, by its kind. Of what a run is given, one status at most has its cause beside faults and want of memory, of
 -- those that are judged (`Meaning`); and where a count rose no other status comes than its own or that of want of memory, which is free.
 abbrev pub EndsAs : Run → Status → Kind → Type 0
-EndsAs run status Finishes = CameTo run status × Stays run.disk × Stays run.scripts
-EndsAs run status Refuses = CameTo run status × Stays run.disk × Stays run.scripts
-EndsAs run status (RefusesWord word) = (run.asked ≡ Err (record { word = word })) × DidNothing run × Stays run.disk × Stays run.scripts
-EndsAs run status ByScripts = WasStopped run × HasRisen run.scripts × Stays run.disk
-EndsAs run status BySink = ((own : Status) × (kind_of own ≡ Finishes) × CameTo run own) × HasRisen run.sink × Stays run.disk × Stays run.scripts
-EndsAs run status ByDisk = WasStopped run × HasRisen run.disk × Stays run.scripts
-EndsAs run status ByMemory = DidNothing run ⊎ (WasStopped run ⊎ ((own : Status) × CameTo run own))
+EndsAs run status Finishes = CameTo run status × NothingFailed run
+EndsAs run status Refuses = CameTo run status × NothingFailed run
+EndsAs run status (RefusesWord word) = (run.asked ≡ Err (record { word = word })) × DidNothing run × NothingFailed run
+EndsAs run status ByScripts = WasStopped run stops.Scripts
+EndsAs run status BySink = ((own : Status) × (kind_of own ≡ Finishes) × CameTo run own) × HasRisen run.sink × NothingFailed run
+EndsAs run status ByDisk = WasStopped run stops.Disk
+EndsAs run status ByMemory = (DidNothing run × NothingFailed run) ⊎ (((stop : Stop) × WasStopped run stop) ⊎ ((own : Status) × CameTo run own × NothingFailed run))
 
 abbrev pub Ends : Run → Status → Type 0
 Ends run status = EndsAs run status (kind_of status)
@@ -93,8 +99,10 @@ run_of d s k asked old new inputs held work = record {
   inputs = inputs;
   held = held;
   work = work;
-  disk = record { before = d.fault_count old.disk; now = d.fault_count new.disk };
-  scripts = record { before = source_faults s old.scripts; now = source_faults s new.scripts };
+  faults = record {
+    disk = record { before = d.fault_count old.disk; now = d.fault_count new.disk };
+    scripts = record { before = source_faults s old.scripts; now = source_faults s new.scripts };
+  };
   sink = record { before = k.fault_count old.out; now = k.fault_count new.out };
 }
 
@@ -138,5 +146,4 @@ pub record PerformsCommand {D S : Type 0} (d : DiskMembers D) (s : SourceMembers
   pub held : Held
   pub before : IsHeld d old held
   pub ends : EndsBy (meaning_of command inputs) d.tells d.tells_crashes held (work_of outcome (held_of d new))
-      (record { before = d.fault_count old; now = d.fault_count new })
-      (record { before = source_faults s scripts; now = source_faults s later_scripts }) outcome.end
+      (record { disk = record { before = d.fault_count old; now = d.fault_count new }; scripts = record { before = source_faults s scripts; now = source_faults s later_scripts } }) outcome.end

@@ -7,7 +7,8 @@ use Rattle.uuid.specs.Text.{parsed}
 use Rattle.jfs_format.specs.Superblock.{label_field}
 use Rattle.jfs_command.specs.declared.words.Usage.{Usage}
 use Rattle.jfs_command.specs.declared.words.Command.{Command}
-use Rattle.jfs_command.specs.declared.words.Command.TheVariants.{Super, Log, Check, Format}
+use Rattle.jfs_command.specs.declared.words.Job.{Job}
+use Rattle.jfs_command.specs.declared.words.Job.TheVariants.{Super, Log, Check, Format}
 use Rattle.jfs_command.specs.declared.words.PathsError.{PathsError}
 use Rattle.jfs_command.specs.declared.words.PathsError.TheVariants as errors
 
@@ -34,16 +35,20 @@ is_label word = nat_le 1 (length word) && (nat_le (length word) 16 && (list_all 
 abbrev usage : ℕ → Result Command Usage
 usage word = Err (record { word = word })
 
+-- a job on the image that the second word names
+abbrev pub on_image : Job → Command
+on_image job = record { job = job; image = 2 }
+
 -- after a command that takes an image and nothing else, one name
-abbrev pub image_alone : Command → List (List ℕ) → Result Command Usage
-image_alone command [] = usage 2
-image_alone command (image ∷ []) = if is_name image then Ok command else usage 2
-image_alone command (image ∷ more ∷ rest) = if is_name image then usage 3 else usage 2
+abbrev pub image_alone : Job → List (List ℕ) → Result Command Usage
+image_alone job [] = usage 2
+image_alone job (image ∷ []) = if is_name image then Ok (on_image job) else usage 2
+image_alone job (image ∷ more ∷ rest) = if is_name image then usage 3 else usage 2
 
 -- after an image and a UUID, a label or nothing
 abbrev pub with_label : List ℕ → List (List ℕ) → Result Command Usage
-with_label uuid [] = Ok (Format uuid (label_field []))
-with_label uuid (label ∷ []) = if is_label label then Ok (Format uuid (label_field label)) else usage 4
+with_label uuid [] = Ok (on_image (Format uuid (label_field [])))
+with_label uuid (label ∷ []) = if is_label label then Ok (on_image (Format uuid (label_field label))) else usage 4
 with_label uuid (label ∷ more ∷ rest) = if is_label label then usage 5 else usage 4
 
 abbrev pub after_uuid : Option (List ℕ) → List (List ℕ) → Result Command Usage
@@ -74,10 +79,6 @@ command_of (first ∷ rest) =
 abbrev pub UsageIs : PathsError → Result Command Usage → Type 0
 UsageIs (errors.Usage u) asked = asked ≡ Err u
 UsageIs errors.Memory asked = Unit {0}
-
--- the place of the word that names the image
-abbrev pub image_word : Command → ℕ
-image_word command = 2
 
 -- the places of the words that name scripts; no command takes scripts yet
 abbrev pub script_words : Command → List ℕ

@@ -18,7 +18,6 @@ mod top;
 mod words;
 
 pub use law::{check_says_one_thing, log_says_one_thing};
-pub use outcome::Entry;
 pub use status::Status;
-pub use top::{Ended, jfs_top};
+pub use top::{Ended, jfs_top, jfs_without_clients};
 pub use words::{Paths, PathsError, Usage, paths_of};

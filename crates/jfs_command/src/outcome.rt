@@ -4,16 +4,8 @@ ghost use Rattle.std.specs.Prelude.{◌≡◌, []};
 ghost use Rattle.jfs_command.specs.Status.{status_of};
 
 use crate::status::{Status, Stop};
+use jfs_plain::Entry;
 use std::alloc::Global;
-
-/// One call in the history of a run, by its client and the line of the client's script. No command has clients yet; what
-/// was asked and what was answered join the entry with the first one that does.
-#[derive(Clone, Copy, PartialEq, Eq, Debug)]
-pub struct Entry {
-    pub client: u32,
-    pub line: u32,
-    pub lazy: bool,
-}
 
 /// How a command ended.
 #[derive(Clone, Copy, PartialEq, Eq, Debug)]

@@ -4,14 +4,15 @@ ghost use Rattle.std.specs.Prelude.{◌≡◌, length};
 ghost use Rattle.jfs_command.specs.Words.{texts, command_of, scripts_asked};
 ghost use Rattle.jfs_command.specs.Top.{IsAnswered, IsComplete, LeavesRest};
 
-use crate::outcome::{Entry, Outcome};
-use crate::perform::perform;
+use crate::outcome::Outcome;
+use crate::perform::{Performed, perform};
 use crate::print::conclude;
 use crate::status::Status;
 use crate::words::read_words;
 use jfs_bits::Moment;
 use jfs_disk::Disk;
 use jfs_io::{Gate, Sink, Source};
+use jfs_plain::Entry;
 use std::alloc::Global;
 use std::sync::Wait;
 use std::thread::Threads;
@@ -27,7 +28,7 @@ pub struct Ended<D> {
 }
 
 /// Does what the words ask for, on this disk, and prints its text. `words` leaves out the program's own name; there is
-/// one source for each script that the words name.
+/// one source for each script that the words name. It may wait, for commands with clients alone: all others are those of `jfs_without_clients`.
 pub fn jfs_top<R: Threads + Wait + Sync, D: Disk + Send, S: Source, K: Sink, G: Gate + Sync>(
     _rt: &R,
     alloc: Global,
@@ -53,11 +54,36 @@ pub fn jfs_top<R: Threads + Wait + Sync, D: Disk + Send, S: Source, K: Sink, G: 
         (record { disk = disk; scripts = scripts.old.items; out = out.old })
         (record { disk = result.disk; scripts = scripts.new.items; out = out.new }) }
 {
-    run(alloc, words, now, disk, scripts, out)
+    jfs_without_clients(alloc, words, now, disk, scripts, out)
 }
 
-// The work of the commands that need no threads.
-fn run<D: Disk, S: Source, K: Sink>(
+/// The same without a handle: it waits for nobody, and returns.
+pub fn jfs_without_clients<D: Disk, S: Source, K: Sink>(
+    alloc: Global,
+    words: &[Vec<u8>],
+    now: Moment,
+    disk: D,
+    scripts: &mut Vec<S>,
+    out: &mut K,
+) -> Ended<D>
+    requires { length scripts.old.items ≡ length (scripts_asked (command_of (texts words.now))) }
+    ensures answer { IsAnswered D.Disk S.Source K.Sink (command_of (texts words.now)) now
+        (record { disk = disk; scripts = scripts.old.items; out = out.old })
+        (record { disk = result.disk; scripts = scripts.new.items; out = out.new })
+        result.status result.history.items result.told.items }
+    ensures complete { IsComplete D.Disk S.Source K.Sink (command_of (texts words.now)) now
+        (record { disk = disk; scripts = scripts.old.items; out = out.old })
+        (record { disk = result.disk; scripts = scripts.new.items; out = out.new })
+        result.status }
+    ensures rest { LeavesRest D.Disk S.Source K.Sink (command_of (texts words.now))
+        (record { disk = disk; scripts = scripts.old.items; out = out.old })
+        (record { disk = result.disk; scripts = scripts.new.items; out = out.new }) }
+{
+    answer(alloc, words, now, disk, scripts, out)
+}
+
+// The answer, by the words.
+fn answer<D: Disk, S: Source, K: Sink>(
     alloc: Global,
     words: &[Vec<u8>],
     now: Moment,
@@ -73,16 +99,15 @@ fn run<D: Disk, S: Source, K: Sink>(
         (record { disk = disk; scripts = scripts.old.items; out = out.old })
         (record { disk = result.disk; scripts = scripts.new.items; out = out.new }) }
 {
-    let mut disk = disk;
     match read_words(words) {
         Ok(command) => {
-            let done = perform(alloc, command, now, &mut disk, scripts);
+            let Performed { outcome, disk } = perform(alloc, command, now, disk, scripts);
             let Outcome {
                 end,
                 text,
                 history,
                 told,
-            } = done;
+            } = outcome;
             let status = conclude(alloc, out, end.status(), &text);
             Ended {
                 status,

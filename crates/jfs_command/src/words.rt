@@ -4,7 +4,7 @@ ghost use Rattle.std.specs.Prelude.{◌≡◌, true, Ok, IfOk, IfErr};
 ghost use Rattle.std.specs.List.{list_all};
 ghost use Rattle.std.specs.Str.{is_utf8, bytes_eq};
 ghost use Rattle.jfs_format.specs.Superblock.{label_field};
-ghost use Rattle.jfs_command.specs.Words.{texts, is_visible, is_label, with_label, with_uuid, image_and_uuid, is_name, begins_with_dash, command_of, image_alone, image_word, script_words, UsageIs};
+ghost use Rattle.jfs_command.specs.Words.{texts, is_visible, is_label, with_label, with_uuid, image_and_uuid, is_name, begins_with_dash, command_of, on_image, image_alone, script_words, UsageIs};
 
 use std::alloc::{AllocError, Global};
 use uuid::Uuid;
@@ -15,9 +15,9 @@ pub struct Usage {
     pub word: u32,
 }
 
-/// What the words ask for, with the words that aren't names of files.
+/// What is to be done with an image, with the words that aren't names of files.
 #[derive(Clone, Copy, PartialEq, Eq, Debug)]
-pub enum Command {
+pub enum Job {
     /// Print the superblock of the image.
     Super,
     /// Print the records of the image's log.
@@ -28,12 +28,19 @@ pub enum Command {
     Format { uuid: Uuid, label: [u8; 16] },
 }
 
+/// What the words ask for: the job, and the place of the word that names the image, counted from 1.
+#[derive(Clone, Copy, PartialEq, Eq, Debug)]
+pub struct Command {
+    pub job: Job,
+    pub image: u32,
+}
+
 impl Command {
-    /// The place of the word that names the image, counted from 1.
-    pub fn image(&self) -> u32
-        ensures { result ≡ image_word self.now }
+    /// A job on the image that the second word names.
+    fn on_image(job: Job) -> Command
+        ensures { result ≡ on_image job }
     {
-        2
+        Command { job, image: 2 }
     }
 
     /// The places of the words that name scripts. No command takes scripts yet.
@@ -63,13 +70,13 @@ pub enum PathsError {
 /// Which words name the image and the scripts.
 pub fn paths_of(alloc: Global, words: &[Vec<u8>]) -> Result<Paths, PathsError>
     ensures names { IfOk result (λ paths. (command : Command) × (command_of (texts words.now) ≡ Ok command)
-        × (paths.image ≡ image_word command) × (paths.scripts.items ≡ script_words command)) }
+        × (paths.image ≡ command.image) × (paths.scripts.items ≡ script_words command)) }
     ensures usage { IfErr result (λ e. UsageIs e (command_of (texts words.now))) }
 {
     match read_words(words) {
         Ok(command) => match command.scripts(alloc) {
             Ok(scripts) => Ok(Paths {
-                image: command.image(),
+                image: command.image,
                 scripts,
             }),
             Err(_) => Err(PathsError::Memory),
@@ -83,20 +90,20 @@ pub fn read_words(words: &[Vec<u8>]) -> Result<Command, Usage>
     ensures { result ≡ command_of (texts words.now) }
 {
     match words {
-        [first, rest @ ..] if is_word(first, b"super") => image_alone(Command::Super, rest),
-        [first, rest @ ..] if is_word(first, b"log") => image_alone(Command::Log, rest),
-        [first, rest @ ..] if is_word(first, b"check") => image_alone(Command::Check, rest),
+        [first, rest @ ..] if is_word(first, b"super") => image_alone(Job::Super, rest),
+        [first, rest @ ..] if is_word(first, b"log") => image_alone(Job::Log, rest),
+        [first, rest @ ..] if is_word(first, b"check") => image_alone(Job::Check, rest),
         [first, rest @ ..] if is_word(first, b"format") => image_and_uuid(rest),
         _ => Err(Usage { word: 1 }),
     }
 }
 
 // The words after a command that takes an image and nothing else.
-fn image_alone(command: Command, words: &[Vec<u8>]) -> Result<Command, Usage>
-    ensures { result ≡ image_alone command (texts words.now) }
+fn image_alone(job: Job, words: &[Vec<u8>]) -> Result<Command, Usage>
+    ensures { result ≡ image_alone job (texts words.now) }
 {
     match words {
-        [image] if is_name(image) => Ok(command),
+        [image] if is_name(image) => Ok(Command::on_image(job)),
         [image, _, ..] if is_name(image) => Err(Usage { word: 3 }),
         _ => Err(Usage { word: 2 }),
     }
@@ -128,14 +135,14 @@ fn with_label(uuid: Uuid, words: &[Vec<u8>]) -> Result<Command, Usage>
     ensures { result ≡ with_label uuid (texts words.now) }
 {
     match words {
-        [] => Ok(Command::Format {
+        [] => Ok(Command::on_image(Job::Format {
             uuid,
             label: [0; 16],
-        }),
-        [label] if is_label(label) => Ok(Command::Format {
+        })),
+        [label] if is_label(label) => Ok(Command::on_image(Job::Format {
             uuid,
             label: padded(label),
-        }),
+        })),
         [label, _, ..] if is_label(label) => Err(Usage { word: 5 }),
         _ => Err(Usage { word: 4 }),
     }

@@ -1,4 +1,4 @@
 mod Files
 mod Objects
 mod Maps
-mod NewClean
+pub mod NewClean

@@ -21,6 +21,7 @@ returns-in-Ok-format_line-clause-meaning g c =
       reads = done.reads;
       tree = λ t. (meant t).tree;
       consistent = λ t. (meant t).consistent;
+      clean = λ t. (meant t).clean;
       stable = done.stable;
     })
     (made.text ∙ ap (λ (v : Vec ℕ). v.items) c.into_bytes.ensures.value ∙ c.in-Ok-format_line.ensures
