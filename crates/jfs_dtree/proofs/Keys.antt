@@ -40,7 +40,7 @@ same_up unit a b h = rw (tied_itself nat_cmp_total unit) h
 
 pub cut_up : (before name : List ℕ) → not_after (cut_key before name) name ≡ true
 cut_up before [] = refl
-cut_up [] (unit ∷ units) = first_up unit units
+cut_up [] (unit ∷ units) = name_refl (unit ∷ units)
 cut_up (other ∷ before) (unit ∷ units) = elim (one_of (other == unit)) [
   | inl e ↦ rw e (same_up unit (cut_key before units) units (cut_up before units))
   | inr e ↦ rw e (first_up unit units)

@@ -20,3 +20,4 @@ pub mod Lessened
 pub mod Emptied
 pub mod Behind
 pub mod Refused
+pub mod Neighbours

@@ -17,7 +17,7 @@ use Rattle.jfs_dtree.proofs.Decided.{none_broken, first_of, sound_of}
 
 -- ---- a node from its page
 
-sound_node : (form : DtForm) (blocks : ℕ) (bytes : List ℕ) → IsDtPage form bytes → dt_node form blocks bytes ≡ by_kind (is_leaf bytes) blocks (entries_of form bytes)
+pub sound_node : (form : DtForm) (blocks : ℕ) (bytes : List ℕ) → IsDtPage form bytes → dt_node form blocks bytes ≡ by_kind (is_leaf bytes) blocks (entries_of form bytes)
 unfolding dt_node
 sound_node form blocks bytes sound = rw (none_broken form bytes sound) refl
 

@@ -40,10 +40,10 @@ pub record AreNeighbours (n q : ℕ) (old left right : List ℕ) : Type 0 where
   pub left_is : (head_of Full left).place ≡ linked q (prev_in (head_of Full old).place) (head_of Full old).place
   pub right_is : (head_of Full right).place ≡ OnVolume (next_in (head_of Full old).place) n 128 1 (record { len = 1; addr = q })
 
--- The key of a right leaf: its first name, cut after the first unit in which it differs from the left leaf's last one.
+-- The key of a right leaf: its first name, cut after the first unit in which it differs from the left leaf's last one, or whole where that one is a front of it.
 abbrev pub cut_key : List ℕ → List ℕ → List ℕ
 cut_key before [] = []
-cut_key [] (unit ∷ units) = unit ∷ []
+cut_key [] (unit ∷ units) = unit ∷ units
 cut_key (other ∷ before) (unit ∷ units) = if other == unit then unit ∷ cut_key before units else unit ∷ []
 
 -- A name joins a leaf that becomes two: the entries in two parts, the pages beside each other, and the key.

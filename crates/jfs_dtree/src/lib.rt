@@ -11,6 +11,7 @@ mod error;
 mod form;
 mod lead;
 mod leaf;
+mod links;
 mod listing;
 mod lookup;
 mod loss;

@@ -23,7 +23,7 @@ use std::alloc::Global;
 
 #[tactic(auto, using(crate::proofs::Roots::has_pages))]
 /// Takes a name of at most 255 units out of a directory whose root has these 288 bytes, and answers the inode that it named: `Missing` exactly where the
-/// directory doesn't have the name. The transaction gets the changed lines, and then of each page that is empty now its `NoRedo` and its `Free`. The parent
+/// directory doesn't have the name. The transaction gets the changed lines, then a `NoRedo` of each page that is empty now, and then a `Free` of each. The parent
 /// stays, and the first keys on the leftmost way stay empty. After an `Err` root and transaction are as before.
 pub fn remove<V: PageView>(
     alloc: Global,

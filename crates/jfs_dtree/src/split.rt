@@ -47,7 +47,8 @@ pub(crate) fn split(
     key_between(bytes, right)
 }
 
-/// The key of a right leaf: its first name, cut after the first unit in which it differs from the left leaf's last one.
+/// The key of a right leaf: its first name, cut after the first unit in which it differs from the left leaf's last one, or whole where
+/// that one is a front of it.
 fn key_between(left: &[u8], right: &[u8]) -> NameKey
     requires size { (length left.now ≡ 4096) × (length right.now ≡ 4096) }
     requires pages { IsDtPage Full left.now × IsDtPage Full right.now }
@@ -73,7 +74,7 @@ fn cut(before: &[u16], name: &[u16]) -> usize
         return 0;
     };
     let Some((other, rest)) = before.split_first() else {
-        return 1;
+        return name.len();
     };
     if other == unit {
         1 + cut(rest, units)

@@ -158,7 +158,7 @@ fn move_part(last: bool, bytes: &mut [u8], right: &mut [u8], place: u32, e: DtEn
 
 /// Puts an entry at its place of page `n`, which takes more than 70 slots, and the last of all into the new page `q` behind it. The left page
 /// keeps the longest front that takes at most 70 slots; but where it is the last page of its level, an entry behind all others stands alone on
-/// the right page. The back link of the page behind, which no rule of the format reads, stays.
+/// the right page. The page behind both is linked by the whole call.
 pub(crate) fn part(
     n: u32,
     q: u32,

@@ -2,7 +2,7 @@
 
 use crate::units::{Kind, name_of};
 use crate::volume::Dir;
-use crate::way::is_trimmed;
+use crate::way::{is_linked, is_trimmed};
 use jfs_dtree::DtError;
 use std::alloc::Global;
 
@@ -54,31 +54,31 @@ pub fn find_fails(alloc: Global, dir: &mut Dir, kind: &Kind, number: u32, why: D
     }
 }
 
-/// Whether the names with numbers from `from` up to `to` are added, the lowest first, and the leftmost way is trimmed after each.
+/// Whether the names with numbers from `from` up to `to` are added, the lowest first, and the leftmost way is trimmed and all pages are linked after each.
 pub fn add_all(alloc: Global, dir: &mut Dir, kind: &Kind, from: u32, to: u32) -> bool {
     for number in from..to {
-        if !adds(alloc, dir, kind, number, number) || !is_trimmed(dir) {
+        if !adds(alloc, dir, kind, number, number) || !is_trimmed(dir) || !is_linked(dir) {
             return false;
         }
     }
     true
 }
 
-/// Whether `count` names with numbers below `end` are added, the highest first, and the leftmost way is trimmed after each.
+/// Whether `count` names with numbers below `end` are added, the highest first, and the leftmost way is trimmed and all pages are linked after each.
 pub fn add_down(alloc: Global, dir: &mut Dir, kind: &Kind, end: u32, count: u32) -> bool {
     for k in 0..count {
         let number = end.saturating_sub(1 + k);
-        if !adds(alloc, dir, kind, number, number) || !is_trimmed(dir) {
+        if !adds(alloc, dir, kind, number, number) || !is_trimmed(dir) || !is_linked(dir) {
             return false;
         }
     }
     true
 }
 
-/// Whether the names with numbers from `from` up to `to` are removed, the lowest first, and the leftmost way is trimmed after each.
+/// Whether the names with numbers from `from` up to `to` are removed, the lowest first, and the leftmost way is trimmed and all pages are linked after each.
 pub fn remove_all(alloc: Global, dir: &mut Dir, kind: &Kind, from: u32, to: u32) -> bool {
     for number in from..to {
-        if !removes(alloc, dir, kind, number, number) || !is_trimmed(dir) {
+        if !removes(alloc, dir, kind, number, number) || !is_trimmed(dir) || !is_linked(dir) {
             return false;
         }
     }

@@ -213,11 +213,11 @@ static UNREAD: [Step; 10] = [
     Do(Lose(0)),
     Fault(4),
     Find(Long, 7, Some(7)),
-    // the leaf beside the one with the name isn't read
+    // the leaf beside the one with the name isn't read where no page comes or goes
     Do(Lose(1)),
-    Add(Other, 3, 9),
     Remove(Long, 3, 3),
     RemoveFails(Long, 3, DtError::Missing),
+    Add(Long, 3, 9),
 ];
 
 #[test]

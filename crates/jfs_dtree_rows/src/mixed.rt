@@ -3,11 +3,12 @@
 use crate::calls::find_plain;
 use crate::units::{Kind, name_of};
 use crate::volume::Dir;
+use crate::way::is_linked;
 use jfs_dtree::DtError;
 use std::alloc::Global;
 use std::test::*;
 
-/// Whether name `k` is added exactly where the plain list doesn't have it.
+/// Whether name `k` is added exactly where the plain list doesn't have it, and all pages are linked then.
 fn adds(alloc: Global, dir: &mut Dir, k: u32) -> bool {
     let Ok(name) = name_of(alloc, &Kind::Mixed, k) else {
         return false;
@@ -16,10 +17,10 @@ fn adds(alloc: Global, dir: &mut Dir, k: u32) -> bool {
         Some(_) => Err(DtError::Exists),
         None => Ok(()),
     };
-    dir.adds(alloc, name, k) == expected
+    dir.adds(alloc, name, k) == expected && is_linked(dir)
 }
 
-/// Whether name `k` is removed exactly where the plain list has it, for the same inode.
+/// Whether name `k` is removed exactly where the plain list has it, for the same inode, and all pages are linked then.
 fn removes(alloc: Global, dir: &mut Dir, k: u32) -> bool {
     let Ok(name) = name_of(alloc, &Kind::Mixed, k) else {
         return false;
@@ -28,7 +29,7 @@ fn removes(alloc: Global, dir: &mut Dir, k: u32) -> bool {
         Some(inode) => Ok(inode),
         None => Err(DtError::Missing),
     };
-    dir.removes(alloc, &name) == expected
+    dir.removes(alloc, &name) == expected && is_linked(dir)
 }
 
 /// Whether the tree finds for each third name what the plain list has.

@@ -3,9 +3,9 @@
 //! A page's byte 17 is the number of its entries, 18 that of its free slots; its bytes 0 and 8 are the pages behind it and before it.
 
 use crate::facts::Fact::{Byte, Child};
-use crate::steps::Step::{self, Add, AddAll, Is};
+use crate::steps::Step::{self, Add, AddAll, FindAll, Is};
 use crate::steps::held;
-use crate::units::Kind::{Behind, Even, Small};
+use crate::units::Kind::{Behind, Even, Longer, Small};
 use std::test::*;
 
 static AT_THE_END: [Step; 10] = [
@@ -26,6 +26,22 @@ static AT_THE_END: [Step; 10] = [
 #[test]
 fn past_the_end_of_the_last_leaf(rt: HostRuntime) {
     assert_eq!(rt; held(rt.alloc(), &AT_THE_END), 10);
+}
+
+static BEHIND_ITS_FRONT: [Step; 7] = [
+    AddAll(Even, 0, 123),
+    Is(Byte(0, 18, 0)),
+    // the last name of the left leaf is a front of this one, which is the key as it is
+    Add(Longer, 122, 122),
+    Is(Byte(0, 17, 123)),
+    Is(Byte(1, 17, 1)),
+    Is(Child(1, 1, 16, b'n')),
+    FindAll(Even, 123),
+];
+
+#[test]
+fn behind_a_name_that_is_its_front(rt: HostRuntime) {
+    assert_eq!(rt; held(rt.alloc(), &BEHIND_ITS_FRONT), 7);
 }
 
 static OF_ANOTHER: [Step; 11] = [

@@ -15,6 +15,8 @@ pub enum Kind {
     Small,
     /// The small name of the double.
     Even,
+    /// The small name of the double, and three units `n`.
+    Longer,
     /// `n`, the last three digits, and 237 units `n`.
     Behind,
     /// `f`, and the last digit.
@@ -34,6 +36,7 @@ pub fn name_of(alloc: Global, kind: &Kind, number: u32) -> Result<Name, AllocErr
         Kind::Other => numbered(alloc, 237, number, 0),
         Kind::Small => numbered(alloc, 1, number, 9),
         Kind::Even => numbered(alloc, 1, number.saturating_mul(2), 9),
+        Kind::Longer => numbered(alloc, 1, number.saturating_mul(2), 12),
         Kind::Behind => numbered(alloc, 1, number, 237),
         Kind::Digit => spelled(alloc, &[0x66, digit(number, 1)]),
         Kind::Alone => spelled(alloc, &[0x6f]),

@@ -1,6 +1,9 @@
-//! The way from the root down the first children, by the bytes of the pages.
+//! The way from the root down the first children, and the pages of each level, by the bytes of the pages.
 
 use crate::volume::Dir;
+
+/// The last page that was met on each level, the leaves' first.
+type Met = [Option<u8>; 9];
 
 /// How many inner pages stand on the leftmost way, and how many units their first keys have together.
 pub fn first_keys(dir: &Dir) -> (u32, u32) {
@@ -30,4 +33,59 @@ pub fn is_trimmed(dir: &Dir) -> bool {
 
 fn is_leaf(flag: u8) -> bool {
     flag / 2 % 2 == 1
+}
+
+/// Whether the pages of each level name each other in their order, and nothing before the first or behind the last of them.
+pub fn is_linked(dir: &Dir) -> bool {
+    let mut met: Met = [None; 9];
+    if is_leaf(dir.root[16]) {
+        return true;
+    }
+    for i in 0..usize::from(dir.root[17].min(8)) {
+        let at = 32 * usize::from(dir.root[24 + i].min(8));
+        if !follows(dir, dir.root[at + 4], 7, &mut met) {
+            return false;
+        }
+    }
+    for last in &met {
+        if let Some(page) = last {
+            if dir.byte(usize::from(*page), 0) != 0 {
+                return false;
+            }
+        }
+    }
+    true
+}
+
+/// Whether a page, with so many levels below it at most, and those below it stand behind what was met on their levels, by both links.
+fn follows(dir: &Dir, page: u8, most: u8, met: &mut Met) -> bool {
+    let level = usize::from(most.min(8));
+    let n = usize::from(page);
+    match met[level] {
+        Some(before) => {
+            if dir.byte(usize::from(before), 0) != page || dir.byte(n, 8) != before {
+                return false;
+            }
+        }
+        None => {
+            if dir.byte(n, 8) != 0 {
+                return false;
+            }
+        }
+    }
+    met[level] = Some(page);
+    if is_leaf(dir.byte(n, 16)) {
+        return true;
+    }
+    if most == 0 {
+        return false;
+    }
+    for i in 0..usize::from(dir.byte(n, 17)) {
+        let table = 32 * usize::from(dir.byte(n, 21));
+        let slot = usize::from(dir.byte(n, table + i));
+        if !follows(dir, dir.byte(n, 32 * slot + 4), most - 1, met) {
+            return false;
+        }
+    }
+    true
 }

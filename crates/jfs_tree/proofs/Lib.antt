@@ -52,3 +52,6 @@ pub mod Lowered
 mod LeastFirst
 mod LeastKept
 pub mod Refusing
+pub mod Neighbours
+pub mod Owning
+pub mod Linkings

@@ -1,10 +1,7 @@
 -- An entry that was taken out of the tree, seen from the transaction.
-use Rattle.std.proofs.Common.{◌≡◌, ◌<◌, refl, sym, ap, ◌∙◌, ℕ, ◌+◌, List, [], ◌∷◌, ◌++◌, length, take, get_or, Option, Some, None, append_assoc, arith}
-use Rattle.std.proofs.lemmas.Grind.{take_at_read}
-use Rattle.jfs_bits.specs.declared.descriptor.Pxd.{Pxd}
+use Rattle.std.proofs.Common.{◌≡◌, ◌<◌, refl, ap, ◌∙◌, ℕ, List, [], ◌∷◌, ◌++◌, Option, Some, None, arith}
 use Rattle.jfs_disk.specs.Image.{Image, page_of}
 use Rattle.jfs_ranges.specs.declared.edit.Edit.{Edit}
-use Rattle.jfs_ranges.specs.declared.edit.Edit.TheVariants.{NoRedo, Free}
 use Rattle.jfs_ranges.specs.Apply.{apply_edit, apply_tx}
 use Rattle.jfs_tree.specs.Walk.{Node, Scale}
 use Rattle.jfs_tree.specs.Spells.{footprint}
@@ -14,27 +11,23 @@ use Rattle.jfs_tree.specs.Tell.{TellsDraft}
 use Rattle.jfs_tree.specs.Fresh.{after_tx, HasPages}
 use Rattle.jfs_tree.specs.Adds.{read_as}
 use Rattle.jfs_tree.specs.RootLoss.{KeepsOthers, RemovesAlways}
-use Rattle.jfs_tree.specs.Removes.{RemovesTold, TellsFreed, page_frees}
+use Rattle.jfs_tree.specs.Removes.{RemovesTold, TellsFreed, page_frees, page_no_redos, page_marks}
 use Rattle.jfs_tree.specs.declared.draft.Drafted.{Drafted}
 use Rattle.jfs_tree.proofs.Footprint.{spells_frame, footprint_frame}
 use Rattle.jfs_tree.proofs.Within.{footprint_within}
 
 -- ---- pages that are free
 
-frees_last : (ns : List ℕ) (n : ℕ) → page_frees (ns ++ n ∷ []) ≡ page_frees ns ++ NoRedo n ∷ Free (record { len = 1; addr = n }) ∷ []
-frees_last [] n = refl
-frees_last (m ∷ ns) n = ap (λ es. NoRedo m ∷ Free (record { len = 1; addr = m }) ∷ es) (frees_last ns n)
+no_redos_leave : (m : ℕ) (ns : List ℕ) (rest : List Edit) (content : List ℕ) → apply_tx m (page_no_redos ns ++ rest) content ≡ apply_tx m rest content
+no_redos_leave m [] rest content = refl
+no_redos_leave m (n ∷ ns) rest content = no_redos_leave m ns rest content
 
-pub frees_more : (old tx mid more : List Edit) (ns : List ℕ) (i d : ℕ) (p : Pxd) → tx ≡ old ++ page_frees (take i ns) → i < length ns → mid ≡ tx ++ NoRedo (get_or ns i d) ∷ [] → p ≡ record { len = 1; addr = get_or ns i d } → more ≡ mid ++ Free p ∷ []
-    → more ≡ old ++ page_frees (take (i + 1) ns)
-frees_more old tx mid more ns i d p h l first is e =
-    let n = get_or ns i d in
-    e ∙ ap (λ es. es ++ Free p ∷ []) first ∙ append_assoc tx (NoRedo n ∷ []) (Free p ∷ []) ∙ ap (λ es. es ++ NoRedo n ∷ Free p ∷ []) h ∙ append_assoc old (page_frees (take i ns)) (NoRedo n ∷ Free p ∷ [])
-    ∙ ap (λ (q : Pxd). old ++ (page_frees (take i ns) ++ NoRedo n ∷ Free q ∷ [])) is ∙ ap (λ es. old ++ es) (sym (frees_last (take i ns) n)) ∙ ap (λ xs. old ++ page_frees xs) (sym (take_at_read ns i d l).1)
+marks_leave : (m : ℕ) (ns content : List ℕ) → apply_tx m (page_marks ns) content ≡ content
+marks_leave m [] content = refl
+marks_leave m (n ∷ ns) content = marks_leave m ns content
 
 frees_leave : (m : ℕ) (tx : List Edit) (ns content : List ℕ) → apply_tx m (tx ++ page_frees ns) content ≡ apply_tx m tx content
-frees_leave m [] [] content = refl
-frees_leave m [] (n ∷ ns) content = frees_leave m [] ns content
+frees_leave m [] ns content = no_redos_leave m ns (page_marks ns) content ∙ marks_leave m ns content
 frees_leave m (e ∷ tx) ns content = frees_leave m tx ns (apply_edit m e content)
 
 -- a draft is still told where pages are freed besides

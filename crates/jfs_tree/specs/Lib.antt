@@ -23,3 +23,4 @@ pub mod Becomes
 pub mod Filled
 pub mod Leftmost
 pub mod Refusal
+pub mod Linking

@@ -1,5 +1,5 @@
 -- What is taken out of a root's list, seen from the transaction.
-use Rattle.std.specs.Prelude.{◌≡◌, ◌<◌, ℕ, ◌+◌, List, [], ◌∷◌, Option, IfSome, Ok}
+use Rattle.std.specs.Prelude.{◌≡◌, ◌<◌, ℕ, ◌+◌, List, [], ◌∷◌, ◌++◌, Option, IfSome, Ok}
 use Rattle.jfs_ranges.specs.declared.edit.Edit.{Edit}
 use Rattle.jfs_ranges.specs.declared.edit.Edit.TheVariants.{NoRedo, Free}
 use Rattle.jfs_tree.specs.Walk.{Node, Scale}
@@ -11,9 +11,17 @@ use Rattle.jfs_tree.specs.Fresh.{LeadsTo, after_tx}
 use Rattle.jfs_tree.specs.Adds.{read_as}
 
 -- the edits that free these pages, whose records are not to be redone
+abbrev pub page_no_redos : List ℕ → List Edit
+page_no_redos [] = []
+page_no_redos (n ∷ ns) = NoRedo n ∷ page_no_redos ns
+
+abbrev pub page_marks : List ℕ → List Edit
+page_marks [] = []
+page_marks (n ∷ ns) = Free (record { len = 1; addr = n }) ∷ page_marks ns
+
+-- the records of the blocks are then one list
 abbrev pub page_frees : List ℕ → List Edit
-page_frees [] = []
-page_frees (n ∷ ns) = NoRedo n ∷ Free (record { len = 1; addr = n }) ∷ page_frees ns
+page_frees ns = page_no_redos ns ++ page_marks ns
 
 -- lines were appended, and then what frees these pages; nothing else
 abbrev pub TellsFreed : List ℕ → List Edit → List Edit → Type 0

@@ -19,8 +19,9 @@ use crate::copy::copy_tx;
 use crate::draft::Draft;
 use crate::form::TreeError;
 use crate::fresh::{blocks_of, list_of, page_at, reversed};
-use crate::pages::PageForm;
-use crate::root::add_entry;
+use crate::linked::add_linked;
+use crate::links::PageLinks;
+
 use crate::tell_all::tell_draft;
 use jfs_bits::{PageKind, PxdList};
 use jfs_ranges::{Edit, PageView, Tx, ViewError};
@@ -30,7 +31,7 @@ use std::alloc::{AllocError, Global};
 /// and then an `Alloc` of each. After an `Err` root, `fresh` and transaction are as before. `Bad` names the first page on the entry's way that
 /// breaks a rule by itself; where none does, with rule `order` a page at which the entry clashes with what is stored. A tree of 8 levels gets no
 /// ninth: that is `Bad` with rule `deep` at the root.
-pub fn add_and_tell<V: PageView, F: PageForm>(
+pub fn add_and_tell<V: PageView, F: PageLinks>(
     alloc: Global,
     top: &F,
     form: &F,
@@ -110,7 +111,7 @@ pub struct Planned {
     pub tx: Tx,
 }
 
-fn plan<V: PageView, F: PageForm>(
+fn plan<V: PageView, F: PageLinks>(
     alloc: Global,
     top: &F,
     form: &F,
@@ -166,7 +167,16 @@ fn plan<V: PageView, F: PageForm>(
     };
     let mut stack = reversed(free);
     let mut draft = Draft::new(alloc);
-    if let Err(e) = add_entry(top, form, view, &mut draft, &mut stack, root, x) {
+    if let Err(e) = add_linked(
+        top,
+        form,
+        view,
+        &mut draft,
+        all.as_slice(),
+        &mut stack,
+        root,
+        x,
+    ) {
         return Err(e);
     }
     finish(alloc, view, &draft, all.as_slice(), stack.len(), kind, tx)

@@ -2,6 +2,7 @@
 #![tactic(auto)]
 
 mod add_told;
+mod beside;
 mod copy;
 mod draft;
 mod find;
@@ -11,6 +12,9 @@ mod grow;
 mod law;
 mod lead;
 mod leftmost;
+mod linked;
+mod linking;
+mod links;
 mod loss;
 mod pages;
 mod plan_told;
@@ -34,6 +38,8 @@ pub use draft::{Draft, Drafted};
 pub use form::{NO_PAGE, Put, Sibling, TreeError, Way};
 pub use fresh::page_at;
 pub use law::trees_are_framed;
+pub use linking::{link_gaps, link_taken};
+pub use links::PageLinks;
 pub use loss::PageLoss;
 pub use pages::PageForm;
 pub use plan_told::{fresh_stack, tell_steps};

@@ -10,7 +10,7 @@ ghost use Rattle.jfs_tree.specs.Edit.{IsPoint};
 ghost use Rattle.jfs_tree.specs.Leftmost.{StaysLeftmost};
 ghost use Rattle.jfs_tree.specs.Path.{broken_on_way, TellsBroken};
 ghost use Rattle.jfs_tree.specs.Fresh.{HasPages};
-ghost use Rattle.jfs_tree.specs.Removes.{RemovesTold, TellsFreed, page_frees};
+ghost use Rattle.jfs_tree.specs.Removes.{RemovesTold, TellsFreed, page_frees, page_no_redos, page_marks};
 ghost use Rattle.jfs_tree.specs.Root.{NamesBroken};
 ghost use Rattle.jfs_tree.specs.Tell.{TellsDraft};
 
@@ -19,17 +19,18 @@ use crate::copy::copy_tx;
 use crate::draft::Draft;
 use crate::form::TreeError;
 use crate::fresh::page_at;
-use crate::leftmost::remove_leftmost;
+use crate::linked::remove_linked;
+use crate::links::PageLinks;
 use crate::loss::PageLoss;
 use crate::tell_all::tell_draft;
 use jfs_bits::PageKind;
 use jfs_ranges::{Edit, PageView, Tx, ViewError};
 use std::alloc::{AllocError, Global};
 
-/// Takes the entry that shares a place with `x`, which is one place, out of a root's tree, and answers it. The transaction gets the changed lines, and then
-/// of each page that is empty now its `NoRedo` and its `Free`. A root whose last child goes is a leaf without entries. The first keys on the leftmost way stay
+/// Takes the entry that shares a place with `x`, which is one place, out of a root's tree, and answers it. The transaction gets the changed lines, then
+/// a `NoRedo` of each page that is empty now and then a `Free` of each. A root whose last child goes is a leaf without entries. The first keys on the leftmost way stay
 /// the least ones. Where there is no such entry, and after an `Err`, root and transaction are as before.
-pub fn remove_and_tell<V: PageView, F: PageLoss>(
+pub fn remove_and_tell<V: PageView, F: PageLoss + PageLinks>(
     alloc: Global,
     top: &F,
     form: &F,
@@ -65,7 +66,7 @@ pub fn remove_and_tell<V: PageView, F: PageLoss>(
     };
     let mut draft = Draft::new(alloc);
     let mut freed = Vec::new(alloc);
-    let entry = match remove_leftmost(top, form, view, &mut draft, &mut freed, root, x) {
+    let entry = match remove_linked(top, form, view, &mut draft, &mut freed, root, x) {
         Ok(Some(entry)) => entry,
         Ok(None) => return Ok(None),
         Err(e) => {
@@ -113,12 +114,29 @@ fn tell_freed<V: PageView>(
     }
 }
 
-/// Frees these pages, in their order; their records are not to be redone.
+/// Frees these pages, in their order; their records are not to be redone, which is told of all of them first.
 pub fn free_pages(pages: &[u32], tx: &mut Tx) -> Result<(), AllocError>
     ensures { OnOk result (tx.new ≡ tx.old ++ page_frees pages.now) }
 {
+    tell_no_redos(pages, tx)?;
+    tell_free(pages, tx)
+}
+
+/// Tells that records of these pages are not to be redone.
+fn tell_no_redos(pages: &[u32], tx: &mut Tx) -> Result<(), AllocError>
+    ensures { OnOk result (tx.new ≡ tx.old ++ page_no_redos pages.now) }
+{
     for n in pages {
         tx.push(Edit::NoRedo { page: *n })?;
+    }
+    Ok(())
+}
+
+/// Tells that the blocks of these pages are free.
+fn tell_free(pages: &[u32], tx: &mut Tx) -> Result<(), AllocError>
+    ensures { OnOk result (tx.new ≡ tx.old ++ page_marks pages.now) }
+{
+    for n in pages {
         tx.push(Edit::Free(page_at(*n)))?;
     }
     Ok(())

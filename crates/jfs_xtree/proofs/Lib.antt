@@ -20,3 +20,4 @@ pub mod Written
 pub mod WrittenIn
 mod Halves
 pub mod Behind
+pub mod Neighbours

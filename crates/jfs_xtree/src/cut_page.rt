@@ -6,6 +6,7 @@ ghost use Rattle.jfs_tree.specs.Call.{CarriesFault};
 ghost use Rattle.jfs_tree.specs.Draft.{shown};
 ghost use Rattle.jfs_tree.specs.Removal.{Settles};
 ghost use Rattle.jfs_xtpage.specs.Page.{bytes_of, head_of, entries_of, count_of, IsLaidOut};
+ghost use Rattle.jfs_xtpage.specs.declared.head.XtForm.{XtForm};
 ghost use Rattle.jfs_xtpage.specs.declared.head.XtForm.TheVariants.{Full};
 ghost use Rattle.jfs_xtree.specs.Node.{xt_node, is_leaf, IsSound, SameKind};
 ghost use Rattle.jfs_xtree.specs.Spells.{page_nodes};
@@ -16,14 +17,14 @@ use crate::check::is_leaf;
 use crate::children::{child_place, page_of};
 use crate::cut_leaf::cut_leaf;
 use crate::free_below::{Cut, free_children, push_page, read_page};
-use jfs_bits::get_u8;
+use jfs_bits::{get_u8, get_u64};
 use jfs_disk::Page;
 use jfs_ranges::PageView;
 use jfs_tree::TreeError;
-use jfs_xtpage::{XtForm, xt_cut};
+use jfs_xtpage::{XtForm, xt_cut, xt_link};
 
 /// Cuts what a page that breaks no rule spells, at most so many levels below it: it keeps the extents below the bound. Below it only the pages on the way
-/// to the bound and those that are freed are read. Whether any entry is left on it.
+/// to the bound and those that are freed are read. A page that is kept is the last one of its level. Whether any entry is left on it.
 pub(crate) fn cut_page<V: PageView>(
     form: XtForm,
     blocks: u32,
@@ -70,6 +71,7 @@ pub(crate) fn cut_page<V: PageView>(
         Ok(kept) => kept,
         Err(e) => return Err(e),
     };
+    end_level(&mut page.0);
     settle(cut, n, page, kept)?;
     if let Err(e) = free_children(blocks, view, cut, most, bytes, place + 1) {
         return Err(e);
@@ -77,6 +79,15 @@ pub(crate) fn cut_page<V: PageView>(
     let left = place + number_of(kept);
     xt_cut(bytes, left);
     Ok(left > 0)
+}
+
+/// No page stands behind this one on its level: those that stood there are cut off.
+fn end_level(bytes: &mut [u8])
+    requires { 32 ≤ length bytes.old }
+    ensures { (form : XtForm) (blocks : ℕ) → xt_node form blocks bytes.new ≡ xt_node form blocks bytes.old }
+{
+    let prev = get_u64(bytes, 8);
+    xt_link(bytes, 0, prev);
 }
 
 /// One page that is kept, or none.

@@ -26,7 +26,7 @@ use jfs_xtpage::xt_set_kind;
 use std::alloc::{AllocError, Global};
 
 /// Cuts a file's extents at block `blocks` of the file: what begins below it stays, the last one shortened to end there. The transaction gets the changed
-/// lines, then for each page of the tree that is no more its `NoRedo` and its `Free`, and then a `Free` of each run of blocks that the extents lost, in their order.
+/// lines, then a `NoRedo` of each page of the tree that is no more, then a `Free` of each, and then a `Free` of each run of blocks that the extents lost, in their order.
 /// Pages on the way to the bound are read, and those that are freed; a root whose children are all gone is a leaf without extents. Other pages keep their bytes,
 /// and where each page but the last of its level held at least 64 entries, each does.
 /// After an `Err` root and transaction are as before.

@@ -12,6 +12,7 @@ mod find;
 mod form;
 mod free_below;
 mod inserting;
+mod links;
 mod listing;
 mod parts;
 mod place;

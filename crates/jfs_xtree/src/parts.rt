@@ -26,8 +26,8 @@ pub(crate) fn insert(bytes: &mut [u8], place: u16, x: Xad)
 }
 
 /// Puts an extent at a place of a full page, whose last part moves to page `right`; the page is number `n`, `right` is number `q`. Where
-/// the page is the last one of its level, an extent behind all others stands alone on the new page; else each page gets half. The back link
-/// of the page behind, which no rule of the format reads, stays.
+/// the page is the last one of its level, an extent behind all others stands alone on the new page; else each page gets half. The page
+/// behind both is linked by the whole call.
 pub(crate) fn part(
     n: u32,
     q: u32,

@@ -10,6 +10,8 @@ mod cutting;
 #[cfg(test)]
 mod hostile;
 #[cfg(test)]
+mod links;
+#[cfg(test)]
 mod listed;
 #[cfg(test)]
 mod rack;

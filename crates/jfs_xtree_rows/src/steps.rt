@@ -1,5 +1,6 @@
 //! Steps of tests, for tables: what is done to a file, and what is so then.
 
+use crate::links::is_linked;
 use crate::volume::{File, Told, blocks};
 use jfs_bits::Rule;
 use jfs_xtree::XtError;
@@ -57,9 +58,9 @@ fn holds(alloc: Global, file: &mut File, step: &Step) -> bool {
     }
 }
 
-/// Whether so many blocks from `offset` on are taken.
+/// Whether so many blocks from `offset` on are taken, and all pages are linked then.
 fn takes(alloc: Global, file: &mut File, offset: u32, len: u8) -> bool {
-    file.adds(alloc, blocks(offset, len)).is_ok()
+    file.adds(alloc, blocks(offset, len)).is_ok() && is_linked(file)
 }
 
 /// Whether they are refused, for the page where they would go.
@@ -100,4 +101,5 @@ fn adds_between(alloc: Global, file: &mut File, count: u32) -> bool {
 
 fn cuts(alloc: Global, file: &mut File, bound: u64, pages: u32, blocks: u64) -> bool {
     file.cuts(alloc, bound) == Ok(Told { pages, blocks }) && file.agrees(1600)
+        && is_linked(file)
 }

@@ -47,7 +47,7 @@ impl PageView for Volume {
 #[derive(Drop)]
 pub struct File {
     volume: Volume,
-    root: [u8; 288],
+    pub root: [u8; 288],
     next: u32,
     plain: Vec<Xad>,
 }
@@ -67,6 +67,17 @@ impl File {
             next: 0,
             plain: Vec::new(alloc),
         })
+    }
+
+    /// A byte of a page; 255 where there is none.
+    pub fn byte(&self, page: u8, at: usize) -> u8 {
+        match self.volume.pages.get(usize::from(page)) {
+            Some(page) => match page.bytes().get(at) {
+                Some(byte) => *byte,
+                None => 255,
+            },
+            None => 255,
+        }
     }
 
     /// How many pages the tree took.

@@ -12,8 +12,8 @@ use Rattle.jfs_tree.proofs.FilledRoots.{thin_told}
 use Rattle.jfs_tree.proofs.Refusing.{tells_refused, tells_planned}
 use Rattle.jfs_tree.proofs.add_told.plan.Goals as goal
 
-pub add_entry-requires-clause-within : goal.add_entry-requires-clause-within
-add_entry-requires-clause-within g c =
+pub add_linked-requires-clause-within : goal.add_linked-requires-clause-within
+add_linked-requires-clause-within g c =
     subst (AllBelow (g.V.PageView.block_count c.args.view.now)) (sym (c.reversed-stack.ensures ∙ ap reverse c.in-Ok-blocks_of.ensures)) (below_reverse (g.V.PageView.block_count c.args.view.now) (blocks_of c.args.fresh.now) c.requires.within)
 
 pub returns-in-Err-clause-refused : goal.returns-in-Err-clause-refused
@@ -26,52 +26,52 @@ returns-clause-adds g c tells =
     let blocks = g.V.PageView.block_count c.args.view.now in
     let image = g.V.PageView.image c.args.view.now in
     ok_maps c.finish.result (c.finish.ensures.told tells) c.finish.ensures.rest (λ p told rest.
-    adds_told g.F.PageForm.scale c.args.x.now (g.F.PageForm.node c.args.form.now) blocks image (g.F.PageForm.node c.args.top.now c.args.root.now) (g.F.PageForm.node c.args.top.now c.add_entry.new.root)
-    c.new-draft.result.pages.items c.add_entry.new.draft.pages.items (blocks_of c.args.fresh.now) (blocks_of p.fresh) c.reversed-stack.result.items c.add_entry.new.fresh.items c.args.tx.now p.tx
-    (c.requires.children c.add_entry.new.root).0 (λ bytes. (c.requires.children bytes).1) c.new-draft.ensures (c.in_default-add_entry.ensures.adds tells) (c.in_default-add_entry.ensures.keeps tells)
-    (told_as (g.V.PageView.block_count c.add_entry.new.view) blocks (g.V.PageView.image c.add_entry.new.view) image c.add_entry.new.draft.pages.items c.args.tx.now p.tx c.add_entry.ensures.count_of_blocks (c.add_entry.ensures.image tells) told)
+    adds_told g.F.PageForm.scale c.args.x.now (g.F.PageForm.node c.args.form.now) blocks image (g.F.PageForm.node c.args.top.now c.args.root.now) (g.F.PageForm.node c.args.top.now c.add_linked.new.root)
+    c.new-draft.result.pages.items c.add_linked.new.draft.pages.items (blocks_of c.args.fresh.now) (blocks_of p.fresh) c.reversed-stack.result.items c.add_linked.new.fresh.items c.args.tx.now p.tx
+    (c.requires.children c.add_linked.new.root).0 (λ bytes. (c.requires.children bytes).1) c.new-draft.ensures (c.in_default-add_linked.ensures.adds tells) (c.in_default-add_linked.ensures.keeps tells)
+    (told_as (g.V.PageView.block_count c.add_linked.new.view) blocks (g.V.PageView.image c.add_linked.new.view) image c.add_linked.new.draft.pages.items c.args.tx.now p.tx c.add_linked.ensures.count_of_blocks (c.add_linked.ensures.image tells) told)
     (c.reversed-stack.ensures ∙ ap reverse c.in-Ok-blocks_of.ensures)
-    (left_named (blocks_of c.args.fresh.now) c.as_slice.result.now c.reversed-stack.result.items c.add_entry.new.fresh.items (blocks_of p.fresh) c.len.result
-    (c.as_slice.ensures.value ∙ c.in-Ok.ensures) (c.len.ensures ∙ c.add_entry.new.fresh.ok.0) (c.reversed-stack.ensures ∙ ap reverse c.in-Ok-blocks_of.ensures) c.add_entry.ensures.front rest))
+    (left_named (blocks_of c.args.fresh.now) c.as_slice-2.result.now c.reversed-stack.result.items c.add_linked.new.fresh.items (blocks_of p.fresh) c.len.result
+    (c.as_slice-2.ensures.value ∙ c.in-Ok.ensures) (c.len.ensures ∙ c.add_linked.new.fresh.ok.0) (c.reversed-stack.ensures ∙ ap reverse c.in-Ok-blocks_of.ensures) c.add_linked.ensures.front rest))
 
 pub returns-clause-levels : goal.returns-clause-levels
 returns-clause-levels g c tells =
     let blocks = g.V.PageView.block_count c.args.view.now in
     let image = g.V.PageView.image c.args.view.now in
     ok_maps c.finish.result (c.finish.ensures.told tells) c.finish.ensures.rest (λ p told rest.
-    levels_told g.F.PageForm.scale c.args.x.now (g.F.PageForm.node c.args.form.now) blocks image (g.F.PageForm.node c.args.top.now c.args.root.now) (g.F.PageForm.node c.args.top.now c.add_entry.new.root)
+    levels_told g.F.PageForm.scale c.args.x.now (g.F.PageForm.node c.args.form.now) blocks image (g.F.PageForm.node c.args.top.now c.args.root.now) (g.F.PageForm.node c.args.top.now c.add_linked.new.root)
     (g.F.PageForm.is_full c.args.form.now) (λ bytes. g.F.PageForm.has_no_room c.args.form.now bytes c.args.x.now)
     (g.F.PageForm.is_full c.args.top.now c.args.root.now × g.F.PageForm.has_no_room c.args.top.now c.args.root.now c.args.x.now)
     (λ key. g.F.PageForm.is_full c.args.top.now c.args.root.now × g.F.PageForm.has_no_place c.args.top.now c.args.root.now key)
-    c.new-draft.result.pages.items c.add_entry.new.draft.pages.items (blocks_of c.args.fresh.now) c.reversed-stack.result.items c.args.tx.now p.tx tt
-    (c.requires.children c.add_entry.new.root).0 (λ bytes. (c.requires.children bytes).1) c.new-draft.ensures (c.in_default-add_entry.ensures.levels tells)
-    (told_as (g.V.PageView.block_count c.add_entry.new.view) blocks (g.V.PageView.image c.add_entry.new.view) image c.add_entry.new.draft.pages.items c.args.tx.now p.tx c.add_entry.ensures.count_of_blocks (c.add_entry.ensures.image tells) told)
+    c.new-draft.result.pages.items c.add_linked.new.draft.pages.items (blocks_of c.args.fresh.now) c.reversed-stack.result.items c.args.tx.now p.tx tt
+    (c.requires.children c.add_linked.new.root).0 (λ bytes. (c.requires.children bytes).1) c.new-draft.ensures (c.in_default-add_linked.ensures.levels tells)
+    (told_as (g.V.PageView.block_count c.add_linked.new.view) blocks (g.V.PageView.image c.add_linked.new.view) image c.add_linked.new.draft.pages.items c.args.tx.now p.tx c.add_linked.ensures.count_of_blocks (c.add_linked.ensures.image tells) told)
     (c.reversed-stack.ensures ∙ ap reverse c.in-Ok-blocks_of.ensures))
 
 pub returns-clause-taken : goal.returns-clause-taken
 returns-clause-taken g c =
     ok_maps c.finish.result c.finish.ensures.rest c.finish.ensures.allocs (λ p rest ends.
-    taken_named (blocks_of c.args.fresh.now) c.as_slice.result.now (blocks_of p.fresh) (length c.as_slice.result.now - c.len.result) c.args.tx.now p.tx (c.as_slice.ensures.value ∙ c.in-Ok.ensures) rest ends)
+    taken_named (blocks_of c.args.fresh.now) c.as_slice-2.result.now (blocks_of p.fresh) (length c.as_slice-2.result.now - c.len.result) c.args.tx.now p.tx (c.as_slice-2.ensures.value ∙ c.in-Ok.ensures) rest ends)
 
 pub returns-clause-edits : goal.returns-clause-edits
 returns-clause-edits g c tells =
     let blocks = g.V.PageView.block_count c.args.view.now in
     let image = g.V.PageView.image c.args.view.now in
-    let taken = take (length c.as_slice.result.now - c.len.result) c.as_slice.result.now in
+    let taken = take (length c.as_slice-2.result.now - c.len.result) c.as_slice-2.result.now in
     ok_maps c.finish.result c.finish.ensures.rest (c.finish.ensures.edits tells) (λ p rest edits.
-    taken_changes blocks c.args.kind (page_of image) (blocks_of c.args.fresh.now) c.as_slice.result.now (blocks_of p.fresh) (length c.as_slice.result.now - c.len.result) c.args.tx.now p.tx (c.as_slice.ensures.value ∙ c.in-Ok.ensures) rest
-    (changes_as (g.V.PageView.block_count c.add_entry.new.view) blocks c.args.kind (g.V.PageView.image c.add_entry.new.view) image taken (allocs_of taken) c.args.tx.now p.tx c.add_entry.ensures.count_of_blocks (c.add_entry.ensures.image tells) edits))
+    taken_changes blocks c.args.kind (page_of image) (blocks_of c.args.fresh.now) c.as_slice-2.result.now (blocks_of p.fresh) (length c.as_slice-2.result.now - c.len.result) c.args.tx.now p.tx (c.as_slice-2.ensures.value ∙ c.in-Ok.ensures) rest
+    (changes_as (g.V.PageView.block_count c.add_linked.new.view) blocks c.args.kind (g.V.PageView.image c.add_linked.new.view) image taken (allocs_of taken) c.args.tx.now p.tx c.add_linked.ensures.count_of_blocks (c.add_linked.ensures.image tells) edits))
 
 pub returns-in-Err-clause-full : goal.returns-in-Err-clause-full
 returns-in-Err-clause-full g c tells =
-    full_as g.F.PageForm.scale c.args.x.now (g.F.PageForm.node c.args.form.now) (g.V.PageView.image c.args.view.now) (g.F.PageForm.node c.args.top.now c.args.root.now) (g.F.PageForm.node c.args.top.now c.add_entry.new.root)
+    full_as g.F.PageForm.scale c.args.x.now (g.F.PageForm.node c.args.form.now) (g.V.PageView.image c.args.view.now) (g.F.PageForm.node c.args.top.now c.args.root.now) (g.F.PageForm.node c.args.top.now c.add_linked.new.root)
     (g.F.PageForm.is_full c.args.form.now) (λ bytes. g.F.PageForm.has_no_room c.args.form.now bytes c.args.x.now)
     (g.F.PageForm.is_full c.args.top.now c.args.root.now × g.F.PageForm.has_no_room c.args.top.now c.args.root.now c.args.x.now)
     (λ key. g.F.PageForm.is_full c.args.top.now c.args.root.now × g.F.PageForm.has_no_place c.args.top.now c.args.root.now key)
-    c.reversed-stack.result.items (blocks_of c.args.fresh.now) c.new-draft.result.pages.items c.add_entry.new.draft.pages.items
+    c.reversed-stack.result.items (blocks_of c.args.fresh.now) c.new-draft.result.pages.items c.add_linked.new.draft.pages.items
     (GrowsLevel g.F.PageForm.scale c.args.x.now (nodes (g.F.PageForm.node c.args.form.now) c.new-draft.result.pages.items (g.V.PageView.image c.args.view.now)) (at_page (g.F.PageForm.is_full c.args.form.now) c.new-draft.result.pages.items (g.V.PageView.image c.args.view.now)) (at_page (λ bytes. g.F.PageForm.has_no_room c.args.form.now bytes c.args.x.now) c.new-draft.result.pages.items (g.V.PageView.image c.args.view.now))
     (g.F.PageForm.node c.args.top.now c.args.root.now) (g.F.PageForm.is_full c.args.top.now c.args.root.now × g.F.PageForm.has_no_room c.args.top.now c.args.root.now c.args.x.now) (λ key. g.F.PageForm.is_full c.args.top.now c.args.root.now × g.F.PageForm.has_no_place c.args.top.now c.args.root.now key)
-    (g.F.PageForm.node c.args.top.now c.add_entry.new.root) (nodes (g.F.PageForm.node c.args.form.now) c.add_entry.new.draft.pages.items (g.V.PageView.image c.args.view.now))) c.in-Err.e
+    (g.F.PageForm.node c.args.top.now c.add_linked.new.root) (nodes (g.F.PageForm.node c.args.form.now) c.add_linked.new.draft.pages.items (g.V.PageView.image c.args.view.now))) c.in-Err.e
     (c.reversed-stack.ensures ∙ ap reverse c.in-Ok-blocks_of.ensures) c.new-draft.ensures (c.in-Err.ensures.levels tells)
 
 pub returns-clause-room : goal.returns-clause-room
@@ -81,21 +81,21 @@ returns-clause-room g c tells =
     (g.F.PageForm.is_full c.args.form.now) (λ bytes. g.F.PageForm.has_no_room c.args.form.now bytes c.args.x.now)
     (g.F.PageForm.is_full c.args.top.now c.args.root.now × g.F.PageForm.has_no_room c.args.top.now c.args.root.now c.args.x.now)
     (λ key. g.F.PageForm.is_full c.args.top.now c.args.root.now × g.F.PageForm.has_no_place c.args.top.now c.args.root.now key)
-    (blocks_of c.args.fresh.now) (blocks_of p.fresh) c.reversed-stack.result.items c.add_entry.new.fresh.items c.new-draft.result.pages.items c.new-draft.ensures
+    (blocks_of c.args.fresh.now) (blocks_of p.fresh) c.reversed-stack.result.items c.add_linked.new.fresh.items c.new-draft.result.pages.items c.new-draft.ensures
     (c.reversed-stack.ensures ∙ ap reverse c.in-Ok-blocks_of.ensures)
-    (left_named (blocks_of c.args.fresh.now) c.as_slice.result.now c.reversed-stack.result.items c.add_entry.new.fresh.items (blocks_of p.fresh) c.len.result
-    (c.as_slice.ensures.value ∙ c.in-Ok.ensures) (c.len.ensures ∙ c.add_entry.new.fresh.ok.0) (c.reversed-stack.ensures ∙ ap reverse c.in-Ok-blocks_of.ensures) c.add_entry.ensures.front rest)
-    (c.in_default-add_entry.ensures.taken tells))
+    (left_named (blocks_of c.args.fresh.now) c.as_slice-2.result.now c.reversed-stack.result.items c.add_linked.new.fresh.items (blocks_of p.fresh) c.len.result
+    (c.as_slice-2.ensures.value ∙ c.in-Ok.ensures) (c.len.ensures ∙ c.add_linked.new.fresh.ok.0) (c.reversed-stack.ensures ∙ ap reverse c.in-Ok-blocks_of.ensures) c.add_linked.ensures.front rest)
+    (c.in_default-add_linked.ensures.taken tells))
 
 pub returns-clause-thin : goal.returns-clause-thin
 returns-clause-thin g c fills tells =
     let blocks = g.V.PageView.block_count c.args.view.now in
     let image = g.V.PageView.image c.args.view.now in
     ok_maps c.finish.result (c.finish.ensures.told tells) c.finish.ensures.rest (λ p told rest.
-    thin_told g.F.PageForm.scale g.met.F.PageForm.order c.args.x.now (g.F.PageForm.node c.args.form.now) blocks image (g.F.PageForm.node c.args.top.now c.args.root.now) (g.F.PageForm.node c.args.top.now c.add_entry.new.root)
-    c.new-draft.result.pages.items c.add_entry.new.draft.pages.items (blocks_of c.args.fresh.now) c.reversed-stack.result.items c.add_entry.new.fresh.items c.args.tx.now p.tx
-    (c.requires.children c.add_entry.new.root).0 (λ bytes. (c.requires.children bytes).1) c.new-draft.ensures (c.in_default-add_entry.ensures.adds tells) (c.in_default-add_entry.ensures.filled fills tells)
-    (told_as (g.V.PageView.block_count c.add_entry.new.view) blocks (g.V.PageView.image c.add_entry.new.view) image c.add_entry.new.draft.pages.items c.args.tx.now p.tx c.add_entry.ensures.count_of_blocks (c.add_entry.ensures.image tells) told)
+    thin_told g.F.PageForm.scale g.met.F.PageForm.order c.args.x.now (g.F.PageForm.node c.args.form.now) blocks image (g.F.PageForm.node c.args.top.now c.args.root.now) (g.F.PageForm.node c.args.top.now c.add_linked.new.root)
+    c.new-draft.result.pages.items c.add_linked.new.draft.pages.items (blocks_of c.args.fresh.now) c.reversed-stack.result.items c.add_linked.new.fresh.items c.args.tx.now p.tx
+    (c.requires.children c.add_linked.new.root).0 (λ bytes. (c.requires.children bytes).1) c.new-draft.ensures (c.in_default-add_linked.ensures.adds tells) (c.in_default-add_linked.ensures.filled fills tells)
+    (told_as (g.V.PageView.block_count c.add_linked.new.view) blocks (g.V.PageView.image c.add_linked.new.view) image c.add_linked.new.draft.pages.items c.args.tx.now p.tx c.add_linked.ensures.count_of_blocks (c.add_linked.ensures.image tells) told)
     (c.reversed-stack.ensures ∙ ap reverse c.in-Ok-blocks_of.ensures))
 
 pub returns-in-Err-clause-way : goal.returns-in-Err-clause-way
@@ -104,4 +104,4 @@ returns-in-Err-clause-way g c tells =
 
 pub returns-clause-way : goal.returns-clause-way
 returns-clause-way g c tells =
-    tells_planned g.F.PageForm.scale (g.F.PageForm.node c.args.form.now) (g.V.PageView.image c.args.view.now) c.args.x.now (g.F.PageForm.node c.args.top.now c.args.root.now) (g.F.PageForm.is_full c.args.form.now) (λ bytes. g.F.PageForm.has_no_room c.args.form.now bytes c.args.x.now) (λ key. g.F.PageForm.is_full c.args.top.now c.args.root.now × g.F.PageForm.has_no_place c.args.top.now c.args.root.now key) c.new-draft.result.pages.items c.new-draft.ensures tt c.finish.result (c.in_default-add_entry.ensures.way tells) c.finish.ensures.read
+    tells_planned g.F.PageForm.scale (g.F.PageForm.node c.args.form.now) (g.V.PageView.image c.args.view.now) c.args.x.now (g.F.PageForm.node c.args.top.now c.args.root.now) (g.F.PageForm.is_full c.args.form.now) (λ bytes. g.F.PageForm.has_no_room c.args.form.now bytes c.args.x.now) (λ key. g.F.PageForm.is_full c.args.top.now c.args.root.now × g.F.PageForm.has_no_place c.args.top.now c.args.root.now key) c.new-draft.result.pages.items c.new-draft.ensures tt c.finish.result (c.in_default-add_linked.ensures.way tells) c.finish.ensures.read

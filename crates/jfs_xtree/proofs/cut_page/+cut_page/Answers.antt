@@ -4,9 +4,10 @@ use Rattle.jfs_disk.specs.Image.{Image, page_of}
 use Rattle.jfs_tree.specs.Draft.{shown}
 use Rattle.jfs_tree.specs.declared.draft.Drafted.{Drafted}
 use Rattle.jfs_xtpage.specs.Page.{entries_of}
-use Rattle.jfs_xtree.specs.Node.{is_leaf}
+use Rattle.jfs_xtpage.specs.declared.head.XtForm.TheVariants.{Full}
+use Rattle.jfs_xtree.specs.Node.{is_leaf, xt_node}
 use Rattle.jfs_xtree.specs.Spells.{page_nodes}
-use Rattle.jfs_xtree.specs.CutParts.{CutsPage, FreesUnder, BreaksUnder}
+use Rattle.jfs_xtree.specs.CutParts.{CutsNode, CutsPage, FreesUnder, BreaksUnder}
 use Rattle.jfs_xtree.proofs.Reading.{is_rising}
 use Rattle.jfs_xtree.proofs.CutSteps.{leaf_done, page_settled, inner_done, left_some, breaks_child, breaks_here, breaks_behind, is_some, is_none, one_or_none, kind_cut}
 use Rattle.jfs_xtree.proofs.cut_page.+cut_page.Goals as goal
@@ -43,8 +44,10 @@ returns-clause-cuts g t c tells =
     let is = c.number_of.ensures in
     let few = one_or_none c.in-Ok-cut_page.kept in
     let inside = c.child_place-place.ensures.within in
-    let settled = page_settled c.args.blocks c.args.bound c.page_of-n.result image (g.V.PageView.image c.read_page.new.view) c.in-Ok.page.0 c.cut_page.new.bytes c.in-Ok-cut_page.kept c.cut_page.new.cut.draft.pages.items c.settle.new.cut.draft.pages.items c.cut_page.new.cut.pages.items c.settle.new.cut.pages.items c.cut_page.new.cut.runs c.settle.new.cut.runs
-    (c.in-Ok.ensures.image tells) (c.in-Ok.ensures.bytes tells) (c.in-Ok-cut_page.ensures.cuts tells) c.in_ok-settle.ensures.settles c.in_ok-settle.ensures.runs in
+    let settled = page_settled c.args.blocks c.args.bound c.page_of-n.result image (g.V.PageView.image c.read_page.new.view) c.in-Ok.page.0 c.end_level.new.bytes c.in-Ok-cut_page.kept c.cut_page.new.cut.draft.pages.items c.settle.new.cut.draft.pages.items c.cut_page.new.cut.pages.items c.settle.new.cut.pages.items c.cut_page.new.cut.runs c.settle.new.cut.runs
+    (c.in-Ok.ensures.image tells) (c.in-Ok.ensures.bytes tells)
+    (subst (λ node. CutsNode c.args.blocks c.args.bound (page_of (g.V.PageView.image c.read_page.new.view)) (shown c.cut_page.new.cut.draft.pages.items (g.V.PageView.image c.read_page.new.view)) (xt_node Full c.args.blocks c.in-Ok.page.0) node c.in-Ok-cut_page.kept c.cut_page.new.cut.pages.items c.cut_page.new.cut.runs)
+    (sym (c.end_level.ensures Full c.args.blocks)) (c.in-Ok-cut_page.ensures.cuts tells)) c.in_ok-settle.ensures.settles c.in_ok-settle.ensures.runs in
     inner_done c.args.form c.args.blocks c.args.bound c.saturating_sub.result place left c.in-Ok-cut_page.kept (nat_lt 0 left) c.args.bytes.now c.xt_cut.new.bytes image (shown c.free_children.new.cut.draft.pages.items image) c.page_of-n.result c.settle.new.cut.pages.items c.free_children.new.cut.pages.items c.settle.new.cut.runs c.free_children.new.cut.runs
     c.requires.sound flag c.saturating_sub.ensures (c.child_place-place.ensures.leads (is_rising c.args.bytes.now c.requires.sound.order)) c.page_of-n.ensures.page (ap (λ n. place + n) is) (is_some left) (is_none left)
     (kind_cut c.args.bytes.now c.xt_cut.new.bytes left c.requires.page (omega (arith, inside, is, few)) c.xt_cut.ensures.head) c.xt_cut.ensures.entries
