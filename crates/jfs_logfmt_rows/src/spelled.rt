@@ -2,7 +2,7 @@ ghost use Rattle.std.specs.Prelude.{IfOk};
 ghost use Rattle.jfs_logfmt.specs.Written.{Fits};
 ghost use Rattle.jfs_logfmt.specs.Rules.{IsRecordOf};
 
-use crate::{blob_of, there_and_back};
+use crate::written::{blob_of, there_and_back};
 use jfs_bits::{LineRange, PageKind, Pxd, PxdList, Ranges};
 use jfs_logfmt::{Record, read_record_before, write_record};
 use std::alloc::{AllocError, Global};

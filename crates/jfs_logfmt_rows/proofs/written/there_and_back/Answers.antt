@@ -1,6 +1,6 @@
 use Rattle.std.proofs.Common.{◌∙◌}
 use Rattle.jfs_logfmt.specs.Written.{text_of}
-use Rattle.jfs_logfmt_rows.proofs.there_and_back.Goals as goal
+use Rattle.jfs_logfmt_rows.proofs.written.there_and_back.Goals as goal
 
 pub returns : goal.returns
 returns c =
