@@ -1,6 +1,6 @@
 //! A dmap page and a control page, byte by byte.
 
-use crate::{are_taken, take_and_give};
+use crate::runs::{are_taken, take_and_give};
 use jfs_bits::set_run;
 use jfs_disk::Page;
 use jfs_dmap::{dmap_canonical, dmap_find};

@@ -5,7 +5,7 @@ use Rattle.jfs_bits.specs.Bits.{is_in_run, is_full}
 use Rattle.jfs_bits.proofs.Runs.{all_below-from}
 use Rattle.jfs_dmap.specs.Dmap.{taken_in}
 use Rattle.jfs_bits.proofs.Counts.{in_run}
-use Rattle.jfs_map_rows.proofs.take_run.Goals as goal
+use Rattle.jfs_map_rows.proofs.runs.take_run.Goals as goal
 
 pub dmap_mark-requires-clause-free : goal.dmap_mark-requires-clause-free
 dmap_mark-requires-clause-free c =
