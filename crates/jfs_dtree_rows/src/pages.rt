@@ -1,6 +1,6 @@
 //! Pages by their names.
 
-use crate::{add, add_eight, take_eight};
+use crate::leaves::{add, add_eight, take_eight};
 use jfs_bits::{Pxd, Rule};
 use jfs_dtpage::{BadDt, DtForm, PageFull, dt_check, dt_new};
 use std::test::*;

@@ -1,6 +1,6 @@
 //! Runs that overlap, that end at words, and that lie behind the last block.
 
-use crate::{is_row, owners_of};
+use crate::counted::{is_row, owners_of};
 use std::alloc::AllocError;
 
 // Each with its first block and its length.

@@ -1,6 +1,6 @@
 //! What the words of each call ask for.
 
-use crate::{script_of, spelled};
+use crate::scripts::{script_of, spelled};
 use jfs_name::Path;
 use jfs_plain::Call;
 use std::alloc::{AllocError, Global};

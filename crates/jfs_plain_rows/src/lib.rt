@@ -1,12 +1,6 @@
 //! Tests of scripts, of calls on a plain tree and of the text of a history, by lines and limits worked out by hand.
 #![tactic(auto)]
 
-use jfs_io::SureSource;
-use jfs_name::{Path, write_name};
-use jfs_plain::Line;
-use jfs_script::{ScriptError, read_script};
-use std::alloc::{AllocError, Global};
-
 #[cfg(test)]
 mod calls;
 #[cfg(test)]
@@ -16,22 +10,8 @@ mod lines;
 #[cfg(test)]
 mod room;
 #[cfg(test)]
+mod scripts;
+#[cfg(test)]
 mod text;
 #[cfg(test)]
 mod tree;
-
-/// What a script of these bytes asks for.
-pub fn script_of(alloc: Global, text: &[u8]) -> Result<Vec<Line>, ScriptError> {
-    let mut source = SureSource::new(Vec::from_slice(alloc, text)?);
-    read_script(alloc, &mut source)
-}
-
-/// A path as it is spelled; nothing for the root directory.
-pub fn spelled(alloc: Global, path: &Path) -> Result<Vec<u8>, AllocError> {
-    let mut text = Vec::new(alloc);
-    for name in path.as_slice() {
-        text.push(b'/')?;
-        write_name(name.as_slice(), &mut text)?;
-    }
-    Ok(text)
-}

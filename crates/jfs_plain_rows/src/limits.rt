@@ -1,6 +1,6 @@
 //! Limits of scripts: 0, the greatest value, and one more.
 
-use crate::script_of;
+use crate::scripts::script_of;
 use jfs_bits::Rule;
 use jfs_io::MemSource;
 use jfs_script::{ScriptError, read_script};

@@ -1,6 +1,6 @@
 //! The first rule, from the left, that a line breaks.
 
-use crate::script_of;
+use crate::scripts::script_of;
 use jfs_bits::Rule;
 use jfs_script::ScriptError;
 use std::alloc::Global;

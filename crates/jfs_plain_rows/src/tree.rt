@@ -1,6 +1,6 @@
 //! What calls on a plain tree are answered, worked out by hand: each call, each refusal but those of limits, renames, holes.
 
-use crate::script_of;
+use crate::scripts::script_of;
 use jfs_bits::Moment;
 use jfs_plain::{Call, Entry, PlainTree, Reply};
 use jfs_script::write_entry;
