@@ -36,7 +36,10 @@ static ROWS: [Row; 10] = [
 #[test]
 fn records_hold_what_they_can(rt: HostRuntime) {
     for i in 0..ROWS.len() {
-        assert!(rt; holds(rt.alloc(), ROWS[i].0, ROWS[i].1, ROWS[i].2), "row {i}");
+        assert!(rt;
+            holds(rt.alloc(), ROWS[i].0, ROWS[i].1, ROWS[i].2),
+            "row {i}"
+        );
     }
 }
 

@@ -21,7 +21,6 @@ use crate::form::TreeError;
 use crate::fresh::{blocks_of, list_of, page_at, reversed};
 use crate::linked::add_linked;
 use crate::links::PageLinks;
-
 use crate::tell_all::tell_draft;
 use jfs_bits::{PageKind, PxdList};
 use jfs_ranges::{Edit, PageView, Tx, ViewError};

@@ -54,11 +54,7 @@ fn child_at<F: PageRead>(form: &F, bytes: &[u8], i: usize) -> Option<u32>
 }
 
 /// The children beside the one to which an inner page leads an entry, as far as they are its own.
-pub(crate) fn children_beside<F: PageRead>(
-    form: &F,
-    bytes: &[u8],
-    x: &F::Entry,
-) -> Option<Beside>
+pub(crate) fn children_beside<F: PageRead>(form: &F, bytes: &[u8], x: &F::Entry) -> Option<Beside>
     requires { length bytes.now ≡ F.PageForm.size form.now }
     ensures within { IfSome result (AreBelow (F.PageForm.blocks form.now)) }
     ensures children { IfSome result (NamesAll (F.PageForm.node form.now bytes.now)) }

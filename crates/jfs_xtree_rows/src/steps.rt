@@ -100,6 +100,5 @@ fn adds_between(alloc: Global, file: &mut File, count: u32) -> bool {
 }
 
 fn cuts(alloc: Global, file: &mut File, bound: u64, pages: u32, blocks: u64) -> bool {
-    file.cuts(alloc, bound) == Ok(Told { pages, blocks }) && file.agrees(1600)
-        && is_linked(file)
+    file.cuts(alloc, bound) == Ok(Told { pages, blocks }) && file.agrees(1600) && is_linked(file)
 }
