@@ -7,8 +7,8 @@ pub returns-in-Ok-clause-answer : goal.returns-in-Ok-clause-answer
 returns-in-Ok-clause-answer g c =
     answered g.D.Disk g.S.Source g.K.Sink (command_of (texts c.args.words.now)) c.in-Ok.command (sym c.in-Ok.ensures) c.args.now
     (record { disk = c.args.disk; scripts = c.args.scripts.now.items; out = c.args.out.now })
-    (record { disk = c.perform.result.disk; scripts = c.perform.new._scripts.items; out = c.conclude-status.new.out })
-    c.perform.result.outcome c.deref.result.now c.status.result c.conclude-status.result c.perform.ensures.meaning c.deref.ensures.value c.status.ensures c.conclude-status.ensures.text
+    (record { disk = c.perform-outcome.result.disk; scripts = c.perform-outcome.new._scripts.items; out = c.conclude-status.new.out })
+    c.perform-outcome.result.outcome c.deref.result.now c.status.result c.conclude-status.result c.perform-outcome.ensures.meaning c.deref.ensures.value c.status.ensures c.conclude-status.ensures.text
 
 pub returns-in-Err-clause-answer : goal.returns-in-Err-clause-answer
 returns-in-Err-clause-answer g c =
