@@ -2,6 +2,7 @@
 
 ghost use Rattle.std.specs.Prelude.{◌≡◌, ◌<◌, ◌≤◌, ◌+◌, [], ◌∷◌, IfOk, true};
 ghost use Rattle.jfs_ranges.specs.View.{no_device};
+ghost use Rattle.jfs_disk.specs.declared.disk.Part.TheVariants.{Low};
 
 use jfs_bits::{Pxd, PxdList};
 use jfs_disk::Page;
@@ -22,7 +23,7 @@ pub struct Store {
 impl PageView for Store {
     ghost block_count = { λ store. 32768 };
 
-    ghost fault_count = { λ store. 0 };
+    ghost faults = { λ store. record { part = Low; count = 0 } };
 
     ghost image = { λ store. [] };
 

@@ -1,7 +1,8 @@
 -- What a check answers.
 use Rattle.std.specs.Prelude.{◌≡◌, ℕ, None, Result, Ok, Err, is_some}
 use Rattle.jfs_bits.specs.Bits.{count_below}
-use Rattle.jfs_bits.specs.Count.{Rose}
+use Rattle.jfs_disk.specs.declared.disk.Fault.{Fault}
+use Rattle.jfs_ranges.specs.View.{Failed}
 use Rattle.jfs_objects.specs.Volume.{room}
 use Rattle.jfs_meaning.specs.Room.{free_blocks}
 use Rattle.jfs_mount.specs.Subject.{Subject, blocks, volume, object}
@@ -28,8 +29,8 @@ pub record IsChecked (s : Subject) (c : Checked) : Type 0 where
   pub findings : AreFindings s c.findings.items
   pub counts : AreCounted s c.free c.inodes
 
--- the count of faults rises only with a fault, which carries the count that it raised
-abbrev pub CarriesCheck : {T : Type 0} → ℕ → ℕ → Result T CheckError → Type 0
+-- the count of faults rises only with a fault, which carries the part and the count that it raised
+abbrev pub CarriesCheck : {T : Type 0} → Fault → Fault → Result T CheckError → Type 0
 CarriesCheck before now (Ok it) = now ≡ before
-CarriesCheck before now (Err (Read fault)) = Rose before now × (fault.count ≡ now)
+CarriesCheck before now (Err (Read fault)) = Failed before now × (fault ≡ now)
 CarriesCheck before now (Err Memory) = now ≡ before

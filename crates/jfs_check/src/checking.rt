@@ -2,6 +2,7 @@
 
 ghost use Rattle.std.specs.Prelude.{◌≡◌, ◌≤◌, [], IfOk};
 ghost use Rattle.jfs_disk.specs.Image.{page_of};
+ghost use Rattle.jfs_disk.specs.declared.disk.Part.TheVariants.{Whole};
 ghost use Rattle.jfs_super.specs.Rules.{IsAccepted, blocks_of};
 ghost use Rattle.jfs_super.specs.Geometry.{geometry_of, IsLayout};
 ghost use Rattle.jfs_mount.specs.Subject.{subject_of};
@@ -32,7 +33,7 @@ pub fn check_view<V: PageView>(
     ensures image { V.PageView.tells → V.PageView.image view.new ≡ V.PageView.image view.old }
     ensures count_of_blocks { V.PageView.block_count view.new ≡ V.PageView.block_count view.old }
     ensures device { V.PageView.device view.new ≡ V.PageView.device view.old }
-    ensures fault { CarriesCheck (V.PageView.fault_count view.old) (V.PageView.fault_count view.new) result }
+    ensures fault { CarriesCheck (V.PageView.faults view.old) (V.PageView.faults view.new) result }
     ensures checked { V.PageView.tells → IfOk result (IsChecked (subject_of s.now (page_of (V.PageView.image view.old)))) }
 {
     match examine(alloc, view, s) {
@@ -54,7 +55,7 @@ fn check_loan<'a, D: Disk>(
     ensures image { D.tells → D.image view.new.disk.now ≡ D.image view.old.disk.now }
     ensures pages { D.page_count view.new.disk.now ≡ D.page_count view.old.disk.now }
     ensures past { D.tells_crashes → D.past view.new.disk.now ≡ D.past view.old.disk.now }
-    ensures fault { CarriesCheck (D.fault_count view.old.disk.now) (D.fault_count view.new.disk.now) result }
+    ensures fault { CarriesCheck (record { part = view.old.part; count = D.fault_count view.old.disk.now }) (record { part = view.new.part; count = D.fault_count view.new.disk.now }) result }
     ensures checked { D.tells → IfOk result (IsChecked (subject_of s.now (page_of (D.image view.old.disk.now)))) }
 {
     check_view(alloc, view, s)
@@ -78,7 +79,7 @@ pub fn check<D: Disk>(alloc: Global, disk: &mut D, s: &Super) -> Result<Checked,
     ensures pages { D.page_count disk.new ≡ D.page_count disk.old }
     ensures image { D.tells → D.image disk.new ≡ D.image disk.old }
     ensures past { D.tells_crashes → D.past disk.new ≡ D.past disk.old }
-    ensures fault { CarriesCheck (D.fault_count disk.old) (D.fault_count disk.new) result }
+    ensures fault { CarriesCheck (record { part = Whole; count = D.fault_count disk.old }) (record { part = Whole; count = D.fault_count disk.new }) result }
     ensures later { D.fault_count disk.old ≤ D.fault_count disk.new }
 {
     let _faults = disk.faults();

@@ -43,7 +43,7 @@ pub(crate) fn find_all<V: PageView>(
     ensures image { V.PageView.tells → V.PageView.image view.new ≡ V.PageView.image view.old }
     ensures count_of_blocks { V.PageView.block_count view.new ≡ V.PageView.block_count view.old }
     ensures device { V.PageView.device view.new ≡ V.PageView.device view.old }
-    ensures fault { CarriesCount (V.PageView.fault_count view.old) (V.PageView.fault_count view.new) result }
+    ensures fault { CarriesCount (V.PageView.faults view.old) (V.PageView.faults view.new) result }
     ensures owned { IfOk result (λ look. look.census.owners.blocks ≡ V.PageView.block_count view.old) }
     ensures used { IfOk result (λ look. length look.used.items ≡ 512 * mounted.now.maps.inodes.iags) }
     ensures found { V.PageView.tells → IfOk result (λ look. Mounts (subject_of s.now (page_of (V.PageView.image view.old))) (Ok mounted.now) →
@@ -95,7 +95,7 @@ pub(crate) fn examine<V: PageView>(
     ensures image { V.PageView.tells → V.PageView.image view.new ≡ V.PageView.image view.old }
     ensures count_of_blocks { V.PageView.block_count view.new ≡ V.PageView.block_count view.old }
     ensures device { V.PageView.device view.new ≡ V.PageView.device view.old }
-    ensures fault { CarriesCount (V.PageView.fault_count view.old) (V.PageView.fault_count view.new) result }
+    ensures fault { CarriesCount (V.PageView.faults view.old) (V.PageView.faults view.new) result }
     ensures checked { V.PageView.tells → IfOk result (IsChecked (subject_of s.now (page_of (V.PageView.image view.old)))) }
 {
     let mounted = match mounted(alloc, view)? {

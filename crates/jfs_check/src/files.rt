@@ -36,7 +36,7 @@ pub(crate) fn count_area<V: PageView>(
     ensures image { V.PageView.tells → V.PageView.image view.new ≡ V.PageView.image view.old }
     ensures count_of_blocks { V.PageView.block_count view.new ≡ V.PageView.block_count view.old }
     ensures device { V.PageView.device view.new ≡ V.PageView.device view.old }
-    ensures fault { CarriesCount (V.PageView.fault_count view.old) (V.PageView.fault_count view.new) result }
+    ensures fault { CarriesCount (V.PageView.faults view.old) (V.PageView.faults view.new) result }
     ensures held { V.PageView.tells → IfOk result (λ it. broken_mount (subject_of s.now (page_of (V.PageView.image view.old))) ≡ None →
         Adds (area_on (readers (blocks_of s.now)) s.now.ait2 s.now.aim2 (page_of (V.PageView.image view.old))) owners.old owners.new) }
     ensures found { V.PageView.tells → OnOk result (broken_mount (subject_of s.now (page_of (V.PageView.image view.old))) ≡ None →
@@ -63,7 +63,7 @@ fn check_bad_blocks<V: PageView>(
     ensures image { V.PageView.tells → V.PageView.image view.new ≡ V.PageView.image view.old }
     ensures count_of_blocks { V.PageView.block_count view.new ≡ V.PageView.block_count view.old }
     ensures device { V.PageView.device view.new ≡ V.PageView.device view.old }
-    ensures fault { CarriesCount (V.PageView.fault_count view.old) (V.PageView.fault_count view.new) result }
+    ensures fault { CarriesCount (V.PageView.faults view.old) (V.PageView.faults view.new) result }
     ensures held { V.PageView.tells → IfOk result (λ it.
         Adds (extents_held (extents_walk (V.PageView.block_count view.old) (page_of (V.PageView.image view.old)) root.now)) owners.old owners.new) }
     ensures found { V.PageView.tells → OnOk result (Gains (IsBroken Xtree xt_scale

@@ -58,7 +58,7 @@ pub(crate) fn count_fixed<V: PageView>(
     ensures image { V.PageView.tells → V.PageView.image view.new ≡ V.PageView.image view.old }
     ensures count_of_blocks { V.PageView.block_count view.new ≡ V.PageView.block_count view.old }
     ensures device { V.PageView.device view.new ≡ V.PageView.device view.old }
-    ensures fault { CarriesCount (V.PageView.fault_count view.old) (V.PageView.fault_count view.new) result }
+    ensures fault { CarriesCount (V.PageView.faults view.old) (V.PageView.faults view.new) result }
     ensures counts { V.PageView.tells → IfOk result (λ it. Counts owners.old (λ b. 0) →
         broken_mount (subject_of s.now (page_of (V.PageView.image view.old))) ≡ None →
         places.now ≡ (volume (subject_of s.now (page_of (V.PageView.image view.old)))).extents →

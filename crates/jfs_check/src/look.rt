@@ -64,7 +64,7 @@ fn look_over<V: PageView>(
     ensures image { V.PageView.tells → V.PageView.image view.new ≡ V.PageView.image view.old }
     ensures count_of_blocks { V.PageView.block_count view.new ≡ V.PageView.block_count view.old }
     ensures device { V.PageView.device view.new ≡ V.PageView.device view.old }
-    ensures fault { CarriesCount (V.PageView.fault_count view.old) (V.PageView.fault_count view.new) result }
+    ensures fault { CarriesCount (V.PageView.faults view.old) (V.PageView.faults view.new) result }
     ensures seen { V.PageView.tells → IfOk result (λ it. SeesTrees (V.PageView.block_count view.old) (page_of (V.PageView.image view.old)) n
         (record { page = page; inode = inode.now }) census.old census.new) }
     ensures found { V.PageView.tells → OnOk result (Gains (IsOfFound (V.PageView.block_count view.old) (page_of (V.PageView.image view.old)) n

@@ -44,7 +44,7 @@ pub(crate) fn check_maps<V: PageView>(
     ensures image { V.PageView.tells → V.PageView.image view.new ≡ V.PageView.image view.old }
     ensures count_of_blocks { V.PageView.block_count view.new ≡ V.PageView.block_count view.old }
     ensures device { V.PageView.device view.new ≡ V.PageView.device view.old }
-    ensures fault { CarriesCount (V.PageView.fault_count view.old) (V.PageView.fault_count view.new) result }
+    ensures fault { CarriesCount (V.PageView.faults view.old) (V.PageView.faults view.new) result }
     ensures found { V.PageView.tells → OnOk result (AreRead (subject_of s.now (page_of (V.PageView.image view.old))) maps.now →
         Counts held.now (owners (subject_of s.now (page_of (V.PageView.image view.old))).readers (volume (subject_of s.now (page_of (V.PageView.image view.old))))) →
         AreInUse (subject_of s.now (page_of (V.PageView.image view.old))) used.now →
@@ -76,7 +76,7 @@ fn check_blocks<V: PageView>(
     ensures image { V.PageView.tells → V.PageView.image view.new ≡ V.PageView.image view.old }
     ensures count_of_blocks { V.PageView.block_count view.new ≡ V.PageView.block_count view.old }
     ensures device { V.PageView.device view.new ≡ V.PageView.device view.old }
-    ensures fault { CarriesCount (V.PageView.fault_count view.old) (V.PageView.fault_count view.new) result }
+    ensures fault { CarriesCount (V.PageView.faults view.old) (V.PageView.faults view.new) result }
     ensures found { V.PageView.tells → OnOk result ((super : Super) →
         KnowsOwners (subject_of super (page_of (V.PageView.image view.old))) (V.PageView.block_count view.old) agsize owned.now maps.now.block_map →
         Gains (IsOfBlockMap (subject_of super (page_of (V.PageView.image view.old)))) findings.old.items findings.new.items) }
@@ -108,7 +108,7 @@ fn check_inodes<V: PageView>(
     ensures image { V.PageView.tells → V.PageView.image view.new ≡ V.PageView.image view.old }
     ensures count_of_blocks { V.PageView.block_count view.new ≡ V.PageView.block_count view.old }
     ensures device { V.PageView.device view.new ≡ V.PageView.device view.old }
-    ensures fault { CarriesCount (V.PageView.fault_count view.old) (V.PageView.fault_count view.new) result }
+    ensures fault { CarriesCount (V.PageView.faults view.old) (V.PageView.faults view.new) result }
     ensures found { V.PageView.tells → OnOk result ((super : Super) →
         KnowsInodes (subject_of super (page_of (V.PageView.image view.old))) (V.PageView.block_count view.old) maps.now.inodes.iags used.now maps.now.inodes.extents →
         Gains (IsOfInodeMap (subject_of super (page_of (V.PageView.image view.old)))) findings.old.items findings.new.items) }

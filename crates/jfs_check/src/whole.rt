@@ -32,7 +32,7 @@ pub(crate) fn look_at_all<V: PageView>(
     ensures image { V.PageView.tells → V.PageView.image view.new ≡ V.PageView.image view.old }
     ensures count_of_blocks { V.PageView.block_count view.new ≡ V.PageView.block_count view.old }
     ensures device { V.PageView.device view.new ≡ V.PageView.device view.old }
-    ensures fault { CarriesCount (V.PageView.fault_count view.old) (V.PageView.fault_count view.new) result }
+    ensures fault { CarriesCount (V.PageView.faults view.old) (V.PageView.faults view.new) result }
     ensures looked { V.PageView.tells → IfOk result (λ look. Mounts (subject_of s.now (page_of (V.PageView.image view.old))) (Ok mounted.now) →
         Looked (subject_of s.now (page_of (V.PageView.image view.old))) (IsOfTrees (subject_of s.now (page_of (V.PageView.image view.old)))) look) }
     ensures noted { V.PageView.tells → IfOk result (λ look.

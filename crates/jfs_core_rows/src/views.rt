@@ -2,6 +2,7 @@ ghost use Rattle.std.specs.Prelude.{◌≡◌, ◌<◌, ℕ, List, [], ◌∷◌
 ghost use Rattle.jfs_disk.specs.Image.{page_of};
 ghost use Rattle.jfs_ranges.specs.View.{IsLent, no_device};
 ghost use Rattle.jfs_core_rows.specs.Views.{two_whole};
+ghost use Rattle.jfs_disk.specs.declared.disk.Part.TheVariants.{Low};
 
 use jfs_disk::{Fault, Page, Part};
 use jfs_ranges::{PageView, ViewError};
@@ -13,7 +14,7 @@ fn first_bytes<V: PageView>(view: &mut V) -> Result<(u8, u8), ViewError>
     ensures first { IfOk result (λ bytes. V.tells → bytes.0 ≡ get_or (page_of (V.image view.old) 0) 0 0) }
     ensures second { IfOk result (λ bytes. V.tells → bytes.1 ≡ get_or (page_of (V.image view.old) 1) 0 0) }
     ensures lent { IsLent V.tells (V.block_count view.old) (V.block_count view.new) (V.image view.old) (V.image view.new)
-        (V.device view.old) (V.device view.new) (V.fault_count view.old) (V.fault_count view.new) result }
+        (V.device view.old) (V.device view.new) (V.faults view.old) (V.faults view.new) result }
 {
     let first = match view.page(0) {
         Ok(page) => page.0[0],
@@ -55,7 +56,7 @@ impl Shelf {
 impl PageView for Shelf {
     ghost block_count = { λ shelf. 2 };
 
-    ghost fault_count = { λ shelf. shelf.faults };
+    ghost faults = { λ shelf. record { part = Low; count = shelf.faults } };
 
     ghost image = { λ shelf. shelf.low.0 ∷ shelf.high.0 ∷ [] };
 

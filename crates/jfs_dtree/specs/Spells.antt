@@ -2,6 +2,7 @@
 use Rattle.std.specs.Prelude.{◌≡◌, ℕ, List, Option, Some, None, Result, Ok, Err}
 use Rattle.jfs_bits.specs.declared.rule.Rule.{Rule}
 use Rattle.jfs_name.specs.declared.name.NameEntry.{NameEntry}
+use Rattle.jfs_disk.specs.declared.disk.Fault.{Fault}
 use Rattle.jfs_ranges.specs.View.{CarriesCount}
 use Rattle.jfs_dtpage.specs.declared.head.DtForm.TheVariants.{Root, Full}
 use Rattle.jfs_tree.specs.Walk.{Node}
@@ -29,8 +30,8 @@ spells_names blocks pages root = spells name_scale (page_nodes blocks pages) (ro
 abbrev pub owned_pages : ℕ → (ℕ → List ℕ) → List ℕ → ℕ → ℕ
 owned_pages blocks pages root = footprint name_scale (page_nodes blocks pages) (root_node blocks root)
 
--- the count of faults rises only with a fault, which carries the count that it raised
-abbrev pub CarriesDt : {T : Type 0} → ℕ → ℕ → Result T DtError → Type 0
+-- the count of faults rises only with a fault, which carries the part and the count that it raised
+abbrev pub CarriesDt : {T : Type 0} → Fault → Fault → Result T DtError → Type 0
 CarriesDt before now (Ok it) = now ≡ before
 CarriesDt {T} before now (Err (View e)) = CarriesCount {T = T} before now (Err e)
 CarriesDt before now (Err (Bad page rule)) = now ≡ before

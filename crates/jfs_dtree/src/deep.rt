@@ -27,7 +27,7 @@ pub(crate) fn is_deep<V: PageView>(
     ensures image { V.PageView.tells → V.PageView.image view.new ≡ V.PageView.image view.old }
     ensures count_of_blocks { V.PageView.block_count view.new ≡ V.PageView.block_count view.old }
     ensures device { V.PageView.device view.new ≡ V.PageView.device view.old }
-    ensures fault { CarriesCount (V.PageView.fault_count view.old) (V.PageView.fault_count view.new) result }
+    ensures fault { CarriesCount (V.PageView.faults view.old) (V.PageView.faults view.new) result }
     ensures deep { V.PageView.tells → IfOk result (DeepIs blocks (page_of (V.PageView.image view.old)) root.now x.now.name) }
     ensures tight { V.PageView.tells → IfOk result (TightFrom blocks (page_of (V.PageView.image view.old)) root.now x.now.name) }
 {
@@ -57,7 +57,7 @@ fn is_deep_below<V: PageView>(
     ensures image { V.PageView.tells → V.PageView.image view.new ≡ V.PageView.image view.old }
     ensures count_of_blocks { V.PageView.block_count view.new ≡ V.PageView.block_count view.old }
     ensures device { V.PageView.device view.new ≡ V.PageView.device view.old }
-    ensures fault { CarriesCount (V.PageView.fault_count view.old) (V.PageView.fault_count view.new) result }
+    ensures fault { CarriesCount (V.PageView.faults view.old) (V.PageView.faults view.new) result }
     ensures tight { V.PageView.tells → IfOk result (λ deep. tight_below blocks (page_of (V.PageView.image view.old)) x.now.name left page ≡ deep) }
 {
     if left == 0 {

@@ -53,7 +53,7 @@ pub fn list<V: PageView>(alloc: Global, view: &mut V, root: &[u8]) -> Result<Nam
     ensures image { V.PageView.tells → V.PageView.image view.new ≡ V.PageView.image view.old }
     ensures count_of_blocks { V.PageView.block_count view.new ≡ V.PageView.block_count view.old }
     ensures device { V.PageView.device view.new ≡ V.PageView.device view.old }
-    ensures fault { CarriesDt (V.PageView.fault_count view.old) (V.PageView.fault_count view.new) result }
+    ensures fault { CarriesDt (V.PageView.faults view.old) (V.PageView.faults view.new) result }
     ensures list { V.PageView.tells → IfOk result (λ es. spells_names (V.PageView.block_count view.old) (page_of (V.PageView.image view.old)) root.now ≡ Ok es) }
     ensures bad { V.PageView.tells → IfErr result (λ e.
         NamesFirstBroken (page_nodes (V.PageView.block_count view.old) (page_of (V.PageView.image view.old))) (root_node (V.PageView.block_count view.old) root.now) e) }

@@ -25,7 +25,7 @@ pub fn find<V: PageView>(view: &mut V, root: &[u8], name: &Name) -> Result<Optio
     ensures image { V.PageView.tells → V.PageView.image view.new ≡ V.PageView.image view.old }
     ensures count_of_blocks { V.PageView.block_count view.new ≡ V.PageView.block_count view.old }
     ensures device { V.PageView.device view.new ≡ V.PageView.device view.old }
-    ensures fault { CarriesDt (V.PageView.fault_count view.old) (V.PageView.fault_count view.new) result }
+    ensures fault { CarriesDt (V.PageView.faults view.old) (V.PageView.faults view.new) result }
     ensures found { V.PageView.tells → IfOk result (λ found. (es : List NameEntry) →
         spells_names (V.PageView.block_count view.old) (page_of (V.PageView.image view.old)) root.now ≡ Ok es → found ≡ named name.now es) }
     ensures bad { V.PageView.tells → IfErr result (λ e.

@@ -37,7 +37,7 @@ pub fn remove<V: PageView>(
     ensures image { V.PageView.tells → V.PageView.image view.new ≡ V.PageView.image view.old }
     ensures count_of_blocks { V.PageView.block_count view.new ≡ V.PageView.block_count view.old }
     ensures device { V.PageView.device view.new ≡ V.PageView.device view.old }
-    ensures fault { CarriesDt (V.PageView.fault_count view.old) (V.PageView.fault_count view.new) result }
+    ensures fault { CarriesDt (V.PageView.faults view.old) (V.PageView.faults view.new) result }
     ensures removes { V.PageView.tells → IfOk result (RemovesName (V.PageView.block_count view.old) (page_of (V.PageView.image view.old)) name.now root.old root.new tx.old tx.new) }
     ensures left { V.PageView.tells → OnOk result (KeepsEmptyFirstKeys (V.PageView.block_count view.old) (page_of (V.PageView.image view.old)) root.old root.new tx.old tx.new) }
     ensures edits { V.PageView.tells → OnOk result (TellsGone (V.PageView.block_count view.old) Dtree (page_of (V.PageView.image view.old)) tx.old tx.new) }

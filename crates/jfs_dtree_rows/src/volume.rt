@@ -2,6 +2,7 @@
 
 ghost use Rattle.std.specs.Prelude.{◌≡◌, ◌≤◌, [], ◌∷◌, IfOk, length};
 ghost use Rattle.jfs_ranges.specs.View.{no_device};
+ghost use Rattle.jfs_disk.specs.declared.disk.Part.TheVariants.{Low};
 
 use jfs_bits::{Pxd, PxdList};
 use jfs_disk::{Fault, Page, Part};
@@ -26,7 +27,7 @@ pub struct Volume {
 impl PageView for Volume {
     ghost block_count = { λ volume. 256 };
 
-    ghost fault_count = { λ volume. volume.faults };
+    ghost faults = { λ volume. record { part = Low; count = volume.faults } };
 
     ghost image = { λ volume. [] };
 

@@ -30,7 +30,7 @@ pub trait EachInode {
         ensures image { V.PageView.tells → V.PageView.image view.new ≡ V.PageView.image view.old }
         ensures count_of_blocks { V.PageView.block_count view.new ≡ V.PageView.block_count view.old }
         ensures device { V.PageView.device view.new ≡ V.PageView.device view.old }
-        ensures fault { CarriesCount (V.PageView.fault_count view.old) (V.PageView.fault_count view.new) result }
+        ensures fault { CarriesCount (V.PageView.faults view.old) (V.PageView.faults view.new) result }
         ensures seen { V.PageView.tells → IfOk result (λ it.
             sees (V.PageView.block_count view.old) (V.PageView.image view.old) self.old n (record { page = page; inode = inode.now }) self.new) };
 }
@@ -54,7 +54,7 @@ pub fn each_inode<V: PageView, W: EachInode>(
     ensures image { V.PageView.tells → V.PageView.image view.new ≡ V.PageView.image view.old }
     ensures count_of_blocks { V.PageView.block_count view.new ≡ V.PageView.block_count view.old }
     ensures device { V.PageView.device view.new ≡ V.PageView.device view.old }
-    ensures fault { CarriesCount (V.PageView.fault_count view.old) (V.PageView.fault_count view.new) result }
+    ensures fault { CarriesCount (V.PageView.faults view.old) (V.PageView.faults view.new) result }
     ensures visits { V.PageView.tells → IfOk result (λ it. Visits (W.sees (V.PageView.block_count view.old) (V.PageView.image view.old))
         (found_at (page_of (V.PageView.image view.old)) places.now) 0 (32 * length places.now) visitor.old visitor.new) }
 {
@@ -78,7 +78,7 @@ fn each_in_place<V: PageView, W: EachInode>(
     ensures image { V.PageView.tells → V.PageView.image view.new ≡ V.PageView.image view.old }
     ensures count_of_blocks { V.PageView.block_count view.new ≡ V.PageView.block_count view.old }
     ensures device { V.PageView.device view.new ≡ V.PageView.device view.old }
-    ensures fault { CarriesCount (V.PageView.fault_count view.old) (V.PageView.fault_count view.new) result }
+    ensures fault { CarriesCount (V.PageView.faults view.old) (V.PageView.faults view.new) result }
     ensures visits { V.PageView.tells → IfOk result (λ it. VisitsPlace (W.sees (V.PageView.block_count view.old) (V.PageView.image view.old))
         (page_of (V.PageView.image view.old)) e place visitor.old visitor.new) }
 {
@@ -101,7 +101,7 @@ fn each_in_extent<V: PageView, W: EachInode>(
     ensures image { V.PageView.tells → V.PageView.image view.new ≡ V.PageView.image view.old }
     ensures count_of_blocks { V.PageView.block_count view.new ≡ V.PageView.block_count view.old }
     ensures device { V.PageView.device view.new ≡ V.PageView.device view.old }
-    ensures fault { CarriesCount (V.PageView.fault_count view.old) (V.PageView.fault_count view.new) result }
+    ensures fault { CarriesCount (V.PageView.faults view.old) (V.PageView.faults view.new) result }
     ensures visits { V.PageView.tells → IfOk result (λ it. Visits (W.sees (V.PageView.block_count view.old) (V.PageView.image view.old))
         (λ n. live_in (page_of (V.PageView.image view.old)) n (Some (first + n % 32 / 8))) (32 * e) 32 visitor.old visitor.new) }
 {
@@ -126,7 +126,7 @@ fn each_on_page<V: PageView, W: EachInode>(
     ensures image { V.PageView.tells → V.PageView.image view.new ≡ V.PageView.image view.old }
     ensures count_of_blocks { V.PageView.block_count view.new ≡ V.PageView.block_count view.old }
     ensures device { V.PageView.device view.new ≡ V.PageView.device view.old }
-    ensures fault { CarriesCount (V.PageView.fault_count view.old) (V.PageView.fault_count view.new) result }
+    ensures fault { CarriesCount (V.PageView.faults view.old) (V.PageView.faults view.new) result }
     ensures visits { V.PageView.tells → IfOk result (λ it. Visits (W.sees (V.PageView.block_count view.old) (V.PageView.image view.old))
         (λ n. live_in (page_of (V.PageView.image view.old)) n (Some page)) from 8 visitor.old visitor.new) }
 {
@@ -142,7 +142,7 @@ fn copy_page<V: PageView>(view: &mut V, page: u32, copy: &mut Page) -> Result<()
     ensures image { V.PageView.tells → V.PageView.image view.new ≡ V.PageView.image view.old }
     ensures count_of_blocks { V.PageView.block_count view.new ≡ V.PageView.block_count view.old }
     ensures device { V.PageView.device view.new ≡ V.PageView.device view.old }
-    ensures fault { CarriesCount (V.PageView.fault_count view.old) (V.PageView.fault_count view.new) result }
+    ensures fault { CarriesCount (V.PageView.faults view.old) (V.PageView.faults view.new) result }
     ensures copy { V.PageView.tells → OnOk result (copy.new.0 ≡ page_of (V.PageView.image view.old) page) }
 {
     match view.page(page) {
@@ -168,7 +168,7 @@ fn each_slot<V: PageView, W: EachInode>(
     ensures image { V.PageView.tells → V.PageView.image view.new ≡ V.PageView.image view.old }
     ensures count_of_blocks { V.PageView.block_count view.new ≡ V.PageView.block_count view.old }
     ensures device { V.PageView.device view.new ≡ V.PageView.device view.old }
-    ensures fault { CarriesCount (V.PageView.fault_count view.old) (V.PageView.fault_count view.new) result }
+    ensures fault { CarriesCount (V.PageView.faults view.old) (V.PageView.faults view.new) result }
     ensures visits { V.PageView.tells → IfOk result (λ it. Visits (W.sees (V.PageView.block_count view.old) (V.PageView.image view.old))
         (λ n. live_in (page_of (V.PageView.image view.old)) n (Some page)) from 8 visitor.old visitor.new) }
 {
@@ -190,7 +190,7 @@ fn see_slot<V: PageView, W: EachInode>(
     ensures image { V.PageView.tells → V.PageView.image view.new ≡ V.PageView.image view.old }
     ensures count_of_blocks { V.PageView.block_count view.new ≡ V.PageView.block_count view.old }
     ensures device { V.PageView.device view.new ≡ V.PageView.device view.old }
-    ensures fault { CarriesCount (V.PageView.fault_count view.old) (V.PageView.fault_count view.new) result }
+    ensures fault { CarriesCount (V.PageView.faults view.old) (V.PageView.faults view.new) result }
     ensures step { V.PageView.tells → IfOk result (λ it. inode.now ≡ slot_of (page_of (V.PageView.image view.old) page) (n % 8) →
         Step (W.sees (V.PageView.block_count view.old) (V.PageView.image view.old)) n (live_in (page_of (V.PageView.image view.old)) n (Some page)) visitor.old visitor.new) }
 {

@@ -4,6 +4,7 @@ ghost use Rattle.std.specs.Prelude.{◌≡◌, ◌≤◌, ◌<◌, ◌^◌, ℕ,
 ghost use Rattle.jfs_disk.specs.Image.{page_of};
 ghost use Rattle.jfs_disk.specs.Pages.{contents};
 ghost use Rattle.jfs_ranges.specs.View.{AreWhole, no_device};
+ghost use Rattle.jfs_disk.specs.declared.disk.Part.TheVariants.{Low};
 
 use jfs_disk::{Page, PageList};
 use jfs_ranges::{PageView, ViewError};
@@ -54,7 +55,7 @@ impl<'a> ListView<'a> {
 impl<'a> PageView for ListView<'a> {
     ghost block_count = { λ view. view.blocks };
 
-    ghost fault_count = { λ view. 0 };
+    ghost faults = { λ view. record { part = Low; count = 0 } };
 
     ghost image = { λ view. contents view.pages.now };
 

@@ -54,7 +54,7 @@ fn walk_names<V: PageView>(
     ensures image { V.PageView.tells → V.PageView.image view.new ≡ V.PageView.image view.old }
     ensures count_of_blocks { V.PageView.block_count view.new ≡ V.PageView.block_count view.old }
     ensures device { V.PageView.device view.new ≡ V.PageView.device view.old }
-    ensures fault { CarriesFault (V.PageView.fault_count view.old) (V.PageView.fault_count view.new) result }
+    ensures fault { CarriesFault (V.PageView.faults view.old) (V.PageView.faults view.new) result }
     ensures ends { V.PageView.tells → EndsAs name_scale (names_of (readers (V.PageView.block_count view.old)) (page_of (V.PageView.image view.old)) inode.now) result }
     ensures seen { V.PageView.tells → OnOk result (
         Adds (met (names_of (readers (V.PageView.block_count view.old)) (page_of (V.PageView.image view.old)) inode.now)) census.old.owners census.new.owners
@@ -84,7 +84,7 @@ fn count_tree<V: PageView>(
     ensures image { V.PageView.tells → V.PageView.image view.new ≡ V.PageView.image view.old }
     ensures count_of_blocks { V.PageView.block_count view.new ≡ V.PageView.block_count view.old }
     ensures device { V.PageView.device view.new ≡ V.PageView.device view.old }
-    ensures fault { CarriesCount (V.PageView.fault_count view.old) (V.PageView.fault_count view.new) result }
+    ensures fault { CarriesCount (V.PageView.faults view.old) (V.PageView.faults view.new) result }
     ensures seen { V.PageView.tells → IsSound (listed name_scale (names_of (readers (V.PageView.block_count view.old)) (page_of (V.PageView.image view.old)) inode.now)) sound →
         OnOk result (
         Adds (names_held (names_of (readers (V.PageView.block_count view.old)) (page_of (V.PageView.image view.old)) inode.now)) census.old.owners census.new.owners
@@ -123,7 +123,7 @@ pub fn count_names<V: PageView>(
     ensures image { V.PageView.tells → V.PageView.image view.new ≡ V.PageView.image view.old }
     ensures count_of_blocks { V.PageView.block_count view.new ≡ V.PageView.block_count view.old }
     ensures device { V.PageView.device view.new ≡ V.PageView.device view.old }
-    ensures fault { CarriesCount (V.PageView.fault_count view.old) (V.PageView.fault_count view.new) result }
+    ensures fault { CarriesCount (V.PageView.faults view.old) (V.PageView.faults view.new) result }
     ensures held { V.PageView.tells → IsSound (listed name_scale (names_of (readers (V.PageView.block_count view.old)) (page_of (V.PageView.image view.old)) inode.now)) sound →
         IfOk result (λ it. Adds (names_held (names_of (readers (V.PageView.block_count view.old)) (page_of (V.PageView.image view.old)) inode.now)) census.old.owners census.new.owners) }
     ensures noted { V.PageView.tells → IsSound (listed name_scale (names_of (readers (V.PageView.block_count view.old)) (page_of (V.PageView.image view.old)) inode.now)) sound →

@@ -43,7 +43,7 @@ pub fn check_block_map<V: PageView>(
     ensures image { V.PageView.tells → V.PageView.image view.new ≡ V.PageView.image view.old }
     ensures count_of_blocks { V.PageView.block_count view.new ≡ V.PageView.block_count view.old }
     ensures device { V.PageView.device view.new ≡ V.PageView.device view.old }
-    ensures fault { CarriesRead (V.PageView.fault_count view.old) (V.PageView.fault_count view.new) result }
+    ensures fault { CarriesRead (V.PageView.faults view.old) (V.PageView.faults view.new) result }
     ensures outside { IfErr result (SomeIsPast (V.PageView.block_count view.old) extents.now) }
     ensures findings { V.PageView.tells → IfOk result (λ it. (super : Super) →
         KnowsOwners (subject_of super (page_of (V.PageView.image view.old))) (V.PageView.block_count view.old) agsize owned.now extents.now →
@@ -68,7 +68,7 @@ fn check_pages<V: PageView>(
     ensures image { V.PageView.tells → V.PageView.image view.new ≡ V.PageView.image view.old }
     ensures count_of_blocks { V.PageView.block_count view.new ≡ V.PageView.block_count view.old }
     ensures device { V.PageView.device view.new ≡ V.PageView.device view.old }
-    ensures fault { CarriesRead (V.PageView.fault_count view.old) (V.PageView.fault_count view.new) result }
+    ensures fault { CarriesRead (V.PageView.faults view.old) (V.PageView.faults view.new) result }
     ensures outside { IfErr result (SomeIsPast (V.PageView.block_count view.old) extents.now) }
     ensures findings { V.PageView.tells → IfOk result (λ it.
         Gains (IsWrongBelow (length map.now.owned) map.now.agsize (taken_at map.now.owned) (page_of (V.PageView.image view.old)) extents.now (pages_of (length map.now.owned))) findings.old.items findings.new.items) }
@@ -95,7 +95,7 @@ fn check_page<V: PageView>(
     ensures image { V.PageView.tells → V.PageView.image view.new ≡ V.PageView.image view.old }
     ensures count_of_blocks { V.PageView.block_count view.new ≡ V.PageView.block_count view.old }
     ensures device { V.PageView.device view.new ≡ V.PageView.device view.old }
-    ensures fault { CarriesRead (V.PageView.fault_count view.old) (V.PageView.fault_count view.new) result }
+    ensures fault { CarriesRead (V.PageView.faults view.old) (V.PageView.faults view.new) result }
     ensures outside { IfErr result (OutsideIsPast (V.PageView.block_count view.old) (block_of extents.now j)) }
     ensures findings { V.PageView.tells → IfOk result (λ it.
         Gains (IsWrongIn (length map.now.owned) map.now.agsize (taken_at map.now.owned) (page_of (V.PageView.image view.old)) extents.now j) findings.old.items findings.new.items) }

@@ -55,7 +55,7 @@ pub fn check_inode_map<V: PageView>(
     ensures image { V.PageView.tells → V.PageView.image view.new ≡ V.PageView.image view.old }
     ensures count_of_blocks { V.PageView.block_count view.new ≡ V.PageView.block_count view.old }
     ensures device { V.PageView.device view.new ≡ V.PageView.device view.old }
-    ensures fault { CarriesRead (V.PageView.fault_count view.old) (V.PageView.fault_count view.new) result }
+    ensures fault { CarriesRead (V.PageView.faults view.old) (V.PageView.faults view.new) result }
     ensures outside { IfErr result (SomeIsPast (V.PageView.block_count view.old) extents.now) }
     ensures findings { V.PageView.tells → IfOk result (λ it. (super : Super) →
         KnowsInodes (subject_of super (page_of (V.PageView.image view.old))) (V.PageView.block_count view.old) iags used.now extents.now →
@@ -74,7 +74,7 @@ fn read_control<V: PageView>(view: &mut V, extents: &[Xad]) -> Result<Option<Con
     ensures image { V.PageView.tells → V.PageView.image view.new ≡ V.PageView.image view.old }
     ensures count_of_blocks { V.PageView.block_count view.new ≡ V.PageView.block_count view.old }
     ensures device { V.PageView.device view.new ≡ V.PageView.device view.old }
-    ensures fault { CarriesRead (V.PageView.fault_count view.old) (V.PageView.fault_count view.new) result }
+    ensures fault { CarriesRead (V.PageView.faults view.old) (V.PageView.faults view.new) result }
     ensures outside { IfErr result (OutsideIsPast (V.PageView.block_count view.old) (block_of extents.now 0)) }
     ensures control { V.PageView.tells → IfOk result (λ told. told ≡ control_of (page_of (V.PageView.image view.old)) extents.now) }
 {
@@ -139,7 +139,7 @@ fn check_iags<V: PageView>(
     ensures image { V.PageView.tells → V.PageView.image view.new ≡ V.PageView.image view.old }
     ensures count_of_blocks { V.PageView.block_count view.new ≡ V.PageView.block_count view.old }
     ensures device { V.PageView.device view.new ≡ V.PageView.device view.old }
-    ensures fault { CarriesRead (V.PageView.fault_count view.old) (V.PageView.fault_count view.new) result }
+    ensures fault { CarriesRead (V.PageView.faults view.old) (V.PageView.faults view.new) result }
     ensures outside { IfErr result (SomeIsPast (V.PageView.block_count view.old) extents.now) }
     ensures most { IfOk result (λ totals. totals.extents ≤ 128 * iags) }
     ensures totals { V.PageView.tells → IfOk result (λ totals.
@@ -175,7 +175,7 @@ fn check_iag<V: PageView>(
     ensures image { V.PageView.tells → V.PageView.image view.new ≡ V.PageView.image view.old }
     ensures count_of_blocks { V.PageView.block_count view.new ≡ V.PageView.block_count view.old }
     ensures device { V.PageView.device view.new ≡ V.PageView.device view.old }
-    ensures fault { CarriesRead (V.PageView.fault_count view.old) (V.PageView.fault_count view.new) result }
+    ensures fault { CarriesRead (V.PageView.faults view.old) (V.PageView.faults view.new) result }
     ensures outside { IfErr result (OutsideIsPast (V.PageView.block_count view.old) (block_of extents.now (suc k))) }
     ensures most { IfOk result (λ report. (report.extents ≤ 128) × (report.free ≤ 4096)) }
     ensures counts { V.PageView.tells → IfOk result (AreCounts (is_taken used.now) (page_of (V.PageView.image view.old)) extents.now k) }

@@ -29,7 +29,7 @@ pub(crate) fn places_of<V: PageView>(
     ensures image { V.PageView.tells → V.PageView.image view.new ≡ V.PageView.image view.old }
     ensures count_of_blocks { V.PageView.block_count view.new ≡ V.PageView.block_count view.old }
     ensures device { V.PageView.device view.new ≡ V.PageView.device view.old }
-    ensures fault { CarriesCount (V.PageView.fault_count view.old) (V.PageView.fault_count view.new) result }
+    ensures fault { CarriesCount (V.PageView.faults view.old) (V.PageView.faults view.new) result }
     ensures all { IfOk result (λ answer. IfOk answer (λ places. length places.items ≡ 128 * maps.now.inodes.iags)) }
     ensures fit { IfOk result (λ answer. IfOk answer (λ places. AllFit maps.now.blocks places.items)) }
     ensures finds { V.PageView.tells → IfOk result (FindsPlaces (V.PageView.image view.old) maps.now) }
@@ -66,7 +66,7 @@ fn add_iag<V: PageView>(
     ensures image { V.PageView.tells → V.PageView.image view.new ≡ V.PageView.image view.old }
     ensures count_of_blocks { V.PageView.block_count view.new ≡ V.PageView.block_count view.old }
     ensures device { V.PageView.device view.new ≡ V.PageView.device view.old }
-    ensures fault { CarriesCount (V.PageView.fault_count view.old) (V.PageView.fault_count view.new) result }
+    ensures fault { CarriesCount (V.PageView.faults view.old) (V.PageView.faults view.new) result }
     ensures fit { IfOk result (λ misfit. AllFit (V.PageView.block_count view.old) places.old.items → AllFit (V.PageView.block_count view.old) places.new.items) }
     ensures all { IfOk result (λ misfit. misfit ≡ None → length places.new.items ≡ length places.old.items + 128) }
     ensures adds { V.PageView.tells → IfOk result

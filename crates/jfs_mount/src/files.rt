@@ -26,7 +26,7 @@ pub(crate) fn read_maps<V: PageView>(alloc: Global, view: &mut V) -> Result<Maps
     ensures image { V.PageView.tells → V.PageView.image view.new ≡ V.PageView.image view.old }
     ensures count_of_blocks { V.PageView.block_count view.new ≡ V.PageView.block_count view.old }
     ensures device { V.PageView.device view.new ≡ V.PageView.device view.old }
-    ensures fault { CarriesCount (V.PageView.fault_count view.old) (V.PageView.fault_count view.new) result }
+    ensures fault { CarriesCount (V.PageView.faults view.old) (V.PageView.faults view.new) result }
     ensures blocks { IfOk result (λ maps. maps.blocks ≡ V.PageView.block_count view.old) }
     ensures read { V.PageView.tells → IfOk result (λ maps. (s : Super) → blocks_of s ≡ V.PageView.block_count view.old →
         AreRead (subject_of s (page_of (V.PageView.image view.old))) maps) }
@@ -52,7 +52,7 @@ fn extents_in<V: PageView>(alloc: Global, view: &mut V, k: u32) -> Result<XadLis
     ensures image { V.PageView.tells → V.PageView.image view.new ≡ V.PageView.image view.old }
     ensures count_of_blocks { V.PageView.block_count view.new ≡ V.PageView.block_count view.old }
     ensures device { V.PageView.device view.new ≡ V.PageView.device view.old }
-    ensures fault { CarriesCount (V.PageView.fault_count view.old) (V.PageView.fault_count view.new) result }
+    ensures fault { CarriesCount (V.PageView.faults view.old) (V.PageView.faults view.new) result }
     ensures within { IfOk result (LieWithin (V.PageView.block_count view.old)) }
     ensures extents { V.PageView.tells → IfOk result (λ es. es ≡ file_extents (readers (V.PageView.block_count view.old)) (page_of (V.PageView.image view.old)) k) }
 {

@@ -30,7 +30,7 @@ pub fn first_broken<V: PageView>(alloc: Global, view: &mut V) -> Result<Option<B
     ensures image { V.PageView.tells → V.PageView.image view.new ≡ V.PageView.image view.old }
     ensures count_of_blocks { V.PageView.block_count view.new ≡ V.PageView.block_count view.old }
     ensures device { V.PageView.device view.new ≡ V.PageView.device view.old }
-    ensures fault { CarriesCount (V.PageView.fault_count view.old) (V.PageView.fault_count view.new) result }
+    ensures fault { CarriesCount (V.PageView.faults view.old) (V.PageView.faults view.new) result }
     ensures mount { V.PageView.tells → IfOk result (λ bad. (s : Super) → blocks_of s ≡ V.PageView.block_count view.old →
         bad ≡ broken_mount (subject_of s (page_of (V.PageView.image view.old)))) }
 {
@@ -54,7 +54,7 @@ pub fn mounted<V: PageView>(
     ensures image { V.PageView.tells → V.PageView.image view.new ≡ V.PageView.image view.old }
     ensures count_of_blocks { V.PageView.block_count view.new ≡ V.PageView.block_count view.old }
     ensures device { V.PageView.device view.new ≡ V.PageView.device view.old }
-    ensures fault { CarriesCount (V.PageView.fault_count view.old) (V.PageView.fault_count view.new) result }
+    ensures fault { CarriesCount (V.PageView.faults view.old) (V.PageView.faults view.new) result }
     ensures maps { IfOk result (λ answer. IfOk answer (IsMounted (V.PageView.block_count view.old))) }
     ensures mounts { V.PageView.tells → IfOk result (λ answer. (s : Super) → blocks_of s ≡ V.PageView.block_count view.old →
         Mounts (subject_of s (page_of (V.PageView.image view.old))) answer) }
@@ -76,7 +76,7 @@ fn places_if_sound<V: PageView>(
     ensures image { V.PageView.tells → V.PageView.image view.new ≡ V.PageView.image view.old }
     ensures count_of_blocks { V.PageView.block_count view.new ≡ V.PageView.block_count view.old }
     ensures device { V.PageView.device view.new ≡ V.PageView.device view.old }
-    ensures fault { CarriesCount (V.PageView.fault_count view.old) (V.PageView.fault_count view.new) result }
+    ensures fault { CarriesCount (V.PageView.faults view.old) (V.PageView.faults view.new) result }
     ensures few { IfOk result (λ answer. IfOk answer (λ places. maps.now.inodes.iags ≤ 65536)) }
     ensures all { IfOk result (λ answer. IfOk answer (λ places. length places.items ≡ 128 * maps.now.inodes.iags)) }
     ensures fit { IfOk result (λ answer. IfOk answer (λ places. AllFit maps.now.blocks places.items)) }

@@ -59,7 +59,7 @@ pub(crate) fn bad_mapsize<V: PageView>(
     ensures image { V.PageView.tells → V.PageView.image view.new ≡ V.PageView.image view.old }
     ensures count_of_blocks { V.PageView.block_count view.new ≡ V.PageView.block_count view.old }
     ensures device { V.PageView.device view.new ≡ V.PageView.device view.old }
-    ensures fault { CarriesCount (V.PageView.fault_count view.old) (V.PageView.fault_count view.new) result }
+    ensures fault { CarriesCount (V.PageView.faults view.old) (V.PageView.faults view.new) result }
     ensures finds { V.PageView.tells → IfOk result (Finds mapsize_row (V.PageView.image view.old) maps.now) }
 {
     let Some(n) = page_at(maps.block_map.as_slice(), maps.blocks, 0) else {

@@ -27,7 +27,7 @@ pub(crate) fn bad_root<V: PageView>(
     ensures image { V.PageView.tells → V.PageView.image view.new ≡ V.PageView.image view.old }
     ensures count_of_blocks { V.PageView.block_count view.new ≡ V.PageView.block_count view.old }
     ensures device { V.PageView.device view.new ≡ V.PageView.device view.old }
-    ensures fault { CarriesCount (V.PageView.fault_count view.old) (V.PageView.fault_count view.new) result }
+    ensures fault { CarriesCount (V.PageView.faults view.old) (V.PageView.faults view.new) result }
     ensures finds { V.PageView.tells → IfOk result (FindsRoot (V.PageView.image view.old) maps.now places.now) }
 {
     match root_page(places) {
@@ -53,7 +53,7 @@ fn bad_directory<V: PageView>(view: &mut V, page: u32) -> Result<Option<BadMount
     ensures image { V.PageView.tells → V.PageView.image view.new ≡ V.PageView.image view.old }
     ensures count_of_blocks { V.PageView.block_count view.new ≡ V.PageView.block_count view.old }
     ensures device { V.PageView.device view.new ≡ V.PageView.device view.old }
-    ensures fault { CarriesCount (V.PageView.fault_count view.old) (V.PageView.fault_count view.new) result }
+    ensures fault { CarriesCount (V.PageView.faults view.old) (V.PageView.faults view.new) result }
     ensures finds { V.PageView.tells → IfOk result (λ bad.
         bad ≡ (if type_of (slot_of (page_of (V.PageView.image view.old) page) 2) == 0x4000 then None
         else Some (record { rule = Root; page = page; value = (slot_of (page_of (V.PageView.image view.old) page) 2).mode }))) }

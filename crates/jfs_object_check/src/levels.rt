@@ -49,7 +49,7 @@ pub fn count_extents<V: PageView>(
     ensures image { V.PageView.tells → V.PageView.image view.new ≡ V.PageView.image view.old }
     ensures count_of_blocks { V.PageView.block_count view.new ≡ V.PageView.block_count view.old }
     ensures device { V.PageView.device view.new ≡ V.PageView.device view.old }
-    ensures fault { CarriesCount (V.PageView.fault_count view.old) (V.PageView.fault_count view.new) result }
+    ensures fault { CarriesCount (V.PageView.faults view.old) (V.PageView.faults view.new) result }
     // Wherever the inode stands.
     ensures thin { V.PageView.tells → (at : ℕ) (es : List Xad) → listed xt_scale (extents_of (readers (V.PageView.block_count view.old)) (page_of (V.PageView.image view.old)) inode.now) ≡ Ok es →
         OnOk result (Gains (IsThinOf (readers (V.PageView.block_count view.old)) (page_of (V.PageView.image view.old)) n at
@@ -80,7 +80,7 @@ fn count_levels<V: PageView>(
     ensures image { V.PageView.tells → V.PageView.image view.new ≡ V.PageView.image view.old }
     ensures count_of_blocks { V.PageView.block_count view.new ≡ V.PageView.block_count view.old }
     ensures device { V.PageView.device view.new ≡ V.PageView.device view.old }
-    ensures fault { CarriesCount (V.PageView.fault_count view.old) (V.PageView.fault_count view.new) result }
+    ensures fault { CarriesCount (V.PageView.faults view.old) (V.PageView.faults view.new) result }
     ensures fits { V.PageView.block_count view.old ≤ no_page }
     ensures thin { V.PageView.tells → OnOk result (Gains
         (Tells n (IsThinAbove (tree_nodes (V.PageView.block_count view.old) (page_of (V.PageView.image view.old)) root.now) 8)) findings.old.items findings.new.items) }
@@ -116,7 +116,7 @@ fn count_line<V: PageView>(
     ensures image { V.PageView.tells → V.PageView.image view.new ≡ V.PageView.image view.old }
     ensures count_of_blocks { V.PageView.block_count view.new ≡ V.PageView.block_count view.old }
     ensures device { V.PageView.device view.new ≡ V.PageView.device view.old }
-    ensures fault { CarriesCount (V.PageView.fault_count view.old) (V.PageView.fault_count view.new) result }
+    ensures fault { CarriesCount (V.PageView.faults view.old) (V.PageView.faults view.new) result }
     ensures within { IfOk result (λ below. AllBelow (V.PageView.block_count view.old) below.items) }
     ensures below { V.PageView.tells → IfOk result (λ below.
         below.items ≡ flat_map (λ p. pages_below (page_nodes (V.PageView.block_count view.old) (page_of (V.PageView.image view.old)) p)) line.now) }

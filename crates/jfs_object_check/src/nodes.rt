@@ -30,7 +30,7 @@ pub(crate) fn count_page<V: PageView>(
     ensures image { V.PageView.tells → V.PageView.image view.new ≡ V.PageView.image view.old }
     ensures count_of_blocks { V.PageView.block_count view.new ≡ V.PageView.block_count view.old }
     ensures device { V.PageView.device view.new ≡ V.PageView.device view.old }
-    ensures fault { CarriesCount (V.PageView.fault_count view.old) (V.PageView.fault_count view.new) result }
+    ensures fault { CarriesCount (V.PageView.faults view.old) (V.PageView.faults view.new) result }
     ensures count { V.PageView.tells → IfOk result (λ count. count ≡ entry_count (page_nodes (V.PageView.block_count view.old) (page_of (V.PageView.image view.old)) n)) }
     ensures below { V.PageView.tells → OnOk result (below.new.items ≡ below.old.items ++ pages_below (page_nodes (V.PageView.block_count view.old) (page_of (V.PageView.image view.old)) n)) }
     ensures within { AllBelow (V.PageView.block_count view.old) below.old.items → OnOk result (AllBelow (V.PageView.block_count view.old) below.new.items) }

@@ -84,7 +84,7 @@ pub fn check_object<V: PageView>(
     ensures image { V.PageView.tells → V.PageView.image view.new ≡ V.PageView.image view.old }
     ensures count_of_blocks { V.PageView.block_count view.new ≡ V.PageView.block_count view.old }
     ensures device { V.PageView.device view.new ≡ V.PageView.device view.old }
-    ensures fault { CarriesCount (V.PageView.fault_count view.old) (V.PageView.fault_count view.new) result }
+    ensures fault { CarriesCount (V.PageView.faults view.old) (V.PageView.faults view.new) result }
     // An inode as it is read from a page has runs that fit.
     ensures found { V.PageView.tells → FitsDinode inode.now → OnOk result (Gains
         (IsOf (readers (V.PageView.block_count view.old)) (V.PageView.block_count view.old) (page_of (V.PageView.image view.old)) n at

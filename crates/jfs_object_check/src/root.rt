@@ -34,7 +34,7 @@ pub fn check_root<V: PageView>(
     ensures image { V.PageView.tells → V.PageView.image view.new ≡ V.PageView.image view.old }
     ensures count_of_blocks { V.PageView.block_count view.new ≡ V.PageView.block_count view.old }
     ensures device { V.PageView.device view.new ≡ V.PageView.device view.old }
-    ensures fault { CarriesCount (V.PageView.fault_count view.old) (V.PageView.fault_count view.new) result }
+    ensures fault { CarriesCount (V.PageView.faults view.old) (V.PageView.faults view.new) result }
     ensures found { V.PageView.tells → OnOk result (Gains (IsBroken Xtree xt_scale
         (extents_walk (V.PageView.block_count view.old) (page_of (V.PageView.image view.old)) root.now) at) findings.old.items findings.new.items) }
     ensures sound { V.PageView.tells → IfOk result (IsSound (listed xt_scale

@@ -41,7 +41,7 @@ fn walk_names<V: PageView>(view: &mut V, inode: &Dinode, tally: &mut Tally) -> R
     ensures image { V.PageView.tells → V.PageView.image view.new ≡ V.PageView.image view.old }
     ensures count_of_blocks { V.PageView.block_count view.new ≡ V.PageView.block_count view.old }
     ensures device { V.PageView.device view.new ≡ V.PageView.device view.old }
-    ensures fault { CarriesFault (V.PageView.fault_count view.old) (V.PageView.fault_count view.new) result }
+    ensures fault { CarriesFault (V.PageView.faults view.old) (V.PageView.faults view.new) result }
     ensures ends { V.PageView.tells → EndsAs name_scale (names_of (readers (V.PageView.block_count view.old)) (page_of (V.PageView.image view.old)) inode.now) result }
     ensures counted { V.PageView.tells → OnOk result (tally.new ≡
         with_pages (pages_met (names_of (readers (V.PageView.block_count view.old)) (page_of (V.PageView.image view.old)) inode.now)) tally.old) }
@@ -70,7 +70,7 @@ fn walk_extents<V: PageView>(
     ensures image { V.PageView.tells → V.PageView.image view.new ≡ V.PageView.image view.old }
     ensures count_of_blocks { V.PageView.block_count view.new ≡ V.PageView.block_count view.old }
     ensures device { V.PageView.device view.new ≡ V.PageView.device view.old }
-    ensures fault { CarriesFault (V.PageView.fault_count view.old) (V.PageView.fault_count view.new) result }
+    ensures fault { CarriesFault (V.PageView.faults view.old) (V.PageView.faults view.new) result }
     ensures ends { V.PageView.tells → EndsAs xt_scale (extents_of (readers (V.PageView.block_count view.old)) (page_of (V.PageView.image view.old)) inode.now) result }
     ensures counted { V.PageView.tells → OnOk result (tally.new ≡
         with_tree (pages_met (extents_of (readers (V.PageView.block_count view.old)) (page_of (V.PageView.image view.old)) inode.now))
@@ -125,7 +125,7 @@ pub(crate) fn check_names<V: PageView>(
     ensures image { V.PageView.tells → V.PageView.image view.new ≡ V.PageView.image view.old }
     ensures count_of_blocks { V.PageView.block_count view.new ≡ V.PageView.block_count view.old }
     ensures device { V.PageView.device view.new ≡ V.PageView.device view.old }
-    ensures fault { CarriesCount (V.PageView.fault_count view.old) (V.PageView.fault_count view.new) result }
+    ensures fault { CarriesCount (V.PageView.faults view.old) (V.PageView.faults view.new) result }
     ensures found { V.PageView.tells → OnOk result (Gains (IsBroken Dtree name_scale
         (names_of (readers (V.PageView.block_count view.old)) (page_of (V.PageView.image view.old)) inode.now) at) findings.old.items findings.new.items) }
     ensures counted { V.PageView.tells → OnOk result (tally.new ≡ with_pages
@@ -154,7 +154,7 @@ pub(crate) fn check_extents<V: PageView>(
     ensures image { V.PageView.tells → V.PageView.image view.new ≡ V.PageView.image view.old }
     ensures count_of_blocks { V.PageView.block_count view.new ≡ V.PageView.block_count view.old }
     ensures device { V.PageView.device view.new ≡ V.PageView.device view.old }
-    ensures fault { CarriesCount (V.PageView.fault_count view.old) (V.PageView.fault_count view.new) result }
+    ensures fault { CarriesCount (V.PageView.faults view.old) (V.PageView.faults view.new) result }
     ensures found { V.PageView.tells → OnOk result (Gains (IsBroken Xtree xt_scale
         (extents_of (readers (V.PageView.block_count view.old)) (page_of (V.PageView.image view.old)) inode.now) at) findings.old.items findings.new.items) }
     ensures counted { V.PageView.tells → OnOk result (tally.new ≡ with_tree

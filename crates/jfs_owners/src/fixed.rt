@@ -42,7 +42,7 @@ impl Owners {
         ensures image { V.PageView.tells → V.PageView.image view.new ≡ V.PageView.image view.old }
         ensures count_of_blocks { V.PageView.block_count view.new ≡ V.PageView.block_count view.old }
         ensures device { V.PageView.device view.new ≡ V.PageView.device view.old }
-        ensures fault { CarriesCount (V.PageView.fault_count view.old) (V.PageView.fault_count view.new) result }
+        ensures fault { CarriesCount (V.PageView.faults view.old) (V.PageView.faults view.new) result }
         ensures adds { V.PageView.tells → IfOk result (λ it.
             Adds (area_on (readers (V.PageView.block_count view.old)) table map (page_of (V.PageView.image view.old))) self.old self.new) }
     {
@@ -59,7 +59,7 @@ impl Owners {
         ensures image { V.PageView.tells → V.PageView.image view.new ≡ V.PageView.image view.old }
         ensures count_of_blocks { V.PageView.block_count view.new ≡ V.PageView.block_count view.old }
         ensures device { V.PageView.device view.new ≡ V.PageView.device view.old }
-        ensures fault { CarriesCount (V.PageView.fault_count view.old) (V.PageView.fault_count view.new) result }
+        ensures fault { CarriesCount (V.PageView.faults view.old) (V.PageView.faults view.new) result }
         ensures adds { V.PageView.tells → IfOk result (λ it.
             Adds (file_has (readers (V.PageView.block_count view.old)) (page_of (V.PageView.image view.old)) k) self.old self.new) }
     {

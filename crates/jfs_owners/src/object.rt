@@ -25,7 +25,7 @@ impl Owners {
         ensures image { V.PageView.tells → V.PageView.image view.new ≡ V.PageView.image view.old }
         ensures count_of_blocks { V.PageView.block_count view.new ≡ V.PageView.block_count view.old }
         ensures device { V.PageView.device view.new ≡ V.PageView.device view.old }
-        ensures fault { CarriesCount (V.PageView.fault_count view.old) (V.PageView.fault_count view.new) result }
+        ensures fault { CarriesCount (V.PageView.faults view.old) (V.PageView.faults view.new) result }
         ensures adds { V.PageView.tells → IfOk result (λ it.
             Adds (holds (readers (V.PageView.block_count view.old)) (Some (spelled (readers (V.PageView.block_count view.old)) (page_of (V.PageView.image view.old)) d.now))) self.old self.new) }
     {
@@ -61,7 +61,7 @@ impl Owners {
         ensures image { V.PageView.tells → V.PageView.image view.new ≡ V.PageView.image view.old }
         ensures count_of_blocks { V.PageView.block_count view.new ≡ V.PageView.block_count view.old }
         ensures device { V.PageView.device view.new ≡ V.PageView.device view.old }
-        ensures fault { CarriesCount (V.PageView.fault_count view.old) (V.PageView.fault_count view.new) result }
+        ensures fault { CarriesCount (V.PageView.faults view.old) (V.PageView.faults view.new) result }
         ensures adds { V.PageView.tells → IfOk result (λ it.
             Adds (names_held (names_of (readers (V.PageView.block_count view.old)) (page_of (V.PageView.image view.old)) d.now)) self.old self.new) }
     {
@@ -76,7 +76,7 @@ impl Owners {
         ensures image { V.PageView.tells → V.PageView.image view.new ≡ V.PageView.image view.old }
         ensures count_of_blocks { V.PageView.block_count view.new ≡ V.PageView.block_count view.old }
         ensures device { V.PageView.device view.new ≡ V.PageView.device view.old }
-        ensures fault { CarriesCount (V.PageView.fault_count view.old) (V.PageView.fault_count view.new) result }
+        ensures fault { CarriesCount (V.PageView.faults view.old) (V.PageView.faults view.new) result }
         ensures adds { V.PageView.tells → IfOk result (λ it.
             Adds (extents_held (extents_of (readers (V.PageView.block_count view.old)) (page_of (V.PageView.image view.old)) d.now)) self.old self.new) }
     {

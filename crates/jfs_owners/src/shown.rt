@@ -52,7 +52,7 @@ pub(crate) fn show_sound<V: PageView, F: PageRead, W: Visitor<F::Entry>>(
     ensures image { V.PageView.tells → V.PageView.image view.new ≡ V.PageView.image view.old }
     ensures count_of_blocks { V.PageView.block_count view.new ≡ V.PageView.block_count view.old }
     ensures device { V.PageView.device view.new ≡ V.PageView.device view.old }
-    ensures fault { CarriesCount (V.PageView.fault_count view.old) (V.PageView.fault_count view.new) result }
+    ensures fault { CarriesCount (V.PageView.faults view.old) (V.PageView.faults view.new) result }
     ensures sees { V.PageView.tells → IfOk result (λ it. (es : List F.Entry) →
         listed F.PageForm.scale (tree_of F.PageForm.scale (pages_of (F.PageForm.node form.now) (V.PageView.image view.old)) (F.PageForm.node top.now root.now)) ≡ Ok es →
         Sees F.PageForm.scale W.sees_page W.sees_entry
@@ -82,7 +82,7 @@ pub(crate) fn show_tree<V: PageView, F: PageRead, W: Visitor<F::Entry>>(
     ensures image { V.PageView.tells → V.PageView.image view.new ≡ V.PageView.image view.old }
     ensures count_of_blocks { V.PageView.block_count view.new ≡ V.PageView.block_count view.old }
     ensures device { V.PageView.device view.new ≡ V.PageView.device view.old }
-    ensures fault { CarriesCount (V.PageView.fault_count view.old) (V.PageView.fault_count view.new) result }
+    ensures fault { CarriesCount (V.PageView.faults view.old) (V.PageView.faults view.new) result }
     ensures sees { V.PageView.tells → IfOk result (Sees F.PageForm.scale W.sees_page W.sees_entry
         (tree_of F.PageForm.scale (pages_of (F.PageForm.node form.now) (V.PageView.image view.old)) (F.PageForm.node top.now root.now)) visitor.old visitor.new) }
 {

@@ -4,6 +4,7 @@ ghost use Rattle.std.specs.Prelude.{map};
 ghost use Rattle.jfs_pages.specs.Kept.{image_in, dirty_in, pending_of};
 ghost use Rattle.jfs_pages.specs.Whole.{whole_in};
 ghost use Rattle.jfs_ranges.specs.View.{device_of};
+ghost use Rattle.jfs_disk.specs.declared.disk.Part.TheVariants.{Low};
 
 use crate::cache::PageCache;
 use jfs_disk::{Disk, Page};
@@ -12,7 +13,7 @@ use jfs_ranges::{PageView, ViewError};
 impl<D: Disk> PageView for PageCache<D> {
     ghost block_count = { λ cache. cache.blocks };
 
-    ghost fault_count = { λ cache. D.fault_count cache.disk };
+    ghost faults = { λ cache. record { part = Low; count = D.fault_count cache.disk } };
 
     ghost image = { λ cache. image_in cache.blocks (D.image cache.disk) cache.kept };
 

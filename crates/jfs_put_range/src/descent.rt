@@ -39,7 +39,7 @@ pub(crate) fn put_below<V: PageView>(
     ensures image { V.PageView.tells → V.PageView.image view.new ≡ V.PageView.image view.old }
     ensures count_of_blocks { V.PageView.block_count view.new ≡ V.PageView.block_count view.old }
     ensures device { V.PageView.device view.new ≡ V.PageView.device view.old }
-    ensures fault { CarriesFault (V.PageView.fault_count view.old) (V.PageView.fault_count view.new) result }
+    ensures fault { CarriesFault (V.PageView.faults view.old) (V.PageView.faults view.new) result }
     ensures wrote { V.PageView.tells → IfOk result (λ grown. WrotePage (V.PageView.block_count view.old) part.now.xs.items part.now.left part.now.right
         (shown draft.old.pages.items (V.PageView.image view.old)) (shown draft.new.pages.items (V.PageView.image view.old)) grown.levels page grown.sibling stack.old.items stack.new.items) }
     ensures bad { V.PageView.tells → IfErr result (λ e. RefutesPage (V.PageView.block_count view.old) part.now.xs.items part.now.left part.now.right
@@ -113,7 +113,7 @@ pub(crate) fn put_children<V: PageView>(
     ensures image { V.PageView.tells → V.PageView.image view.new ≡ V.PageView.image view.old }
     ensures count_of_blocks { V.PageView.block_count view.new ≡ V.PageView.block_count view.old }
     ensures device { V.PageView.device view.new ≡ V.PageView.device view.old }
-    ensures fault { CarriesFault (V.PageView.fault_count view.old) (V.PageView.fault_count view.new) result }
+    ensures fault { CarriesFault (V.PageView.faults view.old) (V.PageView.faults view.new) result }
     ensures pushed { IfOk result (λ levels. Pushed V.PageView.tells (V.PageView.block_count view.old) part.now.xs.items part.now.left part.now.right top
         (shown draft.old.pages.items (V.PageView.image view.old)) (shown draft.new.pages.items (V.PageView.image view.old)) levels entries.now list.old.items list.new.items stack.old.items stack.new.items) }
     ensures bad { V.PageView.tells → IfErr result (λ e. RefutesChildren (V.PageView.block_count view.old) part.now.xs.items part.now.left part.now.right top
@@ -166,7 +166,7 @@ fn put_from<V: PageView>(
     ensures image { V.PageView.tells → V.PageView.image view.new ≡ V.PageView.image view.old }
     ensures count_of_blocks { V.PageView.block_count view.new ≡ V.PageView.block_count view.old }
     ensures device { V.PageView.device view.new ≡ V.PageView.device view.old }
-    ensures fault { CarriesFault (V.PageView.fault_count view.old) (V.PageView.fault_count view.new) result }
+    ensures fault { CarriesFault (V.PageView.faults view.old) (V.PageView.faults view.new) result }
     ensures pushed { IfOk result (λ levels. Pushed V.PageView.tells (V.PageView.block_count view.old) part.now.xs.items part.now.left part.now.right top
         (shown draft.old.pages.items (V.PageView.image view.old)) (shown draft.new.pages.items (V.PageView.image view.old)) levels entries.now list.old.items list.new.items stack.old.items stack.new.items) }
     ensures bad { V.PageView.tells → IfErr result (λ e. RefutesChildren (V.PageView.block_count view.old) part.now.xs.items part.now.left part.now.right top
@@ -222,7 +222,7 @@ fn put_both<V: PageView>(
     ensures image { V.PageView.tells → V.PageView.image view.new ≡ V.PageView.image view.old }
     ensures count_of_blocks { V.PageView.block_count view.new ≡ V.PageView.block_count view.old }
     ensures device { V.PageView.device view.new ≡ V.PageView.device view.old }
-    ensures fault { CarriesFault (V.PageView.fault_count view.old) (V.PageView.fault_count view.new) result }
+    ensures fault { CarriesFault (V.PageView.faults view.old) (V.PageView.faults view.new) result }
     ensures pushed { IfOk result (λ levels. Pushed V.PageView.tells (V.PageView.block_count view.old) part.now.xs.items part.now.left part.now.right top
         (shown draft.old.pages.items (V.PageView.image view.old)) (shown draft.new.pages.items (V.PageView.image view.old)) levels (child.now ∷ rest.now) list.old.items list.new.items stack.old.items stack.new.items) }
     ensures bad { V.PageView.tells → IfErr result (λ e. RefutesChildren (V.PageView.block_count view.old) part.now.xs.items part.now.left part.now.right top
@@ -269,7 +269,7 @@ fn put_child<V: PageView>(
     ensures image { V.PageView.tells → V.PageView.image view.new ≡ V.PageView.image view.old }
     ensures count_of_blocks { V.PageView.block_count view.new ≡ V.PageView.block_count view.old }
     ensures device { V.PageView.device view.new ≡ V.PageView.device view.old }
-    ensures fault { CarriesFault (V.PageView.fault_count view.old) (V.PageView.fault_count view.new) result }
+    ensures fault { CarriesFault (V.PageView.faults view.old) (V.PageView.faults view.new) result }
     ensures pushed { IfOk result (λ levels. Pushed V.PageView.tells (V.PageView.block_count view.old) part.now.xs.items part.now.left part.now.right top
         (shown draft.old.pages.items (V.PageView.image view.old)) (shown draft.new.pages.items (V.PageView.image view.old)) levels (child.now ∷ []) list.old.items list.new.items stack.old.items stack.new.items) }
     ensures bad { V.PageView.tells → IfErr result (λ e. RefutesChildren (V.PageView.block_count view.old) part.now.xs.items part.now.left part.now.right top

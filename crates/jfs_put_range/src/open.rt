@@ -35,7 +35,7 @@ pub(crate) fn open_page<V: PageView>(
     ensures image { V.PageView.tells → V.PageView.image view.new ≡ V.PageView.image view.old }
     ensures count_of_blocks { V.PageView.block_count view.new ≡ V.PageView.block_count view.old }
     ensures device { V.PageView.device view.new ≡ V.PageView.device view.old }
-    ensures fault { CarriesFault (V.PageView.fault_count view.old) (V.PageView.fault_count view.new) result }
+    ensures fault { CarriesFault (V.PageView.faults view.old) (V.PageView.faults view.new) result }
     ensures bytes { V.PageView.tells → IfOk result (λ o. o.page.0 ≡ shown draft.now.pages.items (V.PageView.image view.old) n) }
     ensures opened { IfOk result (λ o. IsOpened (V.PageView.block_count view.old) o.page.0 o.entries.items o.leaf) }
     ensures bad { V.PageView.tells → IfErr result (λ e. BreaksRule (xt_node Full (V.PageView.block_count view.old) (shown draft.now.pages.items (V.PageView.image view.old) n)) n e) }

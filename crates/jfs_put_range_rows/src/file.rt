@@ -3,6 +3,7 @@
 ghost use Rattle.std.specs.Prelude.{◌≡◌, ◌<◌, ◌≤◌, ◌+◌, ℕ, [], ◌∷◌, IfOk, length};
 ghost use Rattle.jfs_ranges.specs.View.{no_device};
 ghost use Rattle.jfs_xtree.specs.Node.{IsGood};
+ghost use Rattle.jfs_disk.specs.declared.disk.Part.TheVariants.{Low};
 
 use crate::ready::is_range;
 use jfs_bits::{Pxd, PxdList, Xad, XadList};
@@ -23,7 +24,7 @@ pub struct Volume {
 impl PageView for Volume {
     ghost block_count = { λ volume. 8192 };
 
-    ghost fault_count = { λ volume. volume.faults };
+    ghost faults = { λ volume. record { part = Low; count = volume.faults } };
 
     ghost image = { λ volume. [] };
 

@@ -4,13 +4,18 @@ use Rattle.jfs_bits.specs.Count.{Rose}
 use Rattle.jfs_disk.specs.Image.{Image, page_of}
 use Rattle.jfs_disk.specs.Crash.{DiskState}
 use Rattle.jfs_disk.specs.declared.disk.Disk.{Ghosts}
+use Rattle.jfs_disk.specs.declared.disk.Fault.{Fault}
 use Rattle.jfs_ranges.specs.declared.view.ViewError.{ViewError}
 use Rattle.jfs_ranges.specs.declared.view.ViewError.TheVariants.{Read, Memory}
 
--- the count of faults rises only with a fault, which carries the count that it raised
-abbrev pub CarriesCount : {T : Type 0} → ℕ → ℕ → Result T ViewError → Type 0
+-- the faults of a device are told by its part of a disk and by how often a call of it failed; a failed call raises that number
+abbrev pub Failed : Fault → Fault → Type 0
+Failed before now = Rose before.count now.count × (now.part ≡ before.part)
+
+-- the count of faults rises only with a fault, which carries the part and the count that it raised
+abbrev pub CarriesCount : {T : Type 0} → Fault → Fault → Result T ViewError → Type 0
 CarriesCount before now (Ok page) = now ≡ before
-CarriesCount before now (Err (Read fault)) = Rose before now × (fault.count ≡ now)
+CarriesCount before now (Err (Read fault)) = Failed before now × (fault ≡ now)
 CarriesCount before now (Err Memory) = now ≡ before
 
 -- a page that a view holds in memory alone: the first and the last entry that changed it since it went home
@@ -37,7 +42,7 @@ no_device = record { pages = 0; room = 0; pending = []; states = λ told. [] }
 
 -- a page was lent, or wasn't: the number of blocks, the pages and the device stay
 pub record IsLent {T crashes : Type 0} (tells : Type 0) (blocks blocks_after : ℕ) (image image_after : Image) (device device_after : Device crashes)
-    (before now : ℕ) (result : Result T ViewError) : Type 0 where
+    (before now : Fault) (result : Result T ViewError) : Type 0 where
   pub same_blocks : blocks_after ≡ blocks
   pub same_image : tells → image_after ≡ image
   pub same_device : device_after ≡ device

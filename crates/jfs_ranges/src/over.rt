@@ -42,7 +42,7 @@ impl<'a, V: PageView> Over<'a, V> {
         ensures blocks { V.PageView.block_count self.new.view.now ≡ V.PageView.block_count self.old.view.now }
         ensures image { V.PageView.tells → V.PageView.image self.new.view.now ≡ V.PageView.image self.old.view.now }
         ensures device { V.PageView.device self.new.view.now ≡ V.PageView.device self.old.view.now }
-        ensures fault { CarriesCount (V.PageView.fault_count self.old.view.now) (V.PageView.fault_count self.new.view.now) result }
+        ensures fault { CarriesCount (V.PageView.faults self.old.view.now) (V.PageView.faults self.new.view.now) result }
     {
         match self.view.page(n) {
             Ok(page) => {
@@ -58,7 +58,7 @@ impl<'a, V: PageView> Over<'a, V> {
 impl<'a, V: PageView> PageView for Over<'a, V> {
     ghost block_count = { λ over. V.PageView.block_count over.view.now };
 
-    ghost fault_count = { λ over. V.PageView.fault_count over.view.now };
+    ghost faults = { λ over. V.PageView.faults over.view.now };
 
     ghost image = { λ over. laid (V.PageView.block_count over.view.now) over.tx.now (V.PageView.image over.view.now) };
 

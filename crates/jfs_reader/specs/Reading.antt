@@ -2,6 +2,7 @@
 use Rattle.std.specs.Prelude.{◌≡◌, ◌<◌, ◌≤◌, ℕ, List, Option, Some, None, Result, Ok, Err}
 use Rattle.jfs_bits.specs.declared.extent.Xad.{Xad}
 use Rattle.jfs_bits.specs.declared.rule.Rule.{Rule}
+use Rattle.jfs_disk.specs.declared.disk.Fault.{Fault}
 use Rattle.jfs_ranges.specs.View.{CarriesCount}
 use Rattle.jfs_name.specs.declared.name.NameEntry.{NameEntry}
 use Rattle.jfs_dtree.specs.declared.error.DtError.{DtError}
@@ -47,8 +48,8 @@ abbrev pub OutsideIsPast : ℕ → Option ℕ → ReadError → Type 0
 OutsideIsPast blocks block (View e) = Unit {0}
 OutsideIsPast blocks block Outside = IsPast blocks block
 
--- the count of faults rises only with a fault, which carries the count that it raised
-abbrev pub CarriesRead : {T : Type 0} → ℕ → ℕ → Result T ReadError → Type 0
+-- the count of faults rises only with a fault, which carries the part and the count that it raised
+abbrev pub CarriesRead : {T : Type 0} → Fault → Fault → Result T ReadError → Type 0
 CarriesRead before now (Ok it) = now ≡ before
 CarriesRead {T} before now (Err (View e)) = CarriesCount {T = T} before now (Err e)
 CarriesRead before now (Err Outside) = now ≡ before

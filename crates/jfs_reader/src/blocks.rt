@@ -62,7 +62,7 @@ pub fn read_part<const N: usize, V: PageView>(
     ensures image { V.PageView.tells → V.PageView.image view.new ≡ V.PageView.image view.old }
     ensures count_of_blocks { V.PageView.block_count view.new ≡ V.PageView.block_count view.old }
     ensures device { V.PageView.device view.new ≡ V.PageView.device view.old }
-    ensures fault { CarriesRead (V.PageView.fault_count view.old) (V.PageView.fault_count view.new) result }
+    ensures fault { CarriesRead (V.PageView.faults view.old) (V.PageView.faults view.new) result }
     ensures outside { IfErr result (OutsideIsPast (V.PageView.block_count view.old) (block_of extents.now j)) }
     ensures part { V.PageView.tells → IfOk result (λ part.
         part ≡ option_map (λ page. range_of page at N) (bytes_at (page_of (V.PageView.image view.old)) (block_of extents.now j))) }

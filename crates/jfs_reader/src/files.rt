@@ -24,7 +24,7 @@ pub fn file_extents<V: PageView>(alloc: Global, view: &mut V, k: u32) -> Result<
     ensures image { V.PageView.tells → V.PageView.image view.new ≡ V.PageView.image view.old }
     ensures count_of_blocks { V.PageView.block_count view.new ≡ V.PageView.block_count view.old }
     ensures device { V.PageView.device view.new ≡ V.PageView.device view.old }
-    ensures fault { CarriesXt (V.PageView.fault_count view.old) (V.PageView.fault_count view.new) result }
+    ensures fault { CarriesXt (V.PageView.faults view.old) (V.PageView.faults view.new) result }
     ensures list { V.PageView.tells →
         ExtentsAre (listed xt_scale (file_walk (readers (V.PageView.block_count view.old)) (page_of (V.PageView.image view.old)) k)) result }
 {
@@ -41,7 +41,7 @@ pub fn aggregate_root<V: PageView>(view: &mut V, k: u32) -> Result<[u8; 288], Vi
     ensures image { V.PageView.tells → V.PageView.image view.new ≡ V.PageView.image view.old }
     ensures count_of_blocks { V.PageView.block_count view.new ≡ V.PageView.block_count view.old }
     ensures device { V.PageView.device view.new ≡ V.PageView.device view.old }
-    ensures fault { CarriesCount (V.PageView.fault_count view.old) (V.PageView.fault_count view.new) result }
+    ensures fault { CarriesCount (V.PageView.faults view.old) (V.PageView.faults view.new) result }
     ensures root { V.PageView.tells → IfOk result (λ root. root ≡ root_of (aggregate_at (page_of (V.PageView.image view.old)) k)) }
     ensures width { IfOk result (λ root. length root ≡ 288) }
 {

@@ -30,7 +30,7 @@ impl InodeMap {
         ensures image { V.PageView.tells → V.PageView.image view.new ≡ V.PageView.image view.old }
         ensures count_of_blocks { V.PageView.block_count view.new ≡ V.PageView.block_count view.old }
         ensures device { V.PageView.device view.new ≡ V.PageView.device view.old }
-        ensures fault { CarriesRead (V.PageView.fault_count view.old) (V.PageView.fault_count view.new) result }
+        ensures fault { CarriesRead (V.PageView.faults view.old) (V.PageView.faults view.new) result }
         ensures outside { IfErr result (OutsideIsPast (V.PageView.block_count view.old) (block_of extents 0)) }
         ensures kept { IfOk result (λ map. map.extents ≡ extents) }
         ensures map { V.PageView.tells → IfOk result (λ map.
@@ -51,7 +51,7 @@ impl InodeMap {
         ensures image { V.PageView.tells → V.PageView.image view.new ≡ V.PageView.image view.old }
         ensures count_of_blocks { V.PageView.block_count view.new ≡ V.PageView.block_count view.old }
         ensures device { V.PageView.device view.new ≡ V.PageView.device view.old }
-        ensures fault { CarriesRead (V.PageView.fault_count view.old) (V.PageView.fault_count view.new) result }
+        ensures fault { CarriesRead (V.PageView.faults view.old) (V.PageView.faults view.new) result }
         ensures outside { IfErr result (OutsideIsPast (V.PageView.block_count view.old) (block_of self.now.extents (suc (e / 128)))) }
         ensures fits { IfOk result (IsBelow (2 ^ 40)) }
         ensures place { V.PageView.tells → IfOk result (λ place.
@@ -71,7 +71,7 @@ impl InodeMap {
         ensures image { V.PageView.tells → V.PageView.image view.new ≡ V.PageView.image view.old }
         ensures count_of_blocks { V.PageView.block_count view.new ≡ V.PageView.block_count view.old }
         ensures device { V.PageView.device view.new ≡ V.PageView.device view.old }
-        ensures fault { CarriesRead (V.PageView.fault_count view.old) (V.PageView.fault_count view.new) result }
+        ensures fault { CarriesRead (V.PageView.faults view.old) (V.PageView.faults view.new) result }
         ensures outside { IfErr result (OutsideIsPast (V.PageView.block_count view.old) (iag_block self.now n)) }
         ensures page { V.PageView.tells → IfOk result (λ page.
             IsInodeMap (readers (V.PageView.block_count view.old)) (page_of (V.PageView.image view.old)) self.now →

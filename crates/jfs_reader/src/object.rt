@@ -26,7 +26,7 @@ pub fn read_inode<V: PageView>(view: &mut V, page: u64, n: u32) -> Result<Dinode
     ensures image { V.PageView.tells → V.PageView.image view.new ≡ V.PageView.image view.old }
     ensures count_of_blocks { V.PageView.block_count view.new ≡ V.PageView.block_count view.old }
     ensures device { V.PageView.device view.new ≡ V.PageView.device view.old }
-    ensures fault { CarriesRead (V.PageView.fault_count view.old) (V.PageView.fault_count view.new) result }
+    ensures fault { CarriesRead (V.PageView.faults view.old) (V.PageView.faults view.new) result }
     ensures outside { IfErr result (OutsideIsPast (V.PageView.block_count view.old) (Some page)) }
     ensures inode { V.PageView.tells → IfOk result (λ d. d ≡ slot_of (page_of (V.PageView.image view.old) page) (n % 8)) }
 {
@@ -45,7 +45,7 @@ pub fn names_of<V: PageView>(alloc: Global, view: &mut V, d: &Dinode) -> Result<
     ensures image { V.PageView.tells → V.PageView.image view.new ≡ V.PageView.image view.old }
     ensures count_of_blocks { V.PageView.block_count view.new ≡ V.PageView.block_count view.old }
     ensures device { V.PageView.device view.new ≡ V.PageView.device view.old }
-    ensures fault { CarriesDt (V.PageView.fault_count view.old) (V.PageView.fault_count view.new) result }
+    ensures fault { CarriesDt (V.PageView.faults view.old) (V.PageView.faults view.new) result }
     ensures list { V.PageView.tells →
         NamesAre (listed name_scale (names_of (readers (V.PageView.block_count view.old)) (page_of (V.PageView.image view.old)) d.now)) result }
 {
@@ -61,7 +61,7 @@ pub fn extents_of<V: PageView>(alloc: Global, view: &mut V, d: &Dinode) -> Resul
     ensures image { V.PageView.tells → V.PageView.image view.new ≡ V.PageView.image view.old }
     ensures count_of_blocks { V.PageView.block_count view.new ≡ V.PageView.block_count view.old }
     ensures device { V.PageView.device view.new ≡ V.PageView.device view.old }
-    ensures fault { CarriesXt (V.PageView.fault_count view.old) (V.PageView.fault_count view.new) result }
+    ensures fault { CarriesXt (V.PageView.faults view.old) (V.PageView.faults view.new) result }
     ensures list { V.PageView.tells →
         ExtentsAre (listed xt_scale (extents_of (readers (V.PageView.block_count view.old)) (page_of (V.PageView.image view.old)) d.now)) result }
 {

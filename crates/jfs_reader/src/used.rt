@@ -21,7 +21,7 @@ impl InodeMap {
         ensures image { V.PageView.tells → V.PageView.image view.new ≡ V.PageView.image view.old }
         ensures count_of_blocks { V.PageView.block_count view.new ≡ V.PageView.block_count view.old }
         ensures device { V.PageView.device view.new ≡ V.PageView.device view.old }
-        ensures fault { CarriesRead (V.PageView.fault_count view.old) (V.PageView.fault_count view.new) result }
+        ensures fault { CarriesRead (V.PageView.faults view.old) (V.PageView.faults view.new) result }
         ensures outside { IfErr result (OutsideIsPast (V.PageView.block_count view.old) (iag_block self.now n)) }
         ensures used { V.PageView.tells → IfOk result (λ used.
             IsInodeMap (readers (V.PageView.block_count view.old)) (page_of (V.PageView.image view.old)) self.now →
@@ -39,7 +39,7 @@ impl InodeMap {
         ensures image { V.PageView.tells → V.PageView.image view.new ≡ V.PageView.image view.old }
         ensures count_of_blocks { V.PageView.block_count view.new ≡ V.PageView.block_count view.old }
         ensures device { V.PageView.device view.new ≡ V.PageView.device view.old }
-        ensures fault { CarriesRead (V.PageView.fault_count view.old) (V.PageView.fault_count view.new) result }
+        ensures fault { CarriesRead (V.PageView.faults view.old) (V.PageView.faults view.new) result }
         ensures outside { IfErr result (OutsideIsPast (V.PageView.block_count view.old) (iag_block self.now n)) }
         ensures marked { V.PageView.tells → IfOk result (λ marked.
             IsInodeMap (readers (V.PageView.block_count view.old)) (page_of (V.PageView.image view.old)) self.now →

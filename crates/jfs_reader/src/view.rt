@@ -47,7 +47,8 @@ impl<'a, D: Disk> DiskView<'a, D> {
         ensures loan { self.new.disk.ghost_name ≡ self.old.disk.ghost_name }
         ensures image { D.tells → D.image self.new.disk.now ≡ D.image self.old.disk.now }
         ensures device { device_of D.Disk self.new.disk.now ≡ device_of D.Disk self.old.disk.now }
-        ensures fault { CarriesCount (D.fault_count self.old.disk.now) (D.fault_count self.new.disk.now) result }
+        ensures part { self.new.part ≡ self.old.part }
+        ensures fault { CarriesCount (record { part = self.old.part; count = D.fault_count self.old.disk.now }) (record { part = self.new.part; count = D.fault_count self.new.disk.now }) result }
     {
         if self.held == Some(n) {
             return Ok(());
@@ -70,7 +71,7 @@ impl<'a, D: Disk> DiskView<'a, D> {
 impl<'a, D: Disk> PageView for DiskView<'a, D> {
     ghost block_count = { λ view. view.blocks };
 
-    ghost fault_count = { λ view. D.fault_count view.disk.now };
+    ghost faults = { λ view. record { part = view.part; count = D.fault_count view.disk.now } };
 
     ghost image = { λ view. D.image view.disk.now };
 

@@ -3,6 +3,7 @@ use Rattle.std.specs.Prelude.{◌≡◌, ◌≢◌, ◌⊎◌, ◌<◌, ◌≤�
 use Rattle.jfs_bits.specs.declared.rule.Rule.{Rule}
 use Rattle.jfs_bits.specs.declared.rule.Rule.TheVariants as rules
 use Rattle.jfs_disk.specs.Image.{Image, page_of}
+use Rattle.jfs_disk.specs.declared.disk.Fault.{Fault}
 use Rattle.jfs_ranges.specs.View.{CarriesCount}
 use Rattle.jfs_tree.specs.Walk.{Node, Leaf, Inner, Broken, Child, Scale, Rises, rows_of, times, walk}
 use Rattle.jfs_tree.specs.Edit.{Grew, Ready, IsApart, KeysRise, count_in, found_in}
@@ -23,8 +24,8 @@ nodes node drafts image n = node (shown drafts image n)
 abbrev pub pages_of : {P E : Type 0} → (List ℕ → Node P E) → Image → ℕ → Node P E
 pages_of node image n = node (page_of image n)
 
--- the count of faults rises only with a fault, which carries the count that it raised
-abbrev pub CarriesFault : {T : Type 0} → ℕ → ℕ → Result T TreeError → Type 0
+-- the count of faults rises only with a fault, which carries the part and the count that it raised
+abbrev pub CarriesFault : {T : Type 0} → Fault → Fault → Result T TreeError → Type 0
 CarriesFault before now (Ok it) = now ≡ before
 CarriesFault {T} before now (Err (View e)) = CarriesCount {T = T} before now (Err e)
 CarriesFault before now (Err (Bad page rule)) = now ≡ before

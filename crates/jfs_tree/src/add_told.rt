@@ -53,7 +53,7 @@ pub fn add_and_tell<V: PageView, F: PageLinks>(
     ensures image { V.PageView.tells → V.PageView.image view.new ≡ V.PageView.image view.old }
     ensures count_of_blocks { V.PageView.block_count view.new ≡ V.PageView.block_count view.old }
     ensures device { V.PageView.device view.new ≡ V.PageView.device view.old }
-    ensures fault { CarriesFault (V.PageView.fault_count view.old) (V.PageView.fault_count view.new) result }
+    ensures fault { CarriesFault (V.PageView.faults view.old) (V.PageView.faults view.new) result }
     ensures adds { V.PageView.tells → OnOk result (AddsTold F.PageForm.scale (F.PageForm.node form.now) (V.PageView.block_count view.old) (page_of (V.PageView.image view.old)) x.now
         (F.PageForm.node top.now root.old) (F.PageForm.node top.now root.new) (blocks_of fresh.old) (blocks_of fresh.new) tx.old tx.new) }
     ensures taken { OnOk result (TakenInOrder (blocks_of fresh.old) (blocks_of fresh.new) tx.old tx.new) }
@@ -133,7 +133,7 @@ fn plan<V: PageView, F: PageLinks>(
     ensures image { V.PageView.tells → V.PageView.image view.new ≡ V.PageView.image view.old }
     ensures count_of_blocks { V.PageView.block_count view.new ≡ V.PageView.block_count view.old }
     ensures device { V.PageView.device view.new ≡ V.PageView.device view.old }
-    ensures fault { CarriesFault (V.PageView.fault_count view.old) (V.PageView.fault_count view.new) result }
+    ensures fault { CarriesFault (V.PageView.faults view.old) (V.PageView.faults view.new) result }
     ensures adds { V.PageView.tells → IfOk result (λ p. AddsTold F.PageForm.scale (F.PageForm.node form.now) (V.PageView.block_count view.old) (page_of (V.PageView.image view.old)) x.now
         (F.PageForm.node top.now root.old) (F.PageForm.node top.now root.new) (blocks_of fresh.now) (blocks_of p.fresh) tx.now p.tx) }
     ensures taken { IfOk result (λ p. TakenInOrder (blocks_of fresh.now) (blocks_of p.fresh) tx.now p.tx) }
@@ -195,7 +195,7 @@ pub(crate) fn finish<V: PageView>(
     ensures image { V.PageView.tells → V.PageView.image view.new ≡ V.PageView.image view.old }
     ensures count_of_blocks { V.PageView.block_count view.new ≡ V.PageView.block_count view.old }
     ensures device { V.PageView.device view.new ≡ V.PageView.device view.old }
-    ensures fault { CarriesFault (V.PageView.fault_count view.old) (V.PageView.fault_count view.new) result }
+    ensures fault { CarriesFault (V.PageView.faults view.old) (V.PageView.faults view.new) result }
     ensures told { V.PageView.tells → IfOk result (λ p. TellsDraft (V.PageView.block_count view.old) (V.PageView.image view.old) draft.now.pages.items tx.now p.tx) }
     ensures rest { IfOk result (λ p. blocks_of p.fresh ≡ drop (length all.now - left) all.now) }
     ensures allocs { IfOk result (λ p. TellsThen (allocs_of (take (length all.now - left) all.now)) tx.now p.tx) }
@@ -225,7 +225,7 @@ fn tell<V: PageView>(
     ensures image { V.PageView.tells → V.PageView.image view.new ≡ V.PageView.image view.old }
     ensures count_of_blocks { V.PageView.block_count view.new ≡ V.PageView.block_count view.old }
     ensures device { V.PageView.device view.new ≡ V.PageView.device view.old }
-    ensures fault { CarriesCount (V.PageView.fault_count view.old) (V.PageView.fault_count view.new) result }
+    ensures fault { CarriesCount (V.PageView.faults view.old) (V.PageView.faults view.new) result }
     ensures told { V.PageView.tells → IfOk result (λ later. TellsDraft (V.PageView.block_count view.old) (V.PageView.image view.old) draft.now.pages.items tx.now later) }
     ensures allocs { IfOk result (λ later. TellsThen (allocs_of taken.now) tx.now later) }
     ensures edits { V.PageView.tells → IfOk result (λ later. TellsChanges (V.PageView.block_count view.old) kind taken.now (page_of (V.PageView.image view.old)) (allocs_of taken.now) tx.now later) }

@@ -99,7 +99,7 @@ fn first_children<V: PageView, F: PageRead>(
     ensures image { V.PageView.tells → V.PageView.image view.new ≡ V.PageView.image view.old }
     ensures count_of_blocks { V.PageView.block_count view.new ≡ V.PageView.block_count view.old }
     ensures device { V.PageView.device view.new ≡ V.PageView.device view.old }
-    ensures fault { CarriesFault (V.PageView.fault_count view.old) (V.PageView.fault_count view.new) result }
+    ensures fault { CarriesFault (V.PageView.faults view.old) (V.PageView.faults view.new) result }
     ensures children { V.PageView.tells → IfOk result (λ pages. (own : ℕ → Bool) → IsClosed (nodes (F.PageForm.node form.now) draft.now.pages.items (V.PageView.image view.old)) own → Has own page → Has own pages.0 × Has own pages.1) }
     ensures within { IfOk result (λ pages. IfSome pages.0 (λ n. n < V.PageView.block_count view.old) × IfSome pages.1 (λ n. n < V.PageView.block_count view.old)) }
     ensures cause { IfErr result IsRead }
@@ -130,7 +130,7 @@ fn last_child<V: PageView, F: PageRead>(
     ensures image { V.PageView.tells → V.PageView.image view.new ≡ V.PageView.image view.old }
     ensures count_of_blocks { V.PageView.block_count view.new ≡ V.PageView.block_count view.old }
     ensures device { V.PageView.device view.new ≡ V.PageView.device view.old }
-    ensures fault { CarriesFault (V.PageView.fault_count view.old) (V.PageView.fault_count view.new) result }
+    ensures fault { CarriesFault (V.PageView.faults view.old) (V.PageView.faults view.new) result }
     ensures child { V.PageView.tells → IfOk result (λ last. (own : ℕ → Bool) → IsClosed (nodes (F.PageForm.node form.now) draft.now.pages.items (V.PageView.image view.old)) own → Has own page → Has own last) }
     ensures within { IfOk result (λ last. IfSome last (λ n. n < V.PageView.block_count view.old)) }
     ensures cause { IfErr result IsRead }
@@ -162,7 +162,7 @@ pub(crate) fn beside_below<V: PageView, F: PageRead>(
     ensures image { V.PageView.tells → V.PageView.image view.new ≡ V.PageView.image view.old }
     ensures count_of_blocks { V.PageView.block_count view.new ≡ V.PageView.block_count view.old }
     ensures device { V.PageView.device view.new ≡ V.PageView.device view.old }
-    ensures fault { CarriesFault (V.PageView.fault_count view.old) (V.PageView.fault_count view.new) result }
+    ensures fault { CarriesFault (V.PageView.faults view.old) (V.PageView.faults view.new) result }
     ensures lower { V.PageView.tells → IfOk result (λ lower. IfSome lower (λ low. (own : ℕ → Bool) → IsClosed (nodes (F.PageForm.node form.now) draft.now.pages.items (V.PageView.image view.old)) own → HasAll own level.now → HasAll own low)) }
     ensures within { IfOk result (λ lower. IfSome lower (AreBelow (V.PageView.block_count view.old))) }
     ensures cause { IfErr result IsRead }
@@ -195,7 +195,7 @@ fn beside_others<V: PageView, F: PageRead>(
     ensures image { V.PageView.tells → V.PageView.image view.new ≡ V.PageView.image view.old }
     ensures count_of_blocks { V.PageView.block_count view.new ≡ V.PageView.block_count view.old }
     ensures device { V.PageView.device view.new ≡ V.PageView.device view.old }
-    ensures fault { CarriesFault (V.PageView.fault_count view.old) (V.PageView.fault_count view.new) result }
+    ensures fault { CarriesFault (V.PageView.faults view.old) (V.PageView.faults view.new) result }
     ensures all { V.PageView.tells → IfOk result (λ low. (own : ℕ → Bool) → IsClosed (nodes (F.PageForm.node form.now) draft.now.pages.items (V.PageView.image view.old)) own → HasAll own level.now → HasAll own children → HasAll own low) }
     ensures within { IfOk result (AreBelow (V.PageView.block_count view.old)) }
     ensures cause { IfErr result IsRead }
@@ -230,7 +230,7 @@ fn page_before<V: PageView, F: PageRead>(
     ensures image { V.PageView.tells → V.PageView.image view.new ≡ V.PageView.image view.old }
     ensures count_of_blocks { V.PageView.block_count view.new ≡ V.PageView.block_count view.old }
     ensures device { V.PageView.device view.new ≡ V.PageView.device view.old }
-    ensures fault { CarriesFault (V.PageView.fault_count view.old) (V.PageView.fault_count view.new) result }
+    ensures fault { CarriesFault (V.PageView.faults view.old) (V.PageView.faults view.new) result }
     ensures all { V.PageView.tells → IfOk result (λ page. (own : ℕ → Bool) → IsClosed (nodes (F.PageForm.node form.now) draft.now.pages.items (V.PageView.image view.old)) own → HasAll own level.now → Has own before → Has own page) }
     ensures within { IfOk result (λ page. IfSome page (λ n. n < V.PageView.block_count view.old)) }
     ensures cause { IfErr result IsRead }
@@ -257,7 +257,7 @@ fn pages_behind<V: PageView, F: PageRead>(
     ensures image { V.PageView.tells → V.PageView.image view.new ≡ V.PageView.image view.old }
     ensures count_of_blocks { V.PageView.block_count view.new ≡ V.PageView.block_count view.old }
     ensures device { V.PageView.device view.new ≡ V.PageView.device view.old }
-    ensures fault { CarriesFault (V.PageView.fault_count view.old) (V.PageView.fault_count view.new) result }
+    ensures fault { CarriesFault (V.PageView.faults view.old) (V.PageView.faults view.new) result }
     ensures all { V.PageView.tells → IfOk result (λ pages. (own : ℕ → Bool) → IsClosed (nodes (F.PageForm.node form.now) draft.now.pages.items (V.PageView.image view.old)) own → HasAll own level.now → Has own behind → Has own next
         → Has own pages.0 × Has own pages.1) }
     ensures within { IfOk result (λ pages. IfSome pages.0 (λ n. n < V.PageView.block_count view.old) × IfSome pages.1 (λ n. n < V.PageView.block_count view.old)) }

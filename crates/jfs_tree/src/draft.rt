@@ -38,7 +38,7 @@ impl Draft {
         ensures kept { V.PageView.tells → V.PageView.image view.new ≡ V.PageView.image view.old }
         ensures size { V.PageView.block_count view.new ≡ V.PageView.block_count view.old }
         ensures device { V.PageView.device view.new ≡ V.PageView.device view.old }
-        ensures count { CarriesCount (V.PageView.fault_count view.old) (V.PageView.fault_count view.new) result }
+        ensures count { CarriesCount (V.PageView.faults view.old) (V.PageView.faults view.new) result }
     {
         match self.changed(n) {
             Some(page) => Ok(page),

@@ -27,7 +27,7 @@ pub fn find_below<V: PageView, F: PageForm>(
     ensures image { V.PageView.tells → V.PageView.image view.new ≡ V.PageView.image view.old }
     ensures count_of_blocks { V.PageView.block_count view.new ≡ V.PageView.block_count view.old }
     ensures device { V.PageView.device view.new ≡ V.PageView.device view.old }
-    ensures fault { CarriesFault (V.PageView.fault_count view.old) (V.PageView.fault_count view.new) result }
+    ensures fault { CarriesFault (V.PageView.faults view.old) (V.PageView.faults view.new) result }
     ensures found { V.PageView.tells → IfOk result (λ found.
         Finds F.PageForm.scale x.now (pages_of (F.PageForm.node form.now) (V.PageView.image view.old)) page found) }
     ensures bad { V.PageView.tells → IfErr result (λ e.

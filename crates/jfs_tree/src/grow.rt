@@ -47,7 +47,7 @@ pub fn add_below<V: PageView, F: PageForm>(
     ensures image { V.PageView.tells → V.PageView.image view.new ≡ V.PageView.image view.old }
     ensures count_of_blocks { V.PageView.block_count view.new ≡ V.PageView.block_count view.old }
     ensures device { V.PageView.device view.new ≡ V.PageView.device view.old }
-    ensures fault { CarriesFault (V.PageView.fault_count view.old) (V.PageView.fault_count view.new) result }
+    ensures fault { CarriesFault (V.PageView.faults view.old) (V.PageView.faults view.new) result }
     ensures grew { V.PageView.tells → IfOk result (λ grown. Grew F.PageForm.scale x.now
         (nodes (F.PageForm.node form.now) draft.old.pages.items (V.PageView.image view.old))
         (nodes (F.PageForm.node form.now) draft.new.pages.items (V.PageView.image view.old))

@@ -36,7 +36,7 @@ pub(crate) fn remove_leftmost<V: PageView, F: PageLoss>(
     ensures image { V.PageView.tells → V.PageView.image view.new ≡ V.PageView.image view.old }
     ensures count_of_blocks { V.PageView.block_count view.new ≡ V.PageView.block_count view.old }
     ensures device { V.PageView.device view.new ≡ V.PageView.device view.old }
-    ensures fault { CarriesFault (V.PageView.fault_count view.old) (V.PageView.fault_count view.new) result }
+    ensures fault { CarriesFault (V.PageView.faults view.old) (V.PageView.faults view.new) result }
     ensures removes { V.PageView.tells → IfOk result (λ found. RemovesAlways F.PageForm.scale x.now
         (pages_of (F.PageForm.node form.now) (V.PageView.image view.old))
         (nodes (F.PageForm.node form.now) draft.new.pages.items (V.PageView.image view.old))
@@ -76,7 +76,7 @@ fn lower_tree<V: PageView, F: PageLoss>(
     ensures image { V.PageView.tells → V.PageView.image view.new ≡ V.PageView.image view.old }
     ensures count_of_blocks { V.PageView.block_count view.new ≡ V.PageView.block_count view.old }
     ensures device { V.PageView.device view.new ≡ V.PageView.device view.old }
-    ensures fault { CarriesFault (V.PageView.fault_count view.old) (V.PageView.fault_count view.new) result }
+    ensures fault { CarriesFault (V.PageView.faults view.old) (V.PageView.faults view.new) result }
     ensures lowers { V.PageView.tells → OnOk result (LowersTree (F.PageForm.node form.now) F.PageForm.scale (V.PageView.image view.old)
         draft.old.pages.items draft.new.pages.items (F.PageForm.node top.now root.old) (F.PageForm.node top.now root.new)) }
     ensures cause { IfErr result IsRead }
@@ -101,7 +101,7 @@ fn lower_below<V: PageView, F: PageLoss>(
     ensures image { V.PageView.tells → V.PageView.image view.new ≡ V.PageView.image view.old }
     ensures count_of_blocks { V.PageView.block_count view.new ≡ V.PageView.block_count view.old }
     ensures device { V.PageView.device view.new ≡ V.PageView.device view.old }
-    ensures fault { CarriesFault (V.PageView.fault_count view.old) (V.PageView.fault_count view.new) result }
+    ensures fault { CarriesFault (V.PageView.faults view.old) (V.PageView.faults view.new) result }
     ensures lowers { V.PageView.tells → OnOk result (LowersBelow (F.PageForm.node form.now) F.PageForm.scale (V.PageView.image view.old)
         draft.old.pages.items draft.new.pages.items most page) }
     ensures cause { IfErr result IsRead }

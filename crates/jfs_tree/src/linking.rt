@@ -31,7 +31,7 @@ pub fn link_taken<V: PageView, F: PageLinks>(
     ensures image { V.PageView.tells → V.PageView.image view.new ≡ V.PageView.image view.old }
     ensures count_of_blocks { V.PageView.block_count view.new ≡ V.PageView.block_count view.old }
     ensures device { V.PageView.device view.new ≡ V.PageView.device view.old }
-    ensures fault { CarriesFault (V.PageView.fault_count view.old) (V.PageView.fault_count view.new) result }
+    ensures fault { CarriesFault (V.PageView.faults view.old) (V.PageView.faults view.new) result }
     ensures links { V.PageView.tells → OnOk result (LinksTree (F.PageForm.node form.now) (V.PageView.image view.old) draft.old.pages.items draft.new.pages.items (F.PageForm.node top.now root.now)) }
     ensures cause { IfErr result IsRead }
 {
@@ -60,7 +60,7 @@ fn link_behind<V: PageView, F: PageLinks>(
     ensures image { V.PageView.tells → V.PageView.image view.new ≡ V.PageView.image view.old }
     ensures count_of_blocks { V.PageView.block_count view.new ≡ V.PageView.block_count view.old }
     ensures device { V.PageView.device view.new ≡ V.PageView.device view.old }
-    ensures fault { CarriesFault (V.PageView.fault_count view.old) (V.PageView.fault_count view.new) result }
+    ensures fault { CarriesFault (V.PageView.faults view.old) (V.PageView.faults view.new) result }
     ensures links { V.PageView.tells → OnOk result (LinksLevel (F.PageForm.node form.now) (V.PageView.image view.old) draft.old.pages.items draft.new.pages.items level.now) }
     ensures cause { IfErr result IsRead }
 {
@@ -97,7 +97,7 @@ fn link_new<V: PageView, F: PageLinks>(
     ensures image { V.PageView.tells → V.PageView.image view.new ≡ V.PageView.image view.old }
     ensures count_of_blocks { V.PageView.block_count view.new ≡ V.PageView.block_count view.old }
     ensures device { V.PageView.device view.new ≡ V.PageView.device view.old }
-    ensures fault { CarriesFault (V.PageView.fault_count view.old) (V.PageView.fault_count view.new) result }
+    ensures fault { CarriesFault (V.PageView.faults view.old) (V.PageView.faults view.new) result }
     ensures links { V.PageView.tells → OnOk result (LinksLevel (F.PageForm.node form.now) (V.PageView.image view.old) draft.old.pages.items draft.new.pages.items level.now) }
     ensures cause { IfErr result IsRead }
 {
@@ -132,7 +132,7 @@ pub fn link_gaps<V: PageView, F: PageLinks>(
     ensures image { V.PageView.tells → V.PageView.image view.new ≡ V.PageView.image view.old }
     ensures count_of_blocks { V.PageView.block_count view.new ≡ V.PageView.block_count view.old }
     ensures device { V.PageView.device view.new ≡ V.PageView.device view.old }
-    ensures fault { CarriesFault (V.PageView.fault_count view.old) (V.PageView.fault_count view.new) result }
+    ensures fault { CarriesFault (V.PageView.faults view.old) (V.PageView.faults view.new) result }
     ensures links { V.PageView.tells → OnOk result (LinksTree (F.PageForm.node form.now) (V.PageView.image view.old) draft.old.pages.items draft.new.pages.items (F.PageForm.node top.now root.now)) }
     ensures cause { IfErr result IsRead }
 {
@@ -163,7 +163,7 @@ fn close_gaps<V: PageView, F: PageLinks>(
     ensures image { V.PageView.tells → V.PageView.image view.new ≡ V.PageView.image view.old }
     ensures count_of_blocks { V.PageView.block_count view.new ≡ V.PageView.block_count view.old }
     ensures device { V.PageView.device view.new ≡ V.PageView.device view.old }
-    ensures fault { CarriesFault (V.PageView.fault_count view.old) (V.PageView.fault_count view.new) result }
+    ensures fault { CarriesFault (V.PageView.faults view.old) (V.PageView.faults view.new) result }
     ensures links { V.PageView.tells → OnOk result (LinksLevel (F.PageForm.node form.now) (V.PageView.image view.old) draft.old.pages.items draft.new.pages.items level.now) }
     ensures levels { IfOk result (λ levels. levels ≤ most) }
     ensures cause { IfErr result IsRead }
@@ -202,7 +202,7 @@ fn gaps_below<V: PageView, F: PageLinks>(
     ensures image { V.PageView.tells → V.PageView.image view.new ≡ V.PageView.image view.old }
     ensures count_of_blocks { V.PageView.block_count view.new ≡ V.PageView.block_count view.old }
     ensures device { V.PageView.device view.new ≡ V.PageView.device view.old }
-    ensures fault { CarriesFault (V.PageView.fault_count view.old) (V.PageView.fault_count view.new) result }
+    ensures fault { CarriesFault (V.PageView.faults view.old) (V.PageView.faults view.new) result }
     ensures links { V.PageView.tells → OnOk result (LinksLevel (F.PageForm.node form.now) (V.PageView.image view.old) draft.old.pages.items draft.new.pages.items level.now) }
     ensures levels { IfOk result (λ levels. levels < most) }
     ensures cause { IfErr result IsRead }
@@ -230,7 +230,7 @@ fn link_both<V: PageView, F: PageLinks>(
     ensures image { V.PageView.tells → V.PageView.image view.new ≡ V.PageView.image view.old }
     ensures count_of_blocks { V.PageView.block_count view.new ≡ V.PageView.block_count view.old }
     ensures device { V.PageView.device view.new ≡ V.PageView.device view.old }
-    ensures fault { CarriesFault (V.PageView.fault_count view.old) (V.PageView.fault_count view.new) result }
+    ensures fault { CarriesFault (V.PageView.faults view.old) (V.PageView.faults view.new) result }
     ensures links { V.PageView.tells → OnOk result (LinksLevel (F.PageForm.node form.now) (V.PageView.image view.old) draft.old.pages.items draft.new.pages.items level.now) }
     ensures cause { IfErr result IsRead }
 {
@@ -267,7 +267,7 @@ fn link_on<V: PageView, F: PageLinks>(
     ensures image { V.PageView.tells → V.PageView.image view.new ≡ V.PageView.image view.old }
     ensures count_of_blocks { V.PageView.block_count view.new ≡ V.PageView.block_count view.old }
     ensures device { V.PageView.device view.new ≡ V.PageView.device view.old }
-    ensures fault { CarriesFault (V.PageView.fault_count view.old) (V.PageView.fault_count view.new) result }
+    ensures fault { CarriesFault (V.PageView.faults view.old) (V.PageView.faults view.new) result }
     ensures links { V.PageView.tells → OnOk result (LinksPage (F.PageForm.node form.now) (V.PageView.image view.old) draft.old.pages.items draft.new.pages.items page) }
     ensures cause { IfErr result IsRead }
 {
@@ -295,7 +295,7 @@ fn link_back<V: PageView, F: PageLinks>(
     ensures image { V.PageView.tells → V.PageView.image view.new ≡ V.PageView.image view.old }
     ensures count_of_blocks { V.PageView.block_count view.new ≡ V.PageView.block_count view.old }
     ensures device { V.PageView.device view.new ≡ V.PageView.device view.old }
-    ensures fault { CarriesFault (V.PageView.fault_count view.old) (V.PageView.fault_count view.new) result }
+    ensures fault { CarriesFault (V.PageView.faults view.old) (V.PageView.faults view.new) result }
     ensures links { V.PageView.tells → OnOk result (LinksPage (F.PageForm.node form.now) (V.PageView.image view.old) draft.old.pages.items draft.new.pages.items page) }
     ensures cause { IfErr result IsRead }
 {

@@ -41,7 +41,7 @@ pub fn tell_steps<V: PageView>(
     ensures image { V.PageView.tells → V.PageView.image view.new ≡ V.PageView.image view.old }
     ensures count_of_blocks { V.PageView.block_count view.new ≡ V.PageView.block_count view.old }
     ensures device { V.PageView.device view.new ≡ V.PageView.device view.old }
-    ensures fault { CarriesFault (V.PageView.fault_count view.old) (V.PageView.fault_count view.new) result }
+    ensures fault { CarriesFault (V.PageView.faults view.old) (V.PageView.faults view.new) result }
     ensures told { V.PageView.tells → IfOk result (λ p. TellsDraft (V.PageView.block_count view.old) (V.PageView.image view.old) draft.now.pages.items tx.now p.tx) }
     ensures rest { IfOk result (λ p. blocks_of p.fresh ≡ reverse left.now) }
     ensures taken { IfOk result (λ p. TakenInOrder (blocks_of fresh.now) (blocks_of p.fresh) tx.now p.tx) }

@@ -48,7 +48,7 @@ pub fn remove_below<V: PageView, F: PageLoss>(
     ensures image { V.PageView.tells → V.PageView.image view.new ≡ V.PageView.image view.old }
     ensures count_of_blocks { V.PageView.block_count view.new ≡ V.PageView.block_count view.old }
     ensures device { V.PageView.device view.new ≡ V.PageView.device view.old }
-    ensures fault { CarriesFault (V.PageView.fault_count view.old) (V.PageView.fault_count view.new) result }
+    ensures fault { CarriesFault (V.PageView.faults view.old) (V.PageView.faults view.new) result }
     ensures shrank { V.PageView.tells → IfOk result (λ found. IfSome found (λ shrunk. Shrank F.PageForm.scale shrunk.entry
         (pages_of (F.PageForm.node form.now) (V.PageView.image view.old))
         (nodes (F.PageForm.node form.now) draft.new.pages.items (V.PageView.image view.old))

@@ -49,7 +49,7 @@ pub fn remove_and_tell<V: PageView, F: PageLoss + PageLinks>(
     ensures image { V.PageView.tells → V.PageView.image view.new ≡ V.PageView.image view.old }
     ensures count_of_blocks { V.PageView.block_count view.new ≡ V.PageView.block_count view.old }
     ensures device { V.PageView.device view.new ≡ V.PageView.device view.old }
-    ensures fault { CarriesFault (V.PageView.fault_count view.old) (V.PageView.fault_count view.new) result }
+    ensures fault { CarriesFault (V.PageView.faults view.old) (V.PageView.faults view.new) result }
     ensures removes { V.PageView.tells → IfOk result (RemovesTold F.PageForm.scale (F.PageForm.node form.now) (V.PageView.block_count view.old) (page_of (V.PageView.image view.old)) x.now
         (F.PageForm.node top.now root.old) (F.PageForm.node top.now root.new) tx.old tx.new) }
     ensures left { V.PageView.tells → OnOk result (StaysLeftmost F.PageForm.scale (F.PageForm.node form.now) (V.PageView.block_count view.old) (page_of (V.PageView.image view.old))
@@ -99,7 +99,7 @@ fn tell_freed<V: PageView>(
     ensures image { V.PageView.tells → V.PageView.image view.new ≡ V.PageView.image view.old }
     ensures count_of_blocks { V.PageView.block_count view.new ≡ V.PageView.block_count view.old }
     ensures device { V.PageView.device view.new ≡ V.PageView.device view.old }
-    ensures fault { CarriesCount (V.PageView.fault_count view.old) (V.PageView.fault_count view.new) result }
+    ensures fault { CarriesCount (V.PageView.faults view.old) (V.PageView.faults view.new) result }
     ensures told { V.PageView.tells → IfOk result (λ later. TellsDraft (V.PageView.block_count view.old) (V.PageView.image view.old) draft.now.pages.items tx.now later) }
     ensures edits { V.PageView.tells → IfOk result (λ later. TellsFreed freed.now tx.now later) }
     ensures changes { V.PageView.tells → IfOk result (λ later. TellsChanges (V.PageView.block_count view.old) kind [] (page_of (V.PageView.image view.old)) (page_frees freed.now) tx.now later) }

@@ -33,7 +33,7 @@ pub fn find_entry<V: PageView, F: PageForm>(
     ensures image { V.PageView.tells → V.PageView.image view.new ≡ V.PageView.image view.old }
     ensures count_of_blocks { V.PageView.block_count view.new ≡ V.PageView.block_count view.old }
     ensures device { V.PageView.device view.new ≡ V.PageView.device view.old }
-    ensures fault { CarriesFault (V.PageView.fault_count view.old) (V.PageView.fault_count view.new) result }
+    ensures fault { CarriesFault (V.PageView.faults view.old) (V.PageView.faults view.new) result }
     ensures found { V.PageView.tells → IfOk result (λ found.
         FindsAlways F.PageForm.scale x.now (pages_of (F.PageForm.node form.now) (V.PageView.image view.old)) (F.PageForm.node top.now root.now) found) }
     ensures bad { V.PageView.tells → IfErr result (λ e.
@@ -79,7 +79,7 @@ pub fn add_entry<V: PageView, F: PageForm>(
     ensures image { V.PageView.tells → V.PageView.image view.new ≡ V.PageView.image view.old }
     ensures count_of_blocks { V.PageView.block_count view.new ≡ V.PageView.block_count view.old }
     ensures device { V.PageView.device view.new ≡ V.PageView.device view.old }
-    ensures fault { CarriesFault (V.PageView.fault_count view.old) (V.PageView.fault_count view.new) result }
+    ensures fault { CarriesFault (V.PageView.faults view.old) (V.PageView.faults view.new) result }
     ensures adds { V.PageView.tells → OnOk result (AddsAlways F.PageForm.scale x.now
         (nodes (F.PageForm.node form.now) draft.old.pages.items (V.PageView.image view.old))
         (nodes (F.PageForm.node form.now) draft.new.pages.items (V.PageView.image view.old))

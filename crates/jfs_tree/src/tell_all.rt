@@ -23,7 +23,7 @@ pub fn tell_draft<V: PageView>(
     ensures image { V.PageView.tells → V.PageView.image view.new ≡ V.PageView.image view.old }
     ensures count_of_blocks { V.PageView.block_count view.new ≡ V.PageView.block_count view.old }
     ensures device { V.PageView.device view.new ≡ V.PageView.device view.old }
-    ensures fault { CarriesCount (V.PageView.fault_count view.old) (V.PageView.fault_count view.new) result }
+    ensures fault { CarriesCount (V.PageView.faults view.old) (V.PageView.faults view.new) result }
     ensures edits { V.PageView.tells → OnOk result (TellsExactly (V.PageView.block_count view.old) (V.PageView.image view.old) taken.now kind draft.now.pages.items tx.old tx.new) }
     ensures lines { OnOk result (TellsLines tx.old tx.new) }
     ensures told { V.PageView.tells → OnOk result (TellsDraft (V.PageView.block_count view.old) (V.PageView.image view.old) draft.now.pages.items tx.old tx.new) }
@@ -52,7 +52,7 @@ fn tell_drafted<V: PageView>(
     ensures image { V.PageView.tells → V.PageView.image view.new ≡ V.PageView.image view.old }
     ensures count_of_blocks { V.PageView.block_count view.new ≡ V.PageView.block_count view.old }
     ensures device { V.PageView.device view.new ≡ V.PageView.device view.old }
-    ensures fault { CarriesCount (V.PageView.fault_count view.old) (V.PageView.fault_count view.new) result }
+    ensures fault { CarriesCount (V.PageView.faults view.old) (V.PageView.faults view.new) result }
     ensures edits { V.PageView.tells → OnOk result (TellsPage (V.PageView.image view.old) taken.now kind drafted.now.number drafted.now.page.0 tx.old tx.new) }
     ensures lines { OnOk result (TellsLines tx.old tx.new) }
     ensures told { V.PageView.tells → OnOk result (TellsOne (V.PageView.block_count view.old) (V.PageView.image view.old) drafted.now.number drafted.now.page.0 tx.old tx.new) }

@@ -31,7 +31,7 @@ pub(crate) fn walk_first<V: PageView, F: PageRead, W: Visitor<F::Entry>>(
     ensures image { V.PageView.tells → V.PageView.image view.new ≡ V.PageView.image view.old }
     ensures count_of_blocks { V.PageView.block_count view.new ≡ V.PageView.block_count view.old }
     ensures device { V.PageView.device view.new ≡ V.PageView.device view.old }
-    ensures fault { CarriesFault (V.PageView.fault_count view.old) (V.PageView.fault_count view.new) result }
+    ensures fault { CarriesFault (V.PageView.faults view.old) (V.PageView.faults view.new) result }
     ensures within { IfOk result (λ below. below < most) }
     ensures levels { V.PageView.tells → IfOk result (λ below. (root : Node F.Key F.Entry) →
         levels_of (with_root root (pages_of (F.PageForm.node form.now) (V.PageView.image view.old))) most page ≡ Some (suc below)) }
@@ -85,7 +85,7 @@ fn walk_page<V: PageView, F: PageRead, W: Visitor<F::Entry>>(
     ensures image { V.PageView.tells → V.PageView.image view.new ≡ V.PageView.image view.old }
     ensures count_of_blocks { V.PageView.block_count view.new ≡ V.PageView.block_count view.old }
     ensures device { V.PageView.device view.new ≡ V.PageView.device view.old }
-    ensures fault { CarriesFault (V.PageView.fault_count view.old) (V.PageView.fault_count view.new) result }
+    ensures fault { CarriesFault (V.PageView.faults view.old) (V.PageView.faults view.new) result }
     ensures met { V.PageView.tells → (root : Node F.Key F.Entry) → Meets F.PageForm.scale W.sees_page W.sees_entry (F.place low.old) visitor.old
         (page_shown F.PageForm.scale (with_root root (pages_of (F.PageForm.node form.now) (V.PageView.image view.old))) below page (F.place low.old))
         (ended (F.place low.new) result) visitor.new }
@@ -147,7 +147,7 @@ pub(crate) fn walk_others<V: PageView, F: PageRead, W: Visitor<F::Entry>>(
     ensures image { V.PageView.tells → V.PageView.image view.new ≡ V.PageView.image view.old }
     ensures count_of_blocks { V.PageView.block_count view.new ≡ V.PageView.block_count view.old }
     ensures device { V.PageView.device view.new ≡ V.PageView.device view.old }
-    ensures fault { CarriesFault (V.PageView.fault_count view.old) (V.PageView.fault_count view.new) result }
+    ensures fault { CarriesFault (V.PageView.faults view.old) (V.PageView.faults view.new) result }
     ensures met { V.PageView.tells → (root : Node F.Key F.Entry) → Meets F.PageForm.scale W.sees_page W.sees_entry (F.place low.old) visitor.old
         (others_shown F.PageForm.scale (with_root root (pages_of (F.PageForm.node form.now) (V.PageView.image view.old))) below (children_in (F.PageForm.node above.now bytes.now)))
         (ended (F.place low.new) result) visitor.new }

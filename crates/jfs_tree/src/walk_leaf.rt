@@ -33,7 +33,7 @@ pub(crate) fn open_page<V: PageView, F: PageRead, W: Visitor<F::Entry>>(
     ensures image { V.PageView.tells → V.PageView.image view.new ≡ V.PageView.image view.old }
     ensures count_of_blocks { V.PageView.block_count view.new ≡ V.PageView.block_count view.old }
     ensures device { V.PageView.device view.new ≡ V.PageView.device view.old }
-    ensures fault { CarriesFault (V.PageView.fault_count view.old) (V.PageView.fault_count view.new) result }
+    ensures fault { CarriesFault (V.PageView.faults view.old) (V.PageView.faults view.new) result }
     ensures bytes { V.PageView.tells → IfOk result (λ opened. opened.bytes.0 ≡ page_of (V.PageView.image view.old) page) }
     ensures counts { IfOk result (λ opened. Counts (F.PageForm.node form.now opened.bytes.0) opened.shape) }
     ensures opens { V.PageView.tells → Opens W.sees_page page (F.PageForm.node form.now (page_of (V.PageView.image view.old) page)) visitor.old result visitor.new }

@@ -2,6 +2,7 @@
 use Rattle.std.specs.Prelude.{◌≡◌, ◌⊎◌, ◌==◌, if◌then◌else◌, ℕ, List, Option, Some, None, Result, Ok, Err, length}
 use Rattle.jfs_bits.specs.declared.extent.Xad.{Xad}
 use Rattle.jfs_bits.specs.declared.rule.Rule.{Rule}
+use Rattle.jfs_disk.specs.declared.disk.Fault.{Fault}
 use Rattle.jfs_ranges.specs.View.{CarriesCount}
 use Rattle.jfs_tree.specs.Walk.{Node}
 use Rattle.jfs_tree.specs.Spells.{spells, footprint}
@@ -49,8 +50,8 @@ abbrev pub tree_error : XtError → TreeError
 tree_error (View e) = tree.View e
 tree_error (Bad page rule) = tree.Bad page rule
 
--- the count of faults rises only with a fault, which carries the count that it raised
-abbrev pub CarriesXt : {T : Type 0} → ℕ → ℕ → Result T XtError → Type 0
+-- the count of faults rises only with a fault, which carries the part and the count that it raised
+abbrev pub CarriesXt : {T : Type 0} → Fault → Fault → Result T XtError → Type 0
 CarriesXt before now (Ok it) = now ≡ before
 CarriesXt {T} before now (Err (View e)) = CarriesCount {T = T} before now (Err e)
 CarriesXt before now (Err (Bad page rule)) = now ≡ before

@@ -42,7 +42,7 @@ pub(crate) fn cut_page<V: PageView>(
     ensures image { V.PageView.tells → V.PageView.image view.new ≡ V.PageView.image view.old }
     ensures count_of_blocks { V.PageView.block_count view.new ≡ V.PageView.block_count view.old }
     ensures device { V.PageView.device view.new ≡ V.PageView.device view.old }
-    ensures fault { CarriesFault (V.PageView.fault_count view.old) (V.PageView.fault_count view.new) result }
+    ensures fault { CarriesFault (V.PageView.faults view.old) (V.PageView.faults view.new) result }
     ensures cuts { V.PageView.tells → IfOk result (λ kept. CutsNode blocks bound (page_of (V.PageView.image view.old))
         (shown cut.new.draft.pages.items (V.PageView.image view.old)) (xt_node form blocks bytes.old) (xt_node form blocks bytes.new) kept cut.new.pages.items cut.new.runs) }
     ensures leaf { is_leaf (head_of bytes.old).flag ≡ true → OnOk result ((entries_of bytes.new ≡ kept_below bound (entries_of bytes.old)) × (cut.new.runs ≡ gone_past bound (entries_of bytes.old)) × (cut.new.draft.pages.items ≡ []) × (cut.new.pages.items ≡ [])) }

@@ -41,7 +41,7 @@ pub fn cut_to<V: PageView>(
     ensures image { V.PageView.tells → V.PageView.image view.new ≡ V.PageView.image view.old }
     ensures count_of_blocks { V.PageView.block_count view.new ≡ V.PageView.block_count view.old }
     ensures device { V.PageView.device view.new ≡ V.PageView.device view.old }
-    ensures fault { CarriesXt (V.PageView.fault_count view.old) (V.PageView.fault_count view.new) result }
+    ensures fault { CarriesXt (V.PageView.faults view.old) (V.PageView.faults view.new) result }
     ensures cuts { V.PageView.tells → OnOk result (CutsExtents (V.PageView.block_count view.old) (page_of (V.PageView.image view.old)) blocks root.old root.new tx.old tx.new) }
     ensures edits { V.PageView.tells → OnOk result (TellsCut (V.PageView.block_count view.old) (page_of (V.PageView.image view.old)) tx.old tx.new) }
     ensures kept { OnErr result ((root.new ≡ root.old) × (tx.new ≡ tx.old)) }
@@ -76,7 +76,7 @@ fn plan_cut<V: PageView>(
     ensures image { V.PageView.tells → V.PageView.image view.new ≡ V.PageView.image view.old }
     ensures count_of_blocks { V.PageView.block_count view.new ≡ V.PageView.block_count view.old }
     ensures device { V.PageView.device view.new ≡ V.PageView.device view.old }
-    ensures fault { CarriesXt (V.PageView.fault_count view.old) (V.PageView.fault_count view.new) result }
+    ensures fault { CarriesXt (V.PageView.faults view.old) (V.PageView.faults view.new) result }
     ensures cuts { V.PageView.tells → IfOk result (λ later. CutsExtents (V.PageView.block_count view.old) (page_of (V.PageView.image view.old)) bound root.old root.new tx.now later) }
     ensures edits { V.PageView.tells → IfOk result (λ later. TellsCut (V.PageView.block_count view.old) (page_of (V.PageView.image view.old)) tx.now later) }
     ensures bad { V.PageView.tells → IfErr result (λ e.
@@ -122,7 +122,7 @@ fn tell_cut<V: PageView>(alloc: Global, view: &mut V, cut: &Cut, tx: &Tx) -> Res
     ensures image { V.PageView.tells → V.PageView.image view.new ≡ V.PageView.image view.old }
     ensures count_of_blocks { V.PageView.block_count view.new ≡ V.PageView.block_count view.old }
     ensures device { V.PageView.device view.new ≡ V.PageView.device view.old }
-    ensures fault { CarriesCount (V.PageView.fault_count view.old) (V.PageView.fault_count view.new) result }
+    ensures fault { CarriesCount (V.PageView.faults view.old) (V.PageView.faults view.new) result }
     ensures told { V.PageView.tells → IfOk result (λ later. TellsDraft (V.PageView.block_count view.old) (V.PageView.image view.old) cut.now.draft.pages.items tx.now later) }
     ensures frees { IfOk result (λ later. TellsThen (page_frees cut.now.pages.items ++ run_frees cut.now.runs) tx.now later) }
     ensures changes { V.PageView.tells → IfOk result (λ later. TellsChanges (V.PageView.block_count view.old) Xtree [] (page_of (V.PageView.image view.old)) (page_frees cut.now.pages.items ++ run_frees cut.now.runs) tx.now later) }

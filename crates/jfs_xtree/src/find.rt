@@ -23,7 +23,7 @@ pub fn lookup<V: PageView>(view: &mut V, root: &[u8], offset: u64) -> Result<Opt
     ensures image { V.PageView.tells → V.PageView.image view.new ≡ V.PageView.image view.old }
     ensures count_of_blocks { V.PageView.block_count view.new ≡ V.PageView.block_count view.old }
     ensures device { V.PageView.device view.new ≡ V.PageView.device view.old }
-    ensures fault { CarriesXt (V.PageView.fault_count view.old) (V.PageView.fault_count view.new) result }
+    ensures fault { CarriesXt (V.PageView.faults view.old) (V.PageView.faults view.new) result }
     ensures found { V.PageView.tells → IfOk result (λ found. (es : List Xad) →
         spells_extents (V.PageView.block_count view.old) (page_of (V.PageView.image view.old)) root.now ≡ Ok es → found ≡ extent_at offset es) }
     ensures bad { V.PageView.tells → IfErr result (λ e.

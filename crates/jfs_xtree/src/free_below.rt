@@ -42,7 +42,7 @@ pub(crate) fn free_children<V: PageView>(
     ensures image { V.PageView.tells → V.PageView.image view.new ≡ V.PageView.image view.old }
     ensures count_of_blocks { V.PageView.block_count view.new ≡ V.PageView.block_count view.old }
     ensures device { V.PageView.device view.new ≡ V.PageView.device view.old }
-    ensures fault { CarriesFault (V.PageView.fault_count view.old) (V.PageView.fault_count view.new) result }
+    ensures fault { CarriesFault (V.PageView.faults view.old) (V.PageView.faults view.new) result }
     ensures frees { V.PageView.tells → OnOk result (FreesUnder (page_nodes blocks (page_of (V.PageView.image view.old))) (drop from (entries_of bytes.now))
         cut.old.pages.items cut.new.pages.items cut.old.runs cut.new.runs) }
     ensures draft { OnOk result (cut.new.draft.pages.items ≡ cut.old.draft.pages.items) }
@@ -77,7 +77,7 @@ pub(crate) fn read_page<V: PageView>(
     ensures image { V.PageView.tells → V.PageView.image view.new ≡ V.PageView.image view.old }
     ensures count_of_blocks { V.PageView.block_count view.new ≡ V.PageView.block_count view.old }
     ensures device { V.PageView.device view.new ≡ V.PageView.device view.old }
-    ensures fault { CarriesFault (V.PageView.fault_count view.old) (V.PageView.fault_count view.new) result }
+    ensures fault { CarriesFault (V.PageView.faults view.old) (V.PageView.faults view.new) result }
     ensures most { IfOk result (λ page. 0 < most) }
     ensures bytes { V.PageView.tells → IfOk result (λ page. page.0 ≡ page_of (V.PageView.image view.old) n) }
     ensures laid { IfOk result (λ page. IsLaidOut page.0) }

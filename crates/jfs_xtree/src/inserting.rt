@@ -41,7 +41,7 @@ pub fn add<V: PageView>(
     ensures image { V.PageView.tells → V.PageView.image view.new ≡ V.PageView.image view.old }
     ensures count_of_blocks { V.PageView.block_count view.new ≡ V.PageView.block_count view.old }
     ensures device { V.PageView.device view.new ≡ V.PageView.device view.old }
-    ensures fault { CarriesXt (V.PageView.fault_count view.old) (V.PageView.fault_count view.new) result }
+    ensures fault { CarriesXt (V.PageView.faults view.old) (V.PageView.faults view.new) result }
     ensures adds { V.PageView.tells → OnOk result (AddsExtent (V.PageView.block_count view.old) (page_of (V.PageView.image view.old)) x root.old root.new (blocks_of fresh.old) (blocks_of fresh.new) tx.old tx.new) }
     ensures taken { OnOk result (TakenInOrder (blocks_of fresh.old) (blocks_of fresh.new) tx.old tx.new) }
     ensures edits { V.PageView.tells → OnOk result (TellsTaken (V.PageView.block_count view.old) Xtree (page_of (V.PageView.image view.old)) (blocks_of fresh.old) (blocks_of fresh.new) tx.old tx.new) }

@@ -4,6 +4,7 @@ ghost use Rattle.std.specs.Prelude.{◌≡◌, ◌<◌, ◌≤◌, ◌+◌, ◌*
 ghost use Rattle.jfs_bits.specs.Extent.{FitsXad};
 ghost use Rattle.jfs_ranges.specs.View.{no_device};
 ghost use Rattle.jfs_xtree.specs.Spells.{IsRootSize};
+ghost use Rattle.jfs_disk.specs.declared.disk.Part.TheVariants.{Low};
 
 use crate::shelf::{entry, extent, head};
 use jfs_bits::{Xad, XadList};
@@ -24,7 +25,7 @@ pub struct Rack {
 impl PageView for Rack {
     ghost block_count = { λ rack. 64 };
 
-    ghost fault_count = { λ rack. rack.faults };
+    ghost faults = { λ rack. record { part = Low; count = rack.faults } };
 
     ghost image = { λ rack. [] };
 

@@ -3,6 +3,7 @@
 ghost use Rattle.std.specs.Prelude.{◌≡◌, ◌<◌, ◌≤◌, ◌+◌, ◌*◌, ℕ, [], IfOk, length};
 ghost use Rattle.jfs_bits.specs.Extent.{FitsXad};
 ghost use Rattle.jfs_ranges.specs.View.{no_device};
+ghost use Rattle.jfs_disk.specs.declared.disk.Part.TheVariants.{Low};
 
 use jfs_bits::{Pxd, Xad, put_u8, put_u16, put_xad};
 use jfs_disk::{Fault, Page, Part};
@@ -34,7 +35,7 @@ impl Shelf {
 impl PageView for Shelf {
     ghost block_count = { λ shelf. 64 };
 
-    ghost fault_count = { λ shelf. shelf.faults };
+    ghost faults = { λ shelf. record { part = Low; count = shelf.faults } };
 
     ghost image = { λ shelf. [] };
 

@@ -3,6 +3,7 @@
 ghost use Rattle.std.specs.Prelude.{◌≡◌, ◌<◌, ◌≤◌, ◌+◌, ℕ, [], ◌∷◌, IfOk, length};
 ghost use Rattle.jfs_ranges.specs.View.{no_device};
 ghost use Rattle.jfs_xtree.specs.Node.{IsGood};
+ghost use Rattle.jfs_disk.specs.declared.disk.Part.TheVariants.{Low};
 
 use jfs_bits::{Pxd, PxdList, Xad};
 use jfs_disk::Page;
@@ -19,7 +20,7 @@ pub struct Volume {
 impl PageView for Volume {
     ghost block_count = { λ volume. 64 };
 
-    ghost fault_count = { λ volume. 0 };
+    ghost faults = { λ volume. record { part = Low; count = 0 } };
 
     ghost image = { λ volume. [] };
 

@@ -12,6 +12,6 @@ invariant-loop-j g l = record {
   image : g.V.PageView.tells → g.V.PageView.image l.view ≡ g.V.PageView.image l.fn.view;
   count_of_blocks : g.V.PageView.block_count l.view ≡ g.V.PageView.block_count l.fn.view;
   device : g.V.PageView.device l.view ≡ g.V.PageView.device l.fn.view;
-  fault : g.V.PageView.fault_count l.view ≡ g.V.PageView.fault_count l.fn.view;
+  fault : g.V.PageView.faults l.view ≡ g.V.PageView.faults l.fn.view;
   findings : g.V.PageView.tells → Gains (IsWrongBelow (length l.map.owned) l.map.agsize (taken_at l.map.owned) (page_of (g.V.PageView.image l.fn.view)) l.extents l.j) l.fn.findings.items l.findings.items;
 }

@@ -12,7 +12,7 @@ invariant-loop-k g l = record {
   image : g.V.PageView.tells → g.V.PageView.image l.view ≡ g.V.PageView.image l.fn.view;
   count_of_blocks : g.V.PageView.block_count l.view ≡ g.V.PageView.block_count l.fn.view;
   device : g.V.PageView.device l.view ≡ g.V.PageView.device l.fn.view;
-  fault : g.V.PageView.fault_count l.view ≡ g.V.PageView.fault_count l.fn.view;
+  fault : g.V.PageView.faults l.view ≡ g.V.PageView.faults l.fn.view;
   extents_most : l.there ≤ 128 * l.k;
   free_most : l.free ≤ 4096 * l.k;
   totals : g.V.PageView.tells → AreTotals (is_taken l.used) (page_of (g.V.PageView.image l.fn.view)) l.extents l.k l.there l.free;

@@ -10,7 +10,7 @@ invariant-loop-i g l = record {
   image : g.V.PageView.tells → g.V.PageView.image l.view ≡ g.V.PageView.image l.fn.view;
   blocks : g.V.PageView.block_count l.view ≡ g.V.PageView.block_count l.fn.view;
   device : g.V.PageView.device l.view ≡ g.V.PageView.device l.fn.view;
-  count : g.V.PageView.fault_count l.view ≡ g.V.PageView.fault_count l.fn.view;
+  count : g.V.PageView.faults l.view ≡ g.V.PageView.faults l.fn.view;
   same : (k : ℕ) → l.i < k → block_of l.rest k ≡ block_of l.maps.inodes.extents k;
   all : length l.places.items ≡ 128 * l.i;
   fit : AllFit l.maps.blocks l.places.items;

@@ -13,7 +13,7 @@ invariant-loop-depth g l = record {
   image : g.V.PageView.tells → g.V.PageView.image l.view ≡ g.V.PageView.image l.fn.view;
   count_of_blocks : g.V.PageView.block_count l.view ≡ g.V.PageView.block_count l.fn.view;
   device : g.V.PageView.device l.view ≡ g.V.PageView.device l.fn.view;
-  fault : g.V.PageView.fault_count l.view ≡ g.V.PageView.fault_count l.fn.view;
+  fault : g.V.PageView.faults l.view ≡ g.V.PageView.faults l.fn.view;
   within : AllBelow (g.V.PageView.block_count l.fn.view) l.line.items;
   level : g.V.PageView.tells → l.line.items ≡ level (tree_nodes (g.V.PageView.block_count l.fn.view) (page_of (g.V.PageView.image l.fn.view)) l.root) l._depth;
   thin : g.V.PageView.tells → Gains (Tells l.n (IsThinAbove (tree_nodes (g.V.PageView.block_count l.fn.view) (page_of (g.V.PageView.image l.fn.view)) l.root) l._depth)) l.fn.findings.items l.findings.items;

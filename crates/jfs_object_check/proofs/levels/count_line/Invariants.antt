@@ -15,7 +15,7 @@ invariant-loop-i g l = record {
   image : g.V.PageView.tells → g.V.PageView.image l.view ≡ g.V.PageView.image l.fn.view;
   count_of_blocks : g.V.PageView.block_count l.view ≡ g.V.PageView.block_count l.fn.view;
   device : g.V.PageView.device l.view ≡ g.V.PageView.device l.fn.view;
-  fault : g.V.PageView.fault_count l.view ≡ g.V.PageView.fault_count l.fn.view;
+  fault : g.V.PageView.faults l.view ≡ g.V.PageView.faults l.fn.view;
   within : AllBelow (g.V.PageView.block_count l.fn.view) l.below.items;
   below : g.V.PageView.tells → l.below.items ≡ flat_map (λ p. pages_below (page_nodes (g.V.PageView.block_count l.fn.view) (page_of (g.V.PageView.image l.fn.view)) p)) (take l.i l.line);
   thin : g.V.PageView.tells → Gains (Tells l.n (IsThinOn (page_nodes (g.V.PageView.block_count l.fn.view) (page_of (g.V.PageView.image l.fn.view))) l.line l.i)) l.fn.findings.items l.findings.items;

@@ -19,7 +19,7 @@ loop-i-preserved g c =
       | then-is_told+in_ok-tell_drafted w ↦ (
         (λ t. ap (λ v. g.V.PageView.image v) w.view-is ∙ w.in_ok-tell_drafted.ensures.image t ∙ inv.0 t),
         ap (λ v. g.V.PageView.block_count v) w.view-is ∙ w.in_ok-tell_drafted.ensures.count_of_blocks ∙ inv.1,
-        ap (λ v. g.V.PageView.fault_count v) w.view-is ∙ w.in_ok-tell_drafted.ensures.fault ∙ inv.2,
+        ap (λ v. g.V.PageView.faults v) w.view-is ∙ w.in_ok-tell_drafted.ensures.fault ∙ inv.2,
         λ t. subst (λ xs. TellsDraft (g.V.PageView.block_count c.args.view.now) (g.V.PageView.image c.args.view.now) (take (c.loop-i.i + 1) xs) c.args.tx.now c.if-is_told.tx) same
             (subst (λ later. TellsDraft (g.V.PageView.block_count c.args.view.now) (g.V.PageView.image c.args.view.now) (take (c.loop-i.i + 1) ds) c.args.tx.now later) (sym w.tx-is)
             (told_more (g.V.PageView.block_count c.args.view.now) (g.V.PageView.image c.args.view.now) ds c.loop-i.i d c.is_told.result c.args.tx.now c.loop-i.tx w.tell_drafted.new.tx (let h = c.loop-i-test.true in omega (arith, h)) (told_bound d) w.if-is_told.true
@@ -37,7 +37,7 @@ loop-i-preserved g c =
       | else-is_told w ↦ (
         (λ t. ap (λ v. g.V.PageView.image v) w.view-is ∙ inv.0 t),
         ap (λ v. g.V.PageView.block_count v) w.view-is ∙ inv.1,
-        ap (λ v. g.V.PageView.fault_count v) w.view-is ∙ inv.2,
+        ap (λ v. g.V.PageView.faults v) w.view-is ∙ inv.2,
         λ t. subst (λ xs. TellsDraft (g.V.PageView.block_count c.args.view.now) (g.V.PageView.image c.args.view.now) (take (c.loop-i.i + 1) xs) c.args.tx.now c.if-is_told.tx) same
             (subst (λ later. TellsDraft (g.V.PageView.block_count c.args.view.now) (g.V.PageView.image c.args.view.now) (take (c.loop-i.i + 1) ds) c.args.tx.now later) (sym w.tx-is)
             (told_hidden (g.V.PageView.block_count c.args.view.now) (g.V.PageView.image c.args.view.now) ds c.loop-i.i d c.is_told.result c.args.tx.now c.loop-i.tx (let h = c.loop-i-test.true in omega (arith, h)) (told_bound d) w.if-is_told.false

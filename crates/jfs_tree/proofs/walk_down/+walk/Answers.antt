@@ -35,7 +35,7 @@ walk_others-loop-i-preserved g t c =
 
 pub walk_page-returns-in-Leaf-clause-fault : goal.walk_page-returns-in-Leaf-clause-fault
 walk_page-returns-in-Leaf-clause-fault g t c =
-    subst (λ n. CarriesFault (g.V.PageView.fault_count c.args.view.now) n c.walk_leaf.result) (sym c.in-Ok.ensures.fault) (c.walk_leaf.ensures.fault (g.V.PageView.fault_count c.args.view.now))
+    subst (λ n. CarriesFault (g.V.PageView.faults c.args.view.now) n c.walk_leaf.result) (sym c.in-Ok.ensures.fault) (c.walk_leaf.ensures.fault (g.V.PageView.faults c.args.view.now))
 
 pub walk_page-returns-in-Ok-walk_page-clause-met : goal.walk_page-returns-in-Ok-walk_page-clause-met
 walk_page-returns-in-Ok-walk_page-clause-met g t c tells root =

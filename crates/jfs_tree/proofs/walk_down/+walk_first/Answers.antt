@@ -44,7 +44,7 @@ returns-in-Ok-walk_leaf-clause-met g t c tells root =
 
 pub returns-in-Leaf-clause-fault : goal.returns-in-Leaf-clause-fault
 returns-in-Leaf-clause-fault g t c =
-    subst (λ n. CarriesFault {T = ℕ} (g.V.PageView.fault_count c.args.view.now) n (Err c.in-Err-walk_leaf.e)) (sym c.in-Ok.ensures.fault) (same_fault (Unit {0}) ℕ c.in-Err-walk_leaf.e (g.V.PageView.fault_count c.args.view.now) (c.in-Err-walk_leaf.ensures.fault (g.V.PageView.fault_count c.args.view.now)))
+    subst (λ n. CarriesFault {T = ℕ} (g.V.PageView.faults c.args.view.now) n (Err c.in-Err-walk_leaf.e)) (sym c.in-Ok.ensures.fault) (same_fault (Unit {0}) ℕ c.in-Err-walk_leaf.e (g.V.PageView.faults c.args.view.now) (c.in-Err-walk_leaf.ensures.fault (g.V.PageView.faults c.args.view.now)))
 
 pub returns-in-Leaf-clause-met : goal.returns-in-Leaf-clause-met
 returns-in-Leaf-clause-met g t c tells root =

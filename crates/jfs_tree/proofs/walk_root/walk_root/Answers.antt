@@ -16,7 +16,7 @@ returns-in-Err-clause-met g c tells =
     c.in-Err.rule broken.0 broken.1
 
 pub returns-in-Ok-Leaf-clause-fault : goal.returns-in-Ok-Leaf-clause-fault
-returns-in-Ok-Leaf-clause-fault g c = c.walk_rows.ensures.fault (g.V.PageView.fault_count c.args.view.now)
+returns-in-Ok-Leaf-clause-fault g c = c.walk_rows.ensures.fault (g.V.PageView.faults c.args.view.now)
 
 pub returns-in-Ok-Leaf-clause-met : goal.returns-in-Ok-Leaf-clause-met
 returns-in-Ok-Leaf-clause-met g c tells =

@@ -36,7 +36,7 @@ loop-i-preserved g t c =
       | then-is_leaf+in_ok-push_runs w ↦ (
         (λ tells. ap (λ v. g.V.PageView.image v) w.view-is ∙ c.in-Ok.ensures.image tells ∙ inv.0 tells),
         ap (λ v. g.V.PageView.block_count v) w.view-is ∙ c.in-Ok.ensures.count_of_blocks ∙ inv.1,
-        ap (λ v. g.V.PageView.fault_count v) w.view-is ∙ c.in-Ok.ensures.fault ∙ inv.2,
+        ap (λ v. g.V.PageView.faults v) w.view-is ∙ c.in-Ok.ensures.fault ∙ inv.2,
         ap (λ (k : Cut). k.draft.pages.items) w.cut-is ∙ inv.3,
         (let l = inv.4 in omega (arith, l)),
         λ tells end later rest. inv.5 tells end later
@@ -51,7 +51,7 @@ loop-i-preserved g t c =
       | else-is_leaf+in_default w ↦ (
         (λ tells. ap (λ v. g.V.PageView.image v) w.view-is ∙ w.in_default.ensures.image tells ∙ c.in-Ok.ensures.image tells ∙ inv.0 tells),
         ap (λ v. g.V.PageView.block_count v) w.view-is ∙ w.in_default.ensures.count_of_blocks ∙ c.in-Ok.ensures.count_of_blocks ∙ inv.1,
-        ap (λ v. g.V.PageView.fault_count v) w.view-is ∙ w.in_default.ensures.fault ∙ c.in-Ok.ensures.fault ∙ inv.2,
+        ap (λ v. g.V.PageView.faults v) w.view-is ∙ w.in_default.ensures.fault ∙ c.in-Ok.ensures.fault ∙ inv.2,
         ap (λ (k : Cut). k.draft.pages.items) w.cut-is ∙ w.in_default.ensures.draft ∙ inv.3,
         (let l = inv.4 in omega (arith, l)),
         λ tells end later rest. inv.5 tells end later

@@ -11,7 +11,7 @@ decreases-free_children g l = l.most
 
 abbrev pub invariant-loop-i : goal.invariant-loop-i
 invariant-loop-i g l =
-    (g.V.PageView.tells → g.V.PageView.image l.view ≡ g.V.PageView.image l.fn.view) × (g.V.PageView.block_count l.view ≡ g.V.PageView.block_count l.fn.view) × (g.V.PageView.fault_count l.view ≡ g.V.PageView.fault_count l.fn.view)
+    (g.V.PageView.tells → g.V.PageView.image l.view ≡ g.V.PageView.image l.fn.view) × (g.V.PageView.block_count l.view ≡ g.V.PageView.block_count l.fn.view) × (g.V.PageView.faults l.view ≡ g.V.PageView.faults l.fn.view)
     × (l.cut.draft.pages.items ≡ l.fn.cut.draft.pages.items) × (l.fn.from ≤ l.i)
     × (g.V.PageView.tells → (end : List ℕ) (later : List Pxd) → FreesUnder (page_nodes l.blocks (page_of (g.V.PageView.image l.fn.view))) (drop l.i (entries_of l.bytes)) l.cut.pages.items end l.cut.runs later
     → FreesUnder (page_nodes l.blocks (page_of (g.V.PageView.image l.fn.view))) (drop l.fn.from (entries_of l.bytes)) l.fn.cut.pages.items end l.fn.cut.runs later)
