@@ -1,6 +1,7 @@
 -- The way down the first children, which tells the number of levels.
 use Rattle.std.proofs.Common.{◌≡◌, inl, inr, refl, sym, ap, ◌∙◌, subst, ℕ, zero, suc, [], ◌∷◌, Option, Some, None, Result, Ok, Err, arith}
 use Rattle.std.specs.Prelude.{slice_get}
+use Rattle.jfs_disk.specs.declared.disk.Fault.{Fault}
 use Rattle.jfs_bits.specs.declared.rule.Rule.{Rule}
 use Rattle.jfs_bits.specs.declared.rule.Rule.TheVariants as rules
 use Rattle.jfs_tree.specs.Walk.{Child, Node, Leaf, Inner, Broken, Page, Marks, Scale, IsOrder}
@@ -17,7 +18,7 @@ some_same : {X : Type 0} (a b : X) → Some a ≡ Some b → a ≡ b
 some_same a b h = cc
 
 -- an error without a fault is one of any call
-pub same_fault : (T X : Type 0) (e : TreeError) (n : ℕ) → CarriesFault {T = T} n n (Err e) → CarriesFault {T = X} n n (Err e)
+pub same_fault : (T X : Type 0) (e : TreeError) (n : Fault) → CarriesFault {T = T} n n (Err e) → CarriesFault {T = X} n n (Err e)
 same_fault T X (View (view.Read fault)) n h = h
 same_fault T X (View view.Memory) n h = h
 same_fault T X (Bad page rule) n h = h

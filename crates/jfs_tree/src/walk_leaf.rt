@@ -2,6 +2,7 @@
 
 ghost use Rattle.std.specs.Prelude.{◌≡◌, ◌<◌, ℕ, length, map, IfOk};
 ghost use Rattle.jfs_disk.specs.Image.{page_of};
+ghost use Rattle.jfs_disk.specs.declared.disk.Fault.{Fault};
 ghost use Rattle.jfs_tree.specs.Walk.{Row};
 ghost use Rattle.jfs_tree.specs.Call.{CarriesFault};
 ghost use Rattle.jfs_tree.specs.Walking.{Meets, Counts, Opens, PassesKey, ended, rows_in, leaf_shown};
@@ -66,7 +67,7 @@ pub(crate) fn walk_leaf<F: PageRead, W: Visitor<F::Entry>>(
     requires count { count ≡ length (rows_in (F.PageForm.node form.now bytes.now)) }
     requires some { 0 < count }
     ensures met { Meets F.PageForm.scale W.sees_page W.sees_entry (F.place low.old) visitor.old (leaf_shown F.PageForm.scale page (F.place low.old) (rows_in (F.PageForm.node form.now bytes.now))) (ended (F.place low.new) result) visitor.new }
-    ensures fault { (n : ℕ) → CarriesFault n n result }
+    ensures fault { (n : Fault) → CarriesFault n n result }
 {
     let mut x = form.any_entry();
     form.read_entry(bytes, 0, &mut x);
@@ -91,7 +92,7 @@ pub(crate) fn walk_rows<F: PageRead, W: Visitor<F::Entry>>(
     requires size { length bytes.now ≡ F.PageForm.size form.now }
     requires count { count ≡ length (rows_in (F.PageForm.node form.now bytes.now)) }
     ensures met { Meets F.PageForm.scale W.sees_page W.sees_entry (F.place low.old) visitor.old (map (Row page) (rows_in (F.PageForm.node form.now bytes.now))) (ended (F.place low.new) result) visitor.new }
-    ensures fault { (n : ℕ) → CarriesFault n n result }
+    ensures fault { (n : Fault) → CarriesFault n n result }
 {
     let mut x = form.any_entry();
     for i in 0..count {
@@ -118,7 +119,7 @@ pub(crate) fn walk_key<F: PageRead>(
     low: &mut F::Bound,
 ) -> Result<(), TreeError>
     ensures passes { PassesKey F.PageForm.scale (F.place low.old) child.now (F.place low.new) result }
-    ensures fault { (n : ℕ) → CarriesFault n n result }
+    ensures fault { (n : Fault) → CarriesFault n n result }
 {
     if !form.takes_key(low, &child.key) {
         return Err(TreeError::Bad {
