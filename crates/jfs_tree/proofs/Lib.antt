@@ -55,3 +55,4 @@ pub mod Refusing
 pub mod Neighbours
 pub mod Owning
 pub mod Linkings
+pub mod Ways

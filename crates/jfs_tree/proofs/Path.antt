@@ -1,12 +1,13 @@
 -- The child to which a page leads, and the first broken rule on the way of an entry, page by page.
-use Rattle.std.proofs.Common.{◌≡◌, ◌⊎◌, inl, inr, refl, sym, ap, ◌∙◌, subst, ℕ, zero, suc, Bool, true, false, List, [], ◌∷◌, ◌++◌, if◌then◌else◌, Option, Some, None, Result, Ok, Err, IfErr}
+use Rattle.std.proofs.Common.{◌≡◌, ◌⊎◌, inl, inr, refl, sym, ap, ◌∙◌, subst, ℕ, zero, suc, Bool, true, false, List, [], ◌∷◌, ◌++◌, if◌then◌else◌, Option, Some, None, Result, Ok, Err, IfOk, IfErr}
 use Rattle.std.specs.Prelude.{⊤}
 use Rattle.jfs_bits.specs.declared.rule.Rule.{Rule}
 use Rattle.jfs_bits.specs.declared.rule.Rule.TheVariants as rules
 use Rattle.jfs_disk.specs.Image.{Image, page_of}
 use Rattle.jfs_tree.specs.Walk.{Child, Node, Leaf, Inner, Broken, Scale}
+use Rattle.jfs_tree.specs.Edit.{IsPast, found_in}
 use Rattle.jfs_tree.specs.Form.{Leads, LeadsDown}
-use Rattle.jfs_tree.specs.Path.{child_for, way_of, onward, path_of, further, broken_at, below_root, broken_below, broken_on_way, TellsBroken}
+use Rattle.jfs_tree.specs.Path.{child_for, way_of, onward, path_of, further, broken_at, below_root, broken_below, broken_on_way, found_at, found_below, found_on_way, TellsBroken}
 use Rattle.jfs_tree.specs.Spells.{no_page}
 use Rattle.jfs_tree.specs.Call.{pages_of}
 use Rattle.jfs_tree.specs.declared.form.TreeError.{TreeError}
@@ -113,6 +114,39 @@ pub way_read : {T : Type 0} (first : Option (ℕ × Rule)) (r : Result T TreeErr
 way_read first (Ok it) none fails = none
 way_read {T} first (Err e) none fails = subst (λ f. TellsBroken {T = T} first (Err f)) (sym fails) tt
 
+-- ---- what is found
+
+found_next : {P E : Type 0} (s : Scale P E) (x : E) (below : ℕ → Option E) (child : ℕ) (node : Node P E) → way_of s (s.from x) node ≡ Some child → found_at s x below node ≡ below child
+found_next s x below child (Leaf es) h = cc
+found_next s x below child (Inner []) h = cc
+found_next s x below child (Inner (c ∷ cs)) h = ap (further below) h
+found_next s x below child (Broken rule) h = cc
+
+pub looks : {P E : Type 0} (s : Scale P E) (nodes : ℕ → Node P E) (x : E) (most less page : ℕ) (node : Node P E) → most ≡ suc less → node ≡ nodes page
+    → found_below s nodes x most page ≡ found_at s x (found_below s nodes x less) node
+unfolding found_below
+looks s nodes x most less page node is read = ap (λ m. found_below s nodes x m page) is ∙ ap (found_at s x (found_below s nodes x less)) (sym read)
+
+module _ {P E : Type 0} (node : List ℕ → Node P E) (s : Scale P E) (x : E) (image : Image) (most less page : ℕ) (bytes : List ℕ) (is : most ≡ suc less) (read : bytes ≡ page_of image page) where
+  pub way_found : (es : List E) (found : Option E) → node bytes ≡ Leaf es → found ≡ found_in s x es → found ≡ found_below s (pages_of node image) x most page
+  way_found es found leaf finds =
+      finds ∙ sym (looks s (pages_of node image) x most less page (node bytes) is (ap node read) ∙ ap (found_at s x (found_below s (pages_of node image) x less)) leaf)
+
+  pub way_found_down : (later : Image) (place child : ℕ) (last : Bool) (r : Result (Option E) TreeError) → later ≡ image → Leads s x (node bytes) (Ok (Down place child last))
+      → IfOk r (λ found. found ≡ found_below s (pages_of node later) x less child) → IfOk r (λ found. found ≡ found_below s (pages_of node image) x most page)
+  way_found_down later place child last (Err e) same leads finds = finds
+  way_found_down later place child last (Ok found) same leads finds =
+      finds ∙ ap (λ i. found_below s (pages_of node i) x less child) same
+      ∙ sym (looks s (pages_of node image) x most less page (node bytes) is (ap node read) ∙ found_next s x (found_below s (pages_of node image) x less) child (node bytes) leads.alone)
+
+pub root_found : {P E : Type 0} (s : Scale P E) (x : E) (pages : ℕ → Node P E) (root : Node P E) (es : List E) (found : Option E) → root ≡ Leaf es → found ≡ found_in s x es → found ≡ found_on_way s pages x root
+root_found s x pages root es found is finds = finds ∙ sym (ap (found_on_way s pages x) is)
+
+pub root_found_down : {P E : Type 0} (s : Scale P E) (x : E) (pages : ℕ → Node P E) (root : Node P E) (place child : ℕ) (r : Result (Option E) TreeError) → LeadsDown s x root place child
+    → IfOk r (λ found. found ≡ found_below s pages x 7 child) → IfOk r (λ found. found ≡ found_on_way s pages x root)
+root_found_down s x pages root place child (Err e) leads finds = finds
+root_found_down s x pages root place child (Ok found) leads finds = finds ∙ sym (found_next s x (found_below s pages x 7) child root leads.alone)
+
 -- ---- the pages on the way
 
 pub path_zero : {P E : Type 0} (s : Scale P E) (nodes : ℕ → Node P E) (at : P) (node : Node P E) → path_of s nodes at zero node ≡ []
@@ -128,25 +162,42 @@ pub path_next : {P E : Type 0} (s : Scale P E) (nodes : ℕ → Node P E) (at : 
 unfolding path_of
 path_next s nodes at most child node h = ap (onward (λ n. path_of s nodes at most (nodes n))) h
 
--- the child for a place is the first one, or one of the others
+-- the child for a place is the first one, or one of the others whose key isn't past it; each key behind it is
 picked : {P E : Type 0} (s : Scale P E) (at : P) (page : ℕ) (cs : List (Child P))
-    → (child_for s at page cs ≡ page) ⊎ ((front : List (Child P)) × (t : Child P) × (back : List (Child P)) × (cs ≡ front ++ t ∷ back) × (t.page ≡ child_for s at page cs))
-picked s at page [] = inl refl
-picked {P} s at page (c ∷ cs) = by (s.le c.key at) (picked s at c.page cs) (picked s at page cs)
+    → ((child_for s at page cs ≡ page) × AllPast s at cs)
+    ⊎ ((front : List (Child P)) × (t : Child P) × (back : List (Child P)) × (cs ≡ front ++ t ∷ back) × (t.page ≡ child_for s at page cs) × (s.le t.key at ≡ true) × AllPast s at back)
+picked s at page [] = inl (refl, tt)
+picked {P} s at page (c ∷ cs) = by (s.le c.key at) refl (picked s at c.page cs) (picked s at page cs)
   where
-    by : (b : Bool)
-        → (child_for s at c.page cs ≡ c.page) ⊎ ((front : List (Child P)) × (t : Child P) × (back : List (Child P)) × (cs ≡ front ++ t ∷ back) × (t.page ≡ child_for s at c.page cs))
-        → (child_for s at page cs ≡ page) ⊎ ((front : List (Child P)) × (t : Child P) × (back : List (Child P)) × (cs ≡ front ++ t ∷ back) × (t.page ≡ child_for s at page cs))
-        → (child_for s at (if b then c.page else page) cs ≡ page) ⊎ ((front : List (Child P)) × (t : Child P) × (back : List (Child P)) × (c ∷ cs ≡ front ++ t ∷ back) × (t.page ≡ child_for s at (if b then c.page else page) cs))
-    by true (inl same) other = inr ([], c, cs, refl, sym same)
-    by true (inr (front, t, back, all, to)) other = inr (c ∷ front, t, back, ap (λ ds. c ∷ ds) all, to)
-    by false here (inl same) = inl same
-    by false here (inr (front, t, back, all, to)) = inr (c ∷ front, t, back, ap (λ ds. c ∷ ds) all, to)
+    by : (b : Bool) → s.le c.key at ≡ b
+        → ((child_for s at c.page cs ≡ c.page) × AllPast s at cs)
+        ⊎ ((front : List (Child P)) × (t : Child P) × (back : List (Child P)) × (cs ≡ front ++ t ∷ back) × (t.page ≡ child_for s at c.page cs) × (s.le t.key at ≡ true) × AllPast s at back)
+        → ((child_for s at page cs ≡ page) × AllPast s at cs)
+        ⊎ ((front : List (Child P)) × (t : Child P) × (back : List (Child P)) × (cs ≡ front ++ t ∷ back) × (t.page ≡ child_for s at page cs) × (s.le t.key at ≡ true) × AllPast s at back)
+        → ((child_for s at (if b then c.page else page) cs ≡ page) × AllPast s at (c ∷ cs))
+        ⊎ ((front : List (Child P)) × (t : Child P) × (back : List (Child P)) × (c ∷ cs ≡ front ++ t ∷ back) × (t.page ≡ child_for s at (if b then c.page else page) cs) × (s.le t.key at ≡ true) × AllPast s at back)
+    by true le (inl (same, past)) other = inr ([], c, cs, refl, sym same, le, past)
+    by true le (inr (front, t, back, all, to, under, past)) other = inr (c ∷ front, t, back, ap (λ ds. c ∷ ds) all, to, under, past)
+    by false le here (inl (same, past)) = inl (same, (le, past))
+    by false le here (inr (front, t, back, all, to, under, past)) = inr (c ∷ front, t, back, ap (λ ds. c ∷ ds) all, to, under, past)
 
--- the child to which an inner page leads, among its children
+first_past : {P E : Type 0} (s : Scale P E) (x : E) (back : List (Child P)) → AllPast s (s.from x) back → IsPast s x back
+first_past s x [] past = tt
+first_past s x (b ∷ bs) past = past.0
+
+-- the child to which an inner page leads an entry, among its children
+pub leads_among : {P E : Type 0} (s : Scale P E) (x : E) (c : Child P) (cs : List (Child P))
+    → (front : List (Child P)) × (t : Child P) × (back : List (Child P)) × (c ∷ cs ≡ front ++ t ∷ back) × (t.page ≡ child_for s (s.from x) c.page cs)
+    × IsPast s x back × ((front ≡ []) ⊎ (s.le t.key (s.from x) ≡ true))
+leads_among s x c cs = elim (picked s (s.from x) c.page cs) [
+  | inl same ↦ ([], c, cs, refl, sym same.0, first_past s x cs same.1, inl refl)
+  | inr (front, t, back, all, to, under, past) ↦ (c ∷ front, t, back, ap (λ ds. c ∷ ds) all, to, first_past s x back past, inr under)
+]
+
+-- and that for a place
 pub child_among : {P E : Type 0} (s : Scale P E) (at : P) (c : Child P) (cs : List (Child P))
     → (front : List (Child P)) × (t : Child P) × (back : List (Child P)) × (c ∷ cs ≡ front ++ t ∷ back) × (t.page ≡ child_for s at c.page cs)
 child_among s at c cs = elim (picked s at c.page cs) [
-  | inl same ↦ ([], c, cs, refl, sym same)
-  | inr (front, t, back, all, to) ↦ (c ∷ front, t, back, ap (λ ds. c ∷ ds) all, to)
+  | inl same ↦ ([], c, cs, refl, sym same.0)
+  | inr (front, t, back, all, to, under, past) ↦ (c ∷ front, t, back, ap (λ ds. c ∷ ds) all, to)
 ]

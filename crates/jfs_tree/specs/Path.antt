@@ -4,6 +4,7 @@ use Rattle.jfs_bits.specs.declared.rule.Rule.{Rule}
 use Rattle.jfs_bits.specs.declared.rule.Rule.TheVariants as rules
 use Rattle.jfs_tree.specs.Walk.{Child, Node, Leaf, Inner, Broken, Scale}
 use Rattle.jfs_tree.specs.Spells.{no_page}
+use Rattle.jfs_tree.specs.Edit.{found_in}
 use Rattle.jfs_tree.specs.declared.form.TreeError.{TreeError}
 use Rattle.jfs_tree.specs.declared.form.TreeError.TheVariants.{View, Bad, Memory}
 
@@ -30,7 +31,7 @@ path_of s nodes at (suc most) node = onward (λ n. path_of s nodes at most (node
 
 -- ---- the first broken rule
 
-abbrev pub further : (ℕ → Option (ℕ × Rule)) → Option ℕ → Option (ℕ × Rule)
+abbrev pub further : {T : Type 0} → (ℕ → Option T) → Option ℕ → Option T
 further below None = None
 further below (Some page) = below page
 
@@ -62,3 +63,20 @@ TellsBroken first (Ok it) = first ≡ None
 TellsBroken first (Err (View e)) = Unit {0}
 TellsBroken first (Err (Bad page rule)) = first ≡ Some (page, rule)
 TellsBroken first (Err Memory) = Unit {0}
+
+-- ---- what is found
+
+-- the entry of a leaf that shares a place with `x`, or what is found from the page on to which an inner page leads
+abbrev pub found_at : {P E : Type 0} → Scale P E → E → (ℕ → Option E) → Node P E → Option E
+found_at s x below (Leaf es) = found_in s x es
+found_at s x below (Inner cs) = further below (way_of s (s.from x) (Inner cs))
+found_at s x below (Broken rule) = None
+
+-- What is found on the way of an entry, from a page on, so many levels at most: it depends on the pages of the way alone, whatever stands beside them.
+unfoldable pub found_below : {P E : Type 0} → Scale P E → (ℕ → Node P E) → E → ℕ → ℕ → Option E
+found_below s nodes x zero page = None
+found_below s nodes x (suc most) page = found_at s x (found_below s nodes x most) (nodes page)
+
+-- and from the root on
+abbrev pub found_on_way : {P E : Type 0} → Scale P E → (ℕ → Node P E) → E → Node P E → Option E
+found_on_way s pages x root = found_at s x (found_below s pages x 7) root

@@ -2,7 +2,7 @@
 
 ghost use Rattle.std.specs.Prelude.{◌≡◌, ◌<◌, IfOk, IfErr};
 ghost use Rattle.jfs_tree.specs.Edit.{IsPoint};
-ghost use Rattle.jfs_tree.specs.Path.{broken_below, TellsBroken};
+ghost use Rattle.jfs_tree.specs.Path.{broken_below, found_below, TellsBroken};
 ghost use Rattle.jfs_tree.specs.Call.{pages_of, Finds, BreaksWhereBad, CarriesFault};
 
 use crate::form::{TreeError, Way};
@@ -30,6 +30,8 @@ pub fn find_below<V: PageView, F: PageForm>(
     ensures fault { CarriesFault (V.PageView.faults view.old) (V.PageView.faults view.new) result }
     ensures found { V.PageView.tells → IfOk result (λ found.
         Finds F.PageForm.scale x.now (pages_of (F.PageForm.node form.now) (V.PageView.image view.old)) page found) }
+    ensures on_way { V.PageView.tells → IfOk result (λ found.
+        found ≡ found_below F.PageForm.scale (pages_of (F.PageForm.node form.now) (V.PageView.image view.old)) x.now most page) }
     ensures bad { V.PageView.tells → IfErr result (λ e.
         BreaksWhereBad (pages_of (F.PageForm.node form.now) (V.PageView.image view.old)) most page e) }
     ensures way { V.PageView.tells → TellsBroken (broken_below F.PageForm.scale (pages_of (F.PageForm.node form.now) (V.PageView.image view.old)) (F.PageForm.scale.from x.now) most page) result }

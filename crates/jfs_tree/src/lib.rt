@@ -37,7 +37,7 @@ pub use copy::copy_tx;
 pub use draft::{Draft, Drafted};
 pub use form::{NO_PAGE, Put, Sibling, TreeError, Way};
 pub use fresh::page_at;
-pub use law::trees_are_framed;
+pub use law::{trees_are_framed, way_finds};
 pub use linking::{link_gaps, link_taken};
 pub use links::PageLinks;
 pub use loss::PageLoss;

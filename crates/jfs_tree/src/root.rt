@@ -2,7 +2,7 @@
 
 ghost use Rattle.std.specs.Prelude.{◌≡◌, ◌+◌, ◌<◌, ◌≤◌, ℕ, List, length, OnOk, IfOk, IfErr, IfSome};
 ghost use Rattle.jfs_tree.specs.Edit.{IsPoint};
-ghost use Rattle.jfs_tree.specs.Path.{broken_on_way, TellsBroken};
+ghost use Rattle.jfs_tree.specs.Path.{broken_on_way, found_on_way, TellsBroken};
 ghost use Rattle.jfs_tree.specs.Refusal.{ClashesOnWay, HasAllLevels, RootGrownClash, TellsAdding};
 ghost use Rattle.jfs_tree.specs.Filled.{FillsAlways};
 ghost use Rattle.jfs_tree.specs.Form.{AllBelow, IsFront};
@@ -36,6 +36,8 @@ pub fn find_entry<V: PageView, F: PageForm>(
     ensures fault { CarriesFault (V.PageView.faults view.old) (V.PageView.faults view.new) result }
     ensures found { V.PageView.tells → IfOk result (λ found.
         FindsAlways F.PageForm.scale x.now (pages_of (F.PageForm.node form.now) (V.PageView.image view.old)) (F.PageForm.node top.now root.now) found) }
+    ensures on_way { V.PageView.tells → IfOk result (λ found.
+        found ≡ found_on_way F.PageForm.scale (pages_of (F.PageForm.node form.now) (V.PageView.image view.old)) x.now (F.PageForm.node top.now root.now)) }
     ensures bad { V.PageView.tells → IfErr result (λ e.
         NamesBroken F.PageForm.scale (pages_of (F.PageForm.node form.now) (V.PageView.image view.old)) (F.PageForm.node top.now root.now) e) }
     ensures way { V.PageView.tells → TellsBroken (broken_on_way F.PageForm.scale (pages_of (F.PageForm.node form.now) (V.PageView.image view.old)) (F.PageForm.scale.from x.now) (F.PageForm.node top.now root.now)) result }

@@ -2,7 +2,7 @@ use Rattle.std.proofs.Common.{sym, ap, ◌∙◌, subst, ◌-◌, arith, Ok}
 use Rattle.jfs_tree.specs.Form.{Leads}
 use Rattle.jfs_tree.specs.Call.{pages_of}
 use Rattle.jfs_tree.specs.Path.{below_root}
-use Rattle.jfs_tree.proofs.Path.{way_deep, way_breaks, way_ends, way_goes}
+use Rattle.jfs_tree.proofs.Path.{way_deep, way_breaks, way_ends, way_goes, way_found, way_found_down}
 use Rattle.jfs_tree.proofs.Finding.{here_finds, down_finds, down_breaks}
 use Rattle.jfs_tree.proofs.find.+find_below.Goals as goal
 
@@ -47,3 +47,18 @@ returns-in-Ok-Down-clause-way g t c tells =
     (let h = c.if-most-eq0.false in omega (arith, h)) (c.in-Ok.ensures.bytes tells) (g.V.PageView.image c.page.follows.lender-at-none) c.in-Ok-Down.field-0-0 c.in-Ok-Down.child c.in-Ok-Down.field-0-2 c.find_below.result (c.page.follows.holds-at-none.same_image tells)
     (rw (sym c.bytes.ensures.value) (subst (λ w. Leads g.F.PageForm.scale c.args.x.now (g.F.PageForm.node c.args.form.now c.bytes.result.now) (Ok w)) c.in-Ok-Down.field-0-is c.in-Ok-Down.ensures.way))
     (c.find_below.ensures.way tells)
+
+pub returns-in-Ok-Here-clause-on_way : goal.returns-in-Ok-Here-clause-on_way
+returns-in-Ok-Here-clause-on_way g t c tells =
+    let leads = subst (λ w. Leads g.F.PageForm.scale c.args.x.now (g.F.PageForm.node c.args.form.now c.bytes.result.now) (Ok w)) c.in-Ok-Here.field-0-is c.in-Ok-Here.ensures.way in
+    way_found (g.F.PageForm.node c.args.form.now) g.F.PageForm.scale c.args.x.now (g.V.PageView.image c.args.view.now) c.args.most (c.args.most - 1) c.args.page c.in-Ok.bytes.now.0
+    (let h = c.if-most-eq0.false in omega (arith, h)) (c.in-Ok.ensures.bytes tells) leads.0 c.find.result
+    (ap (g.F.PageForm.node c.args.form.now) (sym c.bytes.ensures.value) ∙ leads.1)
+    (c.find.ensures leads.0 (ap (g.F.PageForm.node c.args.form.now) (c.bytes-in-Ok-Here.ensures.value ∙ sym c.bytes.ensures.value) ∙ leads.1))
+
+pub returns-in-Ok-Down-clause-on_way : goal.returns-in-Ok-Down-clause-on_way
+returns-in-Ok-Down-clause-on_way g t c tells =
+    way_found_down (g.F.PageForm.node c.args.form.now) g.F.PageForm.scale c.args.x.now (g.V.PageView.image c.args.view.now) c.args.most (c.args.most - 1) c.args.page c.in-Ok.bytes.now.0
+    (let h = c.if-most-eq0.false in omega (arith, h)) (c.in-Ok.ensures.bytes tells) (g.V.PageView.image c.page.follows.lender-at-none) c.in-Ok-Down.field-0-0 c.in-Ok-Down.child c.in-Ok-Down.field-0-2 c.find_below.result (c.page.follows.holds-at-none.same_image tells)
+    (rw (sym c.bytes.ensures.value) (subst (λ w. Leads g.F.PageForm.scale c.args.x.now (g.F.PageForm.node c.args.form.now c.bytes.result.now) (Ok w)) c.in-Ok-Down.field-0-is c.in-Ok-Down.ensures.way))
+    (c.find_below.ensures.on_way tells)
