@@ -21,3 +21,4 @@ pub mod Emptied
 pub mod Behind
 pub mod Refused
 pub mod Neighbours
+pub mod Frames

@@ -104,10 +104,10 @@ found_row form blocks bytes name x e place es leaf same found at =
     (omega (arith, within, rows_length form bytes)) (sym (at_row form bytes place) ∙ found.1 ∙ same)
     ∙ at)
 
-before_rows : (form : DtForm) (bytes name : List ℕ) (x : NameEntry) (place : ℕ) → name ≡ x.name → GoesAt (names_of form bytes) place name → (i : ℕ) → i < place → IsBefore (name_at (row_names (map named (entries_of form bytes))) i) x.name
+pub before_rows : (form : DtForm) (bytes name : List ℕ) (x : NameEntry) (place : ℕ) → name ≡ x.name → GoesAt (names_of form bytes) place name → (i : ℕ) → i < place → IsBefore (name_at (row_names (map named (entries_of form bytes))) i) x.name
 before_rows form bytes name x place same goes i h = subst (λ n. IsBefore n x.name) (at_row form bytes i) (subst (λ n. IsBefore (name_at (names_of form bytes) i) n) same (goes.before i h))
 
-behind_rows : (form : DtForm) (bytes name : List ℕ) (x : NameEntry) (place : ℕ) → name ≡ x.name → GoesAt (names_of form bytes) place name → (i : ℕ) → place ≤ i → i < length (map named (entries_of form bytes)) → IsBefore x.name (name_at (row_names (map named (entries_of form bytes))) i)
+pub behind_rows : (form : DtForm) (bytes name : List ℕ) (x : NameEntry) (place : ℕ) → name ≡ x.name → GoesAt (names_of form bytes) place name → (i : ℕ) → place ≤ i → i < length (map named (entries_of form bytes)) → IsBefore x.name (name_at (row_names (map named (entries_of form bytes))) i)
 behind_rows form bytes name x place same goes i h l = subst (λ n. IsBefore x.name n) (at_row form bytes i) (subst (λ n. IsBefore n (name_at (names_of form bytes) i)) same (goes.behind i h (omega (arith, l, rows_length form bytes))))
 
 pub missing_row : (form : DtForm) (blocks : ℕ) (bytes name : List ℕ) (x : NameEntry) (place : ℕ) (es : List NameEntry) → dt_node form blocks bytes ≡ Leaf es → name ≡ x.name → GoesAt (names_of form bytes) place name

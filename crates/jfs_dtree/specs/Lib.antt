@@ -12,3 +12,4 @@ pub mod Errors
 pub mod Reach
 pub mod Removing
 pub mod Leftmost
+pub mod Frame

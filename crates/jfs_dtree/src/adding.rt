@@ -6,6 +6,7 @@ ghost use Rattle.jfs_bits.specs.declared.rule.PageKind.TheVariants.{Dtree};
 ghost use Rattle.jfs_tree.specs.Changes.{TellsTaken};
 ghost use Rattle.jfs_tree.specs.Form.{AllBelow};
 ghost use Rattle.jfs_tree.specs.Fresh.{blocks_of, TakenInOrder};
+ghost use Rattle.jfs_dtree.specs.Frame.{NamesPages};
 ghost use Rattle.jfs_dtree.specs.Parent.{parent_of};
 ghost use Rattle.jfs_dtree.specs.Spells.{CarriesDt, broken_for};
 ghost use Rattle.jfs_dtree.specs.Room.{FollowsRoom};
@@ -16,7 +17,6 @@ use crate::entry::DirEntry;
 use crate::error::DtError;
 use crate::form::DtPages;
 use crate::lookup::{find, handed_on};
-use crate::root::{parent, set_parent};
 use jfs_bits::{PageKind, PxdList};
 use jfs_dtpage::DtForm;
 use jfs_name::Name;
@@ -51,6 +51,7 @@ pub fn add<V: PageView>(
     ensures taken { OnOk result (TakenInOrder (blocks_of fresh.old) (blocks_of fresh.new) tx.old tx.new) }
     ensures edits { V.PageView.tells → OnOk result (TellsTaken (V.PageView.block_count view.old) Dtree (page_of (V.PageView.image view.old)) (blocks_of fresh.old) (blocks_of fresh.new) tx.old tx.new) }
     ensures parent { parent_of root.new ≡ parent_of root.old }
+    ensures named { V.PageView.tells → OnOk result (NamesPages (V.PageView.block_count view.old) (page_of (V.PageView.image view.old)) (record { name = name.now; inode = inode }) root.old (blocks_of fresh.old) (blocks_of fresh.new) tx.old tx.new) }
     ensures kept { OnErr result ((root.new ≡ root.old) × (fresh.new ≡ fresh.old) × (tx.new ≡ tx.old)) }
     ensures room { V.PageView.tells → OnOk result (TakesPages (V.PageView.block_count view.old) (page_of (V.PageView.image view.old)) (record { name = name.now; inode = inode }) root.old (blocks_of fresh.old) (blocks_of fresh.new)) }
     ensures deep { V.PageView.tells → FollowsRoom (V.PageView.block_count view.old) (page_of (V.PageView.image view.old)) root.old name.now result }
@@ -79,7 +80,6 @@ pub fn add<V: PageView>(
         Ok(false) => {}
         Err(e) => return Err(DtError::View(e)),
     }
-    let up = parent(root);
     match add_and_tell(
         alloc,
         &top,
@@ -91,10 +91,7 @@ pub fn add<V: PageView>(
         PageKind::Dtree,
         tx,
     ) {
-        Ok(()) => {
-            set_parent(root, up);
-            Ok(())
-        }
+        Ok(()) => Ok(()),
         Err(e) => Err(handed_on(e)),
     }
 }

@@ -9,6 +9,7 @@ ghost use Rattle.jfs_dtpage.specs.Order.{GoesAt, name_at};
 ghost use Rattle.jfs_tree.specs.Walk.{Child, Inner};
 ghost use Rattle.jfs_tree.specs.Edit.{KeysRise};
 ghost use Rattle.jfs_tree.specs.Form.{IfFull, PutsChild, AtPlace, SplitsChildren, GoesBehind, as_child};
+ghost use Rattle.jfs_dtree.specs.Frame.{frame_of};
 ghost use Rattle.jfs_dtree.specs.Node.{name_scale, dt_node, HasNoRoom, LacksRoom, IsKey};
 ghost use Rattle.jfs_dtree.specs.Parts.{lowered, SplitsInner};
 
@@ -86,6 +87,7 @@ pub(crate) fn put_child(
     ensures child { (blocks : ℕ) → child.now.page < blocks → PutsChild name_scale (dt_node form blocks) (HasNoRoom form) place child.now bytes.old bytes.new result }
     ensures room { IfFull result (LacksRoom false (length child.now.key) bytes.old) }
     ensures goes { (blocks : ℕ) → IfFull result (GoesBehind name_scale (dt_node form blocks bytes.old) place (as_child child.now)) }
+    ensures frame { frame_of form bytes.new ≡ frame_of form bytes.old }
 {
     if !is_sound_inner(bytes, form) {
         return Put::Clash;
@@ -124,6 +126,7 @@ pub(crate) fn split_child(
     ensures rules { (blocks : ℕ) (all : List (Child (List ℕ))) → AtPlace (dt_node Full blocks bytes.old) place (as_child child.now) all → KeysRise name_scale all →
         SplitsInner n q last (as_child child.now) bytes.old bytes.new right.new result }
     ensures key { IsKey result }
+    ensures frame { frame_of Full bytes.new ≡ frame_of Full bytes.old }
 {
     if is_leaf(bytes) {
         return NameKey::new(&[]);

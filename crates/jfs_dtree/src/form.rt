@@ -3,6 +3,7 @@
 ghost use Rattle.std.specs.Prelude.{◌≡◌, ◌<◌, ℕ, List, length, IfOk, true, false};
 ghost use Rattle.jfs_dtpage.specs.Form.{bytes_of};
 ghost use Rattle.jfs_dtpage.specs.declared.head.DtForm.TheVariants.{Full};
+ghost use Rattle.jfs_dtree.specs.Frame.{frame_of, new_frame};
 ghost use Rattle.jfs_dtree.specs.Node.{name_scale, dt_node, IsGood, IsKey, HasNoRoom, LacksRoom, IsRoot};
 ghost use Rattle.jfs_dtree.specs.Laws.{order};
 
@@ -51,6 +52,10 @@ impl PageForm for DtPages {
     ghost fills = { ⊥ };
 
     ghost below = { λ f. record { form = Full; blocks = f.blocks } };
+
+    ghost frame = { λ f. frame_of f.form };
+
+    ghost new_frame = { λ f. new_frame };
 
     fn way(&self, bytes: &[u8], x: &DirEntry) -> Result<Way, Rule> {
         way_of(bytes, self.form, self.blocks, x)

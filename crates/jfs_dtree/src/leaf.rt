@@ -7,6 +7,8 @@ ghost use Rattle.jfs_tree.specs.Edit.{found_in};
 ghost use Rattle.jfs_tree.specs.Form.{IfFull, PutsRow};
 ghost use Rattle.jfs_dtpage.specs.Form.{bytes_of, count_of, is_leaf};
 ghost use Rattle.jfs_dtpage.specs.Page.{entries_of, IsDtPage};
+ghost use Rattle.jfs_tree.specs.Apart.{PutsApart};
+ghost use Rattle.jfs_dtree.specs.Frame.{frame_of};
 ghost use Rattle.jfs_dtree.specs.Node.{name_scale, named, dt_node, IsGood, HasNoRoom, LacksRoom};
 
 use crate::check::is_sound_leaf;
@@ -46,7 +48,9 @@ pub(crate) fn put_name(bytes: &mut [u8], form: DtForm, x: &DirEntry) -> Put
     requires size { length bytes.old ≡ bytes_of form }
     requires good { IsGood x.now }
     ensures row { (blocks : ℕ) → PutsRow name_scale x.now (dt_node form blocks) (HasNoRoom form) bytes.old bytes.new result }
+    ensures apart { (blocks : ℕ) → PutsApart name_scale x.now (dt_node form blocks bytes.old) result }
     ensures room { IfFull result (LacksRoom true (length x.now.name) bytes.old) }
+    ensures frame { frame_of form bytes.new ≡ frame_of form bytes.old }
 {
     if !is_sound_leaf(bytes, form) {
         return Put::Clash;

@@ -5,6 +5,7 @@ ghost use Rattle.jfs_tree.specs.Leftmost.{LowersFirst};
 ghost use Rattle.jfs_tree.specs.Removal.{TakesRow};
 ghost use Rattle.jfs_dtpage.specs.Form.{bytes_of, is_leaf};
 ghost use Rattle.jfs_dtpage.specs.Page.{IsDtPage};
+ghost use Rattle.jfs_dtree.specs.Frame.{frame_of};
 ghost use Rattle.jfs_dtree.specs.Node.{name_scale, dt_node};
 ghost use Rattle.jfs_dtree.specs.Laws.{loose};
 
@@ -50,6 +51,7 @@ fn take_name(bytes: &mut [u8], form: DtForm, x: &DirEntry) -> Option<DirEntry>
     requires leaf { is_leaf bytes.old ≡ true }
     ensures takes { (blocks : ℕ) → TakesRow name_scale x.now (dt_node form blocks bytes.old) (dt_node form blocks bytes.new) result }
     ensures kept { IfNone result (bytes.new ≡ bytes.old) }
+    ensures frame { frame_of form bytes.new ≡ frame_of form bytes.old }
 {
     let Ok(place) = dt_find(bytes, form, x.name()) else {
         return None;
@@ -64,6 +66,7 @@ fn empty_first(bytes: &mut [u8], form: DtForm, blocks: u32) -> Option<u32>
     requires { length bytes.old ≡ bytes_of form }
     ensures first { LowersFirst name_scale (dt_node form blocks bytes.old) (dt_node form blocks bytes.new) result }
     ensures within { IfSome result (λ page. page < blocks) }
+    ensures frame { frame_of form bytes.new ≡ frame_of form bytes.old }
 {
     let Ok(_) = check_page(bytes, form, blocks) else {
         return None;

@@ -5,6 +5,7 @@ ghost use Rattle.jfs_disk.specs.Image.{page_of};
 ghost use Rattle.jfs_bits.specs.declared.rule.PageKind.TheVariants.{Dtree};
 ghost use Rattle.jfs_tree.specs.Changes.{TellsGone};
 ghost use Rattle.jfs_dtree.specs.Leftmost.{KeepsEmptyFirstKeys};
+ghost use Rattle.jfs_dtree.specs.Frame.{KeepsPages};
 ghost use Rattle.jfs_dtree.specs.Parent.{parent_of};
 ghost use Rattle.jfs_dtree.specs.Spells.{CarriesDt, broken_for, TellsWay};
 ghost use Rattle.jfs_dtree.specs.Removing.{RemovesName, MissesName};
@@ -13,7 +14,6 @@ use crate::entry::DirEntry;
 use crate::error::DtError;
 use crate::form::DtPages;
 use crate::lookup::handed_on;
-use crate::root::{parent, set_parent};
 use jfs_bits::PageKind;
 use jfs_dtpage::DtForm;
 use jfs_name::Name;
@@ -42,6 +42,7 @@ pub fn remove<V: PageView>(
     ensures left { V.PageView.tells → OnOk result (KeepsEmptyFirstKeys (V.PageView.block_count view.old) (page_of (V.PageView.image view.old)) root.old root.new tx.old tx.new) }
     ensures edits { V.PageView.tells → OnOk result (TellsGone (V.PageView.block_count view.old) Dtree (page_of (V.PageView.image view.old)) tx.old tx.new) }
     ensures parent { parent_of root.new ≡ parent_of root.old }
+    ensures named { V.PageView.tells → OnOk result (KeepsPages (V.PageView.block_count view.old) (page_of (V.PageView.image view.old)) tx.old tx.new) }
     ensures kept { OnErr result ((root.new ≡ root.old) × (tx.new ≡ tx.old)) }
     ensures way { V.PageView.tells → TellsWay (broken_for (V.PageView.block_count view.old) (page_of (V.PageView.image view.old)) root.old name.now) result }
     ensures missed { V.PageView.tells → IfErr result (MissesName (V.PageView.block_count view.old) (page_of (V.PageView.image view.old)) name.now root.old) }
@@ -55,13 +56,9 @@ pub fn remove<V: PageView>(
         form: DtForm::Full,
         blocks,
     };
-    let up = parent(root);
     let x = DirEntry::new(name.as_slice(), 0);
     match remove_and_tell(alloc, &top, &pages, view, root, &x, PageKind::Dtree, tx) {
-        Ok(Some(entry)) => {
-            set_parent(root, up);
-            Ok(entry.inode())
-        }
+        Ok(Some(entry)) => Ok(entry.inode()),
         Ok(None) => Err(DtError::Missing),
         Err(e) => Err(handed_on(e)),
     }

@@ -9,6 +9,7 @@ ghost use Rattle.jfs_dtpage.specs.Page.{names_of, IsDtPage};
 ghost use Rattle.jfs_tree.specs.Walk.{Leaf};
 ghost use Rattle.jfs_tree.specs.Edit.{IsApart, with_entry};
 ghost use Rattle.jfs_tree.specs.Form.{SplitsRows};
+ghost use Rattle.jfs_dtree.specs.Frame.{frame_of};
 ghost use Rattle.jfs_dtree.specs.Node.{name_scale, dt_node, HasNoRoom, IsKey};
 ghost use Rattle.jfs_dtree.specs.Parts.{SplitsLeaf, cut_key};
 
@@ -32,6 +33,7 @@ pub(crate) fn split(
     ensures rules { (blocks : ℕ) (es : List NameEntry) → dt_node Full blocks bytes.old ≡ Leaf es → IsApart name_scale x.now es →
         SplitsLeaf n q last x.now bytes.old bytes.new right.new result }
     ensures key { IsKey result }
+    ensures frame { frame_of Full bytes.new ≡ frame_of Full bytes.old }
 {
     if !is_leaf(bytes) {
         return NameKey::new(&[]);

@@ -40,13 +40,13 @@ moved_keeps old new q page free left (Err e) puts popped = tt
 -- ---- below a page
 
 -- what isn't met below a page is another page, and isn't met below its child
-away : {P E : Type 0} (s : Scale P E) (pages : ℕ → Node P E) (levels page : ℕ) (key : P) (front : List (Child P)) (t : Child P) (back : List (Child P)) (m : ℕ) → pages page ≡ Inner (front ++ t ∷ back)
+pub away : {P E : Type 0} (s : Scale P E) (pages : ℕ → Node P E) (levels page : ℕ) (key : P) (front : List (Child P)) (t : Child P) (back : List (Child P)) (m : ℕ) → pages page ≡ Inner (front ++ t ∷ back)
     → times m (walk s pages (suc levels) (record { key = key; page = page })) ≡ 0 → times m (walk s pages levels (own key front t)) ≡ 0
 unfolding walk
 away s pages zero page key front t back m is none = refl
 away s pages (suc lower) page key front t back m is none = let h = times_inner s pages lower (record { key = key; page = page }) front t back m is in omega (arith, h, none)
 
-counts_between : (f b l t u : ℕ) → f ≡ b + t → b ≡ l + u → f ≡ l → (f ≡ b) × (b ≡ l)
+pub counts_between : (f b l t u : ℕ) → f ≡ b + t → b ≡ l + u → f ≡ l → (f ≡ b) × (b ≡ l)
 counts_between f b l t u h i e = (omega (arith, h, i, e), omega (arith, h, i, e))
 
 count_parts : (n : ℕ) (a b : List ℕ) → count_in n (a ++ b) ≡ count_in n a + count_in n b
@@ -66,7 +66,7 @@ above_keeps {P} s x pages image old mid new levels page place child free between
     let away_from = subst (λ (u : Child P). times m (walk s pages levels u) ≡ 0) (own_is key leads.front leads.child child leads.to) (away s pages levels page key leads.front leads.child leads.back m leads.is none) in
     off image m (leaf_other s pages levels page m key none) c.1 ∙ below (own key leads.front leads.child).key m away_from c.0
 
-one_suc : (n : ℕ) → suc n ≡ n + 1
+pub one_suc : (n : ℕ) → suc n ≡ n + 1
 one_suc n = omega arith
 
 pub grown_keeps : {P E : Type 0} (node : List ℕ → Node P E) (s : Scale P E) (x : E) (old mid new : List Drafted) (image later : Image) (page place child levels : ℕ) (bytes : List ℕ) (free between left : List ℕ) (r : Result (Grown P) TreeError)

@@ -11,6 +11,7 @@ use Rattle.jfs_tree.specs.Leftmost.{LeastDown, LowersFirst, LowersBelow, LowersT
 use Rattle.jfs_tree.specs.declared.draft.Drafted.{Drafted}
 use Rattle.jfs_tree.specs.declared.form.TreeError.{TreeError}
 use Rattle.jfs_tree.proofs.Lowered.{lowered_on, lowered_path}
+use Rattle.jfs_tree.proofs.Putting.{put_framed}
 use Rattle.jfs_tree.proofs.Taking.{itself, another}
 
 -- ---- what stays as it was
@@ -68,15 +69,16 @@ stays_lowest : {P E : Type 0} (s : Scale P E) (page : ℕ) (cs : List (Child P))
 stays_lowest s page cs new (inl e) = e
 stays_lowest s page cs new (inr e) = e
 
-pub lowers_end : {P E : Type 0} (node : List ℕ → Node P E) (s : Scale P E) (image : Image) (drafts : List Drafted) (most page : ℕ) → most ≡ 0 → LowersBelow node s image drafts drafts most page
+pub lowers_end : {P E : Type 0} (node : List ℕ → Node P E) (frame : List ℕ → List ℕ) (s : Scale P E) (image : Image) (drafts : List Drafted) (most page : ℕ) → most ≡ 0 → LowersBelow node frame s image drafts drafts most page
 unfolding LeastDown
-lowers_end node s image drafts zero page e = record { least = tt; lowered = λ n. inl refl; keeps = λ n z. refl }
-lowers_end node s image drafts (suc most) page e = absurd (omega (arith, e))
+lowers_end node frame s image drafts zero page e = record { least = tt; lowered = λ n. inl refl; frames = λ n. refl; keeps = λ n z. refl }
+lowers_end node frame s image drafts (suc most) page e = absurd (omega (arith, e))
 
-pub lowers_none : {P E : Type 0} (node : List ℕ → Node P E) (s : Scale P E) (image : Image) (drafts : List Drafted) (most page : ℕ) (bytes : List ℕ) (new : Node P E) → bytes ≡ shown drafts image page → LowersFirst s (node bytes) new None → LowersBelow node s image drafts drafts most page
-lowers_none {P} node s image drafts most page bytes new read first = record {
+pub lowers_none : {P E : Type 0} (node : List ℕ → Node P E) (frame : List ℕ → List ℕ) (s : Scale P E) (image : Image) (drafts : List Drafted) (most page : ℕ) (bytes : List ℕ) (new : Node P E) → bytes ≡ shown drafts image page → LowersFirst s (node bytes) new None → LowersBelow node frame s image drafts drafts most page
+lowers_none {P} node frame s image drafts most page bytes new read first = record {
   least = none_least s (nodes node drafts image) most (nodes node drafts image page) (λ (c : Child P) (cs : List (Child P)) is. first.1 c cs (ap node read ∙ is));
   lowered = λ n. inl refl;
+  frames = λ n. refl;
   keeps = λ n z. refl;
 }
 
@@ -108,9 +110,9 @@ path_on : {P E : Type 0} (pages : ℕ → Node P E) (most page : ℕ) (c : Child
 unfolding first_path
 path_on pages most page c cs is = ap (λ node. Page page ∷ along_first (first_path pages most) node) is
 
-pub lowers_on : {P E : Type 0} (node : List ℕ → Node P E) (s : Scale P E) (image : Image) (old mid new : List Drafted) (most less page child : ℕ) (bytes put : List ℕ) → most ≡ suc less → bytes ≡ shown old image page → LowersFirst s (node bytes) (node put) (Some child)
-    → PutsOne old mid page put → LowersBelow node s image mid new less child → LowersBelow node s image old new most page
-lowers_on {P} {E} node s image old mid new most less page child bytes put more read first puts below =
+pub lowers_on : {P E : Type 0} (node : List ℕ → Node P E) (frame : List ℕ → List ℕ) (s : Scale P E) (image : Image) (old mid new : List Drafted) (most less page child : ℕ) (bytes put : List ℕ) → most ≡ suc less → bytes ≡ shown old image page → LowersFirst s (node bytes) (node put) (Some child)
+    → frame put ≡ frame bytes → PutsOne old mid page put → LowersBelow node frame s image mid new less child → LowersBelow node frame s image old new most page
+lowers_on {P} {E} node frame s image old mid new most less page child bytes put more read first same puts below =
     let c = first.0 in
     let cs = first.1 in
     let was : nodes node old image page ≡ Inner (c ∷ cs) = ap node (sym read) ∙ first.2 in
@@ -118,34 +120,36 @@ lowers_on {P} {E} node s image old mid new most less page child bytes put more r
     let there : nodes node mid image page ≡ Inner (record { key = s.least; page = c.page } ∷ cs) = ap node (puts image page ∙ itself page put (shown old image page)) ∙ is in
     let ends = stays_lowest s c.page cs (nodes node new image page) (subst (λ (m : Node P E). IsLowered s m (nodes node new image page)) there (below.lowered page)) in
     let step = put_lowered node s image old mid page put puts (first.3 ∙ ap (λ b. lowest s (node b)) read) in
-    subst (λ (m : ℕ). LowersBelow node s image old new m page) (sym more)
+    subst (λ (m : ℕ). LowersBelow node frame s image old new m page) (sym more)
     (record {
       least = subst (LeastDown s (nodes node new image) (suc less)) (sym ends) (one_least s (nodes node new image) less c.page cs (subst (λ (p : ℕ). LeastDown s (nodes node new image) less (nodes node new image p)) first.4 below.least));
       lowered = λ n. lowered_on s (nodes node old image n) (nodes node mid image n) (nodes node new image n) (step n) (below.lowered n);
+      frames = λ n. below.frames n ∙ put_framed frame image old mid page bytes put puts (ap frame read) same n;
       keeps = λ n z.
           let off = not_met n page (first_path (nodes node old image) less c.page) (subst (λ (ms : Marks P E). times n ms ≡ 0) (path_on (nodes node old image) less page c cs was) z) in
           below.keeps n (subst (λ (p : ℕ). times n (first_path (nodes node mid image) less p) ≡ 0) (sym first.4) (ap (times n) (lowered_path s (nodes node old image) (nodes node mid image) step less c.page) ∙ off.1))
           ∙ puts image n ∙ another n page put (shown old image n) off.0;
     })
 
-pub lowers_step : {P E : Type 0} (node : List ℕ → Node P E) (s : Scale P E) (image later : Image) (old mid new : List Drafted) (most less page child : ℕ) (bytes put : List ℕ) (r : Result (Unit {0}) TreeError) → most ≡ suc less → later ≡ image → bytes ≡ shown old image page
-    → LowersFirst s (node bytes) (node put) (Some child) → PutsOne old mid page put → OnOk r (LowersBelow node s later mid new less child) → OnOk r (LowersBelow node s image old new most page)
-lowers_step node s image later old mid new most less page child bytes put (Err e) more same read first puts below = tt
-lowers_step node s image later old mid new most less page child bytes put (Ok u) more same read first puts below =
-    lowers_on node s image old mid new most less page child bytes put more read first puts (subst (λ (i : Image). LowersBelow node s i mid new less child) same below)
+pub lowers_step : {P E : Type 0} (node : List ℕ → Node P E) (frame : List ℕ → List ℕ) (s : Scale P E) (image later : Image) (old mid new : List Drafted) (most less page child : ℕ) (bytes put : List ℕ) (r : Result (Unit {0}) TreeError) → most ≡ suc less → later ≡ image → bytes ≡ shown old image page
+    → LowersFirst s (node bytes) (node put) (Some child) → frame put ≡ frame bytes → PutsOne old mid page put → OnOk r (LowersBelow node frame s later mid new less child) → OnOk r (LowersBelow node frame s image old new most page)
+lowers_step node frame s image later old mid new most less page child bytes put (Err e) more same read first framed puts below = tt
+lowers_step node frame s image later old mid new most less page child bytes put (Ok u) more same read first framed puts below =
+    lowers_on node frame s image old mid new most less page child bytes put more read first framed puts (subst (λ (i : Image). LowersBelow node frame s i mid new less child) same below)
 
 -- ---- from a root on
 
-pub tree_none : {P E : Type 0} (node : List ℕ → Node P E) (s : Scale P E) (image : Image) (drafts : List Drafted) (root after : Node P E) → LowersFirst s root after None → LowersTree node s image drafts drafts root after
-tree_none {P} node s image drafts root after first = record {
+pub tree_none : {P E : Type 0} (node : List ℕ → Node P E) (frame : List ℕ → List ℕ) (s : Scale P E) (image : Image) (drafts : List Drafted) (root after : Node P E) → LowersFirst s root after None → LowersTree node frame s image drafts drafts root after
+tree_none {P} node frame s image drafts root after first = record {
   least = none_least s (nodes node drafts image) 8 after (λ (c : Child P) (cs : List (Child P)) is. first.1 c cs (sym first.0 ∙ is));
   root_lowered = inl first.0;
   lowered = λ n. inl refl;
+  frames = λ n. refl;
   keeps = λ n z. refl;
 }
 
-pub tree_on : {P E : Type 0} (node : List ℕ → Node P E) (s : Scale P E) (image : Image) (old new : List Drafted) (root after : Node P E) (page : ℕ) → LowersFirst s root after (Some page) → LowersBelow node s image old new 7 page → LowersTree node s image old new root after
-tree_on {P} {E} node s image old new root after page first below =
+pub tree_on : {P E : Type 0} (node : List ℕ → Node P E) (frame : List ℕ → List ℕ) (s : Scale P E) (image : Image) (old new : List Drafted) (root after : Node P E) (page : ℕ) → LowersFirst s root after (Some page) → LowersBelow node frame s image old new 7 page → LowersTree node frame s image old new root after
+tree_on {P} {E} node frame s image old new root after page first below =
     let c = first.0 in
     let cs = first.1 in
     let is : after ≡ Inner (record { key = s.least; page = c.page } ∷ cs) = first.3 ∙ ap (lowest s) first.2 in
@@ -153,10 +157,11 @@ tree_on {P} {E} node s image old new root after page first below =
       least = subst (LeastDown s (nodes node new image) 8) (sym is) (one_least s (nodes node new image) 7 c.page cs (subst (λ (p : ℕ). LeastDown s (nodes node new image) 7 (nodes node new image p)) first.4 below.least));
       root_lowered = inr first.3;
       lowered = below.lowered;
+      frames = below.frames;
       keeps = λ n z. below.keeps n (subst (λ (p : ℕ). times n (first_path (nodes node old image) 7 p) ≡ 0) (sym first.4) (ap (λ m. times n (along_first (first_path (nodes node old image) 7) m)) (sym first.2) ∙ z));
     }
 
-pub tree_step : {P E : Type 0} (node : List ℕ → Node P E) (s : Scale P E) (image : Image) (old new : List Drafted) (root after : Node P E) (page : ℕ) (r : Result (Unit {0}) TreeError) → LowersFirst s root after (Some page)
-    → OnOk r (LowersBelow node s image old new 7 page) → OnOk r (LowersTree node s image old new root after)
-tree_step node s image old new root after page (Err e) first below = tt
-tree_step node s image old new root after page (Ok u) first below = tree_on node s image old new root after page first below
+pub tree_step : {P E : Type 0} (node : List ℕ → Node P E) (frame : List ℕ → List ℕ) (s : Scale P E) (image : Image) (old new : List Drafted) (root after : Node P E) (page : ℕ) (r : Result (Unit {0}) TreeError) → LowersFirst s root after (Some page)
+    → OnOk r (LowersBelow node frame s image old new 7 page) → OnOk r (LowersTree node frame s image old new root after)
+tree_step node frame s image old new root after page (Err e) first below = tt
+tree_step node frame s image old new root after page (Ok u) first below = tree_on node frame s image old new root after page first below

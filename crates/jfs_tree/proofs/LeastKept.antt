@@ -92,11 +92,11 @@ first_off s o pages (Broken rule) es n spelled foot = refl
 off_old : (n a f o : ℕ) → a + f ≡ o → o ≡ 0 → a ≡ 0
 off_old n a f o e z = omega (arith, e, z)
 
-pub lowered_removes : {P E : Type 0} (node : List ℕ → Node P E) (s : Scale P E) → IsOrder s → (x : E) (image : Image) (mid new : List Drafted) (root between after : Node P E) (freed : List ℕ) (found : Option E)
-    → RemovesAlways s x (pages_of node image) (nodes node mid image) root between freed found → LowersTree node s image mid new between after
+pub lowered_removes : {P E : Type 0} (node : List ℕ → Node P E) (frame : List ℕ → List ℕ) (s : Scale P E) → IsOrder s → (x : E) (image : Image) (mid new : List Drafted) (root between after : Node P E) (freed : List ℕ) (found : Option E)
+    → RemovesAlways s x (pages_of node image) (nodes node mid image) root between freed found → LowersTree node frame s image mid new between after
     → RemovesAlways s x (pages_of node image) (nodes node new image) root after freed found
-lowered_removes node s o x image mid new root between after freed None removes lowers es spelled = ((removes es spelled).0, tt)
-lowered_removes node s o x image mid new root between after freed (Some e) removes lowers es spelled =
+lowered_removes node frame s o x image mid new root between after freed None removes lowers es spelled = ((removes es spelled).0, tt)
+lowered_removes node frame s o x image mid new root between after freed (Some e) removes lowers es spelled =
     let a = removes es spelled in (
       a.0,
       record {
@@ -110,18 +110,18 @@ lowered_removes node s o x image mid new root between after freed (Some e) remov
       },
     )
 
-pub lowered_keeps : {P E : Type 0} (node : List ℕ → Node P E) (s : Scale P E) → IsOrder s → (x : E) (image : Image) (mid new : List Drafted) (root between after : Node P E) (freed : List ℕ) (found : Option E) (X Y : Type 0) → IsCons freed → IfNone found (X × Y × (freed ≡ []))
-    → RemovesAlways s x (pages_of node image) (nodes node mid image) root between freed found → KeepsOthers s (pages_of node image) root image mid → LowersTree node s image mid new between after
+pub lowered_keeps : {P E : Type 0} (node : List ℕ → Node P E) (frame : List ℕ → List ℕ) (s : Scale P E) → IsOrder s → (x : E) (image : Image) (mid new : List Drafted) (root between after : Node P E) (freed : List ℕ) (found : Option E) (X Y : Type 0) → IsCons freed → IfNone found (X × Y × (freed ≡ []))
+    → RemovesAlways s x (pages_of node image) (nodes node mid image) root between freed found → KeepsOthers s (pages_of node image) root image mid → LowersTree node frame s image mid new between after
     → KeepsOthers s (pages_of node image) root image new
-lowered_keeps node s o x image mid new root between after freed None X Y some none removes keeps lowers es spelled n foot = absurd (subst IsCons none.2 some)
-lowered_keeps node s o x image mid new root between after freed (Some e) X Y some none removes keeps lowers es spelled n foot =
+lowered_keeps node frame s o x image mid new root between after freed None X Y some none removes keeps lowers es spelled n foot = absurd (subst IsCons none.2 some)
+lowered_keeps node frame s o x image mid new root between after freed (Some e) X Y some none removes keeps lowers es spelled n foot =
     let a = (removes es spelled).1 in
     lowers.keeps n (first_off s o (nodes node mid image) between a.list n a.spelled (off_old n _ _ _ (a.pages n) foot)) ∙ keeps es spelled n foot
 
 -- ---- in the words of the call
 
-pub lowered_as : {P E : Type 0} (node : List ℕ → Node P E) (s : Scale P E) (image later : Image) (old new : List Drafted) (root after : Node P E) → later ≡ image → LowersTree node s later old new root after → LowersTree node s image old new root after
-lowered_as node s image later old new root after same lowers = subst (λ (i : Image). LowersTree node s i old new root after) same lowers
+pub lowered_as : {P E : Type 0} (node : List ℕ → Node P E) (frame : List ℕ → List ℕ) (s : Scale P E) (image later : Image) (old new : List Drafted) (root after : Node P E) → later ≡ image → LowersTree node frame s later old new root after → LowersTree node frame s image old new root after
+lowered_as node frame s image later old new root after same lowers = subst (λ (i : Image). LowersTree node frame s i old new root after) same lowers
 
 pub bare_is : (ns : List ℕ) (empty : Bool) → empty ≡ (length ns == 0) → empty ≡ true → ns ≡ []
 bare_is [] empty is e = refl

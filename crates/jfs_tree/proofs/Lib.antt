@@ -44,7 +44,10 @@ pub mod LinesOnly
 pub mod Removes
 pub mod Changed
 pub mod Filling
-mod BytesKept
+pub mod BytesKept
+pub mod Putting
+pub mod Framing
+pub mod Clearing
 mod FilledSteps
 mod FilledRoots
 pub mod Becoming

@@ -20,14 +20,14 @@ use Rattle.jfs_tree.specs.declared.form.TreeError.TheVariants.{View, Bad, Memory
 use Rattle.jfs_tree.proofs.Owning.{owns, owns_not, owns_top, owns_closed}
 
 -- all pages read as before
-pub same_nodes : {P E : Type 0} (node : List ℕ → Node P E) (image later : Image) (old new : List Drafted) (root : Node P E) → later ≡ image → LinksTree node later old new root → nodes node new image ≡ nodes node old image
-same_nodes node image later old new root same links = let l = subst (λ (i : Image). LinksTree node i old new root) same links in fun_ext l.same
+pub same_nodes : {P E : Type 0} (node : List ℕ → Node P E) (frame : List ℕ → List ℕ) (image later : Image) (old new : List Drafted) (root : Node P E) → later ≡ image → LinksTree node frame later old new root → nodes node new image ≡ nodes node old image
+same_nodes node frame image later old new root same links = let l = subst (λ (i : Image). LinksTree node frame i old new root) same links in fun_ext l.same
 
 -- only pages of the tree changed, where the root spells a list
-pub links_keep : {P E : Type 0} (node : List ℕ → Node P E) (s : Scale P E) → IsOrder s → (image later : Image) (old new : List Drafted) (root : Node P E) (es : List E) (bound : ℕ) → later ≡ image → bound ≤ no_page → HasPages bound root → ((bytes : List ℕ) → HasPages bound (node bytes))
-    → LinksTree node later old new root → spells s (nodes node old image) root ≡ Ok es → (n : ℕ) → footprint s (nodes node old image) root n ≡ 0 → shown new image n ≡ shown old image n
-links_keep node s o image later old new root es bound same small top all links spelled n foot =
-    let l = subst (λ (i : Image). LinksTree node i old new root) same links in
+pub links_keep : {P E : Type 0} (node : List ℕ → Node P E) (frame : List ℕ → List ℕ) (s : Scale P E) → IsOrder s → (image later : Image) (old new : List Drafted) (root : Node P E) (es : List E) (bound : ℕ) → later ≡ image → bound ≤ no_page → HasPages bound root → ((bytes : List ℕ) → HasPages bound (node bytes))
+    → LinksTree node frame later old new root → spells s (nodes node old image) root ≡ Ok es → (n : ℕ) → footprint s (nodes node old image) root n ≡ 0 → shown new image n ≡ shown old image n
+links_keep node frame s o image later old new root es bound same small top all links spelled n foot =
+    let l = subst (λ (i : Image). LinksTree node frame i old new root) same links in
     let pages = nodes node old image in
     l.keeps (owns s pages root) (owns_closed s o pages root es bound small (λ m. all (shown old image m)) spelled) (owns_top s o pages root es bound small top spelled) n (owns_not s pages root n foot)
 
@@ -36,11 +36,11 @@ links_keep node s o image later old new root es bound same small top all links s
 off_new : (new left old free : ℕ) → new + left ≡ old + free → old ≡ 0 → free ≡ left → new ≡ 0
 off_new new left old free e z same = omega (arith, e, z, same)
 
-pub adds_kept : {P E : Type 0} (node : List ℕ → Node P E) (s : Scale P E) → IsOrder s → (x : E) (image later : Image) (old mid new : List Drafted) (root after : Node P E) (free left : List ℕ) (bound : ℕ) → later ≡ image → bound ≤ no_page → HasPages bound after → ((bytes : List ℕ) → HasPages bound (node bytes))
-    → LinksTree node later mid new after → AddsAlways s x (nodes node old image) (nodes node mid image) root after free left → KeepsAlways s x (nodes node old image) root image old mid free left → KeepsAlways s x (nodes node old image) root image old new free left
-adds_kept node s o x image later old mid new root after free left bound same small top all links adds keeps es spelled apart spare n foot count =
+pub adds_kept : {P E : Type 0} (node : List ℕ → Node P E) (frame : List ℕ → List ℕ) (s : Scale P E) → IsOrder s → (x : E) (image later : Image) (old mid new : List Drafted) (root after : Node P E) (free left : List ℕ) (bound : ℕ) → later ≡ image → bound ≤ no_page → HasPages bound after → ((bytes : List ℕ) → HasPages bound (node bytes))
+    → LinksTree node frame later mid new after → AddsAlways s x (nodes node old image) (nodes node mid image) root after free left → KeepsAlways s x (nodes node old image) root image old mid free left → KeepsAlways s x (nodes node old image) root image old new free left
+adds_kept node frame s o x image later old mid new root after free left bound same small top all links adds keeps es spelled apart spare n foot count =
     let a = adds es spelled apart spare in
-    links_keep node s o image later mid new after a.list bound same small top all links a.spelled n (off_new _ _ _ _ (a.pages n) foot count) ∙ keeps es spelled apart spare n foot count
+    links_keep node frame s o image later mid new after a.list bound same small top all links a.spelled n (off_new _ _ _ _ (a.pages n) foot count) ∙ keeps es spelled apart spare n foot count
 
 pub refuses_read : {P E : Type 0} (s : Scale P E) (x : E) (pages : ℕ → Node P E) (root : Node P E) (free : List ℕ) (e : TreeError) → IsRead e → RefusesWhereBad s x pages root free e
 refuses_read s x pages root free (View e) h = tt
@@ -62,10 +62,10 @@ levels_read s x old new root after free grows full Memory h = tt
 off_old : (a f o : ℕ) → a + f ≡ o → o ≡ 0 → a ≡ 0
 off_old a f o e z = omega (arith, e, z)
 
-pub removes_kept : {P E : Type 0} (node : List ℕ → Node P E) (s : Scale P E) → IsOrder s → (x : E) (image later : Image) (mid new : List Drafted) (root after : Node P E) (freed : List ℕ) (found : Option E) (X Y : Type 0) (bound : ℕ) → later ≡ image → bound ≤ no_page → HasPages bound after
-    → ((bytes : List ℕ) → HasPages bound (node bytes)) → IsCons freed → IfNone found (X × Y × (freed ≡ [])) → LinksTree node later mid new after
+pub removes_kept : {P E : Type 0} (node : List ℕ → Node P E) (frame : List ℕ → List ℕ) (s : Scale P E) → IsOrder s → (x : E) (image later : Image) (mid new : List Drafted) (root after : Node P E) (freed : List ℕ) (found : Option E) (X Y : Type 0) (bound : ℕ) → later ≡ image → bound ≤ no_page → HasPages bound after
+    → ((bytes : List ℕ) → HasPages bound (node bytes)) → IsCons freed → IfNone found (X × Y × (freed ≡ [])) → LinksTree node frame later mid new after
     → RemovesAlways s x (pages_of node image) (nodes node mid image) root after freed found → KeepsOthers s (pages_of node image) root image mid → KeepsOthers s (pages_of node image) root image new
-removes_kept node s o x image later mid new root after freed None X Y bound same small top all some none links removes keeps es spelled n foot = absurd (subst IsCons none.2 some)
-removes_kept node s o x image later mid new root after freed (Some e) X Y bound same small top all some none links removes keeps es spelled n foot =
+removes_kept node frame s o x image later mid new root after freed None X Y bound same small top all some none links removes keeps es spelled n foot = absurd (subst IsCons none.2 some)
+removes_kept node frame s o x image later mid new root after freed (Some e) X Y bound same small top all some none links removes keeps es spelled n foot =
     let a = (removes es spelled).1 in
-    links_keep node s o image later mid new after a.list bound same small top all links a.spelled n (off_old _ _ _ (a.pages n) foot) ∙ keeps es spelled n foot
+    links_keep node frame s o image later mid new after a.list bound same small top all links a.spelled n (off_old _ _ _ (a.pages n) foot) ∙ keeps es spelled n foot

@@ -8,6 +8,7 @@ use Rattle.jfs_tree.specs.Edit.{IsCons}
 use Rattle.jfs_tree.specs.Form.{IsLeaf}
 use Rattle.jfs_tree.specs.Draft.{shown}
 use Rattle.jfs_tree.specs.Call.{nodes}
+use Rattle.jfs_tree.specs.Frames.{KeepsFrames}
 use Rattle.jfs_tree.specs.Fresh.{LeadsTo, after_tx}
 use Rattle.jfs_tree.specs.Adds.{read_as}
 use Rattle.jfs_tree.specs.declared.draft.Drafted.{Drafted}
@@ -53,16 +54,18 @@ abbrev pub IsLowered : {P E : Type 0} → Scale P E → Node P E → Node P E �
 IsLowered s old new = (new ≡ old) ⊎ (new ≡ lowest s old)
 
 -- from a page on, so many levels down: the first keys on the way are the least ones now, and no page off the way changed
-pub record LowersBelow {P E : Type 0} (node : List ℕ → Node P E) (s : Scale P E) (image : Image) (old new : List Drafted) (most page : ℕ) : Type 0 where
+pub record LowersBelow {P E : Type 0} (node : List ℕ → Node P E) (frame : List ℕ → List ℕ) (s : Scale P E) (image : Image) (old new : List Drafted) (most page : ℕ) : Type 0 where
   pub least : LeastDown s (nodes node new image) most (nodes node new image page)
   pub lowered : (n : ℕ) → IsLowered s (nodes node old image n) (nodes node new image n)
+  pub frames : KeepsFrames frame image old new
   pub keeps : (n : ℕ) → times n (first_path (nodes node old image) most page) ≡ 0 → shown new image n ≡ shown old image n
 
 -- and from a root on
-pub record LowersTree {P E : Type 0} (node : List ℕ → Node P E) (s : Scale P E) (image : Image) (old new : List Drafted) (root after : Node P E) : Type 0 where
+pub record LowersTree {P E : Type 0} (node : List ℕ → Node P E) (frame : List ℕ → List ℕ) (s : Scale P E) (image : Image) (old new : List Drafted) (root after : Node P E) : Type 0 where
   pub least : IsLeftmost s (nodes node new image) after
   pub root_lowered : IsLowered s root after
   pub lowered : (n : ℕ) → IsLowered s (nodes node old image n) (nodes node new image n)
+  pub frames : KeepsFrames frame image old new
   pub keeps : (n : ℕ) → times n (along_first (first_path (nodes node old image) 7) root) ≡ 0 → shown new image n ≡ shown old image n
 
 -- no page changed but leaves, each into a leaf

@@ -12,8 +12,10 @@ pub mod Path
 pub mod Form
 pub mod Removal
 pub mod RootLoss
+pub mod Frames
 pub mod Fresh
 pub mod Adds
+pub mod Apart
 pub mod Room
 pub mod Walking
 pub mod Laws

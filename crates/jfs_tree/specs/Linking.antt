@@ -5,6 +5,7 @@ use Rattle.jfs_tree.specs.Walk.{Child, Node}
 use Rattle.jfs_tree.specs.Walking.{children_in}
 use Rattle.jfs_tree.specs.Call.{nodes}
 use Rattle.jfs_tree.specs.Draft.{shown}
+use Rattle.jfs_tree.specs.Frames.{KeepsFrames}
 use Rattle.jfs_tree.specs.declared.draft.Drafted.{Drafted}
 use Rattle.jfs_tree.specs.declared.beside.Beside.{Beside}
 
@@ -43,13 +44,15 @@ abbrev pub KeepsOff : Image → List Drafted → List Drafted → (ℕ → Bool)
 KeepsOff image old new own = (n : ℕ) → own n ≡ false → shown new image n ≡ shown old image n
 
 -- The links of one page were set.
-pub record LinksPage {P E : Type 0} (node : List ℕ → Node P E) (image : Image) (old new : List Drafted) (page : Option ℕ) : Type 0 where
+pub record LinksPage {P E : Type 0} (node : List ℕ → Node P E) (frame : List ℕ → List ℕ) (image : Image) (old new : List Drafted) (page : Option ℕ) : Type 0 where
   pub same : ReadsSame node image old new
+  pub frames : KeepsFrames frame image old new
   pub keeps : (own : ℕ → Bool) → Has own page → KeepsOff image old new own
 
 -- Links of pages beside each other were set, and of what they name.
-pub record LinksLevel {P E : Type 0} (node : List ℕ → Node P E) (image : Image) (old new : List Drafted) (level : Beside) : Type 0 where
+pub record LinksLevel {P E : Type 0} (node : List ℕ → Node P E) (frame : List ℕ → List ℕ) (image : Image) (old new : List Drafted) (level : Beside) : Type 0 where
   pub same : ReadsSame node image old new
+  pub frames : KeepsFrames frame image old new
   pub keeps : (own : ℕ → Bool) → IsClosed (nodes node old image) own → HasAll own level → KeepsOff image old new own
 
 -- the children of a page, of which these are some
@@ -59,7 +62,8 @@ pub record NamesAll {P E : Type 0} (node : Node P E) (level : Beside) : Type 0 w
   pub behind : IfSome level.behind (IsChild node)
   pub next : IfSome level.next (IsChild node)
 
--- Links of pages below a root were set: nothing that is spelled changes, and only pages that the root names, or they, changed.
-pub record LinksTree {P E : Type 0} (node : List ℕ → Node P E) (image : Image) (old new : List Drafted) (root : Node P E) : Type 0 where
+-- Links of pages below a root were set: nothing that is spelled changes, no frame does, and only pages that the root names, or they, changed.
+pub record LinksTree {P E : Type 0} (node : List ℕ → Node P E) (frame : List ℕ → List ℕ) (image : Image) (old new : List Drafted) (root : Node P E) : Type 0 where
   pub same : ReadsSame node image old new
+  pub frames : KeepsFrames frame image old new
   pub keeps : (own : ℕ → Bool) → IsClosed (nodes node old image) own → ((n : ℕ) → IsChild root n → own n ≡ true) → KeepsOff image old new own

@@ -8,7 +8,9 @@ ghost use Rattle.jfs_tree.specs.Room.{TakesWhereFull, FullFrom, GrowsLevel};
 ghost use Rattle.jfs_tree.specs.Call.{CarriesFault, IsRead};
 ghost use Rattle.jfs_tree.specs.Changes.{TellsChanges, TellsTaken};
 ghost use Rattle.jfs_tree.specs.Filled.{NoThinTold};
+ghost use Rattle.jfs_tree.specs.Apart.{ApartOnWay};
 ghost use Rattle.jfs_tree.specs.Form.{AllBelow};
+ghost use Rattle.jfs_tree.specs.Frames.{FramesTold};
 ghost use Rattle.jfs_tree.specs.Fresh.{blocks_of, allocs_of, TakenInOrder, HasPages};
 ghost use Rattle.jfs_tree.specs.Path.{broken_on_way};
 ghost use Rattle.jfs_tree.specs.Refusal.{ClashesOnWay, HasAllLevels, TellsAdding};
@@ -60,6 +62,10 @@ pub fn add_and_tell<V: PageView, F: PageLinks>(
     ensures edits { V.PageView.tells → OnOk result (TellsTaken (V.PageView.block_count view.old) kind (page_of (V.PageView.image view.old)) (blocks_of fresh.old) (blocks_of fresh.new) tx.old tx.new) }
     ensures thin { F.PageForm.fills → V.PageView.tells → OnOk result (NoThinTold F.PageForm.scale (F.PageForm.node form.now) (V.PageView.block_count view.old) (page_of (V.PageView.image view.old)) x.now
         (F.PageForm.node top.now root.old) (F.PageForm.node top.now root.new) (blocks_of fresh.old) tx.old tx.new) }
+    ensures framed { V.PageView.tells → OnOk result (FramesTold F.PageForm.scale (F.PageForm.node form.now) (F.PageForm.frame form.now) (F.PageForm.new_frame form.now) (V.PageView.block_count view.old) x.now (page_of (V.PageView.image view.old))
+        (F.PageForm.node top.now root.old) (blocks_of fresh.old) (blocks_of fresh.new) tx.old tx.new) }
+    ensures frame { F.PageForm.frame top.now root.new ≡ F.PageForm.frame top.now root.old }
+    ensures apart { V.PageView.tells → OnOk result (ApartOnWay F.PageForm.scale (read_as (F.PageForm.node form.now) (page_of (V.PageView.image view.old))) x.now (F.PageForm.node top.now root.old)) }
     ensures kept { OnErr result ((root.new ≡ root.old) × (fresh.new ≡ fresh.old) × (tx.new ≡ tx.old)) }
     ensures refused { V.PageView.tells → IfErr result (λ e. RefusesWhereBad F.PageForm.scale x.now (read_as (F.PageForm.node form.now) (page_of (V.PageView.image view.old))) (F.PageForm.node top.now root.old) (blocks_of fresh.old) e) }
     ensures room { V.PageView.tells → OnOk result (TakesWhereFull F.PageForm.scale x.now (read_as (F.PageForm.node form.now) (page_of (V.PageView.image view.old)))
@@ -140,6 +146,10 @@ fn plan<V: PageView, F: PageLinks>(
     ensures edits { V.PageView.tells → IfOk result (λ p. TellsTaken (V.PageView.block_count view.old) kind (page_of (V.PageView.image view.old)) (blocks_of fresh.now) (blocks_of p.fresh) tx.now p.tx) }
     ensures thin { F.PageForm.fills → V.PageView.tells → IfOk result (λ p. NoThinTold F.PageForm.scale (F.PageForm.node form.now) (V.PageView.block_count view.old) (page_of (V.PageView.image view.old)) x.now
         (F.PageForm.node top.now root.old) (F.PageForm.node top.now root.new) (blocks_of fresh.now) tx.now p.tx) }
+    ensures framed { V.PageView.tells → IfOk result (λ p. FramesTold F.PageForm.scale (F.PageForm.node form.now) (F.PageForm.frame form.now) (F.PageForm.new_frame form.now) (V.PageView.block_count view.old) x.now (page_of (V.PageView.image view.old))
+        (F.PageForm.node top.now root.old) (blocks_of fresh.now) (blocks_of p.fresh) tx.now p.tx) }
+    ensures frame { F.PageForm.frame top.now root.new ≡ F.PageForm.frame top.now root.old }
+    ensures apart { V.PageView.tells → OnOk result (ApartOnWay F.PageForm.scale (read_as (F.PageForm.node form.now) (page_of (V.PageView.image view.old))) x.now (F.PageForm.node top.now root.old)) }
     ensures refused { V.PageView.tells → IfErr result (λ e. RefusesWhereBad F.PageForm.scale x.now (read_as (F.PageForm.node form.now) (page_of (V.PageView.image view.old))) (F.PageForm.node top.now root.old) (blocks_of fresh.now) e) }
     ensures room { V.PageView.tells → IfOk result (λ p. (TakesWhereFull F.PageForm.scale x.now (read_as (F.PageForm.node form.now) (page_of (V.PageView.image view.old)))
         (on_page (F.PageForm.is_full form.now) (page_of (V.PageView.image view.old))) (on_page (λ bytes. F.PageForm.has_no_room form.now bytes x.now) (page_of (V.PageView.image view.old))) (F.PageForm.node top.now root.old)

@@ -3,8 +3,11 @@
 ghost use Rattle.std.specs.Prelude.{◌≡◌, ◌==◌, ◌&&◌, ◌+◌, if◌then◌else◌, ◌<◌, ◌≤◌, ℕ, List, length, OnOk, IfOk, IfErr, IfSome, ◌^◌};
 ghost use Rattle.jfs_tree.specs.Edit.{Grew};
 ghost use Rattle.jfs_tree.specs.Filled.{ChildFilled, StaysFilled};
+ghost use Rattle.jfs_tree.specs.Apart.{ApartBelow};
 ghost use Rattle.jfs_tree.specs.Form.{AllBelow, IsFront, children_of};
+ghost use Rattle.jfs_tree.specs.Frames.{GrowsFramed, TakesFramed};
 ghost use Rattle.jfs_tree.specs.Path.{broken_below};
+ghost use Rattle.jfs_tree.specs.Removal.{HasChildAt};
 ghost use Rattle.jfs_tree.specs.Refusal.{GrownCut, GrownClash, TellsGrowing};
 ghost use Rattle.jfs_tree.specs.Room.{GrowsWhereFull, TakesMore, at_page};
 ghost use Rattle.jfs_tree.specs.Call.{nodes, GrownDid, GrownBelow, KeepsBytes, StaysOff, CarriesFault, RefutesWhereBad};
@@ -66,6 +69,9 @@ pub fn add_below<V: PageView, F: PageForm>(
         grown.levels page last (children_of grown.sibling) fresh.old.items) }
     ensures keeps { V.PageView.tells → IfOk result (λ grown. KeepsBytes F.PageForm.scale (nodes (F.PageForm.node form.now) draft.old.pages.items (V.PageView.image view.old)) (V.PageView.image view.old)
         draft.old.pages.items draft.new.pages.items grown.levels page fresh.old.items fresh.new.items) }
+    ensures framed { V.PageView.tells → IfOk result (λ grown. GrowsFramed F.PageForm.scale (nodes (F.PageForm.node form.now) draft.old.pages.items (V.PageView.image view.old)) (F.PageForm.frame form.now) (F.PageForm.new_frame form.now)
+        (V.PageView.image view.old) draft.old.pages.items draft.new.pages.items grown.levels page fresh.old.items fresh.new.items) }
+    ensures apart { V.PageView.tells → OnOk result (ApartBelow F.PageForm.scale (nodes (F.PageForm.node form.now) draft.old.pages.items (V.PageView.image view.old)) x.now most page) }
     ensures below { GrownBelow fresh.old.items fresh.new.items result }
     ensures front { IsFront fresh.new.items fresh.old.items }
     ensures key { IfOk result (λ grown. IfSome grown.sibling (λ s. F.PageForm.is_key s.key)) }
@@ -130,6 +136,7 @@ fn take_grown<F: PageForm>(
     requires size { F.PageForm.size form.now ≡ 4096 }
     requires below { F.PageForm.is_root form.now → ⊥ }
     requires within { IfSome grown.sibling (λ s. s.page < F.PageForm.blocks form.now) }
+    requires there { HasChildAt place (F.PageForm.node form.now bytes.0) }
     requires key { IfSome grown.sibling (λ s. F.PageForm.is_key s.key) }
     requires enough { 0 < length fresh.old.items }
     requires fits { grown.levels + 1 < 2 ^ 32 }
@@ -139,6 +146,7 @@ fn take_grown<F: PageForm>(
     ensures room { IfOk result (λ g. TakesMore (F.PageForm.is_full form.now bytes.0) grown.sibling g.sibling fresh.old.items fresh.new.items) }
     ensures filled { F.PageForm.fills → IfOk result (λ g. ChildFilled (F.PageForm.node form.now) F.PageForm.scale bytes.0 page place last grown.sibling draft.old.pages.items draft.new.pages.items fresh.old.items g.sibling) }
     ensures keeps { OnOk result (StaysOff page draft.old.pages.items draft.new.pages.items fresh.old.items fresh.new.items) }
+    ensures framed { OnOk result (TakesFramed (F.PageForm.frame form.now) (F.PageForm.new_frame form.now) bytes.0 page draft.old.pages.items draft.new.pages.items fresh.old.items fresh.new.items) }
     ensures below { GrownBelow fresh.old.items fresh.new.items result }
     ensures front { IsFront fresh.new.items fresh.old.items }
     ensures key { IfOk result (λ grown. IfSome grown.sibling (λ s. F.PageForm.is_key s.key)) }

@@ -4,6 +4,7 @@ ghost use Rattle.std.specs.Prelude.{◌≡◌, ◌<◌, [], IfOk, IfErr, IfNone,
 ghost use Rattle.jfs_ranges.specs.View.{CarriesCount};
 ghost use Rattle.jfs_tree.specs.Call.{nodes, pages_of, CarriesFault, IsRead};
 ghost use Rattle.jfs_tree.specs.Edit.{IsPoint};
+ghost use Rattle.jfs_tree.specs.Frames.{KeepsFrames};
 ghost use Rattle.jfs_tree.specs.Leftmost.{IsLeftmost, LowersBelow, LowersTree};
 ghost use Rattle.jfs_tree.specs.Path.{broken_on_way, TellsBroken};
 ghost use Rattle.jfs_tree.specs.Root.{NamesBroken};
@@ -44,6 +45,8 @@ pub(crate) fn remove_leftmost<V: PageView, F: PageLoss>(
     ensures left { V.PageView.tells → OnOk result (IsLeftmost F.PageForm.scale (pages_of (F.PageForm.node form.now) (V.PageView.image view.old)) (F.PageForm.node top.now root.old)
         → IsLeftmost F.PageForm.scale (nodes (F.PageForm.node form.now) draft.new.pages.items (V.PageView.image view.old)) (F.PageForm.node top.now root.new)) }
     ensures keeps { V.PageView.tells → OnOk result (KeepsOthers F.PageForm.scale (pages_of (F.PageForm.node form.now) (V.PageView.image view.old)) (F.PageForm.node top.now root.old) (V.PageView.image view.old) draft.new.pages.items) }
+    ensures framed { V.PageView.tells → OnOk result (KeepsFrames (F.PageForm.frame form.now) (V.PageView.image view.old) [] draft.new.pages.items) }
+    ensures frame { F.PageForm.frame top.now root.new ≡ F.PageForm.frame top.now root.old }
     ensures absent { IfOk result (λ found. IfNone found ((root.new ≡ root.old) × (draft.new.pages.items ≡ []) × (freed.new.items ≡ []))) }
     ensures bad { V.PageView.tells → IfErr result (λ e.
         NamesBroken F.PageForm.scale (pages_of (F.PageForm.node form.now) (V.PageView.image view.old)) (F.PageForm.node top.now root.old) e) }
@@ -77,8 +80,9 @@ fn lower_tree<V: PageView, F: PageLoss>(
     ensures count_of_blocks { V.PageView.block_count view.new ≡ V.PageView.block_count view.old }
     ensures device { V.PageView.device view.new ≡ V.PageView.device view.old }
     ensures fault { CarriesFault (V.PageView.faults view.old) (V.PageView.faults view.new) result }
-    ensures lowers { V.PageView.tells → OnOk result (LowersTree (F.PageForm.node form.now) F.PageForm.scale (V.PageView.image view.old)
+    ensures lowers { V.PageView.tells → OnOk result (LowersTree (F.PageForm.node form.now) (F.PageForm.frame form.now) F.PageForm.scale (V.PageView.image view.old)
         draft.old.pages.items draft.new.pages.items (F.PageForm.node top.now root.old) (F.PageForm.node top.now root.new)) }
+    ensures frame { F.PageForm.frame top.now root.new ≡ F.PageForm.frame top.now root.old }
     ensures cause { IfErr result IsRead }
 {
     match top.lower_first(root) {
@@ -102,7 +106,7 @@ fn lower_below<V: PageView, F: PageLoss>(
     ensures count_of_blocks { V.PageView.block_count view.new ≡ V.PageView.block_count view.old }
     ensures device { V.PageView.device view.new ≡ V.PageView.device view.old }
     ensures fault { CarriesFault (V.PageView.faults view.old) (V.PageView.faults view.new) result }
-    ensures lowers { V.PageView.tells → OnOk result (LowersBelow (F.PageForm.node form.now) F.PageForm.scale (V.PageView.image view.old)
+    ensures lowers { V.PageView.tells → OnOk result (LowersBelow (F.PageForm.node form.now) (F.PageForm.frame form.now) F.PageForm.scale (V.PageView.image view.old)
         draft.old.pages.items draft.new.pages.items most page) }
     ensures cause { IfErr result IsRead }
 {

@@ -6,7 +6,9 @@ ghost use Rattle.jfs_tree.specs.Leftmost.{IsLeftmost};
 ghost use Rattle.jfs_tree.specs.Path.{broken_on_way, TellsBroken};
 ghost use Rattle.jfs_tree.specs.Refusal.{ClashesOnWay, HasAllLevels, TellsAdding};
 ghost use Rattle.jfs_tree.specs.Filled.{FillsAlways};
+ghost use Rattle.jfs_tree.specs.Apart.{ApartOnWay};
 ghost use Rattle.jfs_tree.specs.Form.{AllBelow, IsFront};
+ghost use Rattle.jfs_tree.specs.Frames.{FramesAlways, KeepsFrames};
 ghost use Rattle.jfs_tree.specs.Fresh.{HasPages};
 ghost use Rattle.jfs_tree.specs.Room.{FullFrom, GrowsLevel, LevelsWhereFull, TakesWhereFull, at_page};
 ghost use Rattle.jfs_tree.specs.Call.{nodes, pages_of, CarriesFault};
@@ -84,6 +86,10 @@ pub(crate) fn add_linked<V: PageView, F: PageLinks>(
     ensures used { OnOk result (length fresh.old.items ≤ length fresh.new.items + 8) }
     ensures keeps { V.PageView.tells → OnOk result (KeepsAlways F.PageForm.scale x.now (nodes (F.PageForm.node form.now) draft.old.pages.items (V.PageView.image view.old)) (F.PageForm.node top.now root.old) (V.PageView.image view.old)
         draft.old.pages.items draft.new.pages.items fresh.old.items fresh.new.items) }
+    ensures framed { V.PageView.tells → OnOk result (FramesAlways F.PageForm.scale x.now (nodes (F.PageForm.node form.now) draft.old.pages.items (V.PageView.image view.old)) (F.PageForm.node top.now root.old) (F.PageForm.frame form.now) (F.PageForm.new_frame form.now)
+        (V.PageView.image view.old) draft.old.pages.items draft.new.pages.items fresh.old.items fresh.new.items) }
+    ensures frame { F.PageForm.frame top.now root.new ≡ F.PageForm.frame top.now root.old }
+    ensures apart { V.PageView.tells → OnOk result (ApartOnWay F.PageForm.scale (nodes (F.PageForm.node form.now) draft.old.pages.items (V.PageView.image view.old)) x.now (F.PageForm.node top.now root.old)) }
     ensures front { IsFront fresh.new.items fresh.old.items }
     ensures way { V.PageView.tells → TellsAdding
         (broken_on_way F.PageForm.scale (nodes (F.PageForm.node form.now) draft.old.pages.items (V.PageView.image view.old)) (F.PageForm.scale.from x.now) (F.PageForm.node top.now root.old))
@@ -135,6 +141,8 @@ pub(crate) fn remove_linked<V: PageView, F: PageLoss + PageLinks>(
     ensures left { V.PageView.tells → OnOk result (IsLeftmost F.PageForm.scale (pages_of (F.PageForm.node form.now) (V.PageView.image view.old)) (F.PageForm.node top.now root.old)
         → IsLeftmost F.PageForm.scale (nodes (F.PageForm.node form.now) draft.new.pages.items (V.PageView.image view.old)) (F.PageForm.node top.now root.new)) }
     ensures keeps { V.PageView.tells → OnOk result (KeepsOthers F.PageForm.scale (pages_of (F.PageForm.node form.now) (V.PageView.image view.old)) (F.PageForm.node top.now root.old) (V.PageView.image view.old) draft.new.pages.items) }
+    ensures framed { V.PageView.tells → OnOk result (KeepsFrames (F.PageForm.frame form.now) (V.PageView.image view.old) [] draft.new.pages.items) }
+    ensures frame { F.PageForm.frame top.now root.new ≡ F.PageForm.frame top.now root.old }
     ensures absent { IfOk result (λ found. IfNone found ((root.new ≡ root.old) × (draft.new.pages.items ≡ []) × (freed.new.items ≡ []))) }
     ensures bad { V.PageView.tells → IfErr result (λ e.
         NamesBroken F.PageForm.scale (pages_of (F.PageForm.node form.now) (V.PageView.image view.old)) (F.PageForm.node top.now root.old) e) }

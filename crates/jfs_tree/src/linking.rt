@@ -32,7 +32,7 @@ pub fn link_taken<V: PageView, F: PageLinks>(
     ensures count_of_blocks { V.PageView.block_count view.new ≡ V.PageView.block_count view.old }
     ensures device { V.PageView.device view.new ≡ V.PageView.device view.old }
     ensures fault { CarriesFault (V.PageView.faults view.old) (V.PageView.faults view.new) result }
-    ensures links { V.PageView.tells → OnOk result (LinksTree (F.PageForm.node form.now) (V.PageView.image view.old) draft.old.pages.items draft.new.pages.items (F.PageForm.node top.now root.now)) }
+    ensures links { V.PageView.tells → OnOk result (LinksTree (F.PageForm.node form.now) (F.PageForm.frame form.now) (V.PageView.image view.old) draft.old.pages.items draft.new.pages.items (F.PageForm.node top.now root.now)) }
     ensures cause { IfErr result IsRead }
 {
     if taken.is_empty() {
@@ -61,7 +61,7 @@ fn link_behind<V: PageView, F: PageLinks>(
     ensures count_of_blocks { V.PageView.block_count view.new ≡ V.PageView.block_count view.old }
     ensures device { V.PageView.device view.new ≡ V.PageView.device view.old }
     ensures fault { CarriesFault (V.PageView.faults view.old) (V.PageView.faults view.new) result }
-    ensures links { V.PageView.tells → OnOk result (LinksLevel (F.PageForm.node form.now) (V.PageView.image view.old) draft.old.pages.items draft.new.pages.items level.now) }
+    ensures links { V.PageView.tells → OnOk result (LinksLevel (F.PageForm.node form.now) (F.PageForm.frame form.now) (V.PageView.image view.old) draft.old.pages.items draft.new.pages.items level.now) }
     ensures cause { IfErr result IsRead }
 {
     if most == 0 {
@@ -98,7 +98,7 @@ fn link_new<V: PageView, F: PageLinks>(
     ensures count_of_blocks { V.PageView.block_count view.new ≡ V.PageView.block_count view.old }
     ensures device { V.PageView.device view.new ≡ V.PageView.device view.old }
     ensures fault { CarriesFault (V.PageView.faults view.old) (V.PageView.faults view.new) result }
-    ensures links { V.PageView.tells → OnOk result (LinksLevel (F.PageForm.node form.now) (V.PageView.image view.old) draft.old.pages.items draft.new.pages.items level.now) }
+    ensures links { V.PageView.tells → OnOk result (LinksLevel (F.PageForm.node form.now) (F.PageForm.frame form.now) (V.PageView.image view.old) draft.old.pages.items draft.new.pages.items level.now) }
     ensures cause { IfErr result IsRead }
 {
     if taken.contains(&level.here) {
@@ -133,7 +133,7 @@ pub fn link_gaps<V: PageView, F: PageLinks>(
     ensures count_of_blocks { V.PageView.block_count view.new ≡ V.PageView.block_count view.old }
     ensures device { V.PageView.device view.new ≡ V.PageView.device view.old }
     ensures fault { CarriesFault (V.PageView.faults view.old) (V.PageView.faults view.new) result }
-    ensures links { V.PageView.tells → OnOk result (LinksTree (F.PageForm.node form.now) (V.PageView.image view.old) draft.old.pages.items draft.new.pages.items (F.PageForm.node top.now root.now)) }
+    ensures links { V.PageView.tells → OnOk result (LinksTree (F.PageForm.node form.now) (F.PageForm.frame form.now) (V.PageView.image view.old) draft.old.pages.items draft.new.pages.items (F.PageForm.node top.now root.now)) }
     ensures cause { IfErr result IsRead }
 {
     match children_beside(top, root, x) {
@@ -164,7 +164,7 @@ fn close_gaps<V: PageView, F: PageLinks>(
     ensures count_of_blocks { V.PageView.block_count view.new ≡ V.PageView.block_count view.old }
     ensures device { V.PageView.device view.new ≡ V.PageView.device view.old }
     ensures fault { CarriesFault (V.PageView.faults view.old) (V.PageView.faults view.new) result }
-    ensures links { V.PageView.tells → OnOk result (LinksLevel (F.PageForm.node form.now) (V.PageView.image view.old) draft.old.pages.items draft.new.pages.items level.now) }
+    ensures links { V.PageView.tells → OnOk result (LinksLevel (F.PageForm.node form.now) (F.PageForm.frame form.now) (V.PageView.image view.old) draft.old.pages.items draft.new.pages.items level.now) }
     ensures levels { IfOk result (λ levels. levels ≤ most) }
     ensures cause { IfErr result IsRead }
 {
@@ -203,7 +203,7 @@ fn gaps_below<V: PageView, F: PageLinks>(
     ensures count_of_blocks { V.PageView.block_count view.new ≡ V.PageView.block_count view.old }
     ensures device { V.PageView.device view.new ≡ V.PageView.device view.old }
     ensures fault { CarriesFault (V.PageView.faults view.old) (V.PageView.faults view.new) result }
-    ensures links { V.PageView.tells → OnOk result (LinksLevel (F.PageForm.node form.now) (V.PageView.image view.old) draft.old.pages.items draft.new.pages.items level.now) }
+    ensures links { V.PageView.tells → OnOk result (LinksLevel (F.PageForm.node form.now) (F.PageForm.frame form.now) (V.PageView.image view.old) draft.old.pages.items draft.new.pages.items level.now) }
     ensures levels { IfOk result (λ levels. levels < most) }
     ensures cause { IfErr result IsRead }
 {
@@ -231,7 +231,7 @@ fn link_both<V: PageView, F: PageLinks>(
     ensures count_of_blocks { V.PageView.block_count view.new ≡ V.PageView.block_count view.old }
     ensures device { V.PageView.device view.new ≡ V.PageView.device view.old }
     ensures fault { CarriesFault (V.PageView.faults view.old) (V.PageView.faults view.new) result }
-    ensures links { V.PageView.tells → OnOk result (LinksLevel (F.PageForm.node form.now) (V.PageView.image view.old) draft.old.pages.items draft.new.pages.items level.now) }
+    ensures links { V.PageView.tells → OnOk result (LinksLevel (F.PageForm.node form.now) (F.PageForm.frame form.now) (V.PageView.image view.old) draft.old.pages.items draft.new.pages.items level.now) }
     ensures cause { IfErr result IsRead }
 {
     let before = level.before.unwrap_or(0);
@@ -268,7 +268,7 @@ fn link_on<V: PageView, F: PageLinks>(
     ensures count_of_blocks { V.PageView.block_count view.new ≡ V.PageView.block_count view.old }
     ensures device { V.PageView.device view.new ≡ V.PageView.device view.old }
     ensures fault { CarriesFault (V.PageView.faults view.old) (V.PageView.faults view.new) result }
-    ensures links { V.PageView.tells → OnOk result (LinksPage (F.PageForm.node form.now) (V.PageView.image view.old) draft.old.pages.items draft.new.pages.items page) }
+    ensures links { V.PageView.tells → OnOk result (LinksPage (F.PageForm.node form.now) (F.PageForm.frame form.now) (V.PageView.image view.old) draft.old.pages.items draft.new.pages.items page) }
     ensures cause { IfErr result IsRead }
 {
     let Some(n) = page else {
@@ -296,7 +296,7 @@ fn link_back<V: PageView, F: PageLinks>(
     ensures count_of_blocks { V.PageView.block_count view.new ≡ V.PageView.block_count view.old }
     ensures device { V.PageView.device view.new ≡ V.PageView.device view.old }
     ensures fault { CarriesFault (V.PageView.faults view.old) (V.PageView.faults view.new) result }
-    ensures links { V.PageView.tells → OnOk result (LinksPage (F.PageForm.node form.now) (V.PageView.image view.old) draft.old.pages.items draft.new.pages.items page) }
+    ensures links { V.PageView.tells → OnOk result (LinksPage (F.PageForm.node form.now) (F.PageForm.frame form.now) (V.PageView.image view.old) draft.old.pages.items draft.new.pages.items page) }
     ensures cause { IfErr result IsRead }
 {
     let Some(n) = page else {

@@ -9,10 +9,12 @@ pub trait PageLinks: PageRead {
     /// Makes page `n` the one behind it, 0 where there is none. A page that breaks a rule stays as it is.
     fn set_next(&self, bytes: &mut [u8], n: u32)
         requires { length bytes.old ≡ Self.size self.now }
-        ensures { Self.node self.now bytes.new ≡ Self.node self.now bytes.old };
+        ensures node { Self.node self.now bytes.new ≡ Self.node self.now bytes.old }
+        ensures frame { Self.frame self.now bytes.new ≡ Self.frame self.now bytes.old };
 
     /// Makes page `n` the one before it, 0 where there is none. A page that breaks a rule stays as it is.
     fn set_prev(&self, bytes: &mut [u8], n: u32)
         requires { length bytes.old ≡ Self.size self.now }
-        ensures { Self.node self.now bytes.new ≡ Self.node self.now bytes.old };
+        ensures node { Self.node self.now bytes.new ≡ Self.node self.now bytes.old }
+        ensures frame { Self.frame self.now bytes.new ≡ Self.frame self.now bytes.old };
 }

@@ -16,19 +16,22 @@ pub trait PageLoss: PageForm {
         requires size { length bytes.old ≡ Self.size self.now }
         requires leaf { IsLeaf (Self.node self.now bytes.old) }
         ensures takes { TakesRow Self.scale x.now (Self.node self.now bytes.old) (Self.node self.now bytes.new) result }
-        ensures kept { IfNone result (bytes.new ≡ bytes.old) };
+        ensures kept { IfNone result (bytes.new ≡ bytes.old) }
+        ensures frame { Self.frame self.now bytes.new ≡ Self.frame self.now bytes.old };
 
     /// Takes the child at the place out of an inner page that has others.
     fn remove_child(&self, bytes: &mut [u8], place: usize)
         requires size { length bytes.old ≡ Self.size self.now }
         requires others { HasOthers place (Self.node self.now bytes.old) }
-        ensures { TakesChild place (Self.node self.now bytes.old) (Self.node self.now bytes.new) };
+        ensures takes { TakesChild place (Self.node self.now bytes.old) (Self.node self.now bytes.new) }
+        ensures frame { Self.frame self.now bytes.new ≡ Self.frame self.now bytes.old };
 
     /// Makes the key of an inner page's first child the least one, and answers that child's page. Another page stays as it is.
     fn lower_first(&self, bytes: &mut [u8]) -> Option<u32>
         requires { length bytes.old ≡ Self.size self.now }
         ensures first { LowersFirst Self.scale (Self.node self.now bytes.old) (Self.node self.now bytes.new) result }
-        ensures within { IfSome result (λ page. page < Self.blocks self.now) };
+        ensures within { IfSome result (λ page. page < Self.blocks self.now) }
+        ensures frame { Self.frame self.now bytes.new ≡ Self.frame self.now bytes.old };
 
     /// Whether a page has one entry alone, or one child alone.
     fn is_single(&self, bytes: &[u8]) -> bool
@@ -39,7 +42,8 @@ pub trait PageLoss: PageForm {
     fn empty(&self, root: &mut [u8])
         requires size { length root.old ≡ Self.size self.now }
         requires top { Self.is_root self.now }
-        ensures { Self.node self.now root.new ≡ Leaf [] };
+        ensures empty { Self.node self.now root.new ≡ Leaf [] }
+        ensures frame { Self.frame self.now root.new ≡ Self.frame self.now root.old };
 
     /// Keys stay where entries go.
     ghost loose: { IsLoose Self.scale };

@@ -5,6 +5,7 @@ ghost use Rattle.jfs_tree.specs.Walk.{Child, Node, Leaf, Inner, Scale, IsOrder};
 ghost use Rattle.jfs_tree.specs.Edit.{IsApart, KeysRise, with_entry, found_in};
 ghost use Rattle.jfs_tree.specs.Filled.{FillsBoth};
 ghost use Rattle.jfs_tree.specs.Form.{Leads, IsWithin, TellsLast, IfFull, PutsRow, SplitsRows, PutsChild, AtPlace, SplitsChildren, HasRisingKeys, GoesBehind, as_child};
+ghost use Rattle.jfs_tree.specs.Apart.{PutsApart};
 
 use crate::form::{Put, Sibling, Way};
 use jfs_bits::Rule;
@@ -51,6 +52,12 @@ pub trait PageForm {
     /// The form of the pages below a root.
     ghost below: { Self → Self };
 
+    /// What the bytes have beside entries, kind and links, as the page's own descriptor. It stays while entries come and go.
+    ghost frame: { Self → List ℕ → List ℕ };
+
+    /// What page `n` has there when it is new: it names itself.
+    ghost new_frame: { Self → ℕ → List ℕ };
+
     /// Where the page leads the entry.
     fn way(&self, bytes: &[u8], x: &Self::Entry) -> Result<Way, Rule>
         requires { length bytes.now ≡ size self.now }
@@ -74,7 +81,9 @@ pub trait PageForm {
         requires size { length bytes.old ≡ size self.now }
         requires good { is_good self.now x.now }
         ensures row { PutsRow scale x.now (node self.now) (is_full self.now) bytes.old bytes.new result }
-        ensures room { IfFull result (has_no_room self.now bytes.old x.now) };
+        ensures apart { PutsApart scale x.now (node self.now bytes.old) result }
+        ensures room { IfFull result (has_no_room self.now bytes.old x.now) }
+        ensures frame { frame self.now bytes.new ≡ frame self.now bytes.old };
 
     /// Puts the entry into page `n`, a leaf below a root that has no room for it, and the leaf's last part into page `q`, whose key it answers.
     /// `last` tells that page `n` is the last one of its level. A root is never split: it moves down.
@@ -94,7 +103,9 @@ pub trait PageForm {
         ensures parts { (es : List Self.Entry) → node self.now bytes.old ≡ Leaf es → IsApart scale x.now es →
             SplitsRows scale (with_entry scale x.now es) (node self.now bytes.new) (node self.now right.new) result }
         ensures fills { fills → (es : List Self.Entry) → node self.now bytes.old ≡ Leaf es → IsApart scale x.now es → FillsBoth last (node self.now bytes.new) (node self.now right.new) }
-        ensures key { is_key result };
+        ensures key { is_key result }
+        ensures frame { frame self.now bytes.new ≡ frame self.now bytes.old }
+        ensures new { (es : List Self.Entry) → node self.now bytes.old ≡ Leaf es → IsApart scale x.now es → frame self.now right.new ≡ new_frame self.now q };
 
     /// Puts a child behind the one at the place, where its key is between their keys and there is room.
     fn put_child(&self, bytes: &mut [u8], place: usize, child: &Sibling<Self::Key>) -> Put
@@ -103,7 +114,8 @@ pub trait PageForm {
         requires key { is_key child.now.key }
         ensures child { PutsChild scale (node self.now) (is_full self.now) place child.now bytes.old bytes.new result }
         ensures room { IfFull result (has_no_place self.now bytes.old child.now.key) }
-        ensures goes { IfFull result (GoesBehind scale (node self.now bytes.old) place (as_child child.now)) };
+        ensures goes { IfFull result (GoesBehind scale (node self.now bytes.old) place (as_child child.now)) }
+        ensures frame { frame self.now bytes.new ≡ frame self.now bytes.old };
 
     /// Puts a child into page `n`, an inner page below a root that has no room for it, and the page's last part into page `q`, whose key it
     /// answers. `last` tells that page `n` is the last one of its level.
@@ -125,7 +137,9 @@ pub trait PageForm {
         ensures parts { (all : List (Child Self.Key)) → AtPlace (node self.now bytes.old) place (as_child child.now) all → KeysRise scale all →
             SplitsChildren all (node self.now bytes.new) (node self.now right.new) result }
         ensures fills { fills → (all : List (Child Self.Key)) → AtPlace (node self.now bytes.old) place (as_child child.now) all → KeysRise scale all → FillsBoth last (node self.now bytes.new) (node self.now right.new) }
-        ensures key { is_key result };
+        ensures key { is_key result }
+        ensures frame { frame self.now bytes.new ≡ frame self.now bytes.old }
+        ensures new { (all : List (Child Self.Key)) → AtPlace (node self.now bytes.old) place (as_child child.now) all → KeysRise scale all → frame self.now right.new ≡ new_frame self.now q };
 
     /// Moves what a full root has to a page, `q`, and keeps one child.
     fn move_down(&self, pages: &Self, q: u32, root: &mut [u8], page: &mut [u8])
@@ -137,7 +151,9 @@ pub trait PageForm {
         ensures entries { (es : List Self.Entry) → node self.now root.old ≡ Leaf es → node pages.now page.new ≡ Leaf es }
         ensures children { (cs : List (Child Self.Key)) → node self.now root.old ≡ Inner cs → node pages.now page.new ≡ Inner cs }
         ensures root { node self.now root.new ≡ Inner (record { key = scale.least; page = q } ∷ []) }
-        ensures room { is_full pages.now page.new → ⊥ };
+        ensures room { is_full pages.now page.new → ⊥ }
+        ensures frame { frame self.now root.new ≡ frame self.now root.old }
+        ensures new { frame pages.now page.new ≡ new_frame pages.now q };
 
     ghost order: { IsOrder scale };
 }

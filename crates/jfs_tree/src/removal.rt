@@ -5,6 +5,7 @@ ghost use Rattle.jfs_tree.specs.Edit.{IsPoint};
 ghost use Rattle.jfs_tree.specs.Path.{broken_below, TellsBroken};
 ghost use Rattle.jfs_tree.specs.Call.{pages_of, nodes, Finds, BreaksWhereBad, CarriesFault, KeepsBytes, StaysOff};
 ghost use Rattle.jfs_tree.specs.Form.{IsLeaf};
+ghost use Rattle.jfs_tree.specs.Frames.{KeepsFrames, KeepsFramesAt};
 ghost use Rattle.jfs_tree.specs.Draft.{shown};
 ghost use Rattle.jfs_tree.specs.Leftmost.{LeavesOrGoes};
 ghost use Rattle.jfs_tree.specs.Walk.{Node};
@@ -61,6 +62,7 @@ pub fn remove_below<V: PageView, F: PageLoss>(
     ensures way { V.PageView.tells → TellsBroken (broken_below F.PageForm.scale (pages_of (F.PageForm.node form.now) (V.PageView.image view.old)) (F.PageForm.scale.from x.now) most page) result }
     ensures keeps { V.PageView.tells → IfOk result (λ found. IfSome found (λ shrunk. KeepsBytes F.PageForm.scale (pages_of (F.PageForm.node form.now) (V.PageView.image view.old)) (V.PageView.image view.old)
         [] draft.new.pages.items shrunk.levels page [] [])) }
+    ensures framed { V.PageView.tells → OnOk result (KeepsFrames (F.PageForm.frame form.now) (V.PageView.image view.old) [] draft.new.pages.items) }
     ensures levels { IfOk result (λ found. IfSome found (λ shrunk. shrunk.levels ≤ most)) }
     ensures inner { V.PageView.tells → IfOk result (λ found. IfSome found (λ shrunk. LeavesOrGoes (pages_of (F.PageForm.node form.now) (V.PageView.image view.old))
         (nodes (F.PageForm.node form.now) draft.new.pages.items (V.PageView.image view.old)) shrunk.kept freed.new.items)) }
@@ -110,6 +112,7 @@ fn remove_here<F: PageLoss>(
     ensures inner { IfOk result (λ found. IfSome found (λ shrunk. (image : Image) → bytes.0 ≡ shown draft.old.pages.items image page
         → LeavesOrGoes (nodes (F.PageForm.node form.now) draft.old.pages.items image) (nodes (F.PageForm.node form.now) draft.new.pages.items image) shrunk.kept freed.new.items)) }
     ensures keeps { OnOk result (StaysOff page draft.old.pages.items draft.new.pages.items [] []) }
+    ensures framed { OnOk result (KeepsFramesAt (F.PageForm.frame form.now) bytes.0 page draft.old.pages.items draft.new.pages.items) }
     ensures cause { IfErr result (λ e. e ≡ TreeError.Memory) }
 {
     let alone = form.is_single(bytes.bytes());
@@ -143,6 +146,7 @@ fn remove_place<F: PageLoss>(
         → LeavesOrGoes before (nodes (F.PageForm.node form.now) draft.new.pages.items image) more.kept freed.new.items)) }
     ensures same { IfOk result (λ found. found ≡ Some (record { entry = shrunk.entry; kept = kept_in found; levels = shrunk.levels + 1 })) }
     ensures keeps { OnOk result (StaysOff page draft.old.pages.items draft.new.pages.items [] []) }
+    ensures framed { OnOk result (KeepsFramesAt (F.PageForm.frame form.now) bytes.0 page draft.old.pages.items draft.new.pages.items) }
     ensures cause { IfErr result (λ e. e ≡ TreeError.Memory) }
 {
     let Shrunk {

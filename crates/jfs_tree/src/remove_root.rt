@@ -6,6 +6,7 @@ ghost use Rattle.jfs_tree.specs.Leftmost.{RootOrGoes};
 ghost use Rattle.jfs_tree.specs.Path.{broken_on_way, TellsBroken};
 ghost use Rattle.jfs_tree.specs.Call.{nodes, pages_of, CarriesFault};
 ghost use Rattle.jfs_tree.specs.Root.{NamesBroken};
+ghost use Rattle.jfs_tree.specs.Frames.{KeepsFrames};
 ghost use Rattle.jfs_tree.specs.Removal.{HasChildAt};
 ghost use Rattle.jfs_tree.specs.RootLoss.{KeepsOthers, RemovesAlways, RootLost};
 
@@ -42,6 +43,8 @@ pub fn remove_entry<V: PageView, F: PageLoss>(
         (nodes (F.PageForm.node form.now) draft.new.pages.items (V.PageView.image view.old))
         (F.PageForm.node top.now root.old) (F.PageForm.node top.now root.new) freed.new.items found) }
     ensures keeps { V.PageView.tells → OnOk result (KeepsOthers F.PageForm.scale (pages_of (F.PageForm.node form.now) (V.PageView.image view.old)) (F.PageForm.node top.now root.old) (V.PageView.image view.old) draft.new.pages.items) }
+    ensures framed { V.PageView.tells → OnOk result (KeepsFrames (F.PageForm.frame form.now) (V.PageView.image view.old) [] draft.new.pages.items) }
+    ensures frame { F.PageForm.frame top.now root.new ≡ F.PageForm.frame top.now root.old }
     ensures inner { V.PageView.tells → OnOk result (RootOrGoes (pages_of (F.PageForm.node form.now) (V.PageView.image view.old)) (nodes (F.PageForm.node form.now) draft.new.pages.items (V.PageView.image view.old))
         (F.PageForm.node top.now root.old) (F.PageForm.node top.now root.new) freed.new.items) }
     ensures absent { IfOk result (λ found. IfNone found ((root.new ≡ root.old) × (draft.new.pages.items ≡ []) × (freed.new.items ≡ []))) }
@@ -82,6 +85,7 @@ fn root_loses<F: PageLoss>(
     requires there { HasChildAt place (F.PageForm.node top.now root.old) }
     ensures entry { result ≡ shrunk.entry }
     ensures did { RootLost place shrunk.kept (F.PageForm.node top.now root.old) (F.PageForm.node top.now root.new) }
+    ensures frame { F.PageForm.frame top.now root.new ≡ F.PageForm.frame top.now root.old }
 {
     let Shrunk {
         entry,

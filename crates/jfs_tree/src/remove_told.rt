@@ -9,6 +9,7 @@ ghost use Rattle.jfs_tree.specs.Changes.{TellsChanges, TellsGone};
 ghost use Rattle.jfs_tree.specs.Edit.{IsPoint};
 ghost use Rattle.jfs_tree.specs.Leftmost.{StaysLeftmost};
 ghost use Rattle.jfs_tree.specs.Path.{broken_on_way, TellsBroken};
+ghost use Rattle.jfs_tree.specs.Frames.{KeepsFramesTold};
 ghost use Rattle.jfs_tree.specs.Fresh.{HasPages};
 ghost use Rattle.jfs_tree.specs.Removes.{RemovesTold, TellsFreed, page_frees, page_no_redos, page_marks};
 ghost use Rattle.jfs_tree.specs.Root.{NamesBroken};
@@ -55,6 +56,8 @@ pub fn remove_and_tell<V: PageView, F: PageLoss + PageLinks>(
     ensures left { V.PageView.tells → OnOk result (StaysLeftmost F.PageForm.scale (F.PageForm.node form.now) (V.PageView.block_count view.old) (page_of (V.PageView.image view.old))
         (F.PageForm.node top.now root.old) (F.PageForm.node top.now root.new) tx.old tx.new) }
     ensures edits { V.PageView.tells → IfOk result (λ found. IfSome found (λ entry. TellsGone (V.PageView.block_count view.old) kind (page_of (V.PageView.image view.old)) tx.old tx.new)) }
+    ensures framed { V.PageView.tells → OnOk result (KeepsFramesTold (F.PageForm.frame form.now) (V.PageView.block_count view.old) (page_of (V.PageView.image view.old)) tx.old tx.new) }
+    ensures frame { F.PageForm.frame top.now root.new ≡ F.PageForm.frame top.now root.old }
     ensures absent { IfOk result (λ found. IfNone found ((root.new ≡ root.old) × (tx.new ≡ tx.old))) }
     ensures kept { OnErr result ((root.new ≡ root.old) × (tx.new ≡ tx.old)) }
     ensures bad { V.PageView.tells → IfErr result (λ e.

@@ -1,7 +1,10 @@
 //! A page that takes an entry or a child, perhaps with a new page behind it.
 
 ghost use Rattle.std.specs.Prelude.{◌≡◌, ◌==◌, ◌+◌, if◌then◌else◌, ◌<◌, ◌≤◌, ℕ, List, length, OnOk, IfOk, IfErr, IfSome, Some};
-ghost use Rattle.jfs_tree.specs.Form.{GoesBehind, IsFront, as_child};
+ghost use Rattle.jfs_tree.specs.Apart.{ApartAt};
+ghost use Rattle.jfs_tree.specs.Form.{GoesBehind, IsFront, IsLeaf, as_child};
+ghost use Rattle.jfs_tree.specs.Frames.{TakesFramed};
+ghost use Rattle.jfs_tree.specs.Removal.{HasChildAt};
 ghost use Rattle.jfs_tree.specs.Room.{TakesOne};
 ghost use Rattle.jfs_tree.specs.Filled.{HereFilled, ChildFilled};
 ghost use Rattle.jfs_tree.specs.Refusal.{HereCut, ChildCut, HereClash, ChildClash};
@@ -26,16 +29,19 @@ pub(crate) fn take_here<F: PageForm>(
     requires size { F.PageForm.size form.now ≡ 4096 }
     requires below { F.PageForm.is_root form.now → ⊥ }
     requires good { F.PageForm.is_good form.now x.now }
+    requires leaf { IsLeaf (F.PageForm.node form.now bytes.0) }
     requires enough { 0 < length fresh.old.items }
     ensures did { HereDid (F.PageForm.node form.now) F.PageForm.scale x.now bytes.0 page draft.old.pages.items draft.new.pages.items fresh.old.items fresh.new.items result }
     ensures used { IfOk result (λ more. length fresh.old.items ≤ length fresh.new.items + 1) }
     ensures room { IfOk result (λ more. TakesOne ((F.PageForm.is_full form.now bytes.0) × (F.PageForm.has_no_room form.now bytes.0 x.now)) more fresh.old.items fresh.new.items) }
     ensures filled { F.PageForm.fills → IfOk result (λ more. HereFilled (F.PageForm.node form.now) F.PageForm.scale x.now bytes.0 page last draft.old.pages.items draft.new.pages.items fresh.old.items more) }
     ensures keeps { OnOk result (StaysOff page draft.old.pages.items draft.new.pages.items fresh.old.items fresh.new.items) }
+    ensures framed { OnOk result (TakesFramed (F.PageForm.frame form.now) (F.PageForm.new_frame form.now) bytes.0 page draft.old.pages.items draft.new.pages.items fresh.old.items fresh.new.items) }
     ensures below { StaysBelow fresh.old.items fresh.new.items result }
     ensures front { IsFront fresh.new.items fresh.old.items }
     ensures key { IfOk result (λ more. IfSome more (λ s. F.PageForm.is_key s.key)) }
     ensures cut { IfOk result (λ more. HereCut F.PageForm.scale x.now (F.PageForm.node form.now bytes.0) more) }
+    ensures apart { OnOk result (ApartAt F.PageForm.scale x.now (F.PageForm.node form.now bytes.0)) }
     ensures clash { IfErr result (λ e. HereClash F.PageForm.scale x.now (F.PageForm.node form.now bytes.0) page e) }
 {
     match form.put(&mut bytes.0, x) {
@@ -63,17 +69,21 @@ fn split_here<F: PageForm>(
     requires size { F.PageForm.size form.now ≡ 4096 }
     requires below { F.PageForm.is_root form.now → ⊥ }
     requires good { F.PageForm.is_good form.now x.now }
+    requires leaf { IsLeaf (F.PageForm.node form.now bytes.0) }
     requires enough { 0 < length fresh.old.items }
     requires full { (F.PageForm.is_full form.now bytes.0) × (F.PageForm.has_no_room form.now bytes.0 x.now) }
+    requires apart { ApartAt F.PageForm.scale x.now (F.PageForm.node form.now bytes.0) }
     ensures did { HereDid (F.PageForm.node form.now) F.PageForm.scale x.now bytes.0 page draft.old.pages.items draft.new.pages.items fresh.old.items fresh.new.items result }
     ensures used { IfOk result (λ more. length fresh.old.items ≤ length fresh.new.items + 1) }
     ensures room { IfOk result (λ more. TakesOne ((F.PageForm.is_full form.now bytes.0) × (F.PageForm.has_no_room form.now bytes.0 x.now)) more fresh.old.items fresh.new.items) }
     ensures filled { F.PageForm.fills → IfOk result (λ more. HereFilled (F.PageForm.node form.now) F.PageForm.scale x.now bytes.0 page last draft.old.pages.items draft.new.pages.items fresh.old.items more) }
     ensures keeps { OnOk result (StaysOff page draft.old.pages.items draft.new.pages.items fresh.old.items fresh.new.items) }
+    ensures framed { OnOk result (TakesFramed (F.PageForm.frame form.now) (F.PageForm.new_frame form.now) bytes.0 page draft.old.pages.items draft.new.pages.items fresh.old.items fresh.new.items) }
     ensures below { StaysBelow fresh.old.items fresh.new.items result }
     ensures front { IsFront fresh.new.items fresh.old.items }
     ensures key { IfOk result (λ more. IfSome more (λ s. F.PageForm.is_key s.key)) }
     ensures cut { IfOk result (λ more. HereCut F.PageForm.scale x.now (F.PageForm.node form.now bytes.0) more) }
+    ensures apart { OnOk result (ApartAt F.PageForm.scale x.now (F.PageForm.node form.now bytes.0)) }
     ensures clash { IfErr result (λ e. HereClash F.PageForm.scale x.now (F.PageForm.node form.now bytes.0) page e) }
 {
     let Some(q) = fresh.pop() else {
@@ -99,6 +109,7 @@ pub(crate) fn take_child<F: PageForm>(
     requires size { F.PageForm.size form.now ≡ 4096 }
     requires below { F.PageForm.is_root form.now → ⊥ }
     requires within { sibling.page < F.PageForm.blocks form.now }
+    requires there { HasChildAt place (F.PageForm.node form.now bytes.0) }
     requires key { F.PageForm.is_key sibling.key }
     requires enough { 0 < length fresh.old.items }
     ensures did { ChildDid (F.PageForm.node form.now) F.PageForm.scale bytes.0 page place sibling draft.old.pages.items draft.new.pages.items fresh.old.items fresh.new.items result }
@@ -106,6 +117,7 @@ pub(crate) fn take_child<F: PageForm>(
     ensures room { IfOk result (λ more. TakesOne (F.PageForm.is_full form.now bytes.0) more fresh.old.items fresh.new.items) }
     ensures filled { F.PageForm.fills → IfOk result (λ more. ChildFilled (F.PageForm.node form.now) F.PageForm.scale bytes.0 page place last (Some sibling) draft.old.pages.items draft.new.pages.items fresh.old.items more) }
     ensures keeps { OnOk result (StaysOff page draft.old.pages.items draft.new.pages.items fresh.old.items fresh.new.items) }
+    ensures framed { OnOk result (TakesFramed (F.PageForm.frame form.now) (F.PageForm.new_frame form.now) bytes.0 page draft.old.pages.items draft.new.pages.items fresh.old.items fresh.new.items) }
     ensures below { StaysBelow fresh.old.items fresh.new.items result }
     ensures front { IsFront fresh.new.items fresh.old.items }
     ensures key { IfOk result (λ more. IfSome more (λ s. F.PageForm.is_key s.key)) }
@@ -138,6 +150,7 @@ fn split_child<F: PageForm>(
     requires size { F.PageForm.size form.now ≡ 4096 }
     requires below { F.PageForm.is_root form.now → ⊥ }
     requires within { sibling.page < F.PageForm.blocks form.now }
+    requires there { HasChildAt place (F.PageForm.node form.now bytes.0) }
     requires key { F.PageForm.is_key sibling.key }
     requires enough { 0 < length fresh.old.items }
     requires full { F.PageForm.is_full form.now bytes.0 }
@@ -147,6 +160,7 @@ fn split_child<F: PageForm>(
     ensures room { IfOk result (λ more. TakesOne (F.PageForm.is_full form.now bytes.0) more fresh.old.items fresh.new.items) }
     ensures filled { F.PageForm.fills → IfOk result (λ more. ChildFilled (F.PageForm.node form.now) F.PageForm.scale bytes.0 page place last (Some sibling) draft.old.pages.items draft.new.pages.items fresh.old.items more) }
     ensures keeps { OnOk result (StaysOff page draft.old.pages.items draft.new.pages.items fresh.old.items fresh.new.items) }
+    ensures framed { OnOk result (TakesFramed (F.PageForm.frame form.now) (F.PageForm.new_frame form.now) bytes.0 page draft.old.pages.items draft.new.pages.items fresh.old.items fresh.new.items) }
     ensures below { StaysBelow fresh.old.items fresh.new.items result }
     ensures front { IsFront fresh.new.items fresh.old.items }
     ensures key { IfOk result (λ more. IfSome more (λ s. F.PageForm.is_key s.key)) }

@@ -1,7 +1,9 @@
 //! A root that takes an entry or a child; one without room moves to a new page first.
 
 ghost use Rattle.std.specs.Prelude.{◌≡◌, ◌+◌, ◌<◌, ◌≤◌, ℕ, List, OnOk, IfErr, length};
+ghost use Rattle.jfs_tree.specs.Apart.{ApartAt};
 ghost use Rattle.jfs_tree.specs.Form.{AllBelow, IsFront};
+ghost use Rattle.jfs_tree.specs.Frames.{NamesTaken};
 ghost use Rattle.jfs_tree.specs.Call.{StaysTaken};
 ghost use Rattle.jfs_tree.specs.Spells.{no_page};
 ghost use Rattle.jfs_tree.specs.Room.{RootRoom, RootChildRoom};
@@ -34,9 +36,12 @@ pub(crate) fn root_takes_here<F: PageForm>(
     ensures did { RootHereDid (F.PageForm.node form.now) F.PageForm.scale x.now (F.PageForm.node top.now root.old) (F.PageForm.node top.now root.new) draft.old.pages.items draft.new.pages.items fresh.old.items fresh.new.items result }
     ensures room { OnOk result (RootRoom ((F.PageForm.is_full top.now root.old) × (F.PageForm.has_no_room top.now root.old x.now)) fresh.old.items fresh.new.items) }
     ensures keeps { OnOk result (StaysTaken draft.old.pages.items draft.new.pages.items fresh.old.items fresh.new.items) }
+    ensures names { OnOk result (NamesTaken (F.PageForm.frame form.now) (F.PageForm.new_frame form.now) draft.new.pages.items fresh.old.items fresh.new.items) }
+    ensures frame { F.PageForm.frame top.now root.new ≡ F.PageForm.frame top.now root.old }
     ensures below { AllBelow (F.PageForm.blocks top.now) fresh.new.items }
     ensures front { IsFront fresh.new.items fresh.old.items }
     ensures clash { IfErr result (λ e. HereClash F.PageForm.scale x.now (F.PageForm.node top.now root.old) no_page e) }
+    ensures apart { OnOk result (ApartAt F.PageForm.scale x.now (F.PageForm.node top.now root.old)) }
 {
     match top.put(root, x) {
         Put::Done => Ok(()),
@@ -68,6 +73,8 @@ fn moves_with_entry<F: PageForm>(
     ensures did { RootHereDid (F.PageForm.node form.now) F.PageForm.scale x.now (F.PageForm.node top.now root.old) (F.PageForm.node top.now root.new) draft.old.pages.items draft.new.pages.items fresh.old.items fresh.new.items result }
     ensures one { length fresh.old.items ≡ length fresh.new.items + 1 }
     ensures keeps { OnOk result (StaysTaken draft.old.pages.items draft.new.pages.items fresh.old.items fresh.new.items) }
+    ensures names { OnOk result (NamesTaken (F.PageForm.frame form.now) (F.PageForm.new_frame form.now) draft.new.pages.items fresh.old.items fresh.new.items) }
+    ensures frame { F.PageForm.frame top.now root.new ≡ F.PageForm.frame top.now root.old }
     ensures below { AllBelow (F.PageForm.blocks top.now) fresh.new.items }
     ensures front { IsFront fresh.new.items fresh.old.items }
     ensures clash { IfErr result (λ e. HereClash F.PageForm.scale x.now (F.PageForm.node top.now root.old) no_page e) }
@@ -110,6 +117,8 @@ pub(crate) fn root_takes_child<F: PageForm>(
     ensures did { RootChildDid (F.PageForm.node form.now) F.PageForm.scale levels place child (F.PageForm.node top.now root.old) (F.PageForm.node top.now root.new) draft.old.pages.items draft.new.pages.items fresh.old.items fresh.new.items result }
     ensures room { RootChildRoom F.PageForm.scale ((F.PageForm.is_full top.now root.old) × (F.PageForm.has_no_place top.now root.old child.key)) place child (F.PageForm.node top.now root.old) fresh.old.items fresh.new.items result }
     ensures keeps { OnOk result (StaysTaken draft.old.pages.items draft.new.pages.items fresh.old.items fresh.new.items) }
+    ensures names { OnOk result (NamesTaken (F.PageForm.frame form.now) (F.PageForm.new_frame form.now) draft.new.pages.items fresh.old.items fresh.new.items) }
+    ensures frame { F.PageForm.frame top.now root.new ≡ F.PageForm.frame top.now root.old }
     ensures below { AllBelow (F.PageForm.blocks top.now) fresh.new.items }
     ensures front { IsFront fresh.new.items fresh.old.items }
     ensures clash { IfErr result (λ e. RootClash F.PageForm.scale (F.PageForm.node top.now root.old) levels place (λ key. (F.PageForm.is_full top.now root.old) × (F.PageForm.has_no_place top.now root.old key)) child e) }
@@ -157,6 +166,8 @@ fn moves_with_child<F: PageForm>(
     ensures did { RootChildDid (F.PageForm.node form.now) F.PageForm.scale levels place child (F.PageForm.node top.now root.old) (F.PageForm.node top.now root.new) draft.old.pages.items draft.new.pages.items fresh.old.items fresh.new.items result }
     ensures one { length fresh.old.items ≡ length fresh.new.items + 1 }
     ensures keeps { OnOk result (StaysTaken draft.old.pages.items draft.new.pages.items fresh.old.items fresh.new.items) }
+    ensures names { OnOk result (NamesTaken (F.PageForm.frame form.now) (F.PageForm.new_frame form.now) draft.new.pages.items fresh.old.items fresh.new.items) }
+    ensures frame { F.PageForm.frame top.now root.new ≡ F.PageForm.frame top.now root.old }
     ensures below { AllBelow (F.PageForm.blocks top.now) fresh.new.items }
     ensures front { IsFront fresh.new.items fresh.old.items }
     ensures clash { IfErr result (λ e. RootClash F.PageForm.scale (F.PageForm.node top.now root.old) levels place (λ key. (F.PageForm.is_full top.now root.old) × (F.PageForm.has_no_place top.now root.old key)) child e) }

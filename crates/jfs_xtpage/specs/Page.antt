@@ -5,7 +5,7 @@ use Rattle.jfs_bits.specs.declared.descriptor.Pxd.{Pxd}
 use Rattle.jfs_bits.specs.declared.rule.Rule.{Rule}
 use Rattle.jfs_bits.specs.declared.rule.Rule.TheVariants as rules
 use Rattle.jfs_bits.specs.Broken.{AllHold}
-use Rattle.jfs_bits.specs.Field.{field_of}
+use Rattle.jfs_bits.specs.Field.{field_of, range_of}
 use Rattle.jfs_bits.specs.Descriptor.{pxd_of}
 use Rattle.jfs_bits.specs.Extent.{xad_of}
 use Rattle.jfs_xtpage.specs.declared.head.XtForm.{XtForm}
@@ -95,6 +95,10 @@ pub record IsLaidOut (bytes : List ℕ) : Type 0 where
   pub least : 2 ≤ field_of bytes 18 2
   pub most : field_of bytes 18 2 ≤ field_of bytes 20 2
   pub within : 16 * field_of bytes 20 2 ≤ length bytes
+
+-- the bytes behind the slots: an inode has other things there than its root
+unfoldable pub behind_slots : List ℕ → List ℕ
+behind_slots bytes = range_of bytes (16 * field_of bytes 20 2) (length bytes - 16 * field_of bytes 20 2)
 
 -- the slots of a new page
 abbrev pub slots_of : XtForm → ℕ

@@ -4,7 +4,7 @@ ghost use Rattle.std.specs.Prelude.{◌≡◌, ◌<◌, ◌≤◌, ◌+◌, ◌-
 ghost use Rattle.jfs_bits.specs.Extent.{FitsXad};
 ghost use Rattle.jfs_bits.specs.Descriptor.{FitsPxd};
 ghost use Rattle.jfs_bits.specs.Field.{field_of, put_bytes};
-ghost use Rattle.jfs_xtpage.specs.Page.{bytes_of, head_of, count_of, entries_of, new_head, new_flag, slots_of, kind_flag, IsLaidOut};
+ghost use Rattle.jfs_xtpage.specs.Page.{bytes_of, head_of, count_of, entries_of, new_head, new_flag, slots_of, kind_flag, behind_slots, IsLaidOut};
 
 use crate::head::XtForm;
 use jfs_bits::{Pxd, Xad, get_u8, get_u16, put_pxd, put_u8, put_u16, put_u64, put_xad};
@@ -18,6 +18,7 @@ pub fn xt_link(bytes: &mut [u8], next: u64, prev: u64)
     requires { 32 ≤ length bytes.old }
     ensures head { head_of bytes.new ≡ record (head_of bytes.old) { next = next; prev = prev } }
     ensures entries { entries_of bytes.new ≡ entries_of bytes.old }
+    ensures tail { IsLaidOut bytes.old → behind_slots bytes.new ≡ behind_slots bytes.old }
 {
     put_u64(bytes, 0, next);
     put_u64(bytes, 8, prev);
@@ -29,6 +30,7 @@ pub fn xt_cut(bytes: &mut [u8], keep: u16)
     requires keep { keep ≤ count_of bytes.old }
     ensures head { head_of bytes.new ≡ record (head_of bytes.old) { nextindex = keep + 2 } }
     ensures entries { entries_of bytes.new ≡ take keep (entries_of bytes.old) }
+    ensures tail { IsLaidOut bytes.old → behind_slots bytes.new ≡ behind_slots bytes.old }
 {
     let _end = get_u16(bytes, 18);
     put_u16(bytes, 18, keep + 2);
@@ -39,6 +41,7 @@ pub fn xt_set_kind(bytes: &mut [u8], leaf: bool)
     requires { 32 ≤ length bytes.old }
     ensures head { head_of bytes.new ≡ record (head_of bytes.old) { flag = kind_flag (head_of bytes.old).flag leaf } }
     ensures entries { entries_of bytes.new ≡ entries_of bytes.old }
+    ensures tail { IsLaidOut bytes.old → behind_slots bytes.new ≡ behind_slots bytes.old }
 {
     let flag = get_u8(bytes, 16);
     let kind = if leaf { 2 } else { 4 };
@@ -52,6 +55,7 @@ pub fn xt_put(bytes: &mut [u8], i: u16, x: Xad)
     requires fits { FitsXad x }
     ensures head { head_of bytes.new ≡ head_of bytes.old }
     ensures entries { entries_of bytes.new ≡ take i (entries_of bytes.old) ++ x ∷ drop (i + 1) (entries_of bytes.old) }
+    ensures tail { behind_slots bytes.new ≡ behind_slots bytes.old }
 {
     put_xad(bytes, 32 + 16 * usize::from(i), x);
 }
@@ -64,6 +68,7 @@ pub fn xt_insert(bytes: &mut [u8], i: u16, x: Xad) -> Result<(), Full>
     ensures room { OnOk result (field_of bytes.old 18 2 < field_of bytes.old 20 2) }
     ensures head { OnOk result (head_of bytes.new ≡ record (head_of bytes.old) { nextindex = field_of bytes.old 18 2 + 1 }) }
     ensures entries { OnOk result (entries_of bytes.new ≡ take i (entries_of bytes.old) ++ x ∷ drop i (entries_of bytes.old)) }
+    ensures tail { behind_slots bytes.new ≡ behind_slots bytes.old }
     ensures full { OnErr result ((bytes.new ≡ bytes.old) × (field_of bytes.old 18 2 ≡ field_of bytes.old 20 2)) }
 {
     let next = get_u16(bytes, 18);
@@ -85,6 +90,8 @@ pub fn xt_split(from: &mut [u8], to: &mut [u8], keep: u16)
     requires room { (32 ≤ length to.old) × (16 * field_of from.old 18 2 ≤ length to.old + 16 * keep) }
     ensures head { head_of from.new ≡ record (head_of from.old) { nextindex = keep + 2 } }
     ensures entries { entries_of from.new ≡ take keep (entries_of from.old) }
+    ensures tail { behind_slots from.new ≡ behind_slots from.old }
+    ensures page { IsLaidOut from.new }
     ensures to_head { head_of to.new ≡ record (head_of to.old) { nextindex = field_of from.old 18 2 - keep } }
     ensures to_entries { entries_of to.new ≡ drop keep (entries_of from.old) }
 {

@@ -6,7 +6,9 @@ use Rattle.jfs_disk.specs.Image.{Image, page_of}
 use Rattle.jfs_ranges.specs.declared.edit.Edit.{Edit}
 use Rattle.jfs_tree.specs.Walk.{Node}
 use Rattle.jfs_tree.specs.Root.{RefusesWhereBad}
+use Rattle.jfs_tree.specs.Apart.{ApartOnWay}
 use Rattle.jfs_tree.specs.Filled.{NoThinTold}
+use Rattle.jfs_tree.specs.Frames.{FramesTold}
 use Rattle.jfs_tree.specs.Fresh.{AllPages, HasPages}
 use Rattle.jfs_tree.specs.Adds.{read_as, on_page, AddsTold, RefusesWhereFull}
 use Rattle.jfs_tree.specs.Room.{FullDown, FullUp, FullFrom, TakesWhereFull}
@@ -15,10 +17,10 @@ use Rattle.jfs_tree.specs.declared.form.TreeError.TheVariants.{View, Bad, Memory
 use Rattle.jfs_xtpage.specs.declared.head.XtForm.{XtForm}
 use Rattle.jfs_xtpage.specs.declared.head.XtForm.TheVariants.{Full}
 use Rattle.jfs_xtpage.specs.Page.{entries_of}
-use Rattle.jfs_xtree.specs.Node.{xt_scale, xt_node, is_within, all_within, child_of, HasNoRoom}
+use Rattle.jfs_xtree.specs.Node.{xt_scale, xt_node, frame_of, new_frame, is_within, all_within, child_of, HasNoRoom}
 use Rattle.jfs_xtree.specs.Spells.{root_form, page_nodes, root_node, tree_error, broken_for}
 use Rattle.jfs_xtree.specs.Errors.{handed_on}
-use Rattle.jfs_xtree.specs.Adding.{AddsExtent, NoRoomAtRoot, NoRoomOnWay, TakesPages, RefusesFull, KeepsNoThin, ClashesFor, IsFullAndDeep, AddTellsWay}
+use Rattle.jfs_xtree.specs.Adding.{AddsExtent, IsApartOnWay, NamesPages, NoRoomAtRoot, NoRoomOnWay, TakesPages, RefusesFull, KeepsNoThin, ClashesFor, IsFullAndDeep, AddTellsWay}
 use Rattle.jfs_xtree.specs.declared.error.XtError.{XtError}
 use Rattle.jfs_tree.specs.Path.{broken_on_way}
 use Rattle.jfs_tree.specs.Refusal.{ClashesOnWay, HasAllLevels, TellsRefusal}
@@ -46,6 +48,16 @@ pub thin_as : (b blocks : ℕ) (form : XtForm) (image : Image) (x : Xad) (root a
 thin_as b blocks form image x root after free tx later eb ef told =
     subst (λ f. NoThinTold xt_scale (xt_node Full blocks) blocks (page_of image) x (xt_node f blocks root) (xt_node f blocks after) free tx later) ef
     (subst (λ n. NoThinTold xt_scale (xt_node Full n) blocks (page_of image) x (xt_node form n root) (xt_node form n after) free tx later) eb told)
+
+pub names_as : (b blocks : ℕ) (form : XtForm) (image : Image) (x : Xad) (root free left : List ℕ) (tx later : List Edit) → b ≡ blocks → form ≡ root_form (length root)
+    → FramesTold xt_scale (xt_node Full b) (frame_of Full) new_frame blocks x (page_of image) (xt_node form b root) free left tx later → NamesPages blocks (page_of image) x root free left tx later
+names_as b blocks form image x root free left tx later eb ef told =
+    subst (λ f. FramesTold xt_scale (xt_node Full blocks) (frame_of Full) new_frame blocks x (page_of image) (xt_node f blocks root) free left tx later) ef
+    (subst (λ n. FramesTold xt_scale (xt_node Full n) (frame_of Full) new_frame blocks x (page_of image) (xt_node form n root) free left tx later) eb told)
+
+pub apart_as : (b blocks : ℕ) (form : XtForm) (image : Image) (x : Xad) (root : List ℕ) → b ≡ blocks → form ≡ root_form (length root) → ApartOnWay xt_scale (read_as (xt_node Full b) (page_of image)) x (xt_node form b root) → IsApartOnWay blocks (page_of image) x root
+apart_as b blocks form image x root eb ef apart =
+    subst (λ f. ApartOnWay xt_scale (page_nodes blocks (page_of image)) x (xt_node f blocks root)) ef (subst (λ n. ApartOnWay xt_scale (read_as (xt_node Full n) (page_of image)) x (xt_node form n root)) eb apart)
 
 -- ---- what is refused
 

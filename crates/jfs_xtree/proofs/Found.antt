@@ -93,7 +93,7 @@ finds_before bytes place i x before rises at e is past =
     ∙ met bytes i (count_of bytes - i) x (omega (arith, e, m)) (subst (λ (y : Xad). x.offset < end_of y) is past) (omega (arith, begins, wide)))
 
 -- all before the place end before the extent
-ended : (bytes : List ℕ) (place : ℕ) (x : Xad) → rises_from 0 (entries_of bytes) ≡ true → IsPlace bytes x.offset place → ((i : ℕ) → place ≡ i + 1 → end_of (entry_of bytes i) ≤ x.offset) → (j : ℕ) → j < place → end_of (entry_of bytes j) ≤ x.offset
+pub ended : (bytes : List ℕ) (place : ℕ) (x : Xad) → rises_from 0 (entries_of bytes) ≡ true → IsPlace bytes x.offset place → ((i : ℕ) → place ≡ i + 1 → end_of (entry_of bytes i) ≤ x.offset) → (j : ℕ) → j < place → end_of (entry_of bytes j) ≤ x.offset
 ended bytes place x rises at last j l = elim (cases j place l) [
   | inl e ↦ last j e
   | inr h ↦ let m = at.most in let g = is_rising bytes rises j (omega (arith, h, m)) in let k = at.before (suc j) h in omega (arith, g, k)

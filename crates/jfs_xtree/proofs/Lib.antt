@@ -3,6 +3,8 @@ pub mod Reading
 pub mod Placing
 pub mod Pages
 pub mod Found
+pub mod Frames
+pub mod Apart
 pub mod Ways
 pub mod Inners
 pub mod Forms

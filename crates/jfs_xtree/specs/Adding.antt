@@ -5,13 +5,15 @@ use Rattle.jfs_bits.specs.declared.rule.Rule.TheVariants as rules
 use Rattle.jfs_bits.specs.declared.extent.Xad.{Xad}
 use Rattle.jfs_ranges.specs.declared.edit.Edit.{Edit}
 use Rattle.jfs_tree.specs.Adds.{on_page, AddsTold, RefusesWhereFull}
+use Rattle.jfs_tree.specs.Apart.{ApartOnWay}
 use Rattle.jfs_tree.specs.Filled.{NoThinTold}
+use Rattle.jfs_tree.specs.Frames.{FramesTold}
 use Rattle.jfs_tree.specs.Refusal.{ClashesOnWay, HasAllLevels}
 use Rattle.jfs_tree.specs.Spells.{no_page}
 use Rattle.jfs_tree.specs.Room.{FullFrom, TakesWhereFull}
 use Rattle.jfs_tree.specs.declared.form.TreeError.{TreeError}
 use Rattle.jfs_xtpage.specs.declared.head.XtForm.TheVariants.{Full}
-use Rattle.jfs_xtree.specs.Node.{xt_scale, xt_node, HasNoRoom}
+use Rattle.jfs_xtree.specs.Node.{xt_scale, xt_node, frame_of, new_frame, HasNoRoom}
 use Rattle.jfs_xtree.specs.Spells.{page_nodes, root_form, root_node}
 use Rattle.jfs_xtree.specs.declared.error.XtError.{XtError}
 use Rattle.jfs_xtree.specs.declared.error.XtError.TheVariants.{View, Bad}
@@ -24,6 +26,14 @@ AddsExtent blocks pages x root after free left tx later = AddsTold xt_scale (xt_
 -- And where each page but the last of its level held at least 64 entries, each does.
 abbrev pub KeepsNoThin : ℕ → (ℕ → List ℕ) → Xad → List ℕ → List ℕ → List ℕ → List Edit → List Edit → Type 0
 KeepsNoThin blocks pages x root after free tx later = NoThinTold xt_scale (xt_node Full blocks) blocks pages x (root_node blocks root) (xt_node (root_form (length root)) blocks after) free tx later
+
+-- What pages and root have beside kind, count, links and entries stays, and each page that was taken names itself, where the free blocks aren't pages of the tree.
+abbrev pub NamesPages : ℕ → (ℕ → List ℕ) → Xad → List ℕ → List ℕ → List ℕ → List Edit → List Edit → Type 0
+NamesPages blocks pages x root free left tx later = FramesTold xt_scale (xt_node Full blocks) (frame_of Full) new_frame blocks x pages (root_node blocks root) free left tx later
+
+-- The leaf to which the extent's way leads had no extent that shares a block of the file with it, whatever stands elsewhere.
+abbrev pub IsApartOnWay : ℕ → (ℕ → List ℕ) → Xad → List ℕ → Type 0
+IsApartOnWay blocks pages x root = ApartOnWay xt_scale (page_nodes blocks pages) x (root_node blocks root)
 
 -- no slot of a root is left
 abbrev pub NoRoomAtRoot : List ℕ → Type 0

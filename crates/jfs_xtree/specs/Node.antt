@@ -6,7 +6,7 @@ use Rattle.jfs_bits.specs.Extent.{FitsXad}
 use Rattle.jfs_xtpage.specs.declared.head.XtForm.{XtForm}
 use Rattle.jfs_xtpage.specs.declared.head.XtForm.TheVariants.{Root, Full, Small}
 use Rattle.jfs_xtpage.specs.declared.head.XtHead.{XtHead}
-use Rattle.jfs_xtpage.specs.Page.{head_of, entries_of, entry_of, count_of, end_of, rises_from}
+use Rattle.jfs_xtpage.specs.Page.{behind_slots, head_of, entries_of, entry_of, count_of, end_of, rises_from}
 use Rattle.jfs_tree.specs.Walk.{Child, Node, Leaf, Inner, Broken, Scale}
 
 -- An extent takes the blocks of its file from its offset on, up to its end. A key is the offset of the first entry below it; on the leftmost way it is 0.
@@ -91,6 +91,28 @@ abbrev pub IsRoot : XtForm → Type 0
 IsRoot Root = Unit {0}
 IsRoot Full = ⊥
 IsRoot Small = Unit {0}
+
+-- ---- what stays while extents come and go: the frame of a page
+
+-- the number of slots and the page's own descriptor; and of a root, which has no neighbours, its links and what stands behind its slots
+abbrev pub page_frame : XtHead → List ℕ
+page_frame head = head.maxentry ∷ head.at.len ∷ head.at.addr ∷ []
+
+abbrev pub root_frame : XtHead → List ℕ → List ℕ
+root_frame head behind = head.next ∷ head.prev ∷ head.maxentry ∷ head.at.len ∷ head.at.addr ∷ behind
+
+abbrev pub frame_of : XtForm → List ℕ → List ℕ
+frame_of Root bytes = root_frame (head_of bytes) (behind_slots bytes)
+frame_of Full bytes = page_frame (head_of bytes)
+frame_of Small bytes = root_frame (head_of bytes) (behind_slots bytes)
+
+-- a new page names itself: its own descriptor is one block at its own number
+abbrev pub new_frame : ℕ → List ℕ
+new_frame n = 256 ∷ 1 ∷ n ∷ []
+
+-- Of a root everything stays but its kind, its count and its entries.
+abbrev pub KeepsFrame : List ℕ → List ℕ → Type 0
+KeepsFrame old new = root_frame (head_of new) (behind_slots new) ≡ root_frame (head_of old) (behind_slots old)
 
 -- ---- for the prover alone
 

@@ -2,7 +2,7 @@
 
 ghost use Rattle.std.specs.Prelude.{◌≡◌, ◌<◌, ◌≤◌, ◌+◌, ◌*◌, ◌-◌, ◌^◌, ◌==◌, ◌++◌, ◌∷◌, ℕ, length, take, drop, true, false, if◌then◌else◌};
 ghost use Rattle.jfs_bits.specs.Extent.{FitsXad};
-ghost use Rattle.jfs_xtpage.specs.Page.{head_of, entries_of, entry_of, count_of, end_of, IsLaidOut, IsRising};
+ghost use Rattle.jfs_xtpage.specs.Page.{behind_slots, head_of, entries_of, entry_of, count_of, end_of, IsLaidOut, IsRising};
 ghost use Rattle.jfs_xtree.specs.Node.{all_within, child_entry, lowered, LeadsAt, TakesChild};
 
 use crate::place::end_of;
@@ -57,6 +57,7 @@ pub(crate) fn make_way(bytes: &mut [u8], place: u16, key: u64)
     requires place { place < count_of bytes.old }
     ensures head { head_of bytes.new ≡ head_of bytes.old }
     ensures entries { entries_of bytes.new ≡ take place (entries_of bytes.old) ++ lowered (place == 0) key (entry_of bytes.old place) ∷ drop (place + 1) (entries_of bytes.old) }
+    ensures tail { behind_slots bytes.new ≡ behind_slots bytes.old }
 {
     let before = xt_entry(bytes, place);
     if end_of(&before) > key {

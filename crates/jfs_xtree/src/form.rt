@@ -8,7 +8,7 @@ ghost use Rattle.jfs_tree.specs.Walk.{Child, Leaf};
 ghost use Rattle.jfs_tree.specs.Edit.{IsApart, KeysRise, with_entry};
 ghost use Rattle.jfs_tree.specs.Filled.{FillsBoth};
 ghost use Rattle.jfs_tree.specs.Form.{AtPlace, SplitsRows, SplitsChildren, as_child};
-ghost use Rattle.jfs_xtree.specs.Node.{xt_scale, xt_node, AreNeighbours, IsGood, HasNoRoom, IsRoot};
+ghost use Rattle.jfs_xtree.specs.Node.{xt_scale, xt_node, frame_of, new_frame, AreNeighbours, IsGood, HasNoRoom, IsRoot};
 ghost use Rattle.jfs_xtree.specs.Laws.{order};
 
 use crate::check::{check_page, is_leaf};
@@ -54,6 +54,10 @@ impl PageForm for XtPages {
     ghost fills = { Unit {0} };
 
     ghost below = { λ f. record { form = Full; blocks = f.blocks } };
+
+    ghost frame = { λ f. frame_of f.form };
+
+    ghost new_frame = { λ f. new_frame };
 
     fn way(&self, bytes: &[u8], x: &Xad) -> Result<Way, Rule> {
         let head = check_page(bytes, self.form, self.blocks)?;
@@ -103,6 +107,8 @@ impl PageForm for XtPages {
         ensures fills { Unit {0} → (es : List Xad) → xt_node self.now.form self.now.blocks bytes.old ≡ Leaf es → IsApart xt_scale x.now es →
             FillsBoth last (xt_node self.now.form self.now.blocks bytes.new) (xt_node self.now.form self.now.blocks right.new) }
         ensures key { result < 2 ^ 40 }
+        ensures frame { frame_of self.now.form bytes.new ≡ frame_of self.now.form bytes.old }
+        ensures new { (es : List Xad) → xt_node self.now.form self.now.blocks bytes.old ≡ Leaf es → IsApart xt_scale x.now es → frame_of self.now.form right.new ≡ new_frame q }
         ensures links { AreNeighbours n q (head_of bytes.old) (head_of bytes.new) (head_of right.new) }
     {
         let place = place_of(bytes, x.offset);
@@ -141,6 +147,8 @@ impl PageForm for XtPages {
         ensures fills { Unit {0} → (all : List (Child ℕ)) → AtPlace (xt_node self.now.form self.now.blocks bytes.old) place (as_child child.now) all → KeysRise xt_scale all →
             FillsBoth last (xt_node self.now.form self.now.blocks bytes.new) (xt_node self.now.form self.now.blocks right.new) }
         ensures key { result < 2 ^ 40 }
+        ensures frame { frame_of self.now.form bytes.new ≡ frame_of self.now.form bytes.old }
+        ensures new { (all : List (Child ℕ)) → AtPlace (xt_node self.now.form self.now.blocks bytes.old) place (as_child child.now) all → KeysRise xt_scale all → frame_of self.now.form right.new ≡ new_frame q }
         ensures links { AreNeighbours n q (head_of bytes.old) (head_of bytes.new) (head_of right.new) }
     {
         let before = place.min(usize::from(get_u16(bytes, 18) - 3)) as u16;

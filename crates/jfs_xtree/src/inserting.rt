@@ -7,9 +7,9 @@ ghost use Rattle.jfs_tree.specs.Changes.{TellsTaken};
 ghost use Rattle.jfs_tree.specs.Form.{AllBelow};
 ghost use Rattle.jfs_tree.specs.Fresh.{blocks_of, TakenInOrder};
 ghost use Rattle.jfs_tree.specs.Root.{RefusesWhereBad};
-ghost use Rattle.jfs_xtree.specs.Node.{xt_scale, IsGood};
+ghost use Rattle.jfs_xtree.specs.Node.{xt_scale, IsGood, KeepsFrame};
 ghost use Rattle.jfs_xtree.specs.Spells.{IsRootSize, root_node, page_nodes, tree_error, CarriesXt, broken_for};
-ghost use Rattle.jfs_xtree.specs.Adding.{AddsExtent, KeepsNoThin, TakesPages, RefusesFull, ClashesFor, IsFullAndDeep, AddTellsWay};
+ghost use Rattle.jfs_xtree.specs.Adding.{AddsExtent, IsApartOnWay, KeepsNoThin, NamesPages, TakesPages, RefusesFull, ClashesFor, IsFullAndDeep, AddTellsWay};
 
 use crate::error::XtError;
 use crate::find::{handed_on, root_form};
@@ -24,8 +24,9 @@ use std::alloc::Global;
 /// Adds an extent, which has a length, lies in the file system part and shares no block of the file with another. Pages that it needs, which is only where
 /// pages on its way down have no slot left, are taken from `fresh` in its order; the transaction gets the changed lines and new pages, and then an `Alloc`
 /// of each; the extent's own blocks are the caller's. After an `Err` root, `fresh` and transaction are as before. `Bad` names the first page on the extent's
-/// way that breaks a rule by itself; where none does, with rule `order` a page at which the extent clashes with what is stored. A tree of 8 levels gets no
-/// ninth: that is `Bad` with rule `deep` at the root.
+/// way that breaks a rule by itself; where none does, with rule `order` a page at which the extent clashes with what is stored: so an extent that shares a block
+/// with one of the leaf to which it goes is refused. A tree of 8 levels gets no ninth: that is `Bad` with rule `deep` at the root. Each new page names itself; of
+/// the root its number of slots, its own descriptor and what stands behind its slots stay.
 pub fn add<V: PageView>(
     alloc: Global,
     view: &mut V,
@@ -47,6 +48,9 @@ pub fn add<V: PageView>(
     ensures edits { V.PageView.tells → OnOk result (TellsTaken (V.PageView.block_count view.old) Xtree (page_of (V.PageView.image view.old)) (blocks_of fresh.old) (blocks_of fresh.new) tx.old tx.new) }
     ensures thin { V.PageView.tells → OnOk result (KeepsNoThin (V.PageView.block_count view.old) (page_of (V.PageView.image view.old)) x root.old root.new (blocks_of fresh.old) tx.old tx.new) }
     ensures room { V.PageView.tells → OnOk result (TakesPages (V.PageView.block_count view.old) (page_of (V.PageView.image view.old)) x root.old (blocks_of fresh.old) (blocks_of fresh.new)) }
+    ensures named { V.PageView.tells → OnOk result (NamesPages (V.PageView.block_count view.old) (page_of (V.PageView.image view.old)) x root.old (blocks_of fresh.old) (blocks_of fresh.new) tx.old tx.new) }
+    ensures frame { KeepsFrame root.old root.new }
+    ensures apart { V.PageView.tells → OnOk result (IsApartOnWay (V.PageView.block_count view.old) (page_of (V.PageView.image view.old)) x root.old) }
     ensures kept { OnErr result ((root.new ≡ root.old) × (fresh.new ≡ fresh.old) × (tx.new ≡ tx.old)) }
     ensures refused { V.PageView.tells → IfErr result (λ e. RefusesWhereBad xt_scale x (page_nodes (V.PageView.block_count view.old) (page_of (V.PageView.image view.old))) (root_node (V.PageView.block_count view.old) root.old) (blocks_of fresh.old) (tree_error e)) }
     ensures way { V.PageView.tells → AddTellsWay (broken_for (V.PageView.block_count view.old) (page_of (V.PageView.image view.old)) root.old x.offset) (ClashesFor (V.PageView.block_count view.old) (page_of (V.PageView.image view.old)) x root.old) (IsFullAndDeep (V.PageView.block_count view.old) (page_of (V.PageView.image view.old)) x root.old) result }

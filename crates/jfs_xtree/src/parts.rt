@@ -3,7 +3,7 @@
 ghost use Rattle.std.specs.Prelude.{◌≡◌, ◌<◌, ◌≤◌, ◌+◌, ◌*◌, ◌-◌, ◌/◌, ◌^◌, ◌++◌, ◌∷◌, [], ℕ, length, take, drop, true, false};
 ghost use Rattle.jfs_bits.specs.Extent.{FitsXad};
 ghost use Rattle.jfs_tree.specs.Edit.{IsCons};
-ghost use Rattle.jfs_xtpage.specs.Page.{bytes_of, head_of, entries_of, count_of, new_flag, slots_of, IsLaidOut};
+ghost use Rattle.jfs_xtpage.specs.Page.{behind_slots, bytes_of, head_of, entries_of, count_of, new_flag, slots_of, IsLaidOut};
 ghost use Rattle.jfs_xtree.specs.Node.{with_at, AreNeighbours, SameKind, BeginsAt};
 
 use jfs_bits::{Pxd, Xad, get_u16, get_u64};
@@ -18,6 +18,7 @@ pub(crate) fn insert(bytes: &mut [u8], place: u16, x: Xad)
     requires fits { FitsXad x }
     ensures head { head_of bytes.new ≡ record (head_of bytes.old) { nextindex = (head_of bytes.old).nextindex + 1 } }
     ensures entries { entries_of bytes.new ≡ with_at (entries_of bytes.old) place x }
+    ensures tail { behind_slots bytes.new ≡ behind_slots bytes.old }
 {
     match xt_insert(bytes, place, x) {
         Ok(()) => {}
@@ -53,6 +54,7 @@ pub(crate) fn part(
     ensures last { last ≡ true → place ≡ count_of bytes.old → (count_of bytes.new ≡ count_of bytes.old) × (count_of right.new ≡ 1) }
     ensures halves { (last ≡ true → place < count_of bytes.old) → (count_of bytes.old / 2 ≤ count_of bytes.new) × (count_of bytes.old / 2 ≤ count_of right.new) }
     ensures links { AreNeighbours n q (head_of bytes.old) (head_of bytes.new) (head_of right.new) }
+    ensures own { ((head_of bytes.new).at ≡ (head_of bytes.old).at) × ((head_of right.new).at ≡ record { len = 1; addr = q }) }
     ensures key { result < 2 ^ 40 }
 {
     xt_new(right, form, leaf, page_at(q));
@@ -79,6 +81,7 @@ fn move_part(last: bool, bytes: &mut [u8], right: &mut [u8], place: u16, x: Xad)
     ensures last { last ≡ true → place ≡ count_of bytes.old → (count_of bytes.new ≡ count_of bytes.old) × (count_of right.new ≡ 1) }
     ensures halves { (last ≡ true → place < count_of bytes.old) → (count_of bytes.old / 2 ≤ count_of bytes.new) × (count_of bytes.old / 2 ≤ count_of right.new) }
     ensures links { ((head_of bytes.new).next ≡ (head_of bytes.old).next) × ((head_of bytes.new).prev ≡ (head_of bytes.old).prev) }
+    ensures own { ((head_of bytes.new).at ≡ (head_of bytes.old).at) × ((head_of right.new).at ≡ (head_of right.old).at) }
 {
     let count = get_u16(bytes, 18) - 2;
     if last && place == count {
@@ -103,6 +106,7 @@ fn halve(bytes: &mut [u8], right: &mut [u8], place: u16, x: Xad, keep: u16)
     ensures some { (3 ≤ (head_of bytes.new).nextindex) × (3 ≤ (head_of right.new).nextindex) }
     ensures halves { (count_of bytes.old / 2 ≤ count_of bytes.new) × (count_of bytes.old / 2 ≤ count_of right.new) }
     ensures links { ((head_of bytes.new).next ≡ (head_of bytes.old).next) × ((head_of bytes.new).prev ≡ (head_of bytes.old).prev) }
+    ensures own { ((head_of bytes.new).at ≡ (head_of bytes.old).at) × ((head_of right.new).at ≡ (head_of right.old).at) }
 {
     xt_split(bytes, right, keep);
     if place <= keep {

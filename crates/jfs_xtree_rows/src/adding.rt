@@ -1,6 +1,8 @@
 //! Extents added at the end, before others and between them, beside the plain list; overlaps are refused.
 
-use crate::steps::Step::{self, Add, AddAll, AddBetween, AddDown, Agree, Pages, Refuse};
+use crate::steps::Step::{
+    self, Add, AddAll, AddBetween, AddDown, Agree, Cut, Narrow, Pages, Refuse, StaysNarrow,
+};
 use crate::steps::held;
 use std::test::*;
 
@@ -65,4 +67,46 @@ static BETWEEN: [Step; 3] = [AddAll(0, 300, 4, 1), AddBetween(300), Agree(1300)]
 #[test]
 fn extents_between_others(rt: HostRuntime) {
     assert_eq!(rt; held(rt.alloc(), &BETWEEN), 3);
+}
+
+/// The first leaf's extents are two blocks each from 30 on. What shares a block with the first one is refused though its place is the first, and so it is behind a second leaf's key.
+static AT_THE_FIRST_PLACE: [Step; 9] = [
+    AddAll(10, 264, 3, 2),
+    Pages(1),
+    Refuse(29, 2, 0),
+    Refuse(28, 24, 0),
+    AddAll(264, 265, 3, 2),
+    Pages(2),
+    Refuse(29, 2, 0),
+    Refuse(792, 1, 1),
+    Agree(900),
+];
+
+#[test]
+fn overlaps_at_the_first_place(rt: HostRuntime) {
+    assert_eq!(rt; held(rt.alloc(), &AT_THE_FIRST_PLACE), 9);
+}
+
+static BESIDE_ATTRIBUTES: [Step; 14] = [
+    Narrow,
+    Add(10, 3),
+    StaysNarrow,
+    // 8 entries have a slot each; with the ninth the root moves to a page
+    AddAll(10, 17, 3, 2),
+    Pages(0),
+    StaysNarrow,
+    AddAll(17, 18, 3, 2),
+    Pages(1),
+    StaysNarrow,
+    // 7 pages behind the first one, and the root moves once more
+    AddAll(18, 2050, 3, 2),
+    Pages(10),
+    StaysNarrow,
+    Cut(0, 10, 4093),
+    StaysNarrow,
+];
+
+#[test]
+fn a_root_beside_attributes(rt: HostRuntime) {
+    assert_eq!(rt; held(rt.alloc(), &BESIDE_ATTRIBUTES), 14);
 }

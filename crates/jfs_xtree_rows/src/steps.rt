@@ -24,6 +24,10 @@ pub enum Step {
     Agree(u64),
     /// The tree took so many pages.
     Pages(u32),
+    /// The root of a file without extents has 10 slots, and attributes stand behind them, as on volumes of other tools.
+    Narrow,
+    /// So it is still, and the root has no descriptor of its own.
+    StaysNarrow,
 }
 
 /// How many of the steps hold, from a new file on, before the first that doesn't.
@@ -55,10 +59,42 @@ fn holds(alloc: Global, file: &mut File, step: &Step) -> bool {
         Step::Cut(bound, pages, blocks) => cuts(alloc, file, *bound, *pages, *blocks),
         Step::Agree(end) => file.agrees(*end),
         Step::Pages(pages) => file.pages() == *pages,
+        Step::Narrow => {
+            narrow(&mut file.root);
+            true
+        }
+        Step::StaysNarrow => is_narrow(&file.root),
     }
 }
 
-/// Whether so many blocks from `offset` on are taken, and all pages are linked then.
+/// Gives a root 10 slots, and fills what stands behind them.
+fn narrow(root: &mut [u8; 288]) {
+    root[20] = 10;
+    for at in 160..288 {
+        root[at] = attribute(at);
+    }
+}
+
+fn is_narrow(root: &[u8; 288]) -> bool {
+    for at in 24..32 {
+        if root[at] != 0 {
+            return false;
+        }
+    }
+    for at in 160..288 {
+        if root[at] != attribute(at) {
+            return false;
+        }
+    }
+    root[20] == 10 && root[21] == 0
+}
+
+/// The byte of an attribute at a place of the inode.
+fn attribute(at: usize) -> u8 {
+    (at % 251) as u8
+}
+
+/// Whether so many blocks from `offset` on are taken, and all pages are linked then and name themselves.
 fn takes(alloc: Global, file: &mut File, offset: u32, len: u8) -> bool {
     file.adds(alloc, blocks(offset, len)).is_ok() && is_linked(file)
 }

@@ -13,6 +13,7 @@ use Rattle.jfs_tree.specs.Room.{GrowsLevel}
 use Rattle.jfs_dtree.specs.Adding.{NoRoomAtRoot, NoPlaceAtRoot, is_full_in, lacks_in, RefusesName, ClashesFor, AddTellsWay}
 use Rattle.jfs_dtree.proofs.Roots.{adds_as, refuses_as, takes_as, levels_as, found_no_room, shallow_follows, found_tells, deep_as, failed}
 use Rattle.jfs_dtree.proofs.Refused.{refusal_tells}
+use Rattle.jfs_dtree.proofs.Frames.{named_as, parent_kept}
 use Rattle.jfs_dtree.proofs.adding.add.Goals as goal
 
 pub returns-in-Ok-clause-adds : goal.returns-in-Ok-clause-adds
@@ -24,10 +25,10 @@ returns-in-Ok-clause-adds g c tells =
     let free = blocks_of c.args.fresh.now in
     let left = blocks_of c.add_and_tell.new.fresh in
     adds_as b count (g.V.PageView.block_count c.args.view.now) image (g.V.PageView.image c.args.view.now)
-    c.args.root.now c.set_parent.new.root c.args.name.now c.new-x.result c.args.inode free left c.args.tx.now c.add_and_tell.new.tx
+    c.args.root.now c.add_and_tell.new.root c.args.name.now c.new-x.result c.args.inode free left c.args.tx.now c.add_and_tell.new.tx
     (c.blocks-blocks.ensures ∙ sym c.is_deep.ensures.count_of_blocks) (c.is_deep.ensures.count_of_blocks ∙ c.find.ensures.count_of_blocks) (c.is_deep.ensures.image tells ∙ c.find.ensures.image tells) (c.new-x.ensures ∙ ap with_units c.as_slice.ensures)
     (λ es spelled. sym (c.in-Ok-None.ensures.found tells es spelled) ∙ c.in-Ok-None.field-0-is)
-    (subst (λ node. AddsTold name_scale (dt_node Full b) count (page_of image) c.new-x.result (dt_node Root b c.args.root.now) node free left c.args.tx.now c.add_and_tell.new.tx) (sym (c.set_parent.ensures.node b)) (c.in-Ok.ensures.adds tells))
+    (c.in-Ok.ensures.adds tells)
 
 pub returns-in-Ok-clause-levels : goal.returns-in-Ok-clause-levels
 returns-in-Ok-clause-levels g c tells =
@@ -37,12 +38,10 @@ returns-in-Ok-clause-levels g c tells =
     let image = g.V.PageView.image c.is_deep.new.view in
     let free = blocks_of c.args.fresh.now in
     levels_as b count (g.V.PageView.block_count c.args.view.now) image (g.V.PageView.image c.args.view.now)
-    c.args.root.now c.set_parent.new.root c.args.name.now c.new-x.result c.args.inode free c.args.tx.now c.add_and_tell.new.tx
+    c.args.root.now c.add_and_tell.new.root c.args.name.now c.new-x.result c.args.inode free c.args.tx.now c.add_and_tell.new.tx
     (c.blocks-blocks.ensures ∙ sym c.is_deep.ensures.count_of_blocks) (c.is_deep.ensures.count_of_blocks ∙ c.find.ensures.count_of_blocks) (c.is_deep.ensures.image tells ∙ c.find.ensures.image tells) (c.new-x.ensures ∙ ap with_units c.as_slice.ensures)
     (λ es spelled. sym (c.in-Ok-None.ensures.found tells es spelled) ∙ c.in-Ok-None.field-0-is)
-    (subst (λ node. LevelsTold name_scale (dt_node Full b) count (page_of image) c.new-x.result (dt_node Root b c.args.root.now) node free c.args.tx.now c.add_and_tell.new.tx
-    (GrowsLevel name_scale c.new-x.result (read_as (dt_node Full b) (page_of image)) (is_full_in (page_of image)) (lacks_in c.new-x.result (page_of image)) (dt_node Root b c.args.root.now) (NoRoomAtRoot c.new-x.result c.args.root.now) (NoPlaceAtRoot c.args.root.now) node))
-    (sym (c.set_parent.ensures.node b)) (c.in-Ok.ensures.levels tells))
+    (c.in-Ok.ensures.levels tells)
 
 pub returns-in-Err-add_and_tell-clause-refused : goal.returns-in-Err-add_and_tell-clause-refused
 returns-in-Err-add_and_tell-clause-refused g c tells =
@@ -101,3 +100,13 @@ pub returns-in-Ok-clause-edits : goal.returns-in-Ok-clause-edits
 returns-in-Ok-clause-edits g c tells =
     subst (λ blocks. TellsTaken blocks Dtree (page_of (g.V.PageView.image c.args.view.now)) (blocks_of c.args.fresh.now) (blocks_of c.add_and_tell.new.fresh) c.args.tx.now c.add_and_tell.new.tx) (c.is_deep.ensures.count_of_blocks ∙ c.find.ensures.count_of_blocks)
     (subst (λ image. TellsTaken (g.V.PageView.block_count c.is_deep.new.view) Dtree (page_of image) (blocks_of c.args.fresh.now) (blocks_of c.add_and_tell.new.fresh) c.args.tx.now c.add_and_tell.new.tx) (c.is_deep.ensures.image tells ∙ c.find.ensures.image tells) (c.in-Ok.ensures.edits tells))
+
+pub returns-in-Ok-clause-parent : goal.returns-in-Ok-clause-parent
+returns-in-Ok-clause-parent g c = parent_kept c.args.root.now c.add_and_tell.new.root c.add_and_tell.ensures.frame
+
+pub returns-in-Ok-clause-named : goal.returns-in-Ok-clause-named
+returns-in-Ok-clause-named g c tells =
+    let with_units = λ (units : List ℕ). (let e : NameEntry = record { name = units; inode = c.args.inode } in e) in
+    named_as c.blocks-blocks.result (g.V.PageView.block_count c.is_deep.new.view) (g.V.PageView.block_count c.args.view.now) (g.V.PageView.image c.is_deep.new.view) (g.V.PageView.image c.args.view.now)
+    c.args.root.now c.new-x.result (with_units c.args.name.now) (blocks_of c.args.fresh.now) (blocks_of c.add_and_tell.new.fresh) c.args.tx.now c.add_and_tell.new.tx
+    (c.blocks-blocks.ensures ∙ sym c.is_deep.ensures.count_of_blocks) (c.is_deep.ensures.count_of_blocks ∙ c.find.ensures.count_of_blocks) (c.is_deep.ensures.image tells ∙ c.find.ensures.image tells) (c.new-x.ensures ∙ ap with_units c.as_slice.ensures) (c.in-Ok.ensures.framed tells)

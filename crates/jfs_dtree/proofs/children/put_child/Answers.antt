@@ -8,6 +8,7 @@ use Rattle.jfs_dtree.proofs.Behind.{goes_behind, next_place}
 use Rattle.jfs_dtree.proofs.Moves.{kept_leaf}
 use Rattle.jfs_dtree.proofs.Offspring.{key_goes, room_stays}
 use Rattle.jfs_dtree.proofs.Grown.{more_children, child_put}
+use Rattle.jfs_dtree.proofs.Frames.{head_frame}
 use Rattle.jfs_dtree.proofs.children.put_child.Goals as goal
 
 pub returns-then-not-goes_behind-clause-child : goal.returns-then-not-goes_behind-clause-child
@@ -42,3 +43,6 @@ returns-clause-child c = λ blocks within all at rise.
     child_put c.args.form blocks c.insert.new.bytes (insert (lowered c.args.child.now.key (entries_of c.args.form c.args.bytes.now)) (suc c.args.place) (Below c.page_at.result c.args.child.now.key)) all c.insert.ensures.page
     (kept_leaf c.args.form c.make_way.new.bytes c.insert.new.bytes c.insert.ensures.head ∙ kept_leaf c.args.form c.args.bytes.now c.make_way.new.bytes c.make_way.ensures.head ∙ (c.if-not-is_sound_inner.ensures.sound refl).1) rows
     (more_children c.args.form blocks c.args.bytes.now c.args.place c.args.child.now.key c.args.child.now.page c.page_at.result all at c.page_at.ensures.is within)
+
+pub returns-clause-frame : goal.returns-clause-frame
+returns-clause-frame c = head_frame c.args.form c.make_way.new.bytes c.insert.new.bytes c.insert.ensures.head ∙ head_frame c.args.form c.args.bytes.now c.make_way.new.bytes c.make_way.ensures.head

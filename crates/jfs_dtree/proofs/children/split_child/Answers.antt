@@ -9,6 +9,7 @@ use Rattle.jfs_dtree.proofs.Nodes.{inner_is}
 use Rattle.jfs_dtree.proofs.Moves.{cons_some, entries_count, some_count, kept_leaf}
 use Rattle.jfs_dtree.proofs.Offspring.{child_goes, found_at, goes_once}
 use Rattle.jfs_dtree.proofs.Grown.{more_children, child_parted, parted_inner}
+use Rattle.jfs_dtree.proofs.Frames.{head_frame, left_frame}
 use Rattle.jfs_dtree.proofs.children.split_child.Goals as goal
 
 pub returns-then-is_leaf-clause-parts : goal.returns-then-is_leaf-clause-parts
@@ -59,3 +60,10 @@ pub returns-clause-rules : goal.returns-clause-rules
 returns-clause-rules c = λ blocks all at rise.
     parted_inner c.args.n c.args.q c.args.last c.args.bytes.now c.make_way.new.bytes c.part.new.bytes c.part.new.right c.units-key.result.now c.first_key.result _ c.page_at.result c.in-Err.next c.units-key.ensures.units c.page_at.ensures.is
     c.in-Err.ensures c.make_way.ensures.entries c.make_way.ensures.head c.part.ensures.parted c.part.ensures.neighbours c.first_key.ensures.is
+
+pub returns-clause-frame : goal.returns-clause-frame
+returns-clause-frame c =
+    left_frame c.args.n c.args.q c.make_way.new.bytes c.part.new.bytes c.part.new.right c.part.ensures.neighbours ∙ head_frame Full c.args.bytes.now c.make_way.new.bytes c.make_way.ensures.head
+
+pub returns-in_default-clause-frame : goal.returns-in_default-clause-frame
+returns-in_default-clause-frame c = head_frame Full c.args.bytes.now c.make_way.new.bytes c.make_way.ensures.head

@@ -1,6 +1,7 @@
 use Rattle.std.proofs.Common.{sym}
 use Rattle.jfs_dtree.proofs.Places.{place_within, missing_row}
 use Rattle.jfs_dtree.proofs.Losses.{name_taken}
+use Rattle.jfs_dtree.proofs.Frames.{head_frame}
 use Rattle.jfs_dtree.proofs.loss.take_name.Goals as goal
 
 pub returns-in_default-clause-takes : goal.returns-in_default-clause-takes
@@ -17,3 +18,6 @@ pub returns-clause-takes : goal.returns-clause-takes
 returns-clause-takes c = λ blocks.
     name_taken c.args.form blocks c.args.bytes.now c.dt_remove.new.bytes c.name.result.now c.args.x.now c.entry_at-entry.result c.in-Ok.place c.name.ensures.units c.in-Ok.ensures c.entry_at-entry.ensures
     c.dt_remove.ensures.sound c.dt_remove.ensures.entries c.dt_remove.ensures.head
+
+pub returns-clause-frame : goal.returns-clause-frame
+returns-clause-frame c = head_frame c.args.form c.args.bytes.now c.dt_remove.new.bytes c.dt_remove.ensures.head

@@ -1,4 +1,4 @@
-use Rattle.std.proofs.Common.{sym, ap, ◌∙◌, subst, ℕ, List}
+use Rattle.std.proofs.Common.{refl, sym, ap, ◌∙◌, subst, ℕ, List}
 use Rattle.jfs_disk.specs.Image.{page_of}
 use Rattle.jfs_name.specs.declared.name.NameEntry.{NameEntry}
 use Rattle.jfs_dtree.specs.Laws.{point}
@@ -6,6 +6,7 @@ use Rattle.jfs_dtree.specs.Removing.{MissesName}
 use Rattle.jfs_dtree.proofs.Roots.{first_as, told_failed}
 use Rattle.jfs_dtree.proofs.Lessened.{removes_as, missed_as, misses_as}
 use Rattle.jfs_dtree.proofs.Emptied.{left_as}
+use Rattle.jfs_dtree.proofs.Frames.{parent_kept}
 use Rattle.jfs_dtree.proofs.removing.remove.Goals as goal
 
 pub remove_and_tell-requires-clause-point : goal.remove_and_tell-requires-clause-point
@@ -14,8 +15,8 @@ remove_and_tell-requires-clause-point g c = point c.new-x.result
 pub returns-in-Ok-Some-clause-removes : goal.returns-in-Ok-Some-clause-removes
 returns-in-Ok-Some-clause-removes g c tells =
     let with_units = λ (units : List ℕ). (let e : NameEntry = record { name = units; inode = 0 } in e) in
-    removes_as c.blocks-blocks.result (g.V.PageView.block_count c.args.view.now) (g.V.PageView.image c.args.view.now) c.args.root.now c.remove_and_tell.new.root c.set_parent.new.root c.args.name.now c.new-x.result c.in-Ok-Some.entry c.in-Ok-Some.field-0 c.inode.result
-    c.args.tx.now c.remove_and_tell.new.tx c.blocks-blocks.ensures (c.new-x.ensures ∙ ap with_units c.as_slice.ensures) c.inode.ensures c.in-Ok-Some.field-0-is c.set_parent.ensures.node (c.in-Ok-Some.ensures.removes tells)
+    removes_as c.blocks-blocks.result (g.V.PageView.block_count c.args.view.now) (g.V.PageView.image c.args.view.now) c.args.root.now c.remove_and_tell.new.root c.remove_and_tell.new.root c.args.name.now c.new-x.result c.in-Ok-Some.entry c.in-Ok-Some.field-0 c.inode.result
+    c.args.tx.now c.remove_and_tell.new.tx c.blocks-blocks.ensures (c.new-x.ensures ∙ ap with_units c.as_slice.ensures) c.inode.ensures c.in-Ok-Some.field-0-is (λ blocks. refl) (c.in-Ok-Some.ensures.removes tells)
 
 pub returns-in-Ok-None-clause-missed : goal.returns-in-Ok-None-clause-missed
 returns-in-Ok-None-clause-missed g c tells =
@@ -46,5 +47,8 @@ returns-in-Err-clause-way g c tells =
 
 pub returns-in-Ok-Some-clause-left : goal.returns-in-Ok-Some-clause-left
 returns-in-Ok-Some-clause-left g c tells =
-    left_as c.blocks-blocks.result (g.V.PageView.block_count c.args.view.now) (g.V.PageView.image c.args.view.now) c.args.root.now c.remove_and_tell.new.root c.set_parent.new.root c.args.tx.now c.remove_and_tell.new.tx
-    c.blocks-blocks.ensures c.set_parent.ensures.node (c.in-Ok-Some.ensures.left tells)
+    left_as c.blocks-blocks.result (g.V.PageView.block_count c.args.view.now) (g.V.PageView.image c.args.view.now) c.args.root.now c.remove_and_tell.new.root c.remove_and_tell.new.root c.args.tx.now c.remove_and_tell.new.tx
+    c.blocks-blocks.ensures (λ blocks. refl) (c.in-Ok-Some.ensures.left tells)
+
+pub returns-in-Ok-Some-clause-parent : goal.returns-in-Ok-Some-clause-parent
+returns-in-Ok-Some-clause-parent g c = parent_kept c.args.root.now c.remove_and_tell.new.root c.remove_and_tell.ensures.frame

@@ -7,6 +7,7 @@ use Rattle.jfs_dtree.proofs.Nodes.{leaf_is}
 use Rattle.jfs_dtree.proofs.Places.{clash_row}
 use Rattle.jfs_dtree.proofs.Moves.{cons_some, entries_count}
 use Rattle.jfs_dtree.proofs.Keys.{leaf_split}
+use Rattle.jfs_dtree.proofs.Frames.{left_frame}
 use Rattle.jfs_dtree.proofs.split.split.Goals as goal
 
 pub returns-then-not-is_leaf-clause-parts : goal.returns-then-not-is_leaf-clause-parts
@@ -36,3 +37,6 @@ returns-clause-parts c = λ blocks es leaf apart.
     leaf_split blocks c.args.bytes.now c.part.new.bytes c.part.new.right c.name-2.result.now c.key_between.result c.args.x.now c.inode.result c.in-Err.place es leaf c.name-2.ensures.units c.inode.ensures
     (subst (GoesAt (names_of Full c.args.bytes.now) c.in-Err.place) (c.name.ensures.units ∙ sym c.name-2.ensures.units) (subst (IsFound (names_of Full c.args.bytes.now) c.name.result.now) c.in-Err.is c.dt_find.ensures))
     c.part.ensures.pages c.part.ensures.kind c.part.ensures.some.0 c.part.ensures.some.1 c.key_between.ensures.is
+
+pub returns-clause-frame : goal.returns-clause-frame
+returns-clause-frame c = left_frame c.args.n c.args.q c.args.bytes.now c.part.new.bytes c.part.new.right c.part.ensures.neighbours

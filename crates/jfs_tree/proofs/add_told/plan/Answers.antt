@@ -10,6 +10,8 @@ use Rattle.jfs_tree.proofs.Runs.{below_reverse, left_named, taken_named}
 use Rattle.jfs_tree.proofs.Adds.{refuses_as, adds_told, levels_told, told_as, ok_maps, full_as, takes_as}
 use Rattle.jfs_tree.proofs.FilledRoots.{thin_told}
 use Rattle.jfs_tree.proofs.Refusing.{tells_refused, tells_planned}
+use Rattle.jfs_tree.proofs.Framing.{framed_told}
+use Rattle.jfs_tree.proofs.Clearing.{planned_apart}
 use Rattle.jfs_tree.proofs.add_told.plan.Goals as goal
 
 pub add_linked-requires-clause-within : goal.add_linked-requires-clause-within
@@ -105,3 +107,20 @@ returns-in-Err-clause-way g c tells =
 pub returns-clause-way : goal.returns-clause-way
 returns-clause-way g c tells =
     tells_planned g.F.PageForm.scale (g.F.PageForm.node c.args.form.now) (g.V.PageView.image c.args.view.now) c.args.x.now (g.F.PageForm.node c.args.top.now c.args.root.now) (g.F.PageForm.is_full c.args.form.now) (λ bytes. g.F.PageForm.has_no_room c.args.form.now bytes c.args.x.now) (λ key. g.F.PageForm.is_full c.args.top.now c.args.root.now × g.F.PageForm.has_no_place c.args.top.now c.args.root.now key) c.new-draft.result.pages.items c.new-draft.ensures tt c.finish.result (c.in_default-add_linked.ensures.way tells) c.finish.ensures.read
+
+pub returns-clause-framed : goal.returns-clause-framed
+returns-clause-framed g c tells =
+    let blocks = g.V.PageView.block_count c.args.view.now in
+    let image = g.V.PageView.image c.args.view.now in
+    ok_maps c.finish.result (c.finish.ensures.told tells) c.finish.ensures.rest (λ p told rest.
+    framed_told g.F.PageForm.scale c.args.x.now (g.F.PageForm.frame c.args.form.now) (g.F.PageForm.new_frame c.args.form.now) (g.F.PageForm.node c.args.form.now) blocks image (g.F.PageForm.node c.args.top.now c.args.root.now)
+    c.new-draft.result.pages.items c.add_linked.new.draft.pages.items (blocks_of c.args.fresh.now) (blocks_of p.fresh) c.reversed-stack.result.items c.add_linked.new.fresh.items c.args.tx.now p.tx
+    c.new-draft.ensures (c.in_default-add_linked.ensures.framed tells)
+    (told_as (g.V.PageView.block_count c.add_linked.new.view) blocks (g.V.PageView.image c.add_linked.new.view) image c.add_linked.new.draft.pages.items c.args.tx.now p.tx c.add_linked.ensures.count_of_blocks (c.add_linked.ensures.image tells) told)
+    (c.reversed-stack.ensures ∙ ap reverse c.in-Ok-blocks_of.ensures)
+    (left_named (blocks_of c.args.fresh.now) c.as_slice-2.result.now c.reversed-stack.result.items c.add_linked.new.fresh.items (blocks_of p.fresh) c.len.result
+    (c.as_slice-2.ensures.value ∙ c.in-Ok.ensures) (c.len.ensures ∙ c.add_linked.new.fresh.ok.0) (c.reversed-stack.ensures ∙ ap reverse c.in-Ok-blocks_of.ensures) c.add_linked.ensures.front rest))
+
+pub returns-clause-apart : goal.returns-clause-apart
+returns-clause-apart g c tells =
+    planned_apart g.F.PageForm.scale c.args.x.now (g.F.PageForm.node c.args.form.now) (g.V.PageView.image c.args.view.now) (g.F.PageForm.node c.args.top.now c.args.root.now) c.new-draft.result.pages.items c.finish.result c.new-draft.ensures (c.in_default-add_linked.ensures.apart tells)

@@ -10,6 +10,8 @@ use Rattle.jfs_tree.proofs.Rooms.{grown_room}
 use Rattle.jfs_tree.proofs.BytesKept.{here_keeps, grown_keeps}
 use Rattle.jfs_tree.proofs.FilledSteps.{grown_filled}
 use Rattle.jfs_tree.proofs.Refusing.{tells_deep, tells_broken, tells_taken, tells_clash, tells_below, tells_grown}
+use Rattle.jfs_tree.proofs.Framing.{here_framed, grown_framed}
+use Rattle.jfs_tree.proofs.Clearing.{here_apart, down_apart}
 use Rattle.jfs_tree.proofs.grow.+add_below.Goals as goal
 
 pub returns-then-most-eq0-clause-bad : goal.returns-then-most-eq0-clause-bad
@@ -129,3 +131,37 @@ returns-in-Ok-add_below-clause-way g t c tells =
     (rw (sym (c.read.ensures.kept tells)) (c.in-Ok-add_below.ensures.room tells))
     (rw (sym (c.in-Ok.ensures.bytes tells), sym c.bytes.ensures.value) c.way_below.ensures.rise) (rw (sym (c.in-Ok.ensures.bytes tells), sym c.bytes.ensures.value) leads) (rw (sym (c.read.ensures.kept tells)) (c.in-Ok-add_below.ensures.way tells))
     (rw (sym (c.in-Ok.ensures.bytes tells)) c.take_grown.ensures.cut) (rw (sym (c.in-Ok.ensures.bytes tells)) c.take_grown.ensures.clash)
+
+pub returns-in-Ok-take_here-clause-framed : goal.returns-in-Ok-take_here-clause-framed
+returns-in-Ok-take_here-clause-framed g t c tells =
+    here_framed g.F.PageForm.scale c.args.x.now (g.F.PageForm.frame c.args.form.now) (g.F.PageForm.new_frame c.args.form.now) (nodes (g.F.PageForm.node c.args.form.now) c.args.draft.now.pages.items (g.V.PageView.image c.args.view.now)) (g.V.PageView.image c.args.view.now) c.in-Ok.bytes.0
+    c.args.draft.now.pages.items c.take_here.new.draft.pages.items c.args.page c.args.fresh.now.items c.take_here.new.fresh.items (c.in-Ok.ensures.bytes tells) c.in-Ok-take_here.ensures.framed
+
+pub returns-in-Ok-add_below-clause-framed : goal.returns-in-Ok-add_below-clause-framed
+returns-in-Ok-add_below-clause-framed g t c tells =
+    let leads = subst (λ w. Leads g.F.PageForm.scale c.args.x.now (g.F.PageForm.node c.args.form.now c.bytes.result.now) (Ok w)) c.in-Ok-Down.field-0-is c.in-Ok-Down.ensures.way in
+    grown_framed g.F.PageForm.scale c.args.x.now (g.F.PageForm.frame c.args.form.now) (g.F.PageForm.new_frame c.args.form.now) (g.F.PageForm.node c.args.form.now) c.args.draft.now.pages.items c.add_below.new.draft.pages.items c.take_grown.new.draft.pages.items (g.V.PageView.image c.args.view.now) (g.V.PageView.image c.read.new.view)
+    c.args.page c.in-Ok-Down.place c.in-Ok-Down.child c.in-Ok-add_below.grown.levels c.in-Ok.bytes.0 c.args.fresh.now.items c.add_below.new.fresh.items c.take_grown.new.fresh.items c.take_grown.result
+    (c.read.ensures.kept tells) (c.in-Ok.ensures.bytes tells) (rw (sym c.bytes.ensures.value) leads) (c.in-Ok-add_below.ensures.framed tells) c.take_grown.ensures.keeps c.take_grown.ensures.framed c.in-Ok-add_below.ensures.front c.take_grown.ensures.front c.take_grown.ensures.levels
+
+pub returns-in-Ok-take_here-clause-apart : goal.returns-in-Ok-take_here-clause-apart
+returns-in-Ok-take_here-clause-apart g t c tells =
+    let leads = subst (λ w. Leads g.F.PageForm.scale c.args.x.now (g.F.PageForm.node c.args.form.now c.bytes.result.now) (Ok w)) c.in-Ok-Here.field-0-is c.in-Ok-Here.ensures.way in
+    here_apart g.F.PageForm.scale c.args.x.now (nodes (g.F.PageForm.node c.args.form.now) c.args.draft.now.pages.items (g.V.PageView.image c.args.view.now)) c.args.most (c.args.most - 1) c.args.page (g.F.PageForm.node c.args.form.now c.in-Ok.bytes.0) leads.0
+    (let h = c.if-most-eq0.false in omega (arith, h)) (ap (g.F.PageForm.node c.args.form.now) (c.in-Ok.ensures.bytes tells)) (ap (g.F.PageForm.node c.args.form.now) (sym c.bytes.ensures.value) ∙ leads.1) c.in-Ok-take_here.ensures.apart
+
+pub returns-in-Ok-add_below-clause-apart : goal.returns-in-Ok-add_below-clause-apart
+returns-in-Ok-add_below-clause-apart g t c tells =
+    let leads = subst (λ w. Leads g.F.PageForm.scale c.args.x.now (g.F.PageForm.node c.args.form.now c.bytes.result.now) (Ok w)) c.in-Ok-Down.field-0-is c.in-Ok-Down.ensures.way in
+    down_apart g.F.PageForm.scale c.args.x.now (g.F.PageForm.node c.args.form.now) (g.V.PageView.image c.args.view.now) (g.V.PageView.image c.read.new.view) c.args.draft.now.pages.items c.args.most (c.args.most - 1) c.args.page c.in-Ok-Down.place c.in-Ok-Down.child c.take_grown.result
+    (let h = c.if-most-eq0.false in omega (arith, h)) (c.read.ensures.kept tells) (rw (sym (c.in-Ok.ensures.bytes tells), sym c.bytes.ensures.value) leads) (c.in-Ok-add_below.ensures.apart tells)
+
+pub take_here-requires-clause-leaf : goal.take_here-requires-clause-leaf
+take_here-requires-clause-leaf g t c =
+    let leads = subst (λ w. Leads g.F.PageForm.scale c.args.x.now (g.F.PageForm.node c.args.form.now c.bytes.result.now) (Ok w)) c.in-Ok-Here.field-0-is c.in-Ok-Here.ensures.way in
+    (leads.0, ap (g.F.PageForm.node c.args.form.now) (sym c.bytes.ensures.value) ∙ leads.1)
+
+pub take_grown-requires-clause-there : goal.take_grown-requires-clause-there
+take_grown-requires-clause-there g t c =
+    let leads = subst (λ w. Leads g.F.PageForm.scale c.args.x.now (g.F.PageForm.node c.args.form.now c.bytes.result.now) (Ok w)) c.in-Ok-Down.field-0-is c.in-Ok-Down.ensures.way in
+    (leads.front, leads.child, leads.back, ap (g.F.PageForm.node c.args.form.now) (sym c.bytes.ensures.value) ∙ leads.is, leads.at)

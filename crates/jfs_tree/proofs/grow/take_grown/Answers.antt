@@ -1,5 +1,6 @@
 use Rattle.jfs_tree.proofs.Adding.{grown_none, grown_some, grown_refused}
 use Rattle.jfs_tree.proofs.FilledSteps.{grown_none_filled, grown_some_filled}
+use Rattle.jfs_tree.proofs.Framing.{none_framed}
 use Rattle.jfs_tree.proofs.grow.take_grown.Goals as goal
 
 pub returns-in-None-clause-did : goal.returns-in-None-clause-did
@@ -23,3 +24,6 @@ returns-in-None-clause-filled g c fills =
 pub returns-in-Ok-clause-filled : goal.returns-in-Ok-clause-filled
 returns-in-Ok-clause-filled g c fills =
     grown_some_filled (g.F.PageForm.node c.args.form.now) g.F.PageForm.scale c.args.bytes.0 c.args.page c.args.place c.args.last c.args.grown.sibling c.in-Some.new c.args.draft.now.pages.items c.take_child.new.draft.pages.items c.args.fresh.now.items c.in-Ok.sibling c.in-Some.is (c.in-Ok.ensures.filled fills)
+
+pub returns-in-None-clause-framed : goal.returns-in-None-clause-framed
+returns-in-None-clause-framed g c = none_framed (g.F.PageForm.frame c.args.form.now) (g.F.PageForm.new_frame c.args.form.now) c.args.bytes.0 c.args.page c.args.draft.now.pages.items c.args.fresh.now.items

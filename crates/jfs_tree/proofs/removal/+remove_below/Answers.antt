@@ -10,6 +10,7 @@ use Rattle.jfs_tree.proofs.Finding.{down_finds, down_breaks}
 use Rattle.jfs_tree.proofs.Removed.{here_shrank, here_found, down_shrank, down_found}
 use Rattle.jfs_tree.proofs.BytesKept.{here_less, down_less}
 use Rattle.jfs_tree.proofs.LeastKept.{here_goes, down_goes}
+use Rattle.jfs_tree.proofs.Framing.{here_less_framed, down_less_framed}
 use Rattle.jfs_tree.proofs.removal.+remove_below.Goals as goal
 
 pub returns-in-Ok-Here-clause-shrank : goal.returns-in-Ok-Here-clause-shrank
@@ -117,3 +118,13 @@ pub returns-in-Ok-Some-clause-inner : goal.returns-in-Ok-Some-clause-inner
 returns-in-Ok-Some-clause-inner g t c tells =
     down_goes (g.F.PageForm.node c.args.form.now) (g.V.PageView.image c.args.view.now) (g.V.PageView.image c.read.new.view) c.remove_below.new.draft.pages.items c.remove_place.new.draft.pages.items c.remove_below.new.freed.items c.remove_place.new.freed.items c.in-Ok-Some.shrunk c.in-Ok-Some.field-0 c.remove_place.result
     c.remove_place.ensures.inner (c.read.ensures.kept tells) c.in-Ok-Some.field-0-is (c.in-Ok-Some.ensures.inner tells)
+
+pub returns-in-Ok-Here-clause-framed : goal.returns-in-Ok-Here-clause-framed
+returns-in-Ok-Here-clause-framed g t c tells =
+    here_less_framed (g.F.PageForm.frame c.args.form.now) (g.V.PageView.image c.args.view.now) c.in-Ok.bytes.0 c.args.page c.args.draft.now.pages.items c.remove_here.new.draft.pages.items c.remove_here.result c.requires.fresh (c.in-Ok.ensures.bytes tells) c.remove_here.ensures.framed
+
+pub returns-in-Ok-Some-clause-framed : goal.returns-in-Ok-Some-clause-framed
+returns-in-Ok-Some-clause-framed g t c tells =
+    let image = g.V.PageView.image c.args.view.now in
+    down_less_framed (g.F.PageForm.frame c.args.form.now) image (g.V.PageView.image c.read.new.view) c.in-Ok.bytes.0 c.args.page c.remove_below.new.draft.pages.items c.remove_place.new.draft.pages.items c.remove_place.result (c.read.ensures.kept tells)
+    (c.in-Ok.ensures.bytes tells ∙ ap (λ (d : List Drafted). shown d image c.args.page) c.requires.fresh) (c.in-Ok-Some.ensures.framed tells) c.remove_place.ensures.framed

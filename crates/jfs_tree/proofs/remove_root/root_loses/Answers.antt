@@ -11,9 +11,9 @@ remove_child-requires-clause-others g c =
 pub returns-then-is_single-clause-did : goal.returns-then-is_single-clause-did
 returns-then-is_single-clause-did g c =
     subst (λ (k : Bool). RootLost c.args.place k (g.F.PageForm.node c.args.top.now c.args.root.now) (g.F.PageForm.node c.args.top.now c.empty.new.root)) (sym c.if-kept.false)
-    (root_bare c.args.place (g.F.PageForm.node c.args.top.now c.args.root.now) (g.F.PageForm.node c.args.top.now c.empty.new.root) c.is_single.result c.is_single.ensures c.if-is_single.true c.empty.ensures)
+    (root_bare c.args.place (g.F.PageForm.node c.args.top.now c.args.root.now) (g.F.PageForm.node c.args.top.now c.empty.new.root) c.is_single.result c.is_single.ensures c.if-is_single.true c.empty.ensures.empty)
 
 pub returns-else-is_single-clause-did : goal.returns-else-is_single-clause-did
 returns-else-is_single-clause-did g c =
     subst (λ (k : Bool). RootLost c.args.place k (g.F.PageForm.node c.args.top.now c.args.root.now) (g.F.PageForm.node c.args.top.now c.remove_child.new.bytes)) (sym c.if-kept.false)
-    (root_less c.args.place (g.F.PageForm.node c.args.top.now c.args.root.now) (g.F.PageForm.node c.args.top.now c.remove_child.new.bytes) c.is_single.result c.is_single.ensures c.if-is_single.false c.remove_child.ensures)
+    (root_less c.args.place (g.F.PageForm.node c.args.top.now c.args.root.now) (g.F.PageForm.node c.args.top.now c.remove_child.new.bytes) c.is_single.result c.is_single.ensures c.if-is_single.false c.remove_child.ensures.takes)

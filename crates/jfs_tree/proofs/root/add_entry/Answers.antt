@@ -10,6 +10,8 @@ use Rattle.jfs_tree.proofs.Becoming.{root_uses, grown_uses}
 use Rattle.jfs_tree.proofs.FilledRoots.{here_always_fills, grown_always_fills}
 use Rattle.jfs_tree.specs.Refusal.{HasAllLevels}
 use Rattle.jfs_tree.proofs.Refusing.{adding_breaks, adding_here, adding_below, adding_grown}
+use Rattle.jfs_tree.proofs.Framing.{here_always_framed, always_framed}
+use Rattle.jfs_tree.proofs.Clearing.{root_apart, root_leads_apart}
 use Rattle.jfs_tree.proofs.root.add_entry.Goals as goal
 
 pub root_takes_grown-requires-clause-child : goal.root_takes_grown-requires-clause-child
@@ -146,3 +148,25 @@ returns-in-Ok-clause-way g c tells =
     let leads = subst (λ w. Leads g.F.PageForm.scale c.args.x.now (g.F.PageForm.node c.args.top.now c.args.root.now) (Ok w)) c.in-Ok-Down.field-0-is c.in-Ok-Down.ensures.way in
     adding_grown g.F.PageForm.scale (nodes (g.F.PageForm.node c.args.form.now) c.args.draft.now.pages.items (g.V.PageView.image c.args.view.now)) c.args.x.now (at_page (g.F.PageForm.is_full c.args.form.now) c.args.draft.now.pages.items (g.V.PageView.image c.args.view.now)) (at_page (λ bytes. g.F.PageForm.has_no_room c.args.form.now bytes c.args.x.now) c.args.draft.now.pages.items (g.V.PageView.image c.args.view.now)) (g.F.PageForm.node c.args.top.now c.args.root.now) (λ key. g.F.PageForm.is_full c.args.top.now c.args.root.now × g.F.PageForm.has_no_place c.args.top.now c.args.root.now key) c.in-Ok-Down.place c.in-Ok-Down.page c.in-Ok.grown.levels c.in-Ok.grown c.in-Ok.grown.sibling c.args.fresh.now.items c.add_below.new.fresh.items c.root_takes_grown.result refl
     c.way.ensures.rise leads (c.in-Ok.ensures.way tells) (c.in-Ok.ensures.room tells) c.in-Ok.ensures.used.1 c.root_takes_grown.ensures.clash
+
+pub returns-in-Ok-Here-clause-framed : goal.returns-in-Ok-Here-clause-framed
+returns-in-Ok-Here-clause-framed g c tells =
+    here_always_framed g.F.PageForm.scale c.args.x.now (g.F.PageForm.frame c.args.form.now) (g.F.PageForm.new_frame c.args.form.now) (nodes (g.F.PageForm.node c.args.form.now) c.args.draft.now.pages.items (g.V.PageView.image c.args.view.now)) (g.F.PageForm.node c.args.top.now c.args.root.now) (g.V.PageView.image c.args.view.now)
+    c.args.draft.now.pages.items c.root_takes_here.new.draft.pages.items c.args.fresh.now.items c.root_takes_here.new.fresh.items c.root_takes_here.result c.root_takes_here.ensures.keeps c.root_takes_here.ensures.names
+
+pub returns-in-Ok-clause-framed : goal.returns-in-Ok-clause-framed
+returns-in-Ok-clause-framed g c tells =
+    let leads = subst (λ w. Leads g.F.PageForm.scale c.args.x.now (g.F.PageForm.node c.args.top.now c.args.root.now) (Ok w)) c.in-Ok-Down.field-0-is c.in-Ok-Down.ensures.way in
+    always_framed g.F.PageForm.scale c.args.x.now (g.F.PageForm.frame c.args.form.now) (g.F.PageForm.new_frame c.args.form.now) (g.F.PageForm.node c.args.form.now) g.met.F.PageForm.order (g.V.PageView.image c.args.view.now) (g.F.PageForm.node c.args.top.now c.args.root.now) c.args.draft.now.pages.items c.add_below.new.draft.pages.items c.root_takes_grown.new.draft.pages.items
+    c.in-Ok-Down.place c.in-Ok-Down.page c.in-Ok.grown.levels (g.V.PageView.block_count c.args.view.now) c.args.fresh.now.items c.add_below.new.fresh.items c.root_takes_grown.new.fresh.items c.in-Ok.grown.sibling c.root_takes_grown.result
+    c.requires.within (let h = c.blocks-blocks.ensures in let i = c.blocks-blocks.type_inv in omega (arith, h, i)) leads (c.in-Ok.ensures.grew tells) (c.in-Ok.ensures.framed tells) c.root_takes_grown.ensures.keeps c.root_takes_grown.ensures.names c.in-Ok.ensures.front c.root_takes_grown.ensures.front
+
+pub returns-in-Ok-Here-clause-apart : goal.returns-in-Ok-Here-clause-apart
+returns-in-Ok-Here-clause-apart g c tells =
+    let leads = subst (λ w. Leads g.F.PageForm.scale c.args.x.now (g.F.PageForm.node c.args.top.now c.args.root.now) (Ok w)) c.in-Ok-Here.field-0-is c.in-Ok-Here.ensures.way in
+    root_apart g.F.PageForm.scale c.args.x.now (nodes (g.F.PageForm.node c.args.form.now) c.args.draft.now.pages.items (g.V.PageView.image c.args.view.now)) (g.F.PageForm.node c.args.top.now c.args.root.now) leads.0 c.root_takes_here.result leads.1 c.root_takes_here.ensures.apart
+
+pub returns-in-Ok-clause-apart : goal.returns-in-Ok-clause-apart
+returns-in-Ok-clause-apart g c tells =
+    let leads = subst (λ w. Leads g.F.PageForm.scale c.args.x.now (g.F.PageForm.node c.args.top.now c.args.root.now) (Ok w)) c.in-Ok-Down.field-0-is c.in-Ok-Down.ensures.way in
+    root_leads_apart g.F.PageForm.scale c.args.x.now (nodes (g.F.PageForm.node c.args.form.now) c.args.draft.now.pages.items (g.V.PageView.image c.args.view.now)) (g.F.PageForm.node c.args.top.now c.args.root.now) c.in-Ok-Down.place c.in-Ok-Down.page c.root_takes_grown.result leads (c.in-Ok.ensures.apart tells)

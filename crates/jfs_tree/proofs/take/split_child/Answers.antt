@@ -2,6 +2,9 @@ use Rattle.std.proofs.Common.{rules}
 use Rattle.jfs_tree.proofs.Taking.{child_parted, below_popped}
 use Rattle.jfs_tree.proofs.BytesKept.{two_off}
 use Rattle.jfs_tree.proofs.FilledSteps.{child_parts_filled}
+use Rattle.jfs_tree.specs.Form.{as_child}
+use Rattle.jfs_tree.proofs.Framing.{two_framed}
+use Rattle.jfs_tree.proofs.Clearing.{child_at}
 use Rattle.jfs_tree.proofs.take.split_child.Goals as goal
 
 pub returns-in_err-put_two-clause-below : goal.returns-in_err-put_two-clause-below
@@ -26,3 +29,9 @@ returns-clause-filled g c fills =
 
 pub returns-clause-cut : goal.returns-clause-cut
 returns-clause-cut g c = λ all at. let t = c.split_child-key.ensures.parts all at (c.requires.goes all at) in (t.front, t.first, t.back, t.is, t.some, t.key_is)
+
+pub returns-clause-framed : goal.returns-clause-framed
+returns-clause-framed g c =
+    two_framed (g.F.PageForm.frame c.args.form.now) (g.F.PageForm.new_frame c.args.form.now) c.args.bytes.0 c.split_child-key.new.bytes c.split_child-key.new.right c.args.page c.in-Some.q c.args.draft.now.pages.items c.put_two.new.draft.pages.items c.args.fresh.now.items c.pop.new.self.items
+    c.in_ok-put_two.ensures.puts c.in-Some.ensures.items c.split_child-key.ensures.frame
+    (let at = child_at c.args.place (g.F.PageForm.node c.args.form.now c.args.bytes.0) (as_child c.args.sibling) c.requires.there in c.split_child-key.ensures.new at.0 at.1 (c.requires.goes at.0 at.1))

@@ -2,6 +2,8 @@ use Rattle.std.proofs.Common.{rules}
 use Rattle.jfs_tree.proofs.Taking.{here_parted, below_popped}
 use Rattle.jfs_tree.proofs.BytesKept.{two_off}
 use Rattle.jfs_tree.proofs.FilledSteps.{here_parts_filled}
+use Rattle.jfs_tree.proofs.Framing.{two_framed}
+use Rattle.jfs_tree.proofs.Clearing.{leaf_apart}
 use Rattle.jfs_tree.proofs.take.split_here.Goals as goal
 
 pub returns-in_err-put_two-clause-below : goal.returns-in_err-put_two-clause-below
@@ -26,3 +28,9 @@ returns-clause-filled g c fills =
 
 pub returns-clause-cut : goal.returns-clause-cut
 returns-clause-cut g c = λ es is apart. let t = c.split-key.ensures.parts es is apart in (t.front, t.back, t.all, t.some, t.parts)
+
+pub returns-clause-framed : goal.returns-clause-framed
+returns-clause-framed g c =
+    two_framed (g.F.PageForm.frame c.args.form.now) (g.F.PageForm.new_frame c.args.form.now) c.args.bytes.0 c.split-key.new.bytes c.split-key.new.right c.args.page c.in-Some.q c.args.draft.now.pages.items c.put_two.new.draft.pages.items c.args.fresh.now.items c.pop.new.self.items
+    c.in_ok-put_two.ensures.puts c.in-Some.ensures.items c.split-key.ensures.frame
+    (c.split-key.ensures.new c.requires.leaf.0 c.requires.leaf.1 (leaf_apart g.F.PageForm.scale c.args.x.now (g.F.PageForm.node c.args.form.now c.args.bytes.0) c.requires.leaf.0 c.requires.leaf.1 c.requires.apart))

@@ -2,10 +2,13 @@ use Rattle.std.proofs.Common.{sym, subst, length}
 use Rattle.jfs_disk.specs.Image.{page_of}
 use Rattle.jfs_tree.specs.Root.{RefusesWhereBad}
 use Rattle.jfs_tree.specs.Fresh.{blocks_of}
-use Rattle.jfs_xtree.specs.Node.{xt_scale}
+use Rattle.jfs_xtree.specs.Node.{xt_scale, IsRoot}
 use Rattle.jfs_xtree.specs.Spells.{root_form, root_node, page_nodes, tree_error, broken_for}
 use Rattle.jfs_xtree.specs.Adding.{RefusesFull, ClashesFor, IsFullAndDeep, AddTellsWay}
 use Rattle.jfs_xtree.proofs.Adds.{adds_as, thin_as, refuses_as, full_as, takes_as, tells_as, went_in, failed}
+use Rattle.jfs_xtree.proofs.Adds.{names_as, apart_as}
+use Rattle.jfs_xtree.proofs.Frames.{root_kept}
+use Rattle.jfs_xtree.proofs.Roots.{form_fits}
 use Rattle.jfs_xtree.proofs.inserting.add.Goals as goal
 
 pub returns-in-Ok-clause-adds : goal.returns-in-Ok-clause-adds
@@ -46,3 +49,15 @@ returns-in-Err-clause-way g c tells =
     (IsFullAndDeep (g.V.PageView.block_count c.args.view.now) (page_of (g.V.PageView.image c.args.view.now)) c.args.x c.args.root.now) (failed r)) (sym c.handed_on.ensures)
     (tells_as c.blocks-blocks.result (g.V.PageView.block_count c.args.view.now) c.root_form-form.result c.args.x (g.V.PageView.image c.args.view.now) c.args.root.now c.in-Err.e
     c.blocks-blocks.ensures c.root_form-form.ensures (c.in-Err.ensures.way tells))
+
+pub returns-in-Ok-clause-named : goal.returns-in-Ok-clause-named
+returns-in-Ok-clause-named g c tells =
+    names_as c.blocks-blocks.result (g.V.PageView.block_count c.args.view.now) c.root_form-form.result (g.V.PageView.image c.args.view.now) c.args.x c.args.root.now (blocks_of c.args.fresh.now) (blocks_of c.add_and_tell.new.fresh) c.args.tx.now c.add_and_tell.new.tx
+    c.blocks-blocks.ensures c.root_form-form.ensures (c.in-Ok.ensures.framed tells)
+
+pub returns-in-Ok-clause-apart : goal.returns-in-Ok-clause-apart
+returns-in-Ok-clause-apart g c tells =
+    apart_as c.blocks-blocks.result (g.V.PageView.block_count c.args.view.now) c.root_form-form.result (g.V.PageView.image c.args.view.now) c.args.x c.args.root.now c.blocks-blocks.ensures c.root_form-form.ensures (c.in-Ok.ensures.apart tells)
+
+pub returns-in-Ok-clause-frame : goal.returns-in-Ok-clause-frame
+returns-in-Ok-clause-frame g c = root_kept c.root_form-form.result c.args.root.now c.add_and_tell.new.root (subst IsRoot (sym c.root_form-form.ensures) (form_fits (length c.args.root.now) c.requires.root).1) c.add_and_tell.ensures.frame

@@ -6,6 +6,7 @@ use Rattle.jfs_xtree.proofs.Reading.{inner_is}
 use Rattle.jfs_xtree.proofs.Behind.{goes_behind}
 use Rattle.jfs_xtree.proofs.Inners.{takes_of, child_put}
 use Rattle.jfs_xtree.proofs.Forms.{not_laid, same_through, less_of}
+use Rattle.jfs_xtree.proofs.Frames.{frame_kept, frame_same}
 use Rattle.jfs_xtree.proofs.form.XtPagesPageForm.put_child.Goals as goal
 use Rattle.jfs_xtree.proofs.form.XtPagesPageForm.put_child.Goals.{then-not-is_laid_out-via-then-not-is_laid_out, then-not-is_laid_out-via-else-not-is_laid_out+then-not-takes_child}
 
@@ -27,3 +28,7 @@ returns-clause-child c = λ all at rise.
 
 pub returns-then-get_u16-clause-goes : goal.returns-then-get_u16-clause-goes
 returns-then-get_u16-clause-goes c = goes_behind c.args.self.now.form c.args.self.now.blocks c.args.bytes.now c.args.place _ (c.takes_child.ensures.takes c.if-not-takes_child.false)
+
+pub returns-clause-frame : goal.returns-clause-frame
+returns-clause-frame c =
+    frame_kept c.args.self.now.form c.make_way.new.bytes c.insert.new.bytes _ _ c.insert.ensures.head c.insert.ensures.tail ∙ frame_same c.args.self.now.form c.args.bytes.now c.make_way.new.bytes c.make_way.ensures.head c.make_way.ensures.tail

@@ -3,6 +3,7 @@ use Rattle.jfs_tree.specs.Edit.{with_entry}
 use Rattle.jfs_xtpage.specs.Page.{count_of}
 use Rattle.jfs_xtree.proofs.Forms.{leaf_split}
 use Rattle.jfs_xtree.proofs.Halves.{full_count, both_counts, leaf_fills}
+use Rattle.jfs_xtree.proofs.Frames.{page_kept, page_new}
 use Rattle.jfs_xtree.proofs.form.XtPagesPageForm.split.Goals as goal
 
 pub returns-clause-parts : goal.returns-clause-parts
@@ -15,3 +16,9 @@ returns-clause-fills c = λ fills es leaf apart.
     leaf_fills c.args.self.now.form c.args.self.now.blocks c.part.new.bytes c.part.new.right c.args.last (with_entry xt_scale c.args.x.now es) c.part.result (returns-clause-parts c es leaf apart)
     (both_counts c.args.last c.place_of-place.result (count_of c.args.bytes.now) (count_of c.part.new.bytes) (count_of c.part.new.right) (full_count c.args.self.now.form c.args.bytes.now c.requires.below c.requires.full) c.place_of-place.ensures.most
     c.part.ensures.last c.part.ensures.halves)
+
+pub returns-clause-frame : goal.returns-clause-frame
+returns-clause-frame c = page_kept c.args.self.now.form c.args.bytes.now c.part.new.bytes c.requires.below c.part.ensures.left.max c.part.ensures.own.0
+
+pub returns-clause-new : goal.returns-clause-new
+returns-clause-new c = λ es leaf apart. page_new c.args.self.now.form c.part.new.right c.args.q c.requires.below c.part.ensures.right.1 c.part.ensures.own.1

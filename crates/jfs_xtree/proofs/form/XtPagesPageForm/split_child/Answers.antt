@@ -6,6 +6,7 @@ use Rattle.jfs_xtree.specs.Node.{with_at, lowered, child_entry}
 use Rattle.jfs_xtree.proofs.Inners.{takes_of, child_parted}
 use Rattle.jfs_xtree.proofs.Forms.{kind_through}
 use Rattle.jfs_xtree.proofs.Halves.{full_count, both_counts, inner_fills}
+use Rattle.jfs_xtree.proofs.Frames.{page_kept, page_new}
 use Rattle.jfs_xtree.proofs.form.XtPagesPageForm.split_child.Goals as goal
 
 pub returns-clause-parts : goal.returns-clause-parts
@@ -31,3 +32,10 @@ returns-clause-fills c = λ fills all at rise.
     inner_fills c.args.self.now.form c.args.self.now.blocks c.part.new.bytes c.part.new.right c.args.last all c.part.result (returns-clause-parts c all at rise)
     (both_counts c.args.last (c.min-before.result + 1) (count_of c.make_way.new.bytes) (count_of c.part.new.bytes) (count_of c.part.new.right)
     (same ∙ full_count c.args.self.now.form c.args.bytes.now c.requires.below c.requires.full) (omega (arith, same, within, v, f, m)) c.part.ensures.last c.part.ensures.halves)
+
+pub returns-clause-frame : goal.returns-clause-frame
+returns-clause-frame c =
+    page_kept c.args.self.now.form c.args.bytes.now c.part.new.bytes c.requires.below (c.part.ensures.left.max ∙ ap (λ (h : XtHead). h.maxentry) c.make_way.ensures.head) (c.part.ensures.own.0 ∙ ap (λ (h : XtHead). h.at) c.make_way.ensures.head)
+
+pub returns-clause-new : goal.returns-clause-new
+returns-clause-new c = λ all at rise. page_new c.args.self.now.form c.part.new.right c.args.q c.requires.below c.part.ensures.right.1 c.part.ensures.own.1
