@@ -14,8 +14,8 @@ returns-in-Ok-clause-row c = λ blocks es leaf apart.
 pub returns-in-Ok-clause-apart : goal.returns-in-Ok-clause-apart
 returns-in-Ok-clause-apart c = λ blocks. name_apart c.args.form blocks c.args.bytes.now c.name-name.result.now c.args.x.now c.in-Err.place c.name-name.ensures.units c.in-Err.ensures
 
-pub returns-in-Err-clause-apart : goal.returns-in-Err-clause-apart
-returns-in-Err-clause-apart c = λ blocks. name_apart c.args.form blocks c.args.bytes.now c.name-name.result.now c.args.x.now c.in-Err.place c.name-name.ensures.units c.in-Err.ensures
+pub returns-in-Err-dt_insert-clause-apart : goal.returns-in-Err-dt_insert-clause-apart
+returns-in-Err-dt_insert-clause-apart c = λ blocks. name_apart c.args.form blocks c.args.bytes.now c.name-name.result.now c.args.x.now c.in-Err.place c.name-name.ensures.units c.in-Err.ensures
 
 pub returns-in-Ok-clause-frame : goal.returns-in-Ok-clause-frame
 returns-in-Ok-clause-frame c = head_frame c.args.form c.args.bytes.now c.dt_insert.new.bytes c.in-Ok.ensures.head

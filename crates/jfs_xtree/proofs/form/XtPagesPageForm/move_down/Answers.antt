@@ -35,4 +35,4 @@ returns-clause-frame c =
     ∙ frame_kept form c.args.root.now c.xt_split.new.from _ _ c.xt_split.ensures.head c.xt_split.ensures.tail
 
 pub returns-clause-new : goal.returns-clause-new
-returns-clause-new c = moved_new c.args.pages.now.form c.xt_new.new.bytes c.xt_split.new.to c.is_leaf-leaf.result c.args.q _ _ (ap (λ (p : XtPages). p.form) (sym c.requires.pages)) c.page_at.ensures.is c.xt_new.ensures.head c.xt_split.ensures.to_head
+returns-clause-new c = moved_new c.args.pages.now.form c.xt_new.new.bytes c.xt_split.new.to c.is_leaf-leaf.result c.args.q _ _ (ap (λ (p : XtPages). p.form) (sym c.requires.pages)) c.page_at.ensures c.xt_new.ensures.head c.xt_split.ensures.to_head
