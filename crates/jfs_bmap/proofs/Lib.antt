@@ -15,6 +15,7 @@ pub mod Heaps
 pub mod Kept
 pub mod Levels
 pub mod Lowest
+pub mod LowestBlocks
 pub mod OnePage
 pub mod Opened
 pub mod Owners

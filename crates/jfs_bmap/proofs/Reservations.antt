@@ -134,21 +134,51 @@ AreApart-more (first ∷ rest) run a new = (
   AreApart-more rest run a.1 (λ b t. (or_parts (is_in_run first.addr first.len b) (is_in_list rest b) (new b t)).1),
 )
 
--- what is reserved so far, where so many blocks are left: these runs and any that come next are a reservation
-pub record Reserving (initial now : Blocks) (hint n left : ℕ) (list : List Pxd) : Type 0 where
-  pub chosen : (rest : List Pxd) → AreNextRuns (is_used now) left rest → IsReservation (is_used initial) hint n (list ++ rest)
+-- what is reserved so far, where so many blocks are left
+pub record Holding (initial now : Blocks) (left : ℕ) (list : List Pxd) : Type 0 where
   pub reserved : now ≡ put_state Reserved list initial
   pub free : (b : ℕ) → is_in_list list b ≡ true → state_of initial b ≡ Free
   pub once : AreApart list
   pub enough : left ≤ free_count now
 
+-- these runs and any that come next are a reservation
+pub record Reserving (initial now : Blocks) (hint n left : ℕ) (list : List Pxd) : Type 0 where
+  pub chosen : (rest : List Pxd) → AreNextRuns (is_used now) left rest → IsReservation (is_used initial) hint n (list ++ rest)
+  pub holds : Holding initial now left list
+
 -- the blocks of a free run are free
 free-run : (m : Blocks) (run : Pxd) → is_free (is_used m) run.addr run.len ≡ true → (b : ℕ) → is_in_list (run ∷ []) b ≡ true → state_of m b ≡ Free
 free-run m run free b h = not_used-free (state_of m b) (free_run-at (is_used m) run.addr run.len b free (sym (in_list-one run b) ∙ h))
 
+pub holding-none : (initial : Blocks) (left : ℕ) → left ≤ free_count initial → Holding initial initial left []
+unfolding AreApart
+holding-none initial left enough = record {
+  reserved = sym (put-nowhere Reserved [] initial in_list-none);
+  free = λ b h. absurd (both_ways (is_in_list [] b) (in_list-none b) h);
+  once = tt;
+  enough = enough;
+}
+
+-- a free run more is reserved
+pub holding-next : (initial now : Blocks) (left : ℕ) (list : List Pxd) (run : Pxd) → 0 < run.len → run.len ≤ left → is_free (is_used now) run.addr run.len ≡ true → Holding initial now left list
+    → Holding initial (put_state Reserved (run ∷ []) now) (left - run.len) (list ++ run ∷ [])
+holding-next initial now left list run some most free h =
+    let new : (b : ℕ) → is_in_run run.addr run.len b ≡ true → is_in_list list b ≡ false = λ b here.
+    false_from_ne_true (is_in_list list b) (λ t. both_ways (is_used now b)
+    (free_run-at (is_used now) run.addr run.len b free here)
+    (ap (λ (s : BlockState). not (is_free_state s)) (ap (λ (m : Blocks). state_of m b) h.reserved ∙ put-here Reserved list initial b (free-there initial b (h.free b t)) t))) in
+    record {
+      reserved = ap (λ (m : Blocks). put_state Reserved (run ∷ []) m) h.reserved ∙ put-append Reserved list (run ∷ []) initial;
+      free = λ b i. (elim (or_cases (is_in_list list b) (is_in_list (run ∷ []) b) (sym (in_list-append list (run ∷ []) b) ∙ i)) [
+        | inl old ↦ h.free b old
+        | inr here ↦ sym (ap (λ (m : Blocks). state_of m b) h.reserved ∙ put-other Reserved list initial b (new b (sym (in_list-one run b) ∙ here))) ∙ free-run now run free b here
+      ]);
+      once = AreApart-more list run h.once new;
+      enough = omega (arith, h.enough, free-put run now free some);
+    }
+
 -- nothing at the front
 reserving-zero : (initial : Blocks) (hint n : ℕ) → IsFreeFront (is_used initial) hint n 0 → n ≤ free_count initial → Reserving initial initial hint n (n - 0) []
-unfolding AreApart
 reserving-zero initial hint n free enough =
     let front : Pxd = record { len = 0; addr = hint } in
     let same : with_run (is_used initial) front ≡ is_used initial = λ i b. ap (λ (t : Bool). t || is_used initial b) (empty_run hint 0 b refl) i in
@@ -161,10 +191,7 @@ reserving-zero initial hint n free enough =
         next = subst (λ (taken : ℕ → Bool). AreNextRuns taken (n - 0) rest) (sym same) next;
         runs = refl;
       };
-      reserved = sym (put-nowhere Reserved [] initial in_list-none);
-      free = λ b h. absurd (both_ways (is_in_list [] b) (in_list-none b) h);
-      once = tt;
-      enough = omega arith;
+      holds = holding-none initial (n - 0) (omega arith);
     }
 
 pub reserving-none : (initial : Blocks) (hint n front : ℕ) → front ≡ 0 → IsFreeFront (is_used initial) hint n front → n ≤ free_count initial → Reserving initial initial hint n (n - front) []
@@ -185,32 +212,22 @@ reserving-front initial hint n front some free enough =
         next = subst (λ (taken : ℕ → Bool). AreNextRuns taken (n - front) rest) (used-put run initial) next;
         runs = rw (ne_eqb front 0 (λ e. omega arith)) refl;
       };
-      reserved = refl;
-      free = free-run initial run free.free;
-      once = (λ b h. in_list-none b, tt);
-      enough = omega (arith, enough, free-put run initial free.free some, free.most);
+      holds = record {
+        reserved = refl;
+        free = free-run initial run free.free;
+        once = (λ b h. in_list-none b, tt);
+        enough = omega (arith, enough, free-put run initial free.free some, free.most);
+      };
     }
 
 -- a next run
 pub reserving-next : (initial now : Blocks) (hint n left : ℕ) (list : List Pxd) (run : Pxd) → 0 < left → Reserving initial now hint n left list → IsNextRun (is_used now) left run → Reserving initial (put_state Reserved (run ∷ []) now) hint n (left - run.len) (list ++ run ∷ [])
 unfolding AreNextRuns
-reserving-next initial now hint n left list run some r next =
-    let free = next-free (is_used now) left run next in
-    let new : (b : ℕ) → is_in_run run.addr run.len b ≡ true → is_in_list list b ≡ false = λ b h.
-    false_from_ne_true (is_in_list list b) (λ t. both_ways (is_used now b)
-    (free_run-at (is_used now) run.addr run.len b free h)
-    (ap (λ (s : BlockState). not (is_free_state s)) (ap (λ (m : Blocks). state_of m b) r.reserved ∙ put-here Reserved list initial b (free-there initial b (r.free b t)) t))) in
-    record {
-      chosen = λ rest h. subst (λ (runs : List Pxd). IsReservation (is_used initial) hint n runs) (sym (append_assoc list (run ∷ []) rest))
-          (r.chosen (run ∷ rest) (next, subst (λ (taken : ℕ → Bool). AreNextRuns taken (left - run.len) rest) (used-put run now) h));
-      reserved = ap (λ (m : Blocks). put_state Reserved (run ∷ []) m) r.reserved ∙ put-append Reserved list (run ∷ []) initial;
-      free = λ b h. (elim (or_cases (is_in_list list b) (is_in_list (run ∷ []) b) (sym (in_list-append list (run ∷ []) b) ∙ h)) [
-        | inl old ↦ r.free b old
-        | inr here ↦ sym (ap (λ (m : Blocks). state_of m b) r.reserved ∙ put-other Reserved list initial b (new b (sym (in_list-one run b) ∙ here))) ∙ free-run now run free b here
-      ]);
-      once = AreApart-more list run r.once new;
-      enough = omega (arith, r.enough, free-put run now free (next-some (is_used now) left run next some));
-    }
+reserving-next initial now hint n left list run some r next = record {
+  chosen = λ rest h. subst (λ (runs : List Pxd). IsReservation (is_used initial) hint n runs) (sym (append_assoc list (run ∷ []) rest))
+      (r.chosen (run ∷ rest) (next, subst (λ (taken : ℕ → Bool). AreNextRuns taken (left - run.len) rest) (used-put run now) h));
+  holds = holding-next initial now left list run (next-some (is_used now) left run next some) (next-most (is_used now) left run next) (next-free (is_used now) left run next) r.holds;
+}
 
 -- nothing is left
 pub reserving-all : (initial now : Blocks) (hint n left : ℕ) (list : List Pxd) → left ≡ 0 → Reserving initial now hint n left list → IsReservation (is_used initial) hint n list

@@ -16,7 +16,7 @@ abbrev pub EndsWithin : Blocks → Pxd → Type 0
 EndsWithin m run = run.addr + run.len ≤ length m.states
 
 -- a run that is free in a set with more blocks taken
-free-in_less : (m : Blocks) (taken : ℕ → Bool) (first n : ℕ) → ((b : ℕ) → is_used m b ≡ true → taken b ≡ true) → is_free taken first n ≡ true → is_free (is_used m) first n ≡ true
+pub free-in_less : (m : Blocks) (taken : ℕ → Bool) (first n : ℕ) → ((b : ℕ) → is_used m b ≡ true → taken b ≡ true) → is_free taken first n ≡ true → is_free (is_used m) first n ≡ true
 free-in_less m taken first n more free =
     free_run-from (is_used m) first n (λ b h. false_from_ne_true (is_used m b) (λ used. both_ways (taken b) (free_run-at taken first n b free h) (more b used)))
 

@@ -34,3 +34,8 @@ pub record IsReservation (taken : ℕ → Bool) (hint n : ℕ) (list : List Pxd)
   pub free : IsFreeFront taken hint n front.len
   pub next : AreNextRuns (with_run taken front) (n - front.len) rest
   pub runs : list ≡ with_front front rest
+
+-- single blocks, each the lowest that is free once those before it are taken
+unfoldable pub AreLowestBlocks : (ℕ → Bool) → List Pxd → Type 0
+AreLowestBlocks taken [] = Unit {0}
+AreLowestBlocks taken (run ∷ runs) = (run.len ≡ 1) × IsLowest taken 0 (Some run.addr) × AreLowestBlocks (with_run taken run) runs

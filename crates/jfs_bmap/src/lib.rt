@@ -13,6 +13,7 @@ mod owned_map;
 mod page_of_set;
 mod release;
 mod reserve;
+mod reserve_each;
 mod settle;
 
 pub use block_map::BlockMap;

@@ -81,7 +81,7 @@ impl BlockMap {
     }
 
     /// The next run, where so many blocks are left and at least as many are free.
-    fn next_run(&self, left: u32) -> Pxd
+    pub(crate) fn next_run(&self, left: u32) -> Pxd
         requires some { 0 < left }
         requires enough { left ≤ free_count self.now }
         ensures { IsNextRun (is_used self.now) left result }
@@ -101,7 +101,12 @@ impl BlockMap {
     }
 
     /// Reserves a free run and adds it to a list; at `Err` nothing is changed.
-    fn reserve_run(&mut self, first: u32, n: u32, list: &mut PxdList) -> Result<(), AllocError>
+    pub(crate) fn reserve_run(
+        &mut self,
+        first: u32,
+        n: u32,
+        list: &mut PxdList,
+    ) -> Result<(), AllocError>
         requires within { first + n ≤ length self.old.states }
         requires free { is_free (is_used self.old) first n ≡ true }
         ensures list { OnOk result (list.new ≡ list.old ++ record { len = n; addr = first } ∷ []) }

@@ -155,13 +155,14 @@ fn all_agree(alloc: Global, core: &CoreState) -> Result<bool, AllocError> {
 }
 
 #[test]
-fn redoes_every_crash(rt: HostRuntime) -> Result<(), Fail> {
+fn redoes_every_crash(rt: HostRuntime) {
     let alloc = rt.alloc();
-    let mut core = CoreState::new(alloc, &zeros(alloc, 2)?)?;
-    let refused = run(alloc, &mut core, &STEPS)?;
+    let mut core = CoreState::new(alloc, &zeros(alloc, 2).expect(&rt, "memory")).expect(
+        &rt, "memory",
+    );
+    let refused = run(alloc, &mut core, &STEPS).expect(&rt, "memory");
     assert_eq!(rt; refused, None);
-    assert!(rt; all_agree(alloc, &core)?);
-    Ok(())
+    assert!(rt; all_agree(alloc, &core).expect(&rt, "memory"));
 }
 
 // Entries 1 and 2 are stable at home, and the sync count 2 is stable in the log; entry 3 is durable.
@@ -225,15 +226,23 @@ fn first_of(image: Option<PageList>, sectors: Sectors) -> bool {
 }
 
 #[test]
-fn redoes_from_the_sync_count(rt: HostRuntime) -> Result<(), Fail> {
+fn redoes_from_the_sync_count(rt: HostRuntime) {
     let alloc = rt.alloc();
-    assert!(rt; first_of(redone(alloc, 2, &SYNCED, &[], 3)?, content(0, 2)));
-    assert!(rt; redone(alloc, 2, &SYNCED, &[], 2)?.is_none());
-    Ok(())
+    assert!(rt;
+        first_of(
+            redone(alloc, 2, &SYNCED, &[], 3).expect(&rt, "memory"),
+            content(0, 2)
+        )
+    );
+    assert!(rt;
+        redone(alloc, 2, &SYNCED, &[], 2)
+            .expect(&rt, "memory")
+            .is_none()
+    );
 }
 
 #[test]
-fn redoes_a_failed_write(rt: HostRuntime) -> Result<(), Fail> {
+fn redoes_a_failed_write(rt: HostRuntime) {
     let alloc = rt.alloc();
     for top in 0..3 {
         let choice = Choice {
@@ -242,13 +251,17 @@ fn redoes_a_failed_write(rt: HostRuntime) -> Result<(), Fail> {
             top,
             sectors: 8,
         };
-        assert!(rt; first_of(redone(alloc, 1, &FAILED, &[choice], 1)?, content(0, 1)));
+        assert!(rt;
+            first_of(
+                redone(alloc, 1, &FAILED, &[choice], 1).expect(&rt, "memory"),
+                content(0, 1)
+            )
+        );
     }
-    Ok(())
 }
 
 #[test]
-fn redoes_one_page(rt: HostRuntime) -> Result<(), Fail> {
+fn redoes_one_page(rt: HostRuntime) {
     let alloc = rt.alloc();
     let choices = [Choice {
         page: 0,
@@ -259,7 +272,15 @@ fn redoes_one_page(rt: HostRuntime) -> Result<(), Fail> {
     let twos = Sectors {
         bytes: [2, 0, 0, 0, 0, 0, 0, 0],
     };
-    assert!(rt; first_of(redone(alloc, 1, &TWICE, &choices, 2)?, twos));
-    assert!(rt; redone(alloc, 1, &TWICE, &choices, 1)?.is_none());
-    Ok(())
+    assert!(rt;
+        first_of(
+            redone(alloc, 1, &TWICE, &choices, 2).expect(&rt, "memory"),
+            twos
+        )
+    );
+    assert!(rt;
+        redone(alloc, 1, &TWICE, &choices, 1)
+            .expect(&rt, "memory")
+            .is_none()
+    );
 }

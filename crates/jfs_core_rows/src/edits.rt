@@ -90,22 +90,25 @@ const CASES: [Case; 9] = [
 ];
 
 #[test]
-fn puts_lines(rt: HostRuntime) -> Result<(), Fail> {
+fn puts_lines(rt: HostRuntime) {
     let alloc = rt.alloc();
     for case in &CASES {
         let mut bytes = Blob::new(alloc);
         for _ in 0..case.count {
-            bytes.push(9)?;
+            bytes.push(9).expect(&rt, "memory");
         }
         let mut tx = Tx::new(alloc);
-        tx.push(Edit::NoRedo { page: case.page })?;
+        tx.push(Edit::NoRedo { page: case.page })
+            .expect(&rt, "memory");
         tx.push(Edit::Lines {
             page: 5,
             kind: case.kind,
             first: case.first,
             bytes,
-        })?;
-        tx.push(Edit::Free(Pxd { len: 1, addr: 5 }))?;
+        })
+        .expect(&rt, "memory");
+        tx.push(Edit::Free(Pxd { len: 1, addr: 5 }))
+            .expect(&rt, "memory");
         let mut page = Page::zeros();
         apply(&tx, case.page, &mut page);
         for i in 0..4096 {
@@ -114,5 +117,4 @@ fn puts_lines(rt: HostRuntime) -> Result<(), Fail> {
         }
         assert_eq!(rt; touches(&tx, case.page), case.from < case.to);
     }
-    Ok(())
 }

@@ -146,13 +146,19 @@ const STAGES: [Stage; 9] = [
 ];
 
 #[test]
-fn a_page_written_back_twice(rt: HostRuntime) -> Result<(), Fail> {
+fn a_page_written_back_twice(rt: HostRuntime) {
     let alloc = rt.alloc();
-    let mut core = CoreState::new(alloc, &zeros(alloc, 1)?)?;
+    let mut core = CoreState::new(alloc, &zeros(alloc, 1).expect(&rt, "memory")).expect(
+        &rt, "memory",
+    );
     for stage in &STAGES {
         assert!(rt; stage.steps.len() <= 100);
-        assert_eq!(rt; run(alloc, &mut core, stage.steps)?, stage.refused);
-        assert!(rt; all_redone(alloc, &core, stage.contents, stage.n, stage.wanted)?);
+        assert_eq!(rt;
+            run(alloc, &mut core, stage.steps).expect(&rt, "memory"),
+            stage.refused
+        );
+        assert!(rt;
+            all_redone(alloc, &core, stage.contents, stage.n, stage.wanted).expect(&rt, "memory")
+        );
     }
-    Ok(())
 }

@@ -189,17 +189,18 @@ const CASES: [Case; 26] = [
 ];
 
 #[test]
-fn names_the_first_condition(rt: HostRuntime) -> Result<(), Fail> {
+fn names_the_first_condition(rt: HostRuntime) {
     let alloc = rt.alloc();
     for case in &CASES {
-        let mut core = CoreState::new(alloc, &zeros(alloc, 2)?)?;
+        let mut core = CoreState::new(alloc, &zeros(alloc, 2).expect(&rt, "memory")).expect(
+            &rt, "memory",
+        );
         assert!(rt; case.steps.len() <= 100);
-        let refused = run(alloc, &mut core, case.steps)?;
+        let refused = run(alloc, &mut core, case.steps).expect(&rt, "memory");
         let wanted = match case.refused {
             Some((at, why)) => Some(StepRefused { at, why }),
             None => None,
         };
         assert_eq!(rt; refused, wanted);
     }
-    Ok(())
 }

@@ -89,16 +89,15 @@ impl PageView for Shelf {
 }
 
 #[test]
-fn reads_one_page_after_another(rt: HostRuntime) -> Result<(), Fail> {
+fn reads_one_page_after_another(rt: HostRuntime) {
     let mut shelf = Shelf::new(2);
     assert_eq!(rt; shelf.blocks(), 2);
     assert_eq!(rt; first_bytes(&mut shelf), Ok((3, 5)));
     assert_eq!(rt; first_bytes(&mut shelf), Ok((3, 5)));
-    Ok(())
 }
 
 #[test]
-fn hands_the_count_on(rt: HostRuntime) -> Result<(), Fail> {
+fn hands_the_count_on(rt: HostRuntime) {
     let mut shelf = Shelf::new(1);
     for count in 1..3 {
         let fault = Fault {
@@ -107,5 +106,4 @@ fn hands_the_count_on(rt: HostRuntime) -> Result<(), Fail> {
         };
         assert_eq!(rt; first_bytes(&mut shelf), Err(ViewError::Read(fault)));
     }
-    Ok(())
 }

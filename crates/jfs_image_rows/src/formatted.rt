@@ -41,25 +41,26 @@ fn is_empty(tree: &PlainTree, n: u32) -> bool {
 }
 
 #[test]
-fn has_the_new_tree(rt: HostRuntime) -> Result<(), Fail> {
+fn has_the_new_tree(rt: HostRuntime) {
     let alloc = rt.alloc();
-    let mut disk = SureDisk::new(alloc, 4096)?;
+    let mut disk = SureDisk::new(alloc, 4096).expect(&rt, "memory");
     let now = Moment { sec: 1000, nano: 7 };
     assert!(rt; format(&mut disk, Uuid::from_bytes([7; 16]), b"data", now).is_ok());
-    let image = pages_of(alloc, &mut disk)?;
-    let tree = tree_of(alloc, &image)?.expect(&rt, "a formatted volume has a tree");
-    let new = PlainTree::new(alloc, 268_435_456, now)?;
+    let image = pages_of(alloc, &mut disk).expect(&rt, "memory");
+    let tree = tree_of(alloc, &image)
+        .expect(&rt, "memory")
+        .expect(&rt, "a formatted volume has a tree");
+    let new = PlainTree::new(alloc, 268_435_456, now).expect(&rt, "memory");
     for n in 0..9 {
         assert_eq!(rt; stat_of(&tree, n), stat_of(&new, n));
     }
     assert!(rt; is_empty(&tree, 2));
     // Blocks 0 to 32 of 3,008 have owners.
     assert_eq!(rt;
-        room_of(alloc, &image)?,
+        room_of(alloc, &image).expect(&rt, "memory"),
         Some(Room {
             free: 2975,
             inode: Some(4),
         })
     );
-    Ok(())
 }

@@ -59,10 +59,12 @@ fn leads(tree: &PlainTree, n: u32, target: &[u8]) -> bool {
 }
 
 #[test]
-fn nodes_are_the_inodes(rt: HostRuntime) -> Result<(), Fail> {
+fn nodes_are_the_inodes(rt: HostRuntime) {
     let alloc = rt.alloc();
-    let image = small_volume(alloc, &[])?;
-    let tree = tree_of(alloc, &image)?.expect(&rt, "the image has a tree");
+    let image = small_volume(alloc, &[]).expect(&rt, "memory");
+    let tree = tree_of(alloc, &image)
+        .expect(&rt, "memory")
+        .expect(&rt, "the image has a tree");
     assert_eq!(rt; stat_of(&tree, 0), stat(0, NodeKind::File, 0, 1, 0, 0));
     assert_eq!(rt; stat_of(&tree, 2), stat(2, NodeKind::Dir, 0o755, 2, 0, 21));
     assert_eq!(rt; stat_of(&tree, 3), stat(3, NodeKind::File, 0, 1, 0, 0));
@@ -73,14 +75,15 @@ fn nodes_are_the_inodes(rt: HostRuntime) -> Result<(), Fail> {
     );
     assert_eq!(rt; stat_of(&tree, 7), stat(7, NodeKind::Other, 0o666, 2, 0, 0));
     assert_eq!(rt; stat_of(&tree, 8), None);
-    Ok(())
 }
 
 #[test]
-fn file_keeps_its_fields(rt: HostRuntime) -> Result<(), Fail> {
+fn file_keeps_its_fields(rt: HostRuntime) {
     let alloc = rt.alloc();
-    let image = small_volume(alloc, &[])?;
-    let tree = tree_of(alloc, &image)?.expect(&rt, "the image has a tree");
+    let image = small_volume(alloc, &[]).expect(&rt, "memory");
+    let tree = tree_of(alloc, &image)
+        .expect(&rt, "memory")
+        .expect(&rt, "the image has a tree");
     assert_eq!(rt;
         stat_of(&tree, 4),
         Some(Stat {
@@ -103,14 +106,15 @@ fn file_keeps_its_fields(rt: HostRuntime) -> Result<(), Fail> {
             made: moment(17, 18),
         })
     );
-    Ok(())
 }
 
 #[test]
-fn names_and_targets(rt: HostRuntime) -> Result<(), Fail> {
+fn names_and_targets(rt: HostRuntime) {
     let alloc = rt.alloc();
-    let image = small_volume(alloc, &[])?;
-    let tree = tree_of(alloc, &image)?.expect(&rt, "the image has a tree");
+    let image = small_volume(alloc, &[]).expect(&rt, "memory");
+    let tree = tree_of(alloc, &image)
+        .expect(&rt, "memory")
+        .expect(&rt, "the image has a tree");
     for (unit, inode) in [
         (97, Some(4)),
         (98, Some(5)),
@@ -118,7 +122,7 @@ fn names_and_targets(rt: HostRuntime) -> Result<(), Fail> {
         (100, Some(7)),
         (101, None),
     ] {
-        assert_eq!(rt; inode_of(alloc, &tree, unit)?, inode);
+        assert_eq!(rt; inode_of(alloc, &tree, unit).expect(&rt, "memory"), inode);
     }
     let mut long = [0u8; 256];
     long[252] = 0x61;
@@ -128,14 +132,15 @@ fn names_and_targets(rt: HostRuntime) -> Result<(), Fail> {
     assert!(rt; leads(&tree, 5, b"xyz"));
     assert!(rt; leads(&tree, 6, &long));
     assert!(rt; leads(&tree, 4, b""));
-    Ok(())
 }
 
 #[test]
-fn bytes_of_the_file(rt: HostRuntime) -> Result<(), Fail> {
+fn bytes_of_the_file(rt: HostRuntime) {
     let alloc = rt.alloc();
-    let image = small_volume(alloc, &[])?;
-    let tree = tree_of(alloc, &image)?.expect(&rt, "the image has a tree");
+    let image = small_volume(alloc, &[]).expect(&rt, "memory");
+    let tree = tree_of(alloc, &image)
+        .expect(&rt, "memory")
+        .expect(&rt, "the image has a tree");
     for (i, byte) in [
         (0, 0x41),
         (3, 0x44),
@@ -155,5 +160,4 @@ fn bytes_of_the_file(rt: HostRuntime) -> Result<(), Fail> {
     }
     // a link's blocks aren't a file's bytes
     assert_eq!(rt; tree.byte(6, 252), 0);
-    Ok(())
 }

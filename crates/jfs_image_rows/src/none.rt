@@ -35,30 +35,27 @@ fn has_tree(alloc: Global, image: &PageList) -> Result<bool, AllocError> {
 }
 
 #[test]
-fn broken_rules(rt: HostRuntime) -> Result<(), Fail> {
+fn broken_rules(rt: HostRuntime) {
     let alloc = rt.alloc();
     for word in BROKEN {
-        let image = small_volume(alloc, &[word])?;
-        assert_eq!(rt; has_tree(alloc, &image)?, false);
+        let image = small_volume(alloc, &[word]).expect(&rt, "memory");
+        assert_eq!(rt; has_tree(alloc, &image).expect(&rt, "memory"), false);
     }
-    Ok(())
 }
 
 #[test]
-fn few_pages(rt: HostRuntime) -> Result<(), Fail> {
+fn few_pages(rt: HostRuntime) {
     let alloc = rt.alloc();
     for count in [0, 8] {
-        let image = PageList::from(zeros(alloc, count)?);
-        assert_eq!(rt; has_tree(alloc, &image)?, false);
+        let image = PageList::from(zeros(alloc, count).expect(&rt, "memory"));
+        assert_eq!(rt; has_tree(alloc, &image).expect(&rt, "memory"), false);
     }
-    Ok(())
 }
 
 #[test]
-fn inodes_not_in_use(rt: HostRuntime) -> Result<(), Fail> {
+fn inodes_not_in_use(rt: HostRuntime) {
     // Inode 8 has another number and no type, but no link.
     let alloc = rt.alloc();
-    let image = small_volume(alloc, &[(30, 8, 77)])?;
-    assert!(rt; has_tree(alloc, &image)?);
-    Ok(())
+    let image = small_volume(alloc, &[(30, 8, 77)]).expect(&rt, "memory");
+    assert!(rt; has_tree(alloc, &image).expect(&rt, "memory"));
 }

@@ -31,53 +31,50 @@ fn full_volume(alloc: Global, others: &[Word]) -> Result<PageList, AllocError> {
 }
 
 #[test]
-fn free_inode_of_an_extent(rt: HostRuntime) -> Result<(), Fail> {
+fn free_inode_of_an_extent(rt: HostRuntime) {
     // Blocks 0 to 32 and 40 to 43 have owners.
     let alloc = rt.alloc();
-    let image = small_volume(alloc, &[])?;
+    let image = small_volume(alloc, &[]).expect(&rt, "memory");
     assert_eq!(rt;
-        room_of(alloc, &image)?,
+        room_of(alloc, &image).expect(&rt, "memory"),
         Some(Room {
             free: 27,
             inode: Some(8),
         })
     );
-    Ok(())
 }
 
 #[test]
-fn inode_of_a_new_extent(rt: HostRuntime) -> Result<(), Fail> {
+fn inode_of_a_new_extent(rt: HostRuntime) {
     // Blocks 36 to 39 are a run for the second extent.
     let alloc = rt.alloc();
-    let image = full_volume(alloc, &[])?;
+    let image = full_volume(alloc, &[]).expect(&rt, "memory");
     assert_eq!(rt;
-        room_of(alloc, &image)?,
+        room_of(alloc, &image).expect(&rt, "memory"),
         Some(Room {
             free: 27,
             inode: Some(32),
         })
     );
-    Ok(())
 }
 
 #[test]
-fn no_inode(rt: HostRuntime) -> Result<(), Fail> {
+fn no_inode(rt: HostRuntime) {
     // The file's extent that isn't recorded has blocks 33 to 39, its last one blocks 42 to 63: block 41 alone is free.
     let alloc = rt.alloc();
     let words = [(29, 2328, 7), (29, 2332, 33), (29, 2340, 9), (29, 2344, 22)];
-    let image = full_volume(alloc, &words)?;
+    let image = full_volume(alloc, &words).expect(&rt, "memory");
     assert_eq!(rt;
-        room_of(alloc, &image)?,
+        room_of(alloc, &image).expect(&rt, "memory"),
         Some(Room {
             free: 1,
             inode: None,
         })
     );
-    Ok(())
 }
 
 #[test]
-fn no_tree(rt: HostRuntime) -> Result<(), Fail> {
+fn no_tree(rt: HostRuntime) {
     let alloc = rt.alloc();
     for word in [
         (8, 0, 0x3253_464a),
@@ -85,8 +82,7 @@ fn no_tree(rt: HostRuntime) -> Result<(), Fail> {
         (29, 2056, 5),
         (29, 2348, 64),
     ] {
-        let image = small_volume(alloc, &[word])?;
-        assert_eq!(rt; room_of(alloc, &image)?, None);
+        let image = small_volume(alloc, &[word]).expect(&rt, "memory");
+        assert_eq!(rt; room_of(alloc, &image).expect(&rt, "memory"), None);
     }
-    Ok(())
 }

@@ -117,12 +117,12 @@ fn rule_of(alloc: Global, bytes: &[u8]) -> Option<Rule> {
 }
 
 #[test]
-fn first_rules(rt: HostRuntime) -> Result<(), Fail> {
+fn first_rules(rt: HostRuntime) {
     let alloc = rt.alloc();
     assert_eq!(rt; rule_of(alloc, &[]), Some(Rule::BadType));
     assert_eq!(rt; rule_of(alloc, &[0x80; 35]), Some(Rule::BadType));
     for c in &cases() {
-        let bytes = text(alloc, c)?;
+        let bytes = text(alloc, c).expect(&rt, "memory");
         assert_eq!(rt;
             rule_of(alloc, bytes.as_slice()),
             c.rule,
@@ -133,18 +133,19 @@ fn first_rules(rt: HostRuntime) -> Result<(), Fail> {
             c.addr
         );
     }
-    Ok(())
 }
 
 #[test]
-fn longest_list(rt: HostRuntime) -> Result<(), Fail> {
+fn longest_list(rt: HostRuntime) {
     let alloc = rt.alloc();
     let mut bytes = Vec::new(alloc);
     for _ in 0..8191 {
-        bytes.extend_from_slice(&RUN)?;
+        bytes.extend_from_slice(&RUN).expect(&rt, "memory");
     }
     let whole = given(&[], 0x0008, 65528, 0x40, 8191, 0, 0, None);
-    bytes.extend_from_slice(text(alloc, &whole)?.as_slice())?;
+    bytes
+        .extend_from_slice(text(alloc, &whole).expect(&rt, "memory").as_slice())
+        .expect(&rt, "memory");
     let Ok(
         (
             Record::Update {
@@ -156,10 +157,9 @@ fn longest_list(rt: HostRuntime) -> Result<(), Fail> {
         ),
     ) = read_record_before(alloc, bytes.as_slice(), BLOCKS)
     else {
-        return Err("this is a list".into());
+        panic!(rt; "this is a list");
     };
     assert_eq!(rt; list.len(), 8191);
-    Ok(())
 }
 
 #[test]

@@ -74,9 +74,13 @@ fn behind(alloc: Global, text: &[u8]) -> Result<Vec<u8>, AllocError> {
 }
 
 #[test]
-fn reads_each_type(rt: HostRuntime) -> Result<(), Fail> {
+fn reads_each_type(rt: HostRuntime) {
     let alloc = rt.alloc();
-    let commit = read_record_before(alloc, behind(alloc, &COMMIT)?.as_slice(), BLOCKS);
+    let commit = read_record_before(
+        alloc,
+        behind(alloc, &COMMIT).expect(&rt, "memory").as_slice(),
+        BLOCKS,
+    );
     assert!(rt;
         matches!(
             &commit,
@@ -89,9 +93,17 @@ fn reads_each_type(rt: HostRuntime) -> Result<(), Fail> {
             ))
         )
     );
-    let syncpt = read_record_before(alloc, behind(alloc, &SYNCPT)?.as_slice(), BLOCKS);
+    let syncpt = read_record_before(
+        alloc,
+        behind(alloc, &SYNCPT).expect(&rt, "memory").as_slice(),
+        BLOCKS,
+    );
     assert!(rt; matches!(&syncpt, Ok((Record::SyncPt { sync: 8236 }, 3))));
-    let no_redo = read_record_before(alloc, behind(alloc, &NO_REDO)?.as_slice(), BLOCKS);
+    let no_redo = read_record_before(
+        alloc,
+        behind(alloc, &NO_REDO).expect(&rt, "memory").as_slice(),
+        BLOCKS,
+    );
     assert!(rt;
         matches!(
             &no_redo,
@@ -108,13 +120,16 @@ fn reads_each_type(rt: HostRuntime) -> Result<(), Fail> {
             ))
         )
     );
-    Ok(())
 }
 
 #[test]
-fn reads_ranges(rt: HostRuntime) -> Result<(), Fail> {
+fn reads_ranges(rt: HostRuntime) {
     let alloc = rt.alloc();
-    let read = read_record_before(alloc, behind(alloc, &REDO)?.as_slice(), BLOCKS);
+    let read = read_record_before(
+        alloc,
+        behind(alloc, &REDO).expect(&rt, "memory").as_slice(),
+        BLOCKS,
+    );
     let Ok(
         (
             Record::Redo {
@@ -131,10 +146,10 @@ fn reads_ranges(rt: HostRuntime) -> Result<(), Fail> {
         ),
     ) = read
     else {
-        return Err("these are lines of a page".into());
+        panic!(rt; "these are lines of a page");
     };
-    let first = ranges.get(0).ok_or("there are two ranges")?;
-    let second = ranges.get(1).ok_or("there are two ranges")?;
+    let first = ranges.get(0).expect(&rt, "there are two ranges");
+    let second = ranges.get(1).expect(&rt, "there are two ranges");
     assert_eq!(rt; ranges.len(), 2);
     assert_eq!(rt; (first.first, first.bytes.len()), (2, 32));
     assert_eq!(rt; (second.first, second.bytes.len()), (255, 16));
@@ -146,13 +161,16 @@ fn reads_ranges(rt: HostRuntime) -> Result<(), Fail> {
         (second.bytes.get(0), second.bytes.get(15)),
         (Some(&41), Some(&56))
     );
-    Ok(())
 }
 
 #[test]
-fn reads_runs(rt: HostRuntime) -> Result<(), Fail> {
+fn reads_runs(rt: HostRuntime) {
     let alloc = rt.alloc();
-    let read = read_record_before(alloc, behind(alloc, &UPDATE)?.as_slice(), BLOCKS);
+    let read = read_record_before(
+        alloc,
+        behind(alloc, &UPDATE).expect(&rt, "memory").as_slice(),
+        BLOCKS,
+    );
     let Ok(
         (
             Record::Update {
@@ -167,12 +185,11 @@ fn reads_runs(rt: HostRuntime) -> Result<(), Fail> {
         ),
     ) = read
     else {
-        return Err("these are blocks".into());
+        panic!(rt; "these are blocks");
     };
     assert_eq!(rt; list.len(), 2);
     assert_eq!(rt; list.get(0), Some(&Pxd { len: 4, addr: 100 }));
     assert_eq!(rt; list.get(1), Some(&Pxd { len: 1, addr: 3007 }));
-    Ok(())
 }
 
 /// A record's text.
@@ -185,15 +202,21 @@ fn written(alloc: Global, r: &Record) -> Result<Vec<u8>, AllocError>
 }
 
 #[test]
-fn writes_each_type(rt: HostRuntime) -> Result<(), Fail> {
+fn writes_each_type(rt: HostRuntime) {
     let alloc = rt.alloc();
     let commit = Record::Commit {
         tid: 1,
         back: 4_190_420,
     };
-    assert_eq!(rt; written(alloc, &commit)?.as_slice(), COMMIT.as_slice());
+    assert_eq!(rt;
+        written(alloc, &commit).expect(&rt, "memory").as_slice(),
+        COMMIT.as_slice()
+    );
     let syncpt = Record::SyncPt { sync: 8236 };
-    assert_eq!(rt; written(alloc, &syncpt)?.as_slice(), SYNCPT.as_slice());
+    assert_eq!(rt;
+        written(alloc, &syncpt).expect(&rt, "memory").as_slice(),
+        SYNCPT.as_slice()
+    );
     let no_redo = Record::NoRedo {
         tid: 2,
         back: 0,
@@ -202,16 +225,18 @@ fn writes_each_type(rt: HostRuntime) -> Result<(), Fail> {
         kind: PageKind::Dtree,
         at: Pxd { len: 1, addr: 20 },
     };
-    assert_eq!(rt; written(alloc, &no_redo)?.as_slice(), NO_REDO.as_slice());
-    Ok(())
+    assert_eq!(rt;
+        written(alloc, &no_redo).expect(&rt, "memory").as_slice(),
+        NO_REDO.as_slice()
+    );
 }
 
 #[test]
-fn writes_runs(rt: HostRuntime) -> Result<(), Fail> {
+fn writes_runs(rt: HostRuntime) {
     let alloc = rt.alloc();
     let mut list = PxdList::new(alloc);
-    list.push(Pxd { len: 4, addr: 100 })?;
-    list.push(Pxd { len: 1, addr: 3007 })?;
+    list.push(Pxd { len: 4, addr: 100 }).expect(&rt, "memory");
+    list.push(Pxd { len: 1, addr: 3007 }).expect(&rt, "memory");
     let update = Record::Update {
         tid: 4,
         back: 9,
@@ -220,20 +245,21 @@ fn writes_runs(rt: HostRuntime) -> Result<(), Fail> {
         alloc: true,
         list,
     };
-    assert_eq!(rt; written(alloc, &update)?.as_slice(), UPDATE.as_slice());
-    Ok(())
+    assert_eq!(rt;
+        written(alloc, &update).expect(&rt, "memory").as_slice(),
+        UPDATE.as_slice()
+    );
 }
 
 #[test]
-fn writes_ranges(rt: HostRuntime) -> Result<(), Fail> {
+fn writes_ranges(rt: HostRuntime) {
     let alloc = rt.alloc();
-    let r = redo(alloc)?;
+    let r = redo(alloc).expect(&rt, "memory");
     let mut text = Vec::new(alloc);
-    write_record(&r, &mut text)?;
+    write_record(&r, &mut text).expect(&rt, "memory");
     assert_eq!(rt; text.as_slice(), REDO.as_slice());
     let (_, start) = there_and_back(alloc, text, &r, BLOCKS)
         .ok()
-        .ok_or("it is read back")?;
+        .expect(&rt, "it is read back");
     assert_eq!(rt; start, 92);
-    Ok(())
 }

@@ -44,6 +44,13 @@ pub fn take(map: &mut BlockMap, alloc: Global, hint: u32, n: u32) -> Result<PxdL
     Ok(list)
 }
 
+/// Reserves blocks one by one, and gives them owners.
+pub fn take_each(map: &mut BlockMap, alloc: Global, n: u32) -> Result<PxdList, ReserveError> {
+    let list = map.reserve_each(alloc, n)?;
+    map.own(&list);
+    Ok(list)
+}
+
 /// Reserves blocks and gives them back.
 pub fn try_out(
     map: &mut BlockMap,

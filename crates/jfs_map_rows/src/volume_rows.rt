@@ -2,7 +2,9 @@
 
 ghost use Rattle.std.specs.Prelude.{◌≤◌};
 
-use crate::volume::{map_of, release_run, take, take_first_of_two, take_four, try_four, try_out};
+use crate::volume::{
+    map_of, release_run, take, take_each, take_first_of_two, take_four, try_four, try_out,
+};
 use jfs_bits::{Pxd, PxdList, set_run};
 use jfs_bmap::{BlockMap, NoSpace, ReserveError};
 use std::alloc::{AllocError, Global};
@@ -55,8 +57,12 @@ enum Row {
     Take(u32, u32, Runs),
     /// The same, but they are given back.
     TryOut(u32, u32, Runs),
+    /// How many blocks are wanted one by one, and the runs that are given; they get owners.
+    TakeEach(u32, Runs),
     /// How many blocks are wanted, and how many are free.
     Refused(u32, u32),
+    /// The same, of blocks one by one.
+    RefusedEach(u32, u32),
     /// The lengths of two lists, of which the first gets owners.
     FirstOfTwo(u32, u32, Runs),
     TakeFour(Option<u64>),
@@ -89,6 +95,14 @@ fn is_short(map: &mut BlockMap, alloc: Global, n: u32, free: u32) -> bool {
     is_refused(&take(map, alloc, 0, n), free)
 }
 
+fn is_each_taken(map: &mut BlockMap, alloc: Global, n: u32, runs: Runs) -> bool {
+    are_given(&take_each(map, alloc, n), runs)
+}
+
+fn is_each_short(map: &mut BlockMap, alloc: Global, n: u32, free: u32) -> bool {
+    is_refused(&take_each(map, alloc, n), free)
+}
+
 fn is_first_taken(map: &mut BlockMap, alloc: Global, first: u32, second: u32, runs: Runs) -> bool {
     are_given(&take_first_of_two(map, alloc, first, second), runs)
 }
@@ -107,7 +121,9 @@ fn is_so(map: &mut BlockMap, alloc: Global, row: Row) -> bool {
         Row::FourOnceSettled(is_there) => map.has_four_once_settled() == is_there,
         Row::Take(hint, n, runs) => is_taken(map, alloc, hint, n, runs),
         Row::TryOut(hint, n, runs) => is_tried(map, alloc, hint, n, runs),
+        Row::TakeEach(n, runs) => is_each_taken(map, alloc, n, runs),
         Row::Refused(n, free) => is_short(map, alloc, n, free),
+        Row::RefusedEach(n, free) => is_each_short(map, alloc, n, free),
         Row::FirstOfTwo(first, second, runs) => is_first_taken(map, alloc, first, second, runs),
         Row::TakeFour(first) => is_four(take_four(map), first),
         Row::TryFour(first) => is_four(try_four(map), first),
@@ -137,6 +153,33 @@ fn first_wrong(alloc: Global, owned: u32, rows: &[Row]) -> Result<Option<usize>,
         }
     }
     Ok(None)
+}
+
+// Blocks one by one, each the lowest: around those that are reserved, owned or busy.
+static SINGLES: [Row; 14] = [
+    Row::TakeEach(0, &[]),
+    Row::TakeEach(3, &[(54, 1), (55, 1), (56, 1)]),
+    Row::RunOfFour(Some(60)),
+    Row::Release(7, 2, 3),
+    Row::RefusedEach(4, 3),
+    Row::Free(3),
+    Row::Settle(3),
+    Row::Release(20, 1, 4),
+    Row::TakeEach(4, &[(7, 1), (8, 1), (57, 1), (58, 1)]),
+    Row::Free(1),
+    Row::Busy(1),
+    Row::TakeEach(1, &[(59, 1)]),
+    Row::RefusedEach(1, 0),
+    Row::Unowned(5),
+];
+
+// 64 blocks, of which 0 to 53 have owners.
+#[test]
+fn blocks_one_by_one(rt: HostRuntime) {
+    assert_eq!(rt;
+        first_wrong(rt.alloc(), 54, &SINGLES).expect(&rt, "memory"),
+        None
+    );
 }
 
 // The last of the taken blocks are the lowest: 50, 51 and 55 are left.

@@ -144,8 +144,10 @@ fn is_told(alloc: Global, call: &Call, wanted: &str) -> Result<bool, AllocError>
 }
 
 // Whether a script of one line asks for this call, and its copy does.
-fn asks(alloc: Global, line: &str, wanted: &str) -> Result<bool, Fail> {
-    let lines = script_of(alloc, line.as_bytes())?;
+fn asks(alloc: Global, line: &str, wanted: &str) -> Result<bool, AllocError> {
+    let Ok(lines) = script_of(alloc, line.as_bytes()) else {
+        return Ok(false);
+    };
     let [line] = lines.as_slice() else {
         return Ok(false);
     };
@@ -158,9 +160,11 @@ fn asks(alloc: Global, line: &str, wanted: &str) -> Result<bool, Fail> {
 }
 
 #[test]
-fn each_call(rt: HostRuntime) -> Result<(), Fail> {
+fn each_call(rt: HostRuntime) {
     for (line, wanted) in CALLS.iter() {
-        assert!(rt; asks(rt.alloc(), line, wanted)?, "{line}");
+        assert!(rt;
+            asks(rt.alloc(), line, wanted).expect(&rt, "memory"),
+            "{line}"
+        );
     }
-    Ok(())
 }

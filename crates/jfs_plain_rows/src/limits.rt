@@ -36,7 +36,7 @@ fn breaks(rule: Rule) -> Option<ScriptError> {
 }
 
 #[test]
-fn numbers(rt: HostRuntime) -> Result<(), Fail> {
+fn numbers(rt: HostRuntime) {
     let alloc = rt.alloc();
     for line in [
         b"truncate /f 0".as_slice(),
@@ -66,7 +66,6 @@ fn numbers(rt: HostRuntime) -> Result<(), Fail> {
     ] {
         assert_eq!(rt; error_of(alloc, line), breaks(Rule::Number));
     }
-    Ok(())
 }
 
 /// A front, a piece, how many times it comes, an end, and the rule that the line breaks.
@@ -112,12 +111,13 @@ fn broken(rule: Option<Rule>) -> Option<ScriptError> {
 }
 
 #[test]
-fn names_paths_and_targets(rt: HostRuntime) -> Result<(), Fail> {
+fn names_paths_and_targets(rt: HostRuntime) {
     for (front, piece, times, end, rule) in LONG_WORDS.iter() {
-        let is_so = is_answered(rt.alloc(), front, piece, *times, end, broken(*rule))?;
+        let is_so = is_answered(rt.alloc(), front, piece, *times, end, broken(*rule)).expect(
+            &rt, "memory",
+        );
         assert!(rt; is_so, "{front:?} {times}");
     }
-    Ok(())
 }
 
 /// A word that comes first, a piece, how many times it comes, and the end of the script; the count of what is too much, if it is.
@@ -169,49 +169,56 @@ fn is_long_answered(
 }
 
 #[test]
-fn lines_and_bytes(rt: HostRuntime) -> Result<(), Fail> {
+fn lines_and_bytes(rt: HostRuntime) {
     for (front, piece, times, end, count) in MANY_LINES.iter() {
-        let is_so = is_answered(rt.alloc(), front, piece, *times, end, too_much(*count))?;
+        let is_so = is_answered(rt.alloc(), front, piece, *times, end, too_much(*count)).expect(
+            &rt, "memory",
+        );
         assert!(rt; is_so, "{front:?} {times}");
     }
     for (bytes, times, end, count) in MANY_BYTES.iter() {
-        let is_so = is_long_answered(rt.alloc(), *bytes, *times, end, too_much(*count))?;
+        let is_so = is_long_answered(rt.alloc(), *bytes, *times, end, too_much(*count)).expect(
+            &rt, "memory",
+        );
         assert!(rt; is_so, "{bytes} {times}");
     }
-    Ok(())
 }
 
 #[test]
-fn pieces(rt: HostRuntime) -> Result<(), Fail> {
+fn pieces(rt: HostRuntime) {
     let alloc = rt.alloc();
     // A piece of the source ends between a carriage return and its line feed.
-    let text = repeated(alloc, b"#", b"x", 4094, b"\r\nsync\n")?;
-    let lines = script_of(alloc, &text).ok().ok_or("no script")?;
+    let text = repeated(alloc, b"#", b"x", 4094, b"\r\nsync\n").expect(&rt, "memory");
+    let lines = script_of(alloc, &text).ok().expect(&rt, "a script");
     assert_eq!(rt; lines.len(), 1);
     assert_eq!(rt; lines[0].number, 2);
     // And within a word.
-    let text = repeated(alloc, b"#", b"x", 4092, b"\nsync\n")?;
-    let lines = script_of(alloc, &text).ok().ok_or("no script")?;
+    let text = repeated(alloc, b"#", b"x", 4092, b"\nsync\n").expect(&rt, "memory");
+    let lines = script_of(alloc, &text).ok().expect(&rt, "a script");
     assert_eq!(rt; lines.len(), 1);
     assert_eq!(rt; lines[0].number, 2);
-    Ok(())
 }
 
 #[test]
-fn faults(rt: HostRuntime) -> Result<(), Fail> {
+fn faults(rt: HostRuntime) {
     let alloc = rt.alloc();
-    let mut source = MemSource::new(Vec::from_slice(alloc, b"foo\n")?).with_fails(1, 1);
+    let mut source = MemSource::new(Vec::from_slice(alloc, b"foo\n").expect(
+        &rt, "memory",
+    )).with_fails(1, 1);
     assert_eq!(rt;
         read_script(alloc, &mut source).err(),
         Some(ScriptError::Fault)
     );
     // A later fault comes before a bad line.
-    let mut source = MemSource::new(Vec::from_slice(alloc, b"foo\n")?).with_fails(2, 2);
+    let mut source = MemSource::new(Vec::from_slice(alloc, b"foo\n").expect(
+        &rt, "memory",
+    )).with_fails(2, 2);
     assert_eq!(rt;
         read_script(alloc, &mut source).err(),
         Some(ScriptError::Fault)
     );
-    let mut source = MemSource::new(Vec::from_slice(alloc, b"foo\n")?).with_fails(3, 3);
+    let mut source = MemSource::new(Vec::from_slice(alloc, b"foo\n").expect(
+        &rt, "memory",
+    )).with_fails(3, 3);
     assert_eq!(rt; read_script(alloc, &mut source).err(), breaks(Rule::Word));
-    Ok(())
 }

@@ -80,15 +80,14 @@ fn rule_of(alloc: Global, line: &[u8]) -> Option<Rule> {
 }
 
 #[test]
-fn first_rules(rt: HostRuntime) -> Result<(), Fail> {
+fn first_rules(rt: HostRuntime) {
     for (line, rule) in RULES.iter() {
         assert!(rt; rule_of(rt.alloc(), line) == *rule, "{rule:?} {line:?}");
     }
-    Ok(())
 }
 
 #[test]
-fn first_bad_line(rt: HostRuntime) -> Result<(), Fail> {
+fn first_bad_line(rt: HostRuntime) {
     let alloc = rt.alloc();
     let text = b"# one\n\r\nsync\n  \nstat a\nfoo\nsync\n";
     assert_eq!(rt;
@@ -99,22 +98,20 @@ fn first_bad_line(rt: HostRuntime) -> Result<(), Fail> {
         })
     );
     let text = b"# one\n\r\nsync\n  \nlazy unlink /a\r\n#\nstat /";
-    let lines = script_of(alloc, text).ok().ok_or("no script")?;
+    let lines = script_of(alloc, text).ok().expect(&rt, "a script");
     assert_eq!(rt; lines.len(), 3);
     assert_eq!(rt; lines[0].number, 3);
     assert_eq!(rt; lines[1].number, 5);
     assert!(rt; lines[1].request.lazy);
     assert_eq!(rt; lines[2].number, 7);
     assert!(rt; !lines[2].request.lazy);
-    Ok(())
 }
 
 #[test]
-fn nothing_asked(rt: HostRuntime) -> Result<(), Fail> {
+fn nothing_asked(rt: HostRuntime) {
     let alloc = rt.alloc();
     for text in [b"".as_slice(), b"\n", b"\n\n#\n", b"# sync"] {
-        let lines = script_of(alloc, text).ok().ok_or("no script")?;
+        let lines = script_of(alloc, text).ok().expect(&rt, "a script");
         assert_eq!(rt; lines.len(), 0);
     }
-    Ok(())
 }

@@ -53,13 +53,12 @@ static LINKS_OF_A_DIRECTORY: [(&str, &str); 15] = [
 ];
 
 #[test]
-fn links_of_a_directory(rt: HostRuntime) -> Result<(), Fail> {
-    let tree = linked(rt.alloc(), 65_533, 1)?;
+fn links_of_a_directory(rt: HostRuntime) {
+    let tree = linked(rt.alloc(), 65_533, 1).expect(&rt, "memory");
     assert_eq!(rt;
-        first_wrong_of(rt.alloc(), tree, &LINKS_OF_A_DIRECTORY)?,
+        first_wrong_of(rt.alloc(), tree, &LINKS_OF_A_DIRECTORY).expect(&rt, "memory"),
         None
     );
-    Ok(())
 }
 
 static LINKS_OF_A_FILE: [(&str, &str); 7] = [
@@ -73,10 +72,12 @@ static LINKS_OF_A_FILE: [(&str, &str); 7] = [
 ];
 
 #[test]
-fn links_of_a_file(rt: HostRuntime) -> Result<(), Fail> {
-    let tree = linked(rt.alloc(), 2, 65_534)?;
-    assert_eq!(rt; first_wrong_of(rt.alloc(), tree, &LINKS_OF_A_FILE)?, None);
-    Ok(())
+fn links_of_a_file(rt: HostRuntime) {
+    let tree = linked(rt.alloc(), 2, 65_534).expect(&rt, "memory");
+    assert_eq!(rt;
+        first_wrong_of(rt.alloc(), tree, &LINKS_OF_A_FILE).expect(&rt, "memory"),
+        None
+    );
 }
 
 #[test]

@@ -69,22 +69,25 @@ fn is_target(alloc: Global, bytes: &[u8], wanted: &str) -> Result<bool, AllocErr
 }
 
 #[test]
-fn replies(rt: HostRuntime) -> Result<(), Fail> {
+fn replies(rt: HostRuntime) {
     let alloc = rt.alloc();
-    assert!(rt; is_line(alloc, Reply::Done, true, "7 2.3 ok +\n")?);
-    assert!(rt; is_line(alloc, Reply::Done, false, "7 2.3 ok -\n")?);
-    assert!(rt; is_bytes(alloc, b"\0\x4f\xff", "7 2.3 bytes 004fff -\n")?);
-    assert!(rt; is_bytes(alloc, b"", "7 2.3 bytes - -\n")?);
-    assert!(rt; is_target(alloc, b"a b%\x7f/", "7 2.3 target a%20b%25%7F/ -\n")?);
-    let listed = Reply::Names(names(alloc)?);
-    assert!(rt; is_line(alloc, listed, false, "7 2.3 names 2 a%u0025 %u00E4b -\n")?);
+    assert!(rt; is_line(alloc, Reply::Done, true, "7 2.3 ok +\n").expect(&rt, "memory"));
+    assert!(rt; is_line(alloc, Reply::Done, false, "7 2.3 ok -\n").expect(&rt, "memory"));
+    assert!(rt; is_bytes(alloc, b"\0\x4f\xff", "7 2.3 bytes 004fff -\n").expect(&rt, "memory"));
+    assert!(rt; is_bytes(alloc, b"", "7 2.3 bytes - -\n").expect(&rt, "memory"));
+    assert!(rt;
+        is_target(alloc, b"a b%\x7f/", "7 2.3 target a%20b%25%7F/ -\n").expect(&rt, "memory")
+    );
+    let listed = Reply::Names(names(alloc).expect(&rt, "memory"));
+    assert!(rt;
+        is_line(alloc, listed, false, "7 2.3 names 2 a%u0025 %u00E4b -\n").expect(&rt, "memory")
+    );
     let listed = Reply::Names(NameList::new(alloc));
-    assert!(rt; is_line(alloc, listed, false, "7 2.3 names 0 -\n")?);
-    Ok(())
+    assert!(rt; is_line(alloc, listed, false, "7 2.3 names 0 -\n").expect(&rt, "memory"));
 }
 
 #[test]
-fn stats(rt: HostRuntime) -> Result<(), Fail> {
+fn stats(rt: HostRuntime) {
     let alloc = rt.alloc();
     for (kind, mode, wanted) in [
         (
@@ -108,14 +111,13 @@ fn stats(rt: HostRuntime) -> Result<(), Fail> {
             b"7 2.3 stat other 7777 2 3 4 18446744073709551615 5 1000 -\n",
         ),
     ] {
-        let text = line_of(alloc, Reply::Attr(stat(kind, mode)), false)?;
+        let text = line_of(alloc, Reply::Attr(stat(kind, mode)), false).expect(&rt, "memory");
         assert_eq!(rt; text.as_slice(), wanted);
     }
-    Ok(())
 }
 
 #[test]
-fn refusals(rt: HostRuntime) -> Result<(), Fail> {
+fn refusals(rt: HostRuntime) {
     let alloc = rt.alloc();
     let low = Fault {
         part: Part::Low,
@@ -164,8 +166,7 @@ fn refusals(rt: HostRuntime) -> Result<(), Fail> {
             b"7 2.3 refused 16 TooDeep 2 -\n",
         ),
     ] {
-        let text = line_of(alloc, Reply::Refused(refusal), false)?;
+        let text = line_of(alloc, Reply::Refused(refusal), false).expect(&rt, "memory");
         assert_eq!(rt; text.as_slice(), wanted);
     }
-    Ok(())
 }

@@ -45,12 +45,9 @@ fn told(
 }
 
 /// The call that a line of a script asks for.
-fn call_of(alloc: Global, text: &str) -> Result<Option<Call>, Fail> {
-    let mut lines = script_of(alloc, text.as_bytes())?;
-    match lines.pop() {
-        Some(line) => Ok(Some(line.request.call)),
-        None => Ok(None),
-    }
+fn call_of(alloc: Global, text: &str) -> Option<Call> {
+    let mut lines = script_of(alloc, text.as_bytes()).ok()?;
+    Some(lines.pop()?.request.call)
 }
 
 /// Whether row i, from 0, is answered as wanted: it comes at second 100 + i, and inode 4 + i is free for it.
@@ -60,12 +57,12 @@ fn is_told(
     row: u32,
     text: &str,
     wanted: &str,
-) -> Result<bool, Fail> {
+) -> Result<bool, AllocError> {
     let now = Moment {
         sec: row.wrapping_add(100),
         nano: 5,
     };
-    let Some(call) = call_of(alloc, text)? else {
+    let Some(call) = call_of(alloc, text) else {
         return Ok(false);
     };
     let told = told(alloc, tree, call, row.wrapping_add(4), now)?;
@@ -74,7 +71,11 @@ fn is_told(
 }
 
 /// The first row whose reply isn't as wanted, of a new tree with this file limit.
-fn first_wrong(alloc: Global, file_limit: u64, rows: &[(&str, &str)]) -> Result<Option<u32>, Fail> {
+fn first_wrong(
+    alloc: Global,
+    file_limit: u64,
+    rows: &[(&str, &str)],
+) -> Result<Option<u32>, AllocError> {
     let tree = PlainTree::new(alloc, file_limit, Moment { sec: 7, nano: 0 })?;
     first_wrong_of(alloc, tree, rows)
 }
@@ -84,7 +85,7 @@ pub fn first_wrong_of(
     alloc: Global,
     mut tree: PlainTree,
     rows: &[(&str, &str)],
-) -> Result<Option<u32>, Fail> {
+) -> Result<Option<u32>, AllocError> {
     let mut row = 0u32;
     for (text, wanted) in rows {
         if !is_told(alloc, &mut tree, row, text, wanted)? {
@@ -106,9 +107,11 @@ static INTO_ITSELF: [(&str, &str); 7] = [
 ];
 
 #[test]
-fn a_directory_into_itself_and_two_names_of_one_file(rt: HostRuntime) -> Result<(), Fail> {
-    assert_eq!(rt; first_wrong(rt.alloc(), 33_554_432, &INTO_ITSELF)?, None);
-    Ok(())
+fn a_directory_into_itself_and_two_names_of_one_file(rt: HostRuntime) {
+    assert_eq!(rt;
+        first_wrong(rt.alloc(), 33_554_432, &INTO_ITSELF).expect(&rt, "memory"),
+        None
+    );
 }
 
 static HOLES: [(&str, &str); 13] = [
@@ -128,9 +131,11 @@ static HOLES: [(&str, &str); 13] = [
 ];
 
 #[test]
-fn holes_and_the_file_limit(rt: HostRuntime) -> Result<(), Fail> {
-    assert_eq!(rt; first_wrong(rt.alloc(), 268_435_456, &HOLES)?, None);
-    Ok(())
+fn holes_and_the_file_limit(rt: HostRuntime) {
+    assert_eq!(rt;
+        first_wrong(rt.alloc(), 268_435_456, &HOLES).expect(&rt, "memory"),
+        None
+    );
 }
 
 static EACH_CALL: [(&str, &str); 30] = [
@@ -167,9 +172,11 @@ static EACH_CALL: [(&str, &str); 30] = [
 ];
 
 #[test]
-fn each_call(rt: HostRuntime) -> Result<(), Fail> {
-    assert_eq!(rt; first_wrong(rt.alloc(), 33_554_432, &EACH_CALL)?, None);
-    Ok(())
+fn each_call(rt: HostRuntime) {
+    assert_eq!(rt;
+        first_wrong(rt.alloc(), 33_554_432, &EACH_CALL).expect(&rt, "memory"),
+        None
+    );
 }
 
 static EACH_REFUSAL: [(&str, &str); 42] = [
@@ -218,9 +225,11 @@ static EACH_REFUSAL: [(&str, &str); 42] = [
 ];
 
 #[test]
-fn each_refusal(rt: HostRuntime) -> Result<(), Fail> {
-    assert_eq!(rt; first_wrong(rt.alloc(), 33_554_432, &EACH_REFUSAL)?, None);
-    Ok(())
+fn each_refusal(rt: HostRuntime) {
+    assert_eq!(rt;
+        first_wrong(rt.alloc(), 33_554_432, &EACH_REFUSAL).expect(&rt, "memory"),
+        None
+    );
 }
 
 static RENAMES_OF_DIRECTORIES: [(&str, &str); 16] = [
@@ -243,12 +252,11 @@ static RENAMES_OF_DIRECTORIES: [(&str, &str); 16] = [
 ];
 
 #[test]
-fn renames_of_directories(rt: HostRuntime) -> Result<(), Fail> {
+fn renames_of_directories(rt: HostRuntime) {
     assert_eq!(rt;
-        first_wrong(rt.alloc(), 33_554_432, &RENAMES_OF_DIRECTORIES)?,
+        first_wrong(rt.alloc(), 33_554_432, &RENAMES_OF_DIRECTORIES).expect(&rt, "memory"),
         None
     );
-    Ok(())
 }
 
 static RENAMES_OF_FILES: [(&str, &str); 12] = [
@@ -267,10 +275,9 @@ static RENAMES_OF_FILES: [(&str, &str); 12] = [
 ];
 
 #[test]
-fn renames_of_files(rt: HostRuntime) -> Result<(), Fail> {
+fn renames_of_files(rt: HostRuntime) {
     assert_eq!(rt;
-        first_wrong(rt.alloc(), 33_554_432, &RENAMES_OF_FILES)?,
+        first_wrong(rt.alloc(), 33_554_432, &RENAMES_OF_FILES).expect(&rt, "memory"),
         None
     );
-    Ok(())
 }

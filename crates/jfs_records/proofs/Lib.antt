@@ -2,6 +2,7 @@ pub mod Joined
 pub mod ReadBack
 pub mod Whole
 pub mod Chain
+pub mod FromText
 pub mod ReadFronts
 pub mod Choice
 pub mod WholeCells

@@ -4,6 +4,7 @@ pub mod Sizes
 pub mod Entries
 pub mod Limits
 pub mod Committed
+pub mod FromText
 pub mod Redo
 pub mod Marks
 pub mod Laws

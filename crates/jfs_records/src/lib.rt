@@ -2,6 +2,7 @@
 #![tactic(auto)]
 
 mod alike;
+mod from_text;
 mod law;
 mod note;
 mod open;
@@ -10,6 +11,7 @@ mod regroup;
 mod size;
 mod write;
 
+pub use from_text::read_records;
 pub use law::{
     crashes_find_fronts, entries_are_read_back, fronts_are_read, last_mark_decides,
     redo_is_a_choice, sizes_add_up,

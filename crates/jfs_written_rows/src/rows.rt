@@ -33,7 +33,7 @@ fn makes(alloc: Global, entries: &[Xad], range: &[Xad], list: &[Xad]) -> Result<
 }
 
 #[test]
-fn in_a_hole(rt: HostRuntime) -> Result<(), Fail> {
+fn in_a_hole(rt: HostRuntime) {
     // an empty file
     assert!(rt;
         makes(
@@ -41,7 +41,8 @@ fn in_a_hole(rt: HostRuntime) -> Result<(), Fail> {
             &[],
             &[recorded(5, 2, 100)],
             &[recorded(5, 2, 100)]
-        )?
+        )
+        .expect(&rt, "memory")
     );
     // it continues its left neighbour
     assert!(rt;
@@ -50,7 +51,8 @@ fn in_a_hole(rt: HostRuntime) -> Result<(), Fail> {
             &[recorded(0, 4, 10)],
             &[recorded(4, 2, 14)],
             &[recorded(0, 6, 10)]
-        )?
+        )
+        .expect(&rt, "memory")
     );
     // elsewhere on the volume it doesn't
     assert!(rt;
@@ -59,7 +61,8 @@ fn in_a_hole(rt: HostRuntime) -> Result<(), Fail> {
             &[recorded(0, 4, 10)],
             &[recorded(4, 2, 15)],
             &[recorded(0, 4, 10), recorded(4, 2, 15)]
-        )?
+        )
+        .expect(&rt, "memory")
     );
     // a neighbour that isn't recorded stays alone
     assert!(rt;
@@ -68,7 +71,8 @@ fn in_a_hole(rt: HostRuntime) -> Result<(), Fail> {
             &[reserved(0, 4, 10)],
             &[recorded(4, 2, 14)],
             &[reserved(0, 4, 10), recorded(4, 2, 14)]
-        )?
+        )
+        .expect(&rt, "memory")
     );
     // and so does one on the right
     assert!(rt;
@@ -77,13 +81,13 @@ fn in_a_hole(rt: HostRuntime) -> Result<(), Fail> {
             &[recorded(6, 2, 16)],
             &[recorded(4, 2, 14)],
             &[recorded(4, 2, 14), recorded(6, 2, 16)]
-        )?
+        )
+        .expect(&rt, "memory")
     );
-    Ok(())
 }
 
 #[test]
-fn in_entries(rt: HostRuntime) -> Result<(), Fail> {
+fn in_entries(rt: HostRuntime) {
     // its other parts stay
     assert!(rt;
         makes(
@@ -95,7 +99,8 @@ fn in_entries(rt: HostRuntime) -> Result<(), Fail> {
                 recorded(3, 4, 103),
                 reserved(7, 3, 107)
             ]
-        )?
+        )
+        .expect(&rt, "memory")
     );
     // two neighbours, under one extent, stay two
     assert!(rt;
@@ -109,7 +114,8 @@ fn in_entries(rt: HostRuntime) -> Result<(), Fail> {
                 recorded(4, 2, 14),
                 reserved(6, 2, 16)
             ]
-        )?
+        )
+        .expect(&rt, "memory")
     );
     // three extents in one entry, of which the last one ends with it
     assert!(rt;
@@ -129,13 +135,13 @@ fn in_entries(rt: HostRuntime) -> Result<(), Fail> {
                 reserved(4, 5, 104),
                 recorded(9, 1, 109)
             ]
-        )?
+        )
+        .expect(&rt, "memory")
     );
-    Ok(())
 }
 
 #[test]
-fn over_both(rt: HostRuntime) -> Result<(), Fail> {
+fn over_both(rt: HostRuntime) {
     // the hole's part continues what is written before it; the entry behind it stays an entry
     assert!(rt;
         makes(
@@ -143,7 +149,8 @@ fn over_both(rt: HostRuntime) -> Result<(), Fail> {
             &[reserved(0, 4, 10), reserved(8, 4, 18)],
             &[recorded(0, 12, 10)],
             &[recorded(0, 8, 10), recorded(8, 4, 18)]
-        )?
+        )
+        .expect(&rt, "memory")
     );
     // entries before and behind the range
     assert!(rt;
@@ -158,7 +165,8 @@ fn over_both(rt: HostRuntime) -> Result<(), Fail> {
                 reserved(7, 1, 61),
                 recorded(30, 2, 90)
             ]
-        )?
+        )
+        .expect(&rt, "memory")
     );
     // nothing is written
     assert!(rt;
@@ -167,7 +175,7 @@ fn over_both(rt: HostRuntime) -> Result<(), Fail> {
             &[recorded(0, 2, 50)],
             &[],
             &[recorded(0, 2, 50)]
-        )?
+        )
+        .expect(&rt, "memory")
     );
-    Ok(())
 }

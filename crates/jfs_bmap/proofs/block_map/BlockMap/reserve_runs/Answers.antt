@@ -35,7 +35,7 @@ pub overflow_cast-run : goal.overflow_cast-run
 overflow_cast-run c =
     let run = c.next_run-run.result in
     let now = c.loop-left.self in
-    let size = ap (λ (b : Blocks). length b.states) c.loop-left.invariant.reserved ∙ put-length Reserved c.loop-left.list c.args.self.now ∙ size-is c.self.inside c.args.self.now c.self.view_is in
+    let size = ap (λ (b : Blocks). length b.states) c.loop-left.invariant.holds.reserved ∙ put-length Reserved c.loop-left.list c.args.self.now ∙ size-is c.self.inside c.args.self.now c.self.view_is in
     let within = free-within now run.addr run.len (next-free _ c.loop-left.left run c.next_run-run.ensures) (next-some _ c.loop-left.left run c.next_run-run.ensures c.loop-left-test.true) in
     omega (arith, size, within, c.self.invariant.0.most)
 
