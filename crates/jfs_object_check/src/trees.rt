@@ -1,7 +1,8 @@
 //! The trees of an object.
 
-ghost use Rattle.std.specs.Prelude.{◌≡◌, ◌==◌, ℕ, if◌then◌else◌, OnOk, IfOk};
+ghost use Rattle.std.specs.Prelude.{◌≡◌, ◌==◌, if◌then◌else◌, OnOk, IfOk};
 ghost use Rattle.jfs_disk.specs.Image.{page_of};
+ghost use Rattle.jfs_disk.specs.declared.disk.Fault.{Fault};
 ghost use Rattle.jfs_ranges.specs.View.{CarriesCount};
 ghost use Rattle.jfs_tree.specs.Call.{CarriesFault};
 ghost use Rattle.jfs_xtree.specs.Node.{xt_scale};
@@ -99,7 +100,7 @@ pub(crate) fn settle(
     findings: &mut Vec<Finding>,
 ) -> Result<bool, ViewError>
     ensures settles { Settles kind at answer result findings.old.items findings.new.items }
-    ensures fault { (before now : ℕ) → CarriesFault before now answer → CarriesCount before now result }
+    ensures fault { (before now : Fault) → CarriesFault before now answer → CarriesCount before now result }
 {
     match answer {
         Ok(()) => Ok(true),
