@@ -17,3 +17,4 @@ pub mod Paged
 pub mod Same
 pub mod Empty
 pub mod Filled
+pub mod Renamed

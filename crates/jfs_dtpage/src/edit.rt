@@ -1,21 +1,21 @@
 //! Entries put into a page and taken out of it.
 
-ghost use Rattle.std.specs.Prelude.{◌≡◌, ◌<◌, ◌≤◌, ◌+◌, ◌*◌, ℕ, suc, length, OnOk, IfErr};
+ghost use Rattle.std.specs.Prelude.{◌≡◌, ◌<◌, ◌≤◌, ◌+◌, ◌*◌, ℕ, suc, length, get_or, slice_set, true, OnOk, IfErr};
 ghost use Rattle.std.specs.List.{insert, remove};
-ghost use Rattle.jfs_dtpage.specs.Form.{bytes_of, count_of, free_of, is_leaf, more_slots, KeepsHead};
+ghost use Rattle.jfs_dtpage.specs.Form.{bytes_of, count_of, free_of, head_of, is_leaf, more_slots, KeepsHead};
 ghost use Rattle.jfs_bits.specs.Field.{field_of};
 ghost use Rattle.jfs_dtpage.specs.Slots.{Kept};
-ghost use Rattle.jfs_dtpage.specs.Order.{GoesAt};
-ghost use Rattle.jfs_dtpage.specs.Page.{entries_of, names_of, name_in, IsDtPage};
+ghost use Rattle.jfs_dtpage.specs.Order.{name_at, GoesAt};
+ghost use Rattle.jfs_dtpage.specs.Page.{Named, entries_of, names_of, name_in, table_of, IsDtPage};
 ghost use Rattle.jfs_dtpage.specs.Given.{given, is_named, ChildFits};
 
 use crate::entry::{count_of, first_free, free_of, is_leaf, slot_at, table_at};
 use crate::head::{DtEntry, DtForm, PageFull};
 use crate::put::put_entry;
-use crate::read::{dt_slots, length_of};
+use crate::read::{dt_slots, length_of, start_of};
 use crate::release::release;
 use crate::table::{insert_slot, remove_slot};
-use crate::write::put_byte;
+use crate::write::{put_byte, put_inode};
 
 /// Puts an entry at the place where its name goes; refused exactly where fewer slots are free than it takes, and the page is then as it was.
 pub fn dt_insert(bytes: &mut [u8], form: DtForm, place: u32, e: DtEntry<'_>) -> Result<(), PageFull>
@@ -64,6 +64,22 @@ pub fn dt_remove(bytes: &mut [u8], form: DtForm, place: u32)
     let table = table_at(bytes, form);
     remove_slot(bytes, table, place as u8, count);
     set_counts(bytes, count - 1, (free + taken) as u8, slot);
+}
+
+/// Leads the name at a place of a leaf to another inode: the inode's four bytes in the first slot of the entry change, and nothing else.
+pub fn dt_set_inode(bytes: &mut [u8], form: DtForm, place: u32, inode: u32)
+    requires size { length bytes.old ≡ bytes_of form }
+    requires page { IsDtPage form bytes.old }
+    requires leaf { is_leaf bytes.old ≡ true }
+    requires place { place < count_of bytes.old }
+    ensures sound { IsDtPage form bytes.new }
+    ensures entries { entries_of form bytes.new ≡ slice_set (entries_of form bytes.old) place (Named inode (name_at (names_of form bytes.old) place)) }
+    ensures head { head_of form bytes.new ≡ head_of form bytes.old }
+    ensures kept { Kept (32 * get_or (table_of form bytes.old) place 0) 4 bytes.old bytes.new }
+    ensures behind { 1 ≤ get_or (table_of form bytes.old) place 0 }
+{
+    let slot = slot_at(bytes, form, place as u8);
+    put_inode(bytes, start_of(slot), inode);
 }
 
 /// Sets the number of entries, the number of free slots and the first of them.

@@ -17,7 +17,7 @@ mod table;
 mod write;
 
 pub use check::dt_check;
-pub use edit::{dt_insert, dt_remove};
+pub use edit::{dt_insert, dt_remove, dt_set_inode};
 pub use entry::{count_of, dt_child, dt_inode, dt_name, free_of, is_leaf};
 pub use find::dt_find;
 pub use head::{BadDt, DtEntry, DtForm, DtHead, PageFull, Place};

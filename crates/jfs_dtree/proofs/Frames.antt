@@ -15,12 +15,12 @@ use Rattle.jfs_tree.specs.Walk.{Child, Node, Leaf, Inner, Broken}
 use Rattle.jfs_tree.specs.Edit.{IsApart, KeysRise}
 use Rattle.jfs_tree.specs.Form.{AtPlace}
 use Rattle.jfs_tree.specs.Apart.{ApartAt}
-use Rattle.jfs_tree.specs.Frames.{FramesTold, KeepsFramesTold}
-use Rattle.jfs_dtree.specs.Frame.{frame_in, frame_of, new_frame, KeepsPages, NamesPages}
+use Rattle.jfs_tree.specs.Frames.{FramesTold}
+use Rattle.jfs_dtree.specs.Frame.{frame_in, frame_of, new_frame, NamesPages}
 use Rattle.jfs_dtree.specs.Laws.{next_after}
 use Rattle.jfs_dtree.specs.Node.{name_scale, named, dt_node, IsRoot}
 use Rattle.jfs_dtree.specs.Parent.{parent_of}
-use Rattle.jfs_dtree.specs.Parts.{AreNeighbours, SplitsInner, SplitsLeaf, next_in, prev_in}
+use Rattle.jfs_dtree.specs.Parts.{AreNeighbours, SplitsInner, SplitsLeaf, prev_in}
 use Rattle.jfs_dtree.proofs.Nodes.{leaf_is}
 use Rattle.jfs_dtree.proofs.Places.{before_rows, behind_rows, row_names}
 

@@ -22,3 +22,8 @@ pub mod Behind
 pub mod Refused
 pub mod Neighbours
 pub mod Frames
+pub mod Swapped
+pub mod Led
+pub mod Ending
+pub mod Replaced
+pub mod Bare

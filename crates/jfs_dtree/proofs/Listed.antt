@@ -31,7 +31,7 @@ unfolding Ascends
 ascends_lower a b [] h r = tt
 ascends_lower a b (e ∷ es) h r = (name_trans a b e.name h r.0, r.1)
 
-rises_ascends : (low : List ℕ) (ms : Marks (List ℕ) NameEntry) (high : Option (List ℕ)) → Rises name_scale low ms high → Ascends low (rows_of ms)
+pub rises_ascends : (low : List ℕ) (ms : Marks (List ℕ) NameEntry) (high : Option (List ℕ)) → Rises name_scale low ms high → Ascends low (rows_of ms)
 unfolding Ascends
 rises_ascends low [] high r = tt
 rises_ascends low (Page n ∷ ms) high r = rises_ascends low ms high r
@@ -53,7 +53,7 @@ next_before a b h = by (slice_cmp nat_cmp a b) refl
     by Equal e = absurd (true≢false (sym h ∙ itself a b (same_names a b e)))
     by Greater e = absurd (true≢false (sym h ∙ reaches b a (before_other a b e)))
 
-before_next : (a b c : List ℕ) → IsBefore a b → not_after b c ≡ true → IsBefore a c
+pub before_next : (a b c : List ℕ) → IsBefore a b → not_after b c ≡ true → IsBefore a c
 before_next a b c h g = next_before a c (name_trans (next_of a) b c (next_after a b h) g)
 
 -- the comparison of an entry with a name that it comes after

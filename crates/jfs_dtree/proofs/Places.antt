@@ -83,10 +83,10 @@ clashes (e ∷ es) (suc place) x within is apart = clashes es place x (omega (ar
 
 -- ---- of a page
 
-rows_length : (form : DtForm) (bytes : List ℕ) → length (map named (entries_of form bytes)) ≡ length (names_of form bytes)
+pub rows_length : (form : DtForm) (bytes : List ℕ) → length (map named (entries_of form bytes)) ≡ length (names_of form bytes)
 rows_length form bytes = sym (ap length (row_names_are form bytes) ∙ length-map (map named (entries_of form bytes)) (λ (e : NameEntry). e.name))
 
-at_row : (form : DtForm) (bytes : List ℕ) (i : ℕ) → name_at (names_of form bytes) i ≡ name_at (row_names (map named (entries_of form bytes))) i
+pub at_row : (form : DtForm) (bytes : List ℕ) (i : ℕ) → name_at (names_of form bytes) i ≡ name_at (row_names (map named (entries_of form bytes))) i
 at_row form bytes i = ap (λ names. name_at names i) (row_names_are form bytes)
 
 pub place_within : (form : DtForm) (bytes name : List ℕ) (place : ℕ) → IsFound (names_of form bytes) name (Ok place) → place < count_of bytes

@@ -19,7 +19,7 @@ use Rattle.jfs_tree.specs.declared.form.TreeError.{TreeError}
 use Rattle.jfs_tree.specs.declared.form.TreeError.TheVariants.{View, Bad, Memory}
 use Rattle.jfs_dtree.specs.Node.{name_scale, dt_node, HasNoRoom, LacksRoom}
 use Rattle.jfs_dtree.specs.Spells.{root_node, page_nodes, broken_for}
-use Rattle.jfs_dtree.specs.Room.{is_tight, node_tight, tight_below, TightFrom}
+use Rattle.jfs_dtree.specs.Room.{is_tight, child_tight, node_tight, tight_below, deep_on_way, TightFrom}
 use Rattle.jfs_dtree.specs.Adding.{ClashesFor, AddTellsWay}
 use Rattle.jfs_dtree.specs.Errors.{handed_on}
 use Rattle.jfs_dtree.proofs.Roots.{failed}
@@ -74,6 +74,19 @@ root_leads blocks pages root x place page deep leads is child to = subst (λ n. 
 pub root_tight : (blocks : ℕ) (pages : ℕ → List ℕ) (root : List ℕ) (x : NameEntry) (place page : ℕ) (r : Result Bool ViewError) → LeadsDown name_scale x (root_node blocks root) place page → IfOk r (λ deep. tight_below blocks pages x.name 7 page ≡ deep) → IfOk r (TightFrom blocks pages root x.name)
 root_tight blocks pages root x place page (Ok deep) leads is = root_leads blocks pages root x place page deep leads is
 root_tight blocks pages root x place page (Err e) leads is = tt
+
+-- ---- the way's answer, whatever stands beside it
+
+pub way_deep_at : (blocks : ℕ) (pages : ℕ → List ℕ) (root : List ℕ) (x : NameEntry) (place page : ℕ) (r : Result Bool ViewError) → LeadsDown name_scale x (root_node blocks root) place page
+    → IfOk r (λ deep. tight_below blocks pages x.name 7 page ≡ deep) → IfOk r (λ deep. deep ≡ deep_on_way blocks pages root x.name)
+way_deep_at blocks pages root x place page (Ok deep) leads is = sym (ap (child_tight (tight_below blocks pages x.name 7)) leads.alone ∙ is)
+way_deep_at blocks pages root x place page (Err e) leads is = tt
+
+pub leaf_shallow : (blocks : ℕ) (pages : ℕ → List ℕ) (root name : List ℕ) (es : List NameEntry) → root_node blocks root ≡ Leaf es → false ≡ deep_on_way blocks pages root name
+leaf_shallow blocks pages root name es is = sym (ap (λ node. child_tight (tight_below blocks pages name 7) (way_of name_scale name node)) is)
+
+pub broken_shallow : (blocks : ℕ) (pages : ℕ → List ℕ) (root name : List ℕ) (rule : Rule) → root_node blocks root ≡ Broken rule → false ≡ deep_on_way blocks pages root name
+broken_shallow blocks pages root name rule is = sym (ap (λ node. child_tight (tight_below blocks pages name 7) (way_of name_scale name node)) is)
 
 -- ---- the answer
 

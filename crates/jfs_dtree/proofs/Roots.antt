@@ -14,7 +14,7 @@ use Rattle.jfs_dtpage.specs.Page.{entry_of, entries_of, table_of, IsDtPage}
 use Rattle.jfs_tree.specs.Walk.{Node, Leaf}
 use Rattle.jfs_tree.specs.Fresh.{AllPages, HasPages}
 use Rattle.jfs_tree.specs.Adds.{read_as, AddsTold, LevelsTold, RefusesWhereFull}
-use Rattle.jfs_tree.specs.Path.{broken_on_way, TellsBroken}
+use Rattle.jfs_tree.specs.Path.{broken_on_way, found_on_way, TellsBroken}
 use Rattle.jfs_tree.specs.Room.{GrowsLevel}
 use Rattle.jfs_tree.specs.Root.{FindsAlways, NamesBroken, RefusesWhereBad}
 use Rattle.jfs_bits.specs.declared.rule.Rule.{Rule}
@@ -24,7 +24,7 @@ use Rattle.jfs_tree.specs.Call.{pages_of}
 use Rattle.jfs_tree.specs.declared.form.TreeError.{TreeError}
 use Rattle.jfs_tree.specs.declared.form.TreeError.TheVariants.{View, Bad, Memory}
 use Rattle.jfs_dtree.specs.Node.{named as named_entry, name_scale, below, is_within, child_within, dt_node}
-use Rattle.jfs_dtree.specs.Spells.{root_node, page_nodes, spells_names, broken_for, FailsWhereBad, TellsWay}
+use Rattle.jfs_dtree.specs.Spells.{root_node, page_nodes, spells_names, broken_for, found_for, FailsWhereBad, TellsWay}
 use Rattle.jfs_tree.specs.Spells.{spells}
 use Rattle.jfs_dtree.specs.declared.error.DtError.{DtError}
 use Rattle.jfs_dtree.specs.declared.error.DtError.TheVariants as dt
@@ -58,6 +58,13 @@ pub finds_as : (b blocks : ℕ) (image : Image) (root name : List ℕ) (x : Name
 finds_as b blocks image root name x found inode eb en ei h es spelled =
     let f = subst (λ k. FindsAlways name_scale x (pages_of (dt_node Full k) image) (dt_node Root k root) found) eb h es spelled in
     ei ∙ ap (option_map (λ (e : NameEntry). e.inode)) f ∙ found_named (page_nodes blocks (page_of image)) (root_node blocks root) es x spelled ∙ ap (λ n. named n es) en
+
+-- what is found on the way
+pub found_as : (b blocks : ℕ) (image : Image) (root name units : List ℕ) (x : NameEntry) (found : Option NameEntry) (inode : Option ℕ) → b ≡ blocks → x ≡ record { name = units; inode = 0 } → units ≡ name
+    → inode ≡ option_map (λ (e : NameEntry). e.inode) found → found ≡ found_on_way name_scale (pages_of (dt_node Full b) image) x (dt_node Root b root) → inode ≡ found_for blocks (page_of image) root name
+found_as b blocks image root name units x found inode eb ex eu ei h =
+    ei ∙ ap (option_map (λ (e : NameEntry). e.inode)) (h ∙ ap (λ k. found_on_way name_scale (pages_of (dt_node Full k) image) x (dt_node Root k root)) eb
+    ∙ ap (λ y. found_on_way name_scale (pages_of (dt_node Full blocks) image) y (dt_node Root blocks root)) ex) ∙ ap (found_for blocks (page_of image) root) eu
 
 fails_on : (pages : ℕ → Node (List ℕ) NameEntry) (root : Node (List ℕ) NameEntry) (e : TreeError) → NamesBroken name_scale pages root e → FailsWhereBad pages root (handed_on e)
 fails_on pages root (View e) h = h

@@ -1,10 +1,9 @@
 -- What of a page of a directory tree stays while names come and go. (JFS Layout, dtree: `dtpage_t`, `dtroot_t`.)
 use Rattle.std.specs.Prelude.{ℕ, List, [], ◌∷◌}
-use Rattle.jfs_disk.specs.Image.{page_of}
 use Rattle.jfs_name.specs.declared.name.NameEntry.{NameEntry}
 use Rattle.jfs_ranges.specs.declared.edit.Edit.{Edit}
 use Rattle.jfs_dtpage.specs.declared.head.DtForm.{DtForm}
-use Rattle.jfs_dtpage.specs.declared.head.DtForm.TheVariants.{Root, Full}
+use Rattle.jfs_dtpage.specs.declared.head.DtForm.TheVariants.{Full}
 use Rattle.jfs_dtpage.specs.declared.head.Place.{Place}
 use Rattle.jfs_dtpage.specs.declared.head.Place.TheVariants.{InInode, OnVolume}
 use Rattle.jfs_dtpage.specs.Form.{head_of}

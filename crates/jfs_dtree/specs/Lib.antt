@@ -13,3 +13,4 @@ pub mod Reach
 pub mod Removing
 pub mod Leftmost
 pub mod Frame
+pub mod Replacing

@@ -42,7 +42,7 @@ FollowsRoom blocks pages root name (Err Exists) = Unit {0}
 FollowsRoom blocks pages root name (Err Missing) = ⊥
 FollowsRoom blocks pages root name (Err TooDeep) = DeepIs blocks pages root name true
 
--- ---- a walk down the way, for the prover alone
+-- ---- a walk down the way
 
 abbrev pub child_tight : (ℕ → Bool) → Option ℕ → Bool
 child_tight below None = false
@@ -57,6 +57,10 @@ node_tight below left name (Broken rule) = false
 unfoldable pub tight_below : ℕ → (ℕ → List ℕ) → List ℕ → ℕ → ℕ → Bool
 tight_below blocks pages name zero page = false
 tight_below blocks pages name (suc left) page = is_tight (pages page) && node_tight (tight_below blocks pages name left) left name (dt_node Full blocks (pages page))
+
+-- The way of a name has 7 pages below its root, the last of them a leaf, and each is tight: so a directory is too deep for a name, told from the root and the pages of the way alone.
+abbrev pub deep_on_way : ℕ → (ℕ → List ℕ) → List ℕ → List ℕ → Bool
+deep_on_way blocks pages root name = child_tight (tight_below blocks pages name 7) (way_of name_scale name (root_node blocks root))
 
 -- so has the way below a root, whatever it spells
 abbrev pub TightFrom : ℕ → (ℕ → List ℕ) → List ℕ → List ℕ → Bool → Type 0

@@ -1,14 +1,16 @@
 -- What a root in a directory's inode spells: the names in their order, each with its inode. (JFS White Paper, directory organization; JFS Layout: the root has 288 bytes.)
 use Rattle.std.specs.Prelude.{◌≡◌, ℕ, List, Option, Some, None, Result, Ok, Err}
+use Rattle.std.specs.Option.{option_map}
 use Rattle.jfs_bits.specs.declared.rule.Rule.{Rule}
 use Rattle.jfs_name.specs.declared.name.NameEntry.{NameEntry}
+use Rattle.jfs_name.specs.Directory.{named}
 use Rattle.jfs_disk.specs.declared.disk.Fault.{Fault}
 use Rattle.jfs_ranges.specs.View.{CarriesCount}
 use Rattle.jfs_dtpage.specs.declared.head.DtForm.TheVariants.{Root, Full}
 use Rattle.jfs_tree.specs.Walk.{Node}
 use Rattle.jfs_tree.specs.Spells.{spells, footprint}
 use Rattle.jfs_tree.specs.Adds.{read_as}
-use Rattle.jfs_tree.specs.Path.{broken_on_way}
+use Rattle.jfs_tree.specs.Path.{broken_on_way, found_on_way}
 use Rattle.jfs_tree.specs.Root.{NamesBroken}
 use Rattle.jfs_tree.specs.declared.form.TreeError.TheVariants as tree
 use Rattle.jfs_dtree.specs.Node.{name_scale, dt_node}
@@ -50,6 +52,14 @@ FailsWhereBad pages root TooDeep = ⊥
 -- the first broken rule on a name's way down, and the page that breaks it
 abbrev pub broken_for : ℕ → (ℕ → List ℕ) → List ℕ → List ℕ → Option (ℕ × Rule)
 broken_for blocks pages root name = broken_on_way name_scale (page_nodes blocks pages) name (root_node blocks root)
+
+-- the inode that the leaf at the end of a name's way has under the name; it depends on the root and the pages of the way alone
+abbrev pub found_for : ℕ → (ℕ → List ℕ) → List ℕ → List ℕ → Option ℕ
+found_for blocks pages root name = option_map (λ (e : NameEntry). e.inode) (found_on_way name_scale (page_nodes blocks pages) (record { name = name; inode = 0 }) (root_node blocks root))
+
+-- It is the inode that the name names, wherever the root spells names.
+abbrev pub IsNamedOnWay : ℕ → (ℕ → List ℕ) → List ℕ → List ℕ → Type 0
+IsNamedOnWay blocks pages root name = (es : List NameEntry) → spells_names blocks pages root ≡ Ok es → found_for blocks pages root name ≡ named name es
 
 -- A page is named exactly where it is the first on the name's way that breaks a rule, and where none does, the call goes through or tells of names.
 abbrev pub TellsWay : {T : Type 0} → Option (ℕ × Rule) → Result T DtError → Type 0

@@ -3,7 +3,7 @@
 ghost use Rattle.std.specs.Prelude.{◌≡◌, ◌<◌, List, length, IfOk};
 ghost use Rattle.jfs_disk.specs.Image.{page_of};
 ghost use Rattle.jfs_ranges.specs.View.{CarriesCount};
-ghost use Rattle.jfs_dtree.specs.Room.{DeepIs, TightFrom, tight_below};
+ghost use Rattle.jfs_dtree.specs.Room.{DeepIs, TightFrom, deep_on_way, tight_below};
 
 use crate::entry::DirEntry;
 use crate::lead::way_of;
@@ -30,6 +30,7 @@ pub(crate) fn is_deep<V: PageView>(
     ensures fault { CarriesCount (V.PageView.faults view.old) (V.PageView.faults view.new) result }
     ensures deep { V.PageView.tells → IfOk result (DeepIs blocks (page_of (V.PageView.image view.old)) root.now x.now.name) }
     ensures tight { V.PageView.tells → IfOk result (TightFrom blocks (page_of (V.PageView.image view.old)) root.now x.now.name) }
+    ensures on_way { V.PageView.tells → IfOk result (λ deep. deep ≡ deep_on_way blocks (page_of (V.PageView.image view.old)) root.now x.now.name) }
 {
     match way_of(root, DtForm::Root, blocks, x) {
         Ok(

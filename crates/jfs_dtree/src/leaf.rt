@@ -10,10 +10,11 @@ ghost use Rattle.jfs_dtpage.specs.Page.{entries_of, IsDtPage};
 ghost use Rattle.jfs_tree.specs.Apart.{PutsApart};
 ghost use Rattle.jfs_dtree.specs.Frame.{frame_of};
 ghost use Rattle.jfs_dtree.specs.Node.{name_scale, named, dt_node, IsGood, HasNoRoom, LacksRoom};
+ghost use Rattle.jfs_dtree.specs.Replacing.{ChangesInode, led};
 
 use crate::check::is_sound_leaf;
 use crate::entry::DirEntry;
-use jfs_dtpage::{DtEntry, DtForm, dt_find, dt_insert};
+use jfs_dtpage::{DtEntry, DtForm, dt_find, dt_insert, dt_set_inode};
 use jfs_tree::Put;
 
 /// The entry of a leaf that has the name.
@@ -66,5 +67,19 @@ pub(crate) fn put_name(bytes: &mut [u8], form: DtForm, x: &DirEntry) -> Put
     match dt_insert(bytes, form, place, entry) {
         Ok(()) => Put::Done,
         Err(_) => Put::Full,
+    }
+}
+
+/// Leads the name of `x` in a leaf to an inode, where the leaf has the name; nothing else changes.
+pub(crate) fn lead_name(bytes: &mut [u8], form: DtForm, x: &DirEntry, inode: u32)
+    requires size { length bytes.old ≡ bytes_of form }
+    ensures node { (blocks : ℕ) (es : List NameEntry) → dt_node form blocks bytes.old ≡ Leaf es → dt_node form blocks bytes.new ≡ Leaf (map (led x.now.name inode) es) }
+    ensures change { ChangesInode bytes.old bytes.new }
+{
+    if !is_sound_leaf(bytes, form) {
+        return;
+    }
+    if let Ok(place) = dt_find(bytes, form, x.name()) {
+        dt_set_inode(bytes, form, place, inode);
     }
 }

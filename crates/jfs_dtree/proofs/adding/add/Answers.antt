@@ -4,13 +4,9 @@ use Rattle.jfs_name.specs.declared.name.NameEntry.{NameEntry}
 use Rattle.jfs_bits.specs.declared.rule.PageKind.TheVariants.{Dtree}
 use Rattle.jfs_tree.specs.Changes.{TellsTaken}
 use Rattle.jfs_tree.specs.Fresh.{blocks_of}
-use Rattle.jfs_tree.specs.Adds.{read_as, AddsTold, LevelsTold}
-use Rattle.jfs_dtpage.specs.declared.head.DtForm.TheVariants.{Root, Full}
-use Rattle.jfs_dtree.specs.Node.{name_scale, dt_node}
 use Rattle.jfs_dtree.specs.Spells.{root_node, page_nodes, broken_for}
 use Rattle.jfs_dtree.specs.Room.{FollowsRoom, TightFrom}
-use Rattle.jfs_tree.specs.Room.{GrowsLevel}
-use Rattle.jfs_dtree.specs.Adding.{NoRoomAtRoot, NoPlaceAtRoot, is_full_in, lacks_in, RefusesName, ClashesFor, AddTellsWay}
+use Rattle.jfs_dtree.specs.Adding.{RefusesName, ClashesFor, AddTellsWay}
 use Rattle.jfs_dtree.proofs.Roots.{adds_as, refuses_as, takes_as, levels_as, found_no_room, shallow_follows, found_tells, deep_as, failed}
 use Rattle.jfs_dtree.proofs.Refused.{refusal_tells}
 use Rattle.jfs_dtree.proofs.Frames.{named_as, parent_kept}

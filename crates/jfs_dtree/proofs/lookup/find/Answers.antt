@@ -3,7 +3,7 @@ use Rattle.jfs_disk.specs.Image.{page_of}
 use Rattle.jfs_name.specs.declared.name.NameEntry.{NameEntry}
 use Rattle.jfs_dtree.specs.Laws.{point}
 use Rattle.jfs_dtree.specs.Spells.{root_node, page_nodes, FailsWhereBad}
-use Rattle.jfs_dtree.proofs.Roots.{finds_as, fails_as, first_as, told_failed}
+use Rattle.jfs_dtree.proofs.Roots.{finds_as, found_as, fails_as, first_as, told_failed}
 use Rattle.jfs_dtree.proofs.lookup.find.Goals as goal
 
 pub find_entry-requires-clause-point : goal.find_entry-requires-clause-point
@@ -29,3 +29,8 @@ returns-in-Err-clause-way g c tells =
     told_failed _ _ c.in-Err.e c.handed_on.result c.handed_on.ensures
     (first_as c.blocks-blocks.result (g.V.PageView.block_count c.args.view.now) (g.V.PageView.image c.args.view.now) c.args.root.now c.args.name.now c.new-x.result c.blocks-blocks.ensures (ap (λ (e : NameEntry). e.name) c.new-x.ensures ∙ c.as_slice.ensures))
     (c.in-Err.ensures.way tells)
+
+pub returns-in-Ok-clause-on_way : goal.returns-in-Ok-clause-on_way
+returns-in-Ok-clause-on_way g c tells =
+    found_as c.blocks-blocks.result (g.V.PageView.block_count c.args.view.now) (g.V.PageView.image c.args.view.now) c.args.root.now c.args.name.now c.as_slice.result.now c.new-x.result c.in-Ok.found c.inode_of.result
+    c.blocks-blocks.ensures c.new-x.ensures c.as_slice.ensures c.inode_of.ensures (c.in-Ok.ensures.on_way tells)
