@@ -1,7 +1,7 @@
 -- Roots by their size, and what is found and refused, as the calls say it.
 use Rattle.std.proofs.Common.{◌≡◌, inl, inr, ◌≤◌, refl, sym, ap, ◌∙◌, subst, ℕ, ◌+◌, List, [], true, Option, Ok, Err, arith}
 use Rattle.jfs_bits.specs.declared.rule.Rule.{Rule}
-use Rattle.jfs_tree.specs.Path.{broken_on_way, TellsBroken}
+use Rattle.jfs_tree.specs.Path.{broken_on_way, found_on_way, TellsBroken}
 use Rattle.jfs_xtree.specs.declared.error.XtError.{XtError}
 use Rattle.jfs_bits.specs.declared.extent.Xad.{Xad}
 use Rattle.jfs_disk.specs.Image.{Image, page_of}
@@ -41,6 +41,14 @@ finds_as b blocks form rf x p image root found eb ef ex h =
     subst (λ y. FindsAlways xt_scale y (pages_of (xt_node Full blocks) image) (xt_node rf blocks root) found) ex
     (subst (λ f. FindsAlways xt_scale x (pages_of (xt_node Full blocks) image) (xt_node f blocks root) found) ef
     (subst (λ k. FindsAlways xt_scale x (pages_of (xt_node Full k) image) (xt_node form k root) found) eb h))
+
+-- what is found on the way
+pub found_as : (b blocks : ℕ) (form rf : XtForm) (x p : Xad) (image : Image) (root : List ℕ) (found : Option Xad) → b ≡ blocks → form ≡ rf → x ≡ p → found ≡ found_on_way xt_scale (pages_of (xt_node Full b) image) x (xt_node form b root)
+    → found ≡ found_on_way xt_scale (page_nodes blocks (page_of image)) p (xt_node rf blocks root)
+found_as b blocks form rf x p image root found eb ef ex h =
+    h ∙ ap (λ k. found_on_way xt_scale (pages_of (xt_node Full k) image) x (xt_node form k root)) eb
+    ∙ ap (λ f. found_on_way xt_scale (pages_of (xt_node Full blocks) image) x (xt_node f blocks root)) ef
+    ∙ ap (λ y. found_on_way xt_scale (pages_of (xt_node Full blocks) image) y (xt_node rf blocks root)) ex
 
 names_on : (pages : ℕ → Node ℕ Xad) (root : Node ℕ Xad) (e : TreeError) → NamesBroken xt_scale pages root e → NamesBroken xt_scale pages root (tree_error (handed_on e))
 names_on pages root (View e) h = h

@@ -7,7 +7,7 @@ use Rattle.jfs_ranges.specs.View.{CarriesCount}
 use Rattle.jfs_tree.specs.Walk.{Node}
 use Rattle.jfs_tree.specs.Spells.{spells, footprint}
 use Rattle.jfs_tree.specs.Edit.{found_in}
-use Rattle.jfs_tree.specs.Path.{broken_on_way}
+use Rattle.jfs_tree.specs.Path.{broken_on_way, found_on_way}
 use Rattle.jfs_tree.specs.declared.form.TreeError.{TreeError}
 use Rattle.jfs_tree.specs.declared.form.TreeError.TheVariants as tree
 use Rattle.jfs_xtpage.specs.declared.head.XtForm.{XtForm}
@@ -59,6 +59,14 @@ CarriesXt before now (Err (Bad page rule)) = now ≡ before
 -- the first broken rule on the way to a block of the file, and the page that breaks it
 abbrev pub broken_for : ℕ → (ℕ → List ℕ) → List ℕ → ℕ → Option (ℕ × Rule)
 broken_for blocks pages root offset = broken_on_way xt_scale (page_nodes blocks pages) offset (root_node blocks root)
+
+-- the extent that the leaf at the end of the way to a block has there; it depends on the root and the pages of the way alone
+abbrev pub found_for : ℕ → (ℕ → List ℕ) → List ℕ → ℕ → Option Xad
+found_for blocks pages root offset = found_on_way xt_scale (page_nodes blocks pages) (point offset) (root_node blocks root)
+
+-- It is the extent that has the block, wherever the root spells extents.
+abbrev pub IsFoundOnWay : ℕ → (ℕ → List ℕ) → List ℕ → ℕ → Type 0
+IsFoundOnWay blocks pages root offset = (es : List Xad) → spells_extents blocks pages root ≡ Ok es → found_for blocks pages root offset ≡ extent_at offset es
 
 -- A page is named exactly where it is the first on the way that breaks a rule, and where none does, the call goes through.
 abbrev pub TellsWay : {T : Type 0} → Option (ℕ × Rule) → Result T XtError → Type 0

@@ -5,7 +5,7 @@ ghost use Rattle.jfs_bits.specs.declared.extent.Xad.{Xad};
 ghost use Rattle.jfs_disk.specs.Image.{page_of};
 ghost use Rattle.jfs_tree.specs.Root.{NamesBroken};
 ghost use Rattle.jfs_xtree.specs.Node.{xt_scale};
-ghost use Rattle.jfs_xtree.specs.Spells.{IsRootSize, root_form, root_node, page_nodes, spells_extents, point, extent_at, tree_error, CarriesXt, broken_for, TellsWay};
+ghost use Rattle.jfs_xtree.specs.Spells.{IsRootSize, root_form, root_node, page_nodes, spells_extents, point, extent_at, tree_error, CarriesXt, broken_for, found_for, TellsWay};
 ghost use Rattle.jfs_xtree.specs.Errors.{handed_on};
 
 use crate::error::XtError;
@@ -17,7 +17,7 @@ use jfs_xtpage::XtForm;
 
 #[tactic(auto, using(crate::proofs::Roots::form_fits, crate::proofs::Roots::is_point))]
 /// The extent of a root's tree that has block `offset` of the file; `None` exactly where there is none. It reads one page a level, and names
-/// the first one that breaks a rule.
+/// the first one that breaks a rule. What it finds is what the leaf at the end of the way has, whatever stands elsewhere.
 pub fn lookup<V: PageView>(view: &mut V, root: &[u8], offset: u64) -> Result<Option<Xad>, XtError>
     requires root { IsRootSize (length root.now) }
     ensures image { V.PageView.tells → V.PageView.image view.new ≡ V.PageView.image view.old }
@@ -26,6 +26,7 @@ pub fn lookup<V: PageView>(view: &mut V, root: &[u8], offset: u64) -> Result<Opt
     ensures fault { CarriesXt (V.PageView.faults view.old) (V.PageView.faults view.new) result }
     ensures found { V.PageView.tells → IfOk result (λ found. (es : List Xad) →
         spells_extents (V.PageView.block_count view.old) (page_of (V.PageView.image view.old)) root.now ≡ Ok es → found ≡ extent_at offset es) }
+    ensures on_way { V.PageView.tells → IfOk result (λ found. found ≡ found_for (V.PageView.block_count view.old) (page_of (V.PageView.image view.old)) root.now offset) }
     ensures bad { V.PageView.tells → IfErr result (λ e.
         NamesBroken xt_scale (page_nodes (V.PageView.block_count view.old) (page_of (V.PageView.image view.old))) (root_node (V.PageView.block_count view.old) root.now) (tree_error e)) }
     ensures way { V.PageView.tells → TellsWay (broken_for (V.PageView.block_count view.old) (page_of (V.PageView.image view.old)) root.now offset) result }

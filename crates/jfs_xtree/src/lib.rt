@@ -17,6 +17,7 @@ mod listing;
 mod parts;
 mod place;
 mod root;
+mod way_law;
 mod write_law;
 
 pub use check::is_leaf;
@@ -29,4 +30,5 @@ pub use form::XtPages;
 pub use inserting::add;
 pub use listing::extents;
 pub use root::new_root;
+pub use way_law::way_leads_to_the_extent;
 pub use write_law::{writing_is_block_by_block, writing_stands_in_place};

@@ -4,7 +4,7 @@ use Rattle.jfs_disk.specs.Image.{page_of}
 use Rattle.jfs_tree.specs.Root.{NamesBroken}
 use Rattle.jfs_xtree.specs.Node.{xt_scale}
 use Rattle.jfs_xtree.specs.Spells.{root_form, root_node, page_nodes, point, tree_error}
-use Rattle.jfs_xtree.proofs.Roots.{finds_as, names_as, first_as, told_failed}
+use Rattle.jfs_xtree.proofs.Roots.{finds_as, found_as, names_as, first_as, told_failed}
 use Rattle.jfs_xtree.proofs.find.lookup.Goals as goal
 
 pub returns-in-Ok-clause-found : goal.returns-in-Ok-clause-found
@@ -29,3 +29,8 @@ returns-in-Err-clause-way g c tells =
     (first_as c.blocks-blocks.result (g.V.PageView.block_count c.args.view.now) c.root_form-form.result (root_form (length c.args.root.now)) c.point-x.result c.args.offset (g.V.PageView.image c.args.view.now) c.args.root.now
     c.blocks-blocks.ensures c.root_form-form.ensures (ap (λ (x : Xad). x.offset) c.point-x.ensures))
     (c.in-Err.ensures.way tells)
+
+pub returns-in-Ok-clause-on_way : goal.returns-in-Ok-clause-on_way
+returns-in-Ok-clause-on_way g c tells =
+    found_as c.blocks-blocks.result (g.V.PageView.block_count c.args.view.now) c.root_form-form.result (root_form (length c.args.root.now)) c.point-x.result (point c.args.offset) (g.V.PageView.image c.args.view.now) c.args.root.now c.in-Ok.found
+    c.blocks-blocks.ensures c.root_form-form.ensures c.point-x.ensures (c.in-Ok.ensures.on_way tells)
