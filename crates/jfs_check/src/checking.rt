@@ -3,6 +3,7 @@
 ghost use Rattle.std.specs.Prelude.{◌≡◌, ◌≤◌, [], IfOk};
 ghost use Rattle.jfs_disk.specs.Image.{page_of};
 ghost use Rattle.jfs_disk.specs.declared.disk.Part.TheVariants.{Whole};
+ghost use Rattle.jfs_ranges.specs.View.{CarriesCount};
 ghost use Rattle.jfs_super.specs.Rules.{IsAccepted, blocks_of};
 ghost use Rattle.jfs_super.specs.Geometry.{geometry_of, IsLayout};
 ghost use Rattle.jfs_mount.specs.Subject.{subject_of};
@@ -11,18 +12,43 @@ ghost use Rattle.jfs_check.specs.Checked.{IsChecked, CarriesCheck, AreCounted};
 
 use crate::checked::{CheckError, Checked};
 use crate::examine::examine;
+use crate::metered::Metered;
 use jfs_disk::{Disk, Part};
 use jfs_ranges::{PageView, ViewError};
 use jfs_reader::DiskView;
 use jfs_super::{Super, geometry};
 use std::alloc::Global;
 
+/// The number of pages that a check of a volume of so many blocks may ask for. A page that one place names is asked for twice, and one of the maps four times at most: to pass more, a volume has to name
+/// pages over and over, as where the roots of many inodes name one tree.
+fn most_pages(blocks: u32) -> u64 {
+    8 * u64::from(blocks)
+}
+
+/// The answer over a view of which so many pages may be asked for; it keeps its loan of the view below.
+fn examine_metered<'a, V: PageView>(
+    alloc: Global,
+    metered: &mut Metered<'a, V>,
+    s: &Super,
+) -> Result<Checked, ViewError>
+    requires layout { IsLayout (geometry_of s.now) }
+    requires part { blocks_of s.now ≡ V.PageView.block_count metered.old.view.now }
+    ensures loan { metered.new.view.ghost_name ≡ metered.old.view.ghost_name }
+    ensures image { V.PageView.tells → V.PageView.image metered.new.view.now ≡ V.PageView.image metered.old.view.now }
+    ensures count_of_blocks { V.PageView.block_count metered.new.view.now ≡ V.PageView.block_count metered.old.view.now }
+    ensures device { V.PageView.device metered.new.view.now ≡ V.PageView.device metered.old.view.now }
+    ensures fault { CarriesCount (V.PageView.faults metered.old.view.now) (V.PageView.faults metered.new.view.now) result }
+    ensures checked { V.PageView.tells → IfOk result (IsChecked (subject_of s.now (page_of (V.PageView.image metered.old.view.now)))) }
+{
+    examine(alloc, metered, s)
+}
+
 /// Everything that is wrong with the volume of a view, in order; and, of one that a mount takes, how many blocks are free and how many inodes are in use.
 /// Only reads it.
 ///
 /// # Errors
 ///
-/// A page could not be read, or memory ran out.
+/// A page could not be read, or memory ran out. The volumes that `check` answers so are answered so here.
 pub fn check_view<V: PageView>(
     alloc: Global,
     view: &mut V,
@@ -36,7 +62,9 @@ pub fn check_view<V: PageView>(
     ensures fault { CarriesCheck (V.PageView.faults view.old) (V.PageView.faults view.new) result }
     ensures checked { V.PageView.tells → IfOk result (IsChecked (subject_of s.now (page_of (V.PageView.image view.old)))) }
 {
-    match examine(alloc, view, s) {
+    let most = most_pages(view.blocks());
+    let mut metered = Metered::new(view, most);
+    match examine_metered(alloc, &mut metered, s) {
         Ok(checked) => Ok(checked),
         Err(ViewError::Read(fault)) => Err(CheckError::Read(fault)),
         Err(ViewError::Memory) => Err(CheckError::Memory),
@@ -70,8 +98,9 @@ fn check_loan<'a, D: Disk>(
 ///
 /// # Errors
 ///
-/// The disk failed, or memory ran out. A volume whose inode map has more than 128 pages and one for each 64 blocks, as where they name one extent over and over, is
-/// answered as want of memory, so what a check takes is bounded by the volume.
+/// The disk failed, or memory ran out. Two kinds of volumes are answered as want of memory, so what a check takes is bounded by the volume: one whose inode map has more than
+/// 128 pages and one for each 64 blocks, as where they name one extent over and over; and one of which more pages would be asked for than eight times its blocks, as where the
+/// roots of many inodes name one tree.
 pub fn check<D: Disk>(alloc: Global, disk: &mut D, s: &Super) -> Result<Checked, CheckError>
     requires accepted { IsAccepted s.now (D.page_count disk.old) }
     ensures findings { IfOk result (λ c. D.tells → AreFindings (subject_of s.now (page_of (D.image disk.old))) c.findings.items) }

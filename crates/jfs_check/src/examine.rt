@@ -77,14 +77,7 @@ pub(crate) fn find_all<V: PageView>(
     }
 }
 
-/// The number of pages of the inode map (IAGs) up to which a volume of so many blocks is checked. A page has 4,096 numbers, and a check takes some 20 bytes for each, so what it
-/// takes is bounded by the volume. Inodes that don't share their pages need one such page for 512 blocks, and each of at most 128 groups may have one that isn't full.
-fn most_iags(blocks: u32) -> u32 {
-    128 + blocks / 64
-}
-
-/// The answer of a volume that a mount takes; else the rule that is broken. A volume whose inode map has more pages than its inodes can need, as where they name
-/// one extent over and over, is answered as want of memory.
+/// The answer of a volume that a mount takes; else the rule that is broken.
 pub(crate) fn examine<V: PageView>(
     alloc: Global,
     view: &mut V,
@@ -107,9 +100,6 @@ pub(crate) fn examine<V: PageView>(
             };
         }
     };
-    if mounted.maps.inodes.iags > most_iags(view.blocks()) {
-        return Err(ViewError::Memory);
-    }
     let look = find_all(alloc, view, s, &mounted)?;
     Ok(conclude(look, mounted.maps.inodes.iags))
 }

@@ -9,6 +9,7 @@ mod files;
 mod fresh;
 mod look;
 mod maps;
+mod metered;
 mod whole;
 
 pub use checked::{CheckError, Checked};

@@ -1,5 +1,5 @@
 -- The blocks of the maps' files.
-use Rattle.std.specs.Prelude.{◌≡◌, ◌<◌, ◌≤◌, ℕ, Bool, true, false, not, ◌+◌, ◌*◌, ◌||◌, ◌&&◌, ◌==◌, nat_le, List, [], ◌∷◌, ◌++◌, map, Option, Some, None, Result, Ok, Err, is_some}
+use Rattle.std.specs.Prelude.{◌≡◌, ◌<◌, ◌≤◌, ℕ, Bool, true, false, not, ◌+◌, ◌*◌, ◌/◌, ◌||◌, ◌&&◌, ◌==◌, nat_le, List, [], ◌∷◌, ◌++◌, map, Option, Some, None, Result, Ok, Err, is_some}
 use Rattle.std.specs.List.{range_with_len}
 use Rattle.jfs_bits.specs.declared.descriptor.Pxd.{Pxd}
 use Rattle.jfs_bits.specs.declared.extent.Xad.{Xad}
@@ -11,6 +11,11 @@ use Rattle.jfs_objects.specs.Image.{extent_place}
 -- the block, if there is one, is a page of so many
 abbrev pub IsWithin : ℕ → Option ℕ → Type 0
 IsWithin blocks o = (b : ℕ) → o ≡ Some b → b < blocks
+
+-- The number of pages of the inode map (IAGs) up to which a volume of so many blocks is looked at. Inodes that don't share their pages need one such page for 512 blocks,
+-- and each of at most 128 groups may have one that isn't full.
+abbrev pub most_iags : ℕ → ℕ
+most_iags blocks = 128 + blocks / 64
 
 -- no extent has a block that is no page
 abbrev pub LieWithin : ℕ → List Xad → Type 0

@@ -9,6 +9,7 @@ use Rattle.jfs_objects.specs.Volume.{home}
 use Rattle.jfs_objects.specs.Image.{file_extents}
 use Rattle.jfs_each.specs.Each.{AllFit}
 use Rattle.jfs_reader.specs.Map.{IsInodeMap}
+use Rattle.jfs_mount.specs.Files.{most_iags}
 use Rattle.jfs_mount.specs.Subject.{Subject, subject_of, volume}
 use Rattle.jfs_mount.specs.Mount.{BadMount, broken_mount, extents_row, root_row}
 use Rattle.jfs_mount.specs.declared.bad.BadMount.{BadMount as Bad}
@@ -53,9 +54,10 @@ abbrev pub Mounts : Subject → Result Mounted Bad → Type 0
 Mounts s (Ok m) = AreRead s m.maps × (broken_mount s ≡ None) × (m.places.items ≡ (volume s).extents)
 Mounts s (Err bad) = broken_mount s ≡ Some bad
 
--- what holds on every view: there is a place for each inode extent of the map, and four blocks lie behind each that is told
+-- what holds on every view: the map has no more pages than inodes can need, there is a place for each of its inode extents, and four blocks lie behind each that is told
 pub record IsMounted (count : ℕ) (m : Mounted) : Type 0 where
   pub blocks : m.maps.blocks ≡ count
   pub few : m.maps.inodes.iags ≤ 65536
+  pub bounded : m.maps.inodes.iags ≤ most_iags count
   pub all : length m.places.items ≡ 128 * m.maps.inodes.iags
   pub fit : AllFit count m.places.items

@@ -6,7 +6,7 @@ ghost use Rattle.jfs_disk.specs.Image.{page_of};
 ghost use Rattle.jfs_objects.specs.Contents.{block_of, bytes_at};
 ghost use Rattle.jfs_each.specs.Each.{AllFit};
 ghost use Rattle.jfs_ranges.specs.View.{CarriesCount};
-ghost use Rattle.jfs_mount.specs.Files.{IsWithin, IsPlace, AddsIag};
+ghost use Rattle.jfs_mount.specs.Files.{IsWithin, IsPlace, AddsIag, most_iags};
 ghost use Rattle.jfs_mount.specs.Steps.{FindsPlaces};
 
 use crate::bad::BadMount;
@@ -17,7 +17,16 @@ use jfs_disk::Page;
 use jfs_ranges::{PageView, ViewError};
 use std::alloc::{AllocError, Global};
 
-/// The first block of each inode extent that is there, where all of them have four blocks of the file system part. Each page of the inode map is read once.
+/// The number of pages of the inode map (IAGs) up to which a volume of so many blocks is looked at. A look keeps a place for each of a page's 128 extents, so what it
+/// takes is bounded by the volume.
+fn most_iags(blocks: u32) -> u32
+    ensures { result ≡ most_iags blocks }
+{
+    128 + blocks / 64
+}
+
+/// The first block of each inode extent that is there, where all of them have four blocks of the file system part. Each page of the inode map is read once. Where there
+/// are more of them than inodes can need, the look ends with want of memory, unless a page before breaks the rule.
 pub(crate) fn places_of<V: PageView>(
     alloc: Global,
     view: &mut V,
@@ -30,17 +39,22 @@ pub(crate) fn places_of<V: PageView>(
     ensures count_of_blocks { V.PageView.block_count view.new ≡ V.PageView.block_count view.old }
     ensures device { V.PageView.device view.new ≡ V.PageView.device view.old }
     ensures fault { CarriesCount (V.PageView.faults view.old) (V.PageView.faults view.new) result }
+    ensures bounded { IfOk result (λ answer. IfOk answer (λ places. maps.now.inodes.iags ≤ most_iags maps.now.blocks)) }
     ensures all { IfOk result (λ answer. IfOk answer (λ places. length places.items ≡ 128 * maps.now.inodes.iags)) }
     ensures fit { IfOk result (λ answer. IfOk answer (λ places. AllFit maps.now.blocks places.items)) }
     ensures finds { V.PageView.tells → IfOk result (FindsPlaces (V.PageView.image view.old) maps.now) }
 {
     let iags = maps.inodes.iags;
-    let mut places = match Vec::with_capacity(alloc, 128 * iags as usize) {
+    let most = most_iags(maps.blocks);
+    let mut places = match Vec::with_capacity(alloc, 128 * iags.min(most) as usize) {
         Ok(places) => places,
         Err(_) => return Err(ViewError::Memory),
     };
     let mut rest = maps.inodes.extents.as_slice();
     for i in 0..iags {
+        if i >= most {
+            return Err(ViewError::Memory);
+        }
         let j = u64::from(i) + 1;
         rest = from_block(rest, j);
         if let Some(value) = add_iag(view, rest, j, &mut places)? {

@@ -6,6 +6,7 @@ ghost use Rattle.jfs_ranges.specs.View.{CarriesCount};
 ghost use Rattle.jfs_super.specs.Rules.{blocks_of};
 ghost use Rattle.jfs_super.specs.declared.fields.Super.{Super};
 ghost use Rattle.jfs_each.specs.Each.{AllFit};
+ghost use Rattle.jfs_mount.specs.Files.{most_iags};
 ghost use Rattle.jfs_mount.specs.Subject.{subject_of};
 ghost use Rattle.jfs_mount.specs.Mount.{broken_mount};
 ghost use Rattle.jfs_mount.specs.Steps.{FindsAll, IsMounted, Mounts};
@@ -45,7 +46,8 @@ pub fn first_broken<V: PageView>(alloc: Global, view: &mut V) -> Result<Option<B
 ///
 /// # Errors
 ///
-/// A page could not be read, or memory ran out.
+/// A page could not be read, or memory ran out. A volume whose inode map has more than 128 pages and one for each 64 blocks, as where they name one extent over and
+/// over, is answered as want of memory, unless it breaks a rule: `bmap` to `nextiag`, or `extents` on one of so many pages. So a mount takes memory for no more.
 pub fn mounted<V: PageView>(
     alloc: Global,
     view: &mut V,
@@ -78,6 +80,7 @@ fn places_if_sound<V: PageView>(
     ensures device { V.PageView.device view.new ≡ V.PageView.device view.old }
     ensures fault { CarriesCount (V.PageView.faults view.old) (V.PageView.faults view.new) result }
     ensures few { IfOk result (λ answer. IfOk answer (λ places. maps.now.inodes.iags ≤ 65536)) }
+    ensures bounded { IfOk result (λ answer. IfOk answer (λ places. maps.now.inodes.iags ≤ most_iags maps.now.blocks)) }
     ensures all { IfOk result (λ answer. IfOk answer (λ places. length places.items ≡ 128 * maps.now.inodes.iags)) }
     ensures fit { IfOk result (λ answer. IfOk answer (λ places. AllFit maps.now.blocks places.items)) }
     ensures finds { V.PageView.tells → IfOk result (FindsAll (V.PageView.image view.old) maps.now) }

@@ -39,6 +39,7 @@ loop-i-preserved g c =
       device = o.device ∙ i.device;
       count = o.fault ∙ i.count;
       same = λ k l. c.from_block-rest.ensures.same k (omega (arith, from, l)) ∙ i.same k (omega (arith, l));
+      few = (let below = c.if-i-most.false in omega (arith, below));
       all = (let more = o.all none in let before = i.all in omega (arith, more, before));
       fit = subst (λ (n : ℕ). (AllFit n c.loop-i.places.items → AllFit n c.add_iag.new.places.items)) same_blocks o.fit i.fit;
       added = λ tells.

@@ -1,4 +1,4 @@
-use Rattle.std.proofs.Common.{◌≡◌, ◌<◌, ◌*◌, ℕ, length}
+use Rattle.std.proofs.Common.{◌≡◌, ◌<◌, ◌≤◌, ◌*◌, ℕ, length}
 use Rattle.jfs_disk.specs.Image.{page_of}
 use Rattle.jfs_objects.specs.Contents.{block_of}
 use Rattle.jfs_each.specs.Each.{AllFit}
@@ -12,6 +12,7 @@ invariant-loop-i g l = record {
   device : g.V.PageView.device l.view ≡ g.V.PageView.device l.fn.view;
   count : g.V.PageView.faults l.view ≡ g.V.PageView.faults l.fn.view;
   same : (k : ℕ) → l.i < k → block_of l.rest k ≡ block_of l.maps.inodes.extents k;
+  few : l.i ≤ l.most;
   all : length l.places.items ≡ 128 * l.i;
   fit : AllFit l.maps.blocks l.places.items;
   added : g.V.PageView.tells → AreAdded l.maps.blocks (page_of (g.V.PageView.image l.fn.view)) l.maps.inodes.extents (128 * l.i) l.places.items;
