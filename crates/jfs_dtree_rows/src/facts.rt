@@ -1,6 +1,8 @@
 //! What is so of a directory.
 
-use crate::refusals::fault;
+use crate::leading::answers_deep;
+use crate::refusals::{fault, read_fault};
+use crate::units::Kind;
 use crate::volume::{Dir, Told};
 use crate::way::first_keys;
 use jfs_dtree::{DtError, parent};
@@ -30,6 +32,10 @@ pub enum Fact {
     ListFails(DtError),
     /// They aren't, by the fault of this number.
     ListFault(u64),
+    /// The directory is too deep for the name, or not.
+    Deep(Kind, u32, bool),
+    /// Whether it is isn't told, by the fault of this number.
+    DeepFault(Kind, u32, u64),
 }
 
 /// Whether it is so.
@@ -46,6 +52,10 @@ pub fn is_so(alloc: Global, dir: &mut Dir, fact: &Fact) -> bool {
         Fact::Lists(whether) => dir.lists(alloc) == *whether,
         Fact::ListFails(why) => dir.list_fails(alloc, *why),
         Fact::ListFault(count) => dir.list_fails(alloc, fault(*count)),
+        Fact::Deep(kind, number, deep) => answers_deep(alloc, dir, kind, *number, Ok(*deep)),
+        Fact::DeepFault(kind, number, count) => {
+            answers_deep(alloc, dir, kind, *number, Err(read_fault(*count)))
+        }
     }
 }
 

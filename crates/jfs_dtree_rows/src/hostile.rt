@@ -211,7 +211,7 @@ static UNREAD: [Step; 10] = [
     Do(Lose(2)),
     Fault(1),
     Do(Lose(0)),
-    Fault(4),
+    Fault(5),
     Find(Long, 7, Some(7)),
     // the leaf beside the one with the name isn't read where no page comes or goes
     Do(Lose(1)),

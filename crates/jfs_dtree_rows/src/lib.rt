@@ -12,6 +12,8 @@ mod growing;
 #[cfg(test)]
 mod hostile;
 #[cfg(test)]
+mod leading;
+#[cfg(test)]
 mod leaves;
 #[cfg(test)]
 mod leftmost;

@@ -1,6 +1,7 @@
 //! Calls that are refused, each for the same reason.
 
 use crate::calls::{add_fails, find_fails, finds, remove_fails};
+use crate::leading::lead_fails;
 use crate::units::Kind;
 use crate::volume::Dir;
 use jfs_bits::Rule;
@@ -17,6 +18,7 @@ pub fn refuses(alloc: Global, dir: &mut Dir, number: u32, why: DtError) -> bool 
     find_fails(alloc, dir, &Kind::Long, number, why)
         && add_fails(alloc, dir, &Kind::Long, number, why)
         && remove_fails(alloc, dir, &Kind::Long, number, why)
+        && lead_fails(alloc, dir, &Kind::Long, number, why)
 }
 
 /// Whether each call on long name 3, and the list of all names, is refused since this page breaks a rule.
@@ -47,15 +49,21 @@ pub fn root_breaks_by(alloc: Global, dir: &mut Dir, at: u8, byte: u8, rule: Rule
 
 /// Why a call fails by the fault of this number.
 pub fn fault(count: u64) -> DtError {
-    DtError::View(ViewError::Read(Fault {
-        part: Part::Low,
-        count,
-    }))
+    DtError::View(read_fault(count))
 }
 
-/// Whether looking for a name, adding another and removing the first fail, by this fault and the two behind it.
+/// The fault of this number.
+pub fn read_fault(count: u64) -> ViewError {
+    ViewError::Read(Fault {
+        part: Part::Low,
+        count,
+    })
+}
+
+/// Whether looking for a name, adding another, removing the first and leading it to another inode fail, by this fault and the three behind it.
 pub fn faults(alloc: Global, dir: &mut Dir, first: u64) -> bool {
     find_fails(alloc, dir, &Kind::Long, 3, fault(first))
         && add_fails(alloc, dir, &Kind::Other, 3, fault(first.saturating_add(1)))
         && remove_fails(alloc, dir, &Kind::Long, 3, fault(first.saturating_add(2)))
+        && lead_fails(alloc, dir, &Kind::Long, 3, fault(first.saturating_add(3)))
 }

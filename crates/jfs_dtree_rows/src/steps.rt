@@ -5,6 +5,7 @@ use crate::calls::{
 };
 use crate::changes::{Change, make_change};
 use crate::facts::{Fact, is_so};
+use crate::leading::{lead_all, lead_fails, leads};
 use crate::own_row::gives_back;
 use crate::refusals::{breaks, breaks_by, faults, refuses, root_breaks_by};
 use crate::units::Kind;
@@ -23,6 +24,12 @@ pub enum Step {
     Remove(Kind, u32, u32),
     /// The name isn't removed for this reason, and root and transaction stay as they were.
     RemoveFails(Kind, u32, DtError),
+    /// The name is led to this inode, and was the other one's.
+    Lead(Kind, u32, u32, u32),
+    /// The names with numbers from the first up to the second, each its number's, are led to the inodes from 1,000 on.
+    LeadAll(Kind, u32, u32),
+    /// The name isn't led to another inode for this reason, and root and transaction stay as they were.
+    LeadFails(Kind, u32, DtError),
     /// This inode is found for the name, or none.
     Find(Kind, u32, Option<u32>),
     /// The names with numbers from the first up to the second are added, each for its number, the lowest first.
@@ -41,7 +48,7 @@ pub enum Step {
     BreakBy(u8, u16, u8, Rule),
     /// The same of a byte of the root.
     RootBreakBy(u8, u8, Rule),
-    /// Looking for a name, adding another and removing the first fail, by this fault and the two behind it.
+    /// Looking for a name, adding another, removing the first and leading it to another inode fail, by this fault and the three behind it.
     Fault(u64),
     /// With the name, its page is given back: the transaction tells nothing else.
     GiveBack(Kind, u32),
@@ -77,6 +84,9 @@ fn holds(alloc: Global, dir: &mut Dir, step: &Step) -> bool {
         Step::AddFails(kind, number, why) => add_fails(alloc, dir, kind, *number, *why),
         Step::Remove(kind, number, inode) => removes(alloc, dir, kind, *number, *inode),
         Step::RemoveFails(kind, number, why) => remove_fails(alloc, dir, kind, *number, *why),
+        Step::Lead(kind, number, inode, old) => leads(alloc, dir, kind, *number, *inode, *old),
+        Step::LeadAll(kind, from, to) => lead_all(alloc, dir, kind, *from, *to),
+        Step::LeadFails(kind, number, why) => lead_fails(alloc, dir, kind, *number, *why),
         Step::Find(kind, number, found) => finds(alloc, dir, kind, *number, *found),
         Step::AddAll(kind, from, to) => add_all(alloc, dir, kind, *from, *to),
         Step::AddDown(kind, end, count) => add_down(alloc, dir, kind, *end, *count),

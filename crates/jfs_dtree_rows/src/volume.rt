@@ -205,7 +205,8 @@ impl Dir {
         }
     }
 
-    fn applies(&mut self, tx: &Tx) {
+    /// Applies a transaction to the pages, and counts what it tells.
+    pub fn applies(&mut self, tx: &Tx) {
         self.told.adds(tx);
         let mut n: u32 = 0;
         for page in self.volume.pages.iter_mut() {
@@ -363,7 +364,7 @@ fn blocks_of(fresh: &PxdList) -> u32 {
 }
 
 /// A transaction of one edit, or of none where memory ran out.
-fn one_edit(alloc: Global) -> Tx {
+pub fn one_edit(alloc: Global) -> Tx {
     let mut tx = Tx::new(alloc);
     match tx.push(Edit::NoRedo { page: 9 }) {
         Ok(()) => tx,
