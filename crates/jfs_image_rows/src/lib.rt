@@ -1,4 +1,4 @@
-//! The file trees and the rooms of images made by hand, and of a volume that was formatted.
+//! The file trees and the rooms of images made by hand, and of a volume that was formatted; the sets of its maps.
 #![tactic(auto)]
 
 #[cfg(test)]
@@ -11,5 +11,7 @@ mod nodes;
 mod none;
 #[cfg(test)]
 mod rooms;
+#[cfg(test)]
+mod sets;
 #[cfg(test)]
 mod words;

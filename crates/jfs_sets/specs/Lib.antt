@@ -1,0 +1,4 @@
+-- what the clauses say
+pub mod Sets
+-- for the prover
+pub mod Parts

@@ -1,0 +1,24 @@
+-- The sets of a volume, as bits in words as in the maps.
+use Rattle.std.specs.Prelude.{◌≡◌, ◌<◌, ◌≤◌, ◌+◌, ◌*◌, ◌/◌, ◌%◌, ◌&&◌, ℕ, List, length, map, is_some, Option, Some, None}
+use Rattle.jfs_bits.specs.Bits.{is_taken}
+use Rattle.jfs_bits.specs.declared.descriptor.Pxd.{Pxd}
+use Rattle.jfs_super.specs.declared.fields.Super.{Super}
+use Rattle.jfs_disk.specs.Image.{Image, page_of}
+use Rattle.jfs_objects.specs.Volume.{home}
+use Rattle.jfs_mount.specs.Subject.{subject_of, volume, blocks}
+use Rattle.jfs_mount.specs.Steps.{AreRead}
+use Rattle.jfs_mount.specs.declared.maps.Maps.{Maps}
+
+-- a bit for each block of the file system part: set where the block's bit in the persistent map is
+abbrev pub AreUsedBlocks : Image → Maps → List ℕ → Type 0
+AreUsedBlocks image maps set = (s : Super) → AreRead (subject_of s (page_of image)) maps → (b : ℕ) → b < maps.blocks → is_taken set b ≡ (volume (subject_of s (page_of image))).used b
+
+-- a bit for each inode that there is a place for: an inode is in use where its extent is there and its bit is set
+abbrev pub AreUsedInodes : Image → Maps → List ℕ → Type 0
+AreUsedInodes image maps set = (s : Super) → AreRead (subject_of s (page_of image)) maps → (n : ℕ) → n < 4096 * maps.inodes.iags
+    → (volume (subject_of s (page_of image))).in_use n ≡ (is_some (home (volume (subject_of s (page_of image))).extents n) && is_taken set n)
+
+-- inode extents: four blocks from the first one on, or a descriptor of zeros where none is there
+abbrev pub extent_from : Option ℕ → Pxd
+extent_from None = record { len = 0; addr = 0 }
+extent_from (Some first) = record { len = 4; addr = first }
