@@ -1,3 +1,4 @@
 pub mod Chained
 pub mod Splice
 pub mod Refusing
+pub mod Short

@@ -1,5 +1,5 @@
 -- What calls may say: the condition of every call that is handed one.
-use Rattle.std.specs.Prelude.{◌<◌, ◌≤◌, ◌+◌, ◌^◌, ℕ, List, length, true, false, Bool}
+use Rattle.std.specs.Prelude.{◌<◌, ◌≤◌, ◌+◌, ◌^◌, ℕ, List, [], ◌∷◌, length, true, false, Bool}
 use Rattle.jfs_name.specs.Text.{IsPath}
 use Rattle.jfs_plain.specs.Call.{is_changing}
 use Rattle.jfs_plain.specs.declared.call.Call.{Call}
@@ -9,6 +9,11 @@ use Rattle.jfs_plain.specs.declared.call.Request.{Request}
 -- names that some text of at most 4,095 bytes spells
 abbrev pub FitsPath : List (List ℕ) → Type 0
 FitsPath names = (text : List ℕ) × IsPath text names
+
+-- each of these names has 255 units at most
+abbrev pub AreShort : List (List ℕ) → Type 0
+AreShort [] = Unit {0}
+AreShort (name ∷ names) = (length name ≤ 255) × AreShort names
 
 -- twelve bits
 abbrev pub FitsMode : ℕ → Type 0

@@ -23,7 +23,7 @@ mod step;
 
 pub use call::{Ack, Call, Entry, Line, Request};
 pub use entries::Entries;
-pub use law::{call_steps_are_plain, refusal_leaves_tree};
+pub use law::{call_steps_are_plain, names_of_paths_are_short, refusal_leaves_tree};
 pub use node::{Node, Times};
 pub use plain::PlainTree;
 pub use refusal::{Refusal, why_short};
