@@ -38,14 +38,14 @@ use Rattle.jfs_put_range.proofs.Cutting.{head_takes, rest_takes, some_side}
 same_follows : (top : Bool) (high : Option ℕ) (entries : List Xad) → Follows top high entries entries
 same_follows top high entries = record { order = λ low r z. r; begins = λ k nt b. b; ends = λ bound is all. all }
 
-pub none_written : (blocks : ℕ) (left right top : Bool) (pages : ℕ → List ℕ) (entries : List Xad) (free : List ℕ) → WroteChildren blocks [] left right top pages pages 0 entries entries free free
-none_written blocks left right top pages entries free height key low high first rises begins takes = (
+pub none_written : (end : Bool) (blocks : ℕ) (left right top : Bool) (pages : ℕ → List ℕ) (entries : List Xad) (free : List ℕ) → WroteChildren end blocks [] left right top pages pages 0 entries entries free free
+none_written end blocks left right top pages entries free height key low high first rises begins takes = (
   wrote_none pages low (parts_under blocks pages height key entries) high free takes.rises,
   omega arith,
   (λ some. absurd (omega (arith, some))),
   same_follows top high entries,
   omega arith,
-  (λ depth last line. line),
+  (λ depth last ends line. line),
 )
 
 -- ---- one child
@@ -104,9 +104,9 @@ grown_count : (top : Bool) (x : Xad) (more : Option (Sibling ℕ)) → 1 ≤ len
 grown_count top x None = omega arith
 grown_count top x (Some s) = omega arith
 
-pub child_written : (blocks : ℕ) (xs : List Xad) (left right top : Bool) (before after : ℕ → List ℕ) (levels : ℕ) (x : Xad) (more : Option (Sibling ℕ)) (free rest : List ℕ)
-    → WrotePage blocks xs left right before after levels x.at.addr more free rest → WroteChildren blocks xs left right top before after levels (x ∷ []) (grown_entries top x more) free rest
-child_written blocks xs left right top before after levels x more free rest w height key low high first rises begins takes =
+pub child_written : (end : Bool) (blocks : ℕ) (xs : List Xad) (left right top : Bool) (before after : ℕ → List ℕ) (levels : ℕ) (x : Xad) (more : Option (Sibling ℕ)) (free rest : List ℕ)
+    → WrotePage end blocks xs left right before after levels x.at.addr more free rest → WroteChildren end blocks xs left right top before after levels (x ∷ []) (grown_entries top x more) free rest
+child_written end blocks xs left right top before after levels x more free rest w height key low high first rises begins takes =
     let c : Child ℕ = record { key = key; page = x.at.addr } in
     let one = append_nil (part_of blocks before height c) in
     let g = w height key low high first (subst (λ ms. Takes xs left right first key low ms high free) one takes) in
@@ -118,7 +118,7 @@ child_written blocks xs left right top before after levels x more free rest w he
       (λ some. l),
       grown_follows blocks after height key low top x more high begins g.0.rises,
       grown_count top x more,
-      subst (KeepsFilled blocks before after (x.at.addr ∷ [])) (sym (grown_pages top x more)) g.2,
+      subst (KeepsFilled end blocks before after (x.at.addr ∷ [])) (sym (grown_pages top x more)) g.2,
     )
 
 -- ---- a child, and those behind it
@@ -182,13 +182,13 @@ both_follow top high e r rs hs ts l up f g = record {
       all_to_append bound hs ts (all_to_more r.offset bound hs (omega (arith, m, w)) (f.ends r.offset refl (l, tt))) (g.ends bound is all.1);
 }
 
-pub both_written : (blocks : ℕ) (xs : List Xad) (left right top mine its : Bool) (before middle after : ℕ → List ℕ) (one two levels : ℕ) (e r : Xad) (rs hs ts : List Xad) (free between rest : List ℕ)
+pub both_written : (end : Bool) (blocks : ℕ) (xs : List Xad) (left right top mine its : Bool) (before middle after : ℕ → List ℕ) (one two levels : ℕ) (e r : Xad) (rs hs ts : List Xad) (free between rest : List ℕ)
     → mine ≡ (right && is_none (kept_from r.offset xs)) → its ≡ (left && is_none (kept_below r.offset xs)) → one ≤ levels → two ≤ levels → (levels ≡ one) ⊎ (levels ≡ two)
     → ((n : ℕ) → count_in n between ≤ count_in n free) → ((n : ℕ) → count_in n rest ≤ count_in n between) → 0 < length hs
-    → WroteChildren blocks (kept_below r.offset xs) left mine top before middle one (e ∷ []) hs free between
-    → WroteChildren blocks (kept_from r.offset xs) its right false middle after two (r ∷ rs) ts between rest
-    → WroteChildren blocks xs left right top before after levels (e ∷ r ∷ rs) (hs ++ ts) free rest
-both_written blocks xs left right top mine its before middle after one two levels e r rs hs ts free between rest is_mine is_its l m which fewer less some h t height key low high first rises begins takes =
+    → WroteChildren false blocks (kept_below r.offset xs) left mine top before middle one (e ∷ []) hs free between
+    → WroteChildren end blocks (kept_from r.offset xs) its right false middle after two (r ∷ rs) ts between rest
+    → WroteChildren end blocks xs left right top before after levels (e ∷ r ∷ rs) (hs ++ ts) free rest
+both_written end blocks xs left right top mine its before middle after one two levels e r rs hs ts free between rest is_mine is_its l m which fewer less some h t height key low high first rises begins takes =
     let s = beside blocks xs left right mine its before height key low high first e r rs free is_mine is_its rises takes in
     let a = part_of blocks before height (record { key = key; page = e.at.addr }) in
     let b = parts_under blocks before height r.offset (r ∷ rs) in
@@ -211,7 +211,7 @@ both_written blocks xs left right top mine its before middle after one two level
       (λ any. elim (some_side r.offset xs any) [ inl p ↦ (let d = g.2 p in let u = up_to v w which in omega (arith, d, l, u)) | inr p ↦ (let d = k.2 p in let u = up_to v w which in omega (arith, d, m, u)) ]),
       both_follow top high e r rs hs ts s.ends s.rises g.3 k.3,
       (let i = g.4 in let j = k.4 in let n = length-append hs ts in omega (arith, i, j, n)),
-      both_keep blocks before middle after height key r.offset low e r rs hs ts (Some r.offset) high s.b keeps hw.rises later g.5 k.5,
+      both_keep end blocks before middle after height key r.offset low e r rs hs ts (Some r.offset) high s.b keeps hw.rises later g.5 k.5,
     )
   where
     up_to : one ≤ height → two ≤ height → (levels ≡ one) ⊎ (levels ≡ two) → levels ≤ height
@@ -228,7 +228,7 @@ head_refuted blocks xs left right top mine before most e r rs free Memory is ref
 
 pub rest_refuted : (blocks : ℕ) (xs : List Xad) (left right top mine its : Bool) (before middle : ℕ → List ℕ) (one most : ℕ) (e r : Xad) (rs hs : List Xad) (free between : List ℕ) (err : TreeError)
     → mine ≡ (right && is_none (kept_from r.offset xs)) → its ≡ (left && is_none (kept_below r.offset xs)) → ((n : ℕ) → count_in n between ≤ count_in n free)
-    → WroteChildren blocks (kept_below r.offset xs) left mine top before middle one (e ∷ []) hs free between
+    → WroteChildren false blocks (kept_below r.offset xs) left mine top before middle one (e ∷ []) hs free between
     → RefutesChildren blocks (kept_from r.offset xs) its right false middle most (r ∷ rs) between err
     → RefutesChildren blocks xs left right top before most (e ∷ r ∷ rs) free err
 rest_refuted blocks xs left right top mine its before middle one most e r rs hs free between (View v) is_mine is_its fewer h refutes = tt

@@ -1,5 +1,5 @@
 -- Pages that stay filled where a range is written.
-use Rattle.std.proofs.Common.{◌≡◌, ◌≤◌, ◌<◌, refl, sym, ap, ◌∙◌, subst, ℕ, zero, suc, Bool, false, List, [], ◌∷◌, ◌++◌, map, length, Option, arith}
+use Rattle.std.proofs.Common.{◌≡◌, ◌≤◌, ◌<◌, refl, sym, ap, ◌∙◌, subst, ℕ, zero, suc, Bool, true, false, List, [], ◌∷◌, ◌++◌, map, length, Option, arith}
 use Rattle.jfs_bits.specs.declared.extent.Xad.{Xad}
 use Rattle.jfs_tree.specs.Walk.{Child, Node, Leaf, Inner, Rises, times, under}
 use Rattle.jfs_tree.specs.Levels.{InLine, IsFilled, entry_count, pages_below}
@@ -38,18 +38,23 @@ entries_stay blocks old new levels depth key xs low high last r agree line =
 
 -- ---- two parts, one beside the other
 
-pub both_keep : (blocks : ℕ) (before middle after : ℕ → List ℕ) (height key bound low : ℕ) (e r : Xad) (rs hs ts : List Xad) (mid high : Option ℕ) → Rises xt_scale bound (parts_under blocks before height bound (r ∷ rs)) high
+pub both_keep : (end : Bool) (blocks : ℕ) (before middle after : ℕ → List ℕ) (height key bound low : ℕ) (e r : Xad) (rs hs ts : List Xad) (mid high : Option ℕ) → Rises xt_scale bound (parts_under blocks before height bound (r ∷ rs)) high
     → ((n : ℕ) → 0 < times n (parts_under blocks before height bound (r ∷ rs)) → middle n ≡ before n) → Rises xt_scale low (parts_under blocks middle height key hs) mid
     → ((n : ℕ) → 0 < times n (parts_under blocks middle height key hs) → after n ≡ middle n)
-    → KeepsFilled blocks before middle (pages_of_entries (e ∷ [])) (pages_of_entries hs) → KeepsFilled blocks middle after (pages_of_entries (r ∷ rs)) (pages_of_entries ts)
-    → KeepsFilled blocks before after (pages_of_entries (e ∷ r ∷ rs)) (pages_of_entries (hs ++ ts))
-both_keep blocks before middle after height key bound low e r rs hs ts mid high rb keeps rh later h t depth last line =
+    → KeepsFilled false blocks before middle (pages_of_entries (e ∷ [])) (pages_of_entries hs) → KeepsFilled end blocks middle after (pages_of_entries (r ∷ rs)) (pages_of_entries ts)
+    → KeepsFilled end blocks before after (pages_of_entries (e ∷ r ∷ rs)) (pages_of_entries (hs ++ ts))
+both_keep end blocks before middle after height key bound low e r rs hs ts mid high rb keeps rh later h t depth last ends line =
     subst (InLine (IsFilled (page_nodes blocks after) depth) last) (sym (pages_both hs ts))
     (line_both (page_nodes blocks after) depth last (pages_of_entries hs) (pages_of_entries ts)
-    (entries_stay blocks middle after height depth key hs low mid false rh later (h depth false line.0))
-    (t depth last (entries_stay blocks before middle height depth bound (r ∷ rs) bound high last rb keeps line.1)))
+    (entries_stay blocks middle after height depth key hs low mid false rh later (h depth false (λ e. absurd cc) line.0))
+    (t depth last ends (entries_stay blocks before middle height depth bound (r ∷ rs) bound high last rb keeps line.1)))
 
 -- ---- leaves
+
+-- where a page isn't the last of its level, it isn't to be full
+pub not_full : (end full : Bool) → (full ≡ true → end ≡ true) → end ≡ false → full ≡ false
+not_full end true ends e = absurd (let h = ends refl in cc)
+not_full end false ends e = refl
 
 leaf_filled : (nodes : ℕ → Node ℕ Xad) (depth n : ℕ) (last : Bool) (es : List Xad) → nodes n ≡ Leaf es → (last ≡ false → 64 ≤ length es) → IsFilled nodes depth last n
 unfolding IsFilled
@@ -59,15 +64,20 @@ leaf_filled nodes (suc depth) n last es is enough = (
   subst (λ (b : Node ℕ Xad). InLine (IsFilled nodes depth) last (pages_below b)) (sym is) tt,
 )
 
-pub leaf_keeps : (blocks : ℕ) (before after : ℕ → List ℕ) (n : ℕ) (es list : List Xad) → page_nodes blocks before n ≡ Leaf es → page_nodes blocks after n ≡ Leaf list → length es ≤ length list → KeepsFilled blocks before after (n ∷ []) (n ∷ [])
+pub leaf_keeps : (end : Bool) (blocks : ℕ) (before after : ℕ → List ℕ) (n : ℕ) (es list : List Xad) → page_nodes blocks before n ≡ Leaf es → page_nodes blocks after n ≡ Leaf list → length es ≤ length list → KeepsFilled end blocks before after (n ∷ []) (n ∷ [])
 unfolding IsFilled
-leaf_keeps blocks before after n es list was is more zero last filled = tt
-leaf_keeps blocks before after n es list was is more (suc depth) last filled =
+leaf_keeps end blocks before after n es list was is more zero last ends filled = tt
+leaf_keeps end blocks before after n es list was is more (suc depth) last ends filled =
     leaf_filled (page_nodes blocks after) (suc depth) n last list is (λ e. (let h = filled.0 e in let c = ap (λ (b : Node ℕ Xad). entry_count b) was in omega (arith, h, c, more)))
 
-pub leaf_fills : (blocks : ℕ) (before after : ℕ → List ℕ) (n q : ℕ) (front back : List Xad) → page_nodes blocks after n ≡ Leaf front → page_nodes blocks after q ≡ Leaf back → 64 ≤ length front → 64 ≤ length back → KeepsFilled blocks before after (n ∷ []) (n ∷ q ∷ [])
-leaf_fills blocks before after n q front back first second f b depth last filled =
-    (leaf_filled (page_nodes blocks after) depth n false front first (λ e. f), leaf_filled (page_nodes blocks after) depth q last back second (λ e. b))
+-- the last page of a level may have fewer entries
+may_thin : (end last : Bool) (few : Type 0) → (end ≡ true → last ≡ true) → (end ≡ false → few) → last ≡ false → few
+may_thin true last few ends some e = absurd (let h = ends refl in cc)
+may_thin false last few ends some e = some refl
+
+pub leaf_fills : (end : Bool) (blocks : ℕ) (before after : ℕ → List ℕ) (n q : ℕ) (front back : List Xad) → page_nodes blocks after n ≡ Leaf front → page_nodes blocks after q ≡ Leaf back → 64 ≤ length front → (end ≡ false → 64 ≤ length back) → KeepsFilled end blocks before after (n ∷ []) (n ∷ q ∷ [])
+leaf_fills end blocks before after n q front back first second f b depth last ends filled =
+    (leaf_filled (page_nodes blocks after) depth n false front first (λ e. f), leaf_filled (page_nodes blocks after) depth q last back second (may_thin end last (64 ≤ length back) ends b))
 
 -- ---- inner pages
 
@@ -80,35 +90,35 @@ has_filled nodes depth n last cs has enough line = (
 )
 
 -- the line below an inner page, once its children are written and the page is put
-line_below : (blocks : ℕ) (before middle after : ℕ → List ℕ) (n lower depth key : ℕ) (high : Option ℕ) (es made : List Xad) (last : Bool) → page_nodes blocks before n ≡ Inner (map child_of es) → Rises xt_scale key (parts_under blocks middle (suc lower) key made) high
-    → ((m : ℕ) → 0 < times m (parts_under blocks middle (suc lower) key made) → after m ≡ middle m) → KeepsFilled blocks before middle (pages_of_entries es) (pages_of_entries made)
-    → InLine (IsFilled (page_nodes blocks before) depth) last (pages_below (page_nodes blocks before n)) → InLine (IsFilled (page_nodes blocks after) depth) last (numbers (map child_of made))
-line_below blocks before middle after n lower depth key high es made last was r agree keeps line =
+line_below : (end : Bool) (blocks : ℕ) (before middle after : ℕ → List ℕ) (n lower depth key : ℕ) (high : Option ℕ) (es made : List Xad) (last : Bool) → page_nodes blocks before n ≡ Inner (map child_of es) → Rises xt_scale key (parts_under blocks middle (suc lower) key made) high
+    → ((m : ℕ) → 0 < times m (parts_under blocks middle (suc lower) key made) → after m ≡ middle m) → KeepsFilled end blocks before middle (pages_of_entries es) (pages_of_entries made)
+    → (end ≡ true → last ≡ true) → InLine (IsFilled (page_nodes blocks before) depth) last (pages_below (page_nodes blocks before n)) → InLine (IsFilled (page_nodes blocks after) depth) last (numbers (map child_of made))
+line_below end blocks before middle after n lower depth key high es made last was r agree keeps ends line =
     subst (InLine (IsFilled (page_nodes blocks after) depth) last) (sym (pages_are made))
     (entries_stay blocks middle after (suc lower) depth key made key high last r agree
-    (keeps depth last (subst (InLine (IsFilled (page_nodes blocks before) depth) last) (ap (λ (b : Node ℕ Xad). pages_below b) was ∙ pages_are es) line)))
+    (keeps depth last ends (subst (InLine (IsFilled (page_nodes blocks before) depth) last) (ap (λ (b : Node ℕ Xad). pages_below b) was ∙ pages_are es) line)))
 
-pub inner_keeps : (blocks : ℕ) (before middle after : ℕ → List ℕ) (n lower key : ℕ) (high : Option ℕ) (es made : List Xad) → page_nodes blocks before n ≡ Inner (map child_of es) → Rises xt_scale key (parts_under blocks middle (suc lower) key made) high
-    → ((m : ℕ) → 0 < times m (parts_under blocks middle (suc lower) key made) → after m ≡ middle m) → KeepsFilled blocks before middle (pages_of_entries es) (pages_of_entries made)
-    → length es ≤ length made → 0 < length made → page_nodes blocks after n ≡ Inner (map child_of made) → KeepsFilled blocks before after (n ∷ []) (n ∷ [])
+pub inner_keeps : (end : Bool) (blocks : ℕ) (before middle after : ℕ → List ℕ) (n lower key : ℕ) (high : Option ℕ) (es made : List Xad) → page_nodes blocks before n ≡ Inner (map child_of es) → Rises xt_scale key (parts_under blocks middle (suc lower) key made) high
+    → ((m : ℕ) → 0 < times m (parts_under blocks middle (suc lower) key made) → after m ≡ middle m) → KeepsFilled end blocks before middle (pages_of_entries es) (pages_of_entries made)
+    → length es ≤ length made → 0 < length made → page_nodes blocks after n ≡ Inner (map child_of made) → KeepsFilled end blocks before after (n ∷ []) (n ∷ [])
 unfolding IsFilled
-inner_keeps blocks before middle after n lower key high es made was r agree keeps more some is zero last filled = tt
-inner_keeps blocks before middle after n lower key high es made was r agree keeps more some is (suc depth) last filled =
+inner_keeps end blocks before middle after n lower key high es made was r agree keeps more some is zero last ends filled = tt
+inner_keeps end blocks before middle after n lower key high es made was r agree keeps more some is (suc depth) last ends filled =
     has_filled (page_nodes blocks after) depth n last (map child_of made) (record { children = map child_of made; is = is; some = cons made some; same = λ k. refl })
     (λ e. (let h = filled.0 e in let c = ap (λ (b : Node ℕ Xad). entry_count b) was in let d = ap (λ (b : Node ℕ Xad). entry_count b) is in let i = count_are es in let j = count_are made in omega (arith, h, c, d, i, j, more)))
-    (line_below blocks before middle after n lower depth key high es made last was r agree keeps filled.1)
+    (line_below end blocks before middle after n lower depth key high es made last was r agree keeps ends filled.1)
   where
     cons : (ys : List Xad) → 0 < length ys → IsCons (map child_of ys)
     cons [] l = absurd (omega (arith, l))
     cons (y ∷ ys) l = tt
 
-pub inner_fills : (blocks : ℕ) (before middle after : ℕ → List ℕ) (n q lower key : ℕ) (high : Option ℕ) (es made : List Xad) (front : List (Child ℕ)) (first : Child ℕ) (back : List (Child ℕ)) → page_nodes blocks before n ≡ Inner (map child_of es)
-    → Rises xt_scale key (parts_under blocks middle (suc lower) key made) high → ((m : ℕ) → 0 < times m (parts_under blocks middle (suc lower) key made) → after m ≡ middle m) → KeepsFilled blocks before middle (pages_of_entries es) (pages_of_entries made)
-    → map child_of made ≡ front ++ first ∷ back → HasChildren (page_nodes blocks after n) front → HasChildren (page_nodes blocks after q) (first ∷ back) → 64 ≤ entry_count (page_nodes blocks after n) → 64 ≤ entry_count (page_nodes blocks after q)
-    → KeepsFilled blocks before after (n ∷ []) (n ∷ q ∷ [])
+pub inner_fills : (end : Bool) (blocks : ℕ) (before middle after : ℕ → List ℕ) (n q lower key : ℕ) (high : Option ℕ) (es made : List Xad) (front : List (Child ℕ)) (first : Child ℕ) (back : List (Child ℕ)) → page_nodes blocks before n ≡ Inner (map child_of es)
+    → Rises xt_scale key (parts_under blocks middle (suc lower) key made) high → ((m : ℕ) → 0 < times m (parts_under blocks middle (suc lower) key made) → after m ≡ middle m) → KeepsFilled end blocks before middle (pages_of_entries es) (pages_of_entries made)
+    → map child_of made ≡ front ++ first ∷ back → HasChildren (page_nodes blocks after n) front → HasChildren (page_nodes blocks after q) (first ∷ back) → 64 ≤ entry_count (page_nodes blocks after n) → (end ≡ false → 64 ≤ entry_count (page_nodes blocks after q))
+    → KeepsFilled end blocks before after (n ∷ []) (n ∷ q ∷ [])
 unfolding IsFilled
-inner_fills blocks before middle after n q lower key high es made front first back was r agree keeps all here there f b zero last filled = (tt, tt)
-inner_fills blocks before middle after n q lower key high es made front first back was r agree keeps all here there f b (suc depth) last filled =
-    let line = subst (InLine (IsFilled (page_nodes blocks after) depth) last) (ap numbers all ∙ numbers-append front (first ∷ back)) (line_below blocks before middle after n lower depth key high es made last was r agree keeps filled.1) in
+inner_fills end blocks before middle after n q lower key high es made front first back was r agree keeps all here there f b zero last ends filled = (tt, tt)
+inner_fills end blocks before middle after n q lower key high es made front first back was r agree keeps all here there f b (suc depth) last ends filled =
+    let line = subst (InLine (IsFilled (page_nodes blocks after) depth) last) (ap numbers all ∙ numbers-append front (first ∷ back)) (line_below end blocks before middle after n lower depth key high es made last was r agree keeps ends filled.1) in
     let t = line_front (IsFilled (page_nodes blocks after) depth) last (numbers front) first.page (numbers back) line in
-    (has_filled (page_nodes blocks after) depth n false front here (λ e. f) t.0, has_filled (page_nodes blocks after) depth q last (first ∷ back) there (λ e. b) t.1)
+    (has_filled (page_nodes blocks after) depth n false front here (λ e. f) t.0, has_filled (page_nodes blocks after) depth q last (first ∷ back) there (may_thin end last (64 ≤ entry_count (page_nodes blocks after q)) ends b) t.1)

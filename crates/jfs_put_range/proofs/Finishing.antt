@@ -27,20 +27,20 @@ part_long blocks xs p = good_long blocks xs p.range.good
 pub list_done : (slice list xs2 es2 xs es : List Xad) → slice ≡ list → list ≡ with_range xs2 es2 → xs2 ≡ xs → es2 ≡ es → slice ≡ with_range xs es
 list_done slice list xs2 es2 xs es a b c d = a ∙ b ∙ ap (λ ys. with_range ys es2) c ∙ ap (with_range xs) d
 
-module _ (tells : Type 0) (blocks blocks1 : ℕ) (xs : List Xad) (left right : Bool) (d0 : List Drafted) (image image1 : Image) (n : ℕ) (bytes : List ℕ) (es es1 : List Xad) (leaf : Bool) (free : List ℕ)
+module _ (end full : Bool) (tells : Type 0) (blocks blocks1 : ℕ) (xs : List Xad) (left right : Bool) (d0 : List Drafted) (image image1 : Image) (n : ℕ) (bytes : List ℕ) (es es1 : List Xad) (leaf : Bool) (free : List ℕ)
     (same : image1 ≡ image) (size : blocks1 ≡ blocks) (o : IsOpened blocks bytes es leaf) (inner : leaf ≡ false) (read : bytes ≡ shown d0 image n) (slice : es1 ≡ es) where
   pub inner_done : (d1 d2 : List Drafted) (levels total : ℕ) (l0 l1 list : List Xad) (between rest : List ℕ) (more : Option (Sibling ℕ)) → tells → 0 < length xs → l0 ≡ [] → list ≡ l1 → total ≡ levels + 1 → IsFront between free → IsFront rest between
-      → Pushed tells blocks1 xs left right true (shown d0 image1) (shown d1 image1) levels es1 l0 l1 free between → Stored list bytes n d1 d2 between rest more → StaysOff n d1 d2 between rest
-      → WrotePage blocks xs left right (shown d0 image) (shown d2 image) total n more free rest
-  inner_done d1 d2 levels total l0 l1 list between rest more t any none is count front back p stored keeps =
+      → (full ≡ true → end ≡ true) → Pushed tells end blocks1 xs left right true (shown d0 image1) (shown d1 image1) levels es1 l0 l1 free between → Stored list full bytes n d1 d2 between rest more → StaysOff n d1 d2 between rest
+      → WrotePage end blocks xs left right (shown d0 image) (shown d2 image) total n more free rest
+  inner_done d1 d2 levels total l0 l1 list between rest more t any none is count front back ends p stored keeps =
       let made : list ≡ p.made = is ∙ p.is ∙ ap (λ ys. ys ++ p.made) none in
-      let w = subst (λ ys. WroteChildren blocks xs left right true (shown d0 image) (shown d1 image) levels ys p.made free between) slice
-      (subst (λ (i : Image). WroteChildren blocks xs left right true (shown d0 i) (shown d1 i) levels es1 p.made free between) same
-      (subst (λ b. WroteChildren b xs left right true (shown d0 image1) (shown d1 image1) levels es1 p.made free between) size (p.wrote t))) in
-      subst (λ l. WrotePage blocks xs left right (shown d0 image) (shown d2 image) l n more free rest) (let e : suc levels ≡ total = omega (arith, count) in e)
-      (inner_wrote blocks xs es p.made left right d0 d1 d2 image n levels bytes free between rest more any (subst (IsOpened blocks bytes es) inner o) read w
-      p.some (subst (λ b. all_within b p.made ≡ true) size p.within) (λ m. fewer_taken m free between front) (λ m. fewer_taken m between rest back)
-      (subst (λ ys. Stored ys bytes n d1 d2 between rest more) made stored) keeps)
+      let w = subst (λ ys. WroteChildren end blocks xs left right true (shown d0 image) (shown d1 image) levels ys p.made free between) slice
+      (subst (λ (i : Image). WroteChildren end blocks xs left right true (shown d0 i) (shown d1 i) levels es1 p.made free between) same
+      (subst (λ b. WroteChildren end b xs left right true (shown d0 image1) (shown d1 image1) levels es1 p.made free between) size (p.wrote t))) in
+      subst (λ l. WrotePage end blocks xs left right (shown d0 image) (shown d2 image) l n more free rest) (let e : suc levels ≡ total = omega (arith, count) in e)
+      (inner_wrote end full blocks xs es p.made left right d0 d1 d2 image n levels bytes free between rest more any (subst (IsOpened blocks bytes es) inner o) read w
+      ends p.some (subst (λ b. all_within b p.made ≡ true) size p.within) (λ m. fewer_taken m free between front) (λ m. fewer_taken m between rest back)
+      (subst (λ ys. Stored ys full bytes n d1 d2 between rest more) made stored) keeps)
 
   pub inner_fails : (most less : ℕ) (e : TreeError) → most ≡ suc less → RefutesChildren blocks1 xs left right true (shown d0 image1) less es1 free e → RefutesPage blocks xs left right (shown d0 image) most n free e
   inner_fails most less e more r =

@@ -28,7 +28,7 @@ use Rattle.jfs_refill.specs.Refilled.{IsList}
 use Rattle.jfs_refill.specs.Stored.{Stored}
 use Rattle.jfs_put_range.specs.Parts.{Takes, Wrote, WrotePage, RefutesPage, WroteChildren, RefutesChildren, IsOpened, part_of, parts_below, parts_under}
 use Rattle.jfs_put_range.proofs.Beside.{parts_stay}
-use Rattle.jfs_put_range.proofs.Filled.{inner_keeps, inner_fills}
+use Rattle.jfs_put_range.proofs.Filled.{inner_keeps, inner_fills, not_full}
 use Rattle.jfs_put_range.proofs.Pages.{inside, one_page, two_pages, walk_inner}
 
 under_append : (key : ℕ) (front back : List (Child ℕ)) → IsCons front → under key (front ++ back) ≡ under key front ++ back
@@ -73,12 +73,12 @@ stays blocks before mid new image n lower key low xs made p high free between re
     none : (a b c : ℕ) {t u v : ℕ} → (a + b) + c ≤ 1 → t + u ≡ b + c → 0 < t → v ≤ u → u ≡ v
     none a b c o h s l = omega (arith, o, h, s, l)
 
-pub inner_wrote : (blocks : ℕ) (xs es made : List Xad) (left right : Bool) (old mid new : List Drafted) (image : Image) (n levels : ℕ) (bytes : List ℕ) (free between rest : List ℕ) (more : Option (Sibling ℕ)) → 0 < length xs
-    → IsOpened blocks bytes es false → bytes ≡ shown old image n → WroteChildren blocks xs left right true (shown old image) (shown mid image) levels es made free between
-    → 0 < length made → all_within blocks made ≡ true → ((m : ℕ) → count_in m between ≤ count_in m free) → ((m : ℕ) → count_in m rest ≤ count_in m between)
-    → Stored made bytes n mid new between rest more → StaysOff n mid new between rest
-    → WrotePage blocks xs left right (shown old image) (shown new image) (suc levels) n more free rest
-inner_wrote blocks xs es made left right old mid new image n levels bytes free between rest None any o read wrote some within fewer less (few, left_is, stored) keeps height key low high first takes =
+pub inner_wrote : (end full : Bool) (blocks : ℕ) (xs es made : List Xad) (left right : Bool) (old mid new : List Drafted) (image : Image) (n levels : ℕ) (bytes : List ℕ) (free between rest : List ℕ) (more : Option (Sibling ℕ)) → 0 < length xs
+    → IsOpened blocks bytes es false → bytes ≡ shown old image n → WroteChildren end blocks xs left right true (shown old image) (shown mid image) levels es made free between
+    → (full ≡ true → end ≡ true) → 0 < length made → all_within blocks made ≡ true → ((m : ℕ) → count_in m between ≤ count_in m free) → ((m : ℕ) → count_in m rest ≤ count_in m between)
+    → Stored made full bytes n mid new between rest more → StaysOff n mid new between rest
+    → WrotePage end blocks xs left right (shown old image) (shown new image) (suc levels) n more free rest
+inner_wrote end full blocks xs es made left right old mid new image n levels bytes free between rest None any o read wrote ends some within fewer less (few, left_is, stored) keeps height key low high first takes =
     let before = shown old image in
     let middle = shown mid image in
     let after = shown new image in
@@ -101,9 +101,9 @@ inner_wrote blocks xs es made left right old mid new image n levels bytes free b
           (subst (λ ms. Wrote xs before after low (Key n key ∷ Page n ∷ p) ms high free rest) (sym now)
           (subst (λ f. Wrote xs before after low (Key n key ∷ Page n ∷ p) (Key n key ∷ Page n ∷ q) high free f) (sym left_is) w))),
       b.level ∙ ap suc (g.2 any),
-      inner_keeps blocks before middle after n b.lower key high es made is g.0.rises agree g.5 g.4 some there,
+      inner_keeps end blocks before middle after n b.lower key high es made is g.0.rises agree g.5 g.4 some there,
     )
-inner_wrote blocks xs es made left right old mid new image n levels bytes free between rest (Some s) any o read wrote some within fewer less (long, popped, stored) keeps height key low high first takes =
+inner_wrote end full blocks xs es made left right old mid new image n levels bytes free between rest (Some s) any o read wrote ends some within fewer less (long, popped, stored) keeps height key low high first takes =
     let before = shown old image in
     let middle = shown mid image in
     let after = shown new image in
@@ -114,7 +114,7 @@ inner_wrote blocks xs es made left right old mid new image n levels bytes free b
     let p = parts_under blocks before (suc b.lower) key es in
     let g = wrote (suc b.lower) key key high first o.order (λ nt. absurd cc) (inside xs left right first key low n p high free b.takes) in
     let list : IsList blocks made = record { order = g.3.order 0 o.order (λ t. refl); range = within } in
-    let reads = (stored.halved.reads blocks list).inner (map child_of es) o.node in
+    let reads = (stored.divided.reads blocks list).inner (map child_of es) o.node in
     let h = reads.0 in
     let fills = reads.1 in
     let taken = taken_last between rest s.page popped in
@@ -142,9 +142,9 @@ inner_wrote blocks xs es made left right old mid new image n levels bytes free b
           (subst (λ ms. Wrote xs before after low ms (parts_below blocks after (suc (suc b.lower)) (c ∷ d ∷ [])) high free rest) (sym b.was)
           (subst (λ ms. Wrote xs before after low (Key n key ∷ Page n ∷ p) ms high free rest) (sym now) w)),
       b.level ∙ ap suc (g.2 any),
-      inner_fills blocks before middle after n s.page b.lower key high es made h.front h.first h.back is g.0.rises agree g.5 h.is
+      inner_fills end blocks before middle after n s.page b.lower key high es made h.front h.first h.back is g.0.rises agree g.5 h.is
           (subst (λ node. HasChildren node h.front) (sym first_is) h.left_is) (subst (λ node. HasChildren node (h.first ∷ h.back)) (sym second_is) h.right_is)
-          (subst (λ (m : Node ℕ Xad). 64 ≤ entry_count m) (sym first_is) fills.left_has) (subst (λ (m : Node ℕ Xad). 64 ≤ entry_count m) (sym second_is) (fills.right_has refl)),
+          (subst (λ (m : Node ℕ Xad). 64 ≤ entry_count m) (sym first_is) fills.left_has) (λ e. subst (λ (m : Node ℕ Xad). 64 ≤ entry_count m) (sym second_is) (fills.right_has (not_full end full ends e))),
     )
 
 -- ---- a page below which the range can't be written

@@ -41,7 +41,7 @@ use Rattle.jfs_refill.specs.Refilled.{IsList}
 use Rattle.jfs_refill.specs.Stored.{Stored}
 use Rattle.jfs_put_range.specs.Parts.{Takes, Wrote, WrotePage, RefutesPage, IsPart, IsOpened, AllUpTo, EndsBy, part_of, parts_below}
 use Rattle.jfs_put_range.proofs.Rows.{rows_to, rows_rise}
-use Rattle.jfs_put_range.proofs.Filled.{leaf_keeps, leaf_fills}
+use Rattle.jfs_put_range.proofs.Filled.{leaf_keeps, leaf_fills, not_full}
 use Rattle.jfs_put_range.proofs.Pages.{one_page, two_pages}
 
 -- ---- lists of extents and entries of leaves
@@ -181,10 +181,10 @@ leaf_list blocks xs es top part rise within fits =
 
 -- ---- the leaf as it is now
 
-pub leaf_wrote : (blocks : ℕ) (xs es list : List Xad) (left right : Bool) (old new : List Drafted) (image : Image) (n : ℕ) (bytes : List ℕ) (free rest : List ℕ) (more : Option (Sibling ℕ)) → blocks ≤ 2 ^ 40
-    → IsOpened blocks bytes es true → IsPart blocks xs → list ≡ with_range xs es → bytes ≡ shown old image n → Stored list bytes n old new free rest more → StaysOff n old new free rest
-    → WrotePage blocks xs left right (shown old image) (shown new image) 1 n more free rest
-leaf_wrote blocks xs es list left right old new image n bytes free rest None top o part is_list read (few, left_is, stored) keeps height key low high first takes =
+pub leaf_wrote : (end full : Bool) (blocks : ℕ) (xs es list : List Xad) (left right : Bool) (old new : List Drafted) (image : Image) (n : ℕ) (bytes : List ℕ) (free rest : List ℕ) (more : Option (Sibling ℕ)) → blocks ≤ 2 ^ 40
+    → IsOpened blocks bytes es true → IsPart blocks xs → list ≡ with_range xs es → bytes ≡ shown old image n → (full ≡ true → end ≡ true) → Stored list full bytes n old new free rest more → StaysOff n old new free rest
+    → WrotePage end blocks xs left right (shown old image) (shown new image) 1 n more free rest
+leaf_wrote end full blocks xs es list left right old new image n bytes free rest None top o part is_list read fulls (few, left_is, stored) keeps height key low high first takes =
     let before = shown old image in
     let after = shown new image in
     let c : Child ℕ = record { key = key; page = n } in
@@ -201,9 +201,9 @@ leaf_wrote blocks xs es list left right old new image n bytes free rest None top
           (subst (λ ms. Wrote xs before after low (Key n key ∷ Page n ∷ map (Row n) es) ms high free rest) (sym now)
           (subst (λ f. Wrote xs before after low (Key n key ∷ Page n ∷ map (Row n) es) (Key n key ∷ Page n ∷ map (Row n) (with_range xs es)) high free f) (sym left_is) w))),
       b.level,
-      leaf_keeps blocks before after n es (with_range xs es) is there (loses_none xs es part.range.rises o.order),
+      leaf_keeps end blocks before after n es (with_range xs es) is there (loses_none xs es part.range.rises o.order),
     )
-leaf_wrote blocks xs es list left right old new image n bytes free rest (Some s) top o part is_list read (long, popped, stored) keeps height key low high first takes =
+leaf_wrote end full blocks xs es list left right old new image n bytes free rest (Some s) top o part is_list read fulls (long, popped, stored) keeps height key low high first takes =
     let before = shown old image in
     let after = shown new image in
     let q = s.page in
@@ -212,7 +212,7 @@ leaf_wrote blocks xs es list left right old new image n bytes free rest (Some s)
     let is = ap (xt_node Full blocks) (sym read) ∙ o.node in
     let b = before_leaf blocks xs es left right before n height key low high first free is part.range.rises takes in
     let good = (leaf_list blocks xs es top part o.order o.range o.fits).0 in
-    let reads = (stored.halved.reads blocks (subst (IsList blocks) (sym is_list) good)).leaf es o.node in
+    let reads = (stored.divided.reads blocks (subst (IsList blocks) (sym is_list) good)).leaf es o.node in
     let p = reads.0 in
     let fills = reads.1 in
     let all : with_range xs es ≡ p.front ++ p.back = sym is_list ∙ p.all in
@@ -234,8 +234,8 @@ leaf_wrote blocks xs es list left right old new image n bytes free rest (Some s)
           (subst (λ ms. Wrote xs before after low ms (parts_below blocks after 1 (c ∷ d ∷ [])) high free rest) (sym b.was)
           (subst (λ ms. Wrote xs before after low (Key n key ∷ Page n ∷ map (Row n) es) ms high free rest) (sym now) w)),
       b.level,
-      leaf_fills blocks before after n q p.front p.back first_is second_is
-          (subst (λ (m : Node ℕ Xad). 64 ≤ entry_count m) p.left_is fills.left_has) (subst (λ (m : Node ℕ Xad). 64 ≤ entry_count m) p.right_is (fills.right_has refl)),
+      leaf_fills end blocks before after n q p.front p.back first_is second_is
+          (subst (λ (m : Node ℕ Xad). 64 ≤ entry_count m) p.left_is fills.left_has) (λ e. subst (λ (m : Node ℕ Xad). 64 ≤ entry_count m) p.right_is (fills.right_has (not_full end full fulls e))),
     )
 
 -- ---- a part that has entries only in the 17 blocks

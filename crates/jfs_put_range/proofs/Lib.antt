@@ -16,3 +16,5 @@ pub mod Pushing
 pub mod Refuted
 pub mod Finishing
 pub mod Skipped
+pub mod Links
+pub mod Wayside

@@ -65,8 +65,8 @@ cut_sum bound [] left right m = omega arith
 cut_sum bound (x ∷ xs) left right m = by_flags (kept_below bound (x ∷ xs)) (kept_from bound (x ∷ xs)) left right m
 
 -- the two parts take no more pages than the whole
-pub cut_taken : (bound : ℕ) (xs : List Xad) (left right : Bool) (head tail : Part) (m : ℕ) → Cuts bound xs left right head tail → most_taken head.xs.items head.left head.right m + most_taken tail.xs.items tail.left tail.right m ≤ most_taken xs left right m
-cut_taken bound xs left right head tail m c =
+pub cut_taken : (bound : ℕ) (xs : List Xad) (left right last : Bool) (head tail : Part) (m : ℕ) → Cuts bound xs left right last head tail → most_taken head.xs.items head.left head.right m + most_taken tail.xs.items tail.left tail.right m ≤ most_taken xs left right m
+cut_taken bound xs left right last head tail m c =
     let below = c.below in let from = c.from in
     let hl = c.head_left in let hr = c.head_right ∙ ap (λ ys. right && is_none ys) from in
     let tl = c.tail_left ∙ ap (λ ys. left && is_none ys) below in let tr = c.tail_right in
@@ -91,17 +91,17 @@ grown_few (y ∷ ys) false false top x (Some s) some alone = absurd (is_some s (
     is_some : (s : Sibling ℕ) → some_of s ≡ None → ⊥
     is_some s e = cc
 
-pub child_pushed : (tells : Type 0) (blocks : ℕ) (xs : List Xad) (left right top : Bool) (before after : ℕ → List ℕ) (levels : ℕ) (x : Xad) (more : Option (Sibling ℕ)) (old new : List Xad) (free rest : List ℕ) → 0 < length xs → (left ≡ false → right ≡ false → more ≡ None)
-    → all_within blocks (x ∷ []) ≡ true → IfSome more (λ s. s.page < blocks) → new ≡ old ++ grown_entries top x more → All FitsXad (grown_entries top x more) → (tells → WrotePage blocks xs left right before after levels x.at.addr more free rest)
-    → Pushed tells blocks xs left right top before after levels (x ∷ []) old new free rest
-child_pushed tells blocks xs left right top before after levels x more old new free rest some alone within inside is fits wrote = record {
+pub child_pushed : (end : Bool) (tells : Type 0) (blocks : ℕ) (xs : List Xad) (left right top : Bool) (before after : ℕ → List ℕ) (levels : ℕ) (x : Xad) (more : Option (Sibling ℕ)) (old new : List Xad) (free rest : List ℕ) → 0 < length xs → (left ≡ false → right ≡ false → more ≡ None)
+    → all_within blocks (x ∷ []) ≡ true → IfSome more (λ s. s.page < blocks) → new ≡ old ++ grown_entries top x more → All FitsXad (grown_entries top x more) → (tells → WrotePage end blocks xs left right before after levels x.at.addr more free rest)
+    → Pushed tells end blocks xs left right top before after levels (x ∷ []) old new free rest
+child_pushed end tells blocks xs left right top before after levels x more old new free rest some alone within inside is fits wrote = record {
   made = grown_entries top x more;
   is = is;
   some = grown_some top x more;
   few = grown_few xs left right top x more some alone;
   fits = fits;
   within = ap (all_within blocks) (sym (append_none (grown_entries top x more))) ∙ grown_within blocks top x more [] (and_true (is_within blocks x) true within).0 inside refl;
-  wrote = λ t. child_written blocks xs left right top before after levels x more free rest (wrote t);
+  wrote = λ t. child_written end blocks xs left right top before after levels x more free rest (wrote t);
 }
   where
     append_none : (a : List Xad) → a ++ [] ≡ a
@@ -110,23 +110,23 @@ child_pushed tells blocks xs left right top before after levels x more old new f
 
 -- ---- entries as they are
 
-pub none_pushed : (tells : Type 0) (blocks : ℕ) (xs : List Xad) (left right top : Bool) (pages : ℕ → List ℕ) (levels : ℕ) (entries old new : List Xad) (free : List ℕ) → xs ≡ [] → levels ≡ 0 → 0 < length entries → All FitsXad entries → all_within blocks entries ≡ true
-    → new ≡ old ++ entries → Pushed tells blocks xs left right top pages pages levels entries old new free free
-none_pushed tells blocks xs left right top pages levels entries old new free none zero some fits within is = record {
+pub none_pushed : (end : Bool) (tells : Type 0) (blocks : ℕ) (xs : List Xad) (left right top : Bool) (pages : ℕ → List ℕ) (levels : ℕ) (entries old new : List Xad) (free : List ℕ) → xs ≡ [] → levels ≡ 0 → 0 < length entries → All FitsXad entries → all_within blocks entries ≡ true
+    → new ≡ old ++ entries → Pushed tells end blocks xs left right top pages pages levels entries old new free free
+none_pushed end tells blocks xs left right top pages levels entries old new free none zero some fits within is = record {
   made = entries;
   is = is;
   some = some;
   few = omega arith;
   fits = fits;
   within = within;
-  wrote = λ t. subst (λ ys. WroteChildren blocks ys left right top pages pages levels entries entries free free) (sym none)
-      (subst (λ l. WroteChildren blocks [] left right top pages pages l entries entries free free) (sym zero) (none_written blocks left right top pages entries free));
+  wrote = λ t. subst (λ ys. WroteChildren end blocks ys left right top pages pages levels entries entries free free) (sym none)
+      (subst (λ l. WroteChildren end blocks [] left right top pages pages l entries entries free free) (sym zero) (none_written end blocks left right top pages entries free));
 }
 
-pub none_done : (tells : Type 0) (blocks : ℕ) (xs : List Xad) (left right top : Bool) (pages : ℕ → List ℕ) (entries old new : List Xad) (free : List ℕ) (r : Result ℕ TreeError) → xs ≡ [] → 0 < length entries → All FitsXad entries → all_within blocks entries ≡ true
-    → OnOk r (new ≡ old ++ entries) → IfOk r (λ levels. levels ≡ 0) → IfOk r (λ levels. Pushed tells blocks xs left right top pages pages levels entries old new free free)
-none_done tells blocks xs left right top pages entries old new free (Ok levels) none some fits within is zero = none_pushed tells blocks xs left right top pages levels entries old new free none zero some fits within is
-none_done tells blocks xs left right top pages entries old new free (Err e) none some fits within is zero = tt
+pub none_done : (end : Bool) (tells : Type 0) (blocks : ℕ) (xs : List Xad) (left right top : Bool) (pages : ℕ → List ℕ) (entries old new : List Xad) (free : List ℕ) (r : Result ℕ TreeError) → xs ≡ [] → 0 < length entries → All FitsXad entries → all_within blocks entries ≡ true
+    → OnOk r (new ≡ old ++ entries) → IfOk r (λ levels. levels ≡ 0) → IfOk r (λ levels. Pushed tells end blocks xs left right top pages pages levels entries old new free free)
+none_done end tells blocks xs left right top pages entries old new free (Ok levels) none some fits within is zero = none_pushed end tells blocks xs left right top pages levels entries old new free none zero some fits within is
+none_done end tells blocks xs left right top pages entries old new free (Err e) none some fits within is zero = tt
 
 pub no_extents : (xs : List Xad) → length xs ≡ 0 → xs ≡ []
 no_extents [] e = refl
@@ -183,13 +183,14 @@ fits_append a b f g = All-from_recursion FitsXad (a ++ b) (each_append FitsXad a
 greater_is : (a b m : ℕ) → m ≡ max a b → (m ≡ a) ⊎ (m ≡ b)
 greater_is a b m e = elim (less_or a m (omega (arith, e))) [ inl l ↦ inr (omega (arith, l, e)) | inr same ↦ inl (sym same) ]
 
-module _ (tells : Type 0) (blocks : ℕ) (xs : List Xad) (left right top : Bool) (d0 d1 : List Drafted) (image later : Image) (bound one : ℕ) (child : Xad) (rest l0 l1 : List Xad) (head tail : Part) (free between : List ℕ)
-    (cut : Cuts bound xs left right head tail) (begins : BeginsAt bound rest) (same : tells → later ≡ image) (front : IsFront between free)
-    (first : Pushed tells blocks head.xs.items head.left head.right top (shown d0 image) (shown d1 image) one (child ∷ []) l0 l1 free between) where
-  head_wrote : tells → WroteChildren blocks (kept_below bound xs) left head.right top (shown d0 image) (shown d1 image) one (child ∷ []) first.made free between
+module _ (tells : Type 0) (blocks : ℕ) (xs : List Xad) (left right last top : Bool) (d0 d1 : List Drafted) (image later : Image) (bound one : ℕ) (child : Xad) (rest l0 l1 : List Xad) (head tail : Part) (free between : List ℕ)
+    (cut : Cuts bound xs left right last head tail) (begins : BeginsAt bound rest) (same : tells → later ≡ image) (front : IsFront between free)
+    (first : Pushed tells head.last blocks head.xs.items head.left head.right top (shown d0 image) (shown d1 image) one (child ∷ []) l0 l1 free between) where
+  head_wrote : tells → WroteChildren false blocks (kept_below bound xs) left head.right top (shown d0 image) (shown d1 image) one (child ∷ []) first.made free between
   head_wrote t =
-      subst (λ ys. WroteChildren blocks ys left head.right top (shown d0 image) (shown d1 image) one (child ∷ []) first.made free between) cut.below
-      (subst (λ b. WroteChildren blocks head.xs.items b head.right top (shown d0 image) (shown d1 image) one (child ∷ []) first.made free between) cut.head_left (first.wrote t))
+      subst (λ b. WroteChildren b blocks (kept_below bound xs) left head.right top (shown d0 image) (shown d1 image) one (child ∷ []) first.made free between) cut.head_last
+      (subst (λ ys. WroteChildren head.last blocks ys left head.right top (shown d0 image) (shown d1 image) one (child ∷ []) first.made free between) cut.below
+      (subst (λ b. WroteChildren head.last blocks head.xs.items b head.right top (shown d0 image) (shown d1 image) one (child ∷ []) first.made free between) cut.head_left (first.wrote t)))
 
   is_mine : head.right ≡ (right && is_none (kept_from bound xs))
   is_mine = cut.head_right ∙ ap (λ ys. right && is_none ys) cut.from
@@ -198,10 +199,10 @@ module _ (tells : Type 0) (blocks : ℕ) (xs : List Xad) (left right top : Bool)
   is_its = cut.tail_left ∙ ap (λ ys. left && is_none ys) cut.below
 
   pub both_pushed : (d2 : List Drafted) (two levels : ℕ) (l2 : List Xad) (less : List ℕ) → IsFront less between → levels ≡ max one two
-      → Pushed tells blocks tail.xs.items tail.left tail.right false (shown d1 later) (shown d2 later) two rest l1 l2 between less
-      → Pushed tells blocks xs left right top (shown d0 image) (shown d2 image) levels (child ∷ rest) l0 l2 free less
+      → Pushed tells tail.last blocks tail.xs.items tail.left tail.right false (shown d1 later) (shown d2 later) two rest l1 l2 between less
+      → Pushed tells last blocks xs left right top (shown d0 image) (shown d2 image) levels (child ∷ rest) l0 l2 free less
   both_pushed d2 two levels l2 less back greater second =
-      let f = cut_taken bound xs left right head tail 1 cut in
+      let f = cut_taken bound xs left right last head tail 1 cut in
       let a = first.few in let b = second.few in let n = length-append first.made second.made in let s = first.some in
       record {
         made = first.made ++ second.made;
@@ -211,24 +212,25 @@ module _ (tells : Type 0) (blocks : ℕ) (xs : List Xad) (left right top : Bool)
         fits = fits_append first.made second.made first.fits second.fits;
         within = within_append blocks first.made second.made first.within second.within;
         wrote = λ t.
-            let tw = subst (λ (i : Image). WroteChildren blocks tail.xs.items tail.left tail.right false (shown d1 i) (shown d2 i) two rest second.made between less) (same t) (second.wrote t) in
-            let tw' = subst (λ ys. WroteChildren blocks ys tail.left right false (shown d1 image) (shown d2 image) two rest second.made between less) cut.from
-            (subst (λ b. WroteChildren blocks tail.xs.items tail.left b false (shown d1 image) (shown d2 image) two rest second.made between less) cut.tail_right tw) in
+            let tw = subst (λ (i : Image). WroteChildren tail.last blocks tail.xs.items tail.left tail.right false (shown d1 i) (shown d2 i) two rest second.made between less) (same t) (second.wrote t) in
+            let tw' = subst (λ b. WroteChildren b blocks (kept_from bound xs) tail.left right false (shown d1 image) (shown d2 image) two rest second.made between less) cut.tail_last
+            (subst (λ ys. WroteChildren tail.last blocks ys tail.left right false (shown d1 image) (shown d2 image) two rest second.made between less) cut.from
+            (subst (λ b. WroteChildren tail.last blocks tail.xs.items tail.left b false (shown d1 image) (shown d2 image) two rest second.made between less) cut.tail_right tw)) in
             by rest begins is_mine is_its (head_wrote t) second.made tw';
       }
     where
       by : (rest : List Xad) → BeginsAt bound rest → head.right ≡ (right && is_none (kept_from bound xs)) → tail.left ≡ (left && is_none (kept_below bound xs))
-          → WroteChildren blocks (kept_below bound xs) left head.right top (shown d0 image) (shown d1 image) one (child ∷ []) first.made free between
-          → (ts : List Xad) → WroteChildren blocks (kept_from bound xs) tail.left right false (shown d1 image) (shown d2 image) two rest ts between less
-          → WroteChildren blocks xs left right top (shown d0 image) (shown d2 image) levels (child ∷ rest) (first.made ++ ts) free less
+          → WroteChildren false blocks (kept_below bound xs) left head.right top (shown d0 image) (shown d1 image) one (child ∷ []) first.made free between
+          → (ts : List Xad) → WroteChildren last blocks (kept_from bound xs) tail.left right false (shown d1 image) (shown d2 image) two rest ts between less
+          → WroteChildren last blocks xs left right top (shown d0 image) (shown d2 image) levels (child ∷ rest) (first.made ++ ts) free less
       by [] b mine its h ts t = absurd b
       by (r ∷ rs) b mine its h ts t =
-          both_written blocks xs left right top head.right tail.left (shown d0 image) (shown d1 image) (shown d2 image) one two levels child r rs first.made ts free between less
+          both_written last blocks xs left right top head.right tail.left (shown d0 image) (shown d1 image) (shown d2 image) one two levels child r rs first.made ts free between less
           (subst (λ n. head.right ≡ (right && is_none (kept_from n xs))) b mine) (subst (λ n. tail.left ≡ (left && is_none (kept_below n xs))) b its)
           (omega (arith, greater)) (omega (arith, greater)) (greater_is one two levels greater)
           (λ n. fewer_taken n free between front) (λ n. fewer_taken n between less back) first.some
-          (subst (λ n. WroteChildren blocks (kept_below n xs) left head.right top (shown d0 image) (shown d1 image) one (child ∷ []) first.made free between) b h)
-          (subst (λ n. WroteChildren blocks (kept_from n xs) tail.left right false (shown d1 image) (shown d2 image) two (r ∷ rs) ts between less) b t)
+          (subst (λ n. WroteChildren false blocks (kept_below n xs) left head.right top (shown d0 image) (shown d1 image) one (child ∷ []) first.made free between) b h)
+          (subst (λ n. WroteChildren last blocks (kept_from n xs) tail.left right false (shown d1 image) (shown d2 image) two (r ∷ rs) ts between less) b t)
 
   pub rest_refuses : (most : ℕ) (e : TreeError) → tells → RefutesChildren blocks tail.xs.items tail.left tail.right false (shown d1 later) most rest between e → RefutesChildren blocks xs left right top (shown d0 image) most (child ∷ rest) free e
   rest_refuses most e t r =
@@ -238,18 +240,18 @@ module _ (tells : Type 0) (blocks : ℕ) (xs : List Xad) (left right top : Bool)
       (subst (λ (i : Image). RefutesChildren blocks tail.xs.items tail.left tail.right false (shown d1 i) most rest between e) (same t) r)))
     where
       by : (rest : List Xad) → BeginsAt bound rest → head.right ≡ (right && is_none (kept_from bound xs)) → tail.left ≡ (left && is_none (kept_below bound xs))
-          → WroteChildren blocks (kept_below bound xs) left head.right top (shown d0 image) (shown d1 image) one (child ∷ []) first.made free between
+          → WroteChildren false blocks (kept_below bound xs) left head.right top (shown d0 image) (shown d1 image) one (child ∷ []) first.made free between
           → RefutesChildren blocks (kept_from bound xs) tail.left right false (shown d1 image) most rest between e → RefutesChildren blocks xs left right top (shown d0 image) most (child ∷ rest) free e
       by [] b mine its h r = absurd b
       by (r ∷ rs) b mine its h q =
           rest_refuted blocks xs left right top head.right tail.left (shown d0 image) (shown d1 image) one most child r rs first.made free between e
           (subst (λ n. head.right ≡ (right && is_none (kept_from n xs))) b mine) (subst (λ n. tail.left ≡ (left && is_none (kept_below n xs))) b its) (λ n. fewer_taken n free between front)
-          (subst (λ n. WroteChildren blocks (kept_below n xs) left head.right top (shown d0 image) (shown d1 image) one (child ∷ []) first.made free between) b h)
+          (subst (λ n. WroteChildren false blocks (kept_below n xs) left head.right top (shown d0 image) (shown d1 image) one (child ∷ []) first.made free between) b h)
           (subst (λ n. RefutesChildren blocks (kept_from n xs) tail.left right false (shown d1 image) most (r ∷ rs) between e) b q)
 
-pub head_refuses : (blocks : ℕ) (xs : List Xad) (left right top : Bool) (before : ℕ → List ℕ) (most bound : ℕ) (child : Xad) (rest : List Xad) (head tail : Part) (free : List ℕ) (e : TreeError) → Cuts bound xs left right head tail → BeginsAt bound rest
+pub head_refuses : (blocks : ℕ) (xs : List Xad) (left right last top : Bool) (before : ℕ → List ℕ) (most bound : ℕ) (child : Xad) (rest : List Xad) (head tail : Part) (free : List ℕ) (e : TreeError) → Cuts bound xs left right last head tail → BeginsAt bound rest
     → RefutesChildren blocks head.xs.items head.left head.right top before most (child ∷ []) free e → RefutesChildren blocks xs left right top before most (child ∷ rest) free e
-head_refuses blocks xs left right top before most bound child rest head tail free e cut begins r =
+head_refuses blocks xs left right last top before most bound child rest head tail free e cut begins r =
     by rest begins (cut.head_right ∙ ap (λ ys. right && is_none ys) cut.from)
     (subst (λ ys. RefutesChildren blocks ys left head.right top before most (child ∷ []) free e) cut.below (subst (λ b. RefutesChildren blocks head.xs.items b head.right top before most (child ∷ []) free e) cut.head_left r))
   where

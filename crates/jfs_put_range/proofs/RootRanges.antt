@@ -84,7 +84,7 @@ module _ (form : XtForm) (blocks : ℕ) (image : Image) (xs entries : List Xad) 
 
   -- an inner page
   pub inner_steps : (made : List Xad) (old mid new : List Drafted) (levels : ℕ) (free between left : List ℕ) (result : Result (Unit {0}) TreeError) → IsOpenedRoot form blocks root entries false → AllBelow blocks free
-      → IsFront between free → IsFront left between → 0 < length made → all_within blocks made ≡ true → WroteChildren blocks xs true true true (shown old image) (shown mid image) levels entries made free between
+      → IsFront between free → IsFront left between → 0 < length made → all_within blocks made ≡ true → WroteChildren true blocks xs true true true (shown old image) (shown mid image) levels entries made free between
       → SettlesAlways (levels + 1) made root after mid new between left result → OnOk result (StaysTaken mid new between left) → OnOk result (StepsRange form blocks image xs root after old new free left)
   inner_steps made old mid new levels free between left (Ok it) opened below front front_left some within wrote settled stays = λ es spelled spare.
       let st = inner_stood blocks image xs entries made es old mid (xt_node form blocks root) levels free between range opened.node (opened.some refl) opened.order some below (omega (arith, small)) front wrote spelled spare in
@@ -95,7 +95,7 @@ module _ (form : XtForm) (blocks : ℕ) (image : Image) (xs entries : List Xad) 
   inner_steps made old mid new levels free between left (Err e) opened below front front_left some within wrote settled stays = tt
 
   inner_fills : (made : List Xad) (old mid new : List Drafted) (levels : ℕ) (free between left : List ℕ) (result : Result (Unit {0}) TreeError) → IsOpenedRoot form blocks root entries false → AllBelow blocks free
-      → IsFront between free → IsFront left between → 0 < length made → all_within blocks made ≡ true → WroteChildren blocks xs true true true (shown old image) (shown mid image) levels entries made free between
+      → IsFront between free → IsFront left between → 0 < length made → all_within blocks made ≡ true → WroteChildren true blocks xs true true true (shown old image) (shown mid image) levels entries made free between
       → SettlesAlways (levels + 1) made root after mid new between left result → OnOk result (StaysTaken mid new between left) → OnOk result (FillsRange form blocks image root after old new free)
   inner_fills made old mid new levels free between left (Ok it) opened below front front_left some within wrote settled stays = λ es spelled spare filled.
       let st = inner_stood blocks image xs entries made es old mid (xt_node form blocks root) levels free between range opened.node (opened.some refl) opened.order some below (omega (arith, small)) front wrote spelled spare in
@@ -113,30 +113,31 @@ module _ (form : XtForm) (blocks : ℕ) (image : Image) (xs entries : List Xad) 
   inner_refuses old free Memory opened below h es spelled spare = tt
 
   -- as the code has them
-  wrote_as : (tells : Type 0) (n : ℕ) (ys : List Xad) (l r : Bool) (start all : List Xad) (old mid : List Drafted) (levels : ℕ) (free between : List ℕ) → blocks ≡ n → ys ≡ xs → l ≡ true → r ≡ true → tells
-      → (p : Pushed tells n ys l r true (shown old image) (shown mid image) levels entries start all free between) → WroteChildren blocks xs true true true (shown old image) (shown mid image) levels entries p.made free between
-  wrote_as tells n ys l r start all old mid levels free between eb ex el er t p =
-      subst (λ k. WroteChildren k xs true true true (shown old image) (shown mid image) levels entries p.made free between) (sym eb)
-      (subst (λ zs. WroteChildren n zs true true true (shown old image) (shown mid image) levels entries p.made free between) ex
-      (subst (λ d. WroteChildren n ys true d true (shown old image) (shown mid image) levels entries p.made free between) er
-      (subst (λ d. WroteChildren n ys d r true (shown old image) (shown mid image) levels entries p.made free between) el (p.wrote t))))
+  wrote_as : (last : Bool) (tells : Type 0) (n : ℕ) (ys : List Xad) (l r : Bool) (start all : List Xad) (old mid : List Drafted) (levels : ℕ) (free between : List ℕ) → blocks ≡ n → ys ≡ xs → l ≡ true → r ≡ true → last ≡ true → tells
+      → (p : Pushed tells last n ys l r true (shown old image) (shown mid image) levels entries start all free between) → WroteChildren true blocks xs true true true (shown old image) (shown mid image) levels entries p.made free between
+  wrote_as last tells n ys l r start all old mid levels free between eb ex el er ed t p =
+      subst (λ d. WroteChildren d blocks xs true true true (shown old image) (shown mid image) levels entries p.made free between) ed
+      (subst (λ k. WroteChildren last k xs true true true (shown old image) (shown mid image) levels entries p.made free between) (sym eb)
+      (subst (λ zs. WroteChildren last n zs true true true (shown old image) (shown mid image) levels entries p.made free between) ex
+      (subst (λ d. WroteChildren last n ys true d true (shown old image) (shown mid image) levels entries p.made free between) er
+      (subst (λ d. WroteChildren last n ys d r true (shown old image) (shown mid image) levels entries p.made free between) el (p.wrote t)))))
 
-  pub pushed_steps : (tells : Type 0) (n : ℕ) (ys : List Xad) (l r : Bool) (start all listed : List Xad) (old mid new : List Drafted) (levels : ℕ) (free between left : List ℕ) (result : Result (Unit {0}) TreeError)
-      → blocks ≡ n → ys ≡ xs → l ≡ true → r ≡ true → start ≡ [] → listed ≡ all → tells → IsOpenedRoot form blocks root entries false → AllBelow blocks free → IsFront between free → IsFront left between
-      → Pushed tells n ys l r true (shown old image) (shown mid image) levels entries start all free between → SettlesAlways (levels + 1) listed root after mid new between left result → OnOk result (StaysTaken mid new between left)
+  pub pushed_steps : (last : Bool) (tells : Type 0) (n : ℕ) (ys : List Xad) (l r : Bool) (start all listed : List Xad) (old mid new : List Drafted) (levels : ℕ) (free between left : List ℕ) (result : Result (Unit {0}) TreeError)
+      → blocks ≡ n → ys ≡ xs → l ≡ true → r ≡ true → last ≡ true → start ≡ [] → listed ≡ all → tells → IsOpenedRoot form blocks root entries false → AllBelow blocks free → IsFront between free → IsFront left between
+      → Pushed tells last n ys l r true (shown old image) (shown mid image) levels entries start all free between → SettlesAlways (levels + 1) listed root after mid new between left result → OnOk result (StaysTaken mid new between left)
       → OnOk result (StepsRange form blocks image xs root after old new free left)
-  pushed_steps tells n ys l r start all listed old mid new levels free between left result eb ex el er none read t opened below front front_left p settled stays =
+  pushed_steps last tells n ys l r start all listed old mid new levels free between left result eb ex el er ed none read t opened below front front_left p settled stays =
       inner_steps p.made old mid new levels free between left result opened below front front_left p.some (subst (λ k. all_within k p.made ≡ true) (sym eb) p.within)
-      (wrote_as tells n ys l r start all old mid levels free between eb ex el er t p)
+      (wrote_as last tells n ys l r start all old mid levels free between eb ex el er ed t p)
       (subst (λ zs. SettlesAlways (levels + 1) zs root after mid new between left result) (read ∙ p.is ∙ ap (λ zs. zs ++ p.made) none) settled) stays
 
-  pub pushed_fills : (tells : Type 0) (n : ℕ) (ys : List Xad) (l r : Bool) (start all listed : List Xad) (old mid new : List Drafted) (levels : ℕ) (free between left : List ℕ) (result : Result (Unit {0}) TreeError)
-      → blocks ≡ n → ys ≡ xs → l ≡ true → r ≡ true → start ≡ [] → listed ≡ all → tells → IsOpenedRoot form blocks root entries false → AllBelow blocks free → IsFront between free → IsFront left between
-      → Pushed tells n ys l r true (shown old image) (shown mid image) levels entries start all free between → SettlesAlways (levels + 1) listed root after mid new between left result → OnOk result (StaysTaken mid new between left)
+  pub pushed_fills : (last : Bool) (tells : Type 0) (n : ℕ) (ys : List Xad) (l r : Bool) (start all listed : List Xad) (old mid new : List Drafted) (levels : ℕ) (free between left : List ℕ) (result : Result (Unit {0}) TreeError)
+      → blocks ≡ n → ys ≡ xs → l ≡ true → r ≡ true → last ≡ true → start ≡ [] → listed ≡ all → tells → IsOpenedRoot form blocks root entries false → AllBelow blocks free → IsFront between free → IsFront left between
+      → Pushed tells last n ys l r true (shown old image) (shown mid image) levels entries start all free between → SettlesAlways (levels + 1) listed root after mid new between left result → OnOk result (StaysTaken mid new between left)
       → OnOk result (FillsRange form blocks image root after old new free)
-  pushed_fills tells n ys l r start all listed old mid new levels free between left result eb ex el er none read t opened below front front_left p settled stays =
+  pushed_fills last tells n ys l r start all listed old mid new levels free between left result eb ex el er ed none read t opened below front front_left p settled stays =
       inner_fills p.made old mid new levels free between left result opened below front front_left p.some (subst (λ k. all_within k p.made ≡ true) (sym eb) p.within)
-      (wrote_as tells n ys l r start all old mid levels free between eb ex el er t p)
+      (wrote_as last tells n ys l r start all old mid levels free between eb ex el er ed t p)
       (subst (λ zs. SettlesAlways (levels + 1) zs root after mid new between left result) (read ∙ p.is ∙ ap (λ zs. zs ++ p.made) none) settled) stays
 
   pub pushed_refuses : (n : ℕ) (ys : List Xad) (l r : Bool) (old : List Drafted) (free : List ℕ) (e : TreeError) → blocks ≡ n → ys ≡ xs → l ≡ true → r ≡ true → IsOpenedRoot form blocks root entries false → AllBelow blocks free
@@ -149,26 +150,26 @@ module _ (form : XtForm) (blocks : ℕ) (image : Image) (xs entries : List Xad) 
       (subst (λ d. RefutesChildren n ys d r true (shown old image) 7 entries free e) el h))))
 
   -- and where the root can't store the list, which has at most two entries more than the root
-  full_err : (tells : Type 0) (n : ℕ) (ys : List Xad) (l r : Bool) (start all listed : List Xad) (old mid new : List Drafted) (levels : ℕ) (free between left : List ℕ) (e : TreeError)
-      → blocks ≡ n → ys ≡ xs → l ≡ true → r ≡ true → start ≡ [] → listed ≡ all → tells → IsOpenedRoot form blocks root entries false → AllBelow blocks free → IsFront between free
-      → Pushed tells n ys l r true (shown old image) (shown mid image) levels entries start all free between → RootStored (levels + 1) listed root after mid new between left (Err e) → RefusesRange form blocks image root old free e
-  full_err tells n ys l r start all listed old mid new levels free between left (View e) eb ex el er none read t opened below front p h es spelled spare = tt
-  full_err tells n ys l r start all listed old mid new levels free between left (Bad bad rule) eb ex el er none read t opened below front p h es spelled spare =
+  full_err : (last : Bool) (tells : Type 0) (n : ℕ) (ys : List Xad) (l r : Bool) (start all listed : List Xad) (old mid new : List Drafted) (levels : ℕ) (free between left : List ℕ) (e : TreeError)
+      → blocks ≡ n → ys ≡ xs → l ≡ true → r ≡ true → last ≡ true → start ≡ [] → listed ≡ all → tells → IsOpenedRoot form blocks root entries false → AllBelow blocks free → IsFront between free
+      → Pushed tells last n ys l r true (shown old image) (shown mid image) levels entries start all free between → RootStored (levels + 1) listed root after mid new between left (Err e) → RefusesRange form blocks image root old free e
+  full_err last tells n ys l r start all listed old mid new levels free between left (View e) eb ex el er ed none read t opened below front p h es spelled spare = tt
+  full_err last tells n ys l r start all listed old mid new levels free between left (Bad bad rule) eb ex el er ed none read t opened below front p h es spelled spare =
       let st = inner_stood blocks image xs entries p.made es old mid (xt_node form blocks root) levels free between range opened.node (opened.some refl) opened.order p.some below (omega (arith, small)) front
-      (wrote_as tells n ys l r start all old mid levels free between eb ex el er t p) spelled spare in
+      (wrote_as last tells n ys l r start all old mid levels free between eb ex el er ed t p) spelled spare in
       let made_few = p.few in
       let two = two_taken ys l r in
       let count = ap length (read ∙ p.is ∙ ap (λ zs. zs ++ p.made) none) in
       let entries_count = opened.count in
       let long = h.3 in
       (h.0, h.1, st.deep ∙ ap (λ k. Some k) (let m = st.most in let d = h.2 in omega (arith, m, d)), omega (arith, made_few, two, count, entries_count, long))
-  full_err tells n ys l r start all listed old mid new levels free between left Memory eb ex el er none read t opened below front p h es spelled spare = tt
+  full_err last tells n ys l r start all listed old mid new levels free between left Memory eb ex el er ed none read t opened below front p h es spelled spare = tt
 
-  pub pushed_full : (tells : Type 0) (n : ℕ) (ys : List Xad) (l r : Bool) (start all listed : List Xad) (old mid new : List Drafted) (levels : ℕ) (free between left : List ℕ) (result : Result (Unit {0}) TreeError)
-      → blocks ≡ n → ys ≡ xs → l ≡ true → r ≡ true → start ≡ [] → listed ≡ all → tells → IsOpenedRoot form blocks root entries false → AllBelow blocks free → IsFront between free
-      → Pushed tells n ys l r true (shown old image) (shown mid image) levels entries start all free between → RootStored (levels + 1) listed root after mid new between left result → IfErr result (RefusesRange form blocks image root old free)
-  pushed_full tells n ys l r start all listed old mid new levels free between left (Ok it) eb ex el er none read t opened below front p h = tt
-  pushed_full tells n ys l r start all listed old mid new levels free between left (Err e) eb ex el er none read t opened below front p h = full_err tells n ys l r start all listed old mid new levels free between left e eb ex el er none read t opened below front p h
+  pub pushed_full : (last : Bool) (tells : Type 0) (n : ℕ) (ys : List Xad) (l r : Bool) (start all listed : List Xad) (old mid new : List Drafted) (levels : ℕ) (free between left : List ℕ) (result : Result (Unit {0}) TreeError)
+      → blocks ≡ n → ys ≡ xs → l ≡ true → r ≡ true → last ≡ true → start ≡ [] → listed ≡ all → tells → IsOpenedRoot form blocks root entries false → AllBelow blocks free → IsFront between free
+      → Pushed tells last n ys l r true (shown old image) (shown mid image) levels entries start all free between → RootStored (levels + 1) listed root after mid new between left result → IfErr result (RefusesRange form blocks image root old free)
+  pushed_full last tells n ys l r start all listed old mid new levels free between left (Ok it) eb ex el er ed none read t opened below front p h = tt
+  pushed_full last tells n ys l r start all listed old mid new levels free between left (Err e) eb ex el er ed none read t opened below front p h = full_err last tells n ys l r start all listed old mid new levels free between left e eb ex el er ed none read t opened below front p h
 
 -- a root that breaks a rule
 pub broken_refuses : (form : XtForm) (blocks : ℕ) (image : Image) (root : List ℕ) (ds : List Drafted) (free : List ℕ) (e : TreeError) → BreaksRoot (xt_node form blocks root) e → RefusesRange form blocks image root ds free e

@@ -39,16 +39,16 @@ module _ (blocks : ℕ) (xs : List Xad) (left right top : Bool) (before : ℕ �
   its_is : AllFrom n.offset xs → its ≡ left
   its_is h = ap (λ ys. left && is_none ys) (kept_none n.offset xs h) ∙ and_whole left
 
-  nothing_before : AllFrom n.offset xs → WroteChildren blocks (kept_below n.offset xs) left mine top before before 0 (e ∷ []) (e ∷ []) free free
-  nothing_before h = subst (λ ys. WroteChildren blocks ys left mine top before before 0 (e ∷ []) (e ∷ []) free free) (sym (kept_none n.offset xs h)) (none_written blocks left mine top before (e ∷ []) free)
+  nothing_before : AllFrom n.offset xs → WroteChildren false blocks (kept_below n.offset xs) left mine top before before 0 (e ∷ []) (e ∷ []) free free
+  nothing_before h = subst (λ ys. WroteChildren false blocks ys left mine top before before 0 (e ∷ []) (e ∷ []) free free) (sym (kept_none n.offset xs h)) (none_written false blocks left mine top before (e ∷ []) free)
 
-  one_skipped : (after : ℕ → List ℕ) (levels : ℕ) (ts : List Xad) (rest : List ℕ) → ((m : ℕ) → count_in m rest ≤ count_in m free)
-      → WroteChildren blocks xs left right false before after levels (n ∷ ns) ts free rest → WroteChildren blocks xs left right top before after levels (e ∷ n ∷ ns) (e ∷ ts) free rest
-  one_skipped after levels ts rest less w height key low high first rises begins takes =
+  one_skipped : (end : Bool) (after : ℕ → List ℕ) (levels : ℕ) (ts : List Xad) (rest : List ℕ) → ((m : ℕ) → count_in m rest ≤ count_in m free)
+      → WroteChildren end blocks xs left right false before after levels (n ∷ ns) ts free rest → WroteChildren end blocks xs left right top before after levels (e ∷ n ∷ ns) (e ∷ ts) free rest
+  one_skipped end after levels ts rest less w height key low high first rises begins takes =
       let h = from rises in
-      both_written blocks xs left right top mine its before before after 0 levels levels e n ns (e ∷ []) ts free free rest refl refl (omega arith) (omega arith) (inr refl) (λ m. omega arith) less (omega arith) (nothing_before h)
-      (subst (λ ys. WroteChildren blocks ys its right false before after levels (n ∷ ns) ts free rest) (sym (from_all n.offset xs h))
-      (subst (λ b. WroteChildren blocks xs b right false before after levels (n ∷ ns) ts free rest) (sym (its_is h)) w))
+      both_written end blocks xs left right top mine its before before after 0 levels levels e n ns (e ∷ []) ts free free rest refl refl (omega arith) (omega arith) (inr refl) (λ m. omega arith) less (omega arith) (nothing_before h)
+      (subst (λ ys. WroteChildren end blocks ys its right false before after levels (n ∷ ns) ts free rest) (sym (from_all n.offset xs h))
+      (subst (λ b. WroteChildren end blocks xs b right false before after levels (n ∷ ns) ts free rest) (sym (its_is h)) w))
       height key low high first rises begins takes
 
   one_refuted : (most bad : ℕ) (rule : Rule) → RefutesChildren blocks xs left right false before most (n ∷ ns) free (Bad bad rule) → RefutesChildren blocks xs left right top before most (e ∷ n ∷ ns) free (Bad bad rule)
@@ -71,18 +71,18 @@ before_it low f (p ∷ ps) r rs rises =
 from_next : (xs : List Xad) (e f : Xad) (ps : List Xad) (r : Xad) (rs : List Xad) → AllFrom r.offset xs → rises_from 0 (e ∷ f ∷ (ps ++ r ∷ rs)) ≡ true → AllFrom f.offset xs
 from_next xs e f ps r rs h rises = all_from_less r.offset f.offset xs (before_it (end_of e) f ps r rs (rises_less 0 e (f ∷ (ps ++ r ∷ rs)) rises).1) h
 
-skipped : (blocks : ℕ) (xs : List Xad) (left right top : Bool) (before after : ℕ → List ℕ) (levels : ℕ) (ps : List Xad) (r : Xad) (rs ts : List Xad) (free rest : List ℕ) → ((m : ℕ) → count_in m rest ≤ count_in m free) → (0 < length ps → AllFrom r.offset xs)
-    → WroteChildren blocks xs left right (top && is_none ps) before after levels (r ∷ rs) ts free rest → WroteChildren blocks xs left right top before after levels (ps ++ r ∷ rs) (ps ++ ts) free rest
-skipped blocks xs left right top before after levels [] r rs ts free rest less h w = subst (λ b. WroteChildren blocks xs left right b before after levels (r ∷ rs) ts free rest) (and_whole top) w
-skipped blocks xs left right top before after levels (e ∷ []) r rs ts free rest less h w =
-    one_skipped blocks xs left right top before e r rs free (λ rises. h (omega arith)) after levels ts rest less (subst (λ b. WroteChildren blocks xs left right b before after levels (r ∷ rs) ts free rest) (no_top top) w)
+skipped : (end : Bool) (blocks : ℕ) (xs : List Xad) (left right top : Bool) (before after : ℕ → List ℕ) (levels : ℕ) (ps : List Xad) (r : Xad) (rs ts : List Xad) (free rest : List ℕ) → ((m : ℕ) → count_in m rest ≤ count_in m free) → (0 < length ps → AllFrom r.offset xs)
+    → WroteChildren end blocks xs left right (top && is_none ps) before after levels (r ∷ rs) ts free rest → WroteChildren end blocks xs left right top before after levels (ps ++ r ∷ rs) (ps ++ ts) free rest
+skipped end blocks xs left right top before after levels [] r rs ts free rest less h w = subst (λ b. WroteChildren end blocks xs left right b before after levels (r ∷ rs) ts free rest) (and_whole top) w
+skipped end blocks xs left right top before after levels (e ∷ []) r rs ts free rest less h w =
+    one_skipped blocks xs left right top before e r rs free (λ rises. h (omega arith)) end after levels ts rest less (subst (λ b. WroteChildren end blocks xs left right b before after levels (r ∷ rs) ts free rest) (no_top top) w)
   where
     no_top : (b : Bool) → (b && false) ≡ false
     no_top true = refl
     no_top false = refl
-skipped blocks xs left right top before after levels (e ∷ f ∷ ps) r rs ts free rest less h w =
-    one_skipped blocks xs left right top before e f (ps ++ r ∷ rs) free (λ rises. from_next xs e f ps r rs (h (omega arith)) rises) after levels (f ∷ (ps ++ ts)) rest less
-    (skipped blocks xs left right false before after levels (f ∷ ps) r rs ts free rest less (λ some. h (omega arith)) (subst (λ b. WroteChildren blocks xs left right b before after levels (r ∷ rs) ts free rest) (no_top top) w))
+skipped end blocks xs left right top before after levels (e ∷ f ∷ ps) r rs ts free rest less h w =
+    one_skipped blocks xs left right top before e f (ps ++ r ∷ rs) free (λ rises. from_next xs e f ps r rs (h (omega arith)) rises) end after levels (f ∷ (ps ++ ts)) rest less
+    (skipped end blocks xs left right false before after levels (f ∷ ps) r rs ts free rest less (λ some. h (omega arith)) (subst (λ b. WroteChildren end blocks xs left right b before after levels (r ∷ rs) ts free rest) (no_top top) w))
   where
     no_top : (b : Bool) → (b && false) ≡ false
     no_top true = refl
@@ -114,15 +114,15 @@ all_from_first block (x ∷ xs) r b rises l =
     let t = rises_less 0 x xs rises in let w = ends_after x in
     ((let k : r.offset ≤ x.offset = omega (arith, b, l) in k), all_from_less (end_of x) r.offset xs (let k : r.offset ≤ end_of x = omega (arith, b, l, w) in k) (from_low (end_of x) xs t.1))
 
-module _ (tells : Type 0) (blocks block : ℕ) (xs : List Xad) (left right top first : Bool) (d : ℕ → List ℕ) (entries ps fs : List Xad) (at : ℕ) (free : List ℕ)
+module _ (end : Bool) (tells : Type 0) (blocks block : ℕ) (xs : List Xad) (left right top first : Bool) (d : ℕ → List ℕ) (entries ps fs : List Xad) (at : ℕ) (free : List ℕ)
     (is_front : ps ≡ take at entries) (is_back : fs ≡ drop at entries) (is_first : first ≡ (top && is_none ps)) (begins : BeginsAt block xs) (rises : rises_from 0 xs ≡ true) (by_block : 0 < length ps → BeginsBy block fs) where
   whole : entries ≡ ps ++ fs
   whole = sym (take-append-drop at entries) ∙ ap (λ ys. ys ++ drop at entries) (sym is_front) ∙ ap (λ ys. ps ++ ys) (sym is_back)
 
   pub skip_pushed : (after : ℕ → List ℕ) (levels : ℕ) (old mid new : List Xad) (rest : List ℕ) → ((m : ℕ) → count_in m rest ≤ count_in m free) → 0 < length fs → All FitsXad entries → all_within blocks entries ≡ true → mid ≡ old ++ ps
-      → Pushed tells blocks xs left right first d after levels fs mid new free rest → Pushed tells blocks xs left right top d after levels entries old new free rest
+      → Pushed tells end blocks xs left right first d after levels fs mid new free rest → Pushed tells end blocks xs left right top d after levels entries old new free rest
   skip_pushed after levels old mid new rest less some fits within pushed p =
-      subst (λ es. Pushed tells blocks xs left right top d after levels es old new free rest) (sym whole)
+      subst (λ es. Pushed tells end blocks xs left right top d after levels es old new free rest) (sym whole)
       (record {
         made = ps ++ p.made;
         is = p.is ∙ ap (λ ys. ys ++ p.made) pushed ∙ append_assoc old ps p.made;
@@ -130,12 +130,12 @@ module _ (tells : Type 0) (blocks block : ℕ) (xs : List Xad) (left right top f
         few = (let f = p.few in let n = length-append ps p.made in let m = length-append ps fs in omega (arith, f, n, m));
         fits = fits_append ps p.made (front_fits ps fs (subst (All FitsXad) whole fits)) p.fits;
         within = within_append blocks ps p.made (front_within ps fs (subst (λ es. all_within blocks es ≡ true) whole within)) p.within;
-        wrote = λ t. by fs some by_block p.made (subst (λ b. WroteChildren blocks xs left right b d after levels fs p.made free rest) is_first (p.wrote t));
+        wrote = λ t. by fs some by_block p.made (subst (λ b. WroteChildren end blocks xs left right b d after levels fs p.made free rest) is_first (p.wrote t));
       })
     where
-      by : (fs : List Xad) → 0 < length fs → (0 < length ps → BeginsBy block fs) → (ts : List Xad) → WroteChildren blocks xs left right (top && is_none ps) d after levels fs ts free rest → WroteChildren blocks xs left right top d after levels (ps ++ fs) (ps ++ ts) free rest
+      by : (fs : List Xad) → 0 < length fs → (0 < length ps → BeginsBy block fs) → (ts : List Xad) → WroteChildren end blocks xs left right (top && is_none ps) d after levels fs ts free rest → WroteChildren end blocks xs left right top d after levels (ps ++ fs) (ps ++ ts) free rest
       by [] some h ts w = absurd (omega (arith, some))
-      by (r ∷ rs) some h ts w = skipped blocks xs left right top d after levels ps r rs ts free rest less (λ s. all_from_first block xs r begins rises (h s)) w
+      by (r ∷ rs) some h ts w = skipped end blocks xs left right top d after levels ps r rs ts free rest less (λ s. all_from_first block xs r begins rises (h s)) w
 
       front_fits : (a b : List Xad) → All FitsXad (a ++ b) → All FitsXad a
       front_fits a b f = All-from_recursion FitsXad a (each a (recursion_from_All FitsXad (a ++ b) f))
@@ -159,7 +159,7 @@ module _ (tells : Type 0) (blocks block : ℕ) (xs : List Xad) (left right top f
   skip_refuses most Memory some w = tt
 
   pub skip_all : (after : ℕ → List ℕ) (old mid new : List Xad) (rest : List ℕ) (r : Result ℕ TreeError) → ((m : ℕ) → count_in m rest ≤ count_in m free) → 0 < length fs → All FitsXad entries → all_within blocks entries ≡ true → mid ≡ old ++ ps
-      → IfOk r (λ levels. Pushed tells blocks xs left right first d after levels fs mid new free rest) → IfOk r (λ levels. Pushed tells blocks xs left right top d after levels entries old new free rest)
+      → IfOk r (λ levels. Pushed tells end blocks xs left right first d after levels fs mid new free rest) → IfOk r (λ levels. Pushed tells end blocks xs left right top d after levels entries old new free rest)
   skip_all after old mid new rest (Ok levels) less some fits within pushed p = skip_pushed after levels old mid new rest less some fits within pushed p
   skip_all after old mid new rest (Err e) less some fits within pushed p = tt
 

@@ -218,7 +218,7 @@ pub record InnerStood (blocks : ℕ) (image : Image) (xs entries made es : List 
 
 pub inner_stood : (blocks : ℕ) (image : Image) (xs entries made es : List Xad) (old mid : List Drafted) (root : Node ℕ Xad) (levels : ℕ) (free between : List ℕ) → IsShortRange blocks xs → root ≡ inner entries
     → 0 < length entries → rises_from 0 entries ≡ true → 0 < length made → AllBelow blocks free → blocks ≤ no_page → IsFront between free
-    → WroteChildren blocks xs true true true (shown old image) (shown mid image) levels entries made free between
+    → WroteChildren true blocks xs true true true (shown old image) (shown mid image) levels entries made free between
     → spells xt_scale (drafted blocks old image) root ≡ Ok es → IsSpare xt_scale (drafted blocks old image) root free
     → InnerStood blocks image xs entries made es old mid root levels free between
 inner_stood blocks image xs entries made es old mid root levels free between range is some rising some_made below within front wrote spelled spare =
@@ -239,7 +239,7 @@ inner_stood blocks image xs entries made es old mid root levels free between ran
       fills = λ filled depth. page_filled (with_root root (drafted blocks old image)) (with_root (inner made) pages) no_page (inner made)
           (λ d line. subst (InLine (IsFilled (with_root (inner made) pages) d) true) (sym (pages_are made))
           (line_stays pages (with_root (inner made) pages) (suc b.lower) d made w.0.rises (λ n p. root_else (inner made) pages n (away new off n p))
-          (w.5 d true (b.line d (subst (InLine (IsFilled (with_root root (drafted blocks old image)) d) true) (pages_are entries)
+          (w.5 d true (λ e. refl) (b.line d (subst (InLine (IsFilled (with_root root (drafted blocks old image)) d) true) (pages_are entries)
           (subst (λ (node : Node ℕ Xad). InLine (IsFilled (with_root root (drafted blocks old image)) d) true (pages_below node)) is line)))))) refl depth (filled depth);
       stood = subst (λ l. Stood xt_scale (xt_node Full blocks) image (with_range xs es) old mid root (inner made) l free between) all (record {
         most = b.most;

@@ -1,5 +1,5 @@
 -- Parts of the call, for the prover alone.
-use Rattle.std.specs.Prelude.{◌≡◌, ◌<◌, ◌≤◌, ◌+◌, ℕ, Bool, true, false, ◌&&◌, if◌then◌else◌, List, [], ◌∷◌, ◌++◌, map, length, Option, Some, None, Result, IfOk, IfSome}
+use Rattle.std.specs.Prelude.{◌≡◌, ◌<◌, ◌≤◌, ◌+◌, ◌-◌, ℕ, nat_le, Bool, true, false, ◌&&◌, if◌then◌else◌, List, [], ◌∷◌, ◌++◌, map, length, slice_get, Option, Some, None, Result, IfOk, IfSome}
 use Rattle.std.specs.List.{All, flat_map}
 use Rattle.jfs_bits.specs.declared.extent.Xad.{Xad}
 use Rattle.jfs_bits.specs.Extent.{FitsXad}
@@ -12,7 +12,7 @@ use Rattle.jfs_tree.specs.declared.form.Sibling.{Sibling}
 use Rattle.jfs_tree.specs.declared.form.TreeError.{TreeError}
 use Rattle.jfs_tree.specs.declared.form.TreeError.TheVariants.{View, Bad, Memory}
 use Rattle.jfs_xtpage.specs.declared.head.XtForm.TheVariants.{Full}
-use Rattle.jfs_xtpage.specs.Page.{head_of, rises_from, IsLaidOut}
+use Rattle.jfs_xtpage.specs.Page.{head_of, end_of, rises_from, IsLaidOut}
 use Rattle.jfs_xtree.specs.Node.{xt_scale, xt_node, all_within, child_of, BeginsAt}
 use Rattle.jfs_xtree.specs.Spells.{page_nodes}
 use Rattle.jfs_xtree.specs.CutParts.{AllFrom, pages_of_children, pages_of_entries}
@@ -61,16 +61,16 @@ parts_below blocks pages levels cs = flat_map (walk xt_scale (page_nodes blocks 
 abbrev pub parts_under : ℕ → (ℕ → List ℕ) → ℕ → ℕ → List Xad → Marks ℕ Xad
 parts_under blocks pages levels key entries = parts_below blocks pages levels (under key (map child_of entries))
 
--- where pages side by side and those below them were filled, these are now
-abbrev pub KeepsFilled : ℕ → (ℕ → List ℕ) → (ℕ → List ℕ) → List ℕ → List ℕ → Type 0
-KeepsFilled blocks before after old new = (depth : ℕ) (last : Bool) → InLine (IsFilled (page_nodes blocks before) depth) last old → InLine (IsFilled (page_nodes blocks after) depth) last new
+-- Where pages side by side and those below them were filled, these are now. `end` tells that the last of them is the last one of its level, which may have fewer entries.
+abbrev pub KeepsFilled : Bool → ℕ → (ℕ → List ℕ) → (ℕ → List ℕ) → List ℕ → List ℕ → Type 0
+KeepsFilled end blocks before after old new = (depth : ℕ) (last : Bool) → (end ≡ true → last ≡ true) → InLine (IsFilled (page_nodes blocks before) depth) last old → InLine (IsFilled (page_nodes blocks after) depth) last new
 
 -- a range was written below a page: the page, and perhaps one more behind it, stand for it now
-abbrev pub WrotePage : ℕ → List Xad → Bool → Bool → (ℕ → List ℕ) → (ℕ → List ℕ) → ℕ → ℕ → Option (Sibling ℕ) → List ℕ → List ℕ → Type 0
-WrotePage blocks xs left right before after levels page more free rest = (height key low : ℕ) (high : Option ℕ) (first : ℕ)
+abbrev pub WrotePage : Bool → ℕ → List Xad → Bool → Bool → (ℕ → List ℕ) → (ℕ → List ℕ) → ℕ → ℕ → Option (Sibling ℕ) → List ℕ → List ℕ → Type 0
+WrotePage end blocks xs left right before after levels page more free rest = (height key low : ℕ) (high : Option ℕ) (first : ℕ)
     → Takes xs left right first key low (part_of blocks before height (record { key = key; page = page })) high free
     → Wrote xs before after low (part_of blocks before height (record { key = key; page = page })) (parts_below blocks after height (record { key = key; page = page } ∷ children_of more)) high free rest
-    × (height ≡ levels) × KeepsFilled blocks before after (page ∷ []) (page ∷ pages_of_children (children_of more))
+    × (height ≡ levels) × KeepsFilled end blocks before after (page ∷ []) (page ∷ pages_of_children (children_of more))
 
 -- where a page is named, the part below the page wasn't one into which the range can be written
 abbrev pub RefutesPage : ℕ → List Xad → Bool → Bool → (ℕ → List ℕ) → ℕ → ℕ → List ℕ → TreeError → Type 0
@@ -86,13 +86,13 @@ pub record Follows (top : Bool) (high : Option ℕ) (entries made : List Xad) : 
   pub ends : (bound : ℕ) → high ≡ Some bound → AllTo bound entries → AllTo bound made
 
 -- A range was written below the children that these entries of an inner page name; `made` stand for them now. `top` tells that the first of them is the first one of the page.
-abbrev pub WroteChildren : ℕ → List Xad → Bool → Bool → Bool → (ℕ → List ℕ) → (ℕ → List ℕ) → ℕ → List Xad → List Xad → List ℕ → List ℕ → Type 0
-WroteChildren blocks xs left right top before after levels entries made free rest = (height key low : ℕ) (high : Option ℕ) (first : ℕ)
+abbrev pub WroteChildren : Bool → ℕ → List Xad → Bool → Bool → Bool → (ℕ → List ℕ) → (ℕ → List ℕ) → ℕ → List Xad → List Xad → List ℕ → List ℕ → Type 0
+WroteChildren end blocks xs left right top before after levels entries made free rest = (height key low : ℕ) (high : Option ℕ) (first : ℕ)
     → rises_from 0 entries ≡ true → (top ≡ false → BeginsAt key entries)
     → Takes xs left right first key low (parts_under blocks before height key entries) high free
     → Wrote xs before after low (parts_under blocks before height key entries) (parts_under blocks after height key made) high free rest
     × (levels ≤ height) × (0 < length xs → height ≡ levels) × Follows top high entries made
-    × (length entries ≤ length made) × KeepsFilled blocks before after (pages_of_entries entries) (pages_of_entries made)
+    × (length entries ≤ length made) × KeepsFilled end blocks before after (pages_of_entries entries) (pages_of_entries made)
 
 abbrev pub RefutesChildren : ℕ → List Xad → Bool → Bool → Bool → (ℕ → List ℕ) → ℕ → List Xad → List ℕ → TreeError → Type 0
 RefutesChildren blocks xs left right top before most entries free (View e) = Unit {0}
@@ -107,14 +107,14 @@ most_taken [] left right most = 0
 most_taken (x ∷ xs) left right most = (if left then most else 0) + (if right then most else 0)
 
 -- what stands for these entries of an inner page was pushed behind others
-pub record Pushed (tells : Type 0) (blocks : ℕ) (xs : List Xad) (left right top : Bool) (before after : ℕ → List ℕ) (levels : ℕ) (entries old new : List Xad) (free rest : List ℕ) : Type 0 where
+pub record Pushed (tells : Type 0) (end : Bool) (blocks : ℕ) (xs : List Xad) (left right top : Bool) (before after : ℕ → List ℕ) (levels : ℕ) (entries old new : List Xad) (free rest : List ℕ) : Type 0 where
   pub made : List Xad
   pub is : new ≡ old ++ made
   pub some : 0 < length made
   pub few : length made ≤ length entries + most_taken xs left right 1
   pub fits : All FitsXad made
   pub within : all_within blocks made ≡ true
-  pub wrote : tells → WroteChildren blocks xs left right top before after levels entries made free rest
+  pub wrote : tells → WroteChildren end blocks xs left right top before after levels entries made free rest
 
 -- a part of a range, as a call on a part of a tree takes it
 pub record IsPart (blocks : ℕ) (xs : List Xad) : Type 0 where
@@ -153,14 +153,16 @@ abbrev pub BeginsBy : ℕ → List Xad → Type 0
 BeginsBy block [] = ⊥
 BeginsBy block (x ∷ xs) = x.offset ≤ block
 
--- A part, cut at a block of the file: only where the other part has nothing can it have entries on that side of the 17 blocks.
-pub record Cuts (bound : ℕ) (xs : List Xad) (left right : Bool) (head tail : Part) : Type 0 where
+-- A part, cut at a block of the file: only where the other part has nothing can it have entries on that side of the 17 blocks, and what is behind the cut can be the last of its level.
+pub record Cuts (bound : ℕ) (xs : List Xad) (left right last : Bool) (head tail : Part) : Type 0 where
   pub below : head.xs.items ≡ kept_below bound xs
   pub from : tail.xs.items ≡ kept_from bound xs
   pub head_left : head.left ≡ left
   pub head_right : head.right ≡ (right && is_none tail.xs.items)
   pub tail_left : tail.left ≡ (left && is_none head.xs.items)
   pub tail_right : tail.right ≡ right
+  pub head_last : head.last ≡ false
+  pub tail_last : tail.last ≡ last
 
 -- where each free page is below the bound, each that is left is, and so is the new one
 abbrev pub GrownBelow : List ℕ → List ℕ → Result Grown TreeError → Type 0
@@ -171,3 +173,17 @@ abbrev pub NoView : TreeError → Type 0
 NoView (View e) = ⊥
 NoView (Bad bad rule) = Unit {0}
 NoView Memory = Unit {0}
+
+-- an entry that begins at or past a block of the file
+abbrev pub begins_past : ℕ → Option Xad → Bool
+begins_past bound None = false
+begins_past bound (Some x) = nat_le bound x.offset
+
+-- the first block behind an entry, where there is one
+abbrev pub behind : Option Xad → ℕ
+behind None = 0
+behind (Some x) = end_of x
+
+-- What doesn't fit a page lies past all that the page had.
+abbrev pub passes_end : List Xad → List Xad → Bool
+passes_end entries list = begins_past (behind (slice_get entries (length entries - 1))) (slice_get list 254)

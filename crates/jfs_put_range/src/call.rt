@@ -9,20 +9,26 @@ ghost use Rattle.jfs_tree.specs.Changes.{TellsTaken};
 ghost use Rattle.jfs_tree.specs.Form.{AllBelow};
 ghost use Rattle.jfs_tree.specs.Fresh.{blocks_of, TakenInOrder};
 ghost use Rattle.jfs_xtree.specs.Spells.{IsRootSize, tree_error, CarriesXt};
+ghost use Rattle.jfs_put_range.specs.Way.{RangeTellsWay, broken_on_range};
 ghost use Rattle.jfs_put_range.specs.Call.{IsShortRange, WritesRange, KeepsNoThin, RefusesOnlyDeep};
 
-use crate::root::put_root;
+use crate::clash::as_clash;
+use crate::linked::put_linked;
+use crate::span::{end_of_all, first_of};
 use jfs_bits::{PageKind, PxdList, Xad, XadList};
 use jfs_ranges::{PageView, Tx, ViewError};
 use jfs_tree::{Draft, Planned, TreeError, copy_of, fresh_stack, tell_steps};
+use jfs_ways::look_along;
 use jfs_xtree::{XtError, XtPages, handed_on, root_form};
 use std::alloc::Global;
 
 /// Writes a range of blocks into a file's list: extents in rising order, which lie within 17 consecutive blocks of the file and end below its block 2^40. They stand in place
 /// of what the list had of these blocks, cut where an entry begins or ends; an entry that reached past the blocks keeps its other parts, and what is written into a hole is
 /// merged with a recorded left neighbour that it continues. Each page on the way is changed once. New pages are taken from `fresh` in its order, at most 15; the transaction
-/// gets the changed lines and new pages, and then an `Alloc` of each new page. After an `Err` root, `fresh` and transaction are as before. A tree of 8 levels gets no ninth:
-/// where its root has no room for two more entries, it can be refused, as `Bad` with rule `deep` at the root.
+/// gets the changed lines and new pages, and then an `Alloc` of each new page. After an `Err` root, `fresh` and transaction are as before. `Bad` names the first page that breaks
+/// a rule on the ways of the blocks from the range's first to its last, which are looked at before anything is written. Where none does, it names with rule `order` a page whose
+/// entries can't stand between the keys on its way, or that is met twice. A tree of 8 levels gets no ninth: where its root has no room for two more entries, it can be refused, as
+/// `Bad` with rule `deep` at the root.
 pub fn put_range<V: PageView>(
     alloc: Global,
     view: &mut V,
@@ -46,7 +52,17 @@ pub fn put_range<V: PageView>(
     ensures most { OnOk result (length (blocks_of fresh.old) ≤ length (blocks_of fresh.new) + 15) }
     ensures kept { OnErr result ((root.new ≡ root.old) × (fresh.new ≡ fresh.old) × (tx.new ≡ tx.old)) }
     ensures refused { V.PageView.tells → IfErr result (λ e. RefusesOnlyDeep (V.PageView.block_count view.old) (page_of (V.PageView.image view.old)) root.old (blocks_of fresh.old) (tree_error e)) }
+    ensures way { V.PageView.tells → RangeTellsWay (broken_on_range (V.PageView.block_count view.old) (page_of (V.PageView.image view.old)) root.old xs.now) result }
 {
+    match look_along(
+        view,
+        root,
+        first_of(xs.as_slice()),
+        end_of_all(xs.as_slice()),
+    ) {
+        Ok(()) => {}
+        Err(e) => return Err(e),
+    }
     let Ok(old) = copy_of(alloc, root) else {
         return Err(XtError::View(ViewError::Memory));
     };
@@ -58,7 +74,7 @@ pub fn put_range<V: PageView>(
         }
         Err(e) => {
             root.copy_from_slice(old.as_slice());
-            Err(handed_on(e))
+            Err(handed_on(as_clash(e)))
         }
     }
 }
@@ -94,12 +110,16 @@ fn plan_range<V: PageView>(
     let Ok(mut stack) = fresh_stack(alloc, fresh, blocks) else {
         return Err(TreeError::Memory);
     };
+    let Ok(all) = fresh_stack(alloc, fresh, blocks) else {
+        return Err(TreeError::Memory);
+    };
     let mut draft = Draft::new(alloc);
-    if let Err(e) = put_root(
+    if let Err(e) = put_linked(
         alloc,
         &top,
         view,
         &mut draft,
+        all.as_slice(),
         &mut stack,
         root,
         xs.as_slice(),

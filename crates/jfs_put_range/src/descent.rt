@@ -9,6 +9,7 @@ ghost use Rattle.jfs_tree.specs.Form.{AllBelow, IsFront};
 ghost use Rattle.jfs_xtree.specs.Node.{all_within, BeginsAt};
 ghost use Rattle.jfs_put_range.specs.Parts.{IsPart, WrotePage, RefutesPage, RefutesChildren, Pushed, GrownBelow, most_taken};
 
+use crate::full::starts_new;
 use crate::leaf::{Grown, put_leaf};
 use crate::open::open_page;
 use crate::part::{Part, cut_at};
@@ -40,7 +41,7 @@ pub(crate) fn put_below<V: PageView>(
     ensures count_of_blocks { V.PageView.block_count view.new ≡ V.PageView.block_count view.old }
     ensures device { V.PageView.device view.new ≡ V.PageView.device view.old }
     ensures fault { CarriesFault (V.PageView.faults view.old) (V.PageView.faults view.new) result }
-    ensures wrote { V.PageView.tells → IfOk result (λ grown. WrotePage (V.PageView.block_count view.old) part.now.xs.items part.now.left part.now.right
+    ensures wrote { V.PageView.tells → IfOk result (λ grown. WrotePage part.now.last (V.PageView.block_count view.old) part.now.xs.items part.now.left part.now.right
         (shown draft.old.pages.items (V.PageView.image view.old)) (shown draft.new.pages.items (V.PageView.image view.old)) grown.levels page grown.sibling stack.old.items stack.new.items) }
     ensures bad { V.PageView.tells → IfErr result (λ e. RefutesPage (V.PageView.block_count view.old) part.now.xs.items part.now.left part.now.right
         (shown draft.old.pages.items (V.PageView.image view.old)) most page stack.old.items e) }
@@ -80,7 +81,8 @@ pub(crate) fn put_below<V: PageView>(
         Ok(levels) => levels,
         Err(e) => return Err(e),
     };
-    match store(draft, stack, page, opened.page, list.as_slice()) {
+    let full = starts_new(part, opened.entries.as_slice(), list.as_slice());
+    match store(draft, stack, page, opened.page, list.as_slice(), full) {
         Ok(sibling) => Ok(Grown {
             sibling,
             levels: levels + 1,
@@ -114,7 +116,7 @@ pub(crate) fn put_children<V: PageView>(
     ensures count_of_blocks { V.PageView.block_count view.new ≡ V.PageView.block_count view.old }
     ensures device { V.PageView.device view.new ≡ V.PageView.device view.old }
     ensures fault { CarriesFault (V.PageView.faults view.old) (V.PageView.faults view.new) result }
-    ensures pushed { IfOk result (λ levels. Pushed V.PageView.tells (V.PageView.block_count view.old) part.now.xs.items part.now.left part.now.right top
+    ensures pushed { IfOk result (λ levels. Pushed V.PageView.tells part.now.last (V.PageView.block_count view.old) part.now.xs.items part.now.left part.now.right top
         (shown draft.old.pages.items (V.PageView.image view.old)) (shown draft.new.pages.items (V.PageView.image view.old)) levels entries.now list.old.items list.new.items stack.old.items stack.new.items) }
     ensures bad { V.PageView.tells → IfErr result (λ e. RefutesChildren (V.PageView.block_count view.old) part.now.xs.items part.now.left part.now.right top
         (shown draft.old.pages.items (V.PageView.image view.old)) most entries.now stack.old.items e) }
@@ -167,7 +169,7 @@ fn put_from<V: PageView>(
     ensures count_of_blocks { V.PageView.block_count view.new ≡ V.PageView.block_count view.old }
     ensures device { V.PageView.device view.new ≡ V.PageView.device view.old }
     ensures fault { CarriesFault (V.PageView.faults view.old) (V.PageView.faults view.new) result }
-    ensures pushed { IfOk result (λ levels. Pushed V.PageView.tells (V.PageView.block_count view.old) part.now.xs.items part.now.left part.now.right top
+    ensures pushed { IfOk result (λ levels. Pushed V.PageView.tells part.now.last (V.PageView.block_count view.old) part.now.xs.items part.now.left part.now.right top
         (shown draft.old.pages.items (V.PageView.image view.old)) (shown draft.new.pages.items (V.PageView.image view.old)) levels entries.now list.old.items list.new.items stack.old.items stack.new.items) }
     ensures bad { V.PageView.tells → IfErr result (λ e. RefutesChildren (V.PageView.block_count view.old) part.now.xs.items part.now.left part.now.right top
         (shown draft.old.pages.items (V.PageView.image view.old)) most entries.now stack.old.items e) }
@@ -223,7 +225,7 @@ fn put_both<V: PageView>(
     ensures count_of_blocks { V.PageView.block_count view.new ≡ V.PageView.block_count view.old }
     ensures device { V.PageView.device view.new ≡ V.PageView.device view.old }
     ensures fault { CarriesFault (V.PageView.faults view.old) (V.PageView.faults view.new) result }
-    ensures pushed { IfOk result (λ levels. Pushed V.PageView.tells (V.PageView.block_count view.old) part.now.xs.items part.now.left part.now.right top
+    ensures pushed { IfOk result (λ levels. Pushed V.PageView.tells part.now.last (V.PageView.block_count view.old) part.now.xs.items part.now.left part.now.right top
         (shown draft.old.pages.items (V.PageView.image view.old)) (shown draft.new.pages.items (V.PageView.image view.old)) levels (child.now ∷ rest.now) list.old.items list.new.items stack.old.items stack.new.items) }
     ensures bad { V.PageView.tells → IfErr result (λ e. RefutesChildren (V.PageView.block_count view.old) part.now.xs.items part.now.left part.now.right top
         (shown draft.old.pages.items (V.PageView.image view.old)) most (child.now ∷ rest.now) stack.old.items e) }
@@ -270,7 +272,7 @@ fn put_child<V: PageView>(
     ensures count_of_blocks { V.PageView.block_count view.new ≡ V.PageView.block_count view.old }
     ensures device { V.PageView.device view.new ≡ V.PageView.device view.old }
     ensures fault { CarriesFault (V.PageView.faults view.old) (V.PageView.faults view.new) result }
-    ensures pushed { IfOk result (λ levels. Pushed V.PageView.tells (V.PageView.block_count view.old) part.now.xs.items part.now.left part.now.right top
+    ensures pushed { IfOk result (λ levels. Pushed V.PageView.tells part.now.last (V.PageView.block_count view.old) part.now.xs.items part.now.left part.now.right top
         (shown draft.old.pages.items (V.PageView.image view.old)) (shown draft.new.pages.items (V.PageView.image view.old)) levels (child.now ∷ []) list.old.items list.new.items stack.old.items stack.new.items) }
     ensures bad { V.PageView.tells → IfErr result (λ e. RefutesChildren (V.PageView.block_count view.old) part.now.xs.items part.now.left part.now.right top
         (shown draft.old.pages.items (V.PageView.image view.old)) most (child.now ∷ []) stack.old.items e) }

@@ -7,6 +7,7 @@ ghost use Rattle.jfs_tree.specs.Draft.{shown};
 ghost use Rattle.jfs_tree.specs.Form.{AllBelow, IsFront};
 ghost use Rattle.jfs_put_range.specs.Parts.{IsOpened, IsPart, WrotePage, RefutesPage, GrownBelow, NoView, most_taken};
 
+use crate::full::starts_new;
 use crate::open::Opened;
 use crate::part::Part;
 use jfs_bits::Rule;
@@ -38,7 +39,7 @@ pub(crate) fn put_leaf(
     requires enough { most_taken part.now.xs.items part.now.left part.now.right 1 ≤ length stack.old.items }
     requires small { blocks < 2 ^ 40 }
     requires below { AllBelow blocks stack.old.items }
-    ensures wrote { (image : Image) → opened.page.0 ≡ shown draft.old.pages.items image n → IfOk result (λ grown. WrotePage blocks part.now.xs.items part.now.left part.now.right
+    ensures wrote { (image : Image) → opened.page.0 ≡ shown draft.old.pages.items image n → IfOk result (λ grown. WrotePage part.now.last blocks part.now.xs.items part.now.left part.now.right
         (shown draft.old.pages.items image) (shown draft.new.pages.items image) grown.levels n grown.sibling stack.old.items stack.new.items) }
     ensures bad { (image : Image) (most : ℕ) → opened.page.0 ≡ shown draft.old.pages.items image n → IfErr result (λ e. RefutesPage blocks part.now.xs.items part.now.left part.now.right (shown draft.old.pages.items image) most n stack.old.items e) }
     ensures levels { IfOk result (λ grown. grown.levels ≡ 1) }
@@ -58,7 +59,8 @@ pub(crate) fn put_leaf(
             rule: Rule::Order,
         });
     }
-    match store(draft, stack, n, opened.page, list.as_slice()) {
+    let full = starts_new(part, opened.entries.as_slice(), list.as_slice());
+    match store(draft, stack, n, opened.page, list.as_slice(), full) {
         Ok(sibling) => Ok(Grown { sibling, levels: 1 }),
         Err(e) => Err(e),
     }

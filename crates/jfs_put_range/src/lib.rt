@@ -2,11 +2,15 @@
 #![tactic(auto)]
 
 mod call;
+mod clash;
 mod descent;
+mod full;
 mod leaf;
+mod linked;
 mod open;
 mod part;
 mod root;
 mod skip;
+mod span;
 
 pub use call::put_range;

@@ -12,12 +12,13 @@ use jfs_bits::{Pxd, Xad};
 use std::alloc::{AllocError, Global};
 
 /// The extents of a range that go into a part of a tree. `left` tells that the part may have entries before the 17 blocks in which the range lies, `right` that it may
-/// have some behind them.
+/// have some behind them, and `last` that the part has the last page of each of its levels.
 #[derive(Drop)]
 pub(crate) struct Part {
     pub xs: Vec<Xad>,
     pub left: bool,
     pub right: bool,
+    pub last: bool,
 }
 
 /// A part in two.
@@ -31,7 +32,7 @@ pub(crate) struct Cut {
 pub(crate) fn cut_at(alloc: Global, part: &Part, bound: u64) -> Result<Cut, AllocError>
     requires fits { All FitsXad part.now.xs.items }
     requires some { All (λ x. 1 ≤ x.at.len) part.now.xs.items }
-    ensures { IfOk result (λ cut. Cuts bound part.now.xs.items part.now.left part.now.right cut.head cut.tail) }
+    ensures { IfOk result (λ cut. Cuts bound part.now.xs.items part.now.left part.now.right part.now.last cut.head cut.tail) }
 {
     let head = extents_below(alloc, part.xs.as_slice(), bound)?;
     let tail = extents_from(alloc, part.xs.as_slice(), bound)?;
@@ -42,11 +43,13 @@ pub(crate) fn cut_at(alloc: Global, part: &Part, bound: u64) -> Result<Cut, Allo
             xs: head,
             left: part.left,
             right,
+            last: false,
         },
         tail: Part {
             xs: tail,
             left,
             right: part.right,
+            last: part.last,
         },
     })
 }
@@ -126,7 +129,7 @@ fn push_from(list: &mut Vec<Xad>, x: &Xad, bound: u64) -> Result<(), AllocError>
 }
 
 /// The first block of the file behind an extent.
-fn end_of(x: &Xad) -> u64
+pub(crate) fn end_of(x: &Xad) -> u64
     requires { FitsXad x.now }
     ensures { result ≡ end_of x.now }
 {

@@ -170,7 +170,7 @@ fn put_inner_root<V: PageView>(
 
 /// The whole range as the part that goes below a root.
 fn whole_part(alloc: Global, xs: &[Xad]) -> Result<Part, AllocError>
-    ensures { IfOk result (λ part. (part.xs.items ≡ xs.now) × (part.left ≡ true) × (part.right ≡ true)) }
+    ensures { IfOk result (λ part. (part.xs.items ≡ xs.now) × (part.left ≡ true) × (part.right ≡ true) × (part.last ≡ true)) }
 {
     let mut all = Vec::new(alloc);
     all.extend_from_slice(xs)?;
@@ -178,5 +178,6 @@ fn whole_part(alloc: Global, xs: &[Xad]) -> Result<Part, AllocError>
         xs: all,
         left: true,
         right: true,
+        last: true,
     })
 }

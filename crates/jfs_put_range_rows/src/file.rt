@@ -13,7 +13,7 @@ use jfs_ranges::{Edit, PageView, Tx, ViewError, apply};
 use jfs_xtree::{XtError, add, extents, new_root};
 use std::alloc::{AllocError, Global};
 
-/// A volume of 8,192 blocks, of which the first 64 are pages. One of them may be such that it can't be read.
+/// A volume of 8,192 blocks, of which the first 128 are pages. One of them may be such that it can't be read.
 #[derive(Drop)]
 pub struct Volume {
     pages: Vec<Page>,
@@ -67,7 +67,7 @@ impl File {
     /// No extent, and no page.
     pub fn new(alloc: Global) -> Result<File, AllocError> {
         let mut pages = Vec::new(alloc);
-        for _ in 0..64 {
+        for _ in 0..128 {
             pages.push(Page::zeros())?;
         }
         let mut root = [0; 288];
@@ -180,6 +180,17 @@ impl File {
         Ok(answer == Some(Ok(())) && self.has(alloc, list) == Ok(true))
     }
 
+    /// A byte of a page; 255 where there is none.
+    pub fn byte(&self, page: u8, at: usize) -> u8 {
+        match self.volume.pages.get(usize::from(page)) {
+            Some(page) => match page.bytes().get(at) {
+                Some(byte) => *byte,
+                None => 255,
+            },
+            None => 255,
+        }
+    }
+
     /// Page `n`.
     pub fn page(&mut self, n: u32) -> Option<&mut Page> {
         self.volume.pages.get_mut(n as usize)
@@ -188,12 +199,12 @@ impl File {
 
 /// 24 free blocks, from this one on where there are so many.
 fn free_from(alloc: Global, first: u32) -> Result<PxdList, AllocError>
-    ensures { IfOk result (λ fresh. (addr : ℕ) × (addr ≤ 40) × (fresh ≡ record { len = 24; addr = addr } ∷ [])) }
+    ensures { IfOk result (λ fresh. (addr : ℕ) × (addr ≤ 104) × (fresh ≡ record { len = 24; addr = addr } ∷ [])) }
 {
     let mut fresh = PxdList::new(alloc);
     fresh.push(Pxd {
         len: 24,
-        addr: u64::from(first.min(40)),
+        addr: u64::from(first.min(104)),
     })?;
     Ok(fresh)
 }

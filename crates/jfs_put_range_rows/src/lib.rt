@@ -2,7 +2,13 @@
 #![tactic(auto)]
 
 #[cfg(test)]
+mod appended;
+#[cfg(test)]
+mod beside;
+#[cfg(test)]
 mod file;
+#[cfg(test)]
+mod links;
 #[cfg(test)]
 mod mixed;
 #[cfg(test)]

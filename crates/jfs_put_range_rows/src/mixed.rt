@@ -1,6 +1,7 @@
 //! Mixed ranges in a file of many extents, beside the plain list: holes, entries that aren't recorded, recorded ones, and all of them at once.
 
 use crate::file::{File, entry_of, recorded};
+use crate::links::is_linked;
 use crate::plain::Plain;
 use jfs_bits::Xad;
 use std::alloc::{AllocError, Global};
@@ -48,10 +49,14 @@ fn throw(alloc: Global, dice: &mut Dice, first: u64) -> Result<Vec<Xad>, AllocEr
     Ok(range)
 }
 
-/// Whether the tree and the plain list have the same entries, and the tree so many pages.
+/// Whether the tree and the plain list have the same entries, and the tree so many pages, each of which names its neighbours.
 fn agree(alloc: Global, file: &mut File, plain: &Plain) -> Result<bool, AllocError> {
     let list = plain.list(alloc)?;
-    Ok(file.has(alloc, list.as_slice()) == Ok(true) && u64::from(file.pages()) == plain.pages())
+    Ok(
+        file.has(alloc, list.as_slice()) == Ok(true)
+            && u64::from(file.pages()) == plain.pages()
+            && is_linked(file),
+    )
 }
 
 /// Writes a range into both, and compares them.
@@ -91,7 +96,7 @@ fn in_twos(
         let mut range = Vec::new(alloc);
         for j in 0..8 {
             let k = i.saturating_mul(16).saturating_add(2 * j);
-            range.push(recorded(k, 1, k.saturating_add(1000)))?;
+            range.push(recorded(k, 1, (k % 4096).saturating_add(1000)))?;
         }
         if !puts(alloc, file, plain, range.as_slice())? {
             return Ok(false);
@@ -143,8 +148,8 @@ fn from_nothing(rt: HostRuntime) -> Result<(), Fail> {
 #[test]
 fn a_root_without_room_for_children(rt: HostRuntime) -> Result<(), Fail> {
     let mut file = File::new(rt.alloc())?;
-    let mut plain = Plain::new(rt.alloc(), 4800)?;
-    assert!(rt; in_twos(rt.alloc(), &mut file, &mut plain, 300)?);
+    let mut plain = Plain::new(rt.alloc(), 8400)?;
+    assert!(rt; in_twos(rt.alloc(), &mut file, &mut plain, 520)?);
     // 17 leaves or more, and the page above them
     assert!(rt; file.pages() >= 18);
     Ok(())

@@ -65,10 +65,24 @@ impl Plain {
 
     /// Writes the extents of a range from left to right, block by block.
     pub fn puts(&mut self, alloc: Global, range: &[Xad]) -> Result<(), AllocError> {
+        let end = self.end();
         for x in range {
             self.writes(x);
         }
-        self.splits(alloc)
+        self.splits(alloc, end)
+    }
+
+    /// The first block of the file behind all entries.
+    fn end(&self) -> u64 {
+        let mut end = 0;
+        let mut k: u64 = 0;
+        for block in &self.blocks {
+            k = k.saturating_add(1);
+            if block.is_some() {
+                end = k;
+            }
+        }
+        end
     }
 
     fn writes(&mut self, x: &Xad) {
@@ -138,8 +152,9 @@ impl Plain {
         Ok(list)
     }
 
-    /// A leaf whose entries are too many for it gives the second half of them to a new one; a root's go to a page first.
-    fn splits(&mut self, alloc: Global) -> Result<(), AllocError> {
+    /// A leaf whose entries are too many for it gives the second half of them to a new one, the last leaf those that don't fit, where these are past the old end; a root's go
+    /// to a page first.
+    fn splits(&mut self, alloc: Global, end: u64) -> Result<(), AllocError> {
         let list = self.list(alloc)?;
         if self.leaves.is_empty() {
             if list.len() as u64 > ROOT {
@@ -155,7 +170,7 @@ impl Plain {
                 None => u64::MAX,
             };
             leaves.push(*from)?;
-            if let Some(key) = second_half(&list, *from, to) {
+            if let Some(key) = second_part(&list, *from, to, end) {
                 leaves.push(key)?;
             }
             next = next.saturating_add(1);
@@ -192,21 +207,36 @@ fn push_block(list: &mut Vec<Xad>, offset: u64, block: Block) -> Result<(), Allo
     Ok(())
 }
 
-/// The first block of the second half of the entries from a block of the file on and before another, where they are too many for a page.
-fn second_half(list: &[Xad], from: u64, to: u64) -> Option<u64> {
+/// The first block of the second part of the entries from a block of the file on and before another, where they are too many for a page.
+fn second_part(list: &[Xad], from: u64, to: u64, end: u64) -> Option<u64> {
+    let count = entries_before(list, from, to);
+    if count <= PAGE {
+        return None;
+    }
+    let key = nth_entry(list, from, PAGE);
+    if to == u64::MAX && key.unwrap_or(0) >= end {
+        return key;
+    }
+    nth_entry(list, from, count / 2)
+}
+
+/// How many entries begin at or past a block of the file and before another.
+fn entries_before(list: &[Xad], from: u64, to: u64) -> u64 {
     let mut count: u64 = 0;
     for x in list {
         if x.offset >= from && x.offset < to {
             count = count.saturating_add(1);
         }
     }
-    if count <= PAGE {
-        return None;
-    }
+    count
+}
+
+/// Where an entry begins, so many behind the first one at or past a block of the file.
+fn nth_entry(list: &[Xad], from: u64, n: u64) -> Option<u64> {
     let mut place: u64 = 0;
     for x in list {
-        if x.offset >= from && x.offset < to {
-            if place == count / 2 {
+        if x.offset >= from {
+            if place == n {
                 return Some(x.offset);
             }
             place = place.saturating_add(1);

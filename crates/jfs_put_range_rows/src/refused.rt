@@ -57,14 +57,14 @@ fn a_page_that_cannot_be_read(rt: HostRuntime) -> Result<(), Fail> {
     // the second page alone, and behind the first one
     let behind = [recorded(639, 4, 3000)];
     assert!(rt; refuses(rt.alloc(), &mut file, &behind, fault(1))?);
-    let both = [recorded(249, 3, 3000), recorded(255, 4, 3100)];
+    let both = [recorded(503, 3, 3000), recorded(509, 4, 3100)];
     assert!(rt; refuses(rt.alloc(), &mut file, &both, fault(2))?);
     // the first page alone
     assert_eq!(rt;
         file.puts(rt.alloc(), &[recorded(0, 1, 1000)])?,
         Some(Ok(()))
     );
-    file.loses(64);
+    file.loses(8192);
     assert!(rt; list.is_some());
     if let Some(list) = list {
         assert_eq!(rt; file.has(rt.alloc(), list.as_slice()), Ok(true));
@@ -72,8 +72,35 @@ fn a_page_that_cannot_be_read(rt: HostRuntime) -> Result<(), Fail> {
     Ok(())
 }
 
+#[test]
+fn the_first_broken_page(rt: HostRuntime) -> Result<(), Fail> {
+    let mut file = File::new(rt.alloc())?;
+    assert!(rt; fills(rt.alloc(), &mut file, 40)?);
+    assert_eq!(rt; file.pages(), 2);
+    if let Some(page) = file.page(1) {
+        put_u8(&mut page.0, 16, 0);
+    }
+    let flag = XtError::Bad {
+        page: 1,
+        rule: Rule::Flag,
+    };
+    // behind it, over both leaves, and with a hole in the range there
+    assert!(rt; refuses(rt.alloc(), &mut file, &[recorded(639, 4, 3000)], flag)?);
+    let flag = XtError::Bad {
+        page: 1,
+        rule: Rule::Flag,
+    };
+    let both = [recorded(503, 1, 3000), recorded(516, 1, 3100)];
+    assert!(rt; refuses(rt.alloc(), &mut file, &both, flag)?);
+    assert_eq!(rt;
+        file.puts(rt.alloc(), &[recorded(0, 1, 1000)])?,
+        Some(Ok(()))
+    );
+    Ok(())
+}
+
 /// An entry of one block.
-fn entry(bytes: &mut [u8], i: usize, offset: u32, addr: u32)
+pub fn entry(bytes: &mut [u8], i: usize, offset: u32, addr: u32)
     requires { 48 + 16 * i ≤ length bytes.old }
 {
     put_xad(
@@ -91,7 +118,7 @@ fn entry(bytes: &mut [u8], i: usize, offset: u32, addr: u32)
 }
 
 /// A page without room: each second block of the file from one on, and the last entry names the page behind this one.
-fn full_page(file: &mut File, n: u32, flag: u8, from: u32) {
+pub fn full_page(file: &mut File, n: u32, flag: u8, from: u32) {
     if let Some(page) = file.page(n) {
         put_u8(&mut page.0, 16, flag);
         put_u16(&mut page.0, 18, 256);

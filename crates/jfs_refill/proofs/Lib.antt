@@ -1,5 +1,5 @@
 pub mod Listed
-pub mod Halving
+pub mod Dividing
 pub mod Rooting
 pub mod Growth
 pub mod Spreading

@@ -1,5 +1,5 @@
 -- What two pages show that have the parts of a list.
-use Rattle.std.proofs.Common.{◌≡◌, ◌≢◌, ◌≤◌, ◌<◌, refl, sym, ap, ◌∙◌, subst, ℕ, suc, ◌+◌, ◌==◌, if◌then◌else◌, List, [], ◌∷◌, ◌++◌, map, Option, Some, None, Result, Ok, Err, IfOk, arith}
+use Rattle.std.proofs.Common.{◌≡◌, ◌≢◌, ◌≤◌, ◌<◌, refl, sym, ap, ◌∙◌, subst, ℕ, suc, ◌+◌, ◌==◌, if◌then◌else◌, Bool, List, [], ◌∷◌, ◌++◌, map, Option, Some, None, Result, Ok, Err, IfOk, arith}
 use Rattle.std.specs.List.{flat_map}
 use Rattle.std.proofs.lemmas.List.{map-append}
 use Rattle.std.proofs.lemmas.List.Concat.{flat_map-append}
@@ -25,7 +25,7 @@ use Rattle.jfs_xtree.specs.Laws.{order}
 use Rattle.jfs_xtree.specs.Node.{xt_scale, xt_node, child_of}
 use Rattle.jfs_refill.specs.Stored.{Stored}
 use Rattle.jfs_refill.specs.Spread.{Spreads, leaf_shown, inner_shown, LeafSpreads, InnerSpreads}
-use Rattle.jfs_refill.proofs.Halving.{some_child}
+use Rattle.jfs_refill.proofs.Dividing.{some_child}
 
 -- a new page begins between two parts
 spread : (low k key n q : ℕ) (a b c : Marks ℕ Xad) (high : Option ℕ) (free left : List ℕ) → Rises xt_scale low (Key n k ∷ Page n ∷ (a ++ b)) high
@@ -59,16 +59,16 @@ two_leaves pages c q key front back h i is_c is_q =
     ap (λ ms. ms ++ (walk xt_scale pages 1 (record { key = key; page = q }) ++ [])) (cons_rows xt_scale pages c front h is_c)
     ∙ ap (λ ms. Key c.page c.key ∷ Page c.page ∷ (map (Row c.page) front ++ ms)) (append_nil (walk xt_scale pages 1 (record { key = key; page = q })) ∙ cons_rows xt_scale pages (record { key = key; page = q }) back i is_q)
 
-pub leaf_spreads : (blocks : ℕ) (list : List Xad) (bytes : List ℕ) (n : ℕ) (old new : List Drafted) (free left : List ℕ) (more : Option (Sibling ℕ)) → Stored list bytes n old new free left more → LeafSpreads blocks list bytes n old new free left more
-leaf_spreads blocks list bytes n old new free left None st image es key low high node good fits rises apart_from =
+pub leaf_spreads : (blocks : ℕ) (list : List Xad) (full : Bool) (bytes : List ℕ) (n : ℕ) (old new : List Drafted) (free left : List ℕ) (more : Option (Sibling ℕ)) → Stored list full bytes n old new free left more → LeafSpreads blocks list bytes n old new free left more
+leaf_spreads blocks list full bytes n old new free left None st image es key low high node good fits rises apart_from =
     let r = st.2 in
     let pages = nodes (xt_node Full blocks) new image in
     let c : Child ℕ = record { key = key; page = n } in
     let is : pages n ≡ Leaf list = ap (xt_node Full blocks) (r.puts image n ∙ itself n r.page (shown old image n)) ∙ (r.reads blocks good).leaf es node in
     subst (λ ms. Spreads low (leaf_shown n key list) ms high free left) (sym (append_nil (walk xt_scale pages 1 c) ∙ cons_rows xt_scale pages c list fits is)) (unspread low (leaf_shown n key list) high free left rises st.1)
-leaf_spreads blocks list bytes n old new free left (Some s) st image es key low high node good fits rises apart_from =
+leaf_spreads blocks list full bytes n old new free left (Some s) st image es key low high node good fits rises apart_from =
     let p = st.2 in
-    let r = ((p.halved.reads blocks good).leaf es node).0 in
+    let r = ((p.divided.reads blocks good).leaf es node).0 in
     let pages = nodes (xt_node Full blocks) new image in
     let c : Child ℕ = record { key = key; page = n } in
     let taken = taken_last free left s.page st.1 in
@@ -104,8 +104,8 @@ not_here a m t f h l = once_here a m (t + f) (omega (arith, h)) (omega (arith, l
 not_free : (q m t f r x : ℕ) → (x + t) + f ≤ 1 → f ≡ (if q == m then 1 else 0) + r → 0 < t → m ≢ q
 not_free q m t f r x h e l = once_here q m t (omega (arith, h, e)) l
 
-pub inner_spreads : (blocks : ℕ) (list : List Xad) (bytes : List ℕ) (n : ℕ) (old new : List Drafted) (free left : List ℕ) (more : Option (Sibling ℕ)) → Stored list bytes n old new free left more → InnerSpreads blocks list bytes n old new free left more
-inner_spreads blocks list bytes n old new free left None st image cs lower key low high node good some rises once =
+pub inner_spreads : (blocks : ℕ) (list : List Xad) (full : Bool) (bytes : List ℕ) (n : ℕ) (old new : List Drafted) (free left : List ℕ) (more : Option (Sibling ℕ)) → Stored list full bytes n old new free left more → InnerSpreads blocks list bytes n old new free left more
+inner_spreads blocks list full bytes n old new free left None st image cs lower key low high node good some rises once =
     let r = st.2 in
     let before = nodes (xt_node Full blocks) old image in
     let pages = nodes (xt_node Full blocks) new image in
@@ -119,9 +119,9 @@ inner_spreads blocks list bytes n old new free left None st image cs lower key l
     subst (λ ms. Spreads low (inner_shown before (suc lower) n key list) ms high free left)
     (sym (append_nil (walk xt_scale pages (suc (suc lower)) c) ∙ has_walk xt_scale pages lower c all has ∙ ap (λ (ms : Marks ℕ Xad). Key n key ∷ Page n ∷ ms) same))
     (unspread low (inner_shown before (suc lower) n key list) high free left rises st.1)
-inner_spreads blocks list bytes n old new free left (Some s) st image cs lower key low high node good some rises once =
+inner_spreads blocks list full bytes n old new free left (Some s) st image cs lower key low high node good some rises once =
     let p = st.2 in
-    let r = ((p.halved.reads blocks good).inner cs node).0 in
+    let r = ((p.divided.reads blocks good).inner cs node).0 in
     let before = nodes (xt_node Full blocks) old image in
     let pages = nodes (xt_node Full blocks) new image in
     let c : Child ℕ = record { key = key; page = n } in
@@ -149,12 +149,12 @@ inner_spreads blocks list bytes n old new free left (Some s) st image cs lower k
 
 -- ---- as a call's answer has it
 
-pub leaves_spread : (blocks : ℕ) (list : List Xad) (bytes : List ℕ) (n : ℕ) (old new : List Drafted) (free left : List ℕ) (r : Result (Option (Sibling ℕ)) TreeError)
-    → IfOk r (Stored list bytes n old new free left) → IfOk r (LeafSpreads blocks list bytes n old new free left)
-leaves_spread blocks list bytes n old new free left (Ok more) st = leaf_spreads blocks list bytes n old new free left more st
-leaves_spread blocks list bytes n old new free left (Err e) st = tt
+pub leaves_spread : (blocks : ℕ) (list : List Xad) (full : Bool) (bytes : List ℕ) (n : ℕ) (old new : List Drafted) (free left : List ℕ) (r : Result (Option (Sibling ℕ)) TreeError)
+    → IfOk r (Stored list full bytes n old new free left) → IfOk r (LeafSpreads blocks list bytes n old new free left)
+leaves_spread blocks list full bytes n old new free left (Ok more) st = leaf_spreads blocks list full bytes n old new free left more st
+leaves_spread blocks list full bytes n old new free left (Err e) st = tt
 
-pub inners_spread : (blocks : ℕ) (list : List Xad) (bytes : List ℕ) (n : ℕ) (old new : List Drafted) (free left : List ℕ) (r : Result (Option (Sibling ℕ)) TreeError)
-    → IfOk r (Stored list bytes n old new free left) → IfOk r (InnerSpreads blocks list bytes n old new free left)
-inners_spread blocks list bytes n old new free left (Ok more) st = inner_spreads blocks list bytes n old new free left more st
-inners_spread blocks list bytes n old new free left (Err e) st = tt
+pub inners_spread : (blocks : ℕ) (list : List Xad) (full : Bool) (bytes : List ℕ) (n : ℕ) (old new : List Drafted) (free left : List ℕ) (r : Result (Option (Sibling ℕ)) TreeError)
+    → IfOk r (Stored list full bytes n old new free left) → IfOk r (InnerSpreads blocks list bytes n old new free left)
+inners_spread blocks list full bytes n old new free left (Ok more) st = inner_spreads blocks list full bytes n old new free left more st
+inners_spread blocks list full bytes n old new free left (Err e) st = tt

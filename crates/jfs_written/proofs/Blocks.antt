@@ -126,7 +126,7 @@ parts_same (e ∷ es) xs k =
         (from_same (end_of e) k xs m)
 
 -- the parts rise
-parts_rise : (low : ℕ) (es xs : List Xad) → rises_from low es ≡ true → rises_from low xs ≡ true → rises_from low (parts_of es xs) ≡ true
+pub parts_rise : (low : ℕ) (es xs : List Xad) → rises_from low es ≡ true → rises_from low xs ≡ true → rises_from low (parts_of es xs) ≡ true
 parts_rise low [] xs r s = s
 parts_rise low (e ∷ es) xs r s =
     let t = rises_less low e es r in

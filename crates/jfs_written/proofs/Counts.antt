@@ -97,7 +97,7 @@ written_below b x es l =
     ∙ append_nothing (kept_below b (if is_hole x es then joined (kept_below x.offset es) x else kept_below x.offset es ++ x ∷ [])))
     ∙ front_below b (kept_below x.offset es) x (is_hole x es) l ∙ ap length (below_below x.offset b es l)
 
-written_past : (b : ℕ) (x : Xad) (es : List Xad) → end_of x ≤ b → kept_from b (with_written x es) ≡ kept_from b es
+pub written_past : (b : ℕ) (x : Xad) (es : List Xad) → end_of x ≤ b → kept_from b (with_written x es) ≡ kept_from b es
 written_past b x es l =
     let w = ends_after x in
     from_append b (if is_hole x es then joined (kept_below x.offset es) x else kept_below x.offset es ++ x ∷ []) (kept_from (end_of x) es)

@@ -113,7 +113,7 @@ and_both : (s t : Bool) → (s && t) ≡ true → (s ≡ true) × (t ≡ true)
 and_both true t h = (refl, h)
 and_both false t h = absurd cc
 
-sizes : (e x : Xad) → continues e x ≡ true → (e.at.addr + e.at.len ≡ x.at.addr) × (e.at.len + x.at.len < 2 ^ 24)
+pub sizes : (e x : Xad) → continues e x ≡ true → (e.at.addr + e.at.len ≡ x.at.addr) × (e.at.len + x.at.len < 2 ^ 24)
 sizes e x c =
     let a = and_both (is_recorded e) (end_of e == x.offset && (e.at.addr + e.at.len == x.at.addr && nat_lt (e.at.len + x.at.len) (2 ^ 24))) c in
     let b = and_both (end_of e == x.offset) (e.at.addr + e.at.len == x.at.addr && nat_lt (e.at.len + x.at.len) (2 ^ 24)) a.1 in
@@ -123,7 +123,7 @@ sizes e x c =
     less : (a b : ℕ) → nat_lt a b ≡ true → a < b
     less a b h = grind (arith, nat_tests)
 
-long_end : (o n : ℕ) → 1 ≤ n → o + (if n == 0 then 1 else n) ≡ o + n
+pub long_end : (o n : ℕ) → 1 ≤ n → o + (if n == 0 then 1 else n) ≡ o + n
 long_end o n l = grind (arith, nat_tests)
 
 good_below : (blocks b : ℕ) → HoldsBelow b (IsGood blocks)

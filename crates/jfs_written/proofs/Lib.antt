@@ -6,3 +6,4 @@ pub mod Counts
 pub mod Blocks
 pub mod Steps
 pub mod Uncut
+pub mod Balances

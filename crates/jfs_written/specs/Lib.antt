@@ -1,4 +1,5 @@
 -- what a range of blocks that is written makes of a file's extents, and its laws
 pub mod Range
 pub mod RangeLaws
+pub mod Balance
 pub mod Walk

@@ -1,7 +1,8 @@
 //! Laws of a range that is written.
 
-ghost use Rattle.std.specs.Prelude.{List};
+ghost use Rattle.std.specs.Prelude.{ℕ, List};
 ghost use Rattle.jfs_bits.specs.declared.extent.Xad.{Xad};
+ghost use Rattle.jfs_written.specs.Balance.{CutShares, GoneIsCut, WrittenShares, RangeShares};
 ghost use Rattle.jfs_written.specs.RangeLaws.{CutsAtBorders, IsOneWritten, WritesBlockByBlock, WritesEachSide, LeavesOtherSide, IsCutToRanges, RisesStill, BeginsStill, IsGoodStill, LosesNone, AddsFew};
 
 /// Each part into which the list cuts a range lies in one entry or in a hole; a range that is such a part is written as an extent alone is.
@@ -37,4 +38,16 @@ pub fn range_keeps_the_order()
 pub fn range_adds_few()
     ensures least { (xs es : List Xad) → LosesNone xs es }
     ensures most { (xs es : List Xad) → AddsFew xs es }
+{}
+
+/// A cut loses no block of the volume: what stays and what is given back are together what was there.
+pub fn cutting_shares_blocks()
+    ensures kept { (bound : ℕ) (es : List Xad) → CutShares bound es }
+    ensures gone { (bound : ℕ) (es : List Xad) → GoneIsCut bound es }
+{}
+
+/// Writing loses no block of the volume: the written list and what the list had of the written blocks of the file are together the list as it was and what was written.
+pub fn writing_shares_blocks()
+    ensures one { (x : Xad) (es : List Xad) → WrittenShares x es }
+    ensures range { (xs es : List Xad) → RangeShares xs es }
 {}

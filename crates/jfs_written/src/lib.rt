@@ -6,7 +6,8 @@ mod parts;
 mod range;
 
 pub use law::{
-    range_adds_few, range_is_cut_at_borders, range_is_cut_to_ranges,
+    cutting_shares_blocks, range_adds_few, range_is_cut_at_borders, range_is_cut_to_ranges,
     range_is_written_block_by_block, range_is_written_side_by_side, range_keeps_the_order,
+    writing_shares_blocks,
 };
 pub use range::written;

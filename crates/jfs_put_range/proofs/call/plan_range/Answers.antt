@@ -11,9 +11,9 @@ returns-clause-writes g c tells =
     let image = g.V.PageView.image c.args.view.now in
     ok_maps c.tell_steps.result (c.tell_steps.ensures.told tells) c.tell_steps.ensures.rest (λ p told rest.
     writes_range c.blocks-blocks.result blocks c.root_form-form.result image c.args.root.now c.new-draft.result.pages.items (blocks_of c.args.fresh.now) c.in-Ok.stack.items c.blocks-blocks.ensures c.root_form-form.ensures c.new-draft.ensures c.in-Ok.ensures.stack
-    c.as_slice.result.now c.args.xs.now c.put_root.new.root c.put_root.new.draft.pages.items (blocks_of p.fresh) c.put_root.new.stack.items c.args.tx.now p.tx c.as_slice.ensures (c.in_default-put_root.ensures.steps tells)
-    (told_as (g.V.PageView.block_count c.put_root.new.view) blocks (g.V.PageView.image c.put_root.new.view) image c.put_root.new.draft.pages.items c.args.tx.now p.tx c.put_root.ensures.count_of_blocks (c.put_root.ensures.image tells) told)
-    (rest ∙ ap reverse c.as_slice-2.ensures.value))
+    c.as_slice-2.result.now c.args.xs.now c.put_linked.new.root c.put_linked.new.draft.pages.items (blocks_of p.fresh) c.put_linked.new.stack.items c.args.tx.now p.tx c.as_slice-2.ensures (c.in_default-put_linked.ensures.steps tells)
+    (told_as (g.V.PageView.block_count c.put_linked.new.view) blocks (g.V.PageView.image c.put_linked.new.view) image c.put_linked.new.draft.pages.items c.args.tx.now p.tx c.put_linked.ensures.count_of_blocks (c.put_linked.ensures.image tells) told)
+    (rest ∙ ap reverse c.as_slice-3.ensures.value))
 
 pub returns-in-Err-clause-refused : goal.returns-in-Err-clause-refused
 returns-in-Err-clause-refused g c tells =
@@ -26,5 +26,5 @@ returns-clause-thin g c tells =
     let image = g.V.PageView.image c.args.view.now in
     ok_maps c.tell_steps.result (c.tell_steps.ensures.told tells) c.tell_steps.ensures.rest (λ p told rest.
     writes_thick c.blocks-blocks.result blocks c.root_form-form.result image c.args.root.now c.new-draft.result.pages.items (blocks_of c.args.fresh.now) c.in-Ok.stack.items c.blocks-blocks.ensures c.root_form-form.ensures c.new-draft.ensures c.in-Ok.ensures.stack
-    c.as_slice.result.now c.args.xs.now c.put_root.new.root c.put_root.new.draft.pages.items c.put_root.new.stack.items c.args.tx.now p.tx c.as_slice.ensures (c.in_default-put_root.ensures.steps tells) (c.in_default-put_root.ensures.filled tells)
-    (told_as (g.V.PageView.block_count c.put_root.new.view) blocks (g.V.PageView.image c.put_root.new.view) image c.put_root.new.draft.pages.items c.args.tx.now p.tx c.put_root.ensures.count_of_blocks (c.put_root.ensures.image tells) told))
+    c.as_slice-2.result.now c.args.xs.now c.put_linked.new.root c.put_linked.new.draft.pages.items c.put_linked.new.stack.items c.args.tx.now p.tx c.as_slice-2.ensures (c.in_default-put_linked.ensures.steps tells) (c.in_default-put_linked.ensures.filled tells)
+    (told_as (g.V.PageView.block_count c.put_linked.new.view) blocks (g.V.PageView.image c.put_linked.new.view) image c.put_linked.new.draft.pages.items c.args.tx.now p.tx c.put_linked.ensures.count_of_blocks (c.put_linked.ensures.image tells) told))

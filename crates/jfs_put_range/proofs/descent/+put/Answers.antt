@@ -25,7 +25,7 @@ put_below-returns-in-Err-clause-bad g t c tells =
 pub put_below-returns-then-opened-clause-wrote : goal.put_below-returns-then-opened-clause-wrote
 put_below-returns-then-opened-clause-wrote g t c tells =
     let i = g.V.PageView.image c.args.view.now in
-    subst (λ b. IfOk c.put_leaf.result (λ grown. WrotePage b c.args.part.now.xs.items c.args.part.now.left c.args.part.now.right (shown c.args.draft.now.pages.items i) (shown c.put_leaf.new.draft.pages.items i) grown.levels c.args.page grown.sibling c.args.stack.now.items c.put_leaf.new.stack.items))
+    subst (λ b. IfOk c.put_leaf.result (λ grown. WrotePage c.args.part.now.last b c.args.part.now.xs.items c.args.part.now.left c.args.part.now.right (shown c.args.draft.now.pages.items i) (shown c.put_leaf.new.draft.pages.items i) grown.levels c.args.page grown.sibling c.args.stack.now.items c.put_leaf.new.stack.items))
     c.blocks-blocks.ensures (c.put_leaf.ensures.wrote i (c.in-Ok.ensures.bytes tells))
 
 pub put_below-returns-then-opened-clause-bad : goal.put_below-returns-then-opened-clause-bad
@@ -36,7 +36,7 @@ put_below-returns-then-opened-clause-bad g t c tells =
 
 pub put_below-returns-in-Err-put_children-clause-bad : goal.put_below-returns-in-Err-put_children-clause-bad
 put_below-returns-in-Err-put_children-clause-bad g t c tells =
-    inner_fails g.V.PageView.tells (g.V.PageView.block_count c.args.view.now) (g.V.PageView.block_count c.open_page.new.view) c.args.part.now.xs.items c.args.part.now.left c.args.part.now.right c.args.draft.now.pages.items (g.V.PageView.image c.args.view.now) (g.V.PageView.image c.open_page.new.view)
+    inner_fails c.args.part.now.last true g.V.PageView.tells (g.V.PageView.block_count c.args.view.now) (g.V.PageView.block_count c.open_page.new.view) c.args.part.now.xs.items c.args.part.now.left c.args.part.now.right c.args.draft.now.pages.items (g.V.PageView.image c.args.view.now) (g.V.PageView.image c.open_page.new.view)
     c.args.page c.in-Ok.opened.page.0 c.in-Ok.opened.entries.items c.as_slice.result.now c.in-Ok.opened.leaf c.args.stack.now.items (c.in-Ok.ensures.image tells) c.in-Ok.ensures.count_of_blocks c.in-Ok.ensures.opened c.if-opened.false (c.in-Ok.ensures.bytes tells) c.as_slice.ensures.value
     c.args.most (c.args.most - 1) c.in-Err-put_children.e (let h = c.if-most-eq0.false in omega (arith, h)) (c.in-Err-put_children.ensures.bad tells)
 
@@ -45,10 +45,10 @@ put_below-returns-in-Err-put_children-clause-below g t c = λ bound h. (c.in-Err
 
 pub put_below-returns-in-Ok-store-clause-wrote : goal.put_below-returns-in-Ok-store-clause-wrote
 put_below-returns-in-Ok-store-clause-wrote g t c tells =
-    inner_done g.V.PageView.tells (g.V.PageView.block_count c.args.view.now) (g.V.PageView.block_count c.open_page.new.view) c.args.part.now.xs.items c.args.part.now.left c.args.part.now.right c.args.draft.now.pages.items (g.V.PageView.image c.args.view.now) (g.V.PageView.image c.open_page.new.view)
+    inner_done c.args.part.now.last c.starts_new-full.result g.V.PageView.tells (g.V.PageView.block_count c.args.view.now) (g.V.PageView.block_count c.open_page.new.view) c.args.part.now.xs.items c.args.part.now.left c.args.part.now.right c.args.draft.now.pages.items (g.V.PageView.image c.args.view.now) (g.V.PageView.image c.open_page.new.view)
     c.args.page c.in-Ok.opened.page.0 c.in-Ok.opened.entries.items c.as_slice.result.now c.in-Ok.opened.leaf c.args.stack.now.items (c.in-Ok.ensures.image tells) c.in-Ok.ensures.count_of_blocks c.in-Ok.ensures.opened c.if-opened.false (c.in-Ok.ensures.bytes tells) c.as_slice.ensures.value
-    c.put_children.new.draft.pages.items c.store.new.draft.pages.items c.in-Ok-put_children.levels (c.in-Ok-put_children.levels + 1) c.new-list.result.items c.put_children.new.list.items c.as_slice-2.result.now c.put_children.new.stack.items c.store.new.stack.items c.in-Ok-store.sibling
-    tells c.requires.some c.new-list.ensures.items c.as_slice-2.ensures.value refl c.in-Ok-put_children.ensures.front c.in-Ok-store.ensures.front c.in-Ok-put_children.ensures.pushed c.in-Ok-store.ensures.stored c.in-Ok-store.ensures.keeps
+    c.put_children.new.draft.pages.items c.store.new.draft.pages.items c.in-Ok-put_children.levels (c.in-Ok-put_children.levels + 1) c.new-list.result.items c.put_children.new.list.items c.as_slice-4.result.now c.put_children.new.stack.items c.store.new.stack.items c.in-Ok-store.sibling
+    tells c.requires.some c.new-list.ensures.items c.as_slice-4.ensures.value refl c.in-Ok-put_children.ensures.front c.in-Ok-store.ensures.front c.starts_new-full.ensures.last c.in-Ok-put_children.ensures.pushed c.in-Ok-store.ensures.stored c.in-Ok-store.ensures.keeps
 
 pub put_below-returns-in-Ok-store-clause-below : goal.put_below-returns-in-Ok-store-clause-below
 put_below-returns-in-Ok-store-clause-below g t c = λ bound h. c.in-Ok-store.ensures.below bound (c.in-Ok-put_children.ensures.below bound h)
@@ -63,14 +63,14 @@ put_both-put_child-requires g t c κs within =
     let part : IsPart blocks c.in-Ok.cut.head.xs.items = subst (IsPart blocks) (sym c.in-Ok.ensures.below) (part_below blocks c.args.bound c.args.part.now.xs.items (omega (arith, s)) c.requires.part) in
     let range = first_within blocks c.args.child.now c.args.rest.now c.requires.range in
     let fits = first_fits c.args.child.now c.args.rest.now c.requires.fits in
-    let taken = cut_taken c.args.bound c.args.part.now.xs.items c.args.part.now.left c.args.part.now.right c.in-Ok.cut.head c.in-Ok.cut.tail c.args.most c.in-Ok.ensures in
+    let taken = cut_taken c.args.bound c.args.part.now.xs.items c.args.part.now.left c.args.part.now.right c.args.part.now.last c.in-Ok.cut.head c.in-Ok.cut.tail c.args.most c.in-Ok.ensures in
     let held = c.requires.enough in
     let enough : most_taken c.in-Ok.cut.head.xs.items c.in-Ok.cut.head.left c.in-Ok.cut.head.right c.args.most ≤ length c.args.stack.now.items = omega (arith, taken, held) in
     search rules
 
 pub put_both-returns-in-Err-clause-bad : goal.put_both-returns-in-Err-clause-bad
 put_both-returns-in-Err-clause-bad g t c tells =
-    head_refuses (g.V.PageView.block_count c.args.view.now) c.args.part.now.xs.items c.args.part.now.left c.args.part.now.right c.args.top (shown c.args.draft.now.pages.items (g.V.PageView.image c.args.view.now)) c.args.most c.args.bound c.args.child.now c.args.rest.now c.in-Ok.cut.head c.in-Ok.cut.tail
+    head_refuses (g.V.PageView.block_count c.args.view.now) c.args.part.now.xs.items c.args.part.now.left c.args.part.now.right c.args.part.now.last c.args.top (shown c.args.draft.now.pages.items (g.V.PageView.image c.args.view.now)) c.args.most c.args.bound c.args.child.now c.args.rest.now c.in-Ok.cut.head c.in-Ok.cut.tail
     c.args.stack.now.items c.in-Err.e c.in-Ok.ensures c.requires.begins (c.in-Err.ensures.bad tells)
 
 pub put_both-put_children-requires : goal.put_both-put_children-requires
@@ -84,7 +84,7 @@ put_both-put_children-requires g t c κs within =
     let range : all_within now c.args.rest.now ≡ true = subst (λ b. all_within b c.args.rest.now ≡ true) (sym size) (rest_within blocks c.args.child.now c.args.rest.now c.requires.range) in
     let fits = rest_fits c.args.child.now c.args.rest.now c.requires.fits in
     let some = some_begins c.args.bound c.args.rest.now c.requires.begins in
-    let taken = cut_taken c.args.bound c.args.part.now.xs.items c.args.part.now.left c.args.part.now.right c.in-Ok.cut.head c.in-Ok.cut.tail c.args.most c.in-Ok.ensures in
+    let taken = cut_taken c.args.bound c.args.part.now.xs.items c.args.part.now.left c.args.part.now.right c.args.part.now.last c.in-Ok.cut.head c.in-Ok.cut.tail c.args.most c.in-Ok.ensures in
     let held = c.requires.enough in
     let used = c.in-Ok-put_child.ensures.used in
     let enough : most_taken c.in-Ok.cut.tail.xs.items c.in-Ok.cut.tail.left c.in-Ok.cut.tail.right c.args.most ≤ length c.put_child.new.stack.items = omega (arith, taken, held, used) in
@@ -93,10 +93,10 @@ put_both-put_children-requires g t c κs within =
 
 pub put_both-returns-in-Ok-put_children-clause-pushed : goal.put_both-returns-in-Ok-put_children-clause-pushed
 put_both-returns-in-Ok-put_children-clause-pushed g t c =
-    both_pushed g.V.PageView.tells (g.V.PageView.block_count c.args.view.now) c.args.part.now.xs.items c.args.part.now.left c.args.part.now.right c.args.top c.args.draft.now.pages.items c.put_child.new.draft.pages.items (g.V.PageView.image c.args.view.now) (g.V.PageView.image c.put_child.new.view)
+    both_pushed g.V.PageView.tells (g.V.PageView.block_count c.args.view.now) c.args.part.now.xs.items c.args.part.now.left c.args.part.now.right c.args.part.now.last c.args.top c.args.draft.now.pages.items c.put_child.new.draft.pages.items (g.V.PageView.image c.args.view.now) (g.V.PageView.image c.put_child.new.view)
     c.args.bound c.in-Ok-put_child.levels c.args.child.now c.args.rest.now c.args.list.now.items c.put_child.new.list.items c.in-Ok.cut.head c.in-Ok.cut.tail c.args.stack.now.items c.put_child.new.stack.items c.in-Ok.ensures c.requires.begins (λ tells. c.in-Ok-put_child.ensures.image tells) c.in-Ok-put_child.ensures.front
     c.in-Ok-put_child.ensures.pushed c.put_children.new.draft.pages.items c.in-Ok-put_children.levels c.max.result c.put_children.new.list.items c.put_children.new.stack.items c.in-Ok-put_children.ensures.front c.max.ensures
-    (subst (λ b. Pushed g.V.PageView.tells b c.in-Ok.cut.tail.xs.items c.in-Ok.cut.tail.left c.in-Ok.cut.tail.right false (shown c.put_child.new.draft.pages.items (g.V.PageView.image c.put_child.new.view)) (shown c.put_children.new.draft.pages.items (g.V.PageView.image c.put_child.new.view))
+    (subst (λ b. Pushed g.V.PageView.tells c.in-Ok.cut.tail.last b c.in-Ok.cut.tail.xs.items c.in-Ok.cut.tail.left c.in-Ok.cut.tail.right false (shown c.put_child.new.draft.pages.items (g.V.PageView.image c.put_child.new.view)) (shown c.put_children.new.draft.pages.items (g.V.PageView.image c.put_child.new.view))
     c.in-Ok-put_children.levels c.args.rest.now c.put_child.new.list.items c.put_children.new.list.items c.put_child.new.stack.items c.put_children.new.stack.items) c.in-Ok-put_child.ensures.count_of_blocks c.in-Ok-put_children.ensures.pushed)
 
 pub put_both-returns-in-Ok-put_children-clause-below : goal.put_both-returns-in-Ok-put_children-clause-below
@@ -104,7 +104,7 @@ put_both-returns-in-Ok-put_children-clause-below g t c = λ bound h. c.in-Ok-put
 
 pub put_both-returns-clause-bad : goal.put_both-returns-clause-bad
 put_both-returns-clause-bad g t c tells =
-    rest_refuses g.V.PageView.tells (g.V.PageView.block_count c.args.view.now) c.args.part.now.xs.items c.args.part.now.left c.args.part.now.right c.args.top c.args.draft.now.pages.items c.put_child.new.draft.pages.items (g.V.PageView.image c.args.view.now) (g.V.PageView.image c.put_child.new.view)
+    rest_refuses g.V.PageView.tells (g.V.PageView.block_count c.args.view.now) c.args.part.now.xs.items c.args.part.now.left c.args.part.now.right c.args.part.now.last c.args.top c.args.draft.now.pages.items c.put_child.new.draft.pages.items (g.V.PageView.image c.args.view.now) (g.V.PageView.image c.put_child.new.view)
     c.args.bound c.in-Ok-put_child.levels c.args.child.now c.args.rest.now c.args.list.now.items c.put_child.new.list.items c.in-Ok.cut.head c.in-Ok.cut.tail c.args.stack.now.items c.put_child.new.stack.items c.in-Ok.ensures c.requires.begins (λ tells. c.in-Ok-put_child.ensures.image tells) c.in-Ok-put_child.ensures.front
     c.in-Ok-put_child.ensures.pushed c.args.most c.in-Err-put_children.e tells
     (subst (λ b. RefutesChildren b c.in-Ok.cut.tail.xs.items c.in-Ok.cut.tail.left c.in-Ok.cut.tail.right false (shown c.put_child.new.draft.pages.items (g.V.PageView.image c.put_child.new.view)) c.args.most c.args.rest.now c.put_child.new.stack.items c.in-Err-put_children.e)
@@ -115,7 +115,7 @@ put_both-returns-clause-below g t c = λ bound h. c.in-Err-put_children.ensures.
 
 pub put_child-returns-then-is_empty-clause-pushed : goal.put_child-returns-then-is_empty-clause-pushed
 put_child-returns-then-is_empty-clause-pushed g t c =
-    none_done g.V.PageView.tells (g.V.PageView.block_count c.args.view.now) c.args.part.now.xs.items c.args.part.now.left c.args.part.now.right c.args.top (shown c.args.draft.now.pages.items (g.V.PageView.image c.args.view.now)) (c.args.child.now ∷ []) c.args.list.now.items c.push_all.new.list.items c.args.stack.now.items
+    none_done c.args.part.now.last g.V.PageView.tells (g.V.PageView.block_count c.args.view.now) c.args.part.now.xs.items c.args.part.now.left c.args.part.now.right c.args.top (shown c.args.draft.now.pages.items (g.V.PageView.image c.args.view.now)) (c.args.child.now ∷ []) c.args.list.now.items c.push_all.new.list.items c.args.stack.now.items
     c.push_all.result (no_extents c.args.part.now.xs.items (search rules)) (omega arith) (search rules) c.requires.range c.push_all.ensures.pushed c.push_all.ensures.levels
 
 pub put_child-returns-in-Err-clause-below : goal.put_child-returns-in-Err-clause-below
@@ -125,7 +125,7 @@ pub put_child-returns-in-Ok-push_grown-clause-pushed : goal.put_child-returns-in
 put_child-returns-in-Ok-push_grown-clause-pushed g t c =
     let blocks = g.V.PageView.block_count c.args.view.now in
     let inside = (c.in-Ok.ensures.below blocks c.requires.within).1 in
-    child_pushed g.V.PageView.tells blocks c.args.part.now.xs.items c.args.part.now.left c.args.part.now.right c.args.top (shown c.args.draft.now.pages.items (g.V.PageView.image c.args.view.now)) (shown c.put_below.new.draft.pages.items (g.V.PageView.image c.args.view.now)) c.in-Ok.grown.levels c.args.child.now c.in-Ok.grown.sibling
+    child_pushed c.args.part.now.last g.V.PageView.tells blocks c.args.part.now.xs.items c.args.part.now.left c.args.part.now.right c.args.top (shown c.args.draft.now.pages.items (g.V.PageView.image c.args.view.now)) (shown c.put_below.new.draft.pages.items (g.V.PageView.image c.args.view.now)) c.in-Ok.grown.levels c.args.child.now c.in-Ok.grown.sibling
     c.args.list.now.items c.push_grown.new.list.items c.args.stack.now.items c.put_below.new.stack.items (search rules) c.in-Ok.ensures.alone c.requires.range inside c.in-Ok-push_grown.ensures.list
     (grown_fits c.args.top c.args.child.now c.in-Ok.grown.sibling blocks c.requires.fits c.requires.small c.in-Ok.ensures.key inside) c.in-Ok.ensures.wrote
 
@@ -137,7 +137,7 @@ put_child-returns-in-Err-push_grown-clause-below g t c = λ bound h. (c.in-Ok.en
 
 pub put_children-returns-then-is_empty-clause-pushed : goal.put_children-returns-then-is_empty-clause-pushed
 put_children-returns-then-is_empty-clause-pushed g t c =
-    none_done g.V.PageView.tells (g.V.PageView.block_count c.args.view.now) c.args.part.now.xs.items c.args.part.now.left c.args.part.now.right c.args.top (shown c.args.draft.now.pages.items (g.V.PageView.image c.args.view.now)) c.args.entries.now c.args.list.now.items c.push_all.new.list.items c.args.stack.now.items
+    none_done c.args.part.now.last g.V.PageView.tells (g.V.PageView.block_count c.args.view.now) c.args.part.now.xs.items c.args.part.now.left c.args.part.now.right c.args.top (shown c.args.draft.now.pages.items (g.V.PageView.image c.args.view.now)) c.args.entries.now c.args.list.now.items c.push_all.new.list.items c.args.stack.now.items
     c.push_all.result (no_extents c.args.part.now.xs.items (search rules)) c.requires.some c.requires.fits c.requires.range c.push_all.ensures.pushed c.push_all.ensures.levels
 
 pub put_from-put_both-requires : goal.put_from-put_both-requires
@@ -162,7 +162,7 @@ put_children-put_from-requires g t c κs within =
 pub put_children-returns-clause-pushed : goal.put_children-returns-clause-pushed
 put_children-returns-clause-pushed g t c =
     let i = g.V.PageView.image c.args.view.now in
-    skip_all g.V.PageView.tells (g.V.PageView.block_count c.args.view.now) c.first_block.result c.args.part.now.xs.items c.args.part.now.left c.args.part.now.right c.args.top c.is_first.result (shown c.args.draft.now.pages.items i) c.args.entries.now c.split_at.result.0.now c.split_at.result.1.now c.children_before.result c.args.stack.now.items
+    skip_all c.args.part.now.last g.V.PageView.tells (g.V.PageView.block_count c.args.view.now) c.first_block.result c.args.part.now.xs.items c.args.part.now.left c.args.part.now.right c.args.top c.is_first.result (shown c.args.draft.now.pages.items i) c.args.entries.now c.split_at.result.0.now c.split_at.result.1.now c.children_before.result c.args.stack.now.items
     c.split_at.ensures.front c.split_at.ensures.back c.is_first.ensures c.first_block.ensures c.requires.part.range.rises
     (λ some. subst (BeginsBy c.first_block.result) (sym c.split_at.ensures.back) (c.children_before.ensures.begins (let n = c.split_at.ensures.front_len in omega (arith, some, n))))
     (shown c.put_from.new.draft.pages.items i) c.args.list.now.items c.push_all-2.new.list.items c.put_from.new.list.items c.put_from.new.stack.items c.put_from.result (λ m. fewer_taken m c.args.stack.now.items c.put_from.new.stack.items c.put_from.ensures.front)
@@ -171,7 +171,7 @@ put_children-returns-clause-pushed g t c =
 pub put_children-returns-clause-bad : goal.put_children-returns-clause-bad
 put_children-returns-clause-bad g t c tells =
     let i = g.V.PageView.image c.args.view.now in
-    skip_errs g.V.PageView.tells (g.V.PageView.block_count c.args.view.now) c.first_block.result c.args.part.now.xs.items c.args.part.now.left c.args.part.now.right c.args.top c.is_first.result (shown c.args.draft.now.pages.items i) c.args.entries.now c.split_at.result.0.now c.split_at.result.1.now c.children_before.result c.args.stack.now.items
+    skip_errs c.args.part.now.last g.V.PageView.tells (g.V.PageView.block_count c.args.view.now) c.first_block.result c.args.part.now.xs.items c.args.part.now.left c.args.part.now.right c.args.top c.is_first.result (shown c.args.draft.now.pages.items i) c.args.entries.now c.split_at.result.0.now c.split_at.result.1.now c.children_before.result c.args.stack.now.items
     c.split_at.ensures.front c.split_at.ensures.back c.is_first.ensures c.first_block.ensures c.requires.part.range.rises
     (λ some. subst (BeginsBy c.first_block.result) (sym c.split_at.ensures.back) (c.children_before.ensures.begins (let n = c.split_at.ensures.front_len in omega (arith, some, n))))
     c.args.most c.put_from.result (subst (λ ys. 0 < length ys) (sym c.split_at.ensures.back) (drop_some c.children_before.result c.args.entries.now c.children_before.ensures.within)) (c.put_from.ensures.bad tells)

@@ -21,17 +21,17 @@ returns-then-not-part-2-clause-bad c = λ image most read.
 
 pub store-requires-clause-most : goal.store-requires-clause-most
 store-requires-clause-most c =
-    subst (λ ys. length ys ≤ 508) (sym (list_done c.as_slice-3.result.now c.in-Ok.list.items c.as_slice-2.result.now c.as_slice.result.now c.args.part.now.xs.items c.args.opened.entries.items c.as_slice-3.ensures.value c.in-Ok.ensures c.as_slice-2.ensures.value c.as_slice.ensures.value))
+    subst (λ ys. length ys ≤ 508) (sym (list_done c.as_slice-5.result.now c.in-Ok.list.items c.as_slice-2.result.now c.as_slice.result.now c.args.part.now.xs.items c.args.opened.entries.items c.as_slice-5.ensures.value c.in-Ok.ensures c.as_slice-2.ensures.value c.as_slice.ensures.value))
     (leaf_few c.args.blocks c.args.part.now.xs.items c.args.opened.entries.items c.requires.part c.requires.opened.order c.requires.opened.few)
 
 pub store-requires-clause-fits : goal.store-requires-clause-fits
 store-requires-clause-fits c =
-    subst (All FitsXad) (sym (list_done c.as_slice-3.result.now c.in-Ok.list.items c.as_slice-2.result.now c.as_slice.result.now c.args.part.now.xs.items c.args.opened.entries.items c.as_slice-3.ensures.value c.in-Ok.ensures c.as_slice-2.ensures.value c.as_slice.ensures.value))
+    subst (All FitsXad) (sym (list_done c.as_slice-5.result.now c.in-Ok.list.items c.as_slice-2.result.now c.as_slice.result.now c.args.part.now.xs.items c.args.opened.entries.items c.as_slice-5.ensures.value c.in-Ok.ensures c.as_slice-2.ensures.value c.as_slice.ensures.value))
     (leaf_list c.args.blocks c.args.part.now.xs.items c.args.opened.entries.items (let s = c.requires.small in omega (arith, s)) c.requires.part c.requires.opened.order c.requires.opened.range c.requires.opened.fits).1
 
 pub returns-in-Ok-store-clause-wrote : goal.returns-in-Ok-store-clause-wrote
 returns-in-Ok-store-clause-wrote c = λ image read.
-    leaf_wrote c.args.blocks c.args.part.now.xs.items c.args.opened.entries.items c.as_slice-3.result.now c.args.part.now.left c.args.part.now.right c.args.draft.now.pages.items c.store.new.draft.pages.items image c.args.n c.args.opened.page.0 c.args.stack.now.items c.store.new.stack.items c.in-Ok-store.sibling
+    leaf_wrote c.args.part.now.last c.starts_new-full.result c.args.blocks c.args.part.now.xs.items c.args.opened.entries.items c.as_slice-5.result.now c.args.part.now.left c.args.part.now.right c.args.draft.now.pages.items c.store.new.draft.pages.items image c.args.n c.args.opened.page.0 c.args.stack.now.items c.store.new.stack.items c.in-Ok-store.sibling
     (let s = c.requires.small in omega (arith, s)) c.requires.opened c.requires.part
-    (list_done c.as_slice-3.result.now c.in-Ok.list.items c.as_slice-2.result.now c.as_slice.result.now c.args.part.now.xs.items c.args.opened.entries.items c.as_slice-3.ensures.value c.in-Ok.ensures c.as_slice-2.ensures.value c.as_slice.ensures.value)
-    read c.in-Ok-store.ensures.stored c.in-Ok-store.ensures.keeps
+    (list_done c.as_slice-5.result.now c.in-Ok.list.items c.as_slice-2.result.now c.as_slice.result.now c.args.part.now.xs.items c.args.opened.entries.items c.as_slice-5.ensures.value c.in-Ok.ensures c.as_slice-2.ensures.value c.as_slice.ensures.value)
+    read c.starts_new-full.ensures.last c.in-Ok-store.ensures.stored c.in-Ok-store.ensures.keeps

@@ -8,9 +8,9 @@ put_children-requires-clause-some g c = c.requires.opened.some refl
 pub returns-in-Ok-put_children-clause-steps : goal.returns-in-Ok-put_children-clause-steps
 returns-in-Ok-put_children-clause-steps g c tells =
     pushed_steps c.args.top.now.form c.args.top.now.blocks (g.V.PageView.image c.args.view.now) c.args.xs.now c.args.entries.now c.args.root.now c.store_root.new.root c.requires.forms.1 c.requires.range (let s = c.requires.small in omega (arith, s))
-    g.V.PageView.tells (g.V.PageView.block_count c.args.view.now) c.in-Ok.part.xs.items c.in-Ok.part.left c.in-Ok.part.right c.new-list.result.items c.put_children.new.list.items c.as_slice.result.now
+    c.in-Ok.part.last g.V.PageView.tells (g.V.PageView.block_count c.args.view.now) c.in-Ok.part.xs.items c.in-Ok.part.left c.in-Ok.part.right c.new-list.result.items c.put_children.new.list.items c.as_slice.result.now
     c.args.draft.now.pages.items c.put_children.new.draft.pages.items c.store_root.new.draft.pages.items c.in-Ok-put_children.levels c.args.stack.now.items c.put_children.new.stack.items c.store_root.new.stack.items c.store_root.result
-    c.requires.forms.0 c.in-Ok.ensures.0 c.in-Ok.ensures.1 c.in-Ok.ensures.2 c.new-list.ensures.items c.as_slice.ensures.value tells c.requires.opened c.requires.within c.put_children.ensures.front c.store_root.ensures.front
+    c.requires.forms.0 c.in-Ok.ensures.0 c.in-Ok.ensures.1 c.in-Ok.ensures.2 c.in-Ok.ensures.3 c.new-list.ensures.items c.as_slice.ensures.value tells c.requires.opened c.requires.within c.put_children.ensures.front c.store_root.ensures.front
     c.in-Ok-put_children.ensures.pushed c.store_root.ensures.settled c.store_root.ensures.keeps
 
 pub returns-clause-refuses : goal.returns-clause-refuses
@@ -22,14 +22,14 @@ returns-clause-refuses g c tells =
 pub returns-in-Ok-put_children-clause-refuses : goal.returns-in-Ok-put_children-clause-refuses
 returns-in-Ok-put_children-clause-refuses g c tells =
     pushed_full c.args.top.now.form c.args.top.now.blocks (g.V.PageView.image c.args.view.now) c.args.xs.now c.args.entries.now c.args.root.now c.store_root.new.root c.requires.forms.1 c.requires.range (let s = c.requires.small in omega (arith, s))
-    g.V.PageView.tells (g.V.PageView.block_count c.args.view.now) c.in-Ok.part.xs.items c.in-Ok.part.left c.in-Ok.part.right c.new-list.result.items c.put_children.new.list.items c.as_slice.result.now
+    c.in-Ok.part.last g.V.PageView.tells (g.V.PageView.block_count c.args.view.now) c.in-Ok.part.xs.items c.in-Ok.part.left c.in-Ok.part.right c.new-list.result.items c.put_children.new.list.items c.as_slice.result.now
     c.args.draft.now.pages.items c.put_children.new.draft.pages.items c.store_root.new.draft.pages.items c.in-Ok-put_children.levels c.args.stack.now.items c.put_children.new.stack.items c.store_root.new.stack.items c.store_root.result
-    c.requires.forms.0 c.in-Ok.ensures.0 c.in-Ok.ensures.1 c.in-Ok.ensures.2 c.new-list.ensures.items c.as_slice.ensures.value tells c.requires.opened c.requires.within c.put_children.ensures.front c.in-Ok-put_children.ensures.pushed c.store_root.ensures.stored
+    c.requires.forms.0 c.in-Ok.ensures.0 c.in-Ok.ensures.1 c.in-Ok.ensures.2 c.in-Ok.ensures.3 c.new-list.ensures.items c.as_slice.ensures.value tells c.requires.opened c.requires.within c.put_children.ensures.front c.in-Ok-put_children.ensures.pushed c.store_root.ensures.stored
 
 pub returns-in-Ok-put_children-clause-filled : goal.returns-in-Ok-put_children-clause-filled
 returns-in-Ok-put_children-clause-filled g c tells =
     pushed_fills c.args.top.now.form c.args.top.now.blocks (g.V.PageView.image c.args.view.now) c.args.xs.now c.args.entries.now c.args.root.now c.store_root.new.root c.requires.forms.1 c.requires.range (let s = c.requires.small in omega (arith, s))
-    g.V.PageView.tells (g.V.PageView.block_count c.args.view.now) c.in-Ok.part.xs.items c.in-Ok.part.left c.in-Ok.part.right c.new-list.result.items c.put_children.new.list.items c.as_slice.result.now
+    c.in-Ok.part.last g.V.PageView.tells (g.V.PageView.block_count c.args.view.now) c.in-Ok.part.xs.items c.in-Ok.part.left c.in-Ok.part.right c.new-list.result.items c.put_children.new.list.items c.as_slice.result.now
     c.args.draft.now.pages.items c.put_children.new.draft.pages.items c.store_root.new.draft.pages.items c.in-Ok-put_children.levels c.args.stack.now.items c.put_children.new.stack.items c.store_root.new.stack.items c.store_root.result
-    c.requires.forms.0 c.in-Ok.ensures.0 c.in-Ok.ensures.1 c.in-Ok.ensures.2 c.new-list.ensures.items c.as_slice.ensures.value tells c.requires.opened c.requires.within c.put_children.ensures.front c.store_root.ensures.front
+    c.requires.forms.0 c.in-Ok.ensures.0 c.in-Ok.ensures.1 c.in-Ok.ensures.2 c.in-Ok.ensures.3 c.new-list.ensures.items c.as_slice.ensures.value tells c.requires.opened c.requires.within c.put_children.ensures.front c.store_root.ensures.front
     c.in-Ok-put_children.ensures.pushed c.store_root.ensures.settled c.store_root.ensures.keeps

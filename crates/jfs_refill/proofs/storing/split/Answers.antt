@@ -8,7 +8,7 @@ returns-in_err-put_two-clause-below c = λ bound h. let b = below_popped bound c
 
 pub returns-clause-keeps : goal.returns-clause-keeps
 returns-clause-keeps c =
-    two_off c.args.draft.now.pages.items c.put_two.new.draft.pages.items c.args.n c.in-Some.q c.halve-key.new.bytes c.halve-key.new.second c.args.stack.now.items c.pop.new.self.items c.in_ok-put_two.ensures.puts c.in-Some.ensures.items
+    two_off c.args.draft.now.pages.items c.put_two.new.draft.pages.items c.args.n c.in-Some.q c.divide-key.new.bytes c.divide-key.new.second c.args.stack.now.items c.pop.new.self.items c.in_ok-put_two.ensures.puts c.in-Some.ensures.items
 
 pub returns-clause-below : goal.returns-clause-below
 returns-clause-below c = λ bound h. below_popped bound c.in-Some.q c.args.stack.now.items c.pop.new.self.items c.in-Some.ensures.items h
