@@ -8,7 +8,7 @@ ghost use Rattle.jfs_tree.specs.Form.{AllBelow, IsFront};
 ghost use Rattle.jfs_tree.specs.Linking.{LinksTree};
 ghost use Rattle.jfs_xtpage.specs.Page.{bytes_of};
 ghost use Rattle.jfs_xtpage.specs.declared.head.XtForm.TheVariants.{Full};
-ghost use Rattle.jfs_xtree.specs.Node.{xt_node, IsRoot};
+ghost use Rattle.jfs_xtree.specs.Node.{xt_node, frame_of, IsRoot};
 ghost use Rattle.jfs_put_range.specs.Call.{IsShortRange};
 ghost use Rattle.jfs_put_range.specs.Tops.{StepsRange, FillsRange, RefusesRange};
 
@@ -74,7 +74,7 @@ fn link_ends<V: PageView>(
     ensures count_of_blocks { V.PageView.block_count view.new ≡ V.PageView.block_count view.old }
     ensures device { V.PageView.device view.new ≡ V.PageView.device view.old }
     ensures fault { CarriesFault (V.PageView.faults view.old) (V.PageView.faults view.new) result }
-    ensures links { V.PageView.tells → OnOk result (LinksTree (xt_node Full top.now.blocks) (V.PageView.image view.old) draft.old.pages.items draft.new.pages.items (xt_node top.now.form top.now.blocks root.now)) }
+    ensures links { V.PageView.tells → OnOk result (LinksTree (xt_node Full top.now.blocks) (frame_of Full) (V.PageView.image view.old) draft.old.pages.items draft.new.pages.items (xt_node top.now.form top.now.blocks root.now)) }
     ensures cause { IfErr result IsRead }
 {
     let form = XtPages {
