@@ -17,4 +17,5 @@ pub mod Refuted
 pub mod Finishing
 pub mod Skipped
 pub mod Links
+pub mod RootNames
 pub mod Wayside

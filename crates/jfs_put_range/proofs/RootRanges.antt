@@ -51,7 +51,7 @@ below_left b left all front h = front_below b left front.0 (subst (AllBelow b) f
 abbrev pub SettlesAlways : ℕ → List Xad → List ℕ → List ℕ → List Drafted → List Drafted → List ℕ → List ℕ → Result (Unit {0}) TreeError → Type 0
 SettlesAlways levels list root after old new free left result = (form : XtForm) (blocks : ℕ) → IsRoot form → AllBelow blocks free → IsList blocks list → OnOk result (SettlesList form blocks levels list root after old new free left)
 
-two_taken : (xs : List Xad) (left right : Bool) → most_taken xs left right 1 ≤ 2
+pub two_taken : (xs : List Xad) (left right : Bool) → most_taken xs left right 1 ≤ 2
 two_taken [] left right = omega arith
 two_taken (x ∷ xs) true true = omega arith
 two_taken (x ∷ xs) true false = omega arith

@@ -7,6 +7,7 @@ use Rattle.jfs_tree.specs.Walk.{Child, Node, Leaf, Inner, Broken, Marks, Rises, 
 use Rattle.jfs_tree.specs.Levels.{InLine, IsFilled}
 use Rattle.jfs_tree.specs.Path.{below_root}
 use Rattle.jfs_tree.specs.Edit.{count_in}
+use Rattle.jfs_tree.specs.Spells.{no_page}
 use Rattle.jfs_tree.specs.Form.{AllBelow, children_of}
 use Rattle.jfs_tree.specs.declared.form.Sibling.{Sibling}
 use Rattle.jfs_tree.specs.declared.form.TreeError.{TreeError}
@@ -167,6 +168,12 @@ pub record Cuts (bound : ℕ) (xs : List Xad) (left right last : Bool) (head tai
 -- where each free page is below the bound, each that is left is, and so is the new one
 abbrev pub GrownBelow : List ℕ → List ℕ → Result Grown TreeError → Type 0
 GrownBelow free rest result = (bound : ℕ) → AllBelow bound free → AllBelow bound rest × IfOk result (λ grown. IfSome grown.sibling (λ s. s.page < bound))
+
+-- a page below the root is named, or none
+abbrev pub NamesBelow : TreeError → Type 0
+NamesBelow (View e) = Unit {0}
+NamesBelow (Bad bad rule) = bad < no_page
+NamesBelow Memory = Unit {0}
 
 -- no page had to be read
 abbrev pub NoView : TreeError → Type 0

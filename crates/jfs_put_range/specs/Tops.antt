@@ -1,5 +1,5 @@
 -- Parts of the call at the root, for the prover alone.
-use Rattle.std.specs.Prelude.{◌≡◌, ◌<◌, ◌≤◌, ◌+◌, ℕ, Bool, true, false, if◌then◌else◌, List, map, length, Ok}
+use Rattle.std.specs.Prelude.{◌≡◌, ◌⊎◌, ◌<◌, ◌≤◌, ◌+◌, ℕ, Bool, true, false, if◌then◌else◌, List, map, length, Ok}
 use Rattle.std.specs.List.{All}
 use Rattle.jfs_bits.specs.declared.extent.Xad.{Xad}
 use Rattle.jfs_bits.specs.Extent.{FitsXad}
@@ -16,7 +16,7 @@ use Rattle.jfs_xtpage.specs.Page.{head_of, rises_from, IsLaidOut}
 use Rattle.jfs_xtree.specs.Node.{xt_scale, xt_node, all_within, child_of}
 use Rattle.jfs_xtree.specs.WriteParts.{StepsTo, drafted}
 use Rattle.jfs_written.specs.Range.{with_range}
-use Rattle.jfs_put_range.specs.Call.{IsNinth}
+use Rattle.jfs_put_range.specs.Call.{IsNinth, LacksTwo}
 
 -- a leaf, or an inner page
 abbrev pub IsOfKind : Bool → Node ℕ Xad → Type 0
@@ -40,6 +40,12 @@ abbrev pub BreaksRoot : Node ℕ Xad → TreeError → Type 0
 BreaksRoot root (View e) = ⊥
 BreaksRoot root (Bad bad rule) = (bad ≡ no_page) × (root ≡ Broken rule)
 BreaksRoot root Memory = Unit {0}
+
+-- the root is named only where it breaks a rule, or has fewer than two free slots
+abbrev pub NamesRoot : Node ℕ Xad → List ℕ → TreeError → Type 0
+NamesRoot node root (View e) = Unit {0}
+NamesRoot node root (Bad bad rule) = bad ≡ no_page → (node ≡ Broken rule) ⊎ LacksTwo root
+NamesRoot node root Memory = Unit {0}
 
 -- from the root down, each page but the last of its level has at least 64 entries
 abbrev pub AreFilled : (ℕ → Node ℕ Xad) → Type 0

@@ -10,6 +10,7 @@ use Rattle.jfs_xtpage.specs.Page.{end_of}
 use Rattle.jfs_xtree.specs.declared.error.XtError.{XtError}
 use Rattle.jfs_xtree.specs.declared.error.XtError.TheVariants.{View, Bad}
 use Rattle.jfs_ways.specs.Along.{broken_along}
+use Rattle.jfs_put_range.specs.Call.{LacksTwo}
 
 abbrev pub offset_of : Option Xad → ℕ
 offset_of None = 0
@@ -30,12 +31,13 @@ end_of_all xs = end_after (slice_get xs (length xs - 1))
 abbrev pub broken_on_range : ℕ → (ℕ → List ℕ) → List ℕ → List Xad → Option (ℕ × Rule)
 broken_on_range blocks pages root xs = broken_along blocks pages root (first_of xs) (end_of_all xs - first_of xs)
 
--- A page is named where it is the first one on the range's way that breaks a rule by itself, with that rule; or where none does, a page with rule `order`, and the root with rule `deep`.
+-- A page is named where it is the first one on the range's way that breaks a rule by itself, with that rule; or where none does, a page with rule `order`, and the root with rule `deep`,
+-- which has fewer than two free slots then.
 -- Where the range was written, none on its way breaks a rule.
-abbrev pub RangeTellsWay : Option (ℕ × Rule) → Result (Unit {0}) XtError → Type 0
-RangeTellsWay first (Ok it) = first ≡ None
-RangeTellsWay first (Err (View e)) = Unit {0}
-RangeTellsWay first (Err (Bad page rule)) = (first ≡ Some (page, rule)) ⊎ ((first ≡ None) × ((rule ≡ rules.Order) ⊎ ((page ≡ no_page) × (rule ≡ rules.Deep))))
+abbrev pub RangeTellsWay : Option (ℕ × Rule) → List ℕ → Result (Unit {0}) XtError → Type 0
+RangeTellsWay first root (Ok it) = first ≡ None
+RangeTellsWay first root (Err (View e)) = Unit {0}
+RangeTellsWay first root (Err (Bad page rule)) = (first ≡ Some (page, rule)) ⊎ ((first ≡ None) × ((rule ≡ rules.Order) ⊎ ((page ≡ no_page) × (rule ≡ rules.Deep) × LacksTwo root)))
 
 -- what an error of pages that break no rule by themselves means
 abbrev pub as_clash : TreeError → TreeError

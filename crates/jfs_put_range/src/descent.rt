@@ -7,7 +7,7 @@ ghost use Rattle.jfs_tree.specs.Call.{CarriesFault};
 ghost use Rattle.jfs_tree.specs.Draft.{shown};
 ghost use Rattle.jfs_tree.specs.Form.{AllBelow, IsFront};
 ghost use Rattle.jfs_xtree.specs.Node.{all_within, BeginsAt};
-ghost use Rattle.jfs_put_range.specs.Parts.{IsPart, WrotePage, RefutesPage, RefutesChildren, Pushed, GrownBelow, most_taken};
+ghost use Rattle.jfs_put_range.specs.Parts.{IsPart, WrotePage, RefutesPage, RefutesChildren, Pushed, GrownBelow, NamesBelow, most_taken};
 
 use crate::full::starts_new;
 use crate::leaf::{Grown, put_leaf};
@@ -45,6 +45,7 @@ pub(crate) fn put_below<V: PageView>(
         (shown draft.old.pages.items (V.PageView.image view.old)) (shown draft.new.pages.items (V.PageView.image view.old)) grown.levels page grown.sibling stack.old.items stack.new.items) }
     ensures bad { V.PageView.tells → IfErr result (λ e. RefutesPage (V.PageView.block_count view.old) part.now.xs.items part.now.left part.now.right
         (shown draft.old.pages.items (V.PageView.image view.old)) most page stack.old.items e) }
+    ensures named { IfErr result NamesBelow }
     ensures levels { IfOk result (λ grown. grown.levels ≤ most) }
     ensures alone { part.now.left ≡ false → part.now.right ≡ false → IfOk result (λ grown. grown.sibling ≡ None) }
     ensures used { OnOk result (length stack.old.items ≤ length stack.new.items + most_taken part.now.xs.items part.now.left part.now.right most) }
@@ -120,6 +121,7 @@ pub(crate) fn put_children<V: PageView>(
         (shown draft.old.pages.items (V.PageView.image view.old)) (shown draft.new.pages.items (V.PageView.image view.old)) levels entries.now list.old.items list.new.items stack.old.items stack.new.items) }
     ensures bad { V.PageView.tells → IfErr result (λ e. RefutesChildren (V.PageView.block_count view.old) part.now.xs.items part.now.left part.now.right top
         (shown draft.old.pages.items (V.PageView.image view.old)) most entries.now stack.old.items e) }
+    ensures named { IfErr result NamesBelow }
     ensures levels { IfOk result (λ levels. levels ≤ most) }
     ensures used { OnOk result (length stack.old.items ≤ length stack.new.items + most_taken part.now.xs.items part.now.left part.now.right most) }
     ensures below { (bound : ℕ) → AllBelow bound stack.old.items → AllBelow bound stack.new.items }
@@ -173,6 +175,7 @@ fn put_from<V: PageView>(
         (shown draft.old.pages.items (V.PageView.image view.old)) (shown draft.new.pages.items (V.PageView.image view.old)) levels entries.now list.old.items list.new.items stack.old.items stack.new.items) }
     ensures bad { V.PageView.tells → IfErr result (λ e. RefutesChildren (V.PageView.block_count view.old) part.now.xs.items part.now.left part.now.right top
         (shown draft.old.pages.items (V.PageView.image view.old)) most entries.now stack.old.items e) }
+    ensures named { IfErr result NamesBelow }
     ensures levels { IfOk result (λ levels. levels ≤ most) }
     ensures used { OnOk result (length stack.old.items ≤ length stack.new.items + most_taken part.now.xs.items part.now.left part.now.right most) }
     ensures below { (bound : ℕ) → AllBelow bound stack.old.items → AllBelow bound stack.new.items }
@@ -229,6 +232,7 @@ fn put_both<V: PageView>(
         (shown draft.old.pages.items (V.PageView.image view.old)) (shown draft.new.pages.items (V.PageView.image view.old)) levels (child.now ∷ rest.now) list.old.items list.new.items stack.old.items stack.new.items) }
     ensures bad { V.PageView.tells → IfErr result (λ e. RefutesChildren (V.PageView.block_count view.old) part.now.xs.items part.now.left part.now.right top
         (shown draft.old.pages.items (V.PageView.image view.old)) most (child.now ∷ rest.now) stack.old.items e) }
+    ensures named { IfErr result NamesBelow }
     ensures levels { IfOk result (λ levels. levels ≤ most) }
     ensures used { OnOk result (length stack.old.items ≤ length stack.new.items + most_taken part.now.xs.items part.now.left part.now.right most) }
     ensures below { (bound : ℕ) → AllBelow bound stack.old.items → AllBelow bound stack.new.items }
@@ -276,6 +280,7 @@ fn put_child<V: PageView>(
         (shown draft.old.pages.items (V.PageView.image view.old)) (shown draft.new.pages.items (V.PageView.image view.old)) levels (child.now ∷ []) list.old.items list.new.items stack.old.items stack.new.items) }
     ensures bad { V.PageView.tells → IfErr result (λ e. RefutesChildren (V.PageView.block_count view.old) part.now.xs.items part.now.left part.now.right top
         (shown draft.old.pages.items (V.PageView.image view.old)) most (child.now ∷ []) stack.old.items e) }
+    ensures named { IfErr result NamesBelow }
     ensures levels { IfOk result (λ levels. levels ≤ most) }
     ensures used { OnOk result (length stack.old.items ≤ length stack.new.items + most_taken part.now.xs.items part.now.left part.now.right most) }
     ensures below { (bound : ℕ) → AllBelow bound stack.old.items → AllBelow bound stack.new.items }

@@ -5,7 +5,8 @@ ghost use Rattle.jfs_disk.specs.Image.{Image};
 ghost use Rattle.jfs_tree.specs.Call.{StaysOff};
 ghost use Rattle.jfs_tree.specs.Draft.{shown};
 ghost use Rattle.jfs_tree.specs.Form.{AllBelow, IsFront};
-ghost use Rattle.jfs_put_range.specs.Parts.{IsOpened, IsPart, WrotePage, RefutesPage, GrownBelow, NoView, most_taken};
+ghost use Rattle.jfs_tree.specs.Spells.{no_page};
+ghost use Rattle.jfs_put_range.specs.Parts.{IsOpened, IsPart, WrotePage, RefutesPage, GrownBelow, NamesBelow, NoView, most_taken};
 
 use crate::full::starts_new;
 use crate::open::Opened;
@@ -38,6 +39,7 @@ pub(crate) fn put_leaf(
     requires some { 0 < length part.now.xs.items }
     requires enough { most_taken part.now.xs.items part.now.left part.now.right 1 ≤ length stack.old.items }
     requires small { blocks < 2 ^ 40 }
+    requires page { n < no_page }
     requires below { AllBelow blocks stack.old.items }
     ensures wrote { (image : Image) → opened.page.0 ≡ shown draft.old.pages.items image n → IfOk result (λ grown. WrotePage part.now.last blocks part.now.xs.items part.now.left part.now.right
         (shown draft.old.pages.items image) (shown draft.new.pages.items image) grown.levels n grown.sibling stack.old.items stack.new.items) }
@@ -48,6 +50,7 @@ pub(crate) fn put_leaf(
     ensures below { GrownBelow stack.old.items stack.new.items result }
     ensures front { IsFront stack.new.items stack.old.items }
     ensures key { IfOk result (λ grown. IfSome grown.sibling (λ s. s.key < 2 ^ 40)) }
+    ensures named { IfErr result NamesBelow }
     ensures cause { IfErr result (λ e. NoView e) }
 {
     let Ok(list) = written(alloc, opened.entries.as_slice(), part.xs.as_slice()) else {

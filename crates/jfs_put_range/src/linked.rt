@@ -8,9 +8,9 @@ ghost use Rattle.jfs_tree.specs.Form.{AllBelow, IsFront};
 ghost use Rattle.jfs_tree.specs.Linking.{LinksTree};
 ghost use Rattle.jfs_xtpage.specs.Page.{bytes_of};
 ghost use Rattle.jfs_xtpage.specs.declared.head.XtForm.TheVariants.{Full};
-ghost use Rattle.jfs_xtree.specs.Node.{xt_node, frame_of, IsRoot};
+ghost use Rattle.jfs_xtree.specs.Node.{xt_node, frame_of, IsRoot, KeepsFrame};
 ghost use Rattle.jfs_put_range.specs.Call.{IsShortRange};
-ghost use Rattle.jfs_put_range.specs.Tops.{StepsRange, FillsRange, RefusesRange};
+ghost use Rattle.jfs_put_range.specs.Tops.{StepsRange, FillsRange, RefusesRange, NamesRoot};
 
 use crate::root::put_root;
 use jfs_bits::{Pxd, Xad};
@@ -47,6 +47,8 @@ pub(crate) fn put_linked<V: PageView>(
     ensures refuses { V.PageView.tells → IfErr result (λ e. RefusesRange top.now.form top.now.blocks (V.PageView.image view.old) root.old draft.old.pages.items stack.old.items e) }
     ensures used { OnOk result (length stack.old.items ≤ length stack.new.items + 15) }
     ensures front { IsFront stack.new.items stack.old.items }
+    ensures frame { KeepsFrame root.old root.new }
+    ensures named { IfErr result (NamesRoot (xt_node top.now.form top.now.blocks root.old) root.old) }
 {
     match put_root(alloc, top, view, draft, stack, root, xs) {
         Ok(()) => {}

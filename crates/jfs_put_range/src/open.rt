@@ -1,11 +1,11 @@
 //! A page below a root that is read with its entries.
 
-ghost use Rattle.std.specs.Prelude.{◌≡◌, ◌<◌, IfOk, IfErr};
+ghost use Rattle.std.specs.Prelude.{◌≡◌, ◌<◌, ◌^◌, IfOk, IfErr};
 ghost use Rattle.jfs_tree.specs.Call.{CarriesFault};
 ghost use Rattle.jfs_tree.specs.Draft.{shown};
 ghost use Rattle.jfs_xtpage.specs.declared.head.XtForm.TheVariants.{Full};
 ghost use Rattle.jfs_xtree.specs.Node.{xt_node};
-ghost use Rattle.jfs_put_range.specs.Parts.{IsKind, IsOpened, BreaksRule};
+ghost use Rattle.jfs_put_range.specs.Parts.{IsKind, IsOpened, BreaksRule, NamesBelow};
 
 use jfs_bits::{Rule, Xad};
 use jfs_disk::Page;
@@ -32,11 +32,13 @@ pub(crate) fn open_page<V: PageView>(
     n: u32,
 ) -> Result<Opened, TreeError>
     requires page { n < V.PageView.block_count view.old }
+    requires small { V.PageView.block_count view.old < 2 ^ 32 }
     ensures image { V.PageView.tells → V.PageView.image view.new ≡ V.PageView.image view.old }
     ensures count_of_blocks { V.PageView.block_count view.new ≡ V.PageView.block_count view.old }
     ensures device { V.PageView.device view.new ≡ V.PageView.device view.old }
     ensures fault { CarriesFault (V.PageView.faults view.old) (V.PageView.faults view.new) result }
     ensures bytes { V.PageView.tells → IfOk result (λ o. o.page.0 ≡ shown draft.now.pages.items (V.PageView.image view.old) n) }
+    ensures named { IfErr result NamesBelow }
     ensures opened { IfOk result (λ o. IsOpened (V.PageView.block_count view.old) o.page.0 o.entries.items o.leaf) }
     ensures bad { V.PageView.tells → IfErr result (λ e. BreaksRule (xt_node Full (V.PageView.block_count view.old) (shown draft.now.pages.items (V.PageView.image view.old) n)) n e) }
 {

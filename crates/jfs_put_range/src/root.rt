@@ -6,10 +6,10 @@ ghost use Rattle.jfs_disk.specs.Image.{Image};
 ghost use Rattle.jfs_tree.specs.Call.{CarriesFault};
 ghost use Rattle.jfs_tree.specs.Form.{AllBelow, IsFront};
 ghost use Rattle.jfs_xtpage.specs.Page.{bytes_of};
-ghost use Rattle.jfs_xtree.specs.Node.{xt_node, IsRoot};
+ghost use Rattle.jfs_xtree.specs.Node.{xt_node, IsRoot, KeepsFrame};
 ghost use Rattle.jfs_put_range.specs.Call.{IsShortRange};
 ghost use Rattle.jfs_put_range.specs.Parts.{NoView};
-ghost use Rattle.jfs_put_range.specs.Tops.{IsOfKind, IsOpenedRoot, BreaksRoot, StepsRange, FillsRange, RefusesRange};
+ghost use Rattle.jfs_put_range.specs.Tops.{IsOfKind, IsOpenedRoot, BreaksRoot, StepsRange, FillsRange, RefusesRange, NamesRoot};
 
 use crate::descent::put_children;
 use crate::part::Part;
@@ -57,6 +57,8 @@ pub(crate) fn put_root<V: PageView>(
     ensures refuses { V.PageView.tells → IfErr result (λ e. RefusesRange top.now.form top.now.blocks (V.PageView.image view.old) root.old draft.old.pages.items stack.old.items e) }
     ensures used { OnOk result (length stack.old.items ≤ length stack.new.items + 15) }
     ensures front { IsFront stack.new.items stack.old.items }
+    ensures frame { KeepsFrame root.old root.new }
+    ensures named { IfErr result (NamesRoot (xt_node top.now.form top.now.blocks root.old) root.old) }
 {
     let opened = match open_root(alloc, top, root) {
         Ok(opened) => opened,
@@ -122,6 +124,8 @@ fn put_leaf_root(
     ensures cause { IfErr result (λ e. NoView e) }
     ensures used { OnOk result (length stack.old.items ≤ length stack.new.items + 1) }
     ensures front { IsFront stack.new.items stack.old.items }
+    ensures frame { KeepsFrame root.old root.new }
+    ensures named { IfErr result (NamesRoot (xt_node top.now.form top.now.blocks root.old) root.old) }
 {
     let Ok(list) = written(alloc, entries, xs) else {
         return Err(TreeError::Memory);
@@ -155,6 +159,8 @@ fn put_inner_root<V: PageView>(
     ensures refuses { V.PageView.tells → IfErr result (λ e. RefusesRange top.now.form top.now.blocks (V.PageView.image view.old) root.old draft.old.pages.items stack.old.items e) }
     ensures used { OnOk result (length stack.old.items ≤ length stack.new.items + 15) }
     ensures front { IsFront stack.new.items stack.old.items }
+    ensures frame { KeepsFrame root.old root.new }
+    ensures named { IfErr result (NamesRoot (xt_node top.now.form top.now.blocks root.old) root.old) }
 {
     let Ok(part) = whole_part(alloc, xs) else {
         return Err(TreeError::Memory);

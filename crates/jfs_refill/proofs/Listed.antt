@@ -12,8 +12,9 @@ use Rattle.jfs_bits.proofs.Ranges.{range_of-put_other, range_of-start, range_of-
 use Rattle.jfs_bits.proofs.Words.{field_of-put_same}
 use Rattle.jfs_xtpage.specs.declared.head.XtForm.{XtForm}
 use Rattle.jfs_xtpage.specs.declared.head.XtHead.{XtHead}
-use Rattle.jfs_xtpage.specs.Page.{bytes_of, head_of, entry_of, entries_of, entries_from, IsLaidOut}
+use Rattle.jfs_xtpage.specs.Page.{bytes_of, behind_slots, head_of, entry_of, entries_of, entries_from, IsLaidOut}
 use Rattle.jfs_xtpage.proofs.Entries.{same}
+use Rattle.jfs_xtpage.proofs.Tails.{tail_put}
 use Rattle.jfs_xtpage.proofs.Slots.{xad_by, head_by, head_next, entry_kept, xad_beside, length-xad}
 use Rattle.jfs_xtree.specs.Node.{IsSound, SameKind}
 use Rattle.jfs_xtree.proofs.Reading.{and_true, leaf_is, inner_is}
@@ -57,9 +58,9 @@ take_next xs i d l = ap (λ k. take k xs) (one i) ∙ by xs i l
 
 -- the same in a loop
 pub put_step : (start old new : List ℕ) (i at : ℕ) (d : Xad) (list : List Xad) → i < length list → 32 + 16 * length list ≤ length start
-    → (entries_from old 0 i ≡ take i list) × (range_of old 0 32 ≡ range_of start 0 32) × (length old ≡ length start) × (at ≡ 32 + 16 * i)
+    → (entries_from old 0 i ≡ take i list) × (range_of old 0 32 ≡ range_of start 0 32) × (length old ≡ length start) × (at ≡ 32 + 16 * i) × ((p n : ℕ) → 32 + 16 * length list ≤ p → range_of old p n ≡ range_of start p n)
     → new ≡ puts (xad_pieces at (slice_index_or list i d)) old → xad_of new at ≡ slice_index_or list i d
-    → (entries_from new 0 (i + 1) ≡ take (i + 1) list) × (range_of new 0 32 ≡ range_of start 0 32) × (length new ≡ length start) × (at + 16 ≡ 32 + 16 * (i + 1))
+    → (entries_from new 0 (i + 1) ≡ take (i + 1) list) × (range_of new 0 32 ≡ range_of start 0 32) × (length new ≡ length start) × (at + 16 ≡ 32 + 16 * (i + 1)) × ((p n : ℕ) → 32 + 16 * length list ≤ p → range_of new p n ≡ range_of start p n)
 put_step start old new i at d list inside room so is read =
     let size = so.2 in
     let place = so.3 in
@@ -69,6 +70,7 @@ put_step start old new i at d list inside room so is read =
       next.1 ∙ so.1,
       ap length is ∙ length-xad at (slice_index_or list i d) old fits ∙ size,
       omega (arith, place),
+      (λ p n h. ap (λ (z : List ℕ). range_of z p n) is ∙ xad_beside at p n (slice_index_or list i d) old fits (inr (omega (arith, inside, place, h))) ∙ so.4 p n h),
     )
 
 -- the number of entries is set
@@ -90,6 +92,20 @@ count_set old mid new list v e size fits header entries is =
             ∙ sym (range_of-within mid 0 32 20 12 (omega arith)) ∙ ap (λ (z : List ℕ). range_of z 20 12) header ∙ range_of-within old 0 32 20 12 (omega arith);
       },
     )
+
+-- what stands behind the slots stays
+pub tail_kept : (old mid new : List ℕ) (n v : ℕ) → IsLaidOut old → n + 2 ≤ field_of old 20 2 → length mid ≡ length old → range_of mid 0 32 ≡ range_of old 0 32 → ((p m : ℕ) → 32 + 16 * n ≤ p → range_of mid p m ≡ range_of old p m)
+    → new ≡ put_bytes 18 (little_bytes 2 v) mid → behind_slots new ≡ behind_slots old
+unfolding behind_slots
+tail_kept old mid new n v page room size header kept is =
+    let same = head_by mid old header in
+    let slots : field_of mid 20 2 ≡ field_of old 20 2 = ap (λ (h : XtHead). h.maxentry) same in
+    let count : field_of mid 18 2 ≡ field_of old 18 2 = ap (λ (h : XtHead). h.nextindex) same in
+    let a = page.least in let b = page.most in let d = page.within in
+    let laid : IsLaidOut mid = record { least = omega (arith, count, a); most = omega (arith, count, slots, b); within = omega (arith, slots, size, d) } in
+    ap behind_slots is ∙ tail_put mid 18 2 v (omega arith) laid
+    ∙ ap (λ k. range_of mid (16 * k) (length mid - 16 * k)) slots ∙ ap (λ l. range_of mid (16 * field_of old 20 2) (l - 16 * field_of old 20 2)) size
+    ∙ kept (16 * field_of old 20 2) (length old - 16 * field_of old 20 2) (omega (arith, room))
 
 pub same_kind : (old new : List ℕ) (n : ℕ) → head_of new ≡ record (head_of old) { nextindex = n + 2 } → n + 2 ≤ (head_of old).maxentry → SameKind (head_of old) (head_of new)
 same_kind old new n is room =

@@ -17,8 +17,8 @@ use Rattle.jfs_tree.proofs.Taking.{another, below_popped, itself, taken_last, tw
 use Rattle.jfs_xtpage.specs.declared.head.XtForm.{XtForm}
 use Rattle.jfs_xtpage.specs.declared.head.XtForm.TheVariants.{Root, Full, Small}
 use Rattle.jfs_xtpage.specs.declared.head.XtHead.{XtHead}
-use Rattle.jfs_xtpage.specs.Page.{head_of, entries_of, rises_from, new_head, kind_flag}
-use Rattle.jfs_xtree.specs.Node.{xt_node, fits_flag, fits_max, is_leaf, all_within, child_of, IsRoot, IsSound}
+use Rattle.jfs_xtpage.specs.Page.{behind_slots, head_of, entries_of, rises_from, new_head, kind_flag}
+use Rattle.jfs_xtree.specs.Node.{xt_node, fits_flag, fits_max, is_leaf, all_within, child_of, root_frame, IsRoot, IsSound, KeepsFrame}
 use Rattle.jfs_xtree.proofs.Reading.{leaf_is, inner_is, sound_inner}
 use Rattle.jfs_xtree.proofs.Inners.{child_within}
 use Rattle.jfs_xtree.proofs.Pages.{IsNew, new_leaf, new_inner}
@@ -34,6 +34,14 @@ two_off old new page q one other free left puts popped image m ne e =
 
 pub one_off : (old new : List Drafted) (q : ℕ) (page : List ℕ) (free left : List ℕ) → PutsOne old new q page → free ≡ left ++ q ∷ [] → StaysTaken old new free left
 one_off old new q page free left puts popped image m e = puts image m ∙ another m q page (shown old image m) (not_taken q m (count_in m left) (count_in m free) (taken_last free left q popped m) e)
+
+-- ---- what a root keeps
+
+pub frame_kept : (old new : List ℕ) (n : ℕ) → head_of new ≡ record (head_of old) { nextindex = n } → behind_slots new ≡ behind_slots old → KeepsFrame old new
+frame_kept old new n head tail = ap (λ (h : XtHead). root_frame h (behind_slots new)) head ∙ ap (root_frame (head_of old)) tail
+
+pub frame_moved : (old mid new : List ℕ) (flag n : ℕ) → head_of mid ≡ record (head_of old) { flag = flag } → behind_slots mid ≡ behind_slots old → head_of new ≡ record (head_of mid) { nextindex = n } → behind_slots new ≡ behind_slots mid → KeepsFrame old new
+frame_moved old mid new flag n head tail next rest = frame_kept mid new n next rest ∙ (ap (λ (h : XtHead). root_frame h (behind_slots mid)) head ∙ ap (root_frame (head_of old)) tail)
 
 -- ---- a root that keeps its list
 

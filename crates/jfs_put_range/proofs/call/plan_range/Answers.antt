@@ -3,6 +3,9 @@ use Rattle.std.specs.Prelude.{reverse}
 use Rattle.jfs_tree.specs.Fresh.{blocks_of}
 use Rattle.jfs_tree.proofs.Adds.{told_as, ok_maps}
 use Rattle.jfs_put_range.proofs.RootRanges.{writes_range, writes_thick, refuses_deep}
+use Rattle.std.specs.Prelude.{length}
+use Rattle.jfs_xtree.specs.Spells.{root_form, root_node}
+use Rattle.jfs_put_range.proofs.RootNames.{named_as, read_names}
 use Rattle.jfs_put_range.proofs.call.plan_range.Goals as goal
 
 pub returns-clause-writes : goal.returns-clause-writes
@@ -28,3 +31,10 @@ returns-clause-thin g c tells =
     writes_thick c.blocks-blocks.result blocks c.root_form-form.result image c.args.root.now c.new-draft.result.pages.items (blocks_of c.args.fresh.now) c.in-Ok.stack.items c.blocks-blocks.ensures c.root_form-form.ensures c.new-draft.ensures c.in-Ok.ensures.stack
     c.as_slice-2.result.now c.args.xs.now c.put_linked.new.root c.put_linked.new.draft.pages.items c.put_linked.new.stack.items c.args.tx.now p.tx c.as_slice-2.ensures (c.in_default-put_linked.ensures.steps tells) (c.in_default-put_linked.ensures.filled tells)
     (told_as (g.V.PageView.block_count c.put_linked.new.view) blocks (g.V.PageView.image c.put_linked.new.view) image c.put_linked.new.draft.pages.items c.args.tx.now p.tx c.put_linked.ensures.count_of_blocks (c.put_linked.ensures.image tells) told))
+
+pub returns-in-Err-clause-named : goal.returns-in-Err-clause-named
+returns-in-Err-clause-named g c =
+    named_as c.blocks-blocks.result (g.V.PageView.block_count c.args.view.now) c.root_form-form.result (root_form (length c.args.root.now)) c.args.root.now c.in-Err.e c.blocks-blocks.ensures c.root_form-form.ensures c.in-Err.ensures.named
+
+pub returns-clause-named : goal.returns-clause-named
+returns-clause-named g c = read_names (root_node (g.V.PageView.block_count c.args.view.now) c.args.root.now) c.args.root.now c.tell_steps.result c.tell_steps.ensures.read

@@ -1,5 +1,7 @@
 use Rattle.std.proofs.Common.{arith}
 use Rattle.jfs_put_range.proofs.Links.{steps_linked, fills_linked, refuses_read}
+use Rattle.jfs_xtree.specs.Node.{xt_node}
+use Rattle.jfs_put_range.proofs.RootNames.{read_named}
 use Rattle.jfs_put_range.proofs.linked.put_linked.Goals as goal
 
 pub returns-in-Ok-link_ends-clause-steps : goal.returns-in-Ok-link_ends-clause-steps
@@ -16,3 +18,6 @@ returns-in-Ok-link_ends-clause-filled g c = λ tells.
 pub returns-in-Err-link_ends-clause-refuses : goal.returns-in-Err-link_ends-clause-refuses
 returns-in-Err-link_ends-clause-refuses g c = λ tells.
     refuses_read c.args.top.now.form c.args.top.now.blocks (g.V.PageView.image c.args.view.now) c.args.root.now c.args.draft.now.pages.items c.args.stack.now.items c.in-Err-link_ends.e c.in-Err-link_ends.ensures.cause
+
+pub returns-in-Err-link_ends-clause-named : goal.returns-in-Err-link_ends-clause-named
+returns-in-Err-link_ends-clause-named g c = read_named (xt_node c.args.top.now.form c.args.top.now.blocks c.args.root.now) c.args.root.now c.in-Err-link_ends.e c.in-Err-link_ends.ensures.cause

@@ -1,5 +1,8 @@
 use Rattle.std.proofs.Common.{refl, arith}
 use Rattle.jfs_put_range.proofs.RootRanges.{pushed_steps, pushed_fills, pushed_refuses, pushed_full}
+use Rattle.jfs_tree.specs.Draft.{shown}
+use Rattle.jfs_xtree.specs.Node.{xt_node}
+use Rattle.jfs_put_range.proofs.RootNames.{below_named, inner_named}
 use Rattle.jfs_put_range.proofs.root.put_inner_root.Goals as goal
 
 pub put_children-requires-clause-some : goal.put_children-requires-clause-some
@@ -33,3 +36,13 @@ returns-in-Ok-put_children-clause-filled g c tells =
     c.args.draft.now.pages.items c.put_children.new.draft.pages.items c.store_root.new.draft.pages.items c.in-Ok-put_children.levels c.args.stack.now.items c.put_children.new.stack.items c.store_root.new.stack.items c.store_root.result
     c.requires.forms.0 c.in-Ok.ensures.0 c.in-Ok.ensures.1 c.in-Ok.ensures.2 c.in-Ok.ensures.3 c.new-list.ensures.items c.as_slice.ensures.value tells c.requires.opened c.requires.within c.put_children.ensures.front c.store_root.ensures.front
     c.in-Ok-put_children.ensures.pushed c.store_root.ensures.settled c.store_root.ensures.keeps
+
+pub returns-clause-named : goal.returns-clause-named
+returns-clause-named g c = below_named (xt_node c.args.top.now.form c.args.top.now.blocks c.args.root.now) c.args.root.now c.in-Err.e c.in-Err.ensures.named
+
+pub returns-in-Ok-put_children-clause-named : goal.returns-in-Ok-put_children-clause-named
+returns-in-Ok-put_children-clause-named g c =
+    inner_named c.args.top.now.form g.V.PageView.tells c.in-Ok.part.last c.args.top.now.blocks (g.V.PageView.block_count c.args.view.now) c.in-Ok.part.xs.items c.in-Ok.part.left c.in-Ok.part.right
+    (shown c.args.draft.now.pages.items (g.V.PageView.image c.args.view.now)) (shown c.put_children.new.draft.pages.items (g.V.PageView.image c.args.view.now)) c.in-Ok-put_children.levels c.args.entries.now c.new-list.result.items c.put_children.new.list.items
+    c.as_slice.result.now c.args.stack.now.items c.put_children.new.stack.items c.store_root.new.stack.items c.args.root.now c.store_root.new.root c.put_children.new.draft.pages.items c.store_root.new.draft.pages.items c.store_root.result
+    c.requires.opened c.in-Ok-put_children.ensures.pushed c.new-list.ensures.items c.as_slice.ensures.value c.store_root.ensures.stored

@@ -4,6 +4,8 @@ use Rattle.jfs_bits.specs.Extent.{FitsXad}
 use Rattle.jfs_put_range.proofs.LeafPages.{all_good, leaf_list}
 use Rattle.jfs_put_range.proofs.Lists.{as_part, good_long, range_few}
 use Rattle.jfs_put_range.proofs.RootRanges.{leaf_steps, leaf_fills}
+use Rattle.jfs_xtree.specs.Node.{xt_node}
+use Rattle.jfs_put_range.proofs.RootNames.{leaf_named}
 use Rattle.jfs_put_range.proofs.root.put_leaf_root.Goals as goal
 
 pub written-requires-clause-entries_long : goal.written-requires-clause-entries_long
@@ -34,3 +36,8 @@ returns-clause-filled c = λ image.
     leaf_fills c.args.top.now.form c.args.top.now.blocks image c.args.xs.now c.args.entries.now c.args.root.now c.store_root.new.root c.requires.form c.requires.range (let s = c.requires.small in omega (arith, s))
     c.as_slice.result.now c.args.draft.now.pages.items c.store_root.new.draft.pages.items c.args.stack.now.items c.store_root.new.stack.items c.store_root.result c.requires.opened c.requires.within c.store_root.ensures.front
     (c.as_slice.ensures.value ∙ c.in-Ok.ensures) c.store_root.ensures.settled c.store_root.ensures.keeps
+
+pub returns-clause-named : goal.returns-clause-named
+returns-clause-named c =
+    leaf_named (xt_node c.args.top.now.form c.args.top.now.blocks c.args.root.now) c.as_slice.result.now c.args.root.now c.store_root.new.root c.args.draft.now.pages.items c.store_root.new.draft.pages.items c.args.stack.now.items c.store_root.new.stack.items
+    c.store_root.result c.store_root.ensures.stored

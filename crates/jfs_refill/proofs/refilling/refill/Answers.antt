@@ -1,5 +1,5 @@
 use Rattle.std.proofs.Common.{◌+◌, refl, length, arith}
-use Rattle.jfs_refill.proofs.Listed.{count_set, relisted, same_kind}
+use Rattle.jfs_refill.proofs.Listed.{count_set, relisted, same_kind, tail_kept}
 use Rattle.jfs_refill.proofs.refilling.refill.Goals as goal
 
 pub returns-clause-entries : goal.returns-clause-entries
@@ -13,6 +13,10 @@ returns-clause-head c =
 pub returns-clause-header : goal.returns-clause-header
 returns-clause-header c =
     (count_set c.args.bytes.now c.put_entries.new.bytes c.put_u16.new.bytes c.args.list.now (length c.args.list.now + 2) refl (let r = c.requires.room in let w = c.requires.page.within in omega (arith, r, w)) c.put_u16.ensures.fits c.put_entries.ensures.head c.put_entries.ensures.entries c.put_u16.ensures.bytes).2
+
+pub returns-clause-tail : goal.returns-clause-tail
+returns-clause-tail c =
+    tail_kept c.args.bytes.now c.put_entries.new.bytes c.put_u16.new.bytes (length c.args.list.now) (length c.args.list.now + 2) c.requires.page c.requires.room c.put_entries.ensures.size c.put_entries.ensures.head c.put_entries.ensures.tail c.put_u16.ensures.bytes
 
 pub returns-clause-reads : goal.returns-clause-reads
 returns-clause-reads c form blocks good =

@@ -1,5 +1,5 @@
-use Rattle.std.proofs.Common.{arith}
-use Rattle.jfs_refill.proofs.Rooting.{has_settled, moves_settled_by, moves_kept}
+use Rattle.std.proofs.Common.{◌+◌, length, arith}
+use Rattle.jfs_refill.proofs.Rooting.{frame_kept, has_settled, moves_settled_by, moves_kept}
 use Rattle.jfs_refill.proofs.root.store_root.Goals as goal
 
 pub returns-then-list-from-clause-settled : goal.returns-then-list-from-clause-settled
@@ -15,3 +15,6 @@ returns-clause-settled c = λ form blocks top within good.
 pub returns-clause-keeps : goal.returns-clause-keeps
 returns-clause-keeps c =
     moves_kept c.move_down.result c.args.list.now c.args.root.now c.move_down.new.root c.args.draft.now.pages.items c.move_down.new.draft.pages.items c.args.stack.now.items c.move_down.new.stack.items c.move_down.ensures.moves
+
+pub returns-then-list-from-clause-frame : goal.returns-then-list-from-clause-frame
+returns-then-list-from-clause-frame c = frame_kept c.args.root.now c.refill.new.bytes (length c.args.list.now + 2) c.refill.ensures.head c.refill.ensures.tail
