@@ -15,11 +15,7 @@ use std::alloc::{AllocError, Global};
 /// # Errors
 ///
 /// Want of memory alone.
-pub fn read_records(
-    alloc: Global,
-    read: &RingText,
-    blocks: u32,
-) -> Result<Vec<Record>, AllocError>
+pub fn read_records(alloc: Global, read: &RingText, blocks: u32) -> Result<Vec<Record>, AllocError>
     requires { (ms : List Met) × AreRecords blocks read.now ms }
     ensures records { IfOk result (λ records. (ms : List Met) → AreRecords blocks read.now ms → records.items ≡ map (λ m. m.is) ms) }
     ensures pages { IfOk result (λ records. AllByRecursion HasPage records.items) }
