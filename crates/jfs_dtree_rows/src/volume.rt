@@ -13,6 +13,9 @@ use jfs_ranges::{Edit, PageView, Tx, ViewError, apply};
 use std::alloc::{AllocError, Global};
 use std::cmp::Ordering;
 
+/// Each of the first 16 bytes of a root, where a limit of the directory may stand.
+pub const LIMIT: u8 = 90;
+
 /// The blocks of the volume.
 const BLOCKS: u32 = 256;
 
@@ -104,6 +107,9 @@ impl Dir {
         }
         let mut root = [0; 288];
         new_root(&mut root, 2);
+        for at in 0..16 {
+            root[at] = LIMIT;
+        }
         Ok(Dir {
             volume: Volume {
                 pages,

@@ -1,6 +1,6 @@
 //! The way from the root down the first children, and the pages of each level, by the bytes of the pages.
 
-use crate::volume::Dir;
+use crate::volume::{Dir, LIMIT};
 
 /// The last page that was met on each level, the leaves' first.
 type Met = [Option<u8>; 9];
@@ -35,9 +35,13 @@ fn is_leaf(flag: u8) -> bool {
     flag / 2 % 2 == 1
 }
 
-/// Whether the pages of each level name each other in their order, and nothing before the first or behind the last of them.
+/// Whether the pages of each level name each other in their order, and nothing before the first or behind the last of them, each page names itself, and the root has
+/// its limit and its parent.
 pub fn is_linked(dir: &Dir) -> bool {
     let mut met: Met = [None; 9];
+    if !has_front(dir) {
+        return false;
+    }
     if is_leaf(dir.root[16]) {
         return true;
     }
@@ -57,8 +61,36 @@ pub fn is_linked(dir: &Dir) -> bool {
     true
 }
 
-/// Whether a page, with so many levels below it at most, and those below it stand behind what was met on their levels, by both links.
+/// Whether the root's first 16 bytes, where a limit of the directory stands, and the number of its parent are those that it was made with.
+fn has_front(dir: &Dir) -> bool {
+    for at in 0..16 {
+        if dir.root[at] != LIMIT {
+            return false;
+        }
+    }
+    dir.root[20] == 2 && dir.root[21] == 0 && dir.root[22] == 0 && dir.root[23] == 0
+}
+
+/// Whether a page names itself: its own descriptor is one block at its own number.
+fn names_itself(dir: &Dir, page: u8) -> bool {
+    for at in 24..32 {
+        let wanted = match at {
+            24 => 1,
+            28 => page,
+            _ => 0,
+        };
+        if dir.byte(usize::from(page), at) != wanted {
+            return false;
+        }
+    }
+    true
+}
+
+/// Whether a page, with so many levels below it at most, and those below it stand behind what was met on their levels, by both links, and name themselves.
 fn follows(dir: &Dir, page: u8, most: u8, met: &mut Met) -> bool {
+    if !names_itself(dir, page) {
+        return false;
+    }
     let level = usize::from(most.min(8));
     let n = usize::from(page);
     match met[level] {
