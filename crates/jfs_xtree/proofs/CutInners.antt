@@ -25,7 +25,6 @@ use Rattle.jfs_xtree.specs.Cutting.{kept_below, gone_past}
 use Rattle.jfs_xtree.specs.Spells.{page_nodes}
 use Rattle.jfs_xtree.specs.CutParts.{CutPart, CutsNode, CutsPage, FillsNode, FillsPage, FreesUnder, AllFrom, shows, runs_of}
 use Rattle.jfs_xtree.proofs.CutRows.{kept_none, gone_all, kept_append, gone_append}
-use Rattle.jfs_xtree.proofs.CutFrees.{entry_pages}
 use Rattle.jfs_xtree.proofs.CutWalks.{span, rows_before, rows_from}
 
 -- ---- what an inner page shows
@@ -62,7 +61,7 @@ front_stays limit nodes levels key mid (f ∷ fs) t rest high r s above =
     let h = leb-true mid t.key (child_from xt_scale nodes levels t mid high rest s) in
     rows_before limit key (flat_map (walk xt_scale nodes levels) (under key (f ∷ fs))) mid r (omega (arith, h, above))
 
-back_goes : (limit : ℕ) (nodes : ℕ → Node ℕ Xad) (lower low : ℕ) (back : List (Child ℕ)) (high : Option ℕ) → Rises xt_scale low (flat_map (walk xt_scale nodes (suc lower)) back) high → FirstFrom limit back → AllFrom limit (rows_of (flat_map (walk xt_scale nodes (suc lower)) back))
+pub back_goes : (limit : ℕ) (nodes : ℕ → Node ℕ Xad) (lower low : ℕ) (back : List (Child ℕ)) (high : Option ℕ) → Rises xt_scale low (flat_map (walk xt_scale nodes (suc lower)) back) high → FirstFrom limit back → AllFrom limit (rows_of (flat_map (walk xt_scale nodes (suc lower)) back))
 unfolding walk
 back_goes limit nodes lower low [] high r first = tt
 back_goes limit nodes lower low (b ∷ bs) high r first = rows_from limit b.key (body (walk xt_scale nodes lower) b (placed xt_scale lower b.key (nodes b.page)) ++ flat_map (walk xt_scale nodes (suc lower)) bs) high r.1 first
@@ -109,7 +108,7 @@ parts_cut blocks limit before after lower c front t back k one freed first runs 
     let w = cut_at_key xt_scale order p.0 T R high (starts_or_none xt_scale (page_nodes blocks before) (suc lower) (map child_of back) v.0 high v.2) p.2 in
     let part = (subst (λ n. CutsPage blocks limit before after n k one first) (sym (own_page c.key front t)) cuts) (suc lower) u.key p.0 (bound R high) w.0 in
     let cut : CutPart limit before after p.0 T N (bound R high) one first = part.0 in
-    let free = frees (map child_of back) (entry_pages back) (suc lower) v.0 high v.2 in
+    let free = frees (suc lower) v.0 high v.2 in
     let stays = front_stays limit (page_nodes blocks before) (suc lower) c.key p.0 front t R high p.1 p.2 above in
     let goes = back_goes limit (page_nodes blocks before) lower v.0 (map child_of back) high v.2 past in
     let count = λ (n : ℕ). ap (times n) parts ∙ times_three n A T R in

@@ -1,24 +1,18 @@
 -- A whole tree that is cut at a block of the file, seen from the transaction.
-use Rattle.std.proofs.Common.{◌≡◌, ◌≢◌, ◌≤◌, ◌<◌, ◌⊎◌, inl, inr, refl, sym, ap, ◌∙◌, subst, ℕ, zero, suc, ◌+◌, ◌*◌, ◌/◌, ◌%◌, ◌==◌, ◌||◌, Bool, true, false, if◌then◌else◌, List, [], ◌∷◌, ◌++◌, map, length, None, Ok, arith}
-use Rattle.std.proofs.lemmas.Bool.{eqb-true, lt-leb, le-leb}
+use Rattle.std.proofs.Common.{◌≡◌, ◌≢◌, ◌≤◌, ◌<◌, ◌⊎◌, inl, inr, refl, sym, ap, ◌∙◌, subst, ℕ, zero, suc, ◌+◌, ◌*◌, ◌/◌, ◌%◌, ◌==◌, ◌||◌, Bool, true, false, if◌then◌else◌, List, [], ◌∷◌, ◌++◌, length, None, Ok, arith}
+use Rattle.std.proofs.lemmas.Bool.{eqb-true, le-leb}
 use Rattle.std.proofs.lemmas.Bool.Decides.{nat_tests}
 use Rattle.jfs_bits.specs.declared.extent.Xad.{Xad}
 use Rattle.jfs_bits.specs.declared.descriptor.Pxd.{Pxd}
 use Rattle.jfs_disk.specs.Image.{Image, page_of}
 use Rattle.jfs_ranges.specs.declared.edit.Edit.{Edit}
-use Rattle.jfs_tree.specs.Walk.{Node, Leaf, Inner, Broken, Page, Key, Rises, rows_of, times, placed, walk}
+use Rattle.jfs_tree.specs.Walk.{Node, Leaf, Page, Key, Rises, rows_of, times, placed, walk}
 use Rattle.jfs_tree.specs.Spells.{no_page, with_root, top, tree_of, spells, footprint}
-use Rattle.jfs_tree.specs.Edit.{count_in, IsPast}
-use Rattle.jfs_bits.specs.declared.rule.Rule.{Rule}
-use Rattle.jfs_tree.specs.Form.{LeadsDown}
-use Rattle.jfs_tree.proofs.Path.{AllPast, leads_alone}
-use Rattle.jfs_tree.specs.Root.{NamesBroken}
+use Rattle.jfs_tree.specs.Edit.{count_in}
 use Rattle.jfs_tree.specs.Call.{nodes}
 use Rattle.jfs_tree.specs.Draft.{shown}
 use Rattle.jfs_tree.specs.Tell.{TellsDraft, TellsThen}
 use Rattle.jfs_tree.specs.declared.draft.Drafted.{Drafted}
-use Rattle.jfs_tree.specs.declared.form.TreeError.{TreeError}
-use Rattle.jfs_tree.specs.declared.form.TreeError.TheVariants.{View, Bad, Memory}
 use Rattle.jfs_tree.proofs.Frame.{frame, same_body}
 use Rattle.jfs_tree.specs.Levels.{InLine, IsFilled, HasNoThin, pages_below}
 use Rattle.jfs_tree.proofs.Filling.{below_stays, page_filled, filled_same, filled_of, filled_not_thin}
@@ -27,26 +21,20 @@ use Rattle.jfs_tree.proofs.Spelled.{stands, tree_rises, spelled}
 use Rattle.jfs_tree.proofs.Tops.{root_else, page_or}
 use Rattle.jfs_tree.proofs.Footprint.{spells_frame, footprint_frame}
 use Rattle.jfs_tree.proofs.Within.{footprint_within}
-use Rattle.jfs_tree.proofs.RootCalls.{names_root, names_below}
 use Rattle.jfs_xtpage.specs.declared.head.XtForm.{XtForm}
 use Rattle.jfs_xtpage.specs.declared.head.XtForm.TheVariants.{Root, Full, Small}
 use Rattle.jfs_xtpage.specs.declared.head.XtHead.{XtHead}
-use Rattle.jfs_xtpage.specs.Page.{head_of, entries_of, count_of, end_of, rises_from, kind_flag}
-use Rattle.jfs_xtpage.proofs.Entries.{length-entries}
-use Rattle.jfs_xtree.specs.Laws.{order, ends_after}
-use Rattle.jfs_xtree.specs.Node.{xt_scale, xt_node, fits_flag, fits_max, is_leaf, child_of, all_within, IsSound, SameKind}
-use Rattle.jfs_xtree.specs.Spells.{root_form, page_nodes, tree_error}
-use Rattle.jfs_xtree.specs.Errors.{handed_on}
+use Rattle.jfs_xtpage.specs.Page.{head_of, entries_of, rises_from, kind_flag}
+use Rattle.jfs_xtree.specs.Laws.{order}
+use Rattle.jfs_xtree.specs.Node.{xt_scale, xt_node, fits_flag, fits_max, is_leaf, all_within, IsSound, SameKind}
+use Rattle.jfs_xtree.specs.Spells.{root_form, page_nodes}
 use Rattle.jfs_tree.specs.Fresh.{after_tx}
 use Rattle.jfs_tree.specs.Removes.{page_frees}
 use Rattle.jfs_xtree.specs.Cutting.{kept_below, gone_past, run_frees, HasOnlyBelow, CutsExtents}
-use Rattle.jfs_xtree.specs.CutParts.{CutPart, CutsNode, BreaksUnder, KeepsSome, naming, shows, if_kept}
-use Rattle.jfs_xtree.proofs.Reading.{leaf_is, sound_leaf, sound_inner}
-use Rattle.jfs_xtree.proofs.Pages.{rises_less, rises_back, rises_weaker}
-use Rattle.jfs_xtree.proofs.Ways.{map_cut}
+use Rattle.jfs_xtree.specs.CutParts.{CutPart, CutsNode, KeepsSome, shows, if_kept}
+use Rattle.jfs_xtree.proofs.Reading.{leaf_is, sound_leaf}
 use Rattle.jfs_xtree.proofs.Adds.{has_pages}
 use Rattle.jfs_xtree.proofs.CutInners.{differs, here_zero}
-use Rattle.jfs_xtree.proofs.CutSteps.{no_entry}
 
 -- ---- the root of a tree that was cut
 
@@ -86,7 +74,7 @@ apart pages root below none =
     same_body pages (with_root root pages) (walk xt_scale pages below) (walk xt_scale (with_root root pages) below) (top xt_scale) (placed xt_scale below 0 root) (frame xt_scale pages (with_root root pages) below)
     (λ n p. root_else root pages n (differs n no_page 0 (λ m. times m (shows pages below (top xt_scale) root)) none p))
 
-among : (pages : ℕ → Node ℕ Xad) (root : Node ℕ Xad) (below : ℕ) → times no_page (shows (with_root root pages) below (top xt_scale) root) ≡ 0 → shows pages below (top xt_scale) root ≡ shows (with_root root pages) below (top xt_scale) root
+pub among : (pages : ℕ → Node ℕ Xad) (root : Node ℕ Xad) (below : ℕ) → times no_page (shows (with_root root pages) below (top xt_scale) root) ≡ 0 → shows pages below (top xt_scale) root ≡ shows (with_root root pages) below (top xt_scale) root
 among pages root below none =
     same_body (with_root root pages) pages (walk xt_scale (with_root root pages) below) (walk xt_scale pages below) (top xt_scale) (placed xt_scale below 0 root) (frame xt_scale (with_root root pages) pages below)
     (λ n p. sym (root_else root pages n (differs n no_page 0 (λ m. times m (shows (with_root root pages) below (top xt_scale) root)) none p)))
@@ -279,52 +267,3 @@ cuts_extents blocks bound form image root mid new drafts kept freed runs tx late
           } in
           as_root form blocks bound es (page_of image) (after_tx base later) root new freed is whole,
     )
-
--- ---- a page that breaks a rule
-
-leads_at : (form : XtForm) (blocks : ℕ) (root : List ℕ) (front : List Xad) (x : Xad) (back : List Xad) → IsSound form blocks (head_of root) (entries_of root) → is_leaf (head_of root).flag ≡ false → 0 < length (entries_of root) → entries_of root ≡ front ++ x ∷ back
-    → LeadsDown xt_scale x (xt_node form blocks root) (length (map child_of front)) x.at.addr
-leads_at form blocks root front x back sound flag some all = record {
-  front = map child_of front;
-  child = child_of x;
-  back = map child_of back;
-  is = sound_inner form blocks root sound flag some ∙ ap (λ xs. Inner (map child_of xs)) all ∙ ap (λ cs. Inner cs) (map_cut front x back);
-  at = refl;
-  to = refl;
-  past = past back (rises_back front (x ∷ back) 0 (ap (rises_from 0) (sym all) ∙ sound.order));
-  above = inr (le-leb x.offset x.offset (omega arith));
-  alone = leads_alone xt_scale x.offset (xt_node form blocks root) (map child_of front) (child_of x) (map child_of back)
-      (sound_inner form blocks root sound flag some ∙ ap (λ xs. Inner (map child_of xs)) all ∙ ap (λ cs. Inner cs) (map_cut front x back))
-      (inr (le-leb x.offset x.offset (omega arith))) (all_behind x.offset x back (omega arith) (rises_back front (x ∷ back) 0 (ap (rises_from 0) (sym all) ∙ sound.order)));
-}
-  where
-    all_behind : (at : ℕ) (y : Xad) (back : List Xad) → at ≤ y.offset → rises_from 0 (y ∷ back) ≡ true → AllPast xt_scale at (map child_of back)
-    all_behind at y [] l r = tt
-    all_behind at y (b ∷ bs) l r =
-        let t = rises_less 0 y (b ∷ bs) r in
-        let u = rises_less (end_of y) b bs t.1 in
-        let h = u.0 in let w = ends_after y in (lt-leb b.offset at (omega (arith, h, w, l)), all_behind at b bs (omega (arith, h, w, l)) (rises_weaker (b ∷ bs) (end_of y) 0 (omega arith) t.1))
-
-    past : (back : List Xad) → rises_from 0 (x ∷ back) ≡ true → IsPast xt_scale x (map child_of back)
-    past [] r = tt
-    past (b ∷ bs) r =
-        let t = rises_less 0 x (b ∷ bs) r in
-        let u = rises_less (end_of x) b bs t.1 in
-        let h = u.0 in let w = ends_after x in lt-leb b.offset x.offset (omega (arith, h, w))
-
-pub cut_names : (form : XtForm) (blocks : ℕ) (root : List ℕ) (image : Image) (e : TreeError) → IsSound form blocks (head_of root) (entries_of root) → (is_leaf (head_of root).flag ≡ false → 2 < (head_of root).nextindex)
-    → BreaksUnder (page_nodes blocks (page_of image)) 7 (naming (is_leaf (head_of root).flag) (entries_of root)) e → NamesBroken xt_scale (page_nodes blocks (page_of image)) (xt_node form blocks root) (tree_error (handed_on e))
-cut_names form blocks root image e sound some b = by (is_leaf (head_of root).flag) refl e b
-  where
-    by : (f : Bool) → is_leaf (head_of root).flag ≡ f → (e : TreeError) → BreaksUnder (page_nodes blocks (page_of image)) 7 (naming f (entries_of root)) e → NamesBroken xt_scale (page_nodes blocks (page_of image)) (xt_node form blocks root) (tree_error (handed_on e))
-    by f flag (View e) b = tt
-    by f flag Memory b = tt
-    by true flag (Bad bad rule) (front, x, back, all, b) = absurd (no_entry front x back all)
-    by false flag (Bad bad rule) (front, x, back, all, b) =
-        let long = some flag in
-        let size = length-entries root 0 (count_of root) in
-        names_below xt_scale order x (page_nodes blocks (page_of image)) (xt_node form blocks root) (length (map child_of front)) x.at.addr (Bad bad rule) (leads_at form blocks root front x back sound flag (omega (arith, size, long)) all) b
-
-pub root_names : (form rf : XtForm) (b blocks : ℕ) (root : List ℕ) (image : Image) (rule : Rule) → b ≡ blocks → form ≡ rf → xt_node form b root ≡ Broken rule → NamesBroken xt_scale (page_nodes blocks (page_of image)) (xt_node rf blocks root) (Bad no_page rule)
-root_names form rf b blocks root image rule eb ef is =
-    names_root xt_scale (page_nodes blocks (page_of image)) (xt_node rf blocks root) rule (subst (λ f. xt_node f blocks root ≡ Broken rule) ef (subst (λ n. xt_node form n root ≡ Broken rule) eb is))

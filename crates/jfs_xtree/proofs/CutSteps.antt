@@ -1,5 +1,5 @@
 -- The steps of a cut, from what the code says of its pages.
-use Rattle.std.proofs.Common.{◌≡◌, ◌≤◌, ◌<◌, refl, sym, ap, ◌∙◌, subst, ℕ, suc, ◌+◌, ◌-◌, ◌==◌, Bool, true, false, ◌&&◌, if◌then◌else◌, List, [], ◌∷◌, ◌++◌, map, length, take, drop, Result, Ok, Err, IfOk, OnOk, arith, append_assoc}
+use Rattle.std.proofs.Common.{◌≡◌, ◌≤◌, ◌<◌, refl, sym, ap, ◌∙◌, subst, ℕ, ◌+◌, ◌-◌, ◌==◌, Bool, true, false, ◌&&◌, if◌then◌else◌, List, [], ◌∷◌, ◌++◌, map, length, take, drop, Result, Ok, Err, IfOk, OnOk, arith}
 use Rattle.std.specs.Prelude.{nat_le, nat_lt}
 use Rattle.std.proofs.lemmas.Bool.{leb-true, leb-false, le-leb, ne_eqb}
 use Rattle.std.proofs.lemmas.Bool.Decides.{nat_tests}
@@ -8,14 +8,13 @@ use Rattle.jfs_bits.specs.declared.extent.Xad.{Xad}
 use Rattle.jfs_bits.specs.declared.descriptor.Pxd.{Pxd}
 use Rattle.jfs_bits.specs.Field.{field_of}
 use Rattle.jfs_disk.specs.Image.{Image, page_of}
-use Rattle.jfs_tree.specs.Walk.{Child, Node, Leaf, Inner}
+use Rattle.jfs_tree.specs.Walk.{Child, Leaf, Inner}
 use Rattle.jfs_tree.specs.Edit.{IsCons}
 use Rattle.jfs_tree.specs.Shrink.{kept_of}
 use Rattle.jfs_tree.specs.Removal.{Settles}
 use Rattle.jfs_tree.specs.Draft.{shown}
 use Rattle.jfs_tree.specs.declared.draft.Drafted.{Drafted}
 use Rattle.jfs_tree.specs.declared.form.TreeError.{TreeError}
-use Rattle.jfs_tree.specs.declared.form.TreeError.TheVariants.{View, Bad, Memory}
 use Rattle.jfs_xtpage.specs.declared.head.XtForm.{XtForm}
 use Rattle.jfs_xtpage.specs.declared.head.XtForm.TheVariants.{Full}
 use Rattle.jfs_xtpage.specs.declared.head.XtHead.{XtHead}
@@ -26,12 +25,11 @@ use Rattle.jfs_xtree.specs.Laws.{ends_after}
 use Rattle.jfs_xtree.specs.Node.{xt_node, is_leaf, is_within, all_within, child_of, IsSound, SameKind, LeadsAt}
 use Rattle.jfs_xtree.specs.Spells.{page_nodes}
 use Rattle.jfs_xtree.specs.Cutting.{up_to, kept_below, gone_past}
-use Rattle.jfs_xtree.specs.CutParts.{CutsNode, CutsPage, FreesUnder, BreaksUnder, BreaksAt, KeepsSome, AllFrom, naming}
+use Rattle.jfs_xtree.specs.CutParts.{CutsNode, CutsPage, FreesUnder, KeepsSome, AllFrom}
 use Rattle.jfs_xtree.proofs.Reading.{and_true, sound_leaf, sound_inner}
 use Rattle.jfs_xtree.proofs.Pages.{leaf_made, inner_made, rises_less, rises_more, rises_weaker, rises_front, within_both, within_front}
 use Rattle.jfs_xtree.proofs.Ways.{cut_at, length_front, map_cut}
 use Rattle.jfs_xtree.proofs.CutRows.{from_place, take_one_more}
-use Rattle.jfs_xtree.proofs.CutFrees.{breaks_at, breaks_below}
 use Rattle.jfs_xtree.proofs.CutWalks.{leaf_cuts, up_to_end, up_to_offset}
 use Rattle.jfs_xtree.proofs.CutInners.{IsAbove, FirstFrom, inner_cuts, page_kept, page_gone}
 
@@ -117,7 +115,7 @@ page_settled blocks bound page image view bytes new kept one two first free runs
 
 -- ---- an inner page
 
-first_of_all : (bound : ℕ) (xs : List Xad) → AllFrom bound xs → FirstFrom bound (map child_of xs)
+pub first_of_all : (bound : ℕ) (xs : List Xad) → AllFrom bound xs → FirstFrom bound (map child_of xs)
 first_of_all bound [] h = tt
 first_of_all bound (x ∷ xs) h = h.0
 
@@ -194,38 +192,6 @@ inner_done form blocks bound last place left k kept bytes new image after n one 
     not_kept : (k : Bool) → left ≡ place + (if k then 1 else 0) → left ≡ 0 → k ≡ false
     not_kept true e z = absurd (omega (arith, e, z))
     not_kept false e z = refl
-
--- ---- a page that breaks a rule
-
-pub no_entry : (front : List Xad) (x : Xad) (back : List Xad) → [] ≡ front ++ x ∷ back → ⊥
-no_entry [] x back e = cc
-no_entry (f ∷ fs) x back e = cc
-
-pub breaks_child : (blocks n most less : ℕ) (image view : Image) (page : List ℕ) (e : TreeError) → view ≡ image → page ≡ page_of image n → IsSound Full blocks (head_of page) (entries_of page) → (is_leaf (head_of page).flag ≡ false → 2 < (head_of page).nextindex) → most ≡ suc less
-    → BreaksUnder (page_nodes blocks (page_of view)) less (naming (is_leaf (head_of page).flag) (entries_of page)) e → BreaksAt (page_nodes blocks (page_of image)) most n e
-breaks_child blocks n most less image view page e same is sound some more b =
-    by (is_leaf (head_of page).flag) refl e (subst (λ (i : Image). BreaksUnder (page_nodes blocks (page_of i)) less (naming (is_leaf (head_of page).flag) (entries_of page)) e) same b)
-  where
-    by : (f : Bool) → is_leaf (head_of page).flag ≡ f → (e : TreeError) → BreaksUnder (page_nodes blocks (page_of image)) less (naming f (entries_of page)) e → BreaksAt (page_nodes blocks (page_of image)) most n e
-    by f flag (View e) b = tt
-    by f flag Memory b = tt
-    by true flag (Bad bad rule) (front, x, back, all, b) = absurd (no_entry front x back all)
-    by false flag (Bad bad rule) b =
-        let long = some flag in
-        let size = length-entries page 0 (count_of page) in
-        breaks_below (page_nodes blocks (page_of image)) most less n (entries_of page) (Bad bad rule) (ap (xt_node Full blocks) (sym is) ∙ sound_inner Full blocks page sound flag (omega (arith, size, long))) more b
-
-pub breaks_here : (nodes : ℕ → Node ℕ Xad) (most place n : ℕ) (bytes : List ℕ) (e : TreeError) → is_leaf (head_of bytes).flag ≡ false → n ≡ (entry_of bytes place).at.addr → place < count_of bytes → BreaksAt nodes most n e → BreaksUnder nodes most (naming (is_leaf (head_of bytes).flag) (entries_of bytes)) e
-breaks_here nodes most place n bytes e flag at inside b = subst (λ f. BreaksUnder nodes most (naming f (entries_of bytes)) e) (sym flag) (breaks_at nodes most bytes 0 place n e at (omega arith) inside b)
-
-pub breaks_behind : (nodes : ℕ → Node ℕ Xad) (most k : ℕ) (bytes : List ℕ) (e : TreeError) → is_leaf (head_of bytes).flag ≡ false → BreaksUnder nodes most (drop k (entries_of bytes)) e → BreaksUnder nodes most (naming (is_leaf (head_of bytes).flag) (entries_of bytes)) e
-breaks_behind nodes most k bytes e flag b = subst (λ f. BreaksUnder nodes most (naming f (entries_of bytes)) e) (sym flag) (by e b)
-  where
-    by : (e : TreeError) → BreaksUnder nodes most (drop k (entries_of bytes)) e → BreaksUnder nodes most (entries_of bytes) e
-    by (View e) b = tt
-    by (Bad bad rule) (front, x, back, all, b) =
-        (take k (entries_of bytes) ++ front, x, back, sym (take-append-drop k (entries_of bytes)) ∙ ap (λ xs. take k (entries_of bytes) ++ xs) all ∙ sym (append_assoc (take k (entries_of bytes)) front (x ∷ back)), b)
-    by Memory b = tt
 
 -- ---- by the code's numbers
 

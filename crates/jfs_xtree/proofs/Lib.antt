@@ -10,13 +10,16 @@ pub mod Inners
 pub mod Forms
 pub mod Roots
 pub mod Adds
+pub mod CutMarks
 pub mod CutFrees
 pub mod CutRows
 pub mod CutWalks
 pub mod CutInners
 pub mod CutSteps
+pub mod CutWays
 pub mod CutTold
 pub mod CutRoots
+pub mod CutNamed
 pub mod Entered
 pub mod Written
 pub mod WrittenIn

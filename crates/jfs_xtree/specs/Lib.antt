@@ -6,6 +6,7 @@ pub mod Errors
 pub mod Laws
 pub mod Cutting
 pub mod CutParts
+pub mod CutMet
 pub mod Extents
 pub mod Writing
 pub mod WriteParts

@@ -6,12 +6,12 @@ ghost use Rattle.jfs_bits.specs.declared.rule.PageKind.TheVariants.{Xtree};
 ghost use Rattle.jfs_tree.specs.Call.{CarriesFault};
 ghost use Rattle.jfs_tree.specs.Changes.{TellsChanges};
 ghost use Rattle.jfs_tree.specs.Removes.{page_frees};
-ghost use Rattle.jfs_tree.specs.Root.{NamesBroken};
 ghost use Rattle.jfs_tree.specs.Tell.{TellsDraft, TellsThen};
 ghost use Rattle.jfs_ranges.specs.View.{CarriesCount};
 ghost use Rattle.jfs_xtpage.specs.Page.{head_of, entries_of, kind_flag};
 ghost use Rattle.jfs_xtree.specs.Node.{xt_scale};
-ghost use Rattle.jfs_xtree.specs.Spells.{IsRootSize, IsView, root_node, page_nodes, tree_error, CarriesXt};
+ghost use Rattle.jfs_xtree.specs.Spells.{IsRootSize, IsView, CarriesXt};
+ghost use Rattle.jfs_xtree.specs.CutMet.{FreesOnce, NamesFirstMet};
 ghost use Rattle.jfs_xtree.specs.Cutting.{CutsExtents, TellsCut, run_frees};
 
 use crate::check::check_page;
@@ -44,9 +44,9 @@ pub fn cut_to<V: PageView>(
     ensures fault { CarriesXt (V.PageView.faults view.old) (V.PageView.faults view.new) result }
     ensures cuts { V.PageView.tells → OnOk result (CutsExtents (V.PageView.block_count view.old) (page_of (V.PageView.image view.old)) blocks root.old root.new tx.old tx.new) }
     ensures edits { V.PageView.tells → OnOk result (TellsCut (V.PageView.block_count view.old) (page_of (V.PageView.image view.old)) tx.old tx.new) }
+    ensures once { V.PageView.tells → OnOk result (FreesOnce (V.PageView.block_count view.old) (page_of (V.PageView.image view.old)) blocks root.old tx.old tx.new) }
     ensures kept { OnErr result ((root.new ≡ root.old) × (tx.new ≡ tx.old)) }
-    ensures bad { V.PageView.tells → IfErr result (λ e.
-        NamesBroken xt_scale (page_nodes (V.PageView.block_count view.old) (page_of (V.PageView.image view.old))) (root_node (V.PageView.block_count view.old) root.old) (tree_error e)) }
+    ensures bad { V.PageView.tells → IfErr result (NamesFirstMet (V.PageView.block_count view.old) (page_of (V.PageView.image view.old)) blocks root.old) }
 {
     let Ok(old) = copy_of(alloc, root) else {
         return Err(XtError::View(ViewError::Memory));
@@ -79,8 +79,8 @@ fn plan_cut<V: PageView>(
     ensures fault { CarriesXt (V.PageView.faults view.old) (V.PageView.faults view.new) result }
     ensures cuts { V.PageView.tells → IfOk result (λ later. CutsExtents (V.PageView.block_count view.old) (page_of (V.PageView.image view.old)) bound root.old root.new tx.now later) }
     ensures edits { V.PageView.tells → IfOk result (λ later. TellsCut (V.PageView.block_count view.old) (page_of (V.PageView.image view.old)) tx.now later) }
-    ensures bad { V.PageView.tells → IfErr result (λ e.
-        NamesBroken xt_scale (page_nodes (V.PageView.block_count view.old) (page_of (V.PageView.image view.old))) (root_node (V.PageView.block_count view.old) root.old) (tree_error e)) }
+    ensures once { V.PageView.tells → IfOk result (λ later. FreesOnce (V.PageView.block_count view.old) (page_of (V.PageView.image view.old)) bound root.old tx.now later) }
+    ensures bad { V.PageView.tells → IfErr result (NamesFirstMet (V.PageView.block_count view.old) (page_of (V.PageView.image view.old)) bound root.old) }
 {
     let blocks = view.blocks();
     let form = root_form(root);
@@ -94,6 +94,8 @@ fn plan_cut<V: PageView>(
         draft: Draft::new(alloc),
         pages: Vec::new(alloc),
         runs: PxdList::new(alloc),
+        met: 0,
+        below: 0,
     };
     match cut_page(form, blocks, view, &mut cut, 7, root, bound) {
         Ok(kept) => close_root(root, kept),

@@ -14,6 +14,7 @@ mod free_below;
 mod inserting;
 mod links;
 mod listing;
+mod met;
 mod parts;
 mod place;
 mod root;

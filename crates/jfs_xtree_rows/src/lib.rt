@@ -6,6 +6,8 @@ mod adding;
 #[cfg(test)]
 mod cut_hostile;
 #[cfg(test)]
+mod cut_reads;
+#[cfg(test)]
 mod cutting;
 #[cfg(test)]
 mod hostile;

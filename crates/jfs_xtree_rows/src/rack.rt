@@ -9,8 +9,8 @@ ghost use Rattle.jfs_disk.specs.declared.disk.Part.TheVariants.{Low};
 use crate::shelf::{entry, extent, head};
 use jfs_bits::{Xad, XadList};
 use jfs_disk::{Fault, Page, Part};
-use jfs_ranges::{PageView, ViewError};
-use jfs_xtree::{XtError, extents};
+use jfs_ranges::{PageView, Tx, ViewError};
+use jfs_xtree::{XtError, cut_to, extents};
 use std::alloc::{AllocError, Global};
 
 /// A volume of 64 blocks, of which the first ten are pages. One of them may be such that it can't be read.
@@ -98,6 +98,26 @@ impl Rack {
         Ok(rack)
     }
 
+    /// Page `n` names the page behind it ten times, for pages 1 to `last`, with keys ten blocks apart, and the page behind them is a leaf.
+    pub fn ten(alloc: Global, last: u32) -> Result<Rack, AllocError> {
+        let mut rack = Rack::new(alloc)?;
+        for n in 1..last.saturating_add(1) {
+            rack.name_ten(n);
+        }
+        rack.leaf(last.saturating_add(1), (3, 2, 20), (5, 1, 23));
+        Ok(rack)
+    }
+
+    fn name_ten(&mut self, n: u32) {
+        if let Some(page) = self.pages.get_mut(n as usize) {
+            head(&mut page.0, 4, 12, 256);
+            for i in 0..10u8 {
+                let key = u32::from(i) * 10;
+                entry(&mut page.0, usize::from(i), key, 1, n.saturating_add(1));
+            }
+        }
+    }
+
     /// Page `n` is a leaf with two extents.
     pub fn leaf(&mut self, n: u32, first: Blocks, second: Blocks) {
         self.put(n, 2, first, second);
@@ -168,4 +188,34 @@ pub fn refuses(alloc: Global, rack: &mut Rack, root: &[u8; 288], why: XtError) -
         Ok(_) => false,
         Err(e) => e == why,
     }
+}
+
+fn cut(
+    alloc: Global,
+    rack: &mut Rack,
+    root: &mut [u8; 288],
+    bound: u64,
+    tx: &mut Tx,
+) -> Result<(), XtError> {
+    cut_to(alloc, rack, root, bound, tx)
+}
+
+/// Whether a copy of the tree is cut at a block of the file.
+pub fn cuts(alloc: Global, rack: &mut Rack, root: &[u8; 288], bound: u64) -> bool {
+    let mut copy = *root;
+    let mut tx = Tx::new(alloc);
+    cut(alloc, rack, &mut copy, bound, &mut tx).is_ok()
+}
+
+/// Whether the cut is refused for this, and tells nothing.
+pub fn refuses_cut(
+    alloc: Global,
+    rack: &mut Rack,
+    root: &[u8; 288],
+    bound: u64,
+    why: XtError,
+) -> bool {
+    let mut copy = *root;
+    let mut tx = Tx::new(alloc);
+    cut(alloc, rack, &mut copy, bound, &mut tx) == Err(why) && copy == *root && tx.len() == 0
 }

@@ -1,6 +1,6 @@
 //! Steps of tests on trees of three levels by hand, for tables.
 
-use crate::rack::{Blocks, Rack, is_listed, lists, refuses, root};
+use crate::rack::{Blocks, Rack, cuts, is_listed, lists, refuses, refuses_cut, root};
 use crate::shelf::head;
 use jfs_bits::Rule;
 use jfs_disk::{Fault, Part};
@@ -20,6 +20,8 @@ pub enum Step {
     Three,
     /// Each page up to this one has the next one as its only child.
     Chain(u32),
+    /// Each page up to this one names the next one ten times, and the root has page 1 alone.
+    Ten(u32),
     /// The root has two children: page 1, and this one with its key.
     Root(Blocks),
     /// The root's header.
@@ -46,6 +48,10 @@ pub enum Step {
     Fault,
     /// So many pages were read.
     Reads(u64),
+    /// A copy of the tree is cut at a block of the file, and so many pages are read for it.
+    Cut(u64, u64),
+    /// It isn't, since the page breaks the rule, and so many pages are read.
+    CutBad(u64, u32, Rule, u64),
 }
 
 /// How many of the steps hold, from a tree of three levels on, before the first that doesn't.
@@ -72,11 +78,23 @@ fn holds(alloc: Global, rack: &mut Rack, top: &mut [u8; 288], step: &Step) -> bo
     match step {
         Step::Three => becomes(rack, Rack::three_levels(alloc)),
         Step::Chain(last) => becomes(rack, Rack::chain(alloc, *last)),
+        Step::Ten(last) => {
+            *top = one_child();
+            becomes(rack, Rack::ten(alloc, *last))
+        }
         Step::Lists(all) => lists(alloc, rack, top, *all),
         Step::Listed => is_listed(alloc, rack, top),
         Step::Refuse(page, rule) => refuses(alloc, rack, top, bad(*page, *rule)),
         Step::Fault => refuses(alloc, rack, top, first_fault()),
         Step::Reads(reads) => rack.reads == *reads,
+        Step::Cut(bound, reads) => {
+            rack.reads = 0;
+            cuts(alloc, rack, top, *bound) && rack.reads == *reads
+        }
+        Step::CutBad(bound, page, rule, reads) => {
+            rack.reads = 0;
+            refuses_cut(alloc, rack, top, *bound, bad(*page, *rule)) && rack.reads == *reads
+        }
         _ => {
             put(rack, top, step);
             true
@@ -108,6 +126,12 @@ fn becomes(rack: &mut Rack, other: Result<Rack, AllocError>) -> bool {
         }
         Err(_) => false,
     }
+}
+
+fn one_child() -> [u8; 288] {
+    let mut top = root(SECOND);
+    head(&mut top, 0x85, 3, 18);
+    top
 }
 
 fn clear(root: &mut [u8; 288]) {

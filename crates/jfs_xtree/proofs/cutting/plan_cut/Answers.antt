@@ -1,30 +1,39 @@
-use Rattle.std.proofs.Common.{◌≡◌, ◌++◌, [], sym, subst, ◌∙◌, length, arith, false, ◌<◌}
+use Rattle.std.proofs.Common.{◌≡◌, ◌++◌, [], sym, subst, ◌∙◌, arith, false, ◌<◌}
 use Rattle.jfs_disk.specs.Image.{page_of}
 use Rattle.jfs_bits.specs.declared.rule.PageKind.TheVariants.{Xtree}
 use Rattle.jfs_tree.specs.Removes.{page_frees}
-use Rattle.jfs_tree.specs.Root.{NamesBroken}
+use Rattle.jfs_tree.specs.Spells.{no_page}
 use Rattle.jfs_xtpage.specs.declared.head.XtHead.{XtHead}
-use Rattle.jfs_xtree.specs.Node.{xt_scale, xt_node, is_leaf}
-use Rattle.jfs_xtree.specs.Spells.{root_form, root_node, page_nodes, tree_error}
+use Rattle.jfs_xtree.specs.Node.{is_leaf}
 use Rattle.jfs_xtree.specs.Errors.{handed_on}
+use Rattle.jfs_xtree.specs.CutMet.{FreesOnce, NamesFirstMet}
 use Rattle.jfs_xtree.specs.Cutting.{CutsExtents, run_frees}
 use Rattle.jfs_tree.proofs.Adds.{told_as}
 use Rattle.jfs_tree.proofs.Changed.{changes_as}
-use Rattle.jfs_xtree.proofs.CutRoots.{cuts_extents, cut_names, root_names}
+use Rattle.jfs_xtree.proofs.CutRoots.{cuts_extents}
+use Rattle.jfs_xtree.proofs.CutNamed.{frees_once, names_met, names_root_met}
 use Rattle.jfs_xtree.proofs.cutting.plan_cut.Goals as goal
 
 pub returns-in-Err-clause-bad : goal.returns-in-Err-clause-bad
 returns-in-Err-clause-bad g c tells =
-    root_names c.root_form-form.result (root_form (length c.args.root.now)) c.blocks-blocks.result (g.V.PageView.block_count c.args.view.now) c.args.root.now (g.V.PageView.image c.args.view.now) c.in-Err.rule c.blocks-blocks.ensures c.root_form-form.ensures c.in-Err.ensures.broken
+    names_root_met c.root_form-form.result c.blocks-blocks.result (g.V.PageView.block_count c.args.view.now) c.args.bound c.args.root.now (g.V.PageView.image c.args.view.now) c.in-Err.rule c.blocks-blocks.ensures c.root_form-form.ensures c.in-Err.ensures.broken
 
 pub returns-in-Err-cut_page-clause-bad : goal.returns-in-Err-cut_page-clause-bad
 returns-in-Err-cut_page-clause-bad g c tells =
     let image = g.V.PageView.image c.args.view.now in
     let head = c.in_default.ensures.sound.0 in
-    subst (λ r. NamesBroken xt_scale (page_nodes (g.V.PageView.block_count c.args.view.now) (page_of image)) (root_node (g.V.PageView.block_count c.args.view.now) c.args.root.now) (tree_error r)) (sym c.handed_on.ensures)
-    (subst (λ b. NamesBroken xt_scale (page_nodes b (page_of image)) (root_node b c.args.root.now) (tree_error (handed_on c.in-Err-cut_page.e))) c.blocks-blocks.ensures
-    (subst (λ f. NamesBroken xt_scale (page_nodes c.blocks-blocks.result (page_of image)) (xt_node f c.blocks-blocks.result c.args.root.now) (tree_error (handed_on c.in-Err-cut_page.e))) c.root_form-form.ensures
-    (cut_names c.root_form-form.result c.blocks-blocks.result c.args.root.now image c.in-Err-cut_page.e c.in_default.ensures.sound.1 (subst (λ (h : XtHead). is_leaf h.flag ≡ false → 2 < h.nextindex) head c.in_default.ensures.some) (c.in-Err-cut_page.ensures.bad tells))))
+    subst (λ r. NamesFirstMet (g.V.PageView.block_count c.args.view.now) (page_of image) c.args.bound c.args.root.now r) (sym c.handed_on.ensures)
+    (subst (λ b. NamesFirstMet b (page_of image) c.args.bound c.args.root.now (handed_on c.in-Err-cut_page.e)) c.blocks-blocks.ensures
+    (names_met c.root_form-form.result c.blocks-blocks.result c.args.bound c.args.root.now image c.in-Err-cut_page.e c.root_form-form.ensures c.in_default.ensures.sound.1 (subst (λ (h : XtHead). is_leaf h.flag ≡ false → 2 < h.nextindex) head c.in_default.ensures.some)
+    c.in-Err-cut_page.ensures.leaf_bad (c.in-Err-cut_page.ensures.bad tells no_page)))
+
+pub returns-in-Ok-tell_cut-clause-once : goal.returns-in-Ok-tell_cut-clause-once
+returns-in-Ok-tell_cut-clause-once g c tells =
+    let image = g.V.PageView.image c.args.view.now in
+    let head = c.in_default.ensures.sound.0 in
+    subst (λ b. FreesOnce b (page_of image) c.args.bound c.args.root.now c.args.tx.now c.in-Ok-tell_cut.later) c.blocks-blocks.ensures
+    (frees_once c.root_form-form.result c.blocks-blocks.result c.args.bound c.cut_page.new.cut.met c.cut_page.new.cut.below c.args.root.now image c.in-Ok.kept c.cut_page.new.cut.pages.items c.cut_page.new.cut.runs c.args.tx.now c.in-Ok-tell_cut.later c.root_form-form.ensures c.in_default.ensures.sound.1
+    (subst (λ (h : XtHead). is_leaf h.flag ≡ false → 2 < h.nextindex) head c.in_default.ensures.some) (c.in-Ok.ensures.met tells) (λ l. (let t = c.in-Ok.ensures.leaf l in (t.3, t.1))) c.in-Ok-tell_cut.ensures.frees)
 
 pub returns-in-Ok-tell_cut-clause-cuts : goal.returns-in-Ok-tell_cut-clause-cuts
 returns-in-Ok-tell_cut-clause-cuts g c tells =
