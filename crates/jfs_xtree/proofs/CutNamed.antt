@@ -28,7 +28,7 @@ use Rattle.jfs_xtree.specs.CutParts.{CutMet, FitsLeaf, StopsAt, shows}
 use Rattle.jfs_xtree.proofs.Reading.{sound_leaf, sound_inner}
 use Rattle.jfs_xtree.proofs.CutInners.{here_zero}
 use Rattle.jfs_xtree.proofs.CutMarks.{rises_judged, not_judged}
-use Rattle.jfs_xtree.proofs.CutWays.{node_rises, met_rises}
+use Rattle.jfs_xtree.proofs.CutSpelled.{node_rises, met_rises}
 use Rattle.jfs_xtree.proofs.CutRoots.{among}
 
 -- ---- what is freed

@@ -17,6 +17,7 @@ pub mod CutWalks
 pub mod CutInners
 pub mod CutSteps
 pub mod CutWays
+pub mod CutSpelled
 pub mod CutTold
 pub mod CutRoots
 pub mod CutNamed
