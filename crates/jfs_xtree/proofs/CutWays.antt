@@ -1,5 +1,5 @@
 -- What a cut meets on its way to the bound.
-use Rattle.std.proofs.Common.{◌≡◌, ◌≤◌, ◌<◌, refl, sym, ap, ◌∙◌, subst, ℕ, zero, suc, ◌+◌, ◌-◌, Bool, true, false, if◌then◌else◌, List, [], ◌∷◌, ◌++◌, map, length, take, drop, Some, Result, Ok, Err, IfOk, OnOk, IfErr, arith}
+use Rattle.std.proofs.Common.{◌≡◌, ◌≤◌, ◌<◌, refl, sym, ap, ◌∙◌, subst, ℕ, zero, suc, ◌+◌, ◌-◌, ◌==◌, Bool, true, false, if◌then◌else◌, List, [], ◌∷◌, ◌++◌, map, length, take, drop, Some, Result, Ok, Err, IfOk, OnOk, IfErr, arith}
 use Rattle.std.specs.Prelude.{nat_le, nat_lt}
 use Rattle.std.specs.List.{flat_map}
 use Rattle.std.proofs.lemmas.Bool.{le-leb, lt-leb, leb-true}
@@ -18,7 +18,7 @@ use Rattle.jfs_tree.specs.declared.draft.Drafted.{Drafted}
 use Rattle.jfs_tree.specs.declared.form.TreeError.{TreeError}
 use Rattle.jfs_tree.specs.declared.form.TreeError.TheVariants.{View, Bad, Memory}
 use Rattle.jfs_tree.proofs.Rising.{rises_join}
-use Rattle.jfs_tree.proofs.Frame.{rows-append}
+use Rattle.jfs_tree.proofs.Frame.{times-append, rows-append}
 use Rattle.jfs_tree.proofs.Keys.{rises_up}
 use Rattle.jfs_tree.proofs.Leaves.{rows_leaf, placed_leaf}
 use Rattle.jfs_xtpage.specs.Page.{head_of, entries_of, entry_of, count_of, end_of, rises_from}
@@ -232,23 +232,25 @@ below_breaks nodes bound most less last place key n c node bytes e order is lead
     (subst (λ k. StopsAt c.key (met nodes bound k (record { key = key; page = n })) e) (sym more) (met_stops nodes bound less c.key (record { key = key; page = n }) e pass.1 s))
 
 -- the child on the way, with all that is met below it
-record ChildMet (nodes : ℕ → Node ℕ Xad) (bound most low key n mid b : ℕ) (kept : Bool) (runs : List Pxd) : Type 0 where
+record ChildMet (nodes : ℕ → Node ℕ Xad) (bound most low key n mid b : ℕ) (kept : Bool) (freed : List ℕ) (runs : List Pxd) : Type 0 where
   rises : Rises xt_scale low (met nodes bound most (record { key = key; page = n })) (Some mid)
   ends : mid ≡ place_after low (met nodes bound most (record { key = key; page = n }))
   level : way_levels nodes bound most n ≡ suc b
   gone : runs ≡ gone_past bound (rows_of (met nodes bound most (record { key = key; page = n })))
+  inside : (m : ℕ) → (if n == m then 1 else 0) + count_in m freed ≤ times m (met nodes bound most (record { key = key; page = n }))
   whole : kept ≡ false → met nodes bound most (record { key = key; page = n }) ≡ part_of nodes b key n
 
 child_met : (nodes : ℕ → Node ℕ Xad) (bound most less low key n mid b : ℕ) (kept : Bool) (freed : List ℕ) (runs : List Pxd) → most ≡ suc less → low ≤ key → CutMet nodes bound less (record { key = key; page = n }) (nodes n) mid b kept freed runs
-    → ChildMet nodes bound most low key n mid b kept runs
+    → ChildMet nodes bound most low key n mid b kept freed runs
 unfolding met way_levels walk
 child_met nodes bound most less low key n mid b kept freed runs more l m =
-    subst (λ k. ChildMet nodes bound k low key n mid b kept runs) (sym more)
+    subst (λ k. ChildMet nodes bound k low key n mid b kept freed runs) (sym more)
     (record {
       rises = (le-leb low key l, m.rises);
       ends = m.ends;
       level = ap (λ k. suc k) (sym m.level);
       gone = m.gone;
+      inside = λ p. (let i = m.inside p in omega (arith, i));
       whole = λ z. ap (λ ms. Key n key ∷ Page n ∷ ms) (m.whole z);
     })
 
@@ -287,16 +289,20 @@ inner_shows : (nodes : ℕ → Node ℕ Xad) (below b : ℕ) (c : Child ℕ) (no
 inner_shows nodes below b c node ys e is some =
     ap (λ l. shows nodes l c node) e ∙ ap (λ o. body (walk xt_scale nodes (suc b)) c o) (ap (placed xt_scale (suc b) c.key) is ∙ some_children b c.key ys some)
 
+two_inside : (n : ℕ) (k : Bool) (one two : List ℕ) → (k ≡ true → two ≡ one) → (k ≡ false → two ≡ one ++ n ∷ []) → (p : ℕ) → count_in p two ≤ (if n == p then 1 else 0) + count_in p one
+two_inside n true one two same pushed p = let e = ap (count_in p) (same refl) in omega (arith, e)
+two_inside n false one two same pushed p = let e = ap (count_in p) (pushed refl) in let a = count-append p one (n ∷ []) in omega (arith, e, a)
+
 part_rises : (nodes : ℕ → Node ℕ Xad) (b low key n mid : ℕ) (ms : Marks ℕ Xad) → ms ≡ part_of nodes b key n → Rises xt_scale low ms (Some mid) → Rises xt_scale key (part_of nodes b key n) (Some mid)
 unfolding walk
 part_rises nodes b low key n mid ms e r = let s = subst (λ xs. Rises xt_scale low xs (Some mid)) e r in (le-leb key key (omega arith), s.1)
 
 pub inner_met : (blocks bound most less last place key n mid b high below : ℕ) (c : Child ℕ) (node : Node ℕ Xad) (bytes : List ℕ) (image : Image) (after : ℕ → List ℕ) (k kept : Bool) (one two freed : List ℕ) (first given runs : List Pxd)
     → rises_from 0 (entries_of bytes) ≡ true → last ≡ bound - 1 → LeadsAt bytes last place → node ≡ Inner (map child_of (entries_of bytes)) → (key ≡ key_at c.key place (entry_of bytes place).offset) × (c.key ≤ key) → n ≡ (entry_of bytes place).at.addr → most ≡ suc less
-    → CutMet (page_nodes blocks (page_of image)) bound less (record { key = key; page = n }) (page_nodes blocks (page_of image) n) mid b k one first → CutsPage blocks bound (page_of image) after n k two given → (k ≡ true → two ≡ one)
+    → CutMet (page_nodes blocks (page_of image)) bound less (record { key = key; page = n }) (page_nodes blocks (page_of image) n) mid b k one first → CutsPage blocks bound (page_of image) after n k two given → (k ≡ true → two ≡ one) → (k ≡ false → two ≡ one ++ n ∷ [])
     → Frees mid (children_from (page_nodes blocks (page_of image)) b (place + 1) mid (entries_of bytes)) high two freed first runs → below ≡ b + 1 → (kept ≡ false → (place ≡ 0) × (k ≡ false))
     → CutMet (page_nodes blocks (page_of image)) bound most c node high below kept freed runs
-inner_met blocks bound most less last place key n mid b high below c node bytes image after k kept one two freed first given runs order_is is leads inner pass at more m cuts same frees deeper none =
+inner_met blocks bound most less last place key n mid b high below c node bytes image after k kept one two freed first given runs order_is is leads inner pass at more m cuts same pushed frees deeper none =
     let nodes = page_nodes blocks (page_of image) in
     let back = drop (place + 1) (entries_of bytes) in
     let w = way_is nodes bound most last place key n c node bytes order_is is leads inner pass.0 at in
@@ -319,6 +325,9 @@ inner_met blocks bound most less last place key n mid b high below c node bytes 
       spread = spread_join nodes c.key mid high (λ p. count_in p two) (λ p. times p R) (λ p. count_in p freed) up on
           (child_spread blocks bound c.key key n mid b image after k one two given pass.1 m.spread same (λ z. part_rises nodes b c.key key n mid M (h.whole z) h.rises) cuts)
           (spread_list nodes (suc b) (map child_of back) mid high f.rises) (λ p. (let a = ap (count_in p) f.pages in let d = count-append p two (pages_in R) in let e = count_pages p R in omega (arith, a, d, e)));
+      inside = λ p.
+          (let a = ap (count_in p) f.pages in let d = count-append p two (pages_in R) in let e = count_pages p R in let i = h.inside p in let j = two_inside n k one two same pushed p in let t = times-append p M R in let s = ap (times p) split in
+          omega (arith, a, d, e, i, j, t, s));
       whole = λ z. (let y = none z in all_met nodes h.level (h.whole y.1) split y.0 (let x = y.0 in omega (arith, x, inside)));
     }
   where
@@ -346,6 +355,7 @@ leaf_met nodes bound most low page high below (e ∷ es) kept freed runs fits r 
       ends = end ∙ ap (place_after low) (sym is);
       gone = gone ∙ ap (gone_past bound) (sym (ap rows_of is ∙ rows_leaf ℕ page (e ∷ es)));
       spread = spread_none nodes low high (λ n. count_in n freed) (λ n. ap (count_in n) none);
+      inside = λ n. (let e = ap (count_in n) none in omega (arith, e));
       whole = λ k. is ∙ sym (ap (λ b. shows nodes b c (Leaf (e ∷ es))) z ∙ ap (body (walk xt_scale nodes 0) c) (placed_leaf xt_scale low (e ∷ es) fits));
     }
 
@@ -378,6 +388,10 @@ child_is blocks bound less key n addr mid more b deeper image view page kept fre
 pub settled_kept : (k : Bool) (page : ℕ) (bytes : List ℕ) (old new : List Drafted) (free freed : List ℕ) → Settles k page bytes old new free freed → k ≡ true → freed ≡ free
 settled_kept true page bytes old new free freed s e = s.1
 settled_kept false page bytes old new free freed s e = absurd cc
+
+pub settled_gone : (k : Bool) (page : ℕ) (bytes : List ℕ) (old new : List Drafted) (free freed : List ℕ) → Settles k page bytes old new free freed → k ≡ false → freed ≡ free ++ page ∷ []
+settled_gone true page bytes old new free freed s e = absurd cc
+settled_gone false page bytes old new free freed s e = s.1
 
 pub none_left : (place left r : ℕ) (k : Bool) → left ≡ place + r → r ≡ (if k then 1 else 0) → left ≡ 0 → (place ≡ 0) × (k ≡ false)
 none_left place left r true a b z = absurd (omega (arith, a, b, z))

@@ -5,7 +5,7 @@ use Rattle.jfs_bits.specs.declared.extent.Xad.{Xad}
 use Rattle.jfs_bits.specs.declared.rule.Rule.{Rule}
 use Rattle.jfs_bits.specs.declared.rule.Rule.TheVariants as rules
 use Rattle.jfs_ranges.specs.declared.edit.Edit.{Edit}
-use Rattle.jfs_tree.specs.Walk.{Child, Node, Leaf, Inner, Broken, Page, Key, Row, Fault, Marks, under, walk}
+use Rattle.jfs_tree.specs.Walk.{Child, Node, Leaf, Inner, Broken, Page, Key, Row, Fault, Marks, times, under, walk}
 use Rattle.jfs_tree.specs.Spells.{no_page, top, judge}
 use Rattle.jfs_tree.specs.Edit.{count_in}
 use Rattle.jfs_tree.specs.Removes.{page_frees}
@@ -77,10 +77,10 @@ met_of pages bound (Broken rule) = Fault no_page rule ∷ []
 abbrev pub met_extents : ℕ → (ℕ → List ℕ) → ℕ → List ℕ → Result (List Xad) (ℕ × Rule)
 met_extents blocks pages bound root = judge xt_scale 0 (met_of (page_nodes blocks pages) bound (root_node blocks root))
 
--- Whatever the pages hold: no page is freed twice, and the blocks that are freed are those that the extents met, which rise, have past the bound.
+-- Whatever the pages hold: no page is freed twice, nor one that wasn't met, and the blocks that are freed are those that the extents met, which rise, have past the bound.
 abbrev pub FreesOnce : ℕ → (ℕ → List ℕ) → ℕ → List ℕ → List Edit → List Edit → Type 0
 FreesOnce blocks pages bound root tx later = (xs : List Xad) × (freed : List ℕ) × (met_extents blocks pages bound root ≡ Ok xs) × ((n : ℕ) → count_in n freed ≤ 1)
-    × TellsThen (page_frees freed ++ run_frees (gone_past bound xs)) tx later
+    × ((n : ℕ) → count_in n freed ≤ times n (met_of (page_nodes blocks pages) bound (root_node blocks root))) × TellsThen (page_frees freed ++ run_frees (gone_past bound xs)) tx later
 
 -- A page is named exactly where it is the first one that breaks a rule in what the cut meets, and then the root spells no list.
 abbrev pub NamesFirstMet : ℕ → (ℕ → List ℕ) → ℕ → List ℕ → XtError → Type 0

@@ -157,6 +157,7 @@ pub record CutMet (nodes : ℕ → Node ℕ Xad) (bound most : ℕ) (c : Child �
   pub ends : high ≡ place_after c.key (met_below nodes bound most c node)
   pub gone : runs ≡ gone_past bound (rows_of (met_below nodes bound most c node))
   pub spread : Spread nodes c.key high (λ n. count_in n freed)
+  pub inside : (n : ℕ) → count_in n freed ≤ times n (met_below nodes bound most c node)
   pub whole : kept ≡ false → met_below nodes bound most c node ≡ shows nodes below c node
 
 -- a leaf's first extent fits the key

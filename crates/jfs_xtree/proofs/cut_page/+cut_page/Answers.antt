@@ -13,7 +13,7 @@ use Rattle.jfs_xtree.specs.CutParts.{CutsNode, CutsPage, Frees, StopsAt, key_at,
 use Rattle.jfs_xtree.proofs.Reading.{is_rising, sound_inner}
 use Rattle.jfs_xtree.proofs.CutFrees.{fits_first, frees_under}
 use Rattle.jfs_xtree.proofs.CutSteps.{leaf_done, page_settled, inner_done, left_some, is_some, is_none, one_or_none, kind_cut}
-use Rattle.jfs_xtree.proofs.CutWays.{leaf_met_if, child_breaks, below_breaks, behind_breaks, behind_is, inner_met, child_is, child_node, settled_kept, none_left}
+use Rattle.jfs_xtree.proofs.CutWays.{leaf_met_if, child_breaks, below_breaks, behind_breaks, behind_is, inner_met, child_is, child_node, settled_kept, settled_gone, none_left}
 use Rattle.jfs_xtree.proofs.cut_page.+cut_page.Goals as goal
 
 pub returns-then-is_leaf-clause-cuts : goal.returns-then-is_leaf-clause-cuts
@@ -123,6 +123,7 @@ returns-clause-met g t c tells = λ fits page.
     (c.in-Ok.ensures.image tells) (c.in-Ok.ensures.bytes tells) c.page_of-n.ensures.page c.in_ok-settle.ensures.came.0 c.in_ok-settle.ensures.came.1
     (c.in-Ok-cut_page.ensures.met tells (λ leaf. fits_first key c.in-Ok.page.0 (omega (arith, some)) (c.in-Ok.ensures.fits leaf)) n))
     settled (settled_kept kept n c.end_level.new.bytes c.cut_page.new.cut.draft.pages.items c.settle.new.cut.draft.pages.items c.cut_page.new.cut.pages.items c.settle.new.cut.pages.items c.in_ok-settle.ensures.settles)
+    (settled_gone kept n c.end_level.new.bytes c.cut_page.new.cut.draft.pages.items c.settle.new.cut.draft.pages.items c.cut_page.new.cut.pages.items c.settle.new.cut.pages.items c.in_ok-settle.ensures.settles)
     (subst (λ rs. Frees c.settle.new.cut.met (children_from (page_nodes c.args.blocks (page_of image)) c.settle.new.cut.below (place + 1) c.settle.new.cut.met (entries_of c.args.bytes.now)) c.free_children.new.cut.met c.settle.new.cut.pages.items c.free_children.new.cut.pages.items rs c.free_children.new.cut.runs) c.in_ok-settle.ensures.runs
     (subst (λ (i : Image). Frees c.settle.new.cut.met (children_from (page_nodes c.args.blocks (page_of i)) c.settle.new.cut.below (place + 1) c.settle.new.cut.met (entries_of c.args.bytes.now)) c.free_children.new.cut.met c.settle.new.cut.pages.items c.free_children.new.cut.pages.items c.settle.new.cut.runs c.free_children.new.cut.runs)
     (c.in-Ok-cut_page.ensures.image tells ∙ c.in-Ok.ensures.image tells) (c.in-Ok-free_children.ensures.frees tells)))
