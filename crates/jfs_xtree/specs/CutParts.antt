@@ -54,6 +54,13 @@ CutsPage blocks bound before after page kept freed runs = (levels key low : ℕ)
     (flat_map (walk xt_scale (page_nodes blocks after) levels) (kept_of kept (record { key = key; page = page }))) high freed runs
     × (kept ≡ true → FillsPage blocks before after page)
 
+-- the pages of children, and of entries
+abbrev pub pages_of_children : List (Child ℕ) → List ℕ
+pages_of_children cs = map (λ c. c.page) cs
+
+abbrev pub pages_of_entries : List Xad → List ℕ
+pages_of_entries xs = map (λ x. x.at.addr) xs
+
 -- the runs of extents
 abbrev pub runs_of : List Xad → List Pxd
 runs_of xs = map (λ x. x.at) xs
