@@ -146,6 +146,6 @@ pub stopped : {D : Type 0} (d : Ghosts D) (old mid new : D) (s : Super) (end : E
     → outcome.text.items ≡ [] → outcome.end ≡ end → Performs d check_meaning old new outcome
 stopped d old mid new s (Own status) outcome runs same no_text is_end = said d old mid new s (Err (Own status)) outcome (refused status) runs runs.ends.0 runs.ends.2 runs.ends.1 same no_text is_end
 stopped d old mid new s (Stopped stops.Disk) outcome runs same no_text is_end =
-    disk_failed d old new outcome check_behind check_goes (accepted_pages s (d.page_count old) runs.looked.3) same no_text (subst (λ (n : ℕ). Rose n (d.fault_count new)) runs.looked.4 runs.ends) is_end
-stopped d old mid new s (Stopped stops.Memory) outcome runs same no_text is_end = no_memory d old new outcome check_behind check_goes (accepted_pages s (d.page_count old) runs.looked.3) same no_text is_end
+    disk_failed d old new outcome check_behind check_goes runs.pages (accepted_pages s (d.page_count old) runs.looked.3) same no_text (subst (λ (n : ℕ). Rose n (d.fault_count new)) runs.looked.4 runs.ends) is_end
+stopped d old mid new s (Stopped stops.Memory) outcome runs same no_text is_end = no_memory d old new outcome check_behind check_goes runs.pages (accepted_pages s (d.page_count old) runs.looked.3) same no_text is_end
 stopped d old mid new s (Stopped stops.Scripts) outcome runs same no_text is_end = absurd runs.ends

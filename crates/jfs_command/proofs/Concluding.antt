@@ -2,7 +2,7 @@
 use Rattle.std.proofs.Common.{◌≡◌, ℕ, List, [], ◌++◌, length, map, Result, Ok, Err, ◌⊎◌, inl, inr, refl, sym, ap, subst, ◌∙◌}
 use Rattle.std.proofs.lemmas.List.{append-nil, nil_from_length, length-map}
 use Rattle.jfs_bits.specs.declared.descriptor.Moment.{Moment}
-use Rattle.jfs_disk.specs.Image.{Image, page_of}
+use Rattle.jfs_disk.specs.Image.{Image, page_of, ArePages}
 use Rattle.jfs_disk.specs.declared.disk.Disk.{Ghosts as DiskMembers}
 use Rattle.jfs_io.specs.declared.source.Source.{Ghosts as SourceMembers}
 use Rattle.jfs_io.specs.declared.sink.Sink.{Ghosts as SinkMembers}
@@ -18,6 +18,7 @@ use Rattle.jfs_command.specs.declared.outcome.Outcome.{Outcome}
 use Rattle.jfs_command.specs.Status.{Kind, Finishes, Refuses, RefusesWord, ByScripts, BySink, ByDisk, ByMemory, IsOwnKind, kind_of, status_of, sink_fault_after, line_of}
 use Rattle.jfs_command.specs.Count.{Count, Stays, HasRisen}
 use Rattle.jfs_command.specs.Held.{held_of}
+use Rattle.jfs_command.proofs.Evidence.{held_as, some_held}
 use Rattle.jfs_command.specs.Inputs.{Inputs, AreInputs}
 use Rattle.jfs_command.specs.Meaning.{Answer, EndsBy, work_of}
 use Rattle.jfs_command.specs.Meanings.{meaning_of}
@@ -131,18 +132,19 @@ answered d s k asked command is now old new outcome whole status result p is_who
 
 -- words outside the grammar: nothing is done
 pub refused : {D S K : Type 0} (d : DiskMembers D) (s : SourceMembers S) (k : SinkMembers K) (asked : Result Command Usage) (word : ℕ) → asked ≡ Err (record { word = word }) → (now : Moment) (disk : D) (scripts : List S) (out later : K) (result : Status) (history : List Entry) (told : List ℕ)
-    → history ≡ [] → told ≡ [] → Concludes k.tells (k.taken out) (k.taken later) (sink_count k out later) [] (statuses.Usage word) result
+    → (d.tells → ArePages (d.page_count disk) (d.image disk)) → history ≡ [] → told ≡ [] → Concludes k.tells (k.taken out) (k.taken later) (sink_count k out later) [] (statuses.Usage word) result
     → IsAnswered d s k asked now (record { disk = disk; scripts = scripts; out = out }) (record { disk = disk; scripts = scripts; out = later }) result history told
-refused {D} {S} {K} d s k asked word is now disk scripts out later result entries numbers no_history no_told concludes =
+refused {D} {S} {K} d s k asked word is now disk scripts out later result entries numbers pages no_history no_told concludes =
     let old : Devices D S K = record { disk = disk; scripts = scripts; out = out } in
     let new : Devices D S K = record { disk = disk; scripts = scripts; out = later } in
     let inputs : Inputs = record { scripts = map s.remaining scripts; now = now } in
-    let text = concluded (run_of d s k asked old new inputs (held_of d disk) (record { text = []; history = []; told = []; held = held_of d disk })) k.tells (k.taken out) (k.taken later) (statuses.Usage word) result (is, (refl, record { history = refl; told = refl; image = λ _. refl; past = λ _. refl }), (refl, refl)) tt concludes in
+    let found = some_held d disk pages in
+    let text = concluded (run_of d s k asked old new inputs (held_as d disk found.shown) (record { text = []; history = []; told = []; held = held_of d disk })) k.tells (k.taken out) (k.taken later) (statuses.Usage word) result (is, (refl, record { history = refl; told = refl; image = λ t. sym (found.is.image t); past = λ _. refl }), (refl, refl)) tt concludes in
     rw (no_history, no_told) (record {
       inputs = inputs;
       given = record { number = length-map scripts s.remaining; scripts = λ _. refl; moment = refl };
-      held = held_of d disk;
-      before = record { pages = refl; image = λ _. refl; past = λ _. refl };
+      held = held_as d disk found.shown;
+      before = found.is;
       whole = [];
       text = text.0;
       put = text.1;

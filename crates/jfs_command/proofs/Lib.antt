@@ -3,6 +3,7 @@ pub mod Printing
 pub mod Evidence
 pub mod SuperblockLemmas
 pub mod Performing
+pub mod Asked
 pub mod Looking
 pub mod Showing
 pub mod LogLines

@@ -170,6 +170,6 @@ pub log_not_shown : {D : Type 0} (d : Ghosts D) (old mid new : D) (s : Super) (i
     → outcome.text.items ≡ [] → outcome.end ≡ end → Performs d log_meaning old new outcome
 log_not_shown d old mid new s image (Own status) outcome runs same no_text is_end = said d old mid new s image (Err (Own status)) outcome (refused status) runs runs.ends.0 runs.ends.2 runs.ends.1 same no_text is_end
 log_not_shown d old mid new s image (Stopped stops.Disk) outcome runs same no_text is_end =
-    disk_failed d old new outcome log_behind log_goes (accepted_pages s (d.page_count old) runs.looked.3) same no_text (subst (λ (n : ℕ). Rose n (d.fault_count new)) runs.looked.4 runs.ends) is_end
-log_not_shown d old mid new s image (Stopped stops.Memory) outcome runs same no_text is_end = no_memory d old new outcome log_behind log_goes (accepted_pages s (d.page_count old) runs.looked.3) same no_text is_end
+    disk_failed d old new outcome log_behind log_goes runs.pages (accepted_pages s (d.page_count old) runs.looked.3) same no_text (subst (λ (n : ℕ). Rose n (d.fault_count new)) runs.looked.4 runs.ends) is_end
+log_not_shown d old mid new s image (Stopped stops.Memory) outcome runs same no_text is_end = no_memory d old new outcome log_behind log_goes runs.pages (accepted_pages s (d.page_count old) runs.looked.3) same no_text is_end
 log_not_shown d old mid new s image (Stopped stops.Scripts) outcome runs same no_text is_end = absurd runs.ends

@@ -20,7 +20,7 @@ use Rattle.jfs_command.specs.Held.{Held, IsHeld, ChangesNothing, held_of}
 use Rattle.jfs_command.specs.Meaning.{Meaning, Answer, LooksSame, EndsBy, Performs, faults_beside, only_looks, refused, work_of}
 use Rattle.jfs_command.specs.Superblock.{superblock_of, AfterRules, AfterSuperblock, Looks}
 use Rattle.jfs_command.proofs.SuperblockLemmas.{SamePage8, same_first, same_after, one_after}
-use Rattle.jfs_command.proofs.Evidence.{has_page8}
+use Rattle.jfs_command.proofs.Evidence.{held_as, some_held, has_page8}
 
 -- Such a command: the pages that it looks at, what it says of what a disk holds and its superblock where that is accepted, and the
 -- statuses that are judged of each disk.
@@ -92,22 +92,24 @@ comes d old new outcome c held answer goes is same is_text said own stays is_end
     ))
 
 -- a command that was stopped had looked at page 8
-stopped : {D : Type 0} (d : Ghosts D) (old new : D) (outcome : Outcome) (c : Behind) → GoesOn c → 9 ≤ d.page_count old → ShowsSame d old new outcome
-    → outcome.text.items ≡ [] → ((n : ℕ) × c.looks (held_of d old) n) × (outcome.text.items ≡ []) × ChangesNothing d.tells d.tells_crashes (held_of d old) (work_of outcome (held_of d new))
-stopped d old new outcome c goes there same no_text =
-    ((8, goes.page8 (held_of d old) (omega (arith, there))), no_text, changes_nothing d old new (held_of d old) outcome (record { pages = refl; image = λ t. refl; past = λ t. refl }) same)
+stopped : {D : Type 0} (d : Ghosts D) (old new : D) (outcome : Outcome) (c : Behind) (shown : Image) → GoesOn c → IsHeld d old (held_as d old shown) → 9 ≤ d.page_count old → ShowsSame d old new outcome
+    → outcome.text.items ≡ [] → ((n : ℕ) × c.looks (held_as d old shown) n) × (outcome.text.items ≡ []) × ChangesNothing d.tells d.tells_crashes (held_as d old shown) (work_of outcome (held_of d new))
+stopped d old new outcome c shown goes is there same no_text =
+    ((8, goes.page8 (held_as d old shown) (omega (arith, there))), no_text, changes_nothing d old new (held_as d old shown) outcome is same)
 
-pub no_memory : {D : Type 0} (d : Ghosts D) (old new : D) (outcome : Outcome) (c : Behind) → GoesOn c → 9 ≤ d.page_count old → ShowsSame d old new outcome
+pub no_memory : {D : Type 0} (d : Ghosts D) (old new : D) (outcome : Outcome) (c : Behind) → GoesOn c → (d.tells → ArePages (d.page_count old) (d.image old)) → 9 ≤ d.page_count old → ShowsSame d old new outcome
     → outcome.text.items ≡ [] → outcome.end ≡ Stopped stops.Memory → Performs d (looks_and c) old new outcome
-no_memory d old new outcome c goes there same no_text is_end =
-    ends_as d (looks_and c) old new outcome (held_of d old) (Stopped stops.Memory) is_end (record { pages = refl; image = λ t. refl; past = λ t. refl })
-    (λ sources. (stopped d old new outcome c goes there same no_text, tt))
+no_memory d old new outcome c goes pages there same no_text is_end =
+    let found = some_held d old pages in
+    ends_as d (looks_and c) old new outcome (held_as d old found.shown) (Stopped stops.Memory) is_end found.is
+    (λ sources. (stopped d old new outcome c found.shown goes found.is there same no_text, tt))
 
-pub disk_failed : {D : Type 0} (d : Ghosts D) (old new : D) (outcome : Outcome) (c : Behind) → GoesOn c → 9 ≤ d.page_count old → ShowsSame d old new outcome
+pub disk_failed : {D : Type 0} (d : Ghosts D) (old new : D) (outcome : Outcome) (c : Behind) → GoesOn c → (d.tells → ArePages (d.page_count old) (d.image old)) → 9 ≤ d.page_count old → ShowsSame d old new outcome
     → outcome.text.items ≡ [] → HasRisen (faults_of d old new) → outcome.end ≡ Stopped stops.Disk → Performs d (looks_and c) old new outcome
-disk_failed d old new outcome c goes there same no_text risen is_end =
-    ends_as d (looks_and c) old new outcome (held_of d old) (Stopped stops.Disk) is_end (record { pages = refl; image = λ t. refl; past = λ t. refl })
-    (λ sources. (stopped d old new outcome c goes there same no_text, (risen, refl)))
+disk_failed d old new outcome c goes pages there same no_text risen is_end =
+    let found = some_held d old pages in
+    ends_as d (looks_and c) old new outcome (held_as d old found.shown) (Stopped stops.Disk) is_end found.is
+    (λ sources. (stopped d old new outcome c found.shown goes found.is there same no_text, (risen, refl)))
 
 -- ---- the look at the superblock
 
@@ -123,13 +125,11 @@ pub seen : {D : Type 0} (d : Ghosts D) (disk : D) (s : Super) (image : Image) (c
     → Looks d.tells (d.page_count disk) (d.image disk) count (Ok s) → Seen d disk s image
 seen d disk s image count pages same (page, is8, is, accepted, stays) =
     let found = has_page8 d disk image page pages same is8 in
-    let at_least = accepted_pages s (d.page_count disk) accepted in
-    let count_is = found.is.pages in
     record {
-      held = found.held;
+      held = held_as d disk found.shown;
       is = found.is;
-      block = ap super_of (found.there (omega (arith, at_least, count_is))) ∙ sym is;
-      accepted = subst (λ (n : ℕ). IsAccepted s n) (sym count_is) accepted;
+      block = ap super_of (found.there (accepted_pages s (d.page_count disk) accepted)) ∙ sym is;
+      accepted = accepted;
       behind = found.behind;
     }
 
@@ -144,13 +144,13 @@ pub not_looked : {D : Type 0} (d : Ghosts D) (old new : D) (end : End) (outcome 
     → Looks d.tells (d.page_count old) (d.image old) (faults_of d old new) (Err end) → ShowsSame d old new outcome → outcome.text.items ≡ [] → outcome.end ≡ end → Performs d (looks_and c) old new outcome
 not_looked d old new (Own (statuses.BadImage number rule value)) outcome c goes pages (page, is8, number_is, broken, stays) same no_text is_end =
     let found = has_page8 d old (d.image old) page pages (λ t. refl) is8 in
-    let held : Held = found.held in
+    let held : Held = held_as d old found.shown in
     let first : first_broken (rows (superblock_of held) held.pages) ≡ Some (record { rule = rule; value = value }) =
-    same_first (superblock_of held) (super_of page) held.pages (λ there. ap super_of (found.there there)) ∙ ap (λ (n : ℕ). first_broken (rows (super_of page) n)) found.is.pages ∙ broken in
+    same_first (superblock_of held) (super_of page) held.pages (λ there. ap super_of (found.there there)) ∙ broken in
     comes d old new outcome c held (refused (statuses.BadImage number rule value)) goes found.is same no_text
     (subst (λ (o : Option BadSuper). AfterRules o (c.says d.tells held (superblock_of held)) (refused (statuses.BadImage number rule value))) (sym first) (ap (λ (n : ℕ). refused (statuses.BadImage n rule value)) number_is))
     tt stays is_end
-not_looked d old new (Stopped stops.Disk) outcome c goes pages (there, risen) same no_text is_end = disk_failed d old new outcome c goes there same no_text risen is_end
-not_looked d old new (Stopped stops.Memory) outcome c goes pages there same no_text is_end = no_memory d old new outcome c goes there same no_text is_end
+not_looked d old new (Stopped stops.Disk) outcome c goes pages (there, risen) same no_text is_end = disk_failed d old new outcome c goes pages there same no_text risen is_end
+not_looked d old new (Stopped stops.Memory) outcome c goes pages there same no_text is_end = no_memory d old new outcome c goes pages there same no_text is_end
 not_looked d old new (Stopped stops.Scripts) outcome c goes pages h same no_text is_end = absurd h
 not_looked d old new (Own _) outcome c goes pages h same no_text is_end = absurd h

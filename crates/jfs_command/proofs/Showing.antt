@@ -35,7 +35,7 @@ shown d old new s outcome pages looked same is_text is_end =
     comes d old new outcome super_behind found.held (finished (super_text s)) super_goes found.is same is_text
     (goes_on super_says found.held s (finished (super_text s)) found.block found.accepted refl) tt looked.4 is_end
 
-pub no_room : {D : Type 0} (d : Ghosts D) (old new : D) (s : Super) (outcome : Outcome) → Looks d.tells (d.page_count old) (d.image old) (faults_of d old new) (Ok s)
+pub no_room : {D : Type 0} (d : Ghosts D) (old new : D) (s : Super) (outcome : Outcome) → (d.tells → ArePages (d.page_count old) (d.image old)) → Looks d.tells (d.page_count old) (d.image old) (faults_of d old new) (Ok s)
     → ShowsSame d old new outcome → outcome.text.items ≡ [] → outcome.end ≡ Stopped stops.Memory → Performs d super_meaning old new outcome
-no_room d old new s outcome looked same no_text is_end =
-    no_memory d old new outcome super_behind super_goes (accepted_pages s (d.page_count old) looked.3) same no_text is_end
+no_room d old new s outcome pages looked same no_text is_end =
+    no_memory d old new outcome super_behind super_goes pages (accepted_pages s (d.page_count old) looked.3) same no_text is_end

@@ -1,6 +1,6 @@
 -- What a disk holds before a command and after it, and what a command did.
-use Rattle.std.specs.Prelude.{◌≡◌, ℕ, List, []}
-use Rattle.jfs_disk.specs.Image.{Image}
+use Rattle.std.specs.Prelude.{◌≡◌, ◌<◌, ℕ, List, [], length}
+use Rattle.jfs_disk.specs.Image.{Image, page_of}
 use Rattle.jfs_disk.specs.Crash.{DiskState}
 use Rattle.jfs_disk.specs.declared.disk.Disk.{Ghosts}
 use Rattle.jfs_plain.specs.declared.call.Entry.{Entry}
@@ -11,11 +11,12 @@ pub record Held : Type 0 where
   pub image : Image
   pub past : List DiskState
 
--- the disk holds this, as far as it tells
+-- The disk holds this, as far as it tells. Page 8, by which each command goes, is whole also where the disk doesn't tell.
 pub record IsHeld {D : Type 0} (d : Ghosts D) (disk : D) (held : Held) : Type 0 where
   pub pages : held.pages ≡ d.page_count disk
   pub image : d.tells → held.image ≡ d.image disk
   pub past : d.tells_crashes → held.past ≡ d.past disk
+  pub page8 : 8 < held.pages → length (page_of held.image 8) ≡ 4096
 
 -- What a command did: the text before its status's line, its clients' entries, the numbers of those that were told durable,
 -- and what the disk then holds.

@@ -1,5 +1,5 @@
 -- The superblock that a disk holds, as commands look at it.
-use Rattle.std.specs.Prelude.{◌≡◌, ◌<◌, ◌≤◌, ℕ, Bool, true, false, List, Option, Some, None, Result, Ok, Err}
+use Rattle.std.specs.Prelude.{◌≡◌, ◌<◌, ◌≤◌, ℕ, Bool, true, false, List, length, Option, Some, None, Result, Ok, Err}
 use Rattle.jfs_bits.specs.Broken.{first_broken}
 use Rattle.jfs_bits.specs.declared.rule.Rule.TheVariants as rules
 use Rattle.jfs_disk.specs.Image.{Image, page_of}
@@ -38,9 +38,9 @@ AfterState false state Says answer = answer ≡ refused (BadImage 8 rules.State 
 
 -- ---- for the prover: what the function that looks at the superblock answers
 
--- these bytes are the page 8 of a disk that has one and tells its contents
+-- these bytes are a whole page, and the page 8 of a disk that has one and tells its contents
 abbrev pub IsPage8 : Type 0 → ℕ → Image → List ℕ → Type 0
-IsPage8 tells pages image page = tells → 9 ≤ pages → page ≡ page_of image 8
+IsPage8 tells pages image page = (length page ≡ 4096) × (tells → 9 ≤ pages → page ≡ page_of image 8)
 
 abbrev pub Looks : Type 0 → ℕ → Image → Count → Result Super End → Type 0
 Looks tells pages image disk (Ok s) = (page : List ℕ) × IsPage8 tells pages image page × (s ≡ super_of page) × IsAccepted s pages × Stays disk

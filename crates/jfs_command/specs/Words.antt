@@ -1,12 +1,13 @@
 -- The grammar of the words of a command.
-use Rattle.std.specs.Prelude.{◌≡◌, ℕ, Bool, false, not, nat_le, ◌&&◌, ◌==◌, if◌then◌else◌, List, [], ◌∷◌, length, map, codes, Option, Some, None, Result, Ok, Err}
-use Rattle.std.specs.List.{list_all}
+use Rattle.std.specs.Prelude.{◌≡◌, ℕ, ◌-◌, Bool, false, not, nat_le, ◌&&◌, ◌==◌, if◌then◌else◌, List, [], ◌∷◌, length, map, codes, Option, Some, None, Result, Ok, Err}
+use Rattle.std.specs.List.{list_all, range_with_len}
 use Rattle.std.specs.Str.{is_utf8, bytes_eq}
 use Rattle.std.specs.Global.{Vec}
 use Rattle.uuid.specs.Text.{parsed}
 use Rattle.jfs_format.specs.Superblock.{label_field}
 use Rattle.jfs_command.specs.declared.words.Usage.{Usage}
 use Rattle.jfs_command.specs.declared.words.Command.{Command}
+use Rattle.jfs_command.specs.declared.words.Scripts.{Scripts}
 use Rattle.jfs_command.specs.declared.words.Job.{Job}
 use Rattle.jfs_command.specs.declared.words.Job.TheVariants.{Super, Log, Check, Format}
 use Rattle.jfs_command.specs.declared.words.PathsError.{PathsError}
@@ -35,9 +36,17 @@ is_label word = nat_le 1 (length word) && (nat_le (length word) 16 && (list_all 
 abbrev usage : ℕ → Result Command Usage
 usage word = Err (record { word = word })
 
--- a job on the image that the second word names
+-- no word names a script
+abbrev pub no_scripts : Scripts
+no_scripts = record { first = 0; end = 0 }
+
+-- the places of the words that name scripts, which stand one behind the other
+abbrev pub places_of : Scripts → List ℕ
+places_of scripts = range_with_len scripts.first (scripts.end - scripts.first)
+
+-- a job on the image that the second word names, without scripts
 abbrev pub on_image : Job → Command
-on_image job = record { job = job; image = 2 }
+on_image job = record { job = job; image = 2; scripts = no_scripts }
 
 -- after a command that takes an image and nothing else, one name
 abbrev pub image_alone : Job → List (List ℕ) → Result Command Usage
@@ -80,9 +89,9 @@ abbrev pub UsageIs : PathsError → Result Command Usage → Type 0
 UsageIs (errors.Usage u) asked = asked ≡ Err u
 UsageIs errors.Memory asked = Unit {0}
 
--- the places of the words that name scripts; no command takes scripts yet
+-- the places of the words that name the command's scripts
 abbrev pub script_words : Command → List ℕ
-script_words command = []
+script_words command = places_of command.scripts
 
 -- the scripts that the words name, none where they leave the grammar
 abbrev pub scripts_asked : Result Command Usage → List ℕ

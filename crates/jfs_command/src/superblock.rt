@@ -29,6 +29,8 @@ pub fn look<D: Disk>(disk: &mut D) -> Result<Super, End>
             Err(DiskError::Memory) => return Err(End::Stopped(Stop::Memory)),
         }
     }
+    // so that the page's size is known
+    let _bytes = page.bytes();
     match read_super(&page, pages) {
         Ok(s) => Ok(s),
         Err(bad) => Err(End::Own(Status::BadImage {

@@ -4,7 +4,7 @@ ghost use Rattle.std.specs.Prelude.{◌≡◌, true, Ok, IfOk, IfErr};
 ghost use Rattle.std.specs.List.{list_all};
 ghost use Rattle.std.specs.Str.{is_utf8, bytes_eq};
 ghost use Rattle.jfs_format.specs.Superblock.{label_field};
-ghost use Rattle.jfs_command.specs.Words.{texts, is_visible, is_label, with_label, with_uuid, image_and_uuid, is_name, begins_with_dash, command_of, on_image, image_alone, script_words, UsageIs};
+ghost use Rattle.jfs_command.specs.Words.{texts, is_visible, is_label, with_label, with_uuid, image_and_uuid, is_name, begins_with_dash, command_of, on_image, image_alone, places_of, script_words, UsageIs};
 
 use std::alloc::{AllocError, Global};
 use uuid::Uuid;
@@ -28,26 +28,43 @@ pub enum Job {
     Format { uuid: Uuid, label: [u8; 16] },
 }
 
-/// What the words ask for: the job, and the place of the word that names the image, counted from 1.
+/// The words that name scripts. They stand one behind the other: from place `first` on, counted from 1, up to `end`, which is the place behind the last of them.
+#[derive(Clone, Copy, PartialEq, Eq, Debug)]
+pub struct Scripts {
+    pub first: u32,
+    pub end: u32,
+}
+
+impl Scripts {
+    /// No word names a script.
+    const NONE: Scripts = Scripts { first: 0, end: 0 };
+
+    /// The places of the words.
+    fn places(self, alloc: Global) -> Result<Vec<u32>, AllocError>
+        ensures { IfOk result (λ places. places.items ≡ places_of self) }
+    {
+        (self.first..self.end).collect(alloc)
+    }
+}
+
+/// What the words ask for: the job, the place of the word that names the image, counted from 1, and the words that name scripts.
 #[derive(Clone, Copy, PartialEq, Eq, Debug)]
 pub struct Command {
     pub job: Job,
     pub image: u32,
+    pub scripts: Scripts,
 }
 
 impl Command {
-    /// A job on the image that the second word names.
+    /// A job on the image that the second word names, without scripts.
     fn on_image(job: Job) -> Command
         ensures { result ≡ on_image job }
     {
-        Command { job, image: 2 }
-    }
-
-    /// The places of the words that name scripts. No command takes scripts yet.
-    pub fn scripts(&self, alloc: Global) -> Result<Vec<u32>, AllocError>
-        ensures { IfOk result (λ places. places.items ≡ script_words self.now) }
-    {
-        Ok(Vec::new(alloc))
+        Command {
+            job,
+            image: 2,
+            scripts: Scripts::NONE,
+        }
     }
 }
 
@@ -74,7 +91,7 @@ pub fn paths_of(alloc: Global, words: &[Vec<u8>]) -> Result<Paths, PathsError>
     ensures usage { IfErr result (λ e. UsageIs e (command_of (texts words.now))) }
 {
     match read_words(words) {
-        Ok(command) => match command.scripts(alloc) {
+        Ok(command) => match command.scripts.places(alloc) {
             Ok(scripts) => Ok(Paths {
                 image: command.image,
                 scripts,

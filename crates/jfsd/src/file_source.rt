@@ -5,12 +5,33 @@ ghost use Rattle.std.specs.Prelude.{[]};
 use jfs_io::{IoFailed, Source};
 use std::fs::File;
 use std::io::Read;
+use std::rt::Files;
+use std::{fs, io, str};
 
 /// A script, and how often a call failed. Of a name that can't be opened each call fails.
 #[derive(Drop)]
 pub struct FileSource {
     file: Option<File>,
     faults: u64,
+}
+
+impl FileSource {
+    /// Opens the script of that name.
+    pub fn open<R: Files<File = File>>(rt: &R, name: &[u8]) -> io::Result<FileSource> {
+        let name = str::from_utf8(name).map_err(|_| io::Error::from(io::ErrorKind::InvalidInput))?;
+        Ok(FileSource {
+            file: Some(fs::open(rt, name)?),
+            faults: 0,
+        })
+    }
+
+    /// A script of a name that can't be opened.
+    pub fn closed() -> FileSource {
+        FileSource {
+            file: None,
+            faults: 0,
+        }
+    }
 }
 
 impl Source for FileSource {

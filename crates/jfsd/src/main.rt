@@ -1,6 +1,9 @@
 //! The program: it opens what the words name, hands it to the top call, and ends with the status's number.
 #![tactic(auto)]
 
+ghost use Rattle.std.specs.Prelude.{◌≡◌, IfOk, length};
+ghost use Rattle.jfs_command.specs.Words.{texts, command_of, scripts_asked};
+
 mod file_disk;
 mod file_source;
 mod out_sink;
@@ -8,7 +11,7 @@ mod out_sink;
 use file_disk::{Access, FileDisk, is_standard};
 use file_source::FileSource;
 use jfs_bits::Moment;
-use jfs_command::{PathsError, Status, jfs_top, paths_of};
+use jfs_command::{Paths, PathsError, Status, jfs_top, paths_of};
 use jfs_io::OpenGate;
 use out_sink::OutSink;
 use std::alloc::{AllocError, Global};
@@ -38,15 +41,16 @@ fn main(rt: HostRuntime) -> ExitCode {
         Err(WordsError::Memory) => return end_with(&rt, b"jfsd: out of memory\n", 8),
     };
     let alloc = rt.alloc();
-    let disk = match paths_of(alloc, &words) {
-        Ok(paths) => match word(&words, paths.image) {
-            Some(name) => opened(&rt, alloc, name, access_of(&words)),
-            None => FileDisk::closed(),
-        },
-        Err(PathsError::Usage(_)) => FileDisk::closed(),
-        Err(PathsError::Memory) => return end_with(&rt, b"jfsd: out of memory\n", 8),
+    let Ok(named) = named(alloc, &words) else {
+        return end_with(&rt, b"jfsd: out of memory\n", 8);
     };
-    let mut scripts: Vec<FileSource> = Vec::new(alloc);
+    let disk = match word(&words, named.image) {
+        Some(name) => opened(&rt, alloc, name, access_of(&words)),
+        None => FileDisk::closed(),
+    };
+    let Ok(mut scripts) = scripts(&rt, alloc, &words, &named.scripts) else {
+        return end_with(&rt, b"jfsd: out of memory\n", 8);
+    };
     let ended = jfs_top(
         &rt,
         alloc,
@@ -95,6 +99,51 @@ fn placeholder<R: Files<File = File>>(rt: &R) -> Option<File> {
 fn word(words: &[Vec<u8>], place: u32) -> Option<&[u8]> {
     let word = words.get((place as usize).checked_sub(1)?)?;
     Some(word.as_slice())
+}
+
+// The places of the words that name files. Words that leave the grammar name none: their image has place 0, where no word stands.
+fn named(alloc: Global, words: &[Vec<u8>]) -> Result<Paths, AllocError>
+    ensures { IfOk result (λ paths. paths.scripts.items ≡ scripts_asked (command_of (texts words.now))) }
+{
+    match paths_of(alloc, words) {
+        Ok(paths) => Ok(paths),
+        Err(PathsError::Usage(_)) => Ok(Paths {
+            image: 0,
+            scripts: Vec::new(alloc),
+        }),
+        Err(PathsError::Memory) => Err(AllocError),
+    }
+}
+
+// A source for each script that the words name, in their order.
+fn scripts<R: Files<File = File> + Eprint>(
+    rt: &R,
+    alloc: Global,
+    words: &[Vec<u8>],
+    places: &[u32],
+) -> Result<Vec<FileSource>, AllocError>
+    ensures { IfOk result (λ scripts. length scripts.items ≡ length places.now) }
+{
+    let mut scripts = Vec::new(alloc);
+    for place in places {
+        scripts.push(script(rt, words, *place))?;
+    }
+    Ok(scripts)
+}
+
+// The script that the word at a place names. Where it can't be opened, standard error has the reason, and each call on it fails.
+fn script<R: Files<File = File> + Eprint>(rt: &R, words: &[Vec<u8>], place: u32) -> FileSource {
+    let Some(name) = word(words, place) else {
+        return FileSource::closed();
+    };
+    match FileSource::open(rt, name) {
+        Ok(script) => script,
+        Err(reason) => {
+            let name = str::from_utf8(name).unwrap_or("");
+            let _ = eprintln!(rt; "jfsd: {name}: {reason}");
+            FileSource::closed()
+        }
+    }
 }
 
 // What the command, which the first word names, does with its image.

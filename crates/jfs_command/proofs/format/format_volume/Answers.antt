@@ -14,7 +14,7 @@ returns-in-Ok-format_line-clause-meaning g c =
     let made = c.new.ensures in
     let done = c.in-Ok.ensures in
     let meant = λ (t : d.tells). means (d.page_count c.args.disk.now) c.args.uuid c.args.label.now c.args.now (superblock_of (held_of d c.format.new.disk)) (d.image c.format.new.disk) done.answer.0 (done.volume t) (done.reads t) in
-    formatted d c.args.disk.now c.format.new.disk c.new.result c.args.uuid c.args.label.now c.args.now done.answer.0
+    formatted d c.args.disk.now c.format.new.disk c.new.result c.args.uuid c.args.label.now c.args.now (g.met.D.Disk.has_pages c.args.disk.now) done.answer.0
     (record {
       begun = record { history = made.history; told = made.told; unnamed = c.format.ensures.unnamed; moments = c.format.ensures.moments };
       volume = done.volume;
@@ -31,13 +31,13 @@ returns-in-Ok-format_line-clause-meaning g c =
 pub returns-in-Err-format_line-clause-meaning : goal.returns-in-Err-format_line-clause-meaning
 returns-in-Err-format_line-clause-meaning g c =
     let made = c.new-in-Err-format_line-2.ensures in
-    begun_no_memory g.D.Disk c.args.disk.now c.format.new.disk c.new-in-Err-format_line-2.result c.args.uuid c.args.label.now c.args.now c.in-Ok.ensures.answer.0
+    begun_no_memory g.D.Disk c.args.disk.now c.format.new.disk c.new-in-Err-format_line-2.result c.args.uuid c.args.label.now c.args.now (g.met.D.Disk.has_pages c.args.disk.now) c.in-Ok.ensures.answer.0
     (record { history = made.history; told = made.told; unnamed = c.format.ensures.unnamed; moments = c.format.ensures.moments })
     (made.text ∙ c.new-in-Err-format_line.ensures.items) made.end
 
 pub returns-in-Err-clause-meaning : goal.returns-in-Err-clause-meaning
 returns-in-Err-clause-meaning g c =
     let made = c.new-in-Err-2.ensures in
-    refused_or_failed g.D.Disk c.args.disk.now c.format.new.disk c.new-in-Err-2.result c.args.uuid c.args.label.now c.args.now c.in-Err.error c.format.result c.in-Err.is c.format.ensures.answer
+    refused_or_failed g.D.Disk c.args.disk.now c.format.new.disk c.new-in-Err-2.result c.args.uuid c.args.label.now c.args.now c.in-Err.error c.format.result (g.met.D.Disk.has_pages c.args.disk.now) c.in-Err.is c.format.ensures.answer
     (record { history = made.history; told = made.told; unnamed = c.format.ensures.unnamed; moments = c.format.ensures.moments })
     (made.text ∙ c.new-in-Err.ensures.items) (made.end ∙ c.end_of.ensures)

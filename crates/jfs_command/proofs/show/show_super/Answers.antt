@@ -12,7 +12,7 @@ returns-in-Ok-super_lines-clause-meaning g c =
 pub returns-in-Err-super_lines-clause-meaning : goal.returns-in-Err-super_lines-clause-meaning
 returns-in-Err-super_lines-clause-meaning g c =
     let made = c.new-in-Err-super_lines-2 in
-    no_room g.D.Disk c.args.disk.now c.look.new.disk c.in-Ok.s made.result c.in-Ok.ensures.cause
+    no_room g.D.Disk c.args.disk.now c.look.new.disk c.in-Ok.s made.result (g.met.D.Disk.has_pages c.args.disk.now) c.in-Ok.ensures.cause
     (record { image = c.look.ensures.image; past = c.look.ensures.past; history = made.ensures.history; told = made.ensures.told })
     (made.ensures.text ∙ c.new-in-Err-super_lines.ensures.items) made.ensures.end
 

@@ -14,4 +14,4 @@ pub returns-in-Err-clause-answer : goal.returns-in-Err-clause-answer
 returns-in-Err-clause-answer g c =
     refused g.D.Disk g.S.Source g.K.Sink (command_of (texts c.args.words.now)) c.in-Err.usage.word (sym c.in-Err.ensures) c.args.now
     c.args.disk c.args.scripts.now.items c.args.out.now c.conclude-status-in-Err.new.out c.conclude-status-in-Err.result c.new.result.items c.new-in-Err.result.items
-    c.new.ensures.items c.new-in-Err.ensures.items c.conclude-status-in-Err.ensures.text
+    (g.met.D.Disk.has_pages c.args.disk) c.new.ensures.items c.new-in-Err.ensures.items c.conclude-status-in-Err.ensures.text
