@@ -2,8 +2,8 @@
 
 ghost use Rattle.std.specs.Prelude.{◌≡◌, ◌<◌, ◌≤◌, ◌+◌, ◌-◌, ◌++◌, ◌∷◌, [], ℕ, length, take, drop, true, false, OnOk, IfOk, IfErr};
 ghost use Rattle.jfs_bits.specs.Extent.{FitsXad};
-ghost use Rattle.jfs_xtpage.specs.Page.{head_of, entries_of, entry_of, count_of, rises_from, IsLaidOut};
-ghost use Rattle.jfs_xtree.specs.Node.{SameKind};
+ghost use Rattle.jfs_xtpage.specs.Page.{head_of, entries_of, entry_of, count_of, rises_from, behind_slots, IsLaidOut};
+ghost use Rattle.jfs_xtree.specs.Node.{SameKind, KeepsFrame};
 ghost use Rattle.jfs_xtree.specs.Cutting.{up_to, kept_below, gone_of, gone_past};
 ghost use Rattle.jfs_xtree.specs.CutParts.{KeepsSome, AllFrom};
 
@@ -20,6 +20,8 @@ pub(crate) fn cut_leaf(runs: &mut PxdList, bytes: &mut [u8], bound: u64) -> Resu
     ensures rows { OnOk result (entries_of bytes.new ≡ kept_below bound (entries_of bytes.old)) }
     ensures gone { OnOk result (runs.new ≡ runs.old ++ gone_past bound (entries_of bytes.old)) }
     ensures kind { OnOk result (SameKind (head_of bytes.old) (head_of bytes.new)) }
+    ensures frame { OnOk result (KeepsFrame bytes.old bytes.new) }
+    ensures laid { OnOk result (IsLaidOut bytes.new) }
     ensures kept { IfOk result (KeepsSome (entries_of bytes.new)) }
     ensures cause { IfErr result (λ e. e ≡ TreeError.Memory) }
 {
@@ -91,6 +93,8 @@ fn shorten(bytes: &mut [u8], place: u16, bound: u64)
     requires place { place < count_of bytes.old }
     requires before { (entry_of bytes.old place).offset < bound }
     ensures head { head_of bytes.new ≡ head_of bytes.old }
+    ensures tail { behind_slots bytes.new ≡ behind_slots bytes.old }
+    ensures laid { IsLaidOut bytes.new }
     ensures entries { entries_of bytes.new ≡ take place (entries_of bytes.old) ++ up_to bound (entry_of bytes.old place) ∷ drop (place + 1) (entries_of bytes.old) }
 {
     let x = xt_entry(bytes, place);

@@ -8,7 +8,7 @@ ghost use Rattle.jfs_tree.specs.Removal.{Settles};
 ghost use Rattle.jfs_xtpage.specs.Page.{bytes_of, head_of, entries_of, entry_of, count_of, IsLaidOut};
 ghost use Rattle.jfs_xtpage.specs.declared.head.XtForm.{XtForm};
 ghost use Rattle.jfs_xtpage.specs.declared.head.XtForm.TheVariants.{Full};
-ghost use Rattle.jfs_xtree.specs.Node.{xt_scale, xt_node, is_leaf, all_within, IsSound, SameKind};
+ghost use Rattle.jfs_xtree.specs.Node.{xt_scale, xt_node, is_leaf, all_within, IsSound, SameKind, KeepsFrame};
 ghost use Rattle.jfs_xtree.specs.Spells.{page_nodes};
 ghost use Rattle.jfs_xtree.specs.Cutting.{kept_below, gone_past};
 ghost use Rattle.jfs_xtree.specs.CutMet.{met, met_below};
@@ -49,6 +49,8 @@ pub(crate) fn cut_page<V: PageView>(
         (shown cut.new.draft.pages.items (V.PageView.image view.old)) (xt_node form blocks bytes.old) (xt_node form blocks bytes.new) kept cut.new.pages.items cut.new.runs) }
     ensures leaf { is_leaf (head_of bytes.old).flag ≡ true → OnOk result ((entries_of bytes.new ≡ kept_below bound (entries_of bytes.old)) × (cut.new.runs ≡ gone_past bound (entries_of bytes.old)) × (cut.new.draft.pages.items ≡ []) × (cut.new.pages.items ≡ [])) }
     ensures kind { OnOk result (SameKind (head_of bytes.old) (head_of bytes.new)) }
+    ensures frame { OnOk result (KeepsFrame bytes.old bytes.new) }
+    ensures laid { OnOk result (IsLaidOut bytes.new) }
     ensures kept { IfOk result (KeepsSome (entries_of bytes.new)) }
     ensures met { V.PageView.tells → IfOk result (λ kept. FitsLeaf cut.old.met bytes.old → (page : ℕ) → CutMet (page_nodes blocks (page_of (V.PageView.image view.old))) bound most
         (record { key = cut.old.met; page = page }) (xt_node form blocks bytes.old) cut.new.met cut.new.below kept cut.new.pages.items cut.new.runs) }

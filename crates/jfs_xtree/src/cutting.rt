@@ -8,8 +8,8 @@ ghost use Rattle.jfs_tree.specs.Changes.{TellsChanges};
 ghost use Rattle.jfs_tree.specs.Removes.{page_frees};
 ghost use Rattle.jfs_tree.specs.Tell.{TellsDraft, TellsThen};
 ghost use Rattle.jfs_ranges.specs.View.{CarriesCount};
-ghost use Rattle.jfs_xtpage.specs.Page.{head_of, entries_of, kind_flag};
-ghost use Rattle.jfs_xtree.specs.Node.{xt_scale};
+ghost use Rattle.jfs_xtpage.specs.Page.{head_of, entries_of, kind_flag, IsLaidOut};
+ghost use Rattle.jfs_xtree.specs.Node.{xt_scale, KeepsFrame};
 ghost use Rattle.jfs_xtree.specs.Spells.{IsRootSize, IsView, CarriesXt};
 ghost use Rattle.jfs_xtree.specs.CutMet.{FreesOnce, NamesFirstMet};
 ghost use Rattle.jfs_xtree.specs.Cutting.{CutsExtents, TellsCut, run_frees};
@@ -46,6 +46,7 @@ pub fn cut_to<V: PageView>(
     ensures cuts { V.PageView.tells → OnOk result (CutsExtents (V.PageView.block_count view.old) (page_of (V.PageView.image view.old)) blocks root.old root.new tx.old tx.new) }
     ensures edits { V.PageView.tells → OnOk result (TellsCut (V.PageView.block_count view.old) (page_of (V.PageView.image view.old)) tx.old tx.new) }
     ensures once { V.PageView.tells → OnOk result (FreesOnce (V.PageView.block_count view.old) (page_of (V.PageView.image view.old)) blocks root.old tx.old tx.new) }
+    ensures frame { OnOk result (KeepsFrame root.old root.new) }
     ensures kept { OnErr result ((root.new ≡ root.old) × (tx.new ≡ tx.old)) }
     ensures bad { V.PageView.tells → IfErr result (NamesFirstMet (V.PageView.block_count view.old) (page_of (V.PageView.image view.old)) blocks root.old) }
 {
@@ -81,6 +82,7 @@ fn plan_cut<V: PageView>(
     ensures cuts { V.PageView.tells → IfOk result (λ later. CutsExtents (V.PageView.block_count view.old) (page_of (V.PageView.image view.old)) bound root.old root.new tx.now later) }
     ensures edits { V.PageView.tells → IfOk result (λ later. TellsCut (V.PageView.block_count view.old) (page_of (V.PageView.image view.old)) tx.now later) }
     ensures once { V.PageView.tells → IfOk result (λ later. FreesOnce (V.PageView.block_count view.old) (page_of (V.PageView.image view.old)) bound root.old tx.now later) }
+    ensures frame { OnOk result (KeepsFrame root.old root.new) }
     ensures bad { V.PageView.tells → IfErr result (NamesFirstMet (V.PageView.block_count view.old) (page_of (V.PageView.image view.old)) bound root.old) }
 {
     let blocks = view.blocks();
@@ -112,6 +114,7 @@ fn plan_cut<V: PageView>(
 fn close_root(root: &mut [u8], kept: bool)
     requires { 32 ≤ length root.old }
     ensures stays { kept ≡ true → root.new ≡ root.old }
+    ensures frame { IsLaidOut root.old → KeepsFrame root.old root.new }
     ensures empties { kept ≡ false → (head_of root.new ≡ record (head_of root.old) { flag = kind_flag (head_of root.old).flag true }) × (entries_of root.new ≡ entries_of root.old) }
 {
     if !kept {
