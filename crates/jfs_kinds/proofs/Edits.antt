@@ -1,5 +1,5 @@
 -- Edits of one object leave the owners of blocks that stay in use.
-use Rattle.std.proofs.Common.{◌≡◌, ◌≤◌, ◌<◌, refl, sym, ap, ◌∙◌, ◌⊎◌, inl, inr, subst, ℕ, ◌+◌, Bool, true, false, List, Option, Some, None, arith}
+use Rattle.std.proofs.Common.{◌≡◌, ◌≢◌, ◌≤◌, ◌<◌, refl, sym, ap, ◌∙◌, ◌⊎◌, inl, inr, subst, ℕ, ◌+◌, Bool, true, false, List, Option, Some, None, arith}
 use Rattle.jfs_objects.specs.Readers.{Readers}
 use Rattle.jfs_objects.specs.Volume.{Volume}
 use Rattle.jfs_objects.specs.Objects.{Object, objects, spelled}
@@ -14,7 +14,7 @@ use Rattle.jfs_objects.proofs.Extent.{extent_law}
 use Rattle.jfs_objects.proofs.Data.{data_law}
 use Rattle.jfs_kinds.specs.Owner.{Owner, has, has_page, has_data, has_still, owner_of, is_logged}
 use Rattle.jfs_kinds.specs.Owner.Owner.{Area, Inodes, Tree, Data, Still}
-use Rattle.jfs_kinds.specs.Laws.{HasPlaces, KeepsLogged, KeepsOwner, OwnersStay, KeepsKinds, EditLaw}
+use Rattle.jfs_kinds.specs.Laws.{HasPlaces, KeepsLogged, KeepsOwner, OwnersStay, IsOwnerIn, KeepsKinds, EditLaw}
 use Rattle.jfs_kinds.proofs.Parts.{parts}
 use Rattle.jfs_kinds.proofs.Single.{has_owners, counted}
 use Rattle.jfs_kinds.proofs.Stay.{same_owners, is_used, is_free, goes_on, kept_law}
@@ -47,6 +47,28 @@ module _ (r : Readers) (v w : Volume) (n : ℕ) (x : Option Object) (before : Ag
 
   pub owners_stay : OwnersStay r v w
   owners_stay b was now = kept_law.kept r v w before c.sound.agrees b (keeps_owner b was now)
+
+-- what comes into use is the object's
+module _ (r : Readers) (v w : Volume) (n : ℕ) (x : Option Object) (before : Agrees r v) (c : ChangesOne r v w n x) (places : HasPlaces v w) (b : ℕ) (free : v.used b ≡ false) where
+  -- no owner had it, and the others have what they had
+  not_others : (y : Owner) → has r w y b ≡ has r v y b → owner_of r w b ≡ Some y → IsOwnerIn n (owner_of r w b)
+  not_others y same h = absurd (absent (sym (is_free r v before b free) ∙ goes_on r w v c.sound.agrees before b y (sym same) h))
+    where
+      absent : None ≡ Some y → ⊥
+      absent e = cc (e)
+
+  other : (k : ℕ) → k ≢ n → objects r w k ≡ objects r v k
+  other k t = c.objects_are k ∙ put_other n x (objects r v) k t
+
+  by_owner : (y : Owner) → owner_of r w b ≡ Some y → IsOwnerIn n (owner_of r w b)
+  by_owner Area h = not_others Area (ap (λ (area : ℕ → ℕ). area b) places.area) h
+  by_owner Inodes h = not_others Inodes (ap (λ (es : List (Option ℕ)). extents_have es b) places.extents) h
+  by_owner (Tree k) h = elim (eq_or_not k n) [ inl e ↦ inl (h ∙ ap (λ j. Some (Tree j)) e) | inr t ↦ not_others (Tree k) (ap (λ o. has_page r o b) (other k t)) h ]
+  by_owner (Data k) h = elim (eq_or_not k n) [ inl e ↦ inr (inl (h ∙ ap (λ j. Some (Data j)) e)) | inr t ↦ not_others (Data k) (ap (λ o. has_data r o b) (other k t)) h ]
+  by_owner (Still k) h = elim (eq_or_not k n) [ inl e ↦ inr (inr (h ∙ ap (λ j. Some (Still j)) e)) | inr t ↦ not_others (Still k) (ap (λ o. has_still r o b) (other k t)) h ]
+
+  pub takes : w.used b ≡ true → IsOwnerIn n (owner_of r w b)
+  takes now = let y = is_used r w c.sound.agrees b now in by_owner y.0 y.1
 
 -- an object that goes has nothing that stays in use
 gone_kinds : (r : Readers) (v w : Volume) (n : ℕ) → ChangesOne r v w n None → KeepsKinds r v w (objects r v n) None
@@ -137,6 +159,8 @@ edit_law = record {
   writes = λ r v w n sound s. (keeps_logged r v w n sound s, same_owners r v w (record { extents = s.extents; area = s.area }) (data_law r v w n sound s).0.objects_stay);
   sets = λ r v w n after mid taken freed sound s kinds.
       owners_stay r v w n (Some (spelled r mid after)) sound.agrees (object_is_set r v w n after mid taken freed sound s).0 (record { extents = s.extents; area = s.area }) kinds;
+  takes = λ r v w n after mid taken freed sound s b free now.
+      takes r v w n (Some (spelled r mid after)) sound.agrees (object_is_set r v w n after mid taken freed sound s).0 (record { extents = s.extents; area = s.area }) b free now;
   drops = λ r v w n left freed sound s.
       (let c = object_goes r v w n left freed sound s in owners_stay r v w n None sound.agrees c (record { extents = s.extents; area = s.area }) (gone_kinds r v w n c));
   adds = others_stay;

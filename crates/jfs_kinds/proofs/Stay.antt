@@ -76,6 +76,7 @@ pub kept_law : KeptLaw
 kept_law = record {
   kept = kept;
   keeps = keeps;
+  chained = λ r v w u first second fresh b was now. (let between = fresh b was now in second b between now ∙ first b was between);
   may_own = λ r v w before after stay b. elim (cases_Bool (v.used b)) [
     | inr free ↦ inr (inr (is_free r v before b free))
     | inl was ↦ elim (cases_Bool (w.used b)) [

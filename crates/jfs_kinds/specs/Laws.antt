@@ -80,22 +80,33 @@ OwnersStay r v w = (b : ℕ) → v.used b ≡ true → w.used b ≡ true → own
 abbrev pub MayOwn : Readers → Volume → Volume → Type 0
 MayOwn r v w = (b : ℕ) → (owner_of r w b ≡ owner_of r v b) ⊎ (owner_of r w b ≡ None) ⊎ (owner_of r v b ≡ None)
 
+-- the later of two edits takes no block that the first one freed
+abbrev pub TakesNoneFreed : Volume → Volume → Volume → Type 0
+TakesNoneFreed v w u = (b : ℕ) → v.used b ≡ true → u.used b ≡ true → w.used b ≡ true
+
 -- Where maps agree before and after, a block has the same owner exactly where each owner has it as often as before.
 pub record KeptLaw : Type 0 where
   pub kept : (r : Readers) (v w : Volume) → Agrees r v → Agrees r w → (b : ℕ) → KeepsOwner r v w b → owner_of r w b ≡ owner_of r v b
   pub keeps : (r : Readers) (v w : Volume) → Agrees r v → Agrees r w → (b : ℕ) → owner_of r w b ≡ owner_of r v b → KeepsOwner r v w b
+  pub chained : (r : Readers) (v w u : Volume) → OwnersStay r v w → OwnersStay r w u → TakesNoneFreed v w u → OwnersStay r v u
   pub may_own : (r : Readers) (v w : Volume) → Agrees r v → Agrees r w → OwnersStay r v w → MayOwn r v w
+
+-- the owner is an object's, of whatever kind
+abbrev pub IsOwnerIn : ℕ → Option Owner → Type 0
+IsOwnerIn n x = (x ≡ Some (Tree n)) ⊎ (x ≡ Some (Data n)) ⊎ (x ≡ Some (Still n))
 
 -- An object that is set keeps the kinds of its blocks, as far as they stay in use: no tree page becomes data, and no data a tree page, an attribute or a target.
 pub record KeepsKinds (r : Readers) (v w : Volume) (old new : Option Object) : Type 0 where
   pub pages : (b : ℕ) → v.used b ≡ true → w.used b ≡ true → has_page r new b ≡ has_page r old b
   pub file_data : (b : ℕ) → v.used b ≡ true → w.used b ≡ true → has_data r new b ≡ has_data r old b
 
--- Each edit of one object leaves the owners of blocks that stay in use. Writing data leaves all of them, and all logged pages; a new inode extent owns its blocks.
+-- Each edit of one object leaves the owners of blocks that stay in use. Writing data leaves all of them, and all logged pages; what comes into use is the object's that is set, or the inode extent's that is added.
 pub record EditLaw : Type 0 where
   pub writes : (r : Readers) (v w : Volume) (n : ℕ) → IsSound r v → WritesData r v w n → KeepsLogged r v w × HasSameOwners r v w
   pub sets : (r : Readers) (v w : Volume) (n : ℕ) (after : Dinode) (mid : ℕ → List ℕ) (taken freed : List ℕ) → IsSound r v → SetsObject r v w n after mid taken freed
       → KeepsKinds r v w (objects r v n) (Some (spelled r mid after)) → OwnersStay r v w
+  pub takes : (r : Readers) (v w : Volume) (n : ℕ) (after : Dinode) (mid : ℕ → List ℕ) (taken freed : List ℕ) → IsSound r v → SetsObject r v w n after mid taken freed
+      → (b : ℕ) → v.used b ≡ false → w.used b ≡ true → IsOwnerIn n (owner_of r w b)
   pub drops : (r : Readers) (v w : Volume) (n : ℕ) (left : Dinode) (freed : List ℕ) → IsSound r v → DropsObject r v w n left freed → OwnersStay r v w
   pub adds : (r : Readers) (v w : Volume) (place first : ℕ) → IsSound r v → AddsExtent v w place first → OwnersStay r v w
   pub comes : (r : Readers) (v w : Volume) (place first : ℕ) → IsSound r v → AddsExtent v w place first → (b : ℕ) → 0 < extent_has (Some first) b → owner_of r w b ≡ Some Inodes
