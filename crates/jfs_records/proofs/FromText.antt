@@ -84,9 +84,9 @@ on_volume blocks (records.Update tid back fileset inode alloc list) most is = tt
 on_volume blocks (records.Commit tid back) most is = tt
 on_volume blocks (records.SyncPt sync) most is = tt
 
-pub all-more : (rs : List Record) (r : Record) → AllByRecursion HasPage rs → HasPage r → AllByRecursion HasPage (rs ++ r ∷ [])
-all-more [] r all is = (is, tt)
-all-more (x ∷ xs) r all is = (all.0, all-more xs r all.1 is)
+pub all-more : (P : Record → Type 0) (rs : List Record) (r : Record) → AllByRecursion P rs → P r → AllByRecursion P (rs ++ r ∷ [])
+all-more P [] r all is = (is, tt)
+all-more P (x ∷ xs) r all is = (all.0, all-more P xs r all.1 is)
 
 -- a log that was read has records
 pub of_reading : (pages blocks : ℕ) (log : Image) (read : RingText) → IsReadAs pages blocks log read → (ms : List Met) × AreRecords blocks read ms

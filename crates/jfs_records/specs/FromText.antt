@@ -1,4 +1,4 @@
--- The records of a log's text, from the place on that its newest SYNCPT gives.
+-- The records of a log's text that was read.
 use Rattle.std.specs.Prelude.{◌≡◌, ℕ, List, map, reverse}
 use Rattle.jfs_logpages.specs.Back.{Met, AreMet}
 use Rattle.jfs_logpages.specs.declared.ring_text.RingText.{RingText}

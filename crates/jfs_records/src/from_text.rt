@@ -2,6 +2,7 @@
 
 ghost use Rattle.std.specs.Prelude.{◌≡◌, List, map, IfOk};
 ghost use Rattle.std.specs.List.{AllByRecursion};
+ghost use Rattle.jfs_logfmt.specs.Rules.{IsRecordOf};
 ghost use Rattle.jfs_logpages.specs.Back.{Met, IsMet};
 ghost use Rattle.jfs_records.specs.Limits.{HasPage};
 ghost use Rattle.jfs_records.specs.FromText.{AreRecords};
@@ -10,7 +11,7 @@ use jfs_logfmt::{Record, RecordError, read_record_before};
 use jfs_logpages::RingText;
 use std::alloc::{AllocError, Global};
 
-/// The records that a log's ring reads as, on a volume of so many blocks, from the place on that its newest SYNCPT gives, the oldest first.
+/// The records of a log's text whose ends were read, on a volume of so many blocks, the oldest first: those that stand one behind the other up to its end. Each keeps the rules of a record.
 ///
 /// # Errors
 ///
@@ -18,6 +19,7 @@ use std::alloc::{AllocError, Global};
 pub fn read_records(alloc: Global, read: &RingText, blocks: u32) -> Result<Vec<Record>, AllocError>
     requires { (ms : List Met) × AreRecords blocks read.now ms }
     ensures records { IfOk result (λ records. (ms : List Met) → AreRecords blocks read.now ms → records.items ≡ map (λ m. m.is) ms) }
+    ensures kept { IfOk result (λ records. AllByRecursion (IsRecordOf blocks) records.items) }
     ensures pages { IfOk result (λ records. AllByRecursion HasPage records.items) }
 {
     let mut records = Vec::new(alloc);
@@ -39,6 +41,7 @@ fn record_before(
 ) -> Result<Record, AllocError>
     requires { (m : Met) × IsMet blocks read.now.bytes.items m × (m.end ≡ end) }
     ensures is { IfOk result (λ r. (m : Met) → IsMet blocks read.now.bytes.items m → m.end ≡ end → r ≡ m.is) }
+    ensures kept { IfOk result (IsRecordOf blocks) }
     ensures page { IfOk result HasPage }
 {
     match read_record_before(alloc, &read.bytes()[..end as usize], blocks) {

@@ -1,5 +1,5 @@
 -- The bits of parts that stand one behind the other.
-use Rattle.std.proofs.Common.{Option, ◌≡◌, ◌<◌, ◌≤◌, ◌+◌, ◌*◌, ◌/◌, ◌%◌, ℕ, zero, suc, Bool, ◌&&◌, List, [], ◌∷◌, ◌++◌, length, take, drop, inl, inr, refl, sym, ap, ◌∙◌, append_assoc, arith}
+use Rattle.std.proofs.Common.{Option, Some, None, ◌≡◌, ◌<◌, ◌≤◌, ◌+◌, ◌*◌, ◌/◌, ◌%◌, ℕ, zero, suc, Bool, ◌&&◌, List, [], ◌∷◌, ◌++◌, length, take, drop, inl, inr, refl, sym, ap, ◌∙◌, append_assoc, arith}
 use Rattle.std.proofs.lemmas.Bool.{cases_lt}
 use Rattle.std.proofs.Math.Nat.{mul-suc}
 use Rattle.std.proofs.lemmas.List.{drop_at, drop-append-le, take-append-le, length-drop, length-append, append-nil}
@@ -11,6 +11,8 @@ use Rattle.jfs_buddy.proofs.Parts.{field-from_range}
 use Rattle.std.specs.Option.{option_map}
 use Rattle.jfs_bits.specs.declared.extent.Xad.{Xad}
 use Rattle.jfs_objects.specs.Contents.{block_of, bytes_at}
+use Rattle.jfs_mount.specs.Files.{IsWithin}
+use Rattle.jfs_reader.specs.Reading.{IsPast}
 use Rattle.jfs_sets.specs.Parts.{or_zeros, part_of, parts_from, AreParts}
 
 field-front : (xs ys : List ℕ) (at width : ℕ) → at + width ≤ length xs → field_of (xs ++ ys) at width ≡ field_of xs at width
@@ -99,3 +101,8 @@ read-part page now extents rest at size j there part same here is told =
     ap (λ (o : Option (List ℕ)). or_zeros size o) (told ∙ ap (λ (x : ℕ → List ℕ). option_map (λ p. range_of p at size) (bytes_at x (block_of rest j))) same)
     ∙ ap (λ (o : Option ℕ). or_zeros size (option_map (λ p. range_of p at size) (bytes_at page o))) here
     ∙ ap (λ (n : ℕ). part_of page extents at size n) is
+
+-- extents that lie within the volume name no page outside of it
+pub no-outside : (blocks count : ℕ) (wanted there : Option ℕ) → count ≡ blocks → there ≡ wanted → IsWithin blocks wanted → IsPast count there → ⊥
+no-outside blocks count wanted None same is within past = past
+no-outside blocks count wanted (Some b) same is within past = let below = within b (sym is) in omega (arith, same, past, below)

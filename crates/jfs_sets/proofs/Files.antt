@@ -14,7 +14,7 @@ use Rattle.jfs_objects.specs.Contents.{block_of, bytes_at}
 use Rattle.jfs_objects.specs.Image.{file_extents, file_page, iag_page, is_block_used, is_inode_used, extents_on}
 use Rattle.jfs_objects.specs.Volume.{home}
 use Rattle.jfs_disk.specs.Image.{Image, page_of}
-use Rattle.jfs_reader.specs.declared.error.ReadError.{ReadError}
+use Rattle.jfs_ranges.specs.declared.view.ViewError.{ViewError}
 use Rattle.jfs_mount.specs.Subject.{subject_of}
 use Rattle.jfs_mount.specs.declared.maps.Maps.{Maps}
 use Rattle.jfs_sets.specs.Sets.{AreUsedBlocks, AreUsedInodes}
@@ -60,31 +60,33 @@ blocks-bit r page extents blocks pages set b is parts within below =
     ∙ part-bit r page 2 extents 3072 1024 (4 + b / 8192) (b % 8192) is ∙ sym (ap (λ (t : Bool). t && is_taken (range_of (file_page r page 2 (4 + b / 8192)) 3072 1024) (b % 8192)) (lt-ltb b blocks below))
 
 -- the bits of all IAGs
-pub inodes-bit : (r : Readers) (page : ℕ → List ℕ) (extents : List Xad) (iags : ℕ) (set : List ℕ) (n : ℕ) → file_extents r page 16 ≡ extents → AreParts 512 (part_of page extents 2560 512) 1 iags set → n < 4096 * iags
-    → is_inode_used r page n ≡ (is_some (home (extents_on r page) n) && is_taken set n)
-unfolding is_inode_used
-inodes-bit r page extents iags set n is parts within =
+pub inode-bit : (r : Readers) (page : ℕ → List ℕ) (extents : List Xad) (iags : ℕ) (set : List ℕ) (n : ℕ) → file_extents r page 16 ≡ extents → AreParts 512 (part_of page extents 2560 512) 1 iags set → n < 4096 * iags
+    → is_taken set n ≡ is_taken (range_of (iag_page r page (n / 4096)) 2560 512) (n % 4096)
+inode-bit r page extents iags set n is parts within =
     let place : n ≡ 8 * (512 * (n / 4096)) + n % 4096 = omega arith in
     let next : 1 + n / 4096 ≡ suc (n / 4096) = omega arith in
     let bit = taken-parts (part_of page extents 2560 512) 512 128 1 iags (n / 4096) (n % 4096) refl parts.each (omega arith) (omega arith) in
-    let here : is_taken set n ≡ is_taken (range_of (iag_page r page (n / 4096)) 2560 512) (n % 4096) =
     ap (λ (z : List ℕ). is_taken z n) parts.are ∙ ap (λ (m : ℕ). is_taken (parts_from (part_of page extents 2560 512) 1 iags) m) place ∙ bit
-    ∙ part-bit r page 16 extents 2560 512 (1 + n / 4096) (n % 4096) is ∙ ap (λ (m : ℕ). is_taken (range_of (file_page r page 16 m) 2560 512) (n % 4096)) next in
-    sym (ap (λ (t : Bool). is_some (home (extents_on r page) n) && t) here)
+    ∙ part-bit r page 16 extents 2560 512 (1 + n / 4096) (n % 4096) is ∙ ap (λ (m : ℕ). is_taken (range_of (file_page r page 16 m) 2560 512) (n % 4096)) next
+
+in-use : (r : Readers) (page : ℕ → List ℕ) (set : List ℕ) (n : ℕ) → is_taken set n ≡ is_taken (range_of (iag_page r page (n / 4096)) 2560 512) (n % 4096) → is_inode_used r page n ≡ (is_some (home (extents_on r page) n) && is_taken set n)
+unfolding is_inode_used
+in-use r page set n bit = sym (ap (λ (t : Bool). is_some (home (extents_on r page) n) && t) bit)
 
 if_ok : {E : Type 0} (r : Result (Vec ℕ) E) (P Q : Vec ℕ → Type 0) → ((v : Vec ℕ) → P v → Q v) → IfOk r P → IfOk r Q
 if_ok (Ok v) P Q goes h = goes v h
 if_ok (Err e) P Q goes h = tt
 
-pub blocks-read : (image : Image) (maps : Maps) (pages : ℕ) (r : Result (Vec ℕ) ReadError) → maps.blocks ≤ 8192 * pages → IfOk r (λ set. AreParts 1024 (part_of (page_of image) maps.block_map 3072 1024) 4 pages set.items)
+pub blocks-read : (image : Image) (maps : Maps) (pages : ℕ) (r : Result (Vec ℕ) ViewError) → maps.blocks ≤ 8192 * pages → IfOk r (λ set. AreParts 1024 (part_of (page_of image) maps.block_map 3072 1024) 4 pages set.items)
     → IfOk r (λ set. AreUsedBlocks image maps set.items)
 blocks-read image maps pages r enough = if_ok r _ _ (λ set parts s read b below.
     let subject = subject_of s (page_of image) in
     (blocks-bit subject.readers (page_of image) maps.block_map maps.blocks pages set.items b read.block_map parts (omega arith) below)
     ∙ ap (λ (n : ℕ). is_block_used subject.readers (page_of image) n b) (sym read.blocks))
 
-pub inodes-read : (image : Image) (maps : Maps) (r : Result (Vec ℕ) ReadError) → IfOk r (λ set. AreParts 512 (part_of (page_of image) maps.inodes.extents 2560 512) 1 maps.inodes.iags set.items)
+pub inodes-read : (image : Image) (maps : Maps) (r : Result (Vec ℕ) ViewError) → IfOk r (λ set. AreParts 512 (part_of (page_of image) maps.inodes.extents 2560 512) 1 maps.inodes.iags set.items)
     → IfOk r (λ set. AreUsedInodes image maps set.items)
-inodes-read image maps r = if_ok r _ _ (λ set parts s read n below.
+inodes-read image maps r = if_ok r _ _ (λ set parts s read.
     let subject = subject_of s (page_of image) in
-    inodes-bit subject.readers (page_of image) maps.inodes.extents maps.inodes.iags set.items n read.inodes.extents parts below)
+    let bit = λ (n : ℕ) (below : n < 4096 * maps.inodes.iags). inode-bit subject.readers (page_of image) maps.inodes.extents maps.inodes.iags set.items n read.inodes.extents parts below in
+    record { bit = bit; in_use = λ n below. in-use subject.readers (page_of image) set.items n (bit n below) })

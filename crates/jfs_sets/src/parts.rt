@@ -1,8 +1,9 @@
 //! Parts of a file's pages, read one after the other.
 
-ghost use Rattle.std.specs.Prelude.{◌≡◌, ◌≤◌, ◌+◌, ◌*◌, ◌++◌, length, OnOk, IfOk, IfErr};
+ghost use Rattle.std.specs.Prelude.{◌≡◌, ◌≤◌, ◌+◌, ◌*◌, ◌++◌, length, OnOk, IfOk};
 ghost use Rattle.jfs_disk.specs.Image.{page_of};
-ghost use Rattle.jfs_reader.specs.Reading.{CarriesRead};
+ghost use Rattle.jfs_ranges.specs.View.{CarriesCount};
+ghost use Rattle.jfs_mount.specs.Files.{LieWithin};
 ghost use Rattle.jfs_sets.specs.Parts.{or_zeros, part_of, AreParts};
 
 use jfs_bits::Xad;
@@ -19,12 +20,13 @@ pub(crate) fn read_parts<const N: usize, V: PageView>(
     first: u32,
     pages: u32,
     at: usize,
-) -> Result<Vec<u8>, ReadError>
-    requires { at + N ≤ 4096 }
+) -> Result<Vec<u8>, ViewError>
+    requires part { at + N ≤ 4096 }
+    requires within { LieWithin (V.PageView.block_count view.old) extents.now }
     ensures image { V.PageView.tells → V.PageView.image view.new ≡ V.PageView.image view.old }
     ensures count_of_blocks { V.PageView.block_count view.new ≡ V.PageView.block_count view.old }
     ensures device { V.PageView.device view.new ≡ V.PageView.device view.old }
-    ensures fault { CarriesRead (V.PageView.faults view.old) (V.PageView.faults view.new) result }
+    ensures fault { CarriesCount (V.PageView.faults view.old) (V.PageView.faults view.new) result }
     ensures size { IfOk result (λ bytes. length bytes.items ≡ N * pages) }
     ensures parts { V.PageView.tells → IfOk result (λ bytes. AreParts N (part_of (page_of (V.PageView.image view.old)) extents.now at N) first pages bytes.items) }
 {
@@ -33,10 +35,13 @@ pub(crate) fn read_parts<const N: usize, V: PageView>(
     for k in 0..pages {
         let j = u64::from(first) + u64::from(k);
         rest = from_block(rest, j);
-        let part = read_part::<N, V>(view, rest, j, at)?;
-        match push_part(&mut bytes, part) {
-            Ok(()) => {}
-            Err(_) => return Err(ReadError::View(ViewError::Memory)),
+        match read_part::<N, V>(view, rest, j, at) {
+            Ok(part) => match push_part(&mut bytes, part) {
+                Ok(()) => {}
+                Err(_) => return Err(ViewError::Memory),
+            },
+            Err(ReadError::View(e)) => return Err(e),
+            Err(ReadError::Outside) => unreachable!(),
         }
     }
     Ok(bytes)

@@ -1,17 +1,16 @@
 //! The sets of a volume, read from its maps.
 
 ghost use Rattle.std.specs.Prelude.{◌≡◌, ◌≤◌, ◌*◌, ◌%◌, ◌^◌, map, length, IfOk};
-ghost use Rattle.jfs_reader.specs.Reading.{CarriesRead};
+ghost use Rattle.jfs_ranges.specs.View.{CarriesCount};
 ghost use Rattle.jfs_sets.specs.Sets.{AreUsedBlocks, AreUsedInodes, extent_from};
 
 use crate::parts::read_parts;
 use jfs_bits::{Pxd, PxdList};
 use jfs_mount::Maps;
-use jfs_ranges::PageView;
-use jfs_reader::ReadError;
+use jfs_ranges::{PageView, ViewError};
 use std::alloc::{AllocError, Global};
 
-/// A bit for each block of the file system part, in words as in the maps: set where the block is in use. Each page of the block map that tells of blocks is read once.
+/// A bit for each block of the file system part, in words as in the maps: set where the block is in use.
 ///
 /// # Errors
 ///
@@ -20,12 +19,13 @@ pub fn used_blocks<V: PageView>(
     alloc: Global,
     view: &mut V,
     maps: &Maps,
-) -> Result<Vec<u8>, ReadError>
+) -> Result<Vec<u8>, ViewError>
+    requires blocks { maps.now.blocks ≡ V.PageView.block_count view.old }
     requires most { maps.now.blocks ≤ 2 ^ 23 }
     ensures image { V.PageView.tells → V.PageView.image view.new ≡ V.PageView.image view.old }
     ensures count_of_blocks { V.PageView.block_count view.new ≡ V.PageView.block_count view.old }
     ensures device { V.PageView.device view.new ≡ V.PageView.device view.old }
-    ensures fault { CarriesRead (V.PageView.faults view.old) (V.PageView.faults view.new) result }
+    ensures fault { CarriesCount (V.PageView.faults view.old) (V.PageView.faults view.new) result }
     ensures size { IfOk result (λ set. maps.now.blocks ≤ 8 * length set.items) }
     ensures words { IfOk result (λ set. length set.items % 4 ≡ 0) }
     ensures used { V.PageView.tells → IfOk result (λ set. AreUsedBlocks (V.PageView.image view.old) maps.now set.items) }
@@ -34,7 +34,7 @@ pub fn used_blocks<V: PageView>(
     read_parts::<1024, V>(alloc, view, maps.block_map.as_slice(), 4, dmaps, 3072)
 }
 
-/// A bit for each inode that there is a place for, in words as in the maps. Each page of the inode map but the first is read once.
+/// The bit of each inode that there is a place for, in words as in the maps. An inode whose extent isn't there isn't in use, whatever its bit is.
 ///
 /// # Errors
 ///
@@ -43,11 +43,12 @@ pub fn used_inodes<V: PageView>(
     alloc: Global,
     view: &mut V,
     maps: &Maps,
-) -> Result<Vec<u8>, ReadError>
+) -> Result<Vec<u8>, ViewError>
+    requires blocks { maps.now.blocks ≡ V.PageView.block_count view.old }
     ensures image { V.PageView.tells → V.PageView.image view.new ≡ V.PageView.image view.old }
     ensures count_of_blocks { V.PageView.block_count view.new ≡ V.PageView.block_count view.old }
     ensures device { V.PageView.device view.new ≡ V.PageView.device view.old }
-    ensures fault { CarriesRead (V.PageView.faults view.old) (V.PageView.faults view.new) result }
+    ensures fault { CarriesCount (V.PageView.faults view.old) (V.PageView.faults view.new) result }
     ensures size { IfOk result (λ set. length set.items ≡ 512 * maps.now.inodes.iags) }
     ensures used { V.PageView.tells → IfOk result (λ set. AreUsedInodes (V.PageView.image view.old) maps.now set.items) }
 {
