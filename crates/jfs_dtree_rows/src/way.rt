@@ -1,6 +1,13 @@
 //! The way from the root down the first children, and the pages of each level, by the bytes of the pages.
 
+ghost use Rattle.std.specs.Prelude.{◌≤◌};
+
 use crate::volume::{Dir, LIMIT};
+
+/// Where the links to the page behind and to the page before stand in a page's header.
+const NEXT: usize = 0;
+
+const PREVIOUS: usize = 8;
 
 /// The last page that was met on each level, the leaves' first.
 type Met = [Option<u8>; 9];
@@ -53,7 +60,7 @@ pub fn is_linked(dir: &Dir) -> bool {
     }
     for last in &met {
         if let Some(page) = last {
-            if dir.byte(usize::from(*page), 0) != 0 {
+            if !names(dir, *page, NEXT, 0) {
                 return false;
             }
         }
@@ -86,6 +93,19 @@ fn names_itself(dir: &Dir, page: u8) -> bool {
     true
 }
 
+/// Whether a link of a page, eight bytes, names this page, or none where it is 0.
+fn names(dir: &Dir, page: u8, link: usize, wanted: u8) -> bool
+    requires { link ≤ 8 }
+{
+    for i in 0..8 {
+        let byte = if i == 0 { wanted } else { 0 };
+        if dir.byte(usize::from(page), link + i) != byte {
+            return false;
+        }
+    }
+    true
+}
+
 /// Whether a page, with so many levels below it at most, and those below it stand behind what was met on their levels, by both links, and name themselves.
 fn follows(dir: &Dir, page: u8, most: u8, met: &mut Met) -> bool {
     if !names_itself(dir, page) {
@@ -95,12 +115,12 @@ fn follows(dir: &Dir, page: u8, most: u8, met: &mut Met) -> bool {
     let n = usize::from(page);
     match met[level] {
         Some(before) => {
-            if dir.byte(usize::from(before), 0) != page || dir.byte(n, 8) != before {
+            if !names(dir, before, NEXT, page) || !names(dir, page, PREVIOUS, before) {
                 return false;
             }
         }
         None => {
-            if dir.byte(n, 8) != 0 {
+            if !names(dir, page, PREVIOUS, 0) {
                 return false;
             }
         }

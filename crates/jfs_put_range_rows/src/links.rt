@@ -1,6 +1,13 @@
 //! The links of a tree's pages, by their bytes.
 
+ghost use Rattle.std.specs.Prelude.{◌≤◌};
+
 use crate::file::File;
+
+/// Where the links to the page behind and to the page before stand in a page's header.
+const NEXT: usize = 0;
+
+const PREVIOUS: usize = 8;
 
 /// The last page that was met on each level.
 type Met = [Option<u8>; 9];
@@ -18,9 +25,22 @@ pub fn is_linked(file: &File) -> bool {
     }
     for last in &met {
         if let Some(page) = last {
-            if file.byte(*page, 0) != 0 {
+            if !names(file, *page, NEXT, 0) {
                 return false;
             }
+        }
+    }
+    true
+}
+
+/// Whether a link of a page, eight bytes, names this page, or none where it is 0.
+fn names(file: &File, page: u8, link: usize, wanted: u8) -> bool
+    requires { link ≤ 8 }
+{
+    for i in 0..8 {
+        let byte = if i == 0 { wanted } else { 0 };
+        if file.byte(page, link + i) != byte {
+            return false;
         }
     }
     true
@@ -31,12 +51,12 @@ fn follows(file: &File, page: u8, most: u8, met: &mut Met) -> bool {
     let level = usize::from(most.min(8));
     match met[level] {
         Some(before) => {
-            if file.byte(before, 0) != page || file.byte(page, 8) != before {
+            if !names(file, before, NEXT, page) || !names(file, page, PREVIOUS, before) {
                 return false;
             }
         }
         None => {
-            if file.byte(page, 8) != 0 {
+            if !names(file, page, PREVIOUS, 0) {
                 return false;
             }
         }

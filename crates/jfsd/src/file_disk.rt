@@ -1,6 +1,6 @@
 //! A disk over a file. It tells nothing of its contents: what a real file holds is trusted.
 
-ghost use Rattle.std.specs.Prelude.{◌≡◌, ◌≢◌, ◌<◌, ◌≤◌, ◌+◌, ◌/◌, ◌-◌, ◌^◌, min, []};
+ghost use Rattle.std.specs.Prelude.{◌≡◌, ◌≢◌, ◌<◌, ◌≤◌, ◌+◌, ◌/◌, ◌-◌, ◌^◌, min, [], IfOk};
 ghost use Rattle.jfs_disk.specs.Fault.{HasCause};
 
 use jfs_disk::{Disk, DiskError, Page};
@@ -90,7 +90,9 @@ impl FileDisk {
         alloc: Global,
         name: &[u8],
         access: Access,
-    ) -> Result<FileDisk, OpenError> {
+    ) -> Result<FileDisk, OpenError>
+        ensures { IfOk result (λ disk. disk.faults ≡ 0) }
+    {
         let name = str::from_utf8(name).map_err(|_| io::Error::from(io::ErrorKind::InvalidInput))?;
         let reads = OpenOptions::new().read(true).open(rt, name)?;
         if is_standard(&reads) {
@@ -125,7 +127,9 @@ impl FileDisk {
     }
 
     /// A disk of a name that can't be opened.
-    pub fn closed() -> FileDisk {
+    pub fn closed() -> FileDisk
+        ensures { result.faults ≡ 0 }
+    {
         FileDisk {
             files: None,
             first: 0,

@@ -1,6 +1,6 @@
 //! A script over a file. It tells nothing of its bytes.
 
-ghost use Rattle.std.specs.Prelude.{[]};
+ghost use Rattle.std.specs.Prelude.{◌≡◌, [], IfOk};
 
 use jfs_io::{IoFailed, Source};
 use std::fs::File;
@@ -17,7 +17,9 @@ pub struct FileSource {
 
 impl FileSource {
     /// Opens the script of that name.
-    pub fn open<R: Files<File = File>>(rt: &R, name: &[u8]) -> io::Result<FileSource> {
+    pub fn open<R: Files<File = File>>(rt: &R, name: &[u8]) -> io::Result<FileSource>
+        ensures { IfOk result (λ source. source.faults ≡ 0) }
+    {
         let name = str::from_utf8(name).map_err(|_| io::Error::from(io::ErrorKind::InvalidInput))?;
         Ok(FileSource {
             file: Some(fs::open(rt, name)?),
@@ -26,7 +28,9 @@ impl FileSource {
     }
 
     /// A script of a name that can't be opened.
-    pub fn closed() -> FileSource {
+    pub fn closed() -> FileSource
+        ensures { result.faults ≡ 0 }
+    {
         FileSource {
             file: None,
             faults: 0,
