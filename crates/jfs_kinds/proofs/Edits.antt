@@ -33,7 +33,7 @@ module _ (r : Readers) (v w : Volume) (n : ℕ) (x : Option Object) (before : Ag
   ]
 
   keeps_owner : (b : ℕ) → v.used b ≡ true → w.used b ≡ true → KeepsOwner r v w b
-  keeps_owner b was now Area = ap (λ (area : ℕ → ℕ). area b) places.area
+  keeps_owner b was now Area = places.area b
   keeps_owner b was now Inodes = ap (λ (es : List (Option ℕ)). extents_have es b) places.extents
   keeps_owner b was now (Tree k) = of_kind (λ o. has_page r o b) (kinds.pages b was now) k
   keeps_owner b was now (Data k) = of_kind (λ o. has_data r o b) (kinds.file_data b was now) k
@@ -61,7 +61,7 @@ module _ (r : Readers) (v w : Volume) (n : ℕ) (x : Option Object) (before : Ag
   other k t = c.objects_are k ∙ put_other n x (objects r v) k t
 
   by_owner : (y : Owner) → owner_of r w b ≡ Some y → IsOwnerIn n (owner_of r w b)
-  by_owner Area h = not_others Area (ap (λ (area : ℕ → ℕ). area b) places.area) h
+  by_owner Area h = not_others Area (places.area b) h
   by_owner Inodes h = not_others Inodes (ap (λ (es : List (Option ℕ)). extents_have es b) places.extents) h
   by_owner (Tree k) h = elim (eq_or_not k n) [ inl e ↦ inl (h ∙ ap (λ j. Some (Tree j)) e) | inr t ↦ not_others (Tree k) (ap (λ o. has_page r o b) (other k t)) h ]
   by_owner (Data k) h = elim (eq_or_not k n) [ inl e ↦ inr (inl (h ∙ ap (λ j. Some (Data j)) e)) | inr t ↦ not_others (Data k) (ap (λ o. has_data r o b) (other k t)) h ]
@@ -154,15 +154,18 @@ module _ (r : Readers) (v w : Volume) (n : ℕ) (sound : IsSound r v) (s : Write
   pub keeps_logged : KeepsLogged r v w
   keeps_logged b l = logged b (owner_of r v b) refl l
 
+places : (v w : Volume) → w.extents ≡ v.extents → w.area ≡ v.area → HasPlaces v w
+places v w extents area = record { extents = extents; area = λ b. ap (λ (f : ℕ → ℕ). f b) area }
+
 pub edit_law : EditLaw
 edit_law = record {
-  writes = λ r v w n sound s. (keeps_logged r v w n sound s, same_owners r v w (record { extents = s.extents; area = s.area }) (data_law r v w n sound s).0.objects_stay);
+  writes = λ r v w n sound s. (keeps_logged r v w n sound s, same_owners r v w (places v w s.extents s.area) (data_law r v w n sound s).0.objects_stay);
   sets = λ r v w n after mid taken freed sound s kinds.
-      owners_stay r v w n (Some (spelled r mid after)) sound.agrees (object_is_set r v w n after mid taken freed sound s).0 (record { extents = s.extents; area = s.area }) kinds;
+      owners_stay r v w n (Some (spelled r mid after)) sound.agrees (object_is_set r v w n after mid taken freed sound s).0 (places v w s.extents s.area) kinds;
   takes = λ r v w n after mid taken freed sound s b free now.
-      takes r v w n (Some (spelled r mid after)) sound.agrees (object_is_set r v w n after mid taken freed sound s).0 (record { extents = s.extents; area = s.area }) b free now;
+      takes r v w n (Some (spelled r mid after)) sound.agrees (object_is_set r v w n after mid taken freed sound s).0 (places v w s.extents s.area) b free now;
   drops = λ r v w n left freed sound s.
-      (let c = object_goes r v w n left freed sound s in owners_stay r v w n None sound.agrees c (record { extents = s.extents; area = s.area }) (gone_kinds r v w n c));
+      (let c = object_goes r v w n left freed sound s in owners_stay r v w n None sound.agrees c (places v w s.extents s.area) (gone_kinds r v w n c));
   adds = others_stay;
   comes = comes;
 }

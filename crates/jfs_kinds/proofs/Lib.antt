@@ -4,3 +4,4 @@ pub mod Holding
 pub mod Stay
 pub mod Logged
 pub mod Edits
+pub mod Images

@@ -21,7 +21,7 @@ same_below r v w same b (suc n) = ap (λ (o : Option Object). owner_in r o n b (
 pub same_owners : SameOwnersLaw
 unfolding owner_of
 same_owners r v w places same b =
-    ap (λ (area : ℕ → ℕ). or_else (area b) Area (or_else (extents_have w.extents b) Inodes (owner_below (room w) r w b))) places.area
+    ap (λ (area : ℕ). or_else area Area (or_else (extents_have w.extents b) Inodes (owner_below (room w) r w b))) (places.area b)
     ∙ ap (λ (es : List (Option ℕ)). or_else (v.area b) Area (or_else (extents_have es b) Inodes (owner_below (32 * length es) r w b))) places.extents
     ∙ ap (λ (next : Option Owner). or_else (v.area b) Area (or_else (extents_have v.extents b) Inodes next)) (same_below r v w same b (room v))
 

@@ -44,7 +44,7 @@ pub record IsReadFromLogged (r : Readers) (v : Volume) : Type 0 where
 -- extents and areas are those of another volume
 pub record HasPlaces (v w : Volume) : Type 0 where
   pub extents : w.extents ≡ v.extents
-  pub area : w.area ≡ v.area
+  pub area : (b : ℕ) → w.area b ≡ v.area b
 
 -- logged pages are
 abbrev pub KeepsLogged : Readers → Volume → Volume → Type 0

@@ -1,3 +1,4 @@
 -- what the clauses say
 pub mod Owner
 pub mod Laws
+pub mod Images

@@ -1,5 +1,6 @@
 //! Laws of the owners of blocks.
 
+ghost use Rattle.jfs_kinds.specs.Images.{ImageLaw};
 ghost use Rattle.jfs_kinds.specs.Laws.{OwnersLaw, ContentsLaw, LoggedLaw, SameOwnersLaw, KeptLaw, EditLaw};
 
 /// Where maps agree, each block has one owner at most, of one kind, and is in use exactly where it has one.
@@ -15,6 +16,11 @@ pub fn contents_have_owners()
 /// Pages of inodes and of trees are logged, and logged pages alone give all objects and owners: whatever becomes of the others.
 pub fn logged_pages_give_objects()
     ensures { LoggedLaw }
+{}
+
+/// An image whose logged pages are those of a sound one has its sets, places, objects and owners, and is sound as well.
+pub fn logged_pages_give_images()
+    ensures { ImageLaw }
 {}
 
 /// Volumes with the same areas, inode extents and objects have the same owners.

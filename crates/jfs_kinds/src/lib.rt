@@ -4,6 +4,6 @@
 mod law;
 
 pub use law::{
-    blocks_have_one_owner, contents_have_owners, edits_leave_owners, logged_pages_give_objects,
-    objects_give_owners, owners_stay_with_counts,
+    blocks_have_one_owner, contents_have_owners, edits_leave_owners, logged_pages_give_images,
+    logged_pages_give_objects, objects_give_owners, owners_stay_with_counts,
 };
