@@ -1,0 +1,5 @@
+//! Walks over a volume that was formatted.
+#![tactic(auto)]
+
+#[cfg(test)]
+mod walks;
