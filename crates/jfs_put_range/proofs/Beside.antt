@@ -15,11 +15,12 @@ use Rattle.jfs_xtree.specs.Writing.{kept_from}
 use Rattle.jfs_written.specs.Range.{with_range}
 use Rattle.jfs_written.proofs.Sides.{writes_each_side}
 use Rattle.jfs_put_range.specs.Parts.{Wrote, parts_below}
+use Rattle.jfs_put_range.proofs.Framed.{framed_none, framed_then}
 use Rattle.jfs_put_range.proofs.Rows.{rows_to, rows_rise, nothing}
 
 -- where nothing is written
 pub wrote_none : (pages : ℕ → List ℕ) (low : ℕ) (ms : Marks ℕ Xad) (high : Option ℕ) (free : List ℕ) → Rises xt_scale low ms high → Wrote [] pages pages low ms ms high free free
-wrote_none pages low ms high free r = record { rows = sym (nothing (rows_of ms)); rises = r; pages = λ n. refl; keeps = λ n z e. refl }
+wrote_none pages low ms high free r = record { rows = sym (nothing (rows_of ms)); rises = r; pages = λ n. refl; keeps = λ n z e. refl; framed = framed_none pages free }
 
 pub wrote_beside : (xs : List Xad) (bound low : ℕ) (before middle after : ℕ → List ℕ) (a x b y : Marks ℕ Xad) (high : Option ℕ) (free between left : List ℕ)
     → Rises xt_scale low a (Some bound) → Rises xt_scale bound b high → BeginsAt bound (rows_of b) → ((n : ℕ) → count_in n between ≤ count_in n free) → ((n : ℕ) → count_in n left ≤ count_in n between)
@@ -34,6 +35,7 @@ wrote_beside xs bound low before middle after a x b y high free between left ra 
   keeps = λ n z e.
       let s = times-append n a b in let f = fewer n in let g = less n in
       t.keeps n (omega (arith, s, z)) (omega (arith, e, f, g)) ∙ h.keeps n (omega (arith, s, z)) (omega (arith, e, f, g));
+  framed = framed_then before middle after free between left fewer less h.framed t.framed;
 }
 
 -- parts whose pages keep their bytes

@@ -22,13 +22,14 @@ use Rattle.jfs_tree.proofs.Steps.{once_here}
 use Rattle.jfs_tree.proofs.Taking.{itself, taken_last, two_first, two_last}
 use Rattle.jfs_xtpage.specs.declared.head.XtForm.TheVariants.{Full}
 use Rattle.jfs_xtree.specs.Laws.{order}
-use Rattle.jfs_xtree.specs.Node.{xt_scale, xt_node, all_within, child_of}
+use Rattle.jfs_xtree.specs.Node.{xt_scale, xt_node, frame_of, all_within, child_of}
 use Rattle.jfs_xtree.specs.Spells.{page_nodes}
 use Rattle.jfs_refill.specs.Refilled.{IsList}
 use Rattle.jfs_refill.specs.Stored.{Stored}
-use Rattle.jfs_put_range.specs.Parts.{Takes, Wrote, WrotePage, RefutesPage, WroteChildren, RefutesChildren, IsOpened, part_of, parts_below, parts_under}
+use Rattle.jfs_put_range.specs.Parts.{Framed, Takes, Wrote, WrotePage, RefutesPage, WroteChildren, RefutesChildren, IsOpened, part_of, parts_below, parts_under}
 use Rattle.jfs_put_range.proofs.Beside.{parts_stay}
 use Rattle.jfs_put_range.proofs.Filled.{inner_keeps, inner_fills, not_full}
+use Rattle.jfs_put_range.proofs.Framed.{framed_then, none_taken, stored_framed}
 use Rattle.jfs_put_range.proofs.Pages.{inside, one_page, two_pages, walk_inner}
 
 under_append : (key : ℕ) (front back : List (Child ℕ)) → IsCons front → under key (front ++ back) ≡ under key front ++ back
@@ -73,6 +74,14 @@ stays blocks before mid new image n lower key low xs made p high free between re
     none : (a b c : ℕ) {t u v : ℕ} → (a + b) + c ≤ 1 → t + u ≡ b + c → 0 < t → v ≤ u → u ≡ v
     none a b c o h s l = omega (arith, o, h, s, l)
 
+-- the frames of the pages below it, and then its own
+page_framed : (full : Bool) (made : List Xad) (old mid new : List Drafted) (image : Image) (n : ℕ) (bytes : List ℕ) (free between rest : List ℕ) (more : Option (Sibling ℕ)) → bytes ≡ shown old image n → count_in n free ≡ 0
+    → ((m : ℕ) → count_in m between ≤ count_in m free) → ((m : ℕ) → count_in m rest ≤ count_in m between) → Framed (shown old image) (shown mid image) free between → Stored made full bytes n mid new between rest more
+    → Framed (shown old image) (shown new image) free rest
+page_framed full made old mid new image n bytes free between rest more read none fewer less below stored =
+    framed_then (shown old image) (shown mid image) (shown new image) free between rest fewer less below
+    (stored_framed full made bytes n mid new image between rest more (ap (frame_of Full) read ∙ sym (below.others n (none_taken (count_in n free) (count_in n between) none (fewer n)))) stored)
+
 pub inner_wrote : (end full : Bool) (blocks : ℕ) (xs es made : List Xad) (left right : Bool) (old mid new : List Drafted) (image : Image) (n levels : ℕ) (bytes : List ℕ) (free between rest : List ℕ) (more : Option (Sibling ℕ)) → 0 < length xs
     → IsOpened blocks bytes es false → bytes ≡ shown old image n → WroteChildren end blocks xs left right true (shown old image) (shown mid image) levels es made free between
     → (full ≡ true → end ≡ true) → 0 < length made → all_within blocks made ≡ true → ((m : ℕ) → count_in m between ≤ count_in m free) → ((m : ℕ) → count_in m rest ≤ count_in m between)
@@ -95,7 +104,8 @@ inner_wrote end full blocks xs es made left right old mid new image n levels byt
     let now : parts_below blocks after (suc (suc b.lower)) (c ∷ []) ≡ Key n key ∷ Page n ∷ q =
     append_nil (part_of blocks after (suc (suc b.lower)) c) ∙ walk_inner (page_nodes blocks after) b.lower c made some there
     ∙ ap (λ ms. Key n key ∷ Page n ∷ ms) same in
-    let w = one_page xs before middle after key low n p q high free between b.takes.rises.0 (λ m ne. keeps image m ne (ap (count_in m) (sym left_is))) g.0 in (
+    let framed = page_framed full made old mid new image n bytes free between rest None read (once_itself n (times n p) (count_in n free) (b.takes.once n)) fewer less g.0.framed (few, left_is, stored) in
+    let w = one_page xs before middle after key low n p q high free between b.takes.rises.0 (λ m ne. keeps image m ne (ap (count_in m) (sym left_is))) (subst (Framed before after free) left_is framed) g.0 in (
       subst (λ l. Wrote xs before after low (part_of blocks before l c) (parts_below blocks after l (c ∷ [])) high free rest) (sym b.level)
           (subst (λ ms. Wrote xs before after low ms (parts_below blocks after (suc (suc b.lower)) (c ∷ [])) high free rest) (sym b.was)
           (subst (λ ms. Wrote xs before after low (Key n key ∷ Page n ∷ p) ms high free rest) (sym now)
@@ -137,7 +147,8 @@ inner_wrote end full blocks xs es made left right old mid new image n levels byt
     ∙ ap (λ cs. Key s.page s.key ∷ Page s.page ∷ flat_map walks cs) (own_key s.key h.first h.back h.key_is)) in
     let rise = children_part xt_scale order (page_nodes blocks after) (suc b.lower) key x h.first h.back high (subst (λ ms. Rises xt_scale key ms high) (sym both) g.0.rises) in
     let w = two_pages xs before middle after key low n s.page s.key p q x y high free between rest b.takes.rises.0 fewer taken (λ m off e. keeps image m off e) (ap rows_of both) (λ m. ap (times m) both)
-    (subst (λ k. Rises xt_scale key x (Some k)) (sym h.key_is) rise.0) (subst (λ k. Rises xt_scale k y high) (sym h.key_is) rise.1) g.0 in (
+    (subst (λ k. Rises xt_scale key x (Some k)) (sym h.key_is) rise.0) (subst (λ k. Rises xt_scale k y high) (sym h.key_is) rise.1)
+    (page_framed full made old mid new image n bytes free between rest (Some s) read (once_itself n (times n p) (count_in n free) (b.takes.once n)) fewer less g.0.framed (long, popped, stored)) g.0 in (
       subst (λ l. Wrote xs before after low (part_of blocks before l c) (parts_below blocks after l (c ∷ d ∷ [])) high free rest) (sym b.level)
           (subst (λ ms. Wrote xs before after low ms (parts_below blocks after (suc (suc b.lower)) (c ∷ d ∷ [])) high free rest) (sym b.was)
           (subst (λ ms. Wrote xs before after low (Key n key ∷ Page n ∷ p) ms high free rest) (sym now) w)),

@@ -26,7 +26,7 @@ use Rattle.jfs_tree.proofs.Taking.{itself, taken_last, two_first, two_last}
 use Rattle.jfs_xtpage.specs.declared.head.XtForm.TheVariants.{Full}
 use Rattle.jfs_xtpage.specs.Page.{end_of, rises_from}
 use Rattle.jfs_xtree.specs.Laws.{ends_after}
-use Rattle.jfs_xtree.specs.Node.{xt_scale, xt_node, is_within, all_within, IsGood, BeginsAt}
+use Rattle.jfs_xtree.specs.Node.{xt_scale, xt_node, frame_of, is_within, all_within, IsGood, BeginsAt}
 use Rattle.jfs_xtree.specs.Spells.{page_nodes}
 use Rattle.jfs_xtree.specs.CutParts.{AllFrom}
 use Rattle.jfs_xtree.specs.Writing.{AllTo}
@@ -39,7 +39,8 @@ use Rattle.jfs_written.proofs.Each.{rises_still, begins_still, is_good_still}
 use Rattle.jfs_written.proofs.Counts.{loses_none, adds_few}
 use Rattle.jfs_refill.specs.Refilled.{IsList}
 use Rattle.jfs_refill.specs.Stored.{Stored}
-use Rattle.jfs_put_range.specs.Parts.{Takes, Wrote, WrotePage, RefutesPage, IsPart, IsOpened, AllUpTo, EndsBy, part_of, parts_below}
+use Rattle.jfs_put_range.specs.Parts.{Framed, Takes, Wrote, WrotePage, RefutesPage, IsPart, IsOpened, AllUpTo, EndsBy, part_of, parts_below}
+use Rattle.jfs_put_range.proofs.Framed.{framed_none, stored_framed}
 use Rattle.jfs_put_range.proofs.Rows.{rows_to, rows_rise}
 use Rattle.jfs_put_range.proofs.Filled.{leaf_keeps, leaf_fills, not_full}
 use Rattle.jfs_put_range.proofs.Pages.{one_page, two_pages}
@@ -162,6 +163,7 @@ leaf_lists xs es pages n key high free r = record {
   rises = r;
   pages = λ m. (let a = times_leaf ℕ m n es in let b = times_leaf ℕ m n (with_range xs es) in omega (arith, a, b));
   keeps = λ m z e. refl;
+  framed = framed_none pages free;
 }
 
 pub leaf_list : (blocks : ℕ) (xs es : List Xad) → blocks ≤ 2 ^ 40 → IsPart blocks xs → rises_from 0 es ≡ true → all_within blocks es ≡ true → All FitsXad es → IsList blocks (with_range xs es) × All FitsXad (with_range xs es)
@@ -195,7 +197,9 @@ leaf_wrote end full blocks xs es list left right old new image n bytes free rest
     ap (xt_node Full blocks) (stored.puts image n ∙ itself n stored.page (before n)) ∙ (stored.reads blocks (subst (IsList blocks) (sym is_list) good)).leaf es o.node ∙ ap (λ ys. Leaf ys) is_list in
     let now = append_nil (part_of blocks after 1 c) ∙ cons_rows xt_scale (page_nodes blocks after) c (with_range xs es) b.fits there in
     let same = λ (m : ℕ). ap (count_in m) (sym left_is) in
-    let w = one_page xs before before after key low n (map (Row n) es) (map (Row n) (with_range xs es)) high free free b.takes.rises.0 (λ m ne. keeps image m ne (same m)) (leaf_lists xs es before n key high free (b.marks n)) in (
+    let framed = stored_framed full list bytes n old new image free rest None (ap (frame_of Full) read) (few, left_is, stored) in
+    let w = one_page xs before before after key low n (map (Row n) es) (map (Row n) (with_range xs es)) high free free b.takes.rises.0 (λ m ne. keeps image m ne (same m)) (subst (Framed before after free) left_is framed)
+    (leaf_lists xs es before n key high free (b.marks n)) in (
       subst (λ l. Wrote xs before after low (part_of blocks before l c) (parts_below blocks after l (c ∷ [])) high free rest) (sym b.level)
           (subst (λ ms. Wrote xs before after low ms (parts_below blocks after 1 (c ∷ [])) high free rest) (sym b.was)
           (subst (λ ms. Wrote xs before after low (Key n key ∷ Page n ∷ map (Row n) es) ms high free rest) (sym now)
@@ -229,7 +233,7 @@ leaf_wrote end full blocks xs es list left right old new image n bytes free rest
     let w = two_pages xs before before after key low n q s.key (map (Row n) es) (map (Row n) (with_range xs es)) x y high free free rest b.takes.rises.0 (λ m. omega arith) taken (λ m off e. keeps image m off e)
     (rows-append x y ∙ ap (λ ys. ys ++ rows_of y) (rows_leaf ℕ n p.front) ∙ ap (λ ys. p.front ++ ys) (rows_leaf ℕ q p.back) ∙ sym all ∙ sym (rows_leaf ℕ n (with_range xs es)))
     (λ m. (let e = times-append m x y in let f = times_leaf ℕ m n p.front in let g = times_leaf ℕ m q p.back in let h = times_leaf ℕ m n (with_range xs es) in omega (arith, e, f, g, h)))
-    rise.0 (relabel n q s.key p.back high rise.1) (leaf_lists xs es before n key high free (b.marks n)) in (
+    rise.0 (relabel n q s.key p.back high rise.1) (stored_framed full list bytes n old new image free rest (Some s) (ap (frame_of Full) read) (long, popped, stored)) (leaf_lists xs es before n key high free (b.marks n)) in (
       subst (λ l. Wrote xs before after low (part_of blocks before l c) (parts_below blocks after l (c ∷ d ∷ [])) high free rest) (sym b.level)
           (subst (λ ms. Wrote xs before after low ms (parts_below blocks after 1 (c ∷ d ∷ [])) high free rest) (sym b.was)
           (subst (λ ms. Wrote xs before after low (Key n key ∷ Page n ∷ map (Row n) es) ms high free rest) (sym now) w)),

@@ -1,4 +1,5 @@
 pub mod Rows
+pub mod Framed
 pub mod Beside
 pub mod Cutting
 pub mod Filled
@@ -8,6 +9,7 @@ pub mod Opening
 pub mod Settling
 pub mod Standing
 pub mod RootRanges
+pub mod RootFrames
 pub mod Pages
 pub mod LeafPages
 pub mod InnerPages

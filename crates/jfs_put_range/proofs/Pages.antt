@@ -11,7 +11,7 @@ use Rattle.jfs_tree.proofs.Rising.{rises_join}
 use Rattle.jfs_tree.proofs.Steps.{inner_is}
 use Rattle.jfs_xtree.specs.Laws.{order}
 use Rattle.jfs_xtree.specs.Node.{xt_scale, child_of}
-use Rattle.jfs_put_range.specs.Parts.{Takes, Wrote}
+use Rattle.jfs_put_range.specs.Parts.{Framed, Takes, Wrote}
 
 off : (n m rest : ℕ) → (if n == m then 1 else 0) + rest ≡ 0 → m ≢ n
 off n m rest h e = grind arith
@@ -36,13 +36,14 @@ inside xs left right first key low n ms high free t = record {
 
 -- it is on one page still
 pub one_page : (xs : List Xad) (before middle after : ℕ → List ℕ) (key low n : ℕ) (p q : Marks ℕ Xad) (high : Option ℕ) (free between : List ℕ) → nat_le low key ≡ true
-    → ((m : ℕ) → m ≢ n → after m ≡ middle m) → Wrote xs before middle key p q high free between
+    → ((m : ℕ) → m ≢ n → after m ≡ middle m) → Framed before after free between → Wrote xs before middle key p q high free between
     → Wrote xs before after low (Key n key ∷ Page n ∷ p) (Key n key ∷ Page n ∷ q) high free between
-one_page xs before middle after key low n p q high free between l others w = record {
+one_page xs before middle after key low n p q high free between l others framed w = record {
   rows = w.rows;
   rises = (l, w.rises);
   pages = λ m. (let h = w.pages m in omega (arith, h));
   keeps = λ m z e. others m (off n m (times m p) z) ∙ w.keeps m (let h : times m p ≡ 0 = omega (arith, z) in h) e;
+  framed = framed;
 }
 
 -- or on two, of which the second one was free
@@ -50,15 +51,16 @@ pub two_pages : (xs : List Xad) (before middle after : ℕ → List ℕ) (key lo
     → ((m : ℕ) → count_in m between ≤ count_in m free) → ((m : ℕ) → count_in m between ≡ (if q == m then 1 else 0) + count_in m rest)
     → ((m : ℕ) → m ≢ n → count_in m between ≡ count_in m rest → after m ≡ middle m)
     → rows_of (a ++ b) ≡ rows_of new → ((m : ℕ) → times m (a ++ b) ≡ times m new) → Rises xt_scale key a (Some k) → Rises xt_scale k b high
-    → Wrote xs before middle key p new high free between
+    → Framed before after free rest → Wrote xs before middle key p new high free between
     → Wrote xs before after low (Key n key ∷ Page n ∷ p) (Key n key ∷ Page n ∷ (a ++ (Key q k ∷ Page q ∷ b))) high free rest
-two_pages xs before middle after key low n q k p new a b high free between rest l fewer taken others rows times_are ra rb w = record {
+two_pages xs before middle after key low n q k p new a b high free between rest l fewer taken others rows times_are ra rb framed w = record {
   rows = rows-append a (Key q k ∷ Page q ∷ b) ∙ sym (rows-append a b) ∙ rows ∙ w.rows;
   rises = (l, rises_join xt_scale order key k a (Key q k ∷ Page q ∷ b) high ra (le-leb k k (omega arith), rb));
   pages = λ m. (let h = w.pages m in let t = times_are m in let s = times-append m a b in let u = times-append m a (Key q k ∷ Page q ∷ b) in let c = taken m in omega (arith, h, t, s, u, c));
   keeps = λ m z e.
       let b = no_more q m (count_in m free) (count_in m between) (count_in m rest) (taken m) e (fewer m) in
       others m (off n m (times m p) z) b ∙ w.keeps m (let h : times m p ≡ 0 = omega (arith, z) in h) (e ∙ sym b);
+  framed = framed;
 }
 
 -- ---- an inner page with these entries

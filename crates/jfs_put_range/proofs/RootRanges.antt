@@ -113,7 +113,7 @@ module _ (form : XtForm) (blocks : ℕ) (image : Image) (xs entries : List Xad) 
   inner_refuses old free Memory opened below h es spelled spare = tt
 
   -- as the code has them
-  wrote_as : (last : Bool) (tells : Type 0) (n : ℕ) (ys : List Xad) (l r : Bool) (start all : List Xad) (old mid : List Drafted) (levels : ℕ) (free between : List ℕ) → blocks ≡ n → ys ≡ xs → l ≡ true → r ≡ true → last ≡ true → tells
+  pub wrote_as : (last : Bool) (tells : Type 0) (n : ℕ) (ys : List Xad) (l r : Bool) (start all : List Xad) (old mid : List Drafted) (levels : ℕ) (free between : List ℕ) → blocks ≡ n → ys ≡ xs → l ≡ true → r ≡ true → last ≡ true → tells
       → (p : Pushed tells last n ys l r true (shown old image) (shown mid image) levels entries start all free between) → WroteChildren true blocks xs true true true (shown old image) (shown mid image) levels entries p.made free between
   wrote_as last tells n ys l r start all old mid levels free between eb ex el er ed t p =
       subst (λ d. WroteChildren d blocks xs true true true (shown old image) (shown mid image) levels entries p.made free between) ed
@@ -179,7 +179,7 @@ broken_refuses form blocks image root ds free Memory h es spelled spare = tt
 
 -- ---- the whole call
 
-spare_reversed : (pages : ℕ → Node ℕ Xad) (root : Node ℕ Xad) (free : List ℕ) → IsSpare xt_scale pages root free → IsSpare xt_scale pages root (reverse free)
+pub spare_reversed : (pages : ℕ → Node ℕ Xad) (root : Node ℕ Xad) (free : List ℕ) → IsSpare xt_scale pages root free → IsSpare xt_scale pages root (reverse free)
 spare_reversed pages root free spare = record {
   once = λ n. (let h = spare.once n in let c = count_reverse n free in omega (arith, h, c));
   apart = λ n h. spare.apart n (let c = count_reverse n free in omega (arith, h, c));

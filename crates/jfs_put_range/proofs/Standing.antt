@@ -30,7 +30,7 @@ use Rattle.jfs_xtree.specs.WriteParts.{drafted}
 use Rattle.jfs_xtree.proofs.Pages.{rises_less}
 use Rattle.jfs_written.specs.Range.{with_range}
 use Rattle.jfs_put_range.specs.Call.{IsShortRange}
-use Rattle.jfs_put_range.specs.Parts.{Takes, WroteChildren, RefutesChildren, parts_under}
+use Rattle.jfs_put_range.specs.Parts.{Framed, Takes, WroteChildren, RefutesChildren, parts_under}
 use Rattle.jfs_put_range.specs.Tops.{AreFilled}
 use Rattle.jfs_put_range.proofs.Filled.{pages_are}
 use Rattle.jfs_put_range.proofs.Lists.{from_start}
@@ -253,6 +253,14 @@ inner_stood blocks image xs entries made es old mid root levels free between ran
         fewer = λ n. (let f = fewer_left n free between front in omega (arith, f));
       });
     }
+
+-- the frames of the pages below it
+pub inner_framed : (blocks : ℕ) (image : Image) (xs entries made es : List Xad) (old mid : List Drafted) (root : Node ℕ Xad) (levels : ℕ) (free between : List ℕ) → IsShortRange blocks xs → root ≡ inner entries
+    → 0 < length entries → rises_from 0 entries ≡ true → AllBelow blocks free → blocks ≤ no_page → WroteChildren true blocks xs true true true (shown old image) (shown mid image) levels entries made free between
+    → spells xt_scale (drafted blocks old image) root ≡ Ok es → IsSpare xt_scale (drafted blocks old image) root free → Framed (shown old image) (shown mid image) free between
+inner_framed blocks image xs entries made es old mid root levels free between range is some rising below within wrote spelled spare =
+    let b = below_root blocks image entries es old root free is some below within spelled spare in
+    (wrote (suc b.lower) 0 0 None range.first rising (λ e. absurd cc) (takes_below blocks xs entries es (shown old image) root free (tree_of xt_scale (drafted blocks old image) root) range b)).0.framed
 
 -- where a page below it is named, it spells no list
 pub inner_refuted : (blocks : ℕ) (image : Image) (xs entries es : List Xad) (old : List Drafted) (root : Node ℕ Xad) (free : List ℕ) (bad : ℕ) (rule : Rule) → IsShortRange blocks xs → root ≡ inner entries

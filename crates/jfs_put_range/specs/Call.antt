@@ -6,14 +6,16 @@ use Rattle.jfs_ranges.specs.declared.edit.Edit.{Edit}
 use Rattle.jfs_tree.specs.Walk.{Node}
 use Rattle.jfs_tree.specs.Spells.{no_page, with_root, levels_of}
 use Rattle.jfs_tree.specs.Levels.{HasNoThin}
+use Rattle.jfs_tree.specs.Edit.{count_in}
 use Rattle.jfs_tree.specs.Fresh.{LeadsTo, after_tx}
+use Rattle.jfs_tree.specs.Frames.{IsTaken}
 use Rattle.jfs_tree.specs.Root.{IsSpare}
 use Rattle.jfs_tree.specs.Becomes.{BecomesTold}
 use Rattle.jfs_tree.specs.declared.form.TreeError.{TreeError}
 use Rattle.jfs_tree.specs.declared.form.TreeError.TheVariants.{View, Bad, Memory}
 use Rattle.jfs_xtpage.specs.declared.head.XtForm.TheVariants.{Full}
 use Rattle.jfs_xtpage.specs.Page.{head_of}
-use Rattle.jfs_xtree.specs.Node.{xt_scale, xt_node}
+use Rattle.jfs_xtree.specs.Node.{xt_scale, xt_node, frame_of, new_frame}
 use Rattle.jfs_xtree.specs.Spells.{page_nodes, root_form, root_node, spells_extents}
 use Rattle.jfs_xtree.specs.CutParts.{AllFrom}
 use Rattle.jfs_xtree.specs.Writing.{AllTo}
@@ -43,6 +45,16 @@ WritesRange blocks pages xs root after free left tx later = (es : List Xad) → 
 abbrev pub KeepsNoThin : ℕ → (ℕ → List ℕ) → List ℕ → List ℕ → List ℕ → List Edit → List Edit → Type 0
 KeepsNoThin blocks pages root after free tx later = (es : List Xad) → spells_extents blocks pages root ≡ Ok es → IsSpare xt_scale (page_nodes blocks pages) (root_node blocks root) free → (base : ℕ → List ℕ) → LeadsTo blocks base tx pages
     → HasNoThin (with_root (root_node blocks root) (page_nodes blocks pages)) → HasNoThin (with_root (xt_node (root_form (length root)) blocks after) (page_nodes blocks (after_tx base later)))
+
+-- Each page that was taken names itself: its own descriptor is one block at its own number. Each other page keeps its frame, which is what it has beside kind, count, links and entries.
+pub record AreNamed (blocks : ℕ) (pages later : ℕ → List ℕ) (free left : List ℕ) : Type 0 where
+  pub taken : (n : ℕ) → n < blocks → IsTaken free left n → frame_of Full (later n) ≡ new_frame n
+  pub others : (n : ℕ) → n < blocks → count_in n free ≡ count_in n left → frame_of Full (later n) ≡ frame_of Full (pages n)
+
+-- So of the pages to which all edits lead, whatever list the root spelled, where the free blocks aren't pages of the tree.
+abbrev pub NamesPages : ℕ → (ℕ → List ℕ) → List ℕ → List ℕ → List ℕ → List Edit → List Edit → Type 0
+NamesPages blocks pages root free left tx later = (es : List Xad) → spells_extents blocks pages root ≡ Ok es → IsSpare xt_scale (page_nodes blocks pages) (root_node blocks root) free → (base : ℕ → List ℕ) → LeadsTo blocks base tx pages
+    → AreNamed blocks pages (after_tx base later) free left
 
 -- fewer than two slots of the root are free
 abbrev pub LacksTwo : List ℕ → Type 0

@@ -9,12 +9,13 @@ use Rattle.jfs_tree.specs.Path.{below_root}
 use Rattle.jfs_tree.specs.Edit.{count_in}
 use Rattle.jfs_tree.specs.Spells.{no_page}
 use Rattle.jfs_tree.specs.Form.{AllBelow, children_of}
+use Rattle.jfs_tree.specs.Frames.{IsTaken}
 use Rattle.jfs_tree.specs.declared.form.Sibling.{Sibling}
 use Rattle.jfs_tree.specs.declared.form.TreeError.{TreeError}
 use Rattle.jfs_tree.specs.declared.form.TreeError.TheVariants.{View, Bad, Memory}
 use Rattle.jfs_xtpage.specs.declared.head.XtForm.TheVariants.{Full}
 use Rattle.jfs_xtpage.specs.Page.{head_of, end_of, rises_from, IsLaidOut}
-use Rattle.jfs_xtree.specs.Node.{xt_scale, xt_node, all_within, child_of, BeginsAt}
+use Rattle.jfs_xtree.specs.Node.{xt_scale, xt_node, frame_of, new_frame, all_within, child_of, BeginsAt}
 use Rattle.jfs_xtree.specs.Spells.{page_nodes}
 use Rattle.jfs_xtree.specs.CutParts.{AllFrom, pages_of_children, pages_of_entries}
 use Rattle.jfs_xtree.specs.Cutting.{kept_below}
@@ -44,12 +45,18 @@ pub record Takes (xs : List Xad) (left right : Bool) (first key low : ℕ) (ms :
   pub ends : right ≡ false → EndsBy (first + 17) high
   pub once : (n : ℕ) → times n ms + count_in n free ≤ 1
 
--- A part in which a range was written: its entries are those with the range, its pages are its own and those that were taken, and each page that is neither keeps its bytes.
+-- Each page that was taken names itself, and each other page keeps its frame.
+pub record Framed (before after : ℕ → List ℕ) (free left : List ℕ) : Type 0 where
+  pub taken : (n : ℕ) → IsTaken free left n → frame_of Full (after n) ≡ new_frame n
+  pub others : (n : ℕ) → count_in n free ≡ count_in n left → frame_of Full (after n) ≡ frame_of Full (before n)
+
+-- A part in which a range was written: its entries are those with the range, its pages are its own and those that were taken, each page that is neither keeps its bytes, and each that wasn't taken its frame.
 pub record Wrote (xs : List Xad) (before after : ℕ → List ℕ) (low : ℕ) (old new : Marks ℕ Xad) (high : Option ℕ) (free left : List ℕ) : Type 0 where
   pub rows : rows_of new ≡ with_range xs (rows_of old)
   pub rises : Rises xt_scale low new high
   pub pages : (n : ℕ) → times n new + count_in n left ≡ times n old + count_in n free
   pub keeps : (n : ℕ) → times n old ≡ 0 → count_in n free ≡ count_in n left → after n ≡ before n
+  pub framed : Framed before after free left
 
 -- the part below a page, where it has so many levels
 abbrev pub part_of : ℕ → (ℕ → List ℕ) → ℕ → Child ℕ → Marks ℕ Xad

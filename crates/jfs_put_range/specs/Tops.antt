@@ -8,6 +8,7 @@ use Rattle.jfs_tree.specs.Walk.{Child, Node, Leaf, Inner, Broken}
 use Rattle.jfs_tree.specs.Spells.{no_page, with_root, spells}
 use Rattle.jfs_tree.specs.Levels.{IsFilled}
 use Rattle.jfs_tree.specs.Root.{IsSpare}
+use Rattle.jfs_tree.specs.Draft.{shown}
 use Rattle.jfs_tree.specs.declared.draft.Drafted.{Drafted}
 use Rattle.jfs_tree.specs.declared.form.TreeError.{TreeError}
 use Rattle.jfs_tree.specs.declared.form.TreeError.TheVariants.{View, Bad, Memory}
@@ -17,6 +18,7 @@ use Rattle.jfs_xtree.specs.Node.{xt_scale, xt_node, all_within, child_of}
 use Rattle.jfs_xtree.specs.WriteParts.{StepsTo, drafted}
 use Rattle.jfs_written.specs.Range.{with_range}
 use Rattle.jfs_put_range.specs.Call.{IsNinth, LacksTwo}
+use Rattle.jfs_put_range.specs.Parts.{Framed}
 
 -- a leaf, or an inner page
 abbrev pub IsOfKind : Bool → Node ℕ Xad → Type 0
@@ -60,6 +62,11 @@ StepsRange form blocks image xs root after old new free left =
 abbrev pub FillsRange : XtForm → ℕ → Image → List ℕ → List ℕ → List Drafted → List Drafted → List ℕ → Type 0
 FillsRange form blocks image root after old new free = (es : List Xad) → spells xt_scale (drafted blocks old image) (xt_node form blocks root) ≡ Ok es → IsSpare xt_scale (drafted blocks old image) (xt_node form blocks root) free
     → AreFilled (with_root (xt_node form blocks root) (drafted blocks old image)) → AreFilled (with_root (xt_node form blocks after) (drafted blocks new image))
+
+-- each page that was taken names itself, and each other keeps its frame
+abbrev pub FramesRange : XtForm → ℕ → Image → List ℕ → List Drafted → List Drafted → List ℕ → List ℕ → Type 0
+FramesRange form blocks image root old new free left = (es : List Xad) → spells xt_scale (drafted blocks old image) (xt_node form blocks root) ≡ Ok es → IsSpare xt_scale (drafted blocks old image) (xt_node form blocks root) free
+    → Framed (shown old image) (shown new image) free left
 
 -- and where it spells a list, only a ninth level is refused
 abbrev pub RefusesRange : XtForm → ℕ → Image → List ℕ → List Drafted → List ℕ → TreeError → Type 0

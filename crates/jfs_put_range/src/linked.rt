@@ -10,7 +10,7 @@ ghost use Rattle.jfs_xtpage.specs.Page.{bytes_of};
 ghost use Rattle.jfs_xtpage.specs.declared.head.XtForm.TheVariants.{Full};
 ghost use Rattle.jfs_xtree.specs.Node.{xt_node, frame_of, IsRoot, KeepsFrame};
 ghost use Rattle.jfs_put_range.specs.Call.{IsShortRange};
-ghost use Rattle.jfs_put_range.specs.Tops.{StepsRange, FillsRange, RefusesRange, NamesRoot};
+ghost use Rattle.jfs_put_range.specs.Tops.{StepsRange, FillsRange, FramesRange, RefusesRange, NamesRoot};
 
 use crate::root::put_root;
 use jfs_bits::{Pxd, Xad};
@@ -44,6 +44,7 @@ pub(crate) fn put_linked<V: PageView>(
     ensures fault { CarriesFault (V.PageView.faults view.old) (V.PageView.faults view.new) result }
     ensures steps { V.PageView.tells → OnOk result (StepsRange top.now.form top.now.blocks (V.PageView.image view.old) xs.now root.old root.new draft.old.pages.items draft.new.pages.items stack.old.items stack.new.items) }
     ensures filled { V.PageView.tells → OnOk result (FillsRange top.now.form top.now.blocks (V.PageView.image view.old) root.old root.new draft.old.pages.items draft.new.pages.items stack.old.items) }
+    ensures framed { V.PageView.tells → OnOk result (FramesRange top.now.form top.now.blocks (V.PageView.image view.old) root.old draft.old.pages.items draft.new.pages.items stack.old.items stack.new.items) }
     ensures refuses { V.PageView.tells → IfErr result (λ e. RefusesRange top.now.form top.now.blocks (V.PageView.image view.old) root.old draft.old.pages.items stack.old.items e) }
     ensures used { OnOk result (length stack.old.items ≤ length stack.new.items + 15) }
     ensures front { IsFront stack.new.items stack.old.items }

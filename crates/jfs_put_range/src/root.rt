@@ -9,7 +9,7 @@ ghost use Rattle.jfs_xtpage.specs.Page.{bytes_of};
 ghost use Rattle.jfs_xtree.specs.Node.{xt_node, IsRoot, KeepsFrame};
 ghost use Rattle.jfs_put_range.specs.Call.{IsShortRange};
 ghost use Rattle.jfs_put_range.specs.Parts.{NoView};
-ghost use Rattle.jfs_put_range.specs.Tops.{IsOfKind, IsOpenedRoot, BreaksRoot, StepsRange, FillsRange, RefusesRange, NamesRoot};
+ghost use Rattle.jfs_put_range.specs.Tops.{IsOfKind, IsOpenedRoot, BreaksRoot, StepsRange, FillsRange, FramesRange, RefusesRange, NamesRoot};
 
 use crate::descent::put_children;
 use crate::part::Part;
@@ -54,6 +54,7 @@ pub(crate) fn put_root<V: PageView>(
     ensures fault { CarriesFault (V.PageView.faults view.old) (V.PageView.faults view.new) result }
     ensures steps { V.PageView.tells → OnOk result (StepsRange top.now.form top.now.blocks (V.PageView.image view.old) xs.now root.old root.new draft.old.pages.items draft.new.pages.items stack.old.items stack.new.items) }
     ensures filled { V.PageView.tells → OnOk result (FillsRange top.now.form top.now.blocks (V.PageView.image view.old) root.old root.new draft.old.pages.items draft.new.pages.items stack.old.items) }
+    ensures framed { V.PageView.tells → OnOk result (FramesRange top.now.form top.now.blocks (V.PageView.image view.old) root.old draft.old.pages.items draft.new.pages.items stack.old.items stack.new.items) }
     ensures refuses { V.PageView.tells → IfErr result (λ e. RefusesRange top.now.form top.now.blocks (V.PageView.image view.old) root.old draft.old.pages.items stack.old.items e) }
     ensures used { OnOk result (length stack.old.items ≤ length stack.new.items + 15) }
     ensures front { IsFront stack.new.items stack.old.items }
@@ -120,6 +121,7 @@ fn put_leaf_root(
     requires within { AllBelow top.now.blocks stack.old.items }
     ensures steps { (image : Image) → OnOk result (StepsRange top.now.form top.now.blocks image xs.now root.old root.new draft.old.pages.items draft.new.pages.items stack.old.items stack.new.items) }
     ensures filled { (image : Image) → OnOk result (FillsRange top.now.form top.now.blocks image root.old root.new draft.old.pages.items draft.new.pages.items stack.old.items) }
+    ensures framed { (image : Image) → OnOk result (FramesRange top.now.form top.now.blocks image root.old draft.old.pages.items draft.new.pages.items stack.old.items stack.new.items) }
     ensures refuses { (image : Image) → IfErr result (λ e. RefusesRange top.now.form top.now.blocks image root.old draft.old.pages.items stack.old.items e) }
     ensures cause { IfErr result (λ e. NoView e) }
     ensures used { OnOk result (length stack.old.items ≤ length stack.new.items + 1) }
@@ -156,6 +158,7 @@ fn put_inner_root<V: PageView>(
     ensures fault { CarriesFault (V.PageView.faults view.old) (V.PageView.faults view.new) result }
     ensures steps { V.PageView.tells → OnOk result (StepsRange top.now.form top.now.blocks (V.PageView.image view.old) xs.now root.old root.new draft.old.pages.items draft.new.pages.items stack.old.items stack.new.items) }
     ensures filled { V.PageView.tells → OnOk result (FillsRange top.now.form top.now.blocks (V.PageView.image view.old) root.old root.new draft.old.pages.items draft.new.pages.items stack.old.items) }
+    ensures framed { V.PageView.tells → OnOk result (FramesRange top.now.form top.now.blocks (V.PageView.image view.old) root.old draft.old.pages.items draft.new.pages.items stack.old.items stack.new.items) }
     ensures refuses { V.PageView.tells → IfErr result (λ e. RefusesRange top.now.form top.now.blocks (V.PageView.image view.old) root.old draft.old.pages.items stack.old.items e) }
     ensures used { OnOk result (length stack.old.items ≤ length stack.new.items + 15) }
     ensures front { IsFront stack.new.items stack.old.items }

@@ -5,6 +5,7 @@ use Rattle.jfs_tree.proofs.Adds.{told_as, ok_maps}
 use Rattle.jfs_put_range.proofs.RootRanges.{writes_range, writes_thick, refuses_deep}
 use Rattle.std.specs.Prelude.{length}
 use Rattle.jfs_xtree.specs.Spells.{root_form, root_node}
+use Rattle.jfs_put_range.proofs.RootFrames.{names_pages}
 use Rattle.jfs_put_range.proofs.RootNames.{named_as, read_names}
 use Rattle.jfs_put_range.proofs.call.plan_range.Goals as goal
 
@@ -38,3 +39,12 @@ returns-in-Err-clause-named g c =
 
 pub returns-clause-named : goal.returns-clause-named
 returns-clause-named g c = read_names (root_node (g.V.PageView.block_count c.args.view.now) c.args.root.now) c.args.root.now c.tell_steps.result c.tell_steps.ensures.read
+
+pub returns-clause-framed : goal.returns-clause-framed
+returns-clause-framed g c tells =
+    let blocks = g.V.PageView.block_count c.args.view.now in
+    let image = g.V.PageView.image c.args.view.now in
+    ok_maps c.tell_steps.result (c.tell_steps.ensures.told tells) c.tell_steps.ensures.rest (λ p told rest.
+    names_pages c.blocks-blocks.result blocks c.root_form-form.result image c.args.root.now c.new-draft.result.pages.items c.put_linked.new.draft.pages.items (blocks_of c.args.fresh.now) c.in-Ok.stack.items (blocks_of p.fresh) c.put_linked.new.stack.items
+    c.args.tx.now p.tx c.blocks-blocks.ensures c.root_form-form.ensures c.new-draft.ensures c.in-Ok.ensures.stack (rest ∙ ap reverse c.as_slice-3.ensures.value) (c.in_default-put_linked.ensures.framed tells)
+    (told_as (g.V.PageView.block_count c.put_linked.new.view) blocks (g.V.PageView.image c.put_linked.new.view) image c.put_linked.new.draft.pages.items c.args.tx.now p.tx c.put_linked.ensures.count_of_blocks (c.put_linked.ensures.image tells) told))

@@ -2,7 +2,7 @@ use Rattle.std.proofs.Common.{sym, ap, ◌∙◌, subst, Err}
 use Rattle.jfs_disk.specs.Image.{Image, page_of}
 use Rattle.jfs_tree.specs.Fresh.{blocks_of}
 use Rattle.jfs_xtree.specs.Errors.{handed_on}
-use Rattle.jfs_put_range.specs.Call.{WritesRange, KeepsNoThin}
+use Rattle.jfs_put_range.specs.Call.{WritesRange, KeepsNoThin, NamesPages}
 use Rattle.jfs_xtree.specs.Spells.{root_node}
 use Rattle.jfs_put_range.specs.Tops.{NamesRoot}
 use Rattle.jfs_put_range.specs.Way.{RangeTellsWay, broken_on_range}
@@ -32,3 +32,10 @@ returns-clause-way g c tells =
     clash_told first (root_node (g.V.PageView.block_count c.args.view.now) c.args.root.now) c.args.root.now c.in-Err-plan_range.e none
     (root_whole (g.V.PageView.block_count c.args.view.now) (page_of (g.V.PageView.image c.args.view.now)) c.args.root.now c.args.xs.now c.requires.range none)
     (subst (λ b. NamesRoot (root_node b c.args.root.now) c.args.root.now c.in-Err-plan_range.e) c.in-Ok.ensures.count_of_blocks c.in-Err-plan_range.ensures.named))
+
+pub returns-in-Ok-plan_range-clause-named : goal.returns-in-Ok-plan_range-clause-named
+returns-in-Ok-plan_range-clause-named g c tells =
+    let p = c.in-Ok-plan_range.planned in
+    subst (λ b. NamesPages b (page_of (g.V.PageView.image c.args.view.now)) c.args.root.now (blocks_of c.args.fresh.now) (blocks_of p.fresh) c.args.tx.now p.tx) c.in-Ok.ensures.count_of_blocks
+    (subst (λ (i : Image). NamesPages (g.V.PageView.block_count c.look_along.new.view) (page_of i) c.args.root.now (blocks_of c.args.fresh.now) (blocks_of p.fresh) c.args.tx.now p.tx) (c.in-Ok.ensures.image tells)
+    (c.in-Ok-plan_range.ensures.framed tells))

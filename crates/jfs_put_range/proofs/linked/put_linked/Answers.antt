@@ -1,6 +1,7 @@
 use Rattle.std.proofs.Common.{arith}
 use Rattle.jfs_put_range.proofs.Links.{steps_linked, fills_linked, refuses_read}
 use Rattle.jfs_xtree.specs.Node.{xt_node}
+use Rattle.jfs_put_range.proofs.RootFrames.{frames_linked}
 use Rattle.jfs_put_range.proofs.RootNames.{read_named}
 use Rattle.jfs_put_range.proofs.linked.put_linked.Goals as goal
 
@@ -21,3 +22,8 @@ returns-in-Err-link_ends-clause-refuses g c = λ tells.
 
 pub returns-in-Err-link_ends-clause-named : goal.returns-in-Err-link_ends-clause-named
 returns-in-Err-link_ends-clause-named g c = read_named (xt_node c.args.top.now.form c.args.top.now.blocks c.args.root.now) c.args.root.now c.in-Err-link_ends.e c.in-Err-link_ends.ensures.cause
+
+pub returns-in-Ok-link_ends-clause-framed : goal.returns-in-Ok-link_ends-clause-framed
+returns-in-Ok-link_ends-clause-framed g c = λ tells.
+    frames_linked c.args.top.now.form c.args.top.now.blocks (g.V.PageView.image c.args.view.now) (g.V.PageView.image c.put_root.new.view) c.args.root.now c.put_root.new.root
+    c.args.draft.now.pages.items c.put_root.new.draft.pages.items c.link_ends.new.draft.pages.items c.args.stack.now.items c.put_root.new.stack.items (c.in-Ok.ensures.image tells) (c.in-Ok-link_ends.ensures.links tells) (c.in-Ok.ensures.framed tells)

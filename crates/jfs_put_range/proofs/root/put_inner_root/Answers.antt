@@ -2,6 +2,7 @@ use Rattle.std.proofs.Common.{refl, arith}
 use Rattle.jfs_put_range.proofs.RootRanges.{pushed_steps, pushed_fills, pushed_refuses, pushed_full}
 use Rattle.jfs_tree.specs.Draft.{shown}
 use Rattle.jfs_xtree.specs.Node.{xt_node}
+use Rattle.jfs_put_range.proofs.RootFrames.{pushed_frames}
 use Rattle.jfs_put_range.proofs.RootNames.{below_named, inner_named}
 use Rattle.jfs_put_range.proofs.root.put_inner_root.Goals as goal
 
@@ -46,3 +47,11 @@ returns-in-Ok-put_children-clause-named g c =
     (shown c.args.draft.now.pages.items (g.V.PageView.image c.args.view.now)) (shown c.put_children.new.draft.pages.items (g.V.PageView.image c.args.view.now)) c.in-Ok-put_children.levels c.args.entries.now c.new-list.result.items c.put_children.new.list.items
     c.as_slice.result.now c.args.stack.now.items c.put_children.new.stack.items c.store_root.new.stack.items c.args.root.now c.store_root.new.root c.put_children.new.draft.pages.items c.store_root.new.draft.pages.items c.store_root.result
     c.requires.opened c.in-Ok-put_children.ensures.pushed c.new-list.ensures.items c.as_slice.ensures.value c.store_root.ensures.stored
+
+pub returns-in-Ok-put_children-clause-framed : goal.returns-in-Ok-put_children-clause-framed
+returns-in-Ok-put_children-clause-framed g c tells =
+    pushed_frames c.args.top.now.form c.args.top.now.blocks (g.V.PageView.image c.args.view.now) c.args.xs.now c.args.entries.now c.args.root.now c.store_root.new.root c.requires.forms.1 c.requires.range (let s = c.requires.small in omega (arith, s))
+    c.in-Ok.part.last g.V.PageView.tells (g.V.PageView.block_count c.args.view.now) c.in-Ok.part.xs.items c.in-Ok.part.left c.in-Ok.part.right c.new-list.result.items c.put_children.new.list.items c.as_slice.result.now
+    c.args.draft.now.pages.items c.put_children.new.draft.pages.items c.store_root.new.draft.pages.items c.in-Ok-put_children.levels c.args.stack.now.items c.put_children.new.stack.items c.store_root.new.stack.items c.store_root.result
+    c.requires.forms.0 c.in-Ok.ensures.0 c.in-Ok.ensures.1 c.in-Ok.ensures.2 c.in-Ok.ensures.3 tells c.requires.opened c.requires.within c.put_children.ensures.front c.store_root.ensures.front
+    c.in-Ok-put_children.ensures.pushed c.store_root.ensures.stored c.store_root.ensures.keeps

@@ -5,6 +5,7 @@ use Rattle.jfs_put_range.proofs.LeafPages.{all_good, leaf_list}
 use Rattle.jfs_put_range.proofs.Lists.{as_part, good_long, range_few}
 use Rattle.jfs_put_range.proofs.RootRanges.{leaf_steps, leaf_fills}
 use Rattle.jfs_xtree.specs.Node.{xt_node}
+use Rattle.jfs_put_range.proofs.RootFrames.{leaf_frames}
 use Rattle.jfs_put_range.proofs.RootNames.{leaf_named}
 use Rattle.jfs_put_range.proofs.root.put_leaf_root.Goals as goal
 
@@ -41,3 +42,8 @@ pub returns-clause-named : goal.returns-clause-named
 returns-clause-named c =
     leaf_named (xt_node c.args.top.now.form c.args.top.now.blocks c.args.root.now) c.as_slice.result.now c.args.root.now c.store_root.new.root c.args.draft.now.pages.items c.store_root.new.draft.pages.items c.args.stack.now.items c.store_root.new.stack.items
     c.store_root.result c.store_root.ensures.stored
+
+pub returns-clause-framed : goal.returns-clause-framed
+returns-clause-framed c = λ image.
+    leaf_frames c.args.top.now.form c.args.top.now.blocks image 1 c.as_slice.result.now c.args.root.now c.store_root.new.root c.args.draft.now.pages.items c.store_root.new.draft.pages.items c.args.stack.now.items c.store_root.new.stack.items
+    c.store_root.result c.store_root.ensures.stored c.store_root.ensures.keeps
