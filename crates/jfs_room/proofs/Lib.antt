@@ -1,3 +1,4 @@
 pub mod Blocks
 pub mod Fresh
 pub mod Rooms
+pub mod Added

@@ -1,7 +1,9 @@
 -- How the room of a mounted volume follows from its two maps in memory. What is said is said of volumes whose maps agree: so a block is owned in the map exactly where it has an owner.
 use Rattle.std.specs.Prelude.{◌≡◌, ◌≢◌, ◌↔◌, ℕ, ◌*◌, Bool, true, false, ◌&&◌, IsTrue, if◌then◌else◌, List, length, Option, Some, None}
+use Rattle.jfs_bits.specs.declared.descriptor.Pxd.{Pxd}
 use Rattle.jfs_super.specs.Geometry.{file_limit_of}
-use Rattle.jfs_imap.specs.Inodes.{Inodes, IsPick}
+use Rattle.jfs_iag.specs.Canonical.{is_there}
+use Rattle.jfs_imap.specs.Inodes.{Inodes, IsPick, with_extent}
 use Rattle.jfs_imap.specs.declared.inode_map.Pick.{Pick}
 use Rattle.jfs_imap.specs.declared.inode_map.Pick.TheVariants.{Number, NeedsExtent, NoInodes}
 use Rattle.jfs_bmap.specs.Set.{HasFreeRun}
@@ -58,6 +60,10 @@ picked NoInodes run = None
 
 abbrev pub FreshLaw : Type 0
 FreshLaw = WhereMapsAgree (λ r v map inodes. (blocks : ℕ) (pick : Pick) → IsPick inodes pick → fresh_inode r v blocks ≡ picked pick (has_run r v blocks))
+
+-- Once the extent that a pick needs is there, its first inode is picked: the number that the room gave before.
+abbrev pub AddedLaw : Type 0
+AddedLaw = (inodes : Inodes) (place : ℕ) (at : Pxd) → IsPick inodes (NeedsExtent place) → is_there at ≡ true → IsPick (with_extent place at inodes) (Number (32 * place))
 
 -- ---- directories
 

@@ -1,6 +1,6 @@
 //! How the room of a volume follows from what is kept in memory.
 
-ghost use Rattle.jfs_room.specs.Laws.{FreeLaw, RunLaw, FreshLaw, DeepLaw, HeldLaw, RoomLaw};
+ghost use Rattle.jfs_room.specs.Laws.{FreeLaw, RunLaw, FreshLaw, AddedLaw, DeepLaw, HeldLaw, RoomLaw};
 
 /// Where maps agree, the free blocks of the room are as many as `BlockMap::unowned` counts.
 pub fn unowned_blocks_are_free()
@@ -15,6 +15,11 @@ pub fn runs_are_free_once_settled()
 /// Where maps agree, the inode that a new object gets is what the inode map picks: the free number; or the first one of the place that needs an extent, if there is a run for it.
 pub fn fresh_inode_is_picked()
     ensures { FreshLaw }
+{}
+
+/// Once the inode map has the extent that a pick needs, the number that it picks is the one that the room gave before: the first of that extent.
+pub fn added_extents_bring_the_fresh_inode()
+    ensures { AddedLaw }
 {}
 
 /// A directory is too deep for a name where the tree below its root is, as the call `is_deep` of directories tells; what isn't a directory never is.

@@ -4,7 +4,7 @@
 mod law;
 
 pub use law::{
-    directories_are_deep_by_their_roots, fresh_inode_is_picked,
-    held_directories_are_deep_by_their_roots, room_is_known_by_maps, runs_are_free_once_settled,
-    unowned_blocks_are_free,
+    added_extents_bring_the_fresh_inode, directories_are_deep_by_their_roots,
+    fresh_inode_is_picked, held_directories_are_deep_by_their_roots, room_is_known_by_maps,
+    runs_are_free_once_settled, unowned_blocks_are_free,
 };
