@@ -21,7 +21,7 @@ use Rattle.jfs_xtree.specs.Spells.{root_form}
 use Rattle.jfs_xtree.specs.WriteParts.{drafted}
 use Rattle.jfs_refill.specs.Rooted.{RootStored}
 use Rattle.jfs_put_range.specs.Call.{IsShortRange, NamesPages}
-use Rattle.jfs_put_range.specs.Parts.{Pushed}
+use Rattle.jfs_put_range.specs.Parts.{OthersFramed, Pushed}
 use Rattle.jfs_put_range.specs.Tops.{IsOpenedRoot, FramesRange}
 use Rattle.jfs_put_range.proofs.Framed.{framed_then, root_framed}
 use Rattle.jfs_put_range.proofs.RootRanges.{wrote_as, spare_reversed}
@@ -56,19 +56,26 @@ frames_linked form blocks image later root after old mid new free left same link
     let kept = λ (n : ℕ). subst (λ (i : Image). frame_of Full (shown new i n) ≡ frame_of Full (shown mid i n)) same (links.frames n) in
     record { taken = λ n lt. kept n ∙ f.taken n lt; others = λ n e. kept n ∙ f.others n e }
 
+pub others_linked : (form : XtForm) (blocks : ℕ) (image later : Image) (after : List ℕ) (old mid new : List Drafted) (free left : List ℕ) → later ≡ image → LinksTree (xt_node Full blocks) (frame_of Full) later mid new (xt_node form blocks after)
+    → OthersFramed (shown old image) (shown mid image) free left → OthersFramed (shown old image) (shown new image) free left
+others_linked form blocks image later after old mid new free left same links others n e =
+    subst (λ (i : Image). frame_of Full (shown new i n) ≡ frame_of Full (shown mid i n)) same (links.frames n) ∙ others n e
+
 -- ---- the whole call
 
 pub names_pages : (b blocks : ℕ) (form : XtForm) (image : Image) (root : List ℕ) (ds drafts : List Drafted) (free stack left rest : List ℕ) (tx later : List Edit) → b ≡ blocks → form ≡ root_form (length root) → ds ≡ [] → stack ≡ reverse free → left ≡ reverse rest
-    → FramesRange form b image root ds drafts stack rest → TellsDraft blocks image drafts tx later → NamesPages blocks (page_of image) root free left tx later
-names_pages b blocks form image root ds drafts free stack left rest tx later eb ef fresh is_stack is_left frames told es spelled spare base leads =
+    → FramesRange form b image root ds drafts stack rest → OthersFramed (shown ds image) (shown drafts image) stack rest → TellsDraft blocks image drafts tx later → NamesPages blocks (page_of image) root free left tx later
+names_pages b blocks form image root ds drafts free stack left rest tx later eb ef fresh is_stack is_left frames others told base leads =
     let f = root_form (length root) in
     let there = subst (λ (d : List Drafted). FramesRange f blocks image root d drafts stack rest) fresh
     (subst (λ (g : XtForm). FramesRange g blocks image root ds drafts stack rest) ef (subst (λ (n : ℕ). FramesRange form n image root ds drafts stack rest) eb frames)) in
-    let clear = subst (λ g. IsSpare xt_scale (drafted blocks [] image) (xt_node f blocks root) g) (sym is_stack) (spare_reversed (drafted blocks [] image) (xt_node f blocks root) free spare) in
-    let framed = there es spelled clear in
+    let clear = λ (spare : IsSpare xt_scale (drafted blocks [] image) (xt_node f blocks root) free).
+    subst (λ g. IsSpare xt_scale (drafted blocks [] image) (xt_node f blocks root) g) (sym is_stack) (spare_reversed (drafted blocks [] image) (xt_node f blocks root) free spare) in
     let counts = λ (n : ℕ). ap (count_in n) is_stack ∙ count_reverse n free in
     let lefts = λ (n : ℕ). ap (count_in n) is_left ∙ count_reverse n rest in
+    let stay = subst (λ (d : List Drafted). OthersFramed (shown d image) (shown drafts image) stack rest) fresh others in
     record {
-      taken = λ n h lt. ap (frame_of Full) (told n h (base n) (leads n h).0 (leads n h).1) ∙ framed.taken n (let c = counts n in let l = lefts n in omega (arith, c, l, lt));
-      others = λ n h e. ap (frame_of Full) (told n h (base n) (leads n h).0 (leads n h).1) ∙ framed.others n (counts n ∙ e ∙ lefts n);
+      taken = λ es spelled spare n h lt.
+          ap (frame_of Full) (told n h (base n) (leads n h).0 (leads n h).1) ∙ (there es spelled (clear spare)).taken n (let c = counts n in let l = lefts n in omega (arith, c, l, lt));
+      others = λ n h e. ap (frame_of Full) (told n h (base n) (leads n h).0 (leads n h).1) ∙ stay n (counts n ∙ e ∙ lefts n);
     }

@@ -46,15 +46,15 @@ abbrev pub KeepsNoThin : ℕ → (ℕ → List ℕ) → List ℕ → List ℕ �
 KeepsNoThin blocks pages root after free tx later = (es : List Xad) → spells_extents blocks pages root ≡ Ok es → IsSpare xt_scale (page_nodes blocks pages) (root_node blocks root) free → (base : ℕ → List ℕ) → LeadsTo blocks base tx pages
     → HasNoThin (with_root (root_node blocks root) (page_nodes blocks pages)) → HasNoThin (with_root (xt_node (root_form (length root)) blocks after) (page_nodes blocks (after_tx base later)))
 
--- Each page that was taken names itself: its own descriptor is one block at its own number. Each other page keeps its frame, which is what it has beside kind, count, links and entries.
-pub record AreNamed (blocks : ℕ) (pages later : ℕ → List ℕ) (free left : List ℕ) : Type 0 where
-  pub taken : (n : ℕ) → n < blocks → IsTaken free left n → frame_of Full (later n) ≡ new_frame n
+-- A page that was taken names itself, its own descriptor being one block at its own number, where the root spelled a list and the free blocks aren't pages of its tree. Each page that
+-- wasn't taken keeps its frame, which is what it has beside kind, count, links and entries.
+pub record AreNamed (blocks : ℕ) (pages later : ℕ → List ℕ) (root free left : List ℕ) : Type 0 where
+  pub taken : (es : List Xad) → spells_extents blocks pages root ≡ Ok es → IsSpare xt_scale (page_nodes blocks pages) (root_node blocks root) free → (n : ℕ) → n < blocks → IsTaken free left n → frame_of Full (later n) ≡ new_frame n
   pub others : (n : ℕ) → n < blocks → count_in n free ≡ count_in n left → frame_of Full (later n) ≡ frame_of Full (pages n)
 
--- So of the pages to which all edits lead, whatever list the root spelled, where the free blocks aren't pages of the tree.
+-- so of the pages to which all edits lead, where the edits before lead to the pages that the view shows
 abbrev pub NamesPages : ℕ → (ℕ → List ℕ) → List ℕ → List ℕ → List ℕ → List Edit → List Edit → Type 0
-NamesPages blocks pages root free left tx later = (es : List Xad) → spells_extents blocks pages root ≡ Ok es → IsSpare xt_scale (page_nodes blocks pages) (root_node blocks root) free → (base : ℕ → List ℕ) → LeadsTo blocks base tx pages
-    → AreNamed blocks pages (after_tx base later) free left
+NamesPages blocks pages root free left tx later = (base : ℕ → List ℕ) → LeadsTo blocks base tx pages → AreNamed blocks pages (after_tx base later) root free left
 
 -- fewer than two slots of the root are free
 abbrev pub LacksTwo : List ℕ → Type 0

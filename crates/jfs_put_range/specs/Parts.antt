@@ -45,10 +45,14 @@ pub record Takes (xs : List Xad) (left right : Bool) (first key low : ℕ) (ms :
   pub ends : right ≡ false → EndsBy (first + 17) high
   pub once : (n : ℕ) → times n ms + count_in n free ≤ 1
 
--- Each page that was taken names itself, and each other page keeps its frame.
+-- each page that wasn't taken keeps its frame
+abbrev pub OthersFramed : (ℕ → List ℕ) → (ℕ → List ℕ) → List ℕ → List ℕ → Type 0
+OthersFramed before after free left = (n : ℕ) → count_in n free ≡ count_in n left → frame_of Full (after n) ≡ frame_of Full (before n)
+
+-- and each that was taken names itself
 pub record Framed (before after : ℕ → List ℕ) (free left : List ℕ) : Type 0 where
   pub taken : (n : ℕ) → IsTaken free left n → frame_of Full (after n) ≡ new_frame n
-  pub others : (n : ℕ) → count_in n free ≡ count_in n left → frame_of Full (after n) ≡ frame_of Full (before n)
+  pub others : OthersFramed before after free left
 
 -- A part in which a range was written: its entries are those with the range, its pages are its own and those that were taken, each page that is neither keeps its bytes, and each that wasn't taken its frame.
 pub record Wrote (xs : List Xad) (before after : ℕ → List ℕ) (low : ℕ) (old new : Marks ℕ Xad) (high : Option ℕ) (free left : List ℕ) : Type 0 where

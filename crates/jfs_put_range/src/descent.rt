@@ -7,7 +7,7 @@ ghost use Rattle.jfs_tree.specs.Call.{CarriesFault};
 ghost use Rattle.jfs_tree.specs.Draft.{shown};
 ghost use Rattle.jfs_tree.specs.Form.{AllBelow, IsFront};
 ghost use Rattle.jfs_xtree.specs.Node.{all_within, BeginsAt};
-ghost use Rattle.jfs_put_range.specs.Parts.{IsPart, WrotePage, RefutesPage, RefutesChildren, Pushed, GrownBelow, NamesBelow, most_taken};
+ghost use Rattle.jfs_put_range.specs.Parts.{IsPart, WrotePage, RefutesPage, RefutesChildren, Pushed, GrownBelow, NamesBelow, OthersFramed, most_taken};
 
 use crate::full::starts_new;
 use crate::leaf::{Grown, put_leaf};
@@ -51,6 +51,7 @@ pub(crate) fn put_below<V: PageView>(
     ensures used { OnOk result (length stack.old.items ≤ length stack.new.items + most_taken part.now.xs.items part.now.left part.now.right most) }
     ensures below { GrownBelow stack.old.items stack.new.items result }
     ensures front { IsFront stack.new.items stack.old.items }
+    ensures others { V.PageView.tells → OnOk result (OthersFramed (shown draft.old.pages.items (V.PageView.image view.old)) (shown draft.new.pages.items (V.PageView.image view.old)) stack.old.items stack.new.items) }
     ensures key { IfOk result (λ grown. IfSome grown.sibling (λ s. s.key < 2 ^ 40)) }
 {
     if most == 0 {
@@ -126,6 +127,7 @@ pub(crate) fn put_children<V: PageView>(
     ensures used { OnOk result (length stack.old.items ≤ length stack.new.items + most_taken part.now.xs.items part.now.left part.now.right most) }
     ensures below { (bound : ℕ) → AllBelow bound stack.old.items → AllBelow bound stack.new.items }
     ensures front { IsFront stack.new.items stack.old.items }
+    ensures others { V.PageView.tells → OnOk result (OthersFramed (shown draft.old.pages.items (V.PageView.image view.old)) (shown draft.new.pages.items (V.PageView.image view.old)) stack.old.items stack.new.items) }
 {
     if part.xs.is_empty() {
         return push_all(list, entries);
@@ -180,6 +182,7 @@ fn put_from<V: PageView>(
     ensures used { OnOk result (length stack.old.items ≤ length stack.new.items + most_taken part.now.xs.items part.now.left part.now.right most) }
     ensures below { (bound : ℕ) → AllBelow bound stack.old.items → AllBelow bound stack.new.items }
     ensures front { IsFront stack.new.items stack.old.items }
+    ensures others { V.PageView.tells → OnOk result (OthersFramed (shown draft.old.pages.items (V.PageView.image view.old)) (shown draft.new.pages.items (V.PageView.image view.old)) stack.old.items stack.new.items) }
 {
     let Some((child, rest)) = entries.split_first() else {
         unreachable!();
@@ -237,6 +240,7 @@ fn put_both<V: PageView>(
     ensures used { OnOk result (length stack.old.items ≤ length stack.new.items + most_taken part.now.xs.items part.now.left part.now.right most) }
     ensures below { (bound : ℕ) → AllBelow bound stack.old.items → AllBelow bound stack.new.items }
     ensures front { IsFront stack.new.items stack.old.items }
+    ensures others { V.PageView.tells → OnOk result (OthersFramed (shown draft.old.pages.items (V.PageView.image view.old)) (shown draft.new.pages.items (V.PageView.image view.old)) stack.old.items stack.new.items) }
 {
     let Ok(cut) = cut_at(alloc, part, bound) else {
         return Err(TreeError::Memory);
@@ -285,6 +289,7 @@ fn put_child<V: PageView>(
     ensures used { OnOk result (length stack.old.items ≤ length stack.new.items + most_taken part.now.xs.items part.now.left part.now.right most) }
     ensures below { (bound : ℕ) → AllBelow bound stack.old.items → AllBelow bound stack.new.items }
     ensures front { IsFront stack.new.items stack.old.items }
+    ensures others { V.PageView.tells → OnOk result (OthersFramed (shown draft.old.pages.items (V.PageView.image view.old)) (shown draft.new.pages.items (V.PageView.image view.old)) stack.old.items stack.new.items) }
 {
     if part.xs.is_empty() {
         return push_all(list, &[*child]);

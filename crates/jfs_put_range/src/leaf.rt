@@ -6,7 +6,7 @@ ghost use Rattle.jfs_tree.specs.Call.{StaysOff};
 ghost use Rattle.jfs_tree.specs.Draft.{shown};
 ghost use Rattle.jfs_tree.specs.Form.{AllBelow, IsFront};
 ghost use Rattle.jfs_tree.specs.Spells.{no_page};
-ghost use Rattle.jfs_put_range.specs.Parts.{IsOpened, IsPart, WrotePage, RefutesPage, GrownBelow, NamesBelow, NoView, most_taken};
+ghost use Rattle.jfs_put_range.specs.Parts.{IsOpened, IsPart, WrotePage, RefutesPage, GrownBelow, NamesBelow, NoView, OthersFramed, most_taken};
 
 use crate::full::starts_new;
 use crate::open::Opened;
@@ -49,6 +49,7 @@ pub(crate) fn put_leaf(
     ensures used { OnOk result (length stack.old.items ≤ length stack.new.items + most_taken part.now.xs.items part.now.left part.now.right 1) }
     ensures below { GrownBelow stack.old.items stack.new.items result }
     ensures front { IsFront stack.new.items stack.old.items }
+    ensures others { (image : Image) → opened.page.0 ≡ shown draft.old.pages.items image n → OnOk result (OthersFramed (shown draft.old.pages.items image) (shown draft.new.pages.items image) stack.old.items stack.new.items) }
     ensures key { IfOk result (λ grown. IfSome grown.sibling (λ s. s.key < 2 ^ 40)) }
     ensures named { IfErr result NamesBelow }
     ensures cause { IfErr result (λ e. NoView e) }

@@ -4,12 +4,14 @@ ghost use Rattle.std.specs.Prelude.{◌≡◌, ◌<◌, ◌≤◌, ◌+◌, ◌^
 ghost use Rattle.std.specs.List.{All};
 ghost use Rattle.jfs_bits.specs.Extent.{FitsXad};
 ghost use Rattle.jfs_tree.specs.Call.{CarriesFault, IsRead};
+ghost use Rattle.jfs_tree.specs.Draft.{shown};
 ghost use Rattle.jfs_tree.specs.Form.{AllBelow, IsFront};
 ghost use Rattle.jfs_tree.specs.Linking.{LinksTree};
 ghost use Rattle.jfs_xtpage.specs.Page.{bytes_of};
 ghost use Rattle.jfs_xtpage.specs.declared.head.XtForm.TheVariants.{Full};
 ghost use Rattle.jfs_xtree.specs.Node.{xt_node, frame_of, IsRoot, KeepsFrame};
 ghost use Rattle.jfs_put_range.specs.Call.{IsShortRange};
+ghost use Rattle.jfs_put_range.specs.Parts.{OthersFramed};
 ghost use Rattle.jfs_put_range.specs.Tops.{StepsRange, FillsRange, FramesRange, RefusesRange, NamesRoot};
 
 use crate::root::put_root;
@@ -45,6 +47,7 @@ pub(crate) fn put_linked<V: PageView>(
     ensures steps { V.PageView.tells → OnOk result (StepsRange top.now.form top.now.blocks (V.PageView.image view.old) xs.now root.old root.new draft.old.pages.items draft.new.pages.items stack.old.items stack.new.items) }
     ensures filled { V.PageView.tells → OnOk result (FillsRange top.now.form top.now.blocks (V.PageView.image view.old) root.old root.new draft.old.pages.items draft.new.pages.items stack.old.items) }
     ensures framed { V.PageView.tells → OnOk result (FramesRange top.now.form top.now.blocks (V.PageView.image view.old) root.old draft.old.pages.items draft.new.pages.items stack.old.items stack.new.items) }
+    ensures others { V.PageView.tells → OnOk result (OthersFramed (shown draft.old.pages.items (V.PageView.image view.old)) (shown draft.new.pages.items (V.PageView.image view.old)) stack.old.items stack.new.items) }
     ensures refuses { V.PageView.tells → IfErr result (λ e. RefusesRange top.now.form top.now.blocks (V.PageView.image view.old) root.old draft.old.pages.items stack.old.items e) }
     ensures used { OnOk result (length stack.old.items ≤ length stack.new.items + 15) }
     ensures front { IsFront stack.new.items stack.old.items }

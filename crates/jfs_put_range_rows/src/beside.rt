@@ -2,7 +2,7 @@
 
 use crate::file::{File, recorded};
 use crate::links::is_linked;
-use crate::refused::{entry, full_page};
+use crate::refused::{at_home, entry, full_page};
 use jfs_bits::{put_u8, put_u16, put_u64};
 use std::alloc::{AllocError, Global};
 use std::test::*;
@@ -13,6 +13,7 @@ fn small_page(file: &mut File, n: u32, flag: u8, offset: u32, addr: u32) {
         put_u8(&mut page.0, 16, flag);
         put_u16(&mut page.0, 18, 3);
         put_u16(&mut page.0, 20, 256);
+        at_home(&mut page.0, n);
         entry(&mut page.0, 0, offset, addr);
     }
 }

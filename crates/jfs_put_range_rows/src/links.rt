@@ -1,4 +1,4 @@
-//! The links of a tree's pages, by their bytes.
+//! The links and the own descriptors of a tree's pages, by their bytes.
 
 ghost use Rattle.std.specs.Prelude.{◌≤◌};
 
@@ -12,7 +12,7 @@ const PREVIOUS: usize = 8;
 /// The last page that was met on each level.
 type Met = [Option<u8>; 9];
 
-/// Whether the pages of each level name each other in their order, and nothing before the first or behind the last of them.
+/// Whether the pages of each level name each other in their order, and nothing before the first or behind the last of them, and each page names itself.
 pub fn is_linked(file: &File) -> bool {
     let mut met: Met = [None; 9];
     if is_leaf(file.root[16]) {
@@ -33,6 +33,21 @@ pub fn is_linked(file: &File) -> bool {
     true
 }
 
+/// Whether a page names itself: its own descriptor is one block at its own number.
+fn names_itself(file: &File, page: u8) -> bool {
+    for at in 24..32 {
+        let wanted = match at {
+            24 => 1,
+            28 => page,
+            _ => 0,
+        };
+        if file.byte(page, at) != wanted {
+            return false;
+        }
+    }
+    true
+}
+
 /// Whether a link of a page, eight bytes, names this page, or none where it is 0.
 fn names(file: &File, page: u8, link: usize, wanted: u8) -> bool
     requires { link ≤ 8 }
@@ -46,8 +61,11 @@ fn names(file: &File, page: u8, link: usize, wanted: u8) -> bool
     true
 }
 
-/// Whether a page, with so many levels below it at most, and those below it stand behind what was met on their levels, by both links.
+/// Whether a page, with so many levels below it at most, and those below it stand behind what was met on their levels, by both links, and name themselves.
 fn follows(file: &File, page: u8, most: u8, met: &mut Met) -> bool {
+    if !names_itself(file, page) {
+        return false;
+    }
     let level = usize::from(most.min(8));
     match met[level] {
         Some(before) => {

@@ -3,7 +3,7 @@
 ghost use Rattle.std.specs.Prelude.{◌<◌, ◌≤◌, ◌+◌, ◌*◌, ◌≡◌, length};
 
 use crate::file::{File, recorded};
-use jfs_bits::{Pxd, Rule, Xad, put_u8, put_u16, put_xad};
+use jfs_bits::{Pxd, Rule, Xad, put_pxd, put_u8, put_u16, put_xad};
 use jfs_disk::{Fault, Part};
 use jfs_ranges::ViewError;
 use jfs_xtree::XtError;
@@ -117,12 +117,25 @@ pub fn entry(bytes: &mut [u8], i: usize, offset: u32, addr: u32)
     );
 }
 
+/// The own descriptor of page `n`.
+pub fn at_home(bytes: &mut [u8; 4096], n: u32) {
+    put_pxd(
+        bytes,
+        24,
+        Pxd {
+            len: 1,
+            addr: u64::from(n),
+        },
+    );
+}
+
 /// A page without room: each second block of the file from one on, and the last entry names the page behind this one.
 pub fn full_page(file: &mut File, n: u32, flag: u8, from: u32) {
     if let Some(page) = file.page(n) {
         put_u8(&mut page.0, 16, flag);
         put_u16(&mut page.0, 18, 256);
         put_u16(&mut page.0, 20, 256);
+        at_home(&mut page.0, n);
         for i in 0..254usize {
             let offset = from.saturating_add((2 * i) as u32);
             entry(&mut page.0, i, offset, n.saturating_add(1));

@@ -46,5 +46,5 @@ returns-clause-framed g c tells =
     let image = g.V.PageView.image c.args.view.now in
     ok_maps c.tell_steps.result (c.tell_steps.ensures.told tells) c.tell_steps.ensures.rest (λ p told rest.
     names_pages c.blocks-blocks.result blocks c.root_form-form.result image c.args.root.now c.new-draft.result.pages.items c.put_linked.new.draft.pages.items (blocks_of c.args.fresh.now) c.in-Ok.stack.items (blocks_of p.fresh) c.put_linked.new.stack.items
-    c.args.tx.now p.tx c.blocks-blocks.ensures c.root_form-form.ensures c.new-draft.ensures c.in-Ok.ensures.stack (rest ∙ ap reverse c.as_slice-3.ensures.value) (c.in_default-put_linked.ensures.framed tells)
+    c.args.tx.now p.tx c.blocks-blocks.ensures c.root_form-form.ensures c.new-draft.ensures c.in-Ok.ensures.stack (rest ∙ ap reverse c.as_slice-3.ensures.value) (c.in_default-put_linked.ensures.framed tells) (c.in_default-put_linked.ensures.others tells)
     (told_as (g.V.PageView.block_count c.put_linked.new.view) blocks (g.V.PageView.image c.put_linked.new.view) image c.put_linked.new.draft.pages.items c.args.tx.now p.tx c.put_linked.ensures.count_of_blocks (c.put_linked.ensures.image tells) told))

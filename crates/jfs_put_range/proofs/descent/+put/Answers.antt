@@ -4,8 +4,10 @@ use Rattle.jfs_bits.specs.Extent.{FitsXad}
 use Rattle.jfs_tree.specs.Form.{AllBelow}
 use Rattle.jfs_tree.specs.Draft.{shown}
 use Rattle.jfs_xtree.specs.Node.{all_within}
-use Rattle.jfs_put_range.specs.Parts.{IsPart, WrotePage, RefutesPage, RefutesChildren, Pushed, BeginsBy, most_taken}
+use Rattle.jfs_put_range.specs.Parts.{IsPart, WrotePage, RefutesPage, RefutesChildren, Pushed, BeginsBy, OthersFramed, most_taken}
 use Rattle.jfs_put_range.proofs.Refuted.{zero_refuted, broken_refuted}
+use Rattle.jfs_disk.specs.Image.{Image}
+use Rattle.jfs_put_range.proofs.Framed.{others_then, page_others}
 use Rattle.jfs_put_range.proofs.Finishing.{inner_done, inner_fails}
 use Rattle.jfs_put_range.proofs.Pushing.{part_below, part_from, cut_taken, child_pushed, none_done, no_extents, first_within, rest_within, first_fits, rest_fits, some_begins, first_begins, grown_fits, both_pushed, rest_refuses, head_refuses, fewer_taken}
 use Rattle.jfs_put_range.proofs.Skipped.{skip_all, skip_errs, drop_some, drop_fits, drop_within, drop_less}
@@ -175,3 +177,22 @@ put_children-returns-clause-bad g t c tells =
     c.split_at.ensures.front c.split_at.ensures.back c.is_first.ensures c.first_block.ensures c.requires.part.range.rises
     (λ some. subst (BeginsBy c.first_block.result) (sym c.split_at.ensures.back) (c.children_before.ensures.begins (let n = c.split_at.ensures.front_len in omega (arith, some, n))))
     c.args.most c.put_from.result (subst (λ ys. 0 < length ys) (sym c.split_at.ensures.back) (drop_some c.children_before.result c.args.entries.now c.children_before.ensures.within)) (c.put_from.ensures.bad tells)
+
+pub put_below-returns-then-opened-clause-others : goal.put_below-returns-then-opened-clause-others
+put_below-returns-then-opened-clause-others g t c tells = c.put_leaf.ensures.others (g.V.PageView.image c.args.view.now) (c.in-Ok.ensures.bytes tells)
+
+pub put_below-returns-in-Ok-store-clause-others : goal.put_below-returns-in-Ok-store-clause-others
+put_below-returns-in-Ok-store-clause-others g t c tells =
+    page_others c.starts_new-full.result c.as_slice-4.result.now c.in-Ok.opened.page.0 c.args.page c.args.draft.now.pages.items c.put_children.new.draft.pages.items c.store.new.draft.pages.items (g.V.PageView.image c.args.view.now)
+    c.args.stack.now.items c.put_children.new.stack.items c.store.new.stack.items c.in-Ok-store.sibling (c.in-Ok.ensures.bytes tells)
+    (λ m. fewer_taken m c.args.stack.now.items c.put_children.new.stack.items c.in-Ok-put_children.ensures.front) (λ m. fewer_taken m c.put_children.new.stack.items c.store.new.stack.items c.in-Ok-store.ensures.front)
+    (subst (λ (i : Image). OthersFramed (shown c.args.draft.now.pages.items i) (shown c.put_children.new.draft.pages.items i) c.args.stack.now.items c.put_children.new.stack.items) (c.in-Ok.ensures.image tells) (c.in-Ok-put_children.ensures.others tells))
+    c.in-Ok-store.ensures.stored c.in-Ok-store.ensures.keeps
+
+pub put_both-returns-in-Ok-put_children-clause-others : goal.put_both-returns-in-Ok-put_children-clause-others
+put_both-returns-in-Ok-put_children-clause-others g t c tells =
+    let i = g.V.PageView.image c.args.view.now in
+    others_then (shown c.args.draft.now.pages.items i) (shown c.put_child.new.draft.pages.items i) (shown c.put_children.new.draft.pages.items i) c.args.stack.now.items c.put_child.new.stack.items c.put_children.new.stack.items
+    (λ m. fewer_taken m c.args.stack.now.items c.put_child.new.stack.items c.in-Ok-put_child.ensures.front) (λ m. fewer_taken m c.put_child.new.stack.items c.put_children.new.stack.items c.in-Ok-put_children.ensures.front)
+    (c.in-Ok-put_child.ensures.others tells)
+    (subst (λ (j : Image). OthersFramed (shown c.put_child.new.draft.pages.items j) (shown c.put_children.new.draft.pages.items j) c.put_child.new.stack.items c.put_children.new.stack.items) (c.in-Ok-put_child.ensures.image tells) (c.in-Ok-put_children.ensures.others tells))

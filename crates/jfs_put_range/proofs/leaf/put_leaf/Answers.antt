@@ -1,9 +1,12 @@
-use Rattle.std.proofs.Common.{◌≤◌, refl, sym, subst, length, true, arith}
+use Rattle.std.proofs.Common.{◌≤◌, refl, sym, ap, subst, length, true, arith}
 use Rattle.std.specs.List.{All}
 use Rattle.jfs_bits.specs.Extent.{FitsXad}
 use Rattle.jfs_bits.specs.declared.rule.Rule.TheVariants as rules
 use Rattle.jfs_xtree.specs.Writing.{AllLong}
 use Rattle.jfs_put_range.proofs.LeafPages.{leaf_wrote, leaf_refuted, leaf_few, leaf_list}
+use Rattle.jfs_xtpage.specs.declared.head.XtForm.TheVariants.{Full}
+use Rattle.jfs_xtree.specs.Node.{frame_of}
+use Rattle.jfs_put_range.proofs.Framed.{stored_framed}
 use Rattle.jfs_put_range.proofs.Finishing.{opened_long, part_long, list_done}
 use Rattle.jfs_put_range.proofs.leaf.put_leaf.Goals as goal
 
@@ -35,3 +38,8 @@ returns-in-Ok-store-clause-wrote c = λ image read.
     (let s = c.requires.small in omega (arith, s)) c.requires.opened c.requires.part
     (list_done c.as_slice-5.result.now c.in-Ok.list.items c.as_slice-2.result.now c.as_slice.result.now c.args.part.now.xs.items c.args.opened.entries.items c.as_slice-5.ensures.value c.in-Ok.ensures c.as_slice-2.ensures.value c.as_slice.ensures.value)
     read c.starts_new-full.ensures.last c.in-Ok-store.ensures.stored c.in-Ok-store.ensures.keeps
+
+pub returns-in-Ok-store-clause-others : goal.returns-in-Ok-store-clause-others
+returns-in-Ok-store-clause-others c = λ image read.
+    (stored_framed c.starts_new-full.result c.as_slice-5.result.now c.args.opened.page.0 c.args.n c.args.draft.now.pages.items c.store.new.draft.pages.items image c.args.stack.now.items c.store.new.stack.items c.in-Ok-store.sibling
+    (ap (frame_of Full) read) c.in-Ok-store.ensures.stored).others

@@ -1,7 +1,7 @@
 use Rattle.std.proofs.Common.{arith}
 use Rattle.jfs_put_range.proofs.Links.{steps_linked, fills_linked, refuses_read}
 use Rattle.jfs_xtree.specs.Node.{xt_node}
-use Rattle.jfs_put_range.proofs.RootFrames.{frames_linked}
+use Rattle.jfs_put_range.proofs.RootFrames.{frames_linked, others_linked}
 use Rattle.jfs_put_range.proofs.RootNames.{read_named}
 use Rattle.jfs_put_range.proofs.linked.put_linked.Goals as goal
 
@@ -27,3 +27,8 @@ pub returns-in-Ok-link_ends-clause-framed : goal.returns-in-Ok-link_ends-clause-
 returns-in-Ok-link_ends-clause-framed g c = λ tells.
     frames_linked c.args.top.now.form c.args.top.now.blocks (g.V.PageView.image c.args.view.now) (g.V.PageView.image c.put_root.new.view) c.args.root.now c.put_root.new.root
     c.args.draft.now.pages.items c.put_root.new.draft.pages.items c.link_ends.new.draft.pages.items c.args.stack.now.items c.put_root.new.stack.items (c.in-Ok.ensures.image tells) (c.in-Ok-link_ends.ensures.links tells) (c.in-Ok.ensures.framed tells)
+
+pub returns-in-Ok-link_ends-clause-others : goal.returns-in-Ok-link_ends-clause-others
+returns-in-Ok-link_ends-clause-others g c = λ tells.
+    others_linked c.args.top.now.form c.args.top.now.blocks (g.V.PageView.image c.args.view.now) (g.V.PageView.image c.put_root.new.view) c.put_root.new.root
+    c.args.draft.now.pages.items c.put_root.new.draft.pages.items c.link_ends.new.draft.pages.items c.args.stack.now.items c.put_root.new.stack.items (c.in-Ok.ensures.image tells) (c.in-Ok-link_ends.ensures.links tells) (c.in-Ok.ensures.others tells)

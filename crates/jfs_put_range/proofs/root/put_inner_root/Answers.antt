@@ -2,6 +2,8 @@ use Rattle.std.proofs.Common.{refl, arith}
 use Rattle.jfs_put_range.proofs.RootRanges.{pushed_steps, pushed_fills, pushed_refuses, pushed_full}
 use Rattle.jfs_tree.specs.Draft.{shown}
 use Rattle.jfs_xtree.specs.Node.{xt_node}
+use Rattle.jfs_put_range.proofs.Framed.{root_others}
+use Rattle.jfs_put_range.proofs.Pushing.{fewer_taken}
 use Rattle.jfs_put_range.proofs.RootFrames.{pushed_frames}
 use Rattle.jfs_put_range.proofs.RootNames.{below_named, inner_named}
 use Rattle.jfs_put_range.proofs.root.put_inner_root.Goals as goal
@@ -55,3 +57,9 @@ returns-in-Ok-put_children-clause-framed g c tells =
     c.args.draft.now.pages.items c.put_children.new.draft.pages.items c.store_root.new.draft.pages.items c.in-Ok-put_children.levels c.args.stack.now.items c.put_children.new.stack.items c.store_root.new.stack.items c.store_root.result
     c.requires.forms.0 c.in-Ok.ensures.0 c.in-Ok.ensures.1 c.in-Ok.ensures.2 c.in-Ok.ensures.3 tells c.requires.opened c.requires.within c.put_children.ensures.front c.store_root.ensures.front
     c.in-Ok-put_children.ensures.pushed c.store_root.ensures.stored c.store_root.ensures.keeps
+
+pub returns-in-Ok-put_children-clause-others : goal.returns-in-Ok-put_children-clause-others
+returns-in-Ok-put_children-clause-others g c tells =
+    root_others c.args.draft.now.pages.items c.put_children.new.draft.pages.items c.store_root.new.draft.pages.items (g.V.PageView.image c.args.view.now) c.args.stack.now.items c.put_children.new.stack.items c.store_root.new.stack.items c.store_root.result
+    (λ m. fewer_taken m c.args.stack.now.items c.put_children.new.stack.items c.put_children.ensures.front) (λ m. fewer_taken m c.put_children.new.stack.items c.store_root.new.stack.items c.store_root.ensures.front)
+    (c.in-Ok-put_children.ensures.others tells) c.store_root.ensures.keeps

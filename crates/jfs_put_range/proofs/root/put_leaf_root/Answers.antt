@@ -1,10 +1,12 @@
-use Rattle.std.proofs.Common.{◌≤◌, ◌∙◌, length, subst, sym, arith}
+use Rattle.std.proofs.Common.{◌≤◌, ◌∙◌, refl, length, subst, sym, arith}
 use Rattle.std.specs.List.{All}
 use Rattle.jfs_bits.specs.Extent.{FitsXad}
 use Rattle.jfs_put_range.proofs.LeafPages.{all_good, leaf_list}
 use Rattle.jfs_put_range.proofs.Lists.{as_part, good_long, range_few}
 use Rattle.jfs_put_range.proofs.RootRanges.{leaf_steps, leaf_fills}
 use Rattle.jfs_xtree.specs.Node.{xt_node}
+use Rattle.jfs_put_range.proofs.Framed.{root_others}
+use Rattle.jfs_put_range.proofs.Pushing.{fewer_taken}
 use Rattle.jfs_put_range.proofs.RootFrames.{leaf_frames}
 use Rattle.jfs_put_range.proofs.RootNames.{leaf_named}
 use Rattle.jfs_put_range.proofs.root.put_leaf_root.Goals as goal
@@ -47,3 +49,8 @@ pub returns-clause-framed : goal.returns-clause-framed
 returns-clause-framed c = λ image.
     leaf_frames c.args.top.now.form c.args.top.now.blocks image 1 c.as_slice.result.now c.args.root.now c.store_root.new.root c.args.draft.now.pages.items c.store_root.new.draft.pages.items c.args.stack.now.items c.store_root.new.stack.items
     c.store_root.result c.store_root.ensures.stored c.store_root.ensures.keeps
+
+pub returns-clause-others : goal.returns-clause-others
+returns-clause-others c = λ image.
+    root_others c.args.draft.now.pages.items c.args.draft.now.pages.items c.store_root.new.draft.pages.items image c.args.stack.now.items c.args.stack.now.items c.store_root.new.stack.items c.store_root.result
+    (λ m. omega arith) (λ m. fewer_taken m c.args.stack.now.items c.store_root.new.stack.items c.store_root.ensures.front) (λ n e. refl) c.store_root.ensures.keeps
