@@ -26,7 +26,7 @@ use std::alloc::Global;
 
 /// Writes a range of blocks into a file's list: extents in rising order, which lie within 17 consecutive blocks of the file and end below its block 2^40. They stand in place
 /// of what the list had of these blocks, cut where an entry begins or ends; an entry that reached past the blocks keeps its other parts, and what is written into a hole is
-/// merged with a recorded left neighbour that it continues. Of the root its number of slots, its own descriptor and what stands behind its slots stay. Each page on the way is changed once. New pages are taken from `fresh` in its order, at most 15, and name themselves; each other page keeps its own descriptor. The transaction
+/// merged with a recorded left neighbour that it continues. Of the root its number of slots, its own descriptor and what stands behind its slots stay. Each page on the way is changed once. New pages are taken from `fresh` in its order, at most 15, and name themselves where the tree names none of them before; each other page keeps its own descriptor. The transaction
 /// gets the changed lines and new pages, and then an `Alloc` of each new page. After an `Err` root, `fresh` and transaction are as before. `Bad` names the first page that breaks
 /// a rule on the ways of the blocks from the range's first to its last, which are looked at before anything is written. Where none does, it names with rule `order` a page whose
 /// entries can't stand between the keys on its way, or that is met twice. A tree of 8 levels gets no ninth: where its root has no room for two more entries, it can be refused, as
