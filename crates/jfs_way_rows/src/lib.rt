@@ -1,5 +1,7 @@
-//! Walks over a volume that was formatted.
+//! Walks over a volume that was formatted, and changes of a mode.
 #![tactic(auto)]
 
+#[cfg(test)]
+mod chmods;
 #[cfg(test)]
 mod walks;

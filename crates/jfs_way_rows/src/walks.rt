@@ -16,7 +16,7 @@ use std::test::*;
 use uuid::Uuid;
 
 /// The inode map of a new volume, with its inode extent at this address.
-fn map_at(alloc: Global, addr: u64) -> Result<InodeMap, AllocError> {
+pub fn map_at(alloc: Global, addr: u64) -> Result<InodeMap, AllocError> {
     let mut set = [0u8; 512];
     put_u32(&mut set, 0, 0xf000_0000);
     let list = places_of(alloc, &[(0, addr)], 1)?;
