@@ -1,7 +1,9 @@
-//! Walks over a volume that was formatted, and changes of a mode.
+//! Walks over a volume that was formatted, changes of a mode, and what is told of a root.
 #![tactic(auto)]
 
 #[cfg(test)]
 mod chmods;
+#[cfg(test)]
+mod looks;
 #[cfg(test)]
 mod walks;

@@ -1,0 +1,6 @@
+//! The file calls that only look, on a volume whose two sets lie in memory: a path is walked, and what stands at its end is told.
+#![tactic(auto)]
+
+mod attributes;
+
+pub use attributes::stat;
