@@ -2,5 +2,7 @@
 #![tactic(auto)]
 
 mod attributes;
+mod names;
 
 pub use attributes::stat;
+pub use names::list_names;

@@ -1,11 +1,11 @@
-//! What is told of the root directory of a volume that was formatted: inode 2, with mode 0755, two links, and the time of the formatting.
+//! What is told of the root directory of a volume that was formatted: inode 2, with mode 0755, two links, the time of the formatting, and no names.
 
 use crate::walks::map_at;
 use jfs_bits::{Moment, Rule};
 use jfs_disk::{Part, SureDisk};
 use jfs_format::format;
 use jfs_imap::InodeMap;
-use jfs_look::stat;
+use jfs_look::{list_names, stat};
 use jfs_name::Path;
 use jfs_plain::{NodeKind, Refusal, Stat};
 use jfs_ranges::PageView;
@@ -20,7 +20,23 @@ fn root_stat<V: PageView>(alloc: Global, view: &mut V, map: &InodeMap) -> Result
     stat(view, map, path.as_slice())
 }
 
-// Where the inode extent stands, and what is told: page 100 has zeros, and page 3,008 is behind the volume.
+/// How many names it has.
+fn root_names<V: PageView>(alloc: Global, view: &mut V, map: &InodeMap) -> Result<usize, Refusal> {
+    let path = Path::new(alloc);
+    match list_names(alloc, view, map, path.as_slice()) {
+        Ok(names) => Ok(names.len()),
+        Err(e) => Err(e),
+    }
+}
+
+fn broken(page: u32) -> Refusal {
+    Refusal::Damaged {
+        page,
+        rule: Rule::Fields,
+    }
+}
+
+// Where the inode extent stands, what is told, and how many names: page 100 has zeros, and page 3,008 is behind the volume.
 #[test]
 fn the_root_is_told(rt: HostRuntime) {
     let alloc = rt.alloc();
@@ -38,19 +54,13 @@ fn the_root_is_told(rt: HostRuntime) {
         inode: 2,
         mtime: now,
     };
-    let rule = Rule::Fields;
-    for (addr, told) in [
-        (29, Ok(root)),
-        (100, Err(Refusal::Damaged { page: 100, rule })),
-        (
-            3008,
-            Err(Refusal::Damaged {
-                page: NO_PAGE,
-                rule,
-            }),
-        ),
+    for (addr, told, names) in [
+        (29, Ok(root), Ok(0)),
+        (100, Err(broken(100)), Err(broken(100))),
+        (3008, Err(broken(NO_PAGE)), Err(broken(NO_PAGE))),
     ] {
         let map = map_at(alloc, addr).expect(&rt, "memory");
         assert_eq!(rt; root_stat(alloc, &mut view, &map), told);
+        assert_eq!(rt; root_names(alloc, &mut view, &map), names);
     }
 }
