@@ -1,0 +1,4 @@
+pub mod Chain
+pub mod InPlace
+pub mod Turned
+pub mod Named

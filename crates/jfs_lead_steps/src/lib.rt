@@ -1,0 +1,2 @@
+//! Steps of file calls that give, take and lead names: one object of a volume changes, and with it one node of the plain tree.
+#![tactic(auto)]
