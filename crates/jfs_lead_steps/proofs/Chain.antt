@@ -65,7 +65,7 @@ either_order n m f g t apart = one_tree (changed m g (changed n f t)) (changed n
 
 -- ---- a step
 
-some_is : {x y : Object} → Some x ≡ Some y → x ≡ y
+pub some_is : {x y : Object} → Some x ≡ Some y → x ≡ y
 some_is h = cc (h)
 
 module _ (r : Readers) (v w : Volume) (t : Tree) (has : HasTree r v t) (n : ℕ) where

@@ -30,7 +30,7 @@ use Rattle.jfs_meaning.proofs.Books.{count_append}
 use Rattle.jfs_lead_steps.specs.Reached.{HasTree}
 use Rattle.jfs_lead_steps.proofs.Turned.{turns, names_set, names_have, dir_holds, no_extents_of}
 
-all_below : (bound : ℕ) (ns : List ℕ) (b : ℕ) → AllBelow bound ns → 0 < count_in b ns → b < bound
+pub all_below : (bound : ℕ) (ns : List ℕ) (b : ℕ) → AllBelow bound ns → 0 < count_in b ns → b < bound
 all_below bound [] b h l = absurd (omega (arith, l))
 all_below bound (n ∷ ns) b h l = by (n == b) refl (all_below bound ns b h.1) l
   where

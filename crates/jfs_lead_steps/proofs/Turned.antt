@@ -63,17 +63,12 @@ module _ (blocks : ℕ) where
   unfolding spelled
   dir_bytes page d i h = let t = eqb-true (bit_and d.mode 0xf000) 0x4000 h in rw t refl
 
-  -- Its tree spells other names. Pages of the file system part were taken and freed for it, and no others changed.
-  module _ (v w : Volume) (sound : IsSound r v) (within : (b : ℕ) → v.used b ≡ true → b < blocks) (n : ℕ) (d set : Dinode) (was : objects r v n ≡ Some (spelled r v.page d)) (dir : has_names d ≡ true)
+  -- Its tree spells other names, on pages of the file system part.
+  module _ (v : Volume) (sound : IsSound r v) (within : (b : ℕ) → v.used b ≡ true → b < blocks) (n : ℕ) (d set : Dinode) (was : objects r v n ≡ Some (spelled r v.page d)) (dir : has_names d ≡ true)
       (es later_es : List NameEntry) (spelled_es : spells_names blocks v.page (root_of d) ≡ Ok es) (later mid : ℕ → List ℕ) (inside : (b : ℕ) → b < blocks → mid b ≡ later b) (outside : (b : ℕ) → blocks ≤ b → mid b ≡ v.page b)
       (taken freed : List ℕ) (turned : spells_names blocks later (root_of set) ≡ Ok later_es)
       (owned : (b : ℕ) → owned_pages blocks later (root_of set) b + count_in b freed ≡ owned_pages blocks v.page (root_of d) b + count_in b taken)
-      (keeps : (b : ℕ) → b < blocks → owned_pages blocks v.page (root_of d) b ≡ 0 → count_in b taken ≡ 0 → later b ≡ v.page b)
-      (below : (b : ℕ) → 0 < count_in b taken → b < blocks) (fresh : (b : ℕ) → 0 < count_in b taken → v.used b ≡ false)
-      (dir_set : has_names set ≡ true) (same_acl : set.acl ≡ d.acl) (same_ea : set.ea ≡ d.ea) (live : is_live n set ≡ true)
-      (puts : PutsInode mid w.page v.extents n set)
-      (used : (b : ℕ) → bit (w.used b) + count_in b freed ≡ bit (v.used b) + count_in b taken) (extents : w.extents ≡ v.extents) (area : w.area ≡ v.area)
-      (in_use : (k : ℕ) → w.in_use k ≡ put n true v.in_use k) where
+      (below : (b : ℕ) → 0 < count_in b taken → b < blocks) (dir_set : has_names set ≡ true) (same_acl : set.acl ≡ d.acl) (same_ea : set.ea ≡ d.ea) where
     plain : has_extents d ≡ false
     plain = no_extents_of d dir
 
@@ -83,7 +78,7 @@ module _ (blocks : ℕ) where
     owned_is : (b : ℕ) → holds r (objects.objects r v n) b ≡ owned_pages blocks v.page (root_of d) b + attributes_held (spelled r v.page d) b
     owned_is b = ap (λ o. holds r o b) was ∙ dir_holds v.page d es b dir plain spelled_es
 
-    owned_below : (b : ℕ) → 0 < owned_pages blocks v.page (root_of d) b → b < blocks
+    pub owned_below : (b : ℕ) → 0 < owned_pages blocks v.page (root_of d) b → b < blocks
     owned_below b l = within b ((owned_once r v sound.agrees).in_use n b (let e = owned_is b in omega (arith, e, l)))
 
     later_below : (b : ℕ) → 0 < owned_pages blocks later (root_of set) b → b < blocks
@@ -103,35 +98,40 @@ module _ (blocks : ℕ) where
     pub names_now : listed r.names_order (spelled r mid set).names ≡ Ok later_es
     names_now = ap (λ (o : Object). listed r.names_order o.names) same ∙ names_listed later set dir_set ∙ turned
 
-    spelled_now : spells_names blocks mid (root_of set) ≡ Ok later_es
+    pub spelled_now : spells_names blocks mid (root_of set) ≡ Ok later_es
     spelled_now = sym (names_listed mid set dir_set) ∙ names_now
 
-    owned_now : (b : ℕ) → owned_pages blocks mid (root_of set) b ≡ owned_pages blocks later (root_of set) b
+    pub owned_now : (b : ℕ) → owned_pages blocks mid (root_of set) b ≡ owned_pages blocks later (root_of set) b
     owned_now b = sym (footprint_is mid b) ∙ ap (λ (o : Object). objects.footprint o b) same ∙ footprint_is later b
 
     attributes : (b : ℕ) → attributes_held (spelled r mid set) b ≡ attributes_held (spelled r v.page d) b
     unfolding spelled
     attributes b = rw (same_acl, same_ea) refl
 
-    pub sets_names : SetsObject r v w n set mid taken freed
-    sets_names = record {
-      live = live;
-      whole = record { names = later_es; extents = []; names_are = names_now; extents_are = extents_listed mid set plain_set };
-      blocks = λ b. (let x = dir_holds mid set later_es b dir_set plain_set spelled_now in let y = owned_is b in let z = owned b in let o = owned_now b in let a = attributes b in
-          omega (arith, x, y, z, o, a));
-      keeps = λ b h t. elim (cases_lt b blocks) [
-        | inl l ↦ inside b l ∙ keeps b l (let y = owned_is b in omega (arith, y, h)) t
-        | inr l ↦ outside b l
-      ];
-      puts = puts;
-      takes = record { fresh = fresh; used = used };
-      extents = extents;
-      area = area;
-      in_use = in_use;
-    }
-
     pub bytes_now : (i : ℕ) → byte_in r mid (Some (spelled r mid set)) i ≡ byte_in r v.page (objects.objects r v n) i
     bytes_now i = dir_bytes mid set i dir_set ∙ sym (ap (λ (o : Option Object). byte_in r v.page o i) was ∙ dir_bytes v.page d i dir)
+
+    -- Pages were taken and freed for it, and no others changed.
+    module _ (w : Volume) (keeps : (b : ℕ) → b < blocks → owned_pages blocks v.page (root_of d) b ≡ 0 → count_in b taken ≡ 0 → later b ≡ v.page b)
+        (fresh : (b : ℕ) → 0 < count_in b taken → v.used b ≡ false) (live : is_live n set ≡ true) (puts : PutsInode mid w.page v.extents n set)
+        (used : (b : ℕ) → bit (w.used b) + count_in b freed ≡ bit (v.used b) + count_in b taken) (extents : w.extents ≡ v.extents) (area : w.area ≡ v.area)
+        (in_use : (k : ℕ) → w.in_use k ≡ put n true v.in_use k) where
+      pub sets_names : SetsObject r v w n set mid taken freed
+      sets_names = record {
+        live = live;
+        whole = record { names = later_es; extents = []; names_are = names_now; extents_are = extents_listed mid set plain_set };
+        blocks = λ b. (let x = dir_holds mid set later_es b dir_set plain_set spelled_now in let y = owned_is b in let z = owned b in let o = owned_now b in let a = attributes b in
+            omega (arith, x, y, z, o, a));
+        keeps = λ b h t. elim (cases_lt b blocks) [
+          | inl l ↦ inside b l ∙ keeps b l (let y = owned_is b in omega (arith, y, h)) t
+          | inr l ↦ outside b l
+        ];
+        puts = puts;
+        takes = record { fresh = fresh; used = used };
+        extents = extents;
+        area = area;
+        in_use = in_use;
+      }
 
 -- ---- the node
 
@@ -200,7 +200,7 @@ module _ (blocks : ℕ) (v w : Volume) (t : Tree) (has : HasTree (readers blocks
   owned_set b = ap (λ (x : List ℕ). owned_pages blocks later x b + count_in b freed) root_is ∙ owned b
 
   pub names_set : SetsObject z v w n set mid taken freed
-  names_set = sets_names blocks v w has.sound within n d set was dir es (change es) spelled_es later mid inside outside taken freed turned_set owned_set keeps below fresh dir refl refl live puts used extents area in_use
+  names_set = sets_names blocks v has.sound within n d set was dir es (change es) spelled_es later mid inside outside taken freed turned_set owned_set below dir refl refl w keeps fresh live puts used extents area in_use
 
   same_rules : first_broken (rows (spelled z v.page d).inode n) ≡ None → first_broken (rows (record d { rest = put_bytes 96 root d.rest; mtime = now }) n) ≡ None
   unfolding spelled rows
@@ -212,6 +212,6 @@ module _ (blocks : ℕ) (v w : Volume) (t : Tree) (has : HasTree (readers blocks
   pub names_have : HasTree z w (changed n (turns change links now) t)
   names_have = set_has z v w t has n set mid taken freed names_set (turns change links now)
       (node_turned blocks v.page mid d root now links change es dir parent width size (names_listed blocks v.page d dir ∙ spelled_es)
-      (names_now blocks v w has.sound within n d set was dir es (change es) spelled_es later mid inside outside taken freed turned_set owned_set keeps below fresh dir refl refl live puts used extents area in_use)
+      (names_now blocks v has.sound within n d set was dir es (change es) spelled_es later mid inside outside taken freed turned_set owned_set below dir refl refl)
       ∙ ap (option_map (turns change links now)) (sym (ap (node_in z v.page) was)))
-      (bytes_now blocks v w has.sound within n d set was dir es (change es) spelled_es later mid inside outside taken freed turned_set owned_set keeps below fresh dir refl refl live puts used extents area in_use) rules_set
+      (bytes_now blocks v has.sound within n d set was dir es (change es) spelled_es later mid inside outside taken freed turned_set owned_set below dir refl refl) rules_set

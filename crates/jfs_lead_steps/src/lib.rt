@@ -1,2 +1,6 @@
 //! Steps of file calls that give, take and lead names: one object of a volume changes, and with it one node of the plain tree.
 #![tactic(auto)]
+
+mod remove;
+
+pub use remove::{Removed, remove_on_top};

@@ -1,0 +1,4 @@
+use Rattle.jfs_lead_steps.proofs.remove.remove_from.Goals as goal
+
+pub returns-in-Ok-remove-clause-removes : goal.returns-in-Ok-remove-clause-removes
+returns-in-Ok-remove-clause-removes g c tells = rw c.in-Ok.ensures at (c.in-Ok-remove.ensures.removes tells)
