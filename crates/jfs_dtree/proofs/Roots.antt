@@ -29,8 +29,9 @@ use Rattle.jfs_tree.specs.Spells.{spells}
 use Rattle.jfs_dtree.specs.declared.error.DtError.{DtError}
 use Rattle.jfs_dtree.specs.declared.error.DtError.TheVariants as dt
 use Rattle.jfs_dtree.specs.Errors.{handed_on}
-use Rattle.jfs_dtree.specs.Adding.{AddsName, NoRoomAtRoot, NoPlaceAtRoot, NoRoomOnWay, is_full_in, lacks_in, TakesPages, KeepsLevels, RefusesName, AddTellsWay}
-use Rattle.jfs_dtree.specs.Room.{DeepIs, FollowsRoom}
+use Rattle.jfs_dtree.specs.Adding.{AddsName, NoRoomAtRoot, NoPlaceAtRoot, NoRoomOnWay, is_full_in, lacks_in, TakesPages, KeepsLevels, RefusesName, AddTellsWay, AddFollowsWay}
+use Rattle.jfs_dtree.specs.Room.{DeepIs, FollowsRoom, deep_on_way}
+use Rattle.jfs_dtree.specs.Replacing.{FollowsWay}
 use Rattle.jfs_dtree.proofs.Tight.{full_deep}
 use Rattle.jfs_dtree.proofs.Nodes.{inner_is, leaf_read}
 use Rattle.jfs_dtree.proofs.Leading.{run_below}
@@ -65,6 +66,33 @@ pub found_as : (b blocks : ℕ) (image : Image) (root name units : List ℕ) (x 
 found_as b blocks image root name units x found inode eb ex eu ei h =
     ei ∙ ap (option_map (λ (e : NameEntry). e.inode)) (h ∙ ap (λ k. found_on_way name_scale (pages_of (dt_node Full k) image) x (dt_node Root k root)) eb
     ∙ ap (λ y. found_on_way name_scale (pages_of (dt_node Full blocks) image) y (dt_node Root blocks root)) ex) ∙ ap (found_for blocks (page_of image) root) eu
+
+-- a failure, as the calls answer it
+abbrev pub failed : DtError → Result (Unit {0}) DtError
+failed e = Err e
+
+-- a call that failed says nothing of it, but where it tells of names
+pub failed_follows : (found : Option ℕ) (e : TreeError) → FollowsWay found (Err (handed_on e))
+failed_follows found (View e) = tt
+failed_follows found (Bad page rule) = tt
+failed_follows found Memory = tt
+
+pub failed_adding : (found : Option ℕ) (deep : Bool) (e : TreeError) → AddFollowsWay found deep (failed (handed_on e))
+failed_adding found deep (View e) = tt
+failed_adding found deep (Bad page rule) = tt
+failed_adding found deep Memory = tt
+
+pub found_adding : (pages : ℕ → Node (List ℕ) NameEntry) (root : Node (List ℕ) NameEntry) (found : Option ℕ) (deep : Bool) (e : DtError) → FailsWhereBad pages root e → AddFollowsWay found deep (Err e)
+found_adding pages root found deep (dt.View e) fails = tt
+found_adding pages root found deep (dt.Bad page rule) fails = tt
+found_adding pages root found deep dt.Exists fails = absurd fails
+found_adding pages root found deep dt.Missing fails = absurd fails
+found_adding pages root found deep dt.TooDeep fails = absurd fails
+
+-- how deep the way is
+pub way_deep_as : (b blocks : ℕ) (view image : Image) (root name : List ℕ) (x : NameEntry) (d deep : Bool) → b ≡ blocks → view ≡ image → x.name ≡ name → d ≡ deep → d ≡ deep_on_way b (page_of view) root x.name → deep_on_way blocks (page_of image) root name ≡ deep
+way_deep_as b blocks view image root name x d deep eb ev en ed h =
+    sym (ap (deep_on_way blocks (page_of image) root) en) ∙ sym (ap (λ i. deep_on_way blocks (page_of i) root x.name) ev) ∙ sym (ap (λ k. deep_on_way k (page_of view) root x.name) eb) ∙ sym h ∙ ed
 
 fails_on : (pages : ℕ → Node (List ℕ) NameEntry) (root : Node (List ℕ) NameEntry) (e : TreeError) → NamesBroken name_scale pages root e → FailsWhereBad pages root (handed_on e)
 fails_on pages root (View e) h = h
@@ -174,10 +202,6 @@ found_tells pages root first clashes (dt.Bad page rule) fails h = inl h
 found_tells pages root first clashes dt.Exists fails h = absurd fails
 found_tells pages root first clashes dt.Missing fails h = absurd fails
 found_tells pages root first clashes dt.TooDeep fails h = absurd fails
-
--- a failure, as the calls answer it
-abbrev pub failed : DtError → Result (Unit {0}) DtError
-failed e = Err e
 
 -- ---- which pages are taken
 

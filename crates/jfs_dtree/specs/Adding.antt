@@ -1,5 +1,5 @@
 -- What is added to a directory's names, and why a name is refused.
-use Rattle.std.specs.Prelude.{◌≡◌, ◌⊎◌, ◌<◌, ℕ, ◌+◌, true, false, List, length, Option, Some, None, Result, Ok, Err}
+use Rattle.std.specs.Prelude.{◌≡◌, ◌⊎◌, ◌<◌, ℕ, ◌+◌, Bool, true, false, List, length, Option, Some, None, Result, Ok, Err}
 use Rattle.jfs_bits.specs.declared.rule.Rule.{Rule}
 use Rattle.jfs_bits.specs.declared.rule.Rule.TheVariants as rules
 use Rattle.jfs_name.specs.declared.name.NameEntry.{NameEntry}
@@ -83,3 +83,13 @@ AddTellsWay first clashes (Err (Bad page rule)) = (first ≡ Some (page, rule)) 
 AddTellsWay first clashes (Err Exists) = first ≡ None
 AddTellsWay first clashes (Err Missing) = ⊥
 AddTellsWay first clashes (Err TooDeep) = first ≡ None
+
+-- What the leaf at the end of the name's way has decides, whatever stands elsewhere: a name goes in only where it has none there, and there is one where it is refused as one that exists.
+-- A name that is refused as too deep has none there, and its way has 7 pages below the root, none of which has slots for a longest name; where the name went in, one has, or the way is shorter.
+abbrev pub AddFollowsWay : Option ℕ → Bool → Result (Unit {0}) DtError → Type 0
+AddFollowsWay found deep (Ok it) = (found ≡ None) × (deep ≡ false)
+AddFollowsWay found deep (Err (View e)) = Unit {0}
+AddFollowsWay found deep (Err (Bad page rule)) = Unit {0}
+AddFollowsWay found deep (Err Exists) = (inode : ℕ) × (found ≡ Some inode)
+AddFollowsWay found deep (Err Missing) = ⊥
+AddFollowsWay found deep (Err TooDeep) = (found ≡ None) × (deep ≡ true)

@@ -8,9 +8,9 @@ ghost use Rattle.jfs_tree.specs.Form.{AllBelow};
 ghost use Rattle.jfs_tree.specs.Fresh.{blocks_of, TakenInOrder};
 ghost use Rattle.jfs_dtree.specs.Frame.{NamesPages};
 ghost use Rattle.jfs_dtree.specs.Parent.{parent_of};
-ghost use Rattle.jfs_dtree.specs.Spells.{CarriesDt, broken_for};
-ghost use Rattle.jfs_dtree.specs.Room.{FollowsRoom};
-ghost use Rattle.jfs_dtree.specs.Adding.{AddsName, TakesPages, KeepsLevels, RefusesName, ClashesFor, AddTellsWay};
+ghost use Rattle.jfs_dtree.specs.Spells.{CarriesDt, broken_for, found_for};
+ghost use Rattle.jfs_dtree.specs.Room.{FollowsRoom, deep_on_way};
+ghost use Rattle.jfs_dtree.specs.Adding.{AddsName, TakesPages, KeepsLevels, RefusesName, ClashesFor, AddTellsWay, AddFollowsWay};
 
 use crate::deep::is_deep;
 use crate::entry::DirEntry;
@@ -29,7 +29,8 @@ use std::alloc::Global;
 /// needs are taken from `fresh` in its order; the transaction gets the changed lines and new pages, and then an `Alloc` of each. The parent stays. After an
 /// `Err` root, `fresh` and transaction are as before. `TooDeep` comes, of a name that is new, exactly where the tree has 8
 /// levels and each page below the root on the name's way has fewer than 18 free slots, which is what a longest name may take. `Bad` names the first page on
-/// the name's way that breaks a rule by itself; where none does, with rule `order` a page at which the name clashes with what is stored.
+/// the name's way that breaks a rule by itself; where none does, with rule `order` a page at which the name clashes with what is stored. On any tree the leaf at the
+/// end of the name's way decides between `Exists` and a name that is new, and a new one is `TooDeep` only where that way has 7 pages below the root without the slots.
 pub fn add<V: PageView>(
     alloc: Global,
     view: &mut V,
@@ -59,6 +60,8 @@ pub fn add<V: PageView>(
     ensures way { V.PageView.tells → AddTellsWay (broken_for (V.PageView.block_count view.old) (page_of (V.PageView.image view.old)) root.old name.now)
         (ClashesFor (V.PageView.block_count view.old) (page_of (V.PageView.image view.old)) (record { name = name.now; inode = inode }) root.old) result }
     ensures refused { V.PageView.tells → IfErr result (λ e. RefusesName (V.PageView.block_count view.old) (page_of (V.PageView.image view.old)) (record { name = name.now; inode = inode }) root.old (blocks_of fresh.old) e) }
+    ensures on_way { V.PageView.tells → AddFollowsWay (found_for (V.PageView.block_count view.old) (page_of (V.PageView.image view.old)) root.old name.now)
+        (deep_on_way (V.PageView.block_count view.old) (page_of (V.PageView.image view.old)) root.old name.now) result }
 {
     match find(view, root, name) {
         Ok(None) => {}

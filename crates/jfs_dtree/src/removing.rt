@@ -7,8 +7,9 @@ ghost use Rattle.jfs_tree.specs.Changes.{TellsGone};
 ghost use Rattle.jfs_dtree.specs.Leftmost.{KeepsEmptyFirstKeys};
 ghost use Rattle.jfs_dtree.specs.Frame.{KeepsPages};
 ghost use Rattle.jfs_dtree.specs.Parent.{parent_of};
-ghost use Rattle.jfs_dtree.specs.Spells.{CarriesDt, broken_for, TellsWay};
+ghost use Rattle.jfs_dtree.specs.Spells.{CarriesDt, broken_for, found_for, TellsWay};
 ghost use Rattle.jfs_dtree.specs.Removing.{RemovesName, MissesName};
+ghost use Rattle.jfs_dtree.specs.Replacing.{FollowsWay};
 
 use crate::entry::DirEntry;
 use crate::error::DtError;
@@ -24,7 +25,8 @@ use std::alloc::Global;
 #[tactic(auto, using(crate::proofs::Roots::has_pages))]
 /// Takes a name of at most 255 units out of a directory whose root has these 288 bytes, and answers the inode that it named: `Missing` exactly where the
 /// directory doesn't have the name. The transaction gets the changed lines, then a `NoRedo` of each page that is empty now, and then a `Free` of each. The parent
-/// stays, and the first keys on the leftmost way stay empty. After an `Err` root and transaction are as before.
+/// stays, and the first keys on the leftmost way stay empty. After an `Err` root and transaction are as before. What it answers is what the leaf at the end of
+/// the name's way has, whatever stands elsewhere.
 pub fn remove<V: PageView>(
     alloc: Global,
     view: &mut V,
@@ -46,6 +48,7 @@ pub fn remove<V: PageView>(
     ensures kept { OnErr result ((root.new ≡ root.old) × (tx.new ≡ tx.old)) }
     ensures way { V.PageView.tells → TellsWay (broken_for (V.PageView.block_count view.old) (page_of (V.PageView.image view.old)) root.old name.now) result }
     ensures missed { V.PageView.tells → IfErr result (MissesName (V.PageView.block_count view.old) (page_of (V.PageView.image view.old)) name.now root.old) }
+    ensures on_way { V.PageView.tells → FollowsWay (found_for (V.PageView.block_count view.old) (page_of (V.PageView.image view.old)) root.old name.now) result }
 {
     let blocks = view.blocks();
     let top = DtPages {

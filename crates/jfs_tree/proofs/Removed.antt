@@ -7,11 +7,13 @@ use Rattle.jfs_tree.specs.Form.{Leads, LeadsDown}
 use Rattle.jfs_tree.specs.Draft.{shown}
 use Rattle.jfs_tree.specs.Call.{nodes, pages_of, Finds}
 use Rattle.jfs_tree.specs.Shrink.{Shrank}
-use Rattle.jfs_tree.specs.Removal.{LostHere, LostBelow, entry_of, kept_in}
+use Rattle.jfs_tree.specs.Path.{found_below, found_on_way}
+use Rattle.jfs_tree.specs.Removal.{LostHere, LostBelow, TakesRow, entry_of, kept_in}
 use Rattle.jfs_tree.specs.declared.draft.Drafted.{Drafted}
 use Rattle.jfs_tree.specs.declared.form.TreeError.{TreeError}
 use Rattle.jfs_tree.specs.declared.form.Way.TheVariants.{Here, Down}
 use Rattle.jfs_tree.specs.declared.removal.Shrunk.{Shrunk}
+use Rattle.jfs_tree.proofs.Path.{way_found, way_found_down, root_found}
 use Rattle.jfs_tree.proofs.Finding.{here_finds, down_finds}
 
 -- a part that shrank, as a call's answer has it
@@ -38,6 +40,16 @@ here_found node s x bytes page old new free freed image (Ok None) did fresh read
     here_finds node s x image page bytes None (read ∙ ap (λ (d : List Drafted). shown d image page) fresh) leads (λ es is. sym (did.0 es is))
 here_found node s x bytes page old new free freed image (Ok (Some shrunk)) did fresh read leads =
     here_finds node s x image page bytes (Some shrunk.entry) (read ∙ ap (λ (d : List Drafted). shown d image page) fresh) leads (λ es is. sym (did image es read is).0)
+
+-- the leaf at the end of the way has what is answered
+pub here_on_way : {P E : Type 0} (node : List ℕ → Node P E) (s : Scale P E) (x : E) (bytes : List ℕ) (most less page : ℕ) (old new : List Drafted) (free freed : List ℕ) (image : Image) (result : Result (Option (Shrunk E)) TreeError)
+    → most ≡ suc less → IfOk result (LostHere node s x bytes page old new free freed) → old ≡ [] → bytes ≡ shown old image page → Leads s x (node bytes) (Ok Here)
+    → IfOk result (λ found. entry_of found ≡ found_below s (pages_of node image) x most page)
+here_on_way node s x bytes most less page old new free freed image (Err e) is did fresh read leads = tt
+here_on_way node s x bytes most less page old new free freed image (Ok None) is did fresh read leads =
+    way_found node s x image most less page bytes is (read ∙ ap (λ (d : List Drafted). shown d image page) fresh) leads.0 None leads.1 (sym (did.0 leads.0 leads.1))
+here_on_way node s x bytes most less page old new free freed image (Ok (Some shrunk)) is did fresh read leads =
+    way_found node s x image most less page bytes is (read ∙ ap (λ (d : List Drafted). shown d image page) fresh) leads.0 (Some shrunk.entry) leads.1 (sym (did image leads.0 read leads.1).0)
 
 -- ---- an inner page
 
@@ -76,3 +88,17 @@ down_found node s o x p image later page place child last bytes shrunk found (Er
 down_found {E = E} node s o x p image later page place child last bytes shrunk found (Ok answer) same kept read leads is finds =
     subst (λ (o : Option E). Finds s x (pages_of node image) page o) (sym (ap entry_of same))
     (down_finds node s o x p image later page place child last bytes (Ok (Some shrunk.entry)) kept read leads (subst (λ (o : Option E). Finds s x (pages_of node later) child o) (ap entry_of is) finds))
+
+pub down_on_way : {P E : Type 0} (node : List ℕ → Node P E) (s : Scale P E) (x : E) (image later : Image) (most less page place child : ℕ) (last : Bool) (bytes : List ℕ) (shrunk : Shrunk E) (found : Option (Shrunk E)) (result : Result (Option (Shrunk E)) TreeError)
+    → most ≡ suc less → IfOk result (λ found. found ≡ Some (record { entry = shrunk.entry; kept = kept_in found; levels = shrunk.levels + 1 }))
+    → later ≡ image → bytes ≡ page_of image page → Leads s x (node bytes) (Ok (Down place child last)) → found ≡ Some shrunk → entry_of found ≡ found_below s (pages_of node later) x less child
+    → IfOk result (λ found. entry_of found ≡ found_below s (pages_of node image) x most page)
+down_on_way node s x image later most less page place child last bytes shrunk found (Err e) is same kept read leads some finds = tt
+down_on_way node s x image later most less page place child last bytes shrunk found (Ok answer) is same kept read leads some finds =
+    ap entry_of same ∙ way_found_down node s x image most less page bytes is read later place child last (Ok (Some shrunk.entry)) kept leads (sym (ap entry_of some) ∙ finds)
+
+-- ---- a root that is a leaf
+
+pub root_takes : {P E : Type 0} (s : Scale P E) (x : E) (pages : ℕ → Node P E) (root after : Node P E) (es : List E) (found : Option E) → root ≡ Leaf es → TakesRow s x root after found → found ≡ found_on_way s pages x root
+root_takes s x pages root after es None is takes = root_found s x pages root es None is (sym (takes es is))
+root_takes s x pages root after es (Some e) is takes = root_found s x pages root es (Some e) is (sym (takes es is).0)

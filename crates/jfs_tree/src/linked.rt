@@ -3,7 +3,7 @@
 ghost use Rattle.std.specs.Prelude.{◌≡◌, ◌+◌, ◌<◌, ◌≤◌, ◌++◌, [], ℕ, List, length, drop, OnOk, IfOk, IfErr, IfNone};
 ghost use Rattle.jfs_tree.specs.Edit.{IsPoint};
 ghost use Rattle.jfs_tree.specs.Leftmost.{IsLeftmost};
-ghost use Rattle.jfs_tree.specs.Path.{broken_on_way, TellsBroken};
+ghost use Rattle.jfs_tree.specs.Path.{broken_on_way, found_on_way, TellsBroken};
 ghost use Rattle.jfs_tree.specs.Refusal.{ClashesOnWay, HasAllLevels, TellsAdding};
 ghost use Rattle.jfs_tree.specs.Filled.{FillsAlways};
 ghost use Rattle.jfs_tree.specs.Apart.{ApartOnWay};
@@ -147,6 +147,8 @@ pub(crate) fn remove_linked<V: PageView, F: PageLoss + PageLinks>(
     ensures bad { V.PageView.tells → IfErr result (λ e.
         NamesBroken F.PageForm.scale (pages_of (F.PageForm.node form.now) (V.PageView.image view.old)) (F.PageForm.node top.now root.old) e) }
     ensures way { V.PageView.tells → TellsBroken (broken_on_way F.PageForm.scale (pages_of (F.PageForm.node form.now) (V.PageView.image view.old)) (F.PageForm.scale.from x.now) (F.PageForm.node top.now root.old)) result }
+    ensures on_way { V.PageView.tells → IfOk result (λ found.
+        found ≡ found_on_way F.PageForm.scale (pages_of (F.PageForm.node form.now) (V.PageView.image view.old)) x.now (F.PageForm.node top.now root.old)) }
 {
     let _blocks = view.blocks();
     let found = match remove_leftmost(top, form, view, draft, freed, root, x) {

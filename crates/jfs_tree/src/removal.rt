@@ -2,7 +2,7 @@
 
 ghost use Rattle.std.specs.Prelude.{◌≡◌, ◌+◌, ◌<◌, ◌≤◌, ◌^◌, ℕ, [], Some, IfOk, IfErr, OnOk, IfSome, IfNone, length};
 ghost use Rattle.jfs_tree.specs.Edit.{IsPoint};
-ghost use Rattle.jfs_tree.specs.Path.{broken_below, TellsBroken};
+ghost use Rattle.jfs_tree.specs.Path.{broken_below, found_below, TellsBroken};
 ghost use Rattle.jfs_tree.specs.Call.{pages_of, nodes, Finds, BreaksWhereBad, CarriesFault, KeepsBytes, StaysOff};
 ghost use Rattle.jfs_tree.specs.Form.{IsLeaf};
 ghost use Rattle.jfs_tree.specs.Frames.{KeepsFrames, KeepsFramesAt};
@@ -66,6 +66,8 @@ pub fn remove_below<V: PageView, F: PageLoss>(
     ensures levels { IfOk result (λ found. IfSome found (λ shrunk. shrunk.levels ≤ most)) }
     ensures inner { V.PageView.tells → IfOk result (λ found. IfSome found (λ shrunk. LeavesOrGoes (pages_of (F.PageForm.node form.now) (V.PageView.image view.old))
         (nodes (F.PageForm.node form.now) draft.new.pages.items (V.PageView.image view.old)) shrunk.kept freed.new.items)) }
+    ensures on_way { V.PageView.tells → IfOk result (λ found.
+        entry_of found ≡ found_below F.PageForm.scale (pages_of (F.PageForm.node form.now) (V.PageView.image view.old)) x.now most page) }
 {
     if most == 0 {
         return Err(TreeError::Bad {

@@ -8,7 +8,7 @@ ghost use Rattle.jfs_tree.specs.Call.{CarriesFault};
 ghost use Rattle.jfs_tree.specs.Changes.{TellsChanges, TellsGone};
 ghost use Rattle.jfs_tree.specs.Edit.{IsPoint};
 ghost use Rattle.jfs_tree.specs.Leftmost.{StaysLeftmost};
-ghost use Rattle.jfs_tree.specs.Path.{broken_on_way, TellsBroken};
+ghost use Rattle.jfs_tree.specs.Path.{broken_on_way, found_on_way, TellsBroken};
 ghost use Rattle.jfs_tree.specs.Frames.{KeepsFramesTold};
 ghost use Rattle.jfs_tree.specs.Fresh.{HasPages};
 ghost use Rattle.jfs_tree.specs.Removes.{RemovesTold, TellsFreed, page_frees, page_no_redos, page_marks};
@@ -30,7 +30,7 @@ use std::alloc::{AllocError, Global};
 
 /// Takes the entry that shares a place with `x`, which is one place, out of a root's tree, and answers it. The transaction gets the changed lines, then
 /// a `NoRedo` of each page that is empty now and then a `Free` of each. A root whose last child goes is a leaf without entries. The first keys on the leftmost way stay
-/// the least ones. Where there is no such entry, and after an `Err`, root and transaction are as before.
+/// the least ones. Where there is no such entry, and after an `Err`, root and transaction are as before. What it answers is what the leaf at the end of the entry's way has, whatever stands elsewhere.
 pub fn remove_and_tell<V: PageView, F: PageLoss + PageLinks>(
     alloc: Global,
     top: &F,
@@ -63,6 +63,8 @@ pub fn remove_and_tell<V: PageView, F: PageLoss + PageLinks>(
     ensures bad { V.PageView.tells → IfErr result (λ e.
         NamesBroken F.PageForm.scale (read_as (F.PageForm.node form.now) (page_of (V.PageView.image view.old))) (F.PageForm.node top.now root.old) e) }
     ensures way { V.PageView.tells → TellsBroken (broken_on_way F.PageForm.scale (read_as (F.PageForm.node form.now) (page_of (V.PageView.image view.old))) (F.PageForm.scale.from x.now) (F.PageForm.node top.now root.old)) result }
+    ensures on_way { V.PageView.tells → IfOk result (λ found.
+        found ≡ found_on_way F.PageForm.scale (read_as (F.PageForm.node form.now) (page_of (V.PageView.image view.old))) x.now (F.PageForm.node top.now root.old)) }
 {
     let Ok(old) = copy_of(alloc, root) else {
         return Err(TreeError::Memory);

@@ -4,10 +4,10 @@ use Rattle.jfs_name.specs.declared.name.NameEntry.{NameEntry}
 use Rattle.jfs_bits.specs.declared.rule.PageKind.TheVariants.{Dtree}
 use Rattle.jfs_tree.specs.Changes.{TellsTaken}
 use Rattle.jfs_tree.specs.Fresh.{blocks_of}
-use Rattle.jfs_dtree.specs.Spells.{root_node, page_nodes, broken_for}
-use Rattle.jfs_dtree.specs.Room.{FollowsRoom, TightFrom}
-use Rattle.jfs_dtree.specs.Adding.{RefusesName, ClashesFor, AddTellsWay}
-use Rattle.jfs_dtree.proofs.Roots.{adds_as, refuses_as, takes_as, levels_as, found_no_room, shallow_follows, found_tells, deep_as, failed}
+use Rattle.jfs_dtree.specs.Spells.{root_node, page_nodes, broken_for, found_for}
+use Rattle.jfs_dtree.specs.Room.{FollowsRoom, TightFrom, deep_on_way}
+use Rattle.jfs_dtree.specs.Adding.{RefusesName, ClashesFor, AddTellsWay, AddFollowsWay}
+use Rattle.jfs_dtree.proofs.Roots.{adds_as, refuses_as, takes_as, levels_as, found_no_room, shallow_follows, found_tells, deep_as, failed, failed_adding, found_adding, way_deep_as}
 use Rattle.jfs_dtree.proofs.Refused.{refusal_tells}
 use Rattle.jfs_dtree.proofs.Frames.{named_as, parent_kept}
 use Rattle.jfs_dtree.proofs.adding.add.Goals as goal
@@ -106,3 +106,29 @@ returns-in-Ok-clause-named g c tells =
     named_as c.blocks-blocks.result (g.V.PageView.block_count c.is_deep.new.view) (g.V.PageView.block_count c.args.view.now) (g.V.PageView.image c.is_deep.new.view) (g.V.PageView.image c.args.view.now)
     c.args.root.now c.new-x.result (with_units c.args.name.now) (blocks_of c.args.fresh.now) (blocks_of c.add_and_tell.new.fresh) c.args.tx.now c.add_and_tell.new.tx
     (c.blocks-blocks.ensures ∙ sym c.is_deep.ensures.count_of_blocks) (c.is_deep.ensures.count_of_blocks ∙ c.find.ensures.count_of_blocks) (c.is_deep.ensures.image tells ∙ c.find.ensures.image tells) (c.new-x.ensures ∙ ap with_units c.as_slice.ensures) (c.in-Ok.ensures.framed tells)
+
+pub returns-in-Ok-clause-on_way : goal.returns-in-Ok-clause-on_way
+returns-in-Ok-clause-on_way g c tells = (
+  (sym (c.in-Ok-None.ensures.on_way tells) ∙ c.in-Ok-None.field-0-is),
+  way_deep_as c.blocks-blocks.result (g.V.PageView.block_count c.args.view.now) (g.V.PageView.image c.find.new.view) (g.V.PageView.image c.args.view.now) c.args.root.now c.args.name.now c.new-x.result c.in-Ok-false.field-0 false (c.blocks-blocks.ensures ∙ c.find.ensures.count_of_blocks) (c.find.ensures.image tells)
+      (ap (λ (e : NameEntry). e.name) c.new-x.ensures ∙ c.as_slice.ensures) c.in-Ok-false.field-0-test (c.in-Ok-false.ensures.on_way tells),
+)
+
+pub returns-in-Err-add_and_tell-clause-on_way : goal.returns-in-Err-add_and_tell-clause-on_way
+returns-in-Err-add_and_tell-clause-on_way g c tells =
+    let found = found_for (g.V.PageView.block_count c.args.view.now) (page_of (g.V.PageView.image c.args.view.now)) c.args.root.now c.args.name.now in
+    let deep = deep_on_way (g.V.PageView.block_count c.args.view.now) (page_of (g.V.PageView.image c.args.view.now)) c.args.root.now c.args.name.now in
+    subst (λ e. AddFollowsWay found deep (failed e)) (sym c.handed_on.ensures) (failed_adding found deep c.in-Err-add_and_tell.e)
+
+pub returns-in-Ok-true-clause-on_way : goal.returns-in-Ok-true-clause-on_way
+returns-in-Ok-true-clause-on_way g c tells = (
+  (sym (c.in-Ok-None.ensures.on_way tells) ∙ c.in-Ok-None.field-0-is),
+  way_deep_as c.blocks-blocks.result (g.V.PageView.block_count c.args.view.now) (g.V.PageView.image c.find.new.view) (g.V.PageView.image c.args.view.now) c.args.root.now c.args.name.now c.new-x.result c.in-Ok-true.field-0 true (c.blocks-blocks.ensures ∙ c.find.ensures.count_of_blocks) (c.find.ensures.image tells)
+      (ap (λ (e : NameEntry). e.name) c.new-x.ensures ∙ c.as_slice.ensures) c.in-Ok-true.field-0-test (c.in-Ok-true.ensures.on_way tells),
+)
+
+pub returns-in-Ok-Some-clause-on_way : goal.returns-in-Ok-Some-clause-on_way
+returns-in-Ok-Some-clause-on_way g c tells = (c.in-Ok-Some.field-0-0, sym (c.in-Ok-Some.ensures.on_way tells) ∙ c.in-Ok-Some.field-0-is)
+
+pub returns-in-Err-clause-on_way : goal.returns-in-Err-clause-on_way
+returns-in-Err-clause-on_way g c tells = found_adding (page_nodes (g.V.PageView.block_count c.args.view.now) (page_of (g.V.PageView.image c.args.view.now))) (root_node (g.V.PageView.block_count c.args.view.now) c.args.root.now) _ _ c.in-Err.e (c.in-Err.ensures.bad tells)

@@ -1,9 +1,12 @@
-use Rattle.std.proofs.Common.{refl, sym, ap, ◌∙◌, subst, ℕ, List}
+use Rattle.std.proofs.Common.{refl, sym, ap, ◌∙◌, subst, ℕ, List, Some, None, Err}
+use Rattle.std.specs.Option.{option_map}
 use Rattle.jfs_disk.specs.Image.{page_of}
 use Rattle.jfs_name.specs.declared.name.NameEntry.{NameEntry}
 use Rattle.jfs_dtree.specs.Laws.{point}
 use Rattle.jfs_dtree.specs.Removing.{MissesName}
-use Rattle.jfs_dtree.proofs.Roots.{first_as, told_failed}
+use Rattle.jfs_dtree.specs.Replacing.{FollowsWay}
+use Rattle.jfs_dtree.specs.Spells.{found_for}
+use Rattle.jfs_dtree.proofs.Roots.{failed_follows, first_as, found_as, told_failed}
 use Rattle.jfs_dtree.proofs.Lessened.{removes_as, missed_as, misses_as}
 use Rattle.jfs_dtree.proofs.Emptied.{left_as}
 use Rattle.jfs_dtree.proofs.Frames.{parent_kept}
@@ -52,3 +55,20 @@ returns-in-Ok-Some-clause-left g c tells =
 
 pub returns-in-Ok-Some-clause-parent : goal.returns-in-Ok-Some-clause-parent
 returns-in-Ok-Some-clause-parent g c = parent_kept c.args.root.now c.remove_and_tell.new.root c.remove_and_tell.ensures.frame
+
+pub returns-in-Ok-Some-clause-on_way : goal.returns-in-Ok-Some-clause-on_way
+returns-in-Ok-Some-clause-on_way g c tells =
+    let inode_of = λ (e : NameEntry). e.inode in
+    sym (found_as c.blocks-blocks.result (g.V.PageView.block_count c.args.view.now) (g.V.PageView.image c.args.view.now) c.args.root.now c.args.name.now c.as_slice.result.now c.new-x.result c.in-Ok-Some.field-0 (Some c.inode.result)
+    c.blocks-blocks.ensures c.new-x.ensures c.as_slice.ensures (ap Some c.inode.ensures ∙ sym (ap (option_map inode_of) c.in-Ok-Some.field-0-is)) (c.in-Ok-Some.ensures.on_way tells))
+
+pub returns-in-Ok-None-clause-on_way : goal.returns-in-Ok-None-clause-on_way
+returns-in-Ok-None-clause-on_way g c tells =
+    let inode_of = λ (e : NameEntry). e.inode in
+    sym (found_as c.blocks-blocks.result (g.V.PageView.block_count c.args.view.now) (g.V.PageView.image c.args.view.now) c.args.root.now c.args.name.now c.as_slice.result.now c.new-x.result c.in-Ok-None.field-0 None
+    c.blocks-blocks.ensures c.new-x.ensures c.as_slice.ensures (sym (ap (option_map inode_of) c.in-Ok-None.field-0-is)) (c.in-Ok-None.ensures.on_way tells))
+
+pub returns-in-Err-clause-on_way : goal.returns-in-Err-clause-on_way
+returns-in-Err-clause-on_way g c tells =
+    let found = found_for (g.V.PageView.block_count c.args.view.now) (page_of (g.V.PageView.image c.args.view.now)) c.args.root.now c.args.name.now in
+    subst (λ d. FollowsWay found (Err d)) (sym c.handed_on.ensures) (failed_follows found c.in-Err.e)

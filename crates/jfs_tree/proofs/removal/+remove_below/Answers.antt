@@ -5,9 +5,9 @@ use Rattle.jfs_tree.specs.Call.{pages_of, Finds}
 use Rattle.jfs_tree.specs.Path.{below_root, broken_below}
 use Rattle.jfs_tree.specs.Removal.{entry_of}
 use Rattle.jfs_tree.specs.declared.draft.Drafted.{Drafted}
-use Rattle.jfs_tree.proofs.Path.{way_deep, way_breaks, way_ends, way_is, way_fails, way_read}
+use Rattle.jfs_tree.proofs.Path.{way_deep, way_breaks, way_ends, way_is, way_fails, way_read, way_found_down}
 use Rattle.jfs_tree.proofs.Finding.{down_finds, down_breaks}
-use Rattle.jfs_tree.proofs.Removed.{here_shrank, here_found, down_shrank, down_found}
+use Rattle.jfs_tree.proofs.Removed.{here_shrank, here_found, here_on_way, down_shrank, down_found, down_on_way}
 use Rattle.jfs_tree.proofs.BytesKept.{here_less, down_less}
 use Rattle.jfs_tree.proofs.LeastKept.{here_goes, down_goes}
 use Rattle.jfs_tree.proofs.Framing.{here_less_framed, down_less_framed}
@@ -128,3 +128,24 @@ returns-in-Ok-Some-clause-framed g t c tells =
     let image = g.V.PageView.image c.args.view.now in
     down_less_framed (g.F.PageForm.frame c.args.form.now) image (g.V.PageView.image c.read.new.view) c.in-Ok.bytes.0 c.args.page c.remove_below.new.draft.pages.items c.remove_place.new.draft.pages.items c.remove_place.result (c.read.ensures.kept tells)
     (c.in-Ok.ensures.bytes tells ∙ ap (λ (d : List Drafted). shown d image c.args.page) c.requires.fresh) (c.in-Ok-Some.ensures.framed tells) c.remove_place.ensures.framed
+
+pub returns-in-Ok-Here-clause-on_way : goal.returns-in-Ok-Here-clause-on_way
+returns-in-Ok-Here-clause-on_way g t c tells =
+    let leads = subst (λ w. Leads g.F.PageForm.scale c.args.x.now (g.F.PageForm.node c.args.form.now c.bytes.result.now) (Ok w)) c.in-Ok-Here.field-0-is c.in-Ok-Here.ensures.way in
+    here_on_way (g.F.PageForm.node c.args.form.now) g.F.PageForm.scale c.args.x.now c.in-Ok.bytes.0 c.args.most (c.args.most - 1) c.args.page c.args.draft.now.pages.items c.remove_here.new.draft.pages.items c.args.freed.now.items c.remove_here.new.freed.items (g.V.PageView.image c.args.view.now)
+    c.remove_here.result (let h = c.if-most-eq0.false in omega (arith, h)) c.remove_here.ensures.did c.requires.fresh (c.in-Ok.ensures.bytes tells) (rw (sym c.bytes.ensures.value) leads)
+
+pub returns-in-Ok-Some-clause-on_way : goal.returns-in-Ok-Some-clause-on_way
+returns-in-Ok-Some-clause-on_way g t c tells =
+    let leads = subst (λ w. Leads g.F.PageForm.scale c.args.x.now (g.F.PageForm.node c.args.form.now c.bytes.result.now) (Ok w)) c.in-Ok-Down.field-0-is c.in-Ok-Down.ensures.way in
+    let image = g.V.PageView.image c.args.view.now in
+    down_on_way (g.F.PageForm.node c.args.form.now) g.F.PageForm.scale c.args.x.now image (g.V.PageView.image c.read.new.view) c.args.most (c.args.most - 1) c.args.page c.in-Ok-Down.place c.in-Ok-Down.child c.in-Ok-Down.field-0-2 c.in-Ok.bytes.0 c.in-Ok-Some.shrunk c.in-Ok-Some.field-0 c.remove_place.result
+    (let h = c.if-most-eq0.false in omega (arith, h)) c.remove_place.ensures.same (c.read.ensures.kept tells) (c.in-Ok.ensures.bytes tells ∙ ap (λ (d : List Drafted). shown d image c.args.page) c.requires.fresh) (rw (sym c.bytes.ensures.value) leads) c.in-Ok-Some.field-0-is (c.in-Ok-Some.ensures.on_way tells)
+
+pub returns-in-Ok-None-clause-on_way : goal.returns-in-Ok-None-clause-on_way
+returns-in-Ok-None-clause-on_way g t c tells =
+    let leads = subst (λ w. Leads g.F.PageForm.scale c.args.x.now (g.F.PageForm.node c.args.form.now c.bytes.result.now) (Ok w)) c.in-Ok-Down.field-0-is c.in-Ok-Down.ensures.way in
+    let image = g.V.PageView.image c.args.view.now in
+    way_found_down (g.F.PageForm.node c.args.form.now) g.F.PageForm.scale c.args.x.now image c.args.most (c.args.most - 1) c.args.page c.in-Ok.bytes.0 (let h = c.if-most-eq0.false in omega (arith, h))
+    (c.in-Ok.ensures.bytes tells ∙ ap (λ (d : List Drafted). shown d image c.args.page) c.requires.fresh) (g.V.PageView.image c.read.new.view) c.in-Ok-Down.place c.in-Ok-Down.child c.in-Ok-Down.field-0-2 (Ok None)
+    (c.read.ensures.kept tells) (rw (sym c.bytes.ensures.value) leads) (sym (ap entry_of c.in-Ok-None.field-0-is) ∙ c.in-Ok-None.ensures.on_way tells)

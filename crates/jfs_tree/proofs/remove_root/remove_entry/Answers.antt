@@ -1,13 +1,13 @@
-use Rattle.std.proofs.Common.{◌≡◌, sym, ◌∙◌, subst, ℕ, List, [], None, Some, Ok, IfNone}
+use Rattle.std.proofs.Common.{◌≡◌, sym, ap, ◌∙◌, subst, ℕ, List, [], None, Some, Ok, IfNone}
 use Rattle.jfs_tree.specs.Form.{Leads}
 use Rattle.jfs_tree.specs.Call.{nodes, pages_of, Finds}
 use Rattle.jfs_tree.specs.Shrink.{Shrank}
 use Rattle.jfs_tree.specs.Removal.{entry_of}
 use Rattle.jfs_tree.specs.RootLoss.{RemovesAlways}
 use Rattle.jfs_tree.specs.declared.draft.Drafted.{Drafted}
-use Rattle.jfs_tree.proofs.Path.{root_breaks, root_leaf, root_is, way_lost}
+use Rattle.jfs_tree.proofs.Path.{root_breaks, root_leaf, root_is, root_found_down, way_lost}
 use Rattle.jfs_tree.proofs.RootCalls.{names_root, names_below, down_always}
-use Rattle.jfs_tree.proofs.Removed.{ShrankTo}
+use Rattle.jfs_tree.proofs.Removed.{ShrankTo, root_takes}
 use Rattle.jfs_tree.proofs.RootLost.{here_removes, down_removes}
 use Rattle.jfs_tree.proofs.BytesKept.{LossKeeps, others_keep}
 use Rattle.jfs_tree.proofs.LeastKept.{GoesTo, leaf_root_goes, none_kept, nothing_goes, root_goes}
@@ -112,3 +112,21 @@ pub returns-in-Ok-None-clause-inner : goal.returns-in-Ok-None-clause-inner
 returns-in-Ok-None-clause-inner g c tells =
     nothing_goes (g.F.PageForm.node c.args.form.now) (g.V.PageView.image c.args.view.now) c.remove_below.new.draft.pages.items (g.F.PageForm.node c.args.top.now c.args.root.now) c.remove_below.new.freed.items
     (subst (λ o. IfNone o ((c.remove_below.new.draft.pages.items ≡ []) × (c.remove_below.new.freed.items ≡ c.args.freed.now.items))) c.in-Ok-None.field-0-is c.in-Ok-None.ensures.absent).0
+
+pub returns-in-Ok-Here-clause-on_way : goal.returns-in-Ok-Here-clause-on_way
+returns-in-Ok-Here-clause-on_way g c tells =
+    let leads = subst (λ w. Leads g.F.PageForm.scale c.args.x.now (g.F.PageForm.node c.args.top.now c.args.root.now) (Ok w)) c.in-Ok-Here.field-0-is c.in-Ok-Here.ensures.way in
+    root_takes g.F.PageForm.scale c.args.x.now (pages_of (g.F.PageForm.node c.args.form.now) (g.V.PageView.image c.args.view.now)) (g.F.PageForm.node c.args.top.now c.args.root.now) (g.F.PageForm.node c.args.top.now c.remove.new.bytes) leads.0 c.remove.result leads.1 c.remove.ensures.takes
+
+pub returns-in-Ok-Some-clause-on_way : goal.returns-in-Ok-Some-clause-on_way
+returns-in-Ok-Some-clause-on_way g c tells =
+    let leads = subst (λ w. Leads g.F.PageForm.scale c.args.x.now (g.F.PageForm.node c.args.top.now c.args.root.now) (Ok w)) c.in-Ok-Down.field-0-is c.in-Ok-Down.ensures.way in
+    ap Some c.root_loses.ensures.entry
+    ∙ root_found_down g.F.PageForm.scale c.args.x.now (pages_of (g.F.PageForm.node c.args.form.now) (g.V.PageView.image c.args.view.now)) (g.F.PageForm.node c.args.top.now c.args.root.now) c.in-Ok-Down.place c.in-Ok-Down.page (Ok (Some c.in-Ok-Some.shrunk.entry)) leads
+    (sym (ap entry_of c.in-Ok-Some.field-0-is) ∙ c.in-Ok-Some.ensures.on_way tells)
+
+pub returns-in-Ok-None-clause-on_way : goal.returns-in-Ok-None-clause-on_way
+returns-in-Ok-None-clause-on_way g c tells =
+    let leads = subst (λ w. Leads g.F.PageForm.scale c.args.x.now (g.F.PageForm.node c.args.top.now c.args.root.now) (Ok w)) c.in-Ok-Down.field-0-is c.in-Ok-Down.ensures.way in
+    root_found_down g.F.PageForm.scale c.args.x.now (pages_of (g.F.PageForm.node c.args.form.now) (g.V.PageView.image c.args.view.now)) (g.F.PageForm.node c.args.top.now c.args.root.now) c.in-Ok-Down.place c.in-Ok-Down.page (Ok None) leads
+    (sym (ap entry_of c.in-Ok-None.field-0-is) ∙ c.in-Ok-None.ensures.on_way tells)
