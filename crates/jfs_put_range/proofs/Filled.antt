@@ -2,7 +2,7 @@
 use Rattle.std.proofs.Common.{◌≡◌, ◌≤◌, ◌<◌, refl, sym, ap, ◌∙◌, subst, ℕ, zero, suc, Bool, true, false, List, [], ◌∷◌, ◌++◌, map, length, Option, arith}
 use Rattle.jfs_bits.specs.declared.extent.Xad.{Xad}
 use Rattle.jfs_tree.specs.Walk.{Child, Node, Leaf, Inner, Rises, times, under}
-use Rattle.jfs_tree.specs.Levels.{InLine, IsFilled, entry_count, pages_below}
+use Rattle.jfs_tree.specs.Levels.{InLine, IsFilled, IsFilledTo, entry_count, pages_below}
 use Rattle.jfs_tree.specs.Edit.{IsCons}
 use Rattle.jfs_tree.specs.Form.{HasChildren}
 use Rattle.jfs_tree.proofs.Filling.{line_front, line_both, numbers, numbers-append, numbers_under, children_stay}
@@ -34,7 +34,7 @@ entries_stay blocks old new levels depth key xs low high last r agree line =
     let cs = under key (map child_of xs) in
     let is : numbers cs ≡ pages_of_entries xs = numbers_under key (map child_of xs) ∙ pages_are xs in
     subst (InLine (IsFilled (page_nodes blocks new) depth) last) is
-    (children_stay xt_scale order (page_nodes blocks old) (page_nodes blocks new) levels depth cs low high last r (λ n some. ap (xt_node Full blocks) (agree n some)) (subst (InLine (IsFilled (page_nodes blocks old) depth) last) (sym is) line))
+    (children_stay 64 xt_scale order (page_nodes blocks old) (page_nodes blocks new) levels depth cs low high last r (λ n some. ap (xt_node Full blocks) (agree n some)) (subst (InLine (IsFilled (page_nodes blocks old) depth) last) (sym is) line))
 
 -- ---- two parts, one beside the other
 
@@ -45,7 +45,7 @@ pub both_keep : (end : Bool) (blocks : ℕ) (before middle after : ℕ → List 
     → KeepsFilled end blocks before after (pages_of_entries (e ∷ r ∷ rs)) (pages_of_entries (hs ++ ts))
 both_keep end blocks before middle after height key bound low e r rs hs ts mid high rb keeps rh later h t depth last ends line =
     subst (InLine (IsFilled (page_nodes blocks after) depth) last) (sym (pages_both hs ts))
-    (line_both (page_nodes blocks after) depth last (pages_of_entries hs) (pages_of_entries ts)
+    (line_both 64 (page_nodes blocks after) depth last (pages_of_entries hs) (pages_of_entries ts)
     (entries_stay blocks middle after height depth key hs low mid false rh later (h depth false (λ e. absurd cc) line.0))
     (t depth last ends (entries_stay blocks before middle height depth bound (r ∷ rs) bound high last rb keeps line.1)))
 
@@ -57,7 +57,7 @@ not_full end true ends e = absurd (let h = ends refl in cc)
 not_full end false ends e = refl
 
 leaf_filled : (nodes : ℕ → Node ℕ Xad) (depth n : ℕ) (last : Bool) (es : List Xad) → nodes n ≡ Leaf es → (last ≡ false → 64 ≤ length es) → IsFilled nodes depth last n
-unfolding IsFilled
+unfolding IsFilledTo
 leaf_filled nodes zero n last es is enough = tt
 leaf_filled nodes (suc depth) n last es is enough = (
   (λ e. subst (λ (b : Node ℕ Xad). 64 ≤ entry_count b) (sym is) (enough e)),
@@ -65,7 +65,7 @@ leaf_filled nodes (suc depth) n last es is enough = (
 )
 
 pub leaf_keeps : (end : Bool) (blocks : ℕ) (before after : ℕ → List ℕ) (n : ℕ) (es list : List Xad) → page_nodes blocks before n ≡ Leaf es → page_nodes blocks after n ≡ Leaf list → length es ≤ length list → KeepsFilled end blocks before after (n ∷ []) (n ∷ [])
-unfolding IsFilled
+unfolding IsFilledTo
 leaf_keeps end blocks before after n es list was is more zero last ends filled = tt
 leaf_keeps end blocks before after n es list was is more (suc depth) last ends filled =
     leaf_filled (page_nodes blocks after) (suc depth) n last list is (λ e. (let h = filled.0 e in let c = ap (λ (b : Node ℕ Xad). entry_count b) was in omega (arith, h, c, more)))
@@ -82,7 +82,7 @@ leaf_fills end blocks before after n q front back first second f b depth last en
 -- ---- inner pages
 
 has_filled : (nodes : ℕ → Node ℕ Xad) (depth n : ℕ) (last : Bool) (cs : List (Child ℕ)) → HasChildren (nodes n) cs → (last ≡ false → 64 ≤ entry_count (nodes n)) → InLine (IsFilled nodes depth) last (numbers cs) → IsFilled nodes (suc depth) last n
-unfolding IsFilled
+unfolding IsFilledTo
 has_filled nodes depth n last cs has enough line = (
   enough,
   subst (InLine (IsFilled nodes depth) last)
@@ -101,7 +101,7 @@ line_below end blocks before middle after n lower depth key high es made last wa
 pub inner_keeps : (end : Bool) (blocks : ℕ) (before middle after : ℕ → List ℕ) (n lower key : ℕ) (high : Option ℕ) (es made : List Xad) → page_nodes blocks before n ≡ Inner (map child_of es) → Rises xt_scale key (parts_under blocks middle (suc lower) key made) high
     → ((m : ℕ) → 0 < times m (parts_under blocks middle (suc lower) key made) → after m ≡ middle m) → KeepsFilled end blocks before middle (pages_of_entries es) (pages_of_entries made)
     → length es ≤ length made → 0 < length made → page_nodes blocks after n ≡ Inner (map child_of made) → KeepsFilled end blocks before after (n ∷ []) (n ∷ [])
-unfolding IsFilled
+unfolding IsFilledTo
 inner_keeps end blocks before middle after n lower key high es made was r agree keeps more some is zero last ends filled = tt
 inner_keeps end blocks before middle after n lower key high es made was r agree keeps more some is (suc depth) last ends filled =
     has_filled (page_nodes blocks after) depth n last (map child_of made) (record { children = map child_of made; is = is; some = cons made some; same = λ k. refl })
@@ -116,7 +116,7 @@ pub inner_fills : (end : Bool) (blocks : ℕ) (before middle after : ℕ → Lis
     → Rises xt_scale key (parts_under blocks middle (suc lower) key made) high → ((m : ℕ) → 0 < times m (parts_under blocks middle (suc lower) key made) → after m ≡ middle m) → KeepsFilled end blocks before middle (pages_of_entries es) (pages_of_entries made)
     → map child_of made ≡ front ++ first ∷ back → HasChildren (page_nodes blocks after n) front → HasChildren (page_nodes blocks after q) (first ∷ back) → 64 ≤ entry_count (page_nodes blocks after n) → (end ≡ false → 64 ≤ entry_count (page_nodes blocks after q))
     → KeepsFilled end blocks before after (n ∷ []) (n ∷ q ∷ [])
-unfolding IsFilled
+unfolding IsFilledTo
 inner_fills end blocks before middle after n q lower key high es made front first back was r agree keeps all here there f b zero last ends filled = (tt, tt)
 inner_fills end blocks before middle after n q lower key high es made front first back was r agree keeps all here there f b (suc depth) last ends filled =
     let line = subst (InLine (IsFilled (page_nodes blocks after) depth) last) (ap numbers all ∙ numbers-append front (first ∷ back)) (line_below end blocks before middle after n lower depth key high es made last was r agree keeps ends filled.1) in

@@ -212,9 +212,9 @@ module _ (b blocks : ℕ) (form : XtForm) (image : Image) (root : List ℕ) (ds 
       (subst (λ (g : XtForm). FillsRange g blocks image root after ds drafts stack) ef (subst (λ (n : ℕ). FillsRange form n image root after ds drafts stack) eb fills)) in
       let agree = λ (n : ℕ) (h : n < blocks). ap (xt_node Full blocks) (told n h (base n) (leads n h).0 (leads n h).1) in
       let frame = λ (n : ℕ) (h : 0 < footprint xt_scale pages (xt_node f blocks after) n). agree n (footprint_within xt_scale pages (xt_node f blocks after) n blocks (has_pages f blocks after) (λ m. has_pages Full blocks (shown drafts image m)) h) in
-      filled_not_thin (with_root (xt_node f blocks after) now) page
-      (filled_same xt_scale order pages now (xt_node f blocks after) (with_range xs es) (steps_there ys xs after drafts rest ex steps es spelled (clear spare)).spelled frame
-      (fills_there es spelled (clear spare) (filled_of xt_scale order (page_nodes blocks (page_of image)) (xt_node f blocks root) es spelled none)))
+      filled_not_thin 64 (with_root (xt_node f blocks after) now) page
+      (filled_same 64 xt_scale order pages now (xt_node f blocks after) (with_range xs es) (steps_there ys xs after drafts rest ex steps es spelled (clear spare)).spelled frame
+      (fills_there es spelled (clear spare) (filled_of 64 xt_scale order (page_nodes blocks (page_of image)) (xt_node f blocks root) es spelled none)))
 
   pub refuses_deep : (e : TreeError) → RefusesRange form b image root ds stack e → RefusesOnlyDeep blocks (page_of image) root free e
   refuses_deep e h es spelled spare =

@@ -2,7 +2,7 @@
 use Rattle.std.proofs.Common.{◌≡◌, ◌≢◌, ◌≤◌, ◌<◌, ◌⊎◌, inl, inr, refl, sym, ap, ◌∙◌, subst, ℕ, zero, suc, ◌+◌, true, List, [], ◌∷◌, ◌++◌, ◌==◌, if◌then◌else◌, None, Ok, arith}
 use Rattle.jfs_disk.specs.Image.{Image}
 use Rattle.jfs_tree.specs.Walk.{Node, Inner, Marks, Scale, Rises, IsOrder, rows_of, times, placed, body, walk}
-use Rattle.jfs_tree.specs.Levels.{InLine, IsFilled, pages_below}
+use Rattle.jfs_tree.specs.Levels.{InLine, IsFilled, IsFilledTo, pages_below}
 use Rattle.jfs_tree.specs.Spells.{no_page, with_root, top, tree_of, footprint}
 use Rattle.jfs_tree.specs.Edit.{count_in}
 use Rattle.jfs_tree.specs.Form.{AllBelow, IsFront}
@@ -33,7 +33,7 @@ not_taken q n t r f l h e p i = grind arith
 -- a root below which one page stands, which holds what was to stand at the root
 moved_filled : {P E : Type 0} (nodes : ℕ → Node P E) (q : ℕ) (key : P) (taken after : Node P E) → nodes no_page ≡ after → after ≡ Inner (record { key = key; page = q } ∷ []) → nodes q ≡ taken
     → ((depth : ℕ) → InLine (IsFilled nodes depth) true (pages_below taken)) → (depth : ℕ) → IsFilled nodes depth true no_page
-unfolding IsFilled
+unfolding IsFilledTo
 moved_filled nodes q key taken after root is at line zero = tt
 moved_filled {P} {E} nodes q key taken after root is at line (suc zero) = ((λ e. absurd cc), subst (λ (n : Node P E). InLine (IsFilled nodes 0) true (pages_below n)) (sym (root ∙ is)) tt)
 moved_filled {P} {E} nodes q key taken after root is at line (suc (suc depth)) = (
@@ -43,7 +43,7 @@ moved_filled {P} {E} nodes q key taken after root is at line (suc (suc depth)) =
 
 -- the pages below a root's content
 below_filled : {P E : Type 0} (nodes : ℕ → Node P E) (node : Node P E) → nodes no_page ≡ node → ((depth : ℕ) → IsFilled nodes depth true no_page) → (depth : ℕ) → InLine (IsFilled nodes depth) true (pages_below node)
-unfolding IsFilled
+unfolding IsFilledTo
 below_filled {P} {E} nodes node is filled depth = subst (λ (n : Node P E). InLine (IsFilled nodes depth) true (pages_below n)) is (filled (suc depth)).1
 
 settled_filled : {P E : Type 0} (s : Scale P E) → IsOrder s → (mid new : ℕ → Node P E) (taken after : Node P E) (levels : ℕ) (between left : List ℕ) → count_in no_page between ≡ 0
@@ -51,7 +51,7 @@ settled_filled : {P E : Type 0} (s : Scale P E) → IsOrder s → (mid new : ℕ
     → Settled s levels taken mid new after between left → ((depth : ℕ) → IsFilled (with_root taken mid) depth true no_page) → (depth : ℕ) → IsFilled (with_root after new) depth true no_page
 unfolding walk
 settled_filled {P} {E} s o mid new taken after levels between left apart rises once (inl (same, pages, counts)) filled =
-    filled_frame s o (with_root taken mid) (with_root after new) levels s.least s.least None rises (λ n p. ap (λ r. with_root r new n) same ∙ ap (λ m. if n == no_page then taken else m) (pages n)) filled
+    filled_frame 64 s o (with_root taken mid) (with_root after new) levels s.least s.least None rises (λ n p. ap (λ r. with_root r new n) same ∙ ap (λ m. if n == no_page then taken else m) (pages n)) filled
 settled_filled {P} {E} s o mid new taken after zero between left apart rises once (inr (q, deep, is, here, pages, counts)) filled = absurd rises
 settled_filled {P} {E} s o mid new taken after (suc lower) between left apart rises once (inr (q, deep, is, here, pages, counts)) filled =
     let before = with_root taken mid in
@@ -62,7 +62,7 @@ settled_filled {P} {E} s o mid new taken after (suc lower) between left apart ri
     let nr = not_root n (times n ms) (count_in n between) (once n) t in
     root_else after new n nr ∙ pages n (not_taken q n (times n ms) (if no_page == n then 1 else 0) (count_in n between) (count_in n left) (once n) (counts n) t) ∙ sym (root_else taken mid n nr) in
     moved_filled now q s.least taken after refl is (root_else after new q off ∙ here)
-    (λ depth. below_stays s o before now lower depth (top s) taken s.least None true rises.1 agree (below_filled before taken refl filled depth))
+    (λ depth. below_stays 64 s o before now lower depth (top s) taken s.least None true rises.1 agree (below_filled before taken refl filled depth))
 
 -- ---- what stands
 

@@ -104,7 +104,7 @@ leaf_stood blocks image list rest es old root free is some rises below within sp
 
 -- its levels are filled, with no page below it
 pub leaf_filled : (pages : ℕ → Node ℕ Xad) (root : Node ℕ Xad) (list : List Xad) → AreFilled (with_root root pages) → AreFilled (with_root (Leaf list) pages)
-leaf_filled pages root list filled depth = page_filled (with_root root pages) (with_root (Leaf list) pages) no_page (Leaf list) (λ d line. tt) refl depth (filled depth)
+leaf_filled pages root list filled depth = page_filled 64 (with_root root pages) (with_root (Leaf list) pages) no_page (Leaf list) (λ d line. tt) refl depth (filled depth)
 
 -- ---- an inner page
 
@@ -134,7 +134,7 @@ line_stays : (old new : ℕ → Node ℕ Xad) (levels depth : ℕ) (xs : List Xa
 line_stays old new levels depth xs rises agree line =
     let cs = under 0 (map child_of xs) in
     let is : numbers cs ≡ pages_of_entries xs = numbers_under 0 (map child_of xs) ∙ pages_are xs in
-    subst (InLine (IsFilled new depth) true) is (children_stay xt_scale order old new levels depth cs 0 None true rises agree (subst (InLine (IsFilled old depth) true) (sym is) line))
+    subst (InLine (IsFilled new depth) true) is (children_stay 64 xt_scale order old new levels depth cs 0 None true rises agree (subst (InLine (IsFilled old depth) true) (sym is) line))
 
 -- the part below a root, as the walk of the whole tree has it
 record Below (blocks : ℕ) (pages : ℕ → List ℕ) (root : Node ℕ Xad) (entries es : List Xad) (free : List ℕ) (ms : Marks ℕ Xad) : Type 0 where
@@ -236,7 +236,7 @@ inner_stood blocks image xs entries made es old mid root levels free between ran
       deep = b.deep ∙ ap (λ l. Some l) all;
       most = subst (λ l. l ≤ 8) all b.most;
       rises = w.3.order 0 rising (λ e. refl);
-      fills = λ filled depth. page_filled (with_root root (drafted blocks old image)) (with_root (inner made) pages) no_page (inner made)
+      fills = λ filled depth. page_filled 64 (with_root root (drafted blocks old image)) (with_root (inner made) pages) no_page (inner made)
           (λ d line. subst (InLine (IsFilled (with_root (inner made) pages) d) true) (sym (pages_are made))
           (line_stays pages (with_root (inner made) pages) (suc b.lower) d made w.0.rises (λ n p. root_else (inner made) pages n (away new off n p))
           (w.5 d true (λ e. refl) (b.line d (subst (InLine (IsFilled (with_root root (drafted blocks old image)) d) true) (pages_are entries)

@@ -29,7 +29,7 @@ begins_at : (bytes : List ℕ) (m key : ℕ) → 0 < m → key ≡ (entry_of byt
 begins_at bytes zero key l e = absurd (omega (arith, l))
 begins_at bytes (suc m) key l e = e
 
-fills_both : (full : Bool) (first second : Node ℕ Xad) (a b : ℕ) → entry_count first ≡ a → entry_count second ≡ b → 64 ≤ a → (full ≡ false → 64 ≤ b) → FillsBoth full first second
+fills_both : (full : Bool) (first second : Node ℕ Xad) (a b : ℕ) → entry_count first ≡ a → entry_count second ≡ b → 64 ≤ a → (full ≡ false → 64 ≤ b) → FillsBoth 64 full first second
 fills_both full first second a b l r ha hb = record { left_has = omega (arith, l, ha); right_has = λ e. (let h = hb e in omega (arith, r, h)) }
 
 -- children in two parts

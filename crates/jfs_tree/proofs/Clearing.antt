@@ -1,5 +1,5 @@
 -- An entry that shares no place with what stands where its way leads.
-use Rattle.std.proofs.Common.{◌≡◌, refl, sym, ap, ◌∙◌, subst, ℕ, suc, List, [], ◌∷◌, ◌++◌, Result, Ok, Err, OnOk, Some}
+use Rattle.std.proofs.Common.{◌≡◌, refl, sym, ◌∙◌, subst, ℕ, suc, List, [], ◌∷◌, ◌++◌, Result, Ok, Err, OnOk}
 use Rattle.jfs_disk.specs.Image.{Image, page_of}
 use Rattle.jfs_tree.specs.Walk.{Child, Node, Leaf, Scale}
 use Rattle.jfs_tree.specs.Edit.{IsApart}

@@ -1,5 +1,5 @@
 -- What pages have beside entries, kind and links, where an entry comes or goes.
-use Rattle.std.proofs.Common.{◌≡◌, ◌≢◌, ◌≤◌, ◌<◌, inl, inr, refl, sym, ap, ◌∙◌, subst, ℕ, zero, suc, ◌+◌, ◌==◌, if◌then◌else◌, Bool, true, false, List, [], ◌∷◌, ◌++◌, Option, Some, None, Result, Ok, Err, IfOk, IfSome, OnOk, arith}
+use Rattle.std.proofs.Common.{◌≡◌, ◌≢◌, ◌≤◌, ◌<◌, inl, inr, refl, sym, ap, ◌∙◌, subst, ℕ, suc, ◌+◌, ◌==◌, if◌then◌else◌, Bool, true, false, List, [], ◌∷◌, ◌++◌, Option, Result, Ok, Err, IfOk, OnOk, arith}
 use Rattle.std.specs.Prelude.{reverse}
 use Rattle.std.proofs.lemmas.Bool.{cases_eq}
 use Rattle.jfs_disk.specs.Image.{Image, page_of}
@@ -10,7 +10,7 @@ use Rattle.jfs_tree.specs.Edit.{Grew, count_in, own}
 use Rattle.jfs_tree.specs.Form.{AllBelow, IsFront, LeadsDown, children_of}
 use Rattle.jfs_tree.specs.Draft.{shown}
 use Rattle.jfs_tree.specs.Call.{PutsOne, PutsTwo, StaysOff, StaysTaken, nodes}
-use Rattle.jfs_tree.specs.Frames.{FramesAlways, FramesTold, GrowsFramed, IsTaken, KeepsFrames, KeepsFramesAt, KeepsFramesTold, NamesTaken, TakesFramed}
+use Rattle.jfs_tree.specs.Frames.{FramesAlways, FramesTold, GrowsFramed, KeepsFrames, KeepsFramesAt, KeepsFramesTold, NamesTaken, TakesFramed}
 use Rattle.jfs_tree.specs.Removal.{Settles}
 use Rattle.jfs_tree.specs.Root.{IsSpare}
 use Rattle.jfs_tree.specs.Tell.{TellsDraft}
@@ -20,7 +20,6 @@ use Rattle.jfs_tree.specs.declared.draft.Drafted.{Drafted}
 use Rattle.jfs_tree.specs.declared.form.Sibling.{Sibling}
 use Rattle.jfs_tree.specs.declared.form.TreeError.{TreeError}
 use Rattle.jfs_tree.specs.declared.grow.Grown.{Grown}
-use Rattle.jfs_tree.specs.declared.removal.Shrunk.{Shrunk}
 use Rattle.jfs_tree.proofs.Adds.{spare_reversed}
 use Rattle.jfs_tree.proofs.BytesKept.{away, counts_between, fewer_taken, off_child, one_suc}
 use Rattle.jfs_tree.proofs.Growing.{leaf_other, not_taken}

@@ -1,5 +1,5 @@
 -- What is found on the way of an entry is what the list has.
-use Rattle.std.proofs.Common.{◌≡◌, ◌≤◌, inl, inr, refl, sym, ap, ◌∙◌, subst, ℕ, zero, suc, List, [], ◌∷◌, ◌++◌, Option, Some, None, true, arith}
+use Rattle.std.proofs.Common.{◌≡◌, ◌≤◌, inl, inr, refl, sym, ap, ◌∙◌, subst, ℕ, zero, suc, [], ◌∷◌, Option, Some, None, true, arith}
 use Rattle.jfs_tree.specs.Walk.{Child, Node, Leaf, Inner, Broken, Scale, Rises, IsOrder, rows_of, placed, body, walk}
 use Rattle.jfs_tree.specs.Spells.{with_root, top}
 use Rattle.jfs_tree.specs.Edit.{IsPoint, found_in, own}

@@ -3,7 +3,7 @@ use Rattle.std.specs.Prelude.{◌≡◌, ◌≤◌, ◌==◌, ◌&&◌, ℕ, suc
 use Rattle.jfs_disk.specs.Image.{Image}
 use Rattle.jfs_tree.specs.Walk.{Child, Node, Leaf, Inner, Scale, walk}
 use Rattle.jfs_tree.specs.Spells.{no_page, with_root, spells}
-use Rattle.jfs_tree.specs.Levels.{InLine, IsFilled, HasNoThin, entry_count}
+use Rattle.jfs_tree.specs.Levels.{InLine, IsFilledTo, HoldsLeast, entry_count}
 use Rattle.jfs_tree.specs.Edit.{Grew, IsApart, Ready}
 use Rattle.jfs_tree.specs.Form.{LeadsDown, children_of}
 use Rattle.jfs_tree.specs.Root.{IsSpare}
@@ -15,37 +15,37 @@ use Rattle.jfs_ranges.specs.declared.edit.Edit.{Edit}
 use Rattle.jfs_tree.specs.declared.draft.Drafted.{Drafted}
 use Rattle.jfs_tree.specs.declared.form.Sibling.{Sibling}
 
--- Of the two pages that a full one became each has at least 64 entries; where the page was the last one of its level, the new one is it, and may have fewer.
-pub record FillsBoth {P E : Type 0} (last : Bool) (left right : Node P E) : Type 0 where
-  pub left_has : 64 ≤ entry_count left
-  pub right_has : last ≡ false → 64 ≤ entry_count right
+-- Of the two pages that a full one became each has at least so many entries; where the page was the last one of its level, the new one is it, and may have fewer.
+pub record FillsBoth {P E : Type 0} (least : ℕ) (last : Bool) (left right : Node P E) : Type 0 where
+  pub left_has : least ≤ entry_count left
+  pub right_has : last ≡ false → least ≤ entry_count right
 
--- Whatever list the root spelled, if the entry is apart from it and the free blocks aren't pages of the tree: where no page was thin, none is in the pages to which the edits lead.
-abbrev pub NoThinTold : {P E : Type 0} → Scale P E → (List ℕ → Node P E) → ℕ → (ℕ → List ℕ) → E → Node P E → Node P E → List ℕ → List Edit → List Edit → Type 0
-NoThinTold {E = E} s node blocks pages x root after free tx later = (base : ℕ → List ℕ) → LeadsTo blocks base tx pages → (es : List E) → spells s (read_as node pages) root ≡ Ok es → IsApart s x es → IsSpare s (read_as node pages) root free
-    → HasNoThin (with_root root (read_as node pages)) → HasNoThin (with_root after (read_as node (after_tx base later)))
+-- Whatever list the root spelled, if the entry is apart from it and the free blocks aren't pages of the tree: where each page but the last of its level held at least so many entries, each does in the pages to which the edits lead.
+abbrev pub LeastTold : {P E : Type 0} → ℕ → Scale P E → (List ℕ → Node P E) → ℕ → (ℕ → List ℕ) → E → Node P E → Node P E → List ℕ → List Edit → List Edit → Type 0
+LeastTold {E = E} least s node blocks pages x root after free tx later = (base : ℕ → List ℕ) → LeadsTo blocks base tx pages → (es : List E) → spells s (read_as node pages) root ≡ Ok es → IsApart s x es → IsSpare s (read_as node pages) root free
+    → HoldsLeast least (with_root root (read_as node pages)) → HoldsLeast least (with_root after (read_as node (after_tx base later)))
 
 -- ---- parts of a call, for the prover alone
 
 -- Where a page and those below it were filled, they are, perhaps with one more page beside the page.
-abbrev pub StaysFilled : {P E : Type 0} → Scale P E → E → (ℕ → Node P E) → (ℕ → Node P E) → ℕ → ℕ → Bool → List (Child P) → List ℕ → Type 0
-StaysFilled {P} s x before after levels page last more free = (key low : P) (high : Option P) (depth : ℕ) → Ready s x key low (walk s before levels (record { key = key; page = page })) high free
-    → IsFilled before depth last page → InLine (IsFilled after depth) last (page ∷ map (λ (c : Child P). c.page) more)
+abbrev pub StaysFilled : {P E : Type 0} → ℕ → Scale P E → E → (ℕ → Node P E) → (ℕ → Node P E) → ℕ → ℕ → Bool → List (Child P) → List ℕ → Type 0
+StaysFilled {P} least s x before after levels page last more free = (key low : P) (high : Option P) (depth : ℕ) → Ready s x key low (walk s before levels (record { key = key; page = page })) high free
+    → IsFilledTo least before depth last page → InLine (IsFilledTo least after depth) last (page ∷ map (λ (c : Child P). c.page) more)
 
 -- a leaf took an entry
-abbrev pub HereFilled : {P E : Type 0} → (List ℕ → Node P E) → Scale P E → E → List ℕ → ℕ → Bool → List Drafted → List Drafted → List ℕ → Option (Sibling P) → Type 0
-HereFilled {E = E} node s x bytes page last old new free more = (image : Image) (es : List E) → bytes ≡ shown old image page → node bytes ≡ Leaf es
-    → StaysFilled s x (nodes node old image) (nodes node new image) 1 page last (children_of more) free
+abbrev pub HereFilled : {P E : Type 0} → ℕ → (List ℕ → Node P E) → Scale P E → E → List ℕ → ℕ → Bool → List Drafted → List Drafted → List ℕ → Option (Sibling P) → Type 0
+HereFilled {E = E} least node s x bytes page last old new free more = (image : Image) (es : List E) → bytes ≡ shown old image page → node bytes ≡ Leaf es
+    → StaysFilled least s x (nodes node old image) (nodes node new image) 1 page last (children_of more) free
 
 -- an inner page whose child grew
-abbrev pub ChildFilled : {P E : Type 0} → (List ℕ → Node P E) → Scale P E → List ℕ → ℕ → ℕ → Bool → Option (Sibling P) → List Drafted → List Drafted → List ℕ → Option (Sibling P) → Type 0
-ChildFilled {P} {E} node s bytes page place last more old new between out = (image : Image) (x : E) (before : ℕ → Node P E) (lower child : ℕ) (free : List ℕ) (at_end : Bool)
+abbrev pub ChildFilled : {P E : Type 0} → ℕ → (List ℕ → Node P E) → Scale P E → List ℕ → ℕ → ℕ → Bool → Option (Sibling P) → List Drafted → List Drafted → List ℕ → Option (Sibling P) → Type 0
+ChildFilled {P} {E} least node s bytes page place last more old new between out = (image : Image) (x : E) (before : ℕ → Node P E) (lower child : ℕ) (free : List ℕ) (at_end : Bool)
     → before page ≡ node bytes → LeadsDown s x (node bytes) place child → ((cs : List (Child P)) → node bytes ≡ Inner cs → at_end ≡ (suc place == length cs))
     → Grew s x before (nodes node old image) (suc lower) child (children_of more) free between
-    → StaysFilled s x before (nodes node old image) (suc lower) child (last && at_end) (children_of more) free
-    → StaysFilled s x before (nodes node new image) (suc (suc lower)) page last (children_of out) free
+    → StaysFilled least s x before (nodes node old image) (suc lower) child (last && at_end) (children_of more) free
+    → StaysFilled least s x before (nodes node new image) (suc (suc lower)) page last (children_of out) free
 
 -- a whole tree that took an entry
-abbrev pub FillsAlways : {P E : Type 0} → Scale P E → E → (ℕ → Node P E) → (ℕ → Node P E) → Node P E → Node P E → List ℕ → Type 0
-FillsAlways {E = E} s x old new root after free = (es : List E) → spells s old root ≡ Ok es → IsApart s x es → IsSpare s old root free
-    → ((depth : ℕ) → IsFilled (with_root root old) depth true no_page) → (depth : ℕ) → IsFilled (with_root after new) depth true no_page
+abbrev pub FillsAlways : {P E : Type 0} → ℕ → Scale P E → E → (ℕ → Node P E) → (ℕ → Node P E) → Node P E → Node P E → List ℕ → Type 0
+FillsAlways {E = E} least s x old new root after free = (es : List E) → spells s old root ≡ Ok es → IsApart s x es → IsSpare s old root free
+    → ((depth : ℕ) → IsFilledTo least (with_root root old) depth true no_page) → (depth : ℕ) → IsFilledTo least (with_root after new) depth true no_page

@@ -19,18 +19,25 @@ unfoldable pub level : {P E : Type 0} → (ℕ → Node P E) → ℕ → List �
 level nodes zero = no_page ∷ []
 level nodes (suc depth) = flat_map (λ n. pages_below (nodes n)) (level nodes depth)
 
--- a page with fewer than 64 entries that isn't the last of its level
-pub record IsThinIn {P E : Type 0} (nodes : ℕ → Node P E) (page : ℕ) : Type 0 where
+-- a page with fewer entries than these that isn't the last of its level
+pub record IsShort {P E : Type 0} (least : ℕ) (nodes : ℕ → Node P E) (page : ℕ) : Type 0 where
   pub depth : ℕ
   pub front : List ℕ
   pub next : ℕ
   pub back : List ℕ
   pub stands : level nodes depth ≡ front ++ page ∷ next ∷ back
-  pub few : entry_count (nodes page) < 64
+  pub few : entry_count (nodes page) < least
 
--- no page is thin: each page but the last of its level holds at least 64 entries
+-- each page but the last of its level holds at least so many entries
+abbrev pub HoldsLeast : {P E : Type 0} → ℕ → (ℕ → Node P E) → Type 0
+HoldsLeast least nodes = (page : ℕ) → IsShort least nodes page → ⊥
+
+-- a page is thin with fewer than 64 entries
+abbrev pub IsThinIn : {P E : Type 0} → (ℕ → Node P E) → ℕ → Type 0
+IsThinIn nodes page = IsShort 64 nodes page
+
 abbrev pub HasNoThin : {P E : Type 0} → (ℕ → Node P E) → Type 0
-HasNoThin nodes = (page : ℕ) → IsThinIn nodes page → ⊥
+HasNoThin nodes = HoldsLeast 64 nodes
 
 -- ---- the same from the top down, for the prover alone
 
@@ -40,7 +47,10 @@ InLine holds last [] = ⊤
 InLine holds last (n ∷ []) = holds last n
 InLine holds last (n ∷ m ∷ ns) = holds false n × InLine holds last (m ∷ ns)
 
--- A page and those below it, so many levels deep, have at least 64 entries; where the page is the last one of its level, the last one of each level may have fewer.
-unfoldable pub IsFilled : {P E : Type 0} → (ℕ → Node P E) → ℕ → Bool → ℕ → Type 0
-IsFilled nodes zero last page = ⊤
-IsFilled nodes (suc depth) last page = (last ≡ false → 64 ≤ entry_count (nodes page)) × InLine (IsFilled nodes depth) last (pages_below (nodes page))
+-- A page and those below it, so many levels deep, have at least so many entries; where the page is the last one of its level, the last one of each level may have fewer.
+unfoldable pub IsFilledTo : {P E : Type 0} → ℕ → (ℕ → Node P E) → ℕ → Bool → ℕ → Type 0
+IsFilledTo least nodes zero last page = ⊤
+IsFilledTo least nodes (suc depth) last page = (last ≡ false → least ≤ entry_count (nodes page)) × InLine (IsFilledTo least nodes depth) last (pages_below (nodes page))
+
+abbrev pub IsFilled : {P E : Type 0} → (ℕ → Node P E) → ℕ → Bool → ℕ → Type 0
+IsFilled nodes depth last page = IsFilledTo 64 nodes depth last page

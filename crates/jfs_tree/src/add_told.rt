@@ -7,7 +7,7 @@ ghost use Rattle.jfs_tree.specs.Adds.{read_as, on_page, AddsTold, LevelsTold, Re
 ghost use Rattle.jfs_tree.specs.Room.{TakesWhereFull, FullFrom, GrowsLevel};
 ghost use Rattle.jfs_tree.specs.Call.{CarriesFault, IsRead};
 ghost use Rattle.jfs_tree.specs.Changes.{TellsChanges, TellsTaken};
-ghost use Rattle.jfs_tree.specs.Filled.{NoThinTold};
+ghost use Rattle.jfs_tree.specs.Filled.{LeastTold};
 ghost use Rattle.jfs_tree.specs.Apart.{ApartOnWay};
 ghost use Rattle.jfs_tree.specs.Form.{AllBelow};
 ghost use Rattle.jfs_tree.specs.Frames.{FramesTold};
@@ -60,7 +60,7 @@ pub fn add_and_tell<V: PageView, F: PageLinks>(
         (F.PageForm.node top.now root.old) (F.PageForm.node top.now root.new) (blocks_of fresh.old) (blocks_of fresh.new) tx.old tx.new) }
     ensures taken { OnOk result (TakenInOrder (blocks_of fresh.old) (blocks_of fresh.new) tx.old tx.new) }
     ensures edits { V.PageView.tells → OnOk result (TellsTaken (V.PageView.block_count view.old) kind (page_of (V.PageView.image view.old)) (blocks_of fresh.old) (blocks_of fresh.new) tx.old tx.new) }
-    ensures thin { F.PageForm.fills → V.PageView.tells → OnOk result (NoThinTold F.PageForm.scale (F.PageForm.node form.now) (V.PageView.block_count view.old) (page_of (V.PageView.image view.old)) x.now
+    ensures thin { (least : ℕ) → F.PageForm.fills least → V.PageView.tells → OnOk result (LeastTold least F.PageForm.scale (F.PageForm.node form.now) (V.PageView.block_count view.old) (page_of (V.PageView.image view.old)) x.now
         (F.PageForm.node top.now root.old) (F.PageForm.node top.now root.new) (blocks_of fresh.old) tx.old tx.new) }
     ensures framed { V.PageView.tells → OnOk result (FramesTold F.PageForm.scale (F.PageForm.node form.now) (F.PageForm.frame form.now) (F.PageForm.new_frame form.now) (V.PageView.block_count view.old) x.now (page_of (V.PageView.image view.old))
         (F.PageForm.node top.now root.old) (blocks_of fresh.old) (blocks_of fresh.new) tx.old tx.new) }
@@ -144,7 +144,7 @@ fn plan<V: PageView, F: PageLinks>(
         (F.PageForm.node top.now root.old) (F.PageForm.node top.now root.new) (blocks_of fresh.now) (blocks_of p.fresh) tx.now p.tx) }
     ensures taken { IfOk result (λ p. TakenInOrder (blocks_of fresh.now) (blocks_of p.fresh) tx.now p.tx) }
     ensures edits { V.PageView.tells → IfOk result (λ p. TellsTaken (V.PageView.block_count view.old) kind (page_of (V.PageView.image view.old)) (blocks_of fresh.now) (blocks_of p.fresh) tx.now p.tx) }
-    ensures thin { F.PageForm.fills → V.PageView.tells → IfOk result (λ p. NoThinTold F.PageForm.scale (F.PageForm.node form.now) (V.PageView.block_count view.old) (page_of (V.PageView.image view.old)) x.now
+    ensures thin { (least : ℕ) → F.PageForm.fills least → V.PageView.tells → IfOk result (λ p. LeastTold least F.PageForm.scale (F.PageForm.node form.now) (V.PageView.block_count view.old) (page_of (V.PageView.image view.old)) x.now
         (F.PageForm.node top.now root.old) (F.PageForm.node top.now root.new) (blocks_of fresh.now) tx.now p.tx) }
     ensures framed { V.PageView.tells → IfOk result (λ p. FramesTold F.PageForm.scale (F.PageForm.node form.now) (F.PageForm.frame form.now) (F.PageForm.new_frame form.now) (V.PageView.block_count view.old) x.now (page_of (V.PageView.image view.old))
         (F.PageForm.node top.now root.old) (blocks_of fresh.now) (blocks_of p.fresh) tx.now p.tx) }

@@ -79,7 +79,7 @@ pub(crate) fn add_linked<V: PageView, F: PageLinks>(
         (at_page (λ bytes. F.PageForm.has_no_room form.now bytes x.now) draft.old.pages.items (V.PageView.image view.old))
         (F.PageForm.node top.now root.old) ((F.PageForm.is_full top.now root.old) × (F.PageForm.has_no_room top.now root.old x.now))
         (λ key. (F.PageForm.is_full top.now root.old) × (F.PageForm.has_no_place top.now root.old key))) result }
-    ensures filled { F.PageForm.fills → V.PageView.tells → OnOk result (FillsAlways F.PageForm.scale x.now
+    ensures filled { (least : ℕ) → F.PageForm.fills least → V.PageView.tells → OnOk result (FillsAlways least F.PageForm.scale x.now
         (nodes (F.PageForm.node form.now) draft.old.pages.items (V.PageView.image view.old))
         (nodes (F.PageForm.node form.now) draft.new.pages.items (V.PageView.image view.old))
         (F.PageForm.node top.now root.old) (F.PageForm.node top.now root.new) fresh.old.items) }

@@ -46,8 +46,8 @@ pub trait PageForm {
     /// The form is one of a root, which takes fewer entries than a page.
     ghost is_root: { Self → Type 0 };
 
-    /// A full page that gets another one beside it keeps enough entries, and so does the new one.
-    ghost fills: { Type 0 };
+    /// A full page that gets another one beside it keeps at least so many entries, and so does the new one, but for the last of its level.
+    ghost fills: { ℕ → Type 0 };
 
     /// The form of the pages below a root.
     ghost below: { Self → Self };
@@ -102,7 +102,7 @@ pub trait PageForm {
         requires full { is_full self.now bytes.old }
         ensures parts { (es : List Self.Entry) → node self.now bytes.old ≡ Leaf es → IsApart scale x.now es →
             SplitsRows scale (with_entry scale x.now es) (node self.now bytes.new) (node self.now right.new) result }
-        ensures fills { fills → (es : List Self.Entry) → node self.now bytes.old ≡ Leaf es → IsApart scale x.now es → FillsBoth last (node self.now bytes.new) (node self.now right.new) }
+        ensures fills { (least : ℕ) → fills least → (es : List Self.Entry) → node self.now bytes.old ≡ Leaf es → IsApart scale x.now es → FillsBoth least last (node self.now bytes.new) (node self.now right.new) }
         ensures key { is_key result }
         ensures frame { frame self.now bytes.new ≡ frame self.now bytes.old }
         ensures new { (es : List Self.Entry) → node self.now bytes.old ≡ Leaf es → IsApart scale x.now es → frame self.now right.new ≡ new_frame self.now q };
@@ -136,7 +136,7 @@ pub trait PageForm {
         requires full { is_full self.now bytes.old }
         ensures parts { (all : List (Child Self.Key)) → AtPlace (node self.now bytes.old) place (as_child child.now) all → KeysRise scale all →
             SplitsChildren all (node self.now bytes.new) (node self.now right.new) result }
-        ensures fills { fills → (all : List (Child Self.Key)) → AtPlace (node self.now bytes.old) place (as_child child.now) all → KeysRise scale all → FillsBoth last (node self.now bytes.new) (node self.now right.new) }
+        ensures fills { (least : ℕ) → fills least → (all : List (Child Self.Key)) → AtPlace (node self.now bytes.old) place (as_child child.now) all → KeysRise scale all → FillsBoth least last (node self.now bytes.new) (node self.now right.new) }
         ensures key { is_key result }
         ensures frame { frame self.now bytes.new ≡ frame self.now bytes.old }
         ensures new { (all : List (Child Self.Key)) → AtPlace (node self.now bytes.old) place (as_child child.now) all → KeysRise scale all → frame self.now right.new ≡ new_frame self.now q };

@@ -34,7 +34,7 @@ pub(crate) fn take_here<F: PageForm>(
     ensures did { HereDid (F.PageForm.node form.now) F.PageForm.scale x.now bytes.0 page draft.old.pages.items draft.new.pages.items fresh.old.items fresh.new.items result }
     ensures used { IfOk result (λ more. length fresh.old.items ≤ length fresh.new.items + 1) }
     ensures room { IfOk result (λ more. TakesOne ((F.PageForm.is_full form.now bytes.0) × (F.PageForm.has_no_room form.now bytes.0 x.now)) more fresh.old.items fresh.new.items) }
-    ensures filled { F.PageForm.fills → IfOk result (λ more. HereFilled (F.PageForm.node form.now) F.PageForm.scale x.now bytes.0 page last draft.old.pages.items draft.new.pages.items fresh.old.items more) }
+    ensures filled { (least : ℕ) → F.PageForm.fills least → IfOk result (λ more. HereFilled least (F.PageForm.node form.now) F.PageForm.scale x.now bytes.0 page last draft.old.pages.items draft.new.pages.items fresh.old.items more) }
     ensures keeps { OnOk result (StaysOff page draft.old.pages.items draft.new.pages.items fresh.old.items fresh.new.items) }
     ensures framed { OnOk result (TakesFramed (F.PageForm.frame form.now) (F.PageForm.new_frame form.now) bytes.0 page draft.old.pages.items draft.new.pages.items fresh.old.items fresh.new.items) }
     ensures below { StaysBelow fresh.old.items fresh.new.items result }
@@ -76,7 +76,7 @@ fn split_here<F: PageForm>(
     ensures did { HereDid (F.PageForm.node form.now) F.PageForm.scale x.now bytes.0 page draft.old.pages.items draft.new.pages.items fresh.old.items fresh.new.items result }
     ensures used { IfOk result (λ more. length fresh.old.items ≤ length fresh.new.items + 1) }
     ensures room { IfOk result (λ more. TakesOne ((F.PageForm.is_full form.now bytes.0) × (F.PageForm.has_no_room form.now bytes.0 x.now)) more fresh.old.items fresh.new.items) }
-    ensures filled { F.PageForm.fills → IfOk result (λ more. HereFilled (F.PageForm.node form.now) F.PageForm.scale x.now bytes.0 page last draft.old.pages.items draft.new.pages.items fresh.old.items more) }
+    ensures filled { (least : ℕ) → F.PageForm.fills least → IfOk result (λ more. HereFilled least (F.PageForm.node form.now) F.PageForm.scale x.now bytes.0 page last draft.old.pages.items draft.new.pages.items fresh.old.items more) }
     ensures keeps { OnOk result (StaysOff page draft.old.pages.items draft.new.pages.items fresh.old.items fresh.new.items) }
     ensures framed { OnOk result (TakesFramed (F.PageForm.frame form.now) (F.PageForm.new_frame form.now) bytes.0 page draft.old.pages.items draft.new.pages.items fresh.old.items fresh.new.items) }
     ensures below { StaysBelow fresh.old.items fresh.new.items result }
@@ -115,7 +115,7 @@ pub(crate) fn take_child<F: PageForm>(
     ensures did { ChildDid (F.PageForm.node form.now) F.PageForm.scale bytes.0 page place sibling draft.old.pages.items draft.new.pages.items fresh.old.items fresh.new.items result }
     ensures used { IfOk result (λ more. length fresh.old.items ≤ length fresh.new.items + 1) }
     ensures room { IfOk result (λ more. TakesOne (F.PageForm.is_full form.now bytes.0) more fresh.old.items fresh.new.items) }
-    ensures filled { F.PageForm.fills → IfOk result (λ more. ChildFilled (F.PageForm.node form.now) F.PageForm.scale bytes.0 page place last (Some sibling) draft.old.pages.items draft.new.pages.items fresh.old.items more) }
+    ensures filled { (least : ℕ) → F.PageForm.fills least → IfOk result (λ more. ChildFilled least (F.PageForm.node form.now) F.PageForm.scale bytes.0 page place last (Some sibling) draft.old.pages.items draft.new.pages.items fresh.old.items more) }
     ensures keeps { OnOk result (StaysOff page draft.old.pages.items draft.new.pages.items fresh.old.items fresh.new.items) }
     ensures framed { OnOk result (TakesFramed (F.PageForm.frame form.now) (F.PageForm.new_frame form.now) bytes.0 page draft.old.pages.items draft.new.pages.items fresh.old.items fresh.new.items) }
     ensures below { StaysBelow fresh.old.items fresh.new.items result }
@@ -158,7 +158,7 @@ fn split_child<F: PageForm>(
     ensures did { ChildDid (F.PageForm.node form.now) F.PageForm.scale bytes.0 page place sibling draft.old.pages.items draft.new.pages.items fresh.old.items fresh.new.items result }
     ensures used { IfOk result (λ more. length fresh.old.items ≤ length fresh.new.items + 1) }
     ensures room { IfOk result (λ more. TakesOne (F.PageForm.is_full form.now bytes.0) more fresh.old.items fresh.new.items) }
-    ensures filled { F.PageForm.fills → IfOk result (λ more. ChildFilled (F.PageForm.node form.now) F.PageForm.scale bytes.0 page place last (Some sibling) draft.old.pages.items draft.new.pages.items fresh.old.items more) }
+    ensures filled { (least : ℕ) → F.PageForm.fills least → IfOk result (λ more. ChildFilled least (F.PageForm.node form.now) F.PageForm.scale bytes.0 page place last (Some sibling) draft.old.pages.items draft.new.pages.items fresh.old.items more) }
     ensures keeps { OnOk result (StaysOff page draft.old.pages.items draft.new.pages.items fresh.old.items fresh.new.items) }
     ensures framed { OnOk result (TakesFramed (F.PageForm.frame form.now) (F.PageForm.new_frame form.now) bytes.0 page draft.old.pages.items draft.new.pages.items fresh.old.items fresh.new.items) }
     ensures below { StaysBelow fresh.old.items fresh.new.items result }

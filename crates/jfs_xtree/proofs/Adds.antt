@@ -7,7 +7,7 @@ use Rattle.jfs_ranges.specs.declared.edit.Edit.{Edit}
 use Rattle.jfs_tree.specs.Walk.{Node}
 use Rattle.jfs_tree.specs.Root.{RefusesWhereBad}
 use Rattle.jfs_tree.specs.Apart.{ApartOnWay}
-use Rattle.jfs_tree.specs.Filled.{NoThinTold}
+use Rattle.jfs_tree.specs.Filled.{LeastTold}
 use Rattle.jfs_tree.specs.Frames.{FramesTold}
 use Rattle.jfs_tree.specs.Fresh.{AllPages, HasPages}
 use Rattle.jfs_tree.specs.Adds.{read_as, on_page, AddsTold, RefusesWhereFull}
@@ -20,7 +20,7 @@ use Rattle.jfs_xtpage.specs.Page.{entries_of}
 use Rattle.jfs_xtree.specs.Node.{xt_scale, xt_node, frame_of, new_frame, is_within, all_within, child_of, HasNoRoom}
 use Rattle.jfs_xtree.specs.Spells.{root_form, page_nodes, root_node, tree_error, broken_for}
 use Rattle.jfs_xtree.specs.Errors.{handed_on}
-use Rattle.jfs_xtree.specs.Adding.{AddsExtent, IsApartOnWay, NamesPages, NoRoomAtRoot, NoRoomOnWay, TakesPages, RefusesFull, KeepsNoThin, ClashesFor, IsFullAndDeep, AddTellsWay}
+use Rattle.jfs_xtree.specs.Adding.{AddsExtent, IsApartOnWay, NamesPages, NoRoomAtRoot, NoRoomOnWay, TakesPages, RefusesFull, ClashesFor, IsFullAndDeep, AddTellsWay}
 use Rattle.jfs_xtree.specs.declared.error.XtError.{XtError}
 use Rattle.jfs_tree.specs.Path.{broken_on_way}
 use Rattle.jfs_tree.specs.Refusal.{ClashesOnWay, HasAllLevels, TellsRefusal}
@@ -43,11 +43,11 @@ adds_as b blocks form image x root after free left tx later eb ef told =
     subst (λ f. AddsTold xt_scale (xt_node Full blocks) blocks (page_of image) x (xt_node f blocks root) (xt_node f blocks after) free left tx later) ef
     (subst (λ n. AddsTold xt_scale (xt_node Full n) blocks (page_of image) x (xt_node form n root) (xt_node form n after) free left tx later) eb told)
 
-pub thin_as : (b blocks : ℕ) (form : XtForm) (image : Image) (x : Xad) (root after free : List ℕ) (tx later : List Edit) → b ≡ blocks → form ≡ root_form (length root)
-    → NoThinTold xt_scale (xt_node Full b) blocks (page_of image) x (xt_node form b root) (xt_node form b after) free tx later → KeepsNoThin blocks (page_of image) x root after free tx later
-thin_as b blocks form image x root after free tx later eb ef told =
-    subst (λ f. NoThinTold xt_scale (xt_node Full blocks) blocks (page_of image) x (xt_node f blocks root) (xt_node f blocks after) free tx later) ef
-    (subst (λ n. NoThinTold xt_scale (xt_node Full n) blocks (page_of image) x (xt_node form n root) (xt_node form n after) free tx later) eb told)
+pub thin_as : (least b blocks : ℕ) (form : XtForm) (image : Image) (x : Xad) (root after free : List ℕ) (tx later : List Edit) → b ≡ blocks → form ≡ root_form (length root)
+    → LeastTold least xt_scale (xt_node Full b) blocks (page_of image) x (xt_node form b root) (xt_node form b after) free tx later → LeastTold least xt_scale (xt_node Full blocks) blocks (page_of image) x (root_node blocks root) (xt_node (root_form (length root)) blocks after) free tx later
+thin_as least b blocks form image x root after free tx later eb ef told =
+    subst (λ f. LeastTold least xt_scale (xt_node Full blocks) blocks (page_of image) x (xt_node f blocks root) (xt_node f blocks after) free tx later) ef
+    (subst (λ n. LeastTold least xt_scale (xt_node Full n) blocks (page_of image) x (xt_node form n root) (xt_node form n after) free tx later) eb told)
 
 pub names_as : (b blocks : ℕ) (form : XtForm) (image : Image) (x : Xad) (root free left : List ℕ) (tx later : List Edit) → b ≡ blocks → form ≡ root_form (length root)
     → FramesTold xt_scale (xt_node Full b) (frame_of Full) new_frame blocks x (page_of image) (xt_node form b root) free left tx later → NamesPages blocks (page_of image) x root free left tx later

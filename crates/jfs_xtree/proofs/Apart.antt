@@ -1,5 +1,5 @@
 -- An extent that goes between its neighbours shares no block of the file with any of a leaf's extents.
-use Rattle.std.proofs.Common.{◌≡◌, ◌≤◌, ◌<◌, ◌⊎◌, inl, inr, refl, ap, subst, sym, true, ℕ, zero, suc, ◌+◌, List, arith}
+use Rattle.std.proofs.Common.{◌≡◌, ◌≤◌, ◌<◌, ◌⊎◌, inl, inr, refl, subst, true, ℕ, zero, suc, ◌+◌, List, arith}
 use Rattle.std.proofs.lemmas.Bool.{le-leb, cases_lt}
 use Rattle.jfs_bits.specs.declared.extent.Xad.{Xad}
 use Rattle.jfs_tree.specs.Walk.{Node, Leaf, Inner, Broken}

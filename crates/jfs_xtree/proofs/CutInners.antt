@@ -78,14 +78,14 @@ front_filled : (before after : ℕ → Node ℕ Xad) (levels key mid : ℕ) (fro
     → Agree before after (flat_map (walk xt_scale before levels) (under key front)) → (k ≡ true → (depth : ℕ) → IsFilled before depth true t.page → IsFilled after depth true t.page)
     → (depth : ℕ) → InLine (IsFilled before depth) true (numbers (front ++ t ∷ back)) → InLine (IsFilled after depth) true (numbers (front ++ kept_of k t))
 front_filled before after levels key mid front t back k rises agree child depth line =
-    let l = line_parts before depth (numbers front) t.page (numbers back) (subst (InLine (IsFilled before depth) true) (numbers-append front (t ∷ back)) line) in
+    let l = line_parts 64 before depth (numbers front) t.page (numbers back) (subst (InLine (IsFilled before depth) true) (numbers-append front (t ∷ back)) line) in
     let stays = subst (InLine (IsFilled after depth) false) (numbers_under key front)
-    (children_stay xt_scale order before after levels depth (under key front) key (Some mid) false rises agree (subst (InLine (IsFilled before depth) false) (sym (numbers_under key front)) l.0)) in
+    (children_stay 64 xt_scale order before after levels depth (under key front) key (Some mid) false rises agree (subst (InLine (IsFilled before depth) false) (sym (numbers_under key front)) l.0)) in
     by k stays (λ e. child e depth l.1)
   where
     by : (j : Bool) → InLine (IsFilled after depth) false (numbers front) → (j ≡ true → IsFilled after depth true t.page) → InLine (IsFilled after depth) true (numbers (front ++ kept_of j t))
-    by true stays here = subst (InLine (IsFilled after depth) true) (sym (numbers-append front (t ∷ []))) (line_both after depth true (numbers front) (t.page ∷ []) stays (here refl))
-    by false stays here = subst (InLine (IsFilled after depth) true) (sym (numbers-append front [])) (line_both after depth true (numbers front) [] stays tt)
+    by true stays here = subst (InLine (IsFilled after depth) true) (sym (numbers-append front (t ∷ []))) (line_both 64 after depth true (numbers front) (t.page ∷ []) stays (here refl))
+    by false stays here = subst (InLine (IsFilled after depth) true) (sym (numbers-append front [])) (line_both 64 after depth true (numbers front) [] stays tt)
 
 -- a page whose child `t` was cut, and whose children behind it were freed
 parts_cut : (blocks limit : ℕ) (before after : ℕ → List ℕ) (lower : ℕ) (c : Child ℕ) (front : List (Child ℕ)) (t : Child ℕ) (back : List Xad) (k : Bool) (one freed : List ℕ) (first runs : List Pxd) (high : Option ℕ)
@@ -194,8 +194,8 @@ page_kept blocks limit before middle after page new freed runs cuts here others 
             pages = λ n. (let h = cut.pages n in omega (arith, h));
             keeps = λ n z. (let o = other_page page n (times n M) z in others n o.0 ∙ cut.keeps n o.1);
           }),
-      λ e. page_filled (page_nodes blocks before) (page_nodes blocks after) page new
-          (λ depth line. below_stays xt_scale order (page_nodes blocks middle) (page_nodes blocks after) below depth c new key high true cut.rises agree (part.1 refl depth line)) here,
+      λ e. page_filled 64 (page_nodes blocks before) (page_nodes blocks after) page new
+          (λ depth line. below_stays 64 xt_scale order (page_nodes blocks middle) (page_nodes blocks after) below depth c new key high true cut.rises agree (part.1 refl depth line)) here,
     )
 
 pub page_gone : (blocks limit : ℕ) (before middle after : ℕ → List ℕ) (page : ℕ) (new : Node ℕ Xad) (one freed : List ℕ) (runs : List Pxd)

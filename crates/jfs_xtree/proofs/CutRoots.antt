@@ -98,8 +98,8 @@ top_kept blocks bound before after es root new freed runs below most tree rows n
         | inr ne ↦ (let a = foot (page_nodes blocks after) new n ne in let b = foot (page_nodes blocks before) root n ne in let d = ap (times n) now in let f = ap (times n) tree in let g = ap (times n) same in let p = cut.pages n in omega (arith, a, b, d, f, g, p))
       ];
       keeps = λ n ne z. cut.keeps n (let a = foot (page_nodes blocks after) new n ne in let d = ap (times n) now in let g = ap (times n) same in omega (arith, a, d, g, z));
-      filled = λ h depth. page_filled (with_root root (page_nodes blocks before)) (with_root new (page_nodes blocks after)) no_page new
-          (λ d line. below_stays xt_scale order (page_nodes blocks after) (with_root new (page_nodes blocks after)) below d (top xt_scale) new 0 None true cut.rises
+      filled = λ h depth. page_filled 64 (with_root root (page_nodes blocks before)) (with_root new (page_nodes blocks after)) no_page new
+          (λ d line. below_stays 64 xt_scale order (page_nodes blocks after) (with_root new (page_nodes blocks after)) below d (top xt_scale) new 0 None true cut.rises
           (λ n p. root_else new (page_nodes blocks after) n (differs n no_page 0 (λ m. times m M) off p)) (fill d line)) refl depth (h depth);
     }
 
@@ -114,7 +114,7 @@ top_gone blocks bound before after es root freed runs below tree rows none cut =
     | inr ne ↦ (let a = foot (page_nodes blocks after) (Leaf []) n ne in let b = foot (page_nodes blocks before) root n ne in let d = not_named n ne in let f = ap (times n) tree in let p = cut.pages n in omega (arith, a, b, d, f, p))
   ];
   keeps = λ n ne z. cut.keeps n refl;
-  filled = λ h depth. page_filled (with_root root (page_nodes blocks before)) (with_root (Leaf []) (page_nodes blocks after)) no_page (Leaf []) (λ d line. tt) refl depth (h depth);
+  filled = λ h depth. page_filled 64 (with_root root (page_nodes blocks before)) (with_root (Leaf []) (page_nodes blocks after)) no_page (Leaf []) (λ d line. tt) refl depth (h depth);
 }
 
 root_by : (blocks bound : ℕ) (before after : ℕ → List ℕ) (es : List Xad) (root mid new : Node ℕ Xad) (kept : Bool) (freed : List ℕ) (runs : List Pxd) (levels : ℕ) → levels ≤ 8 → tree_of xt_scale (page_nodes blocks before) root ≡ walk xt_scale (with_root root (page_nodes blocks before)) levels (top xt_scale)
@@ -129,7 +129,7 @@ root_by blocks bound before after es root mid new kept freed runs (suc below) mo
     let same = among (page_nodes blocks before) root below none in
     let part = cuts below (top xt_scale) None (subst (λ ms. Rises xt_scale 0 ms None) (sym same) r.1) (λ n. let h = once n in let e = ap (times n) same in omega (arith, h, e)) in
     by kept refl (tree ∙ ap (λ ms. Key no_page 0 ∷ Page no_page ∷ ms) (sym same)) (ap rows_of same ∙ rows) (ap (times no_page) same ∙ none) part.0
-    (λ e depth line. part.1 e depth (below_stays xt_scale order (with_root root (page_nodes blocks before)) (page_nodes blocks before) below depth (top xt_scale) root 0 None true r.1
+    (λ e depth line. part.1 e depth (below_stays 64 xt_scale order (with_root root (page_nodes blocks before)) (page_nodes blocks before) below depth (top xt_scale) root 0 None true r.1
     (λ n p. sym (root_else root (page_nodes blocks before) n (differs n no_page 0 (λ m. times m S) none p))) line))
   where
     by : (k : Bool) → kept ≡ k → tree_of xt_scale (page_nodes blocks before) root ≡ Key no_page 0 ∷ Page no_page ∷ shows (page_nodes blocks before) below (top xt_scale) root → rows_of (shows (page_nodes blocks before) below (top xt_scale) root) ≡ es → times no_page (shows (page_nodes blocks before) below (top xt_scale) root) ≡ 0
@@ -148,7 +148,7 @@ root_empty blocks bound before after freed runs none empty same = record {
     | inr ne ↦ (let a = foot (page_nodes blocks after) (Leaf []) n ne in let b = foot (page_nodes blocks before) (Leaf []) n ne in let f = ap (count_in n) none in omega (arith, a, b, f))
   ];
   keeps = λ n ne z. same n;
-  filled = λ h depth. page_filled (with_root (Leaf []) (page_nodes blocks before)) (with_root (Leaf []) (page_nodes blocks after)) no_page (Leaf []) (λ d line. tt) refl depth (h depth);
+  filled = λ h depth. page_filled 64 (with_root (Leaf []) (page_nodes blocks before)) (with_root (Leaf []) (page_nodes blocks after)) no_page (Leaf []) (λ d line. tt) refl depth (h depth);
 }
 
 -- ---- by the code's names
@@ -262,8 +262,8 @@ cuts_extents blocks bound form image root mid new drafts kept freed runs tx late
             spelled = spells_frame xt_scale drafted now (xt_node form blocks new) frame ∙ c.spelled;
             owned = λ n. (let f = footprint_frame xt_scale drafted now (xt_node form blocks new) frame n in let p = c.owned n in omega (arith, f, p));
             keeps = λ n h z. told n h (base n) (leads n h).0 (leads n h).1 ∙ c.keeps n (less_page n blocks h small) (sym (footprint_frame xt_scale drafted now (xt_node form blocks new) frame n) ∙ z);
-            thin = λ none page. filled_not_thin (with_root (xt_node form blocks new) now) page
-                (filled_same xt_scale order drafted now (xt_node form blocks new) (kept_below bound es) c.spelled frame (c.filled (filled_of xt_scale order (page_nodes blocks (page_of image)) (xt_node form blocks root) es spells_old none)));
+            thin = λ none page. filled_not_thin 64 (with_root (xt_node form blocks new) now) page
+                (filled_same 64 xt_scale order drafted now (xt_node form blocks new) (kept_below bound es) c.spelled frame (c.filled (filled_of 64 xt_scale order (page_nodes blocks (page_of image)) (xt_node form blocks root) es spells_old none)));
           } in
           as_root form blocks bound es (page_of image) (after_tx base later) root new freed is whole,
     )

@@ -1,12 +1,12 @@
 -- What is added to a file's extents, which pages that takes, and where it is refused.
-use Rattle.std.specs.Prelude.{◌≡◌, ◌⊎◌, ℕ, List, length, Option, Some, None, Result, Ok, Err}
+use Rattle.std.specs.Prelude.{◌≡◌, ◌⊎◌, ◌≤◌, ℕ, List, length, Option, Some, None, Result, Ok, Err}
 use Rattle.jfs_bits.specs.declared.rule.Rule.{Rule}
 use Rattle.jfs_bits.specs.declared.rule.Rule.TheVariants as rules
 use Rattle.jfs_bits.specs.declared.extent.Xad.{Xad}
 use Rattle.jfs_ranges.specs.declared.edit.Edit.{Edit}
 use Rattle.jfs_tree.specs.Adds.{on_page, AddsTold, RefusesWhereFull}
 use Rattle.jfs_tree.specs.Apart.{ApartOnWay}
-use Rattle.jfs_tree.specs.Filled.{NoThinTold}
+use Rattle.jfs_tree.specs.Filled.{LeastTold}
 use Rattle.jfs_tree.specs.Frames.{FramesTold}
 use Rattle.jfs_tree.specs.Refusal.{ClashesOnWay, HasAllLevels}
 use Rattle.jfs_tree.specs.Spells.{no_page}
@@ -25,7 +25,11 @@ AddsExtent blocks pages x root after free left tx later = AddsTold xt_scale (xt_
 
 -- And where each page but the last of its level held at least 64 entries, each does.
 abbrev pub KeepsNoThin : ℕ → (ℕ → List ℕ) → Xad → List ℕ → List ℕ → List ℕ → List Edit → List Edit → Type 0
-KeepsNoThin blocks pages x root after free tx later = NoThinTold xt_scale (xt_node Full blocks) blocks pages x (root_node blocks root) (xt_node (root_form (length root)) blocks after) free tx later
+KeepsNoThin blocks pages x root after free tx later = LeastTold 64 xt_scale (xt_node Full blocks) blocks pages x (root_node blocks root) (xt_node (root_form (length root)) blocks after) free tx later
+
+-- So of any number of entries that a page which is split in halves leaves on each part, up to 127 of its 254.
+abbrev pub KeepsLeast : ℕ → (ℕ → List ℕ) → Xad → List ℕ → List ℕ → List ℕ → List Edit → List Edit → Type 0
+KeepsLeast blocks pages x root after free tx later = (least : ℕ) → least ≤ 127 → LeastTold least xt_scale (xt_node Full blocks) blocks pages x (root_node blocks root) (xt_node (root_form (length root)) blocks after) free tx later
 
 -- What pages and root have beside kind, count, links and entries stays, and each page that was taken names itself, where the free blocks aren't pages of the tree.
 abbrev pub NamesPages : ℕ → (ℕ → List ℕ) → Xad → List ℕ → List ℕ → List ℕ → List Edit → List Edit → Type 0

@@ -51,7 +51,7 @@ impl PageForm for XtPages {
 
     ghost is_root = { λ f. IsRoot f.form };
 
-    ghost fills = { Unit {0} };
+    ghost fills = { λ least. least ≤ 127 };
 
     ghost below = { λ f. record { form = Full; blocks = f.blocks } };
 
@@ -104,8 +104,8 @@ impl PageForm for XtPages {
         requires full { HasNoRoom self.now.form bytes.old }
         ensures parts { (es : List Xad) → xt_node self.now.form self.now.blocks bytes.old ≡ Leaf es → IsApart xt_scale x.now es →
             SplitsRows xt_scale (with_entry xt_scale x.now es) (xt_node self.now.form self.now.blocks bytes.new) (xt_node self.now.form self.now.blocks right.new) result }
-        ensures fills { Unit {0} → (es : List Xad) → xt_node self.now.form self.now.blocks bytes.old ≡ Leaf es → IsApart xt_scale x.now es →
-            FillsBoth last (xt_node self.now.form self.now.blocks bytes.new) (xt_node self.now.form self.now.blocks right.new) }
+        ensures fills { (least : ℕ) → least ≤ 127 → (es : List Xad) → xt_node self.now.form self.now.blocks bytes.old ≡ Leaf es → IsApart xt_scale x.now es →
+            FillsBoth least last (xt_node self.now.form self.now.blocks bytes.new) (xt_node self.now.form self.now.blocks right.new) }
         ensures key { result < 2 ^ 40 }
         ensures frame { frame_of self.now.form bytes.new ≡ frame_of self.now.form bytes.old }
         ensures new { (es : List Xad) → xt_node self.now.form self.now.blocks bytes.old ≡ Leaf es → IsApart xt_scale x.now es → frame_of self.now.form right.new ≡ new_frame q }
@@ -144,8 +144,8 @@ impl PageForm for XtPages {
         requires full { HasNoRoom self.now.form bytes.old }
         ensures parts { (all : List (Child ℕ)) → AtPlace (xt_node self.now.form self.now.blocks bytes.old) place (as_child child.now) all → KeysRise xt_scale all →
             SplitsChildren all (xt_node self.now.form self.now.blocks bytes.new) (xt_node self.now.form self.now.blocks right.new) result }
-        ensures fills { Unit {0} → (all : List (Child ℕ)) → AtPlace (xt_node self.now.form self.now.blocks bytes.old) place (as_child child.now) all → KeysRise xt_scale all →
-            FillsBoth last (xt_node self.now.form self.now.blocks bytes.new) (xt_node self.now.form self.now.blocks right.new) }
+        ensures fills { (least : ℕ) → least ≤ 127 → (all : List (Child ℕ)) → AtPlace (xt_node self.now.form self.now.blocks bytes.old) place (as_child child.now) all → KeysRise xt_scale all →
+            FillsBoth least last (xt_node self.now.form self.now.blocks bytes.new) (xt_node self.now.form self.now.blocks right.new) }
         ensures key { result < 2 ^ 40 }
         ensures frame { frame_of self.now.form bytes.new ≡ frame_of self.now.form bytes.old }
         ensures new { (all : List (Child ℕ)) → AtPlace (xt_node self.now.form self.now.blocks bytes.old) place (as_child child.now) all → KeysRise xt_scale all → frame_of self.now.form right.new ≡ new_frame q }

@@ -1,4 +1,4 @@
-use Rattle.std.proofs.Common.{sym, subst, length}
+use Rattle.std.proofs.Common.{sym, subst, length, arith}
 use Rattle.jfs_disk.specs.Image.{page_of}
 use Rattle.jfs_tree.specs.Root.{RefusesWhereBad}
 use Rattle.jfs_tree.specs.Fresh.{blocks_of}
@@ -35,8 +35,13 @@ returns-in-Err-clause-full g c tells =
 
 pub returns-in-Ok-clause-thin : goal.returns-in-Ok-clause-thin
 returns-in-Ok-clause-thin g c tells =
-    thin_as c.blocks-blocks.result (g.V.PageView.block_count c.args.view.now) c.root_form-form.result (g.V.PageView.image c.args.view.now) c.args.x c.args.root.now c.add_and_tell.new.root (blocks_of c.args.fresh.now) c.args.tx.now c.add_and_tell.new.tx
-    c.blocks-blocks.ensures c.root_form-form.ensures (c.in-Ok.ensures.thin tt tells)
+    thin_as 64 c.blocks-blocks.result (g.V.PageView.block_count c.args.view.now) c.root_form-form.result (g.V.PageView.image c.args.view.now) c.args.x c.args.root.now c.add_and_tell.new.root (blocks_of c.args.fresh.now) c.args.tx.now c.add_and_tell.new.tx
+    c.blocks-blocks.ensures c.root_form-form.ensures (c.in-Ok.ensures.thin 64 (omega arith) tells)
+
+pub returns-in-Ok-clause-parts : goal.returns-in-Ok-clause-parts
+returns-in-Ok-clause-parts g c tells = λ least most.
+    thin_as least c.blocks-blocks.result (g.V.PageView.block_count c.args.view.now) c.root_form-form.result (g.V.PageView.image c.args.view.now) c.args.x c.args.root.now c.add_and_tell.new.root (blocks_of c.args.fresh.now) c.args.tx.now c.add_and_tell.new.tx
+    c.blocks-blocks.ensures c.root_form-form.ensures (c.in-Ok.ensures.thin least most tells)
 
 pub returns-in-Ok-clause-way : goal.returns-in-Ok-clause-way
 returns-in-Ok-clause-way g c tells =

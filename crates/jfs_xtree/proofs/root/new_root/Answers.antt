@@ -12,5 +12,5 @@ pub returns-clause-list : goal.returns-clause-list
 returns-clause-list c = λ blocks pages. new_list_root c.root_form-form.result (root_form (length c.args.root.now)) blocks pages c.xt_new.new.bytes _ c.root_form-form.ensures c.xt_new.ensures.head c.xt_new.ensures.entries
 
 pub returns-clause-thin : goal.returns-clause-thin
-returns-clause-thin c = λ blocks pages. empty_thin (xt_node (root_form (length c.args.root.now)) blocks c.xt_new.new.bytes) (page_nodes blocks pages)
+returns-clause-thin c = λ blocks pages. empty_thin 64 (xt_node (root_form (length c.args.root.now)) blocks c.xt_new.new.bytes) (page_nodes blocks pages)
     (new_leaf_root c.root_form-form.result (root_form (length c.args.root.now)) blocks c.xt_new.new.bytes _ c.root_form-form.ensures c.xt_new.ensures.head c.xt_new.ensures.entries)

@@ -12,9 +12,9 @@ returns-clause-parts c = λ es leaf apart.
     c.part.ensures.rows c.part.ensures.some c.part.ensures.begins c.part.ensures.left c.part.ensures.right
 
 pub returns-clause-fills : goal.returns-clause-fills
-returns-clause-fills c = λ fills es leaf apart.
-    leaf_fills c.args.self.now.form c.args.self.now.blocks c.part.new.bytes c.part.new.right c.args.last (with_entry xt_scale c.args.x.now es) c.part.result (returns-clause-parts c es leaf apart)
-    (both_counts c.args.last c.place_of-place.result (count_of c.args.bytes.now) (count_of c.part.new.bytes) (count_of c.part.new.right) (full_count c.args.self.now.form c.args.bytes.now c.requires.below c.requires.full) c.place_of-place.ensures.most
+returns-clause-fills c = λ least fills es leaf apart.
+    leaf_fills least c.args.self.now.form c.args.self.now.blocks c.part.new.bytes c.part.new.right c.args.last (with_entry xt_scale c.args.x.now es) c.part.result (returns-clause-parts c es leaf apart)
+    (both_counts least fills c.args.last c.place_of-place.result (count_of c.args.bytes.now) (count_of c.part.new.bytes) (count_of c.part.new.right) (full_count c.args.self.now.form c.args.bytes.now c.requires.below c.requires.full) c.place_of-place.ensures.most
     c.part.ensures.last c.part.ensures.halves)
 
 pub returns-clause-frame : goal.returns-clause-frame
