@@ -21,6 +21,7 @@ pub mod CutSpelled
 pub mod CutTold
 pub mod CutRoots
 pub mod CutNamed
+pub mod CutFramed
 pub mod Entered
 pub mod Written
 pub mod WrittenIn

@@ -10,10 +10,12 @@ use Rattle.jfs_tree.specs.Levels.{HasNoThin}
 use Rattle.jfs_tree.specs.Fresh.{LeadsTo, after_tx}
 use Rattle.jfs_tree.specs.Removes.{page_frees}
 use Rattle.jfs_tree.specs.Tell.{TellsThen}
+use Rattle.jfs_tree.specs.Frames.{KeepsFramesTold}
 use Rattle.jfs_tree.specs.Changes.{TellsChanges}
 use Rattle.jfs_bits.specs.declared.rule.PageKind.TheVariants.{Xtree}
 use Rattle.jfs_xtpage.specs.Page.{end_of}
-use Rattle.jfs_xtree.specs.Node.{xt_scale, xt_node}
+use Rattle.jfs_xtpage.specs.declared.head.XtForm.TheVariants.{Full}
+use Rattle.jfs_xtree.specs.Node.{xt_scale, xt_node, frame_of}
 use Rattle.jfs_xtree.specs.Spells.{page_nodes, root_form, spells_extents, owned_pages}
 
 -- an extent up to a block of the file, where it reaches past it; its flag and its first blocks stay
@@ -49,6 +51,10 @@ pub record HasOnlyBelow (blocks bound : ℕ) (es : List Xad) (pages later : ℕ 
 -- Changed lines are told, then that these pages are free, and then that these runs of blocks are.
 abbrev pub TellsCut : ℕ → (ℕ → List ℕ) → List Edit → List Edit → Type 0
 TellsCut blocks pages tx later = (freed : List ℕ) × (runs : List Pxd) × TellsChanges blocks Xtree [] pages (page_frees freed ++ run_frees runs) tx later
+
+-- What each page has beside kind, count, links and entries stays: its number of slots and its own descriptor.
+abbrev pub KeepsPages : ℕ → (ℕ → List ℕ) → List Edit → List Edit → Type 0
+KeepsPages blocks pages tx later = KeepsFramesTold (frame_of Full) blocks pages tx later
 
 -- Whatever list the root spelled: lines were appended, then what frees the tree's pages that are no more, and then what frees the blocks past the bound in the list's order;
 -- nothing else. Where the edits before lead to the pages that the view shows, all edits lead to pages in which the root spells the extents below the bound.

@@ -4,11 +4,12 @@ ghost use Rattle.std.specs.Prelude.{◌≡◌, ◌<◌, ◌≤◌, ◌+◌, ◌*
 ghost use Rattle.jfs_disk.specs.Image.{page_of};
 ghost use Rattle.jfs_tree.specs.Call.{CarriesFault};
 ghost use Rattle.jfs_tree.specs.Draft.{shown};
+ghost use Rattle.jfs_tree.specs.Frames.{KeepsFrames};
 ghost use Rattle.jfs_tree.specs.Removal.{Settles};
 ghost use Rattle.jfs_xtpage.specs.Page.{bytes_of, head_of, entries_of, entry_of, count_of, IsLaidOut};
 ghost use Rattle.jfs_xtpage.specs.declared.head.XtForm.{XtForm};
 ghost use Rattle.jfs_xtpage.specs.declared.head.XtForm.TheVariants.{Full};
-ghost use Rattle.jfs_xtree.specs.Node.{xt_scale, xt_node, is_leaf, all_within, IsSound, SameKind, KeepsFrame};
+ghost use Rattle.jfs_xtree.specs.Node.{xt_scale, xt_node, is_leaf, all_within, frame_of, IsSound, SameKind, KeepsFrame};
 ghost use Rattle.jfs_xtree.specs.Spells.{page_nodes};
 ghost use Rattle.jfs_xtree.specs.Cutting.{kept_below, gone_past};
 ghost use Rattle.jfs_xtree.specs.CutMet.{met, met_below};
@@ -57,6 +58,7 @@ pub(crate) fn cut_page<V: PageView>(
     ensures below { OnOk result (cut.new.below ≤ most) }
     ensures leaf_bad { is_leaf (head_of bytes.old).flag ≡ true → IfErr result (λ e. e ≡ TreeError.Memory) }
     ensures bad { V.PageView.tells → IfErr result (λ e. (page : ℕ) → StopsAt cut.old.met (met_below (page_nodes blocks (page_of (V.PageView.image view.old))) bound most (record { key = cut.old.met; page = page }) (xt_node form blocks bytes.old)) e) }
+    ensures framed { V.PageView.tells → OnOk result (KeepsFrames (frame_of Full) (V.PageView.image view.old) [] cut.new.draft.pages.items) }
 {
     if is_leaf(get_u8(bytes, 16)) {
         cut.met = leaf_end(bytes, cut.met);
@@ -147,7 +149,8 @@ fn read_way<V: PageView>(
 /// No page stands behind this one on its level: those that stood there are cut off.
 fn end_level(bytes: &mut [u8])
     requires { 32 ≤ length bytes.old }
-    ensures { (form : XtForm) (blocks : ℕ) → xt_node form blocks bytes.new ≡ xt_node form blocks bytes.old }
+    ensures node { (form : XtForm) (blocks : ℕ) → xt_node form blocks bytes.new ≡ xt_node form blocks bytes.old }
+    ensures frame { frame_of Full bytes.new ≡ frame_of Full bytes.old }
 {
     let prev = get_u64(bytes, 8);
     xt_link(bytes, 0, prev);

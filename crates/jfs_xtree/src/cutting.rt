@@ -12,7 +12,7 @@ ghost use Rattle.jfs_xtpage.specs.Page.{head_of, entries_of, kind_flag, IsLaidOu
 ghost use Rattle.jfs_xtree.specs.Node.{xt_scale, KeepsFrame};
 ghost use Rattle.jfs_xtree.specs.Spells.{IsRootSize, IsView, CarriesXt};
 ghost use Rattle.jfs_xtree.specs.CutMet.{FreesOnce, NamesFirstMet};
-ghost use Rattle.jfs_xtree.specs.Cutting.{CutsExtents, TellsCut, run_frees};
+ghost use Rattle.jfs_xtree.specs.Cutting.{CutsExtents, KeepsPages, TellsCut, run_frees};
 
 use crate::check::check_page;
 use crate::cut_page::cut_page;
@@ -28,7 +28,7 @@ use std::alloc::{AllocError, Global};
 /// Cuts a file's extents at block `blocks` of the file: what begins below it stays, the last one shortened to end there. The transaction gets the changed
 /// lines, then a `NoRedo` of each page of the tree that is no more, then a `Free` of each, and then a `Free` of each run of blocks that the extents lost, in their order.
 /// Pages on the way to the bound are read, and those that are freed; a root whose children are all gone is a leaf without extents. Other pages keep their bytes,
-/// and where each page but the last of its level held at least 64 entries, each does.
+/// each page keeps its number of slots and its own descriptor, and where each page but the last of its level held at least 64 entries, each does.
 /// What is met rises, and no page is freed twice: `Bad` names the first page, in the order of the file, that breaks a rule where the cut meets it. A page that is met twice breaks `order`.
 /// After an `Err` root and transaction are as before.
 pub fn cut_to<V: PageView>(
@@ -49,6 +49,7 @@ pub fn cut_to<V: PageView>(
     ensures frame { OnOk result (KeepsFrame root.old root.new) }
     ensures kept { OnErr result ((root.new ≡ root.old) × (tx.new ≡ tx.old)) }
     ensures bad { V.PageView.tells → IfErr result (NamesFirstMet (V.PageView.block_count view.old) (page_of (V.PageView.image view.old)) blocks root.old) }
+    ensures named { V.PageView.tells → OnOk result (KeepsPages (V.PageView.block_count view.old) (page_of (V.PageView.image view.old)) tx.old tx.new) }
 {
     let Ok(old) = copy_of(alloc, root) else {
         return Err(XtError::View(ViewError::Memory));
@@ -84,6 +85,7 @@ fn plan_cut<V: PageView>(
     ensures once { V.PageView.tells → IfOk result (λ later. FreesOnce (V.PageView.block_count view.old) (page_of (V.PageView.image view.old)) bound root.old tx.now later) }
     ensures frame { OnOk result (KeepsFrame root.old root.new) }
     ensures bad { V.PageView.tells → IfErr result (NamesFirstMet (V.PageView.block_count view.old) (page_of (V.PageView.image view.old)) bound root.old) }
+    ensures named { V.PageView.tells → IfOk result (λ later. KeepsPages (V.PageView.block_count view.old) (page_of (V.PageView.image view.old)) tx.now later) }
 {
     let blocks = view.blocks();
     let form = root_form(root);

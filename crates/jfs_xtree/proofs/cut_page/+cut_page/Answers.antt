@@ -1,12 +1,13 @@
-use Rattle.std.proofs.Common.{refl, ap, sym, subst, ◌∙◌, arith, ◌+◌, ◌-◌, drop, List}
+use Rattle.std.proofs.Common.{refl, ap, sym, subst, ◌∙◌, arith, ◌+◌, ◌-◌, drop, List, []}
 use Rattle.std.specs.Prelude.{nat_lt}
 use Rattle.jfs_disk.specs.Image.{Image, page_of}
 use Rattle.jfs_tree.specs.Draft.{shown}
+use Rattle.jfs_tree.specs.Frames.{KeepsFrames}
 use Rattle.jfs_tree.specs.declared.draft.Drafted.{Drafted}
 use Rattle.jfs_xtpage.specs.Page.{entries_of, entry_of, count_of}
 use Rattle.jfs_xtpage.specs.declared.head.XtForm.TheVariants.{Full}
 use Rattle.jfs_xtpage.proofs.Entries.{length-entries}
-use Rattle.jfs_xtree.specs.Node.{is_leaf, xt_node}
+use Rattle.jfs_xtree.specs.Node.{frame_of, is_leaf, xt_node}
 use Rattle.jfs_xtree.specs.Spells.{page_nodes}
 use Rattle.jfs_xtree.specs.CutMet.{met_below}
 use Rattle.jfs_xtree.specs.CutParts.{CutsNode, CutsPage, Frees, StopsAt, key_at, children_from}
@@ -14,6 +15,7 @@ use Rattle.jfs_xtree.proofs.Reading.{is_rising, sound_inner}
 use Rattle.jfs_xtree.proofs.CutFrees.{fits_first, frees_under}
 use Rattle.jfs_xtree.proofs.CutSteps.{leaf_done, page_settled, inner_done, left_some, is_some, is_none, one_or_none, kind_cut}
 use Rattle.jfs_xtree.proofs.CutWays.{leaf_met_if, child_breaks, below_breaks, behind_breaks, behind_is, inner_met, child_is, child_node, settled_kept, settled_gone, none_left}
+use Rattle.jfs_xtree.proofs.CutFramed.{none_framed, settled_way}
 use Rattle.jfs_xtree.proofs.cut_page.+cut_page.Goals as goal
 
 pub returns-then-is_leaf-clause-cuts : goal.returns-then-is_leaf-clause-cuts
@@ -84,7 +86,7 @@ returns-clause-cuts g t c tells =
     let settled = page_settled c.args.blocks c.args.bound c.page_of-n.result image (g.V.PageView.image c.read_way.new.view) c.in-Ok.page.0 c.end_level.new.bytes c.in-Ok-cut_page.kept c.cut_page.new.cut.draft.pages.items c.settle.new.cut.draft.pages.items c.cut_page.new.cut.pages.items c.settle.new.cut.pages.items c.cut_page.new.cut.runs c.settle.new.cut.runs
     (c.in-Ok.ensures.image tells) (c.in-Ok.ensures.bytes tells ∙ ap (page_of image) (sym c.page_of-n.ensures.page))
     (subst (λ node. CutsNode c.args.blocks c.args.bound (page_of (g.V.PageView.image c.read_way.new.view)) (shown c.cut_page.new.cut.draft.pages.items (g.V.PageView.image c.read_way.new.view)) (xt_node Full c.args.blocks c.in-Ok.page.0) node c.in-Ok-cut_page.kept c.cut_page.new.cut.pages.items c.cut_page.new.cut.runs)
-    (sym (c.end_level.ensures Full c.args.blocks)) (c.in-Ok-cut_page.ensures.cuts tells)) c.in_ok-settle.ensures.settles c.in_ok-settle.ensures.runs in
+    (sym (c.end_level.ensures.node Full c.args.blocks)) (c.in-Ok-cut_page.ensures.cuts tells)) c.in_ok-settle.ensures.settles c.in_ok-settle.ensures.runs in
     inner_done c.args.form c.args.blocks c.args.bound c.saturating_sub.result place left c.in-Ok-cut_page.kept (nat_lt 0 left) c.args.bytes.now c.xt_cut.new.bytes image (shown c.free_children.new.cut.draft.pages.items image) c.page_of-n.result c.settle.new.cut.pages.items c.free_children.new.cut.pages.items c.settle.new.cut.runs c.free_children.new.cut.runs
     c.requires.sound flag c.saturating_sub.ensures (c.child_place-place.ensures.leads (is_rising c.args.bytes.now c.requires.sound.order)) c.page_of-n.ensures.page (ap (λ n. place + n) is) (is_some left) (is_none left)
     (kind_cut c.args.bytes.now c.xt_cut.new.bytes left c.requires.page (omega (arith, inside, is, few)) c.xt_cut.ensures.head) c.xt_cut.ensures.entries
@@ -114,7 +116,7 @@ returns-clause-met g t c tells = λ fits page.
     let settled = page_settled c.args.blocks c.args.bound n image (g.V.PageView.image c.read_way.new.view) c.in-Ok.page.0 c.end_level.new.bytes kept c.cut_page.new.cut.draft.pages.items c.settle.new.cut.draft.pages.items c.cut_page.new.cut.pages.items c.settle.new.cut.pages.items c.cut_page.new.cut.runs c.settle.new.cut.runs
     (c.in-Ok.ensures.image tells) (c.in-Ok.ensures.bytes tells ∙ ap (page_of image) (sym c.page_of-n.ensures.page))
     (subst (λ node. CutsNode c.args.blocks c.args.bound (page_of (g.V.PageView.image c.read_way.new.view)) (shown c.cut_page.new.cut.draft.pages.items (g.V.PageView.image c.read_way.new.view)) (xt_node Full c.args.blocks c.in-Ok.page.0) node kept c.cut_page.new.cut.pages.items c.cut_page.new.cut.runs)
-    (sym (c.end_level.ensures Full c.args.blocks)) (c.in-Ok-cut_page.ensures.cuts tells)) c.in_ok-settle.ensures.settles c.in_ok-settle.ensures.runs in
+    (sym (c.end_level.ensures.node Full c.args.blocks)) (c.in-Ok-cut_page.ensures.cuts tells)) c.in_ok-settle.ensures.settles c.in_ok-settle.ensures.runs in
     inner_met c.args.blocks c.args.bound c.args.most (c.args.most - 1) c.saturating_sub.result place key n c.settle.new.cut.met c.settle.new.cut.below c.free_children.new.cut.met (c.settle.new.cut.below + 1) (record { key = c.args.cut.now.met; page = page }) (xt_node c.args.form c.args.blocks c.args.bytes.now) c.args.bytes.now image
     (shown c.settle.new.cut.draft.pages.items image) kept (nat_lt 0 left) c.cut_page.new.cut.pages.items c.settle.new.cut.pages.items c.free_children.new.cut.pages.items c.cut_page.new.cut.runs c.settle.new.cut.runs c.free_children.new.cut.runs
     c.requires.sound.order c.saturating_sub.ensures (c.child_place-place.ensures.leads (is_rising c.args.bytes.now c.requires.sound.order)) (sound_inner c.args.form c.args.blocks c.args.bytes.now c.requires.sound flag (omega (arith, size, inside))) c.in-Ok.ensures.passes c.page_of-n.ensures.page
@@ -131,3 +133,13 @@ returns-clause-met g t c tells = λ fits page.
 
 pub returns-clause-below : goal.returns-clause-below
 returns-clause-below g t c = let a = c.in-Ok-cut_page.ensures.below in let b = c.in_ok-settle.ensures.came.1 in let m = c.in-Ok.ensures.most in omega (arith, a, b, m)
+
+pub returns-then-is_leaf-clause-framed : goal.returns-then-is_leaf-clause-framed
+returns-then-is_leaf-clause-framed g t c tells = none_framed (g.V.PageView.image c.args.view.now) c.args.cut.now.draft.pages.items c.cut_leaf.result c.requires.fresh.0
+
+pub returns-clause-framed : goal.returns-clause-framed
+returns-clause-framed g t c tells =
+    let image = g.V.PageView.image c.args.view.now in
+    subst (λ (ds : List Drafted). KeepsFrames (frame_of Full) image [] ds) (sym c.in-Ok-free_children.ensures.draft)
+    (settled_way image (g.V.PageView.image c.read_way.new.view) c.in-Ok-cut_page.kept c.page_of-n.result c.in-Ok.page.0 c.cut_page.new.bytes c.end_level.new.bytes c.cut_page.new.cut.draft.pages.items c.settle.new.cut.draft.pages.items c.cut_page.new.cut.pages.items c.settle.new.cut.pages.items
+    (c.in-Ok.ensures.image tells) (c.in-Ok.ensures.bytes tells ∙ ap (page_of image) (sym c.page_of-n.ensures.page)) (c.in-Ok-cut_page.ensures.framed tells) c.in_ok-settle.ensures.settles c.in-Ok-cut_page.ensures.frame c.end_level.ensures.frame)

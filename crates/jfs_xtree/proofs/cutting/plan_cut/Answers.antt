@@ -4,12 +4,14 @@ use Rattle.jfs_bits.specs.declared.rule.PageKind.TheVariants.{Xtree}
 use Rattle.jfs_tree.specs.Removes.{page_frees}
 use Rattle.jfs_tree.specs.Spells.{no_page}
 use Rattle.jfs_xtpage.specs.declared.head.XtHead.{XtHead}
-use Rattle.jfs_xtree.specs.Node.{is_leaf}
+use Rattle.jfs_xtpage.specs.declared.head.XtForm.TheVariants.{Full}
+use Rattle.jfs_xtree.specs.Node.{frame_of, is_leaf}
 use Rattle.jfs_xtree.specs.Errors.{handed_on}
 use Rattle.jfs_xtree.specs.CutMet.{FreesOnce, NamesFirstMet}
 use Rattle.jfs_xtree.specs.Cutting.{CutsExtents, run_frees}
 use Rattle.jfs_tree.proofs.Adds.{told_as}
 use Rattle.jfs_tree.proofs.Changed.{changes_as}
+use Rattle.jfs_tree.proofs.Framing.{kept_told}
 use Rattle.jfs_xtree.proofs.CutRoots.{cuts_extents}
 use Rattle.jfs_xtree.proofs.CutNamed.{frees_once, names_met, names_root_met}
 use Rattle.jfs_xtree.proofs.cutting.plan_cut.Goals as goal
@@ -54,3 +56,11 @@ returns-in-Ok-tell_cut-clause-edits g c tells =
       changes_as (g.V.PageView.block_count c.cut_page.new.view) (g.V.PageView.block_count c.args.view.now) Xtree (g.V.PageView.image c.cut_page.new.view) (g.V.PageView.image c.args.view.now) [] (page_frees freed ++ run_frees runs) c.args.tx.now c.in-Ok-tell_cut.later
           c.in-Ok.ensures.count_of_blocks (c.in-Ok.ensures.image tells) (c.in-Ok-tell_cut.ensures.changes tells),
     )
+
+pub returns-in-Ok-tell_cut-clause-named : goal.returns-in-Ok-tell_cut-clause-named
+returns-in-Ok-tell_cut-clause-named g c tells =
+    let image = g.V.PageView.image c.args.view.now in
+    let blocks = g.V.PageView.block_count c.args.view.now in
+    let drafts = c.cut_page.new.cut.draft.pages.items in
+    kept_told (frame_of Full) blocks image drafts c.args.tx.now c.in-Ok-tell_cut.later (c.in-Ok.ensures.framed tells)
+    (told_as (g.V.PageView.block_count c.cut_page.new.view) blocks (g.V.PageView.image c.cut_page.new.view) image drafts c.args.tx.now c.in-Ok-tell_cut.later c.in-Ok.ensures.count_of_blocks (c.in-Ok.ensures.image tells) (c.in-Ok-tell_cut.ensures.told tells))
