@@ -44,12 +44,16 @@ use Rattle.jfs_ranges.specs.declared.edit.Edit.{Edit}
 use Rattle.jfs_objects.specs.Image.{extent_place}
 use Rattle.jfs_way.specs.Answer.{is_open, Follows}
 use Rattle.jfs_ranges.specs.Laid.{put_tx}
-use Rattle.jfs_chmod.specs.Put.{AddsInode}
+use Rattle.jfs_steps.specs.Put.{AddsInode, TellsLines}
 use Rattle.jfs_way.specs.Volume.{volume_of}
 use Rattle.jfs_way.specs.Walk.{IsHeld, IsShown, IsThere, tree_in}
 use Rattle.jfs_way.specs.declared.object.Held.{Held}
 use Rattle.jfs_way.proofs.Places.{home_is}
-use Rattle.jfs_chmod.specs.Call.{IsDone, with_mode, with_pages}
+use Rattle.jfs_steps.specs.Call.{IsDone}
+use Rattle.jfs_steps.specs.Laws.{ChangesPagesAlone}
+use Rattle.jfs_steps.specs.After.{after_call}
+use Rattle.jfs_steps.proofs.After.{lines_alone, lines_leave, done_after}
+use Rattle.jfs_chmod.specs.Call.{with_mode}
 use Rattle.jfs_way.proofs.Nodes.{there, lives, node_is, inode_is}
 
 -- ---- the bits of a mode
@@ -259,16 +263,23 @@ nothing_put blocks pages = λ i b. same b i
 -- the call on pages and the map
 pub change_done : (blocks : ℕ) (pages : ℕ → List ℕ) (inodes : Inodes) (area : ℕ → ℕ) (bm : Blocks) → IsConsistent (readers blocks) (volume_of pages area bm inodes) → (at : Held) → IsHeld blocks inodes at → IsShown pages at
     → (path : List (List ℕ)) → Follows (λ m o. (m ≡ o.number) × IsThere (tree_in blocks pages area bm inodes) m) (walk (tree_in blocks pages area bm inodes) root path) (Ok at)
-    → (mode : ℕ) (now : Moment) → mode < 4096 → (tx : List Edit) → AddsInode blocks pages at.page at.number (with_mode at.inode mode now) [] tx
-    → IsDone blocks (volume_of pages area bm inodes) (with_pages blocks tx (volume_of pages area bm inodes)) (λ t. chmod t path mode now)
-change_done blocks pages inodes area bm con at held shown path f mode now few tx adds =
-    mode_done blocks (volume_of pages area bm inodes) con at.number at.page stood (subst (IsThere (tree_in blocks pages area bm inodes)) f.2.0 f.2.1) at.inode shown
+    → (mode : ℕ) (now : Moment) → mode < 4096 → (tx : List Edit) → AddsInode blocks pages at.page at.number (with_mode at.inode mode now) [] tx → TellsLines blocks pages at.page [] tx
+    → IsDone blocks (volume_of pages area bm inodes) (after_call blocks tx (volume_of pages area bm inodes)) (λ t. chmod t path mode now)
+change_done blocks pages inodes area bm con at held shown path f mode now few tx adds tells =
+    done_after blocks tx v (record v { page = put_tx blocks tx pages }) (λ t. chmod t path mode now) refl (sym (alone.extents v.extents)) refl (λ b. sym (ap (λ (used : ℕ → Bool). used b) (alone.used v.used)))
+    (mode_done blocks v con at.number at.page stood (subst (IsThere (tree_in blocks pages area bm inodes)) f.2.0 f.2.1) at.inode shown
     (at.inode.mode - at.inode.mode % 4096 + mode) mode now (type_is at.inode.mode mode few) (mode_is at.inode.mode mode few) (put_tx blocks tx pages)
     (subst (λ (old : ℕ → List ℕ). PutsInode old (put_tx blocks tx pages) (map extent_place inodes.extents) at.number (with_mode at.inode mode now)) (nothing_put blocks pages) (adds (map extent_place inodes.extents) stood))
-    path (f.1 ∙ ap (λ (n : ℕ). Ok n) f.2.0)
+    path (f.1 ∙ ap (λ (n : ℕ). Ok n) f.2.0))
   where
+    v : Volume
+    v = volume_of pages area bm inodes
+
     stood : home (map extent_place inodes.extents) at.number ≡ Some at.page
     stood = home_is inodes at.number ∙ held.home
+
+    alone : ChangesPagesAlone tx
+    alone = lines_alone tx (lines_leave blocks pages at.page [] tx tt tells)
 
 -- and where the path leads nowhere
 pub change_none : (t : Tree) (path : List (List ℕ)) (mode : ℕ) (now : Moment) (why : Refusal) → (walk t root path ≡ Err why) ⊎ (is_open why ≡ true) → (chmod t path mode now ≡ Err why) ⊎ (is_open why ≡ true)

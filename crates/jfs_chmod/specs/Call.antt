@@ -1,26 +1,12 @@
--- What a call's transaction does, and the change of a mode.
-use Rattle.std.specs.Prelude.{◌≡◌, ◌⊎◌, ◌+◌, ◌-◌, ◌%◌, ℕ, true, List, [], Result, Ok, Err}
+-- The change of a mode.
+use Rattle.std.specs.Prelude.{◌≡◌, ℕ, ◌+◌, ◌-◌, ◌%◌, List, [], Ok}
 use Rattle.jfs_bits.specs.declared.descriptor.Moment.{Moment}
 use Rattle.jfs_inode.specs.declared.fields.Dinode.{Dinode}
 use Rattle.jfs_imap.specs.Inodes.{Inodes}
-use Rattle.jfs_bmap.specs.States.{Blocks}
 use Rattle.jfs_ranges.specs.declared.edit.Edit.{Edit}
-use Rattle.jfs_plain.specs.Tree.{Tree}
-use Rattle.jfs_plain.specs.Moves.{Same}
-use Rattle.jfs_plain.specs.Step.{Outcome}
-use Rattle.jfs_plain.specs.declared.refusal.Refusal.{Refusal}
-use Rattle.jfs_plain.specs.declared.reply.Reply.TheVariants.{Done}
-use Rattle.jfs_objects.specs.Volume.{Volume}
-use Rattle.jfs_meaning.specs.Readers.{readers}
-use Rattle.jfs_meaning.specs.Tree.{tree_on}
-use Rattle.jfs_meaning.specs.Consistent.{IsConsistent}
 use Rattle.jfs_way.specs.Way.{path_of}
 use Rattle.jfs_way.specs.declared.object.Held.{Held}
-use Rattle.jfs_chmod.specs.Put.{AddsInode, TellsLines}
-use Rattle.jfs_way.specs.Answer.{is_open}
-use Rattle.jfs_ranges.specs.Laid.{put_tx}
-use Rattle.jfs_way.specs.Walk.{IfConsistent}
-use Rattle.jfs_way.specs.Volume.{volume_of, PlacesWithin}
+use Rattle.jfs_steps.specs.Put.{AddsInode, TellsLines}
 
 -- The inode with other permission bits, changed now. They are the low twelve.
 abbrev pub with_mode : Dinode → ℕ → Moment → Dinode
@@ -29,20 +15,3 @@ with_mode d mode now = record d { mode = d.mode - d.mode % 4096 + mode; ctime = 
 -- The transaction puts the inode at the end of a path with other permission bits, and a new time, and tells exactly the lines that change, whatever the volume holds.
 abbrev pub SetsMode : ℕ → (ℕ → List ℕ) → Inodes → List (List ℕ) → ℕ → Moment → List Edit → Type 0
 SetsMode blocks pages inodes path mode now tx = (at : Held) × (path_of blocks pages inodes path ≡ Ok at) × AddsInode blocks pages at.page at.number (with_mode at.inode mode now) [] tx × TellsLines blocks pages at.page [] tx
-
--- a volume whose pages have changed, and nothing else
-abbrev pub with_pages : ℕ → List Edit → Volume → Volume
-with_pages blocks tx v = record v { page = put_tx blocks tx v.page }
-
--- The call is done: the volume after it is consistent, and has the plain tree.
-pub record IsDone (blocks : ℕ) (v w : Volume) (plain : Tree → Outcome) : Type 0 where
-  pub tree : Tree
-  pub outcome : plain (tree_on (readers blocks) v) ≡ Ok (Done, tree)
-  pub same : Same tree (tree_on (readers blocks) w)
-  pub consistent : IsConsistent (readers blocks) w
-
--- The transaction takes the plain step of a consistent volume's tree; a refusal is the plain step's, or it is open.
-abbrev pub Steps : ℕ → (ℕ → List ℕ) → Inodes → (Tree → Outcome) → Result (List Edit) Refusal → Type 0
-Steps blocks pages inodes plain (Ok tx) = PlacesWithin blocks inodes → (area : ℕ → ℕ) (bm : Blocks) → IsConsistent (readers blocks) (volume_of pages area bm inodes)
-    → IsDone blocks (volume_of pages area bm inodes) (with_pages blocks tx (volume_of pages area bm inodes)) plain
-Steps blocks pages inodes plain (Err why) = IfConsistent blocks pages inodes (λ t. (plain t ≡ Err why) ⊎ (is_open why ≡ true))

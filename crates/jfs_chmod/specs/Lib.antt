@@ -1,3 +1,2 @@
 -- what the clauses say
-pub mod Put
 pub mod Call

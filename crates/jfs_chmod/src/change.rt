@@ -5,15 +5,16 @@ ghost use Rattle.jfs_disk.specs.Image.{page_of};
 ghost use Rattle.jfs_plain.specs.Step.{chmod};
 ghost use Rattle.jfs_way.specs.Answer.{Carries, Answers};
 ghost use Rattle.jfs_way.specs.Way.{path_of};
-ghost use Rattle.jfs_chmod.specs.Call.{SetsMode, Steps, with_mode};
+ghost use Rattle.jfs_steps.specs.Call.{Steps};
+ghost use Rattle.jfs_chmod.specs.Call.{SetsMode, with_mode};
 
-use crate::put::put_inode;
 use jfs_bits::Moment;
 use jfs_imap::InodeMap;
 use jfs_inode::Dinode;
 use jfs_name::Name;
 use jfs_plain::Refusal;
 use jfs_ranges::{PageView, Tx};
+use jfs_steps::put_inode;
 use jfs_way::walk;
 use std::alloc::Global;
 

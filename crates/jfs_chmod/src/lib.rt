@@ -2,7 +2,6 @@
 #![tactic(auto)]
 
 mod change;
-mod put;
 
 pub use change::change_mode;
-pub use put::put_inode;
+pub use jfs_steps::put_inode;

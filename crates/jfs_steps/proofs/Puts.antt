@@ -10,7 +10,7 @@ use Rattle.jfs_tree.specs.Tell.{LeavesOthers, TellsRuns}
 use Rattle.jfs_objects.specs.Volume.{slot_of}
 use Rattle.jfs_objects.proofs.Sums.{eq_or_not}
 use Rattle.jfs_ranges.specs.Laid.{put_tx}
-use Rattle.jfs_chmod.specs.Put.{AddsInode, TellsLines}
+use Rattle.jfs_steps.specs.Put.{AddsInode, TellsLines}
 
 pub put_within : (blocks : ℕ) (tx : List Edit) (pages : ℕ → List ℕ) (b : ℕ) → b < blocks → put_tx blocks tx pages b ≡ apply_tx b tx (pages b)
 put_within blocks tx pages b l = ap (λ (x : Bool). if x then apply_tx b tx (pages b) else pages b) (lt-ltb b blocks l)

@@ -5,7 +5,7 @@ ghost use Rattle.jfs_disk.specs.Image.{page_of};
 ghost use Rattle.jfs_inode.specs.Inode.{FitsDinode};
 ghost use Rattle.jfs_ranges.specs.Apply.{apply_tx};
 ghost use Rattle.jfs_way.specs.Answer.{is_open, Carries};
-ghost use Rattle.jfs_chmod.specs.Put.{AddsInode, TellsLines};
+ghost use Rattle.jfs_steps.specs.Put.{AddsInode, TellsLines};
 
 use jfs_bits::PageKind;
 use jfs_disk::Page;
