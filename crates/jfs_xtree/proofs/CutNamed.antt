@@ -1,5 +1,5 @@
 -- What a cut of a whole tree frees and names, whatever its pages hold.
-use Rattle.std.proofs.Common.{◌≡◌, ◌≤◌, ◌<◌, inl, inr, refl, sym, ap, subst, ℕ, zero, suc, Bool, true, false, List, [], ◌∷◌, ◌++◌, map, length, None, Ok, Err, arith}
+use Rattle.std.proofs.Common.{◌≡◌, ◌≤◌, ◌<◌, ◌+◌, inl, inr, refl, sym, ap, subst, ℕ, zero, suc, Bool, true, false, List, [], ◌∷◌, ◌++◌, map, length, None, Ok, Err, arith}
 use Rattle.jfs_bits.specs.declared.extent.Xad.{Xad}
 use Rattle.jfs_bits.specs.declared.descriptor.Pxd.{Pxd}
 use Rattle.jfs_bits.specs.declared.rule.Rule.{Rule}
@@ -23,7 +23,7 @@ use Rattle.jfs_xtree.specs.Node.{xt_scale, xt_node, is_leaf, child_of, IsSound}
 use Rattle.jfs_xtree.specs.Spells.{root_form, page_nodes}
 use Rattle.jfs_xtree.specs.Errors.{handed_on}
 use Rattle.jfs_xtree.specs.Cutting.{gone_past, run_frees}
-use Rattle.jfs_xtree.specs.CutMet.{met_below, met_of, FreesOnce, NamesFirstMet}
+use Rattle.jfs_xtree.specs.CutMet.{met_below, met_of, path_below, way_pages, FreesOnce, NamesFirstMet}
 use Rattle.jfs_xtree.specs.CutParts.{CutMet, FitsLeaf, StopsAt, shows}
 use Rattle.jfs_xtree.proofs.Reading.{sound_leaf, sound_inner}
 use Rattle.jfs_xtree.proofs.CutInners.{here_zero}
@@ -40,20 +40,21 @@ record Once (bound : ℕ) (pages : ℕ → Node ℕ Xad) (root : Node ℕ Xad) (
   once : (n : ℕ) → count_in n freed ≤ 1
   inside : (n : ℕ) → count_in n freed ≤ times n (met_of pages bound root)
   gone : runs ≡ gone_past bound xs
+  rest : (n : ℕ) → times n (met_of pages bound root) ≤ count_in n freed + count_in n (path_below (way_pages pages bound 7) bound root)
 
 none_once : (bound : ℕ) (pages : ℕ → Node ℕ Xad) (freed : List ℕ) (runs : List Pxd) → freed ≡ [] → runs ≡ [] → Once bound pages (Leaf []) freed runs
-none_once bound pages freed runs none empty = record { xs = []; met_is = refl; once = λ n. (let e = ap (count_in n) none in omega (arith, e)); inside = λ n. (let e = ap (count_in n) none in omega (arith, e)); gone = empty }
+none_once bound pages freed runs none empty = record { xs = []; met_is = refl; once = λ n. (let e = ap (count_in n) none in omega (arith, e)); inside = λ n. (let e = ap (count_in n) none in omega (arith, e)); gone = empty; rest = λ n. omega arith }
 
 leaf_once : (bound high below : ℕ) (pages : ℕ → Node ℕ Xad) (es : List Xad) (kept : Bool) (freed : List ℕ) (runs : List Pxd) → (FitsFirst xt_scale 0 es → CutMet pages bound 7 (top xt_scale) (Leaf es) high below kept freed runs) → (freed ≡ []) × (runs ≡ gone_past bound es)
     → Once bound pages (Leaf es) freed runs
 leaf_once bound high below pages [] kept freed runs cut none = none_once bound pages freed runs none.0 none.1
 leaf_once bound high below pages (e ∷ es) kept freed runs cut none =
     let m = cut refl in
-    record { xs = rows_of (met_below pages bound 7 (top xt_scale) (Leaf (e ∷ es))); met_is = rises_judged 0 (met_below pages bound 7 (top xt_scale) (Leaf (e ∷ es))) high m.rises; once = λ n. (m.spread n).0; inside = m.inside; gone = m.gone }
+    record { xs = rows_of (met_below pages bound 7 (top xt_scale) (Leaf (e ∷ es))); met_is = rises_judged 0 (met_below pages bound 7 (top xt_scale) (Leaf (e ∷ es))) high m.rises; once = λ n. (m.spread n).0; inside = m.inside; gone = m.gone; rest = m.rest }
 
 inner_once : (bound high below : ℕ) (pages : ℕ → Node ℕ Xad) (cs : List (Child ℕ)) (kept : Bool) (freed : List ℕ) (runs : List Pxd) → CutMet pages bound 7 (top xt_scale) (Inner cs) high below kept freed runs → Once bound pages (Inner cs) freed runs
 inner_once bound high below pages cs kept freed runs m =
-    record { xs = rows_of (met_below pages bound 7 (top xt_scale) (Inner cs)); met_is = rises_judged 0 (met_below pages bound 7 (top xt_scale) (Inner cs)) high m.rises; once = λ n. (m.spread n).0; inside = m.inside; gone = m.gone }
+    record { xs = rows_of (met_below pages bound 7 (top xt_scale) (Inner cs)); met_is = rises_judged 0 (met_below pages bound 7 (top xt_scale) (Inner cs)) high m.rises; once = λ n. (m.spread n).0; inside = m.inside; gone = m.gone; rest = m.rest }
 
 some_entries : (root : List ℕ) → 2 < (head_of root).nextindex → 0 < length (entries_of root)
 some_entries root l = let size = length-entries root 0 (count_of root) in omega (arith, size, l)
@@ -85,7 +86,7 @@ pub frees_once : (form : XtForm) (blocks bound high below : ℕ) (root : List �
     → (is_leaf (head_of root).flag ≡ true → (freed ≡ []) × (runs ≡ gone_past bound (entries_of root))) → TellsThen (page_frees freed ++ run_frees runs) tx later → FreesOnce blocks (page_of image) bound root tx later
 frees_once form blocks bound high below root image kept freed runs tx later is sound some cut leaf told =
     let o = subst (λ f. Once bound (page_nodes blocks (page_of image)) (xt_node f blocks root) freed runs) is (root_once form blocks bound high below root image kept freed runs sound some cut leaf) in
-    (o.xs, freed, o.met_is, o.once, o.inside, subst (λ ps. TellsThen (page_frees freed ++ run_frees ps) tx later) o.gone told)
+    (o.xs, freed, o.met_is, o.once, o.inside, subst (λ ps. TellsThen (page_frees freed ++ run_frees ps) tx later) o.gone told, o.rest)
 
 -- ---- what is named
 

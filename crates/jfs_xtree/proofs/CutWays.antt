@@ -29,7 +29,7 @@ use Rattle.jfs_xtpage.proofs.Entries.{length-entries}
 use Rattle.jfs_xtree.specs.Node.{xt_scale, xt_node, is_leaf, child_of, IsSound, LeadsAt}
 use Rattle.jfs_xtree.specs.Spells.{page_nodes}
 use Rattle.jfs_xtree.specs.Cutting.{gone_past}
-use Rattle.jfs_xtree.specs.CutMet.{begins_below, from_way, of_first, below_way, way_levels, on_way, met_children, met_body, met, met_below}
+use Rattle.jfs_xtree.specs.CutMet.{begins_below, from_way, of_first, below_way, way_levels, path_first, path_below, way_pages, on_way, met_children, met_body, met, met_below}
 use Rattle.jfs_xtree.specs.CutParts.{Frees, StopsAt, BreaksAlone, CutsPage, CutMet, FitsLeaf, Spread, AllFrom, shows, runs_of, pages_in, place_after, key_at, part_of, children_from}
 use Rattle.jfs_xtree.proofs.Pages.{rises_less}
 use Rattle.jfs_xtree.proofs.Reading.{sound_leaf}
@@ -125,6 +125,7 @@ on_place bound last key place bytes order is leads =
 record WayIs (nodes : ℕ → Node ℕ Xad) (bound most : ℕ) (c : Child ℕ) (node : Node ℕ Xad) (key n : ℕ) (back : List Xad) : Type 0 where
   met_is : met_below nodes bound most c node ≡ met nodes bound most (record { key = key; page = n }) ++ flat_map (walk xt_scale nodes (way_levels nodes bound most n)) (map child_of back)
   level : below_way (way_levels nodes bound most) bound node ≡ way_levels nodes bound most n
+  path : path_below (way_pages nodes bound most) bound node ≡ way_pages nodes bound most n
 
 way_is : (nodes : ℕ → Node ℕ Xad) (bound most last place key n : ℕ) (c : Child ℕ) (node : Node ℕ Xad) (bytes : List ℕ) → rises_from 0 (entries_of bytes) ≡ true → last ≡ bound - 1 → LeadsAt bytes last place
     → node ≡ Inner (map child_of (entries_of bytes)) → key ≡ key_at c.key place (entry_of bytes place).offset → n ≡ (entry_of bytes place).at.addr → WayIs nodes bound most c node key n (drop (place + 1) (entries_of bytes))
@@ -135,6 +136,7 @@ way_is nodes bound most last place key n c node bytes order is leads inner keyed
     let whole : WayIs nodes bound most c (Inner (map child_of (entries_of bytes))) (key_at c.key place x.offset) x.at.addr (drop (place + 1) (entries_of bytes)) = record {
       met_is = ap (met_children nodes (met nodes bound most) (way_levels nodes bound most)) w.under_key;
       level = ap (of_first (way_levels nodes bound most)) w.alone;
+      path = ap (path_first (way_pages nodes bound most)) w.alone;
     } in
     subst (λ o. WayIs nodes bound most c o key n (drop (place + 1) (entries_of bytes))) (sym inner)
     (subst (λ k. WayIs nodes bound most c (Inner (map child_of (entries_of bytes))) k n (drop (place + 1) (entries_of bytes))) (sym keyed)
@@ -239,10 +241,11 @@ record ChildMet (nodes : ℕ → Node ℕ Xad) (bound most low key n mid b : ℕ
   gone : runs ≡ gone_past bound (rows_of (met nodes bound most (record { key = key; page = n })))
   inside : (m : ℕ) → (if n == m then 1 else 0) + count_in m freed ≤ times m (met nodes bound most (record { key = key; page = n }))
   whole : kept ≡ false → met nodes bound most (record { key = key; page = n }) ≡ part_of nodes b key n
+  rest : (m : ℕ) → times m (met nodes bound most (record { key = key; page = n })) ≤ count_in m freed + count_in m (way_pages nodes bound most n)
 
 child_met : (nodes : ℕ → Node ℕ Xad) (bound most less low key n mid b : ℕ) (kept : Bool) (freed : List ℕ) (runs : List Pxd) → most ≡ suc less → low ≤ key → CutMet nodes bound less (record { key = key; page = n }) (nodes n) mid b kept freed runs
     → ChildMet nodes bound most low key n mid b kept freed runs
-unfolding met way_levels walk
+unfolding met way_levels way_pages walk
 child_met nodes bound most less low key n mid b kept freed runs more l m =
     subst (λ k. ChildMet nodes bound k low key n mid b kept freed runs) (sym more)
     (record {
@@ -252,6 +255,7 @@ child_met nodes bound most less low key n mid b kept freed runs more l m =
       gone = m.gone;
       inside = λ p. (let i = m.inside p in omega (arith, i));
       whole = λ z. ap (λ ms. Key n key ∷ Page n ∷ ms) (m.whole z);
+      rest = λ p. (let i = m.rest p in omega (arith, i));
     })
 
 pub behind_is : (nodes : ℕ → Node ℕ Xad) (b place mid : ℕ) (bytes : List ℕ) → children_from nodes b (place + 1) mid (entries_of bytes) ≡ flat_map (walk xt_scale nodes (suc b)) (map child_of (drop (place + 1) (entries_of bytes)))
@@ -288,6 +292,10 @@ child_spread blocks bound low key n mid b image after false one two runs l s sam
 inner_shows : (nodes : ℕ → Node ℕ Xad) (below b : ℕ) (c : Child ℕ) (node : Node ℕ Xad) (ys : List Xad) → below ≡ suc b → node ≡ Inner (map child_of ys) → 0 < length ys → shows nodes below c node ≡ children_from nodes b 0 c.key ys
 inner_shows nodes below b c node ys e is some =
     ap (λ l. shows nodes l c node) e ∙ ap (λ o. body (walk xt_scale nodes (suc b)) c o) (ap (placed xt_scale (suc b) c.key) is ∙ some_children b c.key ys some)
+
+two_rest : (n : ℕ) (k : Bool) (one two : List ℕ) → (k ≡ true → two ≡ one) → (k ≡ false → two ≡ one ++ n ∷ []) → (p : ℕ) → count_in p one ≤ count_in p two
+two_rest n true one two same pushed p = let e = ap (count_in p) (same refl) in omega (arith, e)
+two_rest n false one two same pushed p = let e = ap (count_in p) (pushed refl) in let a = count-append p one (n ∷ []) in omega (arith, e, a)
 
 two_inside : (n : ℕ) (k : Bool) (one two : List ℕ) → (k ≡ true → two ≡ one) → (k ≡ false → two ≡ one ++ n ∷ []) → (p : ℕ) → count_in p two ≤ (if n == p then 1 else 0) + count_in p one
 two_inside n true one two same pushed p = let e = ap (count_in p) (same refl) in omega (arith, e)
@@ -328,6 +336,9 @@ inner_met blocks bound most less last place key n mid b high below c node bytes 
       inside = λ p.
           (let a = ap (count_in p) f.pages in let d = count-append p two (pages_in R) in let e = count_pages p R in let i = h.inside p in let j = two_inside n k one two same pushed p in let t = times-append p M R in let s = ap (times p) split in
           omega (arith, a, d, e, i, j, t, s));
+      rest = λ p.
+          (let a = ap (count_in p) f.pages in let d = count-append p two (pages_in R) in let e = count_pages p R in let i = h.rest p in let j = two_rest n k one two same pushed p in let t = times-append p M R in let s = ap (times p) split in
+          let v = ap (count_in p) w.path in omega (arith, a, d, e, i, j, t, s, v));
       whole = λ z. (let y = none z in all_met nodes h.level (h.whole y.1) split y.0 (let x = y.0 in omega (arith, x, inside)));
     }
   where
@@ -343,6 +354,13 @@ inner_met blocks bound most less last place key n mid b high below c node bytes 
 
 -- ---- a leaf that was cut
 
+abbrev rows_at : ℕ → List Xad → Marks ℕ Xad
+rows_at page es = map (Row page) es
+
+rows_no_pages : (n page : ℕ) (es : List Xad) → times n (rows_at page es) ≡ 0
+rows_no_pages n page [] = refl
+rows_no_pages n page (e ∷ es) = rows_no_pages n page es
+
 leaf_met : (nodes : ℕ → Node ℕ Xad) (bound most low page high below : ℕ) (es : List Xad) (kept : Bool) (freed : List ℕ) (runs : List Pxd) → FitsFirst xt_scale low es → rises_from 0 es ≡ true → freed ≡ [] → runs ≡ gone_past bound es → high ≡ place_after low (map (Row page) es) → below ≡ 0
     → CutMet nodes bound most (record { key = low; page = page }) (Leaf es) high below kept freed runs
 leaf_met nodes bound most low page high below [] kept freed runs fits r none gone end z = absurd fits
@@ -356,6 +374,7 @@ leaf_met nodes bound most low page high below (e ∷ es) kept freed runs fits r 
       gone = gone ∙ ap (gone_past bound) (sym (ap rows_of is ∙ rows_leaf ℕ page (e ∷ es)));
       spread = spread_none nodes low high (λ n. count_in n freed) (λ n. ap (count_in n) none);
       inside = λ n. (let e = ap (count_in n) none in omega (arith, e));
+      rest = λ n. (let t = ap (times n) is in let z = rows_no_pages n page (e ∷ es) in omega (arith, t, z));
       whole = λ k. is ∙ sym (ap (λ b. shows nodes b c (Leaf (e ∷ es))) z ∙ ap (body (walk xt_scale nodes 0) c) (placed_leaf xt_scale low (e ∷ es) fits));
     }
 

@@ -1,5 +1,5 @@
 -- What a cut meets of a tree, from left to right: the pages on the way to the bound, the extents of the leaf at its end, and all that stands behind the way.
-use Rattle.std.specs.Prelude.{◌≡◌, ◌≤◌, ℕ, zero, suc, Bool, false, nat_lt, if◌then◌else◌, List, [], ◌∷◌, ◌++◌, map, Result, Ok, Err}
+use Rattle.std.specs.Prelude.{◌≡◌, ◌≤◌, ◌+◌, ℕ, zero, suc, Bool, false, nat_lt, if◌then◌else◌, List, [], ◌∷◌, ◌++◌, map, Result, Ok, Err}
 use Rattle.std.specs.List.{flat_map}
 use Rattle.jfs_bits.specs.declared.extent.Xad.{Xad}
 use Rattle.jfs_bits.specs.declared.rule.Rule.{Rule}
@@ -40,6 +40,24 @@ unfoldable pub way_levels : (ℕ → Node ℕ Xad) → ℕ → ℕ → ℕ → �
 way_levels nodes bound zero page = 0
 way_levels nodes bound (suc most) page = suc (below_way (way_levels nodes bound most) bound (nodes page))
 
+abbrev pub path_first : (ℕ → List ℕ) → List (Child ℕ) → List ℕ
+path_first f [] = []
+path_first f (c ∷ cs) = f c.page
+
+abbrev pub path_below : (ℕ → List ℕ) → ℕ → Node ℕ Xad → List ℕ
+path_below f bound (Leaf es) = []
+path_below f bound (Inner cs) = path_first f (from_way bound cs)
+path_below f bound (Broken rule) = []
+
+-- the pages on the way from a page on, at most so many
+unfoldable pub way_pages : (ℕ → Node ℕ Xad) → ℕ → ℕ → ℕ → List ℕ
+way_pages nodes bound zero page = []
+way_pages nodes bound (suc most) page = page ∷ path_below (way_pages nodes bound most) bound (nodes page)
+
+-- and below a root
+abbrev pub way_of_cut : ℕ → (ℕ → List ℕ) → ℕ → List ℕ → List ℕ
+way_of_cut blocks pages bound root = path_below (way_pages (page_nodes blocks pages) bound 7) bound (root_node blocks root)
+
 -- A page on the way isn't empty, and a leaf's first extent fits its key.
 abbrev pub on_way : ℕ → Node ℕ Xad → Node ℕ Xad
 on_way key (Leaf []) = Broken rules.Deep
@@ -77,10 +95,11 @@ met_of pages bound (Broken rule) = Fault no_page rule ∷ []
 abbrev pub met_extents : ℕ → (ℕ → List ℕ) → ℕ → List ℕ → Result (List Xad) (ℕ × Rule)
 met_extents blocks pages bound root = judge xt_scale 0 (met_of (page_nodes blocks pages) bound (root_node blocks root))
 
--- Whatever the pages hold: no page is freed twice, nor one that wasn't met, and the blocks that are freed are those that the extents met, which rise, have past the bound.
+-- Whatever the pages hold: no page is freed twice, nor one that wasn't met, each that was met and isn't on the way to the bound is freed, and the blocks that are freed are those that the extents met, which rise, have past the bound.
 abbrev pub FreesOnce : ℕ → (ℕ → List ℕ) → ℕ → List ℕ → List Edit → List Edit → Type 0
 FreesOnce blocks pages bound root tx later = (xs : List Xad) × (freed : List ℕ) × (met_extents blocks pages bound root ≡ Ok xs) × ((n : ℕ) → count_in n freed ≤ 1)
     × ((n : ℕ) → count_in n freed ≤ times n (met_of (page_nodes blocks pages) bound (root_node blocks root))) × TellsThen (page_frees freed ++ run_frees (gone_past bound xs)) tx later
+    × ((n : ℕ) → times n (met_of (page_nodes blocks pages) bound (root_node blocks root)) ≤ count_in n freed + count_in n (way_of_cut blocks pages bound root))
 
 -- A page is named exactly where it is the first one that breaks a rule in what the cut meets, and then the root spells no list.
 abbrev pub NamesFirstMet : ℕ → (ℕ → List ℕ) → ℕ → List ℕ → XtError → Type 0

@@ -16,7 +16,7 @@ use Rattle.jfs_xtpage.specs.Page.{head_of, entries_of, end_of}
 use Rattle.jfs_xtree.specs.Node.{xt_scale, is_leaf, child_of}
 use Rattle.jfs_xtree.specs.Spells.{page_nodes}
 use Rattle.jfs_xtree.specs.Cutting.{kept_below, gone_past}
-use Rattle.jfs_xtree.specs.CutMet.{below_way, way_levels, met_below}
+use Rattle.jfs_xtree.specs.CutMet.{below_way, way_levels, path_below, way_pages, met_below}
 
 -- A part was cut: its entries are those below the bound, its pages are those that it has still and those that are free now, and each page that isn't its own now keeps its bytes.
 pub record CutPart (bound : ℕ) (before after : ℕ → List ℕ) (low : ℕ) (old new : Marks ℕ Xad) (high : Option ℕ) (freed : List ℕ) (runs : List Pxd) : Type 0 where
@@ -157,7 +157,7 @@ Starts nodes (suc below) page x = StartsBelow (Starts nodes below) below (nodes 
 abbrev pub Spread : (ℕ → Node ℕ Xad) → ℕ → ℕ → (ℕ → ℕ) → Type 0
 Spread nodes low high count = (n : ℕ) → (count n ≤ 1) × (0 < count n → (levels : ℕ) × (x : Xad) × Starts nodes levels n x × (low ≤ x.offset) × (end_of x ≤ high))
 
--- A page that reads so was cut, with all that is met below it: what is met rises, and each freed page once. Where nothing is kept, all that stands below the page was met.
+-- A page that reads so was cut, with all that is met below it: what is met rises, and each freed page once. Where nothing is kept, all that stands below the page was met. What was met and isn't on the way was freed.
 pub record CutMet (nodes : ℕ → Node ℕ Xad) (bound most : ℕ) (c : Child ℕ) (node : Node ℕ Xad) (high below : ℕ) (kept : Bool) (freed : List ℕ) (runs : List Pxd) : Type 0 where
   pub level : below ≡ below_way (way_levels nodes bound most) bound node
   pub rises : Rises xt_scale c.key (met_below nodes bound most c node) (Some high)
@@ -166,6 +166,7 @@ pub record CutMet (nodes : ℕ → Node ℕ Xad) (bound most : ℕ) (c : Child �
   pub spread : Spread nodes c.key high (λ n. count_in n freed)
   pub inside : (n : ℕ) → count_in n freed ≤ times n (met_below nodes bound most c node)
   pub whole : kept ≡ false → met_below nodes bound most c node ≡ shows nodes below c node
+  pub rest : (n : ℕ) → times n (met_below nodes bound most c node) ≤ count_in n freed + count_in n (path_below (way_pages nodes bound most) bound node)
 
 -- a leaf's first extent fits the key
 abbrev pub FitsLeaf : ℕ → List ℕ → Type 0
