@@ -9,7 +9,7 @@ use Rattle.jfs_tree.specs.Walk.{Child, Node, Inner, Page, Key, Row, Fault, Marks
 use Rattle.jfs_tree.specs.Edit.{count_in, own, bound, Tail, IsCons}
 use Rattle.jfs_tree.specs.Shrink.{kept_of}
 use Rattle.jfs_tree.proofs.Rising.{rises_higher, rises_join, rises_cut}
-use Rattle.jfs_tree.specs.Levels.{InLine, IsFilled, pages_below}
+use Rattle.jfs_tree.specs.Levels.{InLine, IsFilledTo, pages_below}
 use Rattle.jfs_tree.proofs.Filling.{numbers, numbers-append, numbers_under, line_parts, line_both, children_stay, below_stays, page_filled}
 use Rattle.jfs_tree.proofs.Frame.{Agree, times-append, rows-append, frame, same_body}
 use Rattle.jfs_tree.proofs.Between.{append_nil, rows_three, times_three, cut_at_key}
@@ -75,17 +75,17 @@ to_high mid ms (Fault n f ∷ rest) high t r = absurd t
 
 -- the pages before the one that was cut are as filled as before
 front_filled : (before after : ℕ → Node ℕ Xad) (levels key mid : ℕ) (front : List (Child ℕ)) (t : Child ℕ) (back : List (Child ℕ)) (k : Bool) → Rises xt_scale key (flat_map (walk xt_scale before levels) (under key front)) (Some mid)
-    → Agree before after (flat_map (walk xt_scale before levels) (under key front)) → (k ≡ true → (depth : ℕ) → IsFilled before depth true t.page → IsFilled after depth true t.page)
-    → (depth : ℕ) → InLine (IsFilled before depth) true (numbers (front ++ t ∷ back)) → InLine (IsFilled after depth) true (numbers (front ++ kept_of k t))
-front_filled before after levels key mid front t back k rises agree child depth line =
-    let l = line_parts 64 before depth (numbers front) t.page (numbers back) (subst (InLine (IsFilled before depth) true) (numbers-append front (t ∷ back)) line) in
-    let stays = subst (InLine (IsFilled after depth) false) (numbers_under key front)
-    (children_stay 64 xt_scale order before after levels depth (under key front) key (Some mid) false rises agree (subst (InLine (IsFilled before depth) false) (sym (numbers_under key front)) l.0)) in
-    by k stays (λ e. child e depth l.1)
+    → Agree before after (flat_map (walk xt_scale before levels) (under key front)) → (k ≡ true → (least depth : ℕ) → IsFilledTo least before depth true t.page → IsFilledTo least after depth true t.page)
+    → (least depth : ℕ) → InLine (IsFilledTo least before depth) true (numbers (front ++ t ∷ back)) → InLine (IsFilledTo least after depth) true (numbers (front ++ kept_of k t))
+front_filled before after levels key mid front t back k rises agree child least depth line =
+    let l = line_parts least before depth (numbers front) t.page (numbers back) (subst (InLine (IsFilledTo least before depth) true) (numbers-append front (t ∷ back)) line) in
+    let stays = subst (InLine (IsFilledTo least after depth) false) (numbers_under key front)
+    (children_stay least xt_scale order before after levels depth (under key front) key (Some mid) false rises agree (subst (InLine (IsFilledTo least before depth) false) (sym (numbers_under key front)) l.0)) in
+    by k stays (λ e. child e least depth l.1)
   where
-    by : (j : Bool) → InLine (IsFilled after depth) false (numbers front) → (j ≡ true → IsFilled after depth true t.page) → InLine (IsFilled after depth) true (numbers (front ++ kept_of j t))
-    by true stays here = subst (InLine (IsFilled after depth) true) (sym (numbers-append front (t ∷ []))) (line_both 64 after depth true (numbers front) (t.page ∷ []) stays (here refl))
-    by false stays here = subst (InLine (IsFilled after depth) true) (sym (numbers-append front [])) (line_both 64 after depth true (numbers front) [] stays tt)
+    by : (j : Bool) → InLine (IsFilledTo least after depth) false (numbers front) → (j ≡ true → IsFilledTo least after depth true t.page) → InLine (IsFilledTo least after depth) true (numbers (front ++ kept_of j t))
+    by true stays here = subst (InLine (IsFilledTo least after depth) true) (sym (numbers-append front (t ∷ []))) (line_both least after depth true (numbers front) (t.page ∷ []) stays (here refl))
+    by false stays here = subst (InLine (IsFilledTo least after depth) true) (sym (numbers-append front [])) (line_both least after depth true (numbers front) [] stays tt)
 
 -- a page whose child `t` was cut, and whose children behind it were freed
 parts_cut : (blocks limit : ℕ) (before after : ℕ → List ℕ) (lower : ℕ) (c : Child ℕ) (front : List (Child ℕ)) (t : Child ℕ) (back : List Xad) (k : Bool) (one freed : List ℕ) (first runs : List Pxd) (high : Option ℕ)
@@ -141,7 +141,7 @@ inner_cuts blocks limit before after front t back k true new one freed first run
     let cut = parts_cut blocks limit before after lower c front t back k one freed first runs high cuts frees above past r once in (
       subst (λ ms. CutPart limit before after c.key (shows (page_nodes blocks before) (suc lower) c (Inner (front ++ t ∷ map child_of back))) ms high freed runs)
           (sym (ap (shows (page_nodes blocks after) (suc lower) c) s.0 ∙ shown_left (page_nodes blocks after) lower c front t k s.1)) cut.0,
-      λ e depth line. subst (λ (node : Node ℕ Xad). InLine (IsFilled (page_nodes blocks after) depth) true (pages_below node)) (sym s.0) (cut.1 depth line),
+      λ e least depth line. subst (λ (node : Node ℕ Xad). InLine (IsFilledTo least (page_nodes blocks after) depth) true (pages_below node)) (sym s.0) (cut.1 least depth line),
     )
 inner_cuts blocks limit before after front t back k false new one freed first runs cuts frees above past some none (suc lower) c high r once =
     let n = none refl in (
@@ -194,8 +194,8 @@ page_kept blocks limit before middle after page new freed runs cuts here others 
             pages = λ n. (let h = cut.pages n in omega (arith, h));
             keeps = λ n z. (let o = other_page page n (times n M) z in others n o.0 ∙ cut.keeps n o.1);
           }),
-      λ e. page_filled 64 (page_nodes blocks before) (page_nodes blocks after) page new
-          (λ depth line. below_stays 64 xt_scale order (page_nodes blocks middle) (page_nodes blocks after) below depth c new key high true cut.rises agree (part.1 refl depth line)) here,
+      λ e least. page_filled least (page_nodes blocks before) (page_nodes blocks after) page new
+          (λ depth line. below_stays least xt_scale order (page_nodes blocks middle) (page_nodes blocks after) below depth c new key high true cut.rises agree (part.1 refl least depth line)) here,
     )
 
 pub page_gone : (blocks limit : ℕ) (before middle after : ℕ → List ℕ) (page : ℕ) (new : Node ℕ Xad) (one freed : List ℕ) (runs : List Pxd)

@@ -14,7 +14,7 @@ use Rattle.jfs_tree.specs.Draft.{shown}
 use Rattle.jfs_tree.specs.Tell.{TellsDraft, TellsThen}
 use Rattle.jfs_tree.specs.declared.draft.Drafted.{Drafted}
 use Rattle.jfs_tree.proofs.Frame.{frame, same_body}
-use Rattle.jfs_tree.specs.Levels.{InLine, IsFilled, HasNoThin, pages_below}
+use Rattle.jfs_tree.specs.Levels.{InLine, IsFilledTo, HoldsLeast, pages_below}
 use Rattle.jfs_tree.proofs.Filling.{below_stays, page_filled, filled_same, filled_of, filled_not_thin}
 use Rattle.jfs_tree.proofs.Once.{each_once}
 use Rattle.jfs_tree.proofs.Spelled.{stands, tree_rises, spelled}
@@ -43,7 +43,7 @@ record RootCut (blocks bound : ℕ) (before after : ℕ → List ℕ) (es : List
   gone : runs ≡ gone_past bound es
   owned : (n : ℕ) → footprint xt_scale (page_nodes blocks after) new n + count_in n freed ≡ footprint xt_scale (page_nodes blocks before) root n
   keeps : (n : ℕ) → n ≢ no_page → footprint xt_scale (page_nodes blocks after) new n ≡ 0 → after n ≡ before n
-  filled : ((depth : ℕ) → IsFilled (with_root root (page_nodes blocks before)) depth true no_page) → (depth : ℕ) → IsFilled (with_root new (page_nodes blocks after)) depth true no_page
+  filled : (least : ℕ) → ((depth : ℕ) → IsFilledTo least (with_root root (page_nodes blocks before)) depth true no_page) → (depth : ℕ) → IsFilledTo least (with_root new (page_nodes blocks after)) depth true no_page
 
 foot : (pages : ℕ → Node ℕ Xad) (root : Node ℕ Xad) (n : ℕ) → n ≢ no_page → footprint xt_scale pages root n ≡ times n (tree_of xt_scale pages root)
 unfolding footprint
@@ -81,7 +81,7 @@ among pages root below none =
 
 top_kept : (blocks bound : ℕ) (before after : ℕ → List ℕ) (es : List Xad) (root new : Node ℕ Xad) (freed : List ℕ) (runs : List Pxd) (below : ℕ) → suc below ≤ 8 → tree_of xt_scale (page_nodes blocks before) root ≡ Key no_page 0 ∷ Page no_page ∷ shows (page_nodes blocks before) below (top xt_scale) root
     → rows_of (shows (page_nodes blocks before) below (top xt_scale) root) ≡ es → times no_page (shows (page_nodes blocks before) below (top xt_scale) root) ≡ 0 → CutPart bound before after 0 (shows (page_nodes blocks before) below (top xt_scale) root) (shows (page_nodes blocks after) below (top xt_scale) new) None freed runs
-    → ((depth : ℕ) → InLine (IsFilled (with_root root (page_nodes blocks before)) depth) true (pages_below root) → InLine (IsFilled (page_nodes blocks after) depth) true (pages_below new))
+    → ((least depth : ℕ) → InLine (IsFilledTo least (with_root root (page_nodes blocks before)) depth) true (pages_below root) → InLine (IsFilledTo least (page_nodes blocks after) depth) true (pages_below new))
     → RootCut blocks bound before after es root new freed runs
 unfolding walk
 top_kept blocks bound before after es root new freed runs below most tree rows none cut fill =
@@ -98,9 +98,9 @@ top_kept blocks bound before after es root new freed runs below most tree rows n
         | inr ne ↦ (let a = foot (page_nodes blocks after) new n ne in let b = foot (page_nodes blocks before) root n ne in let d = ap (times n) now in let f = ap (times n) tree in let g = ap (times n) same in let p = cut.pages n in omega (arith, a, b, d, f, g, p))
       ];
       keeps = λ n ne z. cut.keeps n (let a = foot (page_nodes blocks after) new n ne in let d = ap (times n) now in let g = ap (times n) same in omega (arith, a, d, g, z));
-      filled = λ h depth. page_filled 64 (with_root root (page_nodes blocks before)) (with_root new (page_nodes blocks after)) no_page new
-          (λ d line. below_stays 64 xt_scale order (page_nodes blocks after) (with_root new (page_nodes blocks after)) below d (top xt_scale) new 0 None true cut.rises
-          (λ n p. root_else new (page_nodes blocks after) n (differs n no_page 0 (λ m. times m M) off p)) (fill d line)) refl depth (h depth);
+      filled = λ least h depth. page_filled least (with_root root (page_nodes blocks before)) (with_root new (page_nodes blocks after)) no_page new
+          (λ d line. below_stays least xt_scale order (page_nodes blocks after) (with_root new (page_nodes blocks after)) below d (top xt_scale) new 0 None true cut.rises
+          (λ n p. root_else new (page_nodes blocks after) n (differs n no_page 0 (λ m. times m M) off p)) (fill least d line)) refl depth (h depth);
     }
 
 top_gone : (blocks bound : ℕ) (before after : ℕ → List ℕ) (es : List Xad) (root : Node ℕ Xad) (freed : List ℕ) (runs : List Pxd) (below : ℕ) → tree_of xt_scale (page_nodes blocks before) root ≡ Key no_page 0 ∷ Page no_page ∷ shows (page_nodes blocks before) below (top xt_scale) root
@@ -114,7 +114,7 @@ top_gone blocks bound before after es root freed runs below tree rows none cut =
     | inr ne ↦ (let a = foot (page_nodes blocks after) (Leaf []) n ne in let b = foot (page_nodes blocks before) root n ne in let d = not_named n ne in let f = ap (times n) tree in let p = cut.pages n in omega (arith, a, b, d, f, p))
   ];
   keeps = λ n ne z. cut.keeps n refl;
-  filled = λ h depth. page_filled 64 (with_root root (page_nodes blocks before)) (with_root (Leaf []) (page_nodes blocks after)) no_page (Leaf []) (λ d line. tt) refl depth (h depth);
+  filled = λ least h depth. page_filled least (with_root root (page_nodes blocks before)) (with_root (Leaf []) (page_nodes blocks after)) no_page (Leaf []) (λ d line. tt) refl depth (h depth);
 }
 
 root_by : (blocks bound : ℕ) (before after : ℕ → List ℕ) (es : List Xad) (root mid new : Node ℕ Xad) (kept : Bool) (freed : List ℕ) (runs : List Pxd) (levels : ℕ) → levels ≤ 8 → tree_of xt_scale (page_nodes blocks before) root ≡ walk xt_scale (with_root root (page_nodes blocks before)) levels (top xt_scale)
@@ -129,12 +129,12 @@ root_by blocks bound before after es root mid new kept freed runs (suc below) mo
     let same = among (page_nodes blocks before) root below none in
     let part = cuts below (top xt_scale) None (subst (λ ms. Rises xt_scale 0 ms None) (sym same) r.1) (λ n. let h = once n in let e = ap (times n) same in omega (arith, h, e)) in
     by kept refl (tree ∙ ap (λ ms. Key no_page 0 ∷ Page no_page ∷ ms) (sym same)) (ap rows_of same ∙ rows) (ap (times no_page) same ∙ none) part.0
-    (λ e depth line. part.1 e depth (below_stays 64 xt_scale order (with_root root (page_nodes blocks before)) (page_nodes blocks before) below depth (top xt_scale) root 0 None true r.1
+    (λ e least depth line. part.1 e least depth (below_stays least xt_scale order (with_root root (page_nodes blocks before)) (page_nodes blocks before) below depth (top xt_scale) root 0 None true r.1
     (λ n p. sym (root_else root (page_nodes blocks before) n (differs n no_page 0 (λ m. times m S) none p))) line))
   where
     by : (k : Bool) → kept ≡ k → tree_of xt_scale (page_nodes blocks before) root ≡ Key no_page 0 ∷ Page no_page ∷ shows (page_nodes blocks before) below (top xt_scale) root → rows_of (shows (page_nodes blocks before) below (top xt_scale) root) ≡ es → times no_page (shows (page_nodes blocks before) below (top xt_scale) root) ≡ 0
         → CutPart bound before after 0 (shows (page_nodes blocks before) below (top xt_scale) root) (if_kept k (shows (page_nodes blocks after) below (top xt_scale) mid)) None freed runs
-        → (kept ≡ true → (depth : ℕ) → InLine (IsFilled (with_root root (page_nodes blocks before)) depth) true (pages_below root) → InLine (IsFilled (page_nodes blocks after) depth) true (pages_below mid)) → RootCut blocks bound before after es root new freed runs
+        → (kept ≡ true → (least depth : ℕ) → InLine (IsFilledTo least (with_root root (page_nodes blocks before)) depth) true (pages_below root) → InLine (IsFilledTo least (page_nodes blocks after) depth) true (pages_below mid)) → RootCut blocks bound before after es root new freed runs
     by true e tree rows none cut fill = subst (λ node. RootCut blocks bound before after es root node freed runs) (sym (stays e)) (top_kept blocks bound before after es root mid freed runs below most tree rows none cut (fill e))
     by false e tree rows none cut fill = subst (λ node. RootCut blocks bound before after es root node freed runs) (sym (empties e)) (top_gone blocks bound before after es root freed runs below tree rows none cut)
 
@@ -148,7 +148,7 @@ root_empty blocks bound before after freed runs none empty same = record {
     | inr ne ↦ (let a = foot (page_nodes blocks after) (Leaf []) n ne in let b = foot (page_nodes blocks before) (Leaf []) n ne in let f = ap (count_in n) none in omega (arith, a, b, f))
   ];
   keeps = λ n ne z. same n;
-  filled = λ h depth. page_filled 64 (with_root (Leaf []) (page_nodes blocks before)) (with_root (Leaf []) (page_nodes blocks after)) no_page (Leaf []) (λ d line. tt) refl depth (h depth);
+  filled = λ least h depth. page_filled least (with_root (Leaf []) (page_nodes blocks before)) (with_root (Leaf []) (page_nodes blocks after)) no_page (Leaf []) (λ d line. tt) refl depth (h depth);
 }
 
 -- ---- by the code's names
@@ -235,12 +235,12 @@ record HasOnlyBelowIn (form : XtForm) (blocks bound : ℕ) (es : List Xad) (page
   spelled : spells xt_scale (page_nodes blocks later) (xt_node form blocks after) ≡ Ok (kept_below bound es)
   owned : (n : ℕ) → footprint xt_scale (page_nodes blocks later) (xt_node form blocks after) n + count_in n freed ≡ footprint xt_scale (page_nodes blocks pages) (xt_node form blocks root) n
   keeps : (n : ℕ) → n < blocks → footprint xt_scale (page_nodes blocks later) (xt_node form blocks after) n ≡ 0 → later n ≡ pages n
-  thin : HasNoThin (with_root (xt_node form blocks root) (page_nodes blocks pages)) → HasNoThin (with_root (xt_node form blocks after) (page_nodes blocks later))
+  holds : (least : ℕ) → HoldsLeast least (with_root (xt_node form blocks root) (page_nodes blocks pages)) → HoldsLeast least (with_root (xt_node form blocks after) (page_nodes blocks later))
 
 as_root : (form : XtForm) (blocks bound : ℕ) (es : List Xad) (pages later : ℕ → List ℕ) (root after : List ℕ) (freed : List ℕ) → form ≡ root_form (length root) → HasOnlyBelowIn form blocks bound es pages later root after freed → HasOnlyBelow blocks bound es pages later root after freed
 as_root form blocks bound es pages later root after freed is h =
     let g = subst (λ f. HasOnlyBelowIn f blocks bound es pages later root after freed) is h in
-    record { spelled = g.spelled; owned = g.owned; keeps = g.keeps; thin = g.thin }
+    record { spelled = g.spelled; owned = g.owned; keeps = g.keeps; holds = g.holds }
 
 -- the draft's pages are those that all edits lead to
 pub cuts_extents : (blocks bound : ℕ) (form : XtForm) (image : Image) (root mid new : List ℕ) (drafts : List Drafted) (kept : Bool) (freed : List ℕ) (runs : List Pxd) (tx later : List Edit) → blocks < 4294967296 → form ≡ root_form (length root) → IsSound form blocks (head_of root) (entries_of root)
@@ -262,8 +262,8 @@ cuts_extents blocks bound form image root mid new drafts kept freed runs tx late
             spelled = spells_frame xt_scale drafted now (xt_node form blocks new) frame ∙ c.spelled;
             owned = λ n. (let f = footprint_frame xt_scale drafted now (xt_node form blocks new) frame n in let p = c.owned n in omega (arith, f, p));
             keeps = λ n h z. told n h (base n) (leads n h).0 (leads n h).1 ∙ c.keeps n (less_page n blocks h small) (sym (footprint_frame xt_scale drafted now (xt_node form blocks new) frame n) ∙ z);
-            thin = λ none page. filled_not_thin 64 (with_root (xt_node form blocks new) now) page
-                (filled_same 64 xt_scale order drafted now (xt_node form blocks new) (kept_below bound es) c.spelled frame (c.filled (filled_of 64 xt_scale order (page_nodes blocks (page_of image)) (xt_node form blocks root) es spells_old none)));
+            holds = λ least none page. filled_not_thin least (with_root (xt_node form blocks new) now) page
+                (filled_same least xt_scale order drafted now (xt_node form blocks new) (kept_below bound es) c.spelled frame (c.filled least (filled_of least xt_scale order (page_nodes blocks (page_of image)) (xt_node form blocks root) es spells_old none)));
           } in
           as_root form blocks bound es (page_of image) (after_tx base later) root new freed is whole,
     )

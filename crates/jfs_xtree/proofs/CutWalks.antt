@@ -119,7 +119,7 @@ leaf_cuts blocks bound before after es true freed runs same none gone some nothi
         pages = λ n. (let a = ap (times n) new in let b = times_leaf ℕ n c.page (kept_below bound es) in let d = ap (times n) t.0 in let e = times_leaf ℕ n c.page es in let f = ap (count_in n) none in omega (arith, a, b, d, e, f));
         keeps = λ n z. same n;
       },
-      λ e depth line. tt,
+      λ e least depth line. tt,
     )
 leaf_cuts blocks bound before after es false freed runs same none gone some nothing zero c high r once =
     let t = leaf_shows (walk xt_scale (page_nodes blocks before) zero) c es high r in (
@@ -130,5 +130,5 @@ leaf_cuts blocks bound before after es false freed runs same none gone some noth
         pages = λ n. (let d = ap (times n) t.0 in let e = times_leaf ℕ n c.page es in let f = ap (count_in n) none in omega (arith, d, e, f));
         keeps = λ n z. same n;
       },
-      λ e depth line. tt,
+      λ e least depth line. tt,
     )

@@ -9,7 +9,7 @@ use Rattle.jfs_tree.specs.Spells.{judge}
 use Rattle.jfs_tree.specs.Edit.{count_in, FitsFirst}
 use Rattle.jfs_tree.specs.Path.{below_root}
 use Rattle.jfs_tree.specs.Shrink.{kept_of}
-use Rattle.jfs_tree.specs.Levels.{InLine, IsFilled, pages_below}
+use Rattle.jfs_tree.specs.Levels.{InLine, IsFilledTo, pages_below}
 use Rattle.jfs_tree.specs.declared.form.TreeError.{TreeError}
 use Rattle.jfs_tree.specs.declared.form.TreeError.TheVariants.{View, Bad, Memory}
 use Rattle.jfs_xtpage.specs.Page.{head_of, entries_of, end_of}
@@ -35,10 +35,10 @@ if_kept kept ms = if kept then ms else []
 
 -- where the levels below the old node were filled, those below the new one are
 abbrev pub FillsNode : ℕ → (ℕ → List ℕ) → (ℕ → List ℕ) → Node ℕ Xad → Node ℕ Xad → Type 0
-FillsNode blocks before after old new = (depth : ℕ) → InLine (IsFilled (page_nodes blocks before) depth) true (pages_below old) → InLine (IsFilled (page_nodes blocks after) depth) true (pages_below new)
+FillsNode blocks before after old new = (least depth : ℕ) → InLine (IsFilledTo least (page_nodes blocks before) depth) true (pages_below old) → InLine (IsFilledTo least (page_nodes blocks after) depth) true (pages_below new)
 
 abbrev pub FillsPage : ℕ → (ℕ → List ℕ) → (ℕ → List ℕ) → ℕ → Type 0
-FillsPage blocks before after page = (depth : ℕ) → IsFilled (page_nodes blocks before) depth true page → IsFilled (page_nodes blocks after) depth true page
+FillsPage blocks before after page = (least depth : ℕ) → IsFilledTo least (page_nodes blocks before) depth true page → IsFilledTo least (page_nodes blocks after) depth true page
 
 -- a page was cut that read as the old node, and reads as the new one where anything is left
 abbrev pub CutsNode : ℕ → ℕ → (ℕ → List ℕ) → (ℕ → List ℕ) → Node ℕ Xad → Node ℕ Xad → Bool → List ℕ → List Pxd → Type 0

@@ -6,7 +6,7 @@ use Rattle.jfs_ranges.specs.declared.edit.Edit.{Edit}
 use Rattle.jfs_ranges.specs.declared.edit.Edit.TheVariants.{Free}
 use Rattle.jfs_tree.specs.Edit.{count_in}
 use Rattle.jfs_tree.specs.Spells.{spells, footprint, with_root}
-use Rattle.jfs_tree.specs.Levels.{HasNoThin}
+use Rattle.jfs_tree.specs.Levels.{HoldsLeast}
 use Rattle.jfs_tree.specs.Fresh.{LeadsTo, after_tx}
 use Rattle.jfs_tree.specs.Removes.{page_frees}
 use Rattle.jfs_tree.specs.Tell.{TellsThen}
@@ -41,12 +41,12 @@ run_frees [] = []
 run_frees (p ∷ ps) = Free p ∷ run_frees ps
 
 -- A root that spelled these extents spells those below the bound. The pages that it has no more are those that were freed, and each page of the file system that isn't its own keeps its bytes.
--- Where each page but the last of its level held at least 64 entries, each does.
+-- Where each page but the last of its level held at least some number of entries, each does.
 pub record HasOnlyBelow (blocks bound : ℕ) (es : List Xad) (pages later : ℕ → List ℕ) (root after : List ℕ) (freed : List ℕ) : Type 0 where
   pub spelled : spells xt_scale (page_nodes blocks later) (xt_node (root_form (length root)) blocks after) ≡ Ok (kept_below bound es)
   pub owned : (n : ℕ) → footprint xt_scale (page_nodes blocks later) (xt_node (root_form (length root)) blocks after) n + count_in n freed ≡ owned_pages blocks pages root n
   pub keeps : (n : ℕ) → n < blocks → footprint xt_scale (page_nodes blocks later) (xt_node (root_form (length root)) blocks after) n ≡ 0 → later n ≡ pages n
-  pub thin : HasNoThin (with_root (xt_node (root_form (length root)) blocks root) (page_nodes blocks pages)) → HasNoThin (with_root (xt_node (root_form (length root)) blocks after) (page_nodes blocks later))
+  pub holds : (least : ℕ) → HoldsLeast least (with_root (xt_node (root_form (length root)) blocks root) (page_nodes blocks pages)) → HoldsLeast least (with_root (xt_node (root_form (length root)) blocks after) (page_nodes blocks later))
 
 -- Changed lines are told, then that these pages are free, and then that these runs of blocks are.
 abbrev pub TellsCut : ℕ → (ℕ → List ℕ) → List Edit → List Edit → Type 0

@@ -28,7 +28,7 @@ use std::alloc::{AllocError, Global};
 /// Cuts a file's extents at block `blocks` of the file: what begins below it stays, the last one shortened to end there. The transaction gets the changed
 /// lines, then a `NoRedo` of each page of the tree that is no more, then a `Free` of each, and then a `Free` of each run of blocks that the extents lost, in their order.
 /// Pages on the way to the bound are read, and those that are freed; a root whose children are all gone is a leaf without extents. Other pages keep their bytes,
-/// each page keeps its number of slots and its own descriptor, and where each page but the last of its level held at least 64 entries, each does.
+/// each page keeps its number of slots and its own descriptor, and where each page but the last of its level held at least some number of entries, each does.
 /// What is met rises, no page is freed twice, and each page that is met and isn't on the way to the bound is freed: `Bad` names the first page, in the order of the file, that breaks a rule where the cut meets it. A page that is met twice breaks `order`.
 /// After an `Err` root and transaction are as before.
 pub fn cut_to<V: PageView>(
