@@ -107,7 +107,7 @@ fn plan_range<V: PageView>(
     ensures thin { V.PageView.tells → IfOk result (λ p. KeepsNoThin (V.PageView.block_count view.old) (page_of (V.PageView.image view.old)) root.old root.new (blocks_of fresh.now) tx.now p.tx) }
     ensures framed { V.PageView.tells → IfOk result (λ p. NamesPages (V.PageView.block_count view.old) (page_of (V.PageView.image view.old)) root.old (blocks_of fresh.now) (blocks_of p.fresh) tx.now p.tx) }
     ensures frame { KeepsFrame root.old root.new }
-    ensures named { IfErr result (NamesRoot (root_node (V.PageView.block_count view.old) root.old) root.old) }
+    ensures names { IfErr result (NamesRoot (root_node (V.PageView.block_count view.old) root.old) root.old) }
     ensures most { IfOk result (λ p. length (blocks_of fresh.now) ≤ length (blocks_of p.fresh) + 15) }
     ensures refused { V.PageView.tells → IfErr result (λ e. RefusesOnlyDeep (V.PageView.block_count view.old) (page_of (V.PageView.image view.old)) root.old (blocks_of fresh.now) e) }
 {

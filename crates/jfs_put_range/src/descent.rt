@@ -45,7 +45,7 @@ pub(crate) fn put_below<V: PageView>(
         (shown draft.old.pages.items (V.PageView.image view.old)) (shown draft.new.pages.items (V.PageView.image view.old)) grown.levels page grown.sibling stack.old.items stack.new.items) }
     ensures bad { V.PageView.tells → IfErr result (λ e. RefutesPage (V.PageView.block_count view.old) part.now.xs.items part.now.left part.now.right
         (shown draft.old.pages.items (V.PageView.image view.old)) most page stack.old.items e) }
-    ensures named { IfErr result NamesBelow }
+    ensures names { IfErr result NamesBelow }
     ensures levels { IfOk result (λ grown. grown.levels ≤ most) }
     ensures alone { part.now.left ≡ false → part.now.right ≡ false → IfOk result (λ grown. grown.sibling ≡ None) }
     ensures used { OnOk result (length stack.old.items ≤ length stack.new.items + most_taken part.now.xs.items part.now.left part.now.right most) }
@@ -122,7 +122,7 @@ pub(crate) fn put_children<V: PageView>(
         (shown draft.old.pages.items (V.PageView.image view.old)) (shown draft.new.pages.items (V.PageView.image view.old)) levels entries.now list.old.items list.new.items stack.old.items stack.new.items) }
     ensures bad { V.PageView.tells → IfErr result (λ e. RefutesChildren (V.PageView.block_count view.old) part.now.xs.items part.now.left part.now.right top
         (shown draft.old.pages.items (V.PageView.image view.old)) most entries.now stack.old.items e) }
-    ensures named { IfErr result NamesBelow }
+    ensures names { IfErr result NamesBelow }
     ensures levels { IfOk result (λ levels. levels ≤ most) }
     ensures used { OnOk result (length stack.old.items ≤ length stack.new.items + most_taken part.now.xs.items part.now.left part.now.right most) }
     ensures below { (bound : ℕ) → AllBelow bound stack.old.items → AllBelow bound stack.new.items }
@@ -177,7 +177,7 @@ fn put_from<V: PageView>(
         (shown draft.old.pages.items (V.PageView.image view.old)) (shown draft.new.pages.items (V.PageView.image view.old)) levels entries.now list.old.items list.new.items stack.old.items stack.new.items) }
     ensures bad { V.PageView.tells → IfErr result (λ e. RefutesChildren (V.PageView.block_count view.old) part.now.xs.items part.now.left part.now.right top
         (shown draft.old.pages.items (V.PageView.image view.old)) most entries.now stack.old.items e) }
-    ensures named { IfErr result NamesBelow }
+    ensures names { IfErr result NamesBelow }
     ensures levels { IfOk result (λ levels. levels ≤ most) }
     ensures used { OnOk result (length stack.old.items ≤ length stack.new.items + most_taken part.now.xs.items part.now.left part.now.right most) }
     ensures below { (bound : ℕ) → AllBelow bound stack.old.items → AllBelow bound stack.new.items }
@@ -235,7 +235,7 @@ fn put_both<V: PageView>(
         (shown draft.old.pages.items (V.PageView.image view.old)) (shown draft.new.pages.items (V.PageView.image view.old)) levels (child.now ∷ rest.now) list.old.items list.new.items stack.old.items stack.new.items) }
     ensures bad { V.PageView.tells → IfErr result (λ e. RefutesChildren (V.PageView.block_count view.old) part.now.xs.items part.now.left part.now.right top
         (shown draft.old.pages.items (V.PageView.image view.old)) most (child.now ∷ rest.now) stack.old.items e) }
-    ensures named { IfErr result NamesBelow }
+    ensures names { IfErr result NamesBelow }
     ensures levels { IfOk result (λ levels. levels ≤ most) }
     ensures used { OnOk result (length stack.old.items ≤ length stack.new.items + most_taken part.now.xs.items part.now.left part.now.right most) }
     ensures below { (bound : ℕ) → AllBelow bound stack.old.items → AllBelow bound stack.new.items }
@@ -284,7 +284,7 @@ fn put_child<V: PageView>(
         (shown draft.old.pages.items (V.PageView.image view.old)) (shown draft.new.pages.items (V.PageView.image view.old)) levels (child.now ∷ []) list.old.items list.new.items stack.old.items stack.new.items) }
     ensures bad { V.PageView.tells → IfErr result (λ e. RefutesChildren (V.PageView.block_count view.old) part.now.xs.items part.now.left part.now.right top
         (shown draft.old.pages.items (V.PageView.image view.old)) most (child.now ∷ []) stack.old.items e) }
-    ensures named { IfErr result NamesBelow }
+    ensures names { IfErr result NamesBelow }
     ensures levels { IfOk result (λ levels. levels ≤ most) }
     ensures used { OnOk result (length stack.old.items ≤ length stack.new.items + most_taken part.now.xs.items part.now.left part.now.right most) }
     ensures below { (bound : ℕ) → AllBelow bound stack.old.items → AllBelow bound stack.new.items }

@@ -51,7 +51,7 @@ pub(crate) fn put_leaf(
     ensures front { IsFront stack.new.items stack.old.items }
     ensures others { (image : Image) → opened.page.0 ≡ shown draft.old.pages.items image n → OnOk result (OthersFramed (shown draft.old.pages.items image) (shown draft.new.pages.items image) stack.old.items stack.new.items) }
     ensures key { IfOk result (λ grown. IfSome grown.sibling (λ s. s.key < 2 ^ 40)) }
-    ensures named { IfErr result NamesBelow }
+    ensures names { IfErr result NamesBelow }
     ensures cause { IfErr result (λ e. NoView e) }
 {
     let Ok(list) = written(alloc, opened.entries.as_slice(), part.xs.as_slice()) else {

@@ -52,7 +52,7 @@ pub(crate) fn put_linked<V: PageView>(
     ensures used { OnOk result (length stack.old.items ≤ length stack.new.items + 15) }
     ensures front { IsFront stack.new.items stack.old.items }
     ensures frame { KeepsFrame root.old root.new }
-    ensures named { IfErr result (NamesRoot (xt_node top.now.form top.now.blocks root.old) root.old) }
+    ensures names { IfErr result (NamesRoot (xt_node top.now.form top.now.blocks root.old) root.old) }
 {
     match put_root(alloc, top, view, draft, stack, root, xs) {
         Ok(()) => {}

@@ -38,7 +38,7 @@ pub(crate) fn open_page<V: PageView>(
     ensures device { V.PageView.device view.new ≡ V.PageView.device view.old }
     ensures fault { CarriesFault (V.PageView.faults view.old) (V.PageView.faults view.new) result }
     ensures bytes { V.PageView.tells → IfOk result (λ o. o.page.0 ≡ shown draft.now.pages.items (V.PageView.image view.old) n) }
-    ensures named { IfErr result NamesBelow }
+    ensures names { IfErr result NamesBelow }
     ensures opened { IfOk result (λ o. IsOpened (V.PageView.block_count view.old) o.page.0 o.entries.items o.leaf) }
     ensures bad { V.PageView.tells → IfErr result (λ e. BreaksRule (xt_node Full (V.PageView.block_count view.old) (shown draft.now.pages.items (V.PageView.image view.old) n)) n e) }
 {

@@ -61,7 +61,7 @@ pub(crate) fn put_root<V: PageView>(
     ensures used { OnOk result (length stack.old.items ≤ length stack.new.items + 15) }
     ensures front { IsFront stack.new.items stack.old.items }
     ensures frame { KeepsFrame root.old root.new }
-    ensures named { IfErr result (NamesRoot (xt_node top.now.form top.now.blocks root.old) root.old) }
+    ensures names { IfErr result (NamesRoot (xt_node top.now.form top.now.blocks root.old) root.old) }
 {
     let opened = match open_root(alloc, top, root) {
         Ok(opened) => opened,
@@ -130,7 +130,7 @@ fn put_leaf_root(
     ensures used { OnOk result (length stack.old.items ≤ length stack.new.items + 1) }
     ensures front { IsFront stack.new.items stack.old.items }
     ensures frame { KeepsFrame root.old root.new }
-    ensures named { IfErr result (NamesRoot (xt_node top.now.form top.now.blocks root.old) root.old) }
+    ensures names { IfErr result (NamesRoot (xt_node top.now.form top.now.blocks root.old) root.old) }
 {
     let Ok(list) = written(alloc, entries, xs) else {
         return Err(TreeError::Memory);
@@ -167,7 +167,7 @@ fn put_inner_root<V: PageView>(
     ensures used { OnOk result (length stack.old.items ≤ length stack.new.items + 15) }
     ensures front { IsFront stack.new.items stack.old.items }
     ensures frame { KeepsFrame root.old root.new }
-    ensures named { IfErr result (NamesRoot (xt_node top.now.form top.now.blocks root.old) root.old) }
+    ensures names { IfErr result (NamesRoot (xt_node top.now.form top.now.blocks root.old) root.old) }
 {
     let Ok(part) = whole_part(alloc, xs) else {
         return Err(TreeError::Memory);

@@ -33,12 +33,12 @@ returns-clause-thin g c tells =
     c.as_slice-2.result.now c.args.xs.now c.put_linked.new.root c.put_linked.new.draft.pages.items c.put_linked.new.stack.items c.args.tx.now p.tx c.as_slice-2.ensures (c.in_default-put_linked.ensures.steps tells) (c.in_default-put_linked.ensures.filled tells)
     (told_as (g.V.PageView.block_count c.put_linked.new.view) blocks (g.V.PageView.image c.put_linked.new.view) image c.put_linked.new.draft.pages.items c.args.tx.now p.tx c.put_linked.ensures.count_of_blocks (c.put_linked.ensures.image tells) told))
 
-pub returns-in-Err-clause-named : goal.returns-in-Err-clause-named
-returns-in-Err-clause-named g c =
-    named_as c.blocks-blocks.result (g.V.PageView.block_count c.args.view.now) c.root_form-form.result (root_form (length c.args.root.now)) c.args.root.now c.in-Err.e c.blocks-blocks.ensures c.root_form-form.ensures c.in-Err.ensures.named
+pub returns-in-Err-clause-names : goal.returns-in-Err-clause-names
+returns-in-Err-clause-names g c =
+    named_as c.blocks-blocks.result (g.V.PageView.block_count c.args.view.now) c.root_form-form.result (root_form (length c.args.root.now)) c.args.root.now c.in-Err.e c.blocks-blocks.ensures c.root_form-form.ensures c.in-Err.ensures.names
 
-pub returns-clause-named : goal.returns-clause-named
-returns-clause-named g c = read_names (root_node (g.V.PageView.block_count c.args.view.now) c.args.root.now) c.args.root.now c.tell_steps.result c.tell_steps.ensures.read
+pub returns-clause-names : goal.returns-clause-names
+returns-clause-names g c = read_names (root_node (g.V.PageView.block_count c.args.view.now) c.args.root.now) c.args.root.now c.tell_steps.result c.tell_steps.ensures.read
 
 pub returns-clause-framed : goal.returns-clause-framed
 returns-clause-framed g c tells =

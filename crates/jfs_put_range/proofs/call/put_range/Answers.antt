@@ -31,7 +31,7 @@ returns-clause-way g c tells =
     c.first_of.ensures c.as_slice.ensures c.end_of_all.ensures c.as_slice-2.ensures (c.in-Ok.ensures.way tells) in
     clash_told first (root_node (g.V.PageView.block_count c.args.view.now) c.args.root.now) c.args.root.now c.in-Err-plan_range.e none
     (root_whole (g.V.PageView.block_count c.args.view.now) (page_of (g.V.PageView.image c.args.view.now)) c.args.root.now c.args.xs.now c.requires.range none)
-    (subst (λ b. NamesRoot (root_node b c.args.root.now) c.args.root.now c.in-Err-plan_range.e) c.in-Ok.ensures.count_of_blocks c.in-Err-plan_range.ensures.named))
+    (subst (λ b. NamesRoot (root_node b c.args.root.now) c.args.root.now c.in-Err-plan_range.e) c.in-Ok.ensures.count_of_blocks c.in-Err-plan_range.ensures.names))
 
 pub returns-in-Ok-plan_range-clause-named : goal.returns-in-Ok-plan_range-clause-named
 returns-in-Ok-plan_range-clause-named g c tells =

@@ -20,8 +20,8 @@ pub returns-in-Err-link_ends-clause-refuses : goal.returns-in-Err-link_ends-clau
 returns-in-Err-link_ends-clause-refuses g c = λ tells.
     refuses_read c.args.top.now.form c.args.top.now.blocks (g.V.PageView.image c.args.view.now) c.args.root.now c.args.draft.now.pages.items c.args.stack.now.items c.in-Err-link_ends.e c.in-Err-link_ends.ensures.cause
 
-pub returns-in-Err-link_ends-clause-named : goal.returns-in-Err-link_ends-clause-named
-returns-in-Err-link_ends-clause-named g c = read_named (xt_node c.args.top.now.form c.args.top.now.blocks c.args.root.now) c.args.root.now c.in-Err-link_ends.e c.in-Err-link_ends.ensures.cause
+pub returns-in-Err-link_ends-clause-names : goal.returns-in-Err-link_ends-clause-names
+returns-in-Err-link_ends-clause-names g c = read_named (xt_node c.args.top.now.form c.args.top.now.blocks c.args.root.now) c.args.root.now c.in-Err-link_ends.e c.in-Err-link_ends.ensures.cause
 
 pub returns-in-Ok-link_ends-clause-framed : goal.returns-in-Ok-link_ends-clause-framed
 returns-in-Ok-link_ends-clause-framed g c = λ tells.

@@ -40,11 +40,11 @@ returns-in-Ok-put_children-clause-filled g c tells =
     c.requires.forms.0 c.in-Ok.ensures.0 c.in-Ok.ensures.1 c.in-Ok.ensures.2 c.in-Ok.ensures.3 c.new-list.ensures.items c.as_slice.ensures.value tells c.requires.opened c.requires.within c.put_children.ensures.front c.store_root.ensures.front
     c.in-Ok-put_children.ensures.pushed c.store_root.ensures.settled c.store_root.ensures.keeps
 
-pub returns-clause-named : goal.returns-clause-named
-returns-clause-named g c = below_named (xt_node c.args.top.now.form c.args.top.now.blocks c.args.root.now) c.args.root.now c.in-Err.e c.in-Err.ensures.named
+pub returns-clause-names : goal.returns-clause-names
+returns-clause-names g c = below_named (xt_node c.args.top.now.form c.args.top.now.blocks c.args.root.now) c.args.root.now c.in-Err.e c.in-Err.ensures.names
 
-pub returns-in-Ok-put_children-clause-named : goal.returns-in-Ok-put_children-clause-named
-returns-in-Ok-put_children-clause-named g c =
+pub returns-in-Ok-put_children-clause-names : goal.returns-in-Ok-put_children-clause-names
+returns-in-Ok-put_children-clause-names g c =
     inner_named c.args.top.now.form g.V.PageView.tells c.in-Ok.part.last c.args.top.now.blocks (g.V.PageView.block_count c.args.view.now) c.in-Ok.part.xs.items c.in-Ok.part.left c.in-Ok.part.right
     (shown c.args.draft.now.pages.items (g.V.PageView.image c.args.view.now)) (shown c.put_children.new.draft.pages.items (g.V.PageView.image c.args.view.now)) c.in-Ok-put_children.levels c.args.entries.now c.new-list.result.items c.put_children.new.list.items
     c.as_slice.result.now c.args.stack.now.items c.put_children.new.stack.items c.store_root.new.stack.items c.args.root.now c.store_root.new.root c.put_children.new.draft.pages.items c.store_root.new.draft.pages.items c.store_root.result

@@ -40,8 +40,8 @@ returns-clause-filled c = λ image.
     c.as_slice.result.now c.args.draft.now.pages.items c.store_root.new.draft.pages.items c.args.stack.now.items c.store_root.new.stack.items c.store_root.result c.requires.opened c.requires.within c.store_root.ensures.front
     (c.as_slice.ensures.value ∙ c.in-Ok.ensures) c.store_root.ensures.settled c.store_root.ensures.keeps
 
-pub returns-clause-named : goal.returns-clause-named
-returns-clause-named c =
+pub returns-clause-names : goal.returns-clause-names
+returns-clause-names c =
     leaf_named (xt_node c.args.top.now.form c.args.top.now.blocks c.args.root.now) c.as_slice.result.now c.args.root.now c.store_root.new.root c.args.draft.now.pages.items c.store_root.new.draft.pages.items c.args.stack.now.items c.store_root.new.stack.items
     c.store_root.result c.store_root.ensures.stored
 
