@@ -1,5 +1,5 @@
 -- An inode that changes in its slot, with its trees as they were: its link count, its times, or the parent that its root names.
-use Rattle.std.proofs.Common.{◌≡◌, ◌≤◌, refl, sym, ap, ◌∙◌, inl, inr, ℕ, ◌+◌, ◌-◌, Bool, true, false, ◌==◌, nat_le, if◌then◌else◌, List, [], length, Some, None, is_some, Result, Ok, Err, arith, eqb-true}
+use Rattle.std.proofs.Common.{◌≡◌, ◌≢◌, ◌≤◌, refl, sym, ap, ◌∙◌, inl, inr, ℕ, ◌+◌, ◌-◌, Bool, true, false, ◌==◌, nat_le, if◌then◌else◌, List, [], length, Some, None, is_some, Result, Ok, Err, arith, eqb-true}
 use Rattle.std.proofs.lemmas.Bool.{le-leb}
 use Rattle.std.specs.Option.{option_map}
 use Rattle.std.specs.Int.RustNames.{bit_and}
@@ -17,7 +17,8 @@ use Rattle.jfs_name.specs.declared.name.NameEntry.{NameEntry}
 use Rattle.jfs_dtpage.specs.declared.head.DtForm.TheVariants as names
 use Rattle.jfs_dtree.specs.Node.{dt_node}
 use Rattle.jfs_dtree.specs.Parent.{parent_of}
-use Rattle.jfs_plain.specs.Moves.{stamped, rises, falls, moves}
+use Rattle.jfs_plain.specs.Tree.{Tree}
+use Rattle.jfs_plain.specs.Moves.{changed, stamped, rises, falls, moves}
 use Rattle.jfs_plain.specs.declared.node.Node.{Node}
 use Rattle.jfs_objects.specs.Readers.{Readers}
 use Rattle.jfs_objects.specs.Volume.{Volume}
@@ -27,7 +28,9 @@ use Rattle.jfs_objects.specs.Changes.{put, PutsInode, SetsObject}
 use Rattle.jfs_objects.proofs.Sums.{put_here, put_other, eq_or_not}
 use Rattle.jfs_meaning.specs.Contents.{byte_in}
 use Rattle.jfs_meaning.specs.Readers.{readers, root_of}
-use Rattle.jfs_meaning.specs.Node.{node_with, node_from, node_of, target_in}
+use Rattle.jfs_meaning.specs.Node.{node_with, node_from, node_of, node_in, target_in}
+use Rattle.jfs_lead_steps.specs.Reached.{HasTree}
+use Rattle.jfs_lead_steps.proofs.Chain.{set_has, set_other}
 
 -- what an object holds, by its trees and its attributes
 held_by : (r : Readers) (x y : Object) → x.names ≡ y.names → x.extents ≡ y.extents → x.inode.acl ≡ y.inode.acl → x.inode.ea ≡ y.inode.ea → (b : ℕ) → holds r (Some x) b ≡ holds r (Some y) b
@@ -193,3 +196,57 @@ module _ (blocks : ℕ) (page : ℕ → List ℕ) (d : Dinode) (root : List ℕ)
   pub moved_rules : (n : ℕ) → first_broken (rows d n) ≡ None → first_broken (rows moved n) ≡ None
   unfolding rows
   moved_rules n h = h
+
+-- ---- the step
+
+-- what becomes of an inode whose trees stay, and of its node, whatever its blocks hold
+pub record ChangesInPlace (r : Readers) (m : ℕ) (d set : Dinode) (f : Node → Node) : Type 0 where
+  pub live : is_live m set ≡ true
+  pub same_names : (page : ℕ → List ℕ) → (spelled r page set).names ≡ (spelled r page d).names
+  pub same_extents : (page : ℕ → List ℕ) → (spelled r page set).extents ≡ (spelled r page d).extents
+  pub acl : set.acl ≡ d.acl
+  pub ea : set.ea ≡ d.ea
+  pub node : (page : ℕ → List ℕ) → node_of r page (spelled r page set) ≡ option_map f (node_of r page (spelled r page d))
+  pub bytes : (page : ℕ → List ℕ) (i : ℕ) → byte_in r page (Some (spelled r page set)) i ≡ byte_in r page (Some (spelled r page d)) i
+  pub rules : first_broken (rows set m) ≡ None
+
+-- a link count, and a time
+pub counts_in_place : (blocks m : ℕ) (d : Dinode) (links : ℕ) (when : Moment) (f : Node → Node) → is_live m (record d { nlink = links }) ≡ true → links ≤ 65535 → first_broken (rows d m) ≡ None
+    → ((target : List ℕ) (es : List NameEntry) → node_with (record d { nlink = links; ctime = when }) target es ≡ f (node_with d target es)) → ChangesInPlace (readers blocks) m d (record d { nlink = links; ctime = when }) f
+counts_in_place blocks m d links when f live few rules h = record {
+  live = live;
+  same_names = λ page. counted_names blocks page d links when;
+  same_extents = λ page. counted_extents blocks page d links when;
+  acl = refl;
+  ea = refl;
+  node = λ page. counted_node blocks page d links when f h;
+  bytes = λ page i. counted_bytes blocks page d links when i;
+  rules = counted_rules blocks (λ b. []) d links when m few rules;
+}
+
+-- another parent, now
+pub moves_in_place : (blocks m : ℕ) (d : Dinode) (root : List ℕ) (parent : ℕ) (now : Moment) → has_names d ≡ true → length d.rest ≡ 384 → length root ≡ 288 → parent_of root ≡ parent
+    → dt_node names.Root blocks root ≡ dt_node names.Root blocks (root_of d) → is_live m d ≡ true → first_broken (rows d m) ≡ None
+    → ChangesInPlace (readers blocks) m d (record d { rest = put_bytes 96 root d.rest; ctime = now }) (λ o. stamped now (moves parent o))
+moves_in_place blocks m d root parent now dir size width names_it node live rules = record {
+  live = live;
+  same_names = λ page. moved_names blocks page d root parent now dir size width names_it node;
+  same_extents = λ page. moved_extents blocks page d root parent now dir size width names_it node;
+  acl = refl;
+  ea = refl;
+  node = λ page. moved_node blocks page d root parent now dir size width names_it node;
+  bytes = λ page i. moved_bytes blocks page d root parent now dir size width names_it node i;
+  rules = moved_rules blocks (λ b. []) d root parent now dir size width names_it node m rules;
+}
+
+module _ (r : Readers) (v w : Volume) (t : Tree) (has : HasTree r v t) (m : ℕ) (d set : Dinode) (f : Node → Node) (was : objects r v m ≡ Some (spelled r v.page d)) (change : ChangesInPlace r m d set f)
+    (puts : PutsInode v.page w.page v.extents m set) (used : w.used ≡ v.used) (places : w.extents ≡ v.extents) (area : w.area ≡ v.area) (in_use : (k : ℕ) → w.in_use k ≡ v.in_use k) where
+  pub in_place_set : SetsObject r v w m set v.page [] []
+  in_place_set = sets_in_place r v w has.sound m d set was change.live (change.same_names v.page) (change.same_extents v.page) change.acl change.ea puts used places area in_use
+
+  pub in_place_has : HasTree r w (changed m f t)
+  in_place_has = set_has r v w t has m set v.page [] [] in_place_set f (change.node v.page ∙ ap (option_map f) (sym (ap (node_in r v.page) was)))
+      (λ i. change.bytes v.page i ∙ sym (ap (λ o. byte_in r v.page o i) was)) change.rules
+
+  pub in_place_other : (k : ℕ) → k ≢ m → objects r w k ≡ objects r v k
+  in_place_other = set_other r v w t has m set v.page [] [] in_place_set
