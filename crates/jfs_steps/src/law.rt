@@ -1,5 +1,6 @@
-//! Laws of the volume after a call's transaction.
+//! Laws of the volume after a call's transaction, and of steps.
 
+ghost use Rattle.jfs_steps.specs.Gains.{GainLaw};
 ghost use Rattle.jfs_steps.specs.Laws.{AppendLaw, CountLaw, StepLaw, LinesLaw, AfterLaw};
 
 /// After one transaction and then another the volume is as after both in one.
@@ -25,4 +26,9 @@ pub fn lines_change_pages_alone()
 /// A volume with the pages, inode extents and blocks in use that a transaction leaves, whose inodes in use are its objects, is the one after it.
 pub fn volume_is_the_one_after()
     ensures { AfterLaw }
+{}
+
+/// A directory that gains a name by its tree's call and its inode's lines gains it in the tree, and is set.
+pub fn names_are_gained()
+    ensures { GainLaw }
 {}
