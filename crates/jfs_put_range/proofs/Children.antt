@@ -45,7 +45,7 @@ none_written end blocks left right top pages entries free height key low high fi
   (λ some. absurd (omega (arith, some))),
   same_follows top high entries,
   omega arith,
-  (λ depth last ends line. line),
+  (λ least most depth last ends line. line),
 )
 
 -- ---- one child

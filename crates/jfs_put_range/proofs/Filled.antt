@@ -2,7 +2,7 @@
 use Rattle.std.proofs.Common.{◌≡◌, ◌≤◌, ◌<◌, refl, sym, ap, ◌∙◌, subst, ℕ, zero, suc, Bool, true, false, List, [], ◌∷◌, ◌++◌, map, length, Option, arith}
 use Rattle.jfs_bits.specs.declared.extent.Xad.{Xad}
 use Rattle.jfs_tree.specs.Walk.{Child, Node, Leaf, Inner, Rises, times, under}
-use Rattle.jfs_tree.specs.Levels.{InLine, IsFilled, IsFilledTo, entry_count, pages_below}
+use Rattle.jfs_tree.specs.Levels.{InLine, IsFilledTo, entry_count, pages_below}
 use Rattle.jfs_tree.specs.Edit.{IsCons}
 use Rattle.jfs_tree.specs.Form.{HasChildren}
 use Rattle.jfs_tree.proofs.Filling.{line_front, line_both, numbers, numbers-append, numbers_under, children_stay}
@@ -27,14 +27,14 @@ count_are (x ∷ xs) = ap suc (count_are xs)
 
 -- ---- pages that no call changes
 
-entries_stay : (blocks : ℕ) (old new : ℕ → List ℕ) (levels depth key : ℕ) (xs : List Xad) (low : ℕ) (high : Option ℕ) (last : Bool) → Rises xt_scale low (parts_under blocks old levels key xs) high
+entries_stay : (least blocks : ℕ) (old new : ℕ → List ℕ) (levels depth key : ℕ) (xs : List Xad) (low : ℕ) (high : Option ℕ) (last : Bool) → Rises xt_scale low (parts_under blocks old levels key xs) high
     → ((n : ℕ) → 0 < times n (parts_under blocks old levels key xs) → new n ≡ old n)
-    → InLine (IsFilled (page_nodes blocks old) depth) last (pages_of_entries xs) → InLine (IsFilled (page_nodes blocks new) depth) last (pages_of_entries xs)
-entries_stay blocks old new levels depth key xs low high last r agree line =
+    → InLine (IsFilledTo least (page_nodes blocks old) depth) last (pages_of_entries xs) → InLine (IsFilledTo least (page_nodes blocks new) depth) last (pages_of_entries xs)
+entries_stay least blocks old new levels depth key xs low high last r agree line =
     let cs = under key (map child_of xs) in
     let is : numbers cs ≡ pages_of_entries xs = numbers_under key (map child_of xs) ∙ pages_are xs in
-    subst (InLine (IsFilled (page_nodes blocks new) depth) last) is
-    (children_stay 64 xt_scale order (page_nodes blocks old) (page_nodes blocks new) levels depth cs low high last r (λ n some. ap (xt_node Full blocks) (agree n some)) (subst (InLine (IsFilled (page_nodes blocks old) depth) last) (sym is) line))
+    subst (InLine (IsFilledTo least (page_nodes blocks new) depth) last) is
+    (children_stay least xt_scale order (page_nodes blocks old) (page_nodes blocks new) levels depth cs low high last r (λ n some. ap (xt_node Full blocks) (agree n some)) (subst (InLine (IsFilledTo least (page_nodes blocks old) depth) last) (sym is) line))
 
 -- ---- two parts, one beside the other
 
@@ -43,11 +43,11 @@ pub both_keep : (end : Bool) (blocks : ℕ) (before middle after : ℕ → List 
     → ((n : ℕ) → 0 < times n (parts_under blocks middle height key hs) → after n ≡ middle n)
     → KeepsFilled false blocks before middle (pages_of_entries (e ∷ [])) (pages_of_entries hs) → KeepsFilled end blocks middle after (pages_of_entries (r ∷ rs)) (pages_of_entries ts)
     → KeepsFilled end blocks before after (pages_of_entries (e ∷ r ∷ rs)) (pages_of_entries (hs ++ ts))
-both_keep end blocks before middle after height key bound low e r rs hs ts mid high rb keeps rh later h t depth last ends line =
-    subst (InLine (IsFilled (page_nodes blocks after) depth) last) (sym (pages_both hs ts))
-    (line_both 64 (page_nodes blocks after) depth last (pages_of_entries hs) (pages_of_entries ts)
-    (entries_stay blocks middle after height depth key hs low mid false rh later (h depth false (λ e. absurd cc) line.0))
-    (t depth last ends (entries_stay blocks before middle height depth bound (r ∷ rs) bound high last rb keeps line.1)))
+both_keep end blocks before middle after height key bound low e r rs hs ts mid high rb keeps rh later h t least most depth last ends line =
+    subst (InLine (IsFilledTo least (page_nodes blocks after) depth) last) (sym (pages_both hs ts))
+    (line_both least (page_nodes blocks after) depth last (pages_of_entries hs) (pages_of_entries ts)
+    (entries_stay least blocks middle after height depth key hs low mid false rh later (h least most depth false (λ e. absurd cc) line.0))
+    (t least most depth last ends (entries_stay least blocks before middle height depth bound (r ∷ rs) bound high last rb keeps line.1)))
 
 -- ---- leaves
 
@@ -56,57 +56,59 @@ pub not_full : (end full : Bool) → (full ≡ true → end ≡ true) → end �
 not_full end true ends e = absurd (let h = ends refl in cc)
 not_full end false ends e = refl
 
-leaf_filled : (nodes : ℕ → Node ℕ Xad) (depth n : ℕ) (last : Bool) (es : List Xad) → nodes n ≡ Leaf es → (last ≡ false → 64 ≤ length es) → IsFilled nodes depth last n
+leaf_filled : (least : ℕ) (nodes : ℕ → Node ℕ Xad) (depth n : ℕ) (last : Bool) (es : List Xad) → nodes n ≡ Leaf es → (last ≡ false → least ≤ length es) → IsFilledTo least nodes depth last n
 unfolding IsFilledTo
-leaf_filled nodes zero n last es is enough = tt
-leaf_filled nodes (suc depth) n last es is enough = (
-  (λ e. subst (λ (b : Node ℕ Xad). 64 ≤ entry_count b) (sym is) (enough e)),
-  subst (λ (b : Node ℕ Xad). InLine (IsFilled nodes depth) last (pages_below b)) (sym is) tt,
+leaf_filled least nodes zero n last es is enough = tt
+leaf_filled least nodes (suc depth) n last es is enough = (
+  (λ e. subst (λ (b : Node ℕ Xad). least ≤ entry_count b) (sym is) (enough e)),
+  subst (λ (b : Node ℕ Xad). InLine (IsFilledTo least nodes depth) last (pages_below b)) (sym is) tt,
 )
 
 pub leaf_keeps : (end : Bool) (blocks : ℕ) (before after : ℕ → List ℕ) (n : ℕ) (es list : List Xad) → page_nodes blocks before n ≡ Leaf es → page_nodes blocks after n ≡ Leaf list → length es ≤ length list → KeepsFilled end blocks before after (n ∷ []) (n ∷ [])
 unfolding IsFilledTo
-leaf_keeps end blocks before after n es list was is more zero last ends filled = tt
-leaf_keeps end blocks before after n es list was is more (suc depth) last ends filled =
-    leaf_filled (page_nodes blocks after) (suc depth) n last list is (λ e. (let h = filled.0 e in let c = ap (λ (b : Node ℕ Xad). entry_count b) was in omega (arith, h, c, more)))
+leaf_keeps end blocks before after n es list was is more least most zero last ends filled = tt
+leaf_keeps end blocks before after n es list was is more least most (suc depth) last ends filled =
+    leaf_filled least (page_nodes blocks after) (suc depth) n last list is (λ e. (let h = filled.0 e in let c = ap (λ (b : Node ℕ Xad). entry_count b) was in omega (arith, h, c, more)))
 
 -- the last page of a level may have fewer entries
 may_thin : (end last : Bool) (few : Type 0) → (end ≡ true → last ≡ true) → (end ≡ false → few) → last ≡ false → few
 may_thin true last few ends some e = absurd (let h = ends refl in cc)
 may_thin false last few ends some e = some refl
 
-pub leaf_fills : (end : Bool) (blocks : ℕ) (before after : ℕ → List ℕ) (n q : ℕ) (front back : List Xad) → page_nodes blocks after n ≡ Leaf front → page_nodes blocks after q ≡ Leaf back → 64 ≤ length front → (end ≡ false → 64 ≤ length back) → KeepsFilled end blocks before after (n ∷ []) (n ∷ q ∷ [])
-leaf_fills end blocks before after n q front back first second f b depth last ends filled =
-    (leaf_filled (page_nodes blocks after) depth n false front first (λ e. f), leaf_filled (page_nodes blocks after) depth q last back second (may_thin end last (64 ≤ length back) ends b))
+pub leaf_fills : (end : Bool) (blocks : ℕ) (before after : ℕ → List ℕ) (n q : ℕ) (front back : List Xad) → page_nodes blocks after n ≡ Leaf front → page_nodes blocks after q ≡ Leaf back → 127 ≤ length front → (end ≡ false → 127 ≤ length back) → KeepsFilled end blocks before after (n ∷ []) (n ∷ q ∷ [])
+leaf_fills end blocks before after n q front back first second f b least most depth last ends filled = (
+  leaf_filled least (page_nodes blocks after) depth n false front first (λ e. omega (arith, most, f)),
+  leaf_filled least (page_nodes blocks after) depth q last back second (may_thin end last (least ≤ length back) ends (λ e. (let h = b e in omega (arith, most, h)))),
+)
 
 -- ---- inner pages
 
-has_filled : (nodes : ℕ → Node ℕ Xad) (depth n : ℕ) (last : Bool) (cs : List (Child ℕ)) → HasChildren (nodes n) cs → (last ≡ false → 64 ≤ entry_count (nodes n)) → InLine (IsFilled nodes depth) last (numbers cs) → IsFilled nodes (suc depth) last n
+has_filled : (least : ℕ) (nodes : ℕ → Node ℕ Xad) (depth n : ℕ) (last : Bool) (cs : List (Child ℕ)) → HasChildren (nodes n) cs → (last ≡ false → least ≤ entry_count (nodes n)) → InLine (IsFilledTo least nodes depth) last (numbers cs) → IsFilledTo least nodes (suc depth) last n
 unfolding IsFilledTo
-has_filled nodes depth n last cs has enough line = (
+has_filled least nodes depth n last cs has enough line = (
   enough,
-  subst (InLine (IsFilled nodes depth) last)
+  subst (InLine (IsFilledTo least nodes depth) last)
       (sym (ap (λ (b : Node ℕ Xad). pages_below b) has.is ∙ sym (numbers_under 0 has.children) ∙ ap numbers (has.same 0) ∙ numbers_under 0 cs)) line,
 )
 
 -- the line below an inner page, once its children are written and the page is put
-line_below : (end : Bool) (blocks : ℕ) (before middle after : ℕ → List ℕ) (n lower depth key : ℕ) (high : Option ℕ) (es made : List Xad) (last : Bool) → page_nodes blocks before n ≡ Inner (map child_of es) → Rises xt_scale key (parts_under blocks middle (suc lower) key made) high
+line_below : (least : ℕ) → least ≤ 127 → (end : Bool) (blocks : ℕ) (before middle after : ℕ → List ℕ) (n lower depth key : ℕ) (high : Option ℕ) (es made : List Xad) (last : Bool) → page_nodes blocks before n ≡ Inner (map child_of es) → Rises xt_scale key (parts_under blocks middle (suc lower) key made) high
     → ((m : ℕ) → 0 < times m (parts_under blocks middle (suc lower) key made) → after m ≡ middle m) → KeepsFilled end blocks before middle (pages_of_entries es) (pages_of_entries made)
-    → (end ≡ true → last ≡ true) → InLine (IsFilled (page_nodes blocks before) depth) last (pages_below (page_nodes blocks before n)) → InLine (IsFilled (page_nodes blocks after) depth) last (numbers (map child_of made))
-line_below end blocks before middle after n lower depth key high es made last was r agree keeps ends line =
-    subst (InLine (IsFilled (page_nodes blocks after) depth) last) (sym (pages_are made))
-    (entries_stay blocks middle after (suc lower) depth key made key high last r agree
-    (keeps depth last ends (subst (InLine (IsFilled (page_nodes blocks before) depth) last) (ap (λ (b : Node ℕ Xad). pages_below b) was ∙ pages_are es) line)))
+    → (end ≡ true → last ≡ true) → InLine (IsFilledTo least (page_nodes blocks before) depth) last (pages_below (page_nodes blocks before n)) → InLine (IsFilledTo least (page_nodes blocks after) depth) last (numbers (map child_of made))
+line_below least most end blocks before middle after n lower depth key high es made last was r agree keeps ends line =
+    subst (InLine (IsFilledTo least (page_nodes blocks after) depth) last) (sym (pages_are made))
+    (entries_stay least blocks middle after (suc lower) depth key made key high last r agree
+    (keeps least most depth last ends (subst (InLine (IsFilledTo least (page_nodes blocks before) depth) last) (ap (λ (b : Node ℕ Xad). pages_below b) was ∙ pages_are es) line)))
 
 pub inner_keeps : (end : Bool) (blocks : ℕ) (before middle after : ℕ → List ℕ) (n lower key : ℕ) (high : Option ℕ) (es made : List Xad) → page_nodes blocks before n ≡ Inner (map child_of es) → Rises xt_scale key (parts_under blocks middle (suc lower) key made) high
     → ((m : ℕ) → 0 < times m (parts_under blocks middle (suc lower) key made) → after m ≡ middle m) → KeepsFilled end blocks before middle (pages_of_entries es) (pages_of_entries made)
     → length es ≤ length made → 0 < length made → page_nodes blocks after n ≡ Inner (map child_of made) → KeepsFilled end blocks before after (n ∷ []) (n ∷ [])
 unfolding IsFilledTo
-inner_keeps end blocks before middle after n lower key high es made was r agree keeps more some is zero last ends filled = tt
-inner_keeps end blocks before middle after n lower key high es made was r agree keeps more some is (suc depth) last ends filled =
-    has_filled (page_nodes blocks after) depth n last (map child_of made) (record { children = map child_of made; is = is; some = cons made some; same = λ k. refl })
+inner_keeps end blocks before middle after n lower key high es made was r agree keeps more some is least most zero last ends filled = tt
+inner_keeps end blocks before middle after n lower key high es made was r agree keeps more some is least most (suc depth) last ends filled =
+    has_filled least (page_nodes blocks after) depth n last (map child_of made) (record { children = map child_of made; is = is; some = cons made some; same = λ k. refl })
     (λ e. (let h = filled.0 e in let c = ap (λ (b : Node ℕ Xad). entry_count b) was in let d = ap (λ (b : Node ℕ Xad). entry_count b) is in let i = count_are es in let j = count_are made in omega (arith, h, c, d, i, j, more)))
-    (line_below end blocks before middle after n lower depth key high es made last was r agree keeps ends filled.1)
+    (line_below least most end blocks before middle after n lower depth key high es made last was r agree keeps ends filled.1)
   where
     cons : (ys : List Xad) → 0 < length ys → IsCons (map child_of ys)
     cons [] l = absurd (omega (arith, l))
@@ -114,11 +116,13 @@ inner_keeps end blocks before middle after n lower key high es made was r agree 
 
 pub inner_fills : (end : Bool) (blocks : ℕ) (before middle after : ℕ → List ℕ) (n q lower key : ℕ) (high : Option ℕ) (es made : List Xad) (front : List (Child ℕ)) (first : Child ℕ) (back : List (Child ℕ)) → page_nodes blocks before n ≡ Inner (map child_of es)
     → Rises xt_scale key (parts_under blocks middle (suc lower) key made) high → ((m : ℕ) → 0 < times m (parts_under blocks middle (suc lower) key made) → after m ≡ middle m) → KeepsFilled end blocks before middle (pages_of_entries es) (pages_of_entries made)
-    → map child_of made ≡ front ++ first ∷ back → HasChildren (page_nodes blocks after n) front → HasChildren (page_nodes blocks after q) (first ∷ back) → 64 ≤ entry_count (page_nodes blocks after n) → (end ≡ false → 64 ≤ entry_count (page_nodes blocks after q))
+    → map child_of made ≡ front ++ first ∷ back → HasChildren (page_nodes blocks after n) front → HasChildren (page_nodes blocks after q) (first ∷ back) → 127 ≤ entry_count (page_nodes blocks after n) → (end ≡ false → 127 ≤ entry_count (page_nodes blocks after q))
     → KeepsFilled end blocks before after (n ∷ []) (n ∷ q ∷ [])
 unfolding IsFilledTo
-inner_fills end blocks before middle after n q lower key high es made front first back was r agree keeps all here there f b zero last ends filled = (tt, tt)
-inner_fills end blocks before middle after n q lower key high es made front first back was r agree keeps all here there f b (suc depth) last ends filled =
-    let line = subst (InLine (IsFilled (page_nodes blocks after) depth) last) (ap numbers all ∙ numbers-append front (first ∷ back)) (line_below end blocks before middle after n lower depth key high es made last was r agree keeps ends filled.1) in
-    let t = line_front (IsFilled (page_nodes blocks after) depth) last (numbers front) first.page (numbers back) line in
-    (has_filled (page_nodes blocks after) depth n false front here (λ e. f) t.0, has_filled (page_nodes blocks after) depth q last (first ∷ back) there (may_thin end last (64 ≤ entry_count (page_nodes blocks after q)) ends b) t.1)
+inner_fills end blocks before middle after n q lower key high es made front first back was r agree keeps all here there f b least most zero last ends filled = (tt, tt)
+inner_fills end blocks before middle after n q lower key high es made front first back was r agree keeps all here there f b least most (suc depth) last ends filled =
+    let line = subst (InLine (IsFilledTo least (page_nodes blocks after) depth) last) (ap numbers all ∙ numbers-append front (first ∷ back)) (line_below least most end blocks before middle after n lower depth key high es made last was r agree keeps ends filled.1) in
+    let t = line_front (IsFilledTo least (page_nodes blocks after) depth) last (numbers front) first.page (numbers back) line in (
+      has_filled least (page_nodes blocks after) depth n false front here (λ e. omega (arith, most, f)) t.0,
+      has_filled least (page_nodes blocks after) depth q last (first ∷ back) there (may_thin end last (least ≤ entry_count (page_nodes blocks after q)) ends (λ e. (let h = b e in omega (arith, most, h)))) t.1,
+    )

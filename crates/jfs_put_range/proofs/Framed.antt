@@ -1,5 +1,5 @@
 -- Frames of pages: each that was taken names itself, and each other keeps its own.
-use Rattle.std.proofs.Common.{◌≡◌, ◌≤◌, ◌<◌, inl, inr, refl, sym, ap, ◌∙◌, subst, ℕ, ◌+◌, Bool, List, Option, Some, None, Result, Ok, Err, OnOk, arith}
+use Rattle.std.proofs.Common.{◌≡◌, ◌≤◌, ◌<◌, inl, inr, refl, sym, ap, ◌∙◌, subst, ℕ, Bool, List, Option, Some, None, Result, Ok, Err, OnOk, arith}
 use Rattle.std.proofs.lemmas.Bool.{cases_eq}
 use Rattle.jfs_bits.specs.declared.extent.Xad.{Xad}
 use Rattle.jfs_disk.specs.Image.{Image}

@@ -155,7 +155,7 @@ inner_wrote end full blocks xs es made left right old mid new image n levels byt
       b.level ∙ ap suc (g.2 any),
       inner_fills end blocks before middle after n s.page b.lower key high es made h.front h.first h.back is g.0.rises agree g.5 h.is
           (subst (λ node. HasChildren node h.front) (sym first_is) h.left_is) (subst (λ node. HasChildren node (h.first ∷ h.back)) (sym second_is) h.right_is)
-          (subst (λ (m : Node ℕ Xad). 64 ≤ entry_count m) (sym first_is) fills.left_has) (λ e. subst (λ (m : Node ℕ Xad). 64 ≤ entry_count m) (sym second_is) (fills.right_has (not_full end full ends e))),
+          (subst (λ (m : Node ℕ Xad). 127 ≤ entry_count m) (sym first_is) fills.left_has) (λ e. subst (λ (m : Node ℕ Xad). 127 ≤ entry_count m) (sym second_is) (fills.right_has (not_full end full ends e))),
     )
 
 -- ---- a page below which the range can't be written

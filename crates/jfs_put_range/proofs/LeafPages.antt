@@ -239,7 +239,7 @@ leaf_wrote end full blocks xs es list left right old new image n bytes free rest
           (subst (λ ms. Wrote xs before after low (Key n key ∷ Page n ∷ map (Row n) es) ms high free rest) (sym now) w)),
       b.level,
       leaf_fills end blocks before after n q p.front p.back first_is second_is
-          (subst (λ (m : Node ℕ Xad). 64 ≤ entry_count m) p.left_is fills.left_has) (λ e. subst (λ (m : Node ℕ Xad). 64 ≤ entry_count m) p.right_is (fills.right_has (not_full end full fulls e))),
+          (subst (λ (m : Node ℕ Xad). 127 ≤ entry_count m) p.left_is fills.left_has) (λ e. subst (λ (m : Node ℕ Xad). 127 ≤ entry_count m) p.right_is (fills.right_has (not_full end full fulls e))),
     )
 
 -- ---- a part that has entries only in the 17 blocks

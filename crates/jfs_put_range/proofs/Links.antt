@@ -1,6 +1,5 @@
 -- Links that are set once a range stands in a tree.
-use Rattle.std.proofs.Common.{◌≡◌, ◌≤◌, ap, ◌∙◌, sym, subst, ℕ, ◌+◌, List, Ok, arith}
-use Rattle.std.proofs.Math.Path.{fun_ext}
+use Rattle.std.proofs.Common.{◌≡◌, ◌≤◌, ap, ◌∙◌, sym, subst, ℕ, ◌+◌, List, arith}
 use Rattle.jfs_bits.specs.declared.extent.Xad.{Xad}
 use Rattle.jfs_disk.specs.Image.{Image}
 use Rattle.jfs_tree.specs.Walk.{Node, Scale, IsOrder}
@@ -19,7 +18,6 @@ use Rattle.jfs_xtpage.specs.declared.head.XtForm.{XtForm}
 use Rattle.jfs_xtpage.specs.declared.head.XtForm.TheVariants.{Full}
 use Rattle.jfs_xtree.specs.Laws.{order}
 use Rattle.jfs_xtree.specs.Node.{xt_scale, xt_node, frame_of}
-use Rattle.jfs_xtree.specs.WriteParts.{drafted}
 use Rattle.jfs_xtree.proofs.Adds.{has_pages}
 use Rattle.jfs_put_range.specs.Tops.{AreFilled, StepsRange, FillsRange, RefusesRange}
 
@@ -54,8 +52,8 @@ module _ (form : XtForm) (blocks : ℕ) (image later : Image) (root after : List
       becomes_linked (xt_node Full blocks) (frame_of Full) xt_scale order image later _ old mid new (xt_node form blocks root) (xt_node form blocks after) free left blocks same small (has_pages form blocks after) (has_pages Full blocks) links (steps es spelled spare)
 
   pub fills_linked : FillsRange form blocks image root after old mid free → FillsRange form blocks image root after old new free
-  fills_linked fills es spelled spare filled =
-      subst (λ f. AreFilled (with_root (xt_node form blocks after) f)) (sym (same_nodes (xt_node Full blocks) (frame_of Full) image later mid new (xt_node form blocks after) same links)) (fills es spelled spare filled)
+  fills_linked fills es spelled spare least most filled =
+      subst (λ f. AreFilled least (with_root (xt_node form blocks after) f)) (sym (same_nodes (xt_node Full blocks) (frame_of Full) image later mid new (xt_node form blocks after) same links)) (fills es spelled spare least most filled)
 
 -- a page that can't be read refutes nothing
 pub refuses_read : (form : XtForm) (blocks : ℕ) (image : Image) (root : List ℕ) (old : List Drafted) (free : List ℕ) (e : TreeError) → IsRead e → RefusesRange form blocks image root old free e

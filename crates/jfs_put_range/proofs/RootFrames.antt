@@ -1,5 +1,5 @@
 -- Frames of pages, from the call at the root to the whole call.
-use Rattle.std.proofs.Common.{◌≡◌, ◌≤◌, ◌<◌, refl, sym, ap, ◌∙◌, subst, ℕ, ◌+◌, Bool, true, false, List, [], ◌++◌, length, Ok, Err, Result, OnOk, IfOk, arith}
+use Rattle.std.proofs.Common.{◌≡◌, ◌≤◌, refl, sym, ap, ◌∙◌, subst, ℕ, ◌+◌, Bool, true, false, List, [], length, Ok, Err, Result, OnOk, arith}
 use Rattle.std.specs.Prelude.{reverse}
 use Rattle.jfs_bits.specs.declared.extent.Xad.{Xad}
 use Rattle.jfs_disk.specs.Image.{Image, page_of}

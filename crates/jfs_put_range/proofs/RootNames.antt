@@ -1,5 +1,5 @@
 -- Where the root is named.
-use Rattle.std.proofs.Common.{◌≡◌, ◌≤◌, ◌<◌, inl, inr, ap, ◌∙◌, subst, ℕ, ◌+◌, Bool, true, false, List, ◌++◌, [], length, Ok, Err, Result, IfErr, arith}
+use Rattle.std.proofs.Common.{◌≡◌, inl, inr, ap, ◌∙◌, subst, ℕ, ◌+◌, Bool, true, false, List, ◌++◌, [], length, Ok, Err, Result, IfErr, arith}
 use Rattle.jfs_bits.specs.declared.extent.Xad.{Xad}
 use Rattle.jfs_tree.specs.Walk.{Node}
 use Rattle.jfs_tree.specs.Call.{IsRead}

@@ -31,7 +31,7 @@ use Rattle.jfs_xtree.proofs.Adds.{has_pages}
 use Rattle.jfs_written.specs.Range.{with_range}
 use Rattle.jfs_refill.specs.Refilled.{IsList}
 use Rattle.jfs_refill.specs.Rooted.{RootStored, SettlesList}
-use Rattle.jfs_put_range.specs.Call.{IsShortRange, WritesRange, KeepsNoThin, RefusesOnlyDeep}
+use Rattle.jfs_put_range.specs.Call.{IsShortRange, WritesRange, KeepsLeast, RefusesOnlyDeep}
 use Rattle.jfs_put_range.specs.Parts.{Pushed, WroteChildren, RefutesChildren, most_taken}
 use Rattle.jfs_put_range.specs.Tops.{IsOpenedRoot, BreaksRoot, StepsRange, FillsRange, RefusesRange}
 use Rattle.jfs_put_range.proofs.LeafPages.{leaf_list}
@@ -74,12 +74,12 @@ module _ (form : XtForm) (blocks : ℕ) (image : Image) (xs entries : List Xad) 
 
   pub leaf_fills : (list : List Xad) (old new : List Drafted) (free left : List ℕ) (result : Result (Unit {0}) TreeError) → IsOpenedRoot form blocks root entries true → AllBelow blocks free → IsFront left free
       → list ≡ with_range xs entries → SettlesAlways 1 list root after old new free left result → OnOk result (StaysTaken old new free left) → OnOk result (FillsRange form blocks image root after old new free)
-  leaf_fills list old new free left (Ok it) opened below front is settled stays = λ es spelled spare filled.
+  leaf_fills list old new free left (Ok it) opened below front is settled stays = λ es spelled spare least most filled.
       let listed = subst (IsList blocks) (sym is) (leaf_list blocks xs entries (omega (arith, small)) (as_part blocks xs range) opened.order opened.range opened.fits).0 in
       settles_filled xt_scale order (xt_node Full blocks) image blocks list old old new (xt_node form blocks root) (Leaf list) (xt_node form blocks after) free free left
-      below (below_left blocks left free front below) (omega (arith, small)) (λ n. (let f = fewer_left n free left front in omega (arith, f))) stays 1
+      below (below_left blocks left free front below) (omega (arith, small)) (λ n. (let f = fewer_left n free left front in omega (arith, f))) stays least 1
       (leaf_stood blocks image list entries es old (xt_node form blocks root) free opened.node (subst (λ ys. 0 < length ys) (sym is) (some_range xs entries range.some)) listed.order below (omega (arith, small)) spelled spare)
-      ((settled form blocks is_root below listed).leaf image entries opened.node) (leaf_filled (drafted blocks old image) (xt_node form blocks root) list filled)
+      ((settled form blocks is_root below listed).leaf image entries opened.node) (leaf_filled least (drafted blocks old image) (xt_node form blocks root) list filled)
   leaf_fills list old new free left (Err e) opened below front is settled stays = tt
 
   -- an inner page
@@ -97,12 +97,12 @@ module _ (form : XtForm) (blocks : ℕ) (image : Image) (xs entries : List Xad) 
   inner_fills : (made : List Xad) (old mid new : List Drafted) (levels : ℕ) (free between left : List ℕ) (result : Result (Unit {0}) TreeError) → IsOpenedRoot form blocks root entries false → AllBelow blocks free
       → IsFront between free → IsFront left between → 0 < length made → all_within blocks made ≡ true → WroteChildren true blocks xs true true true (shown old image) (shown mid image) levels entries made free between
       → SettlesAlways (levels + 1) made root after mid new between left result → OnOk result (StaysTaken mid new between left) → OnOk result (FillsRange form blocks image root after old new free)
-  inner_fills made old mid new levels free between left (Ok it) opened below front front_left some within wrote settled stays = λ es spelled spare filled.
+  inner_fills made old mid new levels free between left (Ok it) opened below front front_left some within wrote settled stays = λ es spelled spare least most filled.
       let st = inner_stood blocks image xs entries made es old mid (xt_node form blocks root) levels free between range opened.node (opened.some refl) opened.order some below (omega (arith, small)) front wrote spelled spare in
       let below_between = below_left blocks between free front below in
       settles_filled xt_scale order (xt_node Full blocks) image blocks (with_range xs es) old mid new (xt_node form blocks root) (Inner (map child_of made)) (xt_node form blocks after) free between left
-      below (below_left blocks left between front_left below_between) (omega (arith, small)) (λ n. (let f = fewer_left n between left front_left in omega (arith, f))) stays (levels + 1) st.stood
-      ((settled form blocks is_root below_between (record { order = st.rises; range = within })).inner image (map child_of entries) opened.node some) (st.fills filled)
+      below (below_left blocks left between front_left below_between) (omega (arith, small)) (λ n. (let f = fewer_left n between left front_left in omega (arith, f))) stays least (levels + 1) st.stood
+      ((settled form blocks is_root below_between (record { order = st.rises; range = within })).inner image (map child_of entries) opened.node some) (st.fills least most filled)
   inner_fills made old mid new levels free between left (Err e) opened below front front_left some within wrote settled stays = tt
 
   pub inner_refuses : (old : List Drafted) (free : List ℕ) (e : TreeError) → IsOpenedRoot form blocks root entries false → AllBelow blocks free → RefutesChildren blocks xs true true true (shown old image) 7 entries free e
@@ -203,8 +203,8 @@ module _ (b blocks : ℕ) (form : XtForm) (image : Image) (root : List ℕ) (ds 
       (has_pages f blocks after) (has_pages Full blocks) (steps_there ys xs after drafts rest ex steps es spelled (clear spare)) told is_stack is_left
 
   pub writes_thick : (ys xs : List Xad) (after : List ℕ) (drafts : List Drafted) (rest : List ℕ) (tx later : List Edit) → ys ≡ xs → StepsRange form b image ys root after ds drafts stack rest → FillsRange form b image root after ds drafts stack → TellsDraft blocks image drafts tx later
-      → KeepsNoThin blocks (page_of image) root after free tx later
-  writes_thick ys xs after drafts rest tx later ex steps fills told es spelled spare base leads none page =
+      → KeepsLeast blocks (page_of image) root after free tx later
+  writes_thick ys xs after drafts rest tx later ex steps fills told es spelled spare base leads least most none page =
       let f = root_form (length root) in
       let pages = drafted blocks drafts image in
       let now = page_nodes blocks (after_tx base later) in
@@ -212,9 +212,9 @@ module _ (b blocks : ℕ) (form : XtForm) (image : Image) (root : List ℕ) (ds 
       (subst (λ (g : XtForm). FillsRange g blocks image root after ds drafts stack) ef (subst (λ (n : ℕ). FillsRange form n image root after ds drafts stack) eb fills)) in
       let agree = λ (n : ℕ) (h : n < blocks). ap (xt_node Full blocks) (told n h (base n) (leads n h).0 (leads n h).1) in
       let frame = λ (n : ℕ) (h : 0 < footprint xt_scale pages (xt_node f blocks after) n). agree n (footprint_within xt_scale pages (xt_node f blocks after) n blocks (has_pages f blocks after) (λ m. has_pages Full blocks (shown drafts image m)) h) in
-      filled_not_thin 64 (with_root (xt_node f blocks after) now) page
-      (filled_same 64 xt_scale order pages now (xt_node f blocks after) (with_range xs es) (steps_there ys xs after drafts rest ex steps es spelled (clear spare)).spelled frame
-      (fills_there es spelled (clear spare) (filled_of 64 xt_scale order (page_nodes blocks (page_of image)) (xt_node f blocks root) es spelled none)))
+      filled_not_thin least (with_root (xt_node f blocks after) now) page
+      (filled_same least xt_scale order pages now (xt_node f blocks after) (with_range xs es) (steps_there ys xs after drafts rest ex steps es spelled (clear spare)).spelled frame
+      (fills_there es spelled (clear spare) least most (filled_of least xt_scale order (page_nodes blocks (page_of image)) (xt_node f blocks root) es spelled none)))
 
   pub refuses_deep : (e : TreeError) → RefusesRange form b image root ds stack e → RefusesOnlyDeep blocks (page_of image) root free e
   refuses_deep e h es spelled spare =

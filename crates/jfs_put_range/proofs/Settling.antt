@@ -2,7 +2,7 @@
 use Rattle.std.proofs.Common.{◌≡◌, ◌≢◌, ◌≤◌, ◌<◌, ◌⊎◌, inl, inr, refl, sym, ap, ◌∙◌, subst, ℕ, zero, suc, ◌+◌, true, List, [], ◌∷◌, ◌++◌, ◌==◌, if◌then◌else◌, None, Ok, arith}
 use Rattle.jfs_disk.specs.Image.{Image}
 use Rattle.jfs_tree.specs.Walk.{Node, Inner, Marks, Scale, Rises, IsOrder, rows_of, times, placed, body, walk}
-use Rattle.jfs_tree.specs.Levels.{InLine, IsFilled, IsFilledTo, pages_below}
+use Rattle.jfs_tree.specs.Levels.{InLine, IsFilledTo, pages_below}
 use Rattle.jfs_tree.specs.Spells.{no_page, with_root, top, tree_of, footprint}
 use Rattle.jfs_tree.specs.Edit.{count_in}
 use Rattle.jfs_tree.specs.Form.{AllBelow, IsFront}
@@ -31,29 +31,29 @@ not_taken : (q n t r f l : ℕ) → (r + t) + f ≤ 1 → f ≡ (if q == n then 
 not_taken q n t r f l h e p i = grind arith
 
 -- a root below which one page stands, which holds what was to stand at the root
-moved_filled : {P E : Type 0} (nodes : ℕ → Node P E) (q : ℕ) (key : P) (taken after : Node P E) → nodes no_page ≡ after → after ≡ Inner (record { key = key; page = q } ∷ []) → nodes q ≡ taken
-    → ((depth : ℕ) → InLine (IsFilled nodes depth) true (pages_below taken)) → (depth : ℕ) → IsFilled nodes depth true no_page
+moved_filled : {P E : Type 0} (least : ℕ) (nodes : ℕ → Node P E) (q : ℕ) (key : P) (taken after : Node P E) → nodes no_page ≡ after → after ≡ Inner (record { key = key; page = q } ∷ []) → nodes q ≡ taken
+    → ((depth : ℕ) → InLine (IsFilledTo least nodes depth) true (pages_below taken)) → (depth : ℕ) → IsFilledTo least nodes depth true no_page
 unfolding IsFilledTo
-moved_filled nodes q key taken after root is at line zero = tt
-moved_filled {P} {E} nodes q key taken after root is at line (suc zero) = ((λ e. absurd cc), subst (λ (n : Node P E). InLine (IsFilled nodes 0) true (pages_below n)) (sym (root ∙ is)) tt)
-moved_filled {P} {E} nodes q key taken after root is at line (suc (suc depth)) = (
+moved_filled least nodes q key taken after root is at line zero = tt
+moved_filled {P} {E} least nodes q key taken after root is at line (suc zero) = ((λ e. absurd cc), subst (λ (n : Node P E). InLine (IsFilledTo least nodes 0) true (pages_below n)) (sym (root ∙ is)) tt)
+moved_filled {P} {E} least nodes q key taken after root is at line (suc (suc depth)) = (
   (λ e. absurd cc),
-  subst (λ (n : Node P E). InLine (IsFilled nodes (suc depth)) true (pages_below n)) (sym (root ∙ is)) ((λ e. absurd cc), subst (λ (n : Node P E). InLine (IsFilled nodes depth) true (pages_below n)) (sym at) (line depth)),
+  subst (λ (n : Node P E). InLine (IsFilledTo least nodes (suc depth)) true (pages_below n)) (sym (root ∙ is)) ((λ e. absurd cc), subst (λ (n : Node P E). InLine (IsFilledTo least nodes depth) true (pages_below n)) (sym at) (line depth)),
 )
 
 -- the pages below a root's content
-below_filled : {P E : Type 0} (nodes : ℕ → Node P E) (node : Node P E) → nodes no_page ≡ node → ((depth : ℕ) → IsFilled nodes depth true no_page) → (depth : ℕ) → InLine (IsFilled nodes depth) true (pages_below node)
+below_filled : {P E : Type 0} (least : ℕ) (nodes : ℕ → Node P E) (node : Node P E) → nodes no_page ≡ node → ((depth : ℕ) → IsFilledTo least nodes depth true no_page) → (depth : ℕ) → InLine (IsFilledTo least nodes depth) true (pages_below node)
 unfolding IsFilledTo
-below_filled {P} {E} nodes node is filled depth = subst (λ (n : Node P E). InLine (IsFilled nodes depth) true (pages_below n)) is (filled (suc depth)).1
+below_filled {P} {E} least nodes node is filled depth = subst (λ (n : Node P E). InLine (IsFilledTo least nodes depth) true (pages_below n)) is (filled (suc depth)).1
 
-settled_filled : {P E : Type 0} (s : Scale P E) → IsOrder s → (mid new : ℕ → Node P E) (taken after : Node P E) (levels : ℕ) (between left : List ℕ) → count_in no_page between ≡ 0
+settled_filled : {P E : Type 0} (least : ℕ) (s : Scale P E) → IsOrder s → (mid new : ℕ → Node P E) (taken after : Node P E) (levels : ℕ) (between left : List ℕ) → count_in no_page between ≡ 0
     → Rises s s.least (walk s (with_root taken mid) levels (top s)) None → ((n : ℕ) → times n (walk s (with_root taken mid) levels (top s)) + count_in n between ≤ 1)
-    → Settled s levels taken mid new after between left → ((depth : ℕ) → IsFilled (with_root taken mid) depth true no_page) → (depth : ℕ) → IsFilled (with_root after new) depth true no_page
+    → Settled s levels taken mid new after between left → ((depth : ℕ) → IsFilledTo least (with_root taken mid) depth true no_page) → (depth : ℕ) → IsFilledTo least (with_root after new) depth true no_page
 unfolding walk
-settled_filled {P} {E} s o mid new taken after levels between left apart rises once (inl (same, pages, counts)) filled =
-    filled_frame 64 s o (with_root taken mid) (with_root after new) levels s.least s.least None rises (λ n p. ap (λ r. with_root r new n) same ∙ ap (λ m. if n == no_page then taken else m) (pages n)) filled
-settled_filled {P} {E} s o mid new taken after zero between left apart rises once (inr (q, deep, is, here, pages, counts)) filled = absurd rises
-settled_filled {P} {E} s o mid new taken after (suc lower) between left apart rises once (inr (q, deep, is, here, pages, counts)) filled =
+settled_filled {P} {E} least s o mid new taken after levels between left apart rises once (inl (same, pages, counts)) filled =
+    filled_frame least s o (with_root taken mid) (with_root after new) levels s.least s.least None rises (λ n p. ap (λ r. with_root r new n) same ∙ ap (λ m. if n == no_page then taken else m) (pages n)) filled
+settled_filled {P} {E} least s o mid new taken after zero between left apart rises once (inr (q, deep, is, here, pages, counts)) filled = absurd rises
+settled_filled {P} {E} least s o mid new taken after (suc lower) between left apart rises once (inr (q, deep, is, here, pages, counts)) filled =
     let before = with_root taken mid in
     let now = with_root after new in
     let ms = body (walk s before lower) (top s) (placed s lower s.least taken) in
@@ -61,8 +61,8 @@ settled_filled {P} {E} s o mid new taken after (suc lower) between left apart ri
     let agree : Agree before now ms = λ n t.
     let nr = not_root n (times n ms) (count_in n between) (once n) t in
     root_else after new n nr ∙ pages n (not_taken q n (times n ms) (if no_page == n then 1 else 0) (count_in n between) (count_in n left) (once n) (counts n) t) ∙ sym (root_else taken mid n nr) in
-    moved_filled now q s.least taken after refl is (root_else after new q off ∙ here)
-    (λ depth. below_stays 64 s o before now lower depth (top s) taken s.least None true rises.1 agree (below_filled before taken refl filled depth))
+    moved_filled least now q s.least taken after refl is (root_else after new q off ∙ here)
+    (λ depth. below_stays least s o before now lower depth (top s) taken s.least None true rises.1 agree (below_filled least before taken refl filled depth))
 
 -- ---- what stands
 
@@ -140,9 +140,9 @@ module _ {P E : Type 0} (s : Scale P E) (o : IsOrder s) (node : List ℕ → Nod
   fewer_free f m h l = omega (arith, h, l)
 
   -- and its levels are filled, where those of what was to stand at the root are
-  pub settles_filled : (levels : ℕ) → Stood s node image list old mid root taken levels free between → Settled s levels taken (nodes node mid image) (nodes node new image) after between left
-      → ((depth : ℕ) → IsFilled (with_root taken (nodes node mid image)) depth true no_page) → (depth : ℕ) → IsFilled (with_root after (nodes node new image)) depth true no_page
-  settles_filled levels st settled filled =
-      settled_filled s o (nodes node mid image) (nodes node new image) taken after levels between left
+  pub settles_filled : (least levels : ℕ) → Stood s node image list old mid root taken levels free between → Settled s levels taken (nodes node mid image) (nodes node new image) after between left
+      → ((depth : ℕ) → IsFilledTo least (with_root taken (nodes node mid image)) depth true no_page) → (depth : ℕ) → IsFilledTo least (with_root after (nodes node new image)) depth true no_page
+  settles_filled least levels st settled filled =
+      settled_filled least s o (nodes node mid image) (nodes node new image) taken after levels between left
       (fewer_free (count_in no_page free) (count_in no_page between) (count_below blocks no_page free below_free within) (st.fewer no_page)) st.rises
       (λ n. one_each (times n st.before) (count_in n between) _ (count_in n free) (st.once n) (st.pages n)) settled filled

@@ -8,7 +8,7 @@ use Rattle.jfs_disk.specs.Image.{Image}
 use Rattle.jfs_tree.specs.Walk.{Child, Node, Leaf, Inner, Page, Key, Row, Marks, Rises, rows_of, times, under, walk}
 use Rattle.jfs_tree.specs.Spells.{no_page, with_root, levels_of, top, tree_of, spells}
 use Rattle.jfs_tree.specs.Edit.{FitsFirst, count_in}
-use Rattle.jfs_tree.specs.Levels.{InLine, IsFilled, pages_below}
+use Rattle.jfs_tree.specs.Levels.{InLine, IsFilledTo, pages_below}
 use Rattle.jfs_tree.specs.Form.{AllBelow, IsFront}
 use Rattle.jfs_tree.specs.Root.{IsSpare}
 use Rattle.jfs_tree.specs.Draft.{shown}
@@ -103,8 +103,8 @@ leaf_stood blocks image list rest es old root free is some rises below within sp
     }
 
 -- its levels are filled, with no page below it
-pub leaf_filled : (pages : ℕ → Node ℕ Xad) (root : Node ℕ Xad) (list : List Xad) → AreFilled (with_root root pages) → AreFilled (with_root (Leaf list) pages)
-leaf_filled pages root list filled depth = page_filled 64 (with_root root pages) (with_root (Leaf list) pages) no_page (Leaf list) (λ d line. tt) refl depth (filled depth)
+pub leaf_filled : (least : ℕ) (pages : ℕ → Node ℕ Xad) (root : Node ℕ Xad) (list : List Xad) → AreFilled least (with_root root pages) → AreFilled least (with_root (Leaf list) pages)
+leaf_filled least pages root list filled depth = page_filled least (with_root root pages) (with_root (Leaf list) pages) no_page (Leaf list) (λ d line. tt) refl depth (filled depth)
 
 -- ---- an inner page
 
@@ -128,13 +128,13 @@ away : (ms : Marks ℕ Xad) → times no_page ms ≡ 0 → (n : ℕ) → 0 < tim
 away ms none n p e = let h = ap (λ m. times m ms) e in omega (arith, none, p, h)
 
 -- pages that are the same leave levels filled
-line_stays : (old new : ℕ → Node ℕ Xad) (levels depth : ℕ) (xs : List Xad) → Rises xt_scale 0 (flat_map (walk xt_scale old levels) (under 0 (map child_of xs))) None
+line_stays : (least : ℕ) (old new : ℕ → Node ℕ Xad) (levels depth : ℕ) (xs : List Xad) → Rises xt_scale 0 (flat_map (walk xt_scale old levels) (under 0 (map child_of xs))) None
     → ((n : ℕ) → 0 < times n (flat_map (walk xt_scale old levels) (under 0 (map child_of xs))) → new n ≡ old n)
-    → InLine (IsFilled old depth) true (pages_of_entries xs) → InLine (IsFilled new depth) true (pages_of_entries xs)
-line_stays old new levels depth xs rises agree line =
+    → InLine (IsFilledTo least old depth) true (pages_of_entries xs) → InLine (IsFilledTo least new depth) true (pages_of_entries xs)
+line_stays least old new levels depth xs rises agree line =
     let cs = under 0 (map child_of xs) in
     let is : numbers cs ≡ pages_of_entries xs = numbers_under 0 (map child_of xs) ∙ pages_are xs in
-    subst (InLine (IsFilled new depth) true) is (children_stay 64 xt_scale order old new levels depth cs 0 None true rises agree (subst (InLine (IsFilled old depth) true) (sym is) line))
+    subst (InLine (IsFilledTo least new depth) true) is (children_stay least xt_scale order old new levels depth cs 0 None true rises agree (subst (InLine (IsFilledTo least old depth) true) (sym is) line))
 
 -- the part below a root, as the walk of the whole tree has it
 record Below (blocks : ℕ) (pages : ℕ → List ℕ) (root : Node ℕ Xad) (entries es : List Xad) (free : List ℕ) (ms : Marks ℕ Xad) : Type 0 where
@@ -146,7 +146,7 @@ record Below (blocks : ℕ) (pages : ℕ → List ℕ) (root : Node ℕ Xad) (en
   rows : rows_of (parts_under blocks pages (suc lower) 0 entries) ≡ es
   once : (n : ℕ) → times n ms + count_in n free ≤ 1
   off : times no_page (parts_under blocks pages (suc lower) 0 entries) ≡ 0
-  line : (depth : ℕ) → InLine (IsFilled (with_root root (page_nodes blocks pages)) depth) true (pages_of_entries entries) → InLine (IsFilled (page_nodes blocks pages) depth) true (pages_of_entries entries)
+  line : (least depth : ℕ) → InLine (IsFilledTo least (with_root root (page_nodes blocks pages)) depth) true (pages_of_entries entries) → InLine (IsFilledTo least (page_nodes blocks pages) depth) true (pages_of_entries entries)
 
 abbrev an_inner : List (Child ℕ) → Node ℕ Xad
 an_inner cs = Inner cs
@@ -188,7 +188,7 @@ below_root blocks image entries es old root free is some below within spelled sp
           rows = ap rows_of same ∙ ap rows_of (sym whole ∙ tree) ∙ ap (λ l. rows_of (walk xt_scale (with_root root pages) l (top xt_scale))) (sym level) ∙ st.rows;
           once = spare_once blocks pages root free below within spare each;
           off = ap (times no_page) same ∙ none;
-          line = λ depth. line_stays (with_root root pages) pages (suc lower) depth entries inside
+          line = λ least depth. line_stays least (with_root root pages) pages (suc lower) depth entries inside
               (λ n p. sym (root_else root pages n (away (flat_map (walk xt_scale (with_root root pages) (suc lower)) cs) none n p)));
         }
 
@@ -213,7 +213,7 @@ pub record InnerStood (blocks : ℕ) (image : Image) (xs entries made es : List 
   pub deep : levels_of (with_root root (drafted blocks old image)) 8 no_page ≡ Some (levels + 1)
   pub most : levels + 1 ≤ 8
   pub rises : rises_from 0 made ≡ true
-  pub fills : AreFilled (with_root root (drafted blocks old image)) → AreFilled (with_root (inner made) (drafted blocks mid image))
+  pub fills : (least : ℕ) → least ≤ 127 → AreFilled least (with_root root (drafted blocks old image)) → AreFilled least (with_root (inner made) (drafted blocks mid image))
   pub stood : Stood xt_scale (xt_node Full blocks) image (with_range xs es) old mid root (inner made) (levels + 1) free between
 
 pub inner_stood : (blocks : ℕ) (image : Image) (xs entries made es : List Xad) (old mid : List Drafted) (root : Node ℕ Xad) (levels : ℕ) (free between : List ℕ) → IsShortRange blocks xs → root ≡ inner entries
@@ -236,11 +236,11 @@ inner_stood blocks image xs entries made es old mid root levels free between ran
       deep = b.deep ∙ ap (λ l. Some l) all;
       most = subst (λ l. l ≤ 8) all b.most;
       rises = w.3.order 0 rising (λ e. refl);
-      fills = λ filled depth. page_filled 64 (with_root root (drafted blocks old image)) (with_root (inner made) pages) no_page (inner made)
-          (λ d line. subst (InLine (IsFilled (with_root (inner made) pages) d) true) (sym (pages_are made))
-          (line_stays pages (with_root (inner made) pages) (suc b.lower) d made w.0.rises (λ n p. root_else (inner made) pages n (away new off n p))
-          (w.5 d true (λ e. refl) (b.line d (subst (InLine (IsFilled (with_root root (drafted blocks old image)) d) true) (pages_are entries)
-          (subst (λ (node : Node ℕ Xad). InLine (IsFilled (with_root root (drafted blocks old image)) d) true (pages_below node)) is line)))))) refl depth (filled depth);
+      fills = λ least bound filled depth. page_filled least (with_root root (drafted blocks old image)) (with_root (inner made) pages) no_page (inner made)
+          (λ d line. subst (InLine (IsFilledTo least (with_root (inner made) pages) d) true) (sym (pages_are made))
+          (line_stays least pages (with_root (inner made) pages) (suc b.lower) d made w.0.rises (λ n p. root_else (inner made) pages n (away new off n p))
+          (w.5 least bound d true (λ e. refl) (b.line least d (subst (InLine (IsFilledTo least (with_root root (drafted blocks old image)) d) true) (pages_are entries)
+          (subst (λ (node : Node ℕ Xad). InLine (IsFilledTo least (with_root root (drafted blocks old image)) d) true (pages_below node)) is line)))))) refl depth (filled depth);
       stood = subst (λ l. Stood xt_scale (xt_node Full blocks) image (with_range xs es) old mid root (inner made) l free between) all (record {
         most = b.most;
         before = tree_of xt_scale (drafted blocks old image) root;

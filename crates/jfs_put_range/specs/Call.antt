@@ -1,11 +1,11 @@
 -- A range of a file's blocks that is written into its tree: where it may lie, and what becomes of the tree.
-use Rattle.std.specs.Prelude.{◌≡◌, ◌<◌, ◌+◌, ℕ, List, length, Some, Ok}
+use Rattle.std.specs.Prelude.{◌≡◌, ◌<◌, ◌≤◌, ◌+◌, ℕ, List, length, Some, Ok}
 use Rattle.jfs_bits.specs.declared.extent.Xad.{Xad}
 use Rattle.jfs_bits.specs.declared.rule.Rule.TheVariants as rules
 use Rattle.jfs_ranges.specs.declared.edit.Edit.{Edit}
 use Rattle.jfs_tree.specs.Walk.{Node}
 use Rattle.jfs_tree.specs.Spells.{no_page, with_root, levels_of}
-use Rattle.jfs_tree.specs.Levels.{HasNoThin}
+use Rattle.jfs_tree.specs.Levels.{HoldsLeast}
 use Rattle.jfs_tree.specs.Edit.{count_in}
 use Rattle.jfs_tree.specs.Fresh.{LeadsTo, after_tx}
 use Rattle.jfs_tree.specs.Frames.{IsTaken}
@@ -41,10 +41,10 @@ abbrev pub WritesRange : ℕ → (ℕ → List ℕ) → List Xad → List ℕ �
 WritesRange blocks pages xs root after free left tx later = (es : List Xad) → spells_extents blocks pages root ≡ Ok es → IsSpare xt_scale (page_nodes blocks pages) (root_node blocks root) free
     → BecomesTold xt_scale (xt_node Full blocks) blocks (with_range xs es) pages (root_node blocks root) (xt_node (root_form (length root)) blocks after) free left tx later
 
--- And where each page but the last of its level held at least 64 entries, each does.
-abbrev pub KeepsNoThin : ℕ → (ℕ → List ℕ) → List ℕ → List ℕ → List ℕ → List Edit → List Edit → Type 0
-KeepsNoThin blocks pages root after free tx later = (es : List Xad) → spells_extents blocks pages root ≡ Ok es → IsSpare xt_scale (page_nodes blocks pages) (root_node blocks root) free → (base : ℕ → List ℕ) → LeadsTo blocks base tx pages
-    → HasNoThin (with_root (root_node blocks root) (page_nodes blocks pages)) → HasNoThin (with_root (xt_node (root_form (length root)) blocks after) (page_nodes blocks (after_tx base later)))
+-- And where each page but the last of its level held at least some number of entries, up to 127, which is half of a full page's, each does.
+abbrev pub KeepsLeast : ℕ → (ℕ → List ℕ) → List ℕ → List ℕ → List ℕ → List Edit → List Edit → Type 0
+KeepsLeast blocks pages root after free tx later = (es : List Xad) → spells_extents blocks pages root ≡ Ok es → IsSpare xt_scale (page_nodes blocks pages) (root_node blocks root) free → (base : ℕ → List ℕ) → LeadsTo blocks base tx pages
+    → (least : ℕ) → least ≤ 127 → HoldsLeast least (with_root (root_node blocks root) (page_nodes blocks pages)) → HoldsLeast least (with_root (xt_node (root_form (length root)) blocks after) (page_nodes blocks (after_tx base later)))
 
 -- A page that was taken names itself, its own descriptor being one block at its own number, where the root spelled a list and the free blocks aren't pages of its tree. Each page that
 -- wasn't taken keeps its frame, which is what it has beside kind, count, links and entries.

@@ -4,7 +4,7 @@ use Rattle.std.specs.List.{All, flat_map}
 use Rattle.jfs_bits.specs.declared.extent.Xad.{Xad}
 use Rattle.jfs_bits.specs.Extent.{FitsXad}
 use Rattle.jfs_tree.specs.Walk.{Child, Node, Leaf, Inner, Broken, Marks, Rises, rows_of, times, under, walk}
-use Rattle.jfs_tree.specs.Levels.{InLine, IsFilled}
+use Rattle.jfs_tree.specs.Levels.{InLine, IsFilledTo}
 use Rattle.jfs_tree.specs.Path.{below_root}
 use Rattle.jfs_tree.specs.Edit.{count_in}
 use Rattle.jfs_tree.specs.Spells.{no_page}
@@ -73,9 +73,9 @@ parts_below blocks pages levels cs = flat_map (walk xt_scale (page_nodes blocks 
 abbrev pub parts_under : ℕ → (ℕ → List ℕ) → ℕ → ℕ → List Xad → Marks ℕ Xad
 parts_under blocks pages levels key entries = parts_below blocks pages levels (under key (map child_of entries))
 
--- Where pages side by side and those below them were filled, these are now. `end` tells that the last of them is the last one of its level, which may have fewer entries.
+-- Where pages side by side and those below them were filled, these are now, of any number of entries that a split leaves on both pages. `end` tells that the last of them is the last one of its level, which may have fewer entries.
 abbrev pub KeepsFilled : Bool → ℕ → (ℕ → List ℕ) → (ℕ → List ℕ) → List ℕ → List ℕ → Type 0
-KeepsFilled end blocks before after old new = (depth : ℕ) (last : Bool) → (end ≡ true → last ≡ true) → InLine (IsFilled (page_nodes blocks before) depth) last old → InLine (IsFilled (page_nodes blocks after) depth) last new
+KeepsFilled end blocks before after old new = (least : ℕ) → least ≤ 127 → (depth : ℕ) (last : Bool) → (end ≡ true → last ≡ true) → InLine (IsFilledTo least (page_nodes blocks before) depth) last old → InLine (IsFilledTo least (page_nodes blocks after) depth) last new
 
 -- a range was written below a page: the page, and perhaps one more behind it, stand for it now
 abbrev pub WrotePage : Bool → ℕ → List Xad → Bool → Bool → (ℕ → List ℕ) → (ℕ → List ℕ) → ℕ → ℕ → Option (Sibling ℕ) → List ℕ → List ℕ → Type 0

@@ -6,7 +6,7 @@ use Rattle.jfs_bits.specs.Extent.{FitsXad}
 use Rattle.jfs_disk.specs.Image.{Image}
 use Rattle.jfs_tree.specs.Walk.{Child, Node, Leaf, Inner, Broken}
 use Rattle.jfs_tree.specs.Spells.{no_page, with_root, spells}
-use Rattle.jfs_tree.specs.Levels.{IsFilled}
+use Rattle.jfs_tree.specs.Levels.{IsFilledTo}
 use Rattle.jfs_tree.specs.Root.{IsSpare}
 use Rattle.jfs_tree.specs.Draft.{shown}
 use Rattle.jfs_tree.specs.declared.draft.Drafted.{Drafted}
@@ -49,9 +49,9 @@ NamesRoot node root (View e) = Unit {0}
 NamesRoot node root (Bad bad rule) = bad ≡ no_page → (node ≡ Broken rule) ⊎ LacksTwo root
 NamesRoot node root Memory = Unit {0}
 
--- from the root down, each page but the last of its level has at least 64 entries
-abbrev pub AreFilled : (ℕ → Node ℕ Xad) → Type 0
-AreFilled nodes = (depth : ℕ) → IsFilled nodes depth true no_page
+-- from the root down, each page but the last of its level has at least so many entries
+abbrev pub AreFilled : ℕ → (ℕ → Node ℕ Xad) → Type 0
+AreFilled least nodes = (depth : ℕ) → IsFilledTo least nodes depth true no_page
 
 -- whatever list the root spelled, it spells the list with the range written
 abbrev pub StepsRange : XtForm → ℕ → Image → List Xad → List ℕ → List ℕ → List Drafted → List Drafted → List ℕ → List ℕ → Type 0
@@ -61,7 +61,7 @@ StepsRange form blocks image xs root after old new free left =
 -- where the levels of its tree were filled, they are
 abbrev pub FillsRange : XtForm → ℕ → Image → List ℕ → List ℕ → List Drafted → List Drafted → List ℕ → Type 0
 FillsRange form blocks image root after old new free = (es : List Xad) → spells xt_scale (drafted blocks old image) (xt_node form blocks root) ≡ Ok es → IsSpare xt_scale (drafted blocks old image) (xt_node form blocks root) free
-    → AreFilled (with_root (xt_node form blocks root) (drafted blocks old image)) → AreFilled (with_root (xt_node form blocks after) (drafted blocks new image))
+    → (least : ℕ) → least ≤ 127 → AreFilled least (with_root (xt_node form blocks root) (drafted blocks old image)) → AreFilled least (with_root (xt_node form blocks after) (drafted blocks new image))
 
 -- each page that was taken names itself, and each other keeps its frame
 abbrev pub FramesRange : XtForm → ℕ → Image → List ℕ → List Drafted → List Drafted → List ℕ → List ℕ → Type 0

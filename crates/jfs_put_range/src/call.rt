@@ -12,7 +12,7 @@ ghost use Rattle.jfs_xtree.specs.Node.{KeepsFrame};
 ghost use Rattle.jfs_xtree.specs.Spells.{IsRootSize, root_node, tree_error, CarriesXt};
 ghost use Rattle.jfs_put_range.specs.Tops.{NamesRoot};
 ghost use Rattle.jfs_put_range.specs.Way.{RangeTellsWay, broken_on_range};
-ghost use Rattle.jfs_put_range.specs.Call.{IsShortRange, WritesRange, KeepsNoThin, NamesPages, RefusesOnlyDeep};
+ghost use Rattle.jfs_put_range.specs.Call.{IsShortRange, WritesRange, KeepsLeast, NamesPages, RefusesOnlyDeep};
 
 use crate::clash::as_clash;
 use crate::linked::put_linked;
@@ -26,7 +26,7 @@ use std::alloc::Global;
 
 /// Writes a range of blocks into a file's list: extents in rising order, which lie within 17 consecutive blocks of the file and end below its block 2^40. They stand in place
 /// of what the list had of these blocks, cut where an entry begins or ends; an entry that reached past the blocks keeps its other parts, and what is written into a hole is
-/// merged with a recorded left neighbour that it continues. Of the root its number of slots, its own descriptor and what stands behind its slots stay. Each page on the way is changed once. New pages are taken from `fresh` in its order, at most 15, and name themselves where the tree names none of them before; each other page keeps its own descriptor. The transaction
+/// merged with a recorded left neighbour that it continues. Where each page but the last of its level held at least some number of entries, up to 127, each does. Of the root its number of slots, its own descriptor and what stands behind its slots stay. Each page on the way is changed once. New pages are taken from `fresh` in its order, at most 15, and name themselves where the tree names none of them before; each other page keeps its own descriptor. The transaction
 /// gets the changed lines and new pages, and then an `Alloc` of each new page. After an `Err` root, `fresh` and transaction are as before. `Bad` names the first page that breaks
 /// a rule on the ways of the blocks from the range's first to its last, which are looked at before anything is written. Where none does, it names with rule `order` a page whose
 /// entries can't stand between the keys on its way, or that is met twice. A tree of 8 levels gets no ninth: where its root has no room for two more entries, it can be refused, as
@@ -50,7 +50,7 @@ pub fn put_range<V: PageView>(
     ensures writes { V.PageView.tells → OnOk result (WritesRange (V.PageView.block_count view.old) (page_of (V.PageView.image view.old)) xs.now root.old root.new (blocks_of fresh.old) (blocks_of fresh.new) tx.old tx.new) }
     ensures taken { OnOk result (TakenInOrder (blocks_of fresh.old) (blocks_of fresh.new) tx.old tx.new) }
     ensures edits { V.PageView.tells → OnOk result (TellsTaken (V.PageView.block_count view.old) Xtree (page_of (V.PageView.image view.old)) (blocks_of fresh.old) (blocks_of fresh.new) tx.old tx.new) }
-    ensures thin { V.PageView.tells → OnOk result (KeepsNoThin (V.PageView.block_count view.old) (page_of (V.PageView.image view.old)) root.old root.new (blocks_of fresh.old) tx.old tx.new) }
+    ensures thin { V.PageView.tells → OnOk result (KeepsLeast (V.PageView.block_count view.old) (page_of (V.PageView.image view.old)) root.old root.new (blocks_of fresh.old) tx.old tx.new) }
     ensures named { V.PageView.tells → OnOk result (NamesPages (V.PageView.block_count view.old) (page_of (V.PageView.image view.old)) root.old (blocks_of fresh.old) (blocks_of fresh.new) tx.old tx.new) }
     ensures frame { KeepsFrame root.old root.new }
     ensures most { OnOk result (length (blocks_of fresh.old) ≤ length (blocks_of fresh.new) + 15) }
@@ -104,7 +104,7 @@ fn plan_range<V: PageView>(
     ensures writes { V.PageView.tells → IfOk result (λ p. WritesRange (V.PageView.block_count view.old) (page_of (V.PageView.image view.old)) xs.now root.old root.new (blocks_of fresh.now) (blocks_of p.fresh) tx.now p.tx) }
     ensures taken { IfOk result (λ p. TakenInOrder (blocks_of fresh.now) (blocks_of p.fresh) tx.now p.tx) }
     ensures edits { V.PageView.tells → IfOk result (λ p. TellsTaken (V.PageView.block_count view.old) Xtree (page_of (V.PageView.image view.old)) (blocks_of fresh.now) (blocks_of p.fresh) tx.now p.tx) }
-    ensures thin { V.PageView.tells → IfOk result (λ p. KeepsNoThin (V.PageView.block_count view.old) (page_of (V.PageView.image view.old)) root.old root.new (blocks_of fresh.now) tx.now p.tx) }
+    ensures thin { V.PageView.tells → IfOk result (λ p. KeepsLeast (V.PageView.block_count view.old) (page_of (V.PageView.image view.old)) root.old root.new (blocks_of fresh.now) tx.now p.tx) }
     ensures framed { V.PageView.tells → IfOk result (λ p. NamesPages (V.PageView.block_count view.old) (page_of (V.PageView.image view.old)) root.old (blocks_of fresh.now) (blocks_of p.fresh) tx.now p.tx) }
     ensures frame { KeepsFrame root.old root.new }
     ensures names { IfErr result (NamesRoot (root_node (V.PageView.block_count view.old) root.old) root.old) }

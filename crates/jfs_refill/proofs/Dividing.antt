@@ -1,5 +1,5 @@
 -- A list that goes to two pages.
-use Rattle.std.proofs.Common.{◌≡◌, ◌≤◌, ◌<◌, refl, sym, ap, ◌∙◌, subst, ℕ, zero, suc, ◌+◌, ◌-◌, ◌/◌, Bool, true, false, List, [], ◌∷◌, ◌++◌, map, length, take, drop, arith}
+use Rattle.std.proofs.Common.{◌≡◌, ◌≤◌, ◌<◌, refl, sym, ap, ◌∙◌, subst, ℕ, zero, suc, ◌+◌, ◌-◌, Bool, true, false, List, [], ◌∷◌, ◌++◌, map, length, take, drop, arith}
 use Rattle.std.proofs.lemmas.List.{take-append-drop, length-take-le, length-drop, length-map, map-append}
 use Rattle.jfs_bits.specs.declared.extent.Xad.{Xad}
 use Rattle.jfs_bits.specs.Field.{field_of}
@@ -29,7 +29,7 @@ begins_at : (bytes : List ℕ) (m key : ℕ) → 0 < m → key ≡ (entry_of byt
 begins_at bytes zero key l e = absurd (omega (arith, l))
 begins_at bytes (suc m) key l e = e
 
-fills_both : (full : Bool) (first second : Node ℕ Xad) (a b : ℕ) → entry_count first ≡ a → entry_count second ≡ b → 64 ≤ a → (full ≡ false → 64 ≤ b) → FillsBoth 64 full first second
+fills_both : (full : Bool) (first second : Node ℕ Xad) (a b : ℕ) → entry_count first ≡ a → entry_count second ≡ b → 127 ≤ a → (full ≡ false → 127 ≤ b) → FillsBoth 127 full first second
 fills_both full first second a b l r ha hb = record { left_has = omega (arith, l, ha); right_has = λ e. (let h = hb e in omega (arith, r, h)) }
 
 -- children in two parts
@@ -48,7 +48,7 @@ split_children all xs (y ∷ ys) first second key e some begins left right = rec
 }
 
 -- what the two pages read as
-parted : (blocks : ℕ) (full : Bool) (list : List Xad) (old first second : List ℕ) (key : ℕ) → IsList blocks list → list ≡ entries_of first ++ entries_of second → 64 ≤ length (entries_of first) → 0 < length (entries_of second) → (full ≡ false → 64 ≤ length (entries_of second))
+parted : (blocks : ℕ) (full : Bool) (list : List Xad) (old first second : List ℕ) (key : ℕ) → IsList blocks list → list ≡ entries_of first ++ entries_of second → 127 ≤ length (entries_of first) → 0 < length (entries_of second) → (full ≡ false → 127 ≤ length (entries_of second))
     → BeginsAt key (entries_of second) → SameKind (head_of old) (head_of first) → IsNew Full (is_leaf (head_of old).flag) (head_of second) → Parted blocks full list old first second key
 parted blocks full list old first second key good all many more half begins kind fresh =
     let xs = entries_of first in
@@ -76,7 +76,7 @@ parted blocks full list old first second key good all many more half begins kind
     }
 
 -- where the border lies
-within : (full : Bool) (m count : ℕ) → 254 < count → count ≤ 508 → m ≡ border full count → (64 ≤ m) × (m ≤ 254) × (m < count) × (count ≤ m + 254) × (full ≡ false → 64 ≤ count - m)
+within : (full : Bool) (m count : ℕ) → 254 < count → count ≤ 508 → m ≡ border full count → (127 ≤ m) × (m ≤ 254) × (m < count) × (count ≤ m + 254) × (full ≡ false → 127 ≤ count - m)
 within true m count long most is = (omega (arith, is), omega (arith, is), omega (arith, is, long), omega (arith, is, most), (λ e. absurd cc))
 within false m count long most is = (omega (arith, is, long), omega (arith, is, most), omega (arith, is, long), omega (arith, is, most), (λ e. omega (arith, is, long)))
 

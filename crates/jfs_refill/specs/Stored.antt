@@ -16,12 +16,12 @@ use Rattle.jfs_refill.specs.Refilled.{IsList, Relisted}
 abbrev pub border : Bool → ℕ → ℕ
 border full count = if full then 254 else count / 2
 
--- What two pages read as that have a page's new list in two parts: a leaf's extents, or an inner page's children. Each has at least 64 of them, but for the second one where the first is full.
+-- What two pages read as that have a page's new list in two parts: a leaf's extents, or an inner page's children. Each has at least 127 of them, but for the second one where the first is full.
 pub record Parted (blocks : ℕ) (full : Bool) (list : List Xad) (old first second : List ℕ) (key : ℕ) : Type 0 where
   pub leaf : (es : List Xad) → xt_node Full blocks old ≡ Leaf es
-      → SplitsRows xt_scale list (xt_node Full blocks first) (xt_node Full blocks second) key × FillsBoth 64 full (xt_node Full blocks first) (xt_node Full blocks second)
+      → SplitsRows xt_scale list (xt_node Full blocks first) (xt_node Full blocks second) key × FillsBoth 127 full (xt_node Full blocks first) (xt_node Full blocks second)
   pub inner : (cs : List (Child ℕ)) → xt_node Full blocks old ≡ Inner cs
-      → SplitsChildren (map child_of list) (xt_node Full blocks first) (xt_node Full blocks second) key × FillsBoth 64 full (xt_node Full blocks first) (xt_node Full blocks second)
+      → SplitsChildren (map child_of list) (xt_node Full blocks first) (xt_node Full blocks second) key × FillsBoth 127 full (xt_node Full blocks first) (xt_node Full blocks second)
 
 -- Page n has the list up to a border now, and page q, which stands behind it, the rest, whose first offset is the key. Page q is new, and of page n's kind.
 pub record Divided (list : List Xad) (full : Bool) (n q key : ℕ) (old first second : List ℕ) : Type 0 where

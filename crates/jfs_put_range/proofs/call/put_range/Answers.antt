@@ -2,7 +2,7 @@ use Rattle.std.proofs.Common.{sym, ap, ◌∙◌, subst, Err}
 use Rattle.jfs_disk.specs.Image.{Image, page_of}
 use Rattle.jfs_tree.specs.Fresh.{blocks_of}
 use Rattle.jfs_xtree.specs.Errors.{handed_on}
-use Rattle.jfs_put_range.specs.Call.{WritesRange, KeepsNoThin, NamesPages}
+use Rattle.jfs_put_range.specs.Call.{WritesRange, KeepsLeast, NamesPages}
 use Rattle.jfs_xtree.specs.Spells.{root_node}
 use Rattle.jfs_put_range.specs.Tops.{NamesRoot}
 use Rattle.jfs_put_range.specs.Way.{RangeTellsWay, broken_on_range}
@@ -19,8 +19,8 @@ returns-in-Ok-plan_range-clause-writes g c tells =
 pub returns-in-Ok-plan_range-clause-thin : goal.returns-in-Ok-plan_range-clause-thin
 returns-in-Ok-plan_range-clause-thin g c tells =
     let p = c.in-Ok-plan_range.planned in
-    subst (λ b. KeepsNoThin b (page_of (g.V.PageView.image c.args.view.now)) c.args.root.now c.plan_range.new.root (blocks_of c.args.fresh.now) c.args.tx.now p.tx) c.in-Ok.ensures.count_of_blocks
-    (subst (λ (i : Image). KeepsNoThin (g.V.PageView.block_count c.look_along.new.view) (page_of i) c.args.root.now c.plan_range.new.root (blocks_of c.args.fresh.now) c.args.tx.now p.tx) (c.in-Ok.ensures.image tells)
+    subst (λ b. KeepsLeast b (page_of (g.V.PageView.image c.args.view.now)) c.args.root.now c.plan_range.new.root (blocks_of c.args.fresh.now) c.args.tx.now p.tx) c.in-Ok.ensures.count_of_blocks
+    (subst (λ (i : Image). KeepsLeast (g.V.PageView.block_count c.look_along.new.view) (page_of i) c.args.root.now c.plan_range.new.root (blocks_of c.args.fresh.now) c.args.tx.now p.tx) (c.in-Ok.ensures.image tells)
     (c.in-Ok-plan_range.ensures.thin tells))
 
 pub returns-clause-way : goal.returns-clause-way
