@@ -1,5 +1,5 @@
 -- A directory gains a name: what its tree's call and its inode's lines do together.
-use Rattle.std.specs.Prelude.{◌≡◌, ◌⊎◌, ◌<◌, ◌≤◌, ℕ, ◌+◌, ◌%◌, ◌^◌, true, false, List, [], length, Some, Ok, Err}
+use Rattle.std.specs.Prelude.{◌≡◌, ◌⊎◌, ◌<◌, ◌≤◌, ℕ, ◌+◌, ◌%◌, ◌^◌, true, false, List, [], ◌++◌, length, Some, Ok, Err}
 use Rattle.std.specs.Option.{option_map}
 use Rattle.jfs_bits.specs.Field.{put_bytes}
 use Rattle.jfs_bits.specs.declared.descriptor.Pxd.{Pxd}
@@ -51,6 +51,10 @@ pub record GainsName (blocks : ℕ) (pages : ℕ → List ℕ) (dir : Held) (nam
   pub edits : TellsTaken blocks kinds.Dtree pages (blocks_of free) (blocks_of left) [] mid
   pub puts : AddsInode blocks pages dir.page dir.number (with_root dir.inode root gain (length edits.0)) mid tx
   pub lines : TellsLines blocks pages dir.page mid tx
+
+-- Blocks were taken from the front, and the others are left.
+abbrev pub TakesFront : List ℕ → List ℕ → Type 0
+TakesFront free left = (taken : List ℕ) × (free ≡ taken ++ left)
 
 -- It is refused for faults and want of memory; else as the directory's tree refuses it, and a page that is named is the first on the name's way that breaks a rule, or one at which the name clashes.
 abbrev pub GainRefused : ℕ → (ℕ → List ℕ) → Held → List ℕ → Gain → List Pxd → Refusal → Type 0

@@ -6,7 +6,7 @@ ghost use Rattle.jfs_inode.specs.Inode.{FitsDinode};
 ghost use Rattle.jfs_tree.specs.Form.{AllBelow};
 ghost use Rattle.jfs_tree.specs.Fresh.{blocks_of, TakenInOrder};
 ghost use Rattle.jfs_way.specs.Answer.{Carries};
-ghost use Rattle.jfs_steps.specs.Gains.{GainsName, GainRefused, with_root};
+ghost use Rattle.jfs_steps.specs.Gains.{GainsName, GainRefused, TakesFront, with_root};
 ghost use Rattle.jfs_steps.specs.After.{allocs_in};
 
 use crate::answer::from_names;
@@ -51,6 +51,7 @@ pub fn gain_name<V: PageView>(
     ensures fault { Carries (V.PageView.faults view.old) (V.PageView.faults view.new) result }
     ensures gains { V.PageView.tells → OnOk result (GainsName (V.PageView.block_count view.old) (page_of (V.PageView.image view.old)) dir.now name.now gain fresh.old fresh.new tx.new) }
     ensures refused { V.PageView.tells → IfErr result (GainRefused (V.PageView.block_count view.old) (page_of (V.PageView.image view.old)) dir.now name.now gain fresh.old) }
+    ensures front { OnOk result (TakesFront (blocks_of fresh.old) (blocks_of fresh.new)) }
 {
     let mut root: [u8; 288] = get_array(&dir.inode.rest, 96);
     match add(alloc, view, &mut root, name, gain.inode, fresh, tx) {
