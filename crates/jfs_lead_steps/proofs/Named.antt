@@ -48,10 +48,10 @@ put_past blocks tx pages b l = ap (λ (x : Bool). if x then apply_tx b tx (pages
 module _ (blocks : ℕ) (base : ℕ → List ℕ) (before : List Edit) (v w : Volume) (leads_to : LeadsTo blocks base before v.page) (past : (b : ℕ) → blocks ≤ b → base b ≡ v.page b)
     (t : Tree) (has : HasTree (readers blocks) v t) (within : (b : ℕ) → v.used b ≡ true → b < blocks) (n : ℕ) (d : Dinode)
     (was : objects (readers blocks) v n ≡ Some (spelled (readers blocks) v.page d)) (dir : has_names d ≡ true) (size : length d.rest ≡ 384)
-    (links : ℕ → ℕ) (live : is_live n (record d { nlink = links d.nlink }) ≡ true) (few : links d.nlink ≤ 65535)
+    (links : ℕ → ℕ) (own : ℕ) (live : is_live n (record d { nlink = links d.nlink }) ≡ true) (few : links d.nlink ≤ 65535)
     (root : List ℕ) (width : length root ≡ 288) (parent : parent_of root ≡ parent_of (root_of d)) (now : Moment)
     (es : List NameEntry) (spelled_es : spells_names blocks v.page (root_of d) ≡ Ok es) (tx : List Edit)
-    (puts : PutsInode (put_tx blocks tx base) w.page v.extents n (record d { rest = put_bytes 96 root d.rest; mtime = now; ctime = now; nlink = links d.nlink }))
+    (puts : PutsInode (put_tx blocks tx base) w.page v.extents n (record d { rest = put_bytes 96 root d.rest; nblocks = own; nlink = links d.nlink; mtime = now; ctime = now }))
     (extents : w.extents ≡ v.extents) (area : w.area ≡ v.area) (in_use : (k : ℕ) → w.in_use k ≡ put n true v.in_use k) where
   abbrev later : ℕ → List ℕ
   later = after_tx base tx
@@ -83,12 +83,12 @@ module _ (blocks : ℕ) (base : ℕ → List ℕ) (before : List Edit) (v w : Vo
     same_owned : (b : ℕ) → owned_pages blocks later root b + count_in b [] ≡ owned_pages blocks v.page (root_of d) b + count_in b []
     same_owned b = let e = led.owned b in omega (arith, e)
 
-    pub leads_set : SetsObject (readers blocks) v w n (record d { rest = put_bytes 96 root d.rest; mtime = now; ctime = now; nlink = links d.nlink }) mid [] []
-    leads_set = names_set blocks v w t has within n d was dir size root width parent now links (with_inode name m) es spelled_es later mid inside outside [] [] led.spelled same_owned (λ b l z k. led.keeps b l z)
+    pub leads_set : SetsObject (readers blocks) v w n (record d { rest = put_bytes 96 root d.rest; nblocks = own; nlink = links d.nlink; mtime = now; ctime = now }) mid [] []
+    leads_set = names_set blocks v w t has within n d was dir size root width parent now links own (with_inode name m) es spelled_es later mid inside outside [] [] led.spelled same_owned (λ b l z k. led.keeps b l z)
         none_taken none_fresh live few puts same_used extents area in_use
 
     pub leads_have : HasTree (readers blocks) w (changed n (turns (with_inode name m) links now) t)
-    leads_have = names_have blocks v w t has within n d was dir size root width parent now links (with_inode name m) es spelled_es later mid inside outside [] [] led.spelled same_owned (λ b l z k. led.keeps b l z)
+    leads_have = names_have blocks v w t has within n d was dir size root width parent now links own (with_inode name m) es spelled_es later mid inside outside [] [] led.spelled same_owned (λ b l z k. led.keeps b l z)
         none_taken none_fresh live few puts same_used extents area in_use
 
   -- ---- one name less
@@ -106,12 +106,12 @@ module _ (blocks : ℕ) (base : ℕ → List ℕ) (before : List Edit) (v w : Vo
     less_owned : (b : ℕ) → owned_pages blocks later root b + count_in b freed ≡ owned_pages blocks v.page (root_of d) b + count_in b []
     less_owned b = let e = less.owned b in omega (arith, e)
 
-    pub loses_set : SetsObject (readers blocks) v w n (record d { rest = put_bytes 96 root d.rest; mtime = now; ctime = now; nlink = links d.nlink }) mid [] freed
-    loses_set = names_set blocks v w t has within n d was dir size root width parent now links (without_name name) es spelled_es later mid inside outside [] freed less.spelled less_owned (λ b l z k. less.keeps b l z)
+    pub loses_set : SetsObject (readers blocks) v w n (record d { rest = put_bytes 96 root d.rest; nblocks = own; nlink = links d.nlink; mtime = now; ctime = now }) mid [] freed
+    loses_set = names_set blocks v w t has within n d was dir size root width parent now links own (without_name name) es spelled_es later mid inside outside [] freed less.spelled less_owned (λ b l z k. less.keeps b l z)
         nothing_taken nothing_fresh live few puts less_used extents area in_use
 
     pub loses_have : HasTree (readers blocks) w (changed n (turns (without_name name) links now) t)
-    loses_have = names_have blocks v w t has within n d was dir size root width parent now links (without_name name) es spelled_es later mid inside outside [] freed less.spelled less_owned (λ b l z k. less.keeps b l z)
+    loses_have = names_have blocks v w t has within n d was dir size root width parent now links own (without_name name) es spelled_es later mid inside outside [] freed less.spelled less_owned (λ b l z k. less.keeps b l z)
         nothing_taken nothing_fresh live few puts less_used extents area in_use
 
   -- ---- one name more
@@ -146,10 +146,10 @@ module _ (blocks : ℕ) (base : ℕ → List ℕ) (before : List Edit) (v w : Vo
     taken_fresh : (b : ℕ) → 0 < count_in b taken → v.used b ≡ false
     taken_fresh b l = unused b (let f = free_is b in omega (arith, f, l))
 
-    pub gains_set : SetsObject (readers blocks) v w n (record d { rest = put_bytes 96 root d.rest; mtime = now; ctime = now; nlink = links d.nlink }) mid taken []
-    gains_set = names_set blocks v w t has within n d was dir size root width parent now links (with_name new) es spelled_es later mid inside outside taken [] more.spelled more_owned
+    pub gains_set : SetsObject (readers blocks) v w n (record d { rest = put_bytes 96 root d.rest; nblocks = own; nlink = links d.nlink; mtime = now; ctime = now }) mid taken []
+    gains_set = names_set blocks v w t has within n d was dir size root width parent now links own (with_name new) es spelled_es later mid inside outside taken [] more.spelled more_owned
         (λ b l z k. more.keeps b l z (let f = free_is b in omega (arith, f, k))) taken_below taken_fresh live few puts more_used extents area in_use
 
     pub gains_have : HasTree (readers blocks) w (changed n (turns (with_name new) links now) t)
-    gains_have = names_have blocks v w t has within n d was dir size root width parent now links (with_name new) es spelled_es later mid inside outside taken [] more.spelled more_owned
+    gains_have = names_have blocks v w t has within n d was dir size root width parent now links own (with_name new) es spelled_es later mid inside outside taken [] more.spelled more_owned
         (λ b l z k. more.keeps b l z (let f = free_is b in omega (arith, f, k))) taken_below taken_fresh live few puts more_used extents area in_use

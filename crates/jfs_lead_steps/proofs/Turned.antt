@@ -139,13 +139,13 @@ module _ (blocks : ℕ) where
 abbrev pub turns : (List NameEntry → List NameEntry) → (ℕ → ℕ) → Moment → Node → Node
 turns change links now o = record (written now (record o { names = change o.names })) { links = links o.links }
 
-module _ (blocks : ℕ) (pages mid : ℕ → List ℕ) (d : Dinode) (root : List ℕ) (now : Moment) (links : ℕ → ℕ) (change : List NameEntry → List NameEntry) (es : List NameEntry) (dir : has_names d ≡ true)
+module _ (blocks : ℕ) (pages mid : ℕ → List ℕ) (d : Dinode) (root : List ℕ) (now : Moment) (links : ℕ → ℕ) (own : ℕ) (change : List NameEntry → List NameEntry) (es : List NameEntry) (dir : has_names d ≡ true)
     (parent : parent_of root ≡ parent_of (root_of d)) (width : length root ≡ 288) (size : length d.rest ≡ 384) where
   abbrev q : Readers
   q = readers blocks
 
   abbrev rooted : Dinode
-  rooted = record d { rest = put_bytes 96 root d.rest; mtime = now; ctime = now; nlink = links d.nlink }
+  rooted = record d { rest = put_bytes 96 root d.rest; nblocks = own; nlink = links d.nlink; mtime = now; ctime = now }
 
   type : bit_and d.mode 0xf000 ≡ 0x4000
   type = eqb-true (bit_and d.mode 0xf000) 0x4000 dir
@@ -174,24 +174,24 @@ module _ (blocks : ℕ) (pages mid : ℕ → List ℕ) (d : Dinode) (root : List
 -- Directory n's tree spells other names, and its inode has another link count: so has its node.
 module _ (blocks : ℕ) (v w : Volume) (t : Tree) (has : HasTree (readers blocks) v t) (within : (b : ℕ) → v.used b ≡ true → b < blocks) (n : ℕ) (d : Dinode)
     (was : objects.objects (readers blocks) v n ≡ Some (spelled (readers blocks) v.page d)) (dir : has_names d ≡ true) (size : length d.rest ≡ 384)
-    (root : List ℕ) (width : length root ≡ 288) (parent : parent_of root ≡ parent_of (root_of d)) (now : Moment) (links : ℕ → ℕ) (change : List NameEntry → List NameEntry)
+    (root : List ℕ) (width : length root ≡ 288) (parent : parent_of root ≡ parent_of (root_of d)) (now : Moment) (links : ℕ → ℕ) (own : ℕ) (change : List NameEntry → List NameEntry)
     (es : List NameEntry) (spelled_es : spells_names blocks v.page (root_of d) ≡ Ok es) (later mid : ℕ → List ℕ) (inside : (b : ℕ) → b < blocks → mid b ≡ later b) (outside : (b : ℕ) → blocks ≤ b → mid b ≡ v.page b)
     (taken freed : List ℕ) (turned : spells_names blocks later root ≡ Ok (change es))
     (owned : (b : ℕ) → owned_pages blocks later root b + count_in b freed ≡ owned_pages blocks v.page (root_of d) b + count_in b taken)
     (keeps : (b : ℕ) → b < blocks → owned_pages blocks v.page (root_of d) b ≡ 0 → count_in b taken ≡ 0 → later b ≡ v.page b)
     (below : (b : ℕ) → 0 < count_in b taken → b < blocks) (fresh : (b : ℕ) → 0 < count_in b taken → v.used b ≡ false)
     (live : is_live n (record d { nlink = links d.nlink }) ≡ true) (few : links d.nlink ≤ 65535)
-    (puts : PutsInode mid w.page v.extents n (record d { rest = put_bytes 96 root d.rest; mtime = now; ctime = now; nlink = links d.nlink }))
+    (puts : PutsInode mid w.page v.extents n (record d { rest = put_bytes 96 root d.rest; nblocks = own; nlink = links d.nlink; mtime = now; ctime = now }))
     (used : (b : ℕ) → bit (w.used b) + count_in b freed ≡ bit (v.used b) + count_in b taken) (extents : w.extents ≡ v.extents) (area : w.area ≡ v.area)
     (in_use : (k : ℕ) → w.in_use k ≡ put n true v.in_use k) where
   abbrev z : Readers
   z = readers blocks
 
   abbrev set : Dinode
-  set = record d { rest = put_bytes 96 root d.rest; mtime = now; ctime = now; nlink = links d.nlink }
+  set = record d { rest = put_bytes 96 root d.rest; nblocks = own; nlink = links d.nlink; mtime = now; ctime = now }
 
   root_is : root_of set ≡ root
-  root_is = root_now blocks v.page mid d root now links change es dir parent width size
+  root_is = root_now blocks v.page mid d root now links own change es dir parent width size
 
   turned_set : spells_names blocks later (root_of set) ≡ Ok (change es)
   turned_set = ap (spells_names blocks later) root_is ∙ turned
@@ -202,16 +202,16 @@ module _ (blocks : ℕ) (v w : Volume) (t : Tree) (has : HasTree (readers blocks
   pub names_set : SetsObject z v w n set mid taken freed
   names_set = sets_names blocks v has.sound within n d set was dir es (change es) spelled_es later mid inside outside taken freed turned_set owned_set below dir refl refl w keeps fresh live puts used extents area in_use
 
-  same_rules : first_broken (rows (spelled z v.page d).inode n) ≡ None → first_broken (rows (record d { rest = put_bytes 96 root d.rest; mtime = now }) n) ≡ None
+  same_rules : first_broken (rows (spelled z v.page d).inode n) ≡ None → first_broken (rows (record d { rest = put_bytes 96 root d.rest; nblocks = own; mtime = now }) n) ≡ None
   unfolding spelled rows
   same_rules h = h
 
   rules_set : first_broken (rows set n) ≡ None
-  rules_set = counted_rules blocks v.page (record d { rest = put_bytes 96 root d.rest; mtime = now }) (links d.nlink) now n few (same_rules (has.inodes n (spelled z v.page d) was))
+  rules_set = counted_rules blocks v.page (record d { rest = put_bytes 96 root d.rest; nblocks = own; mtime = now }) (links d.nlink) now n few (same_rules (has.inodes n (spelled z v.page d) was))
 
   pub names_have : HasTree z w (changed n (turns change links now) t)
   names_have = set_has z v w t has n set mid taken freed names_set (turns change links now)
-      (node_turned blocks v.page mid d root now links change es dir parent width size (names_listed blocks v.page d dir ∙ spelled_es)
+      (node_turned blocks v.page mid d root now links own change es dir parent width size (names_listed blocks v.page d dir ∙ spelled_es)
       (names_now blocks v has.sound within n d set was dir es (change es) spelled_es later mid inside outside taken freed turned_set owned_set below dir refl refl)
       ∙ ap (option_map (turns change links now)) (sym (ap (node_in z v.page) was)))
       (bytes_now blocks v has.sound within n d set was dir es (change es) spelled_es later mid inside outside taken freed turned_set owned_set below dir refl refl) rules_set

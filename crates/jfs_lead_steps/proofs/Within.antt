@@ -32,7 +32,7 @@ use Rattle.jfs_lead_steps.proofs.Named.{all_below, put_within, put_past}
 
 module _ (blocks : ℕ) (v : Volume) (whole : (b : ℕ) → b < blocks → length (v.page b) ≡ 4096) (t : Tree) (has : HasTree (readers blocks) v t) (within : (b : ℕ) → v.used b ≡ true → b < blocks) (n : ℕ) (d : Dinode)
     (was : objects (readers blocks) v n ≡ Some (spelled (readers blocks) v.page d)) (dir : has_names d ≡ true) (size : length d.rest ≡ 384) (live : is_live n d ≡ true) (few : d.nlink ≤ 65535)
-    (es : List NameEntry) (spelled_es : spells_names blocks v.page (root_of d) ≡ Ok es) (now : Moment)
+    (es : List NameEntry) (spelled_es : spells_names blocks v.page (root_of d) ≡ Ok es) (now : Moment) (own : ℕ)
     (new : NameEntry) (free left taken : List ℕ) (parts : free ≡ taken ++ left) (once : (b : ℕ) → count_in b free ≤ 1) (all : AllBelow blocks free) (unused : (b : ℕ) → 0 < count_in b free → v.used b ≡ false)
     (root_mid : List ℕ) (width_mid : length root_mid ≡ 288) (parent_mid : parent_of root_mid ≡ parent_of (root_of d)) (mid_tx : List Edit) (adds : AddsName blocks v.page new (root_of d) root_mid free left [] mid_tx)
     (old_name : List ℕ) (root : List ℕ) (width : length root ≡ 288) (parent : parent_of root ≡ parent_of root_mid) (tx : List Edit) (k : ℕ) (removes : RemovesName blocks (put_tx blocks mid_tx v.page) old_name root_mid root mid_tx tx k) where
@@ -69,10 +69,10 @@ module _ (blocks : ℕ) (v : Volume) (whole : (b : ℕ) → b < blocks → lengt
 
   -- an inode with the root between the two calls
   abbrev between : Dinode
-  between = record d { rest = put_bytes 96 root_mid d.rest; mtime = now; ctime = now }
+  between = record d { rest = put_bytes 96 root_mid d.rest; nblocks = own; mtime = now; ctime = now }
 
   root_is : root_of between ≡ root_mid
-  root_is = root_now blocks v.page mid d root_mid now (λ l. l) more_names es dir parent_mid width_mid size
+  root_is = root_now blocks v.page mid d root_mid now (λ l. l) own more_names es dir parent_mid width_mid size
 
   turned_mid : spells_names blocks (after_tx v.page mid_tx) (root_of between) ≡ Ok (more_names es)
   turned_mid = ap (spells_names blocks (after_tx v.page mid_tx)) root_is ∙ more.spelled
@@ -115,13 +115,13 @@ module _ (blocks : ℕ) (v : Volume) (whole : (b : ℕ) → b < blocks → lengt
   keeps : (b : ℕ) → b < blocks → owned_pages blocks v.page (root_of d) b ≡ 0 → count_in b taken ≡ 0 → after_tx v.page tx b ≡ v.page b
   keeps b l z c = less.keeps b l (let o = owned_is b in omega (arith, o, z, c)) ∙ put_within blocks mid_tx v.page b l ∙ more.keeps b l z (let f = free_is b in omega (arith, f, c))
 
-  module _ (w : Volume) (puts : PutsInode (put_tx blocks tx v.page) w.page v.extents n (record d { rest = put_bytes 96 root d.rest; mtime = now; ctime = now }))
+  module _ (w : Volume) (puts : PutsInode (put_tx blocks tx v.page) w.page v.extents n (record d { rest = put_bytes 96 root d.rest; nblocks = own; mtime = now; ctime = now }))
       (used : (b : ℕ) → bit (w.used b) + count_in b freed ≡ bit (v.used b) + count_in b taken)
       (extents : w.extents ≡ v.extents) (area : w.area ≡ v.area) (in_use : (k : ℕ) → w.in_use k ≡ put n true v.in_use k) where
-    pub within_set : SetsObject r v w n (record d { rest = put_bytes 96 root d.rest; mtime = now; ctime = now }) (put_tx blocks tx v.page) taken freed
-    within_set = names_set blocks v w t has within n d was dir size root width (parent ∙ parent_mid) now (λ l. l) change es spelled_es (after_tx v.page tx) (put_tx blocks tx v.page) (put_within blocks tx v.page) (put_past blocks tx v.page)
+    pub within_set : SetsObject r v w n (record d { rest = put_bytes 96 root d.rest; nblocks = own; mtime = now; ctime = now }) (put_tx blocks tx v.page) taken freed
+    within_set = names_set blocks v w t has within n d was dir size root width (parent ∙ parent_mid) now (λ l. l) own change es spelled_es (after_tx v.page tx) (put_tx blocks tx v.page) (put_within blocks tx v.page) (put_past blocks tx v.page)
         taken freed less.spelled owned keeps taken_below taken_fresh live few puts used extents area in_use
 
     pub within_has : HasTree r w (changed n (turns change (λ l. l) now) t)
-    within_has = names_have blocks v w t has within n d was dir size root width (parent ∙ parent_mid) now (λ l. l) change es spelled_es (after_tx v.page tx) (put_tx blocks tx v.page) (put_within blocks tx v.page) (put_past blocks tx v.page)
+    within_has = names_have blocks v w t has within n d was dir size root width (parent ∙ parent_mid) now (λ l. l) own change es spelled_es (after_tx v.page tx) (put_tx blocks tx v.page) (put_within blocks tx v.page) (put_past blocks tx v.page)
         taken freed less.spelled owned keeps taken_below taken_fresh live few puts used extents area in_use
