@@ -1,0 +1,4 @@
+pub mod Counts
+pub mod Holds
+pub mod Freeing
+pub mod Keeping
