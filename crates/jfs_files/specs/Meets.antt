@@ -1,0 +1,60 @@
+-- What each call answers whatever the volume holds.
+use Rattle.std.specs.Prelude.{◌≡◌, ◌⊎◌, ℕ, Bool, true, false, List, [], Result, Ok, Err}
+use Rattle.jfs_bits.specs.declared.descriptor.Moment.{Moment}
+use Rattle.jfs_imap.specs.Inodes.{Inodes}
+use Rattle.jfs_plain.specs.declared.call.Call.{Call}
+use Rattle.jfs_plain.specs.declared.call.Call.TheVariants as calls
+use Rattle.jfs_plain.specs.declared.refusal.Refusal.{Refusal}
+use Rattle.jfs_plain.specs.declared.reply.Reply.{Reply}
+use Rattle.jfs_plain.specs.declared.reply.Reply.TheVariants.{Done, Attr, Names, Target, Refused}
+use Rattle.jfs_way.specs.Answer.{is_open, Answers}
+use Rattle.jfs_way.specs.Way.{path_of}
+use Rattle.jfs_way.specs.declared.object.Held.{Held}
+use Rattle.jfs_chmod.specs.Call.{SetsMode}
+use Rattle.jfs_look.specs.Look.{stat_at, names_at}
+use Rattle.jfs_readlink.specs.Target.{target_at}
+use Rattle.jfs_files.specs.declared.outcome.FileOutcome.{FileOutcome}
+use Rattle.jfs_files.specs.declared.outcome.FileOutcome.TheVariants.{Changed, Same, NeedsLog}
+
+-- the calls that stand so far
+abbrev pub stands : Call → Bool
+stands (calls.Chmod path mode) = true
+stands (calls.Stat path) = true
+stands (calls.List path) = true
+stands (calls.Readlink path) = true
+stands calls.Sync = true
+stands _ = false
+
+-- what is told, or why it is refused, as a reply
+abbrev pub replied : {X : Type 0} → (X → Reply) → Result X Refusal → Reply
+replied f (Ok x) = f x
+replied f (Err why) = Refused why
+
+-- the reply is this one, or it is refused for a fault or want of memory
+abbrev pub OrOpen : Reply → Reply → Type 0
+OrOpen given (Refused why) = (given ≡ Refused why) ⊎ (is_open why ≡ true)
+OrOpen given reply = given ≡ reply
+
+-- nothing changes
+abbrev pub Tells : Reply → FileOutcome → Type 0
+Tells given (Same reply) = OrOpen given reply
+Tells given (Changed tx blocks) = ⊥
+Tells given NeedsLog = ⊥
+
+-- it is refused as the walk of a path is
+abbrev pub IsRefusedBy : Result Held Refusal → Reply → Type 0
+IsRefusedBy way (Refused why) = Answers way (Err why)
+IsRefusedBy way _ = ⊥
+
+abbrev pub MeetsMode : ℕ → (ℕ → List ℕ) → Inodes → List (List ℕ) → ℕ → Moment → FileOutcome → Type 0
+MeetsMode blocks pages inodes path mode now (Changed tx written) = SetsMode blocks pages inodes path mode now tx × (written ≡ [])
+MeetsMode blocks pages inodes path mode now (Same reply) = IsRefusedBy (path_of blocks pages inodes path) reply
+MeetsMode blocks pages inodes path mode now NeedsLog = ⊥
+
+abbrev pub Meets : ℕ → (ℕ → List ℕ) → Inodes → Call → Moment → FileOutcome → Type 0
+Meets blocks pages inodes (calls.Chmod path mode) now outcome = MeetsMode blocks pages inodes path mode now outcome
+Meets blocks pages inodes (calls.Stat path) now outcome = Tells (replied (λ stat. Attr stat) (stat_at blocks pages inodes path)) outcome
+Meets blocks pages inodes (calls.List path) now outcome = Tells (replied (λ names. Names names) (names_at blocks pages inodes path)) outcome
+Meets blocks pages inodes (calls.Readlink path) now outcome = Tells (replied (λ target. Target target) (target_at blocks pages inodes path)) outcome
+Meets blocks pages inodes calls.Sync now outcome = Tells Done outcome
+Meets blocks pages inodes _ now outcome = ⊥

@@ -1,0 +1,79 @@
+-- What a file call answers, said once for all calls.
+use Rattle.std.specs.Prelude.{◌≡◌, ◌⊎◌, ℕ, true, nat_lt, if◌then◌else◌, List, [], length, Ok, Err}
+use Rattle.jfs_disk.specs.declared.disk.Fault.{Fault}
+use Rattle.jfs_super.specs.Geometry.{file_limit_of}
+use Rattle.jfs_bmap.specs.States.{Blocks, Reserved, changed, all_settled}
+use Rattle.jfs_ranges.specs.declared.edit.Edit.{Edit}
+use Rattle.jfs_plain.specs.Tree.{Tree}
+use Rattle.jfs_plain.specs.Step.{Room, Outcome}
+use Rattle.jfs_plain.specs.declared.reply.Reply.{Reply}
+use Rattle.jfs_plain.specs.declared.reply.Reply.TheVariants.{Refused}
+use Rattle.jfs_objects.specs.Volume.{Volume}
+use Rattle.jfs_meaning.specs.Readers.{readers}
+use Rattle.jfs_meaning.specs.Tree.{tree_on}
+use Rattle.jfs_meaning.specs.Room.{room_on}
+use Rattle.jfs_meaning.specs.Consistent.{IsConsistent}
+use Rattle.jfs_way.specs.Answer.{is_open, CarriesCause}
+use Rattle.jfs_way.specs.Volume.{volume_of, PlacesWithin}
+use Rattle.jfs_steps.specs.After.{after_call, takes}
+use Rattle.jfs_steps.specs.Call.{IsDone}
+use Rattle.jfs_claim.specs.Look.{IsAtRest}
+use Rattle.jfs_claim.specs.Take.{Lacks, HasFree}
+use Rattle.jfs_claim.specs.declared.reserve.Want.{Want}
+use Rattle.jfs_files.specs.declared.outcome.Maps.{Maps}
+use Rattle.jfs_files.specs.declared.outcome.FileOutcome.{FileOutcome}
+use Rattle.jfs_files.specs.declared.outcome.FileOutcome.TheVariants.{Changed, Same, NeedsLog}
+
+-- ---- faults
+
+-- the count of faults rises only with a reply that carries the part and the count that it raised
+abbrev pub CarriesReply : Fault → Fault → Reply → Type 0
+CarriesReply before now (Refused why) = CarriesCause before now why
+CarriesReply before now _ = now ≡ before
+
+abbrev pub CarriesOutcome : Fault → Fault → FileOutcome → Type 0
+CarriesOutcome before now (Same reply) = CarriesReply before now reply
+CarriesOutcome before now _ = now ≡ before
+
+-- ---- the maps after a call
+
+-- exactly the blocks that the edits take are reserved beside those before
+abbrev pub reserved_by : List Edit → Blocks → Blocks
+reserved_by tx map = changed (λ b s. if nat_lt 0 (takes tx b) then Reserved else s) map
+
+-- Nothing of the maps changes but for these blocks.
+abbrev pub MapsAfter : Maps → Maps → FileOutcome → Type 0
+MapsAfter old new (Changed tx blocks) = new ≡ record old { blocks = reserved_by tx old.blocks }
+MapsAfter old new _ = new ≡ old
+
+-- ---- on a consistent volume
+
+-- the volume that a view's pages and the maps are
+abbrev pub volume_in : (ℕ → List ℕ) → (ℕ → ℕ) → Maps → Volume
+volume_in page area maps = volume_of page area maps.blocks maps.inodes
+
+-- Between calls no block is reserved, the maps tell of the view's blocks, and inode extents lie within these.
+pub record AreBetweenCalls (blocks : ℕ) (maps : Maps) : Type 0 where
+  pub rest : IsAtRest maps.blocks maps.inodes
+  pub many : length maps.blocks.states ≡ blocks
+  pub within : PlacesWithin blocks maps.inodes
+
+-- what is said of the consistent volume that the pages and such maps are, and of its room
+abbrev pub IfMounted : ℕ → (ℕ → List ℕ) → Maps → (Volume → Room → Type 0) → Type 0
+IfMounted blocks pages maps fact = AreBetweenCalls blocks maps → (area : ℕ → ℕ) → IsConsistent (readers blocks) (volume_in pages area maps) → (log_pages : ℕ) → maps.file_limit ≡ file_limit_of log_pages
+    → fact (volume_in pages area maps) (room_on (readers blocks) (volume_in pages area maps) blocks log_pages)
+
+-- It is the plain step's reply, which leaves the tree; or it is refused for a fault or want of memory.
+abbrev pub IsReply : Tree → Outcome → Reply → Type 0
+IsReply t plain (Refused why) = (plain ≡ Err why) ⊎ (is_open why ≡ true)
+IsReply t plain reply = plain ≡ Ok (reply, t)
+
+-- Busy blocks alone stand between a call and its blocks: what it wants isn't free, and is once they are settled.
+abbrev pub IsBusyFor : Blocks → Want → Type 0
+IsBusyFor map want = Lacks map want × HasFree (all_settled map) want
+
+-- The plain step is taken, whose tree the volume after the transaction has; or the reply is the plain step's; or busy blocks stand in between. No call that stands so far writes blocks of files.
+abbrev pub AnswersAs : ℕ → Blocks → Volume → (Tree → Outcome) → FileOutcome → Type 0
+AnswersAs blocks map v plain (Changed tx written) = IsDone blocks v (after_call blocks tx v) plain × (written ≡ [])
+AnswersAs blocks map v plain (Same reply) = IsReply (tree_on (readers blocks) v) (plain (tree_on (readers blocks) v)) reply
+AnswersAs blocks map v plain NeedsLog = (want : Want) × IsBusyFor map want

@@ -1,0 +1,37 @@
+//! What a file call is given, and what it answers.
+
+use jfs_bits::Sequence;
+use jfs_bmap::BlockMap;
+use jfs_disk::Page;
+use jfs_imap::InodeMap;
+use jfs_plain::Reply;
+use jfs_ranges::Tx;
+
+/// The two maps of a mounted volume, and the greatest size of a file in bytes, which the log's length decides.
+#[derive(Drop)]
+pub struct Maps {
+    pub blocks: BlockMap,
+    pub inodes: InodeMap,
+    pub file_limit: u64,
+}
+
+/// A block of a file, with the whole page that it is to hold.
+#[derive(Drop)]
+pub struct DataPage {
+    pub block: u32,
+    pub page: Page,
+}
+
+/// Blocks of files.
+pub type DataList = Sequence<DataPage>;
+
+/// What a file call answers.
+#[derive(Drop)]
+pub enum FileOutcome {
+    /// The call is done, with `Done` as its reply, once these blocks are written and then this transaction is appended. The blocks that it takes are reserved.
+    Changed { tx: Tx, blocks: DataList },
+    /// Nothing changes, and this is the reply.
+    Same(Reply),
+    /// Busy blocks stand between the call and its blocks: it is to be called again once the entries that freed them are durable.
+    NeedsLog,
+}
