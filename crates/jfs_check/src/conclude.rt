@@ -28,6 +28,7 @@ pub(crate) fn conclude(look: Look, iags: u32) -> Checked
         census,
         used,
         mut findings,
+        kept: _,
     } = look;
     let free = census.owners.free();
     let inodes = count_taken(used.as_slice(), 4096 * iags);

@@ -42,6 +42,7 @@ pub(crate) fn fresh(alloc: Global, blocks: u32, iags: u32, uses: Uses) -> Result
         census: Census { owners, names },
         used,
         findings: Vec::new(alloc),
+        kept: 0,
     })
 }
 

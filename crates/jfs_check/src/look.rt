@@ -10,7 +10,7 @@ ghost use Rattle.jfs_check.specs.Look.{Sees, SeesTrees, IsOfFound};
 
 use jfs_bits::set_run;
 use jfs_each::EachInode;
-use jfs_findings::Finding;
+use jfs_findings::{Finding, condense};
 use jfs_inode::Dinode;
 use jfs_link_check::{Census, count_names};
 use jfs_object_check::{check_object, count_extents};
@@ -24,11 +24,14 @@ pub(crate) struct Look {
     pub(crate) census: Census,
     pub(crate) used: Vec<u8>,
     pub(crate) findings: Vec<Finding>,
+    /// How many findings were left when they were last condensed.
+    pub(crate) kept: usize,
 }
 
 impl EachInode for Look {
     ghost sees = { λ blocks image old n f new. Sees blocks image old n f new };
 
+    #[tactic(auto, using(jfs_findings::proofs::Condensed::gains_after))]
     fn inode<V: PageView>(
         &mut self,
         view: &mut V,
@@ -36,6 +39,7 @@ impl EachInode for Look {
         page: u32,
         inode: &Dinode,
     ) -> Result<(), ViewError> {
+        condense(&mut self.findings, &mut self.kept);
         look_over(
             self.alloc,
             view,

@@ -13,3 +13,4 @@ pub mod Readable
 pub mod Consistent
 pub mod Tidy
 pub mod Ordered
+pub mod Condensed

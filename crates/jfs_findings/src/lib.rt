@@ -10,4 +10,4 @@ pub use law::{
     canonical_pages_pass, clean_volumes_are_sound, findings_are_one_list,
     sound_volumes_are_consistent_and_tidy,
 };
-pub use order::put_in_order;
+pub use order::{condense, put_in_order};

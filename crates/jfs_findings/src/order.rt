@@ -13,3 +13,15 @@ pub fn put_in_order(findings: &mut Vec<Finding>)
     findings.sort_unstable();
     findings.dedup();
 }
+
+#[tactic(auto, using(crate::proofs::Condensed::left_alone))]
+/// Keeps few findings more than once: once there are twice as many as were `kept` at the last time, and some more, each of them stands once again. So those that
+/// are found over and over take little memory. It takes none itself.
+pub fn condense(findings: &mut Vec<Finding>, kept: &mut usize)
+    ensures same { HasSame findings.old.items findings.new.items }
+{
+    if findings.len() / 2 > *kept && findings.len() > 1024 {
+        put_in_order(findings);
+        *kept = findings.len();
+    }
+}

@@ -12,7 +12,7 @@ ghost use Rattle.jfs_link_check.specs.Notes.{NotedBelow, Sees};
 
 use crate::counts::NameCounts;
 use crate::uses::{Uses, is_reserved};
-use jfs_findings::{Finding, FindingKind};
+use jfs_findings::{Finding, FindingKind, condense};
 use jfs_object_check::{note_if, page_named};
 use std::alloc::{AllocError, Global};
 
@@ -33,6 +33,8 @@ pub struct NameNotes {
     pub(crate) uses: Uses,
     pub(crate) counts: NameCounts,
     pub(crate) findings: Vec<Finding>,
+    /// How many findings were left when they were last condensed.
+    pub(crate) kept: usize,
     pub(crate) here: Here,
 }
 
@@ -53,6 +55,7 @@ impl NameNotes {
             uses,
             counts,
             findings,
+            kept: 0,
             here,
         })
     }
@@ -83,8 +86,20 @@ impl NameNotes {
         note_if(!leads, FindingKind::Name, on, value, &mut self.findings)
     }
 
-    /// Judges the link count of this directory, all of whose names were seen. One that isn't due is a finding.
+    /// Judges the link count of this directory, all of whose names were seen: one that isn't due is a finding. What was found over and over is kept once.
     pub(crate) fn judge_links(&mut self, links: u32) -> Result<(), AllocError>
+        ensures stays { (self.new.uses ≡ self.old.uses) × (self.new.counts ≡ self.old.counts) }
+        ensures found { OnOk result ((count : ℕ) → ends self.old.here.subdirectories ≡ ends count →
+            Gains (Only Links self.old.here.page self.old.here.number ((is_reserved self.old.here.number ≡ false) × (links ≢ 2 + count)))
+            self.old.findings.items self.new.findings.items) }
+    {
+        self.note_links(links)?;
+        condense(&mut self.findings, &mut self.kept);
+        Ok(())
+    }
+
+    /// Notes a link count of this directory that isn't due.
+    fn note_links(&mut self, links: u32) -> Result<(), AllocError>
         ensures stays { (self.new.uses ≡ self.old.uses) × (self.new.counts ≡ self.old.counts) }
         ensures found { OnOk result ((count : ℕ) → ends self.old.here.subdirectories ≡ ends count →
             Gains (Only Links self.old.here.page self.old.here.number ((is_reserved self.old.here.number ≡ false) × (links ≢ 2 + count)))

@@ -1,4 +1,5 @@
 pub mod Marks
+pub mod Passes
 pub mod SetBits
 pub mod Counted
 pub mod Walked

@@ -2,3 +2,5 @@
 pub mod Counts
 pub mod Held
 pub mod Shared
+-- blocks that a count passes over
+pub mod Passed

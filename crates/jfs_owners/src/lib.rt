@@ -5,6 +5,7 @@ mod extents;
 mod fixed;
 mod object;
 mod owners;
+mod passed;
 mod shared;
 mod shown;
 mod trees;

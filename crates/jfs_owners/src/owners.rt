@@ -17,16 +17,19 @@ pub struct Owners {
     pub(crate) blocks: u32,
     pub(crate) owned: Vec<u8>,
     pub(crate) shared: Vec<u8>,
+    /// For each group of 1,024 blocks one up to which all blocks have two owners, if it lies behind it: runs that name the same blocks over and over cost little.
+    pub(crate) later: Vec<u32>,
 }
 
 impl Model for Owners {
     ghost use Rattle.jfs_owners.specs.Counts.{OwnerSets, AreSized};
+    ghost use Rattle.jfs_owners.specs.Passed.{PassesOver};
 
     ghost Value = { OwnerSets };
 
     ghost view = { λ o. record { blocks = o.blocks; owned = o.owned.items; shared = o.shared.items } };
 
-    ghost invariant = { λ o. AreSized o.blocks o.owned.items o.shared.items };
+    ghost invariant = { λ o. AreSized o.blocks o.owned.items o.shared.items × PassesOver o.blocks o.shared.items o.later.items };
 }
 
 impl Owners {
@@ -38,10 +41,12 @@ impl Owners {
         let size = 4 * blocks.div_ceil(32) as usize;
         let owned = vec![in alloc; 0; size]?;
         let shared = vec![in alloc; 0; size]?;
+        let later = vec![in alloc; 0; blocks.div_ceil(1024) as usize]?;
         Ok(Owners {
             blocks,
             owned,
             shared,
+            later,
         })
     }
 
@@ -56,6 +61,7 @@ impl Owners {
         add_run(
             self.owned.as_mut_slice(),
             self.shared.as_mut_slice(),
+            self.later.as_mut_slice(),
             first,
             end,
         );

@@ -1,8 +1,10 @@
 //! Sets of bits by their words: runs of blocks counted in two of them, and the bits of one counted.
 
-ghost use Rattle.std.specs.Prelude.{◌≡◌, ◌+◌, ◌*◌, ◌/◌, ◌%◌, ◌<◌, ◌≤◌, ◌&&◌, ◌||◌, ◌==◌, nat_le, nat_lt, length, ℕ};
-ghost use Rattle.jfs_bits.specs.Bits.{is_taken, is_taken_in, count_below};
+ghost use Rattle.std.specs.Prelude.{◌≡◌, ◌+◌, ◌*◌, ◌/◌, ◌%◌, ◌<◌, ◌≤◌, ◌&&◌, ◌||◌, ◌==◌, nat_le, nat_lt, ◌^◌, length, ℕ, true};
+ghost use Rattle.jfs_bits.specs.Bits.{is_taken, is_taken_in, is_in_run, count_below};
+ghost use Rattle.jfs_owners.specs.Passed.{AreGroups, PassesShared};
 
+use crate::passed::{first_open, is_shared_group};
 use jfs_bits::{get_u32, put_u32};
 
 /// The bits of the blocks of a word from `from` to before `to`.
@@ -29,21 +31,77 @@ fn add_in_word(owned: &mut [u8], shared: &mut [u8], w: u64, mask: u32)
     put_u32(owned, at, word | mask);
 }
 
-/// Counts the blocks from `first` to before `end` once more.
-pub(crate) fn add_run(owned: &mut [u8], shared: &mut [u8], first: u32, end: u32)
+/// Counts the blocks from `first` to before `end` once more, word by word.
+fn add_part(owned: &mut [u8], shared: &mut [u8], first: u64, end: u64)
     requires whole_words { length owned.old % 4 ≡ 0 }
     requires same { length shared.old ≡ length owned.old }
     requires order { first ≤ end }
     requires within { end ≤ 8 * length owned.old }
+    requires small { end < 2 ^ 33 }
     ensures owned { (b : ℕ) → is_taken owned.new b ≡ ((nat_le first b && nat_lt b end) || is_taken owned.old b) }
     ensures shared { (b : ℕ) → is_taken shared.new b ≡ ((nat_le first b && nat_lt b end) && is_taken owned.old b || is_taken shared.old b) }
 {
-    let first = u64::from(first);
-    let end = u64::from(end);
     for w in first / 32..end.div_ceil(32) {
         let from = first.max(32 * w) - 32 * w;
         let to = end.min(32 * w + 32) - 32 * w;
         add_in_word(owned, shared, w, mask_of(from as u32, to as u32));
+    }
+}
+
+#[tactic(auto, using(crate::proofs::Passes::in_part))]
+/// Counts the blocks of a group that lie from `first` to before `end` once more. Where they are all of the group, and all have two owners now, the group is passed over from now on.
+fn add_in_group(
+    owned: &mut [u8],
+    shared: &mut [u8],
+    later: &mut [u32],
+    first: u32,
+    end: u32,
+    group: u32,
+)
+    requires whole_words { length owned.old % 4 ≡ 0 }
+    requires same { length shared.old ≡ length owned.old }
+    requires within { end ≤ 8 * length owned.old }
+    requires groups { end ≤ 1024 * length later.old }
+    requires fits { length later.old < 4294967296 }
+    requires from { first ≤ end }
+    requires meets { (1024 * group < end) × (first < 1024 * group + 1024) }
+    requires ends { AreGroups later.old }
+    ensures owned { (b : ℕ) → is_taken owned.new b ≡ ((nat_le first b && nat_lt b end) && is_in_run (1024 * group) 1024 b || is_taken owned.old b) }
+    ensures shared { (b : ℕ) → is_taken shared.new b ≡ ((nat_le first b && nat_lt b end) && is_in_run (1024 * group) 1024 b && is_taken owned.old b || is_taken shared.old b) }
+    ensures ends { AreGroups later.new }
+    ensures passes { PassesShared shared.old later.old → PassesShared shared.new later.new }
+    ensures size { length later.new ≡ length later.old }
+{
+    let start = 1024 * u64::from(group);
+    let past = start + 1024;
+    let to = u64::from(end);
+    add_part(owned, shared, start.max(u64::from(first)), past.min(to));
+    if past <= to && is_shared_group(shared, group) {
+        later[group as usize] = group + 1;
+    }
+}
+
+/// Counts the blocks from `first` to before `end` once more. Groups of blocks that all have two owners are passed over: nothing changes there.
+pub(crate) fn add_run(owned: &mut [u8], shared: &mut [u8], later: &mut [u32], first: u32, end: u32)
+    requires whole_words { length owned.old % 4 ≡ 0 }
+    requires same { length shared.old ≡ length owned.old }
+    requires order { first ≤ end }
+    requires within { end ≤ 8 * length owned.old }
+    requires groups { end ≤ 1024 * length later.old }
+    requires fits { length later.old < 4294967296 }
+    requires nested { (b : ℕ) → is_taken shared.old b ≡ true → is_taken owned.old b ≡ true }
+    requires ends { AreGroups later.old }
+    requires passes { PassesShared shared.old later.old }
+    ensures owned { (b : ℕ) → is_taken owned.new b ≡ ((nat_le first b && nat_lt b end) || is_taken owned.old b) }
+    ensures shared { (b : ℕ) → is_taken shared.new b ≡ ((nat_le first b && nat_lt b end) && is_taken owned.old b || is_taken shared.old b) }
+    ensures ends { AreGroups later.new }
+    ensures passes { PassesShared shared.new later.new }
+    ensures size { length later.new ≡ length later.old }
+{
+    let mut group = first_open(later, first / 1024);
+    while 1024 * u64::from(group) < u64::from(end) {
+        add_in_group(owned, shared, later, first, end, group);
+        group = first_open(later, group + 1);
     }
 }
 

@@ -1,6 +1,8 @@
 //! Runs that overlap, that end at words, and that lie behind the last block.
 
 use crate::counted::{is_row, owners_of};
+use jfs_bits::Pxd;
+use jfs_owners::Owners;
 use std::alloc::AllocError;
 
 // Each with its first block and its length.
@@ -42,5 +44,44 @@ fn words_twice(rt: HostRuntime) -> Result<(), AllocError> {
     assert!(rt; is_row(&once, [b'1'; 64].as_slice()));
     let twice = owners_of(rt.alloc(), 64, [(0, 64), (0, 4294967295)].as_slice())?;
     assert!(rt; is_row(&twice, [b'2'; 64].as_slice()));
+    Ok(())
+}
+
+// Runs that name the same blocks over and over. Without groups that are passed over this would take minutes.
+#[test]
+fn runs_over_and_over(rt: HostRuntime) -> Result<(), AllocError> {
+    let blocks = 8_388_600;
+    let mut owners = Owners::new(rt.alloc(), blocks)?;
+    for k in 0..200_000u64 {
+        owners.add(Pxd {
+            len: 16_777_215,
+            addr: k % 3 * 700,
+        });
+    }
+    // the first 700 blocks were named by each third run, and all but these by each
+    assert!(rt; owners.free() == 0);
+    assert!(rt; owners.is_shared(0) && owners.is_shared(blocks - 1));
+    owners.add(Pxd { len: 5, addr: 3 });
+    assert!(rt; owners.is_shared(4));
+    Ok(())
+}
+
+// A run that ends within a group of 1,024 blocks, named again and again: the blocks behind it stay as they were.
+#[test]
+fn a_group_with_an_end(rt: HostRuntime) -> Result<(), AllocError> {
+    let mut owners = Owners::new(rt.alloc(), 5_000)?;
+    for _ in 0..4 {
+        owners.add(Pxd {
+            len: 3_000,
+            addr: 1_000,
+        });
+    }
+    owners.add(Pxd {
+        len: 1,
+        addr: 4_000,
+    });
+    assert!(rt; !owners.is_owned(999) && owners.is_shared(1_000) && owners.is_shared(3_999));
+    assert!(rt; owners.is_owned(4_000) && !owners.is_shared(4_000) && !owners.is_owned(4_001));
+    assert!(rt; owners.free() == 1_999);
     Ok(())
 }
