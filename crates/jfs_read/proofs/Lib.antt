@@ -1,0 +1,4 @@
+pub mod Found
+pub mod Parts
+pub mod Steps
+pub mod Follow
