@@ -3,6 +3,8 @@
 ghost use Rattle.std.specs.Prelude.{◌≡◌, ◌≤◌, length, IfOk, IfErr, OnErr};
 ghost use Rattle.jfs_disk.specs.Image.{page_of};
 ghost use Rattle.jfs_ranges.specs.Laid.{laid, put_tx};
+ghost use Rattle.jfs_bits.specs.declared.rule.PageKind.TheVariants.{Dtree};
+ghost use Rattle.jfs_tree.specs.Changes.{TellsGone};
 ghost use Rattle.jfs_dtree.specs.Parent.{parent_of};
 ghost use Rattle.jfs_dtree.specs.Spells.{CarriesDt, broken_for, TellsWay};
 ghost use Rattle.jfs_dtree.specs.Removing.{RemovesName, MissesName};
@@ -37,6 +39,8 @@ pub fn remove_on_top<V: PageView>(
     ensures fault { CarriesDt (V.PageView.faults view.old) (V.PageView.faults view.new) result }
     ensures removes { V.PageView.tells → IfOk result (λ gone.
         RemovesName (V.PageView.block_count view.old) (put_tx (V.PageView.block_count view.old) tx.now (page_of (V.PageView.image view.old))) name.now root.old root.new tx.now gone.tx gone.inode) }
+    ensures edits { V.PageView.tells → IfOk result (λ gone.
+        TellsGone (V.PageView.block_count view.old) Dtree (put_tx (V.PageView.block_count view.old) tx.now (page_of (V.PageView.image view.old))) tx.now gone.tx) }
     ensures parent { parent_of root.new ≡ parent_of root.old }
     ensures kept { OnErr result (root.new ≡ root.old) }
     ensures way { V.PageView.tells → TellsWay (broken_for (V.PageView.block_count view.old) (put_tx (V.PageView.block_count view.old) tx.now (page_of (V.PageView.image view.old))) root.old name.now) result }
@@ -63,6 +67,8 @@ fn remove_on_loan<'a, V: PageView>(
     ensures fault { CarriesDt (V.PageView.faults over.old.view.now) (V.PageView.faults over.new.view.now) result }
     ensures removes { V.PageView.tells → IfOk result (λ gone.
         RemovesName (V.PageView.block_count over.old.view.now) (page_of (laid (V.PageView.block_count over.old.view.now) over.old.tx.now (V.PageView.image over.old.view.now))) name.now root.old root.new tx.now gone.tx gone.inode) }
+    ensures edits { V.PageView.tells → IfOk result (λ gone.
+        TellsGone (V.PageView.block_count over.old.view.now) Dtree (page_of (laid (V.PageView.block_count over.old.view.now) over.old.tx.now (V.PageView.image over.old.view.now))) tx.now gone.tx) }
     ensures parent { parent_of root.new ≡ parent_of root.old }
     ensures kept { OnErr result (root.new ≡ root.old) }
     ensures way { V.PageView.tells → TellsWay (broken_for (V.PageView.block_count over.old.view.now) (page_of (laid (V.PageView.block_count over.old.view.now) over.old.tx.now (V.PageView.image over.old.view.now))) root.old name.now) result }
@@ -87,6 +93,7 @@ fn remove_from<V: PageView>(
     ensures fault { CarriesDt (V.PageView.faults view.old) (V.PageView.faults view.new) result }
     ensures removes { V.PageView.tells → IfOk result (λ gone.
         RemovesName (V.PageView.block_count view.old) (page_of (V.PageView.image view.old)) name.now root.old root.new tx.now gone.tx gone.inode) }
+    ensures edits { V.PageView.tells → IfOk result (λ gone. TellsGone (V.PageView.block_count view.old) Dtree (page_of (V.PageView.image view.old)) tx.now gone.tx) }
     ensures parent { parent_of root.new ≡ parent_of root.old }
     ensures kept { OnErr result (root.new ≡ root.old) }
     ensures way { V.PageView.tells → TellsWay (broken_for (V.PageView.block_count view.old) (page_of (V.PageView.image view.old)) root.old name.now) result }

@@ -94,7 +94,7 @@ module _ (blocks : ℕ) (pages : ℕ → List ℕ) (inodes : Inodes) where
 
 -- ---- what stands there
 
-entered : (o : Option Node) (name : List ℕ) (m : ℕ) → enter_from o name ≡ Ok m → named_in o name ≡ Some m
+pub entered : (o : Option Node) (name : List ℕ) (m : ℕ) → enter_from o name ≡ Ok m → named_in o name ≡ Some m
 entered None name m h = absurd (cc (h))
 entered (Some node) name m h = by (is_dir node.kind) (named name node.names) h
   where

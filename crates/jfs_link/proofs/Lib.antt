@@ -1,0 +1,4 @@
+pub mod Plain
+pub mod Steps
+pub mod Asks
+pub mod Whole

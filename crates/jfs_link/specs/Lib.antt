@@ -1,0 +1,3 @@
+-- what the clauses say
+pub mod Joins
+pub mod Link
