@@ -1,0 +1,7 @@
+pub mod Rests
+pub mod Made
+pub mod Makes
+pub mod Outcomes
+pub mod Whole
+pub mod Seeing
+pub mod Reserving

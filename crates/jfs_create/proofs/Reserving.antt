@@ -1,0 +1,44 @@
+-- The blocks that are reserved for a new object.
+use Rattle.std.proofs.Common.{◌≡◌, refl, sym, ap, ◌∙◌, ℕ, Bool, true, false, true≢false, ◌||◌, nat_lt, if◌then◌else◌, List, [], ◌++◌, Option, Some, None}
+use Rattle.jfs_bits.specs.declared.descriptor.Pxd.{Pxd}
+use Rattle.jfs_bmap.specs.States.{Blocks, Reserved, changed, is_in_list}
+use Rattle.jfs_ranges.specs.declared.edit.Edit.{Edit}
+use Rattle.jfs_tree.specs.Edit.{count_in}
+use Rattle.jfs_tree.specs.Fresh.{blocks_of}
+use Rattle.jfs_claim.specs.Take.{AreFresh, Claims, IsPartlyTaken, IsRun, claimed, reserving, run_list}
+use Rattle.jfs_claim.specs.declared.reserve.Claim.{Claim}
+use Rattle.jfs_claim.specs.declared.reserve.Want.{Want}
+use Rattle.jfs_way.specs.declared.object.Held.{Held}
+use Rattle.jfs_steps.specs.After.{takes}
+use Rattle.jfs_create.specs.Makes.{Makes}
+use Rattle.jfs_create.specs.Reserved.{MakesReserved, reserved_by}
+use Rattle.jfs_create.specs.declared.make.Plan.{Plan}
+use Rattle.jfs_create.proofs.Whole.{moves}
+
+no_run : (map : Blocks) (run : Option Pxd) → IsRun map false run → run ≡ None
+no_run map None h = refl
+no_run map (Some run) h = absurd (true≢false (sym h.0))
+
+tested : (taken : List ℕ) (tx : List Edit) → ((b : ℕ) → takes tx b ≡ count_in b taken) → (b : ℕ) → (is_in_list [] b || nat_lt 0 (count_in b taken)) ≡ nat_lt 0 (takes tx b)
+unfolding is_in_list
+tested taken tx are b = ap (nat_lt 0) (sym (are b))
+
+reserved_alone : (before : Blocks) (taken : List ℕ) (tx : List Edit) → ((b : ℕ) → takes tx b ≡ count_in b taken) → reserving [] taken before ≡ reserved_by tx before
+reserved_alone before taken tx are = λ i. changed (λ b s. if tested taken tx are b i then Reserved else s) before
+
+module _ (blocks : ℕ) (pages : ℕ → List ℕ) (dir : Held) (name : List ℕ) (plan : Plan) (before now after : Blocks) (claim : Claim) (left : List Pxd) (tx : List Edit) (claims : Claims before now (record { run = false; blocks = 8 }) claim)
+    (fresh : AreFresh before 8 (blocks_of claim.fresh)) (makes : Makes blocks pages dir name plan claim.fresh left tx) where
+  abbrev taken : List ℕ
+  taken = makes.gains.edits.0
+
+  partly : IsPartlyTaken before now (record claim { fresh = left }) taken
+  partly = record { reserves = claims.reserves; parts = ap blocks_of (sym claims.all_left) ∙ makes.gains.edits.1 }
+
+  pub made_reserved : (IsPartlyTaken before now (record claim { fresh = left }) taken → after ≡ reserving (run_list claim.run) taken before) → MakesReserved blocks pages dir name plan before after tx
+  made_reserved settled = record {
+    free = claim.fresh;
+    left = left;
+    makes = makes;
+    fresh = fresh;
+    map = settled partly ∙ ap (λ (run : Option Pxd). reserving (run_list run) taken before) (no_run before claim.run claims.run) ∙ reserved_alone before taken tx (moves blocks pages dir name plan claim.fresh left tx makes).taken_are;
+  }

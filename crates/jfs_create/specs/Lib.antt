@@ -1,0 +1,6 @@
+-- what the clauses say
+pub mod New
+pub mod Makes
+pub mod Look
+pub mod Seat
+pub mod Reserved
