@@ -27,7 +27,7 @@ use jfs_xtree::XtError;
 use std::alloc::{AllocError, Global};
 
 /// The target of the symbolic link at the end of a path. `Err` is the walk's refusal; `NotFile` where that is no symbolic link; or `Damaged` where a page of the tree of
-/// a link that keeps its target in blocks breaks a rule.
+/// a link that keeps its target in blocks breaks a rule. A target of more than 1 MiB is answered as want of memory.
 pub fn read_link<V: PageView>(
     alloc: Global,
     view: &mut V,
@@ -51,6 +51,9 @@ pub fn read_link<V: PageView>(
     }
 }
 
+/// The longest target that is read, in bytes. Systems make none of more than 4,095; a volume may say that one has 2^63.
+const MOST: u64 = 1 << 20;
+
 /// The target of an inode that a call holds.
 fn target_of<V: PageView>(alloc: Global, view: &mut V, at: &Held) -> Result<Blob, Refusal>
     ensures image { V.PageView.tells → V.PageView.image view.new ≡ V.PageView.image view.old }
@@ -67,6 +70,9 @@ fn target_of<V: PageView>(alloc: Global, view: &mut V, at: &Held) -> Result<Blob
             Ok(target) => Ok(target),
             Err(_) => Err(Refusal::OutOfMemory),
         };
+    }
+    if at.inode.size > MOST {
+        return Err(Refusal::OutOfMemory);
     }
     let extents = match extents_of(alloc, view, &at.inode) {
         Ok(extents) => extents,
