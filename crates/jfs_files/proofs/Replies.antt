@@ -7,13 +7,14 @@ use Rattle.jfs_ranges.specs.declared.edit.Edit.{Edit}
 use Rattle.jfs_plain.specs.Tree.{Tree}
 use Rattle.jfs_plain.specs.Step.{Outcome}
 use Rattle.jfs_plain.specs.declared.reply.Reply.{Reply}
-use Rattle.jfs_plain.specs.declared.reply.Reply.TheVariants.{Attr, Names, Target}
+use Rattle.jfs_plain.specs.declared.reply.Reply.TheVariants.{Bytes, Attr, Names, Target}
 use Rattle.jfs_plain.specs.declared.reply.Stat.{Stat}
 use Rattle.jfs_way.specs.Answer.{Follows}
 use Rattle.jfs_steps.specs.After.{takes}
 use Rattle.jfs_steps.specs.Put.{TellsLines}
 use Rattle.jfs_steps.proofs.After.{lines_alone, lines_leave}
 use Rattle.jfs_look.specs.Look.{IsAttr, IsNames}
+use Rattle.jfs_read.specs.Read.{IsBytes}
 use Rattle.jfs_readlink.specs.Target.{IsTarget}
 use Rattle.jfs_files.specs.Outcome.{reserved_by}
 use Rattle.jfs_files.specs.declared.outcome.Maps.{Maps}
@@ -27,6 +28,9 @@ module _ (t : Tree) (plain : Outcome) where
 
   pub names_told : (told : List NameEntry) → Follows {X = Reply × Tree} {Y = List NameEntry} (IsNames t) plain (Ok told) → plain ≡ Ok (Names told, t)
   names_told told f = is_ok f.0 (Names told, t) f.1 f.2
+
+  pub bytes_told : (told : List ℕ) → Follows {X = Reply × Tree} {Y = List ℕ} (IsBytes t) plain (Ok told) → plain ≡ Ok (Bytes told, t)
+  bytes_told told f = is_ok f.0 (Bytes told, t) f.1 f.2
 
   pub target_told : (told : List ℕ) → Follows {X = Reply × Tree} {Y = List ℕ} (IsTarget t) plain (Ok told) → plain ≡ Ok (Target told, t)
   target_told told f = is_ok f.0 (Target told, t) f.1 f.2

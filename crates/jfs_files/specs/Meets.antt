@@ -6,12 +6,13 @@ use Rattle.jfs_plain.specs.declared.call.Call.{Call}
 use Rattle.jfs_plain.specs.declared.call.Call.TheVariants as calls
 use Rattle.jfs_plain.specs.declared.refusal.Refusal.{Refusal}
 use Rattle.jfs_plain.specs.declared.reply.Reply.{Reply}
-use Rattle.jfs_plain.specs.declared.reply.Reply.TheVariants.{Done, Attr, Names, Target, Refused}
+use Rattle.jfs_plain.specs.declared.reply.Reply.TheVariants.{Done, Bytes, Attr, Names, Target, Refused}
 use Rattle.jfs_way.specs.Answer.{is_open, Answers}
 use Rattle.jfs_way.specs.Way.{path_of}
 use Rattle.jfs_way.specs.declared.object.Held.{Held}
 use Rattle.jfs_chmod.specs.Call.{SetsMode}
 use Rattle.jfs_look.specs.Look.{stat_at, names_at}
+use Rattle.jfs_read.specs.Read.{read_at}
 use Rattle.jfs_readlink.specs.Target.{target_at}
 use Rattle.jfs_files.specs.declared.outcome.FileOutcome.{FileOutcome}
 use Rattle.jfs_files.specs.declared.outcome.FileOutcome.TheVariants.{Changed, Same, NeedsLog}
@@ -19,6 +20,7 @@ use Rattle.jfs_files.specs.declared.outcome.FileOutcome.TheVariants.{Changed, Sa
 -- the calls that stand so far
 abbrev pub stands : Call → Bool
 stands (calls.Chmod path mode) = true
+stands (calls.Read path offset count) = true
 stands (calls.Stat path) = true
 stands (calls.List path) = true
 stands (calls.Readlink path) = true
@@ -53,6 +55,7 @@ MeetsMode blocks pages inodes path mode now NeedsLog = ⊥
 
 abbrev pub Meets : ℕ → (ℕ → List ℕ) → Inodes → Call → Moment → FileOutcome → Type 0
 Meets blocks pages inodes (calls.Chmod path mode) now outcome = MeetsMode blocks pages inodes path mode now outcome
+Meets blocks pages inodes (calls.Read path offset count) now outcome = Tells (replied (λ bytes. Bytes bytes) (read_at blocks pages inodes path offset count)) outcome
 Meets blocks pages inodes (calls.Stat path) now outcome = Tells (replied (λ stat. Attr stat) (stat_at blocks pages inodes path)) outcome
 Meets blocks pages inodes (calls.List path) now outcome = Tells (replied (λ names. Names names) (names_at blocks pages inodes path)) outcome
 Meets blocks pages inodes (calls.Readlink path) now outcome = Tells (replied (λ target. Target target) (target_at blocks pages inodes path)) outcome

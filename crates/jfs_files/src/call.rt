@@ -8,7 +8,7 @@ ghost use Rattle.jfs_files.specs.Outcome.{CarriesOutcome, MapsAfter, IfMounted, 
 ghost use Rattle.jfs_files.specs.Meets.{stands, Meets, MeetsMode};
 
 use crate::outcome::{DataList, FileOutcome, Maps};
-use crate::reply::{list_reply, stat_reply, target_reply};
+use crate::reply::{bytes_reply, list_reply, stat_reply, target_reply};
 use jfs_bits::Moment;
 use jfs_chmod::change_mode;
 use jfs_name::Path;
@@ -16,7 +16,7 @@ use jfs_plain::{Call, Reply, Request};
 use jfs_ranges::PageView;
 use std::alloc::Global;
 
-/// What a call does to a mounted volume, whose pages the view shows, at this moment. It takes the calls that stand so far: chmod, stat, list, readlink and sync; no other call can be
+/// What a call does to a mounted volume, whose pages the view shows, at this moment. It takes the calls that stand so far: chmod, read, stat, list, readlink and sync; no other call can be
 /// asked for yet. The pages stay as they are: a transaction that is to be appended is in the answer.
 pub fn file_call<V: PageView>(
     alloc: Global,
@@ -46,6 +46,11 @@ pub fn file_call<V: PageView>(
         Call::Readlink { path } => {
             FileOutcome::Same(target_reply(alloc, view, &maps.inodes, path))
         }
+        Call::Read {
+            path,
+            offset,
+            count,
+        } => FileOutcome::Same(bytes_reply(alloc, view, &maps.inodes, path, *offset, *count)),
         Call::Sync => FileOutcome::Same(Reply::Done),
         _ => unreachable!(),
     }
