@@ -2,7 +2,9 @@
 use Rattle.std.specs.Prelude.{◌≡◌, ◌⊎◌, ℕ, true, if◌then◌else◌, List, Option, Some, None, Result, Ok, Err}
 use Rattle.jfs_bits.specs.declared.extent.Xad.{Xad}
 use Rattle.jfs_bits.specs.declared.rule.Rule.{Rule}
+use Rattle.jfs_inode.specs.declared.fields.Dinode.{Dinode}
 use Rattle.jfs_xtree.specs.CutMet.{met_extents}
+use Rattle.jfs_xtree.specs.Spells.{spells_extents}
 use Rattle.jfs_xtree.specs.declared.error.XtError.{XtError}
 use Rattle.jfs_xtree.specs.declared.error.XtError.TheVariants.{View, Bad}
 use Rattle.jfs_dtree.specs.Spells.{broken_for, found_for}
@@ -22,10 +24,14 @@ if_met at (Err bad) = Err (Damaged (at_root at.page bad.0) bad.1)
 abbrev pub freed_from : ℕ → (ℕ → List ℕ) → Held → Result Held Refusal
 freed_from blocks pages at = if has_extents at.inode then if_met at (met_extents blocks pages 0 (root_of at.inode)) else Ok at
 
--- The object is freed where its whole tree was met; a refusal is the first page that breaks a rule, or it is open.
-abbrev pub MeetsTree : {T : Type 0} → Result Held Refusal → Held → Result T Refusal → Type 0
-MeetsTree given at (Ok it) = given ≡ Ok at
-MeetsTree given at (Err why) = (given ≡ Err why) ⊎ (is_open why ≡ true)
+-- an object with extents, whose tree spells no list of them
+abbrev pub SpellsNoExtents : ℕ → (ℕ → List ℕ) → Dinode → Type 0
+SpellsNoExtents blocks pages d = (has_extents d ≡ true) × ((es : List Xad) → spells_extents blocks pages (root_of d) ≡ Ok es → ⊥)
+
+-- The object is freed where its whole tree was met. A refusal is the first page that breaks a rule, and then the tree spells no list; or it is open.
+abbrev pub MeetsTree : {T : Type 0} → ℕ → (ℕ → List ℕ) → Held → Result T Refusal → Type 0
+MeetsTree blocks pages at (Ok it) = freed_from blocks pages at ≡ Ok at
+MeetsTree blocks pages at (Err why) = ((freed_from blocks pages at ≡ Err why) × SpellsNoExtents blocks pages at.inode) ⊎ (is_open why ≡ true)
 
 -- an error of an extent tree, as a refusal
 abbrev pub extents_refusal : ℕ → XtError → Refusal

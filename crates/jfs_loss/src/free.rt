@@ -9,7 +9,7 @@ ghost use Rattle.jfs_meaning.specs.Readers.{root_of};
 ghost use Rattle.jfs_xtree.specs.Cutting.{run_frees};
 ghost use Rattle.jfs_way.specs.Answer.{Carries};
 ghost use Rattle.jfs_loss.specs.Frees.{CutsIf, FreesObject, run_of, attribute_runs};
-ghost use Rattle.jfs_loss.specs.Causes.{freed_from, MeetsTree};
+ghost use Rattle.jfs_loss.specs.Causes.{MeetsTree};
 
 use crate::answer::from_extents;
 use jfs_bits::{Dxd, get_array};
@@ -31,7 +31,7 @@ pub fn free_object<V: PageView>(alloc: Global, view: &mut V, at: &Held) -> Resul
     ensures fault { Carries (V.PageView.faults view.old) (V.PageView.faults view.new) result }
     ensures frees { V.PageView.tells → IfOk result (FreesObject (V.PageView.block_count view.old) (page_of (V.PageView.image view.old)) at.now.inode) }
     // The whole tree is met, and the first page that breaks a rule is named.
-    ensures meets { V.PageView.tells → MeetsTree (freed_from (V.PageView.block_count view.old) (page_of (V.PageView.image view.old)) at.now) at.now result }
+    ensures meets { V.PageView.tells → MeetsTree (V.PageView.block_count view.old) (page_of (V.PageView.image view.old)) at.now result }
 {
     let mut tx = Tx::new(alloc);
     match cut_all(alloc, view, at, &mut tx) {
@@ -53,7 +53,7 @@ fn cut_all<V: PageView>(alloc: Global, view: &mut V, at: &Held, tx: &mut Tx) -> 
     ensures device { V.PageView.device view.new ≡ V.PageView.device view.old }
     ensures fault { Carries (V.PageView.faults view.old) (V.PageView.faults view.new) result }
     ensures cuts { V.PageView.tells → OnOk result (CutsIf (has_extents at.now.inode) (V.PageView.block_count view.old) (page_of (V.PageView.image view.old)) (root_of at.now.inode) tx.new) }
-    ensures meets { V.PageView.tells → MeetsTree (freed_from (V.PageView.block_count view.old) (page_of (V.PageView.image view.old)) at.now) at.now result }
+    ensures meets { V.PageView.tells → MeetsTree (V.PageView.block_count view.old) (page_of (V.PageView.image view.old)) at.now result }
 {
     if !has_extents(&at.inode) {
         return Ok(());

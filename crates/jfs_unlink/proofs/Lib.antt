@@ -1,0 +1,10 @@
+pub mod Unnamed
+pub mod Plain
+pub mod Paths
+pub mod Bare
+pub mod Meeting
+pub mod Ended
+pub mod Done
+pub mod Refusing
+pub mod NoNames
+pub mod Calls
