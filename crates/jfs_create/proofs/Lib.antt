@@ -5,3 +5,4 @@ pub mod Outcomes
 pub mod Whole
 pub mod Seeing
 pub mod Reserving
+pub mod Steps

@@ -1,13 +1,12 @@
 -- The blocks that are reserved for a new object.
-use Rattle.std.proofs.Common.{◌≡◌, refl, sym, ap, ◌∙◌, ℕ, Bool, true, false, true≢false, ◌||◌, nat_lt, if◌then◌else◌, List, [], ◌++◌, Option, Some, None}
+use Rattle.std.proofs.Common.{◌≡◌, refl, sym, ap, ◌∙◌, ℕ, false, true≢false, ◌||◌, nat_lt, if◌then◌else◌, List, [], Option, Some, None}
 use Rattle.jfs_bits.specs.declared.descriptor.Pxd.{Pxd}
 use Rattle.jfs_bmap.specs.States.{Blocks, Reserved, changed, is_in_list}
 use Rattle.jfs_ranges.specs.declared.edit.Edit.{Edit}
 use Rattle.jfs_tree.specs.Edit.{count_in}
 use Rattle.jfs_tree.specs.Fresh.{blocks_of}
-use Rattle.jfs_claim.specs.Take.{AreFresh, Claims, IsPartlyTaken, IsRun, claimed, reserving, run_list}
+use Rattle.jfs_claim.specs.Take.{AreFresh, Claims, IsPartlyTaken, IsRun, reserving, run_list}
 use Rattle.jfs_claim.specs.declared.reserve.Claim.{Claim}
-use Rattle.jfs_claim.specs.declared.reserve.Want.{Want}
 use Rattle.jfs_way.specs.declared.object.Held.{Held}
 use Rattle.jfs_steps.specs.After.{takes}
 use Rattle.jfs_create.specs.Makes.{Makes}

@@ -9,7 +9,6 @@ use Rattle.jfs_ranges.specs.declared.edit.Edit.{Edit}
 use Rattle.jfs_tree.specs.Fresh.{blocks_of}
 use Rattle.jfs_plain.specs.Tree.{Tree}
 use Rattle.jfs_plain.specs.Step.{Room, Outcome}
-use Rattle.jfs_plain.specs.declared.refusal.Refusal.{Refusal}
 use Rattle.jfs_plain.specs.declared.reply.Reply.TheVariants.{Done}
 use Rattle.jfs_meaning.specs.Consistent.{IsConsistent}
 use Rattle.jfs_meaning.specs.Readers.{readers}

@@ -1,12 +1,14 @@
 //! File calls that make an object on a volume whose two sets lie in memory: a regular file, a directory, a symbolic link.
 #![tactic(auto)]
 
+mod calls;
 mod looks;
 mod make;
 mod new;
 mod reserve;
 mod seats;
 
+pub use calls::{create, make_directory, make_link, make_object};
 pub use looks::{Seen, look};
 pub use make::Plan;
 pub use new::{NewObject, Seat, new_inode};
