@@ -11,14 +11,18 @@ use Rattle.jfs_way.specs.Answer.{is_open, Answers}
 use Rattle.jfs_way.specs.Way.{path_of}
 use Rattle.jfs_way.specs.declared.object.Held.{Held}
 use Rattle.jfs_chmod.specs.Call.{SetsMode}
+use Rattle.jfs_link.specs.Link.{LinksAs}
+use Rattle.jfs_link.specs.declared.linking.Linked.TheVariants as linked
 use Rattle.jfs_look.specs.Look.{stat_at, names_at}
 use Rattle.jfs_read.specs.Read.{read_at}
 use Rattle.jfs_readlink.specs.Target.{target_at}
+use Rattle.jfs_files.specs.declared.outcome.Maps.{Maps}
 use Rattle.jfs_files.specs.declared.outcome.FileOutcome.{FileOutcome}
 use Rattle.jfs_files.specs.declared.outcome.FileOutcome.TheVariants.{Changed, Same, NeedsLog}
 
 -- the calls that stand so far
 abbrev pub stands : Call → Bool
+stands (calls.Link from to) = true
 stands (calls.Chmod path mode) = true
 stands (calls.Read path offset count) = true
 stands (calls.Stat path) = true
@@ -53,11 +57,22 @@ MeetsMode blocks pages inodes path mode now (Changed tx written) = SetsMode bloc
 MeetsMode blocks pages inodes path mode now (Same reply) = IsRefusedBy (path_of blocks pages inodes path) reply
 MeetsMode blocks pages inodes path mode now NeedsLog = ⊥
 
-abbrev pub Meets : ℕ → (ℕ → List ℕ) → Inodes → Call → Moment → FileOutcome → Type 0
-Meets blocks pages inodes (calls.Chmod path mode) now outcome = MeetsMode blocks pages inodes path mode now outcome
-Meets blocks pages inodes (calls.Read path offset count) now outcome = Tells (replied (λ bytes. Bytes bytes) (read_at blocks pages inodes path offset count)) outcome
-Meets blocks pages inodes (calls.Stat path) now outcome = Tells (replied (λ stat. Attr stat) (stat_at blocks pages inodes path)) outcome
-Meets blocks pages inodes (calls.List path) now outcome = Tells (replied (λ names. Names names) (names_at blocks pages inodes path)) outcome
-Meets blocks pages inodes (calls.Readlink path) now outcome = Tells (replied (λ target. Target target) (target_at blocks pages inodes path)) outcome
-Meets blocks pages inodes calls.Sync now outcome = Tells Done outcome
-Meets blocks pages inodes _ now outcome = ⊥
+-- it is refused as a link is
+abbrev pub IsLinkRefused : ℕ → (ℕ → List ℕ) → Maps → List (List ℕ) → List (List ℕ) → Moment → Reply → Type 0
+IsLinkRefused blocks pages maps from to now (Refused why) = LinksAs blocks pages maps.blocks maps.inodes from to now (Err why)
+IsLinkRefused blocks pages maps from to now _ = ⊥
+
+abbrev pub MeetsLink : ℕ → (ℕ → List ℕ) → Maps → List (List ℕ) → List (List ℕ) → Moment → FileOutcome → Type 0
+MeetsLink blocks pages maps from to now (Changed tx written) = LinksAs blocks pages maps.blocks maps.inodes from to now (Ok (linked.Done tx)) × (written ≡ [])
+MeetsLink blocks pages maps from to now (Same reply) = IsLinkRefused blocks pages maps from to now reply
+MeetsLink blocks pages maps from to now NeedsLog = LinksAs blocks pages maps.blocks maps.inodes from to now (Ok linked.NeedsLog)
+
+abbrev pub Meets : ℕ → (ℕ → List ℕ) → Maps → Call → Moment → FileOutcome → Type 0
+Meets blocks pages maps (calls.Link from to) now outcome = MeetsLink blocks pages maps from to now outcome
+Meets blocks pages maps (calls.Chmod path mode) now outcome = MeetsMode blocks pages maps.inodes path mode now outcome
+Meets blocks pages maps (calls.Read path offset count) now outcome = Tells (replied (λ bytes. Bytes bytes) (read_at blocks pages maps.inodes path offset count)) outcome
+Meets blocks pages maps (calls.Stat path) now outcome = Tells (replied (λ stat. Attr stat) (stat_at blocks pages maps.inodes path)) outcome
+Meets blocks pages maps (calls.List path) now outcome = Tells (replied (λ names. Names names) (names_at blocks pages maps.inodes path)) outcome
+Meets blocks pages maps (calls.Readlink path) now outcome = Tells (replied (λ target. Target target) (target_at blocks pages maps.inodes path)) outcome
+Meets blocks pages maps calls.Sync now outcome = Tells Done outcome
+Meets blocks pages maps _ now outcome = ⊥

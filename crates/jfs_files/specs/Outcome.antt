@@ -52,10 +52,9 @@ MapsAfter old new _ = new ≡ old
 abbrev pub volume_in : (ℕ → List ℕ) → (ℕ → ℕ) → Maps → Volume
 volume_in page area maps = volume_of page area maps.blocks maps.inodes
 
--- Between calls no block is reserved, the maps tell of the view's blocks, and inode extents lie within these.
+-- Between calls no block is reserved, and inode extents lie within the file system part.
 pub record AreBetweenCalls (blocks : ℕ) (maps : Maps) : Type 0 where
   pub rest : IsAtRest maps.blocks maps.inodes
-  pub many : length maps.blocks.states ≡ blocks
   pub within : PlacesWithin blocks maps.inodes
 
 -- what is said of the consistent volume that the pages and such maps are, and of its room

@@ -1,12 +1,13 @@
 //! A file call.
 
-ghost use Rattle.std.specs.Prelude.{◌≡◌, true};
+ghost use Rattle.std.specs.Prelude.{◌≡◌, true, length};
 ghost use Rattle.jfs_disk.specs.Image.{page_of};
 ghost use Rattle.jfs_plain.specs.Limits.{FitsRequest, FitsPath, FitsMode};
 ghost use Rattle.jfs_plain.specs.Step.{outcome, chmod};
 ghost use Rattle.jfs_files.specs.Outcome.{CarriesOutcome, MapsAfter, IfMounted, AnswersAs};
 ghost use Rattle.jfs_files.specs.Meets.{stands, Meets, MeetsMode};
 
+use crate::link::link_outcome;
 use crate::outcome::{DataList, FileOutcome, Maps};
 use crate::reply::{bytes_reply, list_reply, stat_reply, target_reply};
 use jfs_bits::Moment;
@@ -16,7 +17,7 @@ use jfs_plain::{Call, Reply, Request};
 use jfs_ranges::PageView;
 use std::alloc::Global;
 
-/// What a call does to a mounted volume, whose pages the view shows, at this moment. It takes the calls that stand so far: chmod, read, stat, list, readlink and sync; no other call can be
+/// What a call does to a mounted volume, whose pages the view shows, at this moment. It takes the calls that stand so far: link, chmod, read, stat, list, readlink and sync; no other call can be
 /// asked for yet. The pages stay as they are: a transaction that is to be appended is in the answer.
 pub fn file_call<V: PageView>(
     alloc: Global,
@@ -27,6 +28,7 @@ pub fn file_call<V: PageView>(
 ) -> FileOutcome
     requires fits { FitsRequest request.now }
     requires taken { stands request.now.call ≡ true }
+    requires size { length maps.old.blocks.states ≡ V.PageView.block_count view.old }
     ensures image { V.PageView.tells → V.PageView.image view.new ≡ V.PageView.image view.old }
     ensures count_of_blocks { V.PageView.block_count view.new ≡ V.PageView.block_count view.old }
     ensures device { V.PageView.device view.new ≡ V.PageView.device view.old }
@@ -37,9 +39,10 @@ pub fn file_call<V: PageView>(
     ensures follows { V.PageView.tells → IfMounted (V.PageView.block_count view.old) (page_of (V.PageView.image view.old)) maps.old (λ v room.
         AnswersAs (V.PageView.block_count view.old) maps.old.blocks v (λ t. outcome room t request.now.call now) result) }
     // On any volume it is what the pages on the call's ways give, and the first of them that breaks a rule is named.
-    ensures meets { V.PageView.tells → Meets (V.PageView.block_count view.old) (page_of (V.PageView.image view.old)) maps.old.inodes request.now.call now result }
+    ensures meets { V.PageView.tells → Meets (V.PageView.block_count view.old) (page_of (V.PageView.image view.old)) maps.old request.now.call now result }
 {
     match &request.call {
+        Call::Link { from, to } => link_outcome(alloc, view, maps, from, to, now),
         Call::Chmod { path, mode } => mode_outcome(alloc, view, maps, path, *mode, now),
         Call::Stat { path } => FileOutcome::Same(stat_reply(view, &maps.inodes, path)),
         Call::List { path } => FileOutcome::Same(list_reply(alloc, view, &maps.inodes, path)),

@@ -2,6 +2,7 @@
 #![tactic(auto)]
 
 mod call;
+mod link;
 mod outcome;
 mod reply;
 

@@ -1,0 +1,4 @@
+use Rattle.jfs_files.proofs.call.file_call.Goals as goal
+
+pub returns-in-Link-clause-follows : goal.returns-in-Link-clause-follows
+returns-in-Link-clause-follows g c tells between area con log_pages limit = rw c.in-Link.is (c.link_outcome.ensures.follows tells between area con log_pages limit)
