@@ -1,5 +1,5 @@
 -- A directory gains one name and then loses another, by two calls on its tree and one change of its inode.
-use Rattle.std.proofs.Common.{◌≡◌, ◌≤◌, ◌<◌, refl, sym, ap, ◌∙◌, inl, inr, ℕ, ◌+◌, true, false, List, [], ◌++◌, length, Some, Ok, arith}
+use Rattle.std.proofs.Common.{◌≡◌, ◌≤◌, ◌<◌, refl, sym, ap, ◌∙◌, inl, inr, ℕ, Bool, ◌+◌, true, false, List, [], ◌++◌, length, Some, Ok, arith}
 use Rattle.jfs_bits.specs.Field.{put_bytes}
 use Rattle.jfs_bits.specs.declared.descriptor.Moment.{Moment}
 use Rattle.jfs_inode.specs.declared.fields.Dinode.{Dinode}
@@ -114,6 +114,31 @@ module _ (blocks : ℕ) (v : Volume) (whole : (b : ℕ) → b < blocks → lengt
 
   keeps : (b : ℕ) → b < blocks → owned_pages blocks v.page (root_of d) b ≡ 0 → count_in b taken ≡ 0 → after_tx v.page tx b ≡ v.page b
   keeps b l z c = less.keeps b l (let o = owned_is b in omega (arith, o, z, c)) ∙ put_within blocks mid_tx v.page b l ∙ more.keeps b l z (let f = free_is b in omega (arith, f, c))
+
+  -- ---- the pages that the tree has no more
+
+  freed_among : (b : ℕ) → count_in b freed ≤ owned_pages blocks v.page (root_of d) b + count_in b taken
+  freed_among b = let o = owned b in omega (arith, o)
+
+  owned_here : (b : ℕ) → owned_pages blocks v.page (root_of d) b ≤ holds r (objects r v n) b
+  owned_here b = let h = dir_holds blocks v.page d es b dir (no_extents_of d dir) spelled_es in let x = ap (λ o. holds r o b) was in omega (arith, h, x)
+
+  -- each is one page, and was one of the tree, or was taken for it
+  pub freed_once : (b : ℕ) → count_in b freed ≤ 1
+  freed_once b = elim (zero_or_more (count_in b taken)) [
+    | inl z ↦ (let f = freed_among b in let h = owned_here b in let o = (owned_once r v has.sound.agrees).once n b in omega (arith, f, h, o, z))
+    | inr t ↦ (let f = freed_among b in let e = free_is b in let o = once b in let s = spare b (omega (arith, e, t)) in omega (arith, f, e, o, s))
+  ]
+
+  is_true : (x : Bool) → 0 < bit x → x ≡ true
+  is_true true h = refl
+  is_true false h = absurd (omega (arith, h))
+
+  pub freed_used : (u : ℕ → Bool) → ((b : ℕ) → bit (u b) ≡ bit (v.used b) + count_in b taken) → (b : ℕ) → 0 < count_in b freed → u b ≡ true
+  freed_used u u_is b l = elim (zero_or_more (count_in b taken)) [
+    | inl z ↦ (let f = freed_among b in let h = owned_here b in let e = ap bit ((owned_once r v has.sound.agrees).in_use n b (omega (arith, f, h, l, z))) in let i = u_is b in is_true (u b) (omega (arith, e, i)))
+    | inr t ↦ (let i = u_is b in is_true (u b) (omega (arith, i, t)))
+  ]
 
   module _ (w : Volume) (puts : PutsInode (put_tx blocks tx v.page) w.page v.extents n (record d { rest = put_bytes 96 root d.rest; nblocks = own; mtime = now; ctime = now }))
       (used : (b : ℕ) → bit (w.used b) + count_in b freed ≡ bit (v.used b) + count_in b taken)

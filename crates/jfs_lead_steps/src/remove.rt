@@ -42,6 +42,7 @@ pub fn remove_on_top<V: PageView>(
     ensures edits { V.PageView.tells → IfOk result (λ gone.
         TellsGone (V.PageView.block_count view.old) Dtree (put_tx (V.PageView.block_count view.old) tx.now (page_of (V.PageView.image view.old))) tx.now gone.tx) }
     ensures parent { parent_of root.new ≡ parent_of root.old }
+    ensures width { length root.old ≡ 288 }
     ensures kept { OnErr result (root.new ≡ root.old) }
     ensures way { V.PageView.tells → TellsWay (broken_for (V.PageView.block_count view.old) (put_tx (V.PageView.block_count view.old) tx.now (page_of (V.PageView.image view.old))) root.old name.now) result }
     ensures missed { V.PageView.tells → IfErr result (MissesName (V.PageView.block_count view.old) (put_tx (V.PageView.block_count view.old) tx.now (page_of (V.PageView.image view.old))) name.now root.old) }

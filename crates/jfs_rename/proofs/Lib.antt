@@ -1,0 +1,4 @@
+pub mod Plain
+pub mod OneDirectory
+pub mod Between
+pub mod Back
