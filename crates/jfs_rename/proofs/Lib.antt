@@ -2,3 +2,5 @@ pub mod Plain
 pub mod OneDirectory
 pub mod Between
 pub mod Back
+pub mod Balanced
+pub mod Whole

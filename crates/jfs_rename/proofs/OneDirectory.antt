@@ -43,7 +43,7 @@ module _ (blocks : ℕ) (v : Volume) (t : Tree) (has : HasTree (readers blocks) 
   r = readers blocks
 
   -- the pages that the directory's tree had and has no more
-  pub gone : List ℕ
+  abbrev pub gone : List ℕ
   gone = freed blocks v whole t has within n d was dir size live few es spelled_es now own (entry_as name m) free left taken parts once all unused root_mid width_mid parent_mid mid_tx adds old_name root width parent names_tx k removes
 
   module _ (used : ℕ → Bool) (used_is : (b : ℕ) → bit (used b) + count_in b gone ≡ bit (v.used b) + count_in b taken) where
@@ -57,12 +57,10 @@ module _ (blocks : ℕ) (v : Volume) (t : Tree) (has : HasTree (readers blocks) 
     names es = without_name old_name (with_name (entry_as name m) es)
 
     first : HasTree r v1 (changed n (turns names (λ l. l) now) t)
-    unfolding gone
     first = within_has blocks v whole t has within n d was dir size live few es spelled_es now own (entry_as name m) free left taken parts once all unused root_mid width_mid parent_mid mid_tx adds old_name root width parent names_tx k removes
         v1 puts_n used_is refl refl (stays_in_use r v n (spelled r v.page d) has.sound was)
 
     still : objects r v1 m ≡ Some (spelled r v.page e)
-    unfolding gone
     still = set_other r v v1 t has n (record d { rest = put_bytes 96 root d.rest; nblocks = own; mtime = now; ctime = now }) (put_tx blocks names_tx v.page) taken gone
         (within_set blocks v whole t has within n d was dir size live few es spelled_es now own (entry_as name m) free left taken parts once all unused root_mid width_mid parent_mid mid_tx adds old_name root width parent names_tx k removes
         v1 puts_n used_is refl refl (stays_in_use r v n (spelled r v.page d) has.sound was)) m apart ∙ was_m
