@@ -1,3 +1,4 @@
 pub mod Paths
 pub mod Replies
 pub mod Links
+pub mod Removals

@@ -37,12 +37,14 @@ module _ (t : Tree) (plain : Outcome) where
 
 -- ---- the maps after a change of one inode
 
-takes_nothing : (tx : List Edit) (map : Blocks) → ((b : ℕ) → takes tx b ≡ 0) → reserved_by tx map ≡ map
+pub takes_nothing : (tx : List Edit) (map : Blocks) → ((b : ℕ) → takes tx b ≡ 0) → reserved_by tx map ≡ map
 takes_nothing tx map none =
     let change = λ (b : ℕ) (s : BlockState). if nat_lt 0 (takes tx b) then Reserved else s in
     same_blocks (reserved_by tx map) map (changed-length change map)
     (λ b l. changed-at change map b (subst (λ (k : ℕ). b < k) (changed-length change map) l) ∙ ap (λ (k : ℕ). if nat_lt 0 k then Reserved else state_of map b) (none b)) refl refl
 
+pub leaves_maps : (tx : List Edit) (maps : Maps) → ((b : ℕ) → takes tx b ≡ 0) → maps ≡ record maps { blocks = reserved_by tx maps.blocks }
+leaves_maps tx maps none = sym (ap (λ (map : Blocks). record maps { blocks = map }) (takes_nothing tx maps.blocks none))
+
 pub lines_take_nothing : (blocks : ℕ) (pages : ℕ → List ℕ) (page : ℕ) (tx : List Edit) (maps : Maps) → TellsLines blocks pages page [] tx → maps ≡ record maps { blocks = reserved_by tx maps.blocks }
-lines_take_nothing blocks pages page tx maps tells =
-    sym (ap (λ (map : Blocks). record maps { blocks = map }) (takes_nothing tx maps.blocks (lines_alone tx (lines_leave blocks pages page [] tx tt tells)).takes_none))
+lines_take_nothing blocks pages page tx maps tells = leaves_maps tx maps (lines_alone tx (lines_leave blocks pages page [] tx tt tells)).takes_none

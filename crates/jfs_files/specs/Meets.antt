@@ -2,6 +2,7 @@
 use Rattle.std.specs.Prelude.{◌≡◌, ◌⊎◌, ℕ, Bool, true, false, List, [], Result, Ok, Err}
 use Rattle.jfs_bits.specs.declared.descriptor.Moment.{Moment}
 use Rattle.jfs_imap.specs.Inodes.{Inodes}
+use Rattle.jfs_ranges.specs.declared.edit.Edit.{Edit}
 use Rattle.jfs_plain.specs.declared.call.Call.{Call}
 use Rattle.jfs_plain.specs.declared.call.Call.TheVariants as calls
 use Rattle.jfs_plain.specs.declared.refusal.Refusal.{Refusal}
@@ -16,6 +17,7 @@ use Rattle.jfs_link.specs.declared.linking.Linked.TheVariants as linked
 use Rattle.jfs_look.specs.Look.{stat_at, names_at}
 use Rattle.jfs_read.specs.Read.{read_at}
 use Rattle.jfs_readlink.specs.Target.{target_at}
+use Rattle.jfs_unlink.specs.Call.{Unlinks, unlink_of, Removes, rmdir_of}
 use Rattle.jfs_files.specs.declared.outcome.Maps.{Maps}
 use Rattle.jfs_files.specs.declared.outcome.FileOutcome.{FileOutcome}
 use Rattle.jfs_files.specs.declared.outcome.FileOutcome.TheVariants.{Changed, Same, NeedsLog}
@@ -23,6 +25,8 @@ use Rattle.jfs_files.specs.declared.outcome.FileOutcome.TheVariants.{Changed, Sa
 -- the calls that stand so far
 abbrev pub stands : Call → Bool
 stands (calls.Link from to) = true
+stands (calls.Unlink path) = true
+stands (calls.Rmdir path) = true
 stands (calls.Chmod path mode) = true
 stands (calls.Read path offset count) = true
 stands (calls.Stat path) = true
@@ -52,10 +56,14 @@ abbrev pub IsRefusedBy : Result Held Refusal → Reply → Type 0
 IsRefusedBy way (Refused why) = Answers way (Err why)
 IsRefusedBy way _ = ⊥
 
+-- The transaction does what is said of it, and no block of a file is written; or the call is refused.
+abbrev pub MeetsChange : (List Edit → Type 0) → Result Held Refusal → FileOutcome → Type 0
+MeetsChange does way (Changed tx written) = does tx × (written ≡ [])
+MeetsChange does way (Same reply) = IsRefusedBy way reply
+MeetsChange does way NeedsLog = ⊥
+
 abbrev pub MeetsMode : ℕ → (ℕ → List ℕ) → Inodes → List (List ℕ) → ℕ → Moment → FileOutcome → Type 0
-MeetsMode blocks pages inodes path mode now (Changed tx written) = SetsMode blocks pages inodes path mode now tx × (written ≡ [])
-MeetsMode blocks pages inodes path mode now (Same reply) = IsRefusedBy (path_of blocks pages inodes path) reply
-MeetsMode blocks pages inodes path mode now NeedsLog = ⊥
+MeetsMode blocks pages inodes path mode now outcome = MeetsChange (SetsMode blocks pages inodes path mode now) (path_of blocks pages inodes path) outcome
 
 -- it is refused as a link is
 abbrev pub IsLinkRefused : ℕ → (ℕ → List ℕ) → Maps → List (List ℕ) → List (List ℕ) → Moment → Reply → Type 0
@@ -69,6 +77,8 @@ MeetsLink blocks pages maps from to now NeedsLog = LinksAs blocks pages maps.blo
 
 abbrev pub Meets : ℕ → (ℕ → List ℕ) → Maps → Call → Moment → FileOutcome → Type 0
 Meets blocks pages maps (calls.Link from to) now outcome = MeetsLink blocks pages maps from to now outcome
+Meets blocks pages maps (calls.Unlink path) now outcome = MeetsChange (Unlinks blocks pages maps.inodes path maps.file_limit now) (unlink_of blocks pages maps.inodes path maps.file_limit) outcome
+Meets blocks pages maps (calls.Rmdir path) now outcome = MeetsChange (Removes blocks pages maps.inodes path now) (rmdir_of blocks pages maps.inodes path) outcome
 Meets blocks pages maps (calls.Chmod path mode) now outcome = MeetsMode blocks pages maps.inodes path mode now outcome
 Meets blocks pages maps (calls.Read path offset count) now outcome = Tells (replied (λ bytes. Bytes bytes) (read_at blocks pages maps.inodes path offset count)) outcome
 Meets blocks pages maps (calls.Stat path) now outcome = Tells (replied (λ stat. Attr stat) (stat_at blocks pages maps.inodes path)) outcome

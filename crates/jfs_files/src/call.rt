@@ -9,6 +9,7 @@ ghost use Rattle.jfs_files.specs.Meets.{stands, Meets, MeetsMode};
 
 use crate::link::link_outcome;
 use crate::outcome::{DataList, FileOutcome, Maps};
+use crate::removal::{rmdir_outcome, unlink_outcome};
 use crate::reply::{bytes_reply, list_reply, stat_reply, target_reply};
 use jfs_bits::Moment;
 use jfs_chmod::change_mode;
@@ -17,7 +18,7 @@ use jfs_plain::{Call, Reply, Request};
 use jfs_ranges::PageView;
 use std::alloc::Global;
 
-/// What a call does to a mounted volume, whose pages the view shows, at this moment. It takes the calls that stand so far: link, chmod, read, stat, list, readlink and sync; no other call can be
+/// What a call does to a mounted volume, whose pages the view shows, at this moment. It takes the calls that stand so far: link, unlink, rmdir, chmod, read, stat, list, readlink and sync; no other call can be
 /// asked for yet. The pages stay as they are: a transaction that is to be appended is in the answer.
 pub fn file_call<V: PageView>(
     alloc: Global,
@@ -43,6 +44,8 @@ pub fn file_call<V: PageView>(
 {
     match &request.call {
         Call::Link { from, to } => link_outcome(alloc, view, maps, from, to, now),
+        Call::Unlink { path } => unlink_outcome(alloc, view, maps, path, now),
+        Call::Rmdir { path } => rmdir_outcome(alloc, view, maps, path, now),
         Call::Chmod { path, mode } => mode_outcome(alloc, view, maps, path, *mode, now),
         Call::Stat { path } => FileOutcome::Same(stat_reply(view, &maps.inodes, path)),
         Call::List { path } => FileOutcome::Same(list_reply(alloc, view, &maps.inodes, path)),

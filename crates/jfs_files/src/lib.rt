@@ -4,6 +4,7 @@
 mod call;
 mod link;
 mod outcome;
+mod removal;
 mod reply;
 
 pub use call::file_call;
