@@ -2,6 +2,8 @@ pub mod Rests
 pub mod Made
 pub mod Makes
 pub mod Outcomes
+pub mod Extents
+pub mod Between
 pub mod Whole
 pub mod Seeing
 pub mod Reserving

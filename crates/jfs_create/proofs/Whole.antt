@@ -1,5 +1,5 @@
 -- An object is made, from what the calls say to the plain step and a consistent volume.
-use Rattle.std.proofs.Common.{◌≡◌, ◌≢◌, ◌≤◌, refl, sym, ap, ◌∙◌, subst, ℕ, ◌+◌, Bool, true, false, not, ◌||◌, ◌==◌, ne_eqb, nat_lt, List, [], length, Option, Some, None, Ok, arith}
+use Rattle.std.proofs.Common.{◌≡◌, ◌≢◌, ◌≤◌, refl, sym, ap, ◌∙◌, subst, ℕ, ◌+◌, ◌*◌, Bool, true, false, not, ◌||◌, ◌==◌, ne_eqb, nat_lt, List, [], length, Option, Some, None, Ok, arith}
 use Rattle.jfs_bits.specs.Broken.{first_broken}
 use Rattle.jfs_bits.specs.declared.rule.PageKind.TheVariants as kinds
 use Rattle.jfs_inode.specs.Rules.{rows}
@@ -16,7 +16,7 @@ use Rattle.jfs_plain.specs.Step.{Room, is_short, links_of}
 use Rattle.jfs_plain.specs.declared.node.Node.{Node}
 use Rattle.jfs_plain.specs.declared.reply.Reply.TheVariants.{Done}
 use Rattle.jfs_objects.specs.Readers.{Readers}
-use Rattle.jfs_objects.specs.Volume.{Volume, home, room}
+use Rattle.jfs_objects.specs.Volume.{Volume, room}
 use Rattle.jfs_objects.specs.Objects.{Object, objects, is_live}
 use Rattle.jfs_objects.specs.Changes.{put, PutsInode}
 use Rattle.jfs_meaning.specs.Consistent.{IsConsistent, IsConsistentTree}
@@ -35,12 +35,15 @@ use Rattle.jfs_steps.specs.Put.{TellsLines}
 use Rattle.jfs_steps.proofs.After.{used_onto, extents_onto, lines_alone, runs_leave, done_after}
 use Rattle.jfs_steps.proofs.Grows.{gain_law}
 use Rattle.jfs_steps.proofs.Sets.{lines_on_top, taken_move}
-use Rattle.jfs_create.specs.Makes.{Makes, plain_of, links_after, gain_of}
+use Rattle.jfs_create.specs.Makes.{Makes, CanStand, plain_of, links_after, gain_of}
 use Rattle.jfs_create.specs.New.{FitsNew, inode_with, node_for}
 use Rattle.jfs_create.specs.declared.make.Plan.{Plan}
 use Rattle.jfs_create.specs.declared.new.NewObject.{NewObject}
 use Rattle.jfs_create.specs.declared.new.NewObject.TheVariants.{File, Directory, Link}
+use Rattle.jfs_create.proofs.Between.{HasBetween, between}
 use Rattle.jfs_create.proofs.Makes.{made_has}
+use Rattle.jfs_meaning.proofs.Books.{count_append}
+use Rattle.jfs_tree.specs.Edit.{count_in}
 use Rattle.jfs_create.specs.Look.{too_many}
 use Rattle.jfs_create.proofs.Outcomes.{tree_after, same_trees}
 use Rattle.jfs_create.proofs.Outcomes as outcomes
@@ -54,14 +57,9 @@ lines_extents : (blocks : ℕ) (pages : ℕ → List ℕ) (page : ℕ) (tx later
 lines_extents blocks pages page tx later extents tells = ap (λ (all : List Edit). extents_after all extents) tells.1 ∙ extents_onto tx tells.0 extents
     ∙ (lines_alone tells.0 (runs_leave page kinds.Inode (put_tx blocks tx pages page) (put_tx blocks later pages page) 0 tells.0 tells.2)).extents (extents_after tx extents)
 
--- the blocks that its directory's tree took are all that the edits take
-pub moves : (blocks : ℕ) (pages : ℕ → List ℕ) (dir : Held) (name : List ℕ) (plan : Plan) (free left : List Pxd) (tx : List Edit) → (makes : Makes blocks pages dir name plan free left tx) → TakesAndFrees tx makes.gains.edits.0 []
-moves blocks pages dir name plan free left tx makes = lines_on_top blocks pages plan.page makes.mid tx makes.gains.edits.0 [] (lines_on_top blocks pages dir.page makes.gains.mid makes.mid makes.gains.edits.0 []
-    (taken_move blocks kinds.Dtree pages (blocks_of free) (blocks_of left) makes.gains.mid (λ first bytes. refl) makes.gains.edits) makes.gains.lines) makes.lines
-
 module _ (blocks : ℕ) (v : Volume) (con : IsConsistent (readers blocks) v) (dir : Held) (es : List NameEntry) (free left : List Pxd) (can : CanGain blocks v dir es free) (rules : first_broken (rows dir.inode dir.number) ≡ None)
     (lives : is_live dir.number dir.inode ≡ true) (name : List ℕ) (plan : Plan) (few : FitsNew plan.object) (parent : plan.seat.parent ≡ dir.number) (tx : List Edit) (makes : Makes blocks v.page dir name plan free left tx)
-    (links : links_after plan.object dir.inode.nlink ≤ 65535) (at : home v.extents plan.seat.number ≡ Some plan.page) (none : objects (readers blocks) v plan.seat.number ≡ None) where
+    (links : links_after plan.object dir.inode.nlink ≤ 65535) (stands : CanStand blocks v (blocks_of free) plan.seat.number plan.page plan.extent) (none : objects (readers blocks) v plan.seat.number ≡ None) where
   abbrev r : Readers
   r = readers blocks
 
@@ -85,9 +83,6 @@ module _ (blocks : ℕ) (v : Volume) (con : IsConsistent (readers blocks) v) (di
 
   abbrev v1 : Volume
   v1 = after_set blocks makes.mid n v
-
-  abbrev v2 : Volume
-  v2 = record v { page = put_tx blocks tx v.page; used = used_after tx v.used; in_use = put m true v1.in_use }
 
   abbrev t : Tree
   t = tree_on r v
@@ -129,14 +124,25 @@ module _ (blocks : ℕ) (v : Volume) (con : IsConsistent (readers blocks) v) (di
   none1 : objects r v1 m ≡ None
   none1 = set_other r v v1 t has0 n set (put_tx blocks makes.gains.mid v.page) makes.gains.edits.0 [] gained.sets m (λ e. apart (sym e)) ∙ none
 
-  puts : PutsInode v1.page v2.page v1.extents m (inode_with plan.object plan.seat now makes.is_new.rest)
-  puts = subst (λ (d : Dinode). PutsInode v1.page v2.page v1.extents m d) makes.is_new.is (makes.puts v.extents at)
+  mid_moves : TakesAndFrees makes.mid makes.gains.edits.0 []
+  mid_moves = lines_on_top blocks v.page dir.page makes.gains.mid makes.mid makes.gains.edits.0 [] (taken_move blocks kinds.Dtree v.page (blocks_of free) (blocks_of left) makes.gains.mid (λ first bytes. refl) makes.gains.edits) makes.gains.lines
 
-  same_used : v2.used ≡ v1.used
-  same_used = lines_used blocks v.page plan.page makes.mid tx v.used makes.lines
+  mean : HasBetween blocks v n m plan.page makes.more (changed n f t)
+  mean = between blocks v n m plan.page makes.mid makes.more (changed n f t) has1 (blocks_of free) makes.gains.edits.0 (mid_moves.extents_stay v.extents)
+      (λ b. (let e = ap (count_in b) makes.gains.edits.1 ∙ count_append b makes.gains.edits.0 (blocks_of left) in omega (arith, e))) (λ b. (let u = gained.sets.takes.used b in omega (arith, u))) can.whole none1 plan.extent makes.extent stands
+
+  abbrev v2 : Volume
+  v2 = record v { page = put_tx blocks tx v.page; extents = mean.x.extents; used = used_after tx v.used; in_use = put m true v1.in_use }
+
+  puts : PutsInode mean.x.page v2.page mean.x.extents m (inode_with plan.object plan.seat now makes.is_new.rest)
+  puts = subst (λ (d : Dinode). PutsInode mean.x.page v2.page mean.x.extents m d) makes.is_new.is
+      (subst (λ (old : ℕ → List ℕ). PutsInode old v2.page mean.x.extents m makes.inode) (sym mean.page_is) (makes.puts mean.x.extents mean.at))
+
+  same_used : v2.used ≡ mean.x.used
+  same_used = lines_used blocks v.page plan.page makes.more tx v.used makes.lines ∙ sym mean.used
 
   has2 : HasTree r v2 (made m (node_for plan.object plan.seat.parent now) (changed n f t))
-  has2 = made_has blocks v1 v2 (changed n f t) has1 plan.object plan.seat now makes.is_new.rest few makes.is_new.rest_is none1 puts same_used refl refl (λ k. refl)
+  has2 = made_has blocks mean.x v2 (changed n f t) mean.has plan.object plan.seat now makes.is_new.rest few makes.is_new.rest_is mean.none puts same_used refl (sym mean.area) (λ k. ap (λ (uses : ℕ → Bool). put m true uses k) (sym mean.in_use))
 
   module _ (node : Node) (is : t.nodes n ≡ Some node) (node_links : node.links ≡ dir.inode.nlink) (path : List (List ℕ)) (space : Room) (fresh : IsFresh (room v) t space.inode)
       (place : new_place t path ≡ Ok (place_at n name)) (not_full : too_many plan.object (links_of t n) ≡ false) (long : is_short space 12 ≡ false) (number : space.inode ≡ Some m) (not_deep : space.deep n name ≡ false) where
@@ -153,12 +159,12 @@ module _ (blocks : ℕ) (v : Volume) (con : IsConsistent (readers blocks) v) (di
     same : Same u (tree_on r v2)
     same = same_tree u (tree_on r v2) tree_is
 
-    kept : IsConsistentTree (room v) (tree_on r v2)
-    kept = outcomes.kept (room v) t (tree_on r v2) con.tree space fresh path now u same plan.object outcome
+    kept_in : IsConsistentTree (room v) (tree_on r v2)
+    kept_in = outcomes.kept (room v) t (tree_on r v2) con.tree space fresh path now u same plan.object outcome
+
+    kept : IsConsistentTree (room v2) (tree_on r v2)
+    kept = subst (λ (k : ℕ). IsConsistentTree (32 * k) (tree_on r v2)) (sym mean.room) kept_in
 
     pub whole : IsDone blocks v (after_call blocks tx v) (λ t. plain_of plan.object space t path now)
-    whole = done_after blocks tx v v2 (λ t. plain_of plan.object space t path now) refl (sym extents) refl (λ b. refl)
+    whole = done_after blocks tx v v2 (λ t. plain_of plan.object space t path now) refl (mean.extents ∙ sym (lines_extents blocks v.page plan.page makes.more tx v.extents makes.lines)) refl (λ b. refl)
         (record { tree = u; outcome = outcome; same = same; consistent = record { sound = has2.sound; inodes = has2.inodes; tree = kept } })
-      where
-        extents : extents_after tx v.extents ≡ v.extents
-        extents = (moves blocks v.page dir name plan free left tx makes).extents_stay v.extents

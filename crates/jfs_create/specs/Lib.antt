@@ -1,5 +1,6 @@
 -- what the clauses say
 pub mod New
+pub mod Extent
 pub mod Makes
 pub mod Look
 pub mod Seat

@@ -1,5 +1,5 @@
 -- An object is made with blocks that are reserved for it.
-use Rattle.std.specs.Prelude.{◌≡◌, ◌⊎◌, ◌<◌, ℕ, true, nat_lt, if◌then◌else◌, List, Result, Ok, Err}
+use Rattle.std.specs.Prelude.{◌≡◌, ◌⊎◌, ◌<◌, ℕ, true, nat_lt, if◌then◌else◌, List, None, Result, Ok, Err}
 use Rattle.jfs_bits.specs.declared.descriptor.Moment.{Moment}
 use Rattle.jfs_bits.specs.declared.descriptor.Pxd.{Pxd}
 use Rattle.jfs_disk.specs.declared.disk.Fault.{Fault}
@@ -62,7 +62,7 @@ NotMade blocks pages dir name plan before NeedsExtent = ⊥
 -- ---- the whole call, on any volume
 
 abbrev pub plan_for : NewObject → Seated → Moment → Plan
-plan_for object seated now = record { object = object; seat = seated.seat; page = seated.page; now = now }
+plan_for object seated now = record { object = object; seat = seated.seat; page = seated.page; extent = None; now = now }
 
 -- The object is made in the directory of the path's last name, with the number that was looked for.
 pub record IsMade (blocks : ℕ) (pages : ℕ → List ℕ) (inodes : Inodes) (path : List (List ℕ)) (object : NewObject) (now : Moment) (before after : Blocks) (tx : List Edit) : Type 0 where

@@ -61,6 +61,7 @@ pub fn make_object<V: PageView>(
         object,
         seat: seated.seat,
         page: seated.page,
+        extent: None,
         now,
     };
     let name = &path[path.len() - 1];

@@ -2,6 +2,7 @@
 #![tactic(auto)]
 
 mod calls;
+mod extent;
 mod looks;
 mod make;
 mod new;
@@ -9,6 +10,7 @@ mod reserve;
 mod seats;
 
 pub use calls::{create, make_directory, make_link, make_object};
+pub use extent::NewExtent;
 pub use looks::{Seen, look};
 pub use make::Plan;
 pub use new::{NewObject, Seat, new_inode};

@@ -1,6 +1,6 @@
 //! The edits that make an object.
 
-ghost use Rattle.std.specs.Prelude.{◌≡◌, ◌<◌, ◌≤◌, ◌+◌, ℕ, length, OnOk, IfOk, IfErr};
+ghost use Rattle.std.specs.Prelude.{◌≡◌, ◌<◌, ◌≤◌, ◌+◌, ℕ, length, OnOk, IfOk, IfErr, IfSome};
 ghost use Rattle.jfs_bits.specs.Descriptor.{FitsPxd};
 ghost use Rattle.jfs_disk.specs.Image.{page_of};
 ghost use Rattle.jfs_inode.specs.Inode.{FitsDinode};
@@ -9,8 +9,9 @@ ghost use Rattle.jfs_tree.specs.Fresh.{blocks_of};
 ghost use Rattle.jfs_way.specs.Answer.{Carries};
 ghost use Rattle.jfs_steps.specs.Gains.{GainRefused, TakesFront};
 ghost use Rattle.jfs_create.specs.New.{FitsNew};
-ghost use Rattle.jfs_create.specs.Makes.{Makes, links_after, gain_of};
+ghost use Rattle.jfs_create.specs.Makes.{Makes, FitsExtent, IsBetween, links_after, gain_of};
 
+use crate::extent::{NewExtent, tell_extent};
 use crate::new::{NewObject, Seat, new_inode};
 use jfs_bits::{Moment, PxdList};
 use jfs_name::Name;
@@ -18,7 +19,7 @@ use jfs_plain::Refusal;
 use jfs_ranges::{PageView, Tx};
 use jfs_steps::{Gain, gain_name, put_inode};
 use jfs_way::Held;
-use std::alloc::Global;
+use std::alloc::{AllocError, Global};
 
 /// An object that is to be made: what it is, where its inode stands, and when it is made.
 #[derive(Clone, Copy)]
@@ -27,10 +28,12 @@ pub struct Plan<'a> {
     pub seat: Seat,
     /// The page on which its inode stands.
     pub page: u32,
+    /// The inode extent that is made for it, if one is.
+    pub extent: Option<NewExtent>,
     pub now: Moment,
 }
 
-/// The edits that make an object with this name in a directory: the directory's tree and inode, then the object's inode. Blocks for the tree are taken from `fresh`. A refusal is that of
+/// The edits that make an object with this name in a directory: the directory's tree and inode, a new inode extent if there is one, and the object's inode. Blocks for the tree are taken from `fresh`. A refusal is that of
 /// `gain_name`.
 pub(crate) fn make<V: PageView>(
     alloc: Global,
@@ -46,6 +49,7 @@ pub(crate) fn make<V: PageView>(
     requires object { FitsNew plan.object }
     requires extent { FitsPxd plan.seat.extent }
     requires page { plan.page < V.PageView.block_count view.old }
+    requires new { IfSome plan.extent FitsExtent }
     requires name { length name.now ≤ 255 }
     requires enough { 8 ≤ length (blocks_of fresh.old) }
     requires within { AllBelow (V.PageView.block_count view.old) (blocks_of fresh.old) }
@@ -67,10 +71,25 @@ pub(crate) fn make<V: PageView>(
         Ok(()) => {}
         Err(e) => return Err(e),
     }
+    match tell_between(alloc, plan.extent, &mut tx) {
+        Ok(()) => {}
+        Err(_) => return Err(Refusal::OutOfMemory),
+    }
     let d = new_inode(plan.object, plan.seat, plan.now);
     match put_inode(alloc, view, plan.page, plan.seat.number, &d, &mut tx) {
         Ok(()) => Ok(tx),
         Err(e) => Err(e),
+    }
+}
+
+/// Tells a new inode extent, if there is one.
+fn tell_between(alloc: Global, extent: Option<NewExtent>, tx: &mut Tx) -> Result<(), AllocError>
+    requires { IfSome extent FitsExtent }
+    ensures { OnOk result (IsBetween extent tx.old tx.new) }
+{
+    match extent {
+        None => Ok(()),
+        Some(extent) => tell_extent(alloc, extent, tx),
     }
 }
 

@@ -35,7 +35,7 @@ pub struct Seat {
 const FILESET: u32 = 16;
 
 /// A descriptor of attributes that aren't there.
-const NO_DATA: Dxd = Dxd {
+pub(crate) const NO_DATA: Dxd = Dxd {
     flag: 0,
     size: 0,
     at: Pxd { len: 0, addr: 0 },

@@ -1,6 +1,6 @@
 //! Blocks are reserved for an object, and its edits are made.
 
-ghost use Rattle.std.specs.Prelude.{◌≡◌, ◌<◌, ◌≤◌, ◌+◌, length, OnErr, IfOk, IfErr};
+ghost use Rattle.std.specs.Prelude.{◌≡◌, ◌<◌, ◌≤◌, ◌+◌, length, None, OnErr, IfOk, IfErr};
 ghost use Rattle.jfs_bits.specs.Descriptor.{FitsPxd};
 ghost use Rattle.jfs_disk.specs.Image.{page_of};
 ghost use Rattle.jfs_room.specs.Laws.{blocks_in};
@@ -47,6 +47,7 @@ pub(crate) fn make_reserved<V: PageView>(
     requires object { FitsNew plan.object }
     requires extent { FitsPxd plan.seat.extent }
     requires page { plan.page < V.PageView.block_count view.old }
+    requires none { plan.extent ≡ None }
     requires name { length name.now ≤ 255 }
     ensures image { V.PageView.tells → V.PageView.image view.new ≡ V.PageView.image view.old }
     ensures count_of_blocks { V.PageView.block_count view.new ≡ V.PageView.block_count view.old }
