@@ -33,3 +33,11 @@ pub fn is_row(owners: &Owners, row: &[u8]) -> bool {
     }
     true
 }
+
+/// How many owners a block has: 0, 1, or 2 for two and more; 3 for one behind the last.
+pub fn owners_at(owners: &Owners, b: u32) -> u32 {
+    if b >= owners.blocks() {
+        return 3;
+    }
+    u32::from(owners.is_owned(b)) + u32::from(owners.is_shared(b))
+}

@@ -1,6 +1,6 @@
 //! Runs that overlap, that end at words, and that lie behind the last block.
 
-use crate::counted::{is_row, owners_of};
+use crate::counted::{is_row, owners_at, owners_of};
 use jfs_bits::Pxd;
 use jfs_owners::Owners;
 use std::alloc::AllocError;
@@ -60,9 +60,10 @@ fn runs_over_and_over(rt: HostRuntime) -> Result<(), AllocError> {
     }
     // the first 700 blocks were named by each third run, and all but these by each
     assert!(rt; owners.free() == 0);
-    assert!(rt; owners.is_shared(0) && owners.is_shared(blocks - 1));
+    assert_eq!(rt; owners_at(&owners, 0), 2);
+    assert_eq!(rt; owners_at(&owners, blocks - 1), 2);
     owners.add(Pxd { len: 5, addr: 3 });
-    assert!(rt; owners.is_shared(4));
+    assert_eq!(rt; owners_at(&owners, 4), 2);
     Ok(())
 }
 
@@ -80,8 +81,9 @@ fn a_group_with_an_end(rt: HostRuntime) -> Result<(), AllocError> {
         len: 1,
         addr: 4_000,
     });
-    assert!(rt; !owners.is_owned(999) && owners.is_shared(1_000) && owners.is_shared(3_999));
-    assert!(rt; owners.is_owned(4_000) && !owners.is_shared(4_000) && !owners.is_owned(4_001));
+    for (b, count) in [(999, 0), (1_000, 2), (3_999, 2), (4_000, 1), (4_001, 0)] {
+        assert_eq!(rt; owners_at(&owners, b), count);
+    }
     assert!(rt; owners.free() == 1_999);
     Ok(())
 }
