@@ -2,4 +2,3 @@ pub mod Plain
 pub mod Steps
 pub mod Asks
 pub mod Whole
-pub mod Asked

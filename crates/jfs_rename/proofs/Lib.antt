@@ -4,3 +4,4 @@ pub mod Between
 pub mod Back
 pub mod Balanced
 pub mod Whole
+pub mod Asks

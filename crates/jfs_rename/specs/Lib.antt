@@ -1,3 +1,4 @@
 -- what the clauses say
 pub mod Moves
 pub mod Laws
+pub mod Asks
