@@ -1,7 +1,6 @@
 -- A link among the calls.
-use Rattle.std.proofs.Common.{◌≡◌, ◌≤◌, refl, sym, ap, ap₂, ◌∙◌, subst, ℕ, ◌+◌, Bool, true, false, true≢false, ◌||◌, nat_lt, if◌then◌else◌, List, [], Result, Ok, Err, arith}
+use Rattle.std.proofs.Common.{◌≡◌, ◌≤◌, refl, sym, ap, ap₂, ◌∙◌, ℕ, ◌+◌, Bool, true, false, true≢false, ◌||◌, nat_lt, if◌then◌else◌, List, [], Result, Ok, Err, arith}
 use Rattle.std.proofs.lemmas.Bool.Decides.{nat_tests}
-use Rattle.jfs_bits.specs.declared.descriptor.Pxd.{Pxd}
 use Rattle.jfs_imap.specs.Inodes.{Inodes}
 use Rattle.jfs_bmap.specs.States.{BlockState, Reserved, Blocks, unowned_count, is_in_list, changed}
 use Rattle.jfs_bmap.proofs.Puts.{in_list-none}
@@ -18,12 +17,11 @@ use Rattle.jfs_steps.specs.After.{takes}
 use Rattle.jfs_steps.specs.Place.{last_of, new_place_of}
 use Rattle.jfs_room.specs.Laws.{NoneReserved}
 use Rattle.jfs_claim.specs.Look.{space_for}
-use Rattle.jfs_claim.specs.Take.{reserving, Lacks}
-use Rattle.jfs_claim.specs.declared.reserve.Want.{Want}
+use Rattle.jfs_claim.specs.Take.{Lacks}
 use Rattle.jfs_claim.proofs.Looks.{settled_is_enough}
 use Rattle.jfs_link.specs.Link.{ReservesTaken, want_of_name, unless_full, unless_deep, joint_of, asked_of, asked}
 use Rattle.jfs_link.specs.declared.asking.Joint.{Joint}
-use Rattle.jfs_files.specs.Outcome.{reserved_by, IsBusyFor}
+use Rattle.jfs_files.specs.Outcome.{reserved_by, TakesFree, IsBusyFor}
 use Rattle.jfs_files.specs.declared.outcome.Maps.{Maps}
 
 -- ---- the blocks that are reserved
@@ -34,8 +32,12 @@ taken_reserved before now tx r = r.2.now_is ∙ ap (λ (change : ℕ → BlockSt
     same : (b : ℕ) (s : BlockState) → (if is_in_list [] b || nat_lt 0 (count_in b r.0) then Reserved else s) ≡ (if nat_lt 0 (takes tx b) then Reserved else s)
     same b s = ap₂ (λ (x : Bool) (n : ℕ). if x || nat_lt 0 n then Reserved else s) (in_list-none b) (sym (r.1 b))
 
-pub maps_after : (maps new : Maps) (now : Blocks) (tx : List Edit) → ReservesTaken maps.blocks now tx → new ≡ record maps { blocks = now } → new ≡ record maps { blocks = reserved_by tx maps.blocks }
-maps_after maps new now tx r e = e ∙ ap (λ (m : Blocks). record maps { blocks = m }) (taken_reserved maps.blocks now tx r)
+pub maps_after : (maps new : Maps) (now : Blocks) (tx : List Edit) → ReservesTaken maps.blocks now tx → new ≡ record maps { blocks = now } → TakesFree maps new tx
+maps_after maps new now tx r e = record {
+  free = λ b l. r.2.free b (let k = r.1 b in omega (arith, l, k));
+  once = λ b. (let k = r.1 b in let o = r.2.once b in omega (arith, k, o));
+  now_is = e ∙ ap (λ (m : Blocks). record maps { blocks = m }) (taken_reserved maps.blocks now tx r);
+}
 
 -- ---- what stands between
 
@@ -75,5 +77,5 @@ module _ (blocks : ℕ) (pages : ℕ → List ℕ) (map : Blocks) (inodes : Inod
           let space = both_ok (space_for (unowned_count map) need_of_name) (λ it. and_then (unless_deep blocks pages (last_of to) few.0) (λ dir. Ok (joint_of object dir))) joint few.2 in
           enough_for (unowned_count map) space.0 space.1
 
-  pub busy_between : (joint : Joint) × (asked blocks pages map inodes from to ≡ Ok joint) → Lacks map want_of_name → NoneReserved map → (want : Want) × IsBusyFor map want
-  busy_between asks lacks none = (want_of_name, (lacks, settled_is_enough map want_of_name none (let l = looked asks.0 asks.1 in omega (arith, l)) (λ run. absurd (true≢false (sym run)))))
+  pub busy_between : (joint : Joint) × (asked blocks pages map inodes from to ≡ Ok joint) → Lacks map want_of_name → NoneReserved map → IsBusyFor map want_of_name
+  busy_between asks lacks none = (lacks, settled_is_enough map want_of_name none (let l = looked asks.0 asks.1 in omega (arith, l)) (λ run. absurd (true≢false (sym run))))

@@ -1,5 +1,5 @@
 -- Calls that take a name away take no block.
-use Rattle.std.proofs.Common.{◌≡◌, refl, sym, subst, ℕ, Bool, true, false, List, [], ◌++◌, nat_le}
+use Rattle.std.proofs.Common.{◌≡◌, refl, sym, subst, ℕ, Bool, true, false, List, [], ◌++◌}
 use Rattle.jfs_bits.specs.declared.descriptor.Moment.{Moment}
 use Rattle.jfs_bits.specs.declared.rule.PageKind.TheVariants.{Xtree, Dtree}
 use Rattle.jfs_inode.specs.declared.fields.Dinode.{Dinode}

@@ -1,5 +1,5 @@
 -- What is told is the plain step's reply; and a change of an inode takes no block.
-use Rattle.std.proofs.Common.{◌≡◌, ◌<◌, refl, sym, ap, ◌∙◌, subst, ℕ, nat_lt, if◌then◌else◌, List, [], Ok}
+use Rattle.std.proofs.Common.{arith, ◌≡◌, ◌<◌, refl, sym, ap, ◌∙◌, subst, ℕ, nat_lt, if◌then◌else◌, List, [], Ok}
 use Rattle.jfs_name.specs.declared.name.NameEntry.{NameEntry}
 use Rattle.jfs_bmap.specs.States.{BlockState, Reserved, Blocks, state_of}
 use Rattle.jfs_bmap.proofs.States.{same_blocks, changed-at, changed-length}
@@ -16,7 +16,7 @@ use Rattle.jfs_steps.proofs.After.{lines_alone, lines_leave}
 use Rattle.jfs_look.specs.Look.{IsAttr, IsNames}
 use Rattle.jfs_read.specs.Read.{IsBytes}
 use Rattle.jfs_readlink.specs.Target.{IsTarget}
-use Rattle.jfs_files.specs.Outcome.{reserved_by}
+use Rattle.jfs_files.specs.Outcome.{reserved_by, TakesFree}
 use Rattle.jfs_files.specs.declared.outcome.Maps.{Maps}
 
 module _ (t : Tree) (plain : Outcome) where
@@ -43,8 +43,12 @@ takes_nothing tx map none =
     same_blocks (reserved_by tx map) map (changed-length change map)
     (λ b l. changed-at change map b (subst (λ (k : ℕ). b < k) (changed-length change map) l) ∙ ap (λ (k : ℕ). if nat_lt 0 k then Reserved else state_of map b) (none b)) refl refl
 
-pub leaves_maps : (tx : List Edit) (maps : Maps) → ((b : ℕ) → takes tx b ≡ 0) → maps ≡ record maps { blocks = reserved_by tx maps.blocks }
-leaves_maps tx maps none = sym (ap (λ (map : Blocks). record maps { blocks = map }) (takes_nothing tx maps.blocks none))
+pub leaves_maps : (tx : List Edit) (maps : Maps) → ((b : ℕ) → takes tx b ≡ 0) → TakesFree maps maps tx
+leaves_maps tx maps none = record {
+  free = λ b l. absurd (let k = none b in omega (arith, l, k));
+  once = λ b. (let k = none b in omega (arith, k));
+  now_is = sym (ap (λ (map : Blocks). record maps { blocks = map }) (takes_nothing tx maps.blocks none));
+}
 
-pub lines_take_nothing : (blocks : ℕ) (pages : ℕ → List ℕ) (page : ℕ) (tx : List Edit) (maps : Maps) → TellsLines blocks pages page [] tx → maps ≡ record maps { blocks = reserved_by tx maps.blocks }
+pub lines_take_nothing : (blocks : ℕ) (pages : ℕ → List ℕ) (page : ℕ) (tx : List Edit) (maps : Maps) → TellsLines blocks pages page [] tx → TakesFree maps maps tx
 lines_take_nothing blocks pages page tx maps tells = leaves_maps tx maps (lines_alone tx (lines_leave blocks pages page [] tx tt tells)).takes_none

@@ -1,9 +1,11 @@
 -- What a file call answers, said once for all calls.
-use Rattle.std.specs.Prelude.{◌≡◌, ◌⊎◌, ℕ, true, nat_lt, if◌then◌else◌, List, [], length, Ok, Err}
+use Rattle.std.specs.Prelude.{◌≡◌, ◌⊎◌, ◌<◌, ◌≤◌, ℕ, true, false, nat_lt, if◌then◌else◌, List, [], Ok, Err}
 use Rattle.jfs_disk.specs.declared.disk.Fault.{Fault}
 use Rattle.jfs_super.specs.Geometry.{file_limit_of}
-use Rattle.jfs_bmap.specs.States.{Blocks, Reserved, changed, all_settled}
+use Rattle.jfs_bmap.specs.States.{Blocks, Free, Reserved, state_of, changed, all_settled}
 use Rattle.jfs_ranges.specs.declared.edit.Edit.{Edit}
+use Rattle.jfs_plain.specs.declared.call.Call.{Call}
+use Rattle.jfs_plain.specs.declared.call.Call.TheVariants as calls
 use Rattle.jfs_plain.specs.Tree.{Tree}
 use Rattle.jfs_plain.specs.Step.{Room, Outcome}
 use Rattle.jfs_plain.specs.declared.reply.Reply.{Reply}
@@ -20,6 +22,7 @@ use Rattle.jfs_steps.specs.Call.{IsDone}
 use Rattle.jfs_claim.specs.Look.{IsAtRest}
 use Rattle.jfs_claim.specs.Take.{Lacks, HasFree}
 use Rattle.jfs_claim.specs.declared.reserve.Want.{Want}
+use Rattle.jfs_link.specs.Link.{want_of_name}
 use Rattle.jfs_files.specs.declared.outcome.Maps.{Maps}
 use Rattle.jfs_files.specs.declared.outcome.FileOutcome.{FileOutcome}
 use Rattle.jfs_files.specs.declared.outcome.FileOutcome.TheVariants.{Changed, Same, NeedsLog}
@@ -41,9 +44,14 @@ CarriesOutcome before now _ = now ≡ before
 abbrev pub reserved_by : List Edit → Blocks → Blocks
 reserved_by tx map = changed (λ b s. if nat_lt 0 (takes tx b) then Reserved else s) map
 
--- Nothing of the maps changes but for these blocks.
+-- Each of them was free, and is taken once. Nothing else of the maps changes.
+pub record TakesFree (old new : Maps) (tx : List Edit) : Type 0 where
+  pub free : (b : ℕ) → 0 < takes tx b → state_of old.blocks b ≡ Free
+  pub once : (b : ℕ) → takes tx b ≤ 1
+  pub now_is : new ≡ record old { blocks = reserved_by tx old.blocks }
+
 abbrev pub MapsAfter : Maps → Maps → FileOutcome → Type 0
-MapsAfter old new (Changed tx blocks) = new ≡ record old { blocks = reserved_by tx old.blocks }
+MapsAfter old new (Changed tx blocks) = TakesFree old new tx
 MapsAfter old new _ = new ≡ old
 
 -- ---- on a consistent volume
@@ -67,12 +75,20 @@ abbrev pub IsReply : Tree → Outcome → Reply → Type 0
 IsReply t plain (Refused why) = (plain ≡ Err why) ⊎ (is_open why ≡ true)
 IsReply t plain reply = plain ≡ Ok (reply, t)
 
+-- What a call wants reserved: a link eight blocks, one by one; no other call that stands wants any.
+abbrev pub nothing : Want
+nothing = record { run = false; blocks = 0 }
+
+abbrev pub wanted : Call → Want
+wanted (calls.Link from to) = want_of_name
+wanted _ = nothing
+
 -- Busy blocks alone stand between a call and its blocks: what it wants isn't free, and is once they are settled.
 abbrev pub IsBusyFor : Blocks → Want → Type 0
 IsBusyFor map want = Lacks map want × HasFree (all_settled map) want
 
 -- The plain step is taken, whose tree the volume after the transaction has; or the reply is the plain step's; or busy blocks stand in between. No call that stands so far writes blocks of files.
-abbrev pub AnswersAs : ℕ → Blocks → Volume → (Tree → Outcome) → FileOutcome → Type 0
-AnswersAs blocks map v plain (Changed tx written) = IsDone blocks v (after_call blocks tx v) plain × (written ≡ [])
-AnswersAs blocks map v plain (Same reply) = IsReply (tree_on (readers blocks) v) (plain (tree_on (readers blocks) v)) reply
-AnswersAs blocks map v plain NeedsLog = (want : Want) × IsBusyFor map want
+abbrev pub AnswersAs : ℕ → Blocks → Volume → Want → (Tree → Outcome) → FileOutcome → Type 0
+AnswersAs blocks map v want plain (Changed tx written) = IsDone blocks v (after_call blocks tx v) plain × (written ≡ [])
+AnswersAs blocks map v want plain (Same reply) = IsReply (tree_on (readers blocks) v) (plain (tree_on (readers blocks) v)) reply
+AnswersAs blocks map v want plain NeedsLog = IsBusyFor map want

@@ -4,7 +4,7 @@ ghost use Rattle.std.specs.Prelude.{◌≡◌, true, length};
 ghost use Rattle.jfs_disk.specs.Image.{page_of};
 ghost use Rattle.jfs_plain.specs.Limits.{FitsRequest, FitsPath, FitsMode};
 ghost use Rattle.jfs_plain.specs.Step.{outcome, chmod};
-ghost use Rattle.jfs_files.specs.Outcome.{CarriesOutcome, MapsAfter, IfMounted, AnswersAs};
+ghost use Rattle.jfs_files.specs.Outcome.{CarriesOutcome, MapsAfter, IfMounted, AnswersAs, wanted, nothing};
 ghost use Rattle.jfs_files.specs.Meets.{stands, Meets, MeetsMode};
 
 use crate::link::link_outcome;
@@ -38,7 +38,7 @@ pub fn file_call<V: PageView>(
     ensures maps { V.PageView.tells → MapsAfter maps.old maps.new result }
     // On a consistent volume it is the plain step of its tree.
     ensures follows { V.PageView.tells → IfMounted (V.PageView.block_count view.old) (page_of (V.PageView.image view.old)) maps.old (λ v room.
-        AnswersAs (V.PageView.block_count view.old) maps.old.blocks v (λ t. outcome room t request.now.call now) result) }
+        AnswersAs (V.PageView.block_count view.old) maps.old.blocks v (wanted request.now.call) (λ t. outcome room t request.now.call now) result) }
     // On any volume it is what the pages on the call's ways give, and the first of them that breaks a rule is named.
     ensures meets { V.PageView.tells → Meets (V.PageView.block_count view.old) (page_of (V.PageView.image view.old)) maps.old request.now.call now result }
 {
@@ -79,7 +79,7 @@ fn mode_outcome<V: PageView>(
     ensures fault { CarriesOutcome (V.PageView.faults view.old) (V.PageView.faults view.new) result }
     ensures maps { V.PageView.tells → MapsAfter maps.now maps.now result }
     ensures follows { V.PageView.tells → IfMounted (V.PageView.block_count view.old) (page_of (V.PageView.image view.old)) maps.now (λ v room.
-        AnswersAs (V.PageView.block_count view.old) maps.now.blocks v (λ t. chmod t path.now mode now) result) }
+        AnswersAs (V.PageView.block_count view.old) maps.now.blocks v nothing (λ t. chmod t path.now mode now) result) }
     ensures meets { V.PageView.tells → MeetsMode (V.PageView.block_count view.old) (page_of (V.PageView.image view.old)) maps.now.inodes path.now mode now result }
 {
     match change_mode(alloc, view, &maps.inodes, path.as_slice(), mode, now) {

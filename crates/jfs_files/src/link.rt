@@ -5,6 +5,7 @@ ghost use Rattle.jfs_disk.specs.Image.{page_of};
 ghost use Rattle.jfs_plain.specs.Limits.{FitsPath};
 ghost use Rattle.jfs_plain.specs.Step.{link};
 ghost use Rattle.jfs_files.specs.Outcome.{CarriesOutcome, MapsAfter, IfMounted, AnswersAs};
+ghost use Rattle.jfs_link.specs.Link.{want_of_name};
 ghost use Rattle.jfs_files.specs.Meets.{MeetsLink};
 
 use crate::outcome::{DataList, FileOutcome, Maps};
@@ -33,7 +34,7 @@ pub(crate) fn link_outcome<V: PageView>(
     ensures fault { CarriesOutcome (V.PageView.faults view.old) (V.PageView.faults view.new) result }
     ensures maps { V.PageView.tells → MapsAfter maps.old maps.new result }
     ensures follows { V.PageView.tells → IfMounted (V.PageView.block_count view.old) (page_of (V.PageView.image view.old)) maps.old (λ v room.
-        AnswersAs (V.PageView.block_count view.old) maps.old.blocks v (λ t. link room t from.now to.now now) result) }
+        AnswersAs (V.PageView.block_count view.old) maps.old.blocks v want_of_name (λ t. link room t from.now to.now now) result) }
     ensures meets { V.PageView.tells → MeetsLink (V.PageView.block_count view.old) (page_of (V.PageView.image view.old)) maps.old from.now to.now now result }
 {
     let linked = link(

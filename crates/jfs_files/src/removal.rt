@@ -5,7 +5,7 @@ ghost use Rattle.jfs_disk.specs.Image.{page_of};
 ghost use Rattle.jfs_plain.specs.Limits.{FitsPath};
 ghost use Rattle.jfs_plain.specs.Step.{unlink, rmdir};
 ghost use Rattle.jfs_unlink.specs.Call.{Unlinks, unlink_of, Removes, rmdir_of};
-ghost use Rattle.jfs_files.specs.Outcome.{CarriesOutcome, MapsAfter, IfMounted, AnswersAs};
+ghost use Rattle.jfs_files.specs.Outcome.{CarriesOutcome, MapsAfter, IfMounted, AnswersAs, nothing};
 ghost use Rattle.jfs_files.specs.Meets.{MeetsChange};
 
 use crate::outcome::{DataList, FileOutcome, Maps};
@@ -32,7 +32,7 @@ pub(crate) fn unlink_outcome<V: PageView>(
     ensures fault { CarriesOutcome (V.PageView.faults view.old) (V.PageView.faults view.new) result }
     ensures maps { V.PageView.tells → MapsAfter maps.now maps.now result }
     ensures follows { V.PageView.tells → IfMounted (V.PageView.block_count view.old) (page_of (V.PageView.image view.old)) maps.now (λ v room.
-        AnswersAs (V.PageView.block_count view.old) maps.now.blocks v (λ t. unlink room t path.now now) result) }
+        AnswersAs (V.PageView.block_count view.old) maps.now.blocks v nothing (λ t. unlink room t path.now now) result) }
     ensures meets { V.PageView.tells → MeetsChange (Unlinks (V.PageView.block_count view.old) (page_of (V.PageView.image view.old)) maps.now.inodes path.now maps.now.file_limit now)
         (unlink_of (V.PageView.block_count view.old) (page_of (V.PageView.image view.old)) maps.now.inodes path.now maps.now.file_limit) result }
 {
@@ -62,7 +62,7 @@ pub(crate) fn rmdir_outcome<V: PageView>(
     ensures fault { CarriesOutcome (V.PageView.faults view.old) (V.PageView.faults view.new) result }
     ensures maps { V.PageView.tells → MapsAfter maps.now maps.now result }
     ensures follows { V.PageView.tells → IfMounted (V.PageView.block_count view.old) (page_of (V.PageView.image view.old)) maps.now (λ v room.
-        AnswersAs (V.PageView.block_count view.old) maps.now.blocks v (λ t. rmdir t path.now now) result) }
+        AnswersAs (V.PageView.block_count view.old) maps.now.blocks v nothing (λ t. rmdir t path.now now) result) }
     ensures meets { V.PageView.tells → MeetsChange (Removes (V.PageView.block_count view.old) (page_of (V.PageView.image view.old)) maps.now.inodes path.now now)
         (rmdir_of (V.PageView.block_count view.old) (page_of (V.PageView.image view.old)) maps.now.inodes path.now) result }
 {

@@ -1,11 +1,10 @@
-use Rattle.std.proofs.Common.{ap, subst, ℕ, List, Ok, Err}
+use Rattle.std.proofs.Common.{refl, subst, ℕ, List, Ok, Err}
 use Rattle.jfs_disk.specs.Image.{page_of}
-use Rattle.jfs_bmap.specs.States.{Blocks}
 use Rattle.jfs_plain.specs.Step.{link}
 use Rattle.jfs_link.specs.Link.{StepsBy, MapAfter, LinksAs}
 use Rattle.jfs_link.specs.declared.linking.Linked.{Linked}
 use Rattle.jfs_files.proofs.Paths.{short_names}
-use Rattle.jfs_files.proofs.Links.{taken_reserved, busy_between}
+use Rattle.jfs_files.proofs.Links.{maps_after, busy_between}
 use Rattle.jfs_files.proofs.link.link_outcome.Goals as goal
 
 pub link-linked-requires-clause-from : goal.link-linked-requires-clause-from
@@ -20,7 +19,7 @@ returns-in-Ok-Done-clause-maps g c tells =
     let pages = page_of (g.V.PageView.image c.args.view.now) in
     let maps = c.args.maps.now in
     let steps = subst (λ (x : Linked). StepsBy blocks pages maps.blocks c.link-linked.new.blocks maps.inodes (λ room t. link room t c.as_slice.result.now c.as_slice-2.result.now c.args.now) (Ok x)) c.in-Ok-Done.field-0-is (c.in-Ok-Done.ensures.steps tells) in
-    ap (λ (m : Blocks). record maps { blocks = m }) (taken_reserved maps.blocks c.link-linked.new.blocks c.in-Ok-Done.tx steps.1)
+    maps_after maps _ c.link-linked.new.blocks c.in-Ok-Done.tx steps.1 refl
 
 pub returns-in-Ok-Done-clause-follows : goal.returns-in-Ok-Done-clause-follows
 returns-in-Ok-Done-clause-follows g c tells between area con log_pages limit =
