@@ -16,7 +16,7 @@ use Rattle.jfs_way.specs.Volume.{volume_of, PlacesWithin}
 use Rattle.jfs_way.specs.Walk.{IfConsistent, tree_in}
 use Rattle.jfs_steps.specs.Place.{last_of}
 use Rattle.jfs_loss.specs.Causes.{freed_from, lost_from}
-use Rattle.jfs_unlink.specs.Call.{is_last_of_big, bare_at, TakesName, Unlinks, StepsOn}
+use Rattle.jfs_unlink.specs.Call.{is_last_of_big, bare_at, TakesName, Unlinks, StepsOn, FreesOnceOn}
 use Rattle.jfs_unlink.specs.Ends.{AreHeld, AreShown, AreEnds, FollowsEnds, MeetsEnds}
 use Rattle.jfs_unlink.specs.Gone.{DropsNamed, LeavesNamed, StaysNamed}
 use Rattle.jfs_unlink.specs.declared.ends.Ends.{Ends}
@@ -60,19 +60,31 @@ module _ (blocks : ℕ) (pages : ℕ → List ℕ) (inodes : Inodes) (path : Lis
   module _ (space : Room) (limit : ℕ) (same : space.limit ≡ limit) (file : has_names e.at.inode ≡ false) (small : is_last_of_big limit e.at.inode ≡ false) where
     pub unlink_drops : nat_le e.at.inode.nlink 1 ≡ true → (name : List ℕ) → name ≡ last_of path → (r : Result (List Edit) Refusal) → IfOk r (DropsNamed blocks pages e name e.dir.inode.nlink now) → IfErr r (StaysNamed blocks pages e name)
         → StepsOn blocks pages inodes (λ t. unlink space t path now) r
-    unlink_drops l name is (Ok tx) drops stays = λ within area map many con. unlink_goes blocks pages has.whole area map inodes many con path has.some e has.held has.shown (has.follows within area map con) now space limit same file small l tx (subst (λ (x : List ℕ). DropsNamed blocks pages e x e.dir.inode.nlink now tx) is drops)
+    unlink_drops l name is (Ok tx) drops stays = λ within area map many con. (unlink_goes blocks pages has.whole area map inodes many con path has.some e has.held has.shown (has.follows within area map con) now space limit same file small l tx (subst (λ (x : List ℕ). DropsNamed blocks pages e x e.dir.inode.nlink now tx) is drops)).0
     unlink_drops l name is (Err why) drops stays = λ within area map con. inr (keeps_open area map within con why (subst (λ (x : List ℕ). StaysNamed blocks pages e x why) is stays))
+
+    pub drops_once : nat_le e.at.inode.nlink 1 ≡ true → (name : List ℕ) → name ≡ last_of path → (r : Result (List Edit) Refusal) → IfOk r (DropsNamed blocks pages e name e.dir.inode.nlink now) → IfOk r (FreesOnceOn blocks pages inodes)
+    drops_once l name is (Ok tx) drops = λ within area map many con. (unlink_goes blocks pages has.whole area map inodes many con path has.some e has.held has.shown (has.follows within area map con) now space limit same file small l tx (subst (λ (x : List ℕ). DropsNamed blocks pages e x e.dir.inode.nlink now tx) is drops)).1
+    drops_once l name is (Err why) drops = tt
+
+    pub leaves_once : nat_le e.at.inode.nlink 1 ≡ false → (name : List ℕ) → name ≡ last_of path → (r : Result (List Edit) Refusal) → IfOk r (LeavesNamed blocks pages e name now) → IfOk r (FreesOnceOn blocks pages inodes)
+    leaves_once l name is (Ok tx) leaves = λ within area map many con. (unlink_falls blocks pages has.whole area map inodes many con path has.some e has.held has.shown (has.follows within area map con) now space limit same file small l tx (subst (λ (x : List ℕ). LeavesNamed blocks pages e x now tx) is leaves)).1
+    leaves_once l name is (Err why) leaves = tt
 
     pub unlink_leaves : nat_le e.at.inode.nlink 1 ≡ false → (name : List ℕ) → name ≡ last_of path → (r : Result (List Edit) Refusal) → IfOk r (LeavesNamed blocks pages e name now) → IfErr r (λ why. Answers (lost_from blocks pages e.dir name) (Err why))
         → StepsOn blocks pages inodes (λ t. unlink space t path now) r
-    unlink_leaves l name is (Ok tx) leaves stays = λ within area map many con. unlink_falls blocks pages has.whole area map inodes many con path has.some e has.held has.shown (has.follows within area map con) now space limit same file small l tx (subst (λ (x : List ℕ). LeavesNamed blocks pages e x now tx) is leaves)
+    unlink_leaves l name is (Ok tx) leaves stays = λ within area map many con. (unlink_falls blocks pages has.whole area map inodes many con path has.some e has.held has.shown (has.follows within area map con) now space limit same file small l tx (subst (λ (x : List ℕ). LeavesNamed blocks pages e x now tx) is leaves)).0
     unlink_leaves l name is (Err why) leaves stays = λ within area map con. inr (only_open blocks pages inodes e.dir e.at (last_of path) has.meets.1 why (subst (λ (x : List ℕ). Answers (lost_from blocks pages e.dir x) (Err why)) is stays))
 
   module _ (dir : has_names e.at.inode ≡ true) where
     pub rmdir_drops : bare_at e.at (root_node blocks (root_of e.at.inode)) ≡ Ok e.at → (name : List ℕ) → name ≡ last_of path → (r : Result (List Edit) Refusal) → IfOk r (DropsNamed blocks pages e name (e.dir.inode.nlink - 1) now) → IfErr r (StaysNamed blocks pages e name)
         → StepsOn blocks pages inodes (λ t. rmdir t path now) r
-    rmdir_drops bare name is (Ok tx) drops stays = λ within area map many con. rmdir_goes blocks pages has.whole area map inodes many con path has.some e has.held has.shown (has.follows within area map con) now dir (bare_spelled blocks pages e.at (root_of e.at.inode) bare) tx (subst (λ (x : List ℕ). DropsNamed blocks pages e x (e.dir.inode.nlink - 1) now tx) is drops)
+    rmdir_drops bare name is (Ok tx) drops stays = λ within area map many con. (rmdir_goes blocks pages has.whole area map inodes many con path has.some e has.held has.shown (has.follows within area map con) now dir (bare_spelled blocks pages e.at (root_of e.at.inode) bare) tx (subst (λ (x : List ℕ). DropsNamed blocks pages e x (e.dir.inode.nlink - 1) now tx) is drops)).0
     rmdir_drops bare name is (Err why) drops stays = λ within area map con. inr (keeps_open area map within con why (subst (λ (x : List ℕ). StaysNamed blocks pages e x why) is stays))
+
+    pub removes_once : bare_at e.at (root_node blocks (root_of e.at.inode)) ≡ Ok e.at → (name : List ℕ) → name ≡ last_of path → (r : Result (List Edit) Refusal) → IfOk r (DropsNamed blocks pages e name (e.dir.inode.nlink - 1) now) → IfOk r (FreesOnceOn blocks pages inodes)
+    removes_once bare name is (Ok tx) drops = λ within area map many con. (rmdir_goes blocks pages has.whole area map inodes many con path has.some e has.held has.shown (has.follows within area map con) now dir (bare_spelled blocks pages e.at (root_of e.at.inode) bare) tx (subst (λ (x : List ℕ). DropsNamed blocks pages e x (e.dir.inode.nlink - 1) now tx) is drops)).1
+    removes_once bare name is (Err why) drops = tt
 
     pub rmdir_full : (why : Refusal) → bare_at e.at (root_node blocks (root_of e.at.inode)) ≡ Err why → IfConsistent blocks pages inodes (λ t. (rmdir t path now ≡ Err why) ⊎ (is_open why ≡ true))
     rmdir_full why kept within area map con = inl (rmdir_no_full blocks pages has.whole area map inodes con path has.some e has.held has.shown ends now dir

@@ -34,7 +34,7 @@ use Rattle.jfs_lead_steps.proofs.Turned.{turns}
 use Rattle.jfs_steps.specs.Put.{AddsInode, TellsLines}
 use Rattle.jfs_steps.specs.Place.{last_of}
 use Rattle.jfs_steps.specs.After.{used_after, extents_after, after_call}
-use Rattle.jfs_steps.specs.Laws.{TakesAndFrees}
+use Rattle.jfs_steps.specs.Laws.{TakesAndFrees, IsFair}
 use Rattle.jfs_steps.specs.Call.{IsDone}
 use Rattle.jfs_steps.proofs.After.{done_after}
 use Rattle.jfs_steps.proofs.Sets.{lines_move}
@@ -49,7 +49,7 @@ use Rattle.jfs_unlink.specs.Gone.{DropsNamed, LeavesNamed}
 use Rattle.jfs_unlink.specs.declared.ends.Ends.{Ends}
 use Rattle.jfs_unlink.proofs.Ended.{used_within, is_living, few, root_is, dir_is, directory, names_it, may, node_m, object_found, placed, same_inode, reached, IsNodeOf}
 use Rattle.jfs_unlink.proofs.Plain.{begins, same_after, still_consistent, unlink_last, unlink_other, rmdir_is}
-use Rattle.jfs_unlink.proofs.Unnamed.{has_dropped, fallen_volume, has_fallen, used_fallen, extents_stay}
+use Rattle.jfs_unlink.proofs.Unnamed.{fair, has_dropped, fallen_volume, has_fallen, used_fallen, extents_stay}
 
 -- a call that looks at the limit alone
 abbrev space : ℕ → Room
@@ -127,9 +127,14 @@ module _ (blocks : ℕ) (pages : ℕ → List ℕ) (whole : (b : ℕ) → b < bl
         first loses.mid lost tx stays before moves held_m loses.root loses.inode loses.width loses.parent loses.removes loses.tells (loses.puts (map extent_place inodes.extents) (stood blocks pages area bm inodes con e.dir held.0 shown.0 ends.in_tree)) loses.lines
         (puts (map extent_place inodes.extents) (stood blocks pages area bm inodes con e.at held.1 shown.1 ends.there)) lines
 
+    is_fair : IsFair tx v.used
+    is_fair = fair blocks v t start (used_within blocks pages area bm inodes con many) whole n e.dir.page dd was_n dir_n loses.size es es_are m e.at.page md after_m was_m other (last_of path) links fewer few_left live now
+        first loses.mid lost tx stays before moves held_m loses.root loses.inode loses.width loses.parent loses.removes loses.tells (loses.puts (map extent_place inodes.extents) (stood blocks pages area bm inodes con e.dir held.0 shown.0 ends.in_tree)) loses.lines
+        (puts (map extent_place inodes.extents) (stood blocks pages area bm inodes con e.at held.1 shown.1 ends.there)) lines
+
     -- the object goes
-    goes : after_m ≡ gone md → ((b : ℕ) → count_in b before ≡ holds r (objects r v m) b) → (limit : ℕ) (call : Call) → outcome (space limit) t call now ≡ Ok (Done, dropped m t1) → IsDone blocks v (after_call blocks tx v) (λ t. outcome (space limit) t call now)
-    goes dead all limit call is = done_on w tx limit call (dropped m t1) is has refl refl refl extents_are (λ b. refl)
+    goes : after_m ≡ gone md → ((b : ℕ) → count_in b before ≡ holds r (objects r v m) b) → (limit : ℕ) (call : Call) → outcome (space limit) t call now ≡ Ok (Done, dropped m t1) → IsDone blocks v (after_call blocks tx v) (λ t. outcome (space limit) t call now) × IsFair tx v.used
+    goes dead all limit call is = (done_on w tx limit call (dropped m t1) is has refl refl refl extents_are (λ b. refl), is_fair)
       where
         w : Volume
         w = record v { page = put_tx blocks tx pages; used = used_after tx v.used; in_use = put m false (put n true v.in_use) }
@@ -141,8 +146,8 @@ module _ (blocks : ℕ) (pages : ℕ → List ℕ) (whole : (b : ℕ) → b < bl
 
     -- it stays, with one link less
     falls_one : after_m ≡ fallen md now → is_live m (fallen md now) ≡ true → before ≡ [] → (limit : ℕ) (call : Call) → outcome (space limit) t call now ≡ Ok (Done, changed m (λ o. stamped now (falls o)) t1)
-        → IsDone blocks v (after_call blocks tx v) (λ t. outcome (space limit) t call now)
-    falls_one fall live_m none limit call is = done_on w tx limit call (changed m (λ o. stamped now (falls o)) t1) is has refl refl refl extents_are used
+        → IsDone blocks v (after_call blocks tx v) (λ t. outcome (space limit) t call now) × IsFair tx v.used
+    falls_one fall live_m none limit call is = (done_on w tx limit call (changed m (λ o. stamped now (falls o)) t1) is has refl refl refl extents_are used, is_fair)
       where
         few_m : md.nlink - 1 ≤ 65535
         few_m = let f = few blocks pages area bm inodes con e.at held.1 shown.1 ends.there in omega (arith, f)
@@ -184,7 +189,7 @@ module _ (blocks : ℕ) (pages : ℕ → List ℕ) (whole : (b : ℕ) → b < bl
     is_small : is_last_of_big space_now.limit node.node ≡ false
     is_small = node.big file space_now.limit ∙ ap (λ (l : ℕ). call.is_last_of_big l md) same_limit ∙ small
 
-    pub unlink_goes : nat_le md.nlink 1 ≡ true → (tx : List Edit) → DropsNamed blocks pages e (last_of path) dd.nlink now tx → IsDone blocks v (after_call blocks tx v) (λ t. unlink space_now t path now)
+    pub unlink_goes : nat_le md.nlink 1 ≡ true → (tx : List Edit) → DropsNamed blocks pages e (last_of path) dd.nlink now tx → IsDone blocks v (after_call blocks tx v) (λ t. unlink space_now t path now) × IsFair tx v.used
     unlink_goes l tx d = goes apart (λ k. k) few_n live_n d.freed d.lost tx d.loses (gone md) d.puts d.lines f.stays f.freed f.moves (λ b. (let a = f.all b in omega (arith, a))) refl f.all space_now.limit (calls.Unlink path)
         (unlink_last t path n m (last_of path) now node.node (object_found blocks pages area bm inodes con path some e held shown ends) (placed blocks pages area bm inodes con path some e held shown ends)
         (space space_now.limit) (node.dir ∙ file) is_small (ap (λ (k : ℕ). nat_le k 1) node.links ∙ l))
@@ -192,7 +197,7 @@ module _ (blocks : ℕ) (pages : ℕ → List ℕ) (whole : (b : ℕ) → b < bl
         f : IsFreed blocks pages (holds r (objects r v m)) d.freed
         f = freed_by (λ h. absurd (true≢false (sym h ∙ file))) d.freed d.frees
 
-    pub unlink_falls : nat_le md.nlink 1 ≡ false → (tx : List Edit) → LeavesNamed blocks pages e (last_of path) now tx → IsDone blocks v (after_call blocks tx v) (λ t. unlink space_now t path now)
+    pub unlink_falls : nat_le md.nlink 1 ≡ false → (tx : List Edit) → LeavesNamed blocks pages e (last_of path) now tx → IsDone blocks v (after_call blocks tx v) (λ t. unlink space_now t path now) × IsFair tx v.used
     unlink_falls l tx d = falls_one apart (λ k. k) few_n live_n [] d.lost tx d.loses (fallen md now) d.puts d.lines (λ b l. refl) [] (lines_move [] tt) (λ b. omega arith) refl (more_live m md.nlink l) refl space_now.limit (calls.Unlink path)
         (unlink_other t path n m (last_of path) now node.node (object_found blocks pages area bm inodes con path some e held shown ends) (placed blocks pages area bm inodes con path some e held shown ends)
         (space space_now.limit) (node.dir ∙ file) is_small (ap (λ (k : ℕ). nat_le k 1) node.links ∙ l))
@@ -229,7 +234,7 @@ module _ (blocks : ℕ) (pages : ℕ → List ℕ) (whole : (b : ℕ) → b < bl
         still : (n k : ℕ) → 2 ≤ k → (nat_lt n 4 || not (k - 1 == 0)) ≡ true
         still n k l = grind (arith, nat_tests, l)
 
-    pub rmdir_goes : (tx : List Edit) → DropsNamed blocks pages e (last_of path) (dd.nlink - 1) now tx → IsDone blocks v (after_call blocks tx v) (λ t. rmdir t path now)
+    pub rmdir_goes : (tx : List Edit) → DropsNamed blocks pages e (last_of path) (dd.nlink - 1) now tx → IsDone blocks v (after_call blocks tx v) (λ t. rmdir t path now) × IsFair tx v.used
     rmdir_goes tx d = goes away (λ k. k - 1) (let h = few_n in omega (arith, h)) live_less d.freed d.lost tx d.loses (gone md) d.puts d.lines f.stays f.freed f.moves (λ b. (let a = f.all b in omega (arith, a))) refl f.all 0 (calls.Rmdir path)
         (rmdir_is t path n m (last_of path) now node.node (object_found blocks pages area bm inodes con path some e held shown ends) (placed blocks pages area bm inodes con path some e held shown ends)
         (ne_eqb (length path) 0 (λ h. absurd (omega (arith, some, h)))) (node.dir ∙ dir) (ap (λ (k : ℕ). not (k == 0)) no_names))

@@ -126,7 +126,8 @@ module _ (blocks : ℕ) (v : Volume) (t : Tree) (has : HasTree (readers blocks) 
   used_freed : (b : ℕ) → 0 < count_in b freed → v.used b ≡ true
   used_freed b l = once.in_use n b (let d = dir_freed b in omega (arith, d, l))
 
-  fair : IsFair tx v.used
+  -- the transaction frees blocks in use, each once, and takes none
+  pub fair : IsFair tx v.used
   fair = record {
     fresh = λ b l. absurd (let z = tx_moves.taken_are b in omega (arith, z, l));
     owned = λ b l. elim (zero_or_more (count_in b before)) [

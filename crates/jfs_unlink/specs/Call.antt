@@ -25,6 +25,7 @@ use Rattle.jfs_way.specs.declared.object.Held.{Held}
 use Rattle.jfs_unlink.specs.declared.ends.Ends.{Ends}
 use Rattle.jfs_steps.specs.Place.{last_of}
 use Rattle.jfs_steps.specs.After.{after_call}
+use Rattle.jfs_steps.specs.Laws.{IsFair}
 use Rattle.jfs_steps.specs.Call.{IsDone}
 use Rattle.jfs_unlink.specs.Ends.{MeetsEnds}
 use Rattle.jfs_unlink.specs.Gone.{DropsNamed, LeavesNamed}
@@ -84,3 +85,7 @@ abbrev pub StepsOn : ℕ → (ℕ → List ℕ) → Inodes → (Tree → Outcome
 StepsOn blocks pages inodes plain (Ok tx) = PlacesWithin blocks inodes → (area : ℕ → ℕ) (map : Blocks) → length map.states ≡ blocks → IsConsistent (readers blocks) (volume_of pages area map inodes)
     → IsDone blocks (volume_of pages area map inodes) (after_call blocks tx (volume_of pages area map inodes)) plain
 StepsOn blocks pages inodes plain (Err why) = IfConsistent blocks pages inodes (λ t. (plain t ≡ Err why) ⊎ (is_open why ≡ true))
+
+-- On a consistent volume the transaction frees blocks in use alone, each once.
+abbrev pub FreesOnceOn : ℕ → (ℕ → List ℕ) → Inodes → List Edit → Type 0
+FreesOnceOn blocks pages inodes tx = PlacesWithin blocks inodes → (area : ℕ → ℕ) (map : Blocks) → length map.states ≡ blocks → IsConsistent (readers blocks) (volume_of pages area map inodes) → IsFair tx (volume_of pages area map inodes).used

@@ -4,7 +4,7 @@ ghost use Rattle.std.specs.Prelude.{◌≡◌, ◌≤◌, ◌<◌, ℕ, [], leng
 ghost use Rattle.jfs_disk.specs.Image.{page_of};
 ghost use Rattle.jfs_plain.specs.Step.{Room, unlink};
 ghost use Rattle.jfs_way.specs.Answer.{Carries, Answers};
-ghost use Rattle.jfs_unlink.specs.Call.{is_last_of_big, unlink_of, Unlinks, StepsOn};
+ghost use Rattle.jfs_unlink.specs.Call.{is_last_of_big, unlink_of, Unlinks, StepsOn, FreesOnceOn};
 
 use crate::ends::find_ends;
 use crate::gone::{drop_named, leave_named};
@@ -38,6 +38,7 @@ pub fn unlink<V: PageView>(
     ensures meets { V.PageView.tells → IfErr result (λ why. Answers (unlink_of (V.PageView.block_count view.old) (page_of (V.PageView.image view.old)) inodes.now path.now limit) (Err why)) }
     // On a consistent volume the transaction takes the plain step: with the last name all that the object had is free, each block once.
     ensures steps { V.PageView.tells → (room : Room) → room.limit ≡ limit → StepsOn (V.PageView.block_count view.old) (page_of (V.PageView.image view.old)) inodes.now (λ t. unlink room t path.now now) result }
+    ensures once { V.PageView.tells → IfOk result (FreesOnceOn (V.PageView.block_count view.old) (page_of (V.PageView.image view.old)) inodes.now) }
 {
     if path.is_empty() {
         return Err(Refusal::IsDir);

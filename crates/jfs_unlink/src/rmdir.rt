@@ -6,7 +6,7 @@ ghost use Rattle.jfs_dtree.specs.Spells.{root_node};
 ghost use Rattle.jfs_meaning.specs.Readers.{root_of};
 ghost use Rattle.jfs_plain.specs.Step.{rmdir};
 ghost use Rattle.jfs_way.specs.Answer.{Carries, Answers};
-ghost use Rattle.jfs_unlink.specs.Call.{IsBare, rmdir_of, Removes, StepsOn};
+ghost use Rattle.jfs_unlink.specs.Call.{IsBare, rmdir_of, Removes, StepsOn, FreesOnceOn};
 
 use crate::ends::find_ends;
 use crate::gone::drop_named;
@@ -42,6 +42,7 @@ pub fn remove_directory<V: PageView>(
     ensures meets { V.PageView.tells → IfErr result (λ why. Answers (rmdir_of (V.PageView.block_count view.old) (page_of (V.PageView.image view.old)) inodes.now path.now) (Err why)) }
     // On a consistent volume the transaction takes the plain step.
     ensures steps { V.PageView.tells → StepsOn (V.PageView.block_count view.old) (page_of (V.PageView.image view.old)) inodes.now (λ t. rmdir t path.now now) result }
+    ensures once { V.PageView.tells → IfOk result (FreesOnceOn (V.PageView.block_count view.old) (page_of (V.PageView.image view.old)) inodes.now) }
 {
     if path.is_empty() {
         return Err(Refusal::IntoItself);
