@@ -100,7 +100,7 @@ fn check_loan<'a, D: Disk>(
 ///
 /// The disk failed, or memory ran out. Two kinds of volumes are answered as want of memory, so the pages that a check asks for are bounded by the volume: one whose inode map has
 /// more than 128 pages and one for each 64 blocks, as where they name one extent over and over; and one of which more pages would be asked for than eight times its blocks, as
-/// where the roots of many inodes name one tree. The blocks that extents name are counted without a bound.
+/// where the roots of many inodes name one tree. Groups of blocks that all have two owners are passed over.
 pub fn check<D: Disk>(alloc: Global, disk: &mut D, s: &Super) -> Result<Checked, CheckError>
     requires accepted { IsAccepted s.now (D.page_count disk.old) }
     ensures findings { IfOk result (λ c. D.tells → AreFindings (subject_of s.now (page_of (D.image disk.old))) c.findings.items) }
