@@ -3,9 +3,9 @@
 ghost use Rattle.std.specs.Prelude.{◌≡◌, ◌≤◌, ◌<◌, ℕ, [], true, false, length, get_or, IfOk, IfErr};
 ghost use Rattle.jfs_disk.specs.Image.{page_of};
 ghost use Rattle.jfs_objects.specs.Objects.{has_names};
-ghost use Rattle.jfs_way.specs.Answer.{Carries};
+ghost use Rattle.jfs_way.specs.Answer.{Carries, Answers};
 ghost use Rattle.jfs_way.specs.Walk.{IsHeld, IsShown};
-ghost use Rattle.jfs_link.specs.Link.{MayLink, RefusesLink, IfConsistentBy};
+ghost use Rattle.jfs_link.specs.Link.{MayLink, RefusesLink, IfConsistentBy, asked};
 
 use jfs_bmap::BlockMap;
 use jfs_claim::look_for_space;
@@ -58,6 +58,8 @@ pub fn ask<V: PageView>(
     // On a consistent volume it is what the plain step asks.
     ensures allowed { V.PageView.tells → IfOk result (λ joint. IfConsistentBy (V.PageView.block_count view.old) (page_of (V.PageView.image view.old)) blocks.now inodes.now (MayLink from.now to.now joint.object joint.dir)) }
     ensures refused { V.PageView.tells → IfErr result (λ why. IfConsistentBy (V.PageView.block_count view.old) (page_of (V.PageView.image view.old)) blocks.now inodes.now (RefusesLink from.now to.now why)) }
+    // On any volume it is what the pages on both ways give, and the first of them that breaks a rule is named.
+    ensures meets { V.PageView.tells → Answers (asked (V.PageView.block_count view.old) (page_of (V.PageView.image view.old)) blocks.now inodes.now from.now to.now) result }
 {
     let object = match walk(view, inodes, from) {
         Ok(object) => object,

@@ -4,7 +4,7 @@ ghost use Rattle.std.specs.Prelude.{◌≡◌, ◌≤◌, ◌<◌, ℕ, [], leng
 ghost use Rattle.jfs_disk.specs.Image.{page_of};
 ghost use Rattle.jfs_plain.specs.Step.{link};
 ghost use Rattle.jfs_way.specs.Answer.{Carries};
-ghost use Rattle.jfs_link.specs.Link.{StepsBy, MapAfter};
+ghost use Rattle.jfs_link.specs.Link.{StepsBy, MapAfter, LinksAs};
 
 use crate::asking::ask;
 use crate::joining::join;
@@ -47,6 +47,8 @@ pub fn link<V: PageView>(
     ensures map { MapAfter blocks.old blocks.new result }
     // On a consistent volume the transaction takes the plain step.
     ensures steps { V.PageView.tells → StepsBy (V.PageView.block_count view.old) (page_of (V.PageView.image view.old)) blocks.old blocks.new inodes.now (λ room t. link room t from.now to.now now) result }
+    // On any volume it is done as asked, by its two steps; a refusal has its cause.
+    ensures meets { V.PageView.tells → LinksAs (V.PageView.block_count view.old) (page_of (V.PageView.image view.old)) blocks.old inodes.now from.now to.now now result }
 {
     let joint = match ask(view, blocks, inodes, from, to) {
         Ok(joint) => joint,

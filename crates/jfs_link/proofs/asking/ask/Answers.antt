@@ -1,10 +1,11 @@
-use Rattle.std.proofs.Common.{◌∙◌, sym, Ok, Err}
+use Rattle.std.proofs.Common.{◌∙◌, sym, inl, Ok, Err}
 use Rattle.jfs_disk.specs.Image.{page_of}
 use Rattle.jfs_meaning.specs.Readers.{readers}
 use Rattle.jfs_meaning.specs.Room.{room_on}
 use Rattle.jfs_steps.specs.Place.{last_of}
 use Rattle.jfs_way.specs.Volume.{volume_of}
 use Rattle.jfs_link.proofs.Asks.{space_by, deep_by, directory_refused, place_refused, links_refused, space_refused, depth_refused, may_link, last_is, not_full}
+use Rattle.jfs_link.proofs.Asked.{asked_deep, asked_is}
 use Rattle.jfs_link.proofs.asking.ask.Goals as goal
 
 pub returns-then-has_names-clause-refused : goal.returns-then-has_names-clause-refused
@@ -41,3 +42,15 @@ returns-in-Ok-false-clause-allowed g c tells within area con log_pages =
     (sym c.has_names.ensures ∙ c.if-has_names.false) c.in-Ok-new_place.dir (rw (c.walk.ensures.count_of_blocks, c.walk.ensures.image tells) at (c.in-Ok-new_place.ensures.follows tells) within area c.args.blocks.now con) (rw (c.walk.ensures.count_of_blocks, c.walk.ensures.image tells) at (c.in-Ok-new_place.ensures.follows tells) within area c.args.blocks.now con).2.1
     (space_by (g.V.PageView.block_count c.args.view.now) (page_of (g.V.PageView.image c.args.view.now)) area c.args.blocks.now c.args.inodes.now c.requires.size con (Ok tt) c.in-Ok-look_for_space.ensures.room log_pages)
     (deep_by (g.V.PageView.block_count c.args.view.now) (page_of (g.V.PageView.image c.args.view.now)) area c.args.blocks.now c.args.inodes.now con c.in-Ok-new_place.dir (rw c.walk.ensures.count_of_blocks at c.in-Ok-new_place.ensures.held) (rw (c.walk.ensures.image tells) at (c.in-Ok-new_place.ensures.shown tells)) (rw (c.walk.ensures.count_of_blocks, c.walk.ensures.image tells) at (c.in-Ok-new_place.ensures.follows tells) within area c.args.blocks.now con).2.1 c.in-Ok-new_place.ensures.directory (last_of c.args.to.now) c.in-Ok-false.field-0 (rw (c.new_place.ensures.count_of_blocks, c.new_place.ensures.image tells, c.walk.ensures.count_of_blocks, c.walk.ensures.image tells, c.root_in.ensures.root, last_is c.args.to.now c.index-to-to.result c.in-Ok-new_place.ensures.some c.index-to-to.is) at (c.in-Ok-false.ensures.deep tells)) log_pages ∙ c.in-Ok-false.field-0-test)
+
+pub returns-in-Ok-true-clause-meets : goal.returns-in-Ok-true-clause-meets
+returns-in-Ok-true-clause-meets g c tells = inl (asked_deep (g.V.PageView.block_count c.args.view.now) (page_of (g.V.PageView.image c.args.view.now)) c.args.blocks.now c.args.inodes.now c.args.from.now c.args.to.now c.in-Ok.object c.in-Ok-new_place.dir
+    (c.in-Ok.ensures.meets tells) (sym c.has_names.ensures ∙ c.if-has_names.false) (rw (c.walk.ensures.count_of_blocks, c.walk.ensures.image tells) at (c.in-Ok-new_place.ensures.meets tells))
+    (not_full c.in-Ok.object.inode.nlink c.if-object-ge-MOST_LINKS.false) (sym c.in-Ok-look_for_space.ensures.exactly)
+    (sym (rw (c.new_place.ensures.count_of_blocks, c.new_place.ensures.image tells, c.walk.ensures.count_of_blocks, c.walk.ensures.image tells, c.root_in.ensures.root, last_is c.args.to.now c.index-to-to.result c.in-Ok-new_place.ensures.some c.index-to-to.is) at (c.in-Ok-true.ensures.on_way tells)) ∙ c.in-Ok-true.field-0-test))
+
+pub returns-in-Ok-false-clause-meets : goal.returns-in-Ok-false-clause-meets
+returns-in-Ok-false-clause-meets g c tells = asked_is (g.V.PageView.block_count c.args.view.now) (page_of (g.V.PageView.image c.args.view.now)) c.args.blocks.now c.args.inodes.now c.args.from.now c.args.to.now c.in-Ok.object c.in-Ok-new_place.dir
+    (c.in-Ok.ensures.meets tells) (sym c.has_names.ensures ∙ c.if-has_names.false) (rw (c.walk.ensures.count_of_blocks, c.walk.ensures.image tells) at (c.in-Ok-new_place.ensures.meets tells))
+    (not_full c.in-Ok.object.inode.nlink c.if-object-ge-MOST_LINKS.false) (sym c.in-Ok-look_for_space.ensures.exactly)
+    (sym (rw (c.new_place.ensures.count_of_blocks, c.new_place.ensures.image tells, c.walk.ensures.count_of_blocks, c.walk.ensures.image tells, c.root_in.ensures.root, last_is c.args.to.now c.index-to-to.result c.in-Ok-new_place.ensures.some c.index-to-to.is) at (c.in-Ok-false.ensures.on_way tells)) ∙ c.in-Ok-false.field-0-test)

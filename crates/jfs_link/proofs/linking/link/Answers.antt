@@ -18,6 +18,7 @@ use Rattle.jfs_link.specs.Link.{RefusesLink}
 use Rattle.jfs_link.specs.Joins.{JoinRefused}
 use Rattle.jfs_link.proofs.Asks.{last_is, back}
 use Rattle.jfs_link.proofs.Whole.{link_done, join_open, joins_move}
+use Rattle.jfs_link.proofs.Asked.{reserves_free}
 use Rattle.jfs_link.proofs.linking.link.Goals as goal
 
 no_run : (m : Blocks) (run : Option Pxd) → IsRun m false run → run_list run ≡ []
@@ -42,8 +43,9 @@ returns-in-Ok-join-clause-steps g c tells =
       (
         j.gains.edits.0,
         (joins_move (g.V.PageView.block_count c.args.view.now) (page_of (g.V.PageView.image c.args.view.now)) c.in-Ok.joint.object c.in-Ok.joint.dir (last_of c.args.to.now) c.args.now c.in-Ok-take.claim.fresh c.join.new.fresh c.in-Ok-join.tx j).taken_are,
-        c.settle.ensures c.args.blocks.now j.gains.edits.0 (record { reserves = c.in-Ok-take.ensures.claims.reserves; parts = ap blocks_of (sym c.in-Ok-take.ensures.claims.all_left) ∙ j.gains.edits.1 })
-            ∙ ap (λ (runs : List Pxd). reserving runs j.gains.edits.0 c.args.blocks.now) (no_run c.args.blocks.now c.in-Ok-take.claim.run c.in-Ok-take.ensures.claims.run),
+        reserves_free c.args.blocks.now c.take.new.map c.in-Ok-take.claim j.gains.edits.0 c.join.new.fresh c.in-Ok-take.ensures.claims.reserves (no_run c.args.blocks.now c.in-Ok-take.claim.run c.in-Ok-take.ensures.claims.run) c.in-Ok-take.ensures.claims.all_left c.in-Ok-take.ensures.fresh j.gains.edits.1
+            (c.settle.ensures c.args.blocks.now j.gains.edits.0 (record { reserves = c.in-Ok-take.ensures.claims.reserves; parts = ap blocks_of (sym c.in-Ok-take.ensures.claims.all_left) ∙ j.gains.edits.1 })
+            ∙ ap (λ (runs : List Pxd). reserving runs j.gains.edits.0 c.args.blocks.now) (no_run c.args.blocks.now c.in-Ok-take.claim.run c.in-Ok-take.ensures.claims.run)),
       ),
     )
 
@@ -55,3 +57,22 @@ returns-clause-steps g c tells within area con log_pages =
     c.in-Err-join.e (back (λ b pages name. JoinRefused b pages c.in-Ok.joint.object c.in-Ok.joint.dir name c.args.now c.in-Ok-take.claim.fresh c.in-Err-join.e)
     (g.V.PageView.block_count c.args.view.now) (g.V.PageView.block_count c.ask.new.view) (g.V.PageView.image c.args.view.now) (g.V.PageView.image c.ask.new.view) (last_of c.args.to.now) c.index-to-to.result
     c.ask.ensures.count_of_blocks (c.ask.ensures.image tells) (last_is c.args.to.now c.index-to-to.result c.in-Ok.ensures.some c.index-to-to.is) (c.in-Err-join.ensures.refused tells)))
+
+pub returns-in-Ok-join-clause-map : goal.returns-in-Ok-join-clause-map
+returns-in-Ok-join-clause-map g c =
+    let front = c.in-Ok-join.ensures.front in (
+      front.0,
+      reserves_free c.args.blocks.now c.take.new.map c.in-Ok-take.claim front.0 c.join.new.fresh c.in-Ok-take.ensures.claims.reserves (no_run c.args.blocks.now c.in-Ok-take.claim.run c.in-Ok-take.ensures.claims.run) c.in-Ok-take.ensures.claims.all_left c.in-Ok-take.ensures.fresh front.1
+          (c.settle.ensures c.args.blocks.now front.0 (record { reserves = c.in-Ok-take.ensures.claims.reserves; parts = ap blocks_of (sym c.in-Ok-take.ensures.claims.all_left) ∙ front.1 })
+          ∙ ap (λ (runs : List Pxd). reserving runs front.0 c.args.blocks.now) (no_run c.args.blocks.now c.in-Ok-take.claim.run c.in-Ok-take.ensures.claims.run)),
+    )
+
+pub returns-clause-meets : goal.returns-clause-meets
+returns-clause-meets g c tells = inr (inl (
+  c.in-Ok.joint,
+  c.in-Ok.ensures.meets tells,
+  c.in-Ok-take.claim.fresh,
+  back (λ b pages name. JoinRefused b pages c.in-Ok.joint.object c.in-Ok.joint.dir name c.args.now c.in-Ok-take.claim.fresh c.in-Err-join.e)
+      (g.V.PageView.block_count c.args.view.now) (g.V.PageView.block_count c.ask.new.view) (g.V.PageView.image c.args.view.now) (g.V.PageView.image c.ask.new.view) (last_of c.args.to.now) c.index-to-to.result
+      c.ask.ensures.count_of_blocks (c.ask.ensures.image tells) (last_is c.args.to.now c.index-to-to.result c.in-Ok.ensures.some c.index-to-to.is) (c.in-Err-join.ensures.refused tells),
+))
