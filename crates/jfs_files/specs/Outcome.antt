@@ -22,7 +22,7 @@ use Rattle.jfs_steps.specs.Call.{IsDone}
 use Rattle.jfs_claim.specs.Look.{IsAtRest}
 use Rattle.jfs_claim.specs.Take.{Lacks, HasFree}
 use Rattle.jfs_claim.specs.declared.reserve.Want.{Want}
-use Rattle.jfs_link.specs.Link.{want_of_name}
+use Rattle.jfs_link.specs.Link.{want_of_name, ReservesFree}
 use Rattle.jfs_files.specs.declared.outcome.Maps.{Maps}
 use Rattle.jfs_files.specs.declared.outcome.FileOutcome.{FileOutcome}
 use Rattle.jfs_files.specs.declared.outcome.FileOutcome.TheVariants.{Changed, Same, NeedsLog}
@@ -53,6 +53,14 @@ pub record TakesFree (old new : Maps) (tx : List Edit) : Type 0 where
 abbrev pub MapsAfter : Maps → Maps → FileOutcome → Type 0
 MapsAfter old new (Changed tx blocks) = TakesFree old new tx
 MapsAfter old new _ = new ≡ old
+
+-- Of every view: without a transaction nothing changes; with one, blocks that were free are reserved, each once, and nothing else changes.
+abbrev pub ReservesAlone : Maps → Maps → Type 0
+ReservesAlone old new = (taken : List ℕ) × ReservesFree old.blocks new.blocks taken × (new ≡ record old { blocks = new.blocks })
+
+abbrev pub KeepsMaps : Maps → Maps → FileOutcome → Type 0
+KeepsMaps old new (Changed tx blocks) = (new ≡ old) ⊎ ReservesAlone old new
+KeepsMaps old new _ = new ≡ old
 
 -- ---- on a consistent volume
 

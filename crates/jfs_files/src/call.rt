@@ -4,7 +4,7 @@ ghost use Rattle.std.specs.Prelude.{◌≡◌, true, length};
 ghost use Rattle.jfs_disk.specs.Image.{page_of};
 ghost use Rattle.jfs_plain.specs.Limits.{FitsRequest, FitsPath, FitsMode};
 ghost use Rattle.jfs_plain.specs.Step.{outcome, chmod};
-ghost use Rattle.jfs_files.specs.Outcome.{CarriesOutcome, MapsAfter, IfMounted, AnswersAs, wanted, nothing};
+ghost use Rattle.jfs_files.specs.Outcome.{CarriesOutcome, KeepsMaps, MapsAfter, IfMounted, AnswersAs, wanted, nothing};
 ghost use Rattle.jfs_files.specs.Meets.{stands, Meets, MeetsMode};
 
 use crate::link::link_outcome;
@@ -34,6 +34,8 @@ pub fn file_call<V: PageView>(
     ensures count_of_blocks { V.PageView.block_count view.new ≡ V.PageView.block_count view.old }
     ensures device { V.PageView.device view.new ≡ V.PageView.device view.old }
     ensures fault { CarriesOutcome (V.PageView.faults view.old) (V.PageView.faults view.new) result }
+    // Of every view the maps change by a transaction alone, and then by blocks that were free.
+    ensures kept { KeepsMaps maps.old maps.new result }
     // Exactly the blocks that the transaction takes are reserved beside those before, and nothing else of the maps changes.
     ensures maps { V.PageView.tells → MapsAfter maps.old maps.new result }
     // On a consistent volume it is the plain step of its tree.

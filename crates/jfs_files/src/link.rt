@@ -4,7 +4,7 @@ ghost use Rattle.std.specs.Prelude.{◌≡◌, length};
 ghost use Rattle.jfs_disk.specs.Image.{page_of};
 ghost use Rattle.jfs_plain.specs.Limits.{FitsPath};
 ghost use Rattle.jfs_plain.specs.Step.{link};
-ghost use Rattle.jfs_files.specs.Outcome.{CarriesOutcome, MapsAfter, IfMounted, AnswersAs};
+ghost use Rattle.jfs_files.specs.Outcome.{CarriesOutcome, KeepsMaps, MapsAfter, IfMounted, AnswersAs};
 ghost use Rattle.jfs_link.specs.Link.{want_of_name};
 ghost use Rattle.jfs_files.specs.Meets.{MeetsLink};
 
@@ -32,6 +32,7 @@ pub(crate) fn link_outcome<V: PageView>(
     ensures count_of_blocks { V.PageView.block_count view.new ≡ V.PageView.block_count view.old }
     ensures device { V.PageView.device view.new ≡ V.PageView.device view.old }
     ensures fault { CarriesOutcome (V.PageView.faults view.old) (V.PageView.faults view.new) result }
+    ensures kept { KeepsMaps maps.old maps.new result }
     ensures maps { V.PageView.tells → MapsAfter maps.old maps.new result }
     ensures follows { V.PageView.tells → IfMounted (V.PageView.block_count view.old) (page_of (V.PageView.image view.old)) maps.old (λ v room.
         AnswersAs (V.PageView.block_count view.old) maps.old.blocks v want_of_name (λ t. link room t from.now to.now now) result) }

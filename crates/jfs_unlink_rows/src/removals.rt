@@ -1,6 +1,8 @@
 //! Directories that go.
 
-use crate::volume::{Left, directory, inodes_page, left_by, map_at, page_with, path_of, with_name};
+use crate::volume::{
+    Left, answered, directory, inodes_page, map_at, page_with, path_of, with_name,
+};
 use jfs_bits::Moment;
 use jfs_disk::{Disk, Page, Part, SureDisk};
 use jfs_format::format;
@@ -45,21 +47,14 @@ fn removed<V: PageView>(
     let Ok(path) = path_of(alloc, unit) else {
         return None;
     };
-    match remove_directory(
+    let changed = remove_directory(
         alloc,
         view,
         map,
         path.as_slice(),
         Moment { sec: 2000, nano: 9 },
-    ) {
-        Ok(tx) => {
-            if view.blocks() < 408 {
-                return None;
-            }
-            left_by(alloc, view, &tx).map(Ok)
-        }
-        Err(e) => Some(Err(e)),
-    }
+    );
+    answered(alloc, view, changed)
 }
 
 // Whether the directory has a name, which name goes, and what is left.

@@ -1,6 +1,6 @@
 //! Names of a file that go.
 
-use crate::volume::{Left, file, inodes_page, left_by, map_at, page_with, path_of, with_name};
+use crate::volume::{Left, answered, file, inodes_page, map_at, page_with, path_of, with_name};
 use jfs_bits::Moment;
 use jfs_disk::{Disk, Page, Part, SureDisk};
 use jfs_format::format;
@@ -45,22 +45,15 @@ fn unlinked<V: PageView>(
     let Ok(path) = path_of(alloc, unit) else {
         return None;
     };
-    match unlink(
+    let changed = unlink(
         alloc,
         view,
         map,
         path.as_slice(),
         limit,
         Moment { sec: 2000, nano: 9 },
-    ) {
-        Ok(tx) => {
-            if view.blocks() < 408 {
-                return None;
-            }
-            left_by(alloc, view, &tx).map(Ok)
-        }
-        Err(e) => Some(Err(e)),
-    }
+    );
+    answered(alloc, view, changed)
 }
 
 // How many links the file has, which name goes with which limit, and what is left: with its last name go five blocks of data and three of attributes.

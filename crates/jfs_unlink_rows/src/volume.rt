@@ -10,6 +10,7 @@ use jfs_imap::InodeMap;
 use jfs_inode::{Dinode, inode_in, write_dinode};
 use jfs_inode_rows::places_of;
 use jfs_name::{Name, Path};
+use jfs_plain::Refusal;
 use jfs_ranges::{Edit, PageView, Tx, apply};
 use jfs_reader::names_of;
 use std::alloc::{AllocError, Global};
@@ -147,7 +148,7 @@ pub struct Left {
     pub freed: u32,
 }
 
-pub fn left_by<V: PageView>(alloc: Global, view: &mut V, tx: &Tx) -> Option<Left>
+fn left_by<V: PageView>(alloc: Global, view: &mut V, tx: &Tx) -> Option<Left>
     requires blocks { 408 ≤ V.PageView.block_count view.old }
 {
     let mut page = inodes_page(view)?;
@@ -162,6 +163,19 @@ pub fn left_by<V: PageView>(alloc: Global, view: &mut V, tx: &Tx) -> Option<Left
             freed: freed_by(tx),
         }),
         Err(_) => None,
+    }
+}
+
+/// What a call's transaction leaves, or why it was refused.
+pub fn answered<V: PageView>(
+    alloc: Global,
+    view: &mut V,
+    changed: Result<Tx, Refusal>,
+) -> Option<Result<Left, Refusal>> {
+    match changed {
+        Ok(tx) if view.blocks() >= 408 => left_by(alloc, view, &tx).map(Ok),
+        Ok(_) => None,
+        Err(why) => Some(Err(why)),
     }
 }
 
