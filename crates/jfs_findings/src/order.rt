@@ -1,7 +1,7 @@
 //! The order of findings.
 
 ghost use Rattle.jfs_findings.specs.Findings.{Rise};
-ghost use Rattle.jfs_findings.specs.Gains.{HasSame};
+ghost use Rattle.jfs_findings.specs.Gains.{HasSame, IsCondensed};
 
 use crate::finding::Finding;
 
@@ -19,6 +19,7 @@ pub fn put_in_order(findings: &mut Vec<Finding>)
 /// are found over and over take little memory. It takes none itself.
 pub fn condense(findings: &mut Vec<Finding>, kept: &mut usize)
     ensures same { HasSame findings.old.items findings.new.items }
+    ensures few { IsCondensed findings.old.items kept.old findings.new.items kept.new }
 {
     if findings.len() / 2 > *kept && findings.len() > 1024 {
         put_in_order(findings);
