@@ -32,10 +32,10 @@ type_at x = ap (λ (k : ℕ). bit_and k 61440) (halves x) ∙ and_block 12 (x / 
     halves : (x : ℕ) → x ≡ x / 4096 * 4096 + x % 4096
     halves x = omega arith
 
-file_type : (mode : ℕ) → mode < 4096 → bit_and (0x18000 + mode) 0xf000 ≡ 0x8000
-file_type mode l = type_at (0x18000 + mode) ∙ ap (λ (k : ℕ). bit_and k 15 * 4096) (high mode l)
+file_type : (mode : ℕ) → mode < 4096 → bit_and (0x38000 + mode) 0xf000 ≡ 0x8000
+file_type mode l = type_at (0x38000 + mode) ∙ ap (λ (k : ℕ). bit_and k 15 * 4096) (high mode l)
   where
-    high : (mode : ℕ) → mode < 4096 → (0x18000 + mode) / 4096 ≡ 24
+    high : (mode : ℕ) → mode < 4096 → (0x38000 + mode) / 4096 ≡ 56
     high mode l = omega (arith, l)
 
 directory_type : (mode : ℕ) → mode < 4096 → bit_and (0x14000 + mode) 0xf000 ≡ 0x4000
@@ -44,10 +44,10 @@ directory_type mode l = type_at (0x14000 + mode) ∙ ap (λ (k : ℕ). bit_and k
     high : (mode : ℕ) → mode < 4096 → (0x14000 + mode) / 4096 ≡ 20
     high mode l = omega (arith, l)
 
-file_bits : (mode : ℕ) → mode < 4096 → bit_and (0x18000 + mode) 0xfff ≡ mode
-file_bits mode l = and_mask (0x18000 + mode) 12 ∙ low mode l
+file_bits : (mode : ℕ) → mode < 4096 → bit_and (0x38000 + mode) 0xfff ≡ mode
+file_bits mode l = and_mask (0x38000 + mode) 12 ∙ low mode l
   where
-    low : (mode : ℕ) → mode < 4096 → (0x18000 + mode) % 4096 ≡ mode
+    low : (mode : ℕ) → mode < 4096 → (0x38000 + mode) % 4096 ≡ mode
     low mode l = omega (arith, l)
 
 directory_bits : (mode : ℕ) → mode < 4096 → bit_and (0x14000 + mode) 0xfff ≡ mode
@@ -55,6 +55,15 @@ directory_bits mode l = and_mask (0x14000 + mode) 12 ∙ low mode l
   where
     low : (mode : ℕ) → mode < 4096 → (0x14000 + mode) % 4096 ≡ mode
     low mode l = omega (arith, l)
+
+-- whether attributes may stand in a link's inode or not
+link_type : (free : Bool) → bit_and (if free then 0x5a1ff else 0x1a1ff) 0xf000 ≡ 0xa000
+link_type true = refl
+link_type false = refl
+
+link_bits : (free : Bool) → bit_and (if free then 0x5a1ff else 0x1a1ff) 0xfff ≡ 0x1ff
+link_bits true = refl
+link_bits false = refl
 
 short_size : (n : ℕ) → n ≤ 255 → nat_le 256 n ≡ false
 short_size n l = grind (arith, nat_tests)
@@ -113,11 +122,11 @@ module _ (blocks : ℕ) (page : ℕ → List ℕ) (seat : Seat) (now : Moment) (
 
   link_nothing : (target : Bor (List ℕ)) → length target.now ≤ 255 → HasNothing r page (inode_with (Link target) seat now rest)
   unfolding holds spelled
-  link_nothing target few = let s = short_size (length target.now) few in record {
-    names = refl;
-    extents = rw s refl;
-    blocks = λ b. rw s (let z = either (b == no_page) 0 in omega (arith, z));
-    bytes = λ i. refl;
+  link_nothing target few = let t = link_type (nat_le (length target.now) 127) in let s = short_size (length target.now) few in record {
+    names = rw t refl;
+    extents = rw (t, s) refl;
+    blocks = λ b. rw (t, s) (let z = either (b == no_page) 0 in omega (arith, z));
+    bytes = λ i. rw t refl;
   }
 
   pub nothing : (object : NewObject) → FitsNew object → IsRest object seat.parent rest → HasNothing r page (inode_with object seat now rest)
@@ -143,7 +152,7 @@ module _ (blocks : ℕ) (page : ℕ → List ℕ) (seat : Seat) (now : Moment) (
   made_link : (target : Bor (List ℕ)) → length target.now ≤ 255 → range_of rest 128 (length target.now) ≡ target.now
       → let d = inode_with (Link target) seat now rest in node_with (spelled r page d).inode (target_in r page (spelled r page d)) [] ≡ node_for (Link target) seat.parent now
   unfolding spelled
-  made_link target few is = rw (short_target (length target.now) few, is) refl
+  made_link target few is = rw (link_type (nat_le (length target.now) 127), link_bits (nat_le (length target.now) 127), short_target (length target.now) few, is) refl
 
   made : (object : NewObject) → FitsNew object → IsRest object seat.parent rest
       → let d = inode_with object seat now rest in node_with (spelled r page d).inode (target_in r page (spelled r page d)) [] ≡ node_for object seat.parent now
@@ -176,4 +185,4 @@ pub rules_new : (object : NewObject) (seat : Seat) (now : Moment) (rest : List �
 unfolding rows
 rules_new (File mode) seat now rest few = rw (file_type mode few, number_is seat.number) refl
 rules_new (Directory mode) seat now rest few = rw (directory_type mode few, number_is seat.number) refl
-rules_new (Link target) seat now rest few = rw (number_is seat.number) refl
+rules_new (Link target) seat now rest few = rw (link_type (nat_le (length target.now) 127), number_is seat.number) refl

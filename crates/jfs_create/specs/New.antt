@@ -1,5 +1,5 @@
 -- A new object, and its inode. (JFS Layout, struct dinode.)
-use Rattle.std.specs.Prelude.{◌≡◌, ◌≤◌, ◌<◌, ℕ, ◌+◌, ◌%◌, ◌^◌, List, [], length}
+use Rattle.std.specs.Prelude.{◌≡◌, ◌≤◌, ◌<◌, ℕ, ◌+◌, ◌%◌, ◌^◌, nat_le, if◌then◌else◌, List, [], length}
 use Rattle.jfs_bits.specs.Field.{range_of}
 use Rattle.jfs_bits.specs.declared.extent.Dxd.{Dxd}
 use Rattle.jfs_bits.specs.declared.descriptor.Moment.{Moment}
@@ -23,11 +23,12 @@ FitsNew (Link target) = (0 < length target.now) × (length target.now ≤ 255)
 
 -- ---- the fields that differ by what it is
 
--- the type of the object; a link has mode 0777
+-- The type of the object. A file may have holes (0x20000), or the common checker would take away one that has. A link has mode 0777; where its target and the byte behind it reach no
+-- further than the inode's last 128 bytes, attributes may stand there (0x40000). (JFS Layout, ISPARSE, INLINEEA.)
 abbrev pub mode_of : NewObject → ℕ
-mode_of (File mode) = 0x18000 + mode
+mode_of (File mode) = 0x38000 + mode
 mode_of (Directory mode) = 0x14000 + mode
-mode_of (Link target) = 0x1a1ff
+mode_of (Link target) = if nat_le (length target.now) 127 then 0x5a1ff else 0x1a1ff
 
 -- a directory has a link of its own
 abbrev pub links_of : NewObject → ℕ

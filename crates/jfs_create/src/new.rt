@@ -34,6 +34,15 @@ pub struct Seat {
 /// The number of the fileset. (JFS Layout, FILESYSTEM_I.)
 const FILESET: u32 = 16;
 
+/// The mode bit of a file that may have holes. (JFS Layout, ISPARSE.)
+const SPARSE: u32 = 0x0002_0000;
+
+/// The mode bit of an inode whose last 128 bytes hold nothing, so that attributes may stand there. (JFS Layout, INLINEEA.)
+const SPACE_FOR_ATTRIBUTES: u32 = 0x0004_0000;
+
+/// A target of so many bytes, and the byte behind it, reach no further than byte 384 of the inode.
+const SHORT_TARGET: usize = 127;
+
 /// A descriptor of attributes that aren't there.
 pub(crate) const NO_DATA: Dxd = Dxd {
     flag: 0,
@@ -72,14 +81,17 @@ pub fn new_inode(object: NewObject<'_>, seat: Seat, now: Moment) -> Dinode
     }
 }
 
-/// The type and the permission bits; a link has mode 0777.
+/// The type and the permission bits; a file may have holes, and a link has mode 0777.
 fn mode_of(object: NewObject<'_>) -> u32
     requires { FitsNew object }
     ensures { result ≡ mode_of object.entry }
 {
     match object {
-        NewObject::File { mode } => Dinode::JOURNALLED + Dinode::REGULAR + mode,
+        NewObject::File { mode } => Dinode::JOURNALLED + SPARSE + Dinode::REGULAR + mode,
         NewObject::Directory { mode } => Dinode::JOURNALLED + Dinode::DIRECTORY + mode,
+        NewObject::Link { target } if target.len() <= SHORT_TARGET => {
+            Dinode::JOURNALLED + SPACE_FOR_ATTRIBUTES + Dinode::LINK + 0o777
+        }
         NewObject::Link { .. } => Dinode::JOURNALLED + Dinode::LINK + 0o777,
     }
 }
