@@ -1,0 +1,4 @@
+-- what the clauses say
+pub mod After
+pub mod File
+pub mod Laws
