@@ -1,5 +1,5 @@
 -- A regular file whose extents, size and data are others.
-use Rattle.std.proofs.Common.{◌≡◌, refl, sym, ap, ◌∙◌, subst, inl, inr, ℕ, ◌*◌, ◌/◌, ◌%◌, ◌&&◌, nat_lt, if◌then◌else◌, List, [], length, Option, Some, None, Result, Ok, eqb-true}
+use Rattle.std.proofs.Common.{◌≡◌, refl, sym, ap, ◌∙◌, subst, inl, inr, ℕ, ◌*◌, ◌/◌, ◌%◌, ◌&&◌, true, false, nat_lt, if◌then◌else◌, List, [], length, Option, Some, None, Result, Ok, eqb-true}
 use Rattle.std.specs.Option.{option_map}
 use Rattle.std.specs.Int.RustNames.{bit_and}
 use Rattle.jfs_bits.specs.Broken.{first_broken}
@@ -22,7 +22,7 @@ use Rattle.jfs_objects.specs.Changes.{put}
 use Rattle.jfs_objects.proofs.Sums.{put_here, put_other, eq_or_not}
 use Rattle.jfs_meaning.specs.Readers.{readers}
 use Rattle.jfs_meaning.specs.Contents.{byte_of, stored, byte_in, is_regular}
-use Rattle.jfs_meaning.specs.Node.{node_with, node_from, node_of, node_in, target_in}
+use Rattle.jfs_meaning.specs.Node.{is_symbolic, node_with, node_from, node_of, node_in, target_in}
 use Rattle.jfs_meaning.specs.Tree.{node_on, byte_on, tree_on}
 use Rattle.jfs_meaning.specs.Consistent.{IsConsistent, IsConsistentTree}
 use Rattle.jfs_meaning.proofs.Books.{open_books, close_books}
@@ -32,10 +32,10 @@ use Rattle.jfs_meaning.proofs.Unlinks.{touched}
 use Rattle.jfs_lead_steps.proofs.Again.{spelled_inode}
 use Rattle.jfs_lead_steps.proofs.Chain.{at_changed, off_changed, some_is}
 use Rattle.jfs_data_steps.specs.declared.pages.DataPage.{DataPage}
-use Rattle.jfs_data_steps.specs.After.{put_data, after_writes}
+use Rattle.jfs_data_steps.specs.After.{put_data, with_data, after_writes}
 use Rattle.jfs_data_steps.specs.File.{resized, bytes_held}
-use Rattle.jfs_data_steps.specs.Laws.{IsSetWithData, SetsFile, IsFileSet, FileLaw}
-use Rattle.jfs_data_steps.proofs.Setting.{set_law}
+use Rattle.jfs_data_steps.specs.Laws.{MayPut, PutsAlone, IsSetWithData, SetsFile, IsFileSet, FileLaw, IsFilePut, FileBeforeLaw}
+use Rattle.jfs_data_steps.proofs.Setting.{puts_alone, set_law}
 
 -- ---- the node of a regular file
 
@@ -154,3 +154,51 @@ module _ (blocks : ℕ) (v : Volume) (n : ℕ) (d : Dinode) (root : List ℕ) (s
 
 pub file_law : FileLaw
 file_law blocks v n d root size own now es mid taken freed ds tx con s = file_set blocks v n d root size own now es mid taken freed ds tx con s
+
+-- ---- the file, once its data is put
+
+module _ (blocks : ℕ) (v : Volume) (n : ℕ) (d : Dinode) (es : List Xad) (ds : List DataPage) (con : IsConsistent (readers blocks) v) (was : objects (readers blocks) v n ≡ Some (spelled (readers blocks) v.page d)) (regular : is_regular d ≡ true)
+    (extents : listed (readers blocks).extents_order (spelled (readers blocks) v.page d).extents ≡ Ok es) (may : MayPut (readers blocks) v n ds) where
+  abbrev q : Readers
+  q = readers blocks
+
+  abbrev u : Volume
+  u = with_data ds v
+
+  alone : PutsAlone q v u n
+  alone = puts_alone q v n ds con.sound may
+
+  file : bit_and d.mode 0xf000 ≡ 0x8000
+  file = eqb-true (bit_and d.mode 0xf000) 0x8000 regular
+
+  no_symbolic : (e : Dinode) → bit_and e.mode 0xf000 ≡ 0x8000 → is_symbolic e ≡ false
+  no_symbolic e type = rw type refl
+
+  same_nodes : (k : ℕ) → node_on q u k ≡ node_on q v k
+  same_nodes k = elim (eq_or_not k n) [
+    | inl e ↦ ap (node_on q u) e ∙ alone.tree.own (spelled q v.page d) was (ap (λ (x : Dinode). is_symbolic x) (spelled_inode q v.page d) ∙ no_symbolic d file) ∙ ap (node_on q v) (sym e)
+    | inr a ↦ alone.tree.others k a
+  ]
+
+  own_bytes : (i : ℕ) → byte_on q u n i ≡ bytes_held (put_data ds v.page) es d.size i
+  own_bytes i = ap (λ (x : Option Object). byte_in q u.page x i) (alone.none.objects_stay n ∙ was) ∙ file_bytes q v.page d file (put_data ds v.page) es extents i
+
+  put_bytes_are : (k i : ℕ) → byte_on q u k i ≡ put n (bytes_held (put_data ds v.page) es d.size) (byte_on q v) k i
+  put_bytes_are k i = elim (eq_or_not k n) [
+    | inl e ↦ ap (λ (j : ℕ). byte_on q u j i) e ∙ own_bytes i ∙ sym (ap (λ (f : ℕ → ℕ). f i) (put_here n (bytes_held (put_data ds v.page) es d.size) (byte_on q v)))
+        ∙ ap (λ (j : ℕ). put n (bytes_held (put_data ds v.page) es d.size) (byte_on q v) j i) (sym e)
+    | inr a ↦ alone.tree.contents k i a ∙ sym (ap (λ (f : ℕ → ℕ). f i) (put_other n (bytes_held (put_data ds v.page) es d.size) (byte_on q v) k a))
+  ]
+
+  pub file_put : IsFilePut blocks v u n (bytes_held (put_data ds v.page) es d.size)
+  file_put = record {
+    same = record { nodes = same_nodes; bytes = put_bytes_are };
+    consistent = record {
+      sound = alone.none.sound;
+      inodes = λ k o h. con.inodes k o (sym (alone.none.objects_stay k) ∙ h);
+      tree = same_consistent (room v) (tree_on q v) (tree_on q u) same_nodes con.tree;
+    };
+  }
+
+pub file_before : FileBeforeLaw
+file_before blocks v n d es ds con was regular extents may = file_put blocks v n d es ds con was regular extents may

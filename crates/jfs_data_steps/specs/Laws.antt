@@ -10,7 +10,7 @@ use Rattle.jfs_objects.specs.Volume.{Volume}
 use Rattle.jfs_objects.specs.Objects.{Object, objects, spelled, listed}
 use Rattle.jfs_objects.specs.Owners.{IsSound, is_data}
 use Rattle.jfs_objects.specs.Contents.{contents, contents_of}
-use Rattle.jfs_objects.specs.Changes.{WritesData, SetsObject}
+use Rattle.jfs_objects.specs.Changes.{put, WritesData, SetsObject}
 use Rattle.jfs_objects.specs.Laws.{ChangesNone, ChangesOne}
 use Rattle.jfs_kinds.specs.Laws.{KeepsLogged, HasSameOwners}
 use Rattle.jfs_meaning.specs.Readers.{readers}
@@ -87,3 +87,12 @@ abbrev pub FileLaw : Type 0
 FileLaw = (blocks : ℕ) (v : Volume) (n : ℕ) (d : Dinode) (root : List ℕ) (size own : ℕ) (now : Moment) (es : List Xad) (mid : ℕ → List ℕ) (taken freed : List ℕ) (ds : List DataPage) (tx : List Edit)
     → IsConsistent (readers blocks) v → SetsFile blocks v n d root size own now es mid taken freed ds tx
     → IsFileSet blocks v (after_writes blocks ds tx v) n size (bytes_held (put_data ds v.page) es size) now
+
+-- Before the transaction the volume with the data alone is consistent too, and of its tree this file's bytes alone may differ.
+pub record IsFilePut (blocks : ℕ) (v w : Volume) (n : ℕ) (bytes : ℕ → ℕ) : Type 0 where
+  pub same : Same (record (tree_on (readers blocks) v) { bytes = put n bytes (tree_on (readers blocks) v).bytes }) (tree_on (readers blocks) w)
+  pub consistent : IsConsistent (readers blocks) w
+
+abbrev pub FileBeforeLaw : Type 0
+FileBeforeLaw = (blocks : ℕ) (v : Volume) (n : ℕ) (d : Dinode) (es : List Xad) (ds : List DataPage) → IsConsistent (readers blocks) v → objects (readers blocks) v n ≡ Some (spelled (readers blocks) v.page d) → is_regular d ≡ true
+    → listed (readers blocks).extents_order (spelled (readers blocks) v.page d).extents ≡ Ok es → MayPut (readers blocks) v n ds → IsFilePut blocks v (with_data ds v) n (bytes_held (put_data ds v.page) es d.size)

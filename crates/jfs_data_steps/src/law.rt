@@ -1,6 +1,6 @@
 //! Laws of data that is put into blocks before a transaction.
 
-ghost use Rattle.jfs_data_steps.specs.Laws.{OthersLaw, BeforeLaw, SetLaw, FileLaw};
+ghost use Rattle.jfs_data_steps.specs.Laws.{OthersLaw, BeforeLaw, SetLaw, FileLaw, FileBeforeLaw};
 
 /// Data changes the bytes of its own blocks alone.
 pub fn other_blocks_stay()
@@ -21,4 +21,9 @@ pub fn object_is_set_with_data()
 /// A regular file whose extents, size and data are others keeps a volume consistent, and its tree has the file so, byte by byte.
 pub fn file_is_set_with_data()
     ensures { FileLaw }
+{}
+
+/// Before the transaction a regular file's data leaves the volume consistent, and its tree but for this file's bytes.
+pub fn file_is_put_before()
+    ensures { FileBeforeLaw }
 {}

@@ -5,6 +5,7 @@ mod law;
 mod pages;
 
 pub use law::{
-    data_is_put_before, file_is_set_with_data, object_is_set_with_data, other_blocks_stay,
+    data_is_put_before, file_is_put_before, file_is_set_with_data, object_is_set_with_data,
+    other_blocks_stay,
 };
 pub use pages::{DataList, DataPage};
