@@ -14,10 +14,11 @@ use Rattle.jfs_ranges.specs.Laid.{put_tx}
 use Rattle.jfs_ranges.proofs.OnTop.{put_onto}
 use Rattle.jfs_ranges.proofs.Overlaid.{overlaid-none}
 use Rattle.jfs_objects.specs.Volume.{Volume, slot_of}
-use Rattle.jfs_objects.specs.Owners.{bit, extent_has}
+use Rattle.jfs_objects.specs.Owners.{bit, extent_has, run_has}
 use Rattle.jfs_objects.specs.Changes.{AddsExtent}
-use Rattle.jfs_steps.specs.After.{is_extent, place_in, four_from, with_run, used_after, extents_after}
+use Rattle.jfs_steps.specs.After.{is_extent, place_in, four_from, with_run, used_after, extents_after, takes}
 use Rattle.jfs_steps.proofs.After.{used_onto, extents_onto}
+use Rattle.jfs_steps.proofs.Sets.{takes_onto}
 use Rattle.jfs_steps.proofs.Puts.{put_past}
 use Rattle.jfs_create.specs.Extent.{IsFreePage}
 use Rattle.jfs_create.specs.declared.extent.NewExtent.{NewExtent}
@@ -173,6 +174,10 @@ module _ (extent : NewExtent) (one two three four : List ℕ) (first : IsFreePag
     where
       placed : (k : ℕ) → 32 * k / 32 ≡ k
       placed k = omega arith
+
+  -- it takes its four blocks
+  pub takes_are : (tx later : List Edit) → later ≡ tx ++ Lines addr kinds.Inode 0 bytes ∷ [] → (b : ℕ) → takes later b ≡ run_has (four_from addr) b + takes tx b
+  takes_are tx later told b = ap (λ (all : List Edit). takes all b) told ∙ takes_onto tx (Lines addr kinds.Inode 0 bytes ∷ []) b ∙ (let e = ap (λ (x : Bool). if x then run_has (four_from addr) b else 0) is_one in omega (arith, e))
 
   pub used_are : (tx later : List Edit) → later ≡ tx ++ Lines addr kinds.Inode 0 bytes ∷ [] → (used : ℕ → Bool) → used_after later used ≡ used_after (Lines addr kinds.Inode 0 bytes ∷ []) (used_after tx used)
   used_are tx later told used = ap (λ (all : List Edit). used_after all used) told ∙ used_onto tx (Lines addr kinds.Inode 0 bytes ∷ []) used

@@ -7,4 +7,5 @@ pub mod Between
 pub mod Whole
 pub mod Seeing
 pub mod Reserving
+pub mod Sites
 pub mod Steps

@@ -1,13 +1,11 @@
 -- The call that makes an object: what its parts say, put together.
-use Rattle.std.proofs.Common.{◌≡◌, ◌≤◌, ◌<◌, ◌⊎◌, refl, sym, ap, ◌∙◌, subst, inl, inr, ℕ, ◌+◌, ◌*◌, ◌/◌, ◌%◌, Bool, true, false, true≢false, not, ◌&&◌, nat_le, nat_lt, if◌then◌else◌, List, length, map, Option, Some, None, is_some, Result, Ok, Err, IfOk, IfErr, arith}
+use Rattle.std.proofs.Common.{◌≡◌, ◌≤◌, ◌<◌, ◌⊎◌, refl, sym, ap, ◌∙◌, subst, inl, inr, ℕ, ◌+◌, ◌/◌, ◌%◌, Bool, true, false, true≢false, ◌&&◌, nat_le, nat_lt, if◌then◌else◌, List, length, Option, Some, None, is_some, Result, Ok, Err, IfOk, IfErr, arith}
 use Rattle.std.proofs.lemmas.Bool.Decides.{nat_tests}
 use Rattle.jfs_bits.specs.declared.descriptor.Moment.{Moment}
 use Rattle.jfs_bits.specs.declared.descriptor.Pxd.{Pxd}
 use Rattle.jfs_disk.specs.Image.{Image}
 use Rattle.jfs_iag.specs.Canonical.{is_there}
-use Rattle.jfs_imap.specs.Inodes.{Inodes, IsPick, extent_at, home_of, is_free, is_used}
-use Rattle.jfs_imap.specs.declared.inode_map.Pick.{Pick}
-use Rattle.jfs_imap.specs.declared.inode_map.Pick.TheVariants.{Number, NeedsExtent, NoInodes}
+use Rattle.jfs_imap.specs.Inodes.{Inodes, extent_at, home_of, is_used}
 use Rattle.jfs_bmap.specs.States.{Blocks, is_owned}
 use Rattle.jfs_ranges.specs.declared.edit.Edit.{Edit}
 use Rattle.jfs_ranges.specs.declared.view.ViewError.{ViewError}
@@ -25,14 +23,13 @@ use Rattle.jfs_dtree.specs.declared.error.DtError.{DtError}
 use Rattle.jfs_dtree.specs.declared.error.DtError.TheVariants as dt
 use Rattle.jfs_name.specs.Directory.{named}
 use Rattle.jfs_plain.specs.Tree.{Tree, Place, root, and_then, place, place_at, at_place, named_in, unless_there}
-use Rattle.jfs_plain.specs.Step.{Room}
+use Rattle.jfs_plain.specs.Step.{Room, links_of}
 use Rattle.jfs_plain.specs.declared.node.Node.{Node}
 use Rattle.jfs_plain.specs.declared.refusal.Refusal.{Refusal}
-use Rattle.jfs_plain.specs.declared.refusal.Refusal.TheVariants.{NoInodes as NoFreeInode}
 use Rattle.jfs_plain.specs.declared.reply.Reply.TheVariants.{Done}
 use Rattle.jfs_objects.specs.Readers.{Readers}
-use Rattle.jfs_objects.specs.Volume.{Volume, home}
-use Rattle.jfs_objects.specs.Objects.{Object, objects, spelled, has_names, is_live}
+use Rattle.jfs_objects.specs.Volume.{Volume}
+use Rattle.jfs_objects.specs.Objects.{objects, spelled, has_names, is_live}
 use Rattle.jfs_objects.specs.Owners.{holds}
 use Rattle.jfs_objects.proofs.Owned.{owned_once}
 use Rattle.jfs_objects.proofs.Sums.{zero_or_more}
@@ -42,13 +39,13 @@ use Rattle.jfs_meaning.specs.Room.{room_on}
 use Rattle.jfs_meaning.proofs.Fresh.{fresh_law}
 use Rattle.jfs_room.specs.Laws.{blocks_in}
 use Rattle.jfs_room.proofs.Rooms.{held_law}
-use Rattle.jfs_claim.specs.Look.{LooksFor, inode_by}
-use Rattle.jfs_claim.specs.Take.{AreFresh}
+use Rattle.jfs_claim.specs.Look.{LooksFor}
+use Rattle.jfs_claim.specs.Take.{AreFresh, Lacks}
 use Rattle.jfs_claim.specs.declared.look.FreshInode.{FreshInode}
 use Rattle.jfs_lead_steps.proofs.Again.{few_links}
 use Rattle.jfs_way.specs.Answer.{is_open, Answers, names_refusal, view_refusal}
 use Rattle.jfs_way.specs.Volume.{volume_of, PlacesWithin}
-use Rattle.jfs_way.specs.Way.{inode_at, if_within, place_of}
+use Rattle.jfs_way.specs.Way.{inode_at, place_of}
 use Rattle.jfs_way.specs.Walk.{IsHeld, IsShown, tree_in}
 use Rattle.jfs_way.specs.declared.object.Held.{Held}
 use Rattle.jfs_way.proofs.Enters.{only_open}
@@ -63,26 +60,23 @@ use Rattle.jfs_steps.proofs.LastNames.{IsDirectory, directory_is, object_is}
 use Rattle.jfs_create.specs.Look.{Passes, InRoom, IsFree, too_many}
 use Rattle.jfs_create.specs.Makes.{plain_of, links_after, gain_of}
 use Rattle.jfs_create.specs.New.{FitsNew}
-use Rattle.jfs_create.specs.Reserved.{MakesReserved, NotMade, IsMade, IsStopped, StepsInRoom, plan_for}
-use Rattle.jfs_create.specs.Seat.{seat_in, seat_on}
+use Rattle.jfs_create.specs.Reserved.{MakesReserved, NotMade, IsMade, IsStopped, StepsInRoom, draft_of, want_with}
+use Rattle.jfs_create.specs.Seat.{seat_in, site_in, site_on}
 use Rattle.jfs_create.specs.declared.looks.Seen.{Seen}
 use Rattle.jfs_create.specs.declared.make.Plan.{Plan}
 use Rattle.jfs_create.specs.declared.new.NewObject.{NewObject}
 use Rattle.jfs_create.specs.declared.new.NewObject.TheVariants.{File, Directory, Link}
 use Rattle.jfs_create.specs.declared.reserve.Stop.{Stop}
-use Rattle.jfs_create.specs.declared.reserve.Stop.TheVariants.{Refused, NeedsLog, NeedsExtent as WantsExtent}
-use Rattle.jfs_create.specs.declared.seats.Seated.{Seated}
+use Rattle.jfs_create.specs.declared.plan.Draft.{Draft}
+use Rattle.jfs_create.specs.declared.reserve.Stop.TheVariants.{Refused, NeedsLog}
+use Rattle.jfs_create.specs.declared.seats.Site.{Site}
+use Rattle.jfs_create.specs.declared.seats.Site.TheVariants.{There, Founding}
 use Rattle.jfs_create.proofs.Outcomes as outcomes
 use Rattle.jfs_create.proofs.Whole.{whole}
-
-ok_same : {T : Type 0} {x y : T} → ◌≡◌ {A = Result T Refusal} (Ok x) (Ok y) → x ≡ y
-ok_same h = cc (h)
+use Rattle.jfs_create.proofs.Sites.{ok_same, ok_err, number_free, apart, SitsAt, sits, needs_as, planned_for, can_stand, no_one}
 
 err_same : {T : Type 0} {x y : Refusal} → ◌≡◌ {A = Result T Refusal} (Err x) (Err y) → x ≡ y
 err_same h = cc (h)
-
-ok_err : {T : Type 0} {x : T} {why : Refusal} → ◌≡◌ {A = Result T Refusal} (Ok x) (Err why) → ⊥
-ok_err h = cc (h)
 
 -- ---- links
 
@@ -113,71 +107,23 @@ if_ok P Q (Ok x) f h = f x h
 if_ok P Q (Err why) f h = tt
 
 module _ (blocks : ℕ) (pages : ℕ → List ℕ) (inodes : Inodes) (path : List (List ℕ)) (object : NewObject) (now : Moment) (before : Blocks) (seen : Seen) (passes : Passes blocks pages before inodes path object seen) where
-  pub stopped_seat : (why : Refusal) → Answers (seat_on blocks pages inodes seen.dir seen.fresh.number) (Err why) → IsStopped blocks pages inodes path object now before (Refused why)
-  stopped_seat why (inl h) = inr (seen, passes, inl h)
-  stopped_seat why (inr h) = inl (inl h)
+  pub stopped_site : (why : Refusal) → Answers (site_on blocks pages inodes seen.dir seen.fresh) (Err why) → IsStopped blocks pages inodes path object now before (Refused why)
+  stopped_site why (inl h) = inr (seen, passes, inl h)
+  stopped_site why (inr h) = inl (inl h)
 
-  pub stopped_rest : (seated : Seated) → seat_on blocks pages inodes seen.dir seen.fresh.number ≡ Ok seated → (why : Stop) → NotMade blocks pages seen.dir (last_of path) (plan_for object seated now) before why
+  pub stopped_rest : (site : Site) → site_on blocks pages inodes seen.dir seen.fresh ≡ Ok site → (why : Stop) → NotMade blocks pages seen.dir (last_of path) (draft_of object site now) before why
       → IsStopped blocks pages inodes path object now before why
-  stopped_rest seated seat (Refused why) h = inr (seen, passes, inr (seated, seat, h))
-  stopped_rest seated seat NeedsLog h = (seen, passes, h)
-  stopped_rest seated seat WantsExtent h = absurd h
+  stopped_rest site sited (Refused why) h = inr (seen, passes, inr (site, sited, h))
+  stopped_rest site sited NeedsLog h = (seen, passes, subst (λ (run : Bool). Lacks before (want_with run)) (needs_as inodes seen.dir seen.fresh site (sits blocks pages inodes seen.dir seen.fresh site sited)) h)
 
-  pub is_made : (after : Blocks) (seated : Seated) → seat_on blocks pages inodes seen.dir seen.fresh.number ≡ Ok seated → (tx : List Edit) → MakesReserved blocks pages seen.dir (last_of path) (plan_for object seated now) before after tx
+  pub is_made : (after : Blocks) (site : Site) → site_on blocks pages inodes seen.dir seen.fresh ≡ Ok site → (tx : List Edit) → MakesReserved blocks pages seen.dir (last_of path) (draft_of object site now) before after tx
       → IsMade blocks pages inodes path object now before after tx
-  is_made after seated seat tx made = record { seen = seen; seated = seated; passes = passes; seat = seat; made = made }
+  is_made after site sited tx made = record { seen = seen; site = site; passes = passes; sited = sited; made = made }
 
--- ---- the number of an extent that is there
-
-needs_none : (fresh : FreshInode) (first : ℕ) (x : Bool) → ◌≡◌ {A = Result FreshInode Refusal} (Ok fresh) (if x then Ok (record { number = first; needs_extent = true }) else Err NoFreeInode) → fresh.needs_extent ≡ false → ⊥
-needs_none fresh first true e h = true≢false (sym (ap (λ (y : FreshInode). y.needs_extent) (ok_same e)) ∙ h)
-needs_none fresh first false e h = ok_err e
-
-picked_free : (inodes : Inodes) (fresh : FreshInode) (pick : Pick) (run : Bool) → IsPick inodes pick → Ok fresh ≡ inode_by pick run → fresh.needs_extent ≡ false → is_free inodes fresh.number ≡ true
-picked_free inodes fresh (Number n) run is e h = ap (is_free inodes) (ap (λ (x : FreshInode). x.number) (ok_same e)) ∙ is.0
-picked_free inodes fresh (NeedsExtent at) run is e h = absurd (needs_none fresh (32 * at) (nat_lt at 134217728 && run) e h)
-picked_free inodes fresh NoInodes run is e h = absurd (ok_err e)
-
-number_free : (map : Blocks) (inodes : Inodes) (fresh : FreshInode) → LooksFor map inodes (Ok fresh) → fresh.needs_extent ≡ false → is_free inodes fresh.number ≡ true
-number_free map inodes fresh looked there = picked_free inodes fresh looked.0 looked.1 looked.2 looked.4 there
-
-both : (x y : Bool) → (x && not y) ≡ true → (x ≡ true) × (y ≡ false)
-both true true h = absurd (true≢false (sym h))
-both true false h = (refl, refl)
-both false y h = absurd (true≢false (sym h))
+-- ---- on a consistent volume
 
 some_page : (inodes : Inodes) (n : ℕ) → is_there (extent_at inodes (n / 32)) ≡ true → (page : ℕ) × (home_of inodes n ≡ Some page)
 some_page inodes n h = ((extent_at inodes (n / 32)).addr + n % 32 / 8, ap (λ (x : Bool). if x then Some ((extent_at inodes (n / 32)).addr + n % 32 / 8) else None) h)
-
--- ---- the seat
-
-pub record SitsAt (inodes : Inodes) (dir : Held) (n : ℕ) (seated : Seated) : Type 0 where
-  pub at : home_of inodes n ≡ Some seated.page
-  pub number : seated.seat.number ≡ n
-  pub parent : seated.seat.parent ≡ dir.number
-
-module _ (blocks : ℕ) (pages : ℕ → List ℕ) (inodes : Inodes) (dir : Held) (n : ℕ) where
-  within_is : (p : Option ℕ) (page : ℕ) → if_within blocks p ≡ Some page → p ≡ Some page
-  within_is None page h = h
-  within_is (Some k) page h = by (nat_lt k blocks) h
-    where
-      by : (x : Bool) → (if x then Some k else None) ≡ Some page → Some k ≡ Some page
-      by true h = h
-      by false h = absurd (cc (h))
-
-  pub sits : (seated : Seated) → seat_on blocks pages inodes dir n ≡ Ok seated → SitsAt inodes dir n seated
-  sits seated h = by (inode_at blocks pages inodes no_page root) (place_of blocks inodes n) refl h
-    where
-      by : (x : Result Held Refusal) (y : Option ℕ) → place_of blocks inodes n ≡ y → and_then x (seat_in pages dir n y) ≡ Ok seated → SitsAt inodes dir n seated
-      by (Err why) y e h = absurd (ok_err (sym h))
-      by (Ok top) None e h = absurd (ok_err (sym h))
-      by (Ok top) (Some page) e h = let s = sym (ok_same h) in record {
-        at = within_is (home_of inodes n) page e ∙ sym (ap (λ (x : Seated). Some x.page) s);
-        number = ap (λ (x : Seated). x.seat.number) s;
-        parent = ap (λ (x : Seated). x.seat.parent) s;
-      }
-
--- ---- on a consistent volume
 
 view_open : (e : ViewError) → is_open (view_refusal e) ≡ true
 view_open (Read fault) = refl
@@ -194,23 +140,22 @@ module _ (blocks : ℕ) (pages : ℕ → List ℕ) (map : Blocks) (inodes : Inod
   t = tree_in blocks pages area map inodes
 
   -- inode 2 is there, and a free number has its page
-  pub seat_open : (dir : Held) (n : ℕ) (why : Refusal) → is_free inodes n ≡ true → Answers (seat_on blocks pages inodes dir n) (Err why) → is_open why ≡ true
-  seat_open dir n why free (inr h) = h
-  seat_open dir n why free (inl h) = by (inode_at blocks pages inodes no_page root) refl h
+  pub site_open : (dir : Held) (fresh : FreshInode) (why : Refusal) → LooksFor map inodes (Ok fresh) → Answers (site_on blocks pages inodes dir fresh) (Err why) → is_open why ≡ true
+  site_open dir fresh why looked (inr h) = h
+  site_open dir fresh why looked (inl h) = by (inode_at blocks pages inodes no_page root) refl h
     where
-      p : (page : ℕ) × (home_of inodes n ≡ Some page)
-      p = some_page inodes n (both (is_there (extent_at inodes (n / 32))) (is_used inodes n) free).0
+      by_extent : (stamp : ℕ) (x : Bool) → fresh.needs_extent ≡ x
+          → (if x then Ok (Founding (record { number = fresh.number; stamp = stamp; parent = dir.number })) else and_then (seat_in pages dir fresh.number stamp (place_of blocks inodes fresh.number)) (λ seated. Ok (There seated))) ≡ Err why
+          → is_open why ≡ true
+      by_extent stamp true needs h = absurd (ok_err h)
+      by_extent stamp false none h = absurd (ok_err (sym (ap (λ (y : Option ℕ). and_then (seat_in pages dir fresh.number stamp y) (λ seated. Ok (There seated))) (place_is_home blocks inodes fresh.number p.0 within p.1)) ∙ h))
+        where
+          p : (page : ℕ) × (home_of inodes fresh.number ≡ Some page)
+          p = some_page inodes fresh.number (apart (is_there (extent_at inodes (fresh.number / 32))) (is_used inodes fresh.number) (number_free map inodes fresh looked none)).0
 
-      by : (x : Result Held Refusal) → inode_at blocks pages inodes no_page root ≡ x → and_then x (seat_in pages dir n (place_of blocks inodes n)) ≡ Err why → is_open why ≡ true
-      by (Ok top) e h = absurd (ok_err (sym (ap (λ (y : Option ℕ). seat_in pages dir n y top) (place_is_home blocks inodes n p.0 within p.1)) ∙ h))
+      by : (x : Result Held Refusal) → inode_at blocks pages inodes no_page root ≡ x → and_then x (λ top. site_in blocks pages inodes dir fresh top.inode.inostamp) ≡ Err why → is_open why ≡ true
+      by (Ok top) e h = by_extent top.inode.inostamp fresh.needs_extent refl h
       by (Err w) e h = only_open blocks pages area map inodes within con no_page root why (ap is_some con.tree.top.1.there) (inl (e ∙ ap (λ (x : Refusal). Err x) (err_same h)))
-
-  no_object : (n : ℕ) → is_free inodes n ≡ true → objects r v n ≡ None
-  no_object n free = by (objects r v n) (sym (con.sound.agrees.inodes n) ∙ (both (is_there (extent_at inodes (n / 32))) (is_used inodes n) free).1)
-    where
-      by : (x : Option Object) → is_some x ≡ false → x ≡ None
-      by None h = refl
-      by (Some o) h = absurd (true≢false h)
 
   used_below : (b : ℕ) → v.used b ≡ true → b < blocks
   used_below b h = subst (λ (k : ℕ). b < k) many (by (nat_lt b (length map.states)) refl h)
@@ -307,24 +252,28 @@ module _ (blocks : ℕ) (pages : ℕ → List ℕ) (map : Blocks) (inodes : Inod
         by dt.Missing h = absurd h
         by dt.TooDeep h = absurd (true≢false (sym (h directory.names directory.spelled).1 ∙ not_deep))
 
-    module _ (there : seen.fresh.needs_extent ≡ false) (seated : Seated) (seat : seat_on blocks pages inodes dir seen.fresh.number ≡ Ok seated) where
-      abbrev plan : Plan
-      plan = plan_for object seated now
+    module _ (site : Site) (sited : site_on blocks pages inodes dir seen.fresh ≡ Ok site) where
+      abbrev draft : Draft
+      draft = draft_of object site now
 
-      is_free_number : is_free inodes seen.fresh.number ≡ true
-      is_free_number = number_free map inodes seen.fresh passes.inode there
-
-      sat : SitsAt inodes dir seen.fresh.number seated
-      sat = sits blocks pages inodes dir seen.fresh.number seated seat
+      sat : SitsAt inodes dir seen.fresh site
+      sat = sits blocks pages inodes dir seen.fresh site sited
 
       live : is_live dir.number dir.inode ≡ true
       live = ap (is_live dir.number) shown ∙ lives blocks v con dir.number dir.page (home_is inodes dir.number ∙ held.home) free_room.there
 
-      pub step_done : (after : Blocks) (tx : List Edit) → MakesReserved blocks pages dir name plan map after tx → IsDone blocks v (after_call blocks tx v) (λ t. plain_of object space t path now)
-      step_done after tx made = whole blocks v con dir directory.names made.free made.left (can made.free made.fresh) held.rules live name plan few sat.parent tx made.makes
-          (links_few object dir.inode.nlink (few_links dir.inode dir.number held.rules) passes.links)
-          (ap (home v.extents) sat.number ∙ home_is inodes seen.fresh.number ∙ sat.at) (ap (objects r v) sat.number ∙ no_object seen.fresh.number is_free_number)
-          directory.node directory.there directory.links_are path space (fresh_law r v blocks log_pages con) free_room.place free_room.links free_room.space (free_room.inode ∙ ap (λ (n : ℕ). Some n) (sym sat.number)) free_room.deep
+      pub step_done : (after : Blocks) (tx : List Edit) → MakesReserved blocks pages dir name draft map after tx → IsDone blocks v (after_call blocks tx v) (λ t. plain_of object space t path now)
+      step_done after tx made =
+          let plan = made.plan in
+          let p = planned_for inodes dir seen.fresh draft made.run plan site sat made.planned in
+          subst (λ (o : NewObject). IsDone blocks v (after_call blocks tx v) (λ t. plain_of o space t path now)) p.0
+          (subst (λ (m : Moment). IsDone blocks v (after_call blocks tx v) (λ t. plain_of plan.object space t path m)) p.1
+          (whole blocks v con dir directory.names made.free made.left (can made.free made.may.fresh) held.rules live name plan (subst FitsNew (sym p.0) few) p.3 tx made.makes
+          (subst (λ (o : NewObject). links_after o dir.inode.nlink ≤ 65535) (sym p.0) (links_few object dir.inode.nlink (few_links dir.inode dir.number held.rules) passes.links))
+          (can_stand blocks pages map inodes many area con dir seen.fresh passes.inode draft made.free site made.run plan sat made.may made.planned)
+          (ap (objects r v) p.2 ∙ no_one blocks pages map inodes many area con dir seen.fresh passes.inode draft made.free site sat)
+          directory.node directory.there directory.links_are path space (fresh_law r v blocks log_pages con) free_room.place
+          (subst (λ (o : NewObject). too_many o (links_of t dir.number) ≡ false) (sym p.0) free_room.links) free_room.space (free_room.inode ∙ ap (λ (n : ℕ). Some n) (sym p.2)) free_room.deep))
 
 module _ (blocks : ℕ) (pages : ℕ → List ℕ) (map : Blocks) (inodes : Inodes) (whole_pages : (b : ℕ) → b < blocks → length (pages b) ≡ 4096) (object : NewObject) (few : FitsNew object) (path : List (List ℕ)) (now : Moment) (seen : Seen) (held : IsHeld blocks inodes seen.dir)
     (shown : IsShown pages seen.dir) (is_dir : has_names seen.dir.inode ≡ true) (passes : Passes blocks pages map inodes path object seen) (looked : InRoom blocks pages map inodes (λ room t. IsFree object room t path seen)) where
@@ -332,20 +281,18 @@ module _ (blocks : ℕ) (pages : ℕ → List ℕ) (map : Blocks) (inodes : Inod
   pub can_be : InRoom blocks pages map inodes (λ room t. (u : Tree) × (plain_of object room t path now ≡ Ok (Done, u)))
   can_be many rest within area con log_pages = can_step blocks pages map inodes many within area con whole_pages log_pages object few path now seen held shown is_dir passes (looked many rest within area con log_pages)
 
-  module _ (there : seen.fresh.needs_extent ≡ false) where
-    pub no_seat : (why : Refusal) → Answers (seat_on blocks pages inodes seen.dir seen.fresh.number) (Err why) → InRoom blocks pages map inodes (λ room t. (plain_of object room t path now ≡ Err why) ⊎ (is_open why ≡ true))
-    no_seat why h many rest within area con log_pages = inr (seat_open blocks pages map inodes many within area con seen.dir seen.fresh.number why (number_free map inodes seen.fresh passes.inode there) h)
+  pub no_site : (why : Refusal) → Answers (site_on blocks pages inodes seen.dir seen.fresh) (Err why) → InRoom blocks pages map inodes (λ room t. (plain_of object room t path now ≡ Err why) ⊎ (is_open why ≡ true))
+  no_site why h many rest within area con log_pages = inr (site_open blocks pages map inodes many within area con seen.dir seen.fresh why passes.inode h)
 
-    module _ (seated : Seated) (seat : seat_on blocks pages inodes seen.dir seen.fresh.number ≡ Ok seated) (after : Blocks) where
-      stopped : (why : Refusal) → NotMade blocks pages seen.dir (last_of path) (plan_for object seated now) map (Refused why) → InRoom blocks pages map inodes (λ room t. (plain_of object room t path now ≡ Err why) ⊎ (is_open why ≡ true))
-      stopped why (inl h) many rest within area con log_pages = inr h
-      stopped why (inr h) many rest within area con log_pages =
-          inr (gain_open blocks pages map inodes many within area con whole_pages log_pages object few path now seen held shown is_dir passes (looked many rest within area con log_pages) (plan_for object seated now) h.0 h.1 why h.2)
+  module _ (site : Site) (sited : site_on blocks pages inodes seen.dir seen.fresh ≡ Ok site) (after : Blocks) where
+    stopped : (why : Refusal) → NotMade blocks pages seen.dir (last_of path) (draft_of object site now) map (Refused why) → InRoom blocks pages map inodes (λ room t. (plain_of object room t path now ≡ Err why) ⊎ (is_open why ≡ true))
+    stopped why (inl h) many rest within area con log_pages = inr h
+    stopped why (inr h) many rest within area con log_pages =
+        inr (gain_open blocks pages map inodes many within area con whole_pages log_pages object few path now seen held shown is_dir passes (looked many rest within area con log_pages) h.plan h.free h.may.fresh why h.refused)
 
-      pub steps : (r : Result (List Edit) Stop) → IfOk r (MakesReserved blocks pages seen.dir (last_of path) (plan_for object seated now) map after) → IfErr r (NotMade blocks pages seen.dir (last_of path) (plan_for object seated now) map)
-          → StepsInRoom blocks pages map inodes (λ room t. plain_of object room t path now) r
-      steps (Ok tx) made none = λ many rest within area con log_pages.
-          step_done blocks pages map inodes many within area con whole_pages log_pages object few path now seen held shown is_dir passes (looked many rest within area con log_pages) there seated seat after tx made
-      steps (Err (Refused why)) made none = stopped why none
-      steps (Err NeedsLog) made none = can_be
-      steps (Err WantsExtent) made none = absurd none
+    pub steps : (r : Result (List Edit) Stop) → IfOk r (MakesReserved blocks pages seen.dir (last_of path) (draft_of object site now) map after) → IfErr r (NotMade blocks pages seen.dir (last_of path) (draft_of object site now) map)
+        → StepsInRoom blocks pages map inodes (λ room t. plain_of object room t path now) r
+    steps (Ok tx) made none = λ many rest within area con log_pages.
+        step_done blocks pages map inodes many within area con whole_pages log_pages object few path now seen held shown is_dir passes (looked many rest within area con log_pages) site sited after tx made
+    steps (Err (Refused why)) made none = stopped why none
+    steps (Err NeedsLog) made none = can_be

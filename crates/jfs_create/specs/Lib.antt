@@ -4,4 +4,5 @@ pub mod Extent
 pub mod Makes
 pub mod Look
 pub mod Seat
+pub mod Plans
 pub mod Reserved

@@ -1,19 +1,19 @@
 //! The calls that make an object. (POSIX: open with O_CREAT and O_EXCL, mkdir, symlink.)
 
-ghost use Rattle.std.specs.Prelude.{◌≡◌, ◌<◌, ◌≤◌, ℕ, [], length, get_or, OnErr, IfOk, IfErr};
+ghost use Rattle.std.specs.Prelude.{◌≡◌, ◌<◌, ◌≤◌, ℕ, [], length, get_or, IfOk, IfErr};
 ghost use Rattle.jfs_disk.specs.Image.{page_of};
 ghost use Rattle.jfs_plain.specs.Step.{create, mkdir, symlink};
 ghost use Rattle.jfs_room.specs.Laws.{blocks_in};
 ghost use Rattle.jfs_create.specs.New.{FitsNew};
 ghost use Rattle.jfs_create.specs.Makes.{plain_of};
 ghost use Rattle.jfs_create.specs.declared.new.NewObject.TheVariants.{File, Directory, Link};
-ghost use Rattle.jfs_create.specs.Reserved.{IsMade, IsStopped, StepsInRoom, CarriesStop};
+ghost use Rattle.jfs_create.specs.Reserved.{IsMade, IsStopped, StepsInRoom, CarriesStop, MapAfter};
 
 use crate::looks::look;
-use crate::make::Plan;
 use crate::new::NewObject;
+use crate::plan::Draft;
 use crate::reserve::{Stop, make_reserved};
-use crate::seats::seat_of;
+use crate::seats::site_of;
 use jfs_bits::Moment;
 use jfs_bmap::BlockMap;
 use jfs_imap::InodeMap;
@@ -21,8 +21,9 @@ use jfs_name::Name;
 use jfs_ranges::{PageView, Tx};
 use std::alloc::Global;
 
-/// The transaction that makes an object under the last name of a path. Exactly the blocks that it takes are reserved then beside those before; after an `Err` the map is as before.
-/// A refusal is the first of: those of `look`; those of `seat_of`; and those of `gain_name`, with `Damaged` where the name clashes.
+/// The transaction that makes an object under the last name of a path, and where no inode is free an inode extent for it. Exactly the blocks that it takes are reserved then beside those
+/// before; after an `Err` the map is as before. The inode map stays: an append tells it of the extent and the inode.
+/// A refusal is the first of: those of `look`; those of `site_of`; and those of `gain_name`, with `Damaged` where the name clashes.
 pub fn make_object<V: PageView>(
     alloc: Global,
     view: &mut V,
@@ -39,7 +40,7 @@ pub fn make_object<V: PageView>(
     ensures count_of_blocks { V.PageView.block_count view.new ≡ V.PageView.block_count view.old }
     ensures device { V.PageView.device view.new ≡ V.PageView.device view.old }
     ensures fault { CarriesStop (V.PageView.faults view.old) (V.PageView.faults view.new) result }
-    ensures unchanged { OnErr result (blocks.new ≡ blocks.old) }
+    ensures map { MapAfter blocks.old blocks.new result }
     // On any volume the object is made as its definition says, or the answer has its cause.
     ensures made { V.PageView.tells → IfOk result (IsMade (V.PageView.block_count view.old) (page_of (V.PageView.image view.old)) inodes.now path.now object.entry now blocks.old blocks.new) }
     ensures stopped { V.PageView.tells → IfErr result (IsStopped (V.PageView.block_count view.old) (page_of (V.PageView.image view.old)) inodes.now path.now object.entry now blocks.old) }
@@ -50,22 +51,13 @@ pub fn make_object<V: PageView>(
         Ok(seen) => seen,
         Err(e) => return Err(Stop::Refused(e)),
     };
-    if seen.fresh.needs_extent {
-        return Err(Stop::NeedsExtent);
-    }
-    let seated = match seat_of(view, inodes, &seen.dir, seen.fresh.number) {
-        Ok(seated) => seated,
+    let site = match site_of(view, inodes, &seen.dir, seen.fresh) {
+        Ok(site) => site,
         Err(e) => return Err(Stop::Refused(e)),
     };
-    let plan = Plan {
-        object,
-        seat: seated.seat,
-        page: seated.page,
-        extent: None,
-        now,
-    };
+    let draft = Draft { object, site, now };
     let name = &path[path.len() - 1];
-    make_reserved(alloc, view, blocks, &seen.dir, name, plan)
+    make_reserved(alloc, view, blocks, &seen.dir, name, draft)
 }
 
 /// The transaction that makes a regular file with these permission bits: `make_object`.
@@ -85,7 +77,7 @@ pub fn create<V: PageView>(
     ensures count_of_blocks { V.PageView.block_count view.new ≡ V.PageView.block_count view.old }
     ensures device { V.PageView.device view.new ≡ V.PageView.device view.old }
     ensures fault { CarriesStop (V.PageView.faults view.old) (V.PageView.faults view.new) result }
-    ensures unchanged { OnErr result (blocks.new ≡ blocks.old) }
+    ensures map { MapAfter blocks.old blocks.new result }
     ensures made { V.PageView.tells → IfOk result (IsMade (V.PageView.block_count view.old) (page_of (V.PageView.image view.old)) inodes.now path.now (File mode) now blocks.old blocks.new) }
     ensures stopped { V.PageView.tells → IfErr result (IsStopped (V.PageView.block_count view.old) (page_of (V.PageView.image view.old)) inodes.now path.now (File mode) now blocks.old) }
     ensures steps { V.PageView.tells → StepsInRoom (V.PageView.block_count view.old) (page_of (V.PageView.image view.old)) blocks.old inodes.now (λ room t. create room t path.now mode now) result }
@@ -111,7 +103,7 @@ pub fn make_directory<V: PageView>(
     ensures count_of_blocks { V.PageView.block_count view.new ≡ V.PageView.block_count view.old }
     ensures device { V.PageView.device view.new ≡ V.PageView.device view.old }
     ensures fault { CarriesStop (V.PageView.faults view.old) (V.PageView.faults view.new) result }
-    ensures unchanged { OnErr result (blocks.new ≡ blocks.old) }
+    ensures map { MapAfter blocks.old blocks.new result }
     ensures made { V.PageView.tells → IfOk result (IsMade (V.PageView.block_count view.old) (page_of (V.PageView.image view.old)) inodes.now path.now (Directory mode) now blocks.old blocks.new) }
     ensures stopped { V.PageView.tells → IfErr result (IsStopped (V.PageView.block_count view.old) (page_of (V.PageView.image view.old)) inodes.now path.now (Directory mode) now blocks.old) }
     ensures steps { V.PageView.tells → StepsInRoom (V.PageView.block_count view.old) (page_of (V.PageView.image view.old)) blocks.old inodes.now (λ room t. mkdir room t path.now mode now) result }
@@ -137,7 +129,7 @@ pub fn make_link<V: PageView>(
     ensures count_of_blocks { V.PageView.block_count view.new ≡ V.PageView.block_count view.old }
     ensures device { V.PageView.device view.new ≡ V.PageView.device view.old }
     ensures fault { CarriesStop (V.PageView.faults view.old) (V.PageView.faults view.new) result }
-    ensures unchanged { OnErr result (blocks.new ≡ blocks.old) }
+    ensures map { MapAfter blocks.old blocks.new result }
     ensures made { V.PageView.tells → IfOk result (IsMade (V.PageView.block_count view.old) (page_of (V.PageView.image view.old)) inodes.now path.now (Link target.entry) now blocks.old blocks.new) }
     ensures stopped { V.PageView.tells → IfErr result (IsStopped (V.PageView.block_count view.old) (page_of (V.PageView.image view.old)) inodes.now path.now (Link target.entry) now blocks.old) }
     ensures steps { V.PageView.tells → StepsInRoom (V.PageView.block_count view.old) (page_of (V.PageView.image view.old)) blocks.old inodes.now (λ room t. symlink room t path.now target.now now) result }

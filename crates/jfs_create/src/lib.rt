@@ -6,6 +6,7 @@ mod extent;
 mod looks;
 mod make;
 mod new;
+mod plan;
 mod reserve;
 mod seats;
 
@@ -14,5 +15,6 @@ pub use extent::NewExtent;
 pub use looks::{Seen, look};
 pub use make::Plan;
 pub use new::{NewObject, Seat, new_inode};
+pub use plan::Draft;
 pub use reserve::Stop;
-pub use seats::{Seated, seat_of};
+pub use seats::{Founded, Seated, Site, site_of};

@@ -1,9 +1,10 @@
 //! What is looked at before an object is made.
 
-ghost use Rattle.std.specs.Prelude.{◌≡◌, ◌≤◌, ◌<◌, ℕ, [], true, length, get_or, IfOk, IfErr};
+ghost use Rattle.std.specs.Prelude.{◌≡◌, ◌≤◌, ◌<◌, ℕ, [], true, length, get_or, Ok, IfOk, IfErr};
 ghost use Rattle.jfs_bits.specs.declared.descriptor.Moment.{Moment};
 ghost use Rattle.jfs_disk.specs.Image.{page_of};
 ghost use Rattle.jfs_objects.specs.Objects.{has_names};
+ghost use Rattle.jfs_claim.specs.Look.{LooksFor};
 ghost use Rattle.jfs_way.specs.Answer.{Carries};
 ghost use Rattle.jfs_way.specs.Walk.{IsHeld, IsShown};
 ghost use Rattle.jfs_create.specs.Look.{Passes, Barred, InRoom, LooksAs, too_many};
@@ -51,6 +52,8 @@ pub fn look<V: PageView>(
     ensures held { IfOk result (λ seen. IsHeld (V.PageView.block_count view.old) inodes.now seen.dir) }
     ensures directory { IfOk result (λ seen. has_names seen.dir.inode ≡ true) }
     ensures shown { V.PageView.tells → IfOk result (λ seen. IsShown (page_of (V.PageView.image view.old)) seen.dir) }
+    // Its number is the one that the maps give.
+    ensures fresh { IfOk result (λ seen. LooksFor blocks.now inodes.now (Ok seen.fresh)) }
     // On a consistent volume it is the plain step's.
     ensures room { V.PageView.tells → InRoom (V.PageView.block_count view.old) (page_of (V.PageView.image view.old)) blocks.now inodes.now (λ room t. (now : Moment) → LooksAs object.entry path.now now room t result) }
     // On any volume it has a cause, and none before it holds.
