@@ -1,0 +1,62 @@
+-- A disk on which a volume is mounted: cut before its log, which is fresh, and with state 1 on page 8.
+use Rattle.std.specs.Prelude.{◌≡◌, ◌<◌, ◌≤◌, ◌+◌, ◌-◌, ℕ, None, Result, Ok, Err, set, take, List}
+use Rattle.jfs_bits.specs.Count.{Rose}
+use Rattle.jfs_bits.specs.Piece.{puts}
+use Rattle.jfs_disk.specs.Image.{Image, page_of}
+use Rattle.jfs_disk.specs.Crash.{TearsPage}
+use Rattle.jfs_disk.specs.declared.disk.Disk.{Ghosts}
+use Rattle.jfs_disk.specs.declared.disk.DiskError.{DiskError}
+use Rattle.jfs_disk.specs.declared.disk.DiskError.TheVariants.{Failed, Memory}
+use Rattle.jfs_disk.specs.declared.disk.Part.TheVariants.{Low}
+use Rattle.jfs_super.specs.Super.{pieces}
+use Rattle.jfs_super.specs.declared.fields.Super.{Super}
+use Rattle.jfs_super.specs.declared.fields.TheConstants.VolumeState.{MOUNTED}
+use Rattle.jfs_mount_disk.specs.declared.ready.Begun.{Begun}
+use Rattle.jfs_mount_disk.specs.declared.ready.BeginError.{BeginError}
+use Rattle.jfs_mount_disk.specs.declared.ready.BeginError.TheVariants as errors
+
+-- page 8, with a superblock that says that the volume is mounted
+abbrev pub marked_page : Super → List ℕ → List ℕ
+marked_page s page = puts (pieces (record s { state = MOUNTED })) page
+
+-- the pages of the low part, with that page
+abbrev pub marked : Super → Image → Image
+marked s low = set low 8 (marked_page s (page_of low 8))
+
+-- The pages before the log are as they were, but for that page.
+abbrev pub IsMarked : Super → Image → Image → Type 0
+IsMarked s old low = low ≡ marked s (take s.logpxd.addr old)
+
+-- a crash on the way leaves front sectors of that page over the old one
+abbrev pub IsPartlyMarked : Super → Image → Image → Type 0
+IsPartlyMarked s old left = TearsPage 8 (marked_page s (page_of old 8)) old left
+
+-- Both parts of a disk: so many pages as it had, and so many faults; the parts may be joined again, and no group was written yet.
+pub record HasParts {D : Type 0} (d : Ghosts D) (s : Super) (disk : D) (begun : Begun D d) : Type 0 where
+  pub low_pages : d.page_count begun.low ≡ s.logpxd.addr
+  pub log_pages : d.page_count begun.log.part ≡ d.page_count disk - s.logpxd.addr
+  pub room : d.page_count begun.low + d.page_count begun.log.part ≤ d.room begun.low
+  pub faults : d.fault_count begun.low + d.fault_count begun.log.part ≡ d.fault_count disk
+  pub ring : begun.log.last.ring ≡ s.logpxd.len - 2
+  pub durable : begun.log.durable ≡ 0
+  pub running : begun.log.halted ≡ None
+
+-- all pages but page 8 and the log's stay
+abbrev pub LeavesRest : Super → Image → Image → Type 0
+LeavesRest s old new = (n : ℕ) → (n ≡ 8 → ⊥) → (s.logpxd.addr < n → n < s.logpxd.addr + s.logpxd.len → ⊥) → page_of new n ≡ page_of old n
+
+-- ---- the low part
+
+-- after a failed write a read gives some front sectors of the new page and the rest of the old one
+abbrev pub MarksOrLeaves : {T : Type 0} → Super → Image → Image → Result T BeginError → Type 0
+MarksOrLeaves s old new (Ok it) = new ≡ marked s old
+MarksOrLeaves s old new (Err why) = (n : ℕ) → (n ≡ 8 → ⊥) → page_of new n ≡ page_of old n
+
+abbrev pub low_error : DiskError → ℕ → BeginError
+low_error Failed count = errors.Disk (record { part = Low; count = count })
+low_error Memory count = errors.Memory
+
+-- the count of faults rises with a fault alone
+abbrev pub IsCause : ℕ → ℕ → BeginError → Type 0
+IsCause before now (errors.Disk fault) = Rose before now
+IsCause before now errors.Memory = now ≡ before
