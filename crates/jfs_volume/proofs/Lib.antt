@@ -1,0 +1,5 @@
+pub mod Stand
+pub mod Counts
+pub mod Homing
+pub mod Dropping
+pub mod Starting

@@ -1,0 +1,7 @@
+use Rattle.std.proofs.Common.{sym, ◌∙◌}
+use Rattle.jfs_volume.proofs.Dropping.{one_dropped, freed_in}
+use Rattle.jfs_volume.proofs.volume.Volume.drop_at.Goals as goal
+
+pub returns-in-Some-clause-drop : goal.returns-in-Some-clause-drop
+returns-in-Some-clause-drop g c = λ seen asked told crashes half s. one_dropped seen asked c.args.self.now _ half c.in-Some.freed.page
+    (c.drop_freed.ensures.drop seen asked told crashes half s (freed_in seen asked c.args.self.now half c.args.i c.in-Some.freed s (sym c.freed_at.ensures ∙ c.in-Some.is)))

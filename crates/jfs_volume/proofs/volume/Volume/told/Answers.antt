@@ -1,0 +1,41 @@
+use Rattle.std.proofs.Common.{◌≡◌, ◌<◌, ℕ, List, length, slice_get, Some, [], refl, ap, ◌∙◌, arith}
+use Rattle.jfs_volume.proofs.Counts.{tells_moves, freed_moves}
+use Rattle.jfs_halves.specs.declared.freed.FreedPage.{FreedPage}
+use Rattle.jfs_halves.specs.Parts.{Parts}
+use Rattle.jfs_volume.specs.Told.{still_freed}
+use Rattle.jfs_volume.proofs.Dropping.{dropped_more, stays_undropped, place_of}
+use Rattle.jfs_volume.proofs.volume.Volume.told.Goals as goal
+
+pub loop-i-init : goal.loop-i-init
+loop-i-init g c = rw c.acknowledge.ensures (record {
+  freed = refl;
+  counts = (refl, refl, refl, refl, refl);
+  told = λ seen asked told crashes half s. ([], tells_moves seen asked c.args.self.now half c.args.n s c.requires.0 c.requires.1);
+  dropped = λ j f h. absurd (omega (arith, h));
+})
+
+pub loop-i-preserved : goal.loop-i-preserved
+loop-i-preserved g c =
+    let inv = c.loop-i.invariant in
+    let e = c.drop_at.ensures in
+    record {
+      freed = e.freed ∙ inv.freed;
+      counts = (e.counts.0 ∙ inv.counts.0, e.counts.1 ∙ inv.counts.1, e.counts.2 ∙ inv.counts.2, e.counts.3 ∙ inv.counts.3, e.counts.4 ∙ inv.counts.4);
+      told = λ seen asked told crashes half s.
+          let w = inv.told seen asked told crashes half s in
+          dropped_more seen asked c.args.self.now c.loop-i.self c.drop_at.new.self half c.args.n w.0 w.1 (e.drop seen asked told crashes _ w.1.stands);
+      dropped = λ j f h at early may. stays_undropped c.args.self.now.freed c.loop-i.self c.drop_at.new.self c.args.n c.loop-i.i j f
+          inv.dropped e.others (λ here. e.gone f (rw inv.freed here) (rw inv.counts.2 early)) h at early may;
+    }
+
+pub returns : goal.returns
+returns g c =
+    let inv = c.loop-i.invariant in
+    let count : c.freed_count-count.result ≡ length c.args.self.now.freed = c.freed_count-count.ensures ∙ ap (λ (p : Parts). length p.freed) c.acknowledge.ensures in
+    let passed : (i : ℕ) (f : FreedPage) → slice_get c.args.self.now.freed i ≡ Some f → i < c.loop-i.i = λ i f at. let inside = place_of c.args.self.now.freed i f at in omega (arith, inside, count, c.loop-i-test.false) in
+    rw c.forget_freed.ensures (record {
+      told = λ seen asked told crashes half s. let w = inv.told seen asked told crashes half s in (w.0, freed_moves seen asked c.args.self.now c.loop-i.self half c.args.n _ w.1);
+      dropped = λ i f at early may. inv.dropped i f (passed i f at) at early may;
+      freed = ap (λ (fs : List FreedPage). still_freed c.args.n fs) inv.freed;
+      counts = inv.counts;
+    })

@@ -1,0 +1,6 @@
+-- what the clauses say
+pub mod Text
+pub mod Room
+pub mod Home
+pub mod Told
+pub mod Start

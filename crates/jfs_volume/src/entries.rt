@@ -1,0 +1,68 @@
+//! Entries that are handed out, and what a volume tells of itself.
+
+ghost use Rattle.std.specs.Prelude.{◌≡◌, ◌∷◌, [], length};
+ghost use Rattle.jfs_halves.specs.Parts.{OfEachHalf};
+ghost use Rattle.jfs_halves.specs.Change.{HandsOut};
+ghost use Rattle.jfs_halves.specs.Moves.{Moves};
+ghost use Rattle.jfs_volume.specs.Room.{since_in};
+
+use crate::volume::Volume;
+use jfs_disk::{Disk, Fault};
+use jfs_plain::Entry;
+use std::alloc::Global;
+use std::mem;
+
+/// All entries of a list, which is empty then.
+fn take_all(alloc: Global, entries: &mut Vec<Entry>) -> Vec<Entry>
+    ensures entries { result.items ≡ entries.old.items }
+    ensures rest { entries.new.items ≡ [] }
+{
+    let none = Vec::new(alloc);
+    mem::replace(entries, none)
+}
+
+impl<D: Disk> Volume<D> {
+    /// The entries that joined since the last such call or the mount, in order. The history stays. It takes no memory.
+    pub fn take_entries(&mut self) -> Vec<Entry>
+        ensures entries { result.items ≡ self.old.entries }
+        ensures handed { OfEachHalf D.tells D.tells_crashes self.old (λ seen asked half. Moves seen asked self.old self.new half (HandsOut ∷ [])) }
+        ensures rest { self.new ≡ record self.old { entries = [] } }
+    {
+        take_all(self.alloc, &mut self.entries)
+    }
+
+    /// How many pages are dirty.
+    pub fn dirty(&self) -> usize
+        ensures { result ≡ length self.now.dirty }
+    {
+        self.cache.dirty_count()
+    }
+
+    /// The first fault of a write or sync of either part of the disk, and `None` where there was none.
+    pub fn halted(&self) -> Option<Fault>
+        ensures { result ≡ self.now.halted }
+    {
+        self.halted
+    }
+
+    /// How many entries the history has, and the number of its last one.
+    pub fn appended(&self) -> u64
+        ensures { result ≡ self.now.appended }
+    {
+        self.appended
+    }
+
+    /// The number of ring pages that the records since the newest SYNCPT take, with those that no group has taken.
+    pub fn since(&self) -> u32
+        ensures { result ≡ since_in self.now.text }
+    {
+        self.text.since()
+    }
+
+    /// The number of pages of the log's ring.
+    pub fn ring(&self) -> u32
+        ensures { result ≡ self.now.text.ring }
+    {
+        self.text.ring
+    }
+}

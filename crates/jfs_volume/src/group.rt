@@ -1,0 +1,41 @@
+//! Groups of entries, and which entries are acknowledged.
+
+ghost use Rattle.std.specs.Prelude.{◌≡◌, ◌≤◌, ◌∷◌, [], ℕ, Some, slice_get};
+ghost use Rattle.jfs_pages.specs.Dirty.{dirty_of};
+ghost use Rattle.jfs_halves.specs.declared.freed.FreedPage.{FreedPage as Freed};
+ghost use Rattle.jfs_halves.specs.Parts.{OfEachHalf};
+ghost use Rattle.jfs_halves.specs.Change.{Takes};
+ghost use Rattle.jfs_halves.specs.Moves.{Moves};
+ghost use Rattle.jfs_volume.specs.Told.{IsTold, MayBeDropped, still_freed};
+
+use crate::volume::Volume;
+use jfs_disk::Disk;
+use jfs_logpages::GroupText;
+
+impl<D: Disk> Volume<D> {
+    /// The records that no group has taken, as the text of one group; its last entry is the last one of the history. It takes no memory.
+    pub fn take_group(&mut self) -> GroupText
+        ensures text { (result.bytes.items ≡ self.old.text.bytes) × (result.ends.items ≡ self.old.text.ends) × (result.last ≡ self.old.text.last) }
+        ensures taken { OfEachHalf D.tells D.tells_crashes self.old (λ seen asked half. Moves seen asked self.old self.new half (Takes ∷ [])) }
+        ensures counts { (self.new.appended ≡ self.old.appended) × (self.new.taken ≡ self.old.appended) × (self.new.told ≡ self.old.told) × (self.new.halted ≡ self.old.halted) }
+    {
+        self.taken = self.appended;
+        self.text.take(self.alloc)
+    }
+
+    /// The first `n` entries are acknowledged: blocks that they freed aren't busy any more, and pages that they freed are dropped, unless a later entry changed them. It takes no memory.
+    pub fn told(&mut self, n: u64)
+        requires { (self.old.told ≤ n) × (n ≤ self.old.taken) }
+        ensures told { OfEachHalf D.tells D.tells_crashes self.old (λ seen asked half. IsTold seen asked n self.old self.new half) }
+        ensures dropped { (i : ℕ) (f : Freed) → slice_get self.old.freed i ≡ Some f → f.by_entry ≤ n → MayBeDropped f (dirty_of self.new.dirty f.page) → ⊥ }
+        ensures freed { self.new.freed ≡ still_freed n self.old.freed }
+        ensures counts { (self.new.appended ≡ self.old.appended) × (self.new.taken ≡ self.old.taken) × (self.new.told ≡ n) × (self.new.halted ≡ self.old.halted) × (self.new.text ≡ self.old.text) }
+    {
+        self.acknowledge(n);
+        let count = self.freed_count();
+        for i in 0..count {
+            self.drop_at(i);
+        }
+        self.forget_freed(n);
+    }
+}
