@@ -1,0 +1,4 @@
+pub mod Apart
+pub mod Trees
+pub mod Stage
+pub mod Taken

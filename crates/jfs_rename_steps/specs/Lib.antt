@@ -1,0 +1,4 @@
+-- what the clauses say
+pub mod Entries
+pub mod Objects
+pub mod Moves
