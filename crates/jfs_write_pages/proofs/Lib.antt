@@ -1,0 +1,7 @@
+pub mod Places
+pub mod Blocks
+pub mod Given
+pub mod Contents
+pub mod Spotted
+pub mod Held
+pub mod Steps

@@ -1,0 +1,16 @@
+//! What a write does to the blocks of a file: which of them it writes and what each holds then, and the extents that the file's tree gets.
+#![tactic(auto)]
+
+mod extents;
+mod fill;
+mod page;
+mod pages;
+mod spot;
+mod within;
+
+pub use extents::extents_for;
+pub use fill::{holes_in, placed};
+pub use page::{Change, push_page};
+pub use pages::push_pages;
+pub use spot::{Spot, push_between, spots_from};
+pub use within::{are_within, hint_behind};
