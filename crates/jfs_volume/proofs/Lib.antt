@@ -3,3 +3,4 @@ pub mod Counts
 pub mod Homing
 pub mod Dropping
 pub mod Starting
+pub mod Joining

@@ -4,3 +4,4 @@ pub mod Room
 pub mod Home
 pub mod Told
 pub mod Start
+pub mod Join

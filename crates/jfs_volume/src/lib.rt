@@ -4,10 +4,13 @@
 mod entries;
 mod group;
 mod home;
+mod join;
+mod outcome;
 mod start;
 mod told;
 mod volume;
 mod waiting;
 
+pub use outcome::Outcome;
 pub use volume::Volume;
 pub use waiting::WaitingText;
