@@ -1,9 +1,7 @@
 -- A volume as a transaction leaves it, step by step, and the plain tree beside it.
-use Rattle.std.proofs.Common.{◌≡◌, ◌≢◌, ◌≤◌, ◌<◌, refl, sym, ap, ◌∙◌, subst, inl, inr, ℕ, ◌+◌, ◌||◌, ◌&&◌, not, Bool, true, false, true≢false, ◌==◌, nat_lt, List, [], ◌∷◌, ◌++◌, length, Option, Some, None, Ok, arith}
-use Rattle.std.proofs.lemmas.Bool.Decides.{nat_tests}
+use Rattle.std.proofs.Common.{◌≡◌, ◌≢◌, ◌≤◌, ◌<◌, refl, sym, ap, ◌∙◌, subst, inl, inr, ℕ, ◌+◌, Bool, true, false, List, [], ◌∷◌, ◌++◌, length, Option, Some, Ok, arith}
 use Rattle.jfs_bits.specs.Field.{put_bytes}
 use Rattle.jfs_bits.specs.declared.descriptor.Moment.{Moment}
-use Rattle.jfs_bits.specs.declared.rule.PageKind.{PageKind}
 use Rattle.jfs_bits.specs.declared.rule.PageKind.TheVariants as kinds
 use Rattle.jfs_inode.specs.declared.fields.Dinode.{Dinode}
 use Rattle.jfs_name.specs.declared.name.NameEntry.{NameEntry}
@@ -18,7 +16,7 @@ use Rattle.jfs_tree.specs.Fresh.{LeadsTo, after_tx}
 use Rattle.jfs_tree.specs.Removes.{TellsFreed, page_frees}
 use Rattle.jfs_tree.specs.Tell.{AllLines, PageEdits, is_in}
 use Rattle.jfs_dtree.specs.Parent.{parent_of}
-use Rattle.jfs_dtree.specs.Spells.{spells_names, owned_pages}
+use Rattle.jfs_dtree.specs.Spells.{spells_names}
 use Rattle.jfs_dtree.specs.Adding.{AddsName}
 use Rattle.jfs_dtree.specs.Removing.{RemovesName, HasOneLessName}
 use Rattle.jfs_dtree.specs.Replacing.{ReplacesName, ChangesOnePlace}
@@ -27,23 +25,23 @@ use Rattle.jfs_plain.specs.Moves.{changed, dropped}
 use Rattle.jfs_plain.specs.declared.node.Node.{Node}
 use Rattle.jfs_objects.specs.Readers.{Readers}
 use Rattle.jfs_objects.specs.Volume.{Volume}
-use Rattle.jfs_objects.specs.Objects.{Object, objects, spelled, is_live, has_names, listed}
+use Rattle.jfs_objects.specs.Objects.{objects, spelled, is_live, has_names}
 use Rattle.jfs_objects.specs.Owners.{bit, holds}
 use Rattle.jfs_objects.specs.Changes.{put, PutsInode, SetsObject, DropsObject}
 use Rattle.jfs_objects.proofs.Owned.{owned_once}
 use Rattle.jfs_objects.proofs.Sums.{zero_or_more}
 use Rattle.jfs_meaning.specs.Readers.{readers, root_of}
 use Rattle.jfs_meaning.proofs.Books.{count_append}
-use Rattle.jfs_steps.specs.After.{used_after, extents_after, takes, frees}
-use Rattle.jfs_steps.specs.Laws.{TakesAndFrees, LeavesSets, ChangesPagesAlone, IsFair}
+use Rattle.jfs_steps.specs.After.{used_after, extents_after, frees}
+use Rattle.jfs_steps.specs.Laws.{TakesAndFrees, LeavesSets, IsFair}
 use Rattle.jfs_steps.specs.Put.{TellsLines}
-use Rattle.jfs_steps.proofs.After.{counts, used_onto, extents_onto, lines_alone, leaves_onto, runs_leave, same_bits}
+use Rattle.jfs_steps.proofs.After.{counts, used_onto, extents_onto, lines_alone, leaves_onto, runs_leave}
 use Rattle.jfs_steps.proofs.Sets.{frees_onto, moves_onto, lines_move, frees_move, taken_move, lines_on_top}
 use Rattle.jfs_lead_steps.specs.Reached.{HasTree}
 use Rattle.jfs_lead_steps.proofs.Chain.{set_here, set_other, drop_has, drop_other}
-use Rattle.jfs_lead_steps.proofs.InPlace.{ChangesInPlace, in_place_set, in_place_has, in_place_other}
+use Rattle.jfs_lead_steps.proofs.InPlace.{ChangesInPlace, in_place_has, in_place_other}
 use Rattle.jfs_lead_steps.proofs.Turned.{turns, dir_holds, no_extents_of, names_listed}
-use Rattle.jfs_lead_steps.proofs.Named.{put_within, put_past, all_below, gains_set, gains_have, leads_set, leads_have, loses_set, loses_have}
+use Rattle.jfs_lead_steps.proofs.Named.{put_within, put_past, all_below, gains_set, gains_have, leads_set, leads_have, loses_have}
 use Rattle.jfs_lead_steps.proofs.Again.{again, stays_in_use}
 
 -- After so many edits of volume v: pages as the edits leave them, and blocks in use too, but for those that are owed: they are freed by the edits, and an object still has them.

@@ -1,5 +1,5 @@
 -- Which blocks the transactions of a rename take: those of the target's tree alone.
-use Rattle.std.proofs.Common.{◌≡◌, refl, sym, ap, ◌∙◌, subst, ℕ, ◌+◌, Bool, true, false, List, [], ◌++◌, arith}
+use Rattle.std.proofs.Common.{◌≡◌, refl, ap, ◌∙◌, ℕ, Bool, true, false, List, [], ◌++◌, arith}
 use Rattle.jfs_bits.specs.declared.descriptor.Moment.{Moment}
 use Rattle.jfs_bits.specs.declared.descriptor.Pxd.{Pxd}
 use Rattle.jfs_bits.specs.declared.rule.PageKind.TheVariants as kinds
@@ -14,15 +14,15 @@ use Rattle.jfs_objects.specs.Objects.{has_extents}
 use Rattle.jfs_meaning.specs.Readers.{root_of}
 use Rattle.jfs_way.specs.declared.object.Held.{Held}
 use Rattle.jfs_steps.specs.After.{takes}
-use Rattle.jfs_steps.specs.Laws.{TakesAndFrees, LeavesSets}
+use Rattle.jfs_steps.specs.Laws.{LeavesSets}
 use Rattle.jfs_steps.specs.Put.{TellsLines}
 use Rattle.jfs_steps.proofs.After.{lines_alone, runs_leave}
 use Rattle.jfs_steps.proofs.Sets.{takes_onto, moves_onto, lines_move, frees_move, taken_move, lines_on_top}
-use Rattle.jfs_loss.specs.Frees.{FreesObject, CutsIf, attribute_runs}
+use Rattle.jfs_loss.specs.Frees.{CutsIf, attribute_runs}
 use Rattle.jfs_loss.proofs.Counts.{runs_move, changes_move}
-use Rattle.jfs_rename_steps.specs.Entries.{GainsEntry, LeadsEntry, LosesEntry}
+use Rattle.jfs_rename_steps.specs.Entries.{LosesEntry}
 use Rattle.jfs_rename_steps.specs.Objects.{goes, FreesIf}
-use Rattle.jfs_rename_steps.specs.Moves.{Leaves, MovesToFree, MovesOver, gain_of}
+use Rattle.jfs_rename_steps.specs.Moves.{Leaves, MovesToFree, MovesOver}
 use Rattle.jfs_rename_steps.specs.declared.leaving.Leaving.{Leaving}
 use Rattle.jfs_rename_steps.specs.declared.moving.Moving.{Moving}
 use Rattle.jfs_rename_steps.proofs.Stage.{lead_leaves, loss_of, loss_moves}

@@ -1,9 +1,8 @@
 -- The plain tree after the steps of a rename is that of the plain step.
 use Rattle.std.proofs.Common.{◌≡◌, ◌≢◌, refl, sym, ap, ◌∙◌, ℕ, ◌+◌, ◌-◌, Bool, true, false, not, ◌&&◌, ◌==◌, nat_le, if◌then◌else◌, List}
 use Rattle.jfs_bits.specs.declared.descriptor.Moment.{Moment}
-use Rattle.jfs_name.specs.declared.name.NameEntry.{NameEntry}
 use Rattle.jfs_name.specs.Directory.{with_name, without_name, with_inode}
-use Rattle.jfs_plain.specs.Tree.{Tree, Place, place_at}
+use Rattle.jfs_plain.specs.Tree.{Tree, place_at}
 use Rattle.jfs_plain.specs.Moves.{changed, dropped, stamped, rises, falls, moves, gains, loses, leads, shifts, displaced}
 use Rattle.jfs_plain.specs.Step.{entry_as, gained, departs}
 use Rattle.jfs_plain.specs.declared.node.Node.{Node}
