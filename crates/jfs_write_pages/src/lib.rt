@@ -3,6 +3,7 @@
 
 mod extents;
 mod fill;
+mod law;
 mod page;
 mod pages;
 mod spot;
@@ -10,6 +11,7 @@ mod within;
 
 pub use extents::extents_for;
 pub use fill::{holes_in, placed};
+pub use law::written_file_holds_the_bytes;
 pub use page::{Change, push_page};
 pub use pages::push_pages;
 pub use spot::{Spot, push_between, spots_from};
