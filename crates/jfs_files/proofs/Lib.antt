@@ -1,4 +1,5 @@
 pub mod Paths
 pub mod Replies
 pub mod Links
+pub mod NewObjects
 pub mod Removals

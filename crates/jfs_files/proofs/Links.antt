@@ -46,15 +46,15 @@ both_ok : {X Y : Type 0} (x : Result X Refusal) (f : X → Result Y Refusal) (y 
 both_ok (Ok z) f y e = (z, refl, e)
 both_ok (Err why) f y e = absurd (cc (e))
 
-enough_for : (free : ℕ) (it : Unit {0}) → space_for free 8 ≡ Ok it → 8 ≤ free
-enough_for free it e = by (nat_lt free (8 + 64)) refl e
+pub enough_for : (free need : ℕ) (it : Unit {0}) → space_for free need ≡ Ok it → need ≤ free
+enough_for free need it e = by (nat_lt free (need + 64)) refl e
   where
     not_less : (a b : ℕ) → nat_lt a b ≡ false → b ≤ a
     not_less a b h = grind (arith, nat_tests)
 
-    by : (x : Bool) → nat_lt free (8 + 64) ≡ x → (if x then Err (NoSpace free) else Ok tt) ≡ Ok it → 8 ≤ free
+    by : (x : Bool) → nat_lt free (need + 64) ≡ x → (if x then Err (NoSpace free) else Ok tt) ≡ Ok it → need ≤ free
     by true h e = absurd (cc (e))
-    by false h e = (let l = not_less free (8 + 64) h in omega (arith, l))
+    by false h e = (let l = not_less free (need + 64) h in omega (arith, l))
 
 module _ (blocks : ℕ) (pages : ℕ → List ℕ) (map : Blocks) (inodes : Inodes) (from to : List (List ℕ)) where
   abbrev after_space : Held → Held → Result Joint Refusal
@@ -75,7 +75,7 @@ module _ (blocks : ℕ) (pages : ℕ → List ℕ) (map : Blocks) (inodes : Inod
           let placed = both_ok (new_place_of blocks pages inodes to) (after_place object) joint e in
           let few = both_ok (unless_full object (Ok placed.0)) (after_space object) joint placed.2 in
           let space = both_ok (space_for (unowned_count map) need_of_name) (λ it. and_then (unless_deep blocks pages (last_of to) few.0) (λ dir. Ok (joint_of object dir))) joint few.2 in
-          enough_for (unowned_count map) space.0 space.1
+          enough_for (unowned_count map) need_of_name space.0 space.1
 
   pub busy_between : (joint : Joint) × (asked blocks pages map inodes from to ≡ Ok joint) → Lacks map want_of_name → NoneReserved map → IsBusyFor map want_of_name
   busy_between asks lacks none = (lacks, settled_is_enough map want_of_name none (let l = looked asks.0 asks.1 in omega (arith, l)) (λ run. absurd (true≢false (sym run))))

@@ -19,9 +19,11 @@ use Rattle.jfs_way.specs.Answer.{is_open, CarriesCause}
 use Rattle.jfs_way.specs.Volume.{volume_of, PlacesWithin}
 use Rattle.jfs_steps.specs.After.{after_call, takes}
 use Rattle.jfs_steps.specs.Call.{IsDone}
-use Rattle.jfs_claim.specs.Look.{IsAtRest}
+use Rattle.jfs_claim.specs.Look.{IsAtRest, LooksFor}
 use Rattle.jfs_claim.specs.Take.{Lacks, HasFree}
+use Rattle.jfs_claim.specs.declared.look.FreshInode.{FreshInode}
 use Rattle.jfs_claim.specs.declared.reserve.Want.{Want}
+use Rattle.jfs_create.specs.Reserved.{want_with}
 use Rattle.jfs_link.specs.Link.{want_of_name, ReservesFree}
 use Rattle.jfs_files.specs.declared.outcome.Maps.{Maps}
 use Rattle.jfs_files.specs.declared.outcome.FileOutcome.{FileOutcome}
@@ -83,20 +85,26 @@ abbrev pub IsReply : Tree → Outcome → Reply → Type 0
 IsReply t plain (Refused why) = (plain ≡ Err why) ⊎ (is_open why ≡ true)
 IsReply t plain reply = plain ≡ Ok (reply, t)
 
--- What a call wants reserved: a link eight blocks, one by one; no other call that stands wants any.
+-- What a call wants reserved: a link eight blocks, one by one; a new object these, and a run of four before them where its inode needs an extent; no other call that stands wants any.
 abbrev pub nothing : Want
 nothing = record { run = false; blocks = 0 }
 
-abbrev pub wanted : Call → Want
-wanted (calls.Link from to) = want_of_name
-wanted _ = nothing
+abbrev pub WantsInode : Maps → Want → Type 0
+WantsInode maps want = (fresh : FreshInode) × LooksFor maps.blocks maps.inodes (Ok fresh) × (want ≡ want_with fresh.needs_extent)
+
+abbrev pub Wants : Maps → Call → Want → Type 0
+Wants maps (calls.Mkdir path mode) want = WantsInode maps want
+Wants maps (calls.Create path mode) want = WantsInode maps want
+Wants maps (calls.Symlink path target) want = WantsInode maps want
+Wants maps (calls.Link from to) want = want ≡ want_of_name
+Wants maps _ want = want ≡ nothing
 
 -- Busy blocks alone stand between a call and its blocks: what it wants isn't free, and is once they are settled.
 abbrev pub IsBusyFor : Blocks → Want → Type 0
 IsBusyFor map want = Lacks map want × HasFree (all_settled map) want
 
 -- The plain step is taken, whose tree the volume after the transaction has; or the reply is the plain step's; or busy blocks stand in between. No call that stands so far writes blocks of files.
-abbrev pub AnswersAs : ℕ → Blocks → Volume → Want → (Tree → Outcome) → FileOutcome → Type 0
-AnswersAs blocks map v want plain (Changed tx written) = IsDone blocks v (after_call blocks tx v) plain × (written ≡ [])
-AnswersAs blocks map v want plain (Same reply) = IsReply (tree_on (readers blocks) v) (plain (tree_on (readers blocks) v)) reply
-AnswersAs blocks map v want plain NeedsLog = IsBusyFor map want
+abbrev pub AnswersAs : ℕ → Blocks → Volume → (Want → Type 0) → (Tree → Outcome) → FileOutcome → Type 0
+AnswersAs blocks map v wants plain (Changed tx written) = IsDone blocks v (after_call blocks tx v) plain × (written ≡ [])
+AnswersAs blocks map v wants plain (Same reply) = IsReply (tree_on (readers blocks) v) (plain (tree_on (readers blocks) v)) reply
+AnswersAs blocks map v wants plain NeedsLog = (want : Want) × wants want × IsBusyFor map want

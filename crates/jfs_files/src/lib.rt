@@ -2,9 +2,9 @@
 #![tactic(auto)]
 
 mod call;
-mod link;
+mod change;
+mod naming;
 mod outcome;
-mod removal;
 mod reply;
 
 pub use call::file_call;

@@ -1,11 +1,16 @@
 //! What a file call is given, and what it answers.
 
+ghost use Rattle.std.specs.Prelude.{◌≡◌, []};
+ghost use Rattle.jfs_plain.specs.declared.reply.Reply.TheVariants.{Refused};
+ghost use Rattle.jfs_files.specs.declared.outcome.FileOutcome.TheVariants.{Changed, Same};
+
 use jfs_bits::Sequence;
 use jfs_bmap::BlockMap;
 use jfs_disk::Page;
 use jfs_imap::InodeMap;
-use jfs_plain::Reply;
+use jfs_plain::{Refusal, Reply};
 use jfs_ranges::Tx;
+use std::alloc::Global;
 
 /// The two maps of a mounted volume, and the greatest size of a file in bytes, which the log's length decides.
 #[derive(Drop)]
@@ -34,4 +39,22 @@ pub enum FileOutcome {
     Same(Reply),
     /// Busy blocks stand between the call and its blocks: it is to be called again once the entries that freed them are durable.
     NeedsLog,
+}
+
+impl FileOutcome {
+    /// A transaction, and no block of a file.
+    pub(crate) fn changed(alloc: Global, tx: Tx) -> FileOutcome
+        ensures { result ≡ Changed tx [] }
+    {
+        FileOutcome::Changed {
+            tx,
+            blocks: DataList::new(alloc),
+        }
+    }
+
+    pub(crate) fn refused(why: Refusal) -> FileOutcome
+        ensures { result ≡ Same (Refused why) }
+    {
+        FileOutcome::Same(Reply::Refused(why))
+    }
 }
