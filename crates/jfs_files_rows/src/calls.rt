@@ -1,12 +1,12 @@
 //! Replies and transactions.
 
 ghost use Rattle.std.specs.Prelude.{◌≡◌, true, IfSome};
-ghost use Rattle.jfs_plain.specs.Limits.{FitsPath, FitsCall};
+ghost use Rattle.jfs_plain.specs.Limits.{FitsPath, FitsCall, FitsTarget};
 ghost use Rattle.jfs_files.specs.Meets.{stands};
 
 use crate::claims::map_of;
 use crate::words::{INNER_ROOT, Word, small_disk};
-use jfs_bits::{Moment, Rule, put_u32};
+use jfs_bits::{Blob, Moment, Rule, put_u32};
 use jfs_disk::{Disk, Part};
 use jfs_files::{FileOutcome, Maps, file_call};
 use jfs_imap::InodeMap;
@@ -20,16 +20,46 @@ use std::test::*;
 
 /// The inode map of the small volume: inodes 0 to 7 are in use.
 pub fn inodes_of(alloc: Global) -> Result<InodeMap, AllocError> {
+    inodes_with(alloc, 0xff00_0000)
+}
+
+/// Which of its 32 inodes are in use is told by a word, the first one by the highest bit.
+fn inodes_with(alloc: Global, used: u32) -> Result<InodeMap, AllocError> {
     let mut set = [0u8; 512];
-    put_u32(&mut set, 0, 0xff00_0000);
+    put_u32(&mut set, 0, used);
     let list = places_of(alloc, &[(0, 29)], 1)?;
     InodeMap::from_parts(alloc, &set, &list, 1, 8192, 1)
 }
 
-fn maps_of(alloc: Global) -> Result<Maps, AllocError> {
-    Ok(Maps {
-        blocks: map_of(alloc, 64)?,
-        inodes: inodes_of(alloc)?,
+/// What differs from the small volume: how many blocks there are, which inodes are in use, and words.
+#[derive(Clone, Copy)]
+struct Given<'a> {
+    blocks: u32,
+    used: u32,
+    words: &'a [Word],
+}
+
+/// 64 blocks.
+const SMALL: Given<'static> = Given {
+    blocks: 64,
+    used: 0xff00_0000,
+    words: &[],
+};
+
+/// 200 blocks.
+const LARGE: Given<'static> = Given {
+    blocks: 200,
+    used: 0xff00_0000,
+    words: &[],
+};
+
+fn maps_of(alloc: Global, given: Given<'_>) -> Option<Maps> {
+    if given.blocks == 0 || given.blocks > 224 {
+        return None;
+    }
+    Some(Maps {
+        blocks: map_of(alloc, given.blocks).ok()?,
+        inodes: inodes_with(alloc, given.used).ok()?,
         file_limit: 33_554_432,
     })
 }
@@ -64,22 +94,33 @@ fn third_last(bytes: &[u8]) -> (usize, u32) {
 /// Which call is asked for.
 #[derive(Clone, Copy)]
 enum Asked {
+    Mkdir,
+    Create,
+    Symlink,
     Chmod,
     Link,
+    Unlink,
+    Rmdir,
     Stat,
     List,
     Readlink,
     Read,
 }
 
-/// The call of a path that is asked for; a link gets the other one.
-fn call_of(asked: Asked, path: Path, to: Path) -> Call
+/// The call of a path that is asked for; a link gets the other one, and a symbolic link a target.
+fn call_of(asked: Asked, path: Path, to: Path, target: Blob) -> Call
     requires path { FitsPath path }
     requires to { FitsPath to }
+    requires target { FitsTarget target }
     ensures fits { FitsCall result }
     ensures taken { stands result ≡ true }
 {
     match asked {
+        Asked::Mkdir => Call::Mkdir { path, mode: 0o750 },
+        Asked::Create => Call::Create { path, mode: 0o640 },
+        Asked::Symlink => Call::Symlink { path, target },
+        Asked::Unlink => Call::Unlink { path },
+        Asked::Rmdir => Call::Rmdir { path },
         Asked::Chmod => Call::Chmod { path, mode: 0o700 },
         Asked::Link => Call::Link { from: path, to },
         Asked::Stat => Call::Stat { path },
@@ -103,21 +144,31 @@ fn path_of(alloc: Global, text: &[u8]) -> Option<Path>
     }
 }
 
-/// What is answered of the path (a link gets the other one too), on the small volume with these words.
+/// The target `xy`.
+fn target_of(alloc: Global) -> Option<Blob>
+    ensures { IfSome result FitsTarget }
+{
+    let mut target = Blob::new(alloc);
+    match target.extend_from_slice(b"xy") {
+        Ok(()) => Some(target),
+        Err(_) => None,
+    }
+}
+
+/// What is answered of the path (a link gets the name `/n`).
 fn answer(
     alloc: Global,
-    words: &[Word],
+    given: Given<'_>,
     asked: Asked,
     path: &[u8],
-    to: &[u8],
 ) -> Option<Result<(usize, u32), Refusal>> {
-    let mut maps = maps_of(alloc).ok()?;
-    let mut disk = small_disk(alloc, words).ok()?;
+    let mut maps = maps_of(alloc, given)?;
+    let mut disk = small_disk(alloc, given.blocks, given.words).ok()?;
     let blocks = disk.pages();
     let mut view = DiskView::new(&mut disk, Part::Whole, blocks);
     let path = path_of(alloc, path)?;
-    let to = path_of(alloc, to)?;
-    let call = call_of(asked, path, to);
+    let to = path_of(alloc, b"/n")?;
+    let call = call_of(asked, path, to, target_of(alloc)?);
     let now = Moment { sec: 1000, nano: 7 };
     let request = Request { call, lazy: false };
     if maps.blocks.blocks() != view.blocks() {
@@ -133,29 +184,60 @@ fn damaged(page: u32) -> Result<(usize, u32), Refusal> {
     })
 }
 
-// A chmod changes one line of an inode. A link is refused for space, since 64 blocks are always kept. A root without a flag is told at its inode's page, and one that leads to a page of
-// zeros at that page.
+// A link is refused for space, since 64 blocks are always kept. A root without a flag is told at its inode's page, and one that leads to a page of zeros at that page.
 #[test]
 fn calls_are_answered(rt: HostRuntime) {
     let alloc = rt.alloc();
-    let no_flag: [Word; 1] = [(29, 1264, 0)];
-    let rows: [(&[Word], Asked, &[u8], Result<(usize, u32), Refusal>); 14] = [
-        (&[], Asked::Chmod, b"/a", Ok((1, 0))),
-        (&[], Asked::Chmod, b"/e", Err(Refusal::NotFound)),
-        (&[], Asked::Link, b"/a", Err(Refusal::NoSpace { free: 20 })),
-        (&[], Asked::Link, b"/", Err(Refusal::IsDir)),
-        (&[], Asked::Stat, b"/d", Ok((0, 7))),
-        (&[], Asked::List, b"/", Ok((4, 7))),
-        (&[], Asked::List, b"/a", Err(Refusal::NotDir)),
-        (&no_flag, Asked::List, b"/", damaged(29)),
-        (&INNER_ROOT, Asked::List, b"/", damaged(44)),
-        (&[], Asked::Readlink, b"/b", Ok((3, 120))),
-        (&[], Asked::Readlink, b"/c", Ok((4098, 100))),
-        (&[], Asked::Readlink, b"/a", Err(Refusal::NotFile)),
-        (&[], Asked::Read, b"/a", Ok((4, 66))),
-        (&[], Asked::Read, b"/c", Err(Refusal::NotFile)),
+    let no_flag = Given {
+        words: &[(29, 1264, 0)],
+        ..SMALL
+    };
+    let inner_root = Given {
+        words: &INNER_ROOT,
+        ..SMALL
+    };
+    let rows: [(Given<'_>, Asked, &[u8], Result<(usize, u32), Refusal>); 15] = [
+        (SMALL, Asked::Chmod, b"/e", Err(Refusal::NotFound)),
+        (SMALL, Asked::Create, b"/n", Err(Refusal::NoSpace { free: 20 })),
+        (SMALL, Asked::Link, b"/a", Err(Refusal::NoSpace { free: 20 })),
+        (SMALL, Asked::Link, b"/", Err(Refusal::IsDir)),
+        (SMALL, Asked::Rmdir, b"/a", Err(Refusal::NotDir)),
+        (SMALL, Asked::Stat, b"/d", Ok((0, 7))),
+        (SMALL, Asked::List, b"/", Ok((4, 7))),
+        (SMALL, Asked::List, b"/a", Err(Refusal::NotDir)),
+        (no_flag, Asked::List, b"/", damaged(29)),
+        (inner_root, Asked::List, b"/", damaged(44)),
+        (SMALL, Asked::Readlink, b"/b", Ok((3, 120))),
+        (SMALL, Asked::Readlink, b"/c", Ok((4098, 100))),
+        (SMALL, Asked::Readlink, b"/a", Err(Refusal::NotFile)),
+        (SMALL, Asked::Read, b"/a", Ok((4, 66))),
+        (SMALL, Asked::Read, b"/c", Err(Refusal::NotFile)),
     ];
-    for (words, asked, path, wanted) in rows {
-        assert_eq!(rt; answer(alloc, words, asked, path, b"/n"), Some(wanted));
+    for (given, asked, path, wanted) in rows {
+        assert_eq!(rt; answer(alloc, given, asked, path), Some(wanted));
+    }
+}
+
+// A chmod changes one line of an inode. A new name changes two runs of its directory's lines: times and the tree's head; its slot. Then come the object's: all of them; of a symbolic link the
+// fields and the target; and before them four pages, where an inode extent is made. An inode that gets a further name changes in one line.
+#[test]
+fn changes_are_answered(rt: HostRuntime) {
+    let alloc = rt.alloc();
+    let all_in_use = Given {
+        used: 0xffff_ffff,
+        ..LARGE
+    };
+    let rows: [(Given<'_>, Asked, &[u8], usize); 8] = [
+        (SMALL, Asked::Chmod, b"/a", 1),
+        (LARGE, Asked::Mkdir, b"/n", 3),
+        (LARGE, Asked::Create, b"/n", 3),
+        (LARGE, Asked::Symlink, b"/n", 4),
+        (LARGE, Asked::Link, b"/a", 3),
+        (all_in_use, Asked::Mkdir, b"/n", 4),
+        (all_in_use, Asked::Create, b"/n", 4),
+        (all_in_use, Asked::Symlink, b"/n", 5),
+    ];
+    for (given, asked, path, edits) in rows {
+        assert_eq!(rt; answer(alloc, given, asked, path), Some(Ok((edits, 0))));
     }
 }

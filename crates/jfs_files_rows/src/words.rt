@@ -1,4 +1,4 @@
-//! The words of a small volume of 64 blocks that aren't zero, worked out from the layout: inodes 0 to 31 stand on pages 29 to 32.
+//! The words of a small volume that aren't zero, all in its first 64 blocks, worked out from the layout: inodes 0 to 31 stand on pages 29 to 32.
 
 use jfs_bits::put_u32;
 use jfs_disk::{Disk, Page, SureDisk};
@@ -76,9 +76,9 @@ pub const INNER_ROOT: [Word; 11] = [
     (29, 1316, 0),
 ];
 
-/// The small volume, with these words instead of its own.
-pub fn small_disk(alloc: Global, others: &[Word]) -> Result<SureDisk, AllocError> {
-    let mut disk = SureDisk::new(alloc, 64)?;
+/// The small volume with so many blocks, with these words instead of its own.
+pub fn small_disk(alloc: Global, blocks: u32, others: &[Word]) -> Result<SureDisk, AllocError> {
+    let mut disk = SureDisk::new(alloc, blocks)?;
     for page in 0..64 {
         let mut bytes = Page::zeros();
         put(&mut bytes, page, &ROOT);
