@@ -198,8 +198,18 @@ fn calls_are_answered(rt: HostRuntime) {
     };
     let rows: [(Given<'_>, Asked, &[u8], Result<(usize, u32), Refusal>); 15] = [
         (SMALL, Asked::Chmod, b"/e", Err(Refusal::NotFound)),
-        (SMALL, Asked::Create, b"/n", Err(Refusal::NoSpace { free: 20 })),
-        (SMALL, Asked::Link, b"/a", Err(Refusal::NoSpace { free: 20 })),
+        (
+            SMALL,
+            Asked::Create,
+            b"/n",
+            Err(Refusal::NoSpace { free: 20 }),
+        ),
+        (
+            SMALL,
+            Asked::Link,
+            b"/a",
+            Err(Refusal::NoSpace { free: 20 }),
+        ),
         (SMALL, Asked::Link, b"/", Err(Refusal::IsDir)),
         (SMALL, Asked::Rmdir, b"/a", Err(Refusal::NotDir)),
         (SMALL, Asked::Stat, b"/d", Ok((0, 7))),
