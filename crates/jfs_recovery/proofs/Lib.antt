@@ -1,0 +1,15 @@
+pub mod Images
+pub mod Redo
+pub mod Owners
+pub mod Slots
+pub mod Kept
+pub mod Again
+pub mod Parts
+pub mod Lines
+pub mod Synced
+pub mod SmallFace
+pub mod Mount
+pub mod Logged
+pub mod Backward
+pub mod Forward
+pub mod Grown

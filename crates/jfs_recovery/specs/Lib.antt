@@ -1,0 +1,9 @@
+pub mod Face
+pub mod Core
+pub mod Sound
+pub mod Lines
+pub mod Mount
+pub mod Forward
+pub mod Backward
+pub mod Small
+pub mod Laws
