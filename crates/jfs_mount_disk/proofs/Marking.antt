@@ -1,7 +1,8 @@
 -- Page 8 of the low part is written and synced, moment by moment.
-use Rattle.std.proofs.Common.{◌≡◌, ◌<◌, ◌++◌, ◌∷◌, [], ℕ, List, length, sym, ap, subst, ◌∙◌}
+use Rattle.std.proofs.Common.{◌≡◌, ◌<◌, ◌≤◌, ◌++◌, ◌∷◌, [], ℕ, List, length, inl, inr, sym, ap, subst, ◌∙◌, arith}
+use Rattle.std.proofs.lemmas.List.{length-append}
 use Rattle.jfs_disk.specs.Image.{Image, page_of}
-use Rattle.jfs_disk.specs.Crash.{DiskState, AllSince, IsCrashImage, LeavesTorn, last_of, seen_of, written, settled}
+use Rattle.jfs_disk.specs.Crash.{DiskState, AllSince, IsCrashImage, LeavesTorn, last_of, seen_of, written, failed, settled}
 use Rattle.jfs_disk.specs.Moment.{IsResting, IsLawful, now_of}
 use Rattle.jfs_disk.proofs.WriteThenSync.{AllTorn, starts-torn, all-failed, all-written, all-synced}
 use Rattle.jfs_super.specs.declared.fields.Super.{Super}
@@ -31,3 +32,15 @@ module _ (s : Super) (count : ℕ) (image : Image) (past : List DiskState) (laws
         → AllSince (IsPartlyMarked s image) new (now_of past)
     synced_since seen mid new e crash now synced =
         marked bytes new is (all-synced count 8 bytes image seen past mid new (record { laws = laws; there = there; size = size }) (once mid e) rests crash now synced)
+
+-- ---- the past goes on
+
+pub later_same : (past new : List DiskState) → new ≡ past → now_of past ≤ now_of new
+later_same past new e = omega (arith, ap (λ (p : List DiskState). length p) e)
+
+pub later_push : (past new : List DiskState) (state : DiskState) → new ≡ past ++ state ∷ [] → now_of past ≤ now_of new
+later_push past new state e = omega (arith, ap (λ (p : List DiskState). length p) e, length-append past (state ∷ []))
+
+pub later_torn : (n : ℕ) (bytes : List ℕ) (past new : List DiskState) → LeavesTorn n bytes past new → now_of past ≤ now_of new
+later_torn n bytes past new (inl same) = later_same past new same
+later_torn n bytes past new (inr torn) = later_push past new (failed n bytes torn.0 (last_of past)) torn.2

@@ -1,17 +1,19 @@
 -- Pages of a disk that was cut and joined again, and its count of faults.
-use Rattle.std.proofs.Common.{◌≡◌, ◌⊎◌, ◌<◌, ◌≤◌, ◌+◌, ◌-◌, ◌^◌, ℕ, List, [], ◌++◌, length, take, drop, min, inl, inr, sym, ap, ◌∙◌, arith}
+use Rattle.std.proofs.Common.{◌≡◌, ◌⊎◌, ◌<◌, ◌≤◌, ◌+◌, ◌-◌, ◌^◌, ℕ, List, [], ◌++◌, length, take, drop, min, inl, inr, refl, sym, ap, ◌∙◌, arith}
 use Rattle.std.proofs.lemmas.Bool.{cases_lt}
 use Rattle.std.proofs.lemmas.List.{length-map, take-map, drop-map, get_or-take, get_or-drop, get_or_append_left, get_or-append_right}
 use Rattle.jfs_bits.specs.Count.{Rose}
 use Rattle.jfs_disk.specs.Image.{Image, page_of}
 use Rattle.jfs_disk.specs.Crash.{DiskState, last_of, settled}
 use Rattle.jfs_disk.specs.Cut.{lows_of, highs_of}
+use Rattle.jfs_disk.specs.declared.disk.Fault.{Fault}
+use Rattle.jfs_disk.specs.declared.disk.Part.TheVariants.{Low, High}
 use Rattle.jfs_disk.specs.Moment.{IsResting, now_of}
 use Rattle.jfs_disk.proofs.Cuts.{last_of-map}
 use Rattle.jfs_logpages.specs.Fresh.{OthersStay}
 use Rattle.jfs_mount_disk.specs.declared.ready.BeginError.{BeginError}
 use Rattle.jfs_mount_disk.specs.declared.ready.BeginError.TheVariants as errors
-use Rattle.jfs_mount_disk.specs.Begun.{IsCause}
+use Rattle.jfs_mount_disk.specs.Begun.{IsLowCause, IsPartFault, IsCause}
 
 -- A disk is cut before page `at`, and both parts are joined again: a page is as it was where it was so in its part.
 pub pages_stay : (at len : ℕ) (old low high : Image) → at + len ≤ length old → length low ≡ at
@@ -35,8 +37,8 @@ pages_stay at len old low high within long lows highs n other outside = by (case
             sides (inr later) (inr past) = inr (omega (arith, later, past))
 
 -- the low part's count rises with a fault alone, and so does that of the disk that is joined
-pub cause_stays : (disk low high now : ℕ) (why : BeginError) → low + high ≡ disk → disk < 2 ^ 64 → IsCause low now why → IsCause disk (min (now + high) (2 ^ 64 - 1)) why
-cause_stays disk low high now (errors.Disk fault) sum fits rose = by rose
+rose_stays : (disk low high now : ℕ) → low + high ≡ disk → disk < 2 ^ 64 → Rose low now → Rose disk (min (now + high) (2 ^ 64 - 1))
+rose_stays disk low high now sum fits rose = by rose
   where
     by : Rose low now → Rose disk (min (now + high) (2 ^ 64 - 1))
     by (inl more) = sides (cases_lt (now + high) (2 ^ 64 - 1))
@@ -45,6 +47,16 @@ cause_stays disk low high now (errors.Disk fault) sum fits rose = by rose
         sides (inl less) = inl (omega (arith, more, sum, less))
         sides (inr most) = inr (omega (arith, most))
     by (inr end) = inr (omega (arith, end))
+
+-- a fault of a part, once it is joined to the other one
+pub part_cause : (disk own other now : ℕ) (fault : Fault) → own + other ≡ disk → disk < 2 ^ 64 → (fault.part ≡ Low) ⊎ (fault.part ≡ High) → Rose own now → fault.count ≡ now
+    → Rose disk (min (now + other) (2 ^ 64 - 1)) × IsPartFault disk (min (now + other) (2 ^ 64 - 1)) fault
+part_cause disk own other now fault sum fits part rose is =
+    (rose_stays disk own other now sum fits rose, record { part = part; own = own; other = other; cut = sum; rose = rw is rose; both = rw is refl })
+
+pub cause_stays : (disk low high now : ℕ) (why : BeginError) → low + high ≡ disk → disk < 2 ^ 64 → IsLowCause low now why → IsCause disk (min (now + high) (2 ^ 64 - 1)) why
+cause_stays disk low high now (errors.Disk fault) sum fits cause =
+    part_cause disk low high now fault sum fits (inl (ap (λ (f : Fault). f.part) cause.1)) cause.0 (ap (λ (f : Fault). f.count) cause.1)
 cause_stays disk low high now errors.Memory sum fits same = omega (arith, sum, fits, same)
 
 -- ---- parts of a disk with nothing pending have nothing pending

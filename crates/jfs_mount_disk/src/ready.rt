@@ -1,15 +1,17 @@
 //! A disk is made ready for a volume that is mounted on it.
 
-ghost use Rattle.std.specs.Prelude.{◌≡◌, ◌<◌, ◌-◌, take, drop, IfOk, IfErr, OnOk};
-ghost use Rattle.jfs_disk.specs.Crash.{last_of, AllSince};
+ghost use Rattle.std.specs.Prelude.{◌≡◌, ◌<◌, ◌≤◌, ◌-◌, take, drop, IfOk, IfErr, OnOk};
+ghost use Rattle.jfs_disk.specs.Image.{page_of};
+ghost use Rattle.jfs_disk.specs.Crash.{last_of, AllSince, Leaves};
 ghost use Rattle.jfs_disk.specs.Moment.{IsResting, now_of};
 ghost use Rattle.jfs_logfmt.specs.Written.{text_of};
 ghost use Rattle.jfs_logpages.specs.Fresh.{first_record, OthersStay, IsFreshLog, IsPartlyFresh};
 ghost use Rattle.jfs_logpages.specs.Group.{Holds};
 ghost use Rattle.jfs_logpages.specs.Ring.{fresh_text, fresh_ends};
 ghost use Rattle.jfs_super.specs.Rules.{IsAccepted};
-ghost use Rattle.jfs_super.specs.Super.{FitsSuper};
-ghost use Rattle.jfs_mount_disk.specs.Begun.{IsMarked, IsPartlyMarked, MarksOrLeaves, LeavesRest, IsCause, HasParts, low_error};
+ghost use Rattle.jfs_super.specs.Super.{super_of, FitsSuper};
+ghost use Rattle.jfs_super.specs.declared.fields.TheConstants.VolumeState.{MOUNTED};
+ghost use Rattle.jfs_mount_disk.specs.Begun.{IsMarked, IsPartlyMarked, MarksOrLeaves, LeavesRest, LeavesLow, LeavesLog, IsLowCause, IsCause, HasParts, low_error};
 
 use jfs_disk::{Disk, DiskError, Fault, Page, Part};
 use jfs_logpages::LogSide;
@@ -48,6 +50,7 @@ pub fn begin<D: Disk>(disk: D, s: &Super) -> Result<Begun<D>, NotBegun<D>>
     requires fits { FitsSuper s.now }
     ensures parts { IfOk result (HasParts D.Disk s.now disk) }
     ensures low { IfOk result (λ begun. D.tells → IsMarked s.now (D.image disk) (D.image begun.low)) }
+    ensures superblock { IfOk result (λ begun. D.tells → super_of (page_of (D.image begun.low) 8) ≡ record s.now { state = MOUNTED }) }
     ensures log { IfOk result (λ begun. D.tells → IsFreshLog s.now.logpxd.len s.now.uuid (D.image begun.log.part)) }
     ensures holds { IfOk result (λ begun. D.tells → Holds begun.log.last (fresh_text (s.now.logpxd.len - 2) (text_of first_record)) (fresh_ends (s.now.logpxd.len - 2)) (D.image begun.log.part)) }
     ensures behind { IfOk result (λ begun. D.tells → OthersStay 1 (s.now.logpxd.len - 1) (drop s.now.logpxd.addr (D.image disk)) (D.image begun.log.part)) }
@@ -61,6 +64,9 @@ pub fn begin<D: Disk>(disk: D, s: &Super) -> Result<Begun<D>, NotBegun<D>>
     ensures same_size { IfErr result (λ not. D.page_count not.disk ≡ D.page_count disk) }
     ensures rest { IfErr result (λ not. D.tells → LeavesRest s.now (D.image disk) (D.image not.disk)) }
     ensures cause { IfErr result (λ not. IsCause (D.fault_count disk) (D.fault_count not.disk) not.why) }
+    // If nothing was pending, this is what a crash then leaves of the disk. Of a log whose own part failed it isn't said.
+    ensures left_low { IfErr result (λ not. D.tells → D.tells_crashes → IsResting (last_of (D.past disk)) → Leaves (LeavesLow s.now (D.image disk)) (last_of (D.past not.disk))) }
+    ensures left_log { IfErr result (λ not. D.tells → D.tells_crashes → IsResting (last_of (D.past disk)) → Leaves (LeavesLog s.now (D.image disk) not.why) (last_of (D.past not.disk))) }
 {
     // so that its numbers are known to fit
     let _pages = disk.pages();
@@ -102,8 +108,10 @@ fn mark_mounted<D: Disk>(low: &mut D, s: &Super) -> Result<(), BeginError>
     ensures marks { D.tells → MarksOrLeaves s.now (D.image low.old) (D.image low.new) result }
     ensures resting { OnOk result (D.tells_crashes → IsResting (last_of (D.past low.new))) }
     ensures moments { D.tells → D.tells_crashes → IsResting (last_of (D.past low.old)) → AllSince (IsPartlyMarked s.now (D.image low.old)) (D.past low.new) (now_of (D.past low.old)) }
+    ensures later { D.tells_crashes → now_of (D.past low.old) ≤ now_of (D.past low.new) }
+    ensures read_back { OnOk result (D.tells → super_of (page_of (D.image low.new) 8) ≡ record s.now { state = MOUNTED }) }
     ensures quiet { OnOk result (D.fault_count low.new ≡ D.fault_count low.old) }
-    ensures cause { IfErr result (IsCause (D.fault_count low.old) (D.fault_count low.new)) }
+    ensures cause { IfErr result (IsLowCause (D.fault_count low.old) (D.fault_count low.new)) }
 {
     let mut page = Page::zeros();
     match low.read(SUPERBLOCK, &mut page) {

@@ -1,12 +1,15 @@
-use Rattle.std.proofs.Common.{◌≡◌, ◌<◌, ◌+◌, ◌∙◌, ◌-◌, ◌^◌, ℕ, take, drop, min, sym, ap, subst, arith}
+use Rattle.std.proofs.Common.{◌≡◌, ◌<◌, ◌+◌, ◌∙◌, ◌-◌, ◌^◌, ◌++◌, ℕ, take, drop, min, inl, inr, sym, ap, subst, arith}
+use Rattle.jfs_bits.specs.Count.{Rose}
 use Rattle.jfs_bits.specs.declared.descriptor.Pxd.{Pxd}
 use Rattle.jfs_disk.specs.Image.{Image, page_of}
-use Rattle.jfs_disk.specs.Crash.{AllSince}
+use Rattle.jfs_disk.specs.Crash.{AllSince, last_of}
 use Rattle.jfs_disk.specs.Moment.{now_of}
-use Rattle.jfs_logpages.specs.Fresh.{IsPartlyFresh}
+use Rattle.jfs_logpages.specs.Fresh.{IsFreshLog, IsPartlyFresh}
+use Rattle.jfs_disk.specs.declared.disk.Fault.{Fault}
 use Rattle.jfs_super.specs.declared.fields.Geometry.{Geometry}
-use Rattle.jfs_mount_disk.specs.Begun.{IsCause, IsPartlyMarked}
-use Rattle.jfs_mount_disk.proofs.Parts.{pages_stay, cause_stays, low_rests, high_rests, low_now, high_now}
+use Rattle.jfs_mount_disk.specs.Begun.{IsCause, IsPartFault, IsPartlyMarked}
+use Rattle.jfs_mount_disk.proofs.Parts.{pages_stay, part_cause, cause_stays, low_rests, high_rests, low_now, high_now}
+use Rattle.jfs_mount_disk.proofs.Left.{still_low, whole_left, at_end, low_rested, high_rested, low_left, log_left}
 use Rattle.jfs_mount_disk.proofs.ready.begin.Goals as goal
 
 -- what is said of the log's place is said of the superblock's
@@ -67,3 +70,82 @@ returns-in-Ok-mark_mounted-clause-log_moments g c = λ t k rests.
     (subst (λ (im : Image). AllSince (IsPartlyFresh 0 log.len c.args.s.now.uuid im) (g.D.Disk.past c.in-Ok-fresh.side.part) (now_of past)) (c.in-Ok.ensures.image t).1
     (subst (λ (moment : ℕ). AllSince (IsPartlyFresh 0 log.len c.args.s.now.uuid (g.D.Disk.image high)) (g.D.Disk.past c.in-Ok-fresh.side.part) moment) (high_now log.addr past (g.D.Disk.past high) is)
     (c.in-Ok-fresh.ensures.moments t k (high_rests log.addr past (g.D.Disk.past high) (g.met.D.Disk.has_state c.args.disk k) is rests))))
+
+-- ---- what a crash leaves after a failed call
+
+-- `P` of the log's place is said of the superblock's
+place_of : (P : Pxd → Type 0) (log place : Pxd) → log ≡ place → P log → P place
+place_of P log place same h = subst P same h
+
+pub returns-in-Err-clause-left_low : goal.returns-in-Err-clause-left_low
+returns-in-Err-clause-left_low g c = λ t k rests left crash.
+    let s = c.args.s.now in
+    let old = g.D.Disk.image c.args.disk in
+    still_low s old left (ap (λ (im : Image). take s.logpxd.addr im) (whole_left old (g.D.Disk.image c.in-Err.disk) (g.D.Disk.past c.args.disk) (g.D.Disk.past c.in-Err.disk)
+    (c.in-Err.ensures.same_past k) rests (g.met.D.Disk.reads_now c.in-Err.disk k) (c.in-Err.ensures.same_image t) left crash))
+
+pub returns-in-Err-clause-left_log : goal.returns-in-Err-clause-left_log
+returns-in-Err-clause-left_log g c = λ t k rests left crash.
+    let s = c.args.s.now in
+    let old = g.D.Disk.image c.args.disk in
+    inl (ap (λ (im : Image). drop s.logpxd.addr im) (whole_left old (g.D.Disk.image c.in-Err.disk) (g.D.Disk.past c.args.disk) (g.D.Disk.past c.in-Err.disk)
+    (c.in-Err.ensures.same_past k) rests (g.met.D.Disk.reads_now c.in-Err.disk k) (c.in-Err.ensures.same_image t) left crash))
+
+pub returns-in-Err-fresh-clause-left_low : goal.returns-in-Err-fresh-clause-left_low
+returns-in-Err-fresh-clause-left_low g c = λ t k rests left crash.
+    let s = c.args.s.now in
+    let old = g.D.Disk.image c.args.disk in
+    let log = c.geometry.result.log in
+    let low = c.in-Ok.parts.0 in
+    let high = c.in-Err-fresh.refused.part in
+    let low_past = g.D.Disk.past low in
+    let is = (c.in-Ok.ensures.past k).0 in
+    let resting = low_rests log.addr (g.D.Disk.past c.args.disk) low_past (g.met.D.Disk.has_state c.args.disk k) is rests in
+    let stays : take log.addr left ≡ take log.addr old = low_rested log.addr (g.D.Disk.image low) (last_of (g.D.Disk.past c.join.result)) low_past (g.D.Disk.past high) left (c.join.ensures.state k)
+    (g.met.D.Disk.reads_now low k) ((g.met.D.Disk.has_pages low t).number ∙ c.in-Ok.ensures.pages.0) crash resting ∙ (c.in-Ok.ensures.image t).0 in
+    still_low s old left (place_of (λ (p : Pxd). take p.addr left ≡ take p.addr old) log s.logpxd (ap (λ (l : Geometry). l.log) c.geometry.ensures.layout) stays)
+
+pub returns-in-Err-fresh-clause-left_log : goal.returns-in-Err-fresh-clause-left_log
+returns-in-Err-fresh-clause-left_log g c = λ t k rests left crash low. absurd (cc (low, ap (λ (f : Fault). f.part) c.in-Err-fresh.ensures.cause.1))
+
+pub returns-in-Err-fresh-clause-cause : goal.returns-in-Err-fresh-clause-cause
+returns-in-Err-fresh-clause-cause g c =
+    let cause = c.in-Err-fresh.ensures.cause in
+    let low = g.D.Disk.fault_count c.in-Ok.parts.0 in
+    let now = g.D.Disk.fault_count c.in-Err-fresh.refused.part in
+    subst (λ (n : ℕ). Rose (g.D.Disk.fault_count c.args.disk) n × IsPartFault (g.D.Disk.fault_count c.args.disk) n c.in-Err-fresh.refused.why.fault)
+    (sym (c.join.ensures.faults ∙ omega arith))
+    (part_cause (g.D.Disk.fault_count c.args.disk) (g.D.Disk.fault_count c.in-Ok.parts.1) low now c.in-Err-fresh.refused.why.fault
+    (omega (arith, c.in-Ok.ensures.faults)) (omega (arith, c.faults-faults.ensures, c.faults-faults.auto)) (inr (ap (λ (f : Fault). f.part) cause.1)) cause.0 (ap (λ (f : Fault). f.count) cause.1))
+
+pub returns-in-Err-mark_mounted-clause-left_low : goal.returns-in-Err-mark_mounted-clause-left_low
+returns-in-Err-mark_mounted-clause-left_low g c = λ t k rests left crash.
+    let s = c.args.s.now in
+    let old = g.D.Disk.image c.args.disk in
+    let log = c.geometry.result.log in
+    let low = c.in-Ok.parts.0 in
+    let now = c.mark_mounted.new.low in
+    let low_past = g.D.Disk.past low in
+    let is = (c.in-Ok.ensures.past k).0 in
+    let resting = low_rests log.addr (g.D.Disk.past c.args.disk) low_past (g.met.D.Disk.has_state c.args.disk k) is rests in
+    let since = c.mark_mounted.ensures.moments t k resting in
+    let all = at_end (IsPartlyMarked s (g.D.Disk.image low)) (g.D.Disk.past now) (now_of low_past) (g.met.D.Disk.has_state now k) (c.mark_mounted.ensures.later k) since in
+    let leaves : IsPartlyMarked s (take log.addr old) (take log.addr left) = subst (λ (im : Image). IsPartlyMarked s im (take log.addr left)) (c.in-Ok.ensures.image t).0
+    (low_left log.addr (g.D.Disk.image now) (last_of (g.D.Disk.past c.join-in-Err-mark_mounted.result)) (g.D.Disk.past now) (g.D.Disk.past c.into_part.result) left (c.join-in-Err-mark_mounted.ensures.state k)
+    (g.met.D.Disk.reads_now now k) ((g.met.D.Disk.has_pages now t).number ∙ c.in-Err-mark_mounted.ensures.pages ∙ c.in-Ok.ensures.pages.0) crash (IsPartlyMarked s (g.D.Disk.image low)) all) in
+    place_of (λ (p : Pxd). IsPartlyMarked s (take p.addr old) (take p.addr left)) log s.logpxd (ap (λ (l : Geometry). l.log) c.geometry.ensures.layout) leaves
+
+pub returns-in-Err-mark_mounted-clause-left_log : goal.returns-in-Err-mark_mounted-clause-left_log
+returns-in-Err-mark_mounted-clause-left_log g c = λ t k rests left crash.
+    let s = c.args.s.now in
+    let old = g.D.Disk.image c.args.disk in
+    let log = c.geometry.result.log in
+    let now = c.mark_mounted.new.low in
+    let side = c.in-Ok-fresh.side.part in
+    let stays : drop log.addr left ≡ g.D.Disk.image side = high_rested log.addr (g.D.Disk.image now) (last_of (g.D.Disk.past c.join-in-Err-mark_mounted.result)) (g.D.Disk.past now) (g.D.Disk.past side) left
+    (c.join-in-Err-mark_mounted.ensures.state k ∙ ap (λ (p : g.row.D.Denot). last_of (g.D.Disk.past now) ++ last_of (g.D.Disk.past p)) c.into_part.ensures)
+    (g.met.D.Disk.reads_now now k) ((g.met.D.Disk.has_pages now t).number ∙ c.in-Err-mark_mounted.ensures.pages ∙ c.in-Ok.ensures.pages.0) crash
+    (g.D.Disk.image side) (g.met.D.Disk.reads_now side k) (c.in-Ok-fresh.ensures.resting k) in
+    log_left s old left c.in-Err-mark_mounted.why
+    (place_of (λ (p : Pxd). IsFreshLog p.len s.uuid (drop p.addr left)) log s.logpxd (ap (λ (l : Geometry). l.log) c.geometry.ensures.layout)
+    (subst (λ (im : Image). IsFreshLog log.len s.uuid im) (sym stays) (c.in-Ok-fresh.ensures.image t)))

@@ -1,4 +1,4 @@
-use Rattle.std.proofs.Common.{◌∙◌, ℕ, List, ap, sym, subst}
+use Rattle.std.proofs.Common.{◌∙◌, ℕ, List, ap, sym, subst, arith}
 use Rattle.jfs_bits.specs.Piece.{puts}
 use Rattle.jfs_disk.specs.Crash.{DiskState, AllSince}
 use Rattle.jfs_disk.specs.Moment.{now_of}
@@ -6,7 +6,7 @@ use Rattle.jfs_disk.proofs.WriteThenSync.{resting-synced}
 use Rattle.jfs_super.specs.Super.{pieces}
 use Rattle.jfs_super.specs.declared.fields.TheConstants.VolumeState.{MOUNTED}
 use Rattle.jfs_mount_disk.specs.Begun.{IsPartlyMarked}
-use Rattle.jfs_mount_disk.proofs.Marking.{still_since, failed_since, written_since, synced_since}
+use Rattle.jfs_mount_disk.proofs.Marking.{still_since, failed_since, written_since, synced_since, later_same, later_push, later_torn}
 use Rattle.jfs_mount_disk.proofs.ready.mark_mounted.Goals as goal
 
 pub returns-in-Ok-sync-clause-resting : goal.returns-in-Ok-sync-clause-resting
@@ -47,3 +47,26 @@ returns-in-Ok-sync-clause-moments g c = λ t k rests.
     c.requires.there c.write_super.new.page.0 c.bytes-bytes.ensures.size (c.write_super.ensures.bytes ∙ ap (λ (p : List ℕ). puts (pieces (record c.args.s.now { state = MOUNTED })) p) (c.in-Ok.ensures.bytes t))
     (g.D.Disk.past c.read.new.self) (c.in-Ok.ensures.past k) (g.D.Disk.image c.write.new.self) (g.D.Disk.past c.write.new.self) (g.D.Disk.past c.sync.new.self) (c.in-Ok-write.ensures.past k)
     (laws.reads_crash c.write.new.self k) (laws.reads_now c.write.new.self k) (c.in-Ok-sync.ensures.past k)
+
+pub returns-in-Err-clause-later : goal.returns-in-Err-clause-later
+returns-in-Err-clause-later g c = λ k. later_same (g.D.Disk.past c.args.low.now) (g.D.Disk.past c.read.new.self) (c.in-Err.ensures.past k)
+
+pub returns-in-Err-write-clause-later : goal.returns-in-Err-write-clause-later
+returns-in-Err-write-clause-later g c = λ k.
+    let one = later_same (g.D.Disk.past c.args.low.now) (g.D.Disk.past c.read.new.self) (c.in-Ok.ensures.past k) in
+    let two = later_torn 8 c.write_super.new.page.0 (g.D.Disk.past c.read.new.self) (g.D.Disk.past c.write.new.self) (c.in-Err-write.ensures.past_failed k) in
+    omega (arith, one, two)
+
+pub returns-in-Err-sync-clause-later : goal.returns-in-Err-sync-clause-later
+returns-in-Err-sync-clause-later g c = λ k.
+    let one = later_same (g.D.Disk.past c.args.low.now) (g.D.Disk.past c.read.new.self) (c.in-Ok.ensures.past k) in
+    let two = later_push (g.D.Disk.past c.read.new.self) (g.D.Disk.past c.write.new.self) _ (c.in-Ok-write.ensures.past k) in
+    let three = later_same (g.D.Disk.past c.write.new.self) (g.D.Disk.past c.sync.new.self) (c.in-Err-sync.ensures.past_failed k) in
+    omega (arith, one, two, three)
+
+pub returns-in-Ok-sync-clause-later : goal.returns-in-Ok-sync-clause-later
+returns-in-Ok-sync-clause-later g c = λ k.
+    let one = later_same (g.D.Disk.past c.args.low.now) (g.D.Disk.past c.read.new.self) (c.in-Ok.ensures.past k) in
+    let two = later_push (g.D.Disk.past c.read.new.self) (g.D.Disk.past c.write.new.self) _ (c.in-Ok-write.ensures.past k) in
+    let three = later_push (g.D.Disk.past c.write.new.self) (g.D.Disk.past c.sync.new.self) _ (c.in-Ok-sync.ensures.past k) in
+    omega (arith, one, two, three)
