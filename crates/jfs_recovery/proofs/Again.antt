@@ -4,7 +4,7 @@ use Rattle.std.proofs.lemmas.Bool.{cases_Bool, cond-true, cond-false}
 use Rattle.std.proofs.lemmas.List.{ext_get_or}
 use Rattle.jfs_ranges.specs.declared.edit.Edit.{Edit}
 use Rattle.jfs_core.specs.Sound.{SameCell}
-use Rattle.jfs_recovery.specs.Face.{Face, IsFace, Gives, Passes, Pages, byte, item, IsRedone, redo_page, redo_item}
+use Rattle.jfs_recovery.specs.Face.{Face, IsFace, Item, Value, Gives, Passes, Pages, byte, item, IsRedone, redo_page, redo_item}
 use Rattle.jfs_recovery.specs.Sound.{IsMixed}
 use Rattle.jfs_recovery.proofs.Images.{size_redo, closed_item}
 
@@ -75,13 +75,13 @@ same_page f laws p txs a b ha hb mixed =
         let place : 16 * (i / 16) + i % 16 ≡ i = omega arith in
         inr (subst (λ (x : ℕ). byte b x ≡ byte (redo_page f p a a txs) x) place (same (i % 16) (omega arith)))
 
-item_course : (f : Face) → IsFace f → (i : ℕ) (txs : List (List Edit)) → ((x y : ℕ) → redo_item f i x txs ≡ redo_item f i y txs) ⊎ ((x : ℕ) → redo_item f i x txs ≡ x)
+item_course : (f : Face) → IsFace f → (i : Item) (txs : List (List Edit)) → ((x y : Value) → redo_item f i x txs ≡ redo_item f i y txs) ⊎ ((x : Value) → redo_item f i x txs ≡ x)
 unfolding redo_item
 item_course f laws i [] = inr (λ x. refl)
 item_course f laws i (tx ∷ txs) = at (laws.sets_or_passes tx i) (item_course f laws i txs)
   where
-    at : ((x y : ℕ) → f.sets tx i x ≡ f.sets tx i y) ⊎ ((x : ℕ) → f.sets tx i x ≡ x) → ((x y : ℕ) → redo_item f i x txs ≡ redo_item f i y txs) ⊎ ((x : ℕ) → redo_item f i x txs ≡ x) →
-        ((x y : ℕ) → redo_item f i (f.sets tx i x) txs ≡ redo_item f i (f.sets tx i y) txs) ⊎ ((x : ℕ) → redo_item f i (f.sets tx i x) txs ≡ x)
+    at : ((x y : Value) → f.sets tx i x ≡ f.sets tx i y) ⊎ ((x : Value) → f.sets tx i x ≡ x) → ((x y : Value) → redo_item f i x txs ≡ redo_item f i y txs) ⊎ ((x : Value) → redo_item f i x txs ≡ x) →
+        ((x y : Value) → redo_item f i (f.sets tx i x) txs ≡ redo_item f i (f.sets tx i y) txs) ⊎ ((x : Value) → redo_item f i (f.sets tx i x) txs ≡ x)
     at a (inl covers) = inl (λ x y. covers (f.sets tx i x) (f.sets tx i y))
     at (inl sets) (inr passes) = inl (λ x y. passes (f.sets tx i x) ∙ sets x y ∙ sym (passes (f.sets tx i y)))
     at (inr first) (inr passes) = inr (λ x. passes (f.sets tx i x) ∙ first x)
@@ -93,7 +93,7 @@ redone_again f laws low new other again txs low_size other_size redone mixed sec
     pages : ℕ → List ℕ
     pages q = redo_page f q (low q) (low q) txs
 
-    items : ℕ → ℕ
+    items : Item → Value
     items i = redo_item f i (item f low i) txs
 
     page : (q : ℕ) → f.is_map q ≡ false → redo_page f q (other q) (other q) txs ≡ pages q
@@ -101,16 +101,16 @@ redone_again f laws low new other again txs low_size other_size redone mixed sec
         let P : List ℕ → Type 0 = λ x. SameCell (other q) (low q) cell ⊎ SameCell (other q) x cell in
         subst P (redone.pages q e) (mixed q cell w))
 
-    left : (i : ℕ) → SameCell (other (f.home i)) (low (f.home i)) (f.cell i) ⊎ SameCell (other (f.home i)) (new (f.home i)) (f.cell i) → (item f other i ≡ item f low i) ⊎ (item f other i ≡ items i)
+    left : (i : Item) → SameCell (other (f.home i)) (low (f.home i)) (f.cell i) ⊎ SameCell (other (f.home i)) (new (f.home i)) (f.cell i) → (item f other i ≡ item f low i) ⊎ (item f other i ≡ items i)
     left i (inl same) = inl (laws.in_cell i (other (f.home i)) (low (f.home i)) same)
     left i (inr same) = inr (laws.in_cell i (other (f.home i)) (new (f.home i)) same ∙ closed_item f laws pages items new redone i)
 
-    at : (i : ℕ) → ((x y : ℕ) → redo_item f i x txs ≡ redo_item f i y txs) ⊎ ((x : ℕ) → redo_item f i x txs ≡ x) → (item f other i ≡ item f low i) ⊎ (item f other i ≡ items i) → redo_item f i (item f other i) txs ≡ items i
+    at : (i : Item) → ((x y : Value) → redo_item f i x txs ≡ redo_item f i y txs) ⊎ ((x : Value) → redo_item f i x txs ≡ x) → (item f other i ≡ item f low i) ⊎ (item f other i ≡ items i) → redo_item f i (item f other i) txs ≡ items i
     at i (inl covers) x = covers (item f other i) (item f low i)
-    at i (inr passes) (inl e) = ap (λ (x : ℕ). redo_item f i x txs) e
+    at i (inr passes) (inl e) = ap (λ (x : Value). redo_item f i x txs) e
     at i (inr passes) (inr e) = passes (item f other i) ∙ e
 
-    item_same : (i : ℕ) → redo_item f i (item f other i) txs ≡ items i
+    item_same : (i : Item) → redo_item f i (item f other i) txs ≡ items i
     item_same i = at i (item_course f laws i txs) (left i (mixed (f.home i) (f.cell i) (laws.in_page i)))
 
     which : (f.is_map p ≡ true) ⊎ (f.is_map p ≡ false) → again p ≡ new p

@@ -3,7 +3,7 @@ use Rattle.std.proofs.Common.{◌≡◌, ◌<◌, ◌≤◌, ◌⊎◌, ℕ, zer
 use Rattle.std.proofs.lemmas.Bool.{cases_Bool, cond-true, cond-false}
 use Rattle.std.proofs.lemmas.List.{drop-append-le, length-take-le, length-map, get_or-map}
 use Rattle.jfs_ranges.specs.declared.edit.Edit.{Edit}
-use Rattle.jfs_recovery.specs.Face.{Face, IsFace, Pages, item, lined, items_after, IsClosed, redo_page, redo_item}
+use Rattle.jfs_recovery.specs.Face.{Face, IsFace, Item, Value, Pages, item, lined, items_after, IsClosed, redo_page, redo_item}
 use Rattle.jfs_recovery.specs.Core.{Core, Done, nothing, entry, image, count}
 use Rattle.jfs_recovery.specs.Sound.{window, IsSound}
 
@@ -21,18 +21,18 @@ drop_taken (x ∷ xs) (suc c) = drop_taken xs c
 
 -- ---- images
 
-pub closed_item : (f : Face) → IsFace f → (s : Pages) (items : ℕ → ℕ) (t : Pages) → IsClosed f s items t → (i : ℕ) → item f t i ≡ items i
+pub closed_item : (f : Face) → IsFace f → (s : Pages) (items : Item → Value) (t : Pages) → IsClosed f s items t → (i : Item) → item f t i ≡ items i
 closed_item f laws s items t h i = laws.read_back s items i (t (f.home i)) (h.maps (f.home i) (laws.at_home i))
 
 -- a map page of an image follows from its items and other pages
 pub record Follows (f : Face) (t : Pages) (p : ℕ) : Type 0 where
   pub pages : Pages
-  pub items : ℕ → ℕ
+  pub items : Item → Value
   pub same_pages : (q : ℕ) → f.is_map q ≡ false → pages q ≡ t q
-  pub same_items : (i : ℕ) → items i ≡ item f t i
+  pub same_items : (i : Item) → items i ≡ item f t i
   pub map : f.IsMap pages items p (t p)
 
-closed_again : (f : Face) → IsFace f → (s : Pages) (items : ℕ → ℕ) (t : Pages) → IsClosed f s items t → (p : ℕ) → f.is_map p ≡ true → Follows f t p
+closed_again : (f : Face) → IsFace f → (s : Pages) (items : Item → Value) (t : Pages) → IsClosed f s items t → (p : ℕ) → f.is_map p ≡ true → Follows f t p
 closed_again f laws s items t h p e = record {
   pages = s;
   items = items;
@@ -41,7 +41,7 @@ closed_again f laws s items t h p e = record {
   map = h.maps p e;
 }
 
-pub size_closed : (f : Face) → IsFace f → (s : Pages) (items : ℕ → ℕ) (t : Pages) → IsClosed f s items t → ((p : ℕ) → length (s p) ≡ 4096) → (p : ℕ) → length (t p) ≡ 4096
+pub size_closed : (f : Face) → IsFace f → (s : Pages) (items : Item → Value) (t : Pages) → IsClosed f s items t → ((p : ℕ) → length (s p) ≡ 4096) → (p : ℕ) → length (t p) ≡ 4096
 size_closed f laws s items t h size p = at (cases_Bool (f.is_map p))
   where
     at : (f.is_map p ≡ true) ⊎ (f.is_map p ≡ false) → length (t p) ≡ 4096
@@ -59,7 +59,7 @@ canonical_image f laws core kept zero h p e = record { pages = core.mounted; ite
 canonical_image f laws core kept (suc k) h p e =
     closed_again f laws (lined f (image core k) (entry core k)) (items_after f (image core k) (entry core k)) (image core (suc k)) (kept.follows k (omega arith)) p e
 
-pub item_next : (f : Face) → IsFace f → (core : Core) → IsSound f core → (i k : ℕ) → k < count core → item f (image core (suc k)) i ≡ f.sets (entry core k) i (item f (image core k) i)
+pub item_next : (f : Face) → IsFace f → (core : Core) → IsSound f core → (i : Item) (k : ℕ) → k < count core → item f (image core (suc k)) i ≡ f.sets (entry core k) i (item f (image core k) i)
 item_next f laws core kept i k l = closed_item f laws (lined f (image core k) (entry core k)) (items_after f (image core k) (entry core k)) (image core (suc k)) (kept.follows k l) i
 
 abbrev txs : Core → List (List Edit)
@@ -107,16 +107,16 @@ pub redo_next : (f : Face) (core : Core) (p c n : ℕ) (left : List ℕ) → c �
 redo_next f core p c n left h w =
     ap (λ (xs : List (List Edit)). redo_page f p left left xs) (window_next core c n h w) ∙ redo_page-append f p left (window core c n) (entry core n) left
 
-redo_item-append : (f : Face) (i : ℕ) (xs : List (List Edit)) (tx : List Edit) (now : ℕ) → redo_item f i now (xs ++ tx ∷ []) ≡ f.sets tx i (redo_item f i now xs)
+redo_item-append : (f : Face) (i : Item) (xs : List (List Edit)) (tx : List Edit) (now : Value) → redo_item f i now (xs ++ tx ∷ []) ≡ f.sets tx i (redo_item f i now xs)
 unfolding redo_item
 redo_item-append f i [] tx now = refl
 redo_item-append f i (x ∷ xs) tx now = redo_item-append f i xs tx (f.sets x i now)
 
-pub redo_item_none : (f : Face) (core : Core) (i c x : ℕ) → redo_item f i x (window core c c) ≡ x
+pub redo_item_none : (f : Face) (core : Core) (i : Item) (c : ℕ) (x : Value) → redo_item f i x (window core c c) ≡ x
 unfolding redo_item
 redo_item_none f core i c x = ap (λ (xs : List (List Edit)). redo_item f i x xs) (window_empty core c)
 
-pub redo_item_next : (f : Face) (core : Core) (i c n x : ℕ) → c ≤ n → n < count core →
+pub redo_item_next : (f : Face) (core : Core) (i : Item) (c n : ℕ) (x : Value) → c ≤ n → n < count core →
     redo_item f i x (window core c (suc n)) ≡ f.sets (entry core n) i (redo_item f i x (window core c n))
 redo_item_next f core i c n x h w =
     ap (λ (xs : List (List Edit)). redo_item f i x xs) (window_next core c n h w) ∙ redo_item-append f i (window core c n) (entry core n) x

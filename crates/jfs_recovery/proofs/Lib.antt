@@ -10,6 +10,6 @@ pub mod Synced
 pub mod SmallFace
 pub mod Mount
 pub mod Logged
-pub mod Backward
+pub mod EditByEdit
 pub mod Forward
 pub mod Grown

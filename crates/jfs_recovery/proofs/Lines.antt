@@ -7,7 +7,8 @@ use Rattle.jfs_ranges.specs.declared.edit.Edit.TheVariants.{Lines}
 use Rattle.jfs_ranges.specs.Apply.{place_of_line, byte_after, overlaid, apply_edit, apply_tx}
 use Rattle.jfs_core.proofs.Bytes.{length-apply_tx, CoversOrPasses, byte_all, all_cases, get_or-page_after}
 use Rattle.jfs_recovery.specs.Face.{byte}
-use Rattle.jfs_recovery.specs.Lines.{is_noredo, closes_in, rest_of, LogsWhole}
+use Rattle.jfs_records.specs.Redo.{is_noredo, closes_in}
+use Rattle.jfs_recovery.specs.Lines.{rest_of, LogsWhole}
 
 -- ---- the rest
 

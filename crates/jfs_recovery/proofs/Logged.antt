@@ -5,7 +5,8 @@ use Rattle.jfs_ranges.specs.Apply.{apply_tx}
 use Rattle.jfs_core.proofs.Bytes.{apply_tx-untouched}
 use Rattle.jfs_recovery.specs.Face.{Face, Pages, byte, matters, IsStep}
 use Rattle.jfs_recovery.specs.Core.{IsLogged}
-use Rattle.jfs_recovery.specs.Lines.{closes_in, rest_of, ReadsEdits, LogsWell}
+use Rattle.jfs_records.specs.Redo.{closes_in}
+use Rattle.jfs_recovery.specs.Lines.{rest_of, ReadsEdits, LogsWell}
 use Rattle.jfs_recovery.proofs.Lines.{whole_given}
 
 pub logged_by_edits : (f : Face) → ReadsEdits f → (s : Pages) (tx : List Edit) (t : Pages) (p : ℕ) → length (s p) ≡ 4096 → f.is_map p ≡ false → IsStep f s tx t → LogsWell f s tx t p → IsLogged f s tx t p

@@ -3,7 +3,8 @@ use Rattle.std.proofs.Common.{◌≡◌, ◌<◌, ◌≤◌, ◌⊎◌, ◌*◌,
 use Rattle.std.proofs.lemmas.Bool.{cases_Bool}
 use Rattle.jfs_disk.specs.Crash.{content_of, resting}
 use Rattle.jfs_core.specs.Sound.{SameCell, IsBetween}
-use Rattle.jfs_recovery.specs.Face.{Face, IsFace, Owner, Pages, matters, item}
+use Rattle.jfs_kinds.specs.Owner.{Owner}
+use Rattle.jfs_recovery.specs.Face.{Face, IsFace, Pages, matters, item}
 use Rattle.jfs_recovery.specs.Core.{matters_at, owner_at, image as image_of}
 use Rattle.jfs_recovery.specs.Sound.{Cares, IsSound, SlotOk}
 use Rattle.jfs_recovery.specs.Mount.{fresh, IsMounted}

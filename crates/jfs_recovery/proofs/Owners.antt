@@ -1,8 +1,8 @@
 -- One owner a block, from what is acknowledged on.
 use Rattle.std.proofs.Common.{◌≡◌, ◌<◌, ◌≤◌, ◌⊎◌, ℕ, zero, suc, false, Option, Some, None, IsSome, refl, sym, ap, ◌∙◌, subst, inl, inr, arith}
 use Rattle.std.proofs.lemmas.Bool.{cases_lt}
-use Rattle.jfs_recovery.specs.Face.{Owner, is_logged}
-use Rattle.jfs_recovery.specs.Face.Owner.{Data}
+use Rattle.jfs_kinds.specs.Owner.{Owner, is_logged}
+use Rattle.jfs_kinds.specs.Owner.Owner.{Data}
 use Rattle.jfs_recovery.specs.Core.{IsBusy, MayOwn, MayWrite}
 use Rattle.jfs_recovery.specs.Sound.{HasOneOwner}
 

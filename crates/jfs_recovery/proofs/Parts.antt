@@ -3,7 +3,8 @@ use Rattle.std.proofs.Common.{◌≡◌, ◌<◌, ◌≤◌, ◌⊎◌, ◌+◌,
 use Rattle.std.proofs.lemmas.Bool.{cases_lt, cases_Bool}
 use Rattle.std.proofs.lemmas.List.{take-append-drop, ext_get_or}
 use Rattle.jfs_disk.specs.Crash.{content_of, torn}
-use Rattle.jfs_recovery.specs.Face.{Face, IsFace, Owner, Pages, byte}
+use Rattle.jfs_kinds.specs.Owner.{Owner}
+use Rattle.jfs_recovery.specs.Face.{Face, IsFace, Pages, byte}
 use Rattle.jfs_recovery.specs.Core.{Core, count, image, newest, matters_at, IsBusy}
 use Rattle.jfs_recovery.specs.Sound.{IsSound, IsLeft, ComesBetween, MayCount}
 use Rattle.jfs_recovery.proofs.Redo.{known_cells, size_left}

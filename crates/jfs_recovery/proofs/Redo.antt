@@ -8,7 +8,7 @@ use Rattle.jfs_ranges.specs.declared.edit.Edit.{Edit}
 use Rattle.jfs_core.specs.Sound.{IsBetween, Throughout}
 use Rattle.jfs_core.proofs.Cells.{IsBetween-torn}
 use Rattle.jfs_core.proofs.Blocks.{BeginsPast-less}
-use Rattle.jfs_recovery.specs.Face.{Face, IsFace, Gives, Passes, Pages, byte, item, IsStep, redo_page, redo_item, matters}
+use Rattle.jfs_recovery.specs.Face.{Face, IsFace, Item, Value, Gives, Passes, Pages, byte, item, IsStep, redo_page, redo_item, matters}
 use Rattle.jfs_recovery.specs.Core.{Core, entry, image, count, newest, matters_at, IsLogged}
 use Rattle.jfs_recovery.specs.Sound.{Cares, IsSound, IsLeft, IsLogImage, window, AlwaysRecovers}
 use Rattle.jfs_recovery.proofs.Images.{size_image, canonical_image, item_next, redo_none, redo_next, size_redo, redo_item_none, redo_item_next}
@@ -153,15 +153,15 @@ page_left f laws core kept p page c left size n cn w none = by_count n cn w none
 
 -- ---- an item of the maps
 
-abbrev item_at : Face → Core → ℕ → ℕ → ℕ
+abbrev item_at : Face → Core → Item → ℕ → Value
 item_at f core i k = item f (image core k) i
 
-abbrev ItemCases : Face → Core → ℕ → ℕ → ℕ → Type 0
+abbrev ItemCases : Face → Core → Item → ℕ → ℕ → Type 0
 ItemCases f core i c n =
-    ((x : ℕ) → redo_item f i x (window core c n) ≡ item_at f core i n)
-    ⊎ (((x : ℕ) → redo_item f i x (window core c n) ≡ x) × ((k : ℕ) → c ≤ k → k ≤ n → item_at f core i k ≡ item_at f core i n))
+    ((x : Value) → redo_item f i x (window core c n) ≡ item_at f core i n)
+    ⊎ (((x : Value) → redo_item f i x (window core c n) ≡ x) × ((k : ℕ) → c ≤ k → k ≤ n → item_at f core i k ≡ item_at f core i n))
 
-item_cases : (f : Face) → IsFace f → (core : Core) → IsSound f core → (i c n : ℕ) → c ≤ n → n ≤ count core → ItemCases f core i c n
+item_cases : (f : Face) → IsFace f → (core : Core) → IsSound f core → (i : Item) (c n : ℕ) → c ≤ n → n ≤ count core → ItemCases f core i c n
 item_cases f laws core kept i c n cn w = by_count n cn w
   where
     none : (k : ℕ) → k ≡ c → ItemCases f core i c k
@@ -176,17 +176,17 @@ item_cases f laws core kept i c n cn w = by_count n cn w
         tx : List Edit
         tx = entry core k
 
-        steady : ((x : ℕ) → f.sets tx i x ≡ x) → item_at f core i k ≡ item_at f core i (suc k)
+        steady : ((x : Value) → f.sets tx i x ≡ x) → item_at f core i k ≡ item_at f core i (suc k)
         steady passes = sym (passes (item_at f core i k)) ∙ sym (item_next f laws core kept i k l)
 
-        stay : ((x : ℕ) → f.sets tx i x ≡ x) → ((j : ℕ) → c ≤ j → j ≤ k → item_at f core i j ≡ item_at f core i k) → (j : ℕ) → c ≤ j → j ≤ suc k → item_at f core i j ≡ item_at f core i (suc k)
+        stay : ((x : Value) → f.sets tx i x ≡ x) → ((j : ℕ) → c ≤ j → j ≤ k → item_at f core i j ≡ item_at f core i k) → (j : ℕ) → c ≤ j → j ≤ suc k → item_at f core i j ≡ item_at f core i (suc k)
         stay passes old j a b = which (cases_lt k j)
           where
             which : (k < j) ⊎ (j ≤ k) → item_at f core i j ≡ item_at f core i (suc k)
             which (inl q) = let e : j ≡ suc k = omega arith in ap (λ (z : ℕ). item_at f core i z) e
             which (inr q) = old j a q ∙ steady passes
 
-        at : ((x y : ℕ) → f.sets tx i x ≡ f.sets tx i y) ⊎ ((x : ℕ) → f.sets tx i x ≡ x) → ItemCases f core i c k → ItemCases f core i c (suc k)
+        at : ((x y : Value) → f.sets tx i x ≡ f.sets tx i y) ⊎ ((x : Value) → f.sets tx i x ≡ x) → ItemCases f core i c k → ItemCases f core i c (suc k)
         at (inl sets) old = inl (λ x. redo_item_next f core i c k x ck l ∙ sets (redo_item f i x (window core c k)) (item_at f core i k) ∙ sym (item_next f laws core kept i k l))
         at (inr passes) (inl same) = inl (λ x. redo_item_next f core i c k x ck l ∙ passes (redo_item f i x (window core c k)) ∙ same x ∙ steady passes)
         at (inr passes) (inr old) = inr (λ x. redo_item_next f core i c k x ck l ∙ passes (redo_item f i x (window core c k)) ∙ old.0 x, stay passes old.1)
@@ -265,7 +265,7 @@ recovers_page f laws core kept low left c n fs p page mattered =
         subst (λ (x : ℕ). byte (low p) x ≡ byte (image core cell.0 p) x) place (cell.3 (i % 16) (omega arith)) in
         u.stays ∙ same ∙ u.steady cell.0 cell.1 (omega (arith, cell.2, fs.later))
 
-recovers_item : (f : Face) → IsFace f → (core : Core) → IsSound f core → (low : Pages) → IsLeft core low → (c n : ℕ) → Facts core c n → (i : ℕ) →
+recovers_item : (f : Face) → IsFace f → (core : Core) → IsSound f core → (low : Pages) → IsLeft core low → (c n : ℕ) → Facts core c n → (i : Item) →
     redo_item f i (item f low i) (window core c n) ≡ item_at f core i n
 recovers_item f laws core kept low left c n fs i = at (item_cases f laws core kept i c n (omega (arith, fs.told, fs.later)) fs.within)
   where
@@ -291,7 +291,7 @@ always_recovers f laws core kept low c n redone left log is_redone = record {
     pages : ℕ → List ℕ
     pages q = redone_page f core q c n (low q)
 
-    items : ℕ → ℕ
+    items : Item → Value
     items i = redo_item f i (item f low i) (window core c n)
 
     gives : (p : ℕ) → matters_at f core p n ≡ true → (f.is_map p ≡ true) ⊎ (f.is_map p ≡ false) → redone p ≡ image core n p

@@ -4,8 +4,9 @@ use Rattle.std.proofs.lemmas.Bool.{cond-true}
 use Rattle.std.proofs.lemmas.List.{length-replicate}
 use Rattle.jfs_ranges.specs.declared.edit.Edit.{Edit}
 use Rattle.jfs_core.proofs.Bytes.{length-apply_tx}
-use Rattle.jfs_recovery.specs.Face.{IsFace, Gives, Passes, Pages, is_logged}
-use Rattle.jfs_recovery.specs.Face.Owner.{Area, Inodes}
+use Rattle.jfs_kinds.specs.Owner.{is_logged}
+use Rattle.jfs_recovery.specs.Face.{IsFace, Gives, Passes, Pages}
+use Rattle.jfs_kinds.specs.Owner.Owner.{Area, Inodes}
 use Rattle.jfs_recovery.specs.Lines.{rest_of}
 use Rattle.jfs_recovery.specs.Small.{small_volume, small_owner, by_number}
 use Rattle.jfs_recovery.proofs.Lines.{Given, Passed, given_or_passed}

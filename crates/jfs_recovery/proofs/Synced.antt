@@ -4,7 +4,7 @@ use Rattle.std.proofs.lemmas.Bool.{cases_lt, cases_Bool, cond-true, cond-false, 
 use Rattle.std.proofs.lemmas.List.{length_push}
 use Rattle.jfs_ranges.specs.declared.edit.Edit.{Edit}
 use Rattle.jfs_recovery.specs.Face.{Face, IsFace, Pages, matters, IsRedone}
-use Rattle.jfs_recovery.specs.Face.Owner.{Data, Still}
+use Rattle.jfs_kinds.specs.Owner.Owner.{Data, Still}
 use Rattle.jfs_recovery.specs.Core.{MayWrite, IsAllowed, owner_at, Core, Slot, Step, count, matters_at, appended, does, AreAllowed, after_steps, put, data_slot, data_failed_slot, home_slot, home_failed_slot, told_page}
 use Rattle.jfs_recovery.specs.Core.Step.{Write, WriteFails, Append, Take, GroupWrite, Told, Home, HomeFails, LowSync, SyncPoint}
 use Rattle.jfs_recovery.specs.Sound.{IsSound, IsLeft, IsLogImage, window, Leaves, AllLeave}

@@ -5,8 +5,9 @@ use Rattle.jfs_ranges.specs.declared.edit.Edit.{Edit}
 use Rattle.jfs_core.specs.declared.block.Span.{Span}
 use Rattle.jfs_core.specs.Core.{Block}
 use Rattle.jfs_core.specs.Step.{EndsBy, IsSynced, dirtied, sent_home, failed_home, synced}
-use Rattle.jfs_recovery.specs.Face.{Face, Owner, Pages, matters, IsStep, byte}
-use Rattle.jfs_recovery.specs.Face.Owner.{Data}
+use Rattle.jfs_kinds.specs.Owner.{Owner}
+use Rattle.jfs_recovery.specs.Face.{Face, Pages, matters, IsStep, byte}
+use Rattle.jfs_kinds.specs.Owner.Owner.{Data}
 
 -- A block: as before, and the length of the history at its newest write, where that is of data; and the bytes that a crash can't lose.
 pub record Slot : Type 0 where

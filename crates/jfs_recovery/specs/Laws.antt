@@ -1,15 +1,15 @@
 -- What holds of every volume that keeps the laws.
 use Rattle.std.specs.Prelude.{◌≡◌, ◌≤◌, ◌<◌, ℕ, Bool, true, false, List, [], length, take, Some}
 use Rattle.jfs_ranges.specs.declared.edit.Edit.{Edit}
-use Rattle.jfs_recovery.specs.Face.{Face, Pages, byte, item, matters, IsStep, IsRedone, redo_page}
-use Rattle.jfs_recovery.specs.Face.Owner.{Still}
+use Rattle.jfs_records.specs.Redo.{redone, all_of}
+use Rattle.jfs_recovery.specs.Face.{Face, Pages, item, matters, IsStep, IsRedone, redo_page}
+use Rattle.jfs_kinds.specs.Owner.Owner.{Still}
 use Rattle.jfs_recovery.specs.Core.{Core, Step, count, image, matters_at, owner_at, AreAllowed, IsAllowed, IsLogged, after_steps}
 use Rattle.jfs_recovery.specs.Core.Step.{Append}
 use Rattle.jfs_recovery.specs.Sound.{IsSound, AlwaysRecovers, IsLeft, IsLogImage, window, Recovers, IsMixed, MayCount, Leaves, AllLeave}
 use Rattle.jfs_recovery.specs.Lines.{ReadsEdits, LogsWell}
 use Rattle.jfs_recovery.specs.Mount.{fresh, IsMounted}
 use Rattle.jfs_recovery.specs.Forward.{forward_page}
-use Rattle.jfs_recovery.specs.Backward.{last_byte, newest_first}
 
 -- Each list of allowed steps keeps a sound core sound.
 abbrev pub StepsKeepSound : Face → Type 0
@@ -49,10 +49,9 @@ abbrev pub RunsForwards : Face → Type 0
 RunsForwards f = (core : Core) → IsSound f core → (low : Pages) (c n : ℕ) → IsLeft core low → IsLogImage core c n → (p : ℕ) → f.is_map p ≡ false →
     matters_at f core p n ≡ true → forward_page f p (low p) (window core c n) ≡ image core n p
 
--- Where the log is edits, a byte of a page that redo gives is found from the newest edit back.
-abbrev pub RunsBackwards : Face → Type 0
-RunsBackwards f = ReadsEdits f → (p i : ℕ) → i < 4096 → (left : List ℕ) → length left ≡ 4096 → (txs : List (List Edit)) →
-    byte (redo_page f p left left txs) i ≡ last_byte p i (byte left i) (newest_first txs [])
+-- Where the log is edits, a page is redone edit by edit: so each cell is given by the last line that covers it and has no NoRedo of the page behind it, else it is what the crash left.
+abbrev pub RunsEditByEdit : Face → Type 0
+RunsEditByEdit f = ReadsEdits f → (p : ℕ) (left : List ℕ) (txs : List (List Edit)) → redo_page f p left left txs ≡ redone p left left (all_of txs)
 
 -- Bytes of a block that a crash can't lose now are there after all steps that write no data over it and make no page of it that matters, after every crash, and after redo of at least the entries that are there now.
 abbrev pub SyncedStay : Face → Type 0

@@ -4,6 +4,5 @@ pub mod Sound
 pub mod Lines
 pub mod Mount
 pub mod Forward
-pub mod Backward
 pub mod Small
 pub mod Laws

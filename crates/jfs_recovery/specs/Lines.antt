@@ -4,17 +4,8 @@ use Rattle.jfs_bits.specs.declared.rule.PageKind.{PageKind}
 use Rattle.jfs_ranges.specs.declared.edit.Edit.{Edit}
 use Rattle.jfs_ranges.specs.declared.edit.Edit.TheVariants.{Lines, NoRedo, Alloc, Free}
 use Rattle.jfs_ranges.specs.Apply.{place_of_line, apply_tx, touches_tx}
+use Rattle.jfs_records.specs.Redo.{is_noredo, closes_in}
 use Rattle.jfs_recovery.specs.Face.{Face, Pages, matters}
-
-abbrev pub is_noredo : ℕ → Edit → Bool
-is_noredo p (Lines page kind first bytes) = false
-is_noredo p (NoRedo page) = page == p
-is_noredo p (Alloc run) = false
-is_noredo p (Free run) = false
-
-abbrev pub closes_in : ℕ → List Edit → Bool
-closes_in p [] = false
-closes_in p (e ∷ es) = is_noredo p e || closes_in p es
 
 -- what follows the last NoRedo of the page; all, where there is none
 unfoldable pub rest_of : ℕ → List Edit → List Edit

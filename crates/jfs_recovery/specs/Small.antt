@@ -1,9 +1,12 @@
 -- A small face, to see that the laws can hold: page 0 is the only map page, page 1 says who owns the others.
 use Rattle.std.specs.Prelude.{◌≡◌, ℕ, zero, suc, false, ◌==◌, if◌then◌else◌, List, get_or, replicate, Option, Some, None}
 use Rattle.jfs_ranges.specs.Apply.{apply_tx, touches_tx}
-use Rattle.jfs_recovery.specs.Face.{Face, Owner, Pages}
-use Rattle.jfs_recovery.specs.Face.Owner.{Area, Inodes, Tree, Data}
-use Rattle.jfs_recovery.specs.Lines.{closes_in, rest_of}
+use Rattle.jfs_kinds.specs.Owner.{Owner}
+use Rattle.jfs_recovery.specs.Face.{Face, Item, Pages}
+use Rattle.jfs_recovery.specs.Face.Value.{InUse}
+use Rattle.jfs_kinds.specs.Owner.Owner.{Area, Inodes, Tree, Data}
+use Rattle.jfs_records.specs.Redo.{closes_in}
+use Rattle.jfs_recovery.specs.Lines.{rest_of}
 
 abbrev pub by_number : ℕ → Option Owner
 by_number zero = None
@@ -27,8 +30,8 @@ small_volume = record {
   is_fixed = λ p. false;
   home = λ i. 0;
   cell = λ i. 0;
-  read = λ i a. 0;
-  sets = λ tx i x. 0;
+  read = λ i a. InUse false;
+  sets = λ tx i x. InUse false;
   has_inodes = λ items q. false;
-  IsMap = λ s items p a. (a ≡ zeros) × ((i : ℕ) → items i ≡ 0);
+  IsMap = λ s items p a. (a ≡ zeros) × ((i : Item) → items i ≡ InUse false);
 }

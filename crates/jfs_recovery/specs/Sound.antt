@@ -6,13 +6,14 @@ use Rattle.jfs_core.specs.declared.block.Span.{Span}
 use Rattle.jfs_core.specs.Core.{AreOrdered, ArePlaced}
 use Rattle.jfs_core.specs.Step.{IsSynced}
 use Rattle.jfs_core.specs.Sound.{BlockOk, LiesIn, SameCell}
-use Rattle.jfs_recovery.specs.Face.{Face, Owner, Pages, item, matters, IsStep, IsRedone}
+use Rattle.jfs_kinds.specs.Owner.{Owner}
+use Rattle.jfs_recovery.specs.Face.{Face, Item, Pages, item, matters, IsStep, IsRedone}
 use Rattle.jfs_recovery.specs.Core.Step.{Write, WriteFails, Append, Take, GroupWrite, Told, Home, HomeFails, LowSync, SyncPoint}
 use Rattle.jfs_recovery.specs.Core.{Step, Core, Slot, entry, count, image, newest, matters_at, owner_at, IsLogged}
 
 -- the cells of a page that matter: of a map page those with an item
 abbrev pub Cares : Face → ℕ → ℕ → Type 0
-Cares f p c = (f.is_map p ≡ false) ⊎ ((i : ℕ) × (f.home i ≡ p) × (f.cell i ≡ c))
+Cares f p c = (f.is_map p ≡ false) ⊎ ((i : Item) × (f.home i ≡ p) × (f.cell i ≡ c))
 
 -- from `told` on a block has one owner at most
 abbrev pub HasOneOwner : (ℕ → Option Owner) → ℕ → ℕ → Type 0

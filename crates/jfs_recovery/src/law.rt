@@ -1,6 +1,6 @@
 //! What holds of every volume that keeps the laws.
 
-ghost use Rattle.jfs_recovery.specs.Laws.{StepsKeepSound, SoundRecovers, AcknowledgedSurvive, FreshAreSound, OtherCountsAreSound, StoppedIsRedone, RunsForwards, RunsBackwards, SyncedStay, StillStay, FixedStay, EditsLogWell};
+ghost use Rattle.jfs_recovery.specs.Laws.{StepsKeepSound, SoundRecovers, AcknowledgedSurvive, FreshAreSound, OtherCountsAreSound, StoppedIsRedone, RunsForwards, RunsEditByEdit, SyncedStay, StillStay, FixedStay, EditsLogWell};
 ghost use Rattle.jfs_recovery.specs.Face.{IsFace};
 ghost use Rattle.jfs_recovery.specs.Small.{small_volume};
 
@@ -41,9 +41,9 @@ pub fn redo_runs_forwards<V: VolumeFace>()
     ensures { RunsForwards V.face }
 {}
 
-/// A byte that redo gives is found by reading the edits from the newest one back.
-pub fn redo_runs_backwards<V: VolumeFace>()
-    ensures { RunsBackwards V.face }
+/// Redo of the entries is redo of all their edits in a row: a choice for each cell of a page.
+pub fn redo_runs_edit_by_edit<V: VolumeFace>()
+    ensures { RunsEditByEdit V.face }
 {}
 
 /// Bytes that were synced outlive every later crash and redo, until data is written over their block or it becomes a page that matters.
