@@ -1,0 +1,20 @@
+//! What holds of each volume.
+
+ghost use Rattle.jfs_face.specs.Laws.{FaceLaw};
+ghost use Rattle.jfs_face.specs.Marks.{MarksLaw};
+ghost use Rattle.jfs_face.specs.Mounted.{MountedLaw};
+
+/// A volume whose maps stand in its fixed areas keeps all that the core of log redo asks of it, whatever its pages hold and whichever map pages an entry is told to change.
+pub fn volumes_keep_the_laws()
+    ensures { FaceLaw }
+{}
+
+/// By the places that an image gives, its maps stand in its fixed areas, and each block has the owner that the image gives it.
+pub fn mounted_volumes_are_seen_as_they_are()
+    ensures { MountedLaw }
+{}
+
+/// A page of the maps changes with an entry only where it tells of a block that the entry takes or frees, of an inode that it takes or puts back, of an extent, or of a list that an inode allocation group joins or leaves.
+pub fn other_map_pages_stay()
+    ensures { MarksLaw }
+{}
