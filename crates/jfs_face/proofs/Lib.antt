@@ -6,3 +6,4 @@ pub mod Owned
 pub mod Whole
 pub mod Marked
 pub mod Mounted
+pub mod Recovered

@@ -22,7 +22,7 @@ bytes_of r pl changes tx p i within = at (given_or_passed tx p i within)
     at (inl given) = inl given
     at (inr passed) = inr (record { redo = passed.redo; lines = passed.lines })
 
-is_face : (r : Readers) (pl : Places) (changes : Pages → List Edit → ℕ → Bool) → AreInAreas pl → IsFace (face_of r pl changes)
+pub is_face : (r : Readers) (pl : Places) (changes : Pages → List Edit → ℕ → Bool) → AreInAreas pl → IsFace (face_of r pl changes)
 is_face r pl changes areas = record {
   size_lines = λ tx p a h. length-apply_tx p tx a ∙ h;
   size_redoes = λ tx p a h. length-apply_tx p (rest_of p tx) a ∙ h;

@@ -5,4 +5,5 @@ pub mod MapPages
 pub mod Volume
 pub mod Marks
 pub mod Mounted
+pub mod Recovered
 pub mod Laws

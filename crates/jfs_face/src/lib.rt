@@ -3,4 +3,7 @@
 
 mod law;
 
-pub use law::{mounted_volumes_are_seen_as_they_are, other_map_pages_stay, volumes_keep_the_laws};
+pub use law::{
+    mounted_volumes_are_seen_as_they_are, other_map_pages_stay, volumes_keep_the_laws,
+    volumes_survive_crashes,
+};
