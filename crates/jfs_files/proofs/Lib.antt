@@ -3,3 +3,4 @@ pub mod Replies
 pub mod Links
 pub mod NewObjects
 pub mod Removals
+pub mod Data

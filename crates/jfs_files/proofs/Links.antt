@@ -42,19 +42,23 @@ maps_after maps new now tx r e = record {
 -- ---- what stands between
 
 -- what goes through in the end went through before
-both_ok : {X Y : Type 0} (x : Result X Refusal) (f : X → Result Y Refusal) (y : Y) → and_then x f ≡ Ok y → (z : X) × (x ≡ Ok z) × (f z ≡ Ok y)
+pub both_ok : {X Y : Type 0} (x : Result X Refusal) (f : X → Result Y Refusal) (y : Y) → and_then x f ≡ Ok y → (z : X) × (x ≡ Ok z) × (f z ≡ Ok y)
 both_ok (Ok z) f y e = (z, refl, e)
 both_ok (Err why) f y e = absurd (cc (e))
 
-pub enough_for : (free need : ℕ) (it : Unit {0}) → space_for free need ≡ Ok it → need ≤ free
-enough_for free need it e = by (nat_lt free (need + 64)) refl e
+-- a space that is there leaves the blocks that are always kept
+pub left_for : (free need : ℕ) (it : Unit {0}) → space_for free need ≡ Ok it → need + 64 ≤ free
+left_for free need it e = by (nat_lt free (need + 64)) refl e
   where
     not_less : (a b : ℕ) → nat_lt a b ≡ false → b ≤ a
     not_less a b h = grind (arith, nat_tests)
 
-    by : (x : Bool) → nat_lt free (need + 64) ≡ x → (if x then Err (NoSpace free) else Ok tt) ≡ Ok it → need ≤ free
+    by : (x : Bool) → nat_lt free (need + 64) ≡ x → (if x then Err (NoSpace free) else Ok tt) ≡ Ok it → need + 64 ≤ free
     by true h e = absurd (cc (e))
-    by false h e = (let l = not_less free (need + 64) h in omega (arith, l))
+    by false h e = not_less free (need + 64) h
+
+pub enough_for : (free need : ℕ) (it : Unit {0}) → space_for free need ≡ Ok it → need ≤ free
+enough_for free need it e = let l = left_for free need it e in omega (arith, l)
 
 module _ (blocks : ℕ) (pages : ℕ → List ℕ) (map : Blocks) (inodes : Inodes) (from to : List (List ℕ)) where
   abbrev after_space : Held → Held → Result Joint Refusal

@@ -1,3 +1,5 @@
 -- what the clauses say
 pub mod Outcome
+pub mod Written
 pub mod Meets
+pub mod Laws

@@ -24,6 +24,7 @@ use Rattle.jfs_look.specs.Look.{stat_at, names_at}
 use Rattle.jfs_read.specs.Read.{read_at}
 use Rattle.jfs_readlink.specs.Target.{target_at}
 use Rattle.jfs_unlink.specs.Call.{Unlinks, unlink_of, Removes, rmdir_of}
+use Rattle.jfs_truncate.specs.Call.{truncate_of, Truncates}
 use Rattle.jfs_files.specs.declared.outcome.Maps.{Maps}
 use Rattle.jfs_files.specs.declared.outcome.FileOutcome.{FileOutcome}
 use Rattle.jfs_files.specs.declared.outcome.FileOutcome.TheVariants.{Changed, Same, NeedsLog}
@@ -55,6 +56,7 @@ gives_name _ = false
 
 abbrev pub stands : Call → Bool
 stands calls.Sync = true
+stands (calls.Truncate path size) = true
 stands call = looks call || (takes_none call || gives_name call)
 
 -- ---- their answers
@@ -97,6 +99,12 @@ MeetsChange does way NeedsLog = ⊥
 abbrev pub MeetsMode : ℕ → (ℕ → List ℕ) → Inodes → List (List ℕ) → ℕ → Moment → FileOutcome → Type 0
 MeetsMode blocks pages inodes path mode now outcome = MeetsChange (SetsMode blocks pages inodes path mode now) (path_of blocks pages inodes path) outcome
 
+-- The file at the end of a path gets a size, by this data and this transaction; or it is refused.
+abbrev pub MeetsSize : ℕ → (ℕ → List ℕ) → Maps → List (List ℕ) → ℕ → Moment → FileOutcome → Type 0
+MeetsSize blocks pages maps path size now (Changed tx written) = Truncates blocks pages maps.inodes path size maps.file_limit now (record { tx = tx; blocks = written })
+MeetsSize blocks pages maps path size now (Same reply) = IsRefusedBy (truncate_of blocks pages maps.inodes path size maps.file_limit) reply
+MeetsSize blocks pages maps path size now NeedsLog = ⊥
+
 -- it is refused as a link is
 abbrev pub IsLinkRefused : ℕ → (ℕ → List ℕ) → Maps → List (List ℕ) → List (List ℕ) → Moment → Reply → Type 0
 IsLinkRefused blocks pages maps from to now (Refused why) = LinksAs blocks pages maps.blocks maps.inodes from to now (Err why)
@@ -129,6 +137,7 @@ Meets blocks pages maps (calls.Link from to) now outcome = MeetsLink blocks page
 Meets blocks pages maps (calls.Unlink path) now outcome = MeetsChange (Unlinks blocks pages maps.inodes path maps.file_limit now) (unlink_of blocks pages maps.inodes path maps.file_limit) outcome
 Meets blocks pages maps (calls.Rmdir path) now outcome = MeetsChange (Removes blocks pages maps.inodes path now) (rmdir_of blocks pages maps.inodes path) outcome
 Meets blocks pages maps (calls.Chmod path mode) now outcome = MeetsMode blocks pages maps.inodes path mode now outcome
+Meets blocks pages maps (calls.Truncate path size) now outcome = MeetsSize blocks pages maps path size now outcome
 Meets blocks pages maps (calls.Read path offset count) now outcome = Tells (looked blocks pages maps.inodes (calls.Read path offset count)) outcome
 Meets blocks pages maps (calls.Stat path) now outcome = Tells (looked blocks pages maps.inodes (calls.Stat path)) outcome
 Meets blocks pages maps (calls.List path) now outcome = Tells (looked blocks pages maps.inodes (calls.List path)) outcome

@@ -1,5 +1,5 @@
 -- What a file call answers, said once for all calls.
-use Rattle.std.specs.Prelude.{◌≡◌, ◌⊎◌, ◌<◌, ◌≤◌, ℕ, true, false, nat_lt, if◌then◌else◌, List, [], Ok, Err}
+use Rattle.std.specs.Prelude.{◌≡◌, ◌⊎◌, ◌<◌, ◌≤◌, ℕ, true, false, nat_lt, if◌then◌else◌, List, Ok, Err}
 use Rattle.jfs_disk.specs.declared.disk.Fault.{Fault}
 use Rattle.jfs_super.specs.Geometry.{file_limit_of}
 use Rattle.jfs_bmap.specs.States.{Blocks, Free, Reserved, state_of, changed, all_settled}
@@ -17,8 +17,9 @@ use Rattle.jfs_meaning.specs.Room.{room_on}
 use Rattle.jfs_meaning.specs.Consistent.{IsConsistent}
 use Rattle.jfs_way.specs.Answer.{is_open, CarriesCause}
 use Rattle.jfs_way.specs.Volume.{volume_of, PlacesWithin}
-use Rattle.jfs_steps.specs.After.{after_call, takes}
+use Rattle.jfs_steps.specs.After.{takes}
 use Rattle.jfs_steps.specs.Call.{IsDone}
+use Rattle.jfs_data_steps.specs.After.{after_writes}
 use Rattle.jfs_claim.specs.Look.{IsAtRest, LooksFor}
 use Rattle.jfs_claim.specs.Take.{Lacks, HasFree}
 use Rattle.jfs_claim.specs.declared.look.FreshInode.{FreshInode}
@@ -103,8 +104,8 @@ Wants maps _ want = want ≡ nothing
 abbrev pub IsBusyFor : Blocks → Want → Type 0
 IsBusyFor map want = Lacks map want × HasFree (all_settled map) want
 
--- The plain step is taken, whose tree the volume after the transaction has; or the reply is the plain step's; or busy blocks stand in between. No call that stands so far writes blocks of files.
+-- The plain step is taken, whose tree the volume has once the data is written and the transaction follows; or the reply is the plain step's; or busy blocks stand in between.
 abbrev pub AnswersAs : ℕ → Blocks → Volume → (Want → Type 0) → (Tree → Outcome) → FileOutcome → Type 0
-AnswersAs blocks map v wants plain (Changed tx written) = IsDone blocks v (after_call blocks tx v) plain × (written ≡ [])
+AnswersAs blocks map v wants plain (Changed tx written) = IsDone blocks v (after_writes blocks written tx v) plain
 AnswersAs blocks map v wants plain (Same reply) = IsReply (tree_on (readers blocks) v) (plain (tree_on (readers blocks) v)) reply
 AnswersAs blocks map v wants plain NeedsLog = (want : Want) × wants want × IsBusyFor map want

@@ -5,6 +5,7 @@ ghost use Rattle.jfs_disk.specs.Image.{page_of};
 ghost use Rattle.jfs_plain.specs.Limits.{FitsCall};
 ghost use Rattle.jfs_plain.specs.Step.{outcome};
 ghost use Rattle.jfs_files.specs.Outcome.{CarriesOutcome, MapsAfter, IfMounted, AnswersAs, Wants};
+ghost use Rattle.jfs_files.specs.Written.{WritesNone, FreesUsed};
 ghost use Rattle.jfs_files.specs.Meets.{Meets, takes_none};
 
 use crate::outcome::{FileOutcome, Maps};
@@ -31,8 +32,10 @@ pub(crate) fn change_outcome<V: PageView>(
     ensures device { V.PageView.device view.new ≡ V.PageView.device view.old }
     ensures fault { CarriesOutcome (V.PageView.faults view.old) (V.PageView.faults view.new) result }
     ensures maps { V.PageView.tells → MapsAfter maps.now maps.now result }
+    ensures none { WritesNone result }
     ensures follows { V.PageView.tells → IfMounted (V.PageView.block_count view.old) (page_of (V.PageView.image view.old)) maps.now (λ v room.
         AnswersAs (V.PageView.block_count view.old) maps.now.blocks v (Wants maps.now call.now) (λ t. outcome room t call.now now) result) }
+    ensures once { V.PageView.tells → IfMounted (V.PageView.block_count view.old) (page_of (V.PageView.image view.old)) maps.now (λ v room. FreesUsed v.used result) }
     ensures meets { V.PageView.tells → Meets (V.PageView.block_count view.old) (page_of (V.PageView.image view.old)) maps.now call.now now result }
 {
     let limit = maps.file_limit;

@@ -3,9 +3,13 @@
 
 mod call;
 mod change;
+mod law;
 mod naming;
 mod outcome;
 mod reply;
+mod size;
 
 pub use call::file_call;
-pub use outcome::{DataList, DataPage, FileOutcome, Maps};
+pub use jfs_data_steps::{DataList, DataPage};
+pub use law::no_data_leaves_the_transaction_alone;
+pub use outcome::{FileOutcome, Maps};

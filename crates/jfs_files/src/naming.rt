@@ -8,6 +8,7 @@ ghost use Rattle.jfs_create.specs.New.{FitsNew};
 ghost use Rattle.jfs_create.specs.Makes.{plain_of};
 ghost use Rattle.jfs_link.specs.Link.{want_of_name};
 ghost use Rattle.jfs_files.specs.Outcome.{CarriesOutcome, KeepsMaps, MapsAfter, IfMounted, AnswersAs, Wants, WantsInode};
+ghost use Rattle.jfs_files.specs.Written.{WritesNone, FreesNothing};
 ghost use Rattle.jfs_files.specs.Meets.{Meets, MeetsNew, MeetsLink, gives_name};
 
 use crate::outcome::{FileOutcome, Maps};
@@ -36,6 +37,8 @@ pub(crate) fn name_outcome<V: PageView>(
     ensures fault { CarriesOutcome (V.PageView.faults view.old) (V.PageView.faults view.new) result }
     ensures kept { KeepsMaps maps.old maps.new result }
     ensures maps { V.PageView.tells → MapsAfter maps.old maps.new result }
+    ensures none { WritesNone result }
+    ensures frees { V.PageView.tells → FreesNothing result }
     ensures follows { V.PageView.tells → IfMounted (V.PageView.block_count view.old) (page_of (V.PageView.image view.old)) maps.old (λ v room.
         AnswersAs (V.PageView.block_count view.old) maps.old.blocks v (Wants maps.old call.now) (λ t. outcome room t call.now now) result) }
     ensures meets { V.PageView.tells → Meets (V.PageView.block_count view.old) (page_of (V.PageView.image view.old)) maps.old call.now now result }
@@ -78,6 +81,8 @@ fn new_outcome<V: PageView>(
     ensures fault { CarriesOutcome (V.PageView.faults view.old) (V.PageView.faults view.new) result }
     ensures kept { KeepsMaps maps.old maps.new result }
     ensures maps { V.PageView.tells → MapsAfter maps.old maps.new result }
+    ensures none { WritesNone result }
+    ensures frees { V.PageView.tells → FreesNothing result }
     ensures follows { V.PageView.tells → IfMounted (V.PageView.block_count view.old) (page_of (V.PageView.image view.old)) maps.old (λ v room.
         AnswersAs (V.PageView.block_count view.old) maps.old.blocks v (WantsInode maps.old) (λ t. plain_of object.entry room t path.now now) result) }
     ensures meets { V.PageView.tells → MeetsNew (V.PageView.block_count view.old) (page_of (V.PageView.image view.old)) maps.old path.now now result object.entry }
@@ -116,6 +121,8 @@ fn link_outcome<V: PageView>(
     ensures fault { CarriesOutcome (V.PageView.faults view.old) (V.PageView.faults view.new) result }
     ensures kept { KeepsMaps maps.old maps.new result }
     ensures maps { V.PageView.tells → MapsAfter maps.old maps.new result }
+    ensures none { WritesNone result }
+    ensures frees { V.PageView.tells → FreesNothing result }
     ensures follows { V.PageView.tells → IfMounted (V.PageView.block_count view.old) (page_of (V.PageView.image view.old)) maps.old (λ v room.
         AnswersAs (V.PageView.block_count view.old) maps.old.blocks v (λ want. want ≡ want_of_name) (λ t. link room t from.now to.now now) result) }
     ensures meets { V.PageView.tells → MeetsLink (V.PageView.block_count view.old) (page_of (V.PageView.image view.old)) maps.old from.now to.now now result }

@@ -4,9 +4,8 @@ ghost use Rattle.std.specs.Prelude.{◌≡◌, []};
 ghost use Rattle.jfs_plain.specs.declared.reply.Reply.TheVariants.{Refused};
 ghost use Rattle.jfs_files.specs.declared.outcome.FileOutcome.TheVariants.{Changed, Same};
 
-use jfs_bits::Sequence;
 use jfs_bmap::BlockMap;
-use jfs_disk::Page;
+use jfs_data_steps::DataList;
 use jfs_imap::InodeMap;
 use jfs_plain::{Refusal, Reply};
 use jfs_ranges::Tx;
@@ -19,16 +18,6 @@ pub struct Maps {
     pub inodes: InodeMap,
     pub file_limit: u64,
 }
-
-/// A block of a file, with the whole page that it is to hold.
-#[derive(Drop)]
-pub struct DataPage {
-    pub block: u32,
-    pub page: Page,
-}
-
-/// Blocks of files.
-pub type DataList = Sequence<DataPage>;
 
 /// What a file call answers.
 #[derive(Drop)]

@@ -2,6 +2,7 @@ use Rattle.jfs_disk.specs.Image.{page_of}
 use Rattle.jfs_meaning.specs.Readers.{readers}
 use Rattle.jfs_meaning.specs.Room.{room_on}
 use Rattle.jfs_files.specs.Outcome.{volume_in}
+use Rattle.jfs_files.proofs.Data.{fits_none, once_none, starts_none, nothing_freed}
 use Rattle.jfs_files.proofs.call.file_call.Goals as goal
 
 pub returns-in-Stat-clause-follows : goal.returns-in-Stat-clause-follows
@@ -9,3 +10,34 @@ returns-in-Stat-clause-follows g c tells between area con log_pages limit =
     let blocks = g.V.PageView.block_count c.args.view.now in
     let room = room_on (readers blocks) (volume_in (page_of (g.V.PageView.image c.args.view.now)) area c.args.maps.now) blocks log_pages in
     c.look_reply.ensures.follows tells between.within area c.args.maps.now.blocks con room c.args.now
+
+pub returns-in-Mkdir-clause-data : goal.returns-in-Mkdir-clause-data
+returns-in-Mkdir-clause-data g c = fits_none (g.V.PageView.block_count c.args.view.now) c.name_outcome.result c.name_outcome.ensures.none
+
+pub returns-in-Mkdir-clause-starts : goal.returns-in-Mkdir-clause-starts
+returns-in-Mkdir-clause-starts g c tells between area con log_pages limit =
+    starts_none (g.V.PageView.block_count c.args.view.now) (volume_in (page_of (g.V.PageView.image c.args.view.now)) area c.args.maps.now) c.args.request.now.call c.name_outcome.result con c.name_outcome.ensures.none
+
+pub returns-in-Mkdir-clause-once : goal.returns-in-Mkdir-clause-once
+returns-in-Mkdir-clause-once g c tells between area con log_pages limit =
+    let v = volume_in (page_of (g.V.PageView.image c.args.view.now)) area c.args.maps.now in
+    nothing_freed v.used c.name_outcome.result (c.name_outcome.ensures.frees tells)
+
+pub returns-in-Unlink-clause-data : goal.returns-in-Unlink-clause-data
+returns-in-Unlink-clause-data g c = fits_none (g.V.PageView.block_count c.args.view.now) c.change_outcome.result c.change_outcome.ensures.none
+
+pub returns-in-Unlink-clause-starts : goal.returns-in-Unlink-clause-starts
+returns-in-Unlink-clause-starts g c tells between area con log_pages limit =
+    starts_none (g.V.PageView.block_count c.args.view.now) (volume_in (page_of (g.V.PageView.image c.args.view.now)) area c.args.maps.now) c.args.request.now.call c.change_outcome.result con c.change_outcome.ensures.none
+
+pub returns-in-Truncate-clause-follows : goal.returns-in-Truncate-clause-follows
+returns-in-Truncate-clause-follows g c tells between area con log_pages limit = rw c.in-Truncate.is (c.size_outcome.ensures.follows tells between area con log_pages limit)
+
+pub returns-in-Truncate-clause-starts : goal.returns-in-Truncate-clause-starts
+returns-in-Truncate-clause-starts g c tells between area con log_pages limit = rw c.in-Truncate.is (c.size_outcome.ensures.starts tells between area con log_pages limit)
+
+pub returns-in-Mkdir-clause-single : goal.returns-in-Mkdir-clause-single
+returns-in-Mkdir-clause-single g c tells = once_none c.name_outcome.result c.name_outcome.ensures.none
+
+pub returns-in-Unlink-clause-single : goal.returns-in-Unlink-clause-single
+returns-in-Unlink-clause-single g c tells = once_none c.change_outcome.result c.change_outcome.ensures.none

@@ -1,0 +1,75 @@
+-- What a call writes before its transaction, and what that transaction frees.
+use Rattle.std.specs.Prelude.{◌≡◌, ◌<◌, ◌≤◌, ℕ, Bool, true, false, List, [], ◌∷◌}
+use Rattle.jfs_ranges.specs.declared.edit.Edit.{Edit}
+use Rattle.jfs_plain.specs.CallStep.{LeavesRest}
+use Rattle.jfs_plain.specs.declared.call.Call.{Call}
+use Rattle.jfs_plain.specs.declared.call.Call.TheVariants as calls
+use Rattle.jfs_objects.specs.Volume.{Volume}
+use Rattle.jfs_meaning.specs.Readers.{readers}
+use Rattle.jfs_meaning.specs.Tree.{tree_on}
+use Rattle.jfs_meaning.specs.Consistent.{IsConsistent}
+use Rattle.jfs_steps.specs.After.{frees}
+use Rattle.jfs_data_steps.specs.After.{is_put, AreWholePages, LieWithin, with_data}
+use Rattle.jfs_data_steps.specs.declared.pages.DataPage.{DataPage}
+use Rattle.jfs_files.specs.declared.outcome.FileOutcome.{FileOutcome}
+use Rattle.jfs_files.specs.declared.outcome.FileOutcome.TheVariants.{Changed}
+
+-- ---- of every view
+
+-- the blocks that are written lie within the file system part, each with a whole page
+abbrev pub FitsData : ℕ → FileOutcome → Type 0
+FitsData blocks (Changed tx written) = LieWithin blocks written × AreWholePages written
+FitsData blocks _ = Unit {0}
+
+-- the calls that write blocks of files
+abbrev pub puts_data : Call → Bool
+puts_data (calls.Write path offset new) = true
+puts_data (calls.Fill path offset count byte) = true
+puts_data (calls.Truncate path end) = true
+puts_data _ = false
+
+abbrev pub WritesNone : FileOutcome → Type 0
+WritesNone (Changed tx written) = written ≡ []
+WritesNone _ = Unit {0}
+
+-- no block stands there twice
+abbrev pub EachOnce : List DataPage → Type 0
+EachOnce [] = Unit {0}
+EachOnce (d ∷ ds) = (is_put d.block ds ≡ false) × EachOnce ds
+
+abbrev pub WritesOnce : FileOutcome → Type 0
+WritesOnce (Changed tx written) = EachOnce written
+WritesOnce _ = Unit {0}
+
+-- ---- on a consistent volume
+
+-- The data alone, before the transaction, leaves all objects, and all bytes but those that the call writes over; and the volume is consistent then.
+pub record StartsWith (blocks : ℕ) (v : Volume) (call : Call) (written : List DataPage) : Type 0 where
+  pub rest : LeavesRest (tree_on (readers blocks) v) call (tree_on (readers blocks) (with_data written v))
+  pub consistent : IsConsistent (readers blocks) (with_data written v)
+
+abbrev pub Starts : ℕ → Volume → Call → FileOutcome → Type 0
+Starts blocks v call (Changed tx written) = StartsWith blocks v call written
+Starts blocks v call _ = Unit {0}
+
+abbrev pub StartsSize : ℕ → Volume → List (List ℕ) → ℕ → FileOutcome → Type 0
+StartsSize blocks v path end outcome = Starts blocks v (calls.Truncate path end) outcome
+
+-- ---- what is freed
+
+-- no block
+abbrev pub FreesNone : List Edit → Type 0
+FreesNone tx = (b : ℕ) → frees tx b ≡ 0
+
+abbrev pub FreesNothing : FileOutcome → Type 0
+FreesNothing (Changed tx written) = FreesNone tx
+FreesNothing _ = Unit {0}
+
+-- blocks in use alone, each once
+pub record FreesOnce (used : ℕ → Bool) (tx : List Edit) : Type 0 where
+  pub owned : (b : ℕ) → 0 < frees tx b → used b ≡ true
+  pub once : (b : ℕ) → frees tx b ≤ 1
+
+abbrev pub FreesUsed : (ℕ → Bool) → FileOutcome → Type 0
+FreesUsed used (Changed tx written) = FreesOnce used tx
+FreesUsed used _ = Unit {0}
