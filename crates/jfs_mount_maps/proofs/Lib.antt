@@ -1,0 +1,4 @@
+pub mod Places
+pub mod Blocks
+pub mod Inodes
+pub mod Joined
