@@ -7,3 +7,4 @@ pub mod Whole
 pub mod Marked
 pub mod Mounted
 pub mod Recovered
+pub mod InRow

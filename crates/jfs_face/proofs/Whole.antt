@@ -39,7 +39,7 @@ is_face r pl changes areas = record {
   fixed = fixed_matters r pl;
 }
 
-reads_edits : (r : Readers) (pl : Places) (changes : Pages → List Edit → ℕ → Bool) → ReadsEdits (face_of r pl changes)
+pub reads_edits : (r : Readers) (pl : Places) (changes : Pages → List Edit → ℕ → Bool) → ReadsEdits (face_of r pl changes)
 reads_edits r pl changes = record { lines = λ tx p a. refl; closes = λ tx p. refl; redoes = λ tx p a. refl }
 
 pub volumes_are_faces : FaceLaw

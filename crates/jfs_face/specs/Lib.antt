@@ -6,4 +6,5 @@ pub mod Volume
 pub mod Marks
 pub mod Mounted
 pub mod Recovered
+pub mod Redo
 pub mod Laws

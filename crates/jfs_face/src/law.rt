@@ -4,6 +4,7 @@ ghost use Rattle.jfs_face.specs.Laws.{FaceLaw};
 ghost use Rattle.jfs_face.specs.Marks.{MarksLaw};
 ghost use Rattle.jfs_face.specs.Mounted.{MountedLaw};
 ghost use Rattle.jfs_face.specs.Recovered.{RecoveredLaw};
+ghost use Rattle.jfs_face.specs.Redo.{RedoLaw};
 
 /// A volume whose maps stand in its fixed areas keeps all that the core of log redo asks of it, whatever its pages hold and whichever map pages an entry is told to change.
 pub fn volumes_keep_the_laws()
@@ -24,4 +25,10 @@ pub fn other_map_pages_stay()
 /// and the volume that it leaves has the blocks and inodes in use, the objects and the owners of the one after this front; its maps agree with its inodes.
 pub fn volumes_survive_crashes()
     ensures { RecoveredLaw }
+{}
+
+/// Pages that are redone by all edits in a row, and map pages that follow from what these edits leave of the maps, are redo of the transactions; and what they leave of the maps is what a
+/// volume has in use after them, blocks and inode extents.
+pub fn redo_goes_edit_by_edit()
+    ensures { RedoLaw }
 {}

@@ -4,6 +4,6 @@
 mod law;
 
 pub use law::{
-    mounted_volumes_are_seen_as_they_are, other_map_pages_stay, volumes_keep_the_laws,
-    volumes_survive_crashes,
+    mounted_volumes_are_seen_as_they_are, other_map_pages_stay, redo_goes_edit_by_edit,
+    volumes_keep_the_laws, volumes_survive_crashes,
 };
