@@ -1,0 +1,78 @@
+use Rattle.std.proofs.Common.{◌≤◌, ◌-◌, ◌∙◌, ℕ, List, take, drop, sym, ap, subst}
+use Rattle.jfs_disk.specs.Image.{Image, page_of}
+use Rattle.jfs_disk.specs.Crash.{DiskState, AllSince, last_of}
+use Rattle.jfs_disk.specs.Moment.{IsResting, now_of}
+use Rattle.jfs_super.specs.Super.{super_of}
+use Rattle.jfs_super.specs.declared.fields.Geometry.{Geometry}
+use Rattle.jfs_logpages.specs.Fresh.{IsPartlyFresh}
+use Rattle.jfs_logpages.specs.declared.log_side.LogSide.{LogSide}
+use Rattle.jfs_mount_disk.specs.Begun.{marked, IsPartlyMarked}
+use Rattle.jfs_mount_disk.proofs.Left.{still_low}
+use Rattle.jfs_volume.specs.Start.{StandsFresh}
+use Rattle.jfs_mounted.specs.Mount.{LeavesLog}
+use Rattle.jfs_mounted.specs.declared.mounted.MountError.{MountError}
+use Rattle.jfs_mounted.proofs.Started.{still, log_fresh_of, keeps_with, before_left}
+use Rattle.jfs_mounted.proofs.mounting.mount.Goals as goal
+
+pub returns-in-Err-clause-left_low : goal.returns-in-Err-clause-left_low
+returns-in-Err-clause-left_low g c = λ t k rests left crash.
+    let s = c.args.s.now in
+    let old = g.D.Disk.image c.args.disk in
+    let now = c.find_maps_on.new.disk in
+    still_low s old left (ap (λ (im : Image). take s.logpxd.addr im)
+    (still old (g.D.Disk.image now) (g.D.Disk.past c.args.disk) (g.D.Disk.past now) (c.in-Err.ensures.past k) rests (g.met.D.Disk.reads_now now k) (c.in-Err.ensures.image t) left crash))
+
+pub returns-in-Err-clause-left_log : goal.returns-in-Err-clause-left_log
+returns-in-Err-clause-left_log g c = λ t k rests left crash.
+    let s = c.args.s.now in
+    let old = g.D.Disk.image c.args.disk in
+    let now = c.find_maps_on.new.disk in
+    subst (λ (why : MountError). LeavesLog s old why left) (sym c.refusal_of.ensures)
+    (before_left s old left (g.D.Disk.fault_count c.args.disk) (g.D.Disk.fault_count now) c.in-Err.why c.in-Err.ensures.fault
+    (still old (g.D.Disk.image now) (g.D.Disk.past c.args.disk) (g.D.Disk.past now) (c.in-Err.ensures.past k) rests (g.met.D.Disk.reads_now now k) (c.in-Err.ensures.image t) left crash))
+
+pub returns-in-Ok-begin-clause-mounted : goal.returns-in-Ok-begin-clause-mounted
+returns-in-Ok-begin-clause-mounted g c =
+    let s = c.args.s.now in
+    let old = g.D.Disk.image c.args.disk in
+    let maps = c.in-Ok.maps in
+    let begun = c.in-Ok-begin.begun in
+    let ready = c.in-Ok-begin.ensures in
+    let fresh = c.started.ensures.fresh in
+    let pages = fresh.0 in
+    let layout = c.geometry-ring.ensures.layout in
+    let is_marked = λ (t : g.D.Disk.tells). fresh.1 t ∙ ready.low t ∙ ap (λ (im : Image). marked s (take s.logpxd.addr im)) (c.in-Ok.ensures.image t) in
+    record {
+      pages = pages;
+      maps = maps;
+      fresh = subst (λ (ring : ℕ). StandsFresh g.D.Disk.tells g.D.Disk.tells_crashes ring pages maps.blocks maps.inodes c.started.result.volume) (ap (λ (l : Geometry). l.log.len - 2) layout) fresh.2;
+      log_fresh = λ seen asked told crashes. log_fresh_of g.D.Disk s c.find_maps_on.new.disk begun c.started.result.log seen asked pages maps.blocks maps.inodes c.started.ensures.log ready.parts
+          (λ e. ready.holds (told e)) (λ e. ready.log_rests (crashes e));
+      marked = is_marked;
+      superblock = λ t. ap (λ (im : Image). super_of (page_of im 8)) (fresh.1 t) ∙ ready.superblock t;
+      rest = c.in-Ok.ensures.rest;
+      found = λ t. c.in-Ok.ensures.maps t;
+      keeps = λ t consistent. keeps_with s old pages maps (subst (λ (l : Geometry). l.blocks ≤ l.log.addr) layout c.geometry-ring.ensures.bounds.behind) (is_marked t) (c.in-Ok.ensures.maps t) consistent;
+    }
+
+pub returns-in-Ok-begin-clause-low_moments : goal.returns-in-Ok-begin-clause-low_moments
+returns-in-Ok-begin-clause-low_moments g c = λ t k rests.
+    let s = c.args.s.now in
+    let now = c.find_maps_on.new.disk in
+    let low = c.in-Ok-begin.begun.low in
+    let past = g.D.Disk.past c.args.disk in
+    subst (λ (states : List DiskState). AllSince (IsPartlyMarked s (take s.logpxd.addr (g.D.Disk.image c.args.disk))) states (now_of past)) (sym c.started.ensures.low.0)
+    (subst (λ (old : Image). AllSince (IsPartlyMarked s (take s.logpxd.addr old)) (g.D.Disk.past low) (now_of past)) (c.in-Ok.ensures.image t)
+    (subst (λ (states : List DiskState). AllSince (IsPartlyMarked s (take s.logpxd.addr (g.D.Disk.image now))) (g.D.Disk.past low) (now_of states)) (c.in-Ok.ensures.past k)
+    (c.in-Ok-begin.ensures.low_moments t k (subst (λ (states : List DiskState). IsResting (last_of states)) (sym (c.in-Ok.ensures.past k)) rests))))
+
+pub returns-in-Ok-begin-clause-log_moments : goal.returns-in-Ok-begin-clause-log_moments
+returns-in-Ok-begin-clause-log_moments g c = λ t k rests.
+    let s = c.args.s.now in
+    let now = c.find_maps_on.new.disk in
+    let log = c.in-Ok-begin.begun.log in
+    let past = g.D.Disk.past c.args.disk in
+    subst (λ (l : LogSide g.row.D.Denot g.D.Disk). AllSince (IsPartlyFresh 0 s.logpxd.len s.uuid (drop s.logpxd.addr (g.D.Disk.image c.args.disk))) (g.D.Disk.past l.part) (now_of past)) (sym c.started.ensures.log)
+    (subst (λ (old : Image). AllSince (IsPartlyFresh 0 s.logpxd.len s.uuid (drop s.logpxd.addr old)) (g.D.Disk.past log.part) (now_of past)) (c.in-Ok.ensures.image t)
+    (subst (λ (states : List DiskState). AllSince (IsPartlyFresh 0 s.logpxd.len s.uuid (drop s.logpxd.addr (g.D.Disk.image now))) (g.D.Disk.past log.part) (now_of states)) (c.in-Ok.ensures.past k)
+    (c.in-Ok-begin.ensures.log_moments t k (subst (λ (states : List DiskState). IsResting (last_of states)) (sym (c.in-Ok.ensures.past k)) rests))))

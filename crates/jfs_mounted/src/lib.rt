@@ -1,0 +1,10 @@
+//! The mount of a volume: its maps are found, its log is made anew, its superblock says that it is mounted, and calls may begin.
+#![tactic(auto)]
+
+mod law;
+mod mounted;
+mod mounting;
+
+pub use law::mounted_pages_have_the_tree;
+pub use mounted::{MountError, MountRefused, Mounted};
+pub use mounting::mount;
