@@ -5,9 +5,9 @@ ghost use Rattle.jfs_plain.specs.Limits.{FitsPath, FitsCall, FitsTarget};
 ghost use Rattle.jfs_files.specs.Meets.{stands};
 
 use crate::claims::map_of;
-use crate::words::{INNER_ROOT, Word, small_disk};
+use crate::words::{EMPTY_DIRECTORY, INNER_ROOT, Word, put_volume, small_disk};
 use jfs_bits::{Blob, Moment, Rule, put_u32};
-use jfs_disk::{Disk, Part};
+use jfs_disk::{Disk, Fail, Fault, Kind, MemDisk, Part};
 use jfs_files::{FileOutcome, Maps, file_call};
 use jfs_imap::InodeMap;
 use jfs_inode_rows::places_of;
@@ -105,6 +105,8 @@ enum Asked {
     List,
     Readlink,
     Read,
+    Truncate,
+    Sync,
 }
 
 /// The call of a path that is asked for; a link gets the other one, and a symbolic link a target.
@@ -131,6 +133,8 @@ fn call_of(asked: Asked, path: Path, to: Path, target: Blob) -> Call
             offset: 0,
             count: 8,
         },
+        Asked::Truncate => Call::Truncate { path, size: 2 },
+        Asked::Sync => Call::Sync,
     }
 }
 
@@ -155,17 +159,17 @@ fn target_of(alloc: Global) -> Option<Blob>
     }
 }
 
-/// What is answered of the path (a link gets the name `/n`).
-fn answer(
+/// What is answered of the path (a link gets the name `/n`), on a disk that has the small volume.
+fn answer_on<D: Disk>(
     alloc: Global,
+    disk: &mut D,
     given: Given<'_>,
     asked: Asked,
     path: &[u8],
 ) -> Option<Result<(usize, u32), Refusal>> {
     let mut maps = maps_of(alloc, given)?;
-    let mut disk = small_disk(alloc, given.blocks, given.words).ok()?;
     let blocks = disk.pages();
-    let mut view = DiskView::new(&mut disk, Part::Whole, blocks);
+    let mut view = DiskView::new(disk, Part::Whole, blocks);
     let path = path_of(alloc, path)?;
     let to = path_of(alloc, b"/n")?;
     let call = call_of(asked, path, to, target_of(alloc)?);
@@ -174,7 +178,46 @@ fn answer(
     if maps.blocks.blocks() != view.blocks() {
         return None;
     }
-    Some(counted(file_call(alloc, &mut view, &mut maps, &request, now)))
+    let free = maps.blocks.free();
+    let counts = counted(file_call(alloc, &mut view, &mut maps, &request, now));
+    // what is refused reserves nothing
+    if counts.is_err() && maps.blocks.free() != free {
+        return None;
+    }
+    Some(counts)
+}
+
+fn answer(
+    alloc: Global,
+    given: Given<'_>,
+    asked: Asked,
+    path: &[u8],
+) -> Option<Result<(usize, u32), Refusal>> {
+    let mut disk = small_disk(alloc, given.blocks, given.words).ok()?;
+    answer_on(alloc, &mut disk, given, asked, path)
+}
+
+/// The same where one read of the disk fails, by its number from 1.
+fn answer_by(
+    alloc: Global,
+    number: u64,
+    given: Given<'_>,
+    asked: Asked,
+    path: &[u8],
+) -> Option<Result<(usize, u32), Refusal>> {
+    let mut disk = MemDisk::new(alloc, given.blocks);
+    put_volume(&mut disk, given.words);
+    let mut fails = Vec::new(alloc);
+    fails
+        .push(Fail {
+            part: Part::Whole,
+            kind: Kind::Read,
+            first: number,
+            last: number,
+        })
+        .ok()?;
+    let mut disk = disk.with_fails(fails);
+    answer_on(alloc, &mut disk, given, asked, path)
 }
 
 fn damaged(page: u32) -> Result<(usize, u32), Refusal> {
@@ -196,7 +239,7 @@ fn calls_are_answered(rt: HostRuntime) {
         words: &INNER_ROOT,
         ..SMALL
     };
-    let rows: [(Given<'_>, Asked, &[u8], Result<(usize, u32), Refusal>); 15] = [
+    let rows: [(Given<'_>, Asked, &[u8], Result<(usize, u32), Refusal>); 17] = [
         (SMALL, Asked::Chmod, b"/e", Err(Refusal::NotFound)),
         (
             SMALL,
@@ -222,6 +265,8 @@ fn calls_are_answered(rt: HostRuntime) {
         (SMALL, Asked::Readlink, b"/a", Err(Refusal::NotFile)),
         (SMALL, Asked::Read, b"/a", Ok((4, 66))),
         (SMALL, Asked::Read, b"/c", Err(Refusal::NotFile)),
+        (SMALL, Asked::Truncate, b"/c", Err(Refusal::NotFile)),
+        (SMALL, Asked::Sync, b"/", Ok((0, 0))),
     ];
     for (given, asked, path, wanted) in rows {
         assert_eq!(rt; answer(alloc, given, asked, path), Some(wanted));
@@ -229,7 +274,8 @@ fn calls_are_answered(rt: HostRuntime) {
 }
 
 // A chmod changes one line of an inode. A new name changes two runs of its directory's lines: times and the tree's head; its slot. Then come the object's: all of them; of a symbolic link the
-// fields and the target; and before them four pages, where an inode extent is made. An inode that gets a further name changes in one line.
+// fields and the target; and before them four pages, where an inode extent is made. An inode that gets a further name changes in one line. A name that goes changes one run of its
+// directory's lines, and the inode of what it named; the one block of a file, or of a long link, is freed.
 #[test]
 fn changes_are_answered(rt: HostRuntime) {
     let alloc = rt.alloc();
@@ -237,7 +283,11 @@ fn changes_are_answered(rt: HostRuntime) {
         used: 0xffff_ffff,
         ..LARGE
     };
-    let rows: [(Given<'_>, Asked, &[u8], usize); 8] = [
+    let with_directory = Given {
+        words: &EMPTY_DIRECTORY,
+        ..SMALL
+    };
+    let rows: [(Given<'_>, Asked, &[u8], usize); 12] = [
         (SMALL, Asked::Chmod, b"/a", 1),
         (LARGE, Asked::Mkdir, b"/n", 3),
         (LARGE, Asked::Create, b"/n", 3),
@@ -246,8 +296,58 @@ fn changes_are_answered(rt: HostRuntime) {
         (all_in_use, Asked::Mkdir, b"/n", 4),
         (all_in_use, Asked::Create, b"/n", 4),
         (all_in_use, Asked::Symlink, b"/n", 5),
+        (SMALL, Asked::Unlink, b"/a", 3),
+        (SMALL, Asked::Unlink, b"/c", 3),
+        (SMALL, Asked::Unlink, b"/d", 2),
+        (with_directory, Asked::Rmdir, b"/d", 2),
     ];
     for (given, asked, path, edits) in rows {
         assert_eq!(rt; answer(alloc, given, asked, path), Some(Ok((edits, 0))));
+    }
+    // its block is written whole, with zeros behind the new end
+    assert_eq!(rt;
+        answer(alloc, SMALL, Asked::Truncate, b"/a"),
+        Some(Ok((1, 1)))
+    );
+}
+
+// Inodes that are in use stand on one page, which is read first; a new one stands on the next page, which is read for its generation, and again after the first one for its lines. A file's bytes, and those of a long link, stand on another. A read that fails is told with the count of faults.
+#[test]
+fn reads_fail_in_turn(rt: HostRuntime) {
+    let alloc = rt.alloc();
+    let fault = Fault {
+        part: Part::Whole,
+        count: 1,
+    };
+    let rows: [(Asked, &[u8], u64); 14] = [
+        (Asked::Mkdir, b"/n", 4),
+        (Asked::Create, b"/n", 4),
+        (Asked::Symlink, b"/n", 4),
+        (Asked::Link, b"/a", 1),
+        (Asked::Unlink, b"/a", 1),
+        (Asked::Unlink, b"/c", 1),
+        (Asked::Rmdir, b"/d", 1),
+        (Asked::Chmod, b"/a", 1),
+        (Asked::Stat, b"/d", 1),
+        (Asked::List, b"/", 1),
+        (Asked::Readlink, b"/c", 2),
+        (Asked::Read, b"/a", 2),
+        (Asked::Truncate, b"/a", 3),
+        (Asked::Sync, b"/", 0),
+    ];
+    let given = Given {
+        words: &EMPTY_DIRECTORY,
+        ..LARGE
+    };
+    for (asked, path, reads) in rows {
+        let whole = answer(alloc, given, asked, path);
+        for number in 1..reads + 3 {
+            let came = answer_by(alloc, number, given, asked, path);
+            if number <= reads {
+                assert_eq!(rt; came, Some(Err(Refusal::IoFault { fault })));
+            } else {
+                assert_eq!(rt; came, whole);
+            }
+        }
     }
 }

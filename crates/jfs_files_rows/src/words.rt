@@ -76,9 +76,31 @@ pub const INNER_ROOT: [Word; 11] = [
     (29, 1316, 0),
 ];
 
+/// Inode 7 as an empty directory of two links, and a root directory of three. All eight slots are free.
+pub const EMPTY_DIRECTORY: [Word; 12] = [
+    (29, 1064, 3),
+    (29, 3636, 0x41ed),
+    (29, 3824, 0x0108_0083),
+    (29, 3828, 2),
+    (29, 3840, 0x0102),
+    (29, 3872, 0x0103),
+    (29, 3904, 0x0104),
+    (29, 3936, 0x0105),
+    (29, 3968, 0x0106),
+    (29, 4000, 0x0107),
+    (29, 4032, 0x0108),
+    (29, 4064, 0x01ff),
+];
+
 /// The small volume with so many blocks, with these words instead of its own.
 pub fn small_disk(alloc: Global, blocks: u32, others: &[Word]) -> Result<SureDisk, AllocError> {
     let mut disk = SureDisk::new(alloc, blocks)?;
+    put_volume(&mut disk, others);
+    Ok(disk)
+}
+
+/// Writes the small volume, with these words instead of its own, to a disk of zeros.
+pub fn put_volume<D: Disk>(disk: &mut D, others: &[Word]) {
     for page in 0..64 {
         let mut bytes = Page::zeros();
         put(&mut bytes, page, &ROOT);
@@ -88,7 +110,6 @@ pub fn small_disk(alloc: Global, blocks: u32, others: &[Word]) -> Result<SureDis
             let _ = disk.write(page, &bytes);
         }
     }
-    Ok(disk)
 }
 
 /// Puts the words of a page.
