@@ -1,0 +1,10 @@
+pub mod Spelled
+pub mod Spots
+pub mod Lying
+pub mod Moves
+pub mod Reserving
+pub mod Reserved
+pub mod Grown
+pub mod Done
+pub mod Calls
+pub mod Looking
