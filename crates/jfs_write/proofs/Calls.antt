@@ -1,24 +1,21 @@
 -- What a write answers, from what the functions below it answer.
-use Rattle.std.proofs.Common.{◌≡◌, ◌≤◌, ◌<◌, ◌⊎◌, refl, sym, ap, ◌∙◌, subst, inl, inr, ℕ, ◌+◌, ◌/◌, Bool, true, false, nat_le, if◌then◌else◌, List, [], length, replicate, Option, Some, None, Result, Ok, Err, IfOk, IfErr, arith}
+use Rattle.std.proofs.Common.{◌≡◌, ◌≤◌, ◌<◌, ◌⊎◌, refl, sym, ap, ◌∙◌, subst, inl, inr, ℕ, ◌+◌, ◌/◌, Bool, true, false, nat_le, if◌then◌else◌, List, length, replicate, Some, None, Result, Ok, Err, IfOk, IfErr, arith}
 use Rattle.std.specs.Prelude.{max}
 use Rattle.std.proofs.lemmas.List.{length-replicate}
 use Rattle.jfs_super.specs.Geometry.{file_limit_of}
 use Rattle.jfs_bits.specs.declared.descriptor.Moment.{Moment}
-use Rattle.jfs_bits.specs.declared.descriptor.Pxd.{Pxd}
 use Rattle.jfs_bits.specs.declared.extent.Xad.{Xad}
 use Rattle.jfs_bits.specs.declared.rule.Rule.{Rule}
-use Rattle.jfs_bits.specs.declared.rule.Rule.TheVariants as rules
 use Rattle.jfs_imap.specs.Inodes.{Inodes}
 use Rattle.jfs_bmap.specs.States.{Blocks, unowned_count}
 use Rattle.jfs_tree.specs.Fresh.{blocks_of}
 use Rattle.jfs_tree.specs.Spells.{no_page}
-use Rattle.jfs_tree.specs.declared.form.TreeError.TheVariants as tree
-use Rattle.jfs_xtree.specs.Spells.{page_nodes, root_node, spells_extents, tree_error}
+use Rattle.jfs_xtree.specs.Spells.{spells_extents, tree_error}
 use Rattle.jfs_xtree.specs.declared.error.XtError.{XtError}
 use Rattle.jfs_xtree.specs.declared.error.XtError.TheVariants.{View, Bad}
 use Rattle.jfs_ranges.specs.declared.view.ViewError.{ViewError}
 use Rattle.jfs_ranges.specs.declared.view.ViewError.TheVariants as view
-use Rattle.jfs_put_range.specs.Call.{IsNinth, RefusesOnlyDeep}
+use Rattle.jfs_put_range.specs.Call.{RefusesOnlyDeep}
 use Rattle.jfs_plain.specs.Tree.{Tree, Found, walk, root, and_then, found}
 use Rattle.jfs_plain.specs.Step.{Room, Outcome, is_short, need_of_bytes, if_file, size_after, within_limit, refuse, file, write}
 use Rattle.jfs_plain.specs.Moves.{changed, sized, filled}
@@ -43,8 +40,8 @@ use Rattle.jfs_read.specs.Read.{extents_refusal}
 use Rattle.jfs_data_steps.specs.After.{AreWholePages, with_data}
 use Rattle.jfs_data_steps.proofs.Held as held_file
 use Rattle.jfs_write_pages.specs.Spots.{placed, extents_for}
-use Rattle.jfs_write.specs.Look.{why_kept, or_damage, spelled_at, FitsBytes, spots_at, want_for}
-use Rattle.jfs_write.specs.Call.{MayTake, NotMade, LacksPlace, WritesAt, StoppedAt, InRoom, IsDeep, StepsInRoom, StartsIn, StartsOn, StartsWrite, StartsFill, Passes, LooksAs}
+use Rattle.jfs_write.specs.Look.{why_kept, or_damage, spelled_at, FitsBytes, spots_at}
+use Rattle.jfs_write.specs.Call.{LacksPlace, WritesAt, StoppedAt, InRoom, IsDeep, StepsInRoom, StartsWrite, StartsFill}
 use Rattle.jfs_write.specs.Tree.{RefusesExtents}
 use Rattle.jfs_write.specs.declared.answer.Stop.{Stop}
 use Rattle.jfs_write.specs.declared.answer.Stop.TheVariants.{Refused, NeedsLog}

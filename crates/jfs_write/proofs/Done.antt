@@ -1,8 +1,7 @@
 -- A write on a consistent volume takes the plain step.
-use Rattle.std.proofs.Common.{◌≡◌, ◌≢◌, ◌≤◌, ◌<◌, ◌⊎◌, refl, sym, ap, ◌∙◌, inl, inr, ℕ, ◌+◌, ◌-◌, ◌/◌, ◌%◌, ◌&&◌, ◌==◌, Bool, true, false, nat_lt, if◌then◌else◌, List, [], length, Option, Some, None, Result, Ok, Err, arith, eq-eqb, ne_eqb}
+use Rattle.std.proofs.Common.{◌≡◌, ◌≤◌, ◌<◌, refl, sym, ap, ◌∙◌, inl, inr, ℕ, ◌+◌, ◌-◌, ◌/◌, ◌%◌, ◌&&◌, Bool, true, false, nat_lt, if◌then◌else◌, List, length, Option, Some, None, Result, Ok, Err, arith, eq-eqb, ne_eqb}
 use Rattle.std.specs.Prelude.{min, max, nat_le, get_or}
 use Rattle.std.proofs.lemmas.Bool.{cases_lt, lt-ltb, le-ltb}
-use Rattle.std.proofs.lemmas.Bool.Decides.{nat_tests}
 use Rattle.jfs_bits.specs.declared.descriptor.Moment.{Moment}
 use Rattle.jfs_bits.specs.declared.descriptor.Pxd.{Pxd}
 use Rattle.jfs_bits.specs.declared.extent.Xad.{Xad}
@@ -21,7 +20,7 @@ use Rattle.jfs_meaning.specs.Readers.{readers, root_of}
 use Rattle.jfs_meaning.specs.Tree.{tree_on}
 use Rattle.jfs_meaning.specs.Consistent.{IsConsistent}
 use Rattle.jfs_plain.specs.Tree.{Tree, Found, found_at, walk, root, and_then}
-use Rattle.jfs_plain.specs.CallStep.{LeavesRest, writes_over_in}
+use Rattle.jfs_plain.specs.CallStep.{writes_over_in}
 use Rattle.jfs_plain.specs.declared.call.Call.TheVariants as calls
 use Rattle.jfs_plain.specs.Moves.{Same, sized, changed, filled, byte_after}
 use Rattle.jfs_plain.specs.Step.{Room, Outcome, refuse, is_short, need_of_bytes, size_after, within_limit, file, write}

@@ -1,7 +1,7 @@
 -- A file's tree that gets the extents of what is written, on a consistent volume: what the transaction and the data do.
-use Rattle.std.proofs.Common.{◌≡◌, ◌≢◌, ◌≤◌, ◌<◌, ◌⊎◌, refl, sym, ap, ap₂, ◌∙◌, subst, inl, inr, ℕ, ◌+◌, ◌/◌, ◌==◌, ◌&&◌, ◌||◌, Bool, true, false, nat_lt, if◌then◌else◌, List, [], ◌∷◌, ◌++◌, length, map, Option, Some, None, Ok, arith, ne_eqb}
+use Rattle.std.proofs.Common.{◌≡◌, ◌≢◌, ◌≤◌, ◌<◌, refl, sym, ap, ◌∙◌, subst, inl, inr, ℕ, ◌+◌, ◌/◌, ◌&&◌, Bool, true, false, nat_lt, if◌then◌else◌, List, [], ◌∷◌, ◌++◌, length, map, Option, Some, None, Ok, arith}
 use Rattle.std.specs.Prelude.{max}
-use Rattle.std.specs.List.{All, AllByRecursion as Each, list_any}
+use Rattle.std.specs.List.{All, AllByRecursion as Each}
 use Rattle.std.proofs.lemmas.Bool.{cases_lt}
 use Rattle.jfs_bits.specs.declared.descriptor.Moment.{Moment}
 use Rattle.jfs_bits.specs.declared.descriptor.Pxd.{Pxd}
@@ -9,38 +9,34 @@ use Rattle.jfs_bits.specs.declared.extent.Xad.{Xad}
 use Rattle.jfs_bits.specs.declared.rule.PageKind.TheVariants.{Xtree}
 use Rattle.jfs_inode.specs.declared.fields.Dinode.{Dinode}
 use Rattle.jfs_imap.specs.Inodes.{Inodes}
-use Rattle.jfs_bmap.specs.States.{Blocks, is_owned}
+use Rattle.jfs_bmap.specs.States.{Blocks}
 use Rattle.jfs_bmap.proofs.Reservations.{reservation-total}
 use Rattle.jfs_ranges.specs.declared.edit.Edit.{Edit}
 use Rattle.jfs_ranges.specs.Apply.{apply_tx}
 use Rattle.jfs_ranges.specs.Laid.{put_tx}
 use Rattle.jfs_tree.specs.Edit.{count_in}
-use Rattle.jfs_tree.specs.Form.{AllBelow}
-use Rattle.jfs_tree.specs.Fresh.{LeadsTo, after_tx, blocks_of, run_from, allocs_of}
+use Rattle.jfs_tree.specs.Fresh.{LeadsTo, after_tx, blocks_of, allocs_of}
 use Rattle.jfs_tree.specs.Root.{IsSpare}
 use Rattle.jfs_tree.specs.Spells.{spells, footprint}
-use Rattle.jfs_tree.specs.Tell.{is_in}
 use Rattle.jfs_xtpage.specs.Page.{rises_from}
-use Rattle.jfs_xtpage.specs.declared.head.XtForm.TheVariants.{Full}
-use Rattle.jfs_xtree.specs.Node.{xt_scale, xt_node, all_within}
+use Rattle.jfs_xtree.specs.Node.{xt_scale, xt_node}
 use Rattle.jfs_xtree.specs.Spells.{page_nodes, root_node, root_form, spells_extents, owned_pages}
 use Rattle.jfs_xtree.specs.Writing.{is_recorded, AllLong, AllTo, Place, place_at}
 use Rattle.jfs_objects.specs.Readers.{Readers}
 use Rattle.jfs_objects.specs.Image.{extent_place}
 use Rattle.jfs_objects.specs.Volume.{Volume}
 use Rattle.jfs_objects.specs.Objects.{objects, spelled, is_live, listed}
-use Rattle.jfs_objects.specs.Owners.{holds, covers, extents_have, bit, IsSound}
+use Rattle.jfs_objects.specs.Owners.{holds, covers, extents_have, bit}
 use Rattle.jfs_objects.specs.Contents.{block_of}
 use Rattle.jfs_objects.proofs.Homes.{home_counts}
 use Rattle.jfs_objects.proofs.Owned.{owned_once}
-use Rattle.jfs_objects.proofs.Sums.{eq_or_not, zero_or_more}
+use Rattle.jfs_objects.proofs.Sums.{zero_or_more}
 use Rattle.jfs_meaning.specs.Contents.{is_regular}
 use Rattle.jfs_meaning.specs.Readers.{readers, root_of}
 use Rattle.jfs_meaning.specs.Consistent.{IsConsistent}
 use Rattle.jfs_plain.specs.Step.{blocks_in}
 use Rattle.jfs_plain.specs.Moves.{byte_after}
 use Rattle.jfs_runs.proofs.Counted.{all_laws}
-use Rattle.jfs_claim.specs.Take.{AreFresh}
 use Rattle.jfs_way.specs.Volume.{volume_of}
 use Rattle.jfs_way.specs.Walk.{IsHeld, IsShown, IsThere, tree_in}
 use Rattle.jfs_way.specs.declared.object.Held.{Held}
@@ -48,13 +44,12 @@ use Rattle.jfs_lead_steps.specs.Balance.{own_after}
 use Rattle.jfs_loss.proofs.Counts.{count_append}
 use Rattle.jfs_loss.proofs.Holds.{extents_listed}
 use Rattle.jfs_steps.specs.Laws.{TakesAndFrees, IsFair}
-use Rattle.jfs_steps.specs.After.{takes}
 use Rattle.jfs_data_steps.specs.declared.pages.DataPage.{DataPage}
 use Rattle.jfs_data_steps.specs.After.{is_put, AreWholePages, put_data, after_writes, LeavesPage}
 use Rattle.jfs_data_steps.specs.File.{bytes_held}
 use Rattle.jfs_data_steps.specs.Laws.{MayPut, SetsFile, IsFileSet}
 use Rattle.jfs_data_steps.proofs.Told.{leaves_none, leaves_onto, allocs_leave, changes_leave, lines_leave_others}
-use Rattle.jfs_data_steps.proofs.Extents.{had, had_below, had_once, data_was, file_sets, some_extents}
+use Rattle.jfs_data_steps.proofs.Extents.{had, had_once, data_was, file_sets, some_extents}
 use Rattle.jfs_data_steps.proofs.Files.{file_law}
 use Rattle.jfs_data_steps.proofs.Held as file
 use Rattle.jfs_written.specs.Range.{with_range}
@@ -68,33 +63,13 @@ use Rattle.jfs_write_pages.proofs.Held.{block_is, put_covers, held}
 use Rattle.jfs_write_pages.proofs.Spotted.{each_map, each_has, was_recorded, IsSpotOf, all_there, range_spots, none_before, none_behind}
 use Rattle.jfs_write.specs.Look.{FitsBytes, spots_at, want_for}
 use Rattle.jfs_write.specs.Tree.{run_allocs, PutsExtents}
-use Rattle.jfs_write.specs.Make.{Edits, Makes}
+use Rattle.jfs_write.specs.Make.{Makes}
 use Rattle.jfs_write.specs.Call.{MayTake}
 use Rattle.jfs_write.specs.declared.make.Written.{Written}
+use Rattle.jfs_write.proofs.Counts.{blocks_append, counted_below, not_in}
 use Rattle.jfs_write.proofs.Spelled.{spelled_within, spelled_rises, rises_lower, within_long, within_low, bounded, to_more}
-use Rattle.jfs_write.proofs.Spots.{last_block, length_spots}
-use Rattle.jfs_write.proofs.Moves.{took, took_front, same_after, runs_leave, edits_move, front_is}
-
--- ---- lists of blocks
-
-blocks_append : (xs ys : List Pxd) → (b : ℕ) → count_in b (blocks_of (xs ++ ys)) ≡ count_in b (blocks_of xs) + count_in b (blocks_of ys)
-blocks_append [] ys b = omega arith
-blocks_append (p ∷ ps) ys b = let h = blocks_append ps ys b in let x = count_append b (run_from p.addr p.len) (blocks_of (ps ++ ys)) in let y = count_append b (run_from p.addr p.len) (blocks_of ps) in omega (arith, h, x, y)
-
-counted_below : (bound : ℕ) (ns : List ℕ) (b : ℕ) → AllBelow bound ns → 0 < count_in b ns → b < bound
-counted_below bound [] b h l = absurd (omega (arith, l))
-counted_below bound (n ∷ ns) b h l = elim (eq_or_not n b) [
-  | inl e ↦ (let f = h.0 in omega (arith, e, f))
-  | inr a ↦ counted_below bound ns b h.1 (let z = ap {B = ℕ} (λ (t : Bool). if t then 1 else 0) (ne_eqb n b a) in omega (arith, l, z))
-]
-
-not_in : (b : ℕ) (ns : List ℕ) → count_in b ns ≡ 0 → is_in b ns ≡ false
-not_in b [] h = refl
-not_in b (n ∷ ns) h = by (not_in b ns) (n == b) refl h
-  where
-    by : (count_in b ns ≡ 0 → is_in b ns ≡ false) → (t : Bool) → (n == b) ≡ t → (if t then 1 else 0) + count_in b ns ≡ 0 → (t || is_in b ns) ≡ false
-    by rest true e h = absurd (omega (arith, h))
-    by rest false e h = rest (omega (arith, h))
+use Rattle.jfs_write.proofs.Spots.{last_block}
+use Rattle.jfs_write.proofs.Moves.{took, took_front, same_after, runs_leave, edits_move}
 
 module _ (blocks : ℕ) (pages : ℕ → List ℕ) (whole : (b : ℕ) → b < blocks → length (pages b) ≡ 4096) (area : ℕ → ℕ) (bm : Blocks) (inodes : Inodes) (many : length bm.states ≡ blocks)
     (con : IsConsistent (readers blocks) (volume_of pages area bm inodes)) (at : Held) (is_held : IsHeld blocks inodes at) (shown : IsShown pages at) (some : IsThere (tree_in blocks pages area bm inodes) at.number)

@@ -1,6 +1,7 @@
 pub mod Spelled
 pub mod Spots
 pub mod Lying
+pub mod Counts
 pub mod Moves
 pub mod Reserving
 pub mod Reserved

@@ -1,16 +1,13 @@
 -- What the edits of a write take, and which pages they leave.
-use Rattle.std.proofs.Common.{◌≡◌, ◌≢◌, ◌≤◌, ◌<◌, refl, sym, ap, ◌∙◌, subst, ℕ, zero, suc, ◌+◌, Bool, true, false, List, [], ◌∷◌, ◌++◌, length, arith}
+use Rattle.std.proofs.Common.{◌≡◌, ◌<◌, refl, sym, ◌∙◌, subst, ℕ, zero, suc, List, [], ◌∷◌, ◌++◌, length, arith}
 use Rattle.jfs_bits.specs.declared.descriptor.Moment.{Moment}
 use Rattle.jfs_bits.specs.declared.descriptor.Pxd.{Pxd}
 use Rattle.jfs_bits.specs.declared.extent.Xad.{Xad}
 use Rattle.jfs_bits.specs.declared.rule.PageKind.TheVariants.{Xtree}
 use Rattle.jfs_ranges.specs.declared.edit.Edit.{Edit}
 use Rattle.jfs_ranges.specs.Apply.{apply_tx}
-use Rattle.jfs_tree.specs.Edit.{count_in}
 use Rattle.jfs_tree.specs.Fresh.{run_from, blocks_of}
-use Rattle.jfs_objects.specs.Owners.{run_has}
 use Rattle.jfs_loss.proofs.Counts.{count_append, count_run, applied_append}
-use Rattle.jfs_steps.specs.Gains.{TakesFront}
 use Rattle.jfs_steps.specs.Laws.{TakesAndFrees}
 use Rattle.jfs_steps.proofs.Sets.{moves_onto, taken_move, lines_on_top}
 use Rattle.jfs_meaning.specs.Readers.{root_of}

@@ -1,6 +1,6 @@
 -- What a file's tree spells: extents that rise, each with a length and within the volume.
-use Rattle.std.proofs.Common.{◌≡◌, ◌≤◌, ◌<◌, refl, sym, ap, ◌∙◌, subst, ℕ, zero, suc, ◌+◌, ◌==◌, ◌&&◌, Bool, true, false, if◌then◌else◌, List, [], ◌∷◌, ◌++◌, length, map, Option, Some, None, Ok, arith}
-use Rattle.std.specs.Prelude.{nat_le, nat_lt, max}
+use Rattle.std.proofs.Common.{◌≡◌, ◌≤◌, ◌<◌, refl, sym, ap, ◌∙◌, subst, ℕ, zero, suc, ◌+◌, ◌==◌, ◌&&◌, Bool, true, false, if◌then◌else◌, List, [], ◌∷◌, ◌++◌, length, Option, Some, None, Ok, arith}
+use Rattle.std.specs.Prelude.{nat_le, nat_lt}
 use Rattle.std.specs.List.{flat_map}
 use Rattle.std.proofs.lemmas.Bool.{leb-true, le-leb}
 use Rattle.std.proofs.lemmas.Bool.Decides.{nat_tests}
@@ -10,7 +10,7 @@ use Rattle.jfs_xtpage.specs.Page.{end_of, rises_from}
 use Rattle.jfs_xtpage.specs.declared.head.XtForm.{XtForm}
 use Rattle.jfs_xtpage.specs.declared.head.XtForm.TheVariants.{Full}
 use Rattle.jfs_tree.specs.Walk.{Child, Node, Leaf, Inner, Broken, Marks, Page, Key, Row, Fault, Rises, rows_of, placed, under, body, walk}
-use Rattle.jfs_tree.specs.Spells.{judge, spells, tree_of, with_root, at_levels, levels_of, first_path, along_first, whole, top, no_page}
+use Rattle.jfs_tree.specs.Spells.{spells, tree_of, with_root, at_levels, levels_of, first_path, along_first, whole, top, no_page}
 use Rattle.jfs_tree.proofs.Frame.{rows-append}
 use Rattle.jfs_tree.proofs.Judge.{judged}
 use Rattle.jfs_tree.proofs.Leaves.{rows_leaf}
@@ -18,7 +18,7 @@ use Rattle.jfs_xtree.specs.Node.{xt_scale, xt_node, is_within, all_within}
 use Rattle.jfs_xtree.specs.Spells.{page_nodes, root_node, root_form, spells_extents}
 use Rattle.jfs_xtree.specs.Writing.{AllLong, AllTo}
 use Rattle.jfs_xtree.proofs.Reading.{and_true, leaf_is}
-use Rattle.jfs_objects.specs.Owners.{covers, run_has}
+use Rattle.jfs_objects.specs.Owners.{covers}
 
 -- ---- within the volume
 

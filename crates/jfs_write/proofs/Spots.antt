@@ -5,15 +5,15 @@ use Rattle.std.proofs.lemmas.Bool.Decides.{nat_tests}
 use Rattle.jfs_bits.specs.declared.extent.Xad.{Xad}
 use Rattle.jfs_tree.specs.Form.{AllBelow}
 use Rattle.jfs_xtree.specs.Node.{is_within, all_within}
-use Rattle.jfs_xtree.specs.Writing.{is_recorded, AllLong}
+use Rattle.jfs_xtree.specs.Writing.{is_recorded}
 use Rattle.jfs_xtree.proofs.Reading.{and_true}
 use Rattle.jfs_plain.specs.Step.{blocks_in}
 use Rattle.jfs_put_range.specs.Call.{IsShortRange}
 use Rattle.jfs_write_pages.specs.declared.spot.Spot.{Spot}
-use Rattle.jfs_write_pages.specs.Spots.{has_block, spot_in, spot_at, spots_from, run_spots, recorded_spot, spots_in, spots_between, holes_in, placed, new_spot, before, extents_for, AllSpots, SpotsFit}
+use Rattle.jfs_write_pages.specs.Spots.{has_block, spot_in, spot_at, spots_from, run_spots, spots_in, spots_between, placed, before, extents_for, AllSpots, SpotsFit}
 use Rattle.jfs_write_pages.proofs.Blocks.{AreFrom, extents_rows, placed_from}
 use Rattle.jfs_write_pages.proofs.Given.{extents_fit, rows_from, fits_to, is_range}
-use Rattle.jfs_write.specs.Look.{most_bytes, FitsBytes, needs_extents, spots_at}
+use Rattle.jfs_write.specs.Look.{FitsBytes, needs_extents, spots_at}
 use Rattle.jfs_write.proofs.Spelled.{one_within, within_long}
 
 -- ---- how many there are

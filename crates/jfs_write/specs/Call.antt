@@ -1,5 +1,5 @@
 -- What a write does, and what stops it.
-use Rattle.std.specs.Prelude.{◌≡◌, ◌⊎◌, ◌≤◌, ◌<◌, ◌&&◌, ◌==◌, nat_le, nat_lt, ℕ, ◌+◌, ◌/◌, true, List, [], ◌++◌, length, Option, None, Result, Ok, Err}
+use Rattle.std.specs.Prelude.{◌≡◌, ◌⊎◌, ◌≤◌, ◌<◌, ℕ, ◌+◌, ◌/◌, true, List, [], ◌++◌, length, Option, None, Result, Ok, Err}
 use Rattle.jfs_super.specs.Geometry.{file_limit_of}
 use Rattle.jfs_bits.specs.declared.descriptor.Moment.{Moment}
 use Rattle.jfs_bits.specs.declared.descriptor.Pxd.{Pxd}

@@ -1,4 +1,4 @@
-use Rattle.std.proofs.Common.{◌≡◌, ◌/◌, sym, subst, ◌∙◌, List}
+use Rattle.std.proofs.Common.{◌/◌, sym, subst, ◌∙◌, List}
 use Rattle.jfs_disk.specs.Image.{page_of}
 use Rattle.jfs_write_pages.specs.declared.spot.Spot.{Spot}
 use Rattle.jfs_write_pages.specs.Spots.{AllSpots}

@@ -1,4 +1,4 @@
-use Rattle.std.proofs.Common.{◌≡◌, ap, subst, ◌∙◌, ℕ, List, length, IfOk, IfErr}
+use Rattle.std.proofs.Common.{ap, subst, ◌∙◌, ℕ, List, length, IfOk, IfErr}
 use Rattle.std.proofs.lemmas.List.{length-replicate}
 use Rattle.jfs_disk.specs.Image.{page_of}
 use Rattle.jfs_plain.specs.Step.{write}

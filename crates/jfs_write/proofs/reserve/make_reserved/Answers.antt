@@ -1,4 +1,4 @@
-use Rattle.std.proofs.Common.{◌≡◌, ap, ℕ, length, if◌then◌else◌, Bool, arith}
+use Rattle.std.proofs.Common.{ap, ℕ, length, if◌then◌else◌, Bool, arith}
 use Rattle.jfs_disk.specs.Image.{page_of}
 use Rattle.jfs_file_blocks.specs.declared.reserve.FileWant.{FileWant}
 use Rattle.jfs_write.specs.Look.{want_for}
