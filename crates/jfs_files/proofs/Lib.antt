@@ -4,3 +4,4 @@ pub mod Links
 pub mod NewObjects
 pub mod Removals
 pub mod Data
+pub mod BytesPut

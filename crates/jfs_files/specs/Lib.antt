@@ -1,5 +1,6 @@
 -- what the clauses say
 pub mod Outcome
 pub mod Written
+pub mod Bytes
 pub mod Meets
 pub mod Laws

@@ -1,5 +1,5 @@
 -- What each call answers whatever the volume holds.
-use Rattle.std.specs.Prelude.{◌≡◌, ◌⊎◌, ◌||◌, ℕ, Bool, true, false, List, [], Result, Ok, Err}
+use Rattle.std.specs.Prelude.{◌≡◌, ◌⊎◌, ◌||◌, ℕ, Bool, true, false, List, [], length, replicate, Result, Ok, Err}
 use Rattle.std.specs.Borrow.{Bor}
 use Rattle.jfs_bits.specs.declared.descriptor.Moment.{Moment}
 use Rattle.jfs_imap.specs.Inodes.{Inodes}
@@ -25,6 +25,7 @@ use Rattle.jfs_read.specs.Read.{read_at}
 use Rattle.jfs_readlink.specs.Target.{target_at}
 use Rattle.jfs_unlink.specs.Call.{Unlinks, unlink_of, Removes, rmdir_of}
 use Rattle.jfs_truncate.specs.Call.{truncate_of, Truncates}
+use Rattle.jfs_files.specs.Bytes.{MeetsBytes}
 use Rattle.jfs_files.specs.declared.outcome.Maps.{Maps}
 use Rattle.jfs_files.specs.declared.outcome.FileOutcome.{FileOutcome}
 use Rattle.jfs_files.specs.declared.outcome.FileOutcome.TheVariants.{Changed, Same, NeedsLog}
@@ -57,6 +58,8 @@ gives_name _ = false
 abbrev pub stands : Call → Bool
 stands calls.Sync = true
 stands (calls.Truncate path size) = true
+stands (calls.Write path offset new) = true
+stands (calls.Fill path offset count byte) = true
 stands call = looks call || (takes_none call || gives_name call)
 
 -- ---- their answers
@@ -138,6 +141,8 @@ Meets blocks pages maps (calls.Unlink path) now outcome = MeetsChange (Unlinks b
 Meets blocks pages maps (calls.Rmdir path) now outcome = MeetsChange (Removes blocks pages maps.inodes path now) (rmdir_of blocks pages maps.inodes path) outcome
 Meets blocks pages maps (calls.Chmod path mode) now outcome = MeetsMode blocks pages maps.inodes path mode now outcome
 Meets blocks pages maps (calls.Truncate path size) now outcome = MeetsSize blocks pages maps path size now outcome
+Meets blocks pages maps (calls.Write path offset new) now outcome = MeetsBytes blocks pages maps path offset new (length new) now outcome
+Meets blocks pages maps (calls.Fill path offset count byte) now outcome = MeetsBytes blocks pages maps path offset (replicate count byte) count now outcome
 Meets blocks pages maps (calls.Read path offset count) now outcome = Tells (looked blocks pages maps.inodes (calls.Read path offset count)) outcome
 Meets blocks pages maps (calls.Stat path) now outcome = Tells (looked blocks pages maps.inodes (calls.Stat path)) outcome
 Meets blocks pages maps (calls.List path) now outcome = Tells (looked blocks pages maps.inodes (calls.List path)) outcome

@@ -8,6 +8,7 @@ use Rattle.jfs_plain.specs.declared.call.Call.{Call}
 use Rattle.jfs_plain.specs.declared.call.Call.TheVariants as calls
 use Rattle.jfs_plain.specs.Tree.{Tree}
 use Rattle.jfs_plain.specs.Step.{Room, Outcome}
+use Rattle.jfs_plain.specs.declared.refusal.Refusal.{Refusal}
 use Rattle.jfs_plain.specs.declared.reply.Reply.{Reply}
 use Rattle.jfs_plain.specs.declared.reply.Reply.TheVariants.{Refused}
 use Rattle.jfs_objects.specs.Volume.{Volume}
@@ -86,18 +87,24 @@ abbrev pub IsReply : Tree → Outcome → Reply → Type 0
 IsReply t plain (Refused why) = (plain ≡ Err why) ⊎ (is_open why ≡ true)
 IsReply t plain reply = plain ≡ Ok (reply, t)
 
--- What a call wants reserved: a link eight blocks, one by one; a new object these, and a run of four before them where its inode needs an extent; no other call that stands wants any.
+-- What a call wants reserved: a link or a rename eight blocks, one by one; a new object these, and a run of four before them where its inode needs an extent; a write or a fill 32 at most; no other call wants any.
 abbrev pub nothing : Want
 nothing = record { run = false; blocks = 0 }
 
 abbrev pub WantsInode : Maps → Want → Type 0
 WantsInode maps want = (fresh : FreshInode) × LooksFor maps.blocks maps.inodes (Ok fresh) × (want ≡ want_with fresh.needs_extent)
 
+abbrev pub WantsBytes : Want → Type 0
+WantsBytes want = (want.run ≡ false) × (want.blocks ≤ 32)
+
 abbrev pub Wants : Maps → Call → Want → Type 0
 Wants maps (calls.Mkdir path mode) want = WantsInode maps want
 Wants maps (calls.Create path mode) want = WantsInode maps want
 Wants maps (calls.Symlink path target) want = WantsInode maps want
 Wants maps (calls.Link from to) want = want ≡ want_of_name
+Wants maps (calls.Rename from to) want = want ≡ want_of_name
+Wants maps (calls.Write path offset new) want = WantsBytes want
+Wants maps (calls.Fill path offset count byte) want = WantsBytes want
 Wants maps _ want = want ≡ nothing
 
 -- Busy blocks alone stand between a call and its blocks: what it wants isn't free, and is once they are settled.
@@ -109,3 +116,8 @@ abbrev pub AnswersAs : ℕ → Blocks → Volume → (Want → Type 0) → (Tree
 AnswersAs blocks map v wants plain (Changed tx written) = IsDone blocks v (after_writes blocks written tx v) plain
 AnswersAs blocks map v wants plain (Same reply) = IsReply (tree_on (readers blocks) v) (plain (tree_on (readers blocks) v)) reply
 AnswersAs blocks map v wants plain NeedsLog = (want : Want) × wants want × IsBusyFor map want
+
+-- the same, or it is refused for a cause that the plain step doesn't know
+abbrev pub AnswersOr : (Refusal → Type 0) → ℕ → Blocks → Volume → (Want → Type 0) → (Tree → Outcome) → FileOutcome → Type 0
+AnswersOr bars blocks map v wants plain (Same (Refused why)) = IsReply (tree_on (readers blocks) v) (plain (tree_on (readers blocks) v)) (Refused why) ⊎ bars why
+AnswersOr bars blocks map v wants plain outcome = AnswersAs blocks map v wants plain outcome

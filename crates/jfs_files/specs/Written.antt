@@ -28,6 +28,12 @@ puts_data (calls.Fill path offset count byte) = true
 puts_data (calls.Truncate path end) = true
 puts_data _ = false
 
+-- those that may write many
+abbrev pub puts_bytes : Call → Bool
+puts_bytes (calls.Write path offset new) = true
+puts_bytes (calls.Fill path offset count byte) = true
+puts_bytes _ = false
+
 abbrev pub WritesNone : FileOutcome → Type 0
 WritesNone (Changed tx written) = written ≡ []
 WritesNone _ = Unit {0}

@@ -4,10 +4,12 @@ ghost use Rattle.std.specs.Prelude.{◌≡◌, true, false, length};
 ghost use Rattle.jfs_disk.specs.Image.{page_of};
 ghost use Rattle.jfs_plain.specs.Limits.{FitsRequest};
 ghost use Rattle.jfs_plain.specs.Step.{outcome};
-ghost use Rattle.jfs_files.specs.Outcome.{CarriesOutcome, KeepsMaps, MapsAfter, IfMounted, AnswersAs, Wants};
-ghost use Rattle.jfs_files.specs.Written.{FitsData, puts_data, WritesNone, WritesOnce, Starts, FreesUsed};
+ghost use Rattle.jfs_files.specs.Outcome.{CarriesOutcome, KeepsMaps, MapsAfter, IfMounted, AnswersOr, Wants};
+ghost use Rattle.jfs_files.specs.Written.{FitsData, puts_data, puts_bytes, WritesNone, WritesOnce, Starts, FreesUsed};
+ghost use Rattle.jfs_files.specs.Bytes.{bars};
 ghost use Rattle.jfs_files.specs.Meets.{stands, Meets};
 
+use crate::bytes::{fill_outcome, write_outcome};
 use crate::change::change_outcome;
 use crate::naming::name_outcome;
 use crate::outcome::{FileOutcome, Maps};
@@ -18,7 +20,7 @@ use jfs_plain::{Call, Reply, Request};
 use jfs_ranges::PageView;
 use std::alloc::Global;
 
-/// What a call does to a mounted volume, whose pages the view shows, at this moment. It takes the calls that stand so far: mkdir, create, symlink, link, unlink, rmdir, chmod, truncate, read, stat, list, readlink
+/// What a call does to a mounted volume, whose pages the view shows, at this moment. It takes the calls that stand so far: mkdir, create, symlink, link, unlink, rmdir, chmod, write, fill, truncate, read, stat, list, readlink
 /// and sync; no other call can be asked for yet. The pages stay as they are: blocks that are to be written, and a transaction that is to be appended then, are in the answer.
 pub fn file_call<V: PageView>(
     alloc: Global,
@@ -41,11 +43,11 @@ pub fn file_call<V: PageView>(
     // Blocks of files that are written before the transaction lie within the file system part, each with a whole page; calls on names and modes write none.
     ensures data { FitsData (V.PageView.block_count view.old) result }
     ensures none { puts_data request.now.call ≡ false → WritesNone result }
-    // Each of them is written once.
-    ensures single { V.PageView.tells → WritesOnce result }
+    // A truncate writes each of them once.
+    ensures single { V.PageView.tells → puts_bytes request.now.call ≡ false → WritesOnce result }
     // On a consistent volume data and transaction take the plain step of its tree.
     ensures follows { V.PageView.tells → IfMounted (V.PageView.block_count view.old) (page_of (V.PageView.image view.old)) maps.old (λ v room.
-        AnswersAs (V.PageView.block_count view.old) maps.old.blocks v (Wants maps.old request.now.call) (λ t. outcome room t request.now.call now) result) }
+        AnswersOr (bars (V.PageView.block_count view.old) (page_of (V.PageView.image view.old)) maps.old request.now.call) (V.PageView.block_count view.old) maps.old.blocks v (Wants maps.old request.now.call) (λ t. outcome room t request.now.call now) result) }
     // What is written before the transaction changes no object, and no byte but those that the call writes over.
     ensures starts { V.PageView.tells → IfMounted (V.PageView.block_count view.old) (page_of (V.PageView.image view.old)) maps.old (λ v room. Starts (V.PageView.block_count view.old) v request.now.call result) }
     // The transaction frees blocks in use alone, each once.
@@ -61,6 +63,17 @@ pub fn file_call<V: PageView>(
         Call::Unlink { .. } | Call::Rmdir { .. } | Call::Chmod { .. } => {
             change_outcome(alloc, view, maps, call, now)
         }
+        Call::Write {
+            path,
+            offset,
+            bytes,
+        } => write_outcome(alloc, view, maps, path, *offset, bytes, now),
+        Call::Fill {
+            path,
+            offset,
+            count,
+            byte,
+        } => fill_outcome(alloc, view, maps, path, *offset, *count, *byte, now),
         Call::Truncate { path, size } => size_outcome(alloc, view, maps, path, *size, now),
         Call::Stat { .. } | Call::List { .. } | Call::Readlink { .. } | Call::Read { .. } => {
             FileOutcome::Same(look_reply(alloc, view, &maps.inodes, call))

@@ -1,6 +1,7 @@
 //! File calls on a mounted volume: what a call is given, what it answers, and the calls that stand so far, each answer with its cause said once for all of them.
 #![tactic(auto)]
 
+mod bytes;
 mod call;
 mod change;
 mod law;

@@ -1,15 +1,44 @@
 use Rattle.jfs_disk.specs.Image.{page_of}
+use Rattle.jfs_files.specs.declared.outcome.FileOutcome.TheVariants.{Same}
 use Rattle.jfs_meaning.specs.Readers.{readers}
 use Rattle.jfs_meaning.specs.Room.{room_on}
 use Rattle.jfs_files.specs.Outcome.{volume_in}
+use Rattle.jfs_files.proofs.BytesPut.{or_not}
+use Rattle.jfs_files.specs.Outcome.{Wants}
+use Rattle.jfs_files.specs.Bytes.{bars}
+use Rattle.jfs_plain.specs.Step.{outcome}
 use Rattle.jfs_files.proofs.Data.{fits_none, once_none, starts_none, nothing_freed}
 use Rattle.jfs_files.proofs.call.file_call.Goals as goal
+
+pub returns-in-Mkdir-clause-follows : goal.returns-in-Mkdir-clause-follows
+returns-in-Mkdir-clause-follows g c tells between area con log_pages limit =
+    let blocks = g.V.PageView.block_count c.args.view.now in
+    let pages = page_of (g.V.PageView.image c.args.view.now) in
+    let maps = c.args.maps.now in
+    let call = c.args.request.now.call in
+    let v = volume_in pages area maps in
+    let room = room_on (readers blocks) v blocks log_pages in
+    or_not (bars blocks pages maps call) blocks maps.blocks v (Wants maps call) (λ t. outcome room t call c.args.now) c.name_outcome.result (c.name_outcome.ensures.follows tells between area con log_pages limit)
+
+pub returns-in-Unlink-clause-follows : goal.returns-in-Unlink-clause-follows
+returns-in-Unlink-clause-follows g c tells between area con log_pages limit =
+    let blocks = g.V.PageView.block_count c.args.view.now in
+    let pages = page_of (g.V.PageView.image c.args.view.now) in
+    let maps = c.args.maps.now in
+    let call = c.args.request.now.call in
+    let v = volume_in pages area maps in
+    let room = room_on (readers blocks) v blocks log_pages in
+    or_not (bars blocks pages maps call) blocks maps.blocks v (Wants maps call) (λ t. outcome room t call c.args.now) c.change_outcome.result (c.change_outcome.ensures.follows tells between area con log_pages limit)
 
 pub returns-in-Stat-clause-follows : goal.returns-in-Stat-clause-follows
 returns-in-Stat-clause-follows g c tells between area con log_pages limit =
     let blocks = g.V.PageView.block_count c.args.view.now in
-    let room = room_on (readers blocks) (volume_in (page_of (g.V.PageView.image c.args.view.now)) area c.args.maps.now) blocks log_pages in
-    c.look_reply.ensures.follows tells between.within area c.args.maps.now.blocks con room c.args.now
+    let pages = page_of (g.V.PageView.image c.args.view.now) in
+    let maps = c.args.maps.now in
+    let call = c.args.request.now.call in
+    let v = volume_in pages area maps in
+    let room = room_on (readers blocks) v blocks log_pages in
+    or_not (bars blocks pages maps call) blocks maps.blocks v (Wants maps call) (λ t. outcome room t call c.args.now) (Same c.look_reply.result) (c.look_reply.ensures.follows tells between.within area maps.blocks con room c.args.now)
 
 pub returns-in-Mkdir-clause-data : goal.returns-in-Mkdir-clause-data
 returns-in-Mkdir-clause-data g c = fits_none (g.V.PageView.block_count c.args.view.now) c.name_outcome.result c.name_outcome.ensures.none
@@ -31,13 +60,42 @@ returns-in-Unlink-clause-starts g c tells between area con log_pages limit =
     starts_none (g.V.PageView.block_count c.args.view.now) (volume_in (page_of (g.V.PageView.image c.args.view.now)) area c.args.maps.now) c.args.request.now.call c.change_outcome.result con c.change_outcome.ensures.none
 
 pub returns-in-Truncate-clause-follows : goal.returns-in-Truncate-clause-follows
-returns-in-Truncate-clause-follows g c tells between area con log_pages limit = rw c.in-Truncate.is (c.size_outcome.ensures.follows tells between area con log_pages limit)
+returns-in-Truncate-clause-follows g c tells between area con log_pages limit =
+    let blocks = g.V.PageView.block_count c.args.view.now in
+    let pages = page_of (g.V.PageView.image c.args.view.now) in
+    let maps = c.args.maps.now in
+    let call = c.args.request.now.call in
+    let v = volume_in pages area maps in
+    let room = room_on (readers blocks) v blocks log_pages in
+    or_not (bars blocks pages maps call) blocks maps.blocks v (Wants maps call) (λ t. outcome room t call c.args.now) c.size_outcome.result (rw c.in-Truncate.is (c.size_outcome.ensures.follows tells between area con log_pages limit))
 
 pub returns-in-Truncate-clause-starts : goal.returns-in-Truncate-clause-starts
 returns-in-Truncate-clause-starts g c tells between area con log_pages limit = rw c.in-Truncate.is (c.size_outcome.ensures.starts tells between area con log_pages limit)
 
 pub returns-in-Mkdir-clause-single : goal.returns-in-Mkdir-clause-single
-returns-in-Mkdir-clause-single g c tells = once_none c.name_outcome.result c.name_outcome.ensures.none
+returns-in-Mkdir-clause-single g c tells few = once_none c.name_outcome.result c.name_outcome.ensures.none
 
 pub returns-in-Unlink-clause-single : goal.returns-in-Unlink-clause-single
-returns-in-Unlink-clause-single g c tells = once_none c.change_outcome.result c.change_outcome.ensures.none
+returns-in-Unlink-clause-single g c tells few = once_none c.change_outcome.result c.change_outcome.ensures.none
+
+pub returns-in-Write-clause-follows : goal.returns-in-Write-clause-follows
+returns-in-Write-clause-follows g c tells between area con log_pages limit = rw c.in-Write.is (c.write_outcome.ensures.follows tells between area con log_pages limit)
+
+pub returns-in-Write-clause-starts : goal.returns-in-Write-clause-starts
+returns-in-Write-clause-starts g c tells between area con log_pages limit = rw c.in-Write.is (c.write_outcome.ensures.starts tells between area con log_pages limit)
+
+pub returns-in-Write-clause-once : goal.returns-in-Write-clause-once
+returns-in-Write-clause-once g c tells between area con log_pages limit =
+    let v = volume_in (page_of (g.V.PageView.image c.args.view.now)) area c.args.maps.now in
+    nothing_freed v.used c.write_outcome.result (c.write_outcome.ensures.frees tells)
+
+pub returns-in-Fill-clause-follows : goal.returns-in-Fill-clause-follows
+returns-in-Fill-clause-follows g c tells between area con log_pages limit = rw c.in-Fill.is (c.fill_outcome.ensures.follows tells between area con log_pages limit)
+
+pub returns-in-Fill-clause-starts : goal.returns-in-Fill-clause-starts
+returns-in-Fill-clause-starts g c tells between area con log_pages limit = rw c.in-Fill.is (c.fill_outcome.ensures.starts tells between area con log_pages limit)
+
+pub returns-in-Fill-clause-once : goal.returns-in-Fill-clause-once
+returns-in-Fill-clause-once g c tells between area con log_pages limit =
+    let v = volume_in (page_of (g.V.PageView.image c.args.view.now)) area c.args.maps.now in
+    nothing_freed v.used c.fill_outcome.result (c.fill_outcome.ensures.frees tells)
