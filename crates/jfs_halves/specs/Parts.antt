@@ -37,8 +37,10 @@ pub record Parts : Type 0 where
   -- what a read of the low part gives, and the states that it has had
   pub disk : Image
   pub past : List DiskState
-  -- how often a call of it failed
+  -- how often a call of it failed, how many pages it has, and how many it can have when another part is joined to it
   pub faults : ℕ
+  pub count : ℕ
+  pub room : ℕ
   pub map : Blocks
   pub inodes : Inodes
   pub appended : ℕ

@@ -4,3 +4,10 @@ pub mod Homing
 pub mod Dropping
 pub mod Starting
 pub mod Joining
+pub mod Taken
+pub mod Texts
+pub mod Editing
+pub mod Entering
+pub mod Appending
+pub mod Rising
+pub mod Settling

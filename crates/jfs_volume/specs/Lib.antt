@@ -5,3 +5,7 @@ pub mod Home
 pub mod Told
 pub mod Start
 pub mod Join
+pub mod Runs
+pub mod Marks
+pub mod Append
+pub mod Settle

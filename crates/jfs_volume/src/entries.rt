@@ -1,6 +1,6 @@
 //! Entries that are handed out, and what a volume tells of itself.
 
-ghost use Rattle.std.specs.Prelude.{◌≡◌, ◌∷◌, [], length};
+ghost use Rattle.std.specs.Prelude.{◌≡◌, ◌==◌, ◌∷◌, [], length};
 ghost use Rattle.jfs_halves.specs.Parts.{OfEachHalf};
 ghost use Rattle.jfs_halves.specs.Change.{HandsOut};
 ghost use Rattle.jfs_halves.specs.Moves.{Moves};
@@ -29,6 +29,20 @@ impl<D: Disk> Volume<D> {
         ensures rest { self.new ≡ record self.old { entries = [] } }
     {
         take_all(self.alloc, &mut self.entries)
+    }
+
+    /// The number of blocks of the file system part.
+    pub fn blocks(&self) -> u32
+        ensures { result ≡ self.now.blocks }
+    {
+        self.cache.blocks()
+    }
+
+    /// Whether the block map has a state for each block of the file system part, as that of a volume has.
+    pub fn has_whole_map(&self) -> bool
+        ensures { result ≡ (length self.now.map.states == self.now.blocks) }
+    {
+        self.blocks.blocks() == self.cache.blocks()
     }
 
     /// How many pages are dirty.
@@ -64,5 +78,15 @@ impl<D: Disk> Volume<D> {
         ensures { result ≡ self.now.text.ring }
     {
         self.text.ring
+    }
+
+    /// Hands back the low part, as it is. Pages that are dirty are lost. It takes no memory.
+    pub fn into_low(self) -> D
+        ensures pages { (D.page_count result ≡ self.count) × (D.room result ≡ self.room) × (D.fault_count result ≡ self.faults) }
+        ensures image { D.image result ≡ self.disk }
+        ensures past { D.past result ≡ self.past }
+    {
+        let Volume { cache, .. } = self;
+        cache.into_disk()
     }
 }

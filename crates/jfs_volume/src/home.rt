@@ -21,7 +21,9 @@ impl<D: Disk> Volume<D> {
         requires { IsDirty self.old.dirty n }
         ensures home { OfEachHalf D.tells D.tells_crashes self.old (λ seen asked half. HomeIs seen asked n self.old self.new half result) }
         ensures cause { GoesHomeBy (last_of (dirty_of self.old.dirty n)) self.old.told self.old.faults self.new.faults result }
-        ensures counts { (self.new.told ≡ self.old.told) × (self.new.appended ≡ self.old.appended) × (self.new.taken ≡ self.old.taken) × (self.new.blocks ≡ self.old.blocks) × (self.new.points ≡ self.old.points) × (self.new.text ≡ self.old.text) }
+        ensures counts { (self.new.told ≡ self.old.told) × (self.new.appended ≡ self.old.appended) × (self.new.taken ≡ self.old.taken) × (self.new.blocks ≡ self.old.blocks) × (self.new.points ≡ self.old.points) × (self.new.text ≡ self.old.text)
+            × (self.new.count ≡ self.old.count) × (self.new.room ≡ self.old.room) }
+        ensures halted { OnOk result (self.new.halted ≡ self.old.halted) }
         ensures dirty { OnOk result ((q : ℕ) → dirty_of self.new.dirty q ≡ (if n == q then None else dirty_of self.old.dirty q)) }
     {
         match self.cache.home(n, self.told) {

@@ -1,6 +1,6 @@
 //! A volume as it is mounted.
 
-ghost use Rattle.std.specs.Prelude.{◌≡◌, ◌<◌, ◌≤◌, ◌+◌, ◌-◌, ◌*◌, ◌^◌, []};
+ghost use Rattle.std.specs.Prelude.{◌≡◌, ◌<◌, ◌≤◌, ◌+◌, ◌-◌, ◌*◌, ◌^◌, [], None};
 ghost use Rattle.jfs_disk.specs.Crash.{last_of};
 ghost use Rattle.jfs_disk.specs.Moment.{IsResting};
 ghost use Rattle.jfs_pages.specs.Kept.{dirty_in, image_in};
@@ -31,6 +31,7 @@ impl<D: Disk> Volume<D> {
             → StandsFresh D.tells D.tells_crashes ring (image_in cache.blocks (D.image cache.disk) cache.kept) blocks inodes result }
         ensures counts { (result.appended ≡ 0) × (result.taken ≡ 0) × (result.told ≡ 0) × (result.points ≡ 1) }
         ensures disk { (result.disk ≡ D.image cache.disk) × (result.past ≡ D.past cache.disk) × (result.faults ≡ D.fault_count cache.disk) × (result.blocks ≡ cache.blocks) }
+        ensures parts { (result.map ≡ blocks) × (result.inodes ≡ inodes) × (result.count ≡ D.page_count cache.disk) × (result.room ≡ D.room cache.disk) × (result.halted ≡ None) }
         ensures text { (result.text.ring ≡ ring) × (result.text.place ≡ 4080 * (ring - 1) + 36) × (result.text.bytes ≡ []) }
     {
         Volume {

@@ -54,8 +54,7 @@ impl<D: Disk> Volume<D> {
         ensures drop { OfEachHalf D.tells D.tells_crashes self.old (λ seen asked half. AreDropped seen asked self.old self.new half) }
         ensures gone { (f : Freed) → slice_get self.old.freed i ≡ Some f → f.by_entry ≤ self.old.told → MayBeDropped f (dirty_of self.new.dirty f.page) → ⊥ }
         ensures others { (q : ℕ) → StaysOrGoes (dirty_of self.old.dirty q) (dirty_of self.new.dirty q) }
-        ensures freed { self.new.freed ≡ self.old.freed }
-        ensures counts { (self.new.appended ≡ self.old.appended) × (self.new.taken ≡ self.old.taken) × (self.new.told ≡ self.old.told) × (self.new.halted ≡ self.old.halted) × (self.new.text ≡ self.old.text) }
+        ensures parts { self.new ≡ record self.old { view = self.new.view; dirty = self.new.dirty } }
     {
         if let Some(freed) = self.freed_at(i) {
             self.drop_freed(freed);
@@ -67,8 +66,7 @@ impl<D: Disk> Volume<D> {
         ensures drop { OfEachHalf D.tells D.tells_crashes self.old (λ seen asked half. IsFreed half.history freed → IsDropped seen asked freed.page self.old self.new half) }
         ensures gone { freed.by_entry ≤ self.old.told → MayBeDropped freed (dirty_of self.new.dirty freed.page) → ⊥ }
         ensures others { (q : ℕ) → StaysOrGoes (dirty_of self.old.dirty q) (dirty_of self.new.dirty q) }
-        ensures freed { self.new.freed ≡ self.old.freed }
-        ensures counts { (self.new.appended ≡ self.old.appended) × (self.new.taken ≡ self.old.taken) × (self.new.told ≡ self.old.told) × (self.new.halted ≡ self.old.halted) × (self.new.text ≡ self.old.text) }
+        ensures parts { self.new ≡ record self.old { view = self.new.view; dirty = self.new.dirty } }
     {
         if freed.by_entry > self.told {
             return;
@@ -86,8 +84,7 @@ impl<D: Disk> Volume<D> {
         requires told { freed.by_entry ≤ self.old.told }
         ensures drop { OfEachHalf D.tells D.tells_crashes self.old (λ seen asked half. IsFreed half.history freed → Moves seen asked self.old self.new half (Drops freed.page ∷ [])) }
         ensures dirty { (q : ℕ) → dirty_of self.new.dirty q ≡ (if freed.page == q then None else dirty_of self.old.dirty q) }
-        ensures freed { self.new.freed ≡ self.old.freed }
-        ensures counts { (self.new.appended ≡ self.old.appended) × (self.new.taken ≡ self.old.taken) × (self.new.told ≡ self.old.told) × (self.new.halted ≡ self.old.halted) × (self.new.text ≡ self.old.text) }
+        ensures parts { self.new ≡ record self.old { view = self.new.view; dirty = self.new.dirty } }
     {
         self.cache.forget(freed.page);
     }

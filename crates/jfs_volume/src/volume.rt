@@ -32,7 +32,7 @@ pub struct Volume<D: Disk> {
 }
 
 impl<D: Disk> Model for Volume<D> {
-    ghost use Rattle.std.specs.Prelude.{◌≡◌, ◌≤◌, ℕ};
+    ghost use Rattle.std.specs.Prelude.{◌≡◌, ◌≤◌, ℕ, []};
     ghost use Rattle.jfs_pages.specs.Dirty.{dirty_of, last_of};
     ghost use Rattle.jfs_pages.specs.Kept.{dirty_in, image_in};
     ghost use Rattle.jfs_halves.specs.Parts.{Parts};
@@ -47,6 +47,8 @@ impl<D: Disk> Model for Volume<D> {
       disk = D.image v.cache.disk;
       past = D.past v.cache.disk;
       faults = D.fault_count v.cache.disk;
+      count = D.page_count v.cache.disk;
+      room = D.room v.cache.disk;
       map = v.blocks;
       inodes = v.inodes;
       appended = v.appended;
@@ -64,5 +66,7 @@ impl<D: Disk> Model for Volume<D> {
         ((n : ℕ) → last_of (dirty_of (dirty_in v.cache.kept) n) ≤ v.appended)
         × (v.told ≤ v.taken)
         × (v.taken ≤ v.appended)
-        × (v.text.text.last ≡ v.appended) };
+        × (v.text.text.last ≡ v.appended)
+        × (v.points ≤ v.text.place)
+        × (v.taken ≡ v.appended → v.text.text.bytes.items ≡ []) };
 }

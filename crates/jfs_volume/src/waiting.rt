@@ -1,6 +1,6 @@
 //! The text that no group has taken, and its room in the log.
 
-ghost use Rattle.std.specs.Prelude.{◌≡◌, ◌<◌, ◌≤◌, ◌+◌, ◌-◌, ◌*◌, ◌/◌, ◌^◌, ◌++◌, [], length, vec_capacity, OnOk};
+ghost use Rattle.std.specs.Prelude.{◌≡◌, true, ◌<◌, ◌≤◌, ◌+◌, ◌-◌, ◌*◌, ◌/◌, ◌^◌, ◌++◌, [], length, vec_capacity, OnOk};
 ghost use Rattle.jfs_logpages.specs.Group.{pages_of, room_of};
 ghost use Rattle.jfs_logpages.specs.Ring.{ends_with};
 ghost use Rattle.jfs_volume.specs.Room.{fits_room, IsWithinRoom};
@@ -86,6 +86,37 @@ impl WaitingText {
         ensures same { text_in self.new ≡ text_in self.old }
     {
         self.text.reserve(bytes, records)
+    }
+
+    /// Adds the records of an entry, which is the last one then, within room that was made and that the log has. It takes no memory.
+    pub fn join(&mut self, more: &GroupText)
+        requires bytes { length self.old.text.bytes.items + length more.now.bytes.items ≤ vec_capacity self.old.text.bytes }
+        requires records { length self.old.text.ends.items + length more.now.ends.items ≤ vec_capacity self.old.text.ends }
+        requires room { has_room (text_in self.old) (length more.now.bytes.items) ≡ true }
+        ensures { text_in self.new ≡ record (text_in self.old) {
+          bytes = self.old.text.bytes.items ++ more.now.bytes.items;
+          ends = ends_with (length self.old.text.bytes.items) self.old.text.ends.items more.now.ends.items;
+          last = more.now.last;
+        } }
+    {
+        self.text.join(more);
+    }
+
+    /// Where the text will end, in bytes from the ring's page number 0 on.
+    pub fn end(&self) -> u64
+        ensures { result ≡ self.now.place + length self.now.text.bytes.items }
+    {
+        self.place + self.text.bytes().len() as u64
+    }
+
+    /// A SYNCPT that gives itself is taken at once, as the next group: redo begins with it, and nothing waits behind it.
+    pub fn take_point(&mut self)
+        requires empty { self.old.text.bytes.items ≡ [] }
+        requires room { self.old.place + 72 ≤ 4080 * 2 ^ 32 }
+        ensures { text_in self.new ≡ record (text_in self.old) { place = self.old.place + 36; sync = self.old.place } }
+    {
+        self.sync = self.place;
+        self.place += POINT;
     }
 
     /// The last entry is one that has no records.

@@ -20,3 +20,6 @@ returns-clause-drop g c =
     (rw (e.disk.0, e.disk.1) refl)
     may.0 may.1 e.dirty
     (λ t. ap (λ (b : ℕ). image_in b (d.image new.disk) new.kept) e.disk.1 ∙ image-dropped old.cache.blocks (d.image old.cache.disk) (d.image new.disk) old.cache.kept new.kept page there e.pages))
+
+pub returns-clause-parts : goal.returns-clause-parts
+returns-clause-parts g c = let e = c.forget.ensures in rw (← c.self.view_is, e.disk.0, e.disk.1) refl

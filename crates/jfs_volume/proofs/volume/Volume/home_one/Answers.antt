@@ -20,7 +20,7 @@ returns-in-Ok-clause-home g c =
     (record {
       there = there;
       inside = λ t. omega (arith, there, old.cache.place, (g.met.D.Disk.has_pages old.cache.disk (told t)).number);
-      parts = rw e.blocks refl;
+      parts = rw (e.blocks, e.count, e.room) refl;
       view = λ t. ap (λ (b : ℕ). image_in b (d.image new.disk) new.kept) e.blocks ∙ image-same old.cache.blocks (d.image old.cache.disk) (d.image new.disk) old.cache.kept new.kept (e.pages (told t));
     })
     refl dirty e.dirty e.goes.0
@@ -42,7 +42,7 @@ returns-in-Err-WriteFault-clause-home g c =
     (record {
       there = there;
       inside = λ t. omega (arith, there, old.cache.place, (g.met.D.Disk.has_pages old.cache.disk (told t)).number);
-      parts = rw e.blocks refl;
+      parts = rw (e.blocks, e.count, e.room) refl;
       view = λ t. ap (λ (b : ℕ). image_in b (d.image new.disk) new.kept) e.blocks ∙ image-same old.cache.blocks (d.image old.cache.disk) (d.image new.disk) old.cache.kept new.kept (e.pages (told t));
     })
     e.stays refl dirty e.goes.0

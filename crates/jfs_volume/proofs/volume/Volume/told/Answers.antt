@@ -1,4 +1,4 @@
-use Rattle.std.proofs.Common.{◌≡◌, ◌<◌, ℕ, List, length, slice_get, Some, [], refl, ap, ◌∙◌, arith}
+use Rattle.std.proofs.Common.{◌≡◌, ◌<◌, ℕ, List, length, slice_get, Some, [], refl, sym, ap, subst, ◌≤◌, ◌∙◌, arith}
 use Rattle.jfs_volume.proofs.Counts.{tells_moves, freed_moves}
 use Rattle.jfs_halves.specs.declared.freed.FreedPage.{FreedPage}
 use Rattle.jfs_halves.specs.Parts.{Parts}
@@ -8,8 +8,7 @@ use Rattle.jfs_volume.proofs.volume.Volume.told.Goals as goal
 
 pub loop-i-init : goal.loop-i-init
 loop-i-init g c = rw c.acknowledge.ensures (record {
-  freed = refl;
-  counts = (refl, refl, refl, refl, refl);
+  parts = refl;
   told = λ seen asked told crashes half s. ([], tells_moves seen asked c.args.self.now half c.args.n s c.requires.0 c.requires.1);
   dropped = λ j f h. absurd (omega (arith, h));
 })
@@ -19,13 +18,12 @@ loop-i-preserved g c =
     let inv = c.loop-i.invariant in
     let e = c.drop_at.ensures in
     record {
-      freed = e.freed ∙ inv.freed;
-      counts = (e.counts.0 ∙ inv.counts.0, e.counts.1 ∙ inv.counts.1, e.counts.2 ∙ inv.counts.2, e.counts.3 ∙ inv.counts.3, e.counts.4 ∙ inv.counts.4);
+      parts = e.parts ∙ ap (λ (p : Parts). record p { view = c.drop_at.new.self.view; dirty = c.drop_at.new.self.dirty }) inv.parts;
       told = λ seen asked told crashes half s.
           let w = inv.told seen asked told crashes half s in
           dropped_more seen asked c.args.self.now c.loop-i.self c.drop_at.new.self half c.args.n w.0 w.1 (e.drop seen asked told crashes _ w.1.stands);
       dropped = λ j f h at early may. stays_undropped c.args.self.now.freed c.loop-i.self c.drop_at.new.self c.args.n c.loop-i.i j f
-          inv.dropped e.others (λ here. e.gone f (rw inv.freed here) (rw inv.counts.2 early)) h at early may;
+          inv.dropped e.others (λ here. e.gone f (ap (λ (p : Parts). slice_get p.freed c.loop-i.i) inv.parts ∙ here) (subst (λ (n : ℕ). f.by_entry ≤ n) (sym (ap (λ (p : Parts). p.told) inv.parts)) early)) h at early may;
     }
 
 pub returns : goal.returns
@@ -36,6 +34,5 @@ returns g c =
     rw c.forget_freed.ensures (record {
       told = λ seen asked told crashes half s. let w = inv.told seen asked told crashes half s in (w.0, freed_moves seen asked c.args.self.now c.loop-i.self half c.args.n _ w.1);
       dropped = λ i f at early may. inv.dropped i f (passed i f at) at early may;
-      freed = ap (λ (fs : List FreedPage). still_freed c.args.n fs) inv.freed;
-      counts = inv.counts;
+      parts = ap (λ (p : Parts). record p { freed = still_freed c.args.n p.freed }) inv.parts;
     })

@@ -1,4 +1,5 @@
 use Rattle.std.proofs.Common.{◌≡◌, ◌<◌, ◌≤◌, ℕ, Some, slice_get}
+use Rattle.jfs_bmap.specs.States.{blocks_settled}
 use Rattle.jfs_pages.specs.Dirty.{dirty_of}
 use Rattle.jfs_halves.specs.declared.freed.FreedPage.{FreedPage}
 use Rattle.jfs_halves.specs.Parts.{OfEachHalf}
@@ -7,8 +8,7 @@ use Rattle.jfs_volume.proofs.volume.Volume.told.Given as goal
 
 abbrev pub invariant-loop-i : goal.invariant-loop-i
 invariant-loop-i g l = record {
-  freed : l.self.freed ≡ l.fn.self.freed;
-  counts : (l.self.appended ≡ l.fn.self.appended) × (l.self.taken ≡ l.fn.self.taken) × (l.self.told ≡ l.n) × (l.self.halted ≡ l.fn.self.halted) × (l.self.text ≡ l.fn.self.text);
+  parts : l.self ≡ record l.fn.self { view = l.self.view; dirty = l.self.dirty; told = l.n; map = blocks_settled l.n l.fn.self.map };
   told : OfEachHalf g.D.Disk.tells g.D.Disk.tells_crashes l.fn.self (λ seen asked half. IsTold seen asked l.n l.fn.self l.self half);
   dropped : (j : ℕ) (f : FreedPage) → j < l.i → slice_get l.fn.self.freed j ≡ Some f → f.by_entry ≤ l.n → MayBeDropped f (dirty_of l.self.dirty f.page) → ⊥;
 }

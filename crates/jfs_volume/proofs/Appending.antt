@@ -1,0 +1,93 @@
+-- An append, from the parts that have room in memory for it on.
+use Rattle.std.proofs.Common.{◌≡◌, ◌<◌, ◌+◌, ◌++◌, ℕ, suc, Bool, true, false, List, [], ◌∷◌, length, refl, sym, ap, ◌∙◌, subst, arith}
+use Rattle.jfs_bits.specs.declared.descriptor.Moment.{Moment}
+use Rattle.jfs_disk.specs.Crash.{DiskState}
+use Rattle.jfs_ranges.specs.declared.edit.Edit.{Edit}
+use Rattle.jfs_ranges.specs.Apply.{touches_tx}
+use Rattle.jfs_bmap.specs.States.{Blocks, BlockState, Free, put_state}
+use Rattle.jfs_pages.specs.Dirty.{dirty_of, touched_by}
+use Rattle.jfs_plain.specs.declared.call.Entry.{Entry}
+use Rattle.jfs_records.specs.Records.{Noted, tx_of}
+use Rattle.jfs_halves.specs.Marks.{map_after}
+use Rattle.jfs_halves.specs.Half.{VolumeHalf}
+use Rattle.jfs_halves.specs.Change.{Change, SameStates, states_after}
+use Rattle.jfs_halves.specs.Parts.{Parts, StandsFor}
+use Rattle.jfs_halves.specs.Moves.{Moves}
+use Rattle.jfs_volume.specs.declared.draft.Draft.{Draft}
+use Rattle.jfs_volume.specs.declared.joined.Joined.{Joined}
+use Rattle.jfs_volume.specs.declared.joined.Joined.TheVariants.{Entered, NoRoom, NoMemory, Unread}
+use Rattle.jfs_volume.specs.declared.joined.InodeMarks.{InodeMarks}
+use Rattle.jfs_volume.specs.Runs.{taken_in}
+use Rattle.jfs_volume.specs.Append.{Appends, unreserved, Stays, StaysUnless, KeepsStates, IsDraft, Adds, AddsEntry, TellsRoom}
+use Rattle.jfs_volume.proofs.Entering.{stays_moves, same_trans}
+use Rattle.jfs_volume.proofs.Taken.{same_after}
+
+from_before : (seen asked : Bool) (old mid new : Parts) (half : VolumeHalf) (list : List Change) → mid.past ≡ old.past → Moves seen asked mid new half list → Moves seen asked old new half list
+from_before seen asked old mid new half list same m = record { fit = m.fit; stands = m.stands; past = λ t k. m.past t k ∙ ap (λ (states : List DiskState). states ++ states_after half list) same }
+
+stays_of : (p m : Parts) → KeepsStates p m → Stays p m
+stays_of p m k = record {
+  parts = k.parts ∙ ap (λ (q : Parts). record p { view = q.view; disk = q.disk; past = q.past; faults = q.faults; map = m.map }) (sym k.parts);
+  map = k.map;
+}
+
+pub kept_stands : (seen asked : Bool) (tx : List Edit) (p m : Parts) (half : VolumeHalf) → StandsFor seen asked (unreserved tx p) half → KeepsStates p m → StandsFor seen asked (unreserved tx m) half
+kept_stands seen asked tx p m half s k =
+    (stays_moves seen asked tx p m half s (stays_of p m k) (λ t. ap (λ (q : Parts). q.view) k.parts) (λ t. ap (λ (q : Parts). q.disk) k.parts) (λ t u. ap (λ (q : Parts). q.past) k.parts)).stands
+
+pub appends_after : (seen asked : Bool) (entry : Entry) (now : Moment) (noted : List Noted) (p m q : Parts) (half : VolumeHalf) (result : Joined) → KeepsStates p m → Appends seen asked entry now noted m q half result → Appends seen asked entry now noted p q half result
+appends_after seen asked entry now noted p m q half (Entered n) k a = (from_before seen asked (unreserved (tx_of noted) p) (unreserved (tx_of noted) m) q half _ (ap (λ (r : Parts). r.past) k.parts) a.0, a.1)
+appends_after seen asked entry now noted p m q half NoRoom k a = from_before seen asked (unreserved (tx_of noted) p) (unreserved (tx_of noted) m) (unreserved (tx_of noted) q) half [] (ap (λ (r : Parts). r.past) k.parts) a
+appends_after seen asked entry now noted p m q half NoMemory k a = from_before seen asked (unreserved (tx_of noted) p) (unreserved (tx_of noted) m) (unreserved (tx_of noted) q) half [] (ap (λ (r : Parts). r.past) k.parts) a
+appends_after seen asked entry now noted p m q half (Unread fault) k a = from_before seen asked (unreserved (tx_of noted) p) (unreserved (tx_of noted) m) (unreserved (tx_of noted) q) half [] (ap (λ (r : Parts). r.past) k.parts) a
+
+-- nothing is changed at all
+pub kept_appends : (seen asked : Bool) (noted : List Noted) (p m : Parts) (half : VolumeHalf) → StandsFor seen asked (unreserved (tx_of noted) p) half → KeepsStates p m → Moves seen asked (unreserved (tx_of noted) p) (unreserved (tx_of noted) m) half []
+kept_appends seen asked noted p m half s k = stays_moves seen asked (tx_of noted) p m half s (stays_of p m k) (λ t. ap (λ (q : Parts). q.view) k.parts) (λ t. ap (λ (q : Parts). q.disk) k.parts) (λ t u. ap (λ (q : Parts). q.past) k.parts)
+
+pub kept_stays : (p m : Parts) → KeepsStates p m → Stays p m
+kept_stays p m k = stays_of p m k
+
+-- the map's states alone matter
+map_kept : (n : ℕ) (tx : List Edit) (a b : Blocks) → SameStates a b → SameStates (map_after n tx (put_state Free (taken_in tx) a)) (map_after n tx (put_state Free (taken_in tx) b))
+map_kept n tx a b same = same_after n tx (put_state Free (taken_in tx) a) (put_state Free (taken_in tx) b)
+    (record { states = ap (λ (states : List BlockState). (put_state Free (taken_in tx) (record a { states = states })).states) same.states; agsize = same.agsize })
+
+adds_after : (entry : Entry) (noted : List Noted) (marks : InodeMarks) (p q : Parts) (map : Blocks) → SameStates map p.map → Adds entry noted marks (record p { map = map }) q → Adds entry noted marks p q
+adds_after entry noted marks p q map same a = record {
+  parts = a.parts;
+  dirty = a.dirty;
+  map = same_trans q.map (map_after (p.appended + 1) (tx_of noted) (put_state Free (taken_in (tx_of noted)) map)) (map_after (p.appended + 1) (tx_of noted) (put_state Free (taken_in (tx_of noted)) p.map)) a.map
+      (map_kept (p.appended + 1) (tx_of noted) map p.map same);
+  inodes = a.inodes;
+}
+
+pub entry_after : (entry : Entry) (noted : List Noted) (marks : InodeMarks) (p m q : Parts) (result : Joined) → KeepsStates p m → AddsEntry entry noted marks m q result → AddsEntry entry noted marks p q result
+entry_after entry noted marks p m q (Entered n) k a = (
+  adds_after entry noted marks p q m.map k.map (subst (λ (r : Parts). Adds entry noted marks r q) k.parts a.0),
+  a.1 ∙ ap (λ (r : Parts). r.appended + 1) k.parts,
+)
+entry_after entry noted marks p m q NoRoom k a = tt
+entry_after entry noted marks p m q NoMemory k a = tt
+entry_after entry noted marks p m q (Unread fault) k a = tt
+
+stays_after : (p q : Parts) (map : Blocks) → SameStates map p.map → Stays (record p { map = map }) q → Stays p q
+stays_after p q map same s = record { parts = s.parts; map = same_trans q.map map p.map s.map same }
+
+pub unless_after : (p m q : Parts) (result : Joined) → (result ≡ NoRoom → ⊥) → KeepsStates p m → StaysUnless result m q → StaysUnless result p q
+unless_after p m q (Entered n) never k s = tt
+unless_after p m q NoRoom never k s = absurd (never refl)
+unless_after p m q NoMemory never k s = stays_after p q m.map k.map (subst (λ (r : Parts). Stays r q) k.parts s)
+unless_after p m q (Unread fault) never k s = stays_after p q m.map k.map (subst (λ (r : Parts). Stays r q) k.parts s)
+
+pub draft_after : (noted : List Noted) (p m : Parts) (draft : Draft) → KeepsStates p m → IsDraft noted p draft → IsDraft noted m draft
+draft_after noted p m draft k d = subst (λ (r : Parts). IsDraft noted r draft) (sym k.parts) (record { bytes = d.bytes; ends = d.ends; last = d.last; pages = d.pages; taken = d.taken; freed = d.freed })
+
+pub tells_room : (room : Bool) (result : Joined) → room ≡ true → (result ≡ NoRoom → ⊥) → TellsRoom room result
+tells_room room (Entered n) e never = e
+tells_room room NoRoom e never = absurd (never refl)
+tells_room room NoMemory e never = e
+tells_room room (Unread fault) e never = e
+
+pub kept_same : (p : Parts) → KeepsStates p p
+kept_same p = record { parts = refl; map = record { states = refl; agsize = refl } }

@@ -1,0 +1,148 @@
+-- An entry with a transaction joins.
+use Rattle.std.specs.Prelude.{◌≡◌, ◌≤◌, ◌∷◌, ◌++◌, ◌+◌, [], ℕ, suc, Bool, true, false, List, length}
+use Rattle.jfs_bits.specs.declared.descriptor.Moment.{Moment}
+use Rattle.jfs_disk.specs.declared.disk.Fault.{Fault}
+use Rattle.jfs_ranges.specs.declared.edit.Edit.{Edit}
+use Rattle.jfs_ranges.specs.Apply.{touches_tx}
+use Rattle.jfs_bmap.specs.States.{Free, is_in_list, put_state, AreReserved}
+use Rattle.jfs_imap.specs.Inodes.{Inodes}
+use Rattle.jfs_plain.specs.declared.call.Entry.{Entry}
+use Rattle.jfs_core.specs.Image.{pages_after}
+use Rattle.jfs_records.specs.Records.{Noted, tx_of}
+use Rattle.jfs_records.specs.Entries.{entry as item_of, item_records}
+use Rattle.jfs_logpages.specs.Records.{log_text, ends_of}
+use Rattle.jfs_logpages.specs.Ring.{ends_with}
+use Rattle.jfs_halves.specs.Entry.{Happened}
+use Rattle.jfs_halves.specs.Marks.{map_after}
+use Rattle.jfs_halves.specs.Half.{VolumeHalf}
+use Rattle.jfs_halves.specs.Parts.{Parts, Text}
+use Rattle.jfs_halves.specs.Change.{Enters, SameStates}
+use Rattle.jfs_halves.specs.Moves.{Moves}
+use Rattle.jfs_pages.specs.Device.{IsFault}
+use Rattle.jfs_pages.specs.Dirty.{dirty_of, touched_by}
+use Rattle.jfs_volume.specs.Runs.{taken_in, freed_in, pages_freed}
+use Rattle.jfs_volume.specs.Marks.{AreMarked}
+use Rattle.jfs_volume.specs.declared.joined.InodeMarks.{InodeMarks}
+use Rattle.jfs_logfmt.specs.declared.log_record.Record.{Record}
+use Rattle.jfs_volume.specs.declared.draft.Draft.{Draft}
+use Rattle.jfs_volume.specs.declared.joined.Joined.{Joined}
+use Rattle.jfs_volume.specs.declared.joined.Joined.TheVariants.{Entered, NoRoom, NoMemory, Unread}
+
+-- a call of a client that is answered, with its transaction and with what it leaves: it has a COMMIT in the log, also where no byte changes
+abbrev pub entered : Entry → Moment → List Noted → Inodes → VolumeHalf → Happened
+entered entry now noted inodes half = record {
+  client = entry.client;
+  line = entry.line;
+  call = entry.call;
+  lazy = entry.lazy;
+  now = now;
+  reply = entry.reply;
+  noted = noted;
+  logs = true;
+  after = record {
+    pages = pages_after 0 (tx_of noted) half.shown.pages;
+    map = map_after (suc (length half.history)) (tx_of noted) half.shown.map;
+    inodes = inodes;
+  };
+}
+
+-- What a transaction takes is reserved, each block once, and it frees none of these.
+pub record IsReservedFor (tx : List Edit) (p : Parts) : Type 0 where
+  pub reserved : AreReserved p.map (taken_in tx)
+  pub apart : (b : ℕ) → is_in_list (taken_in tx) b ≡ true → is_in_list (freed_in tx) b ≡ false
+
+-- the parts before blocks were reserved for a transaction: those that it takes are free
+abbrev pub unreserved : List Edit → Parts → Parts
+unreserved tx p = record p { map = put_state Free (taken_in tx) p.map }
+
+-- the text with the records of entry n behind it
+abbrev pub text_with : ℕ → List Noted → Text → Text
+text_with n noted text = let rs = item_records text.ring (text.place + length text.bytes) (item_of n noted) in record text {
+  bytes = text.bytes ++ log_text rs;
+  ends = ends_with (length text.bytes) text.ends (ends_of 0 rs);
+  last = n;
+}
+
+-- where its records will stand
+abbrev pub entry_records : List Noted → Parts → List Record
+entry_records noted p = item_records p.text.ring (p.text.place + length p.text.bytes) (item_of (p.appended + 1) noted)
+
+-- what the next entry adds is made
+pub record IsDraft (noted : List Noted) (p : Parts) (draft : Draft) : Type 0 where
+  pub bytes : draft.text.bytes.items ≡ log_text (entry_records noted p)
+  pub ends : draft.text.ends.items ≡ ends_of 0 (entry_records noted p)
+  pub last : draft.text.last ≡ p.appended + 1
+  pub pages : draft.pages.items ≡ pages_freed (p.appended + 1) (tx_of noted)
+  pub taken : draft.taken ≡ taken_in (tx_of noted)
+  pub freed : draft.freed ≡ freed_in (tx_of noted)
+
+-- it has a transaction's runs, and the map has memory for those that go
+pub record HasRuns (tx : List Edit) (p : Parts) (draft : Draft) : Type 0 where
+  pub taken : draft.taken ≡ taken_in tx
+  pub freed : draft.freed ≡ freed_in tx
+  pub spare : length draft.freed ≤ p.map.spare
+  pub last : draft.text.last ≡ p.appended + 1
+
+-- What an entry adds, also where the disk tells nothing.
+pub record Adds (entry : Entry) (noted : List Noted) (marks : InodeMarks) (old new : Parts) : Type 0 where
+  pub parts : new ≡ record old {
+    view = new.view;
+    dirty = new.dirty;
+    disk = new.disk;
+    past = new.past;
+    faults = new.faults;
+    map = new.map;
+    inodes = new.inodes;
+    appended = old.appended + 1;
+    entries = old.entries ++ entry ∷ [];
+    text = text_with (old.appended + 1) noted old.text;
+    freed = old.freed ++ pages_freed (old.appended + 1) (tx_of noted);
+  }
+  pub dirty : (q : ℕ) → dirty_of new.dirty q ≡ touched_by (touches_tx q (tx_of noted)) q (old.appended + 1) (dirty_of old.dirty q)
+  pub map : SameStates new.map (map_after (old.appended + 1) (tx_of noted) (put_state Free (taken_in (tx_of noted)) old.map))
+  pub inodes : AreMarked old.inodes marks new.inodes
+
+abbrev pub AddsEntry : Entry → List Noted → InodeMarks → Parts → Parts → Joined → Type 0
+AddsEntry entry noted marks old new (Entered number) = Adds entry noted marks old new × (number ≡ old.appended + 1)
+AddsEntry entry noted marks old new NoRoom = Unit {0}
+AddsEntry entry noted marks old new NoMemory = Unit {0}
+AddsEntry entry noted marks old new (Unread fault) = Unit {0}
+
+-- The entry joins, and its number is told; or nothing changes. What was reserved for it is no change of the half.
+abbrev pub Appends : (seen asked : Bool) → Entry → Moment → List Noted → Parts → Parts → VolumeHalf → Joined → Type 0
+Appends seen asked entry now noted old new half (Entered number) =
+    Moves seen asked (unreserved (tx_of noted) old) new half (Enters (entered entry now noted new.inodes half) ∷ []) × (number ≡ suc (length half.history))
+Appends seen asked entry now noted old new half NoRoom = Moves seen asked (unreserved (tx_of noted) old) (unreserved (tx_of noted) new) half []
+Appends seen asked entry now noted old new half NoMemory = Moves seen asked (unreserved (tx_of noted) old) (unreserved (tx_of noted) new) half []
+Appends seen asked entry now noted old new half (Unread fault) = Moves seen asked (unreserved (tx_of noted) old) (unreserved (tx_of noted) new) half []
+
+-- the parts stay as they were, but for pages that were read and memory for the map
+pub record Stays (old new : Parts) : Type 0 where
+  pub parts : new ≡ record old { view = new.view; disk = new.disk; past = new.past; faults = new.faults; map = new.map }
+  pub map : SameStates new.map old.map
+
+-- the parts stay as they were, but for memory for the map
+pub record KeepsStates (old new : Parts) : Type 0 where
+  pub parts : new ≡ record old { map = new.map }
+  pub map : SameStates new.map old.map
+
+-- where the entry didn't join
+abbrev pub StaysUnless : Joined → Parts → Parts → Type 0
+StaysUnless (Entered number) old new = Unit {0}
+StaysUnless NoRoom old new = new ≡ old
+StaysUnless NoMemory old new = Stays old new
+StaysUnless (Unread fault) old new = Stays old new
+
+-- No room is told exactly where the log has none.
+abbrev pub TellsRoom : Bool → Joined → Type 0
+TellsRoom room (Entered number) = room ≡ true
+TellsRoom room NoRoom = room ≡ false
+TellsRoom room NoMemory = room ≡ true
+TellsRoom room (Unread fault) = room ≡ true
+
+-- the count of faults rises with a page that can't be read alone
+abbrev pub TellsFault : ℕ → ℕ → Joined → Type 0
+TellsFault before now (Entered number) = now ≡ before
+TellsFault before now NoRoom = now ≡ before
+TellsFault before now NoMemory = now ≡ before
+TellsFault before now (Unread fault) = IsFault before now fault
