@@ -5,8 +5,10 @@ mod blocks;
 mod extents;
 mod inodes;
 mod page;
+mod pages;
 
 pub use blocks::redo_blocks;
 pub use extents::redo_extents;
 pub use inodes::inodes_in_use;
 pub use page::redo_page;
+pub use pages::{mark_pages, redo_pages};
