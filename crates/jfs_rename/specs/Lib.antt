@@ -1,4 +1,8 @@
 -- what the clauses say
-pub mod Moves
-pub mod Laws
+pub mod Ends
+pub mod Through
+pub mod Permits
 pub mod Asks
+pub mod Renames
+pub mod Done
+pub mod Steps

@@ -1,12 +1,18 @@
-//! The file call rename on a volume whose two sets lie in memory, as far as it stands: what is asked before an object that is no directory gets another name in its directory, where nothing stands; and its transaction.
+//! The file call rename on a volume whose two sets lie in memory: what is asked, and an object gets another name, in its directory or another one, where nothing stands or in place of another object.
 #![tactic(auto)]
 
 mod asking;
+mod ends;
 mod law;
-mod moving;
-mod names;
+mod permits;
+mod renaming;
+mod room;
+mod through;
 
 pub use asking::ask;
-pub use law::moves_take_the_plain_step;
-pub use moving::{Inside, move_within};
-pub use names::{Names, change_names};
+pub use ends::find_moving;
+pub use law::{moves_take_the_plain_step, replacements_take_the_plain_step};
+pub use permits::{Asked, permitted};
+pub use renaming::{Renamed, rename};
+pub use room::check_room;
+pub use through::{is_inside, leads_through};
