@@ -1,5 +1,5 @@
 -- An object leaves its old name, on top of a transaction after which it has the new one.
-use Rattle.std.proofs.Common.{◌≡◌, ◌≢◌, ◌≤◌, sym, ap, ◌∙◌, ℕ, ◌-◌, Bool, true, List, [], length, map, Option, Some}
+use Rattle.std.proofs.Common.{◌≡◌, ◌≢◌, ◌≤◌, sym, ap, ◌∙◌, ℕ, ◌+◌, ◌-◌, ◌<◌, Bool, true, List, [], length, map, Option, Some}
 use Rattle.jfs_bits.specs.declared.descriptor.Moment.{Moment}
 use Rattle.jfs_inode.specs.declared.fields.Dinode.{Dinode}
 use Rattle.jfs_imap.specs.Inodes.{Inodes}
@@ -7,6 +7,7 @@ use Rattle.jfs_bmap.specs.States.{Blocks}
 use Rattle.jfs_name.specs.Directory.{without_name}
 use Rattle.jfs_ranges.specs.declared.edit.Edit.{Edit}
 use Rattle.jfs_ranges.specs.Laid.{put_tx}
+use Rattle.jfs_tree.specs.Edit.{count_in}
 use Rattle.jfs_plain.specs.Tree.{Tree}
 use Rattle.jfs_plain.specs.Moves.{changed}
 use Rattle.jfs_objects.specs.Readers.{Readers}
@@ -17,7 +18,7 @@ use Rattle.jfs_meaning.specs.Readers.{readers}
 use Rattle.jfs_way.specs.Volume.{volume_of}
 use Rattle.jfs_way.specs.Walk.{tree_in}
 use Rattle.jfs_way.specs.declared.object.Held.{Held}
-use Rattle.jfs_steps.specs.After.{used_after}
+use Rattle.jfs_steps.specs.After.{used_after, frees}
 use Rattle.jfs_lead_steps.proofs.Again.{again}
 use Rattle.jfs_lead_steps.proofs.Turned.{turns}
 use Rattle.jfs_loss.specs.Inodes.{frees_in}
@@ -29,6 +30,8 @@ use Rattle.jfs_rename_steps.proofs.Stage.{Stage, set_stage, set_keeps, loss_stag
 use Rattle.jfs_rename_steps.proofs.Trees.{arrives_as}
 use Rattle.jfs_rename.specs.Done.{AreOn}
 use Rattle.jfs_rename.specs.Ends.{AreEnds}
+use Rattle.jfs_rename.proofs.Freed.{freed, freed_once, freed_used, lines_frees}
+use Rattle.jfs_rename.proofs.Freed.{frees_are as freed_are}
 use Rattle.jfs_rename.proofs.Ground.{at_m, p_m, changes}
 
 -- the directory that has the old name, as it stands then
@@ -85,3 +88,22 @@ module _ (blocks : ℕ) (pages : ℕ → List ℕ) (area : ℕ → ℕ) (bm : Bl
     pub left_stage : Stage blocks v [] later left_volume (changed p (turns (without_name name) (less_if less) now) (arrived_tree l.there l.arrives))
     left_stage = loss_stage blocks v on.whole l.there (arrived_volume l.there l.arrives) (arrived_tree l.there l.arrives) (arrived_stage l.there l.arrives) p d (still_p l.there l.arrives) dir l.loses.size
         (less_if less) (d.nblocks - (frees_in l.loses.mid - frees_in l.there)) live few name l.loses.root l.loses.width l.loses.parent now l.loses.mid later l.loses.inode l.loses.removes l.loses.gone (l.loses.puts places at_p) page l.loses.lines
+
+    -- the blocks that go with it were in use, each once
+    pub record Freeing (lost : List ℕ) : Type 0 where
+      pub frees_are : (b : ℕ) → frees later b ≡ frees tx b + count_in b lost
+      pub once : (b : ℕ) → count_in b lost ≤ 1
+      pub owned : (b : ℕ) → 0 < count_in b lost → w.used b ≡ true
+
+    pub left_frees : (lost : List ℕ) × Freeing lost
+    left_frees = (
+      freed blocks v on.whole l.there (arrived_volume l.there l.arrives) (arrived_tree l.there l.arrives) (arrived_stage l.there l.arrives) p d (still_p l.there l.arrives) dir name l.loses.root l.loses.mid l.loses.inode l.loses.removes,
+      record {
+        frees_are = λ b. lines_frees blocks pages page l.loses.mid later b l.loses.lines
+            ∙ freed_are blocks v on.whole l.there (arrived_volume l.there l.arrives) (arrived_tree l.there l.arrives) (arrived_stage l.there l.arrives) p d (still_p l.there l.arrives) dir name l.loses.root l.loses.mid l.loses.inode l.loses.removes b
+            ∙ ap (λ (n : ℕ). n + count_in b (freed blocks v on.whole l.there (arrived_volume l.there l.arrives) (arrived_tree l.there l.arrives) (arrived_stage l.there l.arrives) p d (still_p l.there l.arrives) dir name l.loses.root l.loses.mid l.loses.inode l.loses.removes))
+            (lines_frees blocks pages moving.object.page tx l.there b l.arrives.lines);
+        once = freed_once blocks v on.whole l.there (arrived_volume l.there l.arrives) (arrived_tree l.there l.arrives) (arrived_stage l.there l.arrives) p d (still_p l.there l.arrives) dir name l.loses.root l.loses.mid l.loses.inode l.loses.removes;
+        owned = freed_used blocks v on.whole l.there (arrived_volume l.there l.arrives) (arrived_tree l.there l.arrives) (arrived_stage l.there l.arrives) p d (still_p l.there l.arrives) dir name l.loses.root l.loses.mid l.loses.inode l.loses.removes;
+      },
+    )

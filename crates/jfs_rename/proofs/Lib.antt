@@ -5,8 +5,10 @@ pub mod Kept
 pub mod Asks
 pub mod Askeds
 pub mod Ground
+pub mod Freed
 pub mod Leaving
 pub mod Moved
+pub mod LetIn
 pub mod Replaced
 pub mod KeptNames
 pub mod Stays

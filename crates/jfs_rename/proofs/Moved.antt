@@ -1,5 +1,5 @@
 -- An object moves where nothing stood: from what its steps say to the plain step.
-use Rattle.std.proofs.Common.{◌≡◌, ◌≢◌, ◌≤◌, ◌<◌, refl, sym, ap, ◌∙◌, subst, inl, inr, ℕ, ◌+◌, ◌-◌, Bool, true, false, true≢false, not, ◌&&◌, ◌||◌, ◌==◌, eqb-true, nat_le, nat_lt, if◌then◌else◌, List, [], length, map, Option, Some, None, Ok, arith}
+use Rattle.std.proofs.Common.{◌≡◌, ◌≢◌, ◌≤◌, ◌<◌, ◌⊎◌, refl, sym, ap, ◌∙◌, subst, inl, inr, ℕ, ◌+◌, ◌-◌, Bool, true, false, true≢false, not, ◌&&◌, ◌||◌, ◌==◌, eqb-true, nat_le, nat_lt, if◌then◌else◌, List, [], length, map, Option, Some, None, Ok, arith}
 use Rattle.std.proofs.lemmas.Bool.Decides.{nat_tests}
 use Rattle.jfs_bits.specs.Field.{put_bytes}
 use Rattle.jfs_bits.specs.declared.descriptor.Moment.{Moment}
@@ -25,12 +25,20 @@ use Rattle.jfs_objects.specs.Volume.{Volume}
 use Rattle.jfs_objects.specs.Objects.{objects, spelled, is_live, has_names}
 use Rattle.jfs_objects.specs.Image.{extent_place}
 use Rattle.jfs_objects.specs.Changes.{PutsInode}
-use Rattle.jfs_objects.proofs.Sums.{eq_or_not}
+use Rattle.jfs_objects.proofs.Sums.{eq_or_not, zero_or_more}
 use Rattle.jfs_meaning.specs.Readers.{readers}
 use Rattle.jfs_way.specs.Volume.{volume_of}
 use Rattle.jfs_way.specs.Walk.{tree_in}
 use Rattle.jfs_way.specs.declared.object.Held.{Held}
-use Rattle.jfs_steps.specs.After.{used_after}
+use Rattle.jfs_steps.specs.After.{used_after, takes, frees}
+use Rattle.jfs_steps.specs.Laws.{TakesAndFrees, IsFair}
+use Rattle.jfs_steps.proofs.After.{counts}
+use Rattle.jfs_steps.proofs.Sets.{taken_move, lines_on_top}
+use Rattle.jfs_bits.specs.declared.rule.PageKind.TheVariants as kinds
+use Rattle.jfs_objects.specs.Owners.{bit}
+use Rattle.jfs_meaning.proofs.Books.{count_append}
+use Rattle.jfs_rename_steps.proofs.Taken.{free_takes}
+use Rattle.jfs_rename.specs.Once.{IsOrderly}
 use Rattle.jfs_steps.specs.Place.{last_of}
 use Rattle.jfs_claim.specs.Take.{AreFresh}
 use Rattle.jfs_lead_steps.specs.Balance.{own_after}
@@ -47,7 +55,7 @@ use Rattle.jfs_rename.specs.Asks.{MayMove}
 use Rattle.jfs_rename.specs.Done.{AreOn, room_in, TakesStep, MoveLaw}
 use Rattle.jfs_rename.specs.Ends.{AreEnds}
 use Rattle.jfs_rename.proofs.Ground.{has, within, at_p, at_q, was_m, was_p, was_q, live_p, live_q, few_p, few_q, size_q, node_m, node_q, named_m, m_p, p_m, m_q, two_p, takes_step}
-use Rattle.jfs_rename.proofs.Leaving.{source_with, leaving_from, left_volume, left_stage, arrived_volume, arrived_tree, arrived_stage, still_p}
+use Rattle.jfs_rename.proofs.Leaving.{source_with, leaving_from, left_volume, left_stage, left_frees, arrived_volume, arrived_tree, arrived_stage, still_p}
 use Rattle.jfs_rename.proofs.Stays.{past_object, past_gain, loss_open}
 use Rattle.jfs_rename.proofs.Plain.{moved}
 
@@ -89,6 +97,10 @@ not_inside : (x inside stays : Bool) (k : ℕ) → why_barred x inside stays k �
 not_inside true true stays k h e = absurd (cc (h))
 not_inside true false stays k h e = refl
 not_inside false inside stays k h e = absurd (true≢false (sym e))
+
+pub bit_is : (x : Bool) → bit x ≡ 1 → x ≡ true
+bit_is true h = refl
+bit_is false h = absurd (omega (arith, h))
 
 module _ (blocks : ℕ) (pages : ℕ → List ℕ) (area : ℕ → ℕ) (bm : Blocks) (inodes : Inodes) (moving : Moving) (on : AreOn blocks pages area bm inodes moving) (from to : List (List ℕ)) (now : Moment) (log_pages : ℕ)
     (may : MayMove from to moving (room_in blocks pages area bm inodes log_pages) (tree_in blocks pages area bm inodes))
@@ -234,16 +246,53 @@ module _ (blocks : ℕ) (pages : ℕ → List ℕ) (area : ℕ → ℕ) (bm : Bl
           → TakesStep blocks pages area bm inodes from to now log_pages tx
       done_by tree w s is = takes_step blocks pages area bm inodes moving on from to ends now log_pages tx w tree s (outcome ∙ ap (λ (u : Tree). Ok (Done, u)) (sym is))
 
+      -- ---- the blocks
+
+      moves_q : TakesAndFrees after.tx g.taken.0 []
+      moves_q = lines_on_top blocks pages moving.target.page g.mid after.tx g.taken.0 [] (taken_move blocks kinds.Dtree pages (blocks_of free) (blocks_of left) g.mid (λ first bytes. refl) g.taken) g.lines
+
+      free_is : (b : ℕ) → count_in b (blocks_of free) ≡ count_in b g.taken.0 + count_in b (blocks_of left)
+      free_is b = ap (count_in b) g.taken.1 ∙ count_append b g.taken.0 (blocks_of left)
+
+      fair_q : IsFair after.tx v.used
+      fair_q = record {
+        fresh = λ b l. unused b (let f = free_is b in let k = moves_q.taken_are b in omega (arith, f, k, l));
+        owned = λ b l. absurd (let k = moves_q.freed_are b in omega (arith, k, l));
+        once = λ b. (let f = free_is b in let k = moves_q.taken_are b in let z = moves_q.freed_are b in let o = fresh.once b in omega (arith, f, k, z, o));
+      }
+
+      takes_are : (b : ℕ) → takes tx b ≡ count_in b g.taken.0
+      takes_are = free_takes blocks pages moving (last_of from) (last_of to) now free left tx (record { after = after; gains = g; leaves = leave })
+
+      orderly : (lost : List ℕ) → ((b : ℕ) → frees tx b ≡ frees after.tx b + count_in b lost) → ((b : ℕ) → count_in b lost ≤ 1) → ((b : ℕ) → 0 < count_in b lost → w1.used b ≡ true) → IsOrderly tx v.used
+      orderly lost are once owned = record {
+        fresh = λ b l. unused b (let f = free_is b in let k = takes_are b in omega (arith, f, k, l));
+        taken_once = λ b. (let f = free_is b in let k = takes_are b in let o = fresh.once b in omega (arith, f, k, o));
+        owned = λ b l. was_or_taken b (owned b (let a = are b in let z = moves_q.freed_are b in omega (arith, a, z, l)));
+        freed_once = λ b. (let a = are b in let z = moves_q.freed_are b in let o = once b in omega (arith, a, z, o));
+      }
+        where
+          was_or_taken : (b : ℕ) → w1.used b ≡ true → (v.used b ≡ true) ⊎ (0 < takes tx b)
+          was_or_taken b h = elim (zero_or_more (count_in b g.taken.0)) [
+            | inl z ↦ inl (bit_is (v.used b) (let c = counts after.tx v.used fair_q b in let k = moves_q.taken_are b in let f = moves_q.freed_are b in let e = ap bit h in omega (arith, c, k, f, e, z)))
+            | inr l ↦ inr (let k = takes_are b in omega (arith, k, l))
+          ]
+
       -- ---- one directory, or two
 
-      from_other : p ≢ q → TakesStep blocks pages area bm inodes from to now log_pages tx
-      from_other far = done_by _ (left_volume blocks pages area bm inodes moving on from to ends now after.tx w1 t1 s1 here_m moving.source.page moving.source.inode here_p on.dirs.0 over
-          (less_lives p moving.source.inode over (live_p blocks pages area bm inodes moving on from to ends) (two_p blocks pages area bm inodes moving on from to ends)) (less_few moving.source.inode.nlink over (few_p blocks pages area bm inodes moving on from to ends))
-          (at_p blocks pages area bm inodes moving on from to ends) (last_of from) tx leaves)
-          (left_stage blocks pages area bm inodes moving on from to ends now after.tx w1 t1 s1 here_m moving.source.page moving.source.inode here_p on.dirs.0 over
-          (less_lives p moving.source.inode over (live_p blocks pages area bm inodes moving on from to ends) (two_p blocks pages area bm inodes moving on from to ends)) (less_few moving.source.inode.nlink over (few_p blocks pages area bm inodes moving on from to ends))
-          (at_p blocks pages area bm inodes moving on from to ends) (last_of from) tx leaves)
-          same_tree
+      from_other : p ≢ q → TakesStep blocks pages area bm inodes from to now log_pages tx × IsOrderly tx v.used
+      from_other far = (
+        done_by _ (left_volume blocks pages area bm inodes moving on from to ends now after.tx w1 t1 s1 here_m moving.source.page moving.source.inode here_p on.dirs.0 over
+            (less_lives p moving.source.inode over (live_p blocks pages area bm inodes moving on from to ends) (two_p blocks pages area bm inodes moving on from to ends)) (less_few moving.source.inode.nlink over (few_p blocks pages area bm inodes moving on from to ends))
+            (at_p blocks pages area bm inodes moving on from to ends) (last_of from) tx leaves)
+            (left_stage blocks pages area bm inodes moving on from to ends now after.tx w1 t1 s1 here_m moving.source.page moving.source.inode here_p on.dirs.0 over
+            (less_lives p moving.source.inode over (live_p blocks pages area bm inodes moving on from to ends) (two_p blocks pages area bm inodes moving on from to ends)) (less_few moving.source.inode.nlink over (few_p blocks pages area bm inodes moving on from to ends))
+            (at_p blocks pages area bm inodes moving on from to ends) (last_of from) tx leaves)
+            same_tree,
+        (let f = left_frees blocks pages area bm inodes moving on from to ends now after.tx w1 t1 s1 here_m moving.source.page moving.source.inode here_p on.dirs.0 over
+            (less_lives p moving.source.inode over (live_p blocks pages area bm inodes moving on from to ends) (two_p blocks pages area bm inodes moving on from to ends)) (less_few moving.source.inode.nlink over (few_p blocks pages area bm inodes moving on from to ends))
+            (at_p blocks pages area bm inodes moving on from to ends) (last_of from) tx leaves in orderly f.0 f.1.frees_are f.1.once f.1.owned),
+      )
         where
           apart_eq : (p == q) ≡ false
           apart_eq = Rattle.std.proofs.Common.ne_eqb p q far
@@ -255,12 +304,16 @@ module _ (blocks : ℕ) (pages : ℕ → List ℕ) (area : ℕ → ℕ) (bm : Bl
           here_p : objects r w1 p ≡ Some (spelled r w1.page moving.source.inode)
           here_p = (again r w1 pages p moving.source.inode (keeps p far ∙ was_p blocks pages area bm inodes moving on from to ends)).0
 
-      from_same : p ≡ q → TakesStep blocks pages area bm inodes from to now log_pages tx
-      from_same same = done_by _ (left_volume blocks pages area bm inodes moving on from to ends now after.tx w1 t1 s1 here_m moving.target.page set_q here_p on.dirs.1 over live few
-          (ap (Rattle.jfs_objects.specs.Volume.home (map extent_place inodes.extents)) same ∙ at_q blocks pages area bm inodes moving on from to ends) (last_of from) tx leaves)
-          (left_stage blocks pages area bm inodes moving on from to ends now after.tx w1 t1 s1 here_m moving.target.page set_q here_p on.dirs.1 over live few
-          (ap (Rattle.jfs_objects.specs.Volume.home (map extent_place inodes.extents)) same ∙ at_q blocks pages area bm inodes moving on from to ends) (last_of from) tx leaves)
-          same_tree
+      from_same : p ≡ q → TakesStep blocks pages area bm inodes from to now log_pages tx × IsOrderly tx v.used
+      from_same same = (
+        done_by _ (left_volume blocks pages area bm inodes moving on from to ends now after.tx w1 t1 s1 here_m moving.target.page set_q here_p on.dirs.1 over live few
+            (ap (Rattle.jfs_objects.specs.Volume.home (map extent_place inodes.extents)) same ∙ at_q blocks pages area bm inodes moving on from to ends) (last_of from) tx leaves)
+            (left_stage blocks pages area bm inodes moving on from to ends now after.tx w1 t1 s1 here_m moving.target.page set_q here_p on.dirs.1 over live few
+            (ap (Rattle.jfs_objects.specs.Volume.home (map extent_place inodes.extents)) same ∙ at_q blocks pages area bm inodes moving on from to ends) (last_of from) tx leaves)
+            same_tree,
+        (let f = left_frees blocks pages area bm inodes moving on from to ends now after.tx w1 t1 s1 here_m moving.target.page set_q here_p on.dirs.1 over live few
+            (ap (Rattle.jfs_objects.specs.Volume.home (map extent_place inodes.extents)) same ∙ at_q blocks pages area bm inodes moving on from to ends) (last_of from) tx leaves in orderly f.0 f.1.frees_are f.1.once f.1.owned),
+      )
         where
           same_eq : (p == q) ≡ true
           same_eq = Rattle.std.proofs.Common.eq-eqb p q same
@@ -285,11 +338,11 @@ module _ (blocks : ℕ) (pages : ℕ → List ℕ) (area : ℕ → ℕ) (bm : Bl
           here_p : objects r w1 p ≡ Some (spelled r w1.page set_q)
           here_p = ap (objects r w1) same ∙ here_q
 
-      pub move_done : TakesStep blocks pages area bm inodes from to now log_pages tx
+      pub move_done : TakesStep blocks pages area bm inodes from to now log_pages tx × IsOrderly tx v.used
       move_done = elim (eq_or_not p q) [
         | inl e ↦ from_same e
         | inr far ↦ from_other far
       ]
 
 pub move_law : MoveLaw
-move_law blocks pages area bm inodes moving on from to now log_pages may free left fresh tx j = move_done blocks pages area bm inodes moving on from to now log_pages may free fresh left j.after j.gains tx j.leaves
+move_law blocks pages area bm inodes moving on from to now log_pages may free left fresh tx j = (move_done blocks pages area bm inodes moving on from to now log_pages may free fresh left j.after j.gains tx j.leaves).0

@@ -1,5 +1,5 @@
 -- An object takes the name of another: from what its steps say to the plain step.
-use Rattle.std.proofs.Common.{◌≡◌, ◌≢◌, ◌≤◌, ◌<◌, refl, sym, ap, ◌∙◌, subst, inl, inr, ℕ, ◌+◌, ◌-◌, Bool, true, false, true≢false, not, ◌&&◌, ◌||◌, ◌==◌, eq-eqb, ne_eqb, nat_le, nat_lt, if◌then◌else◌, List, [], ◌∷◌, length, map, Option, Some, None, Ok, arith}
+use Rattle.std.proofs.Common.{◌≡◌, ◌≢◌, ◌≤◌, ◌<◌, ◌⊎◌, refl, sym, ap, ◌∙◌, subst, inl, inr, ℕ, ◌+◌, ◌-◌, Bool, true, false, true≢false, not, ◌&&◌, ◌||◌, ◌==◌, eq-eqb, ne_eqb, nat_le, nat_lt, if◌then◌else◌, List, [], ◌∷◌, ◌++◌, length, map, Option, Some, None, Ok, arith}
 use Rattle.std.proofs.lemmas.Bool.Decides.{nat_tests}
 use Rattle.jfs_bits.specs.Field.{put_bytes}
 use Rattle.jfs_bits.proofs.Parts.{length-range_of}
@@ -27,7 +27,7 @@ use Rattle.jfs_objects.specs.Objects.{objects, spelled, is_live, has_names}
 use Rattle.jfs_objects.specs.Image.{extent_place}
 use Rattle.jfs_objects.specs.Owners.{holds}
 use Rattle.jfs_objects.specs.Changes.{put, PutsInode}
-use Rattle.jfs_objects.proofs.Sums.{eq_or_not}
+use Rattle.jfs_objects.proofs.Sums.{eq_or_not, zero_or_more}
 use Rattle.jfs_meaning.specs.Readers.{readers, root_of}
 use Rattle.jfs_meaning.proofs.Found.{place_there}
 use Rattle.jfs_meaning.proofs.Reached.{at_leads}
@@ -51,71 +51,28 @@ use Rattle.jfs_rename_steps.specs.Moves.{Leaves, leaving_with, leaving_over, sou
 use Rattle.jfs_rename_steps.specs.Objects.{goes, unnamed, FreesIf, Arrives}
 use Rattle.jfs_rename_steps.specs.declared.moving.Moving.{Moving}
 use Rattle.jfs_rename_steps.proofs.Apart.{stands_apart}
-use Rattle.jfs_rename_steps.proofs.Stage.{Stage, frees_stage, lead_stage, lead_here, lead_keeps, set_stage, set_keeps, drop_stage, drop_keeps}
+use Rattle.jfs_rename_steps.proofs.Stage.{Stage, frees_stage, lead_stage, lead_here, lead_keeps, set_stage, set_keeps, drop_stage, drop_keeps, lead_leaves}
 use Rattle.jfs_rename_steps.proofs.Trees.{arrives_as, unnamed_as, over_file, over_dir}
 use Rattle.jfs_rename.specs.Asks.{MayReplace}
 use Rattle.jfs_rename.specs.Done.{AreOn, room_in, TakesStep, ReplaceLaw}
 use Rattle.jfs_rename.specs.Ends.{AreEnds}
 use Rattle.jfs_rename.proofs.Ground.{has, within, at_p, at_q, was_m, was_p, was_q, live_p, live_q, few_p, few_q, size_q, node_m, node_p, named_from, named_m, one_inode, m_p, p_m, m_q, two_p, takes_step}
-use Rattle.jfs_rename.proofs.Leaving.{source_with, leaving_from, left_volume, left_stage, arrived_volume, arrived_tree, arrived_stage, still_p}
+use Rattle.jfs_rename.proofs.Leaving.{source_with, leaving_from, left_volume, left_stage, left_frees, arrived_volume, arrived_tree, arrived_stage, still_p}
 use Rattle.jfs_rename.proofs.Stays.{past_object, past_lead, past_other, loss_open}
 use Rattle.jfs_way.specs.Answer.{is_open}
-use Rattle.jfs_rename.proofs.Moved.{less_lives, less_few}
+use Rattle.jfs_rename.proofs.Moved.{bit_is, less_lives, less_few}
 use Rattle.jfs_rename.proofs.Plain.{replaced}
-
--- ---- what the plain step lets in
-
--- an object of the same kind, and an empty one
-kept_kind : (limit : ℕ) (x inside : Bool) (old : Node) → why_kept limit x inside old ≡ None → is_dir old.kind ≡ x
-kept_kind limit true true old h = absurd (cc (h))
-kept_kind limit true false old h = by (is_dir old.kind) h
-  where
-    by : (z : Bool) → (if not z then Some NotDir else (if has_entries old then Some NotEmpty else (if is_last_of_big limit old then Some FileTooBig else None))) ≡ None → z ≡ true
-    by true h = refl
-    by false h = absurd (cc (h))
-kept_kind limit false inside old h = by (is_dir old.kind) h
-  where
-    by : (z : Bool) → (if z then Some IsDir else (if is_last_of_big limit old then Some FileTooBig else None)) ≡ None → z ≡ false
-    by true h = absurd (cc (h))
-    by false h = refl
-
-kept_empty : (limit : ℕ) (x inside : Bool) (old : Node) → why_kept limit x inside old ≡ None → x ≡ true → has_entries old ≡ false
-kept_empty limit true true old h e = absurd (cc (h))
-kept_empty limit true false old h e = by (is_dir old.kind) (has_entries old) h
-  where
-    by : (z y : Bool) → (if not z then Some NotDir else (if y then Some NotEmpty else (if is_last_of_big limit old then Some FileTooBig else None))) ≡ None → y ≡ false
-    by true true h = absurd (cc (h))
-    by true false h = refl
-    by false y h = absurd (cc (h))
-kept_empty limit false inside old h e = absurd (true≢false (sym e))
-
-kept_outside : (limit : ℕ) (x inside : Bool) (old : Node) → why_kept limit x inside old ≡ None → x ≡ true → inside ≡ false
-kept_outside limit true true old h e = absurd (cc (h))
-kept_outside limit true false old h e = refl
-kept_outside limit false inside old h e = absurd (true≢false (sym e))
-
-no_entries : (es : List NameEntry) → not (length es == 0) ≡ false → es ≡ []
-no_entries [] h = refl
-no_entries (x ∷ es) h = absurd (true≢false (sym (some (length es)) ∙ h))
-  where
-    some : (k : ℕ) → not (Rattle.std.proofs.Common.suc k == 0) ≡ true
-    some k = grind (arith, nat_tests)
-
-not_first : (k m : ℕ) → (k == m) ≡ false → k ≢ m
-not_first k m h e = true≢false (sym (eq-eqb k m e) ∙ h)
-
-dead_late : (k : ℕ) → 4 ≤ k → (nat_lt k 4 || not (0 == 0)) ≡ false
-dead_late k l = grind (arith, nat_tests, l)
-
-more_live : (k n : ℕ) → nat_le n 1 ≡ false → (nat_lt k 4 || not (n - 1 == 0)) ≡ true
-more_live k n h = grind (arith, nat_tests, h)
-
-one_node : {a b : Node} → (x : Option Node) → x ≡ Some a → x ≡ Some b → a ≡ b
-one_node x h k = cc (h, k)
-
-or_left : (x y : Bool) → (x || y) ≡ false → y ≡ false
-or_left true y h = absurd (true≢false h)
-or_left false y h = h
+use Rattle.jfs_rename.proofs.LetIn.{kept_kind, kept_empty, kept_outside, no_entries, not_first, dead_late, more_live, one_node, or_left, bit_most}
+use Rattle.jfs_meaning.proofs.Books.{count_append}
+use Rattle.jfs_objects.specs.Owners.{bit}
+use Rattle.jfs_objects.proofs.Owned.{owned_once}
+use Rattle.jfs_steps.specs.After.{takes}
+use Rattle.jfs_steps.specs.After.{frees as frees_of}
+use Rattle.jfs_steps.specs.Laws.{LeavesSets, IsFair}
+use Rattle.jfs_steps.proofs.After.{counts}
+use Rattle.jfs_steps.proofs.Sets.{moves_onto, lines_on_top}
+use Rattle.jfs_rename_steps.proofs.Taken.{over_takes}
+use Rattle.jfs_rename.specs.Once.{IsOrderly}
 
 module _ (blocks : ℕ) (pages : ℕ → List ℕ) (area : ℕ → ℕ) (bm : Blocks) (inodes : Inodes) (moving : Moving) (on : AreOn blocks pages area bm inodes moving) (there : Held) (held_k : IsHeld blocks inodes there) (shown_k : IsShown pages there)
     (from to : List (List ℕ)) (now : Moment) (limit log_pages : ℕ) (same_limit : (room_in blocks pages area bm inodes log_pages).limit ≡ limit) (may : MayReplace from to limit moving there (room_in blocks pages area bm inodes log_pages) (tree_in blocks pages area bm inodes)) where
@@ -400,16 +357,66 @@ module _ (blocks : ℕ) (pages : ℕ → List ℕ) (area : ℕ → ℕ) (bm : Bl
           → TakesStep blocks pages area bm inodes from to now log_pages tx
       done_by tree w s is = takes_step blocks pages area bm inodes moving on from to ends now log_pages tx w tree s (outcome ∙ ap (λ (u : Tree). Ok (Done, u)) (sym is))
 
+      -- ---- the blocks
+
+      sets_stay : LeavesSets (lead_leaves blocks pages (root_of dq) lead.root first lead.mid lead.edits).0
+      sets_stay = (lead_leaves blocks pages (root_of dq) lead.root first lead.mid lead.edits).2
+
+      moves_lead : TakesAndFrees lead.mid [] (owed ++ [])
+      moves_lead = subst (λ (all : List Edit). TakesAndFrees all [] (owed ++ [])) (sym (lead_leaves blocks pages (root_of dq) lead.root first lead.mid lead.edits).1)
+          (moves_onto first (lead_leaves blocks pages (root_of dq) lead.root first lead.mid lead.edits).0 [] owed [] [] debt.1.moves (lines_move (lead_leaves blocks pages (root_of dq) lead.root first lead.mid lead.edits).0 sets_stay))
+
+      moves_last : TakesAndFrees last [] (owed ++ [])
+      moves_last = lines_on_top blocks pages there.page led last [] (owed ++ []) (lines_on_top blocks pages moving.target.page lead.mid led [] (owed ++ []) moves_lead lead.lines) lines
+
+      frees_last : (b : ℕ) → frees_of last b ≡ count_in b owed
+      frees_last b = moves_last.freed_are b ∙ (let c = count_append b owed [] in omega (arith, c))
+
+      fair_last : IsFair last v.used
+      fair_last = record {
+        fresh = λ b l. absurd (let k = moves_last.taken_are b in omega (arith, k, l));
+        owned = λ b l. (owned_once r v on.con.sound.agrees).in_use k b (let f = frees_last b in let a = debt.1.among b in omega (arith, f, a, l));
+        once = λ b. (let z = moves_last.taken_are b in let f = frees_last b in let a = debt.1.among b in let o = (owned_once r v on.con.sound.agrees).once k b in omega (arith, z, f, a, o));
+      }
+
+      takes_none : (b : ℕ) → takes tx b ≡ 0
+      takes_none = over_takes blocks pages moving there (last_of from) (last_of to) now tx (record { freed = first; target = set; led = led; put = last; frees = frees; leads = lead; puts = puts; lines = lines; leaves = leave })
+
+      orderly : (lost : List ℕ) → ((b : ℕ) → frees_of tx b ≡ frees_of last b + count_in b lost) → ((b : ℕ) → count_in b lost ≤ 1) → ((b : ℕ) → 0 < count_in b lost → w2.used b ≡ true) → IsOrderly tx v.used
+      orderly lost are once owned = record {
+        fresh = λ b l. absurd (let z = takes_none b in omega (arith, z, l));
+        taken_once = λ b. (let z = takes_none b in omega (arith, z));
+        owned = λ b l. inl (by_part b (zero_or_more (count_in b lost)) l);
+        freed_once = λ b. at_most b (zero_or_more (count_in b lost));
+      }
+        where
+          -- what is in use when the name goes was in use, and isn't among what was freed before
+          still : (b : ℕ) → w2.used b ≡ true → bit (v.used b) ≡ 1 + frees_of last b
+          still b h = let s = displaced_k.stage.used b in let c = counts last v.used fair_last b in let z = moves_last.taken_are b in let e = ap bit h in omega (arith, s, c, z, e)
+
+          by_part : (b : ℕ) → (count_in b lost ≡ 0) ⊎ (0 < count_in b lost) → 0 < frees_of tx b → v.used b ≡ true
+          by_part b (inl z) l = (owned_once r v on.con.sound.agrees).in_use k b (let a = are b in let f = frees_last b in let m = debt.1.among b in omega (arith, a, f, m, z, l))
+          by_part b (inr p) l = bit_is (v.used b) (let s = still b (owned b p) in let o = bit_most (v.used b) in omega (arith, s, o))
+
+          at_most : (b : ℕ) → (count_in b lost ≡ 0) ⊎ (0 < count_in b lost) → frees_of tx b ≤ 1
+          at_most b (inl z) = let a = are b in let f = frees_last b in let m = debt.1.among b in let o = (owned_once r v on.con.sound.agrees).once k b in omega (arith, a, f, m, o, z)
+          at_most b (inr p) = let a = are b in let s = still b (owned b p) in let o = bit_most (v.used b) in let n = once b in omega (arith, a, s, o, n)
+
       -- ---- one directory, or two
 
-      from_other : p ≢ q → TakesStep blocks pages area bm inodes from to now log_pages tx
-      from_other far = done_by _ (left_volume blocks pages area bm inodes moving on from to ends now last w2 t2 displaced_k.stage here_m moving.source.page moving.source.inode here_p on.dirs.0 by_dir
-          (less_lives p moving.source.inode by_dir (live_p blocks pages area bm inodes moving on from to ends) (two_p blocks pages area bm inodes moving on from to ends)) (less_few moving.source.inode.nlink by_dir (few_p blocks pages area bm inodes moving on from to ends))
-          (at_p blocks pages area bm inodes moving on from to ends) (last_of from) tx leaves)
-          (left_stage blocks pages area bm inodes moving on from to ends now last w2 t2 displaced_k.stage here_m moving.source.page moving.source.inode here_p on.dirs.0 by_dir
-          (less_lives p moving.source.inode by_dir (live_p blocks pages area bm inodes moving on from to ends) (two_p blocks pages area bm inodes moving on from to ends)) (less_few moving.source.inode.nlink by_dir (few_p blocks pages area bm inodes moving on from to ends))
-          (at_p blocks pages area bm inodes moving on from to ends) (last_of from) tx leaves)
-          same_tree
+      from_other : p ≢ q → TakesStep blocks pages area bm inodes from to now log_pages tx × IsOrderly tx v.used
+      from_other far = (
+        done_by _ (left_volume blocks pages area bm inodes moving on from to ends now last w2 t2 displaced_k.stage here_m moving.source.page moving.source.inode here_p on.dirs.0 by_dir
+            (less_lives p moving.source.inode by_dir (live_p blocks pages area bm inodes moving on from to ends) (two_p blocks pages area bm inodes moving on from to ends)) (less_few moving.source.inode.nlink by_dir (few_p blocks pages area bm inodes moving on from to ends))
+            (at_p blocks pages area bm inodes moving on from to ends) (last_of from) tx leaves)
+            (left_stage blocks pages area bm inodes moving on from to ends now last w2 t2 displaced_k.stage here_m moving.source.page moving.source.inode here_p on.dirs.0 by_dir
+            (less_lives p moving.source.inode by_dir (live_p blocks pages area bm inodes moving on from to ends) (two_p blocks pages area bm inodes moving on from to ends)) (less_few moving.source.inode.nlink by_dir (few_p blocks pages area bm inodes moving on from to ends))
+            (at_p blocks pages area bm inodes moving on from to ends) (last_of from) tx leaves)
+            same_tree,
+        (let f = left_frees blocks pages area bm inodes moving on from to ends now last w2 t2 displaced_k.stage here_m moving.source.page moving.source.inode here_p on.dirs.0 by_dir
+            (less_lives p moving.source.inode by_dir (live_p blocks pages area bm inodes moving on from to ends) (two_p blocks pages area bm inodes moving on from to ends)) (less_few moving.source.inode.nlink by_dir (few_p blocks pages area bm inodes moving on from to ends))
+            (at_p blocks pages area bm inodes moving on from to ends) (last_of from) tx leaves in orderly f.0 f.1.frees_are f.1.once f.1.owned),
+      )
         where
           apart_eq : (p == q) ≡ false
           apart_eq = ne_eqb p q far
@@ -420,12 +427,16 @@ module _ (blocks : ℕ) (pages : ℕ → List ℕ) (area : ℕ → ℕ) (bm : Bl
           here_p : objects r w2 p ≡ Some (spelled r w2.page moving.source.inode)
           here_p = (again r w2 pages p moving.source.inode (keeps_2 p p_k far ∙ was_p blocks pages area bm inodes moving on from to ends)).0
 
-      from_same : p ≡ q → TakesStep blocks pages area bm inodes from to now log_pages tx
-      from_same same = done_by _ (left_volume blocks pages area bm inodes moving on from to ends now last w2 t2 displaced_k.stage here_m moving.target.page set_q here_p on.dirs.1 by_dir live few_s
-          (ap (home places) same ∙ at_q blocks pages area bm inodes moving on from to ends) (last_of from) tx leaves)
-          (left_stage blocks pages area bm inodes moving on from to ends now last w2 t2 displaced_k.stage here_m moving.target.page set_q here_p on.dirs.1 by_dir live few_s
-          (ap (home places) same ∙ at_q blocks pages area bm inodes moving on from to ends) (last_of from) tx leaves)
-          same_tree
+      from_same : p ≡ q → TakesStep blocks pages area bm inodes from to now log_pages tx × IsOrderly tx v.used
+      from_same same = (
+        done_by _ (left_volume blocks pages area bm inodes moving on from to ends now last w2 t2 displaced_k.stage here_m moving.target.page set_q here_p on.dirs.1 by_dir live few_s
+            (ap (home places) same ∙ at_q blocks pages area bm inodes moving on from to ends) (last_of from) tx leaves)
+            (left_stage blocks pages area bm inodes moving on from to ends now last w2 t2 displaced_k.stage here_m moving.target.page set_q here_p on.dirs.1 by_dir live few_s
+            (ap (home places) same ∙ at_q blocks pages area bm inodes moving on from to ends) (last_of from) tx leaves)
+            same_tree,
+        (let f = left_frees blocks pages area bm inodes moving on from to ends now last w2 t2 displaced_k.stage here_m moving.target.page set_q here_p on.dirs.1 by_dir live few_s
+            (ap (home places) same ∙ at_q blocks pages area bm inodes moving on from to ends) (last_of from) tx leaves in orderly f.0 f.1.frees_are f.1.once f.1.owned),
+      )
         where
           same_eq : (p == q) ≡ true
           same_eq = eq-eqb p q same
@@ -447,7 +458,7 @@ module _ (blocks : ℕ) (pages : ℕ → List ℕ) (area : ℕ → ℕ) (bm : Bl
           here_p : objects r w2 p ≡ Some (spelled r w2.page set_q)
           here_p = (again r w2 w1.page p set_q (displaced_k.keeps p p_k ∙ ap (objects r w1) same ∙ here_q)).0
 
-      pub replace_done : TakesStep blocks pages area bm inodes from to now log_pages tx
+      pub replace_done : TakesStep blocks pages area bm inodes from to now log_pages tx × IsOrderly tx v.used
       replace_done = elim (eq_or_not p q) [
         | inl e ↦ from_same e
         | inr far ↦ from_other far
@@ -455,4 +466,4 @@ module _ (blocks : ℕ) (pages : ℕ → List ℕ) (area : ℕ → ℕ) (bm : Bl
 
 pub replace_law : ReplaceLaw
 replace_law blocks pages area bm inodes moving on there held_k shown_k from to now limit log_pages same_limit may tx j =
-    replace_done blocks pages area bm inodes moving on there held_k shown_k from to now limit log_pages same_limit may j.freed j.target j.led j.put j.frees j.leads j.puts j.lines tx j.leaves
+    (replace_done blocks pages area bm inodes moving on there held_k shown_k from to now limit log_pages same_limit may j.freed j.target j.led j.put j.frees j.leads j.puts j.lines tx j.leaves).0

@@ -32,16 +32,17 @@ use Rattle.jfs_rename.specs.Ends.{AreHeld, AreShown, AreDirectories, moving_on}
 use Rattle.jfs_rename.specs.Permits.{free_check, over_check, permitted}
 use Rattle.jfs_rename.specs.Renames.{MovesReserved, RenamesAs, StaysFresh}
 use Rattle.jfs_rename.specs.Steps.{StepsAs}
+use Rattle.jfs_rename.specs.Once.{FreesOnce}
 use Rattle.jfs_rename.specs.Through.{inside_of}
 use Rattle.jfs_rename.specs.declared.permits.Asked.{Asked}
 use Rattle.jfs_rename.specs.declared.permits.Asked.TheVariants.{Same, Free, Over}
 use Rattle.jfs_rename.specs.declared.renaming.Renamed.{Renamed}
 use Rattle.jfs_rename.specs.declared.renaming.Renamed.TheVariants as renamed
 use Rattle.jfs_rename.proofs.Ground.{node_m, node_q}
-use Rattle.jfs_rename.proofs.Moved.{move_law}
+use Rattle.jfs_rename.proofs.Moved.{move_law, move_done}
 use Rattle.jfs_rename.proofs.Plain.{moved}
 use Rattle.jfs_rename.proofs.Refused.{free_open, over_open}
-use Rattle.jfs_rename.proofs.Replaced.{replace_law}
+use Rattle.jfs_rename.proofs.Replaced.{replace_law, replace_done}
 use Rattle.jfs_rename.proofs.Taking.{over_found}
 
 -- ---- on a consistent volume
@@ -85,6 +86,13 @@ module _ (blocks : ℕ) (pages : ℕ → List ℕ) (map : Blocks) (inodes : Inod
     free_steps allowed after (Err why) (inl o) = λ within area con log_pages same. inr o
     free_steps allowed after (Err why) (inr s) = λ within area con log_pages same. inr (free_open blocks pages area map inodes moving (on area con) from to now log_pages (allowed within area con log_pages same) s.free s.fresh why s.refused)
 
+    pub free_once : IfConsistentBy blocks pages map inodes (MayRename from to limit (Free moving)) → (after : Blocks) (r : Result Renamed Refusal) → MovesReserved blocks pages moving (last_of from) (last_of to) now map after r → FreesOnce blocks pages map inodes limit r
+    free_once allowed after (Ok (renamed.Done tx)) (m, reserves) = λ within area con log_pages same.
+        (move_done blocks pages area map inodes moving (on area con) from to now log_pages (allowed within area con log_pages same) m.free m.fresh m.left m.moves.after m.moves.gains tx m.moves.leaves).1
+    free_once allowed after (Ok renamed.Same) m = tt
+    free_once allowed after (Ok renamed.NeedsLog) m = tt
+    free_once allowed after (Err why) m = tt
+
     module _ (there : Held) (held_k : IsHeld blocks inodes there) (shown_k : IsShown pages there) (allowed : IfConsistentBy blocks pages map inodes (MayRename from to limit (Over moving there))) where
       pub over_steps : (tx : List Edit) → MovesOver blocks pages moving there (last_of from) (last_of to) now tx → StepsAs blocks pages map inodes limit plain (Ok (renamed.Done tx))
       over_steps tx j within area con log_pages same = replace_law blocks pages area map inodes moving (on area con) there held_k shown_k from to now limit log_pages same (allowed within area con log_pages same) tx j
@@ -92,3 +100,7 @@ module _ (blocks : ℕ) (pages : ℕ → List ℕ) (map : Blocks) (inodes : Inod
       pub over_stays : asked blocks pages map inodes limit from to ≡ Ok (Over moving there) → (why : Refusal) → OverRefused blocks pages moving there (last_of from) (last_of to) now why → StepsAs blocks pages map inodes limit plain (Err why)
       over_stays e why h within area con log_pages same = inr (over_open blocks pages area map inodes moving (on area con) there held_k shown_k from to now limit log_pages same (allowed within area con log_pages same)
           (over_found blocks pages map inodes from to limit now moving there e) why h)
+
+      pub over_once : (tx : List Edit) → MovesOver blocks pages moving there (last_of from) (last_of to) now tx → FreesOnce blocks pages map inodes limit (Ok (renamed.Done tx))
+      over_once tx j within area con log_pages same =
+          (replace_done blocks pages area map inodes moving (on area con) there held_k shown_k from to now limit log_pages same (allowed within area con log_pages same) j.freed j.target j.led j.put j.frees j.leads j.puts j.lines tx j.leaves).1

@@ -6,3 +6,4 @@ pub mod Asks
 pub mod Renames
 pub mod Done
 pub mod Steps
+pub mod Once

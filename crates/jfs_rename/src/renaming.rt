@@ -6,6 +6,7 @@ ghost use Rattle.jfs_way.specs.Answer.{Carries};
 ghost use Rattle.jfs_rename_steps.specs.Moves.{FitMoving, IsWithin};
 ghost use Rattle.jfs_plain.specs.Step.{rename};
 ghost use Rattle.jfs_rename.specs.Renames.{MapAfter, MovesReserved, RenamesAs};
+ghost use Rattle.jfs_rename.specs.Once.{FreesOnce};
 ghost use Rattle.jfs_rename.specs.Steps.{StepsAs};
 
 use crate::asking::ask;
@@ -54,6 +55,7 @@ pub fn rename<V: PageView>(
     ensures map { MapAfter blocks.old blocks.new result }
     // On a consistent volume the transaction takes the plain step, and a refusal is the plain step's.
     ensures steps { V.PageView.tells → StepsAs (V.PageView.block_count view.old) (page_of (V.PageView.image view.old)) blocks.old inodes.now limit (λ room t. rename room t from.now to.now now) result }
+    ensures once { V.PageView.tells → FreesOnce (V.PageView.block_count view.old) (page_of (V.PageView.image view.old)) blocks.old inodes.now limit result }
     // On any volume it is done as asked, by its steps; a refusal has its cause.
     ensures meets { V.PageView.tells → RenamesAs (V.PageView.block_count view.old) (page_of (V.PageView.image view.old)) blocks.old blocks.new inodes.now from.now to.now limit now result }
 {
