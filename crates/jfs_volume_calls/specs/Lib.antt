@@ -1,0 +1,4 @@
+-- what the clauses say
+pub mod Together
+pub mod Commit
+pub mod Syncpoint

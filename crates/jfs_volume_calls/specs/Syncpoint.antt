@@ -1,0 +1,61 @@
+-- What a syncpoint changes.
+use Rattle.std.specs.Prelude.{◌≡◌, ◌⊎◌, ◌++◌, ◌∷◌, [], ℕ, Bool, List, map, length, Result, Ok, Err}
+use Rattle.jfs_bits.specs.Count.{Rose}
+use Rattle.jfs_disk.specs.declared.disk.Fault.{Fault}
+use Rattle.jfs_disk.specs.declared.disk.Part.TheVariants.{Low, High}
+use Rattle.jfs_halves.specs.Half.{Halves}
+use Rattle.jfs_halves.specs.Parts.{Parts}
+use Rattle.jfs_halves.specs.Log.{LogParts}
+use Rattle.jfs_halves.specs.Change.{Change, Takes, Syncs, Points, Knows, MayPoint}
+use Rattle.jfs_halves.specs.Both.{BothChange, Changes, GroupIsWritten, GroupFails}
+use Rattle.jfs_halves.specs.Moves.{MovesBoth}
+use Rattle.jfs_volume.specs.Settle.{go_home, IsStop}
+use Rattle.jfs_volume_calls.specs.Commit.{Closes, IsWritten, committing}
+
+-- redo begins behind all entries, and a group with the SYNCPT that says so is taken
+abbrev pub point_taken : List BothChange
+point_taken = Changes Points ∷ Changes Takes ∷ []
+
+-- that group is written, and the volume knows that all sync counts are stable
+abbrev pub point_known : List BothChange
+point_known = GroupIsWritten ∷ Changes Knows ∷ []
+
+-- dirty pages go home, and are synced
+abbrev pub settling : List ℕ → List BothChange
+settling homes = map Changes (go_home homes ++ Syncs ∷ [])
+
+-- Where a call of it failed, a syncpoint has made a front of its changes: its group failed; or the write of a page or the sync; or the group of its SYNCPT.
+pub data IsStopped (n : ℕ) (fault : Fault) : List BothChange → Type 0 where
+  group_fails : IsStopped n fault (Changes Takes ∷ GroupFails fault ∷ [])
+  low_fails : (written : List BothChange) (pages homes : List ℕ) (last : Change) → IsWritten written → IsStop fault last → IsStopped n fault (committing written n pages ++ map Changes (go_home homes ++ last ∷ []))
+  point_fails : (written : List BothChange) (pages homes : List ℕ) → IsWritten written → IsStopped n fault (committing written n pages ++ (settling homes ++ (point_taken ++ GroupFails fault ∷ [])))
+
+pub record IsSyncpoint (seen asked : Bool) (old new : Parts) (log : LogParts) (both : Halves) : Type 0 where
+  pub written : List BothChange
+  pub is : IsWritten written
+  pub pages : List ℕ
+  pub homes : List ℕ
+  pub closes : Closes seen asked old new log both (committing written (length both.volume.history) pages ++ (settling homes ++ (point_taken ++ point_known)))
+
+abbrev pub SyncpointIs : (seen asked : Bool) → Parts → Parts → LogParts → Halves → Result (Unit {0}) Fault → Type 0
+SyncpointIs seen asked old new log both (Ok done) = IsSyncpoint seen asked old new log both
+SyncpointIs seen asked old new log both (Err fault) = (list : List BothChange) × IsStopped (length both.volume.history) fault list × MovesBoth seen asked old new log both list
+
+-- the group of a SYNCPT
+abbrev pub PointIs : (seen asked : Bool) → Parts → Parts → LogParts → Halves → Result (Unit {0}) Fault → Type 0
+PointIs seen asked old new log both (Ok done) = Closes seen asked old new log both (point_taken ++ point_known)
+PointIs seen asked old new log both (Err fault) = MovesBoth seen asked old new log both (point_taken ++ GroupFails fault ∷ [])
+
+-- the log's fault, whose count rose
+abbrev pub HasPointFault : ℕ → ℕ → Result (Unit {0}) Fault → Type 0
+HasPointFault high later (Ok done) = later ≡ high
+HasPointFault high later (Err fault) = Rose high later × (fault ≡ record { part = High; count = later })
+
+-- a fault is of the part whose count rose; the other one's count stays
+abbrev pub IsFaultOfEither : ℕ → ℕ → ℕ → ℕ → Fault → Type 0
+IsFaultOfEither low now high later fault =
+    (Rose low now × (fault ≡ record { part = Low; count = now }) × (later ≡ high)) ⊎ (Rose high later × (fault ≡ record { part = High; count = later }) × (now ≡ low))
+
+abbrev pub HasFaultOfEither : ℕ → ℕ → ℕ → ℕ → Result (Unit {0}) Fault → Type 0
+HasFaultOfEither low now high later (Ok done) = (now ≡ low) × (later ≡ high)
+HasFaultOfEither low now high later (Err fault) = IsFaultOfEither low now high later fault
