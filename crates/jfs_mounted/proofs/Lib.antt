@@ -1,2 +1,4 @@
 pub mod Marked
 pub mod Started
+pub mod Whole
+pub mod Left

@@ -127,15 +127,15 @@ module _ (r : Readers) (v : Volume) (sound : IsSound r v) (first : 0 < v.area 8)
     }
 
 -- the first pages are an area
-in_first : (x : Bool) → x ≡ true → 1 ≤ (if x then 1 else 0)
+pub in_first : (x : Bool) → x ≡ true → 1 ≤ (if x then 1 else 0)
 in_first true h = omega arith
 in_first false h = absurd (cc (h))
 
-area_there : (r : Readers) (table map : Pxd) (page : ℕ → List ℕ) → 0 < area_on r table map page 8
+pub area_there : (r : Readers) (table map : Pxd) (page : ℕ → List ℕ) → 0 < area_on r table map page 8
 unfolding area_on
 area_there r table map page = let f : 1 ≤ run_has (record { len = 16; addr = 0 }) 8 = in_first (nat_le 0 8 && nat_lt 8 (0 + 16)) (grind (arith, nat_tests)) in omega (arith, f)
 
-used_below : (r : Readers) (page : ℕ → List ℕ) (blocks b : ℕ) → is_block_used r page blocks b ≡ true → b < blocks
+pub used_below : (r : Readers) (page : ℕ → List ℕ) (blocks b : ℕ) → is_block_used r page blocks b ≡ true → b < blocks
 unfolding is_block_used
 used_below r page blocks b h = by (cases_lt b blocks)
   where

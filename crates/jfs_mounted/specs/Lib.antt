@@ -1,3 +1,4 @@
 -- what the clauses say
 pub mod Mount
 pub mod Laws
+pub mod Crashes

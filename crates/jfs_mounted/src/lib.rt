@@ -5,6 +5,8 @@ mod law;
 mod mounted;
 mod mounting;
 
-pub use law::mounted_pages_have_the_tree;
+pub use law::{
+    crashes_of_a_mount_leave_the_tree, mounted_pages_have_the_tree, superblocks_are_seen_whole,
+};
 pub use mounted::{MountError, MountRefused, Mounted};
 pub use mounting::mount;
