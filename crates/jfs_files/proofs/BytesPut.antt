@@ -57,7 +57,7 @@ data_fits blocks (Ok out) l w = (l, w)
 data_fits blocks (Err (stops.Refused why)) l w = tt
 data_fits blocks (Err stops.NeedsLog) l w = tt
 
-same_maps : (maps new : Maps) (after : Blocks) → after ≡ maps.blocks → new ≡ record maps { blocks = after } → new ≡ maps
+pub same_maps : (maps new : Maps) (after : Blocks) → after ≡ maps.blocks → new ≡ record maps { blocks = after } → new ≡ maps
 same_maps maps new after m e = e ∙ ap (λ (b : Blocks). record maps { blocks = b }) m
 
 pub map_kept : (maps new : Maps) (after : Blocks) (r : Result Written Stop) → MapAfter maps.blocks after r → new ≡ record maps { blocks = after } → KeepsMaps maps new (outcome_of r)

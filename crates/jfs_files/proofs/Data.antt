@@ -25,7 +25,7 @@ use Rattle.jfs_create.specs.declared.extent.NewExtent.{NewExtent}
 use Rattle.jfs_create.specs.declared.make.Plan.{Plan}
 use Rattle.jfs_truncate.specs.Tail.{IsTail}
 use Rattle.jfs_files.specs.Laws.{NoDataLaw}
-use Rattle.jfs_files.specs.Written.{FitsData, WritesNone, EachOnce, WritesOnce, StartsWith, Starts, FreesNone, FreesNothing, FreesOnce, FreesUsed}
+use Rattle.jfs_files.specs.Written.{FitsData, WritesNone, EachOnce, WritesOnce, StartsWith, Starts, FreesNone, FreesNothing, FreesOnce, FreesUsed, FreesOrTaken}
 use Rattle.jfs_files.specs.declared.outcome.FileOutcome.{FileOutcome}
 use Rattle.jfs_files.specs.declared.outcome.FileOutcome.TheVariants.{Changed, Same, NeedsLog}
 
@@ -66,6 +66,11 @@ pub nothing_freed : (used : ℕ → Bool) (outcome : FileOutcome) → FreesNothi
 nothing_freed used (Changed tx written) none = none_freed used tx none
 nothing_freed used (Same reply) none = tt
 nothing_freed used NeedsLog none = tt
+
+pub used_freed : (used : ℕ → Bool) (outcome : FileOutcome) → FreesUsed used outcome → FreesOrTaken used outcome
+used_freed used (Changed tx written) h = record { owned = λ b l. inl (h.owned b l); once = h.once }
+used_freed used (Same reply) h = tt
+used_freed used NeedsLog h = tt
 
 module _ (blocks : ℕ) (pages : ℕ → List ℕ) where
   -- lines of an inode's page free nothing

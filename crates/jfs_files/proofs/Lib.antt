@@ -5,3 +5,5 @@ pub mod NewObjects
 pub mod Removals
 pub mod Data
 pub mod BytesPut
+pub mod Renames
+pub mod RenamesPut

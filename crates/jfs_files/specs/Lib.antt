@@ -2,5 +2,6 @@
 pub mod Outcome
 pub mod Written
 pub mod Bytes
+pub mod Renames
 pub mod Meets
 pub mod Laws

@@ -26,11 +26,12 @@ use Rattle.jfs_readlink.specs.Target.{target_at}
 use Rattle.jfs_unlink.specs.Call.{Unlinks, unlink_of, Removes, rmdir_of}
 use Rattle.jfs_truncate.specs.Call.{truncate_of, Truncates}
 use Rattle.jfs_files.specs.Bytes.{MeetsBytes}
+use Rattle.jfs_files.specs.Renames.{MeetsRename}
 use Rattle.jfs_files.specs.declared.outcome.Maps.{Maps}
 use Rattle.jfs_files.specs.declared.outcome.FileOutcome.{FileOutcome}
 use Rattle.jfs_files.specs.declared.outcome.FileOutcome.TheVariants.{Changed, Same, NeedsLog}
 
--- ---- the calls that stand so far
+-- ---- kinds of calls
 
 -- those that only look
 abbrev pub looks : Call → Bool
@@ -54,13 +55,6 @@ gives_name (calls.Create path mode) = true
 gives_name (calls.Symlink path target) = true
 gives_name (calls.Link from to) = true
 gives_name _ = false
-
-abbrev pub stands : Call → Bool
-stands calls.Sync = true
-stands (calls.Truncate path size) = true
-stands (calls.Write path offset new) = true
-stands (calls.Fill path offset count byte) = true
-stands call = looks call || (takes_none call || gives_name call)
 
 -- ---- their answers
 
@@ -137,6 +131,7 @@ Meets blocks pages maps (calls.Mkdir path mode) now outcome = MeetsNew blocks pa
 Meets blocks pages maps (calls.Create path mode) now outcome = MeetsNew blocks pages maps path now outcome (File mode)
 Meets blocks pages maps (calls.Symlink path target) now outcome = WithTarget target (MeetsNew blocks pages maps path now outcome)
 Meets blocks pages maps (calls.Link from to) now outcome = MeetsLink blocks pages maps from to now outcome
+Meets blocks pages maps (calls.Rename from to) now outcome = MeetsRename blocks pages maps from to now outcome
 Meets blocks pages maps (calls.Unlink path) now outcome = MeetsChange (Unlinks blocks pages maps.inodes path maps.file_limit now) (unlink_of blocks pages maps.inodes path maps.file_limit) outcome
 Meets blocks pages maps (calls.Rmdir path) now outcome = MeetsChange (Removes blocks pages maps.inodes path now) (rmdir_of blocks pages maps.inodes path) outcome
 Meets blocks pages maps (calls.Chmod path mode) now outcome = MeetsMode blocks pages maps.inodes path mode now outcome
@@ -148,4 +143,3 @@ Meets blocks pages maps (calls.Stat path) now outcome = Tells (looked blocks pag
 Meets blocks pages maps (calls.List path) now outcome = Tells (looked blocks pages maps.inodes (calls.List path)) outcome
 Meets blocks pages maps (calls.Readlink path) now outcome = Tells (looked blocks pages maps.inodes (calls.Readlink path)) outcome
 Meets blocks pages maps calls.Sync now outcome = Tells Done outcome
-Meets blocks pages maps _ now outcome = ⊥

@@ -1,5 +1,5 @@
 -- What a call writes before its transaction, and what that transaction frees.
-use Rattle.std.specs.Prelude.{◌≡◌, ◌<◌, ◌≤◌, ℕ, Bool, true, false, List, [], ◌∷◌}
+use Rattle.std.specs.Prelude.{◌≡◌, ◌⊎◌, ◌<◌, ◌≤◌, ℕ, Bool, true, false, List, [], ◌∷◌}
 use Rattle.jfs_ranges.specs.declared.edit.Edit.{Edit}
 use Rattle.jfs_plain.specs.CallStep.{LeavesRest}
 use Rattle.jfs_plain.specs.declared.call.Call.{Call}
@@ -8,7 +8,7 @@ use Rattle.jfs_objects.specs.Volume.{Volume}
 use Rattle.jfs_meaning.specs.Readers.{readers}
 use Rattle.jfs_meaning.specs.Tree.{tree_on}
 use Rattle.jfs_meaning.specs.Consistent.{IsConsistent}
-use Rattle.jfs_steps.specs.After.{frees}
+use Rattle.jfs_steps.specs.After.{takes, frees}
 use Rattle.jfs_data_steps.specs.After.{is_put, AreWholePages, LieWithin, with_data}
 use Rattle.jfs_data_steps.specs.declared.pages.DataPage.{DataPage}
 use Rattle.jfs_files.specs.declared.outcome.FileOutcome.{FileOutcome}
@@ -63,6 +63,11 @@ StartsSize blocks v path end outcome = Starts blocks v (calls.Truncate path end)
 
 -- ---- what is freed
 
+-- the one call that may free blocks that it took itself
+abbrev pub renames : Call → Bool
+renames (calls.Rename from to) = true
+renames _ = false
+
 -- no block
 abbrev pub FreesNone : List Edit → Type 0
 FreesNone tx = (b : ℕ) → frees tx b ≡ 0
@@ -79,3 +84,12 @@ pub record FreesOnce (used : ℕ → Bool) (tx : List Edit) : Type 0 where
 abbrev pub FreesUsed : (ℕ → Bool) → FileOutcome → Type 0
 FreesUsed used (Changed tx written) = FreesOnce used tx
 FreesUsed used _ = Unit {0}
+
+-- blocks in use, or such as the transaction took, each once
+pub record FreesOwn (used : ℕ → Bool) (tx : List Edit) : Type 0 where
+  pub owned : (b : ℕ) → 0 < frees tx b → (used b ≡ true) ⊎ (0 < takes tx b)
+  pub once : (b : ℕ) → frees tx b ≤ 1
+
+abbrev pub FreesOrTaken : (ℕ → Bool) → FileOutcome → Type 0
+FreesOrTaken used (Changed tx written) = FreesOwn used tx
+FreesOrTaken used _ = Unit {0}

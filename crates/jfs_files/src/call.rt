@@ -5,14 +5,15 @@ ghost use Rattle.jfs_disk.specs.Image.{page_of};
 ghost use Rattle.jfs_plain.specs.Limits.{FitsRequest};
 ghost use Rattle.jfs_plain.specs.Step.{outcome};
 ghost use Rattle.jfs_files.specs.Outcome.{CarriesOutcome, KeepsMaps, MapsAfter, IfMounted, AnswersOr, Wants};
-ghost use Rattle.jfs_files.specs.Written.{FitsData, puts_data, puts_bytes, WritesNone, WritesOnce, Starts, FreesUsed};
+ghost use Rattle.jfs_files.specs.Written.{FitsData, puts_data, puts_bytes, WritesNone, WritesOnce, Starts, renames, FreesUsed, FreesOrTaken};
 ghost use Rattle.jfs_files.specs.Bytes.{bars};
-ghost use Rattle.jfs_files.specs.Meets.{stands, Meets};
+ghost use Rattle.jfs_files.specs.Meets.{Meets};
 
 use crate::bytes::{fill_outcome, write_outcome};
 use crate::change::change_outcome;
 use crate::naming::name_outcome;
 use crate::outcome::{FileOutcome, Maps};
+use crate::renaming::rename_outcome;
 use crate::reply::look_reply;
 use crate::size::size_outcome;
 use jfs_bits::Moment;
@@ -20,8 +21,8 @@ use jfs_plain::{Call, Reply, Request};
 use jfs_ranges::PageView;
 use std::alloc::Global;
 
-/// What a call does to a mounted volume, whose pages the view shows, at this moment. It takes the calls that stand so far: mkdir, create, symlink, link, unlink, rmdir, chmod, write, fill, truncate, read, stat, list, readlink
-/// and sync; no other call can be asked for yet. The pages stay as they are: blocks that are to be written, and a transaction that is to be appended then, are in the answer.
+/// What a call does to a mounted volume, whose pages the view shows, at this moment. The pages stay as they are: blocks that are to be written, and a transaction that is to be appended
+/// then, are in the answer.
 pub fn file_call<V: PageView>(
     alloc: Global,
     view: &mut V,
@@ -30,7 +31,6 @@ pub fn file_call<V: PageView>(
     now: Moment,
 ) -> FileOutcome
     requires fits { FitsRequest request.now }
-    requires taken { stands request.now.call ≡ true }
     requires size { length maps.old.blocks.states ≡ V.PageView.block_count view.old }
     ensures image { V.PageView.tells → V.PageView.image view.new ≡ V.PageView.image view.old }
     ensures count_of_blocks { V.PageView.block_count view.new ≡ V.PageView.block_count view.old }
@@ -45,13 +45,14 @@ pub fn file_call<V: PageView>(
     ensures none { puts_data request.now.call ≡ false → WritesNone result }
     // A truncate writes each of them once.
     ensures single { V.PageView.tells → puts_bytes request.now.call ≡ false → WritesOnce result }
-    // On a consistent volume data and transaction take the plain step of its tree.
+    // On a consistent volume data and transaction take the plain step of its tree; a write or a fill is refused beside where the file's tree is too deep.
     ensures follows { V.PageView.tells → IfMounted (V.PageView.block_count view.old) (page_of (V.PageView.image view.old)) maps.old (λ v room.
         AnswersOr (bars (V.PageView.block_count view.old) (page_of (V.PageView.image view.old)) maps.old request.now.call) (V.PageView.block_count view.old) maps.old.blocks v (Wants maps.old request.now.call) (λ t. outcome room t request.now.call now) result) }
     // What is written before the transaction changes no object, and no byte but those that the call writes over.
     ensures starts { V.PageView.tells → IfMounted (V.PageView.block_count view.old) (page_of (V.PageView.image view.old)) maps.old (λ v room. Starts (V.PageView.block_count view.old) v request.now.call result) }
-    // The transaction frees blocks in use alone, each once.
-    ensures once { V.PageView.tells → IfMounted (V.PageView.block_count view.old) (page_of (V.PageView.image view.old)) maps.old (λ v room. FreesUsed v.used result) }
+    // The transaction frees blocks in use alone, each once; but for a rename, which may free blocks that it took itself.
+    ensures once { V.PageView.tells → renames request.now.call ≡ false → IfMounted (V.PageView.block_count view.old) (page_of (V.PageView.image view.old)) maps.old (λ v room. FreesUsed v.used result) }
+    ensures own { V.PageView.tells → IfMounted (V.PageView.block_count view.old) (page_of (V.PageView.image view.old)) maps.old (λ v room. FreesOrTaken v.used result) }
     // On any volume it is what the pages on the call's ways give, and the first of them that breaks a rule is named.
     ensures meets { V.PageView.tells → Meets (V.PageView.block_count view.old) (page_of (V.PageView.image view.old)) maps.old request.now.call now result }
 {
@@ -60,6 +61,7 @@ pub fn file_call<V: PageView>(
         Call::Mkdir { .. } | Call::Create { .. } | Call::Symlink { .. } | Call::Link { .. } => {
             name_outcome(alloc, view, maps, call, now)
         }
+        Call::Rename { from, to } => rename_outcome(alloc, view, maps, from, to, now),
         Call::Unlink { .. } | Call::Rmdir { .. } | Call::Chmod { .. } => {
             change_outcome(alloc, view, maps, call, now)
         }
@@ -79,6 +81,5 @@ pub fn file_call<V: PageView>(
             FileOutcome::Same(look_reply(alloc, view, &maps.inodes, call))
         }
         Call::Sync => FileOutcome::Same(Reply::Done),
-        _ => unreachable!(),
     }
 }

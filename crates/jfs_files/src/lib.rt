@@ -1,4 +1,4 @@
-//! File calls on a mounted volume: what a call is given, what it answers, and the calls that stand so far, each answer with its cause said once for all of them.
+//! File calls on a mounted volume: what a call is given, and what it answers, each answer with its cause said once for all of them.
 #![tactic(auto)]
 
 mod bytes;
@@ -7,6 +7,7 @@ mod change;
 mod law;
 mod naming;
 mod outcome;
+mod renaming;
 mod reply;
 mod size;
 

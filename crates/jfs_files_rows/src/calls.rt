@@ -1,8 +1,7 @@
 //! Replies and transactions.
 
-ghost use Rattle.std.specs.Prelude.{◌≡◌, true, IfSome};
+ghost use Rattle.std.specs.Prelude.{IfSome};
 ghost use Rattle.jfs_plain.specs.Limits.{FitsPath, FitsCall, FitsTarget};
-ghost use Rattle.jfs_files.specs.Meets.{stands};
 
 use crate::claims::map_of;
 use crate::words::{EMPTY_DIRECTORY, INNER_ROOT, Word, put_volume, small_disk};
@@ -115,7 +114,6 @@ fn call_of(asked: Asked, path: Path, to: Path, target: Blob) -> Call
     requires to { FitsPath to }
     requires target { FitsTarget target }
     ensures fits { FitsCall result }
-    ensures taken { stands result ≡ true }
 {
     match asked {
         Asked::Mkdir => Call::Mkdir { path, mode: 0o750 },

@@ -7,7 +7,7 @@ use Rattle.jfs_files.proofs.BytesPut.{or_not}
 use Rattle.jfs_files.specs.Outcome.{Wants}
 use Rattle.jfs_files.specs.Bytes.{bars}
 use Rattle.jfs_plain.specs.Step.{outcome}
-use Rattle.jfs_files.proofs.Data.{fits_none, once_none, starts_none, nothing_freed}
+use Rattle.jfs_files.proofs.Data.{fits_none, once_none, starts_none, nothing_freed, used_freed}
 use Rattle.jfs_files.proofs.call.file_call.Goals as goal
 
 pub returns-in-Mkdir-clause-follows : goal.returns-in-Mkdir-clause-follows
@@ -48,7 +48,7 @@ returns-in-Mkdir-clause-starts g c tells between area con log_pages limit =
     starts_none (g.V.PageView.block_count c.args.view.now) (volume_in (page_of (g.V.PageView.image c.args.view.now)) area c.args.maps.now) c.args.request.now.call c.name_outcome.result con c.name_outcome.ensures.none
 
 pub returns-in-Mkdir-clause-once : goal.returns-in-Mkdir-clause-once
-returns-in-Mkdir-clause-once g c tells between area con log_pages limit =
+returns-in-Mkdir-clause-once g c tells others between area con log_pages limit =
     let v = volume_in (page_of (g.V.PageView.image c.args.view.now)) area c.args.maps.now in
     nothing_freed v.used c.name_outcome.result (c.name_outcome.ensures.frees tells)
 
@@ -85,7 +85,7 @@ pub returns-in-Write-clause-starts : goal.returns-in-Write-clause-starts
 returns-in-Write-clause-starts g c tells between area con log_pages limit = rw c.in-Write.is (c.write_outcome.ensures.starts tells between area con log_pages limit)
 
 pub returns-in-Write-clause-once : goal.returns-in-Write-clause-once
-returns-in-Write-clause-once g c tells between area con log_pages limit =
+returns-in-Write-clause-once g c tells others between area con log_pages limit =
     let v = volume_in (page_of (g.V.PageView.image c.args.view.now)) area c.args.maps.now in
     nothing_freed v.used c.write_outcome.result (c.write_outcome.ensures.frees tells)
 
@@ -96,6 +96,51 @@ pub returns-in-Fill-clause-starts : goal.returns-in-Fill-clause-starts
 returns-in-Fill-clause-starts g c tells between area con log_pages limit = rw c.in-Fill.is (c.fill_outcome.ensures.starts tells between area con log_pages limit)
 
 pub returns-in-Fill-clause-once : goal.returns-in-Fill-clause-once
-returns-in-Fill-clause-once g c tells between area con log_pages limit =
+returns-in-Fill-clause-once g c tells others between area con log_pages limit =
     let v = volume_in (page_of (g.V.PageView.image c.args.view.now)) area c.args.maps.now in
     nothing_freed v.used c.fill_outcome.result (c.fill_outcome.ensures.frees tells)
+
+pub returns-in-Rename-clause-follows : goal.returns-in-Rename-clause-follows
+returns-in-Rename-clause-follows g c tells between area con log_pages limit =
+    let blocks = g.V.PageView.block_count c.args.view.now in
+    let pages = page_of (g.V.PageView.image c.args.view.now) in
+    let maps = c.args.maps.now in
+    let call = c.args.request.now.call in
+    let v = volume_in pages area maps in
+    let room = room_on (readers blocks) v blocks log_pages in
+    or_not (bars blocks pages maps call) blocks maps.blocks v (Wants maps call) (λ t. outcome room t call c.args.now) c.rename_outcome.result (rw c.in-Rename.is (c.rename_outcome.ensures.follows tells between area con log_pages limit))
+
+pub returns-in-Rename-clause-data : goal.returns-in-Rename-clause-data
+returns-in-Rename-clause-data g c = fits_none (g.V.PageView.block_count c.args.view.now) c.rename_outcome.result c.rename_outcome.ensures.none
+
+pub returns-in-Rename-clause-starts : goal.returns-in-Rename-clause-starts
+returns-in-Rename-clause-starts g c tells between area con log_pages limit =
+    starts_none (g.V.PageView.block_count c.args.view.now) (volume_in (page_of (g.V.PageView.image c.args.view.now)) area c.args.maps.now) c.args.request.now.call c.rename_outcome.result con c.rename_outcome.ensures.none
+
+pub returns-in-Rename-clause-single : goal.returns-in-Rename-clause-single
+returns-in-Rename-clause-single g c tells few = once_none c.rename_outcome.result c.rename_outcome.ensures.none
+
+pub returns-in-Mkdir-clause-own : goal.returns-in-Mkdir-clause-own
+returns-in-Mkdir-clause-own g c tells between area con log_pages limit =
+    let v = volume_in (page_of (g.V.PageView.image c.args.view.now)) area c.args.maps.now in
+    used_freed v.used c.name_outcome.result (nothing_freed v.used c.name_outcome.result (c.name_outcome.ensures.frees tells))
+
+pub returns-in-Write-clause-own : goal.returns-in-Write-clause-own
+returns-in-Write-clause-own g c tells between area con log_pages limit =
+    let v = volume_in (page_of (g.V.PageView.image c.args.view.now)) area c.args.maps.now in
+    used_freed v.used c.write_outcome.result (nothing_freed v.used c.write_outcome.result (c.write_outcome.ensures.frees tells))
+
+pub returns-in-Fill-clause-own : goal.returns-in-Fill-clause-own
+returns-in-Fill-clause-own g c tells between area con log_pages limit =
+    let v = volume_in (page_of (g.V.PageView.image c.args.view.now)) area c.args.maps.now in
+    used_freed v.used c.fill_outcome.result (nothing_freed v.used c.fill_outcome.result (c.fill_outcome.ensures.frees tells))
+
+pub returns-in-Unlink-clause-own : goal.returns-in-Unlink-clause-own
+returns-in-Unlink-clause-own g c tells between area con log_pages limit =
+    let v = volume_in (page_of (g.V.PageView.image c.args.view.now)) area c.args.maps.now in
+    used_freed v.used c.change_outcome.result (c.change_outcome.ensures.once tells between area con log_pages limit)
+
+pub returns-in-Truncate-clause-own : goal.returns-in-Truncate-clause-own
+returns-in-Truncate-clause-own g c tells between area con log_pages limit =
+    let v = volume_in (page_of (g.V.PageView.image c.args.view.now)) area c.args.maps.now in
+    used_freed v.used c.size_outcome.result (c.size_outcome.ensures.once tells between area con log_pages limit)
