@@ -3,7 +3,8 @@
 use crate::volume::{TestVolume, page_of};
 use jfs_disk::PageList;
 use jfs_image::tree_of;
-use jfs_plain::{Node, PlainTree};
+use jfs_name::NameEntry;
+use jfs_plain::{Node, PlainTree, Reply};
 use std::alloc::Global;
 
 /// So many inode numbers are looked at.
@@ -43,11 +44,48 @@ fn same_node(alloc: Global, n: u32, a: &Node, b: &Node) -> bool {
         && same_names(alloc, a, b)
 }
 
+/// Whether a file of so many bytes holds the same in two trees.
+fn same_bytes(n: u32, size: u64, a: &PlainTree, b: &PlainTree) -> bool {
+    for i in 0..size {
+        if a.byte(n, i) != b.byte(n, i) {
+            return false;
+        }
+    }
+    true
+}
+
+/// Whether two replies are the same.
+pub fn same_reply(a: &Reply, b: &Reply) -> bool {
+    match (a, b) {
+        (Reply::Done, Reply::Done) => true,
+        (Reply::Bytes(x), Reply::Bytes(y)) => x.as_slice() == y.as_slice(),
+        (Reply::Attr(x), Reply::Attr(y)) => x == y,
+        (Reply::Names(x), Reply::Names(y)) => same_list(x.as_slice(), y.as_slice()),
+        (Reply::Target(x), Reply::Target(y)) => x.as_slice() == y.as_slice(),
+        (Reply::Refused(x), Reply::Refused(y)) => x == y,
+        _ => false,
+    }
+}
+
+fn same_list(a: &[NameEntry], b: &[NameEntry]) -> bool {
+    if a.len() != b.len() {
+        return false;
+    }
+    for i in 0..a.len() {
+        if a[i].inode != b[i].inode || a[i].name.as_slice() != b[i].name.as_slice() {
+            return false;
+        }
+    }
+    true
+}
+
 /// The first inode number at which two trees differ.
 pub fn first_difference(alloc: Global, a: &PlainTree, b: &PlainTree) -> Option<u32> {
     for n in 0..MOST {
         let same = match (a.node(n), b.node(n)) {
-            (Some(x), Some(y)) => same_node(alloc, n, x, y),
+            (Some(x), Some(y)) => {
+                same_node(alloc, n, x, y) && (!x.is_file() || same_bytes(n, x.size, a, b))
+            }
             (None, None) => true,
             _ => false,
         };

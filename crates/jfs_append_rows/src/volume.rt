@@ -4,6 +4,7 @@ use jfs_bits::{Moment, Pxd, clear_run, get_u32, set_run};
 use jfs_bmap::BlockMap;
 use jfs_check::check;
 use jfs_disk::{Disk, Page, SureDisk};
+use jfs_files::{DataList, Maps};
 use jfs_format::format;
 use jfs_imap::InodeMap;
 use jfs_inode_rows::places_of;
@@ -13,6 +14,9 @@ use std::alloc::{AllocError, Global};
 use uuid::Uuid;
 
 pub const BLOCKS: u32 = 3008;
+
+/// No file may be larger, in bytes.
+pub const LIMIT: u64 = 60_000;
 
 /// The time of the formatting.
 pub const MADE: Moment = Moment { sec: 1000, nano: 7 };
@@ -81,12 +85,16 @@ fn block_map(alloc: Global, set: &[u8; 1024]) -> Result<BlockMap, AllocError> {
 }
 
 /// The two maps of the volume, as a mount gives them.
-pub fn maps_of(alloc: Global, volume: &mut TestVolume) -> Option<(BlockMap, InodeMap)> {
+pub fn maps_of(alloc: Global, volume: &mut TestVolume) -> Option<Maps> {
     let blocks = block_map(alloc, &volume.used).ok()?;
     let set = inodes_in_use(&mut volume.disk, volume.places.as_slice());
     let list = places_of(alloc, volume.places.as_slice(), 1).ok()?;
     let inodes = InodeMap::from_parts(alloc, &set, &list, 1, 8192, 1).ok()?;
-    Some((blocks, inodes))
+    Some(Maps {
+        blocks,
+        inodes,
+        file_limit: LIMIT,
+    })
 }
 
 /// Takes a run, or frees it.
@@ -117,6 +125,16 @@ fn add_extent(volume: &mut TestVolume, page: u32, bytes: &[u8]) -> bool {
         .is_ok()
 }
 
+/// Writes blocks of files.
+pub fn put_data(volume: &mut TestVolume, blocks: &DataList) -> bool {
+    for data in blocks.as_slice() {
+        if !put_page(&mut volume.disk, data.block, &data.page) {
+            return false;
+        }
+    }
+    true
+}
+
 /// Does what a transaction says: to pages, and to both sets.
 pub fn append(volume: &mut TestVolume, tx: &Tx) -> bool {
     for n in 0..BLOCKS {
@@ -145,9 +163,10 @@ pub fn append(volume: &mut TestVolume, tx: &Tx) -> bool {
 
 /// Writes the maps home.
 pub fn write_maps(alloc: Global, volume: &mut TestVolume) -> bool {
-    let Some((blocks, inodes)) = maps_of(alloc, volume) else {
+    let Some(maps) = maps_of(alloc, volume) else {
         return false;
     };
+    let Maps { blocks, inodes, .. } = maps;
     let mut page = Page::zeros();
     for n in 0..blocks.pages().min(11) {
         if blocks.is_in_use(n) {
