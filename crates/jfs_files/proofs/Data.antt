@@ -1,5 +1,5 @@
 -- Data that calls write, and blocks that they free.
-use Rattle.std.proofs.Common.{refl, sym, subst, ℕ, Bool, List, [], ◌∷◌, ◌++◌, Option, Some, None, arith}
+use Rattle.std.proofs.Common.{refl, sym, subst, inl, ℕ, Bool, List, [], ◌∷◌, ◌++◌, Option, Some, None, arith}
 use Rattle.jfs_bits.specs.declared.descriptor.Moment.{Moment}
 use Rattle.jfs_bits.specs.declared.descriptor.Pxd.{Pxd}
 use Rattle.jfs_bits.specs.declared.rule.PageKind.TheVariants as kinds
