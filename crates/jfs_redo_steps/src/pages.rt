@@ -1,12 +1,12 @@
 //! The pages of a disk after redo.
 
-ghost use Rattle.std.specs.Prelude.{◌≡◌, ◌≤◌, ◌<◌, ◌*◌, ◌%◌, ◌^◌, ◌||◌, ◌&&◌, true, ℕ, nat_le, nat_lt, [], ◌∷◌, length, set, OnOk};
+ghost use Rattle.std.specs.Prelude.{◌≡◌, ◌≤◌, ◌<◌, ◌*◌, ◌%◌, ◌^◌, ◌||◌, ◌&&◌, true, ℕ, nat_le, nat_lt, [], ◌∷◌, length, set, OnOk, OnErr};
 ghost use Rattle.jfs_bits.specs.Bits.{is_taken};
 ghost use Rattle.jfs_disk.specs.Image.{page_of, ArePages};
 ghost use Rattle.jfs_disk.specs.Fault.{HasCause};
 ghost use Rattle.jfs_ranges.specs.Apply.{touches_tx};
 ghost use Rattle.jfs_records.specs.Redo.{redone, all_of};
-ghost use Rattle.jfs_redo_steps.specs.Pages.{ArePagesRedone};
+ghost use Rattle.jfs_redo_steps.specs.Pages.{ArePagesRedone, MayBeTorn, IsStopped};
 
 use crate::page::redo_page;
 use jfs_bits::{bit, set_run};
@@ -79,6 +79,7 @@ pub fn redo_pages<D: Disk>(
     ensures pages { D.page_count disk.new ≡ D.page_count disk.old }
     ensures room { D.room disk.new ≡ D.room disk.old }
     ensures redone { D.tells → OnOk result (ArePagesRedone count (all_of transactions.now) (D.image disk.old) (D.image disk.new)) }
+    ensures stopped { D.tells → OnErr result (IsStopped count (all_of transactions.now) (D.image disk.old) (D.image disk.new)) }
     ensures cause { HasCause (D.fault_count disk.old) (D.fault_count disk.new) result }
 {
     let mut page = Page::zeros();
@@ -104,6 +105,7 @@ fn redo_on_disk<D: Disk>(
     ensures pages { D.page_count disk.new ≡ D.page_count disk.old }
     ensures room { D.room disk.new ≡ D.room disk.old }
     ensures redone { D.tells → OnOk result (D.image disk.new ≡ set (D.image disk.old) p (redone p (page_of (D.image disk.old) p) (page_of (D.image disk.old) p) (all_of transactions.now))) }
+    ensures torn { D.tells → OnErr result (MayBeTorn p (all_of transactions.now) (D.image disk.old) (D.image disk.new)) }
     ensures cause { HasCause (D.fault_count disk.old) (D.fault_count disk.new) result }
 {
     match disk.read(p, page) {
@@ -111,5 +113,8 @@ fn redo_on_disk<D: Disk>(
         Err(e) => return Err(e),
     }
     redo_page(transactions, p, page);
-    disk.write(p, page)
+    match disk.write(p, page) {
+        Ok(()) => Ok(()),
+        Err(e) => Err(e),
+    }
 }
