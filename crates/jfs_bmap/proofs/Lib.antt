@@ -30,3 +30,4 @@ pub mod Settling
 pub mod States
 pub mod Views
 pub mod Within
+pub mod Overlap

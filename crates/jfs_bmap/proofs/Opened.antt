@@ -1,14 +1,14 @@
 -- What the fields of an opened map say about its value, and what a run that changes its state does to them.
-use Rattle.std.proofs.Common.{◌≡◌, ◌<◌, ◌≤◌, ◌+◌, ◌^◌, ℕ, Bool, true, not, [], ◌∷◌, length, sym, ap, ◌∙◌, subst, arith}
+use Rattle.std.proofs.Common.{◌≡◌, ◌<◌, ◌≤◌, ◌+◌, ◌^◌, ℕ, Bool, true, not, ◌&&◌, [], ◌∷◌, length, sym, ap, ◌∙◌, subst, arith}
 use Rattle.jfs_bits.specs.Bits.{is_in_run, is_free, is_full}
 use Rattle.jfs_bits.proofs.Counts.{count_below-most}
 use Rattle.jfs_bmap.specs.declared.block_map.BlockMap.TheInside.{Inside}
 use Rattle.std.specs.Prelude.{Option, Some, None}
 use Rattle.std.specs.BinaryHeap.{heap_items}
 use Rattle.jfs_bmap.specs.Set.{taken_at, free_in, IsLowest, IsFreeFront}
-use Rattle.jfs_bmap.specs.States.{Free, Owned, Reserved, Blocks, state_of, is_used, is_owned, free_count, busy_count, unowned_count, put_state, all_settled}
+use Rattle.jfs_bmap.specs.States.{Free, Owned, Reserved, Blocks, state_of, is_used, is_owned, is_reserved, free_count, busy_count, unowned_count, put_state, all_settled}
 use Rattle.jfs_bmap.specs.Kept.{Parts, state_in, AreKept}
-use Rattle.jfs_bmap.proofs.States.{view_of, view-length, state-at, used-view, owned-view, settled-view, free_count-view, unowned_count-view, busy_count-view, reserved, kept-reserved, view-reserved, free-unheld, reserved-within, reserved-held, reserved-used, reserved-unowned, given_back, kept-given_back, view-given_back, with_owner, kept-owned, view-owned}
+use Rattle.jfs_bmap.proofs.States.{view_of, view-length, state-at, used-view, owned-view, reserved-view, settled-view, free_count-view, unowned_count-view, busy_count-view, reserved, kept-reserved, view-reserved, free-unheld, reserved-within, reserved-held, reserved-used, reserved-unowned, given_back, kept-given_back, view-given_back, with_owner, kept-owned, view-owned}
 use Rattle.jfs_bmap.proofs.Reservations.{lowest-free, none-free}
 
 abbrev pub parts : Inside → Parts
@@ -26,6 +26,9 @@ module _ (m : Inside) (value : Blocks) (is : view m ≡ value) where
 
   pub owned-is : AreKept (parts m) → is_owned value ≡ taken_at m.owned
   owned-is kept = ap is_owned (sym is) ∙ owned-view (parts m) m.agsize m.spare kept
+
+  pub reserved-is : AreKept (parts m) → (b : ℕ) → is_reserved value b ≡ (taken_at m.held b && not (taken_at m.owned b))
+  reserved-is kept b = ap (λ (z : Blocks). is_reserved z b) (sym is) ∙ reserved-view (parts m) m.agsize m.spare kept b
 
   pub used-is : AreKept (parts m) → is_used value ≡ taken_at m.used
   used-is kept = ap is_used (sym is) ∙ used-view (parts m) m.agsize m.spare kept

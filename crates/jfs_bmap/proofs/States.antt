@@ -10,7 +10,7 @@ use Rattle.jfs_bits.proofs.Runs.{is_free-at, is_free-from, all_below-from}
 use Rattle.jfs_bits.proofs.Counts.{in_run, count_below-same, count_below-nothing}
 use Rattle.jfs_bmap.specs.declared.freed.Freed.{Freed}
 use Rattle.jfs_bmap.specs.Set.{each_below, taken_at, marked, cleared, free_in}
-use Rattle.jfs_bmap.specs.States.{BlockState, Free, Owned, Reserved, Busy, is_free_state, is_owned_state, is_busy_state, Blocks, state_of, is_used, is_owned, free_count, busy_count, unowned_count, is_in_list, changed, put_state, all_settled}
+use Rattle.jfs_bmap.specs.States.{BlockState, Free, Owned, Reserved, Busy, is_free_state, is_owned_state, is_reserved_state, is_reserved, is_busy_state, Blocks, state_of, is_used, is_owned, free_count, busy_count, unowned_count, is_in_list, changed, put_state, all_settled}
 use Rattle.jfs_bmap.specs.Freed.{entry_at}
 use Rattle.jfs_bmap.specs.Kept.{Parts, state_in, ArePending, AreKept}
 use Rattle.jfs_bmap.proofs.Balances.{count_balance}
@@ -40,6 +40,14 @@ owned-by true h u e = refl
 owned-by false true u e = refl
 owned-by false false true e = refl
 owned-by false false false e = refl
+
+-- a block is reserved that is held and has no owner
+reserved_state-by : (o h u : Bool) (e : ℕ) → is_reserved_state (state_by o h u e) ≡ (h && not o)
+reserved_state-by true true u e = refl
+reserved_state-by true false u e = refl
+reserved_state-by false true u e = refl
+reserved_state-by false false true e = refl
+reserved_state-by false false false e = refl
 
 -- once a busy block is settled, a block is free unless it is held
 settled-by : (o h u : Bool) (e : ℕ) → (o ≡ true → h ≡ true) → not (is_free_state (if is_busy_state (state_by o h u e) then Free else state_by o h u e)) ≡ h
@@ -130,6 +138,9 @@ module _ (p : Parts) (agsize spare : ℕ) (kept : AreKept p) where
 
   owned-at : (b : ℕ) → is_owned (view_of p agsize spare) b ≡ taken_at p.owned b
   owned-at b = ap is_owned_state (state-at p agsize spare b ∙ state_in-by p b) ∙ owned-by (taken_at p.owned b) (taken_at p.held b) (taken_at p.used b) (entry_at p.entries b)
+
+  pub reserved-view : (b : ℕ) → is_reserved (view_of p agsize spare) b ≡ (taken_at p.held b && not (taken_at p.owned b))
+  reserved-view b = ap is_reserved_state (state-at p agsize spare b ∙ state_in-by p b) ∙ reserved_state-by (taken_at p.owned b) (taken_at p.held b) (taken_at p.used b) (entry_at p.entries b)
 
   pub owned-view : is_owned (view_of p agsize spare) ≡ taken_at p.owned
   owned-view = λ i b. owned-at b i

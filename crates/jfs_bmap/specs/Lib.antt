@@ -10,3 +10,4 @@ pub mod Laws
 -- lemmas and how things are kept: for the prover
 pub mod Freed
 pub mod Kept
+pub mod Overlap

@@ -24,6 +24,12 @@ is_owned_state Owned = true
 is_owned_state Reserved = false
 is_owned_state (Busy entry) = false
 
+abbrev pub is_reserved_state : BlockState → Bool
+is_reserved_state Free = false
+is_reserved_state Owned = false
+is_reserved_state Reserved = true
+is_reserved_state (Busy entry) = false
+
 abbrev pub is_busy_state : BlockState → Bool
 is_busy_state Free = false
 is_busy_state Owned = false
@@ -47,6 +53,10 @@ is_used m b = not (is_free_state (state_of m b))
 -- a page of the map has a block set while it has an owner
 abbrev pub is_owned : Blocks → ℕ → Bool
 is_owned m b = is_owned_state (state_of m b)
+
+-- a block is reserved for an entry that is being made
+abbrev pub is_reserved : Blocks → ℕ → Bool
+is_reserved m b = is_reserved_state (state_of m b)
 
 abbrev pub free_count : Blocks → ℕ
 free_count m = count_below (length m.states) (λ b. is_free_state (state_of m b))

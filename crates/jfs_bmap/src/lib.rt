@@ -14,6 +14,7 @@ mod page_of_set;
 mod release;
 mod reserve;
 mod reserve_each;
+mod reserved;
 mod settle;
 
 pub use block_map::BlockMap;

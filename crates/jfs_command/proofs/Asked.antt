@@ -5,7 +5,7 @@ use Rattle.uuid.specs.Text.{parsed}
 use Rattle.jfs_command.specs.declared.words.Usage.{Usage}
 use Rattle.jfs_command.specs.declared.words.Command.{Command}
 use Rattle.jfs_command.specs.declared.words.Job.{Job}
-use Rattle.jfs_command.specs.declared.words.Job.TheVariants.{Super, Log, Check}
+use Rattle.jfs_command.specs.declared.words.Job.TheVariants.{Super, Log, Check, Redo}
 use Rattle.jfs_command.specs.Words.{is_name, is_label, image_alone, with_label, after_uuid, with_uuid, image_and_uuid, command_of, scripts_asked}
 
 -- whichever is chosen of two that ask for none
@@ -41,4 +41,5 @@ none_asked (first ∷ rest) =
     either (bytes_eq first (codes "super")) _ _ (alone Super rest)
     (either (bytes_eq first (codes "log")) _ _ (alone Log rest)
     (either (bytes_eq first (codes "check")) _ _ (alone Check rest)
-    (either (bytes_eq first (codes "format")) _ _ (formats rest) refl)))
+    (either (bytes_eq first (codes "redo")) _ _ (alone Redo rest)
+    (either (bytes_eq first (codes "format")) _ _ (formats rest) refl))))

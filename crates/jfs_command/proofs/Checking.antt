@@ -35,7 +35,7 @@ abbrev pub check_behind : Behind
 check_behind = record { looks = LooksAtVolume; says = λ tells held. CheckSays tells held.image; judged = IsRefused }
 
 -- what is said where the state is taken is what counts
-next_after : (taken : Bool) (state : ℕ) (says said : Answer → Type 0) (answer : Answer) → (taken ≡ true → says answer → said answer) → AfterState taken state says answer → AfterState taken state said answer
+pub next_after : (taken : Bool) (state : ℕ) (says said : Answer → Type 0) (answer : Answer) → (taken ≡ true → says answer → said answer) → AfterState taken state says answer → AfterState taken state said answer
 next_after true state says said answer next it = next refl it
 next_after false state says said answer next it = it
 

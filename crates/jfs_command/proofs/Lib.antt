@@ -10,4 +10,7 @@ pub mod LogLines
 pub mod LogShown
 pub mod Formatting
 pub mod Checking
+pub mod RedoSaid
+pub mod RedoMounted
+pub mod Redoing
 pub mod Concluding

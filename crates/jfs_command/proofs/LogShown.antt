@@ -39,12 +39,12 @@ same_says pages blocks a b answer some same (is_foreign label is e) = is_foreign
 same_says pages blocks a b answer some same (is_bad address rule is e) = is_bad address rule (looks pages blocks a b some same (Err (errors.BadLog address rule)) is) e
 
 -- what is answered of a refusal
-abbrev answer_for : RingError → Answer
+abbrev pub answer_for : RingError → Answer
 answer_for (errors.ForeignLog label) = refused (statuses.ForeignLog label)
 answer_for (errors.BadLog address rule) = refused (statuses.BadLog address rule)
 answer_for _ = refused statuses.Done
 
-one_refusal : (pages blocks : ℕ) (log : Image) (a b : RingError) → 2 < pages → (TellsNothing a → ⊥) → (TellsNothing b → ⊥) → IsReadLog pages blocks log (Err a) → IsReadLog pages blocks log (Err b) → answer_for a ≡ answer_for b
+pub one_refusal : (pages blocks : ℕ) (log : Image) (a b : RingError) → 2 < pages → (TellsNothing a → ⊥) → (TellsNothing b → ⊥) → IsReadLog pages blocks log (Err a) → IsReadLog pages blocks log (Err b) → answer_for a ≡ answer_for b
 one_refusal pages blocks log a b some tells_a tells_b x y = by (has-one pages blocks log some (Err a) (Err b) x y)
   where
     by : (a ≡ b) ⊎ (TellsNothing a ⊎ TellsNothing b) → answer_for a ≡ answer_for b
@@ -53,7 +53,7 @@ one_refusal pages blocks log a b some tells_a tells_b x y = by (has-one pages bl
     by (inr (inr nothing)) = absurd (tells_b nothing)
 
 -- the records of one text from the place on that the newest SYNCPT gives
-one_list : (ring first blocks : ℕ) (text : List ℕ) (m m' : Met) (ms ms' : List Met) → 0 < ring → length text ≤ 4080 * (ring / 2) → FromSync ring first blocks text m ms → FromSync ring first blocks text m' ms' → m ∷ ms ≡ m' ∷ ms'
+pub one_list : (ring first blocks : ℕ) (text : List ℕ) (m m' : Met) (ms ms' : List Met) → 0 < ring → length text ≤ 4080 * (ring / 2) → FromSync ring first blocks text m ms → FromSync ring first blocks text m' ms' → m ∷ ms ≡ m' ∷ ms'
 one_list ring first blocks text m m' ms ms' some half x y =
     list_of (ends-once ring first blocks text (Ok (m ∷ ms)) (Ok (m' ∷ ms')) some half (read-ending ring first blocks text m ms x) (read-ending ring first blocks text m' ms' y))
   where

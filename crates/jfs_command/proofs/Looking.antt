@@ -46,7 +46,7 @@ faults_of d old new = record { before = d.fault_count old; now = d.fault_count n
 page8_same : (c : Behind) (a b : Held) → GoesOn c → LooksSame (c.looks a) a b → SamePage8 a b
 page8_same c a b goes same = record { pages = same.pages; page = λ there. same.each 8 (goes.page8 a there) }
 
-looked : (c : Behind) (tells : Type 0) (a b : Held) (answer : Answer) → GoesOn c → LooksSame (c.looks a) a b → AfterSuperblock a (c.says tells a) answer → AfterSuperblock b (c.says tells b) answer
+pub looked : (c : Behind) (tells : Type 0) (a b : Held) (answer : Answer) → GoesOn c → LooksSame (c.looks a) a b → AfterSuperblock a (c.says tells a) answer → AfterSuperblock b (c.says tells b) answer
 looked c tells a b answer goes same said =
     same_after a b (c.says tells a) (c.says tells b) answer (page8_same c a b goes same) (λ accepted said. goes.rests tells a b answer accepted same said) said
 

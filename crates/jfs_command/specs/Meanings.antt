@@ -7,12 +7,14 @@ use Rattle.jfs_command.specs.Meaning.{Meaning}
 use Rattle.jfs_command.specs.Super.{super_meaning}
 use Rattle.jfs_command.specs.Log.{log_meaning}
 use Rattle.jfs_command.specs.Check.{check_meaning}
+use Rattle.jfs_command.specs.Redo.{redo_meaning}
 use Rattle.jfs_command.specs.Format.{format_meaning}
 
 abbrev pub job_meaning : Job → Inputs → Meaning
 job_meaning jobs.Super inputs = super_meaning
 job_meaning jobs.Log inputs = log_meaning
 job_meaning jobs.Check inputs = check_meaning
+job_meaning jobs.Redo inputs = redo_meaning
 job_meaning (jobs.Format uuid label) inputs = format_meaning uuid label inputs.now
 
 abbrev pub meaning_of : Command → Inputs → Meaning

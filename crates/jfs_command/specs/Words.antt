@@ -9,7 +9,7 @@ use Rattle.jfs_command.specs.declared.words.Usage.{Usage}
 use Rattle.jfs_command.specs.declared.words.Command.{Command}
 use Rattle.jfs_command.specs.declared.words.Scripts.{Scripts}
 use Rattle.jfs_command.specs.declared.words.Job.{Job}
-use Rattle.jfs_command.specs.declared.words.Job.TheVariants.{Super, Log, Check, Format}
+use Rattle.jfs_command.specs.declared.words.Job.TheVariants.{Super, Log, Check, Redo, Format}
 use Rattle.jfs_command.specs.declared.words.PathsError.{PathsError}
 use Rattle.jfs_command.specs.declared.words.PathsError.TheVariants as errors
 
@@ -81,6 +81,7 @@ command_of (first ∷ rest) =
     if bytes_eq first (codes "super") then image_alone Super rest
     else if bytes_eq first (codes "log") then image_alone Log rest
     else if bytes_eq first (codes "check") then image_alone Check rest
+    else if bytes_eq first (codes "redo") then image_alone Redo rest
     else if bytes_eq first (codes "format") then image_and_uuid rest
     else usage 1
 

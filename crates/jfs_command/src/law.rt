@@ -2,6 +2,7 @@
 
 ghost use Rattle.jfs_command.specs.Check.{CheckSaysOneThing};
 ghost use Rattle.jfs_command.specs.Log.{LogSaysOneThing};
+ghost use Rattle.jfs_command.specs.Redo.{RedoSaysOneThing};
 
 /// Of one log one answer is given, text and all.
 pub fn log_says_one_thing()
@@ -11,4 +12,9 @@ pub fn log_says_one_thing()
 /// Of one volume one answer is given, text and all, where the disk tells.
 pub fn check_says_one_thing()
     ensures { CheckSaysOneThing }
+{}
+
+/// Of one volume one answer of a redo is given, text and all, where the disk tells.
+pub fn redo_says_one_thing()
+    ensures { RedoSaysOneThing }
 {}

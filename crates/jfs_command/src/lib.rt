@@ -10,6 +10,7 @@ mod log_text;
 mod outcome;
 mod perform;
 mod print;
+mod redo;
 mod show;
 mod status;
 mod superblock;
@@ -17,7 +18,7 @@ mod text;
 mod top;
 mod words;
 
-pub use law::{check_says_one_thing, log_says_one_thing};
+pub use law::{check_says_one_thing, log_says_one_thing, redo_says_one_thing};
 pub use status::Status;
 pub use top::{Ended, jfs_top, jfs_without_clients};
 pub use words::{Paths, PathsError, Usage, paths_of};

@@ -10,6 +10,7 @@ use crate::check::check_volume;
 use crate::format::format_volume;
 use crate::log::show_log;
 use crate::outcome::Outcome;
+use crate::redo::redo_volume;
 use crate::show::show_super;
 use crate::words::{Command, Job};
 use jfs_bits::Moment;
@@ -53,6 +54,7 @@ fn on_disk<D: Disk>(alloc: Global, job: Job, now: Moment, disk: &mut D) -> Outco
         Job::Super => show_super(alloc, disk),
         Job::Log => show_log(alloc, disk),
         Job::Check => check_volume(alloc, disk),
+        Job::Redo => redo_volume(alloc, disk),
         Job::Format { uuid, label } => format_volume(alloc, disk, uuid, &label, now),
     }
 }

@@ -1,6 +1,7 @@
 //! The look at the superblock with which commands begin.
 
-ghost use Rattle.std.specs.Prelude.{◌≡◌, ◌≤◌};
+ghost use Rattle.std.specs.Prelude.{◌≡◌, ◌≤◌, IfOk};
+ghost use Rattle.jfs_super.specs.Super.{FitsSuper};
 ghost use Rattle.jfs_command.specs.Superblock.{Looks};
 
 use crate::outcome::End;
@@ -15,6 +16,7 @@ pub const SUPERBLOCK: u32 = 8;
 pub fn look<D: Disk>(disk: &mut D) -> Result<Super, End>
     ensures cause { Looks D.tells (D.page_count disk.old) (D.image disk.old)
         (record { before = D.fault_count disk.old; now = D.fault_count disk.new }) result }
+    ensures fits { IfOk result FitsSuper }
     ensures later { D.fault_count disk.old ≤ D.fault_count disk.new }
     ensures pages { D.page_count disk.new ≡ D.page_count disk.old }
     ensures image { D.tells → D.image disk.new ≡ D.image disk.old }

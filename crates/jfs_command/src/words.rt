@@ -24,6 +24,8 @@ pub enum Job {
     Log,
     /// List what is wrong with the volume of the image.
     Check,
+    /// Redo the volume of the image by its log.
+    Redo,
     /// Write an empty volume over all pages of the image; behind the label stand zeros.
     Format { uuid: Uuid, label: [u8; 16] },
 }
@@ -110,6 +112,7 @@ pub fn read_words(words: &[Vec<u8>]) -> Result<Command, Usage>
         [first, rest @ ..] if is_word(first, b"super") => image_alone(Job::Super, rest),
         [first, rest @ ..] if is_word(first, b"log") => image_alone(Job::Log, rest),
         [first, rest @ ..] if is_word(first, b"check") => image_alone(Job::Check, rest),
+        [first, rest @ ..] if is_word(first, b"redo") => image_alone(Job::Redo, rest),
         [first, rest @ ..] if is_word(first, b"format") => image_and_uuid(rest),
         _ => Err(Usage { word: 1 }),
     }

@@ -29,7 +29,7 @@ use Rattle.jfs_write.specs.declared.make.Written.{Written}
 use Rattle.jfs_files.specs.Outcome.{CarriesOutcome, ReservesAlone, KeepsMaps, MapsAfter, AreBetweenCalls, IsBusyFor, WantsBytes, AnswersAs, AnswersOr, volume_in}
 use Rattle.jfs_files.specs.Written.{FitsData, FreesNothing, Starts}
 use Rattle.jfs_files.specs.Bytes.{outcome_of, MeetsBytes}
-use Rattle.jfs_files.specs.declared.outcome.Maps.{Maps}
+use Rattle.jfs_map_files.specs.declared.maps.Maps.{Maps}
 use Rattle.jfs_files.specs.declared.outcome.FileOutcome.{FileOutcome}
 use Rattle.jfs_files.specs.declared.outcome.FileOutcome.TheVariants.{Changed, Same, NeedsLog}
 use Rattle.jfs_plain.specs.declared.reply.Reply.TheVariants as reply

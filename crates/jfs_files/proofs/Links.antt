@@ -22,7 +22,7 @@ use Rattle.jfs_claim.proofs.Looks.{settled_is_enough}
 use Rattle.jfs_link.specs.Link.{ReservesTaken, want_of_name, unless_full, unless_deep, joint_of, asked_of, asked}
 use Rattle.jfs_link.specs.declared.asking.Joint.{Joint}
 use Rattle.jfs_files.specs.Outcome.{reserved_by, TakesFree, IsBusyFor}
-use Rattle.jfs_files.specs.declared.outcome.Maps.{Maps}
+use Rattle.jfs_map_files.specs.declared.maps.Maps.{Maps}
 
 -- ---- the blocks that are reserved
 

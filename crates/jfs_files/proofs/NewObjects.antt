@@ -11,7 +11,7 @@ use Rattle.jfs_create.specs.declared.new.NewObject.{NewObject}
 use Rattle.jfs_create.specs.declared.reserve.Stop.TheVariants as stops
 use Rattle.jfs_create.proofs.Sites.{founding}
 use Rattle.jfs_files.specs.Outcome.{IsBusyFor, WantsInode}
-use Rattle.jfs_files.specs.declared.outcome.Maps.{Maps}
+use Rattle.jfs_map_files.specs.declared.maps.Maps.{Maps}
 use Rattle.jfs_files.proofs.Links.{enough_for}
 
 most_wanted : (run : Bool) → total (want_with run) ≤ 12

@@ -20,7 +20,7 @@ use Rattle.jfs_rename.specs.declared.renaming.Renamed.TheVariants as renamed
 use Rattle.jfs_files.specs.Outcome.{CarriesOutcome, ReservesAlone, KeepsMaps, MapsAfter, AreBetweenCalls, AnswersAs, volume_in}
 use Rattle.jfs_files.specs.Renames.{outcome_by, MeetsRename}
 use Rattle.jfs_files.specs.Written.{WritesNone, FreesOrTaken}
-use Rattle.jfs_files.specs.declared.outcome.Maps.{Maps}
+use Rattle.jfs_map_files.specs.declared.maps.Maps.{Maps}
 use Rattle.jfs_files.proofs.Links.{maps_after}
 use Rattle.jfs_files.proofs.BytesPut.{same_maps}
 use Rattle.jfs_files.proofs.Renames.{busy_between}

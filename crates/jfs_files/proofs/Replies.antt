@@ -17,7 +17,7 @@ use Rattle.jfs_look.specs.Look.{IsAttr, IsNames}
 use Rattle.jfs_read.specs.Read.{IsBytes}
 use Rattle.jfs_readlink.specs.Target.{IsTarget}
 use Rattle.jfs_files.specs.Outcome.{reserved_by, TakesFree}
-use Rattle.jfs_files.specs.declared.outcome.Maps.{Maps}
+use Rattle.jfs_map_files.specs.declared.maps.Maps.{Maps}
 
 module _ (t : Tree) (plain : Outcome) where
   is_ok : (out told : Reply × Tree) → plain ≡ Ok out → out ≡ told → plain ≡ Ok told

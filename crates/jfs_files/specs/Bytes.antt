@@ -13,7 +13,7 @@ use Rattle.jfs_write.specs.declared.answer.Stop.{Stop}
 use Rattle.jfs_write.specs.declared.answer.Stop.TheVariants as stops
 use Rattle.jfs_write.specs.declared.make.Written.{Written}
 use Rattle.jfs_files.specs.Written.{Starts}
-use Rattle.jfs_files.specs.declared.outcome.Maps.{Maps}
+use Rattle.jfs_map_files.specs.declared.maps.Maps.{Maps}
 use Rattle.jfs_files.specs.declared.outcome.FileOutcome.{FileOutcome}
 use Rattle.jfs_files.specs.declared.outcome.FileOutcome.TheVariants.{Changed, Same, NeedsLog}
 

@@ -27,7 +27,7 @@ use Rattle.jfs_unlink.specs.Call.{Unlinks, unlink_of, Removes, rmdir_of}
 use Rattle.jfs_truncate.specs.Call.{truncate_of, Truncates}
 use Rattle.jfs_files.specs.Bytes.{MeetsBytes}
 use Rattle.jfs_files.specs.Renames.{MeetsRename}
-use Rattle.jfs_files.specs.declared.outcome.Maps.{Maps}
+use Rattle.jfs_map_files.specs.declared.maps.Maps.{Maps}
 use Rattle.jfs_files.specs.declared.outcome.FileOutcome.{FileOutcome}
 use Rattle.jfs_files.specs.declared.outcome.FileOutcome.TheVariants.{Changed, Same, NeedsLog}
 

@@ -27,7 +27,7 @@ use Rattle.jfs_claim.specs.declared.look.FreshInode.{FreshInode}
 use Rattle.jfs_claim.specs.declared.reserve.Want.{Want}
 use Rattle.jfs_create.specs.Reserved.{want_with}
 use Rattle.jfs_link.specs.Link.{want_of_name, ReservesFree}
-use Rattle.jfs_files.specs.declared.outcome.Maps.{Maps}
+use Rattle.jfs_map_files.specs.declared.maps.Maps.{Maps}
 use Rattle.jfs_files.specs.declared.outcome.FileOutcome.{FileOutcome}
 use Rattle.jfs_files.specs.declared.outcome.FileOutcome.TheVariants.{Changed, Same, NeedsLog}
 

@@ -9,7 +9,7 @@ use Rattle.jfs_plain.specs.declared.reply.Reply.TheVariants.{Done, Refused}
 use Rattle.jfs_rename.specs.Renames.{RenamesAs}
 use Rattle.jfs_rename.specs.declared.renaming.Renamed.{Renamed}
 use Rattle.jfs_rename.specs.declared.renaming.Renamed.TheVariants as renamed
-use Rattle.jfs_files.specs.declared.outcome.Maps.{Maps}
+use Rattle.jfs_map_files.specs.declared.maps.Maps.{Maps}
 use Rattle.jfs_files.specs.declared.outcome.FileOutcome.{FileOutcome}
 use Rattle.jfs_files.specs.declared.outcome.FileOutcome.TheVariants.{Changed, Same, NeedsLog}
 

@@ -9,8 +9,9 @@ ghost use Rattle.jfs_files.specs.Outcome.{CarriesOutcome, KeepsMaps, MapsAfter, 
 ghost use Rattle.jfs_files.specs.Written.{FitsData, FreesNothing};
 ghost use Rattle.jfs_files.specs.Bytes.{outcome_of, MeetsBytes, StartsWrite, StartsFill};
 
-use crate::outcome::{FileOutcome, Maps};
+use crate::outcome::FileOutcome;
 use jfs_bits::{Blob, Moment};
+use jfs_map_files::Maps;
 use jfs_name::Path;
 use jfs_ranges::PageView;
 use jfs_write::{Stop, Written, fill, write};

@@ -8,9 +8,10 @@ ghost use Rattle.jfs_files.specs.Outcome.{CarriesOutcome, MapsAfter, IfMounted, 
 ghost use Rattle.jfs_files.specs.Written.{WritesNone, FreesUsed};
 ghost use Rattle.jfs_files.specs.Meets.{Meets, takes_none};
 
-use crate::outcome::{FileOutcome, Maps};
+use crate::outcome::FileOutcome;
 use jfs_bits::Moment;
 use jfs_chmod::change_mode;
+use jfs_map_files::Maps;
 use jfs_plain::Call;
 use jfs_ranges::PageView;
 use jfs_unlink::{remove_directory, unlink};

@@ -11,10 +11,11 @@ ghost use Rattle.jfs_files.specs.Outcome.{CarriesOutcome, KeepsMaps, MapsAfter, 
 ghost use Rattle.jfs_files.specs.Written.{WritesNone, FreesNothing};
 ghost use Rattle.jfs_files.specs.Meets.{Meets, MeetsNew, MeetsLink, gives_name};
 
-use crate::outcome::{FileOutcome, Maps};
+use crate::outcome::FileOutcome;
 use jfs_bits::Moment;
 use jfs_create::{NewObject, Stop, make_object};
 use jfs_link::{Linked, link};
+use jfs_map_files::Maps;
 use jfs_name::Path;
 use jfs_plain::Call;
 use jfs_ranges::PageView;

@@ -4,20 +4,10 @@ ghost use Rattle.std.specs.Prelude.{◌≡◌, []};
 ghost use Rattle.jfs_plain.specs.declared.reply.Reply.TheVariants.{Refused};
 ghost use Rattle.jfs_files.specs.declared.outcome.FileOutcome.TheVariants.{Changed, Same};
 
-use jfs_bmap::BlockMap;
 use jfs_data_steps::DataList;
-use jfs_imap::InodeMap;
 use jfs_plain::{Refusal, Reply};
 use jfs_ranges::Tx;
 use std::alloc::Global;
-
-/// The two maps of a mounted volume, and the greatest size of a file in bytes, which the log's length decides.
-#[derive(Drop)]
-pub struct Maps {
-    pub blocks: BlockMap,
-    pub inodes: InodeMap,
-    pub file_limit: u64,
-}
 
 /// What a file call answers.
 #[derive(Drop)]

@@ -9,8 +9,9 @@ ghost use Rattle.jfs_files.specs.Outcome.{CarriesOutcome, KeepsMaps, MapsAfter, 
 ghost use Rattle.jfs_files.specs.Written.{WritesNone, FreesOrTaken};
 ghost use Rattle.jfs_files.specs.Renames.{outcome_by, MeetsRename};
 
-use crate::outcome::{FileOutcome, Maps};
+use crate::outcome::FileOutcome;
 use jfs_bits::Moment;
+use jfs_map_files::Maps;
 use jfs_name::Path;
 use jfs_plain::{Refusal, Reply};
 use jfs_ranges::PageView;

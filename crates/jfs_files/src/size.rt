@@ -8,8 +8,9 @@ ghost use Rattle.jfs_files.specs.Outcome.{CarriesOutcome, MapsAfter, IfMounted, 
 ghost use Rattle.jfs_files.specs.Written.{FitsData, WritesOnce, StartsSize, FreesUsed};
 ghost use Rattle.jfs_files.specs.Meets.{MeetsSize};
 
-use crate::outcome::{FileOutcome, Maps};
+use crate::outcome::FileOutcome;
 use jfs_bits::Moment;
+use jfs_map_files::Maps;
 use jfs_name::Path;
 use jfs_ranges::PageView;
 use jfs_truncate::truncate;

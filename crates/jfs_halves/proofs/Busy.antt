@@ -54,7 +54,7 @@ busy-one : (half : VolumeHalf) (c : Change) (b k : ℕ) → Fits half c → stat
 busy-one half (Enters h) b k fits e late =
     ap (λ (states : List BlockState). slice_index_or states b Owned) fits.map.states
     ∙ changed-at (λ (c : ℕ) (s : BlockState). entered_state (suc (length half.history)) (edits h) c s) half.shown.map b (busy-there half.shown.map b k e)
-    ∙ busy-entered half.shown.map (suc (length half.history)) h b k (fits.takes_free.free b) e
+    ∙ busy-entered half.shown.map (suc (length half.history)) h b k (fits.takes_free b) e
 busy-one half Takes b k fits e late = e
 busy-one half (Tells n) b k fits e late = busy-settled n n b k half.shown.map (omega arith) late e
 busy-one half HandsOut b k fits e late = e

@@ -25,17 +25,19 @@ abbrev pub frees : ℕ → List Edit → Bool
 frees b [] = false
 frees b (e ∷ es) = is_freeing (mark_of b e) || frees b es
 
--- A block that entry n takes has an owner; an owned block that it frees is busy for it.
+-- A block that entry n takes has an owner; an owned block that it frees is busy for it, also where it took the block itself.
+abbrev pub taken_state : List Edit → ℕ → BlockState → BlockState
+taken_state tx b s = if takes b tx then Owned else s
+
 abbrev pub entered_state : ℕ → List Edit → ℕ → BlockState → BlockState
-entered_state n tx b s = if takes b tx then Owned else if frees b tx then released_state n s else s
+entered_state n tx b s = if frees b tx then released_state n (taken_state tx b s) else taken_state tx b s
 
 abbrev pub map_after : ℕ → List Edit → Blocks → Blocks
 map_after n tx map = changed (λ b s. entered_state n tx b s) map
 
--- Each block that edits take is free before, so none is busy; and they don't free it.
-pub record TakeFree (map : Blocks) (tx : List Edit) : Type 0 where
-  pub free : (b : ℕ) → takes b tx ≡ true → state_of map b ≡ Free
-  pub apart : (b : ℕ) → takes b tx ≡ true → frees b tx ≡ false
+-- Each block that edits take is free before, so none is busy.
+abbrev pub TakeFree : Blocks → List Edit → Type 0
+TakeFree map tx = (b : ℕ) → takes b tx ≡ true → state_of map b ≡ Free
 
 -- ---- pages
 

@@ -6,6 +6,7 @@ use Rattle.jfs_disk.specs.Crash.{DiskState, last_of}
 use Rattle.jfs_disk.specs.declared.disk.Fault.{Fault}
 use Rattle.jfs_bmap.specs.States.{Blocks}
 use Rattle.jfs_imap.specs.Inodes.{Inodes}
+use Rattle.jfs_map_files.specs.declared.map_file.MapFiles.{MapFiles}
 use Rattle.jfs_pages.specs.declared.dirty.Dirty.{Dirty}
 use Rattle.jfs_pages.specs.Dirty.{dirty_of}
 use Rattle.jfs_plain.specs.declared.call.Entry.{Entry}
@@ -43,6 +44,10 @@ pub record Parts : Type 0 where
   pub room : ℕ
   pub map : Blocks
   pub inodes : Inodes
+  -- the most bytes that a file may have
+  pub limit : ℕ
+  -- where the pages of the maps' files lie, and which map has changed since they were written
+  pub files : MapFiles
   pub appended : ℕ
   pub taken : ℕ
   pub told : ℕ

@@ -75,8 +75,16 @@ abbrev pub root_row : Subject → Option ℕ → Row BadMount
 root_row s None = row rules.Root (page_of_file s 16 1) 0 false
 root_row s (Some page) = row rules.Root page (slot_of (s.page page) 2).mode (type_of (slot_of (s.page page) 2) == 0x4000)
 
+-- those on the maps: log redo looks at no other
+unfoldable pub map_rows : Subject → List (Row BadMount)
+map_rows s = bmap_row s ∷ imap_row s ∷ mapsize_row s ∷ nextiag_row s ∷ extents_row s ∷ []
+
 unfoldable pub mount_rows : Subject → List (Row BadMount)
 mount_rows s = bmap_row s ∷ imap_row s ∷ mapsize_row s ∷ nextiag_row s ∷ extents_row s ∷ root_row s (home (volume s).extents 2) ∷ []
+
+-- the first rule on the maps that is broken
+abbrev pub broken_maps : Subject → Option BadMount
+broken_maps s = first_broken (map_rows s)
 
 -- the first rule that a mount finds broken
 abbrev pub broken_mount : Subject → Option BadMount

@@ -11,7 +11,7 @@ use Rattle.jfs_each.specs.Each.{AllFit}
 use Rattle.jfs_reader.specs.Map.{IsInodeMap}
 use Rattle.jfs_mount.specs.Files.{most_iags}
 use Rattle.jfs_mount.specs.Subject.{Subject, subject_of, volume}
-use Rattle.jfs_mount.specs.Mount.{BadMount, broken_mount, extents_row, root_row}
+use Rattle.jfs_mount.specs.Mount.{BadMount, broken_mount, broken_maps, extents_row, root_row}
 use Rattle.jfs_mount.specs.declared.bad.BadMount.{BadMount as Bad}
 use Rattle.jfs_mount.specs.declared.maps.Maps.{Maps}
 use Rattle.jfs_mount.specs.declared.maps.Mounted.{Mounted}
@@ -42,10 +42,17 @@ FindsPlaces image maps answer = (s : Super) → AreRead (subject_of s (page_of i
 abbrev pub FindsRoot : Image → Maps → List (Option ℕ) → Option BadMount → Type 0
 FindsRoot image maps places bad = (s : Super) → AreRead (subject_of s (page_of image)) maps → bad ≡ broken (root_row (subject_of s (page_of image)) (home places 2))
 
--- and all rules, which have the places where none is broken
-abbrev pub FindsAll : Image → Maps → Result (Vec (Option ℕ)) Bad → Type 0
-FindsAll image maps (Ok places) = (s : Super) → AreRead (subject_of s (page_of image)) maps → (broken_mount (subject_of s (page_of image)) ≡ None) × (places.items ≡ (volume (subject_of s (page_of image))).extents)
-FindsAll image maps (Err bad) = (s : Super) → AreRead (subject_of s (page_of image)) maps → broken_mount (subject_of s (page_of image)) ≡ Some bad
+-- and all rules on the maps, which have the places where none is broken
+abbrev pub FindsMaps : Image → Maps → Result (Vec (Option ℕ)) Bad → Type 0
+FindsMaps image maps (Ok places) = (s : Super) → AreRead (subject_of s (page_of image)) maps → (broken_maps (subject_of s (page_of image)) ≡ None) × (places.items ≡ (volume (subject_of s (page_of image))).extents)
+FindsMaps image maps (Err bad) = (s : Super) → AreRead (subject_of s (page_of image)) maps → broken_maps (subject_of s (page_of image)) ≡ Some bad
+
+-- ---- the maps alone
+
+-- Maps and places are given exactly where no rule on them is broken, as they were read; else the first of these that is.
+abbrev pub HasMaps : Subject → Result Mounted Bad → Type 0
+HasMaps s (Ok m) = AreRead s m.maps × (broken_maps s ≡ None) × (m.places.items ≡ (volume s).extents)
+HasMaps s (Err bad) = broken_maps s ≡ Some bad
 
 -- ---- a mount
 

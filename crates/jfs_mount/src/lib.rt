@@ -13,4 +13,4 @@ mod root;
 pub use bad::BadMount;
 pub use blocks::from_block;
 pub use maps::{Maps, Mounted};
-pub use mount::{first_broken, mounted};
+pub use mount::{first_broken, map_files, mounted};

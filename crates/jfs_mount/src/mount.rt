@@ -9,7 +9,7 @@ ghost use Rattle.jfs_each.specs.Each.{AllFit};
 ghost use Rattle.jfs_mount.specs.Files.{most_iags};
 ghost use Rattle.jfs_mount.specs.Subject.{subject_of};
 ghost use Rattle.jfs_mount.specs.Mount.{broken_mount};
-ghost use Rattle.jfs_mount.specs.Steps.{FindsAll, IsMounted, Mounts};
+ghost use Rattle.jfs_mount.specs.Steps.{FindsMaps, HasMaps, IsMounted, Mounts};
 
 use crate::bad::BadMount;
 use crate::extents::places_of;
@@ -61,6 +61,35 @@ pub fn mounted<V: PageView>(
     ensures mounts { V.PageView.tells → IfOk result (λ answer. (s : Super) → blocks_of s ≡ V.PageView.block_count view.old →
         Mounts (subject_of s (page_of (V.PageView.image view.old))) answer) }
 {
+    let found = match map_files(alloc, view)? {
+        Ok(found) => found,
+        Err(bad) => return Ok(Err(bad)),
+    };
+    match bad_root(view, &found.maps, found.places.as_slice())? {
+        Some(bad) => Ok(Err(bad)),
+        None => Ok(Ok(found)),
+    }
+}
+
+/// The same but for the rule on the root: the maps of a volume that breaks no rule on them, `bmap` to `extents`, and the places of its inode extents; else the first of these rules that is broken.
+/// Log redo looks at no other: the root may be one that it restores.
+///
+/// # Errors
+///
+/// As `mounted`.
+pub fn map_files<V: PageView>(
+    alloc: Global,
+    view: &mut V,
+) -> Result<Result<Mounted, BadMount>, ViewError>
+    requires { 15 ≤ V.PageView.block_count view.old }
+    ensures image { V.PageView.tells → V.PageView.image view.new ≡ V.PageView.image view.old }
+    ensures count_of_blocks { V.PageView.block_count view.new ≡ V.PageView.block_count view.old }
+    ensures device { V.PageView.device view.new ≡ V.PageView.device view.old }
+    ensures fault { CarriesCount (V.PageView.faults view.old) (V.PageView.faults view.new) result }
+    ensures maps { IfOk result (λ answer. IfOk answer (IsMounted (V.PageView.block_count view.old))) }
+    ensures files { V.PageView.tells → IfOk result (λ answer. (s : Super) → blocks_of s ≡ V.PageView.block_count view.old →
+        HasMaps (subject_of s (page_of (V.PageView.image view.old))) answer) }
+{
     let maps = read_maps(alloc, view)?;
     match places_if_sound(alloc, view, &maps)? {
         Ok(places) => Ok(Ok(Mounted { maps, places })),
@@ -68,7 +97,7 @@ pub fn mounted<V: PageView>(
     }
 }
 
-/// The places of the inode extents, where the maps break no rule; else the first rule that is broken.
+/// The places of the inode extents, where the maps break no rule; else the first rule on them that is broken.
 fn places_if_sound<V: PageView>(
     alloc: Global,
     view: &mut V,
@@ -83,7 +112,7 @@ fn places_if_sound<V: PageView>(
     ensures bounded { IfOk result (λ answer. IfOk answer (λ places. maps.now.inodes.iags ≤ most_iags maps.now.blocks)) }
     ensures all { IfOk result (λ answer. IfOk answer (λ places. length places.items ≡ 128 * maps.now.inodes.iags)) }
     ensures fit { IfOk result (λ answer. IfOk answer (λ places. AllFit maps.now.blocks places.items)) }
-    ensures finds { V.PageView.tells → IfOk result (FindsAll (V.PageView.image view.old) maps.now) }
+    ensures finds { V.PageView.tells → IfOk result (FindsMaps (V.PageView.image view.old) maps.now) }
 {
     if let Some(bad) = bad_bmap(maps) {
         return Ok(Err(bad));
@@ -97,12 +126,5 @@ fn places_if_sound<V: PageView>(
     if let Some(bad) = bad_nextiag(maps) {
         return Ok(Err(bad));
     }
-    let places = match places_of(alloc, view, maps)? {
-        Ok(places) => places,
-        Err(bad) => return Ok(Err(bad)),
-    };
-    match bad_root(view, maps, places.as_slice())? {
-        Some(bad) => Ok(Err(bad)),
-        None => Ok(Ok(places)),
-    }
+    places_of(alloc, view, maps)
 }

@@ -6,6 +6,8 @@ use Rattle.std.proofs.lemmas.List.{get_or_past}
 use Rattle.std.proofs.lemmas.List.FromFn.{length-map-range_with_len}
 use Rattle.jfs_bits.specs.Bits.{is_taken}
 use Rattle.jfs_bits.specs.Field.{range_of}
+use Rattle.jfs_bits.specs.declared.extent.Xad.{Xad}
+use Rattle.jfs_map_files.specs.declared.map_file.MapFiles.{MapFiles}
 use Rattle.jfs_disk.specs.Image.{Image, page_of}
 use Rattle.jfs_super.specs.Rules.{blocks_of}
 use Rattle.jfs_super.specs.declared.fields.Super.{Super}
@@ -26,6 +28,7 @@ use Rattle.jfs_mount.specs.declared.maps.Mounted.{Mounted}
 use Rattle.jfs_sets.specs.Sets.{extent_from}
 use Rattle.jfs_way.specs.Volume.{volume_of}
 use Rattle.jfs_room.specs.Laws.{blocks_in}
+use Rattle.jfs_mount_maps.specs.Places.{ArePlacesOf}
 use Rattle.jfs_mount_maps.specs.Maps.{blocks_on, inodes_on, AreMapsOf, MapsLaw}
 
 place_back : (o : Option ℕ) → extent_place (extent_from o) ≡ o
@@ -82,14 +85,22 @@ pub joined : (s : Subject) (m : Blocks) (i : Inodes) → m ≡ blocks_on s → i
 joined s m i b n = ap (λ (x : Blocks). volume_of s.page (volume s).area x i) b ∙ ap (λ (x : Inodes). volume_of s.page (volume s).area (blocks_on s) x) n ∙ volume_is s
 
 -- The maps that were read one after the other, while the pages stay, are the image's.
-pub found : (s : Super) (image one two : Image) (mounted : Mounted) (m : Blocks) (i : Inodes) (limit : ℕ) → one ≡ image → two ≡ one → Mounts (subject_of s (page_of image)) (Ok mounted)
+pub found : (s : Super) (image one two : Image) (mounted : Mounted) (m : Blocks) (i : Inodes) (limit : ℕ) (files : MapFiles) → one ≡ image → two ≡ one → Mounts (subject_of s (page_of image)) (Ok mounted)
     → (AreRead (subject_of s (page_of one)) mounted.maps → m ≡ blocks_on (subject_of s (page_of one))) → (Mounts (subject_of s (page_of two)) (Ok mounted) → i ≡ inodes_on (subject_of s (page_of two)))
-    → AreMapsOf (subject_of s (page_of image)) (record { blocks = m; inodes = i; file_limit = limit })
-found s image one two mounted m i limit first second mounts blocks inodes =
+    → ArePlacesOf mounted.maps.block_map files.blocks.places → ArePlacesOf mounted.maps.inodes.extents files.inodes.places
+    → AreMapsOf (subject_of s (page_of image)) (record { blocks = m; inodes = i; file_limit = limit; files = files })
+found s image one two mounted m i limit files first second mounts blocks inodes map_places inode_places =
     let same : two ≡ image = second ∙ first in
     let b : m ≡ blocks_on (subject_of s (page_of image)) = subst (λ (im : Image). m ≡ blocks_on (subject_of s (page_of im))) first (blocks (subst (λ (im : Image). AreRead (subject_of s (page_of im)) mounted.maps) (sym first) mounts.0)) in
     let n : i ≡ inodes_on (subject_of s (page_of image)) = subst (λ (im : Image). i ≡ inodes_on (subject_of s (page_of im))) same (inodes (subst (λ (im : Image). Mounts (subject_of s (page_of im)) (Ok mounted)) (sym same) mounts)) in
-    record { unbroken = mounts.1; blocks_are = b; inodes_are = n; volume_is = joined (subject_of s (page_of image)) m i b n }
+    record {
+      unbroken = mounts.1;
+      blocks_are = b;
+      inodes_are = n;
+      block_places = subst (λ (es : List Xad). ArePlacesOf es files.blocks.places) (sym mounts.0.block_map) map_places;
+      inode_places = subst (λ (es : List Xad). ArePlacesOf es files.inodes.places) (sym mounts.0.inodes.extents) inode_places;
+      volume_is = joined (subject_of s (page_of image)) m i b n;
+    }
 
 pub maps_law : MapsLaw
 maps_law super page maps are =

@@ -1,4 +1,4 @@
-pub mod Places
+pub mod Kept
 pub mod Blocks
 pub mod Inodes
 pub mod Joined

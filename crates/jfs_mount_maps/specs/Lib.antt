@@ -1,2 +1,3 @@
 -- what the clauses say
+pub mod Places
 pub mod Maps

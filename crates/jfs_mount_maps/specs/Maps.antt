@@ -1,5 +1,5 @@
 -- The maps of a volume that is to be mounted.
-use Rattle.std.specs.Prelude.{◌≡◌, ◌⊎◌, ℕ, ◌+◌, ◌-◌, ◌*◌, ◌/◌, if◌then◌else◌, List, map, Some, None, Result, Ok, Err}
+use Rattle.std.specs.Prelude.{◌≡◌, ◌⊎◌, ℕ, ◌+◌, ◌-◌, ◌*◌, ◌/◌, false, if◌then◌else◌, List, map, Some, None, Result, Ok, Err}
 use Rattle.jfs_disk.specs.declared.disk.Fault.{Fault}
 use Rattle.jfs_ranges.specs.View.{Failed}
 use Rattle.jfs_super.specs.Rules.{blocks_of}
@@ -8,6 +8,10 @@ use Rattle.jfs_super.specs.declared.fields.Super.{Super}
 use Rattle.jfs_super.specs.declared.fields.Geometry.{Geometry}
 use Rattle.jfs_imap.specs.Inodes.{Inodes}
 use Rattle.jfs_bmap.specs.Set.{each_below}
+use Rattle.jfs_map_files.specs.Files.{AreFilesOf}
+use Rattle.jfs_bmap.specs.MapFile.{pages_of}
+use Rattle.jfs_objects.specs.Image.{file_extents}
+use Rattle.jfs_mount_maps.specs.Places.{ArePlacesOf}
 use Rattle.jfs_bmap.specs.States.{Blocks, Free, Owned, state_of}
 use Rattle.jfs_meaning.specs.Readers.{readers}
 use Rattle.jfs_meaning.specs.Consistent.{IsConsistent}
@@ -37,6 +41,9 @@ pub record AreAtRest (layout : Geometry) (maps : FoundMaps) : Type 0 where
   pub rest : IsAtRest maps.blocks maps.inodes
   pub within : PlacesWithin layout.blocks maps.inodes
   pub limit : maps.file_limit ≡ layout.file_limit
+  -- The pages of both maps' files lie within the volume, and the maps are as they are.
+  pub files : AreFilesOf layout.blocks (pages_of layout.blocks) maps.inodes.iags maps.files
+  pub fresh : (maps.files.blocks.stale ≡ false) × (maps.files.inodes.stale ≡ false)
 
 -- the count of faults rises only with a fault, which carries the part and the count that it raised
 abbrev pub CarriesMaps : Fault → Fault → Result FoundMaps MapsError → Type 0
@@ -70,6 +77,8 @@ pub record AreMapsOf (s : Subject) (maps : FoundMaps) : Type 0 where
   pub unbroken : broken_mount s ≡ None
   pub blocks_are : maps.blocks ≡ blocks_on s
   pub inodes_are : maps.inodes ≡ inodes_on s
+  pub block_places : ArePlacesOf (file_extents s.readers s.page 2) maps.files.blocks.places
+  pub inode_places : ArePlacesOf (file_extents s.readers s.page 16) maps.files.inodes.places
   pub volume_is : volume_of s.page (volume s).area maps.blocks maps.inodes ≡ volume s
 
 -- Maps are found where no rule is broken; else the first broken rule is told, with its page and the value there.

@@ -11,6 +11,7 @@ ghost use Rattle.jfs_mount.specs.Subject.{subject_of};
 ghost use Rattle.jfs_mount_maps.specs.Maps.{AreAtRest, CarriesMaps, Finds, FindsMaps};
 
 use crate::found::{FoundMaps, MapsError};
+use crate::places::files_of;
 use crate::read::{block_map_of, inode_map_of};
 use jfs_disk::{Disk, Part};
 use jfs_mount::{BadMount, mounted};
@@ -40,11 +41,15 @@ fn read_maps<V: PageView>(
     };
     let blocks = block_map_of(alloc, view, layout, &mounted.maps)?;
     let inodes = inode_map_of(alloc, view, layout, &mounted)?;
-    Ok(Ok(FoundMaps {
-        blocks,
-        inodes,
-        file_limit: layout.file_limit,
-    }))
+    match files_of(alloc, &mounted.maps) {
+        Ok(files) => Ok(Ok(FoundMaps {
+            blocks,
+            inodes,
+            file_limit: layout.file_limit,
+            files,
+        })),
+        Err(_) => Err(ViewError::Memory),
+    }
 }
 
 /// The block map and the inode map in memory, of a volume that a mount takes. The maps are exactly the image's: the volume that the pages and these maps are is the one that the

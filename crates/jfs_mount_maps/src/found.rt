@@ -5,6 +5,7 @@ ghost use Rattle.std.specs.Prelude.{◌≡◌};
 use jfs_bmap::BlockMap;
 use jfs_disk::Fault;
 use jfs_imap::InodeMap;
+use jfs_map_files::MapFiles;
 use jfs_mount::BadMount;
 
 /// The maps of a volume that is to be mounted, as file calls keep them in memory: no block is reserved or busy.
@@ -14,6 +15,8 @@ pub struct FoundMaps {
     pub inodes: InodeMap,
     /// The most bytes that a file may have, by the length of the log.
     pub file_limit: u64,
+    /// Where the pages of both maps' files lie; both maps are as these pages are.
+    pub files: MapFiles,
 }
 
 /// Why no maps were found.

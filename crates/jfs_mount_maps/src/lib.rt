@@ -5,8 +5,10 @@ mod find;
 mod found;
 mod law;
 mod placed;
+mod places;
 mod read;
 
 pub use find::{find_maps, find_maps_on};
 pub use found::{FoundMaps, MapsError};
 pub use law::found_maps_give_the_image;
+pub use read::inode_map_with;

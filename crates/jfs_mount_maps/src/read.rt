@@ -63,6 +63,7 @@ pub(crate) fn inode_map_of<V: PageView>(
     ensures count_of_blocks { V.PageView.block_count view.new ≡ V.PageView.block_count view.old }
     ensures device { V.PageView.device view.new ≡ V.PageView.device view.old }
     ensures fault { CarriesCount (V.PageView.faults view.old) (V.PageView.faults view.new) result }
+    ensures number { IfOk result (λ m. m.iags ≡ mounted.now.maps.inodes.iags) }
     ensures places { IfOk result (λ m. length m.extents ≤ 2 ^ 23) }
     ensures within { IfOk result (PlacesWithin (V.PageView.block_count view.old)) }
     ensures inodes { V.PageView.tells → IfOk result (λ m. (s : Super) → geometry_of s ≡ layout → Mounts (subject_of s (page_of (V.PageView.image view.old))) (Ok mounted.now) →
@@ -83,8 +84,8 @@ pub(crate) fn inode_map_of<V: PageView>(
     }
 }
 
-/// The inode map of a volume with this layout, of these inodes and with extents at these places.
-fn inode_map_with(
+/// The inode map of a volume with this layout, of these inodes and with extents at these places. `Err` is want of memory.
+pub fn inode_map_with(
     alloc: Global,
     set: &[u8],
     places: &[Option<u32>],

@@ -1,5 +1,5 @@
 -- A consistent image keeps its tree whatever the superblock's page has.
-use Rattle.std.proofs.Common.{◌≡◌, ◌≢◌, ◌⊎◌, ◌<◌, ◌≤◌, refl, sym, ap, ap₂, ◌∙◌, subst, ℕ, suc, ◌+◌, ◌*◌, ◌/◌, ◌%◌, Bool, true, false, ◌&&◌, nat_le, nat_lt, List, [], ◌∷◌, take, map, Option, Some, None, Result, Ok, Err, inl, inr, arith}
+use Rattle.std.proofs.Common.{◌≡◌, ◌≢◌, ◌<◌, ◌≤◌, refl, sym, ap, ap₂, ◌∙◌, subst, ℕ, suc, ◌+◌, ◌*◌, ◌/◌, ◌%◌, Bool, true, false, ◌&&◌, nat_le, nat_lt, List, [], ◌∷◌, take, map, Option, Some, None, Result, Ok, Err, arith}
 use Rattle.std.specs.List.{range_with_len}
 use Rattle.std.proofs.lemmas.Bool.Decides.{nat_tests}
 use Rattle.std.proofs.lemmas.List.{get_or-take, get_or-set_other}
@@ -15,7 +15,7 @@ use Rattle.jfs_super.specs.declared.fields.Super.{Super}
 use Rattle.jfs_plain.specs.Moves.{Same}
 use Rattle.jfs_plain.specs.Tree.{Tree}
 use Rattle.jfs_objects.specs.Readers.{Readers}
-use Rattle.jfs_objects.specs.Volume.{Volume, room}
+use Rattle.jfs_objects.specs.Volume.{Volume}
 use Rattle.jfs_objects.specs.Objects.{objects, listed}
 use Rattle.jfs_objects.specs.Owners.{entries, owners, bit, run_has}
 use Rattle.jfs_objects.specs.Contents.{block_of}
@@ -25,7 +25,7 @@ use Rattle.jfs_kinds.proofs.Images.{same_page}
 use Rattle.jfs_meaning.specs.Readers.{readers}
 use Rattle.jfs_meaning.specs.Tree.{tree_on}
 use Rattle.jfs_meaning.specs.Image as meaning
-use Rattle.jfs_mount.specs.Subject.{Subject, subject_of}
+use Rattle.jfs_mount.specs.Subject.{subject_of}
 use Rattle.jfs_mount.specs.Mount.{broken_mount, iags}
 use Rattle.jfs_findings.proofs.Mounted.{mounted, on_block}
 use Rattle.jfs_mount_disk.specs.Begun.{marked_page}

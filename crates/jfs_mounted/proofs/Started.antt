@@ -24,7 +24,10 @@ use Rattle.jfs_disk.specs.declared.disk.Fault.{Fault}
 use Rattle.jfs_disk.specs.declared.disk.Part.TheVariants.{Whole}
 use Rattle.jfs_meaning.specs.Image.{IsConsistentImage}
 use Rattle.jfs_mount.specs.Subject.{subject_of}
-use Rattle.jfs_mount_maps.specs.Maps.{blocks_on, AreMapsOf, CarriesMaps}
+use Rattle.jfs_super.specs.declared.fields.Geometry.{Geometry}
+use Rattle.jfs_bmap.specs.MapFile.{pages_of}
+use Rattle.jfs_map_files.specs.Files.{AreFilesOf}
+use Rattle.jfs_mount_maps.specs.Maps.{blocks_on, AreAtRest, AreMapsOf, CarriesMaps}
 use Rattle.jfs_mount_maps.specs.declared.found.FoundMaps.{FoundMaps}
 use Rattle.jfs_mount_maps.specs.declared.found.MapsError.{MapsError}
 use Rattle.jfs_mount_maps.specs.declared.found.MapsError.TheVariants as found
@@ -91,3 +94,12 @@ pub before_left : (s : Super) (old left : Image) (before now : ℕ) (why : MapsE
 before_left s old left before now (found.BadImage bad) carries e = e
 before_left s old left before now (found.Read fault) carries e = (λ _. e, λ low. absurd (cc (low, ap (λ (f : Fault). f.part) carries.1)))
 before_left s old left before now found.Memory carries e = inl (ap (λ (im : Image). drop s.logpxd.addr im) e)
+
+-- the pages of the maps' files lie before the log, where they lie within the blocks
+pub files_of_low : (maps : FoundMaps) (layout : Geometry) (low : ℕ) → AreAtRest layout maps → layout.blocks ≤ low → AreFilesOf low (pages_of (length maps.blocks.states)) maps.inodes.iags maps.files
+files_of_low maps layout low rest h = record {
+  map_within = λ n b e. let within = rest.files.map_within n b e in omega (arith, within, h);
+  inodes_within = λ n b e. let within = rest.files.inodes_within n b e in omega (arith, within, h);
+  map_pages = rest.files.map_pages ∙ ap pages_of (sym rest.number);
+  inode_pages = rest.files.inode_pages;
+}

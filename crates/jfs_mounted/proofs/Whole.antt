@@ -1,13 +1,12 @@
 -- All fields of a superblock stand in the first sector of its page.
-use Rattle.std.proofs.Common.{◌≡◌, ◌⊎◌, ◌≤◌, refl, sym, ap, ◌∙◌, subst, ℕ, zero, suc, ◌+◌, ◌*◌, List, [], ◌∷◌, ◌++◌, length, take, drop, set, inl, inr, arith}
+use Rattle.std.proofs.Common.{◌≡◌, ◌⊎◌, refl, sym, ap, ◌∙◌, ℕ, zero, suc, ◌+◌, ◌*◌, List, [], ◌∷◌, ◌++◌, length, take, drop, set, inl, inr, arith}
 use Rattle.std.proofs.lemmas.List.{take-append-drop, drop-drop, set-get_or, length-drop, take_all}
 use Rattle.jfs_bits.specs.Field.{range_of}
-use Rattle.jfs_bits.specs.Piece.{puts, Place}
+use Rattle.jfs_bits.specs.Piece.{Place}
 use Rattle.jfs_bits.proofs.Descriptors.{length-pxd_bytes, length-moment_bytes}
 use Rattle.jfs_bits.proofs.Pieces.{ArePlaced, length-puts, range_of-puts_other}
-use Rattle.jfs_disk.specs.Image.{Image, page_of}
+use Rattle.jfs_disk.specs.Image.{page_of}
 use Rattle.jfs_disk.specs.Crash.{torn}
-use Rattle.jfs_disk.proofs.Tearing.{torn-none}
 use Rattle.jfs_super.specs.declared.fields.Super.{Super}
 use Rattle.jfs_super.specs.declared.fields.TheConstants.VolumeState.{MOUNTED}
 use Rattle.jfs_super.specs.Super.{pieces}

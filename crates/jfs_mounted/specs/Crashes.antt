@@ -1,5 +1,5 @@
 -- What a crash leaves of the superblock's page while a volume is mounted, and of the tree.
-use Rattle.std.specs.Prelude.{◌≡◌, ◌⊎◌, ◌≤◌, ◌<◌, ℕ, List, length, take, None}
+use Rattle.std.specs.Prelude.{◌≡◌, ◌⊎◌, ◌≤◌, length, take, None}
 use Rattle.jfs_disk.specs.Image.{Image, page_of}
 use Rattle.jfs_super.specs.Rules.{blocks_of}
 use Rattle.jfs_super.specs.declared.fields.Super.{Super}

@@ -53,6 +53,8 @@ pub record IsMountOf (tells crashes : Type 0) (s : Super) (old : Image) (volume 
   pub superblock : tells → super_of (page_of pages 8) ≡ record s { state = MOUNTED }
   -- No rule of a mount is broken, and the maps are those of the image handed in, between calls.
   pub rest : AreAtRest (geometry_of s) maps
+  -- the volume has them, with the places of their files' pages
+  pub has_maps : (volume.map ≡ maps.blocks) × (volume.inodes ≡ maps.inodes) × (volume.limit ≡ maps.file_limit) × (volume.files ≡ maps.files)
   pub found : tells → AreMapsOf (subject_of s (page_of old)) maps
   -- A consistent image keeps its tree.
   pub keeps : tells → IsConsistentImage s (page_of old) → KeepsVolume s (page_of old) (page_of pages) maps.blocks maps.inodes

@@ -1,12 +1,16 @@
 //! A volume is mounted.
 
-ghost use Rattle.std.specs.Prelude.{◌≡◌, ◌≤◌, ◌<◌, ◌-◌, ◌+◌, ◌^◌, take, drop, IfOk, IfErr};
+ghost use Rattle.std.specs.Prelude.{◌≡◌, ◌≤◌, ◌<◌, ◌-◌, ◌+◌, ◌*◌, ◌^◌, [], None, length, take, drop, IfOk, IfErr};
+ghost use Rattle.jfs_bmap.specs.MapFile.{pages_of};
+ghost use Rattle.jfs_map_files.specs.Files.{AreFilesOf};
+ghost use Rattle.jfs_mount_maps.specs.Maps.{IsIdle};
 ghost use Rattle.jfs_disk.specs.Image.{Image, page_of};
 ghost use Rattle.jfs_disk.specs.Crash.{last_of, AllSince, Leaves};
 ghost use Rattle.jfs_disk.specs.Moment.{IsResting, now_of};
 ghost use Rattle.jfs_super.specs.Rules.{IsAccepted};
 ghost use Rattle.jfs_super.specs.Super.{super_of, FitsSuper};
 ghost use Rattle.jfs_super.specs.declared.fields.TheConstants.VolumeState.{CLEAN};
+ghost use Rattle.jfs_logpages.specs.Group.{position_of};
 ghost use Rattle.jfs_logpages.specs.Fresh.{OthersStay, IsFreshLog, IsPartlyFresh};
 ghost use Rattle.jfs_mount_disk.specs.Begun.{IsPartlyMarked, LeavesRest, LeavesLow};
 ghost use Rattle.jfs_volume.specs.Start.{StandsFresh};
@@ -14,6 +18,7 @@ ghost use Rattle.jfs_mounted.specs.Mount.{log_parts, IsMountOf, IsMountCause, Is
 
 use crate::mounted::{MountError, MountRefused, Mounted};
 use jfs_disk::Disk;
+use jfs_map_files::Maps;
 use jfs_mount_disk::{BeginError, Begun, begin};
 use jfs_mount_maps::{FoundMaps, MapsError, find_maps_on};
 use jfs_pages::PageCache;
@@ -34,6 +39,12 @@ pub fn mount<D: Disk>(alloc: Global, disk: D, s: &Super) -> Result<Mounted<D>, M
     requires spelled { D.tells → super_of (page_of (D.image disk) 8) ≡ s.now }
 
     ensures mounted { IfOk result (λ m. IsMountOf D.tells D.tells_crashes s.now (D.image disk) m.volume (log_parts D.Disk m.log)) }
+    // The volume is running, and no text waits behind the one SYNCPT of its log.
+    ensures running { IfOk result (λ m. (m.volume.halted ≡ None) × (m.volume.taken ≡ 0) × (m.volume.count ≡ s.now.logpxd.addr)) }
+    ensures text { IfOk result (λ m. (m.volume.text.ring ≡ s.now.logpxd.len - 2) × (m.volume.text.place ≡ 4080 * (s.now.logpxd.len - 3) + 36) × (m.volume.text.bytes ≡ [])) }
+    // Its text stands where the log's ends, and the parts can be joined again.
+    ensures together { IfOk result (λ m. ((log_parts D.Disk m.log).last.ring ≡ m.volume.text.ring) × (position_of (log_parts D.Disk m.log).last ≡ m.volume.text.place) × ((log_parts D.Disk m.log).durable ≡ m.volume.taken) × ((log_parts D.Disk m.log).halted ≡ None)) }
+    ensures room { IfOk result (λ m. m.volume.count + D.page_count m.log.part ≤ m.volume.room) }
     ensures parts { IfOk result (λ m. (m.volume.blocks ≡ s.now.logpxd.addr) × (D.page_count m.log.part ≡ D.page_count disk - s.now.logpxd.addr) × (m.volume.faults + D.fault_count m.log.part ≡ D.fault_count disk)) }
     ensures log { IfOk result (λ m. D.tells → IsFreshLog s.now.logpxd.len s.now.uuid (D.image m.log.part)) }
     ensures behind { IfOk result (λ m. D.tells → OthersStay 1 (s.now.logpxd.len - 1) (drop s.now.logpxd.addr (D.image disk)) (D.image m.log.part)) }
@@ -98,21 +109,32 @@ fn failure_of(why: BeginError) -> MountError
 /// The volume of a disk that is ready: nothing has happened yet. It takes no memory.
 fn started<D: Disk>(alloc: Global, begun: Begun<D>, maps: FoundMaps, ring: u32) -> Mounted<D>
     requires ring { (254 ≤ ring) × (ring < 2 ^ 16) }
+    requires idle { IsIdle maps.blocks }
+    requires files { AreFilesOf (D.page_count begun.low) (pages_of (length maps.blocks.states)) maps.inodes.iags maps.files }
     requires resting { D.tells_crashes → IsResting (last_of (D.past begun.low)) }
     ensures fresh { (pages : Image) × (D.tells → pages ≡ D.image begun.low) × StandsFresh D.tells D.tells_crashes ring pages maps.blocks maps.inodes result.volume }
     ensures low { (result.volume.past ≡ D.past begun.low) × (result.volume.faults ≡ D.fault_count begun.low) × (result.volume.blocks ≡ D.page_count begun.low) }
+    ensures parts { (result.volume.map ≡ maps.blocks) × (result.volume.inodes ≡ maps.inodes) × (result.volume.limit ≡ maps.file_limit) × (result.volume.files ≡ maps.files) }
+    ensures rest { (result.volume.halted ≡ None) × (result.volume.taken ≡ 0) × (result.volume.count ≡ D.page_count begun.low) × (result.volume.room ≡ D.room begun.low) }
+    ensures text { (result.volume.text.ring ≡ ring) × (result.volume.text.place ≡ 4080 * (ring - 1) + 36) × (result.volume.text.bytes ≡ []) }
     ensures log { result.log ≡ begun.log }
 {
     let Begun { low, log } = begun;
     let FoundMaps {
         blocks,
         inodes,
-        file_limit: _,
+        file_limit,
+        files,
     } = maps;
+    let maps = Maps {
+        blocks,
+        inodes,
+        file_limit,
+    };
     let pages = low.pages();
     let cache = PageCache::new(alloc, low, pages);
     Mounted {
-        volume: Volume::start(alloc, cache, blocks, inodes, ring),
+        volume: Volume::start(alloc, cache, maps, files, ring),
         log,
     }
 }

@@ -1,7 +1,9 @@
-//! Redo of pages, blocks, extents and inodes, on disks of a few pages.
+//! Redo of pages, blocks, extents and inodes, on disks of a few pages; and of whole volumes.
 #![tactic(auto)]
 
 #[cfg(test)]
 mod maps;
 #[cfg(test)]
 mod pages;
+#[cfg(test)]
+mod volume;

@@ -11,7 +11,7 @@ use std::thread::Threads;
 
 const UUID: &str = "00112233-4455-6677-8899-aabbccddeeff";
 
-const CLEAN: &str = "clean, 2975 free blocks, 4 inodes\n";
+pub const CLEAN: &str = "clean, 2975 free blocks, 4 inodes\n";
 
 const MOUNTED: &str = "jfsd: bad image: page 8 rule state value 1\n";
 
@@ -28,7 +28,7 @@ static ROWS: [(u32, Change, u8, &str); 5] = [
 ];
 
 /// A disk of 4,096 pages with a new volume.
-fn new_volume<R: Threads + Wait + Sync>(rt: &R, alloc: Global) -> Option<MemDisk> {
+pub fn new_volume<R: Threads + Wait + Sync>(rt: &R, alloc: Global) -> Option<MemDisk> {
     let words = ["format", "I", UUID, "data"];
     let disk = Some(MemDisk::new(alloc, 4096));
     let mut out = SureSink::new(alloc);
@@ -37,7 +37,7 @@ fn new_volume<R: Threads + Wait + Sync>(rt: &R, alloc: Global) -> Option<MemDisk
 }
 
 /// The disk with a change of one page.
-fn altered(disk: Option<MemDisk>, n: u32, changed: Change) -> Option<MemDisk> {
+pub fn altered(disk: Option<MemDisk>, n: u32, changed: Change) -> Option<MemDisk> {
     let mut disk = disk?;
     let mut page = Page::zeros();
     if n >= disk.pages() {

@@ -14,6 +14,8 @@ mod format;
 #[cfg(test)]
 mod log;
 #[cfg(test)]
+mod redo;
+#[cfg(test)]
 mod refusals;
 #[cfg(test)]
 mod sources;

@@ -1,11 +1,9 @@
 -- Each call that a line asks for is within the limits of calls, and only a changing one is lazy.
-use Rattle.std.proofs.Common.{◌≡◌, ◌≢◌, ◌<◌, ◌≤◌, ℕ, ◌+◌, Bool, true, false, List, [], ◌∷◌, ◌++◌, length, refl, sym, ap, subst, ◌∙◌, ◌⊎◌, inl, inr}
+use Rattle.std.proofs.Common.{◌≡◌, ℕ, ◌+◌, Bool, true, false, List, [], ◌∷◌, ◌++◌, length, refl, subst, ◌∙◌, inl, inr}
 use Rattle.std.specs.Prelude.{Option, Some, None, Result, Ok, Err}
 use Rattle.std.specs.Result.{IfOk}
 use Rattle.std.specs.Global.{Vec}
-use Rattle.std.specs.List.{AllByRecursion}
 use Rattle.jfs_bits.specs.declared.rule.Rule.{Rule}
-use Rattle.jfs_bits.specs.declared.rule.Rule.TheVariants as rules
 use Rattle.jfs_plain.specs.Call.{is_changing}
 use Rattle.jfs_plain.specs.Limits.{FitsPath, FitsMode, FitsTarget, FitsBytes, FitsRange, FitsCall, FitsRequest}
 use Rattle.jfs_plain.specs.declared.call.Call.{Call}
@@ -13,13 +11,11 @@ use Rattle.jfs_plain.specs.declared.call.Call.TheVariants as calls
 use Rattle.jfs_plain.specs.declared.call.Line.{Line}
 use Rattle.jfs_plain.specs.declared.call.Request.{Request}
 use Rattle.jfs_script.specs.declared.error.ScriptError.{ScriptError}
-use Rattle.jfs_script.specs.declared.error.ScriptError.TheVariants as errors
 use Rattle.jfs_script.specs.declared.verb.Verb.{Verb}
 use Rattle.jfs_script.specs.declared.verb.Verb.TheVariants as verbs
 use Rattle.jfs_script.specs.Lines.{is_skipped, is_text, lines_of, words_of}
-use Rattle.jfs_script.specs.Number.{count_of, mode_of, hex_of}
-use Rattle.jfs_script.specs.Words.{Path, Then, PathIs, OneWord, TwoWords, ThreeWords, FourWords, PathAlone, PathAndMode, TwoPaths, PathAndTarget, PathAndSize, PathAndBytes, PathAndRange, PathAndFill}
-use Rattle.jfs_script.specs.Line.{verb_of, may_be_lazy, Makes, CallIs, NoWords, FittingCallIs, NamedCallIs, LazyCallIs, CallAfter, RequestIs, TextIs, UnlessSkipped, LineIs}
+use Rattle.jfs_script.specs.Words.{Path, PathAlone, PathAndMode, TwoPaths, PathAndTarget, PathAndSize, PathAndBytes, PathAndRange, PathAndFill}
+use Rattle.jfs_script.specs.Line.{verb_of, may_be_lazy, Makes, CallIs, NoWords, FittingCallIs, NamedCallIs, LazyCallIs, CallAfter, RequestIs, TextIs, UnlessSkipped}
 use Rattle.jfs_script.specs.Script.{Asks, no_lines, skips, calls as asks, AllFit}
 use Rattle.jfs_script.specs.Progress.{IsFinished}
 use Rattle.jfs_script.proofs.Limits.{mode_of-fits, count_of-fits, hex_of-fits}

@@ -6,3 +6,7 @@ pub mod Given
 pub mod Targets
 pub mod Limits
 pub mod Fitting
+pub mod UnitsOnce
+pub mod OnePath
+pub mod OneMeaning
+pub mod Histories

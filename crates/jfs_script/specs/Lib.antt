@@ -6,5 +6,7 @@ pub mod Words
 pub mod Number
 pub mod Target
 pub mod Text
+pub mod History
+pub mod Laws
 -- how far a script is read: for the prover
 pub mod Progress

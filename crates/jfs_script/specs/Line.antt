@@ -1,5 +1,5 @@
 -- A line of a script: `lazy` perhaps, the name of a call, and its arguments.
-use Rattle.std.specs.Prelude.{◌≡◌, ◌⊎◌, ℕ, Bool, true, false, if◌then◌else◌, List, [], ◌∷◌, length, codes, Option, Some, None, Result, Ok, Err}
+use Rattle.std.specs.Prelude.{◌≡◌, ℕ, Bool, true, false, if◌then◌else◌, List, [], ◌∷◌, codes, Option, Some, None, Result, Ok, Err}
 use Rattle.std.specs.Str.{bytes_eq}
 use Rattle.jfs_bits.specs.declared.rule.Rule.{Rule}
 use Rattle.jfs_bits.specs.declared.rule.Rule.TheVariants as rules
@@ -9,7 +9,7 @@ use Rattle.jfs_plain.specs.declared.call.Request.{Request}
 use Rattle.jfs_script.specs.declared.verb.Verb.{Verb}
 use Rattle.jfs_script.specs.declared.verb.Verb.TheVariants as verbs
 use Rattle.jfs_script.specs.Lines.{is_skipped, is_text, words_of}
-use Rattle.jfs_script.specs.Words.{Path, Then, PathAlone, PathAndMode, TwoPaths, PathAndTarget, PathAndSize, PathAndBytes, PathAndRange, PathAndFill}
+use Rattle.jfs_script.specs.Words.{Then, PathAlone, PathAndMode, TwoPaths, PathAndTarget, PathAndSize, PathAndBytes, PathAndRange, PathAndFill}
 
 -- the names of calls
 unfoldable pub verb_of : List ℕ → Option Verb

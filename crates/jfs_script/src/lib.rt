@@ -2,6 +2,8 @@
 #![tactic(auto)]
 
 mod error;
+mod history;
+mod law;
 mod line;
 mod number;
 mod print;
@@ -12,5 +14,7 @@ mod verb;
 mod word;
 
 pub use error::ScriptError;
+pub use history::{write_done, write_history};
+pub use law::scripts_mean_one_thing;
 pub use print::write_entry;
 pub use script::read_script;

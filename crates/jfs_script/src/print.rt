@@ -204,7 +204,7 @@ fn push_number(alloc: Global, into: &mut Vec<u8>, number: u64) -> Result<(), All
     push_decimal(alloc, into, number)
 }
 
-fn push_decimal(alloc: Global, into: &mut Vec<u8>, number: u64) -> Result<(), AllocError>
+pub(crate) fn push_decimal(alloc: Global, into: &mut Vec<u8>, number: u64) -> Result<(), AllocError>
     ensures { OnOk result (into.new.items ≡ into.old.items ++ decimal number) }
 {
     into.extend_from_slice(number.to_string(alloc)?.as_bytes())

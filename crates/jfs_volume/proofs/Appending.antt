@@ -1,11 +1,16 @@
 -- An append, from the parts that have room in memory for it on.
-use Rattle.std.proofs.Common.{◌≡◌, ◌<◌, ◌+◌, ◌++◌, ℕ, suc, Bool, true, false, List, [], ◌∷◌, length, refl, sym, ap, ◌∙◌, subst, arith}
+use Rattle.std.proofs.Common.{◌≡◌, ◌+◌, ◌++◌, ℕ, Bool, true, List, [], ◌∷◌, refl, sym, ap, ◌∙◌, subst}
 use Rattle.jfs_bits.specs.declared.descriptor.Moment.{Moment}
 use Rattle.jfs_disk.specs.Crash.{DiskState}
+use Rattle.jfs_disk.specs.Image.{Image}
+use Rattle.jfs_disk.specs.declared.disk.Fault.{Fault}
+use Rattle.jfs_core.specs.Image.{pages_after}
+use Rattle.jfs_data_steps.specs.declared.pages.DataPage.{DataPage}
+use Rattle.jfs_volume.specs.Data.{put_pages}
+use Rattle.jfs_volume.specs.Written.{writes}
 use Rattle.jfs_ranges.specs.declared.edit.Edit.{Edit}
-use Rattle.jfs_ranges.specs.Apply.{touches_tx}
-use Rattle.jfs_bmap.specs.States.{Blocks, BlockState, Free, put_state}
-use Rattle.jfs_pages.specs.Dirty.{dirty_of, touched_by}
+use Rattle.jfs_bmap.specs.States.{Blocks, BlockState, Free, put_state, state_of, is_busy_state}
+use Rattle.jfs_pages.specs.Dirty.{dirty_of}
 use Rattle.jfs_plain.specs.declared.call.Entry.{Entry}
 use Rattle.jfs_records.specs.Records.{Noted, tx_of}
 use Rattle.jfs_halves.specs.Marks.{map_after}
@@ -15,10 +20,10 @@ use Rattle.jfs_halves.specs.Parts.{Parts, StandsFor}
 use Rattle.jfs_halves.specs.Moves.{Moves}
 use Rattle.jfs_volume.specs.declared.draft.Draft.{Draft}
 use Rattle.jfs_volume.specs.declared.joined.Joined.{Joined}
-use Rattle.jfs_volume.specs.declared.joined.Joined.TheVariants.{Entered, NoRoom, NoMemory, Unread}
-use Rattle.jfs_volume.specs.declared.joined.InodeMarks.{InodeMarks}
+use Rattle.jfs_volume.specs.declared.joined.Joined.TheVariants.{Entered, NoRoom, NoMemory, Unread, Failed}
+use Rattle.jfs_marks.specs.declared.marks.InodeMarks.{InodeMarks}
 use Rattle.jfs_volume.specs.Runs.{taken_in}
-use Rattle.jfs_volume.specs.Append.{Appends, unreserved, Stays, StaysUnless, KeepsStates, IsDraft, Adds, AddsEntry, TellsRoom}
+use Rattle.jfs_volume.specs.Append.{Appends, unreserved, IsWritable, Stays, Fails, StaysUnless, ShowsEntry, KeepsStates, IsDraft, Adds, AddsEntry, TellsRoom}
 use Rattle.jfs_volume.proofs.Entering.{stays_moves, same_trans}
 use Rattle.jfs_volume.proofs.Taken.{same_after}
 
@@ -35,11 +40,17 @@ pub kept_stands : (seen asked : Bool) (tx : List Edit) (p m : Parts) (half : Vol
 kept_stands seen asked tx p m half s k =
     (stays_moves seen asked tx p m half s (stays_of p m k) (λ t. ap (λ (q : Parts). q.view) k.parts) (λ t. ap (λ (q : Parts). q.disk) k.parts) (λ t u. ap (λ (q : Parts). q.past) k.parts)).stands
 
-pub appends_after : (seen asked : Bool) (entry : Entry) (now : Moment) (noted : List Noted) (p m q : Parts) (half : VolumeHalf) (result : Joined) → KeepsStates p m → Appends seen asked entry now noted m q half result → Appends seen asked entry now noted p q half result
-appends_after seen asked entry now noted p m q half (Entered n) k a = (from_before seen asked (unreserved (tx_of noted) p) (unreserved (tx_of noted) m) q half _ (ap (λ (r : Parts). r.past) k.parts) a.0, a.1)
-appends_after seen asked entry now noted p m q half NoRoom k a = from_before seen asked (unreserved (tx_of noted) p) (unreserved (tx_of noted) m) (unreserved (tx_of noted) q) half [] (ap (λ (r : Parts). r.past) k.parts) a
-appends_after seen asked entry now noted p m q half NoMemory k a = from_before seen asked (unreserved (tx_of noted) p) (unreserved (tx_of noted) m) (unreserved (tx_of noted) q) half [] (ap (λ (r : Parts). r.past) k.parts) a
-appends_after seen asked entry now noted p m q half (Unread fault) k a = from_before seen asked (unreserved (tx_of noted) p) (unreserved (tx_of noted) m) (unreserved (tx_of noted) q) half [] (ap (λ (r : Parts). r.past) k.parts) a
+pub appends_after : (seen asked : Bool) (entry : Entry) (now : Moment) (noted : List Noted) (contents : List DataPage) (p m q : Parts) (half : VolumeHalf) (result : Joined) → KeepsStates p m → Appends seen asked entry now noted contents m q half result → Appends seen asked entry now noted contents p q half result
+appends_after seen asked entry now noted contents p m q half (Entered n) k a = (from_before seen asked (unreserved (tx_of noted) p) (unreserved (tx_of noted) m) q half _ (ap (λ (r : Parts). r.past) k.parts) a.0, a.1)
+appends_after seen asked entry now noted contents p m q half NoRoom k a = from_before seen asked (unreserved (tx_of noted) p) (unreserved (tx_of noted) m) (unreserved (tx_of noted) q) half [] (ap (λ (r : Parts). r.past) k.parts) a
+appends_after seen asked entry now noted contents p m q half NoMemory k a = from_before seen asked (unreserved (tx_of noted) p) (unreserved (tx_of noted) m) (unreserved (tx_of noted) q) half [] (ap (λ (r : Parts). r.past) k.parts) a
+appends_after seen asked entry now noted contents p m q half (Unread fault) k a = from_before seen asked (unreserved (tx_of noted) p) (unreserved (tx_of noted) m) (unreserved (tx_of noted) q) half [] (ap (λ (r : Parts). r.past) k.parts) a
+appends_after seen asked entry now noted contents p m q half (Failed fault) k a = record {
+  pages = a.pages;
+  last = a.last;
+  is = a.is;
+  moves = from_before seen asked (unreserved (tx_of noted) p) (unreserved (tx_of noted) m) (unreserved (tx_of noted) q) half (writes a.pages ++ a.last ∷ []) (ap (λ (r : Parts). r.past) k.parts) a.moves;
+}
 
 -- nothing is changed at all
 pub kept_appends : (seen asked : Bool) (noted : List Noted) (p m : Parts) (half : VolumeHalf) → StandsFor seen asked (unreserved (tx_of noted) p) half → KeepsStates p m → Moves seen asked (unreserved (tx_of noted) p) (unreserved (tx_of noted) m) half []
@@ -70,15 +81,36 @@ entry_after entry noted marks p m q (Entered n) k a = (
 entry_after entry noted marks p m q NoRoom k a = tt
 entry_after entry noted marks p m q NoMemory k a = tt
 entry_after entry noted marks p m q (Unread fault) k a = tt
+entry_after entry noted marks p m q (Failed fault) k a = tt
 
 stays_after : (p q : Parts) (map : Blocks) → SameStates map p.map → Stays (record p { map = map }) q → Stays p q
 stays_after p q map same s = record { parts = s.parts; map = same_trans q.map map p.map s.map same }
+
+fails_after : (fault : Fault) (p q : Parts) (map : Blocks) → SameStates map p.map → Fails fault (record p { map = map }) q → Fails fault p q
+fails_after fault p q map same s = record { parts = s.parts; map = same_trans q.map map p.map s.map same }
 
 pub unless_after : (p m q : Parts) (result : Joined) → (result ≡ NoRoom → ⊥) → KeepsStates p m → StaysUnless result m q → StaysUnless result p q
 unless_after p m q (Entered n) never k s = tt
 unless_after p m q NoRoom never k s = absurd (never refl)
 unless_after p m q NoMemory never k s = stays_after p q m.map k.map (subst (λ (r : Parts). Stays r q) k.parts s)
 unless_after p m q (Unread fault) never k s = stays_after p q m.map k.map (subst (λ (r : Parts). Stays r q) k.parts s)
+unless_after p m q (Failed fault) never k s = fails_after fault p q m.map k.map (subst (λ (r : Parts). Fails fault r q) k.parts s)
+
+-- what the volume shows doesn't hang on memory for the map
+pub shows_after : (contents : List DataPage) (tx : List Edit) (p m q : Parts) (result : Joined) → m.view ≡ p.view → ShowsEntry contents tx m q result → ShowsEntry contents tx p q result
+shows_after contents tx p m q (Entered n) same a = a ∙ ap (λ (image : Image). pages_after 0 tx (put_pages contents image)) same
+shows_after contents tx p m q NoRoom same a = a ∙ same
+shows_after contents tx p m q NoMemory same a = a ∙ same
+shows_after contents tx p m q (Unread fault) same a = a ∙ same
+shows_after contents tx p m q (Failed fault) same a = tt
+
+-- nor do blocks that may be written
+pub writable_after : (contents : List DataPage) (tx : List Edit) (p m : Parts) → KeepsStates p m → IsWritable contents (unreserved tx p) → IsWritable contents (unreserved tx m)
+writable_after contents tx p m k may b put =
+    let w = may b put in (
+      ap (λ (r : Parts). dirty_of r.dirty b) k.parts ∙ w.0,
+      ap (λ (states : List BlockState). is_busy_state (state_of (put_state Free (taken_in tx) (record m.map { states = states })) b)) k.map.states ∙ w.1,
+    )
 
 pub draft_after : (noted : List Noted) (p m : Parts) (draft : Draft) → KeepsStates p m → IsDraft noted p draft → IsDraft noted m draft
 draft_after noted p m draft k d = subst (λ (r : Parts). IsDraft noted r draft) (sym k.parts) (record { bytes = d.bytes; ends = d.ends; last = d.last; pages = d.pages; taken = d.taken; freed = d.freed })
@@ -88,6 +120,7 @@ tells_room room (Entered n) e never = e
 tells_room room NoRoom e never = absurd (never refl)
 tells_room room NoMemory e never = e
 tells_room room (Unread fault) e never = e
+tells_room room (Failed fault) e never = e
 
 pub kept_same : (p : Parts) → KeepsStates p p
 kept_same p = record { parts = refl; map = record { states = refl; agsize = refl } }

@@ -1,7 +1,7 @@
 -- Pages that are dropped, one after the other.
-use Rattle.std.proofs.Common.{◌≡◌, ◌<◌, ◌≤◌, ◌⊎◌, ◌+◌, ℕ, zero, suc, Bool, List, [], ◌∷◌, ◌++◌, length, Option, Some, None, slice_get, sym, subst, inl, inr, arith}
-use Rattle.std.proofs.lemmas.Bool.{cases_lt}
-use Rattle.std.proofs.lemmas.List.{map-append}
+use Rattle.std.proofs.Common.{◌≡◌, ◌<◌, ◌≤◌, ◌⊎◌, ◌+◌, ℕ, zero, suc, Bool, true, false, ◌==◌, ◌||◌, set, List, [], ◌∷◌, ◌++◌, length, Option, Some, None, slice_get, refl, sym, subst, inl, inr, arith}
+use Rattle.std.proofs.lemmas.Bool.{cases_lt, eqb-false}
+use Rattle.std.proofs.lemmas.List.{map-append, get_or-set_other}
 use Rattle.std.specs.List.{AllByRecursion}
 use Rattle.jfs_pages.specs.declared.dirty.Dirty.{Dirty}
 use Rattle.jfs_pages.specs.Dirty.{dirty_of}
@@ -11,7 +11,19 @@ use Rattle.jfs_halves.specs.Parts.{Parts, StandsFor, IsFreed}
 use Rattle.jfs_halves.specs.Change.{Change, Tells, Drops, after}
 use Rattle.jfs_halves.specs.Moves.{Moves}
 use Rattle.jfs_halves.proofs.Joined.{join}
+use Rattle.jfs_disk.specs.Image.{Image, page_of}
+use Rattle.jfs_pages.specs.Kept.{image_in}
+use Rattle.jfs_pages.specs.declared.kept.Kept.{Kept}
+use Rattle.jfs_volume.specs.Settles.{is_freed}
 use Rattle.jfs_volume.specs.Told.{drops, IsTold, IsDropped, AreDropped, MayBeDropped, StaysOrGoes}
+
+or_left : (a b : Bool) → (a || b) ≡ false → a ≡ false
+or_left true b h = cc (h)
+or_left false b h = refl
+
+or_right : (a b : Bool) → (a || b) ≡ false → b ≡ false
+or_right true b h = absurd (cc (h))
+or_right false b h = h
 
 pub item_at : {A : Type 0} (P : A → Type 0) (xs : List A) (i : ℕ) (x : A) → AllByRecursion P xs → slice_get xs i ≡ Some x → P x
 item_at P [] i x all e = absurd (cc)
@@ -49,3 +61,15 @@ pub place_of : {A : Type 0} (xs : List A) (i : ℕ) (x : A) → slice_get xs i �
 place_of [] i x e = absurd (cc)
 place_of (y ∷ xs) zero x e = omega arith
 place_of (y ∷ xs) (suc i) x e = let rest = place_of xs i x e in omega (arith, rest)
+
+-- ---- pages that stay
+
+-- a page that no entry freed is none of those that stand in the list
+pub not_freed : (freed : List FreedPage) (i : ℕ) (f : FreedPage) (q : ℕ) → slice_get freed i ≡ Some f → is_freed freed q ≡ false → (f.page == q) ≡ false
+not_freed [] i f q at none = absurd (cc (at))
+not_freed (g ∷ gs) zero f q at none = let same : g ≡ f = cc (at) in subst (λ (h : FreedPage). (h.page == q) ≡ false) same (or_left (g.page == q) (is_freed gs q) none)
+not_freed (g ∷ gs) (suc i) f q at none = not_freed gs i f q at (or_right (g.page == q) (is_freed gs q) none)
+
+-- another page than the one that is set
+pub other_page : (blocks : ℕ) (image : Image) (kept : Kept) (n q : ℕ) (bytes : List ℕ) → (n == q) ≡ false → page_of (set (image_in blocks image kept) n bytes) q ≡ page_of (image_in blocks image kept) q
+other_page blocks image kept n q bytes other = get_or-set_other (image_in blocks image kept) n q bytes [] (λ same. eqb-false n q other (sym same))

@@ -3,7 +3,6 @@ use Rattle.std.proofs.Common.{◌≡◌, ◌<◌, ◌≤◌, ◌⊎◌, ◌+◌,
 use Rattle.std.specs.List.{AllByRecursion}
 use Rattle.std.proofs.lemmas.Bool.{cases_lt, cases_Bool, cond-true, cond-false, and_parts, or_cases, ltb-true}
 use Rattle.std.proofs.lemmas.List.{get_or_past, ext_get_or}
-use Rattle.std.proofs.lemmas.List.FromFn.{get_or-map-range_with_len, length-map-range_with_len}
 use Rattle.jfs_bits.specs.declared.rule.PageKind.{PageKind}
 use Rattle.jfs_bits.specs.declared.rule.PageKind.TheVariants as kinds
 use Rattle.jfs_bits.specs.Line.{line_size}
@@ -15,9 +14,8 @@ use Rattle.jfs_ranges.specs.Apply.{apply_tx, touches_edit, touches_tx, place_of_
 use Rattle.jfs_logfmt.specs.Kinds.{page_type, page_blocks}
 use Rattle.jfs_pages.specs.declared.dirty.Dirty.{Dirty}
 use Rattle.jfs_pages.specs.declared.kept.Kept.{Kept}
-use Rattle.jfs_pages.specs.Dirty.{dirty_of, touched_by, last_of}
+use Rattle.jfs_pages.specs.Dirty.{touched_by, last_of}
 use Rattle.jfs_pages.specs.Kept.{shown, image_in}
-use Rattle.jfs_core.specs.declared.block.Span.{Span}
 use Rattle.jfs_core.specs.Core.{Block, no_block}
 use Rattle.jfs_core.specs.Image.{pages_after}
 use Rattle.jfs_core.specs.Step.{dirtied, marked}

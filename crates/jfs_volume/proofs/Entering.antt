@@ -1,37 +1,37 @@
 -- An entry with a transaction joins.
-use Rattle.std.proofs.Common.{◌≡◌, ◌<◌, ◌≤◌, ◌⊎◌, ◌+◌, ℕ, zero, suc, Bool, true, false, if◌then◌else◌, List, [], ◌∷◌, ◌++◌, length, map, drop, get_or, slice_get, Option, None, refl, sym, ap, ◌∙◌, inl, inr, subst, arith, add-one}
+use Rattle.std.proofs.Common.{◌≡◌, ◌<◌, ◌+◌, ℕ, suc, Bool, true, if◌then◌else◌, List, [], ◌∷◌, ◌++◌, length, Option, None, refl, sym, ap, ◌∙◌, inr, subst, arith}
 use Rattle.std.specs.List.{AllByRecursion}
 use Rattle.std.proofs.lemmas.List.{append-nil, length-append}
 use Rattle.jfs_bits.specs.declared.descriptor.Moment.{Moment}
 use Rattle.jfs_disk.specs.Image.{Image, page_of}
-use Rattle.jfs_disk.specs.Crash.{DiskState, last_of}
+use Rattle.jfs_disk.specs.Crash.{last_of}
 use Rattle.jfs_ranges.specs.declared.edit.Edit.{Edit}
 use Rattle.jfs_ranges.specs.Apply.{touches_tx}
-use Rattle.jfs_bmap.specs.States.{Blocks, BlockState, Free, Owned, state_of, is_in_list, put_state}
+use Rattle.jfs_bmap.specs.States.{Blocks, BlockState, Free, state_of, put_state, AreReserved}
 use Rattle.jfs_imap.specs.Inodes.{Inodes}
 use Rattle.jfs_pages.specs.Dirty.{dirty_of}
 use Rattle.jfs_core.specs.declared.block.Span.{Span}
 use Rattle.jfs_core.specs.Core.{Block}
 use Rattle.jfs_core.specs.Image.{pages_after}
-use Rattle.jfs_core.specs.Step.{dirtied, marked}
+use Rattle.jfs_core.specs.Step.{dirtied}
 use Rattle.jfs_core.proofs.Bounds.{length-marked}
 use Rattle.jfs_plain.specs.declared.call.Entry.{Entry}
 use Rattle.jfs_records.specs.Records.{Noted, tx_of}
 use Rattle.jfs_records.specs.Entries.{entry as item_of}
 use Rattle.jfs_halves.specs.declared.freed.FreedPage.{FreedPage}
-use Rattle.jfs_halves.specs.Entry.{Happened, entry_of}
-use Rattle.jfs_halves.specs.Marks.{frees_page, map_after, takes, frees}
+use Rattle.jfs_halves.specs.Entry.{Happened}
+use Rattle.jfs_halves.specs.Marks.{map_after}
 use Rattle.jfs_halves.specs.Half.{VolumeHalf, block_in}
 use Rattle.jfs_halves.specs.Change.{Enters, MayEnter, SameStates}
 use Rattle.jfs_halves.specs.Parts.{Parts, Text, StandsFor, IsTextOf, IsFreed, span_of}
 use Rattle.jfs_halves.specs.Moves.{Moves}
-use Rattle.jfs_volume.specs.declared.joined.InodeMarks.{InodeMarks}
-use Rattle.jfs_volume.specs.Runs.{taken_in, freed_in, pages_freed}
-use Rattle.jfs_volume.specs.Append.{entered, IsReservedFor, unreserved, text_with, Adds, Stays}
+use Rattle.jfs_marks.specs.declared.marks.InodeMarks.{InodeMarks}
+use Rattle.jfs_volume.specs.Runs.{taken_in, pages_freed}
+use Rattle.jfs_volume.specs.Append.{entered, unreserved, text_with, Adds, Stays}
 use Rattle.jfs_volume.proofs.Stand.{one, none}
 use Rattle.jfs_volume.proofs.Joining.{freed-later, entries-later}
-use Rattle.jfs_volume.proofs.Editing.{low-marked, marked-at, marked-seen, span-touched, tx_within}
-use Rattle.jfs_volume.proofs.Taken.{takes_runs, frees_runs, taken_free, same_after, all_append, all_freed, last_of_list}
+use Rattle.jfs_volume.proofs.Editing.{low-marked, marked-at, marked-seen, span-touched}
+use Rattle.jfs_volume.proofs.Taken.{taken_free, same_after, all_append, all_freed, last_of_list}
 use Rattle.jfs_volume.proofs.Texts.{text_entered}
 
 -- ---- it may enter
@@ -39,15 +39,12 @@ use Rattle.jfs_volume.proofs.Texts.{text_entered}
 pub same_trans : (a b c : Blocks) → SameStates a b → SameStates b c → SameStates a c
 same_trans a b c one two = record { states = one.states ∙ two.states; agsize = one.agsize ∙ two.agsize }
 
-may_enter : (entry : Entry) (now : Moment) (noted : List Noted) (inodes : Inodes) (p : Parts) (half : VolumeHalf) → half.halted ≡ None → IsReservedFor (tx_of noted) p → SameStates (unreserved (tx_of noted) p).map half.shown.map → MayEnter half (entered entry now noted inodes half)
+may_enter : (entry : Entry) (now : Moment) (noted : List Noted) (inodes : Inodes) (p : Parts) (half : VolumeHalf) → half.halted ≡ None → AreReserved p.map (taken_in (tx_of noted)) → SameStates (unreserved (tx_of noted) p).map half.shown.map → MayEnter half (entered entry now noted inodes half)
 may_enter entry now noted inodes p half runs reserved same = record {
   runs = inr runs;
   pages = refl;
   map = record { states = refl; agsize = refl };
-  takes_free = record {
-    free = λ b t. ap (λ (states : List BlockState). state_of (record half.shown.map { states = states }) b) (sym same.states) ∙ taken_free p.map (tx_of noted) b reserved.reserved t;
-    apart = λ b t. frees_runs b (tx_of noted) ∙ reserved.apart b (sym (takes_runs b (tx_of noted)) ∙ t);
-  };
+  takes_free = λ b t. ap (λ (states : List BlockState). state_of (record half.shown.map { states = states }) b) (sym same.states) ∙ taken_free p.map (tx_of noted) b reserved t;
   logged = λ e. absurd (cc);
 }
 
@@ -68,7 +65,7 @@ pub record IsEdited (seen asked : Bool) (tx : List Edit) (p q : Parts) : Type 0 
   pub disk : seen ≡ true → q.disk ≡ p.disk
   pub past : seen ≡ true → asked ≡ true → q.past ≡ p.past
 
-pub enters_moves : (seen asked : Bool) (entry : Entry) (now : Moment) (noted : List Noted) (marks : InodeMarks) (p q : Parts) (half : VolumeHalf) → StandsFor seen asked (unreserved (tx_of noted) p) half → p.halted ≡ None → IsReservedFor (tx_of noted) p →
+pub enters_moves : (seen asked : Bool) (entry : Entry) (now : Moment) (noted : List Noted) (marks : InodeMarks) (p q : Parts) (half : VolumeHalf) → StandsFor seen asked (unreserved (tx_of noted) p) half → p.halted ≡ None → AreReserved p.map (taken_in (tx_of noted)) →
     ((m : ℕ) → touches_tx m (tx_of noted) ≡ true → m < p.blocks) → Adds entry noted marks p q → IsEdited seen asked (tx_of noted) p q →
     Moves seen asked (unreserved (tx_of noted) p) q half (Enters (entered entry now noted q.inodes half) ∷ [])
 enters_moves seen asked entry now noted marks p q half s runs reserved within adds edited =

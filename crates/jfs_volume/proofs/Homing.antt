@@ -32,7 +32,7 @@ may_go : (half : VolumeHalf) (n : ℕ) (d : Option Dirty) → n < length half.bl
 may_go half n d within e some early = (within, span-some d (block_in half n) e some, span-ends half.told d (block_in half n) e early)
 
 -- a page of the disk is set: so are its block's pages
-seen-set : (old new : Image) (n : ℕ) (bytes : List ℕ) (blocks : List Block) (block : Block) → n < length blocks → n < length old → new ≡ set old n bytes → block.pages.seen ≡ bytes →
+pub seen-set : (old new : Image) (n : ℕ) (bytes : List ℕ) (blocks : List Block) (block : Block) → n < length blocks → n < length old → new ≡ set old n bytes → block.pages.seen ≡ bytes →
     ((p : ℕ) → p < length blocks → page_of old p ≡ (get_or blocks p no_block).pages.seen) → (p : ℕ) → p < length blocks → page_of new p ≡ (get_or (set blocks n block) p no_block).pages.seen
 seen-set old new n bytes blocks block there inside is same each p h = ap (λ (image : Image). page_of image p) is ∙ at (cases_eq n p) ∙ ap (λ (b : Block). b.pages.seen) (sym (block-set blocks n p block there))
   where

@@ -1,24 +1,22 @@
 -- An entry that changes nothing joins.
-use Rattle.std.proofs.Common.{◌≡◌, ◌<◌, ◌≤◌, ◌⊎◌, ◌+◌, ℕ, zero, suc, Bool, true, false, if◌then◌else◌, List, [], ◌∷◌, ◌++◌, length, map, drop, get_or, slice_get, slice_index_or, Some, refl, sym, ap, ◌∙◌, inl, subst, arith}
+use Rattle.std.proofs.Common.{◌≡◌, ◌≤◌, ◌+◌, ℕ, zero, suc, Bool, false, List, [], ◌∷◌, ◌++◌, length, map, drop, get_or, slice_get, Some, refl, sym, ap, ◌∙◌, inl, subst, arith}
 use Rattle.std.proofs.lemmas.List.{append-nil, map-append, length-append, drop-append-le, ext_get_or}
 use Rattle.std.specs.List.{AllByRecursion}
 use Rattle.jfs_bits.specs.declared.descriptor.Moment.{Moment}
 use Rattle.jfs_disk.specs.Image.{Image}
 use Rattle.jfs_bmap.specs.Set.{each_below}
-use Rattle.jfs_bmap.specs.States.{Blocks, BlockState, Owned, state_of}
+use Rattle.jfs_bmap.specs.States.{Blocks, Owned, state_of}
 use Rattle.jfs_bmap.proofs.Views.{length-each_below, each_below-at}
-use Rattle.jfs_disk.specs.Crash.{PageHistory}
 use Rattle.jfs_core.specs.Core.{Block, no_block}
 use Rattle.jfs_core.specs.Image.{pages_after}
 use Rattle.jfs_core.specs.Step.{marked}
 use Rattle.jfs_plain.specs.declared.call.Entry.{Entry}
 use Rattle.jfs_plain.specs.declared.call.Request.{Request}
 use Rattle.jfs_plain.specs.declared.reply.Reply.{Reply}
-use Rattle.jfs_records.specs.Entries.{Item}
 use Rattle.jfs_halves.specs.declared.freed.FreedPage.{FreedPage}
 use Rattle.jfs_halves.specs.Entry.{Happened, entry_of}
 use Rattle.jfs_halves.specs.Marks.{map_after}
-use Rattle.jfs_halves.specs.Half.{VolumeHalf, Waiting, appended}
+use Rattle.jfs_halves.specs.Half.{VolumeHalf, Waiting}
 use Rattle.jfs_halves.specs.Change.{Enters, MayEnter, SameStates}
 use Rattle.jfs_halves.specs.Parts.{Parts, Text, StandsFor, IsTextOf, IsFreed}
 use Rattle.jfs_halves.specs.Moves.{Moves}
@@ -45,7 +43,7 @@ may_enter client line request now reply half = record {
   runs = inl refl;
   pages = sym (pages_after-none 0 half.shown.pages);
   map = same-map (suc (length half.history)) half.shown.map;
-  takes_free = record { free = λ b e. absurd (cc); apart = λ b e. absurd (cc) };
+  takes_free = λ b e. absurd (cc);
   logged = λ e. refl;
 }
 

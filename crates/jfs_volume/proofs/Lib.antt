@@ -1,6 +1,14 @@
 pub mod Stand
 pub mod Counts
 pub mod Homing
+pub mod Writing
+pub mod Putting
+pub mod PuttingAll
+pub mod Showing
+pub mod GivingBack
+pub mod Busy
+pub mod Lending
+pub mod Files
 pub mod Dropping
 pub mod Starting
 pub mod Joining
@@ -11,3 +19,5 @@ pub mod Entering
 pub mod Appending
 pub mod Rising
 pub mod Settling
+pub mod Settled
+pub mod CallJoins

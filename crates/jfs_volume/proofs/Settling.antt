@@ -1,16 +1,15 @@
 -- Redo begins behind all entries, and the SYNCPT that says so is taken.
-use Rattle.std.proofs.Common.{◌≡◌, ◌<◌, ◌≤◌, ◌+◌, ℕ, zero, suc, Bool, List, [], ◌∷◌, ◌++◌, length, map, get_or, Option, None, refl, sym, ap, ◌∙◌, arith}
+use Rattle.std.proofs.Common.{◌≡◌, ◌+◌, ℕ, zero, suc, Bool, List, [], ◌∷◌, ◌++◌, length, map, get_or, None, refl, sym, ap, ◌∙◌, arith}
 use Rattle.std.proofs.lemmas.List.{append-nil, length-append}
-use Rattle.jfs_pages.specs.declared.dirty.Dirty.{Dirty}
 use Rattle.jfs_pages.specs.Dirty.{dirty_of}
 use Rattle.jfs_core.specs.Core.{Block, no_block}
 use Rattle.jfs_core.specs.Step.{synced}
 use Rattle.jfs_logpages.specs.Records.{ends_of}
 use Rattle.jfs_records.specs.Entries.{Item, entry, point, text_size, log_records}
 use Rattle.jfs_records.proofs.ReadBack.{length-items, text_size-append}
-use Rattle.jfs_halves.specs.Half.{VolumeHalf, Waiting, block_in, point_made, all_synced, text_end}
+use Rattle.jfs_halves.specs.Half.{VolumeHalf, Waiting, all_synced}
 use Rattle.jfs_halves.specs.Parts.{Parts, Text, StandsFor, IsTextOf, span_of}
-use Rattle.jfs_halves.specs.Change.{Change, Points, Takes, Knows, MayPoint, after}
+use Rattle.jfs_halves.specs.Change.{Points, Takes, Knows, MayPoint}
 use Rattle.jfs_halves.specs.Moves.{Moves}
 use Rattle.jfs_volume.specs.Settle.{with_point}
 use Rattle.jfs_volume.proofs.Stand.{one}

@@ -31,7 +31,7 @@ one seen asked old new half c fits stands past = record { fit = (fits, tt); stan
 abbrev pages_in : Block → PageHistory
 pages_in block = block.pages
 
-history_of-low : (half : VolumeHalf) (n : ℕ) → history_of (low_in half) n ≡ (block_in half n).pages
+pub history_of-low : (half : VolumeHalf) (n : ℕ) → history_of (low_in half) n ≡ (block_in half n).pages
 history_of-low half n = at (cases_lt n (length half.blocks))
   where
     at : (n < length half.blocks) ⊎ (length half.blocks ≤ n) → history_of (low_in half) n ≡ (block_in half n).pages

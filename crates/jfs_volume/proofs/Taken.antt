@@ -1,10 +1,9 @@
 -- What a transaction takes and frees: by its runs, and by each block.
-use Rattle.std.proofs.Common.{◌≡◌, ◌<◌, ◌≤◌, ◌⊎◌, ◌+◌, ◌-◌, ◌*◌, ◌&&◌, ◌||◌, ◌==◌, ℕ, zero, suc, Bool, true, false, not, nat_le, nat_lt, if◌then◌else◌, List, [], ◌∷◌, ◌++◌, length, drop, get_or, Some, None, slice_get, slice_index_or, refl, sym, ap, ◌∙◌, inl, inr, arith}
+use Rattle.std.proofs.Common.{◌≡◌, ◌<◌, ◌≤◌, ◌⊎◌, ◌+◌, ◌-◌, ◌*◌, ◌&&◌, ◌||◌, ℕ, Bool, true, false, not, nat_le, nat_lt, if◌then◌else◌, List, [], ◌∷◌, ◌++◌, length, drop, get_or, Some, None, slice_get, refl, sym, ap, ◌∙◌, inl, inr, arith}
 use Rattle.std.specs.List.{AllByRecursion}
 use Rattle.std.proofs.lemmas.Bool.{cases_Bool, cases_lt, lt-ltb, le-ltb, leb-true, or_right, eq-eqb}
 use Rattle.std.proofs.lemmas.List.{get_or_past, ext_get_or, length-append, drop_more}
 use Rattle.jfs_bits.specs.declared.descriptor.Pxd.{Pxd}
-use Rattle.jfs_bits.specs.declared.rule.PageKind.{PageKind}
 use Rattle.jfs_bits.specs.Bits.{is_in_run}
 use Rattle.jfs_ranges.specs.declared.edit.Edit.{Edit}
 use Rattle.jfs_ranges.specs.declared.edit.Edit.TheVariants.{Lines, NoRedo, Alloc, Free as FreeRun}
@@ -15,7 +14,7 @@ use Rattle.jfs_records.specs.Marks.{has_block, mark_of, is_new_extent}
 use Rattle.jfs_records.specs.Redo.{is_noredo}
 use Rattle.jfs_records.specs.Sizes.{edit_bytes, bytes_of}
 use Rattle.jfs_halves.specs.declared.freed.FreedPage.{FreedPage}
-use Rattle.jfs_halves.specs.Marks.{is_taking, is_freeing, takes, frees, entered_state, map_after, frees_page, TakeFree}
+use Rattle.jfs_halves.specs.Marks.{is_taking, is_freeing, takes, frees, entered_state, map_after, frees_page}
 use Rattle.jfs_halves.specs.Change.{SameStates}
 use Rattle.jfs_volume.specs.Runs.{taken_by, taken_in, freed_by, freed_in, page_freed, pages_freed}
 
@@ -35,7 +34,7 @@ in_run run b = by (cases_Bool (nat_le run.addr b))
         side (inl h) = lt-ltb (b - run.addr) run.len h ∙ sym (lt-ltb b (run.addr + run.len) (omega (arith, h, low)))
         side (inr h) = le-ltb (b - run.addr) run.len h ∙ sym (le-ltb b (run.addr + run.len) (omega (arith, h, low)))
 
-in_list-append : (xs ys : List Pxd) (b : ℕ) → is_in_list (xs ++ ys) b ≡ (is_in_list xs b || is_in_list ys b)
+pub in_list-append : (xs ys : List Pxd) (b : ℕ) → is_in_list (xs ++ ys) b ≡ (is_in_list xs b || is_in_list ys b)
 unfolding is_in_list
 in_list-append [] ys b = refl
 in_list-append (x ∷ xs) ys b = rw (in_list-append xs ys b) (assoc (is_in_run x.addr x.len b) (is_in_list xs b) (is_in_list ys b))
@@ -136,8 +135,8 @@ after_length n tx m =
     changed-length (λ (b : ℕ) (s : BlockState). entered_state n tx b s) (put_state Free (taken_in tx) m)
     ∙ changed-length (λ (b : ℕ) (s : BlockState). if is_in_list (taken_in tx) b then Free else s) m
 
-pub map_made_is : (n : ℕ) (tx : List Edit) (m : Blocks) → ((b : ℕ) → is_in_list (taken_in tx) b ≡ true → is_in_list (freed_in tx) b ≡ false) → SameStates (map_made n tx m) (map_after n tx (put_state Free (taken_in tx) m))
-map_made_is n tx m apart = record {
+pub map_made_is : (n : ℕ) (tx : List Edit) (m : Blocks) → SameStates (map_made n tx m) (map_after n tx (put_state Free (taken_in tx) m))
+map_made_is n tx m = record {
   states = ext_get_or Owned (map_made n tx m).states (map_after n tx (put_state Free (taken_in tx) m)).states (made_length n tx m ∙ sym (after_length n tx m))
       (λ b h. at b (omega (arith, h, made_length n tx m)) (cases_Bool (is_in_list (taken_in tx) b)));
   agsize = refl;
@@ -159,7 +158,7 @@ map_made_is n tx m apart = record {
     right b h = changed-at (λ (c : ℕ) (s : BlockState). entered_state n tx c s) (put_state Free (taken_in tx) m) b (omega (arith, h, changed-length free m)) ∙ ap (λ (s : BlockState). entered_state n tx b s) (changed-at free m b h)
 
     middle : (b : ℕ) (s : BlockState) → (is_in_list (taken_in tx) b ≡ true) ⊎ (is_in_list (taken_in tx) b ≡ false) → release b (own b s) ≡ entered_state n tx b (free b s)
-    middle b s (inl t) = rw (takes_runs b tx, t, apart b t) refl
+    middle b s (inl t) = rw (takes_runs b tx, frees_runs b tx, t) refl
     middle b s (inr t) = rw (takes_runs b tx, frees_runs b tx, t) refl
 
     at : (b : ℕ) → b < length m.states → (is_in_list (taken_in tx) b ≡ true) ⊎ (is_in_list (taken_in tx) b ≡ false) → state_of (map_made n tx m) b ≡ state_of (map_after n tx (put_state Free (taken_in tx) m)) b

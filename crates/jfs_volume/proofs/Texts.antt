@@ -1,5 +1,5 @@
 -- The text with the records of one more entry.
-use Rattle.std.proofs.Common.{◌≡◌, ◌<◌, ◌≤◌, ◌⊎◌, ◌+◌, ◌-◌, ◌*◌, ◌/◌, ◌^◌, ◌&&◌, ℕ, zero, suc, Bool, true, false, nat_le, min, List, [], ◌∷◌, ◌++◌, length, map, refl, sym, ap, ◌∙◌, inl, inr, arith}
+use Rattle.std.proofs.Common.{◌≡◌, ◌<◌, ◌≤◌, ◌⊎◌, ◌+◌, ◌-◌, ◌^◌, ℕ, suc, true, false, nat_le, min, List, [], ◌∷◌, ◌++◌, length, map, refl, sym, ap, ◌∙◌, inl, inr, arith}
 use Rattle.std.specs.List.{AllByRecursion}
 use Rattle.std.proofs.lemmas.Bool.{cases_lt, and_parts, leb-true, lt-leb}
 use Rattle.std.proofs.lemmas.List.{append-nil, length-append}
@@ -13,15 +13,15 @@ use Rattle.jfs_logpages.specs.Ring.{ends_with}
 use Rattle.jfs_logpages.specs.Records.{size_of, sizes_of, log_text, ends_of, AreWhole}
 use Rattle.jfs_records.specs.declared.note.Note.{Note}
 use Rattle.jfs_records.specs.Records.{Noted, noted, records_of, tx_of}
-use Rattle.jfs_records.specs.Entries.{Item, entry as item_of, item_records, item_size, log_records, text_size}
-use Rattle.jfs_records.specs.Sizes.{entry_size, bytes_of}
+use Rattle.jfs_records.specs.Entries.{entry as item_of, item_records, log_records, text_size}
+use Rattle.jfs_records.specs.Sizes.{entry_size}
 use Rattle.jfs_records.specs.Limits.{IsLoggable}
 use Rattle.jfs_records.proofs.ReadBack.{length-items, length-item, records-append}
 use Rattle.jfs_records.proofs.Sizes.{entry_sized}
 use Rattle.jfs_records.proofs.Whole.{whole_records}
 use Rattle.jfs_halves.specs.Half.{Waiting}
 use Rattle.jfs_halves.specs.Parts.{Text, IsTextOf}
-use Rattle.jfs_volume.specs.Room.{fits_room, has_room}
+use Rattle.jfs_volume.specs.Room.{has_room}
 use Rattle.jfs_volume.specs.Append.{text_with}
 
 -- ---- ends

@@ -1,10 +1,10 @@
 -- An entry with a transaction joins.
-use Rattle.std.specs.Prelude.{◌≡◌, ◌≤◌, ◌∷◌, ◌++◌, ◌+◌, [], ℕ, suc, Bool, true, false, List, length}
+use Rattle.std.specs.Prelude.{◌≡◌, ◌≤◌, ◌∷◌, ◌++◌, ◌+◌, [], ℕ, suc, Bool, true, false, List, length, Some, None}
 use Rattle.jfs_bits.specs.declared.descriptor.Moment.{Moment}
 use Rattle.jfs_disk.specs.declared.disk.Fault.{Fault}
 use Rattle.jfs_ranges.specs.declared.edit.Edit.{Edit}
 use Rattle.jfs_ranges.specs.Apply.{touches_tx}
-use Rattle.jfs_bmap.specs.States.{Free, is_in_list, put_state, AreReserved}
+use Rattle.jfs_bmap.specs.States.{Free, put_state, state_of, is_busy_state}
 use Rattle.jfs_imap.specs.Inodes.{Inodes}
 use Rattle.jfs_plain.specs.declared.call.Entry.{Entry}
 use Rattle.jfs_core.specs.Image.{pages_after}
@@ -16,17 +16,22 @@ use Rattle.jfs_halves.specs.Entry.{Happened}
 use Rattle.jfs_halves.specs.Marks.{map_after}
 use Rattle.jfs_halves.specs.Half.{VolumeHalf}
 use Rattle.jfs_halves.specs.Parts.{Parts, Text}
-use Rattle.jfs_halves.specs.Change.{Enters, SameStates}
+use Rattle.jfs_halves.specs.Change.{Enters, SameStates, after}
 use Rattle.jfs_halves.specs.Moves.{Moves}
 use Rattle.jfs_pages.specs.Device.{IsFault}
 use Rattle.jfs_pages.specs.Dirty.{dirty_of, touched_by}
 use Rattle.jfs_volume.specs.Runs.{taken_in, freed_in, pages_freed}
-use Rattle.jfs_volume.specs.Marks.{AreMarked}
-use Rattle.jfs_volume.specs.declared.joined.InodeMarks.{InodeMarks}
+use Rattle.jfs_data_steps.specs.After.{is_put}
+use Rattle.jfs_data_steps.specs.declared.pages.DataPage.{DataPage}
+use Rattle.jfs_volume.specs.Written.{writes, StopsWriting}
+use Rattle.jfs_volume.specs.Data.{put_pages}
+use Rattle.jfs_volume.specs.Stale.{stale_after}
+use Rattle.jfs_marks.specs.Marks.{AreMarked}
+use Rattle.jfs_marks.specs.declared.marks.InodeMarks.{InodeMarks}
 use Rattle.jfs_logfmt.specs.declared.log_record.Record.{Record}
 use Rattle.jfs_volume.specs.declared.draft.Draft.{Draft}
 use Rattle.jfs_volume.specs.declared.joined.Joined.{Joined}
-use Rattle.jfs_volume.specs.declared.joined.Joined.TheVariants.{Entered, NoRoom, NoMemory, Unread}
+use Rattle.jfs_volume.specs.declared.joined.Joined.TheVariants.{Entered, NoRoom, NoMemory, Unread, Failed}
 
 -- a call of a client that is answered, with its transaction and with what it leaves: it has a COMMIT in the log, also where no byte changes
 abbrev pub entered : Entry → Moment → List Noted → Inodes → VolumeHalf → Happened
@@ -46,10 +51,9 @@ entered entry now noted inodes half = record {
   };
 }
 
--- What a transaction takes is reserved, each block once, and it frees none of these.
-pub record IsReservedFor (tx : List Edit) (p : Parts) : Type 0 where
-  pub reserved : AreReserved p.map (taken_in tx)
-  pub apart : (b : ℕ) → is_in_list (taken_in tx) b ≡ true → is_in_list (freed_in tx) b ≡ false
+-- blocks that are to be written aren't busy, and no entry holds changes of them in memory
+abbrev pub IsWritable : List DataPage → Parts → Type 0
+IsWritable pages p = (b : ℕ) → is_put b pages ≡ true → (dirty_of p.dirty b ≡ None) × (is_busy_state (state_of p.map b) ≡ false)
 
 -- the parts before blocks were reserved for a transaction: those that it takes are free
 abbrev pub unreserved : List Edit → Parts → Parts
@@ -93,6 +97,7 @@ pub record Adds (entry : Entry) (noted : List Noted) (marks : InodeMarks) (old n
     faults = new.faults;
     map = new.map;
     inodes = new.inodes;
+    files = stale_after (taken_in (tx_of noted)) (freed_in (tx_of noted)) marks old.files;
     appended = old.appended + 1;
     entries = old.entries ++ entry ∷ [];
     text = text_with (old.appended + 1) noted old.text;
@@ -107,14 +112,24 @@ AddsEntry entry noted marks old new (Entered number) = Adds entry noted marks ol
 AddsEntry entry noted marks old new NoRoom = Unit {0}
 AddsEntry entry noted marks old new NoMemory = Unit {0}
 AddsEntry entry noted marks old new (Unread fault) = Unit {0}
+AddsEntry entry noted marks old new (Failed fault) = Unit {0}
 
--- The entry joins, and its number is told; or nothing changes. What was reserved for it is no change of the half.
-abbrev pub Appends : (seen asked : Bool) → Entry → Moment → List Noted → Parts → Parts → VolumeHalf → Joined → Type 0
-Appends seen asked entry now noted old new half (Entered number) =
-    Moves seen asked (unreserved (tx_of noted) old) new half (Enters (entered entry now noted new.inodes half) ∷ []) × (number ≡ suc (length half.history))
-Appends seen asked entry now noted old new half NoRoom = Moves seen asked (unreserved (tx_of noted) old) (unreserved (tx_of noted) new) half []
-Appends seen asked entry now noted old new half NoMemory = Moves seen asked (unreserved (tx_of noted) old) (unreserved (tx_of noted) new) half []
-Appends seen asked entry now noted old new half (Unread fault) = Moves seen asked (unreserved (tx_of noted) old) (unreserved (tx_of noted) new) half []
+-- The data is written, and then the entry joins, and its number is told; or nothing changes; or the write of a block failed. What was reserved for it is no change of the half.
+abbrev pub Appends : (seen asked : Bool) → Entry → Moment → List Noted → List DataPage → Parts → Parts → VolumeHalf → Joined → Type 0
+Appends seen asked entry now noted pages old new half (Entered number) =
+    Moves seen asked (unreserved (tx_of noted) old) new half (writes pages ++ Enters (entered entry now noted new.inodes (after half (writes pages))) ∷ []) × (number ≡ suc (length half.history))
+Appends seen asked entry now noted pages old new half NoRoom = Moves seen asked (unreserved (tx_of noted) old) (unreserved (tx_of noted) new) half []
+Appends seen asked entry now noted pages old new half NoMemory = Moves seen asked (unreserved (tx_of noted) old) (unreserved (tx_of noted) new) half []
+Appends seen asked entry now noted pages old new half (Unread fault) = Moves seen asked (unreserved (tx_of noted) old) (unreserved (tx_of noted) new) half []
+Appends seen asked entry now noted pages old new half (Failed fault) = StopsWriting seen asked (unreserved (tx_of noted) old) (unreserved (tx_of noted) new) half fault
+
+-- what the volume shows then: its pages after the data and the transaction
+abbrev pub ShowsEntry : List DataPage → List Edit → Parts → Parts → Joined → Type 0
+ShowsEntry pages tx old new (Entered number) = new.view ≡ pages_after 0 tx (put_pages pages old.view)
+ShowsEntry pages tx old new NoRoom = new.view ≡ old.view
+ShowsEntry pages tx old new NoMemory = new.view ≡ old.view
+ShowsEntry pages tx old new (Unread fault) = new.view ≡ old.view
+ShowsEntry pages tx old new (Failed fault) = Unit {0}
 
 -- the parts stay as they were, but for pages that were read and memory for the map
 pub record Stays (old new : Parts) : Type 0 where
@@ -126,12 +141,18 @@ pub record KeepsStates (old new : Parts) : Type 0 where
   pub parts : new ≡ record old { map = new.map }
   pub map : SameStates new.map old.map
 
+-- The parts stay as they were, but for pages that were read or written, and memory for the map; and the volume has halted at this fault.
+pub record Fails (fault : Fault) (old new : Parts) : Type 0 where
+  pub parts : new ≡ record old { view = new.view; disk = new.disk; past = new.past; faults = new.faults; map = new.map; halted = Some fault }
+  pub map : SameStates new.map old.map
+
 -- where the entry didn't join
 abbrev pub StaysUnless : Joined → Parts → Parts → Type 0
 StaysUnless (Entered number) old new = Unit {0}
 StaysUnless NoRoom old new = new ≡ old
 StaysUnless NoMemory old new = Stays old new
 StaysUnless (Unread fault) old new = Stays old new
+StaysUnless (Failed fault) old new = Fails fault old new
 
 -- No room is told exactly where the log has none.
 abbrev pub TellsRoom : Bool → Joined → Type 0
@@ -139,10 +160,12 @@ TellsRoom room (Entered number) = room ≡ true
 TellsRoom room NoRoom = room ≡ false
 TellsRoom room NoMemory = room ≡ true
 TellsRoom room (Unread fault) = room ≡ true
+TellsRoom room (Failed fault) = room ≡ true
 
--- the count of faults rises with a page that can't be read alone
+-- the count of faults rises alone with a page that can't be read, or a block that can't be written
 abbrev pub TellsFault : ℕ → ℕ → Joined → Type 0
 TellsFault before now (Entered number) = now ≡ before
 TellsFault before now NoRoom = now ≡ before
 TellsFault before now NoMemory = now ≡ before
 TellsFault before now (Unread fault) = IsFault before now fault
+TellsFault before now (Failed fault) = IsFault before now fault

@@ -34,3 +34,12 @@ Joins seen asked h old new half NoMemory = Moves seen asked old new half []
 -- the parts with one entry more, which has no record
 abbrev pub with_entry : Entry → Parts → Parts
 with_entry entry p = record p { appended = p.appended + 1; entries = p.entries ++ entry ∷ []; text = record p.text { last = p.appended + 1 } }
+
+-- the entry of a call of a client with its reply
+abbrev pub entry_with : ℕ → ℕ → Request → Reply → Entry
+entry_with client line request reply = record { client = client; line = line; call = request.call; lazy = request.lazy; reply = reply }
+
+-- the parts then, whether they stand for a half or not
+abbrev pub JoinsParts : Entry → Parts → Parts → Outcome → Type 0
+JoinsParts entry old new (Replied number) = (new ≡ with_entry entry old) × (number ≡ new.appended)
+JoinsParts entry old new NoMemory = new ≡ old

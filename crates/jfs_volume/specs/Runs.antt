@@ -1,5 +1,5 @@
 -- What edits take and free.
-use Rattle.std.specs.Prelude.{ℕ, List, [], ◌∷◌, ◌++◌, if◌then◌else◌}
+use Rattle.std.specs.Prelude.{ℕ, List, [], ◌∷◌, ◌++◌, if◌then◌else◌, Option, Some, None}
 use Rattle.jfs_bits.specs.declared.descriptor.Pxd.{Pxd}
 use Rattle.jfs_ranges.specs.declared.edit.Edit.{Edit}
 use Rattle.jfs_ranges.specs.declared.edit.Edit.TheVariants.{Lines, NoRedo, Alloc, Free}
@@ -13,6 +13,10 @@ taken_by (Lines page kind first bytes) = if is_new_extent kind bytes then record
 taken_by (NoRedo page) = []
 taken_by (Alloc run) = run ∷ []
 taken_by (Free run) = []
+
+abbrev pub runs_of : Option Pxd → List Pxd
+runs_of None = []
+runs_of (Some run) = run ∷ []
 
 abbrev pub freed_by : Edit → List Pxd
 freed_by (Lines page kind first bytes) = []

@@ -1,6 +1,8 @@
 //! Entries that are handed out, and what a volume tells of itself.
 
-ghost use Rattle.std.specs.Prelude.{◌≡◌, ◌==◌, ◌∷◌, [], length};
+ghost use Rattle.std.specs.Prelude.{◌≡◌, ◌≤◌, ◌<◌, ◌+◌, ℕ, nat_le, ◌∷◌, [], length, None};
+ghost use Rattle.jfs_disk.specs.Image.{page_of};
+ghost use Rattle.jfs_pages.specs.Dirty.{dirty_of};
 ghost use Rattle.jfs_halves.specs.Parts.{OfEachHalf};
 ghost use Rattle.jfs_halves.specs.Change.{HandsOut};
 ghost use Rattle.jfs_halves.specs.Moves.{Moves};
@@ -38,11 +40,11 @@ impl<D: Disk> Volume<D> {
         self.cache.blocks()
     }
 
-    /// Whether the block map has a state for each block of the file system part, as that of a volume has.
+    /// Whether the block map has states for blocks of the low part alone, as that of a volume has.
     pub fn has_whole_map(&self) -> bool
-        ensures { result ≡ (length self.now.map.states == self.now.blocks) }
+        ensures { result ≡ nat_le (length self.now.map.states) self.now.blocks }
     {
-        self.blocks.blocks() == self.cache.blocks()
+        self.maps.blocks.blocks() <= self.cache.blocks()
     }
 
     /// How many pages are dirty.
@@ -80,11 +82,21 @@ impl<D: Disk> Volume<D> {
         self.text.ring
     }
 
+    /// Where the log's text will end once all that waits is written, in bytes from the ring's page number 0 on.
+    pub fn text_end(&self) -> u64
+        ensures { result ≡ self.now.text.place + length self.now.text.bytes }
+    {
+        self.text.end()
+    }
+
     /// Hands back the low part, as it is. Pages that are dirty are lost. It takes no memory.
     pub fn into_low(self) -> D
         ensures pages { (D.page_count result ≡ self.count) × (D.room result ≡ self.room) × (D.fault_count result ≡ self.faults) }
         ensures image { D.image result ≡ self.disk }
         ensures past { D.past result ≡ self.past }
+        ensures place { self.blocks ≤ self.count }
+        // Where no page is dirty, the disk has what the volume shows.
+        ensures clean { D.tells → ((p : ℕ) → dirty_of self.dirty p ≡ None) → (p : ℕ) → p < self.blocks → page_of self.disk p ≡ page_of self.view p }
     {
         let Volume { cache, .. } = self;
         cache.into_disk()

@@ -1,6 +1,7 @@
 //! Groups of entries, and which entries are acknowledged.
 
-ghost use Rattle.std.specs.Prelude.{◌≡◌, ◌≤◌, ◌+◌, ◌∷◌, [], ℕ, Some, slice_get, length};
+ghost use Rattle.std.specs.Prelude.{◌≡◌, ◌≤◌, ◌+◌, ◌∷◌, [], ℕ, false, Some, slice_get, length};
+ghost use Rattle.jfs_disk.specs.Image.{page_of};
 ghost use Rattle.jfs_bmap.specs.States.{blocks_settled};
 ghost use Rattle.jfs_pages.specs.Dirty.{dirty_of};
 ghost use Rattle.jfs_halves.specs.declared.freed.FreedPage.{FreedPage as Freed};
@@ -8,6 +9,7 @@ ghost use Rattle.jfs_halves.specs.Parts.{OfEachHalf};
 ghost use Rattle.jfs_halves.specs.Change.{Takes};
 ghost use Rattle.jfs_halves.specs.Moves.{Moves};
 ghost use Rattle.jfs_volume.specs.Room.{IsWithinRoom};
+ghost use Rattle.jfs_volume.specs.Settles.{is_freed};
 ghost use Rattle.jfs_volume.specs.Told.{IsTold, MayBeDropped, still_freed};
 
 use crate::volume::Volume;
@@ -32,6 +34,7 @@ impl<D: Disk> Volume<D> {
         requires { (self.old.told ≤ n) × (n ≤ self.old.taken) }
         ensures told { OfEachHalf D.tells D.tells_crashes self.old (λ seen asked half. IsTold seen asked n self.old self.new half) }
         ensures dropped { (i : ℕ) (f : Freed) → slice_get self.old.freed i ≡ Some f → f.by_entry ≤ n → MayBeDropped f (dirty_of self.new.dirty f.page) → ⊥ }
+        ensures shows { D.tells → (q : ℕ) → is_freed self.old.freed q ≡ false → page_of self.new.view q ≡ page_of self.old.view q }
         ensures parts { self.new ≡ record self.old { view = self.new.view; dirty = self.new.dirty; told = n; map = blocks_settled n self.old.map; freed = still_freed n self.old.freed } }
     {
         self.acknowledge(n);
@@ -45,6 +48,7 @@ impl<D: Disk> Volume<D> {
     /// All entries that groups have taken are acknowledged, as `told` does. It takes no memory.
     pub fn told_all(&mut self)
         ensures told { OfEachHalf D.tells D.tells_crashes self.old (λ seen asked half. IsTold seen asked self.old.taken self.old self.new half) }
+        ensures shows { D.tells → (q : ℕ) → is_freed self.old.freed q ≡ false → page_of self.new.view q ≡ page_of self.old.view q }
         ensures parts { self.new ≡ record self.old {
           view = self.new.view;
           dirty = self.new.dirty;

@@ -6,6 +6,7 @@ ghost use Rattle.jfs_pages.specs.Dirty.{IsDirty, dirty_of, last_of};
 ghost use Rattle.jfs_core.specs.Step.{halted_by};
 ghost use Rattle.jfs_halves.specs.Parts.{OfEachHalf};
 ghost use Rattle.jfs_volume.specs.Home.{HomeIs};
+ghost use Rattle.jfs_volume.specs.Settles.{HomesAlone, HomeHalts};
 
 use crate::volume::Volume;
 use jfs_disk::{Disk, Fault};
@@ -23,6 +24,8 @@ impl<D: Disk> Volume<D> {
         ensures cause { GoesHomeBy (last_of (dirty_of self.old.dirty n)) self.old.told self.old.faults self.new.faults result }
         ensures counts { (self.new.told ≡ self.old.told) × (self.new.appended ≡ self.old.appended) × (self.new.taken ≡ self.old.taken) × (self.new.blocks ≡ self.old.blocks) × (self.new.points ≡ self.old.points) × (self.new.text ≡ self.old.text)
             × (self.new.count ≡ self.old.count) × (self.new.room ≡ self.old.room) }
+        ensures alone { HomesAlone D.tells self.old self.new }
+        ensures halts { HomeHalts self.old.halted self.new.halted result }
         ensures halted { OnOk result (self.new.halted ≡ self.old.halted) }
         ensures dirty { OnOk result ((q : ℕ) → dirty_of self.new.dirty q ≡ (if n == q then None else dirty_of self.old.dirty q)) }
     {

@@ -3,7 +3,7 @@
 ghost use Rattle.std.specs.Prelude.{◌≡◌, ◌<◌, ◌+◌, ◌^◌, ℕ, OnOk, OnErr};
 ghost use Rattle.jfs_bits.specs.declared.descriptor.Moment.{Moment};
 ghost use Rattle.jfs_halves.specs.Parts.{OfEachHalf};
-ghost use Rattle.jfs_volume.specs.Join.{Joins, unchanged, with_entry};
+ghost use Rattle.jfs_volume.specs.Join.{Joins, JoinsParts, entry_with, unchanged, with_entry};
 ghost use Rattle.jfs_volume.specs.declared.outcome.Outcome.TheVariants.{Replied, NoMemory};
 
 use crate::outcome::Outcome;
@@ -17,6 +17,7 @@ impl<D: Disk> Volume<D> {
     pub fn join_reply(&mut self, client: u32, line: u32, request: &Request, reply: Reply) -> Outcome
         requires { self.old.appended + 1 < 2 ^ 64 }
         ensures joins { (now : Moment) → OfEachHalf D.tells D.tells_crashes self.old (λ seen asked half. Joins seen asked (unchanged client line request.now now reply half) self.old self.new half result) }
+        ensures parts { JoinsParts (entry_with client line request.now reply) self.old self.new result }
         ensures number { (n : ℕ) → result ≡ Replied n → (n ≡ self.old.appended + 1) × (self.new.appended ≡ n) }
         ensures memory { result ≡ NoMemory → self.new ≡ self.old }
         ensures rest { (self.new.taken ≡ self.old.taken) × (self.new.told ≡ self.old.told) × (self.new.halted ≡ self.old.halted) × (self.new.text.ring ≡ self.old.text.ring) × (self.new.text.place ≡ self.old.text.place) }

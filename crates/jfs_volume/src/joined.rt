@@ -1,6 +1,5 @@
 //! How an entry with a transaction joins.
 
-use jfs_bits::Pxd;
 use jfs_disk::Fault;
 
 /// How an entry with a transaction joins the history.
@@ -14,12 +13,6 @@ pub enum Joined {
     NoMemory,
     /// A page that it changes can't be read, and nothing changed. The part's count of faults rose to the fault's.
     Unread { fault: Fault },
-}
-
-/// What an entry changes of the inode map: an inode extent that is added first, then an inode that is taken, then one that is given back.
-#[derive(Clone, Copy, PartialEq, Eq, Debug)]
-pub struct InodeMarks {
-    pub extent: Option<Pxd>,
-    pub taken: Option<u32>,
-    pub freed: Option<u32>,
+    /// The write of a block of a file failed: the entry didn't join, blocks before it were written, and the volume has halted. The part's count of faults rose to the fault's.
+    Failed { fault: Fault },
 }

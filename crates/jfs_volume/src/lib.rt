@@ -2,10 +2,17 @@
 #![tactic(auto)]
 
 mod append;
+mod asking;
+mod calling;
+mod data;
 mod draft;
 mod entries;
+mod front;
+mod give_back;
+mod gone;
 mod group;
 mod home;
+mod home_maps;
 mod join;
 mod joined;
 mod marks;
@@ -14,12 +21,17 @@ mod point;
 mod ready;
 mod runs;
 mod settle;
+mod stale;
 mod start;
 mod told;
 mod volume;
 mod waiting;
+mod write;
 
-pub use joined::{InodeMarks, Joined};
+pub use asking::Asks;
+pub use calling::Called;
+pub use front::Front;
+pub use joined::Joined;
 pub use outcome::Outcome;
 pub use volume::Volume;
 pub use waiting::WaitingText;

@@ -1,11 +1,11 @@
 //! What an entry changes of the inode map.
 
 ghost use Rattle.std.specs.Prelude.{◌≡◌};
-ghost use Rattle.jfs_volume.specs.Marks.{FitsMarks, AreMarked, FitsExtent, FitsTaken, IsExtended, with_taken_if, with_freed_if};
+ghost use Rattle.jfs_marks.specs.Marks.{FitsMarks, AreMarked, FitsExtent, FitsTaken, IsExtended, with_taken_if, with_freed_if};
 
-use crate::joined::InodeMarks;
 use jfs_bits::Pxd;
 use jfs_imap::InodeMap;
+use jfs_marks::InodeMarks;
 
 /// An extent is added, where there is one.
 fn add(inodes: &mut InodeMap, extent: Option<Pxd>)

@@ -7,6 +7,7 @@ ghost use Rattle.jfs_halves.specs.Parts.{OfEachHalf};
 ghost use Rattle.jfs_halves.specs.Change.{Points, Takes, Knows, MayPoint};
 ghost use Rattle.jfs_halves.specs.Moves.{Moves};
 ghost use Rattle.jfs_volume.specs.Settle.{AllHome, OneHome, SyncIs, KeepsCounts};
+ghost use Rattle.jfs_volume.specs.Settles.{HomesAlone, HaltsAt};
 
 use crate::volume::Volume;
 use jfs_disk::{Disk, Fault};
@@ -23,6 +24,8 @@ impl<D: Disk> Volume<D> {
         ensures home { OfEachHalf D.tells D.tells_crashes self.old (λ seen asked half. AllHome seen asked self.old self.new half result) }
         ensures clean { OnOk result ((p : ℕ) → dirty_of self.new.dirty p ≡ None) }
         ensures counts { KeepsCounts self.old self.new }
+        ensures alone { HomesAlone D.tells self.old self.new }
+        ensures halts { HaltsAt self.old.halted self.new.halted result }
         ensures halted { OnOk result (self.new.halted ≡ self.old.halted) }
         ensures cause { HasFault self.old.faults self.new.faults result }
     {
@@ -49,6 +52,8 @@ impl<D: Disk> Volume<D> {
         ensures home { OfEachHalf D.tells D.tells_crashes self.old (λ seen asked half. OneHome seen asked self.old self.new half result) }
         ensures lowest { OnOk result ((n : ℕ) → ((q : ℕ) → IsDirty self.old.dirty q → n ≤ q) → (q : ℕ) → IsDirty self.new.dirty q → n < q) }
         ensures counts { KeepsCounts self.old self.new }
+        ensures alone { HomesAlone D.tells self.old self.new }
+        ensures halts { HaltsAt self.old.halted self.new.halted result }
         ensures halted { OnOk result (self.new.halted ≡ self.old.halted) }
         ensures cause { HasFault self.old.faults self.new.faults result }
     {
@@ -71,6 +76,8 @@ impl<D: Disk> Volume<D> {
         ensures sync { OfEachHalf D.tells D.tells_crashes self.old (λ seen asked half. SyncIs seen asked self.old self.new half result) }
         ensures kept { self.new.dirty ≡ self.old.dirty }
         ensures counts { KeepsCounts self.old self.new }
+        ensures alone { HomesAlone D.tells self.old self.new }
+        ensures halts { HaltsAt self.old.halted self.new.halted result }
         ensures halted { OnOk result (self.new.halted ≡ self.old.halted) }
         ensures cause { HasFault self.old.faults self.new.faults result }
     {

@@ -1,12 +1,14 @@
 //! What becomes of pages that acknowledged entries freed.
 
-ghost use Rattle.std.specs.Prelude.{◌≡◌, ◌≤◌, ◌==◌, ◌∷◌, [], ℕ, if◌then◌else◌, Some, None, slice_get, length};
+ghost use Rattle.std.specs.Prelude.{◌≡◌, ◌≤◌, ◌==◌, ◌∷◌, [], ℕ, false, if◌then◌else◌, Some, None, slice_get, length};
+ghost use Rattle.jfs_disk.specs.Image.{page_of};
 ghost use Rattle.jfs_bmap.specs.States.{blocks_settled};
 ghost use Rattle.jfs_pages.specs.Dirty.{dirty_of};
 ghost use Rattle.jfs_halves.specs.declared.freed.FreedPage.{FreedPage as Freed};
 ghost use Rattle.jfs_halves.specs.Parts.{OfEachHalf, IsFreed};
 ghost use Rattle.jfs_halves.specs.Change.{Drops};
 ghost use Rattle.jfs_halves.specs.Moves.{Moves};
+ghost use Rattle.jfs_volume.specs.Settles.{is_freed};
 ghost use Rattle.jfs_volume.specs.Told.{IsDropped, AreDropped, MayBeDropped, StaysOrGoes, still_freed};
 
 use crate::volume::Volume;
@@ -27,7 +29,7 @@ impl<D: Disk> Volume<D> {
         ensures { self.new ≡ record self.old { told = n; map = blocks_settled n self.old.map } }
     {
         self.told = n;
-        self.blocks.settle(n);
+        self.maps.blocks.settle(n);
     }
 
     /// The pages that the first `n` entries freed aren't kept any more.
@@ -55,6 +57,7 @@ impl<D: Disk> Volume<D> {
         ensures gone { (f : Freed) → slice_get self.old.freed i ≡ Some f → f.by_entry ≤ self.old.told → MayBeDropped f (dirty_of self.new.dirty f.page) → ⊥ }
         ensures others { (q : ℕ) → StaysOrGoes (dirty_of self.old.dirty q) (dirty_of self.new.dirty q) }
         ensures parts { self.new ≡ record self.old { view = self.new.view; dirty = self.new.dirty } }
+        ensures shows { D.tells → (q : ℕ) → is_freed self.old.freed q ≡ false → page_of self.new.view q ≡ page_of self.old.view q }
     {
         if let Some(freed) = self.freed_at(i) {
             self.drop_freed(freed);
@@ -67,6 +70,7 @@ impl<D: Disk> Volume<D> {
         ensures gone { freed.by_entry ≤ self.old.told → MayBeDropped freed (dirty_of self.new.dirty freed.page) → ⊥ }
         ensures others { (q : ℕ) → StaysOrGoes (dirty_of self.old.dirty q) (dirty_of self.new.dirty q) }
         ensures parts { self.new ≡ record self.old { view = self.new.view; dirty = self.new.dirty } }
+        ensures shows { D.tells → (q : ℕ) → (freed.page == q) ≡ false → page_of self.new.view q ≡ page_of self.old.view q }
     {
         if freed.by_entry > self.told {
             return;
@@ -85,6 +89,7 @@ impl<D: Disk> Volume<D> {
         ensures drop { OfEachHalf D.tells D.tells_crashes self.old (λ seen asked half. IsFreed half.history freed → Moves seen asked self.old self.new half (Drops freed.page ∷ [])) }
         ensures dirty { (q : ℕ) → dirty_of self.new.dirty q ≡ (if freed.page == q then None else dirty_of self.old.dirty q) }
         ensures parts { self.new ≡ record self.old { view = self.new.view; dirty = self.new.dirty } }
+        ensures shows { D.tells → (q : ℕ) → (freed.page == q) ≡ false → page_of self.new.view q ≡ page_of self.old.view q }
     {
         self.cache.forget(freed.page);
     }

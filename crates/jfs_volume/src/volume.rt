@@ -1,10 +1,9 @@
 //! A mounted volume.
 
 use crate::waiting::WaitingText;
-use jfs_bmap::BlockMap;
 use jfs_disk::{Disk, Fault};
 use jfs_halves::FreedPage;
-use jfs_imap::InodeMap;
+use jfs_map_files::{MapFiles, Maps};
 use jfs_pages::PageCache;
 use jfs_plain::Entry;
 use std::alloc::Global;
@@ -15,8 +14,8 @@ use std::marker::Model;
 pub struct Volume<D: Disk> {
     pub(crate) alloc: Global,
     pub(crate) cache: PageCache<D>,
-    pub(crate) blocks: BlockMap,
-    pub(crate) inodes: InodeMap,
+    pub(crate) maps: Maps,
+    pub(crate) files: MapFiles,
     pub(crate) appended: u64,
     pub(crate) taken: u64,
     pub(crate) told: u64,
@@ -32,10 +31,13 @@ pub struct Volume<D: Disk> {
 }
 
 impl<D: Disk> Model for Volume<D> {
-    ghost use Rattle.std.specs.Prelude.{◌≡◌, ◌≤◌, ℕ, []};
+    ghost use Rattle.std.specs.Prelude.{◌≡◌, ◌≤◌, ℕ, [], length};
     ghost use Rattle.jfs_pages.specs.Dirty.{dirty_of, last_of};
     ghost use Rattle.jfs_pages.specs.Kept.{dirty_in, image_in};
     ghost use Rattle.jfs_halves.specs.Parts.{Parts};
+    ghost use Rattle.jfs_bmap.specs.MapFile.{pages_of};
+    ghost use Rattle.jfs_map_files.specs.Files.{AreFilesOf};
+    ghost use Rattle.jfs_volume.specs.Busy.{BusyBetween};
     ghost use Rattle.jfs_volume.specs.Text.{text_in};
 
     ghost Value = { Parts };
@@ -49,8 +51,10 @@ impl<D: Disk> Model for Volume<D> {
       faults = D.fault_count v.cache.disk;
       count = D.page_count v.cache.disk;
       room = D.room v.cache.disk;
-      map = v.blocks;
-      inodes = v.inodes;
+      map = v.maps.blocks;
+      inodes = v.maps.inodes;
+      limit = v.maps.file_limit;
+      files = v.files;
       appended = v.appended;
       taken = v.taken;
       told = v.told;
@@ -68,5 +72,7 @@ impl<D: Disk> Model for Volume<D> {
         × (v.taken ≤ v.appended)
         × (v.text.text.last ≡ v.appended)
         × (v.points ≤ v.text.place)
-        × (v.taken ≡ v.appended → v.text.text.bytes.items ≡ []) };
+        × (v.taken ≡ v.appended → v.text.text.bytes.items ≡ [])
+        × BusyBetween v.told v.appended v.maps.blocks
+        × AreFilesOf v.cache.blocks (pages_of (length v.maps.blocks.states)) v.maps.inodes.iags v.files };
 }

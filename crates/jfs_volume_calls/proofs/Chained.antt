@@ -1,8 +1,7 @@
 -- Changes of both halves, one after another.
-use Rattle.std.proofs.Common.{◌≡◌, ◌≤◌, ◌⊎◌, ◌+◌, ◌++◌, ◌==◌, ◌&&◌, ℕ, suc, Bool, true, false, not, List, [], ◌∷◌, length, map, Option, Some, None, Result, Ok, Err, refl, sym, ap, ◌∙◌, inl, inr, subst, arith}
+use Rattle.std.proofs.Common.{◌≡◌, ◌+◌, ◌++◌, ◌==◌, ◌&&◌, ℕ, Bool, true, false, not, List, [], ◌∷◌, length, map, None, Result, Ok, Err, refl, sym, ap, ◌∙◌, inl, inr, subst, arith}
 use Rattle.std.proofs.lemmas.Bool.{ne_eqb}
 use Rattle.std.proofs.lemmas.List.{append-nil, length-append}
-use Rattle.std.specs.List.{AllByRecursion}
 use Rattle.jfs_disk.specs.Crash.{DiskState}
 use Rattle.jfs_disk.specs.declared.disk.Fault.{Fault}
 use Rattle.jfs_logfmt.specs.declared.log_record.Record.TheVariants.{SyncPt}
@@ -11,9 +10,9 @@ use Rattle.jfs_logpages.specs.Group.{position_of}
 use Rattle.jfs_logpages.specs.Records.{log_text}
 use Rattle.jfs_records.specs.Entries.{Item, entry, point, log_records, text_size}
 use Rattle.jfs_records.proofs.ReadBack.{length-items, text_size-append}
-use Rattle.jfs_halves.specs.Half.{VolumeHalf, LogHalf, Halves, is_open, told_upto, all_synced}
-use Rattle.jfs_halves.specs.Change.{Change, Takes, Tells, GoesHome, Tears, Drops, Stops, LogStops, Syncs, Points, Knows, MayPoint, changed as changed_volume, states_of, after as after_volume, FitAll as FitAllOfVolume, states_after}
-use Rattle.jfs_halves.specs.Both.{BothChange, Changes, GroupIsWritten, GroupFails, changed, after, FitAll, states_after as states_both}
+use Rattle.jfs_halves.specs.Half.{VolumeHalf, Halves, is_open, told_upto, all_synced}
+use Rattle.jfs_halves.specs.Change.{Change, Takes, Tells, GoesHome, Drops, LogStops, Syncs, Points, Knows, MayPoint, changed as changed_volume, after as after_volume, Writes}
+use Rattle.jfs_halves.specs.Both.{BothChange, Changes, GroupIsWritten, GroupFails, changed, after}
 use Rattle.jfs_halves.specs.Parts.{Parts, StandsFor}
 use Rattle.jfs_halves.specs.Log.{LogParts, LogStandsFor}
 use Rattle.jfs_halves.specs.Moves.{Moves, MovesBoth}
@@ -22,10 +21,12 @@ use Rattle.jfs_pages.specs.Dirty.{dirty_of}
 use Rattle.jfs_volume.specs.Told.{drops}
 use Rattle.jfs_volume.specs.Settle.{go_home, IsStop, stops, tears}
 use Rattle.jfs_volume.proofs.Settling.{may_point}
-use Rattle.jfs_volume_calls.specs.Together.{AreTogether, NoGroup}
+use Rattle.jfs_data_steps.specs.declared.pages.DataPage.{DataPage}
+use Rattle.jfs_volume.specs.Written.{writes, IsWriteStop, stops as write_stops, tears as write_tears}
+use Rattle.jfs_volume_calls.specs.Together.{NoGroup}
 use Rattle.jfs_volume_calls.specs.Commit.{Closes, group, committing, MayBeWritten, IsCommitted, GroupIs, WriteIs}
-use Rattle.jfs_volume_calls.specs.Syncpoint.{point_taken, point_known, settling, IsStopped, low_fails, point_fails, IsSyncpoint, PointIs, SyncpointIs}
-use Rattle.jfs_volume_calls.proofs.Lift.{AreQuiet, IsQuiet, SamePlace, after_lift, log_kept, lift}
+use Rattle.jfs_volume_calls.specs.Syncpoint.{point_taken, point_known, homing, settling, IsStopped, low_fails, maps_fail, point_fails, IsSyncpoint, PointIs, SyncpointIs}
+use Rattle.jfs_volume_calls.proofs.Lift.{AreQuiet, IsQuiet, after_lift, log_kept, lift}
 use Rattle.jfs_volume_calls.proofs.Written.{not_open, opened_by_entry, takes_log, written_stands, lost_stands, IsGroupWritten, IsGroupLost}
 
 pub closes_join : (seen asked : Bool) (old mid new : Parts) (middle log : LogParts) (both : Halves) (xs ys : List BothChange) → Closes seen asked old mid middle both xs → Closes seen asked mid new log (after both xs) ys → Closes seen asked old new log both (xs ++ ys)
@@ -48,6 +49,17 @@ pub quiet_append : (xs ys : List Change) → AreQuiet xs → AreQuiet ys → Are
 quiet_append [] ys a b = b
 quiet_append (x ∷ xs) ys a b = (a.0, quiet_append xs ys a.1 b)
 
+pub quiet_writes : (maps : List DataPage) → AreQuiet (writes maps)
+quiet_writes [] = tt
+quiet_writes (d ∷ maps) = (tt, quiet_writes maps)
+
+pub quiet_homing : (homes : List ℕ) (maps : List DataPage) → AreQuiet (homing homes maps)
+quiet_homing homes maps = quiet_append (go_home homes) (writes maps) (quiet_homes homes) (quiet_writes maps)
+
+quiet_write_stop : (fault : Fault) (c : Change) → IsWriteStop fault c → IsQuiet c
+quiet_write_stop fault _ write_stops = tt
+quiet_write_stop fault _ (write_tears n bytes sectors) = tt
+
 pub quiet_stop : (fault : Fault) (c : Change) → IsStop fault c → IsQuiet c
 quiet_stop fault _ stops = tt
 quiet_stop fault _ (tears n sectors) = tt
@@ -62,9 +74,14 @@ counts_dropped : (half : VolumeHalf) (pages : List ℕ) → SameCounts (after_vo
 counts_dropped half [] = record { taken = refl; points = refl; history = refl }
 counts_dropped half (p ∷ pages) = let rest = counts_dropped (changed_volume half (Drops p)) pages in record { taken = rest.taken; points = rest.points; history = rest.history }
 
-counts_homes : (half : VolumeHalf) (pages : List ℕ) → SameCounts (after_volume half (go_home pages ++ Syncs ∷ [])) half
-counts_homes half [] = record { taken = refl; points = refl; history = refl }
-counts_homes half (p ∷ pages) = let rest = counts_homes (changed_volume half (GoesHome p)) pages in record { taken = rest.taken; points = rest.points; history = rest.history }
+-- nor one that is written
+counts_written : (half : VolumeHalf) (maps : List DataPage) → SameCounts (after_volume half (writes maps ++ Syncs ∷ [])) half
+counts_written half [] = record { taken = refl; points = refl; history = refl }
+counts_written half (d ∷ maps) = let rest = counts_written (changed_volume half (Writes d.block d.page.0)) maps in record { taken = rest.taken; points = rest.points; history = rest.history }
+
+counts_settled : (half : VolumeHalf) (homes : List ℕ) (maps : List DataPage) → SameCounts (after_volume half (homing homes maps ++ Syncs ∷ [])) half
+counts_settled half [] maps = counts_written half maps
+counts_settled half (p ∷ homes) maps = let rest = counts_settled (changed_volume half (GoesHome p)) homes maps in record { taken = rest.taken; points = rest.points; history = rest.history }
 
 closed_beside : (both : Halves) (half : VolumeHalf) → NoGroup both → SameCounts half both.volume → NoGroup (record { volume = half; log = both.log })
 closed_beside both half none same = record {
@@ -198,21 +215,21 @@ point_lost seen asked old mid new l m both fault s t none runs empty may taken s
 
 -- ---- pages go home and are synced
 
-quiet_settling : (homes : List ℕ) → AreQuiet (go_home homes ++ Syncs ∷ [])
-quiet_settling homes = quiet_append (go_home homes) (Syncs ∷ []) (quiet_homes homes) (tt, tt)
+quiet_settling : (homes : List ℕ) (maps : List DataPage) → AreQuiet (homing homes maps ++ Syncs ∷ [])
+quiet_settling homes maps = quiet_append (homing homes maps) (Syncs ∷ []) (quiet_homing homes maps) (tt, tt)
 
-pub settled_closes : (seen asked : Bool) (old new : Parts) (l : LogParts) (both : Halves) (homes : List ℕ) → LogStandsFor seen asked l both → NoGroup both → Moves seen asked old new both.volume (go_home homes ++ Syncs ∷ []) → Closes seen asked old new l both (settling homes)
-settled_closes seen asked old new l both homes s none m = record {
-  moves = lift seen asked old new l both (go_home homes ++ Syncs ∷ []) (quiet_settling homes) m s;
-  closed = subst NoGroup (sym (after_lift both.volume both.log (go_home homes ++ Syncs ∷ []) (quiet_settling homes))) (closed_beside both (after_volume both.volume (go_home homes ++ Syncs ∷ [])) none (counts_homes both.volume homes));
+pub settled_closes : (seen asked : Bool) (old new : Parts) (l : LogParts) (both : Halves) (homes : List ℕ) (maps : List DataPage) → LogStandsFor seen asked l both → NoGroup both → Moves seen asked old new both.volume (homing homes maps ++ Syncs ∷ []) → Closes seen asked old new l both (settling homes maps)
+settled_closes seen asked old new l both homes maps s none m = record {
+  moves = lift seen asked old new l both (homing homes maps ++ Syncs ∷ []) (quiet_settling homes maps) m s;
+  closed = subst NoGroup (sym (after_lift both.volume both.log (homing homes maps ++ Syncs ∷ []) (quiet_settling homes maps))) (closed_beside both (after_volume both.volume (homing homes maps ++ Syncs ∷ [])) none (counts_settled both.volume homes maps));
 }
 
 -- then redo may begin behind all entries
-pub settled_may : (seen asked : Bool) (low : Parts) (both : Halves) (homes : List ℕ) → StandsFor seen asked low (after both (settling homes)).volume → low.told ≡ low.appended → ((q : ℕ) → dirty_of low.dirty q ≡ None) → MayPoint (after both (settling homes)).volume
-settled_may seen asked low both homes s told clean = subst MayPoint (sym same) (may_point seen asked low (after_volume both.volume (go_home homes)) (subst (λ (half : VolumeHalf). StandsFor seen asked low half) same s) told clean)
+pub settled_may : (seen asked : Bool) (low : Parts) (both : Halves) (homes : List ℕ) (maps : List DataPage) → StandsFor seen asked low (after both (settling homes maps)).volume → low.told ≡ low.appended → ((q : ℕ) → dirty_of low.dirty q ≡ None) → MayPoint (after both (settling homes maps)).volume
+settled_may seen asked low both homes maps s told clean = subst MayPoint (sym same) (may_point seen asked low (after_volume both.volume (homing homes maps)) (subst (λ (half : VolumeHalf). StandsFor seen asked low half) same s) told clean)
   where
-    same : (after both (settling homes)).volume ≡ all_synced (after_volume both.volume (go_home homes))
-    same = ap (λ (h : Halves). h.volume) (after_lift both.volume both.log (go_home homes ++ Syncs ∷ []) (quiet_settling homes)) ∙ after-join both.volume (go_home homes) (Syncs ∷ [])
+    same : (after both (settling homes maps)).volume ≡ all_synced (after_volume both.volume (homing homes maps))
+    same = ap (λ (h : Halves). h.volume) (after_lift both.volume both.log (homing homes maps ++ Syncs ∷ []) (quiet_settling homes maps)) ∙ after-join both.volume (homing homes maps) (Syncs ∷ [])
 
 -- ---- a commit
 
@@ -239,16 +256,17 @@ idle_closes seen asked p l both s t none = record {
 
 -- ---- a syncpoint: from its commit on
 
-pub syncpoint_closes : (seen asked : Bool) (old mid low new : Parts) (l m : LogParts) (both : Halves) (homes : List ℕ) (committed : IsCommitted seen asked old mid l both) →
-    Closes seen asked mid low l (after both (committing committed.written (length both.volume.history) committed.pages)) (settling homes) →
-    Closes seen asked low new m (after (after both (committing committed.written (length both.volume.history) committed.pages)) (settling homes)) (point_taken ++ point_known) → IsSyncpoint seen asked old new m both
-syncpoint_closes seen asked old mid low new l m both homes committed settled pointed = record {
+pub syncpoint_closes : (seen asked : Bool) (old mid low new : Parts) (l m : LogParts) (both : Halves) (homes : List ℕ) (maps : List DataPage) (committed : IsCommitted seen asked old mid l both) →
+    Closes seen asked mid low l (after both (committing committed.written (length both.volume.history) committed.pages)) (settling homes maps) →
+    Closes seen asked low new m (after (after both (committing committed.written (length both.volume.history) committed.pages)) (settling homes maps)) (point_taken ++ point_known) → IsSyncpoint seen asked old new m both
+syncpoint_closes seen asked old mid low new l m both homes maps committed settled pointed = record {
   written = committed.written;
   is = committed.is;
   pages = committed.pages;
   homes = homes;
-  closes = closes_join seen asked old mid new l m both (committing committed.written (length both.volume.history) committed.pages) (settling homes ++ (point_taken ++ point_known)) committed.closes
-      (closes_join seen asked mid low new l m (after both (committing committed.written (length both.volume.history) committed.pages)) (settling homes) (point_taken ++ point_known) settled pointed);
+  maps = maps;
+  closes = closes_join seen asked old mid new l m both (committing committed.written (length both.volume.history) committed.pages) (settling homes maps ++ (point_taken ++ point_known)) committed.closes
+      (closes_join seen asked mid low new l m (after both (committing committed.written (length both.volume.history) committed.pages)) (settling homes maps) (point_taken ++ point_known) settled pointed);
 }
 
 pub low_stops : (seen asked : Bool) (old mid new : Parts) (l : LogParts) (both : Halves) (fault : Fault) (homes : List ℕ) (last : Change) → IsStop fault last → (committed : IsCommitted seen asked old mid l both) →
@@ -259,24 +277,32 @@ low_stops seen asked old mid new l both fault homes last stop committed m =
     let rest = lift seen asked mid new l (after both front) (go_home homes ++ last ∷ []) (quiet_append (go_home homes) (last ∷ []) (quiet_homes homes) (quiet_stop fault last stop, tt)) m committed.closes.moves.log_stands in
     (front ++ map Changes (go_home homes ++ last ∷ []), low_fails committed.written committed.pages homes last committed.is stop, join_both seen asked old mid new l l both front (map Changes (go_home homes ++ last ∷ [])) committed.closes.moves rest)
 
-pub point_stops : (seen asked : Bool) (old mid low new : Parts) (l m : LogParts) (both : Halves) (fault : Fault) (homes : List ℕ) (committed : IsCommitted seen asked old mid l both) →
-    Closes seen asked mid low l (after both (committing committed.written (length both.volume.history) committed.pages)) (settling homes) →
-    MovesBoth seen asked low new m (after (after both (committing committed.written (length both.volume.history) committed.pages)) (settling homes)) (point_taken ++ GroupFails fault ∷ []) →
+pub maps_stop : (seen asked : Bool) (old mid new : Parts) (l : LogParts) (both : Halves) (fault : Fault) (homes : List ℕ) (maps : List DataPage) (last : Change) → IsWriteStop fault last → (committed : IsCommitted seen asked old mid l both) →
+    Moves seen asked mid new (after both (committing committed.written (length both.volume.history) committed.pages)).volume (homing homes maps ++ last ∷ []) →
+    (list : List BothChange) × IsStopped (length both.volume.history) fault list × MovesBoth seen asked old new l both list
+maps_stop seen asked old mid new l both fault homes maps last stop committed m =
+    let front = committing committed.written (length both.volume.history) committed.pages in
+    let rest = lift seen asked mid new l (after both front) (homing homes maps ++ last ∷ []) (quiet_append (homing homes maps) (last ∷ []) (quiet_homing homes maps) (quiet_write_stop fault last stop, tt)) m committed.closes.moves.log_stands in
+    (front ++ map Changes (homing homes maps ++ last ∷ []), maps_fail committed.written committed.pages homes maps last committed.is stop, join_both seen asked old mid new l l both front (map Changes (homing homes maps ++ last ∷ [])) committed.closes.moves rest)
+
+pub point_stops : (seen asked : Bool) (old mid low new : Parts) (l m : LogParts) (both : Halves) (fault : Fault) (homes : List ℕ) (maps : List DataPage) (committed : IsCommitted seen asked old mid l both) →
+    Closes seen asked mid low l (after both (committing committed.written (length both.volume.history) committed.pages)) (settling homes maps) →
+    MovesBoth seen asked low new m (after (after both (committing committed.written (length both.volume.history) committed.pages)) (settling homes maps)) (point_taken ++ GroupFails fault ∷ []) →
     (list : List BothChange) × IsStopped (length both.volume.history) fault list × MovesBoth seen asked old new m both list
-point_stops seen asked old mid low new l m both fault homes committed settled lost =
+point_stops seen asked old mid low new l m both fault homes maps committed settled lost =
     let front = committing committed.written (length both.volume.history) committed.pages in (
-      front ++ (settling homes ++ (point_taken ++ GroupFails fault ∷ [])),
-      point_fails committed.written committed.pages homes committed.is,
-      join_both seen asked old mid new l m both front (settling homes ++ (point_taken ++ GroupFails fault ∷ [])) committed.closes.moves
-          (join_both seen asked mid low new l m (after both front) (settling homes) (point_taken ++ GroupFails fault ∷ []) settled.moves lost),
+      front ++ (settling homes maps ++ (point_taken ++ GroupFails fault ∷ [])),
+      point_fails committed.written committed.pages homes maps committed.is,
+      join_both seen asked old mid new l m both front (settling homes maps ++ (point_taken ++ GroupFails fault ∷ [])) committed.closes.moves
+          (join_both seen asked mid low new l m (after both front) (settling homes maps) (point_taken ++ GroupFails fault ∷ []) settled.moves lost),
     )
 
 pub written_group : (seen asked : Bool) (old new : Parts) (log : LogParts) (both : Halves) (result : Result (Unit {0}) LogFault) → GroupIs seen asked old new log both result → WriteIs seen asked old new log both result
 written_group seen asked old new log both (Ok done) is = record { written = group; is = inr refl; closes = is }
 written_group seen asked old new log both (Err why) is = is
 
-pub syncpoint_ends : (seen asked : Bool) (old mid low new : Parts) (l m : LogParts) (both : Halves) (homes : List ℕ) (committed : IsCommitted seen asked old mid l both) →
-    Closes seen asked mid low l (after both (committing committed.written (length both.volume.history) committed.pages)) (settling homes) → (result : Result (Unit {0}) Fault) →
-    PointIs seen asked low new m (after (after both (committing committed.written (length both.volume.history) committed.pages)) (settling homes)) result → SyncpointIs seen asked old new m both result
-syncpoint_ends seen asked old mid low new l m both homes committed settled (Ok done) is = syncpoint_closes seen asked old mid low new l m both homes committed settled is
-syncpoint_ends seen asked old mid low new l m both homes committed settled (Err fault) is = point_stops seen asked old mid low new l m both fault homes committed settled is
+pub syncpoint_ends : (seen asked : Bool) (old mid low new : Parts) (l m : LogParts) (both : Halves) (homes : List ℕ) (maps : List DataPage) (committed : IsCommitted seen asked old mid l both) →
+    Closes seen asked mid low l (after both (committing committed.written (length both.volume.history) committed.pages)) (settling homes maps) → (result : Result (Unit {0}) Fault) →
+    PointIs seen asked low new m (after (after both (committing committed.written (length both.volume.history) committed.pages)) (settling homes maps)) result → SyncpointIs seen asked old new m both result
+syncpoint_ends seen asked old mid low new l m both homes maps committed settled (Ok done) is = syncpoint_closes seen asked old mid low new l m both homes maps committed settled is
+syncpoint_ends seen asked old mid low new l m both homes maps committed settled (Err fault) is = point_stops seen asked old mid low new l m both fault homes maps committed settled is

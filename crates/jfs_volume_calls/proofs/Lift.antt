@@ -1,10 +1,10 @@
 -- Changes of the volume in which the log has no part, beside the log.
-use Rattle.std.proofs.Common.{◌≡◌, ℕ, Bool, true, List, [], ◌∷◌, ◌++◌, map, refl, sym, ap, ◌∙◌, subst}
+use Rattle.std.proofs.Common.{◌≡◌, Bool, List, [], ◌∷◌, ◌++◌, map, refl, sym, ap, ◌∙◌, subst}
 use Rattle.std.specs.List.{AllByRecursion}
 use Rattle.jfs_disk.specs.Crash.{DiskState}
 use Rattle.jfs_halves.specs.Half.{VolumeHalf, LogHalf, Halves}
 use Rattle.jfs_halves.specs.Change.{Change, Enters, Takes, Tells, HandsOut, GoesHome, Tears, Drops, Writes, WriteTears, Stops, LogStops, Syncs, Points, Knows, changed, states_of, after, FitAll, states_after}
-use Rattle.jfs_halves.specs.Both.{BothChange, Changes, log_changed, FitsLog, changed as changed_both, after as after_both, FitAll as FitBoth, states_after as states_both}
+use Rattle.jfs_halves.specs.Both.{Changes, log_changed, FitsLog, after as after_both, FitAll as FitBoth, states_after as states_both}
 use Rattle.jfs_halves.specs.Parts.{Parts, StandsFor}
 use Rattle.jfs_halves.specs.Log.{LogParts, LogStandsFor}
 use Rattle.jfs_halves.specs.Moves.{Moves, MovesBoth}

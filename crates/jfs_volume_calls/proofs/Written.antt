@@ -1,27 +1,24 @@
 -- A group that is taken, and then written or not.
-use Rattle.std.proofs.Common.{◌≡◌, ◌<◌, ◌≤◌, ◌⊎◌, ◌+◌, ◌*◌, ◌==◌, ◌&&◌, ◌++◌, ℕ, suc, Bool, true, false, not, List, [], ◌∷◌, length, Option, Some, None, refl, sym, ap, ◌∙◌, inl, inr, subst, arith, append_assoc}
-use Rattle.std.proofs.lemmas.Bool.{eq-eqb, ne_eqb, eqb-false}
-use Rattle.std.proofs.lemmas.List.{append-nil, length-append}
+use Rattle.std.proofs.Common.{◌≡◌, ◌+◌, ◌++◌, ℕ, Bool, true, false, List, [], length, Option, Some, None, refl, sym, ap, ◌∙◌, subst, arith, append_assoc}
+use Rattle.std.proofs.lemmas.Bool.{eq-eqb, ne_eqb}
+use Rattle.std.proofs.lemmas.List.{length-append}
 use Rattle.std.proofs.lemmas.Grind.{flat_map-append}
 use Rattle.jfs_disk.specs.Image.{Image}
-use Rattle.jfs_disk.specs.Crash.{DiskState, last_of}
+use Rattle.jfs_disk.specs.Crash.{last_of}
 use Rattle.jfs_disk.specs.Moment.{IsResting}
 use Rattle.jfs_disk.specs.declared.disk.Fault.{Fault}
-use Rattle.jfs_logfmt.specs.declared.log_record.Record.{Record}
 use Rattle.jfs_logfmt.specs.Written.{text_of}
 use Rattle.jfs_logpages.specs.declared.last.Last.{Last}
 use Rattle.jfs_logpages.specs.Group.{Holds, position_of}
-use Rattle.jfs_logpages.specs.Ring.{ends_with}
 use Rattle.jfs_logpages.specs.Records.{log_text}
-use Rattle.jfs_records.specs.Entries.{Item, entry, point, log_records, text_size}
+use Rattle.jfs_records.specs.Entries.{log_records, text_size}
 use Rattle.jfs_records.proofs.ReadBack.{length-items, text_size-append, records-append}
 use Rattle.jfs_core.specs.Step.{halted_by}
-use Rattle.jfs_halves.specs.Half.{VolumeHalf, LogHalf, Halves, is_open}
-use Rattle.jfs_halves.specs.Change.{Takes, changed as changed_volume}
-use Rattle.jfs_halves.specs.Both.{BothChange, Changes, GroupIsWritten, GroupFails, changed}
-use Rattle.jfs_halves.specs.Parts.{Parts, StandsFor}
+use Rattle.jfs_halves.specs.Half.{LogHalf, Halves, is_open}
+use Rattle.jfs_halves.specs.Change.{Takes}
+use Rattle.jfs_halves.specs.Both.{Changes, GroupIsWritten, GroupFails, changed}
 use Rattle.jfs_halves.specs.Log.{LogParts, HoldsItems, LogStandsFor}
-use Rattle.jfs_volume_calls.specs.Together.{AreTogether, NoGroup}
+use Rattle.jfs_volume_calls.specs.Together.{NoGroup}
 
 -- ---- no group is open, and then one is
 

@@ -2,3 +2,4 @@
 pub mod Together
 pub mod Commit
 pub mod Syncpoint
+pub mod Halts

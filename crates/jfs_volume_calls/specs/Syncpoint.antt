@@ -6,10 +6,12 @@ use Rattle.jfs_disk.specs.declared.disk.Part.TheVariants.{Low, High}
 use Rattle.jfs_halves.specs.Half.{Halves}
 use Rattle.jfs_halves.specs.Parts.{Parts}
 use Rattle.jfs_halves.specs.Log.{LogParts}
-use Rattle.jfs_halves.specs.Change.{Change, Takes, Syncs, Points, Knows, MayPoint}
+use Rattle.jfs_halves.specs.Change.{Change, Takes, Syncs, Points, Knows}
 use Rattle.jfs_halves.specs.Both.{BothChange, Changes, GroupIsWritten, GroupFails}
 use Rattle.jfs_halves.specs.Moves.{MovesBoth}
+use Rattle.jfs_data_steps.specs.declared.pages.DataPage.{DataPage}
 use Rattle.jfs_volume.specs.Settle.{go_home, IsStop}
+use Rattle.jfs_volume.specs.Written.{writes, IsWriteStop}
 use Rattle.jfs_volume_calls.specs.Commit.{Closes, IsWritten, committing}
 
 -- redo begins behind all entries, and a group with the SYNCPT that says so is taken
@@ -20,22 +22,28 @@ point_taken = Changes Points ∷ Changes Takes ∷ []
 abbrev pub point_known : List BothChange
 point_known = GroupIsWritten ∷ Changes Knows ∷ []
 
--- dirty pages go home, and are synced
-abbrev pub settling : List ℕ → List BothChange
-settling homes = map Changes (go_home homes ++ Syncs ∷ [])
+-- dirty pages go home, and pages of the maps are written
+abbrev pub homing : List ℕ → List DataPage → List Change
+homing homes maps = go_home homes ++ writes maps
 
--- Where a call of it failed, a syncpoint has made a front of its changes: its group failed; or the write of a page or the sync; or the group of its SYNCPT.
+-- and are synced
+abbrev pub settling : List ℕ → List DataPage → List BothChange
+settling homes maps = map Changes (homing homes maps ++ Syncs ∷ [])
+
+-- Where a call of it failed, a syncpoint has made a front of its changes: its group failed; or the write of a dirty page; or that of a page of a map, or the sync; or the group of its SYNCPT.
 pub data IsStopped (n : ℕ) (fault : Fault) : List BothChange → Type 0 where
   group_fails : IsStopped n fault (Changes Takes ∷ GroupFails fault ∷ [])
   low_fails : (written : List BothChange) (pages homes : List ℕ) (last : Change) → IsWritten written → IsStop fault last → IsStopped n fault (committing written n pages ++ map Changes (go_home homes ++ last ∷ []))
-  point_fails : (written : List BothChange) (pages homes : List ℕ) → IsWritten written → IsStopped n fault (committing written n pages ++ (settling homes ++ (point_taken ++ GroupFails fault ∷ [])))
+  maps_fail : (written : List BothChange) (pages homes : List ℕ) (maps : List DataPage) (last : Change) → IsWritten written → IsWriteStop fault last → IsStopped n fault (committing written n pages ++ map Changes (homing homes maps ++ last ∷ []))
+  point_fails : (written : List BothChange) (pages homes : List ℕ) (maps : List DataPage) → IsWritten written → IsStopped n fault (committing written n pages ++ (settling homes maps ++ (point_taken ++ GroupFails fault ∷ [])))
 
 pub record IsSyncpoint (seen asked : Bool) (old new : Parts) (log : LogParts) (both : Halves) : Type 0 where
   pub written : List BothChange
   pub is : IsWritten written
   pub pages : List ℕ
   pub homes : List ℕ
-  pub closes : Closes seen asked old new log both (committing written (length both.volume.history) pages ++ (settling homes ++ (point_taken ++ point_known)))
+  pub maps : List DataPage
+  pub closes : Closes seen asked old new log both (committing written (length both.volume.history) pages ++ (settling homes maps ++ (point_taken ++ point_known)))
 
 abbrev pub SyncpointIs : (seen asked : Bool) → Parts → Parts → LogParts → Halves → Result (Unit {0}) Fault → Type 0
 SyncpointIs seen asked old new log both (Ok done) = IsSyncpoint seen asked old new log both

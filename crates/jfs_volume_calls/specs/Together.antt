@@ -1,5 +1,5 @@
 -- A volume and its log, as calls see both.
-use Rattle.std.specs.Prelude.{◌≡◌, Bool, List, [], length, None}
+use Rattle.std.specs.Prelude.{◌≡◌, Bool, [], length, None}
 use Rattle.jfs_disk.specs.declared.disk.Disk.{Ghosts}
 use Rattle.jfs_logpages.specs.declared.log_side.LogSide.{LogSide}
 use Rattle.jfs_logpages.specs.Group.{position_of}

@@ -12,7 +12,7 @@ use jfs_disk::{Disk, Fault};
 use jfs_logpages::LogSide;
 use jfs_volume::Volume;
 
-/// Makes all entries so far durable, writes every dirty page to its home, syncs these, and then logs a SYNCPT: redo needs nothing before it. It takes no memory.
+/// Makes all entries so far durable, writes every dirty page and the pages of each map that has changed to their homes, syncs these, and then logs a SYNCPT: redo needs nothing before it. It takes no memory.
 ///
 /// # Errors
 ///
@@ -23,6 +23,7 @@ pub fn syncpoint<D: Disk>(
     point: &mut PointText,
 ) -> Result<(), Fault>
     requires together { AreTogether volume.old (log_parts D.Disk log.old) }
+    requires running { volume.old.halted ≡ None }
     requires room { volume.old.text.place + length volume.old.text.bytes + 72 ≤ 4080 * 2 ^ 32 }
     ensures syncpoint { OfBothHalves D.tells D.tells_crashes volume.old (log_parts D.Disk log.old)
         (λ seen asked both. SyncpointIs seen asked volume.old volume.new (log_parts D.Disk log.new) both result) }
@@ -38,6 +39,10 @@ pub fn syncpoint<D: Disk>(
         Err(why) => return Err(why.fault),
     }
     match volume.home_all() {
+        Ok(()) => {}
+        Err(fault) => return Err(fault),
+    }
+    match volume.home_maps() {
         Ok(()) => {}
         Err(fault) => return Err(fault),
     }

@@ -27,6 +27,7 @@ usage: jfsd format IMAGE UUID [LABEL]
        jfsd super IMAGE
        jfsd log IMAGE
        jfsd check IMAGE
+       jfsd redo IMAGE
 ";
 
 fn main(rt: HostRuntime) -> ExitCode {

@@ -1,4 +1,4 @@
-use Rattle.jfs_mount_maps.proofs.Places.{ArePlaced}
+use Rattle.jfs_mount_maps.proofs.Kept.{ArePlaced}
 use Rattle.jfs_mount_maps.proofs.placed.keep_placed.Given as goal
 
 abbrev pub invariant-loop-e : goal.invariant-loop-e

@@ -1,4 +1,5 @@
-use Rattle.std.proofs.Common.{◌≤◌, ◌-◌, ◌∙◌, ℕ, List, take, drop, sym, ap, subst}
+use Rattle.std.proofs.Common.{◌≤◌, ◌-◌, ◌∙◌, ℕ, List, take, drop, sym, ap, subst, arith}
+use Rattle.jfs_super.specs.Geometry.{geometry_of}
 use Rattle.jfs_disk.specs.Image.{Image, page_of}
 use Rattle.jfs_disk.specs.Crash.{DiskState, AllSince, last_of}
 use Rattle.jfs_disk.specs.Moment.{IsResting, now_of}
@@ -11,7 +12,7 @@ use Rattle.jfs_mount_disk.proofs.Left.{still_low}
 use Rattle.jfs_volume.specs.Start.{StandsFresh}
 use Rattle.jfs_mounted.specs.Mount.{LeavesLog}
 use Rattle.jfs_mounted.specs.declared.mounted.MountError.{MountError}
-use Rattle.jfs_mounted.proofs.Started.{still, log_fresh_of, keeps_with, before_left}
+use Rattle.jfs_mounted.proofs.Started.{files_of_low, still, log_fresh_of, keeps_with, before_left}
 use Rattle.jfs_mounted.proofs.mounting.mount.Goals as goal
 
 pub returns-in-Err-clause-left_low : goal.returns-in-Err-clause-left_low
@@ -51,6 +52,7 @@ returns-in-Ok-begin-clause-mounted g c =
       marked = is_marked;
       superblock = λ t. ap (λ (im : Image). super_of (page_of im 8)) (fresh.1 t) ∙ ready.superblock t;
       rest = c.in-Ok.ensures.rest;
+      has_maps = c.started.ensures.parts;
       found = λ t. c.in-Ok.ensures.maps t;
       keeps = λ t consistent. keeps_with s old pages maps (subst (λ (l : Geometry). l.blocks ≤ l.log.addr) layout c.geometry-ring.ensures.bounds.behind) (is_marked t) (c.in-Ok.ensures.maps t) consistent;
     }
@@ -76,3 +78,9 @@ returns-in-Ok-begin-clause-log_moments g c = λ t k rests.
     (subst (λ (old : Image). AllSince (IsPartlyFresh 0 s.logpxd.len s.uuid (drop s.logpxd.addr old)) (g.D.Disk.past log.part) (now_of past)) (c.in-Ok.ensures.image t)
     (subst (λ (states : List DiskState). AllSince (IsPartlyFresh 0 s.logpxd.len s.uuid (drop s.logpxd.addr (g.D.Disk.image now))) (g.D.Disk.past log.part) (now_of states)) (c.in-Ok.ensures.past k)
     (c.in-Ok-begin.ensures.log_moments t k (subst (λ (states : List DiskState). IsResting (last_of states)) (sym (c.in-Ok.ensures.past k)) rests))))
+
+pub started-requires-clause-files : goal.started-requires-clause-files
+started-requires-clause-files g c =
+    let s = c.args.s.now in
+    let rest = c.in-Ok.ensures.rest in
+    files_of_low (c.in-Ok.maps) (geometry_of s) (g.D.Disk.page_count c.in-Ok-begin.begun.low) rest (let behind = subst (λ (l : Geometry). l.blocks ≤ l.log.addr) c.geometry-ring.ensures.layout c.geometry-ring.ensures.bounds.behind in omega (arith, behind, c.in-Ok-begin.ensures.parts.low_pages))

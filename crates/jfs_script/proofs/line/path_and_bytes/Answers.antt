@@ -2,9 +2,8 @@ use Rattle.std.proofs.Common.{◌≡◌, List, ℕ, refl, inl, inr}
 use Rattle.std.specs.Prelude.{Result}
 use Rattle.jfs_bits.specs.declared.rule.Rule.{Rule}
 use Rattle.jfs_script.specs.Lines.{words_of}
-use Rattle.jfs_script.specs.Target.{TargetIs}
 use Rattle.jfs_script.specs.Number.{hex_of}
-use Rattle.jfs_script.specs.Words.{PathIs, PathAndMode, TwoPaths, PathAndTarget, PathAndSize, PathAndBytes, PathAndRange, PathAndFill}
+use Rattle.jfs_script.specs.Words.{PathAndBytes}
 use Rattle.jfs_script.proofs.Given.{gives_broken, gives_same}
 use Rattle.jfs_script.proofs.line.path_and_bytes.Goals as goal
 

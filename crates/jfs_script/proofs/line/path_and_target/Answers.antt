@@ -1,9 +1,8 @@
 use Rattle.std.proofs.Common.{refl, inl, inr}
 use Rattle.jfs_script.specs.Lines.{words_of}
 use Rattle.jfs_script.specs.Target.{TargetIs}
-use Rattle.jfs_script.specs.Number.{hex_of}
-use Rattle.jfs_script.specs.Words.{PathIs, PathAndMode, TwoPaths, PathAndTarget, PathAndSize, PathAndBytes, PathAndRange, PathAndFill}
-use Rattle.jfs_script.proofs.Given.{gives_broken, gives_same}
+use Rattle.jfs_script.specs.Words.{PathAndTarget}
+use Rattle.jfs_script.proofs.Given.{gives_same}
 use Rattle.jfs_script.proofs.line.path_and_target.Goals as goal
 
 pub returns-in_err-target : goal.returns-in_err-target

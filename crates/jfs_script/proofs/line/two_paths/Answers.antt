@@ -1,9 +1,7 @@
 use Rattle.std.proofs.Common.{refl, inl, inr}
 use Rattle.jfs_script.specs.Lines.{words_of}
-use Rattle.jfs_script.specs.Target.{TargetIs}
-use Rattle.jfs_script.specs.Number.{hex_of}
-use Rattle.jfs_script.specs.Words.{PathIs, PathAndMode, TwoPaths, PathAndTarget, PathAndSize, PathAndBytes, PathAndRange, PathAndFill}
-use Rattle.jfs_script.proofs.Given.{gives_broken, gives_same}
+use Rattle.jfs_script.specs.Words.{PathIs, TwoPaths}
+use Rattle.jfs_script.proofs.Given.{gives_same}
 use Rattle.jfs_script.proofs.line.two_paths.Goals as goal
 
 pub returns-in_err-to : goal.returns-in_err-to

@@ -1,4 +1,4 @@
-use Rattle.std.proofs.Common.{◌<◌, ◌≤◌, ◌+◌, ◌-◌, ◌*◌, ◌^◌, ℕ, get_or, inl, inr, arith}
+use Rattle.std.proofs.Common.{◌+◌, ◌-◌, ◌*◌, ◌^◌, ℕ, get_or, inl, inr, arith}
 use Rattle.std.proofs.lemmas.Bool.{cases_lt, and_from, le-leb, lt-ltb}
 use Rattle.jfs_script.proofs.Digits.{goes_on, too_big, all_read}
 use Rattle.jfs_script.proofs.number.numeral.Goals as goal

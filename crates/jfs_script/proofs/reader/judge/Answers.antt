@@ -1,4 +1,3 @@
-use Rattle.std.proofs.Common.{◌≡◌, List, ℕ}
 use Rattle.jfs_script.proofs.Reading.{skipped, asked_more}
 use Rattle.jfs_script.proofs.reader.judge.Goals as goal
 

@@ -1,4 +1,4 @@
-use Rattle.std.proofs.Common.{◌≡◌, ◌++◌, List, ℕ, length}
+use Rattle.std.proofs.Common.{◌++◌, List, ℕ, length}
 use Rattle.std.specs.Prelude.{Option, option_map}
 use Rattle.jfs_script.specs.Target.{Spells}
 use Rattle.jfs_script.proofs.target.spelled_bytes.Given as goal

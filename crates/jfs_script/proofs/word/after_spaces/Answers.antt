@@ -1,4 +1,4 @@
-use Rattle.std.proofs.Common.{◌≡◌, sym, ◌∙◌}
+use Rattle.std.proofs.Common.{sym, ◌∙◌}
 use Rattle.jfs_script.proofs.Words.{stays, drops, none_left}
 use Rattle.jfs_script.proofs.word.after_spaces.Goals as goal
 

@@ -1,4 +1,4 @@
-use Rattle.std.proofs.Common.{◌≡◌, ◌<◌, length, rules}
+use Rattle.std.proofs.Common.{◌<◌, length, rules}
 use Rattle.std.proofs.lemmas.List.{take_rest}
 use Rattle.jfs_script.proofs.Words.{next_is, no_word}
 use Rattle.jfs_script.proofs.word.next_word.Goals as goal

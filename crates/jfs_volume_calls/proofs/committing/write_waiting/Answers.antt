@@ -1,6 +1,4 @@
-use Rattle.std.proofs.Common.{inl, inr, refl}
 use Rattle.jfs_volume_calls.specs.Together.{log_parts}
-use Rattle.jfs_volume_calls.specs.Commit.{group}
 use Rattle.jfs_volume_calls.proofs.Chained.{idle_closes, written_group}
 use Rattle.jfs_volume_calls.proofs.committing.write_waiting.Goals as goal
 

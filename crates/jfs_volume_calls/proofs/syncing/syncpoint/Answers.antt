@@ -1,13 +1,16 @@
-use Rattle.std.proofs.Common.{ℕ, [], ◌∷◌, length, refl, sym, ◌∙◌}
-use Rattle.jfs_halves.specs.Change.{Stops, Syncs, after as after_volume}
+use Rattle.std.proofs.Common.{List, [], ◌∷◌, ◌++◌, length, sym, ap, ◌∙◌, subst, append_assoc}
+use Rattle.jfs_halves.specs.Change.{Change, Stops, Syncs, after as after_volume}
 use Rattle.jfs_halves.specs.Both.{after}
 use Rattle.jfs_halves.proofs.Joined.{join}
-use Rattle.jfs_pages.specs.declared.dirty.Dirty.{Dirty}
-use Rattle.jfs_volume.specs.Settle.{go_home, stops}
+use Rattle.jfs_halves.specs.Moves.{Moves}
+use Rattle.jfs_halves.specs.Parts.{Parts}
+use Rattle.jfs_pages.specs.Dirty.{dirty_of}
+use Rattle.jfs_volume.specs.Settle.{go_home}
+use Rattle.jfs_volume.specs.Written.{writes, stops}
 use Rattle.jfs_volume_calls.specs.Together.{log_parts}
 use Rattle.jfs_volume_calls.specs.Commit.{committing}
-use Rattle.jfs_volume_calls.specs.Syncpoint.{settling, group_fails}
-use Rattle.jfs_volume_calls.proofs.Chained.{low_stops, settled_closes, settled_may, syncpoint_ends}
+use Rattle.jfs_volume_calls.specs.Syncpoint.{homing, settling, group_fails}
+use Rattle.jfs_volume_calls.proofs.Chained.{low_stops, maps_stop, settled_closes, settled_may, syncpoint_ends}
 use Rattle.jfs_volume_calls.proofs.syncing.syncpoint.Goals as goal
 
 pub returns-in-Err-clause-syncpoint : goal.returns-in-Err-clause-syncpoint
@@ -20,15 +23,27 @@ returns-in-Err-home_all-clause-syncpoint g c seen asked told crashes both s t no
     let stopped = c.in-Err-home_all.ensures.home seen asked told crashes (after both front).volume committed.closes.moves.stands in
     low_stops seen asked c.args.volume.now c.commit.new.volume c.home_all.new.self (log_parts g.D.Disk c.commit.new.log) both c.in-Err-home_all.fault stopped.pages stopped.last stopped.is committed stopped.moves
 
+pub returns-in-Err-home_maps-clause-syncpoint : goal.returns-in-Err-home_maps-clause-syncpoint
+returns-in-Err-home_maps-clause-syncpoint g c seen asked told crashes both s t none =
+    let committed = c.in-Ok.ensures.commit seen asked told crashes both s t none in
+    let front = committing committed.written (length both.volume.history) committed.pages in
+    let homes = c.in-Ok-home_all.ensures.home seen asked told crashes (after both front).volume committed.closes.moves.stands in
+    let stopped = c.in-Err-home_maps.ensures.home seen asked told crashes (after_volume (after both front).volume (go_home homes.0)) homes.1.stands in
+    maps_stop seen asked c.args.volume.now c.commit.new.volume c.home_maps.new.self (log_parts g.D.Disk c.commit.new.log) both c.in-Err-home_maps.fault homes.0 stopped.pages stopped.last stopped.is committed
+    (subst (λ (list : List Change). Moves seen asked c.commit.new.volume c.home_maps.new.self (after both front).volume list) (sym (append_assoc (go_home homes.0) (writes stopped.pages) (stopped.last ∷ [])))
+    (join seen asked c.commit.new.volume c.home_all.new.self c.home_maps.new.self (after both front).volume (go_home homes.0) (writes stopped.pages ++ stopped.last ∷ []) homes.1 stopped.moves))
+
 pub returns-in-Err-sync_low-clause-syncpoint : goal.returns-in-Err-sync_low-clause-syncpoint
 returns-in-Err-sync_low-clause-syncpoint g c seen asked told crashes both s t none =
     let committed = c.in-Ok.ensures.commit seen asked told crashes both s t none in
     let front = committing committed.written (length both.volume.history) committed.pages in
     let homes = c.in-Ok-home_all.ensures.home seen asked told crashes (after both front).volume committed.closes.moves.stands in
+    let maps = c.in-Ok-home_maps.ensures.home seen asked told crashes (after_volume (after both front).volume (go_home homes.0)) homes.1.stands in
+    let home = join seen asked c.commit.new.volume c.home_all.new.self c.home_maps.new.self (after both front).volume (go_home homes.0) (writes maps.0) homes.1 maps.1 in
     let fault = c.in-Err-sync_low.fault in
-    let m = c.in-Err-sync_low.ensures.sync seen asked told crashes (after_volume (after both front).volume (go_home homes.0)) homes.1.stands in
-    low_stops seen asked c.args.volume.now c.commit.new.volume c.sync_low.new.self (log_parts g.D.Disk c.commit.new.log) both fault homes.0 (Stops fault) stops committed
-    (join seen asked c.commit.new.volume c.home_all.new.self c.sync_low.new.self (after both front).volume (go_home homes.0) (Stops fault ∷ []) homes.1 m)
+    let m = c.in-Err-sync_low.ensures.sync seen asked told crashes (after_volume (after both front).volume (homing homes.0 maps.0)) home.stands in
+    maps_stop seen asked c.args.volume.now c.commit.new.volume c.sync_low.new.self (log_parts g.D.Disk c.commit.new.log) both fault homes.0 maps.0 (Stops fault) stops committed
+    (join seen asked c.commit.new.volume c.home_maps.new.self c.sync_low.new.self (after both front).volume (homing homes.0 maps.0) (Stops fault ∷ []) home m)
 
 pub returns-clause-syncpoint : goal.returns-clause-syncpoint
 returns-clause-syncpoint g c seen asked told crashes both s t none =
@@ -38,11 +53,15 @@ returns-clause-syncpoint g c seen asked told crashes both s t none =
     let low = c.sync_low.new.self in
     let l = log_parts g.D.Disk c.commit.new.log in
     let homes = c.in-Ok-home_all.ensures.home seen asked told crashes (after both front).volume committed.closes.moves.stands in
-    let m = c.in-Ok-sync_low.ensures.sync seen asked told crashes (after_volume (after both front).volume (go_home homes.0)) homes.1.stands in
-    let two = join seen asked mid c.home_all.new.self low (after both front).volume (go_home homes.0) (Syncs ∷ []) homes.1 m in
-    let settled = settled_closes seen asked mid low l (after both front) homes.0 committed.closes.moves.log_stands committed.closes.closed two in
-    let may = settled_may seen asked low (after both front) homes.0 settled.moves.stands
-    (c.sync_low.ensures.counts.told ∙ c.home_all.ensures.counts.told ∙ c.in-Ok.ensures.told.0 ∙ sym (c.sync_low.ensures.counts.appended ∙ c.home_all.ensures.counts.appended))
-    (λ q. rw c.sync_low.ensures.kept (c.in-Ok-home_all.ensures.clean q)) in
-    syncpoint_ends seen asked c.args.volume.now mid low c.write_point.new.volume l (log_parts g.D.Disk c.write_point.new.log) both homes.0 committed settled c.write_point.result
-    (c.write_point.ensures.point seen asked told crashes (after (after both front) (settling homes.0)) settled.moves.stands settled.moves.log_stands settled.closed may)
+    let maps = c.in-Ok-home_maps.ensures.home seen asked told crashes (after_volume (after both front).volume (go_home homes.0)) homes.1.stands in
+    let home = join seen asked mid c.home_all.new.self c.home_maps.new.self (after both front).volume (go_home homes.0) (writes maps.0) homes.1 maps.1 in
+    let m = c.in-Ok-sync_low.ensures.sync seen asked told crashes (after_volume (after both front).volume (homing homes.0 maps.0)) home.stands in
+    let two = join seen asked mid c.home_maps.new.self low (after both front).volume (homing homes.0 maps.0) (Syncs ∷ []) home m in
+    let settled = settled_closes seen asked mid low l (after both front) homes.0 maps.0 committed.closes.moves.log_stands committed.closes.closed two in
+    let memory = c.home_maps.ensures.memory in
+    let may = settled_may seen asked low (after both front) homes.0 maps.0 settled.moves.stands
+    (c.sync_low.ensures.counts.told ∙ ap (λ (p : Parts). p.told) memory ∙ c.home_all.ensures.counts.told ∙ c.in-Ok.ensures.told.0
+    ∙ sym (c.sync_low.ensures.counts.appended ∙ ap (λ (p : Parts). p.appended) memory ∙ c.home_all.ensures.counts.appended))
+    (λ q. rw c.sync_low.ensures.kept (ap (λ (p : Parts). dirty_of p.dirty q) memory ∙ c.in-Ok-home_all.ensures.clean q)) in
+    syncpoint_ends seen asked c.args.volume.now mid low c.write_point.new.volume l (log_parts g.D.Disk c.write_point.new.log) both homes.0 maps.0 committed settled c.write_point.result
+    (c.write_point.ensures.point seen asked told crashes (after (after both front) (settling homes.0 maps.0)) settled.moves.stands settled.moves.log_stands settled.closed may)

@@ -1,4 +1,4 @@
-use Rattle.std.proofs.Common.{◌≡◌, ◌+◌, ◌++◌, ℕ, List, [], ◌∷◌, length, ap, ◌∙◌, subst}
+use Rattle.std.proofs.Common.{◌+◌, ◌++◌, ℕ, List, [], ◌∷◌, length, ap, ◌∙◌, subst}
 use Rattle.jfs_logpages.specs.Group.{Holds, position_of}
 use Rattle.jfs_logpages.specs.Ring.{ends_with}
 use Rattle.jfs_halves.specs.Parts.{Parts}

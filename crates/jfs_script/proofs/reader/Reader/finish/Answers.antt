@@ -1,6 +1,6 @@
-use Rattle.std.proofs.Common.{◌≡◌, ◌<◌, ◌++◌, ◌∷◌, [], List, ℕ, length, subst, rules}
+use Rattle.std.proofs.Common.{◌++◌, ◌∷◌, [], List, ℕ, subst, rules}
 use Rattle.jfs_script.specs.Lines.{lines_of}
-use Rattle.jfs_script.specs.Progress.{Judged, IsRead}
+use Rattle.jfs_script.specs.Progress.{Judged}
 use Rattle.jfs_script.proofs.Reading.{few_lines, judged_none, judged_open}
 use Rattle.jfs_script.proofs.reader.Reader.finish.Goals as goal
 use Rattle.jfs_script.proofs.reader.Reader.finish.Goals.{then-not-is_empty+in_ok-bad, else-not-is_empty}

@@ -1,4 +1,4 @@
-use Rattle.std.proofs.Common.{◌≡◌, ◌<◌, ◌++◌, ◌∷◌, [], List, ℕ, length, refl, sym, ap, subst, ◌∙◌, append_assoc, arith, rules}
+use Rattle.std.proofs.Common.{◌<◌, ◌++◌, ◌∷◌, [], List, ℕ, length, refl, sym, ap, subst, ◌∙◌, append_assoc, arith, rules}
 use Rattle.jfs_script.specs.Lines.{lines_of}
 use Rattle.jfs_script.specs.Script.{most_lines}
 use Rattle.jfs_script.specs.Progress.{IsRead}

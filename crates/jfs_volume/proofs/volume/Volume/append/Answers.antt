@@ -1,18 +1,19 @@
-use Rattle.std.proofs.Common.{◌≡◌, ◌<◌, ◌+◌, ℕ, true, List, length, sym, ap, ◌∙◌, subst, refl, rules}
+use Rattle.std.proofs.Common.{◌<◌, ◌+◌, ℕ, List, length, sym, ap, ◌∙◌, subst, rules, arith}
 use Rattle.jfs_ranges.specs.declared.edit.Edit.{Edit}
 use Rattle.jfs_ranges.specs.Apply.{touches_tx}
-use Rattle.jfs_records.specs.Records.{noted, tx_of}
+use Rattle.jfs_records.specs.Records.{noted}
+use Rattle.jfs_pages.specs.Dirty.{dirty_of}
 use Rattle.jfs_halves.specs.Parts.{Parts, StandsFor}
 use Rattle.jfs_volume.specs.Append.{unreserved}
 use Rattle.jfs_volume.specs.Room.{has_room}
 use Rattle.jfs_volume.specs.Runs.{taken_in, freed_in}
 use Rattle.jfs_volume.proofs.Editing.{tx_within}
 use Rattle.jfs_volume.proofs.Texts.{tx_of-noted, draft_size}
-use Rattle.jfs_volume.proofs.Appending.{kept_appends, kept_same, kept_stands, appends_after, entry_after, draft_after, tells_room}
+use Rattle.jfs_volume.proofs.Appending.{kept_appends, kept_same, kept_stands, appends_after, entry_after, draft_after, tells_room, shows_after, writable_after}
 use Rattle.jfs_volume.proofs.volume.Volume.append.Goals as goal
 
 pub returns-then-not-has_room_for-clause-appends : goal.returns-then-not-has_room_for-clause-appends
-returns-then-not-has_room_for-clause-appends g c now seen asked told crashes half s =
+returns-then-not-has_room_for-clause-appends g c may now seen asked told crashes half s =
     let p = c.args.self.now in
     let list = noted c.args.tx.now c.args.notes.now in
     kept_appends seen asked list p p half (subst (λ (edits : List Edit). StandsFor seen asked (unreserved edits p) half) (sym (tx_of-noted c.args.tx.now c.args.notes.now c.requires.noted)) s) (kept_same p)
@@ -21,7 +22,7 @@ pub enter-requires-clause-within : goal.enter-requires-clause-within
 enter-requires-clause-within g c n t =
     let p = c.args.self.now in
     subst (λ (blocks : ℕ). n < blocks) (sym (ap (λ (q : Parts). q.blocks) c.prepare.ensures.stays.parts))
-    (tx_within p.blocks (noted c.args.tx.now c.args.notes.now) n c.requires.loggable (ap (λ (edits : List Edit). touches_tx n edits) (tx_of-noted c.args.tx.now c.args.notes.now c.requires.noted) ∙ t))
+    (let within = tx_within (length p.map.states) (noted c.args.tx.now c.args.notes.now) n c.requires.loggable (ap (λ (edits : List Edit). touches_tx n edits) (tx_of-noted c.args.tx.now c.args.notes.now c.requires.noted) ∙ t) in omega (arith, within, c.requires.blocks))
 
 pub enter-requires-clause-runs : goal.enter-requires-clause-runs
 enter-requires-clause-runs g c =
@@ -42,13 +43,13 @@ enter-requires-clause-room g c =
     ap (λ (q : Parts). has_room q.text (length c.in-Ok.draft.text.bytes.items)) c.prepare.ensures.stays.parts ∙ ap (λ (n : ℕ). has_room p.text n) size ∙ sym c.has_room_for.ensures.room ∙ search (rules)
 
 pub returns-in-Ok-clause-appends : goal.returns-in-Ok-clause-appends
-returns-in-Ok-clause-appends g c now seen asked told crashes half s =
+returns-in-Ok-clause-appends g c may now seen asked told crashes half s =
     let p = c.args.self.now in
     let m = c.prepare.new.self in
     let list = noted c.args.tx.now c.args.notes.now in
     let kept = c.prepare.ensures.stays in
-    appends_after seen asked c.args.entry now list p m c.enter.new.self half c.enter.result kept
-    (c.enter.ensures.appends list (tx_of-noted c.args.tx.now c.args.notes.now c.requires.noted) (draft_after list p m c.in-Ok.draft kept c.in-Ok.ensures.draft) now seen asked told crashes half (kept_stands seen asked c.args.tx.now p m half s kept))
+    appends_after seen asked c.args.entry now list c.args.contents.now p m c.enter.new.self half c.enter.result kept
+    (c.enter.ensures.appends list (tx_of-noted c.args.tx.now c.args.notes.now c.requires.noted) (draft_after list p m c.in-Ok.draft kept c.in-Ok.ensures.draft) (writable_after c.args.contents.now c.args.tx.now p m kept may) now seen asked told crashes half (kept_stands seen asked c.args.tx.now p m half s kept))
 
 pub returns-in-Ok-clause-adds : goal.returns-in-Ok-clause-adds
 returns-in-Ok-clause-adds g c =
@@ -60,10 +61,17 @@ returns-in-Ok-clause-adds g c =
     (c.enter.ensures.adds list (tx_of-noted c.args.tx.now c.args.notes.now c.requires.noted) (draft_after list p m c.in-Ok.draft kept c.in-Ok.ensures.draft))
 
 pub returns-in-Err-clause-appends : goal.returns-in-Err-clause-appends
-returns-in-Err-clause-appends g c now seen asked told crashes half s =
+returns-in-Err-clause-appends g c may now seen asked told crashes half s =
     let p = c.args.self.now in
     let list = noted c.args.tx.now c.args.notes.now in
     kept_appends seen asked list p c.prepare.new.self half (subst (λ (edits : List Edit). StandsFor seen asked (unreserved edits p) half) (sym (tx_of-noted c.args.tx.now c.args.notes.now c.requires.noted)) s) c.prepare.ensures.stays
 
 pub returns-in-Ok-clause-room : goal.returns-in-Ok-clause-room
 returns-in-Ok-clause-room g c = tells_room _ c.enter.result (sym c.has_room_for.ensures.room ∙ search (rules)) c.enter.ensures.had_room
+
+pub returns-in-Ok-clause-shows : goal.returns-in-Ok-clause-shows
+returns-in-Ok-clause-shows g c told clean =
+    let p = c.args.self.now in
+    let m = c.prepare.new.self in
+    let kept = c.prepare.ensures.stays in
+    shows_after c.args.contents.now c.args.tx.now p m c.enter.new.self c.enter.result (ap (λ (r : Parts). r.view) kept.parts) (c.enter.ensures.shows told (λ b put. ap (λ (r : Parts). dirty_of r.dirty b) kept.parts ∙ clean b put))

@@ -50,3 +50,36 @@ returns-in-Err-WriteFault-clause-home g c =
     (λ k. rw page (e.sends.states (crashes k)))
     (λ k. g.met.D.Disk.reads_now old.cache.disk (crashes k))
     (λ k. g.met.D.Disk.reads_now new.disk (crashes k))))
+
+pub returns-in-Ok-clause-alone : goal.returns-in-Ok-clause-alone
+returns-in-Ok-clause-alone g c =
+    let old = c.self.inside in
+    let new = c.home.new.self in
+    let d = g.D.Disk in
+    let e = c.home.ensures in
+    rw (← c.self.view_is) (record {
+      parts = rw (e.blocks, e.count, e.room) refl;
+      view = λ t. ap (λ (b : ℕ). image_in b (d.image new.disk) new.kept) e.blocks ∙ image-same old.cache.blocks (d.image old.cache.disk) (d.image new.disk) old.cache.kept new.kept (e.pages t);
+    })
+
+pub returns-in-Err-NotYet-clause-alone : goal.returns-in-Err-NotYet-clause-alone
+returns-in-Err-NotYet-clause-alone g c =
+    let old = c.self.inside in
+    let new = c.home.new.self in
+    let d = g.D.Disk in
+    let e = c.home.ensures in
+    rw (← c.self.view_is) (record {
+      parts = rw (e.blocks, e.count, e.room) refl;
+      view = λ t. ap (λ (b : ℕ). image_in b (d.image new.disk) new.kept) e.blocks ∙ image-same old.cache.blocks (d.image old.cache.disk) (d.image new.disk) old.cache.kept new.kept (e.pages t);
+    })
+
+pub returns-in-Err-WriteFault-clause-alone : goal.returns-in-Err-WriteFault-clause-alone
+returns-in-Err-WriteFault-clause-alone g c =
+    let old = c.self.inside in
+    let new = c.home.new.self in
+    let d = g.D.Disk in
+    let e = c.home.ensures in
+    rw (← c.self.view_is) (rw c.halt.ensures.halted (record {
+      parts = rw (e.blocks, e.count, e.room) refl;
+      view = λ t. ap (λ (b : ℕ). image_in b (d.image new.disk) new.kept) e.blocks ∙ image-same old.cache.blocks (d.image old.cache.disk) (d.image new.disk) old.cache.kept new.kept (e.pages t);
+    }))

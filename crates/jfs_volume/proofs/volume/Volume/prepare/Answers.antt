@@ -1,8 +1,8 @@
-use Rattle.std.proofs.Common.{◌≡◌, ◌<◌, ◌≤◌, ◌+◌, ◌^◌, ◌*◌, ℕ, List, length, sym, ap, ◌∙◌, subst, arith}
+use Rattle.std.proofs.Common.{◌≡◌, ◌+◌, List, length, sym, ap, ◌∙◌, arith}
 use Rattle.jfs_bits.specs.declared.descriptor.Pxd.{Pxd}
 use Rattle.jfs_ranges.specs.declared.edit.Edit.{Edit}
 use Rattle.jfs_records.specs.Records.{noted, tx_of}
-use Rattle.jfs_records.specs.Sizes.{bytes_of, entry_size}
+use Rattle.jfs_records.specs.Sizes.{bytes_of}
 use Rattle.jfs_records.proofs.Sizes.{entry_sized}
 use Rattle.jfs_volume.specs.Runs.{taken_in, freed_in, pages_freed}
 use Rattle.jfs_volume.proofs.Texts.{all_fit, tx_of-noted}
@@ -12,9 +12,8 @@ use Rattle.jfs_volume.proofs.volume.Volume.prepare.Goals as goal
 pub make_draft-requires-clause-fits : goal.make_draft-requires-clause-fits
 make_draft-requires-clause-fits g c =
     let loggable = rw (← c.self.view_is) at c.requires.loggable in
-    let whole = rw (← c.self.view_is) at c.requires.blocks in
     rw (c.as_slice-edits.ensures, c.as_slice-notes.ensures)
-    (all_fit c.self.inside.cache.blocks (noted c.args.tx.now c.args.notes.now) (omega (arith, c.blocks-blocks.ensures.most, c.blocks-blocks.ensures.value, whole)) loggable)
+    (all_fit (length c.self.inside.maps.blocks.states) (noted c.args.tx.now c.args.notes.now) (omega (arith, c.blocks-blocks.ensures.most, c.blocks-blocks.ensures.value)) loggable)
 
 pub make_draft-requires-clause-small : goal.make_draft-requires-clause-small
 make_draft-requires-clause-small g c =
@@ -42,3 +41,9 @@ returns-clause-draft g c =
       taken = d.taken ∙ ap taken_in (sym same);
       freed = d.freed ∙ ap freed_in (sym same);
     })
+
+pub invariant_of-self : goal.invariant_of-self
+invariant_of-self g c = let i = c.self.invariant in rw c.in_err-make_room.ensures.err (i.0, i.1, i.2, i.3, i.4, i.5, i.6, i.7)
+
+pub invariant_of-self-2 : goal.invariant_of-self-2
+invariant_of-self-2 g c = let i = c.self.invariant in rw c.in_ok-make_room.ensures.ok (i.0, i.1, i.2, i.3, i.4, i.5, i.6, i.7)

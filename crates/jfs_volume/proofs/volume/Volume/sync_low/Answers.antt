@@ -1,7 +1,4 @@
-use Rattle.std.proofs.Common.{ℕ, refl, sym, ap, ◌∙◌}
-use Rattle.jfs_pages.specs.Kept.{image_in}
-use Rattle.jfs_pages.specs.declared.kept.Kept.{Kept}
-use Rattle.jfs_volume.proofs.Stand.{image-same, image-at}
+use Rattle.std.proofs.Common.{refl}
 use Rattle.jfs_volume.proofs.Homing.{syncs_moves, sync_stops}
 use Rattle.jfs_volume.proofs.volume.Volume.sync_low.Goals as goal
 
@@ -27,3 +24,21 @@ returns-in-Err-clause-sync g c =
     (λ t. rw (e.blocks, e.kept, e.syncs.image (told t)) refl)
     (λ t. e.syncs.image (told t))
     (λ t k. e.syncs.states (crashes k))))
+
+pub returns-in-Ok-clause-alone : goal.returns-in-Ok-clause-alone
+returns-in-Ok-clause-alone g c =
+    let d = g.D.Disk in
+    let e = c.sync.ensures in
+    rw (← c.self.view_is) (record {
+      parts = rw (e.blocks, e.kept, e.count, e.room) refl;
+      view = λ t. rw (e.blocks, e.kept, c.in-Ok.ensures.syncs.0 t) refl;
+    })
+
+pub returns-in-Err-clause-alone : goal.returns-in-Err-clause-alone
+returns-in-Err-clause-alone g c =
+    let d = g.D.Disk in
+    let e = c.sync.ensures in
+    rw (← c.self.view_is) (rw c.halt.ensures.halted (record {
+      parts = rw (e.blocks, e.kept, e.count, e.room) refl;
+      view = λ t. rw (e.blocks, e.kept, c.in-Err.ensures.syncs.image t) refl;
+    }))

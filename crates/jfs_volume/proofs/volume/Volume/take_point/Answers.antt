@@ -1,4 +1,3 @@
-use Rattle.std.proofs.Common.{refl}
 use Rattle.jfs_volume.proofs.Settling.{points_moves}
 use Rattle.jfs_volume.proofs.volume.Volume.take_point.Goals as goal
 

@@ -1,7 +1,8 @@
-use Rattle.std.proofs.Common.{◌≡◌, ◌<◌, ℕ, List, length, slice_get, Some, [], refl, sym, ap, subst, ◌≤◌, ◌∙◌, arith}
+use Rattle.std.proofs.Common.{◌≡◌, ◌<◌, ℕ, false, List, length, slice_get, Some, [], refl, sym, ap, subst, ◌≤◌, ◌∙◌, arith}
 use Rattle.jfs_volume.proofs.Counts.{tells_moves, freed_moves}
 use Rattle.jfs_halves.specs.declared.freed.FreedPage.{FreedPage}
 use Rattle.jfs_halves.specs.Parts.{Parts}
+use Rattle.jfs_volume.specs.Settles.{is_freed}
 use Rattle.jfs_volume.specs.Told.{still_freed}
 use Rattle.jfs_volume.proofs.Dropping.{dropped_more, stays_undropped, place_of}
 use Rattle.jfs_volume.proofs.volume.Volume.told.Goals as goal
@@ -10,6 +11,7 @@ pub loop-i-init : goal.loop-i-init
 loop-i-init g c = rw c.acknowledge.ensures (record {
   parts = refl;
   told = λ seen asked told crashes half s. ([], tells_moves seen asked c.args.self.now half c.args.n s c.requires.0 c.requires.1);
+  shows = λ t q none. refl;
   dropped = λ j f h. absurd (omega (arith, h));
 })
 
@@ -22,6 +24,7 @@ loop-i-preserved g c =
       told = λ seen asked told crashes half s.
           let w = inv.told seen asked told crashes half s in
           dropped_more seen asked c.args.self.now c.loop-i.self c.drop_at.new.self half c.args.n w.0 w.1 (e.drop seen asked told crashes _ w.1.stands);
+      shows = λ t q none. e.shows t q (subst (λ (fs : List FreedPage). is_freed fs q ≡ false) (sym (ap (λ (p : Parts). p.freed) inv.parts)) none) ∙ inv.shows t q none;
       dropped = λ j f h at early may. stays_undropped c.args.self.now.freed c.loop-i.self c.drop_at.new.self c.args.n c.loop-i.i j f
           inv.dropped e.others (λ here. e.gone f (ap (λ (p : Parts). slice_get p.freed c.loop-i.i) inv.parts ∙ here) (subst (λ (n : ℕ). f.by_entry ≤ n) (sym (ap (λ (p : Parts). p.told) inv.parts)) early)) h at early may;
     }
@@ -34,5 +37,6 @@ returns g c =
     rw c.forget_freed.ensures (record {
       told = λ seen asked told crashes half s. let w = inv.told seen asked told crashes half s in (w.0, freed_moves seen asked c.args.self.now c.loop-i.self half c.args.n _ w.1);
       dropped = λ i f at early may. inv.dropped i f (passed i f at) at early may;
+      shows = λ t q none. inv.shows t q none;
       parts = ap (λ (p : Parts). record p { freed = still_freed c.args.n p.freed }) inv.parts;
     })

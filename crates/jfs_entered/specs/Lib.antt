@@ -1,0 +1,3 @@
+-- what the clauses say
+pub mod Marked
+pub mod Laws

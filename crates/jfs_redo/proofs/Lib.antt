@@ -1,0 +1,5 @@
+pub mod Extents
+pub mod Places
+pub mod Puts
+pub mod LogParts
+pub mod Whole

@@ -1,0 +1,33 @@
+use Rattle.std.proofs.Common.{◌≤◌, ◌∙◌, ℕ, length, sym, subst, arith}
+use Rattle.std.specs.Prelude.{Option}
+use Rattle.jfs_bmap.specs.Set.{taken_at}
+use Rattle.jfs_bmap.specs.MapFile.{IsMapPage, is_in_use}
+use Rattle.jfs_objects.specs.Contents.{block_of}
+use Rattle.jfs_redo.specs.Put.{IsPut, place_if}
+use Rattle.jfs_redo.proofs.Puts.{stepped, placed_within, behind-joins}
+use Rattle.jfs_redo.proofs.maps.write_block_map.Goals as goal
+
+pub write_if_in_use-requires-clause-lies : goal.write_if_in_use-requires-clause-lies
+write_if_in_use-requires-clause-lies g c =
+    let same = c.from_block-rest.ensures.same c.loop-k.k (omega (arith, c.from.ensures)) in
+    λ b is. c.requires.lie c.loop-k.k b (sym (same ∙ c.loop-k.invariant.3 c.loop-k.k (omega arith)) ∙ is)
+
+pub loop-k-preserved : goal.loop-k-preserved
+loop-k-preserved g c =
+    let i = c.loop-k.invariant in
+    let rest = λ (j : ℕ) (h : c.loop-k.k ≤ j). c.from_block-rest.ensures.same j (omega (arith, c.from.ensures, h)) ∙ i.3 j h in
+    let owned = c.args.map.now.owned in
+    let place = λ (k : ℕ). place_if (is_in_use (length owned) k) (block_of c.args.extents.now k) in
+    let page = λ (k : ℕ). IsMapPage (length owned) c.args.map.now.agsize (taken_at owned) k in (
+      c.in-Ok.ensures.pages ∙ i.0,
+      c.in-Ok.ensures.room ∙ i.1,
+      c.in-Ok.ensures.cause.ok ∙ i.2,
+      λ j h. rest j (omega (arith, h)),
+      λ tells.
+          let whole = g.met.D.Disk.has_pages c.loop-k.disk tells in
+          let put : IsPut (place c.loop-k.k) (page c.loop-k.k) (g.D.Disk.image c.loop-k.disk) (g.D.Disk.image c.write_if_in_use.new.disk) = subst (λ (o : Option ℕ). IsPut (place_if (is_in_use (length owned) c.loop-k.k) o) (page c.loop-k.k) (g.D.Disk.image c.loop-k.disk) (g.D.Disk.image c.write_if_in_use.new.disk)) (rest c.loop-k.k (omega arith)) (c.in-Ok.ensures.put tells) in
+          stepped c.loop-k.k place page (g.D.Disk.image c.args.disk.now) (g.D.Disk.image c.loop-k.disk) (g.D.Disk.image c.write_if_in_use.new.disk) c.args.blocks
+          (omega (arith, whole.number, c.requires.within, i.0))
+          (placed_within c.args.blocks (is_in_use (length owned) c.loop-k.k) (block_of c.args.extents.now c.loop-k.k) (λ p is. c.requires.lie c.loop-k.k p is)) put (i.4 tells),
+      λ tells. behind-joins c.args.blocks (g.D.Disk.image c.args.disk.now) (g.D.Disk.image c.loop-k.disk) (g.D.Disk.image c.write_if_in_use.new.disk) (i.5 tells) (c.in-Ok.ensures.behind tells),
+    )

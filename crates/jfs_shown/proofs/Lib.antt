@@ -1,0 +1,4 @@
+pub mod Image
+pub mod Canonical
+pub mod Places
+pub mod Files

@@ -1,0 +1,117 @@
+-- A syncpoint settles the maps of a volume.
+use Rattle.std.proofs.Common.{◌≡◌, ◌<◌, refl, sym, ap, ◌∙◌, subst, ℕ, zero, suc, ◌+◌, ◌*◌, Bool, true, false, List, length, slice_get, Some, arith}
+use Rattle.std.proofs.lemmas.Bool.Decides.{nat_tests}
+use Rattle.std.proofs.lemmas.Option.{slice_get_within}
+use Rattle.jfs_disk.specs.Image.{page_of}
+use Rattle.jfs_super.specs.Rules.{blocks_of}
+use Rattle.jfs_super.specs.declared.fields.Super.{Super}
+use Rattle.jfs_imap.specs.Inodes.{Inodes}
+use Rattle.jfs_bmap.specs.MapFile.{is_in_use, pages_of}
+use Rattle.jfs_bmap.specs.States.{Blocks, is_owned}
+use Rattle.jfs_map_files.specs.declared.map_file.MapFiles.{MapFiles}
+use Rattle.jfs_objects.specs.Readers.{Readers}
+use Rattle.jfs_objects.specs.Volume.{Volume}
+use Rattle.jfs_meaning.specs.Readers.{readers}
+use Rattle.jfs_meaning.specs.Consistent.{IsConsistent}
+use Rattle.jfs_way.specs.Volume.{volume_of}
+use Rattle.jfs_shown.specs.Shown.{ShowsBlocks, ShowsInodes}
+use Rattle.jfs_shown.specs.Laws.{map_pages}
+use Rattle.jfs_shown.specs.Files.{KnowsFiles, HasOwnPlaces}
+use Rattle.jfs_shown.proofs.Canonical.{canonical_law}
+use Rattle.jfs_shown.proofs.Files.{written_law, change_law, own_law}
+use Rattle.jfs_shown.proofs.Places.{keeps_law}
+use Rattle.jfs_halves.specs.Parts.{Parts}
+use Rattle.jfs_volume.specs.MapsHome.{ShowsBlockMap, HoldsNone}
+use Rattle.jfs_unmount.specs.Laws.{IsSettled}
+use Rattle.jfs_unmount.specs.Synced.{PutsMapsHome, SyncedLaw}
+
+-- a page of the block map's file is in use where it tells anything
+dmap_in_use : (blocks k : ℕ) → suc (suc (suc (suc k))) < pages_of blocks → is_in_use blocks (suc (suc (suc (suc k)))) ≡ true
+dmap_in_use blocks k l = grind (arith, nat_tests)
+
+-- the same map by another page of the same bytes, and by other states of the same owners
+same_blocks : (blocks : ℕ) (m n : Blocks) (j : ℕ) (page : List ℕ) → ((b : ℕ) → is_owned n b ≡ is_owned m b) → ShowsBlocks blocks m j page → ShowsBlocks blocks n j page
+same_blocks blocks m n zero page same shows = tt
+same_blocks blocks m n (suc zero) page same shows = tt
+same_blocks blocks m n (suc (suc zero)) page same shows = tt
+same_blocks blocks m n (suc (suc (suc zero))) page same shows = tt
+same_blocks blocks m n (suc (suc (suc (suc k)))) page same shows = λ i l w. shows i l w ∙ sym (same (8192 * k + i))
+
+module _ (s : Super) (area : ℕ → ℕ) (old new : Parts) (knows : KnowsFiles s (page_of old.view) area old.map old.inodes old.files) (consistent : IsConsistent (readers (blocks_of s)) (volume_of (page_of old.view) area old.map old.inodes))
+    (home : PutsMapsHome area old new) where
+  abbrev r : Readers
+  r = readers (blocks_of s)
+
+  abbrev v : Volume
+  v = volume_of (page_of old.view) area old.map old.inodes
+
+  own : HasOwnPlaces r (page_of old.view) area old.files
+  own = own_law s (page_of old.view) area old.map old.inodes old.files knows consistent.sound.agrees
+
+  -- a block that is no page of a map holds none
+  none : (b : ℕ) → map_pages r (page_of old.view) b ≡ 0 → HoldsNone old.files b
+  none b e = ((λ n h. absurd (let a = (own.block_areas n b h).0 in omega (arith, a, e))), (λ n h. absurd (let a = (own.inode_areas n b h).0 in omega (arith, a, e))))
+
+  block_places : new.files.blocks.places ≡ old.files.blocks.places
+  block_places = ap (λ (f : MapFiles). f.blocks.places) home.files
+
+  inode_places : new.files.inodes.places ≡ old.files.inodes.places
+  inode_places = ap (λ (f : MapFiles). f.inodes.places) home.files
+
+  number : length new.map.states ≡ blocks_of s
+  number = home.number ∙ knows.sizes.blocks_are
+
+  shows_blocks : (j b : ℕ) → slice_get new.files.blocks.places j ≡ Some b → ShowsBlocks (blocks_of s) new.map j (page_of new.view b)
+  shows_blocks j b h = by old.files.blocks.stale refl
+    where
+      at : slice_get old.files.blocks.places j ≡ Some b
+      at = ap (λ (ps : List ℕ). slice_get ps j) (sym block_places) ∙ h
+
+      canonical : (j : ℕ) → ShowsBlockMap new → slice_get new.files.blocks.places j ≡ Some b → j < pages_of (blocks_of s) → ShowsBlocks (blocks_of s) new.map j (page_of new.view b)
+      canonical zero shows h l = tt
+      canonical (suc zero) shows h l = tt
+      canonical (suc (suc zero)) shows h l = tt
+      canonical (suc (suc (suc zero))) shows h l = tt
+      canonical (suc (suc (suc (suc k)))) shows h l =
+          subst (λ (n : ℕ). ShowsBlocks n new.map (suc (suc (suc (suc k)))) (page_of new.view b)) number
+          (canonical_law.block_map new.map (suc (suc (suc (suc k)))) (page_of new.view b)
+          (shows (suc (suc (suc (suc k)))) b (dmap_in_use (length new.map.states) k (subst (λ (n : ℕ). suc (suc (suc (suc k))) < pages_of n) (sym number) l)) h))
+
+      by : (x : Bool) → old.files.blocks.stale ≡ x → ShowsBlocks (blocks_of s) new.map j (page_of new.view b)
+      by true e = canonical j (home.block_map e) h (let l = slice_get_within old.files.blocks.places j b at in omega (arith, l, knows.block_pages))
+      by false e = same_blocks (blocks_of s) old.map new.map j (page_of new.view b) home.owned
+          (subst (λ (p : List ℕ). ShowsBlocks (blocks_of s) old.map j p) (sym (home.block_pages e j b at)) (knows.block_map e j b at))
+
+  shows_inodes : (j b : ℕ) → slice_get new.files.inodes.places j ≡ Some b → ShowsInodes new.inodes j (page_of new.view b)
+  shows_inodes j b h = by old.files.inodes.stale refl
+    where
+      at : slice_get old.files.inodes.places j ≡ Some b
+      at = ap (λ (ps : List ℕ). slice_get ps j) (sym inode_places) ∙ h
+
+      by : (x : Bool) → old.files.inodes.stale ≡ x → ShowsInodes new.inodes j (page_of new.view b)
+      by true e = canonical_law.inode_map new.inodes j (page_of new.view b) (home.inode_map e j b h)
+      by false e = subst (λ (m : Inodes). ShowsInodes m j (page_of new.view b)) (sym home.inodes)
+          (subst (λ (p : List ℕ). ShowsInodes old.inodes j p) (sym (home.inode_pages e j b at)) (knows.inode_map e j b at))
+
+  known : KnowsFiles s (page_of new.view) area new.map new.inodes new.files
+  known = change_law s (page_of old.view) (page_of new.view) area old.map new.map old.inodes new.inodes old.files new.files knows (record {
+    places = keeps_law r s.ait2 s.aim2 v (page_of new.view) consistent.sound.agrees knows.areas knows.whole (λ b other more e. home.areas b more (none b e));
+    block_places = block_places;
+    inode_places = inode_places;
+    sizes = record { blocks_are = number; places_are = subst (λ (m : Inodes). length m.extents ≡ 128 * m.iags) (sym home.inodes) knows.sizes.places_are };
+    groups = ap (λ (m : Inodes). m.iags) home.inodes;
+    block_map = λ fresh j b h. shows_blocks j b h;
+    inode_map = λ fresh j b h. shows_inodes j b h;
+  })
+
+  pub settled : IsConsistent r (volume_of (page_of new.view) area new.map new.inodes) → IsSettled s (page_of new.view) area new.map new.inodes
+  settled after = record {
+    consistent = after;
+    sizes = known.sizes;
+    areas = known.areas;
+    files = known.whole;
+    shows = written_law s (page_of new.view) area new.map new.inodes new.files known (ap (λ (f : MapFiles). f.blocks.stale) home.files) (ap (λ (f : MapFiles). f.inodes.stale) home.files);
+  }
+
+pub synced_law : SyncedLaw
+synced_law s area old new knows consistent home after = settled s area old new knows consistent home after

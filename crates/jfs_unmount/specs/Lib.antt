@@ -1,0 +1,4 @@
+-- what the clauses say
+pub mod Unmount
+pub mod Laws
+pub mod Synced

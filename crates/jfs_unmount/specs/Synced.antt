@@ -1,0 +1,30 @@
+-- What a syncpoint leaves of a volume's maps and their pages.
+use Rattle.std.specs.Prelude.{◌≡◌, ◌<◌, ℕ, true, false, length, slice_get, Some}
+use Rattle.jfs_disk.specs.Image.{page_of}
+use Rattle.jfs_super.specs.Rules.{blocks_of}
+use Rattle.jfs_super.specs.declared.fields.Super.{Super}
+use Rattle.jfs_bmap.specs.States.{is_owned}
+use Rattle.jfs_meaning.specs.Readers.{readers}
+use Rattle.jfs_meaning.specs.Consistent.{IsConsistent}
+use Rattle.jfs_way.specs.Volume.{volume_of}
+use Rattle.jfs_shown.specs.Files.{KnowsFiles}
+use Rattle.jfs_halves.specs.Parts.{Parts}
+use Rattle.jfs_volume.specs.MapsHome.{ShowsBlockMap, ShowsInodeMap, HoldsNone, with_written}
+use Rattle.jfs_unmount.specs.Laws.{IsSettled}
+
+-- A map that had changed is shown by its pages in their canonical form, and the pages of one that hadn't stay; so do the fixed areas beside these pages. The blocks with owners stay, and the inode map.
+pub record PutsMapsHome (area : ℕ → ℕ) (old new : Parts) : Type 0 where
+  pub files : new.files ≡ with_written old.files
+  pub inodes : new.inodes ≡ old.inodes
+  pub number : length new.map.states ≡ length old.map.states
+  pub owned : (b : ℕ) → is_owned new.map b ≡ is_owned old.map b
+  pub block_map : old.files.blocks.stale ≡ true → ShowsBlockMap new
+  pub inode_map : old.files.inodes.stale ≡ true → ShowsInodeMap new
+  pub block_pages : old.files.blocks.stale ≡ false → (n b : ℕ) → slice_get old.files.blocks.places n ≡ Some b → page_of new.view b ≡ page_of old.view b
+  pub inode_pages : old.files.inodes.stale ≡ false → (n b : ℕ) → slice_get old.files.inodes.places n ≡ Some b → page_of new.view b ≡ page_of old.view b
+  pub areas : (b : ℕ) → 0 < area b → HoldsNone old.files b → page_of new.view b ≡ page_of old.view b
+
+-- So a volume of whose maps' files all is known, and which is consistent before and after, is settled then.
+abbrev pub SyncedLaw : Type 0
+SyncedLaw = (s : Super) (area : ℕ → ℕ) (old new : Parts) → KnowsFiles s (page_of old.view) area old.map old.inodes old.files → IsConsistent (readers (blocks_of s)) (volume_of (page_of old.view) area old.map old.inodes)
+    → PutsMapsHome area old new → IsConsistent (readers (blocks_of s)) (volume_of (page_of new.view) area new.map new.inodes) → IsSettled s (page_of new.view) area new.map new.inodes

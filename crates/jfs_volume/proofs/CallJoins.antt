@@ -1,0 +1,168 @@
+-- The entry of a file call joins, or what was reserved for it is given back.
+use Rattle.std.proofs.Common.{◌≡◌, ◌≤◌, ◌==◌, ◌&&◌, ◌||◌, refl, sym, ap, ◌∙◌, subst, ℕ, Bool, true, false, not, is_some, List, [], ◌∷◌, length, Option, Some, None, inl, inr, arith}
+use Rattle.jfs_disk.specs.Image.{Image, page_of}
+use Rattle.jfs_core.specs.Image.{pages_after}
+use Rattle.jfs_disk.specs.declared.disk.Fault.{Fault}
+use Rattle.std.proofs.lemmas.Bool.{eqb-true}
+use Rattle.jfs_bmap.specs.States.{Blocks, BlockState, Free, put_state, AreReserved}
+use Rattle.jfs_ranges.specs.View.{AreWhole}
+use Rattle.jfs_ranges.specs.declared.edit.Edit.{Edit}
+use Rattle.jfs_data_steps.specs.After.{LieWithin, is_put}
+use Rattle.jfs_data_steps.specs.declared.pages.DataPage.{DataPage}
+use Rattle.jfs_pages.specs.declared.dirty.Dirty.{Dirty}
+use Rattle.jfs_pages.specs.Device.{IsFault}
+use Rattle.jfs_pages.specs.Dirty.{dirty_of}
+use Rattle.jfs_plain.specs.declared.call.Entry.{Entry}
+use Rattle.jfs_records.specs.Records.{Noted, noted}
+use Rattle.jfs_marks.specs.declared.marks.InodeMarks.{InodeMarks}
+use Rattle.jfs_halves.specs.Parts.{Parts}
+use Rattle.jfs_halves.specs.Change.{SameStates}
+use Rattle.jfs_volume.specs.Append.{Adds, AddsEntry, ShowsEntry, Stays, Fails, TellsFault, unreserved}
+use Rattle.jfs_volume.specs.Data.{AreClean, put_pages}
+use Rattle.jfs_volume.specs.Runs.{taken_in}
+use Rattle.jfs_volume.specs.Called.{JoinsWith, GivesBack, MayGiveBack, GoesOn, FailsBy, CallIs, StaysOut, ReservedIs, IsRead, FitsBeside, are_clean}
+use Rattle.jfs_volume.specs.declared.calling.Beside.{Beside}
+use Rattle.jfs_volume.specs.declared.calling.Called.{Called}
+use Rattle.jfs_volume.specs.declared.calling.Called.TheVariants as called
+use Rattle.jfs_volume.specs.declared.joined.Joined.TheVariants as joined
+
+pub lies_within : (few many : ℕ) (put : List DataPage) → few ≤ many → LieWithin few put → LieWithin many put
+lies_within few many [] more all = tt
+lies_within few many (d ∷ ds) more all = let first = all.0 in (omega (arith, first, more), lies_within few many ds more all.1)
+
+-- ---- pages that aren't dirty
+
+none_some : {X : Type 0} (x : Option X) → not (is_some x) ≡ true → x ≡ None
+none_some None h = refl
+none_some (Some x) h = absurd (cc (h))
+
+both_left : (a b : Bool) → (a && b) ≡ true → a ≡ true
+both_left true b h = refl
+both_left false b h = absurd (cc (h))
+
+both_right : (a b : Bool) → (a && b) ≡ true → b ≡ true
+both_right true b h = h
+both_right false b h = absurd (cc (h))
+
+clean_at : (d : DataPage) (ds : List DataPage) (dirty : List Dirty) (b : ℕ) (here : Bool) → (d.block == b) ≡ here → (here || is_put b ds) ≡ true → dirty_of dirty d.block ≡ None → ((c : ℕ) → is_put c ds ≡ true → dirty_of dirty c ≡ None) → dirty_of dirty b ≡ None
+clean_at d ds dirty b true same put first rest = subst (λ (n : ℕ). dirty_of dirty n ≡ None) (eqb-true d.block b same) first
+clean_at d ds dirty b false same put first rest = rest b put
+
+pub are_all_clean : (put : List DataPage) (dirty : List Dirty) → are_clean put dirty ≡ true → AreClean put dirty
+are_all_clean [] dirty h b put = absurd (cc (put))
+are_all_clean (d ∷ ds) dirty h b put = let first = both_left (not (is_some (dirty_of dirty d.block))) (are_clean ds dirty) h in let rest = both_right (not (is_some (dirty_of dirty d.block))) (are_clean ds dirty) h in
+    clean_at d ds dirty b (d.block == b) refl put (none_some (dirty_of dirty d.block) first) (are_all_clean ds dirty rest)
+
+-- ---- what was read before
+
+module _ (tells : Type 0) (old mid new : Parts) (read : IsRead tells old mid) where
+  adds_over : (entry : Entry) (list : List Noted) (marks : InodeMarks) → Adds entry list marks mid new → Adds entry list marks old new
+  adds_over entry list marks a = let b = subst (λ (p : Parts). Adds entry list marks p new) read.parts a in record { parts = b.parts; dirty = b.dirty; map = b.map; inodes = b.inodes }
+
+  same_dirty : mid.dirty ≡ old.dirty
+  same_dirty = ap (λ (p : Parts). p.dirty) read.parts
+
+  pub enters : (entry : Entry) (tx : List Edit) (put : List DataPage) (number : ℕ) (beside : Beside) → (tells → AreWhole old.blocks old.view) → are_clean put old.dirty ≡ true → mid.faults ≡ old.faults → FitsBeside tells (length old.map.states) (page_of old.view) old.inodes tx put beside
+      → AddsEntry entry (noted tx beside.notes) beside.marks mid new (joined.Entered number) → TellsFault mid.faults new.faults (joined.Entered number) → (tells → AreClean put mid.dirty → ShowsEntry put tx mid new (joined.Entered number)) → JoinsWith tells entry tx put number old new
+  enters entry tx put number beside whole clean faults fits (a, is) told shows = record {
+    notes = beside.notes;
+    marks = beside.marks;
+    each = fits.each;
+    loggable = fits.loggable;
+    marks_are = fits.marks.are;
+    behind = fits.behind;
+    gone = fits.gone;
+    adds = adds_over entry (noted tx beside.notes) beside.marks a;
+    number_is = is ∙ sym (ap (λ (p : Parts). p.appended) a.parts);
+    clean = clean;
+    whole = whole;
+    shows = λ t. shows t (subst (λ (dirty : List Dirty). AreClean put dirty) (sym same_dirty) (are_all_clean put old.dirty clean)) ∙ ap (λ (image : Image). pages_after 0 tx (put_pages put image)) (read.view t);
+    faults = told ∙ faults;
+  }
+
+  -- ---- it doesn't join
+
+  -- memory for the map, pages and faults may be others
+  out_over : new ≡ record mid { view = new.view; disk = new.disk; past = new.past; faults = new.faults; map = new.map } → SameStates new.map mid.map → StaysOut old new
+  out_over same map =
+      let over : new ≡ record old { view = new.view; disk = new.disk; past = new.past; faults = new.faults; map = new.map } =
+      same ∙ ap (λ (p : Parts). record p { view = new.view; disk = new.disk; past = new.past; faults = new.faults; map = new.map }) read.parts in
+      record {
+        joins_not = record { parts = over ∙ sym (ap (λ (p : Parts). record old { view = new.view; disk = new.disk; past = new.past; faults = new.faults; map = new.map; halted = p.halted }) over) };
+        map = same_as map (ap (λ (p : Parts). p.map) read.parts);
+      }
+    where
+      same_as : SameStates new.map mid.map → mid.map ≡ old.map → SameStates new.map old.map
+      same_as m e = record { states = m.states ∙ ap (λ (b : Blocks). b.states) e; agsize = m.agsize ∙ ap (λ (b : Blocks). b.agsize) e }
+
+  same_halted : mid.halted ≡ old.halted
+  same_halted = ap (λ (p : Parts). p.halted) read.parts
+
+  pub stays : (tx : List Edit) (put : List DataPage) → are_clean put old.dirty ≡ true → mid.faults ≡ old.faults → Stays mid new → new.faults ≡ mid.faults → (tells → AreClean put mid.dirty → new.view ≡ mid.view) → StaysOut old new × GoesOn tells old new
+  stays tx put clean faults s told shows = (
+    out_over s.parts s.map,
+    record {
+      halted = ap (λ (p : Parts). p.halted) s.parts ∙ same_halted;
+      view = λ t. shows t (subst (λ (dirty : List Dirty). AreClean put dirty) (sym same_dirty) (are_all_clean put old.dirty clean)) ∙ read.view t;
+      faults = told ∙ faults;
+    },
+  )
+
+  pub unread : (tx : List Edit) (put : List DataPage) (fault : Fault) → are_clean put old.dirty ≡ true → mid.faults ≡ old.faults → Stays mid new → IsFault mid.faults new.faults fault → (tells → AreClean put mid.dirty → new.view ≡ mid.view) → StaysOut old new × FailsBy tells fault old new
+  unread tx put fault clean faults s told shows = (
+    out_over s.parts s.map,
+    record {
+      is_fault = subst (λ (n : ℕ). IsFault n new.faults fault) faults told;
+      halted = inl (
+        ap (λ (p : Parts). p.halted) s.parts ∙ same_halted,
+        λ t. shows t (subst (λ (dirty : List Dirty). AreClean put dirty) (sym same_dirty) (are_all_clean put old.dirty clean)) ∙ read.view t,
+      );
+    },
+  )
+
+  pub fails : (fault : Fault) → mid.faults ≡ old.faults → Fails fault mid new → IsFault mid.faults new.faults fault → StaysOut old new × FailsBy tells fault old new
+  fails fault faults f told = (
+    record {
+      joins_not = record { parts = halted_over };
+      map = record { states = f.map.states ∙ ap (λ (p : Parts). p.map.states) read.parts; agsize = f.map.agsize ∙ ap (λ (p : Parts). p.map.agsize) read.parts };
+    },
+    record {
+      is_fault = subst (λ (n : ℕ). IsFault n new.faults fault) faults told;
+      halted = inr (ap (λ (p : Parts). p.halted) f.parts);
+    },
+  )
+    where
+      over : new ≡ record old { view = new.view; disk = new.disk; past = new.past; faults = new.faults; map = new.map; halted = Some fault }
+      over = f.parts ∙ ap (λ (p : Parts). record p { view = new.view; disk = new.disk; past = new.past; faults = new.faults; map = new.map; halted = Some fault }) read.parts
+
+      halted_over : new ≡ record old { view = new.view; disk = new.disk; past = new.past; faults = new.faults; map = new.map; halted = new.halted }
+      halted_over = over ∙ sym (ap (λ (p : Parts). record old { view = new.view; disk = new.disk; past = new.past; faults = new.faults; map = new.map; halted = p.halted }) over)
+
+-- ---- what was reserved is given back
+
+same_put : (a b : Blocks) (tx : List Edit) → SameStates a b → SameStates (put_state Free (taken_in tx) a) (put_state Free (taken_in tx) b)
+same_put a b tx s = record { states = ap (λ (states : List BlockState). (put_state Free (taken_in tx) (record b { states = states })).states) s.states; agsize = s.agsize }
+
+gives : (tx : List Edit) (old mid : Parts) → AreReserved old.map (taken_in tx) → StaysOut old mid → GivesBack tx old (unreserved tx mid)
+gives tx old mid reserved s = record {
+  reserved = reserved;
+  joins_not = record { parts = ap (λ (p : Parts). record p { map = put_state Free (taken_in tx) mid.map }) s.joins_not.parts };
+  map = same_put mid.map old.map tx s.map;
+}
+
+may_give : (tx : List Edit) (old new : Parts) → GivesBack tx old new → MayGiveBack tx old new
+may_give tx old new g = record { joins_not = g.joins_not; map = inl (g.reserved, g.map) }
+
+goes : (tells : Type 0) (tx : List Edit) (old mid : Parts) → GoesOn tells old mid → GoesOn tells old (unreserved tx mid)
+goes tells tx old mid g = record { halted = g.halted; view = g.view; faults = g.faults }
+
+unreserving : (tells : Type 0) (entry : Entry) (tx : List Edit) (put : List DataPage) (old mid : Parts) (result : Called) → AreReserved old.map (taken_in tx) → ((number : ℕ) → result ≡ called.Entered number → ⊥) → ReservedIs tells entry tx put old mid result → CallIs tells entry tx put old (unreserved tx mid) result
+unreserving tells entry tx put old mid (called.Entered number) reserved other r = absurd (other number refl)
+unreserving tells entry tx put old mid called.NoRoom reserved other r = (gives tx old mid reserved r.0, goes tells tx old mid r.1)
+unreserving tells entry tx put old mid called.NoMemory reserved other r = (may_give tx old (unreserved tx mid) (gives tx old mid reserved r.0), goes tells tx old mid r.1)
+unreserving tells entry tx put old mid (called.Failed fault) reserved other r = (gives tx old mid reserved r.0, record { is_fault = r.1.is_fault; halted = r.1.halted })
+unreserving tells entry tx put old mid called.Unfit reserved other r = (may_give tx old (unreserved tx mid) (gives tx old mid reserved r.0), goes tells tx old mid r.1)
+
+pub given_back : (tells : Type 0) (entry : Entry) (tx : List Edit) (put : List DataPage) (old mid new : Parts) (result : Called) → AreReserved old.map (taken_in tx) → ((number : ℕ) → result ≡ called.Entered number → ⊥) → ReservedIs tells entry tx put old mid result → new ≡ unreserved tx mid
+    → CallIs tells entry tx put old new result
+given_back tells entry tx put old mid new result reserved other r is = subst (λ (p : Parts). CallIs tells entry tx put old p result) (sym is) (unreserving tells entry tx put old mid result reserved other r)

@@ -1,0 +1,162 @@
+-- Pages of a map's file are put into their places, one after the other.
+use Rattle.std.proofs.Common.{◌≡◌, ◌<◌, ◌≤◌, ◌⊎◌, ◌++◌, ◌∷◌, [], ℕ, suc, Bool, true, false, List, length, set, slice_get, Option, Some, None, Result, Ok, Err, OnOk, refl, sym, ap, ◌∙◌, inl, inr, subst, arith, append_assoc}
+use Rattle.std.proofs.lemmas.Bool.{cases_eq}
+use Rattle.std.proofs.lemmas.List.{length-set, get_or-set_same, get_or-set_other, map-append}
+use Rattle.jfs_disk.specs.Image.{Image, page_of}
+use Rattle.jfs_disk.specs.declared.disk.Fault.{Fault}
+use Rattle.jfs_map_files.specs.Places.{AreWithin, MapPlaces}
+use Rattle.jfs_data_steps.specs.declared.pages.DataPage.{DataPage}
+use Rattle.jfs_halves.specs.Half.{VolumeHalf}
+use Rattle.jfs_halves.specs.Parts.{Parts}
+use Rattle.jfs_halves.specs.Change.{Change, Writes, WriteTears, Stops, after}
+use Rattle.jfs_halves.specs.Moves.{Moves}
+use Rattle.jfs_halves.proofs.Joined.{join}
+use Rattle.jfs_volume.specs.MapsHome.{MapsHome, ShowsAfter, with_written}
+use Rattle.jfs_volume.specs.Shown.{PutsPage, AreOwn, ShowsUpto, PutsMap}
+use Rattle.jfs_bmap.specs.MapFile.{IsMapPage, is_in_use}
+use Rattle.jfs_bmap.specs.States.{is_owned}
+use Rattle.jfs_imap.specs.Inodes.{IsInodePage}
+use Rattle.jfs_map_files.specs.declared.map_file.MapFiles.{MapFiles}
+use Rattle.std.proofs.lemmas.Option.{slice_get_within}
+use Rattle.jfs_volume.specs.Written.{writes, StopsWriting, WriteIs, stops, tears}
+use Rattle.jfs_volume.proofs.Writing.{FailsToWrite}
+
+pub shows-none : (places : List ℕ) (used : ℕ → Bool) (is : ℕ → List ℕ → Type 0) (old : Image) → ShowsUpto 0 places used is old old
+shows-none places used is old = record { shown = λ own n b h u e. absurd (omega (arith, h)); others = λ b none. refl; size = refl }
+
+-- one page more
+module _ (n : ℕ) (places : List ℕ) (used : ℕ → Bool) (is : ℕ → List ℕ → Type 0) (old mid new : Image) where
+  kept : ShowsUpto n places used is old mid → new ≡ mid → ((b : ℕ) → used n ≡ true → slice_get places n ≡ Some b → ⊥) → ShowsUpto (suc n) places used is old new
+  kept shows same none = rw same (record {
+    shown = λ own m b h u e. at own m b h u e (cases_eq m n);
+    others = shows.others;
+    size = shows.size;
+  })
+    where
+      at : AreOwn places → (m b : ℕ) → m < suc n → used m ≡ true → slice_get places m ≡ Some b → (m ≡ n) ⊎ ((m ≡ n) → ⊥) → is m (page_of mid b)
+      at own m b h u e (inl i) = absurd (none b (ap used (sym i) ∙ u) (ap (λ (k : ℕ). slice_get places k) (sym i) ∙ e))
+      at own m b h u e (inr d) = shows.shown own m b (omega (arith, h, d)) u e
+
+  put : (b : ℕ) (bytes : List ℕ) → b < length old → slice_get places n ≡ Some b → is n bytes → new ≡ set mid b bytes → ShowsUpto n places used is old mid → ShowsUpto (suc n) places used is old new
+  put b bytes within here good same shows = rw same (record {
+    shown = λ own m c h u e. at own m c h u e (cases_eq m n);
+    others = λ c none. get_or-set_other mid b c bytes [] (λ i. none n (here ∙ ap Some (sym i))) ∙ shows.others c none;
+    size = length-set mid b bytes ∙ shows.size;
+  })
+    where
+      at : AreOwn places → (m c : ℕ) → m < suc n → used m ≡ true → slice_get places m ≡ Some c → (m ≡ n) ⊎ ((m ≡ n) → ⊥) → is m (page_of (set mid b bytes) c)
+      at own m c h u e (inl i) =
+          let there : slice_get places n ≡ Some c = ap (λ (k : ℕ). slice_get places k) (sym i) ∙ e in
+          let some : Some b ≡ Some c = sym here ∙ there in
+          let same_block : b ≡ c = cc in
+          rw i (rw (sym same_block) (subst (is n) (sym (get_or-set_same mid b bytes [] (omega (arith, within, shows.size)))) good))
+      at own m c h u e (inr d) = subst (is m) (sym (get_or-set_other mid b c bytes [] (λ i. d (own m n c e (here ∙ ap Some (sym i)))))) (shows.shown own m c (omega (arith, h, d)) u e)
+
+  pub shows-more : AreWithin (length old) places → ShowsUpto n places used is old mid → PutsPage (used n) (slice_get places n) (is n) mid new → ShowsUpto (suc n) places used is old new
+  shows-more within shows puts = at (used n) (slice_get places n) refl refl puts
+    where
+      at : (u : Bool) (place : Option ℕ) → used n ≡ u → slice_get places n ≡ place → PutsPage u place (is n) mid new → ShowsUpto (suc n) places used is old new
+      at false place u e same = kept shows same (λ b used_here here. absurd (let never : true ≡ false = sym used_here ∙ u in cc))
+      at true None u e same = kept shows same (λ b used_here here. absurd (let never : Some b ≡ None = sym here ∙ e in cc))
+      at true (Some b) u e w = put b w.0 (within n b e) e w.1 w.2 shows
+
+-- ---- as changes of a half
+
+pub writes-on : (seen asked : Bool) (old mid new : Parts) (half : VolumeHalf) (pages more : List DataPage) → Moves seen asked old mid half (writes pages) → Moves seen asked mid new (after half (writes pages)) (writes more) →
+    Moves seen asked old new half (writes (pages ++ more))
+writes-on seen asked old mid new half pages more a b =
+    subst (λ (list : List Change). Moves seen asked old new half list) (sym (map-append (λ (d : DataPage). Writes d.block d.page.0) pages more)) (join seen asked old mid new half (writes pages) (writes more) a b)
+
+pub writes-stop : (seen asked : Bool) (old mid new : Parts) (half : VolumeHalf) (pages : List DataPage) (fault : Fault) → Moves seen asked old mid half (writes pages) → StopsWriting seen asked mid new (after half (writes pages)) fault → StopsWriting seen asked old new half fault
+writes-stop seen asked old mid new half pages fault a s = record {
+  pages = pages ++ s.pages;
+  last = s.last;
+  is = s.is;
+  moves = subst (λ (list : List Change). Moves seen asked old new half list) (sym (append_assoc (writes pages) (writes s.pages) (s.last ∷ [])) ∙ ap (λ (list : List Change). list ++ s.last ∷ []) (sym (map-append (λ (d : DataPage). Writes d.block d.page.0) pages s.pages)))
+      (join seen asked old mid new half (writes pages) (writes s.pages ++ s.last ∷ []) a s.moves);
+}
+
+pub stop-of : (seen asked : Bool) (n : ℕ) (bytes : List ℕ) (fault : Fault) (old new : Parts) (half : VolumeHalf) → FailsToWrite seen asked n bytes fault old new half → StopsWriting seen asked old new half fault
+stop-of seen asked n bytes fault old new half (inl w) = record { pages = []; last = WriteTears n bytes w.0 fault; is = tears n bytes w.0; moves = w.1 }
+stop-of seen asked n bytes fault old new half (inr m) = record { pages = []; last = Stops fault; is = stops; moves = m }
+
+pub home_of : (seen asked : Bool) (n : ℕ) (bytes : List ℕ) (old new : Parts) (half : VolumeHalf) (result : Result (Unit {0}) Fault) → WriteIs seen asked n bytes old new half result → MapsHome seen asked old new half result
+home_of seen asked n bytes old new half (Ok done) moves = (record { block = n; page = record { 0 = bytes } } ∷ [], moves)
+home_of seen asked n bytes old new half (Err fault) fails = stop-of seen asked n bytes fault old new half fails
+
+-- only fewer of them
+pub shows-less : (few many : ℕ) (places : List ℕ) (used : ℕ → Bool) (is : ℕ → List ℕ → Type 0) (old new : Image) → few ≤ many → ShowsUpto many places used is old new → ShowsUpto few places used is old new
+shows-less few many places used is old new h shows = record { shown = λ own n b k u e. shows.shown own n b (omega (arith, h, k)) u e; others = shows.others; size = shows.size }
+
+-- which map has changed is no part of a half
+pub marked-moves : (seen asked : Bool) (old new : Parts) (files : MapFiles) (half : VolumeHalf) (list : List Change) → Moves seen asked old new half list → Moves seen asked old (record new { files = files }) half list
+marked-moves seen asked old new files half list m =
+    let s = m.stands in
+    record {
+      fit = m.fit;
+      stands = record {
+        appended = s.appended;
+        taken = s.taken;
+        told = s.told;
+        points = s.points;
+        known = s.known;
+        number = s.number;
+        halted = s.halted;
+        dirty = s.dirty;
+        block_map = s.block_map;
+        inodes = s.inodes;
+        handed = s.handed;
+        entries = s.entries;
+        text = s.text;
+        freed = s.freed;
+        view = s.view;
+        disk = s.disk;
+        low = s.low;
+      };
+      past = m.past;
+    }
+
+-- ---- both maps
+
+pub maps-then : (seen asked : Bool) (old mid new : Parts) (half : VolumeHalf) (pages : List DataPage) (result : Result (Unit {0}) Fault) → Moves seen asked old mid half (writes pages) → MapsHome seen asked mid new (after half (writes pages)) result → MapsHome seen asked old new half result
+maps-then seen asked old mid new half pages (Ok done) a w = (pages ++ w.0, writes-on seen asked old mid new half pages w.0 a w.1)
+maps-then seen asked old mid new half pages (Err fault) a s = writes-stop seen asked old mid new half pages fault a s
+
+pub on-ok : {A B C : Type 0} (result : Result (Unit {0}) Fault) → OnOk result A → OnOk result B → (A → B → C) → OnOk result C
+on-ok (Ok done) a b f = f a b
+on-ok (Err fault) a b f = tt
+
+others-of : (file : MapPlaces) (used : ℕ → Bool) (is : ℕ → List ℕ → Type 0) (old new : Image) → PutsMap file used is old new → (b : ℕ) → ((n : ℕ) → slice_get file.places n ≡ Some b → ⊥) → page_of new b ≡ page_of old b
+others-of file used is old new puts b none = at file.stale refl
+  where
+    at : (s : Bool) → file.stale ≡ s → page_of new b ≡ page_of old b
+    at true e = (puts.stale e).others b none
+    at false e = ap (λ (image : Image). page_of image b) (puts.fresh e)
+
+size-of : (file : MapPlaces) (used : ℕ → Bool) (is : ℕ → List ℕ → Type 0) (old new : Image) → PutsMap file used is old new → length new ≡ length old
+size-of file used is old new puts = at file.stale refl
+  where
+    at : (s : Bool) → file.stale ≡ s → length new ≡ length old
+    at true e = (puts.stale e).size
+    at false e = ap (λ (image : Image). length image) (puts.fresh e)
+
+pub shows-both : (old new : Parts) (mid : Image) → new.map ≡ old.map → new.inodes ≡ old.inodes → new.files ≡ with_written old.files →
+    PutsMap old.files.blocks (is_in_use (length old.map.states)) (IsMapPage (length old.map.states) old.map.agsize (is_owned old.map)) old.view mid →
+    PutsMap old.files.inodes (λ n. true) (IsInodePage old.inodes) mid new.view → ShowsAfter old new
+shows-both old new mid same_map same_inodes same_files first second = record {
+  block_map = λ apart stale. rw (same_map, same_files) (λ n b used here.
+      subst (IsMapPage (length old.map.states) old.map.agsize (is_owned old.map) n) (sym (later b (λ m there. apart.both n m b here there)))
+      ((first.stale stale).shown apart.blocks n b (slice_get_within old.files.blocks.places n b here) used here));
+  inode_map = λ apart stale. rw (same_inodes, same_files) (λ n b here. (second.stale stale).shown apart.inodes n b (slice_get_within old.files.inodes.places n b here) refl here);
+  block_pages = λ apart fresh n b here. later b (λ m there. apart.both n m b here there) ∙ ap (λ (image : Image). page_of image b) (first.fresh fresh);
+  inode_pages = λ apart fresh n b here. ap (λ (image : Image). page_of image b) (second.fresh fresh) ∙ earlier b (λ m there. apart.both m n b there here);
+  others = λ b none. later b none.1 ∙ earlier b none.0;
+  size = size-of old.files.inodes (λ n. true) (IsInodePage old.inodes) mid new.view second
+      ∙ size-of old.files.blocks (is_in_use (length old.map.states)) (IsMapPage (length old.map.states) old.map.agsize (is_owned old.map)) old.view mid first;
+}
+  where
+    later : (b : ℕ) → ((n : ℕ) → slice_get old.files.inodes.places n ≡ Some b → ⊥) → page_of new.view b ≡ page_of mid b
+    later b none = others-of old.files.inodes (λ n. true) (IsInodePage old.inodes) mid new.view second b none
+
+    earlier : (b : ℕ) → ((n : ℕ) → slice_get old.files.blocks.places n ≡ Some b → ⊥) → page_of mid b ≡ page_of old.view b
+    earlier b none = others-of old.files.blocks (is_in_use (length old.map.states)) (IsMapPage (length old.map.states) old.map.agsize (is_owned old.map)) old.view mid first b none

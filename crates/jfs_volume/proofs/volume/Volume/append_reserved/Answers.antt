@@ -1,0 +1,32 @@
+use Rattle.std.proofs.Common.{◌≤◌, ◌∙◌, ℕ, length, sym, ap, subst}
+use Rattle.jfs_halves.specs.Parts.{Parts}
+use Rattle.jfs_volume.proofs.CallJoins.{lies_within, enters, stays, unread, fails}
+use Rattle.jfs_volume.proofs.volume.Volume.append_reserved.Goals as goal
+
+pub append-requires-clause-contents : goal.append-requires-clause-contents
+append-requires-clause-contents g c = lies_within (length c.args.self.now.map.states) c.beside.new.self.blocks c.args.pages.now
+    (subst (λ (n : ℕ). length c.args.self.now.map.states ≤ n) (sym (ap (λ (p : Parts). p.blocks) c.beside.ensures.read.parts)) c.requires.blocks) c.requires.contents
+
+pub returns-in-Entered : goal.returns-in-Entered
+returns-in-Entered g c =
+    let b = c.in-Ok.ensures in
+    let e = c.in-Entered.ensures in
+    enters g.D.Disk.tells c.args.self.now c.beside.new.self c.append.new.self b.read c.args.entry c.args.tx.now c.args.pages.now c.in-Entered.entry c.in-Ok.beside b.whole (sym c.are_clean.ensures ∙ c.if-not-are_clean.false) b.beside.0 b.beside.1 e.adds e.fault e.shows
+
+pub returns-in-NoMemory : goal.returns-in-NoMemory
+returns-in-NoMemory g c =
+    let b = c.in-Ok.ensures in
+    let e = c.in-NoMemory.ensures in
+    stays g.D.Disk.tells c.args.self.now c.beside.new.self c.append.new.self b.read c.args.tx.now c.args.pages.now (sym c.are_clean.ensures ∙ c.if-not-are_clean.false) b.beside.0 e.stays e.fault e.shows
+
+pub returns-in-Unread : goal.returns-in-Unread
+returns-in-Unread g c =
+    let b = c.in-Ok.ensures in
+    let e = c.in-Unread.ensures in
+    unread g.D.Disk.tells c.args.self.now c.beside.new.self c.append.new.self b.read c.args.tx.now c.args.pages.now c.in-Unread.fault (sym c.are_clean.ensures ∙ c.if-not-are_clean.false) b.beside.0 e.stays e.fault e.shows
+
+pub returns : goal.returns
+returns g c =
+    let b = c.in-Ok.ensures in
+    let e = c.in-Failed.ensures in
+    fails g.D.Disk.tells c.args.self.now c.beside.new.self c.append.new.self b.read c.in-Failed.fault b.beside.0 e.stays e.fault

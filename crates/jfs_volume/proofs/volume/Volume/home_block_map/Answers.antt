@@ -1,0 +1,62 @@
+use Rattle.std.proofs.Common.{◌+◌, ℕ, suc, [], length, slice_get, refl, sym, ap, ◌∙◌, subst, arith, ◌++◌}
+use Rattle.jfs_bmap.specs.MapFile.{IsMapPage, is_in_use}
+use Rattle.jfs_bmap.specs.States.{Blocks, is_owned}
+use Rattle.jfs_map_files.specs.declared.map_file.MapFiles.{MapFiles}
+use Rattle.jfs_map_files.specs.Places.{AreWithin}
+use Rattle.jfs_pages.specs.Dirty.{dirty_of}
+use Rattle.jfs_halves.specs.Parts.{Parts}
+use Rattle.jfs_halves.specs.Change.{after}
+use Rattle.jfs_volume.specs.Shown.{PutsPage}
+use Rattle.jfs_volume.specs.Written.{writes}
+use Rattle.jfs_volume.specs.MapsHome.{with_blocks_written}
+use Rattle.jfs_volume.proofs.Stand.{none, length-image}
+use Rattle.jfs_volume.proofs.Showing.{shows-none, shows-more, shows-less, writes-on, writes-stop, marked-moves}
+use Rattle.jfs_volume.proofs.volume.Volume.home_block_map.Goals as goal
+
+pub loop-n-init : goal.loop-n-init
+loop-n-init g c =
+    let p = c.args.self.now in
+    record {
+      parts = refl;
+      halted = c.requires.running;
+      faults = refl;
+      homes = λ seen asked told crashes half s. ([], none seen asked p p half s (λ t k. refl));
+      shows = λ t. shows-none p.files.blocks.places (is_in_use (length p.map.states)) (IsMapPage (length p.map.states) p.map.agsize (is_owned p.map)) p.view;
+    }
+
+pub home_block_page-requires-clause-told : goal.home_block_page-requires-clause-told
+home_block_page-requires-clause-told g c = ap (λ (q : Parts). q.told) c.loop-n.invariant.parts ∙ c.requires.told ∙ sym (ap (λ (q : Parts). q.appended) c.loop-n.invariant.parts)
+
+pub home_block_page-requires-clause-clean : goal.home_block_page-requires-clause-clean
+home_block_page-requires-clause-clean g c b = ap (λ (q : Parts). dirty_of q.dirty b) c.loop-n.invariant.parts ∙ c.requires.clean b
+
+pub loop-n-preserved : goal.loop-n-preserved
+loop-n-preserved g c =
+    let inv = c.loop-n.invariant in
+    let e = c.home_block_page.ensures in
+    let p = c.args.self.now in
+    let n = c.loop-n.n in
+    let v = c.self.inside in
+    let within : AreWithin (length p.view) p.files.blocks.places = rw (← c.self.view_is) (subst (λ (size : ℕ). AreWithin size v.files.blocks.places) (sym (length-image v.cache.blocks (g.D.Disk.image v.cache.disk) v.cache.kept)) c.self.invariant.7.map_within) in
+    record {
+      parts = e.memory ∙ ap (λ (q : Parts). record q { view = c.home_block_page.new.self.view; disk = c.home_block_page.new.self.disk; past = c.home_block_page.new.self.past; faults = c.home_block_page.new.self.faults; halted = c.home_block_page.new.self.halted }) inv.parts;
+      halted = c.in-Ok.ensures.halted;
+      faults = c.in-Ok.ensures.cause ∙ inv.faults;
+      homes = λ seen asked told crashes half s.
+          let w = inv.homes seen asked told crashes half s in
+          let more = c.in-Ok.ensures.home seen asked told crashes (after half (writes w.0)) w.1.stands in
+          (w.0 ++ more.0, writes-on seen asked p c.loop-n.self c.home_block_page.new.self half w.0 more.0 w.1 more.1);
+      shows = λ t. shows-less (n + 1) (suc n) p.files.blocks.places (is_in_use (length p.map.states)) (IsMapPage (length p.map.states) p.map.agsize (is_owned p.map)) p.view c.home_block_page.new.self.view (omega arith) (shows-more n p.files.blocks.places (is_in_use (length p.map.states)) (IsMapPage (length p.map.states) p.map.agsize (is_owned p.map)) p.view c.loop-n.self.view c.home_block_page.new.self.view within (inv.shows t)
+          (subst (λ (f : MapFiles). PutsPage (is_in_use (length p.map.states) n) (slice_get f.blocks.places n) (IsMapPage (length p.map.states) p.map.agsize (is_owned p.map) n) c.loop-n.self.view c.home_block_page.new.self.view) (ap (λ (q : Parts). q.files) inv.parts)
+          (subst (λ (m : Blocks). PutsPage (is_in_use (length m.states) n) (slice_get c.loop-n.self.files.blocks.places n) (IsMapPage (length m.states) m.agsize (is_owned m) n) c.loop-n.self.view c.home_block_page.new.self.view) (ap (λ (q : Parts). q.map) inv.parts) (c.in-Ok.ensures.shows t))));
+    }
+
+pub returns-in-Err-clause-home : goal.returns-in-Err-clause-home
+returns-in-Err-clause-home g c seen asked told crashes half s =
+    let w = c.loop-n.invariant.homes seen asked told crashes half s in
+    writes-stop seen asked c.args.self.now c.loop-n.self c.home_block_page.new.self half w.0 c.in-Err.fault w.1 (c.in-Err.ensures.home seen asked told crashes (after half (writes w.0)) w.1.stands)
+
+pub returns-clause-home : goal.returns-clause-home
+returns-clause-home g c seen asked told crashes half s =
+    let w = c.loop-n.invariant.homes seen asked told crashes half s in
+    rw c.block_map_written.ensures (w.0, marked-moves seen asked c.args.self.now c.loop-n.self (with_blocks_written c.loop-n.self.files) half (writes w.0) w.1)
