@@ -1,9 +1,9 @@
 -- Maps that agree.
-use Rattle.jfs_findings.proofs.BothWays.{clean_law}
+use Rattle.jfs_findings_new.specs.findings.proofs.BothWays.{clean_law}
 use Rattle.jfs_findings_new.proofs.NewClean.{new_clean}
-use Rattle.jfs_findings.specs.Clean.{IsSoundVolume}
+use Rattle.jfs_findings_new.specs.findings.specs.Clean.{IsSoundVolume}
 use Rattle.jfs_kinds.proofs.Single.{has_owners}
-use Rattle.jfs_mount.specs.Subject.{Subject, volume}
+use Rattle.jfs_findings_new.specs.mount_rules.specs.Subject.{Subject, volume}
 use Rattle.jfs_agree.specs.Agree.{MapsAgree, SoundLaw, NewLaw, OwnedLaw}
 
 sound_agree : (s : Subject) → IsSoundVolume s → MapsAgree s

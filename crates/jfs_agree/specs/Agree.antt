@@ -3,17 +3,17 @@ use Rattle.std.specs.Prelude.{◌≡◌, ◌<◌, ℕ, suc, true, is_some, Some,
 use Rattle.jfs_disk.specs.Image.{Image, page_of}
 use Rattle.jfs_super.specs.Rules.{IsAccepted}
 use Rattle.jfs_super.specs.declared.fields.Super.{Super}
-use Rattle.jfs_bmap.specs.MapFile.{is_in_use}
-use Rattle.jfs_format.specs.Layout.{IsLayout}
-use Rattle.jfs_format.specs.Superblock.{new_super}
-use Rattle.jfs_format.specs.Volume.{IsNewVolume}
-use Rattle.jfs_format.specs.declared.volume.NewVolume.{NewVolume}
-use Rattle.jfs_objects.specs.Owners.{Agrees}
+use Rattle.jfs_findings_new.specs.bmap.specs.MapFile.{is_in_use}
+use Rattle.jfs_findings_new.specs.format.specs.Layout.{IsLayout}
+use Rattle.jfs_findings_new.specs.format.specs.Superblock.{new_super}
+use Rattle.jfs_findings_new.specs.format.specs.Volume.{IsNewVolume}
+use Rattle.jfs_findings_new.specs.format.specs.declared.volume.NewVolume.{NewVolume}
+use Rattle.jfs_findings_new.specs.objects.specs.Owners.{Agrees}
 use Rattle.jfs_kinds.specs.Owner.{Owner, has, owner_of}
-use Rattle.jfs_mount.specs.Subject.{Subject, subject_of, blocks, volume}
-use Rattle.jfs_mount.specs.Mount.{iags}
-use Rattle.jfs_findings.specs.Maps.{IsBlockMapPage, IsInodeMapPage}
-use Rattle.jfs_findings.specs.Clean.{HasNoFinding, IsSoundVolume}
+use Rattle.jfs_findings_new.specs.mount_rules.specs.Subject.{Subject, subject_of, blocks, volume}
+use Rattle.jfs_findings_new.specs.mount_rules.specs.Mount.{iags}
+use Rattle.jfs_findings_new.specs.findings.specs.Maps.{IsBlockMapPage, IsInodeMapPage}
+use Rattle.jfs_findings_new.specs.findings.specs.Clean.{HasNoFinding, IsSoundVolume}
 
 -- The set of blocks is that of the blocks with owners, each of which has one; the set of inodes is that of the inodes that are linked; and each page of both maps that is in use
 -- is the canonical one of these sets, in what is compared.

@@ -3,13 +3,13 @@ use Rattle.std.proofs.Common.{◌≡◌, ◌≢◌, ◌⊎◌, ◌<◌, refl, sy
 use Rattle.std.proofs.lemmas.Bool.{cases_eq, eq-eqb, ne_eqb}
 use Rattle.std.proofs.Math.Path.{fun_ext}
 use Rattle.jfs_bits.specs.Bits.{any_below, count_below, is_free_run}
-use Rattle.jfs_objects.specs.Readers.{Readers}
-use Rattle.jfs_objects.specs.Volume.{Volume, room, home}
-use Rattle.jfs_objects.specs.Objects.{Object, objects}
-use Rattle.jfs_objects.specs.Owners.{owners, holds, extents_have, sum_below, bit, IsSound}
-use Rattle.jfs_objects.specs.Changes.{WritesData}
-use Rattle.jfs_objects.proofs.Data.{data_law}
-use Rattle.jfs_objects.proofs.Sums.{sum_same}
+use Rattle.jfs_meaning.specs.objects.specs.Readers.{Readers}
+use Rattle.jfs_meaning.specs.objects.specs.Volume.{Volume, room, home}
+use Rattle.jfs_meaning.specs.objects.specs.Objects.{Object, objects}
+use Rattle.jfs_meaning.specs.objects.specs.Owners.{owners, holds, extents_have, sum_below, bit, IsSound}
+use Rattle.jfs_meaning.specs.objects.specs.Changes.{WritesData}
+use Rattle.jfs_meaning.specs.objects.proofs.Data.{data_law}
+use Rattle.jfs_meaning.specs.objects.proofs.Sums.{sum_same}
 use Rattle.jfs_meaning.specs.Contents.{byte_in}
 use Rattle.jfs_meaning.specs.Node.{node_in}
 use Rattle.jfs_meaning.specs.Tree.{node_on, byte_on, tree_on}

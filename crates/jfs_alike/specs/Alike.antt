@@ -1,8 +1,8 @@
 -- Volumes that mean the same.
 use Rattle.std.specs.Prelude.{◌≡◌, ℕ, true}
-use Rattle.jfs_plain.specs.Moves.{Same}
-use Rattle.jfs_objects.specs.Readers.{Readers}
-use Rattle.jfs_objects.specs.Volume.{Volume}
+use Rattle.jfs_meaning.specs.plain.specs.Moves.{Same}
+use Rattle.jfs_meaning.specs.objects.specs.Readers.{Readers}
+use Rattle.jfs_meaning.specs.objects.specs.Volume.{Volume}
 use Rattle.jfs_meaning.specs.Tree.{tree_on}
 use Rattle.jfs_meaning.specs.Room.{free_blocks, fresh_inode}
 use Rattle.jfs_meaning.specs.Consistent.{IsConsistent}

@@ -11,3 +11,6 @@ pub mod Laws
 pub mod Freed
 pub mod Kept
 pub mod Overlap
+-- libraries below, passed on
+pub use Rattle.jfs_dmap as dmap
+pub use Rattle.jfs_dmapctl as dmapctl

@@ -1,2 +1,4 @@
 -- what the clauses say
 pub mod Call
+
+-- libraries below, passed on

@@ -5,3 +5,5 @@ mod change;
 
 pub use change::change_mode;
 pub use jfs_steps::put_inode;
+
+// libraries below, passed on

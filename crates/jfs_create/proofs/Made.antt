@@ -9,16 +9,16 @@ use Rattle.jfs_bits.specs.Field.{range_of}
 use Rattle.jfs_bits.specs.declared.descriptor.Moment.{Moment}
 use Rattle.jfs_inode.specs.Rules.{rows}
 use Rattle.jfs_inode.specs.declared.fields.Dinode.{Dinode}
-use Rattle.jfs_dtree.specs.Parent.{parent_of}
-use Rattle.jfs_tree.specs.Walk.{Leaf}
-use Rattle.jfs_tree.specs.Spells.{no_page}
-use Rattle.jfs_plain.specs.declared.node.Node.{Node}
-use Rattle.jfs_objects.specs.Readers.{Readers}
-use Rattle.jfs_objects.specs.Objects.{spelled, listed, is_live}
-use Rattle.jfs_objects.specs.Owners.{holds}
-use Rattle.jfs_meaning.specs.Contents.{byte_in}
-use Rattle.jfs_meaning.specs.Node.{node_of, node_with, node_from, target_in}
-use Rattle.jfs_meaning.specs.Readers.{readers}
+use Rattle.jfs_link.specs.dtree.specs.Parent.{parent_of}
+use Rattle.jfs_link.specs.page_tree.specs.Walk.{Leaf}
+use Rattle.jfs_link.specs.page_tree.specs.Spells.{no_page}
+use Rattle.jfs_link.specs.plain.specs.declared.node.Node.{Node}
+use Rattle.jfs_link.specs.objects.specs.Readers.{Readers}
+use Rattle.jfs_link.specs.objects.specs.Objects.{spelled, listed, is_live}
+use Rattle.jfs_link.specs.objects.specs.Owners.{holds}
+use Rattle.jfs_link.specs.meaning.specs.Contents.{byte_in}
+use Rattle.jfs_link.specs.meaning.specs.Node.{node_of, node_with, node_from, target_in}
+use Rattle.jfs_link.specs.meaning.specs.Readers.{readers}
 use Rattle.jfs_create.specs.New.{FitsNew, IsRest, inode_with, node_for}
 use Rattle.jfs_create.specs.declared.new.NewObject.{NewObject}
 use Rattle.jfs_create.specs.declared.new.NewObject.TheVariants.{File, Directory, Link}

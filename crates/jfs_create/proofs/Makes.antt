@@ -5,27 +5,27 @@ use Rattle.jfs_bits.specs.Broken.{first_broken}
 use Rattle.jfs_bits.specs.declared.descriptor.Moment.{Moment}
 use Rattle.jfs_inode.specs.Rules.{rows}
 use Rattle.jfs_inode.specs.declared.fields.Dinode.{Dinode}
-use Rattle.jfs_plain.specs.Tree.{Tree}
-use Rattle.jfs_plain.specs.Moves.{changed, made}
-use Rattle.jfs_plain.specs.declared.node.Node.{Node}
-use Rattle.jfs_objects.specs.Readers.{Readers}
-use Rattle.jfs_objects.specs.Volume.{Volume}
-use Rattle.jfs_objects.specs.Objects.{Object, objects, spelled}
-use Rattle.jfs_objects.specs.Owners.{holds, bit}
-use Rattle.jfs_objects.specs.Changes.{put, PutsInode, SetsObject, AddsExtent}
-use Rattle.jfs_objects.specs.Laws.{ChangesOne, ChangesNone}
-use Rattle.jfs_objects.proofs.Owned.{holds_none}
-use Rattle.jfs_objects.proofs.Set.{object_is_set}
-use Rattle.jfs_objects.proofs.Extent.{extent_law}
-use Rattle.jfs_objects.proofs.Sums.{put_here, put_other, eq_or_not}
-use Rattle.jfs_meaning.specs.Contents.{byte_in}
-use Rattle.jfs_meaning.specs.Laws.{ChangesOneNode}
-use Rattle.jfs_meaning.specs.Node.{node_of}
-use Rattle.jfs_meaning.specs.Readers.{readers}
-use Rattle.jfs_meaning.specs.Tree.{node_on, byte_on, tree_on}
-use Rattle.jfs_meaning.proofs.Changed.{set_tree, extent_tree}
-use Rattle.jfs_lead_steps.specs.Reached.{HasTree}
-use Rattle.jfs_lead_steps.proofs.Chain.{one_tree, at_changed, off_changed}
+use Rattle.jfs_link.specs.plain.specs.Tree.{Tree}
+use Rattle.jfs_link.specs.plain.specs.Moves.{changed, made}
+use Rattle.jfs_link.specs.plain.specs.declared.node.Node.{Node}
+use Rattle.jfs_link.specs.objects.specs.Readers.{Readers}
+use Rattle.jfs_link.specs.objects.specs.Volume.{Volume}
+use Rattle.jfs_link.specs.objects.specs.Objects.{Object, objects, spelled}
+use Rattle.jfs_link.specs.objects.specs.Owners.{holds, bit}
+use Rattle.jfs_link.specs.objects.specs.Changes.{put, PutsInode, SetsObject, AddsExtent}
+use Rattle.jfs_link.specs.objects.specs.Laws.{ChangesOne, ChangesNone}
+use Rattle.jfs_link.specs.objects.proofs.Owned.{holds_none}
+use Rattle.jfs_link.specs.objects.proofs.Set.{object_is_set}
+use Rattle.jfs_link.specs.objects.proofs.Extent.{extent_law}
+use Rattle.jfs_link.specs.objects.proofs.Sums.{put_here, put_other, eq_or_not}
+use Rattle.jfs_link.specs.meaning.specs.Contents.{byte_in}
+use Rattle.jfs_link.specs.meaning.specs.Laws.{ChangesOneNode}
+use Rattle.jfs_link.specs.meaning.specs.Node.{node_of}
+use Rattle.jfs_link.specs.meaning.specs.Readers.{readers}
+use Rattle.jfs_link.specs.meaning.specs.Tree.{node_on, byte_on, tree_on}
+use Rattle.jfs_link.specs.meaning.proofs.Changed.{set_tree, extent_tree}
+use Rattle.jfs_link.specs.lead_steps.specs.Reached.{HasTree}
+use Rattle.jfs_link.specs.lead_steps.proofs.Chain.{one_tree, at_changed, off_changed}
 use Rattle.jfs_create.specs.New.{FitsNew, IsRest, inode_with, node_for}
 use Rattle.jfs_create.specs.declared.new.NewObject.{NewObject}
 use Rattle.jfs_create.specs.declared.new.Seat.{Seat}

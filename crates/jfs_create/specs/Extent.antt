@@ -5,7 +5,7 @@ use Rattle.jfs_bits.specs.declared.rule.PageKind.TheVariants as kinds
 use Rattle.jfs_inode.specs.declared.fields.Dinode.{Dinode}
 use Rattle.jfs_ranges.specs.declared.edit.Edit.{Edit}
 use Rattle.jfs_ranges.specs.declared.edit.Edit.TheVariants.{Lines}
-use Rattle.jfs_objects.specs.Volume.{slot_of}
+use Rattle.jfs_link.specs.objects.specs.Volume.{slot_of}
 use Rattle.jfs_create.specs.New.{no_data}
 use Rattle.jfs_create.specs.declared.extent.NewExtent.{NewExtent}
 

@@ -3,7 +3,7 @@
 ghost use Rattle.std.specs.Prelude.{◌≡◌, ◌<◌, ◌≤◌, ◌+◌, ◌++◌, ℕ, OnOk, IfOk, length};
 ghost use Rattle.jfs_bits.specs.Descriptor.{FitsPxd};
 ghost use Rattle.jfs_inode.specs.Inode.{FitsDinode};
-ghost use Rattle.jfs_objects.specs.Volume.{slot_of};
+ghost use Rattle.jfs_link.specs.objects.specs.Volume.{slot_of};
 ghost use Rattle.jfs_create.specs.Extent.{free_inode, IsFreePage, TellsExtent};
 
 use crate::new::NO_DATA;

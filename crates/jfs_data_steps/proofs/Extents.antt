@@ -8,30 +8,30 @@ use Rattle.jfs_bits.proofs.Parts.{part-held, length-range_of}
 use Rattle.jfs_inode.specs.declared.fields.Dinode.{Dinode}
 use Rattle.jfs_ranges.specs.declared.edit.Edit.{Edit}
 use Rattle.jfs_ranges.specs.Laid.{put_tx}
-use Rattle.jfs_tree.specs.Edit.{count_in}
-use Rattle.jfs_tree.specs.Fresh.{after_tx}
-use Rattle.jfs_tree.specs.Spells.{footprint, no_page}
-use Rattle.jfs_tree.specs.Walk.{Node}
+use Rattle.jfs_kinds.specs.page_tree.specs.Edit.{count_in}
+use Rattle.jfs_kinds.specs.page_tree.specs.Fresh.{after_tx}
+use Rattle.jfs_kinds.specs.page_tree.specs.Spells.{footprint, no_page}
+use Rattle.jfs_kinds.specs.page_tree.specs.Walk.{Node}
 use Rattle.jfs_xtpage.specs.declared.head.XtForm.TheVariants as extents
-use Rattle.jfs_xtree.specs.Node.{xt_scale, xt_node}
-use Rattle.jfs_xtree.specs.Spells.{page_nodes, spells_extents, owned_pages}
-use Rattle.jfs_objects.specs.Readers.{Readers}
-use Rattle.jfs_objects.specs.Volume.{Volume}
-use Rattle.jfs_objects.specs.Objects.{spelled, is_live, has_names, has_extents, listed}
-use Rattle.jfs_objects.specs.Objects as objects
-use Rattle.jfs_objects.specs.Owners.{holds, attributes_held, covers, is_data, entries}
-use Rattle.jfs_objects.specs.Changes.{PutsInode, SetsObject}
-use Rattle.jfs_objects.proofs.Framed.{same_spelled}
-use Rattle.jfs_objects.proofs.Owned.{owned_once}
-use Rattle.jfs_objects.proofs.Sums.{zero_or_more}
-use Rattle.jfs_meaning.specs.Contents.{is_regular}
-use Rattle.jfs_meaning.specs.Readers.{readers, root_of}
-use Rattle.jfs_meaning.specs.Consistent.{IsConsistent}
+use Rattle.jfs_loss.specs.xtree.specs.Node.{xt_scale, xt_node}
+use Rattle.jfs_loss.specs.xtree.specs.Spells.{page_nodes, spells_extents, owned_pages}
+use Rattle.jfs_loss.specs.objects.specs.Readers.{Readers}
+use Rattle.jfs_loss.specs.objects.specs.Volume.{Volume}
+use Rattle.jfs_loss.specs.objects.specs.Objects.{spelled, is_live, has_names, has_extents, listed}
+use Rattle.jfs_loss.specs.objects.specs.Objects as objects
+use Rattle.jfs_loss.specs.objects.specs.Owners.{holds, attributes_held, covers, is_data, entries}
+use Rattle.jfs_loss.specs.objects.specs.Changes.{PutsInode, SetsObject}
+use Rattle.jfs_loss.specs.objects.proofs.Framed.{same_spelled}
+use Rattle.jfs_loss.specs.objects.proofs.Owned.{owned_once}
+use Rattle.jfs_loss.specs.objects.proofs.Sums.{zero_or_more}
+use Rattle.jfs_loss.specs.meaning.specs.Contents.{is_regular}
+use Rattle.jfs_loss.specs.meaning.specs.Readers.{readers, root_of}
+use Rattle.jfs_loss.specs.meaning.specs.Consistent.{IsConsistent}
 use Rattle.jfs_loss.proofs.Holds.{root_is, extents_listed, file_holds}
-use Rattle.jfs_steps.specs.Gains.{after_set}
-use Rattle.jfs_steps.specs.Laws.{TakesAndFrees, IsFair}
-use Rattle.jfs_steps.proofs.Puts.{put_within, put_past}
-use Rattle.jfs_steps.proofs.Sets.{step_takes}
+use Rattle.jfs_loss.specs.steps.specs.Gains.{after_set}
+use Rattle.jfs_loss.specs.steps.specs.Laws.{TakesAndFrees, IsFair}
+use Rattle.jfs_loss.specs.steps.proofs.Puts.{put_within, put_past}
+use Rattle.jfs_loss.specs.steps.proofs.Sets.{step_takes}
 use Rattle.jfs_data_steps.specs.declared.pages.DataPage.{DataPage}
 use Rattle.jfs_data_steps.specs.After.{is_put, AreWholePages, LeavesPage}
 use Rattle.jfs_data_steps.specs.File.{resized}

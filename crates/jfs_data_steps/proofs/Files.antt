@@ -10,27 +10,27 @@ use Rattle.jfs_inode.specs.Rules.{rows}
 use Rattle.jfs_inode.specs.declared.fields.Dinode.{Dinode}
 use Rattle.jfs_name.specs.declared.name.NameEntry.{NameEntry}
 use Rattle.jfs_ranges.specs.declared.edit.Edit.{Edit}
-use Rattle.jfs_plain.specs.Tree.{Tree}
-use Rattle.jfs_plain.specs.Moves.{sized, changed}
-use Rattle.jfs_plain.specs.declared.node.Node.{Node}
-use Rattle.jfs_objects.specs.Readers.{Readers}
-use Rattle.jfs_objects.specs.Volume.{Volume, room}
-use Rattle.jfs_objects.specs.Objects.{Object, objects, spelled, listed}
-use Rattle.jfs_objects.specs.Owners.{entries}
-use Rattle.jfs_objects.specs.Contents.{block_of, bytes_at}
-use Rattle.jfs_objects.specs.Changes.{put}
-use Rattle.jfs_objects.proofs.Sums.{put_here, put_other, eq_or_not}
-use Rattle.jfs_meaning.specs.Readers.{readers}
-use Rattle.jfs_meaning.specs.Contents.{byte_of, stored, byte_in, is_regular}
-use Rattle.jfs_meaning.specs.Node.{is_symbolic, node_with, node_from, node_of, node_in, target_in}
-use Rattle.jfs_meaning.specs.Tree.{node_on, byte_on, tree_on}
-use Rattle.jfs_meaning.specs.Consistent.{IsConsistent, IsConsistentTree}
-use Rattle.jfs_meaning.proofs.Books.{open_books, close_books}
-use Rattle.jfs_meaning.proofs.Makes.{none, no_loose}
-use Rattle.jfs_meaning.proofs.Same.{same_consistent}
-use Rattle.jfs_meaning.proofs.Unlinks.{touched}
-use Rattle.jfs_lead_steps.proofs.Again.{spelled_inode}
-use Rattle.jfs_lead_steps.proofs.Chain.{at_changed, off_changed, some_is}
+use Rattle.jfs_loss.specs.plain.specs.Tree.{Tree}
+use Rattle.jfs_loss.specs.plain.specs.Moves.{sized, changed}
+use Rattle.jfs_loss.specs.plain.specs.declared.node.Node.{Node}
+use Rattle.jfs_loss.specs.objects.specs.Readers.{Readers}
+use Rattle.jfs_loss.specs.objects.specs.Volume.{Volume, room}
+use Rattle.jfs_loss.specs.objects.specs.Objects.{Object, objects, spelled, listed}
+use Rattle.jfs_loss.specs.objects.specs.Owners.{entries}
+use Rattle.jfs_loss.specs.objects.specs.Contents.{block_of, bytes_at}
+use Rattle.jfs_loss.specs.objects.specs.Changes.{put}
+use Rattle.jfs_loss.specs.objects.proofs.Sums.{put_here, put_other, eq_or_not}
+use Rattle.jfs_loss.specs.meaning.specs.Readers.{readers}
+use Rattle.jfs_loss.specs.meaning.specs.Contents.{byte_of, stored, byte_in, is_regular}
+use Rattle.jfs_loss.specs.meaning.specs.Node.{is_symbolic, node_with, node_from, node_of, node_in, target_in}
+use Rattle.jfs_loss.specs.meaning.specs.Tree.{node_on, byte_on, tree_on}
+use Rattle.jfs_loss.specs.meaning.specs.Consistent.{IsConsistent, IsConsistentTree}
+use Rattle.jfs_loss.specs.meaning.proofs.Books.{open_books, close_books}
+use Rattle.jfs_loss.specs.meaning.proofs.Makes.{none, no_loose}
+use Rattle.jfs_loss.specs.meaning.proofs.Same.{same_consistent}
+use Rattle.jfs_loss.specs.meaning.proofs.Unlinks.{touched}
+use Rattle.jfs_loss.specs.lead_steps.proofs.Again.{spelled_inode}
+use Rattle.jfs_loss.specs.lead_steps.proofs.Chain.{at_changed, off_changed, some_is}
 use Rattle.jfs_data_steps.specs.declared.pages.DataPage.{DataPage}
 use Rattle.jfs_data_steps.specs.After.{put_data, with_data, after_writes}
 use Rattle.jfs_data_steps.specs.File.{resized, bytes_held}

@@ -3,40 +3,40 @@ use Rattle.std.proofs.Common.{◌≡◌, ◌<◌, ◌≢◌, refl, sym, ap, ◌�
 use Rattle.std.proofs.lemmas.Bool.Decides.{nat_tests}
 use Rattle.jfs_inode.specs.Rules.{type_of}
 use Rattle.jfs_inode.specs.declared.fields.Dinode.{Dinode}
-use Rattle.jfs_imap.specs.Inodes.{Inodes}
-use Rattle.jfs_bmap.specs.States.{Blocks, is_owned}
+use Rattle.jfs_loss.specs.imap.specs.Inodes.{Inodes}
+use Rattle.jfs_loss.specs.bmap.specs.States.{Blocks, is_owned}
 use Rattle.jfs_bits.specs.declared.descriptor.Moment.{Moment}
 use Rattle.jfs_bits.specs.declared.extent.Xad.{Xad}
 use Rattle.jfs_bits.proofs.Parts.{length-range_of}
-use Rattle.jfs_xtree.specs.Spells.{spells_extents}
+use Rattle.jfs_loss.specs.xtree.specs.Spells.{spells_extents}
 use Rattle.jfs_name.specs.declared.name.NameEntry.{NameEntry}
-use Rattle.jfs_plain.specs.Tree.{Tree, Found, found, found_at, walk, root, and_then}
-use Rattle.jfs_plain.specs.Moves.{Same}
-use Rattle.jfs_plain.specs.Step.{Outcome, if_file, file}
-use Rattle.jfs_plain.specs.declared.node.Node.{Node}
-use Rattle.jfs_plain.specs.declared.refusal.Refusal.{Refusal}
-use Rattle.jfs_plain.specs.declared.refusal.Refusal.TheVariants.{IsDir, NotFile}
-use Rattle.jfs_plain.specs.declared.reply.NodeKind.TheVariants.{Dir, File, Link, Other}
-use Rattle.jfs_plain.specs.declared.reply.Reply.TheVariants.{Done}
-use Rattle.jfs_objects.specs.Image.{extent_place}
-use Rattle.jfs_objects.specs.Volume.{Volume, home}
-use Rattle.jfs_objects.specs.Objects.{Object, objects, spelled, is_live, has_names, listed}
-use Rattle.jfs_objects.specs.Owners.{holds}
-use Rattle.jfs_objects.proofs.Homes.{home_counts}
-use Rattle.jfs_objects.proofs.Owned.{fixed_is_no_objects}
-use Rattle.jfs_meaning.specs.Contents.{is_regular}
-use Rattle.jfs_meaning.specs.Readers.{readers, root_of}
-use Rattle.jfs_meaning.specs.Node.{node_with, node_from, node_in, target_in}
-use Rattle.jfs_meaning.specs.Tree.{tree_on}
-use Rattle.jfs_meaning.specs.Consistent.{IsConsistent}
-use Rattle.jfs_way.specs.Volume.{volume_of}
-use Rattle.jfs_way.specs.Walk.{IsHeld, IsShown, IsThere, tree_in}
-use Rattle.jfs_way.specs.declared.object.Held.{Held}
-use Rattle.jfs_way.proofs.Nodes.{lives}
-use Rattle.jfs_lead_steps.proofs.Again.{rest_size, spelled_inode}
+use Rattle.jfs_loss.specs.plain.specs.Tree.{Tree, Found, found, found_at, walk, root, and_then}
+use Rattle.jfs_loss.specs.plain.specs.Moves.{Same}
+use Rattle.jfs_loss.specs.plain.specs.Step.{Outcome, if_file, file}
+use Rattle.jfs_loss.specs.plain.specs.declared.node.Node.{Node}
+use Rattle.jfs_loss.specs.plain.specs.declared.refusal.Refusal.{Refusal}
+use Rattle.jfs_loss.specs.plain.specs.declared.refusal.Refusal.TheVariants.{IsDir, NotFile}
+use Rattle.jfs_loss.specs.plain.specs.declared.reply.NodeKind.TheVariants.{Dir, File, Link, Other}
+use Rattle.jfs_loss.specs.plain.specs.declared.reply.Reply.TheVariants.{Done}
+use Rattle.jfs_loss.specs.objects.specs.Image.{extent_place}
+use Rattle.jfs_loss.specs.objects.specs.Volume.{Volume, home}
+use Rattle.jfs_loss.specs.objects.specs.Objects.{Object, objects, spelled, is_live, has_names, listed}
+use Rattle.jfs_loss.specs.objects.specs.Owners.{holds}
+use Rattle.jfs_loss.specs.objects.proofs.Homes.{home_counts}
+use Rattle.jfs_loss.specs.objects.proofs.Owned.{fixed_is_no_objects}
+use Rattle.jfs_loss.specs.meaning.specs.Contents.{is_regular}
+use Rattle.jfs_loss.specs.meaning.specs.Readers.{readers, root_of}
+use Rattle.jfs_loss.specs.meaning.specs.Node.{node_with, node_from, node_in, target_in}
+use Rattle.jfs_loss.specs.meaning.specs.Tree.{tree_on}
+use Rattle.jfs_loss.specs.meaning.specs.Consistent.{IsConsistent}
+use Rattle.jfs_loss.specs.way.specs.Volume.{volume_of}
+use Rattle.jfs_loss.specs.way.specs.Walk.{IsHeld, IsShown, IsThere, tree_in}
+use Rattle.jfs_loss.specs.way.specs.declared.object.Held.{Held}
+use Rattle.jfs_loss.specs.way.proofs.Nodes.{lives}
+use Rattle.jfs_loss.specs.lead_steps.proofs.Again.{rest_size, spelled_inode}
 use Rattle.jfs_loss.proofs.Holds.{extents_listed}
-use Rattle.jfs_steps.specs.Call.{IsDone}
-use Rattle.jfs_steps.proofs.LastNames.{stood, object_is}
+use Rattle.jfs_loss.specs.steps.specs.Call.{IsDone}
+use Rattle.jfs_loss.specs.steps.proofs.LastNames.{stood, object_is}
 use Rattle.jfs_data_steps.specs.File.{refilled}
 use Rattle.jfs_data_steps.specs.Laws.{IsFileSet}
 use Rattle.jfs_data_steps.proofs.Extents.{some_extents}

@@ -3,28 +3,28 @@ use Rattle.std.proofs.Common.{◌≡◌, ◌<◌, refl, sym, ap, ◌∙◌, subs
 use Rattle.std.proofs.lemmas.Bool.{cases_lt}
 use Rattle.jfs_inode.specs.declared.fields.Dinode.{Dinode}
 use Rattle.jfs_ranges.specs.declared.edit.Edit.{Edit}
-use Rattle.jfs_objects.specs.Readers.{Readers}
-use Rattle.jfs_objects.specs.Volume.{Volume}
-use Rattle.jfs_objects.specs.Objects.{Object, objects, spelled, listed}
-use Rattle.jfs_objects.specs.Owners.{IsSound, is_data, owners, bit, entries, holds}
-use Rattle.jfs_objects.specs.Contents.{contents, contents_of, block_of, bytes_at}
-use Rattle.jfs_objects.specs.Changes.{put, WritesData}
-use Rattle.jfs_objects.specs.Laws.{ChangesOne}
-use Rattle.jfs_objects.proofs.Sums.{put_here, put_other, put_is, eq_or_not}
-use Rattle.jfs_objects.proofs.Blocks.{covered}
-use Rattle.jfs_objects.proofs.Data.{data_law}
-use Rattle.jfs_objects.proofs.Set.{object_is_set}
+use Rattle.jfs_loss.specs.objects.specs.Readers.{Readers}
+use Rattle.jfs_loss.specs.objects.specs.Volume.{Volume}
+use Rattle.jfs_loss.specs.objects.specs.Objects.{Object, objects, spelled, listed}
+use Rattle.jfs_loss.specs.objects.specs.Owners.{IsSound, is_data, owners, bit, entries, holds}
+use Rattle.jfs_loss.specs.objects.specs.Contents.{contents, contents_of, block_of, bytes_at}
+use Rattle.jfs_loss.specs.objects.specs.Changes.{put, WritesData}
+use Rattle.jfs_loss.specs.objects.specs.Laws.{ChangesOne}
+use Rattle.jfs_loss.specs.objects.proofs.Sums.{put_here, put_other, put_is, eq_or_not}
+use Rattle.jfs_loss.specs.objects.proofs.Blocks.{covered}
+use Rattle.jfs_loss.specs.objects.proofs.Data.{data_law}
+use Rattle.jfs_loss.specs.objects.proofs.Set.{object_is_set}
 use Rattle.jfs_kinds.proofs.Edits.{edit_law}
-use Rattle.jfs_meaning.specs.Readers.{readers}
-use Rattle.jfs_meaning.specs.Contents.{byte_in}
-use Rattle.jfs_meaning.specs.Node.{node_of, node_in}
-use Rattle.jfs_meaning.specs.Tree.{node_on, byte_on}
-use Rattle.jfs_meaning.specs.Laws.{ChangesOneNode}
-use Rattle.jfs_meaning.proofs.Changed.{set_tree, data_tree}
-use Rattle.jfs_meaning.proofs.Stays.{SameBlocks, same_node, same_byte}
-use Rattle.jfs_steps.specs.Gains.{after_set}
-use Rattle.jfs_steps.proofs.After.{after_is}
-use Rattle.jfs_steps.proofs.Puts.{put_within, put_past}
+use Rattle.jfs_loss.specs.meaning.specs.Readers.{readers}
+use Rattle.jfs_loss.specs.meaning.specs.Contents.{byte_in}
+use Rattle.jfs_loss.specs.meaning.specs.Node.{node_of, node_in}
+use Rattle.jfs_loss.specs.meaning.specs.Tree.{node_on, byte_on}
+use Rattle.jfs_loss.specs.meaning.specs.Laws.{ChangesOneNode}
+use Rattle.jfs_loss.specs.meaning.proofs.Changed.{set_tree, data_tree}
+use Rattle.jfs_loss.specs.meaning.proofs.Stays.{SameBlocks, same_node, same_byte}
+use Rattle.jfs_loss.specs.steps.specs.Gains.{after_set}
+use Rattle.jfs_loss.specs.steps.proofs.After.{after_is}
+use Rattle.jfs_loss.specs.steps.proofs.Puts.{put_within, put_past}
 use Rattle.jfs_data_steps.specs.declared.pages.DataPage.{DataPage}
 use Rattle.jfs_data_steps.specs.After.{is_put, page_put, put_data, with_data, after_writes}
 use Rattle.jfs_data_steps.specs.Laws.{MayPut, PutsAlone, BeforeLaw, SetsWithData, IsSetWithData, SetLaw}

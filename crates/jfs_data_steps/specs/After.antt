@@ -2,8 +2,8 @@
 use Rattle.std.specs.Prelude.{◌≡◌, ◌<◌, ◌==◌, ◌||◌, ℕ, Bool, false, if◌then◌else◌, List, [], ◌∷◌, length}
 use Rattle.jfs_ranges.specs.declared.edit.Edit.{Edit}
 use Rattle.jfs_ranges.specs.Apply.{apply_tx}
-use Rattle.jfs_objects.specs.Volume.{Volume}
-use Rattle.jfs_steps.specs.After.{after_call}
+use Rattle.jfs_loss.specs.objects.specs.Volume.{Volume}
+use Rattle.jfs_loss.specs.steps.specs.After.{after_call}
 use Rattle.jfs_data_steps.specs.declared.pages.DataPage.{DataPage}
 
 -- whether a block is among these

@@ -4,11 +4,11 @@ use Rattle.jfs_bits.specs.Field.{put_bytes}
 use Rattle.jfs_bits.specs.declared.descriptor.Moment.{Moment}
 use Rattle.jfs_bits.specs.declared.extent.Xad.{Xad}
 use Rattle.jfs_inode.specs.declared.fields.Dinode.{Dinode}
-use Rattle.jfs_plain.specs.Tree.{Tree}
-use Rattle.jfs_plain.specs.Moves.{sized, changed}
-use Rattle.jfs_objects.specs.Contents.{block_of, bytes_at}
-use Rattle.jfs_objects.specs.Changes.{put}
-use Rattle.jfs_meaning.specs.Contents.{byte_of}
+use Rattle.jfs_loss.specs.plain.specs.Tree.{Tree}
+use Rattle.jfs_loss.specs.plain.specs.Moves.{sized, changed}
+use Rattle.jfs_loss.specs.objects.specs.Contents.{block_of, bytes_at}
+use Rattle.jfs_loss.specs.objects.specs.Changes.{put}
+use Rattle.jfs_loss.specs.meaning.specs.Contents.{byte_of}
 
 -- the inode with another root of its tree, so many bytes and so many blocks, written now
 abbrev pub resized : Dinode → List ℕ → ℕ → ℕ → Moment → Dinode

@@ -4,23 +4,23 @@ use Rattle.jfs_bits.specs.declared.descriptor.Moment.{Moment}
 use Rattle.jfs_bits.specs.declared.extent.Xad.{Xad}
 use Rattle.jfs_inode.specs.declared.fields.Dinode.{Dinode}
 use Rattle.jfs_ranges.specs.declared.edit.Edit.{Edit}
-use Rattle.jfs_plain.specs.Moves.{Same}
-use Rattle.jfs_objects.specs.Readers.{Readers}
-use Rattle.jfs_objects.specs.Volume.{Volume}
-use Rattle.jfs_objects.specs.Objects.{Object, objects, spelled, listed}
-use Rattle.jfs_objects.specs.Owners.{IsSound, is_data}
-use Rattle.jfs_objects.specs.Contents.{contents, contents_of}
-use Rattle.jfs_objects.specs.Changes.{put, WritesData, SetsObject}
-use Rattle.jfs_objects.specs.Laws.{ChangesNone, ChangesOne}
+use Rattle.jfs_loss.specs.plain.specs.Moves.{Same}
+use Rattle.jfs_loss.specs.objects.specs.Readers.{Readers}
+use Rattle.jfs_loss.specs.objects.specs.Volume.{Volume}
+use Rattle.jfs_loss.specs.objects.specs.Objects.{Object, objects, spelled, listed}
+use Rattle.jfs_loss.specs.objects.specs.Owners.{IsSound, is_data}
+use Rattle.jfs_loss.specs.objects.specs.Contents.{contents, contents_of}
+use Rattle.jfs_loss.specs.objects.specs.Changes.{put, WritesData, SetsObject}
+use Rattle.jfs_loss.specs.objects.specs.Laws.{ChangesNone, ChangesOne}
 use Rattle.jfs_kinds.specs.Laws.{KeepsLogged, HasSameOwners}
-use Rattle.jfs_meaning.specs.Readers.{readers}
-use Rattle.jfs_meaning.specs.Contents.{byte_in, is_regular}
-use Rattle.jfs_meaning.specs.Node.{node_of}
-use Rattle.jfs_meaning.specs.Tree.{tree_on}
-use Rattle.jfs_meaning.specs.Consistent.{IsConsistent}
-use Rattle.jfs_meaning.specs.Laws.{ChangesOneNode, ChangesContents}
-use Rattle.jfs_steps.specs.After.{extents_after}
-use Rattle.jfs_steps.specs.Gains.{after_set}
+use Rattle.jfs_loss.specs.meaning.specs.Readers.{readers}
+use Rattle.jfs_loss.specs.meaning.specs.Contents.{byte_in, is_regular}
+use Rattle.jfs_loss.specs.meaning.specs.Node.{node_of}
+use Rattle.jfs_loss.specs.meaning.specs.Tree.{tree_on}
+use Rattle.jfs_loss.specs.meaning.specs.Consistent.{IsConsistent}
+use Rattle.jfs_loss.specs.meaning.specs.Laws.{ChangesOneNode, ChangesContents}
+use Rattle.jfs_loss.specs.steps.specs.After.{extents_after}
+use Rattle.jfs_loss.specs.steps.specs.Gains.{after_set}
 use Rattle.jfs_data_steps.specs.declared.pages.DataPage.{DataPage}
 use Rattle.jfs_data_steps.specs.After.{is_put, AreWholePages, put_data, with_data, after_writes, LeavesPage}
 use Rattle.jfs_data_steps.specs.File.{resized, bytes_held, refilled}

@@ -14,3 +14,5 @@ pub mod Removing
 pub mod Leftmost
 pub mod Frame
 pub mod Replacing
+
+-- libraries below, passed on

@@ -4,3 +4,5 @@
 mod each;
 
 pub use each::{EachInode, each_inode};
+
+// libraries below, passed on

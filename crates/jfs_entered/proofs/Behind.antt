@@ -5,8 +5,8 @@ use Rattle.jfs_bits.specs.Bits.{is_in_run}
 use Rattle.jfs_bits.specs.declared.descriptor.Pxd.{Pxd}
 use Rattle.jfs_ranges.specs.declared.edit.Edit.{Edit}
 use Rattle.jfs_ranges.specs.declared.edit.Edit.TheVariants.{Lines, NoRedo, Alloc, Free}
-use Rattle.jfs_objects.specs.Owners.{run_has}
-use Rattle.jfs_steps.specs.After.{is_extent, four_from, with_run, without_run, takes, frees, used_after}
+use Rattle.jfs_marks.specs.objects.specs.Owners.{run_has}
+use Rattle.jfs_marks.specs.steps.specs.After.{is_extent, four_from, with_run, without_run, takes, frees, used_after}
 use Rattle.jfs_marks.specs.Behind.{overlap, is_taken_in, frees_behind}
 use Rattle.jfs_entered.specs.Laws.{BehindLaw}
 use Rattle.jfs_entered.proofs.Used.{goes}

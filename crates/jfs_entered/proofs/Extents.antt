@@ -8,11 +8,11 @@ use Rattle.jfs_bits.specs.declared.rule.PageKind.TheVariants as kinds
 use Rattle.jfs_ranges.specs.declared.edit.Edit.{Edit}
 use Rattle.jfs_ranges.specs.declared.edit.Edit.TheVariants.{Lines, NoRedo, Alloc, Free}
 use Rattle.jfs_ranges.specs.Apply.{place_of_line, touches_edit, touches_tx}
-use Rattle.jfs_records.specs.declared.note.Note.{Note}
-use Rattle.jfs_records.specs.Records.{noted}
-use Rattle.jfs_records.specs.Limits.{AreLines, IsLoggable}
-use Rattle.jfs_records.specs.Marks.{is_new_extent}
-use Rattle.jfs_steps.specs.After.{is_extent, place_in, extents_after}
+use Rattle.jfs_marks.specs.records.specs.declared.note.Note.{Note}
+use Rattle.jfs_marks.specs.records.specs.Records.{noted}
+use Rattle.jfs_marks.specs.records.specs.Limits.{AreLines, IsLoggable}
+use Rattle.jfs_marks.specs.records.specs.Marks.{is_new_extent}
+use Rattle.jfs_marks.specs.steps.specs.After.{is_extent, place_in, extents_after}
 use Rattle.jfs_marks.specs.declared.founded.Founded.{Founded}
 use Rattle.jfs_marks.specs.declared.founded.NewExtent.{NewExtent}
 use Rattle.jfs_marks.specs.declared.founded.Founded.TheVariants.{Nothing, One, Several}

@@ -7,16 +7,16 @@ use Rattle.jfs_bits.proofs.Broken.{each_holds}
 use Rattle.jfs_bits.specs.declared.rule.Rule.TheVariants as rules
 use Rattle.jfs_inode.specs.Rules.{rows}
 use Rattle.jfs_inode.specs.declared.fields.Dinode.{Dinode}
-use Rattle.jfs_imap.specs.Inodes.{Inodes, home_of}
+use Rattle.jfs_marks.specs.imap.specs.Inodes.{Inodes, home_of}
 use Rattle.jfs_ranges.specs.declared.edit.Edit.{Edit}
-use Rattle.jfs_objects.specs.Image.{extent_place}
-use Rattle.jfs_objects.specs.Readers.{Readers}
-use Rattle.jfs_objects.specs.Volume.{Volume, home, page_in, slot_of}
-use Rattle.jfs_objects.specs.Objects.{objects, spelled, is_live}
-use Rattle.jfs_objects.proofs.Found.{object_at, no_object_at}
-use Rattle.jfs_meaning.specs.Consistent.{IsConsistent}
-use Rattle.jfs_way.proofs.Places.{home_is}
-use Rattle.jfs_steps.specs.After.{extents_after}
+use Rattle.jfs_marks.specs.objects.specs.Image.{extent_place}
+use Rattle.jfs_marks.specs.objects.specs.Readers.{Readers}
+use Rattle.jfs_marks.specs.objects.specs.Volume.{Volume, home, page_in, slot_of}
+use Rattle.jfs_marks.specs.objects.specs.Objects.{objects, spelled, is_live}
+use Rattle.jfs_marks.specs.objects.proofs.Found.{object_at, no_object_at}
+use Rattle.jfs_marks.specs.meaning.specs.Consistent.{IsConsistent}
+use Rattle.jfs_marks.specs.way.proofs.Places.{home_is}
+use Rattle.jfs_marks.specs.steps.specs.After.{extents_after}
 use Rattle.jfs_marks.specs.declared.founded.Founded.{Founded}
 use Rattle.jfs_marks.specs.declared.founded.NewExtent.{NewExtent}
 use Rattle.jfs_marks.specs.declared.founded.Founded.TheVariants.{Nothing, One, Several}

@@ -7,22 +7,22 @@ use Rattle.jfs_bits.specs.Bits.{is_in_run}
 use Rattle.jfs_bits.specs.declared.descriptor.Pxd.{Pxd}
 use Rattle.jfs_iag.specs.Iag.{no_run}
 use Rattle.jfs_iag.specs.Canonical.{is_there}
-use Rattle.jfs_imap.specs.Inodes.{Inodes, is_used, extent_at, home_in, home_of, with_put_back}
-use Rattle.jfs_bmap.specs.States.{Blocks}
+use Rattle.jfs_marks.specs.imap.specs.Inodes.{Inodes, is_used, extent_at, home_in, home_of, with_put_back}
+use Rattle.jfs_marks.specs.bmap.specs.States.{Blocks}
 use Rattle.jfs_ranges.specs.declared.edit.Edit.{Edit}
 use Rattle.jfs_ranges.specs.Apply.{apply_tx, touches_tx}
-use Rattle.jfs_records.specs.declared.note.Note.{Note}
-use Rattle.jfs_objects.specs.Image.{extent_place}
-use Rattle.jfs_objects.specs.Readers.{Readers}
-use Rattle.jfs_objects.specs.Volume.{Volume, home, slot_of}
-use Rattle.jfs_objects.specs.Objects.{objects, is_live}
-use Rattle.jfs_objects.proofs.Found.{no_home, home_within as home_in_room}
-use Rattle.jfs_meaning.specs.Readers.{readers}
-use Rattle.jfs_way.specs.Volume.{volume_of, PlacesWithin}
-use Rattle.jfs_way.proofs.Places.{home_is, home_within}
-use Rattle.jfs_steps.specs.After.{extents_after, four_from}
-use Rattle.jfs_data_steps.specs.After.{is_put, put_data, with_data, after_writes}
-use Rattle.jfs_data_steps.specs.declared.pages.DataPage.{DataPage}
+use Rattle.jfs_marks.specs.records.specs.declared.note.Note.{Note}
+use Rattle.jfs_marks.specs.objects.specs.Image.{extent_place}
+use Rattle.jfs_marks.specs.objects.specs.Readers.{Readers}
+use Rattle.jfs_marks.specs.objects.specs.Volume.{Volume, home, slot_of}
+use Rattle.jfs_marks.specs.objects.specs.Objects.{objects, is_live}
+use Rattle.jfs_marks.specs.objects.proofs.Found.{no_home, home_within as home_in_room}
+use Rattle.jfs_marks.specs.meaning.specs.Readers.{readers}
+use Rattle.jfs_marks.specs.way.specs.Volume.{volume_of, PlacesWithin}
+use Rattle.jfs_marks.specs.way.proofs.Places.{home_is, home_within}
+use Rattle.jfs_marks.specs.steps.specs.After.{extents_after, four_from}
+use Rattle.jfs_marks.specs.data_steps.specs.After.{is_put, put_data, with_data, after_writes}
+use Rattle.jfs_marks.specs.data_steps.specs.declared.pages.DataPage.{DataPage}
 use Rattle.jfs_marks.specs.declared.founded.Founded.{Founded}
 use Rattle.jfs_marks.specs.declared.founded.Founded.TheVariants as founded
 use Rattle.jfs_marks.specs.declared.changes.Met.{Met}

@@ -1,10 +1,10 @@
 -- What is noted of the inodes on the pages that a transaction changes: all that comes into use and goes out of it, and nothing else.
 use Rattle.std.proofs.Common.{◌≡◌, ◌<◌, ◌⊎◌, inl, inr, refl, sym, ap, subst, ℕ, zero, suc, ◌+◌, Bool, true, false, not, ◌&&◌, ◌==◌, nat_lt, if◌then◌else◌, List, [], ◌∷◌, Option, Some, None, arith, eqb-true}
-use Rattle.jfs_imap.specs.Inodes.{Inodes}
+use Rattle.jfs_marks.specs.imap.specs.Inodes.{Inodes}
 use Rattle.jfs_ranges.specs.declared.edit.Edit.{Edit}
 use Rattle.jfs_ranges.specs.Apply.{apply_tx}
-use Rattle.jfs_data_steps.specs.After.{is_put}
-use Rattle.jfs_data_steps.specs.declared.pages.DataPage.{DataPage}
+use Rattle.jfs_marks.specs.data_steps.specs.After.{is_put}
+use Rattle.jfs_marks.specs.data_steps.specs.declared.pages.DataPage.{DataPage}
 use Rattle.jfs_marks.specs.declared.founded.Founded.{Founded}
 use Rattle.jfs_marks.specs.declared.founded.Founded.TheVariants as founded
 use Rattle.jfs_marks.specs.declared.changes.Met.{Met}

@@ -2,12 +2,12 @@
 use Rattle.std.proofs.Common.{◌≡◌, ◌⊎◌, inl, inr, refl, sym, ap, ◌∙◌, ℕ, Bool, true, false, true≢false, not, ◌&&◌, ◌||◌, ◌==◌, nat_le, if◌then◌else◌, List, [], ◌∷◌, length, set, Option, Some, None, eqb-true}
 use Rattle.std.proofs.lemmas.Bool.{eq-eqb}
 use Rattle.std.proofs.lemmas.List.{length-set}
-use Rattle.jfs_imap.specs.Inodes.{Inodes, is_used}
+use Rattle.jfs_marks.specs.imap.specs.Inodes.{Inodes, is_used}
 use Rattle.jfs_ranges.specs.declared.edit.Edit.{Edit}
 use Rattle.jfs_ranges.specs.Apply.{apply_tx, touches_edit, touches_tx}
 use Rattle.jfs_ranges.proofs.Overlaid.{apply_edit-untouched}
-use Rattle.jfs_data_steps.specs.After.{is_put, AreWholePages, page_put}
-use Rattle.jfs_data_steps.specs.declared.pages.DataPage.{DataPage}
+use Rattle.jfs_marks.specs.data_steps.specs.After.{is_put, AreWholePages, page_put}
+use Rattle.jfs_marks.specs.data_steps.specs.declared.pages.DataPage.{DataPage}
 use Rattle.jfs_marks.specs.declared.changes.Met.{Met}
 use Rattle.jfs_marks.specs.Changes.{same_number}
 use Rattle.jfs_marks.specs.Marks.{with_taken_if, with_freed_if}

@@ -4,16 +4,16 @@ use Rattle.std.proofs.lemmas.Bool.{cases_Bool, cases_lt, lt-ltb, le-ltb, ltb-tru
 use Rattle.std.proofs.lemmas.List.{get_or_past}
 use Rattle.jfs_bits.specs.Bits.{is_in_run}
 use Rattle.jfs_bits.specs.declared.descriptor.Pxd.{Pxd}
-use Rattle.jfs_bmap.specs.States.{Blocks, BlockState, Free, Owned, Reserved, Busy, is_owned_state, state_of, is_owned, is_in_list, put_state, released_state}
-use Rattle.jfs_bmap.proofs.States.{changed-at, changed-length}
+use Rattle.jfs_marks.specs.bmap.specs.States.{Blocks, BlockState, Free, Owned, Reserved, Busy, is_owned_state, state_of, is_owned, is_in_list, put_state, released_state}
+use Rattle.jfs_marks.specs.bmap.proofs.States.{changed-at, changed-length}
 use Rattle.jfs_ranges.specs.declared.edit.Edit.{Edit}
 use Rattle.jfs_ranges.specs.declared.edit.Edit.TheVariants.{Lines, NoRedo, Alloc, Free as FreeRun}
-use Rattle.jfs_records.specs.Marks.{has_block, is_new_extent}
+use Rattle.jfs_marks.specs.records.specs.Marks.{has_block, is_new_extent}
 use Rattle.jfs_halves.specs.Marks.{is_taking, is_freeing, takes as takes_block, frees as frees_block, entered_state, map_after}
 use Rattle.jfs_halves.specs.Change.{SameStates}
-use Rattle.jfs_objects.specs.Owners.{run_has}
+use Rattle.jfs_marks.specs.objects.specs.Owners.{run_has}
 use Rattle.jfs_room.specs.Laws.{NoneReserved}
-use Rattle.jfs_steps.specs.After.{is_extent, four_from, with_run, without_run, takes, frees, used_after}
+use Rattle.jfs_marks.specs.steps.specs.After.{is_extent, four_from, with_run, without_run, takes, frees, used_after}
 use Rattle.jfs_entered.proofs.Extents.{AreShort, are_short}
 use Rattle.jfs_entered.specs.Laws.{used_in, IsReserved, FreesBehind, BlocksLaw}
 

@@ -2,19 +2,19 @@
 use Rattle.std.specs.Prelude.{◌≡◌, ◌<◌, ℕ, ◌&&◌, Bool, true, false, nat_lt, if◌then◌else◌, List, length}
 use Rattle.jfs_bits.specs.declared.descriptor.Pxd.{Pxd}
 use Rattle.jfs_disk.specs.Image.{Image, page_of}
-use Rattle.jfs_imap.specs.Inodes.{Inodes}
-use Rattle.jfs_bmap.specs.States.{Blocks, Free, Reserved, state_of, is_owned, is_in_list, changed, put_state}
+use Rattle.jfs_marks.specs.imap.specs.Inodes.{Inodes}
+use Rattle.jfs_marks.specs.bmap.specs.States.{Blocks, Free, Reserved, state_of, is_owned, is_in_list, changed, put_state}
 use Rattle.jfs_ranges.specs.declared.edit.Edit.{Edit}
 use Rattle.jfs_ranges.specs.Laid.{put_tx}
-use Rattle.jfs_records.specs.declared.note.Note.{Note}
-use Rattle.jfs_core.specs.Image.{pages_after}
+use Rattle.jfs_marks.specs.records.specs.declared.note.Note.{Note}
+use Rattle.jfs_halves.specs.crash_core.specs.Image.{pages_after}
 use Rattle.jfs_halves.specs.Marks.{takes as takes_block, map_after}
 use Rattle.jfs_halves.specs.Change.{SameStates}
-use Rattle.jfs_way.specs.Volume.{volume_of}
+use Rattle.jfs_marks.specs.way.specs.Volume.{volume_of}
 use Rattle.jfs_room.specs.Laws.{NoneReserved}
-use Rattle.jfs_steps.specs.After.{takes, frees, used_after}
-use Rattle.jfs_data_steps.specs.After.{put_data, after_writes}
-use Rattle.jfs_data_steps.specs.declared.pages.DataPage.{DataPage}
+use Rattle.jfs_marks.specs.steps.specs.After.{takes, frees, used_after}
+use Rattle.jfs_marks.specs.data_steps.specs.After.{put_data, after_writes}
+use Rattle.jfs_marks.specs.data_steps.specs.declared.pages.DataPage.{DataPage}
 use Rattle.jfs_marks.specs.declared.marks.InodeMarks.{InodeMarks}
 use Rattle.jfs_marks.specs.Marks.{AreMarked}
 use Rattle.jfs_marks.specs.Behind.{frees_behind}

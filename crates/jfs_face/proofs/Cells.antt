@@ -7,7 +7,7 @@ use Rattle.jfs_bits.specs.Descriptor.{pxd_of}
 use Rattle.jfs_bits.specs.declared.descriptor.Pxd.{Pxd}
 use Rattle.jfs_bits.proofs.Parts.{field-in_part}
 use Rattle.jfs_iag.specs.Iag.{no_run}
-use Rattle.jfs_core.specs.Sound.{SameCell}
+use Rattle.jfs_recovery.specs.crash_core.specs.Sound.{SameCell}
 use Rattle.jfs_recovery.specs.Face.{Item}
 use Rattle.jfs_recovery.specs.Face.Item.{BlockBit, ExtentPlace}
 use Rattle.jfs_recovery.specs.Face.Value.{InUse, At}

@@ -10,8 +10,8 @@ use Rattle.jfs_iag.specs.declared.canonical.Links.{Links}
 use Rattle.jfs_iag.specs.Laws.{AreSame}
 use Rattle.jfs_iag.specs.Canonical.{has_free_inode, in_inode_list, in_place_list, AreLinks, IsIagPage}
 use Rattle.jfs_iag.proofs.Agreed.{iags-same, controls-same}
-use Rattle.jfs_bmap.specs.MapFile.{pages_of, is_in_use, tells_of}
-use Rattle.jfs_bmap.proofs.Agreed.{only-their-pages}
+use Rattle.jfs_steps.specs.bmap.specs.MapFile.{pages_of, is_in_use, tells_of}
+use Rattle.jfs_steps.specs.bmap.proofs.Agreed.{only-their-pages}
 use Rattle.jfs_steps.specs.After.{is_extent, place_in, four_from}
 use Rattle.jfs_recovery.specs.Face.{Item, Value, Pages}
 use Rattle.jfs_recovery.specs.Face.Item.{BlockBit, ExtentPlace}

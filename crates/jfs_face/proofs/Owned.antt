@@ -6,13 +6,13 @@ use Rattle.std.proofs.lemmas.List.FromFn.{get_or-range_with_len, length-range_wi
 use Rattle.std.specs.List.{range_with_len}
 use Rattle.jfs_bits.specs.Bits.{any_below}
 use Rattle.jfs_bits.proofs.Buds.{any_below-at}
-use Rattle.jfs_bmap.specs.MapFile.{pages_of, is_in_use}
-use Rattle.jfs_objects.specs.Readers.{Readers}
-use Rattle.jfs_objects.specs.Volume.{Volume, room}
-use Rattle.jfs_objects.specs.Owners.{extent_has, extents_have}
-use Rattle.jfs_objects.specs.Image.{extent_place}
-use Rattle.jfs_kinds.specs.Owner.{Owner, owner_of, owner_below, or_else, is_logged}
-use Rattle.jfs_kinds.specs.Owner.Owner.{Area, Inodes}
+use Rattle.jfs_steps.specs.bmap.specs.MapFile.{pages_of, is_in_use}
+use Rattle.jfs_recovery.specs.objects.specs.Readers.{Readers}
+use Rattle.jfs_recovery.specs.objects.specs.Volume.{Volume, room}
+use Rattle.jfs_recovery.specs.objects.specs.Owners.{extent_has, extents_have}
+use Rattle.jfs_recovery.specs.objects.specs.Image.{extent_place}
+use Rattle.jfs_recovery.specs.kinds.specs.Owner.{Owner, owner_of, owner_below, or_else, is_logged}
+use Rattle.jfs_recovery.specs.kinds.specs.Owner.Owner.{Area, Inodes}
 use Rattle.jfs_recovery.specs.Face.{Item, Value, Pages}
 use Rattle.jfs_recovery.specs.Face.Item.{ExtentPlace}
 use Rattle.jfs_face.specs.Places.{Places, is_block_page, is_inode_page, is_map_page, is_fixed_page, AreInAreas}

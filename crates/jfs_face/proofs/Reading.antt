@@ -7,7 +7,7 @@ use Rattle.jfs_bits.specs.Descriptor.{pxd_of}
 use Rattle.jfs_bits.specs.declared.descriptor.Pxd.{Pxd}
 use Rattle.jfs_bits.proofs.Buds.{any_below-from}
 use Rattle.jfs_iag.specs.Iag.{no_run}
-use Rattle.jfs_bmap.specs.MapFile.{pages_of, is_in_use, IsDmapPage}
+use Rattle.jfs_steps.specs.bmap.specs.MapFile.{pages_of, is_in_use, IsDmapPage}
 use Rattle.jfs_recovery.specs.Face.{Item, Value, Pages}
 use Rattle.jfs_recovery.specs.Face.Item.{BlockBit, ExtentPlace}
 use Rattle.jfs_recovery.specs.Face.Value.{InUse, At}

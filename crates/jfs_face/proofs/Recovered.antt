@@ -2,11 +2,11 @@
 use Rattle.std.proofs.Common.{◌≡◌, ℕ, Bool, List, Option, sym, ap, ◌∙◌, subst}
 use Rattle.jfs_bits.specs.declared.descriptor.Pxd.{Pxd}
 use Rattle.jfs_ranges.specs.declared.edit.Edit.{Edit}
-use Rattle.jfs_objects.specs.Readers.{Readers}
-use Rattle.jfs_objects.specs.Image.{volume_on}
-use Rattle.jfs_kinds.specs.Owner.{Owner, owner_of, is_logged}
-use Rattle.jfs_kinds.specs.Laws.{KeepsLogged}
-use Rattle.jfs_kinds.proofs.Images.{image_law}
+use Rattle.jfs_recovery.specs.objects.specs.Readers.{Readers}
+use Rattle.jfs_recovery.specs.objects.specs.Image.{volume_on}
+use Rattle.jfs_recovery.specs.kinds.specs.Owner.{Owner, owner_of, is_logged}
+use Rattle.jfs_recovery.specs.kinds.specs.Laws.{KeepsLogged}
+use Rattle.jfs_recovery.specs.kinds.proofs.Images.{image_law}
 use Rattle.jfs_recovery.specs.Face.{IsFace, Pages}
 use Rattle.jfs_recovery.specs.Core.{Core, image, after_steps}
 use Rattle.jfs_recovery.specs.Sound.{Recovers}

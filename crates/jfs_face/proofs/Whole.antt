@@ -1,8 +1,8 @@
 -- A volume keeps all that the core asks for.
 use Rattle.std.proofs.Common.{◌⊎◌, ◌<◌, ℕ, Bool, List, refl, ◌∙◌, inl, inr}
 use Rattle.jfs_ranges.specs.declared.edit.Edit.{Edit}
-use Rattle.jfs_objects.specs.Readers.{Readers}
-use Rattle.jfs_core.proofs.Bytes.{length-apply_tx}
+use Rattle.jfs_recovery.specs.objects.specs.Readers.{Readers}
+use Rattle.jfs_recovery.specs.crash_core.proofs.Bytes.{length-apply_tx}
 use Rattle.jfs_recovery.specs.Face.{IsFace, Pages, Gives, Passes}
 use Rattle.jfs_recovery.specs.Lines.{rest_of, ReadsEdits}
 use Rattle.jfs_recovery.proofs.Lines.{Given, Passed, given_or_passed}

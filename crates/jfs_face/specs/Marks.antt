@@ -5,7 +5,7 @@ use Rattle.jfs_ranges.specs.declared.edit.Edit.{Edit}
 use Rattle.jfs_ranges.specs.declared.edit.Edit.TheVariants.{Lines, NoRedo, Alloc, Free}
 use Rattle.jfs_ranges.specs.Apply.{apply_tx}
 use Rattle.jfs_iag.specs.Canonical.{has_free_inode, has_free_place}
-use Rattle.jfs_bmap.specs.MapFile.{pages_of, is_in_use, tells_of}
+use Rattle.jfs_steps.specs.bmap.specs.MapFile.{pages_of, is_in_use, tells_of}
 use Rattle.jfs_steps.specs.After.{is_extent, place_in}
 use Rattle.jfs_recovery.specs.Face.{Pages}
 use Rattle.jfs_face.specs.Places.{Places, is_map_page}

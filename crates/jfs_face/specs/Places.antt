@@ -1,7 +1,7 @@
 -- Where the maps and the fixed areas of a volume stand, as its superblock and the aggregate's inodes said when it was mounted: they stay for as long as it is.
 use Rattle.std.specs.Prelude.{◌≡◌, ◌<◌, ◌≤◌, ℕ, suc, Bool, true, not, ◌&&◌, ◌||◌, ◌==◌, nat_lt}
 use Rattle.jfs_bits.specs.Bits.{any_below}
-use Rattle.jfs_bmap.specs.MapFile.{pages_of, is_in_use}
+use Rattle.jfs_steps.specs.bmap.specs.MapFile.{pages_of, is_in_use}
 
 pub record Places : Type 0 where
   -- how many blocks the file system part has, in groups of how many

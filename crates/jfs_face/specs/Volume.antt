@@ -3,12 +3,12 @@ use Rattle.std.specs.Prelude.{ℕ, Bool, false, ◌||◌, ◌&&◌, List, map}
 use Rattle.std.specs.List.{range_with_len}
 use Rattle.jfs_ranges.specs.declared.edit.Edit.{Edit}
 use Rattle.jfs_ranges.specs.Apply.{apply_tx, touches_tx}
-use Rattle.jfs_objects.specs.Readers.{Readers}
-use Rattle.jfs_objects.specs.Volume.{Volume}
-use Rattle.jfs_objects.specs.Image.{extent_place}
-use Rattle.jfs_kinds.specs.Owner.{owner_of}
+use Rattle.jfs_recovery.specs.objects.specs.Readers.{Readers}
+use Rattle.jfs_recovery.specs.objects.specs.Volume.{Volume}
+use Rattle.jfs_recovery.specs.objects.specs.Image.{extent_place}
+use Rattle.jfs_recovery.specs.kinds.specs.Owner.{owner_of}
 use Rattle.jfs_recovery.specs.Face.{Face, Pages, Item, Value}
-use Rattle.jfs_records.specs.Redo.{closes_in}
+use Rattle.jfs_recovery.specs.records.specs.Redo.{closes_in}
 use Rattle.jfs_recovery.specs.Lines.{rest_of}
 use Rattle.jfs_face.specs.Places.{Places, is_map_page, is_fixed_page}
 use Rattle.jfs_face.specs.Items.{home, cell, read, set_by, extent_by, places}

@@ -1,12 +1,12 @@
 //! Blocks are reserved for a write.
 
 ghost use Rattle.std.specs.Prelude.{◌≡◌, ◌+◌, ◌++◌, OnErr, IfOk};
-ghost use Rattle.jfs_tree.specs.Fresh.{blocks_of};
+ghost use Rattle.jfs_claim.specs.page_tree.specs.Fresh.{blocks_of};
 ghost use Rattle.jfs_claim.specs.Take.{AreFresh};
 ghost use Rattle.jfs_file_blocks.specs.Reserving.{TakesBlocks, AnswersByFree};
 
 use jfs_bits::PxdList;
-use jfs_bmap::{BlockMap, ReserveError};
+use jfs_claim::bmap::{BlockMap, ReserveError};
 use jfs_claim::{Claim, ClaimError, Want, take};
 use std::alloc::Global;
 

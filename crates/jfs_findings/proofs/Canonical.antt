@@ -6,10 +6,10 @@ use Rattle.jfs_bits.specs.Bits.{is_taken, greatest_run, count_below}
 use Rattle.jfs_bits.specs.Field.{field_of, range_of}
 use Rattle.jfs_buddy.specs.Tree.{rank_at, first_of, leaf_at, greatest_of}
 use Rattle.jfs_buddy.specs.Buddy.{IsBuddyTree, joined}
-use Rattle.jfs_dmap.specs.Dmap.{IsDmap, blocks_of, first_block_of, taken_in, map_of, tree_of, word_rank}
-use Rattle.jfs_dmapctl.specs.Control.{IsControl, whole_of, tree_of as control_tree}
-use Rattle.jfs_bmap.specs.Pages.{leaf_ranks}
-use Rattle.jfs_bmap.specs.MapFile.{IsDmapPage}
+use Rattle.jfs_mount.specs.dmap.specs.Dmap.{IsDmap, blocks_of, first_block_of, taken_in, map_of, tree_of, word_rank}
+use Rattle.jfs_mount.specs.dmapctl.specs.Control.{IsControl, whole_of, tree_of as control_tree}
+use Rattle.jfs_mount.specs.bmap.specs.Pages.{leaf_ranks}
+use Rattle.jfs_mount.specs.bmap.specs.MapFile.{IsDmapPage}
 use Rattle.jfs_iag.specs.Canonical.{is_there, has_free, is_free_inode}
 use Rattle.jfs_findings.specs.Maps.{IsFirstPageAs, IsMapPageAs, IsIagAs, IsInodePageAs, without_pad}
 use Rattle.jfs_findings.proofs.Stable.{IsStable, nat_stable, bool_stable, int_stable, le_stable, list_stable}

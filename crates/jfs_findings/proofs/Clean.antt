@@ -4,10 +4,10 @@ use Rattle.std.specs.declared.result.Result.{Result}
 use Rattle.std.specs.declared.result.Result.TheVariants.{Ok, Err}
 use Rattle.std.proofs.lemmas.Bool.{ltb-true, true≢false}
 use Rattle.jfs_bits.specs.declared.rule.Rule.{Rule}
-use Rattle.jfs_objects.specs.Objects.{listed}
-use Rattle.jfs_objects.specs.Owners.{owners, holds, bit, Agrees}
-use Rattle.jfs_objects.specs.Image.{is_block_used}
-use Rattle.jfs_objects.proofs.Owned.{owned, is_bit}
+use Rattle.jfs_mount.specs.objects.specs.Objects.{listed}
+use Rattle.jfs_mount.specs.objects.specs.Owners.{owners, holds, bit, Agrees}
+use Rattle.jfs_mount.specs.objects.specs.Image.{is_block_used}
+use Rattle.jfs_mount.specs.objects.proofs.Owned.{owned, is_bit}
 use Rattle.jfs_mount.specs.Subject.{Subject, blocks, volume}
 use Rattle.jfs_findings.specs.Names.{leads}
 use Rattle.jfs_findings.proofs.Runs.{past_first, run_is_owned}

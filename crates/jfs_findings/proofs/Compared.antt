@@ -7,10 +7,10 @@ use Rattle.jfs_bits.proofs.Buds.{any_below-same}
 use Rattle.jfs_bits.proofs.Counts.{count_below-same}
 use Rattle.jfs_bits.proofs.Parts.{part-kept}
 use Rattle.jfs_buddy.specs.Tree.{rank_of}
-use Rattle.jfs_dmapctl.specs.Control.{IsControl}
-use Rattle.jfs_bmap.specs.Pages.{leaf_ranks}
-use Rattle.jfs_bmap.specs.MapFile.{IsFirstPage, IsDmapPage, IsMapPage}
-use Rattle.jfs_bmap.proofs.Views.{control-same}
+use Rattle.jfs_mount.specs.dmapctl.specs.Control.{IsControl}
+use Rattle.jfs_mount.specs.bmap.specs.Pages.{leaf_ranks}
+use Rattle.jfs_mount.specs.bmap.specs.MapFile.{IsFirstPage, IsDmapPage, IsMapPage}
+use Rattle.jfs_mount.specs.bmap.proofs.Views.{control-same}
 use Rattle.jfs_iag.specs.declared.canonical.Links.{Links}
 use Rattle.jfs_iag.specs.Canonical.{is_there, has_free, is_free_inode, IsIagPage, IsControlPage}
 use Rattle.jfs_findings.specs.Maps.{IsFirstPageAs, IsMapPageAs, IsIagAs, IsInodeControlAs, without_pad}

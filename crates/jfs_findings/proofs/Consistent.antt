@@ -7,19 +7,19 @@ use Rattle.std.proofs.lemmas.Bool.Decides.{nat_tests}
 use Rattle.std.proofs.lemmas.List.Sums.{sum_by-cons}
 use Rattle.jfs_bits.specs.declared.rule.Rule.{Rule}
 use Rattle.jfs_name.specs.declared.name.NameEntry.{NameEntry}
-use Rattle.jfs_plain.specs.Tree.{root, is_dir}
-use Rattle.jfs_plain.specs.declared.node.Node.{Node}
-use Rattle.jfs_tree.specs.Walk.{Mark, Marks, Page, Key, Row, Fault, rows_of}
-use Rattle.jfs_tree.specs.Spells.{tree_of}
-use Rattle.jfs_tree.proofs.Judge.{judged}
-use Rattle.jfs_objects.specs.Volume.{slot_of}
-use Rattle.jfs_objects.specs.Objects.{Object, has_names, spelled, listed}
-use Rattle.jfs_objects.specs.Owners.{bit, entries}
-use Rattle.jfs_objects.proofs.Owned.{outside}
-use Rattle.jfs_objects.proofs.Found.{object_at}
-use Rattle.jfs_objects.proofs.Sums.{eq_or_not, sum_one, sum_two, sum_zero}
-use Rattle.jfs_meaning.specs.Node.{node_in}
-use Rattle.jfs_meaning.specs.Consistent.{is_reserved, leading_to, names_in, names_for, names_to, links_due, MayBeNamed, HasItsName, IsRoot, IsConsistent}
+use Rattle.jfs_mount.specs.plain.specs.Tree.{root, is_dir}
+use Rattle.jfs_mount.specs.plain.specs.declared.node.Node.{Node}
+use Rattle.jfs_mount.specs.page_tree.specs.Walk.{Mark, Marks, Page, Key, Row, Fault, rows_of}
+use Rattle.jfs_mount.specs.page_tree.specs.Spells.{tree_of}
+use Rattle.jfs_mount.specs.page_tree.proofs.Judge.{judged}
+use Rattle.jfs_mount.specs.objects.specs.Volume.{slot_of}
+use Rattle.jfs_mount.specs.objects.specs.Objects.{Object, has_names, spelled, listed}
+use Rattle.jfs_mount.specs.objects.specs.Owners.{bit, entries}
+use Rattle.jfs_mount.specs.objects.proofs.Owned.{outside}
+use Rattle.jfs_mount.specs.objects.proofs.Found.{object_at}
+use Rattle.jfs_mount.specs.objects.proofs.Sums.{eq_or_not, sum_one, sum_two, sum_zero}
+use Rattle.jfs_mount.specs.meaning.specs.Node.{node_in}
+use Rattle.jfs_mount.specs.meaning.specs.Consistent.{is_reserved, leading_to, names_in, names_for, names_to, links_due, MayBeNamed, HasItsName, IsRoot, IsConsistent}
 use Rattle.jfs_mount.specs.Subject.{Subject, volume, object}
 use Rattle.jfs_findings.specs.Names.{readable, readable_node, most, leads, StandsAt}
 use Rattle.jfs_findings.specs.Clean.{IsSoundVolume, IsTidy}

@@ -12,15 +12,15 @@ use Rattle.jfs_bits.proofs.Broken.{each_holds}
 use Rattle.jfs_super.specs.Rules.{IsAccepted, blocks_of, ends_within, rows, shape_rows, flag_rows, size_rows, log_rows}
 use Rattle.jfs_super.specs.declared.fields.Super.{Super}
 use Rattle.jfs_super.specs.declared.read.BadSuper.{BadSuper}
-use Rattle.jfs_xtree.specs.Node.{xt_node, xt_scale, all_within, is_within}
+use Rattle.jfs_mount.specs.xtree.specs.Node.{xt_node, xt_scale, all_within, is_within}
 use Rattle.jfs_xtpage.specs.declared.head.XtForm.TheVariants as forms
-use Rattle.jfs_xtree.proofs.Adds.{has_pages}
-use Rattle.jfs_tree.specs.Spells.{footprint}
-use Rattle.jfs_tree.proofs.Within.{footprint_within}
-use Rattle.jfs_objects.specs.Objects.{met, listed}
-use Rattle.jfs_objects.specs.Owners.{unless_broken, entries, run_has, covers, fixed}
-use Rattle.jfs_objects.specs.Image.{aggregate_at, file_walk, file_extents, file_has, area_on}
-use Rattle.jfs_meaning.specs.Readers.{readers, root_of}
+use Rattle.jfs_mount.specs.xtree.proofs.Adds.{has_pages}
+use Rattle.jfs_mount.specs.page_tree.specs.Spells.{footprint}
+use Rattle.jfs_mount.specs.page_tree.proofs.Within.{footprint_within}
+use Rattle.jfs_mount.specs.objects.specs.Objects.{met, listed}
+use Rattle.jfs_mount.specs.objects.specs.Owners.{unless_broken, entries, run_has, covers, fixed}
+use Rattle.jfs_mount.specs.objects.specs.Image.{aggregate_at, file_walk, file_extents, file_has, area_on}
+use Rattle.jfs_mount.specs.meaning.specs.Readers.{readers, root_of}
 use Rattle.jfs_mount.specs.Subject.{subject_of}
 use Rattle.jfs_mount.specs.Subject.{volume}
 use Rattle.jfs_mount.proofs.Within.{entries_within}

@@ -6,10 +6,10 @@ use Rattle.std.proofs.lemmas.List.FromFn.{get_or-map-range_with_len, length-map-
 use Rattle.jfs_bits.specs.Bits.{is_taken}
 use Rattle.jfs_bits.specs.Field.{range_of}
 use Rattle.jfs_iag.specs.Canonical.{is_there}
-use Rattle.jfs_objects.specs.Volume.{home, page_in}
-use Rattle.jfs_objects.specs.Image.{iag_page, extent_on, extents_on, is_inode_used}
-use Rattle.jfs_objects.proofs.Owned.{get_past}
-use Rattle.jfs_objects.proofs.Found.{no_home}
+use Rattle.jfs_mount.specs.objects.specs.Volume.{home, page_in}
+use Rattle.jfs_mount.specs.objects.specs.Image.{iag_page, extent_on, extents_on, is_inode_used}
+use Rattle.jfs_mount.specs.objects.proofs.Owned.{get_past}
+use Rattle.jfs_mount.specs.objects.proofs.Found.{no_home}
 use Rattle.jfs_mount.specs.Subject.{Subject, volume, object}
 use Rattle.jfs_mount.specs.Mount.{iags, extent_at}
 use Rattle.jfs_findings.specs.Maps.{IsInodeMapPage}

@@ -6,11 +6,11 @@ use Rattle.std.proofs.lemmas.List.FromFn.{get_or-range_with_len}
 use Rattle.std.proofs.lemmas.List.Sums.{prefix_len_passes}
 use Rattle.jfs_bits.proofs.Broken.{first_broken-none}
 use Rattle.jfs_inode.specs.Rules.{type_of}
-use Rattle.jfs_bmap.specs.MapFile.{pages_of}
+use Rattle.jfs_mount.specs.bmap.specs.MapFile.{pages_of}
 use Rattle.jfs_iag.specs.Canonical.{is_there}
-use Rattle.jfs_objects.specs.Volume.{home, slot_of}
-use Rattle.jfs_objects.specs.Owners.{extent_has, extents_have}
-use Rattle.jfs_objects.specs.Image.{extent_on, extents_on}
+use Rattle.jfs_mount.specs.objects.specs.Volume.{home, slot_of}
+use Rattle.jfs_mount.specs.objects.specs.Owners.{extent_has, extents_have}
+use Rattle.jfs_mount.specs.objects.specs.Image.{extent_on, extents_on}
 use Rattle.jfs_mount.specs.Subject.{Subject, blocks, volume, IsFilePage}
 use Rattle.jfs_mount.specs.Mount.{place, covered, fitting, iags, extent_at, fits_extent, root_row, mount_rows, broken_mount}
 

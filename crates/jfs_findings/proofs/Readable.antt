@@ -6,18 +6,18 @@ use Rattle.jfs_bits.specs.declared.rule.Rule.{Rule}
 use Rattle.jfs_inode.specs.Rules.{type_of}
 use Rattle.jfs_inode.specs.declared.fields.Dinode.{Dinode}
 use Rattle.jfs_name.specs.declared.name.NameEntry.{NameEntry}
-use Rattle.jfs_plain.specs.Tree.{Tree, is_dir}
-use Rattle.jfs_plain.specs.declared.node.Node.{Node}
-use Rattle.jfs_plain.specs.declared.reply.NodeKind.TheVariants.{Dir, File, Link, Other}
-use Rattle.jfs_objects.specs.Readers.{Readers}
-use Rattle.jfs_objects.specs.Volume.{Volume, home, slot_of}
-use Rattle.jfs_objects.specs.Objects.{Object, IsWhole, has_names, is_live, objects, object_in, spelled}
-use Rattle.jfs_objects.specs.Owners.{entries}
-use Rattle.jfs_objects.proofs.Sums.{sum_same}
-use Rattle.jfs_meaning.specs.Node.{kind_of, node_with, node_from, node_in, target_in}
-use Rattle.jfs_meaning.specs.Tree.{tree_on}
-use Rattle.jfs_meaning.specs.Consistent.{leading_to, names_in, names_to, names_for, is_directory, links_due}
-use Rattle.jfs_meaning.proofs.Books.{same_subdirectories}
+use Rattle.jfs_mount.specs.plain.specs.Tree.{Tree, is_dir}
+use Rattle.jfs_mount.specs.plain.specs.declared.node.Node.{Node}
+use Rattle.jfs_mount.specs.plain.specs.declared.reply.NodeKind.TheVariants.{Dir, File, Link, Other}
+use Rattle.jfs_mount.specs.objects.specs.Readers.{Readers}
+use Rattle.jfs_mount.specs.objects.specs.Volume.{Volume, home, slot_of}
+use Rattle.jfs_mount.specs.objects.specs.Objects.{Object, IsWhole, has_names, is_live, objects, object_in, spelled}
+use Rattle.jfs_mount.specs.objects.specs.Owners.{entries}
+use Rattle.jfs_mount.specs.objects.proofs.Sums.{sum_same}
+use Rattle.jfs_mount.specs.meaning.specs.Node.{kind_of, node_with, node_from, node_in, target_in}
+use Rattle.jfs_mount.specs.meaning.specs.Tree.{tree_on}
+use Rattle.jfs_mount.specs.meaning.specs.Consistent.{leading_to, names_in, names_to, names_for, is_directory, links_due}
+use Rattle.jfs_mount.specs.meaning.proofs.Books.{same_subdirectories}
 use Rattle.jfs_mount.specs.Subject.{Subject, volume, object}
 use Rattle.jfs_findings.specs.Names.{readable, readable_node}
 

@@ -6,9 +6,9 @@ use Rattle.std.proofs.lemmas.Bool.{cases_lt, leb-true, ltb-true, le-leb, lt-ltb,
 use Rattle.jfs_bits.specs.declared.descriptor.Pxd.{Pxd}
 use Rattle.jfs_bits.specs.declared.extent.Dxd.{Dxd}
 use Rattle.jfs_bits.specs.declared.extent.Xad.{Xad}
-use Rattle.jfs_objects.specs.Readers.{Readers}
-use Rattle.jfs_objects.specs.Objects.{Object, listed}
-use Rattle.jfs_objects.specs.Owners.{run_has, covers, dxd_has, entries, tree_held, data_held, attributes_held, holds}
+use Rattle.jfs_mount.specs.objects.specs.Readers.{Readers}
+use Rattle.jfs_mount.specs.objects.specs.Objects.{Object, listed}
+use Rattle.jfs_mount.specs.objects.specs.Owners.{run_has, covers, dxd_has, entries, tree_held, data_held, attributes_held, holds}
 use Rattle.jfs_findings.specs.Blocks.{HasRun, of_trees, of_data, of_attributes, IsFirstPast}
 
 pub in_run : (p : Pxd) (b : ℕ) → 0 < run_has p b → (p.addr ≤ b) × (b < p.addr + p.len)

@@ -9,17 +9,17 @@ use Rattle.jfs_bits.specs.declared.extent.Xad.{Xad}
 use Rattle.jfs_bits.specs.declared.rule.Rule.{Rule}
 use Rattle.jfs_bits.specs.Broken.{first_broken}
 use Rattle.jfs_inode.specs.Rules.{rows}
-use Rattle.jfs_bmap.specs.MapFile.{is_in_use, pages_of}
-use Rattle.jfs_plain.specs.Tree.{root}
-use Rattle.jfs_plain.specs.declared.node.Node.{Node}
-use Rattle.jfs_objects.specs.Volume.{home, room}
-use Rattle.jfs_objects.specs.Objects.{Object, IsWhole, listed}
-use Rattle.jfs_objects.specs.Owners.{owners, fixed, holds, bit, Agrees}
-use Rattle.jfs_objects.specs.Image.{file_page, file_walk}
-use Rattle.jfs_objects.proofs.Owned.{holds_none}
-use Rattle.jfs_objects.proofs.Found.{no_home}
-use Rattle.jfs_objects.proofs.Sums.{sum_zero}
-use Rattle.jfs_meaning.specs.Consistent.{leading_to, names_in, names_to, links_due}
+use Rattle.jfs_mount.specs.bmap.specs.MapFile.{is_in_use, pages_of}
+use Rattle.jfs_mount.specs.plain.specs.Tree.{root}
+use Rattle.jfs_mount.specs.plain.specs.declared.node.Node.{Node}
+use Rattle.jfs_mount.specs.objects.specs.Volume.{home, room}
+use Rattle.jfs_mount.specs.objects.specs.Objects.{Object, IsWhole, listed}
+use Rattle.jfs_mount.specs.objects.specs.Owners.{owners, fixed, holds, bit, Agrees}
+use Rattle.jfs_mount.specs.objects.specs.Image.{file_page, file_walk}
+use Rattle.jfs_mount.specs.objects.proofs.Owned.{holds_none}
+use Rattle.jfs_mount.specs.objects.proofs.Found.{no_home}
+use Rattle.jfs_mount.specs.objects.proofs.Sums.{sum_zero}
+use Rattle.jfs_mount.specs.meaning.specs.Consistent.{leading_to, names_in, names_to, links_due}
 use Rattle.jfs_mount.specs.Subject.{Subject, blocks, volume, object, IsObject, IsFilePage, page_named}
 use Rattle.jfs_mount.specs.Mount.{BadMount, broken_mount, iags, extent_at}
 use Rattle.jfs_findings.specs.Inodes.{blocks_owned, is_past}

@@ -7,17 +7,17 @@ use Rattle.std.proofs.lemmas.Bool.Decides.{nat_tests}
 use Rattle.std.proofs.lemmas.List.Sums.{sum_by-cons}
 use Rattle.jfs_bits.specs.declared.rule.Rule.{Rule}
 use Rattle.jfs_name.specs.declared.name.NameEntry.{NameEntry}
-use Rattle.jfs_plain.specs.Tree.{root}
-use Rattle.jfs_plain.specs.declared.node.Node.{Node}
-use Rattle.jfs_tree.specs.Walk.{Marks, Page, Key, Row, Fault, rows_of}
-use Rattle.jfs_tree.proofs.Judge.{judged}
-use Rattle.jfs_objects.specs.Objects.{Object, has_names}
-use Rattle.jfs_objects.specs.Changes.{put}
-use Rattle.jfs_objects.specs.Owners.{bit, entries, sum_below}
-use Rattle.jfs_objects.proofs.Owned.{outside}
-use Rattle.jfs_objects.proofs.Sums.{eq_or_not, sum_put, sum_zero, put_here, put_other}
-use Rattle.jfs_meaning.specs.Node.{node_in}
-use Rattle.jfs_meaning.specs.Consistent.{is_reserved, leading_to, names_in, names_for, names_to, links_due, IsConsistent}
+use Rattle.jfs_mount.specs.plain.specs.Tree.{root}
+use Rattle.jfs_mount.specs.plain.specs.declared.node.Node.{Node}
+use Rattle.jfs_mount.specs.page_tree.specs.Walk.{Marks, Page, Key, Row, Fault, rows_of}
+use Rattle.jfs_mount.specs.page_tree.proofs.Judge.{judged}
+use Rattle.jfs_mount.specs.objects.specs.Objects.{Object, has_names}
+use Rattle.jfs_mount.specs.objects.specs.Changes.{put}
+use Rattle.jfs_mount.specs.objects.specs.Owners.{bit, entries, sum_below}
+use Rattle.jfs_mount.specs.objects.proofs.Owned.{outside}
+use Rattle.jfs_mount.specs.objects.proofs.Sums.{eq_or_not, sum_put, sum_zero, put_here, put_other}
+use Rattle.jfs_mount.specs.meaning.specs.Node.{node_in}
+use Rattle.jfs_mount.specs.meaning.specs.Consistent.{is_reserved, leading_to, names_in, names_for, names_to, links_due, IsConsistent}
 use Rattle.jfs_mount.specs.Subject.{Subject, volume, object}
 use Rattle.jfs_findings.specs.Names.{readable, readable_node, most, leads, StandsAt, HasOneName}
 use Rattle.jfs_findings.specs.Clean.{IsSoundVolume, IsTidy}

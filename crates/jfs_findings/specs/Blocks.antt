@@ -5,9 +5,9 @@ use Rattle.std.specs.Int.RustNames.{bit_and}
 use Rattle.jfs_bits.specs.declared.descriptor.Pxd.{Pxd}
 use Rattle.jfs_bits.specs.declared.extent.Dxd.{Dxd}
 use Rattle.jfs_bits.specs.declared.extent.Xad.{Xad}
-use Rattle.jfs_objects.specs.Readers.{Readers}
-use Rattle.jfs_objects.specs.Objects.{Object, listed}
-use Rattle.jfs_objects.specs.Owners.{owners, entries, tree_held}
+use Rattle.jfs_mount.specs.objects.specs.Readers.{Readers}
+use Rattle.jfs_mount.specs.objects.specs.Objects.{Object, listed}
+use Rattle.jfs_mount.specs.objects.specs.Owners.{owners, entries, tree_held}
 use Rattle.jfs_mount.specs.Subject.{Subject, blocks, volume, IsObject, IsFilePage}
 
 -- some owner has the block

@@ -3,18 +3,18 @@ use Rattle.std.specs.Prelude.{◌≡◌, ◌<◌, ℕ, suc, true, false, List, S
 use Rattle.std.specs.List.{Contains}
 use Rattle.jfs_bits.specs.declared.extent.Xad.{Xad}
 use Rattle.jfs_bits.specs.Broken.{first_broken}
-use Rattle.jfs_bmap.specs.MapFile.{is_in_use}
+use Rattle.jfs_mount.specs.bmap.specs.MapFile.{is_in_use}
 use Rattle.jfs_inode.specs.Rules.{rows}
 use Rattle.jfs_name.specs.declared.name.NameEntry.{NameEntry}
-use Rattle.jfs_objects.specs.Objects.{Object, has_names, has_extents, listed}
-use Rattle.jfs_objects.specs.Owners.{IsSound}
-use Rattle.jfs_objects.specs.Image.{file_walk}
-use Rattle.jfs_meaning.specs.Consistent.{is_reserved, links_due}
+use Rattle.jfs_mount.specs.objects.specs.Objects.{Object, has_names, has_extents, listed}
+use Rattle.jfs_mount.specs.objects.specs.Owners.{IsSound}
+use Rattle.jfs_mount.specs.objects.specs.Image.{file_walk}
+use Rattle.jfs_mount.specs.meaning.specs.Consistent.{is_reserved, links_due}
 use Rattle.jfs_mount.specs.Subject.{Subject, blocks, volume, object}
 use Rattle.jfs_mount.specs.Mount.{broken_mount, iags}
 use Rattle.jfs_findings.specs.Inodes.{blocks_owned, is_past}
 use Rattle.jfs_findings.specs.Names.{readable, readable_node, most, leads, StandsAt, IsPlaced}
-use Rattle.jfs_tree.specs.Levels.{IsThinIn}
+use Rattle.jfs_mount.specs.page_tree.specs.Levels.{IsThinIn}
 use Rattle.jfs_findings.specs.Trees.{files, extent_nodes}
 use Rattle.jfs_findings.specs.Maps.{IsBlockMapPage, IsInodeMapPage}
 use Rattle.jfs_findings.specs.Findings.{IsFinding}

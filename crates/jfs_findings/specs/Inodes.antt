@@ -8,11 +8,11 @@ use Rattle.jfs_bits.specs.declared.extent.Dxd.{Dxd}
 use Rattle.jfs_bits.specs.Broken.{first_broken}
 use Rattle.jfs_inode.specs.declared.read.BadInode.{BadInode}
 use Rattle.jfs_inode.specs.Rules.{rows}
-use Rattle.jfs_tree.specs.Walk.{Marks, Page, Key, Row, Fault}
-use Rattle.jfs_tree.specs.Spells.{no_page}
-use Rattle.jfs_objects.specs.Readers.{Readers}
-use Rattle.jfs_objects.specs.Objects.{Object, listed}
-use Rattle.jfs_objects.specs.Owners.{unless_broken, entries}
+use Rattle.jfs_mount.specs.page_tree.specs.Walk.{Marks, Page, Key, Row, Fault}
+use Rattle.jfs_mount.specs.page_tree.specs.Spells.{no_page}
+use Rattle.jfs_mount.specs.objects.specs.Readers.{Readers}
+use Rattle.jfs_mount.specs.objects.specs.Objects.{Object, listed}
+use Rattle.jfs_mount.specs.objects.specs.Owners.{unless_broken, entries}
 use Rattle.jfs_mount.specs.Subject.{Subject, IsObject}
 
 -- An inode in use breaks a rule of an inode.

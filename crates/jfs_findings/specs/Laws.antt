@@ -3,10 +3,10 @@ use Rattle.std.specs.Prelude.{◌≡◌, ℕ, Bool, List}
 use Rattle.jfs_bits.specs.declared.descriptor.Pxd.{Pxd}
 use Rattle.jfs_super.specs.Rules.{IsAccepted}
 use Rattle.jfs_super.specs.declared.fields.Super.{Super}
-use Rattle.jfs_bmap.specs.MapFile.{IsMapPage}
+use Rattle.jfs_mount.specs.bmap.specs.MapFile.{IsMapPage}
 use Rattle.jfs_iag.specs.Canonical.{IsIagPage, IsControlPage}
 use Rattle.jfs_iag.specs.declared.canonical.Links.{Links}
-use Rattle.jfs_meaning.specs.Image.{IsConsistentImage}
+use Rattle.jfs_mount.specs.meaning.specs.Image.{IsConsistentImage}
 use Rattle.jfs_mount.specs.Subject.{Subject, subject_of}
 use Rattle.jfs_findings.specs.Maps.{IsMapPageAs, IsIagAs, IsInodeControlAs}
 use Rattle.jfs_findings.specs.Clean.{HasNoFinding, IsSoundVolume, IsTidy}

@@ -4,11 +4,11 @@ use Rattle.std.specs.Int.{cast_signed, w8}
 use Rattle.jfs_bits.specs.declared.descriptor.Pxd.{Pxd}
 use Rattle.jfs_bits.specs.Bits.{is_taken, greatest_run, count_below}
 use Rattle.jfs_bits.specs.Field.{field_of, range_of, put_bytes}
-use Rattle.jfs_dmapctl.specs.Control.{IsControl}
-use Rattle.jfs_bmap.specs.Pages.{leaf_ranks}
-use Rattle.jfs_bmap.specs.MapFile.{IsDmapPage, is_in_use}
+use Rattle.jfs_mount.specs.dmapctl.specs.Control.{IsControl}
+use Rattle.jfs_mount.specs.bmap.specs.Pages.{leaf_ranks}
+use Rattle.jfs_mount.specs.bmap.specs.MapFile.{IsDmapPage, is_in_use}
 use Rattle.jfs_iag.specs.Canonical.{is_there, has_free, is_free_inode}
-use Rattle.jfs_objects.specs.Image.{file_page}
+use Rattle.jfs_mount.specs.objects.specs.Image.{file_page}
 use Rattle.jfs_mount.specs.Subject.{Subject, blocks, object, IsFilePage}
 use Rattle.jfs_mount.specs.Mount.{iags, extent_at}
 use Rattle.jfs_findings.specs.Blocks.{is_owned}

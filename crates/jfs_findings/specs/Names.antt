@@ -1,15 +1,15 @@
 -- What is wrong with names, link counts and parents.
 use Rattle.std.specs.Prelude.{◌≡◌, ◌≢◌, ℕ, Bool, true, false, not, ◌&&◌, List, ◌∷◌, ◌++◌, is_some, option_map, Ok}
 use Rattle.jfs_name.specs.declared.name.NameEntry.{NameEntry}
-use Rattle.jfs_plain.specs.Tree.{Tree, root}
-use Rattle.jfs_plain.specs.declared.node.Node.{Node}
-use Rattle.jfs_tree.specs.Walk.{Marks, Row}
-use Rattle.jfs_objects.specs.Volume.{room}
-use Rattle.jfs_objects.specs.Objects.{Object, has_names, listed}
-use Rattle.jfs_objects.specs.Owners.{entries}
-use Rattle.jfs_meaning.specs.Node.{node_with, target_in}
-use Rattle.jfs_meaning.specs.Tree.{byte_on}
-use Rattle.jfs_meaning.specs.Consistent.{is_reserved, leading_to, names_in, names_to, links_due}
+use Rattle.jfs_mount.specs.plain.specs.Tree.{Tree, root}
+use Rattle.jfs_mount.specs.plain.specs.declared.node.Node.{Node}
+use Rattle.jfs_mount.specs.page_tree.specs.Walk.{Marks, Row}
+use Rattle.jfs_mount.specs.objects.specs.Volume.{room}
+use Rattle.jfs_mount.specs.objects.specs.Objects.{Object, has_names, listed}
+use Rattle.jfs_mount.specs.objects.specs.Owners.{entries}
+use Rattle.jfs_mount.specs.meaning.specs.Node.{node_with, target_in}
+use Rattle.jfs_mount.specs.meaning.specs.Tree.{byte_on}
+use Rattle.jfs_mount.specs.meaning.specs.Consistent.{is_reserved, leading_to, names_in, names_to, links_due}
 use Rattle.jfs_mount.specs.Subject.{Subject, volume, object, IsObject, page_named}
 
 -- The file tree as far as it can be read: a directory whose tree breaks a rule has no names.

@@ -4,11 +4,11 @@ use Rattle.std.specs.List.{Contains}
 use Rattle.jfs_bits.specs.declared.extent.Xad.{Xad}
 use Rattle.jfs_bits.specs.declared.rule.Rule.{Rule}
 use Rattle.jfs_inode.specs.declared.fields.Dinode.{Dinode}
-use Rattle.jfs_tree.specs.Walk.{Node}
-use Rattle.jfs_tree.specs.Levels.{IsThinIn}
-use Rattle.jfs_tree.specs.Spells.{no_page, with_root}
-use Rattle.jfs_objects.specs.Objects.{Object, has_extents, listed}
-use Rattle.jfs_objects.specs.Image.{file_walk}
+use Rattle.jfs_mount.specs.page_tree.specs.Walk.{Node}
+use Rattle.jfs_mount.specs.page_tree.specs.Levels.{IsThinIn}
+use Rattle.jfs_mount.specs.page_tree.specs.Spells.{no_page, with_root}
+use Rattle.jfs_mount.specs.objects.specs.Objects.{Object, has_extents, listed}
+use Rattle.jfs_mount.specs.objects.specs.Image.{file_walk}
 use Rattle.jfs_mount.specs.Subject.{Subject, IsObject, page_named}
 
 -- the aggregate's inodes whose extents are walked: the block map's file, the bad blocks' and the inode map's

@@ -7,18 +7,18 @@ use Rattle.jfs_bits.specs.declared.extent.Xad.{Xad}
 use Rattle.jfs_bits.specs.declared.rule.Rule.{Rule}
 use Rattle.jfs_inode.specs.declared.fields.Dinode.{Dinode}
 use Rattle.jfs_disk.specs.Image.{Image, page_of}
-use Rattle.jfs_tree.specs.Walk.{Node}
-use Rattle.jfs_tree.specs.Spells.{tree_of}
-use Rattle.jfs_objects.specs.Readers.{Readers}
-use Rattle.jfs_objects.specs.Objects.{listed}
-use Rattle.jfs_objects.specs.Owners.{entries}
-use Rattle.jfs_objects.specs.Contents.{block_of}
-use Rattle.jfs_objects.specs.Image.{aggregate_at, file_walk, file_extents}
-use Rattle.jfs_format.specs.Inodes.{aggregate_inode}
-use Rattle.jfs_format.specs.Layout.{IsLayout, map_pages, inode_map}
-use Rattle.jfs_format.specs.Root.{one_extent, whole_file}
-use Rattle.jfs_format.specs.Volume.{IsNewVolume}
-use Rattle.jfs_format.specs.declared.volume.NewVolume.{NewVolume}
+use Rattle.jfs_new_volume.specs.page_tree.specs.Walk.{Node}
+use Rattle.jfs_new_volume.specs.page_tree.specs.Spells.{tree_of}
+use Rattle.jfs_new_volume.specs.objects.specs.Readers.{Readers}
+use Rattle.jfs_new_volume.specs.objects.specs.Objects.{listed}
+use Rattle.jfs_new_volume.specs.objects.specs.Owners.{entries}
+use Rattle.jfs_new_volume.specs.objects.specs.Contents.{block_of}
+use Rattle.jfs_new_volume.specs.objects.specs.Image.{aggregate_at, file_walk, file_extents}
+use Rattle.jfs_new_volume.specs.format.specs.Inodes.{aggregate_inode}
+use Rattle.jfs_new_volume.specs.format.specs.Layout.{IsLayout, map_pages, inode_map}
+use Rattle.jfs_new_volume.specs.format.specs.Root.{one_extent, whole_file}
+use Rattle.jfs_new_volume.specs.format.specs.Volume.{IsNewVolume}
+use Rattle.jfs_new_volume.specs.format.specs.declared.volume.NewVolume.{NewVolume}
 use Rattle.jfs_new_volume.specs.Roots.{ReadsRoots}
 use Rattle.jfs_new_volume.proofs.Roots.{one_walk, one_listed}
 use Rattle.jfs_new_volume.proofs.Files.{aggregate_is}

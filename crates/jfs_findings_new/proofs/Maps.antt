@@ -8,14 +8,14 @@ use Rattle.jfs_disk.specs.Image.{Image, page_of}
 use Rattle.jfs_iag.specs.Iag.{no_run}
 use Rattle.jfs_iag.specs.declared.canonical.Links.{Links}
 use Rattle.jfs_iag.specs.Canonical.{IsIagPage}
-use Rattle.jfs_imap.specs.Inodes.{is_used, extent_at}
-use Rattle.jfs_objects.specs.Readers.{Readers}
-use Rattle.jfs_objects.specs.Image.{file_page, iag_page}
-use Rattle.jfs_format.specs.Layout.{IsLayout, inode_map, map_pages}
-use Rattle.jfs_format.specs.Inodes.{in_use}
-use Rattle.jfs_format.specs.Volume.{inodes_in, IsNewVolume}
-use Rattle.jfs_format.specs.declared.tables.Table.TheVariants.{Fileset}
-use Rattle.jfs_format.specs.declared.volume.NewVolume.{NewVolume}
+use Rattle.jfs_new_volume.specs.imap.specs.Inodes.{is_used, extent_at}
+use Rattle.jfs_new_volume.specs.objects.specs.Readers.{Readers}
+use Rattle.jfs_new_volume.specs.objects.specs.Image.{file_page, iag_page}
+use Rattle.jfs_new_volume.specs.format.specs.Layout.{IsLayout, inode_map, map_pages}
+use Rattle.jfs_new_volume.specs.format.specs.Inodes.{in_use}
+use Rattle.jfs_new_volume.specs.format.specs.Volume.{inodes_in, IsNewVolume}
+use Rattle.jfs_new_volume.specs.format.specs.declared.tables.Table.TheVariants.{Fileset}
+use Rattle.jfs_new_volume.specs.format.specs.declared.volume.NewVolume.{NewVolume}
 use Rattle.jfs_new_volume.specs.Roots.{ReadsRoots}
 use Rattle.jfs_new_volume.proofs.Files.{page_is}
 

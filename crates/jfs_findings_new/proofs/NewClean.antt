@@ -9,22 +9,22 @@ use Rattle.jfs_disk.specs.Image.{Image, page_of}
 use Rattle.jfs_inode.specs.declared.fields.Dinode.{Dinode}
 use Rattle.jfs_inode.specs.Rules.{type_of}
 use Rattle.jfs_super.specs.Rules.{blocks_of}
-use Rattle.jfs_tree.specs.Walk.{Leaf}
+use Rattle.jfs_new_volume.specs.page_tree.specs.Walk.{Leaf}
 use Rattle.jfs_iag.specs.Canonical.{is_there}
-use Rattle.jfs_bmap.specs.MapFile.{IsMapPage, is_in_use, pages_of}
-use Rattle.jfs_imap.specs.Inodes.{is_used, extent_at as new_extent}
-use Rattle.jfs_objects.specs.Volume.{Volume, home}
-use Rattle.jfs_objects.specs.Objects.{Object, has_extents, objects}
-use Rattle.jfs_objects.specs.Owners.{IsSound, owners, bit}
-use Rattle.jfs_objects.specs.Image.{volume_on, file_page, is_block_used}
-use Rattle.jfs_meaning.specs.Readers.{readers}
-use Rattle.jfs_format.specs.Layout.{IsLayout, map_pages, inode_map, first_inodes, owned_blocks, is_taken_block}
-use Rattle.jfs_format.specs.Inodes.{fileset_inode}
-use Rattle.jfs_format.specs.Root.{no_extents}
-use Rattle.jfs_format.specs.Superblock.{new_super}
-use Rattle.jfs_format.specs.Volume.{inodes_in, IsNewVolume}
-use Rattle.jfs_format.specs.declared.tables.Table.TheVariants.{Fileset}
-use Rattle.jfs_format.specs.declared.volume.NewVolume.{NewVolume}
+use Rattle.jfs_new_volume.specs.bmap.specs.MapFile.{IsMapPage, is_in_use, pages_of}
+use Rattle.jfs_new_volume.specs.imap.specs.Inodes.{is_used, extent_at as new_extent}
+use Rattle.jfs_new_volume.specs.objects.specs.Volume.{Volume, home}
+use Rattle.jfs_new_volume.specs.objects.specs.Objects.{Object, has_extents, objects}
+use Rattle.jfs_new_volume.specs.objects.specs.Owners.{IsSound, owners, bit}
+use Rattle.jfs_new_volume.specs.objects.specs.Image.{volume_on, file_page, is_block_used}
+use Rattle.jfs_new_volume.specs.meaning.specs.Readers.{readers}
+use Rattle.jfs_new_volume.specs.format.specs.Layout.{IsLayout, map_pages, inode_map, first_inodes, owned_blocks, is_taken_block}
+use Rattle.jfs_new_volume.specs.format.specs.Inodes.{fileset_inode}
+use Rattle.jfs_new_volume.specs.format.specs.Root.{no_extents}
+use Rattle.jfs_new_volume.specs.format.specs.Superblock.{new_super}
+use Rattle.jfs_new_volume.specs.format.specs.Volume.{inodes_in, IsNewVolume}
+use Rattle.jfs_new_volume.specs.format.specs.declared.tables.Table.TheVariants.{Fileset}
+use Rattle.jfs_new_volume.specs.format.specs.declared.volume.NewVolume.{NewVolume}
 use Rattle.jfs_new_volume.specs.Roots.{ReadsRoots}
 use Rattle.jfs_new_volume.specs.Law.{new_on, new_object}
 use Rattle.jfs_new_volume.proofs.RealRoots.{reads_roots}
@@ -32,14 +32,14 @@ use Rattle.jfs_new_volume.proofs.Agreed.{new_volume}
 use Rattle.jfs_new_volume.proofs.Files.{slot_is}
 use Rattle.jfs_new_volume.proofs.Maps.{iags_are, home_is, block_is}
 use Rattle.jfs_new_volume.proofs.Tree.{new_volume_tree}
-use Rattle.jfs_mount.specs.Subject.{Subject, blocks, volume, object}
-use Rattle.jfs_mount.specs.Mount.{broken_mount, mount_rows, covered, fitting, fits_extent, extent_at, iags, place, root_row}
+use Rattle.jfs_findings.specs.mount_rules.specs.Subject.{Subject, blocks, volume, object}
+use Rattle.jfs_findings.specs.mount_rules.specs.Mount.{broken_mount, mount_rows, covered, fitting, fits_extent, extent_at, iags, place, root_row}
 use Rattle.jfs_findings.specs.Inodes.{blocks_owned, is_past}
 use Rattle.jfs_findings.specs.Names.{StandsAt}
 use Rattle.jfs_findings.specs.Trees.{extent_nodes}
 use Rattle.jfs_findings.specs.Maps.{has_to_be_taken, IsMapPageAs, IsInodePageAs, IsBlockMapPage, IsInodeMapPage}
 use Rattle.jfs_findings.specs.Clean.{IsSoundVolume}
-use Rattle.jfs_mount.specs.Subject.{subject_of}
+use Rattle.jfs_findings.specs.mount_rules.specs.Subject.{subject_of}
 use Rattle.jfs_findings.proofs.Clean.{clean}
 use Rattle.jfs_findings.proofs.Compared.{map_page_as, iag_page_as, control_page_as}
 use Rattle.jfs_findings_new.specs.Law.{NewCleanLaw}

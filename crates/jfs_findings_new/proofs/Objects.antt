@@ -8,20 +8,20 @@ use Rattle.jfs_bits.specs.Field.{field_of, range_of}
 use Rattle.jfs_bits.specs.Field as bytes
 use Rattle.jfs_bits.specs.Piece as parts
 use Rattle.jfs_name.specs.declared.name.NameEntry.{NameEntry}
-use Rattle.jfs_tree.specs.Walk.{Node, Leaf, Page, Row, Marks}
-use Rattle.jfs_tree.specs.Spells.{no_page}
-use Rattle.jfs_objects.specs.Readers.{Readers}
-use Rattle.jfs_objects.specs.Objects.{Object, has_names, has_extents}
-use Rattle.jfs_plain.specs.Tree.{root}
-use Rattle.jfs_meaning.specs.Consistent.{is_reserved, leading_to, names_in, links_due}
-use Rattle.jfs_objects.proofs.Sums.{sum_zero}
-use Rattle.jfs_format.specs.Root.{empty_root, no_extents}
-use Rattle.jfs_format.specs.declared.volume.NewVolume.{NewVolume}
+use Rattle.jfs_new_volume.specs.page_tree.specs.Walk.{Node, Leaf, Page, Row, Marks}
+use Rattle.jfs_new_volume.specs.page_tree.specs.Spells.{no_page}
+use Rattle.jfs_new_volume.specs.objects.specs.Readers.{Readers}
+use Rattle.jfs_new_volume.specs.objects.specs.Objects.{Object, has_names, has_extents}
+use Rattle.jfs_new_volume.specs.plain.specs.Tree.{root}
+use Rattle.jfs_new_volume.specs.meaning.specs.Consistent.{is_reserved, leading_to, names_in, links_due}
+use Rattle.jfs_new_volume.specs.objects.proofs.Sums.{sum_zero}
+use Rattle.jfs_new_volume.specs.format.specs.Root.{empty_root, no_extents}
+use Rattle.jfs_new_volume.specs.format.specs.declared.volume.NewVolume.{NewVolume}
 use Rattle.jfs_new_volume.specs.Law.{new_object}
-use Rattle.jfs_mount.specs.Subject.{Subject, object}
+use Rattle.jfs_findings.specs.mount_rules.specs.Subject.{Subject, object}
 use Rattle.jfs_findings.specs.Inodes.{blocks_owned, is_past}
 use Rattle.jfs_findings.specs.Names.{readable, readable_node, most, StandsAt, IsPlaced}
-use Rattle.jfs_tree.specs.Levels.{level, pages_below, IsThinIn}
+use Rattle.jfs_new_volume.specs.page_tree.specs.Levels.{level, pages_below, IsThinIn}
 
 -- a walk that meets a root alone, or nothing, has no entry
 no_mark : {P E : Type 0} (page : ℕ) (e : E) (front back : Marks P E) → (let none : Marks P E = [] in none) ≡ front ++ Row page e ∷ back → ⊥

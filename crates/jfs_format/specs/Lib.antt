@@ -12,3 +12,7 @@ pub mod Map
 pub mod Leaves
 pub mod Areas
 pub mod Steps
+-- libraries below, passed on
+pub use Rattle.jfs_bmap as bmap
+pub use Rattle.jfs_imap as imap
+pub use Rattle.jfs_logpages as logpages

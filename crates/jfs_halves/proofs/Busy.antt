@@ -2,8 +2,8 @@
 use Rattle.std.proofs.Common.{◌≡◌, ◌<◌, ◌≤◌, ◌⊎◌, ℕ, suc, true, false, List, [], ◌∷◌, length, slice_index_or, refl, sym, ap, ◌∙◌, inl, inr, arith}
 use Rattle.std.proofs.lemmas.Bool.{cases_Bool, cases_lt, lt-leb}
 use Rattle.std.proofs.lemmas.List.{get_or_past}
-use Rattle.jfs_bmap.specs.States.{Blocks, BlockState, Free, Owned, Busy, state_of, settled_state, blocks_settled}
-use Rattle.jfs_bmap.proofs.States.{changed-at}
+use Rattle.jfs_map_files.specs.bmap.specs.States.{Blocks, BlockState, Free, Owned, Busy, state_of, settled_state, blocks_settled}
+use Rattle.jfs_map_files.specs.bmap.proofs.States.{changed-at}
 use Rattle.jfs_halves.specs.Entry.{Happened, edits}
 use Rattle.jfs_halves.specs.Marks.{takes, frees, entered_state}
 use Rattle.jfs_halves.specs.Half.{VolumeHalf}

@@ -2,7 +2,7 @@
 use Rattle.std.specs.Prelude.{◌≡◌, ◌<◌, ◌≤◌, ◌⊎◌, ◌++◌, ◌∷◌, [], ℕ, suc, true, false, List, length, slice_get, IsSome, Some, None}
 use Rattle.jfs_disk.specs.Crash.{DiskState}
 use Rattle.jfs_disk.specs.declared.disk.Fault.{Fault}
-use Rattle.jfs_bmap.specs.States.{Blocks, state_of, is_busy_state}
+use Rattle.jfs_map_files.specs.bmap.specs.States.{Blocks, state_of, is_busy_state}
 use Rattle.jfs_core.specs.Image.{pages_after}
 use Rattle.jfs_core.specs.Step.{EndsBy}
 use Rattle.jfs_halves.specs.Entry.{Happened, edits}

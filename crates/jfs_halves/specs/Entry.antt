@@ -3,8 +3,8 @@ use Rattle.std.specs.Prelude.{ℕ, Bool, List, [], ◌∷◌, if◌then◌else�
 use Rattle.jfs_bits.specs.declared.descriptor.Moment.{Moment}
 use Rattle.jfs_disk.specs.Image.{Image}
 use Rattle.jfs_ranges.specs.declared.edit.Edit.{Edit}
-use Rattle.jfs_bmap.specs.States.{Blocks}
-use Rattle.jfs_imap.specs.Inodes.{Inodes}
+use Rattle.jfs_map_files.specs.bmap.specs.States.{Blocks}
+use Rattle.jfs_map_files.specs.imap.specs.Inodes.{Inodes}
 use Rattle.jfs_plain.specs.declared.call.Call.{Call}
 use Rattle.jfs_plain.specs.declared.call.Entry.{Entry}
 use Rattle.jfs_plain.specs.declared.reply.Reply.{Reply}

@@ -4,7 +4,7 @@ use Rattle.jfs_disk.specs.Image.{Image, page_of}
 use Rattle.jfs_disk.specs.Crash.{DiskState, torn}
 use Rattle.jfs_disk.specs.declared.disk.Fault.{Fault}
 use Rattle.jfs_ranges.specs.Apply.{touches_tx}
-use Rattle.jfs_bmap.specs.States.{blocks_settled}
+use Rattle.jfs_map_files.specs.bmap.specs.States.{blocks_settled}
 use Rattle.jfs_records.specs.Entries.{Item, point, text_size}
 use Rattle.jfs_core.specs.Core.{Block, Core, no_block}
 use Rattle.jfs_core.specs.Step.{marked, sent_home, failed_home, synced, halted_by}

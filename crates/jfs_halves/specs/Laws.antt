@@ -12,7 +12,7 @@ use Rattle.jfs_core.specs.Step.{AreAllowed, after_steps}
 use Rattle.jfs_core.specs.Sound.{IsSound, IsLogImage, AlwaysRecovers, Survives}
 use Rattle.jfs_records.specs.Entries.{point}
 use Rattle.jfs_halves.specs.Entry.{Shown, Happened, edits, image_after}
-use Rattle.jfs_bmap.specs.States.{Busy, state_of}
+use Rattle.jfs_map_files.specs.bmap.specs.States.{Busy, state_of}
 use Rattle.jfs_halves.specs.Half.{VolumeHalf, Halves, is_open, core_of, page_in, low_in}
 use Rattle.jfs_halves.specs.Change.{Change, after as after_volume, FitAll as FitAllOfVolume, Enters, Takes, Tells, HandsOut, GoesHome, Tears, Drops, Writes, WriteTears, Stops, LogStops, Syncs, Points, Knows}
 use Rattle.jfs_halves.specs.Both.{BothChange, Changes, GroupIsWritten, GroupFails, changed, FitAll, after, states_after}

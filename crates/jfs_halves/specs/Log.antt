@@ -4,9 +4,9 @@ use Rattle.jfs_disk.specs.Image.{Image}
 use Rattle.jfs_disk.specs.Crash.{DiskState, last_of}
 use Rattle.jfs_disk.specs.Moment.{IsResting}
 use Rattle.jfs_disk.specs.declared.disk.Fault.{Fault}
-use Rattle.jfs_logpages.specs.declared.last.Last.{Last}
-use Rattle.jfs_logpages.specs.Group.{Holds, position_of}
-use Rattle.jfs_logpages.specs.Records.{log_text}
+use Rattle.jfs_records.specs.logpages.specs.declared.last.Last.{Last}
+use Rattle.jfs_records.specs.logpages.specs.Group.{Holds, position_of}
+use Rattle.jfs_records.specs.logpages.specs.Records.{log_text}
 use Rattle.jfs_records.specs.Entries.{log_records, text_size}
 use Rattle.jfs_halves.specs.Half.{Halves, LogHalf}
 

@@ -2,7 +2,7 @@
 use Rattle.std.specs.Prelude.{◌≡◌, ℕ, Bool, true, false, not, ◌&&◌, ◌||◌, if◌then◌else◌, List, [], ◌∷◌, Option, Some, None}
 use Rattle.jfs_ranges.specs.declared.edit.Edit.{Edit}
 use Rattle.jfs_ranges.specs.Apply.{touches_tx}
-use Rattle.jfs_bmap.specs.States.{Blocks, BlockState, Free, Owned, state_of, changed, released_state}
+use Rattle.jfs_map_files.specs.bmap.specs.States.{Blocks, BlockState, Free, Owned, state_of, changed, released_state}
 use Rattle.jfs_records.specs.Marks.{mark_of}
 use Rattle.jfs_records.specs.Redo.{is_noredo}
 

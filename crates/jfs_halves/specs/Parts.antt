@@ -4,13 +4,13 @@ use Rattle.std.specs.List.{AllByRecursion}
 use Rattle.jfs_disk.specs.Image.{Image, page_of}
 use Rattle.jfs_disk.specs.Crash.{DiskState, last_of}
 use Rattle.jfs_disk.specs.declared.disk.Fault.{Fault}
-use Rattle.jfs_bmap.specs.States.{Blocks}
-use Rattle.jfs_imap.specs.Inodes.{Inodes}
+use Rattle.jfs_map_files.specs.bmap.specs.States.{Blocks}
+use Rattle.jfs_map_files.specs.imap.specs.Inodes.{Inodes}
 use Rattle.jfs_map_files.specs.declared.map_file.MapFiles.{MapFiles}
 use Rattle.jfs_pages.specs.declared.dirty.Dirty.{Dirty}
 use Rattle.jfs_pages.specs.Dirty.{dirty_of}
 use Rattle.jfs_plain.specs.declared.call.Entry.{Entry}
-use Rattle.jfs_logpages.specs.Records.{log_text, ends_of}
+use Rattle.jfs_records.specs.logpages.specs.Records.{log_text, ends_of}
 use Rattle.jfs_records.specs.Entries.{log_records}
 use Rattle.jfs_core.specs.declared.block.Span.{Span}
 use Rattle.jfs_halves.specs.declared.freed.FreedPage.{FreedPage}

@@ -8,3 +8,5 @@ pub mod Tree
 pub mod Judged
 pub mod Tallied
 pub mod Room
+
+-- libraries below, passed on

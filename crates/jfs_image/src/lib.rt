@@ -21,3 +21,5 @@ mod view;
 pub use room::{Room, room_of};
 pub use tree::tree_of;
 pub use view::ListView;
+
+// libraries below, passed on

@@ -21,6 +21,8 @@ mod inodes;
 #[cfg(test)]
 mod maps;
 
+// libraries below, passed on
+
 /// The root directory of a new volume, with a value of its own in each field that a new volume leaves at 0.
 pub fn root() -> Dinode
     ensures { FitsDinode result }

@@ -8,9 +8,9 @@ use Rattle.jfs_bits.specs.Field.{field_of, range_of}
 use Rattle.jfs_bits.specs.Descriptor.{pxd_of}
 use Rattle.jfs_bits.specs.Bits.{is_taken}
 use Rattle.jfs_inode.specs.declared.fields.Dinode.{Dinode}
-use Rattle.jfs_tree.specs.Walk.{Marks}
-use Rattle.jfs_tree.specs.Spells.{tree_of, footprint as root_footprint}
-use Rattle.jfs_tree.proofs.Footprint.{tree_frame}
+use Rattle.jfs_objects.specs.page_tree.specs.Walk.{Marks}
+use Rattle.jfs_objects.specs.page_tree.specs.Spells.{tree_of, footprint as root_footprint}
+use Rattle.jfs_objects.specs.page_tree.proofs.Footprint.{tree_frame}
 use Rattle.jfs_objects.specs.Readers.{Readers}
 use Rattle.jfs_objects.specs.Volume.{Volume, room, home, slot_of}
 use Rattle.jfs_objects.specs.Objects.{objects, met, listed}

@@ -2,3 +2,6 @@
 pub mod Owner
 pub mod Laws
 pub mod Images
+-- libraries below, passed on
+pub use Rattle.jfs_objects as objects
+pub use Rattle.jfs_objects.specs.page_tree

@@ -10,14 +10,14 @@ use Rattle.jfs_inode.specs.Rules.{known_types, rows}
 use Rattle.jfs_inode.specs.declared.fields.Dinode.{Dinode}
 use Rattle.jfs_inode.specs.declared.read.BadInode.{BadInode}
 use Rattle.jfs_name.specs.declared.name.NameEntry.{NameEntry}
-use Rattle.jfs_dtree.specs.Spells.{spells_names}
-use Rattle.jfs_objects.specs.Readers.{Readers}
-use Rattle.jfs_objects.specs.Volume.{Volume, home, slot_of}
-use Rattle.jfs_objects.specs.Objects.{Object, objects, spelled, is_live, has_names, listed}
-use Rattle.jfs_objects.specs.Owners.{IsSound}
-use Rattle.jfs_objects.specs.Changes.{put}
-use Rattle.jfs_objects.proofs.Found.{object_at, no_object_at, no_home}
-use Rattle.jfs_objects.proofs.Sums.{put_here, put_other, eq_or_not}
+use Rattle.jfs_meaning.specs.dtree.specs.Spells.{spells_names}
+use Rattle.jfs_meaning.specs.objects.specs.Readers.{Readers}
+use Rattle.jfs_meaning.specs.objects.specs.Volume.{Volume, home, slot_of}
+use Rattle.jfs_meaning.specs.objects.specs.Objects.{Object, objects, spelled, is_live, has_names, listed}
+use Rattle.jfs_meaning.specs.objects.specs.Owners.{IsSound}
+use Rattle.jfs_meaning.specs.objects.specs.Changes.{put}
+use Rattle.jfs_meaning.specs.objects.proofs.Found.{object_at, no_object_at, no_home}
+use Rattle.jfs_meaning.specs.objects.proofs.Sums.{put_here, put_other, eq_or_not}
 use Rattle.jfs_meaning.specs.Readers.{readers, root_of}
 use Rattle.jfs_lead_steps.proofs.Chain.{some_is}
 use Rattle.jfs_lead_steps.proofs.Turned.{names_listed}

@@ -4,17 +4,17 @@ use Rattle.std.specs.Option.{option_map}
 use Rattle.jfs_bits.specs.Broken.{first_broken}
 use Rattle.jfs_inode.specs.Rules.{rows}
 use Rattle.jfs_inode.specs.declared.fields.Dinode.{Dinode}
-use Rattle.jfs_plain.specs.Tree.{Tree}
-use Rattle.jfs_plain.specs.Moves.{Same, changed, dropped}
-use Rattle.jfs_plain.specs.declared.node.Node.{Node}
-use Rattle.jfs_objects.specs.Readers.{Readers}
-use Rattle.jfs_objects.specs.Volume.{Volume}
-use Rattle.jfs_objects.specs.Objects.{Object, objects, spelled}
-use Rattle.jfs_objects.specs.Changes.{put, SetsObject, DropsObject}
-use Rattle.jfs_objects.specs.Laws.{ChangesOne}
-use Rattle.jfs_objects.proofs.Sums.{put_here, put_other, eq_or_not}
-use Rattle.jfs_objects.proofs.Set.{object_is_set}
-use Rattle.jfs_objects.proofs.Drop.{object_goes}
+use Rattle.jfs_meaning.specs.plain.specs.Tree.{Tree}
+use Rattle.jfs_meaning.specs.plain.specs.Moves.{Same, changed, dropped}
+use Rattle.jfs_meaning.specs.plain.specs.declared.node.Node.{Node}
+use Rattle.jfs_meaning.specs.objects.specs.Readers.{Readers}
+use Rattle.jfs_meaning.specs.objects.specs.Volume.{Volume}
+use Rattle.jfs_meaning.specs.objects.specs.Objects.{Object, objects, spelled}
+use Rattle.jfs_meaning.specs.objects.specs.Changes.{put, SetsObject, DropsObject}
+use Rattle.jfs_meaning.specs.objects.specs.Laws.{ChangesOne}
+use Rattle.jfs_meaning.specs.objects.proofs.Sums.{put_here, put_other, eq_or_not}
+use Rattle.jfs_meaning.specs.objects.proofs.Set.{object_is_set}
+use Rattle.jfs_meaning.specs.objects.proofs.Drop.{object_goes}
 use Rattle.jfs_meaning.specs.Contents.{byte_in}
 use Rattle.jfs_meaning.specs.Node.{node_of}
 use Rattle.jfs_meaning.specs.Tree.{node_on, byte_on, tree_on}

@@ -15,17 +15,17 @@ use Rattle.jfs_inode.specs.declared.fields.Dinode.{Dinode}
 use Rattle.jfs_inode.specs.declared.read.BadInode.{BadInode}
 use Rattle.jfs_name.specs.declared.name.NameEntry.{NameEntry}
 use Rattle.jfs_dtpage.specs.declared.head.DtForm.TheVariants as names
-use Rattle.jfs_dtree.specs.Node.{dt_node}
-use Rattle.jfs_dtree.specs.Parent.{parent_of}
-use Rattle.jfs_plain.specs.Tree.{Tree}
-use Rattle.jfs_plain.specs.Moves.{changed, stamped, rises, falls, moves}
-use Rattle.jfs_plain.specs.declared.node.Node.{Node}
-use Rattle.jfs_objects.specs.Readers.{Readers}
-use Rattle.jfs_objects.specs.Volume.{Volume}
-use Rattle.jfs_objects.specs.Objects.{Object, IsWhole, objects, spelled, is_live, has_names, listed}
-use Rattle.jfs_objects.specs.Owners.{IsSound, holds}
-use Rattle.jfs_objects.specs.Changes.{put, PutsInode, SetsObject}
-use Rattle.jfs_objects.proofs.Sums.{put_here, put_other, eq_or_not}
+use Rattle.jfs_meaning.specs.dtree.specs.Node.{dt_node}
+use Rattle.jfs_meaning.specs.dtree.specs.Parent.{parent_of}
+use Rattle.jfs_meaning.specs.plain.specs.Tree.{Tree}
+use Rattle.jfs_meaning.specs.plain.specs.Moves.{changed, stamped, rises, falls, moves}
+use Rattle.jfs_meaning.specs.plain.specs.declared.node.Node.{Node}
+use Rattle.jfs_meaning.specs.objects.specs.Readers.{Readers}
+use Rattle.jfs_meaning.specs.objects.specs.Volume.{Volume}
+use Rattle.jfs_meaning.specs.objects.specs.Objects.{Object, IsWhole, objects, spelled, is_live, has_names, listed}
+use Rattle.jfs_meaning.specs.objects.specs.Owners.{IsSound, holds}
+use Rattle.jfs_meaning.specs.objects.specs.Changes.{put, PutsInode, SetsObject}
+use Rattle.jfs_meaning.specs.objects.proofs.Sums.{put_here, put_other, eq_or_not}
 use Rattle.jfs_meaning.specs.Contents.{byte_in}
 use Rattle.jfs_meaning.specs.Readers.{readers, root_of}
 use Rattle.jfs_meaning.specs.Node.{node_with, node_from, node_of, node_in, target_in}

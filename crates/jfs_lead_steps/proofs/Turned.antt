@@ -8,24 +8,24 @@ use Rattle.jfs_bits.specs.declared.descriptor.Moment.{Moment}
 use Rattle.jfs_bits.proofs.Parts.{part-held}
 use Rattle.jfs_inode.specs.declared.fields.Dinode.{Dinode}
 use Rattle.jfs_name.specs.declared.name.NameEntry.{NameEntry}
-use Rattle.jfs_tree.specs.Edit.{count_in}
-use Rattle.jfs_tree.specs.Spells.{spells, footprint, no_page}
-use Rattle.jfs_dtree.specs.Parent.{parent_of}
-use Rattle.jfs_dtree.specs.Spells.{spells_names, owned_pages}
+use Rattle.jfs_meaning.specs.page_tree.specs.Edit.{count_in}
+use Rattle.jfs_meaning.specs.page_tree.specs.Spells.{spells, footprint, no_page}
+use Rattle.jfs_meaning.specs.dtree.specs.Parent.{parent_of}
+use Rattle.jfs_meaning.specs.dtree.specs.Spells.{spells_names, owned_pages}
 use Rattle.jfs_bits.specs.Broken.{first_broken}
 use Rattle.jfs_inode.specs.Rules.{rows}
-use Rattle.jfs_plain.specs.Tree.{Tree}
-use Rattle.jfs_plain.specs.Moves.{changed, written}
-use Rattle.jfs_plain.specs.declared.node.Node.{Node}
-use Rattle.jfs_objects.specs.Readers.{Readers}
-use Rattle.jfs_objects.specs.Volume.{Volume}
-use Rattle.jfs_objects.specs.Objects.{Object, objects, spelled, is_live, has_names, has_extents, listed}
-use Rattle.jfs_objects.specs.Objects as objects
-use Rattle.jfs_objects.specs.Owners.{holds, bit, attributes_held, IsSound}
-use Rattle.jfs_objects.specs.Changes.{put, PutsInode, SetsObject}
-use Rattle.jfs_objects.proofs.Framed.{same_spelled}
-use Rattle.jfs_objects.proofs.Owned.{owned_once}
-use Rattle.jfs_objects.proofs.Sums.{zero_or_more}
+use Rattle.jfs_meaning.specs.plain.specs.Tree.{Tree}
+use Rattle.jfs_meaning.specs.plain.specs.Moves.{changed, written}
+use Rattle.jfs_meaning.specs.plain.specs.declared.node.Node.{Node}
+use Rattle.jfs_meaning.specs.objects.specs.Readers.{Readers}
+use Rattle.jfs_meaning.specs.objects.specs.Volume.{Volume}
+use Rattle.jfs_meaning.specs.objects.specs.Objects.{Object, objects, spelled, is_live, has_names, has_extents, listed}
+use Rattle.jfs_meaning.specs.objects.specs.Objects as objects
+use Rattle.jfs_meaning.specs.objects.specs.Owners.{holds, bit, attributes_held, IsSound}
+use Rattle.jfs_meaning.specs.objects.specs.Changes.{put, PutsInode, SetsObject}
+use Rattle.jfs_meaning.specs.objects.proofs.Framed.{same_spelled}
+use Rattle.jfs_meaning.specs.objects.proofs.Owned.{owned_once}
+use Rattle.jfs_meaning.specs.objects.proofs.Sums.{zero_or_more}
 use Rattle.jfs_meaning.specs.Contents.{byte_in}
 use Rattle.jfs_meaning.specs.Readers.{readers, root_of}
 use Rattle.jfs_meaning.specs.Node.{node_with, node_from, node_of, node_in, target_in}

@@ -7,23 +7,23 @@ use Rattle.jfs_name.specs.declared.name.NameEntry.{NameEntry}
 use Rattle.jfs_name.specs.Directory.{named, with_name, without_name}
 use Rattle.jfs_ranges.specs.declared.edit.Edit.{Edit}
 use Rattle.jfs_ranges.specs.Laid.{put_tx}
-use Rattle.jfs_tree.specs.Edit.{count_in}
-use Rattle.jfs_tree.specs.Form.{AllBelow}
-use Rattle.jfs_tree.specs.Fresh.{LeadsTo, after_tx}
-use Rattle.jfs_tree.specs.Removes.{TellsFreed}
-use Rattle.jfs_dtree.specs.Parent.{parent_of}
-use Rattle.jfs_dtree.specs.Spells.{spells_names, owned_pages}
-use Rattle.jfs_dtree.specs.Adding.{AddsName, HasOneMoreName}
-use Rattle.jfs_dtree.specs.Removing.{RemovesName, HasOneLessName}
-use Rattle.jfs_plain.specs.Tree.{Tree}
-use Rattle.jfs_plain.specs.Moves.{changed}
-use Rattle.jfs_objects.specs.Readers.{Readers}
-use Rattle.jfs_objects.specs.Volume.{Volume}
-use Rattle.jfs_objects.specs.Objects.{objects, spelled, is_live, has_names}
-use Rattle.jfs_objects.specs.Owners.{bit, holds}
-use Rattle.jfs_objects.specs.Changes.{put, PutsInode, SetsObject}
-use Rattle.jfs_objects.proofs.Owned.{owned_once}
-use Rattle.jfs_objects.proofs.Sums.{zero_or_more}
+use Rattle.jfs_meaning.specs.page_tree.specs.Edit.{count_in}
+use Rattle.jfs_meaning.specs.page_tree.specs.Form.{AllBelow}
+use Rattle.jfs_meaning.specs.page_tree.specs.Fresh.{LeadsTo, after_tx}
+use Rattle.jfs_meaning.specs.page_tree.specs.Removes.{TellsFreed}
+use Rattle.jfs_meaning.specs.dtree.specs.Parent.{parent_of}
+use Rattle.jfs_meaning.specs.dtree.specs.Spells.{spells_names, owned_pages}
+use Rattle.jfs_meaning.specs.dtree.specs.Adding.{AddsName, HasOneMoreName}
+use Rattle.jfs_meaning.specs.dtree.specs.Removing.{RemovesName, HasOneLessName}
+use Rattle.jfs_meaning.specs.plain.specs.Tree.{Tree}
+use Rattle.jfs_meaning.specs.plain.specs.Moves.{changed}
+use Rattle.jfs_meaning.specs.objects.specs.Readers.{Readers}
+use Rattle.jfs_meaning.specs.objects.specs.Volume.{Volume}
+use Rattle.jfs_meaning.specs.objects.specs.Objects.{objects, spelled, is_live, has_names}
+use Rattle.jfs_meaning.specs.objects.specs.Owners.{bit, holds}
+use Rattle.jfs_meaning.specs.objects.specs.Changes.{put, PutsInode, SetsObject}
+use Rattle.jfs_meaning.specs.objects.proofs.Owned.{owned_once}
+use Rattle.jfs_meaning.specs.objects.proofs.Sums.{zero_or_more}
 use Rattle.jfs_meaning.specs.Readers.{readers, root_of}
 use Rattle.jfs_meaning.proofs.Books.{count_append}
 use Rattle.jfs_lead_steps.specs.Reached.{HasTree}

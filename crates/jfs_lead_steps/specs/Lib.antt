@@ -1,3 +1,5 @@
 -- what the clauses say
 pub mod Reached
 pub mod Balance
+
+-- libraries below, passed on

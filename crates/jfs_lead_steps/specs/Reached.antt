@@ -2,11 +2,11 @@
 use Rattle.std.specs.Prelude.{◌≡◌, ℕ, Some, None}
 use Rattle.jfs_bits.specs.Broken.{first_broken}
 use Rattle.jfs_inode.specs.Rules.{rows}
-use Rattle.jfs_plain.specs.Tree.{Tree}
-use Rattle.jfs_objects.specs.Readers.{Readers}
-use Rattle.jfs_objects.specs.Volume.{Volume}
-use Rattle.jfs_objects.specs.Objects.{Object, objects}
-use Rattle.jfs_objects.specs.Owners.{IsSound}
+use Rattle.jfs_meaning.specs.plain.specs.Tree.{Tree}
+use Rattle.jfs_meaning.specs.objects.specs.Readers.{Readers}
+use Rattle.jfs_meaning.specs.objects.specs.Volume.{Volume}
+use Rattle.jfs_meaning.specs.objects.specs.Objects.{Object, objects}
+use Rattle.jfs_meaning.specs.objects.specs.Owners.{IsSound}
 use Rattle.jfs_meaning.specs.Tree.{tree_on}
 
 -- Maps agree, no tree and no inode breaks a rule, and the volume's tree is this one. It needn't be a consistent one yet.

@@ -6,3 +6,5 @@ mod remove;
 
 pub use balance::own_after;
 pub use remove::{Removed, remove_on_top};
+
+// libraries below, passed on

@@ -2,3 +2,6 @@
 pub mod Findings
 pub mod Inodes
 pub mod Compared
+-- libraries below, passed on
+pub use Rattle.jfs_findings.specs.bmap
+pub use Rattle.jfs_findings as findings

@@ -3,7 +3,7 @@ use Rattle.std.proofs.Common.{◌≡◌, refl, Bool, true, false, true≢false, 
 use Rattle.jfs_bits.specs.declared.descriptor.Pxd.{Pxd}
 use Rattle.jfs_ranges.specs.declared.edit.Edit.{Edit}
 use Rattle.jfs_ranges.specs.declared.edit.Edit.TheVariants.{Lines, NoRedo, Alloc, Free}
-use Rattle.jfs_steps.specs.After.{is_extent, four_from}
+use Rattle.jfs_data_steps.specs.steps.specs.After.{is_extent, four_from}
 use Rattle.jfs_marks.specs.Behind.{overlap, takes_any, takes_some, is_taken_in, frees_behind}
 
 both_false : (a b : Bool) → (a || b) ≡ false → (a ≡ false) × (b ≡ false)

@@ -3,7 +3,7 @@ use Rattle.std.specs.Prelude.{◌-◌, ◌&&◌, ◌||◌, Bool, true, false, no
 use Rattle.jfs_bits.specs.declared.descriptor.Pxd.{Pxd}
 use Rattle.jfs_ranges.specs.declared.edit.Edit.{Edit}
 use Rattle.jfs_ranges.specs.declared.edit.Edit.TheVariants.{Lines, NoRedo, Alloc, Free}
-use Rattle.jfs_steps.specs.After.{is_extent, four_from}
+use Rattle.jfs_data_steps.specs.steps.specs.After.{is_extent, four_from}
 
 -- one of two runs begins in the other
 abbrev pub overlap : Pxd → Pxd → Bool

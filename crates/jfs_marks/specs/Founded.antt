@@ -2,7 +2,7 @@
 use Rattle.std.specs.Prelude.{◌<◌, ◌^◌, ℕ, if◌then◌else◌, List, [], ◌∷◌}
 use Rattle.jfs_ranges.specs.declared.edit.Edit.{Edit}
 use Rattle.jfs_ranges.specs.declared.edit.Edit.TheVariants.{Lines, NoRedo, Alloc, Free}
-use Rattle.jfs_steps.specs.After.{is_extent, place_in}
+use Rattle.jfs_data_steps.specs.steps.specs.After.{is_extent, place_in}
 use Rattle.jfs_marks.specs.declared.founded.Founded.{Founded}
 use Rattle.jfs_marks.specs.declared.founded.Founded.TheVariants.{Nothing, One, Several}
 

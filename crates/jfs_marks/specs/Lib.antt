@@ -7,3 +7,15 @@ pub mod Behind
 pub mod Marking
 pub mod Owners
 pub mod Notes
+-- libraries below, passed on
+pub use Rattle.jfs_data_steps.specs.bmap
+pub use Rattle.jfs_data_steps as data_steps
+pub use Rattle.jfs_data_steps.specs.imap
+pub use Rattle.jfs_data_steps.specs.kinds
+pub use Rattle.jfs_data_steps.specs.meaning
+pub use Rattle.jfs_data_steps.specs.objects
+pub use Rattle.jfs_data_steps.specs.plain
+pub use Rattle.jfs_data_steps.specs.reader
+pub use Rattle.jfs_records as records
+pub use Rattle.jfs_data_steps.specs.steps
+pub use Rattle.jfs_data_steps.specs.way

@@ -7,7 +7,7 @@ use Rattle.jfs_bits.specs.declared.rule.PageKind.TheVariants as kinds
 use Rattle.jfs_ranges.specs.declared.edit.Edit.{Edit}
 use Rattle.jfs_ranges.specs.declared.edit.Edit.TheVariants.{Lines, NoRedo, Alloc, Free}
 use Rattle.jfs_records.specs.declared.note.Note.{Note}
-use Rattle.jfs_steps.specs.After.{is_extent}
+use Rattle.jfs_data_steps.specs.steps.specs.After.{is_extent}
 use Rattle.jfs_marks.specs.declared.owner.Owner.{Owner}
 use Rattle.jfs_marks.specs.declared.notes.Next.{Next}
 use Rattle.jfs_marks.specs.Owners.{no_owner, last_owner, next_owner}

@@ -6,9 +6,9 @@ use Rattle.jfs_inode.specs.declared.fields.Dinode.{Dinode}
 use Rattle.jfs_ranges.specs.declared.edit.Edit.{Edit}
 use Rattle.jfs_ranges.specs.declared.edit.Edit.TheVariants.{Lines, NoRedo, Alloc, Free}
 use Rattle.jfs_ranges.specs.Apply.{apply_tx}
-use Rattle.jfs_objects.specs.Volume.{slot_of}
-use Rattle.jfs_objects.specs.Objects.{has_names}
-use Rattle.jfs_steps.specs.After.{is_extent}
+use Rattle.jfs_data_steps.specs.objects.specs.Volume.{slot_of}
+use Rattle.jfs_data_steps.specs.objects.specs.Objects.{has_names}
+use Rattle.jfs_data_steps.specs.steps.specs.After.{is_extent}
 use Rattle.jfs_marks.specs.declared.owner.Owner.{Owner}
 
 abbrev pub no_owner : Owner

@@ -1,7 +1,7 @@
 //! The inode extents that a transaction adds.
 
 ghost use Rattle.std.specs.Prelude.{◌≡◌, ◌≤◌, [], true, length};
-ghost use Rattle.jfs_steps.specs.After.{is_extent, place_in};
+ghost use Rattle.jfs_data_steps.specs.steps.specs.After.{is_extent, place_in};
 ghost use Rattle.jfs_marks.specs.Founded.{FitsFounded, founded_by, founded_in};
 
 use jfs_bits::{PageKind, get_u32};

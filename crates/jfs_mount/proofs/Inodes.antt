@@ -9,8 +9,8 @@ use Rattle.jfs_bits.specs.declared.descriptor.Pxd.{Pxd}
 use Rattle.jfs_bits.specs.declared.extent.Xad.{Xad}
 use Rattle.jfs_bits.specs.declared.rule.Rule.TheVariants as rules
 use Rattle.jfs_disk.specs.Image.{Image, page_of}
-use Rattle.jfs_objects.specs.Contents.{block_of, bytes_at}
-use Rattle.jfs_objects.specs.Image.{iag_page, file_page, file_extents, extent_place, extents_on}
+use Rattle.jfs_reader.specs.objects.specs.Contents.{block_of, bytes_at}
+use Rattle.jfs_reader.specs.objects.specs.Image.{iag_page, file_page, file_extents, extent_place, extents_on}
 use Rattle.jfs_each.specs.Each.{AllFit}
 use Rattle.jfs_mount.specs.Subject.{Subject, blocks, volume}
 use Rattle.jfs_mount.specs.Mount.{extent_at, fits_extent, fitting, iags, page_of_file, extents_row}

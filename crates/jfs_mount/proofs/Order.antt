@@ -2,7 +2,7 @@
 use Rattle.std.proofs.Common.{◌≡◌, refl, sym, ap, ◌∙◌, ℕ, List, [], ◌∷◌, Option, Some, None}
 use Rattle.jfs_bits.specs.Broken.{Row, first_broken}
 use Rattle.jfs_bits.proofs.Broken.{later, earlier}
-use Rattle.jfs_objects.specs.Volume.{home}
+use Rattle.jfs_reader.specs.objects.specs.Volume.{home}
 use Rattle.jfs_mount.specs.Subject.{Subject, subject_of, volume}
 use Rattle.jfs_mount.specs.Mount.{BadMount, bmap_row, imap_row, mapsize_row, nextiag_row, extents_row, root_row, map_rows, mount_rows, broken_maps, broken_mount}
 use Rattle.jfs_mount.specs.Steps.{AreRead, FindsPlaces, FindsMaps, broken}

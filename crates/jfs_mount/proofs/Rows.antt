@@ -9,8 +9,8 @@ use Rattle.jfs_bits.specs.declared.rule.Rule.TheVariants as rules
 use Rattle.jfs_bits.specs.Broken.{Row}
 use Rattle.jfs_bits.specs.Field.{field_of}
 use Rattle.jfs_bmap.specs.MapFile.{pages_of}
-use Rattle.jfs_objects.specs.Contents.{block_of, bytes_at}
-use Rattle.jfs_objects.specs.Image.{file_extents, file_page}
+use Rattle.jfs_reader.specs.objects.specs.Contents.{block_of, bytes_at}
+use Rattle.jfs_reader.specs.objects.specs.Image.{file_extents, file_page}
 use Rattle.jfs_mount.specs.Subject.{Subject, blocks}
 use Rattle.jfs_mount.specs.Mount.{BadMount, covered, iags, page_of_file, bmap_row, imap_row, mapsize_row}
 use Rattle.jfs_mount.specs.Steps.{AreRead, broken}

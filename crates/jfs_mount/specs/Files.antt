@@ -5,8 +5,8 @@ use Rattle.jfs_bits.specs.declared.descriptor.Pxd.{Pxd}
 use Rattle.jfs_bits.specs.declared.extent.Xad.{Xad}
 use Rattle.jfs_bits.specs.Descriptor.{pxd_of}
 use Rattle.jfs_iag.specs.Canonical.{is_there}
-use Rattle.jfs_objects.specs.Contents.{block_of}
-use Rattle.jfs_objects.specs.Image.{extent_place}
+use Rattle.jfs_reader.specs.objects.specs.Contents.{block_of}
+use Rattle.jfs_reader.specs.objects.specs.Image.{extent_place}
 
 -- the block, if there is one, is a page of so many
 abbrev pub IsWithin : ℕ → Option ℕ → Type 0

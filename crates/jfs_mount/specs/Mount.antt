@@ -10,9 +10,9 @@ use Rattle.jfs_bits.specs.Field.{field_of}
 use Rattle.jfs_inode.specs.Rules.{type_of}
 use Rattle.jfs_iag.specs.Canonical.{is_there}
 use Rattle.jfs_bmap.specs.MapFile.{pages_of}
-use Rattle.jfs_objects.specs.Volume.{home, slot_of}
-use Rattle.jfs_objects.specs.Contents.{block_of}
-use Rattle.jfs_objects.specs.Image.{file_extents, file_page, iag_page, iags_on}
+use Rattle.jfs_reader.specs.objects.specs.Volume.{home, slot_of}
+use Rattle.jfs_reader.specs.objects.specs.Contents.{block_of}
+use Rattle.jfs_reader.specs.objects.specs.Image.{file_extents, file_page, iag_page, iags_on}
 use Rattle.jfs_mount.specs.Subject.{Subject, blocks, volume}
 use Rattle.jfs_mount.specs.declared.bad.BadMount.{BadMount as Bad}
 

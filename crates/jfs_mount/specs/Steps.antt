@@ -5,8 +5,8 @@ use Rattle.jfs_bits.specs.Broken.{Row, first_broken}
 use Rattle.jfs_disk.specs.Image.{Image, page_of}
 use Rattle.jfs_super.specs.Rules.{blocks_of}
 use Rattle.jfs_super.specs.declared.fields.Super.{Super}
-use Rattle.jfs_objects.specs.Volume.{home}
-use Rattle.jfs_objects.specs.Image.{file_extents}
+use Rattle.jfs_reader.specs.objects.specs.Volume.{home}
+use Rattle.jfs_reader.specs.objects.specs.Image.{file_extents}
 use Rattle.jfs_each.specs.Each.{AllFit}
 use Rattle.jfs_reader.specs.Map.{IsInodeMap}
 use Rattle.jfs_mount.specs.Files.{most_iags}

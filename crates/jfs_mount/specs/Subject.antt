@@ -2,13 +2,13 @@
 use Rattle.std.specs.Prelude.{◌≡◌, ℕ, ◌==◌, if◌then◌else◌, List, Option, Some}
 use Rattle.jfs_super.specs.Rules.{blocks_of}
 use Rattle.jfs_super.specs.declared.fields.Super.{Super}
-use Rattle.jfs_tree.specs.Spells.{no_page}
-use Rattle.jfs_objects.specs.Readers.{Readers}
-use Rattle.jfs_objects.specs.Volume.{Volume, home}
-use Rattle.jfs_objects.specs.Objects.{Object, objects}
-use Rattle.jfs_objects.specs.Contents.{block_of}
-use Rattle.jfs_objects.specs.Image.{volume_on, file_extents}
-use Rattle.jfs_meaning.specs.Readers.{readers}
+use Rattle.jfs_reader.specs.page_tree.specs.Spells.{no_page}
+use Rattle.jfs_reader.specs.objects.specs.Readers.{Readers}
+use Rattle.jfs_reader.specs.objects.specs.Volume.{Volume, home}
+use Rattle.jfs_reader.specs.objects.specs.Objects.{Object, objects}
+use Rattle.jfs_reader.specs.objects.specs.Contents.{block_of}
+use Rattle.jfs_reader.specs.objects.specs.Image.{volume_on, file_extents}
+use Rattle.jfs_reader.specs.meaning.specs.Readers.{readers}
 
 -- A superblock and the bytes of each page; and how the roots and pages of trees read.
 pub record Subject : Type 0 where

@@ -3,7 +3,7 @@
 ghost use Rattle.std.specs.Prelude.{◌≡◌, ◌≤◌, ◌<◌, ◌+◌, ◌*◌, IfOk, true, [], is_some, length, unwrap_or, ℕ};
 ghost use Rattle.jfs_bits.specs.Descriptor.{FitsPxd};
 ghost use Rattle.jfs_disk.specs.Image.{page_of};
-ghost use Rattle.jfs_objects.specs.Contents.{block_of, bytes_at};
+ghost use Rattle.jfs_reader.specs.objects.specs.Contents.{block_of, bytes_at};
 ghost use Rattle.jfs_each.specs.Each.{AllFit};
 ghost use Rattle.jfs_ranges.specs.View.{CarriesCount};
 ghost use Rattle.jfs_mount.specs.Files.{IsWithin, IsPlace, AddsIag, most_iags};

@@ -2,7 +2,7 @@
 
 ghost use Rattle.std.specs.Prelude.{◌≡◌, ◌≤◌, ◌==◌, if◌then◌else◌, ℕ, true, is_some, Some, None, IfOk};
 ghost use Rattle.jfs_bits.specs.declared.rule.Rule.TheVariants.{Mapsize};
-ghost use Rattle.jfs_objects.specs.Contents.{block_of};
+ghost use Rattle.jfs_reader.specs.objects.specs.Contents.{block_of};
 ghost use Rattle.jfs_ranges.specs.View.{CarriesCount};
 ghost use Rattle.jfs_mount.specs.Subject.{Subject};
 ghost use Rattle.jfs_mount.specs.Mount.{bmap_row, imap_row, mapsize_row, nextiag_row};

@@ -3,7 +3,7 @@
 ghost use Rattle.std.specs.Prelude.{◌≡◌, ◌<◌, ◌==◌, if◌then◌else◌, Some, None, IfOk};
 ghost use Rattle.jfs_disk.specs.Image.{page_of};
 ghost use Rattle.jfs_inode.specs.Rules.{type_of};
-ghost use Rattle.jfs_objects.specs.Volume.{home, slot_of};
+ghost use Rattle.jfs_reader.specs.objects.specs.Volume.{home, slot_of};
 ghost use Rattle.jfs_each.specs.Each.{AllFit};
 ghost use Rattle.jfs_bits.specs.declared.rule.Rule.TheVariants.{Root};
 ghost use Rattle.jfs_ranges.specs.View.{CarriesCount};

@@ -4,3 +4,6 @@
 mod ready;
 
 pub use ready::{BeginError, Begun, NotBegun, begin};
+
+// libraries below, passed on
+pub use jfs_logpages as logpages;

@@ -2,13 +2,13 @@
 use Rattle.std.proofs.Common.{◌≡◌, ◌<◌, refl, sym, ap, ◌∙◌, subst, ℕ, ◌+◌, Bool, true, false, nat_lt, if◌then◌else◌, Some, None, is_some, arith}
 use Rattle.std.proofs.lemmas.Bool.Decides.{nat_tests}
 use Rattle.jfs_disk.specs.Image.{Image}
-use Rattle.jfs_objects.specs.Readers.{Readers}
-use Rattle.jfs_objects.specs.Volume.{room}
-use Rattle.jfs_objects.specs.Objects.{Object, IsWhole, objects}
-use Rattle.jfs_objects.specs.Owners.{holds, bit, extents_have, Agrees, IsSound}
-use Rattle.jfs_objects.specs.Image.{area_on}
-use Rattle.jfs_objects.proofs.Sums.{sum_zero}
-use Rattle.jfs_objects.proofs.Owned.{holds_none}
+use Rattle.jfs_meaning.specs.objects.specs.Readers.{Readers}
+use Rattle.jfs_meaning.specs.objects.specs.Volume.{room}
+use Rattle.jfs_meaning.specs.objects.specs.Objects.{Object, IsWhole, objects}
+use Rattle.jfs_meaning.specs.objects.specs.Owners.{holds, bit, extents_have, Agrees, IsSound}
+use Rattle.jfs_meaning.specs.objects.specs.Image.{area_on}
+use Rattle.jfs_meaning.specs.objects.proofs.Sums.{sum_zero}
+use Rattle.jfs_meaning.specs.objects.proofs.Owned.{holds_none}
 use Rattle.jfs_format.specs.Layout.{IsLayout, map_pages, inode_map, owned_blocks}
 use Rattle.jfs_format.specs.Superblock.{new_super}
 use Rattle.jfs_format.specs.Volume.{IsNewVolume}

@@ -6,14 +6,14 @@ use Rattle.jfs_bits.specs.declared.descriptor.Pxd.{Pxd}
 use Rattle.jfs_bits.specs.declared.extent.Xad.{Xad}
 use Rattle.jfs_inode.specs.declared.fields.Dinode.{Dinode}
 use Rattle.jfs_disk.specs.Image.{Image, page_of}
-use Rattle.jfs_tree.specs.Walk.{Marks}
-use Rattle.jfs_tree.specs.Spells.{tree_of}
-use Rattle.jfs_objects.specs.Readers.{Readers}
-use Rattle.jfs_objects.specs.Volume.{slot_of}
-use Rattle.jfs_objects.specs.Objects.{met, listed}
-use Rattle.jfs_objects.specs.Owners.{unless_broken, entries, run_has, covers}
-use Rattle.jfs_objects.specs.Contents.{block_of, bytes_at}
-use Rattle.jfs_objects.specs.Image.{aggregate_at, file_walk, file_page, file_has}
+use Rattle.jfs_meaning.specs.page_tree.specs.Walk.{Marks}
+use Rattle.jfs_meaning.specs.page_tree.specs.Spells.{tree_of}
+use Rattle.jfs_meaning.specs.objects.specs.Readers.{Readers}
+use Rattle.jfs_meaning.specs.objects.specs.Volume.{slot_of}
+use Rattle.jfs_meaning.specs.objects.specs.Objects.{met, listed}
+use Rattle.jfs_meaning.specs.objects.specs.Owners.{unless_broken, entries, run_has, covers}
+use Rattle.jfs_meaning.specs.objects.specs.Contents.{block_of, bytes_at}
+use Rattle.jfs_meaning.specs.objects.specs.Image.{aggregate_at, file_walk, file_page, file_has}
 use Rattle.jfs_format.specs.Inodes.{aggregate_inode, IsTablePage}
 use Rattle.jfs_format.specs.Root.{one_extent, whole_file}
 use Rattle.jfs_format.specs.Volume.{HasPages, IsNewVolume}

@@ -11,13 +11,13 @@ use Rattle.jfs_disk.specs.Image.{Image, page_of}
 use Rattle.jfs_iag.specs.Iag.{no_run}
 use Rattle.jfs_iag.specs.declared.canonical.Links.{Links}
 use Rattle.jfs_iag.specs.Canonical.{IsIagPage}
-use Rattle.jfs_imap.specs.Inodes.{is_used, extent_at}
-use Rattle.jfs_bmap.specs.MapFile.{IsMapPage, IsDmapPage}
-use Rattle.jfs_objects.specs.Readers.{Readers}
-use Rattle.jfs_objects.specs.Volume.{home, page_in}
-use Rattle.jfs_objects.specs.Owners.{extent_has, extents_have}
-use Rattle.jfs_objects.specs.Image.{file_page, iag_page, iags_on, extent_place, extent_on, extents_on, is_block_used, is_inode_used}
-use Rattle.jfs_objects.proofs.Owned.{get_past}
+use Rattle.jfs_format.specs.imap.specs.Inodes.{is_used, extent_at}
+use Rattle.jfs_format.specs.bmap.specs.MapFile.{IsMapPage, IsDmapPage}
+use Rattle.jfs_meaning.specs.objects.specs.Readers.{Readers}
+use Rattle.jfs_meaning.specs.objects.specs.Volume.{home, page_in}
+use Rattle.jfs_meaning.specs.objects.specs.Owners.{extent_has, extents_have}
+use Rattle.jfs_meaning.specs.objects.specs.Image.{file_page, iag_page, iags_on, extent_place, extent_on, extents_on, is_block_used, is_inode_used}
+use Rattle.jfs_meaning.specs.objects.proofs.Owned.{get_past}
 use Rattle.jfs_format.specs.Layout.{IsLayout, map_pages, inode_map, first_inodes, owned_blocks, is_taken_block}
 use Rattle.jfs_format.specs.Inodes.{in_use}
 use Rattle.jfs_format.specs.Volume.{inodes_in, IsNewVolume}

@@ -6,13 +6,13 @@ use Rattle.jfs_bits.specs.declared.extent.Xad.{Xad}
 use Rattle.jfs_inode.specs.declared.fields.Dinode.{Dinode}
 use Rattle.jfs_name.specs.declared.name.NameEntry.{NameEntry}
 use Rattle.jfs_disk.specs.Image.{Image, page_of}
-use Rattle.jfs_tree.specs.Walk.{Node, Leaf, Page}
-use Rattle.jfs_tree.specs.Spells.{no_page, tree_of}
-use Rattle.jfs_objects.specs.Readers.{Readers}
-use Rattle.jfs_objects.specs.Volume.{home, page_in, slot_of}
-use Rattle.jfs_objects.specs.Objects.{IsWhole, objects, spelled, has_names, has_extents, is_live, met}
-use Rattle.jfs_objects.specs.Owners.{holds}
-use Rattle.jfs_objects.proofs.Found.{object_at, no_object_at, no_home}
+use Rattle.jfs_meaning.specs.page_tree.specs.Walk.{Node, Leaf, Page}
+use Rattle.jfs_meaning.specs.page_tree.specs.Spells.{no_page, tree_of}
+use Rattle.jfs_meaning.specs.objects.specs.Readers.{Readers}
+use Rattle.jfs_meaning.specs.objects.specs.Volume.{home, page_in, slot_of}
+use Rattle.jfs_meaning.specs.objects.specs.Objects.{IsWhole, objects, spelled, has_names, has_extents, is_live, met}
+use Rattle.jfs_meaning.specs.objects.specs.Owners.{holds}
+use Rattle.jfs_meaning.specs.objects.proofs.Found.{object_at, no_object_at, no_home}
 use Rattle.jfs_format.specs.Layout.{IsLayout, first_inodes}
 use Rattle.jfs_format.specs.Inodes.{fileset_inode}
 use Rattle.jfs_format.specs.Volume.{IsNewVolume}

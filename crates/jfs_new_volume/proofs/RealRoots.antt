@@ -6,15 +6,15 @@ use Rattle.jfs_bits.specs.Descriptor.{FitsPxd}
 use Rattle.jfs_bits.specs.Field as bytes
 use Rattle.jfs_bits.specs.Field.{field_of, range_of}
 use Rattle.jfs_bits.specs.Piece as parts
-use Rattle.jfs_tree.specs.Walk.{Leaf}
+use Rattle.jfs_meaning.specs.page_tree.specs.Walk.{Leaf}
 use Rattle.jfs_xtpage.specs.Page.{head_of, rises_from}
 use Rattle.jfs_xtpage.specs.declared.head.XtForm.TheVariants as extents
-use Rattle.jfs_xtree.specs.Node.{xt_node, all_within, fits_max, fits_count}
-use Rattle.jfs_xtree.specs.Laws.{order}
+use Rattle.jfs_meaning.specs.xtree.specs.Node.{xt_node, all_within, fits_max, fits_count}
+use Rattle.jfs_meaning.specs.xtree.specs.Laws.{order}
 use Rattle.jfs_dtpage.specs.declared.head.DtForm.TheVariants as names
 use Rattle.jfs_dtpage.specs.Page.{table_of}
 use Rattle.jfs_dtpage.specs.Slots.{slots_at, follow, behind}
-use Rattle.jfs_dtree.specs.Node.{dt_node}
+use Rattle.jfs_meaning.specs.dtree.specs.Node.{dt_node}
 use Rattle.jfs_meaning.specs.Readers.{readers}
 use Rattle.jfs_format.specs.Root.{no_extents, one_extent, whole_file, empty_root}
 use Rattle.jfs_format.specs.Laws.{root_in, IsLeafRoot}

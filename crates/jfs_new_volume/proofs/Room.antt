@@ -5,11 +5,11 @@ use Rattle.std.proofs.lemmas.Bool.Decides.{nat_tests}
 use Rattle.jfs_bits.specs.Bits.{count_below}
 use Rattle.jfs_bits.specs.declared.descriptor.Pxd.{Pxd}
 use Rattle.jfs_disk.specs.Image.{Image, page_of}
-use Rattle.jfs_objects.specs.Readers.{Readers}
-use Rattle.jfs_objects.specs.Volume.{Volume, home, room}
-use Rattle.jfs_objects.specs.Objects.{Object, objects}
-use Rattle.jfs_objects.specs.Image.{volume_on}
-use Rattle.jfs_objects.proofs.Found.{home_within}
+use Rattle.jfs_meaning.specs.objects.specs.Readers.{Readers}
+use Rattle.jfs_meaning.specs.objects.specs.Volume.{Volume, home, room}
+use Rattle.jfs_meaning.specs.objects.specs.Objects.{Object, objects}
+use Rattle.jfs_meaning.specs.objects.specs.Image.{volume_on}
+use Rattle.jfs_meaning.specs.objects.proofs.Found.{home_within}
 use Rattle.jfs_format.specs.Layout.{IsLayout, first_inodes, owned_blocks, free_blocks}
 use Rattle.jfs_format.specs.Superblock.{new_super}
 use Rattle.jfs_format.specs.Volume.{IsNewVolume}

@@ -1,9 +1,9 @@
 -- Roots that are leaves, with one entry and with none.
 use Rattle.std.proofs.Common.{◌≡◌, refl, ap, ℕ, ◌+◌, Bool, true, false, ◌==◌, if◌then◌else◌, [], ◌∷◌, Ok, arith}
 use Rattle.jfs_bits.specs.declared.rule.Rule.TheVariants as rules
-use Rattle.jfs_tree.specs.Walk.{Node, Leaf, Broken, Page, Key, Row, Marks, Scale, IsOrder, body, walk}
-use Rattle.jfs_tree.specs.Spells.{no_page, with_root, levels_of, top, tree_of}
-use Rattle.jfs_objects.specs.Objects.{met, listed}
+use Rattle.jfs_meaning.specs.page_tree.specs.Walk.{Node, Leaf, Broken, Page, Key, Row, Marks, Scale, IsOrder, body, walk}
+use Rattle.jfs_meaning.specs.page_tree.specs.Spells.{no_page, with_root, levels_of, top, tree_of}
+use Rattle.jfs_meaning.specs.objects.specs.Objects.{met, listed}
 
 -- what the walk through a root with one entry meets
 abbrev pub one_marks : {P E : Type 0} → Scale P E → E → Marks P E

@@ -1,7 +1,7 @@
 -- Runs of blocks one behind the other.
 use Rattle.std.proofs.Common.{◌≡◌, refl, sym, ap, ◌∙◌, ℕ, ◌+◌, Bool, true, false, ◌&&◌, nat_le, nat_lt, if◌then◌else◌, arith}
 use Rattle.std.proofs.lemmas.Bool.Decides.{nat_tests}
-use Rattle.jfs_objects.specs.Owners.{bit}
+use Rattle.jfs_meaning.specs.objects.specs.Owners.{bit}
 
 abbrev pub run : ℕ → ℕ → ℕ → ℕ
 run first count b = if nat_le first b && nat_lt b (first + count) then 1 else 0

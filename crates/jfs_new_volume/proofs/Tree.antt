@@ -9,15 +9,15 @@ use Rattle.jfs_bits.specs.Piece as parts
 use Rattle.jfs_disk.specs.Image.{Image, page_of}
 use Rattle.jfs_inode.specs.Rules.{rows}
 use Rattle.jfs_super.specs.Rules.{blocks_of}
-use Rattle.jfs_plain.specs.Tree.{root}
-use Rattle.jfs_plain.specs.Moves.{Same, new_directory}
-use Rattle.jfs_plain.specs.Plain.{new_tree}
-use Rattle.jfs_objects.specs.Readers.{Readers}
-use Rattle.jfs_objects.specs.Volume.{Volume, room}
-use Rattle.jfs_objects.specs.Objects.{Object, objects}
-use Rattle.jfs_objects.specs.Owners.{IsSound}
-use Rattle.jfs_objects.specs.Image.{volume_on}
-use Rattle.jfs_objects.proofs.Owned.{outside}
+use Rattle.jfs_meaning.specs.plain.specs.Tree.{root}
+use Rattle.jfs_meaning.specs.plain.specs.Moves.{Same, new_directory}
+use Rattle.jfs_meaning.specs.plain.specs.Plain.{new_tree}
+use Rattle.jfs_meaning.specs.objects.specs.Readers.{Readers}
+use Rattle.jfs_meaning.specs.objects.specs.Volume.{Volume, room}
+use Rattle.jfs_meaning.specs.objects.specs.Objects.{Object, objects}
+use Rattle.jfs_meaning.specs.objects.specs.Owners.{IsSound}
+use Rattle.jfs_meaning.specs.objects.specs.Image.{volume_on}
+use Rattle.jfs_meaning.specs.objects.proofs.Owned.{outside}
 use Rattle.jfs_format.specs.Layout.{IsLayout}
 use Rattle.jfs_format.specs.Root.{empty_root}
 use Rattle.jfs_format.specs.Superblock.{new_super}

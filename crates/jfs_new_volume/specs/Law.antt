@@ -1,21 +1,21 @@
 -- What a new volume means.
 use Rattle.std.specs.Prelude.{◌≡◌, ℕ, ◌==◌, nat_lt, if◌then◌else◌, [], ◌∷◌, Some, None}
 use Rattle.jfs_disk.specs.Image.{Image, page_of}
-use Rattle.jfs_tree.specs.Walk.{Page}
-use Rattle.jfs_tree.specs.Spells.{no_page}
-use Rattle.jfs_objects.specs.Readers.{Readers}
-use Rattle.jfs_objects.specs.Volume.{Volume}
-use Rattle.jfs_objects.specs.Objects.{Object, objects}
-use Rattle.jfs_objects.specs.Owners.{IsSound}
-use Rattle.jfs_objects.specs.Image.{volume_on}
+use Rattle.jfs_meaning.specs.page_tree.specs.Walk.{Page}
+use Rattle.jfs_meaning.specs.page_tree.specs.Spells.{no_page}
+use Rattle.jfs_meaning.specs.objects.specs.Readers.{Readers}
+use Rattle.jfs_meaning.specs.objects.specs.Volume.{Volume}
+use Rattle.jfs_meaning.specs.objects.specs.Objects.{Object, objects}
+use Rattle.jfs_meaning.specs.objects.specs.Owners.{IsSound}
+use Rattle.jfs_meaning.specs.objects.specs.Image.{volume_on}
 use Rattle.jfs_format.specs.Layout.{IsLayout, free_blocks}
 use Rattle.jfs_format.specs.Inodes.{fileset_inode}
 use Rattle.jfs_format.specs.Superblock.{new_super}
 use Rattle.jfs_format.specs.Volume.{IsNewVolume}
 use Rattle.jfs_format.specs.declared.volume.NewVolume.{NewVolume}
-use Rattle.jfs_plain.specs.Moves.{Same}
-use Rattle.jfs_plain.specs.Plain.{new_tree}
-use Rattle.jfs_plain.specs.Step.{Room}
+use Rattle.jfs_meaning.specs.plain.specs.Moves.{Same}
+use Rattle.jfs_meaning.specs.plain.specs.Plain.{new_tree}
+use Rattle.jfs_meaning.specs.plain.specs.Step.{Room}
 use Rattle.jfs_super.specs.Geometry.{file_limit_of}
 use Rattle.jfs_meaning.specs.Image.{tree_of, room_of, IsConsistentImage}
 use Rattle.jfs_new_volume.specs.Roots.{ReadsRoots}

@@ -2,8 +2,8 @@
 use Rattle.std.specs.Prelude.{◌≡◌, ◌<◌, ◌≤◌, ℕ, ◌+◌, [], ◌∷◌}
 use Rattle.jfs_bits.specs.declared.descriptor.Pxd.{Pxd}
 use Rattle.jfs_inode.specs.declared.fields.Dinode.{Dinode}
-use Rattle.jfs_tree.specs.Walk.{Leaf, IsOrder}
-use Rattle.jfs_objects.specs.Readers.{Readers}
+use Rattle.jfs_meaning.specs.page_tree.specs.Walk.{Leaf, IsOrder}
+use Rattle.jfs_meaning.specs.objects.specs.Readers.{Readers}
 use Rattle.jfs_format.specs.Root.{no_extents, one_extent, whole_file, empty_root}
 
 -- The readers read a directory's root without a name, an extent tree's root without an extent, and one with a run within so many blocks.

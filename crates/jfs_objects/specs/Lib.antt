@@ -7,3 +7,5 @@ pub mod Contents
 pub mod Image
 pub mod Changes
 pub mod Laws
+-- libraries below, passed on
+pub use Rattle.jfs_tree as page_tree

@@ -7,9 +7,9 @@ use Rattle.jfs_bits.specs.declared.descriptor.Pxd.{Pxd}
 use Rattle.jfs_bits.specs.Bits.{is_taken}
 use Rattle.jfs_iag.proofs.Maps.{zeros-clear}
 use Rattle.jfs_bits.specs.declared.extent.Dxd.{Dxd}
-use Rattle.jfs_tree.specs.Spells.{no_page}
+use Rattle.jfs_findings.specs.page_tree.specs.Spells.{no_page}
 use Rattle.jfs_owners.specs.Counts.{OwnerSets, Counts, Adds, page_has}
-use Rattle.jfs_objects.specs.Owners.{run_has, dxd_has}
+use Rattle.jfs_findings.specs.objects.specs.Owners.{run_has, dxd_has}
 
 pub counts_none : (blocks : ℕ) (owned shared : List ℕ) (n : ℕ) → owned ≡ replicate n 0 → shared ≡ replicate n 0 → Counts (record { blocks = blocks; owned = owned; shared = shared }) (λ b. 0)
 counts_none blocks owned shared n e f = record {

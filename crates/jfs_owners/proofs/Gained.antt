@@ -7,8 +7,8 @@ use Rattle.std.proofs.lemmas.Bool.{cases_lt, ltb-true, lt-ltb, true≢false}
 use Rattle.std.proofs.lemmas.Nat.Bits.{bit_at-zero}
 use Rattle.jfs_bits.specs.Field.{field_of}
 use Rattle.jfs_bits.specs.Bits.{is_taken, is_taken_in}
-use Rattle.jfs_objects.specs.Owners.{owners}
-use Rattle.jfs_mount.specs.Subject.{Subject, blocks, volume}
+use Rattle.jfs_findings.specs.objects.specs.Owners.{owners}
+use Rattle.jfs_findings.specs.mount_rules.specs.Subject.{Subject, blocks, volume}
 use Rattle.jfs_findings.specs.Gains.{Gains}
 use Rattle.jfs_findings.specs.declared.finding.Finding.{Finding}
 use Rattle.jfs_findings.specs.declared.finding.FindingKind.{FindingKind}

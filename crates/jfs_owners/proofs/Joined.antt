@@ -1,12 +1,12 @@
 -- The fixed parts and the objects in rising number, joined to the owners of all blocks.
 use Rattle.std.proofs.Common.{◌≡◌, ap, subst, refl, ℕ, ◌+◌, add-one, List, Option, None, arith}
 use Rattle.jfs_bits.specs.declared.descriptor.Pxd.{Pxd}
-use Rattle.jfs_objects.specs.Readers.{Readers}
-use Rattle.jfs_objects.specs.Volume.{Volume, room}
-use Rattle.jfs_objects.specs.Objects.{Object, objects}
-use Rattle.jfs_objects.specs.Owners.{holds, owners, extents_have, sum_below}
-use Rattle.jfs_objects.specs.Image.{area_on, extents_on, volume_on}
-use Rattle.jfs_objects.proofs.Owned.{holds_none}
+use Rattle.jfs_findings.specs.objects.specs.Readers.{Readers}
+use Rattle.jfs_findings.specs.objects.specs.Volume.{Volume, room}
+use Rattle.jfs_findings.specs.objects.specs.Objects.{Object, objects}
+use Rattle.jfs_findings.specs.objects.specs.Owners.{holds, owners, extents_have, sum_below}
+use Rattle.jfs_findings.specs.objects.specs.Image.{area_on, extents_on, volume_on}
+use Rattle.jfs_findings.specs.objects.proofs.Owned.{holds_none}
 use Rattle.jfs_owners.specs.Counts.{OwnerSets, Counts, Adds}
 use Rattle.jfs_owners.specs.Held.{owned_below}
 use Rattle.jfs_owners.proofs.Counted.{counts_same}

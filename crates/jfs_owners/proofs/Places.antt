@@ -1,7 +1,7 @@
 -- Inode extents counted one by one.
 use Rattle.std.proofs.Common.{◌≡◌, ◌<◌, ◌≤◌, refl, sym, subst, ℕ, ◌+◌, List, [], length, drop, get_or, Option, Some, None}
 use Rattle.std.proofs.lemmas.List.{drop_more, drop_all}
-use Rattle.jfs_objects.specs.Owners.{extent_has, extents_have, run_has}
+use Rattle.jfs_findings.specs.objects.specs.Owners.{extent_has, extents_have, run_has}
 use Rattle.jfs_owners.specs.Counts.{OwnerSets, Adds}
 use Rattle.jfs_owners.proofs.Counted.{adds_none, adds_next}
 

@@ -9,7 +9,7 @@ use Rattle.std.proofs.lemmas.Bool.Decides.{nat_tests}
 use Rattle.jfs_bits.specs.Field.{field_of}
 use Rattle.jfs_bits.specs.Bits.{is_taken, is_taken_in, count_below}
 use Rattle.jfs_bits.proofs.Counts.{count_below-none, count_below-same, count_below-parts, count_below-front, count_below-most}
-use Rattle.jfs_dmap.proofs.Counted.{word-free}
+use Rattle.jfs_findings.specs.dmap.proofs.Counted.{word-free}
 use Rattle.jfs_owners.specs.Counts.{OwnerSets, Counts}
 use Rattle.jfs_owners.proofs.Marks.{both_taken}
 

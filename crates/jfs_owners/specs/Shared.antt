@@ -1,7 +1,7 @@
 -- Findings of blocks with two owners.
 use Rattle.std.specs.Prelude.{◌≡◌, ◌<◌, ◌≤◌, ℕ, true, List}
 use Rattle.jfs_bits.specs.Bits.{is_taken}
-use Rattle.jfs_mount.specs.Subject.{Subject}
+use Rattle.jfs_findings.specs.mount_rules.specs.Subject.{Subject}
 use Rattle.jfs_findings.specs.Blocks.{IsShared}
 use Rattle.jfs_findings.specs.declared.finding.Finding.{Finding}
 use Rattle.jfs_findings.specs.declared.finding.FindingKind.TheVariants as kinds

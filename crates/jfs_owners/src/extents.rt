@@ -1,7 +1,7 @@
 //! The inode extents.
 
 ghost use Rattle.std.specs.Prelude.{◌≡◌};
-ghost use Rattle.jfs_objects.specs.Owners.{extent_has, extents_have};
+ghost use Rattle.jfs_findings.specs.objects.specs.Owners.{extent_has, extents_have};
 ghost use Rattle.jfs_owners.specs.Counts.{Adds};
 
 use crate::owners::Owners;

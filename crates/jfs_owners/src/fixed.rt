@@ -3,15 +3,15 @@
 ghost use Rattle.std.specs.Prelude.{◌≡◌, ◌<◌, ◌≤◌, IfOk};
 ghost use Rattle.jfs_disk.specs.Image.{page_of};
 ghost use Rattle.jfs_ranges.specs.View.{CarriesCount};
-ghost use Rattle.jfs_objects.specs.Image.{area_on, file_has};
-ghost use Rattle.jfs_meaning.specs.Readers.{readers};
+ghost use Rattle.jfs_findings.specs.objects.specs.Image.{area_on, file_has};
+ghost use Rattle.jfs_findings.specs.meaning.specs.Readers.{readers};
 ghost use Rattle.jfs_owners.specs.Counts.{Adds};
 ghost use Rattle.jfs_owners.specs.Held.{areas_have};
 
 use crate::owners::Owners;
 use jfs_bits::Pxd;
+use jfs_findings::reader::aggregate_root;
 use jfs_ranges::{PageView, ViewError};
-use jfs_reader::aggregate_root;
 
 /// The superblocks and the aggregate's inode table and map: pages 0 to 15. (JFS Layout.)
 const FRONT: Pxd = Pxd { len: 16, addr: 0 };

@@ -3,17 +3,17 @@
 ghost use Rattle.std.specs.Prelude.{◌≡◌, Some, IfOk};
 ghost use Rattle.jfs_disk.specs.Image.{page_of};
 ghost use Rattle.jfs_ranges.specs.View.{CarriesCount};
-ghost use Rattle.jfs_objects.specs.Objects.{names_of, extents_of, spelled};
-ghost use Rattle.jfs_objects.specs.Owners.{dxd_has, holds};
-ghost use Rattle.jfs_meaning.specs.Readers.{readers};
+ghost use Rattle.jfs_findings.specs.objects.specs.Objects.{names_of, extents_of, spelled};
+ghost use Rattle.jfs_findings.specs.objects.specs.Owners.{dxd_has, holds};
+ghost use Rattle.jfs_findings.specs.meaning.specs.Readers.{readers};
 ghost use Rattle.jfs_owners.specs.Counts.{Adds};
 ghost use Rattle.jfs_owners.specs.Held.{extents_held, names_held, attributes_of};
 
 use crate::owners::Owners;
 use jfs_bits::Dxd;
+use jfs_findings::reader::{has_extents, has_names, root_in};
 use jfs_inode::Dinode;
 use jfs_ranges::{PageView, ViewError};
-use jfs_reader::{has_extents, has_names, root_in};
 
 impl Owners {
     /// Counts what an object holds: the pages of its tree and the blocks of its extents, where the tree breaks no rule, and the runs of its attributes.

@@ -3,7 +3,7 @@
 ghost use Rattle.std.specs.Prelude.{◌≡◌, ◌+◌, ◌*◌, ◌%◌, ◌<◌, ◌≤◌, ◌==◌, nat_lt, not, length, ℕ, IfOk};
 ghost use Rattle.jfs_bits.specs.Bits.{is_taken, count_below};
 ghost use Rattle.jfs_owners.specs.Counts.{Counts, Adds};
-ghost use Rattle.jfs_objects.specs.Owners.{run_has};
+ghost use Rattle.jfs_findings.specs.objects.specs.Owners.{run_has};
 
 use crate::words::{add_run, count_taken};
 use jfs_bits::{Pxd, bit};

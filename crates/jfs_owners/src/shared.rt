@@ -1,8 +1,8 @@
 //! Blocks with two owners.
 
 ghost use Rattle.std.specs.Prelude.{◌≡◌, ◌+◌, ◌*◌, ◌/◌, ◌%◌, ◌<◌, ◌≤◌, length, min, IfOk};
-ghost use Rattle.jfs_objects.specs.Owners.{owners};
-ghost use Rattle.jfs_mount.specs.Subject.{Subject, blocks, volume};
+ghost use Rattle.jfs_findings.specs.objects.specs.Owners.{owners};
+ghost use Rattle.jfs_findings.specs.mount_rules.specs.Subject.{Subject, blocks, volume};
 ghost use Rattle.jfs_findings.specs.Gains.{Gains};
 ghost use Rattle.jfs_owners.specs.Counts.{Counts};
 ghost use Rattle.jfs_owners.specs.Shared.{IsMarked, SaysShared};

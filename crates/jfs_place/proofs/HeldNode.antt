@@ -1,21 +1,21 @@
 -- The node that a held inode is in the tree of a consistent volume.
 use Rattle.std.proofs.Common.{◌≡◌, refl, sym, ap, ◌∙◌, ℕ, ◌%◌, Bool, true, false, if◌then◌else◌, List, [], map, Option, Some, None, Result, Err}
 use Rattle.jfs_inode.specs.declared.fields.Dinode.{Dinode}
-use Rattle.jfs_imap.specs.Inodes.{Inodes}
-use Rattle.jfs_bmap.specs.States.{Blocks}
+use Rattle.jfs_way.specs.imap.specs.Inodes.{Inodes}
+use Rattle.jfs_way.specs.bmap.specs.States.{Blocks}
 use Rattle.jfs_name.specs.Directory.{named}
-use Rattle.jfs_plain.specs.Tree.{is_dir, enter_from, wanted}
-use Rattle.jfs_plain.specs.declared.node.Node.{Node}
-use Rattle.jfs_plain.specs.declared.refusal.Refusal.{Refusal}
-use Rattle.jfs_plain.specs.declared.refusal.Refusal.TheVariants.{NotDir}
-use Rattle.jfs_objects.specs.Readers.{Readers}
-use Rattle.jfs_objects.specs.Volume.{Volume, home, slot_of}
-use Rattle.jfs_objects.specs.Objects.{Object, spelled, has_names}
-use Rattle.jfs_objects.specs.Image.{extent_place}
-use Rattle.jfs_meaning.specs.Readers.{readers}
-use Rattle.jfs_meaning.specs.Node.{node_with, target_in}
-use Rattle.jfs_meaning.specs.Tree.{tree_on}
-use Rattle.jfs_meaning.specs.Consistent.{IsConsistent}
+use Rattle.jfs_way.specs.plain.specs.Tree.{is_dir, enter_from, wanted}
+use Rattle.jfs_way.specs.plain.specs.declared.node.Node.{Node}
+use Rattle.jfs_way.specs.plain.specs.declared.refusal.Refusal.{Refusal}
+use Rattle.jfs_way.specs.plain.specs.declared.refusal.Refusal.TheVariants.{NotDir}
+use Rattle.jfs_way.specs.objects.specs.Readers.{Readers}
+use Rattle.jfs_way.specs.objects.specs.Volume.{Volume, home, slot_of}
+use Rattle.jfs_way.specs.objects.specs.Objects.{Object, spelled, has_names}
+use Rattle.jfs_way.specs.objects.specs.Image.{extent_place}
+use Rattle.jfs_way.specs.meaning.specs.Readers.{readers}
+use Rattle.jfs_way.specs.meaning.specs.Node.{node_with, target_in}
+use Rattle.jfs_way.specs.meaning.specs.Tree.{tree_on}
+use Rattle.jfs_way.specs.meaning.specs.Consistent.{IsConsistent}
 use Rattle.jfs_way.specs.Volume.{volume_of}
 use Rattle.jfs_way.specs.Walk.{IsHeld, IsShown, IsThere, tree_in}
 use Rattle.jfs_way.specs.declared.object.Held.{Held}

@@ -1,2 +1,4 @@
 -- what the clauses say
 pub mod Place
+
+-- libraries below, passed on

@@ -4,3 +4,5 @@
 mod last_name;
 
 pub use last_name::{occupant, place};
+
+// libraries below, passed on

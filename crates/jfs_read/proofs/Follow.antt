@@ -5,30 +5,30 @@ use Rattle.std.proofs.lemmas.Bool.{lt-ltb}
 use Rattle.jfs_bits.specs.declared.extent.Xad.{Xad}
 use Rattle.jfs_inode.specs.Rules.{type_of}
 use Rattle.jfs_inode.specs.declared.fields.Dinode.{Dinode}
-use Rattle.jfs_imap.specs.Inodes.{Inodes}
-use Rattle.jfs_bmap.specs.States.{Blocks}
-use Rattle.jfs_tree.specs.Spells.{spells}
-use Rattle.jfs_xtree.specs.Node.{xt_scale}
+use Rattle.jfs_way.specs.imap.specs.Inodes.{Inodes}
+use Rattle.jfs_way.specs.bmap.specs.States.{Blocks}
+use Rattle.jfs_way.specs.page_tree.specs.Spells.{spells}
+use Rattle.jfs_way.specs.xtree.specs.Node.{xt_scale}
 use Rattle.jfs_bits.specs.declared.rule.Rule.{Rule}
 use Rattle.jfs_xtpage.specs.declared.head.XtForm.TheVariants.{Root}
-use Rattle.jfs_xtree.specs.Spells.{spells_extents, found_for, root_form}
-use Rattle.jfs_plain.specs.Tree.{Tree, Found, walk, found, found_at, and_then, root}
-use Rattle.jfs_plain.specs.Step.{Outcome, read, if_file, bytes_from}
-use Rattle.jfs_plain.specs.declared.node.Node.{Node}
-use Rattle.jfs_plain.specs.declared.refusal.Refusal.{Refusal}
-use Rattle.jfs_plain.specs.declared.refusal.Refusal.TheVariants.{IsDir, NotFile}
-use Rattle.jfs_plain.specs.declared.reply.Reply.{Reply}
-use Rattle.jfs_plain.specs.declared.reply.Reply.TheVariants.{Bytes}
-use Rattle.jfs_plain.specs.declared.reply.NodeKind.TheVariants.{Dir, File, Link, Other}
-use Rattle.jfs_objects.specs.Image.{extent_place}
-use Rattle.jfs_objects.specs.Objects.{Object, IsWhole, objects, spelled, has_names, listed as listed_in}
-use Rattle.jfs_objects.specs.Contents.{block_of, bytes_at}
-use Rattle.jfs_objects.specs.Owners.{entries}
-use Rattle.jfs_objects.specs.Volume.{Volume, home, slot_of}
-use Rattle.jfs_meaning.specs.Readers.{readers, root_of}
-use Rattle.jfs_meaning.specs.Contents.{byte_of, byte_in, stored, is_regular}
-use Rattle.jfs_meaning.specs.Node.{node_with, target_in, size_of}
-use Rattle.jfs_meaning.specs.Consistent.{IsConsistent}
+use Rattle.jfs_way.specs.xtree.specs.Spells.{spells_extents, found_for, root_form}
+use Rattle.jfs_way.specs.plain.specs.Tree.{Tree, Found, walk, found, found_at, and_then, root}
+use Rattle.jfs_way.specs.plain.specs.Step.{Outcome, read, if_file, bytes_from}
+use Rattle.jfs_way.specs.plain.specs.declared.node.Node.{Node}
+use Rattle.jfs_way.specs.plain.specs.declared.refusal.Refusal.{Refusal}
+use Rattle.jfs_way.specs.plain.specs.declared.refusal.Refusal.TheVariants.{IsDir, NotFile}
+use Rattle.jfs_way.specs.plain.specs.declared.reply.Reply.{Reply}
+use Rattle.jfs_way.specs.plain.specs.declared.reply.Reply.TheVariants.{Bytes}
+use Rattle.jfs_way.specs.plain.specs.declared.reply.NodeKind.TheVariants.{Dir, File, Link, Other}
+use Rattle.jfs_way.specs.objects.specs.Image.{extent_place}
+use Rattle.jfs_way.specs.objects.specs.Objects.{Object, IsWhole, objects, spelled, has_names, listed as listed_in}
+use Rattle.jfs_way.specs.objects.specs.Contents.{block_of, bytes_at}
+use Rattle.jfs_way.specs.objects.specs.Owners.{entries}
+use Rattle.jfs_way.specs.objects.specs.Volume.{Volume, home, slot_of}
+use Rattle.jfs_way.specs.meaning.specs.Readers.{readers, root_of}
+use Rattle.jfs_way.specs.meaning.specs.Contents.{byte_of, byte_in, stored, is_regular}
+use Rattle.jfs_way.specs.meaning.specs.Node.{node_with, target_in, size_of}
+use Rattle.jfs_way.specs.meaning.specs.Consistent.{IsConsistent}
 use Rattle.jfs_way.specs.Answer.{Answers, Follows}
 use Rattle.jfs_way.specs.Volume.{volume_of}
 use Rattle.jfs_way.specs.Walk.{IsHeld, IsShown, IsThere, IsOf, tree_in}

@@ -1,2 +1,4 @@
 -- what the clauses say
 pub mod Read
+
+-- libraries below, passed on

@@ -7,3 +7,5 @@ mod file;
 
 pub use bytes::stored_bytes;
 pub use file::read_bytes;
+
+// libraries below, passed on

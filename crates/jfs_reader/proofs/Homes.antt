@@ -6,9 +6,9 @@ use Rattle.std.proofs.lemmas.List.FromFn.{length-map-range_with_len, get_or-map-
 use Rattle.jfs_bits.specs.Field.{range_of}
 use Rattle.jfs_bits.specs.Bits.{is_taken}
 use Rattle.jfs_disk.specs.Image.{Image, page_of}
-use Rattle.jfs_objects.specs.Readers.{Readers}
-use Rattle.jfs_objects.specs.Volume.{home, page_in}
-use Rattle.jfs_objects.specs.Image.{iags_on, iag_page, extent_on, extents_on, is_inode_used}
+use Rattle.jfs_meaning.specs.objects.specs.Readers.{Readers}
+use Rattle.jfs_meaning.specs.objects.specs.Volume.{home, page_in}
+use Rattle.jfs_meaning.specs.objects.specs.Image.{iags_on, iag_page, extent_on, extents_on, is_inode_used}
 use Rattle.jfs_meaning.specs.Readers.{readers}
 use Rattle.jfs_reader.specs.Map.{IsInodeMap}
 use Rattle.jfs_reader.specs.declared.error.ReadError.{ReadError}

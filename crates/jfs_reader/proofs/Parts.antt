@@ -9,9 +9,9 @@ use Rattle.std.proofs.lemmas.Nat.Bits.{bit_at-zero}
 use Rattle.jfs_bits.specs.Bits.{is_taken, is_taken_in}
 use Rattle.jfs_bits.proofs.Ranges.{field_of-range}
 use Rattle.jfs_bits.proofs.Descriptors.{pxd_of-range}
-use Rattle.jfs_objects.specs.Readers.{Readers}
-use Rattle.jfs_objects.specs.Contents.{block_of, bytes_at}
-use Rattle.jfs_objects.specs.Image.{file_extents, file_page, extent_place}
+use Rattle.jfs_meaning.specs.objects.specs.Readers.{Readers}
+use Rattle.jfs_meaning.specs.objects.specs.Contents.{block_of, bytes_at}
+use Rattle.jfs_meaning.specs.objects.specs.Image.{file_extents, file_page, extent_place}
 use Rattle.jfs_reader.specs.Map.{number_in, place_in, bit_in}
 
 -- no byte is there

@@ -4,9 +4,9 @@ use Rattle.std.specs.Prelude.{◌≡◌, ◌/◌, ℕ, suc, Bool, false, List, O
 use Rattle.jfs_bits.specs.Field.{field_of}
 use Rattle.jfs_bits.specs.Descriptor.{pxd_of}
 use Rattle.jfs_bits.specs.Bits.{is_taken}
-use Rattle.jfs_objects.specs.Readers.{Readers}
-use Rattle.jfs_objects.specs.Contents.{block_of}
-use Rattle.jfs_objects.specs.Image.{file_extents, iags_on, extent_place}
+use Rattle.jfs_meaning.specs.objects.specs.Readers.{Readers}
+use Rattle.jfs_meaning.specs.objects.specs.Contents.{block_of}
+use Rattle.jfs_meaning.specs.objects.specs.Image.{file_extents, iags_on, extent_place}
 use Rattle.jfs_reader.specs.declared.map.InodeMap.{InodeMap}
 
 -- the extents of the map's file, and how many IAGs there are

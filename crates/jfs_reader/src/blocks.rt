@@ -4,7 +4,7 @@ ghost use Rattle.std.specs.Prelude.{◌≡◌, ◌≤◌, ◌<◌, ◌+◌, ◌&
 ghost use Rattle.std.specs.Option.{option_map};
 ghost use Rattle.jfs_bits.specs.Field.{range_of};
 ghost use Rattle.jfs_disk.specs.Image.{page_of};
-ghost use Rattle.jfs_objects.specs.Contents.{block_in, block_of, bytes_at};
+ghost use Rattle.jfs_meaning.specs.objects.specs.Contents.{block_in, block_of, bytes_at};
 ghost use Rattle.jfs_reader.specs.Reading.{PageIs, OutsideIsPast, CarriesRead};
 
 use crate::error::ReadError;

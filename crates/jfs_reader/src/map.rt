@@ -3,9 +3,9 @@
 ghost use Rattle.std.specs.Prelude.{◌≡◌, ◌≤◌, ◌<◌, ◌+◌, ◌*◌, ◌/◌, ◌%◌, ◌^◌, suc, IfOk, IfErr};
 ghost use Rattle.jfs_disk.specs.Image.{page_of};
 ghost use Rattle.jfs_bits.specs.Descriptor.{FitsPxd};
-ghost use Rattle.jfs_objects.specs.Volume.{home, page_in};
-ghost use Rattle.jfs_objects.specs.Contents.{block_of};
-ghost use Rattle.jfs_objects.specs.Image.{file_extents, extent_place, extent_on, extents_on};
+ghost use Rattle.jfs_meaning.specs.objects.specs.Volume.{home, page_in};
+ghost use Rattle.jfs_meaning.specs.objects.specs.Contents.{block_of};
+ghost use Rattle.jfs_meaning.specs.objects.specs.Image.{file_extents, extent_place, extent_on, extents_on};
 ghost use Rattle.jfs_meaning.specs.Readers.{readers};
 ghost use Rattle.jfs_reader.specs.Reading.{IsBelow, OutsideIsPast, CarriesRead};
 ghost use Rattle.jfs_reader.specs.Map.{IsInodeMap, iag_block, number_in, place_in};

@@ -4,7 +4,7 @@ ghost use Rattle.std.specs.Prelude.{◌≡◌, ◌<◌, ◌/◌, ◌%◌, IfOk, 
 ghost use Rattle.jfs_disk.specs.Image.{page_of};
 ghost use Rattle.jfs_bits.specs.Field.{range_of};
 ghost use Rattle.jfs_bits.specs.Bits.{is_taken};
-ghost use Rattle.jfs_objects.specs.Image.{iag_page, is_inode_used};
+ghost use Rattle.jfs_meaning.specs.objects.specs.Image.{iag_page, is_inode_used};
 ghost use Rattle.jfs_meaning.specs.Readers.{readers};
 ghost use Rattle.jfs_reader.specs.Reading.{OutsideIsPast, CarriesRead};
 ghost use Rattle.jfs_reader.specs.Map.{IsInodeMap, iag_block, bit_in};

@@ -5,3 +5,5 @@ mod link;
 mod stored;
 
 pub use link::read_link;
+
+// libraries below, passed on

@@ -10,3 +10,5 @@ pub mod Marks
 pub mod Laws
 -- for the prover
 pub mod Steps
+-- libraries below, passed on
+pub use Rattle.jfs_logpages as logpages

@@ -21,3 +21,6 @@ pub use read::transactions;
 pub use regroup::records_of;
 pub use size::entry_size;
 pub use write::entry_text;
+
+// libraries below, passed on
+pub use jfs_logpages as logpages;

@@ -7,8 +7,8 @@ use Rattle.std.proofs.lemmas.Option.{same_Some}
 use Rattle.jfs_bits.specs.Bits.{is_in_run}
 use Rattle.jfs_ranges.specs.declared.edit.Edit.{Edit}
 use Rattle.jfs_ranges.specs.declared.edit.Edit.TheVariants.{Lines, NoRedo, Alloc, Free}
-use Rattle.jfs_each.specs.Each.{AllFit}
-use Rattle.jfs_steps.specs.After.{is_extent, place_in, extents_after, used_after, with_run, four_from}
+use Rattle.jfs_redo_steps.specs.each.specs.Each.{AllFit}
+use Rattle.jfs_redo_steps.specs.steps.specs.After.{is_extent, place_in, extents_after, used_after, with_run, four_from}
 use Rattle.jfs_redo.specs.Log.{ExtentsLieWithin}
 
 -- ---- inode extents

@@ -4,3 +4,5 @@ pub mod Stored
 pub mod Rooted
 pub mod Grown
 pub mod Spread
+
+-- libraries below, passed on

@@ -12,3 +12,5 @@ pub use entries::items;
 pub use refilling::refill;
 pub use root::store_root;
 pub use storing::{ENTRIES, store};
+
+// libraries below, passed on

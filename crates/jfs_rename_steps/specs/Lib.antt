@@ -2,3 +2,5 @@
 pub mod Entries
 pub mod Objects
 pub mod Moves
+
+-- libraries below, passed on

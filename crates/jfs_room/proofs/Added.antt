@@ -8,8 +8,8 @@ use Rattle.jfs_bits.specs.declared.descriptor.Pxd.{Pxd}
 use Rattle.jfs_bits.proofs.Counts.{in_run, before_run}
 use Rattle.jfs_iag.specs.Iag.{no_run}
 use Rattle.jfs_iag.specs.Canonical.{is_there}
-use Rattle.jfs_imap.specs.Inodes.{Inodes, extent_at, is_used, is_free, with_extent, IsPick}
-use Rattle.jfs_imap.specs.declared.inode_map.Pick.TheVariants.{NeedsExtent}
+use Rattle.jfs_way.specs.imap.specs.Inodes.{Inodes, extent_at, is_used, is_free, with_extent, IsPick}
+use Rattle.jfs_way.specs.imap.specs.declared.inode_map.Pick.TheVariants.{NeedsExtent}
 use Rattle.jfs_room.specs.Laws.{AddedLaw}
 
 module _ (m : Inodes) (place : ℕ) (at : Pxd) (pick : IsPick m (NeedsExtent place)) (there : is_there at ≡ true) where

@@ -6,14 +6,14 @@ use Rattle.jfs_bits.specs.Bits.{is_free_run}
 use Rattle.jfs_bits.proofs.Buds.{any_below-at, any_below-from}
 use Rattle.jfs_bits.proofs.Counts.{count_below-same}
 use Rattle.jfs_bits.proofs.Runs.{is_free-at, is_free-from}
-use Rattle.jfs_imap.specs.Inodes.{Inodes}
-use Rattle.jfs_bmap.specs.States.{BlockState, Free, Owned, Reserved, Busy, Blocks, is_free_state, is_owned_state, is_busy_state, state_of, is_used, is_owned, all_settled}
-use Rattle.jfs_bmap.proofs.States.{changed-each}
-use Rattle.jfs_objects.specs.Readers.{Readers}
-use Rattle.jfs_objects.specs.Volume.{Volume}
-use Rattle.jfs_objects.specs.Owners.{Agrees, bit}
-use Rattle.jfs_meaning.specs.Room as meaning
-use Rattle.jfs_meaning.proofs.Free.{free_law}
+use Rattle.jfs_way.specs.imap.specs.Inodes.{Inodes}
+use Rattle.jfs_way.specs.bmap.specs.States.{BlockState, Free, Owned, Reserved, Busy, Blocks, is_free_state, is_owned_state, is_busy_state, state_of, is_used, is_owned, all_settled}
+use Rattle.jfs_way.specs.bmap.proofs.States.{changed-each}
+use Rattle.jfs_way.specs.objects.specs.Readers.{Readers}
+use Rattle.jfs_way.specs.objects.specs.Volume.{Volume}
+use Rattle.jfs_way.specs.objects.specs.Owners.{Agrees, bit}
+use Rattle.jfs_way.specs.meaning.specs.Room as meaning
+use Rattle.jfs_way.specs.meaning.proofs.Free.{free_law}
 use Rattle.jfs_way.specs.Volume.{volume_of}
 use Rattle.jfs_room.specs.Laws.{blocks_in, FreeLaw, RunLaw, NoneReserved, TellsRun}
 

@@ -4,16 +4,16 @@ use Rattle.std.proofs.lemmas.List.{get_or-map, length-map}
 use Rattle.jfs_bits.specs.declared.descriptor.Pxd.{Pxd}
 use Rattle.jfs_iag.specs.Iag.{no_run}
 use Rattle.jfs_iag.specs.Canonical.{is_there}
-use Rattle.jfs_imap.specs.Inodes.{Inodes, extent_at, is_used, is_free, IsPick}
-use Rattle.jfs_imap.specs.declared.inode_map.Pick.{Pick}
-use Rattle.jfs_imap.specs.declared.inode_map.Pick.TheVariants.{Number, NeedsExtent, NoInodes}
-use Rattle.jfs_bmap.specs.States.{Blocks}
-use Rattle.jfs_objects.specs.Image.{extent_place}
-use Rattle.jfs_objects.specs.Readers.{Readers}
-use Rattle.jfs_objects.specs.Volume.{Volume, home, room}
-use Rattle.jfs_objects.specs.Owners.{Agrees}
-use Rattle.jfs_objects.proofs.Found.{home_within}
-use Rattle.jfs_meaning.specs.Room.{lowest, or_else, first_of, is_free_inode, is_empty_place, has_run, fresh_inode}
+use Rattle.jfs_way.specs.imap.specs.Inodes.{Inodes, extent_at, is_used, is_free, IsPick}
+use Rattle.jfs_way.specs.imap.specs.declared.inode_map.Pick.{Pick}
+use Rattle.jfs_way.specs.imap.specs.declared.inode_map.Pick.TheVariants.{Number, NeedsExtent, NoInodes}
+use Rattle.jfs_way.specs.bmap.specs.States.{Blocks}
+use Rattle.jfs_way.specs.objects.specs.Image.{extent_place}
+use Rattle.jfs_way.specs.objects.specs.Readers.{Readers}
+use Rattle.jfs_way.specs.objects.specs.Volume.{Volume, home, room}
+use Rattle.jfs_way.specs.objects.specs.Owners.{Agrees}
+use Rattle.jfs_way.specs.objects.proofs.Found.{home_within}
+use Rattle.jfs_way.specs.meaning.specs.Room.{lowest, or_else, first_of, is_free_inode, is_empty_place, has_run, fresh_inode}
 use Rattle.jfs_way.specs.Volume.{volume_of}
 use Rattle.jfs_way.proofs.Places.{home_is}
 use Rattle.jfs_room.specs.Laws.{FreshLaw, picked}

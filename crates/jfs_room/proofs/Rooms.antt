@@ -1,11 +1,11 @@
 -- The whole room.
 use Rattle.std.proofs.Common.{◌≡◌, refl, sym, ap, ◌∙◌, ℕ, ◌%◌, ◌&&◌, List, Option, Some, None}
 use Rattle.jfs_inode.specs.declared.fields.Dinode.{Dinode}
-use Rattle.jfs_dtree.specs.Room.{is_deep}
-use Rattle.jfs_objects.specs.Volume.{slot_of}
-use Rattle.jfs_objects.specs.Objects.{Object, objects, spelled, has_names}
-use Rattle.jfs_meaning.specs.Readers.{readers, root_of}
-use Rattle.jfs_meaning.specs.Room.{is_deep_in, room_on}
+use Rattle.jfs_way.specs.dtree.specs.Room.{is_deep}
+use Rattle.jfs_way.specs.objects.specs.Volume.{slot_of}
+use Rattle.jfs_way.specs.objects.specs.Objects.{Object, objects, spelled, has_names}
+use Rattle.jfs_way.specs.meaning.specs.Readers.{readers, root_of}
+use Rattle.jfs_way.specs.meaning.specs.Room.{is_deep_in, room_on}
 use Rattle.jfs_way.specs.Volume.{volume_of}
 use Rattle.jfs_way.specs.declared.object.Held.{Held}
 use Rattle.jfs_way.proofs.Places.{home_is}

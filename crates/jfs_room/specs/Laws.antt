@@ -3,20 +3,20 @@ use Rattle.std.specs.Prelude.{◌≡◌, ◌≢◌, ◌↔◌, ℕ, ◌*◌, Boo
 use Rattle.jfs_bits.specs.declared.descriptor.Pxd.{Pxd}
 use Rattle.jfs_super.specs.Geometry.{file_limit_of}
 use Rattle.jfs_iag.specs.Canonical.{is_there}
-use Rattle.jfs_imap.specs.Inodes.{Inodes, IsPick, with_extent}
-use Rattle.jfs_imap.specs.declared.inode_map.Pick.{Pick}
-use Rattle.jfs_imap.specs.declared.inode_map.Pick.TheVariants.{Number, NeedsExtent, NoInodes}
-use Rattle.jfs_bmap.specs.Set.{HasFreeRun}
-use Rattle.jfs_bmap.specs.States.{Blocks, Reserved, state_of, is_used, all_settled, unowned_count}
-use Rattle.jfs_dtree.specs.Room.{is_deep}
-use Rattle.jfs_plain.specs.Step.{Room}
-use Rattle.jfs_objects.specs.Readers.{Readers}
-use Rattle.jfs_objects.specs.Volume.{Volume}
-use Rattle.jfs_objects.specs.Objects.{Object, objects, has_names}
-use Rattle.jfs_objects.specs.Owners.{Agrees}
-use Rattle.jfs_meaning.specs.Readers.{readers, root_of}
-use Rattle.jfs_meaning.specs.Consistent.{IsConsistent}
-use Rattle.jfs_meaning.specs.Room.{free_blocks, has_run, fresh_inode, room_on}
+use Rattle.jfs_way.specs.imap.specs.Inodes.{Inodes, IsPick, with_extent}
+use Rattle.jfs_way.specs.imap.specs.declared.inode_map.Pick.{Pick}
+use Rattle.jfs_way.specs.imap.specs.declared.inode_map.Pick.TheVariants.{Number, NeedsExtent, NoInodes}
+use Rattle.jfs_way.specs.bmap.specs.Set.{HasFreeRun}
+use Rattle.jfs_way.specs.bmap.specs.States.{Blocks, Reserved, state_of, is_used, all_settled, unowned_count}
+use Rattle.jfs_way.specs.dtree.specs.Room.{is_deep}
+use Rattle.jfs_way.specs.plain.specs.Step.{Room}
+use Rattle.jfs_way.specs.objects.specs.Readers.{Readers}
+use Rattle.jfs_way.specs.objects.specs.Volume.{Volume}
+use Rattle.jfs_way.specs.objects.specs.Objects.{Object, objects, has_names}
+use Rattle.jfs_way.specs.objects.specs.Owners.{Agrees}
+use Rattle.jfs_way.specs.meaning.specs.Readers.{readers, root_of}
+use Rattle.jfs_way.specs.meaning.specs.Consistent.{IsConsistent}
+use Rattle.jfs_way.specs.meaning.specs.Room.{free_blocks, has_run, fresh_inode, room_on}
 use Rattle.jfs_way.specs.Volume.{volume_of}
 use Rattle.jfs_way.specs.Walk.{IsHeld, IsShown, IsThere, tree_in}
 use Rattle.jfs_way.specs.declared.object.Held.{Held}

@@ -1,1 +1,3 @@
 pub mod Laws
+
+-- libraries below, passed on

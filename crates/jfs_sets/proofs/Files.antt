@@ -9,10 +9,10 @@ use Rattle.byteorder.specs.Endian.{little_from}
 use Rattle.jfs_bits.specs.Field.{field_of, range_of}
 use Rattle.jfs_bits.specs.Bits.{is_taken, is_taken_in}
 use Rattle.jfs_bits.specs.declared.extent.Xad.{Xad}
-use Rattle.jfs_objects.specs.Readers.{Readers}
-use Rattle.jfs_objects.specs.Contents.{block_of, bytes_at}
-use Rattle.jfs_objects.specs.Image.{file_extents, file_page, iag_page, is_block_used, is_inode_used, extents_on}
-use Rattle.jfs_objects.specs.Volume.{home}
+use Rattle.jfs_mount.specs.objects.specs.Readers.{Readers}
+use Rattle.jfs_mount.specs.objects.specs.Contents.{block_of, bytes_at}
+use Rattle.jfs_mount.specs.objects.specs.Image.{file_extents, file_page, iag_page, is_block_used, is_inode_used, extents_on}
+use Rattle.jfs_mount.specs.objects.specs.Volume.{home}
 use Rattle.jfs_disk.specs.Image.{Image, page_of}
 use Rattle.jfs_ranges.specs.declared.view.ViewError.{ViewError}
 use Rattle.jfs_mount.specs.Subject.{subject_of}

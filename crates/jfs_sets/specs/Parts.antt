@@ -3,7 +3,7 @@ use Rattle.std.specs.Prelude.{◌≡◌, ◌≤◌, ◌<◌, ◌+◌, ℕ, zero,
 use Rattle.std.specs.Option.{option_map}
 use Rattle.jfs_bits.specs.declared.extent.Xad.{Xad}
 use Rattle.jfs_bits.specs.Field.{range_of}
-use Rattle.jfs_objects.specs.Contents.{block_of, bytes_at}
+use Rattle.jfs_mount.specs.objects.specs.Contents.{block_of, bytes_at}
 
 -- a part of a page, or zeros where there is none
 abbrev pub or_zeros : ℕ → Option (List ℕ) → List ℕ

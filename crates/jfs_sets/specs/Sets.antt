@@ -5,8 +5,8 @@ use Rattle.jfs_bits.specs.Field.{range_of}
 use Rattle.jfs_bits.specs.declared.descriptor.Pxd.{Pxd}
 use Rattle.jfs_super.specs.declared.fields.Super.{Super}
 use Rattle.jfs_disk.specs.Image.{Image, page_of}
-use Rattle.jfs_objects.specs.Volume.{home}
-use Rattle.jfs_objects.specs.Image.{iag_page}
+use Rattle.jfs_mount.specs.objects.specs.Volume.{home}
+use Rattle.jfs_mount.specs.objects.specs.Image.{iag_page}
 use Rattle.jfs_mount.specs.Subject.{Subject, subject_of, volume}
 use Rattle.jfs_mount.specs.Steps.{AreRead}
 use Rattle.jfs_mount.specs.declared.maps.Maps.{Maps}

@@ -1,10 +1,10 @@
 -- Canonical pages show the maps that they are of.
 use Rattle.std.proofs.Common.{◌≡◌, refl, sym, ap, ◌∙◌, ℕ, zero, suc, List, length, arith}
 use Rattle.jfs_bits.specs.Bits.{is_taken}
-use Rattle.jfs_imap.specs.Inodes.{Inodes, IsInodePage}
-use Rattle.jfs_bmap.specs.MapFile.{IsMapPage}
-use Rattle.jfs_bmap.specs.States.{Blocks, is_owned}
-use Rattle.jfs_objects.specs.Image.{extent_place}
+use Rattle.jfs_way.specs.imap.specs.Inodes.{Inodes, IsInodePage}
+use Rattle.jfs_way.specs.bmap.specs.MapFile.{IsMapPage}
+use Rattle.jfs_way.specs.bmap.specs.States.{Blocks, is_owned}
+use Rattle.jfs_way.specs.objects.specs.Image.{extent_place}
 use Rattle.jfs_shown.specs.Shown.{ShowsBlocks, ShowsInodes}
 use Rattle.jfs_shown.specs.Laws.{CanonicalLaw}
 

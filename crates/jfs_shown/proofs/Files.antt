@@ -6,17 +6,17 @@ use Rattle.std.proofs.lemmas.Option.{slice_get-get_or}
 use Rattle.jfs_bits.specs.declared.extent.Xad.{Xad}
 use Rattle.jfs_super.specs.Rules.{blocks_of}
 use Rattle.jfs_super.specs.declared.fields.Super.{Super}
-use Rattle.jfs_imap.specs.Inodes.{Inodes}
-use Rattle.jfs_bmap.specs.States.{Blocks}
+use Rattle.jfs_way.specs.imap.specs.Inodes.{Inodes}
+use Rattle.jfs_way.specs.bmap.specs.States.{Blocks}
 use Rattle.jfs_map_files.specs.declared.map_file.MapFiles.{MapFiles}
-use Rattle.jfs_objects.specs.Readers.{Readers}
-use Rattle.jfs_objects.specs.Volume.{Volume}
-use Rattle.jfs_objects.specs.Owners.{Agrees, owners, bit, covers, run_has, unless_broken}
-use Rattle.jfs_objects.specs.Objects.{met, listed}
-use Rattle.jfs_objects.specs.Contents.{block_of, block_in, bytes_at}
-use Rattle.jfs_objects.specs.Image.{file_extents, file_page, file_has, file_walk, area_on}
-use Rattle.jfs_objects.proofs.Blocks.{covered}
-use Rattle.jfs_meaning.specs.Readers.{readers}
+use Rattle.jfs_way.specs.objects.specs.Readers.{Readers}
+use Rattle.jfs_way.specs.objects.specs.Volume.{Volume}
+use Rattle.jfs_way.specs.objects.specs.Owners.{Agrees, owners, bit, covers, run_has, unless_broken}
+use Rattle.jfs_way.specs.objects.specs.Objects.{met, listed}
+use Rattle.jfs_way.specs.objects.specs.Contents.{block_of, block_in, bytes_at}
+use Rattle.jfs_way.specs.objects.specs.Image.{file_extents, file_page, file_has, file_walk, area_on}
+use Rattle.jfs_way.specs.objects.proofs.Blocks.{covered}
+use Rattle.jfs_way.specs.meaning.specs.Readers.{readers}
 use Rattle.jfs_way.specs.Volume.{volume_of}
 use Rattle.jfs_shown.specs.Shown.{ShowsBlocks, ShowsInodes, ShowsMaps}
 use Rattle.jfs_shown.specs.Laws.{map_pages}

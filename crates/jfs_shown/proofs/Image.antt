@@ -12,18 +12,18 @@ use Rattle.jfs_super.specs.Rules.{blocks_of}
 use Rattle.jfs_super.specs.declared.fields.Super.{Super}
 use Rattle.jfs_iag.specs.Iag.{no_run}
 use Rattle.jfs_iag.specs.Canonical.{is_there}
-use Rattle.jfs_imap.specs.Inodes.{Inodes, is_used, extent_at}
-use Rattle.jfs_bmap.specs.Pages.{dmaps_of}
-use Rattle.jfs_bmap.specs.States.{Blocks, is_owned}
-use Rattle.jfs_objects.specs.Readers.{Readers}
-use Rattle.jfs_objects.specs.Volume.{Volume, home, page_in}
-use Rattle.jfs_objects.specs.Objects.{Object, objects, object_in}
-use Rattle.jfs_objects.specs.Image.{file_page, iag_page, iags_on, extent_place, extent_on, extents_on, is_block_used, is_inode_used, area_on}
-use Rattle.jfs_meaning.specs.Readers.{readers}
-use Rattle.jfs_meaning.specs.Tree.{tree_on}
-use Rattle.jfs_meaning.specs.Room.{room_on}
-use Rattle.jfs_meaning.specs.Consistent.{IsConsistent}
-use Rattle.jfs_meaning.specs.Image as meaning
+use Rattle.jfs_way.specs.imap.specs.Inodes.{Inodes, is_used, extent_at}
+use Rattle.jfs_way.specs.bmap.specs.Pages.{dmaps_of}
+use Rattle.jfs_way.specs.bmap.specs.States.{Blocks, is_owned}
+use Rattle.jfs_way.specs.objects.specs.Readers.{Readers}
+use Rattle.jfs_way.specs.objects.specs.Volume.{Volume, home, page_in}
+use Rattle.jfs_way.specs.objects.specs.Objects.{Object, objects, object_in}
+use Rattle.jfs_way.specs.objects.specs.Image.{file_page, iag_page, iags_on, extent_place, extent_on, extents_on, is_block_used, is_inode_used, area_on}
+use Rattle.jfs_way.specs.meaning.specs.Readers.{readers}
+use Rattle.jfs_way.specs.meaning.specs.Tree.{tree_on}
+use Rattle.jfs_way.specs.meaning.specs.Room.{room_on}
+use Rattle.jfs_way.specs.meaning.specs.Consistent.{IsConsistent}
+use Rattle.jfs_way.specs.meaning.specs.Image as meaning
 use Rattle.jfs_way.specs.Volume.{volume_of}
 use Rattle.jfs_shown.specs.Shown.{ShowsBlocks, ShowsGroup, ShowsMaps}
 use Rattle.jfs_shown.specs.Laws.{HasSizes, AreAreas, SpellsVolume, ImageLaw}

@@ -5,14 +5,14 @@ use Rattle.std.proofs.lemmas.Bool.Decides.{nat_tests}
 use Rattle.jfs_bits.specs.declared.descriptor.Pxd.{Pxd}
 use Rattle.jfs_bits.specs.declared.extent.Xad.{Xad}
 use Rattle.jfs_inode.specs.declared.fields.Dinode.{Dinode}
-use Rattle.jfs_tree.specs.Walk.{Marks}
-use Rattle.jfs_tree.specs.Spells.{tree_of, footprint as root_footprint}
-use Rattle.jfs_tree.proofs.Footprint.{tree_frame}
-use Rattle.jfs_objects.specs.Readers.{Readers}
-use Rattle.jfs_objects.specs.Volume.{Volume, slot_of, room}
-use Rattle.jfs_objects.specs.Objects.{objects, met, listed}
-use Rattle.jfs_objects.specs.Owners.{Agrees, owners, bit, unless_broken, entries, run_has, covers, holds, extents_have, sum_below}
-use Rattle.jfs_objects.specs.Image.{aggregate_at, file_walk, file_extents, file_has, area_on}
+use Rattle.jfs_way.specs.page_tree.specs.Walk.{Marks}
+use Rattle.jfs_way.specs.page_tree.specs.Spells.{tree_of, footprint as root_footprint}
+use Rattle.jfs_way.specs.page_tree.proofs.Footprint.{tree_frame}
+use Rattle.jfs_way.specs.objects.specs.Readers.{Readers}
+use Rattle.jfs_way.specs.objects.specs.Volume.{Volume, slot_of, room}
+use Rattle.jfs_way.specs.objects.specs.Objects.{objects, met, listed}
+use Rattle.jfs_way.specs.objects.specs.Owners.{Agrees, owners, bit, unless_broken, entries, run_has, covers, holds, extents_have, sum_below}
+use Rattle.jfs_way.specs.objects.specs.Image.{aggregate_at, file_walk, file_extents, file_has, area_on}
 use Rattle.jfs_kinds.specs.Images.{IsWholeFile, HasWholeFiles}
 use Rattle.jfs_shown.specs.Laws.{KeepsPlaces, SamePlaces, FilesLaw, map_pages, KeepsAreas, KeepsLaw}
 

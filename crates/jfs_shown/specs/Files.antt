@@ -2,17 +2,17 @@
 use Rattle.std.specs.Prelude.{◌≡◌, ◌<◌, ◌+◌, ℕ, false, List, length, slice_get, Some}
 use Rattle.jfs_super.specs.Rules.{blocks_of}
 use Rattle.jfs_super.specs.declared.fields.Super.{Super}
-use Rattle.jfs_imap.specs.Inodes.{Inodes}
-use Rattle.jfs_bmap.specs.MapFile.{pages_of}
-use Rattle.jfs_bmap.specs.States.{Blocks}
+use Rattle.jfs_way.specs.imap.specs.Inodes.{Inodes}
+use Rattle.jfs_way.specs.bmap.specs.MapFile.{pages_of}
+use Rattle.jfs_way.specs.bmap.specs.States.{Blocks}
 use Rattle.jfs_map_files.specs.declared.map_file.MapFiles.{MapFiles}
-use Rattle.jfs_objects.specs.Readers.{Readers}
-use Rattle.jfs_objects.specs.Volume.{Volume}
-use Rattle.jfs_objects.specs.Owners.{Agrees}
-use Rattle.jfs_objects.specs.Contents.{block_of}
-use Rattle.jfs_objects.specs.Image.{file_extents}
+use Rattle.jfs_way.specs.objects.specs.Readers.{Readers}
+use Rattle.jfs_way.specs.objects.specs.Volume.{Volume}
+use Rattle.jfs_way.specs.objects.specs.Owners.{Agrees}
+use Rattle.jfs_way.specs.objects.specs.Contents.{block_of}
+use Rattle.jfs_way.specs.objects.specs.Image.{file_extents}
 use Rattle.jfs_kinds.specs.Images.{HasWholeFiles}
-use Rattle.jfs_meaning.specs.Readers.{readers}
+use Rattle.jfs_way.specs.meaning.specs.Readers.{readers}
 use Rattle.jfs_way.specs.Volume.{volume_of}
 use Rattle.jfs_shown.specs.Shown.{ShowsBlocks, ShowsInodes, ShowsMaps}
 use Rattle.jfs_shown.specs.Laws.{HasSizes, AreAreas, KeepsPlaces, map_pages}

@@ -3,19 +3,19 @@ use Rattle.std.specs.Prelude.{◌≡◌, ◌≢◌, ◌<◌, ◌+◌, ◌*◌, �
 use Rattle.jfs_bits.specs.declared.descriptor.Pxd.{Pxd}
 use Rattle.jfs_super.specs.Rules.{blocks_of}
 use Rattle.jfs_super.specs.declared.fields.Super.{Super}
-use Rattle.jfs_imap.specs.Inodes.{Inodes, IsInodePage}
-use Rattle.jfs_bmap.specs.MapFile.{IsMapPage}
-use Rattle.jfs_bmap.specs.States.{Blocks, is_owned}
-use Rattle.jfs_objects.specs.Readers.{Readers}
-use Rattle.jfs_objects.specs.Volume.{Volume}
-use Rattle.jfs_objects.specs.Objects.{met}
-use Rattle.jfs_objects.specs.Owners.{Agrees, covers}
-use Rattle.jfs_objects.specs.Image.{file_walk, file_extents, area_on}
+use Rattle.jfs_way.specs.imap.specs.Inodes.{Inodes, IsInodePage}
+use Rattle.jfs_way.specs.bmap.specs.MapFile.{IsMapPage}
+use Rattle.jfs_way.specs.bmap.specs.States.{Blocks, is_owned}
+use Rattle.jfs_way.specs.objects.specs.Readers.{Readers}
+use Rattle.jfs_way.specs.objects.specs.Volume.{Volume}
+use Rattle.jfs_way.specs.objects.specs.Objects.{met}
+use Rattle.jfs_way.specs.objects.specs.Owners.{Agrees, covers}
+use Rattle.jfs_way.specs.objects.specs.Image.{file_walk, file_extents, area_on}
 use Rattle.jfs_kinds.specs.Images.{HasWholeFiles}
-use Rattle.jfs_meaning.specs.Readers.{readers}
-use Rattle.jfs_meaning.specs.Room.{room_on}
-use Rattle.jfs_meaning.specs.Consistent.{IsConsistent}
-use Rattle.jfs_meaning.specs.Image as meaning
+use Rattle.jfs_way.specs.meaning.specs.Readers.{readers}
+use Rattle.jfs_way.specs.meaning.specs.Room.{room_on}
+use Rattle.jfs_way.specs.meaning.specs.Consistent.{IsConsistent}
+use Rattle.jfs_way.specs.meaning.specs.Image as meaning
 use Rattle.jfs_way.specs.Volume.{volume_of}
 use Rattle.jfs_way.specs.Walk.{tree_in}
 use Rattle.jfs_shown.specs.Shown.{ShowsBlocks, ShowsInodes, ShowsMaps}

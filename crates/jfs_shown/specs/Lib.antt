@@ -2,3 +2,5 @@
 pub mod Shown
 pub mod Laws
 pub mod Files
+
+-- libraries below, passed on

@@ -6,11 +6,11 @@ use Rattle.jfs_bits.specs.Field.{field_of, range_of}
 use Rattle.jfs_super.specs.Rules.{blocks_of}
 use Rattle.jfs_super.specs.declared.fields.Super.{Super}
 use Rattle.jfs_iag.specs.Canonical.{is_there}
-use Rattle.jfs_imap.specs.Inodes.{Inodes, is_used, extent_at}
-use Rattle.jfs_bmap.specs.MapFile.{pages_of}
-use Rattle.jfs_bmap.specs.States.{Blocks, is_owned}
-use Rattle.jfs_objects.specs.Image.{file_page, extent_place}
-use Rattle.jfs_meaning.specs.Readers.{readers}
+use Rattle.jfs_way.specs.imap.specs.Inodes.{Inodes, is_used, extent_at}
+use Rattle.jfs_way.specs.bmap.specs.MapFile.{pages_of}
+use Rattle.jfs_way.specs.bmap.specs.States.{Blocks, is_owned}
+use Rattle.jfs_way.specs.objects.specs.Image.{file_page, extent_place}
+use Rattle.jfs_way.specs.meaning.specs.Readers.{readers}
 
 -- Page `j` of the block map's file, on a volume of so many blocks: a dmap has the bits of the blocks with owners. The pages before the dmaps tell nothing more.
 abbrev pub ShowsBlocks : ℕ → Blocks → ℕ → List ℕ → Type 0

@@ -4,12 +4,12 @@ use Rattle.std.specs.Prelude.{min, get_or}
 use Rattle.std.proofs.lemmas.Bool.{cases_lt, lt-ltb, le-ltb}
 use Rattle.std.proofs.lemmas.Bool.Decides.{nat_tests}
 use Rattle.jfs_bits.specs.declared.extent.Xad.{Xad}
-use Rattle.jfs_xtree.specs.Cutting.{kept_below}
-use Rattle.jfs_objects.specs.Owners.{covers}
-use Rattle.jfs_objects.specs.Contents.{block_of, bytes_at}
-use Rattle.jfs_objects.proofs.Blocks.{covered}
-use Rattle.jfs_objects.proofs.Sums.{eq_or_not}
-use Rattle.jfs_meaning.specs.Contents.{byte_of}
+use Rattle.jfs_data_steps.specs.xtree.specs.Cutting.{kept_below}
+use Rattle.jfs_data_steps.specs.objects.specs.Owners.{covers}
+use Rattle.jfs_data_steps.specs.objects.specs.Contents.{block_of, bytes_at}
+use Rattle.jfs_data_steps.specs.objects.proofs.Blocks.{covered}
+use Rattle.jfs_data_steps.specs.objects.proofs.Sums.{eq_or_not}
+use Rattle.jfs_data_steps.specs.meaning.specs.Contents.{byte_of}
 use Rattle.jfs_data_steps.specs.declared.pages.DataPage.{DataPage}
 use Rattle.jfs_data_steps.specs.After.{is_put, page_put, put_data}
 use Rattle.jfs_data_steps.specs.File.{bytes_held}

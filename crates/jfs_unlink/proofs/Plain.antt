@@ -2,23 +2,23 @@
 use Rattle.std.proofs.Common.{◌≡◌, refl, sym, ap, ◌∙◌, subst, ℕ, ◌-◌, ◌==◌, not, Bool, true, false, nat_le, if◌then◌else◌, List, length, Result, Ok}
 use Rattle.jfs_bits.specs.declared.descriptor.Moment.{Moment}
 use Rattle.jfs_name.specs.Directory.{without_name}
-use Rattle.jfs_plain.specs.Tree.{Tree, is_dir, Found, found_at, object, Place, place, place_at, and_then}
-use Rattle.jfs_plain.specs.Moves.{Same, stamped, falls, loses, changed, dropped, unnamed}
-use Rattle.jfs_plain.specs.Step.{Room, Outcome, Answers, outcome, refuse, has_names, is_last_of_big, lost, unlink, rmdir}
-use Rattle.jfs_plain.specs.declared.call.Call.{Call}
-use Rattle.jfs_plain.specs.declared.node.Node.{Node}
-use Rattle.jfs_plain.specs.declared.refusal.Refusal.{Refusal}
-use Rattle.jfs_plain.specs.declared.refusal.Refusal.TheVariants.{NotDir, IsDir, NotEmpty, FileTooBig, IntoItself}
-use Rattle.jfs_plain.specs.declared.reply.Reply.TheVariants.{Done}
-use Rattle.jfs_objects.specs.Volume.{Volume, room}
-use Rattle.jfs_meaning.specs.Readers.{readers}
-use Rattle.jfs_meaning.specs.Tree.{tree_on}
-use Rattle.jfs_meaning.specs.Consistent.{IsConsistent, IsConsistentTree}
-use Rattle.jfs_meaning.specs.Laws.{IsFresh}
-use Rattle.jfs_meaning.proofs.Steps.{step_keeps}
-use Rattle.jfs_lead_steps.specs.Reached.{HasTree}
-use Rattle.jfs_lead_steps.proofs.Chain.{same_tree, twice}
-use Rattle.jfs_lead_steps.proofs.Turned.{turns}
+use Rattle.jfs_loss.specs.plain.specs.Tree.{Tree, is_dir, Found, found_at, object, Place, place, place_at, and_then}
+use Rattle.jfs_loss.specs.plain.specs.Moves.{Same, stamped, falls, loses, changed, dropped, unnamed}
+use Rattle.jfs_loss.specs.plain.specs.Step.{Room, Outcome, Answers, outcome, refuse, has_names, is_last_of_big, lost, unlink, rmdir}
+use Rattle.jfs_loss.specs.plain.specs.declared.call.Call.{Call}
+use Rattle.jfs_loss.specs.plain.specs.declared.node.Node.{Node}
+use Rattle.jfs_loss.specs.plain.specs.declared.refusal.Refusal.{Refusal}
+use Rattle.jfs_loss.specs.plain.specs.declared.refusal.Refusal.TheVariants.{NotDir, IsDir, NotEmpty, FileTooBig, IntoItself}
+use Rattle.jfs_loss.specs.plain.specs.declared.reply.Reply.TheVariants.{Done}
+use Rattle.jfs_loss.specs.objects.specs.Volume.{Volume, room}
+use Rattle.jfs_loss.specs.meaning.specs.Readers.{readers}
+use Rattle.jfs_loss.specs.meaning.specs.Tree.{tree_on}
+use Rattle.jfs_loss.specs.meaning.specs.Consistent.{IsConsistent, IsConsistentTree}
+use Rattle.jfs_loss.specs.meaning.specs.Laws.{IsFresh}
+use Rattle.jfs_loss.specs.meaning.proofs.Steps.{step_keeps}
+use Rattle.jfs_loss.specs.lead_steps.specs.Reached.{HasTree}
+use Rattle.jfs_loss.specs.lead_steps.proofs.Chain.{same_tree, twice}
+use Rattle.jfs_loss.specs.lead_steps.proofs.Turned.{turns}
 
 -- ---- a volume with the tree that a plain step leaves
 

@@ -6,9 +6,9 @@ use Rattle.jfs_disk.specs.Crash.{DiskState, last_of, Leaves, TearsPage}
 use Rattle.jfs_disk.specs.Moment.{IsResting}
 use Rattle.jfs_disk.specs.declared.disk.Fault.{Fault}
 use Rattle.jfs_disk.specs.declared.disk.Part.TheVariants.{Low, High}
-use Rattle.jfs_pages.specs.Dirty.{dirty_of}
-use Rattle.jfs_halves.specs.Parts.{Parts}
-use Rattle.jfs_halves.specs.Log.{LogParts}
+use Rattle.jfs_mounted.specs.pages.specs.Dirty.{dirty_of}
+use Rattle.jfs_mounted.specs.halves.specs.Parts.{Parts}
+use Rattle.jfs_mounted.specs.halves.specs.Log.{LogParts}
 use Rattle.jfs_volume_calls.specs.Together.{AreTogether, OfBothHalves}
 use Rattle.jfs_volume_calls.specs.Syncpoint.{SyncpointIs}
 

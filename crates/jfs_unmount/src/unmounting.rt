@@ -4,7 +4,7 @@ ghost use Rattle.std.specs.Prelude.{◌≡◌, ◌≤◌, ◌<◌, ◌+◌, ◌-
 ghost use Rattle.jfs_disk.specs.Crash.{last_of, AllSince, TearsPage};
 ghost use Rattle.jfs_disk.specs.Moment.{IsResting, now_of};
 ghost use Rattle.jfs_disk.specs.declared.disk.Part.TheVariants.{Low};
-ghost use Rattle.jfs_pages.specs.Device.{HasFault};
+ghost use Rattle.jfs_mounted.specs.pages.specs.Device.{HasFault};
 ghost use Rattle.jfs_volume_calls.specs.Together.{AreTogether, log_parts};
 ghost use Rattle.jfs_unmount.specs.Unmount.{Ends, IsUnended, IsUnmountCause, MarksClean};
 

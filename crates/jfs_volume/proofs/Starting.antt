@@ -4,7 +4,7 @@ use Rattle.std.proofs.lemmas.List.{length-map, get_or-map, ext_get_or}
 use Rattle.jfs_disk.specs.Image.{Image, page_of}
 use Rattle.jfs_disk.specs.Crash.{DiskState, seen_of, last_of, resting, settled}
 use Rattle.jfs_disk.specs.Moment.{IsResting}
-use Rattle.jfs_core.specs.Core.{Block, no_block, fresh_block}
+use Rattle.jfs_halves.specs.crash_core.specs.Core.{Block, no_block, fresh_block}
 use Rattle.jfs_halves.specs.Laws.{fresh_halves}
 use Rattle.jfs_halves.specs.Parts.{Parts, StandsFor}
 

@@ -5,23 +5,23 @@ use Rattle.std.proofs.lemmas.List.{append-nil, length-append}
 use Rattle.jfs_disk.specs.Crash.{DiskState}
 use Rattle.jfs_disk.specs.declared.disk.Fault.{Fault}
 use Rattle.jfs_logfmt.specs.declared.log_record.Record.TheVariants.{SyncPt}
-use Rattle.jfs_logpages.specs.declared.fault.LogFault.{LogFault}
-use Rattle.jfs_logpages.specs.Group.{position_of}
-use Rattle.jfs_logpages.specs.Records.{log_text}
-use Rattle.jfs_records.specs.Entries.{Item, entry, point, log_records, text_size}
-use Rattle.jfs_records.proofs.ReadBack.{length-items, text_size-append}
-use Rattle.jfs_halves.specs.Half.{VolumeHalf, Halves, is_open, told_upto, all_synced}
-use Rattle.jfs_halves.specs.Change.{Change, Takes, Tells, GoesHome, Drops, LogStops, Syncs, Points, Knows, MayPoint, changed as changed_volume, after as after_volume, Writes}
-use Rattle.jfs_halves.specs.Both.{BothChange, Changes, GroupIsWritten, GroupFails, changed, after}
-use Rattle.jfs_halves.specs.Parts.{Parts, StandsFor}
-use Rattle.jfs_halves.specs.Log.{LogParts, LogStandsFor}
-use Rattle.jfs_halves.specs.Moves.{Moves, MovesBoth}
-use Rattle.jfs_halves.proofs.Joined.{join_both, after_both-join, after-join}
-use Rattle.jfs_pages.specs.Dirty.{dirty_of}
+use Rattle.jfs_volume.specs.logpages.specs.declared.fault.LogFault.{LogFault}
+use Rattle.jfs_volume.specs.logpages.specs.Group.{position_of}
+use Rattle.jfs_volume.specs.logpages.specs.Records.{log_text}
+use Rattle.jfs_volume.specs.records.specs.Entries.{Item, entry, point, log_records, text_size}
+use Rattle.jfs_volume.specs.records.proofs.ReadBack.{length-items, text_size-append}
+use Rattle.jfs_volume.specs.halves.specs.Half.{VolumeHalf, Halves, is_open, told_upto, all_synced}
+use Rattle.jfs_volume.specs.halves.specs.Change.{Change, Takes, Tells, GoesHome, Drops, LogStops, Syncs, Points, Knows, MayPoint, changed as changed_volume, after as after_volume, Writes}
+use Rattle.jfs_volume.specs.halves.specs.Both.{BothChange, Changes, GroupIsWritten, GroupFails, changed, after}
+use Rattle.jfs_volume.specs.halves.specs.Parts.{Parts, StandsFor}
+use Rattle.jfs_volume.specs.halves.specs.Log.{LogParts, LogStandsFor}
+use Rattle.jfs_volume.specs.halves.specs.Moves.{Moves, MovesBoth}
+use Rattle.jfs_volume.specs.halves.proofs.Joined.{join_both, after_both-join, after-join}
+use Rattle.jfs_volume.specs.pages.specs.Dirty.{dirty_of}
 use Rattle.jfs_volume.specs.Told.{drops}
 use Rattle.jfs_volume.specs.Settle.{go_home, IsStop, stops, tears}
 use Rattle.jfs_volume.proofs.Settling.{may_point}
-use Rattle.jfs_data_steps.specs.declared.pages.DataPage.{DataPage}
+use Rattle.jfs_volume.specs.data_steps.specs.declared.pages.DataPage.{DataPage}
 use Rattle.jfs_volume.specs.Written.{writes, IsWriteStop, stops as write_stops, tears as write_tears}
 use Rattle.jfs_volume_calls.specs.Together.{NoGroup}
 use Rattle.jfs_volume_calls.specs.Commit.{Closes, group, committing, MayBeWritten, IsCommitted, GroupIs, WriteIs}

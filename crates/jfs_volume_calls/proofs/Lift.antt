@@ -2,12 +2,12 @@
 use Rattle.std.proofs.Common.{◌≡◌, Bool, List, [], ◌∷◌, ◌++◌, map, refl, sym, ap, ◌∙◌, subst}
 use Rattle.std.specs.List.{AllByRecursion}
 use Rattle.jfs_disk.specs.Crash.{DiskState}
-use Rattle.jfs_halves.specs.Half.{VolumeHalf, LogHalf, Halves}
-use Rattle.jfs_halves.specs.Change.{Change, Enters, Takes, Tells, HandsOut, GoesHome, Tears, Drops, Writes, WriteTears, Stops, LogStops, Syncs, Points, Knows, changed, states_of, after, FitAll, states_after}
-use Rattle.jfs_halves.specs.Both.{Changes, log_changed, FitsLog, after as after_both, FitAll as FitBoth, states_after as states_both}
-use Rattle.jfs_halves.specs.Parts.{Parts, StandsFor}
-use Rattle.jfs_halves.specs.Log.{LogParts, LogStandsFor}
-use Rattle.jfs_halves.specs.Moves.{Moves, MovesBoth}
+use Rattle.jfs_volume.specs.halves.specs.Half.{VolumeHalf, LogHalf, Halves}
+use Rattle.jfs_volume.specs.halves.specs.Change.{Change, Enters, Takes, Tells, HandsOut, GoesHome, Tears, Drops, Writes, WriteTears, Stops, LogStops, Syncs, Points, Knows, changed, states_of, after, FitAll, states_after}
+use Rattle.jfs_volume.specs.halves.specs.Both.{Changes, log_changed, FitsLog, after as after_both, FitAll as FitBoth, states_after as states_both}
+use Rattle.jfs_volume.specs.halves.specs.Parts.{Parts, StandsFor}
+use Rattle.jfs_volume.specs.halves.specs.Log.{LogParts, LogStandsFor}
+use Rattle.jfs_volume.specs.halves.specs.Moves.{Moves, MovesBoth}
 
 -- changes of the volume alone
 abbrev pub IsQuiet : Change → Type 0

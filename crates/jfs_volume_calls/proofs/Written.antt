@@ -8,16 +8,16 @@ use Rattle.jfs_disk.specs.Crash.{last_of}
 use Rattle.jfs_disk.specs.Moment.{IsResting}
 use Rattle.jfs_disk.specs.declared.disk.Fault.{Fault}
 use Rattle.jfs_logfmt.specs.Written.{text_of}
-use Rattle.jfs_logpages.specs.declared.last.Last.{Last}
-use Rattle.jfs_logpages.specs.Group.{Holds, position_of}
-use Rattle.jfs_logpages.specs.Records.{log_text}
-use Rattle.jfs_records.specs.Entries.{log_records, text_size}
-use Rattle.jfs_records.proofs.ReadBack.{length-items, text_size-append, records-append}
-use Rattle.jfs_core.specs.Step.{halted_by}
-use Rattle.jfs_halves.specs.Half.{LogHalf, Halves, is_open}
-use Rattle.jfs_halves.specs.Change.{Takes}
-use Rattle.jfs_halves.specs.Both.{Changes, GroupIsWritten, GroupFails, changed}
-use Rattle.jfs_halves.specs.Log.{LogParts, HoldsItems, LogStandsFor}
+use Rattle.jfs_volume.specs.logpages.specs.declared.last.Last.{Last}
+use Rattle.jfs_volume.specs.logpages.specs.Group.{Holds, position_of}
+use Rattle.jfs_volume.specs.logpages.specs.Records.{log_text}
+use Rattle.jfs_volume.specs.records.specs.Entries.{log_records, text_size}
+use Rattle.jfs_volume.specs.records.proofs.ReadBack.{length-items, text_size-append, records-append}
+use Rattle.jfs_volume.specs.crash_core.specs.Step.{halted_by}
+use Rattle.jfs_volume.specs.halves.specs.Half.{LogHalf, Halves, is_open}
+use Rattle.jfs_volume.specs.halves.specs.Change.{Takes}
+use Rattle.jfs_volume.specs.halves.specs.Both.{Changes, GroupIsWritten, GroupFails, changed}
+use Rattle.jfs_volume.specs.halves.specs.Log.{LogParts, HoldsItems, LogStandsFor}
 use Rattle.jfs_volume_calls.specs.Together.{NoGroup}
 
 -- ---- no group is open, and then one is

@@ -2,13 +2,13 @@
 use Rattle.std.specs.Prelude.{◌≡◌, ◌⊎◌, ◌++◌, ◌∷◌, [], ℕ, Bool, List, map, length, Result, Ok, Err}
 use Rattle.jfs_bits.specs.Count.{Rose}
 use Rattle.jfs_disk.specs.declared.disk.Part.TheVariants.{High}
-use Rattle.jfs_logpages.specs.declared.fault.LogFault.{LogFault}
-use Rattle.jfs_halves.specs.Half.{Halves}
-use Rattle.jfs_halves.specs.Parts.{Parts}
-use Rattle.jfs_halves.specs.Log.{LogParts}
-use Rattle.jfs_halves.specs.Change.{Takes, Tells}
-use Rattle.jfs_halves.specs.Both.{BothChange, Changes, GroupIsWritten, GroupFails, after}
-use Rattle.jfs_halves.specs.Moves.{MovesBoth}
+use Rattle.jfs_volume.specs.logpages.specs.declared.fault.LogFault.{LogFault}
+use Rattle.jfs_volume.specs.halves.specs.Half.{Halves}
+use Rattle.jfs_volume.specs.halves.specs.Parts.{Parts}
+use Rattle.jfs_volume.specs.halves.specs.Log.{LogParts}
+use Rattle.jfs_volume.specs.halves.specs.Change.{Takes, Tells}
+use Rattle.jfs_volume.specs.halves.specs.Both.{BothChange, Changes, GroupIsWritten, GroupFails, after}
+use Rattle.jfs_volume.specs.halves.specs.Moves.{MovesBoth}
 use Rattle.jfs_volume.specs.Told.{drops}
 use Rattle.jfs_volume_calls.specs.Together.{NoGroup}
 

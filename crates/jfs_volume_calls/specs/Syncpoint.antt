@@ -3,13 +3,13 @@ use Rattle.std.specs.Prelude.{◌≡◌, ◌⊎◌, ◌++◌, ◌∷◌, [], ℕ
 use Rattle.jfs_bits.specs.Count.{Rose}
 use Rattle.jfs_disk.specs.declared.disk.Fault.{Fault}
 use Rattle.jfs_disk.specs.declared.disk.Part.TheVariants.{Low, High}
-use Rattle.jfs_halves.specs.Half.{Halves}
-use Rattle.jfs_halves.specs.Parts.{Parts}
-use Rattle.jfs_halves.specs.Log.{LogParts}
-use Rattle.jfs_halves.specs.Change.{Change, Takes, Syncs, Points, Knows}
-use Rattle.jfs_halves.specs.Both.{BothChange, Changes, GroupIsWritten, GroupFails}
-use Rattle.jfs_halves.specs.Moves.{MovesBoth}
-use Rattle.jfs_data_steps.specs.declared.pages.DataPage.{DataPage}
+use Rattle.jfs_volume.specs.halves.specs.Half.{Halves}
+use Rattle.jfs_volume.specs.halves.specs.Parts.{Parts}
+use Rattle.jfs_volume.specs.halves.specs.Log.{LogParts}
+use Rattle.jfs_volume.specs.halves.specs.Change.{Change, Takes, Syncs, Points, Knows}
+use Rattle.jfs_volume.specs.halves.specs.Both.{BothChange, Changes, GroupIsWritten, GroupFails}
+use Rattle.jfs_volume.specs.halves.specs.Moves.{MovesBoth}
+use Rattle.jfs_volume.specs.data_steps.specs.declared.pages.DataPage.{DataPage}
 use Rattle.jfs_volume.specs.Settle.{go_home, IsStop}
 use Rattle.jfs_volume.specs.Written.{writes, IsWriteStop}
 use Rattle.jfs_volume_calls.specs.Commit.{Closes, IsWritten, committing}

@@ -10,3 +10,5 @@ pub use committing::commit;
 pub use leaving::leave;
 pub use point::PointText;
 pub use syncing::syncpoint;
+
+// libraries below, passed on

@@ -1,16 +1,16 @@
 //! A syncpoint.
 
 ghost use Rattle.std.specs.Prelude.{◌≡◌, ◌≤◌, ◌<◌, ◌+◌, ◌*◌, ◌^◌, [], ℕ, length, OnOk, None};
-ghost use Rattle.jfs_pages.specs.Dirty.{dirty_of};
-ghost use Rattle.jfs_halves.specs.Change.{MayPoint};
+ghost use Rattle.jfs_volume.specs.pages.specs.Dirty.{dirty_of};
+ghost use Rattle.jfs_volume.specs.halves.specs.Change.{MayPoint};
 ghost use Rattle.jfs_volume_calls.specs.Together.{AreTogether, OfBothHalves, log_parts};
 ghost use Rattle.jfs_volume_calls.specs.Syncpoint.{SyncpointIs, PointIs, HasFaultOfEither, HasPointFault};
 
 use crate::committing::commit;
 use crate::point::PointText;
 use jfs_disk::{Disk, Fault};
-use jfs_logpages::LogSide;
 use jfs_volume::Volume;
+use jfs_volume::logpages::LogSide;
 
 /// Makes all entries so far durable, writes every dirty page and the pages of each map that has changed to their homes, syncs these, and then logs a SYNCPT: redo needs nothing before it. It takes no memory.
 ///

@@ -5,21 +5,21 @@ use Rattle.jfs_inode.specs.Rules.{type_of, rows}
 use Rattle.jfs_inode.specs.declared.fields.Dinode.{Dinode}
 use Rattle.jfs_name.specs.declared.name.NameEntry.{NameEntry}
 use Rattle.jfs_name.specs.Directory.{named}
-use Rattle.jfs_tree.specs.Spells.{spells}
-use Rattle.jfs_dtree.specs.Spells.{spells_names}
-use Rattle.jfs_plain.specs.Tree.{is_dir, enter, enter_from, wanted}
-use Rattle.jfs_plain.specs.declared.node.Node.{Node}
-use Rattle.jfs_plain.specs.declared.refusal.Refusal.TheVariants.{NotDir}
-use Rattle.jfs_plain.specs.declared.reply.NodeKind.TheVariants.{Dir, File, Link, Other}
-use Rattle.jfs_objects.specs.Readers.{Readers}
-use Rattle.jfs_objects.specs.Volume.{Volume, home, slot_of}
-use Rattle.jfs_objects.specs.Objects.{Object, IsWhole, objects, spelled, is_live, has_names, listed}
-use Rattle.jfs_objects.proofs.Found.{object_at, no_object_at, no_home}
-use Rattle.jfs_meaning.specs.Readers.{readers, root_of}
-use Rattle.jfs_meaning.specs.Node.{kind_of, node_with, node_from, node_in, target_in}
-use Rattle.jfs_meaning.specs.Tree.{node_on, tree_on}
-use Rattle.jfs_meaning.specs.Consistent.{IsConsistent, MayBeNamed, leading_to, names_in}
-use Rattle.jfs_meaning.proofs.Found.{is_among, among_leads}
+use Rattle.jfs_reader.specs.page_tree.specs.Spells.{spells}
+use Rattle.jfs_reader.specs.dtree.specs.Spells.{spells_names}
+use Rattle.jfs_reader.specs.plain.specs.Tree.{is_dir, enter, enter_from, wanted}
+use Rattle.jfs_reader.specs.plain.specs.declared.node.Node.{Node}
+use Rattle.jfs_reader.specs.plain.specs.declared.refusal.Refusal.TheVariants.{NotDir}
+use Rattle.jfs_reader.specs.plain.specs.declared.reply.NodeKind.TheVariants.{Dir, File, Link, Other}
+use Rattle.jfs_reader.specs.objects.specs.Readers.{Readers}
+use Rattle.jfs_reader.specs.objects.specs.Volume.{Volume, home, slot_of}
+use Rattle.jfs_reader.specs.objects.specs.Objects.{Object, IsWhole, objects, spelled, is_live, has_names, listed}
+use Rattle.jfs_reader.specs.objects.proofs.Found.{object_at, no_object_at, no_home}
+use Rattle.jfs_reader.specs.meaning.specs.Readers.{readers, root_of}
+use Rattle.jfs_reader.specs.meaning.specs.Node.{kind_of, node_with, node_from, node_in, target_in}
+use Rattle.jfs_reader.specs.meaning.specs.Tree.{node_on, tree_on}
+use Rattle.jfs_reader.specs.meaning.specs.Consistent.{IsConsistent, MayBeNamed, leading_to, names_in}
+use Rattle.jfs_reader.specs.meaning.proofs.Found.{is_among, among_leads}
 
 is_dir_is : (type : ℕ) → is_dir (kind_of type) ≡ (type == 0x4000)
 is_dir_is type = by (type == 0x4000) (type == 0x8000) (type == 0xa000)

@@ -7,8 +7,8 @@ use Rattle.jfs_bits.specs.declared.descriptor.Pxd.{Pxd}
 use Rattle.jfs_iag.specs.Iag.{no_run}
 use Rattle.jfs_iag.specs.Canonical.{is_there}
 use Rattle.jfs_imap.specs.Inodes.{Inodes, extent_at, home_in, home_of}
-use Rattle.jfs_objects.specs.Image.{extent_place}
-use Rattle.jfs_objects.specs.Volume.{home, page_in}
+use Rattle.jfs_reader.specs.objects.specs.Image.{extent_place}
+use Rattle.jfs_reader.specs.objects.specs.Volume.{home, page_in}
 use Rattle.jfs_way.specs.Volume.{PlacesWithin}
 use Rattle.jfs_way.specs.Way.{if_within, place_of}
 

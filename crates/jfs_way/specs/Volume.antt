@@ -3,8 +3,8 @@ use Rattle.std.specs.Prelude.{◌≡◌, ◌≤◌, ◌+◌, ℕ, true, ◌&&◌
 use Rattle.jfs_iag.specs.Canonical.{is_there}
 use Rattle.jfs_imap.specs.Inodes.{Inodes, is_used, extent_at}
 use Rattle.jfs_bmap.specs.States.{Blocks, is_owned}
-use Rattle.jfs_objects.specs.Image.{extent_place}
-use Rattle.jfs_objects.specs.Volume.{Volume}
+use Rattle.jfs_reader.specs.objects.specs.Image.{extent_place}
+use Rattle.jfs_reader.specs.objects.specs.Volume.{Volume}
 
 -- `area` says which blocks are fixed; what the calls do doesn't depend on it. A block past the end has no owner, though the map counts it as owned.
 abbrev pub volume_of : (ℕ → List ℕ) → (ℕ → ℕ) → Blocks → Inodes → Volume

@@ -6,3 +6,5 @@ mod below;
 mod leading;
 
 pub use along::look_along;
+
+// libraries below, passed on

@@ -5,11 +5,11 @@ use Rattle.std.specs.List.{AllByRecursion as Each}
 use Rattle.std.proofs.lemmas.Bool.{leb-true, ltb-true}
 use Rattle.std.proofs.lemmas.Bool.Decides.{nat_tests}
 use Rattle.jfs_bits.specs.declared.extent.Xad.{Xad}
-use Rattle.jfs_tree.specs.Edit.{count_in}
+use Rattle.jfs_data_steps.specs.page_tree.specs.Edit.{count_in}
 use Rattle.jfs_xtpage.specs.Page.{end_of, rises_from}
-use Rattle.jfs_xtree.specs.Writing.{is_recorded, AllLong, AllTo, Place, place_in, place_at}
-use Rattle.jfs_objects.specs.Owners.{covers, sum_below}
-use Rattle.jfs_objects.proofs.Sums.{sum_zero, eq_or_not}
+use Rattle.jfs_data_steps.specs.xtree.specs.Writing.{is_recorded, AllLong, AllTo, Place, place_in, place_at}
+use Rattle.jfs_data_steps.specs.objects.specs.Owners.{covers, sum_below}
+use Rattle.jfs_data_steps.specs.objects.proofs.Sums.{sum_zero, eq_or_not}
 use Rattle.jfs_written.specs.RangeLaws.{or_else}
 use Rattle.jfs_write_pages.specs.declared.spot.Spot.{Spot}
 use Rattle.jfs_write_pages.specs.Spots.{spots_from, holes_in, placed, one_block, goes_on, longer, before, extents_for}

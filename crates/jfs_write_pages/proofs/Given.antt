@@ -6,9 +6,9 @@ use Rattle.std.proofs.lemmas.List.Elements.{All-from_recursion}
 use Rattle.std.proofs.lemmas.Bool.{le-leb}
 use Rattle.jfs_bits.specs.declared.extent.Xad.{Xad}
 use Rattle.jfs_xtpage.specs.Page.{end_of, rises_from}
-use Rattle.jfs_xtree.specs.CutParts.{AllFrom}
-use Rattle.jfs_xtree.specs.Node.{IsGood}
-use Rattle.jfs_xtree.specs.Writing.{is_recorded, AllLong, AllTo}
+use Rattle.jfs_data_steps.specs.xtree.specs.CutParts.{AllFrom}
+use Rattle.jfs_data_steps.specs.xtree.specs.Node.{IsGood}
+use Rattle.jfs_data_steps.specs.xtree.specs.Writing.{is_recorded, AllLong, AllTo}
 use Rattle.jfs_written.specs.RangeLaws.{IsRange}
 use Rattle.jfs_written.proofs.Each.{long_end, all_long}
 use Rattle.jfs_write_pages.specs.declared.spot.Spot.{Spot}

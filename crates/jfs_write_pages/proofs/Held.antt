@@ -8,11 +8,11 @@ use Rattle.std.proofs.lemmas.Bool.Decides.{nat_tests}
 use Rattle.std.proofs.lemmas.List.{get_or-replicate, length-replicate}
 use Rattle.jfs_bits.specs.declared.extent.Xad.{Xad}
 use Rattle.jfs_xtpage.specs.Page.{end_of, rises_from}
-use Rattle.jfs_xtree.specs.Writing.{AllLong, AllTo, Place, place_in, place_at}
-use Rattle.jfs_objects.specs.Contents.{block_of, block_in, bytes_at}
-use Rattle.jfs_objects.specs.Owners.{covers}
-use Rattle.jfs_meaning.specs.Contents.{byte_of}
-use Rattle.jfs_plain.specs.Moves.{byte_after}
+use Rattle.jfs_data_steps.specs.xtree.specs.Writing.{AllLong, AllTo, Place, place_in, place_at}
+use Rattle.jfs_data_steps.specs.objects.specs.Contents.{block_of, block_in, bytes_at}
+use Rattle.jfs_data_steps.specs.objects.specs.Owners.{covers}
+use Rattle.jfs_data_steps.specs.meaning.specs.Contents.{byte_of}
+use Rattle.jfs_data_steps.specs.plain.specs.Moves.{byte_after}
 use Rattle.jfs_written.specs.RangeLaws.{or_else}
 use Rattle.jfs_written.proofs.Each.{long_end}
 use Rattle.jfs_data_steps.specs.declared.pages.DataPage.{DataPage}

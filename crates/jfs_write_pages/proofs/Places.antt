@@ -5,9 +5,9 @@ use Rattle.std.proofs.lemmas.Bool.{leb-true, ltb-true, cases_lt}
 use Rattle.std.proofs.lemmas.Bool.Decides.{nat_tests}
 use Rattle.jfs_bits.specs.declared.extent.Xad.{Xad}
 use Rattle.jfs_xtpage.specs.Page.{end_of, rises_from}
-use Rattle.jfs_xtree.specs.Writing.{AllLong, AllTo, Place, place_in, place_at}
-use Rattle.jfs_objects.specs.Owners.{covers, run_has, sum_below}
-use Rattle.jfs_objects.proofs.Sums.{sum_zero, sum_put, sum_one, sum_two, eq_or_not}
+use Rattle.jfs_data_steps.specs.xtree.specs.Writing.{AllLong, AllTo, Place, place_in, place_at}
+use Rattle.jfs_data_steps.specs.objects.specs.Owners.{covers, run_has, sum_below}
+use Rattle.jfs_data_steps.specs.objects.proofs.Sums.{sum_zero, sum_put, sum_one, sum_two, eq_or_not}
 use Rattle.jfs_written.proofs.Each.{long_end}
 use Rattle.jfs_write_pages.specs.declared.spot.Spot.{Spot}
 use Rattle.jfs_write_pages.specs.Spots.{spot_in, spot_at}

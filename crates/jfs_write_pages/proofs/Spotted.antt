@@ -5,9 +5,9 @@ use Rattle.std.specs.List.{AllByRecursion as Each}
 use Rattle.std.proofs.lemmas.Bool.Decides.{nat_tests}
 use Rattle.jfs_bits.specs.declared.extent.Xad.{Xad}
 use Rattle.jfs_xtpage.specs.Page.{end_of, rises_from}
-use Rattle.jfs_xtree.specs.Writing.{is_recorded, AllLong, AllTo, Place, place_in, place_at}
-use Rattle.jfs_xtree.specs.Writing as writing
-use Rattle.jfs_objects.proofs.Sums.{eq_or_not}
+use Rattle.jfs_data_steps.specs.xtree.specs.Writing.{is_recorded, AllLong, AllTo, Place, place_in, place_at}
+use Rattle.jfs_data_steps.specs.xtree.specs.Writing as writing
+use Rattle.jfs_data_steps.specs.objects.proofs.Sums.{eq_or_not}
 use Rattle.jfs_written.specs.RangeLaws.{or_else}
 use Rattle.jfs_write_pages.specs.declared.spot.Spot.{Spot}
 use Rattle.jfs_write_pages.specs.Spots.{spots_from, run_spots, recorded_spot, spots_in, spots_between, holes_in, placed, new_spot, extents_for}

@@ -7,9 +7,9 @@ use Rattle.std.proofs.lemmas.List.{append-nil, length-drop, take_all, take_min, 
 use Rattle.jfs_bits.specs.Field.{put_bytes}
 use Rattle.jfs_bits.specs.declared.descriptor.Pxd.{Pxd}
 use Rattle.jfs_bits.specs.declared.extent.Xad.{Xad}
-use Rattle.jfs_tree.specs.Form.{AllBelow}
-use Rattle.jfs_tree.specs.Fresh.{run_from, blocks_of}
-use Rattle.jfs_xtree.specs.Writing.{is_recorded}
+use Rattle.jfs_data_steps.specs.page_tree.specs.Form.{AllBelow}
+use Rattle.jfs_data_steps.specs.page_tree.specs.Fresh.{run_from, blocks_of}
+use Rattle.jfs_data_steps.specs.xtree.specs.Writing.{is_recorded}
 use Rattle.jfs_write_pages.specs.declared.spot.Spot.{Spot}
 use Rattle.jfs_data_steps.specs.declared.pages.DataPage.{DataPage}
 use Rattle.jfs_data_steps.specs.After.{AreWholePages}

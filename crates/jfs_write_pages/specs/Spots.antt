@@ -1,7 +1,7 @@
 -- Which blocks of a file a write takes, and the extents that its tree gets.
 use Rattle.std.specs.Prelude.{◌<◌, ℕ, zero, suc, ◌+◌, ◌-◌, ◌^◌, ◌==◌, ◌&&◌, Bool, true, false, nat_le, nat_lt, min, if◌then◌else◌, List, [], ◌∷◌, ◌++◌, Option, Some, None}
 use Rattle.jfs_bits.specs.declared.extent.Xad.{Xad}
-use Rattle.jfs_xtree.specs.Writing.{is_recorded}
+use Rattle.jfs_data_steps.specs.xtree.specs.Writing.{is_recorded}
 use Rattle.jfs_write_pages.specs.declared.spot.Spot.{Spot}
 
 -- ---- where blocks of a file stand

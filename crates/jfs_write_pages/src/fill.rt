@@ -1,8 +1,8 @@
 //! New blocks for the holes of a file.
 
 ghost use Rattle.std.specs.Prelude.{◌≡◌, ◌≤◌, ◌<◌, ◌+◌, ◌^◌, ◌++◌, length, OnOk, IfOk};
-ghost use Rattle.jfs_tree.specs.Form.{AllBelow};
-ghost use Rattle.jfs_tree.specs.Fresh.{blocks_of, run_from};
+ghost use Rattle.jfs_data_steps.specs.page_tree.specs.Form.{AllBelow};
+ghost use Rattle.jfs_data_steps.specs.page_tree.specs.Fresh.{blocks_of, run_from};
 ghost use Rattle.jfs_write_pages.specs.Spots.{holes_in, placed};
 
 use crate::spot::Spot;

@@ -3,14 +3,14 @@
 ghost use Rattle.std.specs.Prelude.{◌≡◌, ◌≤◌, ◌<◌, ◌+◌, ◌*◌, ◌-◌, ◌^◌, ◌++◌, ◌∷◌, [], true, length, min, OnOk, OnErr, IfErr, IfOk};
 ghost use Rattle.jfs_bits.specs.Field.{put_bytes};
 ghost use Rattle.jfs_disk.specs.Image.{page_of};
-ghost use Rattle.jfs_way.specs.Answer.{is_open, Carries};
+ghost use Rattle.jfs_data_steps.specs.way.specs.Answer.{is_open, Carries};
 ghost use Rattle.jfs_data_steps.specs.After.{AreWholePages};
 ghost use Rattle.jfs_write_pages.specs.Pages.{patched, kept, told, old_page, page_for};
 
 use crate::spot::Spot;
+use jfs_data_steps::plain::Refusal;
 use jfs_data_steps::{DataList, DataPage};
 use jfs_disk::Page;
-use jfs_plain::Refusal;
 use jfs_ranges::{PageView, ViewError};
 
 /// Bytes that are put into a file.

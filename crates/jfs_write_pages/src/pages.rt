@@ -2,7 +2,7 @@
 
 ghost use Rattle.std.specs.Prelude.{◌≡◌, ◌<◌, ◌^◌, ◌++◌, true, OnOk, IfErr};
 ghost use Rattle.jfs_disk.specs.Image.{page_of};
-ghost use Rattle.jfs_way.specs.Answer.{is_open, Carries};
+ghost use Rattle.jfs_data_steps.specs.way.specs.Answer.{is_open, Carries};
 ghost use Rattle.jfs_data_steps.specs.After.{AreWholePages};
 ghost use Rattle.jfs_write_pages.specs.Spots.{AllSpots};
 ghost use Rattle.jfs_write_pages.specs.Pages.{told, pages_for};
@@ -10,7 +10,7 @@ ghost use Rattle.jfs_write_pages.specs.Pages.{told, pages_for};
 use crate::page::{Change, push_page};
 use crate::spot::Spot;
 use jfs_data_steps::DataList;
-use jfs_plain::Refusal;
+use jfs_data_steps::plain::Refusal;
 use jfs_ranges::PageView;
 
 /// Pushes these blocks of a file, each with what it is to hold.

@@ -1,8 +1,8 @@
 //! Where the blocks of a file stand.
 
 ghost use Rattle.std.specs.Prelude.{◌≡◌, ◌<◌, ◌≤◌, ◌+◌, ◌^◌, ◌++◌, true, OnOk, IfOk};
-ghost use Rattle.jfs_xtree.specs.Node.{is_within, all_within};
-ghost use Rattle.jfs_xtree.specs.Writing.{is_recorded};
+ghost use Rattle.jfs_data_steps.specs.xtree.specs.Node.{is_within, all_within};
+ghost use Rattle.jfs_data_steps.specs.xtree.specs.Writing.{is_recorded};
 ghost use Rattle.jfs_write_pages.specs.Spots.{spot_at, spots_from, spots_in, spots_between, run_spots};
 
 use jfs_bits::Xad;

@@ -1,7 +1,7 @@
 //! A file's list of extents, looked at as a whole.
 
 ghost use Rattle.std.specs.Prelude.{◌≡◌, ◌<◌, ◌≤◌, ◌^◌, true, IfSome};
-ghost use Rattle.jfs_xtree.specs.Node.{is_within, all_within};
+ghost use Rattle.jfs_data_steps.specs.xtree.specs.Node.{is_within, all_within};
 ghost use Rattle.jfs_write_pages.specs.Spots.{hint_behind};
 
 use jfs_bits::Xad;

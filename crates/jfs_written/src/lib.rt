@@ -11,3 +11,7 @@ pub use law::{
     writing_shares_blocks,
 };
 pub use range::written;
+
+// libraries below, passed on
+pub use jfs_objects::page_tree;
+pub use jfs_xtree as xtree;

@@ -4,7 +4,7 @@ use Rattle.std.specs.Prelude.{if◌then◌else◌, false}
 use Rattle.std.proofs.lemmas.Bool.{le-leb}
 use Rattle.jfs_bits.specs.declared.extent.Xad.{Xad}
 use Rattle.jfs_xtpage.specs.Page.{end_of, rises_from}
-use Rattle.jfs_xtree.specs.Writing.{AllLong}
+use Rattle.jfs_written.specs.xtree.specs.Writing.{AllLong}
 
 next : (i : ℕ) → i + 1 ≡ suc i
 next i = omega arith

@@ -4,7 +4,7 @@ ghost use Rattle.std.specs.Prelude.{◌≡◌, ◌≤◌, true};
 ghost use Rattle.std.specs.List.{All};
 ghost use Rattle.jfs_bits.specs.Extent.{FitsXad};
 ghost use Rattle.jfs_xtpage.specs.Page.{end_of, rises_from};
-ghost use Rattle.jfs_xtree.specs.Writing.{AllLong};
+ghost use Rattle.jfs_written.specs.xtree.specs.Writing.{AllLong};
 
 use jfs_bits::Xad;
 

@@ -10,3 +10,5 @@ pub mod CutMet
 pub mod Extents
 pub mod Writing
 pub mod WriteParts
+-- libraries below, passed on
+pub use Rattle.jfs_tree as page_tree

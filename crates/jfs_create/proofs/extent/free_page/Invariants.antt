@@ -1,5 +1,5 @@
 use Rattle.std.proofs.Common.{◌≡◌, ◌<◌, ◌+◌, ℕ, length}
-use Rattle.jfs_objects.specs.Volume.{slot_of}
+use Rattle.jfs_link.specs.objects.specs.Volume.{slot_of}
 use Rattle.jfs_create.specs.Extent.{free_inode}
 use Rattle.jfs_create.proofs.extent.free_page.Given as goal
 

@@ -1,5 +1,5 @@
 use Rattle.std.proofs.Common.{sym, ap, ◌∙◌, is_some, arith}
-use Rattle.jfs_objects.specs.Contents.{block_of}
+use Rattle.jfs_reader.specs.objects.specs.Contents.{block_of}
 use Rattle.jfs_mount.proofs.Passed.{prefix_is}
 use Rattle.jfs_mount.proofs.blocks.covered.Goals as goal
 

@@ -1,5 +1,5 @@
 use Rattle.std.proofs.Common.{◌≡◌, ◌≤◌, ◌<◌, ◌-◌, ℕ, true, is_some}
-use Rattle.jfs_objects.specs.Contents.{block_of}
+use Rattle.jfs_reader.specs.objects.specs.Contents.{block_of}
 use Rattle.jfs_mount.proofs.blocks.covered.Given as goal
 
 abbrev pub invariant-loop-j : goal.invariant-loop-j

@@ -1,5 +1,5 @@
 use Rattle.std.proofs.Common.{◌≡◌, ◌≤◌, ◌<◌, ◌+◌, ℕ, drop}
-use Rattle.jfs_objects.specs.Contents.{block_of}
+use Rattle.jfs_reader.specs.objects.specs.Contents.{block_of}
 use Rattle.jfs_mount.proofs.blocks.run_at.Given as goal
 
 -- up to the limit no extent so far has a block from `j` on

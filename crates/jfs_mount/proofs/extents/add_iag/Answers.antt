@@ -1,7 +1,7 @@
 use Rattle.std.proofs.Common.{◌∙◌, ap, subst, ℕ, List, [], Option}
 use Rattle.std.specs.Option.{unwrap_or}
 use Rattle.jfs_disk.specs.Image.{page_of}
-use Rattle.jfs_objects.specs.Contents.{block_of, bytes_at}
+use Rattle.jfs_reader.specs.objects.specs.Contents.{block_of, bytes_at}
 use Rattle.jfs_mount.specs.Files.{AddsIag}
 use Rattle.jfs_mount.proofs.extents.add_iag.Goals as goal
 

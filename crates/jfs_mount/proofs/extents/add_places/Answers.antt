@@ -1,6 +1,6 @@
 use Rattle.std.proofs.Common.{◌∙◌, ap, sym, subst, ◌+◌, ◌*◌, ℕ, List, Option}
 use Rattle.jfs_bits.specs.Descriptor.{pxd_of}
-use Rattle.jfs_objects.specs.Image.{extent_place}
+use Rattle.jfs_reader.specs.objects.specs.Image.{extent_place}
 use Rattle.jfs_each.specs.Each.{AllFit}
 use Rattle.jfs_mount.specs.Files.{extent_in}
 use Rattle.jfs_mount.proofs.Inodes.{one_more, one_fit, one_fits}

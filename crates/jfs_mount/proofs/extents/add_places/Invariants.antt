@@ -1,6 +1,6 @@
 use Rattle.std.proofs.Common.{◌≡◌, ◌<◌, ◌++◌, ℕ, true, map}
 use Rattle.std.specs.List.{range_with_len}
-use Rattle.jfs_objects.specs.Image.{extent_place}
+use Rattle.jfs_reader.specs.objects.specs.Image.{extent_place}
 use Rattle.jfs_each.specs.Each.{AllFit}
 use Rattle.jfs_mount.specs.Files.{extent_in, fits_in}
 use Rattle.jfs_mount.proofs.extents.add_places.Given as goal

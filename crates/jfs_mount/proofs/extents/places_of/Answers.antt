@@ -1,7 +1,7 @@
 use Rattle.std.proofs.Common.{◌≡◌, ◌+◌, ◌*◌, suc, sym, ap, ◌∙◌, subst, ℕ, Option, Some, None, arith}
 use Rattle.std.specs.Option.{unwrap_or}
 use Rattle.jfs_disk.specs.Image.{page_of}
-use Rattle.jfs_objects.specs.Contents.{block_of}
+use Rattle.jfs_reader.specs.objects.specs.Contents.{block_of}
 use Rattle.jfs_each.specs.Each.{AllFit}
 use Rattle.jfs_mount.specs.Subject.{subject_of}
 use Rattle.jfs_mount.proofs.Inodes.{AreAdded, iag_added, iag_stays, extents_hold, extents_break, places_are}

@@ -1,6 +1,6 @@
 use Rattle.std.proofs.Common.{◌≡◌, ◌<◌, ◌≤◌, ◌*◌, ℕ, length}
 use Rattle.jfs_disk.specs.Image.{page_of}
-use Rattle.jfs_objects.specs.Contents.{block_of}
+use Rattle.jfs_reader.specs.objects.specs.Contents.{block_of}
 use Rattle.jfs_each.specs.Each.{AllFit}
 use Rattle.jfs_mount.proofs.Inodes.{AreAdded}
 use Rattle.jfs_mount.proofs.extents.places_of.Given as goal

@@ -1,5 +1,5 @@
 use Rattle.std.proofs.Common.{sym, ◌∙◌, ◌+◌, is_some, arith}
-use Rattle.jfs_objects.specs.Contents.{block_of}
+use Rattle.jfs_reader.specs.objects.specs.Contents.{block_of}
 use Rattle.jfs_mount.proofs.Passed.{all_pass}
 use Rattle.jfs_mount.proofs.Rows.{counted, imap_holds, imap_breaks}
 use Rattle.jfs_mount.proofs.numbers.bad_imap.Goals as goal

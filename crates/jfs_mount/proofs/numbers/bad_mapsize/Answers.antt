@@ -3,7 +3,7 @@ use Rattle.std.specs.Option.{unwrap_or}
 use Rattle.jfs_bits.specs.Field.{field_of}
 use Rattle.jfs_bits.specs.declared.extent.Xad.{Xad}
 use Rattle.jfs_disk.specs.Image.{page_of}
-use Rattle.jfs_objects.specs.Contents.{block_of, bytes_at}
+use Rattle.jfs_reader.specs.objects.specs.Contents.{block_of, bytes_at}
 use Rattle.jfs_mount.specs.Subject.{subject_of}
 use Rattle.jfs_reader.proofs.Parts.{no_field}
 use Rattle.jfs_mount.proofs.Rows.{mapsize_is}

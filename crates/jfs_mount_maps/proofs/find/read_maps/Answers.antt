@@ -1,9 +1,9 @@
 use Rattle.std.proofs.Common.{◌∙◌, ℕ, refl, sym, ap, subst, arith}
 use Rattle.jfs_super.specs.declared.fields.Geometry.{Geometry}
-use Rattle.jfs_mount.specs.Steps.{IsMounted}
-use Rattle.jfs_bmap.specs.MapFile.{pages_of}
+use Rattle.jfs_sets.specs.mount_rules.specs.Steps.{IsMounted}
+use Rattle.jfs_claim.specs.bmap.specs.MapFile.{pages_of}
 use Rattle.jfs_map_files.specs.Files.{AreFilesOf}
-use Rattle.jfs_way.specs.Volume.{PlacesWithin}
+use Rattle.jfs_claim.specs.way.specs.Volume.{PlacesWithin}
 use Rattle.jfs_mount_maps.proofs.Blocks.{idle_rests}
 use Rattle.jfs_mount_maps.proofs.Joined.{found}
 use Rattle.jfs_mount_maps.proofs.find.read_maps.Goals as goal

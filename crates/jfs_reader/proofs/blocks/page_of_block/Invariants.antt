@@ -1,5 +1,5 @@
 use Rattle.std.proofs.Common.{◌≡◌, drop}
-use Rattle.jfs_objects.specs.Contents.{block_of}
+use Rattle.jfs_meaning.specs.objects.specs.Contents.{block_of}
 use Rattle.jfs_reader.proofs.blocks.page_of_block.Given as goal
 
 abbrev pub invariant-loop-x : goal.invariant-loop-x

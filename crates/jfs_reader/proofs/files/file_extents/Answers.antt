@@ -1,5 +1,5 @@
 use Rattle.jfs_disk.specs.Image.{page_of}
-use Rattle.jfs_objects.specs.Image.{aggregate_at}
+use Rattle.jfs_meaning.specs.objects.specs.Image.{aggregate_at}
 use Rattle.jfs_reader.proofs.Listed.{extents_are}
 use Rattle.jfs_reader.proofs.files.file_extents.Goals as goal
 

@@ -4,7 +4,7 @@ use Rattle.std.proofs.Math.Nat.{mul-suc}
 use Rattle.std.proofs.lemmas.List.{length-append}
 use Rattle.jfs_bits.specs.Field.{range_of}
 use Rattle.jfs_disk.specs.Image.{Image, page_of}
-use Rattle.jfs_objects.specs.Contents.{block_of, bytes_at}
+use Rattle.jfs_mount.specs.objects.specs.Contents.{block_of, bytes_at}
 use Rattle.jfs_sets.specs.Parts.{or_zeros, part_of}
 use Rattle.jfs_sets.proofs.Bits.{reading-none, reading-next, reading-all, read-part, no-outside}
 use Rattle.jfs_sets.proofs.parts.read_parts.Goals as goal

@@ -1,6 +1,6 @@
 use Rattle.std.proofs.Common.{◌≡◌, ◌≤◌, ◌+◌, ◌*◌, ℕ, length}
 use Rattle.jfs_disk.specs.Image.{page_of}
-use Rattle.jfs_objects.specs.Contents.{block_of}
+use Rattle.jfs_mount.specs.objects.specs.Contents.{block_of}
 use Rattle.jfs_sets.specs.Parts.{part_of}
 use Rattle.jfs_sets.proofs.Bits.{IsReading}
 use Rattle.jfs_sets.proofs.parts.read_parts.Given as goal

@@ -1,5 +1,5 @@
 use Rattle.std.proofs.Common.{◌∙◌}
-use Rattle.jfs_halves.specs.Both.{after}
+use Rattle.jfs_volume.specs.halves.specs.Both.{after}
 use Rattle.jfs_volume_calls.specs.Together.{log_parts}
 use Rattle.jfs_volume_calls.proofs.Chained.{commit_closes}
 use Rattle.jfs_volume_calls.proofs.committing.commit.Goals as goal

@@ -1,10 +1,10 @@
 use Rattle.std.proofs.Common.{List, [], ◌∷◌, ◌++◌, length, sym, ap, ◌∙◌, subst, append_assoc}
-use Rattle.jfs_halves.specs.Change.{Change, Stops, Syncs, after as after_volume}
-use Rattle.jfs_halves.specs.Both.{after}
-use Rattle.jfs_halves.proofs.Joined.{join}
-use Rattle.jfs_halves.specs.Moves.{Moves}
-use Rattle.jfs_halves.specs.Parts.{Parts}
-use Rattle.jfs_pages.specs.Dirty.{dirty_of}
+use Rattle.jfs_volume.specs.halves.specs.Change.{Change, Stops, Syncs, after as after_volume}
+use Rattle.jfs_volume.specs.halves.specs.Both.{after}
+use Rattle.jfs_volume.specs.halves.proofs.Joined.{join}
+use Rattle.jfs_volume.specs.halves.specs.Moves.{Moves}
+use Rattle.jfs_volume.specs.halves.specs.Parts.{Parts}
+use Rattle.jfs_volume.specs.pages.specs.Dirty.{dirty_of}
 use Rattle.jfs_volume.specs.Settle.{go_home}
 use Rattle.jfs_volume.specs.Written.{writes, stops}
 use Rattle.jfs_volume_calls.specs.Together.{log_parts}

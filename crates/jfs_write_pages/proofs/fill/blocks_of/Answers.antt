@@ -1,7 +1,7 @@
 use Rattle.std.proofs.Common.{◌∙◌, ◌++◌, ◌+◌, ap, sym, subst, drop}
 use Rattle.jfs_bits.specs.declared.descriptor.Pxd.{Pxd}
-use Rattle.jfs_tree.specs.Form.{AllBelow}
-use Rattle.jfs_tree.specs.Fresh.{blocks_of}
+use Rattle.jfs_data_steps.specs.page_tree.specs.Form.{AllBelow}
+use Rattle.jfs_data_steps.specs.page_tree.specs.Fresh.{blocks_of}
 use Rattle.jfs_write_pages.proofs.Steps.{runs_step, runs_below, appended}
 use Rattle.jfs_write_pages.proofs.fill.blocks_of.Goals as goal
 

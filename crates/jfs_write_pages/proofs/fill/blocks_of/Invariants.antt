@@ -1,6 +1,6 @@
 use Rattle.std.proofs.Common.{◌≡◌, ◌++◌, drop}
-use Rattle.jfs_tree.specs.Form.{AllBelow}
-use Rattle.jfs_tree.specs.Fresh.{blocks_of}
+use Rattle.jfs_data_steps.specs.page_tree.specs.Form.{AllBelow}
+use Rattle.jfs_data_steps.specs.page_tree.specs.Fresh.{blocks_of}
 use Rattle.jfs_write_pages.proofs.fill.blocks_of.Given as goal
 
 abbrev pub invariant-loop-run : goal.invariant-loop-run

@@ -1,5 +1,5 @@
 use Rattle.std.proofs.Common.{◌∙◌, ◌++◌, ◌+◌, ◌-◌, ◌∷◌, ap, sym, arith}
-use Rattle.jfs_tree.specs.Fresh.{run_from}
+use Rattle.jfs_data_steps.specs.page_tree.specs.Fresh.{run_from}
 use Rattle.jfs_write_pages.proofs.Steps.{run_step, pushed, below_here, below_next}
 use Rattle.jfs_write_pages.proofs.fill.push_blocks.Goals as goal
 

@@ -1,6 +1,6 @@
 use Rattle.std.proofs.Common.{◌≡◌, ◌+◌, ◌-◌, ◌++◌}
-use Rattle.jfs_tree.specs.Form.{AllBelow}
-use Rattle.jfs_tree.specs.Fresh.{run_from}
+use Rattle.jfs_data_steps.specs.page_tree.specs.Form.{AllBelow}
+use Rattle.jfs_data_steps.specs.page_tree.specs.Fresh.{run_from}
 use Rattle.jfs_write_pages.proofs.fill.push_blocks.Given as goal
 
 abbrev pub invariant-loop-k : goal.invariant-loop-k

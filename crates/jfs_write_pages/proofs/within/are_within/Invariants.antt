@@ -1,5 +1,5 @@
 use Rattle.std.proofs.Common.{◌≡◌, drop}
-use Rattle.jfs_xtree.specs.Node.{all_within}
+use Rattle.jfs_data_steps.specs.xtree.specs.Node.{all_within}
 use Rattle.jfs_write_pages.proofs.within.are_within.Given as goal
 
 abbrev pub invariant-loop-e : goal.invariant-loop-e

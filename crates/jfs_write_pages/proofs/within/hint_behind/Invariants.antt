@@ -1,5 +1,5 @@
 use Rattle.std.proofs.Common.{◌≡◌, ◌≤◌, true, drop}
-use Rattle.jfs_xtree.specs.Node.{all_within}
+use Rattle.jfs_data_steps.specs.xtree.specs.Node.{all_within}
 use Rattle.jfs_write_pages.specs.Spots.{last_end}
 use Rattle.jfs_write_pages.proofs.within.hint_behind.Given as goal
 

@@ -1,5 +1,5 @@
 use Rattle.std.proofs.Common.{drop}
-use Rattle.jfs_objects.specs.Owners.{extents_have}
+use Rattle.jfs_findings.specs.objects.specs.Owners.{extents_have}
 use Rattle.jfs_owners.specs.Counts.{OwnerSets, Adds}
 use Rattle.jfs_owners.proofs.owners.Owners.add_inode_extents.Given as goal
 

@@ -1,6 +1,6 @@
 use Rattle.std.proofs.Common.{sym, ap, ◌∙◌, arith}
 use Rattle.jfs_disk.specs.Image.{page_of}
-use Rattle.jfs_objects.specs.Volume.{page_in}
+use Rattle.jfs_meaning.specs.objects.specs.Volume.{page_in}
 use Rattle.jfs_meaning.specs.Readers.{readers}
 use Rattle.jfs_reader.proofs.Homes.{home_past, home_there}
 use Rattle.jfs_reader.proofs.map.InodeMap.home.Goals as goal

@@ -1,6 +1,6 @@
 use Rattle.std.proofs.Common.{[], refl, ap, ◌∙◌, Option, arith}
 use Rattle.jfs_disk.specs.declared.disk.Fault.{Fault}
-use Rattle.jfs_core.specs.Step.{halted_by}
+use Rattle.jfs_halves.specs.crash_core.specs.Step.{halted_by}
 use Rattle.jfs_volume.proofs.Stand.{none}
 use Rattle.jfs_volume.proofs.Settled.{alone_then}
 use Rattle.jfs_volume.proofs.Rising.{homes_stop, homes_on, counts_join}

@@ -1,0 +1,1 @@
+-- libraries below, passed on
