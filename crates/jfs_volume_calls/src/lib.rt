@@ -12,3 +12,4 @@ pub use point::PointText;
 pub use syncing::syncpoint;
 
 // libraries below, passed on
+pub use jfs_volume as volume;
