@@ -14,13 +14,15 @@ use Rattle.jfs_halves.specs.pages.specs.Device.{IsFault}
 use Rattle.jfs_halves.specs.pages.specs.Dirty.{dirty_of}
 use Rattle.jfs_marks.specs.plain.specs.declared.call.Entry.{Entry}
 use Rattle.jfs_marks.specs.records.specs.Records.{Noted, noted}
+use Rattle.jfs_marks.specs.records.specs.Sizes.{entry_size}
 use Rattle.jfs_marks.specs.declared.marks.InodeMarks.{InodeMarks}
-use Rattle.jfs_halves.specs.Parts.{Parts}
+use Rattle.jfs_halves.specs.Parts.{Parts, Text}
 use Rattle.jfs_halves.specs.Change.{SameStates}
 use Rattle.jfs_volume.specs.Append.{Adds, AddsEntry, ShowsEntry, Stays, Fails, TellsFault, unreserved}
 use Rattle.jfs_volume.specs.Data.{AreClean, put_pages}
+use Rattle.jfs_volume.specs.Room.{has_room}
 use Rattle.jfs_volume.specs.Runs.{taken_in}
-use Rattle.jfs_volume.specs.Called.{JoinsWith, GivesBack, MayGiveBack, GoesOn, FailsBy, CallIs, StaysOut, ReservedIs, IsRead, FitsBeside, are_clean}
+use Rattle.jfs_volume.specs.Called.{JoinsWith, GivesBack, MayGiveBack, GoesOn, FailsBy, CallIs, StaysOut, ReservedIs, IsRead, FitsBeside, LacksRoom, are_clean}
 use Rattle.jfs_volume.specs.declared.calling.Beside.{Beside}
 use Rattle.jfs_volume.specs.declared.calling.Called.{Called}
 use Rattle.jfs_volume.specs.declared.calling.Called.TheVariants as called
@@ -108,6 +110,19 @@ module _ (tells : Type 0) (old mid new : Parts) (read : IsRead tells old mid) wh
     },
   )
 
+  pub crowded : (tx : List Edit) (put : List DataPage) (beside : Beside) → are_clean put old.dirty ≡ true → mid.faults ≡ old.faults → length tx ≡ length beside.notes → new ≡ mid → has_room mid.text (entry_size (noted tx beside.notes)) ≡ false → new.faults ≡ mid.faults
+      → (tells → AreClean put mid.dirty → new.view ≡ mid.view) → StaysOut old new × GoesOn tells old new × LacksRoom tx old
+  crowded tx put beside clean faults each same full told shows =
+      let out = stays tx put clean faults (subst (λ (p : Parts). Stays mid p) (sym same) (record { parts = refl; map = record { states = refl; agsize = refl } })) told shows in (
+        out.0,
+        out.1,
+        record {
+          notes = beside.notes;
+          each = each;
+          full = subst (λ (text : Text). has_room text (entry_size (noted tx beside.notes)) ≡ false) (ap (λ (p : Parts). p.text) read.parts) full;
+        },
+      )
+
   pub unread : (tx : List Edit) (put : List DataPage) (fault : Fault) → are_clean put old.dirty ≡ true → mid.faults ≡ old.faults → Stays mid new → IsFault mid.faults new.faults fault → (tells → AreClean put mid.dirty → new.view ≡ mid.view) → StaysOut old new × FailsBy tells fault old new
   unread tx put fault clean faults s told shows = (
     out_over s.parts s.map,
@@ -158,7 +173,7 @@ goes tells tx old mid g = record { halted = g.halted; view = g.view; faults = g.
 
 unreserving : (tells : Type 0) (entry : Entry) (tx : List Edit) (put : List DataPage) (old mid : Parts) (result : Called) → AreReserved old.map (taken_in tx) → ((number : ℕ) → result ≡ called.Entered number → ⊥) → ReservedIs tells entry tx put old mid result → CallIs tells entry tx put old (unreserved tx mid) result
 unreserving tells entry tx put old mid (called.Entered number) reserved other r = absurd (other number refl)
-unreserving tells entry tx put old mid called.NoRoom reserved other r = (gives tx old mid reserved r.0, goes tells tx old mid r.1)
+unreserving tells entry tx put old mid called.NoRoom reserved other r = (gives tx old mid reserved r.0, goes tells tx old mid r.1.0, r.1.1)
 unreserving tells entry tx put old mid called.NoMemory reserved other r = (may_give tx old (unreserved tx mid) (gives tx old mid reserved r.0), goes tells tx old mid r.1)
 unreserving tells entry tx put old mid (called.Failed fault) reserved other r = (gives tx old mid reserved r.0, record { is_fault = r.1.is_fault; halted = r.1.halted })
 unreserving tells entry tx put old mid called.Unfit reserved other r = (may_give tx old (unreserved tx mid) (gives tx old mid reserved r.0), goes tells tx old mid r.1)

@@ -1,5 +1,5 @@
 -- The entry of a file call joins by what the call answered.
-use Rattle.std.specs.Prelude.{◌≡◌, ◌⊎◌, ◌∷◌, ◌&&◌, [], ℕ, Bool, true, not, List, length, Some, is_some, Result, Ok, Err}
+use Rattle.std.specs.Prelude.{◌≡◌, ◌⊎◌, ◌∷◌, ◌&&◌, [], ℕ, Bool, true, false, not, List, length, Some, is_some, Result, Ok, Err}
 use Rattle.std.specs.List.{AllByRecursion}
 use Rattle.jfs_disk.specs.Image.{page_of}
 use Rattle.jfs_disk.specs.declared.disk.Fault.{Fault}
@@ -18,6 +18,7 @@ use Rattle.jfs_marks.specs.plain.specs.declared.call.Entry.{Entry}
 use Rattle.jfs_marks.specs.records.specs.declared.note.Note.{Note}
 use Rattle.jfs_marks.specs.records.specs.Limits.{IsLoggable}
 use Rattle.jfs_marks.specs.records.specs.Records.{noted}
+use Rattle.jfs_marks.specs.records.specs.Sizes.{entry_size}
 use Rattle.jfs_marks.specs.Behind.{frees_behind}
 use Rattle.jfs_marks.specs.Marking.{AreMarksOf}
 use Rattle.jfs_marks.specs.Marks.{FitsMarks}
@@ -28,6 +29,7 @@ use Rattle.jfs_halves.specs.Change.{SameStates}
 use Rattle.jfs_volume.specs.Append.{Adds, unreserved}
 use Rattle.jfs_volume.specs.Data.{put_pages}
 use Rattle.jfs_volume.specs.Gone.{gone_freed}
+use Rattle.jfs_volume.specs.Room.{has_room}
 use Rattle.jfs_volume.specs.Runs.{taken_in}
 use Rattle.jfs_volume.specs.declared.calling.Beside.{Beside}
 use Rattle.jfs_volume.specs.declared.calling.Called.{Called}
@@ -82,9 +84,15 @@ pub record FailsBy (tells : Type 0) (fault : Fault) (old new : Parts) : Type 0 w
   pub is_fault : IsFault old.faults new.faults fault
   pub halted : ((new.halted ≡ old.halted) × (tells → new.view ≡ old.view)) ⊎ (new.halted ≡ Some fault)
 
+-- the log has no room for its records, with all that waits
+pub record LacksRoom (tx : List Edit) (old : Parts) : Type 0 where
+  pub notes : List Note
+  pub each : length tx ≡ length notes
+  pub full : has_room old.text (entry_size (noted tx notes)) ≡ false
+
 abbrev pub CallIs : (tells : Type 0) → Entry → List Edit → List DataPage → Parts → Parts → Called → Type 0
 CallIs tells entry tx put old new (Entered number) = JoinsWith tells entry tx put number old new
-CallIs tells entry tx put old new NoRoom = GivesBack tx old new × GoesOn tells old new
+CallIs tells entry tx put old new NoRoom = GivesBack tx old new × GoesOn tells old new × LacksRoom tx old
 CallIs tells entry tx put old new NoMemory = MayGiveBack tx old new × GoesOn tells old new
 CallIs tells entry tx put old new (Failed fault) = GivesBack tx old new × FailsBy tells fault old new
 CallIs tells entry tx put old new Unfit = MayGiveBack tx old new × GoesOn tells old new
@@ -98,7 +106,7 @@ pub record StaysOut (old new : Parts) : Type 0 where
 
 abbrev pub ReservedIs : (tells : Type 0) → Entry → List Edit → List DataPage → Parts → Parts → Called → Type 0
 ReservedIs tells entry tx put old new (Entered number) = JoinsWith tells entry tx put number old new
-ReservedIs tells entry tx put old new NoRoom = StaysOut old new × GoesOn tells old new
+ReservedIs tells entry tx put old new NoRoom = StaysOut old new × GoesOn tells old new × LacksRoom tx old
 ReservedIs tells entry tx put old new NoMemory = StaysOut old new × GoesOn tells old new
 ReservedIs tells entry tx put old new (Failed fault) = StaysOut old new × FailsBy tells fault old new
 ReservedIs tells entry tx put old new Unfit = StaysOut old new × GoesOn tells old new

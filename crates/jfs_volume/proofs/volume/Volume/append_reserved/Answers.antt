@@ -1,6 +1,6 @@
 use Rattle.std.proofs.Common.{◌≤◌, ◌∙◌, ℕ, length, sym, ap, subst}
 use Rattle.jfs_halves.specs.Parts.{Parts}
-use Rattle.jfs_volume.proofs.CallJoins.{lies_within, enters, stays, unread, fails}
+use Rattle.jfs_volume.proofs.CallJoins.{lies_within, enters, stays, crowded, unread, fails}
 use Rattle.jfs_volume.proofs.volume.Volume.append_reserved.Goals as goal
 
 pub append-requires-clause-contents : goal.append-requires-clause-contents
@@ -12,6 +12,12 @@ returns-in-Entered g c =
     let b = c.in-Ok.ensures in
     let e = c.in-Entered.ensures in
     enters g.D.Disk.tells c.args.self.now c.beside.new.self c.append.new.self b.read c.args.entry c.args.tx.now c.args.pages.now c.in-Entered.entry c.in-Ok.beside b.whole (sym c.are_clean.ensures ∙ c.if-not-are_clean.false) b.beside.0 b.beside.1 e.adds e.fault e.shows
+
+pub returns-in-NoRoom : goal.returns-in-NoRoom
+returns-in-NoRoom g c =
+    let b = c.in-Ok.ensures in
+    let e = c.in-NoRoom.ensures in
+    crowded g.D.Disk.tells c.args.self.now c.beside.new.self c.append.new.self b.read c.args.tx.now c.args.pages.now c.in-Ok.beside (sym c.are_clean.ensures ∙ c.if-not-are_clean.false) b.beside.0 b.beside.1.each e.stays e.room e.fault e.shows
 
 pub returns-in-NoMemory : goal.returns-in-NoMemory
 returns-in-NoMemory g c =
