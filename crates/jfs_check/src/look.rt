@@ -31,7 +31,7 @@ pub(crate) struct Look {
 impl EachInode for Look {
     ghost sees = { λ blocks image old n f new. Sees blocks image old n f new };
 
-    #[tactic(auto, using(jfs_map_check::findings::proofs::Condensed::gains_after))]
+    #[tactic(auto, using(jfs_findings::proofs::Condensed::gains_after))]
     fn inode<V: PageView>(
         &mut self,
         view: &mut V,

@@ -83,7 +83,7 @@ pub fn put_range<V: PageView>(
     }
 }
 
-#[tactic(auto, using(jfs_written::xtree::proofs::Roots::form_fits))]
+#[tactic(auto, using(jfs_xtree::proofs::Roots::form_fits))]
 /// The free blocks that are left and the transaction, once the range stands in the root's list.
 fn plan_range<V: PageView>(
     alloc: Global,

@@ -53,7 +53,7 @@ pub fn store_root(
     move_down(draft, stack, root, list)
 }
 
-#[tactic(auto, using(jfs_xtree::page_tree::proofs::Taking::below_popped))]
+#[tactic(auto, using(jfs_tree::proofs::Taking::below_popped))]
 /// Puts a list that is too long for a root into the page at the end of `stack`, which becomes the root's only child.
 fn move_down(
     draft: &mut Draft,
