@@ -13,7 +13,7 @@ use Rattle.jfs_map_check.specs.findings.specs.declared.finding.Finding.{Finding}
 use Rattle.jfs_link_check.specs.object_check.proofs.Found.{gains_both}
 use Rattle.jfs_link_check.specs.owners.specs.Counts.{OwnerSets, Counts}
 use Rattle.jfs_link_check.specs.owners.specs.Shared.{SaysShared}
-use Rattle.jfs_map_check.specs.Findings.{KnowsOwners, IsOfBlockMap}
+use Rattle.jfs_map_check.specs.Found.{KnowsOwners, IsOfBlockMap}
 use Rattle.jfs_map_check.specs.Inodes.{KnowsInodes, IsOfInodeMap}
 use Rattle.jfs_check.specs.Looked.{AreInUse, IsOfMaps}
 

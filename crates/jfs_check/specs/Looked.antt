@@ -11,7 +11,7 @@ use Rattle.jfs_link_check.specs.object_check.specs.Laws.{IsOfSome, IsOfFile}
 use Rattle.jfs_link_check.specs.object_check.specs.Thin.{IsThinOfSome}
 use Rattle.jfs_link_check.specs.Found.{IsOfNames}
 use Rattle.jfs_link_check.specs.owners.specs.Shared.{SaysShared}
-use Rattle.jfs_map_check.specs.Findings.{IsOfBlockMap}
+use Rattle.jfs_map_check.specs.Found.{IsOfBlockMap}
 use Rattle.jfs_map_check.specs.Inodes.{IsOfInodeMap}
 use Rattle.jfs_check.specs.declared.look.Look.{Look}
 

@@ -12,7 +12,7 @@ ghost use Rattle.jfs_link_check.specs.mount_rules.specs.Subject.{subject_of, vol
 ghost use Rattle.jfs_link_check.specs.mount_rules.specs.Steps.{AreRead};
 ghost use Rattle.jfs_map_check.specs.findings.specs.Gains.{Gains};
 ghost use Rattle.jfs_link_check.specs.owners.specs.Counts.{Counts};
-ghost use Rattle.jfs_map_check.specs.Findings.{KnowsOwners, IsOfBlockMap};
+ghost use Rattle.jfs_map_check.specs.Found.{KnowsOwners, IsOfBlockMap};
 ghost use Rattle.jfs_map_check.specs.Inodes.{KnowsInodes, IsOfInodeMap};
 ghost use Rattle.jfs_check.specs.Looked.{AreInUse, IsOfMaps};
 

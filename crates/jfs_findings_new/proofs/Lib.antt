@@ -1,4 +1,4 @@
 mod Files
-mod Objects
+mod ObjectsFound
 mod Maps
 pub mod NewClean

@@ -44,7 +44,7 @@ use Rattle.jfs_findings.proofs.Clean.{clean}
 use Rattle.jfs_findings.proofs.Compared.{map_page_as, iag_page_as, control_page_as}
 use Rattle.jfs_findings_new.specs.Law.{NewCleanLaw}
 use Rattle.jfs_findings_new.proofs.Files.{prefix_all, block_map_place, inode_map_place, whole_files}
-use Rattle.jfs_findings_new.proofs.Objects.{one_of_four, no_name, blocks_told, ends_told, has_no_extents, never_thin, links_due_are, parents_are}
+use Rattle.jfs_findings_new.proofs.ObjectsFound.{one_of_four, no_name, blocks_told, ends_told, has_no_extents, never_thin, links_due_are, parents_are}
 use Rattle.jfs_findings_new.proofs.Maps.{map_page, inode_page, some_iags, on_iag, used_is, extent_is, later_extent}
 
 abbrev of_new : NewVolume → Image → Subject

@@ -32,7 +32,7 @@ use Rattle.jfs_steps.specs.Place.{last_of, IsPlace}
 use Rattle.jfs_claim.specs.Look.{WhateverInodes, TellsSpace}
 use Rattle.jfs_place.proofs.HeldNode.{stood, held_node, node_there, node_links, node_kind}
 use Rattle.jfs_link.specs.Link.{MayLink, RefusesLink}
-use Rattle.jfs_link.proofs.Plain.{no_object, of_directory, no_place, full, short, deep}
+use Rattle.jfs_link.proofs.PlainTree.{no_object, of_directory, no_place, full, short, deep}
 
 -- what is told of the space, told of the room
 pub space_by : (blocks : ℕ) (pages : ℕ → List ℕ) (area : ℕ → ℕ) (bm : Blocks) (inodes : Inodes) → length bm.states ≡ blocks → IsConsistent (readers blocks) (volume_of pages area bm inodes) → (result : Result (Unit {0}) Refusal)

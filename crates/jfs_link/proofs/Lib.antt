@@ -1,5 +1,5 @@
-pub mod Plain
-pub mod Steps
+pub mod PlainTree
+pub mod Chain
 pub mod Asks
 pub mod Whole
 pub mod Asked

@@ -59,8 +59,8 @@ use Rattle.jfs_place.proofs.HeldNode.{stood, held_node, node_there, node_links, 
 use Rattle.jfs_link.specs.Joins.{Joins, JoinRefused}
 use Rattle.jfs_link.specs.Link.{MayLink}
 use Rattle.jfs_link.proofs.Asks.{names_of, enters_names, not_full}
-use Rattle.jfs_link.proofs.Plain.{linked}
-use Rattle.jfs_link.proofs.Steps.{linked_has}
+use Rattle.jfs_link.proofs.PlainTree.{linked}
+use Rattle.jfs_link.proofs.Chain.{linked_has}
 
 -- where a new name can stand, nothing stands
 new_free : (t : Tree) (path : List (List ℕ)) (p : Place) → new_place t path ≡ Ok p → at_place t p ≡ None

@@ -5,7 +5,7 @@ use Rattle.jfs_findings.specs.objects.specs.Contents.{block_of}
 use Rattle.jfs_findings.specs.reader.specs.Reading.{OutsideIsPast, IsPast}
 use Rattle.jfs_findings.specs.reader.specs.declared.error.ReadError.{ReadError}
 use Rattle.jfs_findings.specs.reader.specs.declared.error.ReadError.TheVariants.{View, Outside}
-use Rattle.jfs_map_check.specs.Findings.{SomeIsPast}
+use Rattle.jfs_map_check.specs.Found.{SomeIsPast}
 use Rattle.jfs_findings.specs.Gains.{Gains}
 use Rattle.jfs_findings.specs.declared.finding.Finding.{Finding}
 

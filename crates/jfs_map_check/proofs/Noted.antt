@@ -11,7 +11,7 @@ use Rattle.jfs_findings.specs.Gains.{Gains}
 use Rattle.jfs_findings.specs.Maps.{IsMapPageAs}
 use Rattle.jfs_findings.specs.declared.finding.Finding.{Finding}
 use Rattle.jfs_findings.specs.declared.finding.FindingKind.TheVariants as kinds
-use Rattle.jfs_map_check.specs.Findings.{finding, IsOtherAt, IsOtherBit, IsWrongPage, IsWrongAt, IsWrongIn, IsWrongBelow}
+use Rattle.jfs_map_check.specs.Found.{finding, IsOtherAt, IsOtherBit, IsWrongPage, IsWrongAt, IsWrongIn, IsWrongBelow}
 use Rattle.jfs_map_check.proofs.Gaining.{gains_none, gains_then, gains_as}
 use Rattle.jfs_map_check.proofs.Pads.{range-beside_pad}
 

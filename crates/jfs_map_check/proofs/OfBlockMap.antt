@@ -21,7 +21,7 @@ use Rattle.jfs_findings.specs.Gains.{Gains}
 use Rattle.jfs_findings.specs.declared.finding.Finding.{Finding}
 use Rattle.jfs_findings.specs.declared.finding.FindingKind.{FindingKind}
 use Rattle.jfs_findings.specs.declared.finding.FindingKind.TheVariants as kinds
-use Rattle.jfs_map_check.specs.Findings.{KnowsOwners, IsOfBlockMap, IsWrongPage, IsWrongBit, IsWrongBelow, finding}
+use Rattle.jfs_map_check.specs.Found.{KnowsOwners, IsOfBlockMap, IsWrongPage, IsWrongBit, IsWrongBelow, finding}
 use Rattle.jfs_map_check.proofs.Gaining.{gains_as}
 
 -- the page of a file that stands on a block

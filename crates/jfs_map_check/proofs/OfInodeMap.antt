@@ -20,7 +20,7 @@ use Rattle.jfs_findings.specs.declared.finding.Finding.{Finding}
 use Rattle.jfs_findings.specs.declared.finding.FindingKind.{FindingKind}
 use Rattle.jfs_findings.specs.declared.finding.FindingKind.TheVariants as kinds
 use Rattle.jfs_map_check.specs.declared.inode_map.Control.{Control}
-use Rattle.jfs_map_check.specs.Findings.{finding}
+use Rattle.jfs_map_check.specs.Found.{finding}
 use Rattle.jfs_map_check.specs.Inodes.{KnowsInodes, IsOfInodeMap, bytes_in, places_of, extent_in, part_of, IsWrongIagBelow, AreTotals, control_of, IsWrongControl}
 use Rattle.jfs_map_check.proofs.Gaining.{gains_then}
 use Rattle.jfs_map_check.proofs.Iags.{iag_same, turned}

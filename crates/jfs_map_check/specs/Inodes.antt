@@ -15,7 +15,7 @@ use Rattle.jfs_findings.specs.Maps.{IsIagAs}
 use Rattle.jfs_findings.specs.Findings.{Says}
 use Rattle.jfs_findings.specs.declared.finding.Finding.{Finding}
 use Rattle.jfs_findings.specs.declared.finding.FindingKind.TheVariants as kinds
-use Rattle.jfs_map_check.specs.Findings.{finding}
+use Rattle.jfs_map_check.specs.Found.{finding}
 use Rattle.jfs_map_check.specs.declared.iag_page.IagReport.{IagReport}
 use Rattle.jfs_map_check.specs.declared.inode_map.Control.{Control}
 

@@ -1,5 +1,5 @@
 -- what the clauses say
-pub mod Findings
+pub mod Found
 pub mod Inodes
 pub mod Compared
 -- libraries below, passed on

@@ -11,7 +11,7 @@ ghost use Rattle.jfs_findings.specs.reader.specs.Reading.{CarriesRead, OutsideIs
 ghost use Rattle.jfs_findings.specs.mount_rules.specs.Subject.{subject_of};
 ghost use Rattle.jfs_findings.specs.Maps.{IsMapPageAs};
 ghost use Rattle.jfs_findings.specs.Gains.{Gains};
-ghost use Rattle.jfs_map_check.specs.Findings.{KnowsOwners, IsOfBlockMap, SomeIsPast, IsOtherAt, IsOtherBit, IsWrongPage, IsWrongAt, IsWrongIn, IsWrongBelow};
+ghost use Rattle.jfs_map_check.specs.Found.{KnowsOwners, IsOfBlockMap, SomeIsPast, IsOtherAt, IsOtherBit, IsWrongPage, IsWrongAt, IsWrongIn, IsWrongBelow};
 
 use crate::block_page::is_canonical;
 use crate::compare::same_word;

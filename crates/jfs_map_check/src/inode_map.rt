@@ -11,7 +11,7 @@ ghost use Rattle.jfs_findings.specs.reader.specs.Reading.{CarriesRead, OutsideIs
 ghost use Rattle.jfs_findings.specs.mount_rules.specs.Subject.{subject_of};
 ghost use Rattle.jfs_findings.specs.Maps.{IsIagAs};
 ghost use Rattle.jfs_findings.specs.Gains.{Gains};
-ghost use Rattle.jfs_map_check.specs.Findings.{SomeIsPast};
+ghost use Rattle.jfs_map_check.specs.Found.{SomeIsPast};
 ghost use Rattle.jfs_map_check.specs.Inodes.{KnowsInodes, IsOfInodeMap, places_of, part_of, IsWrongIag, IsWrongIagIn, IsWrongIagBelow, AreCounts, AreTotals, control_of, IsWrongControl};
 
 use crate::iag_page::{IagReport, judge_iag};

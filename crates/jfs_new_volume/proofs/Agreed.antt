@@ -18,7 +18,7 @@ use Rattle.jfs_new_volume.specs.Law.{NewVolumeLaw, new_on, new_object}
 use Rattle.jfs_new_volume.proofs.Runs.{run, joined, from_first}
 use Rattle.jfs_new_volume.proofs.Files.{has_is, no_bad_blocks}
 use Rattle.jfs_new_volume.proofs.Maps.{extents_have_it, block_is, inode_is}
-use Rattle.jfs_new_volume.proofs.Objects.{whole_is, has_no_block, objects_are}
+use Rattle.jfs_new_volume.proofs.NewObjects.{whole_is, has_no_block, objects_are}
 
 module _ (r : Readers) (pages : ℕ) (v : NewVolume) (image : Image) (layout : IsLayout pages v.layout) (roots : ReadsRoots r v.layout.blocks) (is : IsNewVolume v image) where
   below : (n : ℕ) → nat_lt n 4 ≡ true → n < 4

@@ -39,7 +39,7 @@ use Rattle.jfs_link.specs.lead_steps.proofs.Again.{inode_same, few_links}
 use Rattle.jfs_link.specs.lead_steps.proofs.Chain.{some_is}
 use Rattle.jfs_link.specs.lead_steps.proofs.InPlace.{ChangesInPlace, counts_in_place, moves_in_place}
 use Rattle.jfs_unlink.proofs.Ended.{IsNodeOf, node_of_it, used_within, is_living, few, rest_is}
-use Rattle.jfs_unlink.proofs.Plain.{begins, same_after, still_consistent}
+use Rattle.jfs_unlink.proofs.PlainTree.{begins, same_after, still_consistent}
 use Rattle.jfs_rename_steps.specs.Objects.{HasArrived}
 use Rattle.jfs_rename_steps.specs.declared.moving.Moving.{Moving}
 use Rattle.jfs_rename_steps.proofs.Apart.{stands_apart, outside}

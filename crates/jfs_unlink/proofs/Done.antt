@@ -48,7 +48,7 @@ use Rattle.jfs_unlink.specs.Ends.{AreHeld, AreShown, AreEnds}
 use Rattle.jfs_unlink.specs.Gone.{DropsNamed, LeavesNamed}
 use Rattle.jfs_unlink.specs.declared.ends.Ends.{Ends}
 use Rattle.jfs_unlink.proofs.Ended.{used_within, is_living, few, root_is, dir_is, directory, names_it, may, node_m, object_found, placed, same_inode, reached, IsNodeOf}
-use Rattle.jfs_unlink.proofs.Plain.{begins, same_after, still_consistent, unlink_last, unlink_other, rmdir_is}
+use Rattle.jfs_unlink.proofs.PlainTree.{begins, same_after, still_consistent, unlink_last, unlink_other, rmdir_is}
 use Rattle.jfs_unlink.proofs.Unnamed.{fair, has_dropped, fallen_volume, has_fallen, used_fallen, extents_stay}
 
 -- a call that looks at the limit alone

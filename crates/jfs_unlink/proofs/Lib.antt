@@ -1,5 +1,5 @@
 pub mod Unnamed
-pub mod Plain
+pub mod PlainTree
 pub mod Paths
 pub mod Bare
 pub mod Meeting

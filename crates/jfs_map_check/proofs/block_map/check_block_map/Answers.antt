@@ -6,7 +6,7 @@ use Rattle.jfs_findings.specs.bmap.specs.OwnedBlocks.{owned_of}
 use Rattle.jfs_findings.specs.bmap.specs.MapFile.{pages_of}
 use Rattle.jfs_findings.specs.mount_rules.specs.Subject.{subject_of}
 use Rattle.jfs_findings.specs.Gains.{Gains}
-use Rattle.jfs_map_check.specs.Findings.{KnowsOwners, IsOfBlockMap, IsWrongBelow}
+use Rattle.jfs_map_check.specs.Found.{KnowsOwners, IsOfBlockMap, IsWrongBelow}
 use Rattle.jfs_map_check.proofs.Gaining.{if_ok}
 use Rattle.jfs_map_check.proofs.OfBlockMap.{made_size, of_block_map}
 use Rattle.jfs_map_check.proofs.block_map.check_block_map.Goals as goal

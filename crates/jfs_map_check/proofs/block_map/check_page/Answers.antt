@@ -3,7 +3,7 @@ use Rattle.jfs_disk.specs.Image.{page_of}
 use Rattle.jfs_findings.specs.bmap.specs.Set.{taken_at}
 use Rattle.jfs_findings.specs.objects.specs.Contents.{block_of}
 use Rattle.jfs_findings.specs.Gains.{Gains}
-use Rattle.jfs_map_check.specs.Findings.{IsWrongAt, IsWrongIn}
+use Rattle.jfs_map_check.specs.Found.{IsWrongAt, IsWrongIn}
 use Rattle.jfs_map_check.proofs.Gaining.{if_ok}
 use Rattle.jfs_map_check.proofs.Noted.{there}
 use Rattle.jfs_map_check.proofs.block_map.check_page.Goals as goal

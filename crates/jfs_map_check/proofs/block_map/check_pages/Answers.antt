@@ -6,7 +6,7 @@ use Rattle.jfs_findings.specs.bmap.specs.Set.{taken_at}
 use Rattle.jfs_findings.specs.objects.specs.Contents.{block_of}
 use Rattle.jfs_findings.specs.reader.specs.Reading.{OutsideIsPast}
 use Rattle.jfs_findings.specs.Gains.{Gains}
-use Rattle.jfs_map_check.specs.Findings.{IsWrongIn}
+use Rattle.jfs_map_check.specs.Found.{IsWrongIn}
 use Rattle.jfs_map_check.proofs.Gaining.{some_past}
 use Rattle.jfs_map_check.proofs.Noted.{one_more, from_rest}
 use Rattle.jfs_map_check.proofs.block_map.check_pages.Goals as goal

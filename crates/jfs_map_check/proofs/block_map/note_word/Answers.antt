@@ -1,7 +1,7 @@
 use Rattle.std.proofs.Common.{◌≡◌, ◌*◌, ◌+◌, subst, arith}
 use Rattle.std.specs.Prelude.{min, ℕ}
 use Rattle.jfs_findings.specs.Gains.{Gains}
-use Rattle.jfs_map_check.specs.Findings.{IsOtherBit}
+use Rattle.jfs_map_check.specs.Found.{IsOtherBit}
 use Rattle.jfs_map_check.proofs.Noted.{no_bits, word_same, bit_more}
 use Rattle.jfs_map_check.proofs.block_map.note_word.Goals as goal
 

@@ -1,6 +1,6 @@
 use Rattle.std.proofs.Common.{◌*◌}
 use Rattle.jfs_findings.specs.Gains.{Gains}
-use Rattle.jfs_map_check.specs.Findings.{IsOtherBit}
+use Rattle.jfs_map_check.specs.Found.{IsOtherBit}
 use Rattle.jfs_map_check.proofs.block_map.note_word.Given as goal
 
 abbrev pub invariant-loop-i : goal.invariant-loop-i
