@@ -1,14 +1,14 @@
 //! The calls that a script asks for, on the volume.
 
-ghost use Rattle.jfs_marks.specs.plain.specs.Limits.{FitsRequest};
+ghost use Rattle.jfs_plain.specs.Limits.{FitsRequest};
 
 use crate::volume::{BLOCKS, TestVolume, append, maps_of, put_data};
 use jfs_bits::Moment;
 use jfs_disk::{Disk, Part};
 use jfs_files::{FileOutcome, Maps, file_call};
-use jfs_marks::plain::{Reply, Request};
-use jfs_marks::reader::DiskView;
+use jfs_plain::{Reply, Request};
 use jfs_ranges::PageView;
+use jfs_reader::DiskView;
 use std::alloc::Global;
 
 /// What a call answers.

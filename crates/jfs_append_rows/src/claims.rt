@@ -4,10 +4,10 @@ ghost use Rattle.std.specs.Prelude.{◌<◌, ◌≤◌};
 
 use crate::small::inodes_of;
 use jfs_bits::{PxdList, set_run};
-use jfs_files::claim::{Claim, ClaimError, FreshInode, Want, look_for_inode, look_for_space, take};
-use jfs_marks::bmap::BlockMap;
-use jfs_marks::imap::Pick;
-use jfs_marks::plain::Refusal;
+use jfs_bmap::BlockMap;
+use jfs_claim::{Claim, ClaimError, FreshInode, Want, look_for_inode, look_for_space, take};
+use jfs_imap::Pick;
+use jfs_plain::Refusal;
 use std::alloc::{AllocError, Global};
 use std::test::*;
 

@@ -3,9 +3,9 @@
 use crate::told::{Told, call, lines_of};
 use crate::volume::new_volume;
 use jfs_bits::{Moment, PageKind, Pxd};
-use jfs_marks::records::Note;
 use jfs_marks::{InodeMarks, Marking};
 use jfs_ranges::Edit;
+use jfs_records::Note;
 use std::alloc::{AllocError, Global};
 use std::test::*;
 

@@ -3,8 +3,8 @@
 use crate::volume::{TestVolume, page_of};
 use jfs_disk::PageList;
 use jfs_image::tree_of;
-use jfs_marks::plain::{Node, PlainTree, Reply};
 use jfs_name::NameEntry;
+use jfs_plain::{Node, PlainTree, Reply};
 use std::alloc::Global;
 
 /// So many inode numbers are looked at.

@@ -1,16 +1,16 @@
 //! Scripts on a volume and on the plain tree.
 
 ghost use Rattle.std.specs.Prelude.{IfSome};
-ghost use Rattle.jfs_marks.specs.plain.specs.Limits.{FitsRequest};
+ghost use Rattle.jfs_plain.specs.Limits.{FitsRequest};
 ghost use Rattle.jfs_script.specs.Script.{AllFit};
 
 use crate::calls::call_on;
 use crate::same::{first_difference, same_reply, tree_on};
 use crate::volume::{LIMIT, MADE, TestVolume, findings_of, maps_of, new_volume};
 use jfs_bits::Moment;
+use jfs_imap::Pick;
 use jfs_io::SureSource;
-use jfs_marks::imap::Pick;
-use jfs_marks::plain::{Call, Line, PlainTree, Refusal, Reply, Request};
+use jfs_plain::{Call, Line, PlainTree, Refusal, Reply, Request};
 use jfs_script::read_script;
 use std::alloc::{AllocError, Global};
 use std::test::*;

@@ -1,19 +1,19 @@
 //! Replies and transactions.
 
 ghost use Rattle.std.specs.Prelude.{IfSome};
-ghost use Rattle.jfs_marks.specs.plain.specs.Limits.{FitsPath, FitsCall, FitsTarget};
+ghost use Rattle.jfs_plain.specs.Limits.{FitsPath, FitsCall, FitsTarget};
 
 use crate::claims::map_of;
 use crate::words::{EMPTY_DIRECTORY, INNER_ROOT, Word, put_volume, small_disk};
 use jfs_bits::{Blob, Moment, Rule, put_u32};
 use jfs_disk::{Disk, Fail, Fault, Kind, MemDisk, Part};
 use jfs_files::{FileOutcome, Maps, file_call};
+use jfs_imap::InodeMap;
 use jfs_inode_rows::places_of;
-use jfs_marks::imap::InodeMap;
-use jfs_marks::plain::{Call, Refusal, Reply, Request};
-use jfs_marks::reader::DiskView;
 use jfs_name::{Path, read_path};
+use jfs_plain::{Call, Refusal, Reply, Request};
 use jfs_ranges::PageView;
+use jfs_reader::DiskView;
 use std::alloc::{AllocError, Global};
 use std::test::*;
 

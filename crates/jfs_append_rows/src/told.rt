@@ -1,7 +1,7 @@
 //! The calls that a script asks for, with the notes and the marks of their transactions.
 
 ghost use Rattle.std.specs.Prelude.{IfSome};
-ghost use Rattle.jfs_marks.specs.plain.specs.Limits.{FitsRequest};
+ghost use Rattle.jfs_plain.specs.Limits.{FitsRequest};
 ghost use Rattle.jfs_script.specs.Script.{AllFit};
 
 use crate::volume::{BLOCKS, TestVolume, append, maps_of, put_data};
@@ -9,11 +9,11 @@ use jfs_bits::Moment;
 use jfs_disk::{Disk, Part};
 use jfs_files::{DataList, FileOutcome, Maps, file_call};
 use jfs_io::SureSource;
-use jfs_marks::plain::{Line, Request};
-use jfs_marks::reader::DiskView;
-use jfs_marks::records::Notes;
 use jfs_marks::{Marking, frees_behind, inode_marks, is_loggable, notes_of};
+use jfs_plain::{Line, Request};
 use jfs_ranges::{PageView, Tx};
+use jfs_reader::DiskView;
+use jfs_records::Notes;
 use jfs_script::read_script;
 use std::alloc::Global;
 

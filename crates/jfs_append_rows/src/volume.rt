@@ -1,13 +1,13 @@
 //! A volume in memory, made by `format`: its file system part has 3,008 blocks, the block map's file begins at block 16, and the inode map's at block 27.
 
 use jfs_bits::{Moment, Pxd, clear_run, get_u32, set_run};
+use jfs_bmap::BlockMap;
 use jfs_check::check;
 use jfs_disk::{Disk, Page, SureDisk};
 use jfs_files::{DataList, Maps};
 use jfs_format::format;
+use jfs_imap::InodeMap;
 use jfs_inode_rows::places_of;
-use jfs_marks::bmap::BlockMap;
-use jfs_marks::imap::InodeMap;
 use jfs_ranges::{Edit, Tx, apply, touches};
 use jfs_super::read_super;
 use std::alloc::{AllocError, Global};

@@ -26,7 +26,3 @@ pub use law::{
 pub use map_file::write_unused;
 pub use owned_map::OwnedMap;
 pub use reserve::{NoSpace, ReserveError};
-
-// libraries below, passed on
-pub use jfs_dmap as dmap;
-pub use jfs_dmapctl as dmapctl;

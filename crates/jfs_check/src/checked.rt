@@ -3,7 +3,7 @@
 ghost use Rattle.std.specs.Prelude.{◌≡◌};
 
 use jfs_disk::Fault;
-use jfs_map_check::findings::Finding;
+use jfs_findings::Finding;
 
 /// What was found of a volume.
 #[derive(Drop)]

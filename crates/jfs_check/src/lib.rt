@@ -14,6 +14,3 @@ mod whole;
 
 pub use checked::{CheckError, Checked};
 pub use checking::{check, check_view};
-
-// libraries below, passed on
-pub use jfs_map_check::findings;

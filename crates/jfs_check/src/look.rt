@@ -5,15 +5,15 @@ ghost use Rattle.jfs_bits.specs.Bits.{is_taken, is_in_run};
 ghost use Rattle.jfs_disk.specs.Image.{page_of};
 ghost use Rattle.jfs_inode.specs.Inode.{FitsDinode};
 ghost use Rattle.jfs_ranges.specs.View.{CarriesCount};
-ghost use Rattle.jfs_map_check.specs.findings.specs.Gains.{Gains};
+ghost use Rattle.jfs_findings.specs.Gains.{Gains};
 ghost use Rattle.jfs_check.specs.Look.{Sees, SeesTrees, IsOfFound};
 
 use jfs_bits::set_run;
+use jfs_each::EachInode;
+use jfs_findings::{Finding, condense};
 use jfs_inode::Dinode;
-use jfs_link_check::each::EachInode;
-use jfs_link_check::object_check::{check_object, count_extents};
 use jfs_link_check::{Census, count_names};
-use jfs_map_check::findings::{Finding, condense};
+use jfs_object_check::{check_object, count_extents};
 use jfs_ranges::{PageView, ViewError};
 use std::alloc::Global;
 

@@ -2,8 +2,8 @@
 
 use crate::made::{Word, check_disk, finds, put, small_disk, write_new};
 use crate::trees::put_directory;
-use jfs_check::findings::FindingKind as Kind;
 use jfs_disk::SureDisk;
+use jfs_findings::FindingKind as Kind;
 use std::test::*;
 
 #[rattlefmt::skip]

@@ -1,7 +1,7 @@
 //! One change, and what is found by it: each kind of finding. Worked out by hand from the layout.
 
 use crate::made::{Found, Word, finds, small_disk};
-use jfs_check::findings::FindingKind as Kind;
+use jfs_findings::FindingKind as Kind;
 use std::test::*;
 
 type Row = (&'static [Word], &'static [Found]);

@@ -4,9 +4,9 @@
 //! are files without a block, and 2 is the root. Blocks 0 to 32 have owners. Inode `i` of page 29 begins at byte 512 * i, and its tree's root 224 bytes behind that.
 
 use jfs_bits::{Moment, put_u32};
-use jfs_check::findings::{Finding, FindingKind};
 use jfs_check::{Checked, check};
 use jfs_disk::{Disk, Page, SureDisk};
+use jfs_findings::{Finding, FindingKind};
 use jfs_format::format;
 use jfs_super::read_super;
 use std::alloc::Global;

@@ -3,8 +3,8 @@
 use crate::counted::CountedDisk;
 use crate::made::{check_disk, put, small_disk, write_new};
 use crate::trees::{put_directory, put_extent_below, put_file, put_names};
-use jfs_check::findings::FindingKind;
 use jfs_disk::SureDisk;
+use jfs_findings::FindingKind;
 use std::alloc::Global;
 use std::test::*;
 

@@ -1,7 +1,7 @@
 //! Several changes, and what is found of them, in order.
 
 use crate::made::{Found, Word, finds, small_disk};
-use jfs_check::findings::FindingKind as Kind;
+use jfs_findings::FindingKind as Kind;
 use std::test::*;
 
 type Row = (&'static [Word], &'static [Found]);

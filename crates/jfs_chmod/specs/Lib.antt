@@ -1,4 +1,2 @@
 -- what the clauses say
 pub mod Call
-
--- libraries below, passed on

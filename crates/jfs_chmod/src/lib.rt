@@ -5,5 +5,3 @@ mod change;
 
 pub use change::change_mode;
 pub use jfs_steps::put_inode;
-
-// libraries below, passed on

@@ -1,12 +1,12 @@
 -- What is looked at before a call reserves anything: the space, and the inode of a new object.
 use Rattle.std.specs.Prelude.{◌≡◌, ◌≤◌, ℕ, ◌+◌, ◌*◌, ◌^◌, Bool, true, false, ◌&&◌, nat_lt, if◌then◌else◌, List, length, Some, None, Result, Ok, Err}
-use Rattle.jfs_room.specs.imap.specs.Inodes.{Inodes, IsPick}
-use Rattle.jfs_room.specs.imap.specs.declared.inode_map.Pick.{Pick}
-use Rattle.jfs_room.specs.imap.specs.declared.inode_map.Pick.TheVariants.{Number, NeedsExtent, NoInodes as NoneFree}
-use Rattle.jfs_room.specs.bmap.specs.States.{Blocks}
-use Rattle.jfs_room.specs.plain.specs.Step.{Room, is_short}
-use Rattle.jfs_room.specs.plain.specs.declared.refusal.Refusal.{Refusal}
-use Rattle.jfs_room.specs.plain.specs.declared.refusal.Refusal.TheVariants.{NoSpace, NoInodes}
+use Rattle.jfs_imap.specs.Inodes.{Inodes, IsPick}
+use Rattle.jfs_imap.specs.declared.inode_map.Pick.{Pick}
+use Rattle.jfs_imap.specs.declared.inode_map.Pick.TheVariants.{Number, NeedsExtent, NoInodes as NoneFree}
+use Rattle.jfs_bmap.specs.States.{Blocks}
+use Rattle.jfs_plain.specs.Step.{Room, is_short}
+use Rattle.jfs_plain.specs.declared.refusal.Refusal.{Refusal}
+use Rattle.jfs_plain.specs.declared.refusal.Refusal.TheVariants.{NoSpace, NoInodes}
 use Rattle.jfs_room.specs.objects.specs.Owners.{Agrees}
 use Rattle.jfs_room.specs.meaning.specs.Readers.{readers}
 use Rattle.jfs_room.specs.meaning.specs.Room.{room_on}

@@ -9,8 +9,3 @@ mod settle;
 pub use law::settled_blocks_are_enough;
 pub use look::{FreshInode, look_for_inode, look_for_space};
 pub use reserve::{Claim, ClaimError, Want, take};
-
-// libraries below, passed on
-pub use jfs_room as room;
-pub use jfs_room::{bmap, imap, meaning, objects, page_tree, way};
-pub use jfs_runs as runs;

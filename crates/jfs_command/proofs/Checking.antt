@@ -9,13 +9,13 @@ use Rattle.jfs_disk.specs.Image.{Image, page_of, ArePages}
 use Rattle.jfs_disk.specs.declared.disk.Disk.{Ghosts}
 use Rattle.jfs_super.specs.declared.fields.Super.{Super}
 use Rattle.jfs_super.proofs.Rules.{accepted_pages}
-use Rattle.jfs_findings_new.specs.mount_rules.specs.Subject.{Subject, subject_of}
-use Rattle.jfs_findings_new.specs.mount_rules.specs.Mount.{BadMount, broken_mount}
-use Rattle.jfs_findings_new.specs.findings.specs.Findings.{SaysUnless, AreFindings}
-use Rattle.jfs_findings_new.specs.findings.specs.declared.finding.Finding.{Finding}
-use Rattle.jfs_findings_new.specs.findings.specs.declared.finding.FindingKind.TheVariants as kinds
+use Rattle.jfs_redo.specs.mount_rules.specs.Subject.{Subject, subject_of}
+use Rattle.jfs_redo.specs.mount_rules.specs.Mount.{BadMount, broken_mount}
+use Rattle.jfs_findings.specs.Findings.{SaysUnless, AreFindings}
+use Rattle.jfs_findings.specs.declared.finding.Finding.{Finding}
+use Rattle.jfs_findings.specs.declared.finding.FindingKind.TheVariants as kinds
 use Rattle.jfs_check.specs.Checked.{AreCounted}
-use Rattle.jfs_findings_new.specs.findings.proofs.OneList.{one_list}
+use Rattle.jfs_findings.proofs.OneList.{one_list}
 use Rattle.jfs_command.specs.declared.check.Listed.{Listed}
 use Rattle.jfs_command.specs.declared.status.Status.TheVariants.{Done, Found}
 use Rattle.jfs_command.specs.declared.status.Stop.TheVariants as stops

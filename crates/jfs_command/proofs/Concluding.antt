@@ -13,7 +13,7 @@ use Rattle.jfs_command.specs.declared.status.Status.TheVariants as statuses
 use Rattle.jfs_command.specs.declared.status.Stop.TheVariants as stops
 use Rattle.jfs_command.specs.declared.outcome.End.{End}
 use Rattle.jfs_command.specs.declared.outcome.End.TheVariants.{Own, Stopped}
-use Rattle.jfs_findings_new.specs.plain.specs.declared.call.Entry.{Entry}
+use Rattle.jfs_plain.specs.declared.call.Entry.{Entry}
 use Rattle.jfs_command.specs.declared.outcome.Outcome.{Outcome}
 use Rattle.jfs_command.specs.Status.{Kind, Finishes, Refuses, RefusesWord, ByScripts, BySink, ByDisk, ByMemory, IsOwnKind, kind_of, status_of, sink_fault_after, line_of}
 use Rattle.jfs_command.specs.Count.{Count, Stays, HasRisen}

@@ -6,7 +6,7 @@ use Rattle.std.proofs.lemmas.List.{length-append, length-replicate, length-take-
 use Rattle.std.proofs.Math.Seq.{take-length}
 use Rattle.jfs_disk.specs.Image.{Image, page_of, ArePages}
 use Rattle.jfs_disk.specs.declared.disk.Disk.{Ghosts}
-use Rattle.jfs_findings_new.specs.logpages.proofs.Shown.{with_page, with_page-there, with_page-same}
+use Rattle.jfs_logpages.proofs.Shown.{with_page, with_page-there, with_page-same}
 use Rattle.jfs_command.specs.Held.{Held, IsHeld}
 use Rattle.jfs_command.specs.Superblock.{IsPage8}
 

@@ -6,21 +6,21 @@ use Rattle.jfs_disk.specs.Image.{Image, page_of, ArePages}
 use Rattle.jfs_disk.specs.Crash.{AllSince}
 use Rattle.jfs_disk.specs.Moment.{now_of}
 use Rattle.jfs_super.specs.declared.fields.Super.{Super}
-use Rattle.jfs_findings_new.specs.plain.specs.Moves.{Same}
-use Rattle.jfs_findings_new.specs.plain.specs.Plain.{new_tree}
-use Rattle.jfs_findings_new.specs.meaning.specs.Image.{tree_of, IsConsistentImage}
+use Rattle.jfs_plain.specs.Moves.{Same}
+use Rattle.jfs_plain.specs.Plain.{new_tree}
+use Rattle.jfs_redo.specs.meaning.specs.Image.{tree_of, IsConsistentImage}
 use Rattle.jfs_findings_new.specs.new_volume.proofs.Tree.{new_volume_tree}
-use Rattle.jfs_findings_new.specs.mount_rules.specs.Subject.{subject_of}
-use Rattle.jfs_findings_new.specs.findings.specs.Clean.{HasNoFinding}
+use Rattle.jfs_redo.specs.mount_rules.specs.Subject.{subject_of}
+use Rattle.jfs_findings.specs.Clean.{HasNoFinding}
 use Rattle.jfs_findings_new.proofs.NewClean.{new_clean}
-use Rattle.jfs_findings_new.specs.format.specs.declared.formatter.FormatError.{FormatError}
-use Rattle.jfs_findings_new.specs.format.specs.declared.formatter.FormatError.TheVariants as errors
-use Rattle.jfs_findings_new.specs.format.specs.Answer.{IsFormatAnswer}
-use Rattle.jfs_findings_new.specs.format.specs.Layout.{IsFormattable, layout_of}
-use Rattle.jfs_findings_new.specs.format.specs.Superblock.{new_super}
-use Rattle.jfs_findings_new.specs.format.specs.declared.volume.NewVolume.{NewVolume}
-use Rattle.jfs_findings_new.specs.format.specs.Volume.{wanted, IsNewVolume, IsOnTheWay}
-use Rattle.jfs_findings_new.specs.format.proofs.Layouts.{layout-bounds}
+use Rattle.jfs_format.specs.declared.formatter.FormatError.{FormatError}
+use Rattle.jfs_format.specs.declared.formatter.FormatError.TheVariants as errors
+use Rattle.jfs_format.specs.Answer.{IsFormatAnswer}
+use Rattle.jfs_format.specs.Layout.{IsFormattable, layout_of}
+use Rattle.jfs_format.specs.Superblock.{new_super}
+use Rattle.jfs_format.specs.declared.volume.NewVolume.{NewVolume}
+use Rattle.jfs_format.specs.Volume.{wanted, IsNewVolume, IsOnTheWay}
+use Rattle.jfs_format.proofs.Layouts.{layout-bounds}
 use Rattle.jfs_command.specs.declared.status.Status.TheVariants.{Done, BadSize}
 use Rattle.jfs_command.specs.declared.status.Stop.TheVariants as stops
 use Rattle.jfs_command.specs.declared.outcome.End.TheVariants.{Own, Stopped}

@@ -1,7 +1,7 @@
 -- The lines of records that are read once more, the oldest first.
 use Rattle.std.proofs.Common.{◌≡◌, ℕ, List, [], ◌∷◌, ◌++◌, length, take, drop, map, reverse, Result, Ok, Err, OnOk, sym, ap, ◌∙◌, append_assoc}
 use Rattle.std.proofs.lemmas.List.{append-nil, take-append-drop, reverse-append, length-map, length-reverse}
-use Rattle.jfs_findings_new.specs.logpages.specs.Back.{Met, IsMet, AreMet, address_at}
+use Rattle.jfs_logpages.specs.Back.{Met, IsMet, AreMet, address_at}
 use Rattle.jfs_command.specs.LogText.{record_line, record_lines}
 
 pub on_ok : {T E : Type 0} (r : Result T E) (P Q : Type 0) → (P → Q) → OnOk r P → OnOk r Q

@@ -9,14 +9,14 @@ use Rattle.jfs_super.specs.declared.fields.Geometry.{Geometry}
 use Rattle.jfs_super.specs.Rules.{blocks_of, IsAccepted}
 use Rattle.jfs_super.specs.Geometry.{geometry_of}
 use Rattle.jfs_super.proofs.Rules.{accepted_pages, accepted_layout}
-use Rattle.jfs_findings_new.specs.logpages.specs.Back.{Met, AreMet, FromSync}
-use Rattle.jfs_findings_new.specs.logpages.specs.Outcome.{IsReadFault, IsRefusal, TellsNothing}
-use Rattle.jfs_findings_new.specs.logpages.specs.ReadLog.{IsReadAs, IsReadLog}
-use Rattle.jfs_findings_new.specs.logpages.specs.declared.ring_text.RingText.{RingText}
-use Rattle.jfs_findings_new.specs.logpages.specs.declared.error.RingError.{RingError}
-use Rattle.jfs_findings_new.specs.logpages.specs.declared.error.RingError.TheVariants as errors
-use Rattle.jfs_findings_new.specs.logpages.proofs.OneAnswer.{has-one, looks}
-use Rattle.jfs_findings_new.specs.logpages.proofs.Stops.{Ending, ends-once, read-ending}
+use Rattle.jfs_logpages.specs.Back.{Met, AreMet, FromSync}
+use Rattle.jfs_logpages.specs.Outcome.{IsReadFault, IsRefusal, TellsNothing}
+use Rattle.jfs_logpages.specs.ReadLog.{IsReadAs, IsReadLog}
+use Rattle.jfs_logpages.specs.declared.ring_text.RingText.{RingText}
+use Rattle.jfs_logpages.specs.declared.error.RingError.{RingError}
+use Rattle.jfs_logpages.specs.declared.error.RingError.TheVariants as errors
+use Rattle.jfs_logpages.proofs.OneAnswer.{has-one, looks}
+use Rattle.jfs_logpages.proofs.Stops.{Ending, ends-once, read-ending}
 use Rattle.jfs_command.specs.declared.status.Status.TheVariants as statuses
 use Rattle.jfs_command.specs.declared.status.Stop.TheVariants as stops
 use Rattle.jfs_command.specs.declared.outcome.End.{End}

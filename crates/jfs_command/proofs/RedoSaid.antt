@@ -8,13 +8,13 @@ use Rattle.jfs_ranges.specs.declared.edit.Edit.{Edit}
 use Rattle.jfs_super.specs.declared.fields.Super.{Super}
 use Rattle.jfs_super.specs.Rules.{blocks_of, IsAccepted}
 use Rattle.jfs_super.proofs.Rules.{accepted_layout}
-use Rattle.jfs_findings_new.specs.logpages.specs.Back.{Met}
-use Rattle.jfs_findings_new.specs.logpages.specs.ReadLog.{IsReadAs, IsNotOwn, BreaksLog}
-use Rattle.jfs_findings_new.specs.logpages.specs.declared.error.RingError.TheVariants as ring
-use Rattle.jfs_findings_new.specs.logpages.proofs.OneAnswer.{has-one, looks, records-once}
+use Rattle.jfs_logpages.specs.Back.{Met}
+use Rattle.jfs_logpages.specs.ReadLog.{IsReadAs, IsNotOwn, BreaksLog}
+use Rattle.jfs_logpages.specs.declared.error.RingError.TheVariants as ring
+use Rattle.jfs_logpages.proofs.OneAnswer.{has-one, looks, records-once}
 use Rattle.jfs_redo.specs.records.specs.Committed.{committed}
-use Rattle.jfs_findings_new.specs.mount_rules.specs.Subject.{subject_of}
-use Rattle.jfs_findings_new.specs.mount_rules.specs.Mount.{BadMount, broken_maps}
+use Rattle.jfs_redo.specs.mount_rules.specs.Subject.{subject_of}
+use Rattle.jfs_redo.specs.mount_rules.specs.Mount.{BadMount, broken_maps}
 use Rattle.jfs_command.specs.declared.status.Status.TheVariants.{BadImage}
 use Rattle.jfs_command.specs.Meaning.{Answer, finished, refused}
 use Rattle.jfs_command.specs.Superblock.{AfterState}

@@ -5,18 +5,18 @@ use Rattle.jfs_bits.specs.declared.descriptor.Moment.{Moment}
 use Rattle.jfs_disk.specs.Image.{page_of}
 use Rattle.jfs_disk.specs.Crash.{AllSince, last_of}
 use Rattle.jfs_disk.specs.Moment.{IsResting, now_of}
-use Rattle.jfs_findings_new.specs.format.specs.declared.layout.Layout.{Layout}
-use Rattle.jfs_findings_new.specs.format.specs.declared.volume.NewVolume.{NewVolume}
-use Rattle.jfs_findings_new.specs.format.specs.declared.formatter.FormatError.{FormatError}
-use Rattle.jfs_findings_new.specs.format.specs.declared.formatter.FormatError.TheVariants as errors
-use Rattle.jfs_findings_new.specs.format.specs.Layout.{IsFormattable, layout_of, free_blocks}
-use Rattle.jfs_findings_new.specs.format.specs.Superblock.{new_super}
-use Rattle.jfs_findings_new.specs.format.specs.Volume.{wanted, IsNewVolume, IsOnTheWay, IsUnnamed}
-use Rattle.jfs_findings_new.specs.plain.specs.Moves.{Same}
-use Rattle.jfs_findings_new.specs.plain.specs.Plain.{new_tree}
-use Rattle.jfs_findings_new.specs.meaning.specs.Image.{tree_of, IsConsistentImage}
-use Rattle.jfs_findings_new.specs.mount_rules.specs.Subject.{subject_of}
-use Rattle.jfs_findings_new.specs.findings.specs.Clean.{HasNoFinding}
+use Rattle.jfs_format.specs.declared.layout.Layout.{Layout}
+use Rattle.jfs_format.specs.declared.volume.NewVolume.{NewVolume}
+use Rattle.jfs_format.specs.declared.formatter.FormatError.{FormatError}
+use Rattle.jfs_format.specs.declared.formatter.FormatError.TheVariants as errors
+use Rattle.jfs_format.specs.Layout.{IsFormattable, layout_of, free_blocks}
+use Rattle.jfs_format.specs.Superblock.{new_super}
+use Rattle.jfs_format.specs.Volume.{wanted, IsNewVolume, IsOnTheWay, IsUnnamed}
+use Rattle.jfs_plain.specs.Moves.{Same}
+use Rattle.jfs_plain.specs.Plain.{new_tree}
+use Rattle.jfs_redo.specs.meaning.specs.Image.{tree_of, IsConsistentImage}
+use Rattle.jfs_redo.specs.mount_rules.specs.Subject.{subject_of}
+use Rattle.jfs_findings.specs.Clean.{HasNoFinding}
 use Rattle.jfs_command.specs.declared.status.Status.{Status}
 use Rattle.jfs_command.specs.declared.status.Status.TheVariants.{Done, BadSize}
 use Rattle.jfs_command.specs.declared.status.Stop.TheVariants as stops

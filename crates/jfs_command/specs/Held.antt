@@ -3,7 +3,7 @@ use Rattle.std.specs.Prelude.{◌≡◌, ◌<◌, ℕ, List, [], length}
 use Rattle.jfs_disk.specs.Image.{Image, page_of}
 use Rattle.jfs_disk.specs.Crash.{DiskState}
 use Rattle.jfs_disk.specs.declared.disk.Disk.{Ghosts}
-use Rattle.jfs_findings_new.specs.plain.specs.declared.call.Entry.{Entry}
+use Rattle.jfs_plain.specs.declared.call.Entry.{Entry}
 
 -- A disk at one moment: how many pages it has, what a read gives of each, and the states that it has had, the oldest first.
 pub record Held : Type 0 where

@@ -5,11 +5,11 @@ use Rattle.jfs_bits.specs.declared.rule.Rule.{Rule}
 use Rattle.jfs_disk.specs.Image.{Image}
 use Rattle.jfs_super.specs.declared.fields.Super.{Super}
 use Rattle.jfs_super.specs.Rules.{blocks_of, IsAccepted}
-use Rattle.jfs_findings_new.specs.logpages.specs.Back.{Met, FromSync}
-use Rattle.jfs_findings_new.specs.logpages.specs.ReadLog.{IsReadAs, IsNotOwn, BreaksLog}
-use Rattle.jfs_findings_new.specs.logpages.specs.declared.ring_text.RingText.{RingText}
-use Rattle.jfs_findings_new.specs.logpages.specs.declared.error.RingError.{RingError}
-use Rattle.jfs_findings_new.specs.logpages.specs.declared.error.RingError.TheVariants as errors
+use Rattle.jfs_logpages.specs.Back.{Met, FromSync}
+use Rattle.jfs_logpages.specs.ReadLog.{IsReadAs, IsNotOwn, BreaksLog}
+use Rattle.jfs_logpages.specs.declared.ring_text.RingText.{RingText}
+use Rattle.jfs_logpages.specs.declared.error.RingError.{RingError}
+use Rattle.jfs_logpages.specs.declared.error.RingError.TheVariants as errors
 use Rattle.jfs_command.specs.declared.status.Status.TheVariants.{ForeignLog, BadLog}
 use Rattle.jfs_command.specs.declared.status.Stop.TheVariants as stops
 use Rattle.jfs_command.specs.declared.outcome.End.{End}

@@ -9,7 +9,7 @@ use Rattle.jfs_bits.specs.declared.rule.PageKind.TheVariants as kinds
 use Rattle.jfs_bits.specs.Line.{line_size}
 use Rattle.jfs_logfmt.specs.declared.log_record.Record.{Record}
 use Rattle.jfs_logfmt.specs.declared.log_record.Record.TheVariants as records
-use Rattle.jfs_findings_new.specs.logpages.specs.Back.{Met, tid_of, address_at}
+use Rattle.jfs_logpages.specs.Back.{Met, tid_of, address_at}
 
 -- a space and a word
 abbrev pub word : List ℕ → List ℕ

@@ -10,10 +10,10 @@ use Rattle.jfs_ranges.specs.declared.edit.Edit.{Edit}
 use Rattle.jfs_super.specs.declared.fields.Super.{Super}
 use Rattle.jfs_super.specs.declared.fields.TheConstants.VolumeState.{CLEAN}
 use Rattle.jfs_super.specs.Rules.{blocks_of, IsAccepted}
-use Rattle.jfs_findings_new.specs.logpages.specs.ReadLog.{IsNotOwn, BreaksLog}
-use Rattle.jfs_findings_new.specs.logpages.specs.declared.error.RingError.TheVariants as ring
-use Rattle.jfs_findings_new.specs.mount_rules.specs.Subject.{subject_of}
-use Rattle.jfs_findings_new.specs.mount_rules.specs.Mount.{BadMount, broken_maps}
+use Rattle.jfs_logpages.specs.ReadLog.{IsNotOwn, BreaksLog}
+use Rattle.jfs_logpages.specs.declared.error.RingError.TheVariants as ring
+use Rattle.jfs_redo.specs.mount_rules.specs.Subject.{subject_of}
+use Rattle.jfs_redo.specs.mount_rules.specs.Mount.{BadMount, broken_maps}
 use Rattle.jfs_redo.specs.Log.{AreCommitted}
 use Rattle.jfs_redo.specs.Redo.{IsRedone, StaysBehind}
 use Rattle.jfs_redo.specs.declared.error.RedoError.{RedoError}

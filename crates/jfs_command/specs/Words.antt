@@ -4,7 +4,7 @@ use Rattle.std.specs.List.{list_all, range_with_len}
 use Rattle.std.specs.Str.{is_utf8, bytes_eq}
 use Rattle.std.specs.Global.{Vec}
 use Rattle.uuid.specs.Text.{parsed}
-use Rattle.jfs_findings_new.specs.format.specs.Superblock.{label_field}
+use Rattle.jfs_format.specs.Superblock.{label_field}
 use Rattle.jfs_command.specs.declared.words.Usage.{Usage}
 use Rattle.jfs_command.specs.declared.words.Command.{Command}
 use Rattle.jfs_command.specs.declared.words.Scripts.{Scripts}

@@ -1,7 +1,7 @@
 //! The command `format`: it writes an empty volume over all pages of the disk.
 
 ghost use Rattle.std.specs.Prelude.{◌≡◌, ◌≤◌, ◌++◌, IfOk, OnOk, string_bytes};
-ghost use Rattle.jfs_findings_new.specs.format.specs.Layout.{owned_blocks};
+ghost use Rattle.jfs_format.specs.Layout.{owned_blocks};
 ghost use Rattle.jfs_command.specs.Format.{counts_text, format_text, end_of, format_meaning};
 ghost use Rattle.jfs_command.specs.Meaning.{Performs};
 
@@ -9,7 +9,7 @@ use crate::outcome::{End, Outcome};
 use crate::status::{Status, Stop};
 use jfs_bits::Moment;
 use jfs_disk::Disk;
-use jfs_findings_new::format::{FormatError, Layout, format};
+use jfs_format::{FormatError, Layout, format};
 use std::alloc::{AllocError, Global};
 use std::fmt::Write;
 use uuid::Uuid;

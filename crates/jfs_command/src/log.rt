@@ -11,7 +11,7 @@ use crate::outcome::{End, Outcome};
 use crate::status::{Status, Stop};
 use crate::superblock::look;
 use jfs_disk::Disk;
-use jfs_findings_new::logpages::{RingError, read_ring};
+use jfs_logpages::{RingError, read_ring};
 use jfs_super::{Super, geometry};
 use std::alloc::Global;
 

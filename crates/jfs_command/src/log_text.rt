@@ -4,12 +4,12 @@ ghost use Rattle.std.specs.Prelude.{◌≡◌, ◌<◌, ◌≤◌, ◌+◌, ◌*
 ghost use Rattle.std.specs.Fmt.{decimal};
 ghost use Rattle.std.specs.List.{flat_map};
 ghost use Rattle.jfs_bits.specs.Line.{line_size};
-ghost use Rattle.jfs_findings_new.specs.logpages.specs.Back.{Met, IsMet, AreMet, address_at, tid_of};
+ghost use Rattle.jfs_logpages.specs.Back.{Met, IsMet, AreMet, address_at, tid_of};
 ghost use Rattle.jfs_command.specs.LogText.{type_name, kind_name, page_name, owner_words, page_words, number_word, range_word, run_word, words_of, record_line, last_line, log_text};
 
 use jfs_bits::{PageKind, Pxd, PxdList, Ranges};
-use jfs_findings_new::logpages::RingText;
 use jfs_logfmt::{Record, RecordError, read_record_before};
+use jfs_logpages::RingText;
 use std::alloc::{AllocError, Global};
 use std::fmt::Write;
 

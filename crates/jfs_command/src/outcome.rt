@@ -4,7 +4,7 @@ ghost use Rattle.std.specs.Prelude.{◌≡◌, []};
 ghost use Rattle.jfs_command.specs.Status.{status_of};
 
 use crate::status::{Status, Stop};
-use jfs_findings_new::plain::Entry;
+use jfs_plain::Entry;
 use std::alloc::Global;
 
 /// How a command ended.

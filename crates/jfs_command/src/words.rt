@@ -3,7 +3,7 @@
 ghost use Rattle.std.specs.Prelude.{◌≡◌, true, Ok, IfOk, IfErr};
 ghost use Rattle.std.specs.List.{list_all};
 ghost use Rattle.std.specs.Str.{is_utf8, bytes_eq};
-ghost use Rattle.jfs_findings_new.specs.format.specs.Superblock.{label_field};
+ghost use Rattle.jfs_format.specs.Superblock.{label_field};
 ghost use Rattle.jfs_command.specs.Words.{texts, is_visible, is_label, with_label, with_uuid, image_and_uuid, is_name, begins_with_dash, command_of, on_image, image_alone, places_of, script_words, UsageIs};
 
 use std::alloc::{AllocError, Global};

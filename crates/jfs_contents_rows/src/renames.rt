@@ -8,18 +8,18 @@ use crate::volume::{
     BLOCKS, append, eight, is_short, map_at, name_of, new_volume, page_of, path_of,
 };
 use jfs_bits::{Moment, get_u32};
+use jfs_data_steps::DataList;
 use jfs_disk::{Disk, Part, SureDisk};
+use jfs_imap::InodeMap;
 use jfs_inode::inode_in;
 use jfs_ranges::{PageView, Tx};
+use jfs_reader::{DiskView, names_of};
 use jfs_rename_steps::{
     Leaving, Moving, arrive, displace, free_if_gone, gain_entry, lead_entry, leave, lose_entry,
     move_over, move_to_free,
 };
-use jfs_truncate::data_steps::DataList;
-use jfs_truncate::imap::InodeMap;
-use jfs_truncate::reader::{DiskView, names_of};
-use jfs_truncate::steps::Gain;
-use jfs_truncate::way::{Held, walk};
+use jfs_steps::Gain;
+use jfs_way::{Held, walk};
 use std::alloc::Global;
 use std::test::*;
 

@@ -5,13 +5,13 @@ use crate::volume::{
 };
 use jfs_bits::{Blob, Moment};
 use jfs_disk::{Disk, Part, SureDisk};
+use jfs_imap::InodeMap;
 use jfs_inode::inode_in;
 use jfs_name::Path;
+use jfs_plain::{Call, PlainTree, Refusal, Reply};
 use jfs_ranges::{Edit, Tx};
-use jfs_truncate::imap::InodeMap;
-use jfs_truncate::plain::{Call, PlainTree, Refusal, Reply};
-use jfs_truncate::read::read_bytes;
-use jfs_truncate::reader::DiskView;
+use jfs_read::read_bytes;
+use jfs_reader::DiskView;
 use jfs_truncate::{Truncated, truncate};
 use std::alloc::Global;
 use std::test::*;

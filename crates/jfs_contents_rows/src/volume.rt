@@ -5,16 +5,16 @@ ghost use Rattle.std.specs.Prelude.{◌≡◌, ◌≤◌, ◌<◌, ◌∷◌, �
 ghost use Rattle.jfs_inode.specs.Inode.{FitsDinode};
 
 use jfs_bits::{Moment, Pxd, PxdList, Xad, get_array, put_array, put_u32};
+use jfs_data_steps::DataList;
 use jfs_disk::{Disk, Page, Part, SureDisk};
+use jfs_dtree::add;
 use jfs_format::format;
+use jfs_imap::InodeMap;
 use jfs_inode::{Dinode, inode_in, write_dinode};
 use jfs_inode_rows::places_of;
 use jfs_name::{Name, Path};
 use jfs_ranges::{PageView, Tx, apply, touches};
-use jfs_truncate::data_steps::DataList;
-use jfs_truncate::dtree::add;
-use jfs_truncate::imap::InodeMap;
-use jfs_truncate::reader::DiskView;
+use jfs_reader::DiskView;
 use std::alloc::{AllocError, Global};
 use uuid::Uuid;
 
@@ -119,7 +119,7 @@ fn file<V: PageView>(alloc: Global, view: &mut V) -> Option<Dinode>
     ensures fits { IfSome result FitsDinode }
 {
     let mut root = [0u8; 288];
-    jfs_truncate::xtree::new_root(&mut root);
+    jfs_xtree::new_root(&mut root);
     let mut fresh = eight(alloc).ok()?;
     let mut tx = Tx::new(alloc);
     let data = Xad {
@@ -127,7 +127,7 @@ fn file<V: PageView>(alloc: Global, view: &mut V) -> Option<Dinode>
         offset: 0,
         at: Pxd { len: 5, addr: 300 },
     };
-    match jfs_truncate::xtree::add(alloc, view, &mut root, data, &mut fresh, &mut tx) {
+    match jfs_xtree::add(alloc, view, &mut root, data, &mut fresh, &mut tx) {
         Ok(()) => {}
         Err(_) => return None,
     }
@@ -142,7 +142,7 @@ fn directory() -> Dinode
     ensures { FitsDinode result }
 {
     let mut root = [0u8; 288];
-    jfs_truncate::dtree::new_root(&mut root, 2);
+    jfs_dtree::new_root(&mut root, 2);
     let mut d = object(6, 0o040755, 2, 0);
     put_array(&mut d.rest, 96, &root);
     d

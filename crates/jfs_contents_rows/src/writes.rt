@@ -4,11 +4,11 @@ ghost use Rattle.std.specs.Prelude.{◌≡◌, ◌∷◌, [], IfOk};
 
 use crate::volume::{BLOCKS, fill_of, new_volume};
 use jfs_bits::{Pxd, PxdList, Xad, set_run};
+use jfs_bmap::BlockMap;
+use jfs_data_steps::DataList;
 use jfs_disk::{Disk, Part, SureDisk};
 use jfs_file_blocks::{FileWant, reserve_blocks};
-use jfs_truncate::bmap::BlockMap;
-use jfs_truncate::data_steps::DataList;
-use jfs_truncate::reader::DiskView;
+use jfs_reader::DiskView;
 use jfs_write_pages::{
     Change, Spot, are_within, extents_for, hint_behind, holes_in, placed, push_between, push_page,
     push_pages, spots_from,

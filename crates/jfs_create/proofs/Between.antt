@@ -4,8 +4,8 @@ use Rattle.std.proofs.lemmas.List.{get_or-set_same, length-set}
 use Rattle.jfs_ranges.specs.declared.edit.Edit.{Edit}
 use Rattle.jfs_ranges.specs.Apply.{apply_tx}
 use Rattle.jfs_ranges.specs.Laid.{put_tx, applied_length}
-use Rattle.jfs_link.specs.page_tree.specs.Edit.{count_in}
-use Rattle.jfs_link.specs.plain.specs.Tree.{Tree}
+use Rattle.jfs_tree.specs.Edit.{count_in}
+use Rattle.jfs_plain.specs.Tree.{Tree}
 use Rattle.jfs_link.specs.objects.specs.Volume.{Volume, home, page_in}
 use Rattle.jfs_link.specs.objects.specs.Objects.{objects}
 use Rattle.jfs_link.specs.objects.specs.Owners.{bit}
@@ -14,8 +14,8 @@ use Rattle.jfs_link.specs.objects.specs.Changes.{AddsExtent}
 use Rattle.jfs_link.specs.objects.proofs.Extent.{extent_law}
 use Rattle.jfs_link.specs.meaning.specs.Readers.{readers}
 use Rattle.jfs_link.specs.lead_steps.specs.Reached.{HasTree}
-use Rattle.jfs_link.specs.steps.specs.After.{used_after, extents_after}
-use Rattle.jfs_link.specs.steps.specs.Gains.{after_set}
+use Rattle.jfs_steps.specs.After.{used_after, extents_after}
+use Rattle.jfs_steps.specs.Gains.{after_set}
 use Rattle.jfs_create.specs.Extent.{TellsExtent}
 use Rattle.jfs_create.specs.Makes.{IsBetween, IsNewPlace, CanStand}
 use Rattle.jfs_create.specs.declared.extent.NewExtent.{NewExtent}

@@ -9,10 +9,10 @@ use Rattle.jfs_bits.specs.Field.{range_of}
 use Rattle.jfs_bits.specs.declared.descriptor.Moment.{Moment}
 use Rattle.jfs_inode.specs.Rules.{rows}
 use Rattle.jfs_inode.specs.declared.fields.Dinode.{Dinode}
-use Rattle.jfs_link.specs.dtree.specs.Parent.{parent_of}
-use Rattle.jfs_link.specs.page_tree.specs.Walk.{Leaf}
-use Rattle.jfs_link.specs.page_tree.specs.Spells.{no_page}
-use Rattle.jfs_link.specs.plain.specs.declared.node.Node.{Node}
+use Rattle.jfs_dtree.specs.Parent.{parent_of}
+use Rattle.jfs_tree.specs.Walk.{Leaf}
+use Rattle.jfs_tree.specs.Spells.{no_page}
+use Rattle.jfs_plain.specs.declared.node.Node.{Node}
 use Rattle.jfs_link.specs.objects.specs.Readers.{Readers}
 use Rattle.jfs_link.specs.objects.specs.Objects.{spelled, listed, is_live}
 use Rattle.jfs_link.specs.objects.specs.Owners.{holds}

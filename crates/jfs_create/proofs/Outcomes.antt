@@ -3,19 +3,19 @@ use Rattle.std.proofs.Common.{◌≡◌, ◌≢◌, refl, sym, ap, ◌∙◌, su
 use Rattle.std.specs.Option.{option_map}
 use Rattle.jfs_bits.specs.declared.descriptor.Moment.{Moment}
 use Rattle.jfs_name.specs.declared.name.NameEntry.{NameEntry}
-use Rattle.jfs_link.specs.plain.specs.Tree.{Tree, Place, place_at, new_place, and_then}
-use Rattle.jfs_link.specs.plain.specs.Moves.{Same, changed, made, gains, rises}
-use Rattle.jfs_link.specs.plain.specs.Step.{Room, Outcome, Answers, makes, refuse, with_fresh, is_short, links_of, entry_as}
-use Rattle.jfs_link.specs.plain.specs.declared.call.Call.TheVariants as calls
-use Rattle.jfs_link.specs.plain.specs.declared.node.Node.{Node}
+use Rattle.jfs_plain.specs.Tree.{Tree, Place, place_at, new_place, and_then}
+use Rattle.jfs_plain.specs.Moves.{Same, changed, made, gains, rises}
+use Rattle.jfs_plain.specs.Step.{Room, Outcome, Answers, makes, refuse, with_fresh, is_short, links_of, entry_as}
+use Rattle.jfs_plain.specs.declared.call.Call.TheVariants as calls
+use Rattle.jfs_plain.specs.declared.node.Node.{Node}
 use Rattle.jfs_link.specs.meaning.specs.Consistent.{IsConsistentTree}
 use Rattle.jfs_link.specs.meaning.specs.Laws.{IsFresh}
 use Rattle.jfs_link.specs.meaning.proofs.Steps.{step_keeps}
-use Rattle.jfs_link.specs.plain.specs.declared.refusal.Refusal.{Refusal}
-use Rattle.jfs_link.specs.plain.specs.declared.refusal.Refusal.TheVariants.{NoSpace, TooDeep, TooManyLinks, NoInodes}
-use Rattle.jfs_link.specs.plain.specs.declared.reply.Reply.TheVariants.{Done}
+use Rattle.jfs_plain.specs.declared.refusal.Refusal.{Refusal}
+use Rattle.jfs_plain.specs.declared.refusal.Refusal.TheVariants.{NoSpace, TooDeep, TooManyLinks, NoInodes}
+use Rattle.jfs_plain.specs.declared.reply.Reply.TheVariants.{Done}
 use Rattle.jfs_link.specs.lead_steps.proofs.Chain.{twice}
-use Rattle.jfs_link.specs.steps.specs.Gains.{linked}
+use Rattle.jfs_steps.specs.Gains.{linked}
 use Rattle.jfs_create.specs.Look.{too_many}
 use Rattle.jfs_create.specs.Makes.{plain_of, also, links_after}
 use Rattle.jfs_create.specs.New.{node_for}

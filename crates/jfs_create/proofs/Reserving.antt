@@ -5,27 +5,27 @@ use Rattle.std.proofs.lemmas.Bool.Decides.{nat_tests}
 use Rattle.std.proofs.lemmas.List.Elements.{All-head}
 use Rattle.jfs_bits.specs.declared.descriptor.Pxd.{Pxd}
 use Rattle.jfs_bits.specs.declared.rule.PageKind.TheVariants as kinds
-use Rattle.jfs_link.specs.bmap.specs.States.{Blocks, Reserved, changed, is_used, put_state, is_in_list, AreApart}
-use Rattle.jfs_link.specs.bmap.specs.Choice.{AreLowestBlocks}
-use Rattle.jfs_link.specs.bmap.proofs.Puts.{in_list-none}
+use Rattle.jfs_bmap.specs.States.{Blocks, Reserved, changed, is_used, put_state, is_in_list, AreApart}
+use Rattle.jfs_bmap.specs.Choice.{AreLowestBlocks}
+use Rattle.jfs_bmap.proofs.Puts.{in_list-none}
 use Rattle.jfs_ranges.specs.declared.edit.Edit.{Edit}
-use Rattle.jfs_link.specs.page_tree.specs.Edit.{count_in}
-use Rattle.jfs_link.specs.page_tree.specs.Fresh.{blocks_of, run_from}
+use Rattle.jfs_tree.specs.Edit.{count_in}
+use Rattle.jfs_tree.specs.Fresh.{blocks_of, run_from}
 use Rattle.jfs_link.specs.objects.specs.Owners.{run_has}
-use Rattle.jfs_link.specs.plain.specs.declared.refusal.Refusal.{Refusal}
+use Rattle.jfs_plain.specs.declared.refusal.Refusal.{Refusal}
 use Rattle.jfs_link.specs.room.specs.Laws.{blocks_in}
 use Rattle.jfs_link.specs.runs.specs.Laws.{one_if}
 use Rattle.jfs_link.specs.runs.proofs.Counted.{counted, count_append}
-use Rattle.jfs_link.specs.claim.specs.Take.{AreFresh, Claims, HasFree, IsPartlyTaken, IsRun, Reserves, claimed, reserving, run_list}
-use Rattle.jfs_link.specs.claim.specs.declared.reserve.Claim.{Claim}
-use Rattle.jfs_link.specs.way.specs.Answer.{is_open}
-use Rattle.jfs_link.specs.way.specs.declared.object.Held.{Held}
+use Rattle.jfs_claim.specs.Take.{AreFresh, Claims, HasFree, IsPartlyTaken, IsRun, Reserves, claimed, reserving, run_list}
+use Rattle.jfs_claim.specs.declared.reserve.Claim.{Claim}
+use Rattle.jfs_way.specs.Answer.{is_open}
+use Rattle.jfs_way.specs.declared.object.Held.{Held}
 use Rattle.jfs_link.specs.Link.{ReservesFree}
-use Rattle.jfs_link.specs.steps.specs.After.{takes, four_from}
-use Rattle.jfs_link.specs.steps.specs.Gains.{GainRefused}
-use Rattle.jfs_link.specs.steps.specs.Laws.{ChangesPagesAlone}
-use Rattle.jfs_link.specs.steps.proofs.After.{lines_alone, runs_leave}
-use Rattle.jfs_link.specs.steps.proofs.Sets.{lines_on_top, taken_move, takes_onto}
+use Rattle.jfs_steps.specs.After.{takes, four_from}
+use Rattle.jfs_steps.specs.Gains.{GainRefused}
+use Rattle.jfs_steps.specs.Laws.{ChangesPagesAlone}
+use Rattle.jfs_steps.proofs.After.{lines_alone, runs_leave}
+use Rattle.jfs_steps.proofs.Sets.{lines_on_top, taken_move, takes_onto}
 use Rattle.jfs_ranges.specs.Laid.{put_tx}
 use Rattle.jfs_create.specs.Makes.{Makes, IsBetween, gain_of}
 use Rattle.jfs_create.specs.Plans.{IsPlanned, IsPlannedAt, SuitsRun}

@@ -2,11 +2,11 @@
 use Rattle.std.proofs.Common.{◌≡◌, ◌≤◌, sym, ap, ◌∙◌, subst, ℕ, List, [], length, arith}
 use Rattle.jfs_bits.specs.Field.{put_bytes, range_of}
 use Rattle.jfs_bits.proofs.Parts.{part-held}
-use Rattle.jfs_link.specs.page_tree.specs.Walk.{Leaf}
+use Rattle.jfs_tree.specs.Walk.{Leaf}
 use Rattle.jfs_xtpage.specs.declared.head.XtForm.TheVariants as extents
-use Rattle.jfs_link.specs.xtree.specs.Node.{xt_node}
-use Rattle.jfs_link.specs.dtree.specs.Parent.{parent_of}
-use Rattle.jfs_link.specs.dtree.specs.Spells.{root_node}
+use Rattle.jfs_xtree.specs.Node.{xt_node}
+use Rattle.jfs_dtree.specs.Parent.{parent_of}
+use Rattle.jfs_dtree.specs.Spells.{root_node}
 use Rattle.jfs_create.specs.New.{IsFileRest, IsDirectoryRest}
 
 module _ (root rest before : List ℕ) (width : length root ≡ 288) (size : length before ≡ 384) (is : rest ≡ put_bytes 96 root before) where

@@ -7,14 +7,14 @@ use Rattle.jfs_bits.specs.Descriptor.{FitsPxd}
 use Rattle.jfs_bits.specs.declared.descriptor.Pxd.{Pxd}
 use Rattle.jfs_iag.specs.Iag.{no_run}
 use Rattle.jfs_iag.specs.Canonical.{is_there}
-use Rattle.jfs_link.specs.imap.specs.Inodes.{Inodes, IsPick, IsLowestPlace, extent_at, home_in, home_of, is_free as is_free_inode, is_used as is_used_inode}
-use Rattle.jfs_link.specs.imap.specs.declared.inode_map.Pick.{Pick}
-use Rattle.jfs_link.specs.imap.specs.declared.inode_map.Pick.TheVariants.{Number, NeedsExtent, NoInodes}
-use Rattle.jfs_link.specs.bmap.specs.States.{BlockState, Blocks, Free, Owned, Reserved, Busy, state_of, is_used, is_owned_state, is_free_state}
-use Rattle.jfs_link.specs.bmap.proofs.Reservations.{lowest-free, free-within}
-use Rattle.jfs_link.specs.bmap.proofs.States.{free_run-at, in_list-one}
-use Rattle.jfs_link.specs.page_tree.specs.Fresh.{blocks_of}
-use Rattle.jfs_link.specs.page_tree.specs.Spells.{no_page}
+use Rattle.jfs_imap.specs.Inodes.{Inodes, IsPick, IsLowestPlace, extent_at, home_in, home_of, is_free as is_free_inode, is_used as is_used_inode}
+use Rattle.jfs_imap.specs.declared.inode_map.Pick.{Pick}
+use Rattle.jfs_imap.specs.declared.inode_map.Pick.TheVariants.{Number, NeedsExtent, NoInodes}
+use Rattle.jfs_bmap.specs.States.{BlockState, Blocks, Free, Owned, Reserved, Busy, state_of, is_used, is_owned_state, is_free_state}
+use Rattle.jfs_bmap.proofs.Reservations.{lowest-free, free-within}
+use Rattle.jfs_bmap.proofs.States.{free_run-at, in_list-one}
+use Rattle.jfs_tree.specs.Fresh.{blocks_of}
+use Rattle.jfs_tree.specs.Spells.{no_page}
 use Rattle.jfs_link.specs.objects.specs.Image.{extent_place}
 use Rattle.jfs_link.specs.objects.specs.Volume.{Volume, home}
 use Rattle.jfs_link.specs.objects.specs.Objects.{Object, objects}
@@ -22,17 +22,17 @@ use Rattle.jfs_link.specs.objects.specs.Owners.{extent_has}
 use Rattle.jfs_link.specs.objects.proofs.Found.{no_home}
 use Rattle.jfs_link.specs.meaning.specs.Consistent.{IsConsistent}
 use Rattle.jfs_link.specs.meaning.specs.Readers.{readers}
-use Rattle.jfs_link.specs.plain.specs.Tree.{root, and_then}
-use Rattle.jfs_link.specs.plain.specs.declared.refusal.Refusal.{Refusal}
-use Rattle.jfs_link.specs.plain.specs.declared.refusal.Refusal.TheVariants.{NoInodes as NoFreeInode}
+use Rattle.jfs_plain.specs.Tree.{root, and_then}
+use Rattle.jfs_plain.specs.declared.refusal.Refusal.{Refusal}
+use Rattle.jfs_plain.specs.declared.refusal.Refusal.TheVariants.{NoInodes as NoFreeInode}
 use Rattle.jfs_link.specs.room.specs.Laws.{blocks_in}
-use Rattle.jfs_link.specs.claim.specs.Look.{LooksFor, inode_by}
-use Rattle.jfs_link.specs.claim.specs.declared.look.FreshInode.{FreshInode}
-use Rattle.jfs_link.specs.way.specs.Volume.{volume_of}
-use Rattle.jfs_link.specs.way.specs.Way.{inode_at, if_within, place_of}
-use Rattle.jfs_link.specs.way.specs.declared.object.Held.{Held}
-use Rattle.jfs_link.specs.way.proofs.Nodes.{stands}
-use Rattle.jfs_link.specs.way.proofs.Places.{home_is}
+use Rattle.jfs_claim.specs.Look.{LooksFor, inode_by}
+use Rattle.jfs_claim.specs.declared.look.FreshInode.{FreshInode}
+use Rattle.jfs_way.specs.Volume.{volume_of}
+use Rattle.jfs_way.specs.Way.{inode_at, if_within, place_of}
+use Rattle.jfs_way.specs.declared.object.Held.{Held}
+use Rattle.jfs_way.proofs.Nodes.{stands}
+use Rattle.jfs_way.proofs.Places.{home_is}
 use Rattle.jfs_create.specs.Makes.{CanStand, IsNewPlace, FitsExtent}
 use Rattle.jfs_create.specs.Plans.{IsPlannedAt, SuitsRun, extent_on}
 use Rattle.jfs_create.specs.Reserved.{MayTake}

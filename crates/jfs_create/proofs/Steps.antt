@@ -5,28 +5,28 @@ use Rattle.jfs_bits.specs.declared.descriptor.Moment.{Moment}
 use Rattle.jfs_bits.specs.declared.descriptor.Pxd.{Pxd}
 use Rattle.jfs_disk.specs.Image.{Image}
 use Rattle.jfs_iag.specs.Canonical.{is_there}
-use Rattle.jfs_link.specs.imap.specs.Inodes.{Inodes, extent_at, home_of, is_used}
-use Rattle.jfs_link.specs.bmap.specs.States.{Blocks, is_owned}
+use Rattle.jfs_imap.specs.Inodes.{Inodes, extent_at, home_of, is_used}
+use Rattle.jfs_bmap.specs.States.{Blocks, is_owned}
 use Rattle.jfs_ranges.specs.declared.edit.Edit.{Edit}
 use Rattle.jfs_ranges.specs.declared.view.ViewError.{ViewError}
 use Rattle.jfs_ranges.specs.declared.view.ViewError.TheVariants.{Read, Memory}
-use Rattle.jfs_link.specs.page_tree.specs.Edit.{count_in}
-use Rattle.jfs_link.specs.page_tree.specs.Form.{AllBelow}
-use Rattle.jfs_link.specs.page_tree.specs.Fresh.{blocks_of}
-use Rattle.jfs_link.specs.page_tree.specs.Root.{IsSpare}
-use Rattle.jfs_link.specs.page_tree.specs.Spells.{no_page}
-use Rattle.jfs_link.specs.dtree.specs.Adding.{RefusesName}
-use Rattle.jfs_link.specs.dtree.specs.Node.{name_scale}
-use Rattle.jfs_link.specs.dtree.specs.Room.{is_deep}
-use Rattle.jfs_link.specs.dtree.specs.Spells.{root_node, page_nodes, owned_pages}
-use Rattle.jfs_link.specs.dtree.specs.declared.error.DtError.{DtError}
-use Rattle.jfs_link.specs.dtree.specs.declared.error.DtError.TheVariants as dt
+use Rattle.jfs_tree.specs.Edit.{count_in}
+use Rattle.jfs_tree.specs.Form.{AllBelow}
+use Rattle.jfs_tree.specs.Fresh.{blocks_of}
+use Rattle.jfs_tree.specs.Root.{IsSpare}
+use Rattle.jfs_tree.specs.Spells.{no_page}
+use Rattle.jfs_dtree.specs.Adding.{RefusesName}
+use Rattle.jfs_dtree.specs.Node.{name_scale}
+use Rattle.jfs_dtree.specs.Room.{is_deep}
+use Rattle.jfs_dtree.specs.Spells.{root_node, page_nodes, owned_pages}
+use Rattle.jfs_dtree.specs.declared.error.DtError.{DtError}
+use Rattle.jfs_dtree.specs.declared.error.DtError.TheVariants as dt
 use Rattle.jfs_name.specs.Directory.{named}
-use Rattle.jfs_link.specs.plain.specs.Tree.{Tree, Place, root, and_then, place, place_at, at_place, named_in, unless_there}
-use Rattle.jfs_link.specs.plain.specs.Step.{Room, links_of}
-use Rattle.jfs_link.specs.plain.specs.declared.node.Node.{Node}
-use Rattle.jfs_link.specs.plain.specs.declared.refusal.Refusal.{Refusal}
-use Rattle.jfs_link.specs.plain.specs.declared.reply.Reply.TheVariants.{Done}
+use Rattle.jfs_plain.specs.Tree.{Tree, Place, root, and_then, place, place_at, at_place, named_in, unless_there}
+use Rattle.jfs_plain.specs.Step.{Room, links_of}
+use Rattle.jfs_plain.specs.declared.node.Node.{Node}
+use Rattle.jfs_plain.specs.declared.refusal.Refusal.{Refusal}
+use Rattle.jfs_plain.specs.declared.reply.Reply.TheVariants.{Done}
 use Rattle.jfs_link.specs.objects.specs.Readers.{Readers}
 use Rattle.jfs_link.specs.objects.specs.Volume.{Volume}
 use Rattle.jfs_link.specs.objects.specs.Objects.{objects, spelled, has_names, is_live}
@@ -39,24 +39,24 @@ use Rattle.jfs_link.specs.meaning.specs.Room.{room_on}
 use Rattle.jfs_link.specs.meaning.proofs.Fresh.{fresh_law}
 use Rattle.jfs_link.specs.room.specs.Laws.{blocks_in}
 use Rattle.jfs_link.specs.room.proofs.Rooms.{held_law}
-use Rattle.jfs_link.specs.claim.specs.Look.{LooksFor}
-use Rattle.jfs_link.specs.claim.specs.Take.{AreFresh, Lacks}
-use Rattle.jfs_link.specs.claim.specs.declared.look.FreshInode.{FreshInode}
+use Rattle.jfs_claim.specs.Look.{LooksFor}
+use Rattle.jfs_claim.specs.Take.{AreFresh, Lacks}
+use Rattle.jfs_claim.specs.declared.look.FreshInode.{FreshInode}
 use Rattle.jfs_link.specs.lead_steps.proofs.Again.{few_links}
-use Rattle.jfs_link.specs.way.specs.Answer.{is_open, Answers, names_refusal, view_refusal}
-use Rattle.jfs_link.specs.way.specs.Volume.{volume_of, PlacesWithin}
-use Rattle.jfs_link.specs.way.specs.Way.{inode_at, place_of}
-use Rattle.jfs_link.specs.way.specs.Walk.{IsHeld, IsShown, tree_in}
-use Rattle.jfs_link.specs.way.specs.declared.object.Held.{Held}
-use Rattle.jfs_link.specs.way.proofs.Enters.{only_open}
-use Rattle.jfs_link.specs.way.proofs.Nodes.{lives}
-use Rattle.jfs_link.specs.way.proofs.Places.{home_is, place_is_home}
-use Rattle.jfs_link.specs.steps.specs.After.{after_call}
-use Rattle.jfs_link.specs.steps.specs.Call.{IsDone}
-use Rattle.jfs_link.specs.steps.specs.Gains.{CanGain, GainRefused}
-use Rattle.jfs_link.specs.steps.specs.Place.{last_of}
-use Rattle.jfs_link.specs.steps.proofs.Grows.{dir_holds, no_extents_of}
-use Rattle.jfs_link.specs.steps.proofs.LastNames.{IsDirectory, directory_is, object_is}
+use Rattle.jfs_way.specs.Answer.{is_open, Answers, names_refusal, view_refusal}
+use Rattle.jfs_way.specs.Volume.{volume_of, PlacesWithin}
+use Rattle.jfs_way.specs.Way.{inode_at, place_of}
+use Rattle.jfs_way.specs.Walk.{IsHeld, IsShown, tree_in}
+use Rattle.jfs_way.specs.declared.object.Held.{Held}
+use Rattle.jfs_way.proofs.Enters.{only_open}
+use Rattle.jfs_way.proofs.Nodes.{lives}
+use Rattle.jfs_way.proofs.Places.{home_is, place_is_home}
+use Rattle.jfs_steps.specs.After.{after_call}
+use Rattle.jfs_steps.specs.Call.{IsDone}
+use Rattle.jfs_steps.specs.Gains.{CanGain, GainRefused}
+use Rattle.jfs_steps.specs.Place.{last_of}
+use Rattle.jfs_steps.proofs.Grows.{dir_holds, no_extents_of}
+use Rattle.jfs_steps.proofs.LastNames.{IsDirectory, directory_is, object_is}
 use Rattle.jfs_create.specs.Look.{Passes, InRoom, IsFree, too_many}
 use Rattle.jfs_create.specs.Makes.{plain_of, links_after, gain_of}
 use Rattle.jfs_create.specs.New.{FitsNew}

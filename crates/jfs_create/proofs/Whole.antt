@@ -9,12 +9,12 @@ use Rattle.jfs_bits.specs.declared.descriptor.Pxd.{Pxd}
 use Rattle.jfs_name.specs.declared.name.NameEntry.{NameEntry}
 use Rattle.jfs_ranges.specs.declared.edit.Edit.{Edit}
 use Rattle.jfs_ranges.specs.Laid.{put_tx}
-use Rattle.jfs_link.specs.page_tree.specs.Fresh.{blocks_of}
-use Rattle.jfs_link.specs.plain.specs.Tree.{Tree, new_place, place_at}
-use Rattle.jfs_link.specs.plain.specs.Moves.{Same, changed, made, gains}
-use Rattle.jfs_link.specs.plain.specs.Step.{Room, is_short, links_of}
-use Rattle.jfs_link.specs.plain.specs.declared.node.Node.{Node}
-use Rattle.jfs_link.specs.plain.specs.declared.reply.Reply.TheVariants.{Done}
+use Rattle.jfs_tree.specs.Fresh.{blocks_of}
+use Rattle.jfs_plain.specs.Tree.{Tree, new_place, place_at}
+use Rattle.jfs_plain.specs.Moves.{Same, changed, made, gains}
+use Rattle.jfs_plain.specs.Step.{Room, is_short, links_of}
+use Rattle.jfs_plain.specs.declared.node.Node.{Node}
+use Rattle.jfs_plain.specs.declared.reply.Reply.TheVariants.{Done}
 use Rattle.jfs_link.specs.objects.specs.Readers.{Readers}
 use Rattle.jfs_link.specs.objects.specs.Volume.{Volume, room}
 use Rattle.jfs_link.specs.objects.specs.Objects.{Object, objects, is_live}
@@ -23,18 +23,18 @@ use Rattle.jfs_link.specs.meaning.specs.Consistent.{IsConsistent, IsConsistentTr
 use Rattle.jfs_link.specs.meaning.specs.Laws.{IsFresh}
 use Rattle.jfs_link.specs.meaning.specs.Readers.{readers}
 use Rattle.jfs_link.specs.meaning.specs.Tree.{tree_on}
-use Rattle.jfs_link.specs.way.specs.declared.object.Held.{Held}
+use Rattle.jfs_way.specs.declared.object.Held.{Held}
 use Rattle.jfs_link.specs.lead_steps.specs.Reached.{HasTree}
 use Rattle.jfs_link.specs.lead_steps.proofs.Chain.{same_tree, set_has, set_other}
 use Rattle.jfs_link.specs.lead_steps.proofs.InPlace.{counted_rules}
-use Rattle.jfs_link.specs.steps.specs.After.{used_after, extents_after, after_call}
-use Rattle.jfs_link.specs.steps.specs.Call.{IsDone}
-use Rattle.jfs_link.specs.steps.specs.Gains.{CanGain, IsGained, after_set, linked, with_root}
-use Rattle.jfs_link.specs.steps.specs.Laws.{TakesAndFrees}
-use Rattle.jfs_link.specs.steps.specs.Put.{TellsLines}
-use Rattle.jfs_link.specs.steps.proofs.After.{used_onto, extents_onto, lines_alone, runs_leave, done_after}
-use Rattle.jfs_link.specs.steps.proofs.Grows.{gain_law}
-use Rattle.jfs_link.specs.steps.proofs.Sets.{lines_on_top, taken_move}
+use Rattle.jfs_steps.specs.After.{used_after, extents_after, after_call}
+use Rattle.jfs_steps.specs.Call.{IsDone}
+use Rattle.jfs_steps.specs.Gains.{CanGain, IsGained, after_set, linked, with_root}
+use Rattle.jfs_steps.specs.Laws.{TakesAndFrees}
+use Rattle.jfs_steps.specs.Put.{TellsLines}
+use Rattle.jfs_steps.proofs.After.{used_onto, extents_onto, lines_alone, runs_leave, done_after}
+use Rattle.jfs_steps.proofs.Grows.{gain_law}
+use Rattle.jfs_steps.proofs.Sets.{lines_on_top, taken_move}
 use Rattle.jfs_create.specs.Makes.{Makes, CanStand, plain_of, links_after, gain_of}
 use Rattle.jfs_create.specs.New.{FitsNew, inode_with, node_for}
 use Rattle.jfs_create.specs.declared.make.Plan.{Plan}
@@ -43,7 +43,7 @@ use Rattle.jfs_create.specs.declared.new.NewObject.TheVariants.{File, Directory,
 use Rattle.jfs_create.proofs.Between.{HasBetween, between}
 use Rattle.jfs_create.proofs.Makes.{made_has}
 use Rattle.jfs_link.specs.meaning.proofs.Books.{count_append}
-use Rattle.jfs_link.specs.page_tree.specs.Edit.{count_in}
+use Rattle.jfs_tree.specs.Edit.{count_in}
 use Rattle.jfs_create.specs.Look.{too_many}
 use Rattle.jfs_create.proofs.Outcomes.{tree_after, same_trees}
 use Rattle.jfs_create.proofs.Outcomes as outcomes

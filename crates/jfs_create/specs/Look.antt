@@ -1,24 +1,24 @@
 -- What is looked at before an object is made, in the order of the causes: the place, the links of its directory, the space, the inode, and the room of the directory's tree.
 use Rattle.std.specs.Prelude.{◌≡◌, ◌⊎◌, ℕ, Bool, true, false, List, Some, Result, Ok, Err}
 use Rattle.jfs_bits.specs.declared.descriptor.Moment.{Moment}
-use Rattle.jfs_link.specs.imap.specs.Inodes.{Inodes}
-use Rattle.jfs_link.specs.bmap.specs.States.{Blocks, unowned_count}
-use Rattle.jfs_link.specs.dtree.specs.Room.{deep_on_way}
-use Rattle.jfs_link.specs.plain.specs.Tree.{Tree, new_place, place_at}
-use Rattle.jfs_link.specs.plain.specs.Step.{Room, is_full, is_short, links_of}
-use Rattle.jfs_link.specs.plain.specs.declared.refusal.Refusal.{Refusal}
-use Rattle.jfs_link.specs.plain.specs.declared.refusal.Refusal.TheVariants.{TooManyLinks, TooDeep}
+use Rattle.jfs_imap.specs.Inodes.{Inodes}
+use Rattle.jfs_bmap.specs.States.{Blocks, unowned_count}
+use Rattle.jfs_dtree.specs.Room.{deep_on_way}
+use Rattle.jfs_plain.specs.Tree.{Tree, new_place, place_at}
+use Rattle.jfs_plain.specs.Step.{Room, is_full, is_short, links_of}
+use Rattle.jfs_plain.specs.declared.refusal.Refusal.{Refusal}
+use Rattle.jfs_plain.specs.declared.refusal.Refusal.TheVariants.{TooManyLinks, TooDeep}
 use Rattle.jfs_link.specs.meaning.specs.Consistent.{IsConsistent}
 use Rattle.jfs_link.specs.meaning.specs.Readers.{readers, root_of}
 use Rattle.jfs_link.specs.meaning.specs.Room.{room_on}
 use Rattle.jfs_link.specs.room.specs.Laws.{blocks_in}
-use Rattle.jfs_link.specs.claim.specs.Look.{space_for, LooksFor, IsAtRest}
-use Rattle.jfs_link.specs.claim.specs.declared.look.FreshInode.{FreshInode}
-use Rattle.jfs_link.specs.way.specs.Answer.{is_open}
-use Rattle.jfs_link.specs.way.specs.Volume.{volume_of, PlacesWithin}
-use Rattle.jfs_link.specs.way.specs.Walk.{IsThere, tree_in}
-use Rattle.jfs_link.specs.way.specs.declared.object.Held.{Held}
-use Rattle.jfs_link.specs.steps.specs.Place.{last_of, new_place_of}
+use Rattle.jfs_claim.specs.Look.{space_for, LooksFor, IsAtRest}
+use Rattle.jfs_claim.specs.declared.look.FreshInode.{FreshInode}
+use Rattle.jfs_way.specs.Answer.{is_open}
+use Rattle.jfs_way.specs.Volume.{volume_of, PlacesWithin}
+use Rattle.jfs_way.specs.Walk.{IsThere, tree_in}
+use Rattle.jfs_way.specs.declared.object.Held.{Held}
+use Rattle.jfs_steps.specs.Place.{last_of, new_place_of}
 use Rattle.jfs_create.specs.Makes.{plain_of}
 use Rattle.jfs_create.specs.declared.looks.Seen.{Seen}
 use Rattle.jfs_create.specs.declared.new.NewObject.{NewObject}

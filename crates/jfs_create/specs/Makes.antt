@@ -5,16 +5,16 @@ use Rattle.jfs_bits.specs.declared.descriptor.Moment.{Moment}
 use Rattle.jfs_bits.specs.declared.descriptor.Pxd.{Pxd}
 use Rattle.jfs_inode.specs.declared.fields.Dinode.{Dinode}
 use Rattle.jfs_ranges.specs.declared.edit.Edit.{Edit}
-use Rattle.jfs_link.specs.page_tree.specs.Edit.{count_in}
+use Rattle.jfs_tree.specs.Edit.{count_in}
 use Rattle.jfs_link.specs.objects.specs.Owners.{extent_has}
 use Rattle.jfs_link.specs.objects.specs.Volume.{Volume, home}
-use Rattle.jfs_link.specs.plain.specs.Tree.{Tree}
-use Rattle.jfs_link.specs.plain.specs.Moves.{changed, rises}
-use Rattle.jfs_link.specs.plain.specs.Step.{Room, Outcome, create, mkdir, symlink}
-use Rattle.jfs_link.specs.way.specs.declared.object.Held.{Held}
-use Rattle.jfs_link.specs.steps.specs.Gains.{GainsName}
-use Rattle.jfs_link.specs.steps.specs.Put.{AddsInode, TellsLines}
-use Rattle.jfs_link.specs.steps.specs.declared.gain.Gain.{Gain}
+use Rattle.jfs_plain.specs.Tree.{Tree}
+use Rattle.jfs_plain.specs.Moves.{changed, rises}
+use Rattle.jfs_plain.specs.Step.{Room, Outcome, create, mkdir, symlink}
+use Rattle.jfs_way.specs.declared.object.Held.{Held}
+use Rattle.jfs_steps.specs.Gains.{GainsName}
+use Rattle.jfs_steps.specs.Put.{AddsInode, TellsLines}
+use Rattle.jfs_steps.specs.declared.gain.Gain.{Gain}
 use Rattle.jfs_create.specs.Extent.{TellsExtent}
 use Rattle.jfs_create.specs.New.{IsNewInode}
 use Rattle.jfs_create.specs.declared.extent.NewExtent.{NewExtent}

@@ -4,13 +4,13 @@ use Rattle.jfs_bits.specs.Field.{range_of}
 use Rattle.jfs_bits.specs.declared.extent.Dxd.{Dxd}
 use Rattle.jfs_bits.specs.declared.descriptor.Moment.{Moment}
 use Rattle.jfs_inode.specs.declared.fields.Dinode.{Dinode}
-use Rattle.jfs_link.specs.page_tree.specs.Walk.{Leaf}
+use Rattle.jfs_tree.specs.Walk.{Leaf}
 use Rattle.jfs_xtpage.specs.declared.head.XtForm.TheVariants as extents
-use Rattle.jfs_link.specs.xtree.specs.Node.{xt_node}
-use Rattle.jfs_link.specs.dtree.specs.Parent.{parent_of}
-use Rattle.jfs_link.specs.dtree.specs.Spells.{root_node}
-use Rattle.jfs_link.specs.plain.specs.Moves.{new_file, new_directory, new_link}
-use Rattle.jfs_link.specs.plain.specs.declared.node.Node.{Node}
+use Rattle.jfs_xtree.specs.Node.{xt_node}
+use Rattle.jfs_dtree.specs.Parent.{parent_of}
+use Rattle.jfs_dtree.specs.Spells.{root_node}
+use Rattle.jfs_plain.specs.Moves.{new_file, new_directory, new_link}
+use Rattle.jfs_plain.specs.declared.node.Node.{Node}
 use Rattle.jfs_create.specs.declared.new.NewObject.{NewObject}
 use Rattle.jfs_create.specs.declared.new.NewObject.TheVariants.{File, Directory, Link}
 use Rattle.jfs_create.specs.declared.new.Seat.{Seat}

@@ -3,30 +3,30 @@ use Rattle.std.specs.Prelude.{◌≡◌, ◌⊎◌, ℕ, Bool, true, List, Optio
 use Rattle.jfs_bits.specs.declared.descriptor.Moment.{Moment}
 use Rattle.jfs_bits.specs.declared.descriptor.Pxd.{Pxd}
 use Rattle.jfs_disk.specs.declared.disk.Fault.{Fault}
-use Rattle.jfs_link.specs.imap.specs.Inodes.{Inodes}
-use Rattle.jfs_link.specs.bmap.specs.States.{Blocks, Reserved, put_state, is_used, is_in_list}
-use Rattle.jfs_link.specs.bmap.specs.Choice.{AreLowestBlocks}
+use Rattle.jfs_imap.specs.Inodes.{Inodes}
+use Rattle.jfs_bmap.specs.States.{Blocks, Reserved, put_state, is_used, is_in_list}
+use Rattle.jfs_bmap.specs.Choice.{AreLowestBlocks}
 use Rattle.jfs_ranges.specs.declared.edit.Edit.{Edit}
-use Rattle.jfs_link.specs.page_tree.specs.Edit.{count_in}
-use Rattle.jfs_link.specs.page_tree.specs.Fresh.{blocks_of}
-use Rattle.jfs_link.specs.plain.specs.Tree.{Tree}
-use Rattle.jfs_link.specs.plain.specs.Step.{Room, Outcome, need_of_name}
-use Rattle.jfs_link.specs.plain.specs.declared.refusal.Refusal.{Refusal}
-use Rattle.jfs_link.specs.plain.specs.declared.reply.Reply.TheVariants.{Done}
+use Rattle.jfs_tree.specs.Edit.{count_in}
+use Rattle.jfs_tree.specs.Fresh.{blocks_of}
+use Rattle.jfs_plain.specs.Tree.{Tree}
+use Rattle.jfs_plain.specs.Step.{Room, Outcome, need_of_name}
+use Rattle.jfs_plain.specs.declared.refusal.Refusal.{Refusal}
+use Rattle.jfs_plain.specs.declared.reply.Reply.TheVariants.{Done}
 use Rattle.jfs_link.specs.meaning.specs.Consistent.{IsConsistent}
 use Rattle.jfs_link.specs.meaning.specs.Readers.{readers}
 use Rattle.jfs_link.specs.meaning.specs.Room.{room_on}
 use Rattle.jfs_link.specs.room.specs.Laws.{blocks_in}
-use Rattle.jfs_link.specs.claim.specs.Look.{IsAtRest}
-use Rattle.jfs_link.specs.claim.specs.Take.{AreFresh, HasFree, IsRun, Lacks, run_list}
-use Rattle.jfs_link.specs.claim.specs.declared.reserve.Want.{Want}
-use Rattle.jfs_link.specs.way.specs.Answer.{is_open, CarriesCause}
-use Rattle.jfs_link.specs.way.specs.Volume.{volume_of, PlacesWithin}
-use Rattle.jfs_link.specs.way.specs.declared.object.Held.{Held}
-use Rattle.jfs_link.specs.steps.specs.After.{after_call}
-use Rattle.jfs_link.specs.steps.specs.Call.{IsDone}
-use Rattle.jfs_link.specs.steps.specs.Gains.{GainRefused}
-use Rattle.jfs_link.specs.steps.specs.Place.{last_of}
+use Rattle.jfs_claim.specs.Look.{IsAtRest}
+use Rattle.jfs_claim.specs.Take.{AreFresh, HasFree, IsRun, Lacks, run_list}
+use Rattle.jfs_claim.specs.declared.reserve.Want.{Want}
+use Rattle.jfs_way.specs.Answer.{is_open, CarriesCause}
+use Rattle.jfs_way.specs.Volume.{volume_of, PlacesWithin}
+use Rattle.jfs_way.specs.declared.object.Held.{Held}
+use Rattle.jfs_steps.specs.After.{after_call}
+use Rattle.jfs_steps.specs.Call.{IsDone}
+use Rattle.jfs_steps.specs.Gains.{GainRefused}
+use Rattle.jfs_steps.specs.Place.{last_of}
 use Rattle.jfs_link.specs.Link.{ReservesFree, ReservesTaken}
 use Rattle.jfs_create.specs.Look.{Passes, Barred, InRoom}
 use Rattle.jfs_create.specs.Makes.{Makes, gain_of}

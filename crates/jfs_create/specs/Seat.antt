@@ -2,15 +2,15 @@
 use Rattle.std.specs.Prelude.{◌<◌, ◌≤◌, ℕ, ◌+◌, ◌-◌, ◌/◌, ◌%◌, Bool, true, false, if◌then◌else◌, List, Option, Some, None, Result, Ok, Err}
 use Rattle.jfs_bits.specs.Descriptor.{FitsPxd}
 use Rattle.jfs_bits.specs.declared.rule.Rule.TheVariants as rules
-use Rattle.jfs_link.specs.imap.specs.Inodes.{Inodes}
-use Rattle.jfs_link.specs.page_tree.specs.Spells.{no_page}
+use Rattle.jfs_imap.specs.Inodes.{Inodes}
+use Rattle.jfs_tree.specs.Spells.{no_page}
 use Rattle.jfs_link.specs.objects.specs.Volume.{slot_of}
-use Rattle.jfs_link.specs.plain.specs.Tree.{root, and_then}
-use Rattle.jfs_link.specs.plain.specs.declared.refusal.Refusal.{Refusal}
-use Rattle.jfs_link.specs.plain.specs.declared.refusal.Refusal.TheVariants.{Damaged}
-use Rattle.jfs_link.specs.claim.specs.declared.look.FreshInode.{FreshInode}
-use Rattle.jfs_link.specs.way.specs.Way.{inode_at, place_of}
-use Rattle.jfs_link.specs.way.specs.declared.object.Held.{Held}
+use Rattle.jfs_plain.specs.Tree.{root, and_then}
+use Rattle.jfs_plain.specs.declared.refusal.Refusal.{Refusal}
+use Rattle.jfs_plain.specs.declared.refusal.Refusal.TheVariants.{Damaged}
+use Rattle.jfs_claim.specs.declared.look.FreshInode.{FreshInode}
+use Rattle.jfs_way.specs.Way.{inode_at, place_of}
+use Rattle.jfs_way.specs.declared.object.Held.{Held}
 use Rattle.jfs_create.specs.declared.seats.Seated.{Seated}
 use Rattle.jfs_create.specs.declared.seats.Site.{Site}
 use Rattle.jfs_create.specs.declared.seats.Site.TheVariants.{There, Founding}

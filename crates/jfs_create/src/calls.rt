@@ -2,7 +2,7 @@
 
 ghost use Rattle.std.specs.Prelude.{◌≡◌, ◌<◌, ◌≤◌, ℕ, [], length, get_or, IfOk, IfErr};
 ghost use Rattle.jfs_disk.specs.Image.{page_of};
-ghost use Rattle.jfs_link.specs.plain.specs.Step.{create, mkdir, symlink};
+ghost use Rattle.jfs_plain.specs.Step.{create, mkdir, symlink};
 ghost use Rattle.jfs_link.specs.room.specs.Laws.{blocks_in};
 ghost use Rattle.jfs_create.specs.New.{FitsNew};
 ghost use Rattle.jfs_create.specs.Makes.{plain_of};
@@ -15,8 +15,8 @@ use crate::plan::Draft;
 use crate::reserve::{Stop, make_reserved};
 use crate::seats::site_of;
 use jfs_bits::Moment;
-use jfs_link::bmap::BlockMap;
-use jfs_link::imap::InodeMap;
+use jfs_bmap::BlockMap;
+use jfs_imap::InodeMap;
 use jfs_name::Name;
 use jfs_ranges::{PageView, Tx};
 use std::alloc::Global;

@@ -18,7 +18,3 @@ pub use new::{NewObject, Seat, new_inode};
 pub use plan::Draft;
 pub use reserve::Stop;
 pub use seats::{Founded, Seated, Site, site_of};
-
-// libraries below, passed on
-pub use jfs_link as link;
-pub use jfs_link::{bmap, claim, imap, plain, reader, xtree};

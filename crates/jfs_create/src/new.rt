@@ -135,7 +135,7 @@ fn file_rest() -> [u8; 384]
 {
     let mut rest = [0u8; 384];
     let mut root = [0u8; 288];
-    jfs_link::xtree::new_root(&mut root);
+    jfs_xtree::new_root(&mut root);
     put_array(&mut rest, 96, &root);
     rest
 }
@@ -146,7 +146,7 @@ fn directory_rest(parent: u32) -> [u8; 384]
 {
     let mut rest = [0u8; 384];
     let mut root = [0u8; 288];
-    jfs_link::dtree::new_root(&mut root, parent);
+    jfs_dtree::new_root(&mut root, parent);
     put_array(&mut rest, 96, &root);
     rest
 }

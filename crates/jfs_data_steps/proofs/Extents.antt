@@ -8,10 +8,10 @@ use Rattle.jfs_bits.proofs.Parts.{part-held, length-range_of}
 use Rattle.jfs_inode.specs.declared.fields.Dinode.{Dinode}
 use Rattle.jfs_ranges.specs.declared.edit.Edit.{Edit}
 use Rattle.jfs_ranges.specs.Laid.{put_tx}
-use Rattle.jfs_kinds.specs.page_tree.specs.Edit.{count_in}
-use Rattle.jfs_kinds.specs.page_tree.specs.Fresh.{after_tx}
-use Rattle.jfs_kinds.specs.page_tree.specs.Spells.{footprint, no_page}
-use Rattle.jfs_kinds.specs.page_tree.specs.Walk.{Node}
+use Rattle.jfs_loss.specs.page_tree.specs.Edit.{count_in}
+use Rattle.jfs_loss.specs.page_tree.specs.Fresh.{after_tx}
+use Rattle.jfs_loss.specs.page_tree.specs.Spells.{footprint, no_page}
+use Rattle.jfs_loss.specs.page_tree.specs.Walk.{Node}
 use Rattle.jfs_xtpage.specs.declared.head.XtForm.TheVariants as extents
 use Rattle.jfs_loss.specs.xtree.specs.Node.{xt_scale, xt_node}
 use Rattle.jfs_loss.specs.xtree.specs.Spells.{page_nodes, spells_extents, owned_pages}

@@ -9,11 +9,11 @@ use Rattle.jfs_ranges.specs.declared.edit.Edit.TheVariants.{Lines, NoRedo, Alloc
 use Rattle.jfs_ranges.specs.Apply.{apply_tx, apply_edit, place_of_line}
 use Rattle.jfs_ranges.specs.Laid.{put_tx, applied_length}
 use Rattle.jfs_ranges.proofs.Overlaid.{overlaid-none}
-use Rattle.jfs_kinds.specs.page_tree.specs.Changes.{PagesEdits, TellsChanges}
-use Rattle.jfs_kinds.specs.page_tree.specs.Form.{AllBelow}
-use Rattle.jfs_kinds.specs.page_tree.specs.Fresh.{LeadsTo, allocs_of}
-use Rattle.jfs_kinds.specs.page_tree.specs.Removes.{page_no_redos, page_marks, page_frees}
-use Rattle.jfs_kinds.specs.page_tree.specs.Tell.{IsRuns, PageEdits, lines_from, is_in}
+use Rattle.jfs_loss.specs.page_tree.specs.Changes.{PagesEdits, TellsChanges}
+use Rattle.jfs_loss.specs.page_tree.specs.Form.{AllBelow}
+use Rattle.jfs_loss.specs.page_tree.specs.Fresh.{LeadsTo, allocs_of}
+use Rattle.jfs_loss.specs.page_tree.specs.Removes.{page_no_redos, page_marks, page_frees}
+use Rattle.jfs_loss.specs.page_tree.specs.Tell.{IsRuns, PageEdits, lines_from, is_in}
 use Rattle.jfs_loss.specs.xtree.specs.Cutting.{run_frees}
 use Rattle.jfs_loss.specs.objects.proofs.Sums.{eq_or_not}
 use Rattle.jfs_loss.specs.steps.specs.Put.{TellsLines}

@@ -9,11 +9,3 @@ pub use law::{
     other_blocks_stay,
 };
 pub use pages::{DataList, DataPage};
-
-// libraries below, passed on
-pub use jfs_kinds as kinds;
-pub use jfs_kinds::page_tree;
-pub use jfs_loss as loss;
-pub use jfs_loss::{
-    bmap, dtree, imap, lead_steps, meaning, objects, plain, reader, steps, way, xtree,
-};

@@ -14,5 +14,5 @@ pub mod Removing
 pub mod Leftmost
 pub mod Frame
 pub mod Replacing
-
 -- libraries below, passed on
+pub use Rattle.jfs_tree as page_tree

@@ -37,5 +37,3 @@ pub use removing::remove;
 pub use replacing::replace;
 pub use room::is_deep;
 pub use root::{new_root, parent, set_parent};
-
-// libraries below, passed on

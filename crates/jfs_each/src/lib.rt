@@ -4,5 +4,3 @@
 mod each;
 
 pub use each::{EachInode, each_inode};
-
-// libraries below, passed on

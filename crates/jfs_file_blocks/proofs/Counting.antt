@@ -6,11 +6,11 @@ use Rattle.std.proofs.lemmas.List.Elements.{All-tail}
 use Rattle.std.proofs.lemmas.Bool.{both_ways, or_left, or_right, or_parts, false_from_ne_true}
 use Rattle.jfs_bits.specs.declared.descriptor.Pxd.{Pxd}
 use Rattle.jfs_bits.specs.Bits.{is_in_run}
-use Rattle.jfs_claim.specs.bmap.specs.Choice.{IsReservation, AreLowestBlocks}
-use Rattle.jfs_claim.specs.bmap.specs.States.{BlockState, Free, Reserved, Blocks, is_free_state, state_of, is_used, is_owned_state, free_count, put_state, is_in_list, total_of, AreApart, AreReserved}
-use Rattle.jfs_claim.specs.bmap.proofs.States.{free_run-from, in_list-one, same_blocks, changed-at, changed-length}
-use Rattle.jfs_claim.specs.bmap.proofs.Puts.{in_list-append, in_list-none, put-length, put-at, put-other, put-append, put-none, put-nowhere, put-back, reserved-put}
-use Rattle.jfs_claim.specs.bmap.proofs.Reservations.{free-put, reservation-total}
+use Rattle.jfs_bmap.specs.Choice.{IsReservation, AreLowestBlocks}
+use Rattle.jfs_bmap.specs.States.{BlockState, Free, Reserved, Blocks, is_free_state, state_of, is_used, is_owned_state, free_count, put_state, is_in_list, total_of, AreApart, AreReserved}
+use Rattle.jfs_bmap.proofs.States.{free_run-from, in_list-one, same_blocks, changed-at, changed-length}
+use Rattle.jfs_bmap.proofs.Puts.{in_list-append, in_list-none, put-length, put-at, put-other, put-append, put-none, put-nowhere, put-back, reserved-put}
+use Rattle.jfs_bmap.proofs.Reservations.{free-put, reservation-total}
 use Rattle.jfs_claim.specs.page_tree.specs.Edit.{count_in}
 use Rattle.jfs_claim.specs.page_tree.specs.Fresh.{blocks_of}
 use Rattle.jfs_claim.specs.runs.proofs.Counted.{all_laws}

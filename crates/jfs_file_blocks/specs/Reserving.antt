@@ -1,7 +1,7 @@
 -- What is reserved for a write to a file: blocks for what it holds, and blocks for pages of its tree.
 use Rattle.std.specs.Prelude.{◌≡◌, ◌≤◌, ◌<◌, ℕ, ◌+◌, List, ◌++◌, length, None, Result, Ok, Err}
-use Rattle.jfs_claim.specs.bmap.specs.Choice.{IsReservation, AreLowestBlocks}
-use Rattle.jfs_claim.specs.bmap.specs.States.{Blocks, Reserved, is_used, free_count, unowned_count, all_settled, put_state}
+use Rattle.jfs_bmap.specs.Choice.{IsReservation, AreLowestBlocks}
+use Rattle.jfs_bmap.specs.States.{Blocks, Reserved, is_used, free_count, unowned_count, all_settled, put_state}
 use Rattle.jfs_claim.specs.page_tree.specs.Fresh.{blocks_of}
 use Rattle.jfs_claim.specs.room.specs.Laws.{NoneReserved}
 use Rattle.jfs_claim.specs.Take.{Reserves}

@@ -7,6 +7,3 @@ mod settle;
 
 pub use law::settled_blocks_are_enough;
 pub use reserve::{FileBlocks, FileWant, reserve_blocks};
-
-// libraries below, passed on
-pub use jfs_claim as claim;

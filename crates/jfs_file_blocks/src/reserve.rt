@@ -6,7 +6,7 @@ ghost use Rattle.jfs_claim.specs.Take.{AreFresh};
 ghost use Rattle.jfs_file_blocks.specs.Reserving.{TakesBlocks, AnswersByFree};
 
 use jfs_bits::PxdList;
-use jfs_claim::bmap::{BlockMap, ReserveError};
+use jfs_bmap::{BlockMap, ReserveError};
 use jfs_claim::{Claim, ClaimError, Want, take};
 use std::alloc::Global;
 

@@ -1,12 +1,12 @@
 //! What a write didn't take is given back.
 
 ghost use Rattle.std.specs.Prelude.{◌≡◌, ℕ, List};
-ghost use Rattle.jfs_claim.specs.bmap.specs.States.{Blocks};
+ghost use Rattle.jfs_bmap.specs.States.{Blocks};
 ghost use Rattle.jfs_claim.specs.Take.{reserving};
 ghost use Rattle.jfs_file_blocks.specs.Reserving.{IsReservedFor, IsPartlyTaken};
 
 use crate::reserve::FileBlocks;
-use jfs_claim::bmap::BlockMap;
+use jfs_bmap::BlockMap;
 
 impl FileBlocks {
     /// Gives all of it back: the map is as it was before. Takes no memory.

@@ -4,10 +4,10 @@ use Rattle.jfs_bits.specs.declared.descriptor.Moment.{Moment}
 use Rattle.jfs_disk.specs.declared.disk.Fault.{Fault}
 use Rattle.jfs_super.specs.Geometry.{file_limit_of}
 use Rattle.jfs_write.specs.bmap.specs.States.{Blocks, unowned_count}
-use Rattle.jfs_write.specs.plain.specs.Tree.{Tree}
-use Rattle.jfs_write.specs.plain.specs.Step.{Room, Outcome, need_of_bytes}
-use Rattle.jfs_write.specs.plain.specs.declared.call.Call.{Call}
-use Rattle.jfs_write.specs.plain.specs.declared.refusal.Refusal.{Refusal}
+use Rattle.jfs_plain.specs.Tree.{Tree}
+use Rattle.jfs_plain.specs.Step.{Room, Outcome, need_of_bytes}
+use Rattle.jfs_plain.specs.declared.call.Call.{Call}
+use Rattle.jfs_plain.specs.declared.refusal.Refusal.{Refusal}
 use Rattle.jfs_write.specs.meaning.specs.Readers.{readers}
 use Rattle.jfs_write.specs.meaning.specs.Room.{room_on}
 use Rattle.jfs_write.specs.meaning.specs.Tree.{tree_on}
@@ -16,9 +16,9 @@ use Rattle.jfs_write.specs.room.specs.Laws.{blocks_in}
 use Rattle.jfs_write.specs.way.specs.Answer.{is_open}
 use Rattle.jfs_write.specs.way.specs.Way.{path_of}
 use Rattle.jfs_write.specs.way.specs.declared.object.Held.{Held}
-use Rattle.jfs_write.specs.data_steps.specs.After.{AreWholePages, LieWithin}
-use Rattle.jfs_create.specs.claim.specs.Look.{space_for}
-use Rattle.jfs_create.specs.claim.specs.declared.reserve.Want.{Want}
+use Rattle.jfs_data_steps.specs.After.{AreWholePages, LieWithin}
+use Rattle.jfs_write.specs.claim.specs.Look.{space_for}
+use Rattle.jfs_write.specs.claim.specs.declared.reserve.Want.{Want}
 use Rattle.jfs_write.specs.file_blocks.specs.Reserving.{total}
 use Rattle.jfs_write.specs.file_blocks.specs.declared.reserve.FileWant.{FileWant}
 use Rattle.jfs_write.specs.Look.{why_kept, unless}
@@ -32,7 +32,7 @@ use Rattle.jfs_files.specs.Bytes.{outcome_of, MeetsBytes}
 use Rattle.jfs_map_files.specs.declared.maps.Maps.{Maps}
 use Rattle.jfs_files.specs.declared.outcome.FileOutcome.{FileOutcome}
 use Rattle.jfs_files.specs.declared.outcome.FileOutcome.TheVariants.{Changed, Same, NeedsLog}
-use Rattle.jfs_write.specs.plain.specs.declared.reply.Reply.TheVariants as reply
+use Rattle.jfs_plain.specs.declared.reply.Reply.TheVariants as reply
 use Rattle.jfs_write.specs.objects.specs.Volume.{Volume}
 use Rattle.jfs_files.proofs.Links.{both_ok, maps_after, left_for}
 

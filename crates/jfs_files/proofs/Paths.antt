@@ -1,7 +1,7 @@
 -- The names of a path are short.
 use Rattle.std.proofs.Common.{◌≤◌, ◌<◌, ℕ, zero, suc, List, [], ◌∷◌, length, get_or, arith}
-use Rattle.jfs_write.specs.plain.specs.Limits.{FitsPath, AreShort}
-use Rattle.jfs_write.specs.plain.proofs.Short.{path_short}
+use Rattle.jfs_plain.specs.Limits.{FitsPath, AreShort}
+use Rattle.jfs_plain.proofs.Short.{path_short}
 
 each_short : (names : List (List ℕ)) → AreShort names → (i : ℕ) → i < length names → length (get_or names i []) ≤ 255
 each_short [] h i l = absurd (omega (arith, l))

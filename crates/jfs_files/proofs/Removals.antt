@@ -17,9 +17,9 @@ use Rattle.jfs_write.specs.steps.proofs.Sets.{frees_move, moves_onto, lines_move
 use Rattle.jfs_write.specs.loss.specs.Frees.{attribute_runs, CutsIf, FreesObject}
 use Rattle.jfs_write.specs.loss.specs.Loses.{LosesName}
 use Rattle.jfs_write.specs.loss.proofs.Counts.{runs_move, changes_move}
-use Rattle.jfs_rename.specs.unlink.specs.Call.{TakesName}
-use Rattle.jfs_rename.specs.unlink.specs.Gone.{DropsNamed, LeavesNamed}
-use Rattle.jfs_rename.specs.unlink.specs.declared.ends.Ends.{Ends}
+use Rattle.jfs_unlink.specs.Call.{TakesName}
+use Rattle.jfs_unlink.specs.Gone.{DropsNamed, LeavesNamed}
+use Rattle.jfs_unlink.specs.declared.ends.Ends.{Ends}
 
 -- the edits take no block, and free so many
 abbrev OnlyFrees : List Edit → Type 0

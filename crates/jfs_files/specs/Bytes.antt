@@ -2,11 +2,11 @@
 use Rattle.std.specs.Prelude.{ℕ, List, Result, Ok, Err}
 use Rattle.jfs_bits.specs.declared.descriptor.Moment.{Moment}
 use Rattle.jfs_write.specs.bmap.specs.States.{Blocks}
-use Rattle.jfs_write.specs.plain.specs.declared.call.Call.{Call}
-use Rattle.jfs_write.specs.plain.specs.declared.call.Call.TheVariants as calls
-use Rattle.jfs_write.specs.plain.specs.declared.refusal.Refusal.{Refusal}
-use Rattle.jfs_write.specs.plain.specs.declared.reply.Reply.{Reply}
-use Rattle.jfs_write.specs.plain.specs.declared.reply.Reply.TheVariants.{Refused}
+use Rattle.jfs_plain.specs.declared.call.Call.{Call}
+use Rattle.jfs_plain.specs.declared.call.Call.TheVariants as calls
+use Rattle.jfs_plain.specs.declared.refusal.Refusal.{Refusal}
+use Rattle.jfs_plain.specs.declared.reply.Reply.{Reply}
+use Rattle.jfs_plain.specs.declared.reply.Reply.TheVariants.{Refused}
 use Rattle.jfs_write.specs.objects.specs.Volume.{Volume}
 use Rattle.jfs_write.specs.Call.{IsWritten, IsStopped, IsDeep}
 use Rattle.jfs_write.specs.declared.answer.Stop.{Stop}

@@ -5,5 +5,3 @@ pub mod Bytes
 pub mod Renames
 pub mod Meets
 pub mod Laws
--- libraries below, passed on
-pub use Rattle.jfs_create.specs.claim

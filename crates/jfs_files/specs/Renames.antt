@@ -2,10 +2,10 @@
 use Rattle.std.specs.Prelude.{◌≡◌, ℕ, List, [], Result, Ok, Err}
 use Rattle.jfs_bits.specs.declared.descriptor.Moment.{Moment}
 use Rattle.jfs_write.specs.bmap.specs.States.{Blocks}
-use Rattle.jfs_write.specs.plain.specs.declared.call.Call.{Call}
-use Rattle.jfs_write.specs.plain.specs.declared.refusal.Refusal.{Refusal}
-use Rattle.jfs_write.specs.plain.specs.declared.reply.Reply.{Reply}
-use Rattle.jfs_write.specs.plain.specs.declared.reply.Reply.TheVariants.{Done, Refused}
+use Rattle.jfs_plain.specs.declared.call.Call.{Call}
+use Rattle.jfs_plain.specs.declared.refusal.Refusal.{Refusal}
+use Rattle.jfs_plain.specs.declared.reply.Reply.{Reply}
+use Rattle.jfs_plain.specs.declared.reply.Reply.TheVariants.{Done, Refused}
 use Rattle.jfs_rename.specs.Renames.{RenamesAs}
 use Rattle.jfs_rename.specs.declared.renaming.Renamed.{Renamed}
 use Rattle.jfs_rename.specs.declared.renaming.Renamed.TheVariants as renamed

@@ -1,16 +1,16 @@
 -- What a call writes before its transaction, and what that transaction frees.
 use Rattle.std.specs.Prelude.{◌≡◌, ◌⊎◌, ◌<◌, ◌≤◌, ℕ, Bool, true, false, List, [], ◌∷◌}
 use Rattle.jfs_ranges.specs.declared.edit.Edit.{Edit}
-use Rattle.jfs_write.specs.plain.specs.CallStep.{LeavesRest}
-use Rattle.jfs_write.specs.plain.specs.declared.call.Call.{Call}
-use Rattle.jfs_write.specs.plain.specs.declared.call.Call.TheVariants as calls
+use Rattle.jfs_plain.specs.CallStep.{LeavesRest}
+use Rattle.jfs_plain.specs.declared.call.Call.{Call}
+use Rattle.jfs_plain.specs.declared.call.Call.TheVariants as calls
 use Rattle.jfs_write.specs.objects.specs.Volume.{Volume}
 use Rattle.jfs_write.specs.meaning.specs.Readers.{readers}
 use Rattle.jfs_write.specs.meaning.specs.Tree.{tree_on}
 use Rattle.jfs_write.specs.meaning.specs.Consistent.{IsConsistent}
 use Rattle.jfs_write.specs.steps.specs.After.{takes, frees}
-use Rattle.jfs_write.specs.data_steps.specs.After.{is_put, AreWholePages, LieWithin, with_data}
-use Rattle.jfs_write.specs.data_steps.specs.declared.pages.DataPage.{DataPage}
+use Rattle.jfs_data_steps.specs.After.{is_put, AreWholePages, LieWithin, with_data}
+use Rattle.jfs_data_steps.specs.declared.pages.DataPage.{DataPage}
 use Rattle.jfs_files.specs.declared.outcome.FileOutcome.{FileOutcome}
 use Rattle.jfs_files.specs.declared.outcome.FileOutcome.TheVariants.{Changed}
 

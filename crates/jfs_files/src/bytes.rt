@@ -2,8 +2,8 @@
 
 ghost use Rattle.std.specs.Prelude.{◌≡◌, length, replicate};
 ghost use Rattle.jfs_disk.specs.Image.{page_of};
-ghost use Rattle.jfs_write.specs.plain.specs.Limits.{FitsPath, FitsBytes, FitsRange};
-ghost use Rattle.jfs_write.specs.plain.specs.Step.{write};
+ghost use Rattle.jfs_plain.specs.Limits.{FitsPath, FitsBytes, FitsRange};
+ghost use Rattle.jfs_plain.specs.Step.{write};
 ghost use Rattle.jfs_write.specs.Call.{IsDeep};
 ghost use Rattle.jfs_files.specs.Outcome.{CarriesOutcome, KeepsMaps, MapsAfter, IfMounted, AnswersOr, WantsBytes};
 ghost use Rattle.jfs_files.specs.Written.{FitsData, FreesNothing};

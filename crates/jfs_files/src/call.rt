@@ -2,8 +2,8 @@
 
 ghost use Rattle.std.specs.Prelude.{◌≡◌, true, false, length};
 ghost use Rattle.jfs_disk.specs.Image.{page_of};
-ghost use Rattle.jfs_write.specs.plain.specs.Limits.{FitsRequest};
-ghost use Rattle.jfs_write.specs.plain.specs.Step.{outcome};
+ghost use Rattle.jfs_plain.specs.Limits.{FitsRequest};
+ghost use Rattle.jfs_plain.specs.Step.{outcome};
 ghost use Rattle.jfs_files.specs.Outcome.{CarriesOutcome, KeepsMaps, MapsAfter, IfMounted, AnswersOr, Wants};
 ghost use Rattle.jfs_files.specs.Written.{FitsData, puts_data, puts_bytes, WritesNone, WritesOnce, Starts, renames, FreesUsed, FreesOrTaken};
 ghost use Rattle.jfs_files.specs.Bytes.{bars};
@@ -18,8 +18,8 @@ use crate::reply::look_reply;
 use crate::size::size_outcome;
 use jfs_bits::Moment;
 use jfs_map_files::Maps;
+use jfs_plain::{Call, Reply, Request};
 use jfs_ranges::PageView;
-use jfs_write::plain::{Call, Reply, Request};
 use std::alloc::Global;
 
 /// What a call does to a mounted volume, whose pages the view shows, at this moment. The pages stay as they are: blocks that are to be written, and a transaction that is to be appended

@@ -2,8 +2,8 @@
 
 ghost use Rattle.std.specs.Prelude.{◌≡◌, true, length};
 ghost use Rattle.jfs_disk.specs.Image.{page_of};
-ghost use Rattle.jfs_write.specs.plain.specs.Limits.{FitsCall};
-ghost use Rattle.jfs_write.specs.plain.specs.Step.{outcome};
+ghost use Rattle.jfs_plain.specs.Limits.{FitsCall};
+ghost use Rattle.jfs_plain.specs.Step.{outcome};
 ghost use Rattle.jfs_files.specs.Outcome.{CarriesOutcome, MapsAfter, IfMounted, AnswersAs, Wants};
 ghost use Rattle.jfs_files.specs.Written.{WritesNone, FreesUsed};
 ghost use Rattle.jfs_files.specs.Meets.{Meets, takes_none};
@@ -12,9 +12,9 @@ use crate::outcome::FileOutcome;
 use jfs_bits::Moment;
 use jfs_chmod::change_mode;
 use jfs_map_files::Maps;
+use jfs_plain::Call;
 use jfs_ranges::PageView;
-use jfs_rename::unlink::{remove_directory, unlink};
-use jfs_write::plain::Call;
+use jfs_unlink::{remove_directory, unlink};
 use std::alloc::Global;
 
 /// What `unlink`, `rmdir` and `chmod` are answered.

@@ -2,11 +2,11 @@
 
 ghost use Rattle.std.specs.Prelude.{◌≡◌, true, length};
 ghost use Rattle.jfs_disk.specs.Image.{page_of};
-ghost use Rattle.jfs_write.specs.plain.specs.Limits.{FitsCall, FitsPath};
-ghost use Rattle.jfs_write.specs.plain.specs.Step.{outcome, link};
+ghost use Rattle.jfs_plain.specs.Limits.{FitsCall, FitsPath};
+ghost use Rattle.jfs_plain.specs.Step.{outcome, link};
 ghost use Rattle.jfs_create.specs.New.{FitsNew};
 ghost use Rattle.jfs_create.specs.Makes.{plain_of};
-ghost use Rattle.jfs_write.specs.link.specs.Link.{want_of_name};
+ghost use Rattle.jfs_link.specs.Link.{want_of_name};
 ghost use Rattle.jfs_files.specs.Outcome.{CarriesOutcome, KeepsMaps, MapsAfter, IfMounted, AnswersAs, Wants, WantsInode};
 ghost use Rattle.jfs_files.specs.Written.{WritesNone, FreesNothing};
 ghost use Rattle.jfs_files.specs.Meets.{Meets, MeetsNew, MeetsLink, gives_name};
@@ -14,11 +14,11 @@ ghost use Rattle.jfs_files.specs.Meets.{Meets, MeetsNew, MeetsLink, gives_name};
 use crate::outcome::FileOutcome;
 use jfs_bits::Moment;
 use jfs_create::{NewObject, Stop, make_object};
+use jfs_link::{Linked, link};
 use jfs_map_files::Maps;
 use jfs_name::Path;
+use jfs_plain::Call;
 use jfs_ranges::PageView;
-use jfs_write::link::{Linked, link};
-use jfs_write::plain::Call;
 use std::alloc::Global;
 
 /// What `mkdir`, `create`, `symlink` and `link` are answered.

@@ -1,12 +1,12 @@
 //! What a file call is given, and what it answers.
 
 ghost use Rattle.std.specs.Prelude.{◌≡◌, []};
-ghost use Rattle.jfs_write.specs.plain.specs.declared.reply.Reply.TheVariants.{Refused};
+ghost use Rattle.jfs_plain.specs.declared.reply.Reply.TheVariants.{Refused};
 ghost use Rattle.jfs_files.specs.declared.outcome.FileOutcome.TheVariants.{Changed, Same};
 
+use jfs_data_steps::DataList;
+use jfs_plain::{Refusal, Reply};
 use jfs_ranges::Tx;
-use jfs_write::data_steps::DataList;
-use jfs_write::plain::{Refusal, Reply};
 use std::alloc::Global;
 
 /// What a file call answers.

@@ -2,9 +2,9 @@
 
 ghost use Rattle.std.specs.Prelude.{◌≡◌, length};
 ghost use Rattle.jfs_disk.specs.Image.{page_of};
-ghost use Rattle.jfs_write.specs.plain.specs.Limits.{FitsPath};
-ghost use Rattle.jfs_write.specs.plain.specs.Step.{rename};
-ghost use Rattle.jfs_write.specs.link.specs.Link.{want_of_name};
+ghost use Rattle.jfs_plain.specs.Limits.{FitsPath};
+ghost use Rattle.jfs_plain.specs.Step.{rename};
+ghost use Rattle.jfs_link.specs.Link.{want_of_name};
 ghost use Rattle.jfs_files.specs.Outcome.{CarriesOutcome, KeepsMaps, MapsAfter, IfMounted, AnswersAs};
 ghost use Rattle.jfs_files.specs.Written.{WritesNone, FreesOrTaken};
 ghost use Rattle.jfs_files.specs.Renames.{outcome_by, MeetsRename};
@@ -13,9 +13,9 @@ use crate::outcome::FileOutcome;
 use jfs_bits::Moment;
 use jfs_map_files::Maps;
 use jfs_name::Path;
+use jfs_plain::{Refusal, Reply};
 use jfs_ranges::PageView;
 use jfs_rename::{Renamed, rename};
-use jfs_write::plain::{Refusal, Reply};
 use std::alloc::Global;
 
 /// What a rename is answered.

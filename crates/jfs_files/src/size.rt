@@ -2,8 +2,8 @@
 
 ghost use Rattle.std.specs.Prelude.{◌≡◌, length};
 ghost use Rattle.jfs_disk.specs.Image.{page_of};
-ghost use Rattle.jfs_write.specs.plain.specs.Limits.{FitsPath};
-ghost use Rattle.jfs_write.specs.plain.specs.Step.{truncate};
+ghost use Rattle.jfs_plain.specs.Limits.{FitsPath};
+ghost use Rattle.jfs_plain.specs.Step.{truncate};
 ghost use Rattle.jfs_files.specs.Outcome.{CarriesOutcome, MapsAfter, IfMounted, AnswersAs, nothing};
 ghost use Rattle.jfs_files.specs.Written.{FitsData, WritesOnce, StartsSize, FreesUsed};
 ghost use Rattle.jfs_files.specs.Meets.{MeetsSize};

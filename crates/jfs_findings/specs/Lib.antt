@@ -12,12 +12,7 @@ pub mod Laws
 -- libraries below, passed on
 pub use Rattle.jfs_mount.specs.bmap
 pub use Rattle.jfs_mount.specs.dmap
-pub use Rattle.jfs_mount.specs.dtree
-pub use Rattle.jfs_mount.specs.each
 pub use Rattle.jfs_mount.specs.meaning
 pub use Rattle.jfs_mount as mount_rules
 pub use Rattle.jfs_mount.specs.objects
 pub use Rattle.jfs_mount.specs.plain
-pub use Rattle.jfs_mount.specs.reader
-pub use Rattle.jfs_mount.specs.page_tree
-pub use Rattle.jfs_mount.specs.xtree

@@ -11,7 +11,3 @@ pub use law::{
     sound_volumes_are_consistent_and_tidy,
 };
 pub use order::{condense, put_in_order};
-
-// libraries below, passed on
-pub use jfs_mount as mount_rules;
-pub use jfs_mount::{bmap, dmap, dtree, each, meaning, objects, page_tree, plain, reader, xtree};

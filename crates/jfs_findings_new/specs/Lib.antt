@@ -4,9 +4,6 @@ pub mod Law
 pub use Rattle.jfs_new_volume.specs.bmap
 pub use Rattle.jfs_findings as findings
 pub use Rattle.jfs_new_volume.specs.format
-pub use Rattle.jfs_new_volume.specs.logpages
-pub use Rattle.jfs_new_volume.specs.meaning
 pub use Rattle.jfs_findings.specs.mount_rules
 pub use Rattle.jfs_new_volume as new_volume
 pub use Rattle.jfs_new_volume.specs.objects
-pub use Rattle.jfs_new_volume.specs.plain

@@ -10,8 +10,8 @@ use Rattle.jfs_bits.proofs.Runs.{is_free-at}
 use Rattle.jfs_bits.proofs.Counts.{in_run, behind_run, count_below-same}
 use Rattle.jfs_buddy.specs.Tree.{rank_of}
 use Rattle.jfs_buddy.proofs.Greatest.{greatest_run-same}
-use Rattle.jfs_bmap.specs.dmap.specs.Dmap.{taken_in}
-use Rattle.jfs_bmap.specs.dmapctl.specs.Control.{IsControl, IsValue, value_at, ranks_of}
+use Rattle.jfs_dmap.specs.Dmap.{taken_in}
+use Rattle.jfs_dmapctl.specs.Control.{IsControl, IsValue, value_at, ranks_of}
 use Rattle.jfs_bmap.specs.Pages.{leaf_ranks}
 use Rattle.jfs_bmap.specs.MapFile.{IsDmapPage}
 use Rattle.jfs_bmap.proofs.GreatestRuns.{greatest_run-value}

@@ -15,4 +15,3 @@ pub mod Steps
 -- libraries below, passed on
 pub use Rattle.jfs_bmap as bmap
 pub use Rattle.jfs_imap as imap
-pub use Rattle.jfs_logpages as logpages

@@ -3,8 +3,8 @@
 ghost use Rattle.std.specs.Prelude.{◌≡◌, ◌≢◌, ◌<◌, ◌≤◌, ◌+◌, ◌*◌, ◌^◌, ℕ, ℤ, slice_index, length, OnOk, IfOk, IsErrOf, not};
 ghost use Rattle.jfs_bits.specs.Bits.{is_taken, count_below, greatest_run};
 ghost use Rattle.jfs_disk.specs.Fault.{HasCause};
-ghost use Rattle.jfs_bmap.specs.dmap.specs.Dmap.{taken_in};
-ghost use Rattle.jfs_bmap.specs.dmapctl.specs.Control.{IsControl, IsValue, value_at};
+ghost use Rattle.jfs_dmap.specs.Dmap.{taken_in};
+ghost use Rattle.jfs_dmapctl.specs.Control.{IsControl, IsValue, value_at};
 ghost use Rattle.jfs_bmap.specs.Pages.{leaf_ranks};
 ghost use Rattle.jfs_bmap.specs.MapFile.{IsDmapPage, IsFirstPage, IsMapControlOf, IsMapPage};
 ghost use Rattle.jfs_format.specs.Layout.{IsLayout, is_taken_block, map_pages, owned_blocks, free_blocks};
@@ -16,10 +16,10 @@ ghost use Rattle.jfs_format.specs.Leaves.{AreLeaves};
 use crate::layout::Layout;
 use crate::write::put;
 use jfs_bits::set_run;
-use jfs_bmap::dmap::{dmap_canonical, dmap_root};
-use jfs_bmap::dmapctl::{MapControl, ctl_canonical, write_map_control};
 use jfs_bmap::{greatest_run_under, map_numbers, write_unused};
 use jfs_disk::{Disk, DiskError, Page};
+use jfs_dmap::{dmap_canonical, dmap_root};
+use jfs_dmapctl::{MapControl, ctl_canonical, write_map_control};
 
 /// A bit for each block of dmap `k`. All blocks with owners are within the first one.
 fn set_of(l: Layout, k: u32) -> [u8; 1024]

@@ -16,8 +16,3 @@ mod write;
 pub use formatter::{FormatError, format};
 pub use law::{free_are_counted, new_inodes_are_accepted, new_superblock_is_accepted, roots_read};
 pub use layout::Layout;
-
-// libraries below, passed on
-pub use jfs_bmap as bmap;
-pub use jfs_imap as imap;
-pub use jfs_logpages as logpages;

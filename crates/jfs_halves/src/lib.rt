@@ -9,9 +9,3 @@ pub use law::{
     acknowledged_survive, changes_are_steps, freed_blocks_stay_busy, fresh_halves_are_sound,
     moments_are_fronts, moves_join,
 };
-
-// libraries below, passed on
-pub use jfs_core as crash_core;
-pub use jfs_map_files as map_files;
-pub use jfs_pages as pages;
-pub use jfs_records::logpages;

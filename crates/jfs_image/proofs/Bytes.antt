@@ -2,7 +2,7 @@
 use Rattle.std.proofs.Common.{◌≡◌, ◌<◌, ◌≤◌, inl, inr, refl, ap, ℕ, zero, suc, ◌+◌, true, false, nat_lt, if◌then◌else◌, get_or, arith}
 use Rattle.std.proofs.lemmas.Bool.{cases_lt}
 use Rattle.std.proofs.lemmas.Bool.Decides.{nat_tests}
-use Rattle.jfs_owners.specs.plain.specs.Step.{bytes_from}
+use Rattle.jfs_plain.specs.Step.{bytes_from}
 
 byte_below : (f : ℕ → ℕ) (n from i k : ℕ) → i < n → k ≡ from + i → get_or (bytes_from f from n) i 0 ≡ f k
 unfolding bytes_from

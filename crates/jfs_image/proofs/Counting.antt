@@ -2,9 +2,9 @@
 use Rattle.std.proofs.Common.{◌≡◌, refl, sym, ap, ◌∙◌, subst, ℕ, ◌+◌, ◌*◌, List, [], ◌∷◌, ◌++◌, map, Option, Some, None, nat_lt, arith}
 use Rattle.std.specs.List.{range_with_len}
 use Rattle.std.proofs.lemmas.List.FromFn.{map-range_with_len_more}
-use Rattle.jfs_owners.specs.objects.specs.Readers.{Readers}
-use Rattle.jfs_owners.specs.objects.specs.Owners.{run_has, extent_has, extents_have}
-use Rattle.jfs_owners.specs.objects.specs.Image.{extent_on, extents_on, iags_on}
+use Rattle.jfs_reader.specs.objects.specs.Readers.{Readers}
+use Rattle.jfs_reader.specs.objects.specs.Owners.{run_has, extent_has, extents_have}
+use Rattle.jfs_reader.specs.objects.specs.Image.{extent_on, extents_on, iags_on}
 use Rattle.jfs_owners.specs.Counts.{OwnerSets, Counts, Adds}
 
 pub counts_as : (o : OwnerSets) (f g : ℕ → ℕ) → Counts o f → ((b : ℕ) → f b ≡ g b) → Counts o g

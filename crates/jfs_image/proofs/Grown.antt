@@ -5,18 +5,18 @@ use Rattle.std.proofs.lemmas.Bool.Decides.{nat_tests}
 use Rattle.jfs_bits.specs.Broken.{first_broken}
 use Rattle.jfs_disk.specs.Image.{Image, page_of}
 use Rattle.jfs_inode.specs.Rules.{rows}
-use Rattle.jfs_owners.specs.plain.specs.Plain.{node_at, Became}
-use Rattle.jfs_owners.specs.plain.specs.Build.{holding}
-use Rattle.jfs_owners.specs.plain.specs.declared.node.Node.{Node}
-use Rattle.jfs_owners.specs.plain.specs.declared.plain.PlainTree.{PlainTree}
-use Rattle.jfs_owners.specs.objects.specs.Objects.{Object, IsWhole}
-use Rattle.jfs_owners.specs.objects.specs.Image.{iags_on}
-use Rattle.jfs_owners.specs.objects.proofs.Found.{no_home}
-use Rattle.jfs_owners.specs.meaning.specs.Tree.{node_on, byte_on}
-use Rattle.jfs_owners.specs.meaning.specs.Node.{node_in}
-use Rattle.jfs_owners.specs.meaning.specs.Contents.{byte_in}
-use Rattle.jfs_owners.specs.reader.proofs.Homes.{home_past}
-use Rattle.jfs_owners.specs.mount_rules.specs.Subject.{object, volume}
+use Rattle.jfs_plain.specs.Plain.{node_at, Became}
+use Rattle.jfs_plain.specs.Build.{holding}
+use Rattle.jfs_plain.specs.declared.node.Node.{Node}
+use Rattle.jfs_plain.specs.declared.plain.PlainTree.{PlainTree}
+use Rattle.jfs_reader.specs.objects.specs.Objects.{Object, IsWhole}
+use Rattle.jfs_reader.specs.objects.specs.Image.{iags_on}
+use Rattle.jfs_reader.specs.objects.proofs.Found.{no_home}
+use Rattle.jfs_reader.specs.meaning.specs.Tree.{node_on, byte_on}
+use Rattle.jfs_reader.specs.meaning.specs.Node.{node_in}
+use Rattle.jfs_reader.specs.meaning.specs.Contents.{byte_in}
+use Rattle.jfs_reader.proofs.Homes.{home_past}
+use Rattle.jfs_mount.specs.Subject.{object, volume}
 use Rattle.jfs_image.specs.Image.{subject_on}
 use Rattle.jfs_image.specs.Held.{IsHeld}
 use Rattle.jfs_image.specs.Tree.{IsUpTo}

@@ -10,14 +10,14 @@ use Rattle.jfs_inode.specs.Rules.{rows}
 use Rattle.jfs_inode.specs.declared.fields.Dinode.{Dinode}
 use Rattle.jfs_inode.specs.declared.read.BadInode.{BadInode}
 use Rattle.jfs_name.specs.declared.name.NameEntry.{NameEntry}
-use Rattle.jfs_owners.specs.plain.specs.Step.{bytes_from}
-use Rattle.jfs_owners.specs.plain.specs.declared.node.Node.{Node}
-use Rattle.jfs_owners.specs.objects.specs.Readers.{Readers}
-use Rattle.jfs_owners.specs.objects.specs.Objects.{spelled, names_of, listed}
-use Rattle.jfs_owners.specs.objects.specs.Owners.{entries}
-use Rattle.jfs_owners.specs.objects.specs.Contents.{block_of, bytes_at}
-use Rattle.jfs_owners.specs.meaning.specs.Contents.{byte_of, is_regular}
-use Rattle.jfs_owners.specs.meaning.specs.Node.{is_symbolic, node_from, node_with}
+use Rattle.jfs_plain.specs.Step.{bytes_from}
+use Rattle.jfs_plain.specs.declared.node.Node.{Node}
+use Rattle.jfs_reader.specs.objects.specs.Readers.{Readers}
+use Rattle.jfs_reader.specs.objects.specs.Objects.{spelled, names_of, listed}
+use Rattle.jfs_reader.specs.objects.specs.Owners.{entries}
+use Rattle.jfs_reader.specs.objects.specs.Contents.{block_of, bytes_at}
+use Rattle.jfs_reader.specs.meaning.specs.Contents.{byte_of, is_regular}
+use Rattle.jfs_reader.specs.meaning.specs.Node.{is_symbolic, node_from, node_with}
 use Rattle.jfs_image.specs.Held.{byte_in_file, target_in, IsHeld, Breaks, NamesMay, ExtentsMay}
 use Rattle.jfs_image.proofs.Bytes.{byte_at}
 

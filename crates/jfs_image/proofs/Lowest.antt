@@ -1,7 +1,7 @@
 -- The lowest number that passes a test.
 use Rattle.std.proofs.Common.{◌≡◌, ◌<◌, inl, inr, refl, sym, ap, ◌∙◌, ℕ, zero, suc, Bool, true, false, if◌then◌else◌, Option, Some, None, arith}
 use Rattle.std.proofs.lemmas.Bool.{cases_lt}
-use Rattle.jfs_owners.specs.meaning.specs.Room.{or_else, lowest}
+use Rattle.jfs_reader.specs.meaning.specs.Room.{or_else, lowest}
 
 or_none : (o : Option ℕ) → or_else o None ≡ o
 or_none None = refl

@@ -16,11 +16,11 @@ use Rattle.jfs_super.specs.Super.{super_of}
 use Rattle.jfs_super.specs.Rules.{IsAccepted, rows, shape_rows}
 use Rattle.jfs_super.specs.declared.fields.Super.{Super}
 use Rattle.jfs_super.specs.declared.read.BadSuper.{BadSuper}
-use Rattle.jfs_owners.specs.xtree.specs.Node.{all_within}
-use Rattle.jfs_owners.specs.objects.specs.Image.{file_extents}
-use Rattle.jfs_owners.specs.objects.specs.Contents.{block_of}
-use Rattle.jfs_owners.specs.meaning.specs.Readers.{readers}
-use Rattle.jfs_owners.specs.reader.specs.Reading.{IsPast}
+use Rattle.jfs_xtree.specs.Node.{all_within}
+use Rattle.jfs_reader.specs.objects.specs.Image.{file_extents}
+use Rattle.jfs_reader.specs.objects.specs.Contents.{block_of}
+use Rattle.jfs_reader.specs.meaning.specs.Readers.{readers}
+use Rattle.jfs_reader.specs.Reading.{IsPast}
 use Rattle.jfs_image.specs.Image.{HasTree, super_on}
 use Rattle.jfs_image.specs.Opened.{IsSuper}
 use Rattle.jfs_image.proofs.Within.{file_within, block_within}

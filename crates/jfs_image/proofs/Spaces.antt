@@ -6,15 +6,15 @@ use Rattle.jfs_bits.specs.Bits.{all_below, any_below, count_below, is_free, is_f
 use Rattle.jfs_disk.specs.Image.{Image, page_of}
 use Rattle.jfs_super.specs.Rules.{IsAccepted}
 use Rattle.jfs_super.specs.declared.fields.Super.{Super}
-use Rattle.jfs_owners.specs.objects.specs.Volume.{room}
-use Rattle.jfs_owners.specs.objects.specs.Objects.{Object}
-use Rattle.jfs_owners.specs.objects.specs.Image.{extent_on, extents_on, iags_on}
-use Rattle.jfs_owners.specs.meaning.specs.Image.{room_of}
-use Rattle.jfs_owners.specs.meaning.specs.Room.{or_else, lowest, is_free_inode, is_empty_place, first_of, has_run}
+use Rattle.jfs_reader.specs.objects.specs.Volume.{room}
+use Rattle.jfs_reader.specs.objects.specs.Objects.{Object}
+use Rattle.jfs_reader.specs.objects.specs.Image.{extent_on, extents_on, iags_on}
+use Rattle.jfs_reader.specs.meaning.specs.Image.{room_of}
+use Rattle.jfs_reader.specs.meaning.specs.Room.{or_else, lowest, is_free_inode, is_empty_place, first_of, has_run}
 use Rattle.jfs_owners.specs.Counts.{Counts}
 use Rattle.jfs_owners.specs.Held.{owned_below}
 use Rattle.jfs_owners.proofs.SetBits.{tested}
-use Rattle.jfs_owners.specs.mount_rules.specs.Subject.{object, volume, blocks}
+use Rattle.jfs_mount.specs.Subject.{object, volume, blocks}
 use Rattle.jfs_image.specs.Image.{HasTree, super_on, subject_on}
 use Rattle.jfs_image.specs.View.{image_of}
 use Rattle.jfs_image.specs.Opened.{IsOpened}

@@ -4,18 +4,18 @@ use Rattle.jfs_disk.specs.Image.{Image, page_of}
 use Rattle.jfs_inode.specs.declared.fields.Dinode.{Dinode}
 use Rattle.jfs_bits.specs.declared.extent.Xad.{Xad}
 use Rattle.jfs_super.specs.Rules.{blocks_of}
-use Rattle.jfs_owners.specs.xtree.specs.Node.{all_within}
-use Rattle.jfs_owners.specs.objects.specs.Volume.{home}
-use Rattle.jfs_owners.specs.objects.specs.Objects.{spelled}
-use Rattle.jfs_owners.specs.objects.specs.Image.{extents_on}
-use Rattle.jfs_owners.specs.objects.proofs.Found.{no_home, object_at, no_object_at}
-use Rattle.jfs_owners.specs.meaning.specs.Readers.{readers}
-use Rattle.jfs_owners.specs.reader.specs.Reading.{IsPast, OutsideIsPast}
-use Rattle.jfs_owners.specs.reader.specs.Map.{IsInodeMap, iag_block}
-use Rattle.jfs_owners.specs.reader.specs.declared.map.InodeMap.{InodeMap}
-use Rattle.jfs_owners.specs.reader.specs.declared.error.ReadError.{ReadError}
-use Rattle.jfs_owners.specs.reader.specs.declared.error.ReadError.TheVariants.{View, Outside}
-use Rattle.jfs_owners.specs.mount_rules.specs.Subject.{volume}
+use Rattle.jfs_xtree.specs.Node.{all_within}
+use Rattle.jfs_reader.specs.objects.specs.Volume.{home}
+use Rattle.jfs_reader.specs.objects.specs.Objects.{spelled}
+use Rattle.jfs_reader.specs.objects.specs.Image.{extents_on}
+use Rattle.jfs_reader.specs.objects.proofs.Found.{no_home, object_at, no_object_at}
+use Rattle.jfs_reader.specs.meaning.specs.Readers.{readers}
+use Rattle.jfs_reader.specs.Reading.{IsPast, OutsideIsPast}
+use Rattle.jfs_reader.specs.Map.{IsInodeMap, iag_block}
+use Rattle.jfs_reader.specs.declared.map.InodeMap.{InodeMap}
+use Rattle.jfs_reader.specs.declared.error.ReadError.{ReadError}
+use Rattle.jfs_reader.specs.declared.error.ReadError.TheVariants.{View, Outside}
+use Rattle.jfs_mount.specs.Subject.{volume}
 use Rattle.jfs_image.specs.Image.{super_on, subject_on}
 use Rattle.jfs_image.specs.Standing.{ReadsInode, InodeIs, Stands, StandsAs}
 use Rattle.jfs_image.specs.declared.standing.Standing.{Standing}

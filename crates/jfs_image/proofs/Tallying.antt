@@ -7,16 +7,16 @@ use Rattle.jfs_inode.specs.Rules.{rows}
 use Rattle.jfs_inode.specs.declared.fields.Dinode.{Dinode}
 use Rattle.jfs_super.specs.Rules.{blocks_of}
 use Rattle.jfs_super.specs.declared.fields.Super.{Super}
-use Rattle.jfs_owners.specs.objects.specs.Volume.{home}
-use Rattle.jfs_owners.specs.objects.specs.Objects.{Object, IsWhole, spelled}
-use Rattle.jfs_owners.specs.objects.specs.Owners.{holds, sum_below, extents_have}
-use Rattle.jfs_owners.specs.objects.specs.Image.{area_on, extents_on}
-use Rattle.jfs_owners.specs.objects.proofs.Found.{no_home}
-use Rattle.jfs_owners.specs.meaning.specs.Readers.{readers}
-use Rattle.jfs_owners.specs.meaning.specs.Room.{or_else, lowest, is_free_inode}
+use Rattle.jfs_reader.specs.objects.specs.Volume.{home}
+use Rattle.jfs_reader.specs.objects.specs.Objects.{Object, IsWhole, spelled}
+use Rattle.jfs_reader.specs.objects.specs.Owners.{holds, sum_below, extents_have}
+use Rattle.jfs_reader.specs.objects.specs.Image.{area_on, extents_on}
+use Rattle.jfs_reader.specs.objects.proofs.Found.{no_home}
+use Rattle.jfs_reader.specs.meaning.specs.Readers.{readers}
+use Rattle.jfs_reader.specs.meaning.specs.Room.{or_else, lowest, is_free_inode}
 use Rattle.jfs_owners.specs.Counts.{OwnerSets, Counts, Adds}
 use Rattle.jfs_owners.specs.Held.{owned_below}
-use Rattle.jfs_owners.specs.mount_rules.specs.Subject.{object, volume}
+use Rattle.jfs_mount.specs.Subject.{object, volume}
 use Rattle.jfs_image.specs.Image.{super_on, subject_on}
 use Rattle.jfs_image.specs.View.{image_of, blocks_in}
 use Rattle.jfs_image.specs.Judged.{HasHome, IsSoundInode}

@@ -6,11 +6,11 @@ use Rattle.std.proofs.lemmas.Option.{slice_get_cases}
 use Rattle.jfs_disk.specs.declared.page.Page.{Page}
 use Rattle.jfs_disk.specs.Image.{Image, page_of}
 use Rattle.jfs_disk.specs.Pages.{contents}
-use Rattle.jfs_owners.specs.objects.specs.Contents.{bytes_at}
-use Rattle.jfs_owners.specs.meaning.specs.Contents.{byte_of}
-use Rattle.jfs_owners.specs.reader.specs.Reading.{PageIs}
-use Rattle.jfs_owners.specs.reader.specs.declared.error.ReadError.{ReadError}
-use Rattle.jfs_owners.specs.reader.specs.declared.error.ReadError.TheVariants.{View, Outside}
+use Rattle.jfs_reader.specs.objects.specs.Contents.{bytes_at}
+use Rattle.jfs_reader.specs.meaning.specs.Contents.{byte_of}
+use Rattle.jfs_reader.specs.Reading.{PageIs}
+use Rattle.jfs_reader.specs.declared.error.ReadError.{ReadError}
+use Rattle.jfs_reader.specs.declared.error.ReadError.TheVariants.{View, Outside}
 
 abbrev bytes_in : Page → List ℕ
 bytes_in p = p.0

@@ -5,14 +5,14 @@ use Rattle.std.proofs.lemmas.Bool.Decides.{nat_tests}
 use Rattle.jfs_disk.specs.Image.{Image, page_of}
 use Rattle.jfs_super.specs.Rules.{IsAccepted}
 use Rattle.jfs_super.specs.declared.fields.Super.{Super}
-use Rattle.jfs_owners.specs.plain.specs.declared.plain.PlainTree.{PlainTree}
-use Rattle.jfs_owners.specs.objects.specs.Objects.{Object}
-use Rattle.jfs_owners.specs.objects.specs.Image.{iags_on}
-use Rattle.jfs_owners.specs.meaning.specs.Readers.{readers}
-use Rattle.jfs_owners.specs.meaning.specs.Tree.{node_on, byte_on}
-use Rattle.jfs_owners.specs.meaning.specs.Node.{node_in}
-use Rattle.jfs_owners.specs.meaning.specs.Contents.{byte_in}
-use Rattle.jfs_owners.specs.mount_rules.specs.Subject.{object, volume}
+use Rattle.jfs_plain.specs.declared.plain.PlainTree.{PlainTree}
+use Rattle.jfs_reader.specs.objects.specs.Objects.{Object}
+use Rattle.jfs_reader.specs.objects.specs.Image.{iags_on}
+use Rattle.jfs_reader.specs.meaning.specs.Readers.{readers}
+use Rattle.jfs_reader.specs.meaning.specs.Tree.{node_on, byte_on}
+use Rattle.jfs_reader.specs.meaning.specs.Node.{node_in}
+use Rattle.jfs_reader.specs.meaning.specs.Contents.{byte_in}
+use Rattle.jfs_mount.specs.Subject.{object, volume}
 use Rattle.jfs_image.specs.Image.{subject_on}
 use Rattle.jfs_image.specs.Opened.{IsOpened}
 use Rattle.jfs_image.specs.Tree.{IsUpTo, IsTreeOf}

@@ -7,13 +7,13 @@ use Rattle.jfs_disk.specs.Image.{Image, page_of}
 use Rattle.jfs_inode.specs.Rules.{rows}
 use Rattle.jfs_inode.specs.declared.fields.Dinode.{Dinode}
 use Rattle.jfs_name.specs.declared.name.NameEntry.{NameEntry}
-use Rattle.jfs_owners.specs.plain.specs.Step.{bytes_from}
-use Rattle.jfs_owners.specs.plain.specs.declared.node.Node.{Node}
-use Rattle.jfs_owners.specs.objects.specs.Readers.{Readers}
-use Rattle.jfs_owners.specs.objects.specs.Objects.{Object, IsWhole, names_of, extents_of, listed}
-use Rattle.jfs_owners.specs.objects.specs.Contents.{block_of, bytes_at}
-use Rattle.jfs_owners.specs.meaning.specs.Contents.{byte_of, byte_in}
-use Rattle.jfs_owners.specs.meaning.specs.Node.{is_symbolic, node_of}
+use Rattle.jfs_plain.specs.Step.{bytes_from}
+use Rattle.jfs_plain.specs.declared.node.Node.{Node}
+use Rattle.jfs_reader.specs.objects.specs.Readers.{Readers}
+use Rattle.jfs_reader.specs.objects.specs.Objects.{Object, IsWhole, names_of, extents_of, listed}
+use Rattle.jfs_reader.specs.objects.specs.Contents.{block_of, bytes_at}
+use Rattle.jfs_reader.specs.meaning.specs.Contents.{byte_of, byte_in}
+use Rattle.jfs_reader.specs.meaning.specs.Node.{is_symbolic, node_of}
 use Rattle.jfs_image.specs.declared.standing.Held.{Held}
 
 -- the byte at an offset of a file with these extents

@@ -8,5 +8,3 @@ pub mod Tree
 pub mod Judged
 pub mod Tallied
 pub mod Room
-
--- libraries below, passed on

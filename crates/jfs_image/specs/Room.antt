@@ -1,7 +1,7 @@
 -- The room of an image.
 use Rattle.std.specs.Prelude.{◌≡◌, ℕ, Option, Some, None}
 use Rattle.jfs_disk.specs.Image.{Image, page_of}
-use Rattle.jfs_owners.specs.meaning.specs.Image.{room_of}
+use Rattle.jfs_reader.specs.meaning.specs.Image.{room_of}
 use Rattle.jfs_image.specs.Image.{HasTree, super_on}
 use Rattle.jfs_image.specs.declared.room.Room.{Room}
 

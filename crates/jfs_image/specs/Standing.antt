@@ -3,16 +3,16 @@ use Rattle.std.specs.Prelude.{◌≡◌, ◌≤◌, ℕ, ◌%◌, true, false, L
 use Rattle.jfs_disk.specs.Image.{Image, page_of}
 use Rattle.jfs_inode.specs.declared.fields.Dinode.{Dinode}
 use Rattle.jfs_super.specs.Rules.{blocks_of}
-use Rattle.jfs_owners.specs.objects.specs.Readers.{Readers}
-use Rattle.jfs_owners.specs.objects.specs.Volume.{home, slot_of}
-use Rattle.jfs_owners.specs.objects.specs.Objects as objects
-use Rattle.jfs_owners.specs.objects.specs.Objects.{is_live, spelled}
-use Rattle.jfs_owners.specs.meaning.specs.Readers.{readers}
-use Rattle.jfs_owners.specs.reader.specs.Map.{IsInodeMap}
-use Rattle.jfs_owners.specs.reader.specs.declared.map.InodeMap.{InodeMap}
-use Rattle.jfs_owners.specs.reader.specs.declared.error.ReadError.{ReadError}
-use Rattle.jfs_owners.specs.reader.specs.declared.error.ReadError.TheVariants.{View, Outside}
-use Rattle.jfs_owners.specs.mount_rules.specs.Subject.{object, volume}
+use Rattle.jfs_reader.specs.objects.specs.Readers.{Readers}
+use Rattle.jfs_reader.specs.objects.specs.Volume.{home, slot_of}
+use Rattle.jfs_reader.specs.objects.specs.Objects as objects
+use Rattle.jfs_reader.specs.objects.specs.Objects.{is_live, spelled}
+use Rattle.jfs_reader.specs.meaning.specs.Readers.{readers}
+use Rattle.jfs_reader.specs.Map.{IsInodeMap}
+use Rattle.jfs_reader.specs.declared.map.InodeMap.{InodeMap}
+use Rattle.jfs_reader.specs.declared.error.ReadError.{ReadError}
+use Rattle.jfs_reader.specs.declared.error.ReadError.TheVariants.{View, Outside}
+use Rattle.jfs_mount.specs.Subject.{object, volume}
 use Rattle.jfs_image.specs.Image.{HasTree, super_on, subject_on}
 use Rattle.jfs_image.specs.View.{image_of, blocks_in}
 use Rattle.jfs_image.specs.Held.{IsHeld, Breaks}

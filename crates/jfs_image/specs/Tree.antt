@@ -4,14 +4,14 @@ use Rattle.jfs_bits.specs.Broken.{first_broken}
 use Rattle.jfs_disk.specs.Image.{Image, page_of}
 use Rattle.jfs_inode.specs.Rules.{rows}
 use Rattle.jfs_super.specs.Geometry.{file_limit_of}
-use Rattle.jfs_owners.specs.objects.specs.Objects.{Object, IsWhole}
-use Rattle.jfs_owners.specs.plain.specs.Moves.{Same}
-use Rattle.jfs_owners.specs.plain.specs.Plain as plain
-use Rattle.jfs_owners.specs.plain.specs.Plain.{node_at, byte_at}
-use Rattle.jfs_owners.specs.plain.specs.declared.plain.PlainTree.{PlainTree}
-use Rattle.jfs_owners.specs.meaning.specs.Image.{tree_of}
-use Rattle.jfs_owners.specs.meaning.specs.Tree.{node_on, byte_on}
-use Rattle.jfs_owners.specs.mount_rules.specs.Subject.{object, volume}
+use Rattle.jfs_reader.specs.objects.specs.Objects.{Object, IsWhole}
+use Rattle.jfs_plain.specs.Moves.{Same}
+use Rattle.jfs_plain.specs.Plain as plain
+use Rattle.jfs_plain.specs.Plain.{node_at, byte_at}
+use Rattle.jfs_plain.specs.declared.plain.PlainTree.{PlainTree}
+use Rattle.jfs_reader.specs.meaning.specs.Image.{tree_of}
+use Rattle.jfs_reader.specs.meaning.specs.Tree.{node_on, byte_on}
+use Rattle.jfs_mount.specs.Subject.{object, volume}
 use Rattle.jfs_image.specs.Image.{HasTree, super_on, subject_on}
 
 -- A plain tree is the image's: the same nodes and the same bytes, and files may grow as far as its log lets them.

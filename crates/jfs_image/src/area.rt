@@ -2,9 +2,9 @@
 
 ghost use Rattle.std.specs.Prelude.{◌≡◌, ◌≤◌, OnOk, IfOk};
 ghost use Rattle.jfs_disk.specs.Image.{page_of};
-ghost use Rattle.jfs_owners.specs.objects.specs.Owners.{extent_has, extents_have};
-ghost use Rattle.jfs_owners.specs.objects.specs.Image.{area_on, extent_on, extents_on};
-ghost use Rattle.jfs_owners.specs.meaning.specs.Readers.{readers};
+ghost use Rattle.jfs_reader.specs.objects.specs.Owners.{extent_has, extents_have};
+ghost use Rattle.jfs_reader.specs.objects.specs.Image.{area_on, extent_on, extents_on};
+ghost use Rattle.jfs_reader.specs.meaning.specs.Readers.{readers};
 ghost use Rattle.jfs_owners.specs.Counts.{Adds};
 ghost use Rattle.jfs_image.specs.View.{image_of, blocks_in};
 ghost use Rattle.jfs_image.specs.Standing.{IsReady};
@@ -12,7 +12,7 @@ ghost use Rattle.jfs_image.specs.Standing.{IsReady};
 use crate::view::ListView;
 use jfs_bits::Pxd;
 use jfs_owners::Owners;
-use jfs_owners::reader::{InodeMap, ReadError};
+use jfs_reader::{InodeMap, ReadError};
 use std::alloc::AllocError;
 
 /// Counts the fixed areas.

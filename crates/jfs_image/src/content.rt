@@ -1,16 +1,16 @@
 //! The bytes that the blocks of a file hold.
 
 ghost use Rattle.std.specs.Prelude.{◌≡◌, ◌%◌, ◌/◌, ◌+◌, ◌<◌, ◌==◌, ◌&&◌, nat_lt, if◌then◌else◌, ℕ, [], IfOk, get_or};
-ghost use Rattle.jfs_owners.specs.plain.specs.Step.{bytes_from};
-ghost use Rattle.jfs_owners.specs.objects.specs.Contents.{block_of};
-ghost use Rattle.jfs_owners.specs.meaning.specs.Contents.{is_regular};
+ghost use Rattle.jfs_plain.specs.Step.{bytes_from};
+ghost use Rattle.jfs_reader.specs.objects.specs.Contents.{block_of};
+ghost use Rattle.jfs_reader.specs.meaning.specs.Contents.{is_regular};
 ghost use Rattle.jfs_image.specs.View.{image_of};
 ghost use Rattle.jfs_image.specs.Held.{byte_in_file};
 
 use crate::view::ListView;
 use jfs_bits::Xad;
 use jfs_inode::Dinode;
-use jfs_owners::reader::page_of_block;
+use jfs_reader::page_of_block;
 use std::alloc::{AllocError, Global};
 
 /// The bytes of a regular file with these extents up to its end; another object holds none.

@@ -4,8 +4,8 @@ ghost use Rattle.std.specs.Prelude.{◌≡◌, IfOk, is_none};
 ghost use Rattle.jfs_bits.specs.Broken.{first_broken};
 ghost use Rattle.jfs_disk.specs.Image.{page_of};
 ghost use Rattle.jfs_inode.specs.Rules.{rows};
-ghost use Rattle.jfs_owners.specs.objects.specs.Objects.{spelled};
-ghost use Rattle.jfs_owners.specs.meaning.specs.Readers.{readers};
+ghost use Rattle.jfs_reader.specs.objects.specs.Objects.{spelled};
+ghost use Rattle.jfs_reader.specs.meaning.specs.Readers.{readers};
 ghost use Rattle.jfs_image.specs.View.{image_of, blocks_in};
 ghost use Rattle.jfs_image.specs.Held.{HeldIs, NamesMay, ExtentsMay};
 
@@ -15,11 +15,11 @@ use crate::standing::Held;
 use crate::target::target_of;
 use crate::view::ListView;
 use jfs_bits::{Xad, XadList};
+use jfs_dtree::DtError;
 use jfs_inode::Dinode;
 use jfs_name::NameList;
-use jfs_owners::dtree::DtError;
-use jfs_owners::reader::{extents_of, names_of};
-use jfs_owners::xtree::XtError;
+use jfs_reader::{extents_of, names_of};
+use jfs_xtree::XtError;
 use std::alloc::{AllocError, Global};
 
 /// What an inode spells: `None` exactly where the inode breaks a rule, or a tree of it does.

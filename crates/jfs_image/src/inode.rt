@@ -2,8 +2,8 @@
 
 ghost use Rattle.std.specs.Prelude.{◌≡◌, IfOk};
 ghost use Rattle.jfs_disk.specs.Image.{page_of};
-ghost use Rattle.jfs_owners.specs.objects.specs.Objects.{is_live};
-ghost use Rattle.jfs_owners.specs.meaning.specs.Readers.{readers};
+ghost use Rattle.jfs_reader.specs.objects.specs.Objects.{is_live};
+ghost use Rattle.jfs_reader.specs.meaning.specs.Readers.{readers};
 ghost use Rattle.jfs_image.specs.View.{image_of, blocks_in};
 ghost use Rattle.jfs_image.specs.Standing.{IsReady, InodeIs, ReadsInode, Stands, StandsAs};
 
@@ -11,7 +11,7 @@ use crate::held::hold;
 use crate::standing::Standing;
 use crate::view::ListView;
 use jfs_inode::Dinode;
-use jfs_owners::reader::{InodeMap, ReadError, read_inode};
+use jfs_reader::{InodeMap, ReadError, read_inode};
 use std::alloc::{AllocError, Global};
 
 /// What stands at a number.

@@ -2,7 +2,7 @@
 
 ghost use Rattle.std.specs.Prelude.{◌≡◌, IfOk};
 ghost use Rattle.jfs_disk.specs.Image.{page_of};
-ghost use Rattle.jfs_owners.specs.meaning.specs.Readers.{readers};
+ghost use Rattle.jfs_reader.specs.meaning.specs.Readers.{readers};
 ghost use Rattle.jfs_image.specs.View.{image_of, blocks_in};
 ghost use Rattle.jfs_image.specs.Standing.{IsReady};
 ghost use Rattle.jfs_image.specs.Judged.{Judges, JudgesAs};
@@ -12,7 +12,7 @@ use crate::inode::{inode_at, is_live};
 use crate::standing::Judged;
 use crate::view::ListView;
 use jfs_inode::Dinode;
-use jfs_owners::reader::{InodeMap, ReadError};
+use jfs_reader::{InodeMap, ReadError};
 use std::alloc::{AllocError, Global};
 
 /// What stands at a number, by its inode and what its trees spell.

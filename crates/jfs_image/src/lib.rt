@@ -21,5 +21,3 @@ mod view;
 pub use room::{Room, room_of};
 pub use tree::tree_of;
 pub use view::ListView;
-
-// libraries below, passed on

@@ -2,14 +2,14 @@
 
 ghost use Rattle.std.specs.Prelude.{◌≡◌, IfOk};
 ghost use Rattle.jfs_inode.specs.Rules.{type_of};
-ghost use Rattle.jfs_owners.specs.meaning.specs.Node.{kind_of, times_of, size_of, parent_in, node_with};
+ghost use Rattle.jfs_reader.specs.meaning.specs.Node.{kind_of, times_of, size_of, parent_in, node_with};
 
 use jfs_bits::Blob;
+use jfs_dtree::parent;
 use jfs_inode::Dinode;
 use jfs_name::NameList;
-use jfs_owners::dtree::parent;
-use jfs_owners::plain::{Entries, Node, NodeKind, Times};
-use jfs_owners::reader::root_in;
+use jfs_plain::{Entries, Node, NodeKind, Times};
+use jfs_reader::root_in;
 use std::alloc::{AllocError, Global};
 
 /// The node of an inode with this target and these names.

@@ -5,11 +5,11 @@ ghost use Rattle.jfs_disk.specs.Image.{page_of};
 ghost use Rattle.jfs_disk.specs.Pages.{contents};
 ghost use Rattle.jfs_super.specs.Rules.{blocks_of};
 ghost use Rattle.jfs_super.specs.declared.fields.Super.{Super};
-ghost use Rattle.jfs_owners.specs.objects.specs.Image.{file_extents};
-ghost use Rattle.jfs_owners.specs.meaning.specs.Readers.{readers};
-ghost use Rattle.jfs_owners.specs.reader.specs.Map.{IsInodeMap};
-ghost use Rattle.jfs_owners.specs.mount_rules.specs.Subject.{subject_of};
-ghost use Rattle.jfs_owners.specs.mount_rules.specs.Mount.{broken_mount};
+ghost use Rattle.jfs_reader.specs.objects.specs.Image.{file_extents};
+ghost use Rattle.jfs_reader.specs.meaning.specs.Readers.{readers};
+ghost use Rattle.jfs_reader.specs.Map.{IsInodeMap};
+ghost use Rattle.jfs_mount.specs.Subject.{subject_of};
+ghost use Rattle.jfs_mount.specs.Mount.{broken_mount};
 ghost use Rattle.jfs_image.specs.View.{image_of, blocks_in};
 ghost use Rattle.jfs_image.specs.Opened.{SuperIs, OpenedIs};
 
@@ -17,10 +17,10 @@ use crate::opened::Opened;
 use crate::view::ListView;
 use jfs_bits::XadList;
 use jfs_disk::PageList;
-use jfs_owners::mount_rules::first_broken;
-use jfs_owners::reader::{InodeMap, ReadError, file_extents};
-use jfs_owners::xtree::XtError;
+use jfs_mount::first_broken;
+use jfs_reader::{InodeMap, ReadError, file_extents};
 use jfs_super::{Super, geometry, read_super};
+use jfs_xtree::XtError;
 use std::alloc::{AllocError, Global};
 
 /// Opens an image; `None` only where it has no tree: it has too many pages for a disk, its superblock breaks a rule, or a mount finds one broken.

@@ -1,7 +1,7 @@
 //! What is kept of an image that was opened.
 
 use crate::view::ListView;
-use jfs_owners::reader::InodeMap;
+use jfs_reader::InodeMap;
 use jfs_super::Super;
 
 /// A view of an image's pages, its superblock and its inode map, and the greatest size of a file, in bytes.

@@ -3,9 +3,9 @@
 ghost use Rattle.std.specs.Prelude.{◌≡◌, ◌<◌, ◌+◌, ◌*◌, ◌/◌, ◌==◌, not, ℕ, IfOk, is_some};
 ghost use Rattle.jfs_disk.specs.Image.{page_of};
 ghost use Rattle.jfs_bits.specs.Bits.{any_below, is_free_run};
-ghost use Rattle.jfs_owners.specs.objects.specs.Image.{extent_on};
-ghost use Rattle.jfs_owners.specs.meaning.specs.Readers.{readers};
-ghost use Rattle.jfs_owners.specs.meaning.specs.Room.{lowest};
+ghost use Rattle.jfs_reader.specs.objects.specs.Image.{extent_on};
+ghost use Rattle.jfs_reader.specs.meaning.specs.Readers.{readers};
+ghost use Rattle.jfs_reader.specs.meaning.specs.Room.{lowest};
 ghost use Rattle.jfs_owners.specs.Counts.{Counts};
 ghost use Rattle.jfs_image.specs.View.{image_of, blocks_in};
 ghost use Rattle.jfs_image.specs.Standing.{IsReady};
@@ -13,7 +13,7 @@ ghost use Rattle.jfs_image.specs.Standing.{IsReady};
 use crate::area::extent_at;
 use crate::view::ListView;
 use jfs_owners::Owners;
-use jfs_owners::reader::InodeMap;
+use jfs_reader::InodeMap;
 use std::alloc::AllocError;
 
 /// Whether an aligned run of four blocks has no owner.

@@ -1,7 +1,7 @@
 //! What an inode's number leads to.
 
 use jfs_inode::Dinode;
-use jfs_owners::plain::Node;
+use jfs_plain::Node;
 
 /// An object: its node, and the bytes that it holds.
 #[derive(Drop)]

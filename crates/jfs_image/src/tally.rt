@@ -2,11 +2,11 @@
 
 ghost use Rattle.std.specs.Prelude.{◌≡◌, ◌+◌, ◌≤◌, IfOk, OnOk};
 ghost use Rattle.jfs_disk.specs.Image.{page_of};
-ghost use Rattle.jfs_owners.specs.objects.specs.Objects.{spelled};
-ghost use Rattle.jfs_owners.specs.objects.specs.Owners.{holds};
+ghost use Rattle.jfs_reader.specs.objects.specs.Objects.{spelled};
+ghost use Rattle.jfs_reader.specs.objects.specs.Owners.{holds};
 ghost use Rattle.std.specs.Prelude.{Some};
-ghost use Rattle.jfs_owners.specs.meaning.specs.Readers.{readers};
-ghost use Rattle.jfs_owners.specs.meaning.specs.Room.{or_else};
+ghost use Rattle.jfs_reader.specs.meaning.specs.Readers.{readers};
+ghost use Rattle.jfs_reader.specs.meaning.specs.Room.{or_else};
 ghost use Rattle.jfs_owners.specs.Counts.{Adds};
 ghost use Rattle.jfs_image.specs.View.{image_of, blocks_in};
 ghost use Rattle.jfs_image.specs.Standing.{IsReady};
@@ -21,8 +21,8 @@ use crate::tallied::Tally;
 use crate::view::ListView;
 use jfs_inode::Dinode;
 use jfs_owners::Owners;
-use jfs_owners::reader::InodeMap;
 use jfs_ranges::PageView;
+use jfs_reader::InodeMap;
 use std::alloc::{AllocError, Global};
 
 /// Counts the whole image; `None` only where it has no tree.

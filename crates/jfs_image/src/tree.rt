@@ -11,8 +11,8 @@ use crate::open::open;
 use crate::standing::Standing;
 use crate::view::ListView;
 use jfs_disk::PageList;
-use jfs_owners::plain::PlainTree;
-use jfs_owners::reader::InodeMap;
+use jfs_plain::PlainTree;
+use jfs_reader::InodeMap;
 use std::alloc::{AllocError, Global};
 
 /// The file tree of an image: its nodes by their inodes, and what its files hold. `None` exactly where it has none: it has too many pages for a disk, its superblock

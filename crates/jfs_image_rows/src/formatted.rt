@@ -4,7 +4,7 @@ use jfs_bits::Moment;
 use jfs_disk::{Disk, Page, PageList, SureDisk};
 use jfs_format::format;
 use jfs_image::{Room, room_of, tree_of};
-use jfs_sets::plain::{PlainTree, Stat};
+use jfs_plain::{PlainTree, Stat};
 use std::alloc::{AllocError, Global};
 use std::test::*;
 use uuid::Uuid;

@@ -4,7 +4,7 @@ use crate::made::small_volume;
 use jfs_bits::Moment;
 use jfs_image::tree_of;
 use jfs_name::Name;
-use jfs_sets::plain::{NodeKind, PlainTree, Stat, Times};
+use jfs_plain::{NodeKind, PlainTree, Stat, Times};
 use std::alloc::{AllocError, Global};
 use std::test::*;
 

@@ -4,4 +4,3 @@ pub mod Laws
 pub mod Images
 -- libraries below, passed on
 pub use Rattle.jfs_objects as objects
-pub use Rattle.jfs_objects.specs.page_tree

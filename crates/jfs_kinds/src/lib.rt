@@ -7,7 +7,3 @@ pub use law::{
     blocks_have_one_owner, contents_have_owners, edits_leave_owners, logged_pages_give_images,
     logged_pages_give_objects, objects_give_owners, owners_stay_with_counts,
 };
-
-// libraries below, passed on
-pub use jfs_objects as objects;
-pub use jfs_objects::page_tree;

@@ -1,5 +1,3 @@
 -- what the clauses say
 pub mod Reached
 pub mod Balance
-
--- libraries below, passed on

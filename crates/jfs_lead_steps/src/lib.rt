@@ -6,5 +6,3 @@ mod remove;
 
 pub use balance::own_after;
 pub use remove::{Removed, remove_on_top};
-
-// libraries below, passed on

@@ -9,14 +9,14 @@ use Rattle.jfs_inode.specs.declared.fields.Dinode.{Dinode}
 use Rattle.jfs_name.specs.declared.name.NameEntry.{NameEntry}
 use Rattle.jfs_ranges.specs.declared.edit.Edit.{Edit}
 use Rattle.jfs_ranges.specs.Laid.{put_tx}
-use Rattle.jfs_claim.specs.page_tree.specs.Edit.{count_in}
-use Rattle.jfs_claim.specs.page_tree.specs.Form.{AllBelow}
-use Rattle.jfs_steps.specs.dtree.specs.Parent.{parent_of}
-use Rattle.jfs_steps.specs.dtree.specs.Spells.{spells_names}
-use Rattle.jfs_steps.specs.dtree.specs.Adding.{AddsName}
-use Rattle.jfs_steps.specs.plain.specs.Tree.{Tree}
-use Rattle.jfs_steps.specs.plain.specs.Moves.{changed, gains, stamped, rises}
-use Rattle.jfs_steps.specs.plain.specs.Step.{entry_as}
+use Rattle.jfs_dtree.specs.page_tree.specs.Edit.{count_in}
+use Rattle.jfs_dtree.specs.page_tree.specs.Form.{AllBelow}
+use Rattle.jfs_dtree.specs.Parent.{parent_of}
+use Rattle.jfs_dtree.specs.Spells.{spells_names}
+use Rattle.jfs_dtree.specs.Adding.{AddsName}
+use Rattle.jfs_plain.specs.Tree.{Tree}
+use Rattle.jfs_plain.specs.Moves.{changed, gains, stamped, rises}
+use Rattle.jfs_plain.specs.Step.{entry_as}
 use Rattle.jfs_claim.specs.objects.specs.Readers.{Readers}
 use Rattle.jfs_claim.specs.objects.specs.Volume.{Volume}
 use Rattle.jfs_claim.specs.objects.specs.Objects.{objects, spelled, is_live, has_names}

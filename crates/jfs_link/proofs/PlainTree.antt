@@ -1,13 +1,13 @@
 -- What the plain step of link comes to, by each of its causes in their order.
 use Rattle.std.proofs.Common.{◌≡◌, refl, ap, ◌∙◌, ℕ, Bool, true, false, List, Option, Some, Result, Ok, Err}
 use Rattle.jfs_bits.specs.declared.descriptor.Moment.{Moment}
-use Rattle.jfs_steps.specs.plain.specs.Tree.{Tree, Found, Place, is_dir, walk, object, found, found_at, and_then, new_place, root}
-use Rattle.jfs_steps.specs.plain.specs.Moves.{changed, stamped, rises}
-use Rattle.jfs_steps.specs.plain.specs.Step.{Room, Outcome, link, gained, refuse, is_full, is_short, is_deep}
-use Rattle.jfs_steps.specs.plain.specs.declared.node.Node.{Node}
-use Rattle.jfs_steps.specs.plain.specs.declared.refusal.Refusal.{Refusal}
-use Rattle.jfs_steps.specs.plain.specs.declared.refusal.Refusal.TheVariants.{IsDir, TooManyLinks, NoSpace, TooDeep}
-use Rattle.jfs_steps.specs.plain.specs.declared.reply.Reply.TheVariants.{Done}
+use Rattle.jfs_plain.specs.Tree.{Tree, Found, Place, is_dir, walk, object, found, found_at, and_then, new_place, root}
+use Rattle.jfs_plain.specs.Moves.{changed, stamped, rises}
+use Rattle.jfs_plain.specs.Step.{Room, Outcome, link, gained, refuse, is_full, is_short, is_deep}
+use Rattle.jfs_plain.specs.declared.node.Node.{Node}
+use Rattle.jfs_plain.specs.declared.refusal.Refusal.{Refusal}
+use Rattle.jfs_plain.specs.declared.refusal.Refusal.TheVariants.{IsDir, TooManyLinks, NoSpace, TooDeep}
+use Rattle.jfs_plain.specs.declared.reply.Reply.TheVariants.{Done}
 
 module _ (t : Tree) (room : Room) (from to : List (List ℕ)) (now : Moment) where
   -- after each question

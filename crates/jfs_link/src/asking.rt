@@ -3,20 +3,20 @@
 ghost use Rattle.std.specs.Prelude.{◌≡◌, ◌≤◌, ◌<◌, ℕ, [], true, false, length, get_or, IfOk, IfErr};
 ghost use Rattle.jfs_disk.specs.Image.{page_of};
 ghost use Rattle.jfs_claim.specs.objects.specs.Objects.{has_names};
-ghost use Rattle.jfs_claim.specs.way.specs.Answer.{Carries, Answers};
-ghost use Rattle.jfs_claim.specs.way.specs.Walk.{IsHeld, IsShown};
+ghost use Rattle.jfs_way.specs.Answer.{Carries, Answers};
+ghost use Rattle.jfs_way.specs.Walk.{IsHeld, IsShown};
 ghost use Rattle.jfs_link.specs.Link.{MayLink, RefusesLink, IfConsistentBy, asked};
 
+use jfs_bmap::BlockMap;
 use jfs_claim::look_for_space;
-use jfs_claim::way::{Held, walk};
+use jfs_dtree::is_deep;
+use jfs_imap::InodeMap;
 use jfs_name::Name;
+use jfs_plain::Refusal;
 use jfs_ranges::{PageView, ViewError};
-use jfs_steps::bmap::BlockMap;
-use jfs_steps::dtree::is_deep;
-use jfs_steps::imap::InodeMap;
+use jfs_reader::{has_names, root_in};
 use jfs_steps::new_place;
-use jfs_steps::plain::Refusal;
-use jfs_steps::reader::{has_names, root_in};
+use jfs_way::{Held, walk};
 
 /// The object that gets a name, and the directory that gets it.
 #[derive(Clone, Copy)]

@@ -8,11 +8,3 @@ mod linking;
 pub use asking::{Joint, ask};
 pub use joining::join;
 pub use linking::{Linked, link};
-
-// libraries below, passed on
-pub use jfs_claim as claim;
-pub use jfs_claim::{meaning, objects, page_tree, room, runs, way};
-pub use jfs_lead_steps as lead_steps;
-pub use jfs_place as place;
-pub use jfs_steps as steps;
-pub use jfs_steps::{bmap, dtree, imap, plain, reader, xtree};

@@ -2,19 +2,19 @@
 
 ghost use Rattle.std.specs.Prelude.{◌≡◌, ◌≤◌, ◌<◌, ℕ, [], length, get_or, IfErr};
 ghost use Rattle.jfs_disk.specs.Image.{page_of};
-ghost use Rattle.jfs_steps.specs.plain.specs.Step.{link};
-ghost use Rattle.jfs_claim.specs.way.specs.Answer.{Carries};
+ghost use Rattle.jfs_plain.specs.Step.{link};
+ghost use Rattle.jfs_way.specs.Answer.{Carries};
 ghost use Rattle.jfs_link.specs.Link.{StepsBy, MapAfter, LinksAs};
 
 use crate::asking::ask;
 use crate::joining::join;
 use jfs_bits::Moment;
+use jfs_bmap::BlockMap;
 use jfs_claim::{ClaimError, Want, take};
+use jfs_imap::InodeMap;
 use jfs_name::Name;
+use jfs_plain::Refusal;
 use jfs_ranges::{PageView, Tx};
-use jfs_steps::bmap::BlockMap;
-use jfs_steps::imap::InodeMap;
-use jfs_steps::plain::Refusal;
 use std::alloc::Global;
 
 /// What came of a link that nothing refuses.

@@ -3,24 +3,24 @@
 ghost use Rattle.std.specs.Prelude.{◌≡◌, ◌∷◌, [], true, IfOk, OnOk};
 ghost use Rattle.jfs_disk.specs.Image.{page_of};
 ghost use Rattle.jfs_ranges.specs.View.{CarriesCount};
-ghost use Rattle.jfs_object_check.specs.page_tree.specs.Call.{CarriesFault};
-ghost use Rattle.jfs_object_check.specs.dtree.specs.Node.{name_scale};
-ghost use Rattle.jfs_object_check.specs.objects.specs.Objects.{has_names, names_of, listed, met};
-ghost use Rattle.jfs_object_check.specs.meaning.specs.Readers.{readers};
-ghost use Rattle.jfs_object_check.specs.owners.specs.Counts.{Adds, page_has};
-ghost use Rattle.jfs_object_check.specs.owners.specs.Held.{names_held};
+ghost use Rattle.jfs_tree.specs.Call.{CarriesFault};
+ghost use Rattle.jfs_dtree.specs.Node.{name_scale};
+ghost use Rattle.jfs_findings.specs.objects.specs.Objects.{has_names, names_of, listed, met};
+ghost use Rattle.jfs_findings.specs.meaning.specs.Readers.{readers};
+ghost use Rattle.jfs_owners.specs.Counts.{Adds, page_has};
+ghost use Rattle.jfs_owners.specs.Held.{names_held};
 ghost use Rattle.jfs_object_check.specs.Steps.{EndsAs, IsSound};
 ghost use Rattle.jfs_link_check.specs.Places.{places_in, places_with};
 ghost use Rattle.jfs_link_check.specs.Notes.{Sees, NotesInode};
 
 use crate::notes::NameNotes;
 use jfs_dtpage::DtForm;
+use jfs_dtree::{DirEntry, DtPages};
 use jfs_inode::Dinode;
-use jfs_object_check::dtree::{DirEntry, DtPages};
-use jfs_object_check::owners::Owners;
-use jfs_object_check::page_tree::{TreeError, Visitor, walk_tree};
-use jfs_object_check::reader::{has_names, root_in};
+use jfs_owners::Owners;
 use jfs_ranges::{PageView, ViewError};
+use jfs_reader::{has_names, root_in};
+use jfs_tree::{TreeError, Visitor, walk_tree};
 use std::alloc::AllocError;
 
 /// Who owns the blocks of a volume, and what is noted of its names: what is known once the trees of all directories were walked through.

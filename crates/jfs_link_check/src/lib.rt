@@ -11,9 +11,3 @@ pub use census::{Census, count_names};
 pub use links::check_links;
 pub use notes::NameNotes;
 pub use uses::{Use, Uses, uses_of};
-
-// libraries below, passed on
-pub use jfs_object_check as object_check;
-pub use jfs_object_check::{
-    bmap, dtree, each, meaning, mount_rules, objects, owners, page_tree, reader, xtree,
-};

@@ -4,18 +4,18 @@ use Rattle.jfs_bits.specs.declared.rule.Rule.{Rule}
 use Rattle.jfs_inode.specs.Rules.{type_of}
 use Rattle.jfs_inode.specs.declared.fields.Dinode.{Dinode}
 use Rattle.jfs_name.specs.declared.name.NameEntry.{NameEntry}
-use Rattle.jfs_way.specs.imap.specs.Inodes.{Inodes}
+use Rattle.jfs_imap.specs.Inodes.{Inodes}
 use Rattle.jfs_way.specs.bmap.specs.States.{Blocks}
-use Rattle.jfs_way.specs.page_tree.specs.Spells.{spells}
-use Rattle.jfs_way.specs.dtree.specs.Spells.{spells_names}
-use Rattle.jfs_way.specs.plain.specs.Tree.{Tree, Found, walk, found, and_then, root, is_dir}
-use Rattle.jfs_way.specs.plain.specs.Step.{Outcome, listed, refuse}
-use Rattle.jfs_way.specs.plain.specs.declared.node.Node.{Node}
-use Rattle.jfs_way.specs.plain.specs.declared.refusal.Refusal.{Refusal}
-use Rattle.jfs_way.specs.plain.specs.declared.refusal.Refusal.TheVariants.{NotDir}
-use Rattle.jfs_way.specs.plain.specs.declared.reply.Reply.{Reply}
-use Rattle.jfs_way.specs.plain.specs.declared.reply.Reply.TheVariants.{Names}
-use Rattle.jfs_way.specs.plain.specs.declared.reply.NodeKind.TheVariants.{Dir, File, Link, Other}
+use Rattle.jfs_tree.specs.Spells.{spells}
+use Rattle.jfs_dtree.specs.Spells.{spells_names}
+use Rattle.jfs_plain.specs.Tree.{Tree, Found, walk, found, and_then, root, is_dir}
+use Rattle.jfs_plain.specs.Step.{Outcome, listed, refuse}
+use Rattle.jfs_plain.specs.declared.node.Node.{Node}
+use Rattle.jfs_plain.specs.declared.refusal.Refusal.{Refusal}
+use Rattle.jfs_plain.specs.declared.refusal.Refusal.TheVariants.{NotDir}
+use Rattle.jfs_plain.specs.declared.reply.Reply.{Reply}
+use Rattle.jfs_plain.specs.declared.reply.Reply.TheVariants.{Names}
+use Rattle.jfs_plain.specs.declared.reply.NodeKind.TheVariants.{Dir, File, Link, Other}
 use Rattle.jfs_way.specs.objects.specs.Image.{extent_place}
 use Rattle.jfs_way.specs.objects.specs.Objects.{Object, IsWhole, spelled, has_names, listed as listed_in}
 use Rattle.jfs_way.specs.objects.specs.Volume.{Volume, home, slot_of}

@@ -4,17 +4,17 @@ use Rattle.std.specs.Int.RustNames.{bit_and}
 use Rattle.jfs_inode.specs.Rules.{type_of}
 use Rattle.jfs_bits.specs.declared.rule.Rule.{Rule}
 use Rattle.jfs_name.specs.declared.name.NameEntry.{NameEntry}
-use Rattle.jfs_way.specs.imap.specs.Inodes.{Inodes}
-use Rattle.jfs_way.specs.dtree.specs.Spells.{spells_names}
+use Rattle.jfs_imap.specs.Inodes.{Inodes}
+use Rattle.jfs_dtree.specs.Spells.{spells_names}
 use Rattle.jfs_way.specs.objects.specs.Objects.{has_names}
 use Rattle.jfs_way.specs.meaning.specs.Readers.{root_of}
 use Rattle.jfs_way.specs.meaning.specs.Node.{kind_of, size_of}
-use Rattle.jfs_way.specs.plain.specs.Tree.{Tree, and_then}
-use Rattle.jfs_way.specs.plain.specs.declared.refusal.Refusal.{Refusal}
-use Rattle.jfs_way.specs.plain.specs.declared.refusal.Refusal.TheVariants.{NotDir, Damaged}
-use Rattle.jfs_way.specs.plain.specs.declared.reply.Reply.{Reply}
-use Rattle.jfs_way.specs.plain.specs.declared.reply.Reply.TheVariants.{Attr, Names}
-use Rattle.jfs_way.specs.plain.specs.declared.reply.Stat.{Stat}
+use Rattle.jfs_plain.specs.Tree.{Tree, and_then}
+use Rattle.jfs_plain.specs.declared.refusal.Refusal.{Refusal}
+use Rattle.jfs_plain.specs.declared.refusal.Refusal.TheVariants.{NotDir, Damaged}
+use Rattle.jfs_plain.specs.declared.reply.Reply.{Reply}
+use Rattle.jfs_plain.specs.declared.reply.Reply.TheVariants.{Attr, Names}
+use Rattle.jfs_plain.specs.declared.reply.Stat.{Stat}
 use Rattle.jfs_way.specs.Answer.{at_root}
 use Rattle.jfs_way.specs.Way.{path_of}
 use Rattle.jfs_way.specs.declared.object.Held.{Held}

@@ -4,17 +4,17 @@ ghost use Rattle.std.specs.Prelude.{◌≡◌, ◌≤◌, ◌<◌, ℕ, [], leng
 ghost use Rattle.jfs_disk.specs.Image.{page_of};
 ghost use Rattle.jfs_inode.specs.Rules.{type_of};
 ghost use Rattle.jfs_way.specs.meaning.specs.Node.{kind_of};
-ghost use Rattle.jfs_way.specs.plain.specs.Step.{stat};
+ghost use Rattle.jfs_plain.specs.Step.{stat};
 ghost use Rattle.jfs_way.specs.Answer.{Carries, Answers, Follows};
 ghost use Rattle.jfs_way.specs.Walk.{IfConsistent};
 ghost use Rattle.jfs_look.specs.Look.{stat_in, stat_at, IsAttr};
 
+use jfs_imap::InodeMap;
 use jfs_inode::Dinode;
 use jfs_name::Name;
+use jfs_plain::{NodeKind, Refusal, Stat};
 use jfs_ranges::PageView;
-use jfs_way::imap::InodeMap;
-use jfs_way::plain::{NodeKind, Refusal, Stat};
-use jfs_way::reader::has_names;
+use jfs_reader::has_names;
 use jfs_way::{Held, walk};
 
 /// What the object at the end of a path is, and its attributes. `Err` is the walk's refusal.

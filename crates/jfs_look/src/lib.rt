@@ -6,7 +6,3 @@ mod names;
 
 pub use attributes::stat;
 pub use names::list_names;
-
-// libraries below, passed on
-pub use jfs_way as way;
-pub use jfs_way::{imap, page_tree, plain, reader};

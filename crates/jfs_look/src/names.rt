@@ -3,19 +3,19 @@
 ghost use Rattle.std.specs.Prelude.{◌≡◌, ◌≤◌, ◌<◌, ℕ, [], length, get_or, Err};
 ghost use Rattle.jfs_disk.specs.Image.{page_of};
 ghost use Rattle.jfs_disk.specs.declared.disk.Fault.{Fault};
-ghost use Rattle.jfs_way.specs.dtree.specs.Spells.{CarriesDt};
-ghost use Rattle.jfs_way.specs.plain.specs.Step.{listed};
+ghost use Rattle.jfs_dtree.specs.Spells.{CarriesDt};
+ghost use Rattle.jfs_plain.specs.Step.{listed};
 ghost use Rattle.jfs_way.specs.Answer.{Carries, CarriesCause, Answers, Follows, names_refusal};
 ghost use Rattle.jfs_way.specs.Walk.{IfConsistent};
 ghost use Rattle.jfs_look.specs.Look.{names_from, names_at, IsNames};
 
+use jfs_dtree::{DtError, list};
+use jfs_imap::InodeMap;
 use jfs_name::{Name, NameList};
+use jfs_plain::Refusal;
 use jfs_ranges::{PageView, ViewError};
-use jfs_way::dtree::{DtError, list};
-use jfs_way::imap::InodeMap;
-use jfs_way::page_tree::NO_PAGE;
-use jfs_way::plain::Refusal;
-use jfs_way::reader::{has_names, root_in};
+use jfs_reader::{has_names, root_in};
+use jfs_tree::NO_PAGE;
 use jfs_way::{Held, walk};
 use std::alloc::Global;
 

@@ -7,8 +7,3 @@ mod lose;
 
 pub use free::free_object;
 pub use lose::lose_name;
-
-// libraries below, passed on
-pub use jfs_lead_steps as lead_steps;
-pub use jfs_steps as steps;
-pub use jfs_steps::{bmap, dtree, imap, meaning, objects, page_tree, plain, reader, way, xtree};

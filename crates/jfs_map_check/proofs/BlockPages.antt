@@ -5,8 +5,8 @@ use Rattle.std.proofs.lemmas.Int.{of_z-to_z}
 use Rattle.std.proofs.lemmas.Bool.{cases_lt}
 use Rattle.std.proofs.lemmas.Nat.{pow_below}
 use Rattle.jfs_bits.specs.Field.{field_of, range_of}
-use Rattle.jfs_findings.specs.bmap.specs.MapFile.{IsFirstPage, IsMapPage}
-use Rattle.jfs_findings.specs.bmap.proofs.Agreed.{map-pages-same}
+use Rattle.jfs_bmap.specs.MapFile.{IsFirstPage, IsMapPage}
+use Rattle.jfs_bmap.proofs.Agreed.{map-pages-same}
 use Rattle.jfs_map_check.specs.Compared.{AgreeOutside, AreBytesOutside, IsSameControl}
 use Rattle.jfs_findings.specs.Maps.{IsFirstPageAs, IsMapPageAs, without_pad}
 use Rattle.jfs_findings.proofs.Compared.{map_page_as}

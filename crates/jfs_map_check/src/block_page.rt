@@ -2,15 +2,15 @@
 
 ghost use Rattle.std.specs.Prelude.{◌<◌, ◌↔◌, ◌^◌, length, IsTrue};
 ghost use Rattle.jfs_bits.specs.Field.{field_of};
-ghost use Rattle.jfs_findings.specs.bmap.specs.Set.{taken_at};
-ghost use Rattle.jfs_findings.specs.bmap.specs.MapFile.{IsMapPage};
+ghost use Rattle.jfs_bmap.specs.Set.{taken_at};
+ghost use Rattle.jfs_bmap.specs.MapFile.{IsMapPage};
 ghost use Rattle.jfs_map_check.specs.Compared.{IsSameControl};
 ghost use Rattle.jfs_findings.specs.Maps.{IsMapPageAs};
 
 use crate::compare::{agree_outside, same_groups};
 use jfs_bits::{get_u8, get_u32, get_u64};
+use jfs_bmap::OwnedMap;
 use jfs_disk::Page;
-use jfs_findings::bmap::OwnedMap;
 
 /// Whether page `n` of a block map's file is canonical in what is compared, where these blocks have owners. `canonical` gets the
 /// page in its canonical form.

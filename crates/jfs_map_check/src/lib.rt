@@ -11,7 +11,3 @@ pub use block_map::check_block_map;
 pub use block_page::is_canonical;
 pub use iag_page::{IagReport, judge_iag};
 pub use inode_map::{Control, check_inode_map};
-
-// libraries below, passed on
-pub use jfs_findings as findings;
-pub use jfs_findings::bmap;

@@ -1,9 +1,9 @@
 //! Pages of both maps, changed at one place.
 
 use jfs_bits::{Pxd, set_run};
+use jfs_bmap::OwnedMap;
 use jfs_disk::Page;
 use jfs_iag::{NO_EXTENT, iag_canonical};
-use jfs_map_check::bmap::OwnedMap;
 use jfs_map_check::{is_canonical, judge_iag};
 use std::alloc::{AllocError, Global};
 

@@ -6,7 +6,3 @@ mod maps;
 
 pub use map_file::{MapFile, MapFiles};
 pub use maps::Maps;
-
-// libraries below, passed on
-pub use jfs_bmap as bmap;
-pub use jfs_imap as imap;

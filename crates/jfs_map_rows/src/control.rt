@@ -1,10 +1,10 @@
 //! A control page of level 0, byte by byte.
 
 ghost use Rattle.std.specs.Prelude.{◌<◌, ℕ};
-ghost use Rattle.jfs_bmap.specs.dmapctl.specs.Control.{value_at, IsValue, IsControl};
+ghost use Rattle.jfs_dmapctl.specs.Control.{value_at, IsValue, IsControl};
 
-use jfs_bmap::dmapctl::{ctl_canonical, ctl_find, ctl_set};
 use jfs_disk::Page;
+use jfs_dmapctl::{ctl_canonical, ctl_find, ctl_set};
 
 /// The control page over 1,024 wholly free dmaps.
 pub fn free_control(page: &mut Page)

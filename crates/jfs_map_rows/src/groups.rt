@@ -3,8 +3,8 @@
 ghost use Rattle.std.specs.Prelude.{◌<◌, ◌≤◌};
 
 use crate::volume::map_in_groups;
-use jfs_bmap::dmapctl::{MapControl, read_map_control};
 use jfs_disk::Page;
+use jfs_dmapctl::{MapControl, read_map_control};
 use std::alloc::{AllocError, Global};
 
 /// A volume's blocks, all of them free, and the l2 of a group's; then the page's numbers: the blocks of a group; numag, maxag, aglevel,

@@ -1,8 +1,8 @@
 //! The control page of the block map, as bytes.
 
 use jfs_bits::{get_u8, get_u32, get_u64};
-use jfs_bmap::dmapctl::{MapControl, read_map_control, write_map_control};
 use jfs_disk::Page;
+use jfs_dmapctl::{MapControl, read_map_control, write_map_control};
 
 /// Numbers of no real volume: each field has one of its own, so that one in another's place shows.
 fn told_apart() -> MapControl {

@@ -2,8 +2,8 @@
 
 use crate::runs::{are_taken, take_and_give};
 use jfs_bits::set_run;
-use jfs_bmap::dmap::{dmap_canonical, dmap_find};
 use jfs_disk::Page;
+use jfs_dmap::{dmap_canonical, dmap_find};
 
 // The leaves of 3,008 blocks of which 0 to 32 are taken, by place and value; every other leaf is -1.
 const LEAVES: [(usize, u8); 11] = [

@@ -2,10 +2,10 @@
 
 ghost use Rattle.std.specs.Prelude.{◌≡◌, ◌+◌, ◌<◌, ◌≤◌, ◌^◌, true, IfSome};
 ghost use Rattle.jfs_bits.specs.Bits.{is_full};
-ghost use Rattle.jfs_bmap.specs.dmap.specs.Dmap.{blocks_of, taken_in, IsDmap};
+ghost use Rattle.jfs_dmap.specs.Dmap.{blocks_of, taken_in, IsDmap};
 
-use jfs_bmap::dmap::{dmap_clear, dmap_find, dmap_mark};
 use jfs_disk::Page;
+use jfs_dmap::{dmap_clear, dmap_find, dmap_mark};
 
 /// Takes the lowest free run of `2^l2` blocks of a page.
 pub fn take_run(page: &mut Page, l2: u32) -> Option<u32>

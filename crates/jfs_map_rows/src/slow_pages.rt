@@ -1,14 +1,14 @@
 //! The pages that a block map writes, beside those of the plain slow map.
 
 ghost use Rattle.std.specs.Prelude.{◌<◌, ◌≤◌, ℕ, IfSome};
-ghost use Rattle.jfs_bmap.specs.dmapctl.specs.Control.{value_at, IsValue};
+ghost use Rattle.jfs_dmapctl.specs.Control.{value_at, IsValue};
 
 use crate::slow::State;
 use jfs_bits::set_run;
 use jfs_bmap::BlockMap;
-use jfs_bmap::dmap::{dmap_canonical, dmap_root};
-use jfs_bmap::dmapctl::{ctl_canonical, read_map_control};
 use jfs_disk::Page;
+use jfs_dmap::{dmap_canonical, dmap_root};
+use jfs_dmapctl::{ctl_canonical, read_map_control};
 
 pub const BLOCKS: u32 = 20000;
 

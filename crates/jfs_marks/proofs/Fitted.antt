@@ -7,9 +7,9 @@ use Rattle.std.proofs.lemmas.List.FromFn.{get_or-map-range_with_len, length-map-
 use Rattle.jfs_bits.specs.Bits.{is_in_run}
 use Rattle.jfs_bits.specs.declared.descriptor.Pxd.{Pxd}
 use Rattle.jfs_iag.specs.Iag.{no_run}
-use Rattle.jfs_data_steps.specs.imap.specs.Inodes.{Inodes, is_used, is_free, extent_at, with_extent, IsLowestPlace, IsPick}
-use Rattle.jfs_data_steps.specs.imap.specs.declared.inode_map.Pick.{Pick}
-use Rattle.jfs_data_steps.specs.imap.specs.declared.inode_map.Pick.TheVariants.{Number, NeedsExtent, NoInodes}
+use Rattle.jfs_imap.specs.Inodes.{Inodes, is_used, is_free, extent_at, with_extent, IsLowestPlace, IsPick}
+use Rattle.jfs_imap.specs.declared.inode_map.Pick.{Pick}
+use Rattle.jfs_imap.specs.declared.inode_map.Pick.TheVariants.{Number, NeedsExtent, NoInodes}
 use Rattle.jfs_data_steps.specs.steps.specs.After.{four_from}
 use Rattle.jfs_marks.specs.declared.founded.Founded.{Founded}
 use Rattle.jfs_marks.specs.declared.founded.Founded.TheVariants as founded

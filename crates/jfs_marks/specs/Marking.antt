@@ -1,9 +1,9 @@
 -- What a transaction makes of the inode map.
 use Rattle.std.specs.Prelude.{◌≡◌, ℕ, ◌/◌, ◌==◌, if◌then◌else◌, List, Option, Some, None}
 use Rattle.jfs_bits.specs.declared.descriptor.Pxd.{Pxd}
-use Rattle.jfs_data_steps.specs.imap.specs.Inodes.{Inodes, IsPick}
-use Rattle.jfs_data_steps.specs.imap.specs.declared.inode_map.Pick.{Pick}
-use Rattle.jfs_data_steps.specs.imap.specs.declared.inode_map.Pick.TheVariants.{Number, NeedsExtent, NoInodes}
+use Rattle.jfs_imap.specs.Inodes.{Inodes, IsPick}
+use Rattle.jfs_imap.specs.declared.inode_map.Pick.{Pick}
+use Rattle.jfs_imap.specs.declared.inode_map.Pick.TheVariants.{Number, NeedsExtent, NoInodes}
 use Rattle.jfs_ranges.specs.declared.edit.Edit.{Edit}
 use Rattle.jfs_data_steps.specs.steps.specs.After.{four_from}
 use Rattle.jfs_data_steps.specs.declared.pages.DataPage.{DataPage}

@@ -3,7 +3,7 @@ use Rattle.std.specs.Prelude.{◌≡◌, ◌<◌, ℕ, true, false, length, Opti
 use Rattle.jfs_bits.specs.declared.descriptor.Pxd.{Pxd}
 use Rattle.jfs_bits.specs.Descriptor.{FitsPxd}
 use Rattle.jfs_iag.specs.Canonical.{is_there}
-use Rattle.jfs_data_steps.specs.imap.specs.Inodes.{Inodes, extent_at, is_free, with_taken, with_put_back, with_extent, IsLowestPlace}
+use Rattle.jfs_imap.specs.Inodes.{Inodes, extent_at, is_free, with_taken, with_put_back, with_extent, IsLowestPlace}
 use Rattle.jfs_marks.specs.declared.marks.InodeMarks.{InodeMarks}
 
 -- an extent may be added: a place is without one

@@ -1,7 +1,7 @@
 -- The inodes in use that stand on a page.
 use Rattle.std.specs.Prelude.{ℕ, ◌+◌, ◌/◌, ◌%◌, ◌==◌, ◌&&◌, Bool, false, if◌then◌else◌, List, Option, Some, None}
 use Rattle.jfs_inode.specs.declared.fields.Dinode.{Dinode}
-use Rattle.jfs_data_steps.specs.imap.specs.Inodes.{Inodes, home_of}
+use Rattle.jfs_imap.specs.Inodes.{Inodes, home_of}
 use Rattle.jfs_data_steps.specs.objects.specs.Volume.{slot_of}
 use Rattle.jfs_data_steps.specs.objects.specs.Objects.{is_live}
 use Rattle.jfs_marks.specs.declared.founded.Founded.{Founded}

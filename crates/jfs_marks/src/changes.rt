@@ -9,8 +9,8 @@ ghost use Rattle.jfs_marks.specs.Changes.{met_if, noted_change, slots_changes, p
 use crate::founded::{Founded, is_extent};
 use crate::standing::standing;
 use jfs_data_steps::DataList;
-use jfs_data_steps::imap::InodeMap;
 use jfs_disk::Page;
+use jfs_imap::InodeMap;
 use jfs_ranges::{Edit, PageView, Tx, ViewError, apply};
 
 /// No inode, one, or more than one.

@@ -16,8 +16,3 @@ pub use loggable::is_loggable;
 pub use marking::{Marking, inode_marks};
 pub use marks::InodeMarks;
 pub use notes::notes_of;
-
-// libraries below, passed on
-pub use jfs_data_steps as data_steps;
-pub use jfs_data_steps::{bmap, imap, kinds, meaning, objects, plain, reader, steps, way};
-pub use jfs_records as records;

@@ -3,7 +3,7 @@
 ghost use Rattle.std.specs.Prelude.{◌≡◌, IfOk};
 ghost use Rattle.jfs_disk.specs.Image.{page_of};
 ghost use Rattle.jfs_ranges.specs.View.{CarriesCount};
-ghost use Rattle.jfs_data_steps.specs.imap.specs.Inodes.{IsPick};
+ghost use Rattle.jfs_imap.specs.Inodes.{IsPick};
 ghost use Rattle.jfs_marks.specs.Marking.{marking_by, without_extent, with_extent, AreMarksOf, FitsMarking};
 
 use crate::changes::{Change, Changes, Met, tx_changes};
@@ -11,7 +11,7 @@ use crate::founded::{Founded, NewExtent, founded_in};
 use crate::marks::InodeMarks;
 use jfs_bits::Pxd;
 use jfs_data_steps::DataList;
-use jfs_data_steps::imap::{InodeMap, Pick};
+use jfs_imap::{InodeMap, Pick};
 use jfs_ranges::{PageView, Tx, ViewError};
 
 /// What a transaction makes of the inode map.

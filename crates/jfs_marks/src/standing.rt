@@ -5,8 +5,8 @@ ghost use Rattle.jfs_data_steps.specs.objects.specs.Objects.{is_live};
 ghost use Rattle.jfs_marks.specs.Standing.{home_with, is_page, standing_as, standing};
 
 use crate::founded::Founded;
-use jfs_data_steps::imap::InodeMap;
 use jfs_disk::Page;
+use jfs_imap::InodeMap;
 use jfs_inode::{Dinode, inode_in};
 
 /// The number of the inode in a slot of page `p`, where it is in use and its place is there: in an extent of the inode map, or in a new one.

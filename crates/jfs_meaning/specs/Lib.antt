@@ -11,5 +11,5 @@ pub mod Laws
 pub use Rattle.jfs_dtree as dtree
 pub use Rattle.jfs_objects as objects
 pub use Rattle.jfs_plain as plain
-pub use Rattle.jfs_xtree.specs.page_tree
+pub use Rattle.jfs_dtree.specs.page_tree
 pub use Rattle.jfs_xtree as xtree

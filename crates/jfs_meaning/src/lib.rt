@@ -8,10 +8,3 @@ pub use law::{
     inode_extent_leaves_the_tree, new_trees_are_consistent, nodes_are_in_use, one_node_goes,
     one_node_is_set,
 };
-
-// libraries below, passed on
-pub use jfs_dtree as dtree;
-pub use jfs_objects as objects;
-pub use jfs_plain as plain;
-pub use jfs_xtree as xtree;
-pub use jfs_xtree::page_tree;

@@ -7,11 +7,9 @@ pub mod Steps
 pub use Rattle.jfs_bmap as bmap
 pub use Rattle.jfs_bmap.specs.dmap
 pub use Rattle.jfs_bmap.specs.dmapctl
-pub use Rattle.jfs_reader.specs.dtree
 pub use Rattle.jfs_each as each
 pub use Rattle.jfs_reader.specs.meaning
 pub use Rattle.jfs_reader.specs.objects
 pub use Rattle.jfs_reader.specs.plain
-pub use Rattle.jfs_reader as reader
 pub use Rattle.jfs_reader.specs.page_tree
-pub use Rattle.jfs_reader.specs.xtree
+pub use Rattle.jfs_xtree as xtree

@@ -14,10 +14,3 @@ pub use bad::BadMount;
 pub use blocks::from_block;
 pub use maps::{Maps, Mounted};
 pub use mount::{first_broken, map_files, mounted};
-
-// libraries below, passed on
-pub use jfs_bmap as bmap;
-pub use jfs_bmap::{dmap, dmapctl};
-pub use jfs_each as each;
-pub use jfs_reader as reader;
-pub use jfs_reader::{dtree, meaning, objects, page_tree, plain, xtree};

@@ -4,6 +4,3 @@
 mod ready;
 
 pub use ready::{BeginError, Begun, NotBegun, begin};
-
-// libraries below, passed on
-pub use jfs_logpages as logpages;

@@ -2,11 +2,11 @@
 
 ghost use Rattle.std.specs.Prelude.{◌≡◌};
 
-use jfs_claim::bmap::BlockMap;
-use jfs_claim::imap::InodeMap;
+use jfs_bmap::BlockMap;
 use jfs_disk::Fault;
+use jfs_imap::InodeMap;
 use jfs_map_files::MapFiles;
-use jfs_sets::mount_rules::BadMount;
+use jfs_mount::BadMount;
 
 /// The maps of a volume that is to be mounted, as file calls keep them in memory: no block is reserved or busy.
 #[derive(Drop)]

@@ -12,7 +12,3 @@ pub use find::{find_maps, find_maps_on};
 pub use found::{FoundMaps, MapsError};
 pub use law::found_maps_give_the_image;
 pub use read::inode_map_with;
-
-// libraries below, passed on
-pub use jfs_sets as sets;
-pub use jfs_sets::{mount_rules, reader};

@@ -4,7 +4,7 @@ use crate::made::{ONE_FILE, Word, volume_with};
 use jfs_bits::{Moment, Rule};
 use jfs_disk::{Disk, Fail, Fault, Kind, MemDisk, Page, Part};
 use jfs_format::format;
-use jfs_mounted::mount_rules::BadMount;
+use jfs_mount::BadMount;
 use jfs_mounted::{MountError, MountRefused, Mounted, mount};
 use jfs_super::{VolumeState, read_super};
 use std::alloc::Global;

@@ -25,8 +25,8 @@ use Rattle.jfs_volume.specs.kinds.proofs.Images.{same_page}
 use Rattle.jfs_volume.specs.meaning.specs.Readers.{readers}
 use Rattle.jfs_volume.specs.meaning.specs.Tree.{tree_on}
 use Rattle.jfs_volume.specs.meaning.specs.Image as meaning
-use Rattle.jfs_mount_maps.specs.mount_rules.specs.Subject.{subject_of}
-use Rattle.jfs_mount_maps.specs.mount_rules.specs.Mount.{broken_mount, iags}
+use Rattle.jfs_mount.specs.Subject.{subject_of}
+use Rattle.jfs_mount.specs.Mount.{broken_mount, iags}
 use Rattle.jfs_findings.proofs.Mounted.{mounted, on_block}
 use Rattle.jfs_mount_disk.specs.Begun.{marked_page}
 use Rattle.jfs_mounted.specs.Crashes.{CrashLaw}

@@ -23,7 +23,7 @@ use Rattle.jfs_volume.specs.meaning.specs.Consistent.{IsConsistent}
 use Rattle.jfs_volume.specs.meaning.specs.Image as meaning
 use Rattle.jfs_volume.specs.meaning.proofs.Changed.{data_tree}
 use Rattle.jfs_volume.specs.meaning.proofs.Same.{same_consistent}
-use Rattle.jfs_mount_maps.specs.mount_rules.specs.Subject.{subject_of}
+use Rattle.jfs_mount.specs.Subject.{subject_of}
 use Rattle.jfs_volume.specs.way.specs.Volume.{volume_of}
 use Rattle.jfs_mount_maps.specs.Maps.{blocks_on, inodes_on}
 use Rattle.jfs_mount_maps.proofs.Joined.{volume_is}

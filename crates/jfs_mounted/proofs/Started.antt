@@ -9,12 +9,12 @@ use Rattle.jfs_super.specs.Rules.{blocks_of}
 use Rattle.jfs_super.specs.declared.fields.Super.{Super}
 use Rattle.jfs_volume.specs.bmap.specs.States.{Blocks}
 use Rattle.jfs_volume.specs.imap.specs.Inodes.{Inodes}
-use Rattle.jfs_volume.specs.pages.specs.declared.kept.Kept.{Kept}
-use Rattle.jfs_volume.specs.pages.specs.Kept.{shown, image_in}
+use Rattle.jfs_pages.specs.declared.kept.Kept.{Kept}
+use Rattle.jfs_pages.specs.Kept.{shown, image_in}
 use Rattle.jfs_logfmt.specs.Written.{text_of}
-use Rattle.jfs_mount_disk.specs.logpages.specs.Fresh.{first_record}
-use Rattle.jfs_mount_disk.specs.logpages.specs.Group.{Holds, position_of}
-use Rattle.jfs_mount_disk.specs.logpages.specs.Ring.{fresh_text, fresh_ends}
+use Rattle.jfs_logpages.specs.Fresh.{first_record}
+use Rattle.jfs_logpages.specs.Group.{Holds, position_of}
+use Rattle.jfs_logpages.specs.Ring.{fresh_text, fresh_ends}
 use Rattle.jfs_mount_disk.specs.Begun.{marked_page, IsMarked, HasParts}
 use Rattle.jfs_volume.specs.halves.specs.Laws.{fresh_halves}
 use Rattle.jfs_volume.specs.halves.specs.Log.{LogParts, LogStandsFor}
@@ -23,15 +23,15 @@ use Rattle.jfs_disk.specs.declared.disk.Disk.{Ghosts}
 use Rattle.jfs_disk.specs.declared.disk.Fault.{Fault}
 use Rattle.jfs_disk.specs.declared.disk.Part.TheVariants.{Whole}
 use Rattle.jfs_volume.specs.meaning.specs.Image.{IsConsistentImage}
-use Rattle.jfs_mount_maps.specs.mount_rules.specs.Subject.{subject_of}
+use Rattle.jfs_mount.specs.Subject.{subject_of}
 use Rattle.jfs_super.specs.declared.fields.Geometry.{Geometry}
 use Rattle.jfs_volume.specs.bmap.specs.MapFile.{pages_of}
-use Rattle.jfs_volume.specs.map_files.specs.Files.{AreFilesOf}
+use Rattle.jfs_map_files.specs.Files.{AreFilesOf}
 use Rattle.jfs_mount_maps.specs.Maps.{blocks_on, AreAtRest, AreMapsOf, CarriesMaps}
 use Rattle.jfs_mount_maps.specs.declared.found.FoundMaps.{FoundMaps}
 use Rattle.jfs_mount_maps.specs.declared.found.MapsError.{MapsError}
 use Rattle.jfs_mount_maps.specs.declared.found.MapsError.TheVariants as found
-use Rattle.jfs_mount_disk.specs.logpages.specs.declared.log_side.LogSide.{LogSide}
+use Rattle.jfs_logpages.specs.declared.log_side.LogSide.{LogSide}
 use Rattle.jfs_mount_disk.specs.declared.ready.Begun.{Begun}
 use Rattle.jfs_mounted.specs.Laws.{SameButSuper, KeepsVolume}
 use Rattle.jfs_mounted.specs.Mount.{log_parts, refusal_of, LeavesLog}

@@ -9,7 +9,7 @@ use Rattle.jfs_volume.specs.meaning.specs.Readers.{readers}
 use Rattle.jfs_volume.specs.meaning.specs.Consistent.{IsConsistent}
 use Rattle.jfs_volume.specs.meaning.specs.Image.{tree_of, IsConsistentImage}
 use Rattle.jfs_volume.specs.meaning.specs.Image as meaning
-use Rattle.jfs_mount_maps.specs.mount_rules.specs.Subject.{subject_of}
+use Rattle.jfs_mount.specs.Subject.{subject_of}
 use Rattle.jfs_volume.specs.way.specs.Volume.{volume_of}
 use Rattle.jfs_volume.specs.way.specs.Walk.{tree_in}
 use Rattle.jfs_mount_maps.specs.Maps.{blocks_on, inodes_on}

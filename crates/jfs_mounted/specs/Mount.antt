@@ -12,14 +12,14 @@ use Rattle.jfs_super.specs.declared.fields.TheConstants.VolumeState.{MOUNTED}
 use Rattle.jfs_volume.specs.bmap.specs.States.{Blocks}
 use Rattle.jfs_volume.specs.imap.specs.Inodes.{Inodes}
 use Rattle.jfs_volume.specs.meaning.specs.Image.{IsConsistentImage}
-use Rattle.jfs_mount_maps.specs.mount_rules.specs.Subject.{subject_of}
-use Rattle.jfs_mount_maps.specs.mount_rules.specs.Mount.{broken_mount}
+use Rattle.jfs_mount.specs.Subject.{subject_of}
+use Rattle.jfs_mount.specs.Mount.{broken_mount}
 use Rattle.jfs_mount_maps.specs.Maps.{AreAtRest, AreMapsOf}
 use Rattle.jfs_mount_maps.specs.declared.found.FoundMaps.{FoundMaps}
 use Rattle.jfs_mount_maps.specs.declared.found.MapsError.{MapsError}
 use Rattle.jfs_mount_maps.specs.declared.found.MapsError.TheVariants as maps
-use Rattle.jfs_mount_disk.specs.logpages.specs.Fresh.{IsFreshLog}
-use Rattle.jfs_mount_disk.specs.logpages.specs.declared.log_side.LogSide.{LogSide}
+use Rattle.jfs_logpages.specs.Fresh.{IsFreshLog}
+use Rattle.jfs_logpages.specs.declared.log_side.LogSide.{LogSide}
 use Rattle.jfs_mount_disk.specs.Begun.{IsMarked, IsPartFault}
 use Rattle.jfs_mount_disk.specs.declared.ready.BeginError.{BeginError}
 use Rattle.jfs_mount_disk.specs.declared.ready.BeginError.TheVariants as begins

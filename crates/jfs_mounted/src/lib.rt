@@ -10,9 +10,3 @@ pub use law::{
 };
 pub use mounted::{MountError, MountRefused, Mounted};
 pub use mounting::mount;
-
-// libraries below, passed on
-pub use jfs_mount_maps as mount_maps;
-pub use jfs_mount_maps::{mount_rules, sets};
-pub use jfs_volume as volume;
-pub use jfs_volume::{bmap, halves, imap, kinds, map_files, meaning, objects, pages, plain, way};

@@ -2,7 +2,7 @@
 
 ghost use Rattle.std.specs.Prelude.{◌≡◌, ◌≤◌, ◌<◌, ◌-◌, ◌+◌, ◌*◌, ◌^◌, [], None, length, take, drop, IfOk, IfErr};
 ghost use Rattle.jfs_volume.specs.bmap.specs.MapFile.{pages_of};
-ghost use Rattle.jfs_volume.specs.map_files.specs.Files.{AreFilesOf};
+ghost use Rattle.jfs_map_files.specs.Files.{AreFilesOf};
 ghost use Rattle.jfs_mount_maps.specs.Maps.{IsIdle};
 ghost use Rattle.jfs_disk.specs.Image.{Image, page_of};
 ghost use Rattle.jfs_disk.specs.Crash.{last_of, AllSince, Leaves};
@@ -10,20 +10,20 @@ ghost use Rattle.jfs_disk.specs.Moment.{IsResting, now_of};
 ghost use Rattle.jfs_super.specs.Rules.{IsAccepted};
 ghost use Rattle.jfs_super.specs.Super.{super_of, FitsSuper};
 ghost use Rattle.jfs_super.specs.declared.fields.TheConstants.VolumeState.{CLEAN};
-ghost use Rattle.jfs_mount_disk.specs.logpages.specs.Group.{position_of};
-ghost use Rattle.jfs_mount_disk.specs.logpages.specs.Fresh.{OthersStay, IsFreshLog, IsPartlyFresh};
+ghost use Rattle.jfs_logpages.specs.Group.{position_of};
+ghost use Rattle.jfs_logpages.specs.Fresh.{OthersStay, IsFreshLog, IsPartlyFresh};
 ghost use Rattle.jfs_mount_disk.specs.Begun.{IsPartlyMarked, LeavesRest, LeavesLow};
 ghost use Rattle.jfs_volume.specs.Start.{StandsFresh};
 ghost use Rattle.jfs_mounted.specs.Mount.{log_parts, IsMountOf, IsMountCause, IsRefusal, IsBeforeCut, LeavesLog, refusal_of, failure_of};
 
 use crate::mounted::{MountError, MountRefused, Mounted};
 use jfs_disk::Disk;
+use jfs_map_files::Maps;
 use jfs_mount_disk::{BeginError, Begun, begin};
 use jfs_mount_maps::{FoundMaps, MapsError, find_maps_on};
+use jfs_pages::PageCache;
 use jfs_super::{Super, geometry};
 use jfs_volume::Volume;
-use jfs_volume::map_files::Maps;
-use jfs_volume::pages::PageCache;
 use std::alloc::Global;
 
 /// Mounts the volume of a disk in state 0, whose superblock is the one given: looks at the rules of a mount in their order and finds both maps, then cuts the disk before its log, makes the log a fresh one and

@@ -5,7 +5,6 @@ pub mod Law
 pub use Rattle.jfs_format.specs.bmap
 pub use Rattle.jfs_format as format
 pub use Rattle.jfs_format.specs.imap
-pub use Rattle.jfs_format.specs.logpages
 pub use Rattle.jfs_meaning as meaning
 pub use Rattle.jfs_meaning.specs.objects
 pub use Rattle.jfs_meaning.specs.plain

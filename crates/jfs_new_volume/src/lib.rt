@@ -4,9 +4,3 @@
 mod law;
 
 pub use law::{new_volume_has_room, new_volume_has_the_new_tree, new_volume_is_sound};
-
-// libraries below, passed on
-pub use jfs_format as format;
-pub use jfs_format::{bmap, imap, logpages};
-pub use jfs_meaning as meaning;
-pub use jfs_meaning::{objects, page_tree, plain};

@@ -6,14 +6,14 @@ use Rattle.std.specs.Option.{option_map}
 use Rattle.std.proofs.lemmas.List.{take_more, append-nil}
 use Rattle.std.proofs.lemmas.List.Concat.{flat_map-append}
 use Rattle.std.proofs.lemmas.Option.{slice_get-map, slice_get_within, get_or_from_slice_get}
-use Rattle.jfs_owners.specs.page_tree.specs.Walk.{Child, Node, Leaf, Inner, Broken}
-use Rattle.jfs_owners.specs.page_tree.specs.Spells.{no_page, with_root}
-use Rattle.jfs_owners.specs.page_tree.specs.Levels.{pages_below, level}
-use Rattle.jfs_owners.specs.page_tree.specs.Form.{AllBelow, as_child}
-use Rattle.jfs_owners.specs.page_tree.specs.Fresh.{AllPages, HasPages}
-use Rattle.jfs_owners.specs.page_tree.specs.Walking.{children_in}
-use Rattle.jfs_owners.specs.page_tree.specs.declared.form.Sibling.{Sibling}
-use Rattle.jfs_owners.specs.page_tree.proofs.Tops.{root_else}
+use Rattle.jfs_tree.specs.Walk.{Child, Node, Leaf, Inner, Broken}
+use Rattle.jfs_tree.specs.Spells.{no_page, with_root}
+use Rattle.jfs_tree.specs.Levels.{pages_below, level}
+use Rattle.jfs_tree.specs.Form.{AllBelow, as_child}
+use Rattle.jfs_tree.specs.Fresh.{AllPages, HasPages}
+use Rattle.jfs_tree.specs.Walking.{children_in}
+use Rattle.jfs_tree.specs.declared.form.Sibling.{Sibling}
+use Rattle.jfs_tree.proofs.Tops.{root_else}
 
 -- ---- pages below a bound
 

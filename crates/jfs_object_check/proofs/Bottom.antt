@@ -6,13 +6,13 @@ use Rattle.std.proofs.lemmas.List.{append-nil, map-append}
 use Rattle.std.proofs.lemmas.List.Concat.{flat_map-append}
 use Rattle.jfs_bits.specs.declared.extent.Xad.{Xad}
 use Rattle.jfs_bits.specs.declared.rule.Rule.TheVariants as rules
-use Rattle.jfs_owners.specs.page_tree.specs.Walk.{Child, Node, Leaf, Inner, Broken, Page, Key, Row, Fault, Marks, Scale, Rises, placed, under, body, walk, rows_of, times}
-use Rattle.jfs_owners.specs.page_tree.specs.Spells.{no_page, with_root, top, tree_of, spells}
-use Rattle.jfs_owners.specs.page_tree.specs.Levels.{pages_below, level}
-use Rattle.jfs_owners.specs.page_tree.proofs.Spelled.{stands}
-use Rattle.jfs_owners.specs.xtree.specs.Node.{xt_scale}
-use Rattle.jfs_owners.specs.objects.specs.Objects.{met}
-use Rattle.jfs_owners.specs.objects.specs.Owners.{run_has, covers}
+use Rattle.jfs_tree.specs.Walk.{Child, Node, Leaf, Inner, Broken, Page, Key, Row, Fault, Marks, Scale, Rises, placed, under, body, walk, rows_of, times}
+use Rattle.jfs_tree.specs.Spells.{no_page, with_root, top, tree_of, spells}
+use Rattle.jfs_tree.specs.Levels.{pages_below, level}
+use Rattle.jfs_tree.proofs.Spelled.{stands}
+use Rattle.jfs_xtree.specs.Node.{xt_scale}
+use Rattle.jfs_findings.specs.objects.specs.Objects.{met}
+use Rattle.jfs_findings.specs.objects.specs.Owners.{run_has, covers}
 use Rattle.jfs_owners.specs.Counts.{page_has}
 use Rattle.jfs_owners.proofs.Walked.{no_pages}
 use Rattle.jfs_object_check.specs.Lines.{rows_have, line_has, levels_have}

@@ -6,12 +6,12 @@ use Rattle.jfs_bits.specs.declared.extent.Xad.{Xad}
 use Rattle.jfs_bits.specs.declared.rule.Rule.{Rule}
 use Rattle.jfs_bits.specs.declared.rule.Rule.TheVariants as rules
 use Rattle.jfs_ranges.specs.declared.view.ViewError.{ViewError}
-use Rattle.jfs_owners.specs.page_tree.specs.Walk.{Page, Key, Row, Fault, Marks, Scale, rows_of}
-use Rattle.jfs_owners.specs.page_tree.specs.Spells.{no_page}
-use Rattle.jfs_owners.specs.page_tree.specs.Walking.{Meets, Stops}
-use Rattle.jfs_owners.specs.page_tree.specs.declared.form.TreeError.{TreeError}
-use Rattle.jfs_owners.specs.page_tree.specs.declared.form.TreeError.TheVariants.{View, Bad, Memory}
-use Rattle.jfs_owners.specs.findings.specs.Inodes.{blocks_in, pages_met}
+use Rattle.jfs_tree.specs.Walk.{Page, Key, Row, Fault, Marks, Scale, rows_of}
+use Rattle.jfs_tree.specs.Spells.{no_page}
+use Rattle.jfs_tree.specs.Walking.{Meets, Stops}
+use Rattle.jfs_tree.specs.declared.form.TreeError.{TreeError}
+use Rattle.jfs_tree.specs.declared.form.TreeError.TheVariants.{View, Bad, Memory}
+use Rattle.jfs_findings.specs.Inodes.{blocks_in, pages_met}
 use Rattle.jfs_object_check.specs.declared.tally.Tally.{Tally}
 use Rattle.jfs_object_check.specs.Tally.{less, with_page, with_extent, with_pages, with_tree}
 

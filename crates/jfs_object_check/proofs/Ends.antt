@@ -5,21 +5,21 @@ use Rattle.std.specs.declared.result.Result.TheVariants.{Ok, Err}
 use Rattle.jfs_bits.specs.declared.extent.Xad.{Xad}
 use Rattle.jfs_bits.specs.declared.rule.Rule.{Rule}
 use Rattle.jfs_inode.specs.declared.fields.Dinode.{Dinode}
-use Rattle.jfs_owners.specs.xtree.specs.Node.{xt_node, xt_scale, all_within}
+use Rattle.jfs_xtree.specs.Node.{xt_node, xt_scale, all_within}
 use Rattle.jfs_xtpage.specs.declared.head.XtForm.{XtForm}
 use Rattle.jfs_xtpage.specs.declared.head.XtForm.TheVariants as forms
-use Rattle.jfs_owners.specs.xtree.proofs.Adds.{has_pages}
-use Rattle.jfs_owners.specs.xtree.proofs.Reading.{leaf_is}
-use Rattle.jfs_owners.specs.page_tree.specs.Walk.{Node, Marks, Scale, rows_of}
-use Rattle.jfs_owners.specs.page_tree.specs.Spells.{footprint, tree_of}
-use Rattle.jfs_owners.specs.page_tree.specs.Fresh.{HasPages}
-use Rattle.jfs_owners.specs.page_tree.proofs.Judge.{judged}
-use Rattle.jfs_owners.specs.page_tree.proofs.Within.{footprint_within}
-use Rattle.jfs_owners.specs.objects.specs.Objects.{met, listed}
-use Rattle.jfs_owners.specs.objects.specs.Owners.{unless_broken, entries, covers}
-use Rattle.jfs_owners.specs.meaning.specs.Readers.{root_of}
-use Rattle.jfs_owners.specs.mount_rules.proofs.Range.{HasRows, tree_rows}
-use Rattle.jfs_owners.specs.findings.proofs.Fixed.{none_covered}
+use Rattle.jfs_xtree.proofs.Adds.{has_pages}
+use Rattle.jfs_xtree.proofs.Reading.{leaf_is}
+use Rattle.jfs_tree.specs.Walk.{Node, Marks, Scale, rows_of}
+use Rattle.jfs_tree.specs.Spells.{footprint, tree_of}
+use Rattle.jfs_tree.specs.Fresh.{HasPages}
+use Rattle.jfs_tree.proofs.Judge.{judged}
+use Rattle.jfs_tree.proofs.Within.{footprint_within}
+use Rattle.jfs_findings.specs.objects.specs.Objects.{met, listed}
+use Rattle.jfs_findings.specs.objects.specs.Owners.{unless_broken, entries, covers}
+use Rattle.jfs_findings.specs.meaning.specs.Readers.{root_of}
+use Rattle.jfs_findings.specs.mount_rules.proofs.Range.{HasRows, tree_rows}
+use Rattle.jfs_findings.proofs.Fixed.{none_covered}
 
 -- no page behind the end is met below a root
 pub none_met : {P E : Type 0} (s : Scale P E) (pages : ℕ → Node P E) (root : Node P E) (b blocks : ℕ) → HasPages blocks root → ((m : ℕ) → HasPages blocks (pages m)) → blocks ≤ b → met (tree_of s pages root) b ≡ 0

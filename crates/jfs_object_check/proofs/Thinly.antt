@@ -7,22 +7,22 @@ use Rattle.std.proofs.Math.Seq.{split_at, get_or-append_seam}
 use Rattle.std.proofs.lemmas.Bool.{cases_lt, eqb-true, ltb-true, lt-ltb, and_parts, and_from}
 use Rattle.jfs_bits.specs.declared.extent.Xad.{Xad}
 use Rattle.jfs_inode.specs.declared.fields.Dinode.{Dinode}
-use Rattle.jfs_owners.specs.page_tree.specs.Walk.{Node, Marks}
-use Rattle.jfs_owners.specs.page_tree.specs.Spells.{no_page, with_root, tree_of, spells}
-use Rattle.jfs_owners.specs.page_tree.specs.Levels.{entry_count, pages_below, level, IsThinIn}
-use Rattle.jfs_owners.specs.page_tree.specs.Form.{AllBelow}
-use Rattle.jfs_owners.specs.page_tree.specs.Fresh.{HasPages}
-use Rattle.jfs_owners.specs.page_tree.proofs.Tops.{root_else}
+use Rattle.jfs_tree.specs.Walk.{Node, Marks}
+use Rattle.jfs_tree.specs.Spells.{no_page, with_root, tree_of, spells}
+use Rattle.jfs_tree.specs.Levels.{entry_count, pages_below, level, IsThinIn}
+use Rattle.jfs_tree.specs.Form.{AllBelow}
+use Rattle.jfs_tree.specs.Fresh.{HasPages}
+use Rattle.jfs_tree.proofs.Tops.{root_else}
 use Rattle.jfs_xtpage.specs.declared.head.XtForm.TheVariants as forms
-use Rattle.jfs_owners.specs.xtree.specs.Node.{xt_scale, xt_node}
-use Rattle.jfs_owners.specs.xtree.specs.Spells.{page_nodes}
-use Rattle.jfs_owners.specs.xtree.proofs.Adds.{has_pages}
-use Rattle.jfs_owners.specs.objects.specs.Objects.{has_extents, extents_of, listed, spelled}
-use Rattle.jfs_owners.specs.meaning.specs.Readers.{readers, root_of}
-use Rattle.jfs_owners.specs.mount_rules.specs.Subject.{page_named}
-use Rattle.jfs_owners.specs.findings.specs.Gains.{Gains}
-use Rattle.jfs_owners.specs.findings.specs.declared.finding.Finding.{Finding}
-use Rattle.jfs_owners.specs.findings.specs.declared.finding.FindingKind.TheVariants as kinds
+use Rattle.jfs_xtree.specs.Node.{xt_scale, xt_node}
+use Rattle.jfs_xtree.specs.Spells.{page_nodes}
+use Rattle.jfs_xtree.proofs.Adds.{has_pages}
+use Rattle.jfs_findings.specs.objects.specs.Objects.{has_extents, extents_of, listed, spelled}
+use Rattle.jfs_findings.specs.meaning.specs.Readers.{readers, root_of}
+use Rattle.jfs_findings.specs.mount_rules.specs.Subject.{page_named}
+use Rattle.jfs_findings.specs.Gains.{Gains}
+use Rattle.jfs_findings.specs.declared.finding.Finding.{Finding}
+use Rattle.jfs_findings.specs.declared.finding.FindingKind.TheVariants as kinds
 use Rattle.jfs_object_check.specs.Steps.{Only}
 use Rattle.jfs_object_check.specs.Thin.{IsThinOf}
 use Rattle.jfs_object_check.specs.Lines.{Tells, IsThinOn, IsThinAbove, tree_nodes}

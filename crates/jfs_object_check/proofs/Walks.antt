@@ -4,16 +4,16 @@ use Rattle.std.specs.Prelude.{OnOk, IfErr}
 use Rattle.jfs_inode.specs.declared.fields.Dinode.{Dinode}
 use Rattle.jfs_dtpage.specs.declared.head.DtForm.TheVariants as names
 use Rattle.jfs_xtpage.specs.declared.head.XtForm.TheVariants as extents
-use Rattle.jfs_owners.specs.dtree.specs.Node.{name_scale, dt_node}
-use Rattle.jfs_owners.specs.xtree.specs.Node.{xt_scale, xt_node}
-use Rattle.jfs_owners.specs.page_tree.specs.Walk.{rows_of}
-use Rattle.jfs_owners.specs.page_tree.specs.Spells.{spells}
-use Rattle.jfs_owners.specs.page_tree.specs.Walking.{Meets, NamesFirst, ended}
-use Rattle.jfs_owners.specs.page_tree.specs.declared.form.TreeError.{TreeError}
-use Rattle.jfs_owners.specs.objects.specs.Objects.{has_names, has_extents, names_of, extents_of}
-use Rattle.jfs_owners.specs.meaning.specs.Readers.{readers, root_of}
+use Rattle.jfs_dtree.specs.Node.{name_scale, dt_node}
+use Rattle.jfs_xtree.specs.Node.{xt_scale, xt_node}
+use Rattle.jfs_tree.specs.Walk.{rows_of}
+use Rattle.jfs_tree.specs.Spells.{spells}
+use Rattle.jfs_tree.specs.Walking.{Meets, NamesFirst, ended}
+use Rattle.jfs_tree.specs.declared.form.TreeError.{TreeError}
+use Rattle.jfs_findings.specs.objects.specs.Objects.{has_names, has_extents, names_of, extents_of}
+use Rattle.jfs_findings.specs.meaning.specs.Readers.{readers, root_of}
 use Rattle.jfs_owners.specs.Held.{names_walk, extents_walk}
-use Rattle.jfs_owners.specs.findings.specs.Inodes.{pages_met}
+use Rattle.jfs_findings.specs.Inodes.{pages_met}
 use Rattle.jfs_object_check.specs.declared.tally.Tally.{Tally}
 use Rattle.jfs_object_check.specs.Tally.{with_page, with_extent, with_pages, with_tree}
 use Rattle.jfs_object_check.specs.Steps.{EndsAs}

@@ -5,16 +5,16 @@ ghost use Rattle.std.specs.List.{flat_map};
 ghost use Rattle.jfs_bits.specs.declared.extent.Xad.{Xad};
 ghost use Rattle.jfs_disk.specs.Image.{page_of};
 ghost use Rattle.jfs_ranges.specs.View.{CarriesCount};
-ghost use Rattle.jfs_owners.specs.page_tree.specs.Spells.{no_page};
-ghost use Rattle.jfs_owners.specs.page_tree.specs.Form.{AllBelow};
-ghost use Rattle.jfs_owners.specs.page_tree.specs.Levels.{pages_below};
+ghost use Rattle.jfs_tree.specs.Spells.{no_page};
+ghost use Rattle.jfs_tree.specs.Form.{AllBelow};
+ghost use Rattle.jfs_tree.specs.Levels.{pages_below};
 ghost use Rattle.jfs_xtpage.specs.Page.{bytes_of};
 ghost use Rattle.jfs_xtpage.specs.declared.head.XtForm.TheVariants.{Root};
-ghost use Rattle.jfs_owners.specs.xtree.specs.Node.{xt_scale};
-ghost use Rattle.jfs_owners.specs.xtree.specs.Spells.{page_nodes};
-ghost use Rattle.jfs_owners.specs.objects.specs.Objects.{extents_of, listed, spelled};
-ghost use Rattle.jfs_owners.specs.meaning.specs.Readers.{readers};
-ghost use Rattle.jfs_owners.specs.findings.specs.Gains.{Gains};
+ghost use Rattle.jfs_xtree.specs.Node.{xt_scale};
+ghost use Rattle.jfs_xtree.specs.Spells.{page_nodes};
+ghost use Rattle.jfs_findings.specs.objects.specs.Objects.{extents_of, listed, spelled};
+ghost use Rattle.jfs_findings.specs.meaning.specs.Readers.{readers};
+ghost use Rattle.jfs_findings.specs.Gains.{Gains};
 ghost use Rattle.jfs_owners.specs.Counts.{Adds};
 ghost use Rattle.jfs_owners.specs.Held.{extents_held};
 ghost use Rattle.jfs_object_check.specs.Thin.{IsThinOf};
@@ -22,13 +22,13 @@ ghost use Rattle.jfs_object_check.specs.Lines.{Tells, IsThinOn, IsThinAbove, IsT
 
 use crate::nodes::{count_node, count_page};
 use crate::note::note_if;
+use jfs_findings::{Finding, FindingKind};
 use jfs_inode::Dinode;
 use jfs_owners::Owners;
-use jfs_owners::findings::{Finding, FindingKind};
-use jfs_owners::reader::{has_extents, root_in};
-use jfs_owners::xtree::XtPages;
 use jfs_ranges::{PageView, ViewError};
+use jfs_reader::{has_extents, root_in};
 use jfs_xtpage::XtForm;
+use jfs_xtree::XtPages;
 use std::alloc::Global;
 
 /// Goes through the extent tree of inode `n`, which breaks no rule, if it has one. Counts its pages and the blocks of its extents, and adds a finding for each

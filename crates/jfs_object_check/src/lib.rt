@@ -18,9 +18,3 @@ pub use note::note_if;
 pub use object::{Soundness, check_object};
 pub use root::check_root;
 pub use trees::page_named;
-
-// libraries below, passed on
-pub use jfs_owners as owners;
-pub use jfs_owners::{
-    bmap, dtree, each, findings, meaning, mount_rules, objects, page_tree, plain, reader, xtree,
-};

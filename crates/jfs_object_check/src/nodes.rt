@@ -3,20 +3,20 @@
 ghost use Rattle.std.specs.Prelude.{◌≡◌, ◌<◌, ◌++◌, length, OnOk, IfOk};
 ghost use Rattle.jfs_disk.specs.Image.{page_of};
 ghost use Rattle.jfs_ranges.specs.View.{CarriesCount};
-ghost use Rattle.jfs_owners.specs.page_tree.specs.Form.{AllBelow};
-ghost use Rattle.jfs_owners.specs.page_tree.specs.Levels.{entry_count, pages_below};
-ghost use Rattle.jfs_owners.specs.page_tree.specs.Walking.{children_in, rows_in};
+ghost use Rattle.jfs_tree.specs.Form.{AllBelow};
+ghost use Rattle.jfs_tree.specs.Levels.{entry_count, pages_below};
+ghost use Rattle.jfs_tree.specs.Walking.{children_in, rows_in};
 ghost use Rattle.jfs_xtpage.specs.Page.{bytes_of};
-ghost use Rattle.jfs_owners.specs.xtree.specs.Node.{xt_node};
-ghost use Rattle.jfs_owners.specs.xtree.specs.Spells.{page_nodes};
+ghost use Rattle.jfs_xtree.specs.Node.{xt_node};
+ghost use Rattle.jfs_xtree.specs.Spells.{page_nodes};
 ghost use Rattle.jfs_owners.specs.Counts.{Adds};
 ghost use Rattle.jfs_object_check.specs.Lines.{rows_have, page_holds};
 
 use jfs_owners::Owners;
-use jfs_owners::page_tree::{PageRead, Shape};
-use jfs_owners::xtree::XtPages;
 use jfs_ranges::{PageView, ViewError};
+use jfs_tree::{PageRead, Shape};
 use jfs_xtpage::XtForm;
+use jfs_xtree::XtPages;
 use std::alloc::AllocError;
 
 /// How many entries page `n` has, none where it breaks a rule. It is counted, with the blocks of its extents, and the pages below it go behind those of a list.

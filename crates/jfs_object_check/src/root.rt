@@ -3,20 +3,20 @@
 ghost use Rattle.std.specs.Prelude.{◌≡◌, length, OnOk, IfOk};
 ghost use Rattle.jfs_disk.specs.Image.{page_of};
 ghost use Rattle.jfs_ranges.specs.View.{CarriesCount};
-ghost use Rattle.jfs_owners.specs.xtree.specs.Node.{xt_scale};
-ghost use Rattle.jfs_owners.specs.objects.specs.Objects.{listed};
+ghost use Rattle.jfs_xtree.specs.Node.{xt_scale};
+ghost use Rattle.jfs_findings.specs.objects.specs.Objects.{listed};
 ghost use Rattle.jfs_owners.specs.Held.{extents_walk};
-ghost use Rattle.jfs_owners.specs.findings.specs.Gains.{Gains};
-ghost use Rattle.jfs_owners.specs.findings.specs.declared.finding.FindingKind.TheVariants.{Xtree};
+ghost use Rattle.jfs_findings.specs.Gains.{Gains};
+ghost use Rattle.jfs_findings.specs.declared.finding.FindingKind.TheVariants.{Xtree};
 ghost use Rattle.jfs_object_check.specs.Steps.{IsBroken, IsSound};
 
 use crate::trees::settle;
+use jfs_findings::{Finding, FindingKind};
 use jfs_owners::Judge;
-use jfs_owners::findings::{Finding, FindingKind};
-use jfs_owners::page_tree::walk_tree;
-use jfs_owners::xtree::XtPages;
 use jfs_ranges::{PageView, ViewError};
+use jfs_tree::walk_tree;
 use jfs_xtpage::XtForm;
+use jfs_xtree::XtPages;
 
 /// Looks at the extent tree of a root in an inode, which stands on page `at`: its first broken rule is a finding, on the page that breaks it, or on `at` where the
 /// root does. Answers whether the tree breaks none. Each page of the tree is read once.

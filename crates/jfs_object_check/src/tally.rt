@@ -4,9 +4,9 @@ ghost use Rattle.std.specs.Prelude.{◌≡◌, ◌==◌, ◌-◌, nat_le, if◌t
 ghost use Rattle.jfs_object_check.specs.Tally.{less, tally_of, with_page, with_extent, is_met};
 
 use jfs_bits::Xad;
+use jfs_dtree::DirEntry;
 use jfs_inode::Dinode;
-use jfs_owners::dtree::DirEntry;
-use jfs_owners::page_tree::{NO_PAGE, Visitor};
+use jfs_tree::{NO_PAGE, Visitor};
 use std::alloc::AllocError;
 
 /// The blocks that an inode tells and that weren't met yet, and whether an extent begins behind its size.

@@ -4,31 +4,31 @@ ghost use Rattle.std.specs.Prelude.{◌≡◌, ◌==◌, if◌then◌else◌, On
 ghost use Rattle.jfs_disk.specs.Image.{page_of};
 ghost use Rattle.jfs_disk.specs.declared.disk.Fault.{Fault};
 ghost use Rattle.jfs_ranges.specs.View.{CarriesCount};
-ghost use Rattle.jfs_owners.specs.page_tree.specs.Call.{CarriesFault};
-ghost use Rattle.jfs_owners.specs.xtree.specs.Node.{xt_scale};
-ghost use Rattle.jfs_owners.specs.dtree.specs.Node.{name_scale};
-ghost use Rattle.jfs_owners.specs.objects.specs.Objects.{names_of, extents_of, listed};
-ghost use Rattle.jfs_owners.specs.objects.specs.Owners.{unless_broken, entries};
-ghost use Rattle.jfs_owners.specs.meaning.specs.Readers.{readers};
-ghost use Rattle.jfs_owners.specs.mount_rules.specs.Subject.{page_named};
-ghost use Rattle.jfs_owners.specs.findings.specs.Inodes.{pages_met};
-ghost use Rattle.jfs_owners.specs.findings.specs.Gains.{Gains};
-ghost use Rattle.jfs_owners.specs.page_tree.specs.Walk.{rows_of};
-ghost use Rattle.jfs_owners.specs.findings.specs.declared.finding.FindingKind.TheVariants.{Xtree, Dtree};
+ghost use Rattle.jfs_tree.specs.Call.{CarriesFault};
+ghost use Rattle.jfs_xtree.specs.Node.{xt_scale};
+ghost use Rattle.jfs_dtree.specs.Node.{name_scale};
+ghost use Rattle.jfs_findings.specs.objects.specs.Objects.{names_of, extents_of, listed};
+ghost use Rattle.jfs_findings.specs.objects.specs.Owners.{unless_broken, entries};
+ghost use Rattle.jfs_findings.specs.meaning.specs.Readers.{readers};
+ghost use Rattle.jfs_findings.specs.mount_rules.specs.Subject.{page_named};
+ghost use Rattle.jfs_findings.specs.Inodes.{pages_met};
+ghost use Rattle.jfs_findings.specs.Gains.{Gains};
+ghost use Rattle.jfs_tree.specs.Walk.{rows_of};
+ghost use Rattle.jfs_findings.specs.declared.finding.FindingKind.TheVariants.{Xtree, Dtree};
 ghost use Rattle.jfs_object_check.specs.Tally.{with_pages, with_tree};
 ghost use Rattle.jfs_object_check.specs.Steps.{EndsAs, Settles, IsBroken, IsSound};
 
 use crate::note::note_if;
 use crate::tally::Tally;
 use jfs_dtpage::DtForm;
+use jfs_dtree::DtPages;
+use jfs_findings::{Finding, FindingKind};
 use jfs_inode::Dinode;
-use jfs_owners::dtree::DtPages;
-use jfs_owners::findings::{Finding, FindingKind};
-use jfs_owners::page_tree::{NO_PAGE, TreeError, walk_tree};
-use jfs_owners::reader::{has_extents, has_names, root_in};
-use jfs_owners::xtree::XtPages;
 use jfs_ranges::{PageView, ViewError};
+use jfs_reader::{has_extents, has_names, root_in};
+use jfs_tree::{NO_PAGE, TreeError, walk_tree};
 use jfs_xtpage::XtForm;
+use jfs_xtree::XtPages;
 
 /// A page of a tree whose inode stands on page `at`; a root stands there.
 pub fn page_named(at: u32, page: u32) -> u32

@@ -7,6 +7,3 @@ pub use law::{
     data_changes_no_object, inode_extent_changes_nothing, objects_are_framed, one_object_goes,
     one_object_is_set, owners_are_single,
 };
-
-// libraries below, passed on
-pub use jfs_tree as page_tree;

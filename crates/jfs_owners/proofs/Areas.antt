@@ -3,7 +3,7 @@ use Rattle.std.proofs.Common.{◌≡◌, ◌∙◌, refl, ap, subst, ℕ, ◌+�
 use Rattle.jfs_bits.specs.declared.extent.Xad.{Xad}
 use Rattle.jfs_bits.specs.declared.descriptor.Pxd.{Pxd}
 use Rattle.jfs_disk.specs.Image.{Image, page_of}
-use Rattle.jfs_findings.specs.page_tree.specs.Walk.{Marks}
+use Rattle.jfs_tree.specs.Walk.{Marks}
 use Rattle.jfs_findings.specs.objects.specs.Readers.{Readers}
 use Rattle.jfs_findings.specs.objects.specs.Owners.{run_has}
 use Rattle.jfs_findings.specs.objects.specs.Image.{aggregate_at, file_walk, file_has, area_on}

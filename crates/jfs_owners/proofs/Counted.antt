@@ -7,7 +7,7 @@ use Rattle.jfs_bits.specs.declared.descriptor.Pxd.{Pxd}
 use Rattle.jfs_bits.specs.Bits.{is_taken}
 use Rattle.jfs_iag.proofs.Maps.{zeros-clear}
 use Rattle.jfs_bits.specs.declared.extent.Dxd.{Dxd}
-use Rattle.jfs_findings.specs.page_tree.specs.Spells.{no_page}
+use Rattle.jfs_tree.specs.Spells.{no_page}
 use Rattle.jfs_owners.specs.Counts.{OwnerSets, Counts, Adds, page_has}
 use Rattle.jfs_findings.specs.objects.specs.Owners.{run_has, dxd_has}
 

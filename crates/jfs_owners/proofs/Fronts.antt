@@ -4,11 +4,11 @@ use Rattle.std.specs.Prelude.{IfOk}
 use Rattle.jfs_bits.specs.declared.extent.Xad.{Xad}
 use Rattle.jfs_bits.specs.declared.rule.Rule.{Rule}
 use Rattle.jfs_ranges.specs.declared.view.ViewError.{ViewError}
-use Rattle.jfs_findings.specs.page_tree.specs.Walk.{Page, Key, Row, Fault, Marks, Scale}
-use Rattle.jfs_findings.specs.page_tree.specs.Walking.{Meets, ended}
-use Rattle.jfs_findings.specs.page_tree.specs.declared.form.TreeError.{TreeError}
-use Rattle.jfs_findings.specs.page_tree.specs.declared.form.TreeError.TheVariants.{View, Bad, Memory}
-use Rattle.jfs_findings.specs.xtree.specs.Node.{xt_scale}
+use Rattle.jfs_tree.specs.Walk.{Page, Key, Row, Fault, Marks, Scale}
+use Rattle.jfs_tree.specs.Walking.{Meets, ended}
+use Rattle.jfs_tree.specs.declared.form.TreeError.{TreeError}
+use Rattle.jfs_tree.specs.declared.form.TreeError.TheVariants.{View, Bad, Memory}
+use Rattle.jfs_xtree.specs.Node.{xt_scale}
 use Rattle.jfs_findings.specs.objects.specs.Owners.{covers, run_has}
 use Rattle.jfs_owners.specs.Counts.{OwnerSets, Adds, page_has}
 use Rattle.jfs_owners.specs.Held.{front, extents_front, SeesFront}

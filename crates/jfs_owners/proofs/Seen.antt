@@ -3,12 +3,12 @@ use Rattle.std.proofs.Common.{◌≡◌, sym, ◌∙◌, refl, subst, ℕ, Bool,
 use Rattle.jfs_bits.specs.declared.rule.Rule.{Rule}
 use Rattle.jfs_disk.specs.Image.{Image}
 use Rattle.jfs_ranges.specs.declared.view.ViewError.{ViewError}
-use Rattle.jfs_findings.specs.page_tree.specs.Walk.{Node, Scale, rows_of}
-use Rattle.jfs_findings.specs.page_tree.specs.Spells.{tree_of, spells}
-use Rattle.jfs_findings.specs.page_tree.specs.Call.{pages_of}
-use Rattle.jfs_findings.specs.page_tree.specs.Walking.{Meets, NamesFirst}
-use Rattle.jfs_findings.specs.page_tree.specs.declared.form.TreeError.{TreeError}
-use Rattle.jfs_findings.specs.page_tree.specs.declared.form.TreeError.TheVariants.{View, Bad, Memory}
+use Rattle.jfs_tree.specs.Walk.{Node, Scale, rows_of}
+use Rattle.jfs_tree.specs.Spells.{tree_of, spells}
+use Rattle.jfs_tree.specs.Call.{pages_of}
+use Rattle.jfs_tree.specs.Walking.{Meets, NamesFirst}
+use Rattle.jfs_tree.specs.declared.form.TreeError.{TreeError}
+use Rattle.jfs_tree.specs.declared.form.TreeError.TheVariants.{View, Bad, Memory}
 use Rattle.jfs_findings.specs.objects.specs.Objects.{listed}
 use Rattle.jfs_owners.specs.Held.{Sees, HandsOn}
 

@@ -5,13 +5,13 @@ use Rattle.jfs_bits.specs.declared.extent.Xad.{Xad}
 use Rattle.jfs_disk.specs.Image.{Image, page_of}
 use Rattle.jfs_inode.specs.declared.fields.Dinode.{Dinode}
 use Rattle.jfs_name.specs.declared.name.NameEntry.{NameEntry}
-use Rattle.jfs_findings.specs.page_tree.specs.Walk.{Marks, rows_of}
-use Rattle.jfs_findings.specs.page_tree.specs.Spells.{tree_of}
-use Rattle.jfs_findings.specs.page_tree.specs.Call.{pages_of}
+use Rattle.jfs_tree.specs.Walk.{Marks, rows_of}
+use Rattle.jfs_tree.specs.Spells.{tree_of}
+use Rattle.jfs_tree.specs.Call.{pages_of}
 use Rattle.jfs_xtpage.specs.declared.head.XtForm.TheVariants as extents
-use Rattle.jfs_findings.specs.xtree.specs.Node.{xt_scale, xt_node}
+use Rattle.jfs_xtree.specs.Node.{xt_scale, xt_node}
 use Rattle.jfs_dtpage.specs.declared.head.DtForm.TheVariants as names
-use Rattle.jfs_findings.specs.dtree.specs.Node.{name_scale, dt_node}
+use Rattle.jfs_dtree.specs.Node.{name_scale, dt_node}
 use Rattle.jfs_findings.specs.objects.specs.Objects.{met, listed, has_extents, names_of, extents_of, spelled}
 use Rattle.jfs_findings.specs.objects.specs.Owners.{unless_broken, entries, covers, run_has, holds}
 use Rattle.jfs_findings.specs.meaning.specs.Readers.{readers}

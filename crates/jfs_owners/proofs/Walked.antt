@@ -1,11 +1,11 @@
 -- What a walk counts that counts each page and each entry.
 use Rattle.std.proofs.Common.{◌≡◌, inl, inr, refl, ℕ, ◌+◌, Bool, true, false, ◌==◌, if◌then◌else◌, List, [], ◌∷◌, Result, Ok, Err, arith}
-use Rattle.jfs_findings.specs.page_tree.specs.Walk.{Page, Key, Row, Fault, Marks, Scale, rows_of, times}
-use Rattle.jfs_findings.specs.page_tree.specs.Spells.{no_page}
-use Rattle.jfs_findings.specs.page_tree.specs.Walking.{Stops, Meets}
+use Rattle.jfs_tree.specs.Walk.{Page, Key, Row, Fault, Marks, Scale, rows_of, times}
+use Rattle.jfs_tree.specs.Spells.{no_page}
+use Rattle.jfs_tree.specs.Walking.{Stops, Meets}
 use Rattle.jfs_bits.specs.declared.rule.Rule.{Rule}
-use Rattle.jfs_findings.specs.page_tree.specs.declared.form.TreeError.{TreeError}
-use Rattle.jfs_findings.specs.page_tree.specs.declared.form.TreeError.TheVariants.{View, Bad, Memory}
+use Rattle.jfs_tree.specs.declared.form.TreeError.{TreeError}
+use Rattle.jfs_tree.specs.declared.form.TreeError.TheVariants.{View, Bad, Memory}
 use Rattle.jfs_owners.specs.Counts.{OwnerSets, Adds, page_has}
 use Rattle.jfs_findings.specs.objects.specs.Objects.{met}
 use Rattle.jfs_owners.proofs.Counted.{adds_none, adds_both}

@@ -1,7 +1,7 @@
 -- How often blocks were counted, told by two bits a block.
 use Rattle.std.specs.Prelude.{◌≡◌, ◌<◌, ◌≤◌, ℕ, ◌+◌, ◌*◌, ◌%◌, ◌==◌, nat_lt, true, List, length, if◌then◌else◌}
 use Rattle.jfs_bits.specs.Bits.{is_taken}
-use Rattle.jfs_findings.specs.page_tree.specs.Spells.{no_page}
+use Rattle.jfs_tree.specs.Spells.{no_page}
 
 -- for each of so many blocks a bit whether it has an owner, and one whether it has two or more
 pub record OwnerSets : Type 0 where

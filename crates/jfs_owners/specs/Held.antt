@@ -7,15 +7,15 @@ use Rattle.jfs_inode.specs.declared.fields.Dinode.{Dinode}
 use Rattle.jfs_name.specs.declared.name.NameEntry.{NameEntry}
 use Rattle.jfs_ranges.specs.declared.view.ViewError.{ViewError}
 use Rattle.jfs_ranges.specs.declared.view.ViewError.TheVariants as view
-use Rattle.jfs_findings.specs.page_tree.specs.Walk.{Page, Key, Row, Fault, Marks, Scale, rows_of}
-use Rattle.jfs_findings.specs.page_tree.specs.Spells.{tree_of}
-use Rattle.jfs_findings.specs.page_tree.specs.Walking.{Meets}
-use Rattle.jfs_findings.specs.page_tree.specs.declared.form.TreeError.{TreeError}
-use Rattle.jfs_findings.specs.page_tree.specs.declared.form.TreeError.TheVariants.{View, Bad, Memory}
+use Rattle.jfs_tree.specs.Walk.{Page, Key, Row, Fault, Marks, Scale, rows_of}
+use Rattle.jfs_tree.specs.Spells.{tree_of}
+use Rattle.jfs_tree.specs.Walking.{Meets}
+use Rattle.jfs_tree.specs.declared.form.TreeError.{TreeError}
+use Rattle.jfs_tree.specs.declared.form.TreeError.TheVariants.{View, Bad, Memory}
 use Rattle.jfs_xtpage.specs.declared.head.XtForm.TheVariants as extents
-use Rattle.jfs_findings.specs.xtree.specs.Node.{xt_scale, xt_node}
+use Rattle.jfs_xtree.specs.Node.{xt_scale, xt_node}
 use Rattle.jfs_dtpage.specs.declared.head.DtForm.TheVariants as names
-use Rattle.jfs_findings.specs.dtree.specs.Node.{name_scale, dt_node}
+use Rattle.jfs_dtree.specs.Node.{name_scale, dt_node}
 use Rattle.jfs_findings.specs.objects.specs.Readers.{Readers}
 use Rattle.jfs_findings.specs.objects.specs.Volume.{Volume}
 use Rattle.jfs_findings.specs.objects.specs.Objects.{objects, met, listed}

@@ -4,15 +4,3 @@ pub mod Held
 pub mod Shared
 -- blocks that a count passes over
 pub mod Passed
--- libraries below, passed on
-pub use Rattle.jfs_findings.specs.bmap
-pub use Rattle.jfs_findings.specs.dtree
-pub use Rattle.jfs_findings.specs.each
-pub use Rattle.jfs_findings as findings
-pub use Rattle.jfs_findings.specs.meaning
-pub use Rattle.jfs_findings.specs.mount_rules
-pub use Rattle.jfs_findings.specs.objects
-pub use Rattle.jfs_findings.specs.plain
-pub use Rattle.jfs_findings.specs.reader
-pub use Rattle.jfs_findings.specs.page_tree
-pub use Rattle.jfs_findings.specs.xtree

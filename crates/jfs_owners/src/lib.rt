@@ -14,9 +14,3 @@ mod words;
 pub use owners::Owners;
 pub use shown::Judge;
 pub use words::count_taken;
-
-// libraries below, passed on
-pub use jfs_findings as findings;
-pub use jfs_findings::{
-    bmap, dtree, each, meaning, mount_rules, objects, page_tree, plain, reader, xtree,
-};

@@ -2,13 +2,13 @@
 
 ghost use Rattle.std.specs.Prelude.{◌≡◌, length, List, true, Ok, IfOk};
 ghost use Rattle.jfs_ranges.specs.View.{CarriesCount};
-ghost use Rattle.jfs_findings.specs.page_tree.specs.Spells.{tree_of};
-ghost use Rattle.jfs_findings.specs.page_tree.specs.Call.{pages_of};
+ghost use Rattle.jfs_tree.specs.Spells.{tree_of};
+ghost use Rattle.jfs_tree.specs.Call.{pages_of};
 ghost use Rattle.jfs_findings.specs.objects.specs.Objects.{listed};
 ghost use Rattle.jfs_owners.specs.Held.{Sees, SeesFront, HandsOn};
 
-use jfs_findings::page_tree::{PageRead, TreeError, Visitor, walk_tree};
 use jfs_ranges::{PageView, ViewError};
+use jfs_tree::{PageRead, TreeError, Visitor, walk_tree};
 use std::alloc::AllocError;
 
 /// A visitor that keeps nothing: for a walk that looks at a tree for its rules alone.

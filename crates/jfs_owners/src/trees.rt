@@ -4,7 +4,7 @@ ghost use Rattle.std.specs.Prelude.{◌≡◌, length, List, Ok, IfOk};
 ghost use Rattle.jfs_bits.specs.declared.extent.Xad.{Xad};
 ghost use Rattle.jfs_disk.specs.Image.{page_of};
 ghost use Rattle.jfs_ranges.specs.View.{CarriesCount};
-ghost use Rattle.jfs_findings.specs.xtree.specs.Node.{xt_scale};
+ghost use Rattle.jfs_xtree.specs.Node.{xt_scale};
 ghost use Rattle.jfs_findings.specs.objects.specs.Objects.{listed};
 ghost use Rattle.jfs_findings.specs.objects.specs.Owners.{run_has};
 ghost use Rattle.jfs_owners.specs.Counts.{Adds, page_has};
@@ -14,11 +14,11 @@ use crate::owners::Owners;
 use crate::shown::{show_sound, show_tree};
 use jfs_bits::{Pxd, Xad};
 use jfs_dtpage::DtForm;
-use jfs_findings::dtree::{DirEntry, DtPages};
-use jfs_findings::page_tree::{NO_PAGE, Visitor};
-use jfs_findings::xtree::XtPages;
+use jfs_dtree::{DirEntry, DtPages};
 use jfs_ranges::{PageView, ViewError};
+use jfs_tree::{NO_PAGE, Visitor};
 use jfs_xtpage::XtForm;
+use jfs_xtree::XtPages;
 use std::alloc::AllocError;
 
 impl Visitor<Xad> for Owners {

@@ -1,15 +1,15 @@
 -- A path's names before the last one are walked, and then the last one has its place.
 use Rattle.std.proofs.Common.{◌≡◌, ◌≤◌, ◌<◌, length, arith, refl, sym, ap, ◌∙◌, subst, inl, inr, ℕ, Bool, true, false, if◌then◌else◌, List, [], ◌∷◌, ◌++◌, Option, Some, None, Result, Ok, Err}
 use Rattle.std.specs.Prelude.{get_or}
-use Rattle.jfs_way.specs.imap.specs.Inodes.{Inodes}
+use Rattle.jfs_imap.specs.Inodes.{Inodes}
 use Rattle.jfs_name.specs.Directory.{named}
 use Rattle.jfs_way.specs.objects.specs.Objects.{has_names}
 use Rattle.jfs_way.specs.page_tree.specs.Spells.{no_page}
-use Rattle.jfs_way.specs.plain.specs.Tree as plain
-use Rattle.jfs_way.specs.plain.specs.Tree.{Tree, Place, root, is_dir, and_then, enter, enter_from, wanted, walk, place, place_at, place_as, in_directory, at_place, named_in}
-use Rattle.jfs_way.specs.plain.specs.declared.node.Node.{Node}
-use Rattle.jfs_way.specs.plain.specs.declared.refusal.Refusal.{Refusal}
-use Rattle.jfs_way.specs.plain.specs.declared.refusal.Refusal.TheVariants.{NotFound, NotDir}
+use Rattle.jfs_plain.specs.Tree as plain
+use Rattle.jfs_plain.specs.Tree.{Tree, Place, root, is_dir, and_then, enter, enter_from, wanted, walk, place, place_at, place_as, in_directory, at_place, named_in}
+use Rattle.jfs_plain.specs.declared.node.Node.{Node}
+use Rattle.jfs_plain.specs.declared.refusal.Refusal.{Refusal}
+use Rattle.jfs_plain.specs.declared.refusal.Refusal.TheVariants.{NotFound, NotDir}
 use Rattle.jfs_way.specs.Answer.{Answers, Follows}
 use Rattle.jfs_way.specs.Way.{inode_at, name_from, path_from, path_of}
 use Rattle.jfs_way.specs.Walk.{IsThere, IsOf}

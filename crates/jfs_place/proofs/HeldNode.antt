@@ -1,13 +1,13 @@
 -- The node that a held inode is in the tree of a consistent volume.
 use Rattle.std.proofs.Common.{◌≡◌, refl, sym, ap, ◌∙◌, ℕ, ◌%◌, Bool, true, false, if◌then◌else◌, List, [], map, Option, Some, None, Result, Err}
 use Rattle.jfs_inode.specs.declared.fields.Dinode.{Dinode}
-use Rattle.jfs_way.specs.imap.specs.Inodes.{Inodes}
+use Rattle.jfs_imap.specs.Inodes.{Inodes}
 use Rattle.jfs_way.specs.bmap.specs.States.{Blocks}
 use Rattle.jfs_name.specs.Directory.{named}
-use Rattle.jfs_way.specs.plain.specs.Tree.{is_dir, enter_from, wanted}
-use Rattle.jfs_way.specs.plain.specs.declared.node.Node.{Node}
-use Rattle.jfs_way.specs.plain.specs.declared.refusal.Refusal.{Refusal}
-use Rattle.jfs_way.specs.plain.specs.declared.refusal.Refusal.TheVariants.{NotDir}
+use Rattle.jfs_plain.specs.Tree.{is_dir, enter_from, wanted}
+use Rattle.jfs_plain.specs.declared.node.Node.{Node}
+use Rattle.jfs_plain.specs.declared.refusal.Refusal.{Refusal}
+use Rattle.jfs_plain.specs.declared.refusal.Refusal.TheVariants.{NotDir}
 use Rattle.jfs_way.specs.objects.specs.Readers.{Readers}
 use Rattle.jfs_way.specs.objects.specs.Volume.{Volume, home, slot_of}
 use Rattle.jfs_way.specs.objects.specs.Objects.{Object, spelled, has_names}

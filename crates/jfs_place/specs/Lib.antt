@@ -1,4 +1,2 @@
 -- what the clauses say
 pub mod Place
-
--- libraries below, passed on

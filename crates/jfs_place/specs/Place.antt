@@ -1,11 +1,11 @@
 -- The place of a path's last name on a volume, and what stands there. (POSIX: path resolution.)
 use Rattle.std.specs.Prelude.{◌≡◌, ◌⊎◌, ℕ, true, if◌then◌else◌, List, [], ◌∷◌, Option, Some, None, Result, Ok, Err}
-use Rattle.jfs_way.specs.imap.specs.Inodes.{Inodes}
+use Rattle.jfs_imap.specs.Inodes.{Inodes}
 use Rattle.jfs_way.specs.page_tree.specs.Spells.{no_page}
 use Rattle.jfs_way.specs.objects.specs.Objects.{has_names}
-use Rattle.jfs_way.specs.plain.specs.Tree.{Tree, root, and_then, place, place_as, place_at, at_place}
-use Rattle.jfs_way.specs.plain.specs.declared.refusal.Refusal.{Refusal}
-use Rattle.jfs_way.specs.plain.specs.declared.refusal.Refusal.TheVariants.{NotFound, NotDir, Exists}
+use Rattle.jfs_plain.specs.Tree.{Tree, root, and_then, place, place_as, place_at, at_place}
+use Rattle.jfs_plain.specs.declared.refusal.Refusal.{Refusal}
+use Rattle.jfs_plain.specs.declared.refusal.Refusal.TheVariants.{NotFound, NotDir, Exists}
 use Rattle.jfs_way.specs.Answer.{is_open, Answers}
 use Rattle.jfs_way.specs.Way.{inode_at, name_from}
 use Rattle.jfs_way.specs.Walk.{IsThere}

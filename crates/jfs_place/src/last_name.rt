@@ -3,16 +3,16 @@
 ghost use Rattle.std.specs.Prelude.{◌≡◌, ◌≤◌, ◌<◌, ℕ, [], true, length, get_or, IfOk, IfErr, IfSome};
 ghost use Rattle.jfs_disk.specs.Image.{page_of};
 ghost use Rattle.jfs_way.specs.objects.specs.Objects.{has_names};
-ghost use Rattle.jfs_way.specs.plain.specs.Tree.{place, place_as};
+ghost use Rattle.jfs_plain.specs.Tree.{place, place_as};
 ghost use Rattle.jfs_way.specs.Answer.{Carries};
 ghost use Rattle.jfs_way.specs.Walk.{IsHeld, IsShown, IfConsistent, IsThere};
 ghost use Rattle.jfs_place.specs.Place.{place_on, OrOpen, occupant_at, IsPlaceOf, StandsAt, MeetsPlace, MeetsOccupant};
 
+use jfs_imap::InodeMap;
 use jfs_name::Name;
+use jfs_plain::Refusal;
 use jfs_ranges::PageView;
-use jfs_way::imap::InodeMap;
-use jfs_way::plain::Refusal;
-use jfs_way::reader::has_names;
+use jfs_reader::has_names;
 use jfs_way::{Held, enter, walk};
 
 /// The directory in which the last name of a path stands or could stand, and that name. `Exists` for the root, whose path has no name; else a refusal is that of the names before the

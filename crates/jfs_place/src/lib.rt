@@ -4,5 +4,3 @@
 mod last_name;
 
 pub use last_name::{occupant, place};
-
-// libraries below, passed on

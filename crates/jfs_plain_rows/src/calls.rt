@@ -2,7 +2,7 @@
 
 use crate::scripts::{script_of, spelled};
 use jfs_name::Path;
-use jfs_script::plain::Call;
+use jfs_plain::Call;
 use std::alloc::{AllocError, Global};
 use std::test::*;
 

@@ -3,7 +3,7 @@
 use crate::tree::first_wrong_of;
 use jfs_bits::Moment;
 use jfs_name::{Name, NameEntry};
-use jfs_script::plain::{Call, Node, PlainTree, Refusal, why_short};
+use jfs_plain::{Call, Node, PlainTree, Refusal, why_short};
 use std::alloc::{AllocError, Global};
 use std::test::*;
 

@@ -2,7 +2,7 @@
 
 use jfs_io::SureSource;
 use jfs_name::{Path, write_name};
-use jfs_script::plain::Line;
+use jfs_plain::Line;
 use jfs_script::{ScriptError, read_script};
 use std::alloc::{AllocError, Global};
 

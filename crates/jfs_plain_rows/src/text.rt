@@ -3,7 +3,7 @@
 use jfs_bits::{Blob, Moment, Rule};
 use jfs_disk::{Fault, Part};
 use jfs_name::{Name, NameEntry, NameList};
-use jfs_script::plain::{Call, Entry, NodeKind, Refusal, Reply, Stat};
+use jfs_plain::{Call, Entry, NodeKind, Refusal, Reply, Stat};
 use jfs_script::write_entry;
 use std::alloc::{AllocError, Global};
 use std::test::*;

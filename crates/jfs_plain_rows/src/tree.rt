@@ -2,7 +2,7 @@
 
 use crate::scripts::script_of;
 use jfs_bits::Moment;
-use jfs_script::plain::{Call, Entry, PlainTree, Reply};
+use jfs_plain::{Call, Entry, PlainTree, Reply};
 use jfs_script::write_entry;
 use std::alloc::{AllocError, Global};
 use std::test::*;

@@ -1,17 +1,17 @@
 -- Two parts of a tree, one beside the other, that are written one after the other.
 use Rattle.std.proofs.Common.{◌≡◌, ◌≤◌, ◌<◌, refl, sym, ap, ◌∙◌, ℕ, ◌+◌, List, [], ◌++◌, Option, Some, arith}
 use Rattle.jfs_bits.specs.declared.extent.Xad.{Xad}
-use Rattle.jfs_written.specs.page_tree.specs.Walk.{Child, Marks, Rises, rows_of, times}
-use Rattle.jfs_written.specs.page_tree.specs.Edit.{count_in}
-use Rattle.jfs_written.specs.page_tree.proofs.Frame.{times-append, rows-append}
-use Rattle.jfs_written.specs.page_tree.proofs.Rising.{rises_join}
-use Rattle.jfs_written.specs.page_tree.proofs.Steps.{untouched}
+use Rattle.jfs_tree.specs.Walk.{Child, Marks, Rises, rows_of, times}
+use Rattle.jfs_tree.specs.Edit.{count_in}
+use Rattle.jfs_tree.proofs.Frame.{times-append, rows-append}
+use Rattle.jfs_tree.proofs.Rising.{rises_join}
+use Rattle.jfs_tree.proofs.Steps.{untouched}
 use Rattle.jfs_xtpage.specs.declared.head.XtForm.TheVariants.{Full}
-use Rattle.jfs_written.specs.xtree.specs.Laws.{order}
-use Rattle.jfs_written.specs.xtree.specs.Node.{xt_scale, xt_node, BeginsAt}
-use Rattle.jfs_written.specs.xtree.specs.Spells.{page_nodes}
-use Rattle.jfs_written.specs.xtree.specs.Cutting.{kept_below}
-use Rattle.jfs_written.specs.xtree.specs.Writing.{kept_from}
+use Rattle.jfs_xtree.specs.Laws.{order}
+use Rattle.jfs_xtree.specs.Node.{xt_scale, xt_node, BeginsAt}
+use Rattle.jfs_xtree.specs.Spells.{page_nodes}
+use Rattle.jfs_xtree.specs.Cutting.{kept_below}
+use Rattle.jfs_xtree.specs.Writing.{kept_from}
 use Rattle.jfs_written.specs.Range.{with_range}
 use Rattle.jfs_written.proofs.Sides.{writes_each_side}
 use Rattle.jfs_put_range.specs.Parts.{Wrote, parts_below}

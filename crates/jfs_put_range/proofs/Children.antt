@@ -5,24 +5,24 @@ use Rattle.std.proofs.lemmas.Bool.{leb-false}
 use Rattle.std.proofs.lemmas.List.{length-append}
 use Rattle.std.proofs.lemmas.List.Concat.{flat_map-append}
 use Rattle.jfs_bits.specs.declared.extent.Xad.{Xad}
-use Rattle.jfs_written.specs.page_tree.specs.Walk.{Child, Rises, under, walk}
-use Rattle.jfs_written.specs.page_tree.specs.Edit.{count_in}
-use Rattle.jfs_written.specs.page_tree.specs.Form.{as_child, children_of}
-use Rattle.jfs_written.specs.page_tree.specs.declared.form.Sibling.{Sibling}
-use Rattle.jfs_written.specs.page_tree.specs.declared.form.TreeError.{TreeError}
-use Rattle.jfs_written.specs.page_tree.specs.declared.form.TreeError.TheVariants.{View, Bad, Memory}
-use Rattle.jfs_written.specs.page_tree.proofs.Between.{append_nil}
-use Rattle.jfs_written.specs.page_tree.proofs.Keys.{walk_strict}
-use Rattle.jfs_written.specs.page_tree.proofs.Split.{children_part}
+use Rattle.jfs_tree.specs.Walk.{Child, Rises, under, walk}
+use Rattle.jfs_tree.specs.Edit.{count_in}
+use Rattle.jfs_tree.specs.Form.{as_child, children_of}
+use Rattle.jfs_tree.specs.declared.form.Sibling.{Sibling}
+use Rattle.jfs_tree.specs.declared.form.TreeError.{TreeError}
+use Rattle.jfs_tree.specs.declared.form.TreeError.TheVariants.{View, Bad, Memory}
+use Rattle.jfs_tree.proofs.Between.{append_nil}
+use Rattle.jfs_tree.proofs.Keys.{walk_strict}
+use Rattle.jfs_tree.proofs.Split.{children_part}
 use Rattle.jfs_xtpage.specs.Page.{end_of, rises_from}
-use Rattle.jfs_written.specs.xtree.specs.Laws.{order, ends_after}
-use Rattle.jfs_written.specs.xtree.specs.Node.{xt_scale, child_of, child_entry, lowered, BeginsAt}
-use Rattle.jfs_written.specs.xtree.specs.Spells.{page_nodes}
-use Rattle.jfs_written.specs.xtree.specs.CutParts.{pages_of_children, pages_of_entries}
-use Rattle.jfs_written.specs.xtree.specs.Cutting.{kept_below}
-use Rattle.jfs_written.specs.xtree.specs.Writing.{kept_from}
-use Rattle.jfs_written.specs.xtree.proofs.Pages.{rises_more, rises_less}
-use Rattle.jfs_written.specs.xtree.proofs.WrittenIn.{all_to_more}
+use Rattle.jfs_xtree.specs.Laws.{order, ends_after}
+use Rattle.jfs_xtree.specs.Node.{xt_scale, child_of, child_entry, lowered, BeginsAt}
+use Rattle.jfs_xtree.specs.Spells.{page_nodes}
+use Rattle.jfs_xtree.specs.CutParts.{pages_of_children, pages_of_entries}
+use Rattle.jfs_xtree.specs.Cutting.{kept_below}
+use Rattle.jfs_xtree.specs.Writing.{kept_from}
+use Rattle.jfs_xtree.proofs.Pages.{rises_more, rises_less}
+use Rattle.jfs_xtree.proofs.WrittenIn.{all_to_more}
 use Rattle.jfs_written.proofs.Cuts.{all_to_append}
 use Rattle.jfs_written.proofs.Each.{rises_append}
 use Rattle.jfs_refill.specs.Grown.{grown_entries}

@@ -2,16 +2,16 @@
 use Rattle.std.proofs.Common.{◌≡◌, ◌≤◌, ◌<◌, ◌⊎◌, inl, inr, refl, sym, ◌∙◌, ℕ, ◌+◌, Bool, true, false, ◌&&◌, List, [], ◌∷◌, ◌++◌, length, Option, Some, None, arith}
 use Rattle.std.proofs.lemmas.Bool.{leb-true, lt-leb, cases_lt}
 use Rattle.jfs_bits.specs.declared.extent.Xad.{Xad}
-use Rattle.jfs_written.specs.page_tree.specs.Walk.{Marks, UpTo, Rises}
-use Rattle.jfs_written.specs.page_tree.specs.Edit.{count_in}
-use Rattle.jfs_written.specs.page_tree.proofs.Frame.{times-append}
+use Rattle.jfs_tree.specs.Walk.{Marks, UpTo, Rises}
+use Rattle.jfs_tree.specs.Edit.{count_in}
+use Rattle.jfs_tree.proofs.Frame.{times-append}
 use Rattle.jfs_xtpage.specs.Page.{end_of}
-use Rattle.jfs_written.specs.xtree.specs.Laws.{ends_after}
-use Rattle.jfs_written.specs.xtree.specs.Node.{xt_scale}
-use Rattle.jfs_written.specs.xtree.specs.CutParts.{AllFrom}
-use Rattle.jfs_written.specs.xtree.specs.Cutting.{kept_below}
-use Rattle.jfs_written.specs.xtree.specs.Writing.{kept_from, AllTo}
-use Rattle.jfs_written.specs.xtree.proofs.CutWalks.{span}
+use Rattle.jfs_xtree.specs.Laws.{ends_after}
+use Rattle.jfs_xtree.specs.Node.{xt_scale}
+use Rattle.jfs_xtree.specs.CutParts.{AllFrom}
+use Rattle.jfs_xtree.specs.Cutting.{kept_below}
+use Rattle.jfs_xtree.specs.Writing.{kept_from, AllTo}
+use Rattle.jfs_xtree.proofs.CutWalks.{span}
 use Rattle.jfs_written.proofs.Cuts.{below_ends, below_to, below_past, from_to, from_begins, from_past}
 use Rattle.jfs_put_range.specs.Call.{LiesFrom}
 use Rattle.jfs_put_range.specs.Parts.{Takes, AllUpTo, EndsBy, is_none}

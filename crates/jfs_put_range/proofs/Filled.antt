@@ -1,16 +1,16 @@
 -- Pages that stay filled where a range is written.
 use Rattle.std.proofs.Common.{◌≡◌, ◌≤◌, ◌<◌, refl, sym, ap, ◌∙◌, subst, ℕ, zero, suc, Bool, true, false, List, [], ◌∷◌, ◌++◌, map, length, Option, arith}
 use Rattle.jfs_bits.specs.declared.extent.Xad.{Xad}
-use Rattle.jfs_written.specs.page_tree.specs.Walk.{Child, Node, Leaf, Inner, Rises, times, under}
-use Rattle.jfs_written.specs.page_tree.specs.Levels.{InLine, IsFilledTo, entry_count, pages_below}
-use Rattle.jfs_written.specs.page_tree.specs.Edit.{IsCons}
-use Rattle.jfs_written.specs.page_tree.specs.Form.{HasChildren}
-use Rattle.jfs_written.specs.page_tree.proofs.Filling.{line_front, line_both, numbers, numbers-append, numbers_under, children_stay}
+use Rattle.jfs_tree.specs.Walk.{Child, Node, Leaf, Inner, Rises, times, under}
+use Rattle.jfs_tree.specs.Levels.{InLine, IsFilledTo, entry_count, pages_below}
+use Rattle.jfs_tree.specs.Edit.{IsCons}
+use Rattle.jfs_tree.specs.Form.{HasChildren}
+use Rattle.jfs_tree.proofs.Filling.{line_front, line_both, numbers, numbers-append, numbers_under, children_stay}
 use Rattle.jfs_xtpage.specs.declared.head.XtForm.TheVariants.{Full}
-use Rattle.jfs_written.specs.xtree.specs.Laws.{order}
-use Rattle.jfs_written.specs.xtree.specs.Node.{xt_scale, xt_node, child_of}
-use Rattle.jfs_written.specs.xtree.specs.Spells.{page_nodes}
-use Rattle.jfs_written.specs.xtree.specs.CutParts.{pages_of_entries}
+use Rattle.jfs_xtree.specs.Laws.{order}
+use Rattle.jfs_xtree.specs.Node.{xt_scale, xt_node, child_of}
+use Rattle.jfs_xtree.specs.Spells.{page_nodes}
+use Rattle.jfs_xtree.specs.CutParts.{pages_of_entries}
 use Rattle.jfs_put_range.specs.Parts.{KeepsFilled, parts_under}
 
 pub pages_are : (xs : List Xad) → numbers (map child_of xs) ≡ pages_of_entries xs

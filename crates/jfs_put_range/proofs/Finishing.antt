@@ -2,14 +2,14 @@
 use Rattle.std.proofs.Common.{◌≡◌, ◌<◌, ap, ◌∙◌, subst, ℕ, suc, ◌+◌, Bool, true, false, List, [], ◌++◌, length, Option, arith}
 use Rattle.jfs_bits.specs.declared.extent.Xad.{Xad}
 use Rattle.jfs_disk.specs.Image.{Image}
-use Rattle.jfs_written.specs.page_tree.specs.Form.{IsFront}
-use Rattle.jfs_written.specs.page_tree.specs.Call.{StaysOff}
-use Rattle.jfs_written.specs.page_tree.specs.Draft.{shown}
-use Rattle.jfs_written.specs.page_tree.specs.declared.draft.Drafted.{Drafted}
-use Rattle.jfs_written.specs.page_tree.specs.declared.form.Sibling.{Sibling}
-use Rattle.jfs_written.specs.page_tree.specs.declared.form.TreeError.{TreeError}
-use Rattle.jfs_written.specs.xtree.specs.Node.{all_within}
-use Rattle.jfs_written.specs.xtree.specs.Writing.{AllLong}
+use Rattle.jfs_tree.specs.Form.{IsFront}
+use Rattle.jfs_tree.specs.Call.{StaysOff}
+use Rattle.jfs_tree.specs.Draft.{shown}
+use Rattle.jfs_tree.specs.declared.draft.Drafted.{Drafted}
+use Rattle.jfs_tree.specs.declared.form.Sibling.{Sibling}
+use Rattle.jfs_tree.specs.declared.form.TreeError.{TreeError}
+use Rattle.jfs_xtree.specs.Node.{all_within}
+use Rattle.jfs_xtree.specs.Writing.{AllLong}
 use Rattle.jfs_written.specs.Range.{with_range}
 use Rattle.jfs_written.proofs.Each.{good_long}
 use Rattle.jfs_refill.specs.Stored.{Stored}

@@ -3,18 +3,18 @@ use Rattle.std.proofs.Common.{◌≡◌, ◌≤◌, ◌<◌, inl, inr, refl, sym
 use Rattle.std.proofs.lemmas.Bool.{cases_eq}
 use Rattle.jfs_bits.specs.declared.extent.Xad.{Xad}
 use Rattle.jfs_disk.specs.Image.{Image}
-use Rattle.jfs_written.specs.page_tree.specs.Edit.{count_in}
-use Rattle.jfs_written.specs.page_tree.specs.Call.{StaysOff, StaysTaken}
-use Rattle.jfs_written.specs.page_tree.specs.Draft.{shown}
-use Rattle.jfs_written.specs.page_tree.specs.Frames.{TakesFramed}
-use Rattle.jfs_written.specs.page_tree.specs.declared.draft.Drafted.{Drafted}
-use Rattle.jfs_written.specs.page_tree.specs.declared.form.Sibling.{Sibling}
-use Rattle.jfs_written.specs.page_tree.specs.declared.form.TreeError.{TreeError}
-use Rattle.jfs_written.specs.page_tree.proofs.Framing.{one_framed, two_framed, moved_names}
-use Rattle.jfs_written.specs.page_tree.proofs.Telling.{less_or}
+use Rattle.jfs_tree.specs.Edit.{count_in}
+use Rattle.jfs_tree.specs.Call.{StaysOff, StaysTaken}
+use Rattle.jfs_tree.specs.Draft.{shown}
+use Rattle.jfs_tree.specs.Frames.{TakesFramed}
+use Rattle.jfs_tree.specs.declared.draft.Drafted.{Drafted}
+use Rattle.jfs_tree.specs.declared.form.Sibling.{Sibling}
+use Rattle.jfs_tree.specs.declared.form.TreeError.{TreeError}
+use Rattle.jfs_tree.proofs.Framing.{one_framed, two_framed, moved_names}
+use Rattle.jfs_tree.proofs.Telling.{less_or}
 use Rattle.jfs_xtpage.specs.declared.head.XtForm.TheVariants.{Full}
-use Rattle.jfs_written.specs.xtree.specs.Node.{frame_of, new_frame, page_frame}
-use Rattle.jfs_written.specs.xtree.proofs.Frames.{page_kept, page_new}
+use Rattle.jfs_xtree.specs.Node.{frame_of, new_frame, page_frame}
+use Rattle.jfs_xtree.proofs.Frames.{page_kept, page_new}
 use Rattle.jfs_refill.specs.Stored.{Stored}
 use Rattle.jfs_refill.specs.Rooted.{RootStored}
 use Rattle.jfs_put_range.specs.Parts.{Framed, OthersFramed}

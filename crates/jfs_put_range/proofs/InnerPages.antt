@@ -4,26 +4,26 @@ use Rattle.std.specs.List.{flat_map}
 use Rattle.std.proofs.lemmas.List.Concat.{flat_map-append}
 use Rattle.jfs_bits.specs.declared.extent.Xad.{Xad}
 use Rattle.jfs_disk.specs.Image.{Image}
-use Rattle.jfs_written.specs.page_tree.specs.Walk.{Child, Node, Inner, Page, Key, Marks, Rises, rows_of, times, under, walk}
-use Rattle.jfs_written.specs.page_tree.specs.Edit.{count_in, IsCons}
-use Rattle.jfs_written.specs.page_tree.specs.Form.{HasChildren}
-use Rattle.jfs_written.specs.page_tree.specs.Levels.{entry_count}
-use Rattle.jfs_written.specs.page_tree.specs.Call.{StaysOff}
-use Rattle.jfs_written.specs.page_tree.specs.Draft.{shown}
-use Rattle.jfs_written.specs.page_tree.specs.declared.draft.Drafted.{Drafted}
-use Rattle.jfs_written.specs.page_tree.specs.declared.form.Sibling.{Sibling}
-use Rattle.jfs_written.specs.page_tree.specs.declared.form.TreeError.{TreeError}
-use Rattle.jfs_written.specs.page_tree.specs.declared.form.TreeError.TheVariants.{View, Bad, Memory}
-use Rattle.jfs_written.specs.page_tree.proofs.Between.{append_nil}
-use Rattle.jfs_written.specs.page_tree.proofs.Finding.{inner_level}
-use Rattle.jfs_written.specs.page_tree.proofs.Growing.{apart, has_walk, once_itself}
-use Rattle.jfs_written.specs.page_tree.proofs.Split.{children_part}
-use Rattle.jfs_written.specs.page_tree.proofs.Steps.{once_here}
-use Rattle.jfs_written.specs.page_tree.proofs.Taking.{itself, taken_last, two_first, two_last}
+use Rattle.jfs_tree.specs.Walk.{Child, Node, Inner, Page, Key, Marks, Rises, rows_of, times, under, walk}
+use Rattle.jfs_tree.specs.Edit.{count_in, IsCons}
+use Rattle.jfs_tree.specs.Form.{HasChildren}
+use Rattle.jfs_tree.specs.Levels.{entry_count}
+use Rattle.jfs_tree.specs.Call.{StaysOff}
+use Rattle.jfs_tree.specs.Draft.{shown}
+use Rattle.jfs_tree.specs.declared.draft.Drafted.{Drafted}
+use Rattle.jfs_tree.specs.declared.form.Sibling.{Sibling}
+use Rattle.jfs_tree.specs.declared.form.TreeError.{TreeError}
+use Rattle.jfs_tree.specs.declared.form.TreeError.TheVariants.{View, Bad, Memory}
+use Rattle.jfs_tree.proofs.Between.{append_nil}
+use Rattle.jfs_tree.proofs.Finding.{inner_level}
+use Rattle.jfs_tree.proofs.Growing.{apart, has_walk, once_itself}
+use Rattle.jfs_tree.proofs.Split.{children_part}
+use Rattle.jfs_tree.proofs.Steps.{once_here}
+use Rattle.jfs_tree.proofs.Taking.{itself, taken_last, two_first, two_last}
 use Rattle.jfs_xtpage.specs.declared.head.XtForm.TheVariants.{Full}
-use Rattle.jfs_written.specs.xtree.specs.Laws.{order}
-use Rattle.jfs_written.specs.xtree.specs.Node.{xt_scale, xt_node, frame_of, all_within, child_of}
-use Rattle.jfs_written.specs.xtree.specs.Spells.{page_nodes}
+use Rattle.jfs_xtree.specs.Laws.{order}
+use Rattle.jfs_xtree.specs.Node.{xt_scale, xt_node, frame_of, all_within, child_of}
+use Rattle.jfs_xtree.specs.Spells.{page_nodes}
 use Rattle.jfs_refill.specs.Refilled.{IsList}
 use Rattle.jfs_refill.specs.Stored.{Stored}
 use Rattle.jfs_put_range.specs.Parts.{Framed, Takes, Wrote, WrotePage, RefutesPage, WroteChildren, RefutesChildren, IsOpened, part_of, parts_below, parts_under}

@@ -9,30 +9,30 @@ use Rattle.jfs_bits.specs.declared.extent.Xad.{Xad}
 use Rattle.jfs_bits.specs.declared.rule.Rule.{Rule}
 use Rattle.jfs_bits.specs.Extent.{FitsXad}
 use Rattle.jfs_disk.specs.Image.{Image}
-use Rattle.jfs_written.specs.page_tree.specs.Walk.{Child, Node, Leaf, Page, Key, Row, UpTo, Rises, rows_of, times}
-use Rattle.jfs_written.specs.page_tree.specs.Edit.{count_in, FitsFirst, IsCons}
-use Rattle.jfs_written.specs.page_tree.specs.Levels.{entry_count}
-use Rattle.jfs_written.specs.page_tree.specs.Call.{StaysOff}
-use Rattle.jfs_written.specs.page_tree.specs.Draft.{shown}
-use Rattle.jfs_written.specs.page_tree.specs.declared.draft.Drafted.{Drafted}
-use Rattle.jfs_written.specs.page_tree.specs.declared.form.Sibling.{Sibling}
-use Rattle.jfs_written.specs.page_tree.specs.declared.form.TreeError.TheVariants.{Bad}
-use Rattle.jfs_written.specs.page_tree.proofs.Between.{append_nil}
-use Rattle.jfs_written.specs.page_tree.proofs.Finding.{leaf_level}
-use Rattle.jfs_written.specs.page_tree.proofs.Frame.{times-append, rows-append}
-use Rattle.jfs_written.specs.page_tree.proofs.Growing.{apart, once_itself}
-use Rattle.jfs_written.specs.page_tree.proofs.Leaves.{rows_leaf, times_leaf, cons_rows, leaf_fits}
-use Rattle.jfs_written.specs.page_tree.proofs.Taking.{itself, taken_last, two_first, two_last}
+use Rattle.jfs_tree.specs.Walk.{Child, Node, Leaf, Page, Key, Row, UpTo, Rises, rows_of, times}
+use Rattle.jfs_tree.specs.Edit.{count_in, FitsFirst, IsCons}
+use Rattle.jfs_tree.specs.Levels.{entry_count}
+use Rattle.jfs_tree.specs.Call.{StaysOff}
+use Rattle.jfs_tree.specs.Draft.{shown}
+use Rattle.jfs_tree.specs.declared.draft.Drafted.{Drafted}
+use Rattle.jfs_tree.specs.declared.form.Sibling.{Sibling}
+use Rattle.jfs_tree.specs.declared.form.TreeError.TheVariants.{Bad}
+use Rattle.jfs_tree.proofs.Between.{append_nil}
+use Rattle.jfs_tree.proofs.Finding.{leaf_level}
+use Rattle.jfs_tree.proofs.Frame.{times-append, rows-append}
+use Rattle.jfs_tree.proofs.Growing.{apart, once_itself}
+use Rattle.jfs_tree.proofs.Leaves.{rows_leaf, times_leaf, cons_rows, leaf_fits}
+use Rattle.jfs_tree.proofs.Taking.{itself, taken_last, two_first, two_last}
 use Rattle.jfs_xtpage.specs.declared.head.XtForm.TheVariants.{Full}
 use Rattle.jfs_xtpage.specs.Page.{end_of, rises_from}
-use Rattle.jfs_written.specs.xtree.specs.Laws.{ends_after}
-use Rattle.jfs_written.specs.xtree.specs.Node.{xt_scale, xt_node, frame_of, is_within, all_within, IsGood, BeginsAt}
-use Rattle.jfs_written.specs.xtree.specs.Spells.{page_nodes}
-use Rattle.jfs_written.specs.xtree.specs.CutParts.{AllFrom}
-use Rattle.jfs_written.specs.xtree.specs.Writing.{AllTo}
-use Rattle.jfs_written.specs.xtree.proofs.CutWalks.{span}
-use Rattle.jfs_written.specs.xtree.proofs.Pages.{rises_less, rises_weaker, within_both}
-use Rattle.jfs_written.specs.xtree.proofs.Reading.{and_true}
+use Rattle.jfs_xtree.specs.Laws.{ends_after}
+use Rattle.jfs_xtree.specs.Node.{xt_scale, xt_node, frame_of, is_within, all_within, IsGood, BeginsAt}
+use Rattle.jfs_xtree.specs.Spells.{page_nodes}
+use Rattle.jfs_xtree.specs.CutParts.{AllFrom}
+use Rattle.jfs_xtree.specs.Writing.{AllTo}
+use Rattle.jfs_xtree.proofs.CutWalks.{span}
+use Rattle.jfs_xtree.proofs.Pages.{rises_less, rises_weaker, within_both}
+use Rattle.jfs_xtree.proofs.Reading.{and_true}
 use Rattle.jfs_written.specs.Range.{parts_of, with_range}
 use Rattle.jfs_written.proofs.Sides.{parts_to, all_written_to}
 use Rattle.jfs_written.proofs.Each.{rises_still, begins_still, is_good_still}

@@ -2,23 +2,23 @@
 use Rattle.std.proofs.Common.{◌≡◌, ◌≤◌, ap, ◌∙◌, sym, subst, ℕ, ◌+◌, List, arith}
 use Rattle.jfs_bits.specs.declared.extent.Xad.{Xad}
 use Rattle.jfs_disk.specs.Image.{Image}
-use Rattle.jfs_written.specs.page_tree.specs.Walk.{Node, Scale, IsOrder}
-use Rattle.jfs_written.specs.page_tree.specs.Spells.{no_page, with_root, spells, footprint}
-use Rattle.jfs_written.specs.page_tree.specs.Edit.{count_in}
-use Rattle.jfs_written.specs.page_tree.specs.Draft.{shown}
-use Rattle.jfs_written.specs.page_tree.specs.Call.{nodes, IsRead}
-use Rattle.jfs_written.specs.page_tree.specs.Fresh.{HasPages}
-use Rattle.jfs_written.specs.page_tree.specs.Linking.{IsChild, LinksTree}
-use Rattle.jfs_written.specs.page_tree.specs.Becomes.{Becomes}
-use Rattle.jfs_written.specs.page_tree.specs.declared.draft.Drafted.{Drafted}
-use Rattle.jfs_written.specs.page_tree.specs.declared.form.TreeError.{TreeError}
-use Rattle.jfs_written.specs.page_tree.specs.declared.form.TreeError.TheVariants.{View, Bad, Memory}
-use Rattle.jfs_written.specs.page_tree.proofs.Linkings.{same_nodes, links_keep}
+use Rattle.jfs_tree.specs.Walk.{Node, Scale, IsOrder}
+use Rattle.jfs_tree.specs.Spells.{no_page, with_root, spells, footprint}
+use Rattle.jfs_tree.specs.Edit.{count_in}
+use Rattle.jfs_tree.specs.Draft.{shown}
+use Rattle.jfs_tree.specs.Call.{nodes, IsRead}
+use Rattle.jfs_tree.specs.Fresh.{HasPages}
+use Rattle.jfs_tree.specs.Linking.{IsChild, LinksTree}
+use Rattle.jfs_tree.specs.Becomes.{Becomes}
+use Rattle.jfs_tree.specs.declared.draft.Drafted.{Drafted}
+use Rattle.jfs_tree.specs.declared.form.TreeError.{TreeError}
+use Rattle.jfs_tree.specs.declared.form.TreeError.TheVariants.{View, Bad, Memory}
+use Rattle.jfs_tree.proofs.Linkings.{same_nodes, links_keep}
 use Rattle.jfs_xtpage.specs.declared.head.XtForm.{XtForm}
 use Rattle.jfs_xtpage.specs.declared.head.XtForm.TheVariants.{Full}
-use Rattle.jfs_written.specs.xtree.specs.Laws.{order}
-use Rattle.jfs_written.specs.xtree.specs.Node.{xt_scale, xt_node, frame_of}
-use Rattle.jfs_written.specs.xtree.proofs.Adds.{has_pages}
+use Rattle.jfs_xtree.specs.Laws.{order}
+use Rattle.jfs_xtree.specs.Node.{xt_scale, xt_node, frame_of}
+use Rattle.jfs_xtree.proofs.Adds.{has_pages}
 use Rattle.jfs_put_range.specs.Tops.{AreFilled, StepsRange, FillsRange, RefusesRange}
 
 -- links that are set twice

@@ -4,10 +4,10 @@ use Rattle.std.specs.List.{All, AllByRecursion as Each}
 use Rattle.std.proofs.lemmas.List.Elements.{recursion_from_All}
 use Rattle.jfs_bits.specs.declared.extent.Xad.{Xad}
 use Rattle.jfs_xtpage.specs.Page.{end_of, rises_from}
-use Rattle.jfs_written.specs.xtree.specs.Cutting.{kept_below}
-use Rattle.jfs_written.specs.xtree.specs.CutParts.{AllFrom}
-use Rattle.jfs_written.specs.xtree.specs.Node.{IsGood}
-use Rattle.jfs_written.specs.xtree.specs.Writing.{is_hole, continues, joined, kept_from, with_written, with_all_written, AllLong}
+use Rattle.jfs_xtree.specs.Cutting.{kept_below}
+use Rattle.jfs_xtree.specs.CutParts.{AllFrom}
+use Rattle.jfs_xtree.specs.Node.{IsGood}
+use Rattle.jfs_xtree.specs.Writing.{is_hole, continues, joined, kept_from, with_written, with_all_written, AllLong}
 use Rattle.jfs_written.specs.Range.{parts_of, with_range}
 use Rattle.jfs_written.proofs.Counts.{adds_few}
 use Rattle.jfs_put_range.specs.Call.{IsShortRange}

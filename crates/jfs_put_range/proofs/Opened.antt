@@ -9,8 +9,8 @@ use Rattle.jfs_bits.specs.Field.{field_of}
 use Rattle.jfs_xtpage.specs.declared.head.XtForm.TheVariants.{Full}
 use Rattle.jfs_xtpage.specs.Page.{head_of, entries_of, count_of, IsLaidOut}
 use Rattle.jfs_xtpage.proofs.Entries.{length-entries}
-use Rattle.jfs_written.specs.xtree.specs.Node.{IsSound}
-use Rattle.jfs_written.specs.xtree.proofs.Reading.{and_true, leaf_is, inner_is, sound_leaf, sound_inner}
+use Rattle.jfs_xtree.specs.Node.{IsSound}
+use Rattle.jfs_xtree.proofs.Reading.{and_true, leaf_is, inner_is, sound_leaf, sound_inner}
 use Rattle.jfs_refill.proofs.Listed.{laid_out}
 use Rattle.jfs_put_range.specs.Parts.{IsKind, IsOpened}
 

@@ -5,14 +5,14 @@ use Rattle.std.specs.List.{All}
 use Rattle.std.proofs.lemmas.Bool.{leb-true}
 use Rattle.jfs_bits.specs.declared.extent.Xad.{Xad}
 use Rattle.jfs_bits.specs.Extent.{FitsXad}
-use Rattle.jfs_written.specs.page_tree.specs.Walk.{Child, Leaf, Inner}
+use Rattle.jfs_tree.specs.Walk.{Child, Leaf, Inner}
 use Rattle.jfs_xtpage.specs.declared.head.XtForm.{XtForm}
 use Rattle.jfs_xtpage.specs.declared.head.XtForm.TheVariants.{Root, Full, Small}
 use Rattle.jfs_xtpage.specs.Page.{bytes_of, head_of, entries_of, count_of, slots_of, rises_from, IsLaidOut}
 use Rattle.jfs_xtpage.proofs.Entries.{length-entries}
-use Rattle.jfs_written.specs.xtree.specs.Node.{xt_node, all_within, child_of, IsSound, IsRoot}
-use Rattle.jfs_written.specs.xtree.proofs.Pages.{slots}
-use Rattle.jfs_written.specs.xtree.proofs.Reading.{and_true, leaf_is, inner_is}
+use Rattle.jfs_xtree.specs.Node.{xt_node, all_within, child_of, IsSound, IsRoot}
+use Rattle.jfs_xtree.proofs.Pages.{slots}
+use Rattle.jfs_xtree.proofs.Reading.{and_true, leaf_is, inner_is}
 use Rattle.jfs_refill.proofs.Listed.{laid_out}
 use Rattle.jfs_put_range.specs.Tops.{IsOfKind, IsOpenedRoot}
 

@@ -4,13 +4,13 @@ use Rattle.std.specs.Prelude.{nat_le}
 use Rattle.std.specs.List.{flat_map}
 use Rattle.std.proofs.lemmas.Bool.{le-leb}
 use Rattle.jfs_bits.specs.declared.extent.Xad.{Xad}
-use Rattle.jfs_written.specs.page_tree.specs.Walk.{Child, Node, Inner, Page, Key, Marks, Rises, rows_of, times, under, walk}
-use Rattle.jfs_written.specs.page_tree.specs.Edit.{count_in}
-use Rattle.jfs_written.specs.page_tree.proofs.Frame.{times-append, rows-append}
-use Rattle.jfs_written.specs.page_tree.proofs.Rising.{rises_join}
-use Rattle.jfs_written.specs.page_tree.proofs.Steps.{inner_is}
-use Rattle.jfs_written.specs.xtree.specs.Laws.{order}
-use Rattle.jfs_written.specs.xtree.specs.Node.{xt_scale, child_of}
+use Rattle.jfs_tree.specs.Walk.{Child, Node, Inner, Page, Key, Marks, Rises, rows_of, times, under, walk}
+use Rattle.jfs_tree.specs.Edit.{count_in}
+use Rattle.jfs_tree.proofs.Frame.{times-append, rows-append}
+use Rattle.jfs_tree.proofs.Rising.{rises_join}
+use Rattle.jfs_tree.proofs.Steps.{inner_is}
+use Rattle.jfs_xtree.specs.Laws.{order}
+use Rattle.jfs_xtree.specs.Node.{xt_scale, child_of}
 use Rattle.jfs_put_range.specs.Parts.{Framed, Takes, Wrote}
 
 off : (n m rest : ℕ) → (if n == m then 1 else 0) + rest ≡ 0 → m ≢ n

@@ -7,19 +7,19 @@ use Rattle.std.proofs.lemmas.List.Elements.{All-from_recursion, recursion_from_A
 use Rattle.jfs_bits.specs.declared.extent.Xad.{Xad}
 use Rattle.jfs_bits.specs.Extent.{FitsXad}
 use Rattle.jfs_disk.specs.Image.{Image}
-use Rattle.jfs_written.specs.page_tree.specs.Edit.{count_in}
-use Rattle.jfs_written.specs.page_tree.specs.Form.{IsFront}
-use Rattle.jfs_written.specs.page_tree.specs.Draft.{shown}
-use Rattle.jfs_written.specs.page_tree.proofs.Telling.{less_or}
-use Rattle.jfs_written.specs.page_tree.specs.declared.draft.Drafted.{Drafted}
-use Rattle.jfs_written.specs.page_tree.specs.declared.form.Sibling.{Sibling}
-use Rattle.jfs_written.specs.page_tree.specs.declared.form.TreeError.{TreeError}
+use Rattle.jfs_tree.specs.Edit.{count_in}
+use Rattle.jfs_tree.specs.Form.{IsFront}
+use Rattle.jfs_tree.specs.Draft.{shown}
+use Rattle.jfs_tree.proofs.Telling.{less_or}
+use Rattle.jfs_tree.specs.declared.draft.Drafted.{Drafted}
+use Rattle.jfs_tree.specs.declared.form.Sibling.{Sibling}
+use Rattle.jfs_tree.specs.declared.form.TreeError.{TreeError}
 use Rattle.jfs_xtpage.specs.Page.{end_of}
-use Rattle.jfs_written.specs.xtree.specs.Node.{is_within, all_within, child_entry, lowered, BeginsAt}
-use Rattle.jfs_written.specs.xtree.specs.Cutting.{kept_below}
-use Rattle.jfs_written.specs.xtree.specs.Writing.{kept_from}
-use Rattle.jfs_written.specs.xtree.proofs.Reading.{and_true}
-use Rattle.jfs_written.specs.xtree.proofs.Pages.{within_both}
+use Rattle.jfs_xtree.specs.Node.{is_within, all_within, child_entry, lowered, BeginsAt}
+use Rattle.jfs_xtree.specs.Cutting.{kept_below}
+use Rattle.jfs_xtree.specs.Writing.{kept_from}
+use Rattle.jfs_xtree.proofs.Reading.{and_true}
+use Rattle.jfs_xtree.proofs.Pages.{within_both}
 use Rattle.jfs_written.proofs.Each.{each_append, is_cut_to_ranges}
 use Rattle.jfs_refill.specs.Grown.{grown_entries}
 use Rattle.jfs_refill.proofs.Growth.{grown_within}

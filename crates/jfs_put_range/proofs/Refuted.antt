@@ -2,12 +2,12 @@
 use Rattle.std.proofs.Common.{◌≡◌, subst, ℕ, zero, Bool, List, arith}
 use Rattle.jfs_bits.specs.declared.extent.Xad.{Xad}
 use Rattle.jfs_bits.specs.declared.rule.Rule.{Rule}
-use Rattle.jfs_written.specs.page_tree.specs.declared.form.TreeError.{TreeError}
-use Rattle.jfs_written.specs.page_tree.specs.declared.form.TreeError.TheVariants.{View, Bad, Memory}
-use Rattle.jfs_written.specs.page_tree.proofs.Adding.{zero_walk}
-use Rattle.jfs_written.specs.page_tree.proofs.Finding.{below_level}
-use Rattle.jfs_written.specs.xtree.specs.Node.{xt_scale}
-use Rattle.jfs_written.specs.xtree.specs.Spells.{page_nodes}
+use Rattle.jfs_tree.specs.declared.form.TreeError.{TreeError}
+use Rattle.jfs_tree.specs.declared.form.TreeError.TheVariants.{View, Bad, Memory}
+use Rattle.jfs_tree.proofs.Adding.{zero_walk}
+use Rattle.jfs_tree.proofs.Finding.{below_level}
+use Rattle.jfs_xtree.specs.Node.{xt_scale}
+use Rattle.jfs_xtree.specs.Spells.{page_nodes}
 use Rattle.jfs_put_range.specs.Parts.{Takes, RefutesPage, BreaksRule, part_of}
 
 pub zero_refuted : (blocks : ℕ) (xs : List Xad) (left right : Bool) (before : ℕ → List ℕ) (most page : ℕ) (free : List ℕ) (bad : ℕ) (rule : Rule) → most ≡ 0 → RefutesPage blocks xs left right before most page free (Bad bad rule)

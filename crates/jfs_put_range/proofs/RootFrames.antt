@@ -4,21 +4,21 @@ use Rattle.std.specs.Prelude.{reverse}
 use Rattle.jfs_bits.specs.declared.extent.Xad.{Xad}
 use Rattle.jfs_disk.specs.Image.{Image, page_of}
 use Rattle.jfs_ranges.specs.declared.edit.Edit.{Edit}
-use Rattle.jfs_written.specs.page_tree.specs.Form.{AllBelow, IsFront}
-use Rattle.jfs_written.specs.page_tree.specs.Call.{StaysTaken}
-use Rattle.jfs_written.specs.page_tree.specs.Draft.{shown}
-use Rattle.jfs_written.specs.page_tree.specs.Edit.{count_in}
-use Rattle.jfs_written.specs.page_tree.specs.Linking.{LinksTree}
-use Rattle.jfs_written.specs.page_tree.specs.Root.{IsSpare}
-use Rattle.jfs_written.specs.page_tree.specs.Tell.{TellsDraft}
-use Rattle.jfs_written.specs.page_tree.specs.declared.draft.Drafted.{Drafted}
-use Rattle.jfs_written.specs.page_tree.specs.declared.form.TreeError.{TreeError}
-use Rattle.jfs_written.specs.page_tree.proofs.Runs.{count_reverse}
+use Rattle.jfs_tree.specs.Form.{AllBelow, IsFront}
+use Rattle.jfs_tree.specs.Call.{StaysTaken}
+use Rattle.jfs_tree.specs.Draft.{shown}
+use Rattle.jfs_tree.specs.Edit.{count_in}
+use Rattle.jfs_tree.specs.Linking.{LinksTree}
+use Rattle.jfs_tree.specs.Root.{IsSpare}
+use Rattle.jfs_tree.specs.Tell.{TellsDraft}
+use Rattle.jfs_tree.specs.declared.draft.Drafted.{Drafted}
+use Rattle.jfs_tree.specs.declared.form.TreeError.{TreeError}
+use Rattle.jfs_tree.proofs.Runs.{count_reverse}
 use Rattle.jfs_xtpage.specs.declared.head.XtForm.{XtForm}
 use Rattle.jfs_xtpage.specs.declared.head.XtForm.TheVariants.{Full}
-use Rattle.jfs_written.specs.xtree.specs.Node.{xt_scale, xt_node, frame_of, IsRoot}
-use Rattle.jfs_written.specs.xtree.specs.Spells.{root_form}
-use Rattle.jfs_written.specs.xtree.specs.WriteParts.{drafted}
+use Rattle.jfs_xtree.specs.Node.{xt_scale, xt_node, frame_of, IsRoot}
+use Rattle.jfs_xtree.specs.Spells.{root_form}
+use Rattle.jfs_xtree.specs.WriteParts.{drafted}
 use Rattle.jfs_refill.specs.Rooted.{RootStored}
 use Rattle.jfs_put_range.specs.Call.{IsShortRange, NamesPages}
 use Rattle.jfs_put_range.specs.Parts.{OthersFramed, Pushed}

@@ -1,13 +1,13 @@
 -- Where the root is named.
 use Rattle.std.proofs.Common.{◌≡◌, inl, inr, ap, ◌∙◌, subst, ℕ, ◌+◌, Bool, true, false, List, ◌++◌, [], length, Ok, Err, Result, IfErr, arith}
 use Rattle.jfs_bits.specs.declared.extent.Xad.{Xad}
-use Rattle.jfs_written.specs.page_tree.specs.Walk.{Node}
-use Rattle.jfs_written.specs.page_tree.specs.Call.{IsRead}
-use Rattle.jfs_written.specs.page_tree.specs.declared.draft.Drafted.{Drafted}
-use Rattle.jfs_written.specs.page_tree.specs.declared.form.TreeError.{TreeError}
-use Rattle.jfs_written.specs.page_tree.specs.declared.form.TreeError.TheVariants.{View, Bad, Memory}
+use Rattle.jfs_tree.specs.Walk.{Node}
+use Rattle.jfs_tree.specs.Call.{IsRead}
+use Rattle.jfs_tree.specs.declared.draft.Drafted.{Drafted}
+use Rattle.jfs_tree.specs.declared.form.TreeError.{TreeError}
+use Rattle.jfs_tree.specs.declared.form.TreeError.TheVariants.{View, Bad, Memory}
 use Rattle.jfs_xtpage.specs.declared.head.XtForm.{XtForm}
-use Rattle.jfs_written.specs.xtree.specs.Node.{xt_node}
+use Rattle.jfs_xtree.specs.Node.{xt_node}
 use Rattle.jfs_refill.specs.Rooted.{RootStored}
 use Rattle.jfs_put_range.specs.Parts.{Pushed, NamesBelow}
 use Rattle.jfs_put_range.specs.Tops.{IsOpenedRoot, BreaksRoot, NamesRoot}

@@ -4,30 +4,30 @@ use Rattle.std.specs.Prelude.{reverse}
 use Rattle.jfs_bits.specs.declared.extent.Xad.{Xad}
 use Rattle.jfs_disk.specs.Image.{Image, page_of}
 use Rattle.jfs_ranges.specs.declared.edit.Edit.{Edit}
-use Rattle.jfs_written.specs.page_tree.specs.Walk.{Node, Leaf, Inner}
-use Rattle.jfs_written.specs.page_tree.specs.Spells.{with_root, footprint}
-use Rattle.jfs_written.specs.page_tree.specs.Fresh.{after_tx}
-use Rattle.jfs_written.specs.page_tree.specs.Form.{AllBelow, IsFront}
-use Rattle.jfs_written.specs.page_tree.specs.Call.{StaysTaken}
-use Rattle.jfs_written.specs.page_tree.specs.Root.{IsSpare}
-use Rattle.jfs_written.specs.page_tree.specs.Draft.{shown}
-use Rattle.jfs_written.specs.page_tree.specs.Tell.{TellsDraft}
-use Rattle.jfs_written.specs.page_tree.specs.Becomes.{Becomes}
-use Rattle.jfs_written.specs.page_tree.specs.declared.draft.Drafted.{Drafted}
-use Rattle.jfs_written.specs.page_tree.specs.declared.form.TreeError.{TreeError}
-use Rattle.jfs_written.specs.page_tree.specs.declared.form.TreeError.TheVariants.{View, Bad, Memory}
-use Rattle.jfs_written.specs.page_tree.proofs.Becoming.{becomes_told}
-use Rattle.jfs_written.specs.page_tree.proofs.Filling.{filled_not_thin, filled_of, filled_same}
-use Rattle.jfs_written.specs.page_tree.proofs.RootCalls.{leaf_spells, names_root}
-use Rattle.jfs_written.specs.page_tree.proofs.Runs.{count_reverse}
-use Rattle.jfs_written.specs.page_tree.proofs.Within.{footprint_within}
+use Rattle.jfs_tree.specs.Walk.{Node, Leaf, Inner}
+use Rattle.jfs_tree.specs.Spells.{with_root, footprint}
+use Rattle.jfs_tree.specs.Fresh.{after_tx}
+use Rattle.jfs_tree.specs.Form.{AllBelow, IsFront}
+use Rattle.jfs_tree.specs.Call.{StaysTaken}
+use Rattle.jfs_tree.specs.Root.{IsSpare}
+use Rattle.jfs_tree.specs.Draft.{shown}
+use Rattle.jfs_tree.specs.Tell.{TellsDraft}
+use Rattle.jfs_tree.specs.Becomes.{Becomes}
+use Rattle.jfs_tree.specs.declared.draft.Drafted.{Drafted}
+use Rattle.jfs_tree.specs.declared.form.TreeError.{TreeError}
+use Rattle.jfs_tree.specs.declared.form.TreeError.TheVariants.{View, Bad, Memory}
+use Rattle.jfs_tree.proofs.Becoming.{becomes_told}
+use Rattle.jfs_tree.proofs.Filling.{filled_not_thin, filled_of, filled_same}
+use Rattle.jfs_tree.proofs.RootCalls.{leaf_spells, names_root}
+use Rattle.jfs_tree.proofs.Runs.{count_reverse}
+use Rattle.jfs_tree.proofs.Within.{footprint_within}
 use Rattle.jfs_xtpage.specs.declared.head.XtForm.{XtForm}
 use Rattle.jfs_xtpage.specs.declared.head.XtForm.TheVariants.{Full}
-use Rattle.jfs_written.specs.xtree.specs.Laws.{order}
-use Rattle.jfs_written.specs.xtree.specs.Node.{xt_scale, xt_node, all_within, child_of, IsRoot}
-use Rattle.jfs_written.specs.xtree.specs.Spells.{root_form, page_nodes}
-use Rattle.jfs_written.specs.xtree.specs.WriteParts.{drafted}
-use Rattle.jfs_written.specs.xtree.proofs.Adds.{has_pages}
+use Rattle.jfs_xtree.specs.Laws.{order}
+use Rattle.jfs_xtree.specs.Node.{xt_scale, xt_node, all_within, child_of, IsRoot}
+use Rattle.jfs_xtree.specs.Spells.{root_form, page_nodes}
+use Rattle.jfs_xtree.specs.WriteParts.{drafted}
+use Rattle.jfs_xtree.proofs.Adds.{has_pages}
 use Rattle.jfs_written.specs.Range.{with_range}
 use Rattle.jfs_refill.specs.Refilled.{IsList}
 use Rattle.jfs_refill.specs.Rooted.{RootStored, SettlesList}

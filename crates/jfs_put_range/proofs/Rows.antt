@@ -5,15 +5,15 @@ use Rattle.std.proofs.lemmas.Bool.{leb-true}
 use Rattle.std.proofs.lemmas.Bool.Decides.{nat_tests}
 use Rattle.jfs_bits.specs.declared.extent.Xad.{Xad}
 use Rattle.jfs_bits.specs.declared.rule.Rule.TheVariants as rules
-use Rattle.jfs_written.specs.page_tree.specs.Walk.{Child, Node, Leaf, Inner, Broken, Page, Key, Row, Fault, Marks, Rises, rows_of, placed, body, walk}
-use Rattle.jfs_written.specs.page_tree.proofs.Frame.{rows-append}
-use Rattle.jfs_written.specs.page_tree.proofs.Keys.{rises_up}
-use Rattle.jfs_written.specs.page_tree.proofs.Rising.{rises_cut}
+use Rattle.jfs_tree.specs.Walk.{Child, Node, Leaf, Inner, Broken, Page, Key, Row, Fault, Marks, Rises, rows_of, placed, body, walk}
+use Rattle.jfs_tree.proofs.Frame.{rows-append}
+use Rattle.jfs_tree.proofs.Keys.{rises_up}
+use Rattle.jfs_tree.proofs.Rising.{rises_cut}
 use Rattle.jfs_xtpage.specs.Page.{end_of, rises_from}
-use Rattle.jfs_written.specs.xtree.specs.Laws.{order}
-use Rattle.jfs_written.specs.xtree.specs.Node.{xt_scale, BeginsAt}
-use Rattle.jfs_written.specs.xtree.specs.Writing.{AllTo, with_all_written}
-use Rattle.jfs_written.specs.xtree.proofs.Pages.{rises_more, rises_weaker}
+use Rattle.jfs_xtree.specs.Laws.{order}
+use Rattle.jfs_xtree.specs.Node.{xt_scale, BeginsAt}
+use Rattle.jfs_xtree.specs.Writing.{AllTo, with_all_written}
+use Rattle.jfs_xtree.proofs.Pages.{rises_more, rises_weaker}
 use Rattle.jfs_written.specs.Range.{with_range}
 use Rattle.jfs_written.proofs.Sides.{parts_none}
 

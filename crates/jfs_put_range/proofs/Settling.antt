@@ -1,23 +1,23 @@
 -- A root that was to stand for a list, and what it stands for now.
 use Rattle.std.proofs.Common.{◌≡◌, ◌≢◌, ◌≤◌, ◌<◌, ◌⊎◌, inl, inr, refl, sym, ap, ◌∙◌, subst, ℕ, zero, suc, ◌+◌, true, List, [], ◌∷◌, ◌++◌, ◌==◌, if◌then◌else◌, None, Ok, arith}
 use Rattle.jfs_disk.specs.Image.{Image}
-use Rattle.jfs_written.specs.page_tree.specs.Walk.{Node, Inner, Marks, Scale, Rises, IsOrder, rows_of, times, placed, body, walk}
-use Rattle.jfs_written.specs.page_tree.specs.Levels.{InLine, IsFilledTo, pages_below}
-use Rattle.jfs_written.specs.page_tree.specs.Spells.{no_page, with_root, top, tree_of, footprint}
-use Rattle.jfs_written.specs.page_tree.specs.Edit.{count_in}
-use Rattle.jfs_written.specs.page_tree.specs.Form.{AllBelow, IsFront}
-use Rattle.jfs_written.specs.page_tree.specs.Root.{Settled}
-use Rattle.jfs_written.specs.page_tree.specs.Draft.{shown}
-use Rattle.jfs_written.specs.page_tree.specs.Call.{nodes, StaysTaken}
-use Rattle.jfs_written.specs.page_tree.specs.Becomes.{Becomes}
-use Rattle.jfs_written.specs.page_tree.specs.declared.draft.Drafted.{Drafted}
-use Rattle.jfs_written.specs.page_tree.proofs.Adding.{zero_walk}
-use Rattle.jfs_written.specs.page_tree.proofs.Filling.{below_stays, filled_frame}
-use Rattle.jfs_written.specs.page_tree.proofs.Frame.{Agree}
-use Rattle.jfs_written.specs.page_tree.proofs.RootSteps.{same_all}
-use Rattle.jfs_written.specs.page_tree.proofs.Roots.{root_moves}
-use Rattle.jfs_written.specs.page_tree.proofs.Spelled.{tree_rises, spelled}
-use Rattle.jfs_written.specs.page_tree.proofs.Tops.{count_below, footed, off_foot, root_else}
+use Rattle.jfs_tree.specs.Walk.{Node, Inner, Marks, Scale, Rises, IsOrder, rows_of, times, placed, body, walk}
+use Rattle.jfs_tree.specs.Levels.{InLine, IsFilledTo, pages_below}
+use Rattle.jfs_tree.specs.Spells.{no_page, with_root, top, tree_of, footprint}
+use Rattle.jfs_tree.specs.Edit.{count_in}
+use Rattle.jfs_tree.specs.Form.{AllBelow, IsFront}
+use Rattle.jfs_tree.specs.Root.{Settled}
+use Rattle.jfs_tree.specs.Draft.{shown}
+use Rattle.jfs_tree.specs.Call.{nodes, StaysTaken}
+use Rattle.jfs_tree.specs.Becomes.{Becomes}
+use Rattle.jfs_tree.specs.declared.draft.Drafted.{Drafted}
+use Rattle.jfs_tree.proofs.Adding.{zero_walk}
+use Rattle.jfs_tree.proofs.Filling.{below_stays, filled_frame}
+use Rattle.jfs_tree.proofs.Frame.{Agree}
+use Rattle.jfs_tree.proofs.RootSteps.{same_all}
+use Rattle.jfs_tree.proofs.Roots.{root_moves}
+use Rattle.jfs_tree.proofs.Spelled.{tree_rises, spelled}
+use Rattle.jfs_tree.proofs.Tops.{count_below, footed, off_foot, root_else}
 
 -- ---- filled levels
 

@@ -6,19 +6,19 @@ use Rattle.std.proofs.lemmas.List.Elements.{All-from_recursion, recursion_from_A
 use Rattle.jfs_bits.specs.declared.extent.Xad.{Xad}
 use Rattle.jfs_bits.specs.declared.rule.Rule.{Rule}
 use Rattle.jfs_bits.specs.Extent.{FitsXad}
-use Rattle.jfs_written.specs.page_tree.specs.Edit.{count_in}
-use Rattle.jfs_written.specs.page_tree.specs.declared.form.TreeError.{TreeError}
-use Rattle.jfs_written.specs.page_tree.specs.declared.form.TreeError.TheVariants.{View, Bad, Memory}
+use Rattle.jfs_tree.specs.Edit.{count_in}
+use Rattle.jfs_tree.specs.declared.form.TreeError.{TreeError}
+use Rattle.jfs_tree.specs.declared.form.TreeError.TheVariants.{View, Bad, Memory}
 use Rattle.jfs_xtpage.specs.Page.{end_of, rises_from}
-use Rattle.jfs_written.specs.xtree.specs.Laws.{ends_after}
-use Rattle.jfs_written.specs.xtree.specs.Node.{is_within, all_within, BeginsAt}
-use Rattle.jfs_written.specs.xtree.specs.CutParts.{AllFrom}
-use Rattle.jfs_written.specs.xtree.specs.Cutting.{kept_below}
-use Rattle.jfs_written.specs.xtree.specs.Writing.{kept_from}
-use Rattle.jfs_written.specs.xtree.proofs.CutRows.{kept_none}
-use Rattle.jfs_written.specs.xtree.proofs.Pages.{rises_less}
-use Rattle.jfs_written.specs.xtree.proofs.Reading.{and_true}
-use Rattle.jfs_written.specs.xtree.proofs.WrittenIn.{from_all, from_low, all_from_less}
+use Rattle.jfs_xtree.specs.Laws.{ends_after}
+use Rattle.jfs_xtree.specs.Node.{is_within, all_within, BeginsAt}
+use Rattle.jfs_xtree.specs.CutParts.{AllFrom}
+use Rattle.jfs_xtree.specs.Cutting.{kept_below}
+use Rattle.jfs_xtree.specs.Writing.{kept_from}
+use Rattle.jfs_xtree.proofs.CutRows.{kept_none}
+use Rattle.jfs_xtree.proofs.Pages.{rises_less}
+use Rattle.jfs_xtree.proofs.Reading.{and_true}
+use Rattle.jfs_xtree.proofs.WrittenIn.{from_all, from_low, all_from_less}
 use Rattle.jfs_put_range.specs.Parts.{WroteChildren, RefutesChildren, Pushed, BeginsBy, is_none}
 use Rattle.jfs_put_range.proofs.Children.{none_written, both_written, rest_refuted}
 use Rattle.jfs_put_range.proofs.Pushing.{fits_append, within_append}

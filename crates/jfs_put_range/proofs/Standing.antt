@@ -5,29 +5,29 @@ use Rattle.std.proofs.lemmas.Bool.{le-leb}
 use Rattle.jfs_bits.specs.declared.extent.Xad.{Xad}
 use Rattle.jfs_bits.specs.declared.rule.Rule.{Rule}
 use Rattle.jfs_disk.specs.Image.{Image}
-use Rattle.jfs_written.specs.page_tree.specs.Walk.{Child, Node, Leaf, Inner, Page, Key, Row, Marks, Rises, rows_of, times, under, walk}
-use Rattle.jfs_written.specs.page_tree.specs.Spells.{no_page, with_root, levels_of, top, tree_of, spells}
-use Rattle.jfs_written.specs.page_tree.specs.Edit.{FitsFirst, count_in}
-use Rattle.jfs_written.specs.page_tree.specs.Levels.{InLine, IsFilledTo, pages_below}
-use Rattle.jfs_written.specs.page_tree.specs.Form.{AllBelow, IsFront}
-use Rattle.jfs_written.specs.page_tree.specs.Root.{IsSpare}
-use Rattle.jfs_written.specs.page_tree.specs.Draft.{shown}
-use Rattle.jfs_written.specs.page_tree.specs.declared.draft.Drafted.{Drafted}
-use Rattle.jfs_written.specs.page_tree.specs.declared.form.TreeError.TheVariants.{Bad}
-use Rattle.jfs_written.specs.page_tree.proofs.Filling.{children_stay, numbers, numbers_under, page_filled}
-use Rattle.jfs_written.specs.page_tree.proofs.Finding.{inner_level}
-use Rattle.jfs_written.specs.page_tree.proofs.Leaves.{cons_rows, rows_leaf, times_leaf}
-use Rattle.jfs_written.specs.page_tree.proofs.Once.{each_once}
-use Rattle.jfs_written.specs.page_tree.proofs.Spelled.{stands, Stands, levels_found}
-use Rattle.jfs_written.specs.page_tree.proofs.Tops.{count_below, off_root, root_else, unfooted}
+use Rattle.jfs_tree.specs.Walk.{Child, Node, Leaf, Inner, Page, Key, Row, Marks, Rises, rows_of, times, under, walk}
+use Rattle.jfs_tree.specs.Spells.{no_page, with_root, levels_of, top, tree_of, spells}
+use Rattle.jfs_tree.specs.Edit.{FitsFirst, count_in}
+use Rattle.jfs_tree.specs.Levels.{InLine, IsFilledTo, pages_below}
+use Rattle.jfs_tree.specs.Form.{AllBelow, IsFront}
+use Rattle.jfs_tree.specs.Root.{IsSpare}
+use Rattle.jfs_tree.specs.Draft.{shown}
+use Rattle.jfs_tree.specs.declared.draft.Drafted.{Drafted}
+use Rattle.jfs_tree.specs.declared.form.TreeError.TheVariants.{Bad}
+use Rattle.jfs_tree.proofs.Filling.{children_stay, numbers, numbers_under, page_filled}
+use Rattle.jfs_tree.proofs.Finding.{inner_level}
+use Rattle.jfs_tree.proofs.Leaves.{cons_rows, rows_leaf, times_leaf}
+use Rattle.jfs_tree.proofs.Once.{each_once}
+use Rattle.jfs_tree.proofs.Spelled.{stands, Stands, levels_found}
+use Rattle.jfs_tree.proofs.Tops.{count_below, off_root, root_else, unfooted}
 use Rattle.jfs_xtpage.specs.declared.head.XtForm.TheVariants.{Full}
 use Rattle.jfs_xtpage.specs.Page.{end_of, rises_from}
-use Rattle.jfs_written.specs.xtree.specs.Laws.{order}
-use Rattle.jfs_written.specs.xtree.specs.Node.{xt_scale, xt_node, child_of}
-use Rattle.jfs_written.specs.xtree.specs.Spells.{page_nodes}
-use Rattle.jfs_written.specs.xtree.specs.CutParts.{pages_of_entries}
-use Rattle.jfs_written.specs.xtree.specs.WriteParts.{drafted}
-use Rattle.jfs_written.specs.xtree.proofs.Pages.{rises_less}
+use Rattle.jfs_xtree.specs.Laws.{order}
+use Rattle.jfs_xtree.specs.Node.{xt_scale, xt_node, child_of}
+use Rattle.jfs_xtree.specs.Spells.{page_nodes}
+use Rattle.jfs_xtree.specs.CutParts.{pages_of_entries}
+use Rattle.jfs_xtree.specs.WriteParts.{drafted}
+use Rattle.jfs_xtree.proofs.Pages.{rises_less}
 use Rattle.jfs_written.specs.Range.{with_range}
 use Rattle.jfs_put_range.specs.Call.{IsShortRange}
 use Rattle.jfs_put_range.specs.Parts.{Framed, Takes, WroteChildren, RefutesChildren, parts_under}

@@ -8,20 +8,20 @@ use Rattle.jfs_bits.specs.declared.extent.Xad.{Xad}
 use Rattle.jfs_bits.specs.declared.rule.Rule.{Rule}
 use Rattle.jfs_bits.specs.declared.rule.Rule.TheVariants as rules
 use Rattle.jfs_bits.specs.Extent.{FitsXad}
-use Rattle.jfs_written.specs.page_tree.specs.Walk.{Node, Broken}
-use Rattle.jfs_written.specs.page_tree.specs.Spells.{no_page}
-use Rattle.jfs_written.specs.page_tree.specs.Root.{NamesBroken}
-use Rattle.jfs_written.specs.page_tree.specs.declared.form.TreeError.{TreeError}
-use Rattle.jfs_written.specs.page_tree.specs.declared.form.TreeError.TheVariants as tree
-use Rattle.jfs_written.specs.page_tree.proofs.Path.{root_breaks}
+use Rattle.jfs_tree.specs.Walk.{Node, Broken}
+use Rattle.jfs_tree.specs.Spells.{no_page}
+use Rattle.jfs_tree.specs.Root.{NamesBroken}
+use Rattle.jfs_tree.specs.declared.form.TreeError.{TreeError}
+use Rattle.jfs_tree.specs.declared.form.TreeError.TheVariants as tree
+use Rattle.jfs_tree.proofs.Path.{root_breaks}
 use Rattle.jfs_xtpage.specs.Page.{end_of, rises_from}
-use Rattle.jfs_written.specs.xtree.specs.Errors.{handed_on}
-use Rattle.jfs_written.specs.xtree.specs.Laws.{ends_after}
-use Rattle.jfs_written.specs.xtree.proofs.Pages.{rises_more, rises_less}
-use Rattle.jfs_written.specs.xtree.specs.Node.{xt_scale, IsGood}
-use Rattle.jfs_written.specs.xtree.specs.Spells.{page_nodes, root_node, broken_for, tree_error, TellsWay}
-use Rattle.jfs_written.specs.xtree.specs.declared.error.XtError.{XtError}
-use Rattle.jfs_written.specs.xtree.specs.declared.error.XtError.TheVariants.{View, Bad}
+use Rattle.jfs_xtree.specs.Errors.{handed_on}
+use Rattle.jfs_xtree.specs.Laws.{ends_after}
+use Rattle.jfs_xtree.proofs.Pages.{rises_more, rises_less}
+use Rattle.jfs_xtree.specs.Node.{xt_scale, IsGood}
+use Rattle.jfs_xtree.specs.Spells.{page_nodes, root_node, broken_for, tree_error, TellsWay}
+use Rattle.jfs_xtree.specs.declared.error.XtError.{XtError}
+use Rattle.jfs_xtree.specs.declared.error.XtError.TheVariants.{View, Bad}
 use Rattle.jfs_ways.specs.Along.{broken_along, first_broken, or_later}
 use Rattle.jfs_put_range.specs.Call.{IsShortRange, IsNinth, RefusesOnlyDeep}
 use Rattle.jfs_put_range.specs.Tops.{NamesRoot}

@@ -3,22 +3,22 @@ use Rattle.std.specs.Prelude.{◌≡◌, ◌<◌, ◌≤◌, ◌+◌, ℕ, List,
 use Rattle.jfs_bits.specs.declared.extent.Xad.{Xad}
 use Rattle.jfs_bits.specs.declared.rule.Rule.TheVariants as rules
 use Rattle.jfs_ranges.specs.declared.edit.Edit.{Edit}
-use Rattle.jfs_written.specs.page_tree.specs.Walk.{Node}
-use Rattle.jfs_written.specs.page_tree.specs.Spells.{no_page, with_root, levels_of}
-use Rattle.jfs_written.specs.page_tree.specs.Levels.{HoldsLeast}
-use Rattle.jfs_written.specs.page_tree.specs.Edit.{count_in}
-use Rattle.jfs_written.specs.page_tree.specs.Fresh.{LeadsTo, after_tx}
-use Rattle.jfs_written.specs.page_tree.specs.Frames.{IsTaken}
-use Rattle.jfs_written.specs.page_tree.specs.Root.{IsSpare}
-use Rattle.jfs_written.specs.page_tree.specs.Becomes.{BecomesTold}
-use Rattle.jfs_written.specs.page_tree.specs.declared.form.TreeError.{TreeError}
-use Rattle.jfs_written.specs.page_tree.specs.declared.form.TreeError.TheVariants.{View, Bad, Memory}
+use Rattle.jfs_tree.specs.Walk.{Node}
+use Rattle.jfs_tree.specs.Spells.{no_page, with_root, levels_of}
+use Rattle.jfs_tree.specs.Levels.{HoldsLeast}
+use Rattle.jfs_tree.specs.Edit.{count_in}
+use Rattle.jfs_tree.specs.Fresh.{LeadsTo, after_tx}
+use Rattle.jfs_tree.specs.Frames.{IsTaken}
+use Rattle.jfs_tree.specs.Root.{IsSpare}
+use Rattle.jfs_tree.specs.Becomes.{BecomesTold}
+use Rattle.jfs_tree.specs.declared.form.TreeError.{TreeError}
+use Rattle.jfs_tree.specs.declared.form.TreeError.TheVariants.{View, Bad, Memory}
 use Rattle.jfs_xtpage.specs.declared.head.XtForm.TheVariants.{Full}
 use Rattle.jfs_xtpage.specs.Page.{head_of}
-use Rattle.jfs_written.specs.xtree.specs.Node.{xt_scale, xt_node, frame_of, new_frame}
-use Rattle.jfs_written.specs.xtree.specs.Spells.{page_nodes, root_form, root_node, spells_extents}
-use Rattle.jfs_written.specs.xtree.specs.CutParts.{AllFrom}
-use Rattle.jfs_written.specs.xtree.specs.Writing.{AllTo}
+use Rattle.jfs_xtree.specs.Node.{xt_scale, xt_node, frame_of, new_frame}
+use Rattle.jfs_xtree.specs.Spells.{page_nodes, root_form, root_node, spells_extents}
+use Rattle.jfs_xtree.specs.CutParts.{AllFrom}
+use Rattle.jfs_xtree.specs.Writing.{AllTo}
 use Rattle.jfs_written.specs.Range.{with_range}
 use Rattle.jfs_written.specs.RangeLaws.{IsRange}
 

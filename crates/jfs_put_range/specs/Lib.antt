@@ -4,6 +4,4 @@ pub mod Way
 pub mod Parts
 pub mod Tops
 -- libraries below, passed on
-pub use Rattle.jfs_written.specs.page_tree
 pub use Rattle.jfs_written as written
-pub use Rattle.jfs_written.specs.xtree

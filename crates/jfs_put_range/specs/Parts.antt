@@ -3,23 +3,23 @@ use Rattle.std.specs.Prelude.{◌≡◌, ◌<◌, ◌≤◌, ◌+◌, ◌-◌, �
 use Rattle.std.specs.List.{All, flat_map}
 use Rattle.jfs_bits.specs.declared.extent.Xad.{Xad}
 use Rattle.jfs_bits.specs.Extent.{FitsXad}
-use Rattle.jfs_written.specs.page_tree.specs.Walk.{Child, Node, Leaf, Inner, Broken, Marks, Rises, rows_of, times, under, walk}
-use Rattle.jfs_written.specs.page_tree.specs.Levels.{InLine, IsFilledTo}
-use Rattle.jfs_written.specs.page_tree.specs.Path.{below_root}
-use Rattle.jfs_written.specs.page_tree.specs.Edit.{count_in}
-use Rattle.jfs_written.specs.page_tree.specs.Spells.{no_page}
-use Rattle.jfs_written.specs.page_tree.specs.Form.{AllBelow, children_of}
-use Rattle.jfs_written.specs.page_tree.specs.Frames.{IsTaken}
-use Rattle.jfs_written.specs.page_tree.specs.declared.form.Sibling.{Sibling}
-use Rattle.jfs_written.specs.page_tree.specs.declared.form.TreeError.{TreeError}
-use Rattle.jfs_written.specs.page_tree.specs.declared.form.TreeError.TheVariants.{View, Bad, Memory}
+use Rattle.jfs_tree.specs.Walk.{Child, Node, Leaf, Inner, Broken, Marks, Rises, rows_of, times, under, walk}
+use Rattle.jfs_tree.specs.Levels.{InLine, IsFilledTo}
+use Rattle.jfs_tree.specs.Path.{below_root}
+use Rattle.jfs_tree.specs.Edit.{count_in}
+use Rattle.jfs_tree.specs.Spells.{no_page}
+use Rattle.jfs_tree.specs.Form.{AllBelow, children_of}
+use Rattle.jfs_tree.specs.Frames.{IsTaken}
+use Rattle.jfs_tree.specs.declared.form.Sibling.{Sibling}
+use Rattle.jfs_tree.specs.declared.form.TreeError.{TreeError}
+use Rattle.jfs_tree.specs.declared.form.TreeError.TheVariants.{View, Bad, Memory}
 use Rattle.jfs_xtpage.specs.declared.head.XtForm.TheVariants.{Full}
 use Rattle.jfs_xtpage.specs.Page.{head_of, end_of, rises_from, IsLaidOut}
-use Rattle.jfs_written.specs.xtree.specs.Node.{xt_scale, xt_node, frame_of, new_frame, all_within, child_of, BeginsAt}
-use Rattle.jfs_written.specs.xtree.specs.Spells.{page_nodes}
-use Rattle.jfs_written.specs.xtree.specs.CutParts.{AllFrom, pages_of_children, pages_of_entries}
-use Rattle.jfs_written.specs.xtree.specs.Cutting.{kept_below}
-use Rattle.jfs_written.specs.xtree.specs.Writing.{kept_from, AllTo}
+use Rattle.jfs_xtree.specs.Node.{xt_scale, xt_node, frame_of, new_frame, all_within, child_of, BeginsAt}
+use Rattle.jfs_xtree.specs.Spells.{page_nodes}
+use Rattle.jfs_xtree.specs.CutParts.{AllFrom, pages_of_children, pages_of_entries}
+use Rattle.jfs_xtree.specs.Cutting.{kept_below}
+use Rattle.jfs_xtree.specs.Writing.{kept_from, AllTo}
 use Rattle.jfs_written.specs.Range.{with_range}
 use Rattle.jfs_written.specs.RangeLaws.{IsRange}
 use Rattle.jfs_put_range.specs.Call.{LiesFrom}

@@ -4,18 +4,18 @@ use Rattle.std.specs.List.{All}
 use Rattle.jfs_bits.specs.declared.extent.Xad.{Xad}
 use Rattle.jfs_bits.specs.Extent.{FitsXad}
 use Rattle.jfs_disk.specs.Image.{Image}
-use Rattle.jfs_written.specs.page_tree.specs.Walk.{Child, Node, Leaf, Inner, Broken}
-use Rattle.jfs_written.specs.page_tree.specs.Spells.{no_page, with_root, spells}
-use Rattle.jfs_written.specs.page_tree.specs.Levels.{IsFilledTo}
-use Rattle.jfs_written.specs.page_tree.specs.Root.{IsSpare}
-use Rattle.jfs_written.specs.page_tree.specs.Draft.{shown}
-use Rattle.jfs_written.specs.page_tree.specs.declared.draft.Drafted.{Drafted}
-use Rattle.jfs_written.specs.page_tree.specs.declared.form.TreeError.{TreeError}
-use Rattle.jfs_written.specs.page_tree.specs.declared.form.TreeError.TheVariants.{View, Bad, Memory}
+use Rattle.jfs_tree.specs.Walk.{Child, Node, Leaf, Inner, Broken}
+use Rattle.jfs_tree.specs.Spells.{no_page, with_root, spells}
+use Rattle.jfs_tree.specs.Levels.{IsFilledTo}
+use Rattle.jfs_tree.specs.Root.{IsSpare}
+use Rattle.jfs_tree.specs.Draft.{shown}
+use Rattle.jfs_tree.specs.declared.draft.Drafted.{Drafted}
+use Rattle.jfs_tree.specs.declared.form.TreeError.{TreeError}
+use Rattle.jfs_tree.specs.declared.form.TreeError.TheVariants.{View, Bad, Memory}
 use Rattle.jfs_xtpage.specs.declared.head.XtForm.{XtForm}
 use Rattle.jfs_xtpage.specs.Page.{head_of, rises_from, IsLaidOut}
-use Rattle.jfs_written.specs.xtree.specs.Node.{xt_scale, xt_node, all_within, child_of}
-use Rattle.jfs_written.specs.xtree.specs.WriteParts.{StepsTo, drafted}
+use Rattle.jfs_xtree.specs.Node.{xt_scale, xt_node, all_within, child_of}
+use Rattle.jfs_xtree.specs.WriteParts.{StepsTo, drafted}
 use Rattle.jfs_written.specs.Range.{with_range}
 use Rattle.jfs_put_range.specs.Call.{IsNinth, LacksTwo}
 use Rattle.jfs_put_range.specs.Parts.{Framed}

@@ -3,12 +3,12 @@ use Rattle.std.specs.Prelude.{◌≡◌, ◌⊎◌, ◌-◌, ◌==◌, if◌then
 use Rattle.jfs_bits.specs.declared.extent.Xad.{Xad}
 use Rattle.jfs_bits.specs.declared.rule.Rule.{Rule}
 use Rattle.jfs_bits.specs.declared.rule.Rule.TheVariants as rules
-use Rattle.jfs_written.specs.page_tree.specs.Spells.{no_page}
-use Rattle.jfs_written.specs.page_tree.specs.declared.form.TreeError.{TreeError}
-use Rattle.jfs_written.specs.page_tree.specs.declared.form.TreeError.TheVariants as tree
+use Rattle.jfs_tree.specs.Spells.{no_page}
+use Rattle.jfs_tree.specs.declared.form.TreeError.{TreeError}
+use Rattle.jfs_tree.specs.declared.form.TreeError.TheVariants as tree
 use Rattle.jfs_xtpage.specs.Page.{end_of}
-use Rattle.jfs_written.specs.xtree.specs.declared.error.XtError.{XtError}
-use Rattle.jfs_written.specs.xtree.specs.declared.error.XtError.TheVariants.{View, Bad}
+use Rattle.jfs_xtree.specs.declared.error.XtError.{XtError}
+use Rattle.jfs_xtree.specs.declared.error.XtError.TheVariants.{View, Bad}
 use Rattle.jfs_ways.specs.Along.{broken_along}
 use Rattle.jfs_put_range.specs.Call.{LacksTwo}
 

@@ -4,12 +4,12 @@ ghost use Rattle.std.specs.Prelude.{◌≡◌, ◌≤◌, ◌+◌, ℕ, List, le
 ghost use Rattle.jfs_bits.specs.declared.extent.Xad.{Xad};
 ghost use Rattle.jfs_bits.specs.declared.rule.PageKind.TheVariants.{Xtree};
 ghost use Rattle.jfs_disk.specs.Image.{page_of};
-ghost use Rattle.jfs_written.specs.page_tree.specs.Call.{CarriesFault};
-ghost use Rattle.jfs_written.specs.page_tree.specs.Changes.{TellsTaken};
-ghost use Rattle.jfs_written.specs.page_tree.specs.Form.{AllBelow};
-ghost use Rattle.jfs_written.specs.page_tree.specs.Fresh.{blocks_of, TakenInOrder};
-ghost use Rattle.jfs_written.specs.xtree.specs.Node.{KeepsFrame};
-ghost use Rattle.jfs_written.specs.xtree.specs.Spells.{IsRootSize, root_node, tree_error, CarriesXt};
+ghost use Rattle.jfs_tree.specs.Call.{CarriesFault};
+ghost use Rattle.jfs_tree.specs.Changes.{TellsTaken};
+ghost use Rattle.jfs_tree.specs.Form.{AllBelow};
+ghost use Rattle.jfs_tree.specs.Fresh.{blocks_of, TakenInOrder};
+ghost use Rattle.jfs_xtree.specs.Node.{KeepsFrame};
+ghost use Rattle.jfs_xtree.specs.Spells.{IsRootSize, root_node, tree_error, CarriesXt};
 ghost use Rattle.jfs_put_range.specs.Tops.{NamesRoot};
 ghost use Rattle.jfs_put_range.specs.Way.{RangeTellsWay, broken_on_range};
 ghost use Rattle.jfs_put_range.specs.Call.{IsShortRange, WritesRange, KeepsLeast, NamesPages, RefusesOnlyDeep};
@@ -19,9 +19,9 @@ use crate::linked::put_linked;
 use crate::span::{end_of_all, first_of};
 use jfs_bits::{PageKind, PxdList, Xad, XadList};
 use jfs_ranges::{PageView, Tx, ViewError};
+use jfs_tree::{Draft, Planned, TreeError, copy_of, fresh_stack, tell_steps};
 use jfs_ways::look_along;
-use jfs_written::page_tree::{Draft, Planned, TreeError, copy_of, fresh_stack, tell_steps};
-use jfs_written::xtree::{XtError, XtPages, handed_on, root_form};
+use jfs_xtree::{XtError, XtPages, handed_on, root_form};
 use std::alloc::Global;
 
 /// Writes a range of blocks into a file's list: extents in rising order, which lie within 17 consecutive blocks of the file and end below its block 2^40. They stand in place

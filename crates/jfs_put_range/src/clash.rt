@@ -4,7 +4,7 @@ ghost use Rattle.std.specs.Prelude.{◌≡◌};
 ghost use Rattle.jfs_put_range.specs.Way.{as_clash};
 
 use jfs_bits::Rule;
-use jfs_written::page_tree::{NO_PAGE, TreeError};
+use jfs_tree::{NO_PAGE, TreeError};
 
 /// Pages that break no rule clash with each other: that is `order` at the page. Only the root can be too full.
 pub(crate) fn as_clash(e: TreeError) -> TreeError

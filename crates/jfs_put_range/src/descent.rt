@@ -3,10 +3,10 @@
 ghost use Rattle.std.specs.Prelude.{◌≡◌, ◌<◌, ◌≤◌, ◌+◌, ◌^◌, ◌++◌, ◌∷◌, [], ℕ, List, true, false, None, length, OnOk, IfOk, IfErr, IfSome};
 ghost use Rattle.std.specs.List.{All};
 ghost use Rattle.jfs_bits.specs.Extent.{FitsXad};
-ghost use Rattle.jfs_written.specs.page_tree.specs.Call.{CarriesFault};
-ghost use Rattle.jfs_written.specs.page_tree.specs.Draft.{shown};
-ghost use Rattle.jfs_written.specs.page_tree.specs.Form.{AllBelow, IsFront};
-ghost use Rattle.jfs_written.specs.xtree.specs.Node.{all_within, BeginsAt};
+ghost use Rattle.jfs_tree.specs.Call.{CarriesFault};
+ghost use Rattle.jfs_tree.specs.Draft.{shown};
+ghost use Rattle.jfs_tree.specs.Form.{AllBelow, IsFront};
+ghost use Rattle.jfs_xtree.specs.Node.{all_within, BeginsAt};
 ghost use Rattle.jfs_put_range.specs.Parts.{IsPart, WrotePage, RefutesPage, RefutesChildren, Pushed, GrownBelow, NamesBelow, OthersFramed, most_taken};
 
 use crate::full::starts_new;
@@ -17,7 +17,7 @@ use crate::skip::{children_before, first_block, is_first};
 use jfs_bits::{Rule, Xad};
 use jfs_ranges::PageView;
 use jfs_refill::{push_grown, store};
-use jfs_written::page_tree::{Draft, TreeError};
+use jfs_tree::{Draft, TreeError};
 use std::alloc::Global;
 
 /// Writes a part of a range below a page, at most so many levels deep. The changed pages go into the draft, and new ones come from the end of `stack`.

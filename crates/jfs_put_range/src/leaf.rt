@@ -2,10 +2,10 @@
 
 ghost use Rattle.std.specs.Prelude.{◌≡◌, ◌<◌, ◌≤◌, ◌+◌, ◌^◌, ℕ, List, true, false, None, length, OnOk, IfOk, IfErr, IfSome};
 ghost use Rattle.jfs_disk.specs.Image.{Image};
-ghost use Rattle.jfs_written.specs.page_tree.specs.Call.{StaysOff};
-ghost use Rattle.jfs_written.specs.page_tree.specs.Draft.{shown};
-ghost use Rattle.jfs_written.specs.page_tree.specs.Form.{AllBelow, IsFront};
-ghost use Rattle.jfs_written.specs.page_tree.specs.Spells.{no_page};
+ghost use Rattle.jfs_tree.specs.Call.{StaysOff};
+ghost use Rattle.jfs_tree.specs.Draft.{shown};
+ghost use Rattle.jfs_tree.specs.Form.{AllBelow, IsFront};
+ghost use Rattle.jfs_tree.specs.Spells.{no_page};
 ghost use Rattle.jfs_put_range.specs.Parts.{IsOpened, IsPart, WrotePage, RefutesPage, GrownBelow, NamesBelow, NoView, OthersFramed, most_taken};
 
 use crate::full::starts_new;
@@ -13,7 +13,7 @@ use crate::open::Opened;
 use crate::part::Part;
 use jfs_bits::Rule;
 use jfs_refill::{ENTRIES, store};
-use jfs_written::page_tree::{Draft, Sibling, TreeError};
+use jfs_tree::{Draft, Sibling, TreeError};
 use jfs_written::written;
 use std::alloc::Global;
 

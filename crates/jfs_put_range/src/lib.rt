@@ -14,7 +14,3 @@ mod skip;
 mod span;
 
 pub use call::put_range;
-
-// libraries below, passed on
-pub use jfs_written as written;
-pub use jfs_written::{page_tree, xtree};

@@ -3,13 +3,13 @@
 ghost use Rattle.std.specs.Prelude.{◌≡◌, ◌<◌, ◌≤◌, ◌+◌, ◌^◌, ℕ, length, OnOk, IfErr};
 ghost use Rattle.std.specs.List.{All};
 ghost use Rattle.jfs_bits.specs.Extent.{FitsXad};
-ghost use Rattle.jfs_written.specs.page_tree.specs.Call.{CarriesFault, IsRead};
-ghost use Rattle.jfs_written.specs.page_tree.specs.Draft.{shown};
-ghost use Rattle.jfs_written.specs.page_tree.specs.Form.{AllBelow, IsFront};
-ghost use Rattle.jfs_written.specs.page_tree.specs.Linking.{LinksTree};
+ghost use Rattle.jfs_tree.specs.Call.{CarriesFault, IsRead};
+ghost use Rattle.jfs_tree.specs.Draft.{shown};
+ghost use Rattle.jfs_tree.specs.Form.{AllBelow, IsFront};
+ghost use Rattle.jfs_tree.specs.Linking.{LinksTree};
 ghost use Rattle.jfs_xtpage.specs.Page.{bytes_of};
 ghost use Rattle.jfs_xtpage.specs.declared.head.XtForm.TheVariants.{Full};
-ghost use Rattle.jfs_written.specs.xtree.specs.Node.{xt_node, frame_of, IsRoot, KeepsFrame};
+ghost use Rattle.jfs_xtree.specs.Node.{xt_node, frame_of, IsRoot, KeepsFrame};
 ghost use Rattle.jfs_put_range.specs.Call.{IsShortRange};
 ghost use Rattle.jfs_put_range.specs.Parts.{OthersFramed};
 ghost use Rattle.jfs_put_range.specs.Tops.{StepsRange, FillsRange, FramesRange, RefusesRange, NamesRoot};
@@ -17,9 +17,9 @@ ghost use Rattle.jfs_put_range.specs.Tops.{StepsRange, FillsRange, FramesRange, 
 use crate::root::put_root;
 use jfs_bits::{Pxd, Xad};
 use jfs_ranges::PageView;
-use jfs_written::page_tree::{Draft, TreeError, link_taken};
-use jfs_written::xtree::XtPages;
+use jfs_tree::{Draft, TreeError, link_taken};
 use jfs_xtpage::XtForm;
+use jfs_xtree::XtPages;
 use std::alloc::Global;
 
 /// Writes a range as `put_root` does; `all` are the free pages as they stood on `stack` before. The pages behind those that were taken name them.

@@ -1,19 +1,19 @@
 //! A page below a root that is read with its entries.
 
 ghost use Rattle.std.specs.Prelude.{◌≡◌, ◌<◌, ◌^◌, IfOk, IfErr};
-ghost use Rattle.jfs_written.specs.page_tree.specs.Call.{CarriesFault};
-ghost use Rattle.jfs_written.specs.page_tree.specs.Draft.{shown};
+ghost use Rattle.jfs_tree.specs.Call.{CarriesFault};
+ghost use Rattle.jfs_tree.specs.Draft.{shown};
 ghost use Rattle.jfs_xtpage.specs.declared.head.XtForm.TheVariants.{Full};
-ghost use Rattle.jfs_written.specs.xtree.specs.Node.{xt_node};
+ghost use Rattle.jfs_xtree.specs.Node.{xt_node};
 ghost use Rattle.jfs_put_range.specs.Parts.{IsKind, IsOpened, BreaksRule, NamesBelow};
 
 use jfs_bits::{Rule, Xad};
 use jfs_disk::Page;
 use jfs_ranges::PageView;
 use jfs_refill::items;
-use jfs_written::page_tree::{Draft, PageRead, Shape, TreeError};
-use jfs_written::xtree::XtPages;
+use jfs_tree::{Draft, PageRead, Shape, TreeError};
 use jfs_xtpage::XtForm;
+use jfs_xtree::XtPages;
 use std::alloc::Global;
 
 /// A page that breaks no rule, and its entries: a leaf's extents, or an inner page's children.

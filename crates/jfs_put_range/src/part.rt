@@ -4,8 +4,8 @@ ghost use Rattle.std.specs.Prelude.{◌≡◌, ◌≤◌, ◌<◌, ◌+◌, ◌-
 ghost use Rattle.std.specs.List.{All};
 ghost use Rattle.jfs_bits.specs.Extent.{FitsXad};
 ghost use Rattle.jfs_xtpage.specs.Page.{end_of};
-ghost use Rattle.jfs_written.specs.xtree.specs.Cutting.{kept_below};
-ghost use Rattle.jfs_written.specs.xtree.specs.Writing.{kept_from};
+ghost use Rattle.jfs_xtree.specs.Cutting.{kept_below};
+ghost use Rattle.jfs_xtree.specs.Writing.{kept_from};
 ghost use Rattle.jfs_put_range.specs.Parts.{Cuts, IsPart, is_none};
 
 use jfs_bits::{Pxd, Xad};

@@ -3,11 +3,11 @@
 ghost use Rattle.std.specs.Prelude.{◌≡◌, ◌<◌, ◌≤◌, ◌+◌, ◌^◌, ℕ, List, true, false, length, OnOk, IfOk, IfErr};
 ghost use Rattle.jfs_bits.specs.declared.extent.Xad.{Xad};
 ghost use Rattle.jfs_disk.specs.Image.{Image};
-ghost use Rattle.jfs_written.specs.page_tree.specs.Call.{CarriesFault};
-ghost use Rattle.jfs_written.specs.page_tree.specs.Draft.{shown};
-ghost use Rattle.jfs_written.specs.page_tree.specs.Form.{AllBelow, IsFront};
+ghost use Rattle.jfs_tree.specs.Call.{CarriesFault};
+ghost use Rattle.jfs_tree.specs.Draft.{shown};
+ghost use Rattle.jfs_tree.specs.Form.{AllBelow, IsFront};
 ghost use Rattle.jfs_xtpage.specs.Page.{bytes_of};
-ghost use Rattle.jfs_written.specs.xtree.specs.Node.{xt_node, IsRoot, KeepsFrame};
+ghost use Rattle.jfs_xtree.specs.Node.{xt_node, IsRoot, KeepsFrame};
 ghost use Rattle.jfs_put_range.specs.Call.{IsShortRange};
 ghost use Rattle.jfs_put_range.specs.Parts.{NoView, OthersFramed};
 ghost use Rattle.jfs_put_range.specs.Tops.{IsOfKind, IsOpenedRoot, BreaksRoot, StepsRange, FillsRange, FramesRange, RefusesRange, NamesRoot};
@@ -17,9 +17,9 @@ use crate::part::Part;
 use jfs_bits::Xad;
 use jfs_ranges::PageView;
 use jfs_refill::{items, store_root};
-use jfs_written::page_tree::{Draft, NO_PAGE, PageRead, Shape, TreeError};
+use jfs_tree::{Draft, NO_PAGE, PageRead, Shape, TreeError};
 use jfs_written::written;
-use jfs_written::xtree::XtPages;
+use jfs_xtree::XtPages;
 use std::alloc::{AllocError, Global};
 
 /// The levels of a tree below its root.

@@ -1,7 +1,7 @@
 //! Children that a range leaves as they are.
 
 ghost use Rattle.std.specs.Prelude.{◌≡◌, ◌<◌, ◌≤◌, ◌+◌, ◌-◌, ◌&&◌, length, drop};
-ghost use Rattle.jfs_written.specs.xtree.specs.Node.{BeginsAt};
+ghost use Rattle.jfs_xtree.specs.Node.{BeginsAt};
 ghost use Rattle.jfs_put_range.specs.Parts.{BeginsBy, is_none};
 
 use crate::part::Part;

@@ -1,8 +1,8 @@
 -- Free blocks of the volume.
 use Rattle.std.proofs.Common.{◌≡◌, ◌≤◌, sym, subst, ℕ, zero, suc, ◌+◌, List, [], ◌∷◌, ◌++◌, arith}
 use Rattle.jfs_bits.specs.declared.descriptor.Pxd.{Pxd}
-use Rattle.jfs_put_range.specs.page_tree.specs.Form.{AllBelow}
-use Rattle.jfs_put_range.specs.page_tree.specs.Fresh.{run_from, blocks_of}
+use Rattle.jfs_xtree.specs.page_tree.specs.Form.{AllBelow}
+use Rattle.jfs_xtree.specs.page_tree.specs.Fresh.{run_from, blocks_of}
 
 run_within : (bound a n : ℕ) (more : List ℕ) → a + n ≤ bound → AllBelow bound more → AllBelow bound (run_from a n ++ more)
 run_within bound a zero more l h = h

@@ -5,9 +5,9 @@ use Rattle.std.specs.List.{All}
 use Rattle.std.proofs.lemmas.Bool.{le-leb}
 use Rattle.jfs_bits.specs.declared.extent.Xad.{Xad}
 use Rattle.jfs_xtpage.specs.Page.{end_of, rises_from}
-use Rattle.jfs_put_range.specs.xtree.specs.CutParts.{AllFrom}
-use Rattle.jfs_put_range.specs.xtree.specs.Node.{IsGood}
-use Rattle.jfs_put_range.specs.xtree.specs.Writing.{is_recorded, AllTo}
+use Rattle.jfs_xtree.specs.CutParts.{AllFrom}
+use Rattle.jfs_xtree.specs.Node.{IsGood}
+use Rattle.jfs_xtree.specs.Writing.{is_recorded, AllTo}
 use Rattle.jfs_put_range.specs.Call.{IsShortRange, LiesFrom}
 
 next : (i : ℕ) → i + 1 ≡ suc i

@@ -2,15 +2,15 @@
 
 ghost use Rattle.std.specs.Prelude.{◌≡◌, ◌<◌, ◌≤◌, ◌+◌, ℕ, [], ◌∷◌, IfOk, length};
 ghost use Rattle.jfs_ranges.specs.View.{no_device};
-ghost use Rattle.jfs_put_range.specs.xtree.specs.Node.{IsGood};
+ghost use Rattle.jfs_xtree.specs.Node.{IsGood};
 ghost use Rattle.jfs_disk.specs.declared.disk.Part.TheVariants.{Low};
 
 use crate::ready::is_range;
 use jfs_bits::{Pxd, PxdList, Xad, XadList};
 use jfs_disk::{Fault, Page, Part};
 use jfs_put_range::put_range;
-use jfs_put_range::xtree::{XtError, add, extents, new_root};
 use jfs_ranges::{Edit, PageView, Tx, ViewError, apply};
+use jfs_xtree::{XtError, add, extents, new_root};
 use std::alloc::{AllocError, Global};
 
 /// A volume of 8,192 blocks, of which the first 128 are pages. One of them may be such that it can't be read.

@@ -3,8 +3,8 @@
 ghost use Rattle.std.specs.Prelude.{◌≡◌, ◌<◌, ◌≤◌, ◌+◌, ◌^◌, true};
 ghost use Rattle.std.specs.List.{All};
 ghost use Rattle.jfs_xtpage.specs.Page.{end_of, rises_from};
-ghost use Rattle.jfs_put_range.specs.xtree.specs.Node.{IsGood};
-ghost use Rattle.jfs_put_range.specs.xtree.specs.Writing.{is_recorded};
+ghost use Rattle.jfs_xtree.specs.Node.{IsGood};
+ghost use Rattle.jfs_xtree.specs.Writing.{is_recorded};
 ghost use Rattle.jfs_put_range.specs.Call.{IsShortRange, LiesFrom};
 
 use jfs_bits::Xad;

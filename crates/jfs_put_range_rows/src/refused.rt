@@ -5,8 +5,8 @@ ghost use Rattle.std.specs.Prelude.{◌<◌, ◌≤◌, ◌+◌, ◌*◌, ◌≡
 use crate::file::{File, recorded};
 use jfs_bits::{Pxd, Rule, Xad, put_pxd, put_u8, put_u16, put_xad};
 use jfs_disk::{Fault, Part};
-use jfs_put_range::xtree::XtError;
 use jfs_ranges::ViewError;
+use jfs_xtree::XtError;
 use std::alloc::{AllocError, Global};
 use std::test::*;
 

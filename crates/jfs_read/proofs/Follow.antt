@@ -5,21 +5,21 @@ use Rattle.std.proofs.lemmas.Bool.{lt-ltb}
 use Rattle.jfs_bits.specs.declared.extent.Xad.{Xad}
 use Rattle.jfs_inode.specs.Rules.{type_of}
 use Rattle.jfs_inode.specs.declared.fields.Dinode.{Dinode}
-use Rattle.jfs_way.specs.imap.specs.Inodes.{Inodes}
+use Rattle.jfs_imap.specs.Inodes.{Inodes}
 use Rattle.jfs_way.specs.bmap.specs.States.{Blocks}
-use Rattle.jfs_way.specs.page_tree.specs.Spells.{spells}
-use Rattle.jfs_way.specs.xtree.specs.Node.{xt_scale}
+use Rattle.jfs_tree.specs.Spells.{spells}
+use Rattle.jfs_xtree.specs.Node.{xt_scale}
 use Rattle.jfs_bits.specs.declared.rule.Rule.{Rule}
 use Rattle.jfs_xtpage.specs.declared.head.XtForm.TheVariants.{Root}
-use Rattle.jfs_way.specs.xtree.specs.Spells.{spells_extents, found_for, root_form}
-use Rattle.jfs_way.specs.plain.specs.Tree.{Tree, Found, walk, found, found_at, and_then, root}
-use Rattle.jfs_way.specs.plain.specs.Step.{Outcome, read, if_file, bytes_from}
-use Rattle.jfs_way.specs.plain.specs.declared.node.Node.{Node}
-use Rattle.jfs_way.specs.plain.specs.declared.refusal.Refusal.{Refusal}
-use Rattle.jfs_way.specs.plain.specs.declared.refusal.Refusal.TheVariants.{IsDir, NotFile}
-use Rattle.jfs_way.specs.plain.specs.declared.reply.Reply.{Reply}
-use Rattle.jfs_way.specs.plain.specs.declared.reply.Reply.TheVariants.{Bytes}
-use Rattle.jfs_way.specs.plain.specs.declared.reply.NodeKind.TheVariants.{Dir, File, Link, Other}
+use Rattle.jfs_xtree.specs.Spells.{spells_extents, found_for, root_form}
+use Rattle.jfs_plain.specs.Tree.{Tree, Found, walk, found, found_at, and_then, root}
+use Rattle.jfs_plain.specs.Step.{Outcome, read, if_file, bytes_from}
+use Rattle.jfs_plain.specs.declared.node.Node.{Node}
+use Rattle.jfs_plain.specs.declared.refusal.Refusal.{Refusal}
+use Rattle.jfs_plain.specs.declared.refusal.Refusal.TheVariants.{IsDir, NotFile}
+use Rattle.jfs_plain.specs.declared.reply.Reply.{Reply}
+use Rattle.jfs_plain.specs.declared.reply.Reply.TheVariants.{Bytes}
+use Rattle.jfs_plain.specs.declared.reply.NodeKind.TheVariants.{Dir, File, Link, Other}
 use Rattle.jfs_way.specs.objects.specs.Image.{extent_place}
 use Rattle.jfs_way.specs.objects.specs.Objects.{Object, IsWhole, objects, spelled, has_names, listed as listed_in}
 use Rattle.jfs_way.specs.objects.specs.Contents.{block_of, bytes_at}

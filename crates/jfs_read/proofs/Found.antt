@@ -8,21 +8,21 @@ use Rattle.jfs_bits.specs.declared.extent.Xad.{Xad}
 use Rattle.jfs_xtpage.specs.Page.{end_of}
 use Rattle.jfs_xtpage.specs.declared.head.XtForm.{XtForm}
 use Rattle.jfs_xtpage.specs.declared.head.XtForm.TheVariants.{Full}
-use Rattle.jfs_way.specs.page_tree.specs.Walk.{Node, Leaf, Inner, Broken, Marks, Page, Key, Row, Fault, Rises, rows_of}
-use Rattle.jfs_way.specs.page_tree.specs.Spells.{judge}
-use Rattle.jfs_way.specs.page_tree.proofs.Judge.{judged}
-use Rattle.jfs_way.specs.page_tree.proofs.Ways.{on_way}
-use Rattle.jfs_way.specs.xtree.specs.Laws.{order}
-use Rattle.jfs_way.specs.xtree.proofs.Roots.{is_point}
-use Rattle.jfs_way.specs.page_tree.specs.Edit.{found_in}
-use Rattle.jfs_way.specs.page_tree.specs.Path.{way_of, further, found_at, found_below}
-use Rattle.jfs_way.specs.xtree.specs.Node.{xt_scale, xt_node, is_within, all_within}
-use Rattle.jfs_way.specs.xtree.specs.Spells.{page_nodes, root_node, root_form, point, found_for, spells_extents}
-use Rattle.jfs_way.specs.xtree.proofs.Reading.{and_true, leaf_is}
+use Rattle.jfs_tree.specs.Walk.{Node, Leaf, Inner, Broken, Marks, Page, Key, Row, Fault, Rises, rows_of}
+use Rattle.jfs_tree.specs.Spells.{judge}
+use Rattle.jfs_tree.proofs.Judge.{judged}
+use Rattle.jfs_tree.proofs.Ways.{on_way}
+use Rattle.jfs_xtree.specs.Laws.{order}
+use Rattle.jfs_xtree.proofs.Roots.{is_point}
+use Rattle.jfs_tree.specs.Edit.{found_in}
+use Rattle.jfs_tree.specs.Path.{way_of, further, found_at, found_below}
+use Rattle.jfs_xtree.specs.Node.{xt_scale, xt_node, is_within, all_within}
+use Rattle.jfs_xtree.specs.Spells.{page_nodes, root_node, root_form, point, found_for, spells_extents}
+use Rattle.jfs_xtree.proofs.Reading.{and_true, leaf_is}
 use Rattle.jfs_way.specs.objects.specs.Contents.{block_of, block_in}
-use Rattle.jfs_way.specs.reader.specs.Reading.{PageIs, IsPast}
-use Rattle.jfs_way.specs.reader.specs.declared.error.ReadError.{ReadError}
-use Rattle.jfs_way.specs.reader.specs.declared.error.ReadError.TheVariants.{View, Outside}
+use Rattle.jfs_reader.specs.Reading.{PageIs, IsPast}
+use Rattle.jfs_reader.specs.declared.error.ReadError.{ReadError}
+use Rattle.jfs_reader.specs.declared.error.ReadError.TheVariants.{View, Outside}
 use Rattle.jfs_read.specs.Read.{block_by}
 
 -- ---- it lies within the volume

@@ -5,21 +5,21 @@ use Rattle.std.proofs.Math.Seq.{drop-cons}
 use Rattle.jfs_bits.specs.Field.{range_of}
 use Rattle.jfs_bits.specs.declared.rule.Rule.{Rule}
 use Rattle.jfs_inode.specs.declared.fields.Dinode.{Dinode}
-use Rattle.jfs_way.specs.xtree.specs.Spells.{found_for}
+use Rattle.jfs_xtree.specs.Spells.{found_for}
 use Rattle.jfs_way.specs.objects.specs.Contents.{bytes_at}
 use Rattle.jfs_way.specs.meaning.specs.Readers.{root_of}
 use Rattle.jfs_way.specs.meaning.specs.Contents.{byte_of}
-use Rattle.jfs_way.specs.plain.specs.Step.{bytes_from}
-use Rattle.jfs_way.specs.plain.specs.declared.refusal.Refusal.{Refusal}
-use Rattle.jfs_way.specs.plain.specs.declared.refusal.Refusal.TheVariants.{OutOfMemory, Damaged}
+use Rattle.jfs_plain.specs.Step.{bytes_from}
+use Rattle.jfs_plain.specs.declared.refusal.Refusal.{Refusal}
+use Rattle.jfs_plain.specs.declared.refusal.Refusal.TheVariants.{OutOfMemory, Damaged}
 use Rattle.jfs_bits.specs.declared.extent.Xad.{Xad}
 use Rattle.jfs_ranges.specs.declared.view.ViewError.{ViewError}
 use Rattle.jfs_ranges.specs.declared.view.ViewError.TheVariants.{Read, Memory}
-use Rattle.jfs_way.specs.page_tree.specs.Root.{NamesBroken}
-use Rattle.jfs_way.specs.xtree.specs.Node.{xt_scale}
-use Rattle.jfs_way.specs.xtree.specs.Spells.{page_nodes, root_node, spells_extents, tree_error}
-use Rattle.jfs_way.specs.xtree.specs.declared.error.XtError.{XtError}
-use Rattle.jfs_way.specs.xtree.specs.declared.error.XtError.TheVariants.{View, Bad}
+use Rattle.jfs_tree.specs.Root.{NamesBroken}
+use Rattle.jfs_xtree.specs.Node.{xt_scale}
+use Rattle.jfs_xtree.specs.Spells.{page_nodes, root_node, spells_extents, tree_error}
+use Rattle.jfs_xtree.specs.declared.error.XtError.{XtError}
+use Rattle.jfs_xtree.specs.declared.error.XtError.TheVariants.{View, Bad}
 use Rattle.jfs_way.specs.Answer.{is_open, at_root, Answers, view_refusal}
 use Rattle.jfs_read.specs.Read.{block_by, content_on, byte_on_way, unless_bad, extents_refusal, IsWayOf}
 

@@ -2,9 +2,9 @@
 use Rattle.std.proofs.Common.{◌≡◌, ◌<◌, ◌≤◌, refl, sym, ap, ◌∙◌, inl, inr, ℕ, zero, suc, ◌+◌, ◌-◌, ◌/◌, ◌%◌, List, Option, None, Ok, Err, arith}
 use Rattle.std.specs.Prelude.{min}
 use Rattle.jfs_bits.specs.declared.rule.Rule.{Rule}
-use Rattle.jfs_way.specs.plain.specs.Step.{bytes_from}
-use Rattle.jfs_way.specs.plain.specs.declared.refusal.Refusal.{Refusal}
-use Rattle.jfs_way.specs.xtree.specs.Spells.{broken_for}
+use Rattle.jfs_plain.specs.Step.{bytes_from}
+use Rattle.jfs_plain.specs.declared.refusal.Refusal.{Refusal}
+use Rattle.jfs_xtree.specs.Spells.{broken_for}
 use Rattle.jfs_way.specs.meaning.specs.Readers.{root_of}
 use Rattle.jfs_way.specs.Answer.{Answers}
 use Rattle.jfs_way.specs.declared.object.Held.{Held}

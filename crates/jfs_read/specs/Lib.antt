@@ -1,4 +1,2 @@
 -- what the clauses say
 pub mod Read
-
--- libraries below, passed on

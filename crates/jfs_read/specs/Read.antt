@@ -3,20 +3,20 @@ use Rattle.std.specs.Prelude.{◌≡◌, ◌⊎◌, true, ℕ, zero, suc, ◌+�
 use Rattle.jfs_bits.specs.declared.extent.Xad.{Xad}
 use Rattle.jfs_bits.specs.declared.rule.Rule.{Rule}
 use Rattle.jfs_inode.specs.declared.fields.Dinode.{Dinode}
-use Rattle.jfs_way.specs.imap.specs.Inodes.{Inodes}
-use Rattle.jfs_way.specs.xtree.specs.Spells.{broken_for, found_for, spells_extents}
+use Rattle.jfs_imap.specs.Inodes.{Inodes}
+use Rattle.jfs_xtree.specs.Spells.{broken_for, found_for, spells_extents}
 use Rattle.jfs_way.specs.objects.specs.Objects.{has_names}
 use Rattle.jfs_way.specs.objects.specs.Contents.{block_of, bytes_at}
 use Rattle.jfs_way.specs.meaning.specs.Readers.{root_of}
 use Rattle.jfs_way.specs.meaning.specs.Contents.{byte_of, is_regular}
-use Rattle.jfs_way.specs.plain.specs.Tree.{Tree, and_then}
-use Rattle.jfs_way.specs.plain.specs.Step.{bytes_from}
-use Rattle.jfs_way.specs.plain.specs.declared.refusal.Refusal.{Refusal}
-use Rattle.jfs_way.specs.plain.specs.declared.refusal.Refusal.TheVariants.{IsDir, NotFile, Damaged}
-use Rattle.jfs_way.specs.plain.specs.declared.reply.Reply.{Reply}
-use Rattle.jfs_way.specs.plain.specs.declared.reply.Reply.TheVariants.{Bytes}
-use Rattle.jfs_way.specs.xtree.specs.declared.error.XtError.{XtError}
-use Rattle.jfs_way.specs.xtree.specs.declared.error.XtError.TheVariants.{View, Bad}
+use Rattle.jfs_plain.specs.Tree.{Tree, and_then}
+use Rattle.jfs_plain.specs.Step.{bytes_from}
+use Rattle.jfs_plain.specs.declared.refusal.Refusal.{Refusal}
+use Rattle.jfs_plain.specs.declared.refusal.Refusal.TheVariants.{IsDir, NotFile, Damaged}
+use Rattle.jfs_plain.specs.declared.reply.Reply.{Reply}
+use Rattle.jfs_plain.specs.declared.reply.Reply.TheVariants.{Bytes}
+use Rattle.jfs_xtree.specs.declared.error.XtError.{XtError}
+use Rattle.jfs_xtree.specs.declared.error.XtError.TheVariants.{View, Bad}
 use Rattle.jfs_way.specs.Answer.{is_open, at_root, view_refusal}
 use Rattle.jfs_way.specs.Way.{path_of}
 use Rattle.jfs_way.specs.declared.object.Held.{Held}

@@ -4,21 +4,21 @@ ghost use Rattle.std.specs.Prelude.{◌≡◌, ◌≤◌, ◌<◌, ◌+◌, ◌+
 ghost use Rattle.jfs_disk.specs.Image.{page_of};
 ghost use Rattle.jfs_disk.specs.declared.disk.Fault.{Fault};
 ghost use Rattle.jfs_inode.specs.Inode.{FitsDinode};
-ghost use Rattle.jfs_way.specs.xtree.specs.Spells.{CarriesXt, broken_for, found_for};
+ghost use Rattle.jfs_xtree.specs.Spells.{CarriesXt, broken_for, found_for};
 ghost use Rattle.jfs_way.specs.meaning.specs.Readers.{root_of};
 ghost use Rattle.jfs_bits.specs.Field.{range_of};
-ghost use Rattle.jfs_way.specs.plain.specs.Step.{bytes_from};
-ghost use Rattle.jfs_way.specs.plain.specs.declared.refusal.Refusal.TheVariants.{OutOfMemory};
+ghost use Rattle.jfs_plain.specs.Step.{bytes_from};
+ghost use Rattle.jfs_plain.specs.declared.refusal.Refusal.TheVariants.{OutOfMemory};
 ghost use Rattle.jfs_way.specs.Answer.{Carries, CarriesCause, Answers};
 ghost use Rattle.jfs_read.specs.Read.{block_by, byte_on_way, unless_bad, extents_refusal, IsWayOf, OpenWhereSpelled};
 
 use jfs_bits::{Blob, Rule, Xad};
+use jfs_plain::Refusal;
 use jfs_ranges::{PageView, ViewError};
+use jfs_reader::{page_of_block, root_in};
+use jfs_tree::NO_PAGE;
 use jfs_way::Held;
-use jfs_way::page_tree::NO_PAGE;
-use jfs_way::plain::Refusal;
-use jfs_way::reader::{page_of_block, root_in};
-use jfs_way::xtree::{XtError, lookup};
+use jfs_xtree::{XtError, lookup};
 
 /// A call on the extent tree failed whose root stands in an inode on this page.
 fn from_extents(page: u32, e: XtError) -> Refusal

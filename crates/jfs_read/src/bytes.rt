@@ -7,9 +7,9 @@ ghost use Rattle.jfs_read.specs.Read.{stored_on, OpenWhereSpelled};
 
 use crate::block::push_part;
 use jfs_bits::Blob;
+use jfs_plain::Refusal;
 use jfs_ranges::PageView;
 use jfs_way::Held;
-use jfs_way::plain::Refusal;
 use std::alloc::Global;
 
 /// So many bytes of a file, or of a long symbolic link, from an offset on, wherever its inode says that it ends: zeros in a hole, in an extent that isn't recorded and

@@ -4,19 +4,19 @@ ghost use Rattle.std.specs.Prelude.{◌≡◌, ◌≤◌, ◌<◌, ◌+◌, ◌^
 ghost use Rattle.jfs_disk.specs.Image.{page_of};
 ghost use Rattle.jfs_way.specs.meaning.specs.Contents.{is_regular};
 ghost use Rattle.jfs_way.specs.meaning.specs.Readers.{root_of};
-ghost use Rattle.jfs_way.specs.plain.specs.Step.{read};
+ghost use Rattle.jfs_plain.specs.Step.{read};
 ghost use Rattle.jfs_way.specs.Answer.{Carries, Answers, Follows};
 ghost use Rattle.jfs_way.specs.Walk.{IfConsistent};
 ghost use Rattle.jfs_read.specs.Read.{bytes_in, read_at, IsBytes, OpenWhereSpelled};
 
 use crate::bytes::stored_bytes;
 use jfs_bits::Blob;
+use jfs_imap::InodeMap;
 use jfs_inode::Dinode;
 use jfs_name::Name;
+use jfs_plain::Refusal;
 use jfs_ranges::PageView;
-use jfs_way::imap::InodeMap;
-use jfs_way::plain::Refusal;
-use jfs_way::reader::{has_names, root_in};
+use jfs_reader::{has_names, root_in};
 use jfs_way::{Held, walk};
 use std::alloc::Global;
 

@@ -7,5 +7,3 @@ mod file;
 
 pub use bytes::stored_bytes;
 pub use file::read_bytes;
-
-// libraries below, passed on

@@ -15,7 +15,3 @@ pub use files::{aggregate_root, file_extents, root_in};
 pub use map::InodeMap;
 pub use object::{extents_of, has_extents, has_names, names_of, read_inode};
 pub use view::DiskView;
-
-// libraries below, passed on
-pub use jfs_meaning as meaning;
-pub use jfs_meaning::{dtree, objects, page_tree, plain, xtree};

@@ -6,7 +6,7 @@ use Rattle.std.proofs.lemmas.Bool.{cases_lt}
 use Rattle.std.proofs.lemmas.List.{get_or-take, get_or-drop, get_or-replicate}
 use Rattle.jfs_bits.specs.Field.{range_of}
 use Rattle.jfs_bits.specs.declared.extent.Xad.{Xad}
-use Rattle.jfs_way.specs.plain.specs.Step.{bytes_from}
+use Rattle.jfs_plain.specs.Step.{bytes_from}
 use Rattle.jfs_way.specs.objects.specs.Contents.{block_of, bytes_at}
 use Rattle.jfs_way.specs.meaning.specs.Contents.{byte_of}
 use Rattle.jfs_readlink.specs.Target.{byte_at}

@@ -6,21 +6,21 @@ use Rattle.jfs_bits.specs.declared.extent.Xad.{Xad}
 use Rattle.jfs_bits.specs.declared.rule.Rule.{Rule}
 use Rattle.jfs_inode.specs.Rules.{type_of}
 use Rattle.jfs_inode.specs.declared.fields.Dinode.{Dinode}
-use Rattle.jfs_way.specs.imap.specs.Inodes.{Inodes}
+use Rattle.jfs_imap.specs.Inodes.{Inodes}
 use Rattle.jfs_way.specs.bmap.specs.States.{Blocks}
-use Rattle.jfs_way.specs.xtree.specs.Node.{xt_scale}
-use Rattle.jfs_way.specs.xtree.specs.declared.error.XtError.{XtError}
-use Rattle.jfs_way.specs.xtree.specs.declared.error.XtError.TheVariants as tree
+use Rattle.jfs_xtree.specs.Node.{xt_scale}
+use Rattle.jfs_xtree.specs.declared.error.XtError.{XtError}
+use Rattle.jfs_xtree.specs.declared.error.XtError.TheVariants as tree
 use Rattle.jfs_ranges.specs.declared.view.ViewError.{ViewError}
 use Rattle.jfs_ranges.specs.declared.view.ViewError.TheVariants.{Read, Memory}
-use Rattle.jfs_way.specs.plain.specs.Tree.{Tree, Found, walk, found, and_then, root, is_link}
-use Rattle.jfs_way.specs.plain.specs.Step.{Outcome, readlink, refuse, bytes_from}
-use Rattle.jfs_way.specs.plain.specs.declared.node.Node.{Node}
-use Rattle.jfs_way.specs.plain.specs.declared.refusal.Refusal.{Refusal}
-use Rattle.jfs_way.specs.plain.specs.declared.refusal.Refusal.TheVariants.{NotFile}
-use Rattle.jfs_way.specs.plain.specs.declared.reply.Reply.{Reply}
-use Rattle.jfs_way.specs.plain.specs.declared.reply.Reply.TheVariants.{Target}
-use Rattle.jfs_way.specs.plain.specs.declared.reply.NodeKind.TheVariants.{Dir, File, Link, Other}
+use Rattle.jfs_plain.specs.Tree.{Tree, Found, walk, found, and_then, root, is_link}
+use Rattle.jfs_plain.specs.Step.{Outcome, readlink, refuse, bytes_from}
+use Rattle.jfs_plain.specs.declared.node.Node.{Node}
+use Rattle.jfs_plain.specs.declared.refusal.Refusal.{Refusal}
+use Rattle.jfs_plain.specs.declared.refusal.Refusal.TheVariants.{NotFile}
+use Rattle.jfs_plain.specs.declared.reply.Reply.{Reply}
+use Rattle.jfs_plain.specs.declared.reply.Reply.TheVariants.{Target}
+use Rattle.jfs_plain.specs.declared.reply.NodeKind.TheVariants.{Dir, File, Link, Other}
 use Rattle.jfs_way.specs.objects.specs.Image.{extent_place}
 use Rattle.jfs_way.specs.objects.specs.Objects.{Object, IsWhole, spelled, extents_of, listed}
 use Rattle.jfs_way.specs.objects.specs.Contents.{block_of, bytes_at}
@@ -30,9 +30,9 @@ use Rattle.jfs_way.specs.meaning.specs.Readers.{readers}
 use Rattle.jfs_way.specs.meaning.specs.Contents.{byte_of, stored}
 use Rattle.jfs_way.specs.meaning.specs.Node.{kind_of, is_symbolic, target_in}
 use Rattle.jfs_way.specs.meaning.specs.Consistent.{IsConsistent}
-use Rattle.jfs_way.specs.reader.specs.Reading.{ExtentsAre}
-use Rattle.jfs_way.specs.reader.specs.declared.error.ReadError.{ReadError}
-use Rattle.jfs_way.specs.reader.specs.declared.error.ReadError.TheVariants as read
+use Rattle.jfs_reader.specs.Reading.{ExtentsAre}
+use Rattle.jfs_reader.specs.declared.error.ReadError.{ReadError}
+use Rattle.jfs_reader.specs.declared.error.ReadError.TheVariants as read
 use Rattle.jfs_way.specs.Answer.{Answers, Follows, is_open, view_refusal}
 use Rattle.jfs_way.specs.Volume.{volume_of}
 use Rattle.jfs_way.specs.Walk.{IsHeld, IsShown, IsThere, IsOf, tree_in}

@@ -6,19 +6,19 @@ use Rattle.std.proofs.lemmas.Bool.{and_parts, leb-true, ltb-true}
 use Rattle.jfs_bits.specs.declared.extent.Xad.{Xad}
 use Rattle.jfs_bits.specs.declared.rule.Rule.TheVariants.{Order}
 use Rattle.jfs_inode.specs.declared.fields.Dinode.{Dinode}
-use Rattle.jfs_way.specs.page_tree.specs.Walk.{Child, Node, Leaf, Inner, Broken, Marks, placed, under, body, walk, rows_of}
-use Rattle.jfs_way.specs.page_tree.specs.Spells.{no_page, with_root, levels_of, along_first, first_path, top, at_levels, tree_of}
-use Rattle.jfs_way.specs.page_tree.proofs.Judge.{judged}
-use Rattle.jfs_way.specs.page_tree.proofs.Frame.{rows-append}
-use Rattle.jfs_way.specs.page_tree.proofs.Leaves.{rows_leaf}
+use Rattle.jfs_tree.specs.Walk.{Child, Node, Leaf, Inner, Broken, Marks, placed, under, body, walk, rows_of}
+use Rattle.jfs_tree.specs.Spells.{no_page, with_root, levels_of, along_first, first_path, top, at_levels, tree_of}
+use Rattle.jfs_tree.proofs.Judge.{judged}
+use Rattle.jfs_tree.proofs.Frame.{rows-append}
+use Rattle.jfs_tree.proofs.Leaves.{rows_leaf}
 use Rattle.jfs_xtpage.specs.declared.head.XtForm.{XtForm}
 use Rattle.jfs_xtpage.specs.declared.head.XtForm.TheVariants.{Root, Full}
-use Rattle.jfs_way.specs.xtree.specs.Node.{xt_scale, xt_node, is_within, all_within}
-use Rattle.jfs_way.specs.xtree.proofs.Reading.{leaf_is}
+use Rattle.jfs_xtree.specs.Node.{xt_scale, xt_node, is_within, all_within}
+use Rattle.jfs_xtree.proofs.Reading.{leaf_is}
 use Rattle.jfs_way.specs.objects.specs.Contents.{block_in, block_of}
 use Rattle.jfs_way.specs.objects.specs.Objects.{has_extents, extents_of, listed}
 use Rattle.jfs_way.specs.meaning.specs.Readers.{readers, root_of}
-use Rattle.jfs_way.specs.reader.specs.Reading.{IsPast}
+use Rattle.jfs_reader.specs.Reading.{IsPast}
 
 -- ---- of a list of extents
 

@@ -1,4 +1,2 @@
 -- what the clauses say
 pub mod Target
-
--- libraries below, passed on

@@ -4,24 +4,24 @@ use Rattle.jfs_bits.specs.Field.{range_of}
 use Rattle.jfs_bits.specs.declared.extent.Xad.{Xad}
 use Rattle.jfs_bits.specs.declared.rule.Rule.{Rule}
 use Rattle.jfs_bits.specs.declared.rule.Rule.TheVariants.{Range}
-use Rattle.jfs_way.specs.imap.specs.Inodes.{Inodes}
-use Rattle.jfs_way.specs.xtree.specs.Node.{xt_scale}
-use Rattle.jfs_way.specs.xtree.specs.declared.error.XtError.{XtError}
-use Rattle.jfs_way.specs.xtree.specs.declared.error.XtError.TheVariants as tree
+use Rattle.jfs_imap.specs.Inodes.{Inodes}
+use Rattle.jfs_xtree.specs.Node.{xt_scale}
+use Rattle.jfs_xtree.specs.declared.error.XtError.{XtError}
+use Rattle.jfs_xtree.specs.declared.error.XtError.TheVariants as tree
 use Rattle.jfs_way.specs.objects.specs.Objects.{extents_of, listed}
 use Rattle.jfs_way.specs.objects.specs.Contents.{block_of, bytes_at}
 use Rattle.jfs_way.specs.meaning.specs.Readers.{readers}
 use Rattle.jfs_way.specs.meaning.specs.Contents.{byte_of}
 use Rattle.jfs_way.specs.meaning.specs.Node.{is_symbolic}
-use Rattle.jfs_way.specs.plain.specs.Tree.{Tree, and_then}
-use Rattle.jfs_way.specs.plain.specs.Step.{bytes_from}
-use Rattle.jfs_way.specs.plain.specs.declared.refusal.Refusal.{Refusal}
-use Rattle.jfs_way.specs.plain.specs.declared.refusal.Refusal.TheVariants.{NotFile, Damaged}
-use Rattle.jfs_way.specs.plain.specs.declared.reply.Reply.{Reply}
-use Rattle.jfs_way.specs.plain.specs.declared.reply.Reply.TheVariants.{Target}
-use Rattle.jfs_way.specs.reader.specs.Reading.{IsPast}
-use Rattle.jfs_way.specs.reader.specs.declared.error.ReadError.{ReadError}
-use Rattle.jfs_way.specs.reader.specs.declared.error.ReadError.TheVariants as read
+use Rattle.jfs_plain.specs.Tree.{Tree, and_then}
+use Rattle.jfs_plain.specs.Step.{bytes_from}
+use Rattle.jfs_plain.specs.declared.refusal.Refusal.{Refusal}
+use Rattle.jfs_plain.specs.declared.refusal.Refusal.TheVariants.{NotFile, Damaged}
+use Rattle.jfs_plain.specs.declared.reply.Reply.{Reply}
+use Rattle.jfs_plain.specs.declared.reply.Reply.TheVariants.{Target}
+use Rattle.jfs_reader.specs.Reading.{IsPast}
+use Rattle.jfs_reader.specs.declared.error.ReadError.{ReadError}
+use Rattle.jfs_reader.specs.declared.error.ReadError.TheVariants as read
 use Rattle.jfs_way.specs.Answer.{at_root, view_refusal}
 use Rattle.jfs_way.specs.Way.{path_of}
 use Rattle.jfs_way.specs.declared.object.Held.{Held}

@@ -5,5 +5,3 @@ mod link;
 mod stored;
 
 pub use link::read_link;
-
-// libraries below, passed on

@@ -5,25 +5,25 @@ ghost use Rattle.jfs_bits.specs.Field.{range_of};
 ghost use Rattle.jfs_disk.specs.Image.{page_of};
 ghost use Rattle.jfs_disk.specs.declared.disk.Fault.{Fault};
 ghost use Rattle.jfs_ranges.specs.View.{CarriesCount};
-ghost use Rattle.jfs_way.specs.xtree.specs.Spells.{CarriesXt};
+ghost use Rattle.jfs_xtree.specs.Spells.{CarriesXt};
 ghost use Rattle.jfs_way.specs.meaning.specs.Node.{is_symbolic};
-ghost use Rattle.jfs_way.specs.plain.specs.Step.{readlink};
-ghost use Rattle.jfs_way.specs.reader.specs.Reading.{CarriesRead};
+ghost use Rattle.jfs_plain.specs.Step.{readlink};
+ghost use Rattle.jfs_reader.specs.Reading.{CarriesRead};
 ghost use Rattle.jfs_way.specs.Answer.{Carries, CarriesCause, Answers, Follows, view_refusal};
 ghost use Rattle.jfs_way.specs.Walk.{IfConsistent};
 ghost use Rattle.jfs_readlink.specs.Target.{target_from, target_at, IsTarget, extents_refusal, read_refusal};
 
 use crate::stored::stored_bytes;
 use jfs_bits::{Blob, Rule};
+use jfs_imap::InodeMap;
 use jfs_inode::Dinode;
 use jfs_name::Name;
+use jfs_plain::Refusal;
 use jfs_ranges::{PageView, ViewError};
-use jfs_way::imap::InodeMap;
-use jfs_way::page_tree::NO_PAGE;
-use jfs_way::plain::Refusal;
-use jfs_way::reader::{ReadError, extents_of};
-use jfs_way::xtree::XtError;
+use jfs_reader::{ReadError, extents_of};
+use jfs_tree::NO_PAGE;
 use jfs_way::{Held, walk};
+use jfs_xtree::XtError;
 use std::alloc::{AllocError, Global};
 
 /// The target of the symbolic link at the end of a path. `Err` is the walk's refusal; `NotFile` where that is no symbolic link; or `Damaged` where a page of the tree of

@@ -21,6 +21,3 @@ pub use read::transactions;
 pub use regroup::records_of;
 pub use size::entry_size;
 pub use write::entry_text;
-
-// libraries below, passed on
-pub use jfs_logpages as logpages;

@@ -5,7 +5,7 @@ ghost use Rattle.std.specs.Prelude.{◌≤◌};
 use jfs_bits::Pxd;
 use jfs_disk::{Disk, SureDisk};
 use jfs_logfmt::Record;
-use jfs_records::logpages::{read_ring, write_fresh};
+use jfs_logpages::{read_ring, write_fresh};
 use jfs_records::{read_records, transactions};
 use std::alloc::Global;
 use std::test::*;

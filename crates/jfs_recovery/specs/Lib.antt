@@ -9,7 +9,5 @@ pub mod Laws
 -- libraries below, passed on
 pub use Rattle.jfs_core as crash_core
 pub use Rattle.jfs_kinds as kinds
-pub use Rattle.jfs_records.specs.logpages
 pub use Rattle.jfs_kinds.specs.objects
 pub use Rattle.jfs_records as records
-pub use Rattle.jfs_kinds.specs.page_tree

@@ -11,10 +11,3 @@ pub use law::{
     redo_runs_edit_by_edit, redo_runs_forwards, steps_keep_cores_sound, still_blocks_stay,
     stopped_redo_is_redone, synced_bytes_stay,
 };
-
-// libraries below, passed on
-pub use jfs_core as crash_core;
-pub use jfs_kinds as kinds;
-pub use jfs_kinds::{objects, page_tree};
-pub use jfs_records as records;
-pub use jfs_records::logpages;

@@ -12,8 +12,8 @@ use Rattle.jfs_ranges.specs.declared.edit.Edit.{Edit}
 use Rattle.jfs_logfmt.specs.declared.log_record.Record.{Record}
 use Rattle.jfs_logfmt.specs.declared.log_record.Record.TheVariants as records
 use Rattle.jfs_logfmt.specs.Rules.{IsRecordOf, AreWithin, is_page, is_inside, is_within}
-use Rattle.jfs_redo_steps.specs.records.specs.Committed.{edits_of, lines_of, marks_of, transactions, committed}
-use Rattle.jfs_redo_steps.specs.records.specs.Redo.{all_of}
+use Rattle.jfs_records.specs.Committed.{edits_of, lines_of, marks_of, transactions, committed}
+use Rattle.jfs_records.specs.Redo.{all_of}
 use Rattle.jfs_redo.specs.Log.{ExtentLies, ExtentsLieWithin}
 
 pub all-append : {X : Type 0} (P : X → Type 0) (xs ys : List X) → AllByRecursion P xs → AllByRecursion P ys → AllByRecursion P (xs ++ ys)

@@ -1,11 +1,11 @@
 -- What was read of a log, as redo answers it.
 use Rattle.std.proofs.Common.{ℕ, ◌∷◌, drop, refl, Err}
 use Rattle.jfs_disk.specs.Image.{Image}
-use Rattle.jfs_redo_steps.specs.logpages.specs.ReadLog.{IsReadLog, IsReadAs}
-use Rattle.jfs_redo_steps.specs.logpages.specs.declared.ring_text.RingText.{RingText}
-use Rattle.jfs_redo_steps.specs.logpages.specs.declared.error.RingError.{RingError}
-use Rattle.jfs_redo_steps.specs.logpages.specs.declared.error.RingError.TheVariants as ring
-use Rattle.jfs_redo_steps.specs.records.specs.FromText.{AreRecords}
+use Rattle.jfs_logpages.specs.ReadLog.{IsReadLog, IsReadAs}
+use Rattle.jfs_logpages.specs.declared.ring_text.RingText.{RingText}
+use Rattle.jfs_logpages.specs.declared.error.RingError.{RingError}
+use Rattle.jfs_logpages.specs.declared.error.RingError.TheVariants as ring
+use Rattle.jfs_records.specs.FromText.{AreRecords}
 use Rattle.jfs_super.specs.Rules.{blocks_of}
 use Rattle.jfs_super.specs.declared.fields.Super.{Super}
 use Rattle.jfs_redo.specs.Log.{IsLogOf, refusal_of}

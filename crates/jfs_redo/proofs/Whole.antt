@@ -4,21 +4,21 @@ use Rattle.std.specs.Prelude.{Option, Some}
 use Rattle.jfs_bits.specs.declared.extent.Xad.{Xad}
 use Rattle.jfs_disk.specs.Image.{Image, page_of}
 use Rattle.jfs_ranges.specs.declared.edit.Edit.{Edit}
-use Rattle.jfs_redo_steps.specs.records.specs.Redo.{all_of}
+use Rattle.jfs_records.specs.Redo.{all_of}
 use Rattle.jfs_super.specs.Super.{super_of}
 use Rattle.jfs_super.specs.Rules.{blocks_of}
 use Rattle.jfs_super.specs.declared.fields.Super.{Super}
 use Rattle.jfs_super.specs.declared.fields.TheConstants.VolumeState.{CLEAN}
-use Rattle.jfs_redo_steps.specs.bmap.specs.Set.{taken_at}
-use Rattle.jfs_redo_steps.specs.bmap.specs.MapFile.{IsMapPage, is_in_use}
-use Rattle.jfs_redo_steps.specs.bmap.proofs.Views.{taken_at-past}
-use Rattle.jfs_redo_steps.specs.imap.specs.Inodes.{Inodes, inodes_of, IsInodePage}
+use Rattle.jfs_bmap.specs.Set.{taken_at}
+use Rattle.jfs_bmap.specs.MapFile.{IsMapPage, is_in_use}
+use Rattle.jfs_bmap.proofs.Views.{taken_at-past}
+use Rattle.jfs_imap.specs.Inodes.{Inodes, inodes_of, IsInodePage}
 use Rattle.jfs_redo_steps.specs.objects.specs.Contents.{block_of}
 use Rattle.jfs_redo_steps.specs.objects.specs.Image.{file_extents}
 use Rattle.jfs_redo_steps.specs.steps.specs.After.{extents_after}
-use Rattle.jfs_mount_maps.specs.mount_rules.specs.Subject.{Subject, subject_of, volume}
-use Rattle.jfs_mount_maps.specs.mount_rules.specs.Mount.{iags}
-use Rattle.jfs_mount_maps.specs.sets.specs.Sets.{extent_from}
+use Rattle.jfs_mount.specs.Subject.{Subject, subject_of, volume}
+use Rattle.jfs_mount.specs.Mount.{iags}
+use Rattle.jfs_sets.specs.Sets.{extent_from}
 use Rattle.jfs_redo_steps.specs.Inodes.{AreInodesInUse}
 use Rattle.jfs_redo.specs.Put.{place_if}
 use Rattle.jfs_redo.specs.Plan.{IsPlan, IsPlanOf}

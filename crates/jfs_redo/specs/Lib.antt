@@ -4,7 +4,6 @@ pub mod Put
 pub mod Plan
 pub mod Redo
 -- libraries below, passed on
-pub use Rattle.jfs_mount_maps.specs.mount_rules
-pub use Rattle.jfs_mount_maps.specs.reader
-pub use Rattle.jfs_redo_steps.specs.records
-pub use Rattle.jfs_redo_steps as redo_steps
+pub use Rattle.jfs_reader.specs.meaning
+pub use Rattle.jfs_mount as mount_rules
+pub use Rattle.jfs_records as records

@@ -6,12 +6,12 @@ use Rattle.jfs_disk.specs.Image.{Image}
 use Rattle.jfs_disk.specs.declared.disk.Part.TheVariants.{Whole}
 use Rattle.jfs_ranges.specs.declared.edit.Edit.{Edit}
 use Rattle.jfs_ranges.specs.declared.edit.Edit.TheVariants.{Lines, NoRedo, Alloc, Free}
-use Rattle.jfs_redo_steps.specs.logpages.specs.Back.{Met}
-use Rattle.jfs_redo_steps.specs.logpages.specs.ReadLog.{IsReadAs, IsNotOwn, BreaksLog}
-use Rattle.jfs_redo_steps.specs.logpages.specs.declared.ring_text.RingText.{RingText}
-use Rattle.jfs_redo_steps.specs.logpages.specs.declared.error.RingError.{RingError}
-use Rattle.jfs_redo_steps.specs.logpages.specs.declared.error.RingError.TheVariants as ring
-use Rattle.jfs_redo_steps.specs.records.specs.Committed.{committed}
+use Rattle.jfs_logpages.specs.Back.{Met}
+use Rattle.jfs_logpages.specs.ReadLog.{IsReadAs, IsNotOwn, BreaksLog}
+use Rattle.jfs_logpages.specs.declared.ring_text.RingText.{RingText}
+use Rattle.jfs_logpages.specs.declared.error.RingError.{RingError}
+use Rattle.jfs_logpages.specs.declared.error.RingError.TheVariants as ring
+use Rattle.jfs_records.specs.Committed.{committed}
 use Rattle.jfs_redo_steps.specs.steps.specs.After.{is_extent}
 use Rattle.jfs_redo.specs.declared.error.RedoError.{RedoError}
 use Rattle.jfs_redo.specs.declared.error.RedoError.TheVariants.{Disk, ForeignLog, BadLog, BadImage, Memory}

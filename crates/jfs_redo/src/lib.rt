@@ -10,8 +10,3 @@ mod state;
 
 pub use error::{RedoError, Redone};
 pub use redoing::redo;
-
-// libraries below, passed on
-pub use jfs_mount_maps::{mount_rules, reader};
-pub use jfs_redo_steps as redo_steps;
-pub use jfs_redo_steps::records;

@@ -8,9 +8,9 @@ ghost use Rattle.jfs_redo.specs.Log.{IsLogOf, ExtentsLieWithin, IsLogCause, refu
 use crate::error::RedoError;
 use jfs_bits::{Pxd, Sequence};
 use jfs_disk::Disk;
+use jfs_logpages::{RingError, read_ring};
 use jfs_ranges::Tx;
-use jfs_redo_steps::logpages::{RingError, read_ring};
-use jfs_redo_steps::records::{read_records, transactions};
+use jfs_records::{read_records, transactions};
 use std::alloc::Global;
 
 /// The committed transactions of the log at `log`, of a volume of so many blocks, the oldest first: those whose records stand from the place on that the newest SYNCPT gives, and whose COMMIT is there.

@@ -5,23 +5,23 @@ ghost use Rattle.jfs_bits.specs.Bits.{is_taken};
 ghost use Rattle.jfs_disk.specs.Image.{page_of};
 ghost use Rattle.jfs_ranges.specs.Apply.{touches_tx};
 ghost use Rattle.jfs_ranges.specs.View.{CarriesCount};
-ghost use Rattle.jfs_redo_steps.specs.records.specs.Redo.{all_of};
+ghost use Rattle.jfs_records.specs.Redo.{all_of};
 ghost use Rattle.std.specs.List.{AllByRecursion};
 ghost use Rattle.jfs_super.specs.Rules.{blocks_of};
 ghost use Rattle.jfs_super.specs.declared.fields.Super.{Super};
-ghost use Rattle.jfs_redo_steps.specs.bmap.specs.MapFile.{AreGroups};
-ghost use Rattle.jfs_redo_steps.specs.bmap.specs.Set.{taken_at};
+ghost use Rattle.jfs_bmap.specs.MapFile.{AreGroups};
+ghost use Rattle.jfs_bmap.specs.Set.{taken_at};
 ghost use Rattle.jfs_redo_steps.specs.each.specs.Each.{AllFit};
 ghost use Rattle.jfs_redo_steps.specs.steps.specs.After.{used_after, extents_after};
-ghost use Rattle.jfs_mount_maps.specs.mount_rules.specs.Subject.{subject_of};
+ghost use Rattle.jfs_mount.specs.Subject.{subject_of};
 ghost use Rattle.jfs_redo.specs.Log.{ExtentsLieWithin};
 ghost use Rattle.jfs_redo.specs.Plan.{IsPlan, Plans};
 
-use jfs_mount_maps::mount_rules::{BadMount, Maps, Mounted, map_files};
-use jfs_mount_maps::sets::used_blocks;
+use jfs_bmap::OwnedMap;
+use jfs_mount::{BadMount, Maps, Mounted, map_files};
 use jfs_ranges::{PageView, Tx, ViewError};
-use jfs_redo_steps::bmap::OwnedMap;
 use jfs_redo_steps::{mark_pages, redo_blocks, redo_extents};
+use jfs_sets::used_blocks;
 use std::alloc::{AllocError, Global};
 
 /// What redo knows before it writes: which pages transactions change, the files of both maps, the blocks in use after all of them, and the inode extents then.

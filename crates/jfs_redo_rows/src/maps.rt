@@ -3,8 +3,8 @@
 use jfs_bits::{Blob, PageKind, Pxd, put_u32};
 use jfs_disk::{Disk, Page, Part, SureDisk};
 use jfs_ranges::{Edit, PageView, Tx};
-use jfs_redo::reader::DiskView;
-use jfs_redo::redo_steps::{inodes_in_use, redo_blocks, redo_extents};
+use jfs_reader::DiskView;
+use jfs_redo_steps::{inodes_in_use, redo_blocks, redo_extents};
 use std::alloc::{AllocError, Global};
 use std::test::*;
 

@@ -3,7 +3,7 @@
 use jfs_bits::{Blob, PageKind};
 use jfs_disk::{Disk, Page, SureDisk};
 use jfs_ranges::{Edit, Tx};
-use jfs_redo::redo_steps::{mark_pages, redo_pages};
+use jfs_redo_steps::{mark_pages, redo_pages};
 use std::alloc::{AllocError, Global};
 use std::test::*;
 

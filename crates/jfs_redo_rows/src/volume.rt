@@ -10,7 +10,7 @@ use jfs_bits::{Moment, Rule, put_u32};
 use jfs_check::check;
 use jfs_disk::{Disk, Fail, Fault, Kind, MemDisk, Page, Part, SureDisk};
 use jfs_format::format;
-use jfs_redo::mount_rules::BadMount;
+use jfs_mount::BadMount;
 use jfs_redo::{RedoError, Redone, redo};
 use jfs_super::{Super, VolumeState, read_super};
 use std::alloc::Global;

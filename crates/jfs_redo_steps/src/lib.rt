@@ -12,10 +12,3 @@ pub use extents::redo_extents;
 pub use inodes::inodes_in_use;
 pub use page::redo_page;
 pub use pages::{mark_pages, redo_pages};
-
-// libraries below, passed on
-pub use jfs_each as each;
-pub use jfs_records as records;
-pub use jfs_records::logpages;
-pub use jfs_steps as steps;
-pub use jfs_steps::{bmap, imap, objects};

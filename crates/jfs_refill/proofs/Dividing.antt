@@ -3,11 +3,11 @@ use Rattle.std.proofs.Common.{◌≡◌, ◌≤◌, ◌<◌, refl, sym, ap, ◌�
 use Rattle.std.proofs.lemmas.List.{take-append-drop, length-take-le, length-drop, length-map, map-append}
 use Rattle.jfs_bits.specs.declared.extent.Xad.{Xad}
 use Rattle.jfs_bits.specs.Field.{field_of}
-use Rattle.jfs_xtree.specs.page_tree.specs.Walk.{Node, Inner}
-use Rattle.jfs_xtree.specs.page_tree.specs.Edit.{IsCons}
-use Rattle.jfs_xtree.specs.page_tree.specs.Levels.{entry_count}
-use Rattle.jfs_xtree.specs.page_tree.specs.Filled.{FillsBoth}
-use Rattle.jfs_xtree.specs.page_tree.specs.Form.{SplitsChildren}
+use Rattle.jfs_tree.specs.Walk.{Node, Inner}
+use Rattle.jfs_tree.specs.Edit.{IsCons}
+use Rattle.jfs_tree.specs.Levels.{entry_count}
+use Rattle.jfs_tree.specs.Filled.{FillsBoth}
+use Rattle.jfs_tree.specs.Form.{SplitsChildren}
 use Rattle.jfs_xtpage.specs.declared.head.XtForm.TheVariants.{Full}
 use Rattle.jfs_xtpage.specs.declared.head.XtHead.{XtHead}
 use Rattle.jfs_xtpage.specs.Page.{head_of, entry_of, entries_of, entries_from, rises_from, new_head, new_flag}

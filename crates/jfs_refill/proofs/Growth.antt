@@ -3,7 +3,7 @@ use Rattle.std.proofs.Common.{◌≡◌, ◌≤◌, ◌<◌, refl, ℕ, ◌+◌,
 use Rattle.std.specs.Prelude.{nat_le}
 use Rattle.std.proofs.lemmas.Bool.{le-leb, leb-true}
 use Rattle.jfs_bits.specs.declared.extent.Xad.{Xad}
-use Rattle.jfs_xtree.specs.page_tree.specs.declared.form.Sibling.{Sibling}
+use Rattle.jfs_tree.specs.declared.form.Sibling.{Sibling}
 use Rattle.jfs_xtpage.specs.Page.{end_of, rises_from}
 use Rattle.jfs_xtree.specs.Node.{is_within, all_within, child_entry, lowered}
 use Rattle.jfs_xtree.proofs.Inners.{child_within}

@@ -5,15 +5,15 @@ use Rattle.std.proofs.lemmas.Bool.Decides.{nat_tests}
 use Rattle.jfs_bits.specs.declared.extent.Xad.{Xad}
 use Rattle.jfs_bits.specs.Field.{field_of}
 use Rattle.jfs_disk.specs.Image.{Image}
-use Rattle.jfs_xtree.specs.page_tree.specs.Walk.{Node, Leaf, Inner}
-use Rattle.jfs_xtree.specs.page_tree.specs.Edit.{count_in}
-use Rattle.jfs_xtree.specs.page_tree.specs.Form.{AllBelow}
-use Rattle.jfs_xtree.specs.page_tree.specs.Draft.{shown}
-use Rattle.jfs_xtree.specs.page_tree.specs.Call.{PutsOne, PutsTwo, StaysOff, StaysTaken}
-use Rattle.jfs_xtree.specs.page_tree.specs.declared.draft.Drafted.{Drafted}
-use Rattle.jfs_xtree.specs.page_tree.specs.declared.form.TreeError.{TreeError}
-use Rattle.jfs_xtree.specs.page_tree.proofs.Growing.{not_taken}
-use Rattle.jfs_xtree.specs.page_tree.proofs.Taking.{another, below_popped, itself, taken_last, two_others}
+use Rattle.jfs_tree.specs.Walk.{Node, Leaf, Inner}
+use Rattle.jfs_tree.specs.Edit.{count_in}
+use Rattle.jfs_tree.specs.Form.{AllBelow}
+use Rattle.jfs_tree.specs.Draft.{shown}
+use Rattle.jfs_tree.specs.Call.{PutsOne, PutsTwo, StaysOff, StaysTaken}
+use Rattle.jfs_tree.specs.declared.draft.Drafted.{Drafted}
+use Rattle.jfs_tree.specs.declared.form.TreeError.{TreeError}
+use Rattle.jfs_tree.proofs.Growing.{not_taken}
+use Rattle.jfs_tree.proofs.Taking.{another, below_popped, itself, taken_last, two_others}
 use Rattle.jfs_xtpage.specs.declared.head.XtForm.{XtForm}
 use Rattle.jfs_xtpage.specs.declared.head.XtForm.TheVariants.{Root, Full, Small}
 use Rattle.jfs_xtpage.specs.declared.head.XtHead.{XtHead}

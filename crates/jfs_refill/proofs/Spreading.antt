@@ -4,22 +4,22 @@ use Rattle.std.specs.List.{flat_map}
 use Rattle.std.proofs.lemmas.List.{map-append}
 use Rattle.std.proofs.lemmas.List.Concat.{flat_map-append}
 use Rattle.jfs_bits.specs.declared.extent.Xad.{Xad}
-use Rattle.jfs_xtree.specs.page_tree.specs.Walk.{Child, Node, Leaf, Page, Key, Row, Marks, Rises, rows_of, times, under, walk}
-use Rattle.jfs_xtree.specs.page_tree.specs.Edit.{FitsFirst, IsCons, count_in}
-use Rattle.jfs_xtree.specs.page_tree.specs.Form.{HasChildren}
-use Rattle.jfs_xtree.specs.page_tree.specs.Draft.{shown}
-use Rattle.jfs_xtree.specs.page_tree.specs.Call.{nodes}
-use Rattle.jfs_xtree.specs.page_tree.specs.declared.draft.Drafted.{Drafted}
-use Rattle.jfs_xtree.specs.page_tree.specs.declared.form.Sibling.{Sibling}
-use Rattle.jfs_xtree.specs.page_tree.specs.declared.form.TreeError.{TreeError}
-use Rattle.jfs_xtree.specs.page_tree.proofs.Between.{append_nil}
-use Rattle.jfs_xtree.specs.page_tree.proofs.Frame.{times-append, rows-append}
-use Rattle.jfs_xtree.specs.page_tree.proofs.Growing.{apart, has_walk, once_itself, rises_elsewhere}
-use Rattle.jfs_xtree.specs.page_tree.proofs.Leaves.{cons_rows, rows_leaf, times_leaf}
-use Rattle.jfs_xtree.specs.page_tree.proofs.Rising.{rises_join}
-use Rattle.jfs_xtree.specs.page_tree.proofs.Split.{children_part}
-use Rattle.jfs_xtree.specs.page_tree.proofs.Steps.{once_here, untouched}
-use Rattle.jfs_xtree.specs.page_tree.proofs.Taking.{another, itself, taken_last, two_first, two_last, two_others}
+use Rattle.jfs_tree.specs.Walk.{Child, Node, Leaf, Page, Key, Row, Marks, Rises, rows_of, times, under, walk}
+use Rattle.jfs_tree.specs.Edit.{FitsFirst, IsCons, count_in}
+use Rattle.jfs_tree.specs.Form.{HasChildren}
+use Rattle.jfs_tree.specs.Draft.{shown}
+use Rattle.jfs_tree.specs.Call.{nodes}
+use Rattle.jfs_tree.specs.declared.draft.Drafted.{Drafted}
+use Rattle.jfs_tree.specs.declared.form.Sibling.{Sibling}
+use Rattle.jfs_tree.specs.declared.form.TreeError.{TreeError}
+use Rattle.jfs_tree.proofs.Between.{append_nil}
+use Rattle.jfs_tree.proofs.Frame.{times-append, rows-append}
+use Rattle.jfs_tree.proofs.Growing.{apart, has_walk, once_itself, rises_elsewhere}
+use Rattle.jfs_tree.proofs.Leaves.{cons_rows, rows_leaf, times_leaf}
+use Rattle.jfs_tree.proofs.Rising.{rises_join}
+use Rattle.jfs_tree.proofs.Split.{children_part}
+use Rattle.jfs_tree.proofs.Steps.{once_here, untouched}
+use Rattle.jfs_tree.proofs.Taking.{another, itself, taken_last, two_first, two_last, two_others}
 use Rattle.jfs_xtpage.specs.declared.head.XtForm.TheVariants.{Full}
 use Rattle.jfs_xtree.specs.Laws.{order}
 use Rattle.jfs_xtree.specs.Node.{xt_scale, xt_node, child_of}

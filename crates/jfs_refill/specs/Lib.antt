@@ -4,5 +4,3 @@ pub mod Stored
 pub mod Rooted
 pub mod Grown
 pub mod Spread
-
--- libraries below, passed on

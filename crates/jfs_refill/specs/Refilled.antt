@@ -2,7 +2,7 @@
 use Rattle.std.specs.Prelude.{◌≡◌, ◌<◌, ℕ, true, List, map, length}
 use Rattle.jfs_bits.specs.declared.extent.Xad.{Xad}
 use Rattle.jfs_bits.specs.Field.{range_of}
-use Rattle.jfs_xtree.specs.page_tree.specs.Walk.{Child, Leaf, Inner}
+use Rattle.jfs_tree.specs.Walk.{Child, Leaf, Inner}
 use Rattle.jfs_xtpage.specs.declared.head.XtForm.{XtForm}
 use Rattle.jfs_xtpage.specs.Page.{rises_from}
 use Rattle.jfs_xtree.specs.Node.{all_within, child_of, xt_node}

@@ -3,13 +3,13 @@ use Rattle.std.specs.Prelude.{◌≡◌, ◌⊎◌, ◌<◌, ◌≤◌, ◌+◌,
 use Rattle.jfs_bits.specs.declared.extent.Xad.{Xad}
 use Rattle.jfs_bits.specs.declared.rule.Rule.TheVariants as rules
 use Rattle.jfs_disk.specs.Image.{Image}
-use Rattle.jfs_xtree.specs.page_tree.specs.Walk.{Child, Leaf, Inner}
-use Rattle.jfs_xtree.specs.page_tree.specs.Spells.{no_page}
-use Rattle.jfs_xtree.specs.page_tree.specs.Root.{Settled}
-use Rattle.jfs_xtree.specs.page_tree.specs.Call.{PutsOne, nodes}
-use Rattle.jfs_xtree.specs.page_tree.specs.declared.draft.Drafted.{Drafted}
-use Rattle.jfs_xtree.specs.page_tree.specs.declared.form.TreeError.{TreeError}
-use Rattle.jfs_xtree.specs.page_tree.specs.declared.form.TreeError.TheVariants.{View, Bad, Memory}
+use Rattle.jfs_tree.specs.Walk.{Child, Leaf, Inner}
+use Rattle.jfs_tree.specs.Spells.{no_page}
+use Rattle.jfs_tree.specs.Root.{Settled}
+use Rattle.jfs_tree.specs.Call.{PutsOne, nodes}
+use Rattle.jfs_tree.specs.declared.draft.Drafted.{Drafted}
+use Rattle.jfs_tree.specs.declared.form.TreeError.{TreeError}
+use Rattle.jfs_tree.specs.declared.form.TreeError.TheVariants.{View, Bad, Memory}
 use Rattle.jfs_xtpage.specs.declared.head.XtForm.{XtForm}
 use Rattle.jfs_xtpage.specs.declared.head.XtForm.TheVariants.{Full}
 use Rattle.jfs_xtpage.specs.Page.{head_of, entries_of, new_head, kind_flag}

@@ -3,12 +3,12 @@ use Rattle.std.specs.Prelude.{◌≡◌, ◌≤◌, ◌<◌, ◌+◌, ℕ, suc, 
 use Rattle.std.specs.List.{flat_map}
 use Rattle.jfs_bits.specs.declared.extent.Xad.{Xad}
 use Rattle.jfs_disk.specs.Image.{Image}
-use Rattle.jfs_xtree.specs.page_tree.specs.Walk.{Child, Node, Leaf, Inner, Page, Key, Row, Marks, Rises, rows_of, times, under, walk}
-use Rattle.jfs_xtree.specs.page_tree.specs.Edit.{FitsFirst, count_in}
-use Rattle.jfs_xtree.specs.page_tree.specs.Form.{children_of}
-use Rattle.jfs_xtree.specs.page_tree.specs.Call.{nodes}
-use Rattle.jfs_xtree.specs.page_tree.specs.declared.draft.Drafted.{Drafted}
-use Rattle.jfs_xtree.specs.page_tree.specs.declared.form.Sibling.{Sibling}
+use Rattle.jfs_tree.specs.Walk.{Child, Node, Leaf, Inner, Page, Key, Row, Marks, Rises, rows_of, times, under, walk}
+use Rattle.jfs_tree.specs.Edit.{FitsFirst, count_in}
+use Rattle.jfs_tree.specs.Form.{children_of}
+use Rattle.jfs_tree.specs.Call.{nodes}
+use Rattle.jfs_tree.specs.declared.draft.Drafted.{Drafted}
+use Rattle.jfs_tree.specs.declared.form.Sibling.{Sibling}
 use Rattle.jfs_xtpage.specs.declared.head.XtForm.TheVariants.{Full}
 use Rattle.jfs_xtree.specs.Node.{xt_scale, xt_node, child_of}
 use Rattle.jfs_refill.specs.Refilled.{IsList}

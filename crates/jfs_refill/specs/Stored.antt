@@ -1,12 +1,12 @@
 -- A list of entries that goes to a page of a draft, or to two.
 use Rattle.std.specs.Prelude.{◌≡◌, ◌<◌, ◌≤◌, ◌/◌, ◌+◌, ℕ, Bool, if◌then◌else◌, List, [], ◌∷◌, ◌++◌, map, length, Option, Some, None}
 use Rattle.jfs_bits.specs.declared.extent.Xad.{Xad}
-use Rattle.jfs_xtree.specs.page_tree.specs.Walk.{Child, Leaf, Inner}
-use Rattle.jfs_xtree.specs.page_tree.specs.Filled.{FillsBoth}
-use Rattle.jfs_xtree.specs.page_tree.specs.Form.{SplitsRows, SplitsChildren}
-use Rattle.jfs_xtree.specs.page_tree.specs.Call.{PutsOne, PutsTwo}
-use Rattle.jfs_xtree.specs.page_tree.specs.declared.draft.Drafted.{Drafted}
-use Rattle.jfs_xtree.specs.page_tree.specs.declared.form.Sibling.{Sibling}
+use Rattle.jfs_tree.specs.Walk.{Child, Leaf, Inner}
+use Rattle.jfs_tree.specs.Filled.{FillsBoth}
+use Rattle.jfs_tree.specs.Form.{SplitsRows, SplitsChildren}
+use Rattle.jfs_tree.specs.Call.{PutsOne, PutsTwo}
+use Rattle.jfs_tree.specs.declared.draft.Drafted.{Drafted}
+use Rattle.jfs_tree.specs.declared.form.Sibling.{Sibling}
 use Rattle.jfs_xtpage.specs.declared.head.XtForm.TheVariants.{Full}
 use Rattle.jfs_xtpage.specs.Page.{head_of, entries_of, new_flag}
 use Rattle.jfs_xtree.specs.Node.{xt_scale, xt_node, is_leaf, child_of, AreNeighbours, BeginsAt, SameKind}

@@ -7,8 +7,8 @@ ghost use Rattle.jfs_xtree.specs.Node.{lowered};
 ghost use Rattle.jfs_refill.specs.Grown.{grown_entries};
 
 use jfs_bits::{Pxd, Xad};
+use jfs_tree::Sibling;
 use jfs_xtree::child_entry;
-use jfs_xtree::page_tree::Sibling;
 use std::alloc::AllocError;
 
 /// Puts a child's entry at the end of a list, and behind it the entry of the page that was split off the child, where there is one. `first` tells that the child is the

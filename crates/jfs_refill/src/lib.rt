@@ -12,5 +12,3 @@ pub use entries::items;
 pub use refilling::refill;
 pub use root::store_root;
 pub use storing::{ENTRIES, store};
-
-// libraries below, passed on

@@ -3,8 +3,8 @@
 ghost use Rattle.std.specs.Prelude.{◌≡◌, ◌<◌, ◌≤◌, ◌+◌, ℕ, length, OnOk, IfErr};
 ghost use Rattle.std.specs.List.{All};
 ghost use Rattle.jfs_bits.specs.Extent.{FitsXad};
-ghost use Rattle.jfs_xtree.specs.page_tree.specs.Call.{StaysTaken};
-ghost use Rattle.jfs_xtree.specs.page_tree.specs.Form.{AllBelow, IsFront};
+ghost use Rattle.jfs_tree.specs.Call.{StaysTaken};
+ghost use Rattle.jfs_tree.specs.Form.{AllBelow, IsFront};
 ghost use Rattle.jfs_xtpage.specs.Page.{head_of, IsLaidOut};
 ghost use Rattle.jfs_xtpage.specs.declared.head.XtForm.{XtForm};
 ghost use Rattle.jfs_xtree.specs.Node.{IsRoot, KeepsFrame};
@@ -14,8 +14,8 @@ ghost use Rattle.jfs_refill.specs.Rooted.{MovesRoot, RootStored, SettlesList};
 use crate::refilling::refill;
 use jfs_bits::{Rule, Xad, get_u8, get_u16};
 use jfs_disk::Page;
+use jfs_tree::{Draft, NO_PAGE, TreeError, page_at, put_one};
 use jfs_xtpage::{XtForm, xt_new, xt_set_kind};
-use jfs_xtree::page_tree::{Draft, NO_PAGE, TreeError, page_at, put_one};
 use jfs_xtree::{child_entry, is_leaf};
 
 /// Puts a list in place of a root's entries; the tree has so many levels. A list that is too long for the root goes to the page at the end of `stack`, and the root keeps

@@ -3,8 +3,8 @@
 ghost use Rattle.std.specs.Prelude.{◌≡◌, ◌<◌, ◌≤◌, ◌+◌, ◌^◌, ℕ, length, OnOk, IfOk, IfErr, IfSome};
 ghost use Rattle.std.specs.List.{All};
 ghost use Rattle.jfs_bits.specs.Extent.{FitsXad};
-ghost use Rattle.jfs_xtree.specs.page_tree.specs.Call.{StaysBelow, StaysOff};
-ghost use Rattle.jfs_xtree.specs.page_tree.specs.Form.{IsFront};
+ghost use Rattle.jfs_tree.specs.Call.{StaysBelow, StaysOff};
+ghost use Rattle.jfs_tree.specs.Form.{IsFront};
 ghost use Rattle.jfs_xtpage.specs.Page.{head_of, IsLaidOut};
 ghost use Rattle.jfs_refill.specs.Stored.{Divided, Stored, border};
 ghost use Rattle.jfs_refill.specs.Spread.{InnerSpreads, LeafSpreads};
@@ -12,9 +12,9 @@ ghost use Rattle.jfs_refill.specs.Spread.{InnerSpreads, LeafSpreads};
 use crate::refilling::refill;
 use jfs_bits::{Xad, get_u8, get_u64};
 use jfs_disk::Page;
+use jfs_tree::{Draft, Sibling, TreeError, page_at, put_one, put_two};
 use jfs_xtpage::{XtForm, xt_entry, xt_link, xt_new};
 use jfs_xtree::is_leaf;
-use jfs_xtree::page_tree::{Draft, Sibling, TreeError, page_at, put_one, put_two};
 
 /// The most entries of a page below a root.
 pub const ENTRIES: usize = 254;

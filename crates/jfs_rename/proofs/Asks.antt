@@ -1,25 +1,25 @@
 -- What is asked of a consistent volume, and what the plain step of a rename asks.
 use Rattle.std.proofs.Common.{◌≡◌, ◌⊎◌, ◌≤◌, ◌<◌, ◌-◌, refl, sym, ap, ◌∙◌, subst, inl, inr, ℕ, Bool, true, false, true≢false, ◌==◌, if◌then◌else◌, List, [], length, get_or, Option, Some, None, Result, Ok, Err, IfSome, arith}
 use Rattle.jfs_bits.specs.declared.descriptor.Moment.{Moment}
-use Rattle.jfs_link.specs.imap.specs.Inodes.{Inodes}
-use Rattle.jfs_link.specs.bmap.specs.States.{Blocks}
-use Rattle.jfs_link.specs.plain.specs.Tree.{Tree, Place, is_dir, at_place, place_at, passes, and_then}
-use Rattle.jfs_link.specs.plain.specs.Step.{Room, rename, links_in, links_of, why_barred, why_kept}
-use Rattle.jfs_link.specs.plain.specs.declared.node.Node.{Node}
-use Rattle.jfs_link.specs.plain.specs.declared.refusal.Refusal.{Refusal}
-use Rattle.jfs_link.specs.plain.specs.declared.refusal.Refusal.TheVariants.{NoSpace, TooDeep}
-use Rattle.jfs_link.specs.plain.specs.declared.reply.Reply.TheVariants.{Done}
+use Rattle.jfs_imap.specs.Inodes.{Inodes}
+use Rattle.jfs_bmap.specs.States.{Blocks}
+use Rattle.jfs_plain.specs.Tree.{Tree, Place, is_dir, at_place, place_at, passes, and_then}
+use Rattle.jfs_plain.specs.Step.{Room, rename, links_in, links_of, why_barred, why_kept}
+use Rattle.jfs_plain.specs.declared.node.Node.{Node}
+use Rattle.jfs_plain.specs.declared.refusal.Refusal.{Refusal}
+use Rattle.jfs_plain.specs.declared.refusal.Refusal.TheVariants.{NoSpace, TooDeep}
+use Rattle.jfs_plain.specs.declared.reply.Reply.TheVariants.{Done}
 use Rattle.jfs_link.specs.objects.specs.Objects.{has_names}
 use Rattle.jfs_link.specs.meaning.specs.Readers.{readers}
 use Rattle.jfs_link.specs.meaning.specs.Consistent.{IsConsistent}
 use Rattle.jfs_link.specs.meaning.proofs.Found.{ok_is}
-use Rattle.jfs_link.specs.way.specs.Answer.{is_open}
-use Rattle.jfs_link.specs.way.specs.Volume.{volume_of}
-use Rattle.jfs_link.specs.way.specs.Walk.{IsHeld, IsShown, IsThere, IfConsistent, tree_in}
+use Rattle.jfs_way.specs.Answer.{is_open}
+use Rattle.jfs_way.specs.Volume.{volume_of}
+use Rattle.jfs_way.specs.Walk.{IsHeld, IsShown, IsThere, IfConsistent, tree_in}
 use Rattle.jfs_disk.specs.Image.{Image, page_of}
-use Rattle.jfs_link.specs.way.specs.declared.object.Held.{Held}
-use Rattle.jfs_link.specs.steps.specs.Place.{last_of}
-use Rattle.jfs_link.specs.place.specs.Place.{StandsAt}
+use Rattle.jfs_way.specs.declared.object.Held.{Held}
+use Rattle.jfs_steps.specs.Place.{last_of}
+use Rattle.jfs_place.specs.Place.{StandsAt}
 use Rattle.jfs_link.proofs.Asks.{last_is}
 use Rattle.jfs_unlink.proofs.Ended.{IsNodeOf, node_of_it}
 use Rattle.jfs_rename_steps.specs.declared.moving.Moving.{Moving}

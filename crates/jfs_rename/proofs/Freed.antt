@@ -6,23 +6,23 @@ use Rattle.jfs_name.specs.declared.name.NameEntry.{NameEntry}
 use Rattle.jfs_ranges.specs.declared.edit.Edit.{Edit}
 use Rattle.jfs_ranges.specs.declared.edit.Edit.TheVariants.{Lines, NoRedo, Alloc, Free}
 use Rattle.jfs_ranges.specs.Laid.{put_tx}
-use Rattle.jfs_link.specs.page_tree.specs.Edit.{count_in}
-use Rattle.jfs_link.specs.page_tree.specs.Fresh.{after_tx}
-use Rattle.jfs_link.specs.page_tree.specs.Removes.{TellsFreed, page_frees}
-use Rattle.jfs_link.specs.page_tree.specs.Tell.{AllLines}
-use Rattle.jfs_link.specs.dtree.specs.Removing.{RemovesName, HasOneLessName}
-use Rattle.jfs_link.specs.dtree.specs.Spells.{spells_names}
-use Rattle.jfs_link.specs.plain.specs.Tree.{Tree}
+use Rattle.jfs_tree.specs.Edit.{count_in}
+use Rattle.jfs_tree.specs.Fresh.{after_tx}
+use Rattle.jfs_tree.specs.Removes.{TellsFreed, page_frees}
+use Rattle.jfs_tree.specs.Tell.{AllLines}
+use Rattle.jfs_dtree.specs.Removing.{RemovesName, HasOneLessName}
+use Rattle.jfs_dtree.specs.Spells.{spells_names}
+use Rattle.jfs_plain.specs.Tree.{Tree}
 use Rattle.jfs_link.specs.objects.specs.Readers.{Readers}
 use Rattle.jfs_link.specs.objects.specs.Volume.{Volume}
 use Rattle.jfs_link.specs.objects.specs.Objects.{objects, spelled, has_names}
 use Rattle.jfs_link.specs.objects.specs.Owners.{holds}
 use Rattle.jfs_link.specs.objects.proofs.Owned.{owned_once}
 use Rattle.jfs_link.specs.meaning.specs.Readers.{readers, root_of}
-use Rattle.jfs_link.specs.steps.specs.After.{frees}
-use Rattle.jfs_link.specs.steps.specs.Put.{TellsLines}
-use Rattle.jfs_link.specs.steps.proofs.After.{lines_alone, runs_leave}
-use Rattle.jfs_link.specs.steps.proofs.Sets.{frees_onto, frees_move}
+use Rattle.jfs_steps.specs.After.{frees}
+use Rattle.jfs_steps.specs.Put.{TellsLines}
+use Rattle.jfs_steps.proofs.After.{lines_alone, runs_leave}
+use Rattle.jfs_steps.proofs.Sets.{frees_onto, frees_move}
 use Rattle.jfs_link.specs.lead_steps.proofs.Turned.{dir_holds, no_extents_of}
 use Rattle.jfs_rename_steps.proofs.Stage.{Stage, pages_are, leads_to, names_of}
 

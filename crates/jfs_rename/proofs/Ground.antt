@@ -5,17 +5,17 @@ use Rattle.jfs_bits.specs.Broken.{first_broken}
 use Rattle.jfs_bits.specs.declared.descriptor.Moment.{Moment}
 use Rattle.jfs_inode.specs.Rules.{rows}
 use Rattle.jfs_inode.specs.declared.fields.Dinode.{Dinode}
-use Rattle.jfs_link.specs.imap.specs.Inodes.{Inodes}
-use Rattle.jfs_link.specs.bmap.specs.States.{Blocks, is_owned}
+use Rattle.jfs_imap.specs.Inodes.{Inodes}
+use Rattle.jfs_bmap.specs.States.{Blocks, is_owned}
 use Rattle.jfs_ranges.specs.declared.edit.Edit.{Edit}
 use Rattle.jfs_ranges.specs.Laid.{put_tx}
-use Rattle.jfs_link.specs.page_tree.specs.Edit.{count_in}
-use Rattle.jfs_link.specs.plain.specs.Tree.{Tree, Place, Found, found, found_at, object, place_at, at_place, passes, and_then}
-use Rattle.jfs_link.specs.plain.specs.Moves.{stamped, moves}
-use Rattle.jfs_link.specs.plain.specs.Step.{Room, outcome}
-use Rattle.jfs_link.specs.plain.specs.declared.call.Call.TheVariants as calls
-use Rattle.jfs_link.specs.plain.specs.declared.node.Node.{Node}
-use Rattle.jfs_link.specs.plain.specs.declared.reply.Reply.TheVariants.{Done}
+use Rattle.jfs_tree.specs.Edit.{count_in}
+use Rattle.jfs_plain.specs.Tree.{Tree, Place, Found, found, found_at, object, place_at, at_place, passes, and_then}
+use Rattle.jfs_plain.specs.Moves.{stamped, moves}
+use Rattle.jfs_plain.specs.Step.{Room, outcome}
+use Rattle.jfs_plain.specs.declared.call.Call.TheVariants as calls
+use Rattle.jfs_plain.specs.declared.node.Node.{Node}
+use Rattle.jfs_plain.specs.declared.reply.Reply.TheVariants.{Done}
 use Rattle.jfs_link.specs.objects.specs.Readers.{Readers}
 use Rattle.jfs_link.specs.objects.specs.Volume.{Volume, home, room}
 use Rattle.jfs_link.specs.objects.specs.Objects.{objects, spelled, is_live, has_names}
@@ -27,13 +27,13 @@ use Rattle.jfs_link.specs.meaning.proofs.Found.{object_at}
 use Rattle.jfs_link.specs.meaning.proofs.Fresh.{fresh_law}
 use Rattle.jfs_link.specs.meaning.proofs.Reached.{not_reserved, place_reached}
 use Rattle.jfs_link.specs.meaning.specs.Room.{room_on}
-use Rattle.jfs_link.specs.way.specs.Volume.{volume_of}
-use Rattle.jfs_link.specs.way.specs.Walk.{tree_in}
-use Rattle.jfs_link.specs.way.specs.declared.object.Held.{Held}
-use Rattle.jfs_link.specs.steps.specs.After.{after_call, used_after, extents_after}
-use Rattle.jfs_link.specs.steps.specs.Place.{last_of}
-use Rattle.jfs_link.specs.steps.proofs.After.{done_after}
-use Rattle.jfs_link.specs.steps.proofs.LastNames.{stood, object_is}
+use Rattle.jfs_way.specs.Volume.{volume_of}
+use Rattle.jfs_way.specs.Walk.{tree_in}
+use Rattle.jfs_way.specs.declared.object.Held.{Held}
+use Rattle.jfs_steps.specs.After.{after_call, used_after, extents_after}
+use Rattle.jfs_steps.specs.Place.{last_of}
+use Rattle.jfs_steps.proofs.After.{done_after}
+use Rattle.jfs_steps.proofs.LastNames.{stood, object_is}
 use Rattle.jfs_link.specs.lead_steps.specs.Reached.{HasTree}
 use Rattle.jfs_link.specs.lead_steps.proofs.Again.{inode_same, few_links}
 use Rattle.jfs_link.specs.lead_steps.proofs.Chain.{some_is}
@@ -144,7 +144,7 @@ module _ (blocks : ℕ) (pages : ℕ → List ℕ) (area : ℕ → ℕ) (bm : Bl
   node_q = node_of_it blocks pages area bm inodes on.con moving.target on.held.2 on.shown.2 ends.target_there
 
   object_found : object t from ≡ Ok (found_at m node_m.node)
-  object_found = ap (λ (x : Result ℕ Rattle.jfs_link.specs.plain.specs.declared.refusal.Refusal.Refusal). and_then x (λ n. found n (t.nodes n))) ends.walked ∙ ap (found m) node_m.there
+  object_found = ap (λ (x : Result ℕ Rattle.jfs_plain.specs.declared.refusal.Refusal.Refusal). and_then x (λ n. found n (t.nodes n))) ends.walked ∙ ap (found m) node_m.there
 
   -- the old name names the object
   pub named_m : at_place t (place_at p (last_of from)) ≡ Some m

@@ -1,19 +1,19 @@
 -- Whether an object may take the place of another, told of inodes and told of nodes.
 use Rattle.std.proofs.Common.{◌≡◌, refl, sym, ap, ◌∙◌, subst, ℕ, Bool, true, false, true≢false, not, ◌==◌, ◌&&◌, nat_le, nat_lt, if◌then◌else◌, List, [], ◌∷◌, length, Option, Some, None, Result, Ok, Err}
 use Rattle.jfs_name.specs.declared.name.NameEntry.{NameEntry}
-use Rattle.jfs_link.specs.page_tree.specs.Walk.{Leaf, Inner, Broken}
-use Rattle.jfs_link.specs.page_tree.specs.Walk as tree
-use Rattle.jfs_link.specs.dtree.specs.Spells.{root_node, spells_names}
+use Rattle.jfs_tree.specs.Walk.{Leaf, Inner, Broken}
+use Rattle.jfs_tree.specs.Walk as tree
+use Rattle.jfs_dtree.specs.Spells.{root_node, spells_names}
 use Rattle.jfs_link.specs.meaning.specs.Readers.{root_of}
 use Rattle.jfs_link.specs.objects.specs.Objects.{has_names}
-use Rattle.jfs_link.specs.plain.specs.Tree.{Tree, is_dir, is_file, and_then}
-use Rattle.jfs_link.specs.plain.specs.Step.{why_barred, why_kept, is_full, is_last_of_big, has_names as has_entries}
-use Rattle.jfs_link.specs.plain.specs.declared.node.Node.{Node}
-use Rattle.jfs_link.specs.plain.specs.declared.reply.NodeKind.{NodeKind}
-use Rattle.jfs_link.specs.plain.specs.declared.reply.NodeKind.TheVariants.{Dir, File, Link, Other}
-use Rattle.jfs_link.specs.plain.specs.declared.refusal.Refusal.{Refusal}
-use Rattle.jfs_link.specs.plain.specs.declared.refusal.Refusal.TheVariants.{IntoItself, IsDir, NotDir, NotEmpty, FileTooBig}
-use Rattle.jfs_link.specs.way.specs.declared.object.Held.{Held}
+use Rattle.jfs_plain.specs.Tree.{Tree, is_dir, is_file, and_then}
+use Rattle.jfs_plain.specs.Step.{why_barred, why_kept, is_full, is_last_of_big, has_names as has_entries}
+use Rattle.jfs_plain.specs.declared.node.Node.{Node}
+use Rattle.jfs_plain.specs.declared.reply.NodeKind.{NodeKind}
+use Rattle.jfs_plain.specs.declared.reply.NodeKind.TheVariants.{Dir, File, Link, Other}
+use Rattle.jfs_plain.specs.declared.refusal.Refusal.{Refusal}
+use Rattle.jfs_plain.specs.declared.refusal.Refusal.TheVariants.{IntoItself, IsDir, NotDir, NotEmpty, FileTooBig}
+use Rattle.jfs_way.specs.declared.object.Held.{Held}
 use Rattle.jfs_unlink.specs.Call.{bare_at}
 use Rattle.jfs_unlink.specs.Call as call
 use Rattle.jfs_unlink.proofs.Ended.{IsNodeOf}

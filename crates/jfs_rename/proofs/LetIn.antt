@@ -3,10 +3,10 @@ use Rattle.std.proofs.Common.{◌≡◌, ◌≢◌, ◌≤◌, refl, sym, ap, �
 use Rattle.std.proofs.lemmas.Bool.Decides.{nat_tests}
 use Rattle.jfs_name.specs.declared.name.NameEntry.{NameEntry}
 use Rattle.jfs_link.specs.objects.specs.Owners.{bit}
-use Rattle.jfs_link.specs.plain.specs.Tree.{is_dir}
-use Rattle.jfs_link.specs.plain.specs.Step.{why_kept, is_last_of_big, has_names as has_entries}
-use Rattle.jfs_link.specs.plain.specs.declared.node.Node.{Node}
-use Rattle.jfs_link.specs.plain.specs.declared.refusal.Refusal.TheVariants.{IsDir, NotDir, NotEmpty, FileTooBig}
+use Rattle.jfs_plain.specs.Tree.{is_dir}
+use Rattle.jfs_plain.specs.Step.{why_kept, is_last_of_big, has_names as has_entries}
+use Rattle.jfs_plain.specs.declared.node.Node.{Node}
+use Rattle.jfs_plain.specs.declared.refusal.Refusal.TheVariants.{IsDir, NotDir, NotEmpty, FileTooBig}
 
 -- an object of the same kind, and an empty one
 pub kept_kind : (limit : ℕ) (x inside : Bool) (old : Node) → why_kept limit x inside old ≡ None → is_dir old.kind ≡ x

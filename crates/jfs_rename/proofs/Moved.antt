@@ -5,21 +5,21 @@ use Rattle.jfs_bits.specs.Field.{put_bytes}
 use Rattle.jfs_bits.specs.declared.descriptor.Moment.{Moment}
 use Rattle.jfs_bits.specs.declared.descriptor.Pxd.{Pxd}
 use Rattle.jfs_inode.specs.declared.fields.Dinode.{Dinode}
-use Rattle.jfs_link.specs.imap.specs.Inodes.{Inodes}
-use Rattle.jfs_link.specs.bmap.specs.States.{Blocks, is_owned}
+use Rattle.jfs_imap.specs.Inodes.{Inodes}
+use Rattle.jfs_bmap.specs.States.{Blocks, is_owned}
 use Rattle.jfs_name.specs.declared.name.NameEntry.{NameEntry}
 use Rattle.jfs_name.specs.Directory.{with_name, without_name}
 use Rattle.jfs_ranges.specs.declared.edit.Edit.{Edit}
 use Rattle.jfs_ranges.specs.Laid.{put_tx}
-use Rattle.jfs_link.specs.page_tree.specs.Edit.{count_in}
-use Rattle.jfs_link.specs.page_tree.specs.Form.{AllBelow}
-use Rattle.jfs_link.specs.page_tree.specs.Fresh.{blocks_of}
-use Rattle.jfs_link.specs.plain.specs.Tree.{Tree, Place, place_at, named_in, passes, is_dir}
-use Rattle.jfs_link.specs.plain.specs.declared.refusal.Refusal.{Refusal}
-use Rattle.jfs_link.specs.way.specs.Answer.{is_open}
-use Rattle.jfs_link.specs.plain.specs.Moves.{changed, shifts}
-use Rattle.jfs_link.specs.plain.specs.Step.{Room, rename, entry_as, gained, departs, why_barred, is_full, links_in, links_of}
-use Rattle.jfs_link.specs.plain.specs.declared.reply.Reply.TheVariants.{Done}
+use Rattle.jfs_tree.specs.Edit.{count_in}
+use Rattle.jfs_tree.specs.Form.{AllBelow}
+use Rattle.jfs_tree.specs.Fresh.{blocks_of}
+use Rattle.jfs_plain.specs.Tree.{Tree, Place, place_at, named_in, passes, is_dir}
+use Rattle.jfs_plain.specs.declared.refusal.Refusal.{Refusal}
+use Rattle.jfs_way.specs.Answer.{is_open}
+use Rattle.jfs_plain.specs.Moves.{changed, shifts}
+use Rattle.jfs_plain.specs.Step.{Room, rename, entry_as, gained, departs, why_barred, is_full, links_in, links_of}
+use Rattle.jfs_plain.specs.declared.reply.Reply.TheVariants.{Done}
 use Rattle.jfs_link.specs.objects.specs.Readers.{Readers}
 use Rattle.jfs_link.specs.objects.specs.Volume.{Volume}
 use Rattle.jfs_link.specs.objects.specs.Objects.{objects, spelled, is_live, has_names}
@@ -27,20 +27,20 @@ use Rattle.jfs_link.specs.objects.specs.Image.{extent_place}
 use Rattle.jfs_link.specs.objects.specs.Changes.{PutsInode}
 use Rattle.jfs_link.specs.objects.proofs.Sums.{eq_or_not, zero_or_more}
 use Rattle.jfs_link.specs.meaning.specs.Readers.{readers}
-use Rattle.jfs_link.specs.way.specs.Volume.{volume_of}
-use Rattle.jfs_link.specs.way.specs.Walk.{tree_in}
-use Rattle.jfs_link.specs.way.specs.declared.object.Held.{Held}
-use Rattle.jfs_link.specs.steps.specs.After.{used_after, takes, frees}
-use Rattle.jfs_link.specs.steps.specs.Laws.{TakesAndFrees, IsFair}
-use Rattle.jfs_link.specs.steps.proofs.After.{counts}
-use Rattle.jfs_link.specs.steps.proofs.Sets.{taken_move, lines_on_top}
+use Rattle.jfs_way.specs.Volume.{volume_of}
+use Rattle.jfs_way.specs.Walk.{tree_in}
+use Rattle.jfs_way.specs.declared.object.Held.{Held}
+use Rattle.jfs_steps.specs.After.{used_after, takes, frees}
+use Rattle.jfs_steps.specs.Laws.{TakesAndFrees, IsFair}
+use Rattle.jfs_steps.proofs.After.{counts}
+use Rattle.jfs_steps.proofs.Sets.{taken_move, lines_on_top}
 use Rattle.jfs_bits.specs.declared.rule.PageKind.TheVariants as kinds
 use Rattle.jfs_link.specs.objects.specs.Owners.{bit}
 use Rattle.jfs_link.specs.meaning.proofs.Books.{count_append}
 use Rattle.jfs_rename_steps.proofs.Taken.{free_takes}
 use Rattle.jfs_rename.specs.Once.{IsOrderly}
-use Rattle.jfs_link.specs.steps.specs.Place.{last_of}
-use Rattle.jfs_link.specs.claim.specs.Take.{AreFresh}
+use Rattle.jfs_steps.specs.Place.{last_of}
+use Rattle.jfs_claim.specs.Take.{AreFresh}
 use Rattle.jfs_link.specs.lead_steps.specs.Balance.{own_after}
 use Rattle.jfs_link.specs.lead_steps.proofs.Again.{again}
 use Rattle.jfs_link.specs.lead_steps.proofs.Turned.{turns}
@@ -85,7 +85,7 @@ more_few true true stays k h l = absurd (cc (h))
 more_few true false true k h l = l
 more_few true false false k h l = by (nat_le 65535 k) refl h
   where
-    by : (b : Bool) → nat_le 65535 k ≡ b → (if b then Some Rattle.jfs_link.specs.plain.specs.declared.refusal.Refusal.TheVariants.TooManyLinks else None) ≡ None → k + 1 ≤ 65535
+    by : (b : Bool) → nat_le 65535 k ≡ b → (if b then Some Rattle.jfs_plain.specs.declared.refusal.Refusal.TheVariants.TooManyLinks else None) ≡ None → k + 1 ≤ 65535
     by true e h = absurd (cc (h))
     by false e h = fewer k e
       where

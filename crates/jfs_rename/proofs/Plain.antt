@@ -1,13 +1,13 @@
 -- What the plain step of rename comes to, by each of its causes in their order.
 use Rattle.std.proofs.Common.{◌≡◌, refl, ap, ◌∙◌, ℕ, Bool, true, false, ◌==◌, ◌||◌, if◌then◌else◌, List, length, Option, Some, None, Result, Ok, Err}
 use Rattle.jfs_bits.specs.declared.descriptor.Moment.{Moment}
-use Rattle.jfs_link.specs.plain.specs.Tree.{Tree, Found, Place, is_dir, walk, object, found, found_at, and_then, place, at_place, passes, root}
-use Rattle.jfs_link.specs.plain.specs.Moves.{changed, leads, displaced, shifts}
-use Rattle.jfs_link.specs.plain.specs.Step.{Room, Outcome, rename, renamed, gained, departs, occupant, found_of, node_of, refuse, unless, why_barred, why_kept, links_of, is_short, is_deep}
-use Rattle.jfs_link.specs.plain.specs.declared.node.Node.{Node}
-use Rattle.jfs_link.specs.plain.specs.declared.refusal.Refusal.{Refusal}
-use Rattle.jfs_link.specs.plain.specs.declared.refusal.Refusal.TheVariants.{IntoItself, NoSpace, TooDeep}
-use Rattle.jfs_link.specs.plain.specs.declared.reply.Reply.TheVariants.{Done}
+use Rattle.jfs_plain.specs.Tree.{Tree, Found, Place, is_dir, walk, object, found, found_at, and_then, place, at_place, passes, root}
+use Rattle.jfs_plain.specs.Moves.{changed, leads, displaced, shifts}
+use Rattle.jfs_plain.specs.Step.{Room, Outcome, rename, renamed, gained, departs, occupant, found_of, node_of, refuse, unless, why_barred, why_kept, links_of, is_short, is_deep}
+use Rattle.jfs_plain.specs.declared.node.Node.{Node}
+use Rattle.jfs_plain.specs.declared.refusal.Refusal.{Refusal}
+use Rattle.jfs_plain.specs.declared.refusal.Refusal.TheVariants.{IntoItself, NoSpace, TooDeep}
+use Rattle.jfs_plain.specs.declared.reply.Reply.TheVariants.{Done}
 
 module _ (t : Tree) (room : Room) (from to : List (List ℕ)) (now : Moment) where
   -- after each question

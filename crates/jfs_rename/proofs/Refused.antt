@@ -2,39 +2,39 @@
 use Rattle.std.proofs.Common.{◌≡◌, ◌<◌, refl, sym, ap, ◌∙◌, inl, inr, ℕ, Bool, true, false, true≢false, ◌&&◌, nat_lt, List, [], length, Option, Some, None, Result, Ok, Err, arith}
 use Rattle.jfs_bits.specs.declared.descriptor.Moment.{Moment}
 use Rattle.jfs_bits.specs.declared.descriptor.Pxd.{Pxd}
-use Rattle.jfs_link.specs.imap.specs.Inodes.{Inodes}
-use Rattle.jfs_link.specs.bmap.specs.States.{Blocks, is_owned}
+use Rattle.jfs_imap.specs.Inodes.{Inodes}
+use Rattle.jfs_bmap.specs.States.{Blocks, is_owned}
 use Rattle.jfs_name.specs.declared.name.NameEntry.{NameEntry}
 use Rattle.jfs_name.specs.Directory.{named}
 use Rattle.jfs_ranges.specs.declared.edit.Edit.{Edit}
 use Rattle.jfs_ranges.specs.declared.view.ViewError.{ViewError}
 use Rattle.jfs_ranges.specs.declared.view.ViewError.TheVariants.{Read, Memory}
-use Rattle.jfs_link.specs.page_tree.specs.Edit.{count_in}
-use Rattle.jfs_link.specs.page_tree.specs.Fresh.{blocks_of}
-use Rattle.jfs_link.specs.dtree.specs.Adding.{RefusesName}
-use Rattle.jfs_link.specs.dtree.specs.Room.{is_deep}
-use Rattle.jfs_link.specs.dtree.specs.Spells.{spells_names, owned_pages}
-use Rattle.jfs_link.specs.dtree.specs.declared.error.DtError.{DtError}
-use Rattle.jfs_link.specs.dtree.specs.declared.error.DtError.TheVariants as dt
-use Rattle.jfs_link.specs.plain.specs.Tree.{named_in}
-use Rattle.jfs_link.specs.plain.specs.Step.{entry_as}
-use Rattle.jfs_link.specs.plain.specs.declared.node.Node.{Node}
-use Rattle.jfs_link.specs.plain.specs.declared.refusal.Refusal.{Refusal}
+use Rattle.jfs_tree.specs.Edit.{count_in}
+use Rattle.jfs_tree.specs.Fresh.{blocks_of}
+use Rattle.jfs_dtree.specs.Adding.{RefusesName}
+use Rattle.jfs_dtree.specs.Room.{is_deep}
+use Rattle.jfs_dtree.specs.Spells.{spells_names, owned_pages}
+use Rattle.jfs_dtree.specs.declared.error.DtError.{DtError}
+use Rattle.jfs_dtree.specs.declared.error.DtError.TheVariants as dt
+use Rattle.jfs_plain.specs.Tree.{named_in}
+use Rattle.jfs_plain.specs.Step.{entry_as}
+use Rattle.jfs_plain.specs.declared.node.Node.{Node}
+use Rattle.jfs_plain.specs.declared.refusal.Refusal.{Refusal}
 use Rattle.jfs_link.specs.objects.specs.Objects.{IsWhole, spelled, has_names}
 use Rattle.jfs_link.specs.objects.specs.Owners.{holds}
 use Rattle.jfs_link.specs.objects.proofs.Owned.{owned_once}
 use Rattle.jfs_link.specs.objects.proofs.Sums.{zero_or_more}
 use Rattle.jfs_link.specs.meaning.specs.Readers.{readers, root_of}
 use Rattle.jfs_link.specs.room.proofs.Rooms.{held_law}
-use Rattle.jfs_link.specs.way.specs.Answer.{is_open, names_refusal}
-use Rattle.jfs_link.specs.way.specs.Volume.{volume_of}
-use Rattle.jfs_link.specs.way.specs.Way.{name_from}
-use Rattle.jfs_link.specs.way.specs.Walk.{IsHeld, IsShown, tree_in}
-use Rattle.jfs_link.specs.way.specs.declared.object.Held.{Held}
-use Rattle.jfs_link.specs.steps.specs.Gains.{GainRefused}
-use Rattle.jfs_link.specs.steps.specs.Place.{last_of}
-use Rattle.jfs_link.specs.steps.proofs.LastNames.{object_is}
-use Rattle.jfs_link.specs.claim.specs.Take.{AreFresh}
+use Rattle.jfs_way.specs.Answer.{is_open, names_refusal}
+use Rattle.jfs_way.specs.Volume.{volume_of}
+use Rattle.jfs_way.specs.Way.{name_from}
+use Rattle.jfs_way.specs.Walk.{IsHeld, IsShown, tree_in}
+use Rattle.jfs_way.specs.declared.object.Held.{Held}
+use Rattle.jfs_steps.specs.Gains.{GainRefused}
+use Rattle.jfs_steps.specs.Place.{last_of}
+use Rattle.jfs_steps.proofs.LastNames.{object_is}
+use Rattle.jfs_claim.specs.Take.{AreFresh}
 use Rattle.jfs_link.specs.lead_steps.proofs.Turned.{dir_holds, no_extents_of}
 use Rattle.jfs_unlink.specs.loss.proofs.Holds.{extents_listed}
 use Rattle.jfs_unlink.proofs.Ended.{root_is}

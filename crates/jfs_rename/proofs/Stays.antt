@@ -3,23 +3,23 @@ use Rattle.std.proofs.Common.{◌≡◌, ◌≢◌, ◌<◌, refl, sym, ap, ◌�
 use Rattle.std.specs.Option.{option_map}
 use Rattle.jfs_bits.specs.declared.descriptor.Moment.{Moment}
 use Rattle.jfs_inode.specs.declared.fields.Dinode.{Dinode}
-use Rattle.jfs_link.specs.imap.specs.Inodes.{Inodes}
-use Rattle.jfs_link.specs.bmap.specs.States.{Blocks}
+use Rattle.jfs_imap.specs.Inodes.{Inodes}
+use Rattle.jfs_bmap.specs.States.{Blocks}
 use Rattle.jfs_name.specs.declared.name.NameEntry.{NameEntry}
 use Rattle.jfs_name.specs.Directory.{named, with_name, with_inode, is_same}
 use Rattle.jfs_ranges.specs.declared.edit.Edit.{Edit}
 use Rattle.jfs_ranges.specs.declared.view.ViewError.{ViewError}
 use Rattle.jfs_ranges.specs.declared.view.ViewError.TheVariants.{Read, Memory}
 use Rattle.jfs_ranges.specs.Laid.{put_tx}
-use Rattle.jfs_link.specs.dtree.specs.Spells.{spells_names}
-use Rattle.jfs_link.specs.dtree.specs.Removing.{MissesName}
-use Rattle.jfs_link.specs.dtree.specs.declared.error.DtError.{DtError}
-use Rattle.jfs_link.specs.dtree.specs.declared.error.DtError.TheVariants as dt
-use Rattle.jfs_link.specs.plain.specs.Tree.{Tree, place_at, at_place, named_in}
-use Rattle.jfs_link.specs.plain.specs.Moves.{changed, dropped, stamped, falls}
-use Rattle.jfs_link.specs.plain.specs.Step.{entry_as}
-use Rattle.jfs_link.specs.plain.specs.declared.node.Node.{Node}
-use Rattle.jfs_link.specs.plain.specs.declared.refusal.Refusal.{Refusal}
+use Rattle.jfs_dtree.specs.Spells.{spells_names}
+use Rattle.jfs_dtree.specs.Removing.{MissesName}
+use Rattle.jfs_dtree.specs.declared.error.DtError.{DtError}
+use Rattle.jfs_dtree.specs.declared.error.DtError.TheVariants as dt
+use Rattle.jfs_plain.specs.Tree.{Tree, place_at, at_place, named_in}
+use Rattle.jfs_plain.specs.Moves.{changed, dropped, stamped, falls}
+use Rattle.jfs_plain.specs.Step.{entry_as}
+use Rattle.jfs_plain.specs.declared.node.Node.{Node}
+use Rattle.jfs_plain.specs.declared.refusal.Refusal.{Refusal}
 use Rattle.jfs_link.specs.objects.specs.Readers.{Readers}
 use Rattle.jfs_link.specs.objects.specs.Volume.{Volume}
 use Rattle.jfs_link.specs.objects.specs.Objects.{Object, IsWhole, objects, spelled, has_names, listed}
@@ -27,8 +27,8 @@ use Rattle.jfs_link.specs.objects.specs.Owners.{IsSound}
 use Rattle.jfs_link.specs.meaning.specs.Readers.{readers, root_of}
 use Rattle.jfs_link.specs.meaning.specs.Node.{node_in, node_from, node_with, target_in}
 use Rattle.jfs_link.specs.meaning.specs.Tree.{node_on, tree_on}
-use Rattle.jfs_link.specs.way.specs.Answer.{is_open, names_refusal}
-use Rattle.jfs_link.specs.way.specs.declared.object.Held.{Held}
+use Rattle.jfs_way.specs.Answer.{is_open, names_refusal}
+use Rattle.jfs_way.specs.declared.object.Held.{Held}
 use Rattle.jfs_link.specs.lead_steps.proofs.Chain.{at_changed, off_changed}
 use Rattle.jfs_link.specs.lead_steps.proofs.Turned.{turns, names_listed}
 use Rattle.jfs_rename_steps.specs.Entries.{LossRefused}

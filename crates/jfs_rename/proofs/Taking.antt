@@ -1,29 +1,29 @@
 -- The whole call: from what its parts answer to what it answers.
 use Rattle.std.proofs.Common.{◌≡◌, ◌⊎◌, ◌<◌, refl, sym, ap, ◌∙◌, subst, inl, inr, ℕ, Bool, true, false, true≢false, ◌||◌, ◌==◌, nat_lt, if◌then◌else◌, List, [], length, Option, Some, None, Result, Ok, Err, arith}
 use Rattle.jfs_bits.specs.declared.descriptor.Moment.{Moment}
-use Rattle.jfs_link.specs.bmap.specs.States.{Blocks, Reserved, changed, is_in_list}
-use Rattle.jfs_link.specs.bmap.proofs.Puts.{in_list-none, put-nowhere}
+use Rattle.jfs_bmap.specs.States.{Blocks, Reserved, changed, is_in_list}
+use Rattle.jfs_bmap.proofs.Puts.{in_list-none, put-nowhere}
 use Rattle.jfs_disk.specs.Image.{Image, page_of}
-use Rattle.jfs_link.specs.imap.specs.Inodes.{Inodes}
+use Rattle.jfs_imap.specs.Inodes.{Inodes}
 use Rattle.jfs_ranges.specs.declared.edit.Edit.{Edit}
-use Rattle.jfs_link.specs.page_tree.specs.Edit.{count_in}
-use Rattle.jfs_link.specs.plain.specs.Tree.{Tree, Place, place_at, passes, is_dir, and_then}
-use Rattle.jfs_link.specs.plain.specs.Moves.{shifts}
-use Rattle.jfs_link.specs.plain.specs.Step.{Room, rename, departs, gained, why_barred, links_in, links_of}
-use Rattle.jfs_link.specs.plain.specs.declared.refusal.Refusal.{Refusal}
-use Rattle.jfs_link.specs.plain.specs.declared.refusal.Refusal.TheVariants.{NotFound}
-use Rattle.jfs_link.specs.plain.specs.declared.reply.Reply.TheVariants.{Done}
+use Rattle.jfs_tree.specs.Edit.{count_in}
+use Rattle.jfs_plain.specs.Tree.{Tree, Place, place_at, passes, is_dir, and_then}
+use Rattle.jfs_plain.specs.Moves.{shifts}
+use Rattle.jfs_plain.specs.Step.{Room, rename, departs, gained, why_barred, links_in, links_of}
+use Rattle.jfs_plain.specs.declared.refusal.Refusal.{Refusal}
+use Rattle.jfs_plain.specs.declared.refusal.Refusal.TheVariants.{NotFound}
+use Rattle.jfs_plain.specs.declared.reply.Reply.TheVariants.{Done}
 use Rattle.jfs_link.specs.objects.specs.Objects.{has_names}
 use Rattle.jfs_link.specs.meaning.specs.Readers.{readers}
 use Rattle.jfs_link.specs.meaning.specs.Consistent.{IsConsistent}
-use Rattle.jfs_link.specs.way.specs.Answer.{is_open}
-use Rattle.jfs_link.specs.way.specs.Way.{name_from}
-use Rattle.jfs_link.specs.way.specs.Walk.{IsHeld, IsShown, tree_in}
-use Rattle.jfs_link.specs.way.specs.Volume.{volume_of}
-use Rattle.jfs_link.specs.way.specs.declared.object.Held.{Held}
-use Rattle.jfs_link.specs.steps.specs.Place.{last_of}
-use Rattle.jfs_link.specs.claim.specs.Take.{reserving}
-use Rattle.jfs_link.specs.place.specs.Place.{occupant_at, if_found}
+use Rattle.jfs_way.specs.Answer.{is_open}
+use Rattle.jfs_way.specs.Way.{name_from}
+use Rattle.jfs_way.specs.Walk.{IsHeld, IsShown, tree_in}
+use Rattle.jfs_way.specs.Volume.{volume_of}
+use Rattle.jfs_way.specs.declared.object.Held.{Held}
+use Rattle.jfs_steps.specs.Place.{last_of}
+use Rattle.jfs_claim.specs.Take.{reserving}
+use Rattle.jfs_place.specs.Place.{occupant_at, if_found}
 use Rattle.jfs_link.specs.Link.{ReservesFree, ReservesTaken, IfConsistentBy}
 use Rattle.jfs_rename_steps.specs.Moves.{MovesOver, OverRefused}
 use Rattle.jfs_rename_steps.specs.declared.moving.Moving.{Moving}

@@ -1,23 +1,23 @@
 -- What a rename asks.
 use Rattle.std.specs.Prelude.{◌≡◌, ◌⊎◌, ℕ, ◌==◌, Bool, true, false, if◌then◌else◌, List, Option, Some, None, Result, Ok, Err}
 use Rattle.jfs_bits.specs.declared.descriptor.Moment.{Moment}
-use Rattle.jfs_link.specs.imap.specs.Inodes.{Inodes}
-use Rattle.jfs_link.specs.bmap.specs.States.{Blocks, unowned_count}
-use Rattle.jfs_link.specs.dtree.specs.Room.{deep_on_way}
-use Rattle.jfs_link.specs.plain.specs.Tree.{Tree, and_then, at_place, place_at, passes}
-use Rattle.jfs_link.specs.plain.specs.Step.{Room, rename, is_short, need_of_name, why_barred, why_kept}
-use Rattle.jfs_link.specs.plain.specs.declared.node.Node.{Node}
-use Rattle.jfs_link.specs.plain.specs.declared.refusal.Refusal.{Refusal}
-use Rattle.jfs_link.specs.plain.specs.declared.refusal.Refusal.TheVariants.{NoSpace, TooDeep}
-use Rattle.jfs_link.specs.plain.specs.declared.reply.Reply.TheVariants.{Done}
+use Rattle.jfs_imap.specs.Inodes.{Inodes}
+use Rattle.jfs_bmap.specs.States.{Blocks, unowned_count}
+use Rattle.jfs_dtree.specs.Room.{deep_on_way}
+use Rattle.jfs_plain.specs.Tree.{Tree, and_then, at_place, place_at, passes}
+use Rattle.jfs_plain.specs.Step.{Room, rename, is_short, need_of_name, why_barred, why_kept}
+use Rattle.jfs_plain.specs.declared.node.Node.{Node}
+use Rattle.jfs_plain.specs.declared.refusal.Refusal.{Refusal}
+use Rattle.jfs_plain.specs.declared.refusal.Refusal.TheVariants.{NoSpace, TooDeep}
+use Rattle.jfs_plain.specs.declared.reply.Reply.TheVariants.{Done}
 use Rattle.jfs_link.specs.objects.specs.Objects.{has_names}
 use Rattle.jfs_link.specs.meaning.specs.Readers.{root_of}
-use Rattle.jfs_link.specs.way.specs.Answer.{is_open}
-use Rattle.jfs_link.specs.way.specs.Walk.{IsThere, IsHeld, IsShown}
-use Rattle.jfs_link.specs.way.specs.declared.object.Held.{Held}
-use Rattle.jfs_link.specs.steps.specs.Place.{last_of}
-use Rattle.jfs_link.specs.claim.specs.Look.{space_for}
-use Rattle.jfs_link.specs.place.specs.Place.{occupant_at}
+use Rattle.jfs_way.specs.Answer.{is_open}
+use Rattle.jfs_way.specs.Walk.{IsThere, IsHeld, IsShown}
+use Rattle.jfs_way.specs.declared.object.Held.{Held}
+use Rattle.jfs_steps.specs.Place.{last_of}
+use Rattle.jfs_claim.specs.Look.{space_for}
+use Rattle.jfs_place.specs.Place.{occupant_at}
 use Rattle.jfs_link.specs.Link.{IfConsistentBy}
 use Rattle.jfs_rename_steps.specs.declared.moving.Moving.{Moving}
 use Rattle.jfs_rename.specs.Ends.{AreEnds, AreHeld, AreShown, AreDirectories, moving_on}

@@ -1,17 +1,17 @@
 -- The ends of both paths of a rename: the object, the directory that has its name, and the one that is to have the new name.
 use Rattle.std.specs.Prelude.{◌≡◌, ◌⊎◌, ◌<◌, ℕ, ◌==◌, ◌||◌, Bool, true, false, if◌then◌else◌, List, length, Result, Ok, Err}
 use Rattle.jfs_bits.specs.declared.descriptor.Moment.{Moment}
-use Rattle.jfs_link.specs.imap.specs.Inodes.{Inodes}
-use Rattle.jfs_link.specs.plain.specs.Tree.{Tree, walk, root, place, place_as, and_then}
-use Rattle.jfs_link.specs.plain.specs.Step.{Room, rename}
-use Rattle.jfs_link.specs.plain.specs.declared.refusal.Refusal.{Refusal}
-use Rattle.jfs_link.specs.plain.specs.declared.refusal.Refusal.TheVariants.{IntoItself}
+use Rattle.jfs_imap.specs.Inodes.{Inodes}
+use Rattle.jfs_plain.specs.Tree.{Tree, walk, root, place, place_as, and_then}
+use Rattle.jfs_plain.specs.Step.{Room, rename}
+use Rattle.jfs_plain.specs.declared.refusal.Refusal.{Refusal}
+use Rattle.jfs_plain.specs.declared.refusal.Refusal.TheVariants.{IntoItself}
 use Rattle.jfs_link.specs.objects.specs.Objects.{has_names}
-use Rattle.jfs_link.specs.way.specs.Answer.{is_open}
-use Rattle.jfs_link.specs.way.specs.Way.{path_of}
-use Rattle.jfs_link.specs.way.specs.Walk.{IsThere, IsHeld, IsShown}
-use Rattle.jfs_link.specs.way.specs.declared.object.Held.{Held}
-use Rattle.jfs_link.specs.steps.specs.Place.{last_of, place_of}
+use Rattle.jfs_way.specs.Answer.{is_open}
+use Rattle.jfs_way.specs.Way.{path_of}
+use Rattle.jfs_way.specs.Walk.{IsThere, IsHeld, IsShown}
+use Rattle.jfs_way.specs.declared.object.Held.{Held}
+use Rattle.jfs_steps.specs.Place.{last_of, place_of}
 use Rattle.jfs_rename_steps.specs.declared.moving.Moving.{Moving}
 
 -- ---- on any volume

@@ -1,13 +1,13 @@
 -- Whether an object may go where it is to go, whatever the volume holds.
 use Rattle.std.specs.Prelude.{ℕ, ◌==◌, Bool, true, false, if◌then◌else◌, Option, Some, None, Result, Ok, Err}
-use Rattle.jfs_link.specs.dtree.specs.Spells.{root_node}
+use Rattle.jfs_dtree.specs.Spells.{root_node}
 use Rattle.jfs_link.specs.meaning.specs.Readers.{root_of}
 use Rattle.jfs_link.specs.objects.specs.Objects.{has_names}
-use Rattle.jfs_link.specs.plain.specs.Tree.{and_then}
-use Rattle.jfs_link.specs.plain.specs.Step.{why_barred}
-use Rattle.jfs_link.specs.plain.specs.declared.refusal.Refusal.{Refusal}
-use Rattle.jfs_link.specs.plain.specs.declared.refusal.Refusal.TheVariants.{IntoItself, IsDir, NotDir, FileTooBig}
-use Rattle.jfs_link.specs.way.specs.declared.object.Held.{Held}
+use Rattle.jfs_plain.specs.Tree.{and_then}
+use Rattle.jfs_plain.specs.Step.{why_barred}
+use Rattle.jfs_plain.specs.declared.refusal.Refusal.{Refusal}
+use Rattle.jfs_plain.specs.declared.refusal.Refusal.TheVariants.{IntoItself, IsDir, NotDir, FileTooBig}
+use Rattle.jfs_way.specs.declared.object.Held.{Held}
 use Rattle.jfs_unlink.specs.Call.{bare_at, is_last_of_big}
 use Rattle.jfs_rename_steps.specs.declared.moving.Moving.{Moving}
 use Rattle.jfs_rename.specs.declared.permits.Asked.{Asked}

@@ -2,7 +2,7 @@
 
 ghost use Rattle.std.specs.Prelude.{◌≡◌, ◌≤◌, ◌<◌, ℕ, [], length, get_or, IfOk, IfErr};
 ghost use Rattle.jfs_disk.specs.Image.{page_of};
-ghost use Rattle.jfs_link.specs.way.specs.Answer.{Carries, Answers};
+ghost use Rattle.jfs_way.specs.Answer.{Carries, Answers};
 ghost use Rattle.jfs_link.specs.Link.{IfConsistentBy};
 ghost use Rattle.jfs_rename.specs.Ends.{HaveNames};
 ghost use Rattle.jfs_rename.specs.Asks.{asked, changes_nothing, IsAskedOf, IsAskedOn, MayRename, RefusesRename};
@@ -11,11 +11,11 @@ use crate::ends::find_moving;
 use crate::permits::{Asked, permitted};
 use crate::room::check_room;
 use crate::through::is_inside;
-use jfs_link::bmap::BlockMap;
-use jfs_link::imap::InodeMap;
-use jfs_link::place::occupant;
-use jfs_link::plain::Refusal;
+use jfs_bmap::BlockMap;
+use jfs_imap::InodeMap;
 use jfs_name::Name;
+use jfs_place::occupant;
+use jfs_plain::Refusal;
 use jfs_ranges::PageView;
 
 /// What is asked for, where nothing refuses it; the greatest size of a file is `limit` bytes. The causes come in this order: those of `find_moving`; what stands at the new name, by `occupant`; those of `permitted`; and, where something changes, those of `check_room`.

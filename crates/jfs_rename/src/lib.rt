@@ -16,7 +16,3 @@ pub use permits::{Asked, permitted};
 pub use renaming::{Renamed, rename};
 pub use room::check_room;
 pub use through::{is_inside, leads_through};
-
-// libraries below, passed on
-pub use jfs_rename_steps as rename_steps;
-pub use jfs_unlink as unlink;

@@ -2,9 +2,9 @@
 
 ghost use Rattle.std.specs.Prelude.{◌≡◌, ◌≤◌, ◌<◌, ℕ, [], length, get_or};
 ghost use Rattle.jfs_disk.specs.Image.{page_of};
-ghost use Rattle.jfs_link.specs.way.specs.Answer.{Carries};
+ghost use Rattle.jfs_way.specs.Answer.{Carries};
 ghost use Rattle.jfs_rename_steps.specs.Moves.{FitMoving, IsWithin};
-ghost use Rattle.jfs_link.specs.plain.specs.Step.{rename};
+ghost use Rattle.jfs_plain.specs.Step.{rename};
 ghost use Rattle.jfs_rename.specs.Renames.{MapAfter, MovesReserved, RenamesAs};
 ghost use Rattle.jfs_rename.specs.Once.{FreesOnce};
 ghost use Rattle.jfs_rename.specs.Steps.{StepsAs};
@@ -12,11 +12,11 @@ ghost use Rattle.jfs_rename.specs.Steps.{StepsAs};
 use crate::asking::ask;
 use crate::permits::Asked;
 use jfs_bits::Moment;
-use jfs_link::bmap::BlockMap;
-use jfs_link::claim::{ClaimError, Want, take};
-use jfs_link::imap::InodeMap;
-use jfs_link::plain::Refusal;
+use jfs_bmap::BlockMap;
+use jfs_claim::{ClaimError, Want, take};
+use jfs_imap::InodeMap;
 use jfs_name::Name;
+use jfs_plain::Refusal;
 use jfs_ranges::{PageView, Tx};
 use jfs_rename_steps::{Moving, move_over, move_to_free};
 use std::alloc::Global;

@@ -3,7 +3,7 @@
 use crate::calls::rename_on;
 use crate::scripts::does;
 use crate::volume::{TestVolume, fill_to, findings_of, new_volume, with_blocks, with_links};
-use jfs_create::plain::Refusal;
+use jfs_plain::Refusal;
 use std::alloc::Global;
 use std::test::*;
 

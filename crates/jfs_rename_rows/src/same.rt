@@ -1,9 +1,9 @@
 //! Trees compared.
 
 use crate::volume::{TestVolume, page_of};
-use jfs_create::plain::{Node, PlainTree};
 use jfs_disk::PageList;
 use jfs_image::tree_of;
+use jfs_plain::{Node, PlainTree};
 use std::alloc::Global;
 
 /// So many inode numbers are looked at.

@@ -3,15 +3,15 @@
 ghost use Rattle.std.specs.Prelude.{◌≡◌, ◌≤◌, ◌∷◌, [], IfOk};
 
 use jfs_bits::{Dxd, Moment, Pxd, PxdList, Xad, clear_run, get_u32, put_array, set_run};
+use jfs_bmap::BlockMap;
 use jfs_check::check;
-use jfs_create::bmap::BlockMap;
-use jfs_create::imap::InodeMap;
-use jfs_create::reader::DiskView;
 use jfs_disk::{Disk, Page, Part, SureDisk};
 use jfs_format::format;
+use jfs_imap::InodeMap;
 use jfs_inode::{inode_in, write_dinode};
 use jfs_inode_rows::places_of;
 use jfs_ranges::{Edit, PageView, Tx, apply, touches};
+use jfs_reader::DiskView;
 use jfs_super::read_super;
 use std::alloc::{AllocError, Global};
 use uuid::Uuid;
@@ -164,7 +164,7 @@ fn data_root<V: PageView>(alloc: Global, view: &mut V) -> Option<[u8; 288]>
     requires { 408 ≤ V.PageView.block_count view.old }
 {
     let mut root = [0u8; 288];
-    jfs_create::xtree::new_root(&mut root);
+    jfs_xtree::new_root(&mut root);
     let mut fresh = eight(alloc).ok()?;
     let mut tx = Tx::new(alloc);
     let data = Xad {
@@ -172,7 +172,7 @@ fn data_root<V: PageView>(alloc: Global, view: &mut V) -> Option<[u8; 288]>
         offset: 0,
         at: Pxd { len: 5, addr: 300 },
     };
-    match jfs_create::xtree::add(alloc, view, &mut root, data, &mut fresh, &mut tx) {
+    match jfs_xtree::add(alloc, view, &mut root, data, &mut fresh, &mut tx) {
         Ok(()) => Some(root),
         Err(_) => None,
     }

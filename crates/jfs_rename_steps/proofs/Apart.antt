@@ -1,17 +1,17 @@
 -- No directory that a path leads to has a name for itself, so the objects of a rename are apart.
 use Rattle.std.proofs.Common.{◌≡◌, ◌≢◌, ◌<◌, refl, sym, ap, ◌∙◌, subst, inl, inr, ℕ, Bool, true, false, true≢false, ◌==◌, eq-eqb, ne_eqb, if◌then◌else◌, List, [], ◌∷◌, length, Option, Some, None, Result, Ok, Err, arith}
 use Rattle.jfs_name.specs.Directory.{named}
-use Rattle.jfs_loss.specs.plain.specs.Tree.{Tree, Place, root, is_dir, and_then, walk, enter, enter_from, wanted, place, place_as, place_from, in_directory, at_place, passes, passes_from, passes_on}
-use Rattle.jfs_loss.specs.plain.specs.declared.node.Node.{Node}
-use Rattle.jfs_loss.specs.plain.specs.declared.refusal.Refusal.{Refusal}
-use Rattle.jfs_loss.specs.plain.specs.declared.refusal.Refusal.TheVariants.{NotDir}
+use Rattle.jfs_plain.specs.Tree.{Tree, Place, root, is_dir, and_then, walk, enter, enter_from, wanted, place, place_as, place_from, in_directory, at_place, passes, passes_from, passes_on}
+use Rattle.jfs_plain.specs.declared.node.Node.{Node}
+use Rattle.jfs_plain.specs.declared.refusal.Refusal.{Refusal}
+use Rattle.jfs_plain.specs.declared.refusal.Refusal.TheVariants.{NotDir}
 use Rattle.jfs_loss.specs.objects.specs.Owners.{bit}
 use Rattle.jfs_loss.specs.objects.proofs.Sums.{zero_or_more, eq_or_not}
 use Rattle.jfs_loss.specs.meaning.specs.Consistent.{leading_to, names_in, names_for, IsConsistentTree}
 use Rattle.jfs_loss.specs.meaning.proofs.Found.{is_among, among_leads, in_place, place_there}
 use Rattle.jfs_loss.specs.meaning.proofs.Reached.{at_leads}
-use Rattle.jfs_loss.specs.steps.specs.Place.{front_of, last_of}
-use Rattle.jfs_loss.specs.steps.proofs.LastNames.{place_is}
+use Rattle.jfs_steps.specs.Place.{front_of, last_of}
+use Rattle.jfs_steps.proofs.LastNames.{place_is}
 
 -- a name that leads to an object is one of its directory's
 some_name : (o : Option Node) (name : List ℕ) (m : ℕ) → enter_from o name ≡ Ok m → 0 < leading_to m (names_in o)

@@ -2,12 +2,12 @@
 use Rattle.std.proofs.Common.{◌≡◌, ◌≢◌, refl, sym, ap, ◌∙◌, ℕ, ◌+◌, ◌-◌, Bool, true, false, not, ◌&&◌, ◌==◌, nat_le, if◌then◌else◌, List}
 use Rattle.jfs_bits.specs.declared.descriptor.Moment.{Moment}
 use Rattle.jfs_name.specs.Directory.{with_name, without_name, with_inode}
-use Rattle.jfs_loss.specs.plain.specs.Tree.{Tree, place_at}
-use Rattle.jfs_loss.specs.plain.specs.Moves.{changed, dropped, stamped, rises, falls, moves, gains, loses, leads, shifts, displaced}
-use Rattle.jfs_loss.specs.plain.specs.Step.{entry_as, gained, departs}
-use Rattle.jfs_loss.specs.plain.specs.declared.node.Node.{Node}
-use Rattle.jfs_loss.specs.lead_steps.proofs.Chain.{twice, either_order}
-use Rattle.jfs_loss.specs.lead_steps.proofs.Turned.{turns}
+use Rattle.jfs_plain.specs.Tree.{Tree, place_at}
+use Rattle.jfs_plain.specs.Moves.{changed, dropped, stamped, rises, falls, moves, gains, loses, leads, shifts, displaced}
+use Rattle.jfs_plain.specs.Step.{entry_as, gained, departs}
+use Rattle.jfs_plain.specs.declared.node.Node.{Node}
+use Rattle.jfs_lead_steps.proofs.Chain.{twice, either_order}
+use Rattle.jfs_lead_steps.proofs.Turned.{turns}
 use Rattle.jfs_rename_steps.specs.Moves.{less_if}
 
 -- what becomes of the object

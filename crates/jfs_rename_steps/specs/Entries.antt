@@ -9,20 +9,20 @@ use Rattle.jfs_ranges.specs.declared.edit.Edit.{Edit}
 use Rattle.jfs_ranges.specs.Laid.{put_tx}
 use Rattle.jfs_loss.specs.page_tree.specs.Changes.{TellsTaken, TellsGone}
 use Rattle.jfs_loss.specs.page_tree.specs.Fresh.{blocks_of}
-use Rattle.jfs_loss.specs.dtree.specs.Parent.{parent_of}
-use Rattle.jfs_loss.specs.dtree.specs.Spells.{broken_for, TellsWay}
-use Rattle.jfs_loss.specs.dtree.specs.Adding.{AddsName}
-use Rattle.jfs_loss.specs.dtree.specs.Removing.{RemovesName, MissesName}
-use Rattle.jfs_loss.specs.dtree.specs.Replacing.{ReplacesName, ChangesOnePlace}
-use Rattle.jfs_loss.specs.dtree.specs.declared.error.DtError.{DtError}
-use Rattle.jfs_loss.specs.plain.specs.declared.refusal.Refusal.{Refusal}
+use Rattle.jfs_dtree.specs.Parent.{parent_of}
+use Rattle.jfs_dtree.specs.Spells.{broken_for, TellsWay}
+use Rattle.jfs_dtree.specs.Adding.{AddsName}
+use Rattle.jfs_dtree.specs.Removing.{RemovesName, MissesName}
+use Rattle.jfs_dtree.specs.Replacing.{ReplacesName, ChangesOnePlace}
+use Rattle.jfs_dtree.specs.declared.error.DtError.{DtError}
+use Rattle.jfs_plain.specs.declared.refusal.Refusal.{Refusal}
 use Rattle.jfs_loss.specs.meaning.specs.Readers.{root_of}
-use Rattle.jfs_loss.specs.way.specs.Answer.{is_open, names_refusal}
-use Rattle.jfs_loss.specs.way.specs.declared.object.Held.{Held}
-use Rattle.jfs_loss.specs.steps.specs.Gains.{entry_of}
-use Rattle.jfs_loss.specs.steps.specs.Put.{AddsInode, TellsLines}
-use Rattle.jfs_loss.specs.steps.specs.declared.gain.Gain.{Gain}
-use Rattle.jfs_loss.specs.lead_steps.specs.Balance.{own_after}
+use Rattle.jfs_way.specs.Answer.{is_open, names_refusal}
+use Rattle.jfs_way.specs.declared.object.Held.{Held}
+use Rattle.jfs_steps.specs.Gains.{entry_of}
+use Rattle.jfs_steps.specs.Put.{AddsInode, TellsLines}
+use Rattle.jfs_steps.specs.declared.gain.Gain.{Gain}
+use Rattle.jfs_lead_steps.specs.Balance.{own_after}
 use Rattle.jfs_loss.specs.Inodes.{frees_in}
 use Rattle.jfs_rename_steps.specs.declared.entries.Entered.{Entered}
 

@@ -2,5 +2,3 @@
 pub mod Entries
 pub mod Objects
 pub mod Moves
-
--- libraries below, passed on

@@ -6,14 +6,14 @@ use Rattle.jfs_bits.specs.declared.descriptor.Moment.{Moment}
 use Rattle.jfs_inode.specs.declared.fields.Dinode.{Dinode}
 use Rattle.jfs_ranges.specs.declared.edit.Edit.{Edit}
 use Rattle.jfs_dtpage.specs.declared.head.DtForm.TheVariants.{Root}
-use Rattle.jfs_loss.specs.dtree.specs.Node.{dt_node}
-use Rattle.jfs_loss.specs.dtree.specs.Parent.{parent_of}
-use Rattle.jfs_loss.specs.plain.specs.declared.refusal.Refusal.{Refusal}
+use Rattle.jfs_dtree.specs.Node.{dt_node}
+use Rattle.jfs_dtree.specs.Parent.{parent_of}
+use Rattle.jfs_plain.specs.declared.refusal.Refusal.{Refusal}
 use Rattle.jfs_loss.specs.objects.specs.Objects.{has_names}
 use Rattle.jfs_loss.specs.meaning.specs.Readers.{root_of}
-use Rattle.jfs_loss.specs.way.specs.Answer.{is_open}
-use Rattle.jfs_loss.specs.way.specs.declared.object.Held.{Held}
-use Rattle.jfs_loss.specs.steps.specs.Put.{AddsInode, TellsLines}
+use Rattle.jfs_way.specs.Answer.{is_open}
+use Rattle.jfs_way.specs.declared.object.Held.{Held}
+use Rattle.jfs_steps.specs.Put.{AddsInode, TellsLines}
 use Rattle.jfs_loss.specs.Causes.{MeetsTree}
 use Rattle.jfs_loss.specs.Frees.{FreesObject}
 use Rattle.jfs_loss.specs.Inodes.{fallen, gone}

@@ -5,21 +5,21 @@ ghost use Rattle.jfs_disk.specs.Image.{page_of};
 ghost use Rattle.jfs_inode.specs.Inode.{FitsDinode};
 ghost use Rattle.jfs_loss.specs.page_tree.specs.Form.{AllBelow};
 ghost use Rattle.jfs_loss.specs.page_tree.specs.Fresh.{blocks_of};
-ghost use Rattle.jfs_loss.specs.way.specs.Answer.{Carries, Answers};
-ghost use Rattle.jfs_loss.specs.steps.specs.Gains.{GainRefused, TakesFront};
+ghost use Rattle.jfs_way.specs.Answer.{Carries, Answers};
+ghost use Rattle.jfs_steps.specs.Gains.{GainRefused, TakesFront};
 ghost use Rattle.jfs_loss.specs.Causes.{lost_from};
 ghost use Rattle.jfs_loss.specs.Inodes.{frees_in};
 ghost use Rattle.jfs_rename_steps.specs.Entries.{GainsEntry, LeadsEntry, LosesEntry, LossRefused, turned};
 
 use jfs_bits::{Moment, PxdList, get_array, put_array};
+use jfs_dtree::{add, replace};
 use jfs_inode::Dinode;
-use jfs_loss::dtree::{add, replace};
-use jfs_loss::lead_steps::{own_after, remove_on_top};
-use jfs_loss::plain::Refusal;
-use jfs_loss::steps::{Gain, from_names, put_inode};
-use jfs_loss::way::Held;
+use jfs_lead_steps::{own_after, remove_on_top};
 use jfs_name::Name;
+use jfs_plain::Refusal;
 use jfs_ranges::{Edit, PageView, Tx};
+use jfs_steps::{Gain, from_names, put_inode};
+use jfs_way::Held;
 use std::alloc::Global;
 
 /// A directory's inode after a step, and the transaction up to there.
@@ -29,7 +29,7 @@ pub struct Entered {
     pub tx: Tx,
 }
 
-/// A directory gains a name of at most 255 units, and has so many links then: its tree takes blocks from `fresh` in its order, and its inode is put. A refusal is that of `jfs_loss::dtree::add`, with
+/// A directory gains a name of at most 255 units, and has so many links then: its tree takes blocks from `fresh` in its order, and its inode is put. A refusal is that of `jfs_dtree::add`, with
 /// the directory's number and page; or a fault or want of memory.
 pub fn gain_entry<V: PageView>(
     alloc: Global,
@@ -103,7 +103,7 @@ pub fn lead_entry<V: PageView>(
 }
 
 /// A directory as a transaction leaves it loses a name of at most 255 units, and has so many links then; its inode is put. The answer's transaction begins with that one. A refusal is that of
-/// `jfs_loss::dtree::remove` on the pages as the transaction leaves them, or a fault or want of memory.
+/// `jfs_dtree::remove` on the pages as the transaction leaves them, or a fault or want of memory.
 pub fn lose_entry<V: PageView>(
     alloc: Global,
     view: &mut V,

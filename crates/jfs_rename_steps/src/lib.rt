@@ -10,5 +10,3 @@ pub use entries::{Entered, gain_entry, lead_entry, lose_entry};
 pub use leaving::{Leaving, leave};
 pub use moving::{Moving, move_over, move_to_free};
 pub use objects::{arrive, displace, free_if_gone};
-
-// libraries below, passed on

@@ -8,7 +8,3 @@ pub use law::{
     fresh_inode_is_picked, held_directories_are_deep_by_their_roots, room_is_known_by_maps,
     runs_are_free_once_settled, unowned_blocks_are_free,
 };
-
-// libraries below, passed on
-pub use jfs_way as way;
-pub use jfs_way::{bmap, imap, meaning, objects, page_tree, plain};

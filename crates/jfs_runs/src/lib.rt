@@ -4,5 +4,3 @@
 mod law;
 
 pub use law::{runs_are_blocks, what_is_left_is_reserved};
-
-// libraries below, passed on

@@ -10,5 +10,3 @@ pub mod History
 pub mod Laws
 -- how far a script is read: for the prover
 pub mod Progress
--- libraries below, passed on
-pub use Rattle.jfs_plain as plain

@@ -18,6 +18,3 @@ pub use history::{write_done, write_history};
 pub use law::scripts_mean_one_thing;
 pub use print::write_entry;
 pub use script::read_script;
-
-// libraries below, passed on
-pub use jfs_plain as plain;

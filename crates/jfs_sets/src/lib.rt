@@ -5,7 +5,3 @@ mod parts;
 mod sets;
 
 pub use sets::{inode_extents, used_blocks, used_inodes};
-
-// libraries below, passed on
-pub use jfs_mount as mount_rules;
-pub use jfs_mount::{each, plain, reader};

@@ -2,5 +2,3 @@
 pub mod Shown
 pub mod Laws
 pub mod Files
-
--- libraries below, passed on

@@ -7,13 +7,3 @@ pub mod Gains
 pub mod Place
 -- libraries below, passed on
 pub use Rattle.jfs_way.specs.bmap
-pub use Rattle.jfs_way.specs.dmap
-pub use Rattle.jfs_way.specs.dtree
-pub use Rattle.jfs_way.specs.imap
-pub use Rattle.jfs_way.specs.meaning
-pub use Rattle.jfs_way.specs.objects
-pub use Rattle.jfs_way.specs.plain
-pub use Rattle.jfs_way.specs.reader
-pub use Rattle.jfs_way.specs.page_tree
-pub use Rattle.jfs_way as way
-pub use Rattle.jfs_way.specs.xtree

@@ -16,7 +16,3 @@ pub use law::{
 };
 pub use places::{new_place, place};
 pub use put::put_inode;
-
-// libraries below, passed on
-pub use jfs_way as way;
-pub use jfs_way::{bmap, dmap, dtree, imap, meaning, objects, page_tree, plain, reader, xtree};

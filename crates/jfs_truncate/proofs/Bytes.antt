@@ -4,7 +4,7 @@ use Rattle.std.specs.Prelude.{min, get_or}
 use Rattle.std.proofs.lemmas.Bool.{cases_lt, lt-ltb, le-ltb}
 use Rattle.std.proofs.lemmas.Bool.Decides.{nat_tests}
 use Rattle.jfs_bits.specs.declared.extent.Xad.{Xad}
-use Rattle.jfs_data_steps.specs.xtree.specs.Cutting.{kept_below}
+use Rattle.jfs_xtree.specs.Cutting.{kept_below}
 use Rattle.jfs_data_steps.specs.objects.specs.Owners.{covers}
 use Rattle.jfs_data_steps.specs.objects.specs.Contents.{block_of, bytes_at}
 use Rattle.jfs_data_steps.specs.objects.proofs.Blocks.{covered}

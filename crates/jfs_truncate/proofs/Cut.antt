@@ -7,18 +7,18 @@ use Rattle.jfs_bits.specs.declared.descriptor.Pxd.{Pxd}
 use Rattle.jfs_bits.specs.declared.extent.Xad.{Xad}
 use Rattle.jfs_bits.specs.declared.rule.PageKind.TheVariants.{Xtree}
 use Rattle.jfs_inode.specs.declared.fields.Dinode.{Dinode}
-use Rattle.jfs_data_steps.specs.imap.specs.Inodes.{Inodes}
+use Rattle.jfs_imap.specs.Inodes.{Inodes}
 use Rattle.jfs_data_steps.specs.bmap.specs.States.{Blocks}
 use Rattle.jfs_ranges.specs.declared.edit.Edit.{Edit}
 use Rattle.jfs_ranges.specs.Laid.{put_tx}
-use Rattle.jfs_data_steps.specs.page_tree.specs.Edit.{count_in}
-use Rattle.jfs_data_steps.specs.page_tree.specs.Fresh.{LeadsTo, after_tx, blocks_of}
-use Rattle.jfs_data_steps.specs.page_tree.specs.Removes.{page_frees}
-use Rattle.jfs_data_steps.specs.page_tree.specs.Tell.{TellsThen}
-use Rattle.jfs_data_steps.specs.page_tree.specs.Spells.{spells, footprint}
-use Rattle.jfs_data_steps.specs.xtree.specs.Node.{xt_scale, xt_node}
-use Rattle.jfs_data_steps.specs.xtree.specs.Spells.{page_nodes, root_form, spells_extents, owned_pages, found_for}
-use Rattle.jfs_data_steps.specs.xtree.specs.Cutting.{HasOnlyBelow, kept_below, gone_past, run_frees}
+use Rattle.jfs_tree.specs.Edit.{count_in}
+use Rattle.jfs_tree.specs.Fresh.{LeadsTo, after_tx, blocks_of}
+use Rattle.jfs_tree.specs.Removes.{page_frees}
+use Rattle.jfs_tree.specs.Tell.{TellsThen}
+use Rattle.jfs_tree.specs.Spells.{spells, footprint}
+use Rattle.jfs_xtree.specs.Node.{xt_scale, xt_node}
+use Rattle.jfs_xtree.specs.Spells.{page_nodes, root_form, spells_extents, owned_pages, found_for}
+use Rattle.jfs_xtree.specs.Cutting.{HasOnlyBelow, kept_below, gone_past, run_frees}
 use Rattle.jfs_data_steps.specs.objects.specs.Readers.{Readers}
 use Rattle.jfs_data_steps.specs.objects.specs.Image.{extent_place}
 use Rattle.jfs_data_steps.specs.objects.specs.Volume.{Volume}
@@ -30,16 +30,16 @@ use Rattle.jfs_data_steps.specs.objects.proofs.Owned.{owned_once}
 use Rattle.jfs_data_steps.specs.meaning.specs.Contents.{is_regular}
 use Rattle.jfs_data_steps.specs.meaning.specs.Readers.{readers, root_of}
 use Rattle.jfs_data_steps.specs.meaning.specs.Consistent.{IsConsistent}
-use Rattle.jfs_data_steps.specs.way.specs.Volume.{volume_of}
-use Rattle.jfs_data_steps.specs.way.specs.Walk.{IsHeld, IsShown, IsThere, tree_in}
-use Rattle.jfs_data_steps.specs.way.specs.declared.object.Held.{Held}
+use Rattle.jfs_way.specs.Volume.{volume_of}
+use Rattle.jfs_way.specs.Walk.{IsHeld, IsShown, IsThere, tree_in}
+use Rattle.jfs_way.specs.declared.object.Held.{Held}
 use Rattle.jfs_read.specs.Read.{block_by}
 use Rattle.jfs_read.proofs.Found.{found_is, block_found}
-use Rattle.jfs_data_steps.specs.lead_steps.specs.Balance.{own_after}
+use Rattle.jfs_lead_steps.specs.Balance.{own_after}
 use Rattle.jfs_data_steps.specs.loss.proofs.Counts.{count_append, runs_move, frees_then, changes_move, same_moves}
-use Rattle.jfs_data_steps.specs.steps.specs.After.{frees}
-use Rattle.jfs_data_steps.specs.steps.specs.Laws.{TakesAndFrees, IsFair}
-use Rattle.jfs_data_steps.specs.steps.proofs.Sets.{frees_onto, frees_move, moves_onto, lines_move, lines_on_top}
+use Rattle.jfs_steps.specs.After.{frees}
+use Rattle.jfs_steps.specs.Laws.{TakesAndFrees, IsFair}
+use Rattle.jfs_steps.proofs.Sets.{frees_onto, frees_move, moves_onto, lines_move, lines_on_top}
 use Rattle.jfs_data_steps.specs.declared.pages.DataPage.{DataPage}
 use Rattle.jfs_data_steps.specs.After.{is_put, AreWholePages, put_data, after_writes, LeavesPage}
 use Rattle.jfs_data_steps.specs.File.{bytes_held}

@@ -5,10 +5,10 @@ use Rattle.std.proofs.lemmas.Bool.{cases_lt, lt-ltb, le-ltb, le-leb}
 use Rattle.jfs_bits.specs.declared.descriptor.Moment.{Moment}
 use Rattle.jfs_bits.specs.declared.extent.Xad.{Xad}
 use Rattle.jfs_inode.specs.declared.fields.Dinode.{Dinode}
-use Rattle.jfs_data_steps.specs.imap.specs.Inodes.{Inodes}
+use Rattle.jfs_imap.specs.Inodes.{Inodes}
 use Rattle.jfs_data_steps.specs.bmap.specs.States.{Blocks}
 use Rattle.jfs_ranges.specs.declared.edit.Edit.{Edit}
-use Rattle.jfs_data_steps.specs.xtree.specs.Cutting.{kept_below}
+use Rattle.jfs_xtree.specs.Cutting.{kept_below}
 use Rattle.jfs_data_steps.specs.objects.specs.Readers.{Readers}
 use Rattle.jfs_data_steps.specs.objects.specs.Volume.{Volume}
 use Rattle.jfs_data_steps.specs.objects.specs.Objects.{Object, objects, spelled, has_names}
@@ -20,20 +20,20 @@ use Rattle.jfs_data_steps.specs.meaning.specs.Contents.{byte_of, byte_in, is_reg
 use Rattle.jfs_data_steps.specs.meaning.specs.Readers.{readers, root_of}
 use Rattle.jfs_data_steps.specs.meaning.specs.Tree.{tree_on}
 use Rattle.jfs_data_steps.specs.meaning.specs.Consistent.{IsConsistent}
-use Rattle.jfs_data_steps.specs.plain.specs.Tree.{Tree, Found, found_at, walk, root, and_then}
-use Rattle.jfs_data_steps.specs.plain.specs.CallStep.{LeavesRest, writes_over_in}
-use Rattle.jfs_data_steps.specs.plain.specs.declared.call.Call.TheVariants as calls
-use Rattle.jfs_data_steps.specs.plain.specs.Moves.{Same, sized, changed, cut}
-use Rattle.jfs_data_steps.specs.plain.specs.Step.{Room, Outcome, refuse, file, truncate}
-use Rattle.jfs_data_steps.specs.plain.specs.declared.node.Node.{Node}
-use Rattle.jfs_data_steps.specs.plain.specs.declared.refusal.Refusal.{Refusal}
-use Rattle.jfs_data_steps.specs.plain.specs.declared.refusal.Refusal.TheVariants.{IsDir, NotFile, FileTooBig}
-use Rattle.jfs_data_steps.specs.plain.specs.declared.reply.Reply.TheVariants.{Done}
-use Rattle.jfs_data_steps.specs.way.specs.Volume.{volume_of}
-use Rattle.jfs_data_steps.specs.way.specs.Walk.{IsHeld, IsShown, IsThere, tree_in}
-use Rattle.jfs_data_steps.specs.way.specs.declared.object.Held.{Held}
-use Rattle.jfs_data_steps.specs.steps.specs.Call.{IsDone}
-use Rattle.jfs_data_steps.specs.steps.specs.Laws.{IsFair}
+use Rattle.jfs_plain.specs.Tree.{Tree, Found, found_at, walk, root, and_then}
+use Rattle.jfs_plain.specs.CallStep.{LeavesRest, writes_over_in}
+use Rattle.jfs_plain.specs.declared.call.Call.TheVariants as calls
+use Rattle.jfs_plain.specs.Moves.{Same, sized, changed, cut}
+use Rattle.jfs_plain.specs.Step.{Room, Outcome, refuse, file, truncate}
+use Rattle.jfs_plain.specs.declared.node.Node.{Node}
+use Rattle.jfs_plain.specs.declared.refusal.Refusal.{Refusal}
+use Rattle.jfs_plain.specs.declared.refusal.Refusal.TheVariants.{IsDir, NotFile, FileTooBig}
+use Rattle.jfs_plain.specs.declared.reply.Reply.TheVariants.{Done}
+use Rattle.jfs_way.specs.Volume.{volume_of}
+use Rattle.jfs_way.specs.Walk.{IsHeld, IsShown, IsThere, tree_in}
+use Rattle.jfs_way.specs.declared.object.Held.{Held}
+use Rattle.jfs_steps.specs.Call.{IsDone}
+use Rattle.jfs_steps.specs.Laws.{IsFair}
 use Rattle.jfs_data_steps.specs.declared.pages.DataPage.{DataPage}
 use Rattle.jfs_data_steps.specs.After.{AreWholePages, put_data, with_data, after_writes}
 use Rattle.jfs_data_steps.specs.Laws.{IsFilePut}

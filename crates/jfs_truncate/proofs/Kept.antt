@@ -4,10 +4,10 @@ use Rattle.std.specs.Int.RustNames.{bit_and}
 use Rattle.std.proofs.lemmas.Bool.Decides.{nat_tests}
 use Rattle.jfs_bits.specs.declared.descriptor.Pxd.{Pxd}
 use Rattle.jfs_bits.specs.declared.extent.Xad.{Xad}
-use Rattle.jfs_data_steps.specs.page_tree.specs.Edit.{count_in}
-use Rattle.jfs_data_steps.specs.page_tree.specs.Fresh.{run_from, blocks_of}
+use Rattle.jfs_tree.specs.Edit.{count_in}
+use Rattle.jfs_tree.specs.Fresh.{run_from, blocks_of}
 use Rattle.jfs_xtpage.specs.Page.{end_of}
-use Rattle.jfs_data_steps.specs.xtree.specs.Cutting.{up_to, kept_below, gone_of, gone_past}
+use Rattle.jfs_xtree.specs.Cutting.{up_to, kept_below, gone_of, gone_past}
 use Rattle.jfs_data_steps.specs.objects.specs.Owners.{run_has, covers}
 use Rattle.jfs_data_steps.specs.objects.specs.Contents.{block_in, block_of}
 use Rattle.jfs_data_steps.specs.objects.proofs.Blocks.{covered}

@@ -3,14 +3,14 @@
 ghost use Rattle.std.specs.Prelude.{◌≡◌, Err};
 ghost use Rattle.jfs_disk.specs.declared.disk.Fault.{Fault};
 ghost use Rattle.jfs_ranges.specs.View.{CarriesCount};
-ghost use Rattle.jfs_data_steps.specs.xtree.specs.Spells.{CarriesXt};
-ghost use Rattle.jfs_data_steps.specs.way.specs.Answer.{CarriesCause, view_refusal};
+ghost use Rattle.jfs_xtree.specs.Spells.{CarriesXt};
+ghost use Rattle.jfs_way.specs.Answer.{CarriesCause, view_refusal};
 ghost use Rattle.jfs_read.specs.Read.{extents_refusal};
 
-use jfs_data_steps::page_tree::NO_PAGE;
-use jfs_data_steps::plain::Refusal;
-use jfs_data_steps::xtree::XtError;
+use jfs_plain::Refusal;
 use jfs_ranges::ViewError;
+use jfs_tree::NO_PAGE;
+use jfs_xtree::XtError;
 
 /// A page could not be read, or memory ran out.
 pub(crate) fn from_view(e: ViewError) -> Refusal

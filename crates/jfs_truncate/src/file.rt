@@ -3,20 +3,20 @@
 ghost use Rattle.std.specs.Prelude.{◌≡◌, ◌≤◌, ◌<◌, ℕ, [], length, get_or, Err, IfOk, IfErr};
 ghost use Rattle.jfs_disk.specs.Image.{page_of};
 ghost use Rattle.jfs_data_steps.specs.meaning.specs.Contents.{is_regular};
-ghost use Rattle.jfs_data_steps.specs.plain.specs.Step.{Room, truncate};
-ghost use Rattle.jfs_data_steps.specs.way.specs.Answer.{Carries, Answers};
+ghost use Rattle.jfs_plain.specs.Step.{Room, truncate};
+ghost use Rattle.jfs_way.specs.Answer.{Carries, Answers};
 ghost use Rattle.jfs_data_steps.specs.After.{AreWholePages, LieWithin};
 ghost use Rattle.jfs_truncate.specs.Call.{IsAllowed, truncate_of, Truncates, TakesNone, StepsWith, FreesOnceOn, StartsOn};
 
 use crate::change::{Truncated, resize};
 use jfs_bits::Moment;
-use jfs_data_steps::imap::InodeMap;
-use jfs_data_steps::plain::Refusal;
-use jfs_data_steps::reader::has_names;
-use jfs_data_steps::way::walk;
+use jfs_imap::InodeMap;
 use jfs_inode::Dinode;
 use jfs_name::Name;
+use jfs_plain::Refusal;
 use jfs_ranges::PageView;
+use jfs_reader::has_names;
+use jfs_way::walk;
 use std::alloc::Global;
 
 /// What gives the file at the end of a path this size: blocks that are written, each with its whole page, and then a transaction. The bytes before the nearer of both ends stay, and

@@ -8,8 +8,3 @@ mod tail;
 
 pub use change::{Truncated, resize};
 pub use file::truncate;
-
-// libraries below, passed on
-pub use jfs_data_steps as data_steps;
-pub use jfs_data_steps::{bmap, dtree, imap, plain, reader, steps, way, xtree};
-pub use jfs_read as read;

@@ -2,22 +2,22 @@
 
 ghost use Rattle.std.specs.Prelude.{◌≡◌, ◌≤◌, ◌<◌, length, IfOk, IfErr, IfSome};
 ghost use Rattle.jfs_disk.specs.Image.{page_of};
-ghost use Rattle.jfs_data_steps.specs.xtree.specs.Spells.{broken_for, found_for};
+ghost use Rattle.jfs_xtree.specs.Spells.{broken_for, found_for};
 ghost use Rattle.jfs_data_steps.specs.meaning.specs.Readers.{root_of};
-ghost use Rattle.jfs_data_steps.specs.way.specs.Answer.{Carries, Answers};
+ghost use Rattle.jfs_way.specs.Answer.{Carries, Answers};
 ghost use Rattle.jfs_read.specs.Read.{block_by, unless_bad, IsWayOf, OpenWhereSpelled};
 ghost use Rattle.jfs_data_steps.specs.After.{AreWholePages, LieWithin};
 ghost use Rattle.jfs_truncate.specs.Tail.{tail_way, tail_block, IsTail, zeroed};
 
 use crate::answer::{from_extents, from_view};
 use jfs_bits::Rule;
-use jfs_data_steps::plain::Refusal;
-use jfs_data_steps::reader::{page_of_block, root_in};
-use jfs_data_steps::way::Held;
-use jfs_data_steps::xtree::lookup;
 use jfs_data_steps::{DataList, DataPage};
 use jfs_disk::Page;
+use jfs_plain::Refusal;
 use jfs_ranges::PageView;
+use jfs_reader::{page_of_block, root_in};
+use jfs_way::Held;
+use jfs_xtree::lookup;
 use std::alloc::Global;
 
 /// The block of the volume that holds block `k` of a file; `None` where the file reads as zeros. `Damaged` names the first page on the way to it that breaks a rule.

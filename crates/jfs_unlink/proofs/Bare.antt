@@ -2,10 +2,10 @@
 use Rattle.std.proofs.Common.{◌≡◌, refl, sym, ap, ◌∙◌, ℕ, suc, Bool, true, false, true≢false, ◌==◌, List, [], ◌∷◌, length, Ok, Err, arith}
 use Rattle.std.proofs.lemmas.Bool.Decides.{nat_tests}
 use Rattle.jfs_name.specs.declared.name.NameEntry.{NameEntry}
-use Rattle.jfs_loss.specs.page_tree.specs.Walk.{Node, Leaf}
-use Rattle.jfs_loss.specs.page_tree.specs.Form.{IsLeaf}
-use Rattle.jfs_loss.specs.plain.specs.declared.refusal.Refusal.TheVariants.{NotEmpty}
-use Rattle.jfs_loss.specs.way.specs.declared.object.Held.{Held}
+use Rattle.jfs_tree.specs.Walk.{Node, Leaf}
+use Rattle.jfs_tree.specs.Form.{IsLeaf}
+use Rattle.jfs_plain.specs.declared.refusal.Refusal.TheVariants.{NotEmpty}
+use Rattle.jfs_way.specs.declared.object.Held.{Held}
 use Rattle.jfs_unlink.specs.Call.{bare_at}
 
 module _ (at : Held) (node : Node (List ℕ) NameEntry) where

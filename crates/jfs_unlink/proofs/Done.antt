@@ -3,21 +3,21 @@ use Rattle.std.proofs.Common.{◌≡◌, ◌≢◌, ◌≤◌, ◌<◌, refl, sy
 use Rattle.std.proofs.lemmas.Bool.Decides.{nat_tests}
 use Rattle.jfs_bits.specs.declared.descriptor.Moment.{Moment}
 use Rattle.jfs_inode.specs.declared.fields.Dinode.{Dinode}
-use Rattle.jfs_loss.specs.imap.specs.Inodes.{Inodes}
+use Rattle.jfs_imap.specs.Inodes.{Inodes}
 use Rattle.jfs_loss.specs.bmap.specs.States.{Blocks}
 use Rattle.jfs_name.specs.declared.name.NameEntry.{NameEntry}
 use Rattle.jfs_name.specs.Directory.{named, without_name}
 use Rattle.jfs_ranges.specs.declared.edit.Edit.{Edit}
 use Rattle.jfs_ranges.specs.Apply.{apply_tx}
 use Rattle.jfs_ranges.specs.Laid.{put_tx}
-use Rattle.jfs_loss.specs.page_tree.specs.Edit.{count_in}
-use Rattle.jfs_loss.specs.dtree.specs.Spells.{spells_names}
-use Rattle.jfs_loss.specs.plain.specs.Tree.{Tree}
-use Rattle.jfs_loss.specs.plain.specs.Moves.{stamped, falls, changed, dropped}
-use Rattle.jfs_loss.specs.plain.specs.Step.{Room, outcome, unlink, rmdir, is_last_of_big}
-use Rattle.jfs_loss.specs.plain.specs.declared.call.Call.{Call}
-use Rattle.jfs_loss.specs.plain.specs.declared.call.Call.TheVariants as calls
-use Rattle.jfs_loss.specs.plain.specs.declared.reply.Reply.TheVariants.{Done}
+use Rattle.jfs_tree.specs.Edit.{count_in}
+use Rattle.jfs_dtree.specs.Spells.{spells_names}
+use Rattle.jfs_plain.specs.Tree.{Tree}
+use Rattle.jfs_plain.specs.Moves.{stamped, falls, changed, dropped}
+use Rattle.jfs_plain.specs.Step.{Room, outcome, unlink, rmdir, is_last_of_big}
+use Rattle.jfs_plain.specs.declared.call.Call.{Call}
+use Rattle.jfs_plain.specs.declared.call.Call.TheVariants as calls
+use Rattle.jfs_plain.specs.declared.reply.Reply.TheVariants.{Done}
 use Rattle.jfs_loss.specs.objects.specs.Image.{extent_place}
 use Rattle.jfs_loss.specs.objects.specs.Readers.{Readers}
 use Rattle.jfs_loss.specs.objects.specs.Volume.{Volume, room}
@@ -27,18 +27,18 @@ use Rattle.jfs_loss.specs.objects.specs.Changes.{put}
 use Rattle.jfs_loss.specs.meaning.specs.Readers.{readers, root_of}
 use Rattle.jfs_loss.specs.meaning.specs.Consistent.{IsConsistent, subdirectories, names_to}
 use Rattle.jfs_loss.specs.meaning.proofs.Reached.{not_reserved}
-use Rattle.jfs_loss.specs.way.specs.Volume.{volume_of}
-use Rattle.jfs_loss.specs.way.specs.Walk.{tree_in}
+use Rattle.jfs_way.specs.Volume.{volume_of}
+use Rattle.jfs_way.specs.Walk.{tree_in}
 use Rattle.jfs_loss.specs.lead_steps.specs.Reached.{HasTree}
 use Rattle.jfs_loss.specs.lead_steps.proofs.Turned.{turns}
-use Rattle.jfs_loss.specs.steps.specs.Put.{AddsInode, TellsLines}
-use Rattle.jfs_loss.specs.steps.specs.Place.{last_of}
-use Rattle.jfs_loss.specs.steps.specs.After.{used_after, extents_after, after_call}
-use Rattle.jfs_loss.specs.steps.specs.Laws.{TakesAndFrees, IsFair}
-use Rattle.jfs_loss.specs.steps.specs.Call.{IsDone}
-use Rattle.jfs_loss.specs.steps.proofs.After.{done_after}
-use Rattle.jfs_loss.specs.steps.proofs.Sets.{lines_move}
-use Rattle.jfs_loss.specs.steps.proofs.LastNames.{stood, object_is}
+use Rattle.jfs_steps.specs.Put.{AddsInode, TellsLines}
+use Rattle.jfs_steps.specs.Place.{last_of}
+use Rattle.jfs_steps.specs.After.{used_after, extents_after, after_call}
+use Rattle.jfs_steps.specs.Laws.{TakesAndFrees, IsFair}
+use Rattle.jfs_steps.specs.Call.{IsDone}
+use Rattle.jfs_steps.proofs.After.{done_after}
+use Rattle.jfs_steps.proofs.Sets.{lines_move}
+use Rattle.jfs_steps.proofs.LastNames.{stood, object_is}
 use Rattle.jfs_loss.specs.Inodes.{frees_in, fallen, gone}
 use Rattle.jfs_loss.specs.Frees.{FreesObject}
 use Rattle.jfs_loss.specs.Loses.{LosesName}

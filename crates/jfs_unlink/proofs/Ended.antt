@@ -4,17 +4,17 @@ use Rattle.std.proofs.lemmas.Bool.Decides.{nat_tests}
 use Rattle.jfs_bits.proofs.Parts.{length-range_of}
 use Rattle.jfs_inode.specs.Rules.{type_of}
 use Rattle.jfs_inode.specs.declared.fields.Dinode.{Dinode}
-use Rattle.jfs_loss.specs.imap.specs.Inodes.{Inodes}
+use Rattle.jfs_imap.specs.Inodes.{Inodes}
 use Rattle.jfs_loss.specs.bmap.specs.States.{Blocks, is_owned}
 use Rattle.jfs_name.specs.declared.name.NameEntry.{NameEntry}
 use Rattle.jfs_name.specs.Directory.{named}
-use Rattle.jfs_loss.specs.dtree.specs.Spells.{spells_names}
-use Rattle.jfs_loss.specs.plain.specs.Tree.{Tree, found, found_at, object, place, place_at, place_as, in_directory, walk, enter, enter_from, wanted, root, and_then, is_dir, is_file}
-use Rattle.jfs_loss.specs.plain.specs.Step.{is_last_of_big}
-use Rattle.jfs_loss.specs.plain.specs.declared.node.Node.{Node}
-use Rattle.jfs_loss.specs.plain.specs.declared.refusal.Refusal.{Refusal}
-use Rattle.jfs_loss.specs.plain.specs.declared.refusal.Refusal.TheVariants.{NotDir}
-use Rattle.jfs_loss.specs.plain.specs.declared.reply.NodeKind.TheVariants.{Dir, File, Link, Other}
+use Rattle.jfs_dtree.specs.Spells.{spells_names}
+use Rattle.jfs_plain.specs.Tree.{Tree, found, found_at, object, place, place_at, place_as, in_directory, walk, enter, enter_from, wanted, root, and_then, is_dir, is_file}
+use Rattle.jfs_plain.specs.Step.{is_last_of_big}
+use Rattle.jfs_plain.specs.declared.node.Node.{Node}
+use Rattle.jfs_plain.specs.declared.refusal.Refusal.{Refusal}
+use Rattle.jfs_plain.specs.declared.refusal.Refusal.TheVariants.{NotDir}
+use Rattle.jfs_plain.specs.declared.reply.NodeKind.TheVariants.{Dir, File, Link, Other}
 use Rattle.jfs_loss.specs.objects.specs.Image.{extent_place}
 use Rattle.jfs_loss.specs.objects.specs.Volume.{Volume, home, slot_of}
 use Rattle.jfs_loss.specs.objects.specs.Objects.{Object, objects, spelled, is_live, has_names, listed}
@@ -22,14 +22,14 @@ use Rattle.jfs_loss.specs.meaning.specs.Readers.{readers, root_of}
 use Rattle.jfs_loss.specs.meaning.specs.Node.{kind_of, node_in, node_from, node_with, target_in}
 use Rattle.jfs_loss.specs.meaning.specs.Consistent.{IsConsistent, MayBeNamed}
 use Rattle.jfs_loss.specs.meaning.proofs.Reached.{IsReached, walked as reaches}
-use Rattle.jfs_loss.specs.way.specs.Volume.{volume_of}
-use Rattle.jfs_loss.specs.way.specs.Walk.{IsHeld, IsShown, IsThere, tree_in}
-use Rattle.jfs_loss.specs.way.specs.declared.object.Held.{Held}
-use Rattle.jfs_loss.specs.way.proofs.Nodes.{in_directory as in_tree, in_other, lives}
+use Rattle.jfs_way.specs.Volume.{volume_of}
+use Rattle.jfs_way.specs.Walk.{IsHeld, IsShown, IsThere, tree_in}
+use Rattle.jfs_way.specs.declared.object.Held.{Held}
+use Rattle.jfs_way.proofs.Nodes.{in_directory as in_tree, in_other, lives}
 use Rattle.jfs_loss.specs.lead_steps.proofs.Turned.{names_listed}
 use Rattle.jfs_loss.specs.lead_steps.proofs.Again.{rest_size, few_links, spelled_inode, inode_same}
-use Rattle.jfs_loss.specs.steps.specs.Place.{front_of, last_of}
-use Rattle.jfs_loss.specs.steps.proofs.LastNames.{stood, object_is, IsDirectory, directory_is, place_is}
+use Rattle.jfs_steps.specs.Place.{front_of, last_of}
+use Rattle.jfs_steps.proofs.LastNames.{stood, object_is, IsDirectory, directory_is, place_is}
 use Rattle.jfs_unlink.specs.Call as call
 use Rattle.jfs_unlink.specs.Ends.{AreHeld, AreShown, AreEnds}
 use Rattle.jfs_unlink.specs.declared.ends.Ends.{Ends}

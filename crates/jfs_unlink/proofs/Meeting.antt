@@ -1,16 +1,16 @@
 -- What unlink and rmdir meet, on any volume.
 use Rattle.std.proofs.Common.{◌≡◌, ◌≤◌, refl, sym, ap, ◌∙◌, inl, inr, ℕ, Bool, true, false, nat_le, if◌then◌else◌, List, length, Option, Some, None, Result, Ok, Err, arith, ne_eqb, eq-eqb}
 use Rattle.jfs_bits.specs.declared.rule.Rule.{Rule}
-use Rattle.jfs_loss.specs.imap.specs.Inodes.{Inodes}
-use Rattle.jfs_loss.specs.dtree.specs.Spells.{root_node, broken_for, found_for}
+use Rattle.jfs_imap.specs.Inodes.{Inodes}
+use Rattle.jfs_dtree.specs.Spells.{root_node, broken_for, found_for}
 use Rattle.jfs_loss.specs.objects.specs.Objects.{has_names}
 use Rattle.jfs_loss.specs.meaning.specs.Readers.{root_of}
-use Rattle.jfs_loss.specs.plain.specs.Tree.{and_then}
-use Rattle.jfs_loss.specs.plain.specs.declared.refusal.Refusal.{Refusal}
-use Rattle.jfs_loss.specs.plain.specs.declared.refusal.Refusal.TheVariants.{IsDir, NotDir, FileTooBig, IntoItself}
-use Rattle.jfs_loss.specs.way.specs.Answer.{is_open, Answers}
-use Rattle.jfs_loss.specs.way.specs.Way.{inode_named, if_unbroken, name_from, path_of}
-use Rattle.jfs_loss.specs.way.specs.declared.object.Held.{Held}
+use Rattle.jfs_plain.specs.Tree.{and_then}
+use Rattle.jfs_plain.specs.declared.refusal.Refusal.{Refusal}
+use Rattle.jfs_plain.specs.declared.refusal.Refusal.TheVariants.{IsDir, NotDir, FileTooBig, IntoItself}
+use Rattle.jfs_way.specs.Answer.{is_open, Answers}
+use Rattle.jfs_way.specs.Way.{inode_named, if_unbroken, name_from, path_of}
+use Rattle.jfs_way.specs.declared.object.Held.{Held}
 use Rattle.jfs_loss.specs.Causes.{freed_from, if_named, lost_from}
 use Rattle.jfs_unlink.specs.Call.{is_last_of_big, unlink_at, unlink_of, bare_at, rmdir_at, rmdir_of}
 

@@ -5,18 +5,18 @@ use Rattle.std.specs.List.{flat_map}
 use Rattle.jfs_bits.specs.declared.rule.Rule.{Rule}
 use Rattle.jfs_bits.specs.declared.rule.Rule.TheVariants as rules
 use Rattle.jfs_name.specs.declared.name.NameEntry.{NameEntry}
-use Rattle.jfs_loss.specs.page_tree.specs.Walk.{Child, Node, Leaf, Inner, Broken, Marks, Scale, Rises, IsOrder, rows_of, placed, body, walk}
-use Rattle.jfs_loss.specs.page_tree.specs.Spells.{spells, with_root, top}
-use Rattle.jfs_loss.specs.page_tree.specs.Edit.{IsCons}
-use Rattle.jfs_loss.specs.page_tree.proofs.Frame.{rows-append}
-use Rattle.jfs_loss.specs.page_tree.proofs.Rising.{rises_cut}
-use Rattle.jfs_loss.specs.page_tree.proofs.Spelled.{stands}
-use Rattle.jfs_loss.specs.dtree.specs.Laws.{order}
-use Rattle.jfs_loss.specs.dtree.specs.Node.{name_scale}
-use Rattle.jfs_loss.specs.dtree.specs.Spells.{root_node, page_nodes, spells_names}
-use Rattle.jfs_loss.specs.plain.specs.declared.refusal.Refusal.{Refusal}
-use Rattle.jfs_loss.specs.plain.specs.declared.refusal.Refusal.TheVariants.{NotEmpty}
-use Rattle.jfs_loss.specs.way.specs.declared.object.Held.{Held}
+use Rattle.jfs_tree.specs.Walk.{Child, Node, Leaf, Inner, Broken, Marks, Scale, Rises, IsOrder, rows_of, placed, body, walk}
+use Rattle.jfs_tree.specs.Spells.{spells, with_root, top}
+use Rattle.jfs_tree.specs.Edit.{IsCons}
+use Rattle.jfs_tree.proofs.Frame.{rows-append}
+use Rattle.jfs_tree.proofs.Rising.{rises_cut}
+use Rattle.jfs_tree.proofs.Spelled.{stands}
+use Rattle.jfs_dtree.specs.Laws.{order}
+use Rattle.jfs_dtree.specs.Node.{name_scale}
+use Rattle.jfs_dtree.specs.Spells.{root_node, page_nodes, spells_names}
+use Rattle.jfs_plain.specs.declared.refusal.Refusal.{Refusal}
+use Rattle.jfs_plain.specs.declared.refusal.Refusal.TheVariants.{NotEmpty}
+use Rattle.jfs_way.specs.declared.object.Held.{Held}
 use Rattle.jfs_unlink.specs.Call.{bare_at}
 
 -- ---- each part of a tree that rises has an entry

@@ -2,14 +2,14 @@
 use Rattle.std.proofs.Common.{◌≡◌, refl, sym, ap, ◌∙◌, subst, ℕ, ◌-◌, ◌==◌, not, Bool, true, false, nat_le, if◌then◌else◌, List, length, Result, Ok}
 use Rattle.jfs_bits.specs.declared.descriptor.Moment.{Moment}
 use Rattle.jfs_name.specs.Directory.{without_name}
-use Rattle.jfs_loss.specs.plain.specs.Tree.{Tree, is_dir, Found, found_at, object, Place, place, place_at, and_then}
-use Rattle.jfs_loss.specs.plain.specs.Moves.{Same, stamped, falls, loses, changed, dropped, unnamed}
-use Rattle.jfs_loss.specs.plain.specs.Step.{Room, Outcome, Answers, outcome, refuse, has_names, is_last_of_big, lost, unlink, rmdir}
-use Rattle.jfs_loss.specs.plain.specs.declared.call.Call.{Call}
-use Rattle.jfs_loss.specs.plain.specs.declared.node.Node.{Node}
-use Rattle.jfs_loss.specs.plain.specs.declared.refusal.Refusal.{Refusal}
-use Rattle.jfs_loss.specs.plain.specs.declared.refusal.Refusal.TheVariants.{NotDir, IsDir, NotEmpty, FileTooBig, IntoItself}
-use Rattle.jfs_loss.specs.plain.specs.declared.reply.Reply.TheVariants.{Done}
+use Rattle.jfs_plain.specs.Tree.{Tree, is_dir, Found, found_at, object, Place, place, place_at, and_then}
+use Rattle.jfs_plain.specs.Moves.{Same, stamped, falls, loses, changed, dropped, unnamed}
+use Rattle.jfs_plain.specs.Step.{Room, Outcome, Answers, outcome, refuse, has_names, is_last_of_big, lost, unlink, rmdir}
+use Rattle.jfs_plain.specs.declared.call.Call.{Call}
+use Rattle.jfs_plain.specs.declared.node.Node.{Node}
+use Rattle.jfs_plain.specs.declared.refusal.Refusal.{Refusal}
+use Rattle.jfs_plain.specs.declared.refusal.Refusal.TheVariants.{NotDir, IsDir, NotEmpty, FileTooBig, IntoItself}
+use Rattle.jfs_plain.specs.declared.reply.Reply.TheVariants.{Done}
 use Rattle.jfs_loss.specs.objects.specs.Volume.{Volume, room}
 use Rattle.jfs_loss.specs.meaning.specs.Readers.{readers}
 use Rattle.jfs_loss.specs.meaning.specs.Tree.{tree_on}

@@ -1,23 +1,23 @@
 -- Why unlink and rmdir are refused on a consistent volume, as the plain steps are.
 use Rattle.std.proofs.Common.{◌≡◌, ◌⊎◌, ◌≤◌, ◌<◌, refl, sym, ap, ◌∙◌, inl, inr, ℕ, ◌==◌, not, Bool, true, false, List, [], ◌∷◌, length, Option, Some, Result, Ok, Err, arith, ne_eqb, eq-eqb}
 use Rattle.jfs_bits.specs.declared.descriptor.Moment.{Moment}
-use Rattle.jfs_loss.specs.imap.specs.Inodes.{Inodes}
+use Rattle.jfs_imap.specs.Inodes.{Inodes}
 use Rattle.jfs_loss.specs.bmap.specs.States.{Blocks}
-use Rattle.jfs_loss.specs.plain.specs.Tree.{Tree, Found, found, found_at, object, place, walk, root, and_then, is_dir}
-use Rattle.jfs_loss.specs.plain.specs.Moves.{falls, changed, dropped, unnamed}
-use Rattle.jfs_loss.specs.plain.specs.Step.{Room, Outcome, refuse, has_names as has_entries, is_last_of_big, lost, unlink, rmdir}
-use Rattle.jfs_loss.specs.plain.specs.declared.node.Node.{Node}
-use Rattle.jfs_loss.specs.plain.specs.declared.refusal.Refusal.{Refusal}
-use Rattle.jfs_loss.specs.plain.specs.declared.refusal.Refusal.TheVariants.{IsDir, NotDir, NotEmpty, FileTooBig, IntoItself}
-use Rattle.jfs_loss.specs.plain.specs.declared.reply.Reply.TheVariants.{Done}
+use Rattle.jfs_plain.specs.Tree.{Tree, Found, found, found_at, object, place, walk, root, and_then, is_dir}
+use Rattle.jfs_plain.specs.Moves.{falls, changed, dropped, unnamed}
+use Rattle.jfs_plain.specs.Step.{Room, Outcome, refuse, has_names as has_entries, is_last_of_big, lost, unlink, rmdir}
+use Rattle.jfs_plain.specs.declared.node.Node.{Node}
+use Rattle.jfs_plain.specs.declared.refusal.Refusal.{Refusal}
+use Rattle.jfs_plain.specs.declared.refusal.Refusal.TheVariants.{IsDir, NotDir, NotEmpty, FileTooBig, IntoItself}
+use Rattle.jfs_plain.specs.declared.reply.Reply.TheVariants.{Done}
 use Rattle.jfs_loss.specs.objects.specs.Objects.{IsWhole, spelled, has_names}
 use Rattle.jfs_loss.specs.meaning.specs.Readers.{readers}
 use Rattle.jfs_loss.specs.meaning.specs.Consistent.{IsConsistent}
-use Rattle.jfs_loss.specs.way.specs.Answer.{is_open}
-use Rattle.jfs_loss.specs.way.specs.Volume.{volume_of}
-use Rattle.jfs_loss.specs.way.specs.Walk.{tree_in}
-use Rattle.jfs_loss.specs.way.specs.declared.object.Held.{Held}
-use Rattle.jfs_loss.specs.steps.proofs.LastNames.{object_is}
+use Rattle.jfs_way.specs.Answer.{is_open}
+use Rattle.jfs_way.specs.Volume.{volume_of}
+use Rattle.jfs_way.specs.Walk.{tree_in}
+use Rattle.jfs_way.specs.declared.object.Held.{Held}
+use Rattle.jfs_steps.proofs.LastNames.{object_is}
 use Rattle.jfs_loss.specs.Causes.{MeetsTree}
 use Rattle.jfs_loss.proofs.Holds.{extents_listed}
 use Rattle.jfs_unlink.specs.Call as call

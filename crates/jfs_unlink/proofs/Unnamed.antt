@@ -13,15 +13,15 @@ use Rattle.jfs_name.specs.declared.name.NameEntry.{NameEntry}
 use Rattle.jfs_ranges.specs.declared.edit.Edit.{Edit}
 use Rattle.jfs_ranges.specs.Apply.{apply_tx}
 use Rattle.jfs_ranges.specs.Laid.{put_tx}
-use Rattle.jfs_loss.specs.page_tree.specs.Changes.{TellsGone}
-use Rattle.jfs_loss.specs.page_tree.specs.Edit.{count_in}
-use Rattle.jfs_loss.specs.page_tree.specs.Fresh.{LeadsTo, after_tx}
-use Rattle.jfs_loss.specs.page_tree.specs.Removes.{page_frees}
-use Rattle.jfs_loss.specs.dtree.specs.Parent.{parent_of}
-use Rattle.jfs_loss.specs.dtree.specs.Spells.{spells_names}
-use Rattle.jfs_loss.specs.dtree.specs.Removing.{HasOneLessName, RemovesName}
-use Rattle.jfs_loss.specs.plain.specs.Tree.{Tree}
-use Rattle.jfs_loss.specs.plain.specs.Moves.{stamped, falls, changed, dropped}
+use Rattle.jfs_tree.specs.Changes.{TellsGone}
+use Rattle.jfs_tree.specs.Edit.{count_in}
+use Rattle.jfs_tree.specs.Fresh.{LeadsTo, after_tx}
+use Rattle.jfs_tree.specs.Removes.{page_frees}
+use Rattle.jfs_dtree.specs.Parent.{parent_of}
+use Rattle.jfs_dtree.specs.Spells.{spells_names}
+use Rattle.jfs_dtree.specs.Removing.{HasOneLessName, RemovesName}
+use Rattle.jfs_plain.specs.Tree.{Tree}
+use Rattle.jfs_plain.specs.Moves.{stamped, falls, changed, dropped}
 use Rattle.jfs_loss.specs.objects.specs.Readers.{Readers}
 use Rattle.jfs_loss.specs.objects.specs.Volume.{Volume}
 use Rattle.jfs_loss.specs.objects.specs.Objects.{Object, objects, spelled, is_live, has_names}
@@ -39,11 +39,11 @@ use Rattle.jfs_loss.specs.lead_steps.proofs.Chain.{set_has, set_other, drop_has}
 use Rattle.jfs_loss.specs.lead_steps.proofs.InPlace.{sets_in_place, counted_names, counted_extents, counted_bytes, counted_rules, falls_now}
 use Rattle.jfs_loss.specs.lead_steps.proofs.Named.{loses_set, loses_have}
 use Rattle.jfs_loss.specs.lead_steps.proofs.Turned.{turns, dir_holds, no_extents_of}
-use Rattle.jfs_loss.specs.steps.specs.Put.{TellsLines}
-use Rattle.jfs_loss.specs.steps.specs.After.{used_after, extents_after, frees}
-use Rattle.jfs_loss.specs.steps.specs.Laws.{TakesAndFrees, IsFair}
-use Rattle.jfs_loss.specs.steps.proofs.After.{counts, same_bits}
-use Rattle.jfs_loss.specs.steps.proofs.Sets.{frees_move, lines_on_top}
+use Rattle.jfs_steps.specs.Put.{TellsLines}
+use Rattle.jfs_steps.specs.After.{used_after, extents_after, frees}
+use Rattle.jfs_steps.specs.Laws.{TakesAndFrees, IsFair}
+use Rattle.jfs_steps.proofs.After.{counts, same_bits}
+use Rattle.jfs_steps.proofs.Sets.{frees_move, lines_on_top}
 use Rattle.jfs_loss.specs.Inodes.{lessened, fallen, gone}
 use Rattle.jfs_loss.proofs.Counts.{count_append, frees_then, changes_move, same_moves}
 

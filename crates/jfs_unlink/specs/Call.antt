@@ -3,30 +3,30 @@ use Rattle.std.specs.Prelude.{◌≡◌, ◌⊎◌, ◌&&◌, ◌==◌, ◌-◌,
 use Rattle.jfs_bits.specs.declared.descriptor.Moment.{Moment}
 use Rattle.jfs_inode.specs.Rules.{type_of}
 use Rattle.jfs_inode.specs.declared.fields.Dinode.{Dinode}
-use Rattle.jfs_loss.specs.imap.specs.Inodes.{Inodes}
+use Rattle.jfs_imap.specs.Inodes.{Inodes}
 use Rattle.jfs_loss.specs.bmap.specs.States.{Blocks}
 use Rattle.jfs_name.specs.declared.name.NameEntry.{NameEntry}
 use Rattle.jfs_ranges.specs.declared.edit.Edit.{Edit}
-use Rattle.jfs_loss.specs.page_tree.specs.Walk.{Node, Leaf, Inner, Broken}
-use Rattle.jfs_loss.specs.dtree.specs.Spells.{root_node}
+use Rattle.jfs_tree.specs.Walk.{Node, Leaf, Inner, Broken}
+use Rattle.jfs_dtree.specs.Spells.{root_node}
 use Rattle.jfs_loss.specs.objects.specs.Objects.{has_names}
 use Rattle.jfs_loss.specs.meaning.specs.Readers.{readers, root_of}
 use Rattle.jfs_loss.specs.meaning.specs.Consistent.{IsConsistent}
-use Rattle.jfs_loss.specs.plain.specs.Tree.{Tree, and_then}
-use Rattle.jfs_loss.specs.plain.specs.Step.{Outcome}
-use Rattle.jfs_loss.specs.plain.specs.declared.refusal.Refusal.{Refusal}
-use Rattle.jfs_loss.specs.plain.specs.declared.refusal.Refusal.TheVariants.{IsDir, NotDir, NotEmpty, FileTooBig, IntoItself, Damaged}
+use Rattle.jfs_plain.specs.Tree.{Tree, and_then}
+use Rattle.jfs_plain.specs.Step.{Outcome}
+use Rattle.jfs_plain.specs.declared.refusal.Refusal.{Refusal}
+use Rattle.jfs_plain.specs.declared.refusal.Refusal.TheVariants.{IsDir, NotDir, NotEmpty, FileTooBig, IntoItself, Damaged}
 use Rattle.jfs_loss.specs.Causes.{freed_from}
-use Rattle.jfs_loss.specs.way.specs.Answer.{is_open}
-use Rattle.jfs_loss.specs.way.specs.Volume.{volume_of, PlacesWithin}
-use Rattle.jfs_loss.specs.way.specs.Walk.{IfConsistent}
-use Rattle.jfs_loss.specs.way.specs.Way.{path_of}
-use Rattle.jfs_loss.specs.way.specs.declared.object.Held.{Held}
+use Rattle.jfs_way.specs.Answer.{is_open}
+use Rattle.jfs_way.specs.Volume.{volume_of, PlacesWithin}
+use Rattle.jfs_way.specs.Walk.{IfConsistent}
+use Rattle.jfs_way.specs.Way.{path_of}
+use Rattle.jfs_way.specs.declared.object.Held.{Held}
 use Rattle.jfs_unlink.specs.declared.ends.Ends.{Ends}
-use Rattle.jfs_loss.specs.steps.specs.Place.{last_of}
-use Rattle.jfs_loss.specs.steps.specs.After.{after_call}
-use Rattle.jfs_loss.specs.steps.specs.Laws.{IsFair}
-use Rattle.jfs_loss.specs.steps.specs.Call.{IsDone}
+use Rattle.jfs_steps.specs.Place.{last_of}
+use Rattle.jfs_steps.specs.After.{after_call}
+use Rattle.jfs_steps.specs.Laws.{IsFair}
+use Rattle.jfs_steps.specs.Call.{IsDone}
 use Rattle.jfs_unlink.specs.Ends.{MeetsEnds}
 use Rattle.jfs_unlink.specs.Gone.{DropsNamed, LeavesNamed}
 

@@ -1,13 +1,13 @@
 -- The two ends of a path: the directory that holds its last name, and the object that the name leads to.
 use Rattle.std.specs.Prelude.{◌≡◌, ◌⊎◌, ◌<◌, ℕ, true, List, Result, Ok, Err}
 use Rattle.jfs_inode.specs.Inode.{FitsDinode}
-use Rattle.jfs_loss.specs.imap.specs.Inodes.{Inodes}
-use Rattle.jfs_loss.specs.plain.specs.Tree.{Tree, walk, enter, root}
-use Rattle.jfs_loss.specs.plain.specs.declared.refusal.Refusal.{Refusal}
-use Rattle.jfs_loss.specs.steps.specs.Place.{front_of, last_of}
-use Rattle.jfs_loss.specs.way.specs.Answer.{is_open, Answers}
-use Rattle.jfs_loss.specs.way.specs.Way.{name_from, path_of}
-use Rattle.jfs_loss.specs.way.specs.Walk.{IsThere, IsHeld, IsShown}
+use Rattle.jfs_imap.specs.Inodes.{Inodes}
+use Rattle.jfs_plain.specs.Tree.{Tree, walk, enter, root}
+use Rattle.jfs_plain.specs.declared.refusal.Refusal.{Refusal}
+use Rattle.jfs_steps.specs.Place.{front_of, last_of}
+use Rattle.jfs_way.specs.Answer.{is_open, Answers}
+use Rattle.jfs_way.specs.Way.{name_from, path_of}
+use Rattle.jfs_way.specs.Walk.{IsThere, IsHeld, IsShown}
 use Rattle.jfs_unlink.specs.declared.ends.Ends.{Ends}
 
 -- both are where the map of inodes says, and break no rule

@@ -10,7 +10,3 @@ pub use ends::{Ends, find_ends};
 pub use gone::{drop_named, leave_named};
 pub use names::unlink;
 pub use rmdir::remove_directory;
-
-// libraries below, passed on
-pub use jfs_loss as loss;
-pub use jfs_loss::{dtree, imap, plain, reader, xtree};

@@ -4,12 +4,12 @@ use crate::volume::{Left, answered, file, inodes_page, map_at, page_with, path_o
 use jfs_bits::Moment;
 use jfs_disk::{Disk, Page, Part, SureDisk};
 use jfs_format::format;
+use jfs_imap::InodeMap;
 use jfs_inode::inode_in;
 use jfs_name::Path;
+use jfs_plain::Refusal;
 use jfs_ranges::PageView;
-use jfs_unlink::imap::InodeMap;
-use jfs_unlink::plain::Refusal;
-use jfs_unlink::reader::DiskView;
+use jfs_reader::DiskView;
 use jfs_unlink::unlink;
 use std::alloc::Global;
 use std::test::*;

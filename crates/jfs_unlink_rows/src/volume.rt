@@ -5,14 +5,14 @@ ghost use Rattle.jfs_inode.specs.Inode.{FitsDinode};
 
 use jfs_bits::{Dxd, Pxd, PxdList, Xad, get_array, put_array, put_u32};
 use jfs_disk::Page;
+use jfs_dtree::add;
+use jfs_imap::InodeMap;
 use jfs_inode::{Dinode, inode_in, write_dinode};
 use jfs_inode_rows::places_of;
 use jfs_name::{Name, Path};
+use jfs_plain::Refusal;
 use jfs_ranges::{Edit, PageView, Tx, apply};
-use jfs_unlink::dtree::add;
-use jfs_unlink::imap::InodeMap;
-use jfs_unlink::plain::Refusal;
-use jfs_unlink::reader::names_of;
+use jfs_reader::names_of;
 use std::alloc::{AllocError, Global};
 
 /// The inode map of a new volume, whose inode extent stands on pages 29 to 32.
@@ -71,7 +71,7 @@ pub fn file<V: PageView>(alloc: Global, view: &mut V, links: u32) -> Option<Dino
     ensures fits { IfSome result FitsDinode }
 {
     let mut root = [0u8; 288];
-    jfs_unlink::xtree::new_root(&mut root);
+    jfs_xtree::new_root(&mut root);
     let mut fresh = eight(alloc).ok()?;
     let mut tx = Tx::new(alloc);
     let data = Xad {
@@ -79,7 +79,7 @@ pub fn file<V: PageView>(alloc: Global, view: &mut V, links: u32) -> Option<Dino
         offset: 0,
         at: Pxd { len: 5, addr: 300 },
     };
-    match jfs_unlink::xtree::add(alloc, view, &mut root, data, &mut fresh, &mut tx) {
+    match jfs_xtree::add(alloc, view, &mut root, data, &mut fresh, &mut tx) {
         Ok(()) => {}
         Err(_) => return None,
     }
@@ -98,7 +98,7 @@ pub fn directory() -> Dinode
     ensures { FitsDinode result }
 {
     let mut root = [0u8; 288];
-    jfs_unlink::dtree::new_root(&mut root, 2);
+    jfs_dtree::new_root(&mut root, 2);
     let mut d = object(0o040755, 2, 0);
     put_array(&mut d.rest, 96, &root);
     d

@@ -5,14 +5,14 @@ use Rattle.jfs_disk.specs.Crash.{DiskState}
 use Rattle.jfs_disk.specs.Image.{Image}
 use Rattle.jfs_disk.specs.declared.disk.Fault.{Fault}
 use Rattle.jfs_halves.specs.crash_core.specs.Image.{pages_after}
-use Rattle.jfs_marks.specs.data_steps.specs.declared.pages.DataPage.{DataPage}
+use Rattle.jfs_data_steps.specs.declared.pages.DataPage.{DataPage}
 use Rattle.jfs_volume.specs.Data.{put_pages}
 use Rattle.jfs_volume.specs.Written.{writes}
 use Rattle.jfs_ranges.specs.declared.edit.Edit.{Edit}
-use Rattle.jfs_marks.specs.bmap.specs.States.{Blocks, BlockState, Free, put_state, state_of, is_busy_state}
-use Rattle.jfs_halves.specs.pages.specs.Dirty.{dirty_of}
-use Rattle.jfs_marks.specs.plain.specs.declared.call.Entry.{Entry}
-use Rattle.jfs_marks.specs.records.specs.Records.{Noted, tx_of}
+use Rattle.jfs_bmap.specs.States.{Blocks, BlockState, Free, put_state, state_of, is_busy_state}
+use Rattle.jfs_pages.specs.Dirty.{dirty_of}
+use Rattle.jfs_plain.specs.declared.call.Entry.{Entry}
+use Rattle.jfs_records.specs.Records.{Noted, tx_of}
 use Rattle.jfs_halves.specs.Marks.{map_after}
 use Rattle.jfs_halves.specs.Half.{VolumeHalf}
 use Rattle.jfs_halves.specs.Change.{Change, SameStates, states_after}

@@ -3,9 +3,9 @@ use Rattle.std.proofs.Common.{◌≡◌, ◌<◌, ◌≤◌, ◌⊎◌, ◌+◌,
 use Rattle.std.proofs.lemmas.Bool.{cases_lt, lt-leb, le-leb}
 use Rattle.std.proofs.lemmas.List.{get_or_past}
 use Rattle.jfs_bits.specs.declared.descriptor.Pxd.{Pxd}
-use Rattle.jfs_marks.specs.bmap.specs.States.{Blocks, BlockState, Free, Owned, Reserved, Busy, state_of, changed, is_in_list, put_state, released, released_state, settled_state, blocks_settled, is_busy_state}
-use Rattle.jfs_marks.specs.bmap.proofs.States.{changed-at, changed-length}
-use Rattle.jfs_halves.specs.map_files.specs.declared.maps.Maps.{Maps}
+use Rattle.jfs_bmap.specs.States.{Blocks, BlockState, Free, Owned, Reserved, Busy, state_of, changed, is_in_list, put_state, released, released_state, settled_state, blocks_settled, is_busy_state}
+use Rattle.jfs_bmap.proofs.States.{changed-at, changed-length}
+use Rattle.jfs_map_files.specs.declared.maps.Maps.{Maps}
 use Rattle.jfs_volume.specs.Asked.{MayReserve}
 use Rattle.jfs_volume.specs.Busy.{BusyBetween, IsIdle}
 

@@ -4,17 +4,17 @@ use Rattle.jfs_disk.specs.Image.{Image, page_of}
 use Rattle.jfs_halves.specs.crash_core.specs.Image.{pages_after}
 use Rattle.jfs_disk.specs.declared.disk.Fault.{Fault}
 use Rattle.std.proofs.lemmas.Bool.{eqb-true}
-use Rattle.jfs_marks.specs.bmap.specs.States.{Blocks, BlockState, Free, put_state, AreReserved}
+use Rattle.jfs_bmap.specs.States.{Blocks, BlockState, Free, put_state, AreReserved}
 use Rattle.jfs_ranges.specs.View.{AreWhole}
 use Rattle.jfs_ranges.specs.declared.edit.Edit.{Edit}
-use Rattle.jfs_marks.specs.data_steps.specs.After.{LieWithin, is_put}
-use Rattle.jfs_marks.specs.data_steps.specs.declared.pages.DataPage.{DataPage}
-use Rattle.jfs_halves.specs.pages.specs.declared.dirty.Dirty.{Dirty}
-use Rattle.jfs_halves.specs.pages.specs.Device.{IsFault}
-use Rattle.jfs_halves.specs.pages.specs.Dirty.{dirty_of}
-use Rattle.jfs_marks.specs.plain.specs.declared.call.Entry.{Entry}
-use Rattle.jfs_marks.specs.records.specs.Records.{Noted, noted}
-use Rattle.jfs_marks.specs.records.specs.Sizes.{entry_size}
+use Rattle.jfs_data_steps.specs.After.{LieWithin, is_put}
+use Rattle.jfs_data_steps.specs.declared.pages.DataPage.{DataPage}
+use Rattle.jfs_pages.specs.declared.dirty.Dirty.{Dirty}
+use Rattle.jfs_pages.specs.Device.{IsFault}
+use Rattle.jfs_pages.specs.Dirty.{dirty_of}
+use Rattle.jfs_plain.specs.declared.call.Entry.{Entry}
+use Rattle.jfs_records.specs.Records.{Noted, noted}
+use Rattle.jfs_records.specs.Sizes.{entry_size}
 use Rattle.jfs_marks.specs.declared.marks.InodeMarks.{InodeMarks}
 use Rattle.jfs_halves.specs.Parts.{Parts, Text}
 use Rattle.jfs_halves.specs.Change.{SameStates}

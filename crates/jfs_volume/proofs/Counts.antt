@@ -4,9 +4,9 @@ use Rattle.std.proofs.lemmas.Bool.{cases_Bool}
 use Rattle.std.proofs.lemmas.List.{append-nil, drop_all}
 use Rattle.std.specs.List.{AllByRecursion, filter}
 use Rattle.jfs_disk.specs.declared.disk.Fault.{Fault}
-use Rattle.jfs_marks.specs.bmap.specs.States.{blocks_settled}
+use Rattle.jfs_bmap.specs.States.{blocks_settled}
 use Rattle.jfs_halves.specs.crash_core.specs.Step.{halted_by}
-use Rattle.jfs_marks.specs.records.proofs.ReadBack.{length-items}
+use Rattle.jfs_records.proofs.ReadBack.{length-items}
 use Rattle.jfs_halves.specs.Entry.{Happened, entry_of}
 use Rattle.jfs_halves.specs.Half.{VolumeHalf, Waiting, text_end}
 use Rattle.jfs_halves.specs.declared.freed.FreedPage.{FreedPage}

@@ -3,8 +3,8 @@ use Rattle.std.proofs.Common.{◌≡◌, ◌<◌, ◌≤◌, ◌⊎◌, ◌+◌,
 use Rattle.std.proofs.lemmas.Bool.{cases_lt, eqb-false}
 use Rattle.std.proofs.lemmas.List.{map-append, get_or-set_other}
 use Rattle.std.specs.List.{AllByRecursion}
-use Rattle.jfs_halves.specs.pages.specs.declared.dirty.Dirty.{Dirty}
-use Rattle.jfs_halves.specs.pages.specs.Dirty.{dirty_of}
+use Rattle.jfs_pages.specs.declared.dirty.Dirty.{Dirty}
+use Rattle.jfs_pages.specs.Dirty.{dirty_of}
 use Rattle.jfs_halves.specs.declared.freed.FreedPage.{FreedPage}
 use Rattle.jfs_halves.specs.Half.{VolumeHalf}
 use Rattle.jfs_halves.specs.Parts.{Parts, StandsFor, IsFreed}
@@ -12,8 +12,8 @@ use Rattle.jfs_halves.specs.Change.{Change, Tells, Drops, after}
 use Rattle.jfs_halves.specs.Moves.{Moves}
 use Rattle.jfs_halves.proofs.Joined.{join}
 use Rattle.jfs_disk.specs.Image.{Image, page_of}
-use Rattle.jfs_halves.specs.pages.specs.Kept.{image_in}
-use Rattle.jfs_halves.specs.pages.specs.declared.kept.Kept.{Kept}
+use Rattle.jfs_pages.specs.Kept.{image_in}
+use Rattle.jfs_pages.specs.declared.kept.Kept.{Kept}
 use Rattle.jfs_volume.specs.Settles.{is_freed}
 use Rattle.jfs_volume.specs.Told.{drops, IsTold, IsDropped, AreDropped, MayBeDropped, StaysOrGoes}
 

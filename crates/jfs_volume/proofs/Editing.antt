@@ -12,17 +12,17 @@ use Rattle.jfs_ranges.specs.declared.edit.Edit.{Edit}
 use Rattle.jfs_ranges.specs.declared.edit.Edit.TheVariants.{Lines, NoRedo, Alloc, Free}
 use Rattle.jfs_ranges.specs.Apply.{apply_tx, touches_edit, touches_tx, place_of_line}
 use Rattle.jfs_logfmt.specs.Kinds.{page_type, page_blocks}
-use Rattle.jfs_halves.specs.pages.specs.declared.dirty.Dirty.{Dirty}
-use Rattle.jfs_halves.specs.pages.specs.declared.kept.Kept.{Kept}
-use Rattle.jfs_halves.specs.pages.specs.Dirty.{touched_by, last_of}
-use Rattle.jfs_halves.specs.pages.specs.Kept.{shown, image_in}
+use Rattle.jfs_pages.specs.declared.dirty.Dirty.{Dirty}
+use Rattle.jfs_pages.specs.declared.kept.Kept.{Kept}
+use Rattle.jfs_pages.specs.Dirty.{touched_by, last_of}
+use Rattle.jfs_pages.specs.Kept.{shown, image_in}
 use Rattle.jfs_halves.specs.crash_core.specs.Core.{Block, no_block}
 use Rattle.jfs_halves.specs.crash_core.specs.Image.{pages_after}
 use Rattle.jfs_halves.specs.crash_core.specs.Step.{dirtied, marked}
 use Rattle.jfs_halves.specs.crash_core.proofs.Bounds.{length-marked}
 use Rattle.jfs_halves.specs.crash_core.proofs.Bytes.{length-pages_after, page_of-pages_after}
-use Rattle.jfs_marks.specs.records.specs.Records.{Noted, tx_of}
-use Rattle.jfs_marks.specs.records.specs.Limits.{IsLoggable, CanLog, AreLines}
+use Rattle.jfs_records.specs.Records.{Noted, tx_of}
+use Rattle.jfs_records.specs.Limits.{IsLoggable, CanLog, AreLines}
 use Rattle.jfs_halves.specs.Half.{VolumeHalf, block_in}
 use Rattle.jfs_halves.specs.Parts.{span_of}
 use Rattle.jfs_volume.proofs.Stand.{image-at, length-image}

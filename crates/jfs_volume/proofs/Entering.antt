@@ -7,17 +7,17 @@ use Rattle.jfs_disk.specs.Image.{Image, page_of}
 use Rattle.jfs_disk.specs.Crash.{last_of}
 use Rattle.jfs_ranges.specs.declared.edit.Edit.{Edit}
 use Rattle.jfs_ranges.specs.Apply.{touches_tx}
-use Rattle.jfs_marks.specs.bmap.specs.States.{Blocks, BlockState, Free, state_of, put_state, AreReserved}
-use Rattle.jfs_marks.specs.imap.specs.Inodes.{Inodes}
-use Rattle.jfs_halves.specs.pages.specs.Dirty.{dirty_of}
+use Rattle.jfs_bmap.specs.States.{Blocks, BlockState, Free, state_of, put_state, AreReserved}
+use Rattle.jfs_imap.specs.Inodes.{Inodes}
+use Rattle.jfs_pages.specs.Dirty.{dirty_of}
 use Rattle.jfs_halves.specs.crash_core.specs.declared.block.Span.{Span}
 use Rattle.jfs_halves.specs.crash_core.specs.Core.{Block}
 use Rattle.jfs_halves.specs.crash_core.specs.Image.{pages_after}
 use Rattle.jfs_halves.specs.crash_core.specs.Step.{dirtied}
 use Rattle.jfs_halves.specs.crash_core.proofs.Bounds.{length-marked}
-use Rattle.jfs_marks.specs.plain.specs.declared.call.Entry.{Entry}
-use Rattle.jfs_marks.specs.records.specs.Records.{Noted, tx_of}
-use Rattle.jfs_marks.specs.records.specs.Entries.{entry as item_of}
+use Rattle.jfs_plain.specs.declared.call.Entry.{Entry}
+use Rattle.jfs_records.specs.Records.{Noted, tx_of}
+use Rattle.jfs_records.specs.Entries.{entry as item_of}
 use Rattle.jfs_halves.specs.declared.freed.FreedPage.{FreedPage}
 use Rattle.jfs_halves.specs.Entry.{Happened}
 use Rattle.jfs_halves.specs.Marks.{map_after}

@@ -1,10 +1,10 @@
 -- The files of the maps stay those of the maps, whatever changes of these.
 use Rattle.std.proofs.Common.{◌≡◌, ◌&&◌, ℕ, Bool, true, false, nat_le, if◌then◌else◌, List, set, Option, Some, None, refl, ap, ◌∙◌}
 use Rattle.jfs_bits.specs.declared.descriptor.Pxd.{Pxd}
-use Rattle.jfs_marks.specs.bmap.specs.MapFile.{pages_of}
-use Rattle.jfs_marks.specs.imap.specs.Inodes.{Inodes, is_used}
-use Rattle.jfs_halves.specs.map_files.specs.Files.{AreFilesOf}
-use Rattle.jfs_halves.specs.map_files.specs.declared.map_file.MapFiles.{MapFiles}
+use Rattle.jfs_bmap.specs.MapFile.{pages_of}
+use Rattle.jfs_imap.specs.Inodes.{Inodes, is_used}
+use Rattle.jfs_map_files.specs.Files.{AreFilesOf}
+use Rattle.jfs_map_files.specs.declared.map_file.MapFiles.{MapFiles}
 use Rattle.jfs_marks.specs.declared.marks.InodeMarks.{InodeMarks}
 use Rattle.jfs_marks.specs.Marks.{IsExtended, with_taken_if, with_freed_if, AreMarked}
 use Rattle.jfs_volume.specs.Stale.{stale_after}

@@ -5,8 +5,8 @@ use Rattle.std.proofs.lemmas.List.{drop_more}
 use Rattle.jfs_bits.specs.declared.descriptor.Pxd.{Pxd}
 use Rattle.jfs_bits.specs.Bits.{is_in_run}
 use Rattle.jfs_ranges.specs.declared.edit.Edit.{Edit}
-use Rattle.jfs_marks.specs.bmap.specs.States.{Blocks, Free, Reserved, state_of, is_in_list, put_state, AreReserved}
-use Rattle.jfs_marks.specs.bmap.proofs.Puts.{put-none, put-append, reserved-rest}
+use Rattle.jfs_bmap.specs.States.{Blocks, Free, Reserved, state_of, is_in_list, put_state, AreReserved}
+use Rattle.jfs_bmap.proofs.Puts.{put-none, put-append, reserved-rest}
 use Rattle.jfs_volume.specs.Runs.{taken_by, taken_in}
 use Rattle.jfs_volume.proofs.Taken.{in_list-append}
 

@@ -7,8 +7,8 @@ use Rattle.jfs_disk.specs.Crash.{DiskState, no_page, last_of, seen_of, torn, wri
 use Rattle.jfs_disk.specs.declared.disk.Fault.{Fault}
 use Rattle.jfs_disk.specs.Seen.{seen_of-failed}
 use Rattle.jfs_disk.proofs.Outcomes.{last_of-push}
-use Rattle.jfs_halves.specs.pages.specs.declared.dirty.Dirty.{Dirty}
-use Rattle.jfs_halves.specs.pages.specs.Dirty.{dirty_of, last_of as last_dirty}
+use Rattle.jfs_pages.specs.declared.dirty.Dirty.{Dirty}
+use Rattle.jfs_pages.specs.Dirty.{dirty_of, last_of as last_dirty}
 use Rattle.jfs_halves.specs.crash_core.specs.declared.block.Span.{Span}
 use Rattle.jfs_halves.specs.crash_core.specs.Core.{Block, no_block}
 use Rattle.jfs_halves.specs.crash_core.specs.Step.{halted_by, sent_home, failed_home, synced, EndsBy}

@@ -4,15 +4,15 @@ use Rattle.std.proofs.lemmas.List.{append-nil, map-append, length-append, drop-a
 use Rattle.std.specs.List.{AllByRecursion}
 use Rattle.jfs_bits.specs.declared.descriptor.Moment.{Moment}
 use Rattle.jfs_disk.specs.Image.{Image}
-use Rattle.jfs_marks.specs.bmap.specs.Set.{each_below}
-use Rattle.jfs_marks.specs.bmap.specs.States.{Blocks, Owned, state_of}
-use Rattle.jfs_marks.specs.bmap.proofs.Views.{length-each_below, each_below-at}
+use Rattle.jfs_bmap.specs.Set.{each_below}
+use Rattle.jfs_bmap.specs.States.{Blocks, Owned, state_of}
+use Rattle.jfs_bmap.proofs.Views.{length-each_below, each_below-at}
 use Rattle.jfs_halves.specs.crash_core.specs.Core.{Block, no_block}
 use Rattle.jfs_halves.specs.crash_core.specs.Image.{pages_after}
 use Rattle.jfs_halves.specs.crash_core.specs.Step.{marked}
-use Rattle.jfs_marks.specs.plain.specs.declared.call.Entry.{Entry}
-use Rattle.jfs_marks.specs.plain.specs.declared.call.Request.{Request}
-use Rattle.jfs_marks.specs.plain.specs.declared.reply.Reply.{Reply}
+use Rattle.jfs_plain.specs.declared.call.Entry.{Entry}
+use Rattle.jfs_plain.specs.declared.call.Request.{Request}
+use Rattle.jfs_plain.specs.declared.reply.Reply.{Reply}
 use Rattle.jfs_halves.specs.declared.freed.FreedPage.{FreedPage}
 use Rattle.jfs_halves.specs.Entry.{Happened, entry_of}
 use Rattle.jfs_halves.specs.Marks.{map_after}

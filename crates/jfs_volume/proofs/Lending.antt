@@ -7,9 +7,9 @@ use Rattle.jfs_disk.specs.declared.disk.Fault.{Fault}
 use Rattle.jfs_ranges.specs.declared.view.ViewError.{ViewError}
 use Rattle.jfs_ranges.specs.declared.view.ViewError.TheVariants.{Read, Memory}
 use Rattle.jfs_ranges.specs.View.{Device, Pending, CarriesCount}
-use Rattle.jfs_halves.specs.pages.specs.declared.cache.PageCache.{PageCache}
-use Rattle.jfs_halves.specs.pages.specs.declared.dirty.Dirty.{Dirty}
-use Rattle.jfs_halves.specs.pages.specs.Kept.{dirty_in, image_in, pending_of}
+use Rattle.jfs_pages.specs.declared.cache.PageCache.{PageCache}
+use Rattle.jfs_pages.specs.declared.dirty.Dirty.{Dirty}
+use Rattle.jfs_pages.specs.Kept.{dirty_in, image_in, pending_of}
 use Rattle.jfs_volume.specs.Asked.{LeavesCache}
 use Rattle.jfs_volume.specs.Lent.{held_as, lent}
 

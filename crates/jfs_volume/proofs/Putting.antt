@@ -6,13 +6,13 @@ use Rattle.std.proofs.lemmas.Option.{slice_get_within, get_or_from_slice_get}
 use Rattle.jfs_disk.specs.Image.{Image, page_of}
 use Rattle.jfs_disk.specs.Crash.{DiskState, last_of, written, seen_of}
 use Rattle.jfs_disk.specs.declared.disk.Fault.{Fault}
-use Rattle.jfs_marks.specs.data_steps.specs.After.{is_put, LieWithin}
-use Rattle.jfs_marks.specs.data_steps.specs.declared.pages.DataPage.{DataPage}
-use Rattle.jfs_halves.specs.pages.specs.declared.dirty.Dirty.{Dirty}
-use Rattle.jfs_halves.specs.pages.specs.declared.kept.Kept.{Kept}
-use Rattle.jfs_halves.specs.pages.specs.Dirty.{dirty_of}
-use Rattle.jfs_halves.specs.pages.specs.Kept.{shown, image_in}
-use Rattle.jfs_halves.specs.pages.specs.Device.{Puts}
+use Rattle.jfs_data_steps.specs.After.{is_put, LieWithin}
+use Rattle.jfs_data_steps.specs.declared.pages.DataPage.{DataPage}
+use Rattle.jfs_pages.specs.declared.dirty.Dirty.{Dirty}
+use Rattle.jfs_pages.specs.declared.kept.Kept.{Kept}
+use Rattle.jfs_pages.specs.Dirty.{dirty_of}
+use Rattle.jfs_pages.specs.Kept.{shown, image_in}
+use Rattle.jfs_pages.specs.Device.{Puts}
 use Rattle.jfs_halves.specs.Half.{VolumeHalf, data_written}
 use Rattle.jfs_halves.specs.Parts.{Parts, StandsFor}
 use Rattle.jfs_halves.specs.Change.{Writes}

@@ -2,8 +2,8 @@
 use Rattle.std.proofs.Common.{◌≡◌, ◌<◌, ◌≤◌, ◌⊎◌, ◌==◌, ℕ, suc, Bool, if◌then◌else◌, List, [], ◌∷◌, ◌++◌, length, slice_get, Option, Some, None, IsSome, refl, sym, ap, ◌∙◌, inl, inr, subst, arith}
 use Rattle.std.proofs.lemmas.Bool.{cases_eq, cases_lt, eq-eqb, ne_eqb}
 use Rattle.std.proofs.lemmas.List.{map-append, append-nil}
-use Rattle.jfs_halves.specs.pages.specs.declared.dirty.Dirty.{Dirty}
-use Rattle.jfs_halves.specs.pages.specs.Dirty.{dirty_of, IsDirty, IsRising, page_at}
+use Rattle.jfs_pages.specs.declared.dirty.Dirty.{Dirty}
+use Rattle.jfs_pages.specs.Dirty.{dirty_of, IsDirty, IsRising, page_at}
 use Rattle.jfs_disk.specs.declared.disk.Fault.{Fault}
 use Rattle.jfs_halves.specs.Half.{VolumeHalf}
 use Rattle.jfs_halves.specs.Parts.{Parts}

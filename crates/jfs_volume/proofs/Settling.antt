@@ -1,12 +1,12 @@
 -- Redo begins behind all entries, and the SYNCPT that says so is taken.
 use Rattle.std.proofs.Common.{◌≡◌, ◌+◌, ℕ, zero, suc, Bool, List, [], ◌∷◌, ◌++◌, length, map, get_or, None, refl, sym, ap, ◌∙◌, arith}
 use Rattle.std.proofs.lemmas.List.{append-nil, length-append}
-use Rattle.jfs_halves.specs.pages.specs.Dirty.{dirty_of}
+use Rattle.jfs_pages.specs.Dirty.{dirty_of}
 use Rattle.jfs_halves.specs.crash_core.specs.Core.{Block, no_block}
 use Rattle.jfs_halves.specs.crash_core.specs.Step.{synced}
-use Rattle.jfs_halves.specs.logpages.specs.Records.{ends_of}
-use Rattle.jfs_marks.specs.records.specs.Entries.{Item, entry, point, text_size, log_records}
-use Rattle.jfs_marks.specs.records.proofs.ReadBack.{length-items, text_size-append}
+use Rattle.jfs_logpages.specs.Records.{ends_of}
+use Rattle.jfs_records.specs.Entries.{Item, entry, point, text_size, log_records}
+use Rattle.jfs_records.proofs.ReadBack.{length-items, text_size-append}
 use Rattle.jfs_halves.specs.Half.{VolumeHalf, Waiting, all_synced}
 use Rattle.jfs_halves.specs.Parts.{Parts, Text, StandsFor, IsTextOf, span_of}
 use Rattle.jfs_halves.specs.Change.{Points, Takes, Knows, MayPoint}

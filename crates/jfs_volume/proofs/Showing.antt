@@ -4,8 +4,8 @@ use Rattle.std.proofs.lemmas.Bool.{cases_eq}
 use Rattle.std.proofs.lemmas.List.{length-set, get_or-set_same, get_or-set_other, map-append}
 use Rattle.jfs_disk.specs.Image.{Image, page_of}
 use Rattle.jfs_disk.specs.declared.disk.Fault.{Fault}
-use Rattle.jfs_halves.specs.map_files.specs.Places.{AreWithin, MapPlaces}
-use Rattle.jfs_marks.specs.data_steps.specs.declared.pages.DataPage.{DataPage}
+use Rattle.jfs_map_files.specs.Places.{AreWithin, MapPlaces}
+use Rattle.jfs_data_steps.specs.declared.pages.DataPage.{DataPage}
 use Rattle.jfs_halves.specs.Half.{VolumeHalf}
 use Rattle.jfs_halves.specs.Parts.{Parts}
 use Rattle.jfs_halves.specs.Change.{Change, Writes, WriteTears, Stops, after}
@@ -13,10 +13,10 @@ use Rattle.jfs_halves.specs.Moves.{Moves}
 use Rattle.jfs_halves.proofs.Joined.{join}
 use Rattle.jfs_volume.specs.MapsHome.{MapsHome, ShowsAfter, with_written}
 use Rattle.jfs_volume.specs.Shown.{PutsPage, AreOwn, ShowsUpto, PutsMap}
-use Rattle.jfs_marks.specs.bmap.specs.MapFile.{IsMapPage, is_in_use}
-use Rattle.jfs_marks.specs.bmap.specs.States.{is_owned}
-use Rattle.jfs_marks.specs.imap.specs.Inodes.{IsInodePage}
-use Rattle.jfs_halves.specs.map_files.specs.declared.map_file.MapFiles.{MapFiles}
+use Rattle.jfs_bmap.specs.MapFile.{IsMapPage, is_in_use}
+use Rattle.jfs_bmap.specs.States.{is_owned}
+use Rattle.jfs_imap.specs.Inodes.{IsInodePage}
+use Rattle.jfs_map_files.specs.declared.map_file.MapFiles.{MapFiles}
 use Rattle.std.proofs.lemmas.Option.{slice_get_within}
 use Rattle.jfs_volume.specs.Written.{writes, StopsWriting, WriteIs, stops, tears}
 use Rattle.jfs_volume.proofs.Writing.{FailsToWrite}

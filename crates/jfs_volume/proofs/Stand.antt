@@ -6,10 +6,10 @@ use Rattle.std.proofs.lemmas.List.FromFn.{get_or-map-range_with_len, length-map-
 use Rattle.jfs_disk.specs.Image.{Image, page_of}
 use Rattle.jfs_disk.specs.Crash.{PageHistory, DiskState, history_of, no_page, written, failed, settled, page_written, page_failed}
 use Rattle.jfs_disk.specs.declared.disk.Fault.{Fault}
-use Rattle.jfs_halves.specs.pages.specs.declared.kept.Kept.{Kept}
-use Rattle.jfs_halves.specs.pages.specs.declared.dirty.Dirty.{Dirty}
-use Rattle.jfs_halves.specs.pages.specs.Kept.{shown, image_in}
-use Rattle.jfs_marks.specs.bmap.specs.States.{Blocks, BlockState, blocks_settled}
+use Rattle.jfs_pages.specs.declared.kept.Kept.{Kept}
+use Rattle.jfs_pages.specs.declared.dirty.Dirty.{Dirty}
+use Rattle.jfs_pages.specs.Kept.{shown, image_in}
+use Rattle.jfs_bmap.specs.States.{Blocks, BlockState, blocks_settled}
 use Rattle.jfs_halves.specs.crash_core.specs.Core.{Block, no_block}
 use Rattle.jfs_halves.specs.crash_core.specs.Step.{sent_home, failed_home, synced}
 use Rattle.jfs_halves.specs.Half.{VolumeHalf, block_in, page_in, low_in, page_home, page_torn}

@@ -8,11 +8,11 @@ use Rattle.jfs_bits.specs.Bits.{is_in_run}
 use Rattle.jfs_ranges.specs.declared.edit.Edit.{Edit}
 use Rattle.jfs_ranges.specs.declared.edit.Edit.TheVariants.{Lines, NoRedo, Alloc, Free as FreeRun}
 use Rattle.jfs_ranges.specs.Apply.{touches_edit, touches_tx}
-use Rattle.jfs_marks.specs.bmap.specs.States.{Blocks, BlockState, Free, Owned, Reserved, state_of, is_in_list, put_state, released, released_state, AreReserved}
-use Rattle.jfs_marks.specs.bmap.proofs.States.{changed-at, changed-length}
-use Rattle.jfs_marks.specs.records.specs.Marks.{has_block, mark_of, is_new_extent}
-use Rattle.jfs_marks.specs.records.specs.Redo.{is_noredo}
-use Rattle.jfs_marks.specs.records.specs.Sizes.{edit_bytes, bytes_of}
+use Rattle.jfs_bmap.specs.States.{Blocks, BlockState, Free, Owned, Reserved, state_of, is_in_list, put_state, released, released_state, AreReserved}
+use Rattle.jfs_bmap.proofs.States.{changed-at, changed-length}
+use Rattle.jfs_records.specs.Marks.{has_block, mark_of, is_new_extent}
+use Rattle.jfs_records.specs.Redo.{is_noredo}
+use Rattle.jfs_records.specs.Sizes.{edit_bytes, bytes_of}
 use Rattle.jfs_halves.specs.declared.freed.FreedPage.{FreedPage}
 use Rattle.jfs_halves.specs.Marks.{is_taking, is_freeing, takes, frees, entered_state, map_after, frees_page}
 use Rattle.jfs_halves.specs.Change.{SameStates}

@@ -8,17 +8,17 @@ use Rattle.jfs_ranges.specs.declared.edit.Edit.{Edit}
 use Rattle.jfs_logfmt.specs.declared.log_record.Record.{Record}
 use Rattle.jfs_logfmt.specs.Written.{Fits, text_of}
 use Rattle.jfs_logfmt.proofs.Numbers.{length-text}
-use Rattle.jfs_halves.specs.logpages.specs.Group.{pages_of, room_of}
-use Rattle.jfs_halves.specs.logpages.specs.Ring.{ends_with}
-use Rattle.jfs_halves.specs.logpages.specs.Records.{size_of, sizes_of, log_text, ends_of, AreWhole}
-use Rattle.jfs_marks.specs.records.specs.declared.note.Note.{Note}
-use Rattle.jfs_marks.specs.records.specs.Records.{Noted, noted, records_of, tx_of}
-use Rattle.jfs_marks.specs.records.specs.Entries.{entry as item_of, item_records, log_records, text_size}
-use Rattle.jfs_marks.specs.records.specs.Sizes.{entry_size}
-use Rattle.jfs_marks.specs.records.specs.Limits.{IsLoggable}
-use Rattle.jfs_marks.specs.records.proofs.ReadBack.{length-items, length-item, records-append}
-use Rattle.jfs_marks.specs.records.proofs.Sizes.{entry_sized}
-use Rattle.jfs_marks.specs.records.proofs.Whole.{whole_records}
+use Rattle.jfs_logpages.specs.Group.{pages_of, room_of}
+use Rattle.jfs_logpages.specs.Ring.{ends_with}
+use Rattle.jfs_logpages.specs.Records.{size_of, sizes_of, log_text, ends_of, AreWhole}
+use Rattle.jfs_records.specs.declared.note.Note.{Note}
+use Rattle.jfs_records.specs.Records.{Noted, noted, records_of, tx_of}
+use Rattle.jfs_records.specs.Entries.{entry as item_of, item_records, log_records, text_size}
+use Rattle.jfs_records.specs.Sizes.{entry_size}
+use Rattle.jfs_records.specs.Limits.{IsLoggable}
+use Rattle.jfs_records.proofs.ReadBack.{length-items, length-item, records-append}
+use Rattle.jfs_records.proofs.Sizes.{entry_sized}
+use Rattle.jfs_records.proofs.Whole.{whole_records}
 use Rattle.jfs_halves.specs.Half.{Waiting}
 use Rattle.jfs_halves.specs.Parts.{Text, IsTextOf}
 use Rattle.jfs_volume.specs.Room.{has_room}

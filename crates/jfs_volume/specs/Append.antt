@@ -4,25 +4,25 @@ use Rattle.jfs_bits.specs.declared.descriptor.Moment.{Moment}
 use Rattle.jfs_disk.specs.declared.disk.Fault.{Fault}
 use Rattle.jfs_ranges.specs.declared.edit.Edit.{Edit}
 use Rattle.jfs_ranges.specs.Apply.{touches_tx}
-use Rattle.jfs_marks.specs.bmap.specs.States.{Free, put_state, state_of, is_busy_state}
-use Rattle.jfs_marks.specs.imap.specs.Inodes.{Inodes}
-use Rattle.jfs_marks.specs.plain.specs.declared.call.Entry.{Entry}
+use Rattle.jfs_bmap.specs.States.{Free, put_state, state_of, is_busy_state}
+use Rattle.jfs_imap.specs.Inodes.{Inodes}
+use Rattle.jfs_plain.specs.declared.call.Entry.{Entry}
 use Rattle.jfs_halves.specs.crash_core.specs.Image.{pages_after}
-use Rattle.jfs_marks.specs.records.specs.Records.{Noted, tx_of}
-use Rattle.jfs_marks.specs.records.specs.Entries.{entry as item_of, item_records}
-use Rattle.jfs_halves.specs.logpages.specs.Records.{log_text, ends_of}
-use Rattle.jfs_halves.specs.logpages.specs.Ring.{ends_with}
+use Rattle.jfs_records.specs.Records.{Noted, tx_of}
+use Rattle.jfs_records.specs.Entries.{entry as item_of, item_records}
+use Rattle.jfs_logpages.specs.Records.{log_text, ends_of}
+use Rattle.jfs_logpages.specs.Ring.{ends_with}
 use Rattle.jfs_halves.specs.Entry.{Happened}
 use Rattle.jfs_halves.specs.Marks.{map_after}
 use Rattle.jfs_halves.specs.Half.{VolumeHalf}
 use Rattle.jfs_halves.specs.Parts.{Parts, Text}
 use Rattle.jfs_halves.specs.Change.{Enters, SameStates, after}
 use Rattle.jfs_halves.specs.Moves.{Moves}
-use Rattle.jfs_halves.specs.pages.specs.Device.{IsFault}
-use Rattle.jfs_halves.specs.pages.specs.Dirty.{dirty_of, touched_by}
+use Rattle.jfs_pages.specs.Device.{IsFault}
+use Rattle.jfs_pages.specs.Dirty.{dirty_of, touched_by}
 use Rattle.jfs_volume.specs.Runs.{taken_in, freed_in, pages_freed}
-use Rattle.jfs_marks.specs.data_steps.specs.After.{is_put}
-use Rattle.jfs_marks.specs.data_steps.specs.declared.pages.DataPage.{DataPage}
+use Rattle.jfs_data_steps.specs.After.{is_put}
+use Rattle.jfs_data_steps.specs.declared.pages.DataPage.{DataPage}
 use Rattle.jfs_volume.specs.Written.{writes, StopsWriting}
 use Rattle.jfs_volume.specs.Data.{put_pages}
 use Rattle.jfs_volume.specs.Stale.{stale_after}

@@ -1,11 +1,11 @@
 -- A volume whose pages and maps are asked for something.
 use Rattle.std.specs.Prelude.{◌≡◌, ◌⊎◌, ℕ, length}
 use Rattle.jfs_disk.specs.declared.disk.Disk.{Ghosts}
-use Rattle.jfs_marks.specs.bmap.specs.States.{Free, Reserved, state_of}
-use Rattle.jfs_halves.specs.map_files.specs.declared.maps.Maps.{Maps}
-use Rattle.jfs_halves.specs.pages.specs.declared.cache.PageCache.{PageCache}
-use Rattle.jfs_halves.specs.pages.specs.Device.{IsSame}
-use Rattle.jfs_halves.specs.pages.specs.Kept.{dirty_in, image_in}
+use Rattle.jfs_bmap.specs.States.{Free, Reserved, state_of}
+use Rattle.jfs_map_files.specs.declared.maps.Maps.{Maps}
+use Rattle.jfs_pages.specs.declared.cache.PageCache.{PageCache}
+use Rattle.jfs_pages.specs.Device.{IsSame}
+use Rattle.jfs_pages.specs.Kept.{dirty_in, image_in}
 use Rattle.jfs_halves.specs.Parts.{Parts}
 
 -- the maps of a volume

@@ -1,6 +1,6 @@
 -- Which entries busy blocks wait for.
 use Rattle.std.specs.Prelude.{◌≡◌, ◌⊎◌, ◌<◌, ◌≤◌, ℕ}
-use Rattle.jfs_marks.specs.bmap.specs.States.{Blocks, Free, Owned, Busy, state_of}
+use Rattle.jfs_bmap.specs.States.{Blocks, Free, Owned, Busy, state_of}
 
 -- each for one that isn't acknowledged, of those that joined
 abbrev pub BusyBetween : ℕ → ℕ → Blocks → Type 0

@@ -1,8 +1,8 @@
 -- How a page goes home.
 use Rattle.std.specs.Prelude.{◌⊎◌, ◌∷◌, [], ℕ, Bool, Result, Ok, Err}
 use Rattle.jfs_disk.specs.declared.disk.Fault.{Fault}
-use Rattle.jfs_halves.specs.pages.specs.declared.error.HomeError.{HomeError}
-use Rattle.jfs_halves.specs.pages.specs.declared.error.HomeError.TheVariants.{NotYet, WriteFault}
+use Rattle.jfs_pages.specs.declared.error.HomeError.{HomeError}
+use Rattle.jfs_pages.specs.declared.error.HomeError.TheVariants.{NotYet, WriteFault}
 use Rattle.jfs_halves.specs.Half.{VolumeHalf}
 use Rattle.jfs_halves.specs.Parts.{Parts}
 use Rattle.jfs_halves.specs.Change.{GoesHome, Tears, Stops}

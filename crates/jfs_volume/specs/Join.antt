@@ -1,9 +1,9 @@
 -- An entry that changes nothing joins.
 use Rattle.std.specs.Prelude.{◌≡◌, ◌∷◌, ◌++◌, ◌+◌, [], ℕ, suc, Bool, false, length}
 use Rattle.jfs_bits.specs.declared.descriptor.Moment.{Moment}
-use Rattle.jfs_marks.specs.plain.specs.declared.call.Entry.{Entry}
-use Rattle.jfs_marks.specs.plain.specs.declared.call.Request.{Request}
-use Rattle.jfs_marks.specs.plain.specs.declared.reply.Reply.{Reply}
+use Rattle.jfs_plain.specs.declared.call.Entry.{Entry}
+use Rattle.jfs_plain.specs.declared.call.Request.{Request}
+use Rattle.jfs_plain.specs.declared.reply.Reply.{Reply}
 use Rattle.jfs_halves.specs.Entry.{Happened}
 use Rattle.jfs_halves.specs.Half.{VolumeHalf}
 use Rattle.jfs_halves.specs.Parts.{Parts}

@@ -5,8 +5,8 @@ use Rattle.jfs_disk.specs.Image.{Image}
 use Rattle.jfs_disk.specs.Crash.{DiskState, PageHistory}
 use Rattle.jfs_disk.specs.declared.disk.Disk.{Ghosts}
 use Rattle.jfs_ranges.specs.View.{Device, AreWhole}
-use Rattle.jfs_halves.specs.pages.specs.declared.cache.PageCache.{PageCache}
-use Rattle.jfs_halves.specs.pages.specs.Kept.{dirty_in, pending_of}
+use Rattle.jfs_pages.specs.declared.cache.PageCache.{PageCache}
+use Rattle.jfs_pages.specs.Kept.{dirty_in, pending_of}
 
 -- bytes as one that a crash may leave
 abbrev pub held_as : List ℕ → PageHistory

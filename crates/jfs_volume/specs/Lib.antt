@@ -21,18 +21,15 @@ pub mod Gone
 pub mod Lent
 pub mod Called
 -- libraries below, passed on
-pub use Rattle.jfs_marks.specs.bmap
+pub use Rattle.jfs_bmap as bmap
 pub use Rattle.jfs_halves.specs.crash_core
-pub use Rattle.jfs_marks.specs.data_steps
+pub use Rattle.jfs_data_steps as data_steps
 pub use Rattle.jfs_halves as halves
-pub use Rattle.jfs_marks.specs.imap
-pub use Rattle.jfs_marks.specs.kinds
-pub use Rattle.jfs_halves.specs.logpages
-pub use Rattle.jfs_halves.specs.map_files
-pub use Rattle.jfs_marks as entry_marks
-pub use Rattle.jfs_marks.specs.meaning
-pub use Rattle.jfs_marks.specs.objects
-pub use Rattle.jfs_halves.specs.pages
-pub use Rattle.jfs_marks.specs.plain
-pub use Rattle.jfs_marks.specs.records
-pub use Rattle.jfs_marks.specs.way
+pub use Rattle.jfs_imap as imap
+pub use Rattle.jfs_data_steps.specs.kinds
+pub use Rattle.jfs_data_steps.specs.meaning
+pub use Rattle.jfs_data_steps.specs.objects
+pub use Rattle.jfs_pages as pages
+pub use Rattle.jfs_plain as plain
+pub use Rattle.jfs_records as records
+pub use Rattle.jfs_data_steps.specs.way

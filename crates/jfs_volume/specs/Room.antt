@@ -1,6 +1,6 @@
 -- Room in the log.
 use Rattle.std.specs.Prelude.{◌≤◌, ℕ, ◌+◌, ◌-◌, ◌*◌, ◌/◌, ◌^◌, ◌&&◌, nat_le, Bool, length}
-use Rattle.jfs_halves.specs.logpages.specs.Group.{pages_of, room_of}
+use Rattle.jfs_logpages.specs.Group.{pages_of, room_of}
 use Rattle.jfs_halves.specs.Parts.{Text}
 
 -- A text of `size` bytes that will stand at `place` of a ring fits one group; all since the SYNCPT that begins at `sync`, with one more SYNCPT behind it, fits half the ring; and so far the numbers of the log's pages have 32 bits.

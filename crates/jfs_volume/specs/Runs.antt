@@ -4,7 +4,7 @@ use Rattle.jfs_bits.specs.declared.descriptor.Pxd.{Pxd}
 use Rattle.jfs_ranges.specs.declared.edit.Edit.{Edit}
 use Rattle.jfs_ranges.specs.declared.edit.Edit.TheVariants.{Lines, NoRedo, Alloc, Free}
 use Rattle.jfs_ranges.specs.Apply.{touches_tx}
-use Rattle.jfs_marks.specs.records.specs.Marks.{is_new_extent}
+use Rattle.jfs_records.specs.Marks.{is_new_extent}
 use Rattle.jfs_halves.specs.declared.freed.FreedPage.{FreedPage}
 
 -- the run of blocks that an edit takes, as new inodes do with theirs; and the one that it frees

@@ -3,9 +3,9 @@ use Rattle.std.specs.Prelude.{◌≡◌, ◌⊎◌, ◌==◌, ◌||◌, ℕ, Boo
 use Rattle.jfs_disk.specs.Image.{page_of}
 use Rattle.jfs_disk.specs.declared.disk.Fault.{Fault}
 use Rattle.jfs_halves.specs.crash_core.specs.Step.{halted_by}
-use Rattle.jfs_marks.specs.bmap.specs.States.{blocks_settled}
-use Rattle.jfs_halves.specs.pages.specs.declared.error.HomeError.{HomeError}
-use Rattle.jfs_halves.specs.pages.specs.declared.error.HomeError.TheVariants.{NotYet, WriteFault}
+use Rattle.jfs_bmap.specs.States.{blocks_settled}
+use Rattle.jfs_pages.specs.declared.error.HomeError.{HomeError}
+use Rattle.jfs_pages.specs.declared.error.HomeError.TheVariants.{NotYet, WriteFault}
 use Rattle.jfs_halves.specs.declared.freed.FreedPage.{FreedPage}
 use Rattle.jfs_halves.specs.Parts.{Parts}
 use Rattle.jfs_volume.specs.MapsHome.{HoldsNone}

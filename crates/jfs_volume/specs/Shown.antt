@@ -1,7 +1,7 @@
 -- What is shown of the pages of a map's file.
 use Rattle.std.specs.Prelude.{◌≡◌, ◌<◌, ℕ, Bool, true, false, List, length, set, slice_get, Option, Some, None}
 use Rattle.jfs_disk.specs.Image.{Image, page_of}
-use Rattle.jfs_halves.specs.map_files.specs.Places.{MapPlaces}
+use Rattle.jfs_map_files.specs.Places.{MapPlaces}
 
 -- a page of a file is put into its place, where it is in use and has one
 abbrev pub PutsPage : Bool → Option ℕ → (List ℕ → Type 0) → Image → Image → Type 0

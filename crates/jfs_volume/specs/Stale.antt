@@ -1,7 +1,7 @@
 -- Which map an entry changes.
 use Rattle.std.specs.Prelude.{◌==◌, ◌||◌, Bool, not, List, length, is_some}
 use Rattle.jfs_bits.specs.declared.descriptor.Pxd.{Pxd}
-use Rattle.jfs_halves.specs.map_files.specs.declared.map_file.MapFiles.{MapFiles}
+use Rattle.jfs_map_files.specs.declared.map_file.MapFiles.{MapFiles}
 use Rattle.jfs_marks.specs.declared.marks.InodeMarks.{InodeMarks}
 
 -- the block map, where it takes or frees a run

@@ -1,8 +1,8 @@
 -- A volume that was just mounted.
 use Rattle.std.specs.Prelude.{ℕ, Bool}
 use Rattle.jfs_disk.specs.Image.{Image}
-use Rattle.jfs_marks.specs.bmap.specs.States.{Blocks}
-use Rattle.jfs_marks.specs.imap.specs.Inodes.{Inodes}
+use Rattle.jfs_bmap.specs.States.{Blocks}
+use Rattle.jfs_imap.specs.Inodes.{Inodes}
 use Rattle.jfs_halves.specs.Laws.{fresh_halves}
 use Rattle.jfs_halves.specs.Parts.{Parts, StandsFor, Asked}
 

@@ -1,8 +1,8 @@
 -- What an acknowledgement changes.
 use Rattle.std.specs.Prelude.{◌≡◌, ◌≤◌, ◌⊎◌, ◌∷◌, [], ℕ, nat_lt, Bool, List, map, Option, None, IsSome}
 use Rattle.std.specs.List.{filter}
-use Rattle.jfs_halves.specs.pages.specs.declared.dirty.Dirty.{Dirty}
-use Rattle.jfs_halves.specs.pages.specs.Dirty.{last_of}
+use Rattle.jfs_pages.specs.declared.dirty.Dirty.{Dirty}
+use Rattle.jfs_pages.specs.Dirty.{last_of}
 use Rattle.jfs_halves.specs.declared.freed.FreedPage.{FreedPage}
 use Rattle.jfs_halves.specs.Half.{VolumeHalf}
 use Rattle.jfs_halves.specs.Parts.{Parts}

@@ -4,11 +4,11 @@ ghost use Rattle.std.specs.Prelude.{◌≡◌, ◌<◌, ◌≤◌, ◌+◌, ◌^
 ghost use Rattle.std.specs.List.{AllByRecursion};
 ghost use Rattle.jfs_bits.specs.declared.descriptor.Moment.{Moment};
 ghost use Rattle.jfs_ranges.specs.Apply.{touches_tx};
-ghost use Rattle.jfs_marks.specs.records.specs.Limits.{IsLoggable};
-ghost use Rattle.jfs_marks.specs.records.specs.Records.{Noted, noted, tx_of};
-ghost use Rattle.jfs_marks.specs.records.specs.Sizes.{entry_size as size_of_entry};
-ghost use Rattle.jfs_marks.specs.bmap.specs.States.{AreReserved};
-ghost use Rattle.jfs_marks.specs.data_steps.specs.After.{LieWithin};
+ghost use Rattle.jfs_records.specs.Limits.{IsLoggable};
+ghost use Rattle.jfs_records.specs.Records.{Noted, noted, tx_of};
+ghost use Rattle.jfs_records.specs.Sizes.{entry_size as size_of_entry};
+ghost use Rattle.jfs_bmap.specs.States.{AreReserved};
+ghost use Rattle.jfs_data_steps.specs.After.{LieWithin};
 ghost use Rattle.jfs_halves.specs.Parts.{OfEachHalf};
 ghost use Rattle.jfs_volume.specs.Append.{Appends, IsWritable, IsDraft, HasRuns, StaysUnless, KeepsStates, TellsRoom, TellsFault, unreserved, AddsEntry, ShowsEntry};
 ghost use Rattle.jfs_marks.specs.Marks.{FitsMarks};
@@ -24,12 +24,12 @@ use crate::marks::mark;
 use crate::ready::make_ready;
 use crate::stale::mark_files;
 use crate::volume::Volume;
+use jfs_data_steps::DataList;
 use jfs_disk::Disk;
 use jfs_marks::InodeMarks;
-use jfs_marks::data_steps::DataList;
-use jfs_marks::plain::Entry;
-use jfs_marks::records::{Notes, entry_size};
+use jfs_plain::Entry;
 use jfs_ranges::{Tx, ViewError};
+use jfs_records::{Notes, entry_size};
 use std::alloc::AllocError;
 
 impl<D: Disk> Volume<D> {

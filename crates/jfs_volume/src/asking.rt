@@ -4,14 +4,14 @@ ghost use Rattle.std.specs.Prelude.{◌≡◌, ◌≤◌, ℕ, length};
 ghost use Rattle.jfs_disk.specs.Image.{Image};
 ghost use Rattle.jfs_disk.specs.declared.disk.Fault.{Fault as FaultOf};
 ghost use Rattle.jfs_disk.specs.declared.disk.Part.TheVariants.{Low};
-ghost use Rattle.jfs_halves.specs.map_files.specs.declared.maps.Maps.{Maps as MapsOf};
-ghost use Rattle.jfs_halves.specs.pages.specs.Kept.{dirty_in, image_in};
+ghost use Rattle.jfs_map_files.specs.declared.maps.Maps.{Maps as MapsOf};
+ghost use Rattle.jfs_pages.specs.Kept.{dirty_in, image_in};
 ghost use Rattle.jfs_volume.specs.Asked.{MayReserve, maps_in, IsAskedOf, LeavesCache};
 
 use crate::front::Front;
 use crate::volume::Volume;
 use jfs_disk::Disk;
-use jfs_halves::map_files::Maps;
+use jfs_map_files::Maps;
 use jfs_ranges::PageView;
 
 /// Something that reads a volume's pages, and may reserve blocks, as file calls do.

@@ -2,10 +2,10 @@
 
 ghost use Rattle.std.specs.Prelude.{◌≡◌, ◌<◌, ◌≤◌, ◌+◌, ◌^◌, length, None};
 ghost use Rattle.jfs_disk.specs.Image.{page_of};
-ghost use Rattle.jfs_marks.specs.bmap.specs.States.{AreReserved};
-ghost use Rattle.jfs_marks.specs.data_steps.specs.After.{LieWithin};
+ghost use Rattle.jfs_bmap.specs.States.{AreReserved};
+ghost use Rattle.jfs_data_steps.specs.After.{LieWithin};
 ghost use Rattle.jfs_ranges.specs.View.{AreWhole};
-ghost use Rattle.jfs_halves.specs.pages.specs.Kept.{image_in};
+ghost use Rattle.jfs_pages.specs.Kept.{image_in};
 ghost use Rattle.jfs_volume.specs.Asked.{LeavesCache};
 ghost use Rattle.jfs_volume.specs.Called.{CallIs, ReservedIs, IsRead, BesideOf, NotesOf, MarksOf, are_clean, called_of};
 ghost use Rattle.jfs_volume.specs.Runs.{taken_in};
@@ -15,13 +15,13 @@ use crate::gone::frees_gone;
 use crate::joined::Joined;
 use crate::runs::taken_runs;
 use crate::volume::Volume;
+use jfs_data_steps::DataList;
 use jfs_disk::{Disk, Fault};
-use jfs_marks::data_steps::DataList;
-use jfs_marks::imap::InodeMap;
-use jfs_marks::plain::Entry;
-use jfs_marks::records::Notes;
+use jfs_imap::InodeMap;
 use jfs_marks::{InodeMarks, Marking, frees_behind, inode_marks, is_loggable, notes_of};
+use jfs_plain::Entry;
 use jfs_ranges::{PageView, Tx, ViewError};
+use jfs_records::Notes;
 use std::alloc::Global;
 
 /// How the entry of a file call joins the history.

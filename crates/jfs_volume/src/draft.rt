@@ -2,12 +2,12 @@
 
 ghost use Rattle.std.specs.Prelude.{◌≡◌, ◌<◌, ◌≤◌, ◌+◌, ◌^◌, ◌++◌, ◌∷◌, [], true, length, vec_capacity, IfOk};
 ghost use Rattle.std.specs.List.{AllByRecursion};
-ghost use Rattle.jfs_marks.specs.bmap.specs.States.{Owned, AreReserved, put_state, released};
+ghost use Rattle.jfs_bmap.specs.States.{Owned, AreReserved, put_state, released};
 ghost use Rattle.jfs_logfmt.specs.Written.{Fits};
-ghost use Rattle.jfs_halves.specs.logpages.specs.Records.{log_text, ends_of};
-ghost use Rattle.jfs_halves.specs.logpages.specs.Ring.{ends_with};
-ghost use Rattle.jfs_marks.specs.records.specs.Records.{noted, records_of};
-ghost use Rattle.jfs_marks.specs.records.specs.Entries.{entry as item_of, item_records, item_size};
+ghost use Rattle.jfs_logpages.specs.Records.{log_text, ends_of};
+ghost use Rattle.jfs_logpages.specs.Ring.{ends_with};
+ghost use Rattle.jfs_records.specs.Records.{noted, records_of};
+ghost use Rattle.jfs_records.specs.Entries.{entry as item_of, item_records, item_size};
 ghost use Rattle.jfs_volume.specs.Room.{has_room};
 ghost use Rattle.jfs_volume.specs.Runs.{taken_in, freed_in, pages_freed};
 ghost use Rattle.jfs_volume.specs.Text.{text_in};
@@ -15,12 +15,12 @@ ghost use Rattle.jfs_volume.specs.Text.{text_in};
 use crate::runs::{freed_pages, freed_runs, taken_runs};
 use crate::waiting::WaitingText;
 use jfs_bits::PxdList;
+use jfs_bmap::BlockMap;
 use jfs_halves::FreedPage;
-use jfs_halves::logpages::GroupText;
-use jfs_marks::bmap::BlockMap;
-use jfs_marks::plain::Entry;
-use jfs_marks::records::{Note, entry_text};
+use jfs_logpages::GroupText;
+use jfs_plain::Entry;
 use jfs_ranges::Edit;
+use jfs_records::{Note, entry_text};
 use std::alloc::{AllocError, Global};
 
 /// What an entry adds to the lists of a volume: its records as they will stand behind all that waits, the pages that it frees, and the runs of blocks that it takes and frees.

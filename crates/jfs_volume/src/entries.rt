@@ -2,7 +2,7 @@
 
 ghost use Rattle.std.specs.Prelude.{◌≡◌, ◌≤◌, ◌<◌, ◌+◌, ℕ, nat_le, ◌∷◌, [], length, None};
 ghost use Rattle.jfs_disk.specs.Image.{page_of};
-ghost use Rattle.jfs_halves.specs.pages.specs.Dirty.{dirty_of};
+ghost use Rattle.jfs_pages.specs.Dirty.{dirty_of};
 ghost use Rattle.jfs_halves.specs.Parts.{OfEachHalf};
 ghost use Rattle.jfs_halves.specs.Change.{HandsOut};
 ghost use Rattle.jfs_halves.specs.Moves.{Moves};
@@ -10,7 +10,7 @@ ghost use Rattle.jfs_volume.specs.Room.{since_in};
 
 use crate::volume::Volume;
 use jfs_disk::{Disk, Fault};
-use jfs_marks::plain::Entry;
+use jfs_plain::Entry;
 use std::alloc::Global;
 use std::mem;
 

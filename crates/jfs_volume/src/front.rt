@@ -4,12 +4,12 @@ ghost use Rattle.std.specs.Prelude.{◌≡◌, ◌≤◌, ◌<◌, ◌⊎◌, On
 ghost use Rattle.jfs_disk.specs.Image.{page_of};
 ghost use Rattle.jfs_ranges.specs.View.{CarriesCount};
 ghost use Rattle.jfs_disk.specs.declared.disk.Part.TheVariants.{Low};
-ghost use Rattle.jfs_halves.specs.pages.specs.Kept.{image_in};
-ghost use Rattle.jfs_halves.specs.pages.specs.Whole.{whole_in};
+ghost use Rattle.jfs_pages.specs.Kept.{image_in};
+ghost use Rattle.jfs_pages.specs.Whole.{whole_in};
 ghost use Rattle.jfs_volume.specs.Lent.{lent, first_whole};
 
 use jfs_disk::{Disk, Page};
-use jfs_halves::pages::PageCache;
+use jfs_pages::PageCache;
 use jfs_ranges::{PageView, ViewError};
 
 /// The blocks of the file system part, which are the first ones of the low part, as a view over the cache that keeps the whole low part. It lends a copy of a page.

@@ -1,14 +1,14 @@
 //! Blocks that were reserved for a transaction that didn't join.
 
 ghost use Rattle.std.specs.Prelude.{◌≡◌, ℕ, true};
-ghost use Rattle.jfs_marks.specs.bmap.specs.States.{Free, Reserved, AreReserved, is_in_list, put_state, state_of};
+ghost use Rattle.jfs_bmap.specs.States.{Free, Reserved, AreReserved, is_in_list, put_state, state_of};
 ghost use Rattle.jfs_volume.specs.Append.{unreserved};
 ghost use Rattle.jfs_volume.specs.Runs.{taken_by, taken_in, runs_of};
 
 use crate::volume::Volume;
 use jfs_bits::{PageKind, Pxd};
+use jfs_bmap::BlockMap;
 use jfs_disk::Disk;
-use jfs_marks::bmap::BlockMap;
 use jfs_ranges::{Edit, Tx};
 
 /// How many bytes the four pages of an inode extent have, which are logged whole.

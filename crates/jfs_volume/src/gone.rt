@@ -2,7 +2,7 @@
 
 ghost use Rattle.std.specs.Prelude.{◌≡◌};
 ghost use Rattle.jfs_halves.specs.Marks.{frees, is_freeing};
-ghost use Rattle.jfs_marks.specs.records.specs.Marks.{has_block, mark_of};
+ghost use Rattle.jfs_records.specs.Marks.{has_block, mark_of};
 ghost use Rattle.jfs_volume.specs.Gone.{goes, gone_freed};
 
 use jfs_bits::Pxd;

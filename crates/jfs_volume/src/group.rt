@@ -2,8 +2,8 @@
 
 ghost use Rattle.std.specs.Prelude.{◌≡◌, ◌≤◌, ◌+◌, ◌∷◌, [], ℕ, false, Some, slice_get, length};
 ghost use Rattle.jfs_disk.specs.Image.{page_of};
-ghost use Rattle.jfs_marks.specs.bmap.specs.States.{blocks_settled};
-ghost use Rattle.jfs_halves.specs.pages.specs.Dirty.{dirty_of};
+ghost use Rattle.jfs_bmap.specs.States.{blocks_settled};
+ghost use Rattle.jfs_pages.specs.Dirty.{dirty_of};
 ghost use Rattle.jfs_halves.specs.declared.freed.FreedPage.{FreedPage as Freed};
 ghost use Rattle.jfs_halves.specs.Parts.{OfEachHalf};
 ghost use Rattle.jfs_halves.specs.Change.{Takes};
@@ -14,7 +14,7 @@ ghost use Rattle.jfs_volume.specs.Told.{IsTold, MayBeDropped, still_freed};
 
 use crate::volume::Volume;
 use jfs_disk::Disk;
-use jfs_halves::logpages::GroupText;
+use jfs_logpages::GroupText;
 
 impl<D: Disk> Volume<D> {
     /// The records that no group has taken, as the text of one group; its last entry is the last one of the history. It takes no memory.

@@ -1,8 +1,8 @@
 //! Pages that go home.
 
 ghost use Rattle.std.specs.Prelude.{◌≡◌, ◌==◌, ℕ, OnOk, None, if◌then◌else◌};
-ghost use Rattle.jfs_halves.specs.pages.specs.Device.{GoesHome as GoesHomeBy};
-ghost use Rattle.jfs_halves.specs.pages.specs.Dirty.{IsDirty, dirty_of, last_of};
+ghost use Rattle.jfs_pages.specs.Device.{GoesHome as GoesHomeBy};
+ghost use Rattle.jfs_pages.specs.Dirty.{IsDirty, dirty_of, last_of};
 ghost use Rattle.jfs_halves.specs.crash_core.specs.Step.{halted_by};
 ghost use Rattle.jfs_halves.specs.Parts.{OfEachHalf};
 ghost use Rattle.jfs_volume.specs.Home.{HomeIs};
@@ -10,7 +10,7 @@ ghost use Rattle.jfs_volume.specs.Settles.{HomesAlone, HomeHalts};
 
 use crate::volume::Volume;
 use jfs_disk::{Disk, Fault};
-use jfs_halves::pages::HomeError;
+use jfs_pages::HomeError;
 
 impl<D: Disk> Volume<D> {
     /// Writes a dirty page to its home. It takes no memory.

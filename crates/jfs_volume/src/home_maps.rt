@@ -1,11 +1,11 @@
 //! Pages of the maps that go home.
 
 ghost use Rattle.std.specs.Prelude.{◌≡◌, ◌<◌, ◌≤◌, ℕ, OnOk, None, length, slice_get, true};
-ghost use Rattle.jfs_marks.specs.bmap.specs.MapFile.{IsMapPage, is_in_use};
-ghost use Rattle.jfs_marks.specs.bmap.specs.States.{is_owned};
-ghost use Rattle.jfs_marks.specs.imap.specs.Inodes.{IsInodePage};
-ghost use Rattle.jfs_halves.specs.pages.specs.Device.{HasFault};
-ghost use Rattle.jfs_halves.specs.pages.specs.Dirty.{dirty_of};
+ghost use Rattle.jfs_bmap.specs.MapFile.{IsMapPage, is_in_use};
+ghost use Rattle.jfs_bmap.specs.States.{is_owned};
+ghost use Rattle.jfs_imap.specs.Inodes.{IsInodePage};
+ghost use Rattle.jfs_pages.specs.Device.{HasFault};
+ghost use Rattle.jfs_pages.specs.Dirty.{dirty_of};
 ghost use Rattle.jfs_halves.specs.Parts.{OfEachHalf};
 ghost use Rattle.jfs_volume.specs.MapsHome.{MapsHome, KeepsMemory, ShowsAfter, with_written, with_blocks_written, with_inodes_written};
 ghost use Rattle.jfs_volume.specs.Settles.{HaltsAt};

@@ -9,7 +9,7 @@ ghost use Rattle.jfs_volume.specs.declared.outcome.Outcome.TheVariants.{Replied,
 use crate::outcome::Outcome;
 use crate::volume::Volume;
 use jfs_disk::Disk;
-use jfs_marks::plain::{Entry, Reply, Request};
+use jfs_plain::{Entry, Reply, Request};
 use std::alloc::AllocError;
 
 impl<D: Disk> Volume<D> {

@@ -35,9 +35,3 @@ pub use joined::Joined;
 pub use outcome::Outcome;
 pub use volume::Volume;
 pub use waiting::WaitingText;
-
-// libraries below, passed on
-pub use jfs_halves as halves;
-pub use jfs_halves::{crash_core, logpages, map_files, pages};
-pub use jfs_marks as entry_marks;
-pub use jfs_marks::{bmap, data_steps, imap, kinds, meaning, objects, plain, records, way};

@@ -4,8 +4,8 @@ ghost use Rattle.std.specs.Prelude.{◌≡◌};
 ghost use Rattle.jfs_marks.specs.Marks.{FitsMarks, AreMarked, FitsExtent, FitsTaken, IsExtended, with_taken_if, with_freed_if};
 
 use jfs_bits::Pxd;
+use jfs_imap::InodeMap;
 use jfs_marks::InodeMarks;
-use jfs_marks::imap::InodeMap;
 
 /// An extent is added, where there is one.
 fn add(inodes: &mut InodeMap, extent: Option<Pxd>)

@@ -2,17 +2,17 @@
 
 ghost use Rattle.std.specs.Prelude.{◌≡◌, ◌<◌, ◌≤◌, ◌+◌, ℕ, true, length, vec_capacity, OnOk};
 ghost use Rattle.jfs_ranges.specs.Apply.{touches_tx};
-ghost use Rattle.jfs_halves.specs.pages.specs.Device.{HasReadFault, IsSame};
-ghost use Rattle.jfs_halves.specs.pages.specs.Dirty.{is_among};
-ghost use Rattle.jfs_halves.specs.pages.specs.Kept.{dirty_in, held_in, shown};
+ghost use Rattle.jfs_pages.specs.Device.{HasReadFault, IsSame};
+ghost use Rattle.jfs_pages.specs.Dirty.{is_among};
+ghost use Rattle.jfs_pages.specs.Kept.{dirty_in, held_in, shown};
 ghost use Rattle.jfs_volume.specs.Text.{text_in};
 
 use crate::draft::Draft;
 use crate::waiting::WaitingText;
 use jfs_disk::Disk;
 use jfs_halves::FreedPage;
-use jfs_halves::pages::PageCache;
-use jfs_marks::plain::Entry;
+use jfs_pages::PageCache;
+use jfs_plain::Entry;
 use jfs_ranges::{Tx, ViewError};
 use std::alloc::AllocError;
 

@@ -1,8 +1,8 @@
 //! All pages go home, and are synced.
 
 ghost use Rattle.std.specs.Prelude.{◌≡◌, ◌<◌, ◌≤◌, ◌+◌, ◌*◌, ◌^◌, ◌∷◌, [], ℕ, OnOk, None, ◌==◌, ◌&&◌};
-ghost use Rattle.jfs_halves.specs.pages.specs.Device.{HasFault};
-ghost use Rattle.jfs_halves.specs.pages.specs.Dirty.{dirty_of, IsDirty};
+ghost use Rattle.jfs_pages.specs.Device.{HasFault};
+ghost use Rattle.jfs_pages.specs.Dirty.{dirty_of, IsDirty};
 ghost use Rattle.jfs_halves.specs.Parts.{OfEachHalf};
 ghost use Rattle.jfs_halves.specs.Change.{Points, Takes, Knows, MayPoint};
 ghost use Rattle.jfs_halves.specs.Moves.{Moves};
@@ -11,7 +11,7 @@ ghost use Rattle.jfs_volume.specs.Settles.{HomesAlone, HaltsAt};
 
 use crate::volume::Volume;
 use jfs_disk::{Disk, Fault};
-use jfs_halves::pages::HomeError;
+use jfs_pages::HomeError;
 
 impl<D: Disk> Volume<D> {
     /// Writes each dirty page to its home, the lowest first. It takes no memory.

@@ -4,7 +4,7 @@ ghost use Rattle.std.specs.Prelude.{◌≡◌, ◌||◌, ◌==◌, not, length, 
 ghost use Rattle.jfs_volume.specs.Stale.{changes_blocks, changes_inodes, stale_after};
 
 use crate::draft::Draft;
-use jfs_halves::map_files::{MapFiles, Maps};
+use jfs_map_files::{MapFiles, Maps};
 use jfs_marks::InodeMarks;
 
 /// The files of the maps that an entry changes get stale: the block map's where it takes or frees a run, the inode map's where it has a mark.

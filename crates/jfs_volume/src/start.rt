@@ -1,19 +1,19 @@
 //! A volume as it is mounted.
 
 ghost use Rattle.std.specs.Prelude.{◌≡◌, ◌<◌, ◌≤◌, ◌+◌, ◌-◌, ◌*◌, ◌^◌, [], None, length};
-ghost use Rattle.jfs_marks.specs.bmap.specs.MapFile.{pages_of};
-ghost use Rattle.jfs_halves.specs.map_files.specs.Files.{AreFilesOf};
+ghost use Rattle.jfs_bmap.specs.MapFile.{pages_of};
+ghost use Rattle.jfs_map_files.specs.Files.{AreFilesOf};
 ghost use Rattle.jfs_volume.specs.Busy.{IsIdle};
 ghost use Rattle.jfs_disk.specs.Crash.{last_of};
 ghost use Rattle.jfs_disk.specs.Moment.{IsResting};
-ghost use Rattle.jfs_halves.specs.pages.specs.Kept.{dirty_in, image_in};
+ghost use Rattle.jfs_pages.specs.Kept.{dirty_in, image_in};
 ghost use Rattle.jfs_volume.specs.Start.{StandsFresh};
 
 use crate::volume::Volume;
 use crate::waiting::WaitingText;
 use jfs_disk::Disk;
-use jfs_halves::map_files::{MapFiles, Maps};
-use jfs_halves::pages::PageCache;
+use jfs_map_files::{MapFiles, Maps};
+use jfs_pages::PageCache;
 use std::alloc::Global;
 
 impl<D: Disk> Volume<D> {

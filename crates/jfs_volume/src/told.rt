@@ -2,8 +2,8 @@
 
 ghost use Rattle.std.specs.Prelude.{◌≡◌, ◌≤◌, ◌==◌, ◌∷◌, [], ℕ, false, if◌then◌else◌, Some, None, slice_get, length};
 ghost use Rattle.jfs_disk.specs.Image.{page_of};
-ghost use Rattle.jfs_marks.specs.bmap.specs.States.{blocks_settled};
-ghost use Rattle.jfs_halves.specs.pages.specs.Dirty.{dirty_of};
+ghost use Rattle.jfs_bmap.specs.States.{blocks_settled};
+ghost use Rattle.jfs_pages.specs.Dirty.{dirty_of};
 ghost use Rattle.jfs_halves.specs.declared.freed.FreedPage.{FreedPage as Freed};
 ghost use Rattle.jfs_halves.specs.Parts.{OfEachHalf, IsFreed};
 ghost use Rattle.jfs_halves.specs.Change.{Drops};

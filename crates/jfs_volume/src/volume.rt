@@ -3,9 +3,9 @@
 use crate::waiting::WaitingText;
 use jfs_disk::{Disk, Fault};
 use jfs_halves::FreedPage;
-use jfs_halves::map_files::{MapFiles, Maps};
-use jfs_halves::pages::PageCache;
-use jfs_marks::plain::Entry;
+use jfs_map_files::{MapFiles, Maps};
+use jfs_pages::PageCache;
+use jfs_plain::Entry;
 use std::alloc::Global;
 use std::marker::Model;
 
@@ -32,11 +32,11 @@ pub struct Volume<D: Disk> {
 
 impl<D: Disk> Model for Volume<D> {
     ghost use Rattle.std.specs.Prelude.{◌≡◌, ◌≤◌, ℕ, [], length};
-    ghost use Rattle.jfs_halves.specs.pages.specs.Dirty.{dirty_of, last_of};
-    ghost use Rattle.jfs_halves.specs.pages.specs.Kept.{dirty_in, image_in};
+    ghost use Rattle.jfs_pages.specs.Dirty.{dirty_of, last_of};
+    ghost use Rattle.jfs_pages.specs.Kept.{dirty_in, image_in};
     ghost use Rattle.jfs_halves.specs.Parts.{Parts};
-    ghost use Rattle.jfs_marks.specs.bmap.specs.MapFile.{pages_of};
-    ghost use Rattle.jfs_halves.specs.map_files.specs.Files.{AreFilesOf};
+    ghost use Rattle.jfs_bmap.specs.MapFile.{pages_of};
+    ghost use Rattle.jfs_map_files.specs.Files.{AreFilesOf};
     ghost use Rattle.jfs_volume.specs.Busy.{BusyBetween};
     ghost use Rattle.jfs_volume.specs.Text.{text_in};
 

@@ -1,11 +1,11 @@
 //! The text that no group has taken, and its room in the log.
 
 ghost use Rattle.std.specs.Prelude.{◌≡◌, true, ◌<◌, ◌≤◌, ◌+◌, ◌-◌, ◌*◌, ◌/◌, ◌^◌, ◌++◌, [], length, vec_capacity, OnOk};
-ghost use Rattle.jfs_halves.specs.logpages.specs.Group.{pages_of, room_of};
-ghost use Rattle.jfs_halves.specs.logpages.specs.Ring.{ends_with};
+ghost use Rattle.jfs_logpages.specs.Group.{pages_of, room_of};
+ghost use Rattle.jfs_logpages.specs.Ring.{ends_with};
 ghost use Rattle.jfs_volume.specs.Room.{fits_room, IsWithinRoom};
 
-use jfs_halves::logpages::GroupText;
+use jfs_logpages::GroupText;
 use std::alloc::{AllocError, Global};
 use std::mem;
 

@@ -1,9 +1,9 @@
 //! Blocks that are written past the log.
 
 ghost use Rattle.std.specs.Prelude.{◌≡◌, ◌<◌, OnOk, None, false};
-ghost use Rattle.jfs_marks.specs.bmap.specs.States.{state_of, is_busy_state};
-ghost use Rattle.jfs_halves.specs.pages.specs.Device.{HasFault};
-ghost use Rattle.jfs_halves.specs.pages.specs.Dirty.{dirty_of};
+ghost use Rattle.jfs_bmap.specs.States.{state_of, is_busy_state};
+ghost use Rattle.jfs_pages.specs.Device.{HasFault};
+ghost use Rattle.jfs_pages.specs.Dirty.{dirty_of};
 ghost use Rattle.jfs_halves.specs.Parts.{OfEachHalf};
 ghost use Rattle.jfs_volume.specs.Settles.{HaltsAt};
 ghost use Rattle.jfs_volume.specs.Written.{WriteIs, IsWrittenOf};

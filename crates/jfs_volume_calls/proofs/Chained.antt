@@ -5,9 +5,9 @@ use Rattle.std.proofs.lemmas.List.{append-nil, length-append}
 use Rattle.jfs_disk.specs.Crash.{DiskState}
 use Rattle.jfs_disk.specs.declared.disk.Fault.{Fault}
 use Rattle.jfs_logfmt.specs.declared.log_record.Record.TheVariants.{SyncPt}
-use Rattle.jfs_volume.specs.logpages.specs.declared.fault.LogFault.{LogFault}
-use Rattle.jfs_volume.specs.logpages.specs.Group.{position_of}
-use Rattle.jfs_volume.specs.logpages.specs.Records.{log_text}
+use Rattle.jfs_logpages.specs.declared.fault.LogFault.{LogFault}
+use Rattle.jfs_logpages.specs.Group.{position_of}
+use Rattle.jfs_logpages.specs.Records.{log_text}
 use Rattle.jfs_volume.specs.records.specs.Entries.{Item, entry, point, log_records, text_size}
 use Rattle.jfs_volume.specs.records.proofs.ReadBack.{length-items, text_size-append}
 use Rattle.jfs_volume.specs.halves.specs.Half.{VolumeHalf, Halves, is_open, told_upto, all_synced}

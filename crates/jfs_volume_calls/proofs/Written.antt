@@ -8,9 +8,9 @@ use Rattle.jfs_disk.specs.Crash.{last_of}
 use Rattle.jfs_disk.specs.Moment.{IsResting}
 use Rattle.jfs_disk.specs.declared.disk.Fault.{Fault}
 use Rattle.jfs_logfmt.specs.Written.{text_of}
-use Rattle.jfs_volume.specs.logpages.specs.declared.last.Last.{Last}
-use Rattle.jfs_volume.specs.logpages.specs.Group.{Holds, position_of}
-use Rattle.jfs_volume.specs.logpages.specs.Records.{log_text}
+use Rattle.jfs_logpages.specs.declared.last.Last.{Last}
+use Rattle.jfs_logpages.specs.Group.{Holds, position_of}
+use Rattle.jfs_logpages.specs.Records.{log_text}
 use Rattle.jfs_volume.specs.records.specs.Entries.{log_records, text_size}
 use Rattle.jfs_volume.specs.records.proofs.ReadBack.{length-items, text_size-append, records-append}
 use Rattle.jfs_volume.specs.crash_core.specs.Step.{halted_by}

@@ -2,7 +2,7 @@
 use Rattle.std.specs.Prelude.{◌≡◌, ◌⊎◌, ◌++◌, ◌∷◌, [], ℕ, Bool, List, map, length, Result, Ok, Err}
 use Rattle.jfs_bits.specs.Count.{Rose}
 use Rattle.jfs_disk.specs.declared.disk.Part.TheVariants.{High}
-use Rattle.jfs_volume.specs.logpages.specs.declared.fault.LogFault.{LogFault}
+use Rattle.jfs_logpages.specs.declared.fault.LogFault.{LogFault}
 use Rattle.jfs_volume.specs.halves.specs.Half.{Halves}
 use Rattle.jfs_volume.specs.halves.specs.Parts.{Parts}
 use Rattle.jfs_volume.specs.halves.specs.Log.{LogParts}

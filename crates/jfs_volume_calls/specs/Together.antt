@@ -1,8 +1,8 @@
 -- A volume and its log, as calls see both.
 use Rattle.std.specs.Prelude.{◌≡◌, Bool, [], length, None}
 use Rattle.jfs_disk.specs.declared.disk.Disk.{Ghosts}
-use Rattle.jfs_volume.specs.logpages.specs.declared.log_side.LogSide.{LogSide}
-use Rattle.jfs_volume.specs.logpages.specs.Group.{position_of}
+use Rattle.jfs_logpages.specs.declared.log_side.LogSide.{LogSide}
+use Rattle.jfs_logpages.specs.Group.{position_of}
 use Rattle.jfs_volume.specs.halves.specs.Half.{Halves}
 use Rattle.jfs_volume.specs.halves.specs.Parts.{Parts, StandsFor, Asked}
 use Rattle.jfs_volume.specs.halves.specs.Log.{LogParts, LogStandsFor}

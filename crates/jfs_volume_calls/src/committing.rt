@@ -6,8 +6,8 @@ ghost use Rattle.jfs_volume_calls.specs.Together.{AreTogether, OfBothHalves, log
 ghost use Rattle.jfs_volume_calls.specs.Commit.{CommitIs, GroupIs, WriteIs, HasLogFault};
 
 use jfs_disk::Disk;
+use jfs_logpages::{LogFault, LogSide};
 use jfs_volume::Volume;
-use jfs_volume::logpages::{LogFault, LogSide};
 
 /// Makes all entries so far durable, and acknowledges them: what no group has taken is written to the log as one group, and synced. Where there is nothing of that, no device call is made. It takes no memory.
 ///

@@ -4,8 +4,8 @@ ghost use Rattle.std.specs.Prelude.{◌≡◌, ◌≤◌, ◌+◌, ◌-◌, ◌+
 ghost use Rattle.jfs_disk.specs.Crash.{last_of};
 
 use jfs_disk::Disk;
+use jfs_logpages::LogSide;
 use jfs_volume::Volume;
-use jfs_volume::logpages::LogSide;
 
 /// Hands back the disk in one piece, as it is, without a device call: what is dirty is lost, and the superblock goes on saying that the volume is mounted. It takes no memory.
 pub fn leave<D: Disk>(volume: Volume<D>, log: LogSide<D>) -> D

@@ -10,6 +10,3 @@ pub use committing::commit;
 pub use leaving::leave;
 pub use point::PointText;
 pub use syncing::syncpoint;
-
-// libraries below, passed on
-pub use jfs_volume as volume;

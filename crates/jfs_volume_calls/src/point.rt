@@ -2,10 +2,10 @@
 
 ghost use Rattle.std.specs.Prelude.{◌≡◌, ◌∷◌, [], IfOk};
 ghost use Rattle.jfs_logfmt.specs.declared.log_record.Record.TheVariants.{SyncPt};
-ghost use Rattle.jfs_volume.specs.logpages.specs.Records.{log_text};
+ghost use Rattle.jfs_logpages.specs.Records.{log_text};
 
 use jfs_logfmt::Record;
-use jfs_volume::logpages::GroupText;
+use jfs_logpages::GroupText;
 use std::alloc::{AllocError, Global};
 
 /// The text of one SYNCPT, which gives its own address. It is made once, so that a syncpoint takes no memory.

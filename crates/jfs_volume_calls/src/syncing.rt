@@ -9,8 +9,8 @@ ghost use Rattle.jfs_volume_calls.specs.Syncpoint.{SyncpointIs, PointIs, HasFaul
 use crate::committing::commit;
 use crate::point::PointText;
 use jfs_disk::{Disk, Fault};
+use jfs_logpages::LogSide;
 use jfs_volume::Volume;
-use jfs_volume::logpages::LogSide;
 
 /// Makes all entries so far durable, writes every dirty page and the pages of each map that has changed to their homes, syncs these, and then logs a SYNCPT: redo needs nothing before it. It takes no memory.
 ///

@@ -3,9 +3,9 @@ use Rattle.std.proofs.Common.{◌≡◌, ◌<◌, ◌≤◌, ◌⊎◌, ◌∙�
 use Rattle.std.proofs.lemmas.Bool.{cases_lt}
 use Rattle.std.proofs.lemmas.List.{get_or_past}
 use Rattle.jfs_bits.specs.Bits.{is_taken}
-use Rattle.jfs_volume.specs.bmap.specs.Set.{each_below}
-use Rattle.jfs_volume.specs.bmap.specs.States.{Blocks, BlockState, Free, Owned, state_of, fresh, is_in_list, AreApart, AreReserved}
-use Rattle.jfs_volume.specs.bmap.proofs.Views.{length-each_below, each_below-at}
+use Rattle.jfs_bmap.specs.Set.{each_below}
+use Rattle.jfs_bmap.specs.States.{Blocks, BlockState, Free, Owned, state_of, fresh, is_in_list, AreApart, AreReserved}
+use Rattle.jfs_bmap.proofs.Views.{length-each_below, each_below-at}
 use Rattle.jfs_volume.specs.Busy.{IsIdle}
 
 pub fresh_length : (set : List ℕ) (blocks agsize : ℕ) → length (fresh set blocks agsize).states ≡ blocks

@@ -2,12 +2,12 @@
 
 use crate::volume::{faulty, formatted, join, mount_on};
 use jfs_bits::{Pxd, get_u32};
+use jfs_data_steps::{DataList, DataPage};
 use jfs_disk::{Disk, Fault, Kind, Page, Part};
+use jfs_marks::InodeMarks;
+use jfs_plain::{Call, Entry, Reply};
 use jfs_ranges::{Edit, Tx};
-use jfs_volume::data_steps::{DataList, DataPage};
-use jfs_volume::entry_marks::InodeMarks;
-use jfs_volume::plain::{Call, Entry, Reply};
-use jfs_volume::records::Notes;
+use jfs_records::Notes;
 use jfs_volume::{Called, Joined, Outcome, Volume};
 use std::alloc::Global;
 use std::test::*;

@@ -1,22 +1,22 @@
 //! A volume in memory, formatted and mounted: its file system part has 3,008 blocks, of which 0 to 32 are in use, and its inode extent stands on pages 29 to 32.
 
 ghost use Rattle.std.specs.Prelude.{◌≡◌, ◌≤◌, ◌+◌, length, IfSome};
-ghost use Rattle.jfs_volume.specs.map_files.specs.Places.{AreWithin};
-ghost use Rattle.jfs_volume.specs.map_files.specs.Files.{AreFilesOf};
+ghost use Rattle.jfs_map_files.specs.Places.{AreWithin};
+ghost use Rattle.jfs_map_files.specs.Files.{AreFilesOf};
 ghost use Rattle.jfs_volume.specs.Busy.{IsIdle};
 
 use jfs_bits::{Moment, put_u32, set_run};
+use jfs_bmap::BlockMap;
 use jfs_disk::{Disk, Fail, Kind, MemDisk, Page, Part, SureDisk};
 use jfs_format::format;
+use jfs_imap::InodeMap;
 use jfs_inode_rows::places_of;
+use jfs_map_files::{MapFile, MapFiles, Maps};
 use jfs_mount_disk::{Begun, NotBegun, begin};
 use jfs_name::Path;
+use jfs_pages::PageCache;
+use jfs_plain::{Call, Refusal, Reply, Request};
 use jfs_super::{Super, read_super};
-use jfs_volume::bmap::BlockMap;
-use jfs_volume::imap::InodeMap;
-use jfs_volume::map_files::{MapFile, MapFiles, Maps};
-use jfs_volume::pages::PageCache;
-use jfs_volume::plain::{Call, Refusal, Reply, Request};
 use jfs_volume::{Outcome, Volume};
 use std::alloc::Global;
 use uuid::Uuid;

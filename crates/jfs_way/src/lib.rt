@@ -7,10 +7,3 @@ mod path;
 
 pub use object::{Held, load};
 pub use path::{enter, walk};
-
-// libraries below, passed on
-pub use jfs_bmap as bmap;
-pub use jfs_bmap::dmap;
-pub use jfs_imap as imap;
-pub use jfs_reader as reader;
-pub use jfs_reader::{dtree, meaning, objects, page_tree, plain, xtree};

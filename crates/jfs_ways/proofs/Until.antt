@@ -6,14 +6,14 @@ use Rattle.std.proofs.lemmas.Bool.{le-leb, lt-leb, leb-true, leb-false}
 use Rattle.std.proofs.lemmas.Bool.Decides.{nat_tests}
 use Rattle.jfs_bits.specs.declared.rule.Rule.{Rule}
 use Rattle.jfs_bits.specs.declared.extent.Xad.{Xad}
-use Rattle.jfs_xtree.specs.page_tree.specs.Walk.{Child, Node, Leaf, Inner, Broken}
-use Rattle.jfs_xtree.specs.page_tree.specs.Walking.{children_in}
-use Rattle.jfs_xtree.specs.page_tree.specs.Edit.{KeysAbove, KeysRise, IsPast}
-use Rattle.jfs_xtree.specs.page_tree.specs.Form.{LeadsDown, HasRisingKeys, TellsLast, as_child}
-use Rattle.jfs_xtree.specs.page_tree.specs.Path.{below_root, way_of}
-use Rattle.jfs_xtree.specs.page_tree.specs.declared.form.Sibling.{Sibling}
-use Rattle.jfs_xtree.specs.page_tree.specs.declared.form.Way.TheVariants.{Down}
-use Rattle.jfs_xtree.specs.page_tree.proofs.Path.{AllPast, leads_alone}
+use Rattle.jfs_tree.specs.Walk.{Child, Node, Leaf, Inner, Broken}
+use Rattle.jfs_tree.specs.Walking.{children_in}
+use Rattle.jfs_tree.specs.Edit.{KeysAbove, KeysRise, IsPast}
+use Rattle.jfs_tree.specs.Form.{LeadsDown, HasRisingKeys, TellsLast, as_child}
+use Rattle.jfs_tree.specs.Path.{below_root, way_of}
+use Rattle.jfs_tree.specs.declared.form.Sibling.{Sibling}
+use Rattle.jfs_tree.specs.declared.form.Way.TheVariants.{Down}
+use Rattle.jfs_tree.proofs.Path.{AllPast, leads_alone}
 use Rattle.jfs_xtpage.specs.declared.head.XtForm.{XtForm}
 use Rattle.jfs_xtpage.specs.declared.head.XtForm.TheVariants.{Root, Full, Small}
 use Rattle.jfs_xtpage.specs.Page.{head_of, entries_of, count_of, slots_of}

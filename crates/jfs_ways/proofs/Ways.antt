@@ -4,15 +4,15 @@ use Rattle.jfs_bits.specs.declared.rule.Rule.{Rule}
 use Rattle.jfs_bits.specs.declared.rule.Rule.TheVariants as rules
 use Rattle.jfs_bits.specs.declared.extent.Xad.{Xad}
 use Rattle.jfs_disk.specs.Image.{Image, page_of}
-use Rattle.jfs_xtree.specs.page_tree.specs.Walk.{Node, Leaf, Inner, Broken}
-use Rattle.jfs_xtree.specs.page_tree.specs.Spells.{no_page}
-use Rattle.jfs_xtree.specs.page_tree.specs.Call.{Breaks, BreaksWhereBad}
-use Rattle.jfs_xtree.specs.page_tree.specs.Path.{way_of, broken_at, below_root, broken_below, broken_on_way, TellsBroken}
-use Rattle.jfs_xtree.specs.page_tree.specs.Root.{NamesBroken}
-use Rattle.jfs_xtree.specs.page_tree.specs.declared.form.TreeError.{TreeError}
-use Rattle.jfs_xtree.specs.page_tree.specs.declared.form.TreeError.TheVariants.{View, Bad, Memory}
-use Rattle.jfs_xtree.specs.page_tree.proofs.Path.{leads_on, reads, root_breaks}
-use Rattle.jfs_xtree.specs.page_tree.proofs.RootCalls.{names_root, names_below}
+use Rattle.jfs_tree.specs.Walk.{Node, Leaf, Inner, Broken}
+use Rattle.jfs_tree.specs.Spells.{no_page}
+use Rattle.jfs_tree.specs.Call.{Breaks, BreaksWhereBad}
+use Rattle.jfs_tree.specs.Path.{way_of, broken_at, below_root, broken_below, broken_on_way, TellsBroken}
+use Rattle.jfs_tree.specs.Root.{NamesBroken}
+use Rattle.jfs_tree.specs.declared.form.TreeError.{TreeError}
+use Rattle.jfs_tree.specs.declared.form.TreeError.TheVariants.{View, Bad, Memory}
+use Rattle.jfs_tree.proofs.Path.{leads_on, reads, root_breaks}
+use Rattle.jfs_tree.proofs.RootCalls.{names_root, names_below}
 use Rattle.jfs_xtree.specs.Laws.{order}
 use Rattle.jfs_xtpage.specs.declared.head.XtForm.{XtForm}
 use Rattle.jfs_xtpage.specs.declared.head.XtForm.TheVariants.{Full}

@@ -2,11 +2,11 @@
 use Rattle.std.specs.Prelude.{◌≡◌, ◌<◌, ◌≤◌, ℕ, List, Option, Some, None, Result, Ok, Err}
 use Rattle.jfs_bits.specs.declared.rule.Rule.{Rule}
 use Rattle.jfs_bits.specs.declared.extent.Xad.{Xad}
-use Rattle.jfs_xtree.specs.page_tree.specs.Walk.{Node, Leaf, Broken}
-use Rattle.jfs_xtree.specs.page_tree.specs.Form.{LeadsDown}
-use Rattle.jfs_xtree.specs.page_tree.specs.Path.{way_of}
-use Rattle.jfs_xtree.specs.page_tree.specs.declared.form.TreeError.{TreeError}
-use Rattle.jfs_xtree.specs.page_tree.specs.declared.form.TreeError.TheVariants.{View, Bad, Memory}
+use Rattle.jfs_tree.specs.Walk.{Node, Leaf, Broken}
+use Rattle.jfs_tree.specs.Form.{LeadsDown}
+use Rattle.jfs_tree.specs.Path.{way_of}
+use Rattle.jfs_tree.specs.declared.form.TreeError.{TreeError}
+use Rattle.jfs_tree.specs.declared.form.TreeError.TheVariants.{View, Bad, Memory}
 use Rattle.jfs_xtree.specs.Node.{xt_scale}
 use Rattle.jfs_ways.specs.declared.leading.Led.{Led}
 

@@ -2,9 +2,9 @@
 
 ghost use Rattle.std.specs.Prelude.{◌≡◌, ◌<◌, ◌≤◌, ◌-◌, ℕ, length, IfOk, IfErr};
 ghost use Rattle.jfs_disk.specs.Image.{page_of};
-ghost use Rattle.jfs_xtree.specs.page_tree.specs.Call.{CarriesFault};
-ghost use Rattle.jfs_xtree.specs.page_tree.specs.Path.{broken_on_way, TellsBroken};
-ghost use Rattle.jfs_xtree.specs.page_tree.specs.Root.{NamesBroken};
+ghost use Rattle.jfs_tree.specs.Call.{CarriesFault};
+ghost use Rattle.jfs_tree.specs.Path.{broken_on_way, TellsBroken};
+ghost use Rattle.jfs_tree.specs.Root.{NamesBroken};
 ghost use Rattle.jfs_xtpage.specs.Page.{bytes_of};
 ghost use Rattle.jfs_xtpage.specs.declared.head.XtForm.TheVariants.{Full};
 ghost use Rattle.jfs_xtree.specs.Node.{xt_scale, xt_node};
@@ -15,8 +15,8 @@ ghost use Rattle.jfs_ways.specs.Leading.{TellsUntil};
 use crate::below::look_below;
 use crate::leading::lead;
 use jfs_ranges::PageView;
+use jfs_tree::{NO_PAGE, TreeError};
 use jfs_xtpage::XtForm;
-use jfs_xtree::page_tree::{NO_PAGE, TreeError};
 use jfs_xtree::{XtError, XtPages, handed_on, root_form};
 
 /// Looks at the pages on the ways of a file's blocks, from block `first` on and before block `end`, and names the first one that breaks a rule: on the first way that has such a

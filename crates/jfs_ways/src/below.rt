@@ -2,8 +2,8 @@
 
 ghost use Rattle.std.specs.Prelude.{◌≡◌, ◌<◌, ◌≤◌, ℕ, IfOk, IfErr};
 ghost use Rattle.jfs_disk.specs.Image.{page_of};
-ghost use Rattle.jfs_xtree.specs.page_tree.specs.Call.{BreaksWhereBad, CarriesFault};
-ghost use Rattle.jfs_xtree.specs.page_tree.specs.Path.{broken_below};
+ghost use Rattle.jfs_tree.specs.Call.{BreaksWhereBad, CarriesFault};
+ghost use Rattle.jfs_tree.specs.Path.{broken_below};
 ghost use Rattle.jfs_xtpage.specs.declared.head.XtForm.TheVariants.{Full};
 ghost use Rattle.jfs_xtree.specs.Node.{xt_scale};
 ghost use Rattle.jfs_xtree.specs.Spells.{page_nodes};
@@ -12,8 +12,8 @@ ghost use Rattle.jfs_ways.specs.Leading.{TellsUntil};
 use crate::leading::lead_below;
 use jfs_bits::Rule;
 use jfs_ranges::PageView;
+use jfs_tree::TreeError;
 use jfs_xtree::XtPages;
-use jfs_xtree::page_tree::TreeError;
 
 /// Looks at the pages on the way of block `at` of the file from a page on, at most so many levels deep, and names the first one that breaks a rule. Answers the block, `end`
 /// at most, before which all blocks from this one on have the same way.

@@ -1,14 +1,14 @@
 //! Where a page leads blocks of a file.
 
 ghost use Rattle.std.specs.Prelude.{◌≡◌, ◌<◌, IfOk, length};
-ghost use Rattle.jfs_xtree.specs.page_tree.specs.Path.{below_root};
+ghost use Rattle.jfs_tree.specs.Path.{below_root};
 ghost use Rattle.jfs_xtpage.specs.Page.{bytes_of};
 ghost use Rattle.jfs_xtree.specs.Node.{xt_node};
 ghost use Rattle.jfs_ways.specs.Leading.{LeadsOn, StaysWithin};
 
 use jfs_bits::{Pxd, Rule, Xad};
+use jfs_tree::{PageForm, PageRead, Way};
 use jfs_xtree::XtPages;
-use jfs_xtree::page_tree::{PageForm, PageRead, Way};
 
 /// The page to which a page leads a block of the file and those behind it, before block `next`.
 #[derive(Drop)]

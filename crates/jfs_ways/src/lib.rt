@@ -6,5 +6,3 @@ mod below;
 mod leading;
 
 pub use along::look_along;
-
-// libraries below, passed on

@@ -6,39 +6,39 @@ use Rattle.jfs_super.specs.Geometry.{file_limit_of}
 use Rattle.jfs_bits.specs.declared.descriptor.Moment.{Moment}
 use Rattle.jfs_bits.specs.declared.extent.Xad.{Xad}
 use Rattle.jfs_bits.specs.declared.rule.Rule.{Rule}
-use Rattle.jfs_link.specs.imap.specs.Inodes.{Inodes}
-use Rattle.jfs_link.specs.bmap.specs.States.{Blocks, unowned_count}
-use Rattle.jfs_link.specs.page_tree.specs.Fresh.{blocks_of}
-use Rattle.jfs_link.specs.page_tree.specs.Spells.{no_page}
-use Rattle.jfs_link.specs.xtree.specs.Spells.{spells_extents, tree_error}
-use Rattle.jfs_link.specs.xtree.specs.declared.error.XtError.{XtError}
-use Rattle.jfs_link.specs.xtree.specs.declared.error.XtError.TheVariants.{View, Bad}
+use Rattle.jfs_imap.specs.Inodes.{Inodes}
+use Rattle.jfs_bmap.specs.States.{Blocks, unowned_count}
+use Rattle.jfs_tree.specs.Fresh.{blocks_of}
+use Rattle.jfs_tree.specs.Spells.{no_page}
+use Rattle.jfs_xtree.specs.Spells.{spells_extents, tree_error}
+use Rattle.jfs_xtree.specs.declared.error.XtError.{XtError}
+use Rattle.jfs_xtree.specs.declared.error.XtError.TheVariants.{View, Bad}
 use Rattle.jfs_ranges.specs.declared.view.ViewError.{ViewError}
 use Rattle.jfs_ranges.specs.declared.view.ViewError.TheVariants as view
 use Rattle.jfs_put_range.specs.Call.{RefusesOnlyDeep}
-use Rattle.jfs_link.specs.plain.specs.Tree.{Tree, Found, walk, root, and_then, found}
-use Rattle.jfs_link.specs.plain.specs.Step.{Room, Outcome, is_short, need_of_bytes, if_file, size_after, within_limit, refuse, file, write}
-use Rattle.jfs_link.specs.plain.specs.Moves.{changed, sized, filled}
-use Rattle.jfs_link.specs.plain.specs.CallStep.{LeavesRest, writes_over_in}
-use Rattle.jfs_link.specs.plain.specs.declared.call.Call.TheVariants as calls
-use Rattle.jfs_link.specs.plain.specs.declared.refusal.Refusal.{Refusal}
-use Rattle.jfs_link.specs.plain.specs.declared.refusal.Refusal.TheVariants.{Damaged, NoSpace}
-use Rattle.jfs_link.specs.plain.specs.declared.reply.Reply.TheVariants.{Done}
+use Rattle.jfs_plain.specs.Tree.{Tree, Found, walk, root, and_then, found}
+use Rattle.jfs_plain.specs.Step.{Room, Outcome, is_short, need_of_bytes, if_file, size_after, within_limit, refuse, file, write}
+use Rattle.jfs_plain.specs.Moves.{changed, sized, filled}
+use Rattle.jfs_plain.specs.CallStep.{LeavesRest, writes_over_in}
+use Rattle.jfs_plain.specs.declared.call.Call.TheVariants as calls
+use Rattle.jfs_plain.specs.declared.refusal.Refusal.{Refusal}
+use Rattle.jfs_plain.specs.declared.refusal.Refusal.TheVariants.{Damaged, NoSpace}
+use Rattle.jfs_plain.specs.declared.reply.Reply.TheVariants.{Done}
 use Rattle.jfs_link.specs.meaning.specs.Consistent.{IsConsistent}
 use Rattle.jfs_link.specs.meaning.specs.Readers.{readers, root_of}
 use Rattle.jfs_link.specs.meaning.specs.Room.{room_on}
 use Rattle.jfs_link.specs.meaning.specs.Tree.{tree_on}
 use Rattle.jfs_link.specs.room.specs.Laws.{blocks_in}
-use Rattle.jfs_link.specs.claim.specs.Look.{space_for, TellsSpace}
-use Rattle.jfs_link.specs.claim.proofs.Looks.{space_told}
-use Rattle.jfs_link.specs.way.specs.Answer.{is_open, at_root, Follows}
-use Rattle.jfs_link.specs.way.specs.Volume.{volume_of, PlacesWithin}
-use Rattle.jfs_link.specs.way.specs.Walk.{IsHeld, IsShown, IsThere, IsOf, IfConsistent, tree_in}
-use Rattle.jfs_link.specs.way.specs.Way.{path_of}
-use Rattle.jfs_link.specs.way.specs.declared.object.Held.{Held}
+use Rattle.jfs_claim.specs.Look.{space_for, TellsSpace}
+use Rattle.jfs_claim.proofs.Looks.{space_told}
+use Rattle.jfs_way.specs.Answer.{is_open, at_root, Follows}
+use Rattle.jfs_way.specs.Volume.{volume_of, PlacesWithin}
+use Rattle.jfs_way.specs.Walk.{IsHeld, IsShown, IsThere, IsOf, IfConsistent, tree_in}
+use Rattle.jfs_way.specs.Way.{path_of}
+use Rattle.jfs_way.specs.declared.object.Held.{Held}
 use Rattle.jfs_read.specs.Read.{extents_refusal}
-use Rattle.jfs_write_pages.specs.data_steps.specs.After.{AreWholePages, with_data}
-use Rattle.jfs_write_pages.specs.data_steps.proofs.Held as held_file
+use Rattle.jfs_data_steps.specs.After.{AreWholePages, with_data}
+use Rattle.jfs_data_steps.proofs.Held as held_file
 use Rattle.jfs_write_pages.specs.Spots.{placed, extents_for}
 use Rattle.jfs_write.specs.Look.{why_kept, or_damage, spelled_at, FitsBytes, spots_at}
 use Rattle.jfs_write.specs.Call.{LacksPlace, WritesAt, StoppedAt, InRoom, IsDeep, StepsInRoom, StartsWrite, StartsFill}

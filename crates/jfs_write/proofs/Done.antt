@@ -6,9 +6,9 @@ use Rattle.jfs_bits.specs.declared.descriptor.Moment.{Moment}
 use Rattle.jfs_bits.specs.declared.descriptor.Pxd.{Pxd}
 use Rattle.jfs_bits.specs.declared.extent.Xad.{Xad}
 use Rattle.jfs_inode.specs.declared.fields.Dinode.{Dinode}
-use Rattle.jfs_link.specs.imap.specs.Inodes.{Inodes}
-use Rattle.jfs_link.specs.bmap.specs.States.{Blocks}
-use Rattle.jfs_link.specs.xtree.specs.Spells.{spells_extents}
+use Rattle.jfs_imap.specs.Inodes.{Inodes}
+use Rattle.jfs_bmap.specs.States.{Blocks}
+use Rattle.jfs_xtree.specs.Spells.{spells_extents}
 use Rattle.jfs_link.specs.objects.specs.Readers.{Readers}
 use Rattle.jfs_link.specs.objects.specs.Volume.{Volume}
 use Rattle.jfs_link.specs.objects.specs.Objects.{Object, objects, spelled, has_names, listed}
@@ -19,26 +19,26 @@ use Rattle.jfs_link.specs.meaning.specs.Contents.{byte_of, byte_in, is_regular}
 use Rattle.jfs_link.specs.meaning.specs.Readers.{readers, root_of}
 use Rattle.jfs_link.specs.meaning.specs.Tree.{tree_on}
 use Rattle.jfs_link.specs.meaning.specs.Consistent.{IsConsistent}
-use Rattle.jfs_link.specs.plain.specs.Tree.{Tree, Found, found_at, walk, root, and_then}
-use Rattle.jfs_link.specs.plain.specs.CallStep.{writes_over_in}
-use Rattle.jfs_link.specs.plain.specs.declared.call.Call.TheVariants as calls
-use Rattle.jfs_link.specs.plain.specs.Moves.{Same, sized, changed, filled, byte_after}
-use Rattle.jfs_link.specs.plain.specs.Step.{Room, Outcome, refuse, is_short, need_of_bytes, size_after, within_limit, file, write}
-use Rattle.jfs_link.specs.plain.specs.declared.node.Node.{Node}
-use Rattle.jfs_link.specs.plain.specs.declared.refusal.Refusal.{Refusal}
-use Rattle.jfs_link.specs.plain.specs.declared.refusal.Refusal.TheVariants.{IsDir, NotFile, FileTooBig, NoSpace}
-use Rattle.jfs_link.specs.plain.specs.declared.reply.Reply.TheVariants.{Done}
-use Rattle.jfs_link.specs.way.specs.Volume.{volume_of}
-use Rattle.jfs_link.specs.way.specs.Walk.{IsHeld, IsShown, IsThere, tree_in}
-use Rattle.jfs_link.specs.way.specs.declared.object.Held.{Held}
-use Rattle.jfs_link.specs.steps.specs.Call.{IsDone}
-use Rattle.jfs_write_pages.specs.data_steps.specs.declared.pages.DataPage.{DataPage}
-use Rattle.jfs_write_pages.specs.data_steps.specs.After.{AreWholePages, put_data, with_data, after_writes}
-use Rattle.jfs_write_pages.specs.data_steps.specs.Laws.{IsFilePut}
-use Rattle.jfs_write_pages.specs.data_steps.specs.File.{bytes_held, refilled}
-use Rattle.jfs_write_pages.specs.data_steps.proofs.Extents.{file_type}
-use Rattle.jfs_write_pages.specs.data_steps.proofs.Files.{file_bytes, file_before}
-use Rattle.jfs_write_pages.specs.data_steps.proofs.Held as held_file
+use Rattle.jfs_plain.specs.Tree.{Tree, Found, found_at, walk, root, and_then}
+use Rattle.jfs_plain.specs.CallStep.{writes_over_in}
+use Rattle.jfs_plain.specs.declared.call.Call.TheVariants as calls
+use Rattle.jfs_plain.specs.Moves.{Same, sized, changed, filled, byte_after}
+use Rattle.jfs_plain.specs.Step.{Room, Outcome, refuse, is_short, need_of_bytes, size_after, within_limit, file, write}
+use Rattle.jfs_plain.specs.declared.node.Node.{Node}
+use Rattle.jfs_plain.specs.declared.refusal.Refusal.{Refusal}
+use Rattle.jfs_plain.specs.declared.refusal.Refusal.TheVariants.{IsDir, NotFile, FileTooBig, NoSpace}
+use Rattle.jfs_plain.specs.declared.reply.Reply.TheVariants.{Done}
+use Rattle.jfs_way.specs.Volume.{volume_of}
+use Rattle.jfs_way.specs.Walk.{IsHeld, IsShown, IsThere, tree_in}
+use Rattle.jfs_way.specs.declared.object.Held.{Held}
+use Rattle.jfs_steps.specs.Call.{IsDone}
+use Rattle.jfs_data_steps.specs.declared.pages.DataPage.{DataPage}
+use Rattle.jfs_data_steps.specs.After.{AreWholePages, put_data, with_data, after_writes}
+use Rattle.jfs_data_steps.specs.Laws.{IsFilePut}
+use Rattle.jfs_data_steps.specs.File.{bytes_held, refilled}
+use Rattle.jfs_data_steps.proofs.Extents.{file_type}
+use Rattle.jfs_data_steps.proofs.Files.{file_bytes, file_before}
+use Rattle.jfs_data_steps.proofs.Held as held_file
 use Rattle.jfs_write.specs.Look.{most_bytes, why_kept, FitsBytes, spots_at, want_for}
 use Rattle.jfs_write.specs.Make.{Makes}
 use Rattle.jfs_write.specs.Call.{MayTake, StartsIn}

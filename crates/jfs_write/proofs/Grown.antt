@@ -8,20 +8,20 @@ use Rattle.jfs_bits.specs.declared.descriptor.Pxd.{Pxd}
 use Rattle.jfs_bits.specs.declared.extent.Xad.{Xad}
 use Rattle.jfs_bits.specs.declared.rule.PageKind.TheVariants.{Xtree}
 use Rattle.jfs_inode.specs.declared.fields.Dinode.{Dinode}
-use Rattle.jfs_link.specs.imap.specs.Inodes.{Inodes}
-use Rattle.jfs_link.specs.bmap.specs.States.{Blocks}
-use Rattle.jfs_link.specs.bmap.proofs.Reservations.{reservation-total}
+use Rattle.jfs_imap.specs.Inodes.{Inodes}
+use Rattle.jfs_bmap.specs.States.{Blocks}
+use Rattle.jfs_bmap.proofs.Reservations.{reservation-total}
 use Rattle.jfs_ranges.specs.declared.edit.Edit.{Edit}
 use Rattle.jfs_ranges.specs.Apply.{apply_tx}
 use Rattle.jfs_ranges.specs.Laid.{put_tx}
-use Rattle.jfs_link.specs.page_tree.specs.Edit.{count_in}
-use Rattle.jfs_link.specs.page_tree.specs.Fresh.{LeadsTo, after_tx, blocks_of, allocs_of}
-use Rattle.jfs_link.specs.page_tree.specs.Root.{IsSpare}
-use Rattle.jfs_link.specs.page_tree.specs.Spells.{spells, footprint}
+use Rattle.jfs_tree.specs.Edit.{count_in}
+use Rattle.jfs_tree.specs.Fresh.{LeadsTo, after_tx, blocks_of, allocs_of}
+use Rattle.jfs_tree.specs.Root.{IsSpare}
+use Rattle.jfs_tree.specs.Spells.{spells, footprint}
 use Rattle.jfs_xtpage.specs.Page.{rises_from}
-use Rattle.jfs_link.specs.xtree.specs.Node.{xt_scale, xt_node}
-use Rattle.jfs_link.specs.xtree.specs.Spells.{page_nodes, root_node, root_form, spells_extents, owned_pages}
-use Rattle.jfs_link.specs.xtree.specs.Writing.{is_recorded, AllLong, AllTo, Place, place_at}
+use Rattle.jfs_xtree.specs.Node.{xt_scale, xt_node}
+use Rattle.jfs_xtree.specs.Spells.{page_nodes, root_node, root_form, spells_extents, owned_pages}
+use Rattle.jfs_xtree.specs.Writing.{is_recorded, AllLong, AllTo, Place, place_at}
 use Rattle.jfs_link.specs.objects.specs.Readers.{Readers}
 use Rattle.jfs_link.specs.objects.specs.Image.{extent_place}
 use Rattle.jfs_link.specs.objects.specs.Volume.{Volume}
@@ -34,24 +34,24 @@ use Rattle.jfs_link.specs.objects.proofs.Sums.{zero_or_more}
 use Rattle.jfs_link.specs.meaning.specs.Contents.{is_regular}
 use Rattle.jfs_link.specs.meaning.specs.Readers.{readers, root_of}
 use Rattle.jfs_link.specs.meaning.specs.Consistent.{IsConsistent}
-use Rattle.jfs_link.specs.plain.specs.Step.{blocks_in}
-use Rattle.jfs_link.specs.plain.specs.Moves.{byte_after}
-use Rattle.jfs_link.specs.runs.proofs.Counted.{all_laws}
-use Rattle.jfs_link.specs.way.specs.Volume.{volume_of}
-use Rattle.jfs_link.specs.way.specs.Walk.{IsHeld, IsShown, IsThere, tree_in}
-use Rattle.jfs_link.specs.way.specs.declared.object.Held.{Held}
-use Rattle.jfs_link.specs.lead_steps.specs.Balance.{own_after}
-use Rattle.jfs_write_pages.specs.loss.proofs.Counts.{count_append}
-use Rattle.jfs_write_pages.specs.loss.proofs.Holds.{extents_listed}
-use Rattle.jfs_link.specs.steps.specs.Laws.{TakesAndFrees, IsFair}
-use Rattle.jfs_write_pages.specs.data_steps.specs.declared.pages.DataPage.{DataPage}
-use Rattle.jfs_write_pages.specs.data_steps.specs.After.{is_put, AreWholePages, put_data, after_writes, LeavesPage}
-use Rattle.jfs_write_pages.specs.data_steps.specs.File.{bytes_held}
-use Rattle.jfs_write_pages.specs.data_steps.specs.Laws.{MayPut, SetsFile, IsFileSet}
-use Rattle.jfs_write_pages.specs.data_steps.proofs.Told.{leaves_none, leaves_onto, allocs_leave, changes_leave, lines_leave_others}
-use Rattle.jfs_write_pages.specs.data_steps.proofs.Extents.{had, had_once, data_was, file_sets, some_extents}
-use Rattle.jfs_write_pages.specs.data_steps.proofs.Files.{file_law}
-use Rattle.jfs_write_pages.specs.data_steps.proofs.Held as file
+use Rattle.jfs_plain.specs.Step.{blocks_in}
+use Rattle.jfs_plain.specs.Moves.{byte_after}
+use Rattle.jfs_claim.specs.runs.proofs.Counted.{all_laws}
+use Rattle.jfs_way.specs.Volume.{volume_of}
+use Rattle.jfs_way.specs.Walk.{IsHeld, IsShown, IsThere, tree_in}
+use Rattle.jfs_way.specs.declared.object.Held.{Held}
+use Rattle.jfs_lead_steps.specs.Balance.{own_after}
+use Rattle.jfs_data_steps.specs.loss.proofs.Counts.{count_append}
+use Rattle.jfs_data_steps.specs.loss.proofs.Holds.{extents_listed}
+use Rattle.jfs_steps.specs.Laws.{TakesAndFrees, IsFair}
+use Rattle.jfs_data_steps.specs.declared.pages.DataPage.{DataPage}
+use Rattle.jfs_data_steps.specs.After.{is_put, AreWholePages, put_data, after_writes, LeavesPage}
+use Rattle.jfs_data_steps.specs.File.{bytes_held}
+use Rattle.jfs_data_steps.specs.Laws.{MayPut, SetsFile, IsFileSet}
+use Rattle.jfs_data_steps.proofs.Told.{leaves_none, leaves_onto, allocs_leave, changes_leave, lines_leave_others}
+use Rattle.jfs_data_steps.proofs.Extents.{had, had_once, data_was, file_sets, some_extents}
+use Rattle.jfs_data_steps.proofs.Files.{file_law}
+use Rattle.jfs_data_steps.proofs.Held as file
 use Rattle.jfs_put_range.specs.written.specs.Range.{with_range}
 use Rattle.jfs_put_range.specs.written.specs.RangeLaws.{or_else}
 use Rattle.jfs_put_range.specs.written.proofs.Blocks.{writes_range}

@@ -1,19 +1,19 @@
 -- What is looked at before a write reserves anything.
 use Rattle.std.proofs.Common.{◌≡◌, ap, ◌∙◌, inl, inr, ℕ, ◌+◌, List, length, Option, Some, None, Result, Ok, Err, IfOk, IfErr}
 use Rattle.jfs_bits.specs.declared.descriptor.Moment.{Moment}
-use Rattle.jfs_link.specs.imap.specs.Inodes.{Inodes}
-use Rattle.jfs_link.specs.bmap.specs.States.{Blocks, unowned_count}
-use Rattle.jfs_link.specs.plain.specs.Tree.{walk, root, and_then}
-use Rattle.jfs_link.specs.plain.specs.Step.{need_of_bytes}
-use Rattle.jfs_link.specs.plain.specs.declared.refusal.Refusal.{Refusal}
-use Rattle.jfs_link.specs.claim.specs.Look.{space_for}
+use Rattle.jfs_imap.specs.Inodes.{Inodes}
+use Rattle.jfs_bmap.specs.States.{Blocks, unowned_count}
+use Rattle.jfs_plain.specs.Tree.{walk, root, and_then}
+use Rattle.jfs_plain.specs.Step.{need_of_bytes}
+use Rattle.jfs_plain.specs.declared.refusal.Refusal.{Refusal}
+use Rattle.jfs_claim.specs.Look.{space_for}
 use Rattle.jfs_link.specs.meaning.specs.Readers.{readers}
 use Rattle.jfs_link.specs.meaning.specs.Room.{room_on}
-use Rattle.jfs_link.specs.way.specs.Volume.{volume_of}
-use Rattle.jfs_link.specs.way.specs.Answer.{Answers, Follows}
-use Rattle.jfs_link.specs.way.specs.Walk.{IsOf, IfConsistent, tree_in}
-use Rattle.jfs_link.specs.way.specs.Way.{path_of}
-use Rattle.jfs_link.specs.way.specs.declared.object.Held.{Held}
+use Rattle.jfs_way.specs.Volume.{volume_of}
+use Rattle.jfs_way.specs.Answer.{Answers, Follows}
+use Rattle.jfs_way.specs.Walk.{IsOf, IfConsistent, tree_in}
+use Rattle.jfs_way.specs.Way.{path_of}
+use Rattle.jfs_way.specs.declared.object.Held.{Held}
 use Rattle.jfs_write.specs.Look.{why_kept, unless}
 use Rattle.jfs_write.specs.Call.{if_space, allowed_at, allowed_of, LooksAs, IsWritten, IsStopped, WritesAt, StoppedAt}
 use Rattle.jfs_write.specs.declared.answer.Stop.{Stop}

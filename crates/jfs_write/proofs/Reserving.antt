@@ -2,18 +2,18 @@
 use Rattle.std.proofs.Common.{◌≡◌, ◌≤◌, ◌<◌, refl, sym, ap, ◌∙◌, subst, ℕ, ◌+◌, Bool, true, false, ◌||◌, nat_lt, if◌then◌else◌, List, [], ◌∷◌, ◌++◌, length, append_assoc, arith}
 use Rattle.std.proofs.lemmas.Bool.Decides.{nat_tests}
 use Rattle.jfs_bits.specs.declared.descriptor.Pxd.{Pxd}
-use Rattle.jfs_link.specs.bmap.specs.Choice.{AreLowestBlocks}
-use Rattle.jfs_link.specs.bmap.specs.States.{Blocks, Reserved, changed, is_used, free_count, put_state, is_in_list, AreApart}
-use Rattle.jfs_link.specs.bmap.proofs.Puts.{in_list-none}
-use Rattle.jfs_link.specs.bmap.proofs.LowestBlocks.{each-total}
-use Rattle.jfs_link.specs.page_tree.specs.Edit.{count_in}
-use Rattle.jfs_link.specs.page_tree.specs.Form.{AllBelow}
-use Rattle.jfs_link.specs.page_tree.specs.Fresh.{blocks_of, run_from}
+use Rattle.jfs_bmap.specs.Choice.{AreLowestBlocks}
+use Rattle.jfs_bmap.specs.States.{Blocks, Reserved, changed, is_used, free_count, put_state, is_in_list, AreApart}
+use Rattle.jfs_bmap.proofs.Puts.{in_list-none}
+use Rattle.jfs_bmap.proofs.LowestBlocks.{each-total}
+use Rattle.jfs_tree.specs.Edit.{count_in}
+use Rattle.jfs_tree.specs.Form.{AllBelow}
+use Rattle.jfs_tree.specs.Fresh.{blocks_of, run_from}
 use Rattle.jfs_link.specs.room.specs.Laws.{blocks_in}
-use Rattle.jfs_link.specs.runs.specs.Laws.{one_if}
-use Rattle.jfs_link.specs.runs.proofs.Counted.{counted, count_append, apart_once, all_laws}
-use Rattle.jfs_link.specs.claim.specs.Take.{AreFresh, reserving}
-use Rattle.jfs_link.specs.claim.proofs.Looks.{settled_is_enough}
+use Rattle.jfs_claim.specs.runs.specs.Laws.{one_if}
+use Rattle.jfs_claim.specs.runs.proofs.Counted.{counted, count_append, apart_once, all_laws}
+use Rattle.jfs_claim.specs.Take.{AreFresh, reserving}
+use Rattle.jfs_claim.proofs.Looks.{settled_is_enough}
 use Rattle.jfs_file_blocks.specs.Reserving.{TakesBlocks, IsPartlyTaken, total}
 use Rattle.jfs_file_blocks.specs.declared.reserve.FileWant.{FileWant}
 use Rattle.jfs_file_blocks.specs.declared.reserve.FileBlocks.{FileBlocks}

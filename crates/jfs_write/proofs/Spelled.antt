@@ -9,15 +9,15 @@ use Rattle.jfs_bits.specs.declared.rule.Rule.TheVariants as rules
 use Rattle.jfs_xtpage.specs.Page.{end_of, rises_from}
 use Rattle.jfs_xtpage.specs.declared.head.XtForm.{XtForm}
 use Rattle.jfs_xtpage.specs.declared.head.XtForm.TheVariants.{Full}
-use Rattle.jfs_link.specs.page_tree.specs.Walk.{Child, Node, Leaf, Inner, Broken, Marks, Page, Key, Row, Fault, Rises, rows_of, placed, under, body, walk}
-use Rattle.jfs_link.specs.page_tree.specs.Spells.{spells, tree_of, with_root, at_levels, levels_of, first_path, along_first, whole, top, no_page}
-use Rattle.jfs_link.specs.page_tree.proofs.Frame.{rows-append}
-use Rattle.jfs_link.specs.page_tree.proofs.Judge.{judged}
-use Rattle.jfs_link.specs.page_tree.proofs.Leaves.{rows_leaf}
-use Rattle.jfs_link.specs.xtree.specs.Node.{xt_scale, xt_node, is_within, all_within}
-use Rattle.jfs_link.specs.xtree.specs.Spells.{page_nodes, root_node, root_form, spells_extents}
-use Rattle.jfs_link.specs.xtree.specs.Writing.{AllLong, AllTo}
-use Rattle.jfs_link.specs.xtree.proofs.Reading.{and_true, leaf_is}
+use Rattle.jfs_tree.specs.Walk.{Child, Node, Leaf, Inner, Broken, Marks, Page, Key, Row, Fault, Rises, rows_of, placed, under, body, walk}
+use Rattle.jfs_tree.specs.Spells.{spells, tree_of, with_root, at_levels, levels_of, first_path, along_first, whole, top, no_page}
+use Rattle.jfs_tree.proofs.Frame.{rows-append}
+use Rattle.jfs_tree.proofs.Judge.{judged}
+use Rattle.jfs_tree.proofs.Leaves.{rows_leaf}
+use Rattle.jfs_xtree.specs.Node.{xt_scale, xt_node, is_within, all_within}
+use Rattle.jfs_xtree.specs.Spells.{page_nodes, root_node, root_form, spells_extents}
+use Rattle.jfs_xtree.specs.Writing.{AllLong, AllTo}
+use Rattle.jfs_xtree.proofs.Reading.{and_true, leaf_is}
 use Rattle.jfs_link.specs.objects.specs.Owners.{covers}
 
 -- ---- within the volume

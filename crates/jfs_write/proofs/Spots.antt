@@ -3,11 +3,11 @@ use Rattle.std.proofs.Common.{◌≡◌, ◌≤◌, ◌<◌, refl, sym, ap, ◌�
 use Rattle.std.specs.Prelude.{nat_le, nat_lt, min}
 use Rattle.std.proofs.lemmas.Bool.Decides.{nat_tests}
 use Rattle.jfs_bits.specs.declared.extent.Xad.{Xad}
-use Rattle.jfs_link.specs.page_tree.specs.Form.{AllBelow}
-use Rattle.jfs_link.specs.xtree.specs.Node.{is_within, all_within}
-use Rattle.jfs_link.specs.xtree.specs.Writing.{is_recorded}
-use Rattle.jfs_link.specs.xtree.proofs.Reading.{and_true}
-use Rattle.jfs_link.specs.plain.specs.Step.{blocks_in}
+use Rattle.jfs_tree.specs.Form.{AllBelow}
+use Rattle.jfs_xtree.specs.Node.{is_within, all_within}
+use Rattle.jfs_xtree.specs.Writing.{is_recorded}
+use Rattle.jfs_xtree.proofs.Reading.{and_true}
+use Rattle.jfs_plain.specs.Step.{blocks_in}
 use Rattle.jfs_put_range.specs.Call.{IsShortRange}
 use Rattle.jfs_write_pages.specs.declared.spot.Spot.{Spot}
 use Rattle.jfs_write_pages.specs.Spots.{has_block, spot_in, spot_at, spots_from, run_spots, spots_in, spots_between, placed, before, extents_for, AllSpots, SpotsFit}

@@ -7,40 +7,40 @@ use Rattle.jfs_bits.specs.declared.extent.Xad.{Xad}
 use Rattle.jfs_bits.specs.declared.rule.Rule.TheVariants as rules
 use Rattle.jfs_disk.specs.declared.disk.Fault.{Fault}
 use Rattle.jfs_ranges.specs.declared.edit.Edit.{Edit}
-use Rattle.jfs_link.specs.imap.specs.Inodes.{Inodes}
-use Rattle.jfs_link.specs.bmap.specs.Choice.{IsReservation, AreLowestBlocks}
-use Rattle.jfs_link.specs.bmap.specs.States.{Blocks, Reserved, is_used, free_count, unowned_count, all_settled, put_state}
-use Rattle.jfs_link.specs.page_tree.specs.Fresh.{blocks_of}
-use Rattle.jfs_link.specs.page_tree.specs.Spells.{no_page}
-use Rattle.jfs_link.specs.xtree.specs.Spells.{page_nodes, root_node}
+use Rattle.jfs_imap.specs.Inodes.{Inodes}
+use Rattle.jfs_bmap.specs.Choice.{IsReservation, AreLowestBlocks}
+use Rattle.jfs_bmap.specs.States.{Blocks, Reserved, is_used, free_count, unowned_count, all_settled, put_state}
+use Rattle.jfs_tree.specs.Fresh.{blocks_of}
+use Rattle.jfs_tree.specs.Spells.{no_page}
+use Rattle.jfs_xtree.specs.Spells.{page_nodes, root_node}
 use Rattle.jfs_put_range.specs.Call.{IsNinth}
-use Rattle.jfs_link.specs.page_tree.specs.declared.form.TreeError.TheVariants.{Bad}
-use Rattle.jfs_link.specs.plain.specs.Tree.{Tree, and_then, walk, root}
-use Rattle.jfs_link.specs.plain.specs.Step.{Room, Outcome, need_of_bytes, write}
-use Rattle.jfs_link.specs.plain.specs.CallStep.{LeavesRest}
-use Rattle.jfs_link.specs.plain.specs.declared.call.Call.{Call}
-use Rattle.jfs_link.specs.plain.specs.declared.call.Call.TheVariants as calls
-use Rattle.jfs_link.specs.plain.specs.declared.refusal.Refusal.{Refusal}
-use Rattle.jfs_link.specs.plain.specs.declared.refusal.Refusal.TheVariants.{Damaged}
-use Rattle.jfs_link.specs.plain.specs.declared.reply.Reply.TheVariants.{Done}
+use Rattle.jfs_tree.specs.declared.form.TreeError.TheVariants.{Bad}
+use Rattle.jfs_plain.specs.Tree.{Tree, and_then, walk, root}
+use Rattle.jfs_plain.specs.Step.{Room, Outcome, need_of_bytes, write}
+use Rattle.jfs_plain.specs.CallStep.{LeavesRest}
+use Rattle.jfs_plain.specs.declared.call.Call.{Call}
+use Rattle.jfs_plain.specs.declared.call.Call.TheVariants as calls
+use Rattle.jfs_plain.specs.declared.refusal.Refusal.{Refusal}
+use Rattle.jfs_plain.specs.declared.refusal.Refusal.TheVariants.{Damaged}
+use Rattle.jfs_plain.specs.declared.reply.Reply.TheVariants.{Done}
 use Rattle.jfs_link.specs.meaning.specs.Consistent.{IsConsistent}
 use Rattle.jfs_link.specs.meaning.specs.Readers.{readers, root_of}
 use Rattle.jfs_link.specs.meaning.specs.Room.{room_on}
 use Rattle.jfs_link.specs.meaning.specs.Tree.{tree_on}
 use Rattle.jfs_link.specs.room.specs.Laws.{blocks_in, NoneReserved}
-use Rattle.jfs_link.specs.claim.specs.Look.{space_for}
-use Rattle.jfs_link.specs.claim.specs.Take.{AreFresh}
+use Rattle.jfs_claim.specs.Look.{space_for}
+use Rattle.jfs_claim.specs.Take.{AreFresh}
 use Rattle.jfs_file_blocks.specs.Reserving.{total}
 use Rattle.jfs_file_blocks.specs.declared.reserve.FileWant.{FileWant}
-use Rattle.jfs_link.specs.way.specs.Answer.{is_open, CarriesCause, Follows}
-use Rattle.jfs_link.specs.way.specs.Volume.{volume_of, PlacesWithin}
-use Rattle.jfs_link.specs.way.specs.Walk.{IfConsistent, IsOf, tree_in}
-use Rattle.jfs_link.specs.way.specs.Way.{path_of}
-use Rattle.jfs_link.specs.way.specs.declared.object.Held.{Held}
-use Rattle.jfs_link.specs.steps.specs.Call.{IsDone}
-use Rattle.jfs_link.specs.steps.specs.Laws.{IsFair, TakesAndFrees}
+use Rattle.jfs_way.specs.Answer.{is_open, CarriesCause, Follows}
+use Rattle.jfs_way.specs.Volume.{volume_of, PlacesWithin}
+use Rattle.jfs_way.specs.Walk.{IfConsistent, IsOf, tree_in}
+use Rattle.jfs_way.specs.Way.{path_of}
+use Rattle.jfs_way.specs.declared.object.Held.{Held}
+use Rattle.jfs_steps.specs.Call.{IsDone}
+use Rattle.jfs_steps.specs.Laws.{IsFair, TakesAndFrees}
 use Rattle.jfs_link.specs.Link.{ReservesFree}
-use Rattle.jfs_write_pages.specs.data_steps.specs.After.{with_data, after_writes}
+use Rattle.jfs_data_steps.specs.After.{with_data, after_writes}
 use Rattle.jfs_write_pages.specs.Spots.{placed, extents_for}
 use Rattle.jfs_write_pages.specs.declared.spot.Spot.{Spot}
 use Rattle.jfs_write.specs.Look.{why_kept, unless, spelled_at, want_for, spots_at}

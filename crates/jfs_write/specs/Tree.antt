@@ -5,14 +5,14 @@ use Rattle.jfs_bits.specs.declared.extent.Xad.{Xad}
 use Rattle.jfs_bits.specs.declared.rule.PageKind.TheVariants.{Xtree}
 use Rattle.jfs_ranges.specs.declared.edit.Edit.{Edit}
 use Rattle.jfs_ranges.specs.declared.edit.Edit.TheVariants.{Alloc}
-use Rattle.jfs_link.specs.page_tree.specs.Changes.{TellsTaken}
-use Rattle.jfs_link.specs.xtree.specs.Node.{KeepsFrame}
-use Rattle.jfs_link.specs.xtree.specs.Spells.{tree_error}
-use Rattle.jfs_link.specs.xtree.specs.declared.error.XtError.{XtError}
+use Rattle.jfs_tree.specs.Changes.{TellsTaken}
+use Rattle.jfs_xtree.specs.Node.{KeepsFrame}
+use Rattle.jfs_xtree.specs.Spells.{tree_error}
+use Rattle.jfs_xtree.specs.declared.error.XtError.{XtError}
 use Rattle.jfs_put_range.specs.Call.{WritesRange, KeepsLeast, NamesPages, RefusesOnlyDeep}
 use Rattle.jfs_put_range.specs.Way.{RangeTellsWay, broken_on_range}
-use Rattle.jfs_link.specs.plain.specs.declared.refusal.Refusal.{Refusal}
-use Rattle.jfs_link.specs.way.specs.Answer.{is_open}
+use Rattle.jfs_plain.specs.declared.refusal.Refusal.{Refusal}
+use Rattle.jfs_way.specs.Answer.{is_open}
 use Rattle.jfs_read.specs.Read.{extents_refusal}
 
 -- the edits that take these runs of blocks

@@ -3,14 +3,14 @@
 ghost use Rattle.std.specs.Prelude.{◌≡◌, Err};
 ghost use Rattle.jfs_disk.specs.declared.disk.Fault.{Fault};
 ghost use Rattle.jfs_ranges.specs.View.{CarriesCount};
-ghost use Rattle.jfs_link.specs.xtree.specs.Spells.{CarriesXt};
-ghost use Rattle.jfs_link.specs.way.specs.Answer.{CarriesCause, view_refusal};
+ghost use Rattle.jfs_xtree.specs.Spells.{CarriesXt};
+ghost use Rattle.jfs_way.specs.Answer.{CarriesCause, view_refusal};
 ghost use Rattle.jfs_read.specs.Read.{extents_refusal};
 
-use jfs_link::page_tree::NO_PAGE;
-use jfs_link::plain::Refusal;
-use jfs_link::xtree::XtError;
+use jfs_plain::Refusal;
 use jfs_ranges::ViewError;
+use jfs_tree::NO_PAGE;
+use jfs_xtree::XtError;
 
 /// Why bytes aren't put into a file.
 #[derive(Clone, Copy, PartialEq, Eq, Debug)]

@@ -2,17 +2,17 @@
 
 ghost use Rattle.std.specs.Prelude.{◌≡◌, ◌≤◌, ◌<◌, ◌++◌, length, OnOk, IfErr};
 ghost use Rattle.jfs_disk.specs.Image.{page_of};
-ghost use Rattle.jfs_link.specs.page_tree.specs.Form.{AllBelow};
-ghost use Rattle.jfs_link.specs.page_tree.specs.Fresh.{blocks_of};
-ghost use Rattle.jfs_link.specs.way.specs.Answer.{Carries};
-ghost use Rattle.jfs_link.specs.steps.specs.Gains.{TakesFront};
+ghost use Rattle.jfs_tree.specs.Form.{AllBelow};
+ghost use Rattle.jfs_tree.specs.Fresh.{blocks_of};
+ghost use Rattle.jfs_way.specs.Answer.{Carries};
+ghost use Rattle.jfs_steps.specs.Gains.{TakesFront};
 ghost use Rattle.jfs_put_range.specs.Call.{IsShortRange};
 ghost use Rattle.jfs_write_pages.specs.Spots.{extents_for, SpotsFit};
 ghost use Rattle.jfs_write.specs.Tree.{PutsExtents, RefusesExtents, run_allocs};
 
 use crate::answer::from_extents;
 use jfs_bits::PxdList;
-use jfs_link::plain::Refusal;
+use jfs_plain::Refusal;
 use jfs_put_range::put_range;
 use jfs_ranges::{Edit, PageView, Tx};
 use jfs_write_pages::{Spot, extents_for};

@@ -12,7 +12,7 @@ use Rattle.jfs_data_steps.specs.xtree.specs.Writing.{AllLong, AllTo, Place, plac
 use Rattle.jfs_data_steps.specs.objects.specs.Contents.{block_of, block_in, bytes_at}
 use Rattle.jfs_data_steps.specs.objects.specs.Owners.{covers}
 use Rattle.jfs_data_steps.specs.meaning.specs.Contents.{byte_of}
-use Rattle.jfs_data_steps.specs.plain.specs.Moves.{byte_after}
+use Rattle.jfs_plain.specs.Moves.{byte_after}
 use Rattle.jfs_written.specs.RangeLaws.{or_else}
 use Rattle.jfs_written.proofs.Each.{long_end}
 use Rattle.jfs_data_steps.specs.declared.pages.DataPage.{DataPage}

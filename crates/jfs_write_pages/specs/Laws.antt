@@ -4,7 +4,7 @@ use Rattle.jfs_bits.specs.declared.extent.Xad.{Xad}
 use Rattle.jfs_xtpage.specs.Page.{rises_from}
 use Rattle.jfs_data_steps.specs.xtree.specs.Writing.{AllLong, AllTo, place_at}
 use Rattle.jfs_data_steps.specs.objects.specs.Owners.{covers}
-use Rattle.jfs_data_steps.specs.plain.specs.Moves.{byte_after}
+use Rattle.jfs_plain.specs.Moves.{byte_after}
 use Rattle.jfs_written.specs.RangeLaws.{or_else}
 use Rattle.jfs_data_steps.specs.declared.pages.DataPage.{DataPage}
 use Rattle.jfs_data_steps.specs.After.{put_data}

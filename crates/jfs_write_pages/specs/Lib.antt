@@ -2,6 +2,3 @@
 pub mod Spots
 pub mod Pages
 pub mod Laws
--- libraries below, passed on
-pub use Rattle.jfs_data_steps as data_steps
-pub use Rattle.jfs_data_steps.specs.loss

@@ -16,7 +16,3 @@ pub use page::{Change, push_page};
 pub use pages::push_pages;
 pub use spot::{Spot, push_between, spots_from};
 pub use within::{are_within, hint_behind};
-
-// libraries below, passed on
-pub use jfs_data_steps as data_steps;
-pub use jfs_data_steps::loss;

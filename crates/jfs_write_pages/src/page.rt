@@ -8,9 +8,9 @@ ghost use Rattle.jfs_data_steps.specs.After.{AreWholePages};
 ghost use Rattle.jfs_write_pages.specs.Pages.{patched, kept, told, old_page, page_for};
 
 use crate::spot::Spot;
-use jfs_data_steps::plain::Refusal;
 use jfs_data_steps::{DataList, DataPage};
 use jfs_disk::Page;
+use jfs_plain::Refusal;
 use jfs_ranges::{PageView, ViewError};
 
 /// Bytes that are put into a file.

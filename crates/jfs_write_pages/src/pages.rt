@@ -10,7 +10,7 @@ ghost use Rattle.jfs_write_pages.specs.Pages.{told, pages_for};
 use crate::page::{Change, push_page};
 use crate::spot::Spot;
 use jfs_data_steps::DataList;
-use jfs_data_steps::plain::Refusal;
+use jfs_plain::Refusal;
 use jfs_ranges::PageView;
 
 /// Pushes these blocks of a file, each with what it is to hold.

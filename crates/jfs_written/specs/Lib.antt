@@ -4,5 +4,4 @@ pub mod RangeLaws
 pub mod Balance
 pub mod Walk
 -- libraries below, passed on
-pub use Rattle.jfs_objects.specs.page_tree
 pub use Rattle.jfs_xtree as xtree

@@ -11,7 +11,3 @@ pub use law::{
     writing_shares_blocks,
 };
 pub use range::written;
-
-// libraries below, passed on
-pub use jfs_objects::page_tree;
-pub use jfs_xtree as xtree;

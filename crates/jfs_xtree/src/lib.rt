@@ -33,6 +33,3 @@ pub use listing::extents;
 pub use root::new_root;
 pub use way_law::way_leads_to_the_extent;
 pub use write_law::{writing_is_block_by_block, writing_stands_in_place};
-
-// libraries below, passed on
-pub use jfs_tree as page_tree;

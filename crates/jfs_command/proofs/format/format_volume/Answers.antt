@@ -1,7 +1,7 @@
 use Rattle.std.specs.Global.{Vec}
 use Rattle.std.proofs.Common.{ℕ, ap, ◌∙◌}
-use Rattle.jfs_findings_new.specs.format.specs.declared.layout.Layout.{Layout}
-use Rattle.jfs_findings_new.specs.format.specs.Layout.{layout_of}
+use Rattle.jfs_format.specs.declared.layout.Layout.{Layout}
+use Rattle.jfs_format.specs.Layout.{layout_of}
 use Rattle.jfs_command.specs.Format.{format_text}
 use Rattle.jfs_command.specs.Held.{held_of}
 use Rattle.jfs_command.specs.Superblock.{superblock_of}

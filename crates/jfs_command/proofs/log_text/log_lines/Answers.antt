@@ -1,6 +1,6 @@
 use Rattle.std.proofs.Common.{◌≡◌, ℕ, List, ◌∷◌, ◌++◌, length, string_bytes, sym, ap, ◌∙◌}
 use Rattle.std.proofs.lemmas.List.{length-map, length-reverse}
-use Rattle.jfs_findings_new.specs.logpages.specs.Back.{Met}
+use Rattle.jfs_logpages.specs.Back.{Met}
 use Rattle.jfs_command.specs.LogText.{last_line, record_lines}
 use Rattle.jfs_command.proofs.LogLines.{next_left, none_left}
 use Rattle.jfs_command.proofs.log_text.log_lines.Goals as goal

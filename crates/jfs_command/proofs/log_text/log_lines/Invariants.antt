@@ -1,5 +1,5 @@
 use Rattle.std.proofs.Common.{◌≡◌, ℕ, List, length, map, reverse, string_bytes}
-use Rattle.jfs_findings_new.specs.logpages.specs.Back.{Met, AreMet}
+use Rattle.jfs_logpages.specs.Back.{Met, AreMet}
 use Rattle.jfs_command.proofs.LogLines.{Left}
 use Rattle.jfs_command.proofs.log_text.log_lines.Given as goal
 

@@ -1,6 +1,6 @@
 use Rattle.std.proofs.Common.{◌≡◌, ℕ, ◌++◌, take, drop, string_bytes, sym, ap, ◌∙◌}
 use Rattle.jfs_logfmt.specs.declared.log_record.Record.{Record}
-use Rattle.jfs_findings_new.specs.logpages.specs.Back.{address_at}
+use Rattle.jfs_logpages.specs.Back.{address_at}
 use Rattle.jfs_command.specs.LogText.{record_line}
 use Rattle.jfs_command.proofs.LogLines.{on_ok, cut_at}
 use Rattle.jfs_command.proofs.log_text.push_record.Goals as goal

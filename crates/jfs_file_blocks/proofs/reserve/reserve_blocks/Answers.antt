@@ -1,6 +1,6 @@
 use Rattle.std.proofs.Common.{refl, ap, ◌∙◌}
-use Rattle.jfs_claim.specs.bmap.specs.States.{Blocks, Free, Reserved, put_state, is_used}
-use Rattle.jfs_claim.specs.bmap.proofs.LowestBlocks.{each-total}
+use Rattle.jfs_bmap.specs.States.{Blocks, Free, Reserved, put_state, is_used}
+use Rattle.jfs_bmap.proofs.LowestBlocks.{each-total}
 use Rattle.jfs_file_blocks.proofs.Counting.{takes, fresh, totals, still_free, files_back, answered, refused}
 use Rattle.jfs_file_blocks.proofs.reserve.reserve_blocks.Goals as goal
 

@@ -1,7 +1,7 @@
 use Rattle.std.proofs.Common.{refl, length, arith}
 use Rattle.jfs_disk.specs.Image.{page_of}
-use Rattle.jfs_write.specs.plain.specs.Step.{write}
-use Rattle.jfs_write.specs.plain.specs.declared.call.Call.TheVariants as calls
+use Rattle.jfs_plain.specs.Step.{write}
+use Rattle.jfs_plain.specs.declared.call.Call.TheVariants as calls
 use Rattle.jfs_files.proofs.Paths.{short_names}
 use Rattle.jfs_files.proofs.BytesPut.{fault_told, data_fits, map_kept, map_then, frees_nothing, bytes_met, data_starts, bytes_follow}
 use Rattle.jfs_files.proofs.bytes.write_outcome.Goals as goal

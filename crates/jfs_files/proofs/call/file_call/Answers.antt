@@ -6,7 +6,7 @@ use Rattle.jfs_files.specs.Outcome.{volume_in}
 use Rattle.jfs_files.proofs.BytesPut.{or_not}
 use Rattle.jfs_files.specs.Outcome.{Wants}
 use Rattle.jfs_files.specs.Bytes.{bars}
-use Rattle.jfs_write.specs.plain.specs.Step.{outcome}
+use Rattle.jfs_plain.specs.Step.{outcome}
 use Rattle.jfs_files.proofs.Data.{fits_none, once_none, starts_none, nothing_freed, used_freed}
 use Rattle.jfs_files.proofs.call.file_call.Goals as goal
 

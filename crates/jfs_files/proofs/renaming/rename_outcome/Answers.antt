@@ -1,6 +1,6 @@
 use Rattle.std.proofs.Common.{refl}
 use Rattle.jfs_disk.specs.Image.{page_of}
-use Rattle.jfs_write.specs.plain.specs.Step.{rename}
+use Rattle.jfs_plain.specs.Step.{rename}
 use Rattle.jfs_files.proofs.Paths.{short_names}
 use Rattle.jfs_files.proofs.RenamesPut.{fault_by, none_by, kept_by, maps_by, meets_by, follows_by, own_by}
 use Rattle.jfs_files.proofs.renaming.rename_outcome.Goals as goal

@@ -1,7 +1,7 @@
 use Rattle.std.proofs.Common.{◌≡◌, ◌+◌, ℕ, refl, arith, subst, w8, to_z, of_z}
 use Rattle.jfs_bits.specs.Bits.{greatest_run}
-use Rattle.jfs_bmap.specs.dmap.specs.Dmap.{taken_in}
-use Rattle.jfs_bmap.specs.dmapctl.proofs.Values.{value-read}
+use Rattle.jfs_dmap.specs.Dmap.{taken_in}
+use Rattle.jfs_dmapctl.proofs.Values.{value-read}
 use Rattle.jfs_bmap.proofs.GreatestRuns.{greatest_run-value}
 use Rattle.jfs_bmap.specs.MapFile.{IsDmapPage}
 use Rattle.jfs_format.specs.Layout.{is_taken_block}

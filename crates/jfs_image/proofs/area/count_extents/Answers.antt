@@ -1,6 +1,6 @@
 use Rattle.std.proofs.Common.{◌+◌, refl, arith}
 use Rattle.jfs_disk.specs.Image.{page_of}
-use Rattle.jfs_owners.specs.meaning.specs.Readers.{readers}
+use Rattle.jfs_reader.specs.meaning.specs.Readers.{readers}
 use Rattle.jfs_image.specs.View.{image_of, blocks_in}
 use Rattle.jfs_image.proofs.Counting.{extents_start, extents_next, extents_all}
 use Rattle.jfs_image.proofs.area.count_extents.Goals as goal

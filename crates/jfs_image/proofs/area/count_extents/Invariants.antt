@@ -1,5 +1,5 @@
 use Rattle.jfs_disk.specs.Image.{page_of}
-use Rattle.jfs_owners.specs.meaning.specs.Readers.{readers}
+use Rattle.jfs_reader.specs.meaning.specs.Readers.{readers}
 use Rattle.jfs_owners.specs.Counts.{Adds}
 use Rattle.jfs_image.specs.View.{image_of, blocks_in}
 use Rattle.jfs_image.proofs.Counting.{have_first}

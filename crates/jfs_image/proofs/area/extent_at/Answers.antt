@@ -1,7 +1,7 @@
 use Rattle.std.proofs.Common.{subst, suc, ◌/◌}
 use Rattle.jfs_disk.specs.Image.{page_of}
-use Rattle.jfs_owners.specs.objects.specs.Contents.{block_of}
-use Rattle.jfs_owners.specs.reader.specs.Reading.{OutsideIsPast}
+use Rattle.jfs_reader.specs.objects.specs.Contents.{block_of}
+use Rattle.jfs_reader.specs.Reading.{OutsideIsPast}
 use Rattle.jfs_image.specs.View.{image_of, blocks_in}
 use Rattle.jfs_image.proofs.Opening.{never_outside}
 use Rattle.jfs_image.proofs.area.extent_at.Goals as goal

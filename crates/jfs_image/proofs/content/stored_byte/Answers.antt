@@ -1,6 +1,6 @@
 use Rattle.std.proofs.Common.{◌∙◌, ◌/◌, ◌%◌, sym, subst}
-use Rattle.jfs_owners.specs.objects.specs.Contents.{block_of}
-use Rattle.jfs_owners.specs.reader.specs.Reading.{PageIs}
+use Rattle.jfs_reader.specs.objects.specs.Contents.{block_of}
+use Rattle.jfs_reader.specs.Reading.{PageIs}
 use Rattle.std.proofs.Common.{Err, ℕ}
 use Rattle.jfs_image.specs.View.{image_of}
 use Rattle.jfs_image.proofs.Viewed.{byte_some, byte_hole, byte_outside}

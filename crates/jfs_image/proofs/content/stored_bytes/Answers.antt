@@ -1,5 +1,5 @@
 use Rattle.std.proofs.Common.{◌+◌, ◌-◌, ◌∙◌, sym, arith}
-use Rattle.jfs_owners.specs.plain.proofs.Splice.{bytes_more, bytes_none}
+use Rattle.jfs_plain.proofs.Splice.{bytes_more, bytes_none}
 use Rattle.jfs_image.specs.View.{image_of}
 use Rattle.jfs_image.specs.Held.{byte_in_file}
 use Rattle.jfs_image.proofs.content.stored_bytes.Goals as goal

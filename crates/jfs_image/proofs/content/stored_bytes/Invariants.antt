@@ -1,5 +1,5 @@
 use Rattle.std.proofs.Common.{◌≡◌, ◌++◌, ◌-◌}
-use Rattle.jfs_owners.specs.plain.specs.Step.{bytes_from}
+use Rattle.jfs_plain.specs.Step.{bytes_from}
 use Rattle.jfs_image.specs.View.{image_of}
 use Rattle.jfs_image.specs.Held.{byte_in_file}
 use Rattle.jfs_image.proofs.content.stored_bytes.Given as goal

@@ -1,9 +1,9 @@
 use Rattle.std.proofs.Common.{◌∙◌, ap, subst, if◌then◌else◌, List, []}
 use Rattle.jfs_bits.specs.declared.extent.Xad.{Xad}
 use Rattle.jfs_disk.specs.Image.{page_of}
-use Rattle.jfs_owners.specs.plain.specs.Step.{bytes_from}
-use Rattle.jfs_owners.specs.meaning.specs.Contents.{is_regular}
-use Rattle.jfs_owners.specs.meaning.specs.Readers.{readers}
+use Rattle.jfs_plain.specs.Step.{bytes_from}
+use Rattle.jfs_reader.specs.meaning.specs.Contents.{is_regular}
+use Rattle.jfs_reader.specs.meaning.specs.Readers.{readers}
 use Rattle.jfs_image.specs.View.{image_of, blocks_in}
 use Rattle.jfs_image.specs.Held.{NamesMay, ExtentsMay, byte_in_file, target_in}
 use Rattle.jfs_image.proofs.Holding.{broken_inode, broken_names, broken_extents, is_held}

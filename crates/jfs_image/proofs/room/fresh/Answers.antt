@@ -1,8 +1,8 @@
 use Rattle.std.proofs.Common.{◌≡◌, ◌∙◌, ◌*◌, ℕ, not, is_some, sym, subst, true, false, Option, Some, None, arith}
 use Rattle.jfs_disk.specs.Image.{page_of}
-use Rattle.jfs_owners.specs.objects.specs.Image.{extent_on}
-use Rattle.jfs_owners.specs.meaning.specs.Readers.{readers}
-use Rattle.jfs_owners.specs.meaning.specs.Room.{lowest}
+use Rattle.jfs_reader.specs.objects.specs.Image.{extent_on}
+use Rattle.jfs_reader.specs.meaning.specs.Readers.{readers}
+use Rattle.jfs_reader.specs.meaning.specs.Room.{lowest}
 use Rattle.jfs_image.specs.View.{image_of, blocks_in}
 use Rattle.jfs_image.proofs.Lowest.{lowest_below}
 use Rattle.jfs_image.proofs.Spaces.{fresh_free, fresh_none, fresh_place}

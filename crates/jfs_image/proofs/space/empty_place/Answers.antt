@@ -1,7 +1,7 @@
 use Rattle.std.proofs.Common.{not, is_some, arith, below_more}
 use Rattle.jfs_disk.specs.Image.{page_of}
-use Rattle.jfs_owners.specs.objects.specs.Image.{extent_on}
-use Rattle.jfs_owners.specs.meaning.specs.Readers.{readers}
+use Rattle.jfs_reader.specs.objects.specs.Image.{extent_on}
+use Rattle.jfs_reader.specs.meaning.specs.Readers.{readers}
 use Rattle.jfs_image.specs.View.{image_of, blocks_in}
 use Rattle.jfs_image.proofs.Lowest.{lowest_at, lowest_none}
 use Rattle.jfs_image.proofs.Spaces.{empty_there, empty_not}

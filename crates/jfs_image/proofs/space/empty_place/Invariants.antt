@@ -1,7 +1,7 @@
 use Rattle.std.proofs.Common.{◌≡◌, ◌<◌, ℕ, not, false, is_some}
 use Rattle.jfs_disk.specs.Image.{page_of}
-use Rattle.jfs_owners.specs.objects.specs.Image.{extent_on}
-use Rattle.jfs_owners.specs.meaning.specs.Readers.{readers}
+use Rattle.jfs_reader.specs.objects.specs.Image.{extent_on}
+use Rattle.jfs_reader.specs.meaning.specs.Readers.{readers}
 use Rattle.jfs_image.specs.View.{image_of, blocks_in}
 use Rattle.jfs_image.proofs.space.empty_place.Given as goal
 

@@ -1,8 +1,8 @@
 use Rattle.std.proofs.Common.{◌+◌, refl, sym, subst, ℕ, Some, arith}
 use Rattle.jfs_disk.specs.Image.{page_of}
-use Rattle.jfs_owners.specs.objects.specs.Objects.{spelled}
-use Rattle.jfs_owners.specs.objects.specs.Owners.{holds}
-use Rattle.jfs_owners.specs.meaning.specs.Readers.{readers}
+use Rattle.jfs_reader.specs.objects.specs.Objects.{spelled}
+use Rattle.jfs_reader.specs.objects.specs.Owners.{holds}
+use Rattle.jfs_reader.specs.meaning.specs.Readers.{readers}
 use Rattle.jfs_owners.specs.Counts.{Adds}
 use Rattle.jfs_image.specs.View.{image_of}
 use Rattle.jfs_image.specs.Judged.{Judges}

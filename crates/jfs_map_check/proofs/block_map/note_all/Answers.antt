@@ -1,5 +1,5 @@
 use Rattle.std.proofs.Common.{◌≤◌, ◌<◌, ◌⊎◌, inl, inr, IsTrue, length, arith}
-use Rattle.jfs_findings.specs.bmap.specs.Set.{taken_at}
+use Rattle.jfs_bmap.specs.Set.{taken_at}
 use Rattle.jfs_map_check.proofs.Noted.{no_bit, dmap_noted}
 use Rattle.jfs_map_check.proofs.block_map.note_all.Goals as goal
 use Rattle.jfs_map_check.proofs.block_map.note_all.Goals.{then-passed-via-then-passed, then-passed-via-else-passed+then-j-lt4}

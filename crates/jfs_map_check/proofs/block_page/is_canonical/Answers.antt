@@ -1,5 +1,5 @@
 use Rattle.std.proofs.Common.{◌≤◌, length, arith}
-use Rattle.jfs_findings.specs.bmap.specs.Set.{taken_at}
+use Rattle.jfs_bmap.specs.Set.{taken_at}
 use Rattle.jfs_map_check.proofs.BlockPages.{decided_first, decided_control, decided_dmap}
 use Rattle.jfs_map_check.proofs.block_page.is_canonical.Goals as goal
 

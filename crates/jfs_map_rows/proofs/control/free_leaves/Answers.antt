@@ -2,7 +2,7 @@ use Rattle.std.proofs.Common.{ℕ, replicate, refl, inl, inr, arith}
 use Rattle.std.specs.Prelude.{ℤ, pos, negsuc}
 use Rattle.std.proofs.lemmas.Bool.{cases_lt}
 use Rattle.std.proofs.lemmas.List.{get_or-replicate, get_or_past, length-replicate}
-use Rattle.jfs_bmap.specs.dmapctl.specs.Control.{IsValue, value_at}
+use Rattle.jfs_dmapctl.specs.Control.{IsValue, value_at}
 use Rattle.jfs_map_rows.proofs.control.free_leaves.Goals as goal
 
 free : (v : ℕ) → IsValue 0 (value_at (replicate 1024 (pos 13)) v)

@@ -1,5 +1,5 @@
 use Rattle.std.proofs.Common.{arith}
-use Rattle.jfs_bmap.specs.dmapctl.proofs.Values.{value-read}
+use Rattle.jfs_dmapctl.proofs.Values.{value-read}
 use Rattle.jfs_map_rows.proofs.control.set_one.Goals as goal
 
 pub ctl_set-requires-clause-canonical : goal.ctl_set-requires-clause-canonical

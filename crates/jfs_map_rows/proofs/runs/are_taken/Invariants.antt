@@ -1,5 +1,5 @@
 use Rattle.std.proofs.Common.{◌≡◌}
-use Rattle.jfs_bmap.specs.dmap.specs.Dmap.{blocks_of, IsDmap}
+use Rattle.jfs_dmap.specs.Dmap.{blocks_of, IsDmap}
 use Rattle.jfs_map_rows.proofs.runs.are_taken.Given as goal
 
 abbrev pub invariant-loop-run : goal.invariant-loop-run

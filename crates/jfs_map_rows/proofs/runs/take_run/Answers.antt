@@ -3,7 +3,7 @@ use Rattle.std.proofs.lemmas.Bool.{or_left}
 use Rattle.std.proofs.lemmas.Nat.{one_shl}
 use Rattle.jfs_bits.specs.Bits.{is_in_run, is_full}
 use Rattle.jfs_bits.proofs.Runs.{all_below-from}
-use Rattle.jfs_bmap.specs.dmap.specs.Dmap.{taken_in}
+use Rattle.jfs_dmap.specs.Dmap.{taken_in}
 use Rattle.jfs_bits.proofs.Counts.{in_run}
 use Rattle.jfs_map_rows.proofs.runs.take_run.Goals as goal
 

@@ -1,7 +1,7 @@
 use Rattle.std.proofs.Common.{arith}
-use Rattle.jfs_bmap.specs.dmap.specs.Dmap.{taken_in}
-use Rattle.jfs_bmap.specs.dmapctl.proofs.Values.{value-read}
-use Rattle.jfs_bmap.specs.dmapctl.specs.Control.{IsValue}
+use Rattle.jfs_dmap.specs.Dmap.{taken_in}
+use Rattle.jfs_dmapctl.proofs.Values.{value-read}
+use Rattle.jfs_dmapctl.specs.Control.{IsValue}
 use Rattle.jfs_bmap.proofs.GreatestRuns.{greatest_run-value}
 use Rattle.jfs_map_rows.proofs.slow_pages.canonical_root.Goals as goal
 

@@ -2,8 +2,8 @@ use Rattle.std.proofs.Common.{ℕ, List, set, inl, inr, ◌<◌, length, arith}
 use Rattle.std.specs.Prelude.{ℤ, negsuc}
 use Rattle.std.proofs.lemmas.Bool.{cases_eq}
 use Rattle.std.proofs.lemmas.List.{get_or-set_same, get_or-set_other}
-use Rattle.jfs_bmap.specs.dmapctl.specs.Control.{IsValue, value_at}
-use Rattle.jfs_bmap.specs.dmapctl.proofs.Values.{value-read}
+use Rattle.jfs_dmapctl.specs.Control.{IsValue, value_at}
+use Rattle.jfs_dmapctl.proofs.Values.{value-read}
 use Rattle.jfs_map_rows.proofs.slow_pages.put_leaf.Goals as goal
 
 put-values : (leaves : List ℤ) (k : ℕ) (value : ℤ) → k < length leaves → IsValue 0 value → ((v : ℕ) → IsValue 0 (value_at leaves v)) → (v : ℕ) → IsValue 0 (value_at (set leaves k value) v)

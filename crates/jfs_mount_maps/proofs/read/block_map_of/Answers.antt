@@ -1,5 +1,5 @@
 use Rattle.std.proofs.Common.{◌∙◌, ℕ, List, length, sym, ap, subst}
-use Rattle.jfs_claim.specs.bmap.specs.States.{Blocks}
+use Rattle.jfs_bmap.specs.States.{Blocks}
 use Rattle.jfs_sets.specs.Sets.{AreUsedBlocks}
 use Rattle.jfs_mount_maps.specs.Maps.{IsIdle}
 use Rattle.jfs_mount_maps.proofs.Blocks.{fresh_number, fresh_idle, fresh_is}

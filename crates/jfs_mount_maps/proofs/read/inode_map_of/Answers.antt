@@ -1,7 +1,7 @@
 use Rattle.std.proofs.Common.{◌≡◌, ◌<◌, ◌*◌, ◌∙◌, ◌&&◌, ℕ, List, Option, length, map, is_some, sym, ap, ap₂, arith}
 use Rattle.jfs_bits.specs.Bits.{is_taken}
-use Rattle.jfs_claim.specs.imap.specs.Inodes.{Inodes, inodes_of}
-use Rattle.jfs_claim.specs.imap.proofs.Changed.{put-whole}
+use Rattle.jfs_imap.specs.Inodes.{Inodes, inodes_of}
+use Rattle.jfs_imap.proofs.Changed.{put-whole}
 use Rattle.jfs_claim.specs.objects.specs.Volume.{home}
 use Rattle.jfs_sets.specs.Sets.{extent_from}
 use Rattle.jfs_mount_maps.specs.Maps.{groups_of}

@@ -2,8 +2,8 @@ use Rattle.std.proofs.Common.{◌≡◌, ◌∙◌, ℕ, List, map, get_or, IfOk
 use Rattle.jfs_bits.specs.declared.descriptor.Pxd.{Pxd}
 use Rattle.jfs_bits.specs.Descriptor.{FitsPxd}
 use Rattle.jfs_iag.specs.Iag.{no_run}
-use Rattle.jfs_claim.specs.imap.specs.Inodes.{inodes_of}
-use Rattle.jfs_claim.specs.bmap.proofs.GroupNumbers.{div_ceil-same}
+use Rattle.jfs_imap.specs.Inodes.{inodes_of}
+use Rattle.jfs_bmap.proofs.GroupNumbers.{div_ceil-same}
 use Rattle.jfs_sets.specs.Sets.{extent_from}
 use Rattle.jfs_mount_maps.proofs.Inodes.{extents_fit}
 use Rattle.jfs_mount_maps.proofs.read.inode_map_with.Goals as goal

@@ -5,8 +5,8 @@ use Rattle.jfs_disk.specs.Crash.{DiskState, AllSince, last_of}
 use Rattle.jfs_disk.specs.Moment.{IsResting, now_of}
 use Rattle.jfs_super.specs.Super.{super_of}
 use Rattle.jfs_super.specs.declared.fields.Geometry.{Geometry}
-use Rattle.jfs_mount_disk.specs.logpages.specs.Fresh.{IsPartlyFresh}
-use Rattle.jfs_mount_disk.specs.logpages.specs.declared.log_side.LogSide.{LogSide}
+use Rattle.jfs_logpages.specs.Fresh.{IsPartlyFresh}
+use Rattle.jfs_logpages.specs.declared.log_side.LogSide.{LogSide}
 use Rattle.jfs_mount_disk.specs.Begun.{marked, IsPartlyMarked}
 use Rattle.jfs_mount_disk.proofs.Left.{still_low}
 use Rattle.jfs_volume.specs.Start.{StandsFresh}

@@ -2,7 +2,7 @@ use Rattle.std.proofs.Common.{◌≡◌, ◌∙◌, sym, ap, subst}
 use Rattle.jfs_disk.specs.Image.{page_of}
 use Rattle.jfs_disk.specs.Crash.{last_of}
 use Rattle.jfs_disk.specs.Moment.{IsResting}
-use Rattle.jfs_volume.specs.pages.specs.Kept.{image_in}
+use Rattle.jfs_pages.specs.Kept.{image_in}
 use Rattle.jfs_mounted.proofs.Started.{image_is}
 use Rattle.jfs_mounted.proofs.mounting.started.Goals as goal
 

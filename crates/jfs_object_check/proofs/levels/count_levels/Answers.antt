@@ -2,14 +2,14 @@
 use Rattle.std.proofs.Common.{◌≡◌, ◌++◌, ◌+◌, ◌≤◌, refl, sym, ap, ◌∙◌, subst, ℕ, List, length, arith}
 use Rattle.std.specs.List.{flat_map}
 use Rattle.jfs_disk.specs.Image.{Image, page_of}
-use Rattle.jfs_owners.specs.page_tree.specs.Form.{AllBelow}
-use Rattle.jfs_owners.specs.page_tree.specs.Levels.{pages_below}
-use Rattle.jfs_owners.specs.page_tree.specs.Spells.{no_page}
+use Rattle.jfs_tree.specs.Form.{AllBelow}
+use Rattle.jfs_tree.specs.Levels.{pages_below}
+use Rattle.jfs_tree.specs.Spells.{no_page}
 use Rattle.jfs_xtpage.specs.declared.head.XtForm.TheVariants.{Root}
-use Rattle.jfs_owners.specs.xtree.specs.Node.{xt_node}
-use Rattle.jfs_owners.specs.xtree.specs.Spells.{page_nodes}
-use Rattle.jfs_owners.specs.findings.specs.Gains.{Gains}
-use Rattle.jfs_owners.specs.findings.specs.declared.finding.Finding.{Finding}
+use Rattle.jfs_xtree.specs.Node.{xt_node}
+use Rattle.jfs_xtree.specs.Spells.{page_nodes}
+use Rattle.jfs_findings.specs.Gains.{Gains}
+use Rattle.jfs_findings.specs.declared.finding.Finding.{Finding}
 use Rattle.jfs_owners.specs.Counts.{OwnerSets, Adds}
 use Rattle.jfs_object_check.specs.Lines.{Tells, IsThinOn, IsThinAbove, tree_nodes, rows_have, line_has, levels_have}
 use Rattle.jfs_object_check.proofs.Beside.{first_level}

@@ -2,11 +2,11 @@
 use Rattle.std.proofs.Common.{◌≡◌, ◌++◌, ◌-◌, refl, ap, ◌∙◌, subst, ℕ, length, slice_index_or, take_all, arith}
 use Rattle.jfs_bits.specs.declared.extent.Xad.{Xad}
 use Rattle.jfs_disk.specs.Image.{Image, page_of}
-use Rattle.jfs_owners.specs.page_tree.specs.Walk.{Node}
-use Rattle.jfs_owners.specs.page_tree.specs.Form.{AllBelow}
-use Rattle.jfs_owners.specs.page_tree.specs.Levels.{entry_count, pages_below}
-use Rattle.jfs_owners.specs.xtree.specs.Spells.{page_nodes}
-use Rattle.jfs_owners.specs.findings.specs.Gains.{Gains}
+use Rattle.jfs_tree.specs.Walk.{Node}
+use Rattle.jfs_tree.specs.Form.{AllBelow}
+use Rattle.jfs_tree.specs.Levels.{entry_count, pages_below}
+use Rattle.jfs_xtree.specs.Spells.{page_nodes}
+use Rattle.jfs_findings.specs.Gains.{Gains}
 use Rattle.jfs_owners.specs.Counts.{OwnerSets, Adds}
 use Rattle.jfs_object_check.specs.Lines.{Tells, IsThinOn, page_holds, line_has}
 use Rattle.jfs_object_check.proofs.Beside.{below_at, line_more}

@@ -1,6 +1,6 @@
 -- One extent more, and all of them.
-use Rattle.jfs_owners.specs.page_tree.specs.Walking.{rows_in}
-use Rattle.jfs_owners.specs.xtree.specs.Node.{xt_node}
+use Rattle.jfs_tree.specs.Walking.{rows_in}
+use Rattle.jfs_xtree.specs.Node.{xt_node}
 use Rattle.jfs_object_check.proofs.Holding.{row_more}
 use Rattle.jfs_object_check.proofs.nodes.add_rows.Goals as goal
 

@@ -1,7 +1,7 @@
 -- One child more.
 use Rattle.std.proofs.Common.{sym, subst}
-use Rattle.jfs_owners.specs.page_tree.specs.Form.{AllBelow}
-use Rattle.jfs_owners.specs.xtree.specs.Node.{xt_node}
+use Rattle.jfs_tree.specs.Form.{AllBelow}
+use Rattle.jfs_xtree.specs.Node.{xt_node}
 use Rattle.jfs_object_check.proofs.Beside.{below_push, child_pushed}
 use Rattle.jfs_object_check.proofs.nodes.push_children.Goals as goal
 

@@ -1,8 +1,8 @@
 -- The children before the loop's one stand in the list.
 use Rattle.std.proofs.Common.{◌≡◌, ◌++◌, take}
-use Rattle.jfs_owners.specs.page_tree.specs.Form.{AllBelow}
-use Rattle.jfs_owners.specs.page_tree.specs.Levels.{pages_below}
-use Rattle.jfs_owners.specs.xtree.specs.Node.{xt_node}
+use Rattle.jfs_tree.specs.Form.{AllBelow}
+use Rattle.jfs_tree.specs.Levels.{pages_below}
+use Rattle.jfs_xtree.specs.Node.{xt_node}
 use Rattle.jfs_object_check.proofs.nodes.push_children.Given as goal
 
 abbrev pub invariant-loop-i : goal.invariant-loop-i

@@ -1,7 +1,7 @@
 use Rattle.std.proofs.Common.{◌≡◌, Err}
-use Rattle.jfs_findings.specs.page_tree.specs.declared.form.TreeError.TheVariants.{Bad}
-use Rattle.jfs_findings.specs.page_tree.specs.Spells.{tree_of}
-use Rattle.jfs_findings.specs.page_tree.specs.Call.{pages_of}
+use Rattle.jfs_tree.specs.declared.form.TreeError.TheVariants.{Bad}
+use Rattle.jfs_tree.specs.Spells.{tree_of}
+use Rattle.jfs_tree.specs.Call.{pages_of}
 use Rattle.jfs_owners.proofs.Fronts.{whole_front, fault_front}
 use Rattle.jfs_owners.proofs.Seen.{seen, unsaid}
 use Rattle.jfs_owners.proofs.shown.show_sound.Goals as goal

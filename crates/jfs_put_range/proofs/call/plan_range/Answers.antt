@@ -1,10 +1,10 @@
 use Rattle.std.proofs.Common.{ap, ◌∙◌}
 use Rattle.std.specs.Prelude.{reverse}
-use Rattle.jfs_written.specs.page_tree.specs.Fresh.{blocks_of}
-use Rattle.jfs_written.specs.page_tree.proofs.Adds.{told_as, ok_maps}
+use Rattle.jfs_tree.specs.Fresh.{blocks_of}
+use Rattle.jfs_tree.proofs.Adds.{told_as, ok_maps}
 use Rattle.jfs_put_range.proofs.RootRanges.{writes_range, writes_thick, refuses_deep}
 use Rattle.std.specs.Prelude.{length}
-use Rattle.jfs_written.specs.xtree.specs.Spells.{root_form, root_node}
+use Rattle.jfs_xtree.specs.Spells.{root_form, root_node}
 use Rattle.jfs_put_range.proofs.RootFrames.{names_pages}
 use Rattle.jfs_put_range.proofs.RootNames.{named_as, read_names}
 use Rattle.jfs_put_range.proofs.call.plan_range.Goals as goal

@@ -1,9 +1,9 @@
 use Rattle.std.proofs.Common.{sym, ap, ◌∙◌, subst, Err}
 use Rattle.jfs_disk.specs.Image.{Image, page_of}
-use Rattle.jfs_written.specs.page_tree.specs.Fresh.{blocks_of}
-use Rattle.jfs_written.specs.xtree.specs.Errors.{handed_on}
+use Rattle.jfs_tree.specs.Fresh.{blocks_of}
+use Rattle.jfs_xtree.specs.Errors.{handed_on}
 use Rattle.jfs_put_range.specs.Call.{WritesRange, KeepsLeast, NamesPages}
-use Rattle.jfs_written.specs.xtree.specs.Spells.{root_node}
+use Rattle.jfs_xtree.specs.Spells.{root_node}
 use Rattle.jfs_put_range.specs.Tops.{NamesRoot}
 use Rattle.jfs_put_range.specs.Way.{RangeTellsWay, broken_on_range}
 use Rattle.jfs_put_range.proofs.Wayside.{clash_told, first_none, root_whole}

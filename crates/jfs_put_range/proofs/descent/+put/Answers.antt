@@ -1,9 +1,9 @@
 use Rattle.std.proofs.Common.{rules, ◌≡◌, ◌≤◌, ◌<◌, refl, sym, subst, ◌+◌, ◌-◌, ◌^◌, [], ◌∷◌, length, true, false, IfOk, IfErr, arith}
 use Rattle.std.specs.List.{All}
 use Rattle.jfs_bits.specs.Extent.{FitsXad}
-use Rattle.jfs_written.specs.page_tree.specs.Form.{AllBelow}
-use Rattle.jfs_written.specs.page_tree.specs.Draft.{shown}
-use Rattle.jfs_written.specs.xtree.specs.Node.{all_within}
+use Rattle.jfs_tree.specs.Form.{AllBelow}
+use Rattle.jfs_tree.specs.Draft.{shown}
+use Rattle.jfs_xtree.specs.Node.{all_within}
 use Rattle.jfs_put_range.specs.Parts.{IsPart, WrotePage, RefutesPage, RefutesChildren, Pushed, BeginsBy, OthersFramed, most_taken}
 use Rattle.jfs_put_range.proofs.Refuted.{zero_refuted, broken_refuted}
 use Rattle.jfs_disk.specs.Image.{Image}

@@ -2,10 +2,10 @@ use Rattle.std.proofs.Common.{◌≤◌, refl, sym, ap, subst, length, true, ari
 use Rattle.std.specs.List.{All}
 use Rattle.jfs_bits.specs.Extent.{FitsXad}
 use Rattle.jfs_bits.specs.declared.rule.Rule.TheVariants as rules
-use Rattle.jfs_written.specs.xtree.specs.Writing.{AllLong}
+use Rattle.jfs_xtree.specs.Writing.{AllLong}
 use Rattle.jfs_put_range.proofs.LeafPages.{leaf_wrote, leaf_refuted, leaf_few, leaf_list}
 use Rattle.jfs_xtpage.specs.declared.head.XtForm.TheVariants.{Full}
-use Rattle.jfs_written.specs.xtree.specs.Node.{frame_of}
+use Rattle.jfs_xtree.specs.Node.{frame_of}
 use Rattle.jfs_put_range.proofs.Framed.{stored_framed}
 use Rattle.jfs_put_range.proofs.Finishing.{opened_long, part_long, list_done}
 use Rattle.jfs_put_range.proofs.leaf.put_leaf.Goals as goal

@@ -1,5 +1,5 @@
 use Rattle.jfs_xtpage.specs.declared.head.XtForm.TheVariants.{Full}
-use Rattle.jfs_written.specs.xtree.specs.Node.{xt_node, frame_of}
+use Rattle.jfs_xtree.specs.Node.{xt_node, frame_of}
 use Rattle.jfs_put_range.proofs.Links.{links_again}
 use Rattle.jfs_put_range.proofs.linked.link_ends.Goals as goal
 

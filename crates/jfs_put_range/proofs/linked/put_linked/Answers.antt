@@ -1,6 +1,6 @@
 use Rattle.std.proofs.Common.{arith}
 use Rattle.jfs_put_range.proofs.Links.{steps_linked, fills_linked, refuses_read}
-use Rattle.jfs_written.specs.xtree.specs.Node.{xt_node}
+use Rattle.jfs_xtree.specs.Node.{xt_node}
 use Rattle.jfs_put_range.proofs.RootFrames.{frames_linked, others_linked}
 use Rattle.jfs_put_range.proofs.RootNames.{read_named}
 use Rattle.jfs_put_range.proofs.linked.put_linked.Goals as goal

@@ -1,5 +1,5 @@
 use Rattle.std.proofs.Common.{◌≡◌, ◌++◌, drop}
-use Rattle.jfs_written.specs.xtree.specs.Cutting.{kept_below}
+use Rattle.jfs_xtree.specs.Cutting.{kept_below}
 use Rattle.jfs_put_range.proofs.part.extents_below.Given as goal
 
 abbrev pub invariant-loop-x : goal.invariant-loop-x

@@ -1,5 +1,5 @@
 use Rattle.std.proofs.Common.{◌≡◌, ◌++◌, drop}
-use Rattle.jfs_written.specs.xtree.specs.Writing.{kept_from}
+use Rattle.jfs_xtree.specs.Writing.{kept_from}
 use Rattle.jfs_put_range.proofs.part.extents_from.Given as goal
 
 abbrev pub invariant-loop-x : goal.invariant-loop-x

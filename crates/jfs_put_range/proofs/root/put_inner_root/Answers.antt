@@ -1,7 +1,7 @@
 use Rattle.std.proofs.Common.{refl, arith}
 use Rattle.jfs_put_range.proofs.RootRanges.{pushed_steps, pushed_fills, pushed_refuses, pushed_full}
-use Rattle.jfs_written.specs.page_tree.specs.Draft.{shown}
-use Rattle.jfs_written.specs.xtree.specs.Node.{xt_node}
+use Rattle.jfs_tree.specs.Draft.{shown}
+use Rattle.jfs_xtree.specs.Node.{xt_node}
 use Rattle.jfs_put_range.proofs.Framed.{root_others}
 use Rattle.jfs_put_range.proofs.Pushing.{fewer_taken}
 use Rattle.jfs_put_range.proofs.RootFrames.{pushed_frames}

@@ -4,7 +4,7 @@ use Rattle.jfs_bits.specs.Extent.{FitsXad}
 use Rattle.jfs_put_range.proofs.LeafPages.{all_good, leaf_list}
 use Rattle.jfs_put_range.proofs.Lists.{as_part, good_long, range_few}
 use Rattle.jfs_put_range.proofs.RootRanges.{leaf_steps, leaf_fills}
-use Rattle.jfs_written.specs.xtree.specs.Node.{xt_node}
+use Rattle.jfs_xtree.specs.Node.{xt_node}
 use Rattle.jfs_put_range.proofs.Framed.{root_others}
 use Rattle.jfs_put_range.proofs.Pushing.{fewer_taken}
 use Rattle.jfs_put_range.proofs.RootFrames.{leaf_frames}

@@ -1,5 +1,5 @@
 use Rattle.jfs_put_range.proofs.RootRanges.{broken_refuses}
-use Rattle.jfs_written.specs.xtree.specs.Node.{xt_node}
+use Rattle.jfs_xtree.specs.Node.{xt_node}
 use Rattle.jfs_put_range.proofs.RootNames.{broken_named}
 use Rattle.jfs_put_range.proofs.root.put_root.Goals as goal
 

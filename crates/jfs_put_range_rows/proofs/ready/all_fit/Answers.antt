@@ -3,8 +3,8 @@ use Rattle.std.proofs.lemmas.List.{take_all}
 use Rattle.std.proofs.lemmas.List.Elements.{All-more, All-same}
 use Rattle.jfs_bits.specs.declared.extent.Xad.{Xad}
 use Rattle.jfs_xtpage.specs.Page.{end_of}
-use Rattle.jfs_put_range.specs.xtree.specs.Node.{IsGood}
-use Rattle.jfs_put_range.specs.xtree.specs.Writing.{is_recorded}
+use Rattle.jfs_xtree.specs.Node.{IsGood}
+use Rattle.jfs_xtree.specs.Writing.{is_recorded}
 use Rattle.jfs_put_range_rows.proofs.Looked.{from_more, to_more, rises_on}
 use Rattle.jfs_put_range_rows.proofs.ready.all_fit.Goals as goal
 

@@ -1,9 +1,9 @@
 use Rattle.std.proofs.Common.{◌≡◌, ◌<◌, ◌≤◌, ◌+◌, ◌^◌, true, take, drop}
 use Rattle.std.specs.List.{All}
 use Rattle.jfs_xtpage.specs.Page.{end_of, rises_from}
-use Rattle.jfs_put_range.specs.xtree.specs.CutParts.{AllFrom}
-use Rattle.jfs_put_range.specs.xtree.specs.Node.{IsGood}
-use Rattle.jfs_put_range.specs.xtree.specs.Writing.{is_recorded, AllTo}
+use Rattle.jfs_xtree.specs.CutParts.{AllFrom}
+use Rattle.jfs_xtree.specs.Node.{IsGood}
+use Rattle.jfs_xtree.specs.Writing.{is_recorded, AllTo}
 use Rattle.jfs_put_range_rows.proofs.ready.all_fit.Given as goal
 
 abbrev pub invariant-loop-x : goal.invariant-loop-x

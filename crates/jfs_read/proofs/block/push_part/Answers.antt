@@ -1,6 +1,6 @@
 use Rattle.std.proofs.Common.{◌++◌, ◌/◌, ◌∙◌, ap, ℕ, List}
 use Rattle.jfs_disk.specs.Image.{page_of}
-use Rattle.jfs_way.specs.xtree.specs.Spells.{broken_for, found_for}
+use Rattle.jfs_xtree.specs.Spells.{broken_for, found_for}
 use Rattle.jfs_read.specs.Read.{block_by}
 use Rattle.jfs_way.specs.meaning.specs.Readers.{root_of}
 use Rattle.jfs_read.proofs.Parts.{hole_part, page_part, way_went, on_ok, way_pushed, way_met}

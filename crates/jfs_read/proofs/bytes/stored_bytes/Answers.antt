@@ -1,6 +1,6 @@
 use Rattle.std.proofs.Common.{◌≡◌, ◌+◌, ◌-◌, ◌/◌, ◌++◌, ◌∙◌, refl, ap, ap₂, ℕ, List, arith}
 use Rattle.jfs_disk.specs.Image.{page_of}
-use Rattle.jfs_way.specs.plain.specs.Step.{bytes_from}
+use Rattle.jfs_plain.specs.Step.{bytes_from}
 use Rattle.jfs_read.specs.Read.{byte_on_way, broken_in, touched}
 use Rattle.jfs_read.proofs.Parts.{parts_join, none}
 use Rattle.jfs_read.proofs.Steps.{on, ends, whole}

@@ -1,6 +1,6 @@
 use Rattle.std.proofs.Common.{sym, ◌∙◌, ◌*◌, ◌-◌, arith}
 use Rattle.jfs_disk.specs.Image.{page_of}
-use Rattle.jfs_way.specs.plain.proofs.Splice.{bytes_none}
+use Rattle.jfs_plain.proofs.Splice.{bytes_none}
 use Rattle.jfs_readlink.specs.Target.{byte_at}
 use Rattle.jfs_readlink.proofs.Bytes.{more_blocks}
 use Rattle.jfs_readlink.proofs.stored.stored_bytes.Goals as goal

@@ -1,6 +1,6 @@
 use Rattle.std.proofs.Common.{◌≡◌, ◌++◌, ◌*◌, ◌-◌}
 use Rattle.jfs_disk.specs.Image.{page_of}
-use Rattle.jfs_way.specs.plain.specs.Step.{bytes_from}
+use Rattle.jfs_plain.specs.Step.{bytes_from}
 use Rattle.jfs_readlink.specs.Target.{byte_at}
 use Rattle.jfs_readlink.proofs.stored.stored_bytes.Given as goal
 

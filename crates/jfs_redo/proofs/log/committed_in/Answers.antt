@@ -1,6 +1,6 @@
 use Rattle.std.proofs.Common.{◌∙◌, ◌∷◌, drop, sym, ap, subst, Err}
 use Rattle.std.specs.List.{AllByRecursion}
-use Rattle.jfs_redo_steps.specs.records.specs.Committed.{committed}
+use Rattle.jfs_records.specs.Committed.{committed}
 use Rattle.jfs_redo.specs.Log.{IsLogOf, ExtentsLieWithin}
 use Rattle.jfs_redo.specs.declared.error.RedoError.{RedoError}
 use Rattle.jfs_redo.proofs.Extents.{extents-lie}

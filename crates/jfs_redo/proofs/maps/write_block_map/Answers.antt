@@ -1,7 +1,7 @@
 use Rattle.std.proofs.Common.{◌≤◌, ◌∙◌, ℕ, length, sym, subst, arith}
 use Rattle.std.specs.Prelude.{Option}
-use Rattle.jfs_redo_steps.specs.bmap.specs.Set.{taken_at}
-use Rattle.jfs_redo_steps.specs.bmap.specs.MapFile.{IsMapPage, is_in_use}
+use Rattle.jfs_bmap.specs.Set.{taken_at}
+use Rattle.jfs_bmap.specs.MapFile.{IsMapPage, is_in_use}
 use Rattle.jfs_redo_steps.specs.objects.specs.Contents.{block_of}
 use Rattle.jfs_redo.specs.Put.{IsPut, place_if}
 use Rattle.jfs_redo.proofs.Puts.{stepped, placed_within, behind-joins}

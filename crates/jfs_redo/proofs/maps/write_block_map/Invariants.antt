@@ -1,6 +1,6 @@
 use Rattle.std.proofs.Common.{◌≡◌, ◌≤◌, ℕ, length}
-use Rattle.jfs_redo_steps.specs.bmap.specs.Set.{taken_at}
-use Rattle.jfs_redo_steps.specs.bmap.specs.MapFile.{IsMapPage, is_in_use}
+use Rattle.jfs_bmap.specs.Set.{taken_at}
+use Rattle.jfs_bmap.specs.MapFile.{IsMapPage, is_in_use}
 use Rattle.jfs_redo_steps.specs.objects.specs.Contents.{block_of}
 use Rattle.jfs_redo.specs.Put.{ArePut, place_if}
 use Rattle.jfs_redo.specs.Redo.{StaysBehind}

@@ -1,6 +1,6 @@
 use Rattle.std.proofs.Common.{◌≡◌, ◌≤◌, ◌∙◌, ℕ, sym, ap, subst, arith}
 use Rattle.std.specs.Prelude.{Option}
-use Rattle.jfs_redo_steps.specs.imap.specs.Inodes.{IsInodePage}
+use Rattle.jfs_imap.specs.Inodes.{IsInodePage}
 use Rattle.jfs_redo_steps.specs.objects.specs.Contents.{block_of}
 use Rattle.jfs_redo.specs.Put.{put_at}
 use Rattle.jfs_redo.proofs.Puts.{stepped, behind-joins}

@@ -1,5 +1,5 @@
 use Rattle.std.proofs.Common.{◌≡◌, ◌≤◌, ℕ}
-use Rattle.jfs_redo_steps.specs.imap.specs.Inodes.{IsInodePage}
+use Rattle.jfs_imap.specs.Inodes.{IsInodePage}
 use Rattle.jfs_redo_steps.specs.objects.specs.Contents.{block_of}
 use Rattle.jfs_redo.specs.Put.{ArePut}
 use Rattle.jfs_redo.specs.Redo.{StaysBehind}

@@ -1,11 +1,11 @@
 use Rattle.std.proofs.Common.{◌≡◌, ◌<◌, ◌∙◌, ◌*◌, ℕ, List, length, drop, refl, sym, ap, subst, arith}
 use Rattle.std.proofs.lemmas.List.{take_at}
 use Rattle.jfs_bits.specs.Bits.{is_taken}
-use Rattle.jfs_redo_steps.specs.bmap.specs.Set.{taken_at}
-use Rattle.jfs_redo_steps.specs.bmap.specs.OwnedBlocks.{OwnedBlocks}
-use Rattle.jfs_redo_steps.specs.bmap.proofs.Views.{length-each_below, taken_at-each_below}
+use Rattle.jfs_bmap.specs.Set.{taken_at}
+use Rattle.jfs_bmap.specs.OwnedBlocks.{OwnedBlocks}
+use Rattle.jfs_bmap.proofs.Views.{length-each_below, taken_at-each_below}
 use Rattle.jfs_redo_steps.specs.each.specs.Each.{AllFit}
-use Rattle.jfs_redo_steps.specs.records.specs.Redo.{all_of}
+use Rattle.jfs_records.specs.Redo.{all_of}
 use Rattle.jfs_redo_steps.specs.steps.specs.After.{extents_after, used_after}
 use Rattle.jfs_redo.proofs.Places.{extents-number, places-fit}
 use Rattle.jfs_redo.proofs.Extents.{all-lie}

@@ -1,5 +1,5 @@
 use Rattle.std.proofs.Common.{rules}
-use Rattle.jfs_xtree.specs.page_tree.proofs.Taking.{below_popped}
+use Rattle.jfs_tree.proofs.Taking.{below_popped}
 use Rattle.jfs_refill.proofs.Rooting.{two_off}
 use Rattle.jfs_refill.proofs.storing.split.Goals as goal
 

@@ -1,6 +1,6 @@
 use Rattle.std.proofs.Common.{◌∙◌, sym, ap, ℕ, List}
-use Rattle.jfs_link.specs.dtree.specs.Spells.{root_node}
-use Rattle.jfs_link.specs.plain.specs.declared.refusal.Refusal.TheVariants.{NotEmpty}
+use Rattle.jfs_dtree.specs.Spells.{root_node}
+use Rattle.jfs_plain.specs.declared.refusal.Refusal.TheVariants.{NotEmpty}
 use Rattle.jfs_unlink.specs.Call.{bare_at}
 use Rattle.jfs_unlink.proofs.Bare.{is_bare, is_full}
 use Rattle.jfs_rename.proofs.Kept.{bare_told, full_told}

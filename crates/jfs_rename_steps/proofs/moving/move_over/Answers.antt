@@ -1,6 +1,6 @@
 use Rattle.std.proofs.Common.{inr, List, Result, Ok, Err, IfOk, IfErr}
 use Rattle.jfs_ranges.specs.declared.edit.Edit.{Edit}
-use Rattle.jfs_loss.specs.plain.specs.declared.refusal.Refusal.{Refusal}
+use Rattle.jfs_plain.specs.declared.refusal.Refusal.{Refusal}
 use Rattle.jfs_rename_steps.proofs.moving.move_over.Goals as goal
 
 if_ok : {A B : List Edit → Type 0} (r : Result (List Edit) Refusal) → IfOk r A → ((tx : List Edit) → A tx → B tx) → IfOk r B

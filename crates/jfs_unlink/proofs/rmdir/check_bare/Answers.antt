@@ -1,5 +1,5 @@
 use Rattle.std.proofs.Common.{◌∙◌, sym, ap, ℕ, List}
-use Rattle.jfs_loss.specs.dtree.specs.Spells.{root_node}
+use Rattle.jfs_dtree.specs.Spells.{root_node}
 use Rattle.jfs_unlink.specs.Call.{bare_at}
 use Rattle.jfs_unlink.proofs.Bare.{is_bare, is_full}
 use Rattle.jfs_unlink.proofs.rmdir.check_bare.Goals as goal

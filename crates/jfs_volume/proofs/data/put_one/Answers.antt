@@ -1,4 +1,4 @@
-use Rattle.jfs_halves.specs.pages.specs.Kept.{dirty_in}
+use Rattle.jfs_pages.specs.Kept.{dirty_in}
 use Rattle.jfs_volume.proofs.Putting.{puts-one}
 use Rattle.jfs_volume.proofs.data.put_one.Goals as goal
 

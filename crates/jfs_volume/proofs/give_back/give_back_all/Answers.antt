@@ -1,8 +1,8 @@
 use Rattle.std.proofs.Common.{sym, ◌∙◌, ap, List, arith}
 use Rattle.std.proofs.lemmas.List.{drop_all}
 use Rattle.jfs_ranges.specs.declared.edit.Edit.{Edit}
-use Rattle.jfs_marks.specs.bmap.specs.States.{Free, put_state}
-use Rattle.jfs_marks.specs.bmap.proofs.Puts.{put-none}
+use Rattle.jfs_bmap.specs.States.{Free, put_state}
+use Rattle.jfs_bmap.proofs.Puts.{put-none}
 use Rattle.jfs_volume.specs.Runs.{taken_in}
 use Rattle.jfs_volume.proofs.GivingBack.{next-there, rest-there, rest-freed}
 use Rattle.jfs_volume.proofs.give_back.give_back_all.Goals as goal

@@ -1,5 +1,5 @@
 use Rattle.std.proofs.Common.{◌≡◌, drop}
-use Rattle.jfs_marks.specs.bmap.specs.States.{Free, AreReserved, put_state}
+use Rattle.jfs_bmap.specs.States.{Free, AreReserved, put_state}
 use Rattle.jfs_volume.specs.Runs.{taken_in}
 use Rattle.jfs_volume.proofs.give_back.give_back_all.Given as goal
 

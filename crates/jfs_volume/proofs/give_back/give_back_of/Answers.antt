@@ -1,7 +1,7 @@
 use Rattle.std.proofs.Common.{sym, ◌∙◌, ap, List}
 use Rattle.jfs_bits.specs.declared.descriptor.Pxd.{Pxd}
-use Rattle.jfs_marks.specs.bmap.specs.States.{Free, is_in_list}
-use Rattle.jfs_marks.specs.bmap.proofs.Puts.{put-none}
+use Rattle.jfs_bmap.specs.States.{Free, is_in_list}
+use Rattle.jfs_bmap.proofs.Puts.{put-none}
 use Rattle.jfs_volume.specs.Runs.{runs_of}
 use Rattle.jfs_volume.proofs.GivingBack.{in_one}
 use Rattle.jfs_volume.proofs.give_back.give_back_of.Goals as goal

@@ -1,7 +1,7 @@
 use Rattle.std.proofs.Common.{◌+◌, ◌++◌, ℕ, List, [], ◌∷◌, length, ap, ◌∙◌, subst}
 use Rattle.std.proofs.lemmas.Bool.{eqb-false}
-use Rattle.jfs_volume.specs.logpages.specs.Group.{Holds, position_of}
-use Rattle.jfs_volume.specs.logpages.specs.Ring.{ends_with}
+use Rattle.jfs_logpages.specs.Group.{Holds, position_of}
+use Rattle.jfs_logpages.specs.Ring.{ends_with}
 use Rattle.jfs_volume.specs.halves.specs.Change.{Takes, after}
 use Rattle.jfs_volume.proofs.Counts.{log_stops_moves}
 use Rattle.jfs_volume_calls.specs.Together.{log_parts}

@@ -1,6 +1,6 @@
 use Rattle.std.proofs.Common.{◌+◌, ◌++◌, ℕ, List, [], ◌∷◌, length, ap, ◌∙◌, subst}
-use Rattle.jfs_volume.specs.logpages.specs.Group.{Holds, position_of}
-use Rattle.jfs_volume.specs.logpages.specs.Ring.{ends_with}
+use Rattle.jfs_logpages.specs.Group.{Holds, position_of}
+use Rattle.jfs_logpages.specs.Ring.{ends_with}
 use Rattle.jfs_volume.specs.halves.specs.Parts.{Parts}
 use Rattle.jfs_volume.specs.halves.specs.Change.{Points, Takes, after}
 use Rattle.jfs_volume.proofs.Counts.{log_stops_moves}

@@ -1,5 +1,5 @@
 use Rattle.std.proofs.Common.{◌≡◌, ℕ, true, List, [], sym, subst, ap}
-use Rattle.jfs_volume.specs.bmap.specs.States.{AreReserved}
+use Rattle.jfs_bmap.specs.States.{AreReserved}
 use Rattle.jfs_ranges.specs.declared.edit.Edit.{Edit}
 use Rattle.jfs_volume.specs.Runs.{taken_in}
 use Rattle.jfs_volume_rows.proofs.Fresh.{none_reserved}

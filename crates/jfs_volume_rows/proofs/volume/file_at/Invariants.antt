@@ -1,5 +1,5 @@
 use Rattle.std.proofs.Common.{◌≡◌, length}
-use Rattle.jfs_volume.specs.map_files.specs.Places.{AreWithin}
+use Rattle.jfs_map_files.specs.Places.{AreWithin}
 use Rattle.jfs_volume_rows.proofs.volume.file_at.Given as goal
 
 abbrev pub invariant-loop-n : goal.invariant-loop-n

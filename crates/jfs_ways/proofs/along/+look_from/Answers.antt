@@ -1,6 +1,6 @@
 use Rattle.std.proofs.Common.{arith}
 use Rattle.jfs_disk.specs.Image.{page_of}
-use Rattle.jfs_xtree.specs.page_tree.specs.Path.{broken_on_way}
+use Rattle.jfs_tree.specs.Path.{broken_on_way}
 use Rattle.jfs_xtree.specs.Node.{xt_scale, xt_node}
 use Rattle.jfs_xtree.specs.Spells.{page_nodes}
 use Rattle.jfs_ways.proofs.Ways.{rest_tells, same_broken, until_err}

@@ -1,6 +1,6 @@
 use Rattle.std.proofs.Common.{refl, sym, subst, Ok}
 use Rattle.jfs_disk.specs.Image.{page_of}
-use Rattle.jfs_xtree.specs.page_tree.proofs.RootCalls.{names_root}
+use Rattle.jfs_tree.proofs.RootCalls.{names_root}
 use Rattle.jfs_xtree.specs.Node.{xt_scale, xt_node}
 use Rattle.jfs_xtree.specs.Spells.{page_nodes}
 use Rattle.jfs_ways.specs.Leading.{LeadsOn}

@@ -1,7 +1,7 @@
 use Rattle.std.proofs.Common.{sym, ap, ◌∙◌, subst, ◌-◌, Ok, Some, arith}
 use Rattle.jfs_disk.specs.Image.{page_of}
-use Rattle.jfs_xtree.specs.page_tree.specs.Path.{below_root}
-use Rattle.jfs_xtree.specs.page_tree.proofs.Path.{way_deep}
+use Rattle.jfs_tree.specs.Path.{below_root}
+use Rattle.jfs_tree.proofs.Path.{way_deep}
 use Rattle.jfs_xtree.specs.Node.{xt_scale, xt_node}
 use Rattle.jfs_xtree.specs.Spells.{page_nodes}
 use Rattle.jfs_ways.specs.Leading.{LeadsOn}

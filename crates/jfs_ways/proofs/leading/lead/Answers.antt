@@ -1,5 +1,5 @@
 use Rattle.std.proofs.Common.{refl, subst, Ok, arith}
-use Rattle.jfs_xtree.specs.page_tree.specs.Form.{Leads, TellsLast}
+use Rattle.jfs_tree.specs.Form.{Leads, TellsLast}
 use Rattle.jfs_xtree.specs.Node.{xt_scale, xt_node}
 use Rattle.jfs_ways.proofs.Until.{until_end, until_next, has_next, fits_next}
 use Rattle.jfs_ways.proofs.leading.lead.Goals as goal

@@ -1,5 +1,5 @@
 use Rattle.std.proofs.Common.{subst, Ok}
-use Rattle.jfs_xtree.specs.page_tree.proofs.Finding.{bare_breaks, filled_leaf}
+use Rattle.jfs_tree.proofs.Finding.{bare_breaks, filled_leaf}
 use Rattle.jfs_xtree.specs.Node.{xt_node}
 use Rattle.jfs_ways.specs.Leading.{LeadsOn}
 use Rattle.jfs_ways.proofs.leading.lead_below.Goals as goal

@@ -1,7 +1,7 @@
 use Rattle.std.proofs.Common.{ap, subst, ◌∙◌, ℕ, List, length, IfOk, IfErr}
 use Rattle.std.proofs.lemmas.List.{length-replicate}
 use Rattle.jfs_disk.specs.Image.{page_of}
-use Rattle.jfs_link.specs.plain.specs.Step.{write}
+use Rattle.jfs_plain.specs.Step.{write}
 use Rattle.jfs_write.specs.Call.{IsStopped, StepsInRoom, StartsWrite}
 use Rattle.jfs_write.proofs.Calls.{fill_starts}
 use Rattle.jfs_write.proofs.file.fill.Goals as goal

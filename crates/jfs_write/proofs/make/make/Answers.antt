@@ -1,5 +1,5 @@
 use Rattle.std.proofs.Common.{◌∙◌, length}
-use Rattle.jfs_link.specs.page_tree.specs.Fresh.{blocks_of}
+use Rattle.jfs_tree.specs.Fresh.{blocks_of}
 use Rattle.jfs_write.proofs.Spots.{few_of, seen_fit, seen_short, seen_range, seen_needed}
 use Rattle.jfs_write.proofs.make.make.Goals as goal
 

@@ -1,6 +1,6 @@
 use Rattle.std.proofs.Common.{ap, ◌∙◌, length}
 use Rattle.jfs_disk.specs.Image.{page_of}
-use Rattle.jfs_link.specs.page_tree.specs.Fresh.{blocks_of}
+use Rattle.jfs_tree.specs.Fresh.{blocks_of}
 use Rattle.jfs_write_pages.specs.Spots.{extents_for}
 use Rattle.jfs_write.proofs.Moves.{puts_some, not_none}
 use Rattle.jfs_write.proofs.tree.put_extents.Goals as goal

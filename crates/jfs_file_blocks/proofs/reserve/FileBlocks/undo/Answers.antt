@@ -1,5 +1,5 @@
 use Rattle.std.proofs.Common.{ap, ◌∙◌}
-use Rattle.jfs_claim.specs.bmap.specs.States.{Blocks, Free, put_state}
+use Rattle.jfs_bmap.specs.States.{Blocks, Free, put_state}
 use Rattle.jfs_file_blocks.proofs.Counting.{claim_reserves, held, held_reserved, held_back}
 use Rattle.jfs_file_blocks.proofs.reserve.FileBlocks.undo.Goals as goal
 

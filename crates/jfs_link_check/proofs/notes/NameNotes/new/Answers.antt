@@ -1,5 +1,5 @@
 -- No name was seen.
-use Rattle.jfs_object_check.specs.each.specs.Each.{found_at}
+use Rattle.jfs_each.specs.Each.{found_at}
 use Rattle.jfs_link_check.specs.Notes.{names_by}
 use Rattle.jfs_link_check.proofs.Noted.{none_noted}
 use Rattle.jfs_link_check.proofs.notes.NameNotes.new.Goals as goal

@@ -1,5 +1,5 @@
 use Rattle.std.proofs.Common.{◌∙◌, sym, arith}
-use Rattle.jfs_halves.specs.pages.specs.Whole.{page_of-image_in}
+use Rattle.jfs_pages.specs.Whole.{page_of-image_in}
 use Rattle.jfs_volume.proofs.front.Front.load.Goals as goal
 
 pub returns-in-Ok-clause-bytes : goal.returns-in-Ok-clause-bytes

@@ -1,6 +1,6 @@
 use Rattle.std.proofs.Common.{ℕ, length, ap, ◌∙◌, refl}
-use Rattle.jfs_marks.specs.bmap.specs.States.{Blocks, BlockState, settled_state}
-use Rattle.jfs_marks.specs.bmap.proofs.States.{changed-length}
+use Rattle.jfs_bmap.specs.States.{Blocks, BlockState, settled_state}
+use Rattle.jfs_bmap.proofs.States.{changed-length}
 use Rattle.jfs_volume.proofs.Busy.{between_settled}
 use Rattle.jfs_volume.proofs.Files.{files_kept}
 use Rattle.jfs_volume.proofs.volume.Volume.acknowledge.Goals as goal

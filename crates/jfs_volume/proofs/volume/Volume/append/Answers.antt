@@ -1,8 +1,8 @@
 use Rattle.std.proofs.Common.{◌<◌, ◌+◌, ℕ, List, length, sym, ap, ◌∙◌, subst, rules, arith}
 use Rattle.jfs_ranges.specs.declared.edit.Edit.{Edit}
 use Rattle.jfs_ranges.specs.Apply.{touches_tx}
-use Rattle.jfs_marks.specs.records.specs.Records.{noted}
-use Rattle.jfs_halves.specs.pages.specs.Dirty.{dirty_of}
+use Rattle.jfs_records.specs.Records.{noted}
+use Rattle.jfs_pages.specs.Dirty.{dirty_of}
 use Rattle.jfs_halves.specs.Parts.{Parts, StandsFor}
 use Rattle.jfs_volume.specs.Append.{unreserved}
 use Rattle.jfs_volume.specs.Room.{has_room}

@@ -1,5 +1,5 @@
 use Rattle.std.proofs.Common.{◌≡◌, ℕ}
-use Rattle.jfs_marks.specs.bmap.specs.States.{AreReserved}
+use Rattle.jfs_bmap.specs.States.{AreReserved}
 use Rattle.jfs_volume.specs.Runs.{taken_in}
 use Rattle.jfs_volume.specs.declared.calling.Called.TheVariants as called
 use Rattle.jfs_volume.proofs.CallJoins.{given_back}

@@ -1,6 +1,6 @@
 use Rattle.std.proofs.Common.{ℕ, refl, ap, ◌∙◌, arith}
 use Rattle.jfs_disk.specs.Image.{Image, page_of}
-use Rattle.jfs_halves.specs.pages.specs.Kept.{image_in}
+use Rattle.jfs_pages.specs.Kept.{image_in}
 use Rattle.jfs_volume.proofs.Stand.{image-dropped}
 use Rattle.jfs_volume.proofs.Dropping.{other_page}
 use Rattle.jfs_volume.proofs.Homing.{drops_moves}

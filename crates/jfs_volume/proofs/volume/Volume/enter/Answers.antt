@@ -1,12 +1,12 @@
 use Rattle.std.proofs.Common.{◌≡◌, ◌≤◌, ◌+◌, ◌∷◌, [], ℕ, true, Bool, List, length, refl, sym, ap, ◌∙◌, subst, arith}
 use Rattle.jfs_ranges.specs.declared.edit.Edit.{Edit}
 use Rattle.jfs_ranges.specs.Apply.{touches_tx}
-use Rattle.jfs_halves.specs.pages.specs.declared.dirty.Dirty.{Dirty}
-use Rattle.jfs_halves.specs.pages.specs.Dirty.{dirty_of, touched_by}
-use Rattle.jfs_halves.specs.pages.specs.Kept.{image_in, dirty_in}
-use Rattle.jfs_marks.specs.records.specs.Records.{tx_of}
+use Rattle.jfs_pages.specs.declared.dirty.Dirty.{Dirty}
+use Rattle.jfs_pages.specs.Dirty.{dirty_of, touched_by}
+use Rattle.jfs_pages.specs.Kept.{image_in, dirty_in}
+use Rattle.jfs_records.specs.Records.{tx_of}
 use Rattle.jfs_halves.specs.Parts.{Text, StandsFor}
-use Rattle.jfs_marks.specs.bmap.specs.States.{Blocks, AreReserved}
+use Rattle.jfs_bmap.specs.States.{Blocks, AreReserved}
 use Rattle.jfs_halves.specs.Change.{Enters, after}
 use Rattle.jfs_halves.proofs.Joined.{join}
 use Rattle.jfs_volume.specs.Append.{IsWritable, entered, unreserved}

@@ -1,6 +1,6 @@
 use Rattle.std.proofs.Common.{ℕ, length, ap, ◌∙◌, refl, if◌then◌else◌}
-use Rattle.jfs_marks.specs.bmap.specs.States.{Blocks, BlockState, Free, is_in_list}
-use Rattle.jfs_marks.specs.bmap.proofs.States.{changed-length}
+use Rattle.jfs_bmap.specs.States.{Blocks, BlockState, Free, is_in_list}
+use Rattle.jfs_bmap.proofs.States.{changed-length}
 use Rattle.jfs_volume.specs.Runs.{taken_in}
 use Rattle.jfs_volume.proofs.Busy.{between_freed}
 use Rattle.jfs_volume.proofs.Files.{files_kept}

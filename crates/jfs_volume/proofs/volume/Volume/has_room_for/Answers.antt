@@ -1,6 +1,6 @@
 use Rattle.std.proofs.Common.{sym, ◌∙◌}
-use Rattle.jfs_marks.specs.records.specs.Records.{noted}
-use Rattle.jfs_marks.specs.records.specs.Sizes.{entry_size}
+use Rattle.jfs_records.specs.Records.{noted}
+use Rattle.jfs_records.specs.Sizes.{entry_size}
 use Rattle.jfs_volume.specs.Text.{text_in}
 use Rattle.jfs_volume.proofs.Texts.{room_same, room_fits}
 use Rattle.jfs_volume.proofs.volume.Volume.has_room_for.Goals as goal

@@ -1,4 +1,4 @@
-use Rattle.jfs_halves.specs.pages.specs.Whole.{whole_in}
+use Rattle.jfs_pages.specs.Whole.{whole_in}
 use Rattle.jfs_volume.proofs.volume.Volume.has_whole_pages.Goals as goal
 
 pub returns : goal.returns

@@ -1,5 +1,5 @@
 use Rattle.std.proofs.Common.{◌≡◌, ◌≤◌, ℕ, List}
-use Rattle.jfs_halves.specs.pages.specs.Dirty.{IsDirty}
+use Rattle.jfs_pages.specs.Dirty.{IsDirty}
 use Rattle.jfs_halves.specs.Parts.{OfEachHalf}
 use Rattle.jfs_halves.specs.Moves.{Moves}
 use Rattle.jfs_volume.specs.Settle.{go_home, KeepsCounts}

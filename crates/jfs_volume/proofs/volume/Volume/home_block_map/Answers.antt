@@ -1,9 +1,9 @@
 use Rattle.std.proofs.Common.{◌+◌, ℕ, suc, [], length, slice_get, refl, sym, ap, ◌∙◌, subst, arith, ◌++◌}
-use Rattle.jfs_marks.specs.bmap.specs.MapFile.{IsMapPage, is_in_use}
-use Rattle.jfs_marks.specs.bmap.specs.States.{Blocks, is_owned}
-use Rattle.jfs_halves.specs.map_files.specs.declared.map_file.MapFiles.{MapFiles}
-use Rattle.jfs_halves.specs.map_files.specs.Places.{AreWithin}
-use Rattle.jfs_halves.specs.pages.specs.Dirty.{dirty_of}
+use Rattle.jfs_bmap.specs.MapFile.{IsMapPage, is_in_use}
+use Rattle.jfs_bmap.specs.States.{Blocks, is_owned}
+use Rattle.jfs_map_files.specs.declared.map_file.MapFiles.{MapFiles}
+use Rattle.jfs_map_files.specs.Places.{AreWithin}
+use Rattle.jfs_pages.specs.Dirty.{dirty_of}
 use Rattle.jfs_halves.specs.Parts.{Parts}
 use Rattle.jfs_halves.specs.Change.{after}
 use Rattle.jfs_volume.specs.Shown.{PutsPage}

@@ -1,8 +1,8 @@
 use Rattle.std.proofs.Common.{◌+◌, ℕ, suc, true, [], length, slice_get, refl, sym, ap, ◌∙◌, subst, arith, ◌++◌}
-use Rattle.jfs_marks.specs.imap.specs.Inodes.{Inodes, IsInodePage}
-use Rattle.jfs_halves.specs.map_files.specs.declared.map_file.MapFiles.{MapFiles}
-use Rattle.jfs_halves.specs.map_files.specs.Places.{AreWithin}
-use Rattle.jfs_halves.specs.pages.specs.Dirty.{dirty_of}
+use Rattle.jfs_imap.specs.Inodes.{Inodes, IsInodePage}
+use Rattle.jfs_map_files.specs.declared.map_file.MapFiles.{MapFiles}
+use Rattle.jfs_map_files.specs.Places.{AreWithin}
+use Rattle.jfs_pages.specs.Dirty.{dirty_of}
 use Rattle.jfs_halves.specs.Parts.{Parts}
 use Rattle.jfs_halves.specs.Change.{after}
 use Rattle.jfs_volume.specs.Shown.{PutsPage}

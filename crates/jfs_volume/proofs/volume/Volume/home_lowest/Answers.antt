@@ -1,5 +1,5 @@
 use Rattle.std.proofs.Common.{inl, sym, ◌∙◌}
-use Rattle.jfs_halves.specs.pages.specs.Kept.{dirty_in}
+use Rattle.jfs_pages.specs.Kept.{dirty_in}
 use Rattle.jfs_volume.proofs.Rising.{none_first, not_some, lowest_gone}
 use Rattle.jfs_volume.proofs.volume.Volume.home_lowest.Goals as goal
 

@@ -1,6 +1,6 @@
 use Rattle.std.proofs.Common.{◌≡◌, true, ap, ◌∙◌, subst}
-use Rattle.jfs_marks.specs.imap.specs.Inodes.{Inodes, IsInodePage}
-use Rattle.jfs_halves.specs.map_files.specs.declared.map_file.MapFiles.{MapFiles}
+use Rattle.jfs_imap.specs.Inodes.{Inodes, IsInodePage}
+use Rattle.jfs_map_files.specs.declared.map_file.MapFiles.{MapFiles}
 use Rattle.jfs_halves.specs.Parts.{Parts}
 use Rattle.jfs_halves.specs.Change.{after}
 use Rattle.jfs_volume.specs.MapsHome.{with_inodes_written}

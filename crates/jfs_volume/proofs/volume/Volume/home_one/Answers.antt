@@ -1,7 +1,7 @@
 use Rattle.std.proofs.Common.{ℕ, List, [], ◌∷◌, ◌++◌, set, refl, sym, ap, ◌∙◌, arith}
 use Rattle.jfs_disk.specs.Crash.{written, last_of}
 use Rattle.jfs_disk.specs.Image.{Image, page_of}
-use Rattle.jfs_halves.specs.pages.specs.Kept.{image_in}
+use Rattle.jfs_pages.specs.Kept.{image_in}
 use Rattle.jfs_volume.proofs.Stand.{image-same, image-at}
 use Rattle.jfs_volume.proofs.Homing.{home_moves, fails_moves}
 use Rattle.jfs_volume.proofs.volume.Volume.home_one.Goals as goal

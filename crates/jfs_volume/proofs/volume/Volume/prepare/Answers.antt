@@ -1,9 +1,9 @@
 use Rattle.std.proofs.Common.{◌≡◌, ◌+◌, List, length, sym, ap, ◌∙◌, arith}
 use Rattle.jfs_bits.specs.declared.descriptor.Pxd.{Pxd}
 use Rattle.jfs_ranges.specs.declared.edit.Edit.{Edit}
-use Rattle.jfs_marks.specs.records.specs.Records.{noted, tx_of}
-use Rattle.jfs_marks.specs.records.specs.Sizes.{bytes_of}
-use Rattle.jfs_marks.specs.records.proofs.Sizes.{entry_sized}
+use Rattle.jfs_records.specs.Records.{noted, tx_of}
+use Rattle.jfs_records.specs.Sizes.{bytes_of}
+use Rattle.jfs_records.proofs.Sizes.{entry_sized}
 use Rattle.jfs_volume.specs.Runs.{taken_in, freed_in, pages_freed}
 use Rattle.jfs_volume.proofs.Texts.{all_fit, tx_of-noted}
 use Rattle.jfs_volume.proofs.Taken.{few_freed}

@@ -1,7 +1,7 @@
 use Rattle.std.proofs.Common.{◌≡◌, ◌<◌, ◌≤◌, ℕ, false, Some, slice_get}
 use Rattle.jfs_disk.specs.Image.{page_of}
-use Rattle.jfs_marks.specs.bmap.specs.States.{blocks_settled}
-use Rattle.jfs_halves.specs.pages.specs.Dirty.{dirty_of}
+use Rattle.jfs_bmap.specs.States.{blocks_settled}
+use Rattle.jfs_pages.specs.Dirty.{dirty_of}
 use Rattle.jfs_halves.specs.declared.freed.FreedPage.{FreedPage}
 use Rattle.jfs_halves.specs.Parts.{OfEachHalf}
 use Rattle.jfs_volume.specs.Settles.{is_freed}

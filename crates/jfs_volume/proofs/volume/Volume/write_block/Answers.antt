@@ -1,6 +1,6 @@
 use Rattle.std.proofs.Common.{ℕ, refl, ap, ◌∙◌, arith}
 use Rattle.jfs_disk.specs.Image.{page_of}
-use Rattle.jfs_halves.specs.pages.specs.Kept.{image_in}
+use Rattle.jfs_pages.specs.Kept.{image_in}
 use Rattle.jfs_volume.proofs.Stand.{image-at, length-image}
 use Rattle.jfs_volume.proofs.Putting.{image-set}
 use Rattle.jfs_volume.proofs.Writing.{write_moves, write_fails}

@@ -1,1 +1,0 @@
--- libraries below, passed on
