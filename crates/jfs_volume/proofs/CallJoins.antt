@@ -173,7 +173,7 @@ goes tells tx old mid g = record { halted = g.halted; view = g.view; faults = g.
 
 unreserving : (tells : Type 0) (entry : Entry) (tx : List Edit) (put : List DataPage) (old mid : Parts) (result : Called) → AreReserved old.map (taken_in tx) → ((number : ℕ) → result ≡ called.Entered number → ⊥) → ReservedIs tells entry tx put old mid result → CallIs tells entry tx put old (unreserved tx mid) result
 unreserving tells entry tx put old mid (called.Entered number) reserved other r = absurd (other number refl)
-unreserving tells entry tx put old mid called.NoRoom reserved other r = (gives tx old mid reserved r.0, goes tells tx old mid r.1.0, r.1.1)
+unreserving tells entry tx put old mid called.NoRoom reserved other r = (gives tx old mid reserved r.0, goes tells tx old mid r.1, r.2)
 unreserving tells entry tx put old mid called.NoMemory reserved other r = (may_give tx old (unreserved tx mid) (gives tx old mid reserved r.0), goes tells tx old mid r.1)
 unreserving tells entry tx put old mid (called.Failed fault) reserved other r = (gives tx old mid reserved r.0, record { is_fault = r.1.is_fault; halted = r.1.halted })
 unreserving tells entry tx put old mid called.Unfit reserved other r = (may_give tx old (unreserved tx mid) (gives tx old mid reserved r.0), goes tells tx old mid r.1)
