@@ -2,14 +2,14 @@
 use Rattle.std.proofs.Common.{◌≡◌, sym, subst, ℕ, List, Ok}
 use Rattle.jfs_disk.specs.Image.{Image, page_of}
 use Rattle.jfs_super.specs.declared.fields.Super.{Super}
-use Rattle.jfs_object_check.specs.objects.specs.Owners.{owners}
-use Rattle.jfs_mount.specs.Subject.{Subject, subject_of, volume}
-use Rattle.jfs_mount.specs.Steps.{AreRead, Mounts}
-use Rattle.jfs_mount.specs.declared.maps.Mounted.{Mounted}
+use Rattle.jfs_link_check.specs.objects.specs.Owners.{owners}
+use Rattle.jfs_findings.specs.mount_rules.specs.Subject.{Subject, subject_of, volume}
+use Rattle.jfs_findings.specs.mount_rules.specs.Steps.{AreRead, Mounts}
+use Rattle.jfs_findings.specs.mount_rules.specs.declared.maps.Mounted.{Mounted}
 use Rattle.jfs_findings.specs.Gains.{Gains}
 use Rattle.jfs_findings.specs.declared.finding.Finding.{Finding}
-use Rattle.jfs_object_check.proofs.Found.{gains_both}
-use Rattle.jfs_owners.specs.Counts.{Counts}
+use Rattle.jfs_link_check.specs.object_check.proofs.Found.{gains_both}
+use Rattle.jfs_link_check.specs.owners.specs.Counts.{Counts}
 use Rattle.jfs_link_check.specs.Found.{IsOfNames}
 use Rattle.jfs_check.specs.Looked.{AreInUse, IsOfTrees, IsOfMaps, IsOfAny, Looked}
 use Rattle.jfs_check.specs.declared.look.Look.{Look}

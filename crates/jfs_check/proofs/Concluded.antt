@@ -3,11 +3,11 @@ use Rattle.std.proofs.Common.{◌≡◌, inl, inr, sym, ap, ◌∙◌, subst, �
 use Rattle.std.proofs.lemmas.List.FromFn.{length-map-range_with_len}
 use Rattle.jfs_bits.specs.Bits.{is_taken, count_below}
 use Rattle.jfs_bits.proofs.Counts.{count_below-same}
-use Rattle.jfs_object_check.specs.objects.specs.Owners.{owners}
-use Rattle.jfs_object_check.specs.objects.specs.Image.{extent_on, extents_on}
-use Rattle.jfs_owners.specs.Counts.{Counts}
-use Rattle.jfs_mount.specs.Subject.{Subject, volume, object, blocks}
-use Rattle.jfs_mount.specs.Mount.{BadMount, broken_mount, iags}
+use Rattle.jfs_link_check.specs.objects.specs.Owners.{owners}
+use Rattle.jfs_link_check.specs.objects.specs.Image.{extent_on, extents_on}
+use Rattle.jfs_link_check.specs.owners.specs.Counts.{Counts}
+use Rattle.jfs_findings.specs.mount_rules.specs.Subject.{Subject, volume, object, blocks}
+use Rattle.jfs_findings.specs.mount_rules.specs.Mount.{BadMount, broken_mount, iags}
 use Rattle.jfs_findings.specs.Gains.{Gains, HasSame}
 use Rattle.jfs_findings.specs.Findings.{AreFindings, IsFinding, SaysUnless, Rise}
 use Rattle.jfs_findings.specs.declared.finding.Finding.{Finding}

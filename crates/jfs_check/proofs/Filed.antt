@@ -3,29 +3,29 @@ use Rattle.std.proofs.Common.{◌≡◌, ◌<◌, refl, sym, ap, ◌∙◌, subs
 use Rattle.std.specs.Prelude.{IfOk, OnOk}
 use Rattle.jfs_bits.specs.declared.rule.Rule.{Rule}
 use Rattle.jfs_bits.specs.declared.extent.Xad.{Xad}
-use Rattle.jfs_object_check.specs.bmap.specs.MapFile.{pages_of}
+use Rattle.jfs_map_check.specs.bmap.specs.MapFile.{pages_of}
 use Rattle.jfs_disk.specs.Image.{Image, page_of}
 use Rattle.jfs_super.specs.Rules.{blocks_of}
 use Rattle.jfs_super.specs.declared.fields.Super.{Super}
-use Rattle.jfs_object_check.specs.page_tree.specs.Walk.{Marks}
-use Rattle.jfs_object_check.specs.xtree.specs.Node.{xt_scale}
-use Rattle.jfs_object_check.specs.objects.specs.Objects.{listed}
-use Rattle.jfs_object_check.specs.objects.specs.Owners.{entries}
-use Rattle.jfs_object_check.specs.objects.specs.Contents.{block_of}
-use Rattle.jfs_object_check.specs.objects.specs.Image.{aggregate_at, file_walk, file_extents, file_has, area_on}
-use Rattle.jfs_object_check.specs.meaning.specs.Readers.{readers, root_of}
-use Rattle.jfs_mount.specs.Subject.{Subject, subject_of, blocks}
-use Rattle.jfs_mount.specs.Mount.{broken_mount, covered, iags}
+use Rattle.jfs_link_check.specs.page_tree.specs.Walk.{Marks}
+use Rattle.jfs_link_check.specs.xtree.specs.Node.{xt_scale}
+use Rattle.jfs_link_check.specs.objects.specs.Objects.{listed}
+use Rattle.jfs_link_check.specs.objects.specs.Owners.{entries}
+use Rattle.jfs_link_check.specs.objects.specs.Contents.{block_of}
+use Rattle.jfs_link_check.specs.objects.specs.Image.{aggregate_at, file_walk, file_extents, file_has, area_on}
+use Rattle.jfs_findings.specs.meaning.specs.Readers.{readers, root_of}
+use Rattle.jfs_findings.specs.mount_rules.specs.Subject.{Subject, subject_of, blocks}
+use Rattle.jfs_findings.specs.mount_rules.specs.Mount.{broken_mount, covered, iags}
 use Rattle.jfs_findings.specs.Gains.{Gains}
 use Rattle.jfs_findings.specs.declared.finding.Finding.{Finding}
 use Rattle.jfs_findings.specs.declared.finding.FindingKind.TheVariants as kinds
 use Rattle.jfs_findings.proofs.Mounted.{mounted, on_block}
-use Rattle.jfs_object_check.specs.Laws.{IsOfFile}
-use Rattle.jfs_object_check.specs.Steps.{IsBroken, IsSound}
-use Rattle.jfs_object_check.proofs.Found.{gains_as}
-use Rattle.jfs_owners.specs.Counts.{OwnerSets, Adds}
-use Rattle.jfs_owners.specs.Held.{areas_have, extents_walk, extents_held}
-use Rattle.jfs_owners.proofs.Areas.{area_joined, same_walk, file_adds}
+use Rattle.jfs_link_check.specs.object_check.specs.Laws.{IsOfFile}
+use Rattle.jfs_link_check.specs.object_check.specs.Steps.{IsBroken, IsSound}
+use Rattle.jfs_link_check.specs.object_check.proofs.Found.{gains_as}
+use Rattle.jfs_link_check.specs.owners.specs.Counts.{OwnerSets, Adds}
+use Rattle.jfs_link_check.specs.owners.specs.Held.{areas_have, extents_walk, extents_held}
+use Rattle.jfs_link_check.specs.owners.proofs.Areas.{area_joined, same_walk, file_adds}
 use Rattle.jfs_check.proofs.Seen.{list_or_fault, has_list}
 
 -- ---- the files of both maps break no rule, where a mount finds none broken

@@ -4,15 +4,15 @@ use Rattle.jfs_bits.specs.Bits.{is_taken}
 use Rattle.jfs_disk.specs.Image.{Image, page_of}
 use Rattle.jfs_super.specs.Rules.{blocks_of}
 use Rattle.jfs_super.specs.declared.fields.Super.{Super}
-use Rattle.jfs_object_check.specs.objects.specs.Owners.{owners}
-use Rattle.jfs_mount.specs.Subject.{Subject, subject_of, volume}
-use Rattle.jfs_mount.specs.Steps.{AreRead}
-use Rattle.jfs_mount.specs.declared.maps.Maps.{Maps}
+use Rattle.jfs_link_check.specs.objects.specs.Owners.{owners}
+use Rattle.jfs_findings.specs.mount_rules.specs.Subject.{Subject, subject_of, volume}
+use Rattle.jfs_findings.specs.mount_rules.specs.Steps.{AreRead}
+use Rattle.jfs_findings.specs.mount_rules.specs.declared.maps.Maps.{Maps}
 use Rattle.jfs_findings.specs.Gains.{Gains}
 use Rattle.jfs_findings.specs.declared.finding.Finding.{Finding}
-use Rattle.jfs_object_check.proofs.Found.{gains_both}
-use Rattle.jfs_owners.specs.Counts.{OwnerSets, Counts}
-use Rattle.jfs_owners.specs.Shared.{SaysShared}
+use Rattle.jfs_link_check.specs.object_check.proofs.Found.{gains_both}
+use Rattle.jfs_link_check.specs.owners.specs.Counts.{OwnerSets, Counts}
+use Rattle.jfs_link_check.specs.owners.specs.Shared.{SaysShared}
 use Rattle.jfs_map_check.specs.Found.{KnowsOwners, IsOfBlockMap}
 use Rattle.jfs_map_check.specs.Inodes.{KnowsInodes, IsOfInodeMap}
 use Rattle.jfs_check.specs.Looked.{AreInUse, IsOfMaps}

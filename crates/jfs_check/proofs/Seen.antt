@@ -4,24 +4,24 @@ use Rattle.jfs_bits.specs.declared.rule.Rule.{Rule}
 use Rattle.jfs_disk.specs.Image.{Image, page_of}
 use Rattle.jfs_inode.specs.declared.fields.Dinode.{Dinode}
 use Rattle.jfs_bits.specs.declared.extent.Xad.{Xad}
-use Rattle.jfs_object_check.specs.page_tree.specs.Walk.{Marks}
-use Rattle.jfs_object_check.specs.xtree.specs.Node.{xt_scale}
-use Rattle.jfs_object_check.specs.dtree.specs.Node.{name_scale}
-use Rattle.jfs_object_check.specs.objects.specs.Objects.{listed, spelled, names_of, extents_of}
-use Rattle.jfs_object_check.specs.objects.specs.Owners.{holds}
-use Rattle.jfs_object_check.specs.meaning.specs.Readers.{readers}
+use Rattle.jfs_link_check.specs.page_tree.specs.Walk.{Marks}
+use Rattle.jfs_link_check.specs.xtree.specs.Node.{xt_scale}
+use Rattle.jfs_link_check.specs.dtree.specs.Node.{name_scale}
+use Rattle.jfs_link_check.specs.objects.specs.Objects.{listed, spelled, names_of, extents_of}
+use Rattle.jfs_link_check.specs.objects.specs.Owners.{holds}
+use Rattle.jfs_findings.specs.meaning.specs.Readers.{readers}
 use Rattle.jfs_findings.specs.Gains.{Gains}
 use Rattle.jfs_findings.specs.declared.finding.Finding.{Finding}
-use Rattle.jfs_object_check.specs.Object.{IsOf}
-use Rattle.jfs_object_check.specs.Thin.{IsThinOf}
-use Rattle.jfs_object_check.specs.Steps.{IsSound}
-use Rattle.jfs_object_check.proofs.Found.{gains_both, gains_as}
+use Rattle.jfs_link_check.specs.object_check.specs.Object.{IsOf}
+use Rattle.jfs_link_check.specs.object_check.specs.Thin.{IsThinOf}
+use Rattle.jfs_link_check.specs.object_check.specs.Steps.{IsSound}
+use Rattle.jfs_link_check.specs.object_check.proofs.Found.{gains_both, gains_as}
 use Rattle.jfs_link_check.specs.Notes.{NotesInode}
 use Rattle.jfs_link_check.specs.declared.notes.NameNotes.{NameNotes}
-use Rattle.jfs_owners.specs.Counts.{OwnerSets, Adds}
-use Rattle.jfs_owners.specs.Held.{extents_held, names_held, attributes_of}
-use Rattle.jfs_owners.proofs.Counted.{adds_none}
-use Rattle.jfs_owners.proofs.Totals.{object_joined}
+use Rattle.jfs_link_check.specs.owners.specs.Counts.{OwnerSets, Adds}
+use Rattle.jfs_link_check.specs.owners.specs.Held.{extents_held, names_held, attributes_of}
+use Rattle.jfs_link_check.specs.owners.proofs.Counted.{adds_none}
+use Rattle.jfs_link_check.specs.owners.proofs.Totals.{object_joined}
 use Rattle.jfs_check.specs.Look.{IsOfFound}
 
 not_false : true ≡ false → ⊥

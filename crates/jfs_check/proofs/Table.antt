@@ -1,13 +1,13 @@
 -- Which part of a check gives the findings of which kind.
 use Rattle.std.proofs.Common.{◌⊎◌, inl, inr, refl, sym, subst, ℕ}
-use Rattle.jfs_mount.specs.Subject.{Subject}
+use Rattle.jfs_findings.specs.mount_rules.specs.Subject.{Subject}
 use Rattle.jfs_findings.specs.Findings.{Says}
 use Rattle.jfs_findings.specs.declared.finding.Finding.{Finding}
 use Rattle.jfs_findings.specs.declared.finding.FindingKind.{FindingKind}
 use Rattle.jfs_findings.specs.declared.finding.FindingKind.TheVariants as kinds
-use Rattle.jfs_object_check.specs.Laws.{IsOfSome, IsOfFile}
-use Rattle.jfs_object_check.proofs.OfObjects.{objects_law}
-use Rattle.jfs_object_check.proofs.OfThin.{thin_law}
+use Rattle.jfs_link_check.specs.object_check.specs.Laws.{IsOfSome, IsOfFile}
+use Rattle.jfs_link_check.specs.object_check.proofs.OfObjects.{objects_law}
+use Rattle.jfs_link_check.specs.object_check.proofs.OfThin.{thin_law}
 use Rattle.jfs_check.specs.Looked.{IsOfAny}
 
 module _ (s : Subject) where

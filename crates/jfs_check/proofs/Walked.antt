@@ -7,20 +7,20 @@ use Rattle.jfs_bits.specs.Bits.{is_taken, is_in_run}
 use Rattle.jfs_disk.specs.Image.{Image, page_of}
 use Rattle.jfs_super.specs.Rules.{blocks_of}
 use Rattle.jfs_super.specs.declared.fields.Super.{Super}
-use Rattle.jfs_object_check.specs.objects.specs.Volume.{home, page_in, slot_of}
-use Rattle.jfs_object_check.specs.objects.specs.Objects.{Object, object_in, objects, is_live, spelled}
-use Rattle.jfs_mount.specs.Subject.{Subject, subject_of, volume, object, blocks, IsObject}
+use Rattle.jfs_link_check.specs.objects.specs.Volume.{home, page_in, slot_of}
+use Rattle.jfs_link_check.specs.objects.specs.Objects.{Object, object_in, objects, is_live, spelled}
+use Rattle.jfs_findings.specs.mount_rules.specs.Subject.{Subject, subject_of, volume, object, blocks, IsObject}
 use Rattle.jfs_findings.specs.Gains.{Gains}
 use Rattle.jfs_findings.specs.declared.finding.Finding.{Finding}
-use Rattle.jfs_object_check.specs.Object.{IsOf}
-use Rattle.jfs_object_check.specs.Laws.{IsOfSome}
-use Rattle.jfs_object_check.proofs.Found.{gains_as}
-use Rattle.jfs_owners.specs.Counts.{Counts}
-use Rattle.jfs_owners.specs.Held.{owned_below}
-use Rattle.jfs_owners.proofs.Joined.{counts_next, counts_skip}
+use Rattle.jfs_link_check.specs.object_check.specs.Object.{IsOf}
+use Rattle.jfs_link_check.specs.object_check.specs.Laws.{IsOfSome}
+use Rattle.jfs_link_check.specs.object_check.proofs.Found.{gains_as}
+use Rattle.jfs_link_check.specs.owners.specs.Counts.{Counts}
+use Rattle.jfs_link_check.specs.owners.specs.Held.{owned_below}
+use Rattle.jfs_link_check.specs.owners.proofs.Joined.{counts_next, counts_skip}
 use Rattle.jfs_each.specs.Each.{Found, live_in, found_at, Step, Visits}
 use Rattle.jfs_each.proofs.Visiting.{visits_keep}
-use Rattle.jfs_object_check.specs.Thin.{IsThinOf, IsThinOfSome}
+use Rattle.jfs_link_check.specs.object_check.specs.Thin.{IsThinOf, IsThinOfSome}
 use Rattle.jfs_check.specs.Look.{Sees, IsOfFound}
 use Rattle.jfs_check.specs.declared.look.Look.{Look}
 

@@ -8,16 +8,16 @@ use Rattle.jfs_disk.specs.Image.{Image, page_of}
 use Rattle.jfs_iag.proofs.Maps.{zeros-clear}
 use Rattle.jfs_super.specs.Rules.{blocks_of}
 use Rattle.jfs_super.specs.declared.fields.Super.{Super}
-use Rattle.jfs_object_check.specs.meaning.specs.Readers.{readers}
-use Rattle.jfs_mount.specs.Subject.{Subject, subject_of, volume, object}
-use Rattle.jfs_reader.specs.Map.{IsInodeMap}
-use Rattle.jfs_reader.specs.declared.map.InodeMap.{InodeMap}
+use Rattle.jfs_findings.specs.meaning.specs.Readers.{readers}
+use Rattle.jfs_findings.specs.mount_rules.specs.Subject.{Subject, subject_of, volume, object}
+use Rattle.jfs_findings.specs.reader.specs.Map.{IsInodeMap}
+use Rattle.jfs_findings.specs.reader.specs.declared.map.InodeMap.{InodeMap}
 use Rattle.jfs_findings.specs.Gains.{Gains}
-use Rattle.jfs_object_check.specs.Laws.{IsOfFile}
-use Rattle.jfs_object_check.proofs.Found.{gains_both}
-use Rattle.jfs_owners.specs.Counts.{Counts}
-use Rattle.jfs_owners.specs.Held.{owned_below}
-use Rattle.jfs_owners.proofs.Joined.{counts_all}
+use Rattle.jfs_link_check.specs.object_check.specs.Laws.{IsOfFile}
+use Rattle.jfs_link_check.specs.object_check.proofs.Found.{gains_both}
+use Rattle.jfs_link_check.specs.owners.specs.Counts.{Counts}
+use Rattle.jfs_link_check.specs.owners.specs.Held.{owned_below}
+use Rattle.jfs_link_check.specs.owners.proofs.Joined.{counts_all}
 use Rattle.jfs_each.specs.Each.{found_at, Visits}
 use Rattle.jfs_link_check.specs.Notes.{NotedBelow, AreNoted}
 use Rattle.jfs_link_check.specs.Uses.{AreUses}

@@ -3,10 +3,10 @@ use Rattle.std.specs.Prelude.{◌≡◌, ℕ, None, Result, Ok, Err, is_some}
 use Rattle.jfs_bits.specs.Bits.{count_below}
 use Rattle.jfs_disk.specs.declared.disk.Fault.{Fault}
 use Rattle.jfs_ranges.specs.View.{Failed}
-use Rattle.jfs_object_check.specs.objects.specs.Volume.{room}
-use Rattle.jfs_object_check.specs.meaning.specs.Room.{free_blocks}
-use Rattle.jfs_mount.specs.Subject.{Subject, blocks, volume, object}
-use Rattle.jfs_mount.specs.Mount.{broken_mount}
+use Rattle.jfs_link_check.specs.objects.specs.Volume.{room}
+use Rattle.jfs_findings.specs.meaning.specs.Room.{free_blocks}
+use Rattle.jfs_findings.specs.mount_rules.specs.Subject.{Subject, blocks, volume, object}
+use Rattle.jfs_findings.specs.mount_rules.specs.Mount.{broken_mount}
 use Rattle.jfs_findings.specs.Findings.{AreFindings}
 use Rattle.jfs_check.specs.declared.checked.Checked.{Checked}
 use Rattle.jfs_check.specs.declared.checked.CheckError.{CheckError}

@@ -2,14 +2,14 @@
 use Rattle.std.specs.Prelude.{◌≡◌, ◌<◌, ◌*◌, ◌%◌, ◌||◌, ◌⊎◌, ℕ, List, Some, length}
 use Rattle.jfs_bits.specs.Bits.{is_taken, is_in_run}
 use Rattle.jfs_disk.specs.Image.{Image, page_of}
-use Rattle.jfs_object_check.specs.objects.specs.Objects.{spelled}
-use Rattle.jfs_object_check.specs.objects.specs.Owners.{holds}
-use Rattle.jfs_object_check.specs.meaning.specs.Readers.{readers}
-use Rattle.jfs_owners.specs.Counts.{Adds}
+use Rattle.jfs_link_check.specs.objects.specs.Objects.{spelled}
+use Rattle.jfs_link_check.specs.objects.specs.Owners.{holds}
+use Rattle.jfs_findings.specs.meaning.specs.Readers.{readers}
+use Rattle.jfs_link_check.specs.owners.specs.Counts.{Adds}
 use Rattle.jfs_findings.specs.Gains.{Gains}
 use Rattle.jfs_findings.specs.declared.finding.Finding.{Finding}
-use Rattle.jfs_object_check.specs.Object.{IsOf}
-use Rattle.jfs_object_check.specs.Thin.{IsThinOf}
+use Rattle.jfs_link_check.specs.object_check.specs.Object.{IsOf}
+use Rattle.jfs_link_check.specs.object_check.specs.Thin.{IsThinOf}
 use Rattle.jfs_each.specs.Each.{Found}
 use Rattle.jfs_link_check.specs.Notes.{NotesInode}
 use Rattle.jfs_link_check.specs.declared.census.Census.{Census}

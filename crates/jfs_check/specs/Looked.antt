@@ -1,16 +1,16 @@
 -- What is known of a volume once all its inodes in use were looked at.
 use Rattle.std.specs.Prelude.{◌≡◌, ◌<◌, ◌⊎◌, ◌*◌, ℕ, List, [], is_some}
 use Rattle.jfs_bits.specs.Bits.{is_taken}
-use Rattle.jfs_object_check.specs.objects.specs.Owners.{owners}
-use Rattle.jfs_mount.specs.Subject.{Subject, volume, object}
-use Rattle.jfs_mount.specs.Mount.{iags}
-use Rattle.jfs_owners.specs.Counts.{Counts}
+use Rattle.jfs_link_check.specs.objects.specs.Owners.{owners}
+use Rattle.jfs_findings.specs.mount_rules.specs.Subject.{Subject, volume, object}
+use Rattle.jfs_findings.specs.mount_rules.specs.Mount.{iags}
+use Rattle.jfs_link_check.specs.owners.specs.Counts.{Counts}
 use Rattle.jfs_findings.specs.Gains.{Gains}
 use Rattle.jfs_findings.specs.declared.finding.Finding.{Finding}
-use Rattle.jfs_object_check.specs.Laws.{IsOfSome, IsOfFile}
-use Rattle.jfs_object_check.specs.Thin.{IsThinOfSome}
+use Rattle.jfs_link_check.specs.object_check.specs.Laws.{IsOfSome, IsOfFile}
+use Rattle.jfs_link_check.specs.object_check.specs.Thin.{IsThinOfSome}
 use Rattle.jfs_link_check.specs.Found.{IsOfNames}
-use Rattle.jfs_owners.specs.Shared.{SaysShared}
+use Rattle.jfs_link_check.specs.owners.specs.Shared.{SaysShared}
 use Rattle.jfs_map_check.specs.Found.{IsOfBlockMap}
 use Rattle.jfs_map_check.specs.Inodes.{IsOfInodeMap}
 use Rattle.jfs_check.specs.declared.look.Look.{Look}

@@ -6,7 +6,7 @@ ghost use Rattle.jfs_disk.specs.declared.disk.Part.TheVariants.{Whole};
 ghost use Rattle.jfs_ranges.specs.View.{CarriesCount};
 ghost use Rattle.jfs_super.specs.Rules.{IsAccepted, blocks_of};
 ghost use Rattle.jfs_super.specs.Geometry.{geometry_of, IsLayout};
-ghost use Rattle.jfs_mount.specs.Subject.{subject_of};
+ghost use Rattle.jfs_findings.specs.mount_rules.specs.Subject.{subject_of};
 ghost use Rattle.jfs_findings.specs.Findings.{AreFindings};
 ghost use Rattle.jfs_check.specs.Checked.{IsChecked, CarriesCheck, AreCounted};
 
@@ -14,8 +14,8 @@ use crate::checked::{CheckError, Checked};
 use crate::examine::examine;
 use crate::metered::Metered;
 use jfs_disk::{Disk, Part};
+use jfs_findings::reader::DiskView;
 use jfs_ranges::{PageView, ViewError};
-use jfs_reader::DiskView;
 use jfs_super::{Super, geometry};
 use std::alloc::Global;
 

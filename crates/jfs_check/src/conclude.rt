@@ -2,16 +2,16 @@
 
 ghost use Rattle.std.specs.Prelude.{◌≡◌, ◌≤◌, ◌*◌, ◌==◌, length, ℕ, IfOk, [], ◌∷◌};
 ghost use Rattle.jfs_bits.specs.Bits.{is_taken, count_below};
-ghost use Rattle.jfs_owners.specs.Counts.{Counts};
+ghost use Rattle.jfs_link_check.specs.owners.specs.Counts.{Counts};
 ghost use Rattle.jfs_findings.specs.Findings.{Rise};
 ghost use Rattle.jfs_findings.specs.Gains.{HasSame};
 ghost use Rattle.jfs_findings.specs.declared.finding.FindingKind.TheVariants.{Aggregate};
 
 use crate::checked::Checked;
 use crate::look::Look;
+use jfs_findings::mount_rules::BadMount;
 use jfs_findings::{Finding, FindingKind, put_in_order};
-use jfs_mount::BadMount;
-use jfs_owners::count_taken;
+use jfs_link_check::owners::count_taken;
 use std::alloc::{AllocError, Global};
 
 /// All findings in order, and what the owners of blocks and the inodes in use amount to.

@@ -4,23 +4,23 @@ ghost use Rattle.std.specs.Prelude.{◌≡◌, ◌≤◌, length, None, IfOk, On
 ghost use Rattle.jfs_disk.specs.Image.{page_of};
 ghost use Rattle.jfs_ranges.specs.View.{CarriesCount};
 ghost use Rattle.jfs_super.specs.Rules.{blocks_of};
-ghost use Rattle.jfs_object_check.specs.xtree.specs.Node.{xt_scale};
-ghost use Rattle.jfs_object_check.specs.objects.specs.Image.{area_on};
-ghost use Rattle.jfs_object_check.specs.meaning.specs.Readers.{readers};
-ghost use Rattle.jfs_mount.specs.Mount.{broken_mount};
-ghost use Rattle.jfs_mount.specs.Subject.{subject_of};
+ghost use Rattle.jfs_link_check.specs.xtree.specs.Node.{xt_scale};
+ghost use Rattle.jfs_link_check.specs.objects.specs.Image.{area_on};
+ghost use Rattle.jfs_findings.specs.meaning.specs.Readers.{readers};
+ghost use Rattle.jfs_findings.specs.mount_rules.specs.Mount.{broken_mount};
+ghost use Rattle.jfs_findings.specs.mount_rules.specs.Subject.{subject_of};
 ghost use Rattle.jfs_findings.specs.Gains.{Gains};
-ghost use Rattle.jfs_object_check.specs.Laws.{IsOfFile};
-ghost use Rattle.jfs_owners.specs.Counts.{Adds};
-ghost use Rattle.jfs_owners.specs.Held.{extents_walk, extents_held};
-ghost use Rattle.jfs_object_check.specs.Steps.{IsBroken};
+ghost use Rattle.jfs_link_check.specs.object_check.specs.Laws.{IsOfFile};
+ghost use Rattle.jfs_link_check.specs.owners.specs.Counts.{Adds};
+ghost use Rattle.jfs_link_check.specs.owners.specs.Held.{extents_walk, extents_held};
+ghost use Rattle.jfs_link_check.specs.object_check.specs.Steps.{IsBroken};
 ghost use Rattle.jfs_findings.specs.declared.finding.FindingKind.TheVariants.{Xtree};
 
 use jfs_findings::Finding;
-use jfs_object_check::check_root;
-use jfs_owners::Owners;
+use jfs_findings::reader::aggregate_root;
+use jfs_link_check::object_check::check_root;
+use jfs_link_check::owners::Owners;
 use jfs_ranges::{PageView, ViewError};
-use jfs_reader::aggregate_root;
 use jfs_super::Super;
 
 /// Counts the fixed areas: pages 0 to 15, the second inode table and map, and what the files of the aggregate hold; and looks at the file of the bad blocks. The

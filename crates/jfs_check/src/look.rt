@@ -12,8 +12,8 @@ use jfs_bits::set_run;
 use jfs_each::EachInode;
 use jfs_findings::{Finding, condense};
 use jfs_inode::Dinode;
+use jfs_link_check::object_check::{check_object, count_extents};
 use jfs_link_check::{Census, count_names};
-use jfs_object_check::{check_object, count_extents};
 use jfs_ranges::{PageView, ViewError};
 use std::alloc::Global;
 

@@ -4,16 +4,16 @@ ghost use Rattle.std.specs.Prelude.{◌≡◌, ◌≤◌, ◌*◌, length, Ok, I
 ghost use Rattle.jfs_disk.specs.Image.{page_of};
 ghost use Rattle.jfs_ranges.specs.View.{CarriesCount};
 ghost use Rattle.jfs_super.specs.Rules.{blocks_of};
-ghost use Rattle.jfs_mount.specs.Subject.{subject_of};
-ghost use Rattle.jfs_mount.specs.Steps.{IsMounted, Mounts};
+ghost use Rattle.jfs_findings.specs.mount_rules.specs.Subject.{subject_of};
+ghost use Rattle.jfs_findings.specs.mount_rules.specs.Steps.{IsMounted, Mounts};
 ghost use Rattle.jfs_link_check.specs.Notes.{AreNoted};
 ghost use Rattle.jfs_check.specs.Looked.{IsOfTrees, Looked};
 
 use crate::fresh::{count_fixed, fresh};
 use crate::look::Look;
 use jfs_each::each_inode;
+use jfs_findings::mount_rules::Mounted;
 use jfs_link_check::uses_of;
-use jfs_mount::Mounted;
 use jfs_ranges::{PageView, ViewError};
 use jfs_super::Super;
 use std::alloc::Global;

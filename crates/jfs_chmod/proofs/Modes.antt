@@ -21,40 +21,40 @@ use Rattle.jfs_plain.specs.declared.call.Call.TheVariants as calls
 use Rattle.jfs_plain.specs.declared.node.Node.{Node}
 use Rattle.jfs_plain.specs.declared.refusal.Refusal.{Refusal}
 use Rattle.jfs_plain.specs.declared.reply.Reply.TheVariants.{Done}
-use Rattle.jfs_way.specs.objects.specs.Readers.{Readers}
-use Rattle.jfs_way.specs.objects.specs.Volume.{Volume, home, slot_of, room}
-use Rattle.jfs_way.specs.objects.specs.Objects.{Object, IsWhole, objects, spelled, is_live, listed}
-use Rattle.jfs_way.specs.objects.specs.Owners.{holds}
-use Rattle.jfs_way.specs.objects.specs.Changes.{put, PutsInode, SetsObject}
-use Rattle.jfs_way.specs.objects.proofs.Sums.{put_here, put_other, eq_or_not}
-use Rattle.jfs_way.specs.objects.proofs.Set.{object_is_set}
-use Rattle.jfs_way.specs.meaning.specs.Readers.{readers}
-use Rattle.jfs_way.specs.meaning.specs.Contents.{byte_in}
-use Rattle.jfs_way.specs.meaning.specs.Node.{node_from, node_of, node_in, target_in}
-use Rattle.jfs_way.specs.meaning.specs.Tree.{node_on, byte_on, tree_on}
-use Rattle.jfs_way.specs.meaning.specs.Consistent.{IsConsistent}
-use Rattle.jfs_way.specs.meaning.specs.Laws.{ChangesOneNode}
-use Rattle.jfs_way.specs.objects.specs.Laws.{ChangesOne}
-use Rattle.jfs_way.specs.objects.specs.Contents.{contents, contents_of}
-use Rattle.jfs_way.specs.meaning.proofs.Changed.{set_tree}
-use Rattle.jfs_way.specs.meaning.proofs.Steps.{step_keeps}
+use Rattle.jfs_steps.specs.objects.specs.Readers.{Readers}
+use Rattle.jfs_steps.specs.objects.specs.Volume.{Volume, home, slot_of, room}
+use Rattle.jfs_steps.specs.objects.specs.Objects.{Object, IsWhole, objects, spelled, is_live, listed}
+use Rattle.jfs_steps.specs.objects.specs.Owners.{holds}
+use Rattle.jfs_steps.specs.objects.specs.Changes.{put, PutsInode, SetsObject}
+use Rattle.jfs_steps.specs.objects.proofs.Sums.{put_here, put_other, eq_or_not}
+use Rattle.jfs_steps.specs.objects.proofs.Set.{object_is_set}
+use Rattle.jfs_steps.specs.meaning.specs.Readers.{readers}
+use Rattle.jfs_steps.specs.meaning.specs.Contents.{byte_in}
+use Rattle.jfs_steps.specs.meaning.specs.Node.{node_from, node_of, node_in, target_in}
+use Rattle.jfs_steps.specs.meaning.specs.Tree.{node_on, byte_on, tree_on}
+use Rattle.jfs_steps.specs.meaning.specs.Consistent.{IsConsistent}
+use Rattle.jfs_steps.specs.meaning.specs.Laws.{ChangesOneNode}
+use Rattle.jfs_steps.specs.objects.specs.Laws.{ChangesOne}
+use Rattle.jfs_steps.specs.objects.specs.Contents.{contents, contents_of}
+use Rattle.jfs_steps.specs.meaning.proofs.Changed.{set_tree}
+use Rattle.jfs_steps.specs.meaning.proofs.Steps.{step_keeps}
 use Rattle.jfs_imap.specs.Inodes.{Inodes}
-use Rattle.jfs_way.specs.bmap.specs.States.{Blocks}
+use Rattle.jfs_steps.specs.bmap.specs.States.{Blocks}
 use Rattle.jfs_ranges.specs.declared.edit.Edit.{Edit}
-use Rattle.jfs_way.specs.objects.specs.Image.{extent_place}
-use Rattle.jfs_way.specs.Answer.{is_open, Follows}
+use Rattle.jfs_steps.specs.objects.specs.Image.{extent_place}
+use Rattle.jfs_steps.specs.way.specs.Answer.{is_open, Follows}
 use Rattle.jfs_ranges.specs.Laid.{put_tx}
 use Rattle.jfs_steps.specs.Put.{AddsInode, TellsLines}
-use Rattle.jfs_way.specs.Volume.{volume_of}
-use Rattle.jfs_way.specs.Walk.{IsHeld, IsShown, IsThere, tree_in}
-use Rattle.jfs_way.specs.declared.object.Held.{Held}
-use Rattle.jfs_way.proofs.Places.{home_is}
+use Rattle.jfs_steps.specs.way.specs.Volume.{volume_of}
+use Rattle.jfs_steps.specs.way.specs.Walk.{IsHeld, IsShown, IsThere, tree_in}
+use Rattle.jfs_steps.specs.way.specs.declared.object.Held.{Held}
+use Rattle.jfs_steps.specs.way.proofs.Places.{home_is}
 use Rattle.jfs_steps.specs.Call.{IsDone}
 use Rattle.jfs_steps.specs.Laws.{ChangesPagesAlone}
 use Rattle.jfs_steps.specs.After.{after_call}
 use Rattle.jfs_steps.proofs.After.{lines_alone, lines_leave, done_after}
 use Rattle.jfs_chmod.specs.Call.{with_mode}
-use Rattle.jfs_way.proofs.Nodes.{there, lives, node_is, inode_is}
+use Rattle.jfs_steps.specs.way.proofs.Nodes.{there, lives, node_is, inode_is}
 
 -- ---- the bits of a mode
 

@@ -4,8 +4,8 @@ use Rattle.jfs_bits.specs.declared.descriptor.Moment.{Moment}
 use Rattle.jfs_inode.specs.declared.fields.Dinode.{Dinode}
 use Rattle.jfs_imap.specs.Inodes.{Inodes}
 use Rattle.jfs_ranges.specs.declared.edit.Edit.{Edit}
-use Rattle.jfs_way.specs.Way.{path_of}
-use Rattle.jfs_way.specs.declared.object.Held.{Held}
+use Rattle.jfs_steps.specs.way.specs.Way.{path_of}
+use Rattle.jfs_steps.specs.way.specs.declared.object.Held.{Held}
 use Rattle.jfs_steps.specs.Put.{AddsInode, TellsLines}
 
 -- The inode with other permission bits, changed now. They are the low twelve.

@@ -3,8 +3,8 @@
 ghost use Rattle.std.specs.Prelude.{◌≡◌, ◌<◌, ◌≤◌, ℕ, [], length, get_or, Err, IfOk, IfErr};
 ghost use Rattle.jfs_disk.specs.Image.{page_of};
 ghost use Rattle.jfs_plain.specs.Step.{chmod};
-ghost use Rattle.jfs_way.specs.Answer.{Carries, Answers};
-ghost use Rattle.jfs_way.specs.Way.{path_of};
+ghost use Rattle.jfs_steps.specs.way.specs.Answer.{Carries, Answers};
+ghost use Rattle.jfs_steps.specs.way.specs.Way.{path_of};
 ghost use Rattle.jfs_steps.specs.Call.{Steps};
 ghost use Rattle.jfs_chmod.specs.Call.{SetsMode, with_mode};
 
@@ -15,7 +15,7 @@ use jfs_name::Name;
 use jfs_plain::Refusal;
 use jfs_ranges::{PageView, Tx};
 use jfs_steps::put_inode;
-use jfs_way::walk;
+use jfs_steps::way::walk;
 use std::alloc::Global;
 
 /// The transaction that gives the object at the end of a path these twelve permission bits, and this time as that of its last change. `Err` is the walk's refusal, or a

@@ -6,8 +6,8 @@ use Rattle.jfs_bits.proofs.Counts.{count_below-same}
 use Rattle.jfs_imap.specs.Inodes.{Inodes, IsPick}
 use Rattle.jfs_imap.specs.declared.inode_map.Pick.{Pick}
 use Rattle.jfs_imap.specs.declared.inode_map.Pick.TheVariants.{Number, NeedsExtent, NoInodes as NoneFree}
-use Rattle.jfs_bmap.specs.States.{BlockState, Free, Owned, Reserved, Busy, Blocks, is_free_state, is_owned_state, is_busy_state, state_of, unowned_count, free_count, all_settled}
-use Rattle.jfs_bmap.proofs.States.{changed-each, changed-length}
+use Rattle.jfs_room.specs.bmap.specs.States.{BlockState, Free, Owned, Reserved, Busy, Blocks, is_free_state, is_owned_state, is_busy_state, state_of, unowned_count, free_count, all_settled}
+use Rattle.jfs_room.specs.bmap.proofs.States.{changed-each, changed-length}
 use Rattle.jfs_plain.specs.Step.{Room}
 use Rattle.jfs_plain.specs.declared.refusal.Refusal.{Refusal}
 use Rattle.jfs_plain.specs.declared.refusal.Refusal.TheVariants.{NoSpace}

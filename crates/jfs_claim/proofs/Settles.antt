@@ -3,10 +3,10 @@ use Rattle.std.proofs.Common.{◌≡◌, ◌<◌, refl, sym, ap, ◌∙◌, subs
 use Rattle.std.proofs.lemmas.Bool.{both_ways, or_left, or_right, or_parts, false_from_ne_true}
 use Rattle.jfs_bits.specs.declared.descriptor.Pxd.{Pxd}
 use Rattle.jfs_bits.specs.Bits.{is_in_run}
-use Rattle.jfs_bmap.specs.States.{BlockState, Free, Reserved, Blocks, state_of, put_state, is_in_list, AreApart, AreReserved}
-use Rattle.jfs_bmap.proofs.States.{same_blocks, changed-at, changed-length}
-use Rattle.jfs_bmap.proofs.Puts.{in_list-append, put-length, put-at, put-append, put-back, reserved-put, reserved-beside}
-use Rattle.jfs_runs.specs.page_tree.specs.Edit.{count_in}
+use Rattle.jfs_room.specs.bmap.specs.States.{BlockState, Free, Reserved, Blocks, state_of, put_state, is_in_list, AreApart, AreReserved}
+use Rattle.jfs_room.specs.bmap.proofs.States.{same_blocks, changed-at, changed-length}
+use Rattle.jfs_room.specs.bmap.proofs.Puts.{in_list-append, put-length, put-at, put-append, put-back, reserved-put, reserved-beside}
+use Rattle.jfs_room.specs.page_tree.specs.Edit.{count_in}
 use Rattle.jfs_runs.specs.Laws.{IsLeft}
 use Rattle.jfs_runs.proofs.Left.{what_is_left}
 use Rattle.jfs_claim.specs.Take.{run_list, claimed, reserving, Reserves, IsPartlyTaken}

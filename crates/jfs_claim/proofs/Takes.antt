@@ -5,12 +5,12 @@ use Rattle.std.proofs.lemmas.Bool.{both_ways, or_cases, false_from_ne_true}
 use Rattle.std.proofs.lemmas.List.Elements.{All-nil, All-cons, All-append}
 use Rattle.jfs_bits.specs.declared.descriptor.Pxd.{Pxd}
 use Rattle.jfs_bits.specs.Bits.{is_in_run, is_free}
-use Rattle.jfs_bmap.specs.States.{BlockState, Free, Owned, Reserved, Busy, Blocks, is_free_state, is_owned_state, state_of, is_used, free_count, put_state, is_in_list, total_of, AreApart, AreReserved}
-use Rattle.jfs_bmap.proofs.States.{free_run-at, in_list-one}
-use Rattle.jfs_bmap.proofs.Puts.{in_list-append, in_list-none, put-length, put-here, put-other, put-append, put-none, put-back, free-there, reserved-put}
-use Rattle.jfs_bmap.proofs.Reservations.{lowest-free, free-within, free-put}
-use Rattle.jfs_runs.specs.page_tree.specs.Edit.{count_in}
-use Rattle.jfs_runs.specs.page_tree.specs.Fresh.{blocks_of}
+use Rattle.jfs_room.specs.bmap.specs.States.{BlockState, Free, Owned, Reserved, Busy, Blocks, is_free_state, is_owned_state, state_of, is_used, free_count, put_state, is_in_list, total_of, AreApart, AreReserved}
+use Rattle.jfs_room.specs.bmap.proofs.States.{free_run-at, in_list-one}
+use Rattle.jfs_room.specs.bmap.proofs.Puts.{in_list-append, in_list-none, put-length, put-here, put-other, put-append, put-none, put-back, free-there, reserved-put}
+use Rattle.jfs_room.specs.bmap.proofs.Reservations.{lowest-free, free-within, free-put}
+use Rattle.jfs_room.specs.page_tree.specs.Edit.{count_in}
+use Rattle.jfs_room.specs.page_tree.specs.Fresh.{blocks_of}
 use Rattle.jfs_runs.proofs.Counted.{all_laws}
 use Rattle.jfs_claim.specs.Take.{run_list, IsRun, Reserves, TakesEach, Claims, AreFresh, HasFree, Lacks, AnswersByCount, AnswersByFree}
 use Rattle.jfs_claim.specs.declared.reserve.Want.{Want}

@@ -1,7 +1,7 @@
 -- Why a commit helps a call that finds too few free blocks.
 use Rattle.std.specs.Prelude.{◌≡◌, ◌≤◌, true}
-use Rattle.jfs_bmap.specs.Set.{HasFreeRun}
-use Rattle.jfs_bmap.specs.States.{Blocks, is_used, unowned_count, all_settled}
+use Rattle.jfs_room.specs.bmap.specs.Set.{HasFreeRun}
+use Rattle.jfs_room.specs.bmap.specs.States.{Blocks, is_used, unowned_count, all_settled}
 use Rattle.jfs_room.specs.Laws.{NoneReserved}
 use Rattle.jfs_claim.specs.declared.reserve.Want.{Want}
 use Rattle.jfs_claim.specs.Take.{HasFree, total}

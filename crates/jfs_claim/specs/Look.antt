@@ -3,7 +3,7 @@ use Rattle.std.specs.Prelude.{◌≡◌, ◌≤◌, ℕ, ◌+◌, ◌*◌, ◌^�
 use Rattle.jfs_imap.specs.Inodes.{Inodes, IsPick}
 use Rattle.jfs_imap.specs.declared.inode_map.Pick.{Pick}
 use Rattle.jfs_imap.specs.declared.inode_map.Pick.TheVariants.{Number, NeedsExtent, NoInodes as NoneFree}
-use Rattle.jfs_bmap.specs.States.{Blocks}
+use Rattle.jfs_room.specs.bmap.specs.States.{Blocks}
 use Rattle.jfs_plain.specs.Step.{Room, is_short}
 use Rattle.jfs_plain.specs.declared.refusal.Refusal.{Refusal}
 use Rattle.jfs_plain.specs.declared.refusal.Refusal.TheVariants.{NoSpace, NoInodes}

@@ -2,12 +2,12 @@
 use Rattle.std.specs.Prelude.{◌≡◌, ◌⊎◌, ◌≤◌, ◌<◌, ℕ, ◌+◌, Bool, true, false, ◌||◌, nat_lt, if◌then◌else◌, List, [], ◌∷◌, ◌++◌, length, Option, Some, None, Result, Ok, Err}
 use Rattle.std.specs.List.{All}
 use Rattle.jfs_bits.specs.declared.descriptor.Pxd.{Pxd}
-use Rattle.jfs_bmap.specs.Set.{IsLowest, HasFreeRun}
-use Rattle.jfs_bmap.specs.States.{Blocks, Free, Reserved, state_of, is_used, is_owned, free_count, changed, put_state, is_in_list, AreApart}
-use Rattle.jfs_bmap.specs.Choice.{AreLowestBlocks}
-use Rattle.jfs_runs.specs.page_tree.specs.Edit.{count_in}
-use Rattle.jfs_runs.specs.page_tree.specs.Form.{AllBelow}
-use Rattle.jfs_runs.specs.page_tree.specs.Fresh.{blocks_of}
+use Rattle.jfs_room.specs.bmap.specs.Set.{IsLowest, HasFreeRun}
+use Rattle.jfs_room.specs.bmap.specs.States.{Blocks, Free, Reserved, state_of, is_used, is_owned, free_count, changed, put_state, is_in_list, AreApart}
+use Rattle.jfs_room.specs.bmap.specs.Choice.{AreLowestBlocks}
+use Rattle.jfs_room.specs.page_tree.specs.Edit.{count_in}
+use Rattle.jfs_room.specs.page_tree.specs.Form.{AllBelow}
+use Rattle.jfs_room.specs.page_tree.specs.Fresh.{blocks_of}
 use Rattle.jfs_claim.specs.declared.reserve.Want.{Want}
 use Rattle.jfs_claim.specs.declared.reserve.Claim.{Claim}
 use Rattle.jfs_claim.specs.declared.reserve.ClaimError.{ClaimError}

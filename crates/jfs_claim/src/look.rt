@@ -1,12 +1,12 @@
 //! Whether there is space, and an inode, before anything is reserved.
 
 ghost use Rattle.std.specs.Prelude.{◌≡◌};
-ghost use Rattle.jfs_bmap.specs.States.{unowned_count};
+ghost use Rattle.jfs_room.specs.bmap.specs.States.{unowned_count};
 ghost use Rattle.jfs_claim.specs.Look.{space_for, inode_by, LooksFor, WhateverInodes, IfAtRest, TellsSpace, TellsInode};
 
-use jfs_bmap::BlockMap;
 use jfs_imap::{InodeMap, Pick};
 use jfs_plain::Refusal;
+use jfs_room::bmap::BlockMap;
 
 /// The blocks that are always kept.
 const KEPT: u64 = 64;

@@ -1,13 +1,13 @@
 //! Blocks are reserved for a call.
 
 ghost use Rattle.std.specs.Prelude.{◌≡◌, OnErr, IfOk, IfErr};
-ghost use Rattle.jfs_bmap.specs.States.{Reserved, Free, AreReserved, put_state};
-ghost use Rattle.jfs_runs.specs.page_tree.specs.Fresh.{blocks_of};
+ghost use Rattle.jfs_room.specs.bmap.specs.States.{Reserved, Free, AreReserved, put_state};
+ghost use Rattle.jfs_room.specs.page_tree.specs.Fresh.{blocks_of};
 ghost use Rattle.jfs_claim.specs.declared.reserve.ClaimError.TheVariants.{NeedsLog};
 ghost use Rattle.jfs_claim.specs.Take.{Claims, TakesEach, IsRun, LacksRun, AnswersByFree, AnswersByCount, AreFresh, run_list};
 
 use jfs_bits::{Pxd, PxdList};
-use jfs_bmap::{BlockMap, ReserveError};
+use jfs_room::bmap::{BlockMap, ReserveError};
 use std::alloc::Global;
 
 /// What a call wants reserved.

@@ -1,11 +1,11 @@
 //! What a call didn't take is given back.
 
 ghost use Rattle.std.specs.Prelude.{◌≡◌, ℕ, List};
-ghost use Rattle.jfs_bmap.specs.States.{Blocks};
+ghost use Rattle.jfs_room.specs.bmap.specs.States.{Blocks};
 ghost use Rattle.jfs_claim.specs.Take.{Reserves, IsPartlyTaken, claimed, reserving, run_list};
 
 use crate::reserve::{Claim, give_back_run};
-use jfs_bmap::BlockMap;
+use jfs_room::bmap::BlockMap;
 
 impl Claim {
     /// Gives all of it back: the map is as it was before the claim. Takes no memory.

@@ -14,8 +14,8 @@ use Rattle.jfs_link.specs.objects.specs.Changes.{AddsExtent}
 use Rattle.jfs_link.specs.objects.proofs.Extent.{extent_law}
 use Rattle.jfs_link.specs.meaning.specs.Readers.{readers}
 use Rattle.jfs_link.specs.lead_steps.specs.Reached.{HasTree}
-use Rattle.jfs_steps.specs.After.{used_after, extents_after}
-use Rattle.jfs_steps.specs.Gains.{after_set}
+use Rattle.jfs_link.specs.steps.specs.After.{used_after, extents_after}
+use Rattle.jfs_link.specs.steps.specs.Gains.{after_set}
 use Rattle.jfs_create.specs.Extent.{TellsExtent}
 use Rattle.jfs_create.specs.Makes.{IsBetween, IsNewPlace, CanStand}
 use Rattle.jfs_create.specs.declared.extent.NewExtent.{NewExtent}

@@ -16,10 +16,10 @@ use Rattle.jfs_ranges.proofs.Overlaid.{overlaid-none}
 use Rattle.jfs_link.specs.objects.specs.Volume.{Volume, slot_of}
 use Rattle.jfs_link.specs.objects.specs.Owners.{bit, extent_has, run_has}
 use Rattle.jfs_link.specs.objects.specs.Changes.{AddsExtent}
-use Rattle.jfs_steps.specs.After.{is_extent, place_in, four_from, with_run, used_after, extents_after, takes}
-use Rattle.jfs_steps.proofs.After.{used_onto, extents_onto}
-use Rattle.jfs_steps.proofs.Sets.{takes_onto}
-use Rattle.jfs_steps.proofs.Puts.{put_past}
+use Rattle.jfs_link.specs.steps.specs.After.{is_extent, place_in, four_from, with_run, used_after, extents_after, takes}
+use Rattle.jfs_link.specs.steps.proofs.After.{used_onto, extents_onto}
+use Rattle.jfs_link.specs.steps.proofs.Sets.{takes_onto}
+use Rattle.jfs_link.specs.steps.proofs.Puts.{put_past}
 use Rattle.jfs_create.specs.Extent.{IsFreePage}
 use Rattle.jfs_create.specs.declared.extent.NewExtent.{NewExtent}
 

@@ -15,7 +15,7 @@ use Rattle.jfs_plain.specs.declared.refusal.Refusal.{Refusal}
 use Rattle.jfs_plain.specs.declared.refusal.Refusal.TheVariants.{NoSpace, TooDeep, TooManyLinks, NoInodes}
 use Rattle.jfs_plain.specs.declared.reply.Reply.TheVariants.{Done}
 use Rattle.jfs_link.specs.lead_steps.proofs.Chain.{twice}
-use Rattle.jfs_steps.specs.Gains.{linked}
+use Rattle.jfs_link.specs.steps.specs.Gains.{linked}
 use Rattle.jfs_create.specs.Look.{too_many}
 use Rattle.jfs_create.specs.Makes.{plain_of, also, links_after}
 use Rattle.jfs_create.specs.New.{node_for}

@@ -16,16 +16,16 @@ use Rattle.jfs_plain.specs.declared.refusal.Refusal.{Refusal}
 use Rattle.jfs_link.specs.room.specs.Laws.{blocks_in}
 use Rattle.jfs_link.specs.runs.specs.Laws.{one_if}
 use Rattle.jfs_link.specs.runs.proofs.Counted.{counted, count_append}
-use Rattle.jfs_claim.specs.Take.{AreFresh, Claims, HasFree, IsPartlyTaken, IsRun, Reserves, claimed, reserving, run_list}
-use Rattle.jfs_claim.specs.declared.reserve.Claim.{Claim}
-use Rattle.jfs_way.specs.Answer.{is_open}
-use Rattle.jfs_way.specs.declared.object.Held.{Held}
+use Rattle.jfs_link.specs.claim.specs.Take.{AreFresh, Claims, HasFree, IsPartlyTaken, IsRun, Reserves, claimed, reserving, run_list}
+use Rattle.jfs_link.specs.claim.specs.declared.reserve.Claim.{Claim}
+use Rattle.jfs_link.specs.way.specs.Answer.{is_open}
+use Rattle.jfs_link.specs.way.specs.declared.object.Held.{Held}
 use Rattle.jfs_link.specs.Link.{ReservesFree}
-use Rattle.jfs_steps.specs.After.{takes, four_from}
-use Rattle.jfs_steps.specs.Gains.{GainRefused}
-use Rattle.jfs_steps.specs.Laws.{ChangesPagesAlone}
-use Rattle.jfs_steps.proofs.After.{lines_alone, runs_leave}
-use Rattle.jfs_steps.proofs.Sets.{lines_on_top, taken_move, takes_onto}
+use Rattle.jfs_link.specs.steps.specs.After.{takes, four_from}
+use Rattle.jfs_link.specs.steps.specs.Gains.{GainRefused}
+use Rattle.jfs_link.specs.steps.specs.Laws.{ChangesPagesAlone}
+use Rattle.jfs_link.specs.steps.proofs.After.{lines_alone, runs_leave}
+use Rattle.jfs_link.specs.steps.proofs.Sets.{lines_on_top, taken_move, takes_onto}
 use Rattle.jfs_ranges.specs.Laid.{put_tx}
 use Rattle.jfs_create.specs.Makes.{Makes, IsBetween, gain_of}
 use Rattle.jfs_create.specs.Plans.{IsPlanned, IsPlannedAt, SuitsRun}

@@ -18,14 +18,14 @@ use Rattle.jfs_link.specs.meaning.specs.Readers.{readers, root_of}
 use Rattle.jfs_link.specs.meaning.specs.Room.{room_on}
 use Rattle.jfs_link.specs.room.specs.Laws.{blocks_in}
 use Rattle.jfs_link.specs.room.proofs.Rooms.{held_law}
-use Rattle.jfs_claim.specs.Look.{IsAtRest, WhateverInodes, IfAtRest, TellsSpace, TellsInode, LooksFor, space_for}
-use Rattle.jfs_claim.specs.declared.look.FreshInode.{FreshInode}
-use Rattle.jfs_way.specs.Answer.{Follows}
-use Rattle.jfs_way.specs.Volume.{volume_of}
-use Rattle.jfs_way.specs.Walk.{IsHeld, IsShown, tree_in}
-use Rattle.jfs_way.specs.declared.object.Held.{Held}
-use Rattle.jfs_steps.specs.Place.{last_of, new_place_of, IsPlace}
-use Rattle.jfs_steps.proofs.LastNames.{IsDirectory, directory_is}
+use Rattle.jfs_link.specs.claim.specs.Look.{IsAtRest, WhateverInodes, IfAtRest, TellsSpace, TellsInode, LooksFor, space_for}
+use Rattle.jfs_link.specs.claim.specs.declared.look.FreshInode.{FreshInode}
+use Rattle.jfs_link.specs.way.specs.Answer.{Follows}
+use Rattle.jfs_link.specs.way.specs.Volume.{volume_of}
+use Rattle.jfs_link.specs.way.specs.Walk.{IsHeld, IsShown, tree_in}
+use Rattle.jfs_link.specs.way.specs.declared.object.Held.{Held}
+use Rattle.jfs_link.specs.steps.specs.Place.{last_of, new_place_of, IsPlace}
+use Rattle.jfs_link.specs.steps.proofs.LastNames.{IsDirectory, directory_is}
 use Rattle.jfs_create.specs.Look.{too_many, IsFree, Barred}
 use Rattle.jfs_create.specs.Makes.{plain_of}
 use Rattle.jfs_create.specs.declared.new.NewObject.{NewObject}

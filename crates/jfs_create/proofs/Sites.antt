@@ -26,13 +26,13 @@ use Rattle.jfs_plain.specs.Tree.{root, and_then}
 use Rattle.jfs_plain.specs.declared.refusal.Refusal.{Refusal}
 use Rattle.jfs_plain.specs.declared.refusal.Refusal.TheVariants.{NoInodes as NoFreeInode}
 use Rattle.jfs_link.specs.room.specs.Laws.{blocks_in}
-use Rattle.jfs_claim.specs.Look.{LooksFor, inode_by}
-use Rattle.jfs_claim.specs.declared.look.FreshInode.{FreshInode}
-use Rattle.jfs_way.specs.Volume.{volume_of}
-use Rattle.jfs_way.specs.Way.{inode_at, if_within, place_of}
-use Rattle.jfs_way.specs.declared.object.Held.{Held}
-use Rattle.jfs_way.proofs.Nodes.{stands}
-use Rattle.jfs_way.proofs.Places.{home_is}
+use Rattle.jfs_link.specs.claim.specs.Look.{LooksFor, inode_by}
+use Rattle.jfs_link.specs.claim.specs.declared.look.FreshInode.{FreshInode}
+use Rattle.jfs_link.specs.way.specs.Volume.{volume_of}
+use Rattle.jfs_link.specs.way.specs.Way.{inode_at, if_within, place_of}
+use Rattle.jfs_link.specs.way.specs.declared.object.Held.{Held}
+use Rattle.jfs_link.specs.way.proofs.Nodes.{stands}
+use Rattle.jfs_link.specs.way.proofs.Places.{home_is}
 use Rattle.jfs_create.specs.Makes.{CanStand, IsNewPlace, FitsExtent}
 use Rattle.jfs_create.specs.Plans.{IsPlannedAt, SuitsRun, extent_on}
 use Rattle.jfs_create.specs.Reserved.{MayTake}

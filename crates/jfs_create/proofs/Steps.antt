@@ -39,24 +39,24 @@ use Rattle.jfs_link.specs.meaning.specs.Room.{room_on}
 use Rattle.jfs_link.specs.meaning.proofs.Fresh.{fresh_law}
 use Rattle.jfs_link.specs.room.specs.Laws.{blocks_in}
 use Rattle.jfs_link.specs.room.proofs.Rooms.{held_law}
-use Rattle.jfs_claim.specs.Look.{LooksFor}
-use Rattle.jfs_claim.specs.Take.{AreFresh, Lacks}
-use Rattle.jfs_claim.specs.declared.look.FreshInode.{FreshInode}
+use Rattle.jfs_link.specs.claim.specs.Look.{LooksFor}
+use Rattle.jfs_link.specs.claim.specs.Take.{AreFresh, Lacks}
+use Rattle.jfs_link.specs.claim.specs.declared.look.FreshInode.{FreshInode}
 use Rattle.jfs_link.specs.lead_steps.proofs.Again.{few_links}
-use Rattle.jfs_way.specs.Answer.{is_open, Answers, names_refusal, view_refusal}
-use Rattle.jfs_way.specs.Volume.{volume_of, PlacesWithin}
-use Rattle.jfs_way.specs.Way.{inode_at, place_of}
-use Rattle.jfs_way.specs.Walk.{IsHeld, IsShown, tree_in}
-use Rattle.jfs_way.specs.declared.object.Held.{Held}
-use Rattle.jfs_way.proofs.Enters.{only_open}
-use Rattle.jfs_way.proofs.Nodes.{lives}
-use Rattle.jfs_way.proofs.Places.{home_is, place_is_home}
-use Rattle.jfs_steps.specs.After.{after_call}
-use Rattle.jfs_steps.specs.Call.{IsDone}
-use Rattle.jfs_steps.specs.Gains.{CanGain, GainRefused}
-use Rattle.jfs_steps.specs.Place.{last_of}
-use Rattle.jfs_steps.proofs.Grows.{dir_holds, no_extents_of}
-use Rattle.jfs_steps.proofs.LastNames.{IsDirectory, directory_is, object_is}
+use Rattle.jfs_link.specs.way.specs.Answer.{is_open, Answers, names_refusal, view_refusal}
+use Rattle.jfs_link.specs.way.specs.Volume.{volume_of, PlacesWithin}
+use Rattle.jfs_link.specs.way.specs.Way.{inode_at, place_of}
+use Rattle.jfs_link.specs.way.specs.Walk.{IsHeld, IsShown, tree_in}
+use Rattle.jfs_link.specs.way.specs.declared.object.Held.{Held}
+use Rattle.jfs_link.specs.way.proofs.Enters.{only_open}
+use Rattle.jfs_link.specs.way.proofs.Nodes.{lives}
+use Rattle.jfs_link.specs.way.proofs.Places.{home_is, place_is_home}
+use Rattle.jfs_link.specs.steps.specs.After.{after_call}
+use Rattle.jfs_link.specs.steps.specs.Call.{IsDone}
+use Rattle.jfs_link.specs.steps.specs.Gains.{CanGain, GainRefused}
+use Rattle.jfs_link.specs.steps.specs.Place.{last_of}
+use Rattle.jfs_link.specs.steps.proofs.Grows.{dir_holds, no_extents_of}
+use Rattle.jfs_link.specs.steps.proofs.LastNames.{IsDirectory, directory_is, object_is}
 use Rattle.jfs_create.specs.Look.{Passes, InRoom, IsFree, too_many}
 use Rattle.jfs_create.specs.Makes.{plain_of, links_after, gain_of}
 use Rattle.jfs_create.specs.New.{FitsNew}

@@ -23,18 +23,18 @@ use Rattle.jfs_link.specs.meaning.specs.Consistent.{IsConsistent, IsConsistentTr
 use Rattle.jfs_link.specs.meaning.specs.Laws.{IsFresh}
 use Rattle.jfs_link.specs.meaning.specs.Readers.{readers}
 use Rattle.jfs_link.specs.meaning.specs.Tree.{tree_on}
-use Rattle.jfs_way.specs.declared.object.Held.{Held}
+use Rattle.jfs_link.specs.way.specs.declared.object.Held.{Held}
 use Rattle.jfs_link.specs.lead_steps.specs.Reached.{HasTree}
 use Rattle.jfs_link.specs.lead_steps.proofs.Chain.{same_tree, set_has, set_other}
 use Rattle.jfs_link.specs.lead_steps.proofs.InPlace.{counted_rules}
-use Rattle.jfs_steps.specs.After.{used_after, extents_after, after_call}
-use Rattle.jfs_steps.specs.Call.{IsDone}
-use Rattle.jfs_steps.specs.Gains.{CanGain, IsGained, after_set, linked, with_root}
-use Rattle.jfs_steps.specs.Laws.{TakesAndFrees}
-use Rattle.jfs_steps.specs.Put.{TellsLines}
-use Rattle.jfs_steps.proofs.After.{used_onto, extents_onto, lines_alone, runs_leave, done_after}
-use Rattle.jfs_steps.proofs.Grows.{gain_law}
-use Rattle.jfs_steps.proofs.Sets.{lines_on_top, taken_move}
+use Rattle.jfs_link.specs.steps.specs.After.{used_after, extents_after, after_call}
+use Rattle.jfs_link.specs.steps.specs.Call.{IsDone}
+use Rattle.jfs_link.specs.steps.specs.Gains.{CanGain, IsGained, after_set, linked, with_root}
+use Rattle.jfs_link.specs.steps.specs.Laws.{TakesAndFrees}
+use Rattle.jfs_link.specs.steps.specs.Put.{TellsLines}
+use Rattle.jfs_link.specs.steps.proofs.After.{used_onto, extents_onto, lines_alone, runs_leave, done_after}
+use Rattle.jfs_link.specs.steps.proofs.Grows.{gain_law}
+use Rattle.jfs_link.specs.steps.proofs.Sets.{lines_on_top, taken_move}
 use Rattle.jfs_create.specs.Makes.{Makes, CanStand, plain_of, links_after, gain_of}
 use Rattle.jfs_create.specs.New.{FitsNew, inode_with, node_for}
 use Rattle.jfs_create.specs.declared.make.Plan.{Plan}

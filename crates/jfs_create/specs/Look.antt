@@ -12,13 +12,13 @@ use Rattle.jfs_link.specs.meaning.specs.Consistent.{IsConsistent}
 use Rattle.jfs_link.specs.meaning.specs.Readers.{readers, root_of}
 use Rattle.jfs_link.specs.meaning.specs.Room.{room_on}
 use Rattle.jfs_link.specs.room.specs.Laws.{blocks_in}
-use Rattle.jfs_claim.specs.Look.{space_for, LooksFor, IsAtRest}
-use Rattle.jfs_claim.specs.declared.look.FreshInode.{FreshInode}
-use Rattle.jfs_way.specs.Answer.{is_open}
-use Rattle.jfs_way.specs.Volume.{volume_of, PlacesWithin}
-use Rattle.jfs_way.specs.Walk.{IsThere, tree_in}
-use Rattle.jfs_way.specs.declared.object.Held.{Held}
-use Rattle.jfs_steps.specs.Place.{last_of, new_place_of}
+use Rattle.jfs_link.specs.claim.specs.Look.{space_for, LooksFor, IsAtRest}
+use Rattle.jfs_link.specs.claim.specs.declared.look.FreshInode.{FreshInode}
+use Rattle.jfs_link.specs.way.specs.Answer.{is_open}
+use Rattle.jfs_link.specs.way.specs.Volume.{volume_of, PlacesWithin}
+use Rattle.jfs_link.specs.way.specs.Walk.{IsThere, tree_in}
+use Rattle.jfs_link.specs.way.specs.declared.object.Held.{Held}
+use Rattle.jfs_link.specs.steps.specs.Place.{last_of, new_place_of}
 use Rattle.jfs_create.specs.Makes.{plain_of}
 use Rattle.jfs_create.specs.declared.looks.Seen.{Seen}
 use Rattle.jfs_create.specs.declared.new.NewObject.{NewObject}

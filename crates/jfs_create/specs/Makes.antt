@@ -11,10 +11,10 @@ use Rattle.jfs_link.specs.objects.specs.Volume.{Volume, home}
 use Rattle.jfs_plain.specs.Tree.{Tree}
 use Rattle.jfs_plain.specs.Moves.{changed, rises}
 use Rattle.jfs_plain.specs.Step.{Room, Outcome, create, mkdir, symlink}
-use Rattle.jfs_way.specs.declared.object.Held.{Held}
-use Rattle.jfs_steps.specs.Gains.{GainsName}
-use Rattle.jfs_steps.specs.Put.{AddsInode, TellsLines}
-use Rattle.jfs_steps.specs.declared.gain.Gain.{Gain}
+use Rattle.jfs_link.specs.way.specs.declared.object.Held.{Held}
+use Rattle.jfs_link.specs.steps.specs.Gains.{GainsName}
+use Rattle.jfs_link.specs.steps.specs.Put.{AddsInode, TellsLines}
+use Rattle.jfs_link.specs.steps.specs.declared.gain.Gain.{Gain}
 use Rattle.jfs_create.specs.Extent.{TellsExtent}
 use Rattle.jfs_create.specs.New.{IsNewInode}
 use Rattle.jfs_create.specs.declared.extent.NewExtent.{NewExtent}

@@ -17,16 +17,16 @@ use Rattle.jfs_link.specs.meaning.specs.Consistent.{IsConsistent}
 use Rattle.jfs_link.specs.meaning.specs.Readers.{readers}
 use Rattle.jfs_link.specs.meaning.specs.Room.{room_on}
 use Rattle.jfs_link.specs.room.specs.Laws.{blocks_in}
-use Rattle.jfs_claim.specs.Look.{IsAtRest}
-use Rattle.jfs_claim.specs.Take.{AreFresh, HasFree, IsRun, Lacks, run_list}
-use Rattle.jfs_claim.specs.declared.reserve.Want.{Want}
-use Rattle.jfs_way.specs.Answer.{is_open, CarriesCause}
-use Rattle.jfs_way.specs.Volume.{volume_of, PlacesWithin}
-use Rattle.jfs_way.specs.declared.object.Held.{Held}
-use Rattle.jfs_steps.specs.After.{after_call}
-use Rattle.jfs_steps.specs.Call.{IsDone}
-use Rattle.jfs_steps.specs.Gains.{GainRefused}
-use Rattle.jfs_steps.specs.Place.{last_of}
+use Rattle.jfs_link.specs.claim.specs.Look.{IsAtRest}
+use Rattle.jfs_link.specs.claim.specs.Take.{AreFresh, HasFree, IsRun, Lacks, run_list}
+use Rattle.jfs_link.specs.claim.specs.declared.reserve.Want.{Want}
+use Rattle.jfs_link.specs.way.specs.Answer.{is_open, CarriesCause}
+use Rattle.jfs_link.specs.way.specs.Volume.{volume_of, PlacesWithin}
+use Rattle.jfs_link.specs.way.specs.declared.object.Held.{Held}
+use Rattle.jfs_link.specs.steps.specs.After.{after_call}
+use Rattle.jfs_link.specs.steps.specs.Call.{IsDone}
+use Rattle.jfs_link.specs.steps.specs.Gains.{GainRefused}
+use Rattle.jfs_link.specs.steps.specs.Place.{last_of}
 use Rattle.jfs_link.specs.Link.{ReservesFree, ReservesTaken}
 use Rattle.jfs_create.specs.Look.{Passes, Barred, InRoom}
 use Rattle.jfs_create.specs.Makes.{Makes, gain_of}

@@ -8,9 +8,9 @@ use Rattle.jfs_link.specs.objects.specs.Volume.{slot_of}
 use Rattle.jfs_plain.specs.Tree.{root, and_then}
 use Rattle.jfs_plain.specs.declared.refusal.Refusal.{Refusal}
 use Rattle.jfs_plain.specs.declared.refusal.Refusal.TheVariants.{Damaged}
-use Rattle.jfs_claim.specs.declared.look.FreshInode.{FreshInode}
-use Rattle.jfs_way.specs.Way.{inode_at, place_of}
-use Rattle.jfs_way.specs.declared.object.Held.{Held}
+use Rattle.jfs_link.specs.claim.specs.declared.look.FreshInode.{FreshInode}
+use Rattle.jfs_link.specs.way.specs.Way.{inode_at, place_of}
+use Rattle.jfs_link.specs.way.specs.declared.object.Held.{Held}
 use Rattle.jfs_create.specs.declared.seats.Seated.{Seated}
 use Rattle.jfs_create.specs.declared.seats.Site.{Site}
 use Rattle.jfs_create.specs.declared.seats.Site.TheVariants.{There, Founding}

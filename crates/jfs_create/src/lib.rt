@@ -18,3 +18,9 @@ pub use new::{NewObject, Seat, new_inode};
 pub use plan::Draft;
 pub use reserve::Stop;
 pub use seats::{Founded, Seated, Site, site_of};
+
+pub mod link {
+    //! Passed on from `jfs_link`.
+
+    pub use jfs_link::{Linked, link};
+}

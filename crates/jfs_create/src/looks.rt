@@ -4,22 +4,22 @@ ghost use Rattle.std.specs.Prelude.{◌≡◌, ◌≤◌, ◌<◌, ℕ, [], true
 ghost use Rattle.jfs_bits.specs.declared.descriptor.Moment.{Moment};
 ghost use Rattle.jfs_disk.specs.Image.{page_of};
 ghost use Rattle.jfs_link.specs.objects.specs.Objects.{has_names};
-ghost use Rattle.jfs_claim.specs.Look.{LooksFor};
-ghost use Rattle.jfs_way.specs.Answer.{Carries};
-ghost use Rattle.jfs_way.specs.Walk.{IsHeld, IsShown};
+ghost use Rattle.jfs_link.specs.claim.specs.Look.{LooksFor};
+ghost use Rattle.jfs_link.specs.way.specs.Answer.{Carries};
+ghost use Rattle.jfs_link.specs.way.specs.Walk.{IsHeld, IsShown};
 ghost use Rattle.jfs_create.specs.Look.{Passes, Barred, InRoom, LooksAs, too_many};
 
 use crate::new::NewObject;
 use jfs_bmap::BlockMap;
-use jfs_claim::{FreshInode, look_for_inode, look_for_space};
 use jfs_dtree::{DtError, is_deep};
 use jfs_imap::InodeMap;
+use jfs_link::claim::{FreshInode, look_for_inode, look_for_space};
+use jfs_link::reader::root_in;
+use jfs_link::steps::{from_names, new_place};
+use jfs_link::way::Held;
 use jfs_name::Name;
 use jfs_plain::Refusal;
 use jfs_ranges::PageView;
-use jfs_reader::root_in;
-use jfs_steps::{from_names, new_place};
-use jfs_way::Held;
 
 /// The directory in which an object may be made, and the number of its inode.
 #[derive(Clone, Copy)]

@@ -6,19 +6,19 @@ ghost use Rattle.jfs_disk.specs.Image.{page_of};
 ghost use Rattle.jfs_inode.specs.Inode.{FitsDinode};
 ghost use Rattle.jfs_tree.specs.Form.{AllBelow};
 ghost use Rattle.jfs_tree.specs.Fresh.{blocks_of};
-ghost use Rattle.jfs_way.specs.Answer.{Carries};
-ghost use Rattle.jfs_steps.specs.Gains.{GainRefused, TakesFront};
+ghost use Rattle.jfs_link.specs.way.specs.Answer.{Carries};
+ghost use Rattle.jfs_link.specs.steps.specs.Gains.{GainRefused, TakesFront};
 ghost use Rattle.jfs_create.specs.New.{FitsNew};
 ghost use Rattle.jfs_create.specs.Makes.{Makes, FitsExtent, IsBetween, links_after, gain_of};
 
 use crate::extent::{NewExtent, tell_extent};
 use crate::new::{NewObject, Seat, new_inode};
 use jfs_bits::{Moment, PxdList};
+use jfs_link::steps::{Gain, gain_name, put_inode};
+use jfs_link::way::Held;
 use jfs_name::Name;
 use jfs_plain::Refusal;
 use jfs_ranges::{PageView, Tx};
-use jfs_steps::{Gain, gain_name, put_inode};
-use jfs_way::Held;
 use std::alloc::{AllocError, Global};
 
 /// An object that is to be made: what it is, where its inode stands, and when it is made.

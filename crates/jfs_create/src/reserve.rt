@@ -12,11 +12,11 @@ use crate::make::make;
 use crate::plan::{Draft, plan_of};
 use crate::seats::Site;
 use jfs_bmap::BlockMap;
-use jfs_claim::{ClaimError, Want, take};
+use jfs_link::claim::{ClaimError, Want, take};
+use jfs_link::way::Held;
 use jfs_name::Name;
 use jfs_plain::Refusal;
 use jfs_ranges::{PageView, Tx};
-use jfs_way::Held;
 use std::alloc::Global;
 
 /// Why an object isn't made.

@@ -3,21 +3,21 @@
 ghost use Rattle.std.specs.Prelude.{◌≡◌, ◌<◌, ◌≤◌, ◌+◌, true, Some, IfOk};
 ghost use Rattle.jfs_bits.specs.Descriptor.{FitsPxd};
 ghost use Rattle.jfs_disk.specs.Image.{page_of};
-ghost use Rattle.jfs_way.specs.Answer.{Carries, Answers};
-ghost use Rattle.jfs_way.specs.Way.{place_of};
+ghost use Rattle.jfs_link.specs.way.specs.Answer.{Carries, Answers};
+ghost use Rattle.jfs_link.specs.way.specs.Way.{place_of};
 ghost use Rattle.jfs_create.specs.Seat.{seat_at, seat_in, site_on, IsSiteWithin};
 
 use crate::new::Seat;
 use jfs_bits::{Pxd, Rule};
-use jfs_claim::FreshInode;
 use jfs_dtree::DtError;
 use jfs_imap::InodeMap;
 use jfs_inode::inode_in;
+use jfs_link::claim::FreshInode;
+use jfs_link::steps::from_names;
+use jfs_link::way::{Held, load};
 use jfs_plain::Refusal;
 use jfs_ranges::PageView;
-use jfs_steps::from_names;
 use jfs_tree::NO_PAGE;
-use jfs_way::{Held, load};
 
 /// The inode of the root directory, from which new inodes take the fileset's stamp.
 const ROOT: u32 = 2;

@@ -9,3 +9,21 @@ pub use law::{
     other_blocks_stay,
 };
 pub use pages::{DataList, DataPage};
+
+pub mod lead_steps {
+    //! Passed on from `jfs_lead_steps`.
+
+    pub use jfs_loss::lead_steps::own_after;
+}
+
+pub mod reader {
+    //! Passed on from `jfs_reader`.
+
+    pub use jfs_loss::reader::has_names;
+}
+
+pub mod steps {
+    //! Passed on from `jfs_steps`.
+
+    pub use jfs_loss::steps::put_inode;
+}

@@ -14,8 +14,8 @@ use Rattle.jfs_marks.specs.objects.specs.Readers.{Readers}
 use Rattle.jfs_marks.specs.objects.specs.Volume.{Volume, home, page_in, slot_of}
 use Rattle.jfs_marks.specs.objects.specs.Objects.{objects, spelled, is_live}
 use Rattle.jfs_marks.specs.objects.proofs.Found.{object_at, no_object_at}
-use Rattle.jfs_marks.specs.meaning.specs.Consistent.{IsConsistent}
-use Rattle.jfs_marks.specs.way.proofs.Places.{home_is}
+use Rattle.jfs_room.specs.meaning.specs.Consistent.{IsConsistent}
+use Rattle.jfs_room.specs.way.proofs.Places.{home_is}
 use Rattle.jfs_marks.specs.steps.specs.After.{extents_after}
 use Rattle.jfs_marks.specs.declared.founded.Founded.{Founded}
 use Rattle.jfs_marks.specs.declared.founded.NewExtent.{NewExtent}

@@ -8,7 +8,7 @@ use Rattle.jfs_bits.specs.declared.descriptor.Pxd.{Pxd}
 use Rattle.jfs_iag.specs.Iag.{no_run}
 use Rattle.jfs_iag.specs.Canonical.{is_there}
 use Rattle.jfs_marks.specs.imap.specs.Inodes.{Inodes, is_used, extent_at, home_in, home_of, with_put_back}
-use Rattle.jfs_marks.specs.bmap.specs.States.{Blocks}
+use Rattle.jfs_room.specs.bmap.specs.States.{Blocks}
 use Rattle.jfs_ranges.specs.declared.edit.Edit.{Edit}
 use Rattle.jfs_ranges.specs.Apply.{apply_tx, touches_tx}
 use Rattle.jfs_marks.specs.records.specs.declared.note.Note.{Note}
@@ -17,9 +17,9 @@ use Rattle.jfs_marks.specs.objects.specs.Readers.{Readers}
 use Rattle.jfs_marks.specs.objects.specs.Volume.{Volume, home, slot_of}
 use Rattle.jfs_marks.specs.objects.specs.Objects.{objects, is_live}
 use Rattle.jfs_marks.specs.objects.proofs.Found.{no_home, home_within as home_in_room}
-use Rattle.jfs_marks.specs.meaning.specs.Readers.{readers}
-use Rattle.jfs_marks.specs.way.specs.Volume.{volume_of, PlacesWithin}
-use Rattle.jfs_marks.specs.way.proofs.Places.{home_is, home_within}
+use Rattle.jfs_room.specs.meaning.specs.Readers.{readers}
+use Rattle.jfs_room.specs.way.specs.Volume.{volume_of, PlacesWithin}
+use Rattle.jfs_room.specs.way.proofs.Places.{home_is, home_within}
 use Rattle.jfs_marks.specs.steps.specs.After.{extents_after, four_from}
 use Rattle.jfs_marks.specs.data_steps.specs.After.{is_put, put_data, with_data, after_writes}
 use Rattle.jfs_marks.specs.data_steps.specs.declared.pages.DataPage.{DataPage}

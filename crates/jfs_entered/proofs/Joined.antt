@@ -7,7 +7,7 @@ use Rattle.jfs_ranges.specs.declared.edit.Edit.TheVariants.{Lines, NoRedo, Alloc
 use Rattle.jfs_ranges.specs.Apply.{apply_tx}
 use Rattle.jfs_ranges.specs.Laid.{put_tx}
 use Rattle.jfs_halves.specs.crash_core.specs.Image.{pages_after}
-use Rattle.jfs_marks.specs.way.specs.Volume.{volume_of}
+use Rattle.jfs_room.specs.way.specs.Volume.{volume_of}
 use Rattle.jfs_marks.specs.steps.proofs.After.{same_volume}
 use Rattle.jfs_marks.specs.data_steps.specs.After.{put_data, after_writes}
 use Rattle.jfs_entered.proofs.InUse.{inodes_law}

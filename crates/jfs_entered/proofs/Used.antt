@@ -4,8 +4,8 @@ use Rattle.std.proofs.lemmas.Bool.{cases_Bool, cases_lt, lt-ltb, le-ltb, ltb-tru
 use Rattle.std.proofs.lemmas.List.{get_or_past}
 use Rattle.jfs_bits.specs.Bits.{is_in_run}
 use Rattle.jfs_bits.specs.declared.descriptor.Pxd.{Pxd}
-use Rattle.jfs_marks.specs.bmap.specs.States.{Blocks, BlockState, Free, Owned, Reserved, Busy, is_owned_state, state_of, is_owned, is_in_list, put_state, released_state}
-use Rattle.jfs_marks.specs.bmap.proofs.States.{changed-at, changed-length}
+use Rattle.jfs_room.specs.bmap.specs.States.{Blocks, BlockState, Free, Owned, Reserved, Busy, is_owned_state, state_of, is_owned, is_in_list, put_state, released_state}
+use Rattle.jfs_room.specs.bmap.proofs.States.{changed-at, changed-length}
 use Rattle.jfs_ranges.specs.declared.edit.Edit.{Edit}
 use Rattle.jfs_ranges.specs.declared.edit.Edit.TheVariants.{Lines, NoRedo, Alloc, Free as FreeRun}
 use Rattle.jfs_marks.specs.records.specs.Marks.{has_block, is_new_extent}

@@ -3,14 +3,14 @@ use Rattle.std.specs.Prelude.{◌≡◌, ◌<◌, ℕ, ◌&&◌, Bool, true, fal
 use Rattle.jfs_bits.specs.declared.descriptor.Pxd.{Pxd}
 use Rattle.jfs_disk.specs.Image.{Image, page_of}
 use Rattle.jfs_marks.specs.imap.specs.Inodes.{Inodes}
-use Rattle.jfs_marks.specs.bmap.specs.States.{Blocks, Free, Reserved, state_of, is_owned, is_in_list, changed, put_state}
+use Rattle.jfs_room.specs.bmap.specs.States.{Blocks, Free, Reserved, state_of, is_owned, is_in_list, changed, put_state}
 use Rattle.jfs_ranges.specs.declared.edit.Edit.{Edit}
 use Rattle.jfs_ranges.specs.Laid.{put_tx}
 use Rattle.jfs_marks.specs.records.specs.declared.note.Note.{Note}
 use Rattle.jfs_halves.specs.crash_core.specs.Image.{pages_after}
 use Rattle.jfs_halves.specs.Marks.{takes as takes_block, map_after}
 use Rattle.jfs_halves.specs.Change.{SameStates}
-use Rattle.jfs_marks.specs.way.specs.Volume.{volume_of}
+use Rattle.jfs_room.specs.way.specs.Volume.{volume_of}
 use Rattle.jfs_room.specs.Laws.{NoneReserved}
 use Rattle.jfs_marks.specs.steps.specs.After.{takes, frees, used_after}
 use Rattle.jfs_marks.specs.data_steps.specs.After.{put_data, after_writes}

@@ -2,16 +2,16 @@
 use Rattle.std.specs.Prelude.{◌≡◌, ◌<◌, ℕ, ◌*◌, List, length, map}
 use Rattle.std.specs.List.{AllByRecursion}
 use Rattle.jfs_marks.specs.imap.specs.Inodes.{Inodes, is_used}
-use Rattle.jfs_marks.specs.bmap.specs.States.{Blocks}
+use Rattle.jfs_room.specs.bmap.specs.States.{Blocks}
 use Rattle.jfs_ranges.specs.declared.edit.Edit.{Edit}
 use Rattle.jfs_marks.specs.records.specs.declared.note.Note.{Note}
 use Rattle.jfs_marks.specs.records.specs.Records.{noted}
 use Rattle.jfs_marks.specs.records.specs.Limits.{IsLoggable}
 use Rattle.jfs_marks.specs.objects.specs.Image.{extent_place}
 use Rattle.jfs_marks.specs.objects.specs.Volume.{Volume}
-use Rattle.jfs_marks.specs.meaning.specs.Readers.{readers}
-use Rattle.jfs_marks.specs.meaning.specs.Consistent.{IsConsistent}
-use Rattle.jfs_marks.specs.way.specs.Volume.{volume_of, PlacesWithin}
+use Rattle.jfs_room.specs.meaning.specs.Readers.{readers}
+use Rattle.jfs_room.specs.meaning.specs.Consistent.{IsConsistent}
+use Rattle.jfs_room.specs.way.specs.Volume.{volume_of, PlacesWithin}
 use Rattle.jfs_marks.specs.steps.specs.After.{extents_after}
 use Rattle.jfs_marks.specs.data_steps.specs.After.{AreWholePages, with_data, after_writes}
 use Rattle.jfs_marks.specs.data_steps.specs.declared.pages.DataPage.{DataPage}

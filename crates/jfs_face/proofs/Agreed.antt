@@ -10,11 +10,11 @@ use Rattle.jfs_iag.specs.Canonical.{IsPrevious, AreNeighbors, AreLinks, in_inode
 use Rattle.jfs_iag.proofs.Agreed.{inodes-listed, places-listed, next-same, iags-same, controls-same}
 use Rattle.jfs_steps.specs.bmap.specs.MapFile.{pages_of, is_in_use}
 use Rattle.jfs_steps.specs.bmap.proofs.Agreed.{map-pages-same}
-use Rattle.jfs_recovery.specs.objects.specs.Volume.{page_in, slot_of}
-use Rattle.jfs_recovery.specs.objects.specs.Objects.{is_live}
-use Rattle.jfs_recovery.specs.objects.specs.Owners.{extent_has}
-use Rattle.jfs_recovery.specs.objects.specs.Image.{extent_place}
-use Rattle.jfs_recovery.specs.objects.proofs.Homes.{has_it}
+use Rattle.jfs_steps.specs.objects.specs.Volume.{page_in, slot_of}
+use Rattle.jfs_steps.specs.objects.specs.Objects.{is_live}
+use Rattle.jfs_steps.specs.objects.specs.Owners.{extent_has}
+use Rattle.jfs_steps.specs.objects.specs.Image.{extent_place}
+use Rattle.jfs_steps.specs.objects.proofs.Homes.{has_it}
 use Rattle.jfs_recovery.specs.Face.{Item, Value, Pages}
 use Rattle.jfs_recovery.specs.Face.Item.{BlockBit, ExtentPlace}
 use Rattle.jfs_face.specs.Places.{Places, is_block_page, is_inode_page, is_map_page}

@@ -7,8 +7,8 @@ use Rattle.jfs_bits.specs.Bits.{is_in_run}
 use Rattle.jfs_ranges.specs.declared.edit.Edit.{Edit}
 use Rattle.jfs_ranges.specs.declared.edit.Edit.TheVariants.{Lines, NoRedo, Alloc, Free}
 use Rattle.jfs_recovery.specs.records.specs.Redo.{all_of}
-use Rattle.jfs_recovery.specs.objects.specs.Readers.{Readers}
-use Rattle.jfs_recovery.specs.objects.specs.Image.{extent_place}
+use Rattle.jfs_steps.specs.objects.specs.Readers.{Readers}
+use Rattle.jfs_steps.specs.objects.specs.Image.{extent_place}
 use Rattle.jfs_steps.specs.After.{is_extent, place_in, four_from, with_run, without_run, used_after, extents_after}
 use Rattle.jfs_recovery.specs.Face.{Face, Pages, Item, Value, IsRedone, redo_page, redo_item}
 use Rattle.jfs_recovery.specs.Face.Item.{BlockBit, ExtentPlace}

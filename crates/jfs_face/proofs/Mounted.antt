@@ -5,12 +5,12 @@ use Rattle.std.specs.List.{range_with_len}
 use Rattle.jfs_bits.specs.Descriptor.{pxd_of}
 use Rattle.jfs_bits.specs.declared.descriptor.Pxd.{Pxd}
 use Rattle.jfs_iag.specs.Iag.{no_run}
-use Rattle.jfs_recovery.specs.objects.specs.Readers.{Readers}
-use Rattle.jfs_recovery.specs.objects.specs.Volume.{home}
-use Rattle.jfs_recovery.specs.objects.specs.Objects.{object_in, objects}
-use Rattle.jfs_recovery.specs.objects.specs.Contents.{block_of, bytes_at}
-use Rattle.jfs_recovery.specs.objects.specs.Image.{file_extents, file_page, file_has, iag_page, extent_place, extent_on, extents_on, area_on, volume_on}
-use Rattle.jfs_recovery.specs.objects.proofs.Blocks.{covered}
+use Rattle.jfs_steps.specs.objects.specs.Readers.{Readers}
+use Rattle.jfs_steps.specs.objects.specs.Volume.{home}
+use Rattle.jfs_steps.specs.objects.specs.Objects.{object_in, objects}
+use Rattle.jfs_steps.specs.objects.specs.Contents.{block_of, bytes_at}
+use Rattle.jfs_steps.specs.objects.specs.Image.{file_extents, file_page, file_has, iag_page, extent_place, extent_on, extents_on, area_on, volume_on}
+use Rattle.jfs_steps.specs.objects.proofs.Blocks.{covered}
 use Rattle.jfs_recovery.specs.kinds.proofs.Stay.{same_owners}
 use Rattle.jfs_recovery.specs.Face.Item.{ExtentPlace}
 use Rattle.jfs_face.specs.Places.{AreInAreas}

@@ -7,10 +7,10 @@ use Rattle.std.specs.List.{range_with_len}
 use Rattle.jfs_bits.specs.Bits.{any_below}
 use Rattle.jfs_bits.proofs.Buds.{any_below-at}
 use Rattle.jfs_steps.specs.bmap.specs.MapFile.{pages_of, is_in_use}
-use Rattle.jfs_recovery.specs.objects.specs.Readers.{Readers}
-use Rattle.jfs_recovery.specs.objects.specs.Volume.{Volume, room}
-use Rattle.jfs_recovery.specs.objects.specs.Owners.{extent_has, extents_have}
-use Rattle.jfs_recovery.specs.objects.specs.Image.{extent_place}
+use Rattle.jfs_steps.specs.objects.specs.Readers.{Readers}
+use Rattle.jfs_steps.specs.objects.specs.Volume.{Volume, room}
+use Rattle.jfs_steps.specs.objects.specs.Owners.{extent_has, extents_have}
+use Rattle.jfs_steps.specs.objects.specs.Image.{extent_place}
 use Rattle.jfs_recovery.specs.kinds.specs.Owner.{Owner, owner_of, owner_below, or_else, is_logged}
 use Rattle.jfs_recovery.specs.kinds.specs.Owner.Owner.{Area, Inodes}
 use Rattle.jfs_recovery.specs.Face.{Item, Value, Pages}

@@ -2,8 +2,8 @@
 use Rattle.std.proofs.Common.{◌≡◌, ℕ, Bool, List, Option, sym, ap, ◌∙◌, subst}
 use Rattle.jfs_bits.specs.declared.descriptor.Pxd.{Pxd}
 use Rattle.jfs_ranges.specs.declared.edit.Edit.{Edit}
-use Rattle.jfs_recovery.specs.objects.specs.Readers.{Readers}
-use Rattle.jfs_recovery.specs.objects.specs.Image.{volume_on}
+use Rattle.jfs_steps.specs.objects.specs.Readers.{Readers}
+use Rattle.jfs_steps.specs.objects.specs.Image.{volume_on}
 use Rattle.jfs_recovery.specs.kinds.specs.Owner.{Owner, owner_of, is_logged}
 use Rattle.jfs_recovery.specs.kinds.specs.Laws.{KeepsLogged}
 use Rattle.jfs_recovery.specs.kinds.proofs.Images.{image_law}

@@ -1,7 +1,7 @@
 -- A volume keeps all that the core asks for.
 use Rattle.std.proofs.Common.{◌⊎◌, ◌<◌, ℕ, Bool, List, refl, ◌∙◌, inl, inr}
 use Rattle.jfs_ranges.specs.declared.edit.Edit.{Edit}
-use Rattle.jfs_recovery.specs.objects.specs.Readers.{Readers}
+use Rattle.jfs_steps.specs.objects.specs.Readers.{Readers}
 use Rattle.jfs_recovery.specs.crash_core.proofs.Bytes.{length-apply_tx}
 use Rattle.jfs_recovery.specs.Face.{IsFace, Pages, Gives, Passes}
 use Rattle.jfs_recovery.specs.Lines.{rest_of, ReadsEdits}

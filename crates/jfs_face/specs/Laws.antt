@@ -1,7 +1,7 @@
 -- Each volume keeps what the core asks for.
 use Rattle.std.specs.Prelude.{ℕ, Bool, List}
 use Rattle.jfs_ranges.specs.declared.edit.Edit.{Edit}
-use Rattle.jfs_recovery.specs.objects.specs.Readers.{Readers}
+use Rattle.jfs_steps.specs.objects.specs.Readers.{Readers}
 use Rattle.jfs_recovery.specs.Face.{IsFace, Pages}
 use Rattle.jfs_recovery.specs.Lines.{ReadsEdits}
 use Rattle.jfs_face.specs.Places.{Places, AreInAreas}

@@ -6,10 +6,10 @@ use Rattle.jfs_bits.specs.declared.descriptor.Pxd.{Pxd}
 use Rattle.jfs_iag.specs.declared.canonical.Links.{Links}
 use Rattle.jfs_iag.specs.Canonical.{AreLinks, IsIagPage, IsControlPage}
 use Rattle.jfs_steps.specs.bmap.specs.MapFile.{is_in_use, IsMapPage}
-use Rattle.jfs_recovery.specs.objects.specs.Volume.{page_in, slot_of}
-use Rattle.jfs_recovery.specs.objects.specs.Objects.{is_live}
-use Rattle.jfs_recovery.specs.objects.specs.Owners.{extent_has}
-use Rattle.jfs_recovery.specs.objects.specs.Image.{extent_place}
+use Rattle.jfs_steps.specs.objects.specs.Volume.{page_in, slot_of}
+use Rattle.jfs_steps.specs.objects.specs.Objects.{is_live}
+use Rattle.jfs_steps.specs.objects.specs.Owners.{extent_has}
+use Rattle.jfs_steps.specs.objects.specs.Image.{extent_place}
 use Rattle.jfs_recovery.specs.Face.{Item, Value, Pages}
 use Rattle.jfs_face.specs.Places.{Places, is_map_page}
 use Rattle.jfs_face.specs.Items.{AreItems, used_by, extent_by, places}

@@ -2,9 +2,9 @@
 use Rattle.std.specs.Prelude.{◌≡◌, ◌≤◌, ℕ, true, List, is_some, unwrap_or}
 use Rattle.jfs_bits.specs.declared.descriptor.Pxd.{Pxd}
 use Rattle.jfs_steps.specs.bmap.specs.MapFile.{is_in_use}
-use Rattle.jfs_recovery.specs.objects.specs.Readers.{Readers}
-use Rattle.jfs_recovery.specs.objects.specs.Contents.{block_of}
-use Rattle.jfs_recovery.specs.objects.specs.Image.{file_extents, iags_on, area_on, volume_on}
+use Rattle.jfs_steps.specs.objects.specs.Readers.{Readers}
+use Rattle.jfs_steps.specs.objects.specs.Contents.{block_of}
+use Rattle.jfs_steps.specs.objects.specs.Image.{file_extents, iags_on, area_on, volume_on}
 use Rattle.jfs_recovery.specs.kinds.specs.Owner.{owner_of}
 use Rattle.jfs_face.specs.Places.{Places, AreInAreas}
 use Rattle.jfs_face.specs.Volume.{volume_with}

@@ -2,9 +2,9 @@
 use Rattle.std.specs.Prelude.{◌≡◌, ◌≤◌, ℕ, Bool, List, take}
 use Rattle.jfs_bits.specs.declared.descriptor.Pxd.{Pxd}
 use Rattle.jfs_ranges.specs.declared.edit.Edit.{Edit}
-use Rattle.jfs_recovery.specs.objects.specs.Readers.{Readers}
-use Rattle.jfs_recovery.specs.objects.specs.Owners.{IsSound}
-use Rattle.jfs_recovery.specs.objects.specs.Image.{volume_on}
+use Rattle.jfs_steps.specs.objects.specs.Readers.{Readers}
+use Rattle.jfs_steps.specs.objects.specs.Owners.{IsSound}
+use Rattle.jfs_steps.specs.objects.specs.Image.{volume_on}
 use Rattle.jfs_recovery.specs.kinds.specs.Images.{HasWholeFiles, IsSameVolume}
 use Rattle.jfs_recovery.specs.Face.{Pages, IsRedone}
 use Rattle.jfs_recovery.specs.Core.{Core, Step, count, image, AreAllowed, after_steps}

@@ -2,8 +2,8 @@
 use Rattle.std.specs.Prelude.{◌≡◌, ◌<◌, ℕ, Bool, true, false, List, length, get_or, Option, None}
 use Rattle.jfs_ranges.specs.declared.edit.Edit.{Edit}
 use Rattle.jfs_recovery.specs.records.specs.Redo.{redone, all_of}
-use Rattle.jfs_recovery.specs.objects.specs.Readers.{Readers}
-use Rattle.jfs_recovery.specs.objects.specs.Image.{extent_place}
+use Rattle.jfs_steps.specs.objects.specs.Readers.{Readers}
+use Rattle.jfs_steps.specs.objects.specs.Image.{extent_place}
 use Rattle.jfs_steps.specs.After.{used_after, extents_after}
 use Rattle.jfs_recovery.specs.Face.{Pages, Item, Value, IsRedone}
 use Rattle.jfs_recovery.specs.Face.Item.{BlockBit, ExtentPlace}

@@ -3,9 +3,9 @@ use Rattle.std.specs.Prelude.{ℕ, Bool, false, ◌||◌, ◌&&◌, List, map}
 use Rattle.std.specs.List.{range_with_len}
 use Rattle.jfs_ranges.specs.declared.edit.Edit.{Edit}
 use Rattle.jfs_ranges.specs.Apply.{apply_tx, touches_tx}
-use Rattle.jfs_recovery.specs.objects.specs.Readers.{Readers}
-use Rattle.jfs_recovery.specs.objects.specs.Volume.{Volume}
-use Rattle.jfs_recovery.specs.objects.specs.Image.{extent_place}
+use Rattle.jfs_steps.specs.objects.specs.Readers.{Readers}
+use Rattle.jfs_steps.specs.objects.specs.Volume.{Volume}
+use Rattle.jfs_steps.specs.objects.specs.Image.{extent_place}
 use Rattle.jfs_recovery.specs.kinds.specs.Owner.{owner_of}
 use Rattle.jfs_recovery.specs.Face.{Face, Pages, Item, Value}
 use Rattle.jfs_recovery.specs.records.specs.Redo.{closes_in}

@@ -3,22 +3,22 @@ use Rattle.std.proofs.Common.{◌≡◌, ◌⊎◌, inl, inr, ◌≤◌, refl, s
 use Rattle.jfs_bits.specs.declared.descriptor.Moment.{Moment}
 use Rattle.jfs_disk.specs.declared.disk.Fault.{Fault}
 use Rattle.jfs_super.specs.Geometry.{file_limit_of}
-use Rattle.jfs_write.specs.bmap.specs.States.{Blocks, unowned_count}
+use Rattle.jfs_create.specs.bmap.specs.States.{Blocks, unowned_count}
 use Rattle.jfs_plain.specs.Tree.{Tree}
 use Rattle.jfs_plain.specs.Step.{Room, Outcome, need_of_bytes}
 use Rattle.jfs_plain.specs.declared.call.Call.{Call}
 use Rattle.jfs_plain.specs.declared.refusal.Refusal.{Refusal}
-use Rattle.jfs_write.specs.meaning.specs.Readers.{readers}
-use Rattle.jfs_write.specs.meaning.specs.Room.{room_on}
-use Rattle.jfs_write.specs.meaning.specs.Tree.{tree_on}
-use Rattle.jfs_write.specs.meaning.specs.Consistent.{IsConsistent}
-use Rattle.jfs_write.specs.room.specs.Laws.{blocks_in}
-use Rattle.jfs_write.specs.way.specs.Answer.{is_open}
-use Rattle.jfs_write.specs.way.specs.Way.{path_of}
-use Rattle.jfs_write.specs.way.specs.declared.object.Held.{Held}
-use Rattle.jfs_data_steps.specs.After.{AreWholePages, LieWithin}
-use Rattle.jfs_write.specs.claim.specs.Look.{space_for}
-use Rattle.jfs_write.specs.claim.specs.declared.reserve.Want.{Want}
+use Rattle.jfs_look.specs.meaning.specs.Readers.{readers}
+use Rattle.jfs_look.specs.meaning.specs.Room.{room_on}
+use Rattle.jfs_look.specs.meaning.specs.Tree.{tree_on}
+use Rattle.jfs_look.specs.meaning.specs.Consistent.{IsConsistent}
+use Rattle.jfs_create.specs.room.specs.Laws.{blocks_in}
+use Rattle.jfs_look.specs.way.specs.Answer.{is_open}
+use Rattle.jfs_look.specs.way.specs.Way.{path_of}
+use Rattle.jfs_look.specs.way.specs.declared.object.Held.{Held}
+use Rattle.jfs_truncate.specs.data_steps.specs.After.{AreWholePages, LieWithin}
+use Rattle.jfs_create.specs.claim.specs.Look.{space_for}
+use Rattle.jfs_create.specs.claim.specs.declared.reserve.Want.{Want}
 use Rattle.jfs_write.specs.file_blocks.specs.Reserving.{total}
 use Rattle.jfs_write.specs.file_blocks.specs.declared.reserve.FileWant.{FileWant}
 use Rattle.jfs_write.specs.Look.{why_kept, unless}
@@ -27,13 +27,13 @@ use Rattle.jfs_write.specs.declared.answer.Stop.{Stop}
 use Rattle.jfs_write.specs.declared.answer.Stop.TheVariants as stops
 use Rattle.jfs_write.specs.declared.make.Written.{Written}
 use Rattle.jfs_files.specs.Outcome.{CarriesOutcome, ReservesAlone, KeepsMaps, MapsAfter, AreBetweenCalls, IsBusyFor, WantsBytes, AnswersAs, AnswersOr, volume_in}
-use Rattle.jfs_files.specs.Written.{FitsData, FreesNothing, Starts}
+use Rattle.jfs_files.specs.Written.{FitsData, FreesNothing, Starts, ChangesIfDone}
 use Rattle.jfs_files.specs.Bytes.{outcome_of, MeetsBytes}
 use Rattle.jfs_map_files.specs.declared.maps.Maps.{Maps}
 use Rattle.jfs_files.specs.declared.outcome.FileOutcome.{FileOutcome}
 use Rattle.jfs_files.specs.declared.outcome.FileOutcome.TheVariants.{Changed, Same, NeedsLog}
 use Rattle.jfs_plain.specs.declared.reply.Reply.TheVariants as reply
-use Rattle.jfs_write.specs.objects.specs.Volume.{Volume}
+use Rattle.jfs_truncate.specs.objects.specs.Volume.{Volume}
 use Rattle.jfs_files.proofs.Links.{both_ok, maps_after, left_for}
 
 -- what the plain step knows
@@ -115,3 +115,9 @@ module _ (blocks : ℕ) (pages : ℕ → List ℕ) (maps : Maps) (path : List (L
     bytes_follow plain after (Ok out) steps m s log_pages limit = steps size between.within area con log_pages limit
     bytes_follow plain after (Err (stops.Refused why)) steps m s log_pages limit = joined (plain (room_on (readers blocks) (volume_in pages area maps) blocks log_pages) (tree_on (readers blocks) (volume_in pages area maps)) ≡ Err why) (is_open why ≡ true) (IsDeep blocks pages maps.inodes path why) (steps size between.within area con log_pages limit)
     bytes_follow plain after (Err stops.NeedsLog) steps m s log_pages limit = let busy = m.1 in (record { run = false; blocks = total busy.0 }, (refl, busy.1), busy_alone busy.0 busy.1 busy.2 (room_left s.0 s.1))
+
+-- a write that is done changes something
+pub bytes_change : (came : Result Written Stop) → ChangesIfDone (outcome_of came)
+bytes_change (Ok out) = tt
+bytes_change (Err (stops.Refused why)) = tt
+bytes_change (Err stops.NeedsLog) = tt

@@ -5,21 +5,21 @@ use Rattle.jfs_bits.specs.declared.descriptor.Pxd.{Pxd}
 use Rattle.jfs_bits.specs.declared.rule.PageKind.TheVariants as kinds
 use Rattle.jfs_ranges.specs.declared.edit.Edit.{Edit}
 use Rattle.jfs_ranges.specs.declared.edit.Edit.TheVariants.{Lines}
-use Rattle.jfs_write.specs.page_tree.specs.Fresh.{blocks_of}
+use Rattle.jfs_look.specs.page_tree.specs.Fresh.{blocks_of}
 use Rattle.jfs_plain.specs.declared.call.Call.{Call}
-use Rattle.jfs_write.specs.objects.specs.Volume.{Volume}
-use Rattle.jfs_write.specs.meaning.specs.Readers.{readers}
-use Rattle.jfs_write.specs.meaning.specs.Consistent.{IsConsistent}
-use Rattle.jfs_write.specs.way.specs.declared.object.Held.{Held}
-use Rattle.jfs_write.specs.steps.specs.Laws.{IsFair}
-use Rattle.jfs_write.specs.steps.specs.Put.{TellsLines}
-use Rattle.jfs_write.specs.steps.proofs.After.{lines_alone, runs_leave}
-use Rattle.jfs_write.specs.steps.proofs.Sets.{frees_onto, taken_move}
+use Rattle.jfs_truncate.specs.objects.specs.Volume.{Volume}
+use Rattle.jfs_look.specs.meaning.specs.Readers.{readers}
+use Rattle.jfs_look.specs.meaning.specs.Consistent.{IsConsistent}
+use Rattle.jfs_look.specs.way.specs.declared.object.Held.{Held}
+use Rattle.jfs_chmod.specs.steps.specs.Laws.{IsFair}
+use Rattle.jfs_chmod.specs.steps.specs.Put.{TellsLines}
+use Rattle.jfs_chmod.specs.steps.proofs.After.{lines_alone, runs_leave}
+use Rattle.jfs_chmod.specs.steps.proofs.Sets.{frees_onto, taken_move}
 use Rattle.jfs_ranges.specs.Laid.{put_tx}
-use Rattle.jfs_data_steps.specs.After.{AreWholePages, LieWithin}
-use Rattle.jfs_data_steps.specs.declared.pages.DataPage.{DataPage}
-use Rattle.jfs_link.specs.Joins.{Joins}
-use Rattle.jfs_link.proofs.Whole.{joins_move}
+use Rattle.jfs_truncate.specs.data_steps.specs.After.{AreWholePages, LieWithin}
+use Rattle.jfs_truncate.specs.data_steps.specs.declared.pages.DataPage.{DataPage}
+use Rattle.jfs_create.specs.link.specs.Joins.{Joins}
+use Rattle.jfs_create.specs.link.proofs.Whole.{joins_move}
 use Rattle.jfs_create.specs.Makes.{IsBetween, Makes}
 use Rattle.jfs_create.specs.declared.extent.NewExtent.{NewExtent}
 use Rattle.jfs_create.specs.declared.make.Plan.{Plan}

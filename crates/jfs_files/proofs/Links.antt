@@ -2,25 +2,25 @@
 use Rattle.std.proofs.Common.{◌≡◌, ◌≤◌, refl, sym, ap, ap₂, ◌∙◌, ℕ, ◌+◌, Bool, true, false, true≢false, ◌||◌, nat_lt, if◌then◌else◌, List, [], Result, Ok, Err, arith}
 use Rattle.std.proofs.lemmas.Bool.Decides.{nat_tests}
 use Rattle.jfs_imap.specs.Inodes.{Inodes}
-use Rattle.jfs_write.specs.bmap.specs.States.{BlockState, Reserved, Blocks, unowned_count, is_in_list, changed}
-use Rattle.jfs_write.specs.bmap.proofs.Puts.{in_list-none}
+use Rattle.jfs_create.specs.bmap.specs.States.{BlockState, Reserved, Blocks, unowned_count, is_in_list, changed}
+use Rattle.jfs_create.specs.bmap.proofs.Puts.{in_list-none}
 use Rattle.jfs_ranges.specs.declared.edit.Edit.{Edit}
-use Rattle.jfs_write.specs.page_tree.specs.Edit.{count_in}
+use Rattle.jfs_look.specs.page_tree.specs.Edit.{count_in}
 use Rattle.jfs_plain.specs.Tree.{and_then}
 use Rattle.jfs_plain.specs.Step.{need_of_name}
 use Rattle.jfs_plain.specs.declared.refusal.Refusal.{Refusal}
 use Rattle.jfs_plain.specs.declared.refusal.Refusal.TheVariants.{NoSpace, IsDir}
-use Rattle.jfs_write.specs.objects.specs.Objects.{has_names}
-use Rattle.jfs_write.specs.way.specs.declared.object.Held.{Held}
-use Rattle.jfs_write.specs.way.specs.Way.{path_of}
-use Rattle.jfs_write.specs.steps.specs.After.{takes}
-use Rattle.jfs_write.specs.steps.specs.Place.{last_of, new_place_of}
-use Rattle.jfs_write.specs.room.specs.Laws.{NoneReserved}
-use Rattle.jfs_write.specs.claim.specs.Look.{space_for}
-use Rattle.jfs_write.specs.claim.specs.Take.{Lacks}
-use Rattle.jfs_write.specs.claim.proofs.Looks.{settled_is_enough}
-use Rattle.jfs_link.specs.Link.{ReservesTaken, want_of_name, unless_full, unless_deep, joint_of, asked_of, asked}
-use Rattle.jfs_link.specs.declared.asking.Joint.{Joint}
+use Rattle.jfs_truncate.specs.objects.specs.Objects.{has_names}
+use Rattle.jfs_look.specs.way.specs.declared.object.Held.{Held}
+use Rattle.jfs_look.specs.way.specs.Way.{path_of}
+use Rattle.jfs_chmod.specs.steps.specs.After.{takes}
+use Rattle.jfs_chmod.specs.steps.specs.Place.{last_of, new_place_of}
+use Rattle.jfs_create.specs.room.specs.Laws.{NoneReserved}
+use Rattle.jfs_create.specs.claim.specs.Look.{space_for}
+use Rattle.jfs_create.specs.claim.specs.Take.{Lacks}
+use Rattle.jfs_create.specs.claim.proofs.Looks.{settled_is_enough}
+use Rattle.jfs_create.specs.link.specs.Link.{ReservesTaken, want_of_name, unless_full, unless_deep, joint_of, asked_of, asked}
+use Rattle.jfs_create.specs.link.specs.declared.asking.Joint.{Joint}
 use Rattle.jfs_files.specs.Outcome.{reserved_by, TakesFree, IsBusyFor}
 use Rattle.jfs_map_files.specs.declared.maps.Maps.{Maps}
 

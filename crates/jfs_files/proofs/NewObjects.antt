@@ -1,11 +1,11 @@
 -- New objects among the calls.
 use Rattle.std.proofs.Common.{◌≤◌, refl, ℕ, Bool, true, false, List, arith}
 use Rattle.jfs_bits.specs.declared.descriptor.Moment.{Moment}
-use Rattle.jfs_write.specs.bmap.specs.States.{unowned_count}
-use Rattle.jfs_write.specs.room.specs.Laws.{NoneReserved}
-use Rattle.jfs_write.specs.claim.specs.Take.{total}
-use Rattle.jfs_write.specs.claim.specs.declared.reserve.Want.{Want}
-use Rattle.jfs_write.specs.claim.proofs.Looks.{settled_is_enough}
+use Rattle.jfs_create.specs.bmap.specs.States.{unowned_count}
+use Rattle.jfs_create.specs.room.specs.Laws.{NoneReserved}
+use Rattle.jfs_create.specs.claim.specs.Take.{total}
+use Rattle.jfs_create.specs.claim.specs.declared.reserve.Want.{Want}
+use Rattle.jfs_create.specs.claim.proofs.Looks.{settled_is_enough}
 use Rattle.jfs_create.specs.Reserved.{IsStopped, want_with}
 use Rattle.jfs_create.specs.declared.new.NewObject.{NewObject}
 use Rattle.jfs_create.specs.declared.reserve.Stop.TheVariants as stops

@@ -4,22 +4,22 @@ use Rattle.jfs_bits.specs.declared.descriptor.Moment.{Moment}
 use Rattle.jfs_bits.specs.declared.rule.PageKind.TheVariants.{Xtree, Dtree}
 use Rattle.jfs_inode.specs.declared.fields.Dinode.{Dinode}
 use Rattle.jfs_ranges.specs.declared.edit.Edit.{Edit}
-use Rattle.jfs_write.specs.page_tree.specs.Removes.{page_frees}
-use Rattle.jfs_write.specs.page_tree.specs.Fresh.{blocks_of}
-use Rattle.jfs_write.specs.xtree.specs.Cutting.{run_frees}
-use Rattle.jfs_write.specs.objects.specs.Objects.{has_extents}
-use Rattle.jfs_write.specs.meaning.specs.Readers.{root_of}
-use Rattle.jfs_write.specs.way.specs.declared.object.Held.{Held}
-use Rattle.jfs_write.specs.steps.specs.After.{takes}
-use Rattle.jfs_write.specs.steps.specs.Laws.{TakesAndFrees}
-use Rattle.jfs_write.specs.steps.specs.Put.{TellsLines}
-use Rattle.jfs_write.specs.steps.proofs.Sets.{frees_move, moves_onto, lines_move, lines_on_top}
-use Rattle.jfs_write.specs.loss.specs.Frees.{attribute_runs, CutsIf, FreesObject}
-use Rattle.jfs_write.specs.loss.specs.Loses.{LosesName}
-use Rattle.jfs_write.specs.loss.proofs.Counts.{runs_move, changes_move}
-use Rattle.jfs_unlink.specs.Call.{TakesName}
-use Rattle.jfs_unlink.specs.Gone.{DropsNamed, LeavesNamed}
-use Rattle.jfs_unlink.specs.declared.ends.Ends.{Ends}
+use Rattle.jfs_look.specs.page_tree.specs.Removes.{page_frees}
+use Rattle.jfs_look.specs.page_tree.specs.Fresh.{blocks_of}
+use Rattle.jfs_readlink.specs.xtree.specs.Cutting.{run_frees}
+use Rattle.jfs_truncate.specs.objects.specs.Objects.{has_extents}
+use Rattle.jfs_look.specs.meaning.specs.Readers.{root_of}
+use Rattle.jfs_look.specs.way.specs.declared.object.Held.{Held}
+use Rattle.jfs_chmod.specs.steps.specs.After.{takes}
+use Rattle.jfs_chmod.specs.steps.specs.Laws.{TakesAndFrees}
+use Rattle.jfs_chmod.specs.steps.specs.Put.{TellsLines}
+use Rattle.jfs_chmod.specs.steps.proofs.Sets.{frees_move, moves_onto, lines_move, lines_on_top}
+use Rattle.jfs_truncate.specs.loss.specs.Frees.{attribute_runs, CutsIf, FreesObject}
+use Rattle.jfs_truncate.specs.loss.specs.Loses.{LosesName}
+use Rattle.jfs_truncate.specs.loss.proofs.Counts.{runs_move, changes_move}
+use Rattle.jfs_rename.specs.unlink.specs.Call.{TakesName}
+use Rattle.jfs_rename.specs.unlink.specs.Gone.{DropsNamed, LeavesNamed}
+use Rattle.jfs_rename.specs.unlink.specs.declared.ends.Ends.{Ends}
 
 -- the edits take no block, and free so many
 abbrev OnlyFrees : List Edit → Type 0

@@ -1,18 +1,17 @@
 -- A rename among the calls.
-use Rattle.std.proofs.Common.{◌≡◌, ◌≤◌, ℕ, true, true≢false, sym, List, Option, Result, Ok, Err, arith}
+use Rattle.std.proofs.Common.{◌≡◌, ◌≤◌, ℕ, true≢false, sym, List, Ok, arith}
 use Rattle.jfs_imap.specs.Inodes.{Inodes}
-use Rattle.jfs_write.specs.bmap.specs.States.{Blocks, unowned_count}
+use Rattle.jfs_create.specs.bmap.specs.States.{Blocks, unowned_count}
 use Rattle.jfs_plain.specs.Tree.{and_then}
 use Rattle.jfs_plain.specs.Step.{need_of_name}
-use Rattle.jfs_plain.specs.declared.refusal.Refusal.{Refusal}
-use Rattle.jfs_write.specs.way.specs.declared.object.Held.{Held}
-use Rattle.jfs_write.specs.steps.specs.Place.{last_of}
-use Rattle.jfs_write.specs.room.specs.Laws.{NoneReserved}
-use Rattle.jfs_write.specs.claim.specs.Look.{space_for}
-use Rattle.jfs_write.specs.claim.specs.Take.{Lacks}
-use Rattle.jfs_write.specs.claim.proofs.Looks.{settled_is_enough}
-use Rattle.jfs_write.specs.place.specs.Place.{occupant_at}
-use Rattle.jfs_link.specs.Link.{want_of_name}
+use Rattle.jfs_look.specs.way.specs.declared.object.Held.{Held}
+use Rattle.jfs_chmod.specs.steps.specs.Place.{last_of}
+use Rattle.jfs_create.specs.room.specs.Laws.{NoneReserved}
+use Rattle.jfs_create.specs.claim.specs.Look.{space_for}
+use Rattle.jfs_create.specs.claim.specs.Take.{Lacks}
+use Rattle.jfs_create.specs.claim.proofs.Looks.{settled_is_enough}
+use Rattle.jfs_create.specs.place.specs.Place.{occupant_at}
+use Rattle.jfs_create.specs.link.specs.Link.{want_of_name}
 use Rattle.jfs_rename.specs.rename_steps.specs.declared.moving.Moving.{Moving}
 use Rattle.jfs_rename.specs.Ends.{moving_on}
 use Rattle.jfs_rename.specs.Permits.{permitted}

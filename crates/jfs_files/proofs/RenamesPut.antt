@@ -1,17 +1,17 @@
 -- A rename among the calls.
-use Rattle.std.proofs.Common.{◌≡◌, refl, sym, inr, ap, ◌∙◌, subst, ℕ, List, Result, Ok, Err}
+use Rattle.std.proofs.Common.{◌≡◌, refl, sym, inr, subst, ℕ, List, Result, Ok, Err}
 use Rattle.jfs_bits.specs.declared.descriptor.Moment.{Moment}
 use Rattle.jfs_disk.specs.declared.disk.Fault.{Fault}
 use Rattle.jfs_super.specs.Geometry.{file_limit_of}
-use Rattle.jfs_write.specs.bmap.specs.States.{Blocks}
+use Rattle.jfs_create.specs.bmap.specs.States.{Blocks}
 use Rattle.jfs_plain.specs.Tree.{Tree}
 use Rattle.jfs_plain.specs.Step.{Room, Outcome}
 use Rattle.jfs_plain.specs.declared.refusal.Refusal.{Refusal}
-use Rattle.jfs_write.specs.meaning.specs.Readers.{readers}
-use Rattle.jfs_write.specs.meaning.specs.Room.{room_on}
-use Rattle.jfs_write.specs.meaning.specs.Consistent.{IsConsistent}
-use Rattle.jfs_write.specs.way.specs.Answer.{Carries}
-use Rattle.jfs_link.specs.Link.{want_of_name}
+use Rattle.jfs_look.specs.meaning.specs.Readers.{readers}
+use Rattle.jfs_look.specs.meaning.specs.Room.{room_on}
+use Rattle.jfs_look.specs.meaning.specs.Consistent.{IsConsistent}
+use Rattle.jfs_look.specs.way.specs.Answer.{Carries}
+use Rattle.jfs_create.specs.link.specs.Link.{want_of_name}
 use Rattle.jfs_rename.specs.Renames.{MapAfter, RenamesAs}
 use Rattle.jfs_rename.specs.Steps.{StepsAs}
 use Rattle.jfs_rename.specs.Once.{FreesOnce}

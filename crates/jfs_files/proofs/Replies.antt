@@ -1,20 +1,20 @@
 -- What is told is the plain step's reply; and a change of an inode takes no block.
 use Rattle.std.proofs.Common.{arith, ◌≡◌, ◌<◌, refl, sym, ap, ◌∙◌, subst, ℕ, nat_lt, if◌then◌else◌, List, [], Ok}
 use Rattle.jfs_name.specs.declared.name.NameEntry.{NameEntry}
-use Rattle.jfs_write.specs.bmap.specs.States.{BlockState, Reserved, Blocks, state_of}
-use Rattle.jfs_write.specs.bmap.proofs.States.{same_blocks, changed-at, changed-length}
+use Rattle.jfs_create.specs.bmap.specs.States.{BlockState, Reserved, Blocks, state_of}
+use Rattle.jfs_create.specs.bmap.proofs.States.{same_blocks, changed-at, changed-length}
 use Rattle.jfs_ranges.specs.declared.edit.Edit.{Edit}
 use Rattle.jfs_plain.specs.Tree.{Tree}
 use Rattle.jfs_plain.specs.Step.{Outcome}
 use Rattle.jfs_plain.specs.declared.reply.Reply.{Reply}
 use Rattle.jfs_plain.specs.declared.reply.Reply.TheVariants.{Bytes, Attr, Names, Target}
 use Rattle.jfs_plain.specs.declared.reply.Stat.{Stat}
-use Rattle.jfs_write.specs.way.specs.Answer.{Follows}
-use Rattle.jfs_write.specs.steps.specs.After.{takes}
-use Rattle.jfs_write.specs.steps.specs.Put.{TellsLines}
-use Rattle.jfs_write.specs.steps.proofs.After.{lines_alone, lines_leave}
+use Rattle.jfs_look.specs.way.specs.Answer.{Follows}
+use Rattle.jfs_chmod.specs.steps.specs.After.{takes}
+use Rattle.jfs_chmod.specs.steps.specs.Put.{TellsLines}
+use Rattle.jfs_chmod.specs.steps.proofs.After.{lines_alone, lines_leave}
 use Rattle.jfs_look.specs.Look.{IsAttr, IsNames}
-use Rattle.jfs_read.specs.Read.{IsBytes}
+use Rattle.jfs_truncate.specs.read.specs.Read.{IsBytes}
 use Rattle.jfs_readlink.specs.Target.{IsTarget}
 use Rattle.jfs_files.specs.Outcome.{reserved_by, TakesFree}
 use Rattle.jfs_map_files.specs.declared.maps.Maps.{Maps}

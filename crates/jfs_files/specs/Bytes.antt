@@ -1,13 +1,13 @@
 -- What write and fill answer.
 use Rattle.std.specs.Prelude.{ℕ, List, Result, Ok, Err}
 use Rattle.jfs_bits.specs.declared.descriptor.Moment.{Moment}
-use Rattle.jfs_write.specs.bmap.specs.States.{Blocks}
+use Rattle.jfs_create.specs.bmap.specs.States.{Blocks}
 use Rattle.jfs_plain.specs.declared.call.Call.{Call}
 use Rattle.jfs_plain.specs.declared.call.Call.TheVariants as calls
 use Rattle.jfs_plain.specs.declared.refusal.Refusal.{Refusal}
 use Rattle.jfs_plain.specs.declared.reply.Reply.{Reply}
 use Rattle.jfs_plain.specs.declared.reply.Reply.TheVariants.{Refused}
-use Rattle.jfs_write.specs.objects.specs.Volume.{Volume}
+use Rattle.jfs_truncate.specs.objects.specs.Volume.{Volume}
 use Rattle.jfs_write.specs.Call.{IsWritten, IsStopped, IsDeep}
 use Rattle.jfs_write.specs.declared.answer.Stop.{Stop}
 use Rattle.jfs_write.specs.declared.answer.Stop.TheVariants as stops

@@ -1,29 +1,29 @@
 -- What each call answers whatever the volume holds.
-use Rattle.std.specs.Prelude.{◌≡◌, ◌⊎◌, ◌||◌, ℕ, Bool, true, false, List, [], length, replicate, Result, Ok, Err}
+use Rattle.std.specs.Prelude.{◌≡◌, ◌⊎◌, ℕ, Bool, true, false, List, [], length, replicate, Result, Ok, Err}
 use Rattle.std.specs.Borrow.{Bor}
 use Rattle.jfs_bits.specs.declared.descriptor.Moment.{Moment}
 use Rattle.jfs_imap.specs.Inodes.{Inodes}
-use Rattle.jfs_write.specs.bmap.specs.States.{Blocks}
+use Rattle.jfs_create.specs.bmap.specs.States.{Blocks}
 use Rattle.jfs_ranges.specs.declared.edit.Edit.{Edit}
 use Rattle.jfs_plain.specs.declared.call.Call.{Call}
 use Rattle.jfs_plain.specs.declared.call.Call.TheVariants as calls
 use Rattle.jfs_plain.specs.declared.refusal.Refusal.{Refusal}
 use Rattle.jfs_plain.specs.declared.reply.Reply.{Reply}
 use Rattle.jfs_plain.specs.declared.reply.Reply.TheVariants.{Done, Bytes, Attr, Names, Target, Refused}
-use Rattle.jfs_write.specs.way.specs.Answer.{is_open, Answers}
-use Rattle.jfs_write.specs.way.specs.Way.{path_of}
-use Rattle.jfs_write.specs.way.specs.declared.object.Held.{Held}
+use Rattle.jfs_look.specs.way.specs.Answer.{is_open, Answers}
+use Rattle.jfs_look.specs.way.specs.Way.{path_of}
+use Rattle.jfs_look.specs.way.specs.declared.object.Held.{Held}
 use Rattle.jfs_chmod.specs.Call.{SetsMode}
 use Rattle.jfs_create.specs.Reserved.{IsMade, IsStopped}
 use Rattle.jfs_create.specs.declared.new.NewObject.{NewObject}
 use Rattle.jfs_create.specs.declared.new.NewObject.TheVariants.{File, Directory, Link}
 use Rattle.jfs_create.specs.declared.reserve.Stop.TheVariants as stops
-use Rattle.jfs_link.specs.Link.{LinksAs}
-use Rattle.jfs_link.specs.declared.linking.Linked.TheVariants as linked
+use Rattle.jfs_create.specs.link.specs.Link.{LinksAs}
+use Rattle.jfs_create.specs.link.specs.declared.linking.Linked.TheVariants as linked
 use Rattle.jfs_look.specs.Look.{stat_at, names_at}
-use Rattle.jfs_read.specs.Read.{read_at}
+use Rattle.jfs_truncate.specs.read.specs.Read.{read_at}
 use Rattle.jfs_readlink.specs.Target.{target_at}
-use Rattle.jfs_unlink.specs.Call.{Unlinks, unlink_of, Removes, rmdir_of}
+use Rattle.jfs_rename.specs.unlink.specs.Call.{Unlinks, unlink_of, Removes, rmdir_of}
 use Rattle.jfs_truncate.specs.Call.{truncate_of, Truncates}
 use Rattle.jfs_files.specs.Bytes.{MeetsBytes}
 use Rattle.jfs_files.specs.Renames.{MeetsRename}

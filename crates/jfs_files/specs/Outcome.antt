@@ -2,7 +2,7 @@
 use Rattle.std.specs.Prelude.{◌≡◌, ◌⊎◌, ◌<◌, ◌≤◌, ℕ, true, false, nat_lt, if◌then◌else◌, List, Ok, Err}
 use Rattle.jfs_disk.specs.declared.disk.Fault.{Fault}
 use Rattle.jfs_super.specs.Geometry.{file_limit_of}
-use Rattle.jfs_write.specs.bmap.specs.States.{Blocks, Free, Reserved, state_of, changed, all_settled}
+use Rattle.jfs_create.specs.bmap.specs.States.{Blocks, Free, Reserved, state_of, changed, all_settled}
 use Rattle.jfs_ranges.specs.declared.edit.Edit.{Edit}
 use Rattle.jfs_plain.specs.declared.call.Call.{Call}
 use Rattle.jfs_plain.specs.declared.call.Call.TheVariants as calls
@@ -11,22 +11,22 @@ use Rattle.jfs_plain.specs.Step.{Room, Outcome}
 use Rattle.jfs_plain.specs.declared.refusal.Refusal.{Refusal}
 use Rattle.jfs_plain.specs.declared.reply.Reply.{Reply}
 use Rattle.jfs_plain.specs.declared.reply.Reply.TheVariants.{Refused}
-use Rattle.jfs_write.specs.objects.specs.Volume.{Volume}
-use Rattle.jfs_write.specs.meaning.specs.Readers.{readers}
-use Rattle.jfs_write.specs.meaning.specs.Tree.{tree_on}
-use Rattle.jfs_write.specs.meaning.specs.Room.{room_on}
-use Rattle.jfs_write.specs.meaning.specs.Consistent.{IsConsistent}
-use Rattle.jfs_write.specs.way.specs.Answer.{is_open, CarriesCause}
-use Rattle.jfs_write.specs.way.specs.Volume.{volume_of, PlacesWithin}
-use Rattle.jfs_write.specs.steps.specs.After.{takes}
-use Rattle.jfs_write.specs.steps.specs.Call.{IsDone}
-use Rattle.jfs_data_steps.specs.After.{after_writes}
-use Rattle.jfs_write.specs.claim.specs.Look.{IsAtRest, LooksFor}
-use Rattle.jfs_write.specs.claim.specs.Take.{Lacks, HasFree}
-use Rattle.jfs_write.specs.claim.specs.declared.look.FreshInode.{FreshInode}
-use Rattle.jfs_write.specs.claim.specs.declared.reserve.Want.{Want}
+use Rattle.jfs_truncate.specs.objects.specs.Volume.{Volume}
+use Rattle.jfs_look.specs.meaning.specs.Readers.{readers}
+use Rattle.jfs_look.specs.meaning.specs.Tree.{tree_on}
+use Rattle.jfs_look.specs.meaning.specs.Room.{room_on}
+use Rattle.jfs_look.specs.meaning.specs.Consistent.{IsConsistent}
+use Rattle.jfs_look.specs.way.specs.Answer.{is_open, CarriesCause}
+use Rattle.jfs_look.specs.way.specs.Volume.{volume_of, PlacesWithin}
+use Rattle.jfs_chmod.specs.steps.specs.After.{takes}
+use Rattle.jfs_chmod.specs.steps.specs.Call.{IsDone}
+use Rattle.jfs_truncate.specs.data_steps.specs.After.{after_writes}
+use Rattle.jfs_create.specs.claim.specs.Look.{IsAtRest, LooksFor}
+use Rattle.jfs_create.specs.claim.specs.Take.{Lacks, HasFree}
+use Rattle.jfs_create.specs.claim.specs.declared.look.FreshInode.{FreshInode}
+use Rattle.jfs_create.specs.claim.specs.declared.reserve.Want.{Want}
 use Rattle.jfs_create.specs.Reserved.{want_with}
-use Rattle.jfs_link.specs.Link.{want_of_name, ReservesFree}
+use Rattle.jfs_create.specs.link.specs.Link.{want_of_name, ReservesFree}
 use Rattle.jfs_map_files.specs.declared.maps.Maps.{Maps}
 use Rattle.jfs_files.specs.declared.outcome.FileOutcome.{FileOutcome}
 use Rattle.jfs_files.specs.declared.outcome.FileOutcome.TheVariants.{Changed, Same, NeedsLog}

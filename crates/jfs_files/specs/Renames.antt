@@ -1,8 +1,7 @@
 -- What a rename answers.
 use Rattle.std.specs.Prelude.{◌≡◌, ℕ, List, [], Result, Ok, Err}
 use Rattle.jfs_bits.specs.declared.descriptor.Moment.{Moment}
-use Rattle.jfs_write.specs.bmap.specs.States.{Blocks}
-use Rattle.jfs_plain.specs.declared.call.Call.{Call}
+use Rattle.jfs_create.specs.bmap.specs.States.{Blocks}
 use Rattle.jfs_plain.specs.declared.refusal.Refusal.{Refusal}
 use Rattle.jfs_plain.specs.declared.reply.Reply.{Reply}
 use Rattle.jfs_plain.specs.declared.reply.Reply.TheVariants.{Done, Refused}

@@ -4,15 +4,16 @@ use Rattle.jfs_ranges.specs.declared.edit.Edit.{Edit}
 use Rattle.jfs_plain.specs.CallStep.{LeavesRest}
 use Rattle.jfs_plain.specs.declared.call.Call.{Call}
 use Rattle.jfs_plain.specs.declared.call.Call.TheVariants as calls
-use Rattle.jfs_write.specs.objects.specs.Volume.{Volume}
-use Rattle.jfs_write.specs.meaning.specs.Readers.{readers}
-use Rattle.jfs_write.specs.meaning.specs.Tree.{tree_on}
-use Rattle.jfs_write.specs.meaning.specs.Consistent.{IsConsistent}
-use Rattle.jfs_write.specs.steps.specs.After.{takes, frees}
-use Rattle.jfs_data_steps.specs.After.{is_put, AreWholePages, LieWithin, with_data}
-use Rattle.jfs_data_steps.specs.declared.pages.DataPage.{DataPage}
+use Rattle.jfs_plain.specs.declared.reply.Reply.TheVariants.{Done}
+use Rattle.jfs_truncate.specs.objects.specs.Volume.{Volume}
+use Rattle.jfs_look.specs.meaning.specs.Readers.{readers}
+use Rattle.jfs_look.specs.meaning.specs.Tree.{tree_on}
+use Rattle.jfs_look.specs.meaning.specs.Consistent.{IsConsistent}
+use Rattle.jfs_chmod.specs.steps.specs.After.{takes, frees}
+use Rattle.jfs_truncate.specs.data_steps.specs.After.{is_put, AreWholePages, LieWithin, with_data}
+use Rattle.jfs_truncate.specs.data_steps.specs.declared.pages.DataPage.{DataPage}
 use Rattle.jfs_files.specs.declared.outcome.FileOutcome.{FileOutcome}
-use Rattle.jfs_files.specs.declared.outcome.FileOutcome.TheVariants.{Changed}
+use Rattle.jfs_files.specs.declared.outcome.FileOutcome.TheVariants.{Changed, Same}
 
 -- ---- of every view
 
@@ -93,3 +94,24 @@ pub record FreesOwn (used : ℕ → Bool) (tx : List Edit) : Type 0 where
 abbrev pub FreesOrTaken : (ℕ → Bool) → FileOutcome → Type 0
 FreesOrTaken used (Changed tx written) = FreesOwn used tx
 FreesOrTaken used _ = Unit {0}
+
+-- ---- done without a change
+
+-- it isn't
+abbrev pub ChangesIfDone : FileOutcome → Type 0
+ChangesIfDone (Same Done) = ⊥
+ChangesIfDone _ = Unit {0}
+
+-- Of the calls that may change the tree, a rename alone may be done without a change.
+abbrev pub ChangesBy : Call → FileOutcome → Type 0
+ChangesBy (calls.Mkdir path mode) outcome = ChangesIfDone outcome
+ChangesBy (calls.Create path mode) outcome = ChangesIfDone outcome
+ChangesBy (calls.Symlink path target) outcome = ChangesIfDone outcome
+ChangesBy (calls.Link from to) outcome = ChangesIfDone outcome
+ChangesBy (calls.Unlink path) outcome = ChangesIfDone outcome
+ChangesBy (calls.Rmdir path) outcome = ChangesIfDone outcome
+ChangesBy (calls.Chmod path mode) outcome = ChangesIfDone outcome
+ChangesBy (calls.Write path offset new) outcome = ChangesIfDone outcome
+ChangesBy (calls.Fill path offset count byte) outcome = ChangesIfDone outcome
+ChangesBy (calls.Truncate path end) outcome = ChangesIfDone outcome
+ChangesBy _ outcome = Unit {0}

@@ -6,7 +6,7 @@ ghost use Rattle.jfs_plain.specs.Limits.{FitsPath, FitsBytes, FitsRange};
 ghost use Rattle.jfs_plain.specs.Step.{write};
 ghost use Rattle.jfs_write.specs.Call.{IsDeep};
 ghost use Rattle.jfs_files.specs.Outcome.{CarriesOutcome, KeepsMaps, MapsAfter, IfMounted, AnswersOr, WantsBytes};
-ghost use Rattle.jfs_files.specs.Written.{FitsData, FreesNothing};
+ghost use Rattle.jfs_files.specs.Written.{FitsData, FreesNothing, ChangesIfDone};
 ghost use Rattle.jfs_files.specs.Bytes.{outcome_of, MeetsBytes, StartsWrite, StartsFill};
 
 use crate::outcome::FileOutcome;
@@ -41,6 +41,7 @@ pub(crate) fn write_outcome<V: PageView>(
     ensures follows { V.PageView.tells → IfMounted (V.PageView.block_count view.old) (page_of (V.PageView.image view.old)) maps.old (λ v room.
         AnswersOr (IsDeep (V.PageView.block_count view.old) (page_of (V.PageView.image view.old)) maps.old.inodes path.now) (V.PageView.block_count view.old) maps.old.blocks v WantsBytes (λ t. write room t path.now offset bytes.now now) result) }
     ensures starts { V.PageView.tells → IfMounted (V.PageView.block_count view.old) (page_of (V.PageView.image view.old)) maps.old (λ v room. StartsWrite (V.PageView.block_count view.old) v path.now offset bytes.now result) }
+    ensures changes { ChangesIfDone result }
     ensures meets { V.PageView.tells → MeetsBytes (V.PageView.block_count view.old) (page_of (V.PageView.image view.old)) maps.old path.now offset bytes.now (length bytes.now) now result }
 {
     let limit = maps.file_limit;
@@ -85,6 +86,7 @@ pub(crate) fn fill_outcome<V: PageView>(
     ensures follows { V.PageView.tells → IfMounted (V.PageView.block_count view.old) (page_of (V.PageView.image view.old)) maps.old (λ v room.
         AnswersOr (IsDeep (V.PageView.block_count view.old) (page_of (V.PageView.image view.old)) maps.old.inodes path.now) (V.PageView.block_count view.old) maps.old.blocks v WantsBytes (λ t. write room t path.now offset (replicate count byte) now) result) }
     ensures starts { V.PageView.tells → IfMounted (V.PageView.block_count view.old) (page_of (V.PageView.image view.old)) maps.old (λ v room. StartsFill (V.PageView.block_count view.old) v path.now offset count byte result) }
+    ensures changes { ChangesIfDone result }
     ensures meets { V.PageView.tells → MeetsBytes (V.PageView.block_count view.old) (page_of (V.PageView.image view.old)) maps.old path.now offset (replicate count byte) count now result }
 {
     let limit = maps.file_limit;

@@ -5,7 +5,7 @@ ghost use Rattle.jfs_disk.specs.Image.{page_of};
 ghost use Rattle.jfs_plain.specs.Limits.{FitsRequest};
 ghost use Rattle.jfs_plain.specs.Step.{outcome};
 ghost use Rattle.jfs_files.specs.Outcome.{CarriesOutcome, KeepsMaps, MapsAfter, IfMounted, AnswersOr, Wants};
-ghost use Rattle.jfs_files.specs.Written.{FitsData, puts_data, puts_bytes, WritesNone, WritesOnce, Starts, renames, FreesUsed, FreesOrTaken};
+ghost use Rattle.jfs_files.specs.Written.{FitsData, puts_data, puts_bytes, WritesNone, WritesOnce, Starts, renames, FreesUsed, FreesOrTaken, ChangesBy};
 ghost use Rattle.jfs_files.specs.Bytes.{bars};
 ghost use Rattle.jfs_files.specs.Meets.{Meets};
 
@@ -54,6 +54,8 @@ pub fn file_call<V: PageView>(
     // The transaction frees blocks in use alone, each once; but for a rename, which may free blocks that it took itself.
     ensures once { V.PageView.tells → renames request.now.call ≡ false → IfMounted (V.PageView.block_count view.old) (page_of (V.PageView.image view.old)) maps.old (λ v room. FreesUsed v.used result) }
     ensures own { V.PageView.tells → IfMounted (V.PageView.block_count view.old) (page_of (V.PageView.image view.old)) maps.old (λ v room. FreesOrTaken v.used result) }
+    // Of the calls that may change the tree, a rename alone is done without a change.
+    ensures changes { ChangesBy request.now.call result }
     // On any volume it is what the pages on the call's ways give, and the first of them that breaks a rule is named.
     ensures meets { V.PageView.tells → Meets (V.PageView.block_count view.old) (page_of (V.PageView.image view.old)) maps.old request.now.call now result }
 {

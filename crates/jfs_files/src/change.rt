@@ -5,7 +5,7 @@ ghost use Rattle.jfs_disk.specs.Image.{page_of};
 ghost use Rattle.jfs_plain.specs.Limits.{FitsCall};
 ghost use Rattle.jfs_plain.specs.Step.{outcome};
 ghost use Rattle.jfs_files.specs.Outcome.{CarriesOutcome, MapsAfter, IfMounted, AnswersAs, Wants};
-ghost use Rattle.jfs_files.specs.Written.{WritesNone, FreesUsed};
+ghost use Rattle.jfs_files.specs.Written.{WritesNone, FreesUsed, ChangesIfDone};
 ghost use Rattle.jfs_files.specs.Meets.{Meets, takes_none};
 
 use crate::outcome::FileOutcome;
@@ -14,7 +14,7 @@ use jfs_chmod::change_mode;
 use jfs_map_files::Maps;
 use jfs_plain::Call;
 use jfs_ranges::PageView;
-use jfs_unlink::{remove_directory, unlink};
+use jfs_rename::unlink::{remove_directory, unlink};
 use std::alloc::Global;
 
 /// What `unlink`, `rmdir` and `chmod` are answered.
@@ -37,6 +37,7 @@ pub(crate) fn change_outcome<V: PageView>(
     ensures follows { V.PageView.tells → IfMounted (V.PageView.block_count view.old) (page_of (V.PageView.image view.old)) maps.now (λ v room.
         AnswersAs (V.PageView.block_count view.old) maps.now.blocks v (Wants maps.now call.now) (λ t. outcome room t call.now now) result) }
     ensures once { V.PageView.tells → IfMounted (V.PageView.block_count view.old) (page_of (V.PageView.image view.old)) maps.now (λ v room. FreesUsed v.used result) }
+    ensures changes { ChangesIfDone result }
     ensures meets { V.PageView.tells → Meets (V.PageView.block_count view.old) (page_of (V.PageView.image view.old)) maps.now call.now now result }
 {
     let limit = maps.file_limit;

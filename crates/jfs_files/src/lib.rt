@@ -12,7 +12,7 @@ mod reply;
 mod size;
 
 pub use call::file_call;
-pub use jfs_data_steps::{DataList, DataPage};
 pub use jfs_map_files::Maps;
+pub use jfs_truncate::data_steps::{DataList, DataPage};
 pub use law::no_data_leaves_the_transaction_alone;
 pub use outcome::FileOutcome;

@@ -6,15 +6,15 @@ ghost use Rattle.jfs_plain.specs.Limits.{FitsCall, FitsPath};
 ghost use Rattle.jfs_plain.specs.Step.{outcome, link};
 ghost use Rattle.jfs_create.specs.New.{FitsNew};
 ghost use Rattle.jfs_create.specs.Makes.{plain_of};
-ghost use Rattle.jfs_link.specs.Link.{want_of_name};
+ghost use Rattle.jfs_create.specs.link.specs.Link.{want_of_name};
 ghost use Rattle.jfs_files.specs.Outcome.{CarriesOutcome, KeepsMaps, MapsAfter, IfMounted, AnswersAs, Wants, WantsInode};
-ghost use Rattle.jfs_files.specs.Written.{WritesNone, FreesNothing};
+ghost use Rattle.jfs_files.specs.Written.{WritesNone, FreesNothing, ChangesIfDone};
 ghost use Rattle.jfs_files.specs.Meets.{Meets, MeetsNew, MeetsLink, gives_name};
 
 use crate::outcome::FileOutcome;
 use jfs_bits::Moment;
+use jfs_create::link::{Linked, link};
 use jfs_create::{NewObject, Stop, make_object};
-use jfs_link::{Linked, link};
 use jfs_map_files::Maps;
 use jfs_name::Path;
 use jfs_plain::Call;
@@ -42,6 +42,7 @@ pub(crate) fn name_outcome<V: PageView>(
     ensures frees { V.PageView.tells → FreesNothing result }
     ensures follows { V.PageView.tells → IfMounted (V.PageView.block_count view.old) (page_of (V.PageView.image view.old)) maps.old (λ v room.
         AnswersAs (V.PageView.block_count view.old) maps.old.blocks v (Wants maps.old call.now) (λ t. outcome room t call.now now) result) }
+    ensures changes { ChangesIfDone result }
     ensures meets { V.PageView.tells → Meets (V.PageView.block_count view.old) (page_of (V.PageView.image view.old)) maps.old call.now now result }
 {
     match call {
@@ -86,6 +87,7 @@ fn new_outcome<V: PageView>(
     ensures frees { V.PageView.tells → FreesNothing result }
     ensures follows { V.PageView.tells → IfMounted (V.PageView.block_count view.old) (page_of (V.PageView.image view.old)) maps.old (λ v room.
         AnswersAs (V.PageView.block_count view.old) maps.old.blocks v (WantsInode maps.old) (λ t. plain_of object.entry room t path.now now) result) }
+    ensures changes { ChangesIfDone result }
     ensures meets { V.PageView.tells → MeetsNew (V.PageView.block_count view.old) (page_of (V.PageView.image view.old)) maps.old path.now now result object.entry }
 {
     let blocks = &mut maps.blocks;
@@ -126,6 +128,7 @@ fn link_outcome<V: PageView>(
     ensures frees { V.PageView.tells → FreesNothing result }
     ensures follows { V.PageView.tells → IfMounted (V.PageView.block_count view.old) (page_of (V.PageView.image view.old)) maps.old (λ v room.
         AnswersAs (V.PageView.block_count view.old) maps.old.blocks v (λ want. want ≡ want_of_name) (λ t. link room t from.now to.now now) result) }
+    ensures changes { ChangesIfDone result }
     ensures meets { V.PageView.tells → MeetsLink (V.PageView.block_count view.old) (page_of (V.PageView.image view.old)) maps.old from.now to.now now result }
 {
     let linked = link(

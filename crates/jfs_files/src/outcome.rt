@@ -4,9 +4,9 @@ ghost use Rattle.std.specs.Prelude.{◌≡◌, []};
 ghost use Rattle.jfs_plain.specs.declared.reply.Reply.TheVariants.{Refused};
 ghost use Rattle.jfs_files.specs.declared.outcome.FileOutcome.TheVariants.{Changed, Same};
 
-use jfs_data_steps::DataList;
 use jfs_plain::{Refusal, Reply};
 use jfs_ranges::Tx;
+use jfs_truncate::data_steps::DataList;
 use std::alloc::Global;
 
 /// What a file call answers.

@@ -4,7 +4,7 @@ ghost use Rattle.std.specs.Prelude.{◌≡◌, length};
 ghost use Rattle.jfs_disk.specs.Image.{page_of};
 ghost use Rattle.jfs_plain.specs.Limits.{FitsPath};
 ghost use Rattle.jfs_plain.specs.Step.{rename};
-ghost use Rattle.jfs_link.specs.Link.{want_of_name};
+ghost use Rattle.jfs_create.specs.link.specs.Link.{want_of_name};
 ghost use Rattle.jfs_files.specs.Outcome.{CarriesOutcome, KeepsMaps, MapsAfter, IfMounted, AnswersAs};
 ghost use Rattle.jfs_files.specs.Written.{WritesNone, FreesOrTaken};
 ghost use Rattle.jfs_files.specs.Renames.{outcome_by, MeetsRename};

@@ -5,7 +5,7 @@ ghost use Rattle.jfs_bits.specs.declared.descriptor.Moment.{Moment};
 ghost use Rattle.jfs_disk.specs.Image.{page_of};
 ghost use Rattle.jfs_plain.specs.Limits.{FitsCall};
 ghost use Rattle.jfs_plain.specs.Step.{Room, outcome};
-ghost use Rattle.jfs_write.specs.way.specs.Walk.{IfConsistent};
+ghost use Rattle.jfs_look.specs.way.specs.Walk.{IfConsistent};
 ghost use Rattle.jfs_files.specs.Outcome.{CarriesReply, IsReply};
 ghost use Rattle.jfs_files.specs.Meets.{OrOpen, looks, looked};
 
@@ -13,8 +13,8 @@ use jfs_imap::InodeMap;
 use jfs_look::{list_names, stat};
 use jfs_plain::{Call, Reply};
 use jfs_ranges::PageView;
-use jfs_read::read_bytes;
 use jfs_readlink::read_link;
+use jfs_truncate::read::read_bytes;
 use std::alloc::Global;
 
 /// What `stat`, `list`, `readlink` and `read` are answered.

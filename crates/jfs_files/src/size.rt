@@ -5,7 +5,7 @@ ghost use Rattle.jfs_disk.specs.Image.{page_of};
 ghost use Rattle.jfs_plain.specs.Limits.{FitsPath};
 ghost use Rattle.jfs_plain.specs.Step.{truncate};
 ghost use Rattle.jfs_files.specs.Outcome.{CarriesOutcome, MapsAfter, IfMounted, AnswersAs, nothing};
-ghost use Rattle.jfs_files.specs.Written.{FitsData, WritesOnce, StartsSize, FreesUsed};
+ghost use Rattle.jfs_files.specs.Written.{FitsData, WritesOnce, StartsSize, FreesUsed, ChangesIfDone};
 ghost use Rattle.jfs_files.specs.Meets.{MeetsSize};
 
 use crate::outcome::FileOutcome;
@@ -38,6 +38,7 @@ pub(crate) fn size_outcome<V: PageView>(
         AnswersAs (V.PageView.block_count view.old) maps.now.blocks v (λ want. want ≡ nothing) (λ t. truncate room t path.now end now) result) }
     ensures starts { V.PageView.tells → IfMounted (V.PageView.block_count view.old) (page_of (V.PageView.image view.old)) maps.now (λ v room. StartsSize (V.PageView.block_count view.old) v path.now end result) }
     ensures once { V.PageView.tells → IfMounted (V.PageView.block_count view.old) (page_of (V.PageView.image view.old)) maps.now (λ v room. FreesUsed v.used result) }
+    ensures changes { ChangesIfDone result }
     ensures meets { V.PageView.tells → MeetsSize (V.PageView.block_count view.old) (page_of (V.PageView.image view.old)) maps.now path.now end now result }
 {
     let limit = maps.file_limit;

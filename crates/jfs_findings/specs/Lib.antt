@@ -16,3 +16,4 @@ pub use Rattle.jfs_mount.specs.meaning
 pub use Rattle.jfs_mount as mount_rules
 pub use Rattle.jfs_mount.specs.objects
 pub use Rattle.jfs_mount.specs.plain
+pub use Rattle.jfs_mount.specs.reader

@@ -11,7 +11,7 @@ use Rattle.jfs_inode.specs.Rules.{type_of}
 use Rattle.jfs_super.specs.Rules.{blocks_of}
 use Rattle.jfs_new_volume.specs.page_tree.specs.Walk.{Leaf}
 use Rattle.jfs_iag.specs.Canonical.{is_there}
-use Rattle.jfs_new_volume.specs.bmap.specs.MapFile.{IsMapPage, is_in_use, pages_of}
+use Rattle.jfs_findings.specs.bmap.specs.MapFile.{IsMapPage, is_in_use, pages_of}
 use Rattle.jfs_new_volume.specs.imap.specs.Inodes.{is_used, extent_at as new_extent}
 use Rattle.jfs_new_volume.specs.objects.specs.Volume.{Volume, home}
 use Rattle.jfs_new_volume.specs.objects.specs.Objects.{Object, has_extents, objects}

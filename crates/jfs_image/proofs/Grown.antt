@@ -16,7 +16,7 @@ use Rattle.jfs_reader.specs.meaning.specs.Tree.{node_on, byte_on}
 use Rattle.jfs_reader.specs.meaning.specs.Node.{node_in}
 use Rattle.jfs_reader.specs.meaning.specs.Contents.{byte_in}
 use Rattle.jfs_reader.proofs.Homes.{home_past}
-use Rattle.jfs_mount.specs.Subject.{object, volume}
+use Rattle.jfs_owners.specs.mount_rules.specs.Subject.{object, volume}
 use Rattle.jfs_image.specs.Image.{subject_on}
 use Rattle.jfs_image.specs.Held.{IsHeld}
 use Rattle.jfs_image.specs.Tree.{IsUpTo}

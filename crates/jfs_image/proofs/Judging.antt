@@ -12,7 +12,7 @@ use Rattle.jfs_reader.specs.objects.specs.Readers.{Readers}
 use Rattle.jfs_reader.specs.objects.specs.Objects.{spelled}
 use Rattle.jfs_reader.specs.objects.proofs.Found.{object_at, no_object_at}
 use Rattle.jfs_reader.specs.meaning.specs.Readers.{readers}
-use Rattle.jfs_mount.specs.Subject.{volume}
+use Rattle.jfs_owners.specs.mount_rules.specs.Subject.{volume}
 use Rattle.jfs_image.specs.Image.{super_on, subject_on}
 use Rattle.jfs_image.specs.Held.{NamesMay, ExtentsMay}
 use Rattle.jfs_image.specs.Standing.{InodeIs}

@@ -14,8 +14,8 @@ use Rattle.jfs_reader.specs.objects.specs.Volume.{home, page_in}
 use Rattle.jfs_reader.specs.objects.specs.Image.{extent_place, extent_on}
 use Rattle.jfs_reader.proofs.Homes.{home_past, home_there}
 use Rattle.jfs_xtree.proofs.Reading.{and_true}
-use Rattle.jfs_mount.specs.Subject.{Subject, blocks, volume}
-use Rattle.jfs_mount.specs.Mount.{broken_mount, mount_rows, iags, fitting, fits_extent, extent_at}
+use Rattle.jfs_owners.specs.mount_rules.specs.Subject.{Subject, blocks, volume}
+use Rattle.jfs_owners.specs.mount_rules.specs.Mount.{broken_mount, mount_rows, iags, fitting, fits_extent, extent_at}
 
 equal : (a b : ℕ) → (a == b) ≡ true → a ≡ b
 equal a b e = grind (arith, nat_tests)

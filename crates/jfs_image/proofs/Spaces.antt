@@ -14,7 +14,7 @@ use Rattle.jfs_reader.specs.meaning.specs.Room.{or_else, lowest, is_free_inode, 
 use Rattle.jfs_owners.specs.Counts.{Counts}
 use Rattle.jfs_owners.specs.Held.{owned_below}
 use Rattle.jfs_owners.proofs.SetBits.{tested}
-use Rattle.jfs_mount.specs.Subject.{object, volume, blocks}
+use Rattle.jfs_owners.specs.mount_rules.specs.Subject.{object, volume, blocks}
 use Rattle.jfs_image.specs.Image.{HasTree, super_on, subject_on}
 use Rattle.jfs_image.specs.View.{image_of}
 use Rattle.jfs_image.specs.Opened.{IsOpened}

@@ -15,7 +15,7 @@ use Rattle.jfs_reader.specs.Map.{IsInodeMap, iag_block}
 use Rattle.jfs_reader.specs.declared.map.InodeMap.{InodeMap}
 use Rattle.jfs_reader.specs.declared.error.ReadError.{ReadError}
 use Rattle.jfs_reader.specs.declared.error.ReadError.TheVariants.{View, Outside}
-use Rattle.jfs_mount.specs.Subject.{volume}
+use Rattle.jfs_owners.specs.mount_rules.specs.Subject.{volume}
 use Rattle.jfs_image.specs.Image.{super_on, subject_on}
 use Rattle.jfs_image.specs.Standing.{ReadsInode, InodeIs, Stands, StandsAs}
 use Rattle.jfs_image.specs.declared.standing.Standing.{Standing}

@@ -16,7 +16,7 @@ use Rattle.jfs_reader.specs.meaning.specs.Readers.{readers}
 use Rattle.jfs_reader.specs.meaning.specs.Room.{or_else, lowest, is_free_inode}
 use Rattle.jfs_owners.specs.Counts.{OwnerSets, Counts, Adds}
 use Rattle.jfs_owners.specs.Held.{owned_below}
-use Rattle.jfs_mount.specs.Subject.{object, volume}
+use Rattle.jfs_owners.specs.mount_rules.specs.Subject.{object, volume}
 use Rattle.jfs_image.specs.Image.{super_on, subject_on}
 use Rattle.jfs_image.specs.View.{image_of, blocks_in}
 use Rattle.jfs_image.specs.Judged.{HasHome, IsSoundInode}

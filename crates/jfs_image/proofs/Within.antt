@@ -9,11 +9,11 @@ use Rattle.jfs_bits.specs.declared.extent.Xad.{Xad}
 use Rattle.jfs_bits.specs.declared.rule.Rule.{Rule}
 use Rattle.jfs_xtpage.specs.declared.head.XtForm.{XtForm}
 use Rattle.jfs_xtpage.specs.declared.head.XtForm.TheVariants.{Root, Full}
-use Rattle.jfs_reader.specs.page_tree.specs.Walk.{Child, Node, Leaf, Inner, Broken, Marks, Scale, placed, under, body, walk, rows_of}
-use Rattle.jfs_reader.specs.page_tree.specs.Spells.{no_page, with_root, levels_of, along_first, first_path, top, at_levels, tree_of, judge}
-use Rattle.jfs_reader.specs.page_tree.proofs.Frame.{rows-append}
-use Rattle.jfs_reader.specs.page_tree.proofs.Leaves.{rows_leaf}
-use Rattle.jfs_reader.specs.page_tree.proofs.Judge.{judged}
+use Rattle.jfs_owners.specs.page_tree.specs.Walk.{Child, Node, Leaf, Inner, Broken, Marks, Scale, placed, under, body, walk, rows_of}
+use Rattle.jfs_owners.specs.page_tree.specs.Spells.{no_page, with_root, levels_of, along_first, first_path, top, at_levels, tree_of, judge}
+use Rattle.jfs_owners.specs.page_tree.proofs.Frame.{rows-append}
+use Rattle.jfs_owners.specs.page_tree.proofs.Leaves.{rows_leaf}
+use Rattle.jfs_owners.specs.page_tree.proofs.Judge.{judged}
 use Rattle.jfs_xtree.specs.Node.{xt_scale, xt_node, is_within, all_within}
 use Rattle.jfs_xtree.proofs.Reading.{and_true, leaf_is}
 use Rattle.jfs_reader.specs.objects.specs.Owners.{entries}

@@ -7,8 +7,8 @@ use Rattle.jfs_super.specs.Super.{super_of}
 use Rattle.jfs_super.specs.Rules.{IsAccepted}
 use Rattle.jfs_super.specs.declared.fields.Super.{Super}
 use Rattle.jfs_reader.specs.objects.specs.Objects.{Object, IsWhole}
-use Rattle.jfs_mount.specs.Subject.{Subject, subject_of, object}
-use Rattle.jfs_mount.specs.Mount.{broken_mount}
+use Rattle.jfs_owners.specs.mount_rules.specs.Subject.{Subject, subject_of, object}
+use Rattle.jfs_owners.specs.mount_rules.specs.Mount.{broken_mount}
 
 -- Page 8 has the superblock.
 abbrev pub super_on : Image → Super

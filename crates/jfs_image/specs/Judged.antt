@@ -7,7 +7,7 @@ use Rattle.jfs_inode.specs.declared.fields.Dinode.{Dinode}
 use Rattle.jfs_reader.specs.objects.specs.Readers.{Readers}
 use Rattle.jfs_reader.specs.objects.specs.Volume.{home}
 use Rattle.jfs_reader.specs.objects.specs.Objects.{IsWhole, is_live, spelled}
-use Rattle.jfs_mount.specs.Subject.{object, volume}
+use Rattle.jfs_owners.specs.mount_rules.specs.Subject.{object, volume}
 use Rattle.jfs_image.specs.Image.{HasTree, subject_on}
 use Rattle.jfs_image.specs.Held.{Breaks}
 use Rattle.jfs_image.specs.declared.standing.Judged.{Judged}

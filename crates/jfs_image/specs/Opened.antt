@@ -4,7 +4,7 @@ use Rattle.jfs_disk.specs.Image.{Image}
 use Rattle.jfs_super.specs.Rules.{IsAccepted}
 use Rattle.jfs_super.specs.Geometry.{file_limit_of}
 use Rattle.jfs_super.specs.declared.fields.Super.{Super}
-use Rattle.jfs_mount.specs.Mount.{broken_mount}
+use Rattle.jfs_owners.specs.mount_rules.specs.Mount.{broken_mount}
 use Rattle.jfs_image.specs.View.{image_of, blocks_in}
 use Rattle.jfs_image.specs.Image.{HasTree, super_on, subject_on}
 use Rattle.jfs_image.specs.Standing.{IsReady}

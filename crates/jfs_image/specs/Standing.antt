@@ -12,7 +12,7 @@ use Rattle.jfs_reader.specs.Map.{IsInodeMap}
 use Rattle.jfs_reader.specs.declared.map.InodeMap.{InodeMap}
 use Rattle.jfs_reader.specs.declared.error.ReadError.{ReadError}
 use Rattle.jfs_reader.specs.declared.error.ReadError.TheVariants.{View, Outside}
-use Rattle.jfs_mount.specs.Subject.{object, volume}
+use Rattle.jfs_owners.specs.mount_rules.specs.Subject.{object, volume}
 use Rattle.jfs_image.specs.Image.{HasTree, super_on, subject_on}
 use Rattle.jfs_image.specs.View.{image_of, blocks_in}
 use Rattle.jfs_image.specs.Held.{IsHeld, Breaks}

@@ -7,7 +7,7 @@ use Rattle.jfs_reader.specs.objects.specs.Objects.{Object, IsWhole}
 use Rattle.jfs_reader.specs.meaning.specs.Room.{lowest, is_free_inode}
 use Rattle.jfs_owners.specs.Counts.{Counts}
 use Rattle.jfs_owners.specs.Held.{owned_below}
-use Rattle.jfs_mount.specs.Subject.{object, volume, blocks}
+use Rattle.jfs_owners.specs.mount_rules.specs.Subject.{object, volume, blocks}
 use Rattle.jfs_image.specs.Image.{HasTree, subject_on}
 use Rattle.jfs_image.specs.declared.tallied.Tally.{Tally}
 

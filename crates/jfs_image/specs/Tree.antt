@@ -11,7 +11,7 @@ use Rattle.jfs_plain.specs.Plain.{node_at, byte_at}
 use Rattle.jfs_plain.specs.declared.plain.PlainTree.{PlainTree}
 use Rattle.jfs_reader.specs.meaning.specs.Image.{tree_of}
 use Rattle.jfs_reader.specs.meaning.specs.Tree.{node_on, byte_on}
-use Rattle.jfs_mount.specs.Subject.{object, volume}
+use Rattle.jfs_owners.specs.mount_rules.specs.Subject.{object, volume}
 use Rattle.jfs_image.specs.Image.{HasTree, super_on, subject_on}
 
 -- A plain tree is the image's: the same nodes and the same bytes, and files may grow as far as its log lets them.

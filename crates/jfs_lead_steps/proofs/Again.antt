@@ -10,7 +10,7 @@ use Rattle.jfs_inode.specs.Rules.{known_types, rows}
 use Rattle.jfs_inode.specs.declared.fields.Dinode.{Dinode}
 use Rattle.jfs_inode.specs.declared.read.BadInode.{BadInode}
 use Rattle.jfs_name.specs.declared.name.NameEntry.{NameEntry}
-use Rattle.jfs_dtree.specs.Spells.{spells_names}
+use Rattle.jfs_meaning.specs.dtree.specs.Spells.{spells_names}
 use Rattle.jfs_meaning.specs.objects.specs.Readers.{Readers}
 use Rattle.jfs_meaning.specs.objects.specs.Volume.{Volume, home, slot_of}
 use Rattle.jfs_meaning.specs.objects.specs.Objects.{Object, objects, spelled, is_live, has_names, listed}

@@ -15,8 +15,8 @@ use Rattle.jfs_inode.specs.declared.fields.Dinode.{Dinode}
 use Rattle.jfs_inode.specs.declared.read.BadInode.{BadInode}
 use Rattle.jfs_name.specs.declared.name.NameEntry.{NameEntry}
 use Rattle.jfs_dtpage.specs.declared.head.DtForm.TheVariants as names
-use Rattle.jfs_dtree.specs.Node.{dt_node}
-use Rattle.jfs_dtree.specs.Parent.{parent_of}
+use Rattle.jfs_meaning.specs.dtree.specs.Node.{dt_node}
+use Rattle.jfs_meaning.specs.dtree.specs.Parent.{parent_of}
 use Rattle.jfs_meaning.specs.plain.specs.Tree.{Tree}
 use Rattle.jfs_meaning.specs.plain.specs.Moves.{changed, stamped, rises, falls, moves}
 use Rattle.jfs_meaning.specs.plain.specs.declared.node.Node.{Node}

@@ -12,11 +12,11 @@ use Rattle.jfs_ranges.specs.Laid.{put_tx}
 use Rattle.jfs_tree.specs.Edit.{count_in}
 use Rattle.jfs_tree.specs.Form.{AllBelow}
 use Rattle.jfs_tree.specs.Fresh.{LeadsTo, after_tx}
-use Rattle.jfs_dtree.specs.Parent.{parent_of}
-use Rattle.jfs_dtree.specs.Spells.{spells_names, owned_pages}
-use Rattle.jfs_dtree.specs.Adding.{AddsName, HasOneMoreName}
-use Rattle.jfs_dtree.specs.Removing.{HasOneLessName}
-use Rattle.jfs_dtree.specs.Replacing.{ReplacesName, LeadsElsewhere}
+use Rattle.jfs_meaning.specs.dtree.specs.Parent.{parent_of}
+use Rattle.jfs_meaning.specs.dtree.specs.Spells.{spells_names, owned_pages}
+use Rattle.jfs_meaning.specs.dtree.specs.Adding.{AddsName, HasOneMoreName}
+use Rattle.jfs_meaning.specs.dtree.specs.Removing.{HasOneLessName}
+use Rattle.jfs_meaning.specs.dtree.specs.Replacing.{ReplacesName, LeadsElsewhere}
 use Rattle.jfs_meaning.specs.plain.specs.Tree.{Tree}
 use Rattle.jfs_meaning.specs.plain.specs.Moves.{changed}
 use Rattle.jfs_meaning.specs.objects.specs.Volume.{Volume}

@@ -10,8 +10,8 @@ use Rattle.jfs_inode.specs.declared.fields.Dinode.{Dinode}
 use Rattle.jfs_name.specs.declared.name.NameEntry.{NameEntry}
 use Rattle.jfs_tree.specs.Edit.{count_in}
 use Rattle.jfs_tree.specs.Spells.{spells, footprint, no_page}
-use Rattle.jfs_dtree.specs.Parent.{parent_of}
-use Rattle.jfs_dtree.specs.Spells.{spells_names, owned_pages}
+use Rattle.jfs_meaning.specs.dtree.specs.Parent.{parent_of}
+use Rattle.jfs_meaning.specs.dtree.specs.Spells.{spells_names, owned_pages}
 use Rattle.jfs_bits.specs.Broken.{first_broken}
 use Rattle.jfs_inode.specs.Rules.{rows}
 use Rattle.jfs_meaning.specs.plain.specs.Tree.{Tree}

@@ -11,10 +11,10 @@ use Rattle.jfs_tree.specs.Edit.{count_in}
 use Rattle.jfs_tree.specs.Form.{AllBelow}
 use Rattle.jfs_tree.specs.Fresh.{LeadsTo, after_tx}
 use Rattle.jfs_tree.specs.Removes.{TellsFreed}
-use Rattle.jfs_dtree.specs.Parent.{parent_of}
-use Rattle.jfs_dtree.specs.Spells.{spells_names, owned_pages}
-use Rattle.jfs_dtree.specs.Adding.{AddsName, HasOneMoreName}
-use Rattle.jfs_dtree.specs.Removing.{RemovesName, HasOneLessName}
+use Rattle.jfs_meaning.specs.dtree.specs.Parent.{parent_of}
+use Rattle.jfs_meaning.specs.dtree.specs.Spells.{spells_names, owned_pages}
+use Rattle.jfs_meaning.specs.dtree.specs.Adding.{AddsName, HasOneMoreName}
+use Rattle.jfs_meaning.specs.dtree.specs.Removing.{RemovesName, HasOneLessName}
 use Rattle.jfs_meaning.specs.plain.specs.Tree.{Tree}
 use Rattle.jfs_meaning.specs.plain.specs.Moves.{changed}
 use Rattle.jfs_meaning.specs.objects.specs.Readers.{Readers}

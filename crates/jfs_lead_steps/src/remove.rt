@@ -5,11 +5,11 @@ ghost use Rattle.jfs_disk.specs.Image.{page_of};
 ghost use Rattle.jfs_ranges.specs.Laid.{laid, put_tx};
 ghost use Rattle.jfs_bits.specs.declared.rule.PageKind.TheVariants.{Dtree};
 ghost use Rattle.jfs_tree.specs.Changes.{TellsGone};
-ghost use Rattle.jfs_dtree.specs.Parent.{parent_of};
-ghost use Rattle.jfs_dtree.specs.Spells.{CarriesDt, broken_for, TellsWay};
-ghost use Rattle.jfs_dtree.specs.Removing.{RemovesName, MissesName};
+ghost use Rattle.jfs_meaning.specs.dtree.specs.Parent.{parent_of};
+ghost use Rattle.jfs_meaning.specs.dtree.specs.Spells.{CarriesDt, broken_for, TellsWay};
+ghost use Rattle.jfs_meaning.specs.dtree.specs.Removing.{RemovesName, MissesName};
 
-use jfs_dtree::{DtError, remove};
+use jfs_meaning::dtree::{DtError, remove};
 use jfs_name::Name;
 use jfs_ranges::{Over, PageView, Tx, ViewError};
 use jfs_tree::copy_tx;

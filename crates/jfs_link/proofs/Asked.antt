@@ -5,18 +5,18 @@ use Rattle.jfs_imap.specs.Inodes.{Inodes}
 use Rattle.jfs_bmap.specs.States.{Blocks, unowned_count, is_in_list, AreApart}
 use Rattle.jfs_claim.specs.runs.specs.Laws.{one_if}
 use Rattle.jfs_claim.specs.runs.proofs.Counted.{counted}
-use Rattle.jfs_dtree.specs.page_tree.specs.Edit.{count_in}
-use Rattle.jfs_dtree.specs.page_tree.specs.Fresh.{blocks_of}
-use Rattle.jfs_dtree.specs.Room.{deep_on_way}
-use Rattle.jfs_claim.specs.objects.specs.Objects.{has_names}
-use Rattle.jfs_claim.specs.meaning.specs.Readers.{root_of}
-use Rattle.jfs_claim.specs.meaning.proofs.Books.{count_append}
+use Rattle.jfs_lead_steps.specs.page_tree.specs.Edit.{count_in}
+use Rattle.jfs_lead_steps.specs.page_tree.specs.Fresh.{blocks_of}
+use Rattle.jfs_lead_steps.specs.dtree.specs.Room.{deep_on_way}
+use Rattle.jfs_lead_steps.specs.objects.specs.Objects.{has_names}
+use Rattle.jfs_lead_steps.specs.meaning.specs.Readers.{root_of}
+use Rattle.jfs_lead_steps.specs.meaning.proofs.Books.{count_append}
 use Rattle.jfs_plain.specs.Tree.{and_then}
 use Rattle.jfs_plain.specs.Step.{is_full, need_of_name}
 use Rattle.jfs_plain.specs.declared.refusal.Refusal.{Refusal}
 use Rattle.jfs_plain.specs.declared.refusal.Refusal.TheVariants.{IsDir, TooManyLinks, TooDeep}
-use Rattle.jfs_way.specs.Way.{path_of}
-use Rattle.jfs_way.specs.declared.object.Held.{Held}
+use Rattle.jfs_steps.specs.way.specs.Way.{path_of}
+use Rattle.jfs_steps.specs.way.specs.declared.object.Held.{Held}
 use Rattle.jfs_steps.specs.Place.{last_of, new_place_of}
 use Rattle.jfs_claim.specs.Look.{space_for}
 use Rattle.jfs_claim.specs.Take.{Reserves, AreFresh, claimed, run_list, reserving}

@@ -10,24 +10,24 @@ use Rattle.jfs_imap.specs.Inodes.{Inodes}
 use Rattle.jfs_bmap.specs.States.{Blocks}
 use Rattle.jfs_name.specs.declared.name.NameEntry.{NameEntry}
 use Rattle.jfs_name.specs.Directory.{named}
-use Rattle.jfs_dtree.specs.Room.{is_deep, DeepIs}
-use Rattle.jfs_dtree.specs.Spells.{spells_names}
+use Rattle.jfs_lead_steps.specs.dtree.specs.Room.{is_deep, DeepIs}
+use Rattle.jfs_lead_steps.specs.dtree.specs.Spells.{spells_names}
 use Rattle.jfs_plain.specs.Tree.{Tree, Place, walk, root, new_place, place_at, is_dir, enter, wanted}
 use Rattle.jfs_plain.specs.Step.{Room, is_short, is_full}
 use Rattle.jfs_plain.specs.declared.node.Node.{Node}
 use Rattle.jfs_plain.specs.declared.refusal.Refusal.{Refusal}
 use Rattle.jfs_plain.specs.declared.refusal.Refusal.TheVariants.{IsDir, TooManyLinks, TooDeep}
-use Rattle.jfs_claim.specs.objects.specs.Objects.{has_names}
-use Rattle.jfs_claim.specs.objects.specs.Owners.{Agrees}
-use Rattle.jfs_claim.specs.meaning.specs.Readers.{readers, root_of}
-use Rattle.jfs_claim.specs.meaning.specs.Room.{room_on}
-use Rattle.jfs_claim.specs.meaning.specs.Consistent.{IsConsistent}
+use Rattle.jfs_lead_steps.specs.objects.specs.Objects.{has_names}
+use Rattle.jfs_lead_steps.specs.objects.specs.Owners.{Agrees}
+use Rattle.jfs_lead_steps.specs.meaning.specs.Readers.{readers, root_of}
+use Rattle.jfs_lead_steps.specs.meaning.specs.Room.{room_on}
+use Rattle.jfs_lead_steps.specs.meaning.specs.Consistent.{IsConsistent}
 use Rattle.jfs_claim.specs.room.proofs.Rooms.{held_law}
-use Rattle.jfs_way.specs.Answer.{Follows}
-use Rattle.jfs_way.specs.Volume.{volume_of}
-use Rattle.jfs_way.specs.Walk.{IsHeld, IsShown, IsThere, IsOf, tree_in}
-use Rattle.jfs_way.specs.declared.object.Held.{Held}
-use Rattle.jfs_way.proofs.Nodes.{in_directory}
+use Rattle.jfs_steps.specs.way.specs.Answer.{Follows}
+use Rattle.jfs_steps.specs.way.specs.Volume.{volume_of}
+use Rattle.jfs_steps.specs.way.specs.Walk.{IsHeld, IsShown, IsThere, IsOf, tree_in}
+use Rattle.jfs_steps.specs.way.specs.declared.object.Held.{Held}
+use Rattle.jfs_steps.specs.way.proofs.Nodes.{in_directory}
 use Rattle.jfs_steps.specs.Place.{last_of, IsPlace}
 use Rattle.jfs_claim.specs.Look.{WhateverInodes, TellsSpace}
 use Rattle.jfs_place.proofs.HeldNode.{stood, held_node, node_there, node_links, node_kind}

@@ -9,24 +9,24 @@ use Rattle.jfs_inode.specs.declared.fields.Dinode.{Dinode}
 use Rattle.jfs_name.specs.declared.name.NameEntry.{NameEntry}
 use Rattle.jfs_ranges.specs.declared.edit.Edit.{Edit}
 use Rattle.jfs_ranges.specs.Laid.{put_tx}
-use Rattle.jfs_dtree.specs.page_tree.specs.Edit.{count_in}
-use Rattle.jfs_dtree.specs.page_tree.specs.Form.{AllBelow}
-use Rattle.jfs_dtree.specs.Parent.{parent_of}
-use Rattle.jfs_dtree.specs.Spells.{spells_names}
-use Rattle.jfs_dtree.specs.Adding.{AddsName}
+use Rattle.jfs_lead_steps.specs.page_tree.specs.Edit.{count_in}
+use Rattle.jfs_lead_steps.specs.page_tree.specs.Form.{AllBelow}
+use Rattle.jfs_lead_steps.specs.dtree.specs.Parent.{parent_of}
+use Rattle.jfs_lead_steps.specs.dtree.specs.Spells.{spells_names}
+use Rattle.jfs_lead_steps.specs.dtree.specs.Adding.{AddsName}
 use Rattle.jfs_plain.specs.Tree.{Tree}
 use Rattle.jfs_plain.specs.Moves.{changed, gains, stamped, rises}
 use Rattle.jfs_plain.specs.Step.{entry_as}
-use Rattle.jfs_claim.specs.objects.specs.Readers.{Readers}
-use Rattle.jfs_claim.specs.objects.specs.Volume.{Volume}
-use Rattle.jfs_claim.specs.objects.specs.Objects.{objects, spelled, is_live, has_names}
-use Rattle.jfs_claim.specs.objects.specs.Owners.{bit}
-use Rattle.jfs_claim.specs.objects.specs.Changes.{put, PutsInode}
-use Rattle.jfs_claim.specs.meaning.specs.Contents.{byte_in}
-use Rattle.jfs_claim.specs.meaning.specs.Node.{node_in}
-use Rattle.jfs_claim.specs.meaning.specs.Readers.{readers, root_of}
-use Rattle.jfs_claim.specs.meaning.specs.Tree.{tree_on}
-use Rattle.jfs_claim.specs.meaning.specs.Consistent.{IsConsistent}
+use Rattle.jfs_lead_steps.specs.objects.specs.Readers.{Readers}
+use Rattle.jfs_lead_steps.specs.objects.specs.Volume.{Volume}
+use Rattle.jfs_lead_steps.specs.objects.specs.Objects.{objects, spelled, is_live, has_names}
+use Rattle.jfs_lead_steps.specs.objects.specs.Owners.{bit}
+use Rattle.jfs_lead_steps.specs.objects.specs.Changes.{put, PutsInode}
+use Rattle.jfs_lead_steps.specs.meaning.specs.Contents.{byte_in}
+use Rattle.jfs_lead_steps.specs.meaning.specs.Node.{node_in}
+use Rattle.jfs_lead_steps.specs.meaning.specs.Readers.{readers, root_of}
+use Rattle.jfs_lead_steps.specs.meaning.specs.Tree.{tree_on}
+use Rattle.jfs_lead_steps.specs.meaning.specs.Consistent.{IsConsistent}
 use Rattle.jfs_lead_steps.specs.Reached.{HasTree}
 use Rattle.jfs_lead_steps.proofs.Chain.{some_is, set_has, set_other, twice}
 use Rattle.jfs_lead_steps.proofs.InPlace.{sets_in_place, counted_names, counted_extents, counted_bytes, counted_rules, rises_now}

@@ -11,38 +11,38 @@ use Rattle.jfs_name.specs.declared.name.NameEntry.{NameEntry}
 use Rattle.jfs_name.specs.Directory.{named}
 use Rattle.jfs_ranges.specs.declared.edit.Edit.{Edit}
 use Rattle.jfs_ranges.specs.Laid.{put_tx}
-use Rattle.jfs_dtree.specs.page_tree.specs.Edit.{count_in}
-use Rattle.jfs_dtree.specs.page_tree.specs.Fresh.{blocks_of}
-use Rattle.jfs_dtree.specs.Room.{is_deep}
-use Rattle.jfs_dtree.specs.Spells.{spells_names, owned_pages}
-use Rattle.jfs_dtree.specs.declared.error.DtError.{DtError}
-use Rattle.jfs_dtree.specs.declared.error.DtError.TheVariants as dt
+use Rattle.jfs_lead_steps.specs.page_tree.specs.Edit.{count_in}
+use Rattle.jfs_lead_steps.specs.page_tree.specs.Fresh.{blocks_of}
+use Rattle.jfs_lead_steps.specs.dtree.specs.Room.{is_deep}
+use Rattle.jfs_lead_steps.specs.dtree.specs.Spells.{spells_names, owned_pages}
+use Rattle.jfs_lead_steps.specs.dtree.specs.declared.error.DtError.{DtError}
+use Rattle.jfs_lead_steps.specs.dtree.specs.declared.error.DtError.TheVariants as dt
 use Rattle.jfs_plain.specs.Tree.{Tree, Place, place, place_at, new_place, at_place, unless_there, and_then, enter, wanted}
 use Rattle.jfs_plain.specs.Moves.{changed, stamped, rises, gains}
 use Rattle.jfs_plain.specs.Step.{Room, Outcome, Answers, link, entry_as, is_full}
 use Rattle.jfs_plain.specs.declared.call.Call.TheVariants as calls
 use Rattle.jfs_plain.specs.declared.refusal.Refusal.{Refusal}
 use Rattle.jfs_plain.specs.declared.reply.Reply.TheVariants.{Done}
-use Rattle.jfs_claim.specs.objects.specs.Readers.{Readers}
-use Rattle.jfs_claim.specs.objects.specs.Volume.{Volume, home, room}
-use Rattle.jfs_claim.specs.objects.specs.Objects.{objects, spelled, is_live, has_names}
-use Rattle.jfs_claim.specs.objects.specs.Owners.{bit, holds}
-use Rattle.jfs_claim.specs.objects.specs.Image.{extent_place}
-use Rattle.jfs_claim.specs.objects.proofs.Owned.{owned_once}
-use Rattle.jfs_claim.specs.objects.proofs.Sums.{zero_or_more}
-use Rattle.jfs_claim.specs.meaning.specs.Readers.{readers, root_of}
-use Rattle.jfs_claim.specs.meaning.specs.Room.{room_on}
-use Rattle.jfs_claim.specs.meaning.specs.Tree.{tree_on}
-use Rattle.jfs_claim.specs.meaning.specs.Consistent.{IsConsistent}
-use Rattle.jfs_claim.specs.meaning.proofs.Books.{count_append}
-use Rattle.jfs_claim.specs.meaning.proofs.Fresh.{fresh_law}
-use Rattle.jfs_claim.specs.meaning.proofs.Steps.{step_keeps}
+use Rattle.jfs_lead_steps.specs.objects.specs.Readers.{Readers}
+use Rattle.jfs_lead_steps.specs.objects.specs.Volume.{Volume, home, room}
+use Rattle.jfs_lead_steps.specs.objects.specs.Objects.{objects, spelled, is_live, has_names}
+use Rattle.jfs_lead_steps.specs.objects.specs.Owners.{bit, holds}
+use Rattle.jfs_lead_steps.specs.objects.specs.Image.{extent_place}
+use Rattle.jfs_lead_steps.specs.objects.proofs.Owned.{owned_once}
+use Rattle.jfs_lead_steps.specs.objects.proofs.Sums.{zero_or_more}
+use Rattle.jfs_lead_steps.specs.meaning.specs.Readers.{readers, root_of}
+use Rattle.jfs_lead_steps.specs.meaning.specs.Room.{room_on}
+use Rattle.jfs_lead_steps.specs.meaning.specs.Tree.{tree_on}
+use Rattle.jfs_lead_steps.specs.meaning.specs.Consistent.{IsConsistent}
+use Rattle.jfs_lead_steps.specs.meaning.proofs.Books.{count_append}
+use Rattle.jfs_lead_steps.specs.meaning.proofs.Fresh.{fresh_law}
+use Rattle.jfs_lead_steps.specs.meaning.proofs.Steps.{step_keeps}
 use Rattle.jfs_claim.specs.room.proofs.Rooms.{held_law}
-use Rattle.jfs_way.specs.Answer.{is_open, names_refusal}
-use Rattle.jfs_way.specs.Volume.{volume_of}
-use Rattle.jfs_way.specs.Walk.{IsHeld, IsShown, tree_in}
-use Rattle.jfs_way.specs.declared.object.Held.{Held}
-use Rattle.jfs_way.proofs.Nodes.{there, lives}
+use Rattle.jfs_steps.specs.way.specs.Answer.{is_open, names_refusal}
+use Rattle.jfs_steps.specs.way.specs.Volume.{volume_of}
+use Rattle.jfs_steps.specs.way.specs.Walk.{IsHeld, IsShown, tree_in}
+use Rattle.jfs_steps.specs.way.specs.declared.object.Held.{Held}
+use Rattle.jfs_steps.specs.way.proofs.Nodes.{there, lives}
 use Rattle.jfs_steps.specs.After.{after_call, used_after}
 use Rattle.jfs_steps.specs.Call.{IsDone}
 use Rattle.jfs_steps.specs.Laws.{TakesAndFrees, IsFair}
@@ -180,7 +180,7 @@ module _ (blocks : ℕ) (pages : ℕ → List ℕ) (area : ℕ → ℕ) (bm : Bl
       some : {k : ℕ} → None ≡ Some k → ⊥
       some h = cc (h)
 
-      by : (e : DtError) → why ≡ names_refusal dir.number dir.page e → Rattle.jfs_dtree.specs.Adding.RefusesName blocks pages (entry_as name object.number) (root_of dir.inode) (blocks_of free) e → is_open why ≡ true
+      by : (e : DtError) → why ≡ names_refusal dir.number dir.page e → Rattle.jfs_lead_steps.specs.dtree.specs.Adding.RefusesName blocks pages (entry_as name object.number) (root_of dir.inode) (blocks_of free) e → is_open why ≡ true
       by (dt.View v) is h = ap is_open is ∙ views v
         where
           views : (v : Rattle.jfs_ranges.specs.declared.view.ViewError.ViewError) → is_open (names_refusal dir.number dir.page (dt.View v)) ≡ true
@@ -228,7 +228,7 @@ module _ (blocks : ℕ) (pages : ℕ → List ℕ) (area : ℕ → ℕ) (bm : Bl
     has : HasTree r v2 u
     has = linked_has blocks v con whole within dir.number dir.inode was_d is_dir (rest_size (pages dir.page) (dir.number % 8) dir.inode (whole dir.page held_d.within) (slot_below dir.number) shown_d) live_d es spelled_es
         object.number object.inode was_o file (live_more object.number object.inode.nlink) (omega (arith, few)) name now ((dir.inode.nblocks + length taken) % 2 ^ 64) (blocks_of free) (blocks_of left) taken
-        j.gains.edits.1 fresh.once (subst (λ (k : ℕ). Rattle.jfs_dtree.specs.page_tree.specs.Form.AllBelow k (blocks_of free)) size fresh.within) unused j.gains.root j.gains.width j.gains.parent j.gains.mid j.named tx j.gains.adds
+        j.gains.edits.1 fresh.once (subst (λ (k : ℕ). Rattle.jfs_lead_steps.specs.page_tree.specs.Form.AllBelow k (blocks_of free)) size fresh.within) unused j.gains.root j.gains.width j.gains.parent j.gains.mid j.named tx j.gains.adds
         (j.gains.puts (map extent_place inodes.extents) at_d) (j.puts (map extent_place inodes.extents) at_o) used used_is
 
     outcome : link space t from to now ≡ Ok (Done, u)

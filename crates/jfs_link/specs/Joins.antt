@@ -5,7 +5,7 @@ use Rattle.jfs_bits.specs.declared.descriptor.Pxd.{Pxd}
 use Rattle.jfs_inode.specs.declared.fields.Dinode.{Dinode}
 use Rattle.jfs_ranges.specs.declared.edit.Edit.{Edit}
 use Rattle.jfs_plain.specs.declared.refusal.Refusal.{Refusal}
-use Rattle.jfs_way.specs.declared.object.Held.{Held}
+use Rattle.jfs_steps.specs.way.specs.declared.object.Held.{Held}
 use Rattle.jfs_steps.specs.Gains.{GainsName, GainRefused}
 use Rattle.jfs_steps.specs.Put.{AddsInode, TellsLines}
 use Rattle.jfs_steps.specs.declared.gain.Gain.{Gain}

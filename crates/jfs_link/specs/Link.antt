@@ -3,22 +3,22 @@ use Rattle.std.specs.Prelude.{◌≡◌, ◌⊎◌, ◌<◌, ◌≤◌, ℕ, tru
 use Rattle.jfs_bits.specs.declared.descriptor.Pxd.{Pxd}
 use Rattle.jfs_imap.specs.Inodes.{Inodes}
 use Rattle.jfs_bmap.specs.States.{Blocks, Free, state_of, unowned_count}
-use Rattle.jfs_dtree.specs.Room.{deep_on_way}
+use Rattle.jfs_lead_steps.specs.dtree.specs.Room.{deep_on_way}
 use Rattle.jfs_ranges.specs.declared.edit.Edit.{Edit}
-use Rattle.jfs_dtree.specs.page_tree.specs.Edit.{count_in}
+use Rattle.jfs_lead_steps.specs.page_tree.specs.Edit.{count_in}
 use Rattle.jfs_plain.specs.Tree.{Tree, walk, root, new_place, place_as, and_then}
 use Rattle.jfs_plain.specs.Step.{Room, Outcome, is_short, is_full, need_of_name}
 use Rattle.jfs_plain.specs.declared.refusal.Refusal.{Refusal}
 use Rattle.jfs_plain.specs.declared.refusal.Refusal.TheVariants.{IsDir, TooManyLinks, TooDeep}
-use Rattle.jfs_claim.specs.objects.specs.Objects.{has_names}
-use Rattle.jfs_claim.specs.meaning.specs.Readers.{readers, root_of}
-use Rattle.jfs_claim.specs.meaning.specs.Room.{room_on}
-use Rattle.jfs_claim.specs.meaning.specs.Consistent.{IsConsistent}
-use Rattle.jfs_way.specs.Answer.{is_open}
-use Rattle.jfs_way.specs.Way.{path_of}
-use Rattle.jfs_way.specs.Volume.{volume_of, PlacesWithin}
-use Rattle.jfs_way.specs.Walk.{IsThere, tree_in}
-use Rattle.jfs_way.specs.declared.object.Held.{Held}
+use Rattle.jfs_lead_steps.specs.objects.specs.Objects.{has_names}
+use Rattle.jfs_lead_steps.specs.meaning.specs.Readers.{readers, root_of}
+use Rattle.jfs_lead_steps.specs.meaning.specs.Room.{room_on}
+use Rattle.jfs_lead_steps.specs.meaning.specs.Consistent.{IsConsistent}
+use Rattle.jfs_steps.specs.way.specs.Answer.{is_open}
+use Rattle.jfs_steps.specs.way.specs.Way.{path_of}
+use Rattle.jfs_steps.specs.way.specs.Volume.{volume_of, PlacesWithin}
+use Rattle.jfs_steps.specs.way.specs.Walk.{IsThere, tree_in}
+use Rattle.jfs_steps.specs.way.specs.declared.object.Held.{Held}
 use Rattle.jfs_steps.specs.After.{after_call, takes}
 use Rattle.jfs_steps.specs.Call.{IsDone}
 use Rattle.jfs_steps.specs.Place.{last_of, new_place_of}

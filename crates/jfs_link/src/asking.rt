@@ -2,21 +2,21 @@
 
 ghost use Rattle.std.specs.Prelude.{◌≡◌, ◌≤◌, ◌<◌, ℕ, [], true, false, length, get_or, IfOk, IfErr};
 ghost use Rattle.jfs_disk.specs.Image.{page_of};
-ghost use Rattle.jfs_claim.specs.objects.specs.Objects.{has_names};
-ghost use Rattle.jfs_way.specs.Answer.{Carries, Answers};
-ghost use Rattle.jfs_way.specs.Walk.{IsHeld, IsShown};
+ghost use Rattle.jfs_lead_steps.specs.objects.specs.Objects.{has_names};
+ghost use Rattle.jfs_steps.specs.way.specs.Answer.{Carries, Answers};
+ghost use Rattle.jfs_steps.specs.way.specs.Walk.{IsHeld, IsShown};
 ghost use Rattle.jfs_link.specs.Link.{MayLink, RefusesLink, IfConsistentBy, asked};
 
 use jfs_bmap::BlockMap;
 use jfs_claim::look_for_space;
-use jfs_dtree::is_deep;
 use jfs_imap::InodeMap;
+use jfs_lead_steps::dtree::is_deep;
 use jfs_name::Name;
 use jfs_plain::Refusal;
 use jfs_ranges::{PageView, ViewError};
-use jfs_reader::{has_names, root_in};
 use jfs_steps::new_place;
-use jfs_way::{Held, walk};
+use jfs_steps::reader::{has_names, root_in};
+use jfs_steps::way::{Held, walk};
 
 /// The object that gets a name, and the directory that gets it.
 #[derive(Clone, Copy)]

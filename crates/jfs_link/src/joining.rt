@@ -3,9 +3,9 @@
 ghost use Rattle.std.specs.Prelude.{◌≡◌, ◌≤◌, ◌<◌, ◌+◌, [], length, IfOk, IfErr};
 ghost use Rattle.jfs_disk.specs.Image.{page_of};
 ghost use Rattle.jfs_inode.specs.Inode.{FitsDinode};
-ghost use Rattle.jfs_dtree.specs.page_tree.specs.Form.{AllBelow};
-ghost use Rattle.jfs_dtree.specs.page_tree.specs.Fresh.{blocks_of};
-ghost use Rattle.jfs_way.specs.Answer.{Carries};
+ghost use Rattle.jfs_lead_steps.specs.page_tree.specs.Form.{AllBelow};
+ghost use Rattle.jfs_lead_steps.specs.page_tree.specs.Fresh.{blocks_of};
+ghost use Rattle.jfs_steps.specs.way.specs.Answer.{Carries};
 ghost use Rattle.jfs_steps.specs.Gains.{TakesFront};
 ghost use Rattle.jfs_link.specs.Joins.{Joins, JoinRefused, one_more};
 

@@ -3,7 +3,7 @@
 ghost use Rattle.std.specs.Prelude.{◌≡◌, ◌≤◌, ◌<◌, ℕ, [], length, get_or, IfErr};
 ghost use Rattle.jfs_disk.specs.Image.{page_of};
 ghost use Rattle.jfs_plain.specs.Step.{link};
-ghost use Rattle.jfs_way.specs.Answer.{Carries};
+ghost use Rattle.jfs_steps.specs.way.specs.Answer.{Carries};
 ghost use Rattle.jfs_link.specs.Link.{StepsBy, MapAfter, LinksAs};
 
 use crate::asking::ask;

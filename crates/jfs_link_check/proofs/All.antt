@@ -6,16 +6,16 @@ use Rattle.std.proofs.lemmas.List.Elements.{Contains-append_left, Contains-appen
 use Rattle.jfs_inode.specs.declared.fields.Dinode.{Dinode}
 use Rattle.jfs_super.specs.Rules.{blocks_of}
 use Rattle.jfs_super.specs.declared.fields.Super.{Super}
-use Rattle.jfs_findings.specs.objects.specs.Objects.{has_names}
-use Rattle.jfs_findings.specs.objects.specs.Image.{extents_on}
-use Rattle.jfs_findings.specs.objects.proofs.Sums.{eq_or_not}
-use Rattle.jfs_findings.specs.meaning.specs.Readers.{readers}
-use Rattle.jfs_findings.specs.meaning.specs.Node.{parent_in}
-use Rattle.jfs_findings.specs.meaning.specs.Consistent.{leading_to, names_for}
-use Rattle.jfs_findings.specs.mount_rules.specs.Subject.{subject_of}
-use Rattle.jfs_findings.specs.Names.{readable, most}
-use Rattle.jfs_findings.specs.Gains.{Gains}
-use Rattle.jfs_findings.specs.declared.finding.Finding.{Finding}
+use Rattle.jfs_object_check.specs.objects.specs.Objects.{has_names}
+use Rattle.jfs_object_check.specs.objects.specs.Image.{extents_on}
+use Rattle.jfs_object_check.specs.objects.proofs.Sums.{eq_or_not}
+use Rattle.jfs_object_check.specs.meaning.specs.Readers.{readers}
+use Rattle.jfs_object_check.specs.meaning.specs.Node.{parent_in}
+use Rattle.jfs_object_check.specs.meaning.specs.Consistent.{leading_to, names_for}
+use Rattle.jfs_object_check.specs.mount_rules.specs.Subject.{subject_of}
+use Rattle.jfs_object_check.specs.findings.specs.Names.{readable, most}
+use Rattle.jfs_object_check.specs.findings.specs.Gains.{Gains}
+use Rattle.jfs_object_check.specs.findings.specs.declared.finding.Finding.{Finding}
 use Rattle.jfs_object_check.proofs.Found.{gains_none, gains_both, gains_as}
 use Rattle.jfs_each.specs.Each.{Found}
 use Rattle.jfs_link_check.specs.Counts.{CountsBelow, CountsAll, NamesPast}

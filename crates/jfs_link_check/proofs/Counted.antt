@@ -3,7 +3,7 @@ use Rattle.std.proofs.Common.{◌≡◌, ◌<◌, refl, sym, ap, ◌∙◌, subs
 use Rattle.std.proofs.lemmas.Bool.{eqb-true, eqb-false}
 use Rattle.std.proofs.lemmas.Bool.Decides.{nat_tests}
 use Rattle.std.proofs.lemmas.List.{get_or-replicate, length-replicate}
-use Rattle.jfs_findings.specs.objects.specs.Owners.{sum_below}
+use Rattle.jfs_object_check.specs.objects.specs.Owners.{sum_below}
 use Rattle.jfs_link_check.specs.Counts.{CountedNames, CountsBelow, AddsNames, count_of, namer_of, ends}
 
 sum_more : (m : ℕ) (f : ℕ → ℕ) → sum_below (suc m) f ≡ sum_below m f + f m

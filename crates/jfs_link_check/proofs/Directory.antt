@@ -3,12 +3,12 @@ use Rattle.std.proofs.Common.{◌≡◌, ◌≢◌, ◌⊎◌, inl, inr, refl, s
 use Rattle.std.proofs.lemmas.Bool.{both_ways}
 use Rattle.jfs_inode.specs.declared.fields.Dinode.{Dinode}
 use Rattle.jfs_dtree.specs.Node.{name_scale}
-use Rattle.jfs_findings.specs.objects.specs.Objects.{has_names, names_of}
-use Rattle.jfs_findings.specs.meaning.specs.Readers.{readers}
-use Rattle.jfs_findings.specs.meaning.specs.Consistent.{is_reserved, leading_to}
-use Rattle.jfs_findings.specs.Gains.{Gains}
-use Rattle.jfs_findings.specs.declared.finding.Finding.{Finding}
-use Rattle.jfs_findings.specs.declared.finding.FindingKind.TheVariants as kinds
+use Rattle.jfs_object_check.specs.objects.specs.Objects.{has_names, names_of}
+use Rattle.jfs_object_check.specs.meaning.specs.Readers.{readers}
+use Rattle.jfs_object_check.specs.meaning.specs.Consistent.{is_reserved, leading_to}
+use Rattle.jfs_object_check.specs.findings.specs.Gains.{Gains}
+use Rattle.jfs_object_check.specs.findings.specs.declared.finding.Finding.{Finding}
+use Rattle.jfs_object_check.specs.findings.specs.declared.finding.FindingKind.TheVariants as kinds
 use Rattle.jfs_object_check.specs.Steps.{Only}
 use Rattle.jfs_object_check.proofs.Found.{gains_none, gains_both, gains_as}
 use Rattle.jfs_link_check.specs.Counts.{CountedNames, CountsBelow, ends}

@@ -2,14 +2,14 @@
 use Rattle.std.proofs.Common.{◌≡◌, ◌≢◌, refl, sym, ap, ◌∙◌, ℕ, ◌+◌, ◌↔◌, IsTrue, Bool, true, false, not, if◌then◌else◌, List, length, Option, Some, Result, Ok, Err}
 use Rattle.std.specs.Prelude.{OnOk}
 use Rattle.jfs_inode.specs.declared.fields.Dinode.{Dinode}
-use Rattle.jfs_findings.specs.plain.specs.Tree.{root}
-use Rattle.jfs_findings.specs.objects.specs.Objects.{has_names}
-use Rattle.jfs_findings.specs.objects.specs.Owners.{sum_below}
-use Rattle.jfs_findings.specs.meaning.specs.Consistent.{is_reserved}
-use Rattle.jfs_findings.specs.Gains.{Gains}
-use Rattle.jfs_findings.specs.declared.finding.Finding.{Finding}
-use Rattle.jfs_findings.specs.declared.finding.FindingKind.{FindingKind}
-use Rattle.jfs_findings.specs.declared.finding.FindingKind.TheVariants as kinds
+use Rattle.jfs_object_check.specs.plain.specs.Tree.{root}
+use Rattle.jfs_object_check.specs.objects.specs.Objects.{has_names}
+use Rattle.jfs_object_check.specs.objects.specs.Owners.{sum_below}
+use Rattle.jfs_object_check.specs.meaning.specs.Consistent.{is_reserved}
+use Rattle.jfs_object_check.specs.findings.specs.Gains.{Gains}
+use Rattle.jfs_object_check.specs.findings.specs.declared.finding.Finding.{Finding}
+use Rattle.jfs_object_check.specs.findings.specs.declared.finding.FindingKind.{FindingKind}
+use Rattle.jfs_object_check.specs.findings.specs.declared.finding.FindingKind.TheVariants as kinds
 use Rattle.jfs_object_check.specs.Steps.{Only}
 use Rattle.jfs_object_check.proofs.Found.{gains_as}
 use Rattle.jfs_link_check.specs.Counts.{CountedNames, CountsAll, NamesPast, ends}

@@ -1,8 +1,8 @@
 -- What counts of all directories tell of an inode's names.
 use Rattle.std.proofs.Common.{◌≡◌, ◌<◌, inl, inr, sym, ◌∙◌, subst, ℕ, ◌^◌, ◌==◌, ◌↔◌, IsTrue, arith}
 use Rattle.std.proofs.lemmas.Bool.{cases_lt, eqb-true, eq-eqb}
-use Rattle.jfs_findings.specs.objects.specs.Owners.{sum_below}
-use Rattle.jfs_findings.specs.objects.proofs.Sums.{sum_one, sum_two, eq_or_not}
+use Rattle.jfs_object_check.specs.objects.specs.Owners.{sum_below}
+use Rattle.jfs_object_check.specs.objects.proofs.Sums.{sum_one, sum_two, eq_or_not}
 use Rattle.jfs_link_check.specs.Counts.{CountedNames, CountsBelow, count_of, namer_of, NamesPast}
 
 module _ (most : ℕ) (names : ℕ → ℕ → ℕ) (c : CountedNames) (is : CountsBelow most names most c) (n : ℕ) (l : n < most) where

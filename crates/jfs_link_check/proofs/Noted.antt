@@ -1,9 +1,9 @@
 -- What is noted of all inodes, one after the other.
 use Rattle.std.proofs.Common.{◌≡◌, ◌⊎◌, inl, inr, refl, sym, ap, ◌∙◌, subst, ℕ, suc, ◌*◌, List, [], length, Option, Some, None, arith}
-use Rattle.jfs_findings.specs.objects.proofs.Sums.{eq_or_not}
-use Rattle.jfs_findings.specs.meaning.specs.Consistent.{leading_to}
-use Rattle.jfs_findings.specs.Gains.{Gains}
-use Rattle.jfs_findings.specs.declared.finding.Finding.{Finding}
+use Rattle.jfs_object_check.specs.objects.proofs.Sums.{eq_or_not}
+use Rattle.jfs_object_check.specs.meaning.specs.Consistent.{leading_to}
+use Rattle.jfs_object_check.specs.findings.specs.Gains.{Gains}
+use Rattle.jfs_object_check.specs.findings.specs.declared.finding.Finding.{Finding}
 use Rattle.jfs_object_check.proofs.Found.{gains_none, gains_both, gains_as}
 use Rattle.jfs_each.specs.Each.{Found, Step, Visits, found_at}
 use Rattle.jfs_each.proofs.Visiting.{visits_keep}

@@ -3,16 +3,16 @@ use Rattle.std.proofs.Common.{◌≡◌, ◌<◌, refl, sym, ap, ◌∙◌, subs
 use Rattle.jfs_inode.specs.declared.fields.Dinode.{Dinode}
 use Rattle.jfs_super.specs.Rules.{blocks_of}
 use Rattle.jfs_super.specs.declared.fields.Super.{Super}
-use Rattle.jfs_findings.specs.objects.specs.Volume.{home, slot_of}
-use Rattle.jfs_findings.specs.objects.specs.Objects.{Object, has_names, is_live, objects, object_in, spelled}
-use Rattle.jfs_findings.specs.objects.specs.Image.{extents_on}
-use Rattle.jfs_findings.specs.objects.proofs.Sums.{sum_same}
-use Rattle.jfs_findings.specs.meaning.specs.Readers.{readers}
-use Rattle.jfs_findings.specs.meaning.specs.Node.{parent_in}
-use Rattle.jfs_findings.specs.meaning.specs.Consistent.{is_reserved, leading_to, names_in, names_for, is_directory}
-use Rattle.jfs_findings.specs.mount_rules.specs.Subject.{Subject, subject_of, object, IsObject}
-use Rattle.jfs_findings.specs.Names.{readable, readable_node, leads}
-use Rattle.jfs_findings.proofs.Readable.{kind_is}
+use Rattle.jfs_object_check.specs.objects.specs.Volume.{home, slot_of}
+use Rattle.jfs_object_check.specs.objects.specs.Objects.{Object, has_names, is_live, objects, object_in, spelled}
+use Rattle.jfs_object_check.specs.objects.specs.Image.{extents_on}
+use Rattle.jfs_object_check.specs.objects.proofs.Sums.{sum_same}
+use Rattle.jfs_object_check.specs.meaning.specs.Readers.{readers}
+use Rattle.jfs_object_check.specs.meaning.specs.Node.{parent_in}
+use Rattle.jfs_object_check.specs.meaning.specs.Consistent.{is_reserved, leading_to, names_in, names_for, is_directory}
+use Rattle.jfs_object_check.specs.mount_rules.specs.Subject.{Subject, subject_of, object, IsObject}
+use Rattle.jfs_object_check.specs.findings.specs.Names.{readable, readable_node, leads}
+use Rattle.jfs_object_check.specs.findings.proofs.Readable.{kind_is}
 use Rattle.jfs_each.specs.Each.{Found, live_in, found_at}
 use Rattle.jfs_link_check.specs.Counts.{CountedNames, CountsBelow, ends}
 use Rattle.jfs_link_check.specs.Uses.{use_in, use_of, use_at, is_used, is_directory as holds_names, may_be_named}

@@ -2,8 +2,8 @@
 use Rattle.std.proofs.Common.{◌≡◌, ◌<◌, ◌≤◌, refl, sym, ap, ◌∙◌, ℕ, ◌+◌, ◌*◌, ◌/◌, ◌%◌, Bool, true, false, if◌then◌else◌, List, length, get_or, Option, Some, None, arith}
 use Rattle.std.proofs.lemmas.List.{get_or_past}
 use Rattle.jfs_inode.specs.declared.fields.Dinode.{Dinode}
-use Rattle.jfs_findings.specs.objects.specs.Volume.{home, page_in, slot_of}
-use Rattle.jfs_findings.specs.objects.specs.Objects.{is_live}
+use Rattle.jfs_object_check.specs.objects.specs.Volume.{home, page_in, slot_of}
+use Rattle.jfs_object_check.specs.objects.specs.Objects.{is_live}
 use Rattle.jfs_each.specs.Each.{Found, live_in, found_at, AllFit}
 
 module _ (page : ℕ → List ℕ) (places : List (Option ℕ)) where

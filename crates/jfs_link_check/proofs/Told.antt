@@ -8,19 +8,19 @@ use Rattle.jfs_super.specs.Rules.{blocks_of}
 use Rattle.jfs_super.specs.declared.fields.Super.{Super}
 use Rattle.jfs_dtree.specs.Node.{name_scale}
 use Rattle.jfs_tree.specs.Walk.{Mark, Page, Key, Row, Fault, Marks}
-use Rattle.jfs_findings.specs.objects.specs.Objects.{Object, has_names, names_of, listed, spelled}
-use Rattle.jfs_findings.specs.objects.specs.Image.{extents_on}
-use Rattle.jfs_findings.specs.meaning.specs.Readers.{readers}
-use Rattle.jfs_findings.specs.meaning.specs.Node.{parent_in}
-use Rattle.jfs_findings.specs.meaning.specs.Consistent.{is_reserved, is_directory, names_for, names_to, links_due}
-use Rattle.jfs_findings.specs.mount_rules.specs.Subject.{Subject, IsObject, page_named}
-use Rattle.jfs_findings.specs.Names.{readable, readable_node, most, leads, StandsAt, IsPlaced}
-use Rattle.jfs_findings.specs.Findings.{Says}
-use Rattle.jfs_findings.specs.Gains.{Gains}
-use Rattle.jfs_findings.specs.declared.finding.Finding.{Finding}
-use Rattle.jfs_findings.specs.declared.finding.FindingKind.{FindingKind}
-use Rattle.jfs_findings.specs.declared.finding.FindingKind.TheVariants as kinds
-use Rattle.jfs_findings.proofs.Readable.{kind_is}
+use Rattle.jfs_object_check.specs.objects.specs.Objects.{Object, has_names, names_of, listed, spelled}
+use Rattle.jfs_object_check.specs.objects.specs.Image.{extents_on}
+use Rattle.jfs_object_check.specs.meaning.specs.Readers.{readers}
+use Rattle.jfs_object_check.specs.meaning.specs.Node.{parent_in}
+use Rattle.jfs_object_check.specs.meaning.specs.Consistent.{is_reserved, is_directory, names_for, names_to, links_due}
+use Rattle.jfs_object_check.specs.mount_rules.specs.Subject.{Subject, IsObject, page_named}
+use Rattle.jfs_object_check.specs.findings.specs.Names.{readable, readable_node, most, leads, StandsAt, IsPlaced}
+use Rattle.jfs_object_check.specs.findings.specs.Findings.{Says}
+use Rattle.jfs_object_check.specs.findings.specs.Gains.{Gains}
+use Rattle.jfs_object_check.specs.findings.specs.declared.finding.Finding.{Finding}
+use Rattle.jfs_object_check.specs.findings.specs.declared.finding.FindingKind.{FindingKind}
+use Rattle.jfs_object_check.specs.findings.specs.declared.finding.FindingKind.TheVariants as kinds
+use Rattle.jfs_object_check.specs.findings.proofs.Readable.{kind_is}
 use Rattle.jfs_object_check.proofs.Found.{gains_as}
 use Rattle.jfs_each.specs.Each.{Found}
 use Rattle.jfs_link_check.specs.Found.{is_of_names, IsOfNames}

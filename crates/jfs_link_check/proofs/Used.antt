@@ -2,7 +2,7 @@
 use Rattle.std.proofs.Common.{◌≡◌, ◌<◌, ◌≤◌, inl, inr, refl, sym, ap, ◌∙◌, subst, ℕ, suc, ◌*◌, ◌^◌, List, length, Option, Some, None, arith}
 use Rattle.std.proofs.lemmas.Bool.{cases_lt}
 use Rattle.std.proofs.lemmas.List.{get_or_past, get_or-replicate, length-replicate}
-use Rattle.jfs_findings.specs.objects.proofs.Sums.{eq_or_not}
+use Rattle.jfs_object_check.specs.objects.proofs.Sums.{eq_or_not}
 use Rattle.jfs_each.specs.Each.{Found, Step, Visits, AllFit, found_at}
 use Rattle.jfs_each.proofs.Visiting.{visits_keep}
 use Rattle.jfs_link_check.specs.Uses.{use_in, use_of, use_at, none_used, AreUses, SetsUse}

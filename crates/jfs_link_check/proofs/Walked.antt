@@ -14,21 +14,21 @@ use Rattle.jfs_tree.specs.Walking.{Meets, Stops, ended}
 use Rattle.jfs_tree.specs.declared.form.TreeError.{TreeError}
 use Rattle.jfs_tree.specs.declared.form.TreeError.TheVariants.{View, Bad, Memory}
 use Rattle.jfs_tree.proofs.Judge.{judged}
-use Rattle.jfs_findings.specs.objects.specs.Objects.{has_names, names_of, listed, met}
-use Rattle.jfs_findings.specs.objects.specs.Owners.{entries}
-use Rattle.jfs_findings.specs.meaning.specs.Readers.{readers, root_of}
-use Rattle.jfs_findings.specs.mount_rules.specs.Subject.{page_named}
-use Rattle.jfs_findings.specs.Gains.{Gains}
-use Rattle.jfs_findings.specs.declared.finding.Finding.{Finding}
-use Rattle.jfs_findings.specs.declared.finding.FindingKind.TheVariants as kinds
+use Rattle.jfs_object_check.specs.objects.specs.Objects.{has_names, names_of, listed, met}
+use Rattle.jfs_object_check.specs.objects.specs.Owners.{entries}
+use Rattle.jfs_object_check.specs.meaning.specs.Readers.{readers, root_of}
+use Rattle.jfs_object_check.specs.mount_rules.specs.Subject.{page_named}
+use Rattle.jfs_object_check.specs.findings.specs.Gains.{Gains}
+use Rattle.jfs_object_check.specs.findings.specs.declared.finding.Finding.{Finding}
+use Rattle.jfs_object_check.specs.findings.specs.declared.finding.FindingKind.TheVariants as kinds
 use Rattle.jfs_object_check.specs.Steps.{Only}
 use Rattle.jfs_object_check.proofs.Every.{not_true}
 use Rattle.jfs_object_check.proofs.Found.{gains_none, gains_both, gains_as}
 use Rattle.jfs_object_check.proofs.Walks.{names_are}
-use Rattle.jfs_owners.specs.Counts.{OwnerSets, Adds, page_has}
-use Rattle.jfs_owners.specs.Held.{names_walk}
-use Rattle.jfs_owners.proofs.Counted.{adds_none, adds_same}
-use Rattle.jfs_owners.proofs.Walked.{walk_adds}
+use Rattle.jfs_object_check.specs.owners.specs.Counts.{OwnerSets, Adds, page_has}
+use Rattle.jfs_object_check.specs.owners.specs.Held.{names_walk}
+use Rattle.jfs_object_check.specs.owners.proofs.Counted.{adds_none, adds_same}
+use Rattle.jfs_object_check.specs.owners.proofs.Walked.{walk_adds}
 use Rattle.jfs_link_check.specs.Counts.{AddsNames, ends}
 use Rattle.jfs_link_check.specs.Uses.{use_at, is_directory, may_be_named}
 use Rattle.jfs_link_check.specs.Places.{Place, places_in, sound_places, names_to, subdirectories}

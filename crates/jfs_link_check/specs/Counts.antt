@@ -1,6 +1,6 @@
 -- How often inodes are named, and by which directories.
 use Rattle.std.specs.Prelude.{◌≡◌, ◌<◌, ◌≤◌, ◌+◌, ◌-◌, ◌^◌, ◌==◌, if◌then◌else◌, ℕ, List, length, get_or, min}
-use Rattle.jfs_findings.specs.objects.specs.Owners.{sum_below}
+use Rattle.jfs_object_check.specs.objects.specs.Owners.{sum_below}
 
 -- for each inode the number of names that lead to it, and the directory that named it last
 pub record CountedNames : Type 0 where

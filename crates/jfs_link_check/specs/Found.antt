@@ -1,10 +1,10 @@
 -- The kinds of findings that names, link counts and parents give.
 use Rattle.std.specs.Prelude.{◌≡◌, Bool, true, false}
-use Rattle.jfs_findings.specs.mount_rules.specs.Subject.{Subject}
-use Rattle.jfs_findings.specs.Findings.{Says}
-use Rattle.jfs_findings.specs.declared.finding.Finding.{Finding}
-use Rattle.jfs_findings.specs.declared.finding.FindingKind.{FindingKind}
-use Rattle.jfs_findings.specs.declared.finding.FindingKind.TheVariants as kinds
+use Rattle.jfs_object_check.specs.mount_rules.specs.Subject.{Subject}
+use Rattle.jfs_object_check.specs.findings.specs.Findings.{Says}
+use Rattle.jfs_object_check.specs.findings.specs.declared.finding.Finding.{Finding}
+use Rattle.jfs_object_check.specs.findings.specs.declared.finding.FindingKind.{FindingKind}
+use Rattle.jfs_object_check.specs.findings.specs.declared.finding.FindingKind.TheVariants as kinds
 
 abbrev pub is_of_names : FindingKind → Bool
 is_of_names kinds.Aggregate = false

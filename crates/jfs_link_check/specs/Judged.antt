@@ -1,15 +1,15 @@
 -- What is found of one inode.
 use Rattle.std.specs.Prelude.{◌≡◌, ◌≢◌, ◌⊎◌, ◌<◌, ℕ, ◌+◌, ◌-◌, ◌^◌, min, true, false, if◌then◌else◌, List, [], ◌∷◌, Option, Some, None, option_map}
 use Rattle.jfs_inode.specs.declared.fields.Dinode.{Dinode}
-use Rattle.jfs_findings.specs.plain.specs.Tree.{root}
-use Rattle.jfs_findings.specs.objects.specs.Volume.{home}
-use Rattle.jfs_findings.specs.objects.specs.Objects.{has_names}
-use Rattle.jfs_findings.specs.objects.specs.Owners.{sum_below}
-use Rattle.jfs_findings.specs.meaning.specs.Node.{parent_in}
-use Rattle.jfs_findings.specs.meaning.specs.Consistent.{is_reserved}
-use Rattle.jfs_findings.specs.mount_rules.specs.Subject.{page_named}
-use Rattle.jfs_findings.specs.declared.finding.Finding.{Finding}
-use Rattle.jfs_findings.specs.declared.finding.FindingKind.TheVariants as kinds
+use Rattle.jfs_object_check.specs.plain.specs.Tree.{root}
+use Rattle.jfs_object_check.specs.objects.specs.Volume.{home}
+use Rattle.jfs_object_check.specs.objects.specs.Objects.{has_names}
+use Rattle.jfs_object_check.specs.objects.specs.Owners.{sum_below}
+use Rattle.jfs_object_check.specs.meaning.specs.Node.{parent_in}
+use Rattle.jfs_object_check.specs.meaning.specs.Consistent.{is_reserved}
+use Rattle.jfs_object_check.specs.mount_rules.specs.Subject.{page_named}
+use Rattle.jfs_object_check.specs.findings.specs.declared.finding.Finding.{Finding}
+use Rattle.jfs_object_check.specs.findings.specs.declared.finding.FindingKind.TheVariants as kinds
 use Rattle.jfs_object_check.specs.Steps.{Only}
 use Rattle.jfs_each.specs.Each.{Found}
 use Rattle.jfs_link_check.specs.Uses.{may_be_named}

@@ -3,11 +3,11 @@ use Rattle.std.specs.Prelude.{◌≡◌, ◌<◌, ◌*◌, ◌^◌, ℕ, suc, �
 use Rattle.jfs_inode.specs.declared.fields.Dinode.{Dinode}
 use Rattle.jfs_name.specs.declared.name.NameEntry.{NameEntry}
 use Rattle.jfs_dtree.specs.Node.{name_scale}
-use Rattle.jfs_findings.specs.objects.specs.Objects.{names_of, listed}
-use Rattle.jfs_findings.specs.objects.specs.Owners.{entries}
-use Rattle.jfs_findings.specs.meaning.specs.Readers.{readers}
-use Rattle.jfs_findings.specs.meaning.specs.Consistent.{leading_to}
-use Rattle.jfs_findings.specs.Gains.{Gains}
+use Rattle.jfs_object_check.specs.objects.specs.Objects.{names_of, listed}
+use Rattle.jfs_object_check.specs.objects.specs.Owners.{entries}
+use Rattle.jfs_object_check.specs.meaning.specs.Readers.{readers}
+use Rattle.jfs_object_check.specs.meaning.specs.Consistent.{leading_to}
+use Rattle.jfs_object_check.specs.findings.specs.Gains.{Gains}
 use Rattle.jfs_each.specs.Each.{Found, found_at}
 use Rattle.jfs_link_check.specs.Counts.{CountsBelow, AddsNames, ends}
 use Rattle.jfs_link_check.specs.Uses.{use_in, use_at}

@@ -5,8 +5,8 @@ use Rattle.jfs_inode.specs.declared.fields.Dinode.{Dinode}
 use Rattle.jfs_name.specs.declared.name.NameEntry.{NameEntry}
 use Rattle.jfs_dtree.specs.Node.{name_scale}
 use Rattle.jfs_tree.specs.Walk.{Marks, Page, Key, Row, Fault}
-use Rattle.jfs_findings.specs.objects.specs.Objects.{names_of, listed}
-use Rattle.jfs_findings.specs.meaning.specs.Readers.{readers}
+use Rattle.jfs_object_check.specs.objects.specs.Objects.{names_of, listed}
+use Rattle.jfs_object_check.specs.meaning.specs.Readers.{readers}
 use Rattle.jfs_link_check.specs.Uses.{use_at, is_directory}
 use Rattle.jfs_link_check.specs.declared.uses.Use.{Use}
 

@@ -1,9 +1,9 @@
 -- What inode numbers stand for.
 use Rattle.std.specs.Prelude.{◌≡◌, ◌≢◌, ◌<◌, ◌*◌, ◌^◌, ℕ, Bool, true, false, not, ◌&&◌, if◌then◌else◌, List, length, get_or, replicate, Option, Some, None}
 use Rattle.jfs_inode.specs.declared.fields.Dinode.{Dinode}
-use Rattle.jfs_findings.specs.objects.specs.Objects.{has_names}
-use Rattle.jfs_findings.specs.meaning.specs.Node.{parent_in}
-use Rattle.jfs_findings.specs.meaning.specs.Consistent.{is_reserved}
+use Rattle.jfs_object_check.specs.objects.specs.Objects.{has_names}
+use Rattle.jfs_object_check.specs.meaning.specs.Node.{parent_in}
+use Rattle.jfs_object_check.specs.meaning.specs.Consistent.{is_reserved}
 use Rattle.jfs_each.specs.Each.{Found, found_at}
 use Rattle.jfs_link_check.specs.declared.uses.Use.{Use}
 use Rattle.jfs_link_check.specs.declared.uses.Use.TheVariants.{Free, Directory, Other}

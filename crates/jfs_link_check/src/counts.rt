@@ -1,7 +1,7 @@
 //! How often inodes are named.
 
 ghost use Rattle.std.specs.Prelude.{◌≡◌, ◌<◌, ◌≤◌, ◌↔◌, ◌==◌, if◌then◌else◌, ℕ, length, replicate, IfOk, IsTrue};
-ghost use Rattle.jfs_findings.specs.objects.specs.Owners.{sum_below};
+ghost use Rattle.jfs_object_check.specs.objects.specs.Owners.{sum_below};
 ghost use Rattle.jfs_link_check.specs.Counts.{CountsBelow, CountsAll, NamesPast, AddsNames, count_of, namer_of};
 ghost use Rattle.jfs_link_check.specs.Judged.{IsPlacedBy};
 

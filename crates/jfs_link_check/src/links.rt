@@ -3,12 +3,12 @@
 ghost use Rattle.std.specs.Prelude.{◌≡◌, ◌≢◌, ◌↔◌, ◌<◌, ℕ, List, OnOk, IsTrue, false, length};
 ghost use Rattle.jfs_super.specs.Rules.{blocks_of};
 ghost use Rattle.jfs_super.specs.declared.fields.Super.{Super};
-ghost use Rattle.jfs_findings.specs.objects.specs.Owners.{sum_below};
-ghost use Rattle.jfs_findings.specs.objects.specs.Image.{extents_on};
-ghost use Rattle.jfs_findings.specs.meaning.specs.Readers.{readers};
-ghost use Rattle.jfs_findings.specs.meaning.specs.Consistent.{is_reserved};
-ghost use Rattle.jfs_findings.specs.mount_rules.specs.Subject.{subject_of};
-ghost use Rattle.jfs_findings.specs.Gains.{Gains};
+ghost use Rattle.jfs_object_check.specs.objects.specs.Owners.{sum_below};
+ghost use Rattle.jfs_object_check.specs.objects.specs.Image.{extents_on};
+ghost use Rattle.jfs_object_check.specs.meaning.specs.Readers.{readers};
+ghost use Rattle.jfs_object_check.specs.meaning.specs.Consistent.{is_reserved};
+ghost use Rattle.jfs_object_check.specs.mount_rules.specs.Subject.{subject_of};
+ghost use Rattle.jfs_object_check.specs.findings.specs.Gains.{Gains};
 ghost use Rattle.jfs_link_check.specs.Counts.{CountsAll, NamesPast};
 ghost use Rattle.jfs_link_check.specs.Uses.{use_at};
 ghost use Rattle.jfs_link_check.specs.Judged.{IsLeft, page_told};
@@ -18,7 +18,7 @@ ghost use Rattle.jfs_link_check.specs.Found.{IsOfNames};
 use crate::counts::NameCounts;
 use crate::notes::NameNotes;
 use crate::uses::{Use, is_reserved};
-use jfs_findings::{Finding, FindingKind};
+use jfs_object_check::findings::{Finding, FindingKind};
 use jfs_object_check::note_if;
 use std::alloc::AllocError;
 

@@ -1,9 +1,9 @@
 //! What is noted of the names of a volume.
 
 ghost use Rattle.std.specs.Prelude.{◌≡◌, ◌≢◌, ◌↔◌, ◌+◌, ◌*◌, ◌∷◌, [], ℕ, List, Option, length, IfOk, OnOk, IsTrue, false};
-ghost use Rattle.jfs_findings.specs.meaning.specs.Consistent.{is_reserved};
-ghost use Rattle.jfs_findings.specs.Gains.{Gains};
-ghost use Rattle.jfs_findings.specs.declared.finding.FindingKind.TheVariants.{Links};
+ghost use Rattle.jfs_object_check.specs.meaning.specs.Consistent.{is_reserved};
+ghost use Rattle.jfs_object_check.specs.findings.specs.Gains.{Gains};
+ghost use Rattle.jfs_object_check.specs.findings.specs.declared.finding.FindingKind.TheVariants.{Links};
 ghost use Rattle.jfs_object_check.specs.Steps.{Only};
 ghost use Rattle.jfs_each.specs.Each.{found_at};
 ghost use Rattle.jfs_link_check.specs.Counts.{ends};
@@ -12,7 +12,7 @@ ghost use Rattle.jfs_link_check.specs.Notes.{NotedBelow, Sees};
 
 use crate::counts::NameCounts;
 use crate::uses::{Uses, is_reserved};
-use jfs_findings::{Finding, FindingKind, condense};
+use jfs_object_check::findings::{Finding, FindingKind, condense};
 use jfs_object_check::{note_if, page_named};
 use std::alloc::{AllocError, Global};
 

@@ -3,15 +3,15 @@
 ghost use Rattle.std.specs.Prelude.{◌≡◌, ◌≢◌, ◌<◌, ◌≤◌, ◌*◌, ℕ, List, Option, length, IfOk};
 ghost use Rattle.jfs_disk.specs.Image.{page_of};
 ghost use Rattle.jfs_ranges.specs.View.{CarriesCount};
-ghost use Rattle.jfs_findings.specs.meaning.specs.Consistent.{is_reserved};
+ghost use Rattle.jfs_object_check.specs.meaning.specs.Consistent.{is_reserved};
 ghost use Rattle.jfs_each.specs.Each.{AllFit};
 ghost use Rattle.jfs_link_check.specs.Uses.{use_of, use_at, is_directory, may_be_named, none_used, AreUses, SetsUse};
 
 use jfs_dtree::parent;
 use jfs_each::{EachInode, each_inode};
 use jfs_inode::Dinode;
+use jfs_object_check::reader::{has_names, root_in};
 use jfs_ranges::{PageView, ViewError};
-use jfs_reader::{has_names, root_in};
 use std::alloc::{AllocError, Global};
 use std::marker::Model;
 

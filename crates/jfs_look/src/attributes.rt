@@ -14,7 +14,7 @@ use jfs_inode::Dinode;
 use jfs_name::Name;
 use jfs_plain::{NodeKind, Refusal, Stat};
 use jfs_ranges::PageView;
-use jfs_reader::has_names;
+use jfs_way::reader::has_names;
 use jfs_way::{Held, walk};
 
 /// What the object at the end of a path is, and its attributes. `Err` is the walk's refusal.

@@ -14,8 +14,8 @@ use jfs_imap::InodeMap;
 use jfs_name::{Name, NameList};
 use jfs_plain::Refusal;
 use jfs_ranges::{PageView, ViewError};
-use jfs_reader::{has_names, root_in};
 use jfs_tree::NO_PAGE;
+use jfs_way::reader::{has_names, root_in};
 use jfs_way::{Held, walk};
 use std::alloc::Global;
 

@@ -5,13 +5,13 @@ use Rattle.jfs_bits.specs.declared.descriptor.Pxd.{Pxd}
 use Rattle.jfs_ranges.specs.declared.edit.Edit.{Edit}
 use Rattle.jfs_ranges.specs.declared.edit.Edit.TheVariants.{Lines, NoRedo, Alloc, Free}
 use Rattle.jfs_ranges.specs.Apply.{apply_tx, apply_edit}
-use Rattle.jfs_tree.specs.Edit.{count_in}
-use Rattle.jfs_tree.specs.Fresh.{run_from, blocks_of}
+use Rattle.jfs_lead_steps.specs.page_tree.specs.Edit.{count_in}
+use Rattle.jfs_lead_steps.specs.page_tree.specs.Fresh.{run_from, blocks_of}
 use Rattle.jfs_bits.specs.declared.rule.PageKind.{PageKind}
-use Rattle.jfs_tree.specs.Changes.{PagesEdits, TellsChanges}
-use Rattle.jfs_tree.specs.Tell.{AllLines, TellsThen, PageEdits, is_in}
-use Rattle.jfs_xtree.specs.Cutting.{run_frees}
-use Rattle.jfs_reader.specs.objects.specs.Owners.{run_has}
+use Rattle.jfs_lead_steps.specs.page_tree.specs.Changes.{PagesEdits, TellsChanges}
+use Rattle.jfs_lead_steps.specs.page_tree.specs.Tell.{AllLines, TellsThen, PageEdits, is_in}
+use Rattle.jfs_lead_steps.specs.xtree.specs.Cutting.{run_frees}
+use Rattle.jfs_lead_steps.specs.objects.specs.Owners.{run_has}
 use Rattle.jfs_steps.specs.After.{frees}
 use Rattle.jfs_steps.specs.Laws.{TakesAndFrees, LeavesSets}
 use Rattle.jfs_steps.proofs.After.{leaves_onto, runs_leave}

@@ -5,27 +5,27 @@ use Rattle.jfs_bits.specs.declared.rule.PageKind.TheVariants.{Xtree}
 use Rattle.jfs_inode.specs.declared.fields.Dinode.{Dinode}
 use Rattle.jfs_ranges.specs.declared.edit.Edit.{Edit}
 use Rattle.jfs_ranges.specs.Apply.{apply_tx}
-use Rattle.jfs_tree.specs.Edit.{count_in}
-use Rattle.jfs_tree.specs.Fresh.{LeadsTo, after_tx, blocks_of}
-use Rattle.jfs_tree.specs.Removes.{page_frees}
-use Rattle.jfs_tree.specs.Tell.{TellsThen}
-use Rattle.jfs_tree.specs.Spells.{footprint}
-use Rattle.jfs_xtree.specs.Node.{xt_scale}
-use Rattle.jfs_xtree.specs.Node as xt
-use Rattle.jfs_xtree.specs.Laws as xt_laws
-use Rattle.jfs_xtree.specs.Spells.{page_nodes, root_form, spells_extents, owned_pages}
-use Rattle.jfs_xtree.specs.Cutting.{HasOnlyBelow, gone_past, run_frees}
-use Rattle.jfs_dtree.specs.Spells.{spells_names}
-use Rattle.jfs_dtree.specs.Spells as names
-use Rattle.jfs_dtree.specs.Laws as name_laws
-use Rattle.jfs_dtree.specs.Node.{name_scale}
-use Rattle.jfs_dtree.proofs.Bare.{bare_tree}
-use Rattle.jfs_reader.specs.objects.specs.Readers.{Readers}
-use Rattle.jfs_reader.specs.objects.specs.Volume.{Volume}
-use Rattle.jfs_reader.specs.objects.specs.Objects.{objects, spelled, has_names, has_extents}
-use Rattle.jfs_reader.specs.objects.specs.Owners.{holds, attributes_held, covers, dxd_has, IsSound}
-use Rattle.jfs_reader.specs.objects.proofs.Owned.{owned_once}
-use Rattle.jfs_reader.specs.meaning.specs.Readers.{readers, root_of}
+use Rattle.jfs_lead_steps.specs.page_tree.specs.Edit.{count_in}
+use Rattle.jfs_lead_steps.specs.page_tree.specs.Fresh.{LeadsTo, after_tx, blocks_of}
+use Rattle.jfs_lead_steps.specs.page_tree.specs.Removes.{page_frees}
+use Rattle.jfs_lead_steps.specs.page_tree.specs.Tell.{TellsThen}
+use Rattle.jfs_lead_steps.specs.page_tree.specs.Spells.{footprint}
+use Rattle.jfs_lead_steps.specs.xtree.specs.Node.{xt_scale}
+use Rattle.jfs_lead_steps.specs.xtree.specs.Node as xt
+use Rattle.jfs_lead_steps.specs.xtree.specs.Laws as xt_laws
+use Rattle.jfs_lead_steps.specs.xtree.specs.Spells.{page_nodes, root_form, spells_extents, owned_pages}
+use Rattle.jfs_lead_steps.specs.xtree.specs.Cutting.{HasOnlyBelow, gone_past, run_frees}
+use Rattle.jfs_lead_steps.specs.dtree.specs.Spells.{spells_names}
+use Rattle.jfs_lead_steps.specs.dtree.specs.Spells as names
+use Rattle.jfs_lead_steps.specs.dtree.specs.Laws as name_laws
+use Rattle.jfs_lead_steps.specs.dtree.specs.Node.{name_scale}
+use Rattle.jfs_lead_steps.specs.dtree.proofs.Bare.{bare_tree}
+use Rattle.jfs_lead_steps.specs.objects.specs.Readers.{Readers}
+use Rattle.jfs_lead_steps.specs.objects.specs.Volume.{Volume}
+use Rattle.jfs_lead_steps.specs.objects.specs.Objects.{objects, spelled, has_names, has_extents}
+use Rattle.jfs_lead_steps.specs.objects.specs.Owners.{holds, attributes_held, covers, dxd_has, IsSound}
+use Rattle.jfs_lead_steps.specs.objects.proofs.Owned.{owned_once}
+use Rattle.jfs_lead_steps.specs.meaning.specs.Readers.{readers, root_of}
 use Rattle.jfs_loss.specs.Frees.{CutsIf, FreesObject, attribute_runs}
 use Rattle.jfs_steps.specs.After.{frees}
 use Rattle.jfs_steps.specs.Laws.{TakesAndFrees}

@@ -6,19 +6,19 @@ use Rattle.jfs_bits.specs.declared.descriptor.Pxd.{Pxd}
 use Rattle.jfs_bits.specs.declared.extent.Dxd.{Dxd}
 use Rattle.jfs_bits.specs.declared.extent.Xad.{Xad}
 use Rattle.jfs_inode.specs.declared.fields.Dinode.{Dinode}
-use Rattle.jfs_tree.specs.Edit.{count_in}
-use Rattle.jfs_tree.specs.Fresh.{run_from, blocks_of}
-use Rattle.jfs_tree.specs.Walk.{Node}
-use Rattle.jfs_tree.specs.Spells.{spells, footprint, no_page}
+use Rattle.jfs_lead_steps.specs.page_tree.specs.Edit.{count_in}
+use Rattle.jfs_lead_steps.specs.page_tree.specs.Fresh.{run_from, blocks_of}
+use Rattle.jfs_lead_steps.specs.page_tree.specs.Walk.{Node}
+use Rattle.jfs_lead_steps.specs.page_tree.specs.Spells.{spells, footprint, no_page}
 use Rattle.jfs_xtpage.specs.declared.head.XtForm.TheVariants as extents
-use Rattle.jfs_xtree.specs.Node.{xt_scale, xt_node}
-use Rattle.jfs_xtree.specs.Spells.{page_nodes, root_form, root_node, spells_extents, owned_pages}
-use Rattle.jfs_xtree.specs.Cutting.{up_to, kept_below, gone_of, gone_past}
+use Rattle.jfs_lead_steps.specs.xtree.specs.Node.{xt_scale, xt_node}
+use Rattle.jfs_lead_steps.specs.xtree.specs.Spells.{page_nodes, root_form, root_node, spells_extents, owned_pages}
+use Rattle.jfs_lead_steps.specs.xtree.specs.Cutting.{up_to, kept_below, gone_of, gone_past}
 use Rattle.jfs_xtpage.specs.Page.{end_of}
-use Rattle.jfs_reader.specs.objects.specs.Readers.{Readers}
-use Rattle.jfs_reader.specs.objects.specs.Objects.{spelled, has_names, has_extents, listed}
-use Rattle.jfs_reader.specs.objects.specs.Owners.{holds, attributes_held, covers, dxd_has, run_has}
-use Rattle.jfs_reader.specs.meaning.specs.Readers.{readers, root_of}
+use Rattle.jfs_lead_steps.specs.objects.specs.Readers.{Readers}
+use Rattle.jfs_lead_steps.specs.objects.specs.Objects.{spelled, has_names, has_extents, listed}
+use Rattle.jfs_lead_steps.specs.objects.specs.Owners.{holds, attributes_held, covers, dxd_has, run_has}
+use Rattle.jfs_lead_steps.specs.meaning.specs.Readers.{readers, root_of}
 use Rattle.jfs_lead_steps.proofs.Turned.{no_extents_of}
 use Rattle.jfs_loss.specs.Frees.{run_of, attribute_runs}
 use Rattle.jfs_loss.proofs.Counts.{count_append, count_run}

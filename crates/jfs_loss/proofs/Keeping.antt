@@ -3,13 +3,13 @@ use Rattle.std.proofs.Common.{◌≡◌, refl, sym, ap, ◌∙◌, inl, inr, ℕ
 use Rattle.jfs_bits.specs.declared.rule.Rule.{Rule}
 use Rattle.jfs_ranges.specs.declared.view.ViewError.{ViewError}
 use Rattle.jfs_ranges.specs.declared.view.ViewError.TheVariants.{Read, Memory}
-use Rattle.jfs_dtree.specs.Spells.{broken_for, found_for, TellsWay}
-use Rattle.jfs_dtree.specs.Replacing.{FollowsWay}
-use Rattle.jfs_dtree.specs.declared.error.DtError.{DtError}
-use Rattle.jfs_dtree.specs.declared.error.DtError.TheVariants as dt
-use Rattle.jfs_reader.specs.meaning.specs.Readers.{root_of}
-use Rattle.jfs_way.specs.Answer.{is_open, Answers, view_refusal, names_refusal}
-use Rattle.jfs_way.specs.declared.object.Held.{Held}
+use Rattle.jfs_lead_steps.specs.dtree.specs.Spells.{broken_for, found_for, TellsWay}
+use Rattle.jfs_lead_steps.specs.dtree.specs.Replacing.{FollowsWay}
+use Rattle.jfs_lead_steps.specs.dtree.specs.declared.error.DtError.{DtError}
+use Rattle.jfs_lead_steps.specs.dtree.specs.declared.error.DtError.TheVariants as dt
+use Rattle.jfs_lead_steps.specs.meaning.specs.Readers.{root_of}
+use Rattle.jfs_steps.specs.way.specs.Answer.{is_open, Answers, view_refusal, names_refusal}
+use Rattle.jfs_steps.specs.way.specs.declared.object.Held.{Held}
 use Rattle.jfs_loss.specs.Causes.{if_named, lost_from}
 
 view_open : (e : ViewError) → is_open (view_refusal e) ≡ true

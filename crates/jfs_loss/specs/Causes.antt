@@ -3,18 +3,18 @@ use Rattle.std.specs.Prelude.{◌≡◌, ◌⊎◌, ℕ, true, if◌then◌else�
 use Rattle.jfs_bits.specs.declared.extent.Xad.{Xad}
 use Rattle.jfs_bits.specs.declared.rule.Rule.{Rule}
 use Rattle.jfs_inode.specs.declared.fields.Dinode.{Dinode}
-use Rattle.jfs_xtree.specs.CutMet.{met_extents}
-use Rattle.jfs_xtree.specs.Spells.{spells_extents}
-use Rattle.jfs_xtree.specs.declared.error.XtError.{XtError}
-use Rattle.jfs_xtree.specs.declared.error.XtError.TheVariants.{View, Bad}
-use Rattle.jfs_dtree.specs.Spells.{broken_for, found_for}
-use Rattle.jfs_reader.specs.objects.specs.Objects.{has_extents}
-use Rattle.jfs_reader.specs.meaning.specs.Readers.{root_of}
+use Rattle.jfs_lead_steps.specs.xtree.specs.CutMet.{met_extents}
+use Rattle.jfs_lead_steps.specs.xtree.specs.Spells.{spells_extents}
+use Rattle.jfs_lead_steps.specs.xtree.specs.declared.error.XtError.{XtError}
+use Rattle.jfs_lead_steps.specs.xtree.specs.declared.error.XtError.TheVariants.{View, Bad}
+use Rattle.jfs_lead_steps.specs.dtree.specs.Spells.{broken_for, found_for}
+use Rattle.jfs_lead_steps.specs.objects.specs.Objects.{has_extents}
+use Rattle.jfs_lead_steps.specs.meaning.specs.Readers.{root_of}
 use Rattle.jfs_plain.specs.Tree.{wanted}
 use Rattle.jfs_plain.specs.declared.refusal.Refusal.{Refusal}
 use Rattle.jfs_plain.specs.declared.refusal.Refusal.TheVariants.{Damaged}
-use Rattle.jfs_way.specs.Answer.{at_root, is_open, view_refusal}
-use Rattle.jfs_way.specs.declared.object.Held.{Held}
+use Rattle.jfs_steps.specs.way.specs.Answer.{at_root, is_open, view_refusal}
+use Rattle.jfs_steps.specs.way.specs.declared.object.Held.{Held}
 
 -- What a call that frees an object meets of its tree: all of it, or the first page that breaks a rule. A root stands on its inode's page.
 abbrev pub if_met : Held → Result (List Xad) (ℕ × Rule) → Result Held Refusal

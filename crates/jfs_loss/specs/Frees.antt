@@ -5,10 +5,10 @@ use Rattle.jfs_bits.specs.declared.descriptor.Pxd.{Pxd}
 use Rattle.jfs_bits.specs.declared.extent.Dxd.{Dxd}
 use Rattle.jfs_inode.specs.declared.fields.Dinode.{Dinode}
 use Rattle.jfs_ranges.specs.declared.edit.Edit.{Edit}
-use Rattle.jfs_xtree.specs.Cutting.{CutsExtents, TellsCut, run_frees}
-use Rattle.jfs_xtree.specs.CutMet.{FreesOnce}
-use Rattle.jfs_reader.specs.objects.specs.Objects.{has_extents}
-use Rattle.jfs_reader.specs.meaning.specs.Readers.{root_of}
+use Rattle.jfs_lead_steps.specs.xtree.specs.Cutting.{CutsExtents, TellsCut, run_frees}
+use Rattle.jfs_lead_steps.specs.xtree.specs.CutMet.{FreesOnce}
+use Rattle.jfs_lead_steps.specs.objects.specs.Objects.{has_extents}
+use Rattle.jfs_lead_steps.specs.meaning.specs.Readers.{root_of}
 
 -- The run of a descriptor of attributes, where its flag has the bit 0x20. One without a length, or that passes the blocks of the file system part, has no blocks to give back.
 abbrev pub run_of : ℕ → Dxd → List Pxd

@@ -3,12 +3,12 @@ use Rattle.std.specs.Prelude.{◌≡◌, ℕ, ◌-◌, List, length, Ok}
 use Rattle.jfs_bits.specs.declared.descriptor.Moment.{Moment}
 use Rattle.jfs_bits.specs.declared.rule.PageKind.TheVariants.{Dtree}
 use Rattle.jfs_ranges.specs.declared.edit.Edit.{Edit}
-use Rattle.jfs_tree.specs.Changes.{TellsGone}
-use Rattle.jfs_dtree.specs.Parent.{parent_of}
-use Rattle.jfs_dtree.specs.Removing.{RemovesName}
-use Rattle.jfs_reader.specs.meaning.specs.Readers.{root_of}
+use Rattle.jfs_lead_steps.specs.page_tree.specs.Changes.{TellsGone}
+use Rattle.jfs_lead_steps.specs.dtree.specs.Parent.{parent_of}
+use Rattle.jfs_lead_steps.specs.dtree.specs.Removing.{RemovesName}
+use Rattle.jfs_lead_steps.specs.meaning.specs.Readers.{root_of}
 use Rattle.jfs_steps.specs.Put.{AddsInode, TellsLines}
-use Rattle.jfs_way.specs.declared.object.Held.{Held}
+use Rattle.jfs_steps.specs.way.specs.declared.object.Held.{Held}
 use Rattle.jfs_loss.specs.Inodes.{frees_in, lessened}
 use Rattle.jfs_loss.specs.Causes.{lost_from}
 

@@ -3,16 +3,16 @@
 ghost use Rattle.std.specs.Prelude.{◌≡◌, Err};
 ghost use Rattle.jfs_disk.specs.declared.disk.Fault.{Fault};
 ghost use Rattle.jfs_ranges.specs.View.{CarriesCount};
-ghost use Rattle.jfs_dtree.specs.Spells.{CarriesDt};
-ghost use Rattle.jfs_xtree.specs.Spells.{CarriesXt};
-ghost use Rattle.jfs_way.specs.Answer.{CarriesCause, view_refusal, names_refusal, at_root};
+ghost use Rattle.jfs_lead_steps.specs.dtree.specs.Spells.{CarriesDt};
+ghost use Rattle.jfs_lead_steps.specs.xtree.specs.Spells.{CarriesXt};
+ghost use Rattle.jfs_steps.specs.way.specs.Answer.{CarriesCause, view_refusal, names_refusal, at_root};
 ghost use Rattle.jfs_loss.specs.Causes.{extents_refusal};
 
-use jfs_dtree::DtError;
+use jfs_lead_steps::dtree::DtError;
+use jfs_lead_steps::page_tree::NO_PAGE;
+use jfs_lead_steps::xtree::XtError;
 use jfs_plain::Refusal;
 use jfs_ranges::ViewError;
-use jfs_tree::NO_PAGE;
-use jfs_xtree::XtError;
 
 /// A page could not be read, or memory ran out.
 fn from_view(e: ViewError) -> Refusal

@@ -4,21 +4,21 @@ ghost use Rattle.std.specs.Prelude.{◌≡◌, ◌++◌, [], IfOk, OnOk};
 ghost use Rattle.jfs_bits.specs.Extent.{FitsDxd};
 ghost use Rattle.jfs_disk.specs.Image.{page_of};
 ghost use Rattle.jfs_inode.specs.Inode.{FitsDinode};
-ghost use Rattle.jfs_reader.specs.objects.specs.Objects.{has_extents};
-ghost use Rattle.jfs_reader.specs.meaning.specs.Readers.{root_of};
-ghost use Rattle.jfs_xtree.specs.Cutting.{run_frees};
-ghost use Rattle.jfs_way.specs.Answer.{Carries};
+ghost use Rattle.jfs_lead_steps.specs.objects.specs.Objects.{has_extents};
+ghost use Rattle.jfs_lead_steps.specs.meaning.specs.Readers.{root_of};
+ghost use Rattle.jfs_lead_steps.specs.xtree.specs.Cutting.{run_frees};
+ghost use Rattle.jfs_steps.specs.way.specs.Answer.{Carries};
 ghost use Rattle.jfs_loss.specs.Frees.{CutsIf, FreesObject, run_of, attribute_runs};
 ghost use Rattle.jfs_loss.specs.Causes.{MeetsTree};
 
 use crate::answer::from_extents;
 use jfs_bits::{Dxd, get_array};
 use jfs_inode::Dinode;
+use jfs_lead_steps::xtree::cut_to;
 use jfs_plain::Refusal;
 use jfs_ranges::{Edit, PageView, Tx};
-use jfs_reader::has_extents;
-use jfs_way::Held;
-use jfs_xtree::cut_to;
+use jfs_steps::reader::has_extents;
+use jfs_steps::way::Held;
 use std::alloc::{AllocError, Global};
 
 /// The transaction that frees the tree pages, the data and the attributes of an object. A directory is taken to have no names, and so no page. It is `Damaged`

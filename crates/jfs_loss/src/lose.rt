@@ -2,7 +2,7 @@
 
 ghost use Rattle.std.specs.Prelude.{◌≡◌, ◌≤◌, ◌<◌, ℕ, length, Err, OnOk, IfErr};
 ghost use Rattle.jfs_disk.specs.Image.{page_of};
-ghost use Rattle.jfs_way.specs.Answer.{Carries, Answers};
+ghost use Rattle.jfs_steps.specs.way.specs.Answer.{Carries, Answers};
 ghost use Rattle.jfs_inode.specs.Inode.{FitsDinode};
 ghost use Rattle.jfs_loss.specs.Inodes.{frees_in, lessened};
 ghost use Rattle.jfs_loss.specs.Loses.{LosesName};
@@ -10,13 +10,13 @@ ghost use Rattle.jfs_loss.specs.Causes.{lost_from};
 
 use crate::answer::from_names;
 use jfs_bits::{Moment, get_array, put_array};
-use jfs_dtree::remove;
 use jfs_inode::Dinode;
+use jfs_lead_steps::dtree::remove;
 use jfs_name::Name;
 use jfs_plain::Refusal;
 use jfs_ranges::{Edit, PageView, Tx};
 use jfs_steps::put_inode;
-use jfs_way::Held;
+use jfs_steps::way::Held;
 use std::alloc::Global;
 
 /// Takes a name out of a directory, which has so many links afterwards and is written now. The transaction gets the lines of the tree's pages that change, what

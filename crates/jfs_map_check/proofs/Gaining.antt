@@ -1,10 +1,10 @@
 -- How lists of findings grow step by step.
 use Rattle.std.proofs.Common.{◌≡◌, ◌⊎◌, ℕ, inl, inr, subst, List, Result, Ok, Err, IfOk}
 use Rattle.jfs_bits.specs.declared.extent.Xad.{Xad}
-use Rattle.jfs_reader.specs.objects.specs.Contents.{block_of}
-use Rattle.jfs_reader.specs.Reading.{OutsideIsPast, IsPast}
-use Rattle.jfs_reader.specs.declared.error.ReadError.{ReadError}
-use Rattle.jfs_reader.specs.declared.error.ReadError.TheVariants.{View, Outside}
+use Rattle.jfs_findings.specs.objects.specs.Contents.{block_of}
+use Rattle.jfs_findings.specs.reader.specs.Reading.{OutsideIsPast, IsPast}
+use Rattle.jfs_findings.specs.reader.specs.declared.error.ReadError.{ReadError}
+use Rattle.jfs_findings.specs.reader.specs.declared.error.ReadError.TheVariants.{View, Outside}
 use Rattle.jfs_map_check.specs.Found.{SomeIsPast}
 use Rattle.jfs_findings.specs.Gains.{Gains}
 use Rattle.jfs_findings.specs.declared.finding.Finding.{Finding}

@@ -13,8 +13,8 @@ use Rattle.jfs_iag.proofs.Agreed.{there-same, free-same, inode-same}
 use Rattle.jfs_imap.proofs.Listed.{same-part}
 use Rattle.jfs_imap.proofs.Sums.{count-next}
 use Rattle.jfs_disk.specs.Image.{Image, page_of}
-use Rattle.jfs_reader.specs.objects.specs.Contents.{block_of}
-use Rattle.jfs_reader.specs.declared.error.ReadError.{ReadError}
+use Rattle.jfs_findings.specs.objects.specs.Contents.{block_of}
+use Rattle.jfs_findings.specs.reader.specs.declared.error.ReadError.{ReadError}
 use Rattle.jfs_findings.specs.Gains.{Gains}
 use Rattle.jfs_findings.specs.Maps.{IsIagAs}
 use Rattle.jfs_findings.specs.declared.finding.Finding.{Finding}

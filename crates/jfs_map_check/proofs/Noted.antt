@@ -6,7 +6,7 @@ use Rattle.jfs_bits.specs.declared.extent.Xad.{Xad}
 use Rattle.jfs_bits.specs.Bits.{is_taken}
 use Rattle.jfs_bits.specs.Field.{range_of}
 use Rattle.jfs_bmap.specs.MapFile.{IsMapPage, is_in_use}
-use Rattle.jfs_reader.specs.objects.specs.Contents.{block_of}
+use Rattle.jfs_findings.specs.objects.specs.Contents.{block_of}
 use Rattle.jfs_findings.specs.Gains.{Gains}
 use Rattle.jfs_findings.specs.Maps.{IsMapPageAs}
 use Rattle.jfs_findings.specs.declared.finding.Finding.{Finding}

@@ -12,8 +12,8 @@ use Rattle.jfs_bmap.specs.OwnedBlocks.{OwnedBlocks, owned_of}
 use Rattle.jfs_bmap.specs.MapFile.{is_in_use, pages_of}
 use Rattle.jfs_bmap.proofs.Views.{length-each_below, taken_at-each_below}
 use Rattle.jfs_super.specs.declared.fields.Super.{Super}
-use Rattle.jfs_reader.specs.objects.specs.Image.{file_extents, file_page, is_block_used}
-use Rattle.jfs_mount.specs.Subject.{Subject, blocks, volume, IsFilePage, subject_of}
+use Rattle.jfs_findings.specs.objects.specs.Image.{file_extents, file_page, is_block_used}
+use Rattle.jfs_findings.specs.mount_rules.specs.Subject.{Subject, blocks, volume, IsFilePage, subject_of}
 use Rattle.jfs_findings.specs.Blocks.{is_owned, IsMisMapped}
 use Rattle.jfs_findings.specs.Maps.{IsMapPageAs, has_to_be_taken, IsBadBlockMap}
 use Rattle.jfs_findings.specs.Findings.{Says}

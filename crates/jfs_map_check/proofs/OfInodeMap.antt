@@ -9,10 +9,10 @@ use Rattle.jfs_disk.specs.Image.{Image, page_of}
 use Rattle.jfs_super.specs.declared.fields.Super.{Super}
 use Rattle.jfs_iag.specs.Canonical.{is_there, is_free_inode}
 use Rattle.jfs_iag.specs.Laws.{AreSame}
-use Rattle.jfs_reader.specs.objects.specs.Contents.{block_of}
-use Rattle.jfs_reader.specs.objects.specs.Image.{file_extents, file_page}
-use Rattle.jfs_mount.specs.Subject.{Subject, object, IsFilePage, subject_of}
-use Rattle.jfs_mount.specs.Mount.{iags, extent_at}
+use Rattle.jfs_findings.specs.objects.specs.Contents.{block_of}
+use Rattle.jfs_findings.specs.objects.specs.Image.{file_extents, file_page}
+use Rattle.jfs_findings.specs.mount_rules.specs.Subject.{Subject, object, IsFilePage, subject_of}
+use Rattle.jfs_findings.specs.mount_rules.specs.Mount.{iags, extent_at}
 use Rattle.jfs_findings.specs.Maps.{IsIagAs, IsInodeControlAs, IsInodeMapPage, IsBadInodeMap}
 use Rattle.jfs_findings.specs.Findings.{Says}
 use Rattle.jfs_findings.specs.Gains.{Gains}

@@ -4,12 +4,12 @@ use Rattle.jfs_bits.specs.declared.extent.Xad.{Xad}
 use Rattle.jfs_bits.specs.Bits.{is_taken}
 use Rattle.jfs_bits.specs.Field.{range_of}
 use Rattle.jfs_bmap.specs.MapFile.{is_in_use}
-use Rattle.jfs_reader.specs.objects.specs.Contents.{block_of}
-use Rattle.jfs_reader.specs.objects.specs.Image.{file_extents}
-use Rattle.jfs_reader.specs.Reading.{IsPast}
-use Rattle.jfs_reader.specs.declared.error.ReadError.{ReadError}
-use Rattle.jfs_reader.specs.declared.error.ReadError.TheVariants.{View, Outside}
-use Rattle.jfs_mount.specs.Subject.{Subject, blocks}
+use Rattle.jfs_findings.specs.objects.specs.Contents.{block_of}
+use Rattle.jfs_findings.specs.objects.specs.Image.{file_extents}
+use Rattle.jfs_findings.specs.reader.specs.Reading.{IsPast}
+use Rattle.jfs_findings.specs.reader.specs.declared.error.ReadError.{ReadError}
+use Rattle.jfs_findings.specs.reader.specs.declared.error.ReadError.TheVariants.{View, Outside}
+use Rattle.jfs_findings.specs.mount_rules.specs.Subject.{Subject, blocks}
 use Rattle.jfs_findings.specs.Blocks.{is_owned}
 use Rattle.jfs_findings.specs.Maps.{IsMapPageAs}
 use Rattle.jfs_findings.specs.Findings.{Says}

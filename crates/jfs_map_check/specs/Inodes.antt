@@ -7,10 +7,10 @@ use Rattle.jfs_bits.specs.Bits.{is_taken, count_below}
 use Rattle.jfs_bits.specs.Descriptor.{pxd_of}
 use Rattle.jfs_bits.specs.Field.{field_of}
 use Rattle.jfs_iag.specs.Canonical.{is_there, is_free_inode}
-use Rattle.jfs_reader.specs.objects.specs.Contents.{block_of, bytes_at}
-use Rattle.jfs_reader.specs.objects.specs.Image.{file_extents}
-use Rattle.jfs_mount.specs.Subject.{Subject, blocks, object}
-use Rattle.jfs_mount.specs.Mount.{iags}
+use Rattle.jfs_findings.specs.objects.specs.Contents.{block_of, bytes_at}
+use Rattle.jfs_findings.specs.objects.specs.Image.{file_extents}
+use Rattle.jfs_findings.specs.mount_rules.specs.Subject.{Subject, blocks, object}
+use Rattle.jfs_findings.specs.mount_rules.specs.Mount.{iags}
 use Rattle.jfs_findings.specs.Maps.{IsIagAs}
 use Rattle.jfs_findings.specs.Findings.{Says}
 use Rattle.jfs_findings.specs.declared.finding.Finding.{Finding}

@@ -6,9 +6,9 @@ ghost use Rattle.jfs_bits.specs.Field.{range_of};
 ghost use Rattle.jfs_super.specs.declared.fields.Super.{Super};
 ghost use Rattle.jfs_bmap.specs.Set.{taken_at};
 ghost use Rattle.jfs_bmap.specs.MapFile.{AreGroups, IsMapPage, is_in_use, pages_of};
-ghost use Rattle.jfs_reader.specs.objects.specs.Contents.{block_of};
-ghost use Rattle.jfs_reader.specs.Reading.{CarriesRead, OutsideIsPast};
-ghost use Rattle.jfs_mount.specs.Subject.{subject_of};
+ghost use Rattle.jfs_findings.specs.objects.specs.Contents.{block_of};
+ghost use Rattle.jfs_findings.specs.reader.specs.Reading.{CarriesRead, OutsideIsPast};
+ghost use Rattle.jfs_findings.specs.mount_rules.specs.Subject.{subject_of};
 ghost use Rattle.jfs_findings.specs.Maps.{IsMapPageAs};
 ghost use Rattle.jfs_findings.specs.Gains.{Gains};
 ghost use Rattle.jfs_map_check.specs.Found.{KnowsOwners, IsOfBlockMap, SomeIsPast, IsOtherAt, IsOtherBit, IsWrongPage, IsWrongAt, IsWrongIn, IsWrongBelow};
@@ -18,10 +18,10 @@ use crate::compare::same_word;
 use jfs_bits::{Xad, bit};
 use jfs_bmap::OwnedMap;
 use jfs_disk::Page;
+use jfs_findings::mount_rules::from_block;
+use jfs_findings::reader::{ReadError, page_of_block};
 use jfs_findings::{Finding, FindingKind};
-use jfs_mount::from_block;
 use jfs_ranges::{PageView, ViewError};
-use jfs_reader::{ReadError, page_of_block};
 use std::alloc::{AllocError, Global};
 
 /// Adds the findings of the block map to a list: each page of its file that isn't canonical in what is compared, and each block whose bit in the

@@ -6,9 +6,9 @@ ghost use Rattle.jfs_bits.specs.Field.{field_of};
 ghost use Rattle.jfs_disk.specs.Image.{page_of};
 ghost use Rattle.jfs_super.specs.declared.fields.Super.{Super};
 ghost use Rattle.jfs_iag.specs.Canonical.{is_there, is_free_inode};
-ghost use Rattle.jfs_reader.specs.objects.specs.Contents.{block_of};
-ghost use Rattle.jfs_reader.specs.Reading.{CarriesRead, OutsideIsPast};
-ghost use Rattle.jfs_mount.specs.Subject.{subject_of};
+ghost use Rattle.jfs_findings.specs.objects.specs.Contents.{block_of};
+ghost use Rattle.jfs_findings.specs.reader.specs.Reading.{CarriesRead, OutsideIsPast};
+ghost use Rattle.jfs_findings.specs.mount_rules.specs.Subject.{subject_of};
 ghost use Rattle.jfs_findings.specs.Maps.{IsIagAs};
 ghost use Rattle.jfs_findings.specs.Gains.{Gains};
 ghost use Rattle.jfs_map_check.specs.Found.{SomeIsPast};
@@ -17,10 +17,10 @@ ghost use Rattle.jfs_map_check.specs.Inodes.{KnowsInodes, IsOfInodeMap, places_o
 use crate::iag_page::{IagReport, judge_iag};
 use jfs_bits::{Xad, get_u32};
 use jfs_disk::Page;
+use jfs_findings::mount_rules::from_block;
+use jfs_findings::reader::{ReadError, page_of_block};
 use jfs_findings::{Finding, FindingKind};
-use jfs_mount::from_block;
 use jfs_ranges::{PageView, ViewError};
-use jfs_reader::{ReadError, page_of_block};
 use std::alloc::AllocError;
 
 /// What the control page of an inode map tells of all inodes.

@@ -16,3 +16,9 @@ pub use loggable::is_loggable;
 pub use marking::{Marking, inode_marks};
 pub use marks::InodeMarks;
 pub use notes::notes_of;
+
+pub mod data_steps {
+    //! Passed on from `jfs_data_steps`.
+
+    pub use jfs_data_steps::{DataList, DataPage};
+}

@@ -7,10 +7,10 @@ ghost use Rattle.jfs_marks.specs.Owners.{owner_in, owner_of, owner_on};
 
 use crate::founded::is_extent;
 use jfs_bits::PageKind;
+use jfs_data_steps::reader::has_names;
 use jfs_disk::Page;
 use jfs_inode::{Dinode, inode_in};
 use jfs_ranges::{Edit, PageView, Tx, ViewError, apply};
-use jfs_reader::has_names;
 
 /// An inode whose lines an edit has.
 #[derive(Clone, Copy, PartialEq, Eq, Debug)]

@@ -3,7 +3,7 @@ use Rattle.std.proofs.Common.{◌≡◌, ◌≢◌, ◌≤◌, ◌<◌, ◌⊎�
 use Rattle.jfs_name.specs.declared.name.NameEntry.{NameEntry}
 use Rattle.jfs_plain.specs.Tree.{Tree, root, is_dir}
 use Rattle.jfs_plain.specs.declared.node.Node.{Node}
-use Rattle.jfs_dtree.specs.page_tree.specs.Edit.{count_in}
+use Rattle.jfs_xtree.specs.page_tree.specs.Edit.{count_in}
 use Rattle.jfs_objects.proofs.Sums.{sum_same, eq_or_not}
 use Rattle.jfs_meaning.specs.Consistent.{is_reserved, leading_to, names_in, names_for, names_to, is_directory, subdirectories, links_due, MayBeNamed, HasItsName, IsRoot}
 use Rattle.jfs_meaning.proofs.Books.{Books, some_is, same_subdirectories}

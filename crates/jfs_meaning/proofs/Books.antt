@@ -6,7 +6,7 @@ use Rattle.std.proofs.lemmas.List.Sums.{sum_by-cons}
 use Rattle.jfs_name.specs.declared.name.NameEntry.{NameEntry}
 use Rattle.jfs_plain.specs.Tree.{Tree, root, is_dir}
 use Rattle.jfs_plain.specs.declared.node.Node.{Node}
-use Rattle.jfs_dtree.specs.page_tree.specs.Edit.{count_in}
+use Rattle.jfs_xtree.specs.page_tree.specs.Edit.{count_in}
 use Rattle.jfs_objects.specs.Owners.{bit}
 use Rattle.jfs_objects.proofs.Sums.{sum_put, eq_or_not, zero_or_more}
 use Rattle.jfs_meaning.specs.Consistent.{is_reserved, leading_to, names_in, names_for, names_to, is_directory, subdirectories, links_due, MayBeNamed, HasItsName, IsRoot, IsConsistentTree}

@@ -6,7 +6,7 @@ use Rattle.jfs_plain.specs.Tree.{Tree, root, is_dir, Place}
 use Rattle.jfs_plain.specs.Moves.{gains, rises, changed, made, new_directory}
 use Rattle.jfs_plain.specs.Step.{entry_as, gained}
 use Rattle.jfs_plain.specs.declared.node.Node.{Node}
-use Rattle.jfs_dtree.specs.page_tree.specs.Edit.{count_in}
+use Rattle.jfs_xtree.specs.page_tree.specs.Edit.{count_in}
 use Rattle.jfs_objects.specs.Owners.{bit}
 use Rattle.jfs_objects.proofs.Sums.{zero_or_more, sum_zero}
 use Rattle.jfs_meaning.specs.Consistent.{leading_to, names_in, names_for, names_to, is_directory, subdirectories, links_due, HasItsName, IsConsistentTree}

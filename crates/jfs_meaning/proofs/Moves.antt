@@ -9,7 +9,7 @@ use Rattle.jfs_plain.specs.Tree.{Tree, is_dir}
 use Rattle.jfs_plain.specs.Moves.{gains, loses, leads, changed}
 use Rattle.jfs_plain.specs.Step.{entry_as}
 use Rattle.jfs_plain.specs.declared.node.Node.{Node}
-use Rattle.jfs_dtree.specs.page_tree.specs.Edit.{count_in}
+use Rattle.jfs_xtree.specs.page_tree.specs.Edit.{count_in}
 use Rattle.jfs_objects.proofs.Sums.{eq_or_not}
 use Rattle.jfs_meaning.specs.Consistent.{is_directory, MayBeNamed}
 use Rattle.jfs_meaning.proofs.Books.{number_of, Changes, Only, only_none, is_it}

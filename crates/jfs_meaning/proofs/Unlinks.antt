@@ -6,7 +6,7 @@ use Rattle.jfs_plain.specs.Tree.{Tree, root, is_dir, Place, at_place}
 use Rattle.jfs_plain.specs.Moves.{gains, loses, rises, falls, stamped, changed, dropped, unnamed}
 use Rattle.jfs_plain.specs.Step.{entry_as, gained, lost}
 use Rattle.jfs_plain.specs.declared.node.Node.{Node}
-use Rattle.jfs_dtree.specs.page_tree.specs.Edit.{count_in}
+use Rattle.jfs_xtree.specs.page_tree.specs.Edit.{count_in}
 use Rattle.jfs_objects.specs.Owners.{bit}
 use Rattle.jfs_objects.proofs.Sums.{eq_or_not, sum_one}
 use Rattle.jfs_meaning.specs.Consistent.{leading_to, names_in, names_for, names_to, is_directory, subdirectories, MayBeNamed, IsConsistentTree}

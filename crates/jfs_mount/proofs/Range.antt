@@ -4,7 +4,7 @@ use Rattle.std.specs.List.{flat_map}
 use Rattle.std.proofs.lemmas.Bool.{and_parts, and_from}
 use Rattle.jfs_bits.specs.declared.extent.Xad.{Xad}
 use Rattle.jfs_bits.specs.declared.rule.Rule.{Rule}
-use Rattle.jfs_xtree.specs.Node.{all_within, is_within}
+use Rattle.jfs_reader.specs.xtree.specs.Node.{all_within, is_within}
 use Rattle.jfs_reader.specs.page_tree.specs.Walk.{Child, Node, Leaf, Inner, Broken, Marks, Scale, placed, under, body, walk, rows_of}
 use Rattle.jfs_reader.specs.page_tree.specs.Spells.{no_page, with_root, levels_of, along_first, first_path, top, at_levels, tree_of}
 use Rattle.jfs_reader.specs.page_tree.proofs.Frame.{rows-append}

@@ -5,10 +5,10 @@ use Rattle.std.specs.declared.result.Result.TheVariants.{Ok, Err}
 use Rattle.std.proofs.lemmas.Bool.{leb-true, ltb-true, and_parts}
 use Rattle.jfs_bits.specs.declared.extent.Xad.{Xad}
 use Rattle.jfs_bits.specs.declared.rule.Rule.{Rule}
-use Rattle.jfs_xtree.specs.Node.{xt_node, xt_scale, all_within, is_within}
+use Rattle.jfs_reader.specs.xtree.specs.Node.{xt_node, xt_scale, all_within, is_within}
 use Rattle.jfs_xtpage.specs.declared.head.XtForm.{XtForm}
 use Rattle.jfs_xtpage.specs.declared.head.XtForm.TheVariants as forms
-use Rattle.jfs_xtree.proofs.Reading.{leaf_is}
+use Rattle.jfs_reader.specs.xtree.proofs.Reading.{leaf_is}
 use Rattle.jfs_reader.specs.page_tree.specs.Walk.{rows_of}
 use Rattle.jfs_reader.specs.page_tree.proofs.Judge.{judged}
 use Rattle.jfs_reader.specs.objects.specs.Contents.{block_in, block_of}

@@ -10,6 +10,7 @@ pub use Rattle.jfs_bmap.specs.dmapctl
 pub use Rattle.jfs_each as each
 pub use Rattle.jfs_reader.specs.meaning
 pub use Rattle.jfs_reader.specs.objects
-pub use Rattle.jfs_reader.specs.plain
 pub use Rattle.jfs_reader.specs.page_tree
-pub use Rattle.jfs_xtree as xtree
+pub use Rattle.jfs_reader.specs.plain
+pub use Rattle.jfs_reader as reader
+pub use Rattle.jfs_reader.specs.xtree

@@ -2,7 +2,7 @@
 
 ghost use Rattle.std.specs.Prelude.{◌≡◌, ◌≤◌, ◌<◌, ◌+◌, ℕ, true, false, nat_le, is_some, unwrap_or};
 ghost use Rattle.std.specs.List.{range_with_len, prefix_len};
-ghost use Rattle.jfs_xtree.specs.Node.{is_within, all_within};
+ghost use Rattle.jfs_reader.specs.xtree.specs.Node.{is_within, all_within};
 ghost use Rattle.jfs_reader.specs.objects.specs.Contents.{block_in, block_of};
 ghost use Rattle.jfs_reader.specs.Reading.{IsBelow};
 ghost use Rattle.jfs_mount.specs.Files.{IsWithin, EndsBehind, IsRun};

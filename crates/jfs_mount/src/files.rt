@@ -5,7 +5,7 @@ ghost use Rattle.jfs_disk.specs.Image.{page_of};
 ghost use Rattle.jfs_ranges.specs.View.{CarriesCount};
 ghost use Rattle.jfs_super.specs.Rules.{blocks_of};
 ghost use Rattle.jfs_super.specs.declared.fields.Super.{Super};
-ghost use Rattle.jfs_xtree.specs.Node.{all_within};
+ghost use Rattle.jfs_reader.specs.xtree.specs.Node.{all_within};
 ghost use Rattle.jfs_reader.specs.objects.specs.Image.{file_extents};
 ghost use Rattle.jfs_reader.specs.meaning.specs.Readers.{readers};
 ghost use Rattle.jfs_mount.specs.Files.{LieWithin};
@@ -16,8 +16,8 @@ use crate::blocks::all_within;
 use crate::maps::Maps;
 use jfs_bits::XadList;
 use jfs_ranges::{PageView, ViewError};
+use jfs_reader::xtree::XtError;
 use jfs_reader::{InodeMap, ReadError, file_extents};
-use jfs_xtree::XtError;
 use std::alloc::Global;
 
 /// The two maps' files. One whose tree breaks a rule has no extents.

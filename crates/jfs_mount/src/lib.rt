@@ -14,3 +14,12 @@ pub use bad::BadMount;
 pub use blocks::from_block;
 pub use maps::{Maps, Mounted};
 pub use mount::{first_broken, map_files, mounted};
+
+pub mod reader {
+    //! Passed on from `jfs_reader`.
+
+    pub use jfs_reader::{
+        DiskView, ReadError, aggregate_root, has_extents, has_names, page_of_block, read_part,
+        root_in,
+    };
+}

@@ -10,9 +10,9 @@ use Rattle.jfs_super.specs.declared.fields.Super.{Super}
 use Rattle.jfs_bmap.specs.Set.{each_below}
 use Rattle.jfs_bmap.specs.States.{Blocks, BlockState, Free, Owned, Reserved, state_of, fresh}
 use Rattle.jfs_bmap.proofs.Views.{length-each_below, each_below-at, each_below-same}
-use Rattle.jfs_mount.specs.Subject.{subject_of, blocks, volume}
-use Rattle.jfs_mount.specs.Steps.{AreRead}
-use Rattle.jfs_mount.specs.declared.maps.Maps.{Maps}
+use Rattle.jfs_sets.specs.mount_rules.specs.Subject.{subject_of, blocks, volume}
+use Rattle.jfs_sets.specs.mount_rules.specs.Steps.{AreRead}
+use Rattle.jfs_sets.specs.mount_rules.specs.declared.maps.Maps.{Maps}
 use Rattle.jfs_claim.specs.room.specs.Laws.{blocks_in, NoneReserved}
 use Rattle.jfs_sets.specs.Sets.{AreUsedBlocks}
 use Rattle.jfs_mount_maps.specs.Maps.{IsIdle, blocks_on}

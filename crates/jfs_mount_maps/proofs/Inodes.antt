@@ -14,12 +14,12 @@ use Rattle.jfs_iag.specs.Canonical.{is_there}
 use Rattle.jfs_imap.specs.Inodes.{Inodes, inodes_of, extent_at, bits_of}
 use Rattle.jfs_bmap.specs.Set.{each_below}
 use Rattle.jfs_bmap.proofs.Views.{each_below-same}
-use Rattle.jfs_claim.specs.objects.specs.Volume.{home}
-use Rattle.jfs_mount.specs.each.specs.Each.{AllFit}
-use Rattle.jfs_mount.specs.Subject.{subject_of, volume}
-use Rattle.jfs_mount.specs.Mount.{iags}
-use Rattle.jfs_mount.specs.Steps.{AreRead}
-use Rattle.jfs_mount.specs.declared.maps.Maps.{Maps}
+use Rattle.jfs_sets.specs.objects.specs.Volume.{home}
+use Rattle.jfs_sets.specs.each.specs.Each.{AllFit}
+use Rattle.jfs_sets.specs.mount_rules.specs.Subject.{subject_of, volume}
+use Rattle.jfs_sets.specs.mount_rules.specs.Mount.{iags}
+use Rattle.jfs_sets.specs.mount_rules.specs.Steps.{AreRead}
+use Rattle.jfs_sets.specs.mount_rules.specs.declared.maps.Maps.{Maps}
 use Rattle.jfs_sets.specs.Sets.{AreUsedInodes, extent_from}
 use Rattle.jfs_claim.specs.way.specs.Volume.{PlacesWithin}
 use Rattle.jfs_mount_maps.specs.Maps.{inodes_on, groups_of}

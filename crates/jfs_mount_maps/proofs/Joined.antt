@@ -14,17 +14,17 @@ use Rattle.jfs_super.specs.declared.fields.Super.{Super}
 use Rattle.jfs_imap.specs.Inodes.{Inodes, is_used}
 use Rattle.jfs_bmap.specs.States.{Blocks, Free, Owned, is_owned, is_owned_state}
 use Rattle.jfs_bmap.proofs.Views.{length-each_below, each_below-at}
-use Rattle.jfs_claim.specs.objects.specs.Readers.{Readers}
-use Rattle.jfs_claim.specs.objects.specs.Volume.{Volume, page_in}
-use Rattle.jfs_claim.specs.objects.specs.Image.{extent_place, extent_on, extents_on, iags_on, iag_page, file_page, is_block_used, is_inode_used}
-use Rattle.jfs_claim.specs.meaning.specs.Readers.{readers}
-use Rattle.jfs_claim.specs.meaning.specs.Tree.{tree_on}
-use Rattle.jfs_claim.specs.meaning.specs.Room.{room_on}
-use Rattle.jfs_claim.specs.meaning.specs.Consistent.{IsConsistent}
-use Rattle.jfs_mount.specs.Subject.{Subject, subject_of, blocks, volume}
-use Rattle.jfs_mount.specs.Mount.{iags}
-use Rattle.jfs_mount.specs.Steps.{AreRead, Mounts}
-use Rattle.jfs_mount.specs.declared.maps.Mounted.{Mounted}
+use Rattle.jfs_sets.specs.objects.specs.Readers.{Readers}
+use Rattle.jfs_sets.specs.objects.specs.Volume.{Volume, page_in}
+use Rattle.jfs_sets.specs.objects.specs.Image.{extent_place, extent_on, extents_on, iags_on, iag_page, file_page, is_block_used, is_inode_used}
+use Rattle.jfs_sets.specs.meaning.specs.Readers.{readers}
+use Rattle.jfs_sets.specs.meaning.specs.Tree.{tree_on}
+use Rattle.jfs_sets.specs.meaning.specs.Room.{room_on}
+use Rattle.jfs_sets.specs.meaning.specs.Consistent.{IsConsistent}
+use Rattle.jfs_sets.specs.mount_rules.specs.Subject.{Subject, subject_of, blocks, volume}
+use Rattle.jfs_sets.specs.mount_rules.specs.Mount.{iags}
+use Rattle.jfs_sets.specs.mount_rules.specs.Steps.{AreRead, Mounts}
+use Rattle.jfs_sets.specs.mount_rules.specs.declared.maps.Mounted.{Mounted}
 use Rattle.jfs_sets.specs.Sets.{extent_from}
 use Rattle.jfs_claim.specs.way.specs.Volume.{volume_of}
 use Rattle.jfs_claim.specs.room.specs.Laws.{blocks_in}

@@ -3,7 +3,7 @@ use Rattle.std.proofs.Common.{◌≡◌, ◌<◌, ◌≤◌, refl, sym, ap, ◌�
 use Rattle.std.proofs.lemmas.Bool.{cases_lt}
 use Rattle.jfs_bits.specs.Bits.{is_taken, is_in_run}
 use Rattle.jfs_bits.proofs.Counts.{in_run, before_run, behind_run}
-use Rattle.jfs_claim.specs.objects.specs.Volume.{home, page_in}
+use Rattle.jfs_sets.specs.objects.specs.Volume.{home, page_in}
 
 -- the first so many places were looked at
 pub record ArePlaced (places : List (Option ℕ)) (old new : List ℕ) (k : ℕ) : Type 0 where

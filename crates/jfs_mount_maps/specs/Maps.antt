@@ -10,15 +10,15 @@ use Rattle.jfs_imap.specs.Inodes.{Inodes}
 use Rattle.jfs_bmap.specs.Set.{each_below}
 use Rattle.jfs_map_files.specs.Files.{AreFilesOf}
 use Rattle.jfs_bmap.specs.MapFile.{pages_of}
-use Rattle.jfs_claim.specs.objects.specs.Image.{file_extents}
+use Rattle.jfs_sets.specs.objects.specs.Image.{file_extents}
 use Rattle.jfs_mount_maps.specs.Places.{ArePlacesOf}
 use Rattle.jfs_bmap.specs.States.{Blocks, Free, Owned, state_of}
-use Rattle.jfs_claim.specs.meaning.specs.Readers.{readers}
-use Rattle.jfs_claim.specs.meaning.specs.Consistent.{IsConsistent}
-use Rattle.jfs_claim.specs.meaning.specs.Image as meaning
-use Rattle.jfs_mount.specs.Subject.{Subject, subject_of, blocks, volume}
-use Rattle.jfs_mount.specs.Mount.{broken_mount, iags}
-use Rattle.jfs_mount.specs.declared.bad.BadMount.{BadMount as Bad}
+use Rattle.jfs_sets.specs.meaning.specs.Readers.{readers}
+use Rattle.jfs_sets.specs.meaning.specs.Consistent.{IsConsistent}
+use Rattle.jfs_sets.specs.meaning.specs.Image as meaning
+use Rattle.jfs_sets.specs.mount_rules.specs.Subject.{Subject, subject_of, blocks, volume}
+use Rattle.jfs_sets.specs.mount_rules.specs.Mount.{broken_mount, iags}
+use Rattle.jfs_sets.specs.mount_rules.specs.declared.bad.BadMount.{BadMount as Bad}
 use Rattle.jfs_sets.specs.Sets.{extent_from}
 use Rattle.jfs_claim.specs.way.specs.Volume.{volume_of, PlacesWithin}
 use Rattle.jfs_claim.specs.way.specs.Walk.{tree_in}

@@ -7,16 +7,16 @@ ghost use Rattle.jfs_ranges.specs.View.{CarriesCount};
 ghost use Rattle.jfs_super.specs.Rules.{IsAccepted, blocks_of};
 ghost use Rattle.jfs_super.specs.Geometry.{geometry_of, IsLayout};
 ghost use Rattle.jfs_super.specs.declared.fields.Super.{Super};
-ghost use Rattle.jfs_mount.specs.Subject.{subject_of};
+ghost use Rattle.jfs_sets.specs.mount_rules.specs.Subject.{subject_of};
 ghost use Rattle.jfs_mount_maps.specs.Maps.{AreAtRest, CarriesMaps, Finds, FindsMaps};
 
 use crate::found::{FoundMaps, MapsError};
 use crate::places::files_of;
 use crate::read::{block_map_of, inode_map_of};
 use jfs_disk::{Disk, Part};
-use jfs_mount::{BadMount, mounted};
 use jfs_ranges::{PageView, ViewError};
-use jfs_reader::DiskView;
+use jfs_sets::mount_rules::{BadMount, mounted};
+use jfs_sets::reader::DiskView;
 use jfs_super::{Geometry, Super, geometry};
 use std::alloc::Global;
 

@@ -6,7 +6,7 @@ use jfs_bmap::BlockMap;
 use jfs_disk::Fault;
 use jfs_imap::InodeMap;
 use jfs_map_files::MapFiles;
-use jfs_mount::BadMount;
+use jfs_sets::mount_rules::BadMount;
 
 /// The maps of a volume that is to be mounted, as file calls keep them in memory: no block is reserved or busy.
 #[derive(Drop)]

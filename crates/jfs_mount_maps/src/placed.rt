@@ -2,7 +2,7 @@
 
 ghost use Rattle.std.specs.Prelude.{◌≡◌, ◌≤◌, ◌<◌, ◌*◌, ◌^◌, ◌&&◌, length, is_some, ℕ};
 ghost use Rattle.jfs_bits.specs.Bits.{is_taken};
-ghost use Rattle.jfs_claim.specs.objects.specs.Volume.{home};
+ghost use Rattle.jfs_sets.specs.objects.specs.Volume.{home};
 
 use jfs_bits::clear_run;
 

@@ -4,14 +4,14 @@ ghost use Rattle.std.specs.Prelude.{◌≡◌, ◌≤◌, ◌<◌, ◌^◌, ℕ,
 ghost use Rattle.jfs_bmap.specs.MapFile.{pages_of};
 ghost use Rattle.jfs_map_files.specs.Places.{AreWithin};
 ghost use Rattle.jfs_map_files.specs.Files.{AreFilesOf};
-ghost use Rattle.jfs_mount.specs.Files.{LieWithin};
-ghost use Rattle.jfs_claim.specs.objects.specs.Contents.{block_of};
+ghost use Rattle.jfs_sets.specs.mount_rules.specs.Files.{LieWithin};
+ghost use Rattle.jfs_sets.specs.objects.specs.Contents.{block_of};
 ghost use Rattle.jfs_mount_maps.specs.Places.{ArePlacesOf};
 
 use jfs_bits::Xad;
 use jfs_map_files::{MapFile, MapFiles};
-use jfs_mount::Maps;
-use jfs_reader::page_of_block;
+use jfs_sets::mount_rules::Maps;
+use jfs_sets::reader::page_of_block;
 use std::alloc::{AllocError, Global};
 
 /// The blocks of the first pages of a file that has these extents, in their order. A page without a block is answered as want of memory: the rules of a mount leave none.

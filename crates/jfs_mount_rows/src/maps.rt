@@ -5,7 +5,7 @@ use jfs_bits::Rule;
 use jfs_disk::{Disk, Fail, Fault, Kind, MemDisk, Page, Part, SureDisk};
 use jfs_imap::Pick;
 use jfs_mount::BadMount;
-use jfs_mount_maps::{FoundMaps, MapsError, find_maps_on};
+use jfs_mounted::mount_maps::{FoundMaps, MapsError, find_maps_on};
 use jfs_super::read_super;
 use std::alloc::Global;
 use std::test::*;

@@ -14,19 +14,19 @@ use Rattle.jfs_super.specs.Rules.{blocks_of}
 use Rattle.jfs_super.specs.declared.fields.Super.{Super}
 use Rattle.jfs_volume.specs.plain.specs.Moves.{Same}
 use Rattle.jfs_volume.specs.plain.specs.Tree.{Tree}
-use Rattle.jfs_volume.specs.objects.specs.Readers.{Readers}
-use Rattle.jfs_volume.specs.objects.specs.Volume.{Volume}
-use Rattle.jfs_volume.specs.objects.specs.Objects.{objects, listed}
-use Rattle.jfs_volume.specs.objects.specs.Owners.{entries, owners, bit, run_has}
-use Rattle.jfs_volume.specs.objects.specs.Contents.{block_of}
-use Rattle.jfs_volume.specs.objects.specs.Image.{file_walk, file_page, file_has, area_on, extent_place, extent_on, extents_on, iags_on, is_block_used}
+use Rattle.jfs_findings.specs.objects.specs.Readers.{Readers}
+use Rattle.jfs_findings.specs.objects.specs.Volume.{Volume}
+use Rattle.jfs_findings.specs.objects.specs.Objects.{objects, listed}
+use Rattle.jfs_findings.specs.objects.specs.Owners.{entries, owners, bit, run_has}
+use Rattle.jfs_findings.specs.objects.specs.Contents.{block_of}
+use Rattle.jfs_findings.specs.objects.specs.Image.{file_walk, file_page, file_has, area_on, extent_place, extent_on, extents_on, iags_on, is_block_used}
 use Rattle.jfs_volume.specs.kinds.specs.Images.{IsWholeFile}
 use Rattle.jfs_volume.specs.kinds.proofs.Images.{same_page}
-use Rattle.jfs_volume.specs.meaning.specs.Readers.{readers}
-use Rattle.jfs_volume.specs.meaning.specs.Tree.{tree_on}
-use Rattle.jfs_volume.specs.meaning.specs.Image as meaning
-use Rattle.jfs_mount.specs.Subject.{subject_of}
-use Rattle.jfs_mount.specs.Mount.{broken_mount, iags}
+use Rattle.jfs_findings.specs.meaning.specs.Readers.{readers}
+use Rattle.jfs_findings.specs.meaning.specs.Tree.{tree_on}
+use Rattle.jfs_findings.specs.meaning.specs.Image as meaning
+use Rattle.jfs_findings.specs.mount_rules.specs.Subject.{subject_of}
+use Rattle.jfs_findings.specs.mount_rules.specs.Mount.{broken_mount, iags}
 use Rattle.jfs_findings.proofs.Mounted.{mounted, on_block}
 use Rattle.jfs_mount_disk.specs.Begun.{marked_page}
 use Rattle.jfs_mounted.specs.Crashes.{CrashLaw}

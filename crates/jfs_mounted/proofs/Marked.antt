@@ -7,24 +7,24 @@ use Rattle.jfs_bits.specs.Field.{range_of}
 use Rattle.jfs_bits.specs.declared.descriptor.Pxd.{Pxd}
 use Rattle.jfs_super.specs.Rules.{blocks_of}
 use Rattle.jfs_volume.specs.plain.specs.Moves.{Same}
-use Rattle.jfs_volume.specs.objects.specs.Readers.{Readers}
-use Rattle.jfs_volume.specs.objects.specs.Volume.{Volume, room}
-use Rattle.jfs_volume.specs.objects.specs.Image.{area_on, file_page, is_block_used}
-use Rattle.jfs_volume.specs.objects.specs.Objects.{Object, objects}
-use Rattle.jfs_volume.specs.objects.specs.Owners.{owners, holds, run_has, extents_have, sum_below, bit, IsSound}
-use Rattle.jfs_volume.specs.objects.specs.Changes.{WritesData}
-use Rattle.jfs_volume.specs.objects.proofs.Data.{data_law}
-use Rattle.jfs_volume.specs.objects.proofs.Sums.{sum_same}
-use Rattle.jfs_volume.specs.meaning.specs.Readers.{readers}
-use Rattle.jfs_volume.specs.meaning.specs.Contents.{byte_in}
-use Rattle.jfs_volume.specs.meaning.specs.Node.{node_in}
-use Rattle.jfs_volume.specs.meaning.specs.Tree.{node_on, byte_on, tree_on}
-use Rattle.jfs_volume.specs.meaning.specs.Consistent.{IsConsistent}
-use Rattle.jfs_volume.specs.meaning.specs.Image as meaning
-use Rattle.jfs_volume.specs.meaning.proofs.Changed.{data_tree}
-use Rattle.jfs_volume.specs.meaning.proofs.Same.{same_consistent}
-use Rattle.jfs_mount.specs.Subject.{subject_of}
-use Rattle.jfs_volume.specs.way.specs.Volume.{volume_of}
+use Rattle.jfs_findings.specs.objects.specs.Readers.{Readers}
+use Rattle.jfs_findings.specs.objects.specs.Volume.{Volume, room}
+use Rattle.jfs_findings.specs.objects.specs.Image.{area_on, file_page, is_block_used}
+use Rattle.jfs_findings.specs.objects.specs.Objects.{Object, objects}
+use Rattle.jfs_findings.specs.objects.specs.Owners.{owners, holds, run_has, extents_have, sum_below, bit, IsSound}
+use Rattle.jfs_findings.specs.objects.specs.Changes.{WritesData}
+use Rattle.jfs_findings.specs.objects.proofs.Data.{data_law}
+use Rattle.jfs_findings.specs.objects.proofs.Sums.{sum_same}
+use Rattle.jfs_findings.specs.meaning.specs.Readers.{readers}
+use Rattle.jfs_findings.specs.meaning.specs.Contents.{byte_in}
+use Rattle.jfs_findings.specs.meaning.specs.Node.{node_in}
+use Rattle.jfs_findings.specs.meaning.specs.Tree.{node_on, byte_on, tree_on}
+use Rattle.jfs_findings.specs.meaning.specs.Consistent.{IsConsistent}
+use Rattle.jfs_findings.specs.meaning.specs.Image as meaning
+use Rattle.jfs_findings.specs.meaning.proofs.Changed.{data_tree}
+use Rattle.jfs_findings.specs.meaning.proofs.Same.{same_consistent}
+use Rattle.jfs_findings.specs.mount_rules.specs.Subject.{subject_of}
+use Rattle.jfs_mount_maps.specs.way.specs.Volume.{volume_of}
 use Rattle.jfs_mount_maps.specs.Maps.{blocks_on, inodes_on}
 use Rattle.jfs_mount_maps.proofs.Joined.{volume_is}
 use Rattle.jfs_mounted.specs.Laws.{MarkedLaw}

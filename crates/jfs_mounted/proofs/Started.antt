@@ -7,8 +7,8 @@ use Rattle.jfs_disk.specs.Moment.{IsResting}
 use Rattle.jfs_disk.proofs.Flow.{crash-resting}
 use Rattle.jfs_super.specs.Rules.{blocks_of}
 use Rattle.jfs_super.specs.declared.fields.Super.{Super}
-use Rattle.jfs_volume.specs.bmap.specs.States.{Blocks}
-use Rattle.jfs_volume.specs.imap.specs.Inodes.{Inodes}
+use Rattle.jfs_mount_maps.specs.bmap.specs.States.{Blocks}
+use Rattle.jfs_mount_maps.specs.imap.specs.Inodes.{Inodes}
 use Rattle.jfs_pages.specs.declared.kept.Kept.{Kept}
 use Rattle.jfs_pages.specs.Kept.{shown, image_in}
 use Rattle.jfs_logfmt.specs.Written.{text_of}
@@ -22,10 +22,10 @@ use Rattle.jfs_volume.proofs.Stand.{image-at, length-image}
 use Rattle.jfs_disk.specs.declared.disk.Disk.{Ghosts}
 use Rattle.jfs_disk.specs.declared.disk.Fault.{Fault}
 use Rattle.jfs_disk.specs.declared.disk.Part.TheVariants.{Whole}
-use Rattle.jfs_volume.specs.meaning.specs.Image.{IsConsistentImage}
-use Rattle.jfs_mount.specs.Subject.{subject_of}
+use Rattle.jfs_findings.specs.meaning.specs.Image.{IsConsistentImage}
+use Rattle.jfs_findings.specs.mount_rules.specs.Subject.{subject_of}
 use Rattle.jfs_super.specs.declared.fields.Geometry.{Geometry}
-use Rattle.jfs_volume.specs.bmap.specs.MapFile.{pages_of}
+use Rattle.jfs_mount_maps.specs.bmap.specs.MapFile.{pages_of}
 use Rattle.jfs_map_files.specs.Files.{AreFilesOf}
 use Rattle.jfs_mount_maps.specs.Maps.{blocks_on, AreAtRest, AreMapsOf, CarriesMaps}
 use Rattle.jfs_mount_maps.specs.declared.found.FoundMaps.{FoundMaps}

@@ -4,9 +4,9 @@ use Rattle.jfs_disk.specs.Image.{Image, page_of}
 use Rattle.jfs_super.specs.Rules.{blocks_of}
 use Rattle.jfs_super.specs.declared.fields.Super.{Super}
 use Rattle.jfs_volume.specs.plain.specs.Moves.{Same}
-use Rattle.jfs_volume.specs.meaning.specs.Image.{tree_of, IsConsistentImage}
-use Rattle.jfs_mount.specs.Subject.{subject_of}
-use Rattle.jfs_mount.specs.Mount.{broken_mount}
+use Rattle.jfs_findings.specs.meaning.specs.Image.{tree_of, IsConsistentImage}
+use Rattle.jfs_findings.specs.mount_rules.specs.Subject.{subject_of}
+use Rattle.jfs_findings.specs.mount_rules.specs.Mount.{broken_mount}
 use Rattle.jfs_mount_disk.specs.Begun.{marked, IsPartlyMarked}
 
 -- the arrays of a superblock have their lengths

@@ -2,16 +2,16 @@
 use Rattle.std.specs.Prelude.{◌≡◌, ◌<◌, ℕ, List}
 use Rattle.jfs_super.specs.Rules.{blocks_of}
 use Rattle.jfs_super.specs.declared.fields.Super.{Super}
-use Rattle.jfs_volume.specs.imap.specs.Inodes.{Inodes}
-use Rattle.jfs_volume.specs.bmap.specs.States.{Blocks}
+use Rattle.jfs_mount_maps.specs.imap.specs.Inodes.{Inodes}
+use Rattle.jfs_mount_maps.specs.bmap.specs.States.{Blocks}
 use Rattle.jfs_volume.specs.plain.specs.Moves.{Same}
-use Rattle.jfs_volume.specs.meaning.specs.Readers.{readers}
-use Rattle.jfs_volume.specs.meaning.specs.Consistent.{IsConsistent}
-use Rattle.jfs_volume.specs.meaning.specs.Image.{tree_of, IsConsistentImage}
-use Rattle.jfs_volume.specs.meaning.specs.Image as meaning
-use Rattle.jfs_mount.specs.Subject.{subject_of}
-use Rattle.jfs_volume.specs.way.specs.Volume.{volume_of}
-use Rattle.jfs_volume.specs.way.specs.Walk.{tree_in}
+use Rattle.jfs_findings.specs.meaning.specs.Readers.{readers}
+use Rattle.jfs_findings.specs.meaning.specs.Consistent.{IsConsistent}
+use Rattle.jfs_findings.specs.meaning.specs.Image.{tree_of, IsConsistentImage}
+use Rattle.jfs_findings.specs.meaning.specs.Image as meaning
+use Rattle.jfs_findings.specs.mount_rules.specs.Subject.{subject_of}
+use Rattle.jfs_mount_maps.specs.way.specs.Volume.{volume_of}
+use Rattle.jfs_mount_maps.specs.way.specs.Walk.{tree_in}
 use Rattle.jfs_mount_maps.specs.Maps.{blocks_on, inodes_on}
 
 -- These pages and maps are a consistent volume with the image's areas, and have its tree.

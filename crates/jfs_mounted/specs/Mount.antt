@@ -9,11 +9,11 @@ use Rattle.jfs_super.specs.Super.{super_of}
 use Rattle.jfs_super.specs.Geometry.{geometry_of}
 use Rattle.jfs_super.specs.declared.fields.Super.{Super}
 use Rattle.jfs_super.specs.declared.fields.TheConstants.VolumeState.{MOUNTED}
-use Rattle.jfs_volume.specs.bmap.specs.States.{Blocks}
-use Rattle.jfs_volume.specs.imap.specs.Inodes.{Inodes}
-use Rattle.jfs_volume.specs.meaning.specs.Image.{IsConsistentImage}
-use Rattle.jfs_mount.specs.Subject.{subject_of}
-use Rattle.jfs_mount.specs.Mount.{broken_mount}
+use Rattle.jfs_mount_maps.specs.bmap.specs.States.{Blocks}
+use Rattle.jfs_mount_maps.specs.imap.specs.Inodes.{Inodes}
+use Rattle.jfs_findings.specs.meaning.specs.Image.{IsConsistentImage}
+use Rattle.jfs_findings.specs.mount_rules.specs.Subject.{subject_of}
+use Rattle.jfs_findings.specs.mount_rules.specs.Mount.{broken_mount}
 use Rattle.jfs_mount_maps.specs.Maps.{AreAtRest, AreMapsOf}
 use Rattle.jfs_mount_maps.specs.declared.found.FoundMaps.{FoundMaps}
 use Rattle.jfs_mount_maps.specs.declared.found.MapsError.{MapsError}

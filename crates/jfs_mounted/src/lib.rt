@@ -10,3 +10,9 @@ pub use law::{
 };
 pub use mounted::{MountError, MountRefused, Mounted};
 pub use mounting::mount;
+
+pub mod mount_maps {
+    //! Passed on from `jfs_mount_maps`.
+
+    pub use jfs_mount_maps::{FoundMaps, MapsError, find_maps_on};
+}

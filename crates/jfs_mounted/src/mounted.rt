@@ -3,8 +3,8 @@
 ghost use Rattle.std.specs.Prelude.{◌≡◌};
 
 use jfs_disk::{Disk, Fault};
+use jfs_findings::mount_rules::BadMount;
 use jfs_logpages::LogSide;
-use jfs_mount::BadMount;
 use jfs_volume::Volume;
 
 /// A volume that is mounted: its pages before the log, and its log. Both halves are of one mount.

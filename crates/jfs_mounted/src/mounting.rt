@@ -1,7 +1,7 @@
 //! A volume is mounted.
 
 ghost use Rattle.std.specs.Prelude.{◌≡◌, ◌≤◌, ◌<◌, ◌-◌, ◌+◌, ◌*◌, ◌^◌, [], None, length, take, drop, IfOk, IfErr};
-ghost use Rattle.jfs_volume.specs.bmap.specs.MapFile.{pages_of};
+ghost use Rattle.jfs_mount_maps.specs.bmap.specs.MapFile.{pages_of};
 ghost use Rattle.jfs_map_files.specs.Files.{AreFilesOf};
 ghost use Rattle.jfs_mount_maps.specs.Maps.{IsIdle};
 ghost use Rattle.jfs_disk.specs.Image.{Image, page_of};

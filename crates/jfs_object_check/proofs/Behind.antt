@@ -4,11 +4,11 @@ use Rattle.std.specs.Int.RustNames.{bit_and}
 use Rattle.std.proofs.lemmas.Bool.{ltb-true, lt-ltb, eqb-true, eq-eqb}
 use Rattle.jfs_bits.specs.declared.extent.Dxd.{Dxd}
 use Rattle.jfs_bits.specs.Extent.{FitsDxd}
-use Rattle.jfs_findings.specs.Inodes.{attribute_blocks}
-use Rattle.jfs_findings.specs.Blocks.{IsFirstPast}
-use Rattle.jfs_findings.specs.Gains.{Gains}
-use Rattle.jfs_findings.specs.declared.finding.Finding.{Finding}
-use Rattle.jfs_findings.specs.declared.finding.FindingKind.TheVariants as kinds
+use Rattle.jfs_owners.specs.findings.specs.Inodes.{attribute_blocks}
+use Rattle.jfs_owners.specs.findings.specs.Blocks.{IsFirstPast}
+use Rattle.jfs_owners.specs.findings.specs.Gains.{Gains}
+use Rattle.jfs_owners.specs.findings.specs.declared.finding.Finding.{Finding}
+use Rattle.jfs_owners.specs.findings.specs.declared.finding.FindingKind.TheVariants as kinds
 use Rattle.jfs_object_check.specs.Steps.{IsBehind, Only}
 use Rattle.jfs_object_check.proofs.Found.{gains_as}
 

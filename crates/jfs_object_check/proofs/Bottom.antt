@@ -11,8 +11,8 @@ use Rattle.jfs_tree.specs.Spells.{no_page, with_root, top, tree_of, spells}
 use Rattle.jfs_tree.specs.Levels.{pages_below, level}
 use Rattle.jfs_tree.proofs.Spelled.{stands}
 use Rattle.jfs_xtree.specs.Node.{xt_scale}
-use Rattle.jfs_findings.specs.objects.specs.Objects.{met}
-use Rattle.jfs_findings.specs.objects.specs.Owners.{run_has, covers}
+use Rattle.jfs_owners.specs.objects.specs.Objects.{met}
+use Rattle.jfs_owners.specs.objects.specs.Owners.{run_has, covers}
 use Rattle.jfs_owners.specs.Counts.{page_has}
 use Rattle.jfs_owners.proofs.Walked.{no_pages}
 use Rattle.jfs_object_check.specs.Lines.{rows_have, line_has, levels_have}

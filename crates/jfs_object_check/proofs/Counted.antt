@@ -11,7 +11,7 @@ use Rattle.jfs_tree.specs.Spells.{no_page}
 use Rattle.jfs_tree.specs.Walking.{Meets, Stops}
 use Rattle.jfs_tree.specs.declared.form.TreeError.{TreeError}
 use Rattle.jfs_tree.specs.declared.form.TreeError.TheVariants.{View, Bad, Memory}
-use Rattle.jfs_findings.specs.Inodes.{blocks_in, pages_met}
+use Rattle.jfs_owners.specs.findings.specs.Inodes.{blocks_in, pages_met}
 use Rattle.jfs_object_check.specs.declared.tally.Tally.{Tally}
 use Rattle.jfs_object_check.specs.Tally.{less, with_page, with_extent, with_pages, with_tree}
 

@@ -15,11 +15,11 @@ use Rattle.jfs_tree.specs.Spells.{footprint, tree_of}
 use Rattle.jfs_tree.specs.Fresh.{HasPages}
 use Rattle.jfs_tree.proofs.Judge.{judged}
 use Rattle.jfs_tree.proofs.Within.{footprint_within}
-use Rattle.jfs_findings.specs.objects.specs.Objects.{met, listed}
-use Rattle.jfs_findings.specs.objects.specs.Owners.{unless_broken, entries, covers}
-use Rattle.jfs_findings.specs.meaning.specs.Readers.{root_of}
-use Rattle.jfs_findings.specs.mount_rules.proofs.Range.{HasRows, tree_rows}
-use Rattle.jfs_findings.proofs.Fixed.{none_covered}
+use Rattle.jfs_owners.specs.objects.specs.Objects.{met, listed}
+use Rattle.jfs_owners.specs.objects.specs.Owners.{unless_broken, entries, covers}
+use Rattle.jfs_owners.specs.meaning.specs.Readers.{root_of}
+use Rattle.jfs_owners.specs.mount_rules.proofs.Range.{HasRows, tree_rows}
+use Rattle.jfs_owners.specs.findings.proofs.Fixed.{none_covered}
 
 -- no page behind the end is met below a root
 pub none_met : {P E : Type 0} (s : Scale P E) (pages : ℕ → Node P E) (root : Node P E) (b blocks : ℕ) → HasPages blocks root → ((m : ℕ) → HasPages blocks (pages m)) → blocks ≤ b → met (tree_of s pages root) b ≡ 0

@@ -15,16 +15,16 @@ use Rattle.jfs_dtree.specs.Node.{name_scale, dt_node}
 use Rattle.jfs_dtree.proofs.Roots as dt
 use Rattle.jfs_xtree.specs.Node.{xt_scale}
 use Rattle.jfs_tree.specs.Spells.{tree_of}
-use Rattle.jfs_findings.specs.objects.specs.Objects.{Object, has_names, has_extents, names_of, extents_of, spelled, listed, met}
-use Rattle.jfs_findings.specs.objects.specs.Owners.{unless_broken, entries, covers, run_has, tree_held}
-use Rattle.jfs_findings.specs.meaning.specs.Readers.{readers, root_of}
-use Rattle.jfs_findings.specs.Inodes.{pages_met, blocks_in, attribute_blocks, blocks_owned, is_past}
-use Rattle.jfs_findings.specs.Blocks.{HasRun, of_trees, of_data, of_attributes, IsFirstPast}
-use Rattle.jfs_findings.proofs.Runs.{in_run, covers_run, past_first}
-use Rattle.jfs_findings.specs.Gains.{Gains}
-use Rattle.jfs_findings.specs.declared.finding.Finding.{Finding}
-use Rattle.jfs_findings.specs.declared.finding.FindingKind.{FindingKind}
-use Rattle.jfs_findings.specs.declared.finding.FindingKind.TheVariants as kinds
+use Rattle.jfs_owners.specs.objects.specs.Objects.{Object, has_names, has_extents, names_of, extents_of, spelled, listed, met}
+use Rattle.jfs_owners.specs.objects.specs.Owners.{unless_broken, entries, covers, run_has, tree_held}
+use Rattle.jfs_owners.specs.meaning.specs.Readers.{readers, root_of}
+use Rattle.jfs_owners.specs.findings.specs.Inodes.{pages_met, blocks_in, attribute_blocks, blocks_owned, is_past}
+use Rattle.jfs_owners.specs.findings.specs.Blocks.{HasRun, of_trees, of_data, of_attributes, IsFirstPast}
+use Rattle.jfs_owners.specs.findings.proofs.Runs.{in_run, covers_run, past_first}
+use Rattle.jfs_owners.specs.findings.specs.Gains.{Gains}
+use Rattle.jfs_owners.specs.findings.specs.declared.finding.Finding.{Finding}
+use Rattle.jfs_owners.specs.findings.specs.declared.finding.FindingKind.{FindingKind}
+use Rattle.jfs_owners.specs.findings.specs.declared.finding.FindingKind.TheVariants as kinds
 use Rattle.jfs_object_check.proofs.Ends.{none_met, unless_zero, walk_in, pages_end, data_end}
 use Rattle.jfs_object_check.specs.declared.tally.Tally.{Tally}
 use Rattle.jfs_object_check.specs.Object.{SaysOf, IsOf}

@@ -8,11 +8,11 @@ use Rattle.jfs_tree.specs.Spells.{tree_of, spells}
 use Rattle.jfs_tree.specs.Walking.{NamesFirst}
 use Rattle.jfs_tree.specs.declared.form.TreeError.{TreeError}
 use Rattle.jfs_tree.specs.declared.form.TreeError.TheVariants.{View, Bad, Memory}
-use Rattle.jfs_findings.specs.objects.specs.Objects.{listed}
-use Rattle.jfs_findings.specs.mount_rules.specs.Subject.{page_named}
-use Rattle.jfs_findings.specs.Gains.{Gains}
-use Rattle.jfs_findings.specs.declared.finding.Finding.{Finding}
-use Rattle.jfs_findings.specs.declared.finding.FindingKind.{FindingKind}
+use Rattle.jfs_owners.specs.objects.specs.Objects.{listed}
+use Rattle.jfs_owners.specs.mount_rules.specs.Subject.{page_named}
+use Rattle.jfs_owners.specs.findings.specs.Gains.{Gains}
+use Rattle.jfs_owners.specs.findings.specs.declared.finding.Finding.{Finding}
+use Rattle.jfs_owners.specs.findings.specs.declared.finding.FindingKind.{FindingKind}
 use Rattle.jfs_object_check.specs.Steps.{Only, IsBroken, EndsAs, Settles, IsSound}
 
 -- ---- growing lists

@@ -3,10 +3,10 @@ use Rattle.std.proofs.Common.{◌≡◌, refl, subst, ℕ, true, false, List, Re
 use Rattle.std.specs.Prelude.{OnOk}
 use Rattle.jfs_inode.specs.declared.fields.Dinode.{Dinode}
 use Rattle.jfs_ranges.specs.declared.view.ViewError.{ViewError}
-use Rattle.jfs_findings.specs.objects.specs.Objects.{has_extents}
-use Rattle.jfs_findings.specs.meaning.specs.Readers.{root_of}
-use Rattle.jfs_findings.specs.Gains.{Gains}
-use Rattle.jfs_findings.specs.declared.finding.Finding.{Finding}
+use Rattle.jfs_owners.specs.objects.specs.Objects.{has_extents}
+use Rattle.jfs_owners.specs.meaning.specs.Readers.{root_of}
+use Rattle.jfs_owners.specs.findings.specs.Gains.{Gains}
+use Rattle.jfs_owners.specs.findings.specs.declared.finding.Finding.{Finding}
 use Rattle.jfs_owners.specs.Counts.{OwnerSets, Adds}
 use Rattle.jfs_owners.proofs.Counted.{adds_none, adds_same}
 use Rattle.jfs_object_check.specs.Lines.{Tells, IsThinAbove, IsThinLevel, tree_nodes, levels_have, inode_has}

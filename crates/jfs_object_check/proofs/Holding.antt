@@ -16,9 +16,9 @@ use Rattle.jfs_tree.proofs.Tops.{root_else}
 use Rattle.jfs_xtpage.specs.declared.head.XtForm.TheVariants as forms
 use Rattle.jfs_xtree.specs.Node.{xt_scale, xt_node}
 use Rattle.jfs_xtree.specs.Spells.{page_nodes}
-use Rattle.jfs_findings.specs.objects.specs.Objects.{met, listed, has_extents, extents_of}
-use Rattle.jfs_findings.specs.objects.specs.Owners.{covers, run_has, unless_broken, entries}
-use Rattle.jfs_findings.specs.meaning.specs.Readers.{readers, root_of}
+use Rattle.jfs_owners.specs.objects.specs.Objects.{met, listed, has_extents, extents_of}
+use Rattle.jfs_owners.specs.objects.specs.Owners.{covers, run_has, unless_broken, entries}
+use Rattle.jfs_owners.specs.meaning.specs.Readers.{readers, root_of}
 use Rattle.jfs_owners.specs.Counts.{OwnerSets, Adds, page_has}
 use Rattle.jfs_owners.specs.Held.{extents_held}
 use Rattle.jfs_owners.proofs.Counted.{adds_same, adds_both, adds_no_page}

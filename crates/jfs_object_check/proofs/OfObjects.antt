@@ -3,13 +3,13 @@ use Rattle.std.proofs.Common.{◌≡◌, ◌⊎◌, inl, inr, refl, sym, subst, 
 use Rattle.jfs_bits.specs.Broken.{first_broken}
 use Rattle.jfs_inode.specs.declared.read.BadInode.{BadInode}
 use Rattle.jfs_inode.specs.Rules.{rows}
-use Rattle.jfs_findings.specs.objects.specs.Objects.{Object}
-use Rattle.jfs_findings.specs.mount_rules.specs.Subject.{Subject, blocks, IsObject}
-use Rattle.jfs_findings.specs.Trees.{BreaksExtents, of_object, of_file}
-use Rattle.jfs_findings.specs.Findings.{Says}
-use Rattle.jfs_findings.specs.declared.finding.Finding.{Finding}
-use Rattle.jfs_findings.specs.declared.finding.FindingKind.{FindingKind}
-use Rattle.jfs_findings.specs.declared.finding.FindingKind.TheVariants as kinds
+use Rattle.jfs_owners.specs.objects.specs.Objects.{Object}
+use Rattle.jfs_owners.specs.mount_rules.specs.Subject.{Subject, blocks, IsObject}
+use Rattle.jfs_owners.specs.findings.specs.Trees.{BreaksExtents, of_object, of_file}
+use Rattle.jfs_owners.specs.findings.specs.Findings.{Says}
+use Rattle.jfs_owners.specs.findings.specs.declared.finding.Finding.{Finding}
+use Rattle.jfs_owners.specs.findings.specs.declared.finding.FindingKind.{FindingKind}
+use Rattle.jfs_owners.specs.findings.specs.declared.finding.FindingKind.TheVariants as kinds
 use Rattle.jfs_object_check.specs.Object.{SaysOf}
 use Rattle.jfs_object_check.specs.Laws.{IsOfSome, IsOfFile, ObjectsLaw, is_of_objects}
 

@@ -1,11 +1,11 @@
 -- The findings of this kind, over all objects.
 use Rattle.std.proofs.Common.{◌≡◌, refl, sym, subst, ℕ}
-use Rattle.jfs_findings.specs.objects.specs.Objects.{Object}
-use Rattle.jfs_findings.specs.mount_rules.specs.Subject.{Subject, IsObject}
-use Rattle.jfs_findings.specs.Trees.{IsThin}
-use Rattle.jfs_findings.specs.Findings.{Says}
-use Rattle.jfs_findings.specs.declared.finding.Finding.{Finding}
-use Rattle.jfs_findings.specs.declared.finding.FindingKind.TheVariants as kinds
+use Rattle.jfs_owners.specs.objects.specs.Objects.{Object}
+use Rattle.jfs_owners.specs.mount_rules.specs.Subject.{Subject, IsObject}
+use Rattle.jfs_owners.specs.findings.specs.Trees.{IsThin}
+use Rattle.jfs_owners.specs.findings.specs.Findings.{Says}
+use Rattle.jfs_owners.specs.findings.specs.declared.finding.Finding.{Finding}
+use Rattle.jfs_owners.specs.findings.specs.declared.finding.FindingKind.TheVariants as kinds
 use Rattle.jfs_object_check.specs.Thin.{HasThin, IsThinOfSome, ThinLaw}
 
 thin_is : (s : Subject) (n at : ℕ) (o : Object) (page : ℕ) → IsObject s n at o → HasThin s.readers s.page at o page → IsThin s page n

@@ -17,12 +17,12 @@ use Rattle.jfs_xtpage.specs.declared.head.XtForm.TheVariants as forms
 use Rattle.jfs_xtree.specs.Node.{xt_scale, xt_node}
 use Rattle.jfs_xtree.specs.Spells.{page_nodes}
 use Rattle.jfs_xtree.proofs.Adds.{has_pages}
-use Rattle.jfs_findings.specs.objects.specs.Objects.{has_extents, extents_of, listed, spelled}
-use Rattle.jfs_findings.specs.meaning.specs.Readers.{readers, root_of}
-use Rattle.jfs_findings.specs.mount_rules.specs.Subject.{page_named}
-use Rattle.jfs_findings.specs.Gains.{Gains}
-use Rattle.jfs_findings.specs.declared.finding.Finding.{Finding}
-use Rattle.jfs_findings.specs.declared.finding.FindingKind.TheVariants as kinds
+use Rattle.jfs_owners.specs.objects.specs.Objects.{has_extents, extents_of, listed, spelled}
+use Rattle.jfs_owners.specs.meaning.specs.Readers.{readers, root_of}
+use Rattle.jfs_owners.specs.mount_rules.specs.Subject.{page_named}
+use Rattle.jfs_owners.specs.findings.specs.Gains.{Gains}
+use Rattle.jfs_owners.specs.findings.specs.declared.finding.Finding.{Finding}
+use Rattle.jfs_owners.specs.findings.specs.declared.finding.FindingKind.TheVariants as kinds
 use Rattle.jfs_object_check.specs.Steps.{Only}
 use Rattle.jfs_object_check.specs.Thin.{IsThinOf}
 use Rattle.jfs_object_check.specs.Lines.{Tells, IsThinOn, IsThinAbove, tree_nodes}

@@ -10,10 +10,10 @@ use Rattle.jfs_tree.specs.Walk.{rows_of}
 use Rattle.jfs_tree.specs.Spells.{spells}
 use Rattle.jfs_tree.specs.Walking.{Meets, NamesFirst, ended}
 use Rattle.jfs_tree.specs.declared.form.TreeError.{TreeError}
-use Rattle.jfs_findings.specs.objects.specs.Objects.{has_names, has_extents, names_of, extents_of}
-use Rattle.jfs_findings.specs.meaning.specs.Readers.{readers, root_of}
+use Rattle.jfs_owners.specs.objects.specs.Objects.{has_names, has_extents, names_of, extents_of}
+use Rattle.jfs_owners.specs.meaning.specs.Readers.{readers, root_of}
 use Rattle.jfs_owners.specs.Held.{names_walk, extents_walk}
-use Rattle.jfs_findings.specs.Inodes.{pages_met}
+use Rattle.jfs_owners.specs.findings.specs.Inodes.{pages_met}
 use Rattle.jfs_object_check.specs.declared.tally.Tally.{Tally}
 use Rattle.jfs_object_check.specs.Tally.{with_page, with_extent, with_pages, with_tree}
 use Rattle.jfs_object_check.specs.Steps.{EndsAs}

@@ -1,14 +1,14 @@
 -- A look at each object finds what is wrong with a volume's objects.
 use Rattle.std.specs.Prelude.{◌≡◌, ◌⊎◌, ◌+◌, ◌/◌, ℕ, Bool, true, false}
 use Rattle.std.specs.List.{Contains}
-use Rattle.jfs_findings.specs.objects.specs.Objects.{Object}
-use Rattle.jfs_findings.specs.objects.specs.Image.{file_walk}
-use Rattle.jfs_findings.specs.mount_rules.specs.Subject.{Subject, blocks, IsObject}
-use Rattle.jfs_findings.specs.Trees.{files}
-use Rattle.jfs_findings.specs.Findings.{Says}
-use Rattle.jfs_findings.specs.declared.finding.Finding.{Finding}
-use Rattle.jfs_findings.specs.declared.finding.FindingKind.{FindingKind}
-use Rattle.jfs_findings.specs.declared.finding.FindingKind.TheVariants as kinds
+use Rattle.jfs_owners.specs.objects.specs.Objects.{Object}
+use Rattle.jfs_owners.specs.objects.specs.Image.{file_walk}
+use Rattle.jfs_owners.specs.mount_rules.specs.Subject.{Subject, blocks, IsObject}
+use Rattle.jfs_owners.specs.findings.specs.Trees.{files}
+use Rattle.jfs_owners.specs.findings.specs.Findings.{Says}
+use Rattle.jfs_owners.specs.findings.specs.declared.finding.Finding.{Finding}
+use Rattle.jfs_owners.specs.findings.specs.declared.finding.FindingKind.{FindingKind}
+use Rattle.jfs_owners.specs.findings.specs.declared.finding.FindingKind.TheVariants as kinds
 use Rattle.jfs_object_check.specs.Object.{IsOf}
 use Rattle.jfs_object_check.specs.Steps.{IsBroken}
 

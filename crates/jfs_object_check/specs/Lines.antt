@@ -9,12 +9,12 @@ use Rattle.jfs_tree.specs.Walking.{rows_in}
 use Rattle.jfs_xtpage.specs.declared.head.XtForm.TheVariants.{Root}
 use Rattle.jfs_xtree.specs.Node.{xt_node}
 use Rattle.jfs_xtree.specs.Spells.{page_nodes}
-use Rattle.jfs_findings.specs.objects.specs.Objects.{has_extents}
-use Rattle.jfs_findings.specs.objects.specs.Owners.{covers}
-use Rattle.jfs_findings.specs.meaning.specs.Readers.{root_of}
+use Rattle.jfs_owners.specs.objects.specs.Objects.{has_extents}
+use Rattle.jfs_owners.specs.objects.specs.Owners.{covers}
+use Rattle.jfs_owners.specs.meaning.specs.Readers.{root_of}
 use Rattle.jfs_owners.specs.Counts.{page_has}
-use Rattle.jfs_findings.specs.declared.finding.Finding.{Finding}
-use Rattle.jfs_findings.specs.declared.finding.FindingKind.TheVariants as kinds
+use Rattle.jfs_owners.specs.findings.specs.declared.finding.Finding.{Finding}
+use Rattle.jfs_owners.specs.findings.specs.declared.finding.FindingKind.TheVariants as kinds
 
 -- this page of inode `n` is such a one
 abbrev pub Tells : ℕ → (ℕ → Type 0) → Finding → Type 0

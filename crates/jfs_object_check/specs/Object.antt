@@ -6,14 +6,14 @@ use Rattle.jfs_bits.specs.Broken.{first_broken}
 use Rattle.jfs_inode.specs.declared.read.BadInode.{BadInode}
 use Rattle.jfs_inode.specs.Rules.{rows}
 use Rattle.jfs_tree.specs.Walk.{Marks, Scale}
-use Rattle.jfs_findings.specs.objects.specs.Readers.{Readers}
-use Rattle.jfs_findings.specs.objects.specs.Objects.{Object, listed}
-use Rattle.jfs_findings.specs.mount_rules.specs.Subject.{page_named}
-use Rattle.jfs_findings.specs.Inodes.{blocks_owned, is_past}
-use Rattle.jfs_findings.specs.Blocks.{HasRun, IsFirstPast}
-use Rattle.jfs_findings.specs.declared.finding.Finding.{Finding}
-use Rattle.jfs_findings.specs.declared.finding.FindingKind.{FindingKind}
-use Rattle.jfs_findings.specs.declared.finding.FindingKind.TheVariants as kinds
+use Rattle.jfs_owners.specs.objects.specs.Readers.{Readers}
+use Rattle.jfs_owners.specs.objects.specs.Objects.{Object, listed}
+use Rattle.jfs_owners.specs.mount_rules.specs.Subject.{page_named}
+use Rattle.jfs_owners.specs.findings.specs.Inodes.{blocks_owned, is_past}
+use Rattle.jfs_owners.specs.findings.specs.Blocks.{HasRun, IsFirstPast}
+use Rattle.jfs_owners.specs.findings.specs.declared.finding.Finding.{Finding}
+use Rattle.jfs_owners.specs.findings.specs.declared.finding.FindingKind.{FindingKind}
+use Rattle.jfs_owners.specs.findings.specs.declared.finding.FindingKind.TheVariants as kinds
 
 -- A tree, whose root's inode stands on a page, breaks a rule first on this page.
 pub record BreaksOn {P E : Type 0} (order : Scale P E) (marks : Marks P E) (at page : ℕ) : Type 0 where

@@ -8,13 +8,13 @@ use Rattle.jfs_ranges.specs.declared.view.ViewError.TheVariants as view
 use Rattle.jfs_tree.specs.Walk.{Marks, Scale, rows_of}
 use Rattle.jfs_tree.specs.declared.form.TreeError.{TreeError}
 use Rattle.jfs_tree.specs.declared.form.TreeError.TheVariants.{View, Bad, Memory}
-use Rattle.jfs_findings.specs.objects.specs.Objects.{listed}
-use Rattle.jfs_findings.specs.mount_rules.specs.Subject.{page_named}
-use Rattle.jfs_findings.specs.Blocks.{IsFirstPast}
-use Rattle.jfs_findings.specs.Gains.{Gains}
-use Rattle.jfs_findings.specs.declared.finding.Finding.{Finding}
-use Rattle.jfs_findings.specs.declared.finding.FindingKind.{FindingKind}
-use Rattle.jfs_findings.specs.declared.finding.FindingKind.TheVariants as kinds
+use Rattle.jfs_owners.specs.objects.specs.Objects.{listed}
+use Rattle.jfs_owners.specs.mount_rules.specs.Subject.{page_named}
+use Rattle.jfs_owners.specs.findings.specs.Blocks.{IsFirstPast}
+use Rattle.jfs_owners.specs.findings.specs.Gains.{Gains}
+use Rattle.jfs_owners.specs.findings.specs.declared.finding.Finding.{Finding}
+use Rattle.jfs_owners.specs.findings.specs.declared.finding.FindingKind.{FindingKind}
+use Rattle.jfs_owners.specs.findings.specs.declared.finding.FindingKind.TheVariants as kinds
 use Rattle.jfs_object_check.specs.Object.{BreaksOn}
 
 -- this finding, where something is so

@@ -5,7 +5,7 @@ use Rattle.std.specs.List.{list_any}
 use Rattle.jfs_bits.specs.declared.extent.Xad.{Xad}
 use Rattle.jfs_inode.specs.declared.fields.Dinode.{Dinode}
 use Rattle.jfs_tree.specs.Spells.{no_page}
-use Rattle.jfs_findings.specs.Inodes.{blocks_in}
+use Rattle.jfs_owners.specs.findings.specs.Inodes.{blocks_in}
 use Rattle.jfs_object_check.specs.declared.tally.Tally.{Tally}
 
 -- so many blocks less; there is no number of blocks left where that were below none

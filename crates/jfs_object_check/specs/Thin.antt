@@ -3,12 +3,12 @@ use Rattle.std.specs.Prelude.{◌≡◌, ℕ, true, List, Ok}
 use Rattle.jfs_bits.specs.declared.extent.Xad.{Xad}
 use Rattle.jfs_tree.specs.Levels.{IsThinIn}
 use Rattle.jfs_tree.specs.Spells.{with_root}
-use Rattle.jfs_findings.specs.objects.specs.Readers.{Readers}
-use Rattle.jfs_findings.specs.objects.specs.Objects.{Object, has_extents, listed}
-use Rattle.jfs_findings.specs.mount_rules.specs.Subject.{Subject, IsObject, page_named}
-use Rattle.jfs_findings.specs.Findings.{Says}
-use Rattle.jfs_findings.specs.declared.finding.Finding.{Finding}
-use Rattle.jfs_findings.specs.declared.finding.FindingKind.TheVariants as kinds
+use Rattle.jfs_owners.specs.objects.specs.Readers.{Readers}
+use Rattle.jfs_owners.specs.objects.specs.Objects.{Object, has_extents, listed}
+use Rattle.jfs_owners.specs.mount_rules.specs.Subject.{Subject, IsObject, page_named}
+use Rattle.jfs_owners.specs.findings.specs.Findings.{Says}
+use Rattle.jfs_owners.specs.findings.specs.declared.finding.Finding.{Finding}
+use Rattle.jfs_owners.specs.findings.specs.declared.finding.FindingKind.TheVariants as kinds
 
 -- The object's extent tree, which breaks no rule, has this page, with few entries, and it isn't the last of its level.
 pub record HasThin (r : Readers) (pages : ℕ → List ℕ) (at : ℕ) (o : Object) (page : ℕ) : Type 0 where

@@ -2,13 +2,13 @@
 
 ghost use Rattle.std.specs.Prelude.{◌≡◌, OnOk};
 ghost use Rattle.jfs_bits.specs.Extent.{FitsDxd};
-ghost use Rattle.jfs_findings.specs.Gains.{Gains};
-ghost use Rattle.jfs_findings.specs.Inodes.{attribute_blocks};
+ghost use Rattle.jfs_owners.specs.findings.specs.Gains.{Gains};
+ghost use Rattle.jfs_owners.specs.findings.specs.Inodes.{attribute_blocks};
 ghost use Rattle.jfs_object_check.specs.Steps.{IsBehind};
 
 use crate::note::note_if;
 use jfs_bits::Dxd;
-use jfs_findings::{Finding, FindingKind};
+use jfs_owners::findings::{Finding, FindingKind};
 use std::alloc::AllocError;
 
 /// The number of blocks of a run of attributes.

@@ -12,9 +12,9 @@ ghost use Rattle.jfs_xtpage.specs.Page.{bytes_of};
 ghost use Rattle.jfs_xtpage.specs.declared.head.XtForm.TheVariants.{Root};
 ghost use Rattle.jfs_xtree.specs.Node.{xt_scale};
 ghost use Rattle.jfs_xtree.specs.Spells.{page_nodes};
-ghost use Rattle.jfs_findings.specs.objects.specs.Objects.{extents_of, listed, spelled};
-ghost use Rattle.jfs_findings.specs.meaning.specs.Readers.{readers};
-ghost use Rattle.jfs_findings.specs.Gains.{Gains};
+ghost use Rattle.jfs_owners.specs.objects.specs.Objects.{extents_of, listed, spelled};
+ghost use Rattle.jfs_owners.specs.meaning.specs.Readers.{readers};
+ghost use Rattle.jfs_owners.specs.findings.specs.Gains.{Gains};
 ghost use Rattle.jfs_owners.specs.Counts.{Adds};
 ghost use Rattle.jfs_owners.specs.Held.{extents_held};
 ghost use Rattle.jfs_object_check.specs.Thin.{IsThinOf};
@@ -22,11 +22,11 @@ ghost use Rattle.jfs_object_check.specs.Lines.{Tells, IsThinOn, IsThinAbove, IsT
 
 use crate::nodes::{count_node, count_page};
 use crate::note::note_if;
-use jfs_findings::{Finding, FindingKind};
 use jfs_inode::Dinode;
 use jfs_owners::Owners;
+use jfs_owners::findings::{Finding, FindingKind};
+use jfs_owners::reader::{has_extents, root_in};
 use jfs_ranges::{PageView, ViewError};
-use jfs_reader::{has_extents, root_in};
 use jfs_xtpage::XtForm;
 use jfs_xtree::XtPages;
 use std::alloc::Global;

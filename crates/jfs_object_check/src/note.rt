@@ -1,10 +1,10 @@
 //! One finding.
 
 ghost use Rattle.std.specs.Prelude.{◌≡◌, true, OnOk};
-ghost use Rattle.jfs_findings.specs.Gains.{Gains};
+ghost use Rattle.jfs_owners.specs.findings.specs.Gains.{Gains};
 ghost use Rattle.jfs_object_check.specs.Steps.{Only};
 
-use jfs_findings::{Finding, FindingKind};
+use jfs_owners::findings::{Finding, FindingKind};
 use std::alloc::AllocError;
 
 /// Adds a finding where something is so.

@@ -10,8 +10,8 @@ ghost use Rattle.jfs_owners.specs.Held.{areas_have};
 
 use crate::owners::Owners;
 use jfs_bits::Pxd;
+use jfs_findings::reader::aggregate_root;
 use jfs_ranges::{PageView, ViewError};
-use jfs_reader::aggregate_root;
 
 /// The superblocks and the aggregate's inode table and map: pages 0 to 15. (JFS Layout.)
 const FRONT: Pxd = Pxd { len: 16, addr: 0 };

@@ -11,9 +11,9 @@ ghost use Rattle.jfs_owners.specs.Held.{extents_held, names_held, attributes_of}
 
 use crate::owners::Owners;
 use jfs_bits::Dxd;
+use jfs_findings::reader::{has_extents, has_names, root_in};
 use jfs_inode::Dinode;
 use jfs_ranges::{PageView, ViewError};
-use jfs_reader::{has_extents, has_names, root_in};
 
 impl Owners {
     /// Counts what an object holds: the pages of its tree and the blocks of its extents, where the tree breaks no rule, and the runs of its attributes.

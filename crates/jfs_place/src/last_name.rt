@@ -12,7 +12,7 @@ use jfs_imap::InodeMap;
 use jfs_name::Name;
 use jfs_plain::Refusal;
 use jfs_ranges::PageView;
-use jfs_reader::has_names;
+use jfs_way::reader::has_names;
 use jfs_way::{Held, enter, walk};
 
 /// The directory in which the last name of a path stands or could stand, and that name. `Exists` for the root, whose path has no name; else a refusal is that of the names before the

@@ -20,9 +20,9 @@ use Rattle.jfs_xtree.specs.Node.{xt_scale, xt_node, is_within, all_within}
 use Rattle.jfs_xtree.specs.Spells.{page_nodes, root_node, root_form, point, found_for, spells_extents}
 use Rattle.jfs_xtree.proofs.Reading.{and_true, leaf_is}
 use Rattle.jfs_way.specs.objects.specs.Contents.{block_of, block_in}
-use Rattle.jfs_reader.specs.Reading.{PageIs, IsPast}
-use Rattle.jfs_reader.specs.declared.error.ReadError.{ReadError}
-use Rattle.jfs_reader.specs.declared.error.ReadError.TheVariants.{View, Outside}
+use Rattle.jfs_way.specs.reader.specs.Reading.{PageIs, IsPast}
+use Rattle.jfs_way.specs.reader.specs.declared.error.ReadError.{ReadError}
+use Rattle.jfs_way.specs.reader.specs.declared.error.ReadError.TheVariants.{View, Outside}
 use Rattle.jfs_read.specs.Read.{block_by}
 
 -- ---- it lies within the volume

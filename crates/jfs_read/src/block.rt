@@ -15,9 +15,9 @@ ghost use Rattle.jfs_read.specs.Read.{block_by, byte_on_way, unless_bad, extents
 use jfs_bits::{Blob, Rule, Xad};
 use jfs_plain::Refusal;
 use jfs_ranges::{PageView, ViewError};
-use jfs_reader::{page_of_block, root_in};
 use jfs_tree::NO_PAGE;
 use jfs_way::Held;
+use jfs_way::reader::{page_of_block, root_in};
 use jfs_xtree::{XtError, lookup};
 
 /// A call on the extent tree failed whose root stands in an inode on this page.

@@ -16,7 +16,7 @@ use jfs_inode::Dinode;
 use jfs_name::Name;
 use jfs_plain::Refusal;
 use jfs_ranges::PageView;
-use jfs_reader::{has_names, root_in};
+use jfs_way::reader::{has_names, root_in};
 use jfs_way::{Held, walk};
 use std::alloc::Global;
 

@@ -4,14 +4,14 @@ use Rattle.jfs_bits.specs.declared.extent.Xad.{Xad}
 use Rattle.jfs_bits.specs.declared.rule.Rule.{Rule}
 use Rattle.jfs_disk.specs.Image.{Image, page_of}
 use Rattle.jfs_inode.specs.declared.fields.Dinode.{Dinode}
-use Rattle.jfs_dtree.specs.page_tree.specs.Spells.{spells}
-use Rattle.jfs_dtree.specs.page_tree.specs.Spells as tree
-use Rattle.jfs_dtree.specs.page_tree.specs.Walking.{NamesFirst}
+use Rattle.jfs_meaning.specs.page_tree.specs.Spells.{spells}
+use Rattle.jfs_meaning.specs.page_tree.specs.Spells as tree
+use Rattle.jfs_meaning.specs.page_tree.specs.Walking.{NamesFirst}
 use Rattle.jfs_xtpage.specs.declared.head.XtForm.TheVariants.{Root, Full}
-use Rattle.jfs_xtree.specs.Node.{xt_scale, xt_node}
-use Rattle.jfs_xtree.specs.Spells.{root_node, page_nodes, spells_extents, tree_error}
-use Rattle.jfs_xtree.specs.declared.error.XtError.{XtError}
-use Rattle.jfs_xtree.specs.declared.error.XtError.TheVariants.{View, Bad}
+use Rattle.jfs_meaning.specs.xtree.specs.Node.{xt_scale, xt_node}
+use Rattle.jfs_meaning.specs.xtree.specs.Spells.{root_node, page_nodes, spells_extents, tree_error}
+use Rattle.jfs_meaning.specs.xtree.specs.declared.error.XtError.{XtError}
+use Rattle.jfs_meaning.specs.xtree.specs.declared.error.XtError.TheVariants.{View, Bad}
 use Rattle.jfs_meaning.specs.objects.specs.Objects.{has_extents, extents_of, listed}
 use Rattle.jfs_meaning.specs.Readers.{readers, root_of}
 use Rattle.jfs_reader.specs.Reading.{ExtentsAre}

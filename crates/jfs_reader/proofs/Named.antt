@@ -4,13 +4,13 @@ use Rattle.jfs_bits.specs.declared.rule.Rule.{Rule}
 use Rattle.jfs_disk.specs.Image.{Image, page_of}
 use Rattle.jfs_inode.specs.declared.fields.Dinode.{Dinode}
 use Rattle.jfs_name.specs.declared.name.NameEntry.{NameEntry}
-use Rattle.jfs_dtree.specs.page_tree.specs.Spells.{spells}
-use Rattle.jfs_dtree.specs.page_tree.specs.Spells as tree
+use Rattle.jfs_meaning.specs.page_tree.specs.Spells.{spells}
+use Rattle.jfs_meaning.specs.page_tree.specs.Spells as tree
 use Rattle.jfs_dtpage.specs.declared.head.DtForm.TheVariants.{Root, Full}
-use Rattle.jfs_dtree.specs.Node.{name_scale, dt_node}
-use Rattle.jfs_dtree.specs.Spells.{root_node, page_nodes, spells_names, NamesFirstBroken}
-use Rattle.jfs_dtree.specs.declared.error.DtError.{DtError}
-use Rattle.jfs_dtree.specs.declared.error.DtError.TheVariants.{View, Bad, Exists, Missing, TooDeep}
+use Rattle.jfs_meaning.specs.dtree.specs.Node.{name_scale, dt_node}
+use Rattle.jfs_meaning.specs.dtree.specs.Spells.{root_node, page_nodes, spells_names, NamesFirstBroken}
+use Rattle.jfs_meaning.specs.dtree.specs.declared.error.DtError.{DtError}
+use Rattle.jfs_meaning.specs.dtree.specs.declared.error.DtError.TheVariants.{View, Bad, Exists, Missing, TooDeep}
 use Rattle.jfs_meaning.specs.objects.specs.Objects.{has_names, names_of, listed}
 use Rattle.jfs_meaning.specs.Readers.{readers, root_of}
 use Rattle.jfs_reader.specs.Reading.{NamesAre}

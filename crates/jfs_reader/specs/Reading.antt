@@ -5,10 +5,10 @@ use Rattle.jfs_bits.specs.declared.rule.Rule.{Rule}
 use Rattle.jfs_disk.specs.declared.disk.Fault.{Fault}
 use Rattle.jfs_ranges.specs.View.{CarriesCount}
 use Rattle.jfs_name.specs.declared.name.NameEntry.{NameEntry}
-use Rattle.jfs_dtree.specs.declared.error.DtError.{DtError}
-use Rattle.jfs_dtree.specs.declared.error.DtError.TheVariants as names
-use Rattle.jfs_xtree.specs.declared.error.XtError.{XtError}
-use Rattle.jfs_xtree.specs.declared.error.XtError.TheVariants as tree
+use Rattle.jfs_meaning.specs.dtree.specs.declared.error.DtError.{DtError}
+use Rattle.jfs_meaning.specs.dtree.specs.declared.error.DtError.TheVariants as names
+use Rattle.jfs_meaning.specs.xtree.specs.declared.error.XtError.{XtError}
+use Rattle.jfs_meaning.specs.xtree.specs.declared.error.XtError.TheVariants as tree
 use Rattle.jfs_reader.specs.declared.error.ReadError.{ReadError}
 use Rattle.jfs_reader.specs.declared.error.ReadError.TheVariants.{View, Outside}
 

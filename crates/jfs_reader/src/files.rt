@@ -3,8 +3,8 @@
 ghost use Rattle.std.specs.Prelude.{◌≡◌, ◌<◌, ◌≤◌, ◌/◌, ◌%◌, ◌+◌, IfOk, length};
 ghost use Rattle.jfs_disk.specs.Image.{page_of};
 ghost use Rattle.jfs_ranges.specs.View.{CarriesCount};
-ghost use Rattle.jfs_xtree.specs.Node.{xt_scale};
-ghost use Rattle.jfs_xtree.specs.Spells.{CarriesXt};
+ghost use Rattle.jfs_meaning.specs.xtree.specs.Node.{xt_scale};
+ghost use Rattle.jfs_meaning.specs.xtree.specs.Spells.{CarriesXt};
 ghost use Rattle.jfs_meaning.specs.objects.specs.Objects.{listed};
 ghost use Rattle.jfs_meaning.specs.objects.specs.Image.{aggregate_at, file_walk};
 ghost use Rattle.jfs_meaning.specs.Readers.{readers, root_of};
@@ -12,8 +12,8 @@ ghost use Rattle.jfs_reader.specs.Reading.{ExtentsAre};
 
 use jfs_bits::{XadList, get_array};
 use jfs_inode::{Dinode, inode_in};
+use jfs_meaning::xtree::{XtError, extents};
 use jfs_ranges::{PageView, ViewError};
-use jfs_xtree::{XtError, extents};
 use std::alloc::Global;
 
 /// The extents of inode `k` of the aggregate (2: the block map's file, 4: the bad blocks', 16: the inode map's), in rising order: `Ok` exactly where its tree

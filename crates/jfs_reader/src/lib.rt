@@ -15,3 +15,21 @@ pub use files::{aggregate_root, file_extents, root_in};
 pub use map::InodeMap;
 pub use object::{extents_of, has_extents, has_names, names_of, read_inode};
 pub use view::DiskView;
+
+pub mod dtree {
+    //! Passed on from `jfs_dtree`.
+
+    pub use jfs_meaning::dtree::{DtError, add, find};
+}
+
+pub mod plain {
+    //! Passed on from `jfs_plain`.
+
+    pub use jfs_meaning::plain::Refusal;
+}
+
+pub mod xtree {
+    //! Passed on from `jfs_xtree`.
+
+    pub use jfs_meaning::xtree::XtError;
+}

@@ -2,10 +2,10 @@
 
 ghost use Rattle.std.specs.Prelude.{◌≡◌, ◌<◌, ◌%◌, Some, IfOk, IfErr};
 ghost use Rattle.jfs_disk.specs.Image.{page_of};
-ghost use Rattle.jfs_xtree.specs.Node.{xt_scale};
-ghost use Rattle.jfs_xtree.specs.Spells.{CarriesXt};
-ghost use Rattle.jfs_dtree.specs.Node.{name_scale};
-ghost use Rattle.jfs_dtree.specs.Spells.{CarriesDt};
+ghost use Rattle.jfs_meaning.specs.xtree.specs.Node.{xt_scale};
+ghost use Rattle.jfs_meaning.specs.xtree.specs.Spells.{CarriesXt};
+ghost use Rattle.jfs_meaning.specs.dtree.specs.Node.{name_scale};
+ghost use Rattle.jfs_meaning.specs.dtree.specs.Spells.{CarriesDt};
 ghost use Rattle.jfs_meaning.specs.objects.specs.Volume.{slot_of};
 ghost use Rattle.jfs_meaning.specs.objects.specs.Objects.{has_names, has_extents, names_of, extents_of, listed};
 ghost use Rattle.jfs_meaning.specs.Readers.{readers};
@@ -14,11 +14,11 @@ ghost use Rattle.jfs_reader.specs.Reading.{ExtentsAre, NamesAre, OutsideIsPast, 
 use crate::error::ReadError;
 use crate::files::root_in;
 use jfs_bits::XadList;
-use jfs_dtree::{DtError, list};
 use jfs_inode::{Dinode, inode_in};
+use jfs_meaning::dtree::{DtError, list};
+use jfs_meaning::xtree::{XtError, extents};
 use jfs_name::NameList;
 use jfs_ranges::PageView;
-use jfs_xtree::{XtError, extents};
 use std::alloc::Global;
 
 /// Inode `n` as it stands on its page, whatever rules it breaks.

@@ -30,9 +30,9 @@ use Rattle.jfs_way.specs.meaning.specs.Readers.{readers}
 use Rattle.jfs_way.specs.meaning.specs.Contents.{byte_of, stored}
 use Rattle.jfs_way.specs.meaning.specs.Node.{kind_of, is_symbolic, target_in}
 use Rattle.jfs_way.specs.meaning.specs.Consistent.{IsConsistent}
-use Rattle.jfs_reader.specs.Reading.{ExtentsAre}
-use Rattle.jfs_reader.specs.declared.error.ReadError.{ReadError}
-use Rattle.jfs_reader.specs.declared.error.ReadError.TheVariants as read
+use Rattle.jfs_way.specs.reader.specs.Reading.{ExtentsAre}
+use Rattle.jfs_way.specs.reader.specs.declared.error.ReadError.{ReadError}
+use Rattle.jfs_way.specs.reader.specs.declared.error.ReadError.TheVariants as read
 use Rattle.jfs_way.specs.Answer.{Answers, Follows, is_open, view_refusal}
 use Rattle.jfs_way.specs.Volume.{volume_of}
 use Rattle.jfs_way.specs.Walk.{IsHeld, IsShown, IsThere, IsOf, tree_in}

@@ -18,7 +18,7 @@ use Rattle.jfs_xtree.proofs.Reading.{leaf_is}
 use Rattle.jfs_way.specs.objects.specs.Contents.{block_in, block_of}
 use Rattle.jfs_way.specs.objects.specs.Objects.{has_extents, extents_of, listed}
 use Rattle.jfs_way.specs.meaning.specs.Readers.{readers, root_of}
-use Rattle.jfs_reader.specs.Reading.{IsPast}
+use Rattle.jfs_way.specs.reader.specs.Reading.{IsPast}
 
 -- ---- of a list of extents
 

@@ -19,9 +19,9 @@ use Rattle.jfs_plain.specs.declared.refusal.Refusal.{Refusal}
 use Rattle.jfs_plain.specs.declared.refusal.Refusal.TheVariants.{NotFile, Damaged}
 use Rattle.jfs_plain.specs.declared.reply.Reply.{Reply}
 use Rattle.jfs_plain.specs.declared.reply.Reply.TheVariants.{Target}
-use Rattle.jfs_reader.specs.Reading.{IsPast}
-use Rattle.jfs_reader.specs.declared.error.ReadError.{ReadError}
-use Rattle.jfs_reader.specs.declared.error.ReadError.TheVariants as read
+use Rattle.jfs_way.specs.reader.specs.Reading.{IsPast}
+use Rattle.jfs_way.specs.reader.specs.declared.error.ReadError.{ReadError}
+use Rattle.jfs_way.specs.reader.specs.declared.error.ReadError.TheVariants as read
 use Rattle.jfs_way.specs.Answer.{at_root, view_refusal}
 use Rattle.jfs_way.specs.Way.{path_of}
 use Rattle.jfs_way.specs.declared.object.Held.{Held}

@@ -4,12 +4,12 @@ ghost use Rattle.std.specs.Prelude.{◌≡◌, ◌*◌, ◌+◌, ◌<◌, ◌≤
 ghost use Rattle.jfs_disk.specs.Image.{page_of};
 ghost use Rattle.jfs_plain.specs.Step.{bytes_from};
 ghost use Rattle.jfs_way.specs.objects.specs.Contents.{block_of};
-ghost use Rattle.jfs_reader.specs.Reading.{CarriesRead, OutsideIsPast};
+ghost use Rattle.jfs_way.specs.reader.specs.Reading.{CarriesRead, OutsideIsPast};
 ghost use Rattle.jfs_readlink.specs.Target.{byte_at, SomeOutside};
 
 use jfs_bits::{Blob, Xad};
 use jfs_ranges::{PageView, ViewError};
-use jfs_reader::{ReadError, read_part};
+use jfs_way::reader::{ReadError, read_part};
 use std::alloc::Global;
 
 /// The first so many bytes of a file with these extents.

@@ -4,6 +4,4 @@ pub mod Put
 pub mod Plan
 pub mod Redo
 -- libraries below, passed on
-pub use Rattle.jfs_reader.specs.meaning
-pub use Rattle.jfs_mount as mount_rules
 pub use Rattle.jfs_records as records

@@ -7,10 +7,10 @@ use Rattle.jfs_records.specs.Redo.{all_of}
 use Rattle.jfs_redo_steps.specs.steps.specs.After.{used_after, extents_after}
 use Rattle.jfs_bmap.specs.Set.{taken_at}
 use Rattle.jfs_redo_steps.specs.each.specs.Each.{AllFit}
-use Rattle.jfs_mount.specs.Subject.{Subject, volume}
-use Rattle.jfs_mount.specs.Mount.{broken_maps}
-use Rattle.jfs_mount.specs.Steps.{AreRead}
-use Rattle.jfs_mount.specs.declared.bad.BadMount.{BadMount as Bad}
+use Rattle.jfs_mount_maps.specs.mount_rules.specs.Subject.{Subject, volume}
+use Rattle.jfs_mount_maps.specs.mount_rules.specs.Mount.{broken_maps}
+use Rattle.jfs_mount_maps.specs.mount_rules.specs.Steps.{AreRead}
+use Rattle.jfs_mount_maps.specs.mount_rules.specs.declared.bad.BadMount.{BadMount as Bad}
 use Rattle.jfs_redo.specs.declared.plan.Plan.{Plan}
 
 -- on every view: each page that a transaction changes is marked, and inode extents lie within the volume of so many blocks

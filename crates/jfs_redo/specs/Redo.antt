@@ -17,9 +17,9 @@ use Rattle.jfs_imap.specs.Inodes.{Inodes, inodes_of, IsInodePage}
 use Rattle.jfs_redo_steps.specs.objects.specs.Contents.{block_of}
 use Rattle.jfs_redo_steps.specs.objects.specs.Image.{file_extents}
 use Rattle.jfs_redo_steps.specs.steps.specs.After.{used_after, extents_after}
-use Rattle.jfs_mount.specs.Subject.{Subject, subject_of, volume}
-use Rattle.jfs_mount.specs.Mount.{broken_maps, iags}
-use Rattle.jfs_sets.specs.Sets.{extent_from}
+use Rattle.jfs_mount_maps.specs.mount_rules.specs.Subject.{Subject, subject_of, volume}
+use Rattle.jfs_mount_maps.specs.mount_rules.specs.Mount.{broken_maps, iags}
+use Rattle.jfs_mount_maps.specs.sets.specs.Sets.{extent_from}
 use Rattle.jfs_redo_steps.specs.Pages.{ArePagesRedone}
 use Rattle.jfs_redo_steps.specs.Inodes.{AreInodesInUse}
 use Rattle.jfs_redo.specs.Log.{IsLogOf, AreCommitted}

@@ -2,7 +2,7 @@
 
 use jfs_bits::Rule;
 use jfs_disk::Fault;
-use jfs_mount::BadMount;
+use jfs_mount_maps::mount_rules::BadMount;
 
 /// What a redo did.
 #[derive(Clone, Copy, PartialEq, Eq, Debug)]

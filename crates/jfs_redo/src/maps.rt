@@ -6,7 +6,7 @@ ghost use Rattle.jfs_bmap.specs.Set.{taken_at};
 ghost use Rattle.jfs_bmap.specs.MapFile.{IsMapPage, is_in_use, pages_of};
 ghost use Rattle.jfs_imap.specs.Inodes.{IsInodePage};
 ghost use Rattle.jfs_redo_steps.specs.objects.specs.Contents.{block_of};
-ghost use Rattle.jfs_mount.specs.Files.{IsWithin, LieWithin};
+ghost use Rattle.jfs_mount_maps.specs.mount_rules.specs.Files.{IsWithin, LieWithin};
 ghost use Rattle.jfs_redo.specs.Put.{ArePut, IsPut, place_if, put_at};
 ghost use Rattle.jfs_redo.specs.Redo.{StaysBehind};
 
@@ -14,8 +14,8 @@ use jfs_bits::Xad;
 use jfs_bmap::OwnedMap;
 use jfs_disk::{Disk, DiskError, Page};
 use jfs_imap::InodeMap;
-use jfs_mount::from_block;
-use jfs_reader::page_of_block;
+use jfs_mount_maps::mount_rules::from_block;
+use jfs_mount_maps::reader::page_of_block;
 
 /// Writes each page of the block map's file that is in use.
 pub(crate) fn write_block_map<D: Disk>(

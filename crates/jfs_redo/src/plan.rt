@@ -13,15 +13,15 @@ ghost use Rattle.jfs_bmap.specs.MapFile.{AreGroups};
 ghost use Rattle.jfs_bmap.specs.Set.{taken_at};
 ghost use Rattle.jfs_redo_steps.specs.each.specs.Each.{AllFit};
 ghost use Rattle.jfs_redo_steps.specs.steps.specs.After.{used_after, extents_after};
-ghost use Rattle.jfs_mount.specs.Subject.{subject_of};
+ghost use Rattle.jfs_mount_maps.specs.mount_rules.specs.Subject.{subject_of};
 ghost use Rattle.jfs_redo.specs.Log.{ExtentsLieWithin};
 ghost use Rattle.jfs_redo.specs.Plan.{IsPlan, Plans};
 
 use jfs_bmap::OwnedMap;
-use jfs_mount::{BadMount, Maps, Mounted, map_files};
+use jfs_mount_maps::mount_rules::{BadMount, Maps, Mounted, map_files};
+use jfs_mount_maps::sets::used_blocks;
 use jfs_ranges::{PageView, Tx, ViewError};
 use jfs_redo_steps::{mark_pages, redo_blocks, redo_extents};
-use jfs_sets::used_blocks;
 use std::alloc::{AllocError, Global};
 
 /// What redo knows before it writes: which pages transactions change, the files of both maps, the blocks in use after all of them, and the inode extents then.

@@ -6,11 +6,11 @@ use Rattle.jfs_bmap.specs.States.{Blocks}
 use Rattle.jfs_plain.specs.Tree.{and_then}
 use Rattle.jfs_plain.specs.declared.refusal.Refusal.{Refusal}
 use Rattle.jfs_plain.specs.declared.refusal.Refusal.TheVariants as why
-use Rattle.jfs_way.specs.Answer.{is_open, Answers, CarriesCause}
-use Rattle.jfs_way.specs.Walk.{IsHeld}
-use Rattle.jfs_way.specs.declared.object.Held.{Held}
-use Rattle.jfs_steps.specs.Place.{last_of}
-use Rattle.jfs_place.specs.Place.{occupant_at}
+use Rattle.jfs_link.specs.way.specs.Answer.{is_open, Answers, CarriesCause}
+use Rattle.jfs_link.specs.way.specs.Walk.{IsHeld}
+use Rattle.jfs_link.specs.way.specs.declared.object.Held.{Held}
+use Rattle.jfs_link.specs.steps.specs.Place.{last_of}
+use Rattle.jfs_link.specs.place.specs.Place.{occupant_at}
 use Rattle.jfs_rename_steps.specs.declared.moving.Moving.{Moving}
 use Rattle.jfs_rename.specs.Ends.{AreHeld, AreDirectories, moving_on}
 use Rattle.jfs_rename.specs.Through.{inside_of}

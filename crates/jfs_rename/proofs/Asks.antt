@@ -13,13 +13,13 @@ use Rattle.jfs_link.specs.objects.specs.Objects.{has_names}
 use Rattle.jfs_link.specs.meaning.specs.Readers.{readers}
 use Rattle.jfs_link.specs.meaning.specs.Consistent.{IsConsistent}
 use Rattle.jfs_link.specs.meaning.proofs.Found.{ok_is}
-use Rattle.jfs_way.specs.Answer.{is_open}
-use Rattle.jfs_way.specs.Volume.{volume_of}
-use Rattle.jfs_way.specs.Walk.{IsHeld, IsShown, IsThere, IfConsistent, tree_in}
+use Rattle.jfs_link.specs.way.specs.Answer.{is_open}
+use Rattle.jfs_link.specs.way.specs.Volume.{volume_of}
+use Rattle.jfs_link.specs.way.specs.Walk.{IsHeld, IsShown, IsThere, IfConsistent, tree_in}
 use Rattle.jfs_disk.specs.Image.{Image, page_of}
-use Rattle.jfs_way.specs.declared.object.Held.{Held}
-use Rattle.jfs_steps.specs.Place.{last_of}
-use Rattle.jfs_place.specs.Place.{StandsAt}
+use Rattle.jfs_link.specs.way.specs.declared.object.Held.{Held}
+use Rattle.jfs_link.specs.steps.specs.Place.{last_of}
+use Rattle.jfs_link.specs.place.specs.Place.{StandsAt}
 use Rattle.jfs_link.proofs.Asks.{last_is}
 use Rattle.jfs_unlink.proofs.Ended.{IsNodeOf, node_of_it}
 use Rattle.jfs_rename_steps.specs.declared.moving.Moving.{Moving}

@@ -4,10 +4,10 @@ use Rattle.jfs_plain.specs.Tree.{Tree, Place, walk, root, place, place_as, place
 use Rattle.jfs_plain.specs.declared.node.Node.{Node}
 use Rattle.jfs_plain.specs.declared.refusal.Refusal.{Refusal}
 use Rattle.jfs_plain.specs.declared.refusal.Refusal.TheVariants.{IntoItself}
-use Rattle.jfs_way.specs.Answer.{Follows}
-use Rattle.jfs_way.specs.Walk.{IsThere, IsOf}
-use Rattle.jfs_way.specs.declared.object.Held.{Held}
-use Rattle.jfs_steps.specs.Place.{last_of, IsPlace}
+use Rattle.jfs_link.specs.way.specs.Answer.{Follows}
+use Rattle.jfs_link.specs.way.specs.Walk.{IsThere, IsOf}
+use Rattle.jfs_link.specs.way.specs.declared.object.Held.{Held}
+use Rattle.jfs_link.specs.steps.specs.Place.{last_of, IsPlace}
 use Rattle.jfs_rename.specs.Ends.{moving_of, is_nameless, AreEnds, RefusesAlways}
 use Rattle.jfs_rename.proofs.Plain.{no_object, of_root, no_from, no_to}
 

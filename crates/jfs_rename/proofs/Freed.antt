@@ -19,10 +19,10 @@ use Rattle.jfs_link.specs.objects.specs.Objects.{objects, spelled, has_names}
 use Rattle.jfs_link.specs.objects.specs.Owners.{holds}
 use Rattle.jfs_link.specs.objects.proofs.Owned.{owned_once}
 use Rattle.jfs_link.specs.meaning.specs.Readers.{readers, root_of}
-use Rattle.jfs_steps.specs.After.{frees}
-use Rattle.jfs_steps.specs.Put.{TellsLines}
-use Rattle.jfs_steps.proofs.After.{lines_alone, runs_leave}
-use Rattle.jfs_steps.proofs.Sets.{frees_onto, frees_move}
+use Rattle.jfs_link.specs.steps.specs.After.{frees}
+use Rattle.jfs_link.specs.steps.specs.Put.{TellsLines}
+use Rattle.jfs_link.specs.steps.proofs.After.{lines_alone, runs_leave}
+use Rattle.jfs_link.specs.steps.proofs.Sets.{frees_onto, frees_move}
 use Rattle.jfs_link.specs.lead_steps.proofs.Turned.{dir_holds, no_extents_of}
 use Rattle.jfs_rename_steps.proofs.Stage.{Stage, pages_are, leads_to, names_of}
 

@@ -27,13 +27,13 @@ use Rattle.jfs_link.specs.meaning.proofs.Found.{object_at}
 use Rattle.jfs_link.specs.meaning.proofs.Fresh.{fresh_law}
 use Rattle.jfs_link.specs.meaning.proofs.Reached.{not_reserved, place_reached}
 use Rattle.jfs_link.specs.meaning.specs.Room.{room_on}
-use Rattle.jfs_way.specs.Volume.{volume_of}
-use Rattle.jfs_way.specs.Walk.{tree_in}
-use Rattle.jfs_way.specs.declared.object.Held.{Held}
-use Rattle.jfs_steps.specs.After.{after_call, used_after, extents_after}
-use Rattle.jfs_steps.specs.Place.{last_of}
-use Rattle.jfs_steps.proofs.After.{done_after}
-use Rattle.jfs_steps.proofs.LastNames.{stood, object_is}
+use Rattle.jfs_link.specs.way.specs.Volume.{volume_of}
+use Rattle.jfs_link.specs.way.specs.Walk.{tree_in}
+use Rattle.jfs_link.specs.way.specs.declared.object.Held.{Held}
+use Rattle.jfs_link.specs.steps.specs.After.{after_call, used_after, extents_after}
+use Rattle.jfs_link.specs.steps.specs.Place.{last_of}
+use Rattle.jfs_link.specs.steps.proofs.After.{done_after}
+use Rattle.jfs_link.specs.steps.proofs.LastNames.{stood, object_is}
 use Rattle.jfs_link.specs.lead_steps.specs.Reached.{HasTree}
 use Rattle.jfs_link.specs.lead_steps.proofs.Again.{inode_same, few_links}
 use Rattle.jfs_link.specs.lead_steps.proofs.Chain.{some_is}

@@ -13,7 +13,7 @@ use Rattle.jfs_plain.specs.declared.reply.NodeKind.{NodeKind}
 use Rattle.jfs_plain.specs.declared.reply.NodeKind.TheVariants.{Dir, File, Link, Other}
 use Rattle.jfs_plain.specs.declared.refusal.Refusal.{Refusal}
 use Rattle.jfs_plain.specs.declared.refusal.Refusal.TheVariants.{IntoItself, IsDir, NotDir, NotEmpty, FileTooBig}
-use Rattle.jfs_way.specs.declared.object.Held.{Held}
+use Rattle.jfs_link.specs.way.specs.declared.object.Held.{Held}
 use Rattle.jfs_unlink.specs.Call.{bare_at}
 use Rattle.jfs_unlink.specs.Call as call
 use Rattle.jfs_unlink.proofs.Ended.{IsNodeOf}

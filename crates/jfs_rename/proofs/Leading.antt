@@ -8,14 +8,14 @@ use Rattle.jfs_plain.specs.declared.refusal.Refusal.{Refusal}
 use Rattle.jfs_link.specs.objects.specs.Objects.{has_names}
 use Rattle.jfs_link.specs.meaning.specs.Readers.{readers}
 use Rattle.jfs_link.specs.meaning.specs.Consistent.{IsConsistent}
-use Rattle.jfs_way.specs.Answer.{is_open, Answers, Follows}
-use Rattle.jfs_way.specs.Volume.{volume_of, PlacesWithin}
-use Rattle.jfs_way.specs.Way.{inode_at, name_from}
-use Rattle.jfs_way.specs.Walk.{IsHeld, IsShown, IfConsistent, IsThere, IsOf, HasCome, tree_in}
-use Rattle.jfs_way.specs.declared.object.Held.{Held}
-use Rattle.jfs_way.proofs.Walks.{begins, goes_on}
-use Rattle.jfs_steps.specs.Place.{front_of}
-use Rattle.jfs_steps.proofs.LastNames.{place_fails}
+use Rattle.jfs_link.specs.way.specs.Answer.{is_open, Answers, Follows}
+use Rattle.jfs_link.specs.way.specs.Volume.{volume_of, PlacesWithin}
+use Rattle.jfs_link.specs.way.specs.Way.{inode_at, name_from}
+use Rattle.jfs_link.specs.way.specs.Walk.{IsHeld, IsShown, IfConsistent, IsThere, IsOf, HasCome, tree_in}
+use Rattle.jfs_link.specs.way.specs.declared.object.Held.{Held}
+use Rattle.jfs_link.specs.way.proofs.Walks.{begins, goes_on}
+use Rattle.jfs_link.specs.steps.specs.Place.{front_of}
+use Rattle.jfs_link.specs.steps.proofs.LastNames.{place_fails}
 use Rattle.jfs_rename.specs.Through.{through_from, through_of, inside_of, through, FollowsThrough, FollowsInside, HasGone}
 
 -- what fails first fails the whole

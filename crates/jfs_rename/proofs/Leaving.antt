@@ -15,10 +15,10 @@ use Rattle.jfs_link.specs.objects.specs.Volume.{Volume, home}
 use Rattle.jfs_link.specs.objects.specs.Objects.{objects, spelled, is_live, has_names}
 use Rattle.jfs_link.specs.objects.specs.Image.{extent_place}
 use Rattle.jfs_link.specs.meaning.specs.Readers.{readers}
-use Rattle.jfs_way.specs.Volume.{volume_of}
-use Rattle.jfs_way.specs.Walk.{tree_in}
-use Rattle.jfs_way.specs.declared.object.Held.{Held}
-use Rattle.jfs_steps.specs.After.{used_after, frees}
+use Rattle.jfs_link.specs.way.specs.Volume.{volume_of}
+use Rattle.jfs_link.specs.way.specs.Walk.{tree_in}
+use Rattle.jfs_link.specs.way.specs.declared.object.Held.{Held}
+use Rattle.jfs_link.specs.steps.specs.After.{used_after, frees}
 use Rattle.jfs_link.specs.lead_steps.proofs.Again.{again}
 use Rattle.jfs_link.specs.lead_steps.proofs.Turned.{turns}
 use Rattle.jfs_unlink.specs.loss.specs.Inodes.{frees_in}

@@ -16,7 +16,7 @@ use Rattle.jfs_tree.specs.Form.{AllBelow}
 use Rattle.jfs_tree.specs.Fresh.{blocks_of}
 use Rattle.jfs_plain.specs.Tree.{Tree, Place, place_at, named_in, passes, is_dir}
 use Rattle.jfs_plain.specs.declared.refusal.Refusal.{Refusal}
-use Rattle.jfs_way.specs.Answer.{is_open}
+use Rattle.jfs_link.specs.way.specs.Answer.{is_open}
 use Rattle.jfs_plain.specs.Moves.{changed, shifts}
 use Rattle.jfs_plain.specs.Step.{Room, rename, entry_as, gained, departs, why_barred, is_full, links_in, links_of}
 use Rattle.jfs_plain.specs.declared.reply.Reply.TheVariants.{Done}
@@ -27,20 +27,20 @@ use Rattle.jfs_link.specs.objects.specs.Image.{extent_place}
 use Rattle.jfs_link.specs.objects.specs.Changes.{PutsInode}
 use Rattle.jfs_link.specs.objects.proofs.Sums.{eq_or_not, zero_or_more}
 use Rattle.jfs_link.specs.meaning.specs.Readers.{readers}
-use Rattle.jfs_way.specs.Volume.{volume_of}
-use Rattle.jfs_way.specs.Walk.{tree_in}
-use Rattle.jfs_way.specs.declared.object.Held.{Held}
-use Rattle.jfs_steps.specs.After.{used_after, takes, frees}
-use Rattle.jfs_steps.specs.Laws.{TakesAndFrees, IsFair}
-use Rattle.jfs_steps.proofs.After.{counts}
-use Rattle.jfs_steps.proofs.Sets.{taken_move, lines_on_top}
+use Rattle.jfs_link.specs.way.specs.Volume.{volume_of}
+use Rattle.jfs_link.specs.way.specs.Walk.{tree_in}
+use Rattle.jfs_link.specs.way.specs.declared.object.Held.{Held}
+use Rattle.jfs_link.specs.steps.specs.After.{used_after, takes, frees}
+use Rattle.jfs_link.specs.steps.specs.Laws.{TakesAndFrees, IsFair}
+use Rattle.jfs_link.specs.steps.proofs.After.{counts}
+use Rattle.jfs_link.specs.steps.proofs.Sets.{taken_move, lines_on_top}
 use Rattle.jfs_bits.specs.declared.rule.PageKind.TheVariants as kinds
 use Rattle.jfs_link.specs.objects.specs.Owners.{bit}
 use Rattle.jfs_link.specs.meaning.proofs.Books.{count_append}
 use Rattle.jfs_rename_steps.proofs.Taken.{free_takes}
 use Rattle.jfs_rename.specs.Once.{IsOrderly}
-use Rattle.jfs_steps.specs.Place.{last_of}
-use Rattle.jfs_claim.specs.Take.{AreFresh}
+use Rattle.jfs_link.specs.steps.specs.Place.{last_of}
+use Rattle.jfs_link.specs.claim.specs.Take.{AreFresh}
 use Rattle.jfs_link.specs.lead_steps.specs.Balance.{own_after}
 use Rattle.jfs_link.specs.lead_steps.proofs.Again.{again}
 use Rattle.jfs_link.specs.lead_steps.proofs.Turned.{turns}

@@ -26,15 +26,15 @@ use Rattle.jfs_link.specs.objects.proofs.Owned.{owned_once}
 use Rattle.jfs_link.specs.objects.proofs.Sums.{zero_or_more}
 use Rattle.jfs_link.specs.meaning.specs.Readers.{readers, root_of}
 use Rattle.jfs_link.specs.room.proofs.Rooms.{held_law}
-use Rattle.jfs_way.specs.Answer.{is_open, names_refusal}
-use Rattle.jfs_way.specs.Volume.{volume_of}
-use Rattle.jfs_way.specs.Way.{name_from}
-use Rattle.jfs_way.specs.Walk.{IsHeld, IsShown, tree_in}
-use Rattle.jfs_way.specs.declared.object.Held.{Held}
-use Rattle.jfs_steps.specs.Gains.{GainRefused}
-use Rattle.jfs_steps.specs.Place.{last_of}
-use Rattle.jfs_steps.proofs.LastNames.{object_is}
-use Rattle.jfs_claim.specs.Take.{AreFresh}
+use Rattle.jfs_link.specs.way.specs.Answer.{is_open, names_refusal}
+use Rattle.jfs_link.specs.way.specs.Volume.{volume_of}
+use Rattle.jfs_link.specs.way.specs.Way.{name_from}
+use Rattle.jfs_link.specs.way.specs.Walk.{IsHeld, IsShown, tree_in}
+use Rattle.jfs_link.specs.way.specs.declared.object.Held.{Held}
+use Rattle.jfs_link.specs.steps.specs.Gains.{GainRefused}
+use Rattle.jfs_link.specs.steps.specs.Place.{last_of}
+use Rattle.jfs_link.specs.steps.proofs.LastNames.{object_is}
+use Rattle.jfs_link.specs.claim.specs.Take.{AreFresh}
 use Rattle.jfs_link.specs.lead_steps.proofs.Turned.{dir_holds, no_extents_of}
 use Rattle.jfs_unlink.specs.loss.proofs.Holds.{extents_listed}
 use Rattle.jfs_unlink.proofs.Ended.{root_is}

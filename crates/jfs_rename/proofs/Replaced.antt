@@ -31,15 +31,15 @@ use Rattle.jfs_link.specs.objects.proofs.Sums.{eq_or_not, zero_or_more}
 use Rattle.jfs_link.specs.meaning.specs.Readers.{readers, root_of}
 use Rattle.jfs_link.specs.meaning.proofs.Found.{place_there}
 use Rattle.jfs_link.specs.meaning.proofs.Reached.{at_leads}
-use Rattle.jfs_way.specs.Volume.{volume_of}
-use Rattle.jfs_way.specs.Walk.{IsHeld, IsShown, tree_in}
-use Rattle.jfs_way.specs.declared.object.Held.{Held}
-use Rattle.jfs_steps.specs.After.{used_after}
-use Rattle.jfs_steps.specs.Put.{AddsInode, TellsLines}
-use Rattle.jfs_steps.specs.Laws.{TakesAndFrees}
-use Rattle.jfs_steps.specs.Place.{last_of}
-use Rattle.jfs_steps.proofs.LastNames.{stood, object_is}
-use Rattle.jfs_steps.proofs.Sets.{lines_move}
+use Rattle.jfs_link.specs.way.specs.Volume.{volume_of}
+use Rattle.jfs_link.specs.way.specs.Walk.{IsHeld, IsShown, tree_in}
+use Rattle.jfs_link.specs.way.specs.declared.object.Held.{Held}
+use Rattle.jfs_link.specs.steps.specs.After.{used_after}
+use Rattle.jfs_link.specs.steps.specs.Put.{AddsInode, TellsLines}
+use Rattle.jfs_link.specs.steps.specs.Laws.{TakesAndFrees}
+use Rattle.jfs_link.specs.steps.specs.Place.{last_of}
+use Rattle.jfs_link.specs.steps.proofs.LastNames.{stood, object_is}
+use Rattle.jfs_link.specs.steps.proofs.Sets.{lines_move}
 use Rattle.jfs_link.specs.lead_steps.proofs.Again.{again}
 use Rattle.jfs_link.specs.lead_steps.proofs.InPlace.{ChangesInPlace, counts_in_place}
 use Rattle.jfs_link.specs.lead_steps.proofs.Turned.{turns}
@@ -59,18 +59,18 @@ use Rattle.jfs_rename.specs.Ends.{AreEnds}
 use Rattle.jfs_rename.proofs.Ground.{has, within, at_p, at_q, was_m, was_p, was_q, live_p, live_q, few_p, few_q, size_q, node_m, node_p, named_from, named_m, one_inode, m_p, p_m, m_q, two_p, takes_step}
 use Rattle.jfs_rename.proofs.Leaving.{source_with, leaving_from, left_volume, left_stage, left_frees, arrived_volume, arrived_tree, arrived_stage, still_p}
 use Rattle.jfs_rename.proofs.Stays.{past_object, past_lead, past_other, loss_open}
-use Rattle.jfs_way.specs.Answer.{is_open}
+use Rattle.jfs_link.specs.way.specs.Answer.{is_open}
 use Rattle.jfs_rename.proofs.Moved.{bit_is, less_lives, less_few}
 use Rattle.jfs_rename.proofs.Plain.{replaced}
 use Rattle.jfs_rename.proofs.LetIn.{kept_kind, kept_empty, kept_outside, no_entries, not_first, dead_late, more_live, one_node, or_left, bit_most}
 use Rattle.jfs_link.specs.meaning.proofs.Books.{count_append}
 use Rattle.jfs_link.specs.objects.specs.Owners.{bit}
 use Rattle.jfs_link.specs.objects.proofs.Owned.{owned_once}
-use Rattle.jfs_steps.specs.After.{takes}
-use Rattle.jfs_steps.specs.After.{frees as frees_of}
-use Rattle.jfs_steps.specs.Laws.{LeavesSets, IsFair}
-use Rattle.jfs_steps.proofs.After.{counts}
-use Rattle.jfs_steps.proofs.Sets.{moves_onto, lines_on_top}
+use Rattle.jfs_link.specs.steps.specs.After.{takes}
+use Rattle.jfs_link.specs.steps.specs.After.{frees as frees_of}
+use Rattle.jfs_link.specs.steps.specs.Laws.{LeavesSets, IsFair}
+use Rattle.jfs_link.specs.steps.proofs.After.{counts}
+use Rattle.jfs_link.specs.steps.proofs.Sets.{moves_onto, lines_on_top}
 use Rattle.jfs_rename_steps.proofs.Taken.{over_takes}
 use Rattle.jfs_rename.specs.Once.{IsOrderly}
 

@@ -27,8 +27,8 @@ use Rattle.jfs_link.specs.objects.specs.Owners.{IsSound}
 use Rattle.jfs_link.specs.meaning.specs.Readers.{readers, root_of}
 use Rattle.jfs_link.specs.meaning.specs.Node.{node_in, node_from, node_with, target_in}
 use Rattle.jfs_link.specs.meaning.specs.Tree.{node_on, tree_on}
-use Rattle.jfs_way.specs.Answer.{is_open, names_refusal}
-use Rattle.jfs_way.specs.declared.object.Held.{Held}
+use Rattle.jfs_link.specs.way.specs.Answer.{is_open, names_refusal}
+use Rattle.jfs_link.specs.way.specs.declared.object.Held.{Held}
 use Rattle.jfs_link.specs.lead_steps.proofs.Chain.{at_changed, off_changed}
 use Rattle.jfs_link.specs.lead_steps.proofs.Turned.{turns, names_listed}
 use Rattle.jfs_rename_steps.specs.Entries.{LossRefused}

@@ -15,14 +15,14 @@ use Rattle.jfs_plain.specs.declared.reply.Reply.TheVariants.{Done}
 use Rattle.jfs_link.specs.objects.specs.Objects.{has_names}
 use Rattle.jfs_link.specs.meaning.specs.Readers.{readers}
 use Rattle.jfs_link.specs.meaning.specs.Consistent.{IsConsistent}
-use Rattle.jfs_way.specs.Answer.{is_open}
-use Rattle.jfs_way.specs.Way.{name_from}
-use Rattle.jfs_way.specs.Walk.{IsHeld, IsShown, tree_in}
-use Rattle.jfs_way.specs.Volume.{volume_of}
-use Rattle.jfs_way.specs.declared.object.Held.{Held}
-use Rattle.jfs_steps.specs.Place.{last_of}
-use Rattle.jfs_claim.specs.Take.{reserving}
-use Rattle.jfs_place.specs.Place.{occupant_at, if_found}
+use Rattle.jfs_link.specs.way.specs.Answer.{is_open}
+use Rattle.jfs_link.specs.way.specs.Way.{name_from}
+use Rattle.jfs_link.specs.way.specs.Walk.{IsHeld, IsShown, tree_in}
+use Rattle.jfs_link.specs.way.specs.Volume.{volume_of}
+use Rattle.jfs_link.specs.way.specs.declared.object.Held.{Held}
+use Rattle.jfs_link.specs.steps.specs.Place.{last_of}
+use Rattle.jfs_link.specs.claim.specs.Take.{reserving}
+use Rattle.jfs_link.specs.place.specs.Place.{occupant_at, if_found}
 use Rattle.jfs_link.specs.Link.{ReservesFree, ReservesTaken, IfConsistentBy}
 use Rattle.jfs_rename_steps.specs.Moves.{MovesOver, OverRefused}
 use Rattle.jfs_rename_steps.specs.declared.moving.Moving.{Moving}

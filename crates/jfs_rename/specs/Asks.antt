@@ -12,12 +12,12 @@ use Rattle.jfs_plain.specs.declared.refusal.Refusal.TheVariants.{NoSpace, TooDee
 use Rattle.jfs_plain.specs.declared.reply.Reply.TheVariants.{Done}
 use Rattle.jfs_link.specs.objects.specs.Objects.{has_names}
 use Rattle.jfs_link.specs.meaning.specs.Readers.{root_of}
-use Rattle.jfs_way.specs.Answer.{is_open}
-use Rattle.jfs_way.specs.Walk.{IsThere, IsHeld, IsShown}
-use Rattle.jfs_way.specs.declared.object.Held.{Held}
-use Rattle.jfs_steps.specs.Place.{last_of}
-use Rattle.jfs_claim.specs.Look.{space_for}
-use Rattle.jfs_place.specs.Place.{occupant_at}
+use Rattle.jfs_link.specs.way.specs.Answer.{is_open}
+use Rattle.jfs_link.specs.way.specs.Walk.{IsThere, IsHeld, IsShown}
+use Rattle.jfs_link.specs.way.specs.declared.object.Held.{Held}
+use Rattle.jfs_link.specs.steps.specs.Place.{last_of}
+use Rattle.jfs_link.specs.claim.specs.Look.{space_for}
+use Rattle.jfs_link.specs.place.specs.Place.{occupant_at}
 use Rattle.jfs_link.specs.Link.{IfConsistentBy}
 use Rattle.jfs_rename_steps.specs.declared.moving.Moving.{Moving}
 use Rattle.jfs_rename.specs.Ends.{AreEnds, AreHeld, AreShown, AreDirectories, moving_on}

@@ -11,14 +11,14 @@ use Rattle.jfs_plain.specs.declared.refusal.Refusal.{Refusal}
 use Rattle.jfs_link.specs.meaning.specs.Readers.{readers}
 use Rattle.jfs_link.specs.meaning.specs.Room.{room_on}
 use Rattle.jfs_link.specs.meaning.specs.Consistent.{IsConsistent}
-use Rattle.jfs_way.specs.Answer.{is_open}
-use Rattle.jfs_way.specs.Volume.{volume_of}
-use Rattle.jfs_way.specs.Walk.{IsHeld, IsShown, tree_in}
-use Rattle.jfs_way.specs.declared.object.Held.{Held}
-use Rattle.jfs_steps.specs.After.{after_call}
-use Rattle.jfs_steps.specs.Call.{IsDone}
-use Rattle.jfs_steps.specs.Place.{last_of}
-use Rattle.jfs_claim.specs.Take.{AreFresh}
+use Rattle.jfs_link.specs.way.specs.Answer.{is_open}
+use Rattle.jfs_link.specs.way.specs.Volume.{volume_of}
+use Rattle.jfs_link.specs.way.specs.Walk.{IsHeld, IsShown, tree_in}
+use Rattle.jfs_link.specs.way.specs.declared.object.Held.{Held}
+use Rattle.jfs_link.specs.steps.specs.After.{after_call}
+use Rattle.jfs_link.specs.steps.specs.Call.{IsDone}
+use Rattle.jfs_link.specs.steps.specs.Place.{last_of}
+use Rattle.jfs_link.specs.claim.specs.Take.{AreFresh}
 use Rattle.jfs_rename_steps.specs.Moves.{MovesToFree, FreeRefused, MovesOver, OverRefused}
 use Rattle.jfs_rename_steps.specs.declared.moving.Moving.{Moving}
 use Rattle.jfs_rename.specs.Asks.{MayMove, MayReplace}

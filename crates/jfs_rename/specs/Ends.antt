@@ -7,11 +7,11 @@ use Rattle.jfs_plain.specs.Step.{Room, rename}
 use Rattle.jfs_plain.specs.declared.refusal.Refusal.{Refusal}
 use Rattle.jfs_plain.specs.declared.refusal.Refusal.TheVariants.{IntoItself}
 use Rattle.jfs_link.specs.objects.specs.Objects.{has_names}
-use Rattle.jfs_way.specs.Answer.{is_open}
-use Rattle.jfs_way.specs.Way.{path_of}
-use Rattle.jfs_way.specs.Walk.{IsThere, IsHeld, IsShown}
-use Rattle.jfs_way.specs.declared.object.Held.{Held}
-use Rattle.jfs_steps.specs.Place.{last_of, place_of}
+use Rattle.jfs_link.specs.way.specs.Answer.{is_open}
+use Rattle.jfs_link.specs.way.specs.Way.{path_of}
+use Rattle.jfs_link.specs.way.specs.Walk.{IsThere, IsHeld, IsShown}
+use Rattle.jfs_link.specs.way.specs.declared.object.Held.{Held}
+use Rattle.jfs_link.specs.steps.specs.Place.{last_of, place_of}
 use Rattle.jfs_rename_steps.specs.declared.moving.Moving.{Moving}
 
 -- ---- on any volume

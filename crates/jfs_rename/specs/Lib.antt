@@ -9,3 +9,4 @@ pub mod Steps
 pub mod Once
 -- libraries below, passed on
 pub use Rattle.jfs_rename_steps as rename_steps
+pub use Rattle.jfs_unlink as unlink

@@ -6,8 +6,8 @@ use Rattle.jfs_ranges.specs.declared.edit.Edit.{Edit}
 use Rattle.jfs_plain.specs.declared.refusal.Refusal.{Refusal}
 use Rattle.jfs_link.specs.meaning.specs.Readers.{readers}
 use Rattle.jfs_link.specs.meaning.specs.Consistent.{IsConsistent}
-use Rattle.jfs_way.specs.Volume.{volume_of, PlacesWithin}
-use Rattle.jfs_steps.specs.After.{takes, frees}
+use Rattle.jfs_link.specs.way.specs.Volume.{volume_of, PlacesWithin}
+use Rattle.jfs_link.specs.steps.specs.After.{takes, frees}
 use Rattle.jfs_rename.specs.Done.{room_in}
 use Rattle.jfs_rename.specs.declared.renaming.Renamed.{Renamed}
 use Rattle.jfs_rename.specs.declared.renaming.Renamed.TheVariants as renamed

@@ -7,7 +7,7 @@ use Rattle.jfs_plain.specs.Tree.{and_then}
 use Rattle.jfs_plain.specs.Step.{why_barred}
 use Rattle.jfs_plain.specs.declared.refusal.Refusal.{Refusal}
 use Rattle.jfs_plain.specs.declared.refusal.Refusal.TheVariants.{IntoItself, IsDir, NotDir, FileTooBig}
-use Rattle.jfs_way.specs.declared.object.Held.{Held}
+use Rattle.jfs_link.specs.way.specs.declared.object.Held.{Held}
 use Rattle.jfs_unlink.specs.Call.{bare_at, is_last_of_big}
 use Rattle.jfs_rename_steps.specs.declared.moving.Moving.{Moving}
 use Rattle.jfs_rename.specs.declared.permits.Asked.{Asked}

@@ -8,9 +8,9 @@ use Rattle.jfs_ranges.specs.declared.edit.Edit.{Edit}
 use Rattle.jfs_tree.specs.Fresh.{blocks_of}
 use Rattle.jfs_plain.specs.Step.{need_of_name}
 use Rattle.jfs_plain.specs.declared.refusal.Refusal.{Refusal}
-use Rattle.jfs_way.specs.Answer.{is_open}
-use Rattle.jfs_steps.specs.Place.{last_of}
-use Rattle.jfs_claim.specs.Take.{AreFresh, Lacks}
+use Rattle.jfs_link.specs.way.specs.Answer.{is_open}
+use Rattle.jfs_link.specs.steps.specs.Place.{last_of}
+use Rattle.jfs_link.specs.claim.specs.Take.{AreFresh, Lacks}
 use Rattle.jfs_link.specs.Link.{ReservesFree, ReservesTaken, want_of_name}
 use Rattle.jfs_rename_steps.specs.Moves.{MovesToFree, FreeRefused, MovesOver, OverRefused}
 use Rattle.jfs_rename_steps.specs.declared.moving.Moving.{Moving}

@@ -9,10 +9,10 @@ use Rattle.jfs_plain.specs.declared.refusal.Refusal.{Refusal}
 use Rattle.jfs_plain.specs.declared.reply.Reply.TheVariants.{Done}
 use Rattle.jfs_link.specs.meaning.specs.Readers.{readers}
 use Rattle.jfs_link.specs.meaning.specs.Consistent.{IsConsistent}
-use Rattle.jfs_way.specs.Answer.{is_open}
-use Rattle.jfs_way.specs.Volume.{volume_of, PlacesWithin}
-use Rattle.jfs_steps.specs.After.{after_call}
-use Rattle.jfs_steps.specs.Call.{IsDone}
+use Rattle.jfs_link.specs.way.specs.Answer.{is_open}
+use Rattle.jfs_link.specs.way.specs.Volume.{volume_of, PlacesWithin}
+use Rattle.jfs_link.specs.steps.specs.After.{after_call}
+use Rattle.jfs_link.specs.steps.specs.Call.{IsDone}
 use Rattle.jfs_link.specs.Link.{IfConsistentBy}
 use Rattle.jfs_rename.specs.Done.{room_in}
 use Rattle.jfs_rename.specs.declared.renaming.Renamed.{Renamed}

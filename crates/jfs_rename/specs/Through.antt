@@ -5,11 +5,11 @@ use Rattle.jfs_tree.specs.Spells.{no_page}
 use Rattle.jfs_plain.specs.Tree.{Tree, walk, enter, root, place, passes, passes_on, and_then}
 use Rattle.jfs_plain.specs.declared.refusal.Refusal.{Refusal}
 use Rattle.jfs_link.specs.objects.specs.Objects.{has_names}
-use Rattle.jfs_way.specs.Answer.{is_open}
-use Rattle.jfs_way.specs.Way.{inode_at, name_from, path_from, path_of}
-use Rattle.jfs_way.specs.Walk.{HasCome, IfConsistent}
-use Rattle.jfs_way.specs.declared.object.Held.{Held}
-use Rattle.jfs_steps.specs.Place.{front_of}
+use Rattle.jfs_link.specs.way.specs.Answer.{is_open}
+use Rattle.jfs_link.specs.way.specs.Way.{inode_at, name_from, path_from, path_of}
+use Rattle.jfs_link.specs.way.specs.Walk.{HasCome, IfConsistent}
+use Rattle.jfs_link.specs.way.specs.declared.object.Held.{Held}
+use Rattle.jfs_link.specs.steps.specs.Place.{front_of}
 
 -- ---- on any volume
 

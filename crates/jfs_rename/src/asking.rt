@@ -2,7 +2,7 @@
 
 ghost use Rattle.std.specs.Prelude.{◌≡◌, ◌≤◌, ◌<◌, ℕ, [], length, get_or, IfOk, IfErr};
 ghost use Rattle.jfs_disk.specs.Image.{page_of};
-ghost use Rattle.jfs_way.specs.Answer.{Carries, Answers};
+ghost use Rattle.jfs_link.specs.way.specs.Answer.{Carries, Answers};
 ghost use Rattle.jfs_link.specs.Link.{IfConsistentBy};
 ghost use Rattle.jfs_rename.specs.Ends.{HaveNames};
 ghost use Rattle.jfs_rename.specs.Asks.{asked, changes_nothing, IsAskedOf, IsAskedOn, MayRename, RefusesRename};
@@ -13,8 +13,8 @@ use crate::room::check_room;
 use crate::through::is_inside;
 use jfs_bmap::BlockMap;
 use jfs_imap::InodeMap;
+use jfs_link::place::occupant;
 use jfs_name::Name;
-use jfs_place::occupant;
 use jfs_plain::Refusal;
 use jfs_ranges::PageView;
 

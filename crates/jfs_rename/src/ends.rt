@@ -2,17 +2,17 @@
 
 ghost use Rattle.std.specs.Prelude.{◌≡◌, ◌≤◌, ◌<◌, ◌==◌, ◌||◌, ℕ, [], length, get_or, IfOk};
 ghost use Rattle.jfs_disk.specs.Image.{page_of};
-ghost use Rattle.jfs_way.specs.Answer.{Carries, Answers};
-ghost use Rattle.jfs_way.specs.Walk.{IfConsistent};
+ghost use Rattle.jfs_link.specs.way.specs.Answer.{Carries, Answers};
+ghost use Rattle.jfs_link.specs.way.specs.Walk.{IfConsistent};
 ghost use Rattle.jfs_rename.specs.Ends.{AreHeld, AreShown, AreDirectories, HaveNames, FollowsEnds, moving_on};
 
 use jfs_imap::InodeMap;
+use jfs_link::steps::place;
+use jfs_link::way::walk;
 use jfs_name::Name;
 use jfs_plain::Refusal;
 use jfs_ranges::PageView;
 use jfs_rename_steps::Moving;
-use jfs_steps::place;
-use jfs_way::walk;
 
 /// The object at the end of `from`, the directory that has its name, and the one that has or could have the last name of `to`. The causes come in this order: the walk to the object;
 /// `IntoItself` where a path has no name; what `place` refuses of the old path, and of the new one.

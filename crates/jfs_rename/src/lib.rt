@@ -16,3 +16,9 @@ pub use permits::{Asked, permitted};
 pub use renaming::{Renamed, rename};
 pub use room::check_room;
 pub use through::{is_inside, leads_through};
+
+pub mod unlink {
+    //! Passed on from `jfs_unlink`.
+
+    pub use jfs_unlink::{remove_directory, unlink};
+}

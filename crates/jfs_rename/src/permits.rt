@@ -1,18 +1,18 @@
 //! Whether an object may go where it is to go.
 
 ghost use Rattle.std.specs.Prelude.{◌≡◌, ◌==◌, false, IfErr};
-ghost use Rattle.jfs_way.specs.Answer.{is_open};
+ghost use Rattle.jfs_link.specs.way.specs.Answer.{is_open};
 ghost use Rattle.jfs_unlink.specs.Call.{is_last_of_big};
 ghost use Rattle.jfs_rename.specs.Permits.{free_check, bare_check, over_check, permitted};
 
 use jfs_dtpage::DtForm;
 use jfs_dtree::{DirEntry, DtPages};
 use jfs_inode::Dinode;
+use jfs_link::reader::{has_names, root_in};
+use jfs_link::way::Held;
 use jfs_plain::Refusal;
-use jfs_reader::{has_names, root_in};
 use jfs_rename_steps::Moving;
 use jfs_tree::{PageForm, Way};
-use jfs_way::Held;
 
 /// What a rename is asked for.
 #[derive(Clone, Copy)]

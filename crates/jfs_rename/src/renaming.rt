@@ -2,7 +2,7 @@
 
 ghost use Rattle.std.specs.Prelude.{◌≡◌, ◌≤◌, ◌<◌, ℕ, [], length, get_or};
 ghost use Rattle.jfs_disk.specs.Image.{page_of};
-ghost use Rattle.jfs_way.specs.Answer.{Carries};
+ghost use Rattle.jfs_link.specs.way.specs.Answer.{Carries};
 ghost use Rattle.jfs_rename_steps.specs.Moves.{FitMoving, IsWithin};
 ghost use Rattle.jfs_plain.specs.Step.{rename};
 ghost use Rattle.jfs_rename.specs.Renames.{MapAfter, MovesReserved, RenamesAs};
@@ -13,8 +13,8 @@ use crate::asking::ask;
 use crate::permits::Asked;
 use jfs_bits::Moment;
 use jfs_bmap::BlockMap;
-use jfs_claim::{ClaimError, Want, take};
 use jfs_imap::InodeMap;
+use jfs_link::claim::{ClaimError, Want, take};
 use jfs_name::Name;
 use jfs_plain::Refusal;
 use jfs_ranges::{PageView, Tx};

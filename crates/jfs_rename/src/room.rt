@@ -3,19 +3,19 @@
 ghost use Rattle.std.specs.Prelude.{◌≡◌, ◌≤◌, true, length};
 ghost use Rattle.jfs_disk.specs.Image.{page_of};
 ghost use Rattle.jfs_link.specs.objects.specs.Objects.{has_names};
-ghost use Rattle.jfs_way.specs.Answer.{Carries, Answers};
-ghost use Rattle.jfs_way.specs.Walk.{IsHeld, IsShown, IsThere};
+ghost use Rattle.jfs_link.specs.way.specs.Answer.{Carries, Answers};
+ghost use Rattle.jfs_link.specs.way.specs.Walk.{IsHeld, IsShown, IsThere};
 ghost use Rattle.jfs_link.specs.Link.{IfConsistentBy};
 ghost use Rattle.jfs_rename.specs.Asks.{room_for, TellsRoom};
 
 use jfs_bmap::BlockMap;
-use jfs_claim::look_for_space;
 use jfs_dtree::is_deep;
+use jfs_link::claim::look_for_space;
+use jfs_link::reader::root_in;
+use jfs_link::way::Held;
 use jfs_name::Name;
 use jfs_plain::Refusal;
 use jfs_ranges::{PageView, ViewError};
-use jfs_reader::root_in;
-use jfs_way::Held;
 
 /// The blocks that a name may need.
 const NEED: u32 = 8;

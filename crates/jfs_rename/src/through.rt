@@ -2,17 +2,17 @@
 
 ghost use Rattle.std.specs.Prelude.{◌≡◌, ◌≤◌, ◌<◌, ℕ, [], length, get_or};
 ghost use Rattle.jfs_disk.specs.Image.{page_of};
-ghost use Rattle.jfs_way.specs.Answer.{Carries, Answers};
-ghost use Rattle.jfs_way.specs.Walk.{IfConsistent};
+ghost use Rattle.jfs_link.specs.way.specs.Answer.{Carries, Answers};
+ghost use Rattle.jfs_link.specs.way.specs.Walk.{IfConsistent};
 ghost use Rattle.jfs_rename.specs.Through.{FollowsThrough, FollowsInside, through_of, inside_of};
 
 use jfs_imap::InodeMap;
+use jfs_link::reader::has_names;
+use jfs_link::way::{Held, enter, load};
 use jfs_name::Name;
 use jfs_plain::Refusal;
 use jfs_ranges::PageView;
-use jfs_reader::has_names;
 use jfs_tree::NO_PAGE;
-use jfs_way::{Held, enter, load};
 
 /// The inode of the root directory.
 const ROOT: u32 = 2;

@@ -5,10 +5,10 @@ ghost use Rattle.std.specs.Prelude.{◌≡◌, ◌<◌, ◌≤◌, ℕ, [], leng
 use crate::volume::{BLOCKS, TestVolume, append, maps_of};
 use jfs_bits::Moment;
 use jfs_bmap::BlockMap;
+use jfs_create::link::{Linked, link};
 use jfs_create::{Stop, create, make_directory, make_link};
 use jfs_disk::{Disk, Part};
 use jfs_imap::InodeMap;
-use jfs_link::{Linked, link};
 use jfs_name::{Name, read_path};
 use jfs_plain::{Call, Refusal};
 use jfs_ranges::{PageView, Tx};

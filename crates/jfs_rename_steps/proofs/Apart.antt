@@ -10,8 +10,8 @@ use Rattle.jfs_loss.specs.objects.proofs.Sums.{zero_or_more, eq_or_not}
 use Rattle.jfs_loss.specs.meaning.specs.Consistent.{leading_to, names_in, names_for, IsConsistentTree}
 use Rattle.jfs_loss.specs.meaning.proofs.Found.{is_among, among_leads, in_place, place_there}
 use Rattle.jfs_loss.specs.meaning.proofs.Reached.{at_leads}
-use Rattle.jfs_steps.specs.Place.{front_of, last_of}
-use Rattle.jfs_steps.proofs.LastNames.{place_is}
+use Rattle.jfs_loss.specs.steps.specs.Place.{front_of, last_of}
+use Rattle.jfs_loss.specs.steps.proofs.LastNames.{place_is}
 
 -- a name that leads to an object is one of its directory's
 some_name : (o : Option Node) (name : List ℕ) (m : ℕ) → enter_from o name ≡ Ok m → 0 < leading_to m (names_in o)

@@ -32,17 +32,17 @@ use Rattle.jfs_loss.specs.objects.proofs.Owned.{owned_once}
 use Rattle.jfs_loss.specs.objects.proofs.Sums.{zero_or_more}
 use Rattle.jfs_loss.specs.meaning.specs.Readers.{readers, root_of}
 use Rattle.jfs_loss.specs.meaning.proofs.Books.{count_append}
-use Rattle.jfs_steps.specs.After.{used_after, extents_after, frees}
-use Rattle.jfs_steps.specs.Laws.{TakesAndFrees, LeavesSets, IsFair}
-use Rattle.jfs_steps.specs.Put.{TellsLines}
-use Rattle.jfs_steps.proofs.After.{counts, used_onto, extents_onto, lines_alone, leaves_onto, runs_leave}
-use Rattle.jfs_steps.proofs.Sets.{frees_onto, moves_onto, lines_move, frees_move, taken_move, lines_on_top}
-use Rattle.jfs_lead_steps.specs.Reached.{HasTree}
-use Rattle.jfs_lead_steps.proofs.Chain.{set_here, set_other, drop_has, drop_other}
-use Rattle.jfs_lead_steps.proofs.InPlace.{ChangesInPlace, in_place_has, in_place_other}
-use Rattle.jfs_lead_steps.proofs.Turned.{turns, dir_holds, no_extents_of, names_listed}
-use Rattle.jfs_lead_steps.proofs.Named.{put_within, put_past, all_below, gains_set, gains_have, leads_set, leads_have, loses_have}
-use Rattle.jfs_lead_steps.proofs.Again.{again, stays_in_use}
+use Rattle.jfs_loss.specs.steps.specs.After.{used_after, extents_after, frees}
+use Rattle.jfs_loss.specs.steps.specs.Laws.{TakesAndFrees, LeavesSets, IsFair}
+use Rattle.jfs_loss.specs.steps.specs.Put.{TellsLines}
+use Rattle.jfs_loss.specs.steps.proofs.After.{counts, used_onto, extents_onto, lines_alone, leaves_onto, runs_leave}
+use Rattle.jfs_loss.specs.steps.proofs.Sets.{frees_onto, moves_onto, lines_move, frees_move, taken_move, lines_on_top}
+use Rattle.jfs_loss.specs.lead_steps.specs.Reached.{HasTree}
+use Rattle.jfs_loss.specs.lead_steps.proofs.Chain.{set_here, set_other, drop_has, drop_other}
+use Rattle.jfs_loss.specs.lead_steps.proofs.InPlace.{ChangesInPlace, in_place_has, in_place_other}
+use Rattle.jfs_loss.specs.lead_steps.proofs.Turned.{turns, dir_holds, no_extents_of, names_listed}
+use Rattle.jfs_loss.specs.lead_steps.proofs.Named.{put_within, put_past, all_below, gains_set, gains_have, leads_set, leads_have, loses_have}
+use Rattle.jfs_loss.specs.lead_steps.proofs.Again.{again, stays_in_use}
 
 -- After so many edits of volume v: pages as the edits leave them, and blocks in use too, but for those that are owed: they are freed by the edits, and an object still has them.
 pub record Stage (blocks : ℕ) (v : Volume) (owed : List ℕ) (tx : List Edit) (w : Volume) (t : Tree) : Type 0 where

@@ -12,12 +12,12 @@ use Rattle.jfs_loss.specs.page_tree.specs.Removes.{page_frees}
 use Rattle.jfs_loss.specs.xtree.specs.Cutting.{run_frees}
 use Rattle.jfs_loss.specs.objects.specs.Objects.{has_extents}
 use Rattle.jfs_loss.specs.meaning.specs.Readers.{root_of}
-use Rattle.jfs_way.specs.declared.object.Held.{Held}
-use Rattle.jfs_steps.specs.After.{takes}
-use Rattle.jfs_steps.specs.Laws.{LeavesSets}
-use Rattle.jfs_steps.specs.Put.{TellsLines}
-use Rattle.jfs_steps.proofs.After.{lines_alone, runs_leave}
-use Rattle.jfs_steps.proofs.Sets.{takes_onto, moves_onto, lines_move, frees_move, taken_move, lines_on_top}
+use Rattle.jfs_loss.specs.way.specs.declared.object.Held.{Held}
+use Rattle.jfs_loss.specs.steps.specs.After.{takes}
+use Rattle.jfs_loss.specs.steps.specs.Laws.{LeavesSets}
+use Rattle.jfs_loss.specs.steps.specs.Put.{TellsLines}
+use Rattle.jfs_loss.specs.steps.proofs.After.{lines_alone, runs_leave}
+use Rattle.jfs_loss.specs.steps.proofs.Sets.{takes_onto, moves_onto, lines_move, frees_move, taken_move, lines_on_top}
 use Rattle.jfs_loss.specs.Frees.{CutsIf, attribute_runs}
 use Rattle.jfs_loss.proofs.Counts.{runs_move, changes_move}
 use Rattle.jfs_rename_steps.specs.Entries.{LosesEntry}

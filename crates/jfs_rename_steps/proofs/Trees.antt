@@ -6,8 +6,8 @@ use Rattle.jfs_plain.specs.Tree.{Tree, place_at}
 use Rattle.jfs_plain.specs.Moves.{changed, dropped, stamped, rises, falls, moves, gains, loses, leads, shifts, displaced}
 use Rattle.jfs_plain.specs.Step.{entry_as, gained, departs}
 use Rattle.jfs_plain.specs.declared.node.Node.{Node}
-use Rattle.jfs_lead_steps.proofs.Chain.{twice, either_order}
-use Rattle.jfs_lead_steps.proofs.Turned.{turns}
+use Rattle.jfs_loss.specs.lead_steps.proofs.Chain.{twice, either_order}
+use Rattle.jfs_loss.specs.lead_steps.proofs.Turned.{turns}
 use Rattle.jfs_rename_steps.specs.Moves.{less_if}
 
 -- what becomes of the object

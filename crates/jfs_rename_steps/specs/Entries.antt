@@ -17,12 +17,12 @@ use Rattle.jfs_dtree.specs.Replacing.{ReplacesName, ChangesOnePlace}
 use Rattle.jfs_dtree.specs.declared.error.DtError.{DtError}
 use Rattle.jfs_plain.specs.declared.refusal.Refusal.{Refusal}
 use Rattle.jfs_loss.specs.meaning.specs.Readers.{root_of}
-use Rattle.jfs_way.specs.Answer.{is_open, names_refusal}
-use Rattle.jfs_way.specs.declared.object.Held.{Held}
-use Rattle.jfs_steps.specs.Gains.{entry_of}
-use Rattle.jfs_steps.specs.Put.{AddsInode, TellsLines}
-use Rattle.jfs_steps.specs.declared.gain.Gain.{Gain}
-use Rattle.jfs_lead_steps.specs.Balance.{own_after}
+use Rattle.jfs_loss.specs.way.specs.Answer.{is_open, names_refusal}
+use Rattle.jfs_loss.specs.way.specs.declared.object.Held.{Held}
+use Rattle.jfs_loss.specs.steps.specs.Gains.{entry_of}
+use Rattle.jfs_loss.specs.steps.specs.Put.{AddsInode, TellsLines}
+use Rattle.jfs_loss.specs.steps.specs.declared.gain.Gain.{Gain}
+use Rattle.jfs_loss.specs.lead_steps.specs.Balance.{own_after}
 use Rattle.jfs_loss.specs.Inodes.{frees_in}
 use Rattle.jfs_rename_steps.specs.declared.entries.Entered.{Entered}
 

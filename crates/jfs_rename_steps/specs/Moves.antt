@@ -7,11 +7,11 @@ use Rattle.jfs_inode.specs.declared.fields.Dinode.{Dinode}
 use Rattle.jfs_ranges.specs.declared.edit.Edit.{Edit}
 use Rattle.jfs_plain.specs.declared.refusal.Refusal.{Refusal}
 use Rattle.jfs_loss.specs.objects.specs.Objects.{has_names}
-use Rattle.jfs_way.specs.Answer.{is_open, Answers}
-use Rattle.jfs_way.specs.declared.object.Held.{Held}
-use Rattle.jfs_steps.specs.Gains.{GainRefused}
-use Rattle.jfs_steps.specs.Put.{AddsInode, TellsLines}
-use Rattle.jfs_steps.specs.declared.gain.Gain.{Gain}
+use Rattle.jfs_loss.specs.way.specs.Answer.{is_open, Answers}
+use Rattle.jfs_loss.specs.way.specs.declared.object.Held.{Held}
+use Rattle.jfs_loss.specs.steps.specs.Gains.{GainRefused}
+use Rattle.jfs_loss.specs.steps.specs.Put.{AddsInode, TellsLines}
+use Rattle.jfs_loss.specs.steps.specs.declared.gain.Gain.{Gain}
 use Rattle.jfs_loss.specs.Causes.{lost_from}
 use Rattle.jfs_rename_steps.specs.Entries.{GainsEntry, LeadsEntry, LosesEntry, LossRefused}
 use Rattle.jfs_rename_steps.specs.Objects.{goes, unnamed, Arrives, FreesIf, MeetsIf}

@@ -11,9 +11,9 @@ use Rattle.jfs_dtree.specs.Parent.{parent_of}
 use Rattle.jfs_plain.specs.declared.refusal.Refusal.{Refusal}
 use Rattle.jfs_loss.specs.objects.specs.Objects.{has_names}
 use Rattle.jfs_loss.specs.meaning.specs.Readers.{root_of}
-use Rattle.jfs_way.specs.Answer.{is_open}
-use Rattle.jfs_way.specs.declared.object.Held.{Held}
-use Rattle.jfs_steps.specs.Put.{AddsInode, TellsLines}
+use Rattle.jfs_loss.specs.way.specs.Answer.{is_open}
+use Rattle.jfs_loss.specs.way.specs.declared.object.Held.{Held}
+use Rattle.jfs_loss.specs.steps.specs.Put.{AddsInode, TellsLines}
 use Rattle.jfs_loss.specs.Causes.{MeetsTree}
 use Rattle.jfs_loss.specs.Frees.{FreesObject}
 use Rattle.jfs_loss.specs.Inodes.{fallen, gone}

@@ -5,8 +5,8 @@ ghost use Rattle.jfs_disk.specs.Image.{page_of};
 ghost use Rattle.jfs_inode.specs.Inode.{FitsDinode};
 ghost use Rattle.jfs_loss.specs.page_tree.specs.Form.{AllBelow};
 ghost use Rattle.jfs_loss.specs.page_tree.specs.Fresh.{blocks_of};
-ghost use Rattle.jfs_way.specs.Answer.{Carries, Answers};
-ghost use Rattle.jfs_steps.specs.Gains.{GainRefused, TakesFront};
+ghost use Rattle.jfs_loss.specs.way.specs.Answer.{Carries, Answers};
+ghost use Rattle.jfs_loss.specs.steps.specs.Gains.{GainRefused, TakesFront};
 ghost use Rattle.jfs_loss.specs.Causes.{lost_from};
 ghost use Rattle.jfs_loss.specs.Inodes.{frees_in};
 ghost use Rattle.jfs_rename_steps.specs.Entries.{GainsEntry, LeadsEntry, LosesEntry, LossRefused, turned};
@@ -14,12 +14,12 @@ ghost use Rattle.jfs_rename_steps.specs.Entries.{GainsEntry, LeadsEntry, LosesEn
 use jfs_bits::{Moment, PxdList, get_array, put_array};
 use jfs_dtree::{add, replace};
 use jfs_inode::Dinode;
-use jfs_lead_steps::{own_after, remove_on_top};
+use jfs_loss::lead_steps::{own_after, remove_on_top};
+use jfs_loss::steps::{Gain, from_names, put_inode};
+use jfs_loss::way::Held;
 use jfs_name::Name;
 use jfs_plain::Refusal;
 use jfs_ranges::{Edit, PageView, Tx};
-use jfs_steps::{Gain, from_names, put_inode};
-use jfs_way::Held;
 use std::alloc::Global;
 
 /// A directory's inode after a step, and the transaction up to there.

@@ -3,16 +3,16 @@
 ghost use Rattle.std.specs.Prelude.{◌≡◌, ◌≤◌, ◌<◌, length, IfOk, IfErr};
 ghost use Rattle.jfs_disk.specs.Image.{page_of};
 ghost use Rattle.jfs_inode.specs.Inode.{FitsDinode};
-ghost use Rattle.jfs_way.specs.Answer.{Carries};
+ghost use Rattle.jfs_loss.specs.way.specs.Answer.{Carries};
 ghost use Rattle.jfs_rename_steps.specs.Moves.{Leaves, StaysNamed};
 
 use crate::entries::lose_entry;
 use crate::objects::arrive;
 use jfs_bits::Moment;
+use jfs_loss::way::Held;
 use jfs_name::Name;
 use jfs_plain::Refusal;
 use jfs_ranges::{PageView, Tx};
-use jfs_way::Held;
 use std::alloc::Global;
 
 /// An object, the directory to which it comes, and the one that it leaves, as it stands then, with the links that it has afterwards.

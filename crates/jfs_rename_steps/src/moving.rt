@@ -5,8 +5,8 @@ ghost use Rattle.jfs_disk.specs.Image.{page_of};
 ghost use Rattle.jfs_inode.specs.Inode.{FitsDinode};
 ghost use Rattle.jfs_loss.specs.page_tree.specs.Form.{AllBelow};
 ghost use Rattle.jfs_loss.specs.page_tree.specs.Fresh.{blocks_of};
-ghost use Rattle.jfs_way.specs.Answer.{Carries};
-ghost use Rattle.jfs_steps.specs.Gains.{TakesFront};
+ghost use Rattle.jfs_loss.specs.way.specs.Answer.{Carries};
+ghost use Rattle.jfs_loss.specs.steps.specs.Gains.{TakesFront};
 ghost use Rattle.jfs_rename_steps.specs.Moves.{FitMoving, IsWithin, MovesToFree, MovesOver, FreeRefused, OverRefused, passes_over, gain_of, source_after, leaving_free, leaving_over};
 
 use crate::entries::{gain_entry, lead_entry};
@@ -14,12 +14,12 @@ use crate::leaving::{Leaving, leave};
 use crate::objects::{displace, free_if_gone};
 use jfs_bits::{Moment, PxdList};
 use jfs_inode::Dinode;
+use jfs_loss::reader::has_names;
+use jfs_loss::steps::Gain;
+use jfs_loss::way::Held;
 use jfs_name::Name;
 use jfs_plain::Refusal;
 use jfs_ranges::{PageView, Tx};
-use jfs_reader::has_names;
-use jfs_steps::Gain;
-use jfs_way::Held;
 use std::alloc::Global;
 
 /// The object that is renamed, its directory, and the one that gets the new name.

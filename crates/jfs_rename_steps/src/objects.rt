@@ -3,20 +3,20 @@
 ghost use Rattle.std.specs.Prelude.{◌≡◌, ◌<◌, true, OnOk, IfOk, IfErr};
 ghost use Rattle.jfs_disk.specs.Image.{page_of};
 ghost use Rattle.jfs_inode.specs.Inode.{FitsDinode};
-ghost use Rattle.jfs_way.specs.Answer.{Carries, is_open};
+ghost use Rattle.jfs_loss.specs.way.specs.Answer.{Carries, is_open};
 ghost use Rattle.jfs_loss.specs.objects.specs.Objects.{has_names};
-ghost use Rattle.jfs_steps.specs.Put.{AddsInode, TellsLines};
+ghost use Rattle.jfs_loss.specs.steps.specs.Put.{AddsInode, TellsLines};
 ghost use Rattle.jfs_rename_steps.specs.Objects.{goes, unnamed, HasArrived, Arrives, FreesIf, MeetsIf};
 
 use jfs_bits::{Moment, get_array, put_array};
 use jfs_dtree::set_parent;
 use jfs_inode::Dinode;
 use jfs_loss::free_object;
+use jfs_loss::reader::has_names;
+use jfs_loss::steps::put_inode;
+use jfs_loss::way::Held;
 use jfs_plain::Refusal;
 use jfs_ranges::{PageView, Tx};
-use jfs_reader::has_names;
-use jfs_steps::put_inode;
-use jfs_way::Held;
 use std::alloc::Global;
 
 /// The transaction that frees all that an object has, where it goes with the name that it loses: a directory, or an object with one link; else an empty one. A directory is taken to have no names. It is `Damaged`

@@ -8,3 +8,9 @@ pub use law::{
     fresh_inode_is_picked, held_directories_are_deep_by_their_roots, room_is_known_by_maps,
     runs_are_free_once_settled, unowned_blocks_are_free,
 };
+
+pub mod bmap {
+    //! Passed on from `jfs_bmap`.
+
+    pub use jfs_way::bmap::{BlockMap, ReserveError};
+}

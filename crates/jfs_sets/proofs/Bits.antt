@@ -12,7 +12,7 @@ use Rattle.std.specs.Option.{option_map}
 use Rattle.jfs_bits.specs.declared.extent.Xad.{Xad}
 use Rattle.jfs_mount.specs.objects.specs.Contents.{block_of, bytes_at}
 use Rattle.jfs_mount.specs.Files.{IsWithin}
-use Rattle.jfs_reader.specs.Reading.{IsPast}
+use Rattle.jfs_mount.specs.reader.specs.Reading.{IsPast}
 use Rattle.jfs_sets.specs.Parts.{or_zeros, part_of, parts_from, AreParts}
 
 field-front : (xs ys : List ℕ) (at width : ℕ) → at + width ≤ length xs → field_of (xs ++ ys) at width ≡ field_of xs at width

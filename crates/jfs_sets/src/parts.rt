@@ -8,8 +8,8 @@ ghost use Rattle.jfs_sets.specs.Parts.{or_zeros, part_of, AreParts};
 
 use jfs_bits::Xad;
 use jfs_mount::from_block;
+use jfs_mount::reader::{ReadError, read_part};
 use jfs_ranges::{PageView, ViewError};
-use jfs_reader::{ReadError, read_part};
 use std::alloc::{AllocError, Global};
 
 /// The `N` bytes from `at` on of so many pages of a file that has these extents, from page `first` of it on, one behind the other; zeros for a page without a block.

@@ -8,15 +8,15 @@ use Rattle.jfs_ranges.specs.declared.edit.Edit.{Edit}
 use Rattle.jfs_ranges.specs.declared.edit.Edit.TheVariants.{Lines, NoRedo, Alloc, Free}
 use Rattle.jfs_ranges.proofs.OnTop.{put_onto}
 use Rattle.jfs_ranges.specs.Laid.{put_tx}
-use Rattle.jfs_tree.specs.Tell.{IsRuns, lines_from}
-use Rattle.jfs_reader.specs.objects.specs.Volume.{Volume, home}
-use Rattle.jfs_reader.specs.objects.specs.Objects.{Object, objects, object_in}
-use Rattle.jfs_reader.specs.objects.specs.Owners.{bit, run_has}
-use Rattle.jfs_reader.specs.meaning.specs.Readers.{readers}
+use Rattle.jfs_way.specs.page_tree.specs.Tell.{IsRuns, lines_from}
+use Rattle.jfs_way.specs.objects.specs.Volume.{Volume, home}
+use Rattle.jfs_way.specs.objects.specs.Objects.{Object, objects, object_in}
+use Rattle.jfs_way.specs.objects.specs.Owners.{bit, run_has}
+use Rattle.jfs_way.specs.meaning.specs.Readers.{readers}
 use Rattle.jfs_steps.specs.After.{is_extent, place_in, four_from, with_run, without_run, used_after, extents_after, after_edits, after_call, takes, frees}
-use Rattle.jfs_plain.specs.Tree.{Tree}
+use Rattle.jfs_way.specs.plain.specs.Tree.{Tree}
 use Rattle.jfs_steps.specs.Put.{TellsLines}
-use Rattle.jfs_plain.specs.Step.{Outcome}
+use Rattle.jfs_way.specs.plain.specs.Step.{Outcome}
 use Rattle.jfs_steps.specs.Call.{IsDone}
 use Rattle.jfs_steps.specs.Laws.{AppendLaw, CountLaw, LeavesSets, LinesLaw, AfterLaw}
 

@@ -11,32 +11,32 @@ use Rattle.jfs_name.specs.Directory.{with_name}
 use Rattle.jfs_ranges.specs.declared.edit.Edit.{Edit}
 use Rattle.jfs_ranges.specs.Laid.{put_tx}
 use Rattle.jfs_bits.specs.declared.rule.PageKind.TheVariants as kinds
-use Rattle.jfs_tree.specs.Changes.{TellsTaken}
-use Rattle.jfs_tree.specs.Edit.{count_in}
-use Rattle.jfs_tree.specs.Form.{AllBelow}
-use Rattle.jfs_tree.specs.Fresh.{after_tx, blocks_of}
-use Rattle.jfs_tree.specs.Spells.{spells, footprint, no_page}
-use Rattle.jfs_dtree.specs.Parent.{parent_of}
-use Rattle.jfs_dtree.specs.Spells.{spells_names, owned_pages, broken_for}
-use Rattle.jfs_dtree.specs.declared.error.DtError.{DtError}
-use Rattle.jfs_dtree.specs.Adding.{AddsName, HasOneMoreName, RefusesName, AddTellsWay, ClashesFor}
-use Rattle.jfs_plain.specs.Moves.{gains}
-use Rattle.jfs_plain.specs.declared.node.Node.{Node}
-use Rattle.jfs_plain.specs.declared.refusal.Refusal.{Refusal}
+use Rattle.jfs_way.specs.page_tree.specs.Changes.{TellsTaken}
+use Rattle.jfs_way.specs.page_tree.specs.Edit.{count_in}
+use Rattle.jfs_way.specs.page_tree.specs.Form.{AllBelow}
+use Rattle.jfs_way.specs.page_tree.specs.Fresh.{after_tx, blocks_of}
+use Rattle.jfs_way.specs.page_tree.specs.Spells.{spells, footprint, no_page}
+use Rattle.jfs_way.specs.dtree.specs.Parent.{parent_of}
+use Rattle.jfs_way.specs.dtree.specs.Spells.{spells_names, owned_pages, broken_for}
+use Rattle.jfs_way.specs.dtree.specs.declared.error.DtError.{DtError}
+use Rattle.jfs_way.specs.dtree.specs.Adding.{AddsName, HasOneMoreName, RefusesName, AddTellsWay, ClashesFor}
+use Rattle.jfs_way.specs.plain.specs.Moves.{gains}
+use Rattle.jfs_way.specs.plain.specs.declared.node.Node.{Node}
+use Rattle.jfs_way.specs.plain.specs.declared.refusal.Refusal.{Refusal}
 use Rattle.jfs_way.specs.Answer.{names_refusal}
-use Rattle.jfs_reader.specs.objects.specs.Readers.{Readers}
-use Rattle.jfs_reader.specs.objects.specs.Volume.{Volume}
-use Rattle.jfs_reader.specs.objects.specs.Objects.{Object, objects, spelled, is_live, has_names, has_extents, listed}
-use Rattle.jfs_reader.specs.objects.specs.Objects as objects
-use Rattle.jfs_reader.specs.objects.specs.Owners.{holds, attributes_held}
-use Rattle.jfs_reader.specs.objects.specs.Changes.{SetsObject, Takes}
-use Rattle.jfs_reader.specs.objects.proofs.Framed.{same_spelled}
-use Rattle.jfs_reader.specs.objects.proofs.Owned.{owned_once}
-use Rattle.jfs_reader.specs.objects.proofs.Sums.{zero_or_more}
-use Rattle.jfs_reader.specs.meaning.specs.Contents.{byte_in}
-use Rattle.jfs_reader.specs.meaning.specs.Node.{node_with, node_from, node_of, node_in, target_in}
-use Rattle.jfs_reader.specs.meaning.specs.Readers.{readers, root_of}
-use Rattle.jfs_reader.specs.meaning.proofs.Books.{count_append}
+use Rattle.jfs_way.specs.objects.specs.Readers.{Readers}
+use Rattle.jfs_way.specs.objects.specs.Volume.{Volume}
+use Rattle.jfs_way.specs.objects.specs.Objects.{Object, objects, spelled, is_live, has_names, has_extents, listed}
+use Rattle.jfs_way.specs.objects.specs.Objects as objects
+use Rattle.jfs_way.specs.objects.specs.Owners.{holds, attributes_held}
+use Rattle.jfs_way.specs.objects.specs.Changes.{SetsObject, Takes}
+use Rattle.jfs_way.specs.objects.proofs.Framed.{same_spelled}
+use Rattle.jfs_way.specs.objects.proofs.Owned.{owned_once}
+use Rattle.jfs_way.specs.objects.proofs.Sums.{zero_or_more}
+use Rattle.jfs_way.specs.meaning.specs.Contents.{byte_in}
+use Rattle.jfs_way.specs.meaning.specs.Node.{node_with, node_from, node_of, node_in, target_in}
+use Rattle.jfs_way.specs.meaning.specs.Readers.{readers, root_of}
+use Rattle.jfs_way.specs.meaning.proofs.Books.{count_append}
 use Rattle.jfs_way.specs.declared.object.Held.{Held}
 use Rattle.jfs_steps.specs.declared.gain.Gain.{Gain}
 use Rattle.jfs_steps.specs.Gains.{GainsName, GainRefused, CanGain, IsGained, GainLaw, with_root, entry_of, after_set, linked}

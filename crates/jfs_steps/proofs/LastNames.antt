@@ -4,25 +4,25 @@ use Rattle.jfs_inode.specs.Rules.{type_of}
 use Rattle.jfs_inode.specs.declared.fields.Dinode.{Dinode}
 use Rattle.jfs_name.specs.declared.name.NameEntry.{NameEntry}
 use Rattle.jfs_name.specs.Directory.{named}
-use Rattle.jfs_imap.specs.Inodes.{Inodes}
+use Rattle.jfs_way.specs.imap.specs.Inodes.{Inodes}
 use Rattle.jfs_way.specs.bmap.specs.States.{Blocks}
 use Rattle.jfs_disk.specs.Image.{Image, page_of}
 use Rattle.jfs_ranges.specs.declared.view.ViewError.{ViewError}
 use Rattle.jfs_ranges.specs.declared.view.ViewError.TheVariants.{Read, Memory}
-use Rattle.jfs_dtree.specs.Spells.{root_node, page_nodes, spells_names, FailsWhereBad, broken_for, found_for, TellsWay}
-use Rattle.jfs_dtree.specs.declared.error.DtError.{DtError}
-use Rattle.jfs_dtree.specs.declared.error.DtError.TheVariants as dt
-use Rattle.jfs_reader.specs.objects.specs.Volume.{Volume, home}
-use Rattle.jfs_reader.specs.objects.specs.Image.{extent_place}
-use Rattle.jfs_reader.specs.objects.specs.Objects.{Object, IsWhole, objects, spelled, has_names, listed}
-use Rattle.jfs_reader.specs.meaning.specs.Readers.{readers, root_of}
-use Rattle.jfs_reader.specs.meaning.specs.Node.{kind_of, node_in, node_from, node_with, target_in}
-use Rattle.jfs_reader.specs.meaning.specs.Consistent.{IsConsistent}
-use Rattle.jfs_plain.specs.Tree.{Tree, Place, walk, enter, root, and_then, is_dir, in_directory, place_as, place_at, place_from, place, new_place, named_in, unless_there, at_place}
-use Rattle.jfs_plain.specs.declared.node.Node.{Node}
-use Rattle.jfs_plain.specs.declared.refusal.Refusal.{Refusal}
-use Rattle.jfs_plain.specs.declared.refusal.Refusal.TheVariants.{NotDir, Exists}
-use Rattle.jfs_plain.specs.declared.reply.NodeKind.TheVariants.{Dir, File, Link, Other}
+use Rattle.jfs_way.specs.dtree.specs.Spells.{root_node, page_nodes, spells_names, FailsWhereBad, broken_for, found_for, TellsWay}
+use Rattle.jfs_way.specs.dtree.specs.declared.error.DtError.{DtError}
+use Rattle.jfs_way.specs.dtree.specs.declared.error.DtError.TheVariants as dt
+use Rattle.jfs_way.specs.objects.specs.Volume.{Volume, home}
+use Rattle.jfs_way.specs.objects.specs.Image.{extent_place}
+use Rattle.jfs_way.specs.objects.specs.Objects.{Object, IsWhole, objects, spelled, has_names, listed}
+use Rattle.jfs_way.specs.meaning.specs.Readers.{readers, root_of}
+use Rattle.jfs_way.specs.meaning.specs.Node.{kind_of, node_in, node_from, node_with, target_in}
+use Rattle.jfs_way.specs.meaning.specs.Consistent.{IsConsistent}
+use Rattle.jfs_way.specs.plain.specs.Tree.{Tree, Place, walk, enter, root, and_then, is_dir, in_directory, place_as, place_at, place_from, place, new_place, named_in, unless_there, at_place}
+use Rattle.jfs_way.specs.plain.specs.declared.node.Node.{Node}
+use Rattle.jfs_way.specs.plain.specs.declared.refusal.Refusal.{Refusal}
+use Rattle.jfs_way.specs.plain.specs.declared.refusal.Refusal.TheVariants.{NotDir, Exists}
+use Rattle.jfs_way.specs.plain.specs.declared.reply.NodeKind.TheVariants.{Dir, File, Link, Other}
 use Rattle.jfs_way.specs.Answer.{is_open, Answers, Follows, view_refusal, names_refusal}
 use Rattle.jfs_way.specs.Volume.{volume_of}
 use Rattle.jfs_way.specs.Way.{path_of, if_unbroken}

@@ -6,9 +6,9 @@ use Rattle.jfs_inode.specs.declared.fields.Dinode.{Dinode}
 use Rattle.jfs_ranges.specs.declared.edit.Edit.{Edit}
 use Rattle.jfs_ranges.specs.Apply.{apply_tx}
 use Rattle.jfs_bits.specs.declared.rule.PageKind.TheVariants as kinds
-use Rattle.jfs_tree.specs.Tell.{LeavesOthers, TellsRuns}
-use Rattle.jfs_reader.specs.objects.specs.Volume.{slot_of}
-use Rattle.jfs_reader.specs.objects.proofs.Sums.{eq_or_not}
+use Rattle.jfs_way.specs.page_tree.specs.Tell.{LeavesOthers, TellsRuns}
+use Rattle.jfs_way.specs.objects.specs.Volume.{slot_of}
+use Rattle.jfs_way.specs.objects.proofs.Sums.{eq_or_not}
 use Rattle.jfs_ranges.specs.Laid.{put_tx}
 use Rattle.jfs_steps.specs.Put.{AddsInode, TellsLines}
 

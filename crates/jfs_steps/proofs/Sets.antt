@@ -6,12 +6,12 @@ use Rattle.jfs_bits.specs.declared.rule.PageKind.TheVariants as kinds
 use Rattle.jfs_ranges.specs.Laid.{put_tx}
 use Rattle.jfs_ranges.specs.declared.edit.Edit.{Edit}
 use Rattle.jfs_ranges.specs.declared.edit.Edit.TheVariants.{Lines, NoRedo, Alloc, Free}
-use Rattle.jfs_tree.specs.Changes.{PagesEdits, TellsChanges, TellsTaken, TellsGone}
-use Rattle.jfs_tree.specs.Edit.{count_in}
-use Rattle.jfs_tree.specs.Fresh.{allocs_of}
-use Rattle.jfs_tree.specs.Removes.{page_no_redos, page_marks, page_frees}
-use Rattle.jfs_tree.specs.Tell.{PageEdits, is_in}
-use Rattle.jfs_reader.specs.objects.specs.Owners.{bit, run_has}
+use Rattle.jfs_way.specs.page_tree.specs.Changes.{PagesEdits, TellsChanges, TellsTaken, TellsGone}
+use Rattle.jfs_way.specs.page_tree.specs.Edit.{count_in}
+use Rattle.jfs_way.specs.page_tree.specs.Fresh.{allocs_of}
+use Rattle.jfs_way.specs.page_tree.specs.Removes.{page_no_redos, page_marks, page_frees}
+use Rattle.jfs_way.specs.page_tree.specs.Tell.{PageEdits, is_in}
+use Rattle.jfs_way.specs.objects.specs.Owners.{bit, run_has}
 use Rattle.jfs_steps.specs.After.{is_extent, extents_after, takes, frees, allocs_in}
 use Rattle.jfs_steps.specs.Put.{TellsLines}
 use Rattle.jfs_steps.specs.Laws.{TakesAndFrees, StepLaw, LeavesSets, ChangesPagesAlone}

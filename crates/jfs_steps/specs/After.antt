@@ -8,10 +8,10 @@ use Rattle.jfs_bits.specs.declared.rule.PageKind.TheVariants as kinds
 use Rattle.jfs_ranges.specs.declared.edit.Edit.{Edit}
 use Rattle.jfs_ranges.specs.declared.edit.Edit.TheVariants.{Lines, NoRedo, Alloc, Free}
 use Rattle.jfs_ranges.specs.Laid.{put_tx}
-use Rattle.jfs_reader.specs.objects.specs.Volume.{Volume}
-use Rattle.jfs_reader.specs.objects.specs.Objects.{objects}
-use Rattle.jfs_reader.specs.objects.specs.Owners.{run_has}
-use Rattle.jfs_reader.specs.meaning.specs.Readers.{readers}
+use Rattle.jfs_way.specs.objects.specs.Volume.{Volume}
+use Rattle.jfs_way.specs.objects.specs.Objects.{objects}
+use Rattle.jfs_way.specs.objects.specs.Owners.{run_has}
+use Rattle.jfs_way.specs.meaning.specs.Readers.{readers}
 
 -- ---- a new inode extent
 

@@ -1,17 +1,17 @@
 -- What a call's transaction does.
 use Rattle.std.specs.Prelude.{◌≡◌, ◌⊎◌, ℕ, true, List, Result, Ok, Err}
-use Rattle.jfs_imap.specs.Inodes.{Inodes}
+use Rattle.jfs_way.specs.imap.specs.Inodes.{Inodes}
 use Rattle.jfs_way.specs.bmap.specs.States.{Blocks}
 use Rattle.jfs_ranges.specs.declared.edit.Edit.{Edit}
-use Rattle.jfs_plain.specs.Tree.{Tree}
-use Rattle.jfs_plain.specs.Moves.{Same}
-use Rattle.jfs_plain.specs.Step.{Outcome}
-use Rattle.jfs_plain.specs.declared.refusal.Refusal.{Refusal}
-use Rattle.jfs_plain.specs.declared.reply.Reply.TheVariants.{Done}
-use Rattle.jfs_reader.specs.objects.specs.Volume.{Volume}
-use Rattle.jfs_reader.specs.meaning.specs.Readers.{readers}
-use Rattle.jfs_reader.specs.meaning.specs.Tree.{tree_on}
-use Rattle.jfs_reader.specs.meaning.specs.Consistent.{IsConsistent}
+use Rattle.jfs_way.specs.plain.specs.Tree.{Tree}
+use Rattle.jfs_way.specs.plain.specs.Moves.{Same}
+use Rattle.jfs_way.specs.plain.specs.Step.{Outcome}
+use Rattle.jfs_way.specs.plain.specs.declared.refusal.Refusal.{Refusal}
+use Rattle.jfs_way.specs.plain.specs.declared.reply.Reply.TheVariants.{Done}
+use Rattle.jfs_way.specs.objects.specs.Volume.{Volume}
+use Rattle.jfs_way.specs.meaning.specs.Readers.{readers}
+use Rattle.jfs_way.specs.meaning.specs.Tree.{tree_on}
+use Rattle.jfs_way.specs.meaning.specs.Consistent.{IsConsistent}
 use Rattle.jfs_way.specs.Answer.{is_open}
 use Rattle.jfs_way.specs.Walk.{IfConsistent}
 use Rattle.jfs_way.specs.Volume.{volume_of, PlacesWithin}

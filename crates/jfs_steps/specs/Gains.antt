@@ -8,26 +8,26 @@ use Rattle.jfs_inode.specs.declared.fields.Dinode.{Dinode}
 use Rattle.jfs_name.specs.declared.name.NameEntry.{NameEntry}
 use Rattle.jfs_ranges.specs.Laid.{put_tx}
 use Rattle.jfs_ranges.specs.declared.edit.Edit.{Edit}
-use Rattle.jfs_tree.specs.Changes.{TellsTaken}
-use Rattle.jfs_tree.specs.Edit.{count_in}
-use Rattle.jfs_tree.specs.Form.{AllBelow}
-use Rattle.jfs_tree.specs.Fresh.{blocks_of}
-use Rattle.jfs_dtree.specs.Spells.{spells_names, broken_for}
-use Rattle.jfs_dtree.specs.Parent.{parent_of}
-use Rattle.jfs_dtree.specs.Adding.{AddsName, RefusesName, AddTellsWay, ClashesFor}
-use Rattle.jfs_dtree.specs.declared.error.DtError.{DtError}
-use Rattle.jfs_plain.specs.declared.refusal.Refusal.{Refusal}
+use Rattle.jfs_way.specs.page_tree.specs.Changes.{TellsTaken}
+use Rattle.jfs_way.specs.page_tree.specs.Edit.{count_in}
+use Rattle.jfs_way.specs.page_tree.specs.Form.{AllBelow}
+use Rattle.jfs_way.specs.page_tree.specs.Fresh.{blocks_of}
+use Rattle.jfs_way.specs.dtree.specs.Spells.{spells_names, broken_for}
+use Rattle.jfs_way.specs.dtree.specs.Parent.{parent_of}
+use Rattle.jfs_way.specs.dtree.specs.Adding.{AddsName, RefusesName, AddTellsWay, ClashesFor}
+use Rattle.jfs_way.specs.dtree.specs.declared.error.DtError.{DtError}
+use Rattle.jfs_way.specs.plain.specs.declared.refusal.Refusal.{Refusal}
 use Rattle.jfs_way.specs.Answer.{is_open, names_refusal}
-use Rattle.jfs_plain.specs.Moves.{gains}
-use Rattle.jfs_plain.specs.declared.node.Node.{Node}
-use Rattle.jfs_reader.specs.objects.specs.Volume.{Volume, home}
-use Rattle.jfs_reader.specs.objects.specs.Objects.{objects, spelled, has_names, is_live}
-use Rattle.jfs_reader.specs.objects.specs.Owners.{IsSound}
-use Rattle.jfs_reader.specs.objects.specs.Changes.{put, SetsObject}
-use Rattle.jfs_reader.specs.meaning.specs.Contents.{byte_in}
-use Rattle.jfs_reader.specs.meaning.specs.Node.{node_of}
-use Rattle.jfs_reader.specs.meaning.specs.Readers.{readers, root_of}
-use Rattle.jfs_reader.specs.meaning.specs.Tree.{node_on, byte_on}
+use Rattle.jfs_way.specs.plain.specs.Moves.{gains}
+use Rattle.jfs_way.specs.plain.specs.declared.node.Node.{Node}
+use Rattle.jfs_way.specs.objects.specs.Volume.{Volume, home}
+use Rattle.jfs_way.specs.objects.specs.Objects.{objects, spelled, has_names, is_live}
+use Rattle.jfs_way.specs.objects.specs.Owners.{IsSound}
+use Rattle.jfs_way.specs.objects.specs.Changes.{put, SetsObject}
+use Rattle.jfs_way.specs.meaning.specs.Contents.{byte_in}
+use Rattle.jfs_way.specs.meaning.specs.Node.{node_of}
+use Rattle.jfs_way.specs.meaning.specs.Readers.{readers, root_of}
+use Rattle.jfs_way.specs.meaning.specs.Tree.{node_on, byte_on}
 use Rattle.jfs_way.specs.declared.object.Held.{Held}
 use Rattle.jfs_steps.specs.Put.{AddsInode, TellsLines}
 use Rattle.jfs_steps.specs.After.{used_after}

@@ -3,12 +3,12 @@ use Rattle.std.specs.Prelude.{◌≡◌, ◌<◌, ◌≤◌, ℕ, ◌+◌, Bool,
 use Rattle.jfs_ranges.specs.declared.edit.Edit.{Edit}
 use Rattle.jfs_ranges.specs.declared.edit.Edit.TheVariants.{Lines, NoRedo, Alloc, Free}
 use Rattle.jfs_ranges.specs.Laid.{put_tx}
-use Rattle.jfs_tree.specs.Edit.{count_in}
-use Rattle.jfs_reader.specs.objects.specs.Volume.{Volume}
-use Rattle.jfs_reader.specs.objects.specs.Objects.{objects}
-use Rattle.jfs_reader.specs.objects.specs.Owners.{bit}
-use Rattle.jfs_reader.specs.objects.specs.Changes.{Takes}
-use Rattle.jfs_reader.specs.meaning.specs.Readers.{readers}
+use Rattle.jfs_way.specs.page_tree.specs.Edit.{count_in}
+use Rattle.jfs_way.specs.objects.specs.Volume.{Volume}
+use Rattle.jfs_way.specs.objects.specs.Objects.{objects}
+use Rattle.jfs_way.specs.objects.specs.Owners.{bit}
+use Rattle.jfs_way.specs.objects.specs.Changes.{Takes}
+use Rattle.jfs_way.specs.meaning.specs.Readers.{readers}
 use Rattle.jfs_steps.specs.After.{is_extent, used_after, extents_after, after_call, takes, frees}
 
 -- ---- one transaction after another

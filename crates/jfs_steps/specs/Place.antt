@@ -1,12 +1,12 @@
 -- The place of a path's last name. (POSIX: path resolution.)
 use Rattle.std.specs.Prelude.{◌≡◌, ℕ, ◌-◌, ◌==◌, if◌then◌else◌, List, [], length, get_or, take, is_some, Result, Ok, Err}
-use Rattle.jfs_imap.specs.Inodes.{Inodes}
-use Rattle.jfs_dtree.specs.Spells.{broken_for, found_for}
-use Rattle.jfs_reader.specs.objects.specs.Objects.{has_names}
-use Rattle.jfs_reader.specs.meaning.specs.Readers.{root_of}
-use Rattle.jfs_plain.specs.Tree.{Tree, Place, place_at, and_then}
-use Rattle.jfs_plain.specs.declared.refusal.Refusal.{Refusal}
-use Rattle.jfs_plain.specs.declared.refusal.Refusal.TheVariants.{NotDir, Exists}
+use Rattle.jfs_way.specs.imap.specs.Inodes.{Inodes}
+use Rattle.jfs_way.specs.dtree.specs.Spells.{broken_for, found_for}
+use Rattle.jfs_way.specs.objects.specs.Objects.{has_names}
+use Rattle.jfs_way.specs.meaning.specs.Readers.{root_of}
+use Rattle.jfs_way.specs.plain.specs.Tree.{Tree, Place, place_at, and_then}
+use Rattle.jfs_way.specs.plain.specs.declared.refusal.Refusal.{Refusal}
+use Rattle.jfs_way.specs.plain.specs.declared.refusal.Refusal.TheVariants.{NotDir, Exists}
 use Rattle.jfs_way.specs.Way.{path_of, if_unbroken}
 use Rattle.jfs_way.specs.Walk.{IsThere}
 use Rattle.jfs_way.specs.declared.object.Held.{Held}

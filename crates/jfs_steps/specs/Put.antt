@@ -3,10 +3,10 @@ use Rattle.std.specs.Prelude.{◌≡◌, ℕ, List, Option, Some}
 use Rattle.jfs_inode.specs.declared.fields.Dinode.{Dinode}
 use Rattle.jfs_ranges.specs.declared.edit.Edit.{Edit}
 use Rattle.jfs_bits.specs.declared.rule.PageKind.TheVariants as kinds
-use Rattle.jfs_tree.specs.Tell.{TellsRuns}
+use Rattle.jfs_way.specs.page_tree.specs.Tell.{TellsRuns}
 use Rattle.jfs_ranges.specs.Laid.{put_tx}
-use Rattle.jfs_reader.specs.objects.specs.Volume.{home}
-use Rattle.jfs_reader.specs.objects.specs.Changes.{PutsInode}
+use Rattle.jfs_way.specs.objects.specs.Volume.{home}
+use Rattle.jfs_way.specs.objects.specs.Changes.{PutsInode}
 
 -- The lines that were added are exactly those of the page that changed.
 abbrev pub TellsLines : ℕ → (ℕ → List ℕ) → ℕ → List Edit → List Edit → Type 0

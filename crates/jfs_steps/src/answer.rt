@@ -2,13 +2,13 @@
 
 ghost use Rattle.std.specs.Prelude.{◌≡◌, Err};
 ghost use Rattle.jfs_disk.specs.declared.disk.Fault.{Fault};
-ghost use Rattle.jfs_dtree.specs.Spells.{CarriesDt};
+ghost use Rattle.jfs_way.specs.dtree.specs.Spells.{CarriesDt};
 ghost use Rattle.jfs_way.specs.Answer.{CarriesCause, names_refusal};
 
-use jfs_dtree::DtError;
-use jfs_plain::Refusal;
 use jfs_ranges::ViewError;
-use jfs_tree::NO_PAGE;
+use jfs_way::dtree::DtError;
+use jfs_way::page_tree::NO_PAGE;
+use jfs_way::plain::Refusal;
 
 /// A call on the tree of directory `dir` failed, whose inode stands on this page: a root stands there too.
 pub fn from_names(dir: u32, page: u32, e: DtError) -> Refusal

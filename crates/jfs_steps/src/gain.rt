@@ -3,8 +3,8 @@
 ghost use Rattle.std.specs.Prelude.{◌≡◌, ◌<◌, ◌≤◌, ℕ, [], length, OnOk, OnErr, IfErr};
 ghost use Rattle.jfs_disk.specs.Image.{page_of};
 ghost use Rattle.jfs_inode.specs.Inode.{FitsDinode};
-ghost use Rattle.jfs_tree.specs.Form.{AllBelow};
-ghost use Rattle.jfs_tree.specs.Fresh.{blocks_of, TakenInOrder};
+ghost use Rattle.jfs_way.specs.page_tree.specs.Form.{AllBelow};
+ghost use Rattle.jfs_way.specs.page_tree.specs.Fresh.{blocks_of, TakenInOrder};
 ghost use Rattle.jfs_way.specs.Answer.{Carries};
 ghost use Rattle.jfs_steps.specs.Gains.{GainsName, GainRefused, TakesFront, with_root};
 ghost use Rattle.jfs_steps.specs.After.{allocs_in};
@@ -12,12 +12,12 @@ ghost use Rattle.jfs_steps.specs.After.{allocs_in};
 use crate::answer::from_names;
 use crate::put::put_inode;
 use jfs_bits::{Moment, PxdList, get_array, put_array};
-use jfs_dtree::add;
 use jfs_inode::Dinode;
 use jfs_name::Name;
-use jfs_plain::Refusal;
 use jfs_ranges::{Edit, PageView, Tx};
 use jfs_way::Held;
+use jfs_way::dtree::add;
+use jfs_way::plain::Refusal;
 use std::alloc::Global;
 
 /// What a directory gains beside the name: the inode that the name names, the directory's link count, and the time of its last change.
@@ -29,7 +29,7 @@ pub struct Gain {
 }
 
 /// A directory gains a name of at most 255 units, by a transaction that has no edits yet: its tree's pages, which take blocks from `fresh` in its order, and then its inode.
-/// A refusal is that of `jfs_dtree::add`, with the directory's number and page; after one the transaction may have edits, and `fresh` may have fewer blocks.
+/// A refusal is that of `jfs_way::dtree::add`, with the directory's number and page; after one the transaction may have edits, and `fresh` may have fewer blocks.
 pub fn gain_name<V: PageView>(
     alloc: Global,
     view: &mut V,

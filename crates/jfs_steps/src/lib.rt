@@ -16,3 +16,15 @@ pub use law::{
 };
 pub use places::{new_place, place};
 pub use put::put_inode;
+
+pub mod reader {
+    //! Passed on from `jfs_reader`.
+
+    pub use jfs_way::reader::{has_extents, has_names, root_in};
+}
+
+pub mod way {
+    //! Passed on from `jfs_way`.
+
+    pub use jfs_way::{Held, enter, load, walk};
+}

@@ -2,19 +2,19 @@
 
 ghost use Rattle.std.specs.Prelude.{◌≡◌, ◌≤◌, ◌<◌, ℕ, [], true, length, get_or, IfOk};
 ghost use Rattle.jfs_disk.specs.Image.{page_of};
-ghost use Rattle.jfs_reader.specs.objects.specs.Objects.{has_names};
-ghost use Rattle.jfs_plain.specs.Tree.{place, new_place};
+ghost use Rattle.jfs_way.specs.objects.specs.Objects.{has_names};
+ghost use Rattle.jfs_way.specs.plain.specs.Tree.{place, new_place};
 ghost use Rattle.jfs_way.specs.Answer.{Carries, Answers, Follows};
 ghost use Rattle.jfs_way.specs.Walk.{IsHeld, IsShown, IfConsistent};
 ghost use Rattle.jfs_steps.specs.Place.{place_of, new_place_of, IsPlace};
 
 use crate::answer::from_names;
-use jfs_dtree::find;
-use jfs_imap::InodeMap;
 use jfs_name::Name;
-use jfs_plain::Refusal;
 use jfs_ranges::PageView;
-use jfs_reader::{has_names, root_in};
+use jfs_way::dtree::find;
+use jfs_way::imap::InodeMap;
+use jfs_way::plain::Refusal;
+use jfs_way::reader::{has_names, root_in};
 use jfs_way::{Held, walk};
 
 /// The directory in which the last name of a path stands, or could stand. A refusal is that of the walk along the names before it; `NotDir` where these lead to no

@@ -10,9 +10,9 @@ ghost use Rattle.jfs_steps.specs.Put.{AddsInode, TellsLines};
 use jfs_bits::PageKind;
 use jfs_disk::Page;
 use jfs_inode::{Dinode, write_dinode};
-use jfs_plain::Refusal;
 use jfs_ranges::{PageView, Tx, ViewError, apply};
-use jfs_tree::tell_page;
+use jfs_way::page_tree::tell_page;
+use jfs_way::plain::Refusal;
 use std::alloc::Global;
 
 /// Puts inode `n` into its slot on a page: the transaction gets the lines that change, on top of what it did to the page before.

@@ -9,7 +9,7 @@ use Rattle.jfs_data_steps.specs.objects.specs.Owners.{covers}
 use Rattle.jfs_data_steps.specs.objects.specs.Contents.{block_of, bytes_at}
 use Rattle.jfs_data_steps.specs.objects.proofs.Blocks.{covered}
 use Rattle.jfs_data_steps.specs.objects.proofs.Sums.{eq_or_not}
-use Rattle.jfs_data_steps.specs.meaning.specs.Contents.{byte_of}
+use Rattle.jfs_read.specs.meaning.specs.Contents.{byte_of}
 use Rattle.jfs_data_steps.specs.declared.pages.DataPage.{DataPage}
 use Rattle.jfs_data_steps.specs.After.{is_put, page_put, put_data}
 use Rattle.jfs_data_steps.specs.File.{bytes_held}

@@ -8,7 +8,7 @@ use Rattle.jfs_bits.specs.declared.extent.Xad.{Xad}
 use Rattle.jfs_bits.specs.declared.rule.PageKind.TheVariants.{Xtree}
 use Rattle.jfs_inode.specs.declared.fields.Dinode.{Dinode}
 use Rattle.jfs_imap.specs.Inodes.{Inodes}
-use Rattle.jfs_data_steps.specs.bmap.specs.States.{Blocks}
+use Rattle.jfs_read.specs.bmap.specs.States.{Blocks}
 use Rattle.jfs_ranges.specs.declared.edit.Edit.{Edit}
 use Rattle.jfs_ranges.specs.Laid.{put_tx}
 use Rattle.jfs_tree.specs.Edit.{count_in}
@@ -27,19 +27,19 @@ use Rattle.jfs_data_steps.specs.objects.specs.Owners.{holds, covers}
 use Rattle.jfs_data_steps.specs.objects.specs.Contents.{block_of}
 use Rattle.jfs_data_steps.specs.objects.proofs.Blocks.{covered}
 use Rattle.jfs_data_steps.specs.objects.proofs.Owned.{owned_once}
-use Rattle.jfs_data_steps.specs.meaning.specs.Contents.{is_regular}
-use Rattle.jfs_data_steps.specs.meaning.specs.Readers.{readers, root_of}
-use Rattle.jfs_data_steps.specs.meaning.specs.Consistent.{IsConsistent}
-use Rattle.jfs_way.specs.Volume.{volume_of}
-use Rattle.jfs_way.specs.Walk.{IsHeld, IsShown, IsThere, tree_in}
-use Rattle.jfs_way.specs.declared.object.Held.{Held}
+use Rattle.jfs_read.specs.meaning.specs.Contents.{is_regular}
+use Rattle.jfs_read.specs.meaning.specs.Readers.{readers, root_of}
+use Rattle.jfs_read.specs.meaning.specs.Consistent.{IsConsistent}
+use Rattle.jfs_read.specs.way.specs.Volume.{volume_of}
+use Rattle.jfs_read.specs.way.specs.Walk.{IsHeld, IsShown, IsThere, tree_in}
+use Rattle.jfs_read.specs.way.specs.declared.object.Held.{Held}
 use Rattle.jfs_read.specs.Read.{block_by}
 use Rattle.jfs_read.proofs.Found.{found_is, block_found}
-use Rattle.jfs_lead_steps.specs.Balance.{own_after}
+use Rattle.jfs_data_steps.specs.lead_steps.specs.Balance.{own_after}
 use Rattle.jfs_data_steps.specs.loss.proofs.Counts.{count_append, runs_move, frees_then, changes_move, same_moves}
-use Rattle.jfs_steps.specs.After.{frees}
-use Rattle.jfs_steps.specs.Laws.{TakesAndFrees, IsFair}
-use Rattle.jfs_steps.proofs.Sets.{frees_onto, frees_move, moves_onto, lines_move, lines_on_top}
+use Rattle.jfs_data_steps.specs.steps.specs.After.{frees}
+use Rattle.jfs_data_steps.specs.steps.specs.Laws.{TakesAndFrees, IsFair}
+use Rattle.jfs_data_steps.specs.steps.proofs.Sets.{frees_onto, frees_move, moves_onto, lines_move, lines_on_top}
 use Rattle.jfs_data_steps.specs.declared.pages.DataPage.{DataPage}
 use Rattle.jfs_data_steps.specs.After.{is_put, AreWholePages, put_data, after_writes, LeavesPage}
 use Rattle.jfs_data_steps.specs.File.{bytes_held}

@@ -6,7 +6,7 @@ use Rattle.jfs_bits.specs.declared.descriptor.Moment.{Moment}
 use Rattle.jfs_bits.specs.declared.extent.Xad.{Xad}
 use Rattle.jfs_inode.specs.declared.fields.Dinode.{Dinode}
 use Rattle.jfs_imap.specs.Inodes.{Inodes}
-use Rattle.jfs_data_steps.specs.bmap.specs.States.{Blocks}
+use Rattle.jfs_read.specs.bmap.specs.States.{Blocks}
 use Rattle.jfs_ranges.specs.declared.edit.Edit.{Edit}
 use Rattle.jfs_xtree.specs.Cutting.{kept_below}
 use Rattle.jfs_data_steps.specs.objects.specs.Readers.{Readers}
@@ -16,10 +16,10 @@ use Rattle.jfs_data_steps.specs.objects.specs.Contents.{block_of, bytes_at}
 use Rattle.jfs_data_steps.specs.objects.specs.Changes.{put}
 use Rattle.jfs_data_steps.specs.objects.specs.Owners.{covers}
 use Rattle.jfs_data_steps.specs.objects.proofs.Sums.{put_here, put_other, eq_or_not}
-use Rattle.jfs_data_steps.specs.meaning.specs.Contents.{byte_of, byte_in, is_regular}
-use Rattle.jfs_data_steps.specs.meaning.specs.Readers.{readers, root_of}
-use Rattle.jfs_data_steps.specs.meaning.specs.Tree.{tree_on}
-use Rattle.jfs_data_steps.specs.meaning.specs.Consistent.{IsConsistent}
+use Rattle.jfs_read.specs.meaning.specs.Contents.{byte_of, byte_in, is_regular}
+use Rattle.jfs_read.specs.meaning.specs.Readers.{readers, root_of}
+use Rattle.jfs_read.specs.meaning.specs.Tree.{tree_on}
+use Rattle.jfs_read.specs.meaning.specs.Consistent.{IsConsistent}
 use Rattle.jfs_plain.specs.Tree.{Tree, Found, found_at, walk, root, and_then}
 use Rattle.jfs_plain.specs.CallStep.{LeavesRest, writes_over_in}
 use Rattle.jfs_plain.specs.declared.call.Call.TheVariants as calls
@@ -29,11 +29,11 @@ use Rattle.jfs_plain.specs.declared.node.Node.{Node}
 use Rattle.jfs_plain.specs.declared.refusal.Refusal.{Refusal}
 use Rattle.jfs_plain.specs.declared.refusal.Refusal.TheVariants.{IsDir, NotFile, FileTooBig}
 use Rattle.jfs_plain.specs.declared.reply.Reply.TheVariants.{Done}
-use Rattle.jfs_way.specs.Volume.{volume_of}
-use Rattle.jfs_way.specs.Walk.{IsHeld, IsShown, IsThere, tree_in}
-use Rattle.jfs_way.specs.declared.object.Held.{Held}
-use Rattle.jfs_steps.specs.Call.{IsDone}
-use Rattle.jfs_steps.specs.Laws.{IsFair}
+use Rattle.jfs_read.specs.way.specs.Volume.{volume_of}
+use Rattle.jfs_read.specs.way.specs.Walk.{IsHeld, IsShown, IsThere, tree_in}
+use Rattle.jfs_read.specs.way.specs.declared.object.Held.{Held}
+use Rattle.jfs_data_steps.specs.steps.specs.Call.{IsDone}
+use Rattle.jfs_data_steps.specs.steps.specs.Laws.{IsFair}
 use Rattle.jfs_data_steps.specs.declared.pages.DataPage.{DataPage}
 use Rattle.jfs_data_steps.specs.After.{AreWholePages, put_data, with_data, after_writes}
 use Rattle.jfs_data_steps.specs.Laws.{IsFilePut}

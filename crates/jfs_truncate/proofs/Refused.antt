@@ -4,18 +4,18 @@ use Rattle.std.specs.Prelude.{min}
 use Rattle.jfs_bits.specs.declared.descriptor.Moment.{Moment}
 use Rattle.jfs_bits.specs.declared.rule.Rule.{Rule}
 use Rattle.jfs_imap.specs.Inodes.{Inodes}
-use Rattle.jfs_data_steps.specs.bmap.specs.States.{Blocks}
+use Rattle.jfs_read.specs.bmap.specs.States.{Blocks}
 use Rattle.jfs_xtree.specs.Spells.{broken_for}
-use Rattle.jfs_data_steps.specs.meaning.specs.Readers.{readers, root_of}
-use Rattle.jfs_data_steps.specs.meaning.specs.Consistent.{IsConsistent}
+use Rattle.jfs_read.specs.meaning.specs.Readers.{readers, root_of}
+use Rattle.jfs_read.specs.meaning.specs.Consistent.{IsConsistent}
 use Rattle.jfs_plain.specs.Tree.{walk, root}
 use Rattle.jfs_plain.specs.Step.{Room, truncate}
 use Rattle.jfs_plain.specs.declared.refusal.Refusal.{Refusal}
 use Rattle.jfs_plain.specs.declared.refusal.Refusal.TheVariants.{Damaged}
-use Rattle.jfs_way.specs.Answer.{is_open, at_root, Answers, Follows}
-use Rattle.jfs_way.specs.Volume.{volume_of, PlacesWithin}
-use Rattle.jfs_way.specs.Walk.{IsHeld, IsShown, IsThere, IsOf, IfConsistent, tree_in}
-use Rattle.jfs_way.specs.declared.object.Held.{Held}
+use Rattle.jfs_read.specs.way.specs.Answer.{is_open, at_root, Answers, Follows}
+use Rattle.jfs_read.specs.way.specs.Volume.{volume_of, PlacesWithin}
+use Rattle.jfs_read.specs.way.specs.Walk.{IsHeld, IsShown, IsThere, IsOf, IfConsistent, tree_in}
+use Rattle.jfs_read.specs.way.specs.declared.object.Held.{Held}
 use Rattle.jfs_read.specs.Read.{unless_bad}
 use Rattle.jfs_read.proofs.Parts.{way_met}
 use Rattle.jfs_data_steps.specs.After.{AreWholePages}

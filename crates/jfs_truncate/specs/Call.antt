@@ -4,32 +4,32 @@ use Rattle.jfs_bits.specs.declared.descriptor.Moment.{Moment}
 use Rattle.jfs_bits.specs.declared.extent.Xad.{Xad}
 use Rattle.jfs_inode.specs.declared.fields.Dinode.{Dinode}
 use Rattle.jfs_imap.specs.Inodes.{Inodes}
-use Rattle.jfs_data_steps.specs.bmap.specs.States.{Blocks}
+use Rattle.jfs_read.specs.bmap.specs.States.{Blocks}
 use Rattle.jfs_ranges.specs.declared.edit.Edit.{Edit}
 use Rattle.jfs_xtree.specs.CutMet.{met_extents, FreesOnce}
 use Rattle.jfs_xtree.specs.Cutting.{CutsExtents, TellsCut}
 use Rattle.jfs_xtree.specs.Spells.{spells_extents}
 use Rattle.jfs_data_steps.specs.objects.specs.Objects.{has_names}
-use Rattle.jfs_data_steps.specs.meaning.specs.Contents.{is_regular}
-use Rattle.jfs_data_steps.specs.meaning.specs.Readers.{readers, root_of}
-use Rattle.jfs_data_steps.specs.meaning.specs.Tree.{tree_on}
-use Rattle.jfs_data_steps.specs.meaning.specs.Consistent.{IsConsistent}
+use Rattle.jfs_read.specs.meaning.specs.Contents.{is_regular}
+use Rattle.jfs_read.specs.meaning.specs.Readers.{readers, root_of}
+use Rattle.jfs_read.specs.meaning.specs.Tree.{tree_on}
+use Rattle.jfs_read.specs.meaning.specs.Consistent.{IsConsistent}
 use Rattle.jfs_plain.specs.Tree.{Tree, and_then}
 use Rattle.jfs_plain.specs.Step.{Outcome}
 use Rattle.jfs_plain.specs.CallStep.{LeavesRest}
 use Rattle.jfs_plain.specs.declared.call.Call.TheVariants as calls
 use Rattle.jfs_plain.specs.declared.refusal.Refusal.{Refusal}
 use Rattle.jfs_plain.specs.declared.refusal.Refusal.TheVariants.{IsDir, NotFile, FileTooBig}
-use Rattle.jfs_way.specs.Answer.{is_open}
-use Rattle.jfs_way.specs.Volume.{volume_of, PlacesWithin}
-use Rattle.jfs_way.specs.Walk.{IfConsistent, tree_in}
-use Rattle.jfs_way.specs.Way.{path_of, if_unbroken}
-use Rattle.jfs_way.specs.declared.object.Held.{Held}
-use Rattle.jfs_lead_steps.specs.Balance.{own_after}
+use Rattle.jfs_read.specs.way.specs.Answer.{is_open}
+use Rattle.jfs_read.specs.way.specs.Volume.{volume_of, PlacesWithin}
+use Rattle.jfs_read.specs.way.specs.Walk.{IfConsistent, tree_in}
+use Rattle.jfs_read.specs.way.specs.Way.{path_of, if_unbroken}
+use Rattle.jfs_read.specs.way.specs.declared.object.Held.{Held}
+use Rattle.jfs_data_steps.specs.lead_steps.specs.Balance.{own_after}
 use Rattle.jfs_data_steps.specs.loss.specs.Causes.{if_met}
-use Rattle.jfs_steps.specs.Call.{IsDone}
-use Rattle.jfs_steps.specs.Laws.{IsFair, TakesAndFrees}
-use Rattle.jfs_steps.specs.Put.{AddsInode, TellsLines}
+use Rattle.jfs_data_steps.specs.steps.specs.Call.{IsDone}
+use Rattle.jfs_data_steps.specs.steps.specs.Laws.{IsFair, TakesAndFrees}
+use Rattle.jfs_data_steps.specs.steps.specs.Put.{AddsInode, TellsLines}
 use Rattle.jfs_data_steps.specs.After.{with_data, after_writes}
 use Rattle.jfs_data_steps.specs.File.{resized}
 use Rattle.jfs_truncate.specs.Tail.{blocks_for, tail_way, tail_block, IsTail}

@@ -3,7 +3,7 @@ use Rattle.std.specs.Prelude.{◌≡◌, ℕ, ◌+◌, ◌-◌, ◌/◌, ◌%◌
 use Rattle.jfs_bits.specs.declared.rule.Rule.{Rule}
 use Rattle.jfs_inode.specs.declared.fields.Dinode.{Dinode}
 use Rattle.jfs_xtree.specs.Spells.{broken_for, found_for}
-use Rattle.jfs_data_steps.specs.meaning.specs.Readers.{root_of}
+use Rattle.jfs_read.specs.meaning.specs.Readers.{root_of}
 use Rattle.jfs_read.specs.Read.{block_by}
 use Rattle.jfs_data_steps.specs.declared.pages.DataPage.{DataPage}
 

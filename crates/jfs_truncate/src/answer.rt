@@ -4,7 +4,7 @@ ghost use Rattle.std.specs.Prelude.{◌≡◌, Err};
 ghost use Rattle.jfs_disk.specs.declared.disk.Fault.{Fault};
 ghost use Rattle.jfs_ranges.specs.View.{CarriesCount};
 ghost use Rattle.jfs_xtree.specs.Spells.{CarriesXt};
-ghost use Rattle.jfs_way.specs.Answer.{CarriesCause, view_refusal};
+ghost use Rattle.jfs_read.specs.way.specs.Answer.{CarriesCause, view_refusal};
 ghost use Rattle.jfs_read.specs.Read.{extents_refusal};
 
 use jfs_plain::Refusal;

@@ -3,7 +3,7 @@
 ghost use Rattle.std.specs.Prelude.{◌≡◌, ◌<◌, length, min, IfOk};
 ghost use Rattle.jfs_disk.specs.Image.{page_of};
 ghost use Rattle.jfs_inode.specs.Inode.{FitsDinode};
-ghost use Rattle.jfs_way.specs.Answer.{Carries};
+ghost use Rattle.jfs_read.specs.way.specs.Answer.{Carries};
 ghost use Rattle.jfs_data_steps.specs.After.{AreWholePages, LieWithin};
 ghost use Rattle.jfs_data_steps.specs.File.{resized};
 ghost use Rattle.jfs_truncate.specs.Tail.{blocks_for, tail_block, IsTail};
@@ -13,12 +13,12 @@ use crate::answer::from_extents;
 use crate::tail::tail;
 use jfs_bits::{Moment, get_array, put_array};
 use jfs_data_steps::DataList;
+use jfs_data_steps::lead_steps::own_after;
+use jfs_data_steps::steps::put_inode;
 use jfs_inode::Dinode;
-use jfs_lead_steps::own_after;
 use jfs_plain::Refusal;
 use jfs_ranges::{PageView, Tx};
-use jfs_steps::put_inode;
-use jfs_way::Held;
+use jfs_read::way::Held;
 use jfs_xtree::cut_to;
 use std::alloc::Global;
 

@@ -2,9 +2,9 @@
 
 ghost use Rattle.std.specs.Prelude.{◌≡◌, ◌≤◌, ◌<◌, ℕ, [], length, get_or, Err, IfOk, IfErr};
 ghost use Rattle.jfs_disk.specs.Image.{page_of};
-ghost use Rattle.jfs_data_steps.specs.meaning.specs.Contents.{is_regular};
+ghost use Rattle.jfs_read.specs.meaning.specs.Contents.{is_regular};
 ghost use Rattle.jfs_plain.specs.Step.{Room, truncate};
-ghost use Rattle.jfs_way.specs.Answer.{Carries, Answers};
+ghost use Rattle.jfs_read.specs.way.specs.Answer.{Carries, Answers};
 ghost use Rattle.jfs_data_steps.specs.After.{AreWholePages, LieWithin};
 ghost use Rattle.jfs_truncate.specs.Call.{IsAllowed, truncate_of, Truncates, TakesNone, StepsWith, FreesOnceOn, StartsOn};
 
@@ -15,8 +15,8 @@ use jfs_inode::Dinode;
 use jfs_name::Name;
 use jfs_plain::Refusal;
 use jfs_ranges::PageView;
-use jfs_reader::has_names;
-use jfs_way::walk;
+use jfs_read::reader::has_names;
+use jfs_read::way::walk;
 use std::alloc::Global;
 
 /// What gives the file at the end of a path this size: blocks that are written, each with its whole page, and then a transaction. The bytes before the nearer of both ends stay, and

@@ -8,3 +8,15 @@ mod tail;
 
 pub use change::{Truncated, resize};
 pub use file::truncate;
+
+pub mod data_steps {
+    //! Passed on from `jfs_data_steps`.
+
+    pub use jfs_data_steps::{DataList, DataPage};
+}
+
+pub mod read {
+    //! Passed on from `jfs_read`.
+
+    pub use jfs_read::read_bytes;
+}

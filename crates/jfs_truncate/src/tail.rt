@@ -3,8 +3,8 @@
 ghost use Rattle.std.specs.Prelude.{◌≡◌, ◌≤◌, ◌<◌, length, IfOk, IfErr, IfSome};
 ghost use Rattle.jfs_disk.specs.Image.{page_of};
 ghost use Rattle.jfs_xtree.specs.Spells.{broken_for, found_for};
-ghost use Rattle.jfs_data_steps.specs.meaning.specs.Readers.{root_of};
-ghost use Rattle.jfs_way.specs.Answer.{Carries, Answers};
+ghost use Rattle.jfs_read.specs.meaning.specs.Readers.{root_of};
+ghost use Rattle.jfs_read.specs.way.specs.Answer.{Carries, Answers};
 ghost use Rattle.jfs_read.specs.Read.{block_by, unless_bad, IsWayOf, OpenWhereSpelled};
 ghost use Rattle.jfs_data_steps.specs.After.{AreWholePages, LieWithin};
 ghost use Rattle.jfs_truncate.specs.Tail.{tail_way, tail_block, IsTail, zeroed};
@@ -15,8 +15,8 @@ use jfs_data_steps::{DataList, DataPage};
 use jfs_disk::Page;
 use jfs_plain::Refusal;
 use jfs_ranges::PageView;
-use jfs_reader::{page_of_block, root_in};
-use jfs_way::Held;
+use jfs_read::reader::{page_of_block, root_in};
+use jfs_read::way::Held;
 use jfs_xtree::lookup;
 use std::alloc::Global;
 

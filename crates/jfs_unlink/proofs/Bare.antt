@@ -5,7 +5,7 @@ use Rattle.jfs_name.specs.declared.name.NameEntry.{NameEntry}
 use Rattle.jfs_tree.specs.Walk.{Node, Leaf}
 use Rattle.jfs_tree.specs.Form.{IsLeaf}
 use Rattle.jfs_plain.specs.declared.refusal.Refusal.TheVariants.{NotEmpty}
-use Rattle.jfs_way.specs.declared.object.Held.{Held}
+use Rattle.jfs_loss.specs.way.specs.declared.object.Held.{Held}
 use Rattle.jfs_unlink.specs.Call.{bare_at}
 
 module _ (at : Held) (node : Node (List ℕ) NameEntry) where

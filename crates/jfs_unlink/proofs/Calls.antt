@@ -11,10 +11,10 @@ use Rattle.jfs_plain.specs.declared.refusal.Refusal.{Refusal}
 use Rattle.jfs_loss.specs.objects.specs.Objects.{has_names}
 use Rattle.jfs_loss.specs.meaning.specs.Readers.{readers, root_of}
 use Rattle.jfs_loss.specs.meaning.specs.Consistent.{IsConsistent}
-use Rattle.jfs_way.specs.Answer.{is_open, Answers}
-use Rattle.jfs_way.specs.Volume.{volume_of, PlacesWithin}
-use Rattle.jfs_way.specs.Walk.{IfConsistent, tree_in}
-use Rattle.jfs_steps.specs.Place.{last_of}
+use Rattle.jfs_loss.specs.way.specs.Answer.{is_open, Answers}
+use Rattle.jfs_loss.specs.way.specs.Volume.{volume_of, PlacesWithin}
+use Rattle.jfs_loss.specs.way.specs.Walk.{IfConsistent, tree_in}
+use Rattle.jfs_loss.specs.steps.specs.Place.{last_of}
 use Rattle.jfs_loss.specs.Causes.{freed_from, lost_from}
 use Rattle.jfs_unlink.specs.Call.{is_last_of_big, bare_at, TakesName, Unlinks, StepsOn, FreesOnceOn}
 use Rattle.jfs_unlink.specs.Ends.{AreHeld, AreShown, AreEnds, FollowsEnds, MeetsEnds}

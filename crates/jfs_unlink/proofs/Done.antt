@@ -27,18 +27,18 @@ use Rattle.jfs_loss.specs.objects.specs.Changes.{put}
 use Rattle.jfs_loss.specs.meaning.specs.Readers.{readers, root_of}
 use Rattle.jfs_loss.specs.meaning.specs.Consistent.{IsConsistent, subdirectories, names_to}
 use Rattle.jfs_loss.specs.meaning.proofs.Reached.{not_reserved}
-use Rattle.jfs_way.specs.Volume.{volume_of}
-use Rattle.jfs_way.specs.Walk.{tree_in}
+use Rattle.jfs_loss.specs.way.specs.Volume.{volume_of}
+use Rattle.jfs_loss.specs.way.specs.Walk.{tree_in}
 use Rattle.jfs_loss.specs.lead_steps.specs.Reached.{HasTree}
 use Rattle.jfs_loss.specs.lead_steps.proofs.Turned.{turns}
-use Rattle.jfs_steps.specs.Put.{AddsInode, TellsLines}
-use Rattle.jfs_steps.specs.Place.{last_of}
-use Rattle.jfs_steps.specs.After.{used_after, extents_after, after_call}
-use Rattle.jfs_steps.specs.Laws.{TakesAndFrees, IsFair}
-use Rattle.jfs_steps.specs.Call.{IsDone}
-use Rattle.jfs_steps.proofs.After.{done_after}
-use Rattle.jfs_steps.proofs.Sets.{lines_move}
-use Rattle.jfs_steps.proofs.LastNames.{stood, object_is}
+use Rattle.jfs_loss.specs.steps.specs.Put.{AddsInode, TellsLines}
+use Rattle.jfs_loss.specs.steps.specs.Place.{last_of}
+use Rattle.jfs_loss.specs.steps.specs.After.{used_after, extents_after, after_call}
+use Rattle.jfs_loss.specs.steps.specs.Laws.{TakesAndFrees, IsFair}
+use Rattle.jfs_loss.specs.steps.specs.Call.{IsDone}
+use Rattle.jfs_loss.specs.steps.proofs.After.{done_after}
+use Rattle.jfs_loss.specs.steps.proofs.Sets.{lines_move}
+use Rattle.jfs_loss.specs.steps.proofs.LastNames.{stood, object_is}
 use Rattle.jfs_loss.specs.Inodes.{frees_in, fallen, gone}
 use Rattle.jfs_loss.specs.Frees.{FreesObject}
 use Rattle.jfs_loss.specs.Loses.{LosesName}

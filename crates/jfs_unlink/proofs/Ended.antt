@@ -22,14 +22,14 @@ use Rattle.jfs_loss.specs.meaning.specs.Readers.{readers, root_of}
 use Rattle.jfs_loss.specs.meaning.specs.Node.{kind_of, node_in, node_from, node_with, target_in}
 use Rattle.jfs_loss.specs.meaning.specs.Consistent.{IsConsistent, MayBeNamed}
 use Rattle.jfs_loss.specs.meaning.proofs.Reached.{IsReached, walked as reaches}
-use Rattle.jfs_way.specs.Volume.{volume_of}
-use Rattle.jfs_way.specs.Walk.{IsHeld, IsShown, IsThere, tree_in}
-use Rattle.jfs_way.specs.declared.object.Held.{Held}
-use Rattle.jfs_way.proofs.Nodes.{in_directory as in_tree, in_other, lives}
+use Rattle.jfs_loss.specs.way.specs.Volume.{volume_of}
+use Rattle.jfs_loss.specs.way.specs.Walk.{IsHeld, IsShown, IsThere, tree_in}
+use Rattle.jfs_loss.specs.way.specs.declared.object.Held.{Held}
+use Rattle.jfs_loss.specs.way.proofs.Nodes.{in_directory as in_tree, in_other, lives}
 use Rattle.jfs_loss.specs.lead_steps.proofs.Turned.{names_listed}
 use Rattle.jfs_loss.specs.lead_steps.proofs.Again.{rest_size, few_links, spelled_inode, inode_same}
-use Rattle.jfs_steps.specs.Place.{front_of, last_of}
-use Rattle.jfs_steps.proofs.LastNames.{stood, object_is, IsDirectory, directory_is, place_is}
+use Rattle.jfs_loss.specs.steps.specs.Place.{front_of, last_of}
+use Rattle.jfs_loss.specs.steps.proofs.LastNames.{stood, object_is, IsDirectory, directory_is, place_is}
 use Rattle.jfs_unlink.specs.Call as call
 use Rattle.jfs_unlink.specs.Ends.{AreHeld, AreShown, AreEnds}
 use Rattle.jfs_unlink.specs.declared.ends.Ends.{Ends}

@@ -8,9 +8,9 @@ use Rattle.jfs_loss.specs.meaning.specs.Readers.{root_of}
 use Rattle.jfs_plain.specs.Tree.{and_then}
 use Rattle.jfs_plain.specs.declared.refusal.Refusal.{Refusal}
 use Rattle.jfs_plain.specs.declared.refusal.Refusal.TheVariants.{IsDir, NotDir, FileTooBig, IntoItself}
-use Rattle.jfs_way.specs.Answer.{is_open, Answers}
-use Rattle.jfs_way.specs.Way.{inode_named, if_unbroken, name_from, path_of}
-use Rattle.jfs_way.specs.declared.object.Held.{Held}
+use Rattle.jfs_loss.specs.way.specs.Answer.{is_open, Answers}
+use Rattle.jfs_loss.specs.way.specs.Way.{inode_named, if_unbroken, name_from, path_of}
+use Rattle.jfs_loss.specs.way.specs.declared.object.Held.{Held}
 use Rattle.jfs_loss.specs.Causes.{freed_from, if_named, lost_from}
 use Rattle.jfs_unlink.specs.Call.{is_last_of_big, unlink_at, unlink_of, bare_at, rmdir_at, rmdir_of}
 

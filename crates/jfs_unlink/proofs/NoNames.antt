@@ -16,7 +16,7 @@ use Rattle.jfs_dtree.specs.Node.{name_scale}
 use Rattle.jfs_dtree.specs.Spells.{root_node, page_nodes, spells_names}
 use Rattle.jfs_plain.specs.declared.refusal.Refusal.{Refusal}
 use Rattle.jfs_plain.specs.declared.refusal.Refusal.TheVariants.{NotEmpty}
-use Rattle.jfs_way.specs.declared.object.Held.{Held}
+use Rattle.jfs_loss.specs.way.specs.declared.object.Held.{Held}
 use Rattle.jfs_unlink.specs.Call.{bare_at}
 
 -- ---- each part of a tree that rises has an entry

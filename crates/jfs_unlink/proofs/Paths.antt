@@ -4,11 +4,11 @@ use Rattle.jfs_imap.specs.Inodes.{Inodes}
 use Rattle.jfs_tree.specs.Spells.{no_page}
 use Rattle.jfs_plain.specs.Tree.{Tree, enter, walk, root, and_then}
 use Rattle.jfs_plain.specs.declared.refusal.Refusal.{Refusal}
-use Rattle.jfs_way.specs.Answer.{is_open, Answers, Follows}
-use Rattle.jfs_way.specs.Way.{inode_at, name_from, path_from, path_of}
-use Rattle.jfs_way.specs.Walk.{IsThere, IsOf}
-use Rattle.jfs_way.specs.declared.object.Held.{Held}
-use Rattle.jfs_steps.specs.Place.{front_of, last_of}
+use Rattle.jfs_loss.specs.way.specs.Answer.{is_open, Answers, Follows}
+use Rattle.jfs_loss.specs.way.specs.Way.{inode_at, name_from, path_from, path_of}
+use Rattle.jfs_loss.specs.way.specs.Walk.{IsThere, IsOf}
+use Rattle.jfs_loss.specs.way.specs.declared.object.Held.{Held}
+use Rattle.jfs_loss.specs.steps.specs.Place.{front_of, last_of}
 use Rattle.jfs_unlink.specs.Ends.{FollowsEnds, MeetsEnds}
 
 -- ---- the last name

@@ -13,11 +13,11 @@ use Rattle.jfs_plain.specs.declared.reply.Reply.TheVariants.{Done}
 use Rattle.jfs_loss.specs.objects.specs.Objects.{IsWhole, spelled, has_names}
 use Rattle.jfs_loss.specs.meaning.specs.Readers.{readers}
 use Rattle.jfs_loss.specs.meaning.specs.Consistent.{IsConsistent}
-use Rattle.jfs_way.specs.Answer.{is_open}
-use Rattle.jfs_way.specs.Volume.{volume_of}
-use Rattle.jfs_way.specs.Walk.{tree_in}
-use Rattle.jfs_way.specs.declared.object.Held.{Held}
-use Rattle.jfs_steps.proofs.LastNames.{object_is}
+use Rattle.jfs_loss.specs.way.specs.Answer.{is_open}
+use Rattle.jfs_loss.specs.way.specs.Volume.{volume_of}
+use Rattle.jfs_loss.specs.way.specs.Walk.{tree_in}
+use Rattle.jfs_loss.specs.way.specs.declared.object.Held.{Held}
+use Rattle.jfs_loss.specs.steps.proofs.LastNames.{object_is}
 use Rattle.jfs_loss.specs.Causes.{MeetsTree}
 use Rattle.jfs_loss.proofs.Holds.{extents_listed}
 use Rattle.jfs_unlink.specs.Call as call

@@ -39,11 +39,11 @@ use Rattle.jfs_loss.specs.lead_steps.proofs.Chain.{set_has, set_other, drop_has}
 use Rattle.jfs_loss.specs.lead_steps.proofs.InPlace.{sets_in_place, counted_names, counted_extents, counted_bytes, counted_rules, falls_now}
 use Rattle.jfs_loss.specs.lead_steps.proofs.Named.{loses_set, loses_have}
 use Rattle.jfs_loss.specs.lead_steps.proofs.Turned.{turns, dir_holds, no_extents_of}
-use Rattle.jfs_steps.specs.Put.{TellsLines}
-use Rattle.jfs_steps.specs.After.{used_after, extents_after, frees}
-use Rattle.jfs_steps.specs.Laws.{TakesAndFrees, IsFair}
-use Rattle.jfs_steps.proofs.After.{counts, same_bits}
-use Rattle.jfs_steps.proofs.Sets.{frees_move, lines_on_top}
+use Rattle.jfs_loss.specs.steps.specs.Put.{TellsLines}
+use Rattle.jfs_loss.specs.steps.specs.After.{used_after, extents_after, frees}
+use Rattle.jfs_loss.specs.steps.specs.Laws.{TakesAndFrees, IsFair}
+use Rattle.jfs_loss.specs.steps.proofs.After.{counts, same_bits}
+use Rattle.jfs_loss.specs.steps.proofs.Sets.{frees_move, lines_on_top}
 use Rattle.jfs_loss.specs.Inodes.{lessened, fallen, gone}
 use Rattle.jfs_loss.proofs.Counts.{count_append, frees_then, changes_move, same_moves}
 

@@ -17,16 +17,16 @@ use Rattle.jfs_plain.specs.Step.{Outcome}
 use Rattle.jfs_plain.specs.declared.refusal.Refusal.{Refusal}
 use Rattle.jfs_plain.specs.declared.refusal.Refusal.TheVariants.{IsDir, NotDir, NotEmpty, FileTooBig, IntoItself, Damaged}
 use Rattle.jfs_loss.specs.Causes.{freed_from}
-use Rattle.jfs_way.specs.Answer.{is_open}
-use Rattle.jfs_way.specs.Volume.{volume_of, PlacesWithin}
-use Rattle.jfs_way.specs.Walk.{IfConsistent}
-use Rattle.jfs_way.specs.Way.{path_of}
-use Rattle.jfs_way.specs.declared.object.Held.{Held}
+use Rattle.jfs_loss.specs.way.specs.Answer.{is_open}
+use Rattle.jfs_loss.specs.way.specs.Volume.{volume_of, PlacesWithin}
+use Rattle.jfs_loss.specs.way.specs.Walk.{IfConsistent}
+use Rattle.jfs_loss.specs.way.specs.Way.{path_of}
+use Rattle.jfs_loss.specs.way.specs.declared.object.Held.{Held}
 use Rattle.jfs_unlink.specs.declared.ends.Ends.{Ends}
-use Rattle.jfs_steps.specs.Place.{last_of}
-use Rattle.jfs_steps.specs.After.{after_call}
-use Rattle.jfs_steps.specs.Laws.{IsFair}
-use Rattle.jfs_steps.specs.Call.{IsDone}
+use Rattle.jfs_loss.specs.steps.specs.Place.{last_of}
+use Rattle.jfs_loss.specs.steps.specs.After.{after_call}
+use Rattle.jfs_loss.specs.steps.specs.Laws.{IsFair}
+use Rattle.jfs_loss.specs.steps.specs.Call.{IsDone}
 use Rattle.jfs_unlink.specs.Ends.{MeetsEnds}
 use Rattle.jfs_unlink.specs.Gone.{DropsNamed, LeavesNamed}
 

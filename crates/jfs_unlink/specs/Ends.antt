@@ -4,10 +4,10 @@ use Rattle.jfs_inode.specs.Inode.{FitsDinode}
 use Rattle.jfs_imap.specs.Inodes.{Inodes}
 use Rattle.jfs_plain.specs.Tree.{Tree, walk, enter, root}
 use Rattle.jfs_plain.specs.declared.refusal.Refusal.{Refusal}
-use Rattle.jfs_steps.specs.Place.{front_of, last_of}
-use Rattle.jfs_way.specs.Answer.{is_open, Answers}
-use Rattle.jfs_way.specs.Way.{name_from, path_of}
-use Rattle.jfs_way.specs.Walk.{IsThere, IsHeld, IsShown}
+use Rattle.jfs_loss.specs.steps.specs.Place.{front_of, last_of}
+use Rattle.jfs_loss.specs.way.specs.Answer.{is_open, Answers}
+use Rattle.jfs_loss.specs.way.specs.Way.{name_from, path_of}
+use Rattle.jfs_loss.specs.way.specs.Walk.{IsThere, IsHeld, IsShown}
 use Rattle.jfs_unlink.specs.declared.ends.Ends.{Ends}
 
 -- both are where the map of inodes says, and break no rule

@@ -3,13 +3,13 @@ use Rattle.std.specs.Prelude.{◌⊎◌, ℕ, List, [], Err}
 use Rattle.jfs_bits.specs.declared.descriptor.Moment.{Moment}
 use Rattle.jfs_ranges.specs.declared.edit.Edit.{Edit}
 use Rattle.jfs_plain.specs.declared.refusal.Refusal.{Refusal}
-use Rattle.jfs_steps.specs.Put.{AddsInode, TellsLines}
+use Rattle.jfs_loss.specs.steps.specs.Put.{AddsInode, TellsLines}
 use Rattle.jfs_loss.specs.Inodes.{fallen, gone}
 use Rattle.jfs_loss.specs.Frees.{FreesObject}
 use Rattle.jfs_loss.specs.Loses.{LosesName}
 use Rattle.jfs_loss.specs.Causes.{MeetsTree, lost_from}
-use Rattle.jfs_way.specs.Answer.{Answers}
-use Rattle.jfs_way.specs.declared.object.Held.{Held}
+use Rattle.jfs_loss.specs.way.specs.Answer.{Answers}
+use Rattle.jfs_loss.specs.way.specs.declared.object.Held.{Held}
 use Rattle.jfs_unlink.specs.declared.ends.Ends.{Ends}
 
 -- The transaction frees all that the object has, takes the name away, and puts the object's inode without links.

@@ -2,15 +2,15 @@
 
 ghost use Rattle.std.specs.Prelude.{◌≡◌, ◌≤◌, ◌<◌, ℕ, [], length, get_or, IfOk};
 ghost use Rattle.jfs_disk.specs.Image.{page_of};
-ghost use Rattle.jfs_way.specs.Answer.{Carries};
-ghost use Rattle.jfs_way.specs.Walk.{IfConsistent};
+ghost use Rattle.jfs_loss.specs.way.specs.Answer.{Carries};
+ghost use Rattle.jfs_loss.specs.way.specs.Walk.{IfConsistent};
 ghost use Rattle.jfs_unlink.specs.Ends.{AreHeld, AreShown, FollowsEnds, MeetsEnds};
 
 use jfs_imap::InodeMap;
+use jfs_loss::way::{Held, enter, walk};
 use jfs_name::Name;
 use jfs_plain::Refusal;
 use jfs_ranges::PageView;
-use jfs_way::{Held, enter, walk};
 
 /// The directory that holds a path's last name, and the object that the name leads to.
 #[derive(Clone, Copy)]

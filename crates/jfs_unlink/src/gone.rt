@@ -2,7 +2,7 @@
 
 ghost use Rattle.std.specs.Prelude.{◌≡◌, ◌≤◌, length, Ok, Err, IfOk, IfErr};
 ghost use Rattle.jfs_disk.specs.Image.{page_of};
-ghost use Rattle.jfs_way.specs.Answer.{Carries, Answers};
+ghost use Rattle.jfs_loss.specs.way.specs.Answer.{Carries, Answers};
 ghost use Rattle.jfs_loss.specs.Inodes.{fallen, gone};
 ghost use Rattle.jfs_loss.specs.Causes.{freed_from, lost_from};
 ghost use Rattle.jfs_unlink.specs.Ends.{AreWithin};
@@ -11,11 +11,11 @@ ghost use Rattle.jfs_unlink.specs.Gone.{DropsNamed, LeavesNamed, StaysNamed};
 use crate::ends::Ends;
 use jfs_bits::Moment;
 use jfs_inode::Dinode;
+use jfs_loss::steps::put_inode;
 use jfs_loss::{free_object, lose_name};
 use jfs_name::Name;
 use jfs_plain::Refusal;
 use jfs_ranges::{PageView, Tx};
-use jfs_steps::put_inode;
 use std::alloc::Global;
 
 /// The transaction that takes a name away with the object that it names: all that the object has is freed. The directory has so many links afterwards.

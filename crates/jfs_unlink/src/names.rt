@@ -3,7 +3,7 @@
 ghost use Rattle.std.specs.Prelude.{◌≡◌, ◌≤◌, ◌<◌, ℕ, [], length, get_or, Err, IfOk, IfErr};
 ghost use Rattle.jfs_disk.specs.Image.{page_of};
 ghost use Rattle.jfs_plain.specs.Step.{Room, unlink};
-ghost use Rattle.jfs_way.specs.Answer.{Carries, Answers};
+ghost use Rattle.jfs_loss.specs.way.specs.Answer.{Carries, Answers};
 ghost use Rattle.jfs_unlink.specs.Call.{is_last_of_big, unlink_of, Unlinks, StepsOn, FreesOnceOn};
 
 use crate::ends::find_ends;
@@ -11,10 +11,10 @@ use crate::gone::{drop_named, leave_named};
 use jfs_bits::Moment;
 use jfs_imap::InodeMap;
 use jfs_inode::Dinode;
+use jfs_loss::reader::has_names;
 use jfs_name::Name;
 use jfs_plain::Refusal;
 use jfs_ranges::{PageView, Tx};
-use jfs_reader::has_names;
 use std::alloc::Global;
 
 /// The transaction that takes the last name of a path away. The object that it names has one link less, and this time as that of its last change; with its last

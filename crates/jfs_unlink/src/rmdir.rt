@@ -5,7 +5,7 @@ ghost use Rattle.jfs_disk.specs.Image.{page_of};
 ghost use Rattle.jfs_dtree.specs.Spells.{root_node};
 ghost use Rattle.jfs_loss.specs.meaning.specs.Readers.{root_of};
 ghost use Rattle.jfs_plain.specs.Step.{rmdir};
-ghost use Rattle.jfs_way.specs.Answer.{Carries, Answers};
+ghost use Rattle.jfs_loss.specs.way.specs.Answer.{Carries, Answers};
 ghost use Rattle.jfs_unlink.specs.Call.{IsBare, rmdir_of, Removes, StepsOn, FreesOnceOn};
 
 use crate::ends::find_ends;
@@ -14,12 +14,12 @@ use jfs_bits::Moment;
 use jfs_dtpage::DtForm;
 use jfs_dtree::{DirEntry, DtPages};
 use jfs_imap::InodeMap;
+use jfs_loss::reader::{has_names, root_in};
+use jfs_loss::way::Held;
 use jfs_name::Name;
 use jfs_plain::Refusal;
 use jfs_ranges::{PageView, Tx};
-use jfs_reader::{has_names, root_in};
 use jfs_tree::{PageForm, Way};
-use jfs_way::Held;
 use std::alloc::Global;
 
 /// The transaction that takes the last name of a path away, and the empty directory that it names: its attributes are freed, and the directory that held it has one

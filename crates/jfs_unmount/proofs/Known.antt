@@ -12,20 +12,20 @@ use Rattle.jfs_super.specs.Geometry.{geometry_of}
 use Rattle.jfs_super.specs.declared.fields.Super.{Super}
 use Rattle.jfs_iag.specs.Iag.{no_run}
 use Rattle.jfs_iag.specs.Canonical.{is_there}
-use Rattle.jfs_mounted.specs.imap.specs.Inodes.{Inodes, is_used, extent_at}
-use Rattle.jfs_mounted.specs.bmap.specs.States.{Blocks, Free, Owned, is_owned, is_owned_state}
-use Rattle.jfs_mounted.specs.bmap.proofs.Views.{each_below-at}
-use Rattle.jfs_mounted.specs.objects.specs.Readers.{Readers}
-use Rattle.jfs_mounted.specs.objects.specs.Volume.{Volume, home, page_in}
-use Rattle.jfs_mounted.specs.objects.specs.Contents.{block_of, bytes_at}
-use Rattle.jfs_mounted.specs.objects.specs.Image.{file_page, file_extents, iag_page, iags_on, extent_place, extent_on, extents_on, is_block_used, is_inode_used}
-use Rattle.jfs_mounted.specs.kinds.specs.Images.{HasWholeFiles}
-use Rattle.jfs_mounted.specs.meaning.specs.Readers.{readers}
-use Rattle.jfs_mounted.specs.meaning.specs.Consistent.{IsConsistent}
+use Rattle.jfs_shown.specs.imap.specs.Inodes.{Inodes, is_used, extent_at}
+use Rattle.jfs_shown.specs.bmap.specs.States.{Blocks, Free, Owned, is_owned, is_owned_state}
+use Rattle.jfs_shown.specs.bmap.proofs.Views.{each_below-at}
+use Rattle.jfs_shown.specs.objects.specs.Readers.{Readers}
+use Rattle.jfs_shown.specs.objects.specs.Volume.{Volume, home, page_in}
+use Rattle.jfs_shown.specs.objects.specs.Contents.{block_of, bytes_at}
+use Rattle.jfs_shown.specs.objects.specs.Image.{file_page, file_extents, iag_page, iags_on, extent_place, extent_on, extents_on, is_block_used, is_inode_used}
+use Rattle.jfs_shown.specs.kinds.specs.Images.{HasWholeFiles}
+use Rattle.jfs_shown.specs.meaning.specs.Readers.{readers}
+use Rattle.jfs_shown.specs.meaning.specs.Consistent.{IsConsistent}
 use Rattle.jfs_mounted.specs.mount_rules.specs.Subject.{Subject, subject_of, volume}
 use Rattle.jfs_mounted.specs.mount_rules.specs.Mount.{iags}
 use Rattle.jfs_mounted.specs.sets.specs.Sets.{extent_from}
-use Rattle.jfs_mounted.specs.way.specs.Volume.{volume_of}
+use Rattle.jfs_shown.specs.way.specs.Volume.{volume_of}
 use Rattle.jfs_mounted.specs.mount_maps.specs.Maps.{blocks_on, inodes_on, AreAtRest, AreMapsOf}
 use Rattle.jfs_mounted.specs.mount_maps.specs.declared.found.FoundMaps.{FoundMaps}
 use Rattle.jfs_shown.specs.Shown.{ShowsBlocks, ShowsInodes}

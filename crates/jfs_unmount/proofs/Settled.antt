@@ -4,19 +4,19 @@ use Rattle.std.proofs.lemmas.Bool.{cases_lt, le-ltb}
 use Rattle.std.proofs.lemmas.Bool.Decides.{nat_tests}
 use Rattle.jfs_super.specs.Rules.{blocks_of}
 use Rattle.jfs_super.specs.declared.fields.Super.{Super}
-use Rattle.jfs_mounted.specs.imap.specs.Inodes.{Inodes}
-use Rattle.jfs_mounted.specs.bmap.specs.States.{Blocks, is_owned}
-use Rattle.jfs_mounted.specs.plain.specs.Moves.{Same}
-use Rattle.jfs_mounted.specs.plain.specs.Tree.{Tree}
-use Rattle.jfs_mounted.specs.objects.specs.Readers.{Readers}
-use Rattle.jfs_mounted.specs.objects.specs.Volume.{Volume}
-use Rattle.jfs_mounted.specs.objects.specs.Owners.{owners, bit, run_has}
-use Rattle.jfs_mounted.specs.objects.specs.Image.{file_page, file_has, area_on}
-use Rattle.jfs_mounted.specs.kinds.proofs.Images.{same_page}
-use Rattle.jfs_mounted.specs.meaning.specs.Readers.{readers}
-use Rattle.jfs_mounted.specs.meaning.specs.Tree.{tree_on}
-use Rattle.jfs_mounted.specs.meaning.specs.Consistent.{IsConsistent}
-use Rattle.jfs_mounted.specs.way.specs.Volume.{volume_of}
+use Rattle.jfs_shown.specs.imap.specs.Inodes.{Inodes}
+use Rattle.jfs_shown.specs.bmap.specs.States.{Blocks, is_owned}
+use Rattle.jfs_volume_calls.specs.plain.specs.Moves.{Same}
+use Rattle.jfs_volume_calls.specs.plain.specs.Tree.{Tree}
+use Rattle.jfs_shown.specs.objects.specs.Readers.{Readers}
+use Rattle.jfs_shown.specs.objects.specs.Volume.{Volume}
+use Rattle.jfs_shown.specs.objects.specs.Owners.{owners, bit, run_has}
+use Rattle.jfs_shown.specs.objects.specs.Image.{file_page, file_has, area_on}
+use Rattle.jfs_shown.specs.kinds.proofs.Images.{same_page}
+use Rattle.jfs_shown.specs.meaning.specs.Readers.{readers}
+use Rattle.jfs_shown.specs.meaning.specs.Tree.{tree_on}
+use Rattle.jfs_shown.specs.meaning.specs.Consistent.{IsConsistent}
+use Rattle.jfs_shown.specs.way.specs.Volume.{volume_of}
 use Rattle.jfs_shown.specs.Shown.{ShowsBlocks, ShowsInodes, ShowsMaps}
 use Rattle.jfs_shown.specs.Laws.{HasSizes, AreAreas, KeepsPlaces, map_pages}
 use Rattle.jfs_shown.proofs.Image.{image_law}

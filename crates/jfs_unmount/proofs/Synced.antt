@@ -5,23 +5,23 @@ use Rattle.std.proofs.lemmas.Option.{slice_get_within}
 use Rattle.jfs_disk.specs.Image.{page_of}
 use Rattle.jfs_super.specs.Rules.{blocks_of}
 use Rattle.jfs_super.specs.declared.fields.Super.{Super}
-use Rattle.jfs_mounted.specs.imap.specs.Inodes.{Inodes}
-use Rattle.jfs_mounted.specs.bmap.specs.MapFile.{is_in_use, pages_of}
-use Rattle.jfs_mounted.specs.bmap.specs.States.{Blocks, is_owned}
-use Rattle.jfs_mounted.specs.map_files.specs.declared.map_file.MapFiles.{MapFiles}
-use Rattle.jfs_mounted.specs.objects.specs.Readers.{Readers}
-use Rattle.jfs_mounted.specs.objects.specs.Volume.{Volume}
-use Rattle.jfs_mounted.specs.meaning.specs.Readers.{readers}
-use Rattle.jfs_mounted.specs.meaning.specs.Consistent.{IsConsistent}
-use Rattle.jfs_mounted.specs.way.specs.Volume.{volume_of}
+use Rattle.jfs_shown.specs.imap.specs.Inodes.{Inodes}
+use Rattle.jfs_shown.specs.bmap.specs.MapFile.{is_in_use, pages_of}
+use Rattle.jfs_shown.specs.bmap.specs.States.{Blocks, is_owned}
+use Rattle.jfs_shown.specs.map_files.specs.declared.map_file.MapFiles.{MapFiles}
+use Rattle.jfs_shown.specs.objects.specs.Readers.{Readers}
+use Rattle.jfs_shown.specs.objects.specs.Volume.{Volume}
+use Rattle.jfs_shown.specs.meaning.specs.Readers.{readers}
+use Rattle.jfs_shown.specs.meaning.specs.Consistent.{IsConsistent}
+use Rattle.jfs_shown.specs.way.specs.Volume.{volume_of}
 use Rattle.jfs_shown.specs.Shown.{ShowsBlocks, ShowsInodes}
 use Rattle.jfs_shown.specs.Laws.{map_pages}
 use Rattle.jfs_shown.specs.Files.{KnowsFiles, HasOwnPlaces}
 use Rattle.jfs_shown.proofs.Canonical.{canonical_law}
 use Rattle.jfs_shown.proofs.Files.{written_law, change_law, own_law}
 use Rattle.jfs_shown.proofs.Places.{keeps_law}
-use Rattle.jfs_mounted.specs.halves.specs.Parts.{Parts}
-use Rattle.jfs_mounted.specs.volume.specs.MapsHome.{ShowsBlockMap, HoldsNone}
+use Rattle.jfs_volume_calls.specs.halves.specs.Parts.{Parts}
+use Rattle.jfs_volume_calls.specs.volume.specs.MapsHome.{ShowsBlockMap, HoldsNone}
 use Rattle.jfs_unmount.specs.Laws.{IsSettled}
 use Rattle.jfs_unmount.specs.Synced.{PutsMapsHome, SyncedLaw}
 

@@ -7,24 +7,24 @@ use Rattle.jfs_super.specs.Geometry.{geometry_of}
 use Rattle.jfs_super.specs.declared.fields.TheConstants.VolumeState.{CLEAN}
 use Rattle.jfs_super.specs.Rules.{blocks_of}
 use Rattle.jfs_super.specs.declared.fields.Super.{Super}
-use Rattle.jfs_mounted.specs.imap.specs.Inodes.{Inodes}
-use Rattle.jfs_mounted.specs.bmap.specs.States.{Blocks}
-use Rattle.jfs_mounted.specs.plain.specs.Moves.{Same}
-use Rattle.jfs_mounted.specs.kinds.specs.Images.{HasWholeFiles}
-use Rattle.jfs_mounted.specs.meaning.specs.Readers.{readers}
-use Rattle.jfs_mounted.specs.meaning.specs.Consistent.{IsConsistent}
-use Rattle.jfs_mounted.specs.meaning.specs.Image.{tree_of, IsConsistentImage}
-use Rattle.jfs_mounted.specs.meaning.specs.Image as meaning
+use Rattle.jfs_shown.specs.imap.specs.Inodes.{Inodes}
+use Rattle.jfs_shown.specs.bmap.specs.States.{Blocks}
+use Rattle.jfs_volume_calls.specs.plain.specs.Moves.{Same}
+use Rattle.jfs_shown.specs.kinds.specs.Images.{HasWholeFiles}
+use Rattle.jfs_shown.specs.meaning.specs.Readers.{readers}
+use Rattle.jfs_shown.specs.meaning.specs.Consistent.{IsConsistent}
+use Rattle.jfs_shown.specs.meaning.specs.Image.{tree_of, IsConsistentImage}
+use Rattle.jfs_shown.specs.meaning.specs.Image as meaning
 use Rattle.jfs_mounted.specs.mount_rules.specs.Subject.{subject_of}
-use Rattle.jfs_mounted.specs.way.specs.Volume.{volume_of}
-use Rattle.jfs_mounted.specs.way.specs.Walk.{tree_in}
+use Rattle.jfs_shown.specs.way.specs.Volume.{volume_of}
+use Rattle.jfs_shown.specs.way.specs.Walk.{tree_in}
 use Rattle.jfs_shown.specs.Shown.{ShowsMaps}
 use Rattle.jfs_shown.specs.Laws.{HasSizes, AreAreas}
 use Rattle.jfs_shown.specs.Files.{KnowsFiles}
 use Rattle.jfs_mounted.specs.mount_maps.specs.Maps.{AreAtRest, AreMapsOf}
 use Rattle.jfs_mounted.specs.mount_maps.specs.declared.found.FoundMaps.{FoundMaps}
-use Rattle.jfs_mounted.specs.halves.specs.Parts.{Parts}
-use Rattle.jfs_mounted.specs.halves.specs.Log.{LogParts}
+use Rattle.jfs_volume_calls.specs.halves.specs.Parts.{Parts}
+use Rattle.jfs_volume_calls.specs.halves.specs.Log.{LogParts}
 use Rattle.jfs_mounted.specs.Laws.{SameButSuper}
 use Rattle.jfs_unmount.specs.Unmount.{Ends}
 

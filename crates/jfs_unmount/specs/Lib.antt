@@ -2,3 +2,5 @@
 pub mod Unmount
 pub mod Laws
 pub mod Synced
+-- libraries below, passed on
+pub use Rattle.jfs_mounted as mounted

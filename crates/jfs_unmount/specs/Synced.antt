@@ -3,13 +3,13 @@ use Rattle.std.specs.Prelude.{◌≡◌, ◌<◌, ℕ, true, false, length, slic
 use Rattle.jfs_disk.specs.Image.{page_of}
 use Rattle.jfs_super.specs.Rules.{blocks_of}
 use Rattle.jfs_super.specs.declared.fields.Super.{Super}
-use Rattle.jfs_mounted.specs.bmap.specs.States.{is_owned}
-use Rattle.jfs_mounted.specs.meaning.specs.Readers.{readers}
-use Rattle.jfs_mounted.specs.meaning.specs.Consistent.{IsConsistent}
-use Rattle.jfs_mounted.specs.way.specs.Volume.{volume_of}
+use Rattle.jfs_shown.specs.bmap.specs.States.{is_owned}
+use Rattle.jfs_shown.specs.meaning.specs.Readers.{readers}
+use Rattle.jfs_shown.specs.meaning.specs.Consistent.{IsConsistent}
+use Rattle.jfs_shown.specs.way.specs.Volume.{volume_of}
 use Rattle.jfs_shown.specs.Files.{KnowsFiles}
-use Rattle.jfs_mounted.specs.halves.specs.Parts.{Parts}
-use Rattle.jfs_mounted.specs.volume.specs.MapsHome.{ShowsBlockMap, ShowsInodeMap, HoldsNone, with_written}
+use Rattle.jfs_volume_calls.specs.halves.specs.Parts.{Parts}
+use Rattle.jfs_volume_calls.specs.volume.specs.MapsHome.{ShowsBlockMap, ShowsInodeMap, HoldsNone, with_written}
 use Rattle.jfs_unmount.specs.Laws.{IsSettled}
 
 -- A map that had changed is shown by its pages in their canonical form, and the pages of one that hadn't stay; so do the fixed areas beside these pages. The blocks with owners stay, and the inode map.

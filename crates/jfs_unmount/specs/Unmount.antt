@@ -7,8 +7,8 @@ use Rattle.jfs_disk.specs.Moment.{IsResting}
 use Rattle.jfs_disk.specs.declared.disk.Fault.{Fault}
 use Rattle.jfs_disk.specs.declared.disk.Part.TheVariants.{Low, High}
 use Rattle.jfs_mounted.specs.pages.specs.Dirty.{dirty_of}
-use Rattle.jfs_mounted.specs.halves.specs.Parts.{Parts}
-use Rattle.jfs_mounted.specs.halves.specs.Log.{LogParts}
+use Rattle.jfs_volume_calls.specs.halves.specs.Parts.{Parts}
+use Rattle.jfs_volume_calls.specs.halves.specs.Log.{LogParts}
 use Rattle.jfs_volume_calls.specs.Together.{AreTogether, OfBothHalves}
 use Rattle.jfs_volume_calls.specs.Syncpoint.{SyncpointIs}
 

@@ -8,3 +8,9 @@ mod unmounting;
 pub use law::{mounts_know_the_files_of_maps, settled_pages_have_the_tree, unmounts_keep_the_tree};
 pub use leaving::leave;
 pub use unmounting::{Unended, unmount};
+
+pub mod mounted {
+    //! Passed on from `jfs_mounted`.
+
+    pub use jfs_mounted::{MountError, Mounted, mount};
+}

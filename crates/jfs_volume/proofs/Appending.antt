@@ -5,7 +5,7 @@ use Rattle.jfs_disk.specs.Crash.{DiskState}
 use Rattle.jfs_disk.specs.Image.{Image}
 use Rattle.jfs_disk.specs.declared.disk.Fault.{Fault}
 use Rattle.jfs_halves.specs.crash_core.specs.Image.{pages_after}
-use Rattle.jfs_data_steps.specs.declared.pages.DataPage.{DataPage}
+use Rattle.jfs_marks.specs.data_steps.specs.declared.pages.DataPage.{DataPage}
 use Rattle.jfs_volume.specs.Data.{put_pages}
 use Rattle.jfs_volume.specs.Written.{writes}
 use Rattle.jfs_ranges.specs.declared.edit.Edit.{Edit}

@@ -7,8 +7,8 @@ use Rattle.std.proofs.lemmas.Bool.{eqb-true}
 use Rattle.jfs_bmap.specs.States.{Blocks, BlockState, Free, put_state, AreReserved}
 use Rattle.jfs_ranges.specs.View.{AreWhole}
 use Rattle.jfs_ranges.specs.declared.edit.Edit.{Edit}
-use Rattle.jfs_data_steps.specs.After.{LieWithin, is_put}
-use Rattle.jfs_data_steps.specs.declared.pages.DataPage.{DataPage}
+use Rattle.jfs_marks.specs.data_steps.specs.After.{LieWithin, is_put}
+use Rattle.jfs_marks.specs.data_steps.specs.declared.pages.DataPage.{DataPage}
 use Rattle.jfs_pages.specs.declared.dirty.Dirty.{Dirty}
 use Rattle.jfs_pages.specs.Device.{IsFault}
 use Rattle.jfs_pages.specs.Dirty.{dirty_of}

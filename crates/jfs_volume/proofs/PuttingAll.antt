@@ -5,8 +5,8 @@ use Rattle.std.proofs.lemmas.List.{length-set}
 use Rattle.jfs_disk.specs.Image.{Image, page_of}
 use Rattle.jfs_disk.specs.Crash.{DiskState, last_of, seen_of, TearsPage, LeavesTorn}
 use Rattle.jfs_disk.specs.declared.disk.Fault.{Fault}
-use Rattle.jfs_data_steps.specs.After.{is_put, LieWithin}
-use Rattle.jfs_data_steps.specs.declared.pages.DataPage.{DataPage}
+use Rattle.jfs_marks.specs.data_steps.specs.After.{is_put, LieWithin}
+use Rattle.jfs_marks.specs.data_steps.specs.declared.pages.DataPage.{DataPage}
 use Rattle.jfs_halves.specs.crash_core.specs.Step.{halted_by}
 use Rattle.jfs_halves.specs.Half.{VolumeHalf}
 use Rattle.jfs_halves.specs.Parts.{Parts, StandsFor, Asked}

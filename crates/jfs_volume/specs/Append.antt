@@ -21,8 +21,8 @@ use Rattle.jfs_halves.specs.Moves.{Moves}
 use Rattle.jfs_pages.specs.Device.{IsFault}
 use Rattle.jfs_pages.specs.Dirty.{dirty_of, touched_by}
 use Rattle.jfs_volume.specs.Runs.{taken_in, freed_in, pages_freed}
-use Rattle.jfs_data_steps.specs.After.{is_put}
-use Rattle.jfs_data_steps.specs.declared.pages.DataPage.{DataPage}
+use Rattle.jfs_marks.specs.data_steps.specs.After.{is_put}
+use Rattle.jfs_marks.specs.data_steps.specs.declared.pages.DataPage.{DataPage}
 use Rattle.jfs_volume.specs.Written.{writes, StopsWriting}
 use Rattle.jfs_volume.specs.Data.{put_pages}
 use Rattle.jfs_volume.specs.Stale.{stale_after}

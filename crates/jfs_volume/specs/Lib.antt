@@ -23,13 +23,10 @@ pub mod Called
 -- libraries below, passed on
 pub use Rattle.jfs_bmap as bmap
 pub use Rattle.jfs_halves.specs.crash_core
-pub use Rattle.jfs_data_steps as data_steps
+pub use Rattle.jfs_marks.specs.data_steps
 pub use Rattle.jfs_halves as halves
-pub use Rattle.jfs_imap as imap
-pub use Rattle.jfs_data_steps.specs.kinds
-pub use Rattle.jfs_data_steps.specs.meaning
-pub use Rattle.jfs_data_steps.specs.objects
+pub use Rattle.jfs_marks.specs.kinds
+pub use Rattle.jfs_map_files as map_files
 pub use Rattle.jfs_pages as pages
 pub use Rattle.jfs_plain as plain
 pub use Rattle.jfs_records as records
-pub use Rattle.jfs_data_steps.specs.way

@@ -6,7 +6,7 @@ use Rattle.jfs_bmap.specs.MapFile.{IsMapPage, is_in_use}
 use Rattle.jfs_bmap.specs.States.{is_owned}
 use Rattle.jfs_imap.specs.Inodes.{IsInodePage}
 use Rattle.jfs_map_files.specs.declared.map_file.MapFiles.{MapFiles}
-use Rattle.jfs_data_steps.specs.declared.pages.DataPage.{DataPage}
+use Rattle.jfs_marks.specs.data_steps.specs.declared.pages.DataPage.{DataPage}
 use Rattle.jfs_halves.specs.Half.{VolumeHalf}
 use Rattle.jfs_halves.specs.Parts.{Parts}
 use Rattle.jfs_halves.specs.Moves.{Moves}

@@ -1,14 +1,14 @@
 //! Blocks of files that are written before an entry joins.
 
 ghost use Rattle.std.specs.Prelude.{◌≡◌, ◌<◌, length, slice_get, Some, OnOk};
-ghost use Rattle.jfs_data_steps.specs.After.{LieWithin};
-ghost use Rattle.jfs_data_steps.specs.declared.pages.DataPage.{DataPage};
+ghost use Rattle.jfs_marks.specs.data_steps.specs.After.{LieWithin};
+ghost use Rattle.jfs_marks.specs.data_steps.specs.declared.pages.DataPage.{DataPage};
 ghost use Rattle.jfs_pages.specs.Device.{HasFault};
 ghost use Rattle.jfs_pages.specs.Kept.{dirty_in, held_in};
 ghost use Rattle.jfs_volume.specs.Data.{PutsAll, PutsOne, store_of};
 
-use jfs_data_steps::{DataList, DataPage};
 use jfs_disk::{Disk, Fault};
+use jfs_marks::data_steps::{DataList, DataPage};
 use jfs_pages::PageCache;
 
 /// Writes each of the blocks, in their order, past the log. It takes no memory.

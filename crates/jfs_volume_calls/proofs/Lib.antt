@@ -1,3 +1,4 @@
 pub mod Lift
 pub mod Written
 pub mod Chained
+pub mod Kept

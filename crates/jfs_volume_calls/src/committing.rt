@@ -2,6 +2,8 @@
 
 ghost use Rattle.std.specs.Prelude.{◌≡◌, ◌+◌, [], false, length, OnOk};
 ghost use Rattle.jfs_volume.specs.Settle.{is_idle};
+ghost use Rattle.jfs_volume.specs.Settles.{Settles, StaysShown};
+ghost use Rattle.jfs_volume_calls.specs.Halts.{CommitHalts, GroupParts};
 ghost use Rattle.jfs_volume_calls.specs.Together.{AreTogether, OfBothHalves, log_parts};
 ghost use Rattle.jfs_volume_calls.specs.Commit.{CommitIs, GroupIs, WriteIs, HasLogFault};
 
@@ -23,6 +25,9 @@ pub fn commit<D: Disk>(volume: &mut Volume<D>, log: &mut LogSide<D>) -> Result<(
     ensures counts { (volume.new.appended ≡ volume.old.appended) × (volume.new.points ≡ volume.old.points) × (volume.new.faults ≡ volume.old.faults) }
     ensures text { (volume.new.text.bytes ≡ []) × (volume.new.text.place ≡ volume.old.text.place + length volume.old.text.bytes) }
     ensures halted { OnOk result (volume.new.halted ≡ volume.old.halted) }
+    ensures settles { Settles volume.old volume.new }
+    ensures shown { StaysShown D.tells volume.old volume.new }
+    ensures halts { CommitHalts volume.old.halted volume.new.halted result }
     ensures disk { (volume.new.count ≡ volume.old.count) × (volume.new.room ≡ volume.old.room) × (D.page_count log.new.part ≡ D.page_count log.old.part) }
     ensures cause { HasLogFault (D.fault_count log.old.part) (D.fault_count log.new.part) result }
 {
@@ -45,6 +50,8 @@ fn write_waiting<D: Disk>(volume: &mut Volume<D>, log: &mut LogSide<D>) -> Resul
     ensures text { (volume.new.text.bytes ≡ []) × (volume.new.text.place ≡ volume.old.text.place + length volume.old.text.bytes) }
     ensures taken { volume.new.taken ≡ volume.new.appended }
     ensures halted { OnOk result (volume.new.halted ≡ volume.old.halted) }
+    ensures parts { GroupParts volume.old volume.new }
+    ensures halts { CommitHalts volume.old.halted volume.new.halted result }
     ensures disk { (volume.new.count ≡ volume.old.count) × (volume.new.room ≡ volume.old.room) × (D.page_count log.new.part ≡ D.page_count log.old.part) }
     ensures cause { HasLogFault (D.fault_count log.old.part) (D.fault_count log.new.part) result }
 {
@@ -64,6 +71,8 @@ fn write<D: Disk>(volume: &mut Volume<D>, log: &mut LogSide<D>) -> Result<(), Lo
     ensures counts { (volume.new.appended ≡ volume.old.appended) × (volume.new.taken ≡ volume.old.appended) × (volume.new.told ≡ volume.old.told) × (volume.new.points ≡ volume.old.points) × (volume.new.faults ≡ volume.old.faults) }
     ensures text { (volume.new.text.bytes ≡ []) × (volume.new.text.place ≡ volume.old.text.place + length volume.old.text.bytes) }
     ensures halted { OnOk result (volume.new.halted ≡ volume.old.halted) }
+    ensures parts { GroupParts volume.old volume.new }
+    ensures halts { CommitHalts volume.old.halted volume.new.halted result }
     ensures disk { (volume.new.count ≡ volume.old.count) × (volume.new.room ≡ volume.old.room) × (D.page_count log.new.part ≡ D.page_count log.old.part) }
     ensures cause { HasLogFault (D.fault_count log.old.part) (D.fault_count log.new.part) result }
 {

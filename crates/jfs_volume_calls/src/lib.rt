@@ -10,3 +10,9 @@ pub use committing::commit;
 pub use leaving::leave;
 pub use point::PointText;
 pub use syncing::syncpoint;
+
+pub mod volume {
+    //! Passed on from `jfs_volume`.
+
+    pub use jfs_volume::{Asks, Called, Outcome, Volume};
+}

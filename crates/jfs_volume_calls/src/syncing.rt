@@ -3,6 +3,8 @@
 ghost use Rattle.std.specs.Prelude.{◌≡◌, ◌≤◌, ◌<◌, ◌+◌, ◌*◌, ◌^◌, [], ℕ, length, OnOk, None};
 ghost use Rattle.jfs_volume.specs.pages.specs.Dirty.{dirty_of};
 ghost use Rattle.jfs_volume.specs.halves.specs.Change.{MayPoint};
+ghost use Rattle.jfs_volume.specs.Settles.{Settles, StaysShown, HaltsAt};
+ghost use Rattle.jfs_volume_calls.specs.Halts.{PointParts};
 ghost use Rattle.jfs_volume_calls.specs.Together.{AreTogether, OfBothHalves, log_parts};
 ghost use Rattle.jfs_volume_calls.specs.Syncpoint.{SyncpointIs, PointIs, HasFaultOfEither, HasPointFault};
 
@@ -31,6 +33,10 @@ pub fn syncpoint<D: Disk>(
     ensures together { OnOk result (AreTogether volume.new (log_parts D.Disk log.new)) }
     ensures counts { OnOk result ((volume.new.appended ≡ volume.old.appended) × (volume.new.told ≡ volume.new.appended) × (volume.new.known ≡ volume.new.points)) }
     ensures halted { OnOk result (volume.new.halted ≡ volume.old.halted) }
+    ensures settles { Settles volume.old volume.new }
+    ensures shown { OnOk result (StaysShown D.tells volume.old volume.new) }
+    ensures halts { HaltsAt volume.old.halted volume.new.halted result }
+    ensures text { OnOk result (volume.new.text.bytes ≡ []) }
     ensures disk { (volume.new.count ≡ volume.old.count) × (volume.new.room ≡ volume.old.room) × (D.page_count log.new.part ≡ D.page_count log.old.part) }
     ensures cause { HasFaultOfEither volume.old.faults volume.new.faults (D.fault_count log.old.part) (D.fault_count log.new.part) result }
 {
@@ -69,6 +75,9 @@ fn write_point<D: Disk>(
     ensures dirty { volume.new.dirty ≡ volume.old.dirty }
     ensures counts { (volume.new.appended ≡ volume.old.appended) × (volume.new.told ≡ volume.old.told) × (volume.new.faults ≡ volume.old.faults) }
     ensures known { OnOk result ((volume.new.known ≡ volume.new.points) × (volume.new.halted ≡ volume.old.halted)) }
+    ensures parts { PointParts volume.old volume.new }
+    ensures halts { HaltsAt volume.old.halted volume.new.halted result }
+    ensures text { volume.new.text.bytes ≡ [] }
     ensures disk { (volume.new.count ≡ volume.old.count) × (volume.new.room ≡ volume.old.room) × (D.page_count log.new.part ≡ D.page_count log.old.part) }
     ensures cause { HasPointFault (D.fault_count log.old.part) (D.fault_count log.new.part) result }
 {

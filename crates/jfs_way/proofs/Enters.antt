@@ -6,17 +6,17 @@ use Rattle.jfs_imap.specs.Inodes.{Inodes}
 use Rattle.jfs_bmap.specs.States.{Blocks}
 use Rattle.jfs_ranges.specs.declared.view.ViewError.{ViewError}
 use Rattle.jfs_ranges.specs.declared.view.ViewError.TheVariants.{Read, Memory}
-use Rattle.jfs_dtree.specs.Spells.{root_node, page_nodes, spells_names, FailsWhereBad, broken_for, found_for, TellsWay}
-use Rattle.jfs_dtree.specs.declared.error.DtError.{DtError}
-use Rattle.jfs_dtree.specs.declared.error.DtError.TheVariants as dt
+use Rattle.jfs_reader.specs.dtree.specs.Spells.{root_node, page_nodes, spells_names, FailsWhereBad, broken_for, found_for, TellsWay}
+use Rattle.jfs_reader.specs.dtree.specs.declared.error.DtError.{DtError}
+use Rattle.jfs_reader.specs.dtree.specs.declared.error.DtError.TheVariants as dt
 use Rattle.jfs_reader.specs.objects.specs.Volume.{Volume, home}
 use Rattle.jfs_reader.specs.objects.specs.Image.{extent_place}
 use Rattle.jfs_reader.specs.objects.specs.Objects.{has_names}
 use Rattle.jfs_reader.specs.meaning.specs.Readers.{readers, root_of}
 use Rattle.jfs_reader.specs.meaning.specs.Consistent.{IsConsistent, MayBeNamed}
-use Rattle.jfs_plain.specs.Tree.{Tree, enter, wanted}
-use Rattle.jfs_plain.specs.declared.refusal.Refusal.{Refusal}
-use Rattle.jfs_plain.specs.declared.refusal.Refusal.TheVariants.{NotDir, NotFound}
+use Rattle.jfs_reader.specs.plain.specs.Tree.{Tree, enter, wanted}
+use Rattle.jfs_reader.specs.plain.specs.declared.refusal.Refusal.{Refusal}
+use Rattle.jfs_reader.specs.plain.specs.declared.refusal.Refusal.TheVariants.{NotDir, NotFound}
 use Rattle.jfs_way.specs.Answer.{is_open, Answers, Follows, view_refusal, names_refusal}
 use Rattle.jfs_way.specs.Volume.{volume_of, PlacesWithin}
 use Rattle.jfs_way.specs.Way.{held_on, if_whole, inode_on, inode_at, inode_named, if_unbroken, name_from}

@@ -6,11 +6,11 @@ use Rattle.jfs_inode.specs.declared.fields.Dinode.{Dinode}
 use Rattle.jfs_name.specs.declared.name.NameEntry.{NameEntry}
 use Rattle.jfs_name.specs.Directory.{named}
 use Rattle.jfs_tree.specs.Spells.{spells}
-use Rattle.jfs_dtree.specs.Spells.{spells_names}
-use Rattle.jfs_plain.specs.Tree.{is_dir, enter, enter_from, wanted}
-use Rattle.jfs_plain.specs.declared.node.Node.{Node}
-use Rattle.jfs_plain.specs.declared.refusal.Refusal.TheVariants.{NotDir}
-use Rattle.jfs_plain.specs.declared.reply.NodeKind.TheVariants.{Dir, File, Link, Other}
+use Rattle.jfs_reader.specs.dtree.specs.Spells.{spells_names}
+use Rattle.jfs_reader.specs.plain.specs.Tree.{is_dir, enter, enter_from, wanted}
+use Rattle.jfs_reader.specs.plain.specs.declared.node.Node.{Node}
+use Rattle.jfs_reader.specs.plain.specs.declared.refusal.Refusal.TheVariants.{NotDir}
+use Rattle.jfs_reader.specs.plain.specs.declared.reply.NodeKind.TheVariants.{Dir, File, Link, Other}
 use Rattle.jfs_reader.specs.objects.specs.Readers.{Readers}
 use Rattle.jfs_reader.specs.objects.specs.Volume.{Volume, home, slot_of}
 use Rattle.jfs_reader.specs.objects.specs.Objects.{Object, IsWhole, objects, spelled, is_live, has_names, listed}

@@ -3,8 +3,8 @@ use Rattle.std.proofs.Common.{◌≡◌, ◌⊎◌, refl, sym, ap, ◌∙◌, su
 use Rattle.jfs_imap.specs.Inodes.{Inodes}
 use Rattle.jfs_bmap.specs.States.{Blocks}
 use Rattle.jfs_tree.specs.Spells.{no_page}
-use Rattle.jfs_plain.specs.Tree.{Tree, enter, walk, root, and_then}
-use Rattle.jfs_plain.specs.declared.refusal.Refusal.{Refusal}
+use Rattle.jfs_reader.specs.plain.specs.Tree.{Tree, enter, walk, root, and_then}
+use Rattle.jfs_reader.specs.plain.specs.declared.refusal.Refusal.{Refusal}
 use Rattle.jfs_reader.specs.meaning.specs.Readers.{readers}
 use Rattle.jfs_reader.specs.meaning.specs.Consistent.{IsConsistent}
 use Rattle.jfs_way.specs.Answer.{is_open, Answers, Follows}

@@ -5,11 +5,11 @@ use Rattle.jfs_ranges.specs.View.{Failed}
 use Rattle.jfs_ranges.specs.declared.view.ViewError.{ViewError}
 use Rattle.jfs_ranges.specs.declared.view.ViewError.TheVariants.{Read, Memory}
 use Rattle.jfs_tree.specs.Spells.{no_page}
-use Rattle.jfs_dtree.specs.declared.error.DtError.{DtError}
-use Rattle.jfs_dtree.specs.declared.error.DtError.TheVariants as dt
-use Rattle.jfs_plain.specs.declared.refusal.Refusal.{Refusal}
-use Rattle.jfs_plain.specs.declared.refusal.Refusal.TheVariants as refusals
-use Rattle.jfs_plain.specs.declared.refusal.Refusal.TheVariants.{IoFault, OutOfMemory}
+use Rattle.jfs_reader.specs.dtree.specs.declared.error.DtError.{DtError}
+use Rattle.jfs_reader.specs.dtree.specs.declared.error.DtError.TheVariants as dt
+use Rattle.jfs_reader.specs.plain.specs.declared.refusal.Refusal.{Refusal}
+use Rattle.jfs_reader.specs.plain.specs.declared.refusal.Refusal.TheVariants as refusals
+use Rattle.jfs_reader.specs.plain.specs.declared.refusal.Refusal.TheVariants.{IoFault, OutOfMemory}
 
 -- faults and want of memory come whatever the volume holds
 abbrev pub is_open : Refusal → Bool

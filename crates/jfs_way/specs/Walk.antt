@@ -9,7 +9,7 @@ use Rattle.jfs_reader.specs.objects.specs.Volume.{slot_of}
 use Rattle.jfs_reader.specs.meaning.specs.Readers.{readers}
 use Rattle.jfs_reader.specs.meaning.specs.Tree.{tree_on}
 use Rattle.jfs_reader.specs.meaning.specs.Consistent.{IsConsistent}
-use Rattle.jfs_plain.specs.Tree.{Tree, walk, root}
+use Rattle.jfs_reader.specs.plain.specs.Tree.{Tree, walk, root}
 use Rattle.jfs_way.specs.Volume.{volume_of, PlacesWithin}
 use Rattle.jfs_way.specs.Way.{path_from, path_of}
 use Rattle.jfs_way.specs.declared.object.Held.{Held}

@@ -7,13 +7,13 @@ use Rattle.jfs_inode.specs.Rules.{rows}
 use Rattle.jfs_inode.specs.declared.read.BadInode.{BadInode}
 use Rattle.jfs_imap.specs.Inodes.{Inodes, home_of}
 use Rattle.jfs_tree.specs.Spells.{no_page}
-use Rattle.jfs_dtree.specs.Spells.{broken_for, found_for}
+use Rattle.jfs_reader.specs.dtree.specs.Spells.{broken_for, found_for}
 use Rattle.jfs_reader.specs.objects.specs.Volume.{slot_of}
 use Rattle.jfs_reader.specs.objects.specs.Objects.{has_names}
 use Rattle.jfs_reader.specs.meaning.specs.Readers.{root_of}
-use Rattle.jfs_plain.specs.Tree.{root, and_then}
-use Rattle.jfs_plain.specs.declared.refusal.Refusal.{Refusal}
-use Rattle.jfs_plain.specs.declared.refusal.Refusal.TheVariants.{NotFound, NotDir, Damaged}
+use Rattle.jfs_reader.specs.plain.specs.Tree.{root, and_then}
+use Rattle.jfs_reader.specs.plain.specs.declared.refusal.Refusal.{Refusal}
+use Rattle.jfs_reader.specs.plain.specs.declared.refusal.Refusal.TheVariants.{NotFound, NotDir, Damaged}
 use Rattle.jfs_way.specs.Answer.{at_root}
 use Rattle.jfs_way.specs.declared.object.Held.{Held}
 

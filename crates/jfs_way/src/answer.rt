@@ -3,12 +3,12 @@
 ghost use Rattle.std.specs.Prelude.{◌≡◌, Err};
 ghost use Rattle.jfs_disk.specs.declared.disk.Fault.{Fault};
 ghost use Rattle.jfs_ranges.specs.View.{CarriesCount};
-ghost use Rattle.jfs_dtree.specs.Spells.{CarriesDt};
+ghost use Rattle.jfs_reader.specs.dtree.specs.Spells.{CarriesDt};
 ghost use Rattle.jfs_way.specs.Answer.{CarriesCause, view_refusal, names_refusal};
 
-use jfs_dtree::DtError;
-use jfs_plain::Refusal;
 use jfs_ranges::ViewError;
+use jfs_reader::dtree::DtError;
+use jfs_reader::plain::Refusal;
 use jfs_tree::NO_PAGE;
 
 /// A page could not be read, or memory ran out.

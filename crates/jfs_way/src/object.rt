@@ -11,8 +11,8 @@ use crate::answer::from_view;
 use jfs_bits::Rule;
 use jfs_imap::InodeMap;
 use jfs_inode::{Dinode, read_dinode};
-use jfs_plain::Refusal;
 use jfs_ranges::PageView;
+use jfs_reader::plain::Refusal;
 
 /// An inode that breaks no rule, with its number and its page.
 #[derive(Clone, Copy)]

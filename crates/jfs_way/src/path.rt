@@ -2,18 +2,18 @@
 
 ghost use Rattle.std.specs.Prelude.{◌≡◌, ◌≤◌, ◌<◌, ℕ, [], length, get_or, IfOk};
 ghost use Rattle.jfs_disk.specs.Image.{page_of};
-ghost use Rattle.jfs_plain.specs.Tree.{enter, walk, root};
+ghost use Rattle.jfs_reader.specs.plain.specs.Tree.{enter, walk, root};
 ghost use Rattle.jfs_way.specs.Answer.{Carries, Answers, Follows};
 ghost use Rattle.jfs_way.specs.Way.{name_from, path_of};
 ghost use Rattle.jfs_way.specs.Walk.{IsHeld, IsShown, IfConsistent, IsThere, IsOf};
 
 use crate::answer::from_names;
 use crate::object::{Held, load};
-use jfs_dtree::find;
 use jfs_imap::InodeMap;
 use jfs_name::Name;
-use jfs_plain::Refusal;
 use jfs_ranges::PageView;
+use jfs_reader::dtree::find;
+use jfs_reader::plain::Refusal;
 use jfs_reader::{has_names, root_in};
 use jfs_tree::NO_PAGE;
 

@@ -28,17 +28,17 @@ use Rattle.jfs_link.specs.meaning.specs.Consistent.{IsConsistent}
 use Rattle.jfs_link.specs.meaning.specs.Readers.{readers, root_of}
 use Rattle.jfs_link.specs.meaning.specs.Room.{room_on}
 use Rattle.jfs_link.specs.meaning.specs.Tree.{tree_on}
-use Rattle.jfs_link.specs.room.specs.Laws.{blocks_in}
-use Rattle.jfs_claim.specs.Look.{space_for, TellsSpace}
-use Rattle.jfs_claim.proofs.Looks.{space_told}
-use Rattle.jfs_way.specs.Answer.{is_open, at_root, Follows}
-use Rattle.jfs_way.specs.Volume.{volume_of, PlacesWithin}
-use Rattle.jfs_way.specs.Walk.{IsHeld, IsShown, IsThere, IsOf, IfConsistent, tree_in}
-use Rattle.jfs_way.specs.Way.{path_of}
-use Rattle.jfs_way.specs.declared.object.Held.{Held}
+use Rattle.jfs_file_blocks.specs.room.specs.Laws.{blocks_in}
+use Rattle.jfs_file_blocks.specs.claim.specs.Look.{space_for, TellsSpace}
+use Rattle.jfs_file_blocks.specs.claim.proofs.Looks.{space_told}
+use Rattle.jfs_read.specs.way.specs.Answer.{is_open, at_root, Follows}
+use Rattle.jfs_read.specs.way.specs.Volume.{volume_of, PlacesWithin}
+use Rattle.jfs_read.specs.way.specs.Walk.{IsHeld, IsShown, IsThere, IsOf, IfConsistent, tree_in}
+use Rattle.jfs_read.specs.way.specs.Way.{path_of}
+use Rattle.jfs_read.specs.way.specs.declared.object.Held.{Held}
 use Rattle.jfs_read.specs.Read.{extents_refusal}
-use Rattle.jfs_data_steps.specs.After.{AreWholePages, with_data}
-use Rattle.jfs_data_steps.proofs.Held as held_file
+use Rattle.jfs_write_pages.specs.data_steps.specs.After.{AreWholePages, with_data}
+use Rattle.jfs_write_pages.specs.data_steps.proofs.Held as held_file
 use Rattle.jfs_write_pages.specs.Spots.{placed, extents_for}
 use Rattle.jfs_write.specs.Look.{why_kept, or_damage, spelled_at, FitsBytes, spots_at}
 use Rattle.jfs_write.specs.Call.{LacksPlace, WritesAt, StoppedAt, InRoom, IsDeep, StepsInRoom, StartsWrite, StartsFill}

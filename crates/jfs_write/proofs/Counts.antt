@@ -5,8 +5,8 @@ use Rattle.jfs_tree.specs.Edit.{count_in}
 use Rattle.jfs_tree.specs.Form.{AllBelow}
 use Rattle.jfs_tree.specs.Fresh.{blocks_of, run_from}
 use Rattle.jfs_tree.specs.Tell.{is_in}
-use Rattle.jfs_link.specs.objects.proofs.Sums.{eq_or_not}
-use Rattle.jfs_data_steps.specs.loss.proofs.Counts.{count_append}
+use Rattle.jfs_write_pages.specs.objects.proofs.Sums.{eq_or_not}
+use Rattle.jfs_write_pages.specs.loss.proofs.Counts.{count_append}
 
 pub blocks_append : (xs ys : List Pxd) → (b : ℕ) → count_in b (blocks_of (xs ++ ys)) ≡ count_in b (blocks_of xs) + count_in b (blocks_of ys)
 blocks_append [] ys b = omega arith

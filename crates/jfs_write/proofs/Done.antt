@@ -9,12 +9,12 @@ use Rattle.jfs_inode.specs.declared.fields.Dinode.{Dinode}
 use Rattle.jfs_imap.specs.Inodes.{Inodes}
 use Rattle.jfs_bmap.specs.States.{Blocks}
 use Rattle.jfs_xtree.specs.Spells.{spells_extents}
-use Rattle.jfs_link.specs.objects.specs.Readers.{Readers}
-use Rattle.jfs_link.specs.objects.specs.Volume.{Volume}
-use Rattle.jfs_link.specs.objects.specs.Objects.{Object, objects, spelled, has_names, listed}
-use Rattle.jfs_link.specs.objects.specs.Contents.{block_of, bytes_at}
-use Rattle.jfs_link.specs.objects.specs.Changes.{put}
-use Rattle.jfs_link.specs.objects.proofs.Sums.{put_here, put_other, eq_or_not}
+use Rattle.jfs_write_pages.specs.objects.specs.Readers.{Readers}
+use Rattle.jfs_write_pages.specs.objects.specs.Volume.{Volume}
+use Rattle.jfs_write_pages.specs.objects.specs.Objects.{Object, objects, spelled, has_names, listed}
+use Rattle.jfs_write_pages.specs.objects.specs.Contents.{block_of, bytes_at}
+use Rattle.jfs_write_pages.specs.objects.specs.Changes.{put}
+use Rattle.jfs_write_pages.specs.objects.proofs.Sums.{put_here, put_other, eq_or_not}
 use Rattle.jfs_link.specs.meaning.specs.Contents.{byte_of, byte_in, is_regular}
 use Rattle.jfs_link.specs.meaning.specs.Readers.{readers, root_of}
 use Rattle.jfs_link.specs.meaning.specs.Tree.{tree_on}
@@ -28,17 +28,17 @@ use Rattle.jfs_plain.specs.declared.node.Node.{Node}
 use Rattle.jfs_plain.specs.declared.refusal.Refusal.{Refusal}
 use Rattle.jfs_plain.specs.declared.refusal.Refusal.TheVariants.{IsDir, NotFile, FileTooBig, NoSpace}
 use Rattle.jfs_plain.specs.declared.reply.Reply.TheVariants.{Done}
-use Rattle.jfs_way.specs.Volume.{volume_of}
-use Rattle.jfs_way.specs.Walk.{IsHeld, IsShown, IsThere, tree_in}
-use Rattle.jfs_way.specs.declared.object.Held.{Held}
-use Rattle.jfs_steps.specs.Call.{IsDone}
-use Rattle.jfs_data_steps.specs.declared.pages.DataPage.{DataPage}
-use Rattle.jfs_data_steps.specs.After.{AreWholePages, put_data, with_data, after_writes}
-use Rattle.jfs_data_steps.specs.Laws.{IsFilePut}
-use Rattle.jfs_data_steps.specs.File.{bytes_held, refilled}
-use Rattle.jfs_data_steps.proofs.Extents.{file_type}
-use Rattle.jfs_data_steps.proofs.Files.{file_bytes, file_before}
-use Rattle.jfs_data_steps.proofs.Held as held_file
+use Rattle.jfs_read.specs.way.specs.Volume.{volume_of}
+use Rattle.jfs_read.specs.way.specs.Walk.{IsHeld, IsShown, IsThere, tree_in}
+use Rattle.jfs_read.specs.way.specs.declared.object.Held.{Held}
+use Rattle.jfs_link.specs.steps.specs.Call.{IsDone}
+use Rattle.jfs_write_pages.specs.data_steps.specs.declared.pages.DataPage.{DataPage}
+use Rattle.jfs_write_pages.specs.data_steps.specs.After.{AreWholePages, put_data, with_data, after_writes}
+use Rattle.jfs_write_pages.specs.data_steps.specs.Laws.{IsFilePut}
+use Rattle.jfs_write_pages.specs.data_steps.specs.File.{bytes_held, refilled}
+use Rattle.jfs_write_pages.specs.data_steps.proofs.Extents.{file_type}
+use Rattle.jfs_write_pages.specs.data_steps.proofs.Files.{file_bytes, file_before}
+use Rattle.jfs_write_pages.specs.data_steps.proofs.Held as held_file
 use Rattle.jfs_write.specs.Look.{most_bytes, why_kept, FitsBytes, spots_at, want_for}
 use Rattle.jfs_write.specs.Make.{Makes}
 use Rattle.jfs_write.specs.Call.{MayTake, StartsIn}

@@ -22,39 +22,39 @@ use Rattle.jfs_xtpage.specs.Page.{rises_from}
 use Rattle.jfs_xtree.specs.Node.{xt_scale, xt_node}
 use Rattle.jfs_xtree.specs.Spells.{page_nodes, root_node, root_form, spells_extents, owned_pages}
 use Rattle.jfs_xtree.specs.Writing.{is_recorded, AllLong, AllTo, Place, place_at}
-use Rattle.jfs_link.specs.objects.specs.Readers.{Readers}
-use Rattle.jfs_link.specs.objects.specs.Image.{extent_place}
-use Rattle.jfs_link.specs.objects.specs.Volume.{Volume}
-use Rattle.jfs_link.specs.objects.specs.Objects.{objects, spelled, is_live, listed}
-use Rattle.jfs_link.specs.objects.specs.Owners.{holds, covers, extents_have, bit}
-use Rattle.jfs_link.specs.objects.specs.Contents.{block_of}
-use Rattle.jfs_link.specs.objects.proofs.Homes.{home_counts}
-use Rattle.jfs_link.specs.objects.proofs.Owned.{owned_once}
-use Rattle.jfs_link.specs.objects.proofs.Sums.{zero_or_more}
+use Rattle.jfs_write_pages.specs.objects.specs.Readers.{Readers}
+use Rattle.jfs_write_pages.specs.objects.specs.Image.{extent_place}
+use Rattle.jfs_write_pages.specs.objects.specs.Volume.{Volume}
+use Rattle.jfs_write_pages.specs.objects.specs.Objects.{objects, spelled, is_live, listed}
+use Rattle.jfs_write_pages.specs.objects.specs.Owners.{holds, covers, extents_have, bit}
+use Rattle.jfs_write_pages.specs.objects.specs.Contents.{block_of}
+use Rattle.jfs_write_pages.specs.objects.proofs.Homes.{home_counts}
+use Rattle.jfs_write_pages.specs.objects.proofs.Owned.{owned_once}
+use Rattle.jfs_write_pages.specs.objects.proofs.Sums.{zero_or_more}
 use Rattle.jfs_link.specs.meaning.specs.Contents.{is_regular}
 use Rattle.jfs_link.specs.meaning.specs.Readers.{readers, root_of}
 use Rattle.jfs_link.specs.meaning.specs.Consistent.{IsConsistent}
 use Rattle.jfs_plain.specs.Step.{blocks_in}
 use Rattle.jfs_plain.specs.Moves.{byte_after}
-use Rattle.jfs_claim.specs.runs.proofs.Counted.{all_laws}
-use Rattle.jfs_way.specs.Volume.{volume_of}
-use Rattle.jfs_way.specs.Walk.{IsHeld, IsShown, IsThere, tree_in}
-use Rattle.jfs_way.specs.declared.object.Held.{Held}
-use Rattle.jfs_lead_steps.specs.Balance.{own_after}
-use Rattle.jfs_data_steps.specs.loss.proofs.Counts.{count_append}
-use Rattle.jfs_data_steps.specs.loss.proofs.Holds.{extents_listed}
-use Rattle.jfs_steps.specs.Laws.{TakesAndFrees, IsFair}
-use Rattle.jfs_data_steps.specs.declared.pages.DataPage.{DataPage}
-use Rattle.jfs_data_steps.specs.After.{is_put, AreWholePages, put_data, after_writes, LeavesPage}
-use Rattle.jfs_data_steps.specs.File.{bytes_held}
-use Rattle.jfs_data_steps.specs.Laws.{MayPut, SetsFile, IsFileSet}
-use Rattle.jfs_data_steps.proofs.Told.{leaves_none, leaves_onto, allocs_leave, changes_leave, lines_leave_others}
-use Rattle.jfs_data_steps.proofs.Extents.{had, had_once, data_was, file_sets, some_extents}
-use Rattle.jfs_data_steps.proofs.Files.{file_law}
-use Rattle.jfs_data_steps.proofs.Held as file
-use Rattle.jfs_put_range.specs.written.specs.Range.{with_range}
-use Rattle.jfs_put_range.specs.written.specs.RangeLaws.{or_else}
-use Rattle.jfs_put_range.specs.written.proofs.Blocks.{writes_range}
+use Rattle.jfs_file_blocks.specs.runs.proofs.Counted.{all_laws}
+use Rattle.jfs_read.specs.way.specs.Volume.{volume_of}
+use Rattle.jfs_read.specs.way.specs.Walk.{IsHeld, IsShown, IsThere, tree_in}
+use Rattle.jfs_read.specs.way.specs.declared.object.Held.{Held}
+use Rattle.jfs_link.specs.lead_steps.specs.Balance.{own_after}
+use Rattle.jfs_write_pages.specs.loss.proofs.Counts.{count_append}
+use Rattle.jfs_write_pages.specs.loss.proofs.Holds.{extents_listed}
+use Rattle.jfs_link.specs.steps.specs.Laws.{TakesAndFrees, IsFair}
+use Rattle.jfs_write_pages.specs.data_steps.specs.declared.pages.DataPage.{DataPage}
+use Rattle.jfs_write_pages.specs.data_steps.specs.After.{is_put, AreWholePages, put_data, after_writes, LeavesPage}
+use Rattle.jfs_write_pages.specs.data_steps.specs.File.{bytes_held}
+use Rattle.jfs_write_pages.specs.data_steps.specs.Laws.{MayPut, SetsFile, IsFileSet}
+use Rattle.jfs_write_pages.specs.data_steps.proofs.Told.{leaves_none, leaves_onto, allocs_leave, changes_leave, lines_leave_others}
+use Rattle.jfs_write_pages.specs.data_steps.proofs.Extents.{had, had_once, data_was, file_sets, some_extents}
+use Rattle.jfs_write_pages.specs.data_steps.proofs.Files.{file_law}
+use Rattle.jfs_write_pages.specs.data_steps.proofs.Held as file
+use Rattle.jfs_write_pages.specs.written.specs.Range.{with_range}
+use Rattle.jfs_write_pages.specs.written.specs.RangeLaws.{or_else}
+use Rattle.jfs_write_pages.specs.written.proofs.Blocks.{writes_range}
 use Rattle.jfs_write_pages.specs.declared.spot.Spot.{Spot}
 use Rattle.jfs_write_pages.specs.Spots.{spots_from, holes_in, placed, extents_for}
 use Rattle.jfs_write_pages.proofs.Blocks.{AreFrom, extents_rows, extents_at, placed_from, covers_more}

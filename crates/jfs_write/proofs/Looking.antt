@@ -6,14 +6,14 @@ use Rattle.jfs_bmap.specs.States.{Blocks, unowned_count}
 use Rattle.jfs_plain.specs.Tree.{walk, root, and_then}
 use Rattle.jfs_plain.specs.Step.{need_of_bytes}
 use Rattle.jfs_plain.specs.declared.refusal.Refusal.{Refusal}
-use Rattle.jfs_claim.specs.Look.{space_for}
+use Rattle.jfs_file_blocks.specs.claim.specs.Look.{space_for}
 use Rattle.jfs_link.specs.meaning.specs.Readers.{readers}
 use Rattle.jfs_link.specs.meaning.specs.Room.{room_on}
-use Rattle.jfs_way.specs.Volume.{volume_of}
-use Rattle.jfs_way.specs.Answer.{Answers, Follows}
-use Rattle.jfs_way.specs.Walk.{IsOf, IfConsistent, tree_in}
-use Rattle.jfs_way.specs.Way.{path_of}
-use Rattle.jfs_way.specs.declared.object.Held.{Held}
+use Rattle.jfs_read.specs.way.specs.Volume.{volume_of}
+use Rattle.jfs_read.specs.way.specs.Answer.{Answers, Follows}
+use Rattle.jfs_read.specs.way.specs.Walk.{IsOf, IfConsistent, tree_in}
+use Rattle.jfs_read.specs.way.specs.Way.{path_of}
+use Rattle.jfs_read.specs.way.specs.declared.object.Held.{Held}
 use Rattle.jfs_write.specs.Look.{why_kept, unless}
 use Rattle.jfs_write.specs.Call.{if_space, allowed_at, allowed_of, LooksAs, IsWritten, IsStopped, WritesAt, StoppedAt}
 use Rattle.jfs_write.specs.declared.answer.Stop.{Stop}

@@ -3,8 +3,8 @@ use Rattle.std.proofs.Common.{◌≡◌, ◌<◌, refl, sym, ap, ◌∙◌, ℕ,
 use Rattle.std.proofs.lemmas.Bool.{lt-ltb}
 use Rattle.std.proofs.lemmas.Bool.Decides.{nat_tests}
 use Rattle.jfs_xtree.proofs.Reading.{and_true}
-use Rattle.jfs_data_steps.specs.declared.pages.DataPage.{DataPage}
-use Rattle.jfs_data_steps.specs.After.{LieWithin}
+use Rattle.jfs_write_pages.specs.data_steps.specs.declared.pages.DataPage.{DataPage}
+use Rattle.jfs_write_pages.specs.data_steps.specs.After.{LieWithin}
 use Rattle.jfs_write_pages.specs.declared.spot.Spot.{Spot}
 use Rattle.jfs_write_pages.specs.Spots.{AllSpots}
 use Rattle.jfs_write_pages.specs.Pages.{told, pages_for, page_for}

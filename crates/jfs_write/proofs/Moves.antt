@@ -7,12 +7,12 @@ use Rattle.jfs_bits.specs.declared.rule.PageKind.TheVariants.{Xtree}
 use Rattle.jfs_ranges.specs.declared.edit.Edit.{Edit}
 use Rattle.jfs_ranges.specs.Apply.{apply_tx}
 use Rattle.jfs_tree.specs.Fresh.{run_from, blocks_of}
-use Rattle.jfs_data_steps.specs.loss.proofs.Counts.{count_append, count_run, applied_append}
-use Rattle.jfs_steps.specs.Laws.{TakesAndFrees}
-use Rattle.jfs_steps.proofs.Sets.{moves_onto, taken_move, lines_on_top}
+use Rattle.jfs_write_pages.specs.loss.proofs.Counts.{count_append, count_run, applied_append}
+use Rattle.jfs_link.specs.steps.specs.Laws.{TakesAndFrees}
+use Rattle.jfs_link.specs.steps.proofs.Sets.{moves_onto, taken_move, lines_on_top}
 use Rattle.jfs_link.specs.meaning.specs.Readers.{root_of}
-use Rattle.jfs_way.specs.declared.object.Held.{Held}
-use Rattle.jfs_data_steps.specs.After.{LeavesPage}
+use Rattle.jfs_read.specs.way.specs.declared.object.Held.{Held}
+use Rattle.jfs_write_pages.specs.data_steps.specs.After.{LeavesPage}
 use Rattle.jfs_write_pages.specs.Spots.{extents_for}
 use Rattle.jfs_write_pages.specs.declared.spot.Spot.{Spot}
 use Rattle.jfs_write.specs.Tree.{run_allocs, WritesExtents, PutsExtents}

@@ -7,12 +7,12 @@ use Rattle.jfs_bmap.specs.States.{Blocks, free_count}
 use Rattle.jfs_tree.specs.Fresh.{blocks_of}
 use Rattle.jfs_plain.specs.declared.refusal.Refusal.{Refusal}
 use Rattle.jfs_link.specs.meaning.specs.Readers.{root_of}
-use Rattle.jfs_claim.specs.Take.{AreFresh, reserving}
+use Rattle.jfs_file_blocks.specs.claim.specs.Take.{AreFresh, reserving}
 use Rattle.jfs_file_blocks.specs.Reserving.{TakesBlocks, IsPartlyTaken, total}
 use Rattle.jfs_file_blocks.specs.declared.reserve.FileWant.{FileWant}
 use Rattle.jfs_file_blocks.specs.declared.reserve.FileBlocks.{FileBlocks}
-use Rattle.jfs_way.specs.Answer.{is_open}
-use Rattle.jfs_way.specs.declared.object.Held.{Held}
+use Rattle.jfs_read.specs.way.specs.Answer.{is_open}
+use Rattle.jfs_read.specs.way.specs.declared.object.Held.{Held}
 use Rattle.jfs_write_pages.specs.Spots.{holes_in, placed, extents_for}
 use Rattle.jfs_write_pages.specs.declared.spot.Spot.{Spot}
 use Rattle.jfs_write.specs.Look.{needs_extents, want_for}

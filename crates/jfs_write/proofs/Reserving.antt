@@ -9,11 +9,11 @@ use Rattle.jfs_bmap.proofs.LowestBlocks.{each-total}
 use Rattle.jfs_tree.specs.Edit.{count_in}
 use Rattle.jfs_tree.specs.Form.{AllBelow}
 use Rattle.jfs_tree.specs.Fresh.{blocks_of, run_from}
-use Rattle.jfs_link.specs.room.specs.Laws.{blocks_in}
-use Rattle.jfs_claim.specs.runs.specs.Laws.{one_if}
-use Rattle.jfs_claim.specs.runs.proofs.Counted.{counted, count_append, apart_once, all_laws}
-use Rattle.jfs_claim.specs.Take.{AreFresh, reserving}
-use Rattle.jfs_claim.proofs.Looks.{settled_is_enough}
+use Rattle.jfs_file_blocks.specs.room.specs.Laws.{blocks_in}
+use Rattle.jfs_file_blocks.specs.runs.specs.Laws.{one_if}
+use Rattle.jfs_file_blocks.specs.runs.proofs.Counted.{counted, count_append, apart_once, all_laws}
+use Rattle.jfs_file_blocks.specs.claim.specs.Take.{AreFresh, reserving}
+use Rattle.jfs_file_blocks.specs.claim.proofs.Looks.{settled_is_enough}
 use Rattle.jfs_file_blocks.specs.Reserving.{TakesBlocks, IsPartlyTaken, total}
 use Rattle.jfs_file_blocks.specs.declared.reserve.FileWant.{FileWant}
 use Rattle.jfs_file_blocks.specs.declared.reserve.FileBlocks.{FileBlocks}

@@ -18,7 +18,7 @@ use Rattle.jfs_xtree.specs.Node.{xt_scale, xt_node, is_within, all_within}
 use Rattle.jfs_xtree.specs.Spells.{page_nodes, root_node, root_form, spells_extents}
 use Rattle.jfs_xtree.specs.Writing.{AllLong, AllTo}
 use Rattle.jfs_xtree.proofs.Reading.{and_true, leaf_is}
-use Rattle.jfs_link.specs.objects.specs.Owners.{covers}
+use Rattle.jfs_write_pages.specs.objects.specs.Owners.{covers}
 
 -- ---- within the volume
 

@@ -27,20 +27,20 @@ use Rattle.jfs_link.specs.meaning.specs.Consistent.{IsConsistent}
 use Rattle.jfs_link.specs.meaning.specs.Readers.{readers, root_of}
 use Rattle.jfs_link.specs.meaning.specs.Room.{room_on}
 use Rattle.jfs_link.specs.meaning.specs.Tree.{tree_on}
-use Rattle.jfs_link.specs.room.specs.Laws.{blocks_in, NoneReserved}
-use Rattle.jfs_claim.specs.Look.{space_for}
-use Rattle.jfs_claim.specs.Take.{AreFresh}
+use Rattle.jfs_file_blocks.specs.room.specs.Laws.{blocks_in, NoneReserved}
+use Rattle.jfs_file_blocks.specs.claim.specs.Look.{space_for}
+use Rattle.jfs_file_blocks.specs.claim.specs.Take.{AreFresh}
 use Rattle.jfs_file_blocks.specs.Reserving.{total}
 use Rattle.jfs_file_blocks.specs.declared.reserve.FileWant.{FileWant}
-use Rattle.jfs_way.specs.Answer.{is_open, CarriesCause, Follows}
-use Rattle.jfs_way.specs.Volume.{volume_of, PlacesWithin}
-use Rattle.jfs_way.specs.Walk.{IfConsistent, IsOf, tree_in}
-use Rattle.jfs_way.specs.Way.{path_of}
-use Rattle.jfs_way.specs.declared.object.Held.{Held}
-use Rattle.jfs_steps.specs.Call.{IsDone}
-use Rattle.jfs_steps.specs.Laws.{IsFair, TakesAndFrees}
+use Rattle.jfs_read.specs.way.specs.Answer.{is_open, CarriesCause, Follows}
+use Rattle.jfs_read.specs.way.specs.Volume.{volume_of, PlacesWithin}
+use Rattle.jfs_read.specs.way.specs.Walk.{IfConsistent, IsOf, tree_in}
+use Rattle.jfs_read.specs.way.specs.Way.{path_of}
+use Rattle.jfs_read.specs.way.specs.declared.object.Held.{Held}
+use Rattle.jfs_link.specs.steps.specs.Call.{IsDone}
+use Rattle.jfs_link.specs.steps.specs.Laws.{IsFair, TakesAndFrees}
 use Rattle.jfs_link.specs.Link.{ReservesFree}
-use Rattle.jfs_data_steps.specs.After.{with_data, after_writes}
+use Rattle.jfs_write_pages.specs.data_steps.specs.After.{with_data, after_writes}
 use Rattle.jfs_write_pages.specs.Spots.{placed, extents_for}
 use Rattle.jfs_write_pages.specs.declared.spot.Spot.{Spot}
 use Rattle.jfs_write.specs.Look.{why_kept, unless, spelled_at, want_for, spots_at}

@@ -4,14 +4,14 @@ use Rattle.jfs_bits.specs.declared.extent.Xad.{Xad}
 use Rattle.jfs_bits.specs.declared.rule.Rule.{Rule}
 use Rattle.jfs_inode.specs.declared.fields.Dinode.{Dinode}
 use Rattle.jfs_xtree.specs.Spells.{spells_extents}
-use Rattle.jfs_link.specs.objects.specs.Objects.{has_names}
+use Rattle.jfs_write_pages.specs.objects.specs.Objects.{has_names}
 use Rattle.jfs_link.specs.meaning.specs.Contents.{is_regular}
 use Rattle.jfs_link.specs.meaning.specs.Readers.{root_of}
 use Rattle.jfs_plain.specs.Step.{blocks_in}
 use Rattle.jfs_plain.specs.declared.refusal.Refusal.{Refusal}
 use Rattle.jfs_plain.specs.declared.refusal.Refusal.TheVariants.{IsDir, NotFile, FileTooBig, Damaged}
-use Rattle.jfs_way.specs.Answer.{at_root}
-use Rattle.jfs_way.specs.declared.object.Held.{Held}
+use Rattle.jfs_read.specs.way.specs.Answer.{at_root}
+use Rattle.jfs_read.specs.way.specs.declared.object.Held.{Held}
 use Rattle.jfs_file_blocks.specs.declared.reserve.FileWant.{FileWant}
 use Rattle.jfs_write_pages.specs.declared.spot.Spot.{Spot}
 use Rattle.jfs_write_pages.specs.Spots.{spots_from, holes_in, hint_behind}

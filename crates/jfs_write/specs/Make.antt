@@ -6,10 +6,10 @@ use Rattle.jfs_bits.specs.declared.extent.Xad.{Xad}
 use Rattle.jfs_ranges.specs.declared.edit.Edit.{Edit}
 use Rattle.jfs_tree.specs.Fresh.{blocks_of}
 use Rattle.jfs_link.specs.meaning.specs.Readers.{root_of}
-use Rattle.jfs_way.specs.declared.object.Held.{Held}
-use Rattle.jfs_lead_steps.specs.Balance.{own_after}
-use Rattle.jfs_steps.specs.Put.{AddsInode, TellsLines}
-use Rattle.jfs_data_steps.specs.File.{resized}
+use Rattle.jfs_read.specs.way.specs.declared.object.Held.{Held}
+use Rattle.jfs_link.specs.lead_steps.specs.Balance.{own_after}
+use Rattle.jfs_link.specs.steps.specs.Put.{AddsInode, TellsLines}
+use Rattle.jfs_write_pages.specs.data_steps.specs.File.{resized}
 use Rattle.jfs_write_pages.specs.Spots.{spots_between, placed, extents_for}
 use Rattle.jfs_write_pages.specs.Pages.{told, pages_for}
 use Rattle.jfs_write_pages.specs.declared.spot.Spot.{Spot}

@@ -12,7 +12,7 @@ use Rattle.jfs_xtree.specs.declared.error.XtError.{XtError}
 use Rattle.jfs_put_range.specs.Call.{WritesRange, KeepsLeast, NamesPages, RefusesOnlyDeep}
 use Rattle.jfs_put_range.specs.Way.{RangeTellsWay, broken_on_range}
 use Rattle.jfs_plain.specs.declared.refusal.Refusal.{Refusal}
-use Rattle.jfs_way.specs.Answer.{is_open}
+use Rattle.jfs_read.specs.way.specs.Answer.{is_open}
 use Rattle.jfs_read.specs.Read.{extents_refusal}
 
 -- the edits that take these runs of blocks

@@ -3,17 +3,17 @@
 ghost use Rattle.std.specs.Prelude.{◌≡◌, ◌≤◌, ◌<◌, ◌+◌, ◌++◌, ◌/◌, ◌^◌, true, OnOk, IfOk, IfErr};
 ghost use Rattle.jfs_disk.specs.Image.{page_of};
 ghost use Rattle.jfs_xtree.specs.Node.{all_within};
-ghost use Rattle.jfs_way.specs.Answer.{Carries, is_open};
-ghost use Rattle.jfs_data_steps.specs.After.{AreWholePages, LieWithin};
+ghost use Rattle.jfs_read.specs.way.specs.Answer.{Carries, is_open};
+ghost use Rattle.jfs_write_pages.specs.data_steps.specs.After.{AreWholePages, LieWithin};
 ghost use Rattle.jfs_write_pages.specs.Spots.{spots_between, AllSpots};
 ghost use Rattle.jfs_write_pages.specs.Pages.{told, pages_for};
 ghost use Rattle.jfs_write.specs.Data.{lie_within};
 
 use jfs_bits::{Rule, Xad};
-use jfs_data_steps::DataList;
 use jfs_plain::Refusal;
 use jfs_ranges::PageView;
-use jfs_way::Held;
+use jfs_read::way::Held;
+use jfs_write_pages::data_steps::DataList;
 use jfs_write_pages::{Change, Spot, push_between, push_pages};
 use std::alloc::{AllocError, Global};
 

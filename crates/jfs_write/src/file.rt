@@ -4,10 +4,10 @@ ghost use Rattle.std.specs.Prelude.{◌≡◌, ◌≤◌, ◌<◌, ◌+◌, ℕ,
 ghost use Rattle.jfs_disk.specs.Image.{page_of};
 ghost use Rattle.jfs_link.specs.meaning.specs.Contents.{is_regular};
 ghost use Rattle.jfs_plain.specs.Step.{write};
-ghost use Rattle.jfs_link.specs.room.specs.Laws.{blocks_in};
-ghost use Rattle.jfs_way.specs.Answer.{Carries, Answers};
-ghost use Rattle.jfs_way.specs.Walk.{IsHeld, IsShown};
-ghost use Rattle.jfs_data_steps.specs.After.{AreWholePages, LieWithin};
+ghost use Rattle.jfs_file_blocks.specs.room.specs.Laws.{blocks_in};
+ghost use Rattle.jfs_read.specs.way.specs.Answer.{Carries, Answers};
+ghost use Rattle.jfs_read.specs.way.specs.Walk.{IsHeld, IsShown};
+ghost use Rattle.jfs_write_pages.specs.data_steps.specs.After.{AreWholePages, LieWithin};
 ghost use Rattle.jfs_write.specs.Look.{FitsBytes, IsAllowed};
 ghost use Rattle.jfs_write.specs.Call.{CarriesStop, MapAfter, IsWritten, IsStopped, StepsInRoom, StartsWrite, StartsFill, LooksAs, allowed_of};
 
@@ -17,14 +17,14 @@ use crate::make::Written;
 use crate::reserve::write_at;
 use jfs_bits::Moment;
 use jfs_bmap::BlockMap;
-use jfs_claim::look_for_space;
+use jfs_file_blocks::claim::look_for_space;
 use jfs_imap::InodeMap;
 use jfs_inode::Dinode;
 use jfs_name::Name;
 use jfs_plain::Refusal;
 use jfs_ranges::PageView;
-use jfs_reader::has_names;
-use jfs_way::{Held, walk};
+use jfs_read::reader::has_names;
+use jfs_read::way::{Held, walk};
 use jfs_write_pages::Change;
 use std::alloc::{AllocError, Global};
 

@@ -4,7 +4,7 @@ ghost use Rattle.std.specs.Prelude.{◌≡◌, ◌≤◌, ◌<◌, ◌+◌, true
 ghost use Rattle.jfs_disk.specs.Image.{page_of};
 ghost use Rattle.jfs_xtree.specs.Node.{all_within};
 ghost use Rattle.jfs_plain.specs.Step.{blocks_in};
-ghost use Rattle.jfs_way.specs.Answer.{Carries, Answers};
+ghost use Rattle.jfs_read.specs.way.specs.Answer.{Carries, Answers};
 ghost use Rattle.jfs_write.specs.Look.{spelled_at, needs_extents, want_for};
 
 use crate::answer::from_extents;
@@ -12,8 +12,8 @@ use jfs_bits::{Rule, Xad, XadList};
 use jfs_file_blocks::FileWant;
 use jfs_plain::Refusal;
 use jfs_ranges::PageView;
-use jfs_reader::root_in;
-use jfs_way::Held;
+use jfs_read::reader::root_in;
+use jfs_read::way::Held;
 use jfs_write_pages::{Spot, are_within, hint_behind, holes_in};
 use jfs_xtree::extents;
 use std::alloc::Global;

@@ -3,9 +3,9 @@
 ghost use Rattle.std.specs.Prelude.{◌≡◌, ◌<◌, true, length, IfOk, IfErr};
 ghost use Rattle.jfs_disk.specs.Image.{page_of};
 ghost use Rattle.jfs_inode.specs.Inode.{FitsDinode};
-ghost use Rattle.jfs_link.specs.room.specs.Laws.{blocks_in};
+ghost use Rattle.jfs_file_blocks.specs.room.specs.Laws.{blocks_in};
 ghost use Rattle.jfs_xtree.specs.Node.{all_within};
-ghost use Rattle.jfs_data_steps.specs.After.{AreWholePages, LieWithin};
+ghost use Rattle.jfs_write_pages.specs.data_steps.specs.After.{AreWholePages, LieWithin};
 ghost use Rattle.jfs_write.specs.Look.{FitsBytes, spots_at};
 ghost use Rattle.jfs_write.specs.Call.{CarriesStop, MapAfter, MakesReserved, NotMade, WritesAt, StoppedAt};
 
@@ -14,11 +14,11 @@ use crate::look::{blocks_in, extents_of, want_for};
 use crate::make::{Written, make};
 use jfs_bits::{Moment, Xad};
 use jfs_bmap::BlockMap;
-use jfs_claim::ClaimError;
+use jfs_file_blocks::claim::ClaimError;
 use jfs_file_blocks::reserve_blocks;
 use jfs_plain::Refusal;
 use jfs_ranges::PageView;
-use jfs_way::Held;
+use jfs_read::way::Held;
 use jfs_write_pages::{Change, Spot, spots_from};
 use std::alloc::Global;
 

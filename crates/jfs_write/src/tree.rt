@@ -4,8 +4,8 @@ ghost use Rattle.std.specs.Prelude.{◌≡◌, ◌≤◌, ◌<◌, ◌++◌, len
 ghost use Rattle.jfs_disk.specs.Image.{page_of};
 ghost use Rattle.jfs_tree.specs.Form.{AllBelow};
 ghost use Rattle.jfs_tree.specs.Fresh.{blocks_of};
-ghost use Rattle.jfs_way.specs.Answer.{Carries};
-ghost use Rattle.jfs_steps.specs.Gains.{TakesFront};
+ghost use Rattle.jfs_read.specs.way.specs.Answer.{Carries};
+ghost use Rattle.jfs_link.specs.steps.specs.Gains.{TakesFront};
 ghost use Rattle.jfs_put_range.specs.Call.{IsShortRange};
 ghost use Rattle.jfs_write_pages.specs.Spots.{extents_for, SpotsFit};
 ghost use Rattle.jfs_write.specs.Tree.{PutsExtents, RefusesExtents, run_allocs};

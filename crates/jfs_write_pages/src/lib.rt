@@ -16,3 +16,9 @@ pub use page::{Change, push_page};
 pub use pages::push_pages;
 pub use spot::{Spot, push_between, spots_from};
 pub use within::{are_within, hint_behind};
+
+pub mod data_steps {
+    //! Passed on from `jfs_data_steps`.
+
+    pub use jfs_data_steps::DataList;
+}

@@ -1,6 +1,6 @@
 use Rattle.std.proofs.Common.{ap}
 use Rattle.jfs_ranges.specs.View.{Device}
-use Rattle.jfs_reader.proofs.Loan.{same_loan, same_disk}
+use Rattle.jfs_findings.specs.reader.proofs.Loan.{same_loan, same_disk}
 use Rattle.jfs_check.proofs.checking.check_loan.Goals as goal
 
 pub returns-clause-loan : goal.returns-clause-loan

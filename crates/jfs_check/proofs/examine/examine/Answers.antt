@@ -1,7 +1,7 @@
 use Rattle.std.proofs.Common.{◌∙◌, sym, subst, Ok}
 use Rattle.jfs_disk.specs.Image.{Image, page_of}
-use Rattle.jfs_mount.specs.Subject.{subject_of}
-use Rattle.jfs_mount.specs.Steps.{Mounts}
+use Rattle.jfs_findings.specs.mount_rules.specs.Subject.{subject_of}
+use Rattle.jfs_findings.specs.mount_rules.specs.Steps.{Mounts}
 use Rattle.jfs_check.specs.Looked.{IsOfAny, Looked}
 use Rattle.jfs_check.proofs.Concluded.{concluded}
 use Rattle.jfs_check.proofs.examine.examine.Goals as goal

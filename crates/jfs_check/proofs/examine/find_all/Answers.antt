@@ -1,8 +1,8 @@
 use Rattle.std.proofs.Common.{◌∙◌, ap, sym, subst, refl, ℕ}
 use Rattle.jfs_disk.specs.Image.{page_of}
-use Rattle.jfs_object_check.specs.objects.specs.Image.{extents_on}
-use Rattle.jfs_object_check.specs.meaning.specs.Readers.{readers}
-use Rattle.jfs_mount.specs.Subject.{subject_of}
+use Rattle.jfs_link_check.specs.objects.specs.Image.{extents_on}
+use Rattle.jfs_findings.specs.meaning.specs.Readers.{readers}
+use Rattle.jfs_findings.specs.mount_rules.specs.Subject.{subject_of}
 use Rattle.jfs_link_check.specs.Notes.{AreNoted}
 use Rattle.jfs_check.specs.Looked.{AreInUse}
 use Rattle.jfs_check.proofs.AllParts.{all_found}

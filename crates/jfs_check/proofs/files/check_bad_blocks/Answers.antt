@@ -1,9 +1,9 @@
 use Rattle.std.proofs.Common.{subst, Bool}
 use Rattle.jfs_disk.specs.Image.{page_of}
-use Rattle.jfs_object_check.specs.xtree.specs.Node.{xt_scale}
-use Rattle.jfs_object_check.specs.objects.specs.Objects.{listed}
-use Rattle.jfs_object_check.specs.Steps.{IsSound}
-use Rattle.jfs_owners.specs.Held.{extents_walk}
+use Rattle.jfs_link_check.specs.xtree.specs.Node.{xt_scale}
+use Rattle.jfs_link_check.specs.objects.specs.Objects.{listed}
+use Rattle.jfs_link_check.specs.object_check.specs.Steps.{IsSound}
+use Rattle.jfs_link_check.specs.owners.specs.Held.{extents_walk}
 use Rattle.jfs_check.proofs.Filed.{sound_held}
 use Rattle.jfs_check.proofs.Seen.{none_held}
 use Rattle.jfs_check.proofs.files.check_bad_blocks.Goals as goal

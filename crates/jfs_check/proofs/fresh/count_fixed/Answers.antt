@@ -1,10 +1,10 @@
 use Rattle.std.proofs.Common.{subst, List, Option, ℕ}
 use Rattle.jfs_disk.specs.Image.{page_of}
 use Rattle.jfs_super.specs.Rules.{blocks_of}
-use Rattle.jfs_object_check.specs.objects.specs.Owners.{extents_have}
-use Rattle.jfs_object_check.specs.meaning.specs.Readers.{readers}
-use Rattle.jfs_owners.specs.Counts.{Adds}
-use Rattle.jfs_owners.proofs.Joined.{counts_fixed}
+use Rattle.jfs_link_check.specs.objects.specs.Owners.{extents_have}
+use Rattle.jfs_findings.specs.meaning.specs.Readers.{readers}
+use Rattle.jfs_link_check.specs.owners.specs.Counts.{Adds}
+use Rattle.jfs_link_check.specs.owners.proofs.Joined.{counts_fixed}
 use Rattle.jfs_check.proofs.fresh.count_fixed.Goals as goal
 
 pub returns-clause-counts : goal.returns-clause-counts

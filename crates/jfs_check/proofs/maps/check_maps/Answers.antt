@@ -1,6 +1,6 @@
 use Rattle.std.proofs.Common.{◌∙◌, sym}
 use Rattle.jfs_disk.specs.Image.{page_of}
-use Rattle.jfs_mount.specs.Subject.{subject_of}
+use Rattle.jfs_findings.specs.mount_rules.specs.Subject.{subject_of}
 use Rattle.jfs_check.proofs.Mapped.{maps_found}
 use Rattle.jfs_check.proofs.maps.check_maps.Goals as goal
 

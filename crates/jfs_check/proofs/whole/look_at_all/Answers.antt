@@ -1,14 +1,14 @@
 use Rattle.std.proofs.Common.{◌≡◌, ◌∙◌, ap, sym, subst, List, Option, ℕ, length, None}
 use Rattle.jfs_disk.specs.Image.{Image, page_of}
 use Rattle.jfs_super.specs.Rules.{blocks_of}
-use Rattle.jfs_object_check.specs.meaning.specs.Readers.{readers}
-use Rattle.jfs_mount.specs.Mount.{broken_mount}
-use Rattle.jfs_mount.specs.Subject.{subject_of, volume}
+use Rattle.jfs_findings.specs.meaning.specs.Readers.{readers}
+use Rattle.jfs_findings.specs.mount_rules.specs.Mount.{broken_mount}
+use Rattle.jfs_findings.specs.mount_rules.specs.Subject.{subject_of, volume}
 use Rattle.jfs_findings.specs.Gains.{Gains}
 use Rattle.jfs_findings.specs.declared.finding.Finding.{Finding}
-use Rattle.jfs_object_check.specs.Laws.{IsOfFile}
-use Rattle.jfs_owners.specs.Counts.{Counts}
-use Rattle.jfs_owners.specs.Held.{owned_below}
+use Rattle.jfs_link_check.specs.object_check.specs.Laws.{IsOfFile}
+use Rattle.jfs_link_check.specs.owners.specs.Counts.{Counts}
+use Rattle.jfs_link_check.specs.owners.specs.Held.{owned_below}
 use Rattle.jfs_link_check.specs.Notes.{AreNoted}
 use Rattle.jfs_check.proofs.Wholly.{looked_all, noted_all}
 use Rattle.jfs_check.proofs.whole.look_at_all.Goals as goal

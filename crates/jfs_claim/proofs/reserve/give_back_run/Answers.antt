@@ -1,7 +1,7 @@
 use Rattle.std.proofs.Common.{sym, ◌∙◌}
-use Rattle.jfs_bmap.specs.States.{Free}
-use Rattle.jfs_bmap.proofs.States.{in_list-one}
-use Rattle.jfs_bmap.proofs.Puts.{put-none}
+use Rattle.jfs_room.specs.bmap.specs.States.{Free}
+use Rattle.jfs_room.specs.bmap.proofs.States.{in_list-one}
+use Rattle.jfs_room.specs.bmap.proofs.Puts.{put-none}
 use Rattle.jfs_claim.proofs.reserve.give_back_run.Goals as goal
 
 pub give_back_run-requires : goal.give_back_run-requires

@@ -1,5 +1,5 @@
-use Rattle.jfs_bmap.specs.States.{is_used}
-use Rattle.jfs_bmap.proofs.LowestBlocks.{each-total}
+use Rattle.jfs_room.specs.bmap.specs.States.{is_used}
+use Rattle.jfs_room.specs.bmap.proofs.LowestBlocks.{each-total}
 use Rattle.jfs_claim.proofs.Takes.{claims, fresh, enough, refused, run_reserved, run_back}
 use Rattle.jfs_claim.proofs.reserve.take.Goals as goal
 

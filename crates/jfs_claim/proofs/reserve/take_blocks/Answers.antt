@@ -1,6 +1,6 @@
 use Rattle.std.proofs.Common.{ap, ◌∙◌}
-use Rattle.jfs_bmap.specs.States.{Free, Blocks, put_state}
-use Rattle.jfs_bmap.proofs.Puts.{put-back}
+use Rattle.jfs_room.specs.bmap.specs.States.{Free, Blocks, put_state}
+use Rattle.jfs_room.specs.bmap.proofs.Puts.{put-back}
 use Rattle.jfs_claim.proofs.reserve.take_blocks.Goals as goal
 
 pub returns-in-Err-clause-unchanged : goal.returns-in-Err-clause-unchanged

@@ -1,7 +1,7 @@
 use Rattle.std.proofs.Common.{◌≡◌, refl, ◌<◌, ◌-◌, ◌∙◌, ℕ, List, [], length, get_or, IfOk, IfErr, arith}
 use Rattle.std.proofs.lemmas.List.{get_or_read_under}
 use Rattle.jfs_disk.specs.Image.{page_of}
-use Rattle.jfs_steps.specs.Place.{last_of}
+use Rattle.jfs_link.specs.steps.specs.Place.{last_of}
 use Rattle.jfs_create.specs.Reserved.{MakesReserved, NotMade, IsMade, IsStopped, draft_of}
 use Rattle.jfs_create.proofs.Steps.{links_fit, moved, if_err, if_ok, stopped_site, stopped_rest, is_made, no_site, steps}
 use Rattle.jfs_create.proofs.calls.make_object.Goals as goal

@@ -2,7 +2,7 @@ use Rattle.std.proofs.Common.{◌≡◌, refl, ◌<◌, ◌-◌, ◌∙◌, sym,
 use Rattle.std.proofs.lemmas.List.{get_or_read_under}
 use Rattle.jfs_disk.specs.Image.{page_of}
 use Rattle.jfs_link.specs.meaning.specs.Readers.{root_of}
-use Rattle.jfs_steps.specs.Place.{last_of}
+use Rattle.jfs_link.specs.steps.specs.Place.{last_of}
 use Rattle.jfs_create.proofs.Seeing.{deep_back, way_deep, barred_deep, full, short, none, deep, free}
 use Rattle.jfs_create.proofs.looks.look.Goals as goal
 

@@ -3,7 +3,7 @@ use Rattle.jfs_disk.specs.Image.{page_of}
 use Rattle.jfs_plain.specs.Step.{write}
 use Rattle.jfs_plain.specs.declared.call.Call.TheVariants as calls
 use Rattle.jfs_files.proofs.Paths.{short_names}
-use Rattle.jfs_files.proofs.BytesPut.{fault_told, data_fits, map_kept, map_then, frees_nothing, bytes_met, data_starts, bytes_follow}
+use Rattle.jfs_files.proofs.BytesPut.{fault_told, data_fits, map_kept, map_then, frees_nothing, bytes_met, data_starts, bytes_follow, bytes_change}
 use Rattle.jfs_files.proofs.bytes.fill_outcome.Goals as goal
 
 pub fill-came-requires-clause-names : goal.fill-came-requires-clause-names
@@ -35,3 +35,6 @@ returns-clause-starts g c tells between area con log_pages limit =
 pub returns-clause-meets : goal.returns-clause-meets
 returns-clause-meets g c tells =
     rw c.outcome_of.ensures (rw c.as_slice-names.ensures at (bytes_met (g.V.PageView.block_count c.args.view.now) (page_of (g.V.PageView.image c.args.view.now)) c.args.maps.now c.as_slice-names.result.now c.args.offset c.args.count (replicate c.args.count c.args.byte) c.args.now c.fill-came.new.blocks c.fill-came.result (c.fill-came.ensures.written tells) (c.fill-came.ensures.stopped tells)))
+
+pub returns-clause-changes : goal.returns-clause-changes
+returns-clause-changes g c = rw c.outcome_of.ensures (bytes_change c.fill-came.result)

@@ -3,7 +3,7 @@ use Rattle.jfs_disk.specs.Image.{page_of}
 use Rattle.jfs_plain.specs.Step.{write}
 use Rattle.jfs_plain.specs.declared.call.Call.TheVariants as calls
 use Rattle.jfs_files.proofs.Paths.{short_names}
-use Rattle.jfs_files.proofs.BytesPut.{fault_told, data_fits, map_kept, map_then, frees_nothing, bytes_met, data_starts, bytes_follow}
+use Rattle.jfs_files.proofs.BytesPut.{fault_told, data_fits, map_kept, map_then, frees_nothing, bytes_met, data_starts, bytes_follow, bytes_change}
 use Rattle.jfs_files.proofs.bytes.write_outcome.Goals as goal
 
 pub write-came-requires-clause-names : goal.write-came-requires-clause-names
@@ -41,3 +41,6 @@ write-came-requires-clause-some g c = rw c.as_slice-content.ensures c.requires.b
 
 pub write-came-requires-clause-few : goal.write-came-requires-clause-few
 write-came-requires-clause-few g c = rw c.as_slice-content.ensures (let l = c.requires.bytes.1 in omega (arith, l))
+
+pub returns-clause-changes : goal.returns-clause-changes
+returns-clause-changes g c = rw c.outcome_of.ensures (bytes_change c.write-came.result)

@@ -1,7 +1,7 @@
 use Rattle.jfs_disk.specs.Image.{page_of}
 use Rattle.jfs_files.specs.declared.outcome.FileOutcome.TheVariants.{Same}
-use Rattle.jfs_write.specs.meaning.specs.Readers.{readers}
-use Rattle.jfs_write.specs.meaning.specs.Room.{room_on}
+use Rattle.jfs_look.specs.meaning.specs.Readers.{readers}
+use Rattle.jfs_look.specs.meaning.specs.Room.{room_on}
 use Rattle.jfs_files.specs.Outcome.{volume_in}
 use Rattle.jfs_files.proofs.BytesPut.{or_not}
 use Rattle.jfs_files.specs.Outcome.{Wants}

@@ -1,8 +1,8 @@
 use Rattle.std.proofs.Common.{sym, [], ◌-◌, nat_le, refl}
 use Rattle.jfs_disk.specs.Image.{page_of}
-use Rattle.jfs_write.specs.meaning.specs.Readers.{readers}
-use Rattle.jfs_write.specs.meaning.specs.Room.{room_on}
-use Rattle.jfs_write.specs.steps.specs.Place.{last_of}
+use Rattle.jfs_look.specs.meaning.specs.Readers.{readers}
+use Rattle.jfs_look.specs.meaning.specs.Room.{room_on}
+use Rattle.jfs_chmod.specs.steps.specs.Place.{last_of}
 use Rattle.jfs_files.specs.Outcome.{volume_in}
 use Rattle.jfs_files.proofs.Paths.{short_names}
 use Rattle.jfs_files.proofs.Replies.{leaves_maps, lines_take_nothing}

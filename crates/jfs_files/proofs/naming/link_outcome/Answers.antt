@@ -1,9 +1,9 @@
 use Rattle.std.proofs.Common.{refl, subst, ℕ, List, Ok, Err}
 use Rattle.jfs_disk.specs.Image.{page_of}
 use Rattle.jfs_plain.specs.Step.{link}
-use Rattle.jfs_write.specs.steps.specs.Place.{last_of}
-use Rattle.jfs_link.specs.Link.{StepsBy, MapAfter, LinksAs, want_of_name}
-use Rattle.jfs_link.specs.declared.linking.Linked.{Linked}
+use Rattle.jfs_chmod.specs.steps.specs.Place.{last_of}
+use Rattle.jfs_create.specs.link.specs.Link.{StepsBy, MapAfter, LinksAs, want_of_name}
+use Rattle.jfs_create.specs.link.specs.declared.linking.Linked.{Linked}
 use Rattle.jfs_files.proofs.Paths.{short_names}
 use Rattle.jfs_files.proofs.Links.{maps_after, busy_between}
 use Rattle.jfs_files.proofs.Data.{joins_free_none}

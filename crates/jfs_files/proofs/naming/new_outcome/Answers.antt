@@ -1,6 +1,6 @@
 use Rattle.std.proofs.Common.{refl, subst, Err}
 use Rattle.jfs_disk.specs.Image.{page_of}
-use Rattle.jfs_write.specs.steps.specs.Place.{last_of}
+use Rattle.jfs_chmod.specs.steps.specs.Place.{last_of}
 use Rattle.jfs_create.specs.Makes.{plain_of}
 use Rattle.jfs_create.specs.Reserved.{IsStopped, StepsInRoom}
 use Rattle.jfs_create.specs.declared.reserve.Stop.{Stop}

@@ -1,6 +1,6 @@
 use Rattle.jfs_disk.specs.Image.{page_of}
 use Rattle.jfs_plain.specs.Step.{stat, listed, readlink, read}
-use Rattle.jfs_write.specs.way.specs.Walk.{tree_in}
+use Rattle.jfs_look.specs.way.specs.Walk.{tree_in}
 use Rattle.jfs_files.proofs.Paths.{short_names}
 use Rattle.jfs_files.proofs.Replies.{attr_told, names_told, target_told, bytes_told}
 use Rattle.jfs_files.proofs.reply.look_reply.Goals as goal

@@ -1,7 +1,7 @@
 use Rattle.std.proofs.Common.{sym, min}
 use Rattle.jfs_disk.specs.Image.{page_of}
-use Rattle.jfs_write.specs.meaning.specs.Readers.{readers}
-use Rattle.jfs_write.specs.meaning.specs.Room.{room_on}
+use Rattle.jfs_look.specs.meaning.specs.Readers.{readers}
+use Rattle.jfs_look.specs.meaning.specs.Room.{room_on}
 use Rattle.jfs_truncate.specs.Tail.{tail_block}
 use Rattle.jfs_files.specs.Outcome.{volume_in}
 use Rattle.jfs_files.proofs.Paths.{short_names}

@@ -1,9 +1,9 @@
 use Rattle.std.proofs.Common.{ap, IfOk, IfErr}
 use Rattle.jfs_ranges.proofs.OnTop.{on_top}
-use Rattle.jfs_dtree.specs.Spells.{broken_for, TellsWay}
+use Rattle.jfs_meaning.specs.dtree.specs.Spells.{broken_for, TellsWay}
 use Rattle.jfs_bits.specs.declared.rule.PageKind.TheVariants.{Dtree}
 use Rattle.jfs_tree.specs.Changes.{TellsGone}
-use Rattle.jfs_dtree.specs.Removing.{RemovesName, MissesName}
+use Rattle.jfs_meaning.specs.dtree.specs.Removing.{RemovesName, MissesName}
 use Rattle.jfs_lead_steps.proofs.remove.remove_on_top.Goals as goal
 
 pub returns-clause-removes : goal.returns-clause-removes

@@ -1,9 +1,9 @@
 use Rattle.std.proofs.Common.{◌∙◌, sym, inl, Ok, Err}
 use Rattle.jfs_disk.specs.Image.{page_of}
-use Rattle.jfs_claim.specs.meaning.specs.Readers.{readers}
-use Rattle.jfs_claim.specs.meaning.specs.Room.{room_on}
+use Rattle.jfs_lead_steps.specs.meaning.specs.Readers.{readers}
+use Rattle.jfs_lead_steps.specs.meaning.specs.Room.{room_on}
 use Rattle.jfs_steps.specs.Place.{last_of}
-use Rattle.jfs_way.specs.Volume.{volume_of}
+use Rattle.jfs_steps.specs.way.specs.Volume.{volume_of}
 use Rattle.jfs_link.proofs.Asks.{space_by, deep_by, directory_refused, place_refused, links_refused, space_refused, depth_refused, may_link, last_is, not_full}
 use Rattle.jfs_link.proofs.Asked.{asked_deep, asked_is}
 use Rattle.jfs_link.proofs.asking.ask.Goals as goal

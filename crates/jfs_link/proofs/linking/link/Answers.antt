@@ -6,12 +6,12 @@ use Rattle.jfs_disk.specs.Image.{page_of}
 use Rattle.jfs_plain.specs.Tree.{Tree}
 use Rattle.jfs_plain.specs.Step.{Room, link}
 use Rattle.jfs_plain.specs.declared.refusal.Refusal.{Refusal}
-use Rattle.jfs_dtree.specs.page_tree.specs.Fresh.{blocks_of}
-use Rattle.jfs_claim.specs.meaning.specs.Readers.{readers}
-use Rattle.jfs_claim.specs.meaning.specs.Room.{room_on}
-use Rattle.jfs_way.specs.Answer.{is_open}
-use Rattle.jfs_way.specs.Volume.{volume_of}
-use Rattle.jfs_way.specs.Walk.{tree_in}
+use Rattle.jfs_lead_steps.specs.page_tree.specs.Fresh.{blocks_of}
+use Rattle.jfs_lead_steps.specs.meaning.specs.Readers.{readers}
+use Rattle.jfs_lead_steps.specs.meaning.specs.Room.{room_on}
+use Rattle.jfs_steps.specs.way.specs.Answer.{is_open}
+use Rattle.jfs_steps.specs.way.specs.Volume.{volume_of}
+use Rattle.jfs_steps.specs.way.specs.Walk.{tree_in}
 use Rattle.jfs_claim.specs.Take.{IsRun, run_list, reserving}
 use Rattle.jfs_steps.specs.Place.{last_of}
 use Rattle.jfs_link.specs.Link.{RefusesLink}

@@ -1,6 +1,6 @@
 use Rattle.std.proofs.Common.{◌∙◌, sym, subst, Bool}
 use Rattle.jfs_disk.specs.Image.{page_of}
-use Rattle.jfs_reader.specs.meaning.specs.Readers.{root_of}
+use Rattle.jfs_lead_steps.specs.meaning.specs.Readers.{root_of}
 use Rattle.jfs_loss.specs.Frees.{CutsIf}
 use Rattle.jfs_loss.proofs.free.cut_all.Goals as goal
 

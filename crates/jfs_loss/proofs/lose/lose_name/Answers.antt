@@ -1,6 +1,6 @@
 use Rattle.std.proofs.Common.{sym, subst, Result, Ok, Err, OnOk}
 use Rattle.jfs_disk.specs.Image.{page_of}
-use Rattle.jfs_way.specs.Answer.{Answers}
+use Rattle.jfs_steps.specs.way.specs.Answer.{Answers}
 use Rattle.jfs_loss.specs.Causes.{lost_from}
 use Rattle.jfs_loss.proofs.Keeping.{loses, keeps}
 use Rattle.jfs_loss.proofs.lose.lose_name.Goals as goal

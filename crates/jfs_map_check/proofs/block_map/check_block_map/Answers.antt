@@ -4,7 +4,7 @@ use Rattle.jfs_super.specs.declared.fields.Super.{Super}
 use Rattle.jfs_bmap.specs.Set.{taken_at}
 use Rattle.jfs_bmap.specs.OwnedBlocks.{owned_of}
 use Rattle.jfs_bmap.specs.MapFile.{pages_of}
-use Rattle.jfs_mount.specs.Subject.{subject_of}
+use Rattle.jfs_findings.specs.mount_rules.specs.Subject.{subject_of}
 use Rattle.jfs_findings.specs.Gains.{Gains}
 use Rattle.jfs_map_check.specs.Found.{KnowsOwners, IsOfBlockMap, IsWrongBelow}
 use Rattle.jfs_map_check.proofs.Gaining.{if_ok}

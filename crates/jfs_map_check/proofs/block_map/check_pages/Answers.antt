@@ -3,8 +3,8 @@ use Rattle.std.specs.Prelude.{Option, ℕ}
 use Rattle.std.proofs.lemmas.Result.{err_from_is_err_and}
 use Rattle.jfs_disk.specs.Image.{Image, page_of}
 use Rattle.jfs_bmap.specs.Set.{taken_at}
-use Rattle.jfs_reader.specs.objects.specs.Contents.{block_of}
-use Rattle.jfs_reader.specs.Reading.{OutsideIsPast}
+use Rattle.jfs_findings.specs.objects.specs.Contents.{block_of}
+use Rattle.jfs_findings.specs.reader.specs.Reading.{OutsideIsPast}
 use Rattle.jfs_findings.specs.Gains.{Gains}
 use Rattle.jfs_map_check.specs.Found.{IsWrongIn}
 use Rattle.jfs_map_check.proofs.Gaining.{some_past}

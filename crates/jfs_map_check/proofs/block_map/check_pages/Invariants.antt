@@ -1,7 +1,7 @@
 use Rattle.std.proofs.Common.{◌≡◌, ◌≤◌, ℕ, length}
 use Rattle.jfs_disk.specs.Image.{page_of}
 use Rattle.jfs_bmap.specs.Set.{taken_at}
-use Rattle.jfs_reader.specs.objects.specs.Contents.{block_of}
+use Rattle.jfs_findings.specs.objects.specs.Contents.{block_of}
 use Rattle.jfs_findings.specs.Gains.{Gains}
 use Rattle.jfs_map_check.specs.Found.{IsWrongBelow}
 use Rattle.jfs_map_check.proofs.block_map.check_pages.Given as goal

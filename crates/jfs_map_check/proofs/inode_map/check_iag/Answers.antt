@@ -1,7 +1,7 @@
 use Rattle.std.proofs.Common.{◌≡◌, ◌+◌, suc, true, Some, None, refl, ap, ◌∙◌, arith}
 use Rattle.jfs_bits.specs.Bits.{is_taken}
 use Rattle.jfs_disk.specs.Image.{page_of}
-use Rattle.jfs_reader.specs.objects.specs.Contents.{block_of}
+use Rattle.jfs_findings.specs.objects.specs.Contents.{block_of}
 use Rattle.jfs_map_check.proofs.Iags.{counted_ok, noted_ok, none_counted}
 use Rattle.jfs_map_check.proofs.inode_map.check_iag.Goals as goal
 

@@ -1,7 +1,7 @@
 use Rattle.std.proofs.Common.{◌≡◌, ◌≤◌, ◌<◌, ◌*◌, ℕ}
 use Rattle.jfs_bits.specs.Bits.{is_taken}
 use Rattle.jfs_disk.specs.Image.{page_of}
-use Rattle.jfs_reader.specs.objects.specs.Contents.{block_of}
+use Rattle.jfs_findings.specs.objects.specs.Contents.{block_of}
 use Rattle.jfs_findings.specs.Gains.{Gains}
 use Rattle.jfs_map_check.specs.Inodes.{IsWrongIagBelow, AreTotals}
 use Rattle.jfs_map_check.proofs.inode_map.check_iags.Given as goal

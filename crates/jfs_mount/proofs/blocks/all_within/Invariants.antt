@@ -1,5 +1,5 @@
 use Rattle.std.proofs.Common.{◌≡◌, drop}
-use Rattle.jfs_xtree.specs.Node.{all_within}
+use Rattle.jfs_reader.specs.xtree.specs.Node.{all_within}
 use Rattle.jfs_mount.proofs.blocks.all_within.Given as goal
 
 abbrev pub invariant-loop-x : goal.invariant-loop-x

@@ -1,5 +1,5 @@
 use Rattle.std.proofs.Common.{sym, ap, ◌∙◌}
-use Rattle.jfs_xtree.specs.Node.{all_within}
+use Rattle.jfs_reader.specs.xtree.specs.Node.{all_within}
 use Rattle.jfs_mount.proofs.Within.{lie}
 use Rattle.jfs_mount.proofs.files.if_within.Goals as goal
 

@@ -1,6 +1,6 @@
 use Rattle.std.proofs.Common.{◌∙◌, ℕ, refl, sym, ap, subst, arith}
 use Rattle.jfs_super.specs.declared.fields.Geometry.{Geometry}
-use Rattle.jfs_mount.specs.Steps.{IsMounted}
+use Rattle.jfs_sets.specs.mount_rules.specs.Steps.{IsMounted}
 use Rattle.jfs_bmap.specs.MapFile.{pages_of}
 use Rattle.jfs_map_files.specs.Files.{AreFilesOf}
 use Rattle.jfs_claim.specs.way.specs.Volume.{PlacesWithin}

@@ -2,7 +2,7 @@ use Rattle.std.proofs.Common.{◌≡◌, ◌<◌, ◌*◌, ◌∙◌, ◌&&◌, 
 use Rattle.jfs_bits.specs.Bits.{is_taken}
 use Rattle.jfs_imap.specs.Inodes.{Inodes, inodes_of}
 use Rattle.jfs_imap.proofs.Changed.{put-whole}
-use Rattle.jfs_claim.specs.objects.specs.Volume.{home}
+use Rattle.jfs_sets.specs.objects.specs.Volume.{home}
 use Rattle.jfs_sets.specs.Sets.{extent_from}
 use Rattle.jfs_mount_maps.specs.Maps.{groups_of}
 use Rattle.jfs_mount_maps.proofs.Inodes.{places_within, inodes_are}

@@ -8,8 +8,8 @@ use Rattle.jfs_tree.specs.Spells.{no_page}
 use Rattle.jfs_xtpage.specs.declared.head.XtForm.TheVariants.{Root}
 use Rattle.jfs_xtree.specs.Node.{xt_node}
 use Rattle.jfs_xtree.specs.Spells.{page_nodes}
-use Rattle.jfs_findings.specs.Gains.{Gains}
-use Rattle.jfs_findings.specs.declared.finding.Finding.{Finding}
+use Rattle.jfs_owners.specs.findings.specs.Gains.{Gains}
+use Rattle.jfs_owners.specs.findings.specs.declared.finding.Finding.{Finding}
 use Rattle.jfs_owners.specs.Counts.{OwnerSets, Adds}
 use Rattle.jfs_object_check.specs.Lines.{Tells, IsThinOn, IsThinAbove, tree_nodes, rows_have, line_has, levels_have}
 use Rattle.jfs_object_check.proofs.Beside.{first_level}

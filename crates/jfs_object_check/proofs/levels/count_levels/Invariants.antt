@@ -3,7 +3,7 @@ use Rattle.std.proofs.Common.{◌≡◌}
 use Rattle.jfs_disk.specs.Image.{page_of}
 use Rattle.jfs_tree.specs.Form.{AllBelow}
 use Rattle.jfs_tree.specs.Levels.{level}
-use Rattle.jfs_findings.specs.Gains.{Gains}
+use Rattle.jfs_owners.specs.findings.specs.Gains.{Gains}
 use Rattle.jfs_owners.specs.Counts.{Adds}
 use Rattle.jfs_object_check.specs.Lines.{Tells, IsThinAbove, tree_nodes, levels_have}
 use Rattle.jfs_object_check.proofs.levels.count_levels.Given as goal

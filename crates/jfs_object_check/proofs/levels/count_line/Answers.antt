@@ -6,7 +6,7 @@ use Rattle.jfs_tree.specs.Walk.{Node}
 use Rattle.jfs_tree.specs.Form.{AllBelow}
 use Rattle.jfs_tree.specs.Levels.{entry_count, pages_below}
 use Rattle.jfs_xtree.specs.Spells.{page_nodes}
-use Rattle.jfs_findings.specs.Gains.{Gains}
+use Rattle.jfs_owners.specs.findings.specs.Gains.{Gains}
 use Rattle.jfs_owners.specs.Counts.{OwnerSets, Adds}
 use Rattle.jfs_object_check.specs.Lines.{Tells, IsThinOn, page_holds, line_has}
 use Rattle.jfs_object_check.proofs.Beside.{below_at, line_more}

@@ -5,7 +5,7 @@ use Rattle.jfs_disk.specs.Image.{page_of}
 use Rattle.jfs_tree.specs.Form.{AllBelow}
 use Rattle.jfs_tree.specs.Levels.{pages_below}
 use Rattle.jfs_xtree.specs.Spells.{page_nodes}
-use Rattle.jfs_findings.specs.Gains.{Gains}
+use Rattle.jfs_owners.specs.findings.specs.Gains.{Gains}
 use Rattle.jfs_owners.specs.Counts.{Adds}
 use Rattle.jfs_object_check.specs.Lines.{Tells, IsThinOn, line_has}
 use Rattle.jfs_object_check.proofs.levels.count_line.Given as goal

@@ -2,7 +2,7 @@
 use Rattle.std.proofs.Common.{take}
 use Rattle.jfs_tree.specs.Walking.{rows_in}
 use Rattle.jfs_xtree.specs.Node.{xt_node}
-use Rattle.jfs_findings.specs.objects.specs.Owners.{covers}
+use Rattle.jfs_owners.specs.objects.specs.Owners.{covers}
 use Rattle.jfs_owners.specs.Counts.{Adds}
 use Rattle.jfs_object_check.proofs.nodes.add_rows.Given as goal
 

@@ -1,10 +1,10 @@
 -- Four findings' conditions.
 use Rattle.std.proofs.Common.{◌≡◌, true, subst}
 use Rattle.std.specs.Prelude.{OnOk}
-use Rattle.jfs_findings.specs.Gains.{Gains}
-use Rattle.jfs_findings.specs.declared.finding.FindingKind.TheVariants as kinds
+use Rattle.jfs_owners.specs.findings.specs.Gains.{Gains}
+use Rattle.jfs_owners.specs.findings.specs.declared.finding.FindingKind.TheVariants as kinds
 use Rattle.jfs_object_check.specs.Steps.{Only}
-use Rattle.jfs_findings.specs.Inodes.{attribute_blocks}
+use Rattle.jfs_owners.specs.findings.specs.Inodes.{attribute_blocks}
 use Rattle.jfs_object_check.specs.Tally.{less, is_met}
 use Rattle.jfs_object_check.proofs.Every.{counts_found}
 use Rattle.jfs_object_check.proofs.object.check_counts.Goals as goal

@@ -1,8 +1,8 @@
 -- The steps, over views that keep their pages.
 use Rattle.std.proofs.Common.{◌≡◌, true, ap, ◌∙◌, subst}
 use Rattle.jfs_disk.specs.Image.{page_of}
-use Rattle.jfs_findings.specs.Gains.{Gains}
-use Rattle.jfs_findings.specs.declared.finding.FindingKind.TheVariants as kinds
+use Rattle.jfs_owners.specs.findings.specs.Gains.{Gains}
+use Rattle.jfs_owners.specs.findings.specs.declared.finding.FindingKind.TheVariants as kinds
 use Rattle.jfs_object_check.specs.Steps.{Only}
 use Rattle.jfs_object_check.proofs.Every.{object_seen}
 use Rattle.jfs_object_check.proofs.object.check_object.Goals as goal

@@ -2,7 +2,7 @@
 use Rattle.jfs_disk.specs.Image.{page_of}
 use Rattle.jfs_xtree.specs.Node.{xt_scale}
 use Rattle.jfs_owners.specs.Held.{extents_walk}
-use Rattle.jfs_findings.specs.declared.finding.FindingKind.TheVariants as kinds
+use Rattle.jfs_owners.specs.findings.specs.declared.finding.FindingKind.TheVariants as kinds
 use Rattle.jfs_object_check.proofs.Found.{settled, told_sound}
 use Rattle.jfs_object_check.proofs.Walks.{root_ends}
 use Rattle.jfs_object_check.proofs.root.check_root.Goals as goal

@@ -2,9 +2,9 @@
 use Rattle.std.proofs.Common.{Ok}
 use Rattle.jfs_disk.specs.Image.{page_of}
 use Rattle.jfs_xtree.specs.Node.{xt_scale}
-use Rattle.jfs_findings.specs.objects.specs.Objects.{extents_of}
-use Rattle.jfs_findings.specs.meaning.specs.Readers.{readers}
-use Rattle.jfs_findings.specs.declared.finding.FindingKind.TheVariants as kinds
+use Rattle.jfs_owners.specs.objects.specs.Objects.{extents_of}
+use Rattle.jfs_owners.specs.meaning.specs.Readers.{readers}
+use Rattle.jfs_owners.specs.findings.specs.declared.finding.FindingKind.TheVariants as kinds
 use Rattle.jfs_object_check.proofs.Found.{settled}
 use Rattle.jfs_object_check.proofs.trees.check_extents.Goals as goal
 

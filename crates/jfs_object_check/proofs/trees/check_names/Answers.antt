@@ -2,9 +2,9 @@
 use Rattle.std.proofs.Common.{Ok}
 use Rattle.jfs_disk.specs.Image.{page_of}
 use Rattle.jfs_dtree.specs.Node.{name_scale}
-use Rattle.jfs_findings.specs.objects.specs.Objects.{names_of}
-use Rattle.jfs_findings.specs.meaning.specs.Readers.{readers}
-use Rattle.jfs_findings.specs.declared.finding.FindingKind.TheVariants as kinds
+use Rattle.jfs_owners.specs.objects.specs.Objects.{names_of}
+use Rattle.jfs_owners.specs.meaning.specs.Readers.{readers}
+use Rattle.jfs_owners.specs.findings.specs.declared.finding.FindingKind.TheVariants as kinds
 use Rattle.jfs_object_check.proofs.Found.{settled}
 use Rattle.jfs_object_check.proofs.trees.check_names.Goals as goal
 

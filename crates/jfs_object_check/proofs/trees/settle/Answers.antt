@@ -1,8 +1,8 @@
 -- A broken rule is a finding.
 use Rattle.std.proofs.Common.{rules, arith}
 use Rattle.std.proofs.lemmas.Grind.{common_steps}
-use Rattle.jfs_findings.specs.mount_rules.specs.Subject.{page_named}
-use Rattle.jfs_findings.specs.Gains.{Gains}
+use Rattle.jfs_owners.specs.mount_rules.specs.Subject.{page_named}
+use Rattle.jfs_owners.specs.findings.specs.Gains.{Gains}
 use Rattle.jfs_object_check.specs.Steps.{Only}
 use Rattle.jfs_object_check.proofs.Found.{as_named}
 use Rattle.jfs_object_check.proofs.trees.settle.Goals as goal

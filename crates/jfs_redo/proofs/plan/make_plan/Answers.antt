@@ -3,9 +3,9 @@ use Rattle.jfs_bits.specs.Bits.{is_taken}
 use Rattle.jfs_disk.specs.Image.{Image, page_of}
 use Rattle.jfs_records.specs.Redo.{all_of}
 use Rattle.jfs_redo_steps.specs.steps.specs.After.{extents_after}
-use Rattle.jfs_sets.specs.Sets.{AreUsedBlocks}
-use Rattle.jfs_mount.specs.Subject.{subject_of, volume}
-use Rattle.jfs_mount.specs.Steps.{AreRead, HasMaps}
+use Rattle.jfs_mount_maps.specs.sets.specs.Sets.{AreUsedBlocks}
+use Rattle.jfs_mount_maps.specs.mount_rules.specs.Subject.{subject_of, volume}
+use Rattle.jfs_mount_maps.specs.mount_rules.specs.Steps.{AreRead, HasMaps}
 use Rattle.jfs_redo.proofs.Places.{used-alone}
 use Rattle.jfs_redo.proofs.plan.make_plan.Goals as goal
 

@@ -3,7 +3,7 @@ use Rattle.jfs_disk.specs.Image.{Image, page_of}
 use Rattle.jfs_ranges.specs.declared.edit.Edit.{Edit}
 use Rattle.jfs_super.specs.Rules.{blocks_of}
 use Rattle.jfs_super.specs.declared.fields.Geometry.{Geometry}
-use Rattle.jfs_mount.specs.Subject.{subject_of}
+use Rattle.jfs_mount_maps.specs.mount_rules.specs.Subject.{subject_of}
 use Rattle.jfs_redo.specs.Log.{IsLogOf, AreCommitted}
 use Rattle.jfs_redo.specs.Plan.{IsPlan, IsPlanOf}
 use Rattle.jfs_redo.specs.Redo.{IsRestored}

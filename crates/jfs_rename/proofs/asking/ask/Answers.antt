@@ -2,7 +2,7 @@ use Rattle.std.proofs.Common.{◌∙◌, sym}
 use Rattle.jfs_disk.specs.Image.{page_of}
 use Rattle.jfs_link.specs.meaning.specs.Readers.{readers}
 use Rattle.jfs_link.specs.meaning.specs.Room.{room_on}
-use Rattle.jfs_way.specs.Volume.{volume_of}
+use Rattle.jfs_link.specs.way.specs.Volume.{volume_of}
 use Rattle.jfs_link.proofs.Asks.{last_is}
 use Rattle.jfs_rename.proofs.Asks.{refuses, nothing_changes, room_allows, room_refuses, stands_back, short_last}
 use Rattle.jfs_rename.proofs.Askeds.{closed_carries, asked_held, asked_is, asked_short}

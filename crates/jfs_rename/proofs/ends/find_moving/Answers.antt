@@ -1,6 +1,6 @@
 use Rattle.std.proofs.Common.{◌∙◌, sym}
 use Rattle.jfs_disk.specs.Image.{page_of}
-use Rattle.jfs_way.specs.Walk.{tree_in}
+use Rattle.jfs_link.specs.way.specs.Walk.{tree_in}
 use Rattle.jfs_rename.proofs.FoundEnds.{nameless_refused, source_refused, target_refused, are_ends}
 use Rattle.jfs_rename.proofs.ends.find_moving.Goals as goal
 

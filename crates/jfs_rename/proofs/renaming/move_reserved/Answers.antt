@@ -3,7 +3,7 @@ use Rattle.jfs_bits.specs.declared.descriptor.Pxd.{Pxd}
 use Rattle.jfs_bmap.specs.States.{Blocks}
 use Rattle.jfs_disk.specs.Image.{page_of}
 use Rattle.jfs_tree.specs.Fresh.{blocks_of}
-use Rattle.jfs_claim.specs.Take.{IsRun, run_list, reserving}
+use Rattle.jfs_link.specs.claim.specs.Take.{IsRun, run_list, reserving}
 use Rattle.jfs_link.proofs.Asked.{reserves_free}
 use Rattle.jfs_rename_steps.proofs.Taken.{free_takes}
 use Rattle.jfs_rename.proofs.renaming.move_reserved.Goals as goal

@@ -4,7 +4,7 @@ use Rattle.jfs_link.specs.lead_steps.proofs.Again.{few_links}
 use Rattle.jfs_link.specs.Link.{IfConsistentBy}
 use Rattle.jfs_link.proofs.Asks.{last_is}
 use Rattle.jfs_rename_steps.specs.Moves.{MovesOver, OverRefused}
-use Rattle.jfs_steps.specs.Place.{last_of}
+use Rattle.jfs_link.specs.steps.specs.Place.{last_of}
 use Rattle.jfs_rename.specs.Asks.{IsAskedOf, IsAskedOn, MayRename}
 use Rattle.jfs_rename.specs.Renames.{MovesReserved}
 use Rattle.jfs_rename.specs.declared.permits.Asked.{Asked}

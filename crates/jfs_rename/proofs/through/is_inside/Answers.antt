@@ -1,5 +1,5 @@
 use Rattle.jfs_disk.specs.Image.{page_of}
-use Rattle.jfs_way.specs.Walk.{tree_in}
+use Rattle.jfs_link.specs.way.specs.Walk.{tree_in}
 use Rattle.jfs_rename.proofs.Leading.{follows_inside}
 use Rattle.jfs_rename.proofs.through.is_inside.Goals as goal
 

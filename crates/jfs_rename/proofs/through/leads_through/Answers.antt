@@ -1,7 +1,7 @@
 use Rattle.std.proofs.Common.{◌∙◌, ◌≡◌, ◌<◌, ◌+◌, sym, ap, subst, inl, inr, ℕ, List, ◌∷◌, drop, length, get_or, eq-eqb, ne_eqb}
 use Rattle.std.proofs.lemmas.List.{drop_more, drop_all}
 use Rattle.jfs_disk.specs.Image.{page_of}
-use Rattle.jfs_way.proofs.Walks.{begins_not, ends_here}
+use Rattle.jfs_link.specs.way.proofs.Walks.{begins_not, ends_here}
 use Rattle.jfs_rename.specs.Through.{HasGone}
 use Rattle.jfs_rename.proofs.Leading.{follows_it, goes_further, tells_end}
 use Rattle.jfs_rename.proofs.through.leads_through.Goals as goal

@@ -1,5 +1,5 @@
 use Rattle.jfs_disk.specs.Image.{page_of}
-use Rattle.jfs_steps.proofs.Grows.{refused_told}
+use Rattle.jfs_loss.specs.steps.proofs.Grows.{refused_told}
 use Rattle.jfs_rename_steps.proofs.entries.gain_entry.Goals as goal
 
 pub returns-in-Err-clause-refused : goal.returns-in-Err-clause-refused

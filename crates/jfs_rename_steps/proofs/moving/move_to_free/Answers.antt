@@ -2,8 +2,8 @@ use Rattle.std.proofs.Common.{inl, inr, subst, List, Result, Ok, Err, IfErr}
 use Rattle.jfs_disk.specs.Image.{page_of}
 use Rattle.jfs_ranges.specs.declared.edit.Edit.{Edit}
 use Rattle.jfs_plain.specs.declared.refusal.Refusal.{Refusal}
-use Rattle.jfs_steps.specs.Gains.{GainRefused}
-use Rattle.jfs_steps.specs.declared.gain.Gain.{Gain}
+use Rattle.jfs_loss.specs.steps.specs.Gains.{GainRefused}
+use Rattle.jfs_loss.specs.steps.specs.declared.gain.Gain.{Gain}
 use Rattle.jfs_rename_steps.proofs.moving.move_to_free.Goals as goal
 
 if_err : {A B : Refusal → Type 0} (r : Result (List Edit) Refusal) → IfErr r A → ((why : Refusal) → A why → B why) → IfErr r B

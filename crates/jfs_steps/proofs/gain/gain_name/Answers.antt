@@ -1,5 +1,5 @@
 use Rattle.std.proofs.Common.{◌≡◌, inl, true, Result, Ok, Err, OnOk, IfErr}
-use Rattle.jfs_plain.specs.declared.refusal.Refusal.{Refusal}
+use Rattle.jfs_way.specs.plain.specs.declared.refusal.Refusal.{Refusal}
 use Rattle.jfs_way.specs.Answer.{is_open}
 use Rattle.jfs_steps.specs.Gains.{GainRefused}
 use Rattle.jfs_disk.specs.Image.{page_of}

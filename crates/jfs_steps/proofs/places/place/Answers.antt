@@ -1,7 +1,7 @@
 use Rattle.std.proofs.Common.{◌≡◌, ◌<◌, ◌∙◌, sym, inl, ℕ, length, arith}
 use Rattle.jfs_disk.specs.Image.{page_of}
 use Rattle.jfs_way.specs.Walk.{tree_in}
-use Rattle.jfs_plain.specs.Tree.{place_as}
+use Rattle.jfs_way.specs.plain.specs.Tree.{place_as}
 use Rattle.jfs_steps.specs.Place.{last_of}
 use Rattle.jfs_steps.proofs.LastNames.{place_fails, place_other, place_found, walked_there, directory_is, other_is}
 use Rattle.jfs_steps.proofs.places.place.Goals as goal

@@ -1,6 +1,6 @@
 use Rattle.std.proofs.Common.{sym, ◌∙◌}
 use Rattle.jfs_disk.specs.Image.{page_of}
-use Rattle.jfs_data_steps.specs.meaning.specs.Readers.{root_of}
+use Rattle.jfs_read.specs.meaning.specs.Readers.{root_of}
 use Rattle.jfs_read.proofs.Found.{found_within, never_outside}
 use Rattle.jfs_read.proofs.Parts.{spelled_open}
 use Rattle.jfs_truncate.proofs.tail.block_at.Goals as goal

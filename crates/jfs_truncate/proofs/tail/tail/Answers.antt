@@ -1,7 +1,7 @@
 use Rattle.std.proofs.Common.{◌%◌, ◌/◌, ne_eqb}
 use Rattle.jfs_disk.specs.Image.{page_of}
 use Rattle.jfs_xtree.specs.Spells.{found_for}
-use Rattle.jfs_data_steps.specs.meaning.specs.Readers.{root_of}
+use Rattle.jfs_read.specs.meaning.specs.Readers.{root_of}
 use Rattle.jfs_read.specs.Read.{block_by}
 use Rattle.jfs_truncate.proofs.Refused.{tail_broken}
 use Rattle.jfs_truncate.proofs.tail.tail.Goals as goal

@@ -1,5 +1,5 @@
 use Rattle.jfs_disk.specs.Image.{page_of}
-use Rattle.jfs_way.specs.Walk.{tree_in}
+use Rattle.jfs_loss.specs.way.specs.Walk.{tree_in}
 use Rattle.jfs_unlink.proofs.Paths.{last_is, above_fails, last_found, last_fails, meets_above, meets_last, meets_no_last}
 use Rattle.jfs_unlink.proofs.ends.find_ends.Goals as goal
 

@@ -1,6 +1,6 @@
 use Rattle.std.proofs.Common.{List, Err, Ok, sym, ◌∙◌, subst, arith}
 use Rattle.std.proofs.lemmas.List.{drop_all}
-use Rattle.jfs_data_steps.specs.declared.pages.DataPage.{DataPage}
+use Rattle.jfs_marks.specs.data_steps.specs.declared.pages.DataPage.{DataPage}
 use Rattle.jfs_pages.specs.Kept.{dirty_in}
 use Rattle.jfs_volume.specs.Data.{ArePut, store_of}
 use Rattle.jfs_volume.proofs.Putting.{puts-next, torn-next, lie-next, lie-here, item-at, none-put}

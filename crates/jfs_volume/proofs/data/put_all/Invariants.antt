@@ -1,6 +1,6 @@
 use Rattle.std.proofs.Common.{◌≡◌, drop, Result}
 use Rattle.jfs_disk.specs.declared.disk.Fault.{Fault}
-use Rattle.jfs_data_steps.specs.After.{LieWithin}
+use Rattle.jfs_marks.specs.data_steps.specs.After.{LieWithin}
 use Rattle.jfs_pages.specs.Kept.{dirty_in, held_in}
 use Rattle.jfs_volume.specs.Data.{Store, PutsAll, store_of}
 use Rattle.jfs_volume.proofs.data.put_all.Given as goal

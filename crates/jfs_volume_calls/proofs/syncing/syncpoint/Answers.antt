@@ -11,6 +11,7 @@ use Rattle.jfs_volume_calls.specs.Together.{log_parts}
 use Rattle.jfs_volume_calls.specs.Commit.{committing}
 use Rattle.jfs_volume_calls.specs.Syncpoint.{homing, settling, group_fails}
 use Rattle.jfs_volume_calls.proofs.Chained.{low_stops, maps_stop, settled_closes, settled_may, syncpoint_ends}
+use Rattle.jfs_volume_calls.proofs.Kept.{anyhow, homed, mapped, pointed, point_shown}
 use Rattle.jfs_volume_calls.proofs.syncing.syncpoint.Goals as goal
 
 pub returns-in-Err-clause-syncpoint : goal.returns-in-Err-clause-syncpoint
@@ -65,3 +66,26 @@ returns-clause-syncpoint g c seen asked told crashes both s t none =
     (λ q. rw c.sync_low.ensures.kept (ap (λ (p : Parts). dirty_of p.dirty q) memory ∙ c.in-Ok-home_all.ensures.clean q)) in
     syncpoint_ends seen asked c.args.volume.now mid low c.write_point.new.volume l (log_parts g.D.Disk c.write_point.new.log) both homes.0 maps.0 committed settled c.write_point.result
     (c.write_point.ensures.point seen asked told crashes (after (after both front) (settling homes.0 maps.0)) settled.moves.stands settled.moves.log_stands settled.closed may)
+
+pub returns-in-Err-home_all-clause-settles : goal.returns-in-Err-home_all-clause-settles
+returns-in-Err-home_all-clause-settles g c = homed g.D.Disk.tells c.args.volume.now c.commit.new.volume c.home_all.new.self c.commit.ensures.settles c.home_all.ensures.alone
+
+pub returns-in-Err-home_maps-clause-settles : goal.returns-in-Err-home_maps-clause-settles
+returns-in-Err-home_maps-clause-settles g c = mapped c.args.volume.now c.home_all.new.self c.home_maps.new.self
+    (homed g.D.Disk.tells c.args.volume.now c.commit.new.volume c.home_all.new.self c.commit.ensures.settles c.home_all.ensures.alone) c.home_maps.ensures.memory
+
+pub returns-in-Err-sync_low-clause-settles : goal.returns-in-Err-sync_low-clause-settles
+returns-in-Err-sync_low-clause-settles g c = homed g.D.Disk.tells c.args.volume.now c.home_maps.new.self c.sync_low.new.self
+    (mapped c.args.volume.now c.home_all.new.self c.home_maps.new.self (homed g.D.Disk.tells c.args.volume.now c.commit.new.volume c.home_all.new.self c.commit.ensures.settles c.home_all.ensures.alone) c.home_maps.ensures.memory)
+    c.sync_low.ensures.alone
+
+pub returns-clause-settles : goal.returns-clause-settles
+returns-clause-settles g c = pointed c.args.volume.now c.sync_low.new.self c.write_point.new.volume
+    (homed g.D.Disk.tells c.args.volume.now c.home_maps.new.self c.sync_low.new.self
+    (mapped c.args.volume.now c.home_all.new.self c.home_maps.new.self (homed g.D.Disk.tells c.args.volume.now c.commit.new.volume c.home_all.new.self c.commit.ensures.settles c.home_all.ensures.alone) c.home_maps.ensures.memory)
+    c.sync_low.ensures.alone) c.write_point.ensures.parts
+
+pub returns-clause-shown : goal.returns-clause-shown
+returns-clause-shown g c = anyhow c.write_point.result
+    (point_shown g.D.Disk.tells c.args.volume.now c.commit.new.volume c.home_all.new.self c.home_maps.new.self c.sync_low.new.self c.write_point.new.volume c.commit.ensures.shown c.home_all.ensures.alone c.in-Ok-home_maps.ensures.shows
+    c.in-Ok-home_maps.ensures.written c.sync_low.ensures.alone c.write_point.ensures.parts)

@@ -1,5 +1,5 @@
 use Rattle.std.proofs.Common.{ap, ◌∙◌}
-use Rattle.jfs_bmap.specs.States.{Blocks, Free, put_state}
+use Rattle.jfs_room.specs.bmap.specs.States.{Blocks, Free, put_state}
 use Rattle.jfs_claim.specs.Take.{run_list}
 use Rattle.jfs_claim.proofs.Settles.{front_reserved, still_reserved, all_back}
 use Rattle.jfs_claim.proofs.reserve.Claim.undo.Goals as goal

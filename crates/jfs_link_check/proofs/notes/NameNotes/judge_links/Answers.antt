@@ -1,8 +1,8 @@
 -- What was gained is there, however often.
 use Rattle.std.proofs.Common.{◌≡◌, ◌≢◌, ◌+◌, false}
-use Rattle.jfs_findings.specs.meaning.specs.Consistent.{is_reserved}
-use Rattle.jfs_findings.specs.declared.finding.FindingKind.TheVariants.{Links}
-use Rattle.jfs_findings.proofs.Condensed.{gains_condensed}
+use Rattle.jfs_object_check.specs.meaning.specs.Consistent.{is_reserved}
+use Rattle.jfs_object_check.specs.findings.specs.declared.finding.FindingKind.TheVariants.{Links}
+use Rattle.jfs_object_check.specs.findings.proofs.Condensed.{gains_condensed}
 use Rattle.jfs_object_check.specs.Steps.{Only}
 use Rattle.jfs_link_check.proofs.notes.NameNotes.judge_links.Goals as goal
 

@@ -1,6 +1,6 @@
 -- By the test.
 use Rattle.std.proofs.Common.{◌≡◌, ◌≢◌, ◌+◌, false}
-use Rattle.jfs_findings.specs.meaning.specs.Consistent.{is_reserved}
+use Rattle.jfs_object_check.specs.meaning.specs.Consistent.{is_reserved}
 use Rattle.jfs_link_check.proofs.Due.{links_judged}
 use Rattle.jfs_link_check.proofs.notes.NameNotes.note_links.Goals as goal
 

@@ -1,7 +1,7 @@
 use Rattle.std.proofs.Common.{◌≡◌, length, List, None}
 use Rattle.jfs_bmap.specs.MapFile.{IsMapPage, is_in_use}
 use Rattle.jfs_bmap.specs.States.{is_owned}
-use Rattle.jfs_data_steps.specs.declared.pages.DataPage.{DataPage}
+use Rattle.jfs_marks.specs.data_steps.specs.declared.pages.DataPage.{DataPage}
 use Rattle.jfs_halves.specs.Parts.{OfEachHalf}
 use Rattle.jfs_halves.specs.Moves.{Moves}
 use Rattle.jfs_volume.specs.Shown.{ShowsUpto}

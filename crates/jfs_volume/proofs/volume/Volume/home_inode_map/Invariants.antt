@@ -1,6 +1,6 @@
 use Rattle.std.proofs.Common.{◌≡◌, true, List, None}
 use Rattle.jfs_imap.specs.Inodes.{IsInodePage}
-use Rattle.jfs_data_steps.specs.declared.pages.DataPage.{DataPage}
+use Rattle.jfs_marks.specs.data_steps.specs.declared.pages.DataPage.{DataPage}
 use Rattle.jfs_halves.specs.Parts.{OfEachHalf}
 use Rattle.jfs_halves.specs.Moves.{Moves}
 use Rattle.jfs_volume.specs.Shown.{ShowsUpto}

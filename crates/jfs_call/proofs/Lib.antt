@@ -1,0 +1,6 @@
+pub mod Answered
+pub mod Asked
+pub mod Doing
+pub mod Joining
+pub mod Lasting
+pub mod Lending

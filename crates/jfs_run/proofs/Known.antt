@@ -1,0 +1,24 @@
+-- What is known of the tree that a volume holds.
+use Rattle.jfs_served.proofs.Between.{asked_law, joined_law, home_law, acknowledged_law}
+use Rattle.jfs_served.proofs.Changed.{changed_law}
+use Rattle.jfs_served.proofs.Given.{given_back_law}
+use Rattle.jfs_served.proofs.History.{history_law}
+use Rattle.jfs_served.proofs.Keeps.{again_law}
+use Rattle.jfs_served.proofs.Mounted.{mounted_law}
+use Rattle.jfs_served.proofs.Replies.{unchanged_law, refused_law}
+use Rattle.jfs_run.proofs.Replying.{Laws}
+
+pub laws : Laws
+laws = record {
+  changed = changed_law;
+  given_back = given_back_law;
+  unchanged = unchanged_law;
+  asked = asked_law;
+  joined = joined_law;
+  refused = refused_law;
+  acknowledged = acknowledged_law;
+  home = home_law;
+  again = again_law;
+  mounted = mounted_law;
+  history = history_law;
+}

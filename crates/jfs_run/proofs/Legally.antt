@@ -1,0 +1,114 @@
+-- A line more of a legal history.
+use Rattle.std.proofs.Common.{◌≡◌, ◌≤◌, ◌⊎◌, ◌++◌, ◌∷◌, [], refl, sym, ap, ◌∙◌, subst, ℕ, Bool, true, false, List, inl, inr, append_assoc}
+use Rattle.jfs_bits.specs.declared.descriptor.Moment.{Moment}
+use Rattle.jfs_plain.specs.declared.call.Entry.{Entry}
+use Rattle.jfs_served.specs.halves.specs.Parts.{Parts}
+use Rattle.jfs_served.specs.volume.specs.Join.{entry_with}
+use Rattle.jfs_served.specs.volume.specs.Settles.{Settles, StaysShown}
+use Rattle.jfs_served.specs.call.specs.Does.{Does}
+use Rattle.jfs_served.specs.call.specs.DoesLent.{Both, Asking, End, NeedsThen, DoesAgain}
+use Rattle.jfs_served.specs.call.specs.declared.outcome.Outcome.TheVariants.{Replied}
+use Rattle.jfs_plain.specs.declared.reply.Reply.{Reply}
+use Rattle.jfs_disk.specs.Image.{Image, page_of}
+use Rattle.jfs_super.specs.Rules.{blocks_of}
+use Rattle.jfs_super.specs.declared.fields.Super.{Super}
+use Rattle.jfs_mount.specs.meaning.specs.Image.{IsConsistentImage}
+use Rattle.jfs_served.specs.halves.specs.Log.{LogParts}
+use Rattle.jfs_unmount.specs.mounted.specs.Mount.{IsMountOf}
+use Rattle.jfs_served.specs.Laws.{HoldsImage}
+use Rattle.jfs_served.proofs.Told.{told_mount}
+use Rattle.jfs_run.specs.declared.client.Served.{Served}
+use Rattle.jfs_run.specs.declared.client.Served.TheVariants as serves
+use Rattle.jfs_served.specs.Holds.{MayServe}
+use Rattle.jfs_served.specs.Legal.{Timed, IsLegal, HasServed}
+use Rattle.std.specs.Prelude.{◌||◌}
+use Rattle.std.proofs.lemmas.Bool.{false≢true}
+use Rattle.jfs_run.specs.Calls.{has_failed, any_failed}
+use Rattle.jfs_run.specs.Legal.{at, all_at, IsLegalUntil, AreLegal, GoOn, Leaves, LinesLeave}
+use Rattle.jfs_run.proofs.Replying.{Laws, lent, settled}
+
+one_at_more : (now : Moment) (es : List Entry) (e : Entry) → all_at now (es ++ e ∷ []) ≡ all_at now es ++ at now e ∷ []
+one_at_more now [] e = refl
+one_at_more now (x ∷ xs) e = ap (λ (ts : List Timed). at now x ∷ ts) (one_at_more now xs e)
+
+-- a volume that was mounted from a consistent image
+pub mounted_from : (laws : Laws) (tells crashes : Type 0) (told : tells) (s : Super) (old now : Image) (volume : Parts) (log : LogParts) → now ≡ old → IsMountOf tells crashes s now volume log → blocks_of s ≤ volume.blocks
+    → IsConsistentImage s (page_of old) → HoldsImage s (page_of old) volume
+mounted_from laws tells crashes told s old now volume log is m within consistent =
+    subst (λ (im : Image). HoldsImage s (page_of im) volume) is
+    (laws.mounted s now volume log (told_mount tells crashes told s now volume log m) within (subst (λ (im : Image). IsConsistentImage s (page_of im)) (sym is) consistent))
+
+module _ (laws : Laws) (area : ℕ → ℕ) (log_pages : ℕ) (now : Moment) (start : Parts) where
+  pub begins : MayServe area log_pages start → GoOn area log_pages now start [] start
+  begins may = inl (laws.history.starts area log_pages start may)
+
+  pub begins_with : (es : List Entry) → es ≡ [] → MayServe area log_pages start → GoOn area log_pages now start es start
+  begins_with es none may = subst (λ (xs : List Entry). GoOn area log_pages now start xs start) (sym none) (begins may)
+
+  -- whether or not the next call may come
+  pub legal_of : (es : List Entry) (p : Parts) → GoOn area log_pages now start es p → AreLegal area log_pages now start es
+  legal_of es p (inl so_far) = inl (p, so_far.legal)
+  legal_of es p (inr until) = inr until
+
+  pub lines_legal : (p : Parts) (served : Served) → LinesLeave area log_pages now start p served → AreLegal area log_pages now start p.entries
+  lines_legal p serves.All l = legal_of p.entries p l
+  lines_legal p serves.NoMemory l = l
+
+  -- where none was refused for a fault, all are
+  or_true : (b rest : Bool) → rest ≡ true → (b || rest) ≡ true
+  or_true true rest e = refl
+  or_true false rest e = e
+
+  failed_in : (before behind : List Entry) (e : Entry) → has_failed e.reply ≡ true → any_failed (before ++ e ∷ behind) ≡ true
+  failed_in [] behind e has = rw has refl
+  failed_in (x ∷ xs) behind e has = or_true (has_failed x.reply) (any_failed (xs ++ e ∷ behind)) (failed_in xs behind e has)
+
+  pub all_legal : (es : List Entry) → any_failed es ≡ false → AreLegal area log_pages now start es → (last : Parts) × IsLegal area log_pages start (all_at now es) last
+  all_legal es calm (inl legal) = legal
+  all_legal es calm (inr u) = absurd (false≢true (sym calm ∙ ap any_failed u.parts ∙ failed_in u.before u.behind u.failed u.has))
+
+  until_more : (es : List Entry) (e : Entry) → IsLegalUntil area log_pages now start es → IsLegalUntil area log_pages now start (es ++ e ∷ [])
+  until_more es e u = record {
+    before = u.before;
+    failed = u.failed;
+    behind = u.behind ++ e ∷ [];
+    parts = ap (λ (xs : List Entry). xs ++ e ∷ []) u.parts ∙ append_assoc u.before (u.failed ∷ u.behind) (e ∷ []);
+    last = u.last;
+    legal = u.legal;
+    has = u.has;
+  }
+
+  module _ (tells crashes : Type 0) (told : tells) where
+    -- a call, with its entry
+    pub goes_on : (P : Type 0) (a : Asking) (old new : Both) (reply : Reply) (number : ℕ) (waits : Bool) → a.now ≡ now → GoOn area log_pages now start old.volume.entries old.volume
+        → (P × Does tells crashes a.caller a.request a.now old.volume new.volume (Replied reply number waits)) ⊎ NeedsThen tells crashes a (DoesAgain tells crashes a) old (record { both = new; outcome = Replied reply number waits })
+        → new.volume.entries ≡ old.volume.entries ++ entry_with a.caller.client a.caller.line a.request reply ∷ [] → GoOn area log_pages now start new.volume.entries new.volume
+    goes_on P a old new reply number waits at_now (inr until) d joins =
+        inr (subst (IsLegalUntil area log_pages now start) (sym joins) (until_more old.volume.entries (entry_with a.caller.client a.caller.line a.request reply) until))
+    goes_on P a old new reply number waits at_now (inl so_far) d joins =
+        subst (λ (es : List Entry). GoOn area log_pages now start es new.volume) (sym joins) (by_leaves (leaves d))
+      where
+        es : List Entry
+        es = old.volume.entries
+
+        entry : Entry
+        entry = entry_with a.caller.client a.caller.line a.request reply
+
+        end : End
+        end = record { both = new; outcome = Replied reply number waits }
+
+        leaves : (P × Does tells crashes a.caller a.request a.now old.volume new.volume (Replied reply number waits)) ⊎ NeedsThen tells crashes a (DoesAgain tells crashes a) old end → Leaves area log_pages start (all_at now es) a new.volume (Replied reply number waits)
+        leaves (inl (p, d)) = lent laws tells crashes told area log_pages a start (all_at now es) old end so_far (inl d)
+        leaves (inr n) = lent laws tells crashes told area log_pages a start (all_at now es) old end so_far (inr n)
+
+        by_leaves : Leaves area log_pages start (all_at now es) a new.volume (Replied reply number waits) → GoOn area log_pages now start (es ++ entry ∷ []) new.volume
+        by_leaves (inl served) =
+            inl (subst (λ (ts : List Timed). HasServed area log_pages start ts new.volume) (sym (one_at_more now es entry ∙ ap (λ (m : Moment). all_at now es ++ at m entry ∷ []) (sym at_now))) served)
+        by_leaves (inr failed) = inr (record { before = es; failed = entry; behind = []; parts = refl; last = old.volume; legal = so_far.legal; has = failed })
+
+    -- a commit behind it
+    pub goes_on_settled : (old new : Parts) → GoOn area log_pages now start old.entries old → Settles old new → StaysShown tells old new → GoOn area log_pages now start new.entries new
+    goes_on_settled old new (inl so_far) settles shown =
+        inl (subst (λ (es : List Entry). HasServed area log_pages start (all_at now es) new) (sym settles.entries)
+        (settled laws tells crashes told area log_pages start (all_at now old.entries) old new so_far settles shown))
+    goes_on_settled old new (inr until) settles shown = inr (subst (IsLegalUntil area log_pages now start) (sym settles.entries) until)

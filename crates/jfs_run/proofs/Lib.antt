@@ -1,0 +1,10 @@
+pub mod Called
+pub mod Counts
+pub mod Lined
+pub mod Onward
+pub mod Ended
+pub mod Finished
+pub mod Begun
+pub mod Replying
+pub mod Legally
+pub mod Known

@@ -1,0 +1,39 @@
+use Rattle.std.proofs.Common.{◌≡◌, ◌⊎◌, ◌+◌, ◌-◌, ◌^◌, ℕ, false, subst}
+use Rattle.std.specs.Prelude.{min, None}
+use Rattle.jfs_bits.specs.Count.{Rose}
+use Rattle.jfs_served.specs.halves.specs.Parts.{Parts}
+use Rattle.jfs_run.specs.Growth.{Grows}
+use Rattle.jfs_run.specs.Run.{seen}
+use Rattle.jfs_run.specs.Serving.{state}
+use Rattle.jfs_run.specs.Ending.{IsEnded}
+use Rattle.jfs_run.proofs.Known.{laws}
+use Rattle.jfs_run.proofs.Legally.{begins_with, lines_legal}
+use Rattle.jfs_run.proofs.Ended.{run_ends, served_rises}
+use Rattle.jfs_run.proofs.run.run_mounted.Goals as goal
+
+pub returns-clause-rising : goal.returns-clause-rising
+returns-clause-rising g c =
+    let d = g.D.Disk in
+    served_rises (state d c.args.m.volume c.args.m.log) (state d c.serve-served.new.m.volume c.serve-served.new.m.log) c.args.lines.now c.serve-served.new.told.items c.serve-served.result c.serve-served.ensures.served
+
+pub returns-clause-ran : goal.returns-clause-ran
+returns-clause-ran g c =
+    let d = g.D.Disk in
+    let high : ℕ = d.fault_count c.serve-served.new.m.log.part in
+    let new = seen d c.end-ended.result.disk in
+    let rest = c.take_entries-history.ensures.rest in
+    rw (c.end_after-end.ensures, c.faults.ensures, c.take_entries-history.ensures.entries) (
+    run_ends d.tells d.tells_crashes c.args.taken.superblock.0 c.args.lines.now c.args.is_left c.end-ended.result.is_full (state d c.args.m.volume c.args.m.log) (state d c.serve-served.new.m.volume c.serve-served.new.m.log) c.args.before c.requires.before
+    c.ranges.before.fits c.serve-served.new.told.items new
+    (subst (λ (v : Parts). Grows (min (v.faults + high) (2 ^ 64 - 1)) new.faults) rest c.end-ended.ensures.faults)
+    (subst (λ (v : Parts). c.args.is_left ≡ false → v.halted ≡ None → c.end-ended.result.is_full ≡ false →
+    Rose (min (v.faults + high) (2 ^ 64 - 1)) new.faults ⊎ IsEnded d.tells d.tells_crashes c.args.taken.superblock.0 (min (v.faults + high) (2 ^ 64 - 1)) new) rest c.end-ended.ensures.ended)
+    c.serve-served.result c.serve-served.ensures.served
+    )
+
+pub returns-clause-legal : goal.returns-clause-legal
+returns-clause-legal g c = λ t area log_pages may.
+    let volume = c.args.m.volume in
+    rw c.take_entries-history.ensures.entries
+    (lines_legal laws area log_pages c.args.now volume c.serve-served.new.m.volume c.serve-served.result
+    (c.serve-served.ensures.legal t area log_pages volume (begins_with laws area log_pages c.args.now volume volume.entries c.requires.fresh.entries may)))

@@ -1,0 +1,55 @@
+-- The end of a mounted volume, and of its run.
+use Rattle.std.specs.Prelude.{◌≡◌, ◌⊎◌, ◌==◌, ◌||◌, ◌-◌, ◌^◌, not, if◌then◌else◌, ℕ, Bool, false, List, Result, Ok, Err}
+use Rattle.jfs_bits.specs.Count.{Rose}
+use Rattle.jfs_plain.specs.declared.call.Line.{Line}
+use Rattle.jfs_unmount.specs.mounted.specs.declared.mounted.MountError.{MountError}
+use Rattle.jfs_unmount.specs.mounted.specs.declared.mounted.MountError.TheVariants as mounts
+use Rattle.jfs_run.specs.Calls.{Calls, AreEntriesOf, AllTold, AllCalled, SomeCalled, any_failed}
+use Rattle.jfs_run.specs.Run.{Seen, IsUnmounted}
+use Rattle.jfs_run.specs.declared.client.Served.{Served}
+use Rattle.jfs_run.specs.declared.client.Served.TheVariants as serves
+use Rattle.jfs_run.specs.declared.run.RunEnd.{RunEnd}
+use Rattle.jfs_run.specs.declared.run.RunEnd.TheVariants as ends
+
+-- no call failed, and it was unmounted
+pub record IsEnded (tells crashes : Type 0) (superblock : List ℕ) (faults : ℕ) (new : Seen) : Type 0 where
+  pub faults_are : new.faults ≡ faults
+  pub unmounted : IsUnmounted tells crashes superblock new
+
+-- A run on a mounted volume whose superblock's page was this one, and whose disk had had so many faults.
+pub record IsWholeSince (tells crashes : Type 0) (superblock : List ℕ) (lines : List Line) (is_left : Bool) (faults : ℕ) (new : Seen) (c : Calls) : Type 0 where
+  pub entries : AreEntriesOf lines c.history
+  pub told : AllTold c
+  pub calm : any_failed c.history ≡ false
+  pub faults_are : new.faults ≡ faults
+  pub ended : is_left ≡ false → IsUnmounted tells crashes superblock new
+
+abbrev pub RunSince : (tells crashes : Type 0) → List ℕ → List Line → Bool → ℕ → Seen → Calls → RunEnd → Type 0
+RunSince tells crashes superblock lines is_left faults new c ends.Done = IsWholeSince tells crashes superblock lines is_left faults new c
+RunSince tells crashes superblock lines is_left faults new c (ends.BadImage bad) = ⊥
+RunSince tells crashes superblock lines is_left faults new c ends.Disk = Rose faults new.faults × AllCalled lines c
+RunSince tells crashes superblock lines is_left faults new c ends.Memory = SomeCalled lines c × (Rose faults new.faults ⊎ AllTold c) × (Rose faults new.faults ⊎ (any_failed c.history ≡ false))
+
+-- ---- before the mount
+
+abbrev pub end_of : MountError → RunEnd
+end_of (mounts.BadImage bad) = ends.BadImage bad
+end_of (mounts.Disk fault) = ends.Disk
+end_of mounts.Memory = ends.Memory
+
+-- a read of the disk failed, or memory ran out
+abbrev pub FailsToTake : ℕ → ℕ → RunEnd → Type 0
+FailsToTake before now ends.Done = ⊥
+FailsToTake before now (ends.BadImage bad) = ⊥
+FailsToTake before now ends.Disk = Rose before now
+FailsToTake before now ends.Memory = now ≡ before
+
+abbrev pub TakesBy : {T : Type 0} → ℕ → ℕ → Result T RunEnd → Type 0
+TakesBy before now (Ok taken) = now ≡ before
+TakesBy before now (Err end) = FailsToTake before now end
+
+-- ---- how it ends
+
+abbrev pub end_after : Served → Bool → ℕ → ℕ → RunEnd
+end_after serves.NoMemory is_full before now = ends.Memory
+end_after serves.All is_full before now = if not (now == before) || now == 2 ^ 64 - 1 then ends.Disk else (if is_full then ends.Memory else ends.Done)

@@ -1,0 +1,77 @@
+-- The entries of a mounted volume so far: a legal history of a plain file tree, up to a call that failed.
+use Rattle.std.specs.Prelude.{◌≡◌, ◌⊎◌, ◌++◌, ◌∷◌, [], ℕ, true, List, map, None}
+use Rattle.jfs_bits.specs.declared.descriptor.Moment.{Moment}
+use Rattle.jfs_served.specs.halves.specs.Parts.{Parts}
+use Rattle.jfs_plain.specs.declared.call.Entry.{Entry}
+use Rattle.jfs_served.specs.call.specs.DoesLent.{Asking}
+use Rattle.jfs_served.specs.call.specs.declared.outcome.Outcome.{Outcome}
+use Rattle.jfs_served.specs.call.specs.declared.outcome.Outcome.TheVariants.{Replied, NeedsLog, NoMemory}
+use Rattle.jfs_served.specs.volume.specs.Join.{entry_with}
+use Rattle.jfs_served.specs.Holds.{tree_at, room_at}
+use Rattle.jfs_served.specs.Legal.{Timed, IsLegal, HasServed}
+use Rattle.jfs_super.specs.declared.fields.Super.{Super}
+use Rattle.jfs_plain.specs.Moves.{Same}
+use Rattle.jfs_mount.specs.meaning.specs.Image.{tree_of}
+use Rattle.jfs_mount.specs.meaning.specs.Image as meaning
+use Rattle.jfs_run.specs.Calls.{has_failed}
+use Rattle.jfs_run.specs.declared.client.Served.{Served}
+use Rattle.jfs_run.specs.declared.client.Served.TheVariants as serves
+use Rattle.jfs_run.specs.declared.client.Answered.{Answered}
+use Rattle.jfs_run.specs.declared.client.Answered.TheVariants as answers
+
+-- a call that was handed at this moment
+abbrev pub at : Moment → Entry → Timed
+at now e = record { entry = e; now = now }
+
+abbrev pub all_at : Moment → List Entry → List Timed
+all_at now es = map (at now) es
+
+-- The entries up to one that failed are legal. What a failed write left of a file isn't said, so no more is said of those behind it.
+pub record IsLegalUntil (area : ℕ → ℕ) (log_pages : ℕ) (now : Moment) (start : Parts) (es : List Entry) : Type 0 where
+  pub before : List Entry
+  pub failed : Entry
+  pub behind : List Entry
+  pub parts : es ≡ before ++ failed ∷ behind
+  pub last : Parts
+  pub legal : IsLegal area log_pages start (all_at now before) last
+  pub has : has_failed failed.reply ≡ true
+
+-- All are, or those up to one that failed.
+abbrev pub AreLegal : (ℕ → ℕ) → ℕ → Moment → Parts → List Entry → Type 0
+AreLegal area log_pages now start es = ((last : Parts) × IsLegal area log_pages start (all_at now es) last) ⊎ IsLegalUntil area log_pages now start es
+
+-- the same, and where all are, the next call may come
+abbrev pub GoOn : (ℕ → ℕ) → ℕ → Moment → Parts → List Entry → Parts → Type 0
+GoOn area log_pages now start es p = HasServed area log_pages start (all_at now es) p ⊎ IsLegalUntil area log_pages now start es
+
+-- ---- a run
+
+-- The replies are those of a plain file tree that is at first the image's, with its room, on a volume that hasn't halted.
+pub record FollowsTree (s : Super) (page : ℕ → List ℕ) (now : Moment) (es : List Entry) : Type 0 where
+  pub start : Parts
+  pub runs : start.halted ≡ None
+  pub tree : Same (tree_of s page) (tree_at (meaning.volume_of s page).area start)
+  pub room : room_at (meaning.volume_of s page).area s.logpxd.len start ≡ meaning.room_of s page
+  pub legal : AreLegal (meaning.volume_of s page).area s.logpxd.len now start es
+
+abbrev pub IsLegalRun : Super → (ℕ → List ℕ) → Moment → List Entry → Type 0
+IsLegalRun s page now es = (es ≡ []) ⊎ FollowsTree s page now es
+
+-- ---- for the prover
+
+-- what a call leaves: with its entry the history is legal and the next call may come, or it failed; without one nothing is said
+abbrev pub Leaves : (ℕ → ℕ) → ℕ → Parts → List Timed → Asking → Parts → Outcome → Type 0
+Leaves area log_pages start es a new (Replied reply number waits) = HasServed area log_pages start (es ++ at a.now (entry_with a.caller.client a.caller.line a.request reply) ∷ []) new ⊎ (has_failed reply ≡ true)
+Leaves area log_pages start es a new NeedsLog = HasServed area log_pages start es new
+Leaves area log_pages start es a new NoMemory = Unit {0}
+
+-- what a line leaves
+abbrev pub LineLeaves : (ℕ → ℕ) → ℕ → Moment → Parts → Parts → Answered → Type 0
+LineLeaves area log_pages now start p (answers.Durable entry) = GoOn area log_pages now start p.entries p
+LineLeaves area log_pages now start p answers.Pending = GoOn area log_pages now start p.entries p
+LineLeaves area log_pages now start p answers.NoMemory = AreLegal area log_pages now start p.entries
+
+-- and several
+abbrev pub LinesLeave : (ℕ → ℕ) → ℕ → Moment → Parts → Parts → Served → Type 0
+LinesLeave area log_pages now start p serves.All = GoOn area log_pages now start p.entries p
+LinesLeave area log_pages now start p serves.NoMemory = AreLegal area log_pages now start p.entries

@@ -1,0 +1,120 @@
+-- A mounted volume while the calls of a script are done.
+use Rattle.std.specs.Prelude.{◌≡◌, ◌⊎◌, ◌≤◌, ◌+◌, ◌∷◌, ◌++◌, [], ℕ, Bool, true, false, List, length, take, Option, Some, None}
+use Rattle.jfs_bits.specs.Count.{Rose}
+use Rattle.jfs_disk.specs.declared.disk.Disk.{Ghosts}
+use Rattle.jfs_disk.specs.declared.disk.Fault.{Fault}
+use Rattle.jfs_plain.specs.declared.call.Entry.{Entry}
+use Rattle.jfs_plain.specs.declared.call.Line.{Line}
+use Rattle.jfs_served.specs.call.specs.Lent.{AreBoth}
+use Rattle.jfs_served.specs.volume_calls.specs.Together.{log_parts}
+use Rattle.jfs_logpages.specs.declared.log_side.LogSide.{LogSide}
+use Rattle.jfs_served.specs.halves.specs.Log.{LogParts}
+use Rattle.jfs_served.specs.halves.specs.Parts.{Parts}
+use Rattle.jfs_run.specs.Calls.{IsEntryOf, AreEntriesOf, IsTakenAs, AreTakenAs, waits, waiting_from, has_failed, any_failed}
+use Rattle.jfs_run.specs.Growth.{Grows}
+use Rattle.jfs_run.specs.declared.client.Served.{Served}
+use Rattle.jfs_run.specs.declared.client.Served.TheVariants as serves
+use Rattle.jfs_run.specs.declared.client.Answered.{Answered}
+use Rattle.jfs_run.specs.declared.client.Answered.TheVariants as answers
+
+-- a volume with its log, whose part has had so many faults and has so many pages
+pub record State : Type 0 where
+  pub volume : Parts
+  pub log : LogParts
+  pub high : ℕ
+  pub pages : ℕ
+
+abbrev pub state : {D : Type 0} → (d : Ghosts D) → Parts → LogSide D d → State
+state d volume side = record { volume = volume; log = log_parts d side; high = d.fault_count side.part; pages = d.page_count side.part }
+
+-- what a call wants
+pub record MayCall (s : State) : Type 0 where
+  pub size : length s.volume.map.states ≤ s.volume.blocks
+  pub both : AreBoth s.volume s.log
+
+-- a count of one of the parts rose
+abbrev pub PartRose : State → State → Type 0
+PartRose old new = Rose old.volume.faults new.volume.faults ⊎ Rose old.high new.high
+
+-- the volume halted meanwhile, for a fault
+pub record Halts (old new : State) : Type 0 where
+  pub ran : old.volume.halted ≡ None
+  pub fault : Fault
+  pub is : new.volume.halted ≡ Some fault
+  pub rose : PartRose old new
+
+-- ---- one line
+
+pub record Keeps (old new : State) : Type 0 where
+  pub may : MayCall new
+  pub count : new.volume.count ≡ old.volume.count
+  pub room : new.volume.room ≡ old.volume.room
+  pub pages : new.pages ≡ old.pages
+  pub low : Grows old.volume.faults new.volume.faults
+  pub high : Grows old.high new.high
+  pub halted : (new.volume.halted ≡ old.volume.halted) ⊎ Halts old new
+
+-- an entry of the line joins
+pub record Joins (l : Line) (old new : State) (e : Entry) : Type 0 where
+  pub is : IsEntryOf l e
+  pub entries : new.volume.entries ≡ old.volume.entries ++ e ∷ []
+  pub appended : new.volume.appended ≡ old.volume.appended + 1
+  pub calm : (has_failed e.reply ≡ false) ⊎ (PartRose old new ⊎ (old.volume.halted ≡ None → ⊥))
+
+-- it waits, and is durable
+pub record IsDurable (l : Line) (old new : State) (number : ℕ) : Type 0 where
+  pub entry : Entry
+  pub joins : Joins l old new entry
+  pub number_is : number ≡ new.volume.appended
+  pub waits_it : waits entry ≡ true
+  pub ran : old.volume.halted ≡ None
+  pub runs : new.volume.halted ≡ None
+
+-- it doesn't wait, or the volume halts
+pub record IsPending (l : Line) (old new : State) : Type 0 where
+  pub entry : Entry
+  pub joins : Joins l old new entry
+  pub why : IsTakenAs entry false ⊎ Halts old new
+
+pub record JoinsNone (old new : State) : Type 0 where
+  pub entries : new.volume.entries ≡ old.volume.entries
+  pub appended : new.volume.appended ≡ old.volume.appended
+
+abbrev pub LineIs : Line → State → State → Answered → Type 0
+LineIs l old new (answers.Durable number) = IsDurable l old new number
+LineIs l old new answers.Pending = IsPending l old new
+LineIs l old new answers.NoMemory = JoinsNone old new
+
+-- ---- several lines
+
+-- while the volume runs, all entries that wait were told; once it has halted, the first ones were
+pub record IsTold (halted : Option Fault) (history : List Entry) (told : List ℕ) : Type 0 where
+  pub waiting : List Bool
+  pub are : AreTakenAs history waiting
+  pub running : halted ≡ None → told ≡ waiting_from 1 waiting
+  pub first : (n : ℕ) × (told ≡ take n (waiting_from 1 waiting))
+
+-- these lines have their entries since the mount
+pub record HasServed (old : State) (lines : List Line) (told : List ℕ) (now : State) : Type 0 where
+  pub entries : AreEntriesOf lines now.volume.entries
+  pub appended : now.volume.appended ≡ length lines
+  pub told_is : IsTold now.volume.halted now.volume.entries told
+  pub may : MayCall now
+  pub count : now.volume.count ≡ old.volume.count
+  pub room : now.volume.room ≡ old.volume.room
+  pub pages : now.pages ≡ old.pages
+  pub low : Grows old.volume.faults now.volume.faults
+  pub high : Grows old.high now.high
+  pub halted : (now.volume.halted ≡ None) ⊎ PartRose old now
+  pub calm : (any_failed now.volume.entries ≡ false) ⊎ PartRose old now
+
+-- a volume as a mount leaves it
+pub record IsFresh (s : State) : Type 0 where
+  pub entries : s.volume.entries ≡ []
+  pub appended : s.volume.appended ≡ 0
+  pub running : s.volume.halted ≡ None
+  pub may : MayCall s
+
+abbrev pub ServedIs : State → List Line → List ℕ → State → Served → Type 0
+ServedIs old lines told now serves.All = HasServed old lines told now
+ServedIs old lines told now serves.NoMemory = (n : ℕ) × (n ≤ length lines) × HasServed old (take n lines) told now

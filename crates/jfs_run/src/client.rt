@@ -1,0 +1,112 @@
+//! The one client of a run.
+
+ghost use Rattle.std.specs.Prelude.{◌≡◌, ◌≤◌, ◌<◌, ◌+◌, ◌-◌, ◌^◌, ℕ, [], length, vec_capacity};
+ghost use Rattle.jfs_plain.specs.Limits.{FitsRequest};
+ghost use Rattle.jfs_script.specs.Script.{AllFit};
+ghost use Rattle.jfs_served.specs.halves.specs.Parts.{Parts};
+ghost use Rattle.jfs_run.specs.Legal.{GoOn, LineLeaves, LinesLeave};
+ghost use Rattle.jfs_run.specs.Serving.{state, MayCall, Keeps, LineIs, IsFresh, ServedIs};
+
+use jfs_bits::Moment;
+use jfs_disk::Disk;
+use jfs_plain::Line;
+use jfs_served::call::{Outcome, call_with_log};
+use jfs_served::volume_calls::{PointText, commit};
+use jfs_unmount::mounted::Mounted;
+use std::alloc::Global;
+
+/// The number of the client whose script is the first.
+const FIRST_CLIENT: u32 = 1;
+
+/// What became of a client's lines.
+#[derive(Clone, Copy, PartialEq, Eq, Debug)]
+pub enum Served {
+    /// Each has its entry.
+    All,
+    /// Memory ran out at one of them, and it was the last that was begun.
+    NoMemory,
+}
+
+/// What became of a line.
+#[derive(Clone, Copy, PartialEq, Eq, Debug)]
+pub enum Answered {
+    /// Its call waits, and the entry with this number is durable.
+    Durable { entry: u64 },
+    /// It has an entry, which doesn't wait, or the volume has halted.
+    Pending,
+    /// It has no entry.
+    NoMemory,
+}
+
+/// Does the calls of a script one after the other at a moment. A call that waits is followed by a commit; where that succeeds, its entry's number is told.
+pub fn serve<D: Disk>(
+    alloc: Global,
+    m: &mut Mounted<D>,
+    point: &mut PointText,
+    lines: &[Line],
+    now: Moment,
+    told: &mut Vec<u64>,
+) -> Served
+    requires fits { AllFit lines.now }
+    requires number { length lines.now < 2 ^ 32 - 1 }
+    requires fresh { IsFresh (state D.Disk m.old.volume m.old.log) }
+    requires few { m.old.volume.faults + D.fault_count m.old.log.part < 2 ^ 64 }
+    requires none { told.old.items ≡ [] }
+    requires room { length lines.now ≤ vec_capacity told.old }
+    ensures served { ServedIs (state D.Disk m.old.volume m.old.log) lines.now told.new.items (state D.Disk m.new.volume m.new.log) result }
+    ensures legal { D.tells → (area : ℕ → ℕ) (log_pages : ℕ) (start : Parts) → GoOn area log_pages now start m.old.volume.entries m.old.volume → LinesLeave area log_pages now start m.new.volume result }
+{
+    for line in lines {
+        match serve_line(alloc, m, point, line, now) {
+            Answered::Durable { entry } => match told.push(entry) {
+                Ok(()) => {}
+                Err(_) => unreachable!(),
+            },
+            Answered::Pending => {}
+            Answered::NoMemory => return Served::NoMemory,
+        }
+    }
+    Served::All
+}
+
+/// Does the call of a line, and where it waits a commit.
+fn serve_line<D: Disk>(
+    alloc: Global,
+    m: &mut Mounted<D>,
+    point: &mut PointText,
+    line: &Line,
+    now: Moment,
+) -> Answered
+    requires fits { FitsRequest line.now.request }
+    requires number { m.old.volume.appended + 1 < 2 ^ 32 }
+    requires may { MayCall (state D.Disk m.old.volume m.old.log) }
+    ensures keeps { Keeps (state D.Disk m.old.volume m.old.log) (state D.Disk m.new.volume m.new.log) }
+    ensures line { LineIs line.now (state D.Disk m.old.volume m.old.log) (state D.Disk m.new.volume m.new.log) result }
+    ensures legal { D.tells → (area : ℕ → ℕ) (log_pages : ℕ) (start : Parts) → GoOn area log_pages now start m.old.volume.entries m.old.volume → LineLeaves area log_pages now start m.new.volume result }
+{
+    match call_with_log(
+        alloc,
+        &mut m.volume,
+        &mut m.log,
+        point,
+        FIRST_CLIENT,
+        line.number,
+        &line.request,
+        now,
+    ) {
+        Outcome::Replied { entry, waits, .. } => {
+            if !waits {
+                return Answered::Pending;
+            }
+            if m.volume.halted().is_some() {
+                return Answered::Pending;
+            }
+            match commit(&mut m.volume, &mut m.log) {
+                Ok(()) => Answered::Durable { entry },
+                Err(_) => Answered::Pending,
+            }
+        }
+        Outcome::NoMemory => Answered::NoMemory,
+        Outcome::NeedsLog => unreachable!(),
+    }
+}

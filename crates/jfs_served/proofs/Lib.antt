@@ -1,0 +1,13 @@
+pub mod Deep
+pub mod Room
+pub mod Told
+pub mod Keeps
+pub mod Between
+pub mod Replies
+pub mod Given
+pub mod Entered
+pub mod Changed
+pub mod Called
+pub mod Mounted
+pub mod History
+pub mod Torn

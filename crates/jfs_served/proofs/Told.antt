@@ -1,0 +1,72 @@
+-- Clauses of a disk that may tell its contents, where it does.
+use Rattle.std.specs.Bool.{⊤}
+use Rattle.std.proofs.Common.{◌≡◌, ℕ, List, ◌⊎◌, inl, inr, Some}
+use Rattle.jfs_disk.specs.Image.{Image}
+use Rattle.jfs_ranges.specs.declared.edit.Edit.{Edit}
+use Rattle.jfs_super.specs.declared.fields.Super.{Super}
+use Rattle.jfs_call.specs.volume.specs.Asked.{IsAskedOf}
+use Rattle.jfs_call.specs.volume.specs.Called.{JoinsWith, GoesOn, CallIs}
+use Rattle.jfs_call.specs.volume.specs.declared.calling.Called.{Called}
+use Rattle.jfs_call.specs.volume.specs.declared.calling.Called.TheVariants.{Entered, NoRoom, NoMemory, Failed, Unfit}
+use Rattle.jfs_call.specs.volume.specs.Settles.{StaysShown, HomesAlone}
+use Rattle.jfs_call.specs.volume.specs.data_steps.specs.declared.pages.DataPage.{DataPage}
+use Rattle.jfs_call.specs.halves.specs.Log.{LogParts}
+use Rattle.jfs_call.specs.halves.specs.Parts.{Parts}
+use Rattle.jfs_call.specs.plain.specs.declared.call.Entry.{Entry}
+use Rattle.jfs_mounted.specs.Mount.{IsMountOf}
+use Rattle.jfs_served.specs.Step.{IsAsked}
+
+module _ (tells crashes : Type 0) (told : tells) where
+  pub told_asked : (old mid : Parts) → IsAskedOf tells crashes old mid → IsAsked old mid
+  told_asked old mid a = record { parts = a.parts; view = a.view told }
+
+  told_on : (old new : Parts) → GoesOn tells old new → GoesOn ⊤ old new
+  told_on old new g = record { halted = g.halted; view = λ t. g.view told; faults = g.faults }
+
+  pub told_joins : (entry : Entry) (tx : List Edit) (put : List DataPage) (number : ℕ) (old new : Parts) → JoinsWith tells entry tx put number old new → JoinsWith ⊤ entry tx put number old new
+  told_joins entry tx put number old new j = record {
+    notes = j.notes;
+    marks = j.marks;
+    each = j.each;
+    loggable = j.loggable;
+    marks_are = λ t. j.marks_are told;
+    behind = j.behind;
+    gone = j.gone;
+    adds = j.adds;
+    number_is = j.number_is;
+    clean = j.clean;
+    whole = λ t. j.whole told;
+    shows = λ t. j.shows told;
+    faults = j.faults;
+  }
+
+  pub told_called : (entry : Entry) (tx : List Edit) (put : List DataPage) (old new : Parts) (called : Called) → CallIs tells entry tx put old new called → CallIs ⊤ entry tx put old new called
+  told_called entry tx put old new (Entered number) j = told_joins entry tx put number old new j
+  told_called entry tx put old new NoRoom (back, on, full) = (back, told_on old new on, full)
+  told_called entry tx put old new NoMemory (back, on) = (back, told_on old new on)
+  told_called entry tx put old new Unfit (back, on) = (back, told_on old new on)
+  told_called entry tx put old new (Failed fault) (back, fails) = (back, record { is_fault = fails.is_fault; halted = by fails.halted })
+    where
+      by : ((new.halted ≡ old.halted) × (tells → new.view ≡ old.view)) ⊎ (new.halted ≡ Some fault) → ((new.halted ≡ old.halted) × (⊤ → new.view ≡ old.view)) ⊎ (new.halted ≡ Some fault)
+      by (inl (same, view)) = inl (same, λ t. view told)
+      by (inr halts) = inr halts
+
+  pub told_shown : (old new : Parts) → StaysShown tells old new → StaysShown ⊤ old new
+  told_shown old new s = record { block_places = s.block_places; inode_places = s.inode_places; view = λ t. s.view told }
+
+  pub told_home : (old new : Parts) → HomesAlone tells old new → HomesAlone ⊤ old new
+  told_home old new h = record { parts = h.parts; view = λ t. h.view told }
+
+  pub told_mount : (s : Super) (old : Image) (volume : Parts) (log : LogParts) → IsMountOf tells crashes s old volume log → IsMountOf ⊤ ⊥ s old volume log
+  told_mount s old volume log m = record {
+    pages = m.pages;
+    maps = m.maps;
+    fresh = λ seen asked t c. m.fresh seen asked (λ e. told) (λ e. absurd (c e));
+    log_fresh = λ seen asked t c. m.log_fresh seen asked (λ e. told) (λ e. absurd (c e));
+    marked = λ t. m.marked told;
+    superblock = λ t. m.superblock told;
+    rest = m.rest;
+    has_maps = m.has_maps;
+    found = λ t. m.found told;
+    keeps = λ t. m.keeps told;
+  }
