@@ -9,13 +9,13 @@ use Rattle.jfs_disk.specs.Image.{Image, page_of, ArePages}
 use Rattle.jfs_disk.specs.declared.disk.Disk.{Ghosts}
 use Rattle.jfs_super.specs.declared.fields.Super.{Super}
 use Rattle.jfs_super.proofs.Rules.{accepted_pages}
-use Rattle.jfs_redo.specs.mount_rules.specs.Subject.{Subject, subject_of}
-use Rattle.jfs_redo.specs.mount_rules.specs.Mount.{BadMount, broken_mount}
-use Rattle.jfs_findings.specs.Findings.{SaysUnless, AreFindings}
-use Rattle.jfs_findings.specs.declared.finding.Finding.{Finding}
-use Rattle.jfs_findings.specs.declared.finding.FindingKind.TheVariants as kinds
+use Rattle.jfs_findings_new.specs.mount_rules.specs.Subject.{Subject, subject_of}
+use Rattle.jfs_findings_new.specs.mount_rules.specs.Mount.{BadMount, broken_mount}
+use Rattle.jfs_findings_new.specs.findings.specs.Findings.{SaysUnless, AreFindings}
+use Rattle.jfs_findings_new.specs.findings.specs.declared.finding.Finding.{Finding}
+use Rattle.jfs_findings_new.specs.findings.specs.declared.finding.FindingKind.TheVariants as kinds
 use Rattle.jfs_check.specs.Checked.{AreCounted}
-use Rattle.jfs_findings.proofs.OneList.{one_list}
+use Rattle.jfs_findings_new.specs.findings.proofs.OneList.{one_list}
 use Rattle.jfs_command.specs.declared.check.Listed.{Listed}
 use Rattle.jfs_command.specs.declared.status.Status.TheVariants.{Done, Found}
 use Rattle.jfs_command.specs.declared.status.Stop.TheVariants as stops
@@ -25,23 +25,15 @@ use Rattle.jfs_command.specs.declared.outcome.Outcome.{Outcome}
 use Rattle.jfs_command.specs.Status.{Kind, Finishes, Refuses, IsOwn, kind_of}
 use Rattle.jfs_command.specs.Count.{Stays}
 use Rattle.jfs_command.specs.Meaning.{Answer, Performs, refused}
-use Rattle.jfs_command.specs.Superblock.{superblock_of, AfterState, Looks}
+use Rattle.jfs_command.specs.Superblock.{superblock_of, Looks}
 use Rattle.jfs_command.specs.Check.{is_taken, finding_line, found_line, clean_line, status_for, answer_for, ListsFindings, CheckSaysOneThing, CheckSays, LooksAtVolume, IsRefused, CheckEnds, check_meaning}
+use Rattle.jfs_command.proofs.SuperblockLemmas.{next_after, one_after_state}
 use Rattle.jfs_command.proofs.Looking.{Behind, GoesOn, ShowsSame, faults_of, comes, no_memory, disk_failed, seen, goes_on}
 
 -- ---- the check is one that may follow a look at the superblock
 
 abbrev pub check_behind : Behind
 check_behind = record { looks = LooksAtVolume; says = λ tells held. CheckSays tells held.image; judged = IsRefused }
-
--- what is said where the state is taken is what counts
-pub next_after : (taken : Bool) (state : ℕ) (says said : Answer → Type 0) (answer : Answer) → (taken ≡ true → says answer → said answer) → AfterState taken state says answer → AfterState taken state said answer
-next_after true state says said answer next it = next refl it
-next_after false state says said answer next it = it
-
-one_after_state : (taken : Bool) (state : ℕ) (says : Answer → Type 0) (x y : Answer) → (says x → says y → x.status ≡ y.status) → AfterState taken state says x → AfterState taken state says y → x.status ≡ y.status
-one_after_state true state says x y one a b = one a b
-one_after_state false state says x y one a b = ap (λ (z : Answer). z.status) (a ∙ sym b)
 
 moved : (tells : Type 0) (s t : Subject) (answer : Answer) → (tells → s ≡ t) → ListsFindings tells s answer → ListsFindings tells t answer
 moved tells s t answer same c = record {

@@ -8,10 +8,10 @@ use Rattle.jfs_disk.specs.Moment.{now_of}
 use Rattle.jfs_super.specs.declared.fields.Super.{Super}
 use Rattle.jfs_plain.specs.Moves.{Same}
 use Rattle.jfs_plain.specs.Plain.{new_tree}
-use Rattle.jfs_redo.specs.meaning.specs.Image.{tree_of, IsConsistentImage}
+use Rattle.jfs_findings_new.specs.meaning.specs.Image.{tree_of, IsConsistentImage}
 use Rattle.jfs_findings_new.specs.new_volume.proofs.Tree.{new_volume_tree}
-use Rattle.jfs_redo.specs.mount_rules.specs.Subject.{subject_of}
-use Rattle.jfs_findings.specs.Clean.{HasNoFinding}
+use Rattle.jfs_findings_new.specs.mount_rules.specs.Subject.{subject_of}
+use Rattle.jfs_findings_new.specs.findings.specs.Clean.{HasNoFinding}
 use Rattle.jfs_findings_new.proofs.NewClean.{new_clean}
 use Rattle.jfs_format.specs.declared.formatter.FormatError.{FormatError}
 use Rattle.jfs_format.specs.declared.formatter.FormatError.TheVariants as errors

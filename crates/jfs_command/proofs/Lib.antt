@@ -13,4 +13,8 @@ pub mod Checking
 pub mod RedoSaid
 pub mod RedoMounted
 pub mod Redoing
+pub mod Scripted
+pub mod RunSaid
+pub mod RunLines
+pub mod Running
 pub mod Concluding

@@ -1,5 +1,5 @@
 -- What a job's function answers is what the command means.
-use Rattle.std.proofs.Common.{◌≡◌, List, map, refl}
+use Rattle.std.proofs.Common.{List, map, refl}
 use Rattle.std.proofs.lemmas.List.{length-map}
 use Rattle.jfs_bits.specs.declared.descriptor.Moment.{Moment}
 use Rattle.jfs_disk.specs.declared.disk.Disk.{Ghosts as DiskMembers}

@@ -18,7 +18,7 @@ use Rattle.jfs_command.specs.Meaning.{Answer, finished, refused}
 use Rattle.jfs_command.specs.Superblock.{AfterState}
 use Rattle.jfs_command.specs.Redo.{redone_text, is_clean, is_mounted, MountedSays, redoes, is_foreign, is_bad, breaks_maps, UnlessClean, RedoSays, IsMounted, HasRedone, HasDone, HasBegun, end_of, work_with, RedoEnds}
 
-not_clean : (state : ℕ) → is_mounted state ≡ true → is_clean state ≡ false
+pub not_clean : (state : ℕ) → is_mounted state ≡ true → is_clean state ≡ false
 not_clean state mounted = rw (eqb-true state 1 mounted) refl
 
 after : (clean mounted : Bool) (state : ℕ) (says : Answer → Type 0) (answer : Answer) → clean ≡ false → mounted ≡ true → says answer → UnlessClean clean (AfterState mounted state says) answer

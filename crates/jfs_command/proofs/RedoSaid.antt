@@ -13,13 +13,13 @@ use Rattle.jfs_logpages.specs.ReadLog.{IsReadAs, IsNotOwn, BreaksLog}
 use Rattle.jfs_logpages.specs.declared.error.RingError.TheVariants as ring
 use Rattle.jfs_logpages.proofs.OneAnswer.{has-one, looks, records-once}
 use Rattle.jfs_redo.specs.records.specs.Committed.{committed}
-use Rattle.jfs_redo.specs.mount_rules.specs.Subject.{subject_of}
-use Rattle.jfs_redo.specs.mount_rules.specs.Mount.{BadMount, broken_maps}
+use Rattle.jfs_findings_new.specs.mount_rules.specs.Subject.{subject_of}
+use Rattle.jfs_findings_new.specs.mount_rules.specs.Mount.{BadMount, broken_maps}
 use Rattle.jfs_command.specs.declared.status.Status.TheVariants.{BadImage}
 use Rattle.jfs_command.specs.Meaning.{Answer, finished, refused}
 use Rattle.jfs_command.specs.Superblock.{AfterState}
 use Rattle.jfs_command.specs.Redo.{redone_text, is_clean, is_mounted, Commits, MountedSays, redoes, is_foreign, is_bad, breaks_maps, UnlessClean, RedoSays, RedoSaysOneThing}
-use Rattle.jfs_command.proofs.Checking.{next_after}
+use Rattle.jfs_command.proofs.SuperblockLemmas.{next_after}
 use Rattle.jfs_command.proofs.LogShown.{one_refusal, one_list}
 
 pub long : (s : Super) (pages : ℕ) → IsAccepted s pages → 2 < s.logpxd.len
@@ -46,7 +46,7 @@ module _ (s : Super) (a b : Image) (some : 2 < s.logpxd.len) (same : (n : ℕ) �
   same_maps : (o : Option BadMount) → broken_maps (subject_of s (page_of a)) ≡ o → broken_maps (subject_of s (page_of b)) ≡ o
   same_maps o is = ap (λ (page : ℕ → List ℕ). broken_maps (subject_of s page)) (fun_ext same) ∙ is
 
-mounted_same : (tells : Type 0) (s : Super) (a b : Image) (answer : Answer) → 2 < s.logpxd.len → (tells → (n : ℕ) → page_of b n ≡ page_of a n) → MountedSays tells s a answer → MountedSays tells s b answer
+pub mounted_same : (tells : Type 0) (s : Super) (a b : Image) (answer : Answer) → 2 < s.logpxd.len → (tells → (n : ℕ) → page_of b n ≡ page_of a n) → MountedSays tells s a answer → MountedSays tells s b answer
 mounted_same tells s a b answer some same (redoes count e all) =
     redoes count e (λ told. let it = all told in (it.0, same_commits s a b some (same told) it.0 it.1, it.2, same_maps s a b some (same told) None it.3))
 mounted_same tells s a b answer some same (is_foreign label e is) =
@@ -90,7 +90,7 @@ module _ (s : Super) (image : Image) (some : 2 < s.logpxd.len) where
   one_bad : (x y : BadMount) (o : Option BadMount) → o ≡ Some x → o ≡ Some y → x ≡ y
   one_bad x y o is_x is_y = let e = sym is_x ∙ is_y in cc
 
-  one_mounted : (x y : Answer) → MountedSays ⊤ s image x → MountedSays ⊤ s image y → x ≡ y
+  pub one_mounted : (x y : Answer) → MountedSays ⊤ s image x → MountedSays ⊤ s image y → x ≡ y
   one_mounted x y (redoes count e all) (redoes count' e' all') =
       let it = all tt in let other = all' tt in
       e ∙ ap (λ (n : ℕ). finished (redone_text n)) (it.2 ∙ ap (λ (txs : List (List Edit)). length txs) (once it.0 other.0 it.1 other.1) ∙ sym other.2) ∙ sym e'
@@ -128,7 +128,7 @@ one_thing pages s image a b accepted x y = one_said s image (long s pages accept
 
 -- ---- of a disk that tells, all is said
 
-mounted_told : (tells : Type 0) (s : Super) (image : Image) (answer : Answer) → tells → MountedSays tells s image answer → MountedSays ⊤ s image answer
+pub mounted_told : (tells : Type 0) (s : Super) (image : Image) (answer : Answer) → tells → MountedSays tells s image answer → MountedSays ⊤ s image answer
 mounted_told tells s image answer told (redoes count e all) = redoes count e (λ _. all told)
 mounted_told tells s image answer told (is_foreign label e is) = is_foreign label e (λ _. is told)
 mounted_told tells s image answer told (is_bad address rule e is) = is_bad address rule e (λ _. is told)

@@ -12,7 +12,7 @@ use Rattle.jfs_super.specs.Rules.{rows, shape_rows, IsAccepted}
 use Rattle.jfs_super.proofs.Rules.{accepted_pages}
 use Rattle.jfs_command.specs.Held.{Held}
 use Rattle.jfs_command.specs.Meaning.{Answer}
-use Rattle.jfs_command.specs.Superblock.{superblock_of, AfterRules, AfterSuperblock}
+use Rattle.jfs_command.specs.Superblock.{superblock_of, AfterRules, AfterSuperblock, AfterState}
 
 fails : {A : Type 0} (b : Bool) (x y : A) → b ≡ false → cond b x y ≡ y
 fails b x y e = rw e refl
@@ -63,3 +63,12 @@ one_after a says x y next said also = by (first_broken (rows (superblock_of a) a
     by : (o : Option BadSuper) → first_broken (rows (superblock_of a) a.pages) ≡ o → AfterRules o (says (superblock_of a)) x → AfterRules o (says (superblock_of a)) y → x.status ≡ y.status
     by None e said also = next e said also
     by (Some bad) e said also = ap (λ (z : Answer). z.status) (said ∙ sym also)
+
+-- what is said where the state is taken is what counts
+pub next_after : (taken : Bool) (state : ℕ) (says said : Answer → Type 0) (answer : Answer) → (taken ≡ true → says answer → said answer) → AfterState taken state says answer → AfterState taken state said answer
+next_after true state says said answer next it = next refl it
+next_after false state says said answer next it = it
+
+pub one_after_state : (taken : Bool) (state : ℕ) (says : Answer → Type 0) (x y : Answer) → (says x → says y → x.status ≡ y.status) → AfterState taken state says x → AfterState taken state says y → x.status ≡ y.status
+one_after_state true state says x y one a b = one a b
+one_after_state false state says x y one a b = ap (λ (z : Answer). z.status) (a ∙ sym b)

@@ -5,10 +5,10 @@ use Rattle.std.specs.Fmt.{decimal}
 use Rattle.jfs_disk.specs.Image.{Image, page_of}
 use Rattle.jfs_super.specs.declared.fields.Super.{Super}
 use Rattle.jfs_super.specs.Rules.{IsAccepted}
-use Rattle.jfs_redo.specs.mount_rules.specs.Subject.{Subject, subject_of}
-use Rattle.jfs_findings.specs.Kind.{number_of, name_of}
-use Rattle.jfs_findings.specs.Findings.{AreFindings}
-use Rattle.jfs_findings.specs.declared.finding.Finding.{Finding}
+use Rattle.jfs_findings_new.specs.mount_rules.specs.Subject.{Subject, subject_of}
+use Rattle.jfs_findings_new.specs.findings.specs.Kind.{number_of, name_of}
+use Rattle.jfs_findings_new.specs.findings.specs.Findings.{AreFindings}
+use Rattle.jfs_findings_new.specs.findings.specs.declared.finding.Finding.{Finding}
 use Rattle.jfs_check.specs.Checked.{AreCounted}
 use Rattle.jfs_check.specs.declared.checked.CheckError.{CheckError}
 use Rattle.jfs_check.specs.declared.checked.CheckError.TheVariants as errors

@@ -14,16 +14,16 @@ use Rattle.jfs_format.specs.Superblock.{new_super}
 use Rattle.jfs_format.specs.Volume.{wanted, IsNewVolume, IsOnTheWay, IsUnnamed}
 use Rattle.jfs_plain.specs.Moves.{Same}
 use Rattle.jfs_plain.specs.Plain.{new_tree}
-use Rattle.jfs_redo.specs.meaning.specs.Image.{tree_of, IsConsistentImage}
-use Rattle.jfs_redo.specs.mount_rules.specs.Subject.{subject_of}
-use Rattle.jfs_findings.specs.Clean.{HasNoFinding}
+use Rattle.jfs_findings_new.specs.meaning.specs.Image.{tree_of, IsConsistentImage}
+use Rattle.jfs_findings_new.specs.mount_rules.specs.Subject.{subject_of}
+use Rattle.jfs_findings_new.specs.findings.specs.Clean.{HasNoFinding}
 use Rattle.jfs_command.specs.declared.status.Status.{Status}
 use Rattle.jfs_command.specs.declared.status.Status.TheVariants.{Done, BadSize}
 use Rattle.jfs_command.specs.declared.status.Stop.TheVariants as stops
 use Rattle.jfs_command.specs.declared.outcome.End.{End}
 use Rattle.jfs_command.specs.declared.outcome.End.TheVariants.{Own, Stopped}
 use Rattle.jfs_command.specs.Held.{Held, Work, ChangesNothing}
-use Rattle.jfs_command.specs.Meaning.{Meaning, Answer, finished, refused, every_status}
+use Rattle.jfs_command.specs.Meaning.{Meaning, Answer, finished, refused, every_status, every_image}
 use Rattle.jfs_command.specs.Superblock.{superblock_of}
 
 -- how many blocks the file system part has, and how many of them are free
@@ -69,6 +69,7 @@ format_meaning uuid label now = record {
   looks = λ held n. ⊥;
   says = λ tells held answer. FormatSays held.pages answer;
   judged = every_status;
+  decides = every_image;
   does = λ tells crashes held status work. Formats status tells crashes (wanted held.pages uuid label now) held work;
   stops = λ stop faults tells crashes held work. IsFormattable held.pages × (work.text ≡ []) × HasBegun tells crashes (wanted held.pages uuid label now) held work;
 }

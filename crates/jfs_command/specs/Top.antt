@@ -17,7 +17,7 @@ use Rattle.jfs_command.specs.Status.{Kind, Finishes, Refuses, RefusesWord, ByScr
 use Rattle.jfs_command.specs.Count.{Count, Faults, Stays, HasRisen}
 use Rattle.jfs_command.specs.Held.{Held, IsHeld, Work, held_of, ChangesNothing}
 use Rattle.jfs_command.specs.Inputs.{Inputs, AreInputs, source_faults}
-use Rattle.jfs_command.specs.Meaning.{Answer, ComesTo, StopsBy, EndsBy, work_of}
+use Rattle.jfs_command.specs.Meaning.{Meaning, Answer, ComesTo, StopsBy, EndsBy, work_of}
 use Rattle.jfs_command.specs.Meanings.{meaning_of}
 use Rattle.jfs_command.specs.Words.{scripts_asked}
 use Rattle.jfs_command.specs.Print.{IsFront, Puts}
@@ -121,13 +121,13 @@ pub record IsAnswered {D S K : Type 0} (d : DiskMembers D) (s : SourceMembers S)
   pub ends : Ends (run_of d s k asked old new inputs held (record { text = whole; history = history; told = told; held = held_of d new.disk })) status
   pub prints : Prints (run_of d s k asked old new inputs held (record { text = whole; history = history; told = told; held = held_of d new.disk })) status text
 
--- Where the command means an answer of what the disk holds and the sources give, and no count rises, the status is that answer's,
+-- Where the command means an answer of what the disk holds, which decides, and the sources give, and no count rises, the status is that answer's,
 -- or memory ran out. So an image that is accepted is never refused.
 abbrev pub IsComplete : {D S K : Type 0} → DiskMembers D → SourceMembers S → SinkMembers K → Result Command Usage → Moment → Devices D S K → Devices D S K → Status → Type 0
 IsComplete d s k asked now old new status =
     d.tells → (s.tells ⊎ (old.scripts ≡ []))
     → (held : Held) → IsHeld d old.disk held → (inputs : Inputs) → AreInputs s old.scripts now inputs
-    → (command : Command) → asked ≡ Ok command → (answer : Answer) → (meaning_of command inputs).says d.tells held answer
+    → (command : Command) → asked ≡ Ok command → (answer : Answer) → (meaning_of command inputs).says d.tells held answer → (meaning_of command inputs).decides held.image
     → ¬ (Rose (d.fault_count old.disk) (d.fault_count new.disk)) → ¬ (Rose (source_faults s old.scripts) (source_faults s new.scripts)) → ¬ (Rose (k.fault_count old.out) (k.fault_count new.out))
     → (status ≡ answer.status) ⊎ (status ≡ OutOfMemory)
 
@@ -139,11 +139,15 @@ pub record LeavesRest {D S K : Type 0} (d : DiskMembers D) (s : SourceMembers S)
   pub source_counts : source_faults s old.scripts ≤ source_faults s new.scripts
   pub sink_count : k.fault_count old.out ≤ k.fault_count new.out
 
--- A command's own function does what the command means: its end, and the faults of the disk and the sources meanwhile.
-pub record PerformsCommand {D S : Type 0} (d : DiskMembers D) (s : SourceMembers S) (command : Command) (now : Moment) (old new : D) (scripts later_scripts : List S) (outcome : Outcome) : Type 0 where
+-- A function does what a command means that is given these inputs: its end, and the faults of the disk and the sources meanwhile.
+pub record PerformsBy {D S : Type 0} (d : DiskMembers D) (s : SourceMembers S) (meaning : Inputs → Meaning) (now : Moment) (old new : D) (scripts later_scripts : List S) (outcome : Outcome) : Type 0 where
   pub inputs : Inputs
   pub given : AreInputs s scripts now inputs
   pub held : Held
   pub before : IsHeld d old held
-  pub ends : EndsBy (meaning_of command inputs) d.tells d.tells_crashes held (work_of outcome (held_of d new))
+  pub ends : EndsBy (meaning inputs) d.tells d.tells_crashes held (work_of outcome (held_of d new))
       (record { disk = record { before = d.fault_count old; now = d.fault_count new }; scripts = record { before = source_faults s scripts; now = source_faults s later_scripts } }) outcome.end
+
+-- a command's own function does what the command means
+abbrev pub PerformsCommand : {D S : Type 0} → DiskMembers D → SourceMembers S → Command → Moment → D → D → List S → List S → Outcome → Type 0
+PerformsCommand d s command now old new scripts later_scripts outcome = PerformsBy d s (meaning_of command) now old new scripts later_scripts outcome

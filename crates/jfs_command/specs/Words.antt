@@ -1,5 +1,5 @@
 -- The grammar of the words of a command.
-use Rattle.std.specs.Prelude.{◌≡◌, ℕ, ◌-◌, Bool, false, not, nat_le, ◌&&◌, ◌==◌, if◌then◌else◌, List, [], ◌∷◌, length, map, codes, Option, Some, None, Result, Ok, Err}
+use Rattle.std.specs.Prelude.{◌≡◌, ℕ, suc, ◌-◌, Bool, true, false, not, nat_le, ◌&&◌, ◌==◌, if◌then◌else◌, List, [], ◌∷◌, length, map, codes, Option, Some, None, Result, Ok, Err}
 use Rattle.std.specs.List.{list_all, range_with_len}
 use Rattle.std.specs.Str.{is_utf8, bytes_eq}
 use Rattle.std.specs.Global.{Vec}
@@ -9,7 +9,7 @@ use Rattle.jfs_command.specs.declared.words.Usage.{Usage}
 use Rattle.jfs_command.specs.declared.words.Command.{Command}
 use Rattle.jfs_command.specs.declared.words.Scripts.{Scripts}
 use Rattle.jfs_command.specs.declared.words.Job.{Job}
-use Rattle.jfs_command.specs.declared.words.Job.TheVariants.{Super, Log, Check, Redo, Format}
+use Rattle.jfs_command.specs.declared.words.Job.TheVariants.{Super, Log, Check, Redo, Format, Run}
 use Rattle.jfs_command.specs.declared.words.PathsError.{PathsError}
 use Rattle.jfs_command.specs.declared.words.PathsError.TheVariants as errors
 
@@ -74,6 +74,22 @@ abbrev pub image_and_uuid : List (List ℕ) → Result Command Usage
 image_and_uuid [] = usage 2
 image_and_uuid (image ∷ rest) = if is_name image then with_uuid rest else usage 2
 
+-- a run of the script that the word behind the image names; the image is the word at this place
+abbrev pub run_at : Bool → ℕ → Command
+run_at is_left image = record { job = Run is_left; image = image; scripts = record { first = suc image; end = suc (suc image) } }
+
+-- an image and a script, and nothing else; the first of these words stands at this place
+abbrev pub image_and_script : Bool → ℕ → List (List ℕ) → Result Command Usage
+image_and_script is_left place [] = usage place
+image_and_script is_left place (image ∷ []) = if is_name image then usage (suc place) else usage place
+image_and_script is_left place (image ∷ script ∷ []) = if is_name image then (if is_name script then Ok (run_at is_left place) else usage (suc place)) else usage place
+image_and_script is_left place (image ∷ script ∷ more ∷ rest) = if is_name image then (if is_name script then usage (suc (suc place)) else usage (suc place)) else usage place
+
+-- the words of `run`: perhaps `--leave`, then an image and a script
+abbrev pub leave_and_rest : List (List ℕ) → Result Command Usage
+leave_and_rest [] = usage 2
+leave_and_rest (first ∷ rest) = if bytes_eq first (codes "--leave") then image_and_script true 3 rest else image_and_script false 2 (first ∷ rest)
+
 -- What the words ask for; else the first word that leaves the grammar, or the place after the last where one is missing.
 abbrev pub command_of : List (List ℕ) → Result Command Usage
 command_of [] = usage 1
@@ -83,6 +99,7 @@ command_of (first ∷ rest) =
     else if bytes_eq first (codes "check") then image_alone Check rest
     else if bytes_eq first (codes "redo") then image_alone Redo rest
     else if bytes_eq first (codes "format") then image_and_uuid rest
+    else if bytes_eq first (codes "run") then leave_and_rest rest
     else usage 1
 
 -- the words leave the grammar where it says, or memory ran out
@@ -93,6 +110,11 @@ UsageIs errors.Memory asked = Unit {0}
 -- the places of the words that name the command's scripts
 abbrev pub script_words : Command → List ℕ
 script_words command = places_of command.scripts
+
+-- how many scripts a command takes
+abbrev pub scripts_taken : Job → ℕ
+scripts_taken (Run is_left) = 1
+scripts_taken _ = 0
 
 -- the scripts that the words name, none where they leave the grammar
 abbrev pub scripts_asked : Result Command Usage → List ℕ

@@ -12,7 +12,7 @@ use crate::superblock::{SUPERBLOCK, look};
 use jfs_bits::Rule;
 use jfs_check::{CheckError, Checked, check};
 use jfs_disk::Disk;
-use jfs_findings::Finding;
+use jfs_findings_new::findings::Finding;
 use jfs_super::{Super, VolumeState};
 use std::alloc::{AllocError, Global};
 use std::fmt::Write;

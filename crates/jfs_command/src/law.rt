@@ -3,6 +3,7 @@
 ghost use Rattle.jfs_command.specs.Check.{CheckSaysOneThing};
 ghost use Rattle.jfs_command.specs.Log.{LogSaysOneThing};
 ghost use Rattle.jfs_command.specs.Redo.{RedoSaysOneThing};
+ghost use Rattle.jfs_command.specs.Run.{RunSaysOneThing};
 
 /// Of one log one answer is given, text and all.
 pub fn log_says_one_thing()
@@ -17,4 +18,9 @@ pub fn check_says_one_thing()
 /// Of one volume one answer of a redo is given, text and all, where the disk tells.
 pub fn redo_says_one_thing()
     ensures { RedoSaysOneThing }
+{}
+
+/// Of a script and a volume all answers of a run have one status, where the disk tells and redo makes one of it.
+pub fn run_says_one_thing()
+    ensures { RunSaysOneThing }
 {}

@@ -11,6 +11,8 @@ mod outcome;
 mod perform;
 mod print;
 mod redo;
+mod run;
+mod scripts;
 mod show;
 mod status;
 mod superblock;
@@ -18,7 +20,7 @@ mod text;
 mod top;
 mod words;
 
-pub use law::{check_says_one_thing, log_says_one_thing, redo_says_one_thing};
+pub use law::{check_says_one_thing, log_says_one_thing, redo_says_one_thing, run_says_one_thing};
 pub use status::Status;
 pub use top::{Ended, jfs_top, jfs_without_clients};
 pub use words::{Paths, PathsError, Usage, paths_of};

@@ -1,16 +1,18 @@
 //! The work of each command.
 
-ghost use Rattle.std.specs.Prelude.{◌≡◌, ◌≤◌};
-ghost use Rattle.jfs_command.specs.Inputs.{Inputs};
+ghost use Rattle.std.specs.Prelude.{◌≡◌, ◌≤◌, [], length};
+ghost use Rattle.jfs_command.specs.Inputs.{Inputs, source_faults};
 ghost use Rattle.jfs_command.specs.Meaning.{Performs};
 ghost use Rattle.jfs_command.specs.Meanings.{job_meaning};
 ghost use Rattle.jfs_command.specs.Top.{PerformsCommand};
+ghost use Rattle.jfs_command.specs.Words.{scripts_taken};
 
 use crate::check::check_volume;
 use crate::format::format_volume;
 use crate::log::show_log;
 use crate::outcome::Outcome;
 use crate::redo::redo_volume;
+use crate::run::run_scripts;
 use crate::show::show_super;
 use crate::words::{Command, Job};
 use jfs_bits::Moment;
@@ -32,20 +34,26 @@ pub fn perform<D: Disk, S: Source>(
     command: Command,
     now: Moment,
     disk: D,
-    _scripts: &mut Vec<S>,
+    scripts: &mut Vec<S>,
 ) -> Performed<D>
-    ensures meaning { PerformsCommand D.Disk S.Source command now disk result.disk _scripts.old.items _scripts.new.items result.outcome }
+    requires { length scripts.old.items ≡ scripts_taken command.job }
+    ensures meaning { PerformsCommand D.Disk S.Source command now disk result.disk scripts.old.items scripts.new.items result.outcome }
     ensures pages { D.page_count result.disk ≡ D.page_count disk }
     ensures later { D.fault_count disk ≤ D.fault_count result.disk }
-    ensures scripts { _scripts.new ≡ _scripts.old }
+    ensures scripts { scripts.old.items ≡ [] → scripts.new ≡ scripts.old }
+    ensures sources { source_faults S.Source scripts.old.items ≤ source_faults S.Source scripts.new.items }
 {
+    if let Job::Run { is_left } = command.job {
+        return run_scripts(alloc, disk, scripts, now, is_left);
+    }
     let mut disk = disk;
     let outcome = on_disk(alloc, command.job, now, &mut disk);
     Performed { outcome, disk }
 }
 
-/// Does a job that leaves the disk in one piece.
+/// Does a job without scripts, which leaves the disk in one piece.
 fn on_disk<D: Disk>(alloc: Global, job: Job, now: Moment, disk: &mut D) -> Outcome
+    requires { scripts_taken job ≡ 0 }
     ensures meaning { (inputs : Inputs) → inputs.now ≡ now → Performs D.Disk (job_meaning job inputs) disk.old disk.new result }
     ensures pages { D.page_count disk.new ≡ D.page_count disk.old }
     ensures later { D.fault_count disk.old ≤ D.fault_count disk.new }
@@ -56,5 +64,6 @@ fn on_disk<D: Disk>(alloc: Global, job: Job, now: Moment, disk: &mut D) -> Outco
         Job::Check => check_volume(alloc, disk),
         Job::Redo => redo_volume(alloc, disk),
         Job::Format { uuid, label } => format_volume(alloc, disk, uuid, &label, now),
+        Job::Run { .. } => unreachable!(),
     }
 }

@@ -79,8 +79,8 @@ fn redo_mounted<D: Disk>(alloc: Global, disk: &mut D, s: &Super) -> Result<Vec<u
     }
 }
 
-// How the command ends where the volume wasn't redone.
-fn end_of(why: RedoError) -> End
+/// How the command ends where the volume wasn't redone.
+pub fn end_of(why: RedoError) -> End
     ensures { result ≡ end_of why }
 {
     match why {
@@ -96,7 +96,8 @@ fn end_of(why: RedoError) -> End
     }
 }
 
-fn redone_line(alloc: Global, count: u32) -> Result<String, AllocError>
+/// The line that counts the transactions of a log.
+pub fn redone_line(alloc: Global, count: u32) -> Result<String, AllocError>
     ensures { IfOk result (λ text. string_bytes text ≡ redone_text count) }
 {
     format!(in alloc; "redo {count} transactions\n")

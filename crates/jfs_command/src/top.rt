@@ -91,6 +91,7 @@ fn answer<D: Disk, S: Source, K: Sink>(
     scripts: &mut Vec<S>,
     out: &mut K,
 ) -> Ended<D>
+    requires { length scripts.old.items ≡ length (scripts_asked (command_of (texts words.now))) }
     ensures answer { IsAnswered D.Disk S.Source K.Sink (command_of (texts words.now)) now
         (record { disk = disk; scripts = scripts.old.items; out = out.old })
         (record { disk = result.disk; scripts = scripts.new.items; out = out.new })

@@ -1,10 +1,10 @@
 //! The grammar of the words. It is read by hand: there are few commands, and each refusal names its word.
 
-ghost use Rattle.std.specs.Prelude.{◌≡◌, true, Ok, IfOk, IfErr};
+ghost use Rattle.std.specs.Prelude.{◌≡◌, ◌≤◌, true, Ok, IfOk, IfErr};
 ghost use Rattle.std.specs.List.{list_all};
 ghost use Rattle.std.specs.Str.{is_utf8, bytes_eq};
 ghost use Rattle.jfs_format.specs.Superblock.{label_field};
-ghost use Rattle.jfs_command.specs.Words.{texts, is_visible, is_label, with_label, with_uuid, image_and_uuid, is_name, begins_with_dash, command_of, on_image, image_alone, places_of, script_words, UsageIs};
+ghost use Rattle.jfs_command.specs.Words.{texts, is_visible, is_label, with_label, with_uuid, image_and_uuid, is_name, begins_with_dash, command_of, on_image, image_alone, run_at, image_and_script, leave_and_rest, places_of, script_words, UsageIs};
 
 use std::alloc::{AllocError, Global};
 use uuid::Uuid;
@@ -28,6 +28,8 @@ pub enum Job {
     Redo,
     /// Write an empty volume over all pages of the image; behind the label stand zeros.
     Format { uuid: Uuid, label: [u8; 16] },
+    /// Do the calls of a script on the volume of the image, and unmount it, unless it is to be left mounted.
+    Run { is_left: bool },
 }
 
 /// The words that name scripts. They stand one behind the other: from place `first` on, counted from 1, up to `end`, which is the place behind the last of them.
@@ -66,6 +68,21 @@ impl Command {
             job,
             image: 2,
             scripts: Scripts::NONE,
+        }
+    }
+
+    /// A run of the script that the word behind the image names.
+    fn run_at(is_left: bool, image: u32) -> Command
+        requires { image ≤ 3 }
+        ensures { result ≡ run_at is_left image }
+    {
+        Command {
+            job: Job::Run { is_left },
+            image,
+            scripts: Scripts {
+                first: image + 1,
+                end: image + 2,
+            },
         }
     }
 }
@@ -114,6 +131,7 @@ pub fn read_words(words: &[Vec<u8>]) -> Result<Command, Usage>
         [first, rest @ ..] if is_word(first, b"check") => image_alone(Job::Check, rest),
         [first, rest @ ..] if is_word(first, b"redo") => image_alone(Job::Redo, rest),
         [first, rest @ ..] if is_word(first, b"format") => image_and_uuid(rest),
+        [first, rest @ ..] if is_word(first, b"run") => leave_and_rest(rest),
         _ => Err(Usage { word: 1 }),
     }
 }
@@ -165,6 +183,31 @@ fn with_label(uuid: Uuid, words: &[Vec<u8>]) -> Result<Command, Usage>
         })),
         [label, _, ..] if is_label(label) => Err(Usage { word: 5 }),
         _ => Err(Usage { word: 4 }),
+    }
+}
+
+// The words of `run`: perhaps `--leave`, then an image and a script.
+fn leave_and_rest(words: &[Vec<u8>]) -> Result<Command, Usage>
+    ensures { result ≡ leave_and_rest (texts words.now) }
+{
+    match words {
+        [first, rest @ ..] if is_word(first, b"--leave") => image_and_script(true, 3, rest),
+        _ => image_and_script(false, 2, words),
+    }
+}
+
+// An image and a script, and nothing else; the first of these words stands at this place.
+fn image_and_script(is_left: bool, place: u32, words: &[Vec<u8>]) -> Result<Command, Usage>
+    requires { place ≤ 3 }
+    ensures { result ≡ image_and_script is_left place (texts words.now) }
+{
+    match words {
+        [image, script] if is_name(image) && is_name(script) => Ok(Command::run_at(is_left, place)),
+        [image, script, _, ..] if is_name(image) && is_name(script) => Err(Usage {
+            word: place + 2,
+        }),
+        [image, ..] if is_name(image) => Err(Usage { word: place + 1 }),
+        _ => Err(Usage { word: place }),
     }
 }
 

@@ -18,6 +18,8 @@ mod redo;
 #[cfg(test)]
 mod refusals;
 #[cfg(test)]
+mod run;
+#[cfg(test)]
 mod sources;
 #[cfg(test)]
 mod volume;

@@ -1,13 +1,13 @@
 //! A small sound superblock, and runs of the top call on it.
 
-ghost use Rattle.std.specs.Prelude.{◌≡◌, length};
+ghost use Rattle.std.specs.Prelude.{◌≡◌, length, IfOk};
 ghost use Rattle.jfs_command.specs.Words.{texts, command_of, scripts_asked};
 ghost use Rattle.jfs_super.specs.Super.{FitsSuper};
 
 use jfs_bits::{Moment, Pxd, SuperFlags};
-use jfs_command::{Ended, Status, jfs_top};
+use jfs_command::{Ended, Paths, PathsError, Status, jfs_top, paths_of};
 use jfs_disk::{Disk, Fail, Kind, MemDisk, Page, Part};
-use jfs_io::{OpenGate, Sink, SureSink, SureSource};
+use jfs_io::{MemSource, OpenGate, Sink, SureSink};
 use jfs_super::{Super, VolumeState, write_super};
 use std::alloc::{AllocError, Global};
 use std::sync::Wait;
@@ -91,7 +91,7 @@ fn top<R: Threads + Wait + Sync, D: Disk + Send, K: Sink>(
     alloc: Global,
     words: &[Vec<u8>],
     disk: D,
-    scripts: &mut Vec<SureSource>,
+    scripts: &mut Vec<MemSource>,
     out: &mut K,
 ) -> Ended<D>
     requires { length scripts.old.items ≡ length (scripts_asked (command_of (texts words.now))) }
@@ -100,16 +100,63 @@ fn top<R: Threads + Wait + Sync, D: Disk + Send, K: Sink>(
     jfs_top(rt, alloc, words, now, disk, scripts, out, &OpenGate)
 }
 
+/// A script of a run: its text, and which of the calls on its source fail, from the first to the last of them.
+#[derive(Clone, Copy, Debug)]
+pub struct Script<'a> {
+    pub text: &'a str,
+    pub fails: Option<(u64, u64)>,
+}
+
+impl Script<'_> {
+    /// A script whose source doesn't fail.
+    pub fn of(text: &str) -> Script<'_> {
+        Script { text, fails: None }
+    }
+
+    fn source(self, alloc: Global) -> Result<MemSource, AllocError> {
+        let source = MemSource::new(Vec::from_slice(alloc, self.text.as_bytes())?);
+        Ok(match self.fails {
+            Some((first, last)) => source.with_fails(first, last),
+            None => source,
+        })
+    }
+}
+
+/// The places of the words that name scripts, none where they leave the grammar.
+fn places_of(alloc: Global, words: &[Vec<u8>]) -> Result<Vec<u32>, AllocError>
+    ensures { IfOk result (λ places. places.items ≡ scripts_asked (command_of (texts words.now))) }
+{
+    match paths_of(alloc, words) {
+        Ok(Paths { scripts, .. }) => Ok(scripts),
+        Err(PathsError::Usage(_)) => Ok(Vec::new(alloc)),
+        Err(PathsError::Memory) => Err(AllocError),
+    }
+}
+
+/// The same script at each of these places.
+fn sources(alloc: Global, places: &[u32], script: Script<'_>) -> Result<Vec<MemSource>, AllocError>
+    ensures { IfOk result (λ sources. length sources.items ≡ length places.now) }
+{
+    let mut sources = Vec::new(alloc);
+    for place in places {
+        let _ = place;
+        sources.push(script.source(alloc)?)?;
+    }
+    Ok(sources)
+}
+
 /// Runs the top call with these words; `None` where there is no memory for them.
 pub fn run<R: Threads + Wait + Sync, K: Sink>(
     rt: &R,
     alloc: Global,
     words: &[&str],
+    script: Script<'_>,
     disk: MemDisk,
     out: &mut K,
 ) -> Option<Ended<MemDisk>> {
     let words = words_of(alloc, words).ok()?;
-    let mut scripts: Vec<SureSource> = Vec::new(alloc);
+    let places = places_of(alloc, &words).ok()?;
+    let mut scripts = sources(alloc, &places, script).ok()?;
     Some(top(rt, alloc, &words, disk, &mut scripts, out))
 }
 
@@ -146,7 +193,7 @@ pub fn came<R: Threads + Wait + Sync, K: Sink>(
     disk: Option<MemDisk>,
     out: &mut K,
 ) -> Option<Outcome> {
-    let ended = run(rt, alloc, words, disk?, out)?;
+    let ended = run(rt, alloc, words, Script::of(""), disk?, out)?;
     Some(came_of(ended))
 }
 

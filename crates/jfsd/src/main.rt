@@ -28,6 +28,7 @@ usage: jfsd format IMAGE UUID [LABEL]
        jfsd log IMAGE
        jfsd check IMAGE
        jfsd redo IMAGE
+       jfsd run [--leave] IMAGE SCRIPT
 ";
 
 fn main(rt: HostRuntime) -> ExitCode {

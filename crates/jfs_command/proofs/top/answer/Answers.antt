@@ -1,13 +1,17 @@
-use Rattle.std.proofs.Common.{sym}
+use Rattle.std.proofs.Common.{length, sym}
 use Rattle.jfs_command.specs.Words.{texts, command_of}
+use Rattle.jfs_command.proofs.Asked.{takes_all}
 use Rattle.jfs_command.proofs.Concluding.{answered, refused}
 use Rattle.jfs_command.proofs.top.answer.Goals as goal
+
+pub perform-outcome-requires : goal.perform-outcome-requires
+perform-outcome-requires g c = takes_all (texts c.args.words.now) c.in-Ok.command (length c.args.scripts.now.items) c.in-Ok.ensures c.requires
 
 pub returns-in-Ok-clause-answer : goal.returns-in-Ok-clause-answer
 returns-in-Ok-clause-answer g c =
     answered g.D.Disk g.S.Source g.K.Sink (command_of (texts c.args.words.now)) c.in-Ok.command (sym c.in-Ok.ensures) c.args.now
     (record { disk = c.args.disk; scripts = c.args.scripts.now.items; out = c.args.out.now })
-    (record { disk = c.perform-outcome.result.disk; scripts = c.perform-outcome.new._scripts.items; out = c.conclude-status.new.out })
+    (record { disk = c.perform-outcome.result.disk; scripts = c.perform-outcome.new.scripts.items; out = c.conclude-status.new.out })
     c.perform-outcome.result.outcome c.deref.result.now c.status.result c.conclude-status.result c.perform-outcome.ensures.meaning c.deref.ensures.value c.status.ensures c.conclude-status.ensures.text
 
 pub returns-in-Err-clause-answer : goal.returns-in-Err-clause-answer

@@ -1,0 +1,254 @@
+//! The command `run`: it does the calls of a script on a volume that is clean, or is mounted and redone first.
+
+ghost use Rattle.std.specs.Prelude.{◌≡◌, ◌≤◌, ℕ, true, List, length, Ok, IfOk};
+ghost use Rattle.jfs_disk.specs.Image.{page_of};
+ghost use Rattle.jfs_super.specs.Rules.{IsAccepted};
+ghost use Rattle.jfs_super.specs.Super.{FitsSuper, super_of};
+ghost use Rattle.jfs_super.specs.declared.fields.TheConstants.VolumeState.{CLEAN};
+ghost use Rattle.jfs_script.specs.History.{IsRisingFrom};
+ghost use Rattle.jfs_command.specs.Held.{held_of};
+ghost use Rattle.jfs_command.specs.Inputs.{source_faults};
+ghost use Rattle.jfs_command.specs.Meaning.{Performs, work_of};
+ghost use Rattle.jfs_command.specs.Top.{PerformsBy};
+ghost use Rattle.jfs_command.specs.Scripts.{ScriptsSay, AreLines};
+ghost use Rattle.jfs_command.specs.Redo.{is_mounted};
+ghost use Rattle.jfs_command.specs.Run.{end_of, text_before, text_of, Tells, StartEnds, LinesEnd, run_meaning};
+
+use crate::outcome::{End, Outcome};
+use crate::perform::Performed;
+use crate::redo::{end_of as not_redone, redone_line};
+use crate::scripts::read_lines;
+use crate::status::{Status, Stop};
+use crate::superblock::{SUPERBLOCK, look};
+use jfs_bits::{Moment, Rule};
+use jfs_disk::Disk;
+use jfs_io::Source;
+use jfs_plain::{Entry, Line};
+use jfs_redo::redo;
+use jfs_run::{Ran, RunEnd, run_lines};
+use jfs_script::{write_done, write_history};
+use jfs_super::{Super, VolumeState};
+use std::alloc::{AllocError, Global};
+
+/// Reads the script whole, and does its calls on the volume of the disk. Nothing is printed before the volume was ended or refused.
+pub fn run_scripts<D: Disk, S: Source>(
+    alloc: Global,
+    disk: D,
+    scripts: &mut Vec<S>,
+    now: Moment,
+    is_left: bool,
+) -> Performed<D>
+    requires { length scripts.old.items ≡ 1 }
+    ensures meaning { PerformsBy D.Disk S.Source (λ inputs. run_meaning is_left inputs.scripts inputs.now) now disk result.disk scripts.old.items scripts.new.items result.outcome }
+    ensures pages { D.page_count result.disk ≡ D.page_count disk }
+    ensures later { D.fault_count disk ≤ D.fault_count result.disk }
+    ensures sources { source_faults S.Source scripts.old.items ≤ source_faults S.Source scripts.new.items }
+{
+    match read_lines(alloc, scripts) {
+        Ok(lines) => run_on_volume(alloc, disk, lines.as_slice(), now, is_left),
+        Err(end) => Performed {
+            outcome: Outcome::new(alloc, end, Vec::new(alloc)),
+            disk,
+        },
+    }
+}
+
+// Looks at the superblock, and does the calls of lines where it is accepted.
+fn run_on_volume<D: Disk>(
+    alloc: Global,
+    disk: D,
+    lines: &[Line],
+    now: Moment,
+    is_left: bool,
+) -> Performed<D>
+    requires { AreLines lines.now }
+    ensures meaning { (scripts : List (List ℕ)) → ScriptsSay scripts (Ok lines.now) → Performs D.Disk (run_meaning is_left scripts now) disk result.disk result.outcome }
+    ensures pages { D.page_count result.disk ≡ D.page_count disk }
+    ensures later { D.fault_count disk ≤ D.fault_count result.disk }
+{
+    let mut disk = disk;
+    match look(&mut disk) {
+        Ok(s) => run_by_state(alloc, disk, &s, lines, now, is_left),
+        Err(end) => Performed {
+            outcome: Outcome::new(alloc, end, Vec::new(alloc)),
+            disk,
+        },
+    }
+}
+
+// The calls of lines, by the state that an accepted superblock tells.
+fn run_by_state<D: Disk>(
+    alloc: Global,
+    disk: D,
+    s: &Super,
+    lines: &[Line],
+    now: Moment,
+    is_left: bool,
+) -> Performed<D>
+    requires accepted { IsAccepted s.now (D.page_count disk) }
+    requires fits { FitsSuper s.now }
+    requires spelled { D.tells → super_of (page_of (D.image disk) 8) ≡ s.now }
+    requires lines { AreLines lines.now }
+    ensures ends { LinesEnd D.tells D.tells_crashes lines.now is_left now s.now (held_of D.Disk disk) (work_of result.outcome (held_of D.Disk result.disk))
+        (record { before = D.fault_count disk; now = D.fault_count result.disk }) result.outcome.end }
+    ensures pages { D.page_count result.disk ≡ D.page_count disk }
+    ensures later { D.fault_count disk ≤ D.fault_count result.disk }
+{
+    let state = s.state;
+    if state == VolumeState::CLEAN {
+        return run_from(alloc, disk, s, None, lines, now, is_left);
+    }
+    if state == VolumeState::MOUNTED {
+        return run_redone(alloc, disk, s, lines, now, is_left);
+    }
+    let refused = End::Own(Status::BadImage {
+        page: SUPERBLOCK,
+        rule: Rule::State,
+        value: state.0.into(),
+    });
+    Performed {
+        outcome: Outcome::new(alloc, refused, Vec::new(alloc)),
+        disk,
+    }
+}
+
+// The calls of lines on a volume that is mounted, once it is redone.
+fn run_redone<D: Disk>(
+    alloc: Global,
+    disk: D,
+    s: &Super,
+    lines: &[Line],
+    now: Moment,
+    is_left: bool,
+) -> Performed<D>
+    requires accepted { IsAccepted s.now (D.page_count disk) }
+    requires fits { FitsSuper s.now }
+    requires mounted { is_mounted s.now.state.0 ≡ true }
+    requires lines { AreLines lines.now }
+    ensures ends { LinesEnd D.tells D.tells_crashes lines.now is_left now s.now (held_of D.Disk disk) (work_of result.outcome (held_of D.Disk result.disk))
+        (record { before = D.fault_count disk; now = D.fault_count result.disk }) result.outcome.end }
+    ensures pages { D.page_count result.disk ≡ D.page_count disk }
+    ensures later { D.fault_count disk ≤ D.fault_count result.disk }
+{
+    let mut disk = disk;
+    match redo(alloc, &mut disk, s) {
+        Ok(done) => {
+            let clean = Super {
+                state: VolumeState::CLEAN,
+                ..*s
+            };
+            run_from(
+                alloc,
+                disk,
+                &clean,
+                Some(done.transactions),
+                lines,
+                now,
+                is_left,
+            )
+        }
+        Err(why) => Performed {
+            outcome: Outcome::new(alloc, not_redone(why), Vec::new(alloc)),
+            disk,
+        },
+    }
+}
+
+// The calls of lines on a volume that is clean. One that was redone had so many transactions in its log.
+fn run_from<D: Disk>(
+    alloc: Global,
+    disk: D,
+    s: &Super,
+    redone: Option<u32>,
+    lines: &[Line],
+    now: Moment,
+    is_left: bool,
+) -> Performed<D>
+    requires accepted { IsAccepted s.now (D.page_count disk) }
+    requires fits { FitsSuper s.now }
+    requires clean { s.now.state ≡ CLEAN }
+    requires spelled { D.tells → super_of (page_of (D.image disk) 8) ≡ s.now }
+    requires lines { AreLines lines.now }
+    ensures ends { StartEnds D.tells D.tells_crashes lines.now is_left now (record { super = s.now; image = D.image disk; text = text_before redone }) (D.past disk) (work_of result.outcome (held_of D.Disk result.disk))
+        (record { before = D.fault_count disk; now = D.fault_count result.disk }) result.outcome.end }
+    ensures pages { D.page_count result.disk ≡ D.page_count disk }
+    ensures later { D.fault_count disk ≤ D.fault_count result.disk }
+{
+    let Ran {
+        disk,
+        end,
+        history,
+        told,
+    } = run_lines(alloc, disk, s, lines, now, is_left);
+    Performed {
+        outcome: outcome_of(alloc, redone, end, history, told),
+        disk,
+    }
+}
+
+// The outcome of a run, with the text of its history.
+fn outcome_of(
+    alloc: Global,
+    redone: Option<u32>,
+    end: RunEnd,
+    history: Vec<Entry>,
+    told: Vec<u64>,
+) -> Outcome
+    requires { IsRisingFrom 1 told.items }
+    ensures tells { Tells redone end (record { history = history.items; told = told.items }) result.end result.text.items }
+    ensures history { result.history.items ≡ history.items }
+    ensures told { result.told.items ≡ told.items }
+{
+    match text_of(alloc, redone, end, history.as_slice(), told.as_slice()) {
+        Ok(text) => Outcome {
+            end: end_of(end),
+            text,
+            history,
+            told,
+        },
+        Err(_) => Outcome {
+            end: End::Stopped(Stop::Memory),
+            text: Vec::new(alloc),
+            history,
+            told,
+        },
+    }
+}
+
+// The line of a redo, if there was one, those of the entries, and where all was done the last line.
+fn text_of(
+    alloc: Global,
+    redone: Option<u32>,
+    end: RunEnd,
+    history: &[Entry],
+    told: &[u64],
+) -> Result<Vec<u8>, AllocError>
+    requires { IsRisingFrom 1 told.now }
+    ensures { IfOk result (λ text. text.items ≡ text_of redone end (record { history = history.now; told = told.now })) }
+{
+    let mut text = match redone {
+        Some(count) => redone_line(alloc, count)?.into_bytes(),
+        None => Vec::new(alloc),
+    };
+    write_history(alloc, history, told, &mut text)?;
+    if matches!(end, RunEnd::Done) {
+        write_done(alloc, history.len(), told.len(), &mut text)?;
+    }
+    Ok(text)
+}
+
+// How the command ends by the end of the run.
+fn end_of(end: RunEnd) -> End
+    ensures { result ≡ end_of end }
+{
+    match end {
+        RunEnd::Done => End::Own(Status::Done),
+        RunEnd::BadImage(bad) => End::Own(Status::BadImage {
+            page: bad.page,
+            rule: bad.rule,
+            value: bad.value,
+        }),
+        RunEnd::Disk => End::Stopped(Stop::Disk),
+        RunEnd::Memory => End::Stopped(Stop::Memory),
+    }
+}
