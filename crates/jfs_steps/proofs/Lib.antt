@@ -1,4 +1,5 @@
 pub mod Puts
+pub mod Areas
 pub mod After
 pub mod Sets
 pub mod Grows

@@ -1,5 +1,5 @@
 -- What a call's transaction does.
-use Rattle.std.specs.Prelude.{◌≡◌, ◌⊎◌, ℕ, true, List, Result, Ok, Err}
+use Rattle.std.specs.Prelude.{◌≡◌, ◌⊎◌, ◌<◌, ℕ, true, List, Result, Ok, Err}
 use Rattle.jfs_way.specs.imap.specs.Inodes.{Inodes}
 use Rattle.jfs_way.specs.bmap.specs.States.{Blocks}
 use Rattle.jfs_ranges.specs.declared.edit.Edit.{Edit}
@@ -17,12 +17,17 @@ use Rattle.jfs_way.specs.Walk.{IfConsistent}
 use Rattle.jfs_way.specs.Volume.{volume_of, PlacesWithin}
 use Rattle.jfs_steps.specs.After.{after_call}
 
--- The call is done: the volume after it is consistent, and has the plain tree.
+-- the pages of the fixed areas stay
+abbrev pub LeavesAreas : Volume → Volume → Type 0
+LeavesAreas v w = (b : ℕ) → 0 < v.area b → w.page b ≡ v.page b
+
+-- The call is done: the volume after it is consistent, and has the plain tree; the fixed areas are as they were.
 pub record IsDone (blocks : ℕ) (v w : Volume) (plain : Tree → Outcome) : Type 0 where
   pub tree : Tree
   pub outcome : plain (tree_on (readers blocks) v) ≡ Ok (Done, tree)
   pub same : Same tree (tree_on (readers blocks) w)
   pub consistent : IsConsistent (readers blocks) w
+  pub areas : LeavesAreas v w
 
 -- The transaction takes the plain step of a consistent volume's tree; a refusal is the plain step's, or it is open.
 abbrev pub Steps : ℕ → (ℕ → List ℕ) → Inodes → (Tree → Outcome) → Result (List Edit) Refusal → Type 0
