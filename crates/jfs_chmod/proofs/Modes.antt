@@ -53,6 +53,7 @@ use Rattle.jfs_steps.specs.Call.{IsDone}
 use Rattle.jfs_steps.specs.Laws.{ChangesPagesAlone}
 use Rattle.jfs_steps.specs.After.{after_call}
 use Rattle.jfs_steps.proofs.After.{lines_alone, lines_leave, done_after}
+use Rattle.jfs_steps.proofs.Areas.{puts_leave}
 use Rattle.jfs_chmod.specs.Call.{with_mode}
 use Rattle.jfs_steps.specs.way.proofs.Nodes.{there, lives, node_is, inode_is}
 
@@ -242,6 +243,7 @@ module _ (blocks : ℕ) (v : Volume) (c : IsConsistent (readers blocks) v) (n p 
       inodes = inodes_are;
       tree = step_keeps (room v) t (tree_on rs w) (record { limit = 0; free = 0; deep = λ dir name. false; inode = None }) (calls.Chmod path mode) now Done c.tree tt (subst (λ (out : Outcome). Answers t out Done (tree_on rs w)) (sym outcome) (refl, same));
     };
+    areas = puts_leave rs v c.sound.agrees v.page new n set puts;
   }
     where
       outcome : chmod t path mode now ≡ Ok (Done, u)

@@ -21,7 +21,7 @@ use Rattle.jfs_lead_steps.specs.objects.specs.Readers.{Readers}
 use Rattle.jfs_lead_steps.specs.objects.specs.Volume.{Volume}
 use Rattle.jfs_lead_steps.specs.objects.specs.Objects.{objects, spelled, is_live, has_names}
 use Rattle.jfs_lead_steps.specs.objects.specs.Owners.{bit}
-use Rattle.jfs_lead_steps.specs.objects.specs.Changes.{put, PutsInode}
+use Rattle.jfs_lead_steps.specs.objects.specs.Changes.{put, PutsInode, SetsObject}
 use Rattle.jfs_lead_steps.specs.meaning.specs.Contents.{byte_in}
 use Rattle.jfs_lead_steps.specs.meaning.specs.Node.{node_in}
 use Rattle.jfs_lead_steps.specs.meaning.specs.Readers.{readers, root_of}
@@ -32,6 +32,8 @@ use Rattle.jfs_lead_steps.proofs.Chain.{some_is, set_has, set_other, twice}
 use Rattle.jfs_lead_steps.proofs.InPlace.{sets_in_place, counted_names, counted_extents, counted_bytes, counted_rules, rises_now}
 use Rattle.jfs_lead_steps.proofs.Named.{gains_set, gains_have}
 use Rattle.jfs_lead_steps.proofs.Again.{again, few_links, inode_same, spelled_inode, stays_in_use}
+use Rattle.jfs_steps.specs.Call.{LeavesAreas}
+use Rattle.jfs_steps.proofs.Areas.{puts_leave, set_leaves}
 
 module _ (blocks : ℕ) (v : Volume) (con : IsConsistent (readers blocks) v) (whole : (b : ℕ) → b < blocks → length (v.page b) ≡ 4096) (within : (b : ℕ) → v.used b ≡ true → b < blocks)
     (n : ℕ) (d : Dinode) (was_n : objects (readers blocks) v n ≡ Some (spelled (readers blocks) v.page d)) (dir : has_names d ≡ true) (size : length d.rest ≡ 384) (live_n : is_live n d ≡ true)
@@ -77,16 +79,18 @@ module _ (blocks : ℕ) (v : Volume) (con : IsConsistent (readers blocks) v) (wh
   named_has = gains_have blocks v.page [] v v1 (λ b l. (whole b l, refl)) (λ b l. refl) t has within n d was_n dir size (λ k. k) own live_n few_n root width parent now es spelled_es mid_tx puts_n refl refl same_use
       (entry_as name m) free left taken parts once all unused adds used_is
 
+  named_set : SetsObject r v v1 n (record d { rest = put_bytes 96 root d.rest; nblocks = own; mtime = now; ctime = now }) (put_tx blocks mid_tx v.page) taken []
+  named_set = gains_set blocks v.page [] v v1 (λ b l. (whole b l, refl)) (λ b l. refl) t has within n d was_n dir size (λ k. k) own live_n few_n root width parent now es spelled_es mid_tx puts_n refl refl same_use
+      (entry_as name m) free left taken parts once all unused adds used_is
+
   still_m : objects r v1 m ≡ Some (spelled r v.page e)
-  still_m = set_other r v v1 t has n (record d { rest = put_bytes 96 root d.rest; nblocks = own; mtime = now; ctime = now }) (put_tx blocks mid_tx v.page) taken []
-      (gains_set blocks v.page [] v v1 (λ b l. (whole b l, refl)) (λ b l. refl) t has within n d was_n dir size (λ k. k) own live_n few_n root width parent now es spelled_es mid_tx puts_n refl refl same_use
-      (entry_as name m) free left taken parts once all unused adds used_is) m apart ∙ was_m
+  still_m = set_other r v v1 t has n (record d { rest = put_bytes 96 root d.rest; nblocks = own; mtime = now; ctime = now }) (put_tx blocks mid_tx v.page) taken [] named_set m apart ∙ was_m
 
   there_m : objects r v1 m ≡ Some (spelled r v1.page e)
   there_m = (again r v1 v.page m e still_m).0
 
   -- the name, and then the link
-  pub linked_has : HasTree r v2 (changed m (stamped now) (changed m rises (changed n (gains (entry_as name m) now) t)))
+  linked_has : HasTree r v2 (changed m (stamped now) (changed m rises (changed n (gains (entry_as name m) now) t)))
   linked_has = by (twice m rises (stamped now) (changed n (gains (entry_as name m) now) t))
       (set_has r v1 v2 (changed n (gains (entry_as name m) now) t) named_has m risen v1.page [] []
       (sets_in_place r v1 v2 named_has.sound m e risen there_m live_m (counted_names blocks v1.page e (e.nlink + 1) now) (counted_extents blocks v1.page e (e.nlink + 1) now) refl refl puts_m refl refl refl (λ k. refl))
@@ -97,3 +101,10 @@ module _ (blocks : ℕ) (v : Volume) (con : IsConsistent (readers blocks) v) (wh
     where
       by : {x y : Tree} → x ≡ y → HasTree r v2 y → HasTree r v2 x
       by h s = subst (HasTree r v2) (sym h) s
+
+  linked_leaves : LeavesAreas v v2
+  linked_leaves b h = puts_leave r v con.sound.agrees v1.page v2.page m risen puts_m b h
+      ∙ set_leaves r v con.sound.agrees v1 n (record d { rest = put_bytes 96 root d.rest; nblocks = own; mtime = now; ctime = now }) (put_tx blocks mid_tx v.page) taken [] named_set b h
+
+  pub linked_both : HasTree r v2 (changed m (stamped now) (changed m rises (changed n (gains (entry_as name m) now) t))) × LeavesAreas v v2
+  linked_both = (linked_has, linked_leaves)

@@ -44,7 +44,7 @@ use Rattle.jfs_steps.specs.way.specs.Walk.{IsHeld, IsShown, tree_in}
 use Rattle.jfs_steps.specs.way.specs.declared.object.Held.{Held}
 use Rattle.jfs_steps.specs.way.proofs.Nodes.{there, lives}
 use Rattle.jfs_steps.specs.After.{after_call, used_after}
-use Rattle.jfs_steps.specs.Call.{IsDone}
+use Rattle.jfs_steps.specs.Call.{IsDone, LeavesAreas}
 use Rattle.jfs_steps.specs.Laws.{TakesAndFrees, IsFair}
 use Rattle.jfs_steps.specs.Place.{last_of}
 use Rattle.jfs_steps.proofs.After.{counts, done_after}
@@ -60,7 +60,7 @@ use Rattle.jfs_link.specs.Joins.{Joins, JoinRefused}
 use Rattle.jfs_link.specs.Link.{MayLink}
 use Rattle.jfs_link.proofs.Asks.{names_of, enters_names, not_full}
 use Rattle.jfs_link.proofs.PlainTree.{linked}
-use Rattle.jfs_link.proofs.Chain.{linked_has}
+use Rattle.jfs_link.proofs.Chain.{linked_both}
 
 -- where a new name can stand, nothing stands
 new_free : (t : Tree) (path : List (List ℕ)) (p : Place) → new_place t path ≡ Ok p → at_place t p ≡ None
@@ -225,11 +225,14 @@ module _ (blocks : ℕ) (pages : ℕ → List ℕ) (area : ℕ → ℕ) (bm : Bl
     slot_below : (n : ℕ) → n % 8 < 8
     slot_below n = omega arith
 
-    has : HasTree r v2 u
-    has = linked_has blocks v con whole within dir.number dir.inode was_d is_dir (rest_size (pages dir.page) (dir.number % 8) dir.inode (whole dir.page held_d.within) (slot_below dir.number) shown_d) live_d es spelled_es
+    both : HasTree r v2 u × LeavesAreas v v2
+    both = linked_both blocks v con whole within dir.number dir.inode was_d is_dir (rest_size (pages dir.page) (dir.number % 8) dir.inode (whole dir.page held_d.within) (slot_below dir.number) shown_d) live_d es spelled_es
         object.number object.inode was_o file (live_more object.number object.inode.nlink) (omega (arith, few)) name now ((dir.inode.nblocks + length taken) % 2 ^ 64) (blocks_of free) (blocks_of left) taken
         j.gains.edits.1 fresh.once (subst (λ (k : ℕ). Rattle.jfs_lead_steps.specs.page_tree.specs.Form.AllBelow k (blocks_of free)) size fresh.within) unused j.gains.root j.gains.width j.gains.parent j.gains.mid j.named tx j.gains.adds
         (j.gains.puts (map extent_place inodes.extents) at_d) (j.puts (map extent_place inodes.extents) at_o) used used_is
+
+    has : HasTree r v2 u
+    has = both.0
 
     outcome : link space t from to now ≡ Ok (Done, u)
     outcome = linked t space from to now object.number (held_node blocks pages area bm inodes con object held_o shown_o may.there) may.walked (node_there blocks pages area bm inodes con object held_o shown_o may.there)
@@ -247,4 +250,5 @@ module _ (blocks : ℕ) (pages : ℕ → List ℕ) (area : ℕ → ℕ) (bm : Bl
         tree = step_keeps (room v) t (tree_on r v2) space (calls.Link from to) now Done con.tree (fresh_law r v blocks log_pages con)
             (subst (λ (out : Outcome). Answers t out Done (tree_on r v2)) (sym outcome) (refl, same_tree u (tree_on r v2) has.tree));
       };
+      areas = both.1;
     })
