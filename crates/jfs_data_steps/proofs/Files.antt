@@ -150,6 +150,7 @@ module _ (blocks : ℕ) (v : Volume) (n : ℕ) (d : Dinode) (root : List ℕ) (s
       inodes = inodes;
       tree = subst (λ (most : ℕ). IsConsistentTree most (tree_on r w)) same_room (same_consistent (room v) (changed n (sized size now) t) (tree_on r w) nodes restyled);
     };
+    areas = is_set.areas;
   }
 
 pub file_law : FileLaw

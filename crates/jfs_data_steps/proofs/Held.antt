@@ -142,4 +142,5 @@ file_done blocks v w n size bytes now plain u outcome same set = record {
   outcome = outcome;
   same = record { nodes = λ k. set.same.nodes k ∙ same.nodes k; bytes = λ k i. set.same.bytes k i ∙ same.bytes k i };
   consistent = set.consistent;
+  areas = set.areas;
 }

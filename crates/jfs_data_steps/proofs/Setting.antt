@@ -22,8 +22,10 @@ use Rattle.jfs_loss.specs.meaning.specs.Tree.{node_on, byte_on}
 use Rattle.jfs_loss.specs.meaning.specs.Laws.{ChangesOneNode}
 use Rattle.jfs_loss.specs.meaning.proofs.Changed.{set_tree, data_tree}
 use Rattle.jfs_loss.specs.meaning.proofs.Stays.{SameBlocks, same_node, same_byte}
+use Rattle.jfs_loss.specs.steps.specs.Call.{LeavesAreas}
 use Rattle.jfs_loss.specs.steps.specs.Gains.{after_set}
 use Rattle.jfs_loss.specs.steps.proofs.After.{after_is}
+use Rattle.jfs_loss.specs.steps.proofs.Areas.{then_leaves, set_leaves, data_leaves}
 use Rattle.jfs_loss.specs.steps.proofs.Puts.{put_within, put_past}
 use Rattle.jfs_data_steps.specs.declared.pages.DataPage.{DataPage}
 use Rattle.jfs_data_steps.specs.After.{is_put, page_put, put_data, with_data, after_writes}
@@ -151,8 +153,11 @@ module _ (blocks : ℕ) (v : Volume) (n : ℕ) (set : Dinode) (mid : ℕ → Lis
             ∙ sym (ap (λ (f : ℕ → ℕ). f i) (put_other n (byte_in r (put_data ds v.page) (Some o)) (byte_on r v) k apart))
       ]
 
+  areas : LeavesAreas v u
+  areas = then_leaves v w u refl (set_leaves r v sound.agrees w n set mid taken freed s.sets) (data_leaves r w set_one.sound.agrees u n alone.writes)
+
   pub is_set_with_data : IsSetWithData r v (after_writes blocks ds tx v) n o ds
-  is_set_with_data = subst (λ (x : Volume). IsSetWithData r v x n o ds) is_after (record { one = one; contents_are = contents_are; tree = tree })
+  is_set_with_data = subst (λ (x : Volume). IsSetWithData r v x n o ds) is_after (record { one = one; contents_are = contents_are; tree = tree; areas = areas })
 
 pub set_law : SetLaw
 set_law blocks v n set mid taken freed ds tx sound s = (puts_alone (readers blocks) v n ds sound s.before, is_set_with_data blocks v n set mid taken freed ds tx sound s)

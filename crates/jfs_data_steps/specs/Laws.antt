@@ -20,6 +20,7 @@ use Rattle.jfs_loss.specs.meaning.specs.Tree.{tree_on}
 use Rattle.jfs_loss.specs.meaning.specs.Consistent.{IsConsistent}
 use Rattle.jfs_loss.specs.meaning.specs.Laws.{ChangesOneNode, ChangesContents}
 use Rattle.jfs_loss.specs.steps.specs.After.{extents_after}
+use Rattle.jfs_loss.specs.steps.specs.Call.{LeavesAreas}
 use Rattle.jfs_loss.specs.steps.specs.Gains.{after_set}
 use Rattle.jfs_data_steps.specs.declared.pages.DataPage.{DataPage}
 use Rattle.jfs_data_steps.specs.After.{is_put, AreWholePages, put_data, with_data, after_writes, LeavesPage}
@@ -59,11 +60,12 @@ pub record SetsWithData (blocks : ℕ) (v : Volume) (n : ℕ) (set : Dinode) (mi
   pub after : (b : ℕ) → is_put b ds ≡ true → 0 < is_data (readers blocks) (Some (spelled (readers blocks) mid set)) b
   pub untold : (b : ℕ) → 0 < is_data (readers blocks) (Some (spelled (readers blocks) mid set)) b → LeavesPage b tx
 
--- The volume after both: this object is another one, whose blocks hold what they held before and what was put into them; all other objects, contents and nodes are as they were, and maps agree.
+-- The volume after both: this object is another one, whose blocks hold what they held before and what was put into them; all other objects, contents and nodes are as they were, so are the fixed areas, and maps agree.
 pub record IsSetWithData (r : Readers) (v w : Volume) (n : ℕ) (o : Object) (ds : List DataPage) : Type 0 where
   pub one : ChangesOne r v w n (Some o)
   pub contents_are : (k : ℕ) → contents r w n k ≡ contents_of r (put_data ds v.page) (Some o) k
   pub tree : ChangesOneNode r v w n (node_of r (put_data ds v.page) o) (byte_in r (put_data ds v.page) (Some o))
+  pub areas : LeavesAreas v w
 
 abbrev pub SetLaw : Type 0
 SetLaw = (blocks : ℕ) (v : Volume) (n : ℕ) (set : Dinode) (mid : ℕ → List ℕ) (taken freed : List ℕ) (ds : List DataPage) (tx : List Edit) → IsSound (readers blocks) v → SetsWithData blocks v n set mid taken freed ds tx
@@ -78,10 +80,11 @@ pub record SetsFile (blocks : ℕ) (v : Volume) (n : ℕ) (d : Dinode) (root : L
   pub extents : listed (readers blocks).extents_order (spelled (readers blocks) mid (resized d root size own now)).extents ≡ Ok es
   pub sets : SetsWithData blocks v n (resized d root size own now) mid taken freed ds tx
 
--- The volume after both is consistent, and of its tree this file alone has changed: it has this size, the bytes of these blocks, and is written now.
+-- The volume after both is consistent, and of its tree this file alone has changed: it has this size, the bytes of these blocks, and is written now. The fixed areas are as they were.
 pub record IsFileSet (blocks : ℕ) (v w : Volume) (n : ℕ) (size : ℕ) (bytes : ℕ → ℕ) (now : Moment) : Type 0 where
   pub same : Same (refilled n size bytes now (tree_on (readers blocks) v)) (tree_on (readers blocks) w)
   pub consistent : IsConsistent (readers blocks) w
+  pub areas : LeavesAreas v w
 
 abbrev pub FileLaw : Type 0
 FileLaw = (blocks : ℕ) (v : Volume) (n : ℕ) (d : Dinode) (root : List ℕ) (size own : ℕ) (now : Moment) (es : List Xad) (mid : ℕ → List ℕ) (taken freed : List ℕ) (ds : List DataPage) (tx : List Edit)

@@ -35,7 +35,7 @@ use Rattle.jfs_loss.specs.steps.specs.Put.{AddsInode, TellsLines}
 use Rattle.jfs_loss.specs.steps.specs.Place.{last_of}
 use Rattle.jfs_loss.specs.steps.specs.After.{used_after, extents_after, after_call}
 use Rattle.jfs_loss.specs.steps.specs.Laws.{TakesAndFrees, IsFair}
-use Rattle.jfs_loss.specs.steps.specs.Call.{IsDone}
+use Rattle.jfs_loss.specs.steps.specs.Call.{IsDone, LeavesAreas}
 use Rattle.jfs_loss.specs.steps.proofs.After.{done_after}
 use Rattle.jfs_loss.specs.steps.proofs.Sets.{lines_move}
 use Rattle.jfs_loss.specs.steps.proofs.LastNames.{stood, object_is}
@@ -49,7 +49,7 @@ use Rattle.jfs_unlink.specs.Gone.{DropsNamed, LeavesNamed}
 use Rattle.jfs_unlink.specs.declared.ends.Ends.{Ends}
 use Rattle.jfs_unlink.proofs.Ended.{used_within, is_living, few, root_is, dir_is, directory, names_it, may, node_m, object_found, placed, same_inode, reached, IsNodeOf}
 use Rattle.jfs_unlink.proofs.PlainTree.{begins, same_after, still_consistent, unlink_last, unlink_other, rmdir_is}
-use Rattle.jfs_unlink.proofs.Unnamed.{fair, has_dropped, fallen_volume, has_fallen, used_fallen, extents_stay}
+use Rattle.jfs_unlink.proofs.Unnamed.{fair, has_dropped, fallen_volume, has_fallen, used_fallen, extents_stay, areas_stay}
 
 -- a call that looks at the limit alone
 abbrev space : ℕ → Room
@@ -81,13 +81,14 @@ module _ (blocks : ℕ) (pages : ℕ → List ℕ) (whole : (b : ℕ) → b < bl
 
   -- ---- the volume after a transaction, where it has the tree of a plain step
 
-  done_on : (w : Volume) (tx : List Edit) (limit : ℕ) (call : Call) (u : Tree) → outcome (space limit) t call now ≡ Ok (Done, u) → HasTree r w u → w.page ≡ put_tx blocks tx pages → w.extents ≡ v.extents → w.area ≡ v.area
+  done_on : (w : Volume) (tx : List Edit) (limit : ℕ) (call : Call) (u : Tree) → outcome (space limit) t call now ≡ Ok (Done, u) → HasTree r w u → LeavesAreas v w → w.page ≡ put_tx blocks tx pages → w.extents ≡ v.extents → w.area ≡ v.area
       → extents_after tx v.extents ≡ v.extents → ((b : ℕ) → w.used b ≡ used_after tx v.used b) → IsDone blocks v (after_call blocks tx v) (λ t. outcome (space limit) t call now)
-  done_on w tx limit call u is has page extents area stay used = done_after blocks tx v w (λ t. outcome (space limit) t call now) page (extents ∙ sym stay) area used (record {
+  done_on w tx limit call u is has leaves page extents area stay used = done_after blocks tx v w (λ t. outcome (space limit) t call now) page (extents ∙ sym stay) area used (record {
     tree = u;
     outcome = is;
     same = same_after blocks v w con (space limit) call now tt u is has same_room;
     consistent = still_consistent blocks v w con (space limit) call now tt u is has same_room;
+    areas = leaves;
   })
     where
       same_room : room w ≡ room v
@@ -132,9 +133,14 @@ module _ (blocks : ℕ) (pages : ℕ → List ℕ) (whole : (b : ℕ) → b < bl
         first loses.mid lost tx stays before moves held_m loses.root loses.inode loses.width loses.parent loses.removes loses.tells (loses.puts (map extent_place inodes.extents) (stood blocks pages area bm inodes con e.dir held.0 shown.0 ends.in_tree)) loses.lines
         (puts (map extent_place inodes.extents) (stood blocks pages area bm inodes con e.at held.1 shown.1 ends.there)) lines
 
+    areas : (b : ℕ) → 0 < v.area b → put_tx blocks tx pages b ≡ pages b
+    areas = areas_stay blocks v t start (used_within blocks pages area bm inodes con many) whole n e.dir.page dd was_n dir_n loses.size es es_are m e.at.page md after_m was_m other (last_of path) links fewer few_left live now
+        first loses.mid lost tx stays before moves held_m loses.root loses.inode loses.width loses.parent loses.removes loses.tells (loses.puts (map extent_place inodes.extents) (stood blocks pages area bm inodes con e.dir held.0 shown.0 ends.in_tree)) loses.lines
+        (puts (map extent_place inodes.extents) (stood blocks pages area bm inodes con e.at held.1 shown.1 ends.there)) lines
+
     -- the object goes
     goes : after_m ≡ gone md → ((b : ℕ) → count_in b before ≡ holds r (objects r v m) b) → (limit : ℕ) (call : Call) → outcome (space limit) t call now ≡ Ok (Done, dropped m t1) → IsDone blocks v (after_call blocks tx v) (λ t. outcome (space limit) t call now) × IsFair tx v.used
-    goes dead all limit call is = (done_on w tx limit call (dropped m t1) is has refl refl refl extents_are (λ b. refl), is_fair)
+    goes dead all limit call is = (done_on w tx limit call (dropped m t1) is has areas refl refl refl extents_are (λ b. refl), is_fair)
       where
         w : Volume
         w = record v { page = put_tx blocks tx pages; used = used_after tx v.used; in_use = put m false (put n true v.in_use) }
@@ -147,7 +153,7 @@ module _ (blocks : ℕ) (pages : ℕ → List ℕ) (whole : (b : ℕ) → b < bl
     -- it stays, with one link less
     falls_one : after_m ≡ fallen md now → is_live m (fallen md now) ≡ true → before ≡ [] → (limit : ℕ) (call : Call) → outcome (space limit) t call now ≡ Ok (Done, changed m (λ o. stamped now (falls o)) t1)
         → IsDone blocks v (after_call blocks tx v) (λ t. outcome (space limit) t call now) × IsFair tx v.used
-    falls_one fall live_m none limit call is = (done_on w tx limit call (changed m (λ o. stamped now (falls o)) t1) is has refl refl refl extents_are used, is_fair)
+    falls_one fall live_m none limit call is = (done_on w tx limit call (changed m (λ o. stamped now (falls o)) t1) is has areas refl refl refl extents_are used, is_fair)
       where
         few_m : md.nlink - 1 ≤ 65535
         few_m = let f = few blocks pages area bm inodes con e.at held.1 shown.1 ends.there in omega (arith, f)

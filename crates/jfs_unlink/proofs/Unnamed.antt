@@ -43,6 +43,7 @@ use Rattle.jfs_loss.specs.steps.specs.Put.{TellsLines}
 use Rattle.jfs_loss.specs.steps.specs.After.{used_after, extents_after, frees}
 use Rattle.jfs_loss.specs.steps.specs.Laws.{TakesAndFrees, IsFair}
 use Rattle.jfs_loss.specs.steps.proofs.After.{counts, same_bits}
+use Rattle.jfs_loss.specs.steps.proofs.Areas.{puts_leave, set_leaves}
 use Rattle.jfs_loss.specs.steps.proofs.Sets.{frees_move, lines_on_top}
 use Rattle.jfs_loss.specs.Inodes.{lessened, fallen, gone}
 use Rattle.jfs_loss.proofs.Counts.{count_append, frees_then, changes_move, same_moves}
@@ -156,6 +157,11 @@ module _ (blocks : ℕ) (v : Volume) (t : Tree) (has : HasTree (readers blocks) 
 
   one : SetsObject r v v1 n (lessened dd root (links dd.nlink) fewer now) (put_tx blocks mid v.page) [] freed
   one = loses_set blocks v.page first v v1 leads (λ b l. refl) t has within n dd was_n dir size links (dd.nblocks - fewer) live few root width parent now es spelled_es mid puts_n refl refl (λ k. refl) name freed less used_one
+
+  -- the fixed areas stay
+  pub areas_stay : (b : ℕ) → 0 < v.area b → put_tx blocks tx v.page b ≡ v.page b
+  areas_stay b h = puts_leave r v has.sound.agrees (put_tx blocks lost v.page) (put_tx blocks tx v.page) m after_m puts_m b h
+      ∙ set_leaves r v has.sound.agrees v1 n (lessened dd root (links dd.nlink) fewer now) (put_tx blocks mid v.page) [] freed one b h
 
   has_one : HasTree r v1 t1
   has_one = loses_have blocks v.page first v v1 leads (λ b l. refl) t has within n dd was_n dir size links (dd.nblocks - fewer) live few root width parent now es spelled_es mid puts_n refl refl (λ k. refl) name freed less used_one
