@@ -33,15 +33,17 @@ use Rattle.jfs_loss.specs.objects.proofs.Sums.{zero_or_more}
 use Rattle.jfs_loss.specs.meaning.specs.Readers.{readers, root_of}
 use Rattle.jfs_loss.specs.meaning.proofs.Books.{count_append}
 use Rattle.jfs_loss.specs.steps.specs.After.{used_after, extents_after, frees}
+use Rattle.jfs_loss.specs.steps.specs.Call.{LeavesAreas}
 use Rattle.jfs_loss.specs.steps.specs.Laws.{TakesAndFrees, LeavesSets, IsFair}
 use Rattle.jfs_loss.specs.steps.specs.Put.{TellsLines}
 use Rattle.jfs_loss.specs.steps.proofs.After.{counts, used_onto, extents_onto, lines_alone, leaves_onto, runs_leave}
+use Rattle.jfs_loss.specs.steps.proofs.Areas.{then_leaves, puts_leave, set_leaves}
 use Rattle.jfs_loss.specs.steps.proofs.Sets.{frees_onto, moves_onto, lines_move, frees_move, taken_move, lines_on_top}
 use Rattle.jfs_loss.specs.lead_steps.specs.Reached.{HasTree}
 use Rattle.jfs_loss.specs.lead_steps.proofs.Chain.{set_here, set_other, drop_has, drop_other}
 use Rattle.jfs_loss.specs.lead_steps.proofs.InPlace.{ChangesInPlace, in_place_has, in_place_other}
 use Rattle.jfs_loss.specs.lead_steps.proofs.Turned.{turns, dir_holds, no_extents_of, names_listed}
-use Rattle.jfs_loss.specs.lead_steps.proofs.Named.{put_within, put_past, all_below, gains_set, gains_have, leads_set, leads_have, loses_have}
+use Rattle.jfs_loss.specs.lead_steps.proofs.Named.{put_within, put_past, all_below, gains_set, gains_have, leads_set, leads_have, loses_set, loses_have}
 use Rattle.jfs_loss.specs.lead_steps.proofs.Again.{again, stays_in_use}
 
 -- After so many edits of volume v: pages as the edits leave them, and blocks in use too, but for those that are owed: they are freed by the edits, and an object still has them.
@@ -50,6 +52,7 @@ pub record Stage (blocks : ℕ) (v : Volume) (owed : List ℕ) (tx : List Edit) 
   pub page : (b : ℕ) → w.page b ≡ put_tx blocks tx v.page b
   pub extents : w.extents ≡ v.extents
   pub area : w.area ≡ v.area
+  pub areas : LeavesAreas v w
   pub used : (b : ℕ) → bit (w.used b) ≡ bit (used_after tx v.used b) + count_in b owed
   pub within : (b : ℕ) → w.used b ≡ true → b < blocks
   pub stay : extents_after tx v.extents ≡ v.extents
@@ -109,6 +112,10 @@ module _ (blocks : ℕ) (v : Volume) (whole : (b : ℕ) → b < blocks → lengt
   -- ---- an inode changes in its slot
 
   module _ (page : ℕ) (later : List Edit) (m : ℕ) (e set : Dinode) (lines : TellsLines blocks v.page page tx later) (puts : PutsInode (put_tx blocks tx v.page) (put_tx blocks later v.page) v.extents m set) where
+    areas_stay : (b : ℕ) → 0 < v.area b → put_tx blocks later v.page b ≡ v.page b
+    areas_stay = then_leaves v w (record w { page = put_tx blocks later v.page }) s.area s.areas
+        (puts_leave r w s.has.sound.agrees w.page (put_tx blocks later v.page) m set (puts_here (put_tx blocks later v.page) m set puts))
+
     module _ (f : Node → Node) (was : objects r w m ≡ Some (spelled r w.page e)) (change : ChangesInPlace r m e set f) where
       abbrev pub set_volume : Volume
       set_volume = record w { page = put_tx blocks later v.page }
@@ -119,6 +126,7 @@ module _ (blocks : ℕ) (v : Volume) (whole : (b : ℕ) → b < blocks → lengt
         page = λ b. refl;
         extents = s.extents;
         area = s.area;
+        areas = areas_stay;
         used = λ b. s.used b ∙ sym (ap (λ (u : ℕ → Bool). bit (u b) + count_in b owed) (lines_used blocks v.page page tx later v.used lines));
         within = s.within;
         stay = lines_extents blocks v.page page tx later v.extents lines ∙ s.stay;
@@ -144,6 +152,7 @@ module _ (blocks : ℕ) (v : Volume) (whole : (b : ℕ) → b < blocks → lengt
         page = λ b. refl;
         extents = s.extents;
         area = s.area;
+        areas = areas_stay;
         used = λ b. omega arith;
         within = λ b h. s.within b (is_true (w.used b) (let u = drop_used b in let x = ap bit h in omega (arith, u, x)));
         stay = lines_extents blocks v.page page tx later v.extents lines ∙ s.stay;
@@ -242,6 +251,10 @@ module _ (blocks : ℕ) (v : Volume) (whole : (b : ℕ) → b < blocks → lengt
   loss_puts : PutsInode (put_tx blocks mid v.page) (put_tx blocks later v.page) w.extents p (record d { rest = put_bytes 96 root d.rest; nblocks = own; nlink = links d.nlink; mtime = now; ctime = now })
   loss_puts = subst (λ (places : List (Option ℕ)). PutsInode (put_tx blocks mid v.page) (put_tx blocks later v.page) places p (record d { rest = put_bytes 96 root d.rest; nblocks = own; nlink = links d.nlink; mtime = now; ctime = now })) (sym s.extents) puts
 
+  lost : SetsObject q w loss_volume p (record d { rest = put_bytes 96 root d.rest; nblocks = own; nlink = links d.nlink; mtime = now; ctime = now }) (put_tx blocks mid v.page) [] freed
+  lost = loses_set blocks v.page tx w loss_volume (leads_to blocks v whole [] tx w t s) (past blocks v whole [] tx w t s) t s.has s.within p d was dir size links own live few root width parent now es es_are mid loss_puts refl refl
+      (stays_in_use q w p (spelled q w.page d) s.has.sound was) name freed less loss_used
+
   pub loss_stage : Stage blocks v [] later loss_volume (changed p (turns (without_name name) links now) t)
   loss_stage = record {
     has = loses_have blocks v.page tx w loss_volume (leads_to blocks v whole [] tx w t s) (past blocks v whole [] tx w t s) t s.has s.within p d was dir size links own live few root width parent now es es_are mid loss_puts refl refl
@@ -249,6 +262,7 @@ module _ (blocks : ℕ) (v : Volume) (whole : (b : ℕ) → b < blocks → lengt
     page = λ b. refl;
     extents = s.extents;
     area = s.area;
+    areas = then_leaves v w loss_volume s.area s.areas (set_leaves q w s.has.sound.agrees loss_volume p (record d { rest = put_bytes 96 root d.rest; nblocks = own; nlink = links d.nlink; mtime = now; ctime = now }) (put_tx blocks mid v.page) [] freed lost);
     used = λ b. omega arith;
     within = λ b h. s.within b (is_true (w.used b) (let u = loss_used b in let x = ap bit h in omega (arith, u, x)));
     stay = lines_extents blocks v.page page mid later v.extents lines ∙ ap (λ (edits : List Edit). extents_after edits v.extents) gone.1.told ∙ extents_onto tx rest v.extents ∙ ap (extents_after rest) s.stay ∙ rest_moves.extents_stay v.extents;
@@ -313,6 +327,7 @@ module _ (blocks : ℕ) (v : Volume) (whole : (b : ℕ) → b < blocks → lengt
       page = λ b. refl;
       extents = refl;
       area = refl;
+      areas = set_leaves z v has.sound.agrees gain_volume n set (put_tx blocks mid v.page) taken.0 [] gained;
       used = λ b. omega arith;
       within = gain_within;
       stay = moves.extents_stay v.extents;
@@ -344,6 +359,7 @@ module _ (blocks : ℕ) (v : Volume) (whole : (b : ℕ) → b < blocks → lengt
       page = λ b. refl;
       extents = refl;
       area = refl;
+      areas = set_leaves z v has.sound.agrees lead_volume n set (put_tx blocks mid v.page) [] [] led;
       used = λ b. s.used b ∙ sym (ap (λ (u : ℕ → Bool). bit (u b) + count_in b owed) (lines_used blocks v.page page mid later v.used lines ∙ used_more first lead_more.0 mid v.used lead_more.1 lead_more.2));
       within = within;
       stay = lines_extents blocks v.page page mid later v.extents lines ∙ extents_more first lead_more.0 mid v.extents lead_more.1 lead_more.2 ∙ s.stay;
@@ -367,6 +383,7 @@ frees_stage blocks v t has within m first owed moves stays held = record {
   ];
   extents = refl;
   area = refl;
+  areas = λ b h. refl;
   used = λ b. (let c = counts first v.used fair b in let k = moves.taken_are b in let f = moves.freed_are b in omega (arith, c, k, f));
   within = within;
   stay = moves.extents_stay v.extents;
