@@ -15,7 +15,9 @@ use Rattle.jfs_link.specs.objects.proofs.Extent.{extent_law}
 use Rattle.jfs_link.specs.meaning.specs.Readers.{readers}
 use Rattle.jfs_link.specs.lead_steps.specs.Reached.{HasTree}
 use Rattle.jfs_link.specs.steps.specs.After.{used_after, extents_after}
+use Rattle.jfs_link.specs.steps.specs.Call.{LeavesAreas}
 use Rattle.jfs_link.specs.steps.specs.Gains.{after_set}
+use Rattle.jfs_link.specs.steps.proofs.Areas.{then_leaves, extent_leaves}
 use Rattle.jfs_create.specs.Extent.{TellsExtent}
 use Rattle.jfs_create.specs.Makes.{IsBetween, IsNewPlace, CanStand}
 use Rattle.jfs_create.specs.declared.extent.NewExtent.{NewExtent}
@@ -28,6 +30,7 @@ pub record HasBetween (blocks : ℕ) (v : Volume) (n number page : ℕ) (more : 
   pub page_is : x.page ≡ put_tx blocks more v.page
   pub used : x.used ≡ used_after more v.used
   pub area : x.area ≡ v.area
+  pub areas : LeavesAreas v x
   pub extents : x.extents ≡ extents_after more v.extents
   pub in_use : x.in_use ≡ (after_set blocks more n v).in_use
   pub none : objects (readers blocks) x number ≡ None
@@ -47,7 +50,7 @@ not_used false h = refl
 
 module _ (blocks : ℕ) (v : Volume) (n number page : ℕ) (mid more : List Edit) (u : Tree) (has : HasTree (readers blocks) (after_set blocks mid n v) u) (free taken : List ℕ) (stays : extents_after mid v.extents ≡ v.extents)
     (few : (b : ℕ) → count_in b taken ≤ count_in b free) (counted : (b : ℕ) → bit ((after_set blocks mid n v).used b) ≡ bit (v.used b) + count_in b taken) (whole : (b : ℕ) → b < blocks → length (v.page b) ≡ 4096)
-    (none : objects (readers blocks) (after_set blocks mid n v) number ≡ None) where
+    (none : objects (readers blocks) (after_set blocks mid n v) number ≡ None) (leaves : LeavesAreas v (after_set blocks mid n v)) where
   abbrev v1 : Volume
   v1 = after_set blocks mid n v
 
@@ -58,6 +61,7 @@ module _ (blocks : ℕ) (v : Volume) (n number page : ℕ) (mid more : List Edit
     page_is = ap (λ (tx : List Edit). put_tx blocks tx v.page) (sym same);
     used = ap (λ (tx : List Edit). used_after tx v.used) (sym same);
     area = refl;
+    areas = leaves;
     extents = sym stays ∙ ap (λ (tx : List Edit). extents_after tx v.extents) (sym same);
     in_use = refl;
     none = none;
@@ -97,6 +101,7 @@ module _ (blocks : ℕ) (v : Volume) (n number page : ℕ) (mid more : List Edit
       page_is = refl;
       used = refl;
       area = refl;
+      areas = then_leaves v v1 x refl leaves (extent_leaves (readers blocks) v1 has.sound.agrees x new.place extent.run.addr added);
       extents = sym (extents_are extent told.one told.two told.three told.four told.first told.second told.third told.fourth mid more told.told new.place new.numbers v.extents
           ∙ ap (λ (es : List (Option ℕ)). set es new.place (Some extent.run.addr)) stays);
       in_use = refl;

@@ -28,11 +28,12 @@ use Rattle.jfs_link.specs.lead_steps.specs.Reached.{HasTree}
 use Rattle.jfs_link.specs.lead_steps.proofs.Chain.{same_tree, set_has, set_other}
 use Rattle.jfs_link.specs.lead_steps.proofs.InPlace.{counted_rules}
 use Rattle.jfs_link.specs.steps.specs.After.{used_after, extents_after, after_call}
-use Rattle.jfs_link.specs.steps.specs.Call.{IsDone}
+use Rattle.jfs_link.specs.steps.specs.Call.{IsDone, LeavesAreas}
 use Rattle.jfs_link.specs.steps.specs.Gains.{CanGain, IsGained, after_set, linked, with_root}
 use Rattle.jfs_link.specs.steps.specs.Laws.{TakesAndFrees}
 use Rattle.jfs_link.specs.steps.specs.Put.{TellsLines}
 use Rattle.jfs_link.specs.steps.proofs.After.{used_onto, extents_onto, lines_alone, runs_leave, done_after}
+use Rattle.jfs_link.specs.steps.proofs.Areas.{then_leaves, puts_leave, set_leaves}
 use Rattle.jfs_link.specs.steps.proofs.Grows.{gain_law}
 use Rattle.jfs_link.specs.steps.proofs.Sets.{lines_on_top, taken_move}
 use Rattle.jfs_create.specs.Makes.{Makes, CanStand, plain_of, links_after, gain_of}
@@ -129,7 +130,8 @@ module _ (blocks : ℕ) (v : Volume) (con : IsConsistent (readers blocks) v) (di
 
   mean : HasBetween blocks v n m plan.page makes.more (changed n f t)
   mean = between blocks v n m plan.page makes.mid makes.more (changed n f t) has1 (blocks_of free) makes.gains.edits.0 (mid_moves.extents_stay v.extents)
-      (λ b. (let e = ap (count_in b) makes.gains.edits.1 ∙ count_append b makes.gains.edits.0 (blocks_of left) in omega (arith, e))) (λ b. (let u = gained.sets.takes.used b in omega (arith, u))) can.whole none1 plan.extent makes.extent stands
+      (λ b. (let e = ap (count_in b) makes.gains.edits.1 ∙ count_append b makes.gains.edits.0 (blocks_of left) in omega (arith, e))) (λ b. (let u = gained.sets.takes.used b in omega (arith, u))) can.whole none1
+      (set_leaves r v con.sound.agrees v1 n set (put_tx blocks makes.gains.mid v.page) makes.gains.edits.0 [] gained.sets) plan.extent makes.extent stands
 
   abbrev v2 : Volume
   v2 = record v { page = put_tx blocks tx v.page; extents = mean.x.extents; used = used_after tx v.used; in_use = put m true v1.in_use }
@@ -137,6 +139,9 @@ module _ (blocks : ℕ) (v : Volume) (con : IsConsistent (readers blocks) v) (di
   puts : PutsInode mean.x.page v2.page mean.x.extents m (inode_with plan.object plan.seat now makes.is_new.rest)
   puts = subst (λ (d : Dinode). PutsInode mean.x.page v2.page mean.x.extents m d) makes.is_new.is
       (subst (λ (old : ℕ → List ℕ). PutsInode old v2.page mean.x.extents m makes.inode) (sym mean.page_is) (makes.puts mean.x.extents mean.at))
+
+  leaves : LeavesAreas v v2
+  leaves = then_leaves v mean.x v2 mean.area mean.areas (puts_leave r mean.x mean.has.sound.agrees mean.x.page v2.page m (inode_with plan.object plan.seat now makes.is_new.rest) puts)
 
   same_used : v2.used ≡ mean.x.used
   same_used = lines_used blocks v.page plan.page makes.more tx v.used makes.lines ∙ sym mean.used
@@ -167,4 +172,4 @@ module _ (blocks : ℕ) (v : Volume) (con : IsConsistent (readers blocks) v) (di
 
     pub whole : IsDone blocks v (after_call blocks tx v) (λ t. plain_of plan.object space t path now)
     whole = done_after blocks tx v v2 (λ t. plain_of plan.object space t path now) refl (mean.extents ∙ sym (lines_extents blocks v.page plan.page makes.more tx v.extents makes.lines)) refl (λ b. refl)
-        (record { tree = u; outcome = outcome; same = same; consistent = record { sound = has2.sound; inodes = has2.inodes; tree = kept } })
+        (record { tree = u; outcome = outcome; same = same; consistent = record { sound = has2.sound; inodes = has2.inodes; tree = kept }; areas = leaves })
