@@ -197,4 +197,5 @@ module _ (blocks : ℕ) (pages : ℕ → List ℕ) (area : ℕ → ℕ) (bm : Bl
           outcome = is;
           same = same_after blocks v w on.con (room_in blocks pages area bm inodes log_pages) (calls.Rename from to) now (fresh_law r v blocks log_pages on.con) u is s.has same_room;
           consistent = still_consistent blocks v w on.con (room_in blocks pages area bm inodes log_pages) (calls.Rename from to) now (fresh_law r v blocks log_pages on.con) u is s.has same_room;
+          areas = s.areas;
         })
