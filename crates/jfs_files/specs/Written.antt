@@ -102,7 +102,12 @@ abbrev pub ChangesIfDone : FileOutcome → Type 0
 ChangesIfDone (Same Done) = ⊥
 ChangesIfDone _ = Unit {0}
 
--- Of the calls that may change the tree, a rename alone may be done without a change.
+-- it is a reply alone
+abbrev pub RepliesAlone : FileOutcome → Type 0
+RepliesAlone (Same reply) = Unit {0}
+RepliesAlone _ = ⊥
+
+-- Of the calls that may change the tree, a rename alone may be done without a change. The calls that only look change nothing, and neither does `sync`.
 abbrev pub ChangesBy : Call → FileOutcome → Type 0
 ChangesBy (calls.Mkdir path mode) outcome = ChangesIfDone outcome
 ChangesBy (calls.Create path mode) outcome = ChangesIfDone outcome
@@ -114,4 +119,5 @@ ChangesBy (calls.Chmod path mode) outcome = ChangesIfDone outcome
 ChangesBy (calls.Write path offset new) outcome = ChangesIfDone outcome
 ChangesBy (calls.Fill path offset count byte) outcome = ChangesIfDone outcome
 ChangesBy (calls.Truncate path end) outcome = ChangesIfDone outcome
-ChangesBy _ outcome = Unit {0}
+ChangesBy (calls.Rename from to) outcome = Unit {0}
+ChangesBy _ outcome = RepliesAlone outcome

@@ -54,7 +54,7 @@ pub fn file_call<V: PageView>(
     // The transaction frees blocks in use alone, each once; but for a rename, which may free blocks that it took itself.
     ensures once { V.PageView.tells → renames request.now.call ≡ false → IfMounted (V.PageView.block_count view.old) (page_of (V.PageView.image view.old)) maps.old (λ v room. FreesUsed v.used result) }
     ensures own { V.PageView.tells → IfMounted (V.PageView.block_count view.old) (page_of (V.PageView.image view.old)) maps.old (λ v room. FreesOrTaken v.used result) }
-    // Of the calls that may change the tree, a rename alone is done without a change.
+    // Of the calls that may change the tree, a rename alone is done without a change; the others are answered by a reply alone.
     ensures changes { ChangesBy request.now.call result }
     // On any volume it is what the pages on the call's ways give, and the first of them that breaks a rule is named.
     ensures meets { V.PageView.tells → Meets (V.PageView.block_count view.old) (page_of (V.PageView.image view.old)) maps.old request.now.call now result }
