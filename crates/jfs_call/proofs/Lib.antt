@@ -2,5 +2,4 @@ pub mod Answered
 pub mod Asked
 pub mod Doing
 pub mod Joining
-pub mod Lasting
 pub mod Lending

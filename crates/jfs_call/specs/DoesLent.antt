@@ -13,6 +13,7 @@ use Rattle.jfs_volume_calls.specs.Halts.{CommitHalts}
 use Rattle.jfs_volume_calls.specs.Commit.{CommitIs}
 use Rattle.jfs_volume_calls.specs.Syncpoint.{SyncpointIs}
 use Rattle.jfs_volume_calls.specs.Together.{OfBothHalves}
+use Rattle.jfs_volume_calls.specs.Written.{KeepsPages, WritesMaps}
 use Rattle.jfs_call.specs.Does.{Does}
 use Rattle.jfs_call.specs.Replied.{IsReplied}
 use Rattle.jfs_call.specs.declared.outcome.Outcome.{Outcome}
@@ -46,20 +47,21 @@ ends_with volume log outcome = record { both = record { volume = volume; log = l
 
 -- ---- a commit, and a syncpoint
 
--- All entries so far are durable. Entries and maps stay, but for busy blocks, and so do the pages, but for those that entries freed and those of the maps; a commit that fails halts the volume.
+-- All entries so far are durable. Entries and maps stay, but for busy blocks, and so do the pages, but for those that entries freed; a commit that fails halts the volume.
 pub record Commits (tells crashes : Type 0) (old new : Both) (result : Result (Unit {0}) LogFault) : Type 0 where
   pub commit : OfBothHalves tells crashes old.volume old.log (λ seen asked both. CommitIs seen asked old.volume new.volume new.log both result)
   pub told : OnOk result (new.volume.told ≡ new.volume.appended)
   pub settles : Settles old.volume new.volume
-  pub shown : StaysShown tells old.volume new.volume
+  pub files : KeepsPages tells old.volume new.volume
   pub halts : CommitHalts old.volume.halted new.volume.halted result
 
--- the same, and all pages are home and synced
+-- The same, and all pages are home and synced: each map that had changed is shown by its pages.
 pub record Points (tells crashes : Type 0) (old new : Both) (result : Result (Unit {0}) Fault) : Type 0 where
   pub syncpoint : OfBothHalves tells crashes old.volume old.log (λ seen asked both. SyncpointIs seen asked old.volume new.volume new.log both result)
   pub told : OnOk result (new.volume.told ≡ new.volume.appended)
   pub settles : Settles old.volume new.volume
   pub shown : OnOk result (StaysShown tells old.volume new.volume)
+  pub maps : OnOk result (tells → WritesMaps old.volume new.volume)
   pub halts : HaltsAt old.volume.halted new.volume.halted result
 
 -- ---- what follows where the call needs the log

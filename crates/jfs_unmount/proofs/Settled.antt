@@ -118,6 +118,7 @@ module _ (s : Super) (old new : ℕ → List ℕ) (area : ℕ → ℕ) (m : Bloc
       record {
         consistent = spells.consistent;
         tree = subst (λ (t : Tree). Same (tree_on r v) t) spells.tree (same_tree r v settled.consistent.sound first new keeps);
+        room = spells.room;
       }
 
 pub settled_law : SettledLaw

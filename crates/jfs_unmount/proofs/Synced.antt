@@ -1,5 +1,6 @@
 -- A syncpoint settles the maps of a volume.
-use Rattle.std.proofs.Common.{◌≡◌, ◌<◌, refl, sym, ap, ◌∙◌, subst, ℕ, zero, suc, ◌+◌, ◌*◌, Bool, true, false, List, length, slice_get, Some, arith}
+use Rattle.std.specs.Bool.{⊤}
+use Rattle.std.proofs.Common.{◌≡◌, ◌⊎◌, ◌<◌, refl, sym, ap, ◌∙◌, subst, ℕ, zero, suc, ◌+◌, ◌*◌, nat_le, Bool, true, false, if◌then◌else◌, List, length, slice_get, inl, inr, Some, arith}
 use Rattle.std.proofs.lemmas.Bool.Decides.{nat_tests}
 use Rattle.std.proofs.lemmas.Option.{slice_get_within}
 use Rattle.jfs_disk.specs.Image.{page_of}
@@ -7,7 +8,8 @@ use Rattle.jfs_super.specs.Rules.{blocks_of}
 use Rattle.jfs_super.specs.declared.fields.Super.{Super}
 use Rattle.jfs_shown.specs.imap.specs.Inodes.{Inodes}
 use Rattle.jfs_shown.specs.bmap.specs.MapFile.{is_in_use, pages_of}
-use Rattle.jfs_shown.specs.bmap.specs.States.{Blocks, is_owned}
+use Rattle.jfs_shown.specs.bmap.specs.States.{Blocks, BlockState, Free, Owned, Reserved, Busy, state_of, is_owned, is_owned_state, settled_state, blocks_settled}
+use Rattle.jfs_shown.specs.bmap.proofs.States.{changed-each, changed-length}
 use Rattle.jfs_shown.specs.map_files.specs.declared.map_file.MapFiles.{MapFiles}
 use Rattle.jfs_shown.specs.objects.specs.Readers.{Readers}
 use Rattle.jfs_shown.specs.objects.specs.Volume.{Volume}
@@ -21,16 +23,18 @@ use Rattle.jfs_shown.proofs.Canonical.{canonical_law}
 use Rattle.jfs_shown.proofs.Files.{written_law, change_law, own_law}
 use Rattle.jfs_shown.proofs.Places.{keeps_law}
 use Rattle.jfs_volume_calls.specs.halves.specs.Parts.{Parts}
-use Rattle.jfs_volume_calls.specs.volume.specs.MapsHome.{ShowsBlockMap, HoldsNone}
+use Rattle.jfs_volume_calls.specs.volume.specs.MapsHome.{AreApart, ShowsBlockMap, HoldsNone}
+use Rattle.jfs_volume_calls.specs.volume.specs.Settles.{Settles, SettlesTo, KeepsMap, StaysShown}
+use Rattle.jfs_volume_calls.specs.Written.{WritesMaps}
 use Rattle.jfs_unmount.specs.Laws.{IsSettled}
-use Rattle.jfs_unmount.specs.Synced.{PutsMapsHome, SyncedLaw}
+use Rattle.jfs_unmount.specs.Synced.{PutsMapsHome, SyncedLaw, HomeLaw, IsHome, NoneFreed}
 
 -- a page of the block map's file is in use where it tells anything
 dmap_in_use : (blocks k : ℕ) → suc (suc (suc (suc k))) < pages_of blocks → is_in_use blocks (suc (suc (suc (suc k)))) ≡ true
 dmap_in_use blocks k l = grind (arith, nat_tests)
 
 -- the same map by another page of the same bytes, and by other states of the same owners
-same_blocks : (blocks : ℕ) (m n : Blocks) (j : ℕ) (page : List ℕ) → ((b : ℕ) → is_owned n b ≡ is_owned m b) → ShowsBlocks blocks m j page → ShowsBlocks blocks n j page
+pub same_blocks : (blocks : ℕ) (m n : Blocks) (j : ℕ) (page : List ℕ) → ((b : ℕ) → is_owned n b ≡ is_owned m b) → ShowsBlocks blocks m j page → ShowsBlocks blocks n j page
 same_blocks blocks m n zero page same shows = tt
 same_blocks blocks m n (suc zero) page same shows = tt
 same_blocks blocks m n (suc (suc zero)) page same shows = tt
@@ -93,7 +97,7 @@ module _ (s : Super) (area : ℕ → ℕ) (old new : Parts) (knows : KnowsFiles 
       by false e = subst (λ (m : Inodes). ShowsInodes m j (page_of new.view b)) (sym home.inodes)
           (subst (λ (p : List ℕ). ShowsInodes old.inodes j p) (sym (home.inode_pages e j b at)) (knows.inode_map e j b at))
 
-  known : KnowsFiles s (page_of new.view) area new.map new.inodes new.files
+  pub known : KnowsFiles s (page_of new.view) area new.map new.inodes new.files
   known = change_law s (page_of old.view) (page_of new.view) area old.map new.map old.inodes new.inodes old.files new.files knows (record {
     places = keeps_law r s.ait2 s.aim2 v (page_of new.view) consistent.sound.agrees knows.areas knows.whole (λ b other more e. home.areas b more (none b e));
     block_places = block_places;
@@ -115,3 +119,60 @@ module _ (s : Super) (area : ℕ → ℕ) (old new : Parts) (knows : KnowsFiles 
 
 pub synced_law : SyncedLaw
 synced_law s area old new knows consistent home after = settled s area old new knows consistent home after
+
+-- ---- a syncpoint puts them home
+
+pub settled_at : (n : ℕ) (m : Blocks) (b : ℕ) → state_of (blocks_settled n m) b ≡ settled_state n (state_of m b)
+settled_at n m b = changed-each (λ (c : ℕ) (s : BlockState). settled_state n s) m b refl
+
+owned_stays : (n : ℕ) (s : BlockState) → is_owned_state (settled_state n s) ≡ is_owned_state s
+owned_stays n Free = refl
+owned_stays n Owned = refl
+owned_stays n Reserved = refl
+owned_stays n (Busy entry) = by (nat_le entry n)
+  where
+    by : (x : Bool) → is_owned_state (if x then Free else Busy entry) ≡ false
+    by true = refl
+    by false = refl
+
+-- blocks with owners stay where entries are acknowledged
+pub settled_owned : (n : ℕ) (m : Blocks) (b : ℕ) → is_owned (blocks_settled n m) b ≡ is_owned m b
+settled_owned n m b = ap is_owned_state (settled_at n m b) ∙ owned_stays n (state_of m b)
+
+pub settled_size : (n : ℕ) (m : Blocks) → length (blocks_settled n m).states ≡ length m.states
+settled_size n m = changed-length (λ (c : ℕ) (s : BlockState). settled_state n s) m
+
+module _ (s : Super) (area : ℕ → ℕ) (old new : Parts) (knows : KnowsFiles s (page_of old.view) area old.map old.inodes old.files) (consistent : IsConsistent (readers (blocks_of s)) (volume_of (page_of old.view) area old.map old.inodes))
+    (free : NoneFreed area old) (settles : Settles old new) (shown : StaysShown ⊤ old new) (maps : WritesMaps old new) where
+  places : HasOwnPlaces (readers (blocks_of s)) (page_of old.view) area old.files
+  places = own_law s (page_of old.view) area old.map old.inodes old.files knows consistent.sound.agrees
+
+  apart : AreApart old.files
+  apart = record { blocks = places.blocks; inodes = places.inodes; both = places.both }
+
+  number_by : KeepsMap old new ⊎ ((n : ℕ) × SettlesTo n old new) → length new.map.states ≡ length old.map.states
+  number_by (inl k) = ap (λ (m : Blocks). length m.states) k.map
+  number_by (inr (n, t)) = ap (λ (m : Blocks). length m.states) t.map ∙ settled_size n old.map
+
+  owned_by : (b : ℕ) → KeepsMap old new ⊎ ((n : ℕ) × SettlesTo n old new) → is_owned new.map b ≡ is_owned old.map b
+  owned_by b (inl k) = ap (λ (m : Blocks). is_owned m b) k.map
+  owned_by b (inr (n, t)) = ap (λ (m : Blocks). is_owned m b) t.map ∙ settled_owned n old.map b
+
+  puts : PutsMapsHome area old new
+  puts = record {
+    files = maps.files;
+    inodes = settles.inodes;
+    number = number_by settles.map;
+    owned = λ b. owned_by b settles.map;
+    block_map = maps.block_map apart;
+    inode_map = maps.inode_map apart;
+    block_pages = λ e n b at. maps.block_pages apart e n b at (free b (places.block_areas n b at).1);
+    inode_pages = λ e n b at. maps.inode_pages apart e n b at (free b (places.inode_areas n b at).1);
+    areas = λ b more none. shown.view tt b (free b more) none;
+  }
+
+  pub is_home : IsHome s area old new
+  is_home = record { puts = puts; knows = known s area old new knows consistent puts }
+
+pub home_law : HomeLaw
+home_law = is_home

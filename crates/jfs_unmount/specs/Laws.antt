@@ -13,7 +13,8 @@ use Rattle.jfs_volume_calls.specs.plain.specs.Moves.{Same}
 use Rattle.jfs_shown.specs.kinds.specs.Images.{HasWholeFiles}
 use Rattle.jfs_shown.specs.meaning.specs.Readers.{readers}
 use Rattle.jfs_shown.specs.meaning.specs.Consistent.{IsConsistent}
-use Rattle.jfs_shown.specs.meaning.specs.Image.{tree_of, IsConsistentImage}
+use Rattle.jfs_shown.specs.meaning.specs.Room.{room_on}
+use Rattle.jfs_shown.specs.meaning.specs.Image.{tree_of, room_of, IsConsistentImage}
 use Rattle.jfs_shown.specs.meaning.specs.Image as meaning
 use Rattle.jfs_mounted.specs.mount_rules.specs.Subject.{subject_of}
 use Rattle.jfs_shown.specs.way.specs.Volume.{volume_of}
@@ -45,10 +46,11 @@ pub record IsSettled (s : Super) (page : ℕ → List ℕ) (area : ℕ → ℕ) 
   pub files : HasWholeFiles (readers (blocks_of s)) page
   pub shows : ShowsMaps s page blocks inodes
 
--- The pages alone are a consistent image, with the tree that pages and maps had.
+-- The pages alone are a consistent image, with the tree that pages and maps had, and with the room that these maps have on them.
 pub record KeepsTree (s : Super) (old new : ℕ → List ℕ) (area : ℕ → ℕ) (blocks : Blocks) (inodes : Inodes) : Type 0 where
   pub consistent : IsConsistentImage s new
   pub tree : Same (tree_in (blocks_of s) old area blocks inodes) (tree_of s new)
+  pub room : room_on (readers (blocks_of s)) (volume_of new area blocks inodes) (blocks_of s) s.logpxd.len ≡ room_of s new
 
 -- Whatever the superblock's page has, and whatever stands behind the file system part.
 abbrev pub SettledLaw : Type 0
@@ -61,5 +63,5 @@ pub record IsClean (s : Super) (area : ℕ → ℕ) (now : Parts) (image : Image
 
 abbrev pub CleanLaw : Type 0
 CleanLaw = (s : Super) (area : ℕ → ℕ) (superblock : List ℕ) (old : Parts) (log : LogParts) (image : Image) (past : List DiskState)
-    → (ends : Ends ⊤ ⊤ superblock old log image past) → super_of superblock ≡ record s { state = CLEAN } → blocks_of s ≤ ends.point.volume.blocks
+    → (ends : Ends ⊤ ⊥ superblock old log image past) → super_of superblock ≡ record s { state = CLEAN } → blocks_of s ≤ ends.point.volume.blocks
     → IsSettled s (page_of ends.point.volume.view) area ends.point.volume.map ends.point.volume.inodes → IsClean s area ends.point.volume image

@@ -1,5 +1,5 @@
 -- What a syncpoint leaves of a volume's maps and their pages.
-use Rattle.std.specs.Prelude.{◌≡◌, ◌<◌, ℕ, true, false, length, slice_get, Some}
+use Rattle.std.specs.Prelude.{◌≡◌, ◌<◌, ℕ, true, false, length, slice_get, Some, ⊤}
 use Rattle.jfs_disk.specs.Image.{page_of}
 use Rattle.jfs_super.specs.Rules.{blocks_of}
 use Rattle.jfs_super.specs.declared.fields.Super.{Super}
@@ -10,6 +10,8 @@ use Rattle.jfs_shown.specs.way.specs.Volume.{volume_of}
 use Rattle.jfs_shown.specs.Files.{KnowsFiles}
 use Rattle.jfs_volume_calls.specs.halves.specs.Parts.{Parts}
 use Rattle.jfs_volume_calls.specs.volume.specs.MapsHome.{ShowsBlockMap, ShowsInodeMap, HoldsNone, with_written}
+use Rattle.jfs_volume_calls.specs.volume.specs.Settles.{Settles, StaysShown, is_freed}
+use Rattle.jfs_volume_calls.specs.Written.{WritesMaps}
 use Rattle.jfs_unmount.specs.Laws.{IsSettled}
 
 -- A map that had changed is shown by its pages in their canonical form, and the pages of one that hadn't stay; so do the fixed areas beside these pages. The blocks with owners stay, and the inode map.
@@ -23,6 +25,19 @@ pub record PutsMapsHome (area : ℕ → ℕ) (old new : Parts) : Type 0 where
   pub block_pages : old.files.blocks.stale ≡ false → (n b : ℕ) → slice_get old.files.blocks.places n ≡ Some b → page_of new.view b ≡ page_of old.view b
   pub inode_pages : old.files.inodes.stale ≡ false → (n b : ℕ) → slice_get old.files.inodes.places n ≡ Some b → page_of new.view b ≡ page_of old.view b
   pub areas : (b : ℕ) → 0 < area b → HoldsNone old.files b → page_of new.view b ≡ page_of old.view b
+
+-- no page of a fixed area was freed by an entry
+abbrev pub NoneFreed : (ℕ → ℕ) → Parts → Type 0
+NoneFreed area p = (b : ℕ) → 0 < area b → is_freed p.freed b ≡ false
+
+-- A syncpoint does so on a volume of whose maps' files all is known, and all is known of them then.
+pub record IsHome (s : Super) (area : ℕ → ℕ) (old new : Parts) : Type 0 where
+  pub puts : PutsMapsHome area old new
+  pub knows : KnowsFiles s (page_of new.view) area new.map new.inodes new.files
+
+abbrev pub HomeLaw : Type 0
+HomeLaw = (s : Super) (area : ℕ → ℕ) (old new : Parts) → KnowsFiles s (page_of old.view) area old.map old.inodes old.files → IsConsistent (readers (blocks_of s)) (volume_of (page_of old.view) area old.map old.inodes)
+    → NoneFreed area old → Settles old new → StaysShown ⊤ old new → WritesMaps old new → IsHome s area old new
 
 -- So a volume of whose maps' files all is known, and which is consistent before and after, is settled then.
 abbrev pub SyncedLaw : Type 0

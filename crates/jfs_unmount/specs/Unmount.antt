@@ -11,6 +11,8 @@ use Rattle.jfs_volume_calls.specs.halves.specs.Parts.{Parts}
 use Rattle.jfs_volume_calls.specs.halves.specs.Log.{LogParts}
 use Rattle.jfs_volume_calls.specs.Together.{AreTogether, OfBothHalves}
 use Rattle.jfs_volume_calls.specs.Syncpoint.{SyncpointIs}
+use Rattle.jfs_volume_calls.specs.Written.{WritesMaps}
+use Rattle.jfs_volume_calls.specs.volume.specs.Settles.{Settles, StaysShown}
 
 -- ---- the superblock's page
 
@@ -25,13 +27,16 @@ MarksClean superblock old new (Err fault) = TearsPage 8 superblock old new
 
 -- ---- at Ok
 
--- Both parts as a syncpoint leaves them: no page is dirty, and the log has all that groups took.
+-- Both parts as a syncpoint leaves them: no page is dirty, and the log has all that groups took. Entries and maps stay, but for busy blocks; each map that had changed is shown by its pages, and all other pages stay, but for those that entries freed.
 pub record Pointed (tells crashes : Type 0) (old : Parts) (log : LogParts) : Type 0 where
   pub volume : Parts
   pub side : LogParts
   pub pointed : OfBothHalves tells crashes old log (λ seen asked both. SyncpointIs seen asked old volume side both (Ok tt))
   pub clean : (p : ℕ) → dirty_of volume.dirty p ≡ None
   pub together : AreTogether volume side
+  pub settles : Settles old volume
+  pub shown : StaysShown tells old volume
+  pub maps : tells → WritesMaps old volume
 
 -- Then the superblock's page is put into its place: the disk has the pages that the volume shows, but for that one, and behind them the log. Nothing of the low part is pending.
 pub record Ends (tells crashes : Type 0) (superblock : List ℕ) (old : Parts) (log : LogParts) (image : Image) (past : List DiskState) : Type 0 where

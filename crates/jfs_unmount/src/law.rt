@@ -1,14 +1,19 @@
 //! What is known of a volume's maps from its mount on, and what the disk means once it is unmounted.
 
 ghost use Rattle.jfs_unmount.specs.Laws.{MountLaw, SettledLaw, CleanLaw};
-ghost use Rattle.jfs_unmount.specs.Synced.{SyncedLaw};
+ghost use Rattle.jfs_unmount.specs.Synced.{HomeLaw, SyncedLaw};
 
 /// With the maps that a mount finds of a consistent image, all is known of their files.
 pub fn mounts_know_the_files_of_maps()
     ensures { MountLaw }
 {}
 
-/// A syncpoint puts the pages of both maps home: they show the maps then.
+/// A syncpoint puts the pages of both maps home, and all is known of their files then.
+pub fn syncpoints_put_maps_home()
+    ensures { HomeLaw }
+{}
+
+/// So these pages show the maps then.
 pub fn syncpoints_settle_maps()
     ensures { SyncedLaw }
 {}

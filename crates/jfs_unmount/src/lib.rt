@@ -5,7 +5,10 @@ mod law;
 mod leaving;
 mod unmounting;
 
-pub use law::{mounts_know_the_files_of_maps, settled_pages_have_the_tree, unmounts_keep_the_tree};
+pub use law::{
+    mounts_know_the_files_of_maps, settled_pages_have_the_tree, syncpoints_put_maps_home,
+    syncpoints_settle_maps, unmounts_keep_the_tree,
+};
 pub use leaving::leave;
 pub use unmounting::{Unended, unmount};
 

@@ -1,15 +1,17 @@
 -- What stays where a group is written, entries are acknowledged, pages go home and a SYNCPT is logged.
-use Rattle.std.proofs.Common.{◌≡◌, ◌⊎◌, ℕ, List, false, slice_get, Result, Ok, Err, refl, sym, ap, ◌∙◌, inl, inr, subst}
+use Rattle.std.proofs.Common.{◌≡◌, ◌⊎◌, ℕ, false, slice_get, Result, Ok, Err, refl, sym, ap, ◌∙◌, inl, inr, subst}
 use Rattle.std.specs.Prelude.{OnOk}
 use Rattle.jfs_disk.specs.Image.{Image, page_of}
 use Rattle.jfs_disk.specs.declared.disk.Fault.{Fault}
-use Rattle.jfs_volume.specs.bmap.specs.States.{blocks_settled}
+use Rattle.jfs_volume.specs.bmap.specs.States.{Blocks, blocks_settled}
+use Rattle.jfs_volume.specs.map_files.specs.imap.specs.Inodes.{Inodes}
 use Rattle.jfs_volume.specs.map_files.specs.declared.map_file.MapFiles.{MapFiles}
 use Rattle.jfs_volume.specs.halves.specs.Parts.{Parts}
 use Rattle.jfs_volume.specs.Told.{still_freed}
-use Rattle.jfs_volume.specs.MapsHome.{KeepsMemory, ShowsAfter, HoldsNone, with_written}
+use Rattle.jfs_volume.specs.MapsHome.{KeepsMemory, ShowsAfter, HoldsNone, AreApart, ShowsBlockMap, ShowsInodeMap, with_written}
 use Rattle.jfs_volume.specs.Settles.{Settles, SettlesTo, KeepsMap, StaysShown, HomesAlone, is_freed}
 use Rattle.jfs_volume_calls.specs.Halts.{GroupParts, PointParts}
+use Rattle.jfs_volume_calls.specs.Written.{KeepsPages, WritesMaps}
 
 -- what of the parts no group, no page that goes home and no SYNCPT changes
 record Alike (old new : Parts) : Type 0 where
@@ -55,11 +57,15 @@ group_alike old new g = alike_by old new (record old { taken = new.taken; text =
 pub group_settles : (old new : Parts) → GroupParts old new → Settles old new
 group_settles old new g = onward old old new (stays old) (group_alike old new g)
 
-pub group_shown : (tells : Type 0) (old new : Parts) → GroupParts old new → StaysShown tells old new
-group_shown tells old new g = record {
-  block_places = ap (λ (p : Parts). p.files.blocks.places) g;
-  inode_places = ap (λ (p : Parts). p.files.inodes.places) g;
-  view = λ k q f h. ap (λ (p : Parts). page_of p.view q) g;
+pub group_pages : (tells : Type 0) (old new : Parts) → GroupParts old new → KeepsPages tells old new
+group_pages tells old new g = record { files = ap (λ (p : Parts). p.files) g; view = λ k q f. ap (λ (p : Parts). page_of p.view q) g }
+
+-- so what is shown stays
+pub shown : (tells : Type 0) (old new : Parts) → KeepsPages tells old new → StaysShown tells old new
+shown tells old new k = record {
+  block_places = ap (λ (f : MapFiles). f.blocks.places) k.files;
+  inode_places = ap (λ (f : MapFiles). f.inodes.places) k.files;
+  view = λ t q f none. k.view t q f;
 }
 
 -- ---- all entries are acknowledged
@@ -88,12 +94,11 @@ told_settles old group new g t =
       );
     }
 
-pub told_shown : (tells : Type 0) (old group new : Parts) → GroupParts old group → ToldParts group new
-    → (tells → (q : ℕ) → is_freed group.freed q ≡ false → page_of new.view q ≡ page_of group.view q) → StaysShown tells old new
-told_shown tells old group new g t shows = record {
-  block_places = ap (λ (p : Parts). p.files.blocks.places) t ∙ ap (λ (p : Parts). p.files.blocks.places) g;
-  inode_places = ap (λ (p : Parts). p.files.inodes.places) t ∙ ap (λ (p : Parts). p.files.inodes.places) g;
-  view = λ k q f h. shows k q (ap (λ (p : Parts). is_freed p.freed q) g ∙ f) ∙ ap (λ (p : Parts). page_of p.view q) g;
+pub told_pages : (tells : Type 0) (old group new : Parts) → GroupParts old group → ToldParts group new
+    → (tells → (q : ℕ) → is_freed group.freed q ≡ false → page_of new.view q ≡ page_of group.view q) → KeepsPages tells old new
+told_pages tells old group new g t shows = record {
+  files = ap (λ (p : Parts). p.files) t ∙ ap (λ (p : Parts). p.files) g;
+  view = λ k q f. shows k q (ap (λ (p : Parts). is_freed p.freed q) g ∙ f) ∙ ap (λ (p : Parts). page_of p.view q) g;
 }
 
 -- ---- pages go home
@@ -120,19 +125,55 @@ pub anyhow : {X : Type 0} (result : Result (Unit {0}) Fault) → X → OnOk resu
 anyhow (Ok done) x = x
 anyhow (Err fault) x = tt
 
--- parts whose maps' files lie where those of others do
-holds_none : (a b : Parts) (q : ℕ) → b.files.blocks.places ≡ a.files.blocks.places → b.files.inodes.places ≡ a.files.inodes.places → HoldsNone a.files q → HoldsNone b.files q
-holds_none a b q blocks inodes h =
-    (λ n e. h.0 n (ap (λ (places : List ℕ). slice_get places n) (sym blocks) ∙ e), λ n e. h.1 n (ap (λ (places : List ℕ). slice_get places n) (sym inodes) ∙ e))
-
-pub point_shown : (tells : Type 0) (a commit home maps low end : Parts) → StaysShown tells a commit → HomesAlone tells commit home → (tells → ShowsAfter home maps) → maps.files ≡ with_written home.files
+pub point_shown : (tells : Type 0) (a commit home maps low end : Parts) → KeepsPages tells a commit → HomesAlone tells commit home → (tells → ShowsAfter home maps) → maps.files ≡ with_written home.files
     → HomesAlone tells maps low → PointParts low end → StaysShown tells a end
-point_shown tells a commit home maps low end s h shows written l p =
-    let blocks : home.files.blocks.places ≡ a.files.blocks.places = ap (λ (x : Parts). x.files.blocks.places) h.parts ∙ s.block_places in
-    let inodes : home.files.inodes.places ≡ a.files.inodes.places = ap (λ (x : Parts). x.files.inodes.places) h.parts ∙ s.inode_places in
+point_shown tells a commit home maps low end c h shows written l p =
+    let files : home.files ≡ a.files = ap (λ (x : Parts). x.files) h.parts ∙ c.files in
+    let after : end.files ≡ with_written a.files = ap (λ (x : Parts). x.files) p ∙ ap (λ (x : Parts). x.files) l.parts ∙ written ∙ ap with_written files in
     record {
-      block_places = ap (λ (x : Parts). x.files.blocks.places) p ∙ ap (λ (x : Parts). x.files.blocks.places) l.parts ∙ ap (λ (f : MapFiles). f.blocks.places) written ∙ blocks;
-      inode_places = ap (λ (x : Parts). x.files.inodes.places) p ∙ ap (λ (x : Parts). x.files.inodes.places) l.parts ∙ ap (λ (f : MapFiles). f.inodes.places) written ∙ inodes;
-      view = λ k q free none. ap (λ (x : Parts). page_of x.view q) p ∙ ap (λ (view : Image). page_of view q) (l.view k) ∙ (shows k).others q (holds_none a home q blocks inodes none)
-          ∙ ap (λ (view : Image). page_of view q) (h.view k) ∙ s.view k q free none;
+      block_places = ap (λ (f : MapFiles). f.blocks.places) after;
+      inode_places = ap (λ (f : MapFiles). f.inodes.places) after;
+      view = λ k q free none. ap (λ (x : Parts). page_of x.view q) p ∙ ap (λ (view : Image). page_of view q) (l.view k) ∙ (shows k).others q (subst (λ (f : MapFiles). HoldsNone f q) (sym files) none)
+          ∙ ap (λ (view : Image). page_of view q) (h.view k) ∙ c.view k q free;
     }
+
+-- ---- the maps' pages
+
+-- the same maps are shown by the same pages of the same files
+blocks_alike : (p q : Parts) → q.map ≡ p.map → q.files ≡ p.files → q.view ≡ p.view → ShowsBlockMap p → ShowsBlockMap q
+blocks_alike p q map files view shows =
+    subst (λ (m : Blocks). ShowsBlockMap (record p { map = m; files = q.files; view = q.view })) (sym map)
+    (subst (λ (f : MapFiles). ShowsBlockMap (record p { files = f; view = q.view })) (sym files) (subst (λ (v : Image). ShowsBlockMap (record p { view = v })) (sym view) shows))
+
+inodes_alike : (p q : Parts) → q.inodes ≡ p.inodes → q.files ≡ p.files → q.view ≡ p.view → ShowsInodeMap p → ShowsInodeMap q
+inodes_alike p q inodes files view shows =
+    subst (λ (m : Inodes). ShowsInodeMap (record p { inodes = m; files = q.files; view = q.view })) (sym inodes)
+    (subst (λ (f : MapFiles). ShowsInodeMap (record p { files = f; view = q.view })) (sym files) (subst (λ (v : Image). ShowsInodeMap (record p { view = v })) (sym view) shows))
+
+module _ (tells : Type 0) (a commit home maps low end : Parts) (k : tells) (c : KeepsPages tells a commit) (h : HomesAlone tells commit home) (shows : ShowsAfter home maps) (written : maps.files ≡ with_written home.files) (l : HomesAlone tells maps low) (p : PointParts low end) where
+  before : home.files ≡ a.files
+  before = ap (λ (x : Parts). x.files) h.parts ∙ c.files
+
+  after : end.files ≡ maps.files
+  after = ap (λ (x : Parts). x.files) p ∙ ap (λ (x : Parts). x.files) l.parts
+
+  view : end.view ≡ maps.view
+  view = ap (λ (x : Parts). x.view) p ∙ l.view k
+
+  apart : AreApart a.files → AreApart home.files
+  apart own = subst (λ (f : MapFiles). AreApart f) (sym before) own
+
+  -- a page that the maps' write leaves
+  page_stays : (b : ℕ) → page_of maps.view b ≡ page_of home.view b → is_freed a.freed b ≡ false → page_of end.view b ≡ page_of a.view b
+  page_stays b same free = ap (λ (v : Image). page_of v b) view ∙ same ∙ ap (λ (v : Image). page_of v b) (h.view k) ∙ c.view k b free
+
+  pub point_writes : WritesMaps a end
+  point_writes = record {
+    files = after ∙ written ∙ ap with_written before;
+    block_map = λ own e. blocks_alike maps end (ap (λ (x : Parts). x.map) p ∙ ap (λ (x : Parts). x.map) l.parts) after view (shows.block_map (apart own) (ap (λ (f : MapFiles). f.blocks.stale) before ∙ e));
+    inode_map = λ own e. inodes_alike maps end (ap (λ (x : Parts). x.inodes) p ∙ ap (λ (x : Parts). x.inodes) l.parts) after view (shows.inode_map (apart own) (ap (λ (f : MapFiles). f.inodes.stale) before ∙ e));
+    block_pages = λ own e n b at free.
+        page_stays b (shows.block_pages (apart own) (ap (λ (f : MapFiles). f.blocks.stale) before ∙ e) n b (ap (λ (f : MapFiles). slice_get f.blocks.places n) before ∙ at)) free;
+    inode_pages = λ own e n b at free.
+        page_stays b (shows.inode_pages (apart own) (ap (λ (f : MapFiles). f.inodes.stale) before ∙ e) n b (ap (λ (f : MapFiles). slice_get f.inodes.places n) before ∙ at)) free;
+  }

@@ -3,6 +3,7 @@ pub mod Together
 pub mod Commit
 pub mod Syncpoint
 pub mod Halts
+pub mod Written
 -- libraries below, passed on
 pub use Rattle.jfs_volume.specs.crash_core
 pub use Rattle.jfs_volume.specs.halves

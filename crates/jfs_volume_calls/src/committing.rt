@@ -2,10 +2,11 @@
 
 ghost use Rattle.std.specs.Prelude.{◌≡◌, ◌+◌, [], false, length, OnOk};
 ghost use Rattle.jfs_volume.specs.Settle.{is_idle};
-ghost use Rattle.jfs_volume.specs.Settles.{Settles, StaysShown};
+ghost use Rattle.jfs_volume.specs.Settles.{Settles};
 ghost use Rattle.jfs_volume_calls.specs.Halts.{CommitHalts, GroupParts};
 ghost use Rattle.jfs_volume_calls.specs.Together.{AreTogether, OfBothHalves, log_parts};
 ghost use Rattle.jfs_volume_calls.specs.Commit.{CommitIs, GroupIs, WriteIs, HasLogFault};
+ghost use Rattle.jfs_volume_calls.specs.Written.{KeepsPages};
 
 use jfs_disk::Disk;
 use jfs_logpages::{LogFault, LogSide};
@@ -26,7 +27,7 @@ pub fn commit<D: Disk>(volume: &mut Volume<D>, log: &mut LogSide<D>) -> Result<(
     ensures text { (volume.new.text.bytes ≡ []) × (volume.new.text.place ≡ volume.old.text.place + length volume.old.text.bytes) }
     ensures halted { OnOk result (volume.new.halted ≡ volume.old.halted) }
     ensures settles { Settles volume.old volume.new }
-    ensures shown { StaysShown D.tells volume.old volume.new }
+    ensures files { KeepsPages D.tells volume.old volume.new }
     ensures halts { CommitHalts volume.old.halted volume.new.halted result }
     ensures disk { (volume.new.count ≡ volume.old.count) × (volume.new.room ≡ volume.old.room) × (D.page_count log.new.part ≡ D.page_count log.old.part) }
     ensures cause { HasLogFault (D.fault_count log.old.part) (D.fault_count log.new.part) result }

@@ -7,6 +7,7 @@ ghost use Rattle.jfs_volume.specs.Settles.{Settles, StaysShown, HaltsAt};
 ghost use Rattle.jfs_volume_calls.specs.Halts.{PointParts};
 ghost use Rattle.jfs_volume_calls.specs.Together.{AreTogether, OfBothHalves, log_parts};
 ghost use Rattle.jfs_volume_calls.specs.Syncpoint.{SyncpointIs, PointIs, HasFaultOfEither, HasPointFault};
+ghost use Rattle.jfs_volume_calls.specs.Written.{WritesMaps};
 
 use crate::committing::commit;
 use crate::point::PointText;
@@ -35,6 +36,7 @@ pub fn syncpoint<D: Disk>(
     ensures halted { OnOk result (volume.new.halted ≡ volume.old.halted) }
     ensures settles { Settles volume.old volume.new }
     ensures shown { OnOk result (StaysShown D.tells volume.old volume.new) }
+    ensures maps { OnOk result (D.tells → WritesMaps volume.old volume.new) }
     ensures halts { HaltsAt volume.old.halted volume.new.halted result }
     ensures text { OnOk result (volume.new.text.bytes ≡ []) }
     ensures disk { (volume.new.count ≡ volume.old.count) × (volume.new.room ≡ volume.old.room) × (D.page_count log.new.part ≡ D.page_count log.old.part) }

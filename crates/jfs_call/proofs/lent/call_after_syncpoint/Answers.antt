@@ -42,7 +42,7 @@ pub returns-in-Err-clause-does : goal.returns-in-Err-clause-does
 returns-in-Err-clause-does g c = inr (record {
   mid = record { volume = c.syncpoint.new.volume; log = log_parts g.D.Disk c.syncpoint.new.log };
   result = Err c.in-Err.fault;
-  points = record { syncpoint = c.in-Err.ensures.syncpoint; told = tt; settles = c.syncpoint.ensures.settles; shown = tt; halts = c.in-Err.ensures.halts };
+  points = record { syncpoint = c.in-Err.ensures.syncpoint; told = tt; settles = c.syncpoint.ensures.settles; shown = tt; maps = tt; halts = c.in-Err.ensures.halts };
   ends = (c.fail.ensures, refl);
 })
 
@@ -50,7 +50,7 @@ pub returns-in-NeedsLog-clause-does : goal.returns-in-NeedsLog-clause-does
 returns-in-NeedsLog-clause-does g c = inr (record {
   mid = record { volume = c.syncpoint.new.volume; log = log_parts g.D.Disk c.syncpoint.new.log };
   result = Ok tt;
-  points = record { syncpoint = c.in-Ok.ensures.syncpoint; told = c.in-Ok.ensures.counts.1; settles = c.syncpoint.ensures.settles; shown = c.in-Ok.ensures.shown; halts = c.in-Ok.ensures.halts };
+  points = record { syncpoint = c.in-Ok.ensures.syncpoint; told = c.in-Ok.ensures.counts.1; settles = c.syncpoint.ensures.settles; shown = c.in-Ok.ensures.shown; maps = c.in-Ok.ensures.maps; halts = c.in-Ok.ensures.halts };
   ends = inr (c.call_without_log.new.volume, c.in-NeedsLog.ensures.does, (refl, refl));
 })
 
@@ -58,7 +58,7 @@ pub returns-in_default-clause-does : goal.returns-in_default-clause-does
 returns-in_default-clause-does g c = inr (record {
   mid = record { volume = c.syncpoint.new.volume; log = log_parts g.D.Disk c.syncpoint.new.log };
   result = Ok tt;
-  points = record { syncpoint = c.in-Ok.ensures.syncpoint; told = c.in-Ok.ensures.counts.1; settles = c.syncpoint.ensures.settles; shown = c.in-Ok.ensures.shown; halts = c.in-Ok.ensures.halts };
+  points = record { syncpoint = c.in-Ok.ensures.syncpoint; told = c.in-Ok.ensures.counts.1; settles = c.syncpoint.ensures.settles; shown = c.in-Ok.ensures.shown; maps = c.in-Ok.ensures.maps; halts = c.in-Ok.ensures.halts };
   ends = inl (c.call_without_log.ensures.does, refl);
 })
 

@@ -2,7 +2,7 @@ use Rattle.std.proofs.Common.{◌∙◌}
 use Rattle.jfs_volume.specs.halves.specs.Both.{after}
 use Rattle.jfs_volume_calls.specs.Together.{log_parts}
 use Rattle.jfs_volume_calls.proofs.Chained.{commit_closes}
-use Rattle.jfs_volume_calls.proofs.Kept.{group_settles, group_shown, told_settles, told_shown}
+use Rattle.jfs_volume_calls.proofs.Kept.{group_settles, group_pages, told_settles, told_pages}
 use Rattle.jfs_volume_calls.proofs.committing.commit.Goals as goal
 
 pub returns-in-Ok-clause-commit : goal.returns-in-Ok-clause-commit
@@ -17,11 +17,11 @@ returns-in-Err-clause-commit g c seen asked told crashes both s t none = c.in-Er
 pub returns-in-Ok-clause-settles : goal.returns-in-Ok-clause-settles
 returns-in-Ok-clause-settles g c = told_settles c.args.volume.now c.write_waiting.new.volume c.told_all.new.self c.write_waiting.ensures.parts c.told_all.ensures.parts
 
-pub returns-in-Ok-clause-shown : goal.returns-in-Ok-clause-shown
-returns-in-Ok-clause-shown g c = told_shown g.D.Disk.tells c.args.volume.now c.write_waiting.new.volume c.told_all.new.self c.write_waiting.ensures.parts c.told_all.ensures.parts c.told_all.ensures.shows
+pub returns-in-Ok-clause-files : goal.returns-in-Ok-clause-files
+returns-in-Ok-clause-files g c = told_pages g.D.Disk.tells c.args.volume.now c.write_waiting.new.volume c.told_all.new.self c.write_waiting.ensures.parts c.told_all.ensures.parts c.told_all.ensures.shows
 
 pub returns-in-Err-clause-settles : goal.returns-in-Err-clause-settles
 returns-in-Err-clause-settles g c = group_settles c.args.volume.now c.write_waiting.new.volume c.write_waiting.ensures.parts
 
-pub returns-in-Err-clause-shown : goal.returns-in-Err-clause-shown
-returns-in-Err-clause-shown g c = group_shown g.D.Disk.tells c.args.volume.now c.write_waiting.new.volume c.write_waiting.ensures.parts
+pub returns-in-Err-clause-files : goal.returns-in-Err-clause-files
+returns-in-Err-clause-files g c = group_pages g.D.Disk.tells c.args.volume.now c.write_waiting.new.volume c.write_waiting.ensures.parts

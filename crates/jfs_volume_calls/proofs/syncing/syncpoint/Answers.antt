@@ -11,7 +11,7 @@ use Rattle.jfs_volume_calls.specs.Together.{log_parts}
 use Rattle.jfs_volume_calls.specs.Commit.{committing}
 use Rattle.jfs_volume_calls.specs.Syncpoint.{homing, settling, group_fails}
 use Rattle.jfs_volume_calls.proofs.Chained.{low_stops, maps_stop, settled_closes, settled_may, syncpoint_ends}
-use Rattle.jfs_volume_calls.proofs.Kept.{anyhow, homed, mapped, pointed, point_shown}
+use Rattle.jfs_volume_calls.proofs.Kept.{anyhow, homed, mapped, pointed, point_shown, point_writes}
 use Rattle.jfs_volume_calls.proofs.syncing.syncpoint.Goals as goal
 
 pub returns-in-Err-clause-syncpoint : goal.returns-in-Err-clause-syncpoint
@@ -87,5 +87,10 @@ returns-clause-settles g c = pointed c.args.volume.now c.sync_low.new.self c.wri
 
 pub returns-clause-shown : goal.returns-clause-shown
 returns-clause-shown g c = anyhow c.write_point.result
-    (point_shown g.D.Disk.tells c.args.volume.now c.commit.new.volume c.home_all.new.self c.home_maps.new.self c.sync_low.new.self c.write_point.new.volume c.commit.ensures.shown c.home_all.ensures.alone c.in-Ok-home_maps.ensures.shows
+    (point_shown g.D.Disk.tells c.args.volume.now c.commit.new.volume c.home_all.new.self c.home_maps.new.self c.sync_low.new.self c.write_point.new.volume c.commit.ensures.files c.home_all.ensures.alone c.in-Ok-home_maps.ensures.shows
     c.in-Ok-home_maps.ensures.written c.sync_low.ensures.alone c.write_point.ensures.parts)
+
+pub returns-clause-maps : goal.returns-clause-maps
+returns-clause-maps g c = anyhow c.write_point.result
+    (λ t. point_writes g.D.Disk.tells c.args.volume.now c.commit.new.volume c.home_all.new.self c.home_maps.new.self c.sync_low.new.self c.write_point.new.volume t c.commit.ensures.files c.home_all.ensures.alone
+    (c.in-Ok-home_maps.ensures.shows t) c.in-Ok-home_maps.ensures.written c.sync_low.ensures.alone c.write_point.ensures.parts)
