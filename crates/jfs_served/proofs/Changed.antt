@@ -1,6 +1,6 @@
 -- A call whose entry joins with a transaction takes the plain step.
 use Rattle.std.specs.Bool.{⊤}
-use Rattle.std.proofs.Common.{◌≡◌, ◌<◌, ◌≤◌, ◌⊎◌, ◌==◌, ◌+◌, ◌^◌, refl, sym, ap, ◌∙◌, subst, ℕ, nat_lt, if◌then◌else◌, List, [], ◌∷◌, ◌++◌, length, set, inl, inr, Ok, arith}
+use Rattle.std.proofs.Common.{◌≡◌, ◌<◌, ◌≤◌, ◌⊎◌, ◌==◌, ◌+◌, ◌^◌, refl, sym, ap, ◌∙◌, subst, ℕ, false, nat_lt, if◌then◌else◌, List, [], ◌∷◌, ◌++◌, length, set, inl, inr, Ok, arith}
 use Rattle.std.specs.List.{AllByRecursion}
 use Rattle.std.proofs.lemmas.Bool.{and_parts, cases_eq, cases_lt, ltb-true, eq-eqb, ne_eqb}
 use Rattle.std.proofs.lemmas.List.{get_or_past, get_or-set_same, get_or-set_other, length-set}
@@ -11,7 +11,7 @@ use Rattle.jfs_ranges.specs.Laid.{put_tx}
 use Rattle.jfs_ranges.specs.View.{AreWhole}
 use Rattle.jfs_ranges.specs.declared.edit.Edit.{Edit}
 use Rattle.jfs_shown.specs.imap.specs.Inodes.{Inodes}
-use Rattle.jfs_shown.specs.bmap.specs.States.{Blocks, Free, put_state, is_owned}
+use Rattle.jfs_shown.specs.bmap.specs.States.{Blocks, Free, put_state, is_owned, is_owned_state}
 use Rattle.jfs_shown.specs.map_files.specs.declared.maps.Maps.{Maps}
 use Rattle.jfs_shown.specs.map_files.specs.declared.map_file.MapFiles.{MapFiles}
 use Rattle.jfs_shown.specs.objects.specs.Volume.{Volume}
@@ -37,7 +37,8 @@ use Rattle.jfs_marks.specs.declared.marking.Marking.TheVariants.{Fits}
 use Rattle.jfs_call.specs.volume.specs.Called.{JoinsWith}
 use Rattle.jfs_call.specs.volume.specs.Data.{put_pages}
 use Rattle.jfs_call.specs.volume.specs.MapsHome.{HoldsNone}
-use Rattle.jfs_call.specs.volume.specs.Runs.{taken_in, pages_freed}
+use Rattle.jfs_call.specs.volume.specs.Runs.{taken_in, freed_in, pages_freed}
+use Rattle.jfs_call.specs.volume.specs.Stale.{changes_blocks, changes_inodes, stale_after}
 use Rattle.jfs_call.specs.crash_core.specs.Image.{pages_after}
 use Rattle.jfs_call.specs.volume.specs.data_steps.specs.After.{LieWithin, page_put, put_data, after_writes}
 use Rattle.jfs_call.specs.volume.specs.data_steps.specs.declared.pages.DataPage.{DataPage}
@@ -55,13 +56,15 @@ use Rattle.jfs_call.specs.volume.specs.records.specs.Limits.{IsLoggable}
 use Rattle.jfs_call.specs.volume.specs.records.specs.Records.{noted, tx_of}
 use Rattle.jfs_call.specs.volume.proofs.Taken.{takes_runs}
 use Rattle.jfs_call.specs.volume.proofs.Texts.{tx_of-noted}
-use Rattle.jfs_served.specs.Holds.{blocks_at, volume_at, tree_at, room_at, IsBusyPage, MayServe}
+use Rattle.jfs_served.specs.Holds.{blocks_at, volume_at, tree_at, room_at, IsBusyPage, MayServe, KeepsFiles}
 use Rattle.jfs_served.specs.Step.{IsAsked, IsAnswer, TakesStep, causes_of}
 use Rattle.jfs_served.specs.Laws.{ChangedLaw}
-use Rattle.jfs_served.proofs.Entered.{all_still_busy}
+use Rattle.jfs_served.proofs.Entered.{idle, all_still_busy}
+use Rattle.jfs_served.proofs.Files.{area_used, files_stay}
 use Rattle.jfs_served.proofs.Given.{mid_size}
 use Rattle.jfs_served.proofs.Keeps.{between}
 use Rattle.jfs_served.proofs.Replies.{by_outcome}
+use Rattle.jfs_served.proofs.Stale.{neither, no_runs, no_marks, same_groups}
 
 -- pages that are put into an image which has their places
 put_at : (ds : List DataPage) (image : Image) (blocks b : ℕ) → LieWithin blocks ds → blocks ≤ length image → page_of (put_pages ds image) b ≡ page_put ds b (page_of image b)
@@ -166,6 +169,10 @@ module _ (area : ℕ → ℕ) (log_pages : ℕ) (request : Request) (now : Momen
       ∙ pages_law n tx joins.notes (put_pages ds old.view) b loggable l
       ∙ ap (λ (page : List ℕ). if nat_lt b n then apply_tx b tx page else page) (put_at ds old.view n b answer.contents.0 (let f = fits_whole old.blocks old.view whole in let h = may.holds.within in omega (arith, f, h)))
 
+  -- a block of a fixed area is one of them
+  used_below : (b : ℕ) → 0 < area b → b < n
+  used_below b more = ltb-true b n (and_parts (nat_lt b n) (is_owned old.map b) (area_used (readers n) v may.holds.consistent.sound.agrees b more)).0
+
   alike : AreAlike w (volume_at area new)
   alike = record {
     extents = refl;
@@ -194,6 +201,34 @@ module _ (area : ℕ → ℕ) (log_pages : ℕ) (request : Request) (now : Momen
       ∙ ap (λ (es : List Edit). old.freed ++ pages_freed (mid.appended + 1) es) edits))
       (all_still_busy n (mid.appended + 1) tx old.map mid.map new.map (are_short n tx joins.notes loggable.each loggable.all) answer.maps.free is entered.entered own joins.gone old.freed may.holds.freed)
 
+  -- ---- the maps' files
+
+  files_are : new.files ≡ stale_after (taken_in tx) (freed_in tx) joins.marks old.files
+  files_are = ap (λ (p : Parts). p.files) joins.adds.parts ∙ ap (λ (es : List Edit). stale_after (taken_in es) (freed_in es) joins.marks mid.files) edits ∙ ap (λ (p : Parts). stale_after (taken_in tx) (freed_in tx) joins.marks p.files) asked.parts
+
+  block_map : new.files.blocks.stale ≡ false → (old.files.blocks.stale ≡ false) × ((b : ℕ) → is_owned new.map b ≡ is_owned old.map b)
+  block_map fresh =
+      let stale = neither (changes_blocks (taken_in tx) (freed_in tx)) old.files.blocks.stale (sym (ap (λ (f : MapFiles). f.blocks.stale) files_are) ∙ fresh) in
+      let runs = no_runs (taken_in tx) (freed_in tx) stale.0 in
+      (stale.1, λ b. ap is_owned_state (idle n (mid.appended + 1) tx old.map mid.map new.map (are_short n tx joins.notes loggable.each loggable.all) answer.maps.free is entered.entered runs.0 runs.1 map_is.size b))
+
+  inode_map : new.files.inodes.stale ≡ false → (old.files.inodes.stale ≡ false) × (new.inodes ≡ old.inodes)
+  inode_map fresh =
+      let stale = neither (changes_inodes joins.marks) old.files.inodes.stale (sym (ap (λ (f : MapFiles). f.inodes.stale) files_are) ∙ fresh) in
+      (stale.1, no_marks old.inodes joins.marks new.inodes stale.0 marked)
+
+  known : KeepsFiles area old new
+  known = files_stay area log_pages old new may.holds (record {
+    pages = λ b more. shown b (used_below b more) ∙ done.areas b more;
+    block_places = ap (λ (f : MapFiles). f.blocks.places) files_are;
+    inode_places = ap (λ (f : MapFiles). f.inodes.places) files_are;
+    size = map_is.size;
+    extents = inodes_are.places;
+    groups = same_groups old.inodes joins.marks new.inodes marked;
+    block_map = block_map;
+    inode_map = inode_map;
+  })
+
   pub changed : TakesStep area log_pages request.call now Done old new
   changed = record {
     step = by_outcome (causes_of request.call old new) (tree_at area old) (tree_at area new) (room_at area log_pages old) request.call now Done (Ok (Done, done.tree)) done.outcome (refl, tree);
@@ -210,6 +245,7 @@ module _ (area : ℕ → ℕ) (log_pages : ℕ) (request : Request) (now : Momen
       };
       none = map_is.rest may.none;
     };
+    files = known;
   }
 
 pub changed_law : ChangedLaw

@@ -39,6 +39,10 @@ no_run : (b : ℕ) → is_in_list [] b ≡ true → ⊥
 unfolding is_in_list
 no_run b e = cc (e)
 
+in_none : (b : ℕ) → is_in_list [] b ≡ false
+unfolding is_in_list
+in_none b = refl
+
 in_either : (xs ys : List Pxd) (b : ℕ) → is_in_list (xs ++ ys) b ≡ true → (is_in_list xs b ≡ true) ⊎ (is_in_list ys b ≡ true)
 in_either xs ys b e = or_cases (is_in_list xs b) (is_in_list ys b) (sym (in_list-append xs ys b) ∙ e)
 
@@ -112,6 +116,24 @@ module _ (n k : ℕ) (tx : List Edit) (old mid new : Blocks) (short : AreShort n
       by : (b < length old.states) ⊎ (length old.states ≤ b) → b < length old.states
       by (inl l) = l
       by (inr past) = absurd (other (get_or_past old.states b Owned past))
+
+  -- where it takes and frees no run, all blocks stay
+  pub idle : taken_in tx ≡ [] → freed_in tx ≡ [] → length new.states ≡ length old.states → (b : ℕ) → state_of new b ≡ state_of old b
+  idle takes_none frees_none size b = by (cases_lt b (length old.states))
+    where
+      untaken : is_in_list (taken_in tx) b ≡ false
+      untaken = ap (λ (runs : List Pxd). is_in_list runs b) takes_none ∙ in_none b
+
+      unfreed : frees_block b tx ≡ false
+      unfreed = frees_runs b tx ∙ ap (λ (runs : List Pxd). is_in_list runs b) frees_none ∙ in_none b
+
+      kept : IsKept (takes tx b) (state_of old b) (state_of mid b) → state_of mid b ≡ state_of old b
+      kept (stays none same) = same
+      kept (comes more was held) = absurd (cc (in_taken tx b more, untaken))
+
+      by : (b < length old.states) ⊎ (length old.states ≤ b) → state_of new b ≡ state_of old b
+      by (inl l) = new_at b l ∙ rw (takes_runs b tx ∙ untaken, unfreed, untaken) (kept (each tx old mid free is b))
+      by (inr past) = get_or_past new.states b Owned (omega (arith, past, size)) ∙ sym (get_or_past old.states b Owned past)
 
   stays_busy : (b entry : ℕ) → state_of old b ≡ Busy entry → state_of new b ≡ Busy entry
   stays_busy b entry e = new_at b (there b (λ o. cc (o, e))) ∙ by (is_in_list (taken_in tx) b) refl (each tx old mid free is b)

@@ -29,6 +29,7 @@ use Rattle.jfs_call.specs.volume.proofs.GivingBack.{in_one}
 use Rattle.jfs_served.specs.Holds.{IsBusyPage, HoldsTree, KeepsTree}
 use Rattle.jfs_served.specs.Step.{IsAsked}
 use Rattle.jfs_served.specs.Laws.{GivenBackLaw, UnfinishedLaw}
+use Rattle.jfs_served.proofs.Files.{unchanged, files_stay}
 use Rattle.jfs_served.proofs.Keeps.{kept}
 
 -- ---- what a transaction takes, as its runs have it
@@ -150,6 +151,8 @@ module _ (area : ℕ → ℕ) (log_pages : ℕ) (old mid new : Parts) (h : Holds
     freed = subst (λ (fs : List FreedPage). AllByRecursion (IsBusyPage new.map) fs) (ap (λ (p : Parts). p.freed) parts) (all_busy old.map new.map old.freed busy h.freed);
     areas = λ b zero. subst (λ (f : MapFiles). HoldsNone f b) (ap (λ (p : Parts). p.files) parts) (h.areas b zero);
     view = λ b used zero. ap (λ (image : Image). page_of image b) (on ∙ asked.view);
+    known = files_stay area log_pages old new h
+        (unchanged area old new (λ b more. ap (λ (image : Image). page_of image b) (on ∙ asked.view)) (sym (ap (λ (p : Parts). p.files) parts)) size owned (sym (ap (λ (p : Parts). p.inodes) parts)));
   })
 
 pub state_by : (a b : Blocks) (at : ℕ) → SameStates a b → state_of a at ≡ state_of b at

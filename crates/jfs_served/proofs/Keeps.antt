@@ -22,8 +22,9 @@ use Rattle.jfs_call.specs.volume.specs.MapsHome.{HoldsNone}
 use Rattle.jfs_call.specs.halves.specs.Parts.{Parts}
 use Rattle.jfs_call.specs.halves.specs.declared.freed.FreedPage.{FreedPage}
 use Rattle.jfs_call.specs.plain.specs.Moves.{Same}
-use Rattle.jfs_served.specs.Holds.{blocks_at, volume_at, tree_at, room_at, IsBusyPage, HoldsTree, MayServe, KeepsTree, StaysServing}
+use Rattle.jfs_served.specs.Holds.{blocks_at, volume_at, tree_at, room_at, IsBusyPage, HoldsTree, MayServe, KeepsFiles, KeepsTree, StaysServing}
 use Rattle.jfs_served.specs.Laws.{AgainLaw}
+use Rattle.jfs_served.proofs.Files.{unchanged, files_stay}
 use Rattle.jfs_served.proofs.Room.{same_room}
 
 -- as file calls take it
@@ -40,6 +41,7 @@ pub record Rests (area : ℕ → ℕ) (old new : Parts) : Type 0 where
   pub freed : AllByRecursion (IsBusyPage new.map) new.freed
   pub areas : (b : ℕ) → area b ≡ 0 → HoldsNone new.files b
   pub view : (b : ℕ) → (volume_at area old).used b ≡ true → area b ≡ 0 → page_of new.view b ≡ page_of old.view b
+  pub known : KeepsFiles area old new
 
 pub kept : (area : ℕ → ℕ) (log_pages : ℕ) (old new : Parts) → HoldsTree area log_pages old → Rests area old new → KeepsTree area log_pages old new
 kept area log_pages old new h r = record {
@@ -57,6 +59,7 @@ kept area log_pages old new h r = record {
   tree = subst (λ (k : ℕ). Same (tree_at area old) (tree_on (readers k) (volume_at area new))) (sym r.size) means.tree;
   room = subst (λ (k : ℕ). room_on (readers k) (volume_at area new) k log_pages ≡ room_at area log_pages old) (sym r.size)
       (same_room (blocks_at old) (volume_at area old) (volume_at area new) h.consistent.sound alike means log_pages);
+  files = r.known;
 }
   where
     alike : AreAlike (volume_at area old) (volume_at area new)
@@ -84,17 +87,24 @@ pub record Alone (old new : Parts) : Type 0 where
 pub alone : (area : ℕ → ℕ) (log_pages : ℕ) (old new : Parts) → HoldsTree area log_pages old → Alone old new → StaysServing area log_pages old new
 alone area log_pages old new h a = record {
   keeps = kept area log_pages old new h (record {
-    size = ap (λ (ss : List BlockState). length ss) a.states;
-    owned = λ b. ap (λ (ss : List BlockState). is_owned (record old.map { states = ss }) b) a.states;
+    size = size;
+    owned = owned;
     inodes = a.inodes;
     limit = a.limit;
     blocks = a.blocks;
     freed = subst (λ (ss : List BlockState). AllByRecursion (IsBusyPage (record old.map { states = ss })) new.freed) (sym a.states) (subst (λ (fs : List FreedPage). AllByRecursion (IsBusyPage old.map) fs) (sym a.freed) h.freed);
     areas = λ b z. subst (λ (f : MapFiles). HoldsNone f b) (sym a.files) (h.areas b z);
     view = λ b u z. ap (λ (image : Image). page_of image b) a.view;
+    known = files_stay area log_pages old new h (unchanged area old new (λ b more. ap (λ (image : Image). page_of image b) a.view) a.files size owned a.inodes);
   });
   none = λ none. subst (λ (ss : List BlockState). NoneReserved (record old.map { states = ss })) (sym a.states) none;
 }
+  where
+    size : blocks_at new ≡ blocks_at old
+    size = ap (λ (ss : List BlockState). length ss) a.states
+
+    owned : (b : ℕ) → is_owned new.map b ≡ is_owned old.map b
+    owned b = ap (λ (ss : List BlockState). is_owned (record old.map { states = ss }) b) a.states
 
 -- ---- one after the other
 
@@ -114,6 +124,7 @@ again_law area log_pages old mid new x y = record {
     alike = alike_again (volume_at area old) (volume_at area mid) (volume_at area new) x.keeps.alike y.keeps.alike;
     tree = record { nodes = λ n. y.keeps.tree.nodes n ∙ x.keeps.tree.nodes n; bytes = λ n i. y.keeps.tree.bytes n i ∙ x.keeps.tree.bytes n i };
     room = y.keeps.room ∙ x.keeps.room;
+    files = λ s knows. y.keeps.files s (x.keeps.files s knows);
   };
   none = λ none. y.none (x.none none);
 }

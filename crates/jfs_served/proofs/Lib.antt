@@ -1,13 +1,16 @@
 pub mod Deep
 pub mod Room
 pub mod Told
+pub mod Files
 pub mod Keeps
 pub mod Between
 pub mod Replies
 pub mod Given
 pub mod Entered
+pub mod Stale
 pub mod Changed
 pub mod Called
 pub mod Mounted
+pub mod Unmounted
 pub mod History
 pub mod Torn

@@ -19,10 +19,12 @@ use Rattle.jfs_shown.specs.meaning.specs.Readers.{readers}
 use Rattle.jfs_shown.specs.meaning.specs.Tree.{tree_on}
 use Rattle.jfs_shown.specs.meaning.specs.Room.{room_on}
 use Rattle.jfs_shown.specs.objects.specs.Volume.{Volume}
+use Rattle.jfs_shown.specs.Files.{KnowsFiles}
+use Rattle.jfs_unmount.proofs.Known.{mount_law}
 use Rattle.jfs_alike.specs.Alike.{AreAlike}
 use Rattle.jfs_alike.proofs.Alike.{alike_law}
-use Rattle.jfs_mounted.proofs.Marked.{area_there}
-use Rattle.jfs_mounted.proofs.Started.{marked_same}
+use Rattle.jfs_unmount.specs.mounted.proofs.Marked.{area_there}
+use Rattle.jfs_unmount.specs.mounted.proofs.Started.{marked_same}
 use Rattle.jfs_call.specs.crash_core.specs.Core.{fresh_block}
 use Rattle.std.proofs.lemmas.Bool.{and_parts, ltb-true}
 use Rattle.jfs_served.proofs.Room.{same_room}
@@ -32,10 +34,10 @@ use Rattle.jfs_shown.specs.meaning.specs.Image as meaning
 use Rattle.jfs_shown.specs.way.specs.Volume.{volume_of, PlacesWithin}
 use Rattle.jfs_room.specs.Laws.{NoneReserved}
 use Rattle.jfs_entered.specs.Marked.{HasBits}
-use Rattle.jfs_mounted.specs.Mount.{IsMountOf}
-use Rattle.jfs_mounted.specs.mount_rules.specs.Mount.{iags}
-use Rattle.jfs_mounted.specs.mount_rules.specs.Subject.{Subject, subject_of, volume}
-use Rattle.jfs_mounted.specs.sets.specs.Sets.{extent_from}
+use Rattle.jfs_unmount.specs.mounted.specs.Mount.{IsMountOf}
+use Rattle.jfs_unmount.specs.mounted.specs.mount_rules.specs.Mount.{iags}
+use Rattle.jfs_unmount.specs.mounted.specs.mount_rules.specs.Subject.{Subject, subject_of, volume}
+use Rattle.jfs_unmount.specs.mounted.specs.sets.specs.Sets.{extent_from}
 use Rattle.jfs_call.specs.volume.specs.MapsHome.{HoldsNone}
 use Rattle.jfs_call.specs.halves.specs.Laws.{fresh_halves}
 use Rattle.jfs_call.specs.halves.specs.Log.{LogParts}
@@ -141,6 +143,9 @@ module _ (s : Super) (old : Image) (p : Parts) (log : LogParts) (m : IsMountOf �
     };
     tree = moved (λ (k : ℕ) (image : Image) (x : Blocks) (i : Inodes). Same (tree_of s (page_of old)) (tree_on (readers k) (volume_of (page_of image) area x i))) (m.keeps tt consistent).tree;
     room = moved (λ (k : ℕ) (image : Image) (x : Blocks) (i : Inodes). room_on (readers k) (volume_of (page_of image) area x i) k s.logpxd.len ≡ meaning.room_of s (page_of old)) room_is;
+    knows = λ whole. moved (λ (k : ℕ) (image : Image) (x : Blocks) (i : Inodes). KnowsFiles s (page_of image) area x i p.files)
+        (subst (λ (f : MapFiles). KnowsFiles s (page_of m.pages) area m.maps.blocks m.maps.inodes f) (sym m.has_maps.3)
+        (mount_law s (page_of old) (page_of m.pages) m.maps m.rest (m.found tt) consistent whole (marked_same s old m.pages inside (m.marked tt))));
   }
 
 pub mounted_law : MountedLaw

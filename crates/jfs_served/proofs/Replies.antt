@@ -110,14 +110,16 @@ unchanged_law area log_pages request now reply entry old mid new may asked answe
     record {
       step = replied area log_pages request.call now old mid new (ap (λ (p : Parts). p.faults) is) stays.keeps.tree reply (answer.follows (between area log_pages old may) area may.holds.consistent log_pages may.holds.limit) answer.fault some;
       serves = serves_still area log_pages old new may stays;
+      files = stays.keeps.files;
     }
 
 pub refused_law : RefusedLaw
 refused_law = record {
-  halted = λ area log_pages call now fault old new may stays is writing. record { step = (is, writing, stays.keeps.tree); serves = serves_still area log_pages old new may stays };
-  failed = λ area log_pages call now fault old new may stays cause. record { step = failed area log_pages call now old new new refl stays.keeps.tree fault cause; serves = serves_still area log_pages old new may stays };
+  halted = λ area log_pages call now fault old new may stays is writing. record { step = (is, writing, stays.keeps.tree); serves = serves_still area log_pages old new may stays; files = stays.keeps.files };
+  failed = λ area log_pages call now fault old new may stays cause. record { step = failed area log_pages call now old new new refl stays.keeps.tree fault cause; serves = serves_still area log_pages old new may stays; files = stays.keeps.files };
   synced = λ area log_pages now old new may stays. record {
     step = told area log_pages calls.Sync now old new new refl stays.keeps.tree replies.Done refl;
     serves = serves_still area log_pages old new may stays;
+    files = stays.keeps.files;
   };
 }

@@ -16,8 +16,10 @@ use Rattle.jfs_shown.specs.map_files.specs.declared.map_file.MapFiles.{MapFiles}
 use Rattle.jfs_shown.specs.objects.specs.Contents.{block_of, bytes_at}
 use Rattle.jfs_shown.specs.objects.specs.Image.{extent_place}
 use Rattle.jfs_shown.specs.objects.specs.Objects.{Object, objects, spelled, listed}
+use Rattle.jfs_shown.specs.objects.specs.Owners.{is_data}
 use Rattle.jfs_shown.specs.objects.specs.Readers.{Readers}
 use Rattle.jfs_shown.specs.objects.specs.Volume.{Volume}
+use Rattle.jfs_shown.specs.objects.proofs.Owned.{owned_once}
 use Rattle.jfs_shown.specs.objects.proofs.Sums.{put_here, put_other, eq_or_not}
 use Rattle.jfs_shown.specs.meaning.specs.Contents.{byte_of}
 use Rattle.jfs_shown.specs.meaning.specs.Readers.{readers}
@@ -49,6 +51,7 @@ use Rattle.jfs_call.specs.plain.specs.declared.reply.Reply.TheVariants.{Refused}
 use Rattle.jfs_served.specs.Holds.{blocks_at, volume_at, tree_at, IsBusyPage, MayServe}
 use Rattle.jfs_served.specs.Step.{IsAsked, IsAnswer, TakesStep}
 use Rattle.jfs_served.specs.Torn.{PutsOwn, IsPartlyPut, TornLaw}
+use Rattle.jfs_served.proofs.Files.{area_used, data_held, unchanged, files_stay}
 use Rattle.jfs_served.proofs.Given.{all_busy, back_at, back_size, state_by}
 use Rattle.jfs_served.proofs.Keeps.{between}
 use Rattle.jfs_served.proofs.Room.{spelled_is}
@@ -218,6 +221,20 @@ module _ (area : ℕ → ℕ) (log_pages : ℕ) (request : Request) (now : Momen
   leaves = subst (λ (k : ℕ). LeavesRest t request.call (tree_on (readers k) (volume_at area new))) (sym size)
       (record { nodes = λ m. means.tree.nodes m ∙ rest.nodes m; bytes = λ m i h. means.tree.bytes m i ∙ rest.bytes m i h })
 
+  -- no block of a fixed area is put: it is in use, and no file's
+  area_stays : (b : ℕ) → 0 < area b → page_of new.view b ≡ page_of old.view b
+  area_stays b more = part.others b (by (is_put b put) refl)
+    where
+      held : 0 < is_data r (objects r v own.inode) b → ⊥
+      held some = let d = data_held r (objects r v own.inode) b in let apart = (owned_once r v may.holds.consistent.sound.agrees).apart own.inode b (omega (arith, d, some)) in omega (arith, apart, more)
+
+      by : (x : Bool) → is_put b put ≡ x → is_put b put ≡ false
+      by false e = e
+      by true e = elim (own.may b e) [
+        | inl free ↦ absurd (cc (free, area_used r v may.holds.consistent.sound.agrees b more))
+        | inr some ↦ absurd (held some)
+      ]
+
   pub torn_step : TakesStep area log_pages request.call now (Refused (IoFault fault)) old new
   torn_step = record {
     step = (inl cause, leaves);
@@ -234,6 +251,7 @@ module _ (area : ℕ → ℕ) (log_pages : ℕ) (request : Request) (now : Momen
       };
       none = λ b e. may.none b (sym (state_is b) ∙ e);
     };
+    files = files_stay area log_pages old new may.holds (unchanged area old new area_stays (sym (ap (λ (p : Parts). p.files) parts)) size (λ b. ap is_owned_state (state_is b)) inodes);
   }
 
 pub torn_law : TornLaw

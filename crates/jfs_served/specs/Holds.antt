@@ -3,6 +3,8 @@ use Rattle.std.specs.Prelude.{◌≡◌, ◌≤◌, ◌^◌, ℕ, length}
 use Rattle.std.specs.List.{AllByRecursion}
 use Rattle.jfs_disk.specs.Image.{page_of}
 use Rattle.jfs_super.specs.Geometry.{file_limit_of}
+use Rattle.jfs_super.specs.declared.fields.Super.{Super}
+use Rattle.jfs_shown.specs.Files.{KnowsFiles}
 use Rattle.jfs_shown.specs.bmap.specs.States.{Blocks, Busy, state_of}
 use Rattle.jfs_shown.specs.objects.specs.Volume.{Volume}
 use Rattle.jfs_shown.specs.meaning.specs.Readers.{readers}
@@ -59,12 +61,17 @@ pub record MayServe (area : ℕ → ℕ) (log_pages : ℕ) (p : Parts) : Type 0 
   pub holds : HoldsTree area log_pages p
   pub none : NoneReserved p.map
 
+-- whoever knew all of the maps' files still does
+abbrev pub KeepsFiles : (ℕ → ℕ) → Parts → Parts → Type 0
+KeepsFiles area old new = (s : Super) → KnowsFiles s (page_of old.view) area old.map old.inodes old.files → KnowsFiles s (page_of new.view) area new.map new.inodes new.files
+
 -- It goes on holding the tree: what matters of the volume stays.
 pub record KeepsTree (area : ℕ → ℕ) (log_pages : ℕ) (old new : Parts) : Type 0 where
   pub holds : HoldsTree area log_pages new
   pub alike : AreAlike (volume_at area old) (volume_at area new)
   pub tree : Same (tree_at area old) (tree_at area new)
   pub room : room_at area log_pages new ≡ room_at area log_pages old
+  pub files : KeepsFiles area old new
 
 -- and the next call may come where it could
 pub record StaysServing (area : ℕ → ℕ) (log_pages : ℕ) (old new : Parts) : Type 0 where

@@ -2,9 +2,12 @@
 use Rattle.std.specs.Prelude.{◌≡◌, ◌≢◌, ◌⊎◌, ◌≤◌, ◌++◌, ◌∷◌, [], ℕ, true, List, Some, ⊤}
 use Rattle.jfs_bits.specs.declared.descriptor.Moment.{Moment}
 use Rattle.jfs_disk.specs.Image.{Image, page_of}
+use Rattle.jfs_disk.specs.Crash.{DiskState}
 use Rattle.jfs_disk.specs.declared.disk.Fault.{Fault}
 use Rattle.jfs_disk.specs.declared.disk.Part.TheVariants.{High}
 use Rattle.jfs_super.specs.Rules.{blocks_of}
+use Rattle.jfs_super.specs.Super.{super_of}
+use Rattle.jfs_super.specs.declared.fields.TheConstants.VolumeState.{CLEAN}
 use Rattle.jfs_super.specs.declared.fields.Super.{Super}
 use Rattle.jfs_ranges.specs.declared.edit.Edit.{Edit}
 use Rattle.jfs_shown.specs.meaning.specs.Image.{tree_of, IsConsistentImage}
@@ -15,6 +18,7 @@ use Rattle.jfs_call.specs.volume.specs.Join.{with_entry}
 use Rattle.jfs_call.specs.volume.specs.Settles.{Settles, StaysShown, HomesAlone}
 use Rattle.jfs_call.specs.volume.specs.declared.calling.Called.{Called}
 use Rattle.jfs_call.specs.volume.specs.data_steps.specs.declared.pages.DataPage.{DataPage}
+use Rattle.jfs_call.specs.volume_calls.specs.Written.{KeepsPages, WritesMaps}
 use Rattle.jfs_call.specs.halves.specs.Log.{LogParts}
 use Rattle.jfs_call.specs.halves.specs.Parts.{Parts}
 use Rattle.jfs_call.specs.volume.specs.pages.specs.Device.{IsFault}
@@ -27,10 +31,14 @@ use Rattle.jfs_call.specs.plain.specs.declared.call.Request.{Request}
 use Rattle.jfs_call.specs.plain.specs.declared.refusal.Refusal.TheVariants.{ReadOnly, IoFault, OutOfMemory}
 use Rattle.jfs_call.specs.plain.specs.declared.reply.Reply.{Reply}
 use Rattle.jfs_call.specs.plain.specs.declared.reply.Reply.TheVariants.{Done, Refused}
-use Rattle.jfs_mounted.specs.Mount.{IsMountOf}
-use Rattle.jfs_served.specs.Holds.{tree_at, room_at, HoldsTree, MayServe, KeepsTree, StaysServing}
+use Rattle.jfs_shown.specs.Files.{KnowsFiles}
+use Rattle.jfs_shown.specs.kinds.specs.Images.{HasWholeFiles}
+use Rattle.jfs_shown.specs.meaning.specs.Readers.{readers}
+use Rattle.jfs_unmount.specs.Unmount.{Ends}
+use Rattle.jfs_unmount.specs.mounted.specs.Mount.{IsMountOf}
+use Rattle.jfs_served.specs.Holds.{tree_at, room_at, HoldsTree, MayServe, KeepsFiles, KeepsTree, StaysServing}
 use Rattle.jfs_served.specs.Step.{IsAsked, IsAnswer, TakesStep, Leaves}
-use Rattle.jfs_served.specs.Legal.{Timed, HasServed}
+use Rattle.jfs_served.specs.Legal.{Timed, IsLegal, HasServed}
 
 -- ---- a call with a transaction
 
@@ -78,13 +86,21 @@ pub record RefusedLaw : Type 0 where
 
 -- ---- between calls
 
--- entries are acknowledged, their freed pages are dropped, and pages of the maps are written
+-- entries are acknowledged, and their freed pages are dropped
 abbrev pub AcknowledgedLaw : Type 0
-AcknowledgedLaw = (area : ℕ → ℕ) (log_pages : ℕ) (old new : Parts) → HoldsTree area log_pages old → Settles old new → StaysShown ⊤ old new → StaysServing area log_pages old new
+AcknowledgedLaw = (area : ℕ → ℕ) (log_pages : ℕ) (old new : Parts) → HoldsTree area log_pages old → Settles old new → KeepsPages ⊤ old new → StaysServing area log_pages old new
+
+-- a syncpoint writes the pages of the maps, too
+abbrev pub PointedLaw : Type 0
+PointedLaw = (area : ℕ → ℕ) (log_pages : ℕ) (old new : Parts) → HoldsTree area log_pages old → Settles old new → StaysShown ⊤ old new → WritesMaps old new → StaysServing area log_pages old new
 
 -- pages go home, or the low part is synced
 abbrev pub HomeLaw : Type 0
 HomeLaw = (area : ℕ → ℕ) (log_pages : ℕ) (old new : Parts) → HoldsTree area log_pages old → HomesAlone ⊤ old new → StaysServing area log_pages old new
+
+-- the entries so far are handed out
+abbrev pub HandedOutLaw : Type 0
+HandedOutLaw = (area : ℕ → ℕ) (log_pages : ℕ) (old new : Parts) → HoldsTree area log_pages old → new ≡ record old { entries = [] } → StaysServing area log_pages old new
 
 -- one after the other
 abbrev pub AgainLaw : Type 0
@@ -92,14 +108,29 @@ AgainLaw = (area : ℕ → ℕ) (log_pages : ℕ) (old mid new : Parts) → Stay
 
 -- ---- the start
 
--- a volume that holds the tree of an image, with its fixed areas and its room
+-- A volume that holds the tree of an image, with its fixed areas and its room; all is known of its maps' files where no tree of theirs and of the bad blocks' breaks a rule.
 pub record HoldsImage (s : Super) (page : ℕ → List ℕ) (p : Parts) : Type 0 where
   pub serves : MayServe (meaning.volume_of s page).area s.logpxd.len p
   pub tree : Same (tree_of s page) (tree_at (meaning.volume_of s page).area p)
   pub room : room_at (meaning.volume_of s page).area s.logpxd.len p ≡ meaning.room_of s page
+  pub knows : HasWholeFiles (readers (blocks_of s)) page → KnowsFiles s (page_of p.view) (meaning.volume_of s page).area p.map p.inodes p.files
 
 abbrev pub MountedLaw : Type 0
 MountedLaw = (s : Super) (old : Image) (volume : Parts) (log : LogParts) → IsMountOf ⊤ ⊥ s old volume log → blocks_of s ≤ volume.blocks → IsConsistentImage s (page_of old) → HoldsImage s (page_of old) volume
+
+-- ---- the end
+
+-- The pages are a clean and consistent image, with the tree and the room of a volume.
+pub record IsImageOf (s : Super) (area : ℕ → ℕ) (p : Parts) (page : ℕ → List ℕ) : Type 0 where
+  pub superblock : super_of (page 8) ≡ record s { state = CLEAN }
+  pub consistent : IsConsistentImage s page
+  pub tree : Same (tree_at area p) (tree_of s page)
+  pub room : meaning.room_of s page ≡ room_at area s.logpxd.len p
+
+-- An unmount leaves such an image of a volume that holds a tree, where all is known of its maps' files and the superblock's page is put back as a clean volume's.
+abbrev pub UnmountedLaw : Type 0
+UnmountedLaw = (s : Super) (area : ℕ → ℕ) (superblock : List ℕ) (p : Parts) (log : LogParts) (image : Image) (past : List DiskState)
+    → HoldsTree area s.logpxd.len p → KnowsFiles s (page_of p.view) area p.map p.inodes p.files → Ends ⊤ ⊥ superblock p log image past → super_of superblock ≡ record s { state = CLEAN } → IsImageOf s area p (page_of image)
 
 -- ---- all of it
 
@@ -109,3 +140,5 @@ pub record HistoryLaw : Type 0 where
   pub stays : (area : ℕ → ℕ) (log_pages : ℕ) (start old new : Parts) (es : List Timed) → HasServed area log_pages start es old → StaysServing area log_pages old new → HasServed area log_pages start es new
   pub takes : (area : ℕ → ℕ) (log_pages : ℕ) (start old new : Parts) (es : List Timed) (e : Timed) → HasServed area log_pages start es old
       → TakesStep area log_pages e.entry.call e.now e.entry.reply old new → HasServed area log_pages start (es ++ e ∷ []) new
+  -- whoever knew all of the maps' files at the start does at the end
+  pub files : (area : ℕ → ℕ) (log_pages : ℕ) (start p : Parts) (es : List Timed) → IsLegal area log_pages start es p → KeepsFiles area start p

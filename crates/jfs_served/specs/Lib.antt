@@ -12,3 +12,6 @@ pub use Rattle.jfs_call.specs.halves
 pub use Rattle.jfs_call.specs.plain
 pub use Rattle.jfs_call.specs.volume
 pub use Rattle.jfs_call.specs.volume_calls
+pub use Rattle.jfs_shown as shown
+pub use Rattle.jfs_unmount as unmount
+pub use Rattle.jfs_unmount.specs.mounted

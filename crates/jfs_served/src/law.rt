@@ -1,7 +1,7 @@
 //! What is true of the tree that a mounted volume holds.
 
 ghost use Rattle.jfs_served.specs.Torn.{TornLaw};
-ghost use Rattle.jfs_served.specs.Laws.{ChangedLaw, GivenBackLaw, UnfinishedLaw, CalledLaw, UnchangedLaw, AskedLaw, JoinedLaw, RefusedLaw, AcknowledgedLaw, HomeLaw, AgainLaw, MountedLaw, HistoryLaw};
+ghost use Rattle.jfs_served.specs.Laws.{ChangedLaw, GivenBackLaw, UnfinishedLaw, CalledLaw, UnchangedLaw, AskedLaw, JoinedLaw, RefusedLaw, AcknowledgedLaw, PointedLaw, HandedOutLaw, HomeLaw, AgainLaw, MountedLaw, UnmountedLaw, HistoryLaw};
 
 /// A file call with a transaction that joins is done, as the plain step has it, and leaves the plain step's tree.
 pub fn changing_calls_are_plain_steps()
@@ -53,9 +53,19 @@ pub fn acknowledged_entries_leave_the_tree()
     ensures { AcknowledgedLaw }
 {}
 
+/// So does a syncpoint, after which each map that had changed is shown by its pages.
+pub fn syncpoints_leave_the_tree()
+    ensures { PointedLaw }
+{}
+
 /// Pages that go home leave the tree.
 pub fn pages_at_home_leave_the_tree()
     ensures { HomeLaw }
+{}
+
+/// Entries that are handed out leave the tree.
+pub fn handed_out_entries_leave_the_tree()
+    ensures { HandedOutLaw }
 {}
 
 /// What stays, and then stays again, stays.
@@ -66,6 +76,11 @@ pub fn trees_stay_and_stay()
 /// A volume that was mounted from a consistent image holds its tree.
 pub fn mounted_volumes_hold_the_tree()
     ensures { MountedLaw }
+{}
+
+/// An unmount leaves a clean and consistent image with the tree that the volume held.
+pub fn unmounted_volumes_leave_their_image()
+    ensures { UnmountedLaw }
 {}
 
 /// So the replies are a legal history: from the mount on, while the volume stays, and after each call.

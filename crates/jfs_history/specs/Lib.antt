@@ -1,5 +1,0 @@
--- what the laws say
-pub mod Ends
-pub mod Laws
--- libraries below, passed on
-pub use Rattle.jfs_served as served
