@@ -17,6 +17,7 @@ use Rattle.jfs_redo.specs.declared.error.Redone.{Redone}
 use Rattle.jfs_redo.specs.declared.error.RedoError.{RedoError}
 use Rattle.jfs_redo.specs.declared.error.RedoError.TheVariants as errors
 use Rattle.jfs_run.specs.Calls.{Calls, AreEntriesOf, AllTold, NoCalls, AllCalled, SomeCalled, BeginWith, FirstTold, waiting_from, any_failed}
+use Rattle.jfs_run.specs.Legal.{LeavesImage, IfUnmounted}
 use Rattle.jfs_run.specs.Run.{Seen, RunIs, MayMount, StayBeside, IsUncalled}
 use Rattle.jfs_run.specs.declared.run.RunEnd.{RunEnd}
 use Rattle.jfs_run.specs.declared.run.RunEnd.TheVariants as ran
@@ -74,16 +75,28 @@ module _ (tells crashes : Type 0) (lines : List Line) (is_left : Bool) (moment :
   called_by (inl none) = inl (none.calls, none.pages)
   called_by (inr (was, may)) = inr (was, may)
 
-  with_text : (end : RunEnd) → RunIs tells crashes s lines is_left (seen_as held before) (seen_as left now) c end → StartEnds tells crashes lines is_left moment start held.past (work_of_calls (text_of redone end c) c left) count (end_of end)
-  with_text ran.Done is = (
+  abbrev Leaves : RunEnd → Type 0
+  Leaves end = tells → IfUnmounted end is_left (LeavesImage s held.image moment c.history left.image)
+
+  with_text : (end : RunEnd) → RunIs tells crashes s lines is_left (seen_as held before) (seen_as left now) c end → Leaves end → StartEnds tells crashes lines is_left moment start held.past (work_of_calls (text_of redone end c) c left) count (end_of end)
+  with_text ran.Done is leaves = (
     record { status = statuses.Done; text = ran_text c },
     runs c is.entries is.told refl is.mounts,
     refl,
     refl,
-    record { entries = is.entries; told = is.told; calm = is.calm; replies = replies; text = refl; superblock = λ not_left t. (is.ended not_left).superblock t; stable = λ not_left t. (is.ended not_left).resting t },
+    record {
+      entries = is.entries;
+      told = is.told;
+      calm = is.calm;
+      replies = replies;
+      text = refl;
+      superblock = λ not_left t. (is.ended not_left).superblock t;
+      stable = λ not_left t. (is.ended not_left).resting t;
+      image = λ not_left t. leaves t refl not_left;
+    },
     is.faults,
   )
-  with_text (ran.BadImage bad) is = (
+  with_text (ran.BadImage bad) is leaves = (
     refused (statuses.BadImage bad.page bad.rule bad.value),
     breaks bad refl is.rule,
     refl,
@@ -91,8 +104,8 @@ module _ (tells crashes : Type 0) (lines : List Line) (is_left : Bool) (moment :
     record { history = is.calls.0; told = is.calls.1; text = ap (λ (t : List ℕ). text_before redone ++ t) (no_text c is.calls) ∙ append-nil (text_before redone); image = is.image; past_is = is.past },
     is.faults,
   )
-  with_text ran.Disk is = (record { called = called_by is.done; replies = replies; text = refl }, is.rose)
-  with_text ran.Memory is = record { called = called_by is.done; told = is.told; calm = is.calm; replies = replies; text = inl refl }
+  with_text ran.Disk is leaves = (record { called = called_by is.done; replies = replies; text = refl }, is.rose)
+  with_text ran.Memory is leaves = record { called = called_by is.done; told = is.told; calm = is.calm; replies = replies; text = inl refl }
 
   some_of : IsUncalled tells s (seen_as held before) (seen_as left now) c ⊎ (AllCalled lines c × MayMount tells s (seen_as held before)) → IsUncalled tells s (seen_as held before) (seen_as left now) c ⊎ (SomeCalled lines c × MayMount tells s (seen_as held before))
   some_of (inl none) = inl none
@@ -106,12 +119,12 @@ module _ (tells crashes : Type 0) (lines : List Line) (is_left : Bool) (moment :
   without_text ran.Disk is = record { called = called_by (some_of is.done); told = inl is.rose; calm = inl is.rose; replies = replies; text = inr refl }
   without_text ran.Memory is = record { called = called_by is.done; told = is.told; calm = is.calm; replies = replies; text = inr refl }
 
-  pub ended : (end : RunEnd) (e : End) (text : List ℕ) → RunIs tells crashes s lines is_left (seen_as held before) (seen_as left now) c end → Tells redone end c e text
+  pub ended : (end : RunEnd) (e : End) (text : List ℕ) → RunIs tells crashes s lines is_left (seen_as held before) (seen_as left now) c end → Leaves end → Tells redone end c e text
       → StartEnds tells crashes lines is_left moment start held.past (work_of_calls text c left) count e
-  ended end e text is (inl (is_end, is_text)) =
+  ended end e text is leaves (inl (is_end, is_text)) =
       subst (λ (x : End). StartEnds tells crashes lines is_left moment start held.past (work_of_calls text c left) count x) (sym is_end)
-      (subst (λ (t : List ℕ). StartEnds tells crashes lines is_left moment start held.past (work_of_calls t c left) count (end_of end)) (sym is_text) (with_text end is))
-  ended end e text is (inr (is_end, is_text)) =
+      (subst (λ (t : List ℕ). StartEnds tells crashes lines is_left moment start held.past (work_of_calls t c left) count (end_of end)) (sym is_text) (with_text end is leaves))
+  ended end e text is leaves (inr (is_end, is_text)) =
       subst (λ (x : End). StartEnds tells crashes lines is_left moment start held.past (work_of_calls text c left) count x) (sym is_end)
       (subst (λ (t : List ℕ). StartEnds tells crashes lines is_left moment start held.past (work_of_calls t c left) count (Stopped stops.Memory)) (sym is_text) (without_text end is))
 

@@ -19,7 +19,7 @@ use Rattle.jfs_script.specs.History.{history_text, done_text}
 use Rattle.jfs_run.specs.declared.run.RunEnd.{RunEnd}
 use Rattle.jfs_run.specs.declared.run.RunEnd.TheVariants as ran
 use Rattle.jfs_run.specs.Calls.{Calls, AreEntriesOf, AllTold, NoCalls, AllCalled, SomeCalled, any_failed}
-use Rattle.jfs_run.specs.Legal.{IsLegalRun}
+use Rattle.jfs_run.specs.Legal.{IsLegalRun, LeavesImage}
 use Rattle.jfs_run.specs.Run.{StayBeside}
 use Rattle.jfs_command.specs.declared.status.Status.{Status}
 use Rattle.jfs_command.specs.declared.status.Status.TheVariants as statuses
@@ -138,7 +138,7 @@ calls_of work = record { history = work.history; told = work.told }
 abbrev pub AreReplies : (tells : Type 0) → Super → Image → Moment → List Entry → Type 0
 AreReplies tells s image now history = tells → IsConsistentImage s (page_of image) → IsLegalRun s (page_of image) now history
 
--- Each line was called, one after the other, each entry that waits was told durable, and the text is that of both. Unless the volume was to be left, it was unmounted: page 8 is the one that it had, and a crash leaves all of the disk.
+-- Each line was called, one after the other, each entry that waits was told durable, and the text is that of both. Unless the volume was to be left, it was unmounted: page 8 is the one that it had, and a crash leaves all of the disk, which is an image of the tree behind the last reply.
 pub record HasRun (tells crashes : Type 0) (lines : List Line) (is_left : Bool) (now : Moment) (start : Start) (work : Work) : Type 0 where
   pub entries : AreEntriesOf lines work.history
   pub told : AllTold (calls_of work)
@@ -148,6 +148,7 @@ pub record HasRun (tells crashes : Type 0) (lines : List Line) (is_left : Bool) 
   pub text : work.text ≡ start.text ++ ran_text (calls_of work)
   pub superblock : is_left ≡ false → tells → page_of work.held.image 8 ≡ page_of start.image 8
   pub stable : is_left ≡ false → crashes → IsResting (last_of work.held.past)
+  pub image : is_left ≡ false → tells → LeavesImage start.super start.image now work.history work.held.image
 
 -- it was redone, and nothing else
 pub record HasOnlyRedone (tells crashes : Type 0) (start : Start) (work : Work) : Type 0 where

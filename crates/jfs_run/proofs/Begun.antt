@@ -5,13 +5,18 @@ use Rattle.std.specs.Prelude.{None}
 use Rattle.jfs_disk.specs.Image.{Image}
 use Rattle.jfs_super.specs.Rules.{IsAccepted, blocks_of}
 use Rattle.jfs_super.specs.declared.fields.Super.{Super}
+use Rattle.jfs_super.specs.declared.fields.TheConstants.VolumeState.{CLEAN}
 use Rattle.jfs_super.proofs.Rules.{accepted_layout, accepted_pages}
 use Rattle.jfs_served.specs.volume_calls.specs.Together.{AreTogether}
-use Rattle.jfs_unmount.specs.mounted.specs.Mount.{IsMountOf}
+use Rattle.jfs_served.specs.mounted.specs.Mount.{IsMountOf}
 use Rattle.jfs_run.specs.Serving.{State, IsFresh}
 
 pub has_superblock : (s : Super) (pages : ℕ) → IsAccepted s pages → 8 < pages
 has_superblock s pages accepted = let nine = accepted_pages s pages accepted in omega (arith, nine)
+
+-- a superblock of a clean volume is so as it is
+pub clean_is : (s : Super) → s.state ≡ CLEAN → s ≡ record s { state = CLEAN }
+clean_is s clean = ap (λ state. record s { state = state }) clean
 
 module _ (s : Super) (pages : ℕ) (accepted : IsAccepted s pages) where
   -- its superblock's page is one of the low part's

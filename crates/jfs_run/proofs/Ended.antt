@@ -1,8 +1,8 @@
 -- A run on a mounted volume ends.
 use Rattle.std.proofs.Common.{◌≡◌, ◌⊎◌, ◌+◌, ◌-◌, ◌<◌, ◌≤◌, ◌^◌, refl, sym, subst, ℕ, Bool, true, false, List, length, take, inl, inr, None, arith}
-use Rattle.std.specs.Prelude.{min, if◌then◌else◌}
+use Rattle.std.specs.Prelude.{◌==◌, ◌||◌, not, min, if◌then◌else◌}
 use Rattle.std.proofs.lemmas.List.{take_all}
-use Rattle.std.proofs.lemmas.Bool.{cases_eq, eq-eqb, ne_eqb}
+use Rattle.std.proofs.lemmas.Bool.{cases_eq, eq-eqb, eqb-true, ne_eqb}
 use Rattle.jfs_bits.specs.Count.{Rose}
 use Rattle.jfs_plain.specs.declared.call.Line.{Line}
 use Rattle.jfs_script.specs.History.{IsRisingFrom}
@@ -90,9 +90,13 @@ module _ (first now : State) (before : ℕ) (counts : first.volume.faults + firs
     pub told_whole : AllTold (calls_of now told)
     told_whole = record { waiting = served.told_is.waiting; are = served.told_is.are; told_is = served.told_is.running runs }
 
+    -- where a count rises or a fact is so, it is so
+    pub unrisen : {X : Type 0} (now_faults : ℕ) → now_faults ≡ total → Rose (joint now) now_faults ⊎ X → X
+    unrisen now_faults is (inl rose) = absurd (not_risen (rose_on before (joint now) total few joint_grew (subst (Rose (joint now)) is rose)))
+    unrisen now_faults is (inr fact) = fact
+
     pub unmounted : (tells crashes : Type 0) (superblock : List ℕ) (new : Seen) → new.faults ≡ total → Rose (joint now) new.faults ⊎ IsEnded tells crashes superblock (joint now) new → IsUnmounted tells crashes superblock new
-    unmounted tells crashes superblock new is (inl rose) = absurd (not_risen (rose_on before (joint now) total few joint_grew (subst (Rose (joint now)) is rose)))
-    unmounted tells crashes superblock new is (inr ended) = ended.unmounted
+    unmounted tells crashes superblock new is ended = (unrisen new.faults is ended).unmounted
 
 module _ (tells crashes : Type 0) (superblock : List ℕ) (lines : List Line) (is_left is_full : Bool) (first now : State) (before : ℕ) (counts : first.volume.faults + first.high ≡ before) (few : before < 2 ^ 64)
     (told : List ℕ) (new : Seen) (grown : Grows (joint now) new.faults)
@@ -140,3 +144,25 @@ module _ (tells crashes : Type 0) (superblock : List ℕ) (lines : List Line) (i
   pub run_ends : (served : Served) → ServedIs first lines told now served → RunSince tells crashes superblock lines is_left before new (calls_of now told) (end_after served is_full before new.faults)
   run_ends serves.NoMemory (n, le, is) = short n le is
   run_ends serves.All is = by_count is (cases_eq new.faults before) (cases_eq new.faults (2 ^ 64 - 1))
+
+-- ---- a run that is done
+
+-- each line has its entry, the log isn't full, and the count is as it was, and not the last one
+pub record IsThrough (served : Served) (is_full : Bool) (before now : ℕ) : Type 0 where
+  pub all : served ≡ serves.All
+  pub room : is_full ≡ false
+  pub same : now ≡ before
+  pub below : now ≡ 2 ^ 64 - 1 → ⊥
+
+pub done_through : (served : Served) (is_full : Bool) (before now : ℕ) → end_after served is_full before now ≡ ends.Done → IsThrough served is_full before now
+done_through serves.NoMemory is_full before now e = absurd (cc (e))
+done_through serves.All is_full before now e = by (now == before) refl (now == 2 ^ 64 - 1) refl is_full refl e
+  where
+    by : (a : Bool) → (now == before) ≡ a → (b : Bool) → (now == 2 ^ 64 - 1) ≡ b → (f : Bool) → is_full ≡ f → (if not a || b then ends.Disk else (if f then ends.Memory else ends.Done)) ≡ ends.Done → IsThrough serves.All is_full before now
+    by false x b y f z e = absurd (cc (e))
+    by true x true y f z e = absurd (cc (e))
+    by true x false y true z e = absurd (cc (e))
+    by true x false y false z e = record { all = refl; room = z; same = eqb-true now before x; below = λ last. absurd (cc (y, eq-eqb now (2 ^ 64 - 1) last)) }
+
+pub all_of : (first now : State) (lines : List Line) (told : List ℕ) (served : Served) → served ≡ serves.All → ServedIs first lines told now served → HasServed first lines told now
+all_of first now lines told served is served_is = subst (ServedIs first lines told now) is served_is

@@ -1,10 +1,11 @@
 -- A line more of a legal history.
-use Rattle.std.proofs.Common.{◌≡◌, ◌≤◌, ◌⊎◌, ◌++◌, ◌∷◌, [], refl, sym, ap, ◌∙◌, subst, ℕ, Bool, true, false, List, inl, inr, append_assoc}
+use Rattle.std.proofs.Common.{◌≡◌, ◌≤◌, ◌⊎◌, ◌++◌, ◌∷◌, [], refl, sym, ap, ◌∙◌, subst, ℕ, Bool, true, false, List, inl, inr, None, append_assoc}
 use Rattle.jfs_bits.specs.declared.descriptor.Moment.{Moment}
 use Rattle.jfs_plain.specs.declared.call.Entry.{Entry}
 use Rattle.jfs_served.specs.halves.specs.Parts.{Parts}
 use Rattle.jfs_served.specs.volume.specs.Join.{entry_with}
-use Rattle.jfs_served.specs.volume.specs.Settles.{Settles, StaysShown}
+use Rattle.jfs_served.specs.volume.specs.Settles.{Settles}
+use Rattle.jfs_served.specs.volume_calls.specs.Written.{KeepsPages}
 use Rattle.jfs_served.specs.call.specs.Does.{Does}
 use Rattle.jfs_served.specs.call.specs.DoesLent.{Both, Asking, End, NeedsThen, DoesAgain}
 use Rattle.jfs_served.specs.call.specs.declared.outcome.Outcome.TheVariants.{Replied}
@@ -12,19 +13,19 @@ use Rattle.jfs_plain.specs.declared.reply.Reply.{Reply}
 use Rattle.jfs_disk.specs.Image.{Image, page_of}
 use Rattle.jfs_super.specs.Rules.{blocks_of}
 use Rattle.jfs_super.specs.declared.fields.Super.{Super}
-use Rattle.jfs_mount.specs.meaning.specs.Image.{IsConsistentImage}
+use Rattle.jfs_mount.specs.meaning.specs.Image.{IsConsistentImage, volume_of}
 use Rattle.jfs_served.specs.halves.specs.Log.{LogParts}
-use Rattle.jfs_unmount.specs.mounted.specs.Mount.{IsMountOf}
+use Rattle.jfs_served.specs.mounted.specs.Mount.{IsMountOf}
 use Rattle.jfs_served.specs.Laws.{HoldsImage}
 use Rattle.jfs_served.proofs.Told.{told_mount}
 use Rattle.jfs_run.specs.declared.client.Served.{Served}
 use Rattle.jfs_run.specs.declared.client.Served.TheVariants as serves
 use Rattle.jfs_served.specs.Holds.{MayServe}
-use Rattle.jfs_served.specs.Legal.{Timed, IsLegal, HasServed}
+use Rattle.jfs_served.specs.Legal.{Timed, HasServed}
 use Rattle.std.specs.Prelude.{◌||◌}
 use Rattle.std.proofs.lemmas.Bool.{false≢true}
 use Rattle.jfs_run.specs.Calls.{has_failed, any_failed}
-use Rattle.jfs_run.specs.Legal.{at, all_at, IsLegalUntil, AreLegal, GoOn, Leaves, LinesLeave}
+use Rattle.jfs_run.specs.Legal.{at, all_at, IsLegalUntil, AreLegal, FollowsTree, HasTreeBehind, EndsOnTree, GoOn, Leaves, LinesLeave}
 use Rattle.jfs_run.proofs.Replying.{Laws, lent, settled}
 
 one_at_more : (now : Moment) (es : List Entry) (e : Entry) → all_at now (es ++ e ∷ []) ≡ all_at now es ++ at now e ∷ []
@@ -37,6 +38,15 @@ pub mounted_from : (laws : Laws) (tells crashes : Type 0) (told : tells) (s : Su
 mounted_from laws tells crashes told s old now volume log is m within consistent =
     subst (λ (im : Image). HoldsImage s (page_of im) volume) is
     (laws.mounted s now volume log (told_mount tells crashes told s now volume log m) within (subst (λ (im : Image). IsConsistentImage s (page_of im)) (sym is) consistent))
+
+-- so replies that are legal from there on follow the image's tree
+pub follows : (s : Super) (old : Image) (volume : Parts) (now : Moment) (es : List Entry) → HoldsImage s (page_of old) volume → volume.halted ≡ None → AreLegal (volume_of s (page_of old)).area s.logpxd.len now volume es → FollowsTree s (page_of old) now es
+follows s old volume now es held runs legal = record { start = volume; runs = runs; tree = held.tree; room = held.room; legal = legal }
+
+pub ends_on : (s : Super) (old new : Image) (volume : Parts) (now : Moment) (es : List Entry) → HoldsImage s (page_of old) volume → volume.halted ≡ None → AreLegal (volume_of s (page_of old)).area s.logpxd.len now volume es
+    → HasTreeBehind s (volume_of s (page_of old)).area now volume es new → EndsOnTree s (page_of old) now es new
+unfolding follows
+ends_on s old new volume now es held runs legal behind = record { follows = follows s old volume now es held runs legal; ends = behind }
 
 module _ (laws : Laws) (area : ℕ → ℕ) (log_pages : ℕ) (now : Moment) (start : Parts) where
   pub begins : MayServe area log_pages start → GoOn area log_pages now start [] start
@@ -54,6 +64,9 @@ module _ (laws : Laws) (area : ℕ → ℕ) (log_pages : ℕ) (now : Moment) (st
   lines_legal p serves.All l = legal_of p.entries p l
   lines_legal p serves.NoMemory l = l
 
+  pub lines_on : (p : Parts) (served : Served) → served ≡ serves.All → LinesLeave area log_pages now start p served → GoOn area log_pages now start p.entries p
+  lines_on p served all l = subst (LinesLeave area log_pages now start p) all l
+
   -- where none was refused for a fault, all are
   or_true : (b rest : Bool) → rest ≡ true → (b || rest) ≡ true
   or_true true rest e = refl
@@ -63,9 +76,9 @@ module _ (laws : Laws) (area : ℕ → ℕ) (log_pages : ℕ) (now : Moment) (st
   failed_in [] behind e has = rw has refl
   failed_in (x ∷ xs) behind e has = or_true (has_failed x.reply) (any_failed (xs ++ e ∷ behind)) (failed_in xs behind e has)
 
-  pub all_legal : (es : List Entry) → any_failed es ≡ false → AreLegal area log_pages now start es → (last : Parts) × IsLegal area log_pages start (all_at now es) last
-  all_legal es calm (inl legal) = legal
-  all_legal es calm (inr u) = absurd (false≢true (sym calm ∙ ap any_failed u.parts ∙ failed_in u.before u.behind u.failed u.has))
+  pub all_served : (es : List Entry) (p : Parts) → any_failed es ≡ false → GoOn area log_pages now start es p → HasServed area log_pages start (all_at now es) p
+  all_served es p calm (inl so_far) = so_far
+  all_served es p calm (inr u) = absurd (false≢true (sym calm ∙ ap any_failed u.parts ∙ failed_in u.before u.behind u.failed u.has))
 
   until_more : (es : List Entry) (e : Entry) → IsLegalUntil area log_pages now start es → IsLegalUntil area log_pages now start (es ++ e ∷ [])
   until_more es e u = record {
@@ -107,8 +120,8 @@ module _ (laws : Laws) (area : ℕ → ℕ) (log_pages : ℕ) (now : Moment) (st
         by_leaves (inr failed) = inr (record { before = es; failed = entry; behind = []; parts = refl; last = old.volume; legal = so_far.legal; has = failed })
 
     -- a commit behind it
-    pub goes_on_settled : (old new : Parts) → GoOn area log_pages now start old.entries old → Settles old new → StaysShown tells old new → GoOn area log_pages now start new.entries new
-    goes_on_settled old new (inl so_far) settles shown =
+    pub goes_on_settled : (old new : Parts) → GoOn area log_pages now start old.entries old → Settles old new → KeepsPages tells old new → GoOn area log_pages now start new.entries new
+    goes_on_settled old new (inl so_far) settles files =
         inl (subst (λ (es : List Entry). HasServed area log_pages start (all_at now es) new) (sym settles.entries)
-        (settled laws tells crashes told area log_pages start (all_at now old.entries) old new so_far settles shown))
-    goes_on_settled old new (inr until) settles shown = inr (subst (IsLegalUntil area log_pages now start) (sym settles.entries) until)
+        (settled laws tells crashes told area log_pages start (all_at now old.entries) old new so_far settles files))
+    goes_on_settled old new (inr until) settles files = inr (subst (IsLegalUntil area log_pages now start) (sym settles.entries) until)

@@ -8,3 +8,4 @@ pub mod Begun
 pub mod Replying
 pub mod Legally
 pub mod Known
+pub mod Left

@@ -236,11 +236,17 @@ module _ (l : Line) (old mid new : State) (reply : Reply) (number : ℕ) (wait :
     halted = inl (same ∙ runs ∙ sym was);
   }
 
-  pub durable : new.volume.halted ≡ mid.volume.halted → IsDurable l old new number
-  durable same = record {
+  number_is : number ≡ new.volume.appended
+  number_is = a.entry.number_is ∙ sym beside.settles.appended
+
+  pub durable : new.volume.halted ≡ mid.volume.halted → (new.volume.told ≡ new.volume.appended) × (new.volume.taken ≡ new.volume.appended) → AreTogether new.volume new.log → IsDurable l old new number
+  durable same all together = record {
     entry = entry_of l reply;
     joins = joins;
-    number_is = a.entry.number_is ∙ sym beside.settles.appended;
+    number_is = number_is;
+    told = all.0 ∙ sym number_is;
+    taken = all.1 ∙ sym number_is;
+    stable = together.durable ∙ all.1 ∙ sym number_is;
     waits_it = w;
     ran = was;
     runs = same ∙ runs;

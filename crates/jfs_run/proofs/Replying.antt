@@ -19,6 +19,7 @@ use Rattle.jfs_plain.specs.declared.reply.Reply.TheVariants.{Done, Refused}
 use Rattle.jfs_served.specs.volume.specs.Asked.{IsAskedOf}
 use Rattle.jfs_served.specs.volume.specs.Join.{entry_with}
 use Rattle.jfs_served.specs.volume.specs.Settles.{Settles, StaysShown}
+use Rattle.jfs_served.specs.volume_calls.specs.Written.{KeepsPages, WritesMaps}
 use Rattle.jfs_served.specs.halves.specs.Parts.{Parts}
 use Rattle.jfs_served.specs.volume.specs.pages.specs.Device.{IsFault, HasFault}
 use Rattle.jfs_plain.specs.declared.call.Entry.{Entry}
@@ -33,8 +34,8 @@ use Rattle.jfs_served.specs.call.specs.declared.outcome.Outcome.TheVariants.{Rep
 use Rattle.jfs_served.specs.Holds.{MayServe, StaysServing}
 use Rattle.jfs_served.specs.Step.{IsAsked, IsAnswer, TakesStep}
 use Rattle.jfs_served.specs.Legal.{Timed, HasServed}
-use Rattle.jfs_served.specs.Laws.{ChangedLaw, GivenBackLaw, UnchangedLaw, AskedLaw, JoinedLaw, RefusedLaw, AcknowledgedLaw, HomeLaw, AgainLaw, MountedLaw, HistoryLaw}
-use Rattle.jfs_served.proofs.Told.{told_asked, told_joins, told_shown, told_home}
+use Rattle.jfs_served.specs.Laws.{ChangedLaw, GivenBackLaw, UnchangedLaw, AskedLaw, JoinedLaw, RefusedLaw, AcknowledgedLaw, PointedLaw, HandedOutLaw, HomeLaw, AgainLaw, MountedLaw, UnmountedLaw, HistoryLaw}
+use Rattle.jfs_served.proofs.Told.{told_asked, told_joins, told_pages, told_shown, told_home}
 use Rattle.jfs_run.specs.Calls.{has_failed}
 use Rattle.jfs_run.specs.Legal.{at, Leaves}
 
@@ -47,9 +48,12 @@ pub record Laws : Type 0 where
   pub joined : JoinedLaw
   pub refused : RefusedLaw
   pub acknowledged : AcknowledgedLaw
+  pub pointed : PointedLaw
+  pub handed_out : HandedOutLaw
   pub home : HomeLaw
   pub again : AgainLaw
   pub mounted : MountedLaw
+  pub unmounted : UnmountedLaw
   pub history : HistoryLaw
 
 -- ---- tests
@@ -69,9 +73,9 @@ told_reply reply e is = false≢true (sym e ∙ ap is_kept_back is)
 
 -- what was acknowledged
 pub settled : (laws : Laws) (tells crashes : Type 0) (told : tells) (area : ℕ → ℕ) (log_pages : ℕ) (start : Parts) (es : List Timed) (old new : Parts)
-    → HasServed area log_pages start es old → Settles old new → StaysShown tells old new → HasServed area log_pages start es new
-settled laws tells crashes told area log_pages start es old new so_far settles shown =
-    laws.history.stays area log_pages start old new es so_far (laws.acknowledged area log_pages old new so_far.serves.holds settles (told_shown tells crashes told old new shown))
+    → HasServed area log_pages start es old → Settles old new → KeepsPages tells old new → HasServed area log_pages start es new
+settled laws tells crashes told area log_pages start es old new so_far settles files =
+    laws.history.stays area log_pages start old new es so_far (laws.acknowledged area log_pages old new so_far.serves.holds settles (told_pages tells crashes told old new files))
 
 module _ (laws : Laws) (tells crashes : Type 0) (told : tells) (area : ℕ → ℕ) (log_pages : ℕ) (a : Asking) where
   -- how one call leaves a volume that could serve it
@@ -226,18 +230,21 @@ module _ (laws : Laws) (tells crashes : Type 0) (told : tells) (area : ℕ → �
     commits_then follows goes old end so_far c = go c.result c.ends
       where
         mid_so_far : HasServed area log_pages start es c.mid.volume
-        mid_so_far = settled laws tells crashes told area log_pages start es old.volume c.mid.volume so_far c.commits.settles c.commits.shown
+        mid_so_far = settled laws tells crashes told area log_pages start es old.volume c.mid.volume so_far c.commits.settles c.commits.files
 
         go : (result : Result (Unit {0}) LogFault) → AfterCommit a follows c.mid end result → Leaves area log_pages start es a end.both.volume end.outcome
         go (Ok done) e = goes c.mid end mid_so_far e
         go (Err why) e = leaves_failed why.fault c.mid end e
 
     points_then : (follows : Both → End → Type 0) → Follows follows → Follows (PointsThen tells crashes a follows)
-    points_then follows goes old end so_far c = go c.result c.points.shown c.ends
+    points_then follows goes old end so_far c = go c.result c.points.shown c.points.maps c.ends
       where
-        go : (result : Result (Unit {0}) Fault) → OnOk result (StaysShown tells old.volume c.mid.volume) → AfterPoint a follows c.mid end result → Leaves area log_pages start es a end.both.volume end.outcome
-        go (Ok done) shown e = goes c.mid end (settled laws tells crashes told area log_pages start es old.volume c.mid.volume so_far c.points.settles shown) e
-        go (Err fault) shown e = leaves_failed fault c.mid end e
+        go : (result : Result (Unit {0}) Fault) → OnOk result (StaysShown tells old.volume c.mid.volume) → OnOk result (tells → WritesMaps old.volume c.mid.volume) → AfterPoint a follows c.mid end result
+            → Leaves area log_pages start es a end.both.volume end.outcome
+        go (Ok done) shown maps e =
+            goes c.mid end (laws.history.stays area log_pages start old.volume c.mid.volume es so_far
+            (laws.pointed area log_pages old.volume c.mid.volume so_far.serves.holds c.points.settles (told_shown tells crashes told old.volume c.mid.volume shown) (maps told))) e
+        go (Err fault) shown maps e = leaves_failed fault c.mid end e
 
     last : Follows (DoesLast tells crashes a)
     last old end so_far (inl d) = alone old end so_far d

@@ -1,23 +1,36 @@
 -- The entries of a mounted volume so far: a legal history of a plain file tree, up to a call that failed.
-use Rattle.std.specs.Prelude.{◌≡◌, ◌⊎◌, ◌++◌, ◌∷◌, [], ℕ, true, List, map, None}
+use Rattle.std.specs.Prelude.{◌≡◌, ◌⊎◌, ◌++◌, ◌∷◌, [], ℕ, Bool, true, false, List, map, None}
 use Rattle.jfs_bits.specs.declared.descriptor.Moment.{Moment}
+use Rattle.jfs_disk.specs.Image.{Image, page_of}
+use Rattle.jfs_disk.specs.Crash.{DiskState}
 use Rattle.jfs_served.specs.halves.specs.Parts.{Parts}
+use Rattle.jfs_served.specs.halves.specs.Log.{LogParts}
 use Rattle.jfs_plain.specs.declared.call.Entry.{Entry}
 use Rattle.jfs_served.specs.call.specs.DoesLent.{Asking}
 use Rattle.jfs_served.specs.call.specs.declared.outcome.Outcome.{Outcome}
 use Rattle.jfs_served.specs.call.specs.declared.outcome.Outcome.TheVariants.{Replied, NeedsLog, NoMemory}
 use Rattle.jfs_served.specs.volume.specs.Join.{entry_with}
-use Rattle.jfs_served.specs.Holds.{tree_at, room_at}
+use Rattle.jfs_served.specs.Holds.{tree_at, room_at, MayServe}
+use Rattle.jfs_served.specs.Laws.{IsImageOf}
+use Rattle.jfs_served.specs.shown.specs.Files.{KnowsFiles}
+use Rattle.jfs_served.specs.shown.specs.kinds.specs.Images.{HasWholeFiles}
+use Rattle.jfs_served.specs.unmount.specs.Unmount.{Ends}
 use Rattle.jfs_served.specs.Legal.{Timed, IsLegal, HasServed}
+use Rattle.jfs_super.specs.Super.{super_of}
+use Rattle.jfs_super.specs.Rules.{blocks_of}
 use Rattle.jfs_super.specs.declared.fields.Super.{Super}
+use Rattle.jfs_super.specs.declared.fields.TheConstants.VolumeState.{CLEAN}
 use Rattle.jfs_plain.specs.Moves.{Same}
-use Rattle.jfs_mount.specs.meaning.specs.Image.{tree_of}
+use Rattle.jfs_mount.specs.meaning.specs.Readers.{readers}
+use Rattle.jfs_mount.specs.meaning.specs.Image.{tree_of, IsConsistentImage}
 use Rattle.jfs_mount.specs.meaning.specs.Image as meaning
 use Rattle.jfs_run.specs.Calls.{has_failed}
 use Rattle.jfs_run.specs.declared.client.Served.{Served}
 use Rattle.jfs_run.specs.declared.client.Served.TheVariants as serves
 use Rattle.jfs_run.specs.declared.client.Answered.{Answered}
 use Rattle.jfs_run.specs.declared.client.Answered.TheVariants as answers
+use Rattle.jfs_run.specs.declared.run.RunEnd.{RunEnd}
+use Rattle.jfs_run.specs.declared.run.RunEnd.TheVariants as ends
 
 -- a call that was handed at this moment
 abbrev pub at : Moment → Entry → Timed
@@ -57,7 +70,37 @@ pub record FollowsTree (s : Super) (page : ℕ → List ℕ) (now : Moment) (es 
 abbrev pub IsLegalRun : Super → (ℕ → List ℕ) → Moment → List Entry → Type 0
 IsLegalRun s page now es = (es ≡ []) ⊎ FollowsTree s page now es
 
+-- ---- a run that is done
+
+-- Its entries are legal from these parts on, and the disk is a clean and consistent image with the tree and the room that the volume has behind the last of them.
+pub record HasTreeBehind (s : Super) (area : ℕ → ℕ) (now : Moment) (start : Parts) (es : List Entry) (image : Image) : Type 0 where
+  pub last : Parts
+  pub legal : IsLegal area s.logpxd.len start (all_at now es) last
+  pub image_is : IsImageOf s area last (page_of image)
+
+-- so from the volume that begins as the image's
+pub record EndsOnTree (s : Super) (page : ℕ → List ℕ) (now : Moment) (es : List Entry) (image : Image) : Type 0 where
+  pub follows : FollowsTree s page now es
+  pub ends : HasTreeBehind s (meaning.volume_of s page).area now follows.start es image
+
+-- Where it began on a consistent image in which no tree of the maps' files and of the bad blocks' breaks a rule.
+abbrev pub LeavesImage : Super → Image → Moment → List Entry → Image → Type 0
+LeavesImage s old now es new = IsConsistentImage s (page_of old) → HasWholeFiles (readers (blocks_of s)) (page_of old) → EndsOnTree s (page_of old) now es new
+
+-- it was done, and the volume wasn't to be left
+abbrev pub IfUnmounted : RunEnd → Bool → Type 0 → Type 0
+IfUnmounted end is_left fact = end ≡ ends.Done → is_left ≡ false → fact
+
 -- ---- for the prover
+
+-- A volume was unmounted whose parts were these, and whose disk has this image then.
+abbrev pub WasUnmounted : (tells crashes : Type 0) → List ℕ → Parts → LogParts → Image → Type 0
+WasUnmounted tells crashes superblock volume log image = (past : List DiskState) × Ends tells crashes superblock volume log image past
+
+-- what a run on a mounted volume leaves, whatever tree it holds
+abbrev pub LeavesAny : List ℕ → Moment → Parts → List Entry → Image → Type 0
+LeavesAny superblock now start es image = (s : Super) (area : ℕ → ℕ) → MayServe area s.logpxd.len start → KnowsFiles s (page_of start.view) area start.map start.inodes start.files
+    → super_of superblock ≡ record s { state = CLEAN } → HasTreeBehind s area now start es image
 
 -- what a call leaves: with its entry the history is legal and the next call may come, or it failed; without one nothing is said
 abbrev pub Leaves : (ℕ → ℕ) → ℕ → Parts → List Timed → Asking → Parts → Outcome → Type 0

@@ -61,11 +61,14 @@ pub record Joins (l : Line) (old new : State) (e : Entry) : Type 0 where
   pub appended : new.volume.appended ≡ old.volume.appended + 1
   pub calm : (has_failed e.reply ≡ false) ⊎ (PartRose old new ⊎ (old.volume.halted ≡ None → ⊥))
 
--- it waits, and is durable
+-- It waits, and is durable: it is acknowledged, and stable in the log, with all entries before it.
 pub record IsDurable (l : Line) (old new : State) (number : ℕ) : Type 0 where
   pub entry : Entry
   pub joins : Joins l old new entry
   pub number_is : number ≡ new.volume.appended
+  pub told : new.volume.told ≡ number
+  pub taken : new.volume.taken ≡ number
+  pub stable : new.log.durable ≡ number
   pub waits_it : waits entry ≡ true
   pub ran : old.volume.halted ≡ None
   pub runs : new.volume.halted ≡ None

@@ -11,8 +11,8 @@ use jfs_bits::Moment;
 use jfs_disk::Disk;
 use jfs_plain::Line;
 use jfs_served::call::{Outcome, call_with_log};
+use jfs_served::unmount::Mounted;
 use jfs_served::volume_calls::{PointText, commit};
-use jfs_unmount::mounted::Mounted;
 use std::alloc::Global;
 
 /// The number of the client whose script is the first.

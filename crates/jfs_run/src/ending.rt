@@ -4,15 +4,16 @@ ghost use Rattle.std.specs.Prelude.{◌≡◌, ◌⊎◌, ◌≤◌, ◌<◌, �
 ghost use Rattle.jfs_bits.specs.Count.{Rose};
 ghost use Rattle.jfs_disk.specs.Crash.{last_of};
 ghost use Rattle.jfs_disk.specs.Moment.{IsResting};
+ghost use Rattle.jfs_served.specs.volume_calls.specs.Together.{log_parts};
 ghost use Rattle.jfs_run.specs.Growth.{Grows};
+ghost use Rattle.jfs_run.specs.Legal.{WasUnmounted};
 ghost use Rattle.jfs_run.specs.Run.{seen};
 ghost use Rattle.jfs_run.specs.Serving.{state, MayCall};
 ghost use Rattle.jfs_run.specs.Ending.{IsEnded};
 
 use jfs_disk::{Disk, Page};
+use jfs_served::unmount::{Mounted, leave, unmount};
 use jfs_served::volume_calls::PointText;
-use jfs_unmount::mounted::Mounted;
-use jfs_unmount::{leave, unmount};
 
 /// The last end of a text behind which an unmount's SYNCPT has room, so that the numbers of the log's pages have 32 bits.
 const LAST_POINT: u64 = 4080 * 4_294_967_296 - 72;
@@ -41,6 +42,9 @@ pub fn end<D: Disk>(
     ensures ended { is_left ≡ false → m.volume.halted ≡ None → result.is_full ≡ false →
         Rose (min (m.volume.faults + D.fault_count m.log.part) (2 ^ 64 - 1)) (D.fault_count result.disk)
         ⊎ IsEnded D.tells D.tells_crashes superblock.now.0 (min (m.volume.faults + D.fault_count m.log.part) (2 ^ 64 - 1)) (seen D.Disk result.disk) }
+    ensures leaves { D.tells → is_left ≡ false → m.volume.halted ≡ None → result.is_full ≡ false →
+        Rose (min (m.volume.faults + D.fault_count m.log.part) (2 ^ 64 - 1)) (D.fault_count result.disk)
+        ⊎ WasUnmounted D.tells D.tells_crashes superblock.now.0 m.volume (log_parts D.Disk m.log) (D.image result.disk) }
 {
     if is_left || m.volume.halted().is_some() {
         return Ended {
@@ -54,13 +58,15 @@ pub fn end<D: Disk>(
             is_full: true,
         };
     }
-    let disk = match unmount(m, point, superblock) {
-        Ok(disk) => settle(disk),
-        Err(unended) => unended.disk,
-    };
-    Ended {
-        disk,
-        is_full: false,
+    match unmount(m, point, superblock) {
+        Ok(disk) => Ended {
+            disk: settle(disk),
+            is_full: false,
+        },
+        Err(unended) => Ended {
+            disk: unended.disk,
+            is_full: false,
+        },
     }
 }
 

@@ -7,10 +7,10 @@ ghost use Rattle.jfs_super.specs.Super.{super_of, FitsSuper};
 ghost use Rattle.jfs_super.specs.declared.fields.TheConstants.VolumeState.{CLEAN};
 ghost use Rattle.jfs_script.specs.Script.{AllFit};
 ghost use Rattle.jfs_script.specs.History.{IsRisingFrom};
-ghost use Rattle.jfs_unmount.specs.mounted.specs.declared.mounted.MountError.{MountError};
+ghost use Rattle.jfs_served.specs.mounted.specs.declared.mounted.MountError.{MountError};
 ghost use Rattle.jfs_mount.specs.meaning.specs.Image.{IsConsistentImage};
 ghost use Rattle.jfs_served.specs.Holds.{MayServe};
-ghost use Rattle.jfs_run.specs.Legal.{AreLegal, IsLegalRun};
+ghost use Rattle.jfs_run.specs.Legal.{AreLegal, IsLegalRun, LeavesImage, LeavesAny, IfUnmounted};
 ghost use Rattle.jfs_run.specs.Run.{RunIs, seen};
 ghost use Rattle.jfs_run.specs.Serving.{state, IsFresh};
 ghost use Rattle.jfs_run.specs.Ending.{RunSince, end_after, end_of, TakesBy};
@@ -21,9 +21,9 @@ use jfs_bits::Moment;
 use jfs_disk::{Disk, DiskError, Page};
 use jfs_mount::BadMount;
 use jfs_plain::{Entry, Line};
+use jfs_served::unmount::{MountError, Mounted, mount};
 use jfs_served::volume_calls::PointText;
 use jfs_super::Super;
-use jfs_unmount::mounted::{MountError, Mounted, mount};
 use std::alloc::{AllocError, Global};
 
 /// The page of the superblock.
@@ -78,6 +78,8 @@ pub fn run_lines<D: Disk>(
     ensures ran { RunIs D.tells D.tells_crashes s.now lines.now is_left (seen D.Disk disk) (seen D.Disk result.disk) (record { history = result.history.items; told = result.told.items }) result.end }
     // Of a disk that tells its contents and is a consistent image, the replies are those of a plain file tree.
     ensures legal { D.tells → IsConsistentImage s.now (page_of (D.image disk)) → IsLegalRun s.now (page_of (D.image disk)) now result.history.items }
+    // What such a run leaves where it is done, and the volume wasn't to be left: an image of the tree behind the last reply.
+    ensures leaves { D.tells → IfUnmounted result.end is_left (LeavesImage s.now (D.image disk) now result.history.items (D.image result.disk)) }
     // so that the text of a history may be written
     ensures rising { IsRisingFrom 1 result.told.items }
     ensures pages { D.page_count result.disk ≡ D.page_count disk }
@@ -174,6 +176,7 @@ fn run_mounted<D: Disk>(
     requires capacity { length lines.now ≤ vec_capacity taken.told }
     ensures ran { RunSince D.tells D.tells_crashes taken.superblock.0 lines.now is_left before (seen D.Disk result.disk) (record { history = result.history.items; told = result.told.items }) result.end }
     ensures legal { D.tells → (area : ℕ → ℕ) (log_pages : ℕ) → MayServe area log_pages m.volume → AreLegal area log_pages now m.volume result.history.items }
+    ensures leaves { D.tells → IfUnmounted result.end is_left (LeavesAny taken.superblock.0 now m.volume result.history.items (D.image result.disk)) }
     ensures rising { IsRisingFrom 1 result.told.items }
     ensures pages { D.page_count result.disk ≡ m.volume.count + D.page_count m.log.part }
     ensures later { before ≤ D.fault_count result.disk }

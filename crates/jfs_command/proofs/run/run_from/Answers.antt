@@ -2,6 +2,7 @@ use Rattle.std.proofs.Common.{◌≡◌, List, refl, sym, subst}
 use Rattle.jfs_plain.specs.declared.call.Entry.{Entry}
 use Rattle.jfs_run.specs.Calls.{Calls}
 use Rattle.jfs_run.specs.Run.{RunIs, seen}
+use Rattle.jfs_run.specs.Legal.{LeavesImage, IfUnmounted}
 use Rattle.jfs_command.specs.Held.{held_of}
 use Rattle.jfs_command.specs.Run.{AreReplies, Tells}
 use Rattle.jfs_command.proofs.RunLines.{ended}
@@ -19,4 +20,5 @@ returns-clause-ends g c =
     (subst (λ (es : List Entry). AreReplies d.tells s (d.image c.args.disk) c.args.now es) (sym made.ensures.history) ran.ensures.legal)
     ran.result.end made.result.end made.result.text.items
     (subst (λ (x : Calls). RunIs d.tells d.tells_crashes s c.args.lines.now c.args.is_left (seen d c.args.disk) (seen d ran.result.disk) x ran.result.end) same ran.ensures.ran)
+    (subst (λ (es : List Entry). d.tells → IfUnmounted ran.result.end c.args.is_left (LeavesImage s (d.image c.args.disk) c.args.now es (d.image ran.result.disk))) (sym made.ensures.history) ran.ensures.leaves)
     (subst (λ (x : Calls). Tells c.args.redone ran.result.end x made.result.end made.result.text.items) same made.ensures.tells)

@@ -75,7 +75,7 @@ returns-in-Ok-clause-line g c =
     durable c.args.line.now (state d c.args.m.now.volume c.args.m.now.log) (state d c.call_with_log.new.volume c.call_with_log.new.log) (state d c.commit.new.volume c.commit.new.log)
     c.in-Replied.reply c.in-Replied.entry c.in-Replied.waits c.requires.may c.call_with_log.ensures.pages c.in-Replied.ensures.answered
     (waits_of c.args.line.now (state d c.args.m.now.volume c.args.m.now.log) (state d c.call_with_log.new.volume c.call_with_log.new.log) c.in-Replied.reply c.in-Replied.entry c.in-Replied.waits c.in-Replied.ensures.answered c.if-not-waits.false) (none_of c.call_with_log.new.volume.halted (let none : is_some c.call_with_log.new.volume.halted ≡ false = cc (c.is_some.ensures, c.if-is_some.false, c.halted.ensures) in none))
-    (record { settles = c.commit.ensures.settles; faults = c.commit.ensures.counts.2; pages = c.commit.ensures.disk.2 }) c.in-Ok.ensures.halted
+    (record { settles = c.commit.ensures.settles; faults = c.commit.ensures.counts.2; pages = c.commit.ensures.disk.2 }) c.in-Ok.ensures.halted c.in-Ok.ensures.told c.in-Ok.ensures.together
 
 pub returns-in-Ok-clause-legal : goal.returns-in-Ok-clause-legal
 returns-in-Ok-clause-legal g c = λ t area log_pages start so_far.
@@ -84,7 +84,7 @@ returns-in-Ok-clause-legal g c = λ t area log_pages start so_far.
     (goes_on laws area log_pages c.args.now start d.tells d.tells_crashes t (c.call_with_log.new.log ≡ c.args.m.now.log) (record { caller = record { client = 1; line = c.args.line.now.number }; request = c.args.line.now.request; now = c.args.now })
     (record { volume = c.args.m.now.volume; log = log_parts d c.args.m.now.log }) (record { volume = c.call_with_log.new.volume; log = log_parts d c.call_with_log.new.log })
     c.in-Replied.reply c.in-Replied.entry c.in-Replied.waits refl so_far c.in-Replied.ensures.does c.in-Replied.ensures.answered.entry.entries)
-    c.commit.ensures.settles c.commit.ensures.shown
+    c.commit.ensures.settles c.commit.ensures.files
 
 pub returns-in-Replied-clause-keeps : goal.returns-in-Replied-clause-keeps
 returns-in-Replied-clause-keeps g c =
@@ -111,4 +111,4 @@ returns-in-Replied-clause-legal g c = λ t area log_pages start so_far.
     (goes_on laws area log_pages c.args.now start d.tells d.tells_crashes t (c.call_with_log.new.log ≡ c.args.m.now.log) (record { caller = record { client = 1; line = c.args.line.now.number }; request = c.args.line.now.request; now = c.args.now })
     (record { volume = c.args.m.now.volume; log = log_parts d c.args.m.now.log }) (record { volume = c.call_with_log.new.volume; log = log_parts d c.call_with_log.new.log })
     c.in-Replied.reply c.in-Replied.entry c.in-Replied.waits refl so_far c.in-Replied.ensures.does c.in-Replied.ensures.answered.entry.entries)
-    c.commit.ensures.settles c.commit.ensures.shown
+    c.commit.ensures.settles c.commit.ensures.files

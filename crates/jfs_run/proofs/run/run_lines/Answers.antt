@@ -6,14 +6,15 @@ use Rattle.jfs_mount.specs.Mount.{broken_mount}
 use Rattle.jfs_mount.specs.meaning.specs.Image.{volume_of}
 use Rattle.jfs_served.specs.volume_calls.specs.Together.{log_parts}
 use Rattle.jfs_run.specs.Calls.{Calls}
-use Rattle.jfs_unmount.specs.mounted.specs.Mount.{IsMountCause, IsRefusal}
+use Rattle.jfs_served.specs.mounted.specs.Mount.{IsMountCause, IsRefusal}
 use Rattle.jfs_run.specs.Run.{seen, StayBeside}
 use Rattle.jfs_run.specs.Serving.{state}
 use Rattle.jfs_run.specs.Ending.{RunSince}
 use Rattle.jfs_run.proofs.Finished.{ran, took_nothing, unmounted}
 use Rattle.jfs_run.proofs.Known.{laws}
-use Rattle.jfs_run.proofs.Legally.{mounted_from}
-use Rattle.jfs_run.proofs.Begun.{has_superblock, superblock_below, within_low, fresh_of}
+use Rattle.jfs_super.specs.Super.{super_of}
+use Rattle.jfs_run.proofs.Legally.{mounted_from, follows, ends_on}
+use Rattle.jfs_run.proofs.Begun.{has_superblock, superblock_below, within_low, fresh_of, clean_is}
 use Rattle.jfs_run.proofs.run.run_lines.Goals as goal
 
 pub take-requires : goal.take-requires
@@ -37,7 +38,19 @@ returns-in-Ok-mount-clause-legal g c = λ t consistent.
     let volume = c.in-Ok-mount.m.volume in
     let held = mounted_from laws d.tells d.tells_crashes t s (d.image c.args.disk) (d.image c.take.new.disk) volume (log_parts d c.in-Ok-mount.m.log) (c.in-Ok.ensures.image t) e.mounted
     (within_low s (d.page_count c.args.disk) c.requires.accepted volume.blocks e.parts.0) consistent in
-    inr (record { start = volume; runs = e.running.0; tree = held.tree; room = held.room; legal = c.run_mounted.ensures.legal t (volume_of s (page_of (d.image c.args.disk))).area s.logpxd.len held.serves })
+    inr (follows s (d.image c.args.disk) volume c.args.now c.run_mounted.result.history.items held e.running.0 (c.run_mounted.ensures.legal t (volume_of s (page_of (d.image c.args.disk))).area s.logpxd.len held.serves))
+
+pub returns-in-Ok-mount-clause-leaves : goal.returns-in-Ok-mount-clause-leaves
+returns-in-Ok-mount-clause-leaves g c = λ t done left consistent whole.
+    let d = g.D.Disk in
+    let s = c.args.s.now in
+    let e = c.in-Ok-mount.ensures in
+    let volume = c.in-Ok-mount.m.volume in
+    let held = mounted_from laws d.tells d.tells_crashes t s (d.image c.args.disk) (d.image c.take.new.disk) volume (log_parts d c.in-Ok-mount.m.log) (c.in-Ok.ensures.image t) e.mounted
+    (within_low s (d.page_count c.args.disk) c.requires.accepted volume.blocks e.parts.0) consistent in
+    let area = (volume_of s (page_of (d.image c.args.disk))).area in
+    ends_on s (d.image c.args.disk) (d.image c.run_mounted.result.disk) volume c.args.now c.run_mounted.result.history.items held e.running.0 (c.run_mounted.ensures.legal t area s.logpxd.len held.serves)
+    (c.run_mounted.ensures.leaves t done left s area held.serves (held.knows whole) (ap super_of (c.in-Ok.ensures.taken.0 t) ∙ c.requires.spelled t ∙ clean_is s c.requires.clean))
 
 pub returns-in-Ok-mount-clause-ran : goal.returns-in-Ok-mount-clause-ran
 returns-in-Ok-mount-clause-ran g c =
