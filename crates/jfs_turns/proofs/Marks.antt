@@ -86,11 +86,11 @@ module _ {V L E : Type 0} (client : E → ℕ) (of_volume : Standing V E) (of_lo
       } in
       let ordered : IsOrdered client n' = record {
         log_listed = o.log_listed;
-        log_pointed = prefix_refl ps;
+        log_pointed = refl;
         durable_listed = o.durable_listed;
         durable_taken = o.durable_taken;
         taken_listed = o.taken_listed;
-        stable_pointed = (let a = o.stable_pointed in let b = prefix_length n.log_points n.points o.log_pointed in omega arith);
+        stable_pointed = (let a = o.stable_pointed in let b = ap (λ (x : List ℕ). length x) o.log_pointed in omega arith);
         known = o.known;
       } in (
         w,

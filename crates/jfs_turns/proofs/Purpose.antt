@@ -108,5 +108,5 @@ module _ {V L E : Type 0} (client : E → ℕ) (of_volume : Standing V E) (of_lo
     a.5 ∙ sym b.4,
     omega (arith, b.4, ap (λ (x : List E). length x) a.4, o.taken_listed),
     subst {A = List E × List E} (λ z. IsPrefix z.0 z.1) (λ k. (sym l.6 k, sym a.4 k)) o.log_listed,
-    subst {A = List ℕ × List ℕ} (λ z. IsPrefix z.0 z.1) (λ k. (sym l.7 k, sym b.3 k)) o.log_pointed,
+    l.7 ∙ o.log_pointed ∙ sym b.3,
   )

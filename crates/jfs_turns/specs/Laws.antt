@@ -56,7 +56,7 @@ module _ {V L E : Type 0} (client : E → ℕ) (of_volume : Standing V E) (of_lo
       × (v.log ≡ true → (v.log_durable ≡ slice_index s.words 3) × (v.log_durable ≤ v.taken) × (v.log_durable ≤ length v.log_list) × (v.log_stable ≡ slice_index s.words 5) × (v.log_stable ≤ length v.log_points))
 
   -- Of both turns' halves: there is one list, as long as word 2 says, one number of taken entries, at most all, and one list of
-  -- syncpoints, as long as word 4 says. The log side's lists are prefixes of these.
+  -- syncpoints, as long as word 4 says, which both sides have. The log side's list of entries is a prefix of the volume's.
   abbrev pub BothAgree : Type 0
   BothAgree = (s : State (Held V L) (View E)) (i j : ℕ) (v w : View E) → Ruled client of_volume of_log s → Has s i v → Has s j w → v.appends ≡ true → w.volume ≡ true → w.log ≡ true
-      → (length v.list ≡ slice_index s.words 2) × (length w.points ≡ slice_index s.words 4) × (v.taken ≡ w.taken) × (w.taken ≤ length v.list) × IsPrefix w.log_list v.list × IsPrefix w.log_points w.points
+      → (length v.list ≡ slice_index s.words 2) × (length w.points ≡ slice_index s.words 4) × (v.taken ≡ w.taken) × (w.taken ≤ length v.list) × IsPrefix w.log_list v.list × (w.log_points ≡ w.points)

@@ -30,9 +30,9 @@ pub record End (E : Type 0) : Type 0 where
   pub known : ℕ
 
 module _ {E : Type 0} where
-  -- the log side's lists are prefixes of the volume's, and told ≤ durable ≤ taken ≤ all
+  -- the log side's entries are a prefix of the volume's, its syncpoints are the volume's, and told ≤ durable ≤ taken ≤ all
   abbrev pub IsInOrder : End E → Type 0
-  IsInOrder end = IsPrefix end.log_list end.list × IsPrefix end.log_points end.points × (end.told ≤ end.durable) × (end.durable ≤ end.taken) × (end.durable ≤ length end.log_list) × (end.taken ≤ length end.list)
+  IsInOrder end = IsPrefix end.log_list end.list × (end.log_points ≡ end.points) × (end.told ≤ end.durable) × (end.durable ≤ end.taken) × (end.durable ≤ length end.log_list) × (end.taken ≤ length end.list)
       × (end.known ≤ end.stable) × (end.stable ≤ length end.log_points)
 
 module _ {V L E : Type 0} (client : E → ℕ) (end : End E) where

@@ -86,10 +86,10 @@ module _ {E : Type 0} where
     pub passes : v.main ≡ true → IsPass client n j v
     pub deals : v.keeper ≡ true → Deals client n j v
 
-  -- the log side's lists are prefixes of the volume's, durable ≤ taken ≤ all, and no entry is of a client that isn't dealt yet
+  -- the log side's entries are a prefix of the volume's, and its syncpoints are the volume's; durable ≤ taken ≤ all; and no entry is of a client that isn't dealt yet
   pub record Ordered (client : E → ℕ) (list log_list : List E) (points log_points : List ℕ) (taken durable stable dealt : ℕ) : Type 0 where
     pub log_listed : IsPrefix log_list list
-    pub log_pointed : IsPrefix log_points points
+    pub log_pointed : log_points ≡ points
     pub durable_listed : durable ≤ length log_list
     pub durable_taken : durable ≤ taken
     pub taken_listed : taken ≤ length list

@@ -16,10 +16,10 @@ module _ {E : Type 0} where
   IsLogInOrder v = (v.log_durable ≤ v.taken) × (v.log_durable ≤ length v.log_list) × (v.log_stable ≤ length v.log_points)
 
 module _ {V L E : Type 0} where
-  -- who has the log turn too learns that both sides agree: one number of taken entries, the counts of the log side, and the log
-  -- side's lists as prefixes
+  -- who has the log turn too learns that both sides agree: one number of taken entries, the counts of the log side, its list of
+  -- entries as a prefix, and one list of syncpoints
   abbrev pub LearnedBoth : Seated V L E → Seated V L E → Type 0
-  LearnedBoth m m' = (m'.0.taken ≡ m.0.taken) × (m'.0.durable ≡ m.0.log_durable) × (m'.0.stable ≡ m.0.log_stable) × IsPrefix m.0.log_list m'.0.list × IsPrefix m.0.log_points m'.0.points
+  LearnedBoth m m' = (m'.0.taken ≡ m.0.taken) × (m'.0.durable ≡ m.0.log_durable) × (m'.0.stable ≡ m.0.log_stable) × IsPrefix m.0.log_list m'.0.list × (m.0.log_points ≡ m'.0.points)
 
   -- what the taker of the volume turn learns: the whole list and all syncpoints, which go on those that it knew, the list with no
   -- entry of its own; how many entries are taken; bounds of words 3 and 5

@@ -107,8 +107,8 @@ impl<V: Stands<E>, L: Stands<E>, E: HasClient> Turns<V, L, E> {
     }
 
     /// Takes back all the passes that `new` gave, and gives both values as they were last given back. They stand for one base, the
-    /// last pass's. The volume's list goes on each pass's, with no entry of that pass's client, and the log side's lists are
-    /// prefixes of the volume's.
+    /// last pass's. The volume's list goes on each pass's, with no entry of that pass's client. The log side's list is a prefix of
+    /// the volume's, and its syncpoints are the volume's.
     pub fn close(self, mut passes: Vec<Pass<V, L, E>, Global>) -> (V, L)
         requires passes { ArePasses self.table.shared.table_id (length passes.items) passes.items × (0 < length passes.items) }
         ensures { AtEnd E.client V.stands L.stands passes.items result.0 result.1 }

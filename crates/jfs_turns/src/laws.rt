@@ -29,7 +29,7 @@ pub fn durable_count_is_the_log_sides<V: Stands<E>, L: Stands<E>, E: HasClient>(
     ensures { DurableIsTheLogSides E.client V.stands L.stands }
 {}
 
-/// Whoever holds both turns has one list, one number of taken entries and one list of syncpoints.
+/// Whoever holds both turns has one list, one number of taken entries and one list of syncpoints, which is the log side's too.
 pub fn both_turns_agree<V: Stands<E>, L: Stands<E>, E: HasClient>()
     ensures { BothAgree E.client V.stands L.stands }
 {}
