@@ -1,0 +1,5 @@
+pub mod Text
+pub mod Stands
+pub mod Views
+pub mod Leading
+pub mod Led

@@ -1,0 +1,36 @@
+-- The text of the group that a volume hands out.
+use Rattle.std.specs.Prelude.{◌≡◌, ◌≤◌, ℕ, ◌*◌, ◌^◌, List, length, take, drop, Option}
+use Rattle.jfs_logpages.specs.declared.group_text.GroupText.{GroupText}
+use Rattle.jfs_logpages.specs.Group.{pages_of, room_of}
+use Rattle.jfs_logpages.specs.Records.{log_text}
+use Rattle.jfs_records.specs.Records.{Noted}
+use Rattle.jfs_records.specs.Entries.{log_records}
+use Rattle.jfs_turns.specs.Standing.{Standing}
+use Rattle.jfs_groups.specs.Text.{items_from, end_of}
+
+-- The records of the entries that weren't taken, to stand behind the text of those that were and of so many syncpoints. The last entry is the list's. It fits a group, and the page numbers of the whole text have 32 bits.
+pub record IsGroupOf {E : Type 0} (logs : E → Option (List Noted)) (ring : ℕ) (list : List E) (taken points : ℕ) (group : GroupText) : Type 0 where
+  pub last : group.last ≡ length list
+  pub bytes : group.bytes.items ≡ log_text (log_records ring (end_of logs ring (take taken list) points) (items_from logs taken (drop taken list)))
+  pub room : pages_of (length group.bytes.items) ≤ room_of ring
+  pub numbers : end_of logs ring list points ≤ 4080 * 2 ^ 32
+
+-- ---- what the calls of a volume are to what it stands for
+
+module _ {V E : Type 0} (stands : Standing V E) where
+  -- all entries are taken, and all else is as it was
+  abbrev pub Takes : (E → Option (List Noted)) → (List (List ℕ) → ℕ) → V → V → GroupText → Type 0
+  Takes logs ring old new group =
+      (base : List (List ℕ)) (list : List E) (taken told : ℕ) (points : List ℕ) (known : ℕ) → stands old base list taken told points known → stands new base list (length list) told points known × IsGroupOf logs (ring base) list taken (length points) group
+
+  -- n entries may be acknowledged: no fewer than are, and no more than are taken
+  abbrev pub MayTell : V → ℕ → Type 0
+  MayTell x n = (base : List (List ℕ)) × (list : List E) × (taken : ℕ) × (told : ℕ) × (points : List ℕ) × (known : ℕ) × stands x base list taken told points known × (told ≤ n) × (n ≤ taken)
+
+  -- n entries are acknowledged, and all else is as it was
+  abbrev pub Tells : V → ℕ → V → Type 0
+  Tells old n new = (base : List (List ℕ)) (list : List E) (taken told : ℕ) (points : List ℕ) (known : ℕ) → stands old base list taken told points known → stands new base list taken n points known
+
+  -- it stands for what it stood for
+  abbrev pub Stays : V → V → Type 0
+  Stays old new = (base : List (List ℕ)) (list : List E) (taken told : ℕ) (points : List ℕ) (known : ℕ) → stands old base list taken told points known → stands new base list taken told points known
