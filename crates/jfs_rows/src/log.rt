@@ -1,4 +1,4 @@
-//! The command `log`, over logs that the tests write number by number. Texts and addresses are worked out by hand.
+//! The commands `log` and `redo`, over logs that the tests write number by number. Texts and addresses are worked out by hand.
 
 use crate::faults::faults_of;
 use crate::refusals::{Change, change};
@@ -154,12 +154,12 @@ fn disk_with_log(
     Some(disk)
 }
 
-/// The log with records of all types.
+/// The log with records of all types, of a mounted volume.
 fn all_types(alloc: Global) -> Option<MemDisk> {
-    disk_with_log(alloc, 0, 256, &[&ALL_TYPES, &FREED], 616)
+    disk_with_log(alloc, 1, 256, &[&ALL_TYPES, &FREED], 616)
 }
 
-/// Whether the command ends with this status and this text.
+/// Whether the command `log` ends with this status and this text.
 fn is_told<R: Threads + Wait + Sync>(
     rt: &R,
     alloc: Global,
@@ -192,6 +192,30 @@ fn all_types_but(alloc: Global, n: u32, changes: &[Change]) -> Option<MemDisk> {
     Some(disk)
 }
 
+/// The same disk, on which no page can be written.
+fn read_only(alloc: Global, disk: Option<MemDisk>) -> Option<MemDisk> {
+    let fails = [
+        fails_at(Kind::Write, 1, u64::MAX),
+        fails_at(Kind::Sync, 1, u64::MAX),
+    ];
+    failing_all(alloc, disk, &fails)
+}
+
+/// Whether both commands end with this status and this text on such a disk, and try to write nothing.
+fn is_refused<R: Threads + Wait + Sync>(
+    rt: &R,
+    alloc: Global,
+    disk: Option<MemDisk>,
+    number: u8,
+    text: &str,
+) -> bool {
+    let mut disk = read_only(alloc, disk);
+    for command in ["log", "redo"] {
+        disk = after_number(rt, alloc, &[command, "I"], disk, number, text);
+    }
+    faults_of(&disk) == Some(0)
+}
+
 /// Whether a log breaks this rule at this address.
 fn is_broken<R: Threads + Wait + Sync>(
     rt: &R,
@@ -201,11 +225,11 @@ fn is_broken<R: Threads + Wait + Sync>(
     rule: &str,
 ) -> Option<bool> {
     let text = format!(in alloc; "jfsd: bad log: address {address} rule {rule}\n").ok()?;
-    Some(is_told(rt, alloc, disk, 10, text.as_str()))
+    Some(is_refused(rt, alloc, disk, 10, text.as_str()))
 }
 
 #[test]
-fn a_broken_log_prints_its_rule_alone(rt: HostRuntime) {
+fn a_broken_log_is_refused_by_its_rule(rt: HostRuntime) {
     for (n, changed, address, rule) in BROKEN.iter() {
         let alloc = rt.alloc();
         let disk = all_types_but(alloc, *n, &[*changed]);
@@ -228,7 +252,7 @@ fn a_ring_without_a_half_that_stands(rt: HostRuntime) {
     let is_so = is_broken(&rt, alloc, torn_twice(alloc), 0, "ring");
     assert!(rt; is_so == Some(true));
     // No record ends in the newest half.
-    let disk = disk_with_log(alloc, 0, 256, &[&ALL_TYPES, &FREED], 8);
+    let disk = disk_with_log(alloc, 1, 256, &[&ALL_TYPES, &FREED], 8);
     let is_so = is_broken(&rt, alloc, disk, 0, "sync");
     assert!(rt; is_so == Some(true));
 }
@@ -265,7 +289,7 @@ fn a_foreign_label_is_told(rt: HostRuntime) {
     for (first, second, text) in LABELS.iter() {
         let alloc = rt.alloc();
         let disk = labelled(alloc, first, second);
-        assert!(rt; is_told(&rt, alloc, disk, 9, text), "{text}");
+        assert!(rt; is_refused(&rt, alloc, disk, 9, text), "{text}");
     }
 }
 

@@ -3,7 +3,9 @@
 use crate::check::{CLEAN, altered, new_volume};
 use crate::faults::faults_of;
 use crate::refusals::Change;
-use crate::volume::{after, after_number, came, failing_all, fails_at, is_wrong_word, sound_disk};
+use crate::volume::{
+    Script, after, after_number, came, failing_all, fails_at, is_wrong_word, run, sound_disk,
+};
 use jfs_command::Status;
 use jfs_disk::{Disk, Fail, Kind, MemDisk, Page};
 use jfs_io::SureSink;
@@ -107,6 +109,47 @@ fn a_transaction_is_redone(rt: HostRuntime) {
     );
     let disk = after(&rt, alloc, &["check", "I"], disk, Status::Done, CLEAN);
     assert!(rt; line_of(disk) == Some(7));
+}
+
+/// A change of the root's mode, and then so many that find it as they want it: each has a COMMIT.
+fn chmods(alloc: Global, count: u32) -> Option<String> {
+    let mut text = String::new(alloc);
+    text.push_str("chmod / 0700\n").ok()?;
+    for _ in 0..count {
+        text.push_str("chmod / 0711\n").ok()?;
+    }
+    Some(text)
+}
+
+/// The disk of a new volume that is left after these calls, and whether its log ends so.
+fn left_with<R: Threads + Wait + Sync>(
+    rt: &R,
+    alloc: Global,
+    script: &str,
+    end: &str,
+) -> Option<(MemDisk, bool)> {
+    let mut out = SureSink::new(alloc);
+    let disk = new_volume(rt, alloc)?;
+    let words = ["run", "--leave", "I", "S"];
+    let left = run(rt, alloc, &words, Script::of(script), disk, &mut out)?.disk;
+    let mut out = SureSink::new(alloc);
+    let came = came(rt, alloc, &["log", "I"], Some(left), &mut out)?;
+    Some((came.disk, out.bytes().ends_with(end.as_bytes())))
+}
+
+// The last page of the ring ends with the COMMIT of transaction 103, and its first one has that of 104.
+#[test]
+fn a_log_that_goes_round_its_ring_is_redone(rt: HostRuntime) {
+    let alloc = rt.alloc();
+    let script = chmods(alloc, 103).expect(&rt, "memory");
+    let end =
+        "4194260 102 COMMIT\n4194296 103 COMMIT\n8236 104 COMMIT\nlog 107 records, end 8236\n";
+    let (disk, is_so) = left_with(&rt, alloc, script.as_str(), end).expect(&rt, "memory");
+    assert!(rt; is_so);
+    let redone = "redo 104 transactions\n";
+    let disk = after(&rt, alloc, &WORDS, Some(disk), Status::Done, redone);
+    let disk = after(&rt, alloc, &["check", "I"], disk, Status::Done, CLEAN);
+    assert!(rt; disk.is_some());
 }
 
 /// Changes of a mounted volume, the status's number, and the text. The label stands at byte 52 of the log's second page, 3073; the block map tells its volume's size on page 16.
