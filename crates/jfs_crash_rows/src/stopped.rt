@@ -1,0 +1,105 @@
+//! A redo that is stopped at one of its calls on the disk, and made again.
+
+ghost use Rattle.jfs_script.specs.Script.{AllFit};
+
+use crate::crashes::choices;
+use crate::scripts::busy;
+use crate::volume::{BLOCKS, failing, is_redone, is_sound, is_unmounted, left, lines_of};
+use jfs_disk::{Disk, Fail, Kind, MemDisk, Page, Part};
+use jfs_plain::Line;
+use std::alloc::Global;
+use std::test::*;
+
+/// How many lines of the script are redone.
+const FRONT: usize = 52;
+
+/// What became of a redo that was stopped.
+#[derive(Clone, Copy, PartialEq, Eq, Debug)]
+enum Outcome {
+    /// It has no such call.
+    Not,
+    /// The next redo gave the same as one that isn't stopped.
+    Same,
+    /// The page from which on it didn't.
+    Other(u32),
+    Unsound,
+}
+
+/// The first page of the file system part at which two disks differ.
+fn first_difference(a: &mut MemDisk, b: &mut MemDisk) -> Option<u32> {
+    let mut page = Page::zeros();
+    let mut other = Page::zeros();
+    for n in 0..BLOCKS {
+        if n >= a.pages() || n >= b.pages() {
+            return Some(n);
+        }
+        if a.read(n, &mut page).is_err() || b.read(n, &mut other).is_err() || page.0 != other.0 {
+            return Some(n);
+        }
+    }
+    None
+}
+
+/// A disk that is left behind these lines, where nothing is pending.
+fn rested(alloc: Global, lines: &[Line]) -> Option<MemDisk>
+    requires { AllFit lines.now }
+{
+    Some(left(alloc, lines, &[])?.disk.crashed(&[]))
+}
+
+/// A redo of which all calls of a kind fail from this one on, then a crash, and a redo that is beside the one that wasn't stopped.
+fn stopped(
+    alloc: Global,
+    lines: &[Line],
+    whole: &mut MemDisk,
+    kind: Kind,
+    first: u64,
+) -> Option<Outcome>
+    requires { AllFit lines.now }
+{
+    let fail = Fail {
+        part: Part::Whole,
+        kind,
+        first,
+        last: u64::MAX,
+    };
+    let mut disk = failing(alloc, rested(alloc, lines)?, &[fail])?;
+    if is_redone(alloc, &mut disk) {
+        return Some(Outcome::Not);
+    }
+    let mut disk = disk.crashed(&choices(alloc, first as u32).ok()?);
+    if !is_redone(alloc, &mut disk) || !is_unmounted(&mut disk) || !is_sound(alloc, &mut disk) {
+        return Some(Outcome::Unsound);
+    }
+    match first_difference(&mut disk, whole) {
+        Some(n) => Some(Outcome::Other(n)),
+        None => Some(Outcome::Same),
+    }
+}
+
+/// How many calls of a kind a redo has at which it can be stopped so that the next one gives the same; and what comes then.
+fn stops(alloc: Global, lines: &[Line], kind: Kind) -> Option<(u64, Outcome)>
+    requires { AllFit lines.now }
+{
+    let mut whole = rested(alloc, lines)?;
+    if !is_redone(alloc, &mut whole) {
+        return None;
+    }
+    for first in 1..100 {
+        let came = stopped(alloc, lines, &mut whole, kind, first)?;
+        if came != Outcome::Same {
+            return Some((first - 1, came));
+        }
+    }
+    None
+}
+
+#[test]
+fn a_redo_that_is_stopped_is_made_again(rt: HostRuntime) {
+    let alloc = rt.alloc();
+    let text = busy(alloc).expect(&rt, "memory");
+    let lines = lines_of(alloc, &text).expect(&rt, "lines");
+    let front = lines.get(..FRONT).expect(&rt, "lines");
+    assert_eq!(rt; stops(alloc, front, Kind::Write), Some((17, Outcome::Not)));
+    assert_eq!(rt; stops(alloc, front, Kind::Sync), Some((2, Outcome::Not)));
+}
