@@ -67,7 +67,7 @@ fn stopped(
     if is_redone(alloc, &mut disk) {
         return Some(Outcome::Not);
     }
-    let mut disk = disk.crashed(&choices(alloc, first as u32).ok()?);
+    let mut disk = disk.crashed(&choices(alloc, u32::try_from(first).ok()?).ok()?);
     if !is_redone(alloc, &mut disk) || !is_unmounted(&mut disk) || !is_sound(alloc, &mut disk) {
         return Some(Outcome::Unsound);
     }

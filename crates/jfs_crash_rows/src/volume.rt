@@ -132,6 +132,9 @@ pub fn pages_of<D: Disk>(alloc: Global, disk: &mut D) -> Option<PageList> {
     let mut pages = PageList::new(alloc);
     for n in 0..disk.pages() {
         let mut page = Page::zeros();
+        if n >= disk.pages() {
+            return None;
+        }
         disk.read(n, &mut page).ok()?;
         pages.push(page).ok()?;
     }

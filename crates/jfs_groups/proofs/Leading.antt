@@ -1,6 +1,5 @@
 -- The leader: what it knows from the group that it takes to the write.
-use Rattle.std.proofs.Common.{◌≡◌, ◌≤◌, ◌<◌, ℕ, List, [], ◌++◌, length, max, true, false, Option, Some, None, refl, sym, ap, subst, ◌∙◌, arith, inr}
-use Rattle.std.proofs.lemmas.List.{length-append}
+use Rattle.std.proofs.Common.{◌≡◌, ◌≤◌, ◌<◌, ℕ, List, length, max, true, false, Option, Some, sym, ap, subst, ◌∙◌, arith, inr}
 use Rattle.std.proofs.Math.Nat.{le-max_left, le-max_right, max-le}
 use Rattle.jfs_disk.specs.declared.disk.Fault.{Fault}
 use Rattle.jfs_logpages.specs.declared.group_text.GroupText.{GroupText}

@@ -1,5 +1,5 @@
 -- What a log side stands for, before and after a group.
-use Rattle.std.proofs.Common.{◌≡◌, ◌≢◌, ◌≤◌, ◌<◌, ℕ, suc, ◌+◌, ◌*◌, ◌^◌, List, [], ◌++◌, length, take, drop, Option, Some, None, refl, sym, ap, subst, ◌∙◌, arith}
+use Rattle.std.proofs.Common.{◌≡◌, ◌≤◌, ℕ, ◌+◌, ◌*◌, ◌^◌, List, ◌++◌, length, take, drop, Option, Some, None, refl, sym, ap, subst, ◌∙◌, arith}
 use Rattle.std.proofs.lemmas.List.{length-append}
 use Rattle.std.proofs.Math.Seq.{take-append_seam, drop-append_seam}
 use Rattle.jfs_disk.specs.declared.disk.Fault.{Fault}
@@ -7,7 +7,7 @@ use Rattle.jfs_logpages.specs.declared.group_text.GroupText.{GroupText}
 use Rattle.jfs_logpages.specs.Group.{pages_of, room_of, position_of}
 use Rattle.jfs_logpages.specs.Records.{log_text}
 use Rattle.jfs_records.specs.Records.{Noted}
-use Rattle.jfs_records.specs.Entries.{log_records, text_size}
+use Rattle.jfs_records.specs.Entries.{log_records}
 use Rattle.jfs_records.proofs.ReadBack.{length-items}
 use Rattle.jfs_turns.specs.Lists.{IsPrefix}
 use Rattle.jfs_groups.specs.Text.{items_from, end_of}

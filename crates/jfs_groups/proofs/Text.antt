@@ -10,7 +10,7 @@ use Rattle.jfs_logpages.specs.Group.{Holds, position_of}
 use Rattle.jfs_logpages.specs.Records.{log_text}
 use Rattle.jfs_logpages.specs.Ring.{fresh_text}
 use Rattle.jfs_records.specs.Records.{Noted}
-use Rattle.jfs_records.specs.Entries.{Item, entry, point, item_size, text_size, log_records}
+use Rattle.jfs_records.specs.Entries.{Item, entry, point, text_size, log_records}
 use Rattle.jfs_records.proofs.ReadBack.{length-items, text_size-append, records-append}
 use Rattle.jfs_groups.specs.Text.{item_of, entries_in, points_in, text_with, items_from, end_of, HoldsText}
 

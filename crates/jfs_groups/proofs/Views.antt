@@ -1,5 +1,5 @@
 -- What a pass knows goes on, step by step.
-use Rattle.std.proofs.Common.{◌≡◌, ◌≤◌, ℕ, List, [], ◌∷◌, ◌++◌, length, false, refl, sym, ap, subst, ◌∙◌, arith, append_assoc, append-nil}
+use Rattle.std.proofs.Common.{◌≡◌, ◌≤◌, ℕ, List, [], ◌∷◌, ◌++◌, false, sym, ap, subst, ◌∙◌, arith, append_assoc, append-nil}
 use Rattle.jfs_turns.specs.Lists.{IsPrefix, Lacks, HasOwn}
 use Rattle.jfs_turns.specs.Views.{Seated}
 use Rattle.jfs_turns.specs.Told.{Learned, LearnedLog, saw_durable}

@@ -2,7 +2,7 @@
 use Rattle.std.specs.Prelude.{◌≡◌, ◌<◌, ◌≤◌, ◌⊎◌, ℕ, List, length, Option, Some}
 use Rattle.jfs_disk.specs.declared.disk.Fault.{Fault}
 use Rattle.jfs_turns.specs.Lists.{IsPrefix, HasOwn}
-use Rattle.jfs_turns.specs.Standing.{Standing, LogStands}
+use Rattle.jfs_turns.specs.Standing.{Standing}
 use Rattle.jfs_turns.specs.declared.view.View.{View}
 use Rattle.jfs_groups.specs.declared.committed.Committed.{Committed}
 use Rattle.jfs_groups.specs.declared.committed.Committed.TheVariants.{Durable, Failed}

@@ -1,4 +1,4 @@
-use Rattle.std.proofs.Common.{rules, arith, ap, sym, subst, ◌∙◌, ◌<◌, ◌≤◌, length}
+use Rattle.std.proofs.Common.{rules, arith, ap, sym, ◌∙◌, ◌<◌, length}
 use Rattle.jfs_groups.specs.Log.{standing}
 use Rattle.jfs_groups.proofs.Views.{looked, exact_log}
 use Rattle.jfs_groups.proofs.Leading.{has_failed, led_commits}
