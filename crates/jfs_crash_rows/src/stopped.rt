@@ -40,11 +40,11 @@ fn first_difference(a: &mut MemDisk, b: &mut MemDisk) -> Option<u32> {
     None
 }
 
-/// A disk that is left behind these lines, where nothing is pending.
+/// A disk that is left behind the first lines, where nothing is pending.
 fn rested(alloc: Global, lines: &[Line]) -> Option<MemDisk>
     requires { AllFit lines.now }
 {
-    Some(left(alloc, lines, &[])?.disk.crashed(&[]))
+    Some(left(alloc, lines.get(..FRONT)?, &[])?.disk.crashed(&[]))
 }
 
 /// A redo of which all calls of a kind fail from this one on, then a crash, and a redo that is beside the one that wasn't stopped.
@@ -99,7 +99,6 @@ fn a_redo_that_is_stopped_is_made_again(rt: HostRuntime) {
     let alloc = rt.alloc();
     let text = busy(alloc).expect(&rt, "memory");
     let lines = lines_of(alloc, &text).expect(&rt, "lines");
-    let front = lines.get(..FRONT).expect(&rt, "lines");
-    assert_eq!(rt; stops(alloc, front, Kind::Write), Some((17, Outcome::Not)));
-    assert_eq!(rt; stops(alloc, front, Kind::Sync), Some((2, Outcome::Not)));
+    assert_eq!(rt; stops(alloc, &lines, Kind::Write), Some((17, Outcome::Not)));
+    assert_eq!(rt; stops(alloc, &lines, Kind::Sync), Some((2, Outcome::Not)));
 }
