@@ -40,11 +40,12 @@ fn first_difference(a: &mut MemDisk, b: &mut MemDisk) -> Option<u32> {
     None
 }
 
-/// A disk that is left behind the first lines, where nothing is pending.
-fn rested(alloc: Global, lines: &[Line]) -> Option<MemDisk>
+/// A disk that is left behind so many lines, where nothing is pending.
+fn rested(alloc: Global, lines: &[Line], count: usize) -> Option<MemDisk>
     requires { AllFit lines.now }
 {
-    Some(left(alloc, lines.get(..FRONT)?, &[])?.disk.crashed(&[]))
+    let came = left(alloc, lines.get(..count)?, &[])?;
+    Some(came.disk.crashed(&[]))
 }
 
 /// A redo of which all calls of a kind fail from this one on, then a crash, and a redo that is beside the one that wasn't stopped.
@@ -63,7 +64,7 @@ fn stopped(
         first,
         last: u64::MAX,
     };
-    let mut disk = failing(alloc, rested(alloc, lines)?, &[fail])?;
+    let mut disk = failing(alloc, rested(alloc, lines, FRONT)?, &[fail])?;
     if is_redone(alloc, &mut disk) {
         return Some(Outcome::Not);
     }
@@ -81,7 +82,7 @@ fn stopped(
 fn stops(alloc: Global, lines: &[Line], kind: Kind) -> Option<(u64, Outcome)>
     requires { AllFit lines.now }
 {
-    let mut whole = rested(alloc, lines)?;
+    let mut whole = rested(alloc, lines, FRONT)?;
     if !is_redone(alloc, &mut whole) {
         return None;
     }
