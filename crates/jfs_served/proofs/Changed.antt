@@ -57,6 +57,7 @@ use Rattle.jfs_call.specs.volume.specs.records.specs.Records.{noted, tx_of}
 use Rattle.jfs_call.specs.volume.proofs.Taken.{takes_runs}
 use Rattle.jfs_call.specs.volume.proofs.Texts.{tx_of-noted}
 use Rattle.jfs_served.specs.Holds.{blocks_at, volume_at, tree_at, room_at, IsBusyPage, MayServe, KeepsFiles}
+use Rattle.jfs_served.specs.Follows.{moves}
 use Rattle.jfs_served.specs.Step.{IsAsked, IsAnswer, TakesStep, causes_of}
 use Rattle.jfs_served.specs.Laws.{ChangedLaw}
 use Rattle.jfs_served.proofs.Entered.{idle, all_still_busy}
@@ -232,6 +233,7 @@ module _ (area : ℕ → ℕ) (log_pages : ℕ) (request : Request) (now : Momen
   pub changed : TakesStep area log_pages request.call now Done old new
   changed = record {
     step = by_outcome (causes_of request.call old new) (tree_at area old) (tree_at area new) (room_at area log_pages old) request.call now Done (Ok (Done, done.tree)) done.outcome (refl, tree);
+    follows = moves refl (record { tx = tx; put = ds; starts = starts; size = map_is.size; alike = subst (λ (x : Volume). AreAlike x (volume_at area new)) after_is alike });
     serves = record {
       holds = record {
         consistent = subst (λ (k : ℕ). IsConsistent (readers k) (volume_at area new)) (sym map_is.size) means.consistent;

@@ -26,6 +26,7 @@ use Rattle.jfs_call.specs.plain.specs.declared.reply.Reply.{Reply}
 use Rattle.jfs_call.specs.plain.specs.declared.reply.Reply.TheVariants as replies
 use Rattle.jfs_call.specs.plain.proofs.Refusing.{one_step}
 use Rattle.jfs_served.specs.Holds.{blocks_at, volume_at, tree_at, room_at, MayServe, StaysServing}
+use Rattle.jfs_served.specs.Follows.{keeps}
 use Rattle.jfs_served.specs.Step.{low_fault, causes_of}
 use Rattle.jfs_served.specs.Laws.{UnchangedLaw, RefusedLaw}
 use Rattle.jfs_served.proofs.Between.{asked_law, joined_law}
@@ -109,16 +110,18 @@ unchanged_law area log_pages request now reply entry old mid new may asked answe
     let stays = again_law area log_pages old mid new m (joined_law area log_pages entry mid new m.keeps.holds is) in
     record {
       step = replied area log_pages request.call now old mid new (ap (λ (p : Parts). p.faults) is) stays.keeps.tree reply (answer.follows (between area log_pages old may) area may.holds.consistent log_pages may.holds.limit) answer.fault some;
+      follows = keeps stays.keeps;
       serves = serves_still area log_pages old new may stays;
       files = stays.keeps.files;
     }
 
 pub refused_law : RefusedLaw
 refused_law = record {
-  halted = λ area log_pages call now fault old new may stays is writing. record { step = (is, writing, stays.keeps.tree); serves = serves_still area log_pages old new may stays; files = stays.keeps.files };
-  failed = λ area log_pages call now fault old new may stays cause. record { step = failed area log_pages call now old new new refl stays.keeps.tree fault cause; serves = serves_still area log_pages old new may stays; files = stays.keeps.files };
+  halted = λ area log_pages call now fault old new may stays is writing. record { step = (is, writing, stays.keeps.tree); follows = keeps stays.keeps; serves = serves_still area log_pages old new may stays; files = stays.keeps.files };
+  failed = λ area log_pages call now fault old new may stays cause. record { step = failed area log_pages call now old new new refl stays.keeps.tree fault cause; follows = keeps stays.keeps; serves = serves_still area log_pages old new may stays; files = stays.keeps.files };
   synced = λ area log_pages now old new may stays. record {
     step = told area log_pages calls.Sync now old new new refl stays.keeps.tree replies.Done refl;
+    follows = keeps stays.keeps;
     serves = serves_still area log_pages old new may stays;
     files = stays.keeps.files;
   };

@@ -49,8 +49,9 @@ use Rattle.jfs_call.specs.plain.specs.declared.call.Request.{Request}
 use Rattle.jfs_call.specs.plain.specs.declared.refusal.Refusal.TheVariants.{IoFault}
 use Rattle.jfs_call.specs.plain.specs.declared.reply.Reply.TheVariants.{Refused}
 use Rattle.jfs_served.specs.Holds.{blocks_at, volume_at, tree_at, IsBusyPage, MayServe}
+use Rattle.jfs_served.specs.Follows.{PutsOwn, tears}
 use Rattle.jfs_served.specs.Step.{IsAsked, IsAnswer, TakesStep}
-use Rattle.jfs_served.specs.Torn.{PutsOwn, IsPartlyPut, TornLaw}
+use Rattle.jfs_served.specs.Torn.{IsPartlyPut, TornLaw}
 use Rattle.jfs_served.proofs.Files.{area_used, data_held, unchanged, files_stay}
 use Rattle.jfs_served.proofs.Given.{all_busy, back_at, back_size, state_by}
 use Rattle.jfs_served.proofs.Keeps.{between}
@@ -152,6 +153,9 @@ module _ (area : ℕ → ℕ) (log_pages : ℕ) (request : Request) (now : Momen
   may_now : MayPut r v own.inode ds
   may_now b e = own.may b (sym (same_blocks (page_of new.view) put b) ∙ e)
 
+  own_now : PutsOwn n v ds
+  own_now = record { inode = own.inode; file = own.file; there = own.there; regular = own.regular; may = may_now }
+
   done : IsFilePut n v (with_data ds v) own.inode (bytes_held (put_data ds v.page) es own.file.inode.size)
   done = put_of ds may_now
 
@@ -238,6 +242,7 @@ module _ (area : ℕ → ℕ) (log_pages : ℕ) (request : Request) (now : Momen
   pub torn_step : TakesStep area log_pages request.call now (Refused (IoFault fault)) old new
   torn_step = record {
     step = (inl cause, leaves);
+    follows = tears fault refl (record { put = ds; own = own_now; size = size; alike = alike });
     serves = record {
       holds = record {
         consistent = subst (λ (k : ℕ). IsConsistent (readers k) (volume_at area new)) (sym size) means.consistent;

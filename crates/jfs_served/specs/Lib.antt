@@ -1,5 +1,6 @@
 -- what the laws say
 pub mod Holds
+pub mod Follows
 pub mod Step
 pub mod Legal
 pub mod Torn

@@ -21,6 +21,7 @@ use Rattle.jfs_call.specs.plain.specs.declared.refusal.Refusal.TheVariants.{Dama
 use Rattle.jfs_call.specs.plain.specs.declared.reply.Reply.{Reply}
 use Rattle.jfs_call.specs.plain.specs.declared.reply.Reply.TheVariants.{Done}
 use Rattle.jfs_served.specs.Holds.{blocks_at, tree_at, room_at, MayServe, KeepsFiles, KeepsTree, StaysServing}
+use Rattle.jfs_served.specs.Follows.{FollowsBy}
 
 -- the low part, that has had so many faults
 abbrev pub low_fault : ℕ → Fault
@@ -53,9 +54,10 @@ causes_of call old new = record {
 abbrev pub Steps : (ℕ → ℕ) → ℕ → Call → Moment → Reply → Parts → Parts → Type 0
 Steps area log_pages call now reply old new = CallStep (causes_of call old new) (tree_at area old) (room_at area log_pages old) call now reply (tree_at area new)
 
--- and the next one may come, with all known of the maps' files that was
+-- The volume after it follows from the one before by a transaction at most; and the next one may come, with all known of the maps' files that was.
 pub record TakesStep (area : ℕ → ℕ) (log_pages : ℕ) (call : Call) (now : Moment) (reply : Reply) (old new : Parts) : Type 0 where
   pub step : Steps area log_pages call now reply old new
+  pub follows : FollowsBy area log_pages call reply old new
   pub serves : MayServe area log_pages new
   pub files : KeepsFiles area old new
 

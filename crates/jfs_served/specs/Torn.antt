@@ -1,18 +1,13 @@
 -- What is left of the tree where the write of a call's data failed.
-use Rattle.std.specs.Prelude.{◌≡◌, ◌≤◌, ℕ, true, false, List, Some}
+use Rattle.std.specs.Prelude.{◌≡◌, ◌≤◌, ℕ, true, false, List}
 use Rattle.jfs_bits.specs.declared.descriptor.Moment.{Moment}
 use Rattle.jfs_disk.specs.Crash.{torn}
 use Rattle.jfs_disk.specs.Image.{Image, page_of}
 use Rattle.jfs_disk.specs.declared.disk.Fault.{Fault}
 use Rattle.jfs_ranges.specs.declared.edit.Edit.{Edit}
-use Rattle.jfs_shown.specs.objects.specs.Objects.{Object, objects}
-use Rattle.jfs_shown.specs.objects.specs.Volume.{Volume}
-use Rattle.jfs_shown.specs.meaning.specs.Contents.{is_regular}
-use Rattle.jfs_shown.specs.meaning.specs.Readers.{readers}
 use Rattle.jfs_call.specs.files.specs.declared.outcome.FileOutcome.TheVariants.{Changed}
 use Rattle.jfs_call.specs.volume.specs.Called.{GivesBack}
 use Rattle.jfs_call.specs.volume.specs.data_steps.specs.After.{is_put, put_data}
-use Rattle.jfs_call.specs.volume.specs.data_steps.specs.Laws.{MayPut}
 use Rattle.jfs_call.specs.volume.specs.data_steps.specs.declared.pages.DataPage.{DataPage}
 use Rattle.jfs_call.specs.halves.specs.Parts.{Parts}
 use Rattle.jfs_call.specs.volume.specs.pages.specs.Device.{IsFault}
@@ -20,15 +15,8 @@ use Rattle.jfs_call.specs.plain.specs.declared.call.Request.{Request}
 use Rattle.jfs_call.specs.plain.specs.declared.refusal.Refusal.TheVariants.{IoFault}
 use Rattle.jfs_call.specs.plain.specs.declared.reply.Reply.TheVariants.{Refused}
 use Rattle.jfs_served.specs.Holds.{blocks_at, volume_at, MayServe}
+use Rattle.jfs_served.specs.Follows.{PutsOwn}
 use Rattle.jfs_served.specs.Step.{IsAsked, IsAnswer, TakesStep}
-
--- The data is a regular file's: each block that it goes into is the file's own, or isn't in use.
-pub record PutsOwn (blocks : ℕ) (v : Volume) (put : List DataPage) : Type 0 where
-  pub inode : ℕ
-  pub file : Object
-  pub there : objects (readers blocks) v inode ≡ Some file
-  pub regular : is_regular file.inode ≡ true
-  pub may : MayPut (readers blocks) v inode put
 
 -- It was put in part: each of its blocks holds some front sectors, from none to all 8, of what it was to hold, and then what it held.
 pub record IsPartlyPut (put : List DataPage) (old new : Image) : Type 0 where
