@@ -174,17 +174,13 @@ one_command asked a b is_a is_b = let e = sym is_a ∙ is_b in cc
 
 pub completes : {D S K : Type 0} (d : DiskMembers D) (s : SourceMembers S) (k : SinkMembers K) (asked : Result Command Usage) (now : Moment) (old new : Devices D S K) (status : Status) (history : List Entry) (told : List ℕ)
     → IsAnswered d s k asked now old new status history told → IsComplete d s k asked now old new status
-completes d s k asked now old new status history told a = λ tells sources held is_held inputs are command is_command answer says decides no_disk no_scripts no_sink.
+completes d s k asked now old new status history told a = λ tells sources held is_held inputs are command is_command answer says no_disk no_scripts no_sink.
     let run = run_of d s k asked old new a.inputs a.held (record { text = a.whole; history = history; told = told; held = held_of d new.disk }) in
     by_kind run status (kind_of status) refl a.ends command is_command answer
     (λ (came : CameTo run status).
     let one = one_command asked came.0 command came.1 is_command in
     let same_inputs = one_inputs s old.scripts now a.inputs inputs sources a.given are in
-    came.2.one (inl (
-      tells,
-      subst (λ (x : Image). (meaning_of came.0 a.inputs).decides x) (is_held.image tells ∙ sym (a.before.image tells))
-          (subst (λ (c : Command). (meaning_of c a.inputs).decides held.image) (sym one) (subst (λ (i : Inputs). (meaning_of command i).decides held.image) (sym same_inputs) decides)),
-    )) held
+    came.2.one (inl tells) held
     (record { pages = is_held.pages ∙ sym a.before.pages; each = λ n _. ap (λ (i : Image). page_of i n) (is_held.image tells ∙ sym (a.before.image tells)) })
     answer
     (subst (λ (c : Command). (meaning_of c a.inputs).says d.tells held answer) (sym one) (subst (λ (i : Inputs). (meaning_of command i).says d.tells held answer) (sym same_inputs) says)))

@@ -73,11 +73,6 @@ ends_as d m old new outcome held end is_end is ends = record {
   ends = λ sources. subst (λ (e : End). EndsBy m d.tells d.tells_crashes held (work_of outcome (held_of d new)) (faults_beside sources (faults_of d old new)) e) (sym is_end) (ends sources);
 }
 
--- what a disk that tells decides
-pub told_or : {A B C : Type 0} → (A × B) ⊎ C → A ⊎ C
-told_or (inl told) = inl told.0
-told_or (inr judged) = inr judged
-
 -- the command comes to an answer
 pub comes : {D : Type 0} (d : Ghosts D) (old new : D) (outcome : Outcome) (c : Behind) (held : Held) (answer : Answer) → GoesOn c → IsHeld d old held → ShowsSame d old new outcome
     → outcome.text.items ≡ answer.text → AfterSuperblock held (c.says d.tells held) answer → IsOwn answer.status → Stays (faults_of d old new) → outcome.end ≡ Own answer.status → Performs d (looks_and c) old new outcome
@@ -89,7 +84,7 @@ comes d old new outcome c held answer goes is same is_text said own stays is_end
         says = told;
         does = changes_nothing d old new held outcome is same;
         looked = λ other alike. looked c d.tells held other (with_text outcome.text.items) goes alike told;
-        one = λ judged other alike x also. one_after other (c.says d.tells other) x answer (λ accepted a b. goes.one d.tells other x answer (told_or judged) accepted a b) also (looked c d.tells held other answer goes alike said);
+        one = λ judged other alike x also. one_after other (c.says d.tells other) x answer (λ accepted a b. goes.one d.tells other x answer judged accepted a b) also (looked c d.tells held other answer goes alike said);
       },
       own,
       stays,

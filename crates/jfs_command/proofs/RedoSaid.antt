@@ -34,7 +34,7 @@ module _ (s : Super) (a b : Image) (some : 2 < s.logpxd.len) (same : (n : ℕ) �
   same_log : (n : ℕ) → 0 < n → n < s.logpxd.len → page_of (drop s.logpxd.addr b) n ≡ page_of (drop s.logpxd.addr a) n
   same_log n _ _ = page_behind b s.logpxd.addr n ∙ same (s.logpxd.addr + n) ∙ sym (page_behind a s.logpxd.addr n)
 
-  same_commits : (txs : List (List Edit)) → Commits s a txs → Commits s b txs
+  pub same_commits : (txs : List (List Edit)) → Commits s a txs → Commits s b txs
   same_commits txs are =
       let ring = s.logpxd.len - 2 in
       let text = are.read.bytes.items in
@@ -74,7 +74,7 @@ module _ (s : Super) (image : Image) (some : 2 < s.logpxd.len) where
   abbrev log : Image
   log = drop s.logpxd.addr image
 
-  once : (x y : List (List Edit)) → Commits s image x → Commits s image y → x ≡ y
+  pub once : (x y : List (List Edit)) → Commits s image x → Commits s image y → x ≡ y
   once x y one other =
       one.are ∙ ap (λ (all : List Met). committed (map (λ (m : Met). m.is) all)) (records-once s.logpxd.len (blocks_of s) log one.read other.read some one.reads other.reads) ∙ sym other.are
 

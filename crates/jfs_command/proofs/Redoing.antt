@@ -25,7 +25,7 @@ use Rattle.jfs_command.specs.Superblock.{superblock_of, AfterRules, AfterSuperbl
 use Rattle.jfs_command.specs.Redo.{is_mounted, RedoSays, IsMounted, LooksAtMounted, HasRedone, HasDone, Redoes, HasBegun, NoneIsJudged, redo_meaning, work_with, RedoEnds}
 use Rattle.jfs_command.proofs.SuperblockLemmas.{same_first, one_after}
 use Rattle.jfs_command.proofs.Evidence.{held_as, some_held, has_page8}
-use Rattle.jfs_command.proofs.Looking.{Behind, GoesOn, ShowsSame, faults_of, told_or, looked, ends_as, Seen, seen, goes_on}
+use Rattle.jfs_command.proofs.Looking.{Behind, GoesOn, ShowsSame, faults_of, looked, ends_as, Seen, seen, goes_on}
 use Rattle.jfs_command.proofs.RedoSaid.{long, same_says, one_thing, says_told}
 
 abbrev pub redo_behind : Behind
@@ -55,7 +55,7 @@ comes d old new outcome held answer is does is_text said own stays is_end =
         says = told;
         does = does;
         looked = λ other alike. looked redo_behind d.tells held other (with_text outcome.text.items) redo_goes alike told;
-        one = λ judged other alike x also. one_after other (RedoSays d.tells other.image) x answer (λ accepted a b. one_status d.tells other x answer (told_or judged) accepted a b) also (looked redo_behind d.tells held other answer redo_goes alike said);
+        one = λ judged other alike x also. one_after other (RedoSays d.tells other.image) x answer (λ accepted a b. one_status d.tells other x answer judged accepted a b) also (looked redo_behind d.tells held other answer redo_goes alike said);
       },
       own,
       stays,

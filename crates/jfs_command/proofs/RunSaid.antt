@@ -7,6 +7,9 @@ use Rattle.jfs_disk.specs.Image.{Image, page_of}
 use Rattle.jfs_super.specs.declared.fields.Super.{Super}
 use Rattle.jfs_super.specs.declared.read.BadSuper.{BadSuper}
 use Rattle.jfs_super.specs.Rules.{rows, IsAccepted}
+use Rattle.jfs_ranges.specs.declared.edit.Edit.{Edit}
+use Rattle.jfs_redo.specs.Redo.{IsRedone}
+use Rattle.jfs_redo.proofs.OneVolume.{redone_agree}
 use Rattle.jfs_findings_new.specs.mount_rules.specs.Subject.{subject_of}
 use Rattle.jfs_findings_new.specs.mount_rules.specs.Mount.{BadMount, broken_mount}
 use Rattle.jfs_plain.specs.declared.call.Line.{Line}
@@ -20,9 +23,9 @@ use Rattle.jfs_command.specs.Meaning.{Answer, LooksSame, finished, refused}
 use Rattle.jfs_command.specs.Redo.{redone_text, is_clean, is_mounted, MountedSays, redoes, is_foreign, is_bad, breaks_maps}
 use Rattle.jfs_command.specs.Scripts.{ScriptSays, ScriptsSay}
 use Rattle.jfs_command.specs.Superblock.{superblock_of, AfterRules, AfterState, AfterSuperblock}
-use Rattle.jfs_command.specs.Run.{CleanSays, runs, breaks, Start, is_ready, IsRedoneBy, BeginsOn, as_it_is, as_redone, behind, ReadySays, begins, not_redone, LinesSay, OneIsRedone, RunDecides, RunSays, refuses, takes, RunSaysOneThing, IsOfScripts, LooksAtReady, LooksAtRun}
+use Rattle.jfs_command.specs.Run.{CleanSays, runs, breaks, Start, is_ready, IsRedoneBy, BeginsOn, as_it_is, as_redone, behind, ReadySays, begins, not_redone, LinesSay, RunSays, refuses, takes, RunSaysOneThing, IsOfScripts, LooksAtReady, LooksAtRun}
 use Rattle.jfs_command.proofs.SuperblockLemmas.{SamePage8, same_rules, same_superblock, same_after, one_after, next_after, one_after_state}
-use Rattle.jfs_command.proofs.RedoSaid.{long, mounted_same, one_mounted, mounted_told}
+use Rattle.jfs_command.proofs.RedoSaid.{long, same_commits, once, mounted_same, one_mounted, mounted_told}
 use Rattle.jfs_command.proofs.RedoMounted.{not_clean}
 
 -- ---- scripts have one meaning
@@ -106,13 +109,21 @@ pub same_lines : (tells : Type 0) (lines : List Line) (s : Super) (a b : Image) 
 same_lines tells lines s a b answer some same said =
     next_after (is_ready s.state.0) s.state.0 (ReadySays tells lines s a) (ReadySays tells lines s b) answer (λ ready x. ready_same tells lines s a b answer some (λ t. same t ready) x) said
 
-same_start : (tells : Type 0) (s : Super) (image : Image) (a b : Start) → tells → (is_mounted s.state.0 ≡ true → OneIsRedone s image) → BeginsOn tells s image a → BeginsOn tells s image b → mount_of b ≡ mount_of a
+-- redo makes one thing of it
+one_redone : (s : Super) (image a b : Image) (n m : ℕ) → 2 < s.logpxd.len → IsRedoneBy s image a n → IsRedoneBy s image b m → (p : ℕ) → page_of a p ≡ page_of b p
+one_redone s image a b n m some x y =
+    let one = same_commits s x.like image some (λ p. sym (x.same p)) x.txs x.commits in
+    let other = same_commits s y.like image some (λ p. sym (y.same p)) y.txs y.commits in
+    redone_agree s x.txs x.like y.like a b (λ p. x.same p ∙ sym (y.same p)) x.redo (subst (λ (txs : List (List Edit)). IsRedone s txs y.like b) (once s image some y.txs x.txs other one) y.redo)
+
+same_start : (tells : Type 0) (s : Super) (image : Image) (a b : Start) → tells → 2 < s.logpxd.len → BeginsOn tells s image a → BeginsOn tells s image b → mount_of b ≡ mount_of a
 unfolding mount_of
-same_start tells s image a b told one (as_it_is clean e) (as_it_is clean' e') = ap mount_of (e' ∙ sym e)
-same_start tells s image a b told one (as_it_is clean e) (as_redone mounted count super text by) = absurd (both_states s.state.0 clean mounted)
-same_start tells s image a b told one (as_redone mounted count super text by) (as_it_is clean e) = absurd (both_states s.state.0 clean mounted)
-same_start tells s image a b told one (as_redone mounted count super text by) (as_redone mounted' count' super' text' by') =
-    ap (λ (u : Super). broken_mount (subject_of u (page_of b.image))) super' ∙ one mounted b.image a.image count' count (by' told) (by told) ∙ sym (ap (λ (u : Super). broken_mount (subject_of u (page_of a.image))) super)
+same_start tells s image a b told some (as_it_is clean e) (as_it_is clean' e') = ap mount_of (e' ∙ sym e)
+same_start tells s image a b told some (as_it_is clean e) (as_redone mounted count super text by) = absurd (both_states s.state.0 clean mounted)
+same_start tells s image a b told some (as_redone mounted count super text by) (as_it_is clean e) = absurd (both_states s.state.0 clean mounted)
+same_start tells s image a b told some (as_redone mounted count super text by) (as_redone mounted' count' super' text' by') =
+    ap (λ (u : Super). broken_mount (subject_of u (page_of b.image))) (super' ∙ sym super)
+    ∙ ap (λ (page : ℕ → List ℕ). broken_mount (subject_of a.super page)) (fun_ext (one_redone s image b.image a.image count' count some (by' told) (by told)))
 
 -- what is redone is not refused
 finished_never : (s : Super) (image redone : Image) (count : ℕ) (y : Answer) → 2 < s.logpxd.len → IsRedoneBy s image redone count → MountedSays ⊤ s image y → kind_of y.status ≡ Refuses → ⊥
@@ -129,16 +140,16 @@ never_begun : (tells : Type 0) (s : Super) (image : Image) (start : Start) (y : 
 never_begun tells s image start y told some (as_it_is clean e) mounted said kind = both_states s.state.0 clean mounted
 never_begun tells s image start y told some (as_redone mounted count super text by) mounted' said kind = finished_never s image start.image count y some (by told) (mounted_told tells s image y told said) kind
 
-one_ready : (tells : Type 0) (lines : List Line) (s : Super) (image : Image) (x y : Answer) → tells → 2 < s.logpxd.len → (is_mounted s.state.0 ≡ true → OneIsRedone s image) → ReadySays tells lines s image x → ReadySays tells lines s image y → x.status ≡ y.status
-one_ready tells lines s image x y told some one (begins a on rest said is) (begins b on' rest' said' is') =
-    status_is x (behind a.text rest) is ∙ one_clean tells lines a b rest rest' told (same_start tells s image a b told one on on') said said' ∙ sym (status_is y (behind b.text rest') is')
-one_ready tells lines s image x y told some one (begins a on rest said is) (not_redone mounted status kind is' said') = absurd (never_begun tells s image a y told some on mounted said' (refusing y status kind is'))
-one_ready tells lines s image x y told some one (not_redone mounted status kind is said) (begins b on rest said' is') = absurd (never_begun tells s image b x told some on mounted said (refusing x status kind is))
-one_ready tells lines s image x y told some one (not_redone mounted status kind is said) (not_redone mounted' status' kind' is' said') =
+one_ready : (tells : Type 0) (lines : List Line) (s : Super) (image : Image) (x y : Answer) → tells → 2 < s.logpxd.len → ReadySays tells lines s image x → ReadySays tells lines s image y → x.status ≡ y.status
+one_ready tells lines s image x y told some (begins a on rest said is) (begins b on' rest' said' is') =
+    status_is x (behind a.text rest) is ∙ one_clean tells lines a b rest rest' told (same_start tells s image a b told some on on') said said' ∙ sym (status_is y (behind b.text rest') is')
+one_ready tells lines s image x y told some (begins a on rest said is) (not_redone mounted status kind is' said') = absurd (never_begun tells s image a y told some on mounted said' (refusing y status kind is'))
+one_ready tells lines s image x y told some (not_redone mounted status kind is said) (begins b on rest said' is') = absurd (never_begun tells s image b x told some on mounted said (refusing x status kind is))
+one_ready tells lines s image x y told some (not_redone mounted status kind is said) (not_redone mounted' status' kind' is' said') =
     status_is x y (one_mounted s image some x y (mounted_told tells s image x told said) (mounted_told tells s image y told said'))
 
-one_lines : (tells : Type 0) (lines : List Line) (s : Super) (image : Image) (x y : Answer) → tells → 2 < s.logpxd.len → (is_mounted s.state.0 ≡ true → OneIsRedone s image) → LinesSay tells lines image s x → LinesSay tells lines image s y → x.status ≡ y.status
-one_lines tells lines s image x y told some one said also = one_after_state (is_ready s.state.0) s.state.0 (ReadySays tells lines s image) x y (one_ready tells lines s image x y told some one) said also
+one_lines : (tells : Type 0) (lines : List Line) (s : Super) (image : Image) (x y : Answer) → tells → 2 < s.logpxd.len → LinesSay tells lines image s x → LinesSay tells lines image s y → x.status ≡ y.status
+one_lines tells lines s image x y told some said also = one_after_state (is_ready s.state.0) s.state.0 (ReadySays tells lines s image) x y (one_ready tells lines s image x y told some) said also
 
 -- ---- the command
 
@@ -186,28 +197,14 @@ not_of_scripts tells lines held y said judged =
     not_rules (first_broken (rows s held.pages)) (LinesSay tells lines held.image s) y
     (not_lines (is_ready s.state.0) s.state.0 (ReadySays tells lines s held.image) y (not_ready_said tells lines s held.image y)) said judged
 
-mounted_ready : (state : ℕ) → is_mounted state ≡ true → is_ready state ≡ true
-mounted_ready state mounted = rw (not_clean state mounted, mounted) refl
-
--- what one image decides, another with the same pages does
-decided_on : (a b : Held) → LooksSame (LooksAtReady a) a b → RunDecides a.image → IsAccepted (superblock_of b) b.pages → is_mounted (superblock_of b).state.0 ≡ true → OneIsRedone (superblock_of b) b.image
-decided_on a b same decides accepted mounted =
-    let same8 = page8_of a b same in
-    let accepted_a : IsAccepted (superblock_of a) a.pages = sym (same_rules a b same8) ∙ accepted in
-    let block : superblock_of b ≡ superblock_of a = same_superblock a b same8 accepted_a in
-    let ready : is_ready (superblock_of a).state.0 ≡ true = subst (λ (s : Super). is_ready s.state.0 ≡ true) block (mounted_ready (superblock_of b).state.0 mounted) in
-    let each : (n : ℕ) → page_of a.image n ≡ page_of b.image n = λ n. sym (same.each n (inr (accepted_a, ready))) in
-    subst (λ (s : Super). OneIsRedone s b.image) (sym block)
-    (λ x y n m by by'. decides (subst (λ (s : Super). is_mounted s.state.0 ≡ true) block mounted) x y n m (redone_same (superblock_of a) b.image a.image x n each by) (redone_same (superblock_of a) b.image a.image y m each by'))
-
-one_taken : (tells : Type 0) (lines : List Line) (a b : Held) (x y : Answer) → LooksSame (LooksAtReady a) a b → (tells × RunDecides a.image) ⊎ IsOfScripts y.status
+one_taken : (tells : Type 0) (lines : List Line) (a b : Held) (x y : Answer) → LooksSame (LooksAtReady a) a b → tells ⊎ IsOfScripts y.status
     → AfterSuperblock b (LinesSay tells lines b.image) x → AfterSuperblock b (LinesSay tells lines b.image) y → x.status ≡ y.status
 one_taken tells lines a b x y same (inl told) said also =
     one_after b (LinesSay tells lines b.image) x y
-    (λ accepted p q. one_lines tells lines (superblock_of b) b.image x y told.0 (long (superblock_of b) b.pages accepted) (λ mounted. decided_on a b same told.1 accepted mounted) p q) said also
+    (λ accepted p q. one_lines tells lines (superblock_of b) b.image x y told (long (superblock_of b) b.pages accepted) p q) said also
 one_taken tells lines a b x y same (inr judged) said also = absurd (not_of_scripts tells lines b y also judged)
 
-pub one_run : (tells : Type 0) (scripts : List (List ℕ)) (a b : Held) (x y : Answer) → LooksSame (LooksAtRun scripts a) a b → (tells × RunDecides a.image) ⊎ IsOfScripts y.status → RunSays tells scripts b x → RunSays tells scripts b y → x.status ≡ y.status
+pub one_run : (tells : Type 0) (scripts : List (List ℕ)) (a b : Held) (x y : Answer) → LooksSame (LooksAtRun scripts a) a b → tells ⊎ IsOfScripts y.status → RunSays tells scripts b x → RunSays tells scripts b y → x.status ≡ y.status
 one_run tells scripts a b x y same judged (refuses p bad is) (refuses q bad' is') = status_is x y (is ∙ ap refused (one_refusal scripts p q bad bad') ∙ sym is')
 one_run tells scripts a b x y same judged (refuses p bad is) (takes lines good said) = absurd (never scripts p lines bad good)
 one_run tells scripts a b x y same judged (takes lines good said) (refuses q bad is) = absurd (never scripts q lines bad good)
@@ -216,4 +213,4 @@ one_run tells scripts a b x y same judged (takes lines good said) (takes lines' 
     one_taken tells lines a b x y (taken_look scripts a b lines good same) judged said (subst (λ (l : List Line). AfterSuperblock b (LinesSay tells l b.image) y) one said')
 
 pub one_thing : RunSaysOneThing
-one_thing scripts held a b decides said also = one_run ⊤ scripts held held a b (record { pages = refl; each = λ n _. refl }) (inl (tt, decides)) said also
+one_thing scripts held a b said also = one_run ⊤ scripts held held a b (record { pages = refl; each = λ n _. refl }) (inl tt) said also

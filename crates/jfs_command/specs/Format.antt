@@ -23,7 +23,7 @@ use Rattle.jfs_command.specs.declared.status.Stop.TheVariants as stops
 use Rattle.jfs_command.specs.declared.outcome.End.{End}
 use Rattle.jfs_command.specs.declared.outcome.End.TheVariants.{Own, Stopped}
 use Rattle.jfs_command.specs.Held.{Held, Work, ChangesNothing}
-use Rattle.jfs_command.specs.Meaning.{Meaning, Answer, finished, refused, every_status, every_image}
+use Rattle.jfs_command.specs.Meaning.{Meaning, Answer, finished, refused, every_status}
 use Rattle.jfs_command.specs.Superblock.{superblock_of}
 
 -- how many blocks the file system part has, and how many of them are free
@@ -69,7 +69,6 @@ format_meaning uuid label now = record {
   looks = λ held n. ⊥;
   says = λ tells held answer. FormatSays held.pages answer;
   judged = every_status;
-  decides = every_image;
   does = λ tells crashes held status work. Formats status tells crashes (wanted held.pages uuid label now) held work;
   stops = λ stop faults tells crashes held work. IsFormattable held.pages × (work.text ≡ []) × HasBegun tells crashes (wanted held.pages uuid label now) held work;
 }

@@ -34,8 +34,6 @@ pub record Meaning : Type 1 where
   -- The statuses that are judged of each disk, and not only of one that tells. Of a disk that doesn't tell, no image fits what a
   -- command saw that looked at one page twice and saw two contents.
   pub judged : Status → Type 0
-  -- An image of which the answer's status is one. Only `run` says nothing else of some: of a volume that redo, by the rules that it keeps, may make two of.
-  pub decides : Image → Type 0
   -- the work that it has done where it comes to that status
   pub does : (tells crashes : Type 0) → Held → Status → Work → Type 0
   -- The work that it may have done where it is stopped on the way, by what stopped it, and the counts of faults meanwhile: each stop has a case of its own.
@@ -45,17 +43,12 @@ pub record Meaning : Type 1 where
 abbrev pub every_status : Status → Type 0
 every_status status = Unit {0}
 
--- of each image it is
-abbrev pub every_image : Image → Type 0
-every_image image = Unit {0}
-
 -- A command that has no clients and changes nothing. Only a look at a page can stop it.
 abbrev pub only_looks : (Held → ℕ → Type 0) → ((tells : Type 0) → Held → Answer → Type 0) → (Status → Type 0) → Meaning
 only_looks looks says judged = record {
   looks = looks;
   says = says;
   judged = judged;
-  decides = every_image;
   does = λ tells crashes held _ work. ChangesNothing tells crashes held work;
   stops = λ stop faults tells crashes held work. ((n : ℕ) × looks held n) × (work.text ≡ []) × ChangesNothing tells crashes held work;
 }
@@ -66,12 +59,12 @@ pub record LooksSame (looks : ℕ → Type 0) (a b : Held) : Type 0 where
   pub each : (n : ℕ) → looks n → page_of b.image n ≡ page_of a.image n
 
 -- The command comes to this status: what the disk holds says so. No page decides that isn't looked at, and no other status has its cause
--- where the disk tells and its image decides, or the status is judged of each disk.
+-- where the disk tells, or the status is judged of each disk.
 pub record ComesTo (m : Meaning) (tells crashes : Type 0) (held : Held) (status : Status) (work : Work) : Type 0 where
   pub says : m.says tells held (record { status = status; text = work.text })
   pub does : m.does tells crashes held status work
   pub looked : (other : Held) → LooksSame (m.looks held) held other → m.says tells other (record { status = status; text = work.text })
-  pub one : (tells × m.decides held.image) ⊎ m.judged status → (other : Held) → LooksSame (m.looks held) held other → (answer : Answer) → m.says tells other answer → answer.status ≡ status
+  pub one : tells ⊎ m.judged status → (other : Held) → LooksSame (m.looks held) held other → (answer : Answer) → m.says tells other answer → answer.status ≡ status
 
 -- What stopped a command. The scripts are read before anything else is done; so a source that fails leaves no entry, and the disk as it was.
 abbrev pub StopsBy : Stop → Faults → (tells crashes : Type 0) → Held → Work → Type 0

@@ -26,7 +26,7 @@ use Rattle.jfs_command.specs.declared.outcome.End.TheVariants.{Own, Stopped}
 use Rattle.jfs_command.specs.Status.{IsOwn}
 use Rattle.jfs_command.specs.Count.{Count, Stays, HasRisen}
 use Rattle.jfs_command.specs.Held.{Held, Work, ChangesNothing}
-use Rattle.jfs_command.specs.Meaning.{Meaning, Answer, finished, refused, every_image}
+use Rattle.jfs_command.specs.Meaning.{Meaning, Answer, finished, refused}
 use Rattle.jfs_command.specs.Superblock.{superblock_of, LooksAtSuper, AfterState, AfterSuperblock}
 
 -- ---- the text
@@ -124,7 +124,6 @@ redo_meaning = record {
   looks = LooksAtMounted;
   says = λ tells held. AfterSuperblock held (RedoSays tells held.image);
   judged = NoneIsJudged;
-  decides = every_image;
   does = λ tells crashes held status work. Redoes status tells crashes (superblock_of held) held work;
   stops = λ stop faults tells crashes held work. ((n : ℕ) × LooksAtMounted held n) × (work.text ≡ []) × HasBegun tells crashes (superblock_of held) held work;
 }

@@ -94,21 +94,14 @@ pub data ReadySays (tells : Type 0) (lines : List Line) (s : Super) (image : Ima
 abbrev pub LinesSay : (tells : Type 0) → List Line → Image → Super → Answer → Type 0
 LinesSay tells lines image s = AfterState (is_ready s.state.0) s.state.0 (ReadySays tells lines s image)
 
--- Whatever redo may make of a volume that is mounted, a mount finds the same rule broken, or none.
-abbrev pub OneIsRedone : Super → Image → Type 0
-OneIsRedone s image = (a b : Image) (n m : ℕ) → IsRedoneBy s image a n → IsRedoneBy s image b m → broken_mount (subject_of (cleaned s) (page_of a)) ≡ broken_mount (subject_of (cleaned s) (page_of b))
-
-abbrev pub RunDecides : Image → Type 0
-RunDecides image = is_mounted (super_of (page_of image 8)).state.0 ≡ true → OneIsRedone (super_of (page_of image 8)) image
-
 -- what is answered: scripts that are refused are so by themselves, whatever the disk holds
 pub data RunSays (tells : Type 0) (scripts : List (List ℕ)) (held : Held) (answer : Answer) : Type 0 where
   refuses : (status : Status) → ScriptsSay scripts (Err status) → answer ≡ refused status → RunSays tells scripts held answer
   takes : (lines : List Line) → ScriptsSay scripts (Ok lines) → AfterSuperblock held (LinesSay tells lines held.image) answer → RunSays tells scripts held answer
 
--- of scripts and a volume that decides all answers have one status
+-- of scripts and a volume all answers have one status
 abbrev pub RunSaysOneThing : Type 0
-RunSaysOneThing = (scripts : List (List ℕ)) (held : Held) (a b : Answer) → RunDecides held.image → RunSays ⊤ scripts held a → RunSays ⊤ scripts held b → a.status ≡ b.status
+RunSaysOneThing = (scripts : List (List ℕ)) (held : Held) (a b : Answer) → RunSays ⊤ scripts held a → RunSays ⊤ scripts held b → a.status ≡ b.status
 
 -- The scripts are read once. All else may be read more than once, and refusals of page 8 and of the maps are of one kind: so these are judged of a disk that tells alone.
 abbrev pub IsOfScripts : Status → Type 0
@@ -229,7 +222,6 @@ run_meaning is_left scripts now = record {
   looks = LooksAtRun scripts;
   says = λ tells held answer. RunSays tells scripts held answer;
   judged = IsOfScripts;
-  decides = RunDecides;
   does = λ tells crashes held status work. Runs status tells crashes scripts is_left now held work;
   stops = λ stop faults tells crashes held work. RunStops stop faults tells crashes scripts now held work;
 }

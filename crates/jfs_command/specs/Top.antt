@@ -121,13 +121,13 @@ pub record IsAnswered {D S K : Type 0} (d : DiskMembers D) (s : SourceMembers S)
   pub ends : Ends (run_of d s k asked old new inputs held (record { text = whole; history = history; told = told; held = held_of d new.disk })) status
   pub prints : Prints (run_of d s k asked old new inputs held (record { text = whole; history = history; told = told; held = held_of d new.disk })) status text
 
--- Where the command means an answer of what the disk holds, which decides, and the sources give, and no count rises, the status is that answer's,
+-- Where the command means an answer of what the disk holds, and the sources give, and no count rises, the status is that answer's,
 -- or memory ran out. So an image that is accepted is never refused.
 abbrev pub IsComplete : {D S K : Type 0} → DiskMembers D → SourceMembers S → SinkMembers K → Result Command Usage → Moment → Devices D S K → Devices D S K → Status → Type 0
 IsComplete d s k asked now old new status =
     d.tells → (s.tells ⊎ (old.scripts ≡ []))
     → (held : Held) → IsHeld d old.disk held → (inputs : Inputs) → AreInputs s old.scripts now inputs
-    → (command : Command) → asked ≡ Ok command → (answer : Answer) → (meaning_of command inputs).says d.tells held answer → (meaning_of command inputs).decides held.image
+    → (command : Command) → asked ≡ Ok command → (answer : Answer) → (meaning_of command inputs).says d.tells held answer
     → ¬ (Rose (d.fault_count old.disk) (d.fault_count new.disk)) → ¬ (Rose (source_faults s old.scripts) (source_faults s new.scripts)) → ¬ (Rose (k.fault_count old.out) (k.fault_count new.out))
     → (status ≡ answer.status) ⊎ (status ≡ OutOfMemory)
 

@@ -20,7 +20,7 @@ pub fn redo_says_one_thing()
     ensures { RedoSaysOneThing }
 {}
 
-/// Of a script and a volume all answers of a run have one status, where the disk tells and redo makes one of it.
+/// Of a script and a volume all answers of a run have one status, where the disk tells.
 pub fn run_says_one_thing()
     ensures { RunSaysOneThing }
 {}

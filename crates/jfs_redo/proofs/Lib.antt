@@ -3,3 +3,6 @@ pub mod Places
 pub mod Puts
 pub mod LogParts
 pub mod Whole
+pub mod Lists
+pub mod OneVolume
+pub mod Marked

@@ -9,7 +9,7 @@ use Rattle.jfs_redo.specs.Put.{ArePut, IsPut, place_if}
 use Rattle.jfs_redo.specs.Redo.{StaysBehind}
 
 pub none-put : (place : ℕ → Option ℕ) (Is : ℕ → List ℕ → Type 0) (image : Image) → ArePut 0 place Is image image
-none-put place Is image = record { number = refl; others = λ p none. refl; each = λ k p low. absurd (omega (arith, low)) }
+none-put place Is image = record { number = refl; others = λ p none. refl; each = λ k p low is last. absurd (omega (arith, low)) }
 
 module _ (n : ℕ) (place : ℕ → Option ℕ) (Is : ℕ → List ℕ → Type 0) (old mid : Image) (bytes : List ℕ) (puts : ArePut n place Is old mid) where
   -- a page that has no place
@@ -17,8 +17,8 @@ module _ (n : ℕ) (place : ℕ → Option ℕ) (Is : ℕ → List ℕ → Type 
   passed none = record {
     number = puts.number;
     others = λ p out. puts.others p (λ k low. out k (omega (arith, low)));
-    each = λ k p low is alone. elim (cases_lt k n) [
-      | inl before ↦ puts.each k p before is (λ j under. alone j (omega (arith, under)))
+    each = λ k p low is last. elim (cases_lt k n) [
+      | inl before ↦ puts.each k p before is (λ j under. last j (omega (arith, under)))
       | inr at ↦ absurd (none-some p (sym none ∙ ap place (sym (same_number k low at)) ∙ is))
     ];
   }
@@ -31,16 +31,16 @@ module _ (n : ℕ) (place : ℕ → Option ℕ) (Is : ℕ → List ℕ → Type 
     one-put = record {
       number = length-set mid q bytes ∙ puts.number;
       others = λ p out. get_or-set_other mid q p bytes [] (λ e. out n (omega arith) (here ∙ ap Some (sym e))) ∙ puts.others p (λ k low. out k (omega (arith, low)));
-      each = λ k p low is alone. elim (cases_lt k n) [
-        | inl before ↦ subst (Is k) (sym (get_or-set_other mid q p bytes [] (λ e. not_below k before (alone n (omega arith) (here ∙ ap Some (sym e))))))
-            (puts.each k p before is (λ j under. alone j (omega (arith, under))))
+      each = λ k p low is last. elim (cases_lt k n) [
+        | inl before ↦ subst (Is k) (sym (get_or-set_other mid q p bytes [] (λ e. not_below k before (last n (omega arith) (here ∙ ap Some (sym e))))))
+            (puts.each k p before is (λ j under. last j (omega (arith, under))))
         | inr at ↦ let same : k ≡ n = omega (arith, low, at) in
             let e : p ≡ q = same_Some p q (sym is ∙ ap place same ∙ here) in
             subst (λ (z : ℕ). Is k (page_of (set mid q bytes) z)) (sym e) (subst (Is k) (sym (get_or-set_same mid q bytes [] within)) (subst (λ (z : ℕ). Is z bytes) (sym same) page))
       ];
     }
       where
-        not_below : (k : ℕ) → k < n → n ≡ k → ⊥
+        not_below : (k : ℕ) → k < n → n ≤ k → ⊥
         not_below k before e = omega (arith, before, e)
 
 -- a page that is put where it has its place

@@ -2,6 +2,8 @@
 pub mod Log
 pub mod Put
 pub mod Plan
+pub mod Moments
 pub mod Redo
+pub mod Laws
 -- libraries below, passed on
 pub use Rattle.jfs_records as records

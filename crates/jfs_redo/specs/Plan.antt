@@ -1,8 +1,6 @@
 -- What redo knows before it writes.
-use Rattle.std.specs.Prelude.{◌≡◌, ◌<◌, ◌≤◌, ◌*◌, ◌%◌, ℕ, true, List, length, Some, None, Result, Ok, Err}
-use Rattle.jfs_bits.specs.Bits.{is_taken}
+use Rattle.std.specs.Prelude.{◌≡◌, ◌<◌, ◌≤◌, ◌*◌, ℕ, List, length, Some, None, Result, Ok, Err}
 use Rattle.jfs_ranges.specs.declared.edit.Edit.{Edit}
-use Rattle.jfs_ranges.specs.Apply.{touches_tx}
 use Rattle.jfs_records.specs.Redo.{all_of}
 use Rattle.jfs_redo_steps.specs.steps.specs.After.{used_after, extents_after}
 use Rattle.jfs_bmap.specs.Set.{taken_at}
@@ -13,11 +11,8 @@ use Rattle.jfs_mount_maps.specs.mount_rules.specs.Steps.{AreRead}
 use Rattle.jfs_mount_maps.specs.mount_rules.specs.declared.bad.BadMount.{BadMount as Bad}
 use Rattle.jfs_redo.specs.declared.plan.Plan.{Plan}
 
--- on every view: each page that a transaction changes is marked, and inode extents lie within the volume of so many blocks
-pub record IsPlan (blocks agsize : ℕ) (txs : List (List Edit)) (plan : Plan) : Type 0 where
-  pub words : length plan.marks.items % 4 ≡ 0
-  pub there : blocks ≤ 8 * length plan.marks.items
-  pub marked : (p : ℕ) → p < blocks → touches_tx p (all_of txs) ≡ true → is_taken plan.marks.items p ≡ true
+-- on every view: it is of a volume of so many blocks, and inode extents lie within it
+pub record IsPlan (blocks agsize : ℕ) (plan : Plan) : Type 0 where
   pub blocks_are : plan.maps.blocks ≡ blocks
   pub number : length plan.blocks.owned ≡ blocks
   pub groups : plan.blocks.agsize ≡ agsize

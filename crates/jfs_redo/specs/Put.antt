@@ -1,12 +1,21 @@
--- Pages of a file that are written each to its place.
-use Rattle.std.specs.Prelude.{◌≡◌, ◌<◌, ℕ, Bool, true, false, List, length, set, Option, Some, None}
+-- Pages of a file that are written one after the other, each to its place.
+use Rattle.std.specs.Prelude.{◌≡◌, ◌<◌, ◌≤◌, ℕ, Bool, true, false, List, length, set, Option, Some, None}
+use Rattle.jfs_bits.specs.Field.{AreBytes}
 use Rattle.jfs_disk.specs.Image.{Image, page_of}
 
--- Of the first `n` pages of a file each that has a place stands there, where no other of them has the same; all else is as it was.
+-- of the first `n` pages of a file none behind page `k` has the place p
+abbrev pub IsLast : ℕ → (ℕ → Option ℕ) → ℕ → ℕ → Type 0
+IsLast n place k p = (j : ℕ) → j < n → place j ≡ Some p → j ≤ k
+
+-- The first `n` pages of a file are put, in their order, each into its place, where it has one: so the last one that has a place stands there. All else is as it was.
 pub record ArePut (n : ℕ) (place : ℕ → Option ℕ) (Is : ℕ → List ℕ → Type 0) (old new : Image) : Type 0 where
   pub number : length new ≡ length old
   pub others : (p : ℕ) → ((k : ℕ) → k < n → place k ≡ Some p → ⊥) → page_of new p ≡ page_of old p
-  pub each : (k p : ℕ) → k < n → place k ≡ Some p → ((j : ℕ) → j < n → place j ≡ Some p → j ≡ k) → Is k (page_of new p)
+  pub each : (k p : ℕ) → k < n → place k ≡ Some p → IsLast n place k p → Is k (page_of new p)
+
+-- page `k` of a file, and a list of bytes
+abbrev pub InBytes : (ℕ → List ℕ → Type 0) → ℕ → List ℕ → Type 0
+InBytes Is k page = Is k page × AreBytes page
 
 -- the place of a page that is in use
 abbrev pub place_if : Bool → Option ℕ → Option ℕ

@@ -7,7 +7,8 @@ use Rattle.jfs_disk.specs.declared.disk.DiskError.TheVariants.{Failed, Memory as
 use Rattle.jfs_disk.specs.declared.disk.Part.TheVariants.{Whole}
 use Rattle.jfs_ranges.specs.declared.edit.Edit.{Edit}
 use Rattle.jfs_records.specs.Redo.{all_of}
-use Rattle.jfs_super.specs.Super.{super_of}
+use Rattle.jfs_bits.specs.Piece.{puts}
+use Rattle.jfs_super.specs.Super.{super_of, pieces}
 use Rattle.jfs_super.specs.Rules.{blocks_of}
 use Rattle.jfs_super.specs.declared.fields.Super.{Super}
 use Rattle.jfs_super.specs.declared.fields.TheConstants.VolumeState.{CLEAN}
@@ -23,7 +24,7 @@ use Rattle.jfs_mount_maps.specs.sets.specs.Sets.{extent_from}
 use Rattle.jfs_redo_steps.specs.Pages.{ArePagesRedone}
 use Rattle.jfs_redo_steps.specs.Inodes.{AreInodesInUse}
 use Rattle.jfs_redo.specs.Log.{IsLogOf, AreCommitted}
-use Rattle.jfs_redo.specs.Put.{ArePut, place_if}
+use Rattle.jfs_redo.specs.Put.{IsLast, ArePut, InBytes, place_if}
 use Rattle.jfs_redo.specs.Plan.{IsPlanOf}
 use Rattle.jfs_redo.specs.declared.plan.Plan.{Plan}
 use Rattle.jfs_redo.specs.declared.error.Redone.{Redone}
@@ -43,38 +44,41 @@ inode_map_place s k = block_of (file_extents s.readers s.page 16) k
 abbrev pub IsMapPlace : Subject → ℕ → Type 0
 IsMapPlace s p = ((k : ℕ) × (k < pages_of (blocks_of s.super)) × (block_map_place s k ≡ Some p)) ⊎ ((k : ℕ) × (k ≤ iags s) × (inode_map_place s k ≡ Some p))
 
--- It is that of one page alone, as on a volume where each block has one owner, and not the superblock's.
+-- Which page of both maps stands there, once all are written, the block map's first: the last one that has the place.
 pub record IsBlockMapPlace (s : Subject) (k p : ℕ) : Type 0 where
   pub low : k < pages_of (blocks_of s.super)
   pub is : block_map_place s k ≡ Some p
-  pub alone : (j : ℕ) → j < pages_of (blocks_of s.super) → block_map_place s j ≡ Some p → j ≡ k
+  pub last : IsLast (pages_of (blocks_of s.super)) (block_map_place s) k p
   pub apart : (j : ℕ) → j ≤ iags s → inode_map_place s j ≡ Some p → ⊥
-  pub behind : p ≡ 8 → ⊥
 
 pub record IsInodeMapPlace (s : Subject) (k p : ℕ) : Type 0 where
   pub low : k ≤ iags s
   pub is : inode_map_place s k ≡ Some p
-  pub alone : (j : ℕ) → j ≤ iags s → inode_map_place s j ≡ Some p → j ≡ k
-  pub behind : p ≡ 8 → ⊥
+  pub last : IsLast (suc (iags s)) (inode_map_place s) k p
 
 -- ---- a volume that is redone
 
--- The pages are what the transactions make of them, edit by edit; then the maps' pages follow from the blocks in use after all of them and from the inodes' link counts; and the superblock says that the volume is clean. No other page changes.
+-- The pages are what the transactions make of them, edit by edit; then the maps' pages follow from the blocks in use after all of them and from the inodes' link counts; then the superblock says, in its place, that the volume is clean. Nothing else changes.
 pub record IsRedone (s : Super) (txs : List (List Edit)) (old new : Image) : Type 0 where
   -- the image once its pages are redone
   pub redone : Image
   pub pages : ArePagesRedone (blocks_of s) (all_of txs) old redone
-  pub others : (p : ℕ) → (IsMapPlace (subject_of s (page_of old)) p → ⊥) → (p ≡ 8 → ⊥) → page_of new p ≡ page_of redone p
   -- the blocks in use then
   pub taken : ℕ → Bool
   pub taken_are : (b : ℕ) → b < blocks_of s → taken b ≡ used_after (all_of txs) (volume (subject_of s (page_of old))).used b
   pub taken_past : (b : ℕ) → blocks_of s ≤ b → taken b ≡ true
-  pub block_map : (k p : ℕ) → IsBlockMapPlace (subject_of s (page_of old)) k p → IsMapPage (blocks_of s) s.agsize taken k (page_of new p)
   -- the inode extents, and the inodes in use
   pub set : List ℕ
   pub in_use : AreInodesInUse (page_of redone) (extents_after (all_of txs) (volume (subject_of s (page_of old))).extents) set
+  -- the image once both maps are written
+  pub mapped : Image
+  pub others : (p : ℕ) → (IsMapPlace (subject_of s (page_of old)) p → ⊥) → page_of mapped p ≡ page_of redone p
+  pub block_map : (k p : ℕ) → IsBlockMapPlace (subject_of s (page_of old)) k p → InBytes (IsMapPage (blocks_of s) s.agsize taken) k (page_of mapped p)
   pub inode_map : (k p : ℕ) → IsInodeMapPlace (subject_of s (page_of old)) k p
-      → IsInodePage (inodes_of set (map extent_from (extents_after (all_of txs) (volume (subject_of s (page_of old))).extents)) (iags (subject_of s (page_of old))) s.agsize ((blocks_of s + s.agsize - 1) / s.agsize)) k (page_of new p)
+      → InBytes (IsInodePage (inodes_of set (map extent_from (extents_after (all_of txs) (volume (subject_of s (page_of old))).extents)) (iags (subject_of s (page_of old))) s.agsize ((blocks_of s + s.agsize - 1) / s.agsize))) k (page_of mapped p)
+  -- the superblock, over what stands on its page
+  pub rest : (p : ℕ) → (p ≡ 8 → ⊥) → page_of new p ≡ page_of mapped p
+  pub fields : page_of new 8 ≡ puts (pieces (record s { state = CLEAN })) (page_of mapped 8)
   pub superblock : super_of (page_of new 8) ≡ record s { state = CLEAN }
 
 -- ---- what is answered
@@ -123,8 +127,8 @@ PlanIs s txs (Err (BadLog address rule)) = ⊥
 -- both maps' pages are put, of these inodes
 pub record MapsAreWritten (blocks : ℕ) (plan : Plan) (inodes : Inodes) (old new : Image) : Type 0 where
   pub between : Image
-  pub block_map : ArePut (pages_of blocks) (λ k. place_if (is_in_use blocks k) (block_of plan.maps.block_map k)) (λ k page. IsMapPage blocks plan.blocks.agsize (taken_at plan.blocks.owned) k page) old between
-  pub inode_map : ArePut (suc plan.maps.inodes.iags) (block_of plan.maps.inodes.extents) (IsInodePage inodes) between new
+  pub block_map : ArePut (pages_of blocks) (λ k. place_if (is_in_use blocks k) (block_of plan.maps.block_map k)) (InBytes (IsMapPage blocks plan.blocks.agsize (taken_at plan.blocks.owned))) old between
+  pub inode_map : ArePut (suc plan.maps.inodes.iags) (block_of plan.maps.inodes.extents) (InBytes (IsInodePage inodes)) between new
 
 -- the pages are redone, and then both maps are put
 pub record IsRestored (blocks agsize : ℕ) (txs : List (List Edit)) (plan : Plan) (old new : Image) : Type 0 where

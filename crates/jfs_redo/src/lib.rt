@@ -2,6 +2,7 @@
 #![tactic(auto)]
 
 mod error;
+mod law;
 mod log;
 mod maps;
 mod plan;
@@ -9,4 +10,5 @@ mod redoing;
 mod state;
 
 pub use error::{RedoError, Redone};
+pub use law::redone_volumes_agree;
 pub use redoing::redo;

@@ -1,13 +1,14 @@
 //! The pages of both maps, written in their canonical form.
 
 ghost use Rattle.std.specs.Prelude.{◌≡◌, ◌≤◌, ◌+◌, suc, length, OnOk};
+ghost use Rattle.jfs_bits.specs.Field.{AreBytes};
 ghost use Rattle.jfs_disk.specs.Fault.{HasCause};
 ghost use Rattle.jfs_bmap.specs.Set.{taken_at};
 ghost use Rattle.jfs_bmap.specs.MapFile.{IsMapPage, is_in_use, pages_of};
 ghost use Rattle.jfs_imap.specs.Inodes.{IsInodePage};
 ghost use Rattle.jfs_redo_steps.specs.objects.specs.Contents.{block_of};
 ghost use Rattle.jfs_mount_maps.specs.mount_rules.specs.Files.{IsWithin, LieWithin};
-ghost use Rattle.jfs_redo.specs.Put.{ArePut, IsPut, place_if, put_at};
+ghost use Rattle.jfs_redo.specs.Put.{ArePut, InBytes, IsPut, place_if, put_at};
 ghost use Rattle.jfs_redo.specs.Redo.{StaysBehind};
 
 use jfs_bits::Xad;
@@ -29,7 +30,7 @@ pub(crate) fn write_block_map<D: Disk>(
     ensures pages { D.page_count disk.new ≡ D.page_count disk.old }
     ensures room { D.room disk.new ≡ D.room disk.old }
     ensures put { D.tells → OnOk result (ArePut (pages_of (length map.now.owned)) (λ k. place_if (is_in_use (length map.now.owned) k) (block_of extents.now k))
-        (λ k page. IsMapPage (length map.now.owned) map.now.agsize (taken_at map.now.owned) k page) (D.image disk.old) (D.image disk.new)) }
+        (InBytes (IsMapPage (length map.now.owned) map.now.agsize (taken_at map.now.owned))) (D.image disk.old) (D.image disk.new)) }
     ensures behind { D.tells → StaysBehind blocks (D.image disk.old) (D.image disk.new) }
     ensures cause { HasCause (D.fault_count disk.old) (D.fault_count disk.new) result }
 {
@@ -59,7 +60,7 @@ fn write_if_in_use<D: Disk>(
     ensures pages { D.page_count disk.new ≡ D.page_count disk.old }
     ensures room { D.room disk.new ≡ D.room disk.old }
     ensures put { D.tells → OnOk result (IsPut (place_if (is_in_use (length map.now.owned) k) (block_of extents.now k))
-        (IsMapPage (length map.now.owned) map.now.agsize (taken_at map.now.owned) k) (D.image disk.old) (D.image disk.new)) }
+        (InBytes (IsMapPage (length map.now.owned) map.now.agsize (taken_at map.now.owned)) k) (D.image disk.old) (D.image disk.new)) }
     ensures behind { D.tells → StaysBehind blocks (D.image disk.old) (D.image disk.new) }
     ensures cause { HasCause (D.fault_count disk.old) (D.fault_count disk.new) result }
 {
@@ -87,7 +88,7 @@ pub(crate) fn write_inode_map<D: Disk>(
     requires few { iags ≤ 65536 }
     ensures pages { D.page_count disk.new ≡ D.page_count disk.old }
     ensures room { D.room disk.new ≡ D.room disk.old }
-    ensures put { D.tells → OnOk result (ArePut (suc iags) (block_of extents.now) (IsInodePage map.now) (D.image disk.old) (D.image disk.new)) }
+    ensures put { D.tells → OnOk result (ArePut (suc iags) (block_of extents.now) (InBytes (IsInodePage map.now)) (D.image disk.old) (D.image disk.new)) }
     ensures behind { D.tells → StaysBehind blocks (D.image disk.old) (D.image disk.new) }
     ensures cause { HasCause (D.fault_count disk.old) (D.fault_count disk.new) result }
 {
@@ -117,15 +118,28 @@ fn write_at<D: Disk>(
     ensures pages { D.page_count disk.new ≡ D.page_count disk.old }
     ensures room { D.room disk.new ≡ D.room disk.old }
     ensures put { D.tells → OnOk result (D.image disk.new ≡ put_at (block_of extents.now k) page.now.0 (D.image disk.old)) }
-    ensures size { length page.now.0 ≡ 4096 }
+    ensures bytes { AreBytes page.now.0 }
     ensures behind { D.tells → StaysBehind blocks (D.image disk.old) (D.image disk.new) }
     ensures cause { HasCause (D.fault_count disk.old) (D.fault_count disk.new) result }
 {
-    // so that its size is known
-    let _bytes = page.bytes();
+    note_bytes(page);
     match page_of_block(extents, blocks, k) {
         Ok(Some(at)) => disk.write(at, page),
         Ok(None) => Ok(()),
         Err(_) => unreachable!(),
     }
+}
+
+/// For the prover alone: a page has bytes.
+fn note_bytes(page: &Page)
+    ensures bytes { AreBytes page.now.0 }
+    ensures size { length page.now.0 ≡ 4096 }
+{
+    are_bytes(page.bytes());
+}
+
+fn are_bytes(bytes: &[u8])
+    ensures { AreBytes bytes.now }
+{
+    let _count = bytes.len();
 }

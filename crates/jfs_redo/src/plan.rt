@@ -1,9 +1,8 @@
 //! What redo knows before it writes.
 
-ghost use Rattle.std.specs.Prelude.{◌≡◌, ◌<◌, ◌≤◌, ◌*◌, ◌%◌, ◌^◌, ℕ, true, length, IfOk};
+ghost use Rattle.std.specs.Prelude.{◌≡◌, ◌<◌, ◌≤◌, ◌*◌, ◌%◌, ◌^◌, ℕ, length, IfOk};
 ghost use Rattle.jfs_bits.specs.Bits.{is_taken};
 ghost use Rattle.jfs_disk.specs.Image.{page_of};
-ghost use Rattle.jfs_ranges.specs.Apply.{touches_tx};
 ghost use Rattle.jfs_ranges.specs.View.{CarriesCount};
 ghost use Rattle.jfs_records.specs.Redo.{all_of};
 ghost use Rattle.std.specs.List.{AllByRecursion};
@@ -21,13 +20,12 @@ use jfs_bmap::OwnedMap;
 use jfs_mount_maps::mount_rules::{BadMount, Maps, Mounted, map_files};
 use jfs_mount_maps::sets::used_blocks;
 use jfs_ranges::{PageView, Tx, ViewError};
-use jfs_redo_steps::{mark_pages, redo_blocks, redo_extents};
+use jfs_redo_steps::{redo_blocks, redo_extents};
 use std::alloc::{AllocError, Global};
 
-/// What redo knows before it writes: which pages transactions change, the files of both maps, the blocks in use after all of them, and the inode extents then.
+/// What redo knows before it writes: the files of both maps, the blocks in use after all transactions, and the inode extents then.
 #[derive(Drop)]
 pub(crate) struct Plan {
-    pub(crate) marks: Vec<u8>,
     pub(crate) maps: Maps,
     pub(crate) blocks: OwnedMap,
     pub(crate) places: Vec<Option<u32>>,
@@ -51,7 +49,7 @@ pub(crate) fn make_plan<V: PageView>(
     ensures count_of_blocks { V.PageView.block_count view.new ≡ V.PageView.block_count view.old }
     ensures device { V.PageView.device view.new ≡ V.PageView.device view.old }
     ensures fault { CarriesCount (V.PageView.faults view.old) (V.PageView.faults view.new) result }
-    ensures plan { IfOk result (λ answer. IfOk answer (IsPlan (V.PageView.block_count view.old) agsize transactions.now)) }
+    ensures plan { IfOk result (λ answer. IfOk answer (IsPlan (V.PageView.block_count view.old) agsize)) }
     ensures plans { V.PageView.tells → IfOk result (λ answer. (s : Super) → blocks_of s ≡ V.PageView.block_count view.old →
         Plans (subject_of s (page_of (V.PageView.image view.old))) transactions.now answer) }
 {
@@ -83,7 +81,7 @@ fn plan_with(
     requires all { length places.items ≡ 128 * maps.inodes.iags }
     requires fit { AllFit maps.blocks places.items }
     requires within { AllByRecursion (ExtentsLieWithin maps.blocks) transactions.now }
-    ensures plan { IfOk result (IsPlan maps.blocks agsize transactions.now) }
+    ensures plan { IfOk result (IsPlan maps.blocks agsize) }
     ensures maps { IfOk result (λ plan. plan.maps ≡ maps) }
     ensures used { IfOk result (λ plan. (b : ℕ) → b < maps.blocks → taken_at plan.blocks.owned b ≡ used_after (all_of transactions.now) (is_taken used.items) b) }
     ensures places { IfOk result (λ plan. plan.places.items ≡ extents_after (all_of transactions.now) places.items) }
@@ -96,24 +94,9 @@ fn plan_with(
     redo_blocks(transactions, used.as_mut_slice());
     redo_extents(transactions, places.as_mut_slice());
     let blocks = OwnedMap::from_set(alloc, used.as_slice(), maps.blocks, agsize)?;
-    let marks = marks_of(alloc, maps.blocks, transactions)?;
     Ok(Plan {
-        marks,
         maps,
         blocks,
         places,
     })
-}
-
-/// A bit for each block, in words as in the maps: set where a transaction changes the page.
-fn marks_of(alloc: Global, blocks: u32, transactions: &[Tx]) -> Result<Vec<u8>, AllocError>
-    requires most { blocks ≤ 2 ^ 23 }
-    ensures words { IfOk result (λ marks. length marks.items % 4 ≡ 0) }
-    ensures there { IfOk result (λ marks. blocks ≤ 8 * length marks.items) }
-    ensures marked { IfOk result (λ marks. (p : ℕ) → p < blocks → touches_tx p (all_of transactions.now) ≡ true → is_taken marks.items p ≡ true) }
-{
-    let words = blocks.div_ceil(32) as usize;
-    let mut marks = vec![in alloc; 0u8; 4 * words]?;
-    mark_pages(transactions, marks.as_mut_slice());
-    Ok(marks)
 }

@@ -19,6 +19,7 @@ ghost use Rattle.jfs_super.specs.declared.fields.Super.{Super};
 ghost use Rattle.jfs_mount_maps.specs.mount_rules.specs.Subject.{subject_of};
 ghost use Rattle.jfs_redo.specs.Log.{ExtentsLieWithin};
 ghost use Rattle.jfs_redo.specs.Plan.{IsPlan, Plans};
+ghost use Rattle.jfs_redo.specs.Moments.{IsMarkedLast};
 ghost use Rattle.jfs_redo.specs.Redo.{RedoIs, IsRedoCause, IsRefusal, StaysBehind, PlanIs, IsRestored, MapsAreWritten, disk_error};
 
 use crate::error::{RedoError, Redone};
@@ -39,8 +40,8 @@ use std::alloc::Global;
 /// Redoes the volume of a disk in state 1, whose superblock is the one given, by its log: each page is what the committed transactions make of it, both maps follow from what they take and free and
 /// from the inodes' link counts, and the superblock has state 0. The log and all that isn't redone stay as they were. (JFS Log, log redo.)
 ///
-/// The log is read whole and the maps' rules are looked at before anything is written. It takes the log's text from the place on that its newest SYNCPT gives, a bit for each block and each inode, and 21 bytes for
-/// each place of an inode extent.
+/// The log is read whole and the maps' rules are looked at before anything is written. It takes the log's text from the place on that its newest SYNCPT gives, 16 bytes for each page that an edit of it
+/// changes or frees, a bit for each block and each inode, and 21 bytes for each place of an inode extent. Its work grows with that text and with the volume's maps and inodes.
 ///
 /// # Errors
 ///
@@ -51,6 +52,7 @@ pub fn redo<D: Disk>(alloc: Global, disk: &mut D, s: &Super) -> Result<Redone, R
     ensures pages { D.page_count disk.new ≡ D.page_count disk.old }
     ensures redone { D.tells → RedoIs s.now (D.image disk.old) (D.image disk.new) result }
     ensures stable { OnOk result (D.tells_crashes → IsResting (last_of (D.past disk.new))) }
+    ensures marked { OnOk result (D.tells_crashes → IsMarkedLast (D.past disk.new)) }
     // A volume that is refused is as it was; the log and all that lies behind the file system part always are.
     ensures same_image { IfErr result (λ why. D.tells → IsRefusal why → D.image disk.new ≡ D.image disk.old) }
     ensures same_past { IfErr result (λ why. D.tells_crashes → IsRefusal why → D.past disk.new ≡ D.past disk.old) }
@@ -95,7 +97,7 @@ fn plan_on<D: Disk>(
     ensures pages { D.page_count disk.new ≡ D.page_count disk.old }
     ensures image { D.tells → D.image disk.new ≡ D.image disk.old }
     ensures past { D.tells_crashes → D.past disk.new ≡ D.past disk.old }
-    ensures plan { IfOk result (IsPlan layout.blocks layout.agsize transactions.now) }
+    ensures plan { IfOk result (IsPlan layout.blocks layout.agsize) }
     ensures plans { D.tells → (s : Super) → geometry_of s ≡ layout → PlanIs (subject_of s (page_of (D.image disk.old))) transactions.now result }
     ensures cause { IsRedoCause (D.fault_count disk.old) (D.fault_count disk.new) result }
     ensures later { D.fault_count disk.old ≤ D.fault_count disk.new }
@@ -124,7 +126,7 @@ fn plan_in_loan<'a, D: Disk>(
     ensures image { D.tells → D.image view.new.disk.now ≡ D.image view.old.disk.now }
     ensures pages { D.page_count view.new.disk.now ≡ D.page_count view.old.disk.now }
     ensures past { D.tells_crashes → D.past view.new.disk.now ≡ D.past view.old.disk.now }
-    ensures plan { IfOk result (λ answer. IfOk answer (IsPlan layout.blocks layout.agsize transactions.now)) }
+    ensures plan { IfOk result (λ answer. IfOk answer (IsPlan layout.blocks layout.agsize)) }
     ensures plans { D.tells → IfOk result (λ answer. (s : Super) → blocks_of s ≡ layout.blocks → Plans (subject_of s (page_of (D.image view.old.disk.now))) transactions.now answer) }
     ensures fault { CarriesCount (record { part = view.old.part; count = D.fault_count view.old.disk.now }) (record { part = view.new.part; count = D.fault_count view.new.disk.now }) result }
 {
@@ -141,15 +143,16 @@ fn restore<D: Disk>(
 ) -> Result<(), RedoError>
     requires layout { IsLayout layout }
     requires within { layout.blocks ≤ D.page_count disk.old }
-    requires plan { IsPlan layout.blocks layout.agsize transactions.now plan.now }
+    requires plan { IsPlan layout.blocks layout.agsize plan.now }
     ensures pages { D.page_count disk.new ≡ D.page_count disk.old }
     ensures restored { D.tells → OnOk result (IsRestored layout.blocks layout.agsize transactions.now plan.now (D.image disk.old) (D.image disk.new)) }
+    ensures rests { OnOk result (D.tells_crashes → IsResting (last_of (D.past disk.new))) }
     ensures behind { D.tells → StaysBehind layout.blocks (D.image disk.old) (D.image disk.new) }
     ensures cause { IsRedoCause (D.fault_count disk.old) (D.fault_count disk.new) result }
     ensures later { D.fault_count disk.old ≤ D.fault_count disk.new }
     ensures begun { IfErr result (λ why. IsRefusal why → ⊥) }
 {
-    match redo_pages(disk, transactions, plan.marks.as_slice(), layout.blocks) {
+    match redo_pages(alloc, disk, transactions, layout.blocks) {
         Ok(()) => {}
         Err(e) => return Err(disk_error(e, disk.faults())),
     }
@@ -252,6 +255,7 @@ fn write_maps<D: Disk>(disk: &mut D, plan: &Plan, inodes: &InodeMap) -> Result<(
     ensures pages { D.page_count disk.new ≡ D.page_count disk.old }
     ensures room { D.room disk.new ≡ D.room disk.old }
     ensures written { D.tells → OnOk result (MapsAreWritten plan.now.maps.blocks plan.now inodes.now (D.image disk.old) (D.image disk.new)) }
+    ensures rests { OnOk result (D.tells_crashes → IsResting (last_of (D.past disk.new))) }
     ensures behind { D.tells → StaysBehind plan.now.maps.blocks (D.image disk.old) (D.image disk.new) }
     ensures cause { HasCause (D.fault_count disk.old) (D.fault_count disk.new) result }
 {
@@ -266,7 +270,10 @@ fn write_maps<D: Disk>(disk: &mut D, plan: &Plan, inodes: &InodeMap) -> Result<(
         Ok(()) => {}
         Err(e) => return Err(e),
     }
-    disk.sync()
+    match disk.sync() {
+        Ok(()) => Ok(()),
+        Err(e) => Err(e),
+    }
 }
 
 /// A call on the disk failed, whose count now stands there.

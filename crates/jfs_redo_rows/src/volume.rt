@@ -18,7 +18,7 @@ use std::test::*;
 use uuid::Uuid;
 
 /// A page, a place in it, and a number of 4 bytes there.
-type Word = (u32, usize, u32);
+pub type Word = (u32, usize, u32);
 
 /// Inode 4, a regular file with two blocks, 33 and 34, and the root's name `a` for it. No map tells of the inode; the block map has both blocks, but in its bits alone.
 #[rattlefmt::skip]
@@ -31,7 +31,7 @@ static ONE_FILE: [Word; 17] = [
 const STATE: usize = 40;
 
 /// A new volume that says it is mounted, with these words instead of its own.
-fn dirty<D: Disk>(disk: &mut D, words: &[Word]) -> bool {
+pub fn dirty<D: Disk>(disk: &mut D, words: &[Word]) -> bool {
     let now = Moment { sec: 1000, nano: 7 };
     if format(disk, Uuid::from_bytes([7; 16]), b"data", now).is_err() {
         return false;
@@ -43,7 +43,7 @@ fn dirty<D: Disk>(disk: &mut D, words: &[Word]) -> bool {
     true
 }
 
-fn put_word<D: Disk>(disk: &mut D, n: u32, at: usize, value: u32) {
+pub fn put_word<D: Disk>(disk: &mut D, n: u32, at: usize, value: u32) {
     if n >= disk.pages() || at > 4092 {
         return;
     }
@@ -73,7 +73,7 @@ fn superblock<D: Disk>(disk: &mut D) -> Option<Super>
 }
 
 /// What redo of the volume answers.
-fn redone<D: Disk>(alloc: Global, disk: &mut D) -> Option<Result<Redone, RedoError>> {
+pub fn redone<D: Disk>(alloc: Global, disk: &mut D) -> Option<Result<Redone, RedoError>> {
     let s = superblock(disk)?;
     Some(redo(alloc, disk, &s))
 }

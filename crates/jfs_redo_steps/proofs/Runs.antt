@@ -4,13 +4,8 @@ use Rattle.std.proofs.lemmas.List.{drop_more}
 use Rattle.jfs_bits.specs.Bits.{is_in_run, is_taken}
 use Rattle.jfs_ranges.specs.declared.edit.Edit.{Edit}
 use Rattle.jfs_ranges.specs.declared.edit.Edit.TheVariants.{Lines, NoRedo, Alloc, Free}
-use Rattle.jfs_ranges.specs.Apply.{apply_edit, touches_edit, touches_tx}
-use Rattle.jfs_records.specs.Redo.{is_noredo, redone, all_of}
+use Rattle.jfs_records.specs.Redo.{all_of}
 use Rattle.jfs_steps.specs.After.{is_extent, place_in, four_from, with_run, without_run, used_after, extents_after}
-
-pub redone-append : (p : ℕ) (left : List ℕ) (es more : List Edit) (now : List ℕ) → redone p left now (es ++ more) ≡ redone p left (redone p left now es) more
-redone-append p left [] more now = refl
-redone-append p left (e ∷ es) more now = redone-append p left es more (if is_noredo p e then left else apply_edit p e now)
 
 -- what becomes of a block depends on that block alone
 pub used_at : (tx : List Edit) (u v : ℕ → Bool) (b : ℕ) → u b ≡ v b → used_after tx u b ≡ used_after tx v b
@@ -66,38 +61,3 @@ marks_on whole rest part more start set new split before size bits = (
 pub extents_on : (whole rest part more : List Edit) (start es new : List (Option ℕ)) → rest ≡ part ++ more → extents_after rest es ≡ extents_after whole start → new ≡ extents_after part es → extents_after more new ≡ extents_after whole start
 extents_on whole rest part more start es new split before is =
     ap (extents_after more) is ∙ sym (extents-append part more es) ∙ sym (ap (λ (x : List Edit). extents_after x es) split) ∙ before
-
-pub page_on : (p : ℕ) (left : List ℕ) (whole rest part more : List Edit) (start page new : List ℕ) → rest ≡ part ++ more → redone p left page rest ≡ redone p left start whole → new ≡ redone p left page part →
-    redone p left new more ≡ redone p left start whole
-page_on p left whole rest part more start page new split before is =
-    ap (λ (a : List ℕ). redone p left a more) is ∙ sym (redone-append p left part more page) ∙ sym (ap (λ (x : List Edit). redone p left page x) split) ∙ before
-
--- ---- pages in which bytes are put
-
-touches-append : (p : ℕ) (tx more : List Edit) → touches_tx p (tx ++ more) ≡ (touches_tx p tx || touches_tx p more)
-touches-append p [] more = refl
-touches-append p (e ∷ tx) more = ap (λ (t : Bool). touches_edit p e || t) (touches-append p tx more) ∙ or_assoc (touches_edit p e) (touches_tx p tx) (touches_tx p more)
-  where
-    or_assoc : (x y z : Bool) → (x || (y || z)) ≡ ((x || y) || z)
-    or_assoc true y z = refl
-    or_assoc false y z = refl
-
-or_turn : (m t s : Bool) → (m || (t || s)) ≡ ((t || m) || s)
-or_turn true true s = refl
-or_turn true false s = refl
-or_turn false true s = refl
-or_turn false false s = refl
-
-abbrev pub ArePut : (whole rest : List Edit) → (start marks : List ℕ) → Type 0
-ArePut whole rest start marks = (length marks ≡ length start) × ((p : ℕ) → p < 8 * length start → (touches_tx p rest || is_taken marks p) ≡ (touches_tx p whole || is_taken start p))
-
-pub puts_on : (whole rest part more : List Edit) (start marks new : List ℕ) → rest ≡ part ++ more → ArePut whole rest start marks → length new ≡ length marks →
-    ((p : ℕ) → p < 8 * length marks → is_taken new p ≡ (touches_tx p part || is_taken marks p)) → ArePut whole more start new
-puts_on whole rest part more start marks new split before size bits = (
-  size ∙ before.0,
-  λ p h.
-      ap (λ (t : Bool). touches_tx p more || t) (bits p (omega (arith, before.0, h)))
-      ∙ or_turn (touches_tx p more) (touches_tx p part) (is_taken marks p)
-      ∙ ap (λ (t : Bool). t || is_taken marks p) (sym (touches-append p part more) ∙ sym (ap (touches_tx p) split))
-      ∙ before.1 p h,
-)

@@ -1,3 +1,4 @@
+pub mod ByPage
 pub mod Inodes
 pub mod Pages
 -- libraries below, passed on

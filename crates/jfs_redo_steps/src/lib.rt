@@ -3,12 +3,14 @@
 
 mod blocks;
 mod extents;
+mod index;
 mod inodes;
+mod law;
 mod page;
 mod pages;
 
 pub use blocks::redo_blocks;
 pub use extents::redo_extents;
 pub use inodes::inodes_in_use;
-pub use page::redo_page;
-pub use pages::{mark_pages, redo_pages};
+pub use law::pages_are_redone_again;
+pub use pages::redo_pages;

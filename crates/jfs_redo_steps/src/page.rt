@@ -1,30 +1,32 @@
 //! Redo of a page.
 
-ghost use Rattle.std.specs.Prelude.{◌≡◌, length, if◌then◌else◌};
+ghost use Rattle.std.specs.Prelude.{◌≡◌, true, length, if◌then◌else◌};
 ghost use Rattle.jfs_ranges.specs.Apply.{apply_edit};
-ghost use Rattle.jfs_records.specs.Redo.{is_noredo, redone, all_of};
+ghost use Rattle.jfs_records.specs.Redo.{is_noredo, redone};
+ghost use Rattle.jfs_redo_steps.specs.ByPage.{edits_in};
 
+use crate::index::PageEdit;
 use jfs_disk::Page;
-use jfs_ranges::{Edit, Tx, apply_edit};
+use jfs_ranges::{Edit, apply_edit};
 
-/// Makes of page `n` what transactions made of it, one after the other: each line is put, and where a transaction freed the page it is again what it was before all of them. (JFS Log: a
-/// NOREDOPAGE record ends what redo does to a page before it.)
-pub fn redo_page(transactions: &[Tx], n: u32, page: &mut Page)
-    ensures { page.new.0 ≡ redone n page.old.0 page.old.0 (all_of transactions.now) }
+/// Makes of page `n` what its edits made of it, one after the other: each line is put, and where an edit frees the page it is again what it was before all of them. (JFS Log: a NOREDOPAGE
+/// record ends what redo does to a page before it.) Answers whether it is as it was.
+pub(crate) fn redo_page(edits: &[PageEdit<'_>], n: u32, page: &mut Page) -> bool
+    ensures page { page.new.0 ≡ redone n page.old.0 page.old.0 (edits_in edits.now) }
+    ensures same { result ≡ true → page.new.0 ≡ page.old.0 }
 {
     let mut left = Page::zeros();
     copy(page, &mut left);
-    for tx in transactions {
-        redo_tx(tx, n, &left, page);
-    }
+    redo_edits(edits, n, &left, page);
+    page.bytes() == left.bytes()
 }
 
-/// The same by the edits of one transaction; `left` is what the page was before all of them.
-fn redo_tx(tx: &Tx, n: u32, left: &Page, page: &mut Page)
-    ensures { page.new.0 ≡ redone n left.now.0 page.old.0 tx.now }
+/// The same; `left` is what the page was before all of them.
+fn redo_edits(edits: &[PageEdit<'_>], n: u32, left: &Page, page: &mut Page)
+    ensures { page.new.0 ≡ redone n left.now.0 page.old.0 (edits_in edits.now) }
 {
-    for edit in tx.as_slice() {
-        redo_edit(edit, n, left, page);
+    for entry in edits {
+        redo_edit(entry.edit, n, left, page);
     }
 }
 

@@ -1,118 +1,103 @@
 //! The pages of a disk after redo.
 
-ghost use Rattle.std.specs.Prelude.{◌≡◌, ◌≤◌, ◌<◌, ◌*◌, ◌%◌, ◌^◌, ◌||◌, ◌&&◌, true, ℕ, nat_le, nat_lt, [], ◌∷◌, length, set, OnOk, OnErr};
-ghost use Rattle.jfs_bits.specs.Bits.{is_taken};
+ghost use Rattle.std.specs.Prelude.{◌≡◌, ◌≤◌, ◌<◌, ℕ, List, length, set, OnOk, OnErr};
 ghost use Rattle.jfs_disk.specs.Image.{page_of, ArePages};
+ghost use Rattle.jfs_disk.specs.Crash.{AllSince, last_of};
+ghost use Rattle.jfs_disk.specs.Moment.{IsResting, now_of};
 ghost use Rattle.jfs_disk.specs.Fault.{HasCause};
-ghost use Rattle.jfs_ranges.specs.Apply.{touches_tx};
+ghost use Rattle.jfs_ranges.specs.declared.edit.Edit.{Edit};
 ghost use Rattle.jfs_records.specs.Redo.{redone, all_of};
-ghost use Rattle.jfs_redo_steps.specs.Pages.{ArePagesRedone, MayBeTorn, IsStopped};
+ghost use Rattle.jfs_redo_steps.specs.ByPage.{edits_in, RiseFrom, IsIndex};
+ghost use Rattle.jfs_redo_steps.specs.Pages.{ArePagesRedone, MayBeTorn, IsStopped, IsOnTheWay, WritesPage};
 
+use crate::index::{PageEdit, edits_by_page, own_from};
 use crate::page::redo_page;
-use jfs_bits::{bit, set_run};
 use jfs_disk::{Disk, DiskError, Page};
-use jfs_ranges::{Edit, Tx};
+use jfs_ranges::Tx;
+use std::alloc::Global;
 
-/// Sets the bit of each page in which transactions put a byte, as far as the set has it; all other bits stay.
-pub fn mark_pages(transactions: &[Tx], marks: &mut [u8])
-    requires words { length marks.old % 4 ≡ 0 }
-    requires most { length marks.old ≤ 2 ^ 28 }
-    ensures size { length marks.new ≡ length marks.old }
-    ensures bits { (p : ℕ) → p < 8 * length marks.old → is_taken marks.new p ≡ (touches_tx p (all_of transactions.now) || is_taken marks.old p) }
-{
-    for tx in transactions {
-        mark_tx(tx, marks);
-    }
-}
-
-fn mark_tx(tx: &Tx, marks: &mut [u8])
-    requires words { length marks.old % 4 ≡ 0 }
-    requires most { length marks.old ≤ 2 ^ 28 }
-    ensures size { length marks.new ≡ length marks.old }
-    ensures bits { (p : ℕ) → p < 8 * length marks.old → is_taken marks.new p ≡ (touches_tx p tx.now || is_taken marks.old p) }
-{
-    for edit in tx.as_slice() {
-        mark_edit(edit, marks);
-    }
-}
-
-fn mark_edit(edit: &Edit, marks: &mut [u8])
-    requires words { length marks.old % 4 ≡ 0 }
-    requires most { length marks.old ≤ 2 ^ 28 }
-    ensures size { length marks.new ≡ length marks.old }
-    ensures bits { (p : ℕ) → p < 8 * length marks.old → is_taken marks.new p ≡ (touches_tx p (edit.now ∷ []) || is_taken marks.old p) }
-{
-    let pages = edit.pages();
-    mark_range(pages.first, pages.end, marks);
-}
-
-/// Sets the bits from `first` on before `end`, as far as the set goes.
-fn mark_range(first: u64, end: u64, marks: &mut [u8])
-    requires words { length marks.old % 4 ≡ 0 }
-    requires most { length marks.old ≤ 2 ^ 28 }
-    ensures size { length marks.new ≡ length marks.old }
-    ensures bits { (p : ℕ) → p < 8 * length marks.old → is_taken marks.new p ≡ (nat_le first p && nat_lt p end || is_taken marks.old p) }
-{
-    let total = 8 * marks.len() as u64;
-    let end = end.min(total);
-    if first < end {
-        set_run(marks, first as u32, (end - first) as u32);
-    }
-}
-
-/// Redoes the first pages of a disk: each that is marked is read, and written as transactions made it. Each page in which they put a byte has to be marked, as `mark_pages` does. Pages are
-/// synced by nobody.
+/// Redoes the first `count` pages of a disk: each that transactions change or free is read, and written as they made it unless it is so already. Pages are synced by nobody. The work grows
+/// with the transactions' edits and `count`, and the memory with the edits, at 16 bytes for each page that one changes or frees.
 ///
 /// # Errors
 ///
-/// A page could not be read or written: then the first of them are redone, the one that failed may hold front sectors of what redo makes of it, and all others are as they were.
+/// Memory for an index of the edits ran out: nothing is written. A page could not be read or written: then the first of them are redone, the one that failed may hold front sectors of what
+/// redo makes of it, and all others are as they were.
 pub fn redo_pages<D: Disk>(
+    alloc: Global,
     disk: &mut D,
     transactions: &[Tx],
-    marks: &[u8],
     count: u32,
 ) -> Result<(), DiskError>
     requires within { count ≤ D.page_count disk.old }
-    requires words { length marks.now % 4 ≡ 0 }
-    requires there { count ≤ 8 * length marks.now }
-    requires marked { (p : ℕ) → p < count → touches_tx p (all_of transactions.now) ≡ true → is_taken marks.now p ≡ true }
+    requires some { 0 < count }
     ensures pages { D.page_count disk.new ≡ D.page_count disk.old }
     ensures room { D.room disk.new ≡ D.room disk.old }
     ensures redone { D.tells → OnOk result (ArePagesRedone count (all_of transactions.now) (D.image disk.old) (D.image disk.new)) }
     ensures stopped { D.tells → OnErr result (IsStopped count (all_of transactions.now) (D.image disk.old) (D.image disk.new)) }
+    // Where nothing was pending, a crash at each moment leaves pages on the way, of which redo makes the same again (`pages_are_redone_again`).
+    ensures moments { D.tells → D.tells_crashes → IsResting (last_of (D.past disk.old)) → AllSince (IsOnTheWay count (all_of transactions.now) (D.image disk.old)) (D.past disk.new) (now_of (D.past disk.old)) }
+    ensures cause { HasCause (D.fault_count disk.old) (D.fault_count disk.new) result }
+{
+    let index = match edits_by_page(alloc, transactions, count) {
+        Ok(index) => index,
+        Err(_) => return Err(DiskError::Memory),
+    };
+    match redo_by_index(disk, index.as_slice(), count) {
+        Ok(()) => Ok(()),
+        Err(e) => Err(e),
+    }
+}
+
+/// The same by an index of the edits.
+fn redo_by_index<D: Disk>(disk: &mut D, index: &[PageEdit<'_>], count: u32) -> Result<(), DiskError>
+    requires within { count ≤ D.page_count disk.old }
+    requires rising { RiseFrom 0 index.now }
+    ensures pages { D.page_count disk.new ≡ D.page_count disk.old }
+    ensures room { D.room disk.new ≡ D.room disk.old }
+    ensures redone { OnOk result (D.tells → (es : List Edit) → IsIndex count es index.now → ArePagesRedone count es (D.image disk.old) (D.image disk.new)) }
+    ensures stopped { OnErr result (D.tells → (es : List Edit) → IsIndex count es index.now → IsStopped count es (D.image disk.old) (D.image disk.new)) }
+    ensures moments { D.tells → D.tells_crashes → (es : List Edit) → IsIndex count es index.now → IsResting (last_of (D.past disk.old)) → AllSince (IsOnTheWay count es (D.image disk.old)) (D.past disk.new) (now_of (D.past disk.old)) }
     ensures cause { HasCause (D.fault_count disk.old) (D.fault_count disk.new) result }
 {
     let mut page = Page::zeros();
+    let mut at = 0;
     for p in 0..count {
-        if bit(marks, p) {
-            match redo_on_disk(disk, transactions, p, &mut page) {
-                Ok(()) => {}
-                Err(e) => return Err(e),
-            }
+        let own = own_from(index, at, p);
+        match redo_on_disk(disk, own, p, &mut page) {
+            Ok(()) => {}
+            Err(e) => return Err(e),
         }
+        at += own.len();
     }
     Ok(())
 }
 
-/// Redoes page `p`; `page` is room for it.
+/// Redoes page `p` by its edits; `page` is room for it.
 fn redo_on_disk<D: Disk>(
     disk: &mut D,
-    transactions: &[Tx],
+    edits: &[PageEdit<'_>],
     p: u32,
     page: &mut Page,
 ) -> Result<(), DiskError>
     requires within { p < D.page_count disk.old }
     ensures pages { D.page_count disk.new ≡ D.page_count disk.old }
     ensures room { D.room disk.new ≡ D.room disk.old }
-    ensures redone { D.tells → OnOk result (D.image disk.new ≡ set (D.image disk.old) p (redone p (page_of (D.image disk.old) p) (page_of (D.image disk.old) p) (all_of transactions.now))) }
-    ensures torn { D.tells → OnErr result (MayBeTorn p (all_of transactions.now) (D.image disk.old) (D.image disk.new)) }
+    ensures redone { D.tells → OnOk result (D.image disk.new ≡ set (D.image disk.old) p (redone p (page_of (D.image disk.old) p) (page_of (D.image disk.old) p) (edits_in edits.now))) }
+    ensures torn { D.tells → OnErr result (MayBeTorn p (edits_in edits.now) (D.image disk.old) (D.image disk.new)) }
+    ensures writes { D.tells → D.tells_crashes → WritesPage p (redone p (page_of (D.image disk.old) p) (page_of (D.image disk.old) p) (edits_in edits.now)) (D.past disk.old) (D.past disk.new) }
     ensures cause { HasCause (D.fault_count disk.old) (D.fault_count disk.new) result }
 {
+    if edits.is_empty() {
+        return Ok(());
+    }
     match disk.read(p, page) {
         Ok(()) => {}
         Err(e) => return Err(e),
     }
-    redo_page(transactions, p, page);
+    if redo_page(edits, p, page) {
+        return Ok(());
+    }
     match disk.write(p, page) {
         Ok(()) => Ok(()),
         Err(e) => Err(e),

@@ -1,9 +1,9 @@
-use Rattle.std.proofs.Common.{◌≤◌, ◌∙◌, ℕ, length, sym, subst, arith}
+use Rattle.std.proofs.Common.{◌≡◌, ◌≤◌, ◌∙◌, ℕ, length, sym, subst, arith}
 use Rattle.std.specs.Prelude.{Option}
 use Rattle.jfs_bmap.specs.Set.{taken_at}
-use Rattle.jfs_bmap.specs.MapFile.{IsMapPage, is_in_use}
+use Rattle.jfs_bmap.specs.MapFile.{IsMapPage, is_in_use, pages_of}
 use Rattle.jfs_redo_steps.specs.objects.specs.Contents.{block_of}
-use Rattle.jfs_redo.specs.Put.{IsPut, place_if}
+use Rattle.jfs_redo.specs.Put.{ArePut, InBytes, IsPut, place_if}
 use Rattle.jfs_redo.proofs.Puts.{stepped, placed_within, behind-joins}
 use Rattle.jfs_redo.proofs.maps.write_block_map.Goals as goal
 
@@ -18,7 +18,7 @@ loop-k-preserved g c =
     let rest = λ (j : ℕ) (h : c.loop-k.k ≤ j). c.from_block-rest.ensures.same j (omega (arith, c.from.ensures, h)) ∙ i.3 j h in
     let owned = c.args.map.now.owned in
     let place = λ (k : ℕ). place_if (is_in_use (length owned) k) (block_of c.args.extents.now k) in
-    let page = λ (k : ℕ). IsMapPage (length owned) c.args.map.now.agsize (taken_at owned) k in (
+    let page = InBytes (IsMapPage (length owned) c.args.map.now.agsize (taken_at owned)) in (
       c.in-Ok.ensures.pages ∙ i.0,
       c.in-Ok.ensures.room ∙ i.1,
       c.in-Ok.ensures.cause.ok ∙ i.2,
@@ -31,3 +31,10 @@ loop-k-preserved g c =
           (placed_within c.args.blocks (is_in_use (length owned) c.loop-k.k) (block_of c.args.extents.now c.loop-k.k) (λ p is. c.requires.lie c.loop-k.k p is)) put (i.4 tells),
       λ tells. behind-joins c.args.blocks (g.D.Disk.image c.args.disk.now) (g.D.Disk.image c.loop-k.disk) (g.D.Disk.image c.write_if_in_use.new.disk) (i.5 tells) (c.in-Ok.ensures.behind tells),
     )
+
+pub returns-clause-put : goal.returns-clause-put
+returns-clause-put g c tells =
+    let owned = c.args.map.now.owned in
+    let place = λ (k : ℕ). place_if (is_in_use (length owned) k) (block_of c.args.extents.now k) in
+    let all : c.loop-k.k ≡ pages_of (length owned) = omega (arith, c.loop-k-test.false, c.loop-k.auto.k-end, c.pages-k-end.ensures) in
+    subst (λ (n : ℕ). ArePut n place (InBytes (IsMapPage (length owned) c.args.map.now.agsize (taken_at owned))) (g.D.Disk.image c.args.disk.now) (g.D.Disk.image c.loop-k.disk)) all (c.loop-k.invariant.4 tells)

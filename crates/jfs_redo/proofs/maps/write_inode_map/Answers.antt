@@ -2,7 +2,7 @@ use Rattle.std.proofs.Common.{◌≡◌, ◌≤◌, ◌∙◌, ℕ, sym, ap, sub
 use Rattle.std.specs.Prelude.{Option}
 use Rattle.jfs_imap.specs.Inodes.{IsInodePage}
 use Rattle.jfs_redo_steps.specs.objects.specs.Contents.{block_of}
-use Rattle.jfs_redo.specs.Put.{put_at}
+use Rattle.jfs_redo.specs.Put.{InBytes, put_at}
 use Rattle.jfs_redo.proofs.Puts.{stepped, behind-joins}
 use Rattle.jfs_redo.proofs.maps.write_inode_map.Goals as goal
 
@@ -24,9 +24,9 @@ loop-k-preserved g c =
       λ tells.
           let whole = g.met.D.Disk.has_pages c.loop-k.disk tells in
           let place : block_of c.from_block-rest.result.now c.from-in-loop-k.result ≡ block_of c.args.extents.now c.loop-k.k = ap (λ (n : ℕ). block_of c.from_block-rest.result.now n) k ∙ rest c.loop-k.k (omega arith) in
-          stepped c.loop-k.k (block_of c.args.extents.now) (IsInodePage c.args.map.now) (g.D.Disk.image c.args.disk.now) (g.D.Disk.image c.loop-k.disk) (g.D.Disk.image c.write_at.new.disk) c.args.blocks
+          stepped c.loop-k.k (block_of c.args.extents.now) (InBytes (IsInodePage c.args.map.now)) (g.D.Disk.image c.args.disk.now) (g.D.Disk.image c.loop-k.disk) (g.D.Disk.image c.write_at.new.disk) c.args.blocks
           (omega (arith, whole.number, c.requires.within, i.0)) (λ p is. c.requires.lie c.loop-k.k p is)
-          (record { page = c.write_page.new.page.0; is = λ p is. c.write_page.ensures; now = subst (λ (o : Option ℕ). g.D.Disk.image c.write_at.new.disk ≡ put_at o c.write_page.new.page.0 (g.D.Disk.image c.loop-k.disk)) place (c.in-Ok.ensures.put tells) })
+          (record { page = c.write_page.new.page.0; is = λ p is. (c.write_page.ensures, c.in-Ok.ensures.bytes); now = subst (λ (o : Option ℕ). g.D.Disk.image c.write_at.new.disk ≡ put_at o c.write_page.new.page.0 (g.D.Disk.image c.loop-k.disk)) place (c.in-Ok.ensures.put tells) })
           (i.4 tells),
       λ tells. behind-joins c.args.blocks (g.D.Disk.image c.args.disk.now) (g.D.Disk.image c.loop-k.disk) (g.D.Disk.image c.write_at.new.disk) (i.5 tells) (c.in-Ok.ensures.behind tells),
     )

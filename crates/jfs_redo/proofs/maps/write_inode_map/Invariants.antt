@@ -1,7 +1,7 @@
 use Rattle.std.proofs.Common.{◌≡◌, ◌≤◌, ℕ}
 use Rattle.jfs_imap.specs.Inodes.{IsInodePage}
 use Rattle.jfs_redo_steps.specs.objects.specs.Contents.{block_of}
-use Rattle.jfs_redo.specs.Put.{ArePut}
+use Rattle.jfs_redo.specs.Put.{ArePut, InBytes}
 use Rattle.jfs_redo.specs.Redo.{StaysBehind}
 use Rattle.jfs_redo.proofs.maps.write_inode_map.Given as goal
 
@@ -9,5 +9,5 @@ abbrev pub invariant-loop-k : goal.invariant-loop-k
 invariant-loop-k g l =
     (g.D.Disk.page_count l.disk ≡ g.D.Disk.page_count l.fn.disk) × (g.D.Disk.room l.disk ≡ g.D.Disk.room l.fn.disk) × (g.D.Disk.fault_count l.disk ≡ g.D.Disk.fault_count l.fn.disk)
     × ((j : ℕ) → l.k ≤ j → block_of l.rest j ≡ block_of l.extents j)
-    × (g.D.Disk.tells → ArePut l.k (block_of l.extents) (IsInodePage l.map) (g.D.Disk.image l.fn.disk) (g.D.Disk.image l.disk))
+    × (g.D.Disk.tells → ArePut l.k (block_of l.extents) (InBytes (IsInodePage l.map)) (g.D.Disk.image l.fn.disk) (g.D.Disk.image l.disk))
     × (g.D.Disk.tells → StaysBehind l.blocks (g.D.Disk.image l.fn.disk) (g.D.Disk.image l.disk))

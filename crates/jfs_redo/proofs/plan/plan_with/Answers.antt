@@ -18,9 +18,6 @@ returns-clause-plan c =
     let size : length c.redo_extents.new.extents ≡ c.args.places.len = ap length (c.redo_extents.ensures ∙ ap (extents_after all) before) ∙ extents-number all c.args.places.items ∙ sym c.args.places.ok.0 in
     let after = take_at c.redo_extents.new.extents (drop (length c.redo_extents.new.extents) c.args.places.items) c.args.places.len size ∙ c.redo_extents.ensures ∙ ap (extents_after all) before in
     record {
-      words = c.in_ok-marks.ensures.words;
-      there = c.in_ok-marks.ensures.there;
-      marked = c.in_ok-marks.ensures.marked;
       blocks_are = refl;
       number = ap (λ (o : OwnedBlocks). length o.owned) c.in_ok-blocks.ensures ∙ length-each_below c.args.maps.blocks _;
       groups = ap (λ (o : OwnedBlocks). o.agsize) c.in_ok-blocks.ensures;

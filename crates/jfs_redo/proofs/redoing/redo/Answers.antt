@@ -34,9 +34,7 @@ returns-in-Ok-mark_clean-clause-redone g c tells =
     let are : AreCommitted s.logpxd.len (blocks_of s) (drop s.logpxd.addr old) txs =
     subst (λ (i : Image). AreCommitted s.logpxd.len (blocks_of s) (drop s.logpxd.addr i) txs) (log.1 tells)
     (subst (λ (y : Geometry). AreCommitted y.log.len y.blocks (drop y.log.addr log.0) txs) fields log.2) in
-    let is : IsPlan (blocks_of s) s.agsize txs plan =
-    subst (λ (y : Geometry). IsPlan y.blocks y.agsize txs plan) fields
-    (subst (λ (xs : List (List Edit)). IsPlan layout.blocks layout.agsize xs plan) c.as_slice.ensures c.in-Ok-plan_on.ensures.plan) in
+    let is : IsPlan (blocks_of s) s.agsize plan = subst (λ (y : Geometry). IsPlan y.blocks y.agsize plan) fields c.in-Ok-plan_on.ensures.plan in
     let of : IsPlanOf (subject_of s (page_of old)) txs plan =
     subst (λ (i : Image). IsPlanOf (subject_of s (page_of i)) txs plan) first
     (subst (λ (xs : List (List Edit)). IsPlanOf (subject_of s (page_of (g.D.Disk.image c.committed_in.new.disk))) xs plan) c.as_slice.ensures (c.in-Ok-plan_on.ensures.plans tells s (sym fields))) in
@@ -48,5 +46,8 @@ returns-in-Ok-mark_clean-clause-redone g c tells =
       are,
       c.in-Ok-try_from.ensures.1 ∙ c.len.ensures,
       of.unbroken,
-      whole s txs plan old mid (g.D.Disk.image c.mark_clean.new.disk) is of restored (c.in-Ok-mark_clean.ensures.others tells) (c.in-Ok-mark_clean.ensures.superblock tells),
+      whole s txs plan old mid (g.D.Disk.image c.mark_clean.new.disk) is of restored (c.in-Ok-mark_clean.ensures.others tells) (c.in-Ok-mark_clean.ensures.fields tells) (c.in-Ok-mark_clean.ensures.superblock tells),
     )
+
+pub returns-in-Ok-mark_clean-clause-marked : goal.returns-in-Ok-mark_clean-clause-marked
+returns-in-Ok-mark_clean-clause-marked g c = λ told. (g.D.Disk.past c.restore.new.disk, c.in-Ok-restore.ensures.rests told, c.in-Ok-mark_clean.ensures.marked told)

@@ -1,34 +1,39 @@
-use Rattle.std.proofs.Common.{◌<◌, ◌∙◌, sym, arith}
-use Rattle.jfs_bits.specs.Bits.{is_taken}
-use Rattle.jfs_ranges.specs.Apply.{touches_tx}
+use Rattle.std.proofs.Common.{inl, refl, sym, subst, arith}
 use Rattle.jfs_records.specs.Redo.{all_of}
-use Rattle.jfs_redo_steps.proofs.DiskPages.{one_more, passed_over, unmarked}
-use Rattle.jfs_redo_steps.proofs.pages.redo_pages.Goals.{then-bit+in-Ok, else-bit}
+use Rattle.jfs_redo_steps.specs.ByPage.{IsIndex}
+use Rattle.jfs_disk.specs.Moment.{now_of}
+use Rattle.jfs_redo_steps.proofs.DiskPages.{none_redone}
+use Rattle.jfs_redo_steps.proofs.Moments.{first_moment, all_wider}
 use Rattle.jfs_redo_steps.proofs.pages.redo_pages.Goals as goal
 
-pub loop-p-preserved : goal.loop-p-preserved
-loop-p-preserved g c =
-    let i = c.loop-p.invariant in
-    let p = c.loop-p.p in
-    let es = all_of c.args.transactions.now in
-    let old = g.D.Disk.image c.args.disk.now in
-    elim c.if-bit.branch [
-      | then-bit+in-Ok w ↦ rw w.disk-is (
-        w.in-Ok.ensures.pages ∙ i.0,
-        w.in-Ok.ensures.room ∙ i.1,
-        w.in-Ok.ensures.cause.ok ∙ i.2,
-        λ tells.
-            let whole = g.met.D.Disk.has_pages c.args.disk.now tells in
-            one_more es old (g.D.Disk.image c.loop-p.disk) (g.D.Disk.image w.redo_on_disk.new.disk) p (omega (arith, whole.number, c.requires.within, c.loop-p-test.true, c.loop-p.auto.p-end)) (i.3 tells) (w.in-Ok.ensures.redone tells),
-      )
-      | else-bit w ↦ rw w.disk-is (
-        i.0,
-        i.1,
-        i.2,
-        λ tells.
-            let whole = g.met.D.Disk.has_pages c.args.disk.now tells in
-            let low : p < c.args.count = omega (arith, c.loop-p-test.true, c.loop-p.auto.p-end) in
-            passed_over es old (g.D.Disk.image c.loop-p.disk) p (whole.sizes p (omega (arith, c.requires.within, low)))
-            (unmarked (touches_tx p es) (is_taken c.args.marks.now p) (λ h. c.requires.marked p low h) (sym c.bit.ensures ∙ w.if-bit.false)) (i.3 tells),
-      )
-    ]
+pub returns-in-Err-clause-stopped : goal.returns-in-Err-clause-stopped
+returns-in-Err-clause-stopped g c tells =
+    let image = g.D.Disk.image c.args.disk.now in record {
+      at = 0;
+      low = c.requires.some;
+      mid = image;
+      before = none_redone (all_of c.args.transactions.now) image;
+      torn = inl refl;
+    }
+
+pub returns-in-Ok-redo_by_index-clause-redone : goal.returns-in-Ok-redo_by_index-clause-redone
+returns-in-Ok-redo_by_index-clause-redone g c tells =
+    let all = all_of c.args.transactions.now in
+    c.in-Ok-redo_by_index.ensures.redone tells all (subst (IsIndex c.args.count all) (sym c.as_slice.ensures.value) c.in-Ok.ensures)
+
+pub returns-in-Err-clause-moments : goal.returns-in-Err-clause-moments
+returns-in-Err-clause-moments g c tells crashes rests =
+    let all = all_of c.args.transactions.now in
+    let image = g.D.Disk.image c.args.disk.now in
+    let past = g.D.Disk.past c.args.disk.now in
+    all_wider 0 c.args.count all image (now_of past) past (omega arith) (first_moment all image past (g.met.D.Disk.has_state c.args.disk.now crashes) (g.met.D.Disk.reads_now c.args.disk.now crashes) rests)
+
+pub returns-in-Ok-redo_by_index-clause-moments : goal.returns-in-Ok-redo_by_index-clause-moments
+returns-in-Ok-redo_by_index-clause-moments g c tells crashes rests =
+    let all = all_of c.args.transactions.now in
+    c.redo_by_index.ensures.moments tells crashes all (subst (IsIndex c.args.count all) (sym c.as_slice.ensures.value) c.in-Ok.ensures) rests
+
+pub returns-clause-moments : goal.returns-clause-moments
+returns-clause-moments g c tells crashes rests =
+    let all = all_of c.args.transactions.now in
+    c.redo_by_index.ensures.moments tells crashes all (subst (IsIndex c.args.count all) (sym c.as_slice.ensures.value) c.in-Ok.ensures) rests

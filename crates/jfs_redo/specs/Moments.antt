@@ -1,0 +1,12 @@
+-- The order of what a redo writes.
+use Rattle.std.specs.Prelude.{◌≡◌, ℕ, List, [], ◌∷◌, ◌++◌}
+use Rattle.jfs_disk.specs.Crash.{DiskState, last_of, written, settled}
+use Rattle.jfs_disk.specs.Moment.{IsResting}
+
+-- page 8 was written, and synced
+abbrev pub IsMarkedOn : List DiskState → List DiskState → Type 0
+IsMarkedOn old new = (bytes : List ℕ) × (new ≡ old ++ (written 8 bytes (last_of old) ∷ settled (written 8 bytes (last_of old)) ∷ []))
+
+-- That was done last, once nothing else was pending: so a crash that leaves the new page 8 leaves all else that redo made.
+abbrev pub IsMarkedLast : List DiskState → Type 0
+IsMarkedLast past = (before : List DiskState) × IsResting (last_of before) × IsMarkedOn before past
