@@ -9,7 +9,6 @@ use Rattle.std.proofs.lemmas.List.FromFn.{length-range_with_len}
 use Rattle.std.proofs.lemmas.Option.{none-some, same_Some}
 use Rattle.jfs_bits.specs.Bits.{is_taken}
 use Rattle.jfs_bits.specs.Piece.{puts}
-use Rattle.jfs_bits.specs.declared.descriptor.Pxd.{Pxd}
 use Rattle.jfs_disk.specs.Image.{Image, page_of}
 use Rattle.jfs_ranges.specs.declared.edit.Edit.{Edit}
 use Rattle.jfs_records.specs.Redo.{redone, all_of}
@@ -19,7 +18,6 @@ use Rattle.jfs_super.specs.declared.fields.Super.{Super}
 use Rattle.jfs_super.specs.declared.fields.TheConstants.VolumeState.{CLEAN}
 use Rattle.jfs_iag.specs.Laws.{AreSame}
 use Rattle.jfs_iag.specs.Canonical.{IsIagPage}
-use Rattle.jfs_iag.specs.Iag.{no_run}
 use Rattle.jfs_iag.specs.declared.canonical.Links.{Links}
 use Rattle.jfs_iag.proofs.Agreed.{iags-same, controls-same}
 use Rattle.jfs_imap.specs.Inodes.{Inodes, inodes_of, is_used, extent_at, IsInodePage}
@@ -83,8 +81,19 @@ record Parts (s : Super) (txs : List (List Edit)) (page : ℕ → List ℕ) (new
 
 parts_of : (s : Super) (txs : List (List Edit)) (old new : Image) → IsRedone s txs old new → Parts s txs (page_of old) new
 parts_of s txs old new is = record {
-  image = is.redone; pages = is.pages.pages; taken = is.taken; taken_are = is.taken_are; taken_past = is.taken_past; set = is.set; in_use = is.in_use;
-  mapped = is.mapped; others = is.others; block_map = is.block_map; inode_map = is.inode_map; rest = is.rest; fields = is.fields;
+  image = is.redone;
+  pages = is.pages.pages;
+  taken = is.taken;
+  taken_are = is.taken_are;
+  taken_past = is.taken_past;
+  set = is.set;
+  in_use = is.in_use;
+  mapped = is.mapped;
+  others = is.others;
+  block_map = is.block_map;
+  inode_map = is.inode_map;
+  rest = is.rest;
+  fields = is.fields;
 }
 
 -- ---- it is one thing

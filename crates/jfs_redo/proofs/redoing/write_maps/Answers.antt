@@ -1,4 +1,4 @@
-use Rattle.std.proofs.Common.{◌≡◌, ℕ, suc, List, length, sym, subst}
+use Rattle.std.proofs.Common.{ℕ, suc, List, length, sym, subst}
 use Rattle.jfs_bits.specs.declared.extent.Xad.{Xad}
 use Rattle.jfs_disk.specs.Image.{Image}
 use Rattle.jfs_bmap.specs.Set.{taken_at}

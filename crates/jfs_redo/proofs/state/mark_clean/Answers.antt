@@ -10,5 +10,5 @@ returns-in-Ok-sync-clause-marked g c = λ k.
     let bytes = c.write_super.new.page.0 in (
       bytes,
       written_and_synced 8 bytes (g.D.Disk.past c.args.disk.now) (g.D.Disk.past c.read.new.self) (g.D.Disk.past c.write.new.self) (g.D.Disk.past c.sync.new.self)
-      (c.read.ensures.past k) (c.in-Ok-write.ensures.past k) (c.in-Ok-sync.ensures.past k),
+          (c.read.ensures.past k) (c.in-Ok-write.ensures.past k) (c.in-Ok-sync.ensures.past k),
     )
