@@ -113,8 +113,8 @@ fn puts_lines(rt: HostRuntime) {
         apply(&tx, case.page, &mut page);
         for i in 0..4096 {
             let wanted = if case.from <= i && i < case.to { 9 } else { 0 };
-            assert_eq!(rt; page.0[i], wanted);
+            assert!(rt; page.0[i] == wanted);
         }
-        assert_eq!(rt; touches(&tx, case.page), case.from < case.to);
+        assert!(rt; touches(&tx, case.page) == (case.from < case.to));
     }
 }

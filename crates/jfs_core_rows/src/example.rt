@@ -153,10 +153,7 @@ fn a_page_written_back_twice(rt: HostRuntime) {
     );
     for stage in &STAGES {
         assert!(rt; stage.steps.len() <= 100);
-        assert_eq!(rt;
-            run(alloc, &mut core, stage.steps).expect(&rt, "memory"),
-            stage.refused
-        );
+        assert!(rt; run(alloc, &mut core, stage.steps).expect(&rt, "memory") == stage.refused);
         assert!(rt;
             all_redone(alloc, &core, stage.contents, stage.n, stage.wanted).expect(&rt, "memory")
         );

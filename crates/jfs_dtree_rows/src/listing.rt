@@ -19,7 +19,7 @@ static IN_ORDER: [Step; 5] = [
 
 #[test]
 fn names_in_order(rt: HostRuntime) {
-    assert_eq!(rt; held(rt.alloc(), &IN_ORDER), 5);
+    assert!(rt; held(rt.alloc(), &IN_ORDER) == 5);
 }
 
 static TWICE: [Step; 3] = [
@@ -34,7 +34,7 @@ static TWICE: [Step; 3] = [
 
 #[test]
 fn a_page_named_twice(rt: HostRuntime) {
-    assert_eq!(rt; held(rt.alloc(), &TWICE), 3);
+    assert!(rt; held(rt.alloc(), &TWICE) == 3);
 }
 
 static ITSELF: [Step; 3] = [
@@ -48,7 +48,7 @@ static ITSELF: [Step; 3] = [
 
 #[test]
 fn a_page_that_names_itself(rt: HostRuntime) {
-    assert_eq!(rt; held(rt.alloc(), &ITSELF), 3);
+    assert!(rt; held(rt.alloc(), &ITSELF) == 3);
 }
 
 static NAMELESS: [Step; 5] = [
@@ -67,7 +67,7 @@ static NAMELESS: [Step; 5] = [
 
 #[test]
 fn a_leaf_without_names(rt: HostRuntime) {
-    assert_eq!(rt; held(rt.alloc(), &NAMELESS), 5);
+    assert!(rt; held(rt.alloc(), &NAMELESS) == 5);
 }
 
 static UNREAD: [Step; 9] = [
@@ -84,5 +84,5 @@ static UNREAD: [Step; 9] = [
 
 #[test]
 fn each_page_that_cannot_be_read(rt: HostRuntime) {
-    assert_eq!(rt; held(rt.alloc(), &UNREAD), 9);
+    assert!(rt; held(rt.alloc(), &UNREAD) == 9);
 }

@@ -25,7 +25,7 @@ static AT_THE_END: [Step; 10] = [
 
 #[test]
 fn past_the_end_of_the_last_leaf(rt: HostRuntime) {
-    assert_eq!(rt; held(rt.alloc(), &AT_THE_END), 10);
+    assert!(rt; held(rt.alloc(), &AT_THE_END) == 10);
 }
 
 static BEHIND_ITS_FRONT: [Step; 7] = [
@@ -41,7 +41,7 @@ static BEHIND_ITS_FRONT: [Step; 7] = [
 
 #[test]
 fn behind_a_name_that_is_its_front(rt: HostRuntime) {
-    assert_eq!(rt; held(rt.alloc(), &BEHIND_ITS_FRONT), 7);
+    assert!(rt; held(rt.alloc(), &BEHIND_ITS_FRONT) == 7);
 }
 
 static OF_ANOTHER: [Step; 11] = [
@@ -61,7 +61,7 @@ static OF_ANOTHER: [Step; 11] = [
 
 #[test]
 fn past_the_end_of_another_leaf(rt: HostRuntime) {
-    assert_eq!(rt; held(rt.alloc(), &OF_ANOTHER), 11);
+    assert!(rt; held(rt.alloc(), &OF_ANOTHER) == 11);
 }
 
 static AMONG_THE_FIRST: [Step; 6] = [
@@ -76,7 +76,7 @@ static AMONG_THE_FIRST: [Step; 6] = [
 
 #[test]
 fn among_the_first(rt: HostRuntime) {
-    assert_eq!(rt; held(rt.alloc(), &AMONG_THE_FIRST), 6);
+    assert!(rt; held(rt.alloc(), &AMONG_THE_FIRST) == 6);
 }
 
 static AMONG_THE_LAST: [Step; 6] = [
@@ -90,7 +90,7 @@ static AMONG_THE_LAST: [Step; 6] = [
 
 #[test]
 fn among_the_last(rt: HostRuntime) {
-    assert_eq!(rt; held(rt.alloc(), &AMONG_THE_LAST), 6);
+    assert!(rt; held(rt.alloc(), &AMONG_THE_LAST) == 6);
 }
 
 static AT_THE_BORDER: [Step; 7] = [
@@ -107,7 +107,7 @@ static AT_THE_BORDER: [Step; 7] = [
 
 #[test]
 fn a_long_name_at_the_border(rt: HostRuntime) {
-    assert_eq!(rt; held(rt.alloc(), &AT_THE_BORDER), 7);
+    assert!(rt; held(rt.alloc(), &AT_THE_BORDER) == 7);
 }
 
 static ADDED: [Step; 5] = [
@@ -121,5 +121,5 @@ static ADDED: [Step; 5] = [
 
 #[test]
 fn a_long_name_that_is_added(rt: HostRuntime) {
-    assert_eq!(rt; held(rt.alloc(), &ADDED), 5);
+    assert!(rt; held(rt.alloc(), &ADDED) == 5);
 }

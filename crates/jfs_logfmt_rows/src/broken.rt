@@ -119,13 +119,12 @@ fn rule_of(alloc: Global, bytes: &[u8]) -> Option<Rule> {
 #[test]
 fn first_rules(rt: HostRuntime) {
     let alloc = rt.alloc();
-    assert_eq!(rt; rule_of(alloc, &[]), Some(Rule::BadType));
-    assert_eq!(rt; rule_of(alloc, &[0x80; 35]), Some(Rule::BadType));
+    assert!(rt; rule_of(alloc, &[]) == Some(Rule::BadType));
+    assert!(rt; rule_of(alloc, &[0x80; 35]) == Some(Rule::BadType));
     for c in &cases() {
         let bytes = text(alloc, c).expect(&rt, "memory");
-        assert_eq!(rt;
-            rule_of(alloc, bytes.as_slice()),
-            c.rule,
+        assert!(rt;
+            rule_of(alloc, bytes.as_slice()) == c.rule,
             "at {} {} {} {}",
             c.number,
             c.length,
@@ -159,7 +158,7 @@ fn longest_list(rt: HostRuntime) {
     else {
         panic!(rt; "this is a list");
     };
-    assert_eq!(rt; list.len(), 8191);
+    assert!(rt; list.len() == 8191);
 }
 
 #[test]

@@ -150,17 +150,11 @@ fn reads_ranges(rt: HostRuntime) {
     };
     let first = ranges.get(0).expect(&rt, "there are two ranges");
     let second = ranges.get(1).expect(&rt, "there are two ranges");
-    assert_eq!(rt; ranges.len(), 2);
-    assert_eq!(rt; (first.first, first.bytes.len()), (2, 32));
-    assert_eq!(rt; (second.first, second.bytes.len()), (255, 16));
-    assert_eq!(rt;
-        (first.bytes.get(0), first.bytes.get(31)),
-        (Some(&1), Some(&32))
-    );
-    assert_eq!(rt;
-        (second.bytes.get(0), second.bytes.get(15)),
-        (Some(&41), Some(&56))
-    );
+    assert!(rt; ranges.len() == 2);
+    assert!(rt; (first.first, first.bytes.len()) == (2, 32));
+    assert!(rt; (second.first, second.bytes.len()) == (255, 16));
+    assert!(rt; (first.bytes.get(0), first.bytes.get(31)) == (Some(&1), Some(&32)));
+    assert!(rt; (second.bytes.get(0), second.bytes.get(15)) == (Some(&41), Some(&56)));
 }
 
 #[test]
@@ -187,9 +181,9 @@ fn reads_runs(rt: HostRuntime) {
     else {
         panic!(rt; "these are blocks");
     };
-    assert_eq!(rt; list.len(), 2);
-    assert_eq!(rt; list.get(0), Some(&Pxd { len: 4, addr: 100 }));
-    assert_eq!(rt; list.get(1), Some(&Pxd { len: 1, addr: 3007 }));
+    assert!(rt; list.len() == 2);
+    assert!(rt; list.get(0) == Some(&Pxd { len: 4, addr: 100 }));
+    assert!(rt; list.get(1) == Some(&Pxd { len: 1, addr: 3007 }));
 }
 
 /// A record's text.
@@ -208,15 +202,9 @@ fn writes_each_type(rt: HostRuntime) {
         tid: 1,
         back: 4_190_420,
     };
-    assert_eq!(rt;
-        written(alloc, &commit).expect(&rt, "memory").as_slice(),
-        COMMIT.as_slice()
-    );
+    assert!(rt; written(alloc, &commit).expect(&rt, "memory").as_slice() == COMMIT.as_slice());
     let syncpt = Record::SyncPt { sync: 8236 };
-    assert_eq!(rt;
-        written(alloc, &syncpt).expect(&rt, "memory").as_slice(),
-        SYNCPT.as_slice()
-    );
+    assert!(rt; written(alloc, &syncpt).expect(&rt, "memory").as_slice() == SYNCPT.as_slice());
     let no_redo = Record::NoRedo {
         tid: 2,
         back: 0,
@@ -225,10 +213,7 @@ fn writes_each_type(rt: HostRuntime) {
         kind: PageKind::Dtree,
         at: Pxd { len: 1, addr: 20 },
     };
-    assert_eq!(rt;
-        written(alloc, &no_redo).expect(&rt, "memory").as_slice(),
-        NO_REDO.as_slice()
-    );
+    assert!(rt; written(alloc, &no_redo).expect(&rt, "memory").as_slice() == NO_REDO.as_slice());
 }
 
 #[test]
@@ -245,10 +230,7 @@ fn writes_runs(rt: HostRuntime) {
         alloc: true,
         list,
     };
-    assert_eq!(rt;
-        written(alloc, &update).expect(&rt, "memory").as_slice(),
-        UPDATE.as_slice()
-    );
+    assert!(rt; written(alloc, &update).expect(&rt, "memory").as_slice() == UPDATE.as_slice());
 }
 
 #[test]
@@ -257,9 +239,9 @@ fn writes_ranges(rt: HostRuntime) {
     let r = redo(alloc).expect(&rt, "memory");
     let mut text = Vec::new(alloc);
     write_record(&r, &mut text).expect(&rt, "memory");
-    assert_eq!(rt; text.as_slice(), REDO.as_slice());
+    assert!(rt; text.as_slice() == REDO.as_slice());
     let (_, start) = there_and_back(alloc, text, &r, BLOCKS)
         .ok()
         .expect(&rt, "it is read back");
-    assert_eq!(rt; start, 92);
+    assert!(rt; start == 92);
 }

@@ -27,14 +27,14 @@ fn both_ways(rt: HostRuntime) {
     };
     let mut page = Page::zeros();
     write_log_super(&s, &mut page);
-    assert_eq!(rt; page.0[..68], BYTES[..]);
+    assert!(rt; page.0[..68] == BYTES[..]);
     assert!(rt; page.0[68..].iter().all(|b| *b == 0));
-    assert_eq!(rt; read_log_super(&page), Ok(s));
+    assert!(rt; read_log_super(&page) == Ok(s));
 
     let refused = Err(BadRecord { rule: Rule::Super });
     page.0[4] = 2;
-    assert_eq!(rt; read_log_super(&page), refused);
+    assert!(rt; read_log_super(&page) == refused);
     page.0[4] = 1;
     page.0[0] = 0x20;
-    assert_eq!(rt; read_log_super(&page), refused);
+    assert!(rt; read_log_super(&page) == refused);
 }

@@ -80,19 +80,19 @@ mod tests {
     fn control_rows(rt: HostRuntime) {
         let mut page = Page::zeros();
         free_control(&mut page);
-        assert_eq!(rt; page.0[17], 23, "root");
-        assert_eq!(rt; page.0[358], 23, "leaf 0");
-        assert_eq!(rt; page.0[359], 255, "leaf 1");
+        assert!(rt; page.0[17] == 23, "root");
+        assert!(rt; page.0[358] == 23, "leaf 0");
+        assert!(rt; page.0[359] == 255, "leaf 1");
         set_one(&mut page, 5, 4);
-        assert_eq!(rt; page.0[17], 22, "root");
+        assert!(rt; page.0[17] == 22, "root");
         for leaf in 0..1024 {
-            assert_eq!(rt; page.0[358 + leaf], leaf_of(leaf), "leaf {leaf}");
+            assert!(rt; page.0[358 + leaf] == leaf_of(leaf), "leaf {leaf}");
         }
         for (l2, leaf) in LOWEST {
-            assert_eq!(rt; find_one(&page, l2), leaf, "lowest {l2}");
+            assert!(rt; find_one(&page, l2) == leaf, "lowest {l2}");
         }
         set_one(&mut page, 5, 13);
-        assert_eq!(rt; page.0[358], 23, "leaf 0");
-        assert_eq!(rt; find_one(&page, 23), Some(0));
+        assert!(rt; page.0[358] == 23, "leaf 0");
+        assert!(rt; find_one(&page, 23) == Some(0));
     }
 }

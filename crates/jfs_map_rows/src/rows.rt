@@ -67,25 +67,25 @@ fn dmap_rows(rt: HostRuntime) {
     let mut page = Page::zeros();
     dmap_canonical(&set, 0, 3008, &mut page);
     for leaf in 0..256 {
-        assert_eq!(rt; page.0[118 + leaf], leaf_of(leaf), "leaf {leaf}");
+        assert!(rt; page.0[118 + leaf] == leaf_of(leaf), "leaf {leaf}");
     }
-    assert_eq!(rt; page.0[33], 10, "root");
+    assert!(rt; page.0[33] == 10, "root");
     // 2,975 blocks are free
-    assert_eq!(rt; page.0[4], 0x9f);
-    assert_eq!(rt; page.0[5], 0x0b);
+    assert!(rt; page.0[4] == 0x9f);
+    assert!(rt; page.0[5] == 0x0b);
     // block 33 is free, block 3,008 isn't there
-    assert_eq!(rt; page.0[2055], 0x80);
-    assert_eq!(rt; page.0[2424], 0xff);
+    assert!(rt; page.0[2055] == 0x80);
+    assert!(rt; page.0[2424] == 0xff);
     for (l2, first) in LOWEST {
-        assert_eq!(rt; dmap_find(&page, l2), first, "lowest {l2}");
+        assert!(rt; dmap_find(&page, l2) == first, "lowest {l2}");
     }
     assert!(rt; are_taken(&mut page, TAKEN.as_slice()));
-    assert_eq!(rt; take_and_give(&mut page, 1, 3008), Some(34));
+    assert!(rt; take_and_give(&mut page, 1, 3008) == Some(34));
     set_run(&mut set, 33, 1);
     set_run(&mut set, 40, 2136);
     let mut wanted = Page::zeros();
     dmap_canonical(&set, 0, 3008, &mut wanted);
     for at in 0..4096 {
-        assert_eq!(rt; page.0[at], wanted.0[at], "byte {at}");
+        assert!(rt; page.0[at] == wanted.0[at], "byte {at}");
     }
 }

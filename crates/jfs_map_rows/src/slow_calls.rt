@@ -253,8 +253,8 @@ fn slow_set(rt: HostRuntime) {
         let draw = (seed >> 33) as u32;
         let same = step(&mut map, alloc, &mut states, &mut held, draw, i).expect(&rt, "memory");
         assert!(rt; same, "call {i}");
-        assert_eq!(rt; map.free(), count_free(&states), "free after call {i}");
-        assert_eq!(rt; map.busy(), count_busy(&states), "busy after call {i}");
+        assert!(rt; map.free() == count_free(&states), "free after call {i}");
+        assert!(rt; map.busy() == count_busy(&states), "busy after call {i}");
         assert!(rt; answers_as(&map, &states), "questions after call {i}");
         if i % 40 == 39 {
             assert!(rt; are_canonical(&map, &states), "after call {i}");

@@ -51,7 +51,7 @@ fn numbers(rt: HostRuntime) {
         b"mkdir /a 000",
         b"mkdir /a 7777",
     ] {
-        assert_eq!(rt; error_of(alloc, line), None);
+        assert!(rt; error_of(alloc, line) == None);
     }
     for line in [
         b"truncate /f 18446744073709551616".as_slice(),
@@ -64,7 +64,7 @@ fn numbers(rt: HostRuntime) {
         b"fill /f 0 65537 00",
         b"fill /f 18446744073709486080 65536 ff",
     ] {
-        assert_eq!(rt; error_of(alloc, line), breaks(Rule::Number));
+        assert!(rt; error_of(alloc, line) == breaks(Rule::Number));
     }
 }
 
@@ -190,13 +190,13 @@ fn pieces(rt: HostRuntime) {
     // A piece of the source ends between a carriage return and its line feed.
     let text = repeated(alloc, b"#", b"x", 4094, b"\r\nsync\n").expect(&rt, "memory");
     let lines = script_of(alloc, &text).ok().expect(&rt, "a script");
-    assert_eq!(rt; lines.len(), 1);
-    assert_eq!(rt; lines[0].number, 2);
+    assert!(rt; lines.len() == 1);
+    assert!(rt; lines[0].number == 2);
     // And within a word.
     let text = repeated(alloc, b"#", b"x", 4092, b"\nsync\n").expect(&rt, "memory");
     let lines = script_of(alloc, &text).ok().expect(&rt, "a script");
-    assert_eq!(rt; lines.len(), 1);
-    assert_eq!(rt; lines[0].number, 2);
+    assert!(rt; lines.len() == 1);
+    assert!(rt; lines[0].number == 2);
 }
 
 #[test]
@@ -205,20 +205,14 @@ fn faults(rt: HostRuntime) {
     let mut source = MemSource::new(Vec::from_slice(alloc, b"foo\n").expect(
         &rt, "memory",
     )).with_fails(1, 1);
-    assert_eq!(rt;
-        read_script(alloc, &mut source).err(),
-        Some(ScriptError::Fault)
-    );
+    assert!(rt; read_script(alloc, &mut source).err() == Some(ScriptError::Fault));
     // A later fault comes before a bad line.
     let mut source = MemSource::new(Vec::from_slice(alloc, b"foo\n").expect(
         &rt, "memory",
     )).with_fails(2, 2);
-    assert_eq!(rt;
-        read_script(alloc, &mut source).err(),
-        Some(ScriptError::Fault)
-    );
+    assert!(rt; read_script(alloc, &mut source).err() == Some(ScriptError::Fault));
     let mut source = MemSource::new(Vec::from_slice(alloc, b"foo\n").expect(
         &rt, "memory",
     )).with_fails(3, 3);
-    assert_eq!(rt; read_script(alloc, &mut source).err(), breaks(Rule::Word));
+    assert!(rt; read_script(alloc, &mut source).err() == breaks(Rule::Word));
 }

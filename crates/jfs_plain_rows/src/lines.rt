@@ -90,20 +90,20 @@ fn first_rules(rt: HostRuntime) {
 fn first_bad_line(rt: HostRuntime) {
     let alloc = rt.alloc();
     let text = b"# one\n\r\nsync\n  \nstat a\nfoo\nsync\n";
-    assert_eq!(rt;
-        script_of(alloc, text).err(),
-        Some(ScriptError::BadScript {
-            line: 5,
-            rule: Rule::Path
-        })
+    assert!(rt;
+        script_of(alloc, text).err()
+            == Some(ScriptError::BadScript {
+                line: 5,
+                rule: Rule::Path
+            })
     );
     let text = b"# one\n\r\nsync\n  \nlazy unlink /a\r\n#\nstat /";
     let lines = script_of(alloc, text).ok().expect(&rt, "a script");
-    assert_eq!(rt; lines.len(), 3);
-    assert_eq!(rt; lines[0].number, 3);
-    assert_eq!(rt; lines[1].number, 5);
+    assert!(rt; lines.len() == 3);
+    assert!(rt; lines[0].number == 3);
+    assert!(rt; lines[1].number == 5);
     assert!(rt; lines[1].request.lazy);
-    assert_eq!(rt; lines[2].number, 7);
+    assert!(rt; lines[2].number == 7);
     assert!(rt; !lines[2].request.lazy);
 }
 
@@ -112,6 +112,6 @@ fn nothing_asked(rt: HostRuntime) {
     let alloc = rt.alloc();
     for text in [b"".as_slice(), b"\n", b"\n\n#\n", b"# sync"] {
         let lines = script_of(alloc, text).ok().expect(&rt, "a script");
-        assert_eq!(rt; lines.len(), 0);
+        assert!(rt; lines.len() == 0);
     }
 }

@@ -112,7 +112,7 @@ fn stats(rt: HostRuntime) {
         ),
     ] {
         let text = line_of(alloc, Reply::Attr(stat(kind, mode)), false).expect(&rt, "memory");
-        assert_eq!(rt; text.as_slice(), wanted);
+        assert!(rt; text.as_slice() == wanted);
     }
 }
 
@@ -167,6 +167,6 @@ fn refusals(rt: HostRuntime) {
         ),
     ] {
         let text = line_of(alloc, Reply::Refused(refusal), false).expect(&rt, "memory");
-        assert_eq!(rt; text.as_slice(), wanted);
+        assert!(rt; text.as_slice() == wanted);
     }
 }

@@ -300,5 +300,5 @@ fn prints_the_superblock(rt: HostRuntime) {
     let words = ["super", "I"];
     let disk = after(&rt, alloc, &words, sound_disk(alloc), Status::Done, LINES);
     assert!(rt; disk.is_some());
-    assert_eq!(rt; Status::Done.number(), 0);
+    assert!(rt; Status::Done.number() == 0);
 }

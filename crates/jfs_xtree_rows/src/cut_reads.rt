@@ -17,7 +17,7 @@ static WHOLE: [Step; 5] = [
 
 #[test]
 fn three_levels(rt: HostRuntime) {
-    assert_eq!(rt; held(rt.alloc(), &WHOLE), 5);
+    assert!(rt; held(rt.alloc(), &WHOLE) == 5);
 }
 
 static TEN_TIMES: [Step; 9] = [
@@ -35,7 +35,7 @@ static TEN_TIMES: [Step; 9] = [
 
 #[test]
 fn pages_that_name_one_child_ten_times(rt: HostRuntime) {
-    assert_eq!(rt; held(rt.alloc(), &TEN_TIMES), 9);
+    assert!(rt; held(rt.alloc(), &TEN_TIMES) == 9);
 }
 
 static ITSELF: [Step; 5] = [
@@ -49,7 +49,7 @@ static ITSELF: [Step; 5] = [
 
 #[test]
 fn a_page_that_names_itself(rt: HostRuntime) {
-    assert_eq!(rt; held(rt.alloc(), &ITSELF), 5);
+    assert!(rt; held(rt.alloc(), &ITSELF) == 5);
 }
 
 static SHARED: [Step; 5] = [
@@ -63,7 +63,7 @@ static SHARED: [Step; 5] = [
 
 #[test]
 fn pages_named_twice(rt: HostRuntime) {
-    assert_eq!(rt; held(rt.alloc(), &SHARED), 5);
+    assert!(rt; held(rt.alloc(), &SHARED) == 5);
 }
 
 static KEYS: [Step; 9] = [
@@ -83,7 +83,7 @@ static KEYS: [Step; 9] = [
 
 #[test]
 fn keys_that_do_not_fit(rt: HostRuntime) {
-    assert_eq!(rt; held(rt.alloc(), &KEYS), 9);
+    assert!(rt; held(rt.alloc(), &KEYS) == 9);
 }
 
 static LEVELS: [Step; 5] = [
@@ -97,5 +97,5 @@ static LEVELS: [Step; 5] = [
 
 #[test]
 fn leaves_at_one_level(rt: HostRuntime) {
-    assert_eq!(rt; held(rt.alloc(), &LEVELS), 5);
+    assert!(rt; held(rt.alloc(), &LEVELS) == 5);
 }

@@ -19,7 +19,7 @@ static OF_ROOT: [Step; 9] = [
 
 #[test]
 fn extents_of_a_root(rt: HostRuntime) {
-    assert_eq!(rt; held(rt.alloc(), &OF_ROOT), 9);
+    assert!(rt; held(rt.alloc(), &OF_ROOT) == 9);
 }
 
 static OF_PAGES: [Step; 7] = [
@@ -34,7 +34,7 @@ static OF_PAGES: [Step; 7] = [
 
 #[test]
 fn extents_of_pages(rt: HostRuntime) {
-    assert_eq!(rt; held(rt.alloc(), &OF_PAGES), 7);
+    assert!(rt; held(rt.alloc(), &OF_PAGES) == 7);
 }
 
 static BROKEN_ROOT: [Step; 20] = [
@@ -62,7 +62,7 @@ static BROKEN_ROOT: [Step; 20] = [
 
 #[test]
 fn a_root_that_breaks_a_rule(rt: HostRuntime) {
-    assert_eq!(rt; held(rt.alloc(), &BROKEN_ROOT), 20);
+    assert!(rt; held(rt.alloc(), &BROKEN_ROOT) == 20);
 }
 
 static BROKEN_PAGE: [Step; 17] = [
@@ -88,7 +88,7 @@ static BROKEN_PAGE: [Step; 17] = [
 
 #[test]
 fn a_page_that_breaks_a_rule(rt: HostRuntime) {
-    assert_eq!(rt; held(rt.alloc(), &BROKEN_PAGE), 17);
+    assert!(rt; held(rt.alloc(), &BROKEN_PAGE) == 17);
 }
 
 static ITSELF: [Step; 4] = [
@@ -100,12 +100,12 @@ static ITSELF: [Step; 4] = [
 
 #[test]
 fn a_page_that_names_itself(rt: HostRuntime) {
-    assert_eq!(rt; held(rt.alloc(), &ITSELF), 4);
+    assert!(rt; held(rt.alloc(), &ITSELF) == 4);
 }
 
 static UNREAD: [Step; 4] = [Inner, Lose(2), Fault(8, 1), Find(4, 3, 3, 20)];
 
 #[test]
 fn a_page_that_cannot_be_read(rt: HostRuntime) {
-    assert_eq!(rt; held(rt.alloc(), &UNREAD), 4);
+    assert!(rt; held(rt.alloc(), &UNREAD) == 4);
 }

@@ -28,7 +28,7 @@ static THREE: [Step; 2] = [
 
 #[test]
 fn three_levels(rt: HostRuntime) {
-    assert_eq!(rt; held(rt.alloc(), &THREE), 2);
+    assert!(rt; held(rt.alloc(), &THREE) == 2);
 }
 
 static NO_PAGES: [Step; 6] = [
@@ -53,7 +53,7 @@ fn is_one(alloc: Global, rack: &mut Rack) -> bool {
 
 #[test]
 fn roots_without_pages(rt: HostRuntime) {
-    assert_eq!(rt; held(rt.alloc(), &NO_PAGES), 6);
+    assert!(rt; held(rt.alloc(), &NO_PAGES) == 6);
     let mut rack = Rack::three_levels(rt.alloc()).expect(&rt, "memory");
     assert!(rt; is_one(rt.alloc(), &mut rack));
 }
@@ -78,7 +78,7 @@ static ROOTS: [Step; 14] = [
 
 #[test]
 fn a_root_breaks_each_rule(rt: HostRuntime) {
-    assert_eq!(rt; held(rt.alloc(), &ROOTS), 14);
+    assert!(rt; held(rt.alloc(), &ROOTS) == 14);
 }
 
 static MIDDLE: [Step; 12] = [
@@ -98,7 +98,7 @@ static MIDDLE: [Step; 12] = [
 
 #[test]
 fn a_middle_page_breaks_each_rule(rt: HostRuntime) {
-    assert_eq!(rt; held(rt.alloc(), &MIDDLE), 12);
+    assert!(rt; held(rt.alloc(), &MIDDLE) == 12);
 }
 
 static LEAF: [Step; 15] = [
@@ -122,7 +122,7 @@ static LEAF: [Step; 15] = [
 
 #[test]
 fn a_leaf_breaks_each_rule(rt: HostRuntime) {
-    assert_eq!(rt; held(rt.alloc(), &LEAF), 15);
+    assert!(rt; held(rt.alloc(), &LEAF) == 15);
 }
 
 static KEYS: [Step; 13] = [
@@ -147,7 +147,7 @@ static KEYS: [Step; 13] = [
 
 #[test]
 fn keys_across_pages(rt: HostRuntime) {
-    assert_eq!(rt; held(rt.alloc(), &KEYS), 13);
+    assert!(rt; held(rt.alloc(), &KEYS) == 13);
 }
 
 static TWICE: [Step; 11] = [
@@ -169,7 +169,7 @@ static TWICE: [Step; 11] = [
 
 #[test]
 fn pages_named_twice(rt: HostRuntime) {
-    assert_eq!(rt; held(rt.alloc(), &TWICE), 11);
+    assert!(rt; held(rt.alloc(), &TWICE) == 11);
 }
 
 static ONE_LEVEL: [Step; 5] = [
@@ -184,7 +184,7 @@ static ONE_LEVEL: [Step; 5] = [
 
 #[test]
 fn leaves_at_one_level(rt: HostRuntime) {
-    assert_eq!(rt; held(rt.alloc(), &ONE_LEVEL), 5);
+    assert!(rt; held(rt.alloc(), &ONE_LEVEL) == 5);
 }
 
 static NINTH: [Step; 7] = [
@@ -200,7 +200,7 @@ static NINTH: [Step; 7] = [
 
 #[test]
 fn a_ninth_level(rt: HostRuntime) {
-    assert_eq!(rt; held(rt.alloc(), &NINTH), 7);
+    assert!(rt; held(rt.alloc(), &NINTH) == 7);
 }
 
 #[rattlefmt::skip]
@@ -215,5 +215,5 @@ static UNREAD: [Step; 24] = [
 
 #[test]
 fn each_read_fails(rt: HostRuntime) {
-    assert_eq!(rt; held(rt.alloc(), &UNREAD), 24);
+    assert!(rt; held(rt.alloc(), &UNREAD) == 24);
 }

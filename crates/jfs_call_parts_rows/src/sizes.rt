@@ -1,0 +1,166 @@
+//! Sizes that a file gets.
+
+use crate::volume::{
+    BLOCKS, MADE, SIZE, append, fill_of, freed_by, is_short, map_of_objects, page_of, path_of,
+    volume_of_objects,
+};
+use jfs_bits::{Blob, Moment};
+use jfs_disk::{Disk, Part, SureDisk};
+use jfs_imap::InodeMap;
+use jfs_inode::inode_in;
+use jfs_name::Path;
+use jfs_plain::{Call, PlainTree, Refusal, Reply};
+use jfs_read::read_bytes;
+use jfs_reader::DiskView;
+use jfs_truncate::{Truncated, truncate};
+use std::alloc::Global;
+use std::test::*;
+
+/// No file may be larger.
+const LIMIT: u64 = 40_000;
+
+/// How many blocks are written, and how many are freed.
+type Counts = (usize, u32);
+
+/// When the file gets a size.
+const NOW: Moment = Moment { sec: 2000, nano: 9 };
+
+fn truncated(
+    alloc: Global,
+    disk: &mut SureDisk,
+    map: &InodeMap,
+    unit: u16,
+    size: u64,
+) -> Option<Result<Truncated, Refusal>> {
+    let path = path_of(alloc, unit)?;
+    let path = path.as_slice();
+    if disk.pages() < BLOCKS || !is_short(path) {
+        return None;
+    }
+    let mut view = DiskView::new(disk, Part::Whole, BLOCKS);
+    Some(truncate(alloc, &mut view, map, path, size, LIMIT, NOW))
+}
+
+/// The file's bytes on the volume, in its first 40,000.
+fn bytes_on(alloc: Global, disk: &mut SureDisk, map: &InodeMap) -> Option<Blob> {
+    let path = path_of(alloc, 97)?;
+    let path = path.as_slice();
+    if disk.pages() < BLOCKS || !is_short(path) {
+        return None;
+    }
+    let mut view = DiskView::new(disk, Part::Whole, BLOCKS);
+    read_bytes(alloc, &mut view, map, path, 0, 40_000).ok()
+}
+
+/// The plain tree whose root directory names `a` this file, as inode 4.
+fn plain_tree(alloc: Global) -> Option<PlainTree> {
+    let mut tree = PlainTree::new(alloc, LIMIT, MADE).ok()?;
+    let path = path_of(alloc, 97)?;
+    stepped(&mut tree, &Call::Create { path, mode: 0o644 }, MADE)?;
+    for k in 0..5u32 {
+        let path = path_of(alloc, 97)?;
+        let offset = u64::from(4096 * k);
+        let call = Call::Fill {
+            path,
+            offset,
+            count: if k == 4 { 3616 } else { 4096 },
+            byte: fill_of(k),
+        };
+        stepped(&mut tree, &call, MADE)?;
+    }
+    Some(tree)
+}
+
+/// What a call is answered by the plain tree.
+fn stepped(tree: &mut PlainTree, call: &Call, now: Moment) -> Option<Reply> {
+    let fresh = if tree.is_free(4) { 4 } else { 7 };
+    if !tree.is_free(fresh) {
+        return None;
+    }
+    Some(tree.step(call, fresh, now))
+}
+
+/// Whether the file has the size, the time and the bytes of the plain tree's.
+fn is_same(alloc: Global, disk: &mut SureDisk, map: &InodeMap, tree: &mut PlainTree) -> bool {
+    let Some(bytes) = bytes_on(alloc, disk, map) else {
+        return false;
+    };
+    let Some(path) = path_of(alloc, 97) else {
+        return false;
+    };
+    let read = Call::Read {
+        path,
+        offset: 0,
+        count: 40_000,
+    };
+    let Some(Reply::Bytes(others)) = stepped(tree, &read, NOW) else {
+        return false;
+    };
+    let d = inode_in(&page_of(disk, 29), 4);
+    let Some(node) = tree.node(4) else {
+        return false;
+    };
+    d.size == node.size && d.mtime == node.times.modified && bytes.as_slice() == others.as_slice()
+}
+
+/// What becomes of both when a path's object gets a size: how many blocks are written and freed, or why it isn't, and whether the file is the same then.
+fn resized(
+    alloc: Global,
+    disk: &mut SureDisk,
+    map: &InodeMap,
+    tree: &mut PlainTree,
+    unit: u16,
+    size: u64,
+) -> Option<Result<Counts, Refusal>> {
+    let path: Path = path_of(alloc, unit)?;
+    let reply = stepped(tree, &Call::Truncate { path, size }, NOW)?;
+    let came = truncated(alloc, disk, map, unit, size)?;
+    let counts = match (came, reply) {
+        (Ok(out), Reply::Done) => {
+            let counts = (out.blocks.len(), freed_by(&out.tx));
+            if !append(disk, &out.blocks, &out.tx) {
+                return None;
+            }
+            Ok(counts)
+        }
+        (Err(why), _) => Err(why),
+        _ => return None,
+    };
+    if is_same(alloc, disk, map, tree) {
+        Some(counts)
+    } else {
+        None
+    }
+}
+
+/// What is named, the size that it gets, and what comes of it. A size inside a block zeroes what follows there; one at its end frees the blocks behind alone; a larger one
+/// makes a hole, in which no block is written.
+static ROWS: [(u16, u64, Result<Counts, Refusal>); 14] = [
+    (97, SIZE, Ok((1, 0))),
+    (97, 9000, Ok((1, 2))),
+    (97, 8192, Ok((0, 1))),
+    (97, 30_000, Ok((0, 0))),
+    (97, 20_001, Ok((0, 0))),
+    (97, 8195, Ok((0, 0))),
+    (97, 4097, Ok((1, 0))),
+    (97, 40_000, Ok((1, 0))),
+    (97, 40_001, Err(Refusal::FileTooBig)),
+    (0, 1, Err(Refusal::IsDir)),
+    (98, 1, Err(Refusal::NotFile)),
+    (99, 1, Err(Refusal::NotFound)),
+    (97, 0, Ok((0, 2))),
+    (97, 10, Ok((0, 0))),
+];
+
+#[test]
+fn files_get_sizes(rt: HostRuntime) {
+    let alloc = rt.alloc();
+    let map = map_of_objects(alloc).expect(&rt, "memory");
+    let mut disk = volume_of_objects(alloc).expect(&rt, "a volume");
+    let mut tree = plain_tree(alloc).expect(&rt, "a tree");
+    assert!(rt; is_same(alloc, &mut disk, &map, &mut tree));
+    for (unit, size, wanted) in ROWS.iter() {
+        let came = resized(alloc, &mut disk, &map, &mut tree, *unit, *size);
+        assert!(rt; came == Some(*wanted), "{size}");
+    }
+}
