@@ -72,7 +72,7 @@ fn runs_by_hand(rt: HostRuntime) {
     assert!(rt; owners.free() == 33);
 }
 
-static EXTENTS: [Option<u64>; 4] = [Some(1), None, Some(5), Some(10)];
+static EXTENTS: [Option<u32>; 4] = [Some(1), None, Some(5), Some(10)];
 
 #[test]
 fn extents_by_hand(rt: HostRuntime) {

@@ -13,7 +13,7 @@ struct Sectors {
 }
 
 // Entries 1 and 2 go home, then entry 3; entry 4 is taken by a group that is still open.
-const STEPS: [Do; 16] = [
+static STEPS: [Do; 16] = [
     Do::Set(0, 0, 1),
     Do::Set(1, 96, 2),
     Do::Take,
@@ -166,7 +166,7 @@ fn redoes_every_crash(rt: HostRuntime) {
 }
 
 // Entries 1 and 2 are stable at home, and the sync count 2 is stable in the log; entry 3 is durable.
-const SYNCED: [Do; 13] = [
+static SYNCED: [Do; 13] = [
     Do::Set(0, 0, 1),
     Do::Set(1, 96, 2),
     Do::Take,
@@ -183,7 +183,7 @@ const SYNCED: [Do; 13] = [
 ];
 
 // The page failed to go home after its first sector: what a read gives is pending, and the page's bytes.
-const FAILED: [Do; 5] = [
+static FAILED: [Do; 5] = [
     Do::Set(0, 0, 1),
     Do::Take,
     Do::Group,
@@ -192,7 +192,7 @@ const FAILED: [Do; 5] = [
 ];
 
 // One line is set twice, and the page is written back.
-const TWICE: [Do; 6] = [
+static TWICE: [Do; 6] = [
     Do::Set(0, 0, 1),
     Do::Set(0, 0, 2),
     Do::Take,

@@ -14,7 +14,7 @@ struct Case {
 }
 
 // Lines that begin in page 5.
-const CASES: [Case; 9] = [
+static CASES: [Case; 9] = [
     Case {
         kind: PageKind::Xtree,
         first: 3,

@@ -60,7 +60,7 @@ const NOT_SYNCED: Option<StepRefused> = Some(StepRefused {
 });
 
 // One page of zeros, and the stages one after another.
-const STAGES: [Stage; 9] = [
+static STAGES: [Stage; 9] = [
     // Entry 1 sets sector 0's first line, is acknowledged, and goes home. The disk holds the zeros, stable, and the page after
     // entry 1, pending: entry 1 is unsynced.
     Stage {

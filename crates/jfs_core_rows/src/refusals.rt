@@ -7,7 +7,7 @@ struct Case {
     refused: Option<(u32, Why)>,
 }
 
-const CASES: [Case; 26] = [
+static CASES: [Case; 26] = [
     // The log has halted; its group stays open.
     Case {
         steps: &[Do::Set(0, 0, 1), Do::Take, Do::FailGroup, Do::Group],

@@ -6,7 +6,7 @@ use crate::steps::held;
 use crate::units::Kind::Long;
 use std::test::*;
 
-static AT_THE_END: [Step; 11] = [
+const AT_THE_END: &'static [Step] = &[
     // the first name is too long for the root, which moves down
     AddAll(Long, 0, 7),
     Is(Pages(1)),
@@ -24,19 +24,9 @@ static AT_THE_END: [Step; 11] = [
     FindAll(Long, 410),
 ];
 
-#[test]
-fn names_at_the_end(rt: HostRuntime) {
-    assert!(rt; held(rt.alloc(), &AT_THE_END) == 11);
-}
+const BEFORE_OTHERS: &'static [Step] = &[AddDown(Long, 200, 200), FindAll(Long, 210)];
 
-static BEFORE_OTHERS: [Step; 2] = [AddDown(Long, 200, 200), FindAll(Long, 210)];
-
-#[test]
-fn names_before_others(rt: HostRuntime) {
-    assert!(rt; held(rt.alloc(), &BEFORE_OTHERS) == 2);
-}
-
-static FIRST_CHILD: [Step; 12] = [
+const FIRST_CHILD: &'static [Step] = &[
     AddAll(Long, 0, 71),
     Is(Pages(14)),
     // the second inner page's first leaf, with names 56 to 62, is empty then
@@ -53,7 +43,16 @@ static FIRST_CHILD: [Step; 12] = [
     FindAll(Long, 80),
 ];
 
+/// What is looked at, and its steps.
+static ROWS: [(&str, &[Step]); 3] = [
+    ("names at the end", AT_THE_END),
+    ("names before others", BEFORE_OTHERS),
+    ("the first child goes", FIRST_CHILD),
+];
+
 #[test]
-fn the_first_child_goes(rt: HostRuntime) {
-    assert!(rt; held(rt.alloc(), &FIRST_CHILD) == 12);
+fn rows_hold(rt: HostRuntime) {
+    for (what, steps) in ROWS.iter() {
+        assert!(rt; held(rt.alloc(), steps) == steps.len(), "{what}");
+    }
 }

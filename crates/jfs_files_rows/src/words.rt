@@ -8,7 +8,7 @@ use std::alloc::{AllocError, Global};
 pub type Word = (u32, usize, u32);
 
 /// Inode 2, the root: mode 0755, 2 links, and the names `a` to `d` of the inodes 4 to 7 in slots 1 to 4 of its tree's root. Slots 5 to 8 are free.
-const ROOT: [Word; 20] = [
+static ROOT: [Word; 20] = [
     (29, 1032, 2),
     (29, 1048, 1),
     (29, 1064, 2),
@@ -32,7 +32,7 @@ const ROOT: [Word; 20] = [
 ];
 
 /// Inode 4, a regular file of the four bytes of block 42; 5, a symbolic link to `xyz`; 6, one of 4,098 bytes, which are those of block 43 and two of a hole; 7, a device.
-const OTHERS: [Word; 26] = [
+static OTHERS: [Word; 26] = [
     (29, 2056, 4),
     (29, 2072, 4),
     (29, 2088, 1),

@@ -43,7 +43,7 @@ fn root() -> Dinode
 }
 
 /// The first 128 bytes of `root`, in a slot whose bytes were 0x55.
-const BYTES: [u8; 128] = [
+static BYTES: [u8; 128] = [
     0x04, 0x03, 0x02, 0x01, 16, 0, 0, 0, 2, 0, 0, 0, 7, 0, 0, 0, // stamp, fileset, number, generation
     4, 0, 0, 0, 29, 0, 0, 0, 0x88, 0x77, 0x66, 0x55, 0x44, 0x33, 0x22, 0x11, // extent, size
     0x10, 0, 0, 0, 0, 0, 0, 0, 2, 0, 0, 0, 0xe8, 0x03, 0, 0, // blocks, links, user

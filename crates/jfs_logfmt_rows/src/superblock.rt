@@ -6,7 +6,7 @@ use uuid::Uuid;
 
 // Magic 0x87654321, version 1, serial 0, 1,024 pages, blocks of 4,096 bytes and their logarithm 12,
 // flag, state and end 0, the volume's uuid, the label.
-const BYTES: [u8; 68] = [
+static BYTES: [u8; 68] = [
     0x21, 0x43, 0x65, 0x87, 1, 0, 0, 0, 0, 0, 0, 0, 0, 4, 0, 0, 0, 0x10, 0, 0, 12, 0, 0, 0, 0, 0,
     0, 0, 0, 0, 0, 0, 0, 0, 0, 0, 0xa0, 0xa1, 0xa2, 0xa3, 0xa4, 0xa5, 0xa6, 0xa7, 0xa8, 0xa9, 0xaa,
     0xab, 0xac, 0xad, 0xae, 0xaf, b'j', b'f', b's', b'd', b' ', b'p', b'r', b'o', b'f', b'i', b'l',

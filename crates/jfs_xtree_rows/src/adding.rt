@@ -10,7 +10,7 @@ use std::test::*;
 const ROOT: u32 = 4294967295;
 
 /// Blocks 10 to 12 and 20 to 22 are taken: what begins, ends or lies in them or around them isn't.
-static OVERLAPS: [Step; 12] = [
+const OVERLAPS: &'static [Step] = &[
     Add(10, 3),
     Add(20, 3),
     Refuse(10, 3, ROOT),
@@ -26,12 +26,7 @@ static OVERLAPS: [Step; 12] = [
     Pages(0),
 ];
 
-#[test]
-fn overlaps_are_refused(rt: HostRuntime) {
-    assert!(rt; held(rt.alloc(), &OVERLAPS) == 12);
-}
-
-static AT_THE_END: [Step; 9] = [
+const AT_THE_END: &'static [Step] = &[
     AddAll(0, 16, 3, 2),
     Pages(0),
     // a root has 16 entries, and a page 254
@@ -45,32 +40,17 @@ static AT_THE_END: [Step; 9] = [
     Agree(1600),
 ];
 
-#[test]
-fn extents_at_the_end(rt: HostRuntime) {
-    assert!(rt; held(rt.alloc(), &AT_THE_END) == 9);
-}
-
-static BEFORE_OTHERS: [Step; 3] = [
+const BEFORE_OTHERS: &'static [Step] = &[
     AddDown(600),
     // a page that is full at 254 entries keeps 127 and the new one: entries 17, 255, 382 and 509 take a page
     Pages(4),
     Agree(1300),
 ];
 
-#[test]
-fn extents_before_others(rt: HostRuntime) {
-    assert!(rt; held(rt.alloc(), &BEFORE_OTHERS) == 3);
-}
-
-static BETWEEN: [Step; 3] = [AddAll(0, 300, 4, 1), AddBetween(300), Agree(1300)];
-
-#[test]
-fn extents_between_others(rt: HostRuntime) {
-    assert!(rt; held(rt.alloc(), &BETWEEN) == 3);
-}
+const BETWEEN: &'static [Step] = &[AddAll(0, 300, 4, 1), AddBetween(300), Agree(1300)];
 
 /// The first leaf's extents are two blocks each from 30 on. What shares a block with the first one is refused though its place is the first, and so it is behind a second leaf's key.
-static AT_THE_FIRST_PLACE: [Step; 9] = [
+const AT_THE_FIRST_PLACE: &'static [Step] = &[
     AddAll(10, 264, 3, 2),
     Pages(1),
     Refuse(29, 2, 0),
@@ -82,12 +62,7 @@ static AT_THE_FIRST_PLACE: [Step; 9] = [
     Agree(900),
 ];
 
-#[test]
-fn overlaps_at_the_first_place(rt: HostRuntime) {
-    assert!(rt; held(rt.alloc(), &AT_THE_FIRST_PLACE) == 9);
-}
-
-static BESIDE_ATTRIBUTES: [Step; 14] = [
+const BESIDE_ATTRIBUTES: &'static [Step] = &[
     Narrow,
     Add(10, 3),
     StaysNarrow,
@@ -106,7 +81,19 @@ static BESIDE_ATTRIBUTES: [Step; 14] = [
     StaysNarrow,
 ];
 
+/// What is looked at, and its steps.
+static ROWS: [(&str, &[Step]); 6] = [
+    ("overlaps are refused", OVERLAPS),
+    ("extents at the end", AT_THE_END),
+    ("extents before others", BEFORE_OTHERS),
+    ("extents between others", BETWEEN),
+    ("overlaps at the first place", AT_THE_FIRST_PLACE),
+    ("a root beside attributes", BESIDE_ATTRIBUTES),
+];
+
 #[test]
-fn a_root_beside_attributes(rt: HostRuntime) {
-    assert!(rt; held(rt.alloc(), &BESIDE_ATTRIBUTES) == 14);
+fn rows_hold(rt: HostRuntime) {
+    for (what, steps) in ROWS.iter() {
+        assert!(rt; held(rt.alloc(), steps) == steps.len(), "{what}");
+    }
 }

@@ -5,7 +5,7 @@ use crate::trees::held;
 use jfs_bits::Rule;
 use std::test::*;
 
-static READS: [Step; 10] = [
+const READS: &'static [Step] = &[
     Inner,
     Cut(0),
     Lose(1),
@@ -19,12 +19,7 @@ static READS: [Step; 10] = [
     CutFault(9, 5),
 ];
 
-#[test]
-fn reads_that_fail(rt: HostRuntime) {
-    assert!(rt; held(rt.alloc(), &READS) == 10);
-}
-
-static PAGES: [Step; 8] = [
+const PAGES: &'static [Step] = &[
     Inner,
     Head(2, 3, 4, 256),
     CutBad(0, 2, Rule::Flag),
@@ -36,7 +31,15 @@ static PAGES: [Step; 8] = [
     CutBad(9, 2, Rule::Deep),
 ];
 
+/// What is looked at, and its steps.
+static ROWS: [(&str, &[Step]); 2] = [
+    ("reads that fail", READS),
+    ("pages that break a rule", PAGES),
+];
+
 #[test]
-fn pages_that_break_a_rule(rt: HostRuntime) {
-    assert!(rt; held(rt.alloc(), &PAGES) == 8);
+fn rows_hold(rt: HostRuntime) {
+    for (what, steps) in ROWS.iter() {
+        assert!(rt; held(rt.alloc(), steps) == steps.len(), "{what}");
+    }
 }

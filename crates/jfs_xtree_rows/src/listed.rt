@@ -12,7 +12,7 @@ use std::alloc::Global;
 use std::test::*;
 
 // each page is read once
-static THREE: [Step; 2] = [
+const THREE: &'static [Step] = &[
     Lists(&[
         (3, 2, 20),
         (5, 1, 23),
@@ -25,11 +25,6 @@ static THREE: [Step; 2] = [
     ]),
     Reads(6),
 ];
-
-#[test]
-fn three_levels(rt: HostRuntime) {
-    assert!(rt; held(rt.alloc(), &THREE) == 2);
-}
 
 static NO_PAGES: [Step; 6] = [
     Root((9, 1, 30)),
@@ -59,7 +54,7 @@ fn roots_without_pages(rt: HostRuntime) {
 }
 
 // none of them reads a page
-static ROOTS: [Step; 14] = [
+const ROOTS: &'static [Step] = &[
     RootHead(0x84, 4, 18),
     Refuse(ROOT, Rule::Flag),
     RootHead(0x85, 4, 11),
@@ -76,12 +71,7 @@ static ROOTS: [Step; 14] = [
     Reads(0),
 ];
 
-#[test]
-fn a_root_breaks_each_rule(rt: HostRuntime) {
-    assert!(rt; held(rt.alloc(), &ROOTS) == 14);
-}
-
-static MIDDLE: [Step; 12] = [
+const MIDDLE: &'static [Step] = &[
     Head(2, 5, 4, 256),
     Refuse(2, Rule::Flag),
     Head(2, 4, 4, 18),
@@ -96,12 +86,7 @@ static MIDDLE: [Step; 12] = [
     Refuse(2, Rule::Deep),
 ];
 
-#[test]
-fn a_middle_page_breaks_each_rule(rt: HostRuntime) {
-    assert!(rt; held(rt.alloc(), &MIDDLE) == 12);
-}
-
-static LEAF: [Step; 15] = [
+const LEAF: &'static [Step] = &[
     Head(6, 3, 4, 256),
     Refuse(6, Rule::Flag),
     Head(6, 2, 4, 18),
@@ -120,12 +105,7 @@ static LEAF: [Step; 15] = [
     Refuse(3, Rule::Deep),
 ];
 
-#[test]
-fn a_leaf_breaks_each_rule(rt: HostRuntime) {
-    assert!(rt; held(rt.alloc(), &LEAF) == 15);
-}
-
-static KEYS: [Step; 13] = [
+const KEYS: &'static [Step] = &[
     // the key is the first block below it
     Root((39, 1, 2)),
     Refuse(5, Rule::Order),
@@ -145,12 +125,7 @@ static KEYS: [Step; 13] = [
     Listed,
 ];
 
-#[test]
-fn keys_across_pages(rt: HostRuntime) {
-    assert!(rt; held(rt.alloc(), &KEYS) == 13);
-}
-
-static TWICE: [Step; 11] = [
+const TWICE: &'static [Step] = &[
     // page 1 once more
     Root((40, 1, 1)),
     Refuse(3, Rule::Order),
@@ -167,12 +142,7 @@ static TWICE: [Step; 11] = [
     Reads(7),
 ];
 
-#[test]
-fn pages_named_twice(rt: HostRuntime) {
-    assert!(rt; held(rt.alloc(), &TWICE) == 11);
-}
-
-static ONE_LEVEL: [Step; 5] = [
+const ONE_LEVEL: &'static [Step] = &[
     // a leaf above the level of the first one
     Root((50, 1, 6)),
     Refuse(6, Rule::Deep),
@@ -182,12 +152,7 @@ static ONE_LEVEL: [Step; 5] = [
     Refuse(2, Rule::Deep),
 ];
 
-#[test]
-fn leaves_at_one_level(rt: HostRuntime) {
-    assert!(rt; held(rt.alloc(), &ONE_LEVEL) == 5);
-}
-
-static NINTH: [Step; 7] = [
+const NINTH: &'static [Step] = &[
     RootHead(0x85, 3, 18),
     Chain(6),
     Lists(&[(3, 2, 20), (5, 1, 23)]),
@@ -198,13 +163,8 @@ static NINTH: [Step; 7] = [
     Reads(7),
 ];
 
-#[test]
-fn a_ninth_level(rt: HostRuntime) {
-    assert!(rt; held(rt.alloc(), &NINTH) == 7);
-}
-
 #[rattlefmt::skip]
-static UNREAD: [Step; 24] = [
+const UNREAD: &'static [Step] = &[
     Three, Lose(1), Fault, Reads(0),
     Three, Lose(3), Fault, Reads(1),
     Three, Lose(4), Fault, Reads(2),
@@ -213,7 +173,22 @@ static UNREAD: [Step; 24] = [
     Three, Lose(6), Fault, Reads(5),
 ];
 
+/// What is looked at, and its steps.
+static ROWS: [(&str, &[Step]); 9] = [
+    ("three levels", THREE),
+    ("a root breaks each rule", ROOTS),
+    ("a middle page breaks each rule", MIDDLE),
+    ("a leaf breaks each rule", LEAF),
+    ("keys across pages", KEYS),
+    ("pages named twice", TWICE),
+    ("leaves at one level", ONE_LEVEL),
+    ("a ninth level", NINTH),
+    ("each read fails", UNREAD),
+];
+
 #[test]
-fn each_read_fails(rt: HostRuntime) {
-    assert!(rt; held(rt.alloc(), &UNREAD) == 24);
+fn rows_hold(rt: HostRuntime) {
+    for (what, steps) in ROWS.iter() {
+        assert!(rt; held(rt.alloc(), steps) == steps.len(), "{what}");
+    }
 }
