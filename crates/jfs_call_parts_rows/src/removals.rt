@@ -1,6 +1,6 @@
 //! Directories that go.
 
-use crate::unlinks::{Left, left_by, map_of_five, why_kept};
+use crate::unlinks::{Left, left, map_of_five, why_kept};
 use crate::volume::{BLOCKS, Word, is_short, path_of, volume_with};
 use jfs_bits::Moment;
 use jfs_disk::{Disk, Part, SureDisk};
@@ -30,17 +30,27 @@ fn removed(
     Some(remove_directory(alloc, &mut view, map, path, NOW))
 }
 
-/// What a removal leaves of a new volume with these words, or why it is refused. An unlink of `a` is refused, since it is a directory.
+/// What a removal leaves, or why it is refused. An unlink of `a` is refused, since it is a directory.
+fn answered(
+    alloc: Global,
+    disk: &mut SureDisk,
+    map: &InodeMap,
+    unit: u16,
+) -> Option<Result<Left, Refusal>> {
+    if why_kept(alloc, disk, map, 97) != Some(Refusal::IsDir) {
+        return None;
+    }
+    match removed(alloc, disk, map, unit)? {
+        Ok(tx) => left(alloc, disk, &tx),
+        Err(why) => Some(Err(why)),
+    }
+}
+
+/// The same of a new volume with these words.
 fn came(alloc: Global, words: &[Word], unit: u16) -> Option<Result<Left, Refusal>> {
     let map = map_of_five(alloc)?;
     let mut disk = volume_with(alloc, words)?;
-    if why_kept(alloc, &mut disk, &map, 97) != Some(Refusal::IsDir) {
-        return None;
-    }
-    match removed(alloc, &mut disk, &map, unit)? {
-        Ok(tx) => Some(Ok(left_by(alloc, &mut disk, &tx)?)),
-        Err(why) => Some(Err(why)),
-    }
+    answered(alloc, &mut disk, &map, unit)
 }
 
 /// Inode 4 is an empty directory, which the root directory names `a`.

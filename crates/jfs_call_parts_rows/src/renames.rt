@@ -166,24 +166,28 @@ enum Step {
     OverFile,
 }
 
+fn made<V: PageView>(alloc: Global, view: &mut V, map: &InodeMap, step: Step) -> Option<Tx> {
+    match step {
+        Step::Gain => gained(alloc, view, map),
+        Step::Lead => led(alloc, view, map),
+        Step::Lose => lost(alloc, view, map),
+        Step::Leave => gone(alloc, view, map),
+        Step::Displace => displaced(alloc, view, map),
+        Step::Arrive => arrived(alloc, view, map),
+        Step::ToRoot => moved(alloc, view, map, 0),
+        Step::ToDirectory => moved(alloc, view, map, 100),
+        Step::OverLink => moved_over(alloc, view, map, 97, 98),
+        Step::OverFile => moved_over(alloc, view, map, 98, 97),
+    }
+}
+
 fn done(alloc: Global, disk: &mut SureDisk, step: Step) -> Option<Tx> {
     let map = map_of_objects(alloc).ok()?;
     if disk.pages() < BLOCKS {
         return None;
     }
     let mut view = DiskView::new(disk, Part::Whole, BLOCKS);
-    match step {
-        Step::Gain => gained(alloc, &mut view, &map),
-        Step::Lead => led(alloc, &mut view, &map),
-        Step::Lose => lost(alloc, &mut view, &map),
-        Step::Leave => gone(alloc, &mut view, &map),
-        Step::Displace => displaced(alloc, &mut view, &map),
-        Step::Arrive => arrived(alloc, &mut view, &map),
-        Step::ToRoot => moved(alloc, &mut view, &map, 0),
-        Step::ToDirectory => moved(alloc, &mut view, &map, 100),
-        Step::OverLink => moved_over(alloc, &mut view, &map, 97, 98),
-        Step::OverFile => moved_over(alloc, &mut view, &map, 98, 97),
-    }
+    made(alloc, &mut view, &map, step)
 }
 
 /// What a transaction leaves: of the root directory how many names it has and the sum of their inodes, how many names `d` has and its parent, the links of the root directory and of inodes 4 to 6, and how many blocks are freed.

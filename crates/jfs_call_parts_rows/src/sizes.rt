@@ -8,7 +8,6 @@ use jfs_bits::{Blob, Moment};
 use jfs_disk::{Disk, Part, SureDisk};
 use jfs_imap::InodeMap;
 use jfs_inode::inode_in;
-use jfs_name::Path;
 use jfs_plain::{Call, PlainTree, Refusal, Reply};
 use jfs_read::read_bytes;
 use jfs_reader::DiskView;
@@ -52,23 +51,32 @@ fn bytes_on(alloc: Global, disk: &mut SureDisk, map: &InodeMap) -> Option<Blob> 
     read_bytes(alloc, &mut view, map, path, 0, 40_000).ok()
 }
 
+/// The root directory of a plain tree gets a file `a`.
+fn create(alloc: Global, tree: &mut PlainTree) -> Option<Reply> {
+    let path = path_of(alloc, 97)?;
+    stepped(tree, &Call::Create { path, mode: 0o644 }, MADE)
+}
+
+/// Block `k` of the file is filled.
+fn fill(alloc: Global, tree: &mut PlainTree, k: u32) -> Option<Reply> {
+    let path = path_of(alloc, 97)?;
+    let call = Call::Fill {
+        path,
+        offset: u64::from(k).saturating_mul(4096),
+        count: if k == 4 { 3616 } else { 4096 },
+        byte: fill_of(k),
+    };
+    stepped(tree, &call, MADE)
+}
+
 /// The plain tree whose root directory names `a` this file, as inode 4.
 fn plain_tree(alloc: Global) -> Option<PlainTree> {
     let mut tree = PlainTree::new(alloc, LIMIT, MADE).ok()?;
-    let path = path_of(alloc, 97)?;
-    stepped(&mut tree, &Call::Create { path, mode: 0o644 }, MADE)?;
-    for k in 0..5u32 {
-        let path = path_of(alloc, 97)?;
-        let offset = u64::from(4096 * k);
-        let call = Call::Fill {
-            path,
-            offset,
-            count: if k == 4 { 3616 } else { 4096 },
-            byte: fill_of(k),
-        };
-        stepped(&mut tree, &call, MADE)?;
+    let mut good = create(alloc, &mut tree).is_some();
+    for k in 0..5 {
+        good &= fill(alloc, &mut tree, k).is_some();
     }
-    Some(tree)
+    if good { Some(tree) } else { None }
 }
 
 /// What a call is answered by the plain tree.
@@ -80,30 +88,70 @@ fn stepped(tree: &mut PlainTree, call: &Call, now: Moment) -> Option<Reply> {
     Some(tree.step(call, fresh, now))
 }
 
-/// Whether the file has the size, the time and the bytes of the plain tree's.
-fn is_same(alloc: Global, disk: &mut SureDisk, map: &InodeMap, tree: &mut PlainTree) -> bool {
-    let Some(bytes) = bytes_on(alloc, disk, map) else {
-        return false;
-    };
-    let Some(path) = path_of(alloc, 97) else {
-        return false;
-    };
+/// The file's bytes in the plain tree.
+fn plain_bytes(alloc: Global, tree: &mut PlainTree) -> Option<Blob> {
+    let path = path_of(alloc, 97)?;
     let read = Call::Read {
         path,
         offset: 0,
         count: 40_000,
     };
-    let Some(Reply::Bytes(others)) = stepped(tree, &read, NOW) else {
-        return false;
-    };
-    let d = inode_in(&page_of(disk, 29), 4);
-    let Some(node) = tree.node(4) else {
-        return false;
-    };
-    d.size == node.size && d.mtime == node.times.modified && bytes.as_slice() == others.as_slice()
+    match stepped(tree, &read, NOW)? {
+        Reply::Bytes(bytes) => Some(bytes),
+        _ => None,
+    }
 }
 
-/// What becomes of both when a path's object gets a size: how many blocks are written and freed, or why it isn't, and whether the file is the same then.
+/// Whether the file's inode has the size and the time of the plain tree's.
+fn has_times(disk: &mut SureDisk, tree: &PlainTree) -> bool {
+    let d = inode_in(&page_of(disk, 29), 4);
+    match tree.node(4) {
+        Some(node) => d.size == node.size && d.mtime == node.times.modified,
+        None => false,
+    }
+}
+
+/// Whether the file has the size, the time and the bytes of the plain tree's.
+fn is_same(alloc: Global, disk: &mut SureDisk, map: &InodeMap, tree: &mut PlainTree) -> bool {
+    match (bytes_on(alloc, disk, map), plain_bytes(alloc, tree)) {
+        (Some(a), Some(b)) => a.as_slice() == b.as_slice() && has_times(disk, tree),
+        _ => false,
+    }
+}
+
+/// The reply of the plain tree where an object gets a size.
+fn plain_size(alloc: Global, tree: &mut PlainTree, unit: u16, size: u64) -> Option<Reply> {
+    let path = path_of(alloc, unit)?;
+    stepped(tree, &Call::Truncate { path, size }, NOW)
+}
+
+/// Does what a truncate says: how many blocks are written, and how many freed.
+fn done(disk: &mut SureDisk, out: &Truncated) -> Option<Counts> {
+    if append(disk, &out.blocks, &out.tx) {
+        Some((out.blocks.len(), freed_by(&out.tx)))
+    } else {
+        None
+    }
+}
+
+/// What a truncate of a path's object does to the volume: how many blocks are written and freed, or why it isn't done.
+fn sized(
+    alloc: Global,
+    disk: &mut SureDisk,
+    map: &InodeMap,
+    unit: u16,
+    size: u64,
+) -> Option<Result<Counts, Refusal>> {
+    match truncated(alloc, disk, map, unit, size)? {
+        Ok(out) => match done(disk, &out) {
+            Some(counts) => Some(Ok(counts)),
+            None => None,
+        },
+        Err(why) => Some(Err(why)),
+    }
+}
+
+/// What becomes of both when a path's object gets a size, where the file is the same then, and what is done of it is done in the plain tree.
 fn resized(
     alloc: Global,
     disk: &mut SureDisk,
@@ -112,21 +160,9 @@ fn resized(
     unit: u16,
     size: u64,
 ) -> Option<Result<Counts, Refusal>> {
-    let path: Path = path_of(alloc, unit)?;
-    let reply = stepped(tree, &Call::Truncate { path, size }, NOW)?;
-    let came = truncated(alloc, disk, map, unit, size)?;
-    let counts = match (came, reply) {
-        (Ok(out), Reply::Done) => {
-            let counts = (out.blocks.len(), freed_by(&out.tx));
-            if !append(disk, &out.blocks, &out.tx) {
-                return None;
-            }
-            Ok(counts)
-        }
-        (Err(why), _) => Err(why),
-        _ => return None,
-    };
-    if is_same(alloc, disk, map, tree) {
+    let is_done = matches!(plain_size(alloc, tree, unit, size)?, Reply::Done);
+    let counts = sized(alloc, disk, map, unit, size)?;
+    if is_same(alloc, disk, map, tree) && (is_done || counts.is_err()) {
         Some(counts)
     } else {
         None

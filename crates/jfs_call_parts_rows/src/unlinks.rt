@@ -4,7 +4,7 @@ use crate::volume::{BLOCKS, Word, freed_by, is_short, map_at, page_of, path_of, 
 use jfs_bits::Moment;
 use jfs_disk::{Disk, Part, SureDisk};
 use jfs_imap::InodeMap;
-use jfs_inode::inode_in;
+use jfs_inode::{Dinode, inode_in};
 use jfs_plain::Refusal;
 use jfs_ranges::{Tx, apply};
 use jfs_reader::{DiskView, names_of};
@@ -24,22 +24,29 @@ pub struct Left {
 }
 
 /// What a transaction leaves, where the root directory's names stay in its inode.
-pub fn left_by(alloc: Global, disk: &mut SureDisk, tx: &Tx) -> Option<Left> {
+fn left_by(alloc: Global, disk: &mut SureDisk, tx: &Tx) -> Option<Left> {
     let mut page = page_of(disk, 29);
     apply(tx, 29, &mut page);
     let root = inode_in(&page, 2);
-    let d = inode_in(&page, 4);
+    let names = count_of(alloc, disk, &root)?;
+    Some(Left {
+        root_links: root.nlink,
+        links: inode_in(&page, 4).nlink,
+        names,
+        freed: freed_by(tx),
+    })
+}
+
+/// How many names a directory has.
+fn count_of(alloc: Global, disk: &mut SureDisk, d: &Dinode) -> Option<usize> {
     if disk.pages() < BLOCKS {
         return None;
     }
     let mut view = DiskView::new(disk, Part::Whole, BLOCKS);
-    let names = names_of(alloc, &mut view, &root).ok()?;
-    Some(Left {
-        root_links: root.nlink,
-        links: d.nlink,
-        names: names.len(),
-        freed: freed_by(tx),
-    })
+    match names_of(alloc, &mut view, d) {
+        Ok(names) => Some(names.len()),
+        Err(_) => None,
+    }
 }
 
 /// The transaction of an unlink of a path of one unit, or why it is refused.
@@ -64,14 +71,33 @@ pub fn map_of_five(alloc: Global) -> Option<InodeMap> {
     map_at(alloc, 29, 0xf800_0000).ok()
 }
 
-/// What an unlink leaves of a new volume with these words, or why it is refused.
+/// What an unlink leaves, or why it is refused.
+fn answered(
+    alloc: Global,
+    disk: &mut SureDisk,
+    map: &InodeMap,
+    unit: u16,
+    limit: u64,
+) -> Option<Result<Left, Refusal>> {
+    match unlinked(alloc, disk, map, unit, limit)? {
+        Ok(tx) => left(alloc, disk, &tx),
+        Err(why) => Some(Err(why)),
+    }
+}
+
+/// What a transaction leaves, as an answer.
+pub fn left(alloc: Global, disk: &mut SureDisk, tx: &Tx) -> Option<Result<Left, Refusal>> {
+    match left_by(alloc, disk, tx) {
+        Some(left) => Some(Ok(left)),
+        None => None,
+    }
+}
+
+/// The same of a new volume with these words.
 fn came(alloc: Global, words: &[Word], unit: u16, limit: u64) -> Option<Result<Left, Refusal>> {
     let map = map_of_five(alloc)?;
     let mut disk = volume_with(alloc, words)?;
-    match unlinked(alloc, &mut disk, &map, unit, limit)? {
-        Ok(tx) => Some(Ok(left_by(alloc, &mut disk, &tx)?)),
-        Err(why) => Some(Err(why)),
-    }
+    answered(alloc, &mut disk, &map, unit, limit)
 }
 
 /// Inode 4 is a file of 20,000 bytes with five blocks of data from block 300 on, and attributes in three blocks from block 200 on. It has one link, and the root directory names it `a`.

@@ -1,5 +1,7 @@
 //! Walks over a new volume: it has a root directory without names.
 
+ghost use Rattle.std.specs.Prelude.{◌≤◌, length};
+
 use crate::volume::{BLOCKS, formatted, map_at, name_of};
 use jfs_bits::Rule;
 use jfs_disk::{Disk, Part, SureDisk};
@@ -27,7 +29,9 @@ fn end<V: PageView>(alloc: Global, view: &mut V, map: &InodeMap) -> Result<u32, 
 }
 
 /// Where a name leads from inode `n`.
-fn next<V: PageView>(view: &mut V, map: &InodeMap, n: u32, name: &Name) -> Result<u32, Refusal> {
+fn next<V: PageView>(view: &mut V, map: &InodeMap, n: u32, name: &Name) -> Result<u32, Refusal>
+    requires { length name.now ≤ 255 }
+{
     match load(view, map, NO_PAGE, n) {
         Ok(at) => number_of(enter(view, map, &at, name)),
         Err(e) => Err(e),

@@ -6,7 +6,7 @@ use crate::small::inodes_of;
 use jfs_bits::{PxdList, set_run};
 use jfs_bmap::BlockMap;
 use jfs_claim::{Claim, ClaimError, FreshInode, Want, look_for_inode, look_for_space, take};
-use jfs_imap::Pick;
+use jfs_imap::{InodeMap, Pick};
 use jfs_plain::Refusal;
 use std::alloc::{AllocError, Global};
 use std::test::*;
@@ -21,29 +21,35 @@ pub fn map_of(alloc: Global, blocks: u32) -> Result<BlockMap, AllocError>
     BlockMap::from_set(alloc, &set, blocks, 8192)
 }
 
+/// What is told where so many blocks of a map of 200 are wanted; `None` outside is want of memory.
+fn space(alloc: Global, need: u32) -> Option<Result<(), Refusal>> {
+    let map = map_of(alloc, 200).ok()?;
+    Some(look_for_space(&map, need))
+}
+
 // 156 blocks have no owner; 64 are always kept.
 #[test]
 fn space_is_looked_for(rt: HostRuntime) {
-    let alloc = rt.alloc();
-    let map = map_of(alloc, 200).expect(&rt, "memory");
-    assert!(rt; look_for_space(&map, 92) == Ok(()));
-    assert!(rt; look_for_space(&map, 93) == Err(Refusal::NoSpace { free: 156 }));
+    assert!(rt; space(rt.alloc(), 92) == Some(Ok(())));
+    assert!(rt; space(rt.alloc(), 93) == Some(Err(Refusal::NoSpace { free: 156 })));
+}
+
+const EIGHT: FreshInode = FreshInode {
+    number: 8,
+    needs_extent: false,
+};
+
+/// Whether inode 8 is picked, and is the one for a new object.
+fn is_eight(map: &BlockMap, inodes: &InodeMap) -> bool {
+    inodes.pick() == Pick::Number(8) && look_for_inode(map, inodes) == Ok(EIGHT)
 }
 
 // Inode 8 is the lowest free one.
 #[test]
 fn an_inode_is_looked_for(rt: HostRuntime) {
-    let alloc = rt.alloc();
-    let map = map_of(alloc, 200).expect(&rt, "memory");
-    let inodes = inodes_of(alloc).expect(&rt, "memory");
-    assert!(rt; inodes.pick() == Pick::Number(8));
-    assert!(rt;
-        look_for_inode(&map, &inodes)
-            == Ok(FreshInode {
-                number: 8,
-                needs_extent: false
-            })
-    );
+    let map = map_of(rt.alloc(), 200).expect(&rt, "memory");
+    let inodes = inodes_of(rt.alloc()).expect(&rt, "memory");
+    assert!(rt; is_eight(&map, &inodes));
 }
 
 /// The run's first block, and the first and the last of the blocks.

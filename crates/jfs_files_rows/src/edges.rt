@@ -2,28 +2,41 @@
 
 ghost use Rattle.std.specs.Prelude.{IfSome};
 ghost use Rattle.jfs_plain.specs.Limits.{FitsRequest};
+ghost use Rattle.jfs_script.specs.Script.{AllFit};
 
 use crate::calls::{call_on, script_of};
 use crate::volume::{TestVolume, fill_to, findings_of, new_volume, own, put_words};
 use jfs_bits::Moment;
 use jfs_name::read_path;
-use jfs_plain::{Call, Refusal, Reply, Request};
+use jfs_plain::{Call, Line, Refusal, Reply, Request};
 use std::alloc::Global;
 use std::test::*;
 
 const NOW: Moment = Moment { sec: 3000, nano: 9 };
 
+/// Whether each of these lines is done.
+fn are_done(alloc: Global, volume: &mut TestVolume, lines: &[Line]) -> bool
+    requires { AllFit lines.now }
+{
+    for line in lines.iter() {
+        let reply = call_on(alloc, volume, &line.request, NOW);
+        if !matches!(&reply, Some(Reply::Done)) {
+            return false;
+        }
+    }
+    true
+}
+
 /// A volume with two files, inodes 4 and 5, and two directories.
 fn two_files(alloc: Global) -> Option<TestVolume> {
-    let mut volume = new_volume(alloc)?;
     let text = b"create /a 0644\ncreate /b 0644\nmkdir /c 0755\nmkdir /d 0755\n";
     let lines = script_of(alloc, text)?;
-    for line in lines.iter() {
-        let Reply::Done = call_on(alloc, &mut volume, &line.request, NOW)? else {
-            return None;
-        };
+    let mut volume = new_volume(alloc)?;
+    if are_done(alloc, &mut volume, &lines) {
+        Some(volume)
+    } else {
+        None
     }
-    Some(volume)
 }
 
 fn rename(alloc: Global, from: &[u8], to: &[u8]) -> Option<Request>
@@ -37,6 +50,15 @@ fn rename(alloc: Global, from: &[u8], to: &[u8]) -> Option<Request>
     })
 }
 
+/// Why a call was refused; `None` outside where it was answered in another way.
+fn refusal_of(reply: &Reply) -> Option<Option<Refusal>> {
+    match reply {
+        Reply::Done => Some(None),
+        Reply::Refused(why) => Some(Some(*why)),
+        _ => None,
+    }
+}
+
 /// Renames an object where no file is larger than a limit, and answers why it was refused; `None` where it can't be done.
 fn renamed(
     alloc: Global,
@@ -47,10 +69,9 @@ fn renamed(
 ) -> Option<Option<Refusal>> {
     volume.limit = limit;
     let request = rename(alloc, from, to)?;
-    match call_on(alloc, volume, &request, NOW)? {
-        Reply::Done => Some(None),
-        Reply::Refused(why) => Some(Some(why)),
-        _ => None,
+    match call_on(alloc, volume, &request, NOW) {
+        Some(reply) => refusal_of(&reply),
+        None => None,
     }
 }
 

@@ -1,13 +1,14 @@
 //! Scripts on a volume and on the plain tree.
 
 ghost use Rattle.jfs_plain.specs.Limits.{FitsRequest};
+ghost use Rattle.jfs_script.specs.Script.{AllFit};
 
 use crate::calls::{call_on, script_of};
 use crate::same::{first_difference, same_reply, tree_on};
 use crate::volume::{LIMIT, MADE, TestVolume, findings_of, maps_of, new_volume};
 use jfs_bits::Moment;
 use jfs_imap::Pick;
-use jfs_plain::{Call, PlainTree, Refusal, Reply, Request};
+use jfs_plain::{Call, Line, PlainTree, Refusal, Reply, Request};
 use std::alloc::{AllocError, Global};
 use std::test::*;
 
@@ -38,6 +39,27 @@ enum Wrong {
     Found(usize),
 }
 
+/// Whether a call's reply is the plain tree's; `None` where it isn't done.
+fn replies_the_same(
+    alloc: Global,
+    volume: &mut TestVolume,
+    tree: &mut PlainTree,
+    request: &Request,
+    now: Moment,
+) -> Option<bool>
+    requires { FitsRequest request.now }
+{
+    let fresh = fresh_inode(alloc, volume)?;
+    let reply = call_on(alloc, volume, request, now)?;
+    Some(same_reply(&reply, &plain(tree, &request.call, fresh, now)))
+}
+
+/// The first inode number at which the volume's tree differs from the plain one; `None` outside where it has none.
+fn difference(alloc: Global, volume: &mut TestVolume, tree: &PlainTree) -> Option<Option<u32>> {
+    let image = tree_on(alloc, volume)?;
+    Some(first_difference(alloc, &image, tree))
+}
+
 fn after_line(
     alloc: Global,
     volume: &mut TestVolume,
@@ -47,45 +69,51 @@ fn after_line(
 ) -> Wrong
     requires { FitsRequest request.now }
 {
-    let Some(fresh) = fresh_inode(alloc, volume) else {
-        return Wrong::NotDone;
-    };
-    let Some(reply) = call_on(alloc, volume, request, now) else {
-        return Wrong::NotDone;
-    };
-    if !same_reply(&reply, &plain(tree, &request.call, fresh, now)) {
-        return Wrong::Reply;
+    match replies_the_same(alloc, volume, tree, request, now) {
+        Some(true) => {}
+        Some(false) => return Wrong::Reply,
+        None => return Wrong::NotDone,
     }
     match findings_of(alloc, volume) {
         Some(0) => {}
         Some(found) => return Wrong::Found(found),
         None => return Wrong::NotDone,
     }
-    let Some(image) = tree_on(alloc, volume) else {
-        return Wrong::NotDone;
-    };
-    match first_difference(alloc, &image, tree) {
-        Some(n) => Wrong::Node(n),
-        None => Wrong::Nothing,
+    match difference(alloc, volume, tree) {
+        Some(None) => Wrong::Nothing,
+        Some(Some(n)) => Wrong::Node(n),
+        None => Wrong::NotDone,
     }
 }
 
-/// The first line of a script after which something is wrong, and what; its length and `Nothing`, where all goes well.
-fn run(alloc: Global, text: &[u8]) -> Option<(usize, Wrong)> {
-    let mut volume = new_volume(alloc)?;
-    let mut tree = PlainTree::new(alloc, LIMIT, MADE).ok()?;
-    let lines = script_of(alloc, text)?;
+/// The first of these lines after which something is wrong, and what; how many they are and `Nothing`, where all goes well.
+fn run_lines(
+    alloc: Global,
+    volume: &mut TestVolume,
+    tree: &mut PlainTree,
+    lines: &[Line],
+) -> (usize, Wrong)
+    requires { AllFit lines.now }
+{
     for (i, line) in lines.iter().enumerate() {
         let now = Moment {
             sec: line.number.saturating_add(2000),
             nano: 9,
         };
-        let wrong = after_line(alloc, &mut volume, &mut tree, &line.request, now);
+        let wrong = after_line(alloc, volume, tree, &line.request, now);
         if wrong != Wrong::Nothing {
-            return Some((i, wrong));
+            return (i, wrong);
         }
     }
-    Some((lines.len(), Wrong::Nothing))
+    (lines.len(), Wrong::Nothing)
+}
+
+/// The same of a script, on a new volume.
+fn run(alloc: Global, text: &[u8]) -> Option<(usize, Wrong)> {
+    let lines = script_of(alloc, text)?;
+    let mut volume = new_volume(alloc)?;
+    let mut tree = PlainTree::new(alloc, LIMIT, MADE).ok()?;
+    Some(run_lines(alloc, &mut volume, &mut tree, &lines))
 }
 
 /// Whether each of so many lines is answered as on the plain tree, and leaves its tree.

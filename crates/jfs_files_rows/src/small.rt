@@ -13,6 +13,7 @@ use jfs_imap::InodeMap;
 use jfs_inode_rows::places_of;
 use jfs_name::{Path, read_path};
 use jfs_plain::{Call, Refusal, Reply, Request};
+use jfs_ranges::PageView;
 use jfs_reader::DiskView;
 use std::alloc::{AllocError, Global};
 use std::test::*;
@@ -172,6 +173,25 @@ fn request_of(alloc: Global, asked: Asked, path: &[u8]) -> Option<Request>
     })
 }
 
+/// What is answered by a view that shows the small volume.
+fn answer_by_view<V: PageView>(
+    alloc: Global,
+    view: &mut V,
+    maps: &mut Maps,
+    request: &Request,
+) -> Option<Counted>
+    requires { FitsRequest request.now }
+{
+    let free = maps.blocks.free();
+    let now = Moment { sec: 1000, nano: 7 };
+    let counted = counted(outcome_of(alloc, view, maps, request, now)?);
+    // what is refused reserves nothing
+    if counted.is_err() && maps.blocks.free() != free {
+        return None;
+    }
+    Some(counted)
+}
+
 /// What is answered, on a disk that has the small volume.
 fn answer_on<D: Disk>(
     alloc: Global,
@@ -184,14 +204,7 @@ fn answer_on<D: Disk>(
     let mut maps = maps_of(alloc, given)?;
     let blocks = disk.pages();
     let mut view = DiskView::new(disk, Part::Whole, blocks);
-    let free = maps.blocks.free();
-    let now = Moment { sec: 1000, nano: 7 };
-    let counted = counted(outcome_of(alloc, &mut view, &mut maps, request, now)?);
-    // what is refused reserves nothing
-    if counted.is_err() && maps.blocks.free() != free {
-        return None;
-    }
-    Some(counted)
+    answer_by_view(alloc, &mut view, &mut maps, request)
 }
 
 fn answer(alloc: Global, given: Given<'_>, asked: Asked, path: &[u8]) -> Option<Counted> {

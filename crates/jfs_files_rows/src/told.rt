@@ -1,6 +1,7 @@
 //! The calls that a script asks for, with the notes and the marks of their transactions.
 
 ghost use Rattle.jfs_plain.specs.Limits.{FitsRequest};
+ghost use Rattle.jfs_script.specs.Script.{AllFit};
 
 use crate::calls::{asked, script_of};
 use crate::volume::{BLOCKS, TestVolume, append, maps_of, new_volume, put_data};
@@ -8,7 +9,7 @@ use jfs_bits::Moment;
 use jfs_disk::{Disk, Part};
 use jfs_files::{DataList, FileOutcome, Maps};
 use jfs_marks::{Marking, frees_behind, inode_marks, is_loggable, notes_of};
-use jfs_plain::Request;
+use jfs_plain::{Line, Request};
 use jfs_ranges::{PageView, Tx};
 use jfs_reader::DiskView;
 use jfs_records::Notes;
@@ -37,6 +38,31 @@ fn is_sound(tx: &Tx, notes: &Notes) -> bool {
     notes.len() == tx.len() && is_loggable(BLOCKS, tx, notes) && frees_behind(tx)
 }
 
+/// What is told of a transaction, and of blocks of files that are written before it.
+fn told_by<V: PageView>(
+    alloc: Global,
+    view: &mut V,
+    maps: &Maps,
+    tx: Tx,
+    data: DataList,
+) -> Option<Told> {
+    let notes = notes_on(alloc, view, &tx);
+    let marking = marking_on(view, maps, &tx, &data);
+    match (notes, marking) {
+        (Some(notes), Some(marking)) => {
+            let loggable = is_sound(&tx, &notes);
+            Some(Told {
+                tx,
+                data,
+                notes,
+                marking,
+                loggable,
+            })
+        }
+        _ => None,
+    }
+}
+
 /// What a call tells.
 fn told_on<V: PageView>(
     alloc: Global,
@@ -47,19 +73,10 @@ fn told_on<V: PageView>(
 ) -> Option<Told>
     requires { FitsRequest request.now }
 {
-    let FileOutcome::Changed { tx, blocks: data } = asked(alloc, view, maps, request, now)? else {
-        return None;
-    };
-    let notes = notes_on(alloc, view, &tx)?;
-    let marking = marking_on(view, maps, &tx, &data)?;
-    let loggable = is_sound(&tx, &notes);
-    Some(Told {
-        tx,
-        data,
-        notes,
-        marking,
-        loggable,
-    })
+    match asked(alloc, view, maps, request, now) {
+        Some(FileOutcome::Changed { tx, blocks }) => told_by(alloc, view, maps, tx, blocks),
+        _ => None,
+    }
 }
 
 /// What a call tells on the volume.
@@ -86,17 +103,27 @@ fn call(alloc: Global, volume: &mut TestVolume, request: &Request, now: Moment) 
     }
 }
 
-/// What the last line of a script tells; every line changes something.
-pub fn last(alloc: Global, text: &[u8]) -> Option<Told> {
-    let mut volume = new_volume(alloc)?;
-    let lines = script_of(alloc, text)?;
+/// What the last of these lines tells; every line changes something.
+fn last_of(alloc: Global, volume: &mut TestVolume, lines: &[Line]) -> Option<Told>
+    requires { AllFit lines.now }
+{
     let mut told = None;
     for line in lines.iter() {
         let now = Moment {
             sec: line.number.saturating_add(2000),
             nano: 9,
         };
-        told = Some(call(alloc, &mut volume, &line.request, now)?);
+        told = call(alloc, volume, &line.request, now);
+        if told.is_none() {
+            return None;
+        }
     }
     told
+}
+
+/// The same of a script, on a new volume.
+pub fn last(alloc: Global, text: &[u8]) -> Option<Told> {
+    let lines = script_of(alloc, text)?;
+    let mut volume = new_volume(alloc)?;
+    last_of(alloc, &mut volume, &lines)
 }

@@ -15,7 +15,7 @@ fn is_marked<D: Disk>(low: &mut D, s: &Super) -> bool {
 }
 
 /// Whether the log has one SYNCPT at the start of its last page.
-fn is_ready<D: Disk>(s: &Super, begun: Begun<D>) -> bool {
+fn is_ready<D: Disk + Drop>(s: &Super, begun: Begun<D>) -> bool {
     let Begun { low, log } = begun;
     let mut low = low;
     s.state == VolumeState::CLEAN
@@ -44,7 +44,7 @@ const FAULT: Fault = Fault {
 };
 
 /// Whether the disk is handed back whole.
-fn is_handed_back<D: Disk>(not: NotBegun<D>) -> bool {
+fn is_handed_back<D: Disk + Drop>(not: NotBegun<D>) -> bool {
     let mut disk = not.disk;
     let is_clean = match super_of(&mut disk) {
         Some(kept) => kept.state == VolumeState::CLEAN,
