@@ -40,7 +40,7 @@ fn owners_at(owners: &Owners, b: u32) -> u32 {
 }
 
 // Each with its first block and its length.
-static RUNS: [(u64, u32); 10] = [
+const RUNS: [(u64, u32); 10] = [
     (30, 4),
     (33, 31),
     (63, 2),
@@ -53,7 +53,7 @@ static RUNS: [(u64, u32); 10] = [
     (0, 1),
 ];
 
-static ROW: [u8; 70] = *b"2.............................11121111111111111111111111111111121....1";
+const ROW: [u8; 70] = *b"2.............................11121111111111111111111111111111121....1";
 
 // A script of runs, and the blocks that they count.
 static COUNTED: [(u32, &[(u64, u32)], &[u8]); 3] = [

@@ -6,7 +6,7 @@ use crate::steps::held;
 use crate::units::Kind::Long;
 use std::test::*;
 
-const AT_THE_END: &'static [Step] = &[
+static AT_THE_END: [Step; 11] = [
     // the first name is too long for the root, which moves down
     AddAll(Long, 0, 7),
     Is(Pages(1)),
@@ -24,9 +24,19 @@ const AT_THE_END: &'static [Step] = &[
     FindAll(Long, 410),
 ];
 
-const BEFORE_OTHERS: &'static [Step] = &[AddDown(Long, 200, 200), FindAll(Long, 210)];
+#[test]
+fn names_at_the_end(rt: HostRuntime) {
+    assert!(rt; held(rt.alloc(), &AT_THE_END) == 11);
+}
 
-const FIRST_CHILD: &'static [Step] = &[
+static BEFORE_OTHERS: [Step; 2] = [AddDown(Long, 200, 200), FindAll(Long, 210)];
+
+#[test]
+fn names_before_others(rt: HostRuntime) {
+    assert!(rt; held(rt.alloc(), &BEFORE_OTHERS) == 2);
+}
+
+static FIRST_CHILD: [Step; 12] = [
     AddAll(Long, 0, 71),
     Is(Pages(14)),
     // the second inner page's first leaf, with names 56 to 62, is empty then
@@ -43,16 +53,7 @@ const FIRST_CHILD: &'static [Step] = &[
     FindAll(Long, 80),
 ];
 
-/// What is looked at, and its steps.
-static ROWS: [(&str, &[Step]); 3] = [
-    ("names at the end", AT_THE_END),
-    ("names before others", BEFORE_OTHERS),
-    ("the first child goes", FIRST_CHILD),
-];
-
 #[test]
-fn rows_hold(rt: HostRuntime) {
-    for (what, steps) in ROWS.iter() {
-        assert!(rt; held(rt.alloc(), steps) == steps.len(), "{what}");
-    }
+fn the_first_child_goes(rt: HostRuntime) {
+    assert!(rt; held(rt.alloc(), &FIRST_CHILD) == 12);
 }

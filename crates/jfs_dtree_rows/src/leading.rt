@@ -116,7 +116,7 @@ pub fn answers_deep(
     }
 }
 
-const IN_THE_ROOT: &'static [Step] = &[
+static IN_THE_ROOT: [Step; 13] = [
     LeadFails(Digit, 1, DtError::Missing),
     AddAll(Digit, 1, 4),
     Lead(Digit, 2, 40, 2),
@@ -133,7 +133,12 @@ const IN_THE_ROOT: &'static [Step] = &[
     Is(Pages(0)),
 ];
 
-const BELOW: &'static [Step] = &[
+#[test]
+fn names_in_the_root(rt: HostRuntime) {
+    assert!(rt; held(rt.alloc(), &IN_THE_ROOT) == 13);
+}
+
+static BELOW: [Step; 7] = [
     // two levels of inner pages below the root, of which each name has 18 slots
     AddAll(Long, 0, 57),
     LeadAll(Long, 0, 57),
@@ -144,13 +149,23 @@ const BELOW: &'static [Step] = &[
     Is(Pages(12)),
 ];
 
-const LENGTHS: &'static [Step] = &[
+#[test]
+fn names_below_the_root(rt: HostRuntime) {
+    assert!(rt; held(rt.alloc(), &BELOW) == 7);
+}
+
+static LENGTHS: [Step; 3] = [
     AddAll(Mixed, 0, 510),
     LeadAll(Mixed, 0, 510),
     FindAll(Mixed, 510),
 ];
 
-const DAMAGED: &'static [Step] = &[
+#[test]
+fn names_of_1_to_255_units(rt: HostRuntime) {
+    assert!(rt; held(rt.alloc(), &LENGTHS) == 3);
+}
+
+static DAMAGED: [Step; 9] = [
     AddAll(Long, 0, 8),
     // the leaf of the names 0 to 6 breaks a rule, and the other one's way doesn't
     Do(Empty(0)),
@@ -163,7 +178,12 @@ const DAMAGED: &'static [Step] = &[
     Is(Lists(false)),
 ];
 
-const TOO_DEEP: &'static [Step] = &[
+#[test]
+fn names_whose_way_is_sound(rt: HostRuntime) {
+    assert!(rt; held(rt.alloc(), &DAMAGED) == 9);
+}
+
+static TOO_DEEP: [Step; 15] = [
     Is(Deep(Long, 0, false)),
     AddAll(Long, 0, 56),
     Is(Deep(Long, 56, false)),
@@ -183,7 +203,12 @@ const TOO_DEEP: &'static [Step] = &[
     Find(Alone, 0, Some(57)),
 ];
 
-const NINE_LEVELS: &'static [Step] = &[
+#[test]
+fn directories_that_are_too_deep(rt: HostRuntime) {
+    assert!(rt; held(rt.alloc(), &TOO_DEEP) == 15);
+}
+
+static NINE_LEVELS: [Step; 5] = [
     AddAll(Long, 0, 56),
     // a way that breaks a rule is not too deep
     Do(Deepen(6)),
@@ -192,19 +217,7 @@ const NINE_LEVELS: &'static [Step] = &[
     Is(DeepFault(Long, 55, 1)),
 ];
 
-/// What is looked at, and its steps.
-static ROWS: [(&str, &[Step]); 6] = [
-    ("names in the root", IN_THE_ROOT),
-    ("names below the root", BELOW),
-    ("names of 1 to 255 units", LENGTHS),
-    ("names whose way is sound", DAMAGED),
-    ("directories that are too deep", TOO_DEEP),
-    ("ways that end nowhere", NINE_LEVELS),
-];
-
 #[test]
-fn rows_hold(rt: HostRuntime) {
-    for (what, steps) in ROWS.iter() {
-        assert!(rt; held(rt.alloc(), steps) == steps.len(), "{what}");
-    }
+fn ways_that_end_nowhere(rt: HostRuntime) {
+    assert!(rt; held(rt.alloc(), &NINE_LEVELS) == 5);
 }

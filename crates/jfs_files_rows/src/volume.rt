@@ -195,12 +195,8 @@ pub fn fill_to(volume: &mut TestVolume, free: u32) {
     clear_run(&mut volume.used, BLOCKS - free, free);
 }
 
-/// Writes the maps home.
-pub fn write_maps(alloc: Global, volume: &mut TestVolume) -> bool {
-    let Some(maps) = maps_of(alloc, volume) else {
-        return false;
-    };
-    let Maps { blocks, inodes, .. } = maps;
+/// Writes the block map home.
+fn write_blocks(volume: &mut TestVolume, blocks: &BlockMap) -> bool {
     let mut page = Page::zeros();
     for n in 0..blocks.pages().min(11) {
         if blocks.is_in_use(n) {
@@ -210,6 +206,14 @@ pub fn write_maps(alloc: Global, volume: &mut TestVolume) -> bool {
             }
         }
     }
+    true
+}
+
+/// Writes the inode map home.
+fn write_inodes(volume: &mut TestVolume, inodes: &InodeMap) -> bool
+    requires { 1 ≤ inodes.now.iags }
+{
+    let mut page = Page::zeros();
     for n in 0..2 {
         inodes.write_page(n, &mut page);
         if !put_page(&mut volume.disk, 27 + n, &page) {
@@ -217,6 +221,14 @@ pub fn write_maps(alloc: Global, volume: &mut TestVolume) -> bool {
         }
     }
     true
+}
+
+/// Writes the maps home.
+pub fn write_maps(alloc: Global, volume: &mut TestVolume) -> bool {
+    match maps_of(alloc, volume) {
+        Some(maps) => write_blocks(volume, &maps.blocks) && write_inodes(volume, &maps.inodes),
+        None => false,
+    }
 }
 
 /// How many findings a check of the volume has, once its maps are written home.
