@@ -12,6 +12,8 @@ mod fields;
 #[cfg(test)]
 mod format;
 #[cfg(test)]
+mod left;
+#[cfg(test)]
 mod log;
 #[cfg(test)]
 mod redo;

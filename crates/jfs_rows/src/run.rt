@@ -14,7 +14,7 @@ use std::sync::Wait;
 use std::thread::Threads;
 
 /// A script, and what is printed.
-type Row = (&'static str, &'static str);
+pub type Row = (&'static str, &'static str);
 
 /// A directory and a file in it.
 const FIRST_SCRIPT: &str = "mkdir /a 0755
@@ -102,7 +102,7 @@ fn came<R: Threads + Wait + Sync, K: Sink>(
 }
 
 /// The disk after a run that ended with this status and this text; `None` where it didn't.
-fn after_run<R: Threads + Wait + Sync>(
+pub fn after_run<R: Threads + Wait + Sync>(
     rt: &R,
     alloc: Global,
     words: &[&str],
@@ -148,7 +148,7 @@ fn tells_the_history(rt: HostRuntime) {
 }
 
 /// The state of the volume stands there on page 8, and says that it is mounted.
-const MOUNTED: (u32, Change) = (8, (40, 4, 1));
+pub const MOUNTED: (u32, Change) = (8, (40, 4, 1));
 
 /// The superblock of a clean volume that another made: version 1, other flags, and a log of 256 pages.
 static OF_ANOTHER: [(u32, Change); 3] = [
@@ -158,7 +158,7 @@ static OF_ANOTHER: [(u32, Change); 3] = [
 ];
 
 /// A new volume with these changes of its pages, each of one number.
-fn changed<R: Threads + Wait + Sync>(
+pub fn changed<R: Threads + Wait + Sync>(
     rt: &R,
     alloc: Global,
     changes: &[(u32, Change)],
@@ -170,13 +170,13 @@ fn changed<R: Threads + Wait + Sync>(
     disk
 }
 
-const RUN: &'static [&'static str] = &["run", "I", "S"];
+pub const RUN: &'static [&'static str] = &["run", "I", "S"];
 
-const LEAVE: &'static [&'static str] = &["run", "--leave", "I", "S"];
+pub const LEAVE: &'static [&'static str] = &["run", "--leave", "I", "S"];
 
-const CHECK: &'static [&'static str] = &["check", "I"];
+pub const CHECK: &'static [&'static str] = &["check", "I"];
 
-const REDO: &'static [&'static str] = &["redo", "I"];
+pub const REDO: &'static [&'static str] = &["redo", "I"];
 
 /// Files of a small log are shorter.
 static ON_A_SMALL_LOG: [Command; 2] = [
@@ -223,133 +223,6 @@ fn freed_blocks_come_back(rt: HostRuntime) {
     assert!(rt; after_all(&rt, rt.alloc(), disk, &NINE_FILES).is_some());
 }
 
-// ---- a volume that is left
-
-/// Three calls, and what is printed.
-const THREE: Row = (
-    "mkdir /a 0755\ncreate /a/f 0644\nfill /a/f 0 65536 41\n",
-    "1 1.1 ok +\n2 1.2 ok +\n3 1.3 ok +\ndone 3 entries, 3 durable\n",
-);
-
-/// All writes fail from this one on.
-fn failing_from(alloc: Global, disk: Option<MemDisk>, first: u64) -> Option<MemDisk> {
-    failing_all(alloc, disk, &[fails_at(Kind::Write, first, u64::MAX)])
-}
-
-const DISK_FAULT: &str = "jfsd: disk fault\n";
-
-static REDO_FAILS: [Command; 1] = [(REDO, "", 7, DISK_FAULT)];
-
-static REDONE: [Command; 3] = [
-    (REDO, "", 0, "redo 3 transactions\n"),
-    (REDO, "", 0, "redo clean\n"),
-    (CHECK, "", 0, "clean, 2959 free blocks, 6 inodes\n"),
-];
-
-#[test]
-fn a_volume_that_is_left_is_redone(rt: HostRuntime) {
-    let alloc = rt.alloc();
-    let disk = failing_from(alloc, left_volume(&rt, alloc), 4);
-    let disk = after_all(&rt, alloc, disk, &REDO_FAILS);
-    let disk = failing_all(alloc, disk, &[]);
-    assert!(rt; after_all(&rt, alloc, disk, &REDONE).is_some());
-}
-
-/// A volume that three calls were made on, and that was left.
-fn left_volume<R: Threads + Wait + Sync>(rt: &R, alloc: Global) -> Option<MemDisk> {
-    let disk = new_volume(rt, alloc);
-    after_run(rt, alloc, LEAVE, Script::of(THREE.0), disk, 0, THREE.1)
-}
-
-static RUN_REDOES: [Command; 2] = [
-    (
-        RUN,
-        "list /a\nunlink /a/f",
-        0,
-        "redo 3 transactions\n1 1.1 names 1 f -\n2 1.2 ok +\ndone 2 entries, 1 durable\n",
-    ),
-    (CHECK, "", 0, "clean, 2975 free blocks, 5 inodes\n"),
-];
-
-#[test]
-fn a_run_redoes_a_volume_that_is_left(rt: HostRuntime) {
-    let disk = left_volume(&rt, rt.alloc());
-    assert!(rt; after_all(&rt, rt.alloc(), disk, &RUN_REDOES).is_some());
-}
-
-static REDO_THEN_ROOT: [Command; 1] = [(
-    RUN,
-    "sync",
-    3,
-    "redo 0 transactions\njfsd: bad image: page 29 rule root value 33188\n",
-)];
-
-#[test]
-fn a_run_that_redid_may_be_refused(rt: HostRuntime) {
-    let alloc = rt.alloc();
-    let disk = changed(&rt, alloc, &[MOUNTED, (29, (1076, 4, 0x81a4))]);
-    let disk = after_all(&rt, alloc, disk, &REDO_THEN_ROOT);
-    assert!(rt; faults_of(&disk) == Some(0));
-}
-
-static RUN_FAILS: [Command; 1] = [(RUN, "sync", 7, DISK_FAULT)];
-
-static RUN_FAILS_LATER: [Command; 1] = [(
-    RUN,
-    "sync",
-    7,
-    "redo 0 transactions\njfsd: disk fault\n",
-)];
-
-/// The first write of a mount.
-const MOUNT_FAILS: Fail = Fail {
-    part: Part::High,
-    kind: Kind::Write,
-    first: 1,
-    last: 1,
-};
-
-#[test]
-fn a_redo_of_a_run_fails(rt: HostRuntime) {
-    let alloc = rt.alloc();
-    // The redo's own first write fails.
-    let disk = failing_from(alloc, left_volume(&rt, alloc), 1);
-    let disk = after_all(&rt, alloc, disk, &RUN_FAILS);
-    assert!(rt; faults_of(&disk) == Some(1));
-}
-
-#[test]
-fn a_fault_behind_a_redo(rt: HostRuntime) {
-    let alloc = rt.alloc();
-    // The first write of the mount behind it fails.
-    let disk = failing_all(alloc, changed(&rt, alloc, &[MOUNTED]), &[MOUNT_FAILS]);
-    let disk = after_all(&rt, alloc, disk, &RUN_FAILS_LATER);
-    assert!(rt; faults_of(&disk) == Some(1));
-}
-
-static LOG_OF_LEFT: [Command; 2] = [
-    (
-        LEAVE,
-        "chmod / 0700",
-        0,
-        "1 1.1 ok +\ndone 1 entries, 1 durable\n",
-    ),
-    (
-        &["log", "I"],
-        "",
-        0,
-        "4190252 0 SYNCPT 0\n4190420 1 REDOPAGE 16 0 INODE 29 1 8+1\n4190456 1 COMMIT\nlog 3 records, end 4190456\n",
-    ),
-];
-
-#[test]
-fn the_log_of_a_volume_that_is_left(rt: HostRuntime) {
-    let disk = new_volume(&rt, rt.alloc());
-    assert!(rt; after_all(&rt, rt.alloc(), disk, &LOG_OF_LEFT).is_some());
-}
-
-// ---- what is refused
-
 /// Words, and the place of the first that leaves the grammar.
 static WRONG_WORDS: [(&[&str], u32); 11] = [
     (&["run"], 2),
@@ -372,6 +245,11 @@ fn names_the_wrong_word(rt: HostRuntime) {
         let is_so = is_wrong_word(&rt, alloc, words, *place, sound_disk(alloc));
         assert!(rt; is_so == Some(true), "{words:?}");
     }
+}
+
+/// All writes fail from this one on.
+pub fn failing_from(alloc: Global, disk: Option<MemDisk>, first: u64) -> Option<MemDisk> {
+    failing_all(alloc, disk, &[fails_at(Kind::Write, first, u64::MAX)])
 }
 
 /// Changes of a new volume, a script, the status's number, and the text. Nothing is written. The block map tells its volume's size on page 16, and page 29 has the root's mode at byte 1076.
@@ -448,8 +326,6 @@ fn what_is_refused_is_left_alone(rt: HostRuntime) {
         assert!(rt; faults_of(&disk) == Some(0), "{text}");
     }
 }
-
-// ---- faults
 
 #[test]
 fn a_script_that_fails(rt: HostRuntime) {
