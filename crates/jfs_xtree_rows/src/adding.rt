@@ -10,7 +10,7 @@ use std::test::*;
 const ROOT: u32 = 4294967295;
 
 /// Blocks 10 to 12 and 20 to 22 are taken: what begins, ends or lies in them or around them isn't.
-const OVERLAPS: &'static [Step] = &[
+static OVERLAPS: [Step; 12] = [
     Add(10, 3),
     Add(20, 3),
     Refuse(10, 3, ROOT),
@@ -26,7 +26,12 @@ const OVERLAPS: &'static [Step] = &[
     Pages(0),
 ];
 
-const AT_THE_END: &'static [Step] = &[
+#[test]
+fn overlaps_are_refused(rt: HostRuntime) {
+    assert!(rt; held(rt.alloc(), &OVERLAPS) == 12);
+}
+
+static AT_THE_END: [Step; 9] = [
     AddAll(0, 16, 3, 2),
     Pages(0),
     // a root has 16 entries, and a page 254
@@ -40,17 +45,32 @@ const AT_THE_END: &'static [Step] = &[
     Agree(1600),
 ];
 
-const BEFORE_OTHERS: &'static [Step] = &[
+#[test]
+fn extents_at_the_end(rt: HostRuntime) {
+    assert!(rt; held(rt.alloc(), &AT_THE_END) == 9);
+}
+
+static BEFORE_OTHERS: [Step; 3] = [
     AddDown(600),
     // a page that is full at 254 entries keeps 127 and the new one: entries 17, 255, 382 and 509 take a page
     Pages(4),
     Agree(1300),
 ];
 
-const BETWEEN: &'static [Step] = &[AddAll(0, 300, 4, 1), AddBetween(300), Agree(1300)];
+#[test]
+fn extents_before_others(rt: HostRuntime) {
+    assert!(rt; held(rt.alloc(), &BEFORE_OTHERS) == 3);
+}
+
+static BETWEEN: [Step; 3] = [AddAll(0, 300, 4, 1), AddBetween(300), Agree(1300)];
+
+#[test]
+fn extents_between_others(rt: HostRuntime) {
+    assert!(rt; held(rt.alloc(), &BETWEEN) == 3);
+}
 
 /// The first leaf's extents are two blocks each from 30 on. What shares a block with the first one is refused though its place is the first, and so it is behind a second leaf's key.
-const AT_THE_FIRST_PLACE: &'static [Step] = &[
+static AT_THE_FIRST_PLACE: [Step; 9] = [
     AddAll(10, 264, 3, 2),
     Pages(1),
     Refuse(29, 2, 0),
@@ -62,7 +82,12 @@ const AT_THE_FIRST_PLACE: &'static [Step] = &[
     Agree(900),
 ];
 
-const BESIDE_ATTRIBUTES: &'static [Step] = &[
+#[test]
+fn overlaps_at_the_first_place(rt: HostRuntime) {
+    assert!(rt; held(rt.alloc(), &AT_THE_FIRST_PLACE) == 9);
+}
+
+static BESIDE_ATTRIBUTES: [Step; 14] = [
     Narrow,
     Add(10, 3),
     StaysNarrow,
@@ -81,19 +106,7 @@ const BESIDE_ATTRIBUTES: &'static [Step] = &[
     StaysNarrow,
 ];
 
-/// What is looked at, and its steps.
-static ROWS: [(&str, &[Step]); 6] = [
-    ("overlaps are refused", OVERLAPS),
-    ("extents at the end", AT_THE_END),
-    ("extents before others", BEFORE_OTHERS),
-    ("extents between others", BETWEEN),
-    ("overlaps at the first place", AT_THE_FIRST_PLACE),
-    ("a root beside attributes", BESIDE_ATTRIBUTES),
-];
-
 #[test]
-fn rows_hold(rt: HostRuntime) {
-    for (what, steps) in ROWS.iter() {
-        assert!(rt; held(rt.alloc(), steps) == steps.len(), "{what}");
-    }
+fn a_root_beside_attributes(rt: HostRuntime) {
+    assert!(rt; held(rt.alloc(), &BESIDE_ATTRIBUTES) == 14);
 }
