@@ -7,6 +7,7 @@ use crate::calls::{call_on, script_of};
 use crate::same::{first_difference, same_reply, tree_on};
 use crate::volume::{LIMIT, MADE, TestVolume, findings_of, maps_of, new_volume};
 use jfs_bits::Moment;
+use jfs_files::Maps;
 use jfs_imap::Pick;
 use jfs_plain::{Call, Line, PlainTree, Refusal, Reply, Request};
 use std::alloc::{AllocError, Global};
@@ -22,7 +23,13 @@ fn plain(tree: &mut PlainTree, call: &Call, fresh: u32, now: Moment) -> Reply {
 
 /// The lowest free inode.
 fn fresh_inode(alloc: Global, volume: &mut TestVolume) -> Option<u32> {
-    let maps = maps_of(alloc, volume)?;
+    match maps_of(alloc, volume) {
+        Some(maps) => number_of(&maps),
+        None => None,
+    }
+}
+
+fn number_of(maps: &Maps) -> Option<u32> {
     match maps.inodes.pick() {
         Pick::Number(n) => Some(n),
         _ => None,

@@ -207,10 +207,21 @@ fn answer_on<D: Disk>(
     answer_by_view(alloc, &mut view, &mut maps, request)
 }
 
-fn answer(alloc: Global, given: Given<'_>, asked: Asked, path: &[u8]) -> Option<Counted> {
+/// What is answered to a call, on a disk that has the small volume.
+fn asked_on<D: Disk>(
+    alloc: Global,
+    disk: &mut D,
+    given: Given<'_>,
+    asked: Asked,
+    path: &[u8],
+) -> Option<Counted> {
     let request = request_of(alloc, asked, path)?;
+    answer_on(alloc, disk, given, &request)
+}
+
+fn answer(alloc: Global, given: Given<'_>, asked: Asked, path: &[u8]) -> Option<Counted> {
     let mut disk = small_disk(alloc, given.blocks, given.words).ok()?;
-    answer_on(alloc, &mut disk, given, &request)
+    asked_on(alloc, &mut disk, given, asked, path)
 }
 
 /// The small volume on a disk of which one read fails, by its number from 1.
@@ -237,9 +248,8 @@ fn answer_by(
     asked: Asked,
     path: &[u8],
 ) -> Option<Counted> {
-    let request = request_of(alloc, asked, path)?;
     let mut disk = failing(alloc, number, given)?;
-    answer_on(alloc, &mut disk, given, &request)
+    asked_on(alloc, &mut disk, given, asked, path)
 }
 
 /// A root without a flag.
