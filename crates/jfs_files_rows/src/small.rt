@@ -5,9 +5,9 @@ ghost use Rattle.jfs_plain.specs.Limits.{FitsPath, FitsCall, FitsRequest, FitsTa
 
 use crate::calls::asked as outcome_of;
 use crate::claims::map_of;
-use crate::words::{EMPTY_DIRECTORY, INNER_ROOT, Word, put_volume, small_disk};
+use crate::words::{EMPTY_DIRECTORY, INNER_ROOT, Word, failing_disk, small_disk};
 use jfs_bits::{Blob, Moment, Rule, put_u32};
-use jfs_disk::{Disk, Fail, Fault, Kind, MemDisk, Part};
+use jfs_disk::{Disk, Fault, Part};
 use jfs_files::{FileOutcome, Maps};
 use jfs_imap::InodeMap;
 use jfs_inode_rows::places_of;
@@ -224,22 +224,6 @@ fn answer(alloc: Global, given: Given<'_>, asked: Asked, path: &[u8]) -> Option<
     asked_on(alloc, &mut disk, given, asked, path)
 }
 
-/// The small volume on a disk of which one read fails, by its number from 1.
-fn failing(alloc: Global, number: u64, given: Given<'_>) -> Option<MemDisk> {
-    let mut disk = MemDisk::new(alloc, given.blocks);
-    put_volume(&mut disk, given.words);
-    let mut fails = Vec::new(alloc);
-    fails
-        .push(Fail {
-            part: Part::Whole,
-            kind: Kind::Read,
-            first: number,
-            last: number,
-        })
-        .ok()?;
-    Some(disk.with_fails(fails))
-}
-
 /// What is answered where one read fails.
 fn answer_by(
     alloc: Global,
@@ -248,7 +232,7 @@ fn answer_by(
     asked: Asked,
     path: &[u8],
 ) -> Option<Counted> {
-    let mut disk = failing(alloc, number, given)?;
+    let mut disk = failing_disk(alloc, number, given.blocks, given.words)?;
     asked_on(alloc, &mut disk, given, asked, path)
 }
 

@@ -1,7 +1,7 @@
 //! The words of a small volume that aren't zero, all in its first 64 blocks, worked out from the layout: inodes 0 to 31 stand on pages 29 to 32.
 
 use jfs_bits::put_u32;
-use jfs_disk::{Disk, Page, SureDisk};
+use jfs_disk::{Disk, Fail, Kind, MemDisk, Page, Part, SureDisk};
 use std::alloc::{AllocError, Global};
 
 /// A page, a place in it, and a number of 4 bytes there.
@@ -99,8 +99,24 @@ pub fn small_disk(alloc: Global, blocks: u32, others: &[Word]) -> Result<SureDis
     Ok(disk)
 }
 
+/// The same on a disk of which one read fails, by its number from 1.
+pub fn failing_disk(alloc: Global, number: u64, blocks: u32, others: &[Word]) -> Option<MemDisk> {
+    let mut disk = MemDisk::new(alloc, blocks);
+    put_volume(&mut disk, others);
+    let mut fails = Vec::new(alloc);
+    fails
+        .push(Fail {
+            part: Part::Whole,
+            kind: Kind::Read,
+            first: number,
+            last: number,
+        })
+        .ok()?;
+    Some(disk.with_fails(fails))
+}
+
 /// Writes the small volume, with these words instead of its own, to a disk of zeros.
-pub fn put_volume<D: Disk>(disk: &mut D, others: &[Word]) {
+fn put_volume<D: Disk>(disk: &mut D, others: &[Word]) {
     for page in 0..64 {
         let mut bytes = Page::zeros();
         put(&mut bytes, page, &ROOT);
