@@ -1,6 +1,6 @@
 //! Directories that go.
 
-use crate::unlinks::{Left, left, map_of_five, why_kept};
+use crate::unlinks::{Left, answer_of, map_of_five, why_kept};
 use crate::volume::{BLOCKS, Word, is_short, path_of, volume_with};
 use jfs_bits::Moment;
 use jfs_disk::{Disk, Part, SureDisk};
@@ -41,7 +41,7 @@ fn answered(
         return None;
     }
     match removed(alloc, disk, map, unit)? {
-        Ok(tx) => left(alloc, disk, &tx),
+        Ok(tx) => answer_of(alloc, disk, &tx),
         Err(why) => Some(Err(why)),
     }
 }

@@ -80,13 +80,13 @@ fn answered(
     limit: u64,
 ) -> Option<Result<Left, Refusal>> {
     match unlinked(alloc, disk, map, unit, limit)? {
-        Ok(tx) => left(alloc, disk, &tx),
+        Ok(tx) => answer_of(alloc, disk, &tx),
         Err(why) => Some(Err(why)),
     }
 }
 
 /// What a transaction leaves, as an answer.
-pub fn left(alloc: Global, disk: &mut SureDisk, tx: &Tx) -> Option<Result<Left, Refusal>> {
+pub fn answer_of(alloc: Global, disk: &mut SureDisk, tx: &Tx) -> Option<Result<Left, Refusal>> {
     match left_by(alloc, disk, tx) {
         Some(left) => Some(Ok(left)),
         None => None,
