@@ -1,5 +1,7 @@
 //! A volume in memory, made by `format`: its file system part has 3,008 blocks, the block map's file begins at block 16, and the inode map's at block 27.
 
+ghost use Rattle.std.specs.Prelude.{◌≡◌, ◌≤◌, IfSome};
+
 use jfs_bits::{Moment, Pxd, clear_run, get_u32, put_u32, set_run};
 use jfs_bmap::BlockMap;
 use jfs_check::check;
@@ -91,7 +93,9 @@ fn block_map(alloc: Global, set: &[u8; 1024]) -> Result<BlockMap, AllocError> {
 }
 
 /// The two maps of the volume, as a mount gives them.
-pub fn maps_of(alloc: Global, volume: &mut TestVolume) -> Option<Maps> {
+pub fn maps_of(alloc: Global, volume: &mut TestVolume) -> Option<Maps>
+    ensures { IfSome result (λ maps. maps.inodes.iags ≡ 1) }
+{
     let blocks = block_map(alloc, &volume.used).ok()?;
     let set = inodes_in_use(&mut volume.disk, volume.places.as_slice());
     let list = places_of(alloc, volume.places.as_slice(), 1).ok()?;
