@@ -3,7 +3,7 @@ use Rattle.std.proofs.lemmas.List.{get_or-replicate}
 use Rattle.jfs_bits.specs.declared.descriptor.Pxd.{Pxd}
 use Rattle.jfs_bits.specs.Descriptor.{FitsPxd}
 use Rattle.jfs_iag.specs.Iag.{no_run}
-use Rattle.jfs_check_rows.proofs.changed.full_iag_passes.Goals as goal
+use Rattle.jfs_map_check_rows.proofs.changed.full_iag_passes.Goals as goal
 
 pub iag_canonical-requires-clause-fits : goal.iag_canonical-requires-clause-fits
 iag_canonical-requires-clause-fits c e h =
