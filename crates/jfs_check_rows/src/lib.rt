@@ -1,8 +1,6 @@
-//! What a check finds on images made by one change of a new volume, and by a few; and its parts by hand: owners of blocks, and pages of both maps that are changed byte by byte.
+//! What a check finds on images made by one change of a new volume, and by a few.
 #![tactic(auto)]
 
-#[cfg(test)]
-mod changed;
 #[cfg(test)]
 mod clean;
 #[cfg(test)]
@@ -13,10 +11,6 @@ mod hostile;
 mod kinds;
 #[cfg(test)]
 mod made;
-#[cfg(test)]
-mod maps;
-#[cfg(test)]
-mod owners;
 #[cfg(test)]
 mod reads;
 #[cfg(test)]

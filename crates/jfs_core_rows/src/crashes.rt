@@ -13,7 +13,7 @@ struct Sectors {
 }
 
 // Entries 1 and 2 go home, then entry 3; entry 4 is taken by a group that is still open.
-static STEPS: [Do; 16] = [
+const STEPS: [Do; 16] = [
     Do::Set(0, 0, 1),
     Do::Set(1, 96, 2),
     Do::Take,
@@ -161,12 +161,12 @@ fn redoes_every_crash(rt: HostRuntime) {
         &rt, "memory",
     );
     let refused = run(alloc, &mut core, &STEPS).expect(&rt, "memory");
-    assert!(rt; refused == None);
+    assert_eq!(rt; refused, None);
     assert!(rt; all_agree(alloc, &core).expect(&rt, "memory"));
 }
 
 // Entries 1 and 2 are stable at home, and the sync count 2 is stable in the log; entry 3 is durable.
-static SYNCED: [Do; 13] = [
+const SYNCED: [Do; 13] = [
     Do::Set(0, 0, 1),
     Do::Set(1, 96, 2),
     Do::Take,
@@ -183,7 +183,7 @@ static SYNCED: [Do; 13] = [
 ];
 
 // The page failed to go home after its first sector: what a read gives is pending, and the page's bytes.
-static FAILED: [Do; 5] = [
+const FAILED: [Do; 5] = [
     Do::Set(0, 0, 1),
     Do::Take,
     Do::Group,
@@ -192,7 +192,7 @@ static FAILED: [Do; 5] = [
 ];
 
 // One line is set twice, and the page is written back.
-static TWICE: [Do; 6] = [
+const TWICE: [Do; 6] = [
     Do::Set(0, 0, 1),
     Do::Set(0, 0, 2),
     Do::Take,

@@ -14,7 +14,7 @@ struct Case {
 }
 
 // Lines that begin in page 5.
-static CASES: [Case; 9] = [
+const CASES: [Case; 9] = [
     Case {
         kind: PageKind::Xtree,
         first: 3,
@@ -113,8 +113,8 @@ fn puts_lines(rt: HostRuntime) {
         apply(&tx, case.page, &mut page);
         for i in 0..4096 {
             let wanted = if case.from <= i && i < case.to { 9 } else { 0 };
-            assert!(rt; page.0[i] == wanted);
+            assert_eq!(rt; page.0[i], wanted);
         }
-        assert!(rt; touches(&tx, case.page) == (case.from < case.to));
+        assert_eq!(rt; touches(&tx, case.page), case.from < case.to);
     }
 }

@@ -60,7 +60,7 @@ const NOT_SYNCED: Option<StepRefused> = Some(StepRefused {
 });
 
 // One page of zeros, and the stages one after another.
-static STAGES: [Stage; 9] = [
+const STAGES: [Stage; 9] = [
     // Entry 1 sets sector 0's first line, is acknowledged, and goes home. The disk holds the zeros, stable, and the page after
     // entry 1, pending: entry 1 is unsynced.
     Stage {
@@ -153,7 +153,10 @@ fn a_page_written_back_twice(rt: HostRuntime) {
     );
     for stage in &STAGES {
         assert!(rt; stage.steps.len() <= 100);
-        assert!(rt; run(alloc, &mut core, stage.steps).expect(&rt, "memory") == stage.refused);
+        assert_eq!(rt;
+            run(alloc, &mut core, stage.steps).expect(&rt, "memory"),
+            stage.refused
+        );
         assert!(rt;
             all_redone(alloc, &core, stage.contents, stage.n, stage.wanted).expect(&rt, "memory")
         );

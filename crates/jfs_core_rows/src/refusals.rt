@@ -7,7 +7,7 @@ struct Case {
     refused: Option<(u32, Why)>,
 }
 
-static CASES: [Case; 26] = [
+const CASES: [Case; 26] = [
     // The log has halted; its group stays open.
     Case {
         steps: &[Do::Set(0, 0, 1), Do::Take, Do::FailGroup, Do::Group],
@@ -201,6 +201,6 @@ fn names_the_first_condition(rt: HostRuntime) {
             Some((at, why)) => Some(StepRefused { at, why }),
             None => None,
         };
-        assert!(rt; refused == wanted);
+        assert_eq!(rt; refused, wanted);
     }
 }

@@ -91,9 +91,9 @@ impl PageView for Shelf {
 #[test]
 fn reads_one_page_after_another(rt: HostRuntime) {
     let mut shelf = Shelf::new(2);
-    assert!(rt; shelf.blocks() == 2);
-    assert!(rt; first_bytes(&mut shelf) == Ok((3, 5)));
-    assert!(rt; first_bytes(&mut shelf) == Ok((3, 5)));
+    assert_eq!(rt; shelf.blocks(), 2);
+    assert_eq!(rt; first_bytes(&mut shelf), Ok((3, 5)));
+    assert_eq!(rt; first_bytes(&mut shelf), Ok((3, 5)));
 }
 
 #[test]
@@ -104,6 +104,6 @@ fn hands_the_count_on(rt: HostRuntime) {
             part: Part::Low,
             count,
         };
-        assert!(rt; first_bytes(&mut shelf) == Err(ViewError::Read(fault)));
+        assert_eq!(rt; first_bytes(&mut shelf), Err(ViewError::Read(fault)));
     }
 }

@@ -82,7 +82,7 @@ fn each_sync_failing(rt: HostRuntime) -> Result<(), TestFail> {
 fn no_read(rt: HostRuntime) -> Result<(), TestFail> {
     let mut disk = disk_with(rt.alloc(), Kind::Read, 1)?;
     assert!(rt; format(&mut disk, Uuid::from_bytes(UUID), b"data", MOMENT).is_ok());
-    assert!(rt; disk.faults() == 0);
+    assert_eq!(rt; disk.faults(), 0);
     Ok(())
 }
 

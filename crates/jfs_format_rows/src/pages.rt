@@ -168,14 +168,23 @@ fn too_few_and_too_many_pages(rt: HostRuntime) {
 #[test]
 fn layouts_by_hand(rt: HostRuntime) {
     let small = Layout::of(4096);
-    assert!(rt; (small.blocks, small.agsize, small.groups) == (3008, 8192, 1));
-    assert!(rt; small.free() == 2975);
+    assert_eq!(rt; (small.blocks, small.agsize, small.groups), (3008, 8192, 1));
+    assert_eq!(rt; small.free(), 2975);
     let most = Layout::of(8_388_608);
-    assert!(rt; (most.log.len, most.work.len) == (32768, 576));
-    assert!(rt; (most.blocks, most.agsize, most.groups) == (8_355_264, 65536, 128));
-    assert!(rt; (most.dmaps, most.iags) == (1020, 128));
-    assert!(rt; most.free() == 8_355_264 - 1179);
+    assert_eq!(rt; (most.log.len, most.work.len), (32768, 576));
+    assert_eq!(rt;
+        (most.blocks, most.agsize, most.groups),
+        (8_355_264, 65536, 128)
+    );
+    assert_eq!(rt; (most.dmaps, most.iags), (1020, 128));
+    assert_eq!(rt; most.free(), 8_355_264 - 1179);
     let middle = Layout::of(1_052_832);
-    assert!(rt; (middle.log.len, middle.work.len, middle.blocks) == (4112, 128, 1_048_592));
-    assert!(rt; (middle.agsize, middle.groups, middle.dmaps) == (16384, 65, 129));
+    assert_eq!(rt;
+        (middle.log.len, middle.work.len, middle.blocks),
+        (4112, 128, 1_048_592)
+    );
+    assert_eq!(rt;
+        (middle.agsize, middle.groups, middle.dmaps),
+        (16384, 65, 129)
+    );
 }

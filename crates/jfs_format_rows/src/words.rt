@@ -5,7 +5,7 @@
 pub const END: u32 = u32::MAX;
 
 /// The superblock, on pages 8 and 15: 3,008 blocks, work space and log behind them.
-pub static SUPER: [(usize, u32); 28] = [
+pub const SUPER: [(usize, u32); 28] = [
     (0, 0x3153_464a),
     (4, 2),
     (8, 24064),
@@ -37,7 +37,7 @@ pub static SUPER: [(usize, u32); 28] = [
 ];
 
 /// The control page of the aggregate inode map, on pages 9 and 25, but for groups 1 on.
-pub static AGGREGATE_CONTROL: [(usize, u32); 8] = [
+pub const AGGREGATE_CONTROL: [(usize, u32); 8] = [
     (0, END),
     (4, 1),
     (8, 32),
@@ -49,7 +49,7 @@ pub static AGGREGATE_CONTROL: [(usize, u32); 8] = [
 ];
 
 /// The only IAG of the aggregate, on pages 10 and 26: inodes 0 to 4 and 16 are in use.
-pub static AGGREGATE_IAG: [(usize, u32); 16] = [
+pub const AGGREGATE_IAG: [(usize, u32); 16] = [
     (12, END),
     (16, END),
     (20, END),
@@ -69,7 +69,7 @@ pub static AGGREGATE_IAG: [(usize, u32); 16] = [
 ];
 
 /// Aggregate inodes 0 to 4, on pages 11 and 21.
-pub static AGGREGATE_INODES: [(usize, u32); 85] = [
+pub const AGGREGATE_INODES: [(usize, u32); 85] = [
     (40, 1),
     (512, 1000),
     (516, 1),
@@ -158,7 +158,7 @@ pub static AGGREGATE_INODES: [(usize, u32); 85] = [
 ];
 
 /// Aggregate inode 16, on pages 13 and 23.
-pub static FILESET_MAP_INODE: [(usize, u32); 23] = [
+pub const FILESET_MAP_INODE: [(usize, u32); 23] = [
     (0, 1000),
     (4, 1),
     (8, 16),
@@ -185,7 +185,7 @@ pub static FILESET_MAP_INODE: [(usize, u32); 23] = [
 ];
 
 /// The control page of the block map, on page 16: 2,975 of 3,008 blocks are free, an aligned run of 2^10 among them.
-pub static MAP_CONTROL: [(usize, u32); 9] = [
+pub const MAP_CONTROL: [(usize, u32); 9] = [
     (0, 3008),
     (8, 2975),
     (20, 1),
@@ -198,7 +198,7 @@ pub static MAP_CONTROL: [(usize, u32); 9] = [
 ];
 
 /// The control page of the fileset's inode map, on page 27, but for groups 1 on.
-pub static FILESET_CONTROL: [(usize, u32); 8] = [
+pub const FILESET_CONTROL: [(usize, u32); 8] = [
     (0, END),
     (4, 1),
     (8, 32),
@@ -210,7 +210,7 @@ pub static FILESET_CONTROL: [(usize, u32); 8] = [
 ];
 
 /// The only IAG of the fileset, on page 28: inodes 0 to 3 are in use.
-pub static FILESET_IAG: [(usize, u32); 16] = [
+pub const FILESET_IAG: [(usize, u32); 16] = [
     (12, END),
     (16, END),
     (20, END),
@@ -230,7 +230,7 @@ pub static FILESET_IAG: [(usize, u32); 16] = [
 ];
 
 /// Fileset inodes 0 to 3, on page 29: inode 2 is the root directory.
-pub static FILESET_INODES: [(usize, u32); 84] = [
+pub const FILESET_INODES: [(usize, u32); 84] = [
     (0, 1000),
     (4, 16),
     (12, 1),
@@ -318,7 +318,7 @@ pub static FILESET_INODES: [(usize, u32); 84] = [
 ];
 
 /// The superblock of the log, on page 3,073.
-pub static LOG_SUPER: [(usize, u32); 13] = [
+pub const LOG_SUPER: [(usize, u32); 13] = [
     (0, 0x8765_4321),
     (4, 1),
     (12, 1024),
@@ -335,7 +335,7 @@ pub static LOG_SUPER: [(usize, u32); 13] = [
 ];
 
 /// The nodes of the tree of dmap 0 that aren't -1; leaf `w` is node 85 + w, of blocks 32 * w on.
-pub static DMAP_TREE: [(usize, u8); 27] = [
+pub const DMAP_TREE: [(usize, u8); 27] = [
     (0, 10),
     (1, 10),
     (2, 9),
@@ -366,11 +366,4 @@ pub static DMAP_TREE: [(usize, u8); 27] = [
 ];
 
 /// The nodes of the control page of level 0 that aren't -1: its first leaf, and the way to it from the root.
-pub static LEVEL_TREE: [(usize, u8); 6] = [
-    (0, 10),
-    (1, 10),
-    (5, 10),
-    (21, 10),
-    (85, 10),
-    (341, 10),
-];
+pub const LEVEL_TREE: [(usize, u8); 6] = [(0, 10), (1, 10), (5, 10), (21, 10), (85, 10), (341, 10)];

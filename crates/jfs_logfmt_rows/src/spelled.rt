@@ -10,24 +10,24 @@ use std::test::*;
 
 const BLOCKS: u32 = 3008;
 
-static COMMIT: [u8; 36] = [
+const COMMIT: [u8; 36] = [
     1, 0, 0, 0, 0xd4, 0xf0, 0x3f, 0, 0, 0x80, 0, 0, 0, 0, 0, 0, 0, 0, 0, 0, 0, 0, 0, 0, 0, 0, 0, 0,
     0, 0, 0, 0, 0, 0, 0, 0,
 ];
 
-static SYNCPT: [u8; 36] = [
+const SYNCPT: [u8; 36] = [
     0, 0, 0, 0, 0, 0, 0, 0, 0, 0x40, 0, 0, 0, 0, 0, 0, 0x2c, 0x20, 0, 0, 0, 0, 0, 0, 0, 0, 0, 0, 0,
     0, 0, 0, 0, 0, 0, 0,
 ];
 
 // Page 20 of inode 4's directory tree.
-static NO_REDO: [u8; 36] = [
+const NO_REDO: [u8; 36] = [
     2, 0, 0, 0, 0, 0, 0, 0, 0x80, 0, 0, 0, 0, 0, 0, 0, 16, 0, 0, 0, 4, 0, 0, 0, 4, 0, 0, 0, 1, 0,
     0, 0, 20, 0, 0, 0,
 ];
 
 // Lines 2 and 3 and line 255 of the new page 2900 of inode 300's extent tree.
-static REDO: [u8; 92] = [
+const REDO: [u8; 92] = [
     1, 2, 3, 4, 5, 6, 7, 8, 9, 10, 11, 12, 13, 14, 15, 16, 17, 18, 19, 20, 21, 22, 23, 24, 25, 26,
     27, 28, 29, 30, 31, 32, 2, 0, 2, 0, 41, 42, 43, 44, 45, 46, 47, 48, 49, 50, 51, 52, 53, 54, 55,
     56, 255, 0, 1, 0, 3, 0, 0, 0, 9, 0, 0, 0, 0, 8, 56, 0, 0, 0, 0, 0, 16, 0, 0, 0, 0x2c, 1, 0, 0,
@@ -35,7 +35,7 @@ static REDO: [u8; 92] = [
 ];
 
 // Blocks 100 to 103 and block 3007 are allocated for inode 5.
-static UPDATE: [u8; 52] = [
+const UPDATE: [u8; 52] = [
     4, 0, 0, 0, 100, 0, 0, 0, 1, 0, 0, 0, 0xbf, 0x0b, 0, 0, 4, 0, 0, 0, 9, 0, 0, 0, 8, 0, 16, 0, 0,
     0, 0, 0, 16, 0, 0, 0, 5, 0, 0, 0, 0x40, 0, 2, 0, 0, 0, 0, 0, 0, 0, 0, 0,
 ];
@@ -73,109 +73,123 @@ fn behind(alloc: Global, text: &[u8]) -> Result<Vec<u8>, AllocError> {
     Ok(bytes)
 }
 
-/// What is read behind three bytes, which is to begin at the fourth one.
-fn read(alloc: Global, text: &[u8]) -> Option<Record> {
-    let bytes = behind(alloc, text).ok()?;
-    match read_record_before(alloc, &bytes, BLOCKS) {
-        Ok((record, 3)) => Some(record),
-        _ => None,
-    }
-}
-
-fn is_commit(record: Option<Record>) -> bool {
-    matches!(
-        record,
-        Some(Record::Commit {
-            tid: 1,
-            back: 4_190_420
-        })
-    )
-}
-
-fn is_syncpt(record: Option<Record>) -> bool {
-    matches!(record, Some(Record::SyncPt { sync: 8236 }))
-}
-
-fn is_no_redo(record: Option<Record>) -> bool {
-    matches!(
-        record,
-        Some(Record::NoRedo {
-            tid: 2,
-            back: 0,
-            fileset: 16,
-            inode: 4,
-            kind: PageKind::Dtree,
-            at: Pxd { len: 1, addr: 20 },
-        })
-    )
-}
-
 #[test]
 fn reads_each_type(rt: HostRuntime) {
-    assert!(rt; is_commit(read(rt.alloc(), &COMMIT)));
-    assert!(rt; is_syncpt(read(rt.alloc(), &SYNCPT)));
-    assert!(rt; is_no_redo(read(rt.alloc(), &NO_REDO)));
-}
-
-/// A range's first line, the number of its bytes, and the first and the last of them.
-fn range_of(range: &LineRange) -> (u16, usize, u8, u8) {
-    let bytes = range.bytes.as_slice();
-    let (Some(first), Some(last)) = (bytes.first(), bytes.last()) else {
-        return (range.first, 0, 0, 0);
-    };
-    (range.first, bytes.len(), *first, *last)
-}
-
-/// The two ranges of a page's lines.
-fn ranges_of(record: Option<Record>) -> Option<[(u16, usize, u8, u8); 2]> {
-    let Record::Redo {
-        tid: 3,
-        back: 9,
-        fileset: 16,
-        inode: 300,
-        kind: PageKind::Xtree,
-        new_page: true,
-        at: Pxd { len: 1, addr: 2900 },
-        ranges,
-    } = record?
-    else {
-        return None;
-    };
-    let [first, second] = ranges.as_slice() else {
-        return None;
-    };
-    Some([range_of(first), range_of(second)])
+    let alloc = rt.alloc();
+    let commit = read_record_before(
+        alloc,
+        behind(alloc, &COMMIT).expect(&rt, "memory").as_slice(),
+        BLOCKS,
+    );
+    assert!(rt;
+        matches!(
+            &commit,
+            Ok((
+                Record::Commit {
+                    tid: 1,
+                    back: 4_190_420
+                },
+                3
+            ))
+        )
+    );
+    let syncpt = read_record_before(
+        alloc,
+        behind(alloc, &SYNCPT).expect(&rt, "memory").as_slice(),
+        BLOCKS,
+    );
+    assert!(rt; matches!(&syncpt, Ok((Record::SyncPt { sync: 8236 }, 3))));
+    let no_redo = read_record_before(
+        alloc,
+        behind(alloc, &NO_REDO).expect(&rt, "memory").as_slice(),
+        BLOCKS,
+    );
+    assert!(rt;
+        matches!(
+            &no_redo,
+            Ok((
+                Record::NoRedo {
+                    tid: 2,
+                    back: 0,
+                    fileset: 16,
+                    inode: 4,
+                    kind: PageKind::Dtree,
+                    at: Pxd { len: 1, addr: 20 },
+                },
+                3
+            ))
+        )
+    );
 }
 
 #[test]
 fn reads_ranges(rt: HostRuntime) {
-    let wanted = [(2, 32, 1, 32), (255, 16, 41, 56)];
-    assert!(rt; ranges_of(read(rt.alloc(), &REDO)) == Some(wanted));
-}
-
-/// Whether these are the runs of `UPDATE`.
-fn are_runs(record: Option<Record>) -> bool {
-    let Some(
-        Record::Update {
-            tid: 4,
-            back: 9,
-            fileset: 16,
-            inode: 5,
-            alloc: true,
-            list,
-        },
-    ) = record
+    let alloc = rt.alloc();
+    let read = read_record_before(
+        alloc,
+        behind(alloc, &REDO).expect(&rt, "memory").as_slice(),
+        BLOCKS,
+    );
+    let Ok(
+        (
+            Record::Redo {
+                tid: 3,
+                back: 9,
+                fileset: 16,
+                inode: 300,
+                kind: PageKind::Xtree,
+                new_page: true,
+                at: Pxd { len: 1, addr: 2900 },
+                ranges,
+            },
+            3,
+        ),
+    ) = read
     else {
-        return false;
+        panic!(rt; "these are lines of a page");
     };
-    list.as_slice() == RUNS.as_slice()
+    let first = ranges.get(0).expect(&rt, "there are two ranges");
+    let second = ranges.get(1).expect(&rt, "there are two ranges");
+    assert_eq!(rt; ranges.len(), 2);
+    assert_eq!(rt; (first.first, first.bytes.len()), (2, 32));
+    assert_eq!(rt; (second.first, second.bytes.len()), (255, 16));
+    assert_eq!(rt;
+        (first.bytes.get(0), first.bytes.get(31)),
+        (Some(&1), Some(&32))
+    );
+    assert_eq!(rt;
+        (second.bytes.get(0), second.bytes.get(15)),
+        (Some(&41), Some(&56))
+    );
 }
-
-static RUNS: [Pxd; 2] = [Pxd { len: 4, addr: 100 }, Pxd { len: 1, addr: 3007 }];
 
 #[test]
 fn reads_runs(rt: HostRuntime) {
-    assert!(rt; are_runs(read(rt.alloc(), &UPDATE)));
+    let alloc = rt.alloc();
+    let read = read_record_before(
+        alloc,
+        behind(alloc, &UPDATE).expect(&rt, "memory").as_slice(),
+        BLOCKS,
+    );
+    let Ok(
+        (
+            Record::Update {
+                tid: 4,
+                back: 9,
+                fileset: 16,
+                inode: 5,
+                alloc: true,
+                list,
+            },
+            3,
+        ),
+    ) = read
+    else {
+        panic!(rt; "these are blocks");
+    };
+    assert_eq!(rt; list.len(), 2);
+    assert_eq!(rt; list.get(0), Some(&Pxd { len: 4, addr: 100 }));
+    assert_eq!(rt; list.get(1), Some(&Pxd { len: 1, addr: 3007 }));
 }
 
 /// A record's text.
@@ -187,25 +201,22 @@ fn written(alloc: Global, r: &Record) -> Result<Vec<u8>, AllocError>
     Ok(text)
 }
 
-/// Whether a record's text is this one.
-fn is_written(alloc: Global, r: &Record, wanted: &[u8]) -> bool
-    requires { Fits r.now }
-{
-    match written(alloc, r) {
-        Ok(text) => text.as_slice() == wanted,
-        Err(_) => false,
-    }
-}
-
 #[test]
 fn writes_each_type(rt: HostRuntime) {
+    let alloc = rt.alloc();
     let commit = Record::Commit {
         tid: 1,
         back: 4_190_420,
     };
-    assert!(rt; is_written(rt.alloc(), &commit, &COMMIT));
+    assert_eq!(rt;
+        written(alloc, &commit).expect(&rt, "memory").as_slice(),
+        COMMIT.as_slice()
+    );
     let syncpt = Record::SyncPt { sync: 8236 };
-    assert!(rt; is_written(rt.alloc(), &syncpt, &SYNCPT));
+    assert_eq!(rt;
+        written(alloc, &syncpt).expect(&rt, "memory").as_slice(),
+        SYNCPT.as_slice()
+    );
     let no_redo = Record::NoRedo {
         tid: 2,
         back: 0,
@@ -214,7 +225,10 @@ fn writes_each_type(rt: HostRuntime) {
         kind: PageKind::Dtree,
         at: Pxd { len: 1, addr: 20 },
     };
-    assert!(rt; is_written(rt.alloc(), &no_redo, &NO_REDO));
+    assert_eq!(rt;
+        written(alloc, &no_redo).expect(&rt, "memory").as_slice(),
+        NO_REDO.as_slice()
+    );
 }
 
 #[test]
@@ -231,16 +245,21 @@ fn writes_runs(rt: HostRuntime) {
         alloc: true,
         list,
     };
-    assert!(rt; is_written(alloc, &update, &UPDATE));
+    assert_eq!(rt;
+        written(alloc, &update).expect(&rt, "memory").as_slice(),
+        UPDATE.as_slice()
+    );
 }
 
 #[test]
 fn writes_ranges(rt: HostRuntime) {
     let alloc = rt.alloc();
     let r = redo(alloc).expect(&rt, "memory");
-    let text = written(alloc, &r).expect(&rt, "memory");
-    assert!(rt; text.as_slice() == REDO.as_slice());
-    let back = there_and_back(alloc, text, &r, BLOCKS).ok();
-    let (_, start) = back.expect(&rt, "it is read back");
-    assert!(rt; start == 92);
+    let mut text = Vec::new(alloc);
+    write_record(&r, &mut text).expect(&rt, "memory");
+    assert_eq!(rt; text.as_slice(), REDO.as_slice());
+    let (_, start) = there_and_back(alloc, text, &r, BLOCKS)
+        .ok()
+        .expect(&rt, "it is read back");
+    assert_eq!(rt; start, 92);
 }

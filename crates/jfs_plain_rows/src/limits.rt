@@ -35,44 +35,36 @@ fn breaks(rule: Rule) -> Option<ScriptError> {
     Some(ScriptError::BadScript { line: 1, rule })
 }
 
-/// Lines with the least and the greatest numbers.
-static GOOD_NUMBERS: [&[u8]; 11] = [
-    b"truncate /f 0",
-    b"truncate /f 18446744073709551615",
-    b"truncate /f 00000000000000000001",
-    b"read /f 0 1",
-    b"read /f 0 4096",
-    b"read /f 18446744073709551614 1",
-    b"fill /f 0 65536 00",
-    b"fill /f 18446744073709486079 65536 ff",
-    b"write /f 18446744073709551615 41",
-    b"mkdir /a 000",
-    b"mkdir /a 7777",
-];
-
-/// Lines with numbers one past these.
-static BAD_NUMBERS: [&[u8]; 9] = [
-    b"truncate /f 18446744073709551616",
-    b"truncate /f 99999999999999999999",
-    b"truncate /f 000000000000000000001",
-    b"read /f 0 0",
-    b"read /f 0 4097",
-    b"read /f 18446744073709551615 1",
-    b"fill /f 0 0 00",
-    b"fill /f 0 65537 00",
-    b"fill /f 18446744073709486080 65536 ff",
-];
-
 #[test]
 fn numbers(rt: HostRuntime) {
-    for line in GOOD_NUMBERS.iter() {
-        assert!(rt; error_of(rt.alloc(), line) == None, "{line:?}");
+    let alloc = rt.alloc();
+    for line in [
+        b"truncate /f 0".as_slice(),
+        b"truncate /f 18446744073709551615",
+        b"truncate /f 00000000000000000001",
+        b"read /f 0 1",
+        b"read /f 0 4096",
+        b"read /f 18446744073709551614 1",
+        b"fill /f 0 65536 00",
+        b"fill /f 18446744073709486079 65536 ff",
+        b"write /f 18446744073709551615 41",
+        b"mkdir /a 000",
+        b"mkdir /a 7777",
+    ] {
+        assert_eq!(rt; error_of(alloc, line), None);
     }
-    for line in BAD_NUMBERS.iter() {
-        assert!(rt;
-            error_of(rt.alloc(), line) == breaks(Rule::Number),
-            "{line:?}"
-        );
+    for line in [
+        b"truncate /f 18446744073709551616".as_slice(),
+        b"truncate /f 99999999999999999999",
+        b"truncate /f 000000000000000000001",
+        b"read /f 0 0",
+        b"read /f 0 4097",
+        b"read /f 18446744073709551615 1",
+        b"fill /f 0 0 00",
+        b"fill /f 0 65537 00",
+        b"fill /f 18446744073709486080 65536 ff",
+    ] {
+        assert_eq!(rt; error_of(alloc, line), breaks(Rule::Number));
     }
 }
 
@@ -192,34 +184,41 @@ fn lines_and_bytes(rt: HostRuntime) {
     }
 }
 
-/// Whether the last line alone, the second one, is asked for, of a note of so many bytes and an end.
-fn is_second(alloc: Global, times: usize, end: &[u8]) -> Option<bool> {
-    let text = repeated(alloc, b"#", b"x", times, end).ok()?;
-    let lines = script_of(alloc, &text).ok()?;
-    let [line] = lines.as_slice() else {
-        return Some(false);
-    };
-    Some(line.number == 2)
-}
-
-// A piece of the source ends between a carriage return and its line feed, and within a word.
 #[test]
 fn pieces(rt: HostRuntime) {
-    assert!(rt; is_second(rt.alloc(), 4094, b"\r\nsync\n") == Some(true));
-    assert!(rt; is_second(rt.alloc(), 4092, b"\nsync\n") == Some(true));
+    let alloc = rt.alloc();
+    // A piece of the source ends between a carriage return and its line feed.
+    let text = repeated(alloc, b"#", b"x", 4094, b"\r\nsync\n").expect(&rt, "memory");
+    let lines = script_of(alloc, &text).ok().expect(&rt, "a script");
+    assert_eq!(rt; lines.len(), 1);
+    assert_eq!(rt; lines[0].number, 2);
+    // And within a word.
+    let text = repeated(alloc, b"#", b"x", 4092, b"\nsync\n").expect(&rt, "memory");
+    let lines = script_of(alloc, &text).ok().expect(&rt, "a script");
+    assert_eq!(rt; lines.len(), 1);
+    assert_eq!(rt; lines[0].number, 2);
 }
 
-/// Why a bad line isn't read where this call on its source fails.
-fn error_at(alloc: Global, call: u64) -> Option<ScriptError> {
-    let text = Vec::from_slice(alloc, b"foo\n").ok()?;
-    let mut source = MemSource::new(text).with_fails(call, call);
-    read_script(alloc, &mut source).err()
-}
-
-// A later fault comes before a bad line too.
 #[test]
 fn faults(rt: HostRuntime) {
-    assert!(rt; error_at(rt.alloc(), 1) == Some(ScriptError::Fault));
-    assert!(rt; error_at(rt.alloc(), 2) == Some(ScriptError::Fault));
-    assert!(rt; error_at(rt.alloc(), 3) == breaks(Rule::Word));
+    let alloc = rt.alloc();
+    let mut source = MemSource::new(Vec::from_slice(alloc, b"foo\n").expect(
+        &rt, "memory",
+    )).with_fails(1, 1);
+    assert_eq!(rt;
+        read_script(alloc, &mut source).err(),
+        Some(ScriptError::Fault)
+    );
+    // A later fault comes before a bad line.
+    let mut source = MemSource::new(Vec::from_slice(alloc, b"foo\n").expect(
+        &rt, "memory",
+    )).with_fails(2, 2);
+    assert_eq!(rt;
+        read_script(alloc, &mut source).err(),
+        Some(ScriptError::Fault)
+    );
+    let mut source = MemSource::new(Vec::from_slice(alloc, b"foo\n").expect(
+        &rt, "memory",
+    )).with_fails(3, 3);
+    assert_eq!(rt; read_script(alloc, &mut source).err(), breaks(Rule::Word));
 }

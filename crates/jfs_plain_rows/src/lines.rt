@@ -86,44 +86,32 @@ fn first_rules(rt: HostRuntime) {
     }
 }
 
-const BAD_FIFTH: ScriptError = ScriptError::BadScript {
-    line: 5,
-    rule: Rule::Path,
-};
-
-/// What three lines of a script ask for: their numbers, and whether each is lazy.
-fn three(alloc: Global, text: &[u8]) -> Option<[(u32, bool); 3]> {
-    let lines = script_of(alloc, text).ok()?;
-    let [a, b, c] = lines.as_slice() else {
-        return None;
-    };
-    Some([
-        (a.number, a.request.lazy),
-        (b.number, b.request.lazy),
-        (c.number, c.request.lazy),
-    ])
-}
-
 #[test]
 fn first_bad_line(rt: HostRuntime) {
+    let alloc = rt.alloc();
     let text = b"# one\n\r\nsync\n  \nstat a\nfoo\nsync\n";
-    assert!(rt; script_of(rt.alloc(), text).err() == Some(BAD_FIFTH));
+    assert_eq!(rt;
+        script_of(alloc, text).err(),
+        Some(ScriptError::BadScript {
+            line: 5,
+            rule: Rule::Path
+        })
+    );
     let text = b"# one\n\r\nsync\n  \nlazy unlink /a\r\n#\nstat /";
-    let wanted = Some([(3, false), (5, true), (7, false)]);
-    assert!(rt; three(rt.alloc(), text) == wanted);
-}
-
-/// Scripts of no line that asks for something.
-static EMPTY: [&[u8]; 4] = [b"", b"\n", b"\n\n#\n", b"# sync"];
-
-/// How many lines of a script ask for something.
-fn count_of(alloc: Global, text: &[u8]) -> Option<usize> {
-    Some(script_of(alloc, text).ok()?.len())
+    let lines = script_of(alloc, text).ok().expect(&rt, "a script");
+    assert_eq!(rt; lines.len(), 3);
+    assert_eq!(rt; lines[0].number, 3);
+    assert_eq!(rt; lines[1].number, 5);
+    assert!(rt; lines[1].request.lazy);
+    assert_eq!(rt; lines[2].number, 7);
+    assert!(rt; !lines[2].request.lazy);
 }
 
 #[test]
 fn nothing_asked(rt: HostRuntime) {
-    for text in EMPTY.iter() {
-        assert!(rt; count_of(rt.alloc(), text) == Some(0), "{text:?}");
+    let alloc = rt.alloc();
+    for text in [b"".as_slice(), b"\n", b"\n\n#\n", b"# sync"] {
+        let lines = script_of(alloc, text).ok().expect(&rt, "a script");
+        assert_eq!(rt; lines.len(), 0);
     }
 }

@@ -55,8 +55,9 @@ static LINKS_OF_A_DIRECTORY: [(&str, &str); 15] = [
 #[test]
 fn links_of_a_directory(rt: HostRuntime) {
     let tree = linked(rt.alloc(), 65_533, 1).expect(&rt, "memory");
-    assert!(rt;
-        first_wrong_of(rt.alloc(), tree, &LINKS_OF_A_DIRECTORY).expect(&rt, "memory") == None
+    assert_eq!(rt;
+        first_wrong_of(rt.alloc(), tree, &LINKS_OF_A_DIRECTORY).expect(&rt, "memory"),
+        None
     );
 }
 
@@ -73,35 +74,29 @@ static LINKS_OF_A_FILE: [(&str, &str); 7] = [
 #[test]
 fn links_of_a_file(rt: HostRuntime) {
     let tree = linked(rt.alloc(), 2, 65_534).expect(&rt, "memory");
-    assert!(rt; first_wrong_of(rt.alloc(), tree, &LINKS_OF_A_FILE).expect(&rt, "memory") == None);
-}
-
-/// Free blocks, how many are wanted, and whether these are too few.
-static SPACE: [(u32, u32, bool); 7] = [
-    (0, 1, true),
-    (71, 8, true),
-    (72, 8, false),
-    (73, 8, false),
-    (u32::MAX, u32::MAX - 63, true),
-    (u32::MAX, u32::MAX - 64, false),
-    (u32::MAX, u32::MAX, true),
-];
-
-fn is_told(free: u32, need: u32, is_short: bool) -> bool {
-    match why_short(free, need) {
-        Some(why) => is_short && why == Refusal::NoSpace { free },
-        None => !is_short,
-    }
+    assert_eq!(rt;
+        first_wrong_of(rt.alloc(), tree, &LINKS_OF_A_FILE).expect(&rt, "memory"),
+        None
+    );
 }
 
 #[test]
 fn space(rt: HostRuntime) {
-    for (free, need, is_short) in SPACE.iter() {
-        assert!(rt; is_told(*free, *need, *is_short), "{free} {need}");
+    for (free, need, is_short) in [
+        (0, 1, true),
+        (71, 8, true),
+        (72, 8, false),
+        (73, 8, false),
+        (u32::MAX, u32::MAX - 63, true),
+        (u32::MAX, u32::MAX - 64, false),
+        (u32::MAX, u32::MAX, true),
+    ] {
+        let why = why_short(free, need);
+        assert_eq!(rt; why, is_short.then_some(Refusal::NoSpace { free }));
     }
 }
 
 #[test]
 fn need(rt: HostRuntime) {
-    assert!(rt; Call::Sync.need() == 0);
+    assert_eq!(rt; Call::Sync.need(), 0);
 }

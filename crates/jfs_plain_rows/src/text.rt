@@ -28,16 +28,13 @@ fn blob(alloc: Global, bytes: &[u8]) -> Result<Blob, AllocError> {
     Ok(blob)
 }
 
-fn named(alloc: Global, units: &[u16], inode: u32) -> Result<NameEntry, AllocError> {
-    let mut name = Name::new(alloc);
-    name.extend_from_slice(units)?;
-    Ok(NameEntry { name, inode })
-}
-
 fn names(alloc: Global) -> Result<NameList, AllocError> {
     let mut names = NameList::new(alloc);
-    names.push(named(alloc, &[0x61, 0x25], 5)?)?;
-    names.push(named(alloc, &[0xe4, 0x62], 6)?)?;
+    for (units, inode) in [([0x61, 0x25], 5), ([0xe4, 0x62], 6)] {
+        let mut name = Name::new(alloc);
+        name.extend_from_slice(&units)?;
+        names.push(NameEntry { name, inode })?;
+    }
     Ok(names)
 }
 
@@ -71,116 +68,105 @@ fn is_target(alloc: Global, bytes: &[u8], wanted: &str) -> Result<bool, AllocErr
     is_line(alloc, Reply::Target(blob(alloc, bytes)?), false, wanted)
 }
 
-fn is_listed(alloc: Global, wanted: &str) -> Result<bool, AllocError> {
-    is_line(alloc, Reply::Names(names(alloc)?), false, wanted)
-}
-
-fn is_empty_list(alloc: Global, wanted: &str) -> Result<bool, AllocError> {
-    is_line(alloc, Reply::Names(NameList::new(alloc)), false, wanted)
-}
-
-/// Whether replies of all kinds but attributes and refusals have their lines.
-fn are_lines(alloc: Global) -> Result<bool, AllocError> {
-    let mut good = is_line(alloc, Reply::Done, true, "7 2.3 ok +\n")?;
-    good &= is_line(alloc, Reply::Done, false, "7 2.3 ok -\n")?;
-    good &= is_bytes(alloc, b"\0\x4f\xff", "7 2.3 bytes 004fff -\n")?;
-    good &= is_bytes(alloc, b"", "7 2.3 bytes - -\n")?;
-    good &= is_target(alloc, b"a b%\x7f/", "7 2.3 target a%20b%25%7F/ -\n")?;
-    good &= is_listed(alloc, "7 2.3 names 2 a%u0025 %u00E4b -\n")?;
-    good &= is_empty_list(alloc, "7 2.3 names 0 -\n")?;
-    Ok(good)
-}
-
 #[test]
 fn replies(rt: HostRuntime) {
-    assert!(rt; are_lines(rt.alloc()).expect(&rt, "memory"));
+    let alloc = rt.alloc();
+    assert!(rt; is_line(alloc, Reply::Done, true, "7 2.3 ok +\n").expect(&rt, "memory"));
+    assert!(rt; is_line(alloc, Reply::Done, false, "7 2.3 ok -\n").expect(&rt, "memory"));
+    assert!(rt; is_bytes(alloc, b"\0\x4f\xff", "7 2.3 bytes 004fff -\n").expect(&rt, "memory"));
+    assert!(rt; is_bytes(alloc, b"", "7 2.3 bytes - -\n").expect(&rt, "memory"));
+    assert!(rt;
+        is_target(alloc, b"a b%\x7f/", "7 2.3 target a%20b%25%7F/ -\n").expect(&rt, "memory")
+    );
+    let listed = Reply::Names(names(alloc).expect(&rt, "memory"));
+    assert!(rt;
+        is_line(alloc, listed, false, "7 2.3 names 2 a%u0025 %u00E4b -\n").expect(&rt, "memory")
+    );
+    let listed = Reply::Names(NameList::new(alloc));
+    assert!(rt; is_line(alloc, listed, false, "7 2.3 names 0 -\n").expect(&rt, "memory"));
 }
-
-/// Kinds and modes, and their lines.
-static STATS: [(NodeKind, u32, &str); 4] = [
-    (
-        NodeKind::Dir,
-        0,
-        "7 2.3 stat dir 0000 2 3 4 18446744073709551615 5 1000 -\n",
-    ),
-    (
-        NodeKind::File,
-        420,
-        "7 2.3 stat file 0644 2 3 4 18446744073709551615 5 1000 -\n",
-    ),
-    (
-        NodeKind::Link,
-        511,
-        "7 2.3 stat link 0777 2 3 4 18446744073709551615 5 1000 -\n",
-    ),
-    (
-        NodeKind::Other,
-        4095,
-        "7 2.3 stat other 7777 2 3 4 18446744073709551615 5 1000 -\n",
-    ),
-];
 
 #[test]
 fn stats(rt: HostRuntime) {
-    for (kind, mode, wanted) in STATS.iter() {
-        let reply = Reply::Attr(stat(*kind, *mode));
-        let is_so = is_line(rt.alloc(), reply, false, wanted).expect(&rt, "memory");
-        assert!(rt; is_so, "{wanted}");
+    let alloc = rt.alloc();
+    for (kind, mode, wanted) in [
+        (
+            NodeKind::Dir,
+            0,
+            b"7 2.3 stat dir 0000 2 3 4 18446744073709551615 5 1000 -\n".as_slice(),
+        ),
+        (
+            NodeKind::File,
+            420,
+            b"7 2.3 stat file 0644 2 3 4 18446744073709551615 5 1000 -\n",
+        ),
+        (
+            NodeKind::Link,
+            511,
+            b"7 2.3 stat link 0777 2 3 4 18446744073709551615 5 1000 -\n",
+        ),
+        (
+            NodeKind::Other,
+            4095,
+            b"7 2.3 stat other 7777 2 3 4 18446744073709551615 5 1000 -\n",
+        ),
+    ] {
+        let text = line_of(alloc, Reply::Attr(stat(kind, mode)), false).expect(&rt, "memory");
+        assert_eq!(rt; text.as_slice(), wanted);
     }
 }
 
-const LOW: Fault = Fault {
-    part: Part::Low,
-    count: 3,
-};
-
-const LOG: Fault = Fault {
-    part: Part::High,
-    count: 1,
-};
-
-const BROKEN: Refusal = Refusal::Damaged {
-    page: 36,
-    rule: Rule::Order,
-};
-
-/// Refusals and their lines.
-static REFUSALS: [(Refusal, &str); 16] = [
-    (Refusal::NotFound, "7 2.3 refused 1 NotFound -\n"),
-    (Refusal::NotDir, "7 2.3 refused 2 NotDir -\n"),
-    (Refusal::IsDir, "7 2.3 refused 3 IsDir -\n"),
-    (Refusal::NotFile, "7 2.3 refused 4 NotFile -\n"),
-    (Refusal::Exists, "7 2.3 refused 5 Exists -\n"),
-    (Refusal::NotEmpty, "7 2.3 refused 6 NotEmpty -\n"),
-    (Refusal::TooManyLinks, "7 2.3 refused 7 TooManyLinks -\n"),
-    (Refusal::FileTooBig, "7 2.3 refused 8 FileTooBig -\n"),
-    (Refusal::IntoItself, "7 2.3 refused 9 IntoItself -\n"),
-    (
-        Refusal::NoSpace { free: 79 },
-        "7 2.3 refused 10 NoSpace 79 -\n",
-    ),
-    (Refusal::NoInodes, "7 2.3 refused 11 NoInodes -\n"),
-    (
-        Refusal::ReadOnly { fault: LOG },
-        "7 2.3 refused 12 ReadOnly log 1 -\n",
-    ),
-    (
-        Refusal::IoFault { fault: LOW },
-        "7 2.3 refused 13 IoFault low 3 -\n",
-    ),
-    (Refusal::OutOfMemory, "7 2.3 refused 14 OutOfMemory -\n"),
-    (BROKEN, "7 2.3 refused 15 Damaged 36 order -\n"),
-    (
-        Refusal::TooDeep { inode: 2 },
-        "7 2.3 refused 16 TooDeep 2 -\n",
-    ),
-];
-
 #[test]
 fn refusals(rt: HostRuntime) {
-    for (refusal, wanted) in REFUSALS.iter() {
-        let reply = Reply::Refused(*refusal);
-        let is_so = is_line(rt.alloc(), reply, false, wanted).expect(&rt, "memory");
-        assert!(rt; is_so, "{wanted}");
+    let alloc = rt.alloc();
+    let low = Fault {
+        part: Part::Low,
+        count: 3,
+    };
+    let log = Fault {
+        part: Part::High,
+        count: 1,
+    };
+    for (refusal, wanted) in [
+        (
+            Refusal::NotFound,
+            b"7 2.3 refused 1 NotFound -\n".as_slice(),
+        ),
+        (Refusal::NotDir, b"7 2.3 refused 2 NotDir -\n"),
+        (Refusal::IsDir, b"7 2.3 refused 3 IsDir -\n"),
+        (Refusal::NotFile, b"7 2.3 refused 4 NotFile -\n"),
+        (Refusal::Exists, b"7 2.3 refused 5 Exists -\n"),
+        (Refusal::NotEmpty, b"7 2.3 refused 6 NotEmpty -\n"),
+        (Refusal::TooManyLinks, b"7 2.3 refused 7 TooManyLinks -\n"),
+        (Refusal::FileTooBig, b"7 2.3 refused 8 FileTooBig -\n"),
+        (Refusal::IntoItself, b"7 2.3 refused 9 IntoItself -\n"),
+        (
+            Refusal::NoSpace { free: 79 },
+            b"7 2.3 refused 10 NoSpace 79 -\n",
+        ),
+        (Refusal::NoInodes, b"7 2.3 refused 11 NoInodes -\n"),
+        (
+            Refusal::ReadOnly { fault: log },
+            b"7 2.3 refused 12 ReadOnly log 1 -\n",
+        ),
+        (
+            Refusal::IoFault { fault: low },
+            b"7 2.3 refused 13 IoFault low 3 -\n",
+        ),
+        (Refusal::OutOfMemory, b"7 2.3 refused 14 OutOfMemory -\n"),
+        (
+            Refusal::Damaged {
+                page: 36,
+                rule: Rule::Order,
+            },
+            b"7 2.3 refused 15 Damaged 36 order -\n",
+        ),
+        (
+            Refusal::TooDeep { inode: 2 },
+            b"7 2.3 refused 16 TooDeep 2 -\n",
+        ),
+    ] {
+        let text = line_of(alloc, Reply::Refused(refusal), false).expect(&rt, "memory");
+        assert_eq!(rt; text.as_slice(), wanted);
     }
 }

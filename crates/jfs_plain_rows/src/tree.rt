@@ -108,7 +108,10 @@ static INTO_ITSELF: [(&str, &str); 7] = [
 
 #[test]
 fn a_directory_into_itself_and_two_names_of_one_file(rt: HostRuntime) {
-    assert!(rt; first_wrong(rt.alloc(), 33_554_432, &INTO_ITSELF).expect(&rt, "memory") == None);
+    assert_eq!(rt;
+        first_wrong(rt.alloc(), 33_554_432, &INTO_ITSELF).expect(&rt, "memory"),
+        None
+    );
 }
 
 static HOLES: [(&str, &str); 13] = [
@@ -129,7 +132,10 @@ static HOLES: [(&str, &str); 13] = [
 
 #[test]
 fn holes_and_the_file_limit(rt: HostRuntime) {
-    assert!(rt; first_wrong(rt.alloc(), 268_435_456, &HOLES).expect(&rt, "memory") == None);
+    assert_eq!(rt;
+        first_wrong(rt.alloc(), 268_435_456, &HOLES).expect(&rt, "memory"),
+        None
+    );
 }
 
 static EACH_CALL: [(&str, &str); 30] = [
@@ -167,7 +173,10 @@ static EACH_CALL: [(&str, &str); 30] = [
 
 #[test]
 fn each_call(rt: HostRuntime) {
-    assert!(rt; first_wrong(rt.alloc(), 33_554_432, &EACH_CALL).expect(&rt, "memory") == None);
+    assert_eq!(rt;
+        first_wrong(rt.alloc(), 33_554_432, &EACH_CALL).expect(&rt, "memory"),
+        None
+    );
 }
 
 static EACH_REFUSAL: [(&str, &str); 42] = [
@@ -217,7 +226,10 @@ static EACH_REFUSAL: [(&str, &str); 42] = [
 
 #[test]
 fn each_refusal(rt: HostRuntime) {
-    assert!(rt; first_wrong(rt.alloc(), 33_554_432, &EACH_REFUSAL).expect(&rt, "memory") == None);
+    assert_eq!(rt;
+        first_wrong(rt.alloc(), 33_554_432, &EACH_REFUSAL).expect(&rt, "memory"),
+        None
+    );
 }
 
 static RENAMES_OF_DIRECTORIES: [(&str, &str); 16] = [
@@ -241,8 +253,9 @@ static RENAMES_OF_DIRECTORIES: [(&str, &str); 16] = [
 
 #[test]
 fn renames_of_directories(rt: HostRuntime) {
-    assert!(rt;
-        first_wrong(rt.alloc(), 33_554_432, &RENAMES_OF_DIRECTORIES).expect(&rt, "memory") == None
+    assert_eq!(rt;
+        first_wrong(rt.alloc(), 33_554_432, &RENAMES_OF_DIRECTORIES).expect(&rt, "memory"),
+        None
     );
 }
 
@@ -263,7 +276,8 @@ static RENAMES_OF_FILES: [(&str, &str); 12] = [
 
 #[test]
 fn renames_of_files(rt: HostRuntime) {
-    assert!(rt;
-        first_wrong(rt.alloc(), 33_554_432, &RENAMES_OF_FILES).expect(&rt, "memory") == None
+    assert_eq!(rt;
+        first_wrong(rt.alloc(), 33_554_432, &RENAMES_OF_FILES).expect(&rt, "memory"),
+        None
     );
 }

@@ -29,6 +29,6 @@ fn full_leaves(rt: HostRuntime) -> Result<(), Fail> {
     let mut file = File::new(rt.alloc())?;
     assert!(rt; appends(rt.alloc(), &mut file, 1250)?);
     // 10,000 fragments: 39 leaves of 254 and one of 94, and the page above them
-    assert!(rt; file.pages() == 41);
+    assert_eq!(rt; file.pages(), 41);
     Ok(())
 }

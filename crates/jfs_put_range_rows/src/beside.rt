@@ -51,18 +51,22 @@ fn below_another_page(rt: HostRuntime) -> Result<(), Fail> {
     let mut file = two_subtrees(rt.alloc())?;
     assert!(rt; is_linked(&file));
     // in the middle of the full leaf
-    assert!(rt; file.puts(rt.alloc(), &[recorded(101, 1, 3000)])? == Some(Ok(())));
-    assert!(rt; file.pages() == 6);
+    assert_eq!(rt;
+        file.puts(rt.alloc(), &[recorded(101, 1, 3000)])?,
+        Some(Ok(()))
+    );
+    assert_eq!(rt; file.pages(), 6);
     assert!(rt; is_linked(&file));
     // behind it, and over both leaves
     let mut file = two_subtrees(rt.alloc())?;
-    assert!(rt;
+    assert_eq!(rt;
         file.puts(
             rt.alloc(),
             &[recorded(990, 2, 3000), recorded(995, 12, 3100)]
-        )? == Some(Ok(()))
+        )?,
+        Some(Ok(()))
     );
-    assert!(rt; file.pages() == 6);
+    assert_eq!(rt; file.pages(), 6);
     assert!(rt; is_linked(&file));
     Ok(())
 }

@@ -51,7 +51,7 @@ fn refuses(
 fn a_page_that_cannot_be_read(rt: HostRuntime) -> Result<(), Fail> {
     let mut file = File::new(rt.alloc())?;
     assert!(rt; fills(rt.alloc(), &mut file, 40)?);
-    assert!(rt; file.pages() == 2);
+    assert_eq!(rt; file.pages(), 2);
     let list = file.list(rt.alloc()).ok();
     file.loses(1);
     // the second page alone, and behind the first one
@@ -60,11 +60,14 @@ fn a_page_that_cannot_be_read(rt: HostRuntime) -> Result<(), Fail> {
     let both = [recorded(503, 3, 3000), recorded(509, 4, 3100)];
     assert!(rt; refuses(rt.alloc(), &mut file, &both, fault(2))?);
     // the first page alone
-    assert!(rt; file.puts(rt.alloc(), &[recorded(0, 1, 1000)])? == Some(Ok(())));
+    assert_eq!(rt;
+        file.puts(rt.alloc(), &[recorded(0, 1, 1000)])?,
+        Some(Ok(()))
+    );
     file.loses(8192);
     assert!(rt; list.is_some());
     if let Some(list) = list {
-        assert!(rt; file.has(rt.alloc(), list.as_slice()) == Ok(true));
+        assert_eq!(rt; file.has(rt.alloc(), list.as_slice()), Ok(true));
     }
     Ok(())
 }
@@ -73,7 +76,7 @@ fn a_page_that_cannot_be_read(rt: HostRuntime) -> Result<(), Fail> {
 fn the_first_broken_page(rt: HostRuntime) -> Result<(), Fail> {
     let mut file = File::new(rt.alloc())?;
     assert!(rt; fills(rt.alloc(), &mut file, 40)?);
-    assert!(rt; file.pages() == 2);
+    assert_eq!(rt; file.pages(), 2);
     if let Some(page) = file.page(1) {
         put_u8(&mut page.0, 16, 0);
     }
@@ -89,7 +92,10 @@ fn the_first_broken_page(rt: HostRuntime) -> Result<(), Fail> {
     };
     let both = [recorded(503, 1, 3000), recorded(516, 1, 3100)];
     assert!(rt; refuses(rt.alloc(), &mut file, &both, flag)?);
-    assert!(rt; file.puts(rt.alloc(), &[recorded(0, 1, 1000)])? == Some(Ok(())));
+    assert_eq!(rt;
+        file.puts(rt.alloc(), &[recorded(0, 1, 1000)])?,
+        Some(Ok(()))
+    );
     Ok(())
 }
 
@@ -173,7 +179,7 @@ fn a_ninth_level(rt: HostRuntime) -> Result<(), Fail> {
     );
     // where the root has room for one more, a page of each level is split
     let mut file = tall(rt.alloc(), 15)?;
-    assert!(rt; file.puts(rt.alloc(), &range)? == Some(Ok(())));
-    assert!(rt; file.pages() == 15);
+    assert_eq!(rt; file.puts(rt.alloc(), &range)?, Some(Ok(())));
+    assert_eq!(rt; file.pages(), 15);
     Ok(())
 }

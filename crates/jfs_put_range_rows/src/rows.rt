@@ -59,7 +59,7 @@ fn in_holes(rt: HostRuntime) -> Result<(), Fail> {
             ]
         )?
     );
-    assert!(rt; file.pages() == 0);
+    assert_eq!(rt; file.pages(), 0);
     Ok(())
 }
 
@@ -119,9 +119,12 @@ fn seventeen_blocks(rt: HostRuntime) -> Result<(), Fail> {
     let range = seventeen(rt.alloc())?;
     assert!(rt; file.makes(rt.alloc(), range.as_slice(), range.as_slice())?);
     // a root has 16 entries
-    assert!(rt; file.pages() == 1);
+    assert_eq!(rt; file.pages(), 1);
     // an eighteenth block, and nothing
-    assert!(rt; file.puts(rt.alloc(), &[recorded(0, 1, 1000), recorded(17, 1, 1100)])? == None);
-    assert!(rt; file.puts(rt.alloc(), &[])? == None);
+    assert_eq!(rt;
+        file.puts(rt.alloc(), &[recorded(0, 1, 1000), recorded(17, 1, 1100)])?,
+        None
+    );
+    assert_eq!(rt; file.puts(rt.alloc(), &[])?, None);
     Ok(())
 }

@@ -33,5 +33,5 @@ fn a_fresh_log_says_no_transaction(rt: HostRuntime) {
     let mut disk = SureDisk::new(rt.alloc(), 256).expect(&rt, "memory");
     let (records, said) = fresh_records(rt.alloc(), &mut disk).expect(&rt, "a log");
     assert!(rt; matches!(records.as_slice(), [Record::SyncPt { sync: 0 }]));
-    assert!(rt; said == 0);
+    assert_eq!(rt; said, 0);
 }

@@ -43,7 +43,7 @@ fn a_disk_that_fails_at_its_read(rt: HostRuntime) {
     // The second read is sound.
     let disk = after(&rt, alloc, &words, disk, Status::Done, LINES);
     assert!(rt; disk.is_some());
-    assert!(rt; Status::DiskFault.number() == 7);
+    assert_eq!(rt; Status::DiskFault.number(), 7);
 }
 
 /// Of a sound volume a second read would fail; of 8 pages any would. The pages, the first read that fails, the status and the text.
@@ -143,5 +143,5 @@ fn sinks_that_fail(rt: HostRuntime) {
         );
         assert!(rt; is_so);
     }
-    assert!(rt; Status::SinkFault.number() == 6);
+    assert_eq!(rt; Status::SinkFault.number(), 6);
 }

@@ -2,8 +2,7 @@
 
 use crate::refusals::change;
 use crate::volume::{
-    Command, LINES, after, after_all, after_number, disk_with, failing, fails_at, is_wrong_word,
-    sound_page, status_of,
+    LINES, after, after_number, disk_with, failing, fails_at, is_wrong_word, sound_page, status_of,
 };
 use jfs_command::Status;
 use jfs_disk::{Disk, Fail, Kind, MemDisk, Page};
@@ -82,16 +81,22 @@ fn names_the_wrong_word_of_format(rt: HostRuntime) {
     }
 }
 
-static DESCRIBED: [Command; 2] = [(&["super", "I"], "", 0, LINES), (&["log", "I"], "", 0, LOG)];
-
 #[test]
 fn a_new_volume_is_described(rt: HostRuntime) {
     let alloc = rt.alloc();
     for uuid in FORMS.iter() {
         let words = ["format", "I", *uuid, "data"];
-        let disk = old_disk(alloc, 4096);
-        let disk = after(&rt, alloc, &words, disk, Status::Done, FORMATTED);
-        assert!(rt; after_all(&rt, alloc, disk, &DESCRIBED).is_some(), "{uuid}");
+        let disk = after(
+            &rt,
+            alloc,
+            &words,
+            old_disk(alloc, 4096),
+            Status::Done,
+            FORMATTED,
+        );
+        let disk = after(&rt, alloc, &["super", "I"], disk, Status::Done, LINES);
+        let disk = after(&rt, alloc, &["log", "I"], disk, Status::Done, LOG);
+        assert!(rt; disk.is_some(), "{uuid}");
     }
 }
 

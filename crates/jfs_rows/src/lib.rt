@@ -12,8 +12,6 @@ mod fields;
 #[cfg(test)]
 mod format;
 #[cfg(test)]
-mod left;
-#[cfg(test)]
 mod log;
 #[cfg(test)]
 mod redo;

@@ -4,8 +4,7 @@ use crate::check::{CLEAN, altered, new_volume};
 use crate::faults::faults_of;
 use crate::refusals::Change;
 use crate::volume::{
-    Command, Script, after, after_all, after_number, came, failing_all, fails_at, is_wrong_word,
-    run, sound_disk,
+    Script, after, after_number, came, failing_all, fails_at, is_wrong_word, run, sound_disk,
 };
 use jfs_command::Status;
 use jfs_disk::{Disk, Fail, Kind, MemDisk, Page};
@@ -53,20 +52,14 @@ fn of_a_clean_volume_nothing_is_written(rt: HostRuntime) {
     assert!(rt; faults_of(&disk) == Some(0));
 }
 
-const REDO: &'static [&'static str] = &["redo", "I"];
-
-const CHECK: &'static [&'static str] = &["check", "I"];
-
-static ONCE: [Command; 3] = [
-    (REDO, "", 0, NONE),
-    (REDO, "", 0, UNMOUNTED),
-    (CHECK, "", 0, CLEAN),
-];
-
 #[test]
 fn a_mounted_volume_is_redone_once(rt: HostRuntime) {
-    let disk = changed(&rt, rt.alloc(), &[MOUNTED]);
-    assert!(rt; after_all(&rt, rt.alloc(), disk, &ONCE).is_some());
+    let alloc = rt.alloc();
+    let disk = changed(&rt, alloc, &[MOUNTED]);
+    let disk = after(&rt, alloc, &WORDS, disk, Status::Done, NONE);
+    let disk = after(&rt, alloc, &WORDS, disk, Status::Done, UNMOUNTED);
+    let disk = after(&rt, alloc, &["check", "I"], disk, Status::Done, CLEAN);
+    assert!(rt; disk.is_some());
 }
 
 /// On the log's last page, behind its SYNCPT, a transaction that puts the number 7 at the start of line 28 of page 29: a REDOPAGE with one line, and a COMMIT.
@@ -101,16 +94,20 @@ fn line_of(disk: Option<MemDisk>) -> Option<u8> {
     Some(page.0[3584])
 }
 
-static ONE_REDONE: [Command; 2] = [
-    (REDO, "", 0, "redo 1 transactions\n"),
-    (CHECK, "", 0, CLEAN),
-];
-
 #[test]
 fn a_transaction_is_redone(rt: HostRuntime) {
     let alloc = rt.alloc();
     assert!(rt; line_of(with_one_line(&rt, alloc)) == Some(0));
-    let disk = after_all(&rt, alloc, with_one_line(&rt, alloc), &ONE_REDONE);
+    let disk = with_one_line(&rt, alloc);
+    let disk = after(
+        &rt,
+        alloc,
+        &WORDS,
+        disk,
+        Status::Done,
+        "redo 1 transactions\n",
+    );
+    let disk = after(&rt, alloc, &["check", "I"], disk, Status::Done, CLEAN);
     assert!(rt; line_of(disk) == Some(7));
 }
 
@@ -140,23 +137,19 @@ fn left_with<R: Threads + Wait + Sync>(
     Some((came.disk, out.bytes().ends_with(end.as_bytes())))
 }
 
-static RING_REDONE: [Command; 2] = [
-    (REDO, "", 0, "redo 104 transactions\n"),
-    (CHECK, "", 0, CLEAN),
-];
-
-const RING_END: &str =
-    "4194260 102 COMMIT\n4194296 103 COMMIT\n8236 104 COMMIT\nlog 107 records, end 8236\n";
-
 // The last page of the ring ends with the COMMIT of transaction 103, and its first one has that of 104.
 #[test]
 fn a_log_that_goes_round_its_ring_is_redone(rt: HostRuntime) {
     let alloc = rt.alloc();
     let script = chmods(alloc, 103).expect(&rt, "memory");
-    let left = left_with(&rt, alloc, script.as_str(), RING_END);
-    let (disk, is_so) = left.expect(&rt, "memory");
+    let end =
+        "4194260 102 COMMIT\n4194296 103 COMMIT\n8236 104 COMMIT\nlog 107 records, end 8236\n";
+    let (disk, is_so) = left_with(&rt, alloc, script.as_str(), end).expect(&rt, "memory");
     assert!(rt; is_so);
-    assert!(rt; after_all(&rt, alloc, Some(disk), &RING_REDONE).is_some());
+    let redone = "redo 104 transactions\n";
+    let disk = after(&rt, alloc, &WORDS, Some(disk), Status::Done, redone);
+    let disk = after(&rt, alloc, &["check", "I"], disk, Status::Done, CLEAN);
+    assert!(rt; disk.is_some());
 }
 
 /// Changes of a mounted volume, the status's number, and the text. The label stands at byte 52 of the log's second page, 3073; the block map tells its volume's size on page 16.

@@ -4,7 +4,7 @@ use crate::check::{CLEAN, altered, new_volume};
 use crate::faults::faults_of;
 use crate::refusals::Change;
 use crate::volume::{
-    Command, Script, after, after_all, failing_all, fails_at, is_wrong_word, run, sound_disk,
+    Script, after, after_number, failing_all, fails_at, is_wrong_word, run, sound_disk,
 };
 use jfs_command::{Ended, Status};
 use jfs_disk::{Fail, Kind, MemDisk, Part};
@@ -13,28 +13,31 @@ use std::alloc::Global;
 use std::sync::Wait;
 use std::thread::Threads;
 
+const WORDS: [&str; 3] = ["run", "I", "S"];
+
+const LEAVE: [&str; 4] = ["run", "--leave", "I", "S"];
+
 /// A script, and what is printed.
-pub type Row = (&'static str, &'static str);
+type Row = (&'static str, &'static str);
 
 /// A directory and a file in it.
-const FIRST_SCRIPT: &str = "mkdir /a 0755
+const FIRST: Row = (
+    "mkdir /a 0755
 create /a/f 0644
 fill /a/f 0 6 41
 read /a/f 0 16
 stat /a/f
 list /a
-";
-
-const FIRST_TEXT: &str = "1 1.1 ok +
+",
+    "1 1.1 ok +
 2 1.2 ok +
 3 1.3 ok +
 4 1.4 bytes 414141414141 -
 5 1.5 stat file 0644 1 0 0 6 5 1000 -
 6 1.6 names 1 f -
 done 6 entries, 3 durable
-";
-
-const FIRST: Row = (FIRST_SCRIPT, FIRST_TEXT);
+",
+);
 
 /// Scripts of a new volume.
 static ROWS: [Row; 6] = [
@@ -102,7 +105,7 @@ fn came<R: Threads + Wait + Sync, K: Sink>(
 }
 
 /// The disk after a run that ended with this status and this text; `None` where it didn't.
-pub fn after_run<R: Threads + Wait + Sync>(
+fn after_run<R: Threads + Wait + Sync>(
     rt: &R,
     alloc: Global,
     words: &[&str],
@@ -125,7 +128,7 @@ fn scripts_on_a_new_volume(rt: HostRuntime) {
     let alloc = rt.alloc();
     for (script, text) in ROWS.iter() {
         let disk = new_volume(&rt, alloc);
-        let disk = after_run(&rt, alloc, RUN, Script::of(script), disk, 0, text);
+        let disk = after_run(&rt, alloc, &WORDS, Script::of(script), disk, 0, text);
         assert!(rt; faults_of(&disk) == Some(0), "{text}");
     }
 }
@@ -140,7 +143,7 @@ fn tells_the_history(rt: HostRuntime) {
     let alloc = rt.alloc();
     let mut out = SureSink::new(alloc);
     let disk = new_volume(&rt, alloc);
-    let came = came(&rt, alloc, RUN, Script::of(FIRST_SCRIPT), disk, &mut out);
+    let came = came(&rt, alloc, &WORDS, Script::of(FIRST.0), disk, &mut out);
     assert!(rt; came.is_some());
     if let Some(ended) = came {
         assert!(rt; counts_of(&ended) == (6, [1, 2, 3].as_slice()));
@@ -148,7 +151,7 @@ fn tells_the_history(rt: HostRuntime) {
 }
 
 /// The state of the volume stands there on page 8, and says that it is mounted.
-pub const MOUNTED: (u32, Change) = (8, (40, 4, 1));
+const MOUNTED: (u32, Change) = (8, (40, 4, 1));
 
 /// The superblock of a clean volume that another made: version 1, other flags, and a log of 256 pages.
 static OF_ANOTHER: [(u32, Change); 3] = [
@@ -158,7 +161,7 @@ static OF_ANOTHER: [(u32, Change); 3] = [
 ];
 
 /// A new volume with these changes of its pages, each of one number.
-pub fn changed<R: Threads + Wait + Sync>(
+fn changed<R: Threads + Wait + Sync>(
     rt: &R,
     alloc: Global,
     changes: &[(u32, Change)],
@@ -170,58 +173,137 @@ pub fn changed<R: Threads + Wait + Sync>(
     disk
 }
 
-pub const RUN: &'static [&'static str] = &["run", "I", "S"];
-
-pub const LEAVE: &'static [&'static str] = &["run", "--leave", "I", "S"];
-
-pub const CHECK: &'static [&'static str] = &["check", "I"];
-
-pub const REDO: &'static [&'static str] = &["redo", "I"];
-
-/// Files of a small log are shorter.
-static ON_A_SMALL_LOG: [Command; 2] = [
-    (RUN, FIRST_SCRIPT, 0, FIRST_TEXT),
-    (
-        RUN,
-        "truncate /a/f 33554433\ntruncate /a/f 33554432",
-        0,
-        "1 1.1 refused 8 FileTooBig -\n2 1.2 ok +\ndone 2 entries, 1 durable\n",
-    ),
-];
-
 #[test]
 fn a_volume_of_another_maker(rt: HostRuntime) {
-    let disk = changed(&rt, rt.alloc(), &OF_ANOTHER);
-    assert!(rt; after_all(&rt, rt.alloc(), disk, &ON_A_SMALL_LOG).is_some());
+    let alloc = rt.alloc();
+    let disk = changed(&rt, alloc, &OF_ANOTHER);
+    let disk = after_run(&rt, alloc, &WORDS, Script::of(FIRST.0), disk, 0, FIRST.1);
+    // Files of a small log are shorter.
+    let script = Script::of("truncate /a/f 33554433\ntruncate /a/f 33554432");
+    let text = "1 1.1 refused 8 FileTooBig -\n2 1.2 ok +\ndone 2 entries, 1 durable\n";
+    let disk = after_run(&rt, alloc, &WORDS, script, disk, 0, text);
+    assert!(rt; disk.is_some());
 }
-
-/// Nine files come and go.
-static NINE_FILES: [Command; 4] = [
-    (
-        RUN,
-        "create /f1 0644\ncreate /f2 0644\ncreate /f3 0644\ncreate /f4 0644\ncreate /f5 0644\n\
-create /f6 0644\ncreate /f7 0644\ncreate /f8 0644\ncreate /f9 0644\n",
-        0,
-        "1 1.1 ok +\n2 1.2 ok +\n3 1.3 ok +\n4 1.4 ok +\n5 1.5 ok +\n6 1.6 ok +\n7 1.7 ok +\n8 1.8 ok +\n9 1.9 ok +\n\
-done 9 entries, 9 durable\n",
-    ),
-    (CHECK, "", 0, "clean, 2974 free blocks, 13 inodes\n"),
-    (
-        RUN,
-        "unlink /f1\nunlink /f2\nunlink /f3\nunlink /f4\nunlink /f5\n\
-unlink /f6\nunlink /f7\nunlink /f8\nunlink /f9\nlist /\n",
-        0,
-        "1 1.1 ok +\n2 1.2 ok +\n3 1.3 ok +\n4 1.4 ok +\n5 1.5 ok +\n6 1.6 ok +\n7 1.7 ok +\n8 1.8 ok +\n9 1.9 ok +\n\
-10 1.10 names 0 -\ndone 10 entries, 9 durable\n",
-    ),
-    (CHECK, "", 0, CLEAN),
-];
 
 #[test]
 fn freed_blocks_come_back(rt: HostRuntime) {
-    let disk = new_volume(&rt, rt.alloc());
-    assert!(rt; after_all(&rt, rt.alloc(), disk, &NINE_FILES).is_some());
+    let alloc = rt.alloc();
+    let nine =
+        "create /f1 0644\ncreate /f2 0644\ncreate /f3 0644\ncreate /f4 0644\ncreate /f5 0644\n\
+create /f6 0644\ncreate /f7 0644\ncreate /f8 0644\ncreate /f9 0644\n";
+    let text =
+        "1 1.1 ok +\n2 1.2 ok +\n3 1.3 ok +\n4 1.4 ok +\n5 1.5 ok +\n6 1.6 ok +\n7 1.7 ok +\n8 1.8 ok +\n9 1.9 ok +\n\
+done 9 entries, 9 durable\n";
+    let disk = new_volume(&rt, alloc);
+    let disk = after_run(&rt, alloc, &WORDS, Script::of(nine), disk, 0, text);
+    let clean = "clean, 2974 free blocks, 13 inodes\n";
+    let disk = after(&rt, alloc, &["check", "I"], disk, Status::Done, clean);
+    let none = "unlink /f1\nunlink /f2\nunlink /f3\nunlink /f4\nunlink /f5\n\
+unlink /f6\nunlink /f7\nunlink /f8\nunlink /f9\nlist /\n";
+    let text =
+        "1 1.1 ok +\n2 1.2 ok +\n3 1.3 ok +\n4 1.4 ok +\n5 1.5 ok +\n6 1.6 ok +\n7 1.7 ok +\n8 1.8 ok +\n9 1.9 ok +\n\
+10 1.10 names 0 -\ndone 10 entries, 9 durable\n";
+    let disk = after_run(&rt, alloc, &WORDS, Script::of(none), disk, 0, text);
+    let disk = after(&rt, alloc, &["check", "I"], disk, Status::Done, CLEAN);
+    assert!(rt; disk.is_some());
 }
+
+// ---- a volume that is left
+
+/// Three calls, and what is printed.
+const THREE: Row = (
+    "mkdir /a 0755\ncreate /a/f 0644\nfill /a/f 0 65536 41\n",
+    "1 1.1 ok +\n2 1.2 ok +\n3 1.3 ok +\ndone 3 entries, 3 durable\n",
+);
+
+/// All writes fail from this one on.
+fn failing_from(alloc: Global, disk: Option<MemDisk>, first: u64) -> Option<MemDisk> {
+    failing_all(alloc, disk, &[fails_at(Kind::Write, first, u64::MAX)])
+}
+
+#[test]
+fn a_volume_that_is_left_is_redone(rt: HostRuntime) {
+    let alloc = rt.alloc();
+    let redo = ["redo", "I"];
+    let disk = new_volume(&rt, alloc);
+    let disk = after_run(&rt, alloc, &LEAVE, Script::of(THREE.0), disk, 0, THREE.1);
+    let disk = failing_from(alloc, disk, 4);
+    let disk = after_number(&rt, alloc, &redo, disk, 7, "jfsd: disk fault\n");
+    let disk = failing_all(alloc, disk, &[]);
+    let disk = after_number(&rt, alloc, &redo, disk, 0, "redo 3 transactions\n");
+    let disk = after_number(&rt, alloc, &redo, disk, 0, "redo clean\n");
+    let clean = "clean, 2959 free blocks, 6 inodes\n";
+    let disk = after(&rt, alloc, &["check", "I"], disk, Status::Done, clean);
+    assert!(rt; disk.is_some());
+}
+
+/// A volume that three calls were made on, and that was left.
+fn left_volume<R: Threads + Wait + Sync>(rt: &R, alloc: Global) -> Option<MemDisk> {
+    let disk = new_volume(rt, alloc);
+    after_run(rt, alloc, &LEAVE, Script::of(THREE.0), disk, 0, THREE.1)
+}
+
+#[test]
+fn a_run_redoes_a_volume_that_is_left(rt: HostRuntime) {
+    let alloc = rt.alloc();
+    let text = "redo 3 transactions\n1 1.1 names 1 f -\n2 1.2 ok +\ndone 2 entries, 1 durable\n";
+    let script = Script::of("list /a\nunlink /a/f");
+    let disk = after_run(&rt, alloc, &WORDS, script, left_volume(&rt, alloc), 0, text);
+    let clean = "clean, 2975 free blocks, 5 inodes\n";
+    let disk = after(&rt, alloc, &["check", "I"], disk, Status::Done, clean);
+    assert!(rt; disk.is_some());
+}
+
+#[test]
+fn a_run_that_redid_may_be_refused(rt: HostRuntime) {
+    let alloc = rt.alloc();
+    let disk = changed(&rt, alloc, &[MOUNTED, (29, (1076, 4, 0x81a4))]);
+    let text = "redo 0 transactions\njfsd: bad image: page 29 rule root value 33188\n";
+    let disk = after_run(&rt, alloc, &WORDS, Script::of("sync"), disk, 3, text);
+    assert!(rt; faults_of(&disk) == Some(0));
+}
+
+#[test]
+fn a_fault_behind_a_redo(rt: HostRuntime) {
+    let alloc = rt.alloc();
+    // The redo's own first write fails; then the first one of the mount behind it.
+    let text = "jfsd: disk fault\n";
+    let disk = failing_from(alloc, left_volume(&rt, alloc), 1);
+    let disk = after_run(&rt, alloc, &WORDS, Script::of("sync"), disk, 7, text);
+    assert!(rt; faults_of(&disk) == Some(1));
+    let fail = Fail {
+        part: Part::High,
+        kind: Kind::Write,
+        first: 1,
+        last: 1,
+    };
+    let text = "redo 0 transactions\njfsd: disk fault\n";
+    let disk = failing_all(alloc, changed(&rt, alloc, &[MOUNTED]), &[fail]);
+    let disk = after_run(&rt, alloc, &WORDS, Script::of("sync"), disk, 7, text);
+    assert!(rt; faults_of(&disk) == Some(1));
+}
+
+#[test]
+fn the_log_of_a_volume_that_is_left(rt: HostRuntime) {
+    let alloc = rt.alloc();
+    let text = "1 1.1 ok +\ndone 1 entries, 1 durable\n";
+    let disk = new_volume(&rt, alloc);
+    let disk = after_run(
+        &rt,
+        alloc,
+        &LEAVE,
+        Script::of("chmod / 0700"),
+        disk,
+        0,
+        text,
+    );
+    let text =
+        "4190252 0 SYNCPT 0\n4190420 1 REDOPAGE 16 0 INODE 29 1 8+1\n4190456 1 COMMIT\nlog 3 records, end 4190456\n";
+    let disk = after(&rt, alloc, &["log", "I"], disk, Status::Done, text);
+    assert!(rt; disk.is_some());
+}
+
+// ---- what is refused
 
 /// Words, and the place of the first that leaves the grammar.
 static WRONG_WORDS: [(&[&str], u32); 11] = [
@@ -245,11 +327,6 @@ fn names_the_wrong_word(rt: HostRuntime) {
         let is_so = is_wrong_word(&rt, alloc, words, *place, sound_disk(alloc));
         assert!(rt; is_so == Some(true), "{words:?}");
     }
-}
-
-/// All writes fail from this one on.
-pub fn failing_from(alloc: Global, disk: Option<MemDisk>, first: u64) -> Option<MemDisk> {
-    failing_all(alloc, disk, &[fails_at(Kind::Write, first, u64::MAX)])
 }
 
 /// Changes of a new volume, a script, the status's number, and the text. Nothing is written. The block map tells its volume's size on page 16, and page 29 has the root's mode at byte 1076.
@@ -322,10 +399,12 @@ fn what_is_refused_is_left_alone(rt: HostRuntime) {
     let alloc = rt.alloc();
     for (changes, script, number, text) in REFUSED.iter() {
         let disk = failing_from(alloc, changed(&rt, alloc, changes), 1);
-        let disk = after_run(&rt, alloc, RUN, Script::of(script), disk, *number, text);
+        let disk = after_run(&rt, alloc, &WORDS, Script::of(script), disk, *number, text);
         assert!(rt; faults_of(&disk) == Some(0), "{text}");
     }
 }
+
+// ---- faults
 
 #[test]
 fn a_script_that_fails(rt: HostRuntime) {
@@ -336,7 +415,7 @@ fn a_script_that_fails(rt: HostRuntime) {
     };
     let disk = failing_from(alloc, new_volume(&rt, alloc), 1);
     let text = "jfsd: script fault\n";
-    let disk = after_run(&rt, alloc, RUN, script, disk, 5, text);
+    let disk = after_run(&rt, alloc, &WORDS, script, disk, 5, text);
     assert!(rt; faults_of(&disk) == Some(0));
 }
 
@@ -348,33 +427,33 @@ const AT_THE_FIRST_GROUP: Fail = Fail {
     last: 1024,
 };
 
-static LOG_FAILS: [Command; 1] = [(
-    RUN,
-    "mkdir /a 0755\nmkdir /b 0755\nlist /",
-    7,
-    "1 1.1 ok -\n2 1.2 refused 12 ReadOnly log 1 -\n3 1.3 names 1 a -\njfsd: disk fault\n",
-)];
-
-static NOTHING_REDONE: [Command; 2] = [
-    (REDO, "", 0, "redo 0 transactions\n"),
-    (CHECK, "", 0, CLEAN),
-];
-
 #[test]
 fn a_log_that_fails(rt: HostRuntime) {
     let alloc = rt.alloc();
+    let script = Script::of("mkdir /a 0755\nmkdir /b 0755\nlist /");
+    let text =
+        "1 1.1 ok -\n2 1.2 refused 12 ReadOnly log 1 -\n3 1.3 names 1 a -\njfsd: disk fault\n";
     let disk = failing_all(alloc, new_volume(&rt, alloc), &[AT_THE_FIRST_GROUP]);
-    let disk = after_all(&rt, alloc, disk, &LOG_FAILS);
+    let disk = after_run(&rt, alloc, &WORDS, script, disk, 7, text);
     assert!(rt; faults_of(&disk) == Some(1));
     let disk = failing_all(alloc, disk, &[]);
-    assert!(rt; after_all(&rt, alloc, disk, &NOTHING_REDONE).is_some());
+    let disk = after_number(&rt, alloc, &["redo", "I"], disk, 0, "redo 0 transactions\n");
+    let disk = after(&rt, alloc, &["check", "I"], disk, Status::Done, CLEAN);
+    assert!(rt; disk.is_some());
 }
 
 /// Whether a sink that takes nothing gives its status, and the run was done all the same.
 fn is_sink_fault<R: Threads + Wait + Sync>(rt: &R, alloc: Global) -> Option<bool> {
     let mut out = MemSink::new(alloc).with_fails(1, 1, true);
     let disk = new_volume(rt, alloc);
-    let came = came(rt, alloc, RUN, Script::of("mkdir /a 0755"), disk, &mut out)?;
+    let came = came(
+        rt,
+        alloc,
+        &WORDS,
+        Script::of("mkdir /a 0755"),
+        disk,
+        &mut out,
+    )?;
     if came.status != Status::SinkFault || !out.bytes().is_empty() {
         return Some(false);
     }

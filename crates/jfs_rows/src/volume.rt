@@ -260,48 +260,6 @@ pub fn after_number<R: Threads + Wait + Sync>(
     }
 }
 
-/// A command in a row: its words, its script where it is a run, the number of its status, and what is printed.
-pub type Command = (&'static [&'static str], &'static str, u8, &'static str);
-
-/// The disk after a command that ended so, and told of no entry but where it is a run; `None` where it didn't.
-fn after_command<R: Threads + Wait + Sync>(
-    rt: &R,
-    alloc: Global,
-    disk: Option<MemDisk>,
-    command: &Command,
-) -> Option<MemDisk> {
-    let (words, script, number, text) = command;
-    let mut out = SureSink::new(alloc);
-    let came = came_of(run(rt, alloc, words, Script::of(script), disk?, &mut out)?);
-    let is_so = came.status.number() == *number && out.bytes() == text.as_bytes();
-    if is_so && (came.is_quiet || is_run(words)) {
-        Some(came.disk)
-    } else {
-        None
-    }
-}
-
-fn is_run(words: &[&str]) -> bool {
-    match words.first() {
-        Some(word) => *word == "run",
-        None => false,
-    }
-}
-
-/// The disk after these commands, one after the other.
-pub fn after_all<R: Threads + Wait + Sync>(
-    rt: &R,
-    alloc: Global,
-    disk: Option<MemDisk>,
-    commands: &[Command],
-) -> Option<MemDisk> {
-    let mut disk = disk;
-    for command in commands {
-        disk = after_command(rt, alloc, disk, command);
-    }
-    disk
-}
-
 /// Whether it refuses words at this place.
 pub fn is_wrong_word<R: Threads + Wait + Sync>(
     rt: &R,
@@ -342,5 +300,5 @@ fn prints_the_superblock(rt: HostRuntime) {
     let words = ["super", "I"];
     let disk = after(&rt, alloc, &words, sound_disk(alloc), Status::Done, LINES);
     assert!(rt; disk.is_some());
-    assert!(rt; Status::Done.number() == 0);
+    assert_eq!(rt; Status::Done.number(), 0);
 }

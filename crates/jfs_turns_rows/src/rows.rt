@@ -33,10 +33,13 @@ fn nothing_is_lost(rt: HostRuntime) {
                 "{client} of {threads}"
             );
         }
-        assert!(rt; volume.lines.len() as u64 == *threads as u64 * *lines as u64);
+        assert_eq!(rt; volume.lines.len() as u64, *threads as u64 * *lines as u64);
         let volume_counts = [volume.taken, volume.points.len() as u64, volume.known];
-        assert!(rt; volume_counts == [*durable, *points, *points]);
-        assert!(rt; [log.taken, log.durable, log.stable] == [*durable, *durable, *points]);
+        assert_eq!(rt; volume_counts, [*durable, *points, *points]);
+        assert_eq!(rt;
+            [log.taken, log.durable, log.stable],
+            [*durable, *durable, *points]
+        );
         assert!(rt; volume.told <= log.durable);
     }
 }
@@ -75,9 +78,9 @@ fn one_pass_step_by_step(rt: HostRuntime) {
     for (number, line) in numbers.iter_mut().zip(volume.lines.as_slice()) {
         *number = line.number;
     }
-    assert!(rt; numbers == [0, 1, 0, 3, 4]);
-    assert!(rt; volume.lines.len() == 5);
-    assert!(rt; [volume.taken, volume.told, volume.known] == [4, 4, 1]);
-    assert!(rt; volume.points.as_slice() == [4].as_slice());
-    assert!(rt; [log.taken, log.durable, log.stable] == [4, 4, 1]);
+    assert_eq!(rt; numbers, [0, 1, 0, 3, 4]);
+    assert_eq!(rt; volume.lines.len(), 5);
+    assert_eq!(rt; [volume.taken, volume.told, volume.known], [4, 4, 1]);
+    assert_eq!(rt; volume.points.as_slice(), [4].as_slice());
+    assert_eq!(rt; [log.taken, log.durable, log.stable], [4, 4, 1]);
 }

@@ -28,7 +28,7 @@ static OVERLAPS: [Step; 12] = [
 
 #[test]
 fn overlaps_are_refused(rt: HostRuntime) {
-    assert!(rt; held(rt.alloc(), &OVERLAPS) == 12);
+    assert_eq!(rt; held(rt.alloc(), &OVERLAPS), 12);
 }
 
 static AT_THE_END: [Step; 9] = [
@@ -47,7 +47,7 @@ static AT_THE_END: [Step; 9] = [
 
 #[test]
 fn extents_at_the_end(rt: HostRuntime) {
-    assert!(rt; held(rt.alloc(), &AT_THE_END) == 9);
+    assert_eq!(rt; held(rt.alloc(), &AT_THE_END), 9);
 }
 
 static BEFORE_OTHERS: [Step; 3] = [
@@ -59,14 +59,14 @@ static BEFORE_OTHERS: [Step; 3] = [
 
 #[test]
 fn extents_before_others(rt: HostRuntime) {
-    assert!(rt; held(rt.alloc(), &BEFORE_OTHERS) == 3);
+    assert_eq!(rt; held(rt.alloc(), &BEFORE_OTHERS), 3);
 }
 
 static BETWEEN: [Step; 3] = [AddAll(0, 300, 4, 1), AddBetween(300), Agree(1300)];
 
 #[test]
 fn extents_between_others(rt: HostRuntime) {
-    assert!(rt; held(rt.alloc(), &BETWEEN) == 3);
+    assert_eq!(rt; held(rt.alloc(), &BETWEEN), 3);
 }
 
 /// The first leaf's extents are two blocks each from 30 on. What shares a block with the first one is refused though its place is the first, and so it is behind a second leaf's key.
@@ -84,7 +84,7 @@ static AT_THE_FIRST_PLACE: [Step; 9] = [
 
 #[test]
 fn overlaps_at_the_first_place(rt: HostRuntime) {
-    assert!(rt; held(rt.alloc(), &AT_THE_FIRST_PLACE) == 9);
+    assert_eq!(rt; held(rt.alloc(), &AT_THE_FIRST_PLACE), 9);
 }
 
 static BESIDE_ATTRIBUTES: [Step; 14] = [
@@ -108,5 +108,5 @@ static BESIDE_ATTRIBUTES: [Step; 14] = [
 
 #[test]
 fn a_root_beside_attributes(rt: HostRuntime) {
-    assert!(rt; held(rt.alloc(), &BESIDE_ATTRIBUTES) == 14);
+    assert_eq!(rt; held(rt.alloc(), &BESIDE_ATTRIBUTES), 14);
 }

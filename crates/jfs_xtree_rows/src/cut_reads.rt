@@ -5,7 +5,7 @@ use crate::racks::{SECOND, held};
 use jfs_bits::Rule;
 use std::test::*;
 
-const WHOLE: &'static [Step] = &[
+static WHOLE: [Step; 5] = [
     // each page is read once, and one that is changed once more
     Cut(0, 6),
     Cut(45, 5),
@@ -15,7 +15,12 @@ const WHOLE: &'static [Step] = &[
     Cut(4, 8),
 ];
 
-const TEN_TIMES: &'static [Step] = &[
+#[test]
+fn three_levels(rt: HostRuntime) {
+    assert_eq!(rt; held(rt.alloc(), &WHOLE), 5);
+}
+
+static TEN_TIMES: [Step; 9] = [
     // three levels, five and eight: the leaf's first extent isn't at the second key
     Ten(1),
     CutBad(0, 2, Rule::Order, 3),
@@ -28,7 +33,12 @@ const TEN_TIMES: &'static [Step] = &[
     CutBad(15, 7, Rule::Order, 7),
 ];
 
-const ITSELF: &'static [Step] = &[
+#[test]
+fn pages_that_name_one_child_ten_times(rt: HostRuntime) {
+    assert_eq!(rt; held(rt.alloc(), &TEN_TIMES), 9);
+}
+
+static ITSELF: [Step; 5] = [
     // on the way, up to the last level, and behind it
     Inner(1, (0, 1, 1), (8, 1, 4)),
     CutBad(0, 1, Rule::Deep, 7),
@@ -37,7 +47,12 @@ const ITSELF: &'static [Step] = &[
     CutBad(9, 1, Rule::Deep, 7),
 ];
 
-const SHARED: &'static [Step] = &[
+#[test]
+fn a_page_that_names_itself(rt: HostRuntime) {
+    assert_eq!(rt; held(rt.alloc(), &ITSELF), 5);
+}
+
+static SHARED: [Step; 5] = [
     // a leaf with two parents, and an inner page at two places of the root
     Inner(2, (40, 1, 4), (50, 1, 6)),
     CutBad(0, 4, Rule::Order, 5),
@@ -46,7 +61,12 @@ const SHARED: &'static [Step] = &[
     CutBad(0, 3, Rule::Order, 5),
 ];
 
-const KEYS: &'static [Step] = &[
+#[test]
+fn pages_named_twice(rt: HostRuntime) {
+    assert_eq!(rt; held(rt.alloc(), &SHARED), 5);
+}
+
+static KEYS: [Step; 9] = [
     // a key that isn't the first offset below it, behind the way and on it
     Inner(1, (0, 1, 3), (9, 1, 4)),
     CutBad(0, 4, Rule::Order, 3),
@@ -61,7 +81,12 @@ const KEYS: &'static [Step] = &[
     CutBad(100, 6, Rule::Order, 1),
 ];
 
-const LEVELS: &'static [Step] = &[
+#[test]
+fn keys_that_do_not_fit(rt: HostRuntime) {
+    assert_eq!(rt; held(rt.alloc(), &KEYS), 9);
+}
+
+static LEVELS: [Step; 5] = [
     // a leaf above the level of the way's leaf, and an inner page on it
     Leaf(2, (40, 1, 33), (44, 6, 40)),
     CutBad(0, 2, Rule::Deep, 4),
@@ -70,19 +95,7 @@ const LEVELS: &'static [Step] = &[
     CutBad(0, 4, Rule::Deep, 3),
 ];
 
-/// What is looked at, and its steps.
-static ROWS: [(&str, &[Step]); 6] = [
-    ("three levels", WHOLE),
-    ("pages that name one child ten times", TEN_TIMES),
-    ("a page that names itself", ITSELF),
-    ("pages named twice", SHARED),
-    ("keys that do not fit", KEYS),
-    ("leaves at one level", LEVELS),
-];
-
 #[test]
-fn rows_hold(rt: HostRuntime) {
-    for (what, steps) in ROWS.iter() {
-        assert!(rt; held(rt.alloc(), steps) == steps.len(), "{what}");
-    }
+fn leaves_at_one_level(rt: HostRuntime) {
+    assert_eq!(rt; held(rt.alloc(), &LEVELS), 5);
 }

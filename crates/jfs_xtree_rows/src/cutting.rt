@@ -4,7 +4,7 @@ use crate::steps::Step::{self, Add, AddAll, Agree, Cut, Pages};
 use crate::steps::held;
 use std::test::*;
 
-const ALONE: &'static [Step] = &[
+static ALONE: [Step; 10] = [
     // nothing is there yet
     Cut(0, 0, 0),
     Add(10, 3),
@@ -19,7 +19,12 @@ const ALONE: &'static [Step] = &[
     Cut(10, 0, 1),
 ];
 
-const TWO_LEVELS: &'static [Step] = &[
+#[test]
+fn a_root_alone(rt: HostRuntime) {
+    assert_eq!(rt; held(rt.alloc(), &ALONE), 10);
+}
+
+static TWO_LEVELS: [Step; 11] = [
     // three pages: 254 extents, 254 and 1, of two blocks each
     AddAll(0, 509, 3, 2),
     Pages(3),
@@ -37,23 +42,19 @@ const TWO_LEVELS: &'static [Step] = &[
     Agree(100),
 ];
 
-const TO_NOTHING: &'static [Step] = &[
+#[test]
+fn two_levels(rt: HostRuntime) {
+    assert_eq!(rt; held(rt.alloc(), &TWO_LEVELS), 11);
+}
+
+static TO_NOTHING: [Step; 3] = [
     AddAll(0, 255, 2, 1),
     Pages(2),
     // 255 blocks of extents and both pages
     Cut(0, 2, 257),
 ];
 
-/// What is looked at, and its steps.
-static ROWS: [(&str, &[Step]); 3] = [
-    ("a root alone", ALONE),
-    ("two levels", TWO_LEVELS),
-    ("two pages to nothing", TO_NOTHING),
-];
-
 #[test]
-fn rows_hold(rt: HostRuntime) {
-    for (what, steps) in ROWS.iter() {
-        assert!(rt; held(rt.alloc(), steps) == steps.len(), "{what}");
-    }
+fn two_pages_to_nothing(rt: HostRuntime) {
+    assert_eq!(rt; held(rt.alloc(), &TO_NOTHING), 3);
 }

@@ -5,7 +5,7 @@ use crate::trees::{ROOT, held};
 use jfs_bits::Rule;
 use std::test::*;
 
-const OF_ROOT: &'static [Step] = &[
+static OF_ROOT: [Step; 9] = [
     Leaf,
     Miss(2),
     Find(3, 3, 3, 20),
@@ -17,7 +17,12 @@ const OF_ROOT: &'static [Step] = &[
     Miss(3),
 ];
 
-const OF_PAGES: &'static [Step] = &[
+#[test]
+fn extents_of_a_root(rt: HostRuntime) {
+    assert_eq!(rt; held(rt.alloc(), &OF_ROOT), 9);
+}
+
+static OF_PAGES: [Step; 7] = [
     Inner,
     Miss(0),
     Find(4, 3, 3, 20),
@@ -27,7 +32,12 @@ const OF_PAGES: &'static [Step] = &[
     Miss(41),
 ];
 
-const BROKEN_ROOT: &'static [Step] = &[
+#[test]
+fn extents_of_pages(rt: HostRuntime) {
+    assert_eq!(rt; held(rt.alloc(), &OF_PAGES), 7);
+}
+
+static BROKEN_ROOT: [Step; 20] = [
     Leaf,
     Head(0, 0x82, 4, 18),
     Bad(3, ROOT, Rule::Flag),
@@ -50,7 +60,12 @@ const BROKEN_ROOT: &'static [Step] = &[
     Bad(6, ROOT, Rule::Deep),
 ];
 
-const BROKEN_PAGE: &'static [Step] = &[
+#[test]
+fn a_root_that_breaks_a_rule(rt: HostRuntime) {
+    assert_eq!(rt; held(rt.alloc(), &BROKEN_ROOT), 20);
+}
+
+static BROKEN_PAGE: [Step; 17] = [
     Inner,
     Head(2, 3, 4, 256),
     Bad(40, 2, Rule::Flag),
@@ -71,28 +86,26 @@ const BROKEN_PAGE: &'static [Step] = &[
     Find(4, 3, 3, 20),
 ];
 
-const ITSELF: &'static [Step] = &[
+#[test]
+fn a_page_that_breaks_a_rule(rt: HostRuntime) {
+    assert_eq!(rt; held(rt.alloc(), &BROKEN_PAGE), 17);
+}
+
+static ITSELF: [Step; 4] = [
     Inner,
     Head(1, 4, 3, 256),
     Entry(1, 0, 0, 1, 1),
     Bad(4, 1, Rule::Deep),
 ];
 
-const UNREAD: &'static [Step] = &[Inner, Lose(2), Fault(8, 1), Find(4, 3, 3, 20)];
+#[test]
+fn a_page_that_names_itself(rt: HostRuntime) {
+    assert_eq!(rt; held(rt.alloc(), &ITSELF), 4);
+}
 
-/// What is looked at, and its steps.
-static ROWS: [(&str, &[Step]); 6] = [
-    ("extents of a root", OF_ROOT),
-    ("extents of pages", OF_PAGES),
-    ("a root that breaks a rule", BROKEN_ROOT),
-    ("a page that breaks a rule", BROKEN_PAGE),
-    ("a page that names itself", ITSELF),
-    ("a page that cannot be read", UNREAD),
-];
+static UNREAD: [Step; 4] = [Inner, Lose(2), Fault(8, 1), Find(4, 3, 3, 20)];
 
 #[test]
-fn rows_hold(rt: HostRuntime) {
-    for (what, steps) in ROWS.iter() {
-        assert!(rt; held(rt.alloc(), steps) == steps.len(), "{what}");
-    }
+fn a_page_that_cannot_be_read(rt: HostRuntime) {
+    assert_eq!(rt; held(rt.alloc(), &UNREAD), 4);
 }

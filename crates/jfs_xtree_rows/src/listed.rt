@@ -12,7 +12,7 @@ use std::alloc::Global;
 use std::test::*;
 
 // each page is read once
-const THREE: &'static [Step] = &[
+static THREE: [Step; 2] = [
     Lists(&[
         (3, 2, 20),
         (5, 1, 23),
@@ -25,6 +25,11 @@ const THREE: &'static [Step] = &[
     ]),
     Reads(6),
 ];
+
+#[test]
+fn three_levels(rt: HostRuntime) {
+    assert_eq!(rt; held(rt.alloc(), &THREE), 2);
+}
 
 static NO_PAGES: [Step; 6] = [
     Root((9, 1, 30)),
@@ -48,13 +53,13 @@ fn is_one(alloc: Global, rack: &mut Rack) -> bool {
 
 #[test]
 fn roots_without_pages(rt: HostRuntime) {
-    assert!(rt; held(rt.alloc(), &NO_PAGES) == 6);
+    assert_eq!(rt; held(rt.alloc(), &NO_PAGES), 6);
     let mut rack = Rack::three_levels(rt.alloc()).expect(&rt, "memory");
     assert!(rt; is_one(rt.alloc(), &mut rack));
 }
 
 // none of them reads a page
-const ROOTS: &'static [Step] = &[
+static ROOTS: [Step; 14] = [
     RootHead(0x84, 4, 18),
     Refuse(ROOT, Rule::Flag),
     RootHead(0x85, 4, 11),
@@ -71,7 +76,12 @@ const ROOTS: &'static [Step] = &[
     Reads(0),
 ];
 
-const MIDDLE: &'static [Step] = &[
+#[test]
+fn a_root_breaks_each_rule(rt: HostRuntime) {
+    assert_eq!(rt; held(rt.alloc(), &ROOTS), 14);
+}
+
+static MIDDLE: [Step; 12] = [
     Head(2, 5, 4, 256),
     Refuse(2, Rule::Flag),
     Head(2, 4, 4, 18),
@@ -86,7 +96,12 @@ const MIDDLE: &'static [Step] = &[
     Refuse(2, Rule::Deep),
 ];
 
-const LEAF: &'static [Step] = &[
+#[test]
+fn a_middle_page_breaks_each_rule(rt: HostRuntime) {
+    assert_eq!(rt; held(rt.alloc(), &MIDDLE), 12);
+}
+
+static LEAF: [Step; 15] = [
     Head(6, 3, 4, 256),
     Refuse(6, Rule::Flag),
     Head(6, 2, 4, 18),
@@ -105,7 +120,12 @@ const LEAF: &'static [Step] = &[
     Refuse(3, Rule::Deep),
 ];
 
-const KEYS: &'static [Step] = &[
+#[test]
+fn a_leaf_breaks_each_rule(rt: HostRuntime) {
+    assert_eq!(rt; held(rt.alloc(), &LEAF), 15);
+}
+
+static KEYS: [Step; 13] = [
     // the key is the first block below it
     Root((39, 1, 2)),
     Refuse(5, Rule::Order),
@@ -125,7 +145,12 @@ const KEYS: &'static [Step] = &[
     Listed,
 ];
 
-const TWICE: &'static [Step] = &[
+#[test]
+fn keys_across_pages(rt: HostRuntime) {
+    assert_eq!(rt; held(rt.alloc(), &KEYS), 13);
+}
+
+static TWICE: [Step; 11] = [
     // page 1 once more
     Root((40, 1, 1)),
     Refuse(3, Rule::Order),
@@ -142,7 +167,12 @@ const TWICE: &'static [Step] = &[
     Reads(7),
 ];
 
-const ONE_LEVEL: &'static [Step] = &[
+#[test]
+fn pages_named_twice(rt: HostRuntime) {
+    assert_eq!(rt; held(rt.alloc(), &TWICE), 11);
+}
+
+static ONE_LEVEL: [Step; 5] = [
     // a leaf above the level of the first one
     Root((50, 1, 6)),
     Refuse(6, Rule::Deep),
@@ -152,7 +182,12 @@ const ONE_LEVEL: &'static [Step] = &[
     Refuse(2, Rule::Deep),
 ];
 
-const NINTH: &'static [Step] = &[
+#[test]
+fn leaves_at_one_level(rt: HostRuntime) {
+    assert_eq!(rt; held(rt.alloc(), &ONE_LEVEL), 5);
+}
+
+static NINTH: [Step; 7] = [
     RootHead(0x85, 3, 18),
     Chain(6),
     Lists(&[(3, 2, 20), (5, 1, 23)]),
@@ -163,8 +198,13 @@ const NINTH: &'static [Step] = &[
     Reads(7),
 ];
 
+#[test]
+fn a_ninth_level(rt: HostRuntime) {
+    assert_eq!(rt; held(rt.alloc(), &NINTH), 7);
+}
+
 #[rattlefmt::skip]
-const UNREAD: &'static [Step] = &[
+static UNREAD: [Step; 24] = [
     Three, Lose(1), Fault, Reads(0),
     Three, Lose(3), Fault, Reads(1),
     Three, Lose(4), Fault, Reads(2),
@@ -173,22 +213,7 @@ const UNREAD: &'static [Step] = &[
     Three, Lose(6), Fault, Reads(5),
 ];
 
-/// What is looked at, and its steps.
-static ROWS: [(&str, &[Step]); 9] = [
-    ("three levels", THREE),
-    ("a root breaks each rule", ROOTS),
-    ("a middle page breaks each rule", MIDDLE),
-    ("a leaf breaks each rule", LEAF),
-    ("keys across pages", KEYS),
-    ("pages named twice", TWICE),
-    ("leaves at one level", ONE_LEVEL),
-    ("a ninth level", NINTH),
-    ("each read fails", UNREAD),
-];
-
 #[test]
-fn rows_hold(rt: HostRuntime) {
-    for (what, steps) in ROWS.iter() {
-        assert!(rt; held(rt.alloc(), steps) == steps.len(), "{what}");
-    }
+fn each_read_fails(rt: HostRuntime) {
+    assert_eq!(rt; held(rt.alloc(), &UNREAD), 24);
 }

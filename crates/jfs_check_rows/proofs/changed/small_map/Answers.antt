@@ -1,5 +1,0 @@
-use Rattle.std.proofs.Common.{refl, arith}
-use Rattle.jfs_check_rows.proofs.changed.small_map.Goals as goal
-
-pub from_set-requires-clause-groups : goal.from_set-requires-clause-groups
-from_set-requires-clause-groups c = record { some = omega arith; least = omega arith; power = (13, refl); most = omega arith }
