@@ -118,6 +118,6 @@ fn what_is_behind_a_lost_page_is_not_redone(rt: HostRuntime) {
     let text = forty(alloc).expect(&rt, "memory");
     let lines = lines_of(alloc, &text).expect(&rt, "lines");
     for (sync, page, wanted) in LOST.iter() {
-        assert_eq!(rt; redone_of(alloc, &lines, *sync, *page), Some(*wanted));
+        assert!(rt; redone_of(alloc, &lines, *sync, *page) == Some(*wanted));
     }
 }

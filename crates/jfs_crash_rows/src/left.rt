@@ -48,7 +48,7 @@ fn fronts_of_a_script_of_all_calls(rt: HostRuntime) {
     let alloc = rt.alloc();
     let lines = lines_of(alloc, ALL_KINDS).expect(&rt, "lines");
     for (count, wanted) in FRONTS.iter() {
-        assert_eq!(rt; held(alloc, &lines, *count), Some(*wanted));
+        assert!(rt; held(alloc, &lines, *count) == Some(*wanted));
     }
 }
 
@@ -78,7 +78,7 @@ fn fronts_of_a_busy_script(rt: HostRuntime) {
     let text = busy(alloc).expect(&rt, "memory");
     let lines = lines_of(alloc, &text).expect(&rt, "lines");
     for (count, wanted) in BUSY_FRONTS.iter() {
-        assert_eq!(rt; held(alloc, &lines, *count), Some(*wanted));
+        assert!(rt; held(alloc, &lines, *count) == Some(*wanted));
     }
-    assert_eq!(rt; lines.len(), 79);
+    assert!(rt; lines.len() == 79);
 }

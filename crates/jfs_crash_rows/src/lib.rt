@@ -1,10 +1,15 @@
-//! Volumes that runs left or that crashes ended: each is redone, a check finds nothing, and the tree is that of a front of the script's lines.
+//! Runs of scripts on volumes in memory: their entries, what is told, and the disk, by values worked out by hand. Volumes that runs left or that crashes ended are redone: a check finds nothing, and the
+//! tree is that of a front of the script's lines.
 #![tactic(auto)]
 
 #[cfg(test)]
 mod crashes;
 #[cfg(test)]
+mod faults;
+#[cfg(test)]
 mod left;
+#[cfg(test)]
+mod runs;
 #[cfg(test)]
 mod same;
 #[cfg(test)]

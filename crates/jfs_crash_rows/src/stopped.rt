@@ -102,7 +102,6 @@ fn a_redo_that_is_stopped_is_made_again(rt: HostRuntime) {
     let text = busy(alloc).expect(&rt, "memory");
     let lines = lines_of(alloc, &text).expect(&rt, "lines");
     let (writes, came) = stops(alloc, &lines, Kind::Write).expect(&rt, "a redo");
-    assert!(rt; writes > 6, "{writes}");
-    assert_eq!(rt; came, Outcome::Not);
-    assert_eq!(rt; stops(alloc, &lines, Kind::Sync), Some((2, Outcome::Not)));
+    assert!(rt; writes > 6 && came == Outcome::Not);
+    assert!(rt; stops(alloc, &lines, Kind::Sync) == Some((2, Outcome::Not)));
 }

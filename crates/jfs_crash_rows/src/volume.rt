@@ -1,6 +1,7 @@
 //! A new volume on which scripts are run. Its file system part has 3,008 blocks, and its log begins at page 3,072 and has 1,024 pages.
 
 ghost use Rattle.std.specs.Prelude.{IfSome};
+ghost use Rattle.jfs_script.specs.History.{IsRisingFrom};
 ghost use Rattle.jfs_script.specs.Script.{AllFit};
 ghost use Rattle.jfs_super.specs.Rules.{IsAccepted};
 ghost use Rattle.jfs_super.specs.Super.{FitsSuper};
@@ -38,7 +39,7 @@ pub fn lines_of(alloc: Global, text: &[u8]) -> Option<Vec<Line>>
 }
 
 /// A disk with a new volume, on which these calls fail from now on.
-fn formatted(alloc: Global, fails: &[Fail]) -> Option<MemDisk> {
+pub fn formatted(alloc: Global, fails: &[Fail]) -> Option<MemDisk> {
     let mut disk = MemDisk::new(alloc, PAGES);
     if format(&mut disk, Uuid::from_bytes([7; 16]), b"rows", MADE).is_err() {
         return None;
@@ -51,7 +52,8 @@ pub fn failing(alloc: Global, disk: MemDisk, fails: &[Fail]) -> Option<MemDisk> 
     Some(disk.with_fails(Vec::from_slice(alloc, fails).ok()?))
 }
 
-fn superblock<D: Disk>(disk: &mut D) -> Option<Super>
+/// The superblock of a disk.
+pub fn superblock<D: Disk>(disk: &mut D) -> Option<Super>
     ensures accepted { IfSome result (λ s. IsAccepted s (D.page_count disk.new)) }
     ensures fits { IfSome result FitsSuper }
 {
@@ -64,8 +66,9 @@ fn superblock<D: Disk>(disk: &mut D) -> Option<Super>
 }
 
 /// A script is run on the volume of a disk in state 0, which is then left or unmounted.
-fn ran<D: Disk + Drop>(alloc: Global, disk: D, lines: &[Line], is_left: bool) -> Option<Ran<D>>
+pub fn ran<D: Disk + Drop>(alloc: Global, disk: D, lines: &[Line], is_left: bool) -> Option<Ran<D>>
     requires { AllFit lines.now }
+    ensures { IfSome result (λ r. IsRisingFrom 1 r.told.items) }
 {
     let mut disk = disk;
     let pages = disk.pages();

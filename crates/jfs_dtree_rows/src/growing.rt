@@ -26,14 +26,14 @@ static AT_THE_END: [Step; 11] = [
 
 #[test]
 fn names_at_the_end(rt: HostRuntime) {
-    assert_eq!(rt; held(rt.alloc(), &AT_THE_END), 11);
+    assert!(rt; held(rt.alloc(), &AT_THE_END) == 11);
 }
 
 static BEFORE_OTHERS: [Step; 2] = [AddDown(Long, 200, 200), FindAll(Long, 210)];
 
 #[test]
 fn names_before_others(rt: HostRuntime) {
-    assert_eq!(rt; held(rt.alloc(), &BEFORE_OTHERS), 2);
+    assert!(rt; held(rt.alloc(), &BEFORE_OTHERS) == 2);
 }
 
 static FIRST_CHILD: [Step; 12] = [
@@ -55,5 +55,5 @@ static FIRST_CHILD: [Step; 12] = [
 
 #[test]
 fn the_first_child_goes(rt: HostRuntime) {
-    assert_eq!(rt; held(rt.alloc(), &FIRST_CHILD), 12);
+    assert!(rt; held(rt.alloc(), &FIRST_CHILD) == 12);
 }

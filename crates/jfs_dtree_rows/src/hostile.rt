@@ -15,7 +15,7 @@ use std::test::*;
 
 /// A byte of an inner page with two children, or of a leaf with seven names, and the rule that the page breaks where the byte is this one.
 /// Of eight names, the root's child is page 2, whose children are the leaves 0 and 1.
-static PAGES: [Step; 23] = [
+const PAGES: &'static [Step] = &[
     AddAll(Long, 0, 8),
     BreakBy(2, 16, 0x83, Rule::Flag),
     BreakBy(2, 17, 124, Rule::Slots),
@@ -44,13 +44,8 @@ static PAGES: [Step; 23] = [
     BreakBy(0, 19, 0, Rule::Free),
 ];
 
-#[test]
-fn a_page_that_breaks_a_rule(rt: HostRuntime) {
-    assert_eq!(rt; held(rt.alloc(), &PAGES), 23);
-}
-
 /// The same of a root with one child.
-static ROOTS: [Step; 8] = [
+const ROOTS: &'static [Step] = &[
     AddAll(Long, 0, 8),
     RootBreakBy(16, 0x84, Rule::Flag),
     RootBreakBy(17, 9, Rule::Slots),
@@ -61,12 +56,7 @@ static ROOTS: [Step; 8] = [
     RootBreakBy(37, 1, Rule::Range),
 ];
 
-#[test]
-fn a_root_that_breaks_a_rule(rt: HostRuntime) {
-    assert_eq!(rt; held(rt.alloc(), &ROOTS), 8);
-}
-
-static ORDER: [Step; 7] = [
+const ORDER: &'static [Step] = &[
     AddAll(Long, 0, 8),
     Do(Swap(2)),
     Break(2, Rule::Order),
@@ -77,12 +67,7 @@ static ORDER: [Step; 7] = [
     Find(Long, 7, Some(7)),
 ];
 
-#[test]
-fn names_and_keys_that_do_not_rise(rt: HostRuntime) {
-    assert_eq!(rt; held(rt.alloc(), &ORDER), 7);
-}
-
-static OF_ANOTHER: [Step; 4] = [
+const OF_ANOTHER: &'static [Step] = &[
     AddAll(Long, 0, 56),
     // the first leaf holds the names of the last one, and page 2, which is full, has no place for a key among them
     Do(Copy(8, 0)),
@@ -97,12 +82,7 @@ static OF_ANOTHER: [Step; 4] = [
     ),
 ];
 
-#[test]
-fn a_full_leaf_with_names_of_another(rt: HostRuntime) {
-    assert_eq!(rt; held(rt.alloc(), &OF_ANOTHER), 4);
-}
-
-static CHILDLESS: [Step; 6] = [
+const CHILDLESS: &'static [Step] = &[
     AddAll(Long, 0, 8),
     Do(Empty(2)),
     Break(2, Rule::Deep),
@@ -111,12 +91,7 @@ static CHILDLESS: [Step; 6] = [
     Break(ROOT, Rule::Deep),
 ];
 
-#[test]
-fn pages_without_children(rt: HostRuntime) {
-    assert_eq!(rt; held(rt.alloc(), &CHILDLESS), 6);
-}
-
-static NAMELESS: [Step; 5] = [
+const NAMELESS: &'static [Step] = &[
     AddAll(Long, 0, 8),
     Do(Empty(0)),
     Do(Put(0, 16, 0x82)),
@@ -125,24 +100,14 @@ static NAMELESS: [Step; 5] = [
     Find(Long, 7, Some(7)),
 ];
 
-#[test]
-fn a_leaf_without_names(rt: HostRuntime) {
-    assert_eq!(rt; held(rt.alloc(), &NAMELESS), 5);
-}
-
-static ITSELF: [Step; 4] = [
+const ITSELF: &'static [Step] = &[
     AddAll(Long, 0, 8),
     Do(Put(2, 164, 2)),
     Break(2, Rule::Deep),
     Find(Long, 7, Some(7)),
 ];
 
-#[test]
-fn a_page_that_names_itself(rt: HostRuntime) {
-    assert_eq!(rt; held(rt.alloc(), &ITSELF), 4);
-}
-
-static NINTH: [Step; 4] = [
+const NINTH: &'static [Step] = &[
     AddAll(Long, 0, 56),
     Do(Deepen(6)),
     Refuse(
@@ -155,12 +120,7 @@ static NINTH: [Step; 4] = [
     Find(Long, 6, Some(6)),
 ];
 
-#[test]
-fn a_ninth_level(rt: HostRuntime) {
-    assert_eq!(rt; held(rt.alloc(), &NINTH), 4);
-}
-
-static EIGHT_FULL: [Step; 5] = [
+const EIGHT_FULL: &'static [Step] = &[
     AddAll(Long, 0, 56),
     Do(Deepen(5)),
     Find(Long, 55, Some(55)),
@@ -168,12 +128,7 @@ static EIGHT_FULL: [Step; 5] = [
     AddFails(Long, 55, DtError::Exists),
 ];
 
-#[test]
-fn eight_full_levels(rt: HostRuntime) {
-    assert_eq!(rt; held(rt.alloc(), &EIGHT_FULL), 5);
-}
-
-static FITS: [Step; 7] = [
+const FITS: &'static [Step] = &[
     AddAll(Long, 0, 56),
     Do(Deepen(5)),
     // the leaf has four free slots, of which the name takes one
@@ -185,12 +140,7 @@ static FITS: [Step; 7] = [
     Find(Long, 55, Some(55)),
 ];
 
-#[test]
-fn a_name_that_would_fit(rt: HostRuntime) {
-    assert_eq!(rt; held(rt.alloc(), &FITS), 7);
-}
-
-static SEVEN_FULL: [Step; 7] = [
+const SEVEN_FULL: &'static [Step] = &[
     AddAll(Long, 0, 56),
     Do(Deepen(4)),
     Is(Pages(9)),
@@ -201,12 +151,7 @@ static SEVEN_FULL: [Step; 7] = [
     Find(Long, 56, Some(56)),
 ];
 
-#[test]
-fn seven_full_levels(rt: HostRuntime) {
-    assert_eq!(rt; held(rt.alloc(), &SEVEN_FULL), 7);
-}
-
-static UNREAD: [Step; 10] = [
+const UNREAD: &'static [Step] = &[
     AddAll(Long, 0, 8),
     Do(Lose(2)),
     Fault(1),
@@ -220,7 +165,25 @@ static UNREAD: [Step; 10] = [
     Add(Long, 3, 9),
 ];
 
+/// What is looked at, and its steps.
+static ROWS: [(&str, &[Step]); 12] = [
+    ("a page that breaks a rule", PAGES),
+    ("a root that breaks a rule", ROOTS),
+    ("names and keys that do not rise", ORDER),
+    ("a full leaf with names of another", OF_ANOTHER),
+    ("pages without children", CHILDLESS),
+    ("a leaf without names", NAMELESS),
+    ("a page that names itself", ITSELF),
+    ("a ninth level", NINTH),
+    ("eight full levels", EIGHT_FULL),
+    ("a name that would fit", FITS),
+    ("seven full levels", SEVEN_FULL),
+    ("pages that cannot be read", UNREAD),
+];
+
 #[test]
-fn pages_that_cannot_be_read(rt: HostRuntime) {
-    assert_eq!(rt; held(rt.alloc(), &UNREAD), 10);
+fn rows_hold(rt: HostRuntime) {
+    for (what, steps) in ROWS.iter() {
+        assert!(rt; held(rt.alloc(), steps) == steps.len(), "{what}");
+    }
 }

@@ -9,7 +9,7 @@ use jfs_bits::Rule;
 use jfs_dtree::DtError;
 use std::test::*;
 
-static IN_ORDER: [Step; 5] = [
+const IN_ORDER: &'static [Step] = &[
     Is(Lists(true)),
     AddAll(Long, 0, 60),
     Is(Lists(true)),
@@ -17,12 +17,7 @@ static IN_ORDER: [Step; 5] = [
     Is(Lists(false)),
 ];
 
-#[test]
-fn names_in_order(rt: HostRuntime) {
-    assert_eq!(rt; held(rt.alloc(), &IN_ORDER), 5);
-}
-
-static TWICE: [Step; 3] = [
+const TWICE: &'static [Step] = &[
     AddAll(Long, 0, 8),
     // the second child is the first one: its first name comes before its key
     Do(Put(2, 196, 0)),
@@ -32,12 +27,7 @@ static TWICE: [Step; 3] = [
     })),
 ];
 
-#[test]
-fn a_page_named_twice(rt: HostRuntime) {
-    assert_eq!(rt; held(rt.alloc(), &TWICE), 3);
-}
-
-static ITSELF: [Step; 3] = [
+const ITSELF: &'static [Step] = &[
     AddAll(Long, 0, 8),
     Do(Put(2, 196, 2)),
     Is(ListFails(DtError::Bad {
@@ -46,12 +36,7 @@ static ITSELF: [Step; 3] = [
     })),
 ];
 
-#[test]
-fn a_page_that_names_itself(rt: HostRuntime) {
-    assert_eq!(rt; held(rt.alloc(), &ITSELF), 3);
-}
-
-static NAMELESS: [Step; 5] = [
+const NAMELESS: &'static [Step] = &[
     AddAll(Long, 0, 8),
     Do(Empty(1)),
     Is(ListFails(DtError::Bad {
@@ -65,12 +50,7 @@ static NAMELESS: [Step; 5] = [
     })),
 ];
 
-#[test]
-fn a_leaf_without_names(rt: HostRuntime) {
-    assert_eq!(rt; held(rt.alloc(), &NAMELESS), 5);
-}
-
-static UNREAD: [Step; 9] = [
+const UNREAD: &'static [Step] = &[
     AddAll(Long, 0, 8),
     Do(Lose(2)),
     Is(ListFault(1)),
@@ -82,7 +62,18 @@ static UNREAD: [Step; 9] = [
     Is(Lists(true)),
 ];
 
+/// What is looked at, and its steps.
+static ROWS: [(&str, &[Step]); 5] = [
+    ("names in order", IN_ORDER),
+    ("a page named twice", TWICE),
+    ("a page that names itself", ITSELF),
+    ("a leaf without names", NAMELESS),
+    ("each page that cannot be read", UNREAD),
+];
+
 #[test]
-fn each_page_that_cannot_be_read(rt: HostRuntime) {
-    assert_eq!(rt; held(rt.alloc(), &UNREAD), 9);
+fn rows_hold(rt: HostRuntime) {
+    for (what, steps) in ROWS.iter() {
+        assert!(rt; held(rt.alloc(), steps) == steps.len(), "{what}");
+    }
 }

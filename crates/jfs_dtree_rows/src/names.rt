@@ -70,7 +70,7 @@ fn refused(alloc: Global) -> usize {
 
 #[test]
 fn texts_that_are_no_paths(rt: HostRuntime) {
-    assert_eq!(rt; refused(rt.alloc()), 16);
+    assert!(rt; refused(rt.alloc()) == 16);
 }
 
 static NAMES: [(usize, &[u16]); 3] = [(0, &[0x61]), (1, &[0x62, 0xabcd]), (2, &[0x2e, 0x2e, 0x2e])];

@@ -83,7 +83,7 @@ fn broken(root: &[u8; 288]) -> usize {
 fn bytes_that_break_a_rule(rt: HostRuntime) {
     let mut root = [0u8; 288];
     assert!(rt; makes(&mut root, false));
-    assert_eq!(rt; broken(&root), 10);
+    assert!(rt; broken(&root) == 10);
 }
 
 #[test]

@@ -8,7 +8,7 @@ use crate::steps::held;
 use crate::units::Kind::{Behind, Even, Longer, Small};
 use std::test::*;
 
-static AT_THE_END: [Step; 10] = [
+const AT_THE_END: &'static [Step] = &[
     // a leaf, page 0, that is full of names of one slot, with numbers 0 to 244
     AddAll(Even, 0, 123),
     Is(Byte(0, 18, 0)),
@@ -23,12 +23,7 @@ static AT_THE_END: [Step; 10] = [
     Is(Child(1, 1, 4, b'6')),
 ];
 
-#[test]
-fn past_the_end_of_the_last_leaf(rt: HostRuntime) {
-    assert_eq!(rt; held(rt.alloc(), &AT_THE_END), 10);
-}
-
-static BEHIND_ITS_FRONT: [Step; 7] = [
+const BEHIND_ITS_FRONT: &'static [Step] = &[
     AddAll(Even, 0, 123),
     Is(Byte(0, 18, 0)),
     // the last name of the left leaf is a front of this one, which is the key as it is
@@ -39,12 +34,7 @@ static BEHIND_ITS_FRONT: [Step; 7] = [
     FindAll(Even, 123),
 ];
 
-#[test]
-fn behind_a_name_that_is_its_front(rt: HostRuntime) {
-    assert_eq!(rt; held(rt.alloc(), &BEHIND_ITS_FRONT), 7);
-}
-
-static OF_ANOTHER: [Step; 11] = [
+const OF_ANOTHER: &'static [Step] = &[
     AddAll(Even, 0, 123),
     Is(Byte(0, 18, 0)),
     Add(Small, 246, 246),
@@ -59,12 +49,7 @@ static OF_ANOTHER: [Step; 11] = [
     Is(Child(2, 1, 4, b'6')),
 ];
 
-#[test]
-fn past_the_end_of_another_leaf(rt: HostRuntime) {
-    assert_eq!(rt; held(rt.alloc(), &OF_ANOTHER), 11);
-}
-
-static AMONG_THE_FIRST: [Step; 6] = [
+const AMONG_THE_FIRST: &'static [Step] = &[
     AddAll(Even, 0, 123),
     Is(Byte(0, 18, 0)),
     Add(Small, 1, 1),
@@ -74,12 +59,7 @@ static AMONG_THE_FIRST: [Step; 6] = [
     Is(Child(1, 1, 4, b'8')),
 ];
 
-#[test]
-fn among_the_first(rt: HostRuntime) {
-    assert_eq!(rt; held(rt.alloc(), &AMONG_THE_FIRST), 6);
-}
-
-static AMONG_THE_LAST: [Step; 6] = [
+const AMONG_THE_LAST: &'static [Step] = &[
     AddAll(Even, 0, 123),
     Is(Byte(0, 18, 0)),
     Add(Small, 201, 201),
@@ -88,12 +68,7 @@ static AMONG_THE_LAST: [Step; 6] = [
     Is(Child(1, 1, 3, b'4')),
 ];
 
-#[test]
-fn among_the_last(rt: HostRuntime) {
-    assert_eq!(rt; held(rt.alloc(), &AMONG_THE_LAST), 6);
-}
-
-static AT_THE_BORDER: [Step; 7] = [
+const AT_THE_BORDER: &'static [Step] = &[
     // 60 names of one slot, one of 17, and 46 of one slot
     AddAll(Even, 0, 60),
     Add(Behind, 121, 121),
@@ -105,12 +80,7 @@ static AT_THE_BORDER: [Step; 7] = [
     Is(Byte(1, 17, 47)),
 ];
 
-#[test]
-fn a_long_name_at_the_border(rt: HostRuntime) {
-    assert_eq!(rt; held(rt.alloc(), &AT_THE_BORDER), 7);
-}
-
-static ADDED: [Step; 5] = [
+const ADDED: &'static [Step] = &[
     AddAll(Even, 0, 123),
     Is(Byte(0, 18, 0)),
     // 53 names of one slot and this one take 70
@@ -119,7 +89,20 @@ static ADDED: [Step; 5] = [
     Is(Byte(1, 17, 70)),
 ];
 
+/// What is looked at, and its steps.
+static ROWS: [(&str, &[Step]); 7] = [
+    ("past the end of the last leaf", AT_THE_END),
+    ("behind a name that is its front", BEHIND_ITS_FRONT),
+    ("past the end of another leaf", OF_ANOTHER),
+    ("among the first", AMONG_THE_FIRST),
+    ("among the last", AMONG_THE_LAST),
+    ("a long name at the border", AT_THE_BORDER),
+    ("a long name that is added", ADDED),
+];
+
 #[test]
-fn a_long_name_that_is_added(rt: HostRuntime) {
-    assert_eq!(rt; held(rt.alloc(), &ADDED), 5);
+fn rows_hold(rt: HostRuntime) {
+    for (what, steps) in ROWS.iter() {
+        assert!(rt; held(rt.alloc(), steps) == steps.len(), "{what}");
+    }
 }

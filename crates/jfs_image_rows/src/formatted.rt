@@ -1,9 +1,10 @@
 //! A volume that was formatted.
 
+use crate::made::room_in;
 use jfs_bits::Moment;
 use jfs_disk::{Disk, Page, PageList, SureDisk};
 use jfs_format::format;
-use jfs_image::{Room, room_of, tree_of};
+use jfs_image::{Room, tree_of};
 use jfs_plain::{PlainTree, Stat};
 use std::alloc::{AllocError, Global};
 use std::test::*;
@@ -40,27 +41,36 @@ fn is_empty(tree: &PlainTree, n: u32) -> bool {
     }
 }
 
+const MADE: Moment = Moment { sec: 1000, nano: 7 };
+
+/// The pages of a new volume.
+fn new_pages(alloc: Global) -> Option<PageList> {
+    let mut disk = SureDisk::new(alloc, 4096).ok()?;
+    format(&mut disk, Uuid::from_bytes([7; 16]), b"data", MADE).ok()?;
+    pages_of(alloc, &mut disk).ok()
+}
+
+/// Whether the tree of an image has the objects of a new one.
+fn has_new_tree(alloc: Global, image: &PageList) -> Option<bool> {
+    let tree = tree_of(alloc, image).ok()??;
+    let new = PlainTree::new(alloc, 268_435_456, MADE).ok()?;
+    for n in 0..9 {
+        if stat_of(&tree, n) != stat_of(&new, n) {
+            return Some(false);
+        }
+    }
+    Some(is_empty(&tree, 2))
+}
+
+// Blocks 0 to 32 of 3,008 have owners.
+const ROOM: Room = Room {
+    free: 2975,
+    inode: Some(4),
+};
+
 #[test]
 fn has_the_new_tree(rt: HostRuntime) {
-    let alloc = rt.alloc();
-    let mut disk = SureDisk::new(alloc, 4096).expect(&rt, "memory");
-    let now = Moment { sec: 1000, nano: 7 };
-    assert!(rt; format(&mut disk, Uuid::from_bytes([7; 16]), b"data", now).is_ok());
-    let image = pages_of(alloc, &mut disk).expect(&rt, "memory");
-    let tree = tree_of(alloc, &image)
-        .expect(&rt, "memory")
-        .expect(&rt, "a formatted volume has a tree");
-    let new = PlainTree::new(alloc, 268_435_456, now).expect(&rt, "memory");
-    for n in 0..9 {
-        assert_eq!(rt; stat_of(&tree, n), stat_of(&new, n));
-    }
-    assert!(rt; is_empty(&tree, 2));
-    // Blocks 0 to 32 of 3,008 have owners.
-    assert_eq!(rt;
-        room_of(alloc, &image).expect(&rt, "memory"),
-        Some(Room {
-            free: 2975,
-            inode: Some(4),
-        })
-    );
+    let image = new_pages(rt.alloc()).expect(&rt, "memory");
+    assert!(rt; has_new_tree(rt.alloc(), &image) == Some(true));
+    assert!(rt; room_in(rt.alloc(), &image) == Some(Some(ROOM)));
 }

@@ -3,6 +3,8 @@
 use crate::words::{BYTES, DEVICE, FILE, LINKS, MAPS, RESERVED, ROOT, ROOT_END, SUPER, Word};
 use jfs_bits::put_u32;
 use jfs_disk::{Page, PageList};
+use jfs_image::{Room, room_of, tree_of};
+use jfs_plain::PlainTree;
 use std::alloc::{AllocError, Global};
 
 /// So many pages of zeros.
@@ -48,4 +50,15 @@ pub fn small_words(pages: &mut Vec<Page>) {
     put(pages, &BYTES);
     put(pages, &LINKS);
     put(pages, &DEVICE);
+}
+
+/// The tree of the small volume with these words instead of its own, if it has one; `None` outside is want of memory.
+pub fn tree_with(alloc: Global, words: &[Word]) -> Option<Option<PlainTree>> {
+    let image = small_volume(alloc, words).ok()?;
+    tree_of(alloc, &image).ok()
+}
+
+/// The room of an image, where it has a tree; `None` outside is want of memory.
+pub fn room_in(alloc: Global, image: &PageList) -> Option<Option<Room>> {
+    room_of(alloc, image).ok()
 }

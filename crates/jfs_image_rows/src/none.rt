@@ -1,14 +1,14 @@
 //! Images without a tree.
 
-use crate::made::{small_volume, zeros};
+use crate::made::{tree_with, zeros};
 use crate::words::Word;
 use jfs_disk::PageList;
 use jfs_image::tree_of;
-use std::alloc::{AllocError, Global};
+use std::alloc::Global;
 use std::test::*;
 
 /// Words that break a rule, each alone.
-const BROKEN: [Word; 14] = [
+static BROKEN: [Word; 14] = [
     // the superblock: another magic number, and one block more, which is the log's first page
     (8, 0, 0x3253_464a),
     (8, 8, 520),
@@ -30,32 +30,32 @@ const BROKEN: [Word; 14] = [
     (29, 1272, 0x0403_0102),
 ];
 
-fn has_tree(alloc: Global, image: &PageList) -> Result<bool, AllocError> {
-    Ok(tree_of(alloc, image)?.is_some())
+/// Whether the small volume with one word instead of its own has a tree.
+fn has_tree(alloc: Global, word: Word) -> Option<bool> {
+    Some(tree_with(alloc, &[word])?.is_some())
 }
 
 #[test]
 fn broken_rules(rt: HostRuntime) {
-    let alloc = rt.alloc();
-    for word in BROKEN {
-        let image = small_volume(alloc, &[word]).expect(&rt, "memory");
-        assert_eq!(rt; has_tree(alloc, &image).expect(&rt, "memory"), false);
+    for word in BROKEN.iter() {
+        assert!(rt; has_tree(rt.alloc(), *word) == Some(false));
     }
+}
+
+/// Whether so many pages of zeros have a tree.
+fn zeros_have_tree(alloc: Global, count: u32) -> Option<bool> {
+    let image = PageList::from(zeros(alloc, count).ok()?);
+    Some(tree_of(alloc, &image).ok()?.is_some())
 }
 
 #[test]
 fn few_pages(rt: HostRuntime) {
-    let alloc = rt.alloc();
-    for count in [0, 8] {
-        let image = PageList::from(zeros(alloc, count).expect(&rt, "memory"));
-        assert_eq!(rt; has_tree(alloc, &image).expect(&rt, "memory"), false);
-    }
+    assert!(rt; zeros_have_tree(rt.alloc(), 0) == Some(false));
+    assert!(rt; zeros_have_tree(rt.alloc(), 8) == Some(false));
 }
 
+// Inode 8 has another number and no type, but no link.
 #[test]
 fn inodes_not_in_use(rt: HostRuntime) {
-    // Inode 8 has another number and no type, but no link.
-    let alloc = rt.alloc();
-    let image = small_volume(alloc, &[(30, 8, 77)]).expect(&rt, "memory");
-    assert!(rt; has_tree(alloc, &image).expect(&rt, "memory"));
+    assert!(rt; has_tree(rt.alloc(), (30, 8, 77)) == Some(true));
 }

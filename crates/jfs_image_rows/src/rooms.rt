@@ -1,9 +1,9 @@
 //! The rooms of the small volume and of its like.
 
-use crate::made::{put, small_volume, small_words, zeros};
+use crate::made::{put, room_in, small_volume, small_words, zeros};
 use crate::words::Word;
 use jfs_disk::{Page, PageList};
-use jfs_image::{Room, room_of};
+use jfs_image::Room;
 use std::alloc::{AllocError, Global};
 use std::test::*;
 
@@ -30,59 +30,53 @@ fn full_volume(alloc: Global, others: &[Word]) -> Result<PageList, AllocError> {
     Ok(PageList::from(pages))
 }
 
-#[test]
-fn free_inode_of_an_extent(rt: HostRuntime) {
-    // Blocks 0 to 32 and 40 to 43 have owners.
-    let alloc = rt.alloc();
-    let image = small_volume(alloc, &[]).expect(&rt, "memory");
-    assert_eq!(rt;
-        room_of(alloc, &image).expect(&rt, "memory"),
-        Some(Room {
-            free: 27,
-            inode: Some(8),
-        })
-    );
+fn room(free: u32, inode: Option<u32>) -> Option<Option<Room>> {
+    Some(Some(Room { free, inode }))
 }
 
+/// The room of the small volume with these words instead of its own.
+fn small_room(alloc: Global, words: &[Word]) -> Option<Option<Room>> {
+    let image = small_volume(alloc, words).ok()?;
+    room_in(alloc, &image)
+}
+
+/// The same where all its inodes are in use.
+fn full_room(alloc: Global, words: &[Word]) -> Option<Option<Room>> {
+    let image = full_volume(alloc, words).ok()?;
+    room_in(alloc, &image)
+}
+
+// Blocks 0 to 32 and 40 to 43 have owners.
+#[test]
+fn free_inode_of_an_extent(rt: HostRuntime) {
+    assert!(rt; small_room(rt.alloc(), &[]) == room(27, Some(8)));
+}
+
+// Blocks 36 to 39 are a run for the second extent.
 #[test]
 fn inode_of_a_new_extent(rt: HostRuntime) {
-    // Blocks 36 to 39 are a run for the second extent.
-    let alloc = rt.alloc();
-    let image = full_volume(alloc, &[]).expect(&rt, "memory");
-    assert_eq!(rt;
-        room_of(alloc, &image).expect(&rt, "memory"),
-        Some(Room {
-            free: 27,
-            inode: Some(32),
-        })
-    );
+    assert!(rt; full_room(rt.alloc(), &[]) == room(27, Some(32)));
 }
+
+/// The file's extent that isn't recorded has blocks 33 to 39, its last one blocks 42 to 63: block 41 alone is free.
+static FULL: [Word; 4] = [(29, 2328, 7), (29, 2332, 33), (29, 2340, 9), (29, 2344, 22)];
 
 #[test]
 fn no_inode(rt: HostRuntime) {
-    // The file's extent that isn't recorded has blocks 33 to 39, its last one blocks 42 to 63: block 41 alone is free.
-    let alloc = rt.alloc();
-    let words = [(29, 2328, 7), (29, 2332, 33), (29, 2340, 9), (29, 2344, 22)];
-    let image = full_volume(alloc, &words).expect(&rt, "memory");
-    assert_eq!(rt;
-        room_of(alloc, &image).expect(&rt, "memory"),
-        Some(Room {
-            free: 1,
-            inode: None,
-        })
-    );
+    assert!(rt; full_room(rt.alloc(), &FULL) == room(1, None));
 }
+
+/// Words that break a rule, each alone.
+static BROKEN: [Word; 4] = [
+    (8, 0, 0x3253_464a),
+    (28, 3072, 3),
+    (29, 2056, 5),
+    (29, 2348, 64),
+];
 
 #[test]
 fn no_tree(rt: HostRuntime) {
-    let alloc = rt.alloc();
-    for word in [
-        (8, 0, 0x3253_464a),
-        (28, 3072, 3),
-        (29, 2056, 5),
-        (29, 2348, 64),
-    ] {
-        let image = small_volume(alloc, &[word]).expect(&rt, "memory");
-        assert_eq!(rt; room_of(alloc, &image).expect(&rt, "memory"), None);
+    for word in BROKEN.iter() {
+        assert!(rt; small_room(rt.alloc(), &[*word]) == Some(None));
     }
 }

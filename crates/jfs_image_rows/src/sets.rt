@@ -3,7 +3,7 @@
 ghost use Rattle.std.specs.Prelude.{◌≤◌, ◌^◌};
 
 use jfs_bits::{Moment, Pxd, PxdList};
-use jfs_disk::{Part, SureDisk};
+use jfs_disk::{Disk, Part, SureDisk};
 use jfs_format::format;
 use jfs_mount::mounted;
 use jfs_ranges::PageView;
@@ -44,20 +44,34 @@ fn begins(map: &[u8], front: &[u8], end: usize) -> bool {
     true
 }
 
+/// The sets of a new volume.
+fn new_sets(alloc: Global) -> Option<Sets> {
+    let mut disk = SureDisk::new(alloc, 4096).ok()?;
+    let now = Moment { sec: 1000, nano: 7 };
+    format(&mut disk, Uuid::from_bytes([7; 16]), b"sets", now).ok()?;
+    if disk.pages() < 3008 {
+        return None;
+    }
+    let mut view = DiskView::new(&mut disk, Part::Whole, 3008);
+    if view.blocks() != 3008 {
+        return None;
+    }
+    sets_of(alloc, &mut view)
+}
+
+/// The inode extent, and a place without one.
+fn are_places(extents: &PxdList) -> bool {
+    extents.len() == 128
+        && extents.get(0) == Some(&Pxd { len: 4, addr: 29 })
+        && extents.get(1) == Some(&Pxd { len: 0, addr: 0 })
+}
+
 // Blocks 0 to 32 of 3,008 are in use, inodes 0 to 3, and one inode extent of 128 places is there.
 #[test]
 fn a_new_volume_has_these_sets(rt: HostRuntime) {
-    let alloc = rt.alloc();
-    let mut disk = SureDisk::new(alloc, 4096).expect(&rt, "memory");
-    let now = Moment { sec: 1000, nano: 7 };
-    assert!(rt; format(&mut disk, Uuid::from_bytes([7; 16]), b"sets", now).is_ok());
-    let mut view = DiskView::new(&mut disk, Part::Whole, 3008);
-    let (blocks, inodes, extents) = sets_of(alloc, &mut view).expect(&rt, "sets");
-    assert_eq!(rt; blocks.len(), 1024);
+    let (blocks, inodes, extents) = new_sets(rt.alloc()).expect(&rt, "sets");
+    assert!(rt; blocks.len() == 1024 && inodes.len() == 512);
     assert!(rt; begins(&blocks, &[255, 255, 255, 255, 0, 0, 0, 128], 376));
-    assert_eq!(rt; inodes.len(), 512);
     assert!(rt; begins(&inodes, &[0, 0, 0, 0xf0], 512));
-    assert_eq!(rt; extents.len(), 128);
-    assert_eq!(rt; extents.get(0), Some(&Pxd { len: 4, addr: 29 }));
-    assert_eq!(rt; extents.get(1), Some(&Pxd { len: 0, addr: 0 }));
+    assert!(rt; are_places(&extents));
 }

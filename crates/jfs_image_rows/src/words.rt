@@ -5,7 +5,7 @@
 pub type Word = (usize, usize, u32);
 
 /// The superblock: version 2, pages of 4,096 bytes, groups of 8,192 blocks, flags of an inline log and of Linux.
-pub const SUPER: [Word; 15] = [
+pub static SUPER: [Word; 15] = [
     (8, 0, 0x3153_464a),
     (8, 4, 2),
     (8, 8, 512),
@@ -25,7 +25,7 @@ pub const SUPER: [Word; 15] = [
 
 /// Inodes 2, 4 and 16 of the aggregate: the roots of the block map's file (5 blocks from 16 on), of the bad blocks' (none) and of the inode map's (2 blocks from
 /// 27 on). Then the number of blocks that the block map has, the number of inode allocation groups, and the place of the first inode extent.
-pub const MAPS: [Word; 14] = [
+pub static MAPS: [Word; 14] = [
     (11, 1264, 0x0003_0083),
     (11, 1268, 18),
     (11, 1288, 5),
@@ -43,7 +43,7 @@ pub const MAPS: [Word; 14] = [
 ];
 
 /// Inodes 0, 1 and 3: regular files with one link and no block.
-pub const RESERVED: [Word; 14] = [
+pub static RESERVED: [Word; 14] = [
     (29, 40, 1),
     (29, 52, 0x8000),
     (29, 240, 0x0002_0083),
@@ -61,7 +61,7 @@ pub const RESERVED: [Word; 14] = [
 ];
 
 /// Inode 2, the root: mode 0755, 2 links, and the names `a` to `d` of the inodes 4 to 7 in slots 1 to 4 of its tree's root. Slots 5 to 8 are free.
-pub const ROOT: [Word; 19] = [
+pub static ROOT: [Word; 19] = [
     (29, 1032, 2),
     (29, 1048, 1),
     (29, 1064, 2),
@@ -84,10 +84,10 @@ pub const ROOT: [Word; 19] = [
 ];
 
 /// The last free slot of the root.
-pub const ROOT_END: [Word; 1] = [(29, 1504, 0x01ff)];
+pub static ROOT_END: [Word; 1] = [(29, 1504, 0x01ff)];
 
 /// Inode 4, a file of 12,294 bytes: its first block is 40, its second one a hole, its third one 41, which isn't recorded, and its fourth one 42.
-pub const FILE: [Word; 27] = [
+pub static FILE: [Word; 27] = [
     (29, 2056, 4),
     (29, 2072, 12_294),
     (29, 2088, 1),
@@ -118,14 +118,14 @@ pub const FILE: [Word; 27] = [
 ];
 
 /// More bytes of the file's blocks: the first ones, and some of the extent that isn't recorded.
-pub const BYTES: [Word; 3] = [
+pub static BYTES: [Word; 3] = [
     (40, 0, 0x4443_4241),
     (41, 0, 0x2424_2424),
     (42, 0, 0x3433_3231),
 ];
 
 /// Inode 5, a symbolic link to `xyz`, and inode 6, one of 256 bytes, which are those of block 43.
-pub const LINKS: [Word; 14] = [
+pub static LINKS: [Word; 14] = [
     (29, 2568, 5),
     (29, 2584, 3),
     (29, 2600, 1),
@@ -143,4 +143,4 @@ pub const LINKS: [Word; 14] = [
 ];
 
 /// Inode 7, a character device with two links.
-pub const DEVICE: [Word; 3] = [(29, 3592, 7), (29, 3624, 2), (29, 3636, 0x21b6)];
+pub static DEVICE: [Word; 3] = [(29, 3592, 7), (29, 3624, 2), (29, 3636, 0x21b6)];

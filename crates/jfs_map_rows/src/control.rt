@@ -42,7 +42,7 @@ mod tests {
     use super::*;
 
     // The leaves after leaf 5 got the value 4, by place and value; every other leaf is -1.
-    const LEAVES: [(usize, u8); 11] = [
+    static LEAVES: [(usize, u8); 11] = [
         (0, 15),
         (4, 13),
         (5, 4),
@@ -57,7 +57,7 @@ mod tests {
     ];
 
     // The lowest leaves with runs of that page, by l2.
-    const LOWEST: [(u32, Option<u32>); 7] = [
+    static LOWEST: [(u32, Option<u32>); 7] = [
         (4, Some(0)),
         (13, Some(0)),
         (15, Some(0)),
@@ -68,31 +68,36 @@ mod tests {
     ];
 
     fn leaf_of(place: usize) -> u8 {
-        for (leaf, value) in LEAVES {
-            if leaf == place {
-                return value;
+        for (leaf, value) in LEAVES.iter() {
+            if *leaf == place {
+                return *value;
             }
         }
         255
+    }
+
+    /// The first leaf that has another value.
+    fn first_wrong(page: &Page) -> Option<usize> {
+        for leaf in 0..1024 {
+            if page.0[358 + leaf] != leaf_of(leaf) {
+                return Some(leaf);
+            }
+        }
+        None
     }
 
     #[test]
     fn control_rows(rt: HostRuntime) {
         let mut page = Page::zeros();
         free_control(&mut page);
-        assert_eq!(rt; page.0[17], 23, "root");
-        assert_eq!(rt; page.0[358], 23, "leaf 0");
-        assert_eq!(rt; page.0[359], 255, "leaf 1");
+        // the root, and the leaves 0 and 1
+        assert!(rt; page.0[17] == 23 && page.0[358] == 23 && page.0[359] == 255);
         set_one(&mut page, 5, 4);
-        assert_eq!(rt; page.0[17], 22, "root");
-        for leaf in 0..1024 {
-            assert_eq!(rt; page.0[358 + leaf], leaf_of(leaf), "leaf {leaf}");
-        }
-        for (l2, leaf) in LOWEST {
-            assert_eq!(rt; find_one(&page, l2), leaf, "lowest {l2}");
+        assert!(rt; page.0[17] == 22 && first_wrong(&page) == None);
+        for (l2, leaf) in LOWEST.iter() {
+            assert!(rt; find_one(&page, *l2) == *leaf, "lowest {l2}");
         }
         set_one(&mut page, 5, 13);
-        assert_eq!(rt; page.0[358], 23, "leaf 0");
-        assert_eq!(rt; find_one(&page, 23), Some(0));
+        assert!(rt; page.0[358] == 23 && find_one(&page, 23) == Some(0));
     }
 }

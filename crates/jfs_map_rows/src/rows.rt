@@ -1,12 +1,13 @@
 //! A dmap page and a control page, byte by byte.
 
 use crate::runs::{are_taken, take_and_give};
+use crate::slow_pages::same_pages;
 use jfs_bits::set_run;
 use jfs_disk::Page;
 use jfs_dmap::{dmap_canonical, dmap_find};
 
 // The leaves of 3,008 blocks of which 0 to 32 are taken, by place and value; every other leaf is -1.
-const LEAVES: [(usize, u8); 11] = [
+static LEAVES: [(usize, u8); 11] = [
     (0, 255),
     (1, 4),
     (2, 6),
@@ -21,7 +22,7 @@ const LEAVES: [(usize, u8); 11] = [
 ];
 
 // The lowest free runs of that page, by l2.
-const LOWEST: [(u32, Option<u32>); 13] = [
+static LOWEST: [(u32, Option<u32>); 13] = [
     (0, Some(33)),
     (1, Some(34)),
     (2, Some(36)),
@@ -38,7 +39,7 @@ const LOWEST: [(u32, Option<u32>); 13] = [
 ];
 
 // Runs taken of it one after the other: blocks 33, 40 to 2,175 in the end.
-const TAKEN: [(u32, Option<u32>); 10] = [
+static TAKEN: [(u32, Option<u32>); 10] = [
     (0, Some(33)),
     (3, Some(40)),
     (6, Some(64)),
@@ -52,12 +53,31 @@ const TAKEN: [(u32, Option<u32>); 10] = [
 ];
 
 fn leaf_of(place: usize) -> u8 {
-    for (leaf, value) in LEAVES {
-        if leaf == place {
-            return value;
+    for (leaf, value) in LEAVES.iter() {
+        if *leaf == place {
+            return *value;
         }
     }
     255
+}
+
+/// The first leaf that has another value.
+fn first_wrong(page: &Page) -> Option<usize> {
+    for leaf in 0..256 {
+        if page.0[118 + leaf] != leaf_of(leaf) {
+            return Some(leaf);
+        }
+    }
+    None
+}
+
+/// Whether the root's value is 10, 2,975 blocks are free, block 33 is, and block 3,008 isn't there.
+fn has_counts(page: &Page) -> bool {
+    page.0[33] == 10
+        && page.0[4] == 0x9f
+        && page.0[5] == 0x0b
+        && page.0[2055] == 0x80
+        && page.0[2424] == 0xff
 }
 
 #[test]
@@ -66,26 +86,15 @@ fn dmap_rows(rt: HostRuntime) {
     set_run(&mut set, 0, 33);
     let mut page = Page::zeros();
     dmap_canonical(&set, 0, 3008, &mut page);
-    for leaf in 0..256 {
-        assert_eq!(rt; page.0[118 + leaf], leaf_of(leaf), "leaf {leaf}");
+    assert!(rt; first_wrong(&page) == None && has_counts(&page));
+    for (l2, first) in LOWEST.iter() {
+        assert!(rt; dmap_find(&page, *l2) == *first, "lowest {l2}");
     }
-    assert_eq!(rt; page.0[33], 10, "root");
-    // 2,975 blocks are free
-    assert_eq!(rt; page.0[4], 0x9f);
-    assert_eq!(rt; page.0[5], 0x0b);
-    // block 33 is free, block 3,008 isn't there
-    assert_eq!(rt; page.0[2055], 0x80);
-    assert_eq!(rt; page.0[2424], 0xff);
-    for (l2, first) in LOWEST {
-        assert_eq!(rt; dmap_find(&page, l2), first, "lowest {l2}");
-    }
-    assert!(rt; are_taken(&mut page, TAKEN.as_slice()));
-    assert_eq!(rt; take_and_give(&mut page, 1, 3008), Some(34));
+    assert!(rt; are_taken(&mut page, &TAKEN));
+    assert!(rt; take_and_give(&mut page, 1, 3008) == Some(34));
     set_run(&mut set, 33, 1);
     set_run(&mut set, 40, 2136);
     let mut wanted = Page::zeros();
     dmap_canonical(&set, 0, 3008, &mut wanted);
-    for at in 0..4096 {
-        assert_eq!(rt; page.0[at], wanted.0[at], "byte {at}");
-    }
+    assert!(rt; same_pages(&page, &wanted));
 }

@@ -233,31 +233,48 @@ fn step(
     }
 }
 
-#[test]
-fn slow_set(rt: HostRuntime) {
-    let alloc = rt.alloc();
+/// Whether both count and answer the same.
+fn agree(map: &BlockMap, states: &[State]) -> bool {
+    map.free() == count_free(states) && map.busy() == count_busy(states) && answers_as(map, states)
+}
+
+/// The next number of a row without order.
+fn next(seed: u64) -> u64 {
+    seed.wrapping_mul(6364136223846793005)
+        .wrapping_add(1442695040888963407)
+}
+
+/// Whether both agree after each of 400 calls, and the pages are canonical after each fortieth.
+fn stay_same(alloc: Global, map: &mut BlockMap, states: &mut Vec<State>) -> Option<bool> {
+    let mut held = PxdList::new(alloc);
+    let mut seed = 1u64;
+    for i in 0..400u64 {
+        seed = next(seed);
+        let draw = (seed >> 33) as u32;
+        if !step(map, alloc, states, &mut held, draw, i).ok()? || !agree(map, states) {
+            return Some(false);
+        }
+        if i % 40 == 39 && !are_canonical(map, states) {
+            return Some(false);
+        }
+    }
+    Some(true)
+}
+
+/// The map of 20,000 blocks, and their states: 40 runs have owners, each by seven blocks longer than the one before.
+fn sown(alloc: Global) -> Option<(BlockMap, Vec<State>)> {
     let mut set = [0u8; 2504];
-    let mut states = vec![in alloc; State::Free; 20000].expect(&rt, "memory");
+    let mut states = vec![in alloc; State::Free; 20000].ok()?;
     for k in 0..40u32 {
         set_run(&mut set, 501 * k, 7 * k);
         put(&mut states, 501 * k as usize, 7 * k as usize, State::Owned);
     }
-    let mut map = map_of(alloc, &set, BLOCKS).expect(&rt, "memory");
-    let mut held = PxdList::new(alloc);
-    assert!(rt; are_canonical(&map, &states), "at first");
-    let mut seed = 1u64;
-    for i in 0..400u64 {
-        seed = seed
-            .wrapping_mul(6364136223846793005)
-            .wrapping_add(1442695040888963407);
-        let draw = (seed >> 33) as u32;
-        let same = step(&mut map, alloc, &mut states, &mut held, draw, i).expect(&rt, "memory");
-        assert!(rt; same, "call {i}");
-        assert_eq!(rt; map.free(), count_free(&states), "free after call {i}");
-        assert_eq!(rt; map.busy(), count_busy(&states), "busy after call {i}");
-        assert!(rt; answers_as(&map, &states), "questions after call {i}");
-        if i % 40 == 39 {
-            assert!(rt; are_canonical(&map, &states), "after call {i}");
-        }
-    }
+    Some((map_of(alloc, &set, BLOCKS).ok()?, states))
+}
+
+#[test]
+fn slow_set(rt: HostRuntime) {
+    let (mut map, mut states) = sown(rt.alloc()).expect(&rt, "memory");
+    assert!(rt; are_canonical(&map, &states));
+    assert!(rt; stay_same(rt.alloc(), &mut map, &mut states) == Some(true));
 }

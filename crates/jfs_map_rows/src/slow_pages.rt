@@ -19,7 +19,7 @@ fn page_of(map: &BlockMap, n: u32) -> Page {
     page
 }
 
-fn same_pages(one: &Page, other: &Page) -> bool {
+pub fn same_pages(one: &Page, other: &Page) -> bool {
     for at in 0..4096 {
         if one.0[at] != other.0[at] {
             return false;

@@ -176,10 +176,7 @@ static SINGLES: [Row; 14] = [
 // 64 blocks, of which 0 to 53 have owners.
 #[test]
 fn blocks_one_by_one(rt: HostRuntime) {
-    assert_eq!(rt;
-        first_wrong(rt.alloc(), 54, &SINGLES).expect(&rt, "memory"),
-        None
-    );
+    assert!(rt; first_wrong(rt.alloc(), 54, &SINGLES).expect(&rt, "memory") == None);
 }
 
 // The last of the taken blocks are the lowest: 50, 51 and 55 are left.
@@ -207,10 +204,7 @@ static BUSY: [Row; 18] = [
 // 64 blocks, of which 0 to 53 have owners.
 #[test]
 fn busy_blocks(rt: HostRuntime) {
-    assert_eq!(rt;
-        first_wrong(rt.alloc(), 54, &BUSY).expect(&rt, "memory"),
-        None
-    );
+    assert!(rt; first_wrong(rt.alloc(), 54, &BUSY).expect(&rt, "memory") == None);
 }
 
 // The second list begins at the lowest aligned run of 16 behind the first one's 8 blocks. Later blocks 0 to 7 are busy already when they are
@@ -244,10 +238,7 @@ static LISTS: [Row; 23] = [
 // 64 free blocks; what lies past them is never handed out, and a release passes over it.
 #[test]
 fn lists_and_releases(rt: HostRuntime) {
-    assert_eq!(rt;
-        first_wrong(rt.alloc(), 0, &LISTS).expect(&rt, "memory"),
-        None
-    );
+    assert!(rt; first_wrong(rt.alloc(), 0, &LISTS).expect(&rt, "memory") == None);
 }
 
 // 56 to 59 get owners, 60 to 63 are only reserved. No run of four lies in 6 to 10, also once they are settled; one does in 6 to 11, of which
@@ -284,20 +275,17 @@ static QUESTIONS: [Row; 26] = [
 // 64 blocks, of which 0 to 55 have owners: one run of four after another is reserved, released or busy.
 #[test]
 fn questions(rt: HostRuntime) {
-    assert_eq!(rt;
-        first_wrong(rt.alloc(), 56, &QUESTIONS).expect(&rt, "memory"),
-        None
-    );
+    assert!(rt; first_wrong(rt.alloc(), 56, &QUESTIONS).expect(&rt, "memory") == None);
 }
 
 // The file of 20,000 blocks: four control pages and three dmaps, of which the control pages of levels 2 and 1 aren't in use.
 #[test]
 fn pages_in_use(rt: HostRuntime) {
     let map = map_of(rt.alloc(), [0u8; 2500].as_slice(), 20000).expect(&rt, "memory");
-    assert_eq!(rt; map.pages(), 7);
+    assert!(rt; map.pages() == 7);
     let mut in_use = [false; 8];
     for n in 0..8u32 {
         in_use[n as usize] = map.is_in_use(n);
     }
-    assert_eq!(rt; in_use, [true, false, false, true, true, true, true, false]);
+    assert!(rt; in_use == [true, false, false, true, true, true, true, false]);
 }
