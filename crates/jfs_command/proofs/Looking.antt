@@ -1,5 +1,5 @@
 -- Commands that look at the superblock, go on where it is accepted, and change nothing.
-use Rattle.std.proofs.Common.{◌≡◌, ◌<◌, ◌≤◌, ◌⊎◌, ℕ, List, [], Option, Some, Ok, Err, drop, inl, inr, refl, sym, ap, subst, ◌∙◌, arith}
+use Rattle.std.proofs.Common.{◌≡◌, ◌<◌, ◌≤◌, ◌⊎◌, ℕ, List, [], Option, Some, Ok, Err, drop, refl, sym, ap, subst, ◌∙◌, arith}
 use Rattle.jfs_bits.specs.Broken.{first_broken}
 use Rattle.jfs_disk.specs.Image.{Image, ArePages}
 use Rattle.jfs_disk.specs.declared.disk.Disk.{Ghosts}

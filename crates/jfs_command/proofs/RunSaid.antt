@@ -6,7 +6,7 @@ use Rattle.jfs_bits.specs.Broken.{first_broken}
 use Rattle.jfs_disk.specs.Image.{Image, page_of}
 use Rattle.jfs_super.specs.declared.fields.Super.{Super}
 use Rattle.jfs_super.specs.declared.read.BadSuper.{BadSuper}
-use Rattle.jfs_super.specs.Rules.{rows, IsAccepted}
+use Rattle.jfs_super.specs.Rules.{rows}
 use Rattle.jfs_ranges.specs.declared.edit.Edit.{Edit}
 use Rattle.jfs_redo.specs.Redo.{IsRedone}
 use Rattle.jfs_redo.proofs.OneVolume.{redone_agree}
@@ -24,7 +24,7 @@ use Rattle.jfs_command.specs.Redo.{redone_text, is_clean, is_mounted, MountedSay
 use Rattle.jfs_command.specs.Scripts.{ScriptSays, ScriptsSay}
 use Rattle.jfs_command.specs.Superblock.{superblock_of, AfterRules, AfterState, AfterSuperblock}
 use Rattle.jfs_command.specs.Run.{CleanSays, runs, breaks, Start, is_ready, IsRedoneBy, BeginsOn, as_it_is, as_redone, behind, ReadySays, begins, not_redone, LinesSay, RunSays, refuses, takes, RunSaysOneThing, IsOfScripts, LooksAtReady, LooksAtRun}
-use Rattle.jfs_command.proofs.SuperblockLemmas.{SamePage8, same_rules, same_superblock, same_after, one_after, next_after, one_after_state}
+use Rattle.jfs_command.proofs.SuperblockLemmas.{SamePage8, same_after, one_after, next_after, one_after_state}
 use Rattle.jfs_command.proofs.RedoSaid.{long, same_commits, once, mounted_same, one_mounted, mounted_told}
 use Rattle.jfs_command.proofs.RedoMounted.{not_clean}
 

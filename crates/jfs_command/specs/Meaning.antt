@@ -1,6 +1,6 @@
 -- What a command means, said of the disk alone. Faults, want of memory and the sink are no part of it.
 use Rattle.std.specs.Prelude.{◌≡◌, ◌⊎◌, ℕ, List, []}
-use Rattle.jfs_disk.specs.Image.{Image, page_of}
+use Rattle.jfs_disk.specs.Image.{page_of}
 use Rattle.jfs_disk.specs.declared.disk.Disk.{Ghosts}
 use Rattle.jfs_command.specs.declared.status.Status.{Status}
 use Rattle.jfs_command.specs.declared.status.Status.TheVariants.{Done}

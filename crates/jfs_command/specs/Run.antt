@@ -7,7 +7,6 @@ use Rattle.jfs_disk.specs.Moment.{IsResting}
 use Rattle.jfs_ranges.specs.declared.edit.Edit.{Edit}
 use Rattle.jfs_super.specs.declared.fields.Super.{Super}
 use Rattle.jfs_super.specs.declared.fields.TheConstants.VolumeState.{CLEAN}
-use Rattle.jfs_super.specs.Super.{super_of}
 use Rattle.jfs_super.specs.Rules.{blocks_of, IsAccepted}
 use Rattle.jfs_redo.specs.Redo.{IsRedone, StaysBehind}
 use Rattle.jfs_findings_new.specs.mount_rules.specs.Subject.{subject_of}
