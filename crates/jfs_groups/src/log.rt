@@ -30,7 +30,7 @@ impl<D: Disk, E: HasRecords> Stands<E> for SharedLog<D> {
 
 impl<D: Disk> SharedLog<D> {
     /// Writes a group at the log's end, and syncs.
-    pub(crate) fn write(&mut self, group: &GroupText) -> Result<(), LogFault>
+    pub fn write(&mut self, group: &GroupText) -> Result<(), LogFault>
         requires running { self.old.side.halted ≡ None }
         requires room { pages_of (length group.now.bytes.items) ≤ room_of self.old.side.last.ring }
         requires later { self.old.side.durable ≤ group.now.last }
