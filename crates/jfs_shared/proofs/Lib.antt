@@ -1,0 +1,4 @@
+pub mod Text
+pub mod Stepped
+pub mod Served
+pub mod Stands
