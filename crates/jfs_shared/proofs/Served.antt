@@ -1,7 +1,7 @@
 -- A legal history behind calls, groups and syncpoints of many clients.
 use Rattle.std.proofs.Common.{◌≡◌, ◌≤◌, ℕ, suc, ◌+◌, List, [], ◌∷◌, ◌++◌, length, take, drop, map, Option, Some, None, refl, sym, ap, subst, ◌∙◌, inl, inr, arith}
-use Rattle.std.proofs.lemmas.List.{length-append, length-map, take-append-le}
-use Rattle.std.proofs.Math.ListN.{take_of_length-le}
+use Rattle.std.proofs.lemmas.List.{length-append, take-append-le}
+use Rattle.std.proofs.Math.Seq.{take-length}
 use Rattle.jfs_disk.specs.Image.{page_of}
 use Rattle.jfs_super.specs.declared.fields.Super.{Super}
 use Rattle.jfs_records.specs.Records.{Noted}
@@ -59,7 +59,7 @@ module _ (area : ℕ → ℕ) (log_pages : ℕ) (start : Parts) (tells crashes :
   cut : (n : ℕ) (list : List Recorded) (p : Parts) → n ≡ length list → AreLegal area log_pages start (timed_in list) → GoesOn (Some n) area log_pages start (timed_in list) p
   cut n list p is legal = (
     omega (arith, is, as_many list),
-    subst (λ (front : List Timed). AreLegal area log_pages start front) (sym (take_of_length-le (timed_in list) (let k : length (timed_in list) ≤ n = omega (arith, is, as_many list) in k))) legal,
+    subst (λ (front : List Timed). AreLegal area log_pages start front) (sym (ap (λ (k : ℕ). take k (timed_in list)) (is ∙ sym (as_many list)) ∙ take-length (timed_in list))) legal,
   )
 
   lacked : (broken : Option ℕ) (n : ℕ) (list : List Recorded) (a : Asking) (old new : Parts) → n ≡ length list → GoesOn broken area log_pages start (timed_in list) old → Does tells crashes a.caller a.request a.now old new NoMemory

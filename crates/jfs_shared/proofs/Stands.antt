@@ -23,9 +23,9 @@ use Rattle.jfs_call.specs.volume.specs.Room.{IsWithinRoom}
 use Rattle.jfs_call.specs.volume.specs.Settle.{with_point}
 use Rattle.jfs_call.specs.volume.specs.Settles.{Settles, StaysShown, is_freed}
 use Rattle.jfs_call.specs.volume.specs.Told.{still_freed}
-use Rattle.jfs_volume_calls.specs.Halts.{GroupParts}
+use Rattle.jfs_volume_calls.specs.Halts.{GroupParts, PointParts}
 use Rattle.jfs_volume_calls.specs.Written.{WritesMaps}
-use Rattle.jfs_volume_calls.proofs.Kept.{group_settles, group_pages}
+use Rattle.jfs_volume_calls.proofs.Kept.{group_settles, group_pages, pointed}
 use Rattle.jfs_call.specs.volume.specs.bmap.proofs.Views.{length-each_below}
 use Rattle.jfs_shared.specs.Base.{ring_of, image_of}
 use Rattle.jfs_shared.specs.Calls.{recorded}
@@ -237,6 +237,11 @@ module _ (tells : Type 0) (base : Base) (list : List Recorded) (taken told : ℕ
 
   -- ---- a SYNCPT
 
+  -- it leaves the tree
+  beside : (new : Parts) → PointParts old new → tells → IfConsistent base (λ s page. IsServed s page broken list new)
+  beside new p t consistent = served_settled tells ⊥ t s page broken list old new (pointed old old new (group_settles old old refl) p)
+      (record { files = ap (λ (x : Parts). x.files) p; view = λ _ q free. ap (λ (x : Parts). page_of x.view q) p }) (h.served t consistent)
+
   pub point_stands : (new : Parts) → taken ≡ length list → old.text.bytes ≡ [] → new ≡ with_point old → IsShared tells base list (length list) told (points ++ length list ∷ []) known (made + 1) broken new
   point_stands new all empty e = record {
     entries = ap (λ (p : Parts). p.entries) e ∙ h.entries;
@@ -251,20 +256,8 @@ module _ (tells : Type 0) (base : Base) (list : List Recorded) (taken told : ℕ
     text = subst (λ (n : ℕ). HasText (ring_of base) list (length list) n new.text) (let k : suc (length points) ≡ length (points ++ length list ∷ []) = omega (arith, length-append points (length list ∷ [])) in k)
         (pointed_text (ring_of base) list taken (length points) old.text h.text h.taken_within new.text all (ap (λ (p : Parts). p.text.ring) e) (ap (λ (p : Parts). p.text.place) e) (ap (λ (p : Parts). p.text.bytes) e ∙ empty) (ap (λ (p : Parts). p.text.last) e));
     size = subst (λ (p : Parts). length p.map.states ≤ p.blocks) (sym e) h.size;
-    served = λ t consistent. served_settled tells ⊥ t s page broken list old new settles (record { files = ap (λ (p : Parts). p.files) e; view = λ _ q free. ap (λ (p : Parts). page_of p.view q) e }) (h.served t consistent);
+    served = λ t consistent. beside new (e ∙ ap (λ (p : Parts). record old { points = p.points; known = p.known; taken = p.taken; text = p.text; halted = p.halted }) (sym e)) t consistent;
   }
-    where
-      settles : Settles old new
-      settles = record {
-        entries = ap (λ (p : Parts). p.entries) e;
-        appended = ap (λ (p : Parts). p.appended) e;
-        inodes = ap (λ (p : Parts). p.inodes) e;
-        limit = ap (λ (p : Parts). p.limit) e;
-        blocks = ap (λ (p : Parts). p.blocks) e;
-        count = ap (λ (p : Parts). p.count) e;
-        room = ap (λ (p : Parts). p.room) e;
-        map = inl (record { map = ap (λ (p : Parts). p.map) e; freed = ap (λ (p : Parts). p.freed) e });
-      }
 
   -- all are known to be stable
   pub known_stands : (new : Parts) → new ≡ record old { known = old.points } → IsShared tells base list taken told points (length points) made broken new
@@ -280,17 +273,5 @@ module _ (tells : Type 0) (base : Base) (list : List Recorded) (taken told : ℕ
     taken_within = h.taken_within;
     text = subst (λ (t : Text). HasText (ring_of base) list taken (length points) t) (sym (ap (λ (p : Parts). p.text) e)) h.text;
     size = subst (λ (p : Parts). length p.map.states ≤ p.blocks) (sym e) h.size;
-    served = λ t consistent. served_settled tells ⊥ t s page broken list old new settles (record { files = ap (λ (p : Parts). p.files) e; view = λ _ q free. ap (λ (p : Parts). page_of p.view q) e }) (h.served t consistent);
+    served = λ t consistent. beside new (e ∙ ap (λ (p : Parts). record old { points = p.points; known = p.known; taken = p.taken; text = p.text; halted = p.halted }) (sym e)) t consistent;
   }
-    where
-      settles : Settles old new
-      settles = record {
-        entries = ap (λ (p : Parts). p.entries) e;
-        appended = ap (λ (p : Parts). p.appended) e;
-        inodes = ap (λ (p : Parts). p.inodes) e;
-        limit = ap (λ (p : Parts). p.limit) e;
-        blocks = ap (λ (p : Parts). p.blocks) e;
-        count = ap (λ (p : Parts). p.count) e;
-        room = ap (λ (p : Parts). p.room) e;
-        map = inl (record { map = ap (λ (p : Parts). p.map) e; freed = ap (λ (p : Parts). p.freed) e });
-      }

@@ -2,7 +2,7 @@
 use Rattle.std.proofs.Common.{◌≡◌, ◌≤◌, ℕ, suc, ◌+◌, ◌-◌, ◌*◌, List, [], ◌∷◌, ◌++◌, length, take, drop, Option, Some, None, refl, sym, ap, subst, ◌∙◌, arith, append_assoc, append-nil}
 use Rattle.std.proofs.lemmas.List.{length-append, length-drop, length-take-le, take-append-drop, take-append-le, drop-append-le}
 use Rattle.std.proofs.lemmas.Grind.{flat_map-append}
-use Rattle.std.proofs.Math.ListN.{drop_of_length-le, take_of_length-le}
+use Rattle.std.proofs.Math.Seq.{take-length, drop-length}
 use Rattle.jfs_logfmt.specs.Written.{text_of}
 use Rattle.jfs_logpages.specs.Records.{log_text}
 use Rattle.jfs_records.specs.Records.{Noted}
@@ -43,10 +43,10 @@ module _ (ring : ℕ) (list : List Recorded) (taken points : ℕ) (text : Text) 
   -- ---- a group takes it
 
   all : take (length list) list ≡ list
-  all = take_of_length-le list (omega arith)
+  all = take-length list
 
   none : drop (length list) list ≡ []
-  none = drop_of_length-le list (omega arith)
+  none = drop-length list
 
   pub taken_text : (new : Text) → new.ring ≡ text.ring → new.place ≡ text.place + length text.bytes → new.bytes ≡ [] → new.last ≡ text.last → HasText ring list (length list) points new
   taken_text new same place empty last = record {

@@ -1,14 +1,15 @@
 //! A syncpoint by whoever has both turns.
 
 ghost use Rattle.std.specs.Prelude.{◌≡◌, ◌≤◌, ◌+◌, ◌*◌, ◌^◌, [], nat_le, length, OnOk, IfErr, None, Some};
-ghost use Rattle.jfs_shared.specs.Both.{AreTogether, CommitIs, PointIs};
+ghost use Rattle.jfs_volume_calls.specs.Syncpoint.{HasFaultOfEither, HasPointFault};
+ghost use Rattle.jfs_shared.specs.Both.{AreTogether, PointIs};
 ghost use Rattle.jfs_shared.specs.Shared.{standing, log_standing};
 
 use crate::committing::commit_with;
 use crate::settling::settle;
 use crate::shared::SharedVolume;
 use jfs_disk::{Disk, Fault};
-use jfs_groups::{Collected, SharedLog};
+use jfs_groups::SharedLog;
 
 /// The last end of a text behind which a syncpoint has room, so that the numbers of the log's pages have 32 bits.
 const LAST_POINT: u64 = 4080 * 4_294_967_296 - 72;
@@ -35,6 +36,8 @@ pub fn point_with<D: Disk>(
     ensures point { PointIs (standing D.Disk) (log_standing D.Disk) shared.old log.old shared.new log.new result }
     ensures goes_on { OnOk result ((log.new.side.halted ≡ None) × (shared.new.volume.halted ≡ None)) }
     ensures halts { IfErr result (λ fault. shared.new.volume.halted ≡ Some fault) }
+    ensures cause { HasFaultOfEither shared.old.volume.faults shared.new.volume.faults (D.fault_count log.old.side.part) (D.fault_count log.new.side.part) result }
+    ensures pages { D.page_count log.new.side.part ≡ D.page_count log.old.side.part }
 {
     match commit_with(shared, log) {
         Ok(()) => {}
@@ -63,6 +66,8 @@ fn write_point<D: Disk>(
     ensures point { PointIs (standing D.Disk) (log_standing D.Disk) shared.old log.old shared.new log.new result }
     ensures goes_on { OnOk result ((log.new.side.halted ≡ None) × (shared.new.volume.halted ≡ None)) }
     ensures halts { IfErr result (λ fault. shared.new.volume.halted ≡ Some fault) }
+    ensures cause { HasPointFault (D.fault_count log.old.side.part) (D.fault_count log.new.side.part) result }
+    ensures parts { (shared.new.volume.faults ≡ shared.old.volume.faults) × (D.page_count log.new.side.part ≡ D.page_count log.old.side.part) }
 {
     shared.volume.take_point();
     shared.points += 1;

@@ -1,6 +1,7 @@
 //! Pages that go home, and are synced.
 
 ghost use Rattle.std.specs.Prelude.{◌≡◌, OnOk, None};
+ghost use Rattle.jfs_volume_calls.specs.volume.specs.pages.specs.Device.{HasFault};
 ghost use Rattle.jfs_volume_calls.specs.volume.specs.Settles.{Settles, StaysShown, HaltsAt};
 ghost use Rattle.jfs_volume_calls.specs.Written.{WritesMaps};
 ghost use Rattle.jfs_shared.specs.Home.{IsSettled};
@@ -21,6 +22,7 @@ pub(crate) fn settle<D: Disk>(volume: &mut Volume<D>) -> Result<(), Fault>
     ensures shown { OnOk result (StaysShown D.tells volume.old volume.new) }
     ensures maps { OnOk result (D.tells → WritesMaps volume.old volume.new) }
     ensures halts { HaltsAt volume.old.halted volume.new.halted result }
+    ensures cause { HasFault volume.old.faults volume.new.faults result }
 {
     match volume.home_all() {
         Ok(()) => {}
