@@ -5,3 +5,7 @@ pub mod Stands
 pub mod Logged
 pub mod Fresh
 pub mod Started
+pub mod Writing
+pub mod Called
+pub mod Pointing
+pub mod Homed

@@ -21,13 +21,16 @@ use Rattle.jfs_groups.specs.Written.{IsGroupWritten, IsGroupLost}
 use Rattle.jfs_groups.proofs.Text.{entries-append, points-append, start_of, zeros_of}
 use Rattle.jfs_groups.proofs.Stands.{lost_stands}
 
+none_some : (fault : Fault) → ◌≡◌ {A = Option Fault} None (Some fault) → ⊥
+none_some fault e = absurd (cc)
+
+none_left : {A : Type 0} (xs : List A) → length xs ≡ 0 → xs ≡ []
+none_left [] e = refl
+none_left (x ∷ xs) e = absurd (let k : ⊥ = omega (arith, e) in k)
+
 -- a front that is as long is the whole list
 pub whole_front : {A : Type 0} (xs ys : List A) → IsPrefix xs ys → length xs ≡ length ys → xs ≡ ys
-whole_front xs ys (more, e) same = sym (append-nil xs) ∙ ap (λ rest. xs ++ rest) (sym (none more (let k : length more ≡ 0 = omega (arith, ap length e, length-append xs more, same) in k))) ∙ e
-  where
-    none : (rest : List _) → length rest ≡ 0 → rest ≡ []
-    none [] z = refl
-    none (y ∷ rest) z = absurd (let k : ⊥ = omega (arith, z) in k)
+whole_front {A} xs ys (more, e) same = sym (append-nil xs) ∙ ap (λ (rest : List A). xs ++ rest) (sym (none_left more (let k : length more ≡ 0 = omega (arith, ap (λ (l : List A). length l) e, length-append xs more, same) in k))) ∙ e
 
 module _ {E : Type 0} (logs : E → Option (List Noted)) where
   -- the log holds the text with a SYNCPT more
@@ -74,9 +77,12 @@ module _ {E : Type 0} (logs : E → Option (List Noted)) where
       };
       halts = λ fault e. absurd (none_some fault (sym w.runs ∙ e));
     }
-      where
-        none_some : (fault : Fault) → ◌≡◌ {A = Option Fault} None (Some fault) → ⊥
-        none_some fault e = absurd (cc)
+
+    -- one that isn't: whatever syncpoints there are, no more of them are stable
+    pub lost_point : (fault : Fault) (more : ℕ) → IsGroupLost fault l m → LogStandsFor logs tells crashes ring m list taken durable more stable
+    lost_point fault more w =
+        let s' = lost_stands logs tells crashes ring l m list list taken taken durable points stable fault s w in
+        record { pages = s'.pages; count = s'.count; stable = s'.stable; runs = λ e. absurd (none_some fault (sym e ∙ w.halts)); halts = s'.halts }
 
     -- where groups have taken all entries of a list that goes on the log's, it is the log's
     pub all_taken : (whole : List E) → IsPrefix list whole → taken ≡ length whole → LogStandsFor logs tells crashes ring l whole (length whole) (length whole) points stable

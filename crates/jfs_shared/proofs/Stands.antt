@@ -53,10 +53,10 @@ pub record Alike (old new : Parts) : Type 0 where
   pub blocks : new.blocks ≡ old.blocks
 
 module _ (tells : Type 0) (base : Base) (list : List Recorded) (taken told : ℕ) (points : List ℕ) (known made : ℕ) (broken : Option ℕ) (old : Parts) (h : IsShared tells base list taken told points known made broken old) where
-  s : Super
+  abbrev s : Super
   s = super_of (page_of (image_of base) 8)
 
-  page : ℕ → List ℕ
+  abbrev page : ℕ → List ℕ
   page = page_of (image_of base)
 
   -- nothing of them changes

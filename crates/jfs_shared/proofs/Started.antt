@@ -30,10 +30,10 @@ use Rattle.jfs_shared.specs.declared.recorded.Recorded.{Recorded}
 use Rattle.jfs_shared.proofs.Fresh.{fresh_holds}
 
 module _ (tells crashes : Type 0) (s : Super) (image : Image) (volume : Parts) (log : LogParts) (m : IsJustMounted tells crashes s image volume log) where
-  ring : ℕ
+  abbrev ring : ℕ
   ring = s.logpxd.len - 2
 
-  both : Halves
+  abbrev both : Halves
   both = fresh_halves ring (record { pages = m.mount.pages; map = m.mount.maps.blocks; inodes = m.mount.maps.inodes })
 
   none_told : (fact : Type 0) → false ≡ true → fact

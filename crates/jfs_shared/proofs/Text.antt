@@ -20,13 +20,13 @@ added None n text = []
 added (Some noted) n text = log_text (item_records text.ring (text.place + length text.bytes) (entry n noted))
 
 module _ (ring : ℕ) (list : List Recorded) (taken points : ℕ) (text : Text) (h : HasText ring list taken points text) (within : taken ≤ length list) where
-  rest : List Recorded
+  abbrev rest : List Recorded
   rest = drop taken list
 
-  front : List Recorded
+  abbrev front : List Recorded
   front = take taken list
 
-  start : ℕ
+  abbrev start : ℕ
   start = end_of logs_of ring front points
 
   sized : length text.bytes ≡ text_size (items_from logs_of taken rest)
@@ -94,6 +94,11 @@ module _ (ring : ℕ) (list : List Recorded) (taken points : ℕ) (text : Text) 
       bytes = bytes ∙ sym whole ∙ sym (ap (λ (es : List Recorded). log_text (log_records ring (end_of logs_of ring es points) (items_from logs_of taken (drop taken (list ++ e ∷ []))))) longer_front ∙ ap (λ (is : List Item). log_text (log_records ring start is)) items);
       last = last ∙ (let k : suc (length list) ≡ length (list ++ e ∷ []) = omega (arith, length-append list (e ∷ [])) in k);
     }
+
+  -- where groups have taken all, nothing waits
+  pub nothing_waits : taken ≡ length list → text.bytes ≡ []
+  nothing_waits is = h.bytes ∙ ap (λ (k : ℕ). log_text (log_records ring start (items_from logs_of k (drop k list)))) is
+      ∙ ap (λ (es : List Recorded). log_text (log_records ring start (items_from logs_of (length list) es))) none
 
   -- ---- a SYNCPT goes past it
 
