@@ -7,5 +7,6 @@ pub mod Fresh
 pub mod Started
 pub mod Writing
 pub mod Called
+pub mod Together
 pub mod Pointing
 pub mod Homed

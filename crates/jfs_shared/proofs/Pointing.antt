@@ -101,3 +101,12 @@ module _ {D : Type 0} (d : Ghosts D) (x : SharedVolume D d) (y : SharedLog D d) 
         durable_within = p.durable_within;
         points_grow = p.points_grow;
       }
+
+module _ {D : Type 0} (d : Ghosts D) (x : SharedVolume D d) (y : SharedLog D d) (runs : y.side.halted ≡ None) where
+  pub point_is : (last : SharedVolume D d) (last_log : SharedLog D d) (result : Result (Unit {0}) Fault) → ((n : Seen) (k : AreOf (standing d) (log_standing d) n x y) → PointEnds d x y runs n k result last last_log)
+      → PointIs (standing d) (log_standing d) x y last last_log result
+  point_is last last_log (Ok done) each = λ n k. each n k
+  point_is last last_log (Err fault) each = λ n k. each n k
+
+pub committed_told : {D : Type 0} (d : Ghosts D) (n : Seen) (x : SharedVolume D d) (y : SharedLog D d) → Committed (standing d) (log_standing d) n x y → x.volume.told ≡ x.volume.appended
+committed_told d n x y c = c.0.told_is ∙ sym c.0.appended

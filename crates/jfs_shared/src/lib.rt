@@ -4,6 +4,7 @@
 mod call;
 mod collected;
 mod committing;
+mod law;
 mod point_group;
 mod pointing;
 mod recorded;
@@ -13,6 +14,7 @@ mod starting;
 
 pub use call::call;
 pub use committing::commit_with;
+pub use law::values_together_may_commit;
 pub use point_group::PointGroup;
 pub use pointing::{has_room_for_point, point_with};
 pub use recorded::Recorded;

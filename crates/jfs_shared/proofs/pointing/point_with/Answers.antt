@@ -1,8 +1,5 @@
-use Rattle.std.proofs.Common.{◌≤◌, ◌+◌, ◌*◌, ◌^◌, ◌∙◌, refl, Result, Ok, Err, arith}
-use Rattle.jfs_disk.specs.declared.disk.Fault.{Fault}
-use Rattle.jfs_shared.specs.Both.{PointIs}
-use Rattle.jfs_shared.specs.Shared.{standing, log_standing}
-use Rattle.jfs_shared.proofs.Pointing.{settled, not_committed, home_are, not_home, nothing_left, same_end, all_told, point_ends}
+use Rattle.std.proofs.Common.{refl, arith}
+use Rattle.jfs_shared.proofs.Pointing.{settled, not_committed, home_are, not_home, nothing_left, same_end, all_told, point_ends, point_is, committed_told}
 use Rattle.jfs_shared.proofs.pointing.point_with.Goals as goal
 
 pub returns-in-Err-clause-point : goal.returns-in-Err-clause-point
@@ -35,3 +32,17 @@ write_point-requires-clause-together g c =
       home_are g.D.Disk c.args.shared.now c.args.log.now c.requires.running.0 t.0 t.1 c.commit_with.new.shared c.commit_with.new.log (c.in-Ok.ensures.commit t.0 t.1) c.settle.new.volume c.settle.ensures.parts
           c.settle.ensures.settles c.in-Ok-settle.ensures.shown c.in-Ok-settle.ensures.maps,
     )
+
+pub settle-requires-clause-told : goal.settle-requires-clause-told
+settle-requires-clause-told g c =
+    let t = c.requires.together in
+    committed_told g.D.Disk t.0 c.commit_with.new.shared c.commit_with.new.log (c.in-Ok.ensures.commit t.0 t.1)
+
+pub returns-clause-point : goal.returns-clause-point
+returns-clause-point g c =
+    point_is g.D.Disk c.args.shared.now c.args.log.now c.requires.running.0 c.write_point.new.shared c.write_point.new.log c.write_point.result
+    (λ n k.
+        point_ends g.D.Disk c.args.shared.now c.args.log.now c.requires.running.0 n k _ _ c.write_point.new.shared c.write_point.new.log c.write_point.result
+        (home_are g.D.Disk c.args.shared.now c.args.log.now c.requires.running.0 n k c.commit_with.new.shared c.commit_with.new.log (c.in-Ok.ensures.commit n k) c.settle.new.volume c.settle.ensures.parts
+        c.settle.ensures.settles c.in-Ok-settle.ensures.shown c.in-Ok-settle.ensures.maps)
+        c.write_point.ensures.point)
