@@ -14,5 +14,5 @@ homes old new e = ap (λ (p : Parts). record p { view = new.view; dirty = new.di
 pub maps : (old new : Parts) → KeepsMemory old new → IsSettled old new
 maps old new e = ap (λ (p : Parts). record p { view = new.view; dirty = new.dirty; disk = new.disk; past = new.past; faults = new.faults; files = new.files; halted = new.halted }) e
 
-pub then : (old mid new : Parts) → IsSettled old mid → IsSettled mid new → IsSettled old new
-then old mid new a b = b ∙ ap (λ (p : Parts). record p { view = new.view; dirty = new.dirty; disk = new.disk; past = new.past; faults = new.faults; files = new.files; halted = new.halted }) a
+pub onward : (old mid new : Parts) → IsSettled old mid → IsSettled mid new → IsSettled old new
+onward old mid new a b = b ∙ ap (λ (p : Parts). record p { view = new.view; dirty = new.dirty; disk = new.disk; past = new.past; faults = new.faults; files = new.files; halted = new.halted }) a

@@ -88,9 +88,9 @@ module _ {E : Type 0} (logs : E → Option (List Noted)) where
     pub all_taken : (whole : List E) → IsPrefix list whole → taken ≡ length whole → LogStandsFor logs tells crashes ring l whole (length whole) (length whole) points stable
     all_taken whole front all = subst (λ (es : List E). LogStandsFor logs tells crashes ring l es (length es) (length es) points stable)
         (whole_front list whole front (let k : length list ≡ length whole = omega (arith, r.taken_all, r.durable_all, all) in k)) (record {
-      pages = s.pages;
-      count = s.count ∙ r.durable_all;
-      stable = s.stable;
-      runs = λ e. let q = s.runs e in record { taken_all = refl; durable_all = refl; stable_all = q.stable_all; place = q.place; holds = q.holds; resting = q.resting };
-      halts = s.halts;
-    })
+          pages = s.pages;
+          count = s.count ∙ r.durable_all;
+          stable = s.stable;
+          runs = λ e. let q = s.runs e in record { taken_all = refl; durable_all = refl; stable_all = q.stable_all; place = q.place; holds = q.holds; resting = q.resting };
+          halts = s.halts;
+        })

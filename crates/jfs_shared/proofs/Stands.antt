@@ -83,23 +83,23 @@ module _ (tells : Type 0) (base : Base) (list : List Recorded) (taken told : ℕ
         → Does tells crashes (record { client = client; line = line }) request now old new (Replied reply number waits) → Grew noted old new
         → IsShared tells base (list ++ recorded client line request now reply noted ∷ []) taken told points known made broken new × (number ≡ suc (length list))
     replied_stands reply number waits noted a d g = (
-        record {
-          entries = a.entry.entries ∙ ap (λ (es : List Entry). es ++ e.entry ∷ []) h.entries ∙ sym (entries_more list e);
-          appended = longer;
-          taken_is = a.keeps.taken ∙ h.taken_is;
-          told_is = a.keeps.told ∙ h.told_is;
-          points_are = h.points_are;
-          points_is = a.keeps.points ∙ h.points_is;
-          known_is = g.known ∙ h.known_is;
-          told_within = h.told_within;
-          taken_within = let w = h.taken_within in omega (arith, w, length-append list (e ∷ []));
-          text = joined_text (ring_of base) list taken (length points) old.text h.text h.taken_within e new.text a.keeps.ring a.keeps.place
-              (g.bytes ∙ ap (λ (n : ℕ). old.text.bytes ++ added noted n old.text) next) (g.last ∙ next);
-          size = let before = h.size in omega (arith, a.keeps.size, a.keeps.blocks, before);
-          served = λ t consistent. served_joined tells crashes t s page broken list (record { caller = record { client = client; line = line }; request = request; now = now }) old new reply number waits noted (h.served t consistent) d;
-        },
-        a.entry.number_is ∙ a.entry.appended ∙ next,
-      )
+      record {
+        entries = a.entry.entries ∙ ap (λ (es : List Entry). es ++ e.entry ∷ []) h.entries ∙ sym (entries_more list e);
+        appended = longer;
+        taken_is = a.keeps.taken ∙ h.taken_is;
+        told_is = a.keeps.told ∙ h.told_is;
+        points_are = h.points_are;
+        points_is = a.keeps.points ∙ h.points_is;
+        known_is = g.known ∙ h.known_is;
+        told_within = h.told_within;
+        taken_within = let w = h.taken_within in omega (arith, w, length-append list (e ∷ []));
+        text = joined_text (ring_of base) list taken (length points) old.text h.text h.taken_within e new.text a.keeps.ring a.keeps.place
+            (g.bytes ∙ ap (λ (n : ℕ). old.text.bytes ++ added noted n old.text) next) (g.last ∙ next);
+        size = let before = h.size in omega (arith, a.keeps.size, a.keeps.blocks, before);
+        served = λ t consistent. served_joined tells crashes t s page broken list (record { caller = record { client = client; line = line }; request = request; now = now }) old new reply number waits noted (h.served t consistent) d;
+      },
+      a.entry.number_is ∙ a.entry.appended ∙ next,
+    )
       where
         e : Recorded
         e = recorded client line request now reply noted

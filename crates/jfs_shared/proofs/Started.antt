@@ -20,8 +20,7 @@ use Rattle.jfs_legal.specs.served.specs.halves.specs.Log as halves
 use Rattle.jfs_legal.specs.served.specs.halves.specs.Log.{LogParts, HoldsItems}
 use Rattle.jfs_legal.specs.served.specs.halves.specs.Parts.{Parts, StandsFor}
 use Rattle.jfs_legal.specs.served.specs.shown.specs.meaning.specs.Image.{IsConsistentImage, volume_of}
-use Rattle.jfs_served.specs.Laws.{HoldsImage}
-use Rattle.jfs_served.proofs.Told.{told_mount}
+use Rattle.jfs_legal.specs.served.proofs.Told.{told_mount}
 use Rattle.jfs_legal.proofs.Going.{begin_law}
 use Rattle.jfs_legal.proofs.Known.{laws}
 use Rattle.jfs_shared.specs.Shared.{logs_of, HasText, IsShared, IsServed}
@@ -91,12 +90,12 @@ module _ (tells crashes : Type 0) (s : Super) (image : Image) (volume : Parts) (
   rests : crashes → IsResting (last_of log.past)
   rests c = (m.mount.log_fresh false true (none_told tells) (λ _. c)).resting refl refl
 
-  pub begun_stands : (data : LogData) → 2 ≤ ring → data.image ≡ log.image → data.past ≡ log.past → data.last ≡ log.last → data.durable ≡ log.durable → data.points ≡ 0 → data.halted ≡ log.halted → LogStandsFor logs_of tells crashes ring data [] 0 0 0 0
-  begun_stands data some image past last durable points halted = fresh logs_of tells crashes ring data (fresh_ends ring)
+  pub begun_stands : (now : LogData) → 2 ≤ ring → now.image ≡ log.image → now.past ≡ log.past → now.last ≡ log.last → now.durable ≡ log.durable → now.points ≡ 0 → now.halted ≡ log.halted → LogStandsFor logs_of tells crashes ring now [] 0 0 0 0
+  begun_stands now some image past last durable points halted = fresh logs_of tells crashes ring now (fresh_ends ring)
       (ap (λ l. l.ring) last ∙ log_stands.ring)
       (ap position_of last ∙ m.together.place ∙ stands.text.place)
       (durable ∙ log_stands.durable)
       points
       (halted ∙ log_stands.halted)
-      (λ t. subst (λ l. Holds l (fresh_text ring (text_of first_record)) (fresh_ends ring) data.image) (sym last) (subst (λ im. Holds log.last (fresh_text ring (text_of first_record)) (fresh_ends ring) im) (sym image) (holds some t)))
+      (λ t. subst (λ l. Holds l (fresh_text ring (text_of first_record)) (fresh_ends ring) now.image) (sym last) (subst (λ im. Holds log.last (fresh_text ring (text_of first_record)) (fresh_ends ring) im) (sym image) (holds some t)))
       (λ c. subst (λ states. IsResting (last_of states)) (sym past) (rests c))

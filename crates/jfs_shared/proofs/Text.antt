@@ -37,8 +37,14 @@ module _ (ring : ℕ) (list : List Recorded) (taken points : ℕ) (text : Text) 
 
   -- the text reaches as far as the whole list's does
   pub ends : text.place + length text.bytes ≡ end_of logs_of ring list points
-  ends = omega (arith, h.place, sized, ap (λ (k : ℕ). text_size (items_from logs_of k rest)) front_is,
-      end_grows logs_of ring points front rest, ap (λ (es : List Recorded). end_of logs_of ring es points) (take-append-drop taken list))
+  ends = omega (
+    arith,
+    h.place,
+    sized,
+    ap (λ (k : ℕ). text_size (items_from logs_of k rest)) front_is,
+    end_grows logs_of ring points front rest,
+    ap (λ (es : List Recorded). end_of logs_of ring es points) (take-append-drop taken list),
+  )
 
   -- ---- a group takes it
 

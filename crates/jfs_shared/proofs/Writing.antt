@@ -100,9 +100,9 @@ module _ {D : Type 0} (d : Ghosts D) (x : SharedVolume D d) (y : SharedLog D d) 
           → Pointed (standing d) (log_standing d) n (record x { volume = known; points = x.points + 1 }) (record y' { points = y'.points + 1 })
       pointed_both known is y' w = (
         subst (λ (m : ℕ). IsShared d.tells n.base n.list (length n.list) (length n.list) (n.points ++ length n.list ∷ []) m (x.points + 1) x.broken_off known) one_more
-        (known_stands d.tells n.base n.list (length n.list) (length n.list) (n.points ++ length n.list ∷ []) n.known (x.points + 1) x.broken_off pointed stands known is),
+            (known_stands d.tells n.base n.list (length n.list) (length n.list) (n.points ++ length n.list ∷ []) n.known (x.points + 1) x.broken_off pointed stands known is),
         subst (λ (m : ℕ). LogStandsFor logs_of d.tells d.tells_crashes (ring_of n.base) (record (data_of d y') { points = y'.points + 1 }) n.list (length n.list) (length n.list) m (suc (length n.points))) (sym one_more)
-        (pointed_stands logs_of d.tells d.tells_crashes (ring_of n.base) (data_of d y) (data_of d y') n.list (length n.list) (length n.list) (length n.points) n.stable log runs group bytes point_size (last ∙ k.volume.appended) w),
+            (pointed_stands logs_of d.tells d.tells_crashes (ring_of n.base) (data_of d y) (data_of d y') n.list (length n.list) (length n.list) (length n.points) n.stable log runs group bytes point_size (last ∙ k.volume.appended) w),
       )
 
       pub pointed_lost : (halted : Option Fault) (later : Parts) → later ≡ record pointed { halted = halted } → (y' : SharedLog D d) (fault : Fault) → IsGroupLost fault (data_of d y) (data_of d y')
@@ -140,7 +140,7 @@ module _ {D : Type 0} (d : Ghosts D) (x : SharedVolume D d) (y : SharedLog D d) 
       → Committed (standing d) (log_standing d) n (record x' { volume = new }) y'
   told_all n w all is new e shows = (
     subst (λ (m : ℕ). IsShared d.tells n.base n.list (length n.list) m n.points n.known x'.points x'.broken_off new) all_is
-    (told_stands d.tells n.base n.list (length n.list) n.told n.points n.known x'.points x'.broken_off x'.volume w.0 all new (omega (arith, all_is)) e shows),
+        (told_stands d.tells n.base n.list (length n.list) n.told n.points n.known x'.points x'.broken_off x'.volume w.0 all new (omega (arith, all_is)) e shows),
     w.1,
   )
     where

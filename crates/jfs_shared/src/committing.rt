@@ -65,10 +65,7 @@ fn write_waiting<D: Disk>(
 }
 
 /// Writes what no group has taken.
-fn write<D: Disk>(
-    shared: &mut SharedVolume<D>,
-    log: &mut SharedLog<D>,
-) -> Result<(), LogFault>
+fn write<D: Disk>(shared: &mut SharedVolume<D>, log: &mut SharedLog<D>) -> Result<(), LogFault>
     requires running { log.old.side.halted ≡ None }
     requires together { AreTogether (standing D.Disk) (log_standing D.Disk) shared.old log.old }
     requires waits { is_idle shared.old.volume ≡ false }

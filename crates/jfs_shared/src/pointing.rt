@@ -54,10 +54,7 @@ pub fn point_with<D: Disk>(
 }
 
 /// Logs a SYNCPT behind all entries, each of which is acknowledged, home and synced.
-fn write_point<D: Disk>(
-    shared: &mut SharedVolume<D>,
-    log: &mut SharedLog<D>,
-) -> Result<(), Fault>
+fn write_point<D: Disk>(shared: &mut SharedVolume<D>, log: &mut SharedLog<D>) -> Result<(), Fault>
     requires running { (log.old.side.halted ≡ None) × (shared.old.volume.halted ≡ None) }
     requires empty { shared.old.volume.text.bytes ≡ [] }
     requires room { shared.old.volume.text.place + 72 ≤ 4080 * 2 ^ 32 }

@@ -42,7 +42,7 @@ pub returns-clause-point : goal.returns-clause-point
 returns-clause-point g c =
     point_is g.D.Disk c.args.shared.now c.args.log.now c.requires.running.0 c.write_point.new.shared c.write_point.new.log c.write_point.result
     (λ n k.
-        point_ends g.D.Disk c.args.shared.now c.args.log.now c.requires.running.0 n k _ _ c.write_point.new.shared c.write_point.new.log c.write_point.result
-        (home_are g.D.Disk c.args.shared.now c.args.log.now c.requires.running.0 n k c.commit_with.new.shared c.commit_with.new.log (c.in-Ok.ensures.commit n k) c.settle.new.volume c.settle.ensures.parts
-        c.settle.ensures.settles c.in-Ok-settle.ensures.shown c.in-Ok-settle.ensures.maps)
-        c.write_point.ensures.point)
+    point_ends g.D.Disk c.args.shared.now c.args.log.now c.requires.running.0 n k _ _ c.write_point.new.shared c.write_point.new.log c.write_point.result
+    (home_are g.D.Disk c.args.shared.now c.args.log.now c.requires.running.0 n k c.commit_with.new.shared c.commit_with.new.log (c.in-Ok.ensures.commit n k) c.settle.new.volume c.settle.ensures.parts
+    c.settle.ensures.settles c.in-Ok-settle.ensures.shown c.in-Ok-settle.ensures.maps)
+    c.write_point.ensures.point)

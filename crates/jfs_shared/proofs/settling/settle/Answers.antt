@@ -1,6 +1,6 @@
 use Rattle.std.proofs.Common.{refl}
 use Rattle.jfs_volume_calls.proofs.Kept.{anyhow, homed, mapped, group_settles, group_pages, point_shown, point_writes}
-use Rattle.jfs_shared.proofs.Homed.{homes, maps, then}
+use Rattle.jfs_shared.proofs.Homed.{homes, maps, onward}
 use Rattle.jfs_shared.proofs.settling.settle.Goals as goal
 
 -- ---- the parts
@@ -9,11 +9,11 @@ pub returns-in-Err-clause-parts : goal.returns-in-Err-clause-parts
 returns-in-Err-clause-parts g c = homes c.args.volume.now c.home_all.new.self c.home_all.ensures.alone.parts
 
 pub returns-in-Err-home_maps-clause-parts : goal.returns-in-Err-home_maps-clause-parts
-returns-in-Err-home_maps-clause-parts g c = then c.args.volume.now c.home_all.new.self c.home_maps.new.self (homes c.args.volume.now c.home_all.new.self c.home_all.ensures.alone.parts) (maps c.home_all.new.self c.home_maps.new.self c.home_maps.ensures.memory)
+returns-in-Err-home_maps-clause-parts g c = onward c.args.volume.now c.home_all.new.self c.home_maps.new.self (homes c.args.volume.now c.home_all.new.self c.home_all.ensures.alone.parts) (maps c.home_all.new.self c.home_maps.new.self c.home_maps.ensures.memory)
 
 pub returns-clause-parts : goal.returns-clause-parts
-returns-clause-parts g c = then c.args.volume.now c.home_maps.new.self c.sync_low.new.self
-    (then c.args.volume.now c.home_all.new.self c.home_maps.new.self (homes c.args.volume.now c.home_all.new.self c.home_all.ensures.alone.parts) (maps c.home_all.new.self c.home_maps.new.self c.home_maps.ensures.memory))
+returns-clause-parts g c = onward c.args.volume.now c.home_maps.new.self c.sync_low.new.self
+    (onward c.args.volume.now c.home_all.new.self c.home_maps.new.self (homes c.args.volume.now c.home_all.new.self c.home_all.ensures.alone.parts) (maps c.home_all.new.self c.home_maps.new.self c.home_maps.ensures.memory))
     (homes c.home_maps.new.self c.sync_low.new.self c.sync_low.ensures.alone.parts)
 
 -- ---- what stays
