@@ -14,3 +14,15 @@ pub mod unmount {
 
     pub use jfs_served::unmount::{MountError, Mounted, leave, mount, unmount};
 }
+
+pub mod call {
+    //! Passed on from `jfs_served`.
+
+    pub use jfs_served::call::{Outcome, call_with_log};
+}
+
+pub mod volume_calls {
+    //! Passed on from `jfs_served`.
+
+    pub use jfs_served::volume_calls::{PointText, commit};
+}

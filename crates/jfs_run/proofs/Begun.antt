@@ -7,8 +7,8 @@ use Rattle.jfs_super.specs.Rules.{IsAccepted, blocks_of}
 use Rattle.jfs_super.specs.declared.fields.Super.{Super}
 use Rattle.jfs_super.specs.declared.fields.TheConstants.VolumeState.{CLEAN}
 use Rattle.jfs_super.proofs.Rules.{accepted_layout, accepted_pages}
-use Rattle.jfs_served.specs.volume_calls.specs.Together.{AreTogether}
-use Rattle.jfs_served.specs.mounted.specs.Mount.{IsMountOf}
+use Rattle.jfs_legal.specs.served.specs.volume_calls.specs.Together.{AreTogether}
+use Rattle.jfs_legal.specs.served.specs.mounted.specs.Mount.{IsMountOf}
 use Rattle.jfs_run.specs.Serving.{State, IsFresh}
 
 pub has_superblock : (s : Super) (pages : ℕ) → IsAccepted s pages → 8 < pages

@@ -5,12 +5,12 @@ use Rattle.jfs_disk.specs.Image.{Image, page_of}
 use Rattle.jfs_super.specs.Super.{super_of}
 use Rattle.jfs_super.specs.declared.fields.Super.{Super}
 use Rattle.jfs_super.specs.declared.fields.TheConstants.VolumeState.{CLEAN}
-use Rattle.jfs_served.specs.halves.specs.Log.{LogParts}
-use Rattle.jfs_served.specs.halves.specs.Parts.{Parts}
-use Rattle.jfs_served.specs.shown.specs.Files.{KnowsFiles}
-use Rattle.jfs_served.specs.Holds.{StaysServing}
-use Rattle.jfs_served.specs.Legal.{IsLegal, HasServed, keeps}
-use Rattle.jfs_served.proofs.Told.{told_ends}
+use Rattle.jfs_legal.specs.served.specs.halves.specs.Log.{LogParts}
+use Rattle.jfs_legal.specs.served.specs.halves.specs.Parts.{Parts}
+use Rattle.jfs_legal.specs.served.specs.shown.specs.Files.{KnowsFiles}
+use Rattle.jfs_legal.specs.served.specs.Holds.{StaysServing}
+use Rattle.jfs_legal.specs.served.specs.Legal.{IsLegal, HasServed, keeps}
+use Rattle.jfs_legal.specs.served.proofs.Told.{told_ends}
 use Rattle.jfs_run.specs.Calls.{any_failed}
 use Rattle.jfs_run.specs.Legal.{all_at, GoOn, HasTreeBehind, WasUnmounted}
 use Rattle.jfs_legal.proofs.Replying.{Laws}

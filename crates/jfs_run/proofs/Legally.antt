@@ -2,26 +2,26 @@
 use Rattle.std.proofs.Common.{◌≡◌, ◌≤◌, ◌⊎◌, ◌++◌, ◌∷◌, [], refl, sym, ap, ◌∙◌, subst, ℕ, Bool, true, false, List, inl, inr, None, append_assoc}
 use Rattle.jfs_bits.specs.declared.descriptor.Moment.{Moment}
 use Rattle.jfs_plain.specs.declared.call.Entry.{Entry}
-use Rattle.jfs_served.specs.halves.specs.Parts.{Parts}
-use Rattle.jfs_served.specs.volume.specs.Join.{entry_with}
-use Rattle.jfs_served.specs.volume.specs.Settles.{Settles}
-use Rattle.jfs_served.specs.volume_calls.specs.Written.{KeepsPages}
-use Rattle.jfs_served.specs.call.specs.Does.{Does}
-use Rattle.jfs_served.specs.call.specs.DoesLent.{Both, Asking, End, NeedsThen, DoesAgain}
-use Rattle.jfs_served.specs.call.specs.declared.outcome.Outcome.TheVariants.{Replied}
+use Rattle.jfs_legal.specs.served.specs.halves.specs.Parts.{Parts}
+use Rattle.jfs_legal.specs.served.specs.volume.specs.Join.{entry_with}
+use Rattle.jfs_legal.specs.served.specs.volume.specs.Settles.{Settles}
+use Rattle.jfs_legal.specs.served.specs.volume_calls.specs.Written.{KeepsPages}
+use Rattle.jfs_legal.specs.served.specs.call.specs.Does.{Does}
+use Rattle.jfs_legal.specs.served.specs.call.specs.DoesLent.{Both, Asking, End, NeedsThen, DoesAgain}
+use Rattle.jfs_legal.specs.served.specs.call.specs.declared.outcome.Outcome.TheVariants.{Replied}
 use Rattle.jfs_plain.specs.declared.reply.Reply.{Reply}
 use Rattle.jfs_disk.specs.Image.{Image, page_of}
 use Rattle.jfs_super.specs.Rules.{blocks_of}
 use Rattle.jfs_super.specs.declared.fields.Super.{Super}
 use Rattle.jfs_mount.specs.meaning.specs.Image.{IsConsistentImage, volume_of}
-use Rattle.jfs_served.specs.halves.specs.Log.{LogParts}
-use Rattle.jfs_served.specs.mounted.specs.Mount.{IsMountOf}
-use Rattle.jfs_served.specs.Laws.{HoldsImage}
-use Rattle.jfs_served.proofs.Told.{told_mount}
+use Rattle.jfs_legal.specs.served.specs.halves.specs.Log.{LogParts}
+use Rattle.jfs_legal.specs.served.specs.mounted.specs.Mount.{IsMountOf}
+use Rattle.jfs_legal.specs.served.specs.Laws.{HoldsImage}
+use Rattle.jfs_legal.specs.served.proofs.Told.{told_mount}
 use Rattle.jfs_run.specs.declared.client.Served.{Served}
 use Rattle.jfs_run.specs.declared.client.Served.TheVariants as serves
-use Rattle.jfs_served.specs.Holds.{MayServe}
-use Rattle.jfs_served.specs.Legal.{Timed, HasServed}
+use Rattle.jfs_legal.specs.served.specs.Holds.{MayServe}
+use Rattle.jfs_legal.specs.served.specs.Legal.{Timed, HasServed}
 use Rattle.std.specs.Prelude.{◌||◌}
 use Rattle.std.proofs.lemmas.Bool.{false≢true}
 use Rattle.jfs_legal.specs.Until.{at, has_failed}

@@ -4,7 +4,7 @@ use Rattle.std.specs.Prelude.{not, ◌&&◌, if◌then◌else◌, is_some}
 use Rattle.std.proofs.lemmas.Bool.{false≢true, and_parts, cases_Bool}
 use Rattle.jfs_bits.specs.Count.{Rose}
 use Rattle.jfs_disk.specs.declared.disk.Fault.{Fault}
-use Rattle.jfs_served.specs.files.specs.Written.{renames}
+use Rattle.jfs_legal.specs.served.specs.files.specs.Written.{renames}
 use Rattle.jfs_plain.specs.CallStep.{writes}
 use Rattle.jfs_plain.specs.declared.call.Entry.{Entry}
 use Rattle.jfs_plain.specs.declared.call.Line.{Line}
@@ -12,16 +12,16 @@ use Rattle.jfs_plain.specs.declared.call.Request.{Request}
 use Rattle.jfs_plain.specs.declared.refusal.Refusal.TheVariants as refusals
 use Rattle.jfs_plain.specs.declared.reply.Reply.{Reply}
 use Rattle.jfs_plain.specs.declared.reply.Reply.TheVariants as replies
-use Rattle.jfs_served.specs.call.specs.Answer.{held, IsHeld, MayWait}
-use Rattle.jfs_served.specs.call.specs.Lent.{Counts, no_faults, IsFaultIn, RepliedIn, HasCauseIn, KeepsHaltedIn, IsAnsweredLent, MayGoOnIn, WaitsIfIn}
-use Rattle.jfs_served.specs.call.specs.declared.outcome.Outcome.{Outcome}
-use Rattle.jfs_served.specs.call.specs.declared.outcome.Outcome.TheVariants.{Replied, NeedsLog, NoMemory}
-use Rattle.jfs_served.specs.volume_calls.specs.Together.{AreTogether}
-use Rattle.jfs_served.specs.volume.specs.Join.{entry_with}
-use Rattle.jfs_served.specs.volume.specs.Settles.{Settles, KeepsMap, SettlesTo}
-use Rattle.jfs_served.specs.crash_core.specs.Step.{halted_by}
+use Rattle.jfs_legal.specs.served.specs.call.specs.Answer.{held, IsHeld, MayWait}
+use Rattle.jfs_legal.specs.served.specs.call.specs.Lent.{Counts, no_faults, IsFaultIn, RepliedIn, HasCauseIn, KeepsHaltedIn, IsAnsweredLent, MayGoOnIn, WaitsIfIn}
+use Rattle.jfs_legal.specs.served.specs.call.specs.declared.outcome.Outcome.{Outcome}
+use Rattle.jfs_legal.specs.served.specs.call.specs.declared.outcome.Outcome.TheVariants.{Replied, NeedsLog, NoMemory}
+use Rattle.jfs_legal.specs.served.specs.volume_calls.specs.Together.{AreTogether}
+use Rattle.jfs_legal.specs.served.specs.volume.specs.Join.{entry_with}
+use Rattle.jfs_legal.specs.served.specs.volume.specs.Settles.{Settles, KeepsMap, SettlesTo}
+use Rattle.jfs_legal.specs.served.specs.crash_core.specs.Step.{halted_by}
 use Rattle.jfs_mount.specs.bmap.proofs.Views.{length-each_below}
-use Rattle.jfs_served.specs.halves.specs.Parts.{Parts}
+use Rattle.jfs_legal.specs.served.specs.halves.specs.Parts.{Parts}
 use Rattle.jfs_legal.specs.Until.{has_failed}
 use Rattle.jfs_run.specs.Calls.{is_done, waits_with}
 use Rattle.jfs_run.specs.Growth.{Grows}

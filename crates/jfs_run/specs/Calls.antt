@@ -1,6 +1,6 @@
 -- What became of the calls of a script: their entries, and the numbers that were told durable.
 use Rattle.std.specs.Prelude.{◌≡◌, ◌≤◌, ◌∷◌, ◌&&◌, ◌||◌, [], ℕ, suc, Bool, true, false, not, if◌then◌else◌, List, length, take}
-use Rattle.jfs_served.specs.files.specs.Written.{renames}
+use Rattle.jfs_legal.specs.served.specs.files.specs.Written.{renames}
 use Rattle.jfs_plain.specs.CallStep.{writes}
 use Rattle.jfs_plain.specs.declared.call.Entry.{Entry}
 use Rattle.jfs_plain.specs.declared.call.Line.{Line}

@@ -2,8 +2,8 @@
 use Rattle.std.specs.Prelude.{◌≡◌, ◌⊎◌, ◌==◌, ◌||◌, ◌-◌, ◌^◌, not, if◌then◌else◌, ℕ, Bool, false, List, Result, Ok, Err}
 use Rattle.jfs_bits.specs.Count.{Rose}
 use Rattle.jfs_plain.specs.declared.call.Line.{Line}
-use Rattle.jfs_served.specs.mounted.specs.declared.mounted.MountError.{MountError}
-use Rattle.jfs_served.specs.mounted.specs.declared.mounted.MountError.TheVariants as mounts
+use Rattle.jfs_legal.specs.served.specs.mounted.specs.declared.mounted.MountError.{MountError}
+use Rattle.jfs_legal.specs.served.specs.mounted.specs.declared.mounted.MountError.TheVariants as mounts
 use Rattle.jfs_run.specs.Calls.{Calls, AreEntriesOf, AllTold, AllCalled, SomeCalled, any_failed}
 use Rattle.jfs_run.specs.Run.{Seen, IsUnmounted}
 use Rattle.jfs_run.specs.declared.client.Served.{Served}

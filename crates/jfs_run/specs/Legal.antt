@@ -3,15 +3,15 @@ use Rattle.std.specs.Prelude.{◌≡◌, ◌⊎◌, [], ℕ, Bool, false, List, 
 use Rattle.jfs_bits.specs.declared.descriptor.Moment.{Moment}
 use Rattle.jfs_disk.specs.Image.{Image, page_of}
 use Rattle.jfs_disk.specs.Crash.{DiskState}
-use Rattle.jfs_served.specs.halves.specs.Parts.{Parts}
-use Rattle.jfs_served.specs.halves.specs.Log.{LogParts}
+use Rattle.jfs_legal.specs.served.specs.halves.specs.Parts.{Parts}
+use Rattle.jfs_legal.specs.served.specs.halves.specs.Log.{LogParts}
 use Rattle.jfs_plain.specs.declared.call.Entry.{Entry}
-use Rattle.jfs_served.specs.Holds.{tree_at, room_at, MayServe}
-use Rattle.jfs_served.specs.Laws.{IsImageOf}
-use Rattle.jfs_served.specs.shown.specs.Files.{KnowsFiles}
-use Rattle.jfs_served.specs.shown.specs.kinds.specs.Images.{HasWholeFiles}
-use Rattle.jfs_served.specs.unmount.specs.Unmount.{Ends}
-use Rattle.jfs_served.specs.Legal.{Timed, IsLegal}
+use Rattle.jfs_legal.specs.served.specs.Holds.{tree_at, room_at, MayServe}
+use Rattle.jfs_legal.specs.served.specs.Laws.{IsImageOf}
+use Rattle.jfs_legal.specs.served.specs.shown.specs.Files.{KnowsFiles}
+use Rattle.jfs_legal.specs.served.specs.shown.specs.kinds.specs.Images.{HasWholeFiles}
+use Rattle.jfs_legal.specs.served.specs.unmount.specs.Unmount.{Ends}
+use Rattle.jfs_legal.specs.served.specs.Legal.{Timed, IsLegal}
 use Rattle.jfs_legal.specs.Until.{at}
 use Rattle.jfs_legal.specs.Until as until
 use Rattle.jfs_super.specs.Super.{super_of}

@@ -5,11 +5,11 @@ use Rattle.jfs_disk.specs.declared.disk.Disk.{Ghosts}
 use Rattle.jfs_disk.specs.declared.disk.Fault.{Fault}
 use Rattle.jfs_plain.specs.declared.call.Entry.{Entry}
 use Rattle.jfs_plain.specs.declared.call.Line.{Line}
-use Rattle.jfs_served.specs.call.specs.Lent.{AreBoth}
-use Rattle.jfs_served.specs.volume_calls.specs.Together.{log_parts}
+use Rattle.jfs_legal.specs.served.specs.call.specs.Lent.{AreBoth}
+use Rattle.jfs_legal.specs.served.specs.volume_calls.specs.Together.{log_parts}
 use Rattle.jfs_logpages.specs.declared.log_side.LogSide.{LogSide}
-use Rattle.jfs_served.specs.halves.specs.Log.{LogParts}
-use Rattle.jfs_served.specs.halves.specs.Parts.{Parts}
+use Rattle.jfs_legal.specs.served.specs.halves.specs.Log.{LogParts}
+use Rattle.jfs_legal.specs.served.specs.halves.specs.Parts.{Parts}
 use Rattle.jfs_legal.specs.Until.{has_failed}
 use Rattle.jfs_run.specs.Calls.{IsEntryOf, AreEntriesOf, IsTakenAs, AreTakenAs, waits, waiting_from, any_failed}
 use Rattle.jfs_run.specs.Growth.{Grows}

@@ -3,16 +3,16 @@
 ghost use Rattle.std.specs.Prelude.{◌≡◌, ◌≤◌, ◌<◌, ◌+◌, ◌-◌, ◌^◌, ℕ, [], length, vec_capacity};
 ghost use Rattle.jfs_plain.specs.Limits.{FitsRequest};
 ghost use Rattle.jfs_script.specs.Script.{AllFit};
-ghost use Rattle.jfs_served.specs.halves.specs.Parts.{Parts};
+ghost use Rattle.jfs_legal.specs.served.specs.halves.specs.Parts.{Parts};
 ghost use Rattle.jfs_run.specs.Legal.{GoOn, LineLeaves, LinesLeave};
 ghost use Rattle.jfs_run.specs.Serving.{state, MayCall, Keeps, LineIs, IsFresh, ServedIs};
 
 use jfs_bits::Moment;
 use jfs_disk::Disk;
+use jfs_legal::call::{Outcome, call_with_log};
+use jfs_legal::unmount::Mounted;
+use jfs_legal::volume_calls::{PointText, commit};
 use jfs_plain::Line;
-use jfs_served::call::{Outcome, call_with_log};
-use jfs_served::unmount::Mounted;
-use jfs_served::volume_calls::{PointText, commit};
 use std::alloc::Global;
 
 /// The number of the client whose script is the first.

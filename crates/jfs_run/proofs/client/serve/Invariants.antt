@@ -1,6 +1,6 @@
 use Rattle.std.proofs.Common.{◌≤◌, ℕ, length, take}
 use Rattle.std.specs.Prelude.{vec_len, vec_capacity}
-use Rattle.jfs_served.specs.halves.specs.Parts.{Parts}
+use Rattle.jfs_legal.specs.served.specs.halves.specs.Parts.{Parts}
 use Rattle.jfs_run.specs.Legal.{GoOn}
 use Rattle.jfs_run.specs.Serving.{state, HasServed}
 use Rattle.jfs_run.proofs.client.serve.Given as goal

@@ -1,6 +1,6 @@
 use Rattle.std.proofs.Common.{◌≡◌, refl, sym, subst, false, true}
 use Rattle.std.specs.Prelude.{is_some}
-use Rattle.jfs_served.specs.volume_calls.specs.Together.{log_parts}
+use Rattle.jfs_legal.specs.served.specs.volume_calls.specs.Together.{log_parts}
 use Rattle.jfs_run.specs.Legal.{AreLegal}
 use Rattle.jfs_run.specs.Serving.{state}
 use Rattle.jfs_legal.proofs.Known.{laws}

@@ -4,9 +4,9 @@ use Rattle.jfs_disk.specs.Image.{Image, page_of}
 use Rattle.jfs_mount.specs.Subject.{subject_of}
 use Rattle.jfs_mount.specs.Mount.{broken_mount}
 use Rattle.jfs_mount.specs.meaning.specs.Image.{volume_of}
-use Rattle.jfs_served.specs.volume_calls.specs.Together.{log_parts}
+use Rattle.jfs_legal.specs.served.specs.volume_calls.specs.Together.{log_parts}
 use Rattle.jfs_run.specs.Calls.{Calls}
-use Rattle.jfs_served.specs.mounted.specs.Mount.{IsMountCause, IsRefusal}
+use Rattle.jfs_legal.specs.served.specs.mounted.specs.Mount.{IsMountCause, IsRefusal}
 use Rattle.jfs_run.specs.Run.{seen, StayBeside}
 use Rattle.jfs_run.specs.Serving.{state}
 use Rattle.jfs_run.specs.Ending.{RunSince}

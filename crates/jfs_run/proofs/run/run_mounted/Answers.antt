@@ -1,8 +1,8 @@
 use Rattle.std.proofs.Common.{◌≡◌, ◌⊎◌, ◌∙◌, ◌+◌, ◌-◌, ◌^◌, ℕ, false, refl, sym, ap, subst}
 use Rattle.std.specs.Prelude.{min, None}
 use Rattle.jfs_bits.specs.Count.{Rose}
-use Rattle.jfs_served.specs.halves.specs.Parts.{Parts}
-use Rattle.jfs_served.specs.volume_calls.specs.Together.{log_parts}
+use Rattle.jfs_legal.specs.served.specs.halves.specs.Parts.{Parts}
+use Rattle.jfs_legal.specs.served.specs.volume_calls.specs.Together.{log_parts}
 use Rattle.jfs_run.specs.Growth.{Grows}
 use Rattle.jfs_run.specs.Run.{seen}
 use Rattle.jfs_run.specs.Serving.{state}
