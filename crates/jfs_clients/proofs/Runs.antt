@@ -2,15 +2,14 @@
 use Rattle.std.proofs.Common.{◌≡◌, ◌≤◌, ◌<◌, ◌+◌, ℕ, suc, zero, Bool, true, false, List, [], ◌∷◌, length, take, drop, ◌++◌, ap, ◌∙◌, sym, refl, subst, arith, get_or}
 use Rattle.std.proofs.lemmas.List.{append-nil}
 use Rattle.std.specs.Bool.{MatchBool}
-use Rattle.std.specs.List.{AllByRecursion}
 use Rattle.jfs_plain.specs.declared.call.Ack.{Ack}
 use Rattle.jfs_plain.specs.declared.call.Line.{Line}
 use Rattle.jfs_plain.specs.declared.call.Request.{Request}
 use Rattle.jfs_plain.specs.declared.reply.Reply.{Reply}
 use Rattle.jfs_plain.specs.Limits.{FitsRequest}
 use Rattle.std.specs.Global.{Vec}
-use Rattle.std.specs.Prelude.{Some, slice_get, slice_index_or, unwrap_or}
-use Rattle.jfs_clients.specs.Ran.{wants_memory, AllFit, MayRun, Ran, AllMayRun, EachRan, MayRunAt, RanAt}
+use Rattle.std.specs.Prelude.{Some, slice_index_or, unwrap_or}
+use Rattle.jfs_clients.specs.Ran.{wants_memory, MayRun, Ran, AllMayRun, EachRan, MayRunAt, RanAt}
 
 -- the lines that are left after so many
 pub left_over : (lines : List Line) (i : ℕ) (line : Line) → i < length lines → line ≡ get_or lines i line → drop i lines ≡ line ∷ drop (i + 1) lines

@@ -1,12 +1,12 @@
 -- How a generated script goes on, that its lines are within the limits, and how many they are.
-use Rattle.std.proofs.Common.{◌≡◌, ℕ, suc, zero, ◌+◌, ◌-◌, ◌*◌, ◌/◌, ◌%◌, ◌^◌, ◌<◌, ◌≤◌, ◌==◌, nat_lt, Bool, true, false, if◌then◌else◌, List, [], ◌∷◌, ◌++◌, length, ap, ◌∙◌, sym, refl, subst, arith, append_assoc, length-append}
+use Rattle.std.proofs.Common.{◌≡◌, ℕ, suc, zero, ◌+◌, ◌-◌, ◌*◌, ◌/◌, ◌%◌, ◌^◌, ◌<◌, ◌≤◌, ◌==◌, nat_lt, Bool, true, false, if◌then◌else◌, List, [], ◌∷◌, ◌++◌, length, ap, ◌∙◌, sym, refl, arith, append_assoc}
 use Rattle.std.specs.Prelude.{bit_xor}
 use Rattle.jfs_plain.specs.Limits.{FitsPath, FitsCall}
 use Rattle.jfs_plain.specs.declared.call.Call.{Call}
 use Rattle.jfs_plain.specs.declared.call.Call.TheVariants as kinds
 use Rattle.jfs_plain.specs.declared.call.Line.{Line}
 use Rattle.jfs_gen.specs.Limits.{AllFit}
-use Rattle.jfs_gen.specs.Workload.{next, home_path, file_path, call_by, call_of, calls_after, line_of, numbered, lines_of}
+use Rattle.jfs_gen.specs.Workload.{next, file_path, call_of, calls_after, line_of, numbered, lines_of}
 use Rattle.jfs_gen.proofs.Names.{home_fits, file_fits}
 
 -- the lines so far, and those that are still to come

@@ -1,10 +1,10 @@
 -- Words of plain units make a path that a text spells.
-use Rattle.std.proofs.Common.{◌≡◌, ℕ, suc, ◌+◌, ◌<◌, ◌≤◌, List, [], ◌∷◌, ◌++◌, length, IsTrue, Some, None, ap, ◌∙◌, sym, refl, subst, inl, inr, arith, rules, tests, append_assoc, length-append, slice_get, slice_index}
+use Rattle.std.proofs.Common.{◌≡◌, ℕ, ◌+◌, ◌≤◌, List, [], ◌∷◌, ◌++◌, length, IsTrue, Some, ap, ◌∙◌, sym, refl, subst, inl, inr, arith, append_assoc, length-append, slice_get}
 use Rattle.std.proofs.lemmas.Option.{slice_get_read, slice_get_past}
 use Rattle.std.proofs.Math.Seq.{get_or-append_seam}
 use Rattle.std.proofs.lemmas.List.{append-nil}
 use Rattle.std.specs.List.{AllByRecursion}
-use Rattle.jfs_name.specs.Name.{IsUnit, AreUnits, IsName, IsNoDot}
+use Rattle.jfs_name.specs.Name.{IsName}
 use Rattle.jfs_name.specs.Text.{is_plain, UnitAt, UnitsTo, NamesTo, Spells, IsPath, EndsAt}
 
 abbrev pub ArePlain : List ℕ → Type 0
@@ -37,7 +37,7 @@ units_to text before done (u ∷ us) after is plain short goes =
     let at : slice_get text (length (before ++ done)) ≡ Some u = seam text (before ++ done) u (us ++ after) (is ∙ sym (append_assoc before done (u ∷ (us ++ after)))) in
     let end : length (before ++ (done ++ u ∷ [])) ≡ length (before ++ done) + 1 = omega (arith, length-append before (done ++ u ∷ []), length-append done (u ∷ []), length-append before done) in
     let next : UnitsTo text (length before) (length (before ++ (done ++ u ∷ []))) (done ++ u ∷ []) =
-      UnitsTo.one_unit_more (length (before ++ done)) (length (before ++ (done ++ u ∷ []))) u done goes (omega (arith, short, length-append done (u ∷ us))) (UnitAt.plain at plain.0 end) in
+    UnitsTo.one_unit_more (length (before ++ done)) (length (before ++ (done ++ u ∷ []))) u done goes (omega (arith, short, length-append done (u ∷ us))) (UnitAt.plain at plain.0 end) in
     rw longer (units_to text before (done ++ u ∷ []) us after (is ∙ ap (λ xs. before ++ xs) (sym (append_assoc done (u ∷ []) (us ++ after)))) plain.1 (subst (λ xs. length xs ≤ 255) longer short) next)
 
 ends_at : (text before : List ℕ) (names : List (List ℕ)) → text ≡ before ++ text_of names → EndsAt text (length before)
@@ -51,11 +51,11 @@ names_to text before done (name ∷ names) is words goes =
     let first : length (before ++ slash) ≡ length before + 1 = omega (arith, length-append before slash) in
     let is' : text ≡ (before ++ slash) ++ (name ++ text_of names) = is ∙ sym (append_assoc before slash (name ++ text_of names)) in
     let units : UnitsTo text (length before + 1) (length ((before ++ slash) ++ name)) name =
-      subst (λ k. UnitsTo text k (length ((before ++ slash) ++ name)) name) first
-      (units_to text (before ++ slash) [] name (text_of names) is' words.0.plain words.0.is.most (subst (λ k. UnitsTo text (length (before ++ slash)) k []) (ap length (sym (append-nil (before ++ slash)))) UnitsTo.no_units)) in
+    subst (λ k. UnitsTo text k (length ((before ++ slash) ++ name)) name) first
+    (units_to text (before ++ slash) [] name (text_of names) is' words.0.plain words.0.is.most (subst (λ k. UnitsTo text (length (before ++ slash)) k []) (ap length (sym (append-nil (before ++ slash)))) UnitsTo.no_units)) in
     let is'' : text ≡ ((before ++ slash) ++ name) ++ text_of names = is' ∙ sym (append_assoc (before ++ slash) name (text_of names)) in
     let next : NamesTo text (length ((before ++ slash) ++ name)) (done ++ name ∷ []) =
-      NamesTo.one_name_more (length before) (length ((before ++ slash) ++ name)) done name goes (seam text before 47 (name ++ text_of names) is) units (ends_at text ((before ++ slash) ++ name) names is'') words.0.is in
+    NamesTo.one_name_more (length before) (length ((before ++ slash) ++ name)) done name goes (seam text before 47 (name ++ text_of names) is) units (ends_at text ((before ++ slash) ++ name) names is'') words.0.is in
     rw (sym (append_assoc done (name ∷ []) names)) (names_to text ((before ++ slash) ++ name) (done ++ name ∷ []) names is'' words.1 next)
 
 -- words make a path

@@ -1,4 +1,4 @@
-use Rattle.std.proofs.Common.{rules, ◌≡◌, ◌<◌, ◌∙◌, ◌++◌, take, drop, length, List, [], ℕ, sym, refl, ap, subst, arith}
+use Rattle.std.proofs.Common.{rules, ◌≡◌, ◌<◌, ◌∙◌, length, sym, ap, subst}
 use Rattle.std.specs.Prelude.{slice_index_or}
 use Rattle.jfs_clients.specs.Ran.{Ran}
 use Rattle.jfs_clients.proofs.Runs.{may_at, each_ran, whole_list}
@@ -16,6 +16,6 @@ returns g c =
     rw (whole_list c.for_each_mut.new.s c.args.callers.items c.args.callers.len same c.args.callers.ok.0)
     (each_ran g.C.Caller.left g.C.Caller.did c.args.scripts.now c.args.callers.items c.for_each_mut.new.s c.requires same
     (λ i d small script at. let h = (c.for_each_mut.ensures i d (subst (λ xs. i < length xs) (sym e) small)).1 in
-      let did = g.C.Caller.did in
-      subst (λ y. Ran did script.items (slice_index_or c.args.callers.items i d) y) h.left
-      (subst (λ x. Ran did script.items x h.after_call.now) (h.argument_is ∙ ap (λ xs. slice_index_or xs i d) e) (h.call script at))))
+    let did = g.C.Caller.did in
+    subst (λ y. Ran did script.items (slice_index_or c.args.callers.items i d) y) h.left
+    (subst (λ x. Ran did script.items x h.after_call.now) (h.argument_is ∙ ap (λ xs. slice_index_or xs i d) e) (h.call script at))))

@@ -1,6 +1,6 @@
-use Rattle.std.proofs.Common.{◌≡◌, ◌+◌, ap, ◌∙◌, sym, refl, subst, arith, length}
+use Rattle.std.proofs.Common.{ap, ◌∙◌, sym, refl, subst, length}
 use Rattle.jfs_gen.specs.Limits.{AllFit}
-use Rattle.jfs_gen.specs.Workload.{call_of, line_of, lines_of, next}
+use Rattle.jfs_gen.specs.Workload.{lines_of}
 use Rattle.jfs_gen.proofs.Lines.{goes_on, ends, all_fit, count_of_lines}
 use Rattle.jfs_gen.proofs.script.workload.Goals as goal
 
@@ -19,5 +19,5 @@ returns-clause-fit c =
 pub returns-clause-count : goal.returns-clause-count
 returns-clause-count c =
     let whole = ends c.args.client c.args.calls c.loop-i.i c.loop-i.x c.loop-i.lines.items c.push-2.new.self.items (lines_of c.args.number c.args.client c.args.calls) c.loop-i-test.false c.loop-i.auto.i-end c.loop-i.invariant
-      (c.in_ok-push-3.ensures.items ∙ rw c.line-2.ensures refl) in
+    (c.in_ok-push-3.ensures.items ∙ rw c.line-2.ensures refl) in
     c.push-2.new.self.ok.0 ∙ (ap length whole ∙ count_of_lines c.args.number c.args.client c.args.calls)
