@@ -15,18 +15,18 @@ use Rattle.jfs_records.proofs.ReadBack.{length-items, text_size-append, records-
 use Rattle.jfs_groups.specs.Text.{item_of, entries_in, points_in, text_with, items_from, end_of, HoldsText}
 
 -- the zeros of a fresh log end here
-abbrev start_of : ℕ → ℕ
+abbrev pub start_of : ℕ → ℕ
 start_of ring = 4080 * (ring - 1)
 
-abbrev zeros_of : ℕ → List ℕ
+abbrev pub zeros_of : ℕ → List ℕ
 zeros_of ring = replicate (start_of ring) 0
 
-entries-append : (is js : List Item) → entries_in (is ++ js) ≡ entries_in is ++ entries_in js
+pub entries-append : (is js : List Item) → entries_in (is ++ js) ≡ entries_in is ++ entries_in js
 entries-append [] js = refl
 entries-append (entry n tx ∷ is) js = ap (λ (l : List Item). entry n tx ∷ l) (entries-append is js)
 entries-append (point sync ∷ is) js = entries-append is js
 
-points-append : (is js : List Item) → points_in (is ++ js) ≡ points_in is + points_in js
+pub points-append : (is js : List Item) → points_in (is ++ js) ≡ points_in is + points_in js
 points-append [] js = omega arith
 points-append (entry n tx ∷ is) js = points-append is js
 points-append (point sync ∷ is) js = omega (arith, points-append is js)

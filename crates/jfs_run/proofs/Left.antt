@@ -13,7 +13,7 @@ use Rattle.jfs_served.specs.Legal.{IsLegal, HasServed, keeps}
 use Rattle.jfs_served.proofs.Told.{told_ends}
 use Rattle.jfs_run.specs.Calls.{any_failed}
 use Rattle.jfs_run.specs.Legal.{all_at, GoOn, HasTreeBehind, WasUnmounted}
-use Rattle.jfs_run.proofs.Replying.{Laws}
+use Rattle.jfs_legal.proofs.Replying.{Laws}
 use Rattle.jfs_run.proofs.Legally.{all_served}
 
 -- No call was refused for a fault, the entries were handed out, and the volume was unmounted.

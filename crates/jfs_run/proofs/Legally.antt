@@ -24,9 +24,18 @@ use Rattle.jfs_served.specs.Holds.{MayServe}
 use Rattle.jfs_served.specs.Legal.{Timed, HasServed}
 use Rattle.std.specs.Prelude.{◌||◌}
 use Rattle.std.proofs.lemmas.Bool.{false≢true}
-use Rattle.jfs_run.specs.Calls.{has_failed, any_failed}
-use Rattle.jfs_run.specs.Legal.{at, all_at, IsLegalUntil, AreLegal, FollowsTree, HasTreeBehind, EndsOnTree, GoOn, Leaves, LinesLeave}
-use Rattle.jfs_run.proofs.Replying.{Laws, lent, settled}
+use Rattle.jfs_legal.specs.Until.{at, has_failed}
+use Rattle.jfs_legal.specs.Until as until
+use Rattle.jfs_legal.proofs.Replying.{Laws}
+use Rattle.jfs_legal.proofs.Going.{legal_law, lent_law, settled_law}
+use Rattle.jfs_run.specs.Calls.{any_failed}
+use Rattle.jfs_run.specs.Legal.{all_at, AreLegal, FollowsTree, HasTreeBehind, EndsOnTree, GoOn, LinesLeave}
+
+heads : (x : Timed) (xs : List Timed) (y : Timed) (ys : List Timed) → x ∷ xs ≡ y ∷ ys → x ≡ y
+heads x xs y ys e = cc
+
+tails : (x : Timed) (xs : List Timed) (y : Timed) (ys : List Timed) → x ∷ xs ≡ y ∷ ys → xs ≡ ys
+tails x xs y ys e = cc
 
 one_at_more : (now : Moment) (es : List Entry) (e : Entry) → all_at now (es ++ e ∷ []) ≡ all_at now es ++ at now e ∷ []
 one_at_more now [] e = refl
@@ -57,8 +66,7 @@ module _ (laws : Laws) (area : ℕ → ℕ) (log_pages : ℕ) (now : Moment) (st
 
   -- whether or not the next call may come
   pub legal_of : (es : List Entry) (p : Parts) → GoOn area log_pages now start es p → AreLegal area log_pages now start es
-  legal_of es p (inl so_far) = inl (p, so_far.legal)
-  legal_of es p (inr until) = inr until
+  legal_of es p goes = legal_law area log_pages start (all_at now es) p goes
 
   pub lines_legal : (p : Parts) (served : Served) → LinesLeave area log_pages now start p served → AreLegal area log_pages now start p.entries
   lines_legal p serves.All l = legal_of p.entries p l
@@ -72,34 +80,25 @@ module _ (laws : Laws) (area : ℕ → ℕ) (log_pages : ℕ) (now : Moment) (st
   or_true true rest e = refl
   or_true false rest e = e
 
-  failed_in : (before behind : List Entry) (e : Entry) → has_failed e.reply ≡ true → any_failed (before ++ e ∷ behind) ≡ true
-  failed_in [] behind e has = rw has refl
-  failed_in (x ∷ xs) behind e has = or_true (has_failed x.reply) (any_failed (xs ++ e ∷ behind)) (failed_in xs behind e has)
+  failed_in : (es : List Entry) (before behind : List Timed) (t : Timed) → all_at now es ≡ before ++ t ∷ behind → has_failed t.entry.reply ≡ true → any_failed es ≡ true
+  failed_in [] [] behind t is has = absurd (cc)
+  failed_in [] (b ∷ before) behind t is has = absurd (cc)
+  failed_in (x ∷ xs) [] behind t is has = let same : x ≡ t.entry = ap (λ (u : Timed). u.entry) (heads (at now x) (all_at now xs) t behind is) in rw (ap (λ (e : Entry). has_failed e.reply) same ∙ has) refl
+  failed_in (x ∷ xs) (b ∷ before) behind t is has = or_true (has_failed x.reply) (any_failed xs) (failed_in xs before behind t (tails (at now x) (all_at now xs) b (before ++ t ∷ behind) is) has)
 
   pub all_served : (es : List Entry) (p : Parts) → any_failed es ≡ false → GoOn area log_pages now start es p → HasServed area log_pages start (all_at now es) p
   all_served es p calm (inl so_far) = so_far
-  all_served es p calm (inr u) = absurd (false≢true (sym calm ∙ ap any_failed u.parts ∙ failed_in u.before u.behind u.failed u.has))
-
-  until_more : (es : List Entry) (e : Entry) → IsLegalUntil area log_pages now start es → IsLegalUntil area log_pages now start (es ++ e ∷ [])
-  until_more es e u = record {
-    before = u.before;
-    failed = u.failed;
-    behind = u.behind ++ e ∷ [];
-    parts = ap (λ (xs : List Entry). xs ++ e ∷ []) u.parts ∙ append_assoc u.before (u.failed ∷ u.behind) (e ∷ []);
-    last = u.last;
-    legal = u.legal;
-    has = u.has;
-  }
+  all_served es p calm (inr u) = absurd (false≢true (sym calm ∙ failed_in es u.before u.behind u.failed u.parts u.has))
 
   module _ (tells crashes : Type 0) (told : tells) where
     -- a call, with its entry
     pub goes_on : (P : Type 0) (a : Asking) (old new : Both) (reply : Reply) (number : ℕ) (waits : Bool) → a.now ≡ now → GoOn area log_pages now start old.volume.entries old.volume
         → (P × Does tells crashes a.caller a.request a.now old.volume new.volume (Replied reply number waits)) ⊎ NeedsThen tells crashes a (DoesAgain tells crashes a) old (record { both = new; outcome = Replied reply number waits })
         → new.volume.entries ≡ old.volume.entries ++ entry_with a.caller.client a.caller.line a.request reply ∷ [] → GoOn area log_pages now start new.volume.entries new.volume
-    goes_on P a old new reply number waits at_now (inr until) d joins =
-        inr (subst (IsLegalUntil area log_pages now start) (sym joins) (until_more old.volume.entries (entry_with a.caller.client a.caller.line a.request reply) until))
-    goes_on P a old new reply number waits at_now (inl so_far) d joins =
-        subst (λ (es : List Entry). GoOn area log_pages now start es new.volume) (sym joins) (by_leaves (leaves d))
+    goes_on P a old new reply number waits at_now so_far d joins =
+        subst (λ (es : List Entry). GoOn area log_pages now start es new.volume) (sym joins)
+        (subst (λ (ts : List Timed). until.GoOn area log_pages start ts new.volume) (sym (one_at_more now es entry ∙ ap (λ (m : Moment). all_at now es ++ at m entry ∷ []) (sym at_now)))
+        (lent_law tells crashes told area log_pages start (all_at now es) a old end so_far (does d)))
       where
         es : List Entry
         es = old.volume.entries
@@ -110,18 +109,12 @@ module _ (laws : Laws) (area : ℕ → ℕ) (log_pages : ℕ) (now : Moment) (st
         end : End
         end = record { both = new; outcome = Replied reply number waits }
 
-        leaves : (P × Does tells crashes a.caller a.request a.now old.volume new.volume (Replied reply number waits)) ⊎ NeedsThen tells crashes a (DoesAgain tells crashes a) old end → Leaves area log_pages start (all_at now es) a new.volume (Replied reply number waits)
-        leaves (inl (p, d)) = lent laws tells crashes told area log_pages a start (all_at now es) old end so_far (inl d)
-        leaves (inr n) = lent laws tells crashes told area log_pages a start (all_at now es) old end so_far (inr n)
-
-        by_leaves : Leaves area log_pages start (all_at now es) a new.volume (Replied reply number waits) → GoOn area log_pages now start (es ++ entry ∷ []) new.volume
-        by_leaves (inl served) =
-            inl (subst (λ (ts : List Timed). HasServed area log_pages start ts new.volume) (sym (one_at_more now es entry ∙ ap (λ (m : Moment). all_at now es ++ at m entry ∷ []) (sym at_now))) served)
-        by_leaves (inr failed) = inr (record { before = es; failed = entry; behind = []; parts = refl; last = old.volume; legal = so_far.legal; has = failed })
+        does : (P × Does tells crashes a.caller a.request a.now old.volume new.volume (Replied reply number waits)) ⊎ NeedsThen tells crashes a (DoesAgain tells crashes a) old end
+            → Does tells crashes a.caller a.request a.now old.volume new.volume (Replied reply number waits) ⊎ NeedsThen tells crashes a (DoesAgain tells crashes a) old end
+        does (inl (p, d)) = inl d
+        does (inr n) = inr n
 
     -- a commit behind it
     pub goes_on_settled : (old new : Parts) → GoOn area log_pages now start old.entries old → Settles old new → KeepsPages tells old new → GoOn area log_pages now start new.entries new
-    goes_on_settled old new (inl so_far) settles files =
-        inl (subst (λ (es : List Entry). HasServed area log_pages start (all_at now es) new) (sym settles.entries)
-        (settled laws tells crashes told area log_pages start (all_at now old.entries) old new so_far settles files))
-    goes_on_settled old new (inr until) settles files = inr (subst (IsLegalUntil area log_pages now start) (sym settles.entries) until)
+    goes_on_settled old new so_far settles files = subst (λ (es : List Entry). GoOn area log_pages now start es new) (sym settles.entries)
+        (settled_law tells told area log_pages start (all_at now old.entries) old new so_far settles files)

@@ -5,7 +5,5 @@ pub mod Onward
 pub mod Ended
 pub mod Finished
 pub mod Begun
-pub mod Replying
 pub mod Legally
-pub mod Known
 pub mod Left

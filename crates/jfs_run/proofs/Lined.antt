@@ -22,7 +22,8 @@ use Rattle.jfs_served.specs.volume.specs.Settles.{Settles, KeepsMap, SettlesTo}
 use Rattle.jfs_served.specs.crash_core.specs.Step.{halted_by}
 use Rattle.jfs_mount.specs.bmap.proofs.Views.{length-each_below}
 use Rattle.jfs_served.specs.halves.specs.Parts.{Parts}
-use Rattle.jfs_run.specs.Calls.{is_done, waits_with, has_failed}
+use Rattle.jfs_legal.specs.Until.{has_failed}
+use Rattle.jfs_run.specs.Calls.{is_done, waits_with}
 use Rattle.jfs_run.specs.Growth.{Grows}
 use Rattle.jfs_run.specs.Serving.{State, MayCall, PartRose, Halts, Keeps, Joins, IsDurable, IsPending}
 

@@ -3,7 +3,8 @@ use Rattle.std.proofs.Common.{◌≡◌, ◌⊎◌, ◌++◌, ◌∷◌, ◌+◌
 use Rattle.std.proofs.lemmas.List.{length-take-le}
 use Rattle.jfs_plain.specs.declared.call.Entry.{Entry}
 use Rattle.jfs_plain.specs.declared.call.Line.{Line}
-use Rattle.jfs_run.specs.Calls.{AreEntriesOf, IsTakenAs, has_failed, any_failed}
+use Rattle.jfs_legal.specs.Until.{has_failed}
+use Rattle.jfs_run.specs.Calls.{AreEntriesOf, IsTakenAs, any_failed}
 use Rattle.jfs_run.specs.Serving.{State, PartRose, Halts, Keeps, Joins, IsDurable, IsPending, JoinsNone, IsTold, HasServed, IsFresh}
 use Rattle.jfs_run.proofs.Called.{next_line, as_many, told_more, told_beside, told_before, told_still, none_told}
 use Rattle.jfs_run.proofs.Counts.{grows_on, rose_on, rose_since}

@@ -6,8 +6,8 @@ use Rattle.jfs_plain.specs.declared.call.Entry.{Entry}
 use Rattle.jfs_plain.specs.declared.call.Line.{Line}
 use Rattle.jfs_plain.specs.declared.call.Request.{Request}
 use Rattle.jfs_plain.specs.declared.reply.Reply.{Reply}
-use Rattle.jfs_plain.specs.declared.reply.Reply.TheVariants.{Done, Refused}
-use Rattle.jfs_plain.specs.declared.refusal.Refusal.TheVariants.{IoFault, ReadOnly}
+use Rattle.jfs_plain.specs.declared.reply.Reply.TheVariants.{Done}
+use Rattle.jfs_legal.specs.Until.{has_failed}
 
 -- ---- entries
 
@@ -59,12 +59,6 @@ waiting_from n [] = []
 waiting_from n (w ∷ ws) = if w then n ∷ waiting_from (suc n) ws else waiting_from (suc n) ws
 
 -- ---- faults
-
--- a call that was refused for a fault of the disk: its own, or an earlier one that halted the volume
-abbrev pub has_failed : Reply → Bool
-has_failed (Refused (IoFault fault)) = true
-has_failed (Refused (ReadOnly fault)) = true
-has_failed _ = false
 
 abbrev pub any_failed : List Entry → Bool
 any_failed [] = false

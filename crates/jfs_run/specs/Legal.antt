@@ -1,21 +1,19 @@
 -- The entries of a mounted volume so far: a legal history of a plain file tree, up to a call that failed.
-use Rattle.std.specs.Prelude.{◌≡◌, ◌⊎◌, ◌++◌, ◌∷◌, [], ℕ, Bool, true, false, List, map, None}
+use Rattle.std.specs.Prelude.{◌≡◌, ◌⊎◌, [], ℕ, Bool, false, List, map, None}
 use Rattle.jfs_bits.specs.declared.descriptor.Moment.{Moment}
 use Rattle.jfs_disk.specs.Image.{Image, page_of}
 use Rattle.jfs_disk.specs.Crash.{DiskState}
 use Rattle.jfs_served.specs.halves.specs.Parts.{Parts}
 use Rattle.jfs_served.specs.halves.specs.Log.{LogParts}
 use Rattle.jfs_plain.specs.declared.call.Entry.{Entry}
-use Rattle.jfs_served.specs.call.specs.DoesLent.{Asking}
-use Rattle.jfs_served.specs.call.specs.declared.outcome.Outcome.{Outcome}
-use Rattle.jfs_served.specs.call.specs.declared.outcome.Outcome.TheVariants.{Replied, NeedsLog, NoMemory}
-use Rattle.jfs_served.specs.volume.specs.Join.{entry_with}
 use Rattle.jfs_served.specs.Holds.{tree_at, room_at, MayServe}
 use Rattle.jfs_served.specs.Laws.{IsImageOf}
 use Rattle.jfs_served.specs.shown.specs.Files.{KnowsFiles}
 use Rattle.jfs_served.specs.shown.specs.kinds.specs.Images.{HasWholeFiles}
 use Rattle.jfs_served.specs.unmount.specs.Unmount.{Ends}
-use Rattle.jfs_served.specs.Legal.{Timed, IsLegal, HasServed}
+use Rattle.jfs_served.specs.Legal.{Timed, IsLegal}
+use Rattle.jfs_legal.specs.Until.{at}
+use Rattle.jfs_legal.specs.Until as until
 use Rattle.jfs_super.specs.Super.{super_of}
 use Rattle.jfs_super.specs.Rules.{blocks_of}
 use Rattle.jfs_super.specs.declared.fields.Super.{Super}
@@ -24,7 +22,6 @@ use Rattle.jfs_plain.specs.Moves.{Same}
 use Rattle.jfs_mount.specs.meaning.specs.Readers.{readers}
 use Rattle.jfs_mount.specs.meaning.specs.Image.{tree_of, IsConsistentImage}
 use Rattle.jfs_mount.specs.meaning.specs.Image as meaning
-use Rattle.jfs_run.specs.Calls.{has_failed}
 use Rattle.jfs_run.specs.declared.client.Served.{Served}
 use Rattle.jfs_run.specs.declared.client.Served.TheVariants as serves
 use Rattle.jfs_run.specs.declared.client.Answered.{Answered}
@@ -32,30 +29,17 @@ use Rattle.jfs_run.specs.declared.client.Answered.TheVariants as answers
 use Rattle.jfs_run.specs.declared.run.RunEnd.{RunEnd}
 use Rattle.jfs_run.specs.declared.run.RunEnd.TheVariants as ends
 
--- a call that was handed at this moment
-abbrev pub at : Moment → Entry → Timed
-at now e = record { entry = e; now = now }
-
+-- calls that were all handed at this moment
 abbrev pub all_at : Moment → List Entry → List Timed
 all_at now es = map (at now) es
 
--- The entries up to one that failed are legal. What a failed write left of a file isn't said, so no more is said of those behind it.
-pub record IsLegalUntil (area : ℕ → ℕ) (log_pages : ℕ) (now : Moment) (start : Parts) (es : List Entry) : Type 0 where
-  pub before : List Entry
-  pub failed : Entry
-  pub behind : List Entry
-  pub parts : es ≡ before ++ failed ∷ behind
-  pub last : Parts
-  pub legal : IsLegal area log_pages start (all_at now before) last
-  pub has : has_failed failed.reply ≡ true
-
--- All are, or those up to one that failed.
+-- All are legal, or those up to one that failed.
 abbrev pub AreLegal : (ℕ → ℕ) → ℕ → Moment → Parts → List Entry → Type 0
-AreLegal area log_pages now start es = ((last : Parts) × IsLegal area log_pages start (all_at now es) last) ⊎ IsLegalUntil area log_pages now start es
+AreLegal area log_pages now start es = until.AreLegal area log_pages start (all_at now es)
 
 -- the same, and where all are, the next call may come
 abbrev pub GoOn : (ℕ → ℕ) → ℕ → Moment → Parts → List Entry → Parts → Type 0
-GoOn area log_pages now start es p = HasServed area log_pages start (all_at now es) p ⊎ IsLegalUntil area log_pages now start es
+GoOn area log_pages now start es p = until.GoOn area log_pages start (all_at now es) p
 
 -- ---- a run
 
@@ -101,12 +85,6 @@ WasUnmounted tells crashes superblock volume log image = (past : List DiskState)
 abbrev pub LeavesAny : List ℕ → Moment → Parts → List Entry → Image → Type 0
 LeavesAny superblock now start es image = (s : Super) (area : ℕ → ℕ) → MayServe area s.logpxd.len start → KnowsFiles s (page_of start.view) area start.map start.inodes start.files
     → super_of superblock ≡ record s { state = CLEAN } → HasTreeBehind s area now start es image
-
--- what a call leaves: with its entry the history is legal and the next call may come, or it failed; without one nothing is said
-abbrev pub Leaves : (ℕ → ℕ) → ℕ → Parts → List Timed → Asking → Parts → Outcome → Type 0
-Leaves area log_pages start es a new (Replied reply number waits) = HasServed area log_pages start (es ++ at a.now (entry_with a.caller.client a.caller.line a.request reply) ∷ []) new ⊎ (has_failed reply ≡ true)
-Leaves area log_pages start es a new NeedsLog = HasServed area log_pages start es new
-Leaves area log_pages start es a new NoMemory = Unit {0}
 
 -- what a line leaves
 abbrev pub LineLeaves : (ℕ → ℕ) → ℕ → Moment → Parts → Parts → Answered → Type 0

@@ -10,7 +10,8 @@ use Rattle.jfs_served.specs.volume_calls.specs.Together.{log_parts}
 use Rattle.jfs_logpages.specs.declared.log_side.LogSide.{LogSide}
 use Rattle.jfs_served.specs.halves.specs.Log.{LogParts}
 use Rattle.jfs_served.specs.halves.specs.Parts.{Parts}
-use Rattle.jfs_run.specs.Calls.{IsEntryOf, AreEntriesOf, IsTakenAs, AreTakenAs, waits, waiting_from, has_failed, any_failed}
+use Rattle.jfs_legal.specs.Until.{has_failed}
+use Rattle.jfs_run.specs.Calls.{IsEntryOf, AreEntriesOf, IsTakenAs, AreTakenAs, waits, waiting_from, any_failed}
 use Rattle.jfs_run.specs.Growth.{Grows}
 use Rattle.jfs_run.specs.declared.client.Served.{Served}
 use Rattle.jfs_run.specs.declared.client.Served.TheVariants as serves

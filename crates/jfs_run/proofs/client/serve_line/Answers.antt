@@ -3,7 +3,7 @@ use Rattle.std.specs.Prelude.{is_some}
 use Rattle.jfs_served.specs.volume_calls.specs.Together.{log_parts}
 use Rattle.jfs_run.specs.Legal.{AreLegal}
 use Rattle.jfs_run.specs.Serving.{state}
-use Rattle.jfs_run.proofs.Known.{laws}
+use Rattle.jfs_legal.proofs.Known.{laws}
 use Rattle.jfs_run.proofs.Legally.{legal_of, goes_on, goes_on_settled}
 use Rattle.jfs_run.proofs.Lined.{called, none_of, calm, waits_of, stopped, durable_keeps, durable, undurable_keeps, undurable}
 use Rattle.jfs_run.proofs.client.serve_line.Goals as goal

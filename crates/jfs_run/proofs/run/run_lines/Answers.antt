@@ -11,7 +11,7 @@ use Rattle.jfs_run.specs.Run.{seen, StayBeside}
 use Rattle.jfs_run.specs.Serving.{state}
 use Rattle.jfs_run.specs.Ending.{RunSince}
 use Rattle.jfs_run.proofs.Finished.{ran, took_nothing, unmounted}
-use Rattle.jfs_run.proofs.Known.{laws}
+use Rattle.jfs_legal.proofs.Known.{laws}
 use Rattle.jfs_super.specs.Super.{super_of}
 use Rattle.jfs_run.proofs.Legally.{mounted_from, follows, ends_on}
 use Rattle.jfs_run.proofs.Begun.{has_superblock, superblock_below, within_low, fresh_of, clean_is}

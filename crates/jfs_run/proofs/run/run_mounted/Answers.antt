@@ -8,7 +8,7 @@ use Rattle.jfs_run.specs.Run.{seen}
 use Rattle.jfs_run.specs.Serving.{state}
 use Rattle.jfs_run.specs.Ending.{IsEnded, end_after}
 use Rattle.jfs_run.specs.Legal.{WasUnmounted}
-use Rattle.jfs_run.proofs.Known.{laws}
+use Rattle.jfs_legal.proofs.Known.{laws}
 use Rattle.jfs_run.proofs.Left.{behind}
 use Rattle.jfs_run.proofs.Legally.{begins_with, lines_legal, lines_on}
 use Rattle.jfs_run.proofs.Ended.{run_ends, served_rises, joint, runs, calm, unrisen, done_through, all_of}

@@ -7,7 +7,7 @@ use Rattle.jfs_served.proofs.Keeps.{again_law}
 use Rattle.jfs_served.proofs.Mounted.{mounted_law}
 use Rattle.jfs_served.proofs.Replies.{unchanged_law, refused_law}
 use Rattle.jfs_served.proofs.Unmounted.{unmounted_law}
-use Rattle.jfs_run.proofs.Replying.{Laws}
+use Rattle.jfs_legal.proofs.Replying.{Laws}
 
 pub laws : Laws
 laws = record {

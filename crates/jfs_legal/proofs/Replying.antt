@@ -1,5 +1,5 @@
 -- A call that a volume could serve is a step of the plain file tree that the volume holds, or it failed.
-use Rattle.std.proofs.Common.{◌≡◌, ◌≢◌, ◌⊎◌, refl, sym, ap, ◌∙◌, subst, ℕ, Bool, true, false, if◌then◌else◌, List, inl, inr, Option, Some, None, Result, Ok, Err}
+use Rattle.std.proofs.Common.{◌≡◌, ◌≢◌, ◌⊎◌, ◌++◌, ◌∷◌, [], refl, sym, ap, ◌∙◌, subst, ℕ, Bool, true, false, if◌then◌else◌, List, inl, inr, Option, Some, None, Result, Ok, Err}
 use Rattle.std.specs.Prelude.{OnOk}
 use Rattle.std.proofs.lemmas.Bool.{false≢true}
 use Rattle.std.proofs.lemmas.Option.{none-some}
@@ -9,20 +9,20 @@ use Rattle.jfs_ranges.specs.declared.edit.Edit.{Edit}
 use Rattle.jfs_served.specs.files.specs.data_steps.specs.declared.pages.DataPage.{DataPage}
 use Rattle.jfs_served.specs.files.specs.declared.outcome.FileOutcome.{FileOutcome}
 use Rattle.jfs_served.specs.files.specs.declared.outcome.FileOutcome.TheVariants.{Changed, Same as Unchanged, NeedsLog as Awaits}
-use Rattle.jfs_plain.specs.Call.{is_changing}
-use Rattle.jfs_plain.specs.CallStep.{is_sync, writes}
-use Rattle.jfs_plain.specs.declared.call.Call.{Call}
-use Rattle.jfs_plain.specs.declared.call.Call.TheVariants as calls
-use Rattle.jfs_plain.specs.declared.refusal.Refusal.TheVariants.{ReadOnly, IoFault, OutOfMemory}
-use Rattle.jfs_plain.specs.declared.reply.Reply.{Reply}
-use Rattle.jfs_plain.specs.declared.reply.Reply.TheVariants.{Done, Refused}
+use Rattle.jfs_served.specs.plain.specs.Call.{is_changing}
+use Rattle.jfs_served.specs.plain.specs.CallStep.{is_sync, writes}
+use Rattle.jfs_served.specs.plain.specs.declared.call.Call.{Call}
+use Rattle.jfs_served.specs.plain.specs.declared.call.Call.TheVariants as calls
+use Rattle.jfs_served.specs.plain.specs.declared.refusal.Refusal.TheVariants.{ReadOnly, IoFault, OutOfMemory}
+use Rattle.jfs_served.specs.plain.specs.declared.reply.Reply.{Reply}
+use Rattle.jfs_served.specs.plain.specs.declared.reply.Reply.TheVariants.{Done, Refused}
 use Rattle.jfs_served.specs.volume.specs.Asked.{IsAskedOf}
 use Rattle.jfs_served.specs.volume.specs.Join.{entry_with}
 use Rattle.jfs_served.specs.volume.specs.Settles.{Settles, StaysShown}
 use Rattle.jfs_served.specs.volume_calls.specs.Written.{KeepsPages, WritesMaps}
 use Rattle.jfs_served.specs.halves.specs.Parts.{Parts}
 use Rattle.jfs_served.specs.volume.specs.pages.specs.Device.{IsFault, HasFault}
-use Rattle.jfs_plain.specs.declared.call.Entry.{Entry}
+use Rattle.jfs_served.specs.plain.specs.declared.call.Entry.{Entry}
 use Rattle.jfs_served.specs.call.specs.Answer.{held}
 use Rattle.jfs_served.specs.call.specs.Changed.{IsChangedBy, IsFailedBy}
 use Rattle.jfs_served.specs.call.specs.Needs.{AnswersOf}
@@ -36,8 +36,7 @@ use Rattle.jfs_served.specs.Step.{IsAsked, IsAnswer, TakesStep}
 use Rattle.jfs_served.specs.Legal.{Timed, HasServed}
 use Rattle.jfs_served.specs.Laws.{ChangedLaw, GivenBackLaw, UnchangedLaw, AskedLaw, JoinedLaw, RefusedLaw, AcknowledgedLaw, PointedLaw, HandedOutLaw, HomeLaw, AgainLaw, MountedLaw, UnmountedLaw, HistoryLaw}
 use Rattle.jfs_served.proofs.Told.{told_asked, told_joins, told_pages, told_shown, told_home}
-use Rattle.jfs_run.specs.Calls.{has_failed}
-use Rattle.jfs_run.specs.Legal.{at, Leaves}
+use Rattle.jfs_legal.specs.Until.{has_failed, at}
 
 -- what is known of the tree that a volume holds
 pub record Laws : Type 0 where
@@ -55,6 +54,12 @@ pub record Laws : Type 0 where
   pub mounted : MountedLaw
   pub unmounted : UnmountedLaw
   pub history : HistoryLaw
+
+-- What a call leaves of a volume that could serve it: with its entry the history is legal and the next call may come, or it failed; without one nothing is said.
+abbrev pub Left : (ℕ → ℕ) → ℕ → Parts → List Timed → Asking → Parts → Outcome → Type 0
+Left area log_pages start es a new (Replied reply number waits) = HasServed area log_pages start (es ++ at a.now (entry_with a.caller.client a.caller.line a.request reply) ∷ []) new ⊎ (has_failed reply ≡ true)
+Left area log_pages start es a new NeedsLog = HasServed area log_pages start es new
+Left area log_pages start es a new NoMemory = Unit {0}
 
 -- ---- tests
 
@@ -79,7 +84,7 @@ settled laws tells crashes told area log_pages start es old new so_far settles f
 
 module _ (laws : Laws) (tells crashes : Type 0) (told : tells) (area : ℕ → ℕ) (log_pages : ℕ) (a : Asking) where
   -- how one call leaves a volume that could serve it
-  abbrev Ends : Parts → Parts → Outcome → Type 0
+  abbrev pub Ends : Parts → Parts → Outcome → Type 0
   Ends old new (Replied reply number waits) = TakesStep area log_pages a.request.call a.now reply old new ⊎ (has_failed reply ≡ true)
   Ends old new NeedsLog = StaysServing area log_pages old new
   Ends old new NoMemory = Unit {0}
@@ -188,33 +193,33 @@ module _ (laws : Laws) (tells crashes : Type 0) (told : tells) (area : ℕ → �
   does_by None true old new outcome may h s d = synced old new outcome may s d
   does_by None false old new outcome may h s d = by_answer old d.mid may d.asked d.answer new outcome (answered old d.mid d.answer d.answers) d.ends
 
-  does : (old new : Parts) (outcome : Outcome) → MayServe area log_pages old → Does tells crashes a.caller a.request a.now old new outcome → Ends old new outcome
+  pub does : (old new : Parts) (outcome : Outcome) → MayServe area log_pages old → Does tells crashes a.caller a.request a.now old new outcome → Ends old new outcome
   does old new outcome may d = does_by (held old.halted a.request.call) (is_sync a.request.call) old new outcome may refl refl d
 
   -- ---- behind a legal history
 
   module _ (start : Parts) (es : List Timed) where
-    leaves_by : (old new : Parts) (outcome : Outcome) → HasServed area log_pages start es old → Ends old new outcome → Leaves area log_pages start es a new outcome
+    pub leaves_by : (old new : Parts) (outcome : Outcome) → HasServed area log_pages start es old → Ends old new outcome → Left area log_pages start es a new outcome
     leaves_by old new (Replied reply number waits) so_far (inl step) =
         inl (laws.history.takes area log_pages start old new es (at a.now (entry_with a.caller.client a.caller.line a.request reply)) so_far step)
     leaves_by old new (Replied reply number waits) so_far (inr failed) = inr failed
     leaves_by old new NeedsLog so_far stays = laws.history.stays area log_pages start old new es so_far stays
     leaves_by old new NoMemory so_far e = tt
 
-    leaves_none : (new : Parts) (outcome : Outcome) → outcome ≡ NoMemory → Leaves area log_pages start es a new outcome
-    leaves_none new outcome e = subst (Leaves area log_pages start es a new) (sym e) tt
+    leaves_none : (new : Parts) (outcome : Outcome) → outcome ≡ NoMemory → Left area log_pages start es a new outcome
+    leaves_none new outcome e = subst (Left area log_pages start es a new) (sym e) tt
 
-    leaves_failed : (fault : Fault) (old : Both) (end : End) → IsRefusedFor a fault old end → Leaves area log_pages start es a end.both.volume end.outcome
+    leaves_failed : (fault : Fault) (old : Both) (end : End) → IsRefusedFor a fault old end → Left area log_pages start es a end.both.volume end.outcome
     leaves_failed fault old end r = go end.outcome r.0
       where
-        go : (outcome : Outcome) → IsReplied a.caller a.request (Refused (IoFault fault)) false old.volume end.both.volume outcome → Leaves area log_pages start es a end.both.volume outcome
+        go : (outcome : Outcome) → IsReplied a.caller a.request (Refused (IoFault fault)) false old.volume end.both.volume outcome → Left area log_pages start es a end.both.volume outcome
         go (Replied reply number waits) r = inr (ap has_failed r.reply_is)
         go NeedsLog r = absurd r
         go NoMemory r = tt
 
     -- what follows leaves it so, from each volume that has served so far
     abbrev Follows : (Both → End → Type 0) → Type 0
-    Follows follows = (mid : Both) (end : End) → HasServed area log_pages start es mid.volume → follows mid end → Leaves area log_pages start es a end.both.volume end.outcome
+    Follows follows = (mid : Both) (end : End) → HasServed area log_pages start es mid.volume → follows mid end → Left area log_pages start es a end.both.volume end.outcome
 
     alone : Follows (DoesAlone tells crashes a)
     alone old end so_far d = leaves_by old.volume end.both.volume end.outcome so_far (does old.volume end.both.volume end.outcome so_far.serves d.0)
@@ -232,7 +237,7 @@ module _ (laws : Laws) (tells crashes : Type 0) (told : tells) (area : ℕ → �
         mid_so_far : HasServed area log_pages start es c.mid.volume
         mid_so_far = settled laws tells crashes told area log_pages start es old.volume c.mid.volume so_far c.commits.settles c.commits.files
 
-        go : (result : Result (Unit {0}) LogFault) → AfterCommit a follows c.mid end result → Leaves area log_pages start es a end.both.volume end.outcome
+        go : (result : Result (Unit {0}) LogFault) → AfterCommit a follows c.mid end result → Left area log_pages start es a end.both.volume end.outcome
         go (Ok done) e = goes c.mid end mid_so_far e
         go (Err why) e = leaves_failed why.fault c.mid end e
 
@@ -240,7 +245,7 @@ module _ (laws : Laws) (tells crashes : Type 0) (told : tells) (area : ℕ → �
     points_then follows goes old end so_far c = go c.result c.points.shown c.points.maps c.ends
       where
         go : (result : Result (Unit {0}) Fault) → OnOk result (StaysShown tells old.volume c.mid.volume) → OnOk result (tells → WritesMaps old.volume c.mid.volume) → AfterPoint a follows c.mid end result
-            → Leaves area log_pages start es a end.both.volume end.outcome
+            → Left area log_pages start es a end.both.volume end.outcome
         go (Ok done) shown maps e =
             goes c.mid end (laws.history.stays area log_pages start old.volume c.mid.volume es so_far
             (laws.pointed area log_pages old.volume c.mid.volume so_far.serves.holds c.points.settles (told_shown tells crashes told old.volume c.mid.volume shown) (maps told))) e
@@ -267,6 +272,6 @@ module _ (laws : Laws) (tells crashes : Type 0) (told : tells) (area : ℕ → �
 
     -- a call that is lent the log
     pub lent : (old : Both) (end : End) → HasServed area log_pages start es old.volume → Does tells crashes a.caller a.request a.now old.volume end.both.volume end.outcome ⊎ NeedsThen tells crashes a (DoesAgain tells crashes a) old end
-        → Leaves area log_pages start es a end.both.volume end.outcome
+        → Left area log_pages start es a end.both.volume end.outcome
     lent old end so_far (inl d) = leaves_by old.volume end.both.volume end.outcome so_far (does old.volume end.both.volume end.outcome so_far.serves d)
     lent old end so_far (inr n) = needs_then (DoesAgain tells crashes a) again old end so_far n

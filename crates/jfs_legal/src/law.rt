@@ -1,0 +1,38 @@
+//! What is true of the entries of a mounted volume, of a disk that tells its contents.
+
+ghost use Rattle.jfs_legal.specs.Laws.{BeginLaw, LegalLaw, CallLaw, LentLaw, SettledLaw, PointedLaw, HandedLaw};
+
+/// No entry at all is a legal history.
+pub fn volumes_that_serve_begin_legally()
+    ensures { BeginLaw }
+{}
+
+/// A history that goes on is legal, up to a call that failed.
+pub fn histories_that_go_on_are_legal()
+    ensures { LegalLaw }
+{}
+
+/// With the entry of a call, whichever client's, a legal history goes on.
+pub fn calls_go_on_legally()
+    ensures { CallLaw }
+{}
+
+/// So does it with the entry of a call that is lent the log, and commits or makes a syncpoint first.
+pub fn calls_lent_the_log_go_on_legally()
+    ensures { LentLaw }
+{}
+
+/// A commit leaves it as it is.
+pub fn settled_volumes_leave_it_legal()
+    ensures { SettledLaw }
+{}
+
+/// So do pages that go home, and those of the maps.
+pub fn pages_at_home_leave_it_legal()
+    ensures { PointedLaw }
+{}
+
+/// And so do entries that are handed out.
+pub fn entries_handed_out_leave_it_legal()
+    ensures { HandedLaw }
+{}

@@ -1,0 +1,44 @@
+-- A call of one of many clients: what the volume stands for then.
+use Rattle.std.proofs.Common.{◌≡◌, ◌≢◌, ℕ, suc, List, [], ◌∷◌, ◌++◌, length, Option, Some, None, refl, sym, ap, subst, ◌∙◌, inl, inr}
+use Rattle.jfs_bits.specs.declared.descriptor.Moment.{Moment}
+use Rattle.jfs_disk.specs.declared.disk.Disk.{Ghosts}
+use Rattle.jfs_plain.specs.declared.call.Request.{Request}
+use Rattle.jfs_groups.specs.Group.{Stays}
+use Rattle.jfs_call.specs.Answer.{IsAnswered}
+use Rattle.jfs_call.specs.Does.{Does}
+use Rattle.jfs_call.specs.declared.outcome.Outcome.{Outcome}
+use Rattle.jfs_call.specs.declared.outcome.Outcome.TheVariants.{Replied, NeedsLog, NoMemory}
+use Rattle.jfs_call.specs.halves.specs.Parts.{Parts}
+use Rattle.jfs_shared.specs.Calls.{CallIs}
+use Rattle.jfs_shared.specs.Shared.{standing, broken_by}
+use Rattle.jfs_shared.specs.declared.shared.SharedVolume.{SharedVolume}
+use Rattle.jfs_shared.proofs.Stands.{replied_stands, asked_stands, lacked_stands}
+use Rattle.jfs_shared.proofs.Stepped.{stepped}
+
+-- nothing was done
+pub unanswered : (client line : ℕ) (request : Request) (p : Parts) → IsAnswered client line request p p NoMemory
+unanswered client line request p = record {
+  entry = record { entries = refl; appended = refl };
+  cause = inl refl;
+  held_is = tt;
+  halted = inl refl;
+  waits = tt;
+  keeps = record { blocks = refl; size = refl; limit = refl; count = refl; room = refl; taken = refl; told = refl; points = refl; ring = refl; place = refl };
+}
+
+module _ {D : Type 0} (d : Ghosts D) (x : SharedVolume D d) (client line : ℕ) (request : Request) (now : Moment) (new : Parts) where
+  pub call_is : (outcome : Outcome) → (outcome ≡ NoMemory → ⊥) → IsAnswered client line request x.volume new outcome → Does d.tells d.tells_crashes (record { client = client; line = line }) request now x.volume new outcome
+      → CallIs (standing d) client line request now x (record x { volume = new }) outcome
+  call_is (Replied reply number waits) not a does =
+      let step = stepped d.tells d.tells_crashes (record { client = client; line = line }) request now x.volume new (Replied reply number waits) does in (
+        step.0,
+        λ base list taken told points known s. replied_stands d.tells base list taken told points known x.points x.broken_off x.volume s d.tells_crashes client line request now new reply number waits step.0 a does step.1,
+      )
+  call_is NeedsLog not a does = λ base list taken told points known s. asked_stands d.tells base list taken told points known x.points x.broken_off x.volume s d.tells_crashes client line request now new a does
+      (stepped d.tells d.tells_crashes (record { client = client; line = line }) request now x.volume new NeedsLog does)
+  call_is NoMemory not a does = absurd (not refl)
+
+  pub lacked_is : (n : ℕ) → n ≡ new.appended → IsAnswered client line request x.volume new NoMemory → Does d.tells d.tells_crashes (record { client = client; line = line }) request now x.volume new NoMemory
+      → Stays (standing d) x (record x { volume = new; broken_off = broken_by n x.broken_off })
+  lacked_is n is a does base list taken told points known s = lacked_stands d.tells base list taken told points known x.points x.broken_off x.volume s d.tells_crashes client line request now new n is a does
+      (stepped d.tells d.tells_crashes (record { client = client; line = line }) request now x.volume new NoMemory does)

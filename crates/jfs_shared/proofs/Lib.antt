@@ -1,0 +1,12 @@
+pub mod Text
+pub mod Stepped
+pub mod Served
+pub mod Stands
+pub mod Logged
+pub mod Fresh
+pub mod Started
+pub mod Writing
+pub mod Called
+pub mod Together
+pub mod Pointing
+pub mod Homed

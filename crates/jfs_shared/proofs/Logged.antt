@@ -1,0 +1,96 @@
+-- The log side behind a SYNCPT, and where groups have taken all.
+use Rattle.std.proofs.Common.{◌≡◌, ◌≤◌, ℕ, suc, ◌+◌, ◌-◌, ◌*◌, ◌^◌, List, [], ◌∷◌, ◌++◌, length, take, drop, replicate, Option, Some, None, refl, sym, ap, subst, ◌∙◌, arith, append_assoc, append-nil}
+use Rattle.std.proofs.lemmas.List.{length-append, length-replicate}
+use Rattle.std.proofs.lemmas.Grind.{flat_map-append}
+use Rattle.std.proofs.Math.Seq.{take-append_seam}
+use Rattle.jfs_disk.specs.Image.{Image}
+use Rattle.jfs_disk.specs.declared.disk.Fault.{Fault}
+use Rattle.jfs_logfmt.specs.Written.{text_of}
+use Rattle.jfs_logfmt.specs.declared.log_record.Record.TheVariants.{SyncPt}
+use Rattle.jfs_logpages.specs.declared.group_text.GroupText.{GroupText}
+use Rattle.jfs_logpages.specs.declared.last.Last.{Last}
+use Rattle.jfs_logpages.specs.Group.{Holds, position_of}
+use Rattle.jfs_logpages.specs.Records.{log_text}
+use Rattle.jfs_records.specs.Records.{Noted}
+use Rattle.jfs_records.specs.Entries.{Item, point, text_size, log_records}
+use Rattle.jfs_records.proofs.ReadBack.{length-items, records-append}
+use Rattle.jfs_turns.specs.Lists.{IsPrefix}
+use Rattle.jfs_groups.specs.Text.{entries_in, text_with, items_from, end_of, HoldsText}
+use Rattle.jfs_groups.specs.Log.{LogData, IsRunning, LogStandsFor}
+use Rattle.jfs_groups.specs.Written.{IsGroupWritten, IsGroupLost}
+use Rattle.jfs_groups.proofs.Text.{entries-append, points-append, start_of, zeros_of}
+use Rattle.jfs_groups.proofs.Stands.{lost_stands}
+
+none_some : (fault : Fault) → ◌≡◌ {A = Option Fault} None (Some fault) → ⊥
+none_some fault e = absurd (cc)
+
+none_left : {A : Type 0} (xs : List A) → length xs ≡ 0 → xs ≡ []
+none_left [] e = refl
+none_left (x ∷ xs) e = absurd (let k : ⊥ = omega (arith, e) in k)
+
+-- a front that is as long is the whole list
+pub whole_front : {A : Type 0} (xs ys : List A) → IsPrefix xs ys → length xs ≡ length ys → xs ≡ ys
+whole_front {A} xs ys (more, e) same = sym (append-nil xs) ∙ ap (λ (rest : List A). xs ++ rest) (sym (none_left more (let k : length more ≡ 0 = omega (arith, ap (λ (l : List A). length l) e, length-append xs more, same) in k))) ∙ e
+
+module _ {E : Type 0} (logs : E → Option (List Noted)) where
+  -- the log holds the text with a SYNCPT more
+  pub pointed_holds : (ring points : ℕ) (list : List E) (last later : Last) (before after : Image) (bytes : List ℕ) → bytes ≡ log_text (SyncPt 0 ∷ []) → HoldsText logs ring list points last before
+      → ((front ends : List ℕ) → Holds last front ends before → (new : List ℕ) × Holds later (front ++ bytes) new after) → HoldsText logs ring list (suc points) later after
+  pointed_holds ring points list last later before after bytes is h write =
+      let w = write (text_with ring h.items) h.ends h.holds in
+      record {
+        items = h.items ++ point 0 ∷ [];
+        entries = entries-append h.items (point 0 ∷ []) ∙ append-nil (entries_in h.items) ∙ h.entries;
+        syncpoints = omega (arith, points-append h.items (point 0 ∷ []), h.syncpoints);
+        ends = w.0;
+        holds = subst (λ (text : List ℕ). Holds later text w.0 after) same w.1;
+      }
+    where
+      so_far : List Item
+      so_far = point 0 ∷ h.items
+
+      same : text_with ring h.items ++ bytes ≡ text_with ring (h.items ++ point 0 ∷ [])
+      same = append_assoc (zeros_of ring) (log_text (log_records ring (start_of ring) so_far)) bytes
+          ∙ ap (λ (text : List ℕ). zeros_of ring ++ text)
+          (ap (λ (text : List ℕ). log_text (log_records ring (start_of ring) so_far) ++ text) is
+          ∙ sym (flat_map-append text_of (log_records ring (start_of ring) so_far) (SyncPt 0 ∷ []))
+          ∙ ap log_text (sym (records-append ring (start_of ring) so_far (point 0 ∷ []))))
+
+  module _ (tells crashes : Type 0) (ring : ℕ) (l m : LogData) (list : List E) (taken durable points stable : ℕ) (s : LogStandsFor logs tells crashes ring l list taken durable points stable) (runs : l.halted ≡ None) where
+    r : IsRunning logs tells crashes ring l list taken durable points stable
+    r = s.runs runs
+
+    -- a SYNCPT that is written, and counted: all entries are durable, and all syncpoints are stable
+    pub pointed_stands : (group : GroupText) → group.bytes.items ≡ log_text (SyncPt 0 ∷ []) → length group.bytes.items ≡ 36 → group.last ≡ length list → IsGroupWritten tells crashes group l m
+        → LogStandsFor logs tells crashes ring (record m { points = m.points + 1 }) list (length list) (length list) (suc points) (suc points)
+    pointed_stands group bytes size last w = record {
+      pages = w.pages ∙ s.pages;
+      count = w.durable ∙ last;
+      stable = omega (arith, w.points, s.stable, r.stable_all);
+      runs = λ _. record {
+        taken_all = refl;
+        durable_all = refl;
+        stable_all = refl;
+        place = omega (arith, w.place, r.place, size);
+        holds = λ t. pointed_holds ring points list l.last m.last l.image m.image group.bytes.items bytes (r.holds t) (w.holds t);
+        resting = λ k. w.resting k (r.resting k);
+      };
+      halts = λ fault e. absurd (none_some fault (sym w.runs ∙ e));
+    }
+
+    -- one that isn't: whatever syncpoints there are, no more of them are stable
+    pub lost_point : (fault : Fault) (more : ℕ) → IsGroupLost fault l m → LogStandsFor logs tells crashes ring m list taken durable more stable
+    lost_point fault more w =
+        let s' = lost_stands logs tells crashes ring l m list list taken taken durable points stable fault s w in
+        record { pages = s'.pages; count = s'.count; stable = s'.stable; runs = λ e. absurd (none_some fault (sym e ∙ w.halts)); halts = s'.halts }
+
+    -- where groups have taken all entries of a list that goes on the log's, it is the log's
+    pub all_taken : (whole : List E) → IsPrefix list whole → taken ≡ length whole → LogStandsFor logs tells crashes ring l whole (length whole) (length whole) points stable
+    all_taken whole front all = subst (λ (es : List E). LogStandsFor logs tells crashes ring l es (length es) (length es) points stable)
+        (whole_front list whole front (let k : length list ≡ length whole = omega (arith, r.taken_all, r.durable_all, all) in k)) (record {
+          pages = s.pages;
+          count = s.count ∙ r.durable_all;
+          stable = s.stable;
+          runs = λ e. let q = s.runs e in record { taken_all = refl; durable_all = refl; stable_all = q.stable_all; place = q.place; holds = q.holds; resting = q.resting };
+          halts = s.halts;
+        })

@@ -1,0 +1,112 @@
+-- A syncpoint behind a commit: what volume and log stand for on the way.
+use Rattle.std.proofs.Common.{◌≡◌, ◌≤◌, ℕ, suc, ◌+◌, ◌*◌, ◌^◌, List, [], ◌∷◌, ◌++◌, length, Option, Some, None, Result, Ok, Err, refl, sym, ap, subst, ◌∙◌, arith, append-nil}
+use Rattle.jfs_disk.specs.declared.disk.Disk.{Ghosts}
+use Rattle.jfs_disk.specs.declared.disk.Fault.{Fault}
+use Rattle.jfs_groups.specs.declared.log.SharedLog.{SharedLog}
+use Rattle.jfs_call.specs.halves.specs.Parts.{Parts}
+use Rattle.jfs_call.specs.volume.specs.Settles.{Settles, StaysShown}
+use Rattle.jfs_volume_calls.specs.Written.{WritesMaps}
+use Rattle.jfs_shared.specs.Base.{ring_of}
+use Rattle.jfs_shared.specs.Both.{Seen, AreOf, AreTogether, Lost, Committed, Pointed, PartlyPointed, PointIs}
+use Rattle.jfs_shared.specs.Home.{IsSettled}
+use Rattle.jfs_shared.specs.Shared.{standing, log_standing, broken_by}
+use Rattle.jfs_shared.specs.declared.shared.SharedVolume.{SharedVolume}
+use Rattle.jfs_shared.proofs.Stands.{home_stands, stopped_stands}
+use Rattle.jfs_shared.proofs.Text.{ends, nothing_waits}
+
+-- all entries are durable and acknowledged
+abbrev pub settled : Seen → Seen
+settled n = record n { log_list = n.list; taken = length n.list; told = length n.list; durable = length n.list }
+
+module _ {D : Type 0} (d : Ghosts D) (x : SharedVolume D d) (y : SharedLog D d) (runs : y.side.halted ≡ None) (n : Seen) (k : AreOf (standing d) (log_standing d) n x y) where
+  durable_within : n.durable ≤ length n.list
+  durable_within = let r = k.log.runs runs in let all = r.taken_all in let within = k.volume.taken_within in omega (arith, all, within)
+
+  told_within : n.told ≤ length n.list
+  told_within = let a = k.volume.told_within in let b = k.volume.taken_within in omega (arith, a, b)
+
+  -- the commit failed
+  pub not_committed : (x' : SharedVolume D d) (y' : SharedLog D d) → Lost (standing d) (log_standing d) n x' y' → PartlyPointed (standing d) (log_standing d) n x' y'
+  not_committed x' y' lost = record {
+    told_now = n.told;
+    durable_now = n.durable;
+    points_now = n.points;
+    volume = lost.0;
+    log = lost.1;
+    told_grows = omega arith;
+    durable_grows = omega arith;
+    told_within = k.told_within;
+    durable_within = durable_within;
+    points_grow = ([], append-nil n.points);
+  }
+
+  module _ (x' : SharedVolume D d) (y' : SharedLog D d) (c : Committed (standing d) (log_standing d) n x' y') (new : Parts) (is : IsSettled x'.volume new) where
+    -- pages went home
+    pub home_are : Settles x'.volume new → StaysShown d.tells x'.volume new → (d.tells → WritesMaps x'.volume new) → AreOf (standing d) (log_standing d) (settled n) (record x' { volume = new }) y'
+    home_are settles shown maps = record {
+      volume = home_stands d.tells n.base n.list (length n.list) (length n.list) n.points n.known x'.points x'.broken_off x'.volume c.0 new is settles shown maps;
+      log = c.1;
+      front = ([], append-nil n.list);
+      told_within = omega arith;
+    }
+
+    -- one of them couldn't
+    pub not_home : (m : ℕ) → m ≡ new.appended → PartlyPointed (standing d) (log_standing d) n (record x' { volume = new; broken_off = broken_by m x'.broken_off }) y'
+    not_home m e = record {
+      told_now = length n.list;
+      durable_now = length n.list;
+      points_now = n.points;
+      volume = stopped_stands d.tells n.base n.list (length n.list) (length n.list) n.points n.known x'.points x'.broken_off x'.volume c.0 m new e is;
+      log = c.1;
+      told_grows = told_within;
+      durable_grows = durable_within;
+      told_within = omega arith;
+      durable_within = omega arith;
+      points_grow = ([], append-nil n.points);
+    }
+
+    -- ---- a SYNCPT may follow
+
+    pub nothing_left : new.text.bytes ≡ []
+    nothing_left = ap (λ (p : Parts). p.text.bytes) is ∙ nothing_waits (ring_of n.base) n.list (length n.list) (length n.points) x'.volume.text c.0.text (omega arith) refl
+
+    pub same_end : new.text.place ≡ x.volume.text.place + length x.volume.text.bytes
+    same_end =
+        let now = ends (ring_of n.base) n.list (length n.list) (length n.points) x'.volume.text c.0.text (omega arith) in
+        let before = ends (ring_of n.base) n.list n.taken (length n.points) x.volume.text k.volume.text k.volume.taken_within in
+        let none = ap (λ (b : List ℕ). length b) nothing_left in
+        omega (arith, now, before, none, ap (λ (p : Parts). p.text.place) is, ap (λ (p : Parts). length p.text.bytes) is)
+
+    pub all_told : new.told ≡ new.appended
+    all_told = ap (λ (p : Parts). p.told) is ∙ c.0.told_is ∙ sym (ap (λ (p : Parts). p.appended) is ∙ c.0.appended)
+
+  abbrev pub PointEnds : Result (Unit {0}) Fault → SharedVolume D d → SharedLog D d → Type 0
+  PointEnds (Ok done) last last_log = Pointed (standing d) (log_standing d) n last last_log
+  PointEnds (Err fault) last last_log = PartlyPointed (standing d) (log_standing d) n last last_log
+
+  -- what follows from there is said of both as they were
+  pub point_ends : (x' : SharedVolume D d) (y' : SharedLog D d) (last : SharedVolume D d) (last_log : SharedLog D d) (result : Result (Unit {0}) Fault) → AreOf (standing d) (log_standing d) (settled n) x' y'
+      → PointIs (standing d) (log_standing d) x' y' last last_log result → PointEnds result last last_log
+  point_ends x' y' last last_log (Ok done) are point = point (settled n) are
+  point_ends x' y' last last_log (Err fault) are point =
+      let p = point (settled n) are in record {
+        told_now = p.told_now;
+        durable_now = p.durable_now;
+        points_now = p.points_now;
+        volume = p.volume;
+        log = p.log;
+        told_grows = let g = p.told_grows in omega (arith, g, told_within);
+        durable_grows = let g = p.durable_grows in omega (arith, g, durable_within);
+        told_within = p.told_within;
+        durable_within = p.durable_within;
+        points_grow = p.points_grow;
+      }
+
+module _ {D : Type 0} (d : Ghosts D) (x : SharedVolume D d) (y : SharedLog D d) (runs : y.side.halted ≡ None) where
+  pub point_is : (last : SharedVolume D d) (last_log : SharedLog D d) (result : Result (Unit {0}) Fault) → ((n : Seen) (k : AreOf (standing d) (log_standing d) n x y) → PointEnds d x y runs n k result last last_log)
+      → PointIs (standing d) (log_standing d) x y last last_log result
+  point_is last last_log (Ok done) each = λ n k. each n k
+  point_is last last_log (Err fault) each = λ n k. each n k
+
+pub committed_told : {D : Type 0} (d : Ghosts D) (n : Seen) (x : SharedVolume D d) (y : SharedLog D d) → Committed (standing d) (log_standing d) n x y → x.volume.told ≡ x.volume.appended
+committed_told d n x y c = c.0.told_is ∙ sym c.0.appended

@@ -1,0 +1,277 @@
+-- What a volume stands for, behind what its calls make of its parts.
+use Rattle.std.proofs.Common.{◌≡◌, ◌≤◌, ℕ, suc, ◌+◌, ◌*◌, ◌-◌, ◌^◌, List, [], ◌∷◌, ◌++◌, length, take, drop, Option, Some, None, false, refl, sym, ap, subst, ◌∙◌, inl, inr, arith}
+use Rattle.std.proofs.lemmas.List.{length-append}
+use Rattle.jfs_bits.specs.declared.descriptor.Moment.{Moment}
+use Rattle.jfs_disk.specs.Image.{page_of}
+use Rattle.jfs_disk.specs.declared.disk.Fault.{Fault}
+use Rattle.jfs_super.specs.Super.{super_of}
+use Rattle.jfs_super.specs.declared.fields.Super.{Super}
+use Rattle.jfs_logpages.specs.declared.group_text.GroupText.{GroupText}
+use Rattle.jfs_logpages.specs.Group.{pages_of, room_of}
+use Rattle.jfs_plain.specs.declared.call.Entry.{Entry}
+use Rattle.jfs_plain.specs.declared.call.Request.{Request}
+use Rattle.jfs_plain.specs.declared.reply.Reply.{Reply}
+use Rattle.jfs_records.specs.Records.{Noted}
+use Rattle.jfs_turns.specs.Lists.{Base}
+use Rattle.jfs_groups.specs.Group.{IsGroupOf}
+use Rattle.jfs_call.specs.Answer.{IsAnswered, Keeps}
+use Rattle.jfs_call.specs.Does.{Does}
+use Rattle.jfs_call.specs.declared.outcome.Outcome.TheVariants.{Replied, NeedsLog, NoMemory}
+use Rattle.jfs_call.specs.halves.specs.Parts.{Parts, Text}
+use Rattle.jfs_call.specs.volume.specs.bmap.specs.States.{blocks_settled}
+use Rattle.jfs_call.specs.volume.specs.Room.{IsWithinRoom}
+use Rattle.jfs_call.specs.volume.specs.Settle.{with_point}
+use Rattle.jfs_call.specs.volume.specs.Settles.{Settles, StaysShown, is_freed}
+use Rattle.jfs_call.specs.volume.specs.Told.{still_freed}
+use Rattle.jfs_volume_calls.specs.Halts.{GroupParts, PointParts}
+use Rattle.jfs_volume_calls.specs.Written.{WritesMaps}
+use Rattle.jfs_volume_calls.proofs.Kept.{group_settles, group_pages, pointed}
+use Rattle.jfs_call.specs.volume.specs.bmap.proofs.Views.{length-each_below}
+use Rattle.jfs_shared.specs.Base.{ring_of, image_of}
+use Rattle.jfs_shared.specs.Calls.{recorded}
+use Rattle.jfs_shared.specs.Home.{IsSettled}
+use Rattle.jfs_shared.specs.Shared.{logs_of, entries_in, HasText, IsShared, IsServed, IfConsistent, broken_by}
+use Rattle.jfs_shared.specs.declared.recorded.Recorded.{Recorded}
+use Rattle.jfs_shared.proofs.Text.{added, ends, taken_text, joined_text, pointed_text}
+use Rattle.jfs_shared.proofs.Stepped.{Stood, Grew}
+use Rattle.jfs_shared.proofs.Served.{served_joined, served_asked, served_lacked, served_failed, served_settled, served_pointed}
+
+entries_more : (list : List Recorded) (e : Recorded) → entries_in (list ++ e ∷ []) ≡ entries_in list ++ e.entry ∷ []
+entries_more [] e = refl
+entries_more (x ∷ xs) e = ap (λ (es : List Entry). x.entry ∷ es) (entries_more xs e)
+
+-- what of the parts the list and the counts say
+pub record Alike (old new : Parts) : Type 0 where
+  pub entries : new.entries ≡ old.entries
+  pub appended : new.appended ≡ old.appended
+  pub taken : new.taken ≡ old.taken
+  pub told : new.told ≡ old.told
+  pub points : new.points ≡ old.points
+  pub known : new.known ≡ old.known
+  pub text : new.text ≡ old.text
+  pub map : length new.map.states ≡ length old.map.states
+  pub blocks : new.blocks ≡ old.blocks
+
+module _ (tells : Type 0) (base : Base) (list : List Recorded) (taken told : ℕ) (points : List ℕ) (known made : ℕ) (broken : Option ℕ) (old : Parts) (h : IsShared tells base list taken told points known made broken old) where
+  abbrev s : Super
+  s = super_of (page_of (image_of base) 8)
+
+  abbrev page : ℕ → List ℕ
+  page = page_of (image_of base)
+
+  -- nothing of them changes
+  pub alike_stands : (later : Option ℕ) (new : Parts) → Alike old new → (tells → IfConsistent base (λ s page. IsServed s page later list new)) → IsShared tells base list taken told points known made later new
+  alike_stands later new a served = record {
+    entries = a.entries ∙ h.entries;
+    appended = a.appended ∙ h.appended;
+    taken_is = a.taken ∙ h.taken_is;
+    told_is = a.told ∙ h.told_is;
+    points_are = h.points_are;
+    points_is = a.points ∙ h.points_is;
+    known_is = a.known ∙ h.known_is;
+    told_within = h.told_within;
+    taken_within = h.taken_within;
+    text = subst (λ (t : Text). HasText (ring_of base) list taken (length points) t) (sym a.text) h.text;
+    size = let before = h.size in omega (arith, a.map, a.blocks, before);
+    served = served;
+  }
+
+  -- ---- a call
+
+  module _ (crashes : Type 0) (client line : ℕ) (request : Request) (now : Moment) (new : Parts) where
+    pub replied_stands : (reply : Reply) (number : ℕ) (waits : Bool) (noted : Option (List Noted)) → IsAnswered client line request old new (Replied reply number waits)
+        → Does tells crashes (record { client = client; line = line }) request now old new (Replied reply number waits) → Grew noted old new
+        → IsShared tells base (list ++ recorded client line request now reply noted ∷ []) taken told points known made broken new × (number ≡ suc (length list))
+    replied_stands reply number waits noted a d g = (
+      record {
+        entries = a.entry.entries ∙ ap (λ (es : List Entry). es ++ e.entry ∷ []) h.entries ∙ sym (entries_more list e);
+        appended = longer;
+        taken_is = a.keeps.taken ∙ h.taken_is;
+        told_is = a.keeps.told ∙ h.told_is;
+        points_are = h.points_are;
+        points_is = a.keeps.points ∙ h.points_is;
+        known_is = g.known ∙ h.known_is;
+        told_within = h.told_within;
+        taken_within = let w = h.taken_within in omega (arith, w, length-append list (e ∷ []));
+        text = joined_text (ring_of base) list taken (length points) old.text h.text h.taken_within e new.text a.keeps.ring a.keeps.place
+            (g.bytes ∙ ap (λ (n : ℕ). old.text.bytes ++ added noted n old.text) next) (g.last ∙ next);
+        size = let before = h.size in omega (arith, a.keeps.size, a.keeps.blocks, before);
+        served = λ t consistent. served_joined tells crashes t s page broken list (record { caller = record { client = client; line = line }; request = request; now = now }) old new reply number waits noted (h.served t consistent) d;
+      },
+      a.entry.number_is ∙ a.entry.appended ∙ next,
+    )
+      where
+        e : Recorded
+        e = recorded client line request now reply noted
+
+        next : old.appended + 1 ≡ suc (length list)
+        next = omega (arith, h.appended)
+
+        longer : new.appended ≡ length (list ++ e ∷ [])
+        longer = omega (arith, a.entry.appended, next, length-append list (e ∷ []))
+
+    -- without an entry
+    left : (entries : new.entries ≡ old.entries) (appended : new.appended ≡ old.appended) → Keeps old new → Stood old new → Alike old new
+    left entries appended k g = record {
+      entries = entries;
+      appended = appended;
+      taken = k.taken;
+      told = k.told;
+      points = k.points;
+      known = g.known;
+      text = g.text;
+      map = k.size;
+      blocks = k.blocks;
+    }
+
+    pub asked_stands : IsAnswered client line request old new NeedsLog → Does tells crashes (record { client = client; line = line }) request now old new NeedsLog → Stood old new → IsShared tells base list taken told points known made broken new
+    asked_stands a d g = alike_stands broken new (left a.entry.entries a.entry.appended a.keeps g)
+        (λ t consistent. served_asked tells crashes t s page broken list (record { caller = record { client = client; line = line }; request = request; now = now }) old new (h.served t consistent) d)
+
+    pub lacked_stands : (n : ℕ) → n ≡ new.appended → IsAnswered client line request old new NoMemory → Does tells crashes (record { client = client; line = line }) request now old new NoMemory → Stood old new
+        → IsShared tells base list taken told points known made (broken_by n broken) new
+    lacked_stands n is a d g = alike_stands (broken_by n broken) new (left a.entry.entries a.entry.appended a.keeps g)
+        (λ t consistent. served_lacked tells crashes t s page broken list n (record { caller = record { client = client; line = line }; request = request; now = now }) old new
+        (is ∙ a.entry.appended ∙ h.appended) (h.served t consistent) d)
+
+  -- ---- groups
+
+  -- a group takes all that waits
+  pub group_stands : (new : Parts) → new ≡ record old { taken = old.appended; text = record old.text { place = old.text.place + length old.text.bytes; bytes = []; ends = [] } } → IsShared tells base list (length list) told points known made broken new
+  group_stands new e = record {
+    entries = ap (λ (p : Parts). p.entries) e ∙ h.entries;
+    appended = ap (λ (p : Parts). p.appended) e ∙ h.appended;
+    taken_is = ap (λ (p : Parts). p.taken) e ∙ h.appended;
+    told_is = ap (λ (p : Parts). p.told) e ∙ h.told_is;
+    points_are = h.points_are;
+    points_is = ap (λ (p : Parts). p.points) e ∙ h.points_is;
+    known_is = ap (λ (p : Parts). p.known) e ∙ h.known_is;
+    told_within = let a = h.told_within in let b = h.taken_within in omega (arith, a, b);
+    taken_within = omega arith;
+    text = taken_text (ring_of base) list taken (length points) old.text h.text h.taken_within new.text (ap (λ (p : Parts). p.text.ring) e) (ap (λ (p : Parts). p.text.place) e) (ap (λ (p : Parts). p.text.bytes) e) (ap (λ (p : Parts). p.text.last) e);
+    size = subst (λ (p : Parts). length p.map.states ≤ p.blocks) (sym e) h.size;
+    served = λ t consistent. served_settled tells ⊥ t s page broken list old new (group_settles old new parts) (group_pages tells old new parts) (h.served t consistent);
+  }
+    where
+      parts : GroupParts old new
+      parts = e ∙ ap (λ (p : Parts). record old { taken = p.taken; text = p.text; halted = p.halted }) (sym e)
+
+  -- it is the group of what no group has taken
+  pub group_is : (group : GroupText) → group.bytes.items ≡ old.text.bytes → group.last ≡ old.appended → IsWithinRoom old.text.ring old.text.sync old.text.place (length group.bytes.items) → IsGroupOf logs_of (ring_of base) list taken (length points) group
+  group_is group bytes last room = record {
+    last = last ∙ h.appended;
+    bytes = bytes ∙ h.text.bytes;
+    room = subst (λ (r : ℕ). pages_of (length group.bytes.items) ≤ room_of r) h.text.ring_is room.0;
+    numbers = let n = room.2 in omega (arith, n, ap (λ (b : List ℕ). length b) bytes, ends (ring_of base) list taken (length points) old.text h.text h.taken_within);
+  }
+
+  -- it halts
+  pub halted_stands : (halted : Option Fault) (new : Parts) → new ≡ record old { halted = halted } → IsShared tells base list taken told points known made broken new
+  halted_stands halted new e = alike_stands broken new (record {
+    entries = ap (λ (p : Parts). p.entries) e;
+    appended = ap (λ (p : Parts). p.appended) e;
+    taken = ap (λ (p : Parts). p.taken) e;
+    told = ap (λ (p : Parts). p.told) e;
+    points = ap (λ (p : Parts). p.points) e;
+    known = ap (λ (p : Parts). p.known) e;
+    text = ap (λ (p : Parts). p.text) e;
+    map = ap (λ (p : Parts). length p.map.states) e;
+    blocks = ap (λ (p : Parts). p.blocks) e;
+  }) (λ t consistent. served_settled tells ⊥ t s page broken list old new (group_settles old new parts) (group_pages tells old new parts) (h.served t consistent))
+    where
+      parts : GroupParts old new
+      parts = e ∙ ap (λ (p : Parts). record old { taken = p.taken; text = p.text; halted = p.halted }) (sym e)
+
+  -- entries are acknowledged
+  pub told_stands : (n : ℕ) (new : Parts) → n ≤ taken → new ≡ record old { view = new.view; dirty = new.dirty; told = n; map = blocks_settled n old.map; freed = still_freed n old.freed }
+      → (tells → (q : ℕ) → is_freed old.freed q ≡ false → page_of new.view q ≡ page_of old.view q) → IsShared tells base list taken n points known made broken new
+  told_stands n new within e shows = record {
+    entries = ap (λ (p : Parts). p.entries) e ∙ h.entries;
+    appended = ap (λ (p : Parts). p.appended) e ∙ h.appended;
+    taken_is = ap (λ (p : Parts). p.taken) e ∙ h.taken_is;
+    told_is = ap (λ (p : Parts). p.told) e;
+    points_are = h.points_are;
+    points_is = ap (λ (p : Parts). p.points) e ∙ h.points_is;
+    known_is = ap (λ (p : Parts). p.known) e ∙ h.known_is;
+    told_within = within;
+    taken_within = h.taken_within;
+    text = subst (λ (t : Text). HasText (ring_of base) list taken (length points) t) (sym (ap (λ (p : Parts). p.text) e)) h.text;
+    size = let before = h.size in omega (arith, before, ap (λ (p : Parts). length p.map.states) e ∙ length-each_below _ _, ap (λ (p : Parts). p.blocks) e);
+    served = λ t consistent. served_settled tells ⊥ t s page broken list old new settles (record { files = ap (λ (p : Parts). p.files) e; view = shows }) (h.served t consistent);
+  }
+    where
+      settles : Settles old new
+      settles = record {
+        entries = ap (λ (p : Parts). p.entries) e;
+        appended = ap (λ (p : Parts). p.appended) e;
+        inodes = ap (λ (p : Parts). p.inodes) e;
+        limit = ap (λ (p : Parts). p.limit) e;
+        blocks = ap (λ (p : Parts). p.blocks) e;
+        count = ap (λ (p : Parts). p.count) e;
+        room = ap (λ (p : Parts). p.room) e;
+        map = inr (n, record { map = ap (λ (p : Parts). p.map) e; freed = ap (λ (p : Parts). p.freed) e });
+      }
+
+  -- ---- pages go home
+
+  home_alike : (new : Parts) → IsSettled old new → Alike old new
+  home_alike new e = record {
+    entries = ap (λ (p : Parts). p.entries) e;
+    appended = ap (λ (p : Parts). p.appended) e;
+    taken = ap (λ (p : Parts). p.taken) e;
+    told = ap (λ (p : Parts). p.told) e;
+    points = ap (λ (p : Parts). p.points) e;
+    known = ap (λ (p : Parts). p.known) e;
+    text = ap (λ (p : Parts). p.text) e;
+    map = ap (λ (p : Parts). length p.map.states) e;
+    blocks = ap (λ (p : Parts). p.blocks) e;
+  }
+
+  pub home_stands : (new : Parts) → IsSettled old new → Settles old new → StaysShown tells old new → (tells → WritesMaps old new) → IsShared tells base list taken told points known made broken new
+  home_stands new e settles shown maps = alike_stands broken new (home_alike new e) (λ t consistent. served_pointed tells ⊥ t s page broken list old new settles shown (maps t) (h.served t consistent))
+
+  -- one of them can't
+  pub stopped_stands : (n : ℕ) (new : Parts) → n ≡ new.appended → IsSettled old new → IsShared tells base list taken told points known made (broken_by n broken) new
+  stopped_stands n new is e = let a = home_alike new e in alike_stands (broken_by n broken) new a
+      (λ t consistent. served_failed tells ⊥ t s page broken list n old new (is ∙ a.appended ∙ h.appended) (h.served t consistent))
+
+  -- ---- a SYNCPT
+
+  -- it leaves the tree
+  beside : (new : Parts) → PointParts old new → tells → IfConsistent base (λ s page. IsServed s page broken list new)
+  beside new p t consistent = served_settled tells ⊥ t s page broken list old new (pointed old old new (group_settles old old refl) p)
+      (record { files = ap (λ (x : Parts). x.files) p; view = λ _ q free. ap (λ (x : Parts). page_of x.view q) p }) (h.served t consistent)
+
+  pub point_stands : (new : Parts) → taken ≡ length list → old.text.bytes ≡ [] → new ≡ with_point old → IsShared tells base list (length list) told (points ++ length list ∷ []) known (made + 1) broken new
+  point_stands new all empty e = record {
+    entries = ap (λ (p : Parts). p.entries) e ∙ h.entries;
+    appended = ap (λ (p : Parts). p.appended) e ∙ h.appended;
+    taken_is = ap (λ (p : Parts). p.taken) e ∙ h.appended;
+    told_is = ap (λ (p : Parts). p.told) e ∙ h.told_is;
+    points_are = omega (arith, h.points_are, length-append points (length list ∷ []));
+    points_is = omega (arith, ap (λ (p : Parts). p.points) e, h.points_is, length-append points (length list ∷ []));
+    known_is = ap (λ (p : Parts). p.known) e ∙ h.known_is;
+    told_within = let a = h.told_within in let b = h.taken_within in omega (arith, a, b);
+    taken_within = omega arith;
+    text = subst (λ (n : ℕ). HasText (ring_of base) list (length list) n new.text) (let k : suc (length points) ≡ length (points ++ length list ∷ []) = omega (arith, length-append points (length list ∷ [])) in k)
+        (pointed_text (ring_of base) list taken (length points) old.text h.text h.taken_within new.text all (ap (λ (p : Parts). p.text.ring) e) (ap (λ (p : Parts). p.text.place) e) (ap (λ (p : Parts). p.text.bytes) e ∙ empty) (ap (λ (p : Parts). p.text.last) e));
+    size = subst (λ (p : Parts). length p.map.states ≤ p.blocks) (sym e) h.size;
+    served = λ t consistent. beside new (e ∙ ap (λ (p : Parts). record old { points = p.points; known = p.known; taken = p.taken; text = p.text; halted = p.halted }) (sym e)) t consistent;
+  }
+
+  -- all are known to be stable
+  pub known_stands : (new : Parts) → new ≡ record old { known = old.points } → IsShared tells base list taken told points (length points) made broken new
+  known_stands new e = record {
+    entries = ap (λ (p : Parts). p.entries) e ∙ h.entries;
+    appended = ap (λ (p : Parts). p.appended) e ∙ h.appended;
+    taken_is = ap (λ (p : Parts). p.taken) e ∙ h.taken_is;
+    told_is = ap (λ (p : Parts). p.told) e ∙ h.told_is;
+    points_are = h.points_are;
+    points_is = ap (λ (p : Parts). p.points) e ∙ h.points_is;
+    known_is = ap (λ (p : Parts). p.known) e ∙ h.points_is;
+    told_within = h.told_within;
+    taken_within = h.taken_within;
+    text = subst (λ (t : Text). HasText (ring_of base) list taken (length points) t) (sym (ap (λ (p : Parts). p.text) e)) h.text;
+    size = subst (λ (p : Parts). length p.map.states ≤ p.blocks) (sym e) h.size;
+    served = λ t consistent. beside new (e ∙ ap (λ (p : Parts). record old { points = p.points; known = p.known; taken = p.taken; text = p.text; halted = p.halted }) (sym e)) t consistent;
+  }

@@ -1,0 +1,101 @@
+-- A volume that was just mounted, and its log, stand for no entry.
+use Rattle.std.proofs.Common.{◌≡◌, ◌<◌, ◌≤◌, ℕ, suc, ◌+◌, ◌-◌, ◌*◌, List, [], ◌∷◌, ◌++◌, length, true, false, Bool, None, refl, sym, ap, subst, ◌∙◌, inl, arith, append-nil}
+use Rattle.std.proofs.lemmas.Bool.{false≢true}
+use Rattle.jfs_disk.specs.Image.{Image, page_of}
+use Rattle.jfs_disk.specs.Crash.{last_of}
+use Rattle.jfs_disk.specs.Moment.{IsResting}
+use Rattle.jfs_super.specs.Super.{super_of}
+use Rattle.jfs_super.specs.declared.fields.Super.{Super}
+use Rattle.jfs_logfmt.specs.Written.{text_of}
+use Rattle.jfs_logpages.specs.Fresh.{first_record}
+use Rattle.jfs_logpages.specs.Group.{Holds, position_of}
+use Rattle.jfs_logpages.specs.Ring.{IsRing, fresh_text, fresh_ends}
+use Rattle.jfs_records.specs.Entries.{point}
+use Rattle.jfs_records.proofs.ReadBack.{length-items}
+use Rattle.jfs_groups.specs.Log.{LogData, LogStandsFor}
+use Rattle.jfs_groups.proofs.Stands.{fresh}
+use Rattle.jfs_legal.specs.served.specs.halves.specs.Half.{VolumeHalf, Halves}
+use Rattle.jfs_legal.specs.served.specs.halves.specs.Laws.{fresh_halves}
+use Rattle.jfs_legal.specs.served.specs.halves.specs.Log as halves
+use Rattle.jfs_legal.specs.served.specs.halves.specs.Log.{LogParts, HoldsItems}
+use Rattle.jfs_legal.specs.served.specs.halves.specs.Parts.{Parts, StandsFor}
+use Rattle.jfs_legal.specs.served.specs.shown.specs.meaning.specs.Image.{IsConsistentImage, volume_of}
+use Rattle.jfs_legal.specs.served.proofs.Told.{told_mount}
+use Rattle.jfs_legal.proofs.Going.{begin_law}
+use Rattle.jfs_legal.proofs.Known.{laws}
+use Rattle.jfs_shared.specs.Shared.{logs_of, HasText, IsShared, IsServed}
+use Rattle.jfs_shared.specs.Start.{IsJustMounted, base_at}
+use Rattle.jfs_shared.specs.declared.recorded.Recorded.{Recorded}
+use Rattle.jfs_shared.proofs.Fresh.{fresh_holds}
+
+module _ (tells crashes : Type 0) (s : Super) (image : Image) (volume : Parts) (log : LogParts) (m : IsJustMounted tells crashes s image volume log) where
+  abbrev ring : ℕ
+  ring = s.logpxd.len - 2
+
+  abbrev both : Halves
+  both = fresh_halves ring (record { pages = m.mount.pages; map = m.mount.maps.blocks; inodes = m.mount.maps.inodes })
+
+  none_told : (fact : Type 0) → false ≡ true → fact
+  none_told fact e = absurd (false≢true e)
+
+  stands : StandsFor false false volume both.volume
+  stands = m.mount.fresh false false (none_told tells) (none_told crashes)
+
+  log_stands : halves.LogStandsFor false false log both
+  log_stands = m.mount.log_fresh false false (none_told tells) (none_told crashes)
+
+  text : HasText ring [] 0 0 volume.text
+  text = record {
+    ring_is = stands.text.ring;
+    place = let place = stands.text.place in omega (arith, place);
+    bytes = stands.text.bytes;
+    last = stands.text.last;
+  }
+
+  served : tells → IsConsistentImage s (page_of image) → IsServed s (page_of image) None [] volume
+  served t consistent =
+      let held = laws.mounted s image volume log (told_mount tells crashes t s image volume log m.mount) m.within consistent in
+      record { start = volume; holds = held; runs = m.runs; goes_on = begin_law (volume_of s (page_of image)).area s.logpxd.len volume held.serves }
+
+  pub volume_stands : IsShared tells (base_at s image) [] 0 0 [] 0 0 None volume
+  volume_stands = record {
+    entries = stands.entries;
+    appended = stands.appended;
+    taken_is = stands.taken;
+    told_is = stands.told;
+    points_are = refl;
+    points_is = stands.points;
+    known_is = stands.known;
+    told_within = omega arith;
+    taken_within = omega arith;
+    text = text;
+    size = let same = ap (λ map. length map.states) m.mount.has_maps.0 in let number = m.mount.rest.number in let within = m.within in omega (arith, same, number, within);
+    served = λ t. subst (λ (k : Super). IsConsistentImage k (page_of image) → IsServed k (page_of image) None [] volume) (sym (m.spelled t)) (served t);
+  }
+
+  -- ---- the log
+
+  sized : length (text_of first_record) ≡ 36
+  sized = ap (λ (b : List ℕ). length b) (sym (append-nil (text_of first_record))) ∙ length-items ring (4080 * (ring - 1)) (point 0 ∷ [])
+
+  -- what mounts say of a log's text leaves its front open
+  holds : 2 ≤ ring → tells → Holds log.last (fresh_text ring (text_of first_record)) (fresh_ends ring) log.image
+  holds some t = fresh_holds ring log.last log.image h.front (text_of first_record) h.ends some sized h.begins log_stands.ring
+      (subst (λ (b : List ℕ). Holds log.last (h.front ++ b) h.ends log.image) (append-nil (text_of first_record)) h.holds)
+      (subst (λ (n : ℕ). IsRing ring (fresh_text ring (text_of first_record)) (fresh_ends ring) n log.image) (let k : s.logpxd.len - 3 ≡ ring - 1 = omega arith in k) (m.fresh t).ring)
+    where
+      h : HoldsItems ring both.log log.last log.image
+      h = (m.mount.log_fresh true false (λ _. t) (none_told crashes)).items refl refl
+
+  rests : crashes → IsResting (last_of log.past)
+  rests c = (m.mount.log_fresh false true (none_told tells) (λ _. c)).resting refl refl
+
+  pub begun_stands : (now : LogData) → 2 ≤ ring → now.image ≡ log.image → now.past ≡ log.past → now.last ≡ log.last → now.durable ≡ log.durable → now.points ≡ 0 → now.halted ≡ log.halted → LogStandsFor logs_of tells crashes ring now [] 0 0 0 0
+  begun_stands now some image past last durable points halted = fresh logs_of tells crashes ring now (fresh_ends ring)
+      (ap (λ l. l.ring) last ∙ log_stands.ring)
+      (ap position_of last ∙ m.together.place ∙ stands.text.place)
+      (durable ∙ log_stands.durable)
+      points
+      (halted ∙ log_stands.halted)
+      (λ t. subst (λ l. Holds l (fresh_text ring (text_of first_record)) (fresh_ends ring) now.image) (sym last) (subst (λ im. Holds log.last (fresh_text ring (text_of first_record)) (fresh_ends ring) im) (sym image) (holds some t)))
+      (λ c. subst (λ states. IsResting (last_of states)) (sym past) (rests c))

@@ -1,0 +1,182 @@
+-- A group of all that waits: its write, and what volume and log stand for then.
+use Rattle.std.proofs.Common.{◌≡◌, ◌≤◌, ℕ, suc, ◌+◌, ◌*◌, ◌^◌, List, [], ◌∷◌, ◌++◌, length, Option, Some, None, false, refl, sym, ap, subst, ◌∙◌, arith}
+use Rattle.jfs_disk.specs.Image.{page_of}
+use Rattle.jfs_disk.specs.declared.disk.Disk.{Ghosts}
+use Rattle.jfs_disk.specs.declared.disk.Fault.{Fault}
+use Rattle.jfs_logfmt.specs.declared.log_record.Record.TheVariants.{SyncPt}
+use Rattle.jfs_logpages.specs.declared.group_text.GroupText.{GroupText}
+use Rattle.jfs_logpages.specs.Group.{pages_of, room_of, position_of}
+use Rattle.jfs_logpages.specs.Records.{log_text}
+use Rattle.jfs_records.specs.Entries.{point}
+use Rattle.jfs_records.proofs.ReadBack.{length-items}
+use Rattle.jfs_groups.specs.Group.{IsGroupOf}
+use Rattle.jfs_groups.specs.Log.{LogStandsFor, data_of}
+use Rattle.jfs_groups.specs.Written.{IsGroupWritten, IsGroupLost}
+use Rattle.jfs_groups.specs.declared.log.SharedLog.{SharedLog}
+use Rattle.jfs_groups.proofs.Stands.{may_write, written_stands, lost_stands}
+use Rattle.jfs_call.specs.halves.specs.Parts.{Parts}
+use Rattle.jfs_call.specs.volume.specs.bmap.specs.States.{blocks_settled}
+use Rattle.jfs_call.specs.volume.specs.Room.{IsWithinRoom}
+use Rattle.jfs_call.specs.volume.specs.Settle.{with_point}
+use Rattle.jfs_call.specs.volume.specs.Settles.{is_freed}
+use Rattle.jfs_call.specs.volume.specs.Told.{still_freed}
+use Rattle.jfs_shared.specs.Base.{ring_of}
+use Rattle.jfs_shared.specs.Both.{Seen, AreOf, AreTogether, Written, Lost, Committed, Pointed, PartlyPointed}
+use Rattle.jfs_shared.specs.Shared.{logs_of, IsShared, standing, log_standing}
+use Rattle.jfs_shared.specs.declared.shared.SharedVolume.{SharedVolume}
+use Rattle.jfs_shared.proofs.Logged.{all_taken, pointed_stands, lost_point}
+use Rattle.jfs_shared.proofs.Text.{ends}
+use Rattle.jfs_shared.proofs.Stands.{group_stands, group_is, halted_stands, told_stands, point_stands, known_stands}
+
+-- what a volume hands out as a group
+pub record IsTakenFrom (old new : Parts) (group : GroupText) : Type 0 where
+  pub bytes : group.bytes.items ≡ old.text.bytes
+  pub last : group.last ≡ old.appended
+  pub room : IsWithinRoom old.text.ring old.text.sync old.text.place (length group.bytes.items)
+  pub parts : new ≡ record old { taken = old.appended; text = record old.text { place = old.text.place + length old.text.bytes; bytes = []; ends = [] } }
+
+module _ {D : Type 0} (d : Ghosts D) (x : SharedVolume D d) (y : SharedLog D d) (runs : y.side.halted ≡ None) where
+  -- ---- a group
+
+  module _ (new : Parts) (group : GroupText) (t : IsTakenFrom x.volume new group) where
+    module _ (n : Seen) (k : AreOf (standing d) (log_standing d) n x y) where
+      is_group : IsGroupOf logs_of (ring_of n.base) n.list n.taken (length n.points) group
+      is_group = group_is d.tells n.base n.list n.taken n.told n.points n.known x.points x.broken_off x.volume k.volume group t.bytes t.last t.room
+
+      taken : IsShared d.tells n.base n.list (length n.list) n.told n.points n.known x.points x.broken_off new
+      taken = group_stands d.tells n.base n.list n.taken n.told n.points n.known x.points x.broken_off x.volume k.volume new t.parts
+
+    pub may : AreTogether (standing d) (log_standing d) x y
+        → (pages_of (length group.bytes.items) ≤ room_of y.side.last.ring) × (y.side.durable ≤ group.last) × (position_of y.side.last + length group.bytes.items ≤ 4080 * 2 ^ 32)
+    may (n, k) = may_write logs_of d.tells d.tells_crashes (ring_of n.base) (data_of d y) n.log_list n.list n.taken n.durable (length n.points) n.stable group k.front k.log runs (is_group n k)
+
+    pub written : (y' : SharedLog D d) → IsGroupWritten d.tells d.tells_crashes group (data_of d y) (data_of d y') → (n : Seen) → AreOf (standing d) (log_standing d) n x y → Written (standing d) (log_standing d) n (record x { volume = new }) y'
+    written y' w n k = (
+      taken n k,
+      written_stands logs_of d.tells d.tells_crashes (ring_of n.base) (data_of d y) (data_of d y') n.log_list n.list n.taken n.durable (length n.points) n.stable group k.front k.log runs (is_group n k) w,
+    )
+
+    pub lost : (y' : SharedLog D d) (fault : Fault) (halted : Option Fault) (last : Parts) → last ≡ record new { halted = halted } → IsGroupLost fault (data_of d y) (data_of d y') → (n : Seen) → AreOf (standing d) (log_standing d) n x y
+        → Lost (standing d) (log_standing d) n (record x { volume = last }) y'
+    lost y' fault halted last e w n k = (
+      halted_stands d.tells n.base n.list (length n.list) n.told n.points n.known x.points x.broken_off new (taken n k) halted last e,
+      lost_stands logs_of d.tells d.tells_crashes (ring_of n.base) (data_of d y) (data_of d y') n.log_list n.list n.taken (length n.list) n.durable (length n.points) n.stable fault k.log w,
+    )
+
+  -- groups have taken all
+  pub idle : x.volume.taken ≡ x.volume.appended → (n : Seen) → AreOf (standing d) (log_standing d) n x y → Written (standing d) (log_standing d) n x y
+  idle e n k = (
+    subst (λ (m : ℕ). IsShared d.tells n.base n.list m n.told n.points n.known x.points x.broken_off x.volume) all k.volume,
+    all_taken logs_of d.tells d.tells_crashes (ring_of n.base) (data_of d y) n.log_list n.taken n.durable (length n.points) n.stable k.log runs n.list k.front all,
+  )
+    where
+      all : n.taken ≡ length n.list
+      all = sym k.volume.taken_is ∙ e ∙ k.volume.appended
+
+  -- ---- a SYNCPT
+
+  module _ (group : GroupText) (bytes : group.bytes.items ≡ log_text (SyncPt 0 ∷ [])) (last : group.last ≡ x.volume.appended) where
+    pub point_size : length group.bytes.items ≡ 36
+    point_size = ap (λ (b : List ℕ). length b) bytes ∙ length-items 0 0 (point 0 ∷ [])
+
+    module _ (empty : x.volume.text.bytes ≡ []) (told : x.volume.told ≡ x.volume.appended) (pointed : Parts) (e : pointed ≡ with_point x.volume) (n : Seen) (k : AreOf (standing d) (log_standing d) n x y) where
+      all_told : n.told ≡ length n.list
+      all_told = sym k.volume.told_is ∙ told ∙ k.volume.appended
+
+      all : n.taken ≡ length n.list
+      all = let a = k.volume.told_within in let b = k.volume.taken_within in omega (arith, a, b, all_told)
+
+      stands : IsShared d.tells n.base n.list (length n.list) (length n.list) (n.points ++ length n.list ∷ []) n.known (x.points + 1) x.broken_off pointed
+      stands = subst (λ (m : ℕ). IsShared d.tells n.base n.list (length n.list) m (n.points ++ length n.list ∷ []) n.known (x.points + 1) x.broken_off pointed) all_told
+          (point_stands d.tells n.base n.list n.taken n.told n.points n.known x.points x.broken_off x.volume k.volume pointed all empty e)
+
+      one_more : length (n.points ++ length n.list ∷ []) ≡ suc (length n.points)
+      one_more = let p = stands.points_are in let q = k.volume.points_are in omega (arith, p, q)
+
+      log : LogStandsFor logs_of d.tells d.tells_crashes (ring_of n.base) (data_of d y) n.list (length n.list) (length n.list) (length n.points) n.stable
+      log = all_taken logs_of d.tells d.tells_crashes (ring_of n.base) (data_of d y) n.log_list n.taken n.durable (length n.points) n.stable k.log runs n.list k.front all
+
+      pub pointed_both : (known : Parts) → known ≡ record pointed { known = pointed.points } → (y' : SharedLog D d) → IsGroupWritten d.tells d.tells_crashes group (data_of d y) (data_of d y')
+          → Pointed (standing d) (log_standing d) n (record x { volume = known; points = x.points + 1 }) (record y' { points = y'.points + 1 })
+      pointed_both known is y' w = (
+        subst (λ (m : ℕ). IsShared d.tells n.base n.list (length n.list) (length n.list) (n.points ++ length n.list ∷ []) m (x.points + 1) x.broken_off known) one_more
+            (known_stands d.tells n.base n.list (length n.list) (length n.list) (n.points ++ length n.list ∷ []) n.known (x.points + 1) x.broken_off pointed stands known is),
+        subst (λ (m : ℕ). LogStandsFor logs_of d.tells d.tells_crashes (ring_of n.base) (record (data_of d y') { points = y'.points + 1 }) n.list (length n.list) (length n.list) m (suc (length n.points))) (sym one_more)
+            (pointed_stands logs_of d.tells d.tells_crashes (ring_of n.base) (data_of d y) (data_of d y') n.list (length n.list) (length n.list) (length n.points) n.stable log runs group bytes point_size (last ∙ k.volume.appended) w),
+      )
+
+      pub pointed_lost : (halted : Option Fault) (later : Parts) → later ≡ record pointed { halted = halted } → (y' : SharedLog D d) (fault : Fault) → IsGroupLost fault (data_of d y) (data_of d y')
+          → PartlyPointed (standing d) (log_standing d) n (record x { volume = later; points = x.points + 1 }) y'
+      pointed_lost halted later is y' fault w = record {
+        told_now = length n.list;
+        durable_now = length n.list;
+        points_now = n.points ++ length n.list ∷ [];
+        volume = halted_stands d.tells n.base n.list (length n.list) (length n.list) (n.points ++ length n.list ∷ []) n.known (x.points + 1) x.broken_off pointed stands halted later is;
+        log = lost_point logs_of d.tells d.tells_crashes (ring_of n.base) (data_of d y) (data_of d y') n.list (length n.list) (length n.list) (length n.points) n.stable log runs fault (length (n.points ++ length n.list ∷ [])) w;
+        told_grows = let a = k.volume.told_within in let b = k.volume.taken_within in omega (arith, a, b);
+        durable_grows = let b = k.volume.taken_within in omega (arith, b, durable_taken);
+        told_within = omega arith;
+        durable_within = omega arith;
+        points_grow = (length n.list ∷ [], refl);
+      }
+        where
+          durable_taken : n.durable ≡ n.taken
+          durable_taken = (k.log.runs runs).taken_all
+
+-- ---- all entries are acknowledged
+
+module _ {D : Type 0} (d : Ghosts D) (x : SharedVolume D d) (y : SharedLog D d) (x' : SharedVolume D d) (y' : SharedLog D d) where
+  pub may_tell : AreTogether (standing d) (log_standing d) x y → ((n : Seen) → AreOf (standing d) (log_standing d) n x y → Written (standing d) (log_standing d) n x' y') → (all : ℕ) → all ≡ x'.volume.appended → (x'.volume.told ≤ all) × (all ≤ x'.volume.taken)
+  may_tell (n, k) write all is =
+      let s = (write n k).0 in
+      let told = s.told_is in
+      let taken = s.taken_is in
+      let appended = s.appended in
+      let within = s.told_within in (omega (arith, is, told, appended, within), omega (arith, is, taken, appended))
+
+  pub told_all : (n : Seen) → Written (standing d) (log_standing d) n x' y' → (all : ℕ) → all ≡ x'.volume.appended → (new : Parts)
+      → new ≡ record x'.volume { view = new.view; dirty = new.dirty; told = all; map = blocks_settled all x'.volume.map; freed = still_freed all x'.volume.freed }
+      → (d.tells → (q : ℕ) → is_freed x'.volume.freed q ≡ false → page_of new.view q ≡ page_of x'.volume.view q)
+      → Committed (standing d) (log_standing d) n (record x' { volume = new }) y'
+  told_all n w all is new e shows = (
+    subst (λ (m : ℕ). IsShared d.tells n.base n.list (length n.list) m n.points n.known x'.points x'.broken_off new) all_is
+        (told_stands d.tells n.base n.list (length n.list) n.told n.points n.known x'.points x'.broken_off x'.volume w.0 all new (omega (arith, all_is)) e shows),
+    w.1,
+  )
+    where
+      all_is : all ≡ length n.list
+      all_is = is ∙ w.0.appended
+
+-- ---- a SYNCPT may be written
+
+module _ {D : Type 0} (d : Ghosts D) (x : SharedVolume D d) (y : SharedLog D d) (runs : y.side.halted ≡ None) (empty : x.volume.text.bytes ≡ []) (told : x.volume.told ≡ x.volume.appended) (room : x.volume.text.place + 72 ≤ 4080 * 2 ^ 32) where
+  -- the log's text ends where the volume's begins, and the syncpoints lie within
+  pub record Meets : Type 0 where
+    pub place : position_of y.side.last ≡ x.volume.text.place
+    pub durable : y.side.durable ≤ x.volume.appended
+    pub points : 36 * x.points ≤ x.volume.text.place
+    pub log_points : y.points ≡ x.points
+
+  pub meets : AreTogether (standing d) (log_standing d) x y → Meets
+  meets (n, k) =
+      let s = k.volume in
+      let told_is = s.told_is in
+      let appended = s.appended in
+      let told_within = s.told_within in
+      let taken_within = s.taken_within in
+      let taken_is = s.taken_is in
+      let both = idle d x y runs (omega (arith, told, told_is, appended, told_within, taken_within, taken_is)) n k in
+      let r = both.1.runs runs in
+      let end = ends (ring_of n.base) n.list n.taken (length n.points) x.volume.text s.text s.taken_within in
+      let none = ap (λ (b : List ℕ). length b) empty in
+      let points_are = s.points_are in
+      let count = both.1.count in
+      let place = r.place in
+      let stable = both.1.stable in
+      let stable_all = r.stable_all in
+      record {
+        place = omega (arith, place, end, none);
+        durable = omega (arith, count, appended);
+        points = omega (arith, end, none, points_are);
+        log_points = omega (arith, stable, stable_all, points_are);
+      }

@@ -1,0 +1,18 @@
+use Rattle.std.proofs.Common.{refl}
+use Rattle.jfs_shared.proofs.Called.{unanswered, call_is, lacked_is}
+use Rattle.jfs_shared.proofs.call.call.Goals as goal
+
+pub call_without_log-requires-clause-size : goal.call_without_log-requires-clause-size
+call_without_log-requires-clause-size g c = c.requires.stands.6.size
+
+pub returns-then-appended-ge-LAST_ENTRY-clause-list : goal.returns-then-appended-ge-LAST_ENTRY-clause-list
+returns-then-appended-ge-LAST_ENTRY-clause-list g c base list taken told points known s = s
+
+pub returns-then-appended-ge-LAST_ENTRY-clause-answered : goal.returns-then-appended-ge-LAST_ENTRY-clause-answered
+returns-then-appended-ge-LAST_ENTRY-clause-answered g c = unanswered c.args.client c.args.line c.args.request.now c.args.shared.now.volume
+
+pub returns-in-NoMemory-clause-list : goal.returns-in-NoMemory-clause-list
+returns-in-NoMemory-clause-list g c = lacked_is g.D.Disk c.args.shared.now c.args.client c.args.line c.args.request.now c.args.now c.call_without_log.new.volume _ refl c.in-NoMemory.ensures.answered c.in-NoMemory.ensures.does
+
+pub returns-in_default-clause-list : goal.returns-in_default-clause-list
+returns-in_default-clause-list g c = call_is g.D.Disk c.args.shared.now c.args.client c.args.line c.args.request.now c.args.now c.call_without_log.new.volume c.call_without_log.result c.in_default.not-NoMemory c.call_without_log.ensures.answered c.call_without_log.ensures.does

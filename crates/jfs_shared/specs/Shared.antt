@@ -1,0 +1,101 @@
+-- What a mounted volume stands for, as the value that the volume turn guards.
+use Rattle.std.specs.Prelude.{◌≡◌, ◌≤◌, ℕ, suc, List, length, map, take, drop, Option, Some, None}
+use Rattle.jfs_disk.specs.Image.{page_of}
+use Rattle.jfs_disk.specs.declared.disk.Disk.{Ghosts}
+use Rattle.jfs_super.specs.Super.{super_of}
+use Rattle.jfs_super.specs.declared.fields.Super.{Super}
+use Rattle.jfs_plain.specs.declared.call.Entry.{Entry}
+use Rattle.jfs_logpages.specs.Records.{log_text}
+use Rattle.jfs_records.specs.Records.{Noted}
+use Rattle.jfs_records.specs.Entries.{log_records}
+use Rattle.jfs_turns.specs.Lists.{Base}
+use Rattle.jfs_turns.specs.Standing.{Standing}
+use Rattle.jfs_groups.specs.Text.{items_from, end_of}
+use Rattle.jfs_groups.specs.Log.{standing as of_log}
+use Rattle.jfs_groups.specs.declared.log.SharedLog.{SharedLog}
+use Rattle.jfs_legal.specs.served.specs.halves.specs.Parts.{Parts, Text}
+use Rattle.jfs_legal.specs.served.specs.shown.specs.meaning.specs.Image.{IsConsistentImage}
+use Rattle.jfs_legal.specs.served.specs.shown.specs.meaning.specs.Image as meaning
+use Rattle.jfs_legal.specs.served.specs.Legal.{Timed}
+use Rattle.jfs_legal.specs.served.specs.Laws.{HoldsImage}
+use Rattle.jfs_legal.specs.Until.{AreLegal, GoOn}
+use Rattle.jfs_shared.specs.Base.{ring_of, image_of}
+use Rattle.jfs_shared.specs.declared.recorded.Recorded.{Recorded}
+use Rattle.jfs_shared.specs.declared.shared.SharedVolume.{SharedVolume}
+
+-- ---- the entries
+
+-- what they have in the log
+abbrev pub logs_of : Recorded → Option (List Noted)
+logs_of e = e.noted
+
+-- as the volume has them
+abbrev pub entries_in : List Recorded → List Entry
+entries_in list = map (λ (e : Recorded). e.entry) list
+
+-- with their moments
+abbrev pub timed : Recorded → Timed
+timed e = record { entry = e.entry; now = e.now }
+
+abbrev pub timed_in : List Recorded → List Timed
+timed_in list = map timed list
+
+-- ---- the text that waits
+
+-- It has the records of the entries that no group has taken, to stand behind the text of those that groups have taken and of so many syncpoints.
+pub record HasText (ring : ℕ) (list : List Recorded) (taken points : ℕ) (text : Text) : Type 0 where
+  pub ring_is : text.ring ≡ ring
+  pub place : text.place ≡ end_of logs_of ring (take taken list) points
+  pub bytes : text.bytes ≡ log_text (log_records ring (end_of logs_of ring (take taken list) points) (items_from logs_of taken (drop taken list)))
+  pub last : text.last ≡ length list
+
+-- ---- the replies
+
+-- They are a legal history that goes on; or it broke off behind so many entries, and these are legal.
+abbrev pub GoesOn : Option ℕ → (ℕ → ℕ) → ℕ → Parts → List Timed → Parts → Type 0
+GoesOn None area log_pages start es p = GoOn area log_pages start es p
+GoesOn (Some n) area log_pages start es p = (n ≤ length es) × AreLegal area log_pages start (take n es)
+
+-- it breaks off once, behind all entries so far
+abbrev pub broken_by : ℕ → Option ℕ → Option ℕ
+broken_by n None = Some n
+broken_by n (Some m) = Some m
+
+-- so from a volume that holds the tree of an image, and hasn't halted
+pub record IsServed (s : Super) (page : ℕ → List ℕ) (broken_off : Option ℕ) (list : List Recorded) (p : Parts) : Type 0 where
+  pub start : Parts
+  pub holds : HoldsImage s page start
+  pub runs : start.halted ≡ None
+  pub goes_on : GoesOn broken_off (meaning.volume_of s page).area s.logpxd.len start (timed_in list) p
+
+-- where the image is consistent, by the superblock on its page 8
+abbrev pub IfConsistent : Base → (Super → (ℕ → List ℕ) → Type 0) → Type 0
+IfConsistent base fact = IsConsistentImage (super_of (page_of (image_of base) 8)) (page_of (image_of base)) → fact (super_of (page_of (image_of base) 8)) (page_of (image_of base))
+
+-- ---- all of it
+
+-- The volume has the list's entries. Groups have taken so many of them, and so many are acknowledged. It has made so many syncpoints since the mount, which has one of its own, and knows so many to be stable. Of a disk that tells its contents, its replies are legal.
+pub record IsShared (tells : Type 0) (base : Base) (list : List Recorded) (taken told : ℕ) (points : List ℕ) (known : ℕ) (made : ℕ) (broken_off : Option ℕ) (p : Parts) : Type 0 where
+  pub entries : p.entries ≡ entries_in list
+  pub appended : p.appended ≡ length list
+  pub taken_is : p.taken ≡ taken
+  pub told_is : p.told ≡ told
+  pub points_are : made ≡ length points
+  pub points_is : p.points ≡ suc (length points)
+  pub known_is : p.known ≡ suc known
+  pub told_within : told ≤ taken
+  pub taken_within : taken ≤ length list
+  pub text : HasText (ring_of base) list taken (length points) p.text
+  pub size : length p.map.states ≤ p.blocks
+  pub served : tells → IfConsistent base (λ s page. IsServed s page broken_off list p)
+
+abbrev pub standing : {D : Type 0} (d : Ghosts D) → Standing (SharedVolume D d) Recorded
+standing d v base list taken told points known = IsShared d.tells base list taken told points known v.points v.broken_off v.volume
+
+-- and its log
+abbrev pub log_standing : {D : Type 0} (d : Ghosts D) → Standing (SharedLog D d) Recorded
+log_standing d = of_log d logs_of ring_of
+
+-- it stands for something
+abbrev pub Stands : {D : Type 0} (d : Ghosts D) → SharedVolume D d → Type 0
+Stands d v = (base : Base) × (list : List Recorded) × (taken : ℕ) × (told : ℕ) × (points : List ℕ) × (known : ℕ) × standing d v base list taken told points known

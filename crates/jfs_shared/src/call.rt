@@ -1,0 +1,45 @@
+//! A call of one of many clients.
+
+ghost use Rattle.std.specs.Prelude.{◌≡◌};
+ghost use Rattle.jfs_plain.specs.Limits.{FitsRequest};
+ghost use Rattle.jfs_call.specs.Answer.{IsAnswered};
+ghost use Rattle.jfs_shared.specs.Shared.{Stands, standing};
+ghost use Rattle.jfs_shared.specs.Calls.{CallIs};
+
+use crate::shared::SharedVolume;
+use jfs_bits::Moment;
+use jfs_call::{Outcome, call_without_log};
+use jfs_disk::Disk;
+use jfs_plain::Request;
+use std::alloc::Global;
+
+/// The number of the last entry that a volume can have.
+const LAST_ENTRY: u64 = 4_294_967_295;
+
+/// A call of a client, by its line, at this moment. Where it is replied its entry joins the list; `NeedsLog` tells that it is to be called again after a commit or a syncpoint. Behind a call for which memory ran out
+/// nothing more is said of the tree.
+pub fn call<D: Disk>(
+    alloc: Global,
+    shared: &mut SharedVolume<D>,
+    client: u32,
+    line: u32,
+    request: &Request,
+    now: Moment,
+) -> Outcome
+    requires fits { FitsRequest request.now }
+    requires stands { Stands D.Disk shared.old }
+    ensures list { CallIs (standing D.Disk) client line request.now now shared.old shared.new result }
+    ensures answered { IsAnswered client line request.now shared.old.volume shared.new.volume result }
+    ensures points { shared.new.points ≡ shared.old.points }
+{
+    if shared.volume.appended() >= LAST_ENTRY {
+        return Outcome::NoMemory;
+    }
+    match call_without_log(alloc, &mut shared.volume, client, line, request, now) {
+        Outcome::NoMemory => {
+            shared.break_off();
+            Outcome::NoMemory
+        }
+        outcome => outcome,
+    }
+}

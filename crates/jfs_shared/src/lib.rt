@@ -1,0 +1,22 @@
+//! A mounted volume as the value that the volume turn guards: what it stands for, and its calls, by whichever client.
+#![tactic(auto)]
+
+mod call;
+mod collected;
+mod committing;
+mod law;
+mod point_group;
+mod pointing;
+mod recorded;
+mod settling;
+mod shared;
+mod starting;
+
+pub use call::call;
+pub use committing::commit_with;
+pub use law::values_together_may_commit;
+pub use point_group::PointGroup;
+pub use pointing::{has_room_for_point, point_with};
+pub use recorded::Recorded;
+pub use shared::SharedVolume;
+pub use starting::started;
