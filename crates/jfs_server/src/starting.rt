@@ -1,0 +1,46 @@
+//! A server begins.
+ghost use Rattle.std.specs.Prelude.{◌≡◌, ◌<◌, ◌≤◌, IfOk, IfErr, length};
+ghost use Rattle.jfs_turns.specs.Passes.{ArePasses, AreNew};
+ghost use Rattle.jfs_server.specs.Server.{IsMountedAt};
+
+use crate::server::{Pass, Server};
+use jfs_disk::Disk;
+use jfs_legal::unmount::Mounted;
+use jfs_shared::{PointGroup, SharedVolume, started};
+use jfs_groups::SharedLog;
+use jfs_turns::{Based, Turns};
+use std::alloc::Global;
+
+impl<D: Disk> Server<D> {
+    /// A server of a volume that was just mounted, and a pass for each client, the k-th for client k. It is refused for memory alone, and then gives the volume back as it was.
+    pub fn start<B: Based>(
+        alloc: Global,
+        m: Mounted<D>,
+        clients: u32,
+    ) -> Result<(Server<D>, Vec<Pass<D>>), Mounted<D>>
+        requires few { (0 < clients) × (clients ≤ 16) }
+        requires mounted { IsMountedAt D.Disk B.base m }
+        ensures ok { IfOk result (λ r. ArePasses r.0.turns.table.shared.table_id clients r.1.items × AreNew B.base r.1.items × (length r.1.items ≡ clients)) }
+        ensures err { IfErr result (λ back. back ≡ m) }
+    {
+        let Ok(point) = PointGroup::new(alloc) else {
+            return Err(m);
+        };
+        let (volume, log) = started(m, point);
+        match Turns::new::<B>(alloc, volume, log, clients) {
+            Ok((turns, passes)) => Ok((Server { turns, alloc }, passes)),
+            Err((volume, log)) => Err(mounted_of(volume, log)),
+        }
+    }
+}
+
+/// Both halves of a mounted volume.
+pub(crate) fn mounted_of<D: Disk>(volume: SharedVolume<D>, log: SharedLog<D>) -> Mounted<D>
+    ensures { (result.volume ≡ volume.volume) × (result.log ≡ log.side) }
+{
+    let SharedLog { side, points: _ } = log;
+    Mounted {
+        volume: volume.into_volume(),
+        log: side,
+    }
+}
