@@ -17,10 +17,10 @@ use Rattle.jfs_serving.specs.Held.{IsJoined, with_entry}
 use Rattle.jfs_serving.specs.declared.serves.Given.{Given}
 use Rattle.jfs_serving.specs.declared.serves.Given.TheVariants.{Replied}
 
-module _ {E : Type 0} where
-  prefix_trans : (xs ys zs : List ℕ) → IsPrefix xs ys → IsPrefix ys zs → IsPrefix xs zs
-  prefix_trans xs ys zs a b = (a.0 ++ b.0, sym (append_assoc xs a.0 b.0) ∙ ap (λ (l : List ℕ). l ++ b.0) a.1 ∙ b.1)
+prefix_trans : (xs ys zs : List ℕ) → IsPrefix xs ys → IsPrefix ys zs → IsPrefix xs zs
+prefix_trans xs ys zs a b = (a.0 ++ b.0, sym (append_assoc xs a.0 b.0) ∙ ap (λ (l : List ℕ). l ++ b.0) a.1 ∙ b.1)
 
+module _ {E : Type 0} where
   pub keeps_on : (u v w : View E) → Keeps u v → Keeps v w → Keeps u w
   keeps_on u v w a b = record {
     number = b.number ∙ a.number;
@@ -40,6 +40,9 @@ module _ {E : Type 0} where
 
   pub keeps_with_both : (u w : View E) (e : E) → w ≡ record (with_entry u e) { volume = false; appends = false; log = false } → Keeps u w
   keeps_with_both u w e is = subst (λ z. Keeps u z) (sym is) (record { number = refl; base = refl; passes = (refl, refl, refl); points = ([], append-nil u.points); durable = omega arith; stable = omega arith })
+
+  pub same_goes : (client : E → ℕ) (u : View E) → GoesOn client u u
+  same_goes client u = record { number = refl; base = refl; passes = (refl, refl, refl); list = ([], append-nil u.list, tt); points = ([], append-nil u.points); durable = omega arith; stable = omega arith }
 
   -- turns that are given
   pub given_volume : (client : E → ℕ) (u w : View E) → w ≡ record u { volume = false; appends = false } → GoesOn client u w

@@ -11,7 +11,7 @@ use Rattle.jfs_serving.specs.Held.{Knows, seen_of}
 use Rattle.jfs_serving.specs.Room.{Seen, AreOf, HasRoom}
 use Rattle.jfs_serving.proofs.Numbers.{raised_max, raised_thrice, front_is_short}
 
-module _ {V L E : Type 0} where
+module _ {E : Type 0} where
   -- the seats of both halves once all is marked
   abbrev pub marked_main : View E → List ℕ → ℕ → ℕ → View E
   marked_main u ps k n =
@@ -26,10 +26,6 @@ module _ {V L E : Type 0} where
 
   abbrev pub marked : View E → List ℕ → ℕ → ℕ → View E
   marked u ps k n = rejoined (marked_main u ps k n) (marked_aside u ps k)
-
-  -- whoever raises the durable count holds both turns as before
-  pub raised_held : (n : ℕ) (a m m' : Seated V L E) → raised n m m' → AreBoth a m × IsBothLog m → AreBoth a m' × IsBothLog m'
-  raised_held n a m m' r h = subst (λ z. AreBoth a z × IsBothLog z) (sym r) h
 
 module _ {V L E : Type 0} (of_volume : Standing V E) (of_log : Standing L E) (count : V → ℕ) where
   -- what a commit or a syncpoint makes of both, by what both halves know
@@ -116,17 +112,16 @@ module _ {V L E : Type 0} (of_volume : Standing V E) (of_log : Standing L E) (co
       room_of_same of_volume of_log count (seen_of (rejoined (without (took_all u)) (aside (took_all u))) 0 0) (seen_of u 0 0) ps x y refl refl refl refl refl
       (subst {A = View E × View E} (λ z. HasRoom of_volume of_log count (seen_of (rejoined z.0 z.1) 0 0) ps x y) (λ i. (main i, half i)) h)
 
-module _ {V L E : Type 0} where
-  -- the seats once all is marked, step by step
-  pub main_is : (u m a : View E) (s s' : Seated V L E) (ps : List ℕ) (k n : ℕ) → m ≡ without (took_all u) → a ≡ aside (took_all u) → s.0 ≡ without (got_points ps k (rejoined m a)) → raised n s s' → s'.0 ≡ marked_main u ps k n
-  main_is u m a s s' ps k n main half points up =
-      ap (λ z. z.0) up
-      ∙ ap (λ (v : View E). record v { durable = max v.durable n; log_durable = max v.log_durable n }) (points ∙ (λ i. without (got_points ps k (rejoined (main i) (half i)))))
+-- the seats once all is marked, step by step
+pub main_is : {V L E : Type 0} (u m a : View E) (s s' : Seated V L E) (ps : List ℕ) (k n : ℕ) → m ≡ without (took_all u) → a ≡ aside (took_all u) → s.0 ≡ without (got_points ps k (rejoined m a)) → raised n s s' → s'.0 ≡ marked_main u ps k n
+main_is u m a s s' ps k n main half points up =
+    ap (λ z. z.0) up
+    ∙ ap (λ (v : View E). record v { durable = max v.durable n; log_durable = max v.log_durable n }) (points ∙ (λ i. without (got_points ps k (rejoined (main i) (half i)))))
 
-  pub aside_is : (u m a half' : View E) (ps : List ℕ) (k : ℕ) → m ≡ without (took_all u) → a ≡ aside (took_all u) → half' ≡ aside (got_points ps k (rejoined m a)) → half' ≡ marked_aside u ps k
-  aside_is u m a half' ps k main half points = points ∙ (λ i. aside (got_points ps k (rejoined (main i) (half i))))
+pub aside_is : {E : Type 0} (u m a half' : View E) (ps : List ℕ) (k : ℕ) → m ≡ without (took_all u) → a ≡ aside (took_all u) → half' ≡ aside (got_points ps k (rejoined m a)) → half' ≡ marked_aside u ps k
+aside_is u m a half' ps k main half points = points ∙ (λ i. aside (got_points ps k (rejoined (main i) (half i))))
 
-  -- the count may be raised up to the length of the list
-  pub may_raise : (u m a v : View E) (ps : List ℕ) (k n : ℕ) → m ≡ without (took_all u) → a ≡ aside (took_all u) → v ≡ without (got_points ps k (rejoined m a)) → n ≤ length u.list → (n ≤ length v.log_list) × (n ≤ v.taken)
-  may_raise u m a v ps k n main half points small =
-      subst (λ (z : View E). (n ≤ length z.log_list) × (n ≤ z.taken)) (sym (points ∙ (λ i. without (got_points ps k (rejoined (main i) (half i)))))) (small, small)
+-- the count may be raised up to the length of the list
+pub may_raise : {E : Type 0} (u m a v : View E) (ps : List ℕ) (k n : ℕ) → m ≡ without (took_all u) → a ≡ aside (took_all u) → v ≡ without (got_points ps k (rejoined m a)) → n ≤ length u.list → (n ≤ length v.log_list) × (n ≤ v.taken)
+may_raise u m a v ps k n main half points small =
+    subst (λ (z : View E). (n ≤ length z.log_list) × (n ≤ z.taken)) (sym (points ∙ (λ i. without (got_points ps k (rejoined (main i) (half i)))))) (small, small)

@@ -43,10 +43,6 @@ module _ {V L E : Type 0} where
   abbrev pub IsSamePass : BothTurns V L E → BothTurns V L E → Type 0
   IsSamePass old new = (new.volume.client ≡ old.volume.client) × (new.log.client ≡ old.log.client) × (new.volume.calls_left ≡ old.volume.calls_left)
 
-  -- the seats and the log are as they were
-  abbrev pub LogStays : BothTurns V L E → BothTurns V L E → Type 0
-  LogStays old new = (new.log ≡ old.log) × (new.volume.seat ≡ old.volume.seat) × (new.volume.client ≡ old.volume.client) × (new.volume.calls_left ≡ old.volume.calls_left)
-
   module _ (of_volume : Standing V E) (of_log : Standing L E) where
     -- both values stand for what the halves know
     pub record BothStand (both : BothTurns V L E) : Type 0 where

@@ -5,7 +5,7 @@ ghost use Rattle.jfs_groups.specs.Commit.{GoesOn};
 ghost use Rattle.jfs_groups.specs.Log.{standing};
 ghost use Rattle.jfs_serving.specs.Calls.{asked};
 ghost use Rattle.jfs_serving.specs.Called.{Keeps, HasCalled, HasNoEntry};
-ghost use Rattle.jfs_serving.specs.Gave.{IsKnown, Ends};
+ghost use Rattle.jfs_serving.specs.Gave.{GaveIs, LeftIs, IsKnown, Ends};
 
 use crate::alone::ask_alone;
 use crate::serves::{Given, Serves};
@@ -46,13 +46,32 @@ pub fn call_by<
     ensures called { (HasCalled E.client V.entry V.moment V.stands (standing D.Disk E.logs E.ring) V.answers (λ y. y.side.halted) (asked pass.client line request.now now) result.0 result.1 pass.seat.me.0 result.2.seat.me.0 × (result.2.calls_left + 1 ≡ pass.calls_left))
         ⊎ (HasNoEntry E.client result.0 result.1 pass.seat.me.0 result.2.seat.me.0 × (result.2.calls_left ≡ pass.calls_left)) }
 {
+    let (given, pass) = ask_for(rt, alloc, turns, pass, line, request, now);
+    acknowledge(rt, turns, pass, given, gate)
+}
+
+/// Asks the volume, with both turns where it needs the log.
+fn ask_for<V: Serves<D, E>, D: Disk, E: HasRecords, R: Wait>(
+    rt: &R,
+    alloc: Global,
+    turns: &Turns<V, SharedLog<D>, E>,
+    pass: Pass<V, SharedLog<D>, E>,
+    line: u32,
+    request: &Request,
+    now: Moment,
+) -> (Given, Pass<V, SharedLog<D>, E>)
+    requires table { pass.seat.table_id ≡ turns.now.table.shared.table_id }
+    requires left { 0 < pass.calls_left }
+    requires fits { FitsRequest request.now }
+    ensures same { (result.1.seat.table_id ≡ pass.seat.table_id) × (result.1.client ≡ pass.client) }
+    ensures keeps { Keeps pass.seat.me.0 result.1.seat.me.0 }
+    ensures left { LeftIs result.0 pass.calls_left result.1.calls_left }
+    ensures gave { GaveIs E.client V.entry V.moment V.stands V.answers (asked pass.client line request.now now) pass.seat.me.0 result.1.seat.me.0 result.0 }
+{
     let (given, pass) = ask_alone(rt, alloc, turns, pass, line, request, now);
     match given {
-        Given::NeedsLog => {
-            let (given, pass) = ask_with_log(rt, alloc, turns, pass, line, request, now);
-            acknowledge(rt, turns, pass, given, gate)
-        }
-        given => acknowledge(rt, turns, pass, given, gate),
+        Given::NeedsLog => ask_with_log(rt, alloc, turns, pass, line, request, now),
+        given => (given, pass),
     }
 }
 
