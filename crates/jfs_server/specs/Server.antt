@@ -1,5 +1,5 @@
 -- What a server of many clients makes of a mounted volume.
-use Rattle.std.specs.Prelude.{◌≡◌, ℕ, suc, List, [], ◌∷◌, ◌++◌, length}
+use Rattle.std.specs.Prelude.{◌≡◌, ℕ, suc, List, [], length, Option}
 use mathlib.Core.Option.{some}
 use lib.ListN.{get_elem?}
 use Rattle.jfs_disk.specs.Image.{Image}
@@ -41,7 +41,7 @@ module _ {D : Type 0} (d : Ghosts D) where
   IsMountedAt base m = (s : Super) × (image : Image) × (base ≡ base_at s image) × IsJustMounted d.tells d.tells_crashes s image m.volume (log_parts d m.log)
 
   -- The volume and its log stood for one list, which the history is; the volume has handed it out. The list goes on that of each pass, with no entry of that pass's client.
-  pub record IsStopped (passes : List (Pass (SharedVolume D d) (SharedLog D d) Recorded)) (m : Mounted D d) (history : List Entry) : Type 0 where
+  pub record IsStopped (passes : List (Pass (SharedVolume D d) (SharedLog D d) Recorded)) (m : Mounted D d) (history : List Entry) (broken_off : Option ℕ) : Type 0 where
     pub end : End Recorded
     pub volume : SharedVolume D d
     pub log : SharedLog D d
@@ -51,5 +51,6 @@ module _ {D : Type 0} (d : Ghosts D) where
     pub history_is : history ≡ entries_in end.list
     pub volume_is : m.volume ≡ record volume.volume { entries = [] }
     pub log_is : m.log ≡ log.side
+    pub broken_off_is : broken_off ≡ volume.broken_off
     pub each : (i : ℕ) (p : Pass (SharedVolume D d) (SharedLog D d) Recorded) → get_elem? passes i ≡ some p → GoesOn client_of end p
     pub last : (i : ℕ) (p : Pass (SharedVolume D d) (SharedLog D d) Recorded) → get_elem? passes i ≡ some p → suc i ≡ length passes → IsOfLast client_of end p

@@ -7,3 +7,4 @@ mod stopping;
 mod volume;
 
 pub use server::{Pass, Server};
+pub use stopping::Stopped;

@@ -114,7 +114,7 @@ module _ {V L E : Type 0} (of_volume : Standing V E) (of_log : Standing L E) (co
 
 -- the seats once all is marked, step by step
 pub main_is : {V L E : Type 0} (u m a : View E) (s s' : Seated V L E) (ps : List ℕ) (k n : ℕ) → m ≡ without (took_all u) → a ≡ aside (took_all u) → s.0 ≡ without (got_points ps k (rejoined m a)) → raised n s s' → s'.0 ≡ marked_main u ps k n
-main_is u m a s s' ps k n main half points up =
+main_is {E = E} u m a s s' ps k n main half points up =
     ap (λ z. z.0) up
     ∙ ap (λ (v : View E). record v { durable = max v.durable n; log_durable = max v.log_durable n }) (points ∙ (λ i. without (got_points ps k (rejoined (main i) (half i)))))
 
@@ -123,5 +123,5 @@ aside_is u m a half' ps k main half points = points ∙ (λ i. aside (got_points
 
 -- the count may be raised up to the length of the list
 pub may_raise : {E : Type 0} (u m a v : View E) (ps : List ℕ) (k n : ℕ) → m ≡ without (took_all u) → a ≡ aside (took_all u) → v ≡ without (got_points ps k (rejoined m a)) → n ≤ length u.list → (n ≤ length v.log_list) × (n ≤ v.taken)
-may_raise u m a v ps k n main half points small =
+may_raise {E = E} u m a v ps k n main half points small =
     subst (λ (z : View E). (n ≤ length z.log_list) × (n ≤ z.taken)) (sym (points ∙ (λ i. without (got_points ps k (rejoined (main i) (half i)))))) (small, small)

@@ -5,7 +5,7 @@ use Rattle.jfs_serving.proofs.Ending.{known_of, ended}
 use Rattle.jfs_serving.proofs.called.call_by.Goals as goal
 
 pub acknowledge-requires-clause-known : goal.acknowledge-requires-clause-known
-acknowledge-requires-clause-known g c = known_of g.E.HasClient.client g.V.Serves.entry g.V.Serves.moment g.V.Stands.stands (standing g.D.Disk g.E.HasRecords.logs g.E.HasRecords.ring) g.V.Serves.answers (λ y. y.side.halted)
+acknowledge-requires-clause-known g c κs within = known_of g.E.HasClient.client g.V.Serves.entry g.V.Serves.moment g.V.Stands.stands (standing g.D.Disk g.E.HasRecords.logs g.E.HasRecords.ring) g.V.Serves.answers (λ y. y.side.halted)
     (asked c.args.pass.client c.args.line c.args.request.now c.args.now) c.ask_for-given.result.0 c.args.pass.seat.me.0 c.ask_for-given.result.1.seat.me.0 c.ask_for-given.ensures.gave
 
 pub returns-clause-keeps : goal.returns-clause-keeps

@@ -13,12 +13,12 @@ call_lent-requires-clause-stand g c =
     let client = g.E.HasClient.client in
     let log = c.take_log-turn in
     let both = c.add_volume-both in
-    let u = (whole both.result, both.result.log.seat.me.1) in
+    let u = whole both.result in
     let has = log.result.has.0.3 in
     record {
       volume = both.ensures.stands;
-      log = log_stands client (standing g.D.Disk g.E.HasRecords.logs g.E.HasRecords.ring) log.result.value both.result.log.value log.result.seat.me u log.ensures.stands both.ensures.same.0 both.ensures.learned has;
-      knows = knows_both client c.args.pass.seat.me log.result.seat.me u log.ensures.learned both.ensures.learned has;
+      log = log_stands client (standing g.D.Disk g.E.HasRecords.logs g.E.HasRecords.ring) log.result.value both.result.log.value log.result.seat.me (u, both.result.log.seat.me.1) log.ensures.stands both.ensures.same.0 both.ensures.learned has;
+      knows = knows_both client c.args.pass.seat.me log.result.seat.me (u, both.result.log.seat.me.1) log.ensures.learned both.ensures.learned has;
     }
 
 pub returns-in-Replied-clause-keeps : goal.returns-in-Replied-clause-keeps
@@ -27,9 +27,9 @@ returns-in-Replied-clause-keeps g c =
     let v = c.args.pass.seat.me in
     let m = c.take_log-turn.result.seat.me in
     let both = c.add_volume-both in
-    let u = (whole both.result, both.result.log.seat.me.1) in
+    let u = whole both.result in
     let lent = whole c.call_lent.new.both in
-    let goes = onwards client v.0 m.0 lent (learned_log client v m c.take_log-turn.ensures.learned) (onwards client m.0 u.0 lent (learned client m u both.ensures.learned) c.call_lent.ensures.goes_on) in
+    let goes = onwards client v.0 m.0 lent (learned_log client v m c.take_log-turn.ensures.learned) (onwards client m.0 u lent (learned client m (u, both.result.log.seat.me.1) both.ensures.learned) c.call_lent.ensures.goes_on) in
     let told = c.count_both.ensures.told in
     keeps_on v.0 lent c.give_both-pass.result.seat.me.0 (keeps_of client v.0 lent goes)
     (keeps_with_both lent c.give_both-pass.result.seat.me.0 told.0 (c.give_both-pass.ensures.told ∙ ap (λ z. record z { volume = false; appends = false; log = false }) told.2))
@@ -40,9 +40,9 @@ returns-in-Replied-clause-gave g c =
     let v = c.args.pass.seat.me in
     let m = c.take_log-turn.result.seat.me in
     let both = c.add_volume-both in
-    let u = (whole both.result, both.result.log.seat.me.1) in
+    let u = whole both.result in
     let lent = whole c.call_lent.new.both in
-    let goes = onwards client v.0 m.0 lent (learned_log client v m c.take_log-turn.ensures.learned) (onwards client m.0 u.0 lent (learned client m u both.ensures.learned) c.call_lent.ensures.goes_on) in
+    let goes = onwards client v.0 m.0 lent (learned_log client v m c.take_log-turn.ensures.learned) (onwards client m.0 u lent (learned client m (u, both.result.log.seat.me.1) both.ensures.learned) c.call_lent.ensures.goes_on) in
     let told = c.count_both.ensures.told in
     let asks = c.in-Replied.ensures.asks in
     let w = c.give_both-pass in
@@ -56,10 +56,10 @@ returns-in-NeedsLog-clause-keeps g c =
     let v = c.args.pass.seat.me in
     let m = c.take_log-turn.result.seat.me in
     let both = c.add_volume-both in
-    let u = (whole both.result, both.result.log.seat.me.1) in
+    let u = whole both.result in
     let lent = whole c.call_lent.new.both in
     let w = c.give_both.result.seat.me.0 in
-    keeps_of client v.0 w (onwards client v.0 m.0 w (learned_log client v m c.take_log-turn.ensures.learned) (onwards client m.0 u.0 w (learned client m u both.ensures.learned) (onwards client u.0 lent w c.call_lent.ensures.goes_on (given_both client lent w c.give_both.ensures.told))))
+    keeps_of client v.0 w (onwards client v.0 m.0 w (learned_log client v m c.take_log-turn.ensures.learned) (onwards client m.0 u w (learned client m (u, both.result.log.seat.me.1) both.ensures.learned) (onwards client u lent w c.call_lent.ensures.goes_on (given_both client lent w c.give_both.ensures.told))))
 
 pub returns-in-NeedsLog-clause-gave : goal.returns-in-NeedsLog-clause-gave
 returns-in-NeedsLog-clause-gave g c =
@@ -67,10 +67,10 @@ returns-in-NeedsLog-clause-gave g c =
     let v = c.args.pass.seat.me in
     let m = c.take_log-turn.result.seat.me in
     let both = c.add_volume-both in
-    let u = (whole both.result, both.result.log.seat.me.1) in
+    let u = whole both.result in
     let lent = whole c.call_lent.new.both in
     let w = c.give_both.result.seat.me.0 in
-    (onwards client v.0 m.0 w (learned_log client v m c.take_log-turn.ensures.learned) (onwards client m.0 u.0 w (learned client m u both.ensures.learned) (onwards client u.0 lent w c.call_lent.ensures.goes_on (given_both client lent w c.give_both.ensures.told)))).list
+    (onwards client v.0 m.0 w (learned_log client v m c.take_log-turn.ensures.learned) (onwards client m.0 u w (learned client m (u, both.result.log.seat.me.1) both.ensures.learned) (onwards client u lent w c.call_lent.ensures.goes_on (given_both client lent w c.give_both.ensures.told)))).list
 
 pub returns-in-NoMemory-clause-keeps : goal.returns-in-NoMemory-clause-keeps
 returns-in-NoMemory-clause-keeps g c =
@@ -78,10 +78,10 @@ returns-in-NoMemory-clause-keeps g c =
     let v = c.args.pass.seat.me in
     let m = c.take_log-turn.result.seat.me in
     let both = c.add_volume-both in
-    let u = (whole both.result, both.result.log.seat.me.1) in
+    let u = whole both.result in
     let lent = whole c.call_lent.new.both in
     let w = c.give_both-in-NoMemory.result.seat.me.0 in
-    keeps_of client v.0 w (onwards client v.0 m.0 w (learned_log client v m c.take_log-turn.ensures.learned) (onwards client m.0 u.0 w (learned client m u both.ensures.learned) (onwards client u.0 lent w c.call_lent.ensures.goes_on (given_both client lent w c.give_both-in-NoMemory.ensures.told))))
+    keeps_of client v.0 w (onwards client v.0 m.0 w (learned_log client v m c.take_log-turn.ensures.learned) (onwards client m.0 u w (learned client m (u, both.result.log.seat.me.1) both.ensures.learned) (onwards client u lent w c.call_lent.ensures.goes_on (given_both client lent w c.give_both-in-NoMemory.ensures.told))))
 
 pub returns-in-NoMemory-clause-gave : goal.returns-in-NoMemory-clause-gave
 returns-in-NoMemory-clause-gave g c =
@@ -89,7 +89,7 @@ returns-in-NoMemory-clause-gave g c =
     let v = c.args.pass.seat.me in
     let m = c.take_log-turn.result.seat.me in
     let both = c.add_volume-both in
-    let u = (whole both.result, both.result.log.seat.me.1) in
+    let u = whole both.result in
     let lent = whole c.call_lent.new.both in
     let w = c.give_both-in-NoMemory.result.seat.me.0 in
-    (onwards client v.0 m.0 w (learned_log client v m c.take_log-turn.ensures.learned) (onwards client m.0 u.0 w (learned client m u both.ensures.learned) (onwards client u.0 lent w c.call_lent.ensures.goes_on (given_both client lent w c.give_both-in-NoMemory.ensures.told)))).list
+    (onwards client v.0 m.0 w (learned_log client v m c.take_log-turn.ensures.learned) (onwards client m.0 u w (learned client m (u, both.result.log.seat.me.1) both.ensures.learned) (onwards client u lent w c.call_lent.ensures.goes_on (given_both client lent w c.give_both-in-NoMemory.ensures.told)))).list
