@@ -41,19 +41,13 @@ impl<D: Disk> Serves<D, Recorded> for SharedVolume<D> {
     }
 
     fn commit(&mut self, log: &mut SharedLog<D>) {
-        match commit_with(self, log) {
-            Ok(()) => {}
-            Err(_) => {}
-        }
+        let _ = commit_with(self, log);
     }
 
     fn point(&mut self, log: &mut SharedLog<D>) {
         if self.halted().is_some() || !has_room_for_point(self) {
             return self.commit(log);
         }
-        match point_with(self, log) {
-            Ok(()) => {}
-            Err(_) => {}
-        }
+        let _ = point_with(self, log);
     }
 }

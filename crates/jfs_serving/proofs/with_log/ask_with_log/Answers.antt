@@ -1,5 +1,6 @@
 use Rattle.std.proofs.Common.{ap, ◌∙◌, subst, false}
 use Rattle.jfs_turns.specs.Both.{whole}
+use Rattle.jfs_turns.specs.declared.view.View.{View}
 use Rattle.jfs_groups.specs.Log.{standing}
 use Rattle.jfs_groups.proofs.Views.{onwards, learned, learned_log}
 use Rattle.jfs_serving.specs.Calls.{asked}
@@ -32,7 +33,7 @@ returns-in-Replied-clause-keeps g c =
     let goes = onwards client v.0 m.0 lent (learned_log client v m c.take_log-turn.ensures.learned) (onwards client m.0 u lent (learned client m (u, both.result.log.seat.me.1) both.ensures.learned) c.call_lent.ensures.goes_on) in
     let told = c.count_both.ensures.told in
     keeps_on v.0 lent c.give_both-pass.result.seat.me.0 (keeps_of client v.0 lent goes)
-    (keeps_with_both lent c.give_both-pass.result.seat.me.0 told.0 (c.give_both-pass.ensures.told ∙ ap (λ z. record z { volume = false; appends = false; log = false }) told.2))
+    (keeps_with_both lent c.give_both-pass.result.seat.me.0 told.0 (c.give_both-pass.ensures.told ∙ ap (λ (z : View g.row.E.Denot). record z { volume = false; appends = false; log = false }) told.2))
 
 pub returns-in-Replied-clause-gave : goal.returns-in-Replied-clause-gave
 returns-in-Replied-clause-gave g c =
