@@ -19,6 +19,7 @@ use Rattle.jfs_shared.specs.Shared.{standing, log_standing, entries_in}
 use Rattle.jfs_shared.specs.Start.{IsJustMounted, base_at}
 use Rattle.jfs_shared.specs.declared.recorded.Recorded.{Recorded}
 use Rattle.jfs_shared.specs.declared.shared.SharedVolume.{SharedVolume}
+use Rattle.jfs_server.specs.declared.volume.ServedVolume.{ServedVolume}
 use Rattle.jfs_shared.specs.legal.specs.served.specs.volume_calls.specs.Together.{log_parts}
 use Rattle.jfs_shared.specs.legal.specs.served.specs.mounted.specs.declared.mounted.Mounted.{Mounted}
 use Rattle.jfs_server.specs.Answers.{Answers}
@@ -29,19 +30,19 @@ client_of e = e.entry.client
 
 module _ {D : Type 0} (d : Ghosts D) where
   -- the pass is of this server
-  abbrev pub IsOf : Server D d → Pass (SharedVolume D d) (SharedLog D d) Recorded → Type 0
+  abbrev pub IsOf : Server D d → Pass (ServedVolume D d) (SharedLog D d) Recorded → Type 0
   IsOf server pass = pass.seat.table_id ≡ server.turns.table.shared.table_id
 
   -- The call has its entry, and the volume gave its reply when it stood for all entries before it. Before and behind it stand entries of other clients alone.
   abbrev pub HasCalled : Asked → Reply → Ack → View Recorded → View Recorded → Type 0
-  HasCalled a reply ack v w = calls.HasCalled client_of (λ e. e.entry) (λ e. e.now) (standing d) (log_standing d) (λ asked old new given. Answers asked old.volume new.volume given) (λ y. y.side.halted) a reply ack v w
+  HasCalled a reply ack v w = calls.HasCalled client_of (λ e. e.entry) (λ e. e.now) (λ (v : ServedVolume D d). standing d v.shared) (log_standing d) (λ asked old new given. Answers asked old.shared.volume new.shared.volume given) (λ y. y.side.halted) a reply ack v w
 
   -- the volume was just mounted, from what the base says
   abbrev pub IsMountedAt : Base → Mounted D d → Type 0
   IsMountedAt base m = (s : Super) × (image : Image) × (base ≡ base_at s image) × IsJustMounted d.tells d.tells_crashes s image m.volume (log_parts d m.log)
 
   -- The volume and its log stood for one list, which the history is; the volume has handed it out. The list goes on that of each pass, with no entry of that pass's client.
-  pub record IsStopped (passes : List (Pass (SharedVolume D d) (SharedLog D d) Recorded)) (m : Mounted D d) (history : List Entry) (broken_off : Option ℕ) : Type 0 where
+  pub record IsStopped (passes : List (Pass (ServedVolume D d) (SharedLog D d) Recorded)) (m : Mounted D d) (history : List Entry) (broken_off : Option ℕ) : Type 0 where
     pub end : End Recorded
     pub volume : SharedVolume D d
     pub log : SharedLog D d
@@ -52,5 +53,5 @@ module _ {D : Type 0} (d : Ghosts D) where
     pub volume_is : m.volume ≡ record volume.volume { entries = [] }
     pub log_is : m.log ≡ log.side
     pub broken_off_is : broken_off ≡ volume.broken_off
-    pub each : (i : ℕ) (p : Pass (SharedVolume D d) (SharedLog D d) Recorded) → get_elem? passes i ≡ some p → GoesOn client_of end p
-    pub last : (i : ℕ) (p : Pass (SharedVolume D d) (SharedLog D d) Recorded) → get_elem? passes i ≡ some p → suc i ≡ length passes → IsOfLast client_of end p
+    pub each : (i : ℕ) (p : Pass (ServedVolume D d) (SharedLog D d) Recorded) → get_elem? passes i ≡ some p → GoesOn client_of end p
+    pub last : (i : ℕ) (p : Pass (ServedVolume D d) (SharedLog D d) Recorded) → get_elem? passes i ≡ some p → suc i ≡ length passes → IsOfLast client_of end p

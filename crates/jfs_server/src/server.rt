@@ -5,24 +5,25 @@ ghost use Rattle.jfs_serving.specs.Calls.{asked};
 ghost use Rattle.jfs_serving.specs.Called.{Keeps, HasNoEntry};
 ghost use Rattle.jfs_server.specs.Server.{IsOf, HasCalled, client_of};
 
+use crate::volume::ServedVolume;
 use jfs_bits::Moment;
 use jfs_disk::Disk;
 use jfs_groups::SharedLog;
 use jfs_io::Gate;
 use jfs_plain::{Ack, Reply, Request};
 use jfs_serving::call_by;
-use jfs_shared::{Recorded, SharedVolume};
+use jfs_shared::Recorded;
 use jfs_turns::Turns;
 use std::alloc::Global;
 use std::sync::Wait;
 use std::thread::Threads;
 
 /// A client's right to call, which knows all that the client was told of.
-pub type Pass<D> = jfs_turns::Pass<SharedVolume<D>, SharedLog<D>, Recorded>;
+pub type Pass<D> = jfs_turns::Pass<ServedVolume<D>, SharedLog<D>, Recorded>;
 
 /// One mounted volume and its log, behind their turns.
 pub struct Server<D: Disk> {
-    pub(crate) turns: Turns<SharedVolume<D>, SharedLog<D>, Recorded>,
+    pub(crate) turns: Turns<ServedVolume<D>, SharedLog<D>, Recorded>,
     pub(crate) alloc: Global,
 }
 

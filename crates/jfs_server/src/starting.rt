@@ -4,10 +4,11 @@ ghost use Rattle.jfs_turns.specs.Passes.{ArePasses, AreNew};
 ghost use Rattle.jfs_server.specs.Server.{IsMountedAt};
 
 use crate::server::{Pass, Server};
+use crate::volume::ServedVolume;
 use jfs_disk::Disk;
-use jfs_legal::unmount::Mounted;
-use jfs_shared::{PointGroup, SharedVolume, started};
 use jfs_groups::SharedLog;
+use jfs_legal::unmount::Mounted;
+use jfs_shared::{PointGroup, started};
 use jfs_turns::{Based, Turns};
 use std::alloc::Global;
 
@@ -26,7 +27,8 @@ impl<D: Disk> Server<D> {
         let Ok(point) = PointGroup::new(alloc) else {
             return Err(m);
         };
-        let (volume, log) = started(m, point);
+        let (shared, log) = started(m, point);
+        let volume = ServedVolume { shared };
         match Turns::new::<B>(alloc, volume, log, clients) {
             Ok((turns, passes)) => Ok((Server { turns, alloc }, passes)),
             Err((volume, log)) => Err(mounted_of(volume, log)),
@@ -35,12 +37,13 @@ impl<D: Disk> Server<D> {
 }
 
 /// Both halves of a mounted volume.
-pub(crate) fn mounted_of<D: Disk>(volume: SharedVolume<D>, log: SharedLog<D>) -> Mounted<D>
-    ensures { (result.volume ≡ volume.volume) × (result.log ≡ log.side) }
+pub(crate) fn mounted_of<D: Disk>(volume: ServedVolume<D>, log: SharedLog<D>) -> Mounted<D>
+    ensures { (result.volume ≡ volume.shared.volume) × (result.log ≡ log.side) }
 {
+    let ServedVolume { shared } = volume;
     let SharedLog { side, points: _ } = log;
     Mounted {
-        volume: volume.into_volume(),
+        volume: shared.into_volume(),
         log: side,
     }
 }

@@ -10,7 +10,6 @@ use jfs_legal::unmount::Mounted;
 use jfs_plain::Entry;
 
 /// What a server leaves.
-#[derive(Drop)]
 pub struct Stopped<D: Disk> {
     /// The volume and its log, to be unmounted or left.
     pub m: Mounted<D>,
@@ -29,7 +28,7 @@ impl<D: Disk> Server<D> {
     {
         let Server { turns, alloc: _ } = self;
         let (volume, log) = turns.close(passes);
-        let broken_off = volume.broken_off();
+        let broken_off = volume.shared.broken_off();
         let mut m = mounted_of(volume, log);
         let history = m.volume.take_entries();
         Stopped {

@@ -10,6 +10,7 @@ use std::thread::Threads;
 const TURNS: u32 = 20_000_000;
 
 /// Holds client 2 behind its entry until client 1 is about to write a group, and client 1 there until client 2 has its entry.
+#[derive(Drop)]
 pub struct Crossing {
     pub first: AtomicU64,
     pub second: AtomicU64,
@@ -56,6 +57,7 @@ impl Gate for Crossing {
 }
 
 /// Counts how often clients come to each place, and lets others go on at each.
+#[derive(Drop)]
 pub struct Counting {
     pub groups: AtomicU64,
     pub entries: AtomicU64,

@@ -5,7 +5,7 @@ use jfs_disk::Disk;
 use jfs_io::Gate;
 use jfs_plain::{Ack, Entry, Line};
 use jfs_served::unmount::leave;
-use jfs_server::{Pass, Server};
+use jfs_server::{Pass, Server, Stopped};
 use std::alloc::Global;
 use std::sync::Wait;
 use std::thread;
@@ -25,7 +25,7 @@ pub struct Left<D> {
     pub disk: D,
     pub history: Vec<Entry>,
     /// The entries that were told durable, by client.
-    pub told: Vec<u64>,
+    pub told: Vec<Vec<u64>>,
     pub failed: u64,
 }
 
@@ -62,13 +62,27 @@ pub fn serve_many<D: Disk + Drop + Send, G: Gate + Sync, R: Threads + Wait + Syn
     gate: &G,
 ) -> Option<Left<D>> {
     let count = scripts.len();
-    let (server, mut passes) = served(alloc, disk, count as u32)?;
-    let mut clients = Vec::with_capacity(alloc, count).ok()?;
     let mut scripts = scripts;
-    while let Some(lines) = scripts.pop() {
-        let told = Vec::with_capacity(alloc, lines.len()).ok()?;
+    let mut told = Vec::with_capacity(alloc, count).ok()?;
+    let mut lists = Vec::with_capacity(alloc, count).ok()?;
+    for lines in scripts.as_slice() {
+        lists.push_reserved(Vec::with_capacity(alloc, lines.len()).ok()?);
+    }
+    let mut clients = Vec::with_capacity(alloc, count).ok()?;
+    let Ok(mut back) = Vec::with_capacity(alloc, count) else {
+        clients.destroy_empty();
+        return None;
+    };
+    let Some((server, mut passes)) = served(alloc, disk, count as u32) else {
+        clients.destroy_empty();
+        back.destroy_empty();
+        return None;
+    };
+    while let Some(pass) = passes.pop() {
+        let lines = scripts.pop().unwrap_or(Vec::new(alloc));
+        let told = lists.pop().unwrap_or(Vec::new(alloc));
         clients.push_reserved(Client {
-            pass: passes.pop(),
+            pass: Some(pass),
             lines,
             told,
             failed: 0,
@@ -82,8 +96,6 @@ pub fn serve_many<D: Disk + Drop + Send, G: Gate + Sync, R: Threads + Wait + Syn
         count.max(1),
         &|_i, client: &mut Client<D>| work(rt, server_at, client, gate),
     );
-    let mut back = Vec::with_capacity(alloc, count).ok()?;
-    let mut told = Vec::new(alloc);
     let mut failed = 0;
     while let Some(client) = clients.pop() {
         let Client {
@@ -96,14 +108,18 @@ pub fn serve_many<D: Disk + Drop + Send, G: Gate + Sync, R: Threads + Wait + Syn
             Some(pass) => back.push_reserved(pass),
             None => unreachable!(),
         }
-        told.extend_from_slice(mine.as_slice()).ok()?;
+        told.push_reserved(mine);
         failed += some;
     }
     clients.destroy_empty();
-    let stopped = server.stop(back);
+    let Stopped {
+        m,
+        history,
+        broken_off: _,
+    } = server.stop(back);
     Some(Left {
-        disk: leave(stopped.m),
-        history: stopped.history,
+        disk: leave(m),
+        history,
         told,
         failed,
     })

@@ -73,7 +73,7 @@ fn two_clients_cross(rt: HostRuntime) {
     let left = serve_many(&rt, alloc, disk, texts, &gate).expect(&rt, "served");
     assert!(rt; gate.is_crossed(), "a client waited in vain");
     assert_eq!(rt; left.history.len(), 2);
-    assert_eq!(rt; left.told.len(), 1);
+    assert_eq!(rt; left.told[1].as_slice(), [1].as_slice());
     assert_eq!(rt; first_unlike(alloc, left.history.as_slice()), 0);
     let text = redone(alloc, left.disk, b"list /\n").expect(&rt, "redone");
     assert_eq!(rt; text.as_str(), "1 1.1 names 1 a -\n");
@@ -134,5 +134,6 @@ fn a_group_fails(rt: HostRuntime) {
             "client {client}"
         );
     }
-    assert!(rt; !left.told.is_empty());
+    let told: usize = left.told.iter().map(|told| told.len()).sum();
+    assert!(rt; told > 0);
 }

@@ -1,18 +1,18 @@
 -- What a call tells in the end.
-use Rattle.std.proofs.Common.{◌≡◌, ◌≤◌, ◌+◌, ◌⊎◌, inl, inr, ℕ, suc, Bool, List, [], ◌∷◌, ◌++◌, length, Option, append_assoc, refl, sym, ap, subst, ◌∙◌, arith}
+use Rattle.std.proofs.Common.{◌≡◌, ◌+◌, ◌⊎◌, inl, inr, ℕ, suc, List, [], ◌∷◌, ◌++◌, length, Option, append_assoc, sym, ap, subst, ◌∙◌, arith}
 use Rattle.std.proofs.lemmas.List.{length-append}
 use Rattle.jfs_bits.specs.declared.descriptor.Moment.{Moment}
 use Rattle.jfs_disk.specs.declared.disk.Fault.{Fault}
 use Rattle.jfs_plain.specs.declared.call.Ack.{Ack}
 use Rattle.jfs_plain.specs.declared.call.Entry.{Entry}
 use Rattle.jfs_plain.specs.declared.reply.Reply.{Reply}
-use Rattle.jfs_turns.specs.Lists.{Base, IsPrefix, Lacks, HasOwn}
+use Rattle.jfs_turns.specs.Lists.{Base, Lacks, HasOwn}
 use Rattle.jfs_turns.specs.Standing.{Standing}
 use Rattle.jfs_turns.specs.declared.view.View.{View}
 use Rattle.jfs_groups.specs.Commit.{GoesOn}
-use Rattle.jfs_serving.specs.Calls.{Asked, WaitsIf, IsEntryOf}
+use Rattle.jfs_serving.specs.Calls.{Asked, IsEntryOf}
 use Rattle.jfs_serving.specs.Called.{Keeps, IsAcked, IsAnsweredAt, HasCalled, HasNoEntry}
-use Rattle.jfs_serving.specs.Gave.{HasJoined, GaveIs, LeftIs, IsKnown, Ends}
+use Rattle.jfs_serving.specs.Gave.{GaveIs, LeftIs, IsKnown, Ends}
 use Rattle.jfs_serving.specs.declared.serves.Given.{Given}
 use Rattle.jfs_serving.specs.declared.serves.Given.TheVariants.{Replied, NeedsLog, NoMemory}
 

@@ -1,9 +1,9 @@
 -- What a pass knows once the volume was asked.
-use Rattle.std.proofs.Common.{◌≡◌, ◌≤◌, ◌+◌, ℕ, suc, Bool, List, [], ◌∷◌, ◌++◌, length, true, false, append_assoc, append-nil, refl, sym, ap, subst, ◌∙◌, arith}
+use Rattle.std.proofs.Common.{◌≡◌, ℕ, suc, Bool, List, [], ◌∷◌, ◌++◌, length, false, append_assoc, append-nil, refl, sym, ap, subst, ◌∙◌, arith}
 use Rattle.jfs_bits.specs.declared.descriptor.Moment.{Moment}
 use Rattle.jfs_plain.specs.declared.call.Entry.{Entry}
 use Rattle.jfs_plain.specs.declared.reply.Reply.{Reply}
-use Rattle.jfs_turns.specs.Lists.{Base, IsPrefix, Lacks, HasOwn}
+use Rattle.jfs_turns.specs.Lists.{Base, IsPrefix}
 use Rattle.jfs_turns.specs.Standing.{Standing, VolumeStands}
 use Rattle.jfs_turns.specs.Told.{saw_durable}
 use Rattle.jfs_turns.specs.Views.{Seated}
@@ -70,8 +70,7 @@ module _ {V E : Type 0} (client : E → ℕ) (entry : E → Entry) (moment : E �
   pub joined : (a : Asked) (reply : Reply) (number : ℕ) (waits : Bool) (u : View E) (x y : V) (e : E) → VolumeStands of_volume x u → IsEntryOf client entry moment a reply e → Joins of_volume e number x y → answers a x y (Replied reply number waits)
       → IsJoined client entry moment of_volume answers a reply u y e × (number ≡ suc (length u.list))
   joined a reply number waits u x y e s is joins answered =
-      let new = joins u.base u.list u.taken s.0 u.points s.1 s.2 in
-      (
+      let new = joins u.base u.list u.taken s.0 u.points s.1 s.2 in (
         record {
           is = is;
           stands = (s.0, s.1, new.0, s.3, s.4);

@@ -1,5 +1,5 @@
 -- What whoever has both turns knows.
-use Rattle.std.proofs.Common.{◌≡◌, ◌≤◌, ℕ, List, length, true, sym, ap, subst, ◌∙◌, arith}
+use Rattle.std.proofs.Common.{◌≡◌, ℕ, List, length, true, sym, ap, subst, ◌∙◌, arith}
 use Rattle.jfs_turns.specs.Lists.{IsPrefix}
 use Rattle.jfs_turns.specs.Standing.{Standing, LogStands}
 use Rattle.jfs_turns.specs.Told.{Learned, LearnedLog}
@@ -34,4 +34,4 @@ module _ {V L E : Type 0} (client : E → ℕ) where
       let e = then.0 in
       subst (λ x. LogStands of_log x u.0) (sym same)
       (stands_at of_log y u.0 m.0.base m.0.log_list m.0.taken m.0.log_durable m.0.log_points m.0.log_stable s
-       (ap (λ (x : View E). x.base) e) (ap (λ (x : View E). x.log_list) e) (then.6 has).0 (ap (λ (x : View E). x.log_durable) e) (ap (λ (x : View E). x.log_points) e) (ap (λ (x : View E). x.log_stable) e))
+      (ap (λ (x : View E). x.base) e) (ap (λ (x : View E). x.log_list) e) (then.6 has).0 (ap (λ (x : View E). x.log_durable) e) (ap (λ (x : View E). x.log_points) e) (ap (λ (x : View E). x.log_stable) e))

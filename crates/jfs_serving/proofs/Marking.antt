@@ -1,12 +1,12 @@
 -- What the marks of whoever has both turns leave.
-use Rattle.std.proofs.Common.{◌≡◌, ◌≤◌, ℕ, max, List, [], length, true, false, append-nil, refl, sym, ap, subst, ◌∙◌, arith}
-use Rattle.jfs_turns.specs.Lists.{Base, IsPrefix, HasOwn}
+use Rattle.std.proofs.Common.{◌≡◌, ◌≤◌, ℕ, max, List, [], length, append-nil, refl, sym, ap, subst, ◌∙◌, arith}
+use Rattle.jfs_turns.specs.Lists.{Base, IsPrefix}
 use Rattle.jfs_turns.specs.Standing.{Standing, VolumeStands, LogStands}
 use Rattle.jfs_turns.specs.Told.{raised}
-use Rattle.jfs_turns.specs.Views.{Seated, AreBoth, IsBothLog, aside, without, rejoined, took_all, got_points}
+use Rattle.jfs_turns.specs.Views.{Seated, aside, without, rejoined, took_all, got_points}
 use Rattle.jfs_turns.specs.declared.view.View.{View}
 use Rattle.jfs_groups.specs.Commit.{GoesOn}
-use Rattle.jfs_groups.proofs.Leading.{max_is, stands_at}
+use Rattle.jfs_groups.proofs.Leading.{max_is}
 use Rattle.jfs_serving.specs.Held.{Knows, seen_of}
 use Rattle.jfs_serving.specs.Room.{Seen, AreOf, HasRoom}
 use Rattle.jfs_serving.proofs.Numbers.{raised_max, raised_thrice, front_is_short}

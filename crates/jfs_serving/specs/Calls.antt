@@ -1,5 +1,5 @@
 -- What a call of a client makes of the list that a volume stands for.
-use Rattle.std.specs.Prelude.{◌≡◌, ◌≤◌, ℕ, suc, Bool, true, false, List, [], ◌∷◌, ◌++◌, length}
+use Rattle.std.specs.Prelude.{◌≡◌, ℕ, suc, Bool, true, false, List, [], ◌∷◌, ◌++◌, length}
 use Rattle.jfs_bits.specs.declared.descriptor.Moment.{Moment}
 use Rattle.jfs_plain.specs.CallStep.{writes}
 use Rattle.jfs_plain.specs.declared.call.Call.{Call}

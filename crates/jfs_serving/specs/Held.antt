@@ -1,16 +1,14 @@
 -- Both turns in one hand, between the calls of their holder.
-use Rattle.std.specs.Prelude.{◌≡◌, ◌≤◌, ℕ, suc, List, [], ◌∷◌, ◌++◌, length, Option}
+use Rattle.std.specs.Prelude.{◌≡◌, ◌≤◌, ℕ, suc, List, [], ◌∷◌, ◌++◌, length}
 use Rattle.atomic_table.specs.Seated.{TableId}
 use Rattle.jfs_bits.specs.declared.descriptor.Moment.{Moment}
-use Rattle.jfs_disk.specs.declared.disk.Fault.{Fault}
 use Rattle.jfs_plain.specs.declared.call.Entry.{Entry}
 use Rattle.jfs_plain.specs.declared.reply.Reply.{Reply}
 use Rattle.jfs_turns.specs.Both.{AreOf as HalvesAreOf, AreHeld, whole}
-use Rattle.jfs_turns.specs.Lists.{Base, IsPrefix}
+use Rattle.jfs_turns.specs.Lists.{IsPrefix}
 use Rattle.jfs_turns.specs.Standing.{Standing, VolumeStands, LogStands}
 use Rattle.jfs_turns.specs.declared.both.BothTurns.{BothTurns}
 use Rattle.jfs_turns.specs.declared.view.View.{View}
-use Rattle.jfs_groups.specs.Commit.{GoesOn}
 use Rattle.jfs_serving.specs.Calls.{Asked, WaitsIf, IsEntryOf}
 use Rattle.jfs_serving.specs.Called.{IsAnsweredAt}
 use Rattle.jfs_serving.specs.Room.{Seen, HasRoom}

@@ -22,13 +22,7 @@ use std::thread::Threads;
 
 /// A call of the pass's client, by its line, at this moment, and what is known of it on the disk: where it waits, it is made durable before this comes back. A call that needs the log takes both turns, so nobody
 /// else has either while it makes room.
-pub fn call_by<
-    V: Serves<D, E>,
-    D: Disk,
-    G: Gate,
-    E: HasRecords,
-    R: Threads + Wait + Sync,
->(
+pub fn call_by<V: Serves<D, E>, D: Disk, G: Gate, E: HasRecords, R: Threads + Wait + Sync>(
     rt: &R,
     alloc: Global,
     turns: &Turns<V, SharedLog<D>, E>,
@@ -76,13 +70,7 @@ fn ask_for<V: Serves<D, E>, D: Disk, E: HasRecords, R: Wait>(
 }
 
 /// Makes an entry durable that waits, and tells the reply. A call without an entry found no memory.
-fn acknowledge<
-    V: Serves<D, E>,
-    D: Disk,
-    G: Gate,
-    E: HasRecords,
-    R: Threads + Wait + Sync,
->(
+fn acknowledge<V: Serves<D, E>, D: Disk, G: Gate, E: HasRecords, R: Threads + Wait + Sync>(
     rt: &R,
     turns: &Turns<V, SharedLog<D>, E>,
     pass: Pass<V, SharedLog<D>, E>,
@@ -99,7 +87,8 @@ fn acknowledge<
         reply,
         entry,
         waits,
-    } = given else {
+    } = given
+    else {
         return (Reply::Refused(Refusal::OutOfMemory), Ack::Pending, pass);
     };
     gate.pause(rt, Place::AfterAppend, pass.client());

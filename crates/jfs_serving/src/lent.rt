@@ -37,9 +37,7 @@ fn ask<V: Serves<D, E>, D: Disk, E: HasRecords>(
     ensures goes_on { GoesOn E.client (whole both.old) (whole both.new) }
     ensures asks { AsksIs E.client V.entry V.moment V.stands V.answers (asked client line request.now now) (whole both.new) both.new.volume.value result }
 {
-    both.volume
-        .value
-        .call(alloc, client, line, request, now)
+    both.volume.value.call(alloc, client, line, request, now)
 }
 
 /// Makes room in the log, and frees blocks that wait for a commit: by a commit, or where the log has halted not at all. The volume then knows that it has.

@@ -1,7 +1,7 @@
 //! A mounted volume as the value that the volume turn guards: what it stands for, and its calls, by whichever client.
 #![tactic(auto)]
 
-mod call;
+mod calling;
 mod collected;
 mod committing;
 mod law;
@@ -12,7 +12,7 @@ mod settling;
 mod shared;
 mod starting;
 
-pub use call::call;
+pub use calling::call;
 pub use committing::commit_with;
 pub use law::values_together_may_commit;
 pub use point_group::PointGroup;

@@ -13,7 +13,7 @@ count_entry-requires-clause-said g c =
     let stands = told_stands g.V.Stands.stands turn.result.value saw.new.turn.value c.told.new.self turn.result.seat.me saw.new.turn.seat.me saw.result saw.ensures.told turn.ensures.stands saw.ensures.same.3 c.told.ensures.tells in
     let list = c.in-Replied.ensures.list in
     let j = joined g.E.HasClient.client g.V.Serves.entry g.V.Serves.moment g.V.Stands.stands g.V.Serves.answers (asked c.client-client.result c.args.line c.args.request.now c.args.now) c.in-Replied.reply c.in-Replied.entry c.in-Replied.waits
-      saw.new.turn.seat.me.0 c.told.new.self c.call.new.self list.0 stands list.1 list.2 c.in-Replied.ensures.answers in
+    saw.new.turn.seat.me.0 c.told.new.self c.call.new.self list.0 stands list.1 list.2 c.in-Replied.ensures.answers in
     (list.0, j.0, list.1.client_is ∙ (c.client-client.ensures ∙ sym (saw.ensures.same.1 ∙ turn.ensures.turn.1)))
 
 pub give_volume-requires-clause-stands : goal.give_volume-requires-clause-stands
@@ -46,7 +46,7 @@ returns-in-Replied-clause-gave g c =
     let a = asked c.client-client.result c.args.line c.args.request.now c.args.now in
     let list = c.in-Replied.ensures.list in
     let number = (joined client g.V.Serves.entry g.V.Serves.moment g.V.Stands.stands g.V.Serves.answers a c.in-Replied.reply c.in-Replied.entry c.in-Replied.waits
-      saw.new.turn.seat.me.0 c.told.new.self c.call.new.self list.0 stands list.1 list.2 c.in-Replied.ensures.answers).1 in
+    saw.new.turn.seat.me.0 c.told.new.self c.call.new.self list.0 stands list.1 list.2 c.in-Replied.ensures.answers).1 in
     let told = c.count_entry.ensures.told.1 in
     subst (λ n. HasJoined client g.V.Serves.entry g.V.Serves.moment g.V.Stands.stands g.V.Serves.answers (asked n c.args.line c.args.request.now c.args.now) c.in-Replied.reply c.in-Replied.entry c.in-Replied.waits c.args.pass.seat.me.0 c.give_volume-pass.result.seat.me.0) c.client-client.ensures
     (has_joined client g.V.Serves.entry g.V.Serves.moment g.V.Stands.stands g.V.Serves.answers a c.in-Replied.reply c.in-Replied.entry c.in-Replied.waits c.args.pass.seat.me.0 saw.new.turn.seat.me.0 c.give_volume-pass.result.seat.me.0 c.call.new.self told.0

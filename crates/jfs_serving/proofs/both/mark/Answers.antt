@@ -1,12 +1,9 @@
-use Rattle.std.proofs.Common.{◌≡◌, ◌≤◌, List, ℕ, sym, ap, ◌∙◌, subst, arith, length}
+use Rattle.std.proofs.Common.{◌≡◌, sym, ap, ◌∙◌, subst}
 use Rattle.jfs_turns.specs.Both.{whole}
-use Rattle.jfs_turns.specs.Lists.{IsPrefix}
 use Rattle.jfs_turns.specs.Standing.{VolumeStands, LogStands}
 use Rattle.jfs_turns.specs.Views.{rejoined}
-use Rattle.jfs_groups.specs.Commit.{GoesOn}
 use Rattle.jfs_groups.specs.Log.{standing}
-use Rattle.jfs_serving.specs.Held.{Knows, seen_of}
-use Rattle.jfs_serving.specs.Room.{HasRoom}
+use Rattle.jfs_serving.specs.Held.{Knows}
 use Rattle.jfs_serving.proofs.Marking.{room_back, main_is, aside_is, marked, marked_volume, marked_log, marked_knows}
 use Rattle.jfs_serving.proofs.both.mark.Goals as goal
 

@@ -1,6 +1,6 @@
 use Rattle.std.proofs.Common.{refl}
 use Rattle.jfs_shared.proofs.Called.{unanswered, call_is, lacked_is}
-use Rattle.jfs_shared.proofs.call.call.Goals as goal
+use Rattle.jfs_shared.proofs.calling.call.Goals as goal
 
 pub call_without_log-requires-clause-size : goal.call_without_log-requires-clause-size
 call_without_log-requires-clause-size g c = c.requires.stands.6.size
