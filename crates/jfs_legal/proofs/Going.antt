@@ -52,22 +52,22 @@ begin_law area log_pages start may = inl (laws.history.starts area log_pages sta
 pub legal_law : LegalLaw
 legal_law area log_pages start es p goes = legal_of area log_pages start es p goes
 
-pub call_law : CallLaw
+pub call_law : (tells crashes : Type 0) → CallLaw tells crashes
 call_law tells crashes told area log_pages start es a old new outcome (inl so_far) d =
     served_on area log_pages start es a old new outcome so_far
     (leaves_by laws tells crashes told area log_pages a start es old new outcome so_far (does laws tells crashes told area log_pages a old new outcome so_far.serves d))
 call_law tells crashes told area log_pages start es a old new outcome (inr until) d = failed_on area log_pages start es a new outcome until
 
-pub lent_law : LentLaw
+pub lent_law : (tells crashes : Type 0) → LentLaw tells crashes
 lent_law tells crashes told area log_pages start es a old end (inl so_far) d =
     served_on area log_pages start es a old.volume end.both.volume end.outcome so_far (lent laws tells crashes told area log_pages a start es old end so_far d)
 lent_law tells crashes told area log_pages start es a old end (inr until) d = failed_on area log_pages start es a end.both.volume end.outcome until
 
-pub settled_law : SettledLaw
+pub settled_law : (tells : Type 0) → SettledLaw tells
 settled_law tells told area log_pages start es old new (inl so_far) settles files = inl (settled laws tells ⊥ told area log_pages start es old new so_far settles files)
 settled_law tells told area log_pages start es old new (inr until) settles files = inr until
 
-pub pointed_law : PointedLaw
+pub pointed_law : (tells : Type 0) → PointedLaw tells
 pointed_law tells told area log_pages start es old new (inl so_far) settles shown maps =
     inl (laws.history.stays area log_pages start old new es so_far (laws.pointed area log_pages old new so_far.serves.holds settles (told_shown tells ⊥ told old new shown) maps))
 pointed_law tells told area log_pages start es old new (inr until) settles shown maps = inr until

@@ -27,24 +27,24 @@ abbrev pub LegalLaw : Type 0
 LegalLaw = (area : ℕ → ℕ) (log_pages : ℕ) (start : Parts) (es : List Timed) (p : Parts) → GoOn area log_pages start es p → AreLegal area log_pages start es
 
 -- a call that is lent no log
-abbrev pub CallLaw : Type 0
-CallLaw = (tells crashes : Type 0) → tells → (area : ℕ → ℕ) (log_pages : ℕ) (start : Parts) (es : List Timed) (a : Asking) (old new : Parts) (outcome : Outcome)
+abbrev pub CallLaw : (tells crashes : Type 0) → Type 0
+CallLaw tells crashes = tells → (area : ℕ → ℕ) (log_pages : ℕ) (start : Parts) (es : List Timed) (a : Asking) (old new : Parts) (outcome : Outcome)
     → GoOn area log_pages start es old → Does tells crashes a.caller a.request a.now old new outcome → Leaves area log_pages start es a new outcome
 
 -- a call that is lent the log
-abbrev pub LentLaw : Type 0
-LentLaw = (tells crashes : Type 0) → tells → (area : ℕ → ℕ) (log_pages : ℕ) (start : Parts) (es : List Timed) (a : Asking) (old : Both) (end : End)
+abbrev pub LentLaw : (tells crashes : Type 0) → Type 0
+LentLaw tells crashes = tells → (area : ℕ → ℕ) (log_pages : ℕ) (start : Parts) (es : List Timed) (a : Asking) (old : Both) (end : End)
     → GoOn area log_pages start es old.volume → Does tells crashes a.caller a.request a.now old.volume end.both.volume end.outcome ⊎ NeedsThen tells crashes a (DoesAgain tells crashes a) old end
     → Leaves area log_pages start es a end.both.volume end.outcome
 
 -- Groups are taken, entries are acknowledged, a volume halts: pages stay but for those that entries freed.
-abbrev pub SettledLaw : Type 0
-SettledLaw = (tells : Type 0) → tells → (area : ℕ → ℕ) (log_pages : ℕ) (start : Parts) (es : List Timed) (old new : Parts)
+abbrev pub SettledLaw : (tells : Type 0) → Type 0
+SettledLaw tells = tells → (area : ℕ → ℕ) (log_pages : ℕ) (start : Parts) (es : List Timed) (old new : Parts)
     → GoOn area log_pages start es old → Settles old new → KeepsPages tells old new → GoOn area log_pages start es new
 
 -- pages go home, and those of the maps are written
-abbrev pub PointedLaw : Type 0
-PointedLaw = (tells : Type 0) → tells → (area : ℕ → ℕ) (log_pages : ℕ) (start : Parts) (es : List Timed) (old new : Parts)
+abbrev pub PointedLaw : (tells : Type 0) → Type 0
+PointedLaw tells = tells → (area : ℕ → ℕ) (log_pages : ℕ) (start : Parts) (es : List Timed) (old new : Parts)
     → GoOn area log_pages start es old → Settles old new → StaysShown tells old new → WritesMaps old new → GoOn area log_pages start es new
 
 -- entries are handed out

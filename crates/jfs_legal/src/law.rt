@@ -2,6 +2,8 @@
 
 ghost use Rattle.jfs_legal.specs.Laws.{BeginLaw, LegalLaw, CallLaw, LentLaw, SettledLaw, PointedLaw, HandedLaw};
 
+use jfs_disk::Disk;
+
 /// No entry at all is a legal history.
 pub fn volumes_that_serve_begin_legally()
     ensures { BeginLaw }
@@ -13,23 +15,23 @@ pub fn histories_that_go_on_are_legal()
 {}
 
 /// With the entry of a call, whichever client's, a legal history goes on.
-pub fn calls_go_on_legally()
-    ensures { CallLaw }
+pub fn calls_go_on_legally<D: Disk>()
+    ensures { CallLaw D.tells D.tells_crashes }
 {}
 
 /// So does it with the entry of a call that is lent the log, and commits or makes a syncpoint first.
-pub fn calls_lent_the_log_go_on_legally()
-    ensures { LentLaw }
+pub fn calls_lent_the_log_go_on_legally<D: Disk>()
+    ensures { LentLaw D.tells D.tells_crashes }
 {}
 
 /// A commit leaves it as it is.
-pub fn settled_volumes_leave_it_legal()
-    ensures { SettledLaw }
+pub fn settled_volumes_leave_it_legal<D: Disk>()
+    ensures { SettledLaw D.tells }
 {}
 
 /// So do pages that go home, and those of the maps.
-pub fn pages_at_home_leave_it_legal()
-    ensures { PointedLaw }
+pub fn pages_at_home_leave_it_legal<D: Disk>()
+    ensures { PointedLaw D.tells }
 {}
 
 /// And so do entries that are handed out.

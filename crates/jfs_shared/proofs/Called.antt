@@ -26,7 +26,7 @@ unanswered client line request p = record {
   keeps = record { blocks = refl; size = refl; limit = refl; count = refl; room = refl; taken = refl; told = refl; points = refl; ring = refl; place = refl };
 }
 
-module _ {D : Type 0} (d : Ghosts D) (x : SharedVolume D d) (client line : ℕ) (request : Request) (now : Moment) (new : Parts) where
+module _ {D : Type 0} (d : Ghosts D) (x : SharedVolume D) (client line : ℕ) (request : Request) (now : Moment) (new : Parts) where
   pub call_is : (outcome : Outcome) → (outcome ≡ NoMemory → ⊥) → IsAnswered client line request x.volume new outcome → Does d.tells d.tells_crashes (record { client = client; line = line }) request now x.volume new outcome
       → CallIs (standing d) client line request now x (record x { volume = new }) outcome
   call_is (Replied reply number waits) not a does =

@@ -4,9 +4,9 @@ pub mod Served
 pub mod Stands
 pub mod Logged
 pub mod Fresh
-pub mod Started
+pub mod Begun
 pub mod Writing
 pub mod Called
 pub mod Together
-pub mod Pointing
+pub mod Pointed
 pub mod Homed

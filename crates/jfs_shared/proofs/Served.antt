@@ -1,5 +1,5 @@
 -- A legal history behind calls, groups and syncpoints of many clients.
-use Rattle.std.proofs.Common.{◌≡◌, ◌≤◌, ℕ, suc, ◌+◌, List, [], ◌∷◌, ◌++◌, length, take, drop, map, Option, Some, None, refl, sym, ap, subst, ◌∙◌, inl, inr, arith}
+use Rattle.std.proofs.Common.{◌≡◌, ◌≤◌, ℕ, suc, ◌+◌, List, [], ◌∷◌, ◌++◌, length, take, drop, map, Bool, Option, Some, None, refl, sym, ap, subst, ◌∙◌, inl, inr, arith}
 use Rattle.std.proofs.lemmas.List.{length-append, take-append-le}
 use Rattle.std.proofs.Math.Seq.{take-length}
 use Rattle.jfs_disk.specs.Image.{page_of}
@@ -19,7 +19,7 @@ use Rattle.jfs_legal.specs.Until.{AreLegal, GoOn}
 use Rattle.jfs_legal.proofs.Going.{begin_law, legal_law, call_law, settled_law, pointed_law}
 use Rattle.jfs_shared.specs.Calls.{recorded}
 use Rattle.jfs_shared.specs.Shared.{timed, timed_in, GoesOn, IsServed, broken_by}
-use Rattle.jfs_shared.specs.declared.recorded.Recorded.{Recorded}
+use Rattle.jfs_shared.specs.Entries.{Recorded}
 
 timed_more : (list : List Recorded) (e : Recorded) → timed_in (list ++ e ∷ []) ≡ timed_in list ++ timed e ∷ []
 timed_more [] e = refl

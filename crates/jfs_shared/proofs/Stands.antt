@@ -1,5 +1,5 @@
 -- What a volume stands for, behind what its calls make of its parts.
-use Rattle.std.proofs.Common.{◌≡◌, ◌≤◌, ℕ, suc, ◌+◌, ◌*◌, ◌-◌, ◌^◌, List, [], ◌∷◌, ◌++◌, length, take, drop, Option, Some, None, false, refl, sym, ap, subst, ◌∙◌, inl, inr, arith}
+use Rattle.std.proofs.Common.{◌≡◌, ◌≤◌, ℕ, suc, ◌+◌, ◌*◌, ◌-◌, ◌^◌, List, [], ◌∷◌, ◌++◌, length, take, drop, Bool, Option, Some, None, false, refl, sym, ap, subst, ◌∙◌, inl, inr, arith}
 use Rattle.std.proofs.lemmas.List.{length-append}
 use Rattle.jfs_bits.specs.declared.descriptor.Moment.{Moment}
 use Rattle.jfs_disk.specs.Image.{page_of}
@@ -18,7 +18,7 @@ use Rattle.jfs_call.specs.Answer.{IsAnswered, Keeps}
 use Rattle.jfs_call.specs.Does.{Does}
 use Rattle.jfs_call.specs.declared.outcome.Outcome.TheVariants.{Replied, NeedsLog, NoMemory}
 use Rattle.jfs_call.specs.halves.specs.Parts.{Parts, Text}
-use Rattle.jfs_call.specs.volume.specs.bmap.specs.States.{blocks_settled}
+use Rattle.jfs_call.specs.volume.specs.bmap.specs.States.{Blocks, blocks_settled}
 use Rattle.jfs_call.specs.volume.specs.Room.{IsWithinRoom}
 use Rattle.jfs_call.specs.volume.specs.Settle.{with_point}
 use Rattle.jfs_call.specs.volume.specs.Settles.{Settles, StaysShown, is_freed}
@@ -31,14 +31,17 @@ use Rattle.jfs_shared.specs.Base.{ring_of, image_of}
 use Rattle.jfs_shared.specs.Calls.{recorded}
 use Rattle.jfs_shared.specs.Home.{IsSettled}
 use Rattle.jfs_shared.specs.Shared.{logs_of, entries_in, HasText, IsShared, IsServed, IfConsistent, broken_by}
-use Rattle.jfs_shared.specs.declared.recorded.Recorded.{Recorded}
-use Rattle.jfs_shared.proofs.Text.{added, ends, taken_text, joined_text, pointed_text}
+use Rattle.jfs_shared.specs.Entries.{Recorded}
+use Rattle.jfs_shared.proofs.Text.{added, reaches, taken_text, joined_text, pointed_text}
 use Rattle.jfs_shared.proofs.Stepped.{Stood, Grew}
 use Rattle.jfs_shared.proofs.Served.{served_joined, served_asked, served_lacked, served_failed, served_settled, served_pointed}
 
 entries_more : (list : List Recorded) (e : Recorded) → entries_in (list ++ e ∷ []) ≡ entries_in list ++ e.entry ∷ []
 entries_more [] e = refl
 entries_more (x ∷ xs) e = ap (λ (es : List Entry). x.entry ∷ es) (entries_more xs e)
+
+as_many_states : (n : ℕ) (m : Blocks) → length (blocks_settled n m).states ≡ length m.states
+as_many_states n m = length-each_below _ _
 
 -- what of the parts the list and the counts say
 pub record Alike (old new : Parts) : Type 0 where
@@ -162,7 +165,7 @@ module _ (tells : Type 0) (base : Base) (list : List Recorded) (taken told : ℕ
     last = last ∙ h.appended;
     bytes = bytes ∙ h.text.bytes;
     room = subst (λ (r : ℕ). pages_of (length group.bytes.items) ≤ room_of r) h.text.ring_is room.0;
-    numbers = let n = room.2 in omega (arith, n, ap (λ (b : List ℕ). length b) bytes, ends (ring_of base) list taken (length points) old.text h.text h.taken_within);
+    numbers = let n = room.2 in omega (arith, n, ap (λ (b : List ℕ). length b) bytes, reaches (ring_of base) list taken (length points) old.text h.text h.taken_within);
   }
 
   -- it halts
@@ -196,7 +199,7 @@ module _ (tells : Type 0) (base : Base) (list : List Recorded) (taken told : ℕ
     told_within = within;
     taken_within = h.taken_within;
     text = subst (λ (t : Text). HasText (ring_of base) list taken (length points) t) (sym (ap (λ (p : Parts). p.text) e)) h.text;
-    size = let before = h.size in omega (arith, before, ap (λ (p : Parts). length p.map.states) e ∙ length-each_below _ _, ap (λ (p : Parts). p.blocks) e);
+    size = let before = h.size in omega (arith, before, ap (λ (p : Parts). length p.map.states) e ∙ as_many_states n old.map, ap (λ (p : Parts). p.blocks) e);
     served = λ t consistent. served_settled tells ⊥ t s page broken list old new settles (record { files = ap (λ (p : Parts). p.files) e; view = shows }) (h.served t consistent);
   }
     where

@@ -12,7 +12,7 @@ use Rattle.jfs_groups.specs.Text.{item_of, items_from, end_of}
 use Rattle.jfs_groups.proofs.Text.{from-append, end_grows}
 use Rattle.jfs_legal.specs.served.specs.halves.specs.Parts.{Text}
 use Rattle.jfs_shared.specs.Shared.{logs_of, HasText}
-use Rattle.jfs_shared.specs.declared.recorded.Recorded.{Recorded}
+use Rattle.jfs_shared.specs.Entries.{Recorded}
 
 -- what one entry adds to a text, by its number
 abbrev pub added : Option (List Noted) → ℕ → Text → List ℕ
@@ -36,8 +36,8 @@ module _ (ring : ℕ) (list : List Recorded) (taken points : ℕ) (text : Text) 
   front_is = length-take-le taken list within
 
   -- the text reaches as far as the whole list's does
-  pub ends : text.place + length text.bytes ≡ end_of logs_of ring list points
-  ends = omega (
+  pub reaches : text.place + length text.bytes ≡ end_of logs_of ring list points
+  reaches = omega (
     arith,
     h.place,
     sized,
@@ -57,7 +57,7 @@ module _ (ring : ℕ) (list : List Recorded) (taken points : ℕ) (text : Text) 
   pub taken_text : (new : Text) → new.ring ≡ text.ring → new.place ≡ text.place + length text.bytes → new.bytes ≡ [] → new.last ≡ text.last → HasText ring list (length list) points new
   taken_text new same place empty last = record {
     ring_is = same ∙ h.ring_is;
-    place = place ∙ ends ∙ sym (ap (λ (es : List Recorded). end_of logs_of ring es points) all);
+    place = place ∙ reaches ∙ sym (ap (λ (es : List Recorded). end_of logs_of ring es points) all);
     bytes = empty ∙ sym (ap (λ (es : List Recorded). log_text (log_records ring (end_of logs_of ring (take (length list) list) points) (items_from logs_of (length list) es))) none);
     last = last ∙ h.last;
   }

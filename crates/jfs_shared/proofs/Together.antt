@@ -9,10 +9,10 @@ use Rattle.jfs_legal.specs.served.specs.volume_calls.specs.Together as calls
 use Rattle.jfs_shared.specs.Base.{ring_of}
 use Rattle.jfs_shared.specs.Both.{Seen, AreOf}
 use Rattle.jfs_shared.specs.Shared.{logs_of, standing, log_standing}
-use Rattle.jfs_shared.specs.declared.recorded.Recorded.{Recorded}
+use Rattle.jfs_shared.specs.Entries.{Recorded}
 use Rattle.jfs_shared.specs.declared.shared.SharedVolume.{SharedVolume}
 
-module _ {D : Type 0} (d : Ghosts D) (n : Seen) (x : SharedVolume D d) (y : SharedLog D d) (k : AreOf (standing d) (log_standing d) n x y) (runs : y.side.halted ≡ None) where
+module _ {D : Type 0} (d : Ghosts D) (n : Seen) (x : SharedVolume D) (y : SharedLog D d) (k : AreOf (standing d) (log_standing d) n x y) (runs : y.side.halted ≡ None) where
   r : IsRunning logs_of d.tells d.tells_crashes (ring_of n.base) (data_of d y) n.log_list n.taken n.durable (length n.points) n.stable
   r = k.log.runs runs
 

@@ -25,7 +25,7 @@ use Rattle.jfs_shared.specs.Both.{Seen, AreOf, AreTogether, Written, Lost, Commi
 use Rattle.jfs_shared.specs.Shared.{logs_of, IsShared, standing, log_standing}
 use Rattle.jfs_shared.specs.declared.shared.SharedVolume.{SharedVolume}
 use Rattle.jfs_shared.proofs.Logged.{all_taken, pointed_stands, lost_point}
-use Rattle.jfs_shared.proofs.Text.{ends}
+use Rattle.jfs_shared.proofs.Text.{reaches}
 use Rattle.jfs_shared.proofs.Stands.{group_stands, group_is, halted_stands, told_stands, point_stands, known_stands}
 
 -- what a volume hands out as a group
@@ -35,7 +35,7 @@ pub record IsTakenFrom (old new : Parts) (group : GroupText) : Type 0 where
   pub room : IsWithinRoom old.text.ring old.text.sync old.text.place (length group.bytes.items)
   pub parts : new ≡ record old { taken = old.appended; text = record old.text { place = old.text.place + length old.text.bytes; bytes = []; ends = [] } }
 
-module _ {D : Type 0} (d : Ghosts D) (x : SharedVolume D d) (y : SharedLog D d) (runs : y.side.halted ≡ None) where
+module _ {D : Type 0} (d : Ghosts D) (x : SharedVolume D) (y : SharedLog D d) (runs : y.side.halted ≡ None) where
   -- ---- a group
 
   module _ (new : Parts) (group : GroupText) (t : IsTakenFrom x.volume new group) where
@@ -125,7 +125,7 @@ module _ {D : Type 0} (d : Ghosts D) (x : SharedVolume D d) (y : SharedLog D d) 
 
 -- ---- all entries are acknowledged
 
-module _ {D : Type 0} (d : Ghosts D) (x : SharedVolume D d) (y : SharedLog D d) (x' : SharedVolume D d) (y' : SharedLog D d) where
+module _ {D : Type 0} (d : Ghosts D) (x : SharedVolume D) (y : SharedLog D d) (x' : SharedVolume D) (y' : SharedLog D d) where
   pub may_tell : AreTogether (standing d) (log_standing d) x y → ((n : Seen) → AreOf (standing d) (log_standing d) n x y → Written (standing d) (log_standing d) n x' y') → (all : ℕ) → all ≡ x'.volume.appended → (x'.volume.told ≤ all) × (all ≤ x'.volume.taken)
   may_tell (n, k) write all is =
       let s = (write n k).0 in
@@ -149,7 +149,7 @@ module _ {D : Type 0} (d : Ghosts D) (x : SharedVolume D d) (y : SharedLog D d) 
 
 -- ---- a SYNCPT may be written
 
-module _ {D : Type 0} (d : Ghosts D) (x : SharedVolume D d) (y : SharedLog D d) (runs : y.side.halted ≡ None) (empty : x.volume.text.bytes ≡ []) (told : x.volume.told ≡ x.volume.appended) (room : x.volume.text.place + 72 ≤ 4080 * 2 ^ 32) where
+module _ {D : Type 0} (d : Ghosts D) (x : SharedVolume D) (y : SharedLog D d) (runs : y.side.halted ≡ None) (empty : x.volume.text.bytes ≡ []) (told : x.volume.told ≡ x.volume.appended) (room : x.volume.text.place + 72 ≤ 4080 * 2 ^ 32) where
   -- the log's text ends where the volume's begins, and the syncpoints lie within
   pub record Meets : Type 0 where
     pub place : position_of y.side.last ≡ x.volume.text.place
@@ -167,7 +167,7 @@ module _ {D : Type 0} (d : Ghosts D) (x : SharedVolume D d) (y : SharedLog D d) 
       let taken_is = s.taken_is in
       let both = idle d x y runs (omega (arith, told, told_is, appended, told_within, taken_within, taken_is)) n k in
       let r = both.1.runs runs in
-      let end = ends (ring_of n.base) n.list n.taken (length n.points) x.volume.text s.text s.taken_within in
+      let end = reaches (ring_of n.base) n.list n.taken (length n.points) x.volume.text s.text s.taken_within in
       let none = ap (λ (b : List ℕ). length b) empty in
       let points_are = s.points_are in
       let count = both.1.count in

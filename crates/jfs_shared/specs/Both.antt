@@ -7,7 +7,7 @@ use Rattle.jfs_turns.specs.Lists.{Base, IsPrefix}
 use Rattle.jfs_turns.specs.Standing.{Standing}
 use Rattle.jfs_groups.specs.declared.log.SharedLog.{SharedLog}
 use Rattle.jfs_legal.specs.served.specs.volume_calls.specs.Together as calls
-use Rattle.jfs_shared.specs.declared.recorded.Recorded.{Recorded}
+use Rattle.jfs_shared.specs.Entries.{Recorded}
 use Rattle.jfs_shared.specs.declared.shared.SharedVolume.{SharedVolume}
 
 -- what both stand for: one base, the volume's list and the log's, how many entries groups have taken, are acknowledged and are durable, the syncpoints, and how many the volume knows to be stable and are stable
@@ -81,5 +81,5 @@ module _ {V L : Type 0} (of_volume : Standing V Recorded) (of_log : Standing L R
   PointIs x y x' y' (Err fault) = (n : Seen) → AreOf n x y → PartlyPointed n x' y'
 
 -- so the calls of one client may have them
-abbrev pub TogetherLaw : {D : Type 0} (d : Ghosts D) → Standing (SharedVolume D d) Recorded → Standing (SharedLog D d) Recorded → Type 0
-TogetherLaw {D} d of_volume of_log = (n : Seen) (x : SharedVolume D d) (y : SharedLog D d) → AreOf of_volume of_log n x y → y.side.halted ≡ None → calls.AreTogether x.volume (calls.log_parts d y.side)
+abbrev pub TogetherLaw : {D : Type 0} (d : Ghosts D) → Standing (SharedVolume D) Recorded → Standing (SharedLog D d) Recorded → Type 0
+TogetherLaw {D} d of_volume of_log = (n : Seen) (x : SharedVolume D) (y : SharedLog D d) → AreOf of_volume of_log n x y → y.side.halted ≡ None → calls.AreTogether x.volume (calls.log_parts d y.side)

@@ -10,7 +10,7 @@ use Rattle.jfs_groups.specs.Group.{Stays}
 use Rattle.jfs_legal.specs.served.specs.call.specs.declared.outcome.Outcome.{Outcome}
 use Rattle.jfs_legal.specs.served.specs.call.specs.declared.outcome.Outcome.TheVariants.{Replied, NeedsLog, NoMemory}
 use Rattle.jfs_legal.specs.served.specs.volume.specs.Join.{entry_with}
-use Rattle.jfs_shared.specs.declared.recorded.Recorded.{Recorded}
+use Rattle.jfs_shared.specs.Entries.{Recorded}
 
 -- a client's call, by its line, with its moment and its reply; and what it has in the log
 abbrev pub recorded : ℕ → ℕ → Request → Moment → Reply → Option (List Noted) → Recorded

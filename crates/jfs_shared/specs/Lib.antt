@@ -1,5 +1,6 @@
 -- what the clauses say
 pub mod Base
+pub mod Entries
 pub mod Shared
 pub mod Calls
 pub mod Both

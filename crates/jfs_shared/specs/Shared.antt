@@ -20,7 +20,7 @@ use Rattle.jfs_legal.specs.served.specs.Legal.{Timed}
 use Rattle.jfs_legal.specs.served.specs.Laws.{HoldsImage}
 use Rattle.jfs_legal.specs.Until.{AreLegal, GoOn}
 use Rattle.jfs_shared.specs.Base.{ring_of, image_of}
-use Rattle.jfs_shared.specs.declared.recorded.Recorded.{Recorded}
+use Rattle.jfs_shared.specs.Entries.{Recorded}
 use Rattle.jfs_shared.specs.declared.shared.SharedVolume.{SharedVolume}
 
 -- ---- the entries
@@ -89,7 +89,7 @@ pub record IsShared (tells : Type 0) (base : Base) (list : List Recorded) (taken
   pub size : length p.map.states ≤ p.blocks
   pub served : tells → IfConsistent base (λ s page. IsServed s page broken_off list p)
 
-abbrev pub standing : {D : Type 0} (d : Ghosts D) → Standing (SharedVolume D d) Recorded
+abbrev pub standing : {D : Type 0} (d : Ghosts D) → Standing (SharedVolume D) Recorded
 standing d v base list taken told points known = IsShared d.tells base list taken told points known v.points v.broken_off v.volume
 
 -- and its log
@@ -97,5 +97,5 @@ abbrev pub log_standing : {D : Type 0} (d : Ghosts D) → Standing (SharedLog D 
 log_standing d = of_log d logs_of ring_of
 
 -- it stands for something
-abbrev pub Stands : {D : Type 0} (d : Ghosts D) → SharedVolume D d → Type 0
+abbrev pub Stands : {D : Type 0} (d : Ghosts D) → SharedVolume D → Type 0
 Stands d v = (base : Base) × (list : List Recorded) × (taken : ℕ) × (told : ℕ) × (points : List ℕ) × (known : ℕ) × standing d v base list taken told points known

@@ -1,7 +1,7 @@
 -- A volume that was just mounted.
-use Rattle.std.specs.Prelude.{◌≡◌, ◌≤◌, ◌-◌, [], ℕ, None}
+use Rattle.std.specs.Prelude.{◌≡◌, ◌-◌, [], ℕ, None}
 use Rattle.jfs_disk.specs.Image.{Image, page_of}
-use Rattle.jfs_super.specs.Rules.{blocks_of}
+use Rattle.jfs_super.specs.Rules.{IsAccepted}
 use Rattle.jfs_super.specs.Super.{super_of}
 use Rattle.jfs_super.specs.declared.fields.Super.{Super}
 use Rattle.jfs_logpages.specs.Fresh.{IsFreshLog}
@@ -12,13 +12,16 @@ use Rattle.jfs_legal.specs.served.specs.halves.specs.Log.{LogParts}
 use Rattle.jfs_legal.specs.served.specs.volume_calls.specs.Together.{AreTogether}
 use Rattle.jfs_legal.specs.served.specs.mounted.specs.Mount.{IsMountOf}
 use Rattle.jfs_shared.specs.Base.{base_of}
-use Rattle.jfs_shared.specs.declared.recorded.Recorded.{Recorded}
+use Rattle.jfs_shared.specs.Entries.{Recorded}
 
 -- what a mount of an image says, by whose superblock it was made, of the volume and the log that it gives
 pub record IsJustMounted (tells crashes : Type 0) (s : Super) (image : Image) (volume : Parts) (log : LogParts) : Type 0 where
   pub mount : IsMountOf tells crashes s image volume log
   pub spelled : tells → super_of (page_of image 8) ≡ s
-  pub within : blocks_of s ≤ volume.blocks
+  -- the disk has so many pages, and the volume's part ends where the log begins
+  pub pages : ℕ
+  pub accepted : IsAccepted s pages
+  pub blocks : volume.blocks ≡ s.logpxd.addr
   pub runs : volume.halted ≡ None
   pub together : AreTogether volume log
   pub fresh : tells → IsFreshLog s.logpxd.len s.uuid log.image

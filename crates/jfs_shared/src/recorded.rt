@@ -7,6 +7,7 @@ use jfs_bits::Moment;
 use jfs_groups::HasRecords;
 use jfs_plain::Entry;
 use jfs_turns::HasClient;
+use std::marker::Model;
 
 /// A call of a client that has its reply, with the moment that it was handed. No value of it is made.
 pub struct Recorded {
@@ -14,6 +15,14 @@ pub struct Recorded {
     pub now: Moment,
     /// Its transaction, each edit with what its record names beside it. None: it has no record in the log.
     pub ghost noted: { Option (List Noted) },
+}
+
+impl Model for Recorded {
+    ghost use Rattle.jfs_shared.specs.Entries.{Recorded as Seen};
+
+    ghost Value = { Seen };
+
+    ghost view = { λ r. record { entry = r.entry; now = r.now; noted = r.noted } };
 }
 
 impl HasClient for Recorded {

@@ -21,7 +21,7 @@ returns-in-Ok-clause-write g c n k =
     let e = c.take_group-group.ensures in
     written g.D.Disk c.args.shared.now c.args.log.now c.requires.running c.take_group-group.new.self c.take_group-group.result (record { bytes = e.text.0; last = e.last.0; room = e.room; parts = e.parts }) c.write.new.self c.in-Ok.ensures.written n k
 
-pub returns-in-Err-clause-write : goal.returns-in-Err-clause-write
-returns-in-Err-clause-write g c n k =
+pub returns-clause-write : goal.returns-clause-write
+returns-clause-write g c n k =
     let e = c.take_group-group.ensures in
     lost g.D.Disk c.args.shared.now c.args.log.now c.requires.running c.take_group-group.new.self c.take_group-group.result (record { bytes = e.text.0; last = e.last.0; room = e.room; parts = e.parts }) c.write.new.self c.in-Err.why.fault _ c.halt.new.self c.halt.ensures.halted c.in-Err.ensures.lost n k

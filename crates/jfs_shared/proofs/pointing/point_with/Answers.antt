@@ -1,5 +1,5 @@
 use Rattle.std.proofs.Common.{refl, arith}
-use Rattle.jfs_shared.proofs.Pointing.{settled, not_committed, home_are, not_home, nothing_left, same_end, all_told, point_ends, point_is, committed_told}
+use Rattle.jfs_shared.proofs.Pointed.{settled, not_committed, home_are, not_home, nothing_left, same_end, all_told, point_ends, point_is, committed_told}
 use Rattle.jfs_shared.proofs.pointing.point_with.Goals as goal
 
 pub returns-in-Err-clause-point : goal.returns-in-Err-clause-point

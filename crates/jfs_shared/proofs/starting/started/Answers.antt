@@ -1,12 +1,12 @@
 use Rattle.std.proofs.Common.{refl}
 use Rattle.jfs_legal.specs.served.specs.volume_calls.specs.Together.{log_parts}
 use Rattle.jfs_groups.specs.Log.{data_of}
-use Rattle.jfs_shared.proofs.Started.{volume_stands, begun_stands}
+use Rattle.jfs_shared.proofs.Begun.{volume_stands, begun_stands}
 use Rattle.jfs_shared.proofs.starting.started.Goals as goal
 
 pub returns-clause-stands : goal.returns-clause-stands
 returns-clause-stands g c s image m =
     let d = g.D.Disk in (
       volume_stands d.tells d.tells_crashes s image c.args.m.volume (log_parts d c.args.m.log) m,
-      begun_stands d.tells d.tells_crashes s image c.args.m.volume (log_parts d c.args.m.log) m (data_of d (record { side = c.args.m.log; points = 0 })) _ refl refl refl refl refl refl,
+      begun_stands d.tells d.tells_crashes s image c.args.m.volume (log_parts d c.args.m.log) m (data_of d (record { side = c.args.m.log; points = 0 })) refl refl refl refl refl refl,
     )

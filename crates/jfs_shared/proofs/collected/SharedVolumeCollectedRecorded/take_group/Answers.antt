@@ -1,5 +1,5 @@
 use Rattle.jfs_shared.proofs.Stands.{group_stands, group_is}
-use Rattle.jfs_shared.proofs.shared.SharedVolumeCollected.take_group.Goals as goal
+use Rattle.jfs_shared.proofs.collected.SharedVolumeCollectedRecorded.take_group.Goals as goal
 
 pub returns-clause-takes : goal.returns-clause-takes
 returns-clause-takes g c base list taken told points known s =

@@ -1,6 +1,6 @@
 use Rattle.std.proofs.Common.{sym, ◌∙◌, arith}
 use Rattle.jfs_shared.proofs.Stands.{told_stands}
-use Rattle.jfs_shared.proofs.shared.SharedVolumeCollected.told.Goals as goal
+use Rattle.jfs_shared.proofs.collected.SharedVolumeCollectedRecorded.told.Goals as goal
 
 pub told-requires : goal.told-requires
 told-requires g c =

@@ -12,13 +12,13 @@ use Rattle.jfs_shared.specs.Home.{IsSettled}
 use Rattle.jfs_shared.specs.Shared.{standing, log_standing, broken_by}
 use Rattle.jfs_shared.specs.declared.shared.SharedVolume.{SharedVolume}
 use Rattle.jfs_shared.proofs.Stands.{home_stands, stopped_stands}
-use Rattle.jfs_shared.proofs.Text.{ends, nothing_waits}
+use Rattle.jfs_shared.proofs.Text.{reaches, nothing_waits}
 
 -- all entries are durable and acknowledged
 abbrev pub settled : Seen → Seen
 settled n = record n { log_list = n.list; taken = length n.list; told = length n.list; durable = length n.list }
 
-module _ {D : Type 0} (d : Ghosts D) (x : SharedVolume D d) (y : SharedLog D d) (runs : y.side.halted ≡ None) (n : Seen) (k : AreOf (standing d) (log_standing d) n x y) where
+module _ {D : Type 0} (d : Ghosts D) (x : SharedVolume D) (y : SharedLog D d) (runs : y.side.halted ≡ None) (n : Seen) (k : AreOf (standing d) (log_standing d) n x y) where
   durable_within : n.durable ≤ length n.list
   durable_within = let r = k.log.runs runs in let all = r.taken_all in let within = k.volume.taken_within in omega (arith, all, within)
 
@@ -26,7 +26,7 @@ module _ {D : Type 0} (d : Ghosts D) (x : SharedVolume D d) (y : SharedLog D d) 
   told_within = let a = k.volume.told_within in let b = k.volume.taken_within in omega (arith, a, b)
 
   -- the commit failed
-  pub not_committed : (x' : SharedVolume D d) (y' : SharedLog D d) → Lost (standing d) (log_standing d) n x' y' → PartlyPointed (standing d) (log_standing d) n x' y'
+  pub not_committed : (x' : SharedVolume D) (y' : SharedLog D d) → Lost (standing d) (log_standing d) n x' y' → PartlyPointed (standing d) (log_standing d) n x' y'
   not_committed x' y' lost = record {
     told_now = n.told;
     durable_now = n.durable;
@@ -40,7 +40,7 @@ module _ {D : Type 0} (d : Ghosts D) (x : SharedVolume D d) (y : SharedLog D d) 
     points_grow = ([], append-nil n.points);
   }
 
-  module _ (x' : SharedVolume D d) (y' : SharedLog D d) (c : Committed (standing d) (log_standing d) n x' y') (new : Parts) (is : IsSettled x'.volume new) where
+  module _ (x' : SharedVolume D) (y' : SharedLog D d) (c : Committed (standing d) (log_standing d) n x' y') (new : Parts) (is : IsSettled x'.volume new) where
     -- pages went home
     pub home_are : Settles x'.volume new → StaysShown d.tells x'.volume new → (d.tells → WritesMaps x'.volume new) → AreOf (standing d) (log_standing d) (settled n) (record x' { volume = new }) y'
     home_are settles shown maps = record {
@@ -72,20 +72,20 @@ module _ {D : Type 0} (d : Ghosts D) (x : SharedVolume D d) (y : SharedLog D d) 
 
     pub same_end : new.text.place ≡ x.volume.text.place + length x.volume.text.bytes
     same_end =
-        let now = ends (ring_of n.base) n.list (length n.list) (length n.points) x'.volume.text c.0.text (omega arith) in
-        let before = ends (ring_of n.base) n.list n.taken (length n.points) x.volume.text k.volume.text k.volume.taken_within in
+        let now = reaches (ring_of n.base) n.list (length n.list) (length n.points) x'.volume.text c.0.text (omega arith) in
+        let before = reaches (ring_of n.base) n.list n.taken (length n.points) x.volume.text k.volume.text k.volume.taken_within in
         let none = ap (λ (b : List ℕ). length b) nothing_left in
         omega (arith, now, before, none, ap (λ (p : Parts). p.text.place) is, ap (λ (p : Parts). length p.text.bytes) is)
 
     pub all_told : new.told ≡ new.appended
     all_told = ap (λ (p : Parts). p.told) is ∙ c.0.told_is ∙ sym (ap (λ (p : Parts). p.appended) is ∙ c.0.appended)
 
-  abbrev pub PointEnds : Result (Unit {0}) Fault → SharedVolume D d → SharedLog D d → Type 0
+  abbrev pub PointEnds : Result (Unit {0}) Fault → SharedVolume D → SharedLog D d → Type 0
   PointEnds (Ok done) last last_log = Pointed (standing d) (log_standing d) n last last_log
   PointEnds (Err fault) last last_log = PartlyPointed (standing d) (log_standing d) n last last_log
 
   -- what follows from there is said of both as they were
-  pub point_ends : (x' : SharedVolume D d) (y' : SharedLog D d) (last : SharedVolume D d) (last_log : SharedLog D d) (result : Result (Unit {0}) Fault) → AreOf (standing d) (log_standing d) (settled n) x' y'
+  pub point_ends : (x' : SharedVolume D) (y' : SharedLog D d) (last : SharedVolume D) (last_log : SharedLog D d) (result : Result (Unit {0}) Fault) → AreOf (standing d) (log_standing d) (settled n) x' y'
       → PointIs (standing d) (log_standing d) x' y' last last_log result → PointEnds result last last_log
   point_ends x' y' last last_log (Ok done) are point = point (settled n) are
   point_ends x' y' last last_log (Err fault) are point =
@@ -102,11 +102,11 @@ module _ {D : Type 0} (d : Ghosts D) (x : SharedVolume D d) (y : SharedLog D d) 
         points_grow = p.points_grow;
       }
 
-module _ {D : Type 0} (d : Ghosts D) (x : SharedVolume D d) (y : SharedLog D d) (runs : y.side.halted ≡ None) where
-  pub point_is : (last : SharedVolume D d) (last_log : SharedLog D d) (result : Result (Unit {0}) Fault) → ((n : Seen) (k : AreOf (standing d) (log_standing d) n x y) → PointEnds d x y runs n k result last last_log)
+module _ {D : Type 0} (d : Ghosts D) (x : SharedVolume D) (y : SharedLog D d) (runs : y.side.halted ≡ None) where
+  pub point_is : (last : SharedVolume D) (last_log : SharedLog D d) (result : Result (Unit {0}) Fault) → ((n : Seen) (k : AreOf (standing d) (log_standing d) n x y) → PointEnds d x y runs n k result last last_log)
       → PointIs (standing d) (log_standing d) x y last last_log result
   point_is last last_log (Ok done) each = λ n k. each n k
   point_is last last_log (Err fault) each = λ n k. each n k
 
-pub committed_told : {D : Type 0} (d : Ghosts D) (n : Seen) (x : SharedVolume D d) (y : SharedLog D d) → Committed (standing d) (log_standing d) n x y → x.volume.told ≡ x.volume.appended
+pub committed_told : {D : Type 0} (d : Ghosts D) (n : Seen) (x : SharedVolume D) (y : SharedLog D d) → Committed (standing d) (log_standing d) n x y → x.volume.told ≡ x.volume.appended
 committed_told d n x y c = c.0.told_is ∙ sym c.0.appended

@@ -4,7 +4,9 @@ use Rattle.std.proofs.lemmas.Bool.{false≢true}
 use Rattle.jfs_disk.specs.Image.{Image, page_of}
 use Rattle.jfs_disk.specs.Crash.{last_of}
 use Rattle.jfs_disk.specs.Moment.{IsResting}
-use Rattle.jfs_super.specs.Super.{super_of}
+use Rattle.jfs_super.specs.Geometry.{IsLayout, geometry_of}
+use Rattle.jfs_super.specs.Rules.{blocks_of}
+use Rattle.jfs_super.proofs.Rules.{accepted_layout}
 use Rattle.jfs_super.specs.declared.fields.Super.{Super}
 use Rattle.jfs_logfmt.specs.Written.{text_of}
 use Rattle.jfs_logpages.specs.Fresh.{first_record}
@@ -25,7 +27,7 @@ use Rattle.jfs_legal.proofs.Going.{begin_law}
 use Rattle.jfs_legal.proofs.Known.{laws}
 use Rattle.jfs_shared.specs.Shared.{logs_of, HasText, IsShared, IsServed}
 use Rattle.jfs_shared.specs.Start.{IsJustMounted, base_at}
-use Rattle.jfs_shared.specs.declared.recorded.Recorded.{Recorded}
+use Rattle.jfs_shared.specs.Entries.{Recorded}
 use Rattle.jfs_shared.proofs.Fresh.{fresh_holds}
 
 module _ (tells crashes : Type 0) (s : Super) (image : Image) (volume : Parts) (log : LogParts) (m : IsJustMounted tells crashes s image volume log) where
@@ -34,6 +36,15 @@ module _ (tells crashes : Type 0) (s : Super) (image : Image) (volume : Parts) (
 
   abbrev both : Halves
   both = fresh_halves ring (record { pages = m.mount.pages; map = m.mount.maps.blocks; inodes = m.mount.maps.inodes })
+
+  layout : IsLayout (geometry_of s)
+  layout = accepted_layout s m.pages m.accepted
+
+  within : blocks_of s ≤ volume.blocks
+  within = let behind = layout.behind in omega (arith, behind, m.blocks)
+
+  some : 2 ≤ ring
+  some = let shortest = layout.shortest in omega (arith, shortest)
 
   none_told : (fact : Type 0) → false ≡ true → fact
   none_told fact e = absurd (false≢true e)
@@ -54,7 +65,7 @@ module _ (tells crashes : Type 0) (s : Super) (image : Image) (volume : Parts) (
 
   served : tells → IsConsistentImage s (page_of image) → IsServed s (page_of image) None [] volume
   served t consistent =
-      let held = laws.mounted s image volume log (told_mount tells crashes t s image volume log m.mount) m.within consistent in
+      let held = laws.mounted s image volume log (told_mount tells crashes t s image volume log m.mount) within consistent in
       record { start = volume; holds = held; runs = m.runs; goes_on = begin_law (volume_of s (page_of image)).area s.logpxd.len volume held.serves }
 
   pub volume_stands : IsShared tells (base_at s image) [] 0 0 [] 0 0 None volume
@@ -69,7 +80,7 @@ module _ (tells crashes : Type 0) (s : Super) (image : Image) (volume : Parts) (
     told_within = omega arith;
     taken_within = omega arith;
     text = text;
-    size = let same = ap (λ map. length map.states) m.mount.has_maps.0 in let number = m.mount.rest.number in let within = m.within in omega (arith, same, number, within);
+    size = let same = ap (λ map. length map.states) m.mount.has_maps.0 in let number = m.mount.rest.number in omega (arith, same, number, within);
     served = λ t. subst (λ (k : Super). IsConsistentImage k (page_of image) → IsServed k (page_of image) None [] volume) (sym (m.spelled t)) (served t);
   }
 
@@ -79,8 +90,8 @@ module _ (tells crashes : Type 0) (s : Super) (image : Image) (volume : Parts) (
   sized = ap (λ (b : List ℕ). length b) (sym (append-nil (text_of first_record))) ∙ length-items ring (4080 * (ring - 1)) (point 0 ∷ [])
 
   -- what mounts say of a log's text leaves its front open
-  holds : 2 ≤ ring → tells → Holds log.last (fresh_text ring (text_of first_record)) (fresh_ends ring) log.image
-  holds some t = fresh_holds ring log.last log.image h.front (text_of first_record) h.ends some sized h.begins log_stands.ring
+  holds : tells → Holds log.last (fresh_text ring (text_of first_record)) (fresh_ends ring) log.image
+  holds t = fresh_holds ring log.last log.image h.front (text_of first_record) h.ends some sized h.begins log_stands.ring
       (subst (λ (b : List ℕ). Holds log.last (h.front ++ b) h.ends log.image) (append-nil (text_of first_record)) h.holds)
       (subst (λ (n : ℕ). IsRing ring (fresh_text ring (text_of first_record)) (fresh_ends ring) n log.image) (let k : s.logpxd.len - 3 ≡ ring - 1 = omega arith in k) (m.fresh t).ring)
     where
@@ -90,12 +101,12 @@ module _ (tells crashes : Type 0) (s : Super) (image : Image) (volume : Parts) (
   rests : crashes → IsResting (last_of log.past)
   rests c = (m.mount.log_fresh false true (none_told tells) (λ _. c)).resting refl refl
 
-  pub begun_stands : (now : LogData) → 2 ≤ ring → now.image ≡ log.image → now.past ≡ log.past → now.last ≡ log.last → now.durable ≡ log.durable → now.points ≡ 0 → now.halted ≡ log.halted → LogStandsFor logs_of tells crashes ring now [] 0 0 0 0
-  begun_stands now some image past last durable points halted = fresh logs_of tells crashes ring now (fresh_ends ring)
+  pub begun_stands : (now : LogData) → now.image ≡ log.image → now.past ≡ log.past → now.last ≡ log.last → now.durable ≡ log.durable → now.points ≡ 0 → now.halted ≡ log.halted → LogStandsFor logs_of tells crashes ring now [] 0 0 0 0
+  begun_stands now same_image past last durable points halted = fresh logs_of tells crashes ring now (fresh_ends ring)
       (ap (λ l. l.ring) last ∙ log_stands.ring)
       (ap position_of last ∙ m.together.place ∙ stands.text.place)
       (durable ∙ log_stands.durable)
       points
       (halted ∙ log_stands.halted)
-      (λ t. subst (λ l. Holds l (fresh_text ring (text_of first_record)) (fresh_ends ring) now.image) (sym last) (subst (λ im. Holds log.last (fresh_text ring (text_of first_record)) (fresh_ends ring) im) (sym image) (holds some t)))
+      (λ t. subst (λ l. Holds l (fresh_text ring (text_of first_record)) (fresh_ends ring) now.image) (sym last) (subst (λ im. Holds log.last (fresh_text ring (text_of first_record)) (fresh_ends ring) im) (sym same_image) (holds t)))
       (λ c. subst (λ states. IsResting (last_of states)) (sym past) (rests c))
