@@ -9,7 +9,7 @@ use Rattle.jfs_serving.specs.Room as room
 use Rattle.jfs_serving.proofs.Numbers.{front_is_short}
 use Rattle.jfs_shared.specs.Both as both
 use Rattle.jfs_shared.specs.Shared.{standing, log_standing}
-use Rattle.jfs_shared.specs.declared.recorded.Recorded.{Recorded}
+use Rattle.jfs_shared.specs.Entries.{Recorded}
 use Rattle.jfs_shared.specs.declared.shared.SharedVolume.{SharedVolume}
 
 abbrev seen_of : room.Seen Recorded → both.Seen

@@ -17,7 +17,7 @@ use Rattle.jfs_serving.specs.Calls.{Asked}
 use Rattle.jfs_serving.specs.Called as calls
 use Rattle.jfs_shared.specs.Shared.{standing, log_standing, entries_in}
 use Rattle.jfs_shared.specs.Start.{IsJustMounted, base_at}
-use Rattle.jfs_shared.specs.declared.recorded.Recorded.{Recorded}
+use Rattle.jfs_shared.specs.Entries.{Recorded}
 use Rattle.jfs_shared.specs.declared.shared.SharedVolume.{SharedVolume}
 use Rattle.jfs_server.specs.declared.volume.ServedVolume.{ServedVolume}
 use Rattle.jfs_shared.specs.legal.specs.served.specs.volume_calls.specs.Together.{log_parts}
