@@ -23,6 +23,7 @@ use Rattle.jfs_call.specs.volume.specs.Told.{still_freed}
 use Rattle.jfs_shared.specs.Base.{ring_of}
 use Rattle.jfs_shared.specs.Both.{Seen, AreOf, AreTogether, Written, Lost, Committed, Pointed, PartlyPointed}
 use Rattle.jfs_shared.specs.Shared.{logs_of, IsShared, standing, log_standing}
+use Rattle.jfs_shared.specs.declared.point_group.PointGroup.{PointGroup}
 use Rattle.jfs_shared.specs.declared.shared.SharedVolume.{SharedVolume}
 use Rattle.jfs_shared.proofs.Logged.{all_taken, pointed_stands, lost_point}
 use Rattle.jfs_shared.proofs.Text.{reaches}
@@ -67,7 +68,7 @@ module _ {D : Type 0} (d : Ghosts D) (x : SharedVolume D) (y : SharedLog D d) (r
   pub idle : x.volume.taken ≡ x.volume.appended → (n : Seen) → AreOf (standing d) (log_standing d) n x y → Written (standing d) (log_standing d) n x y
   idle e n k = (
     subst (λ (m : ℕ). IsShared d.tells n.base n.list m n.told n.points n.known x.points x.broken_off x.volume) all k.volume,
-    all_taken logs_of d.tells d.tells_crashes (ring_of n.base) (data_of d y) n.log_list n.taken n.durable (length n.points) n.stable k.log runs n.list k.front all,
+    all_taken logs_of d.tells d.tells_crashes (ring_of n.base) (data_of d y) (data_of d y) n.log_list n.taken n.durable (length n.points) n.stable k.log runs n.list k.front all,
   )
     where
       all : n.taken ≡ length n.list
@@ -94,7 +95,7 @@ module _ {D : Type 0} (d : Ghosts D) (x : SharedVolume D) (y : SharedLog D d) (r
       one_more = let p = stands.points_are in let q = k.volume.points_are in omega (arith, p, q)
 
       log : LogStandsFor logs_of d.tells d.tells_crashes (ring_of n.base) (data_of d y) n.list (length n.list) (length n.list) (length n.points) n.stable
-      log = all_taken logs_of d.tells d.tells_crashes (ring_of n.base) (data_of d y) n.log_list n.taken n.durable (length n.points) n.stable k.log runs n.list k.front all
+      log = all_taken logs_of d.tells d.tells_crashes (ring_of n.base) (data_of d y) (data_of d y) n.log_list n.taken n.durable (length n.points) n.stable k.log runs n.list k.front all
 
       pub pointed_both : (known : Parts) → known ≡ record pointed { known = pointed.points } → (y' : SharedLog D d) → IsGroupWritten d.tells d.tells_crashes group (data_of d y) (data_of d y')
           → Pointed (standing d) (log_standing d) n (record x { volume = known; points = x.points + 1 }) (record y' { points = y'.points + 1 })
@@ -105,9 +106,9 @@ module _ {D : Type 0} (d : Ghosts D) (x : SharedVolume D) (y : SharedLog D d) (r
             (pointed_stands logs_of d.tells d.tells_crashes (ring_of n.base) (data_of d y) (data_of d y') n.list (length n.list) (length n.list) (length n.points) n.stable log runs group bytes point_size (last ∙ k.volume.appended) w),
       )
 
-      pub pointed_lost : (halted : Option Fault) (later : Parts) → later ≡ record pointed { halted = halted } → (y' : SharedLog D d) (fault : Fault) → IsGroupLost fault (data_of d y) (data_of d y')
-          → PartlyPointed (standing d) (log_standing d) n (record x { volume = later; points = x.points + 1 }) y'
-      pointed_lost halted later is y' fault w = record {
+      pub pointed_lost : (group_now : PointGroup) (halted : Option Fault) (later : Parts) → later ≡ record pointed { halted = halted } → (y' : SharedLog D d) (fault : Fault) → IsGroupLost fault (data_of d y) (data_of d y')
+          → PartlyPointed (standing d) (log_standing d) n (record x { volume = later; point = group_now; points = x.points + 1 }) y'
+      pointed_lost group_now halted later is y' fault w = record {
         told_now = length n.list;
         durable_now = length n.list;
         points_now = n.points ++ length n.list ∷ [];

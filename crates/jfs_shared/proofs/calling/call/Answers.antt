@@ -1,4 +1,6 @@
-use Rattle.std.proofs.Common.{refl}
+use Rattle.std.proofs.Common.{refl, sym, subst}
+use Rattle.jfs_groups.specs.Group.{Stays}
+use Rattle.jfs_shared.specs.Shared.{standing}
 use Rattle.jfs_shared.proofs.Called.{unanswered, call_is, lacked_is}
 use Rattle.jfs_shared.proofs.calling.call.Goals as goal
 
@@ -12,7 +14,8 @@ pub returns-then-appended-ge-LAST_ENTRY-clause-answered : goal.returns-then-appe
 returns-then-appended-ge-LAST_ENTRY-clause-answered g c = unanswered c.args.client c.args.line c.args.request.now c.args.shared.now.volume
 
 pub returns-in-NoMemory-clause-list : goal.returns-in-NoMemory-clause-list
-returns-in-NoMemory-clause-list g c = lacked_is g.D.Disk c.args.shared.now c.args.client c.args.line c.args.request.now c.args.now c.call_without_log.new.volume _ refl c.in-NoMemory.ensures.answered c.in-NoMemory.ensures.does
+returns-in-NoMemory-clause-list g c = subst (λ v. Stays (standing g.D.Disk) c.args.shared.now v) (sym c.break_off.ensures)
+    (lacked_is g.D.Disk c.args.shared.now c.args.client c.args.line c.args.request.now c.args.now c.call_without_log.new.volume c.call_without_log.new.volume.appended refl c.in-NoMemory.ensures.answered c.in-NoMemory.ensures.does)
 
 pub returns-in_default-clause-list : goal.returns-in_default-clause-list
 returns-in_default-clause-list g c = call_is g.D.Disk c.args.shared.now c.args.client c.args.line c.args.request.now c.args.now c.call_without_log.new.volume c.call_without_log.result c.in_default.not-NoMemory c.call_without_log.ensures.answered c.call_without_log.ensures.does

@@ -1,4 +1,6 @@
-use Rattle.std.proofs.Common.{refl, arith}
+use Rattle.std.proofs.Common.{refl, sym, subst, arith}
+use Rattle.jfs_shared.specs.Both.{PartlyPointed}
+use Rattle.jfs_shared.specs.Shared.{standing, log_standing}
 use Rattle.jfs_shared.proofs.Pointed.{settled, not_committed, home_are, not_home, nothing_left, same_end, all_told, point_ends, point_is, committed_told}
 use Rattle.jfs_shared.proofs.pointing.point_with.Goals as goal
 
@@ -7,7 +9,8 @@ returns-in-Err-clause-point g c n k = not_committed g.D.Disk c.args.shared.now c
 
 pub returns-in-Err-settle-clause-point : goal.returns-in-Err-settle-clause-point
 returns-in-Err-settle-clause-point g c n k =
-    not_home g.D.Disk c.args.shared.now c.args.log.now c.requires.running.0 n k c.commit_with.new.shared c.commit_with.new.log (c.in-Ok.ensures.commit n k) c.settle.new.volume c.settle.ensures.parts _ refl
+    subst (λ v. PartlyPointed (standing g.D.Disk) (log_standing g.D.Disk) n v c.commit_with.new.log) (sym c.break_off.ensures)
+    (not_home g.D.Disk c.args.shared.now c.args.log.now c.requires.running.0 n k c.commit_with.new.shared c.commit_with.new.log (c.in-Ok.ensures.commit n k) c.settle.new.volume c.settle.ensures.parts c.settle.new.volume.appended refl)
 
 pub write_point-requires-clause-empty : goal.write_point-requires-clause-empty
 write_point-requires-clause-empty g c =

@@ -1,8 +1,8 @@
 use Rattle.jfs_shared.proofs.Stands.{group_stands, group_is}
 use Rattle.jfs_shared.proofs.collected.SharedVolumeCollectedRecorded.take_group.Goals as goal
 
-pub returns-clause-takes : goal.returns-clause-takes
-returns-clause-takes g c base list taken told points known s =
+pub returns : goal.returns
+returns g c base list taken told points known s =
     let x = c.args.self.now in
     let e = c.take_group.ensures in (
       group_stands g.D.Disk.tells base list taken told points known x.points x.broken_off x.volume s c.take_group.new.self e.parts,

@@ -8,8 +8,8 @@ told-requires g c =
     let told = m.6.told_is in
     let taken = m.6.taken_is in (omega (arith, told, m.7), omega (arith, taken, m.8))
 
-pub returns-clause-tells : goal.returns-clause-tells
-returns-clause-tells g c base list taken told points known s =
+pub returns : goal.returns
+returns g c base list taken told points known s =
     let x = c.args.self.now in
     let m = c.requires.may in
     let is = s.taken_is in
