@@ -12,6 +12,7 @@ use std::thread::Threads;
 const TURNS: u32 = 10_000_000;
 
 /// Where clients wait for one another, and whether one waited in vain.
+#[derive(Drop)]
 pub struct Meeting {
     pub come: AtomicU64,
     pub missed: AtomicU64,
