@@ -4,7 +4,9 @@ use crate::gate::{Counting, Crossing};
 use crate::many::{Left, serve_many};
 use crate::volume::{MADE, NOW, faulty, formatted, redone, script};
 use jfs_disk::{Kind, SureDisk};
+use jfs_io::OpenGate;
 use jfs_plain::{Entry, Line, PlainTree};
+use jfs_script::write_history;
 use std::alloc::Global;
 use std::sync::atomic::Ordering;
 use std::test::*;
@@ -75,8 +77,12 @@ fn two_clients_cross(rt: HostRuntime) {
     assert_eq!(rt; left.history.len(), 2);
     assert_eq!(rt; left.told[1].as_slice(), [1].as_slice());
     assert_eq!(rt; first_unlike(alloc, left.history.as_slice()), 0);
-    let text = redone(alloc, left.disk, b"list /\n").expect(&rt, "redone");
-    assert_eq!(rt; text.as_str(), "1 1.1 names 1 a -\n");
+    let disk = redone(alloc, left.disk).expect(&rt, "redone");
+    let names = scripts(alloc, &[b"list /\n"]).expect(&rt, "a script");
+    let left = serve_many(&rt, alloc, disk, names, &OpenGate).expect(&rt, "served");
+    let mut out = Vec::new(alloc);
+    assert!(rt; write_history(alloc, left.history.as_slice(), &[], &mut out).is_ok());
+    assert_eq!(rt; out.as_slice(), b"1 1.1 names 1 a -\n".as_slice());
 }
 
 static SIXTEEN: [&'static [u8]; 16] = [

@@ -6,8 +6,7 @@ use jfs_format::format;
 use jfs_io::SureSource;
 use jfs_plain::Line;
 use jfs_redo::redo;
-use jfs_run::run_lines;
-use jfs_script::{read_script, write_history};
+use jfs_script::read_script;
 use jfs_served::unmount::mount;
 use jfs_server::{Pass, Server};
 use jfs_super::{Super, VolumeState, read_super};
@@ -77,19 +76,12 @@ pub fn script(alloc: Global, text: &[u8]) -> Option<Vec<Line>> {
     read_script(alloc, &mut source).ok()
 }
 
-/// Redoes the volume of a disk that was left, and answers the text of a script's run on it.
-pub fn redone<D: Disk + Drop>(alloc: Global, disk: D, text: &[u8]) -> Option<String> {
+/// Redoes the volume of a disk that was left.
+pub fn redone<D: Disk + Drop>(alloc: Global, disk: D) -> Option<D> {
     let mut disk = disk;
     let s = super_of(&mut disk)?;
     if s.state != VolumeState::MOUNTED || redo(alloc, &mut disk, &s).is_err() {
         return None;
     }
-    let s = super_of(&mut disk)?;
-    let lines = script(alloc, text)?;
-    let ran = run_lines(alloc, disk, &s, lines.as_slice(), NOW, false);
-    let mut out = Vec::new(alloc);
-    match write_history(alloc, ran.history.as_slice(), ran.told.as_slice(), &mut out) {
-        Ok(()) => String::from_utf8(out).ok(),
-        Err(_) => None,
-    }
+    Some(disk)
 }
