@@ -2,9 +2,11 @@ use Rattle.jfs_shared.proofs.Stands.{group_stands, group_is}
 use Rattle.jfs_shared.proofs.collected.SharedVolumeCollectedRecorded.take_group.Goals as goal
 
 pub returns : goal.returns
-returns g c base list taken told points known s =
-    let x = c.args.self.now in
-    let e = c.take_group.ensures in (
-      group_stands g.D.Disk.tells base list taken told points known x.points x.broken_off x.volume s c.take_group.new.self e.parts,
-      group_is g.D.Disk.tells base list taken told points known x.points x.broken_off x.volume s c.take_group.result e.text.0 e.last.0 e.room,
-    )
+returns g c = record {
+  takes = λ base list taken told points known s.
+      let x = c.args.self.now in
+      let e = c.take_group.ensures in (
+        group_stands g.D.Disk.tells base list taken told points known x.points x.broken_off x.volume s c.take_group.new.self e.parts,
+        group_is g.D.Disk.tells base list taken told points known x.points x.broken_off x.volume s c.take_group.result e.text.0 e.last.0 e.room,
+      );
+}

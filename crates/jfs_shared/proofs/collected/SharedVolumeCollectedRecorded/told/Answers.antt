@@ -9,9 +9,11 @@ told-requires g c =
     let taken = m.6.taken_is in (omega (arith, told, m.7), omega (arith, taken, m.8))
 
 pub returns : goal.returns
-returns g c base list taken told points known s =
-    let x = c.args.self.now in
-    let m = c.requires.may in
-    let is = s.taken_is in
-    let same = m.6.taken_is in
-    told_stands g.D.Disk.tells base list taken told points known x.points x.broken_off x.volume s c.args.n c.told.new.self (omega (arith, is, same, m.8)) c.told.ensures.parts c.told.ensures.shows
+returns g c = record {
+  tells = λ base list taken told points known s.
+      let x = c.args.self.now in
+      let m = c.requires.may in
+      let is = s.taken_is in
+      let same = m.6.taken_is in
+      told_stands g.D.Disk.tells base list taken told points known x.points x.broken_off x.volume s c.args.n c.told.new.self (omega (arith, is, same, m.8)) c.told.ensures.parts c.told.ensures.shows;
+}
