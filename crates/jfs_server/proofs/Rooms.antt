@@ -17,19 +17,19 @@ abbrev seen_of : room.Seen Recorded → both.Seen
 seen_of n = record { base = n.base; list = n.list; log_list = n.log_list; taken = n.taken; told = n.told; durable = n.durable; points = n.points; known = n.known; stable = n.stable }
 
 module _ {D : Type 0} (d : Ghosts D) where
-  abbrev served : Standing (ServedVolume D d) Recorded
+  abbrev served : Standing (ServedVolume D) Recorded
   served = λ v. standing d v.shared
 
-  abbrev Room : room.Seen Recorded → ServedVolume D d → SharedLog D d → Type 0
-  Room n x y = (points : List ℕ) × room.HasRoom served (log_standing d) (λ (v : ServedVolume D d). v.shared.points) n points x y
+  abbrev Room : room.Seen Recorded → ServedVolume D → SharedLog D d → Type 0
+  Room n x y = (points : List ℕ) × room.HasRoom served (log_standing d) (λ (v : ServedVolume D). v.shared.points) n points x y
 
-  are_of : (n : room.Seen Recorded) (x : ServedVolume D d) (y : SharedLog D d) → room.AreOf served (log_standing d) n x y → both.AreOf (standing d) (log_standing d) (seen_of n) x.shared y
+  are_of : (n : room.Seen Recorded) (x : ServedVolume D) (y : SharedLog D d) → room.AreOf served (log_standing d) n x y → both.AreOf (standing d) (log_standing d) (seen_of n) x.shared y
   are_of n x y a = record { volume = a.volume; log = a.log; front = a.front; told_within = a.told_within }
 
-  pub together : (x : ServedVolume D d) (y : SharedLog D d) → room.AreTogether served (log_standing d) x y → both.AreTogether (standing d) (log_standing d) x.shared y
+  pub together : (x : ServedVolume D) (y : SharedLog D d) → room.AreTogether served (log_standing d) x y → both.AreTogether (standing d) (log_standing d) x.shared y
   together x y t = (seen_of t.0, are_of t.0 x y t.1)
 
-  pub commit_room : (r : Result (Unit {0}) LogFault) (x : ServedVolume D d) (y : SharedLog D d) (x' : ServedVolume D d) (y' : SharedLog D d) → both.CommitIs (standing d) (log_standing d) x.shared y x'.shared y' r → (n : room.Seen Recorded) → room.AreOf served (log_standing d) n x y → Room n x' y'
+  pub commit_room : (r : Result (Unit {0}) LogFault) (x : ServedVolume D) (y : SharedLog D d) (x' : ServedVolume D) (y' : SharedLog D d) → both.CommitIs (standing d) (log_standing d) x.shared y x'.shared y' r → (n : room.Seen Recorded) → room.AreOf served (log_standing d) n x y → Room n x' y'
   commit_room (Ok done) x y x' y' is n a =
       let c = is (seen_of n) (are_of n x y a) in
       (
@@ -73,7 +73,7 @@ module _ {D : Type 0} (d : Ghosts D) where
         },
       )
 
-  pub point_room : (r : Result (Unit {0}) Fault) (x : ServedVolume D d) (y : SharedLog D d) (x' : ServedVolume D d) (y' : SharedLog D d) → both.PointIs (standing d) (log_standing d) x.shared y x'.shared y' r → (n : room.Seen Recorded) → room.AreOf served (log_standing d) n x y → Room n x' y'
+  pub point_room : (r : Result (Unit {0}) Fault) (x : ServedVolume D) (y : SharedLog D d) (x' : ServedVolume D) (y' : SharedLog D d) → both.PointIs (standing d) (log_standing d) x.shared y x'.shared y' r → (n : room.Seen Recorded) → room.AreOf served (log_standing d) n x y → Room n x' y'
   point_room (Ok done) x y x' y' is n a =
       let c = is (seen_of n) (are_of n x y a) in
       let more = length-append n.points (length n.list ∷ []) in

@@ -20,38 +20,31 @@ use Rattle.jfs_shared.specs.Start.{IsJustMounted, base_at}
 use Rattle.jfs_shared.specs.Entries.{Recorded}
 use Rattle.jfs_shared.specs.declared.shared.SharedVolume.{SharedVolume}
 use Rattle.jfs_server.specs.declared.volume.ServedVolume.{ServedVolume}
-use Rattle.jfs_shared.specs.legal.specs.served.specs.volume_calls.specs.Together.{log_parts}
-use Rattle.jfs_shared.specs.legal.specs.served.specs.mounted.specs.declared.mounted.Mounted.{Mounted}
+use Rattle.jfs_shared.specs.legal.specs.served.specs.halves.specs.Parts.{Parts}
+use Rattle.jfs_shared.specs.legal.specs.served.specs.halves.specs.Log.{LogParts}
 use Rattle.jfs_server.specs.Answers.{Answers}
-use Rattle.jfs_server.specs.declared.server.Server.{Server}
 
 abbrev pub client_of : Recorded → ℕ
 client_of e = e.entry.client
 
 module _ {D : Type 0} (d : Ghosts D) where
-  -- the pass is of this server
-  abbrev pub IsOf : Server D d → Pass (ServedVolume D d) (SharedLog D d) Recorded → Type 0
-  IsOf server pass = pass.seat.table_id ≡ server.turns.table.shared.table_id
-
   -- The call has its entry, and the volume gave its reply when it stood for all entries before it. Before and behind it stand entries of other clients alone.
   abbrev pub HasCalled : Asked → Reply → Ack → View Recorded → View Recorded → Type 0
-  HasCalled a reply ack v w = calls.HasCalled client_of (λ e. e.entry) (λ e. e.now) (λ (v : ServedVolume D d). standing d v.shared) (log_standing d) (λ asked old new given. Answers asked old.shared.volume new.shared.volume given) (λ y. y.side.halted) a reply ack v w
+  HasCalled a reply ack v w = calls.HasCalled client_of (λ e. e.entry) (λ e. e.now) (λ (v : ServedVolume D). standing d v.shared) (log_standing d) (λ asked old new given. Answers asked old.shared.volume new.shared.volume given) (λ y. y.side.halted) a reply ack v w
 
   -- the volume was just mounted, from what the base says
-  abbrev pub IsMountedAt : Base → Mounted D d → Type 0
-  IsMountedAt base m = (s : Super) × (image : Image) × (base ≡ base_at s image) × IsJustMounted d.tells d.tells_crashes s image m.volume (log_parts d m.log)
+  abbrev pub IsMountedAt : Base → Parts → LogParts → Type 0
+  IsMountedAt base volume log = (s : Super) × (image : Image) × (base ≡ base_at s image) × IsJustMounted d.tells d.tells_crashes s image volume log
 
   -- The volume and its log stood for one list, which the history is; the volume has handed it out. The list goes on that of each pass, with no entry of that pass's client.
-  pub record IsStopped (passes : List (Pass (ServedVolume D d) (SharedLog D d) Recorded)) (m : Mounted D d) (history : List Entry) (broken_off : Option ℕ) : Type 0 where
+  pub record IsStopped (passes : List (Pass (ServedVolume D) (SharedLog D d) Recorded)) (now : Parts) (log : SharedLog D d) (history : List Entry) (broken_off : Option ℕ) : Type 0 where
     pub end : End Recorded
-    pub volume : SharedVolume D d
-    pub log : SharedLog D d
+    pub volume : SharedVolume D
     pub volume_stands : standing d volume end.base end.list end.taken end.told end.points end.known
     pub log_stands : log_standing d log end.base end.log_list end.taken end.durable end.log_points end.stable
     pub ordered : IsInOrder end
     pub history_is : history ≡ entries_in end.list
-    pub volume_is : m.volume ≡ record volume.volume { entries = [] }
-    pub log_is : m.log ≡ log.side
+    pub volume_is : now ≡ record volume.volume { entries = [] }
     pub broken_off_is : broken_off ≡ volume.broken_off
-    pub each : (i : ℕ) (p : Pass (ServedVolume D d) (SharedLog D d) Recorded) → get_elem? passes i ≡ some p → GoesOn client_of end p
-    pub last : (i : ℕ) (p : Pass (ServedVolume D d) (SharedLog D d) Recorded) → get_elem? passes i ≡ some p → suc i ≡ length passes → IsOfLast client_of end p
+    pub each : (i : ℕ) (p : Pass (ServedVolume D) (SharedLog D d) Recorded) → get_elem? passes i ≡ some p → GoesOn client_of end p
+    pub last : (i : ℕ) (p : Pass (ServedVolume D) (SharedLog D d) Recorded) → get_elem? passes i ≡ some p → suc i ≡ length passes → IsOfLast client_of end p

@@ -3,7 +3,7 @@ ghost use Rattle.std.specs.Prelude.{◌≡◌, ◌⊎◌, ◌<◌, ◌+◌};
 ghost use Rattle.jfs_plain.specs.Limits.{FitsRequest};
 ghost use Rattle.jfs_serving.specs.Calls.{asked};
 ghost use Rattle.jfs_serving.specs.Called.{Keeps, HasNoEntry};
-ghost use Rattle.jfs_server.specs.Server.{IsOf, HasCalled, client_of};
+ghost use Rattle.jfs_server.specs.Server.{HasCalled, client_of};
 
 use crate::volume::ServedVolume;
 use jfs_bits::Moment;
@@ -39,10 +39,10 @@ impl<D: Disk> Server<D> {
         now: Moment,
         gate: &G,
     ) -> (Reply, Ack, Pass<D>)
-        requires of { IsOf self.now pass }
+        requires of { pass.seat.table_id ≡ self.now.turns.table.shared.table_id }
         requires left { 0 < pass.calls_left }
         requires fits { FitsRequest request.now }
-        ensures same { IsOf self.now result.2 × (result.2.client ≡ pass.client) }
+        ensures same { (result.2.seat.table_id ≡ pass.seat.table_id) × (result.2.client ≡ pass.client) }
         ensures keeps { Keeps pass.seat.me.0 result.2.seat.me.0 }
         ensures called { (HasCalled D.Disk (asked pass.client line request.now now) result.0 result.1 pass.seat.me.0 result.2.seat.me.0 × (result.2.calls_left + 1 ≡ pass.calls_left))
             ⊎ (HasNoEntry client_of result.0 result.1 pass.seat.me.0 result.2.seat.me.0 × (result.2.calls_left ≡ pass.calls_left)) }

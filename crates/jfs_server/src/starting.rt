@@ -1,6 +1,7 @@
 //! A server begins.
 ghost use Rattle.std.specs.Prelude.{◌≡◌, ◌<◌, ◌≤◌, IfOk, IfErr, length};
 ghost use Rattle.jfs_turns.specs.Passes.{ArePasses, AreNew};
+ghost use Rattle.jfs_shared.specs.legal.specs.served.specs.volume_calls.specs.Together.{log_parts};
 ghost use Rattle.jfs_server.specs.Server.{IsMountedAt};
 
 use crate::server::{Pass, Server};
@@ -20,7 +21,7 @@ impl<D: Disk> Server<D> {
         clients: u32,
     ) -> Result<(Server<D>, Vec<Pass<D>>), Mounted<D>>
         requires few { (0 < clients) × (clients ≤ 16) }
-        requires mounted { IsMountedAt D.Disk B.base m }
+        requires mounted { IsMountedAt D.Disk B.base m.volume (log_parts D.Disk m.log) }
         ensures ok { IfOk result (λ r. ArePasses r.0.turns.table.shared.table_id clients r.1.items × AreNew B.base r.1.items × (length r.1.items ≡ clients)) }
         ensures err { IfErr result (λ back. back ≡ m) }
     {

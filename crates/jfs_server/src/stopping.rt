@@ -1,5 +1,5 @@
 //! A server ends.
-ghost use Rattle.std.specs.Prelude.{◌≡◌, ◌<◌, length};
+ghost use Rattle.std.specs.Prelude.{◌≡◌, ◌<◌, ℕ, length};
 ghost use Rattle.jfs_turns.specs.Passes.{ArePasses};
 ghost use Rattle.jfs_server.specs.Server.{IsStopped};
 
@@ -24,7 +24,7 @@ impl<D: Disk> Server<D> {
     /// their order. It takes no memory.
     pub fn stop(self, passes: Vec<Pass<D>>) -> Stopped<D>
         requires passes { ArePasses self.turns.table.shared.table_id (length passes.items) passes.items × (0 < length passes.items) }
-        ensures { IsStopped D.Disk passes.items result.m result.history.items result.broken_off }
+        ensures { (points : ℕ) × IsStopped D.Disk passes.items result.m.volume (record { side = result.m.log; points = points }) result.history.items result.broken_off }
     {
         let Server { turns, alloc: _ } = self;
         let (volume, log) = turns.close(passes);
