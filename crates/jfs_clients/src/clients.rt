@@ -1,8 +1,5 @@
 //! Scripts of clients, done at once.
-ghost use Rattle.std.specs.Prelude.{◌≡◌, ◌<◌, ◌≤◌, ◌+◌};
-ghost use Rattle.jfs_plain.specs.Limits.{FitsRequest};
-ghost use Rattle.jfs_plain.specs.declared.call.Ack.{Ack};
-ghost use Rattle.jfs_plain.specs.declared.reply.Reply.{Reply};
+ghost use Rattle.std.specs.Prelude.{◌≡◌};
 ghost use Rattle.jfs_clients.specs.Ran.{wants_memory, MayRun, Ran, AllMayRun, EachRan, MayRunAt, RanAt};
 
 use crate::caller::Caller;
@@ -37,21 +34,11 @@ fn run_lines<C: Caller, R: Threads + Wait + Sync>(rt: &R, caller: &mut C, lines:
     ensures { Ran C.did lines.now caller.old caller.new }
 {
     for line in lines {
-        if send(rt, caller, line) {
+        let (reply, _) = caller.call(rt, line.number, &line.request);
+        if wants_memory(&reply) {
             return;
         }
     }
-}
-
-/// Does the call of a line, and answers whether it found no memory.
-fn send<C: Caller, R: Threads + Wait + Sync>(rt: &R, caller: &mut C, line: &Line) -> bool
-    requires one { 0 < C.left caller.old }
-    requires fits { FitsRequest line.now.request }
-    ensures left { C.left caller.old ≤ C.left caller.new + 1 }
-    ensures did { (reply : Reply) × (ack : Ack) × C.did caller.old line.now.number line.now.request reply ack caller.new × (result ≡ wants_memory reply) }
-{
-    let (reply, _) = caller.call(rt, line.number, &line.request);
-    wants_memory(&reply)
 }
 
 /// Whether a call found no memory.

@@ -1,7 +1,0 @@
-//! Tests of clients that run at once.
-#![tactic(auto)]
-
-#[cfg(test)]
-mod rows;
-#[cfg(test)]
-mod toy;
