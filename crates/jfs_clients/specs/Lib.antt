@@ -1,0 +1,2 @@
+-- what the clauses say
+pub mod Ran

@@ -1,0 +1,3 @@
+-- what the clauses say
+pub mod Workload
+pub mod Limits

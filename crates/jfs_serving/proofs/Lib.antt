@@ -1,0 +1,5 @@
+pub mod Numbers
+pub mod Marking
+pub mod Joining
+pub mod Lending
+pub mod Ending
