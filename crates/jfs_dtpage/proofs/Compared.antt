@@ -92,7 +92,7 @@ pub rises_more : (names : List (List ℕ)) (place : ℕ) (one next : List ℕ) �
 rises_more names place one next l o n b inv i h = elim (cases_lt (suc i) place) [
   | inl a ↦ inv i a
   | inr c ↦
-    let e : place ≡ suc i = omega (arith, c, h) in let f : place - 1 ≡ i = omega (arith, e) in
-    subst (λ (k : ℕ). IsBefore (name_at names k) (name_at names (suc i))) f
-    (subst (λ (k : ℕ). IsBefore (name_at names (place - 1)) (name_at names k)) e (subst (λ (z : List ℕ). IsBefore (name_at names (place - 1)) z) n (subst (λ (z : List ℕ). IsBefore z next) o b)))
+      let e : place ≡ suc i = omega (arith, c, h) in let f : place - 1 ≡ i = omega (arith, e) in
+      subst (λ (k : ℕ). IsBefore (name_at names k) (name_at names (suc i))) f
+      (subst (λ (k : ℕ). IsBefore (name_at names (place - 1)) (name_at names k)) e (subst (λ (z : List ℕ). IsBefore (name_at names (place - 1)) z) n (subst (λ (z : List ℕ). IsBefore z next) o b)))
 ]
