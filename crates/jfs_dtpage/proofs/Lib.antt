@@ -5,6 +5,7 @@ pub mod Further
 pub mod Entries
 pub mod Rising
 pub mod Pages
+pub mod Compared
 pub mod Meeting
 pub mod Shifts
 pub mod Released

@@ -3,15 +3,15 @@
 ghost use Rattle.std.specs.Prelude.{◌≡◌, ◌<◌, ◌≤◌, ◌+◌, ◌*◌, ◌-◌, ◌%◌, ℕ, length, IfOk, IfErr, true, false};
 ghost use Rattle.jfs_bits.specs.Broken.{AllHold, IsFirstBroken};
 ghost use Rattle.jfs_dtpage.specs.Form.{bytes_of, flag_of, head_of};
-ghost use Rattle.jfs_dtpage.specs.Order.{IsBefore, IsRising};
+ghost use Rattle.jfs_dtpage.specs.Order.{IsRising};
 ghost use Rattle.jfs_dtpage.specs.Page.{FlagFits, SlotsFit, ChainsFit, names_of, IsDtPage, Holds, dt_rules};
 
-use crate::entry::{count_of, read_slot};
+use crate::entry::{count_of, is_leaf, slot_at};
 use crate::follow::{chains_fit, free_fits};
 use crate::head::{BadDt, DtForm, DtHead, Place};
 use crate::left::usable_slots;
+use crate::order::is_before;
 use jfs_bits::{Rule, get_pxd, get_u8, get_u32, get_u64};
-use std::cmp::Ordering;
 
 /// The header of a page that breaks no rule of its form, else the first rule that it breaks: `flag`, `slots`, `chain`, `free`, `order`.
 pub fn dt_check(bytes: &[u8], form: DtForm) -> Result<DtHead, BadDt>
@@ -72,26 +72,14 @@ fn is_rising(bytes: &[u8], form: DtForm) -> bool
     ensures rises { result ≡ true → IsRising (names_of form bytes.now) }
     ensures breaks { result ≡ false → ¬ (IsRising (names_of form bytes.now)) }
 {
-    let mut one = [0u16; 255];
-    let mut next = [0u16; 255];
+    let leaf = is_leaf(bytes);
     for place in 1..count_of(bytes) {
-        let units = read_slot(bytes, form, place - 1, &mut one);
-        let more = read_slot(bytes, form, place, &mut next);
-        if !is_before(&one[..units], &next[..more]) {
+        let before = slot_at(bytes, form, place - 1);
+        if !is_before(bytes, leaf, before, slot_at(bytes, form, place)) {
             return false;
         }
     }
     true
-}
-
-fn is_before(one: &[u16], other: &[u16]) -> bool
-    ensures yes { result ≡ true → IsBefore one.now other.now }
-    ensures no { result ≡ false → ¬ (IsBefore one.now other.now) }
-{
-    match one.cmp(&other) {
-        Ordering::Less => true,
-        Ordering::Equal | Ordering::Greater => false,
-    }
 }
 
 fn read_head(bytes: &[u8], form: DtForm) -> DtHead

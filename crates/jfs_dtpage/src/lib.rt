@@ -10,6 +10,7 @@ mod head;
 mod left;
 mod link;
 mod make;
+mod order;
 mod put;
 mod read;
 mod release;

@@ -1,15 +1,11 @@
 -- A history that goes on, with a call, a commit or a syncpoint behind it.
-use Rattle.std.proofs.Common.{◌≡◌, ◌⊎◌, ◌++◌, ◌∷◌, [], refl, sym, ap, ◌∙◌, subst, ℕ, List, inl, inr, append_assoc}
+use Rattle.std.proofs.Common.{◌++◌, ◌∷◌, [], refl, ap, ◌∙◌, ℕ, List, inl, inr, append_assoc}
 use Rattle.jfs_served.specs.halves.specs.Parts.{Parts}
-use Rattle.jfs_served.specs.plain.specs.declared.reply.Reply.{Reply}
-use Rattle.jfs_served.specs.call.specs.Does.{Does}
-use Rattle.jfs_served.specs.call.specs.DoesLent.{Both, Asking, End, NeedsThen, DoesAgain}
+use Rattle.jfs_served.specs.call.specs.DoesLent.{Asking}
 use Rattle.jfs_served.specs.call.specs.declared.outcome.Outcome.{Outcome}
 use Rattle.jfs_served.specs.call.specs.declared.outcome.Outcome.TheVariants.{Replied, NeedsLog, NoMemory}
 use Rattle.jfs_served.specs.volume.specs.Join.{entry_with}
-use Rattle.jfs_served.specs.volume.specs.Settles.{Settles, StaysShown}
-use Rattle.jfs_served.specs.volume_calls.specs.Written.{KeepsPages, WritesMaps}
-use Rattle.jfs_served.specs.Legal.{Timed, IsLegal, HasServed}
+use Rattle.jfs_served.specs.Legal.{Timed, HasServed}
 use Rattle.jfs_served.proofs.Told.{told_shown}
 use Rattle.jfs_legal.specs.Until.{at, IsLegalUntil, AreLegal, GoOn}
 use Rattle.jfs_legal.specs.Laws.{Leaves, BeginLaw, LegalLaw, CallLaw, LentLaw, SettledLaw, PointedLaw, HandedLaw}

@@ -1,15 +1,15 @@
 -- What calls and commits leave of a legal history, on a disk that tells its contents.
-use Rattle.std.specs.Prelude.{◌≡◌, ◌⊎◌, ◌++◌, ◌∷◌, [], ℕ, List}
+use Rattle.std.specs.Prelude.{◌⊎◌, ◌++◌, ◌∷◌, [], ℕ, List}
 use Rattle.jfs_served.specs.halves.specs.Parts.{Parts}
 use Rattle.jfs_served.specs.call.specs.Does.{Does}
 use Rattle.jfs_served.specs.call.specs.DoesLent.{Both, Asking, End, NeedsThen, DoesAgain}
 use Rattle.jfs_served.specs.call.specs.declared.outcome.Outcome.{Outcome}
 use Rattle.jfs_served.specs.call.specs.declared.outcome.Outcome.TheVariants.{Replied, NeedsLog, NoMemory}
 use Rattle.jfs_served.specs.volume.specs.Join.{entry_with}
-use Rattle.jfs_served.specs.volume.specs.Settles.{Settles, StaysShown, HomesAlone}
+use Rattle.jfs_served.specs.volume.specs.Settles.{Settles, StaysShown}
 use Rattle.jfs_served.specs.volume_calls.specs.Written.{KeepsPages, WritesMaps}
 use Rattle.jfs_served.specs.Holds.{MayServe}
-use Rattle.jfs_served.specs.Legal.{Timed, IsLegal}
+use Rattle.jfs_served.specs.Legal.{Timed}
 use Rattle.jfs_legal.specs.Until.{at, AreLegal, GoOn}
 
 -- What a call leaves of a history that goes on: with its entry it goes on; one that needs the log has none, and may be asked again; and where memory lacked the entries so far are legal.

@@ -6,6 +6,7 @@ mod history;
 mod law;
 mod line;
 mod number;
+mod pairs;
 mod print;
 mod reader;
 mod script;

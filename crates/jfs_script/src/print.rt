@@ -6,6 +6,7 @@ ghost use Rattle.std.specs.Fmt.{decimal};
 ghost use Rattle.jfs_name.specs.Spelled.{digit_byte};
 ghost use Rattle.jfs_script.specs.Text.{kind_text, octal_text, number_text, stat_text, hex_text, target_byte, name_text, part_text, values_text, refusal_text, reply_text, entry_text};
 
+use crate::pairs::push_digits;
 use jfs_bits::{Blob, Rule};
 use jfs_disk::{Fault, Part};
 use jfs_name::{NameList, write_name};
@@ -60,8 +61,7 @@ fn push_hex(alloc: Global, into: &mut Vec<u8>, bytes: &Blob) -> Result<(), Alloc
         into.push(b'-')?;
         return Ok(());
     }
-    let text = hex::encode(alloc, bytes.as_slice())?;
-    into.extend_from_slice(text.as_bytes())
+    push_digits(alloc, into, bytes.as_slice())
 }
 
 #[tactic(auto, unfolding(crate::specs::Text::stat_text))]

@@ -1,5 +1,5 @@
 -- A volume that was just mounted, and its log, stand for no entry.
-use Rattle.std.proofs.Common.{◌≡◌, ◌<◌, ◌≤◌, ℕ, suc, ◌+◌, ◌-◌, ◌*◌, List, [], ◌∷◌, ◌++◌, length, true, false, Bool, None, refl, sym, ap, subst, ◌∙◌, inl, arith, append-nil}
+use Rattle.std.proofs.Common.{◌≡◌, ◌≤◌, ℕ, ◌-◌, ◌*◌, List, [], ◌∷◌, ◌++◌, length, true, false, None, refl, sym, ap, subst, ◌∙◌, arith, append-nil}
 use Rattle.std.proofs.lemmas.Bool.{false≢true}
 use Rattle.jfs_disk.specs.Image.{Image, page_of}
 use Rattle.jfs_disk.specs.Crash.{last_of}
@@ -16,7 +16,7 @@ use Rattle.jfs_records.specs.Entries.{point}
 use Rattle.jfs_records.proofs.ReadBack.{length-items}
 use Rattle.jfs_groups.specs.Log.{LogData, LogStandsFor}
 use Rattle.jfs_groups.proofs.Stands.{fresh}
-use Rattle.jfs_legal.specs.served.specs.halves.specs.Half.{VolumeHalf, Halves}
+use Rattle.jfs_legal.specs.served.specs.halves.specs.Half.{Halves}
 use Rattle.jfs_legal.specs.served.specs.halves.specs.Laws.{fresh_halves}
 use Rattle.jfs_legal.specs.served.specs.halves.specs.Log as halves
 use Rattle.jfs_legal.specs.served.specs.halves.specs.Log.{LogParts, HoldsItems}
@@ -27,7 +27,6 @@ use Rattle.jfs_legal.proofs.Going.{begin_law}
 use Rattle.jfs_legal.proofs.Known.{laws}
 use Rattle.jfs_shared.specs.Shared.{logs_of, HasText, IsShared, IsServed}
 use Rattle.jfs_shared.specs.Start.{IsJustMounted, base_at}
-use Rattle.jfs_shared.specs.Entries.{Recorded}
 use Rattle.jfs_shared.proofs.Fresh.{fresh_holds}
 
 module _ (tells crashes : Type 0) (s : Super) (image : Image) (volume : Parts) (log : LogParts) (m : IsJustMounted tells crashes s image volume log) where

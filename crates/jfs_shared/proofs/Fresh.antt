@@ -1,5 +1,5 @@
 -- A log that was just made holds its one SYNCPT behind zeros, whatever front was said of it.
-use Rattle.std.proofs.Common.{◌≡◌, ◌<◌, ◌≤◌, ℕ, suc, ◌+◌, ◌-◌, ◌*◌, List, [], ◌++◌, length, get_or, replicate, max, refl, sym, ap, subst, ◌∙◌, arith}
+use Rattle.std.proofs.Common.{◌≡◌, ◌≤◌, ℕ, suc, ◌+◌, ◌-◌, ◌*◌, List, ◌++◌, length, get_or, replicate, refl, sym, ap, subst, ◌∙◌, arith}
 use Rattle.std.proofs.lemmas.List.{length-append, length-replicate, get_or-append-add}
 use Rattle.jfs_disk.specs.Image.{Image}
 use Rattle.jfs_logpages.specs.declared.last.Last.{Last}

@@ -1,21 +1,20 @@
 -- The log side behind a SYNCPT, and where groups have taken all.
-use Rattle.std.proofs.Common.{◌≡◌, ◌≤◌, ℕ, suc, ◌+◌, ◌-◌, ◌*◌, ◌^◌, List, [], ◌∷◌, ◌++◌, length, take, drop, replicate, Option, Some, None, refl, sym, ap, subst, ◌∙◌, arith, append_assoc, append-nil}
-use Rattle.std.proofs.lemmas.List.{length-append, length-replicate}
+use Rattle.std.proofs.Common.{◌≡◌, ℕ, suc, ◌+◌, List, [], ◌∷◌, ◌++◌, length, Option, Some, None, refl, sym, ap, subst, ◌∙◌, arith, append_assoc, append-nil}
+use Rattle.std.proofs.lemmas.List.{length-append}
 use Rattle.std.proofs.lemmas.Grind.{flat_map-append}
-use Rattle.std.proofs.Math.Seq.{take-append_seam}
 use Rattle.jfs_disk.specs.Image.{Image}
 use Rattle.jfs_disk.specs.declared.disk.Fault.{Fault}
 use Rattle.jfs_logfmt.specs.Written.{text_of}
 use Rattle.jfs_logfmt.specs.declared.log_record.Record.TheVariants.{SyncPt}
 use Rattle.jfs_logpages.specs.declared.group_text.GroupText.{GroupText}
 use Rattle.jfs_logpages.specs.declared.last.Last.{Last}
-use Rattle.jfs_logpages.specs.Group.{Holds, position_of}
+use Rattle.jfs_logpages.specs.Group.{Holds}
 use Rattle.jfs_logpages.specs.Records.{log_text}
 use Rattle.jfs_records.specs.Records.{Noted}
-use Rattle.jfs_records.specs.Entries.{Item, point, text_size, log_records}
-use Rattle.jfs_records.proofs.ReadBack.{length-items, records-append}
+use Rattle.jfs_records.specs.Entries.{Item, point, log_records}
+use Rattle.jfs_records.proofs.ReadBack.{records-append}
 use Rattle.jfs_turns.specs.Lists.{IsPrefix}
-use Rattle.jfs_groups.specs.Text.{entries_in, text_with, items_from, end_of, HoldsText}
+use Rattle.jfs_groups.specs.Text.{entries_in, text_with, HoldsText}
 use Rattle.jfs_groups.specs.Log.{LogData, IsRunning, LogStandsFor}
 use Rattle.jfs_groups.specs.Written.{IsGroupWritten, IsGroupLost}
 use Rattle.jfs_groups.proofs.Text.{entries-append, points-append, start_of, zeros_of}

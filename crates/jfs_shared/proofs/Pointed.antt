@@ -1,5 +1,5 @@
 -- A syncpoint behind a commit: what volume and log stand for on the way.
-use Rattle.std.proofs.Common.{◌≡◌, ◌≤◌, ℕ, suc, ◌+◌, ◌*◌, ◌^◌, List, [], ◌∷◌, ◌++◌, length, Option, Some, None, Result, Ok, Err, refl, sym, ap, subst, ◌∙◌, arith, append-nil}
+use Rattle.std.proofs.Common.{◌≡◌, ◌≤◌, ℕ, ◌+◌, List, [], length, None, Result, Ok, Err, refl, sym, ap, ◌∙◌, arith, append-nil}
 use Rattle.jfs_disk.specs.declared.disk.Disk.{Ghosts}
 use Rattle.jfs_disk.specs.declared.disk.Fault.{Fault}
 use Rattle.jfs_groups.specs.declared.log.SharedLog.{SharedLog}
@@ -7,7 +7,7 @@ use Rattle.jfs_call.specs.halves.specs.Parts.{Parts}
 use Rattle.jfs_call.specs.volume.specs.Settles.{Settles, StaysShown}
 use Rattle.jfs_volume_calls.specs.Written.{WritesMaps}
 use Rattle.jfs_shared.specs.Base.{ring_of}
-use Rattle.jfs_shared.specs.Both.{Seen, AreOf, AreTogether, Lost, Committed, Pointed, PartlyPointed, PointIs}
+use Rattle.jfs_shared.specs.Both.{Seen, AreOf, Lost, Committed, Pointed, PartlyPointed, PointIs}
 use Rattle.jfs_shared.specs.Home.{IsSettled}
 use Rattle.jfs_shared.specs.Shared.{standing, log_standing, broken_by}
 use Rattle.jfs_shared.specs.declared.shared.SharedVolume.{SharedVolume}

@@ -1,13 +1,11 @@
 -- A legal history behind calls, groups and syncpoints of many clients.
-use Rattle.std.proofs.Common.{◌≡◌, ◌≤◌, ℕ, suc, ◌+◌, List, [], ◌∷◌, ◌++◌, length, take, drop, map, Bool, Option, Some, None, refl, sym, ap, subst, ◌∙◌, inl, inr, arith}
+use Rattle.std.proofs.Common.{◌≡◌, ℕ, suc, List, [], ◌∷◌, ◌++◌, length, take, Bool, Option, Some, None, refl, sym, ap, subst, ◌∙◌, arith}
 use Rattle.std.proofs.lemmas.List.{length-append, take-append-le}
 use Rattle.std.proofs.Math.Seq.{take-length}
-use Rattle.jfs_disk.specs.Image.{page_of}
 use Rattle.jfs_super.specs.declared.fields.Super.{Super}
 use Rattle.jfs_records.specs.Records.{Noted}
 use Rattle.jfs_legal.specs.served.specs.call.specs.Does.{Does}
 use Rattle.jfs_legal.specs.served.specs.call.specs.DoesLent.{Asking}
-use Rattle.jfs_legal.specs.served.specs.call.specs.declared.outcome.Outcome.{Outcome}
 use Rattle.jfs_legal.specs.served.specs.call.specs.declared.outcome.Outcome.TheVariants.{Replied, NeedsLog, NoMemory}
 use Rattle.jfs_legal.specs.served.specs.halves.specs.Parts.{Parts}
 use Rattle.jfs_legal.specs.served.specs.plain.specs.declared.reply.Reply.{Reply}
@@ -16,7 +14,7 @@ use Rattle.jfs_legal.specs.served.specs.volume.specs.Settles.{Settles, StaysShow
 use Rattle.jfs_legal.specs.served.specs.volume_calls.specs.Written.{KeepsPages, WritesMaps}
 use Rattle.jfs_legal.specs.served.specs.Legal.{Timed}
 use Rattle.jfs_legal.specs.Until.{AreLegal, GoOn}
-use Rattle.jfs_legal.proofs.Going.{begin_law, legal_law, call_law, settled_law, pointed_law}
+use Rattle.jfs_legal.proofs.Going.{legal_law, call_law, settled_law, pointed_law}
 use Rattle.jfs_shared.specs.Calls.{recorded}
 use Rattle.jfs_shared.specs.Shared.{timed, timed_in, GoesOn, IsServed, broken_by}
 use Rattle.jfs_shared.specs.Entries.{Recorded}

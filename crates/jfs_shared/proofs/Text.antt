@@ -1,5 +1,5 @@
 -- The text that waits: a group takes it, an entry joins it, a SYNCPT goes past it.
-use Rattle.std.proofs.Common.{◌≡◌, ◌≤◌, ℕ, suc, ◌+◌, ◌-◌, ◌*◌, List, [], ◌∷◌, ◌++◌, length, take, drop, Option, Some, None, refl, sym, ap, subst, ◌∙◌, arith, append_assoc, append-nil}
+use Rattle.std.proofs.Common.{◌≡◌, ◌≤◌, ℕ, suc, ◌+◌, List, [], ◌∷◌, ◌++◌, length, take, drop, Option, Some, None, refl, sym, ap, ◌∙◌, arith, append-nil}
 use Rattle.std.proofs.lemmas.List.{length-append, length-drop, length-take-le, take-append-drop, take-append-le, drop-append-le}
 use Rattle.std.proofs.lemmas.Grind.{flat_map-append}
 use Rattle.std.proofs.Math.Seq.{take-length, drop-length}
@@ -7,7 +7,7 @@ use Rattle.jfs_logfmt.specs.Written.{text_of}
 use Rattle.jfs_logpages.specs.Records.{log_text}
 use Rattle.jfs_records.specs.Records.{Noted}
 use Rattle.jfs_records.specs.Entries.{Item, entry, text_size, log_records, item_records}
-use Rattle.jfs_records.proofs.ReadBack.{length-items, text_size-append, records-append}
+use Rattle.jfs_records.proofs.ReadBack.{length-items, records-append}
 use Rattle.jfs_groups.specs.Text.{item_of, items_from, end_of}
 use Rattle.jfs_groups.proofs.Text.{from-append, end_grows}
 use Rattle.jfs_legal.specs.served.specs.halves.specs.Parts.{Text}

@@ -1,5 +1,5 @@
 -- A volume's text will stand at its log's end.
-use Rattle.std.proofs.Common.{◌≡◌, ℕ, List, ◌++◌, length, take, None, refl, sym, ap, ◌∙◌}
+use Rattle.std.proofs.Common.{◌≡◌, ℕ, List, length, take, None, sym, ap, ◌∙◌}
 use Rattle.std.proofs.Math.Seq.{take-append_seam}
 use Rattle.jfs_disk.specs.declared.disk.Disk.{Ghosts}
 use Rattle.jfs_groups.specs.Text.{end_of}

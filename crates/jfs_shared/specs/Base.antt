@@ -1,5 +1,5 @@
 -- What a mounted volume was made from.
-use Rattle.std.specs.Prelude.{ℕ, List, [], ◌∷◌}
+use Rattle.std.specs.Prelude.{ℕ, [], ◌∷◌}
 use Rattle.jfs_disk.specs.Image.{Image}
 use Rattle.jfs_turns.specs.Lists.{Base}
 

@@ -1,4 +1,4 @@
-use Rattle.jfs_shared.proofs.Writing.{IsTakenFrom, may, written, lost}
+use Rattle.jfs_shared.proofs.Writing.{may, written, lost}
 use Rattle.jfs_shared.proofs.committing.write.Goals as goal
 
 pub write-requires-clause-room : goal.write-requires-clause-room

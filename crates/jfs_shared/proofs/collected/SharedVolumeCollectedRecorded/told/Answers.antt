@@ -1,4 +1,4 @@
-use Rattle.std.proofs.Common.{sym, ◌∙◌, arith}
+use Rattle.std.proofs.Common.{arith}
 use Rattle.jfs_shared.proofs.Stands.{told_stands}
 use Rattle.jfs_shared.proofs.collected.SharedVolumeCollectedRecorded.told.Goals as goal
 
