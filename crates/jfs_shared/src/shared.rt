@@ -52,7 +52,7 @@ impl<D: Disk> SharedVolume<D> {
     pub(crate) fn break_off(&mut self)
         ensures { self.new ≡ record self.old { broken_off = broken_by self.old.volume.appended self.old.broken_off } }
     {
-        if self.broken_off.is_some() {
+        if self.broken_off.is_none() {
             self.broken_off = Some(self.volume.appended());
         }
     }
