@@ -1,0 +1,5 @@
+//! Tests of generated scripts, by lines worked out beside the code.
+#![tactic(auto)]
+
+#[cfg(test)]
+mod lines;
