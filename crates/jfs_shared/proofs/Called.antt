@@ -1,5 +1,5 @@
 -- A call of one of many clients: what the volume stands for then.
-use Rattle.std.proofs.Common.{◌≡◌, ℕ, refl, inl}
+use Rattle.std.proofs.Common.{◌≡◌, ℕ, Option, refl, inl}
 use Rattle.jfs_bits.specs.declared.descriptor.Moment.{Moment}
 use Rattle.jfs_disk.specs.declared.disk.Disk.{Ghosts}
 use Rattle.jfs_plain.specs.declared.call.Request.{Request}
@@ -9,7 +9,7 @@ use Rattle.jfs_call.specs.Does.{Does}
 use Rattle.jfs_call.specs.declared.outcome.Outcome.{Outcome}
 use Rattle.jfs_call.specs.declared.outcome.Outcome.TheVariants.{Replied, NeedsLog, NoMemory}
 use Rattle.jfs_call.specs.halves.specs.Parts.{Parts}
-use Rattle.jfs_shared.specs.Calls.{CallIs}
+use Rattle.jfs_shared.specs.Calls.{CallIs, BreaksOffBy}
 use Rattle.jfs_shared.specs.Shared.{standing, broken_by}
 use Rattle.jfs_shared.specs.declared.shared.SharedVolume.{SharedVolume}
 use Rattle.jfs_shared.proofs.Stands.{replied_stands, asked_stands, lacked_stands}
@@ -25,6 +25,12 @@ unanswered client line request p = record {
   waits = tt;
   keeps = record { blocks = refl; size = refl; limit = refl; count = refl; room = refl; taken = refl; told = refl; points = refl; ring = refl; place = refl };
 }
+
+-- a call that breaks nothing off
+pub stays_whole : (n : ℕ) (broken_off : Option ℕ) (outcome : Outcome) → BreaksOffBy n broken_off broken_off outcome
+stays_whole n broken_off (Replied reply number waits) = refl
+stays_whole n broken_off NeedsLog = refl
+stays_whole n broken_off NoMemory = inl refl
 
 module _ {D : Type 0} (d : Ghosts D) (x : SharedVolume D) (client line : ℕ) (request : Request) (now : Moment) (new : Parts) where
   pub call_is : (outcome : Outcome) → (outcome ≡ NoMemory → ⊥) → IsAnswered client line request x.volume new outcome → Does d.tells d.tells_crashes (record { client = client; line = line }) request now x.volume new outcome

@@ -4,7 +4,7 @@ ghost use Rattle.std.specs.Prelude.{◌≡◌};
 ghost use Rattle.jfs_plain.specs.Limits.{FitsRequest};
 ghost use Rattle.jfs_call.specs.Answer.{IsAnswered};
 ghost use Rattle.jfs_shared.specs.Shared.{Stands, standing};
-ghost use Rattle.jfs_shared.specs.Calls.{CallIs};
+ghost use Rattle.jfs_shared.specs.Calls.{CallIs, BreaksOffBy};
 
 use crate::shared::SharedVolume;
 use jfs_bits::Moment;
@@ -31,6 +31,7 @@ pub fn call<D: Disk>(
     ensures list { CallIs (standing D.Disk) client line request.now now shared.old shared.new result }
     ensures answered { IsAnswered client line request.now shared.old.volume shared.new.volume result }
     ensures points { shared.new.points ≡ shared.old.points }
+    ensures breaks { BreaksOffBy shared.new.volume.appended shared.old.broken_off shared.new.broken_off result }
 {
     if shared.volume.appended() >= LAST_ENTRY {
         return Outcome::NoMemory;

@@ -29,6 +29,7 @@ pub fn commit_with<D: Disk>(
     ensures cause { HasLogFault (D.fault_count log.old.side.part) (D.fault_count log.new.side.part) result }
     ensures parts { (shared.new.volume.faults ≡ shared.old.volume.faults) × (D.page_count log.new.side.part ≡ D.page_count log.old.side.part) }
     ensures points { shared.new.points ≡ shared.old.points }
+    ensures breaks { shared.new.broken_off ≡ shared.old.broken_off }
     // Where there is nothing to write the log isn't called.
     ensures idle { is_idle shared.old.volume ≡ true → log.new ≡ log.old }
 {
@@ -55,6 +56,7 @@ fn write_waiting<D: Disk>(
     ensures cause { HasLogFault (D.fault_count log.old.side.part) (D.fault_count log.new.side.part) result }
     ensures parts { (shared.new.volume.faults ≡ shared.old.volume.faults) × (D.page_count log.new.side.part ≡ D.page_count log.old.side.part) }
     ensures points { shared.new.points ≡ shared.old.points }
+    ensures breaks { shared.new.broken_off ≡ shared.old.broken_off }
     ensures all { shared.new.volume.appended ≡ shared.old.volume.appended }
     ensures idle { is_idle shared.old.volume ≡ true → log.new ≡ log.old }
 {
@@ -75,6 +77,7 @@ fn write<D: Disk>(shared: &mut SharedVolume<D>, log: &mut SharedLog<D>) -> Resul
     ensures cause { HasLogFault (D.fault_count log.old.side.part) (D.fault_count log.new.side.part) result }
     ensures parts { (shared.new.volume.faults ≡ shared.old.volume.faults) × (D.page_count log.new.side.part ≡ D.page_count log.old.side.part) }
     ensures points { shared.new.points ≡ shared.old.points }
+    ensures breaks { shared.new.broken_off ≡ shared.old.broken_off }
     ensures all { shared.new.volume.appended ≡ shared.old.volume.appended }
 {
     let group = shared.volume.take_group();

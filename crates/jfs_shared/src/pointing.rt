@@ -3,6 +3,7 @@
 ghost use Rattle.std.specs.Prelude.{◌≡◌, ◌≤◌, ◌+◌, ◌*◌, ◌^◌, [], nat_le, length, OnOk, IfErr, None, Some};
 ghost use Rattle.jfs_volume_calls.specs.Syncpoint.{HasFaultOfEither, HasPointFault};
 ghost use Rattle.jfs_shared.specs.Both.{AreTogether, PointIs};
+ghost use Rattle.jfs_shared.specs.Calls.{MayBreakOff};
 ghost use Rattle.jfs_shared.specs.Shared.{standing, log_standing};
 
 use crate::committing::commit_with;
@@ -36,6 +37,8 @@ pub fn point_with<D: Disk>(
     ensures point { PointIs (standing D.Disk) (log_standing D.Disk) shared.old log.old shared.new log.new result }
     ensures goes_on { OnOk result ((log.new.side.halted ≡ None) × (shared.new.volume.halted ≡ None)) }
     ensures halts { IfErr result (λ fault. shared.new.volume.halted ≡ Some fault) }
+    ensures breaks { OnOk result (shared.new.broken_off ≡ shared.old.broken_off) }
+    ensures breaks_by { IfErr result (λ fault. MayBreakOff shared.new.volume.appended shared.old.broken_off shared.new.broken_off) }
     ensures cause { HasFaultOfEither shared.old.volume.faults shared.new.volume.faults (D.fault_count log.old.side.part) (D.fault_count log.new.side.part) result }
     ensures pages { D.page_count log.new.side.part ≡ D.page_count log.old.side.part }
 {
@@ -63,6 +66,7 @@ fn write_point<D: Disk>(shared: &mut SharedVolume<D>, log: &mut SharedLog<D>) ->
     ensures point { PointIs (standing D.Disk) (log_standing D.Disk) shared.old log.old shared.new log.new result }
     ensures goes_on { OnOk result ((log.new.side.halted ≡ None) × (shared.new.volume.halted ≡ None)) }
     ensures halts { IfErr result (λ fault. shared.new.volume.halted ≡ Some fault) }
+    ensures breaks { shared.new.broken_off ≡ shared.old.broken_off }
     ensures cause { HasPointFault (D.fault_count log.old.side.part) (D.fault_count log.new.side.part) result }
     ensures parts { (shared.new.volume.faults ≡ shared.old.volume.faults) × (D.page_count log.new.side.part ≡ D.page_count log.old.side.part) }
 {

@@ -1,7 +1,7 @@
-use Rattle.std.proofs.Common.{refl, sym, subst}
+use Rattle.std.proofs.Common.{◌≡◌, refl, sym, subst, inl, inr}
 use Rattle.jfs_groups.specs.Group.{Stays}
-use Rattle.jfs_shared.specs.Shared.{standing}
-use Rattle.jfs_shared.proofs.Called.{unanswered, call_is, lacked_is}
+use Rattle.jfs_shared.specs.Shared.{standing, broken_by}
+use Rattle.jfs_shared.proofs.Called.{unanswered, call_is, lacked_is, stays_whole}
 use Rattle.jfs_shared.proofs.calling.call.Goals as goal
 
 pub call_without_log-requires-clause-size : goal.call_without_log-requires-clause-size
@@ -19,3 +19,12 @@ returns-in-NoMemory-clause-list g c = subst (λ v. Stays (standing g.D.Disk) c.a
 
 pub returns-in_default-clause-list : goal.returns-in_default-clause-list
 returns-in_default-clause-list g c = call_is g.D.Disk c.args.shared.now c.args.client c.args.line c.args.request.now c.args.now c.call_without_log.new.volume c.call_without_log.result c.in_default.not-NoMemory c.call_without_log.ensures.answered c.call_without_log.ensures.does
+
+pub returns-then-appended-ge-LAST_ENTRY-clause-breaks : goal.returns-then-appended-ge-LAST_ENTRY-clause-breaks
+returns-then-appended-ge-LAST_ENTRY-clause-breaks g c = inl refl
+
+pub returns-in-NoMemory-clause-breaks : goal.returns-in-NoMemory-clause-breaks
+returns-in-NoMemory-clause-breaks g c = inr (subst (λ v. v.broken_off ≡ broken_by v.volume.appended c.args.shared.now.broken_off) (sym c.break_off.ensures) refl)
+
+pub returns-in_default-clause-breaks : goal.returns-in_default-clause-breaks
+returns-in_default-clause-breaks g c = stays_whole c.call_without_log.new.volume.appended c.args.shared.now.broken_off c.call_without_log.result
