@@ -1,0 +1,6 @@
+pub mod Blocks
+pub mod Lines
+pub mod Changes
+pub mod Runs
+pub mod Start
+pub mod Crashes

@@ -1,0 +1,8 @@
+-- what the laws say
+pub mod Stands
+pub mod Played
+pub mod Laws
+-- libraries below, passed on
+pub use Rattle.jfs_face as face
+pub use Rattle.jfs_halves as halves
+pub use Rattle.jfs_recovery as recovery

@@ -1,0 +1,18 @@
+//! What holds of all changes of a mounted volume's halves.
+
+ghost use Rattle.jfs_survival.specs.Laws.{RunLaw, StartLaw, CrashLaw};
+
+/// Changes that fit, and that keep what the core asks of each, are a run of its allowed steps, and lead to the core of the halves after them.
+pub fn changes_are_a_run()
+    ensures { RunLaw }
+{}
+
+/// The core of a volume that was just mounted is the one of its halves.
+pub fn mounted_halves_have_a_core()
+    ensures { StartLaw }
+{}
+
+/// After such a run, whatever a crash leaves of the disk and for each log image, redo finds a front of the history with all that was acknowledged before, and leaves the volume after that front.
+pub fn crashes_leave_a_prefix()
+    ensures { CrashLaw }
+{}

@@ -1,0 +1,6 @@
+//! Why what a mounted volume does survives crashes: what each change of its halves is in the core of log redo, and what it has to keep for that. Definitions and laws alone.
+#![tactic(auto)]
+
+mod law;
+
+pub use law::{changes_are_a_run, crashes_leave_a_prefix, mounted_halves_have_a_core};
