@@ -20,10 +20,10 @@ pub none_is : {A : Type 0} (d : Option Span) → d ≡ None → IsSome d → A
 none_is None e some = absurd (cc)
 none_is (Some span) e some = absurd (cc)
 
-pub moved : (is_map : Bool) (m : ℕ → Bool) (n : ℕ) (page : List ℕ) (slot slot' : Slot) (block block' : Block) (shown shown' : List ℕ) → slot' ≡ slot → block' ≡ block → shown' ≡ shown
-    → IsBlockOf is_map m n page slot block shown → IsBlockOf is_map m n page slot' block' shown'
-moved is_map m n page slot slot' block block' shown shown' a b c h =
-    subst (λ (x : Slot). IsBlockOf is_map m n page x block' shown') (sym a) (subst (λ (x : Block). IsBlockOf is_map m n page slot x shown') (sym b) (subst (λ (x : List ℕ). IsBlockOf is_map m n page slot block x) (sym c) h))
+pub moved : (is_map : Bool) (m lines : ℕ → Bool) (n : ℕ) (page : List ℕ) (slot slot' : Slot) (block block' : Block) (shown shown' : List ℕ) → slot' ≡ slot → block' ≡ block → shown' ≡ shown
+    → IsBlockOf is_map m lines n page slot block shown → IsBlockOf is_map m lines n page slot' block' shown'
+moved is_map m lines n page slot slot' block block' shown shown' a b c h =
+    subst (λ (x : Slot). IsBlockOf is_map m lines n page x block' shown') (sym a) (subst (λ (x : Block). IsBlockOf is_map m lines n page slot x shown') (sym b) (subst (λ (x : List ℕ). IsBlockOf is_map m lines n page slot block x) (sym c) h))
 
 -- ---- from an entry on
 
@@ -64,12 +64,19 @@ spanned_last : (n : ℕ) (old : Option Span) → (spanned n old).last ≡ n
 spanned_last n None = refl
 spanned_last n (Some old) = refl
 
-module _ (is_map : Bool) (m m' : ℕ → Bool) (n : ℕ) (page page' : List ℕ) (slot : Slot) (kept : Option (List ℕ)) (block : Block) (shown shown' : List ℕ) (same : (k : ℕ) → k ≤ n → m' k ≡ m k)
-    (within : SpansWithin n slot.block.dirty) (old : IsBlockOf is_map m n page slot block shown) (size : is_map ≡ false → length shown' ≡ 4096) (shown_is : is_map ≡ false → m' (suc n) ≡ true → shown' ≡ page') where
+module _ (is_map : Bool) (m m' lines lines' : ℕ → Bool) (n : ℕ) (page page' : List ℕ) (slot : Slot) (kept : Option (List ℕ)) (block : Block) (shown shown' : List ℕ) (same : (k : ℕ) → k ≤ n → m' k ≡ m k) (before : (k : ℕ) → k < n → lines' k ≡ lines k)
+    (within : SpansWithin n slot.block.dirty) (old : IsBlockOf is_map m lines n page slot block shown) (size : is_map ≡ false → length shown' ≡ 4096) (shown_is : is_map ≡ false → m' (suc n) ≡ true → shown' ≡ page') where
+  still : (own : Span) → block.dirty ≡ Some own → (k : ℕ) → own.last ≤ k → k < suc n → lines' n ≡ false → lines' k ≡ false
+  still own d k l h here = at (cases_lt k n)
+    where
+      at : (k < n) ⊎ (n ≤ k) → lines' k ≡ false
+      at (inl low) = before k low ∙ old.quiet own d k l low
+      at (inr high) = let e : k ≡ n = omega (arith, h, high) in ap lines' e ∙ here
+
   -- an entry touches the page in the core, and has lines of it
-  pub entered : (touches lines : Bool) → (touches ≡ false → lines ≡ false) → (is_map ≡ true → lines ≡ false) → (touches ≡ false → m' (suc n) ≡ m n) → (is_map ≡ false → touches ≡ true → lines ≡ false → m' (suc n) ≡ false)
-      → IsBlockOf is_map m' (suc n) page' (record slot { block = if touches then dirtied (suc n) slot.block else slot.block; kept = kept }) (if lines then dirtied (suc n) block else block) shown'
-  entered true true both maps stays gone = record {
+  pub entered : (touches has : Bool) → lines' n ≡ has → (touches ≡ false → has ≡ false) → (is_map ≡ true → has ≡ false) → (touches ≡ false → m' (suc n) ≡ m n) → (is_map ≡ false → touches ≡ true → has ≡ false → m' (suc n) ≡ false)
+      → IsBlockOf is_map m' lines' (suc n) page' (record slot { block = if touches then dirtied (suc n) slot.block else slot.block; kept = kept }) (if has then dirtied (suc n) block else block) shown'
+  entered true true here both maps stays gone = record {
     written = old.written;
     map_clean = λ e. never true refl (maps e);
     synced = old.synced;
@@ -77,8 +84,9 @@ module _ (is_map : Bool) (m m' : ℕ → Bool) (n : ℕ) (page page' : List ℕ)
     shown_is = shown_is;
     dirty = λ e there some. refl;
     later = λ e span d there. (spanned (suc n) block.dirty, refl, (let a = last_spanned (suc n) slot.block.dirty span d in let b = spanned_last (suc n) block.dirty in omega (arith, a, b)));
+    quiet = λ own d k l h. absurd (let e = last_spanned (suc n) block.dirty own d in omega (arith, e, l, h));
   }
-  entered true false both maps stays gone = record {
+  entered true false here both maps stays gone = record {
     written = old.written;
     map_clean = old.map_clean;
     synced = old.synced;
@@ -86,9 +94,10 @@ module _ (is_map : Bool) (m m' : ℕ → Bool) (n : ℕ) (page page' : List ℕ)
     shown_is = shown_is;
     dirty = λ e there some. refl;
     later = λ e span d there. never (m' (suc n)) (ap m' (sym (last_spanned (suc n) slot.block.dirty span d)) ∙ there) (gone e refl refl);
+    quiet = λ own d k l h. still own d k l h here;
   }
-  entered false true both maps stays gone = never true refl (both refl)
-  entered false false both maps stays gone = record {
+  entered false true here both maps stays gone = never true refl (both refl)
+  entered false false here both maps stays gone = record {
     written = old.written;
     map_clean = old.map_clean;
     synced = old.synced;
@@ -96,6 +105,7 @@ module _ (is_map : Bool) (m m' : ℕ → Bool) (n : ℕ) (page page' : List ℕ)
     shown_is = shown_is;
     dirty = λ e there some. old.dirty e (sym (stays refl) ∙ there) some;
     later = λ e span d there. old.later e span d (sym (same span.last (last_within n slot.block.dirty span within d)) ∙ there);
+    quiet = λ own d k l h. still own d k l h here;
   }
 
 -- ---- an acknowledgement
@@ -116,9 +126,9 @@ dropped_stays m told (Some own) worth some = rw (worth own refl) (at (nat_le own
     at true = refl
     at false = refl
 
-module _ (is_map : Bool) (m : ℕ → Bool) (n : ℕ) (page : List ℕ) (slot : Slot) (block : Block) (shown : List ℕ) (old : IsBlockOf is_map m n page slot block shown) where
+module _ (is_map : Bool) (m lines : ℕ → Bool) (n : ℕ) (page : List ℕ) (slot : Slot) (block : Block) (shown : List ℕ) (old : IsBlockOf is_map m lines n page slot block shown) where
   pub acknowledged : (told : ℕ) → ((span : Span) → slot.block.dirty ≡ Some span → m span.last ≡ m n)
-      → IsBlockOf is_map m n page (record slot { block = record slot.block { dirty = dropped m told slot.block.dirty } }) block shown
+      → IsBlockOf is_map m lines n page (record slot { block = record slot.block { dirty = dropped m told slot.block.dirty } }) block shown
   acknowledged told last = record {
     written = old.written;
     map_clean = old.map_clean;
@@ -127,6 +137,7 @@ module _ (is_map : Bool) (m : ℕ → Bool) (n : ℕ) (page : List ℕ) (slot : 
     shown_is = old.shown_is;
     dirty = λ e there some. dropped_stays m told slot.block.dirty (λ span d. last span d ∙ there) (old.dirty e there some);
     later = λ e span d there. old.later e span (dropped_was m told slot.block.dirty span d) there;
+    quiet = old.quiet;
   }
 
   -- ---- pages go home
@@ -136,7 +147,7 @@ module _ (is_map : Bool) (m : ℕ → Bool) (n : ℕ) (page : List ℕ) (slot : 
   joined_some None (Some span) some e = absurd (cc)
   joined_some (Some own) (Some span) some e = absurd (cc)
 
-  pub gone_home : (bytes told : List ℕ) → told ≡ bytes → IsSome block.dirty → IsBlockOf is_map m n page (home_slot told slot) (sent_home bytes block) shown
+  pub gone_home : (bytes told : List ℕ) → told ≡ bytes → IsSome block.dirty → IsBlockOf is_map m lines n page (home_slot told slot) (sent_home bytes block) shown
   gone_home bytes told e some = record {
     written = ap₂ page_written e old.written;
     map_clean = λ d. refl;
@@ -145,9 +156,10 @@ module _ (is_map : Bool) (m : ℕ → Bool) (n : ℕ) (page : List ℕ) (slot : 
     shown_is = old.shown_is;
     dirty = λ d there is. none_is None refl is;
     later = λ d span is there. no_some span is;
+    quiet = λ own d. no_some own d;
   }
 
-  pub torn_home : (bytes told : List ℕ) (sectors : ℕ) → told ≡ bytes → IsBlockOf is_map m n page (home_failed_slot told sectors slot) (failed_home bytes sectors block) shown
+  pub torn_home : (bytes told : List ℕ) (sectors : ℕ) → told ≡ bytes → IsBlockOf is_map m lines n page (home_failed_slot told sectors slot) (failed_home bytes sectors block) shown
   torn_home bytes told sectors e = record {
     written = ap₂ (λ (b : List ℕ) (p : PageHistory). page_failed b sectors p) e old.written;
     map_clean = old.map_clean;
@@ -156,10 +168,11 @@ module _ (is_map : Bool) (m : ℕ → Bool) (n : ℕ) (page : List ℕ) (slot : 
     shown_is = old.shown_is;
     dirty = old.dirty;
     later = old.later;
+    quiet = old.quiet;
   }
 
   -- a page of a map, which the half writes whole
-  pub map_home : (bytes told : List ℕ) (new : List ℕ) → told ≡ bytes → is_map ≡ true → IsBlockOf is_map m n page (home_slot told slot) (sent_home bytes block) new
+  pub map_home : (bytes told : List ℕ) (new : List ℕ) → told ≡ bytes → is_map ≡ true → IsBlockOf is_map m lines n page (home_slot told slot) (sent_home bytes block) new
   map_home bytes told new e this = record {
     written = ap₂ page_written e old.written;
     map_clean = λ d. refl;
@@ -168,9 +181,10 @@ module _ (is_map : Bool) (m : ℕ → Bool) (n : ℕ) (page : List ℕ) (slot : 
     shown_is = λ d there. never is_map this d;
     dirty = λ d there is. never is_map this d;
     later = λ d span is there. never is_map this d;
+    quiet = λ own d. no_some own d;
   }
 
-  pub map_torn : (bytes told : List ℕ) (sectors : ℕ) (new : List ℕ) → told ≡ bytes → is_map ≡ true → IsBlockOf is_map m n page (home_failed_slot told sectors slot) (failed_home bytes sectors block) new
+  pub map_torn : (bytes told : List ℕ) (sectors : ℕ) (new : List ℕ) → told ≡ bytes → is_map ≡ true → IsBlockOf is_map m lines n page (home_failed_slot told sectors slot) (failed_home bytes sectors block) new
   map_torn bytes told sectors new e this = record {
     written = ap₂ (λ (b : List ℕ) (p : PageHistory). page_failed b sectors p) e old.written;
     map_clean = old.map_clean;
@@ -179,13 +193,14 @@ module _ (is_map : Bool) (m : ℕ → Bool) (n : ℕ) (page : List ℕ) (slot : 
     shown_is = λ d there. never is_map this d;
     dirty = λ d there is. never is_map this d;
     later = λ d span is there. never is_map this d;
+    quiet = old.quiet;
   }
 
   -- ---- pages that don't matter
 
   module _ (gone : m n ≡ false) (last : (span : Span) → slot.block.dirty ≡ Some span → m span.last ≡ m n) where
     -- what the half holds of it goes
-    pub forgotten : (new : List ℕ) → length new ≡ 4096 → IsBlockOf is_map m n page slot (record block { dirty = None }) new
+    pub forgotten : (new : List ℕ) → length new ≡ 4096 → IsBlockOf is_map m lines n page slot (record block { dirty = None }) new
     forgotten new size = record {
       written = old.written;
       map_clean = λ e. refl;
@@ -194,9 +209,10 @@ module _ (is_map : Bool) (m : ℕ → Bool) (n : ℕ) (page : List ℕ) (slot : 
       shown_is = λ e there. never (m n) there gone;
       dirty = λ e there some. never (m n) there gone;
       later = λ e span d there. never (m n) (sym (last span d) ∙ there) gone;
+      quiet = λ own d. no_some own d;
     }
 
-    pub data_put : (bytes : List ℕ) → length bytes ≡ 4096 → block.dirty ≡ None → IsBlockOf is_map m n page (data_slot n bytes slot) (sent_home bytes block) bytes
+    pub data_put : (bytes : List ℕ) → length bytes ≡ 4096 → block.dirty ≡ None → IsBlockOf is_map m lines n page (data_slot n bytes slot) (sent_home bytes block) bytes
     data_put bytes size clean = record {
       written = ap (page_written bytes) old.written;
       map_clean = λ e. refl;
@@ -205,6 +221,7 @@ module _ (is_map : Bool) (m : ℕ → Bool) (n : ℕ) (page : List ℕ) (slot : 
       shown_is = λ e there. never (m n) there gone;
       dirty = λ e there some. never (m n) there gone;
       later = λ e span d there. never (m n) (sym (last span d) ∙ there) gone;
+      quiet = λ own d. no_some own d;
     }
       where
         unjoined : (unsynced dirty : Option Span) → dirty ≡ None → joined unsynced dirty ≡ None → unsynced ≡ None
@@ -212,7 +229,7 @@ module _ (is_map : Bool) (m : ℕ → Bool) (n : ℕ) (page : List ℕ) (slot : 
         unjoined (Some own) None e none = none
         unjoined (Some own) (Some span) e none = no_some span (sym e)
 
-    pub data_torn : (bytes : List ℕ) (sectors : ℕ) (new : List ℕ) → length new ≡ 4096 → IsBlockOf is_map m n page (data_failed_slot n bytes sectors slot) (failed_home bytes sectors block) new
+    pub data_torn : (bytes : List ℕ) (sectors : ℕ) (new : List ℕ) → length new ≡ 4096 → IsBlockOf is_map m lines n page (data_failed_slot n bytes sectors slot) (failed_home bytes sectors block) new
     data_torn bytes sectors new size = record {
       written = ap (page_failed bytes sectors) old.written;
       map_clean = old.map_clean;
@@ -221,11 +238,37 @@ module _ (is_map : Bool) (m : ℕ → Bool) (n : ℕ) (page : List ℕ) (slot : 
       shown_is = λ e there. never (m n) there gone;
       dirty = λ e there some. never (m n) there gone;
       later = λ e span d there. never (m n) (sym (last span d) ∙ there) gone;
+      quiet = old.quiet;
+    }
+
+    -- a page that was freed goes home all the same
+    pub free_home : (bytes : List ℕ) → is_map ≡ false → IsSome block.dirty → IsBlockOf is_map m lines n page (data_slot n bytes slot) (sent_home bytes block) shown
+    free_home bytes none some = record {
+      written = ap (page_written bytes) old.written;
+      map_clean = λ e. refl;
+      synced = λ e d. joined_some block.unsynced block.dirty some d;
+      size = old.size;
+      shown_is = λ e there. never (m n) there gone;
+      dirty = λ e there is. never (m n) there gone;
+      later = λ e span d there. never (m n) (sym (last span d) ∙ there) gone;
+      quiet = λ own d. no_some own d;
+    }
+
+    pub free_torn : (bytes : List ℕ) (sectors : ℕ) → IsBlockOf is_map m lines n page (data_failed_slot n bytes sectors slot) (failed_home bytes sectors block) shown
+    free_torn bytes sectors = record {
+      written = ap (page_failed bytes sectors) old.written;
+      map_clean = old.map_clean;
+      synced = old.synced;
+      size = old.size;
+      shown_is = λ e there. never (m n) there gone;
+      dirty = λ e there is. never (m n) there gone;
+      later = λ e span d there. never (m n) (sym (last span d) ∙ there) gone;
+      quiet = old.quiet;
     }
 
   -- ---- a sync
 
-  pub settled : (kept : Option (List ℕ)) → IsBlockOf is_map m n page (record slot { block = synced slot.block; kept = kept }) (synced block) shown
+  pub settled : (kept : Option (List ℕ)) → IsBlockOf is_map m lines n page (record slot { block = synced slot.block; kept = kept }) (synced block) shown
   settled kept = record {
     written = ap (λ (p : PageHistory). resting p.seen) old.written;
     map_clean = old.map_clean;
@@ -234,4 +277,5 @@ module _ (is_map : Bool) (m : ℕ → Bool) (n : ℕ) (page : List ℕ) (slot : 
     shown_is = old.shown_is;
     dirty = old.dirty;
     later = old.later;
+    quiet = old.quiet;
   }

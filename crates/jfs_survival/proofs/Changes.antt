@@ -1,7 +1,8 @@
 -- Each change of both halves is a step of the core, or none.
-use Rattle.std.proofs.Common.{◌≡◌, ◌≢◌, ◌<◌, ◌≤◌, ◌⊎◌, ◌+◌, ◌-◌, ◌&&◌, ◌==◌, ℕ, zero, suc, Bool, true, false, not, if◌then◌else◌, List, [], ◌∷◌, ◌++◌, length, map, set, get_or, Option, Some, None, IsSome, refl, sym, ap, ap₂, ◌∙◌, subst, inl, inr, arith}
+use Rattle.std.proofs.Common.{◌≡◌, ◌≢◌, ◌<◌, ◌≤◌, ◌⊎◌, ◌+◌, ◌-◌, ◌&&◌, ◌==◌, ℕ, zero, suc, Bool, true, false, not, if◌then◌else◌, List, [], ◌∷◌, ◌++◌, length, map, set, get_or, slice_get, Option, Some, None, IsSome, refl, sym, ap, ap₂, ◌∙◌, subst, inl, inr, arith}
 use Rattle.std.proofs.lemmas.Bool.{cases_Bool, cases_eq, cases_lt, eq-eqb, eqb-true, ne_eqb, cond-true, cond-false}
-use Rattle.std.proofs.lemmas.List.{length-map, map-append, length-set, get_or-set_same, get_or-set_other, get_or-map, length_push}
+use Rattle.std.proofs.lemmas.List.{length-map, map-append, length-set, get_or-set_same, get_or-set_other, get_or-map, length_push, get_or_append_left, get_or_push}
+use Rattle.std.proofs.lemmas.Option.{slice_get_within, get_or_from_slice_get}
 use Rattle.jfs_disk.specs.Image.{Image, page_of}
 use Rattle.jfs_disk.specs.Crash.{PageHistory, torn}
 use Rattle.jfs_disk.specs.declared.disk.Fault.{Fault}
@@ -16,20 +17,21 @@ use Rattle.jfs_recovery.specs.crash_core.specs.Sound.{LiesIn}
 use Rattle.jfs_recovery.specs.crash_core.proofs.Bytes.{length-apply_tx, length-pages_after, page_of-pages_after}
 use Rattle.jfs_recovery.specs.crash_core.proofs.Bounds.{length-marked}
 use Rattle.jfs_halves.specs.Entry.{Shown, Happened, edits}
+use Rattle.jfs_halves.specs.Marks.{frees_page}
 use Rattle.jfs_halves.specs.Half.{Waiting, VolumeHalf, Halves, block_in, page_in, is_open}
 use Rattle.jfs_halves.specs.Change.{Change, Enters, Takes, Tells, HandsOut, GoesHome, Tears, Drops, Writes, WriteTears, Stops, LogStops, Syncs, Points, Knows}
 use Rattle.jfs_halves.specs.Both.{BothChange, Changes, GroupIsWritten, GroupFails, changed, Fits}
 use Rattle.jfs_recovery.specs.kinds.specs.Owner.{Owner, is_logged}
 use Rattle.jfs_recovery.specs.Face.{Face, IsFace, Pages, matters}
-use Rattle.jfs_recovery.specs.Core.{Core, Slot, Done, Step, count, image, newest, matters_at, owner_at, told_page, dropped, put, data_slot, data_failed_slot, home_slot, home_failed_slot, IsBusy, MayWrite, IsAllowed, does, AreAllowed, after_steps, appended}
+use Rattle.jfs_recovery.specs.Core.{Core, Slot, Done, Step, nothing, entry, count, image, newest, matters_at, owner_at, told_page, dropped, put, data_slot, data_failed_slot, home_slot, home_failed_slot, IsBusy, MayWrite, IsAllowed, does, AreAllowed, after_steps, appended}
 use Rattle.jfs_recovery.specs.Core.Step.{Write, WriteFails, Append, Take, GroupWrite, Told, Home, HomeFails, LowSync, SyncPoint}
 use Rattle.jfs_recovery.specs.Sound.{IsSound, Cares}
 use Rattle.jfs_recovery.proofs.Images.{size_image}
 use Rattle.jfs_recovery.proofs.Kept.{kept_step, longer_image, last_image}
-use Rattle.jfs_survival.specs.Stands.{IsBlockOf, IsUntouched, IsCoreOf}
-use Rattle.jfs_survival.specs.Played.{Joins, Matters, IsData, IsMapHome, MapsAreSynced, step_if, IsPlayed}
-use Rattle.jfs_survival.proofs.Blocks.{never, moved, no_some, none_is, steady, last_within, last_now, entered, acknowledged, gone_home, torn_home, map_home, map_torn, forgotten, data_put, data_torn, settled}
-use Rattle.jfs_survival.proofs.Lines.{ReadsLines, freed, shown_after}
+use Rattle.jfs_survival.specs.Stands.{IsBlockOf, lines_at, IsUntouched, IsCoreOf}
+use Rattle.jfs_survival.specs.Played.{Joins, Matters, IsFree, IsData, IsMapHome, MapsAreSynced, step_if, IsPlayed}
+use Rattle.jfs_survival.proofs.Blocks.{never, moved, no_some, none_is, steady, last_within, last_now, entered, acknowledged, gone_home, torn_home, map_home, map_torn, forgotten, data_put, data_torn, free_home, free_torn, settled}
+use Rattle.jfs_survival.proofs.Lines.{ReadsLines, freed, frees, stays_free, shown_after}
 
 -- the steps are allowed, and lead to the core of the halves after the change
 pub record IsStepOf (f : Face) (core : Core) (later : Halves) (list : List Step) : Type 0 where
@@ -128,7 +130,7 @@ module _ (f : Face) (laws : IsFace f) (reads : ReadsLines f) (both : Halves) (co
   -- ---- one block
 
   with_block : (p : ℕ) → p < length half.blocks → (slots : ℕ → Slot) (block : Block) (pages : Image) (low halted : Option Fault) → length pages ≡ length half.shown.pages → ((q : ℕ) → q ≢ p → page_of pages q ≡ page_in half q)
-      → ((q : ℕ) → q ≢ p → slots q ≡ core.slots q) → IsSound f (record core { slots = slots }) → IsBlockOf (f.is_map p) (matters_at f core p) n (image core n p) (slots p) block (page_of pages p)
+      → ((q : ℕ) → q ≢ p → slots q ≡ core.slots q) → IsSound f (record core { slots = slots }) → IsBlockOf (f.is_map p) (matters_at f core p) (lines_at core p) n (image core n p) (slots p) block (page_of pages p)
       → IsCoreOf f (record both { volume = record half { blocks = set half.blocks p block; shown = record half.shown { pages = pages }; low_halted = low; halted = halted } }) (record core { slots = slots })
   with_block p there slots block pages low halted number others elsewhere sound here = record {
     sound = sound;
@@ -146,18 +148,18 @@ module _ (f : Face) (laws : IsFace f) (reads : ReadsLines f) (both : Halves) (co
         subst (λ (x : Slot). IsUntouched x.block) (sym (elsewhere q (λ e. omega (arith, e, far, there)))) (is.past q far));
   }
     where
-      at : (q : ℕ) → q < length half.blocks → (q ≡ p) ⊎ (q ≡ p → ⊥) → IsBlockOf (f.is_map q) (matters_at f core q) n (image core n q) (slots q) (get_or (set half.blocks p block) q no_block) (page_of pages q)
-      at q l (inl e) = subst (λ (j : ℕ). IsBlockOf (f.is_map j) (matters_at f core j) n (image core n j) (slots j) (get_or (set half.blocks p block) j no_block) (page_of pages j)) (sym e)
-          (moved (f.is_map p) (matters_at f core p) n (image core n p) (slots p) (slots p) block (get_or (set half.blocks p block) p no_block) (page_of pages p) (page_of pages p) refl (get_or-set_same half.blocks p block no_block there) refl here)
-      at q l (inr ne) = moved (f.is_map q) (matters_at f core q) n (image core n q) (core.slots q) (slots q) (block_in half q) (get_or (set half.blocks p block) q no_block) (page_in half q) (page_of pages q)
+      at : (q : ℕ) → q < length half.blocks → (q ≡ p) ⊎ (q ≡ p → ⊥) → IsBlockOf (f.is_map q) (matters_at f core q) (lines_at core q) n (image core n q) (slots q) (get_or (set half.blocks p block) q no_block) (page_of pages q)
+      at q l (inl e) = subst (λ (j : ℕ). IsBlockOf (f.is_map j) (matters_at f core j) (lines_at core j) n (image core n j) (slots j) (get_or (set half.blocks p block) j no_block) (page_of pages j)) (sym e)
+          (moved (f.is_map p) (matters_at f core p) (lines_at core p) n (image core n p) (slots p) (slots p) block (get_or (set half.blocks p block) p no_block) (page_of pages p) (page_of pages p) refl (get_or-set_same half.blocks p block no_block there) refl here)
+      at q l (inr ne) = moved (f.is_map q) (matters_at f core q) (lines_at core q) n (image core n q) (core.slots q) (slots q) (block_in half q) (get_or (set half.blocks p block) q no_block) (page_in half q) (page_of pages q)
           (elsewhere q ne) (get_or-set_other half.blocks p q block no_block ne) (others q ne) (is.each q l)
 
   -- the core's block is another one
   put_block : (p : ℕ) → p < length half.blocks → (slot : Slot) (block : Block) (pages : Image) (low halted : Option Fault) → length pages ≡ length half.shown.pages → ((q : ℕ) → q ≢ p → page_of pages q ≡ page_in half q)
-      → IsSound f (record core { slots = put p slot core.slots }) → IsBlockOf (f.is_map p) (matters_at f core p) n (image core n p) slot block (page_of pages p)
+      → IsSound f (record core { slots = put p slot core.slots }) → IsBlockOf (f.is_map p) (matters_at f core p) (lines_at core p) n (image core n p) slot block (page_of pages p)
       → IsCoreOf f (record both { volume = record half { blocks = set half.blocks p block; shown = record half.shown { pages = pages }; low_halted = low; halted = halted } }) (record core { slots = put p slot core.slots })
   put_block p there slot block pages low halted number others sound here = with_block p there (put p slot core.slots) block pages low halted number others (λ q ne. put_other p q slot core.slots ne) sound
-      (moved (f.is_map p) (matters_at f core p) n (image core n p) slot (put p slot core.slots p) block block (page_of pages p) (page_of pages p) (put_same p slot core.slots) refl refl here)
+      (moved (f.is_map p) (matters_at f core p) (lines_at core p) n (image core n p) slot (put p slot core.slots p) block block (page_of pages p) (page_of pages p) (put_same p slot core.slots) refl refl here)
 
   -- what is shown of one page is another one
   set_size : (p : ℕ) (bytes : List ℕ) → length (set half.shown.pages p bytes) ≡ length half.shown.pages
@@ -169,36 +171,38 @@ module _ (f : Face) (laws : IsFace f) (reads : ReadsLines f) (both : Halves) (co
   set_here : (p : ℕ) (bytes : List ℕ) → p < length half.blocks → page_of (set half.shown.pages p bytes) p ≡ bytes
   set_here p bytes there = get_or-set_same half.shown.pages p bytes [] (let s = is.number in omega (arith, s, there))
 
-  shown_now : (p : ℕ) (bytes : List ℕ) (slot : Slot) (block : Block) → p < length half.blocks → IsBlockOf (f.is_map p) (matters_at f core p) n (image core n p) slot block bytes
-      → IsBlockOf (f.is_map p) (matters_at f core p) n (image core n p) slot block (page_of (set half.shown.pages p bytes) p)
+  shown_now : (p : ℕ) (bytes : List ℕ) (slot : Slot) (block : Block) → p < length half.blocks → IsBlockOf (f.is_map p) (matters_at f core p) (lines_at core p) n (image core n p) slot block bytes
+      → IsBlockOf (f.is_map p) (matters_at f core p) (lines_at core p) n (image core n p) slot block (page_of (set half.shown.pages p bytes) p)
   shown_now p bytes slot block there h =
-      moved (f.is_map p) (matters_at f core p) n (image core n p) slot slot block block bytes (page_of (set half.shown.pages p bytes) p) refl refl (set_here p bytes there) h
+      moved (f.is_map p) (matters_at f core p) (lines_at core p) n (image core n p) slot slot block block bytes (page_of (set half.shown.pages p bytes) p) refl refl (set_here p bytes there) h
 
   -- ---- pages go home
 
+  -- a block that the half holds changes of isn't a map's
+  not_map : (p : ℕ) → p < length half.blocks → IsSome (block_in half p).dirty → f.is_map p ≡ false
+  not_map p l some = at (cases_Bool (f.is_map p))
+    where
+      at : (f.is_map p ≡ true) ⊎ (f.is_map p ≡ false) → f.is_map p ≡ false
+      at (inl this) = none_is (block_in half p).dirty ((is.each p l).map_clean this) some
+      at (inr not_this) = not_this
+
   record IsHome (p : ℕ) : Type 0 where
-    not_map : f.is_map p ≡ false
     dirty : IsSome (core.slots p).block.dirty
     ends : EndsBy core.told (core.slots p).block.dirty
     told_is : told_page core p ≡ page_in half p
 
   home_of : (p : ℕ) → p < length half.blocks → IsSome (block_in half p).dirty → EndsBy half.told (block_in half p).dirty → Matters f core p → IsHome p
   home_of p l some half_ends there = record {
-    not_map = page;
     dirty = b.dirty page there some;
     ends = ends;
     told_is = sym (steady (λ k. image core k p) core.told (n - core.told) n (omega (arith, low_count)) (λ k low h. (not_there k core.told (core.slots p).block.dirty ends low ((is.sound.slots p).ok.later k low h)).0)) ∙ sym (b.shown_is page there);
   }
     where
-      b : IsBlockOf (f.is_map p) (matters_at f core p) n (image core n p) (core.slots p) (block_in half p) (page_in half p)
+      b : IsBlockOf (f.is_map p) (matters_at f core p) (lines_at core p) n (image core n p) (core.slots p) (block_in half p) (page_in half p)
       b = is.each p l
 
       page : f.is_map p ≡ false
-      page = at (cases_Bool (f.is_map p))
-        where
-          at : (f.is_map p ≡ true) ⊎ (f.is_map p ≡ false) → f.is_map p ≡ false
-          at (inl this) = none_is (block_in half p).dirty (b.map_clean this) some
-          at (inr not_this) = not_this
+      page = not_map p l some
 
       ends_at : (d : Option Span) → (core.slots p).block.dirty ≡ d → EndsBy core.told d
       ends_at None e = tt
@@ -217,7 +221,29 @@ module _ (f : Face) (laws : IsFace f) (reads : ReadsLines f) (both : Halves) (co
       single f core (changed both (Changes (GoesHome p))) (Home p) (h.dirty, h.ends)
       (put_block p fits.0.0 (home_slot (told_page core p) (core.slots p)) (sent_home (page_in half p) (block_in half p)) half.shown.pages half.low_halted half.halted refl (λ q ne. refl)
       (sound_after (Home p) (h.dirty, h.ends))
-      (gone_home (f.is_map p) (matters_at f core p) n (image core n p) (core.slots p) (block_in half p) (page_in half p) (is.each p fits.0.0) (page_in half p) (told_page core p) h.told_is fits.0.1))
+      (gone_home (f.is_map p) (matters_at f core p) (lines_at core p) n (image core n p) (core.slots p) (block_in half p) (page_in half p) (is.each p fits.0.0) (page_in half p) (told_page core p) h.told_is fits.0.1))
+
+  -- where data may be written, the page doesn't matter
+  data_gone : (p : ℕ) → MayWrite (owner_at f core p) core.told n → matters_at f core p n ≡ false
+  data_gone p (inl there) = ap is_logged there.1
+  data_gone p (inr none) = ap is_logged none.0
+
+  free_goes_home : (p : ℕ) → Fits both (Changes (GoesHome p)) → IsFree f core p → IsStepOf f core (changed both (Changes (GoesHome p))) (Write p (page_in half p) ∷ [])
+  free_goes_home p fits free =
+      let page = not_map p fits.0.0 fits.0.1 in
+      let size = (is.each p fits.0.0).size page in
+      single f core (changed both (Changes (GoesHome p))) (Write p (page_in half p)) (size, free)
+      (put_block p fits.0.0 (data_slot n (page_in half p) (core.slots p)) (sent_home (page_in half p) (block_in half p)) half.shown.pages half.low_halted half.halted refl (λ q ne. refl)
+      (sound_after (Write p (page_in half p)) (size, free))
+      (free_home (f.is_map p) (matters_at f core p) (lines_at core p) n (image core n p) (core.slots p) (block_in half p) (page_in half p) (is.each p fits.0.0) (data_gone p free) (last p) (page_in half p) page fits.0.1))
+
+  free_tears : (p sectors : ℕ) (fault : Fault) → Fits both (Changes (Tears p sectors fault)) → IsFree f core p → IsStepOf f core (changed both (Changes (Tears p sectors fault))) (WriteFails p (page_in half p) sectors ∷ [])
+  free_tears p sectors fault fits free =
+      let size = (is.each p fits.0.1.0).size (not_map p fits.0.1.0 fits.0.1.1) in
+      single f core (changed both (Changes (Tears p sectors fault))) (WriteFails p (page_in half p) sectors) (fits.0.0, size, free)
+      (put_block p fits.0.1.0 (data_failed_slot n (page_in half p) sectors (core.slots p)) (failed_home (page_in half p) sectors (block_in half p)) half.shown.pages (halted_by fault half.low_halted) (halted_by fault half.halted) refl (λ q ne. refl)
+      (sound_after (WriteFails p (page_in half p) sectors) (fits.0.0, size, free))
+      (free_torn (f.is_map p) (matters_at f core p) (lines_at core p) n (image core n p) (core.slots p) (block_in half p) (page_in half p) (is.each p fits.0.1.0) (data_gone p free) (last p) (page_in half p) sectors))
 
   tears : (p sectors : ℕ) (fault : Fault) → Fits both (Changes (Tears p sectors fault)) → Matters f core p → IsStepOf f core (changed both (Changes (Tears p sectors fault))) (HomeFails p sectors ∷ [])
   tears p sectors fault fits there =
@@ -225,24 +251,53 @@ module _ (f : Face) (laws : IsFace f) (reads : ReadsLines f) (both : Halves) (co
       single f core (changed both (Changes (Tears p sectors fault))) (HomeFails p sectors) (fits.0.0, (h.dirty, h.ends))
       (put_block p fits.0.1.0 (home_failed_slot (told_page core p) sectors (core.slots p)) (failed_home (page_in half p) sectors (block_in half p)) half.shown.pages (halted_by fault half.low_halted) (halted_by fault half.halted) refl (λ q ne. refl)
       (sound_after (HomeFails p sectors) (fits.0.0, (h.dirty, h.ends)))
-      (torn_home (f.is_map p) (matters_at f core p) n (image core n p) (core.slots p) (block_in half p) (page_in half p) (is.each p fits.0.1.0) (page_in half p) (told_page core p) sectors h.told_is))
+      (torn_home (f.is_map p) (matters_at f core p) (lines_at core p) n (image core n p) (core.slots p) (block_in half p) (page_in half p) (is.each p fits.0.1.0) (page_in half p) (told_page core p) sectors h.told_is))
 
   -- ---- pages that don't matter
 
   seen_size : (p : ℕ) → p < length half.blocks → length (block_in half p).pages.seen ≡ 4096
   seen_size p l = ap (λ (x : PageHistory). length x.seen) (sym (is.each p l).written) ∙ (is.sound.slots p).ok.seen_size
 
-  drops : (p : ℕ) → Fits both (Changes (Drops p)) → matters_at f core p n ≡ false → IsStepOf f core (changed both (Changes (Drops p))) []
-  drops p fits gone = no_step f core (changed both (Changes (Drops p)))
+  entry_is : (k : ℕ) (h : Happened) → slice_get half.history k ≡ Some h → (k < n) × (entry core k ≡ edits h)
+  entry_is k h e =
+      let there = slice_get_within half.history k h e in
+      let within : k < n = omega (arith, there, n_is) in
+      (within, sym (get_or-map (λ (d : Done). d.tx) core.history k nothing [] within) ∙ ap (λ (txs : List (List Edit)). get_or txs k []) is.history ∙ get_or-map edits half.history k h [] there
+      ∙ ap edits (get_or_from_slice_get half.history k h h e))
+
+  -- from an entry that frees a page on, it doesn't matter, where no later one has lines of it
+  free_since : (p k : ℕ) → f.is_map p ≡ false → k < n → frees_page p (entry core k) ≡ true → ((j : ℕ) → suc k ≤ j → j < n → lines_at core p j ≡ false) → (d i : ℕ) → i ≡ suc k + d → i ≤ n → matters_at f core p i ≡ false
+  free_since p k page l h none zero i e low =
+      let at : i ≡ suc k = omega (arith, e) in
+      ap (matters_at f core p) at ∙ frees f reads (image core k) (entry core k) (image core (suc k)) p (is.sound.logged k p l page) h
+  free_since p k page l h none (suc d) i e low =
+      let j : ℕ = suc k + d in
+      let at : i ≡ suc j = omega (arith, e) in
+      let within : j < n = omega (arith, at, low) in
+      ap (matters_at f core p) at ∙ stays_free f reads (image core j) (entry core j) (image core (suc j)) p (is.sound.logged j p within page) (free_since p k page l h none d j refl (omega (arith, within))) (none j (omega arith) within)
+
+  drops : (p : ℕ) → Fits both (Changes (Drops p)) → IsStepOf f core (changed both (Changes (Drops p))) []
+  drops p fits = no_step f core (changed both (Changes (Drops p)))
       (with_block p fits.0.there core.slots (record (block_in half p) { dirty = None }) (set half.shown.pages p (block_in half p).pages.seen) half.low_halted half.halted
       (set_size p (block_in half p).pages.seen) (set_others p (block_in half p).pages.seen) (λ q ne. refl) is.sound
       (shown_now p (block_in half p).pages.seen (core.slots p) (record (block_in half p) { dirty = None }) fits.0.there
-      (forgotten (f.is_map p) (matters_at f core p) n (image core n p) (core.slots p) (block_in half p) (page_in half p) (is.each p fits.0.there) gone (last p) (block_in half p).pages.seen (seen_size p fits.0.there))))
+      (forgotten (f.is_map p) (matters_at f core p) (lines_at core p) n (image core n p) (core.slots p) (block_in half p) (page_in half p) (is.each p fits.0.there) gone (last p) (block_in half p).pages.seen (seen_size p fits.0.there))))
+    where
+      page : f.is_map p ≡ false
+      page = not_map p fits.0.there fits.0.dirty
 
-  -- where data may be written, the page doesn't matter
-  data_gone : (p : ℕ) → MayWrite (owner_at f core p) core.told n → matters_at f core p n ≡ false
-  data_gone p (inl there) = ap is_logged there.1
-  data_gone p (inr none) = ap is_logged none.0
+      own_of : (d : Option Span) → IsSome d → (own : Span) × (d ≡ Some own)
+      own_of None some = none_is None refl some
+      own_of (Some own) some = (own, refl)
+
+      gone : matters_at f core p n ≡ false
+      gone =
+          let by = entry_is fits.0.before fits.0.by_entry fits.0.is in
+          let own = own_of (block_in half p).dirty fits.0.dirty in
+          let ends = own_ends (suc fits.0.before) (block_in half p).dirty own.0 own.1 fits.0.last in
+          let within = by.0 in
+          free_since p fits.0.before page by.0 (ap (frees_page p) by.1 ∙ fits.0.frees) (λ j low h. (is.each p fits.0.there).quiet own.0 own.1 j (omega (arith, ends, low)) h)
+          (n - suc fits.0.before) n (omega (arith, within)) (omega arith)
 
   writes_data : (p : ℕ) (bytes : List ℕ) → Fits both (Changes (Writes p bytes)) → IsData f core p bytes → IsStepOf f core (changed both (Changes (Writes p bytes))) (Write p bytes ∷ [])
   writes_data p bytes fits put_is =
@@ -250,7 +305,7 @@ module _ (f : Face) (laws : IsFace f) (reads : ReadsLines f) (both : Halves) (co
       (put_block p fits.0.there (data_slot n bytes (core.slots p)) (sent_home bytes (block_in half p)) (set half.shown.pages p bytes) half.low_halted half.halted (set_size p bytes) (set_others p bytes)
       (sound_after (Write p bytes) (put_is.size, put_is.may))
       (shown_now p bytes (data_slot n bytes (core.slots p)) (sent_home bytes (block_in half p)) fits.0.there
-      (data_put (f.is_map p) (matters_at f core p) n (image core n p) (core.slots p) (block_in half p) (page_in half p) (is.each p fits.0.there) (data_gone p put_is.may) (last p) bytes put_is.size fits.0.clean)))
+      (data_put (f.is_map p) (matters_at f core p) (lines_at core p) n (image core n p) (core.slots p) (block_in half p) (page_in half p) (is.each p fits.0.there) (data_gone p put_is.may) (last p) bytes put_is.size fits.0.clean)))
 
   abbrev torn_now : ℕ → List ℕ → ℕ → List ℕ
   torn_now p bytes sectors = torn sectors bytes (block_in half p).pages.seen
@@ -263,7 +318,7 @@ module _ (f : Face) (laws : IsFace f) (reads : ReadsLines f) (both : Halves) (co
       (set_size p (torn_now p bytes sectors)) (set_others p (torn_now p bytes sectors))
       (sound_after (WriteFails p bytes sectors) (fits.0.0, put_is.size, put_is.may))
       (shown_now p (torn_now p bytes sectors) (data_failed_slot n bytes sectors (core.slots p)) (failed_home bytes sectors (block_in half p)) fits.0.1.there
-      (data_torn (f.is_map p) (matters_at f core p) n (image core n p) (core.slots p) (block_in half p) (page_in half p) (is.each p fits.0.1.there) (data_gone p put_is.may) (last p) bytes sectors (torn_now p bytes sectors)
+      (data_torn (f.is_map p) (matters_at f core p) (lines_at core p) n (image core n p) (core.slots p) (block_in half p) (page_in half p) (is.each p fits.0.1.there) (data_gone p put_is.may) (last p) bytes sectors (torn_now p bytes sectors)
       (length-torn sectors bytes (block_in half p).pages.seen fits.0.0 put_is.size (seen_size p fits.0.1.there)))))
 
   -- ---- pages of the maps
@@ -273,7 +328,7 @@ module _ (f : Face) (laws : IsFace f) (reads : ReadsLines f) (both : Halves) (co
       single f core (changed both (Changes (Writes p bytes))) (Home p) (home.dirty, home.told)
       (put_block p fits.0.there (home_slot (told_page core p) (core.slots p)) (sent_home bytes (block_in half p)) (set half.shown.pages p bytes) half.low_halted half.halted (set_size p bytes) (set_others p bytes)
       (sound_after (Home p) (home.dirty, home.told))
-      (map_home (f.is_map p) (matters_at f core p) n (image core n p) (core.slots p) (block_in half p) (page_in half p) (is.each p fits.0.there) bytes (told_page core p) (page_of (set half.shown.pages p bytes) p) (sym home.bytes_are) home.is_map))
+      (map_home (f.is_map p) (matters_at f core p) (lines_at core p) n (image core n p) (core.slots p) (block_in half p) (page_in half p) (is.each p fits.0.there) bytes (told_page core p) (page_of (set half.shown.pages p bytes) p) (sym home.bytes_are) home.is_map))
 
   tears_map : (p : ℕ) (bytes : List ℕ) (sectors : ℕ) (fault : Fault) → Fits both (Changes (WriteTears p bytes sectors fault)) → IsMapHome f core p bytes
       → IsStepOf f core (changed both (Changes (WriteTears p bytes sectors fault))) (HomeFails p sectors ∷ [])
@@ -282,7 +337,7 @@ module _ (f : Face) (laws : IsFace f) (reads : ReadsLines f) (both : Halves) (co
       (put_block p fits.0.1.there (home_failed_slot (told_page core p) sectors (core.slots p)) (failed_home bytes sectors (block_in half p)) (set half.shown.pages p (torn_now p bytes sectors)) (halted_by fault half.low_halted) (halted_by fault half.halted)
       (set_size p (torn_now p bytes sectors)) (set_others p (torn_now p bytes sectors))
       (sound_after (HomeFails p sectors) (fits.0.0, (home.dirty, home.told)))
-      (map_torn (f.is_map p) (matters_at f core p) n (image core n p) (core.slots p) (block_in half p) (page_in half p) (is.each p fits.0.1.there) bytes (told_page core p) sectors
+      (map_torn (f.is_map p) (matters_at f core p) (lines_at core p) n (image core n p) (core.slots p) (block_in half p) (page_in half p) (is.each p fits.0.1.there) bytes (told_page core p) sectors
       (page_of (set half.shown.pages p (torn_now p bytes sectors)) p) (sym home.bytes_are) home.is_map))
 
   -- ---- all blocks
@@ -300,9 +355,9 @@ module _ (f : Face) (laws : IsFace f) (reads : ReadsLines f) (both : Halves) (co
     points_stable = is.points_stable;
     number = is.number ∙ sym (length-map half.blocks synced);
     each = λ p l. (let s = length-map half.blocks synced in let there : p < length half.blocks = omega (arith, l, s) in
-        moved (f.is_map p) (matters_at f core p) n (image core n p) ((does f core LowSync).slots p) ((does f core LowSync).slots p) (synced (block_in half p)) (get_or (map synced half.blocks) p no_block) (page_in half p) (page_in half p)
+        moved (f.is_map p) (matters_at f core p) (lines_at core p) n (image core n p) ((does f core LowSync).slots p) ((does f core LowSync).slots p) (synced (block_in half p)) (get_or (map synced half.blocks) p no_block) (page_in half p) (page_in half p)
         refl (get_or-map synced half.blocks p no_block no_block there) refl
-        (settled (f.is_map p) (matters_at f core p) n (image core n p) (core.slots p) (block_in half p) (page_in half p) (is.each p there) ((does f core LowSync).slots p).kept));
+        (settled (f.is_map p) (matters_at f core p) (lines_at core p) n (image core n p) (core.slots p) (block_in half p) (page_in half p) (is.each p there) ((does f core LowSync).slots p).kept));
     past = λ p l. (let s = length-map half.blocks synced in record { dirty = (is.past p (omega (arith, l, s))).dirty; unsynced = refl });
   })
 
@@ -318,7 +373,7 @@ module _ (f : Face) (laws : IsFace f) (reads : ReadsLines f) (both : Halves) (co
     points_taken = is.points_taken;
     points_stable = is.points_stable;
     number = is.number;
-    each = λ p l. acknowledged (f.is_map p) (matters_at f core p) n (image core n p) (core.slots p) (block_in half p) (page_in half p) (is.each p l) core.durable (last p);
+    each = λ p l. acknowledged (f.is_map p) (matters_at f core p) (lines_at core p) n (image core n p) (core.slots p) (block_in half p) (page_in half p) (is.each p l) core.durable (last p);
     past = λ p l. record { dirty = ap (dropped (matters_at f core p) core.durable) (is.past p l).dirty; unsynced = (is.past p l).unsynced };
   })
 
@@ -490,28 +545,25 @@ module _ (f : Face) (laws : IsFace f) (reads : ReadsLines f) (both : Halves) (co
       image_size p = size_image f laws core is.sound n (omega arith) p
 
       each : (p : ℕ) → p < length half.blocks
-          → IsBlockOf (f.is_map p) (matters_at f new p) (count new) (image new (count new) p) (new.slots p) (get_or (marked (λ (q : ℕ). touches_tx q (edits h)) (suc (length half.history)) 0 half.blocks) p no_block) (page_of h.after.pages p)
-      each p l = subst (λ (k : ℕ). IsBlockOf (f.is_map p) (matters_at f new p) k (image new k p) (new.slots p) (get_or (marked (λ (q : ℕ). touches_tx q (edits h)) (suc (length half.history)) 0 half.blocks) p no_block) (page_of h.after.pages p)) (sym more)
-          (moved (f.is_map p) (matters_at f new p) (suc n) (image new (suc n) p) (new.slots p) (new.slots p) (if touches_tx p tx then dirtied (suc n) (block_in half p) else block_in half p)
+          → IsBlockOf (f.is_map p) (matters_at f new p) (lines_at new p) (count new) (image new (count new) p) (new.slots p) (get_or (marked (λ (q : ℕ). touches_tx q (edits h)) (suc (length half.history)) 0 half.blocks) p no_block) (page_of h.after.pages p)
+      each p l = subst (λ (k : ℕ). IsBlockOf (f.is_map p) (matters_at f new p) (lines_at new p) k (image new k p) (new.slots p) (get_or (marked (λ (q : ℕ). touches_tx q (edits h)) (suc (length half.history)) 0 half.blocks) p no_block) (page_of h.after.pages p)) (sym more)
+          (moved (f.is_map p) (matters_at f new p) (lines_at new p) (suc n) (image new (suc n) p) (new.slots p) (new.slots p) (if touches_tx p tx then dirtied (suc n) (block_in half p) else block_in half p)
           (get_or (marked (λ (q : ℕ). touches_tx q (edits h)) (suc (length half.history)) 0 half.blocks) p no_block) (apply_tx p tx (page_in half p)) (page_of h.after.pages p)
           refl (block_is p l) (page_is p l)
-          (entered (f.is_map p) (matters_at f core p) (matters_at f new p) n (s p) (image new (suc n) p) (core.slots p) (new.slots p).kept (block_in half p) (page_in half p) (apply_tx p tx (page_in half p))
-          (λ k le. ap (λ (x : Pages). matters f x p) (longer_image f core tx t k le)) (is.sound.slots p).ok.dirty_within b
+          (entered (f.is_map p) (matters_at f core p) (matters_at f new p) (lines_at core p) (lines_at new p) n (s p) (image new (suc n) p) (core.slots p) (new.slots p).kept (block_in half p) (page_in half p) (apply_tx p tx (page_in half p))
+          (λ k le. ap (λ (x : Pages). matters f x p) (longer_image f core tx t k le)) (λ k less. ap (λ (d : Done). touches_tx p d.tx) (get_or_append_left core.history (record { tx = tx; image = t } ∷ []) nothing k less)) (is.sound.slots p).ok.dirty_within b
           (λ page. length-apply_tx p tx (page_in half p) ∙ b.size page)
           shown
-          (f.touches s tx p) (touches_tx p tx)
+          (f.touches s tx p) (touches_tx p tx) (ap (λ (d : Done). touches_tx p d.tx) (get_or_push core.history (record { tx = tx; image = t }) nothing n refl))
           (reads.touched s tx p) (joins.no_maps p)
           (λ none. m'_last p ∙ ((joins.may.marked p).stays none).1)
-          (λ page touched none. m'_last p ∙ freed f laws reads s tx t p (t_size page) (joins.may.logged p page) (reads.by s tx p page touched none) none)))
+          (λ page touched none. m'_last p ∙ freed f reads s tx t p (joins.may.logged p page) (reads.by s tx p page touched none) none)))
         where
-          b : IsBlockOf (f.is_map p) (matters_at f core p) n (image core n p) (core.slots p) (block_in half p) (page_in half p)
+          b : IsBlockOf (f.is_map p) (matters_at f core p) (lines_at core p) n (image core n p) (core.slots p) (block_in half p) (page_in half p)
           b = is.each p l
 
           follows : f.is_map p ≡ false → t p ≡ f.lines tx p (s p)
           follows page = joins.may.follows.pages p page
-
-          t_size : f.is_map p ≡ false → length (t p) ≡ 4096
-          t_size page = ap (λ (a : List ℕ). length a) (follows page) ∙ laws.size_lines tx p (s p) (image_size p)
 
           shown : f.is_map p ≡ false → m' p (suc n) ≡ true → apply_tx p tx (page_in half p) ≡ image new (suc n) p
           shown page there = shown_after f laws reads s tx t p (follows page) (image_size p) (joins.may.logged p page) (page_in half p) (b.size page) (b.shown_is page) (sym (m'_last p) ∙ there)
@@ -525,9 +577,11 @@ module _ (f : Face) (laws : IsFace f) (reads : ReadsLines f) (both : Halves) (co
   step_is (Changes (Tells k)) list fits e = subst (λ (x : List Step). IsStepOf f core (changed both (Changes (Tells k))) x) (sym e) (tells k fits)
   step_is (Changes HandsOut) list fits e = subst (λ (x : List Step). IsStepOf f core (changed both (Changes HandsOut)) x) (sym e)
       (no_step f core (changed both (Changes HandsOut)) (other (length half.history) half.known half.waiting half.low_halted half.halted both.log.log_halted))
-  step_is (Changes (GoesHome p)) list fits (there, e) = subst (λ (x : List Step). IsStepOf f core (changed both (Changes (GoesHome p))) x) (sym e) (goes_home p fits there)
-  step_is (Changes (Tears p sectors fault)) list fits (there, e) = subst (λ (x : List Step). IsStepOf f core (changed both (Changes (Tears p sectors fault))) x) (sym e) (tears p sectors fault fits there)
-  step_is (Changes (Drops p)) list fits (gone, e) = subst (λ (x : List Step). IsStepOf f core (changed both (Changes (Drops p))) x) (sym e) (drops p fits gone)
+  step_is (Changes (GoesHome p)) list fits (inl (there, e)) = subst (λ (x : List Step). IsStepOf f core (changed both (Changes (GoesHome p))) x) (sym e) (goes_home p fits there)
+  step_is (Changes (GoesHome p)) list fits (inr (free, e)) = subst (λ (x : List Step). IsStepOf f core (changed both (Changes (GoesHome p))) x) (sym e) (free_goes_home p fits free)
+  step_is (Changes (Tears p sectors fault)) list fits (inl (there, e)) = subst (λ (x : List Step). IsStepOf f core (changed both (Changes (Tears p sectors fault))) x) (sym e) (tears p sectors fault fits there)
+  step_is (Changes (Tears p sectors fault)) list fits (inr (free, e)) = subst (λ (x : List Step). IsStepOf f core (changed both (Changes (Tears p sectors fault))) x) (sym e) (free_tears p sectors fault fits free)
+  step_is (Changes (Drops p)) list fits e = subst (λ (x : List Step). IsStepOf f core (changed both (Changes (Drops p))) x) (sym e) (drops p fits)
   step_is (Changes (Writes p bytes)) list fits (inl (put_is, e)) = subst (λ (x : List Step). IsStepOf f core (changed both (Changes (Writes p bytes))) x) (sym e) (writes_data p bytes fits put_is)
   step_is (Changes (Writes p bytes)) list fits (inr (home, e)) = subst (λ (x : List Step). IsStepOf f core (changed both (Changes (Writes p bytes))) x) (sym e) (writes_map p bytes fits home)
   step_is (Changes (WriteTears p bytes sectors fault)) list fits (inl (put_is, e)) =

@@ -1,11 +1,13 @@
 -- What the lines of an entry make of a page that memory shows.
-use Rattle.std.proofs.Common.{◌≡◌, ◌<◌, ◌⊎◌, ◌||◌, ◌&&◌, ℕ, suc, Bool, true, false, List, length, get_or, replicate, refl, sym, ap, ◌∙◌, inl, inr, arith}
-use Rattle.std.proofs.lemmas.Bool.{cases_Bool}
+use Rattle.std.proofs.Common.{◌≡◌, ◌<◌, ◌⊎◌, ◌||◌, ◌&&◌, not, if◌then◌else◌, ℕ, suc, Bool, true, false, List, [], ◌∷◌, length, get_or, replicate, refl, sym, ap, ◌∙◌, inl, inr, arith}
+use Rattle.std.proofs.lemmas.Bool.{cases_Bool, or_parts}
 use Rattle.std.proofs.lemmas.List.{ext_get_or, get_or-replicate, length-replicate}
 use Rattle.jfs_ranges.specs.declared.edit.Edit.{Edit}
-use Rattle.jfs_ranges.specs.Apply.{apply_tx, touches_tx}
+use Rattle.jfs_ranges.specs.Apply.{apply_tx, touches_tx, touches_edit}
 use Rattle.jfs_recovery.specs.crash_core.proofs.Bytes.{apply_tx-untouched}
-use Rattle.jfs_recovery.specs.records.specs.Redo.{closes_in}
+use Rattle.jfs_recovery.specs.records.specs.Redo.{closes_in, is_noredo}
+use Rattle.jfs_recovery.specs.Lines.{rest_of}
+use Rattle.jfs_halves.specs.Marks.{frees_page}
 use Rattle.jfs_recovery.specs.Face.{Face, IsFace, Pages, Gives, Passes, byte, matters}
 use Rattle.jfs_recovery.specs.Core.{IsLogged, IsMarked}
 use Rattle.jfs_recovery.specs.objects.specs.Readers.{Readers}
@@ -17,11 +19,15 @@ use Rattle.jfs_survival.proofs.Blocks.{never}
 pub record ReadsLines (f : Face) : Type 0 where
   pub lines : (tx : List Edit) (p : ℕ) (a : List ℕ) → f.lines tx p a ≡ apply_tx p tx a
   pub touched : (s : Pages) (tx : List Edit) (p : ℕ) → f.touches s tx p ≡ false → touches_tx p tx ≡ false
+  pub redoes : (tx : List Edit) (p : ℕ) (a : List ℕ) → f.redoes tx p a ≡ apply_tx p (rest_of p tx) a
+  pub closes : (tx : List Edit) (p : ℕ) → f.closes tx p ≡ closes_in p tx
   pub by : (s : Pages) (tx : List Edit) (p : ℕ) → f.is_map p ≡ false → f.touches s tx p ≡ true → touches_tx p tx ≡ false → f.closes tx p ≡ true
 
 pub reads_lines : (r : Readers) (pl : Places) (changes : Pages → List Edit → ℕ → Bool) → ReadsLines (face_of r pl changes)
 reads_lines r pl changes = record {
   lines = λ tx p a. refl;
+  redoes = λ tx p a. refl;
+  closes = λ tx p. refl;
   touched = λ s tx p e. none (touches_tx p tx) (closes_in p tx) (is_map_page pl p && changes s tx p) e;
   by = λ s tx p page e zero. closed (touches_tx p tx) (closes_in p tx) (is_map_page pl p) (changes s tx p) page e zero;
 }
@@ -61,22 +67,70 @@ whole_lines f laws tx p page size gives b b_size =
         let is = get_or-replicate {A = ℕ} 4096 i x 0 l in
         absurd (omega (arith, other, here, is))
 
--- So an entry that has no lines of a page, and a NoRedo of it, leaves it one that doesn't matter.
-pub freed : (f : Face) → IsFace f → ReadsLines f → (s : Pages) (tx : List Edit) (t : Pages) (p : ℕ) → length (t p) ≡ 4096 → IsLogged f s tx t p → f.closes tx p ≡ true → touches_tx p tx ≡ false → matters f t p ≡ false
-freed f laws reads s tx t p size logged closed none = at (cases_Bool (matters f t p))
-  where
-    stays : matters f t p ≡ true → (x : ℕ) → page_of_one x ≡ t p
-    stays there x =
-        sym (apply_tx-untouched p tx (page_of_one x) (size_of_one x) none) ∙ sym (reads.lines tx p (page_of_one x))
-        ∙ whole_lines f laws tx p (t p) size (λ a i a_size l. logged.whole there (inl closed) a i a_size l) (page_of_one x) (size_of_one x)
+-- what gives a page whole doesn't leave whatever stands there
+not_left : {A : Type 0} (g : List ℕ → List ℕ) (page : List ℕ) → ((a : List ℕ) (i : ℕ) → length a ≡ 4096 → i < 4096 → byte (g a) i ≡ byte page i) → ((a : List ℕ) → length a ≡ 4096 → g a ≡ a) → A
+not_left g page gives leaves =
+    let first : (x : ℕ) → x ≡ byte page 0 = λ x.
+        (let is = get_or-replicate {A = ℕ} 4096 0 x 0 (omega arith) in
+        let left = ap (λ (a : List ℕ). byte a 0) (leaves (page_of_one x) (size_of_one x)) in
+        let given = gives (page_of_one x) 0 (size_of_one x) (omega arith) in
+        omega (arith, is, left, given)) in
+    let zero_is = first 0 in
+    let one_is = first 1 in
+    absurd (omega (arith, zero_is, one_is))
 
+rest_untouched : (p : ℕ) (tx : List Edit) → touches_tx p tx ≡ false → touches_tx p (rest_of p tx) ≡ false
+unfolding rest_of
+rest_untouched p [] h = refl
+rest_untouched p (e ∷ es) h = let parts = or_parts (touches_edit p e) (touches_tx p es) h in at (closes_in p es) (is_noredo p e) parts.1 (rest_untouched p es parts.1)
+  where
+    at : (b c : Bool) → touches_tx p es ≡ false → touches_tx p (rest_of p es) ≡ false → touches_tx p (if b then rest_of p es else (if c then es else e ∷ es)) ≡ false
+    at true c here rest = rest
+    at false true here rest = here
+    at false false here rest = h
+
+-- a page that no line behind its last NoRedo touches
+pub freed_rest : (p : ℕ) (tx : List Edit) → frees_page p tx ≡ true → (closes_in p tx ≡ true) × (touches_tx p (rest_of p tx) ≡ false)
+unfolding rest_of
+freed_rest p [] h = absurd (cc (h))
+freed_rest p (e ∷ es) h = at (λ more. freed_rest p es more) (is_noredo p e) (touches_tx p es) refl refl h
+  where
+    or_true : (b : Bool) → (b || true) ≡ true
+    or_true true = refl
+    or_true false = refl
+
+    later : (closes_in p es ≡ true) × (touches_tx p (rest_of p es) ≡ false) → (n : Bool) → ((n || closes_in p es) ≡ true) × (touches_tx p (if closes_in p es then rest_of p es else (if n then es else e ∷ es)) ≡ false)
+    later x n = rw x.0 (or_true n, x.1)
+
+    at : (frees_page p es ≡ true → (closes_in p es ≡ true) × (touches_tx p (rest_of p es) ≡ false)) → (n t : Bool) → is_noredo p e ≡ n → touches_tx p es ≡ t → ((n && not t) || frees_page p es) ≡ true → ((n || closes_in p es) ≡ true) × (touches_tx p (if closes_in p es then rest_of p es else (if n then es else e ∷ es)) ≡ false)
+    at more true false d q g = (refl, here (closes_in p es))
+      where
+        here : (b : Bool) → touches_tx p (if b then rest_of p es else es) ≡ false
+        here true = rest_untouched p es q
+        here false = q
+    at more true true d q g = later (more g) true
+    at more false t d q g = later (more g) false
+
+-- An entry that leaves each page of redo as it was, and has a NoRedo of it or found it not to matter, leaves it one that doesn't matter.
+leaves_free : (f : Face) → (s : Pages) (tx : List Edit) (t : Pages) (p : ℕ) → IsLogged f s tx t p → (f.closes tx p ≡ true) ⊎ (matters f s p ≡ false) → ((a : List ℕ) → length a ≡ 4096 → f.redoes tx p a ≡ a) → matters f t p ≡ false
+leaves_free f s tx t p logged why left = at (cases_Bool (matters f t p))
+  where
     at : (matters f t p ≡ true) ⊎ (matters f t p ≡ false) → matters f t p ≡ false
     at (inr gone) = gone
-    at (inl there) =
-        let two = ap (λ (a : List ℕ). byte a 0) (stays there 0 ∙ sym (stays there 1)) in
-        let zero_is = get_or-replicate {A = ℕ} 4096 0 0 0 (omega arith) in
-        let one_is = get_or-replicate {A = ℕ} 4096 0 1 0 (omega arith) in
-        absurd (omega (arith, two, zero_is, one_is))
+    at (inl there) = not_left (f.redoes tx p) (t p) (logged.whole there why) left
+
+untouched_redo : (f : Face) → ReadsLines f → (tx : List Edit) (p : ℕ) → touches_tx p (rest_of p tx) ≡ false → (a : List ℕ) → length a ≡ 4096 → f.redoes tx p a ≡ a
+untouched_redo f reads tx p none a size = reads.redoes tx p a ∙ apply_tx-untouched p (rest_of p tx) a size none
+
+-- So does one that has no lines of a page, and a NoRedo of it; and one that frees it; and one without lines of a page that doesn't matter.
+pub freed : (f : Face) → ReadsLines f → (s : Pages) (tx : List Edit) (t : Pages) (p : ℕ) → IsLogged f s tx t p → f.closes tx p ≡ true → touches_tx p tx ≡ false → matters f t p ≡ false
+freed f reads s tx t p logged closed none = leaves_free f s tx t p logged (inl closed) (untouched_redo f reads tx p (rest_untouched p tx none))
+
+pub frees : (f : Face) → ReadsLines f → (s : Pages) (tx : List Edit) (t : Pages) (p : ℕ) → IsLogged f s tx t p → frees_page p tx ≡ true → matters f t p ≡ false
+frees f reads s tx t p logged h = let x = freed_rest p tx h in leaves_free f s tx t p logged (inl (reads.closes tx p ∙ x.0)) (untouched_redo f reads tx p x.1)
+
+pub stays_free : (f : Face) → ReadsLines f → (s : Pages) (tx : List Edit) (t : Pages) (p : ℕ) → IsLogged f s tx t p → matters f s p ≡ false → touches_tx p tx ≡ false → matters f t p ≡ false
+stays_free f reads s tx t p logged was none = leaves_free f s tx t p logged (inr was) (untouched_redo f reads tx p (rest_untouched p tx none))
 
 -- What memory shows of a page that matters before it, and of each page that matters after it, is as the entry leaves it.
 pub shown_after : (f : Face) → IsFace f → ReadsLines f → (s : Pages) (tx : List Edit) (t : Pages) (p : ℕ) → t p ≡ f.lines tx p (s p) → length (s p) ≡ 4096 → IsLogged f s tx t p

@@ -14,7 +14,7 @@ use Rattle.jfs_recovery.specs.Mount.{fresh, IsMounted}
 use Rattle.jfs_recovery.proofs.Mount.{fresh_kept}
 use Rattle.jfs_face.specs.Places.{Places}
 use Rattle.jfs_face.proofs.Whole.{is_face}
-use Rattle.jfs_survival.specs.Stands.{IsBlockOf, IsCoreOf}
+use Rattle.jfs_survival.specs.Stands.{IsBlockOf, lines_at, IsCoreOf}
 use Rattle.jfs_survival.specs.Laws.{StartLaw}
 use Rattle.jfs_survival.proofs.Blocks.{no_some, none_is, moved}
 
@@ -23,7 +23,7 @@ module _ (f : Face) (laws : IsFace f) (ring : ℕ) (shown : Shown) (low s : Page
   many : length (map fresh_block shown.pages) ≡ length shown.pages
   many = length-map shown.pages fresh_block
 
-  block : (p : ℕ) → p < length shown.pages → IsBlockOf (f.is_map p) (matters_at f (fresh f low s) p) 0 (s p) ((fresh f low s).slots p) (fresh_block (page_of shown.pages p)) (page_of shown.pages p)
+  block : (p : ℕ) → p < length shown.pages → IsBlockOf (f.is_map p) (matters_at f (fresh f low s) p) (lines_at (fresh f low s) p) 0 (s p) ((fresh f low s).slots p) (fresh_block (page_of shown.pages p)) (page_of shown.pages p)
   block p l = record {
     written = ap resting (low_is p l);
     map_clean = λ e. refl;
@@ -32,6 +32,7 @@ module _ (f : Face) (laws : IsFace f) (ring : ℕ) (shown : Shown) (low s : Page
     shown_is = λ e there. sym (low_is p l) ∙ sym (mounted.start.pages p e);
     dirty = λ e there some. none_is None refl some;
     later = λ e span d there. no_some span d;
+    quiet = λ own d. no_some own d;
   }
 
   pub started : IsCoreOf f (fresh_halves ring shown) (fresh f low s)
@@ -47,7 +48,7 @@ module _ (f : Face) (laws : IsFace f) (ring : ℕ) (shown : Shown) (low s : Page
     points_stable = refl;
     number = sym many;
     each = λ p l. (let there : p < length shown.pages = omega (arith, l, many) in
-        moved (f.is_map p) (matters_at f (fresh f low s) p) 0 (s p) ((fresh f low s).slots p) ((fresh f low s).slots p) (fresh_block (page_of shown.pages p)) (get_or (map fresh_block shown.pages) p no_block) (page_of shown.pages p) (page_of shown.pages p)
+        moved (f.is_map p) (matters_at f (fresh f low s) p) (lines_at (fresh f low s) p) 0 (s p) ((fresh f low s).slots p) ((fresh f low s).slots p) (fresh_block (page_of shown.pages p)) (get_or (map fresh_block shown.pages) p no_block) (page_of shown.pages p) (page_of shown.pages p)
         refl (get_or-map fresh_block shown.pages p [] no_block there) refl (block p there));
     past = λ p l. record { dirty = refl; unsynced = refl };
   }

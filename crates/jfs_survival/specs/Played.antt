@@ -3,7 +3,7 @@ use Rattle.std.specs.Prelude.{◌≡◌, ◌⊎◌, ◌≤◌, ℕ, Bool, true, 
 use Rattle.jfs_ranges.specs.Apply.{touches_tx}
 use Rattle.jfs_recovery.specs.crash_core.specs.Step.{EndsBy, IsSynced}
 use Rattle.jfs_halves.specs.Entry.{Happened, edits}
-use Rattle.jfs_halves.specs.Half.{Halves, is_open}
+use Rattle.jfs_halves.specs.Half.{Halves, page_in, is_open}
 use Rattle.jfs_halves.specs.Change.{Enters, Takes, Tells, HandsOut, GoesHome, Tears, Drops, Writes, WriteTears, Stops, LogStops, Syncs, Points, Knows}
 use Rattle.jfs_halves.specs.Both.{BothChange, Changes, GroupIsWritten, GroupFails, changed}
 use Rattle.jfs_recovery.specs.Face.{Face, Pages}
@@ -20,10 +20,14 @@ pub record Joins (f : Face) (both : Halves) (core : Core) (h : Happened) (t : Pa
 abbrev pub Matters : Face → Core → ℕ → Type 0
 Matters f core p = matters_at f core p (count core) ≡ true
 
--- data of a regular file, or of a block that is free
+-- the block is data of a regular file, or has no owner and isn't busy
+abbrev pub IsFree : Face → Core → ℕ → Type 0
+IsFree f core p = MayWrite (owner_at f core p) core.told (count core)
+
+-- such a block gets a whole page
 pub record IsData (f : Face) (core : Core) (p : ℕ) (bytes : List ℕ) : Type 0 where
   pub size : length bytes ≡ 4096
-  pub may : MayWrite (owner_at f core p) core.told (count core)
+  pub may : IsFree f core p
 
 -- a page of a map that entries changed, all of them acknowledged, with its bytes after these
 pub record IsMapHome (f : Face) (core : Core) (p : ℕ) (bytes : List ℕ) : Type 0 where
@@ -45,10 +49,10 @@ IsPlayed f both core (Changes (Enters h)) list = (t : Pages) × Joins f both cor
 IsPlayed f both core (Changes Takes) list = list ≡ step_if (is_open (changed both (Changes Takes))) Take
 IsPlayed f both core (Changes (Tells n)) list = list ≡ Told ∷ []
 IsPlayed f both core (Changes HandsOut) list = list ≡ []
-IsPlayed f both core (Changes (GoesHome p)) list = Matters f core p × (list ≡ Home p ∷ [])
-IsPlayed f both core (Changes (Tears p sectors fault)) list = Matters f core p × (list ≡ HomeFails p sectors ∷ [])
--- a page that was freed, in the core since that was acknowledged
-IsPlayed f both core (Changes (Drops p)) list = (matters_at f core p (count core) ≡ false) × (list ≡ [])
+-- a page that matters; or one that was freed, which the core dropped as that was acknowledged, and where the half may write what it likes
+IsPlayed f both core (Changes (GoesHome p)) list = (Matters f core p × (list ≡ Home p ∷ [])) ⊎ (IsFree f core p × (list ≡ Write p (page_in both.volume p) ∷ []))
+IsPlayed f both core (Changes (Tears p sectors fault)) list = (Matters f core p × (list ≡ HomeFails p sectors ∷ [])) ⊎ (IsFree f core p × (list ≡ WriteFails p (page_in both.volume p) sectors ∷ []))
+IsPlayed f both core (Changes (Drops p)) list = list ≡ []
 IsPlayed f both core (Changes (Writes p bytes)) list = (IsData f core p bytes × (list ≡ Write p bytes ∷ [])) ⊎ (IsMapHome f core p bytes × (list ≡ Home p ∷ []))
 IsPlayed f both core (Changes (WriteTears p bytes sectors fault)) list =
     (IsData f core p bytes × (list ≡ WriteFails p bytes sectors ∷ [])) ⊎ (IsMapHome f core p bytes × (list ≡ HomeFails p sectors ∷ []))
