@@ -261,9 +261,11 @@ module _ (f : Face) (laws : IsFace f) (reads : ReadsLines f) (both : Halves) (co
   entry_is : (k : ℕ) (h : Happened) → slice_get half.history k ≡ Some h → (k < n) × (entry core k ≡ edits h)
   entry_is k h e =
       let there = slice_get_within half.history k h e in
-      let within : k < n = omega (arith, there, n_is) in
-      (within, sym (get_or-map (λ (d : Done). d.tx) core.history k nothing [] within) ∙ ap (λ (txs : List (List Edit)). get_or txs k []) is.history ∙ get_or-map edits half.history k h [] there
-      ∙ ap edits (get_or_from_slice_get half.history k h h e))
+      let within : k < n = omega (arith, there, n_is) in (
+        within,
+        sym (get_or-map (λ (d : Done). d.tx) core.history k nothing [] within) ∙ ap (λ (txs : List (List Edit)). get_or txs k []) is.history ∙ get_or-map edits half.history k h [] there
+            ∙ ap edits (get_or_from_slice_get half.history k h h e),
+      )
 
   -- from an entry that frees a page on, it doesn't matter, where no later one has lines of it
   free_since : (p k : ℕ) → f.is_map p ≡ false → k < n → frees_page p (entry core k) ≡ true → ((j : ℕ) → suc k ≤ j → j < n → lines_at core p j ≡ false) → (d i : ℕ) → i ≡ suc k + d → i ≤ n → matters_at f core p i ≡ false

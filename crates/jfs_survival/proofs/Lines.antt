@@ -71,10 +71,10 @@ whole_lines f laws tx p page size gives b b_size =
 not_left : {A : Type 0} (g : List ℕ → List ℕ) (page : List ℕ) → ((a : List ℕ) (i : ℕ) → length a ≡ 4096 → i < 4096 → byte (g a) i ≡ byte page i) → ((a : List ℕ) → length a ≡ 4096 → g a ≡ a) → A
 not_left g page gives leaves =
     let first : (x : ℕ) → x ≡ byte page 0 = λ x.
-        (let is = get_or-replicate {A = ℕ} 4096 0 x 0 (omega arith) in
-        let left = ap (λ (a : List ℕ). byte a 0) (leaves (page_of_one x) (size_of_one x)) in
-        let given = gives (page_of_one x) 0 (size_of_one x) (omega arith) in
-        omega (arith, is, left, given)) in
+    (let is = get_or-replicate {A = ℕ} 4096 0 x 0 (omega arith) in
+    let left = ap (λ (a : List ℕ). byte a 0) (leaves (page_of_one x) (size_of_one x)) in
+    let given = gives (page_of_one x) 0 (size_of_one x) (omega arith) in
+    omega (arith, is, left, given)) in
     let zero_is = first 0 in
     let one_is = first 1 in
     absurd (omega (arith, zero_is, one_is))
