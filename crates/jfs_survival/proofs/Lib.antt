@@ -4,3 +4,5 @@ pub mod Changes
 pub mod Runs
 pub mod Start
 pub mod Crashes
+pub mod Entry
+pub mod Seen

@@ -13,6 +13,7 @@ use Rattle.jfs_recovery.specs.Core.{IsLogged, IsMarked}
 use Rattle.jfs_recovery.specs.objects.specs.Readers.{Readers}
 use Rattle.jfs_face.specs.Places.{Places, is_map_page}
 use Rattle.jfs_face.specs.Volume.{face_of}
+use Rattle.jfs_logged.proofs.Joined.{rest_untouched, freed_rest}
 use Rattle.jfs_survival.proofs.Blocks.{never}
 
 -- A face whose lines are edits, and whose pages are touched by lines and by NoRedos; a page of a map beside that as the face has it.
@@ -68,7 +69,7 @@ whole_lines f laws tx p page size gives b b_size =
         absurd (omega (arith, other, here, is))
 
 -- what gives a page whole doesn't leave whatever stands there
-not_left : {A : Type 0} (g : List ℕ → List ℕ) (page : List ℕ) → ((a : List ℕ) (i : ℕ) → length a ≡ 4096 → i < 4096 → byte (g a) i ≡ byte page i) → ((a : List ℕ) → length a ≡ 4096 → g a ≡ a) → A
+pub not_left : {A : Type 0} (g : List ℕ → List ℕ) (page : List ℕ) → ((a : List ℕ) (i : ℕ) → length a ≡ 4096 → i < 4096 → byte (g a) i ≡ byte page i) → ((a : List ℕ) → length a ≡ 4096 → g a ≡ a) → A
 not_left g page gives leaves =
     let first : (x : ℕ) → x ≡ byte page 0 = λ x.
     (let is = get_or-replicate {A = ℕ} 4096 0 x 0 (omega arith) in
@@ -78,38 +79,6 @@ not_left g page gives leaves =
     let zero_is = first 0 in
     let one_is = first 1 in
     absurd (omega (arith, zero_is, one_is))
-
-rest_untouched : (p : ℕ) (tx : List Edit) → touches_tx p tx ≡ false → touches_tx p (rest_of p tx) ≡ false
-unfolding rest_of
-rest_untouched p [] h = refl
-rest_untouched p (e ∷ es) h = let parts = or_parts (touches_edit p e) (touches_tx p es) h in at (closes_in p es) (is_noredo p e) parts.1 (rest_untouched p es parts.1)
-  where
-    at : (b c : Bool) → touches_tx p es ≡ false → touches_tx p (rest_of p es) ≡ false → touches_tx p (if b then rest_of p es else (if c then es else e ∷ es)) ≡ false
-    at true c here rest = rest
-    at false true here rest = here
-    at false false here rest = h
-
--- a page that no line behind its last NoRedo touches
-pub freed_rest : (p : ℕ) (tx : List Edit) → frees_page p tx ≡ true → (closes_in p tx ≡ true) × (touches_tx p (rest_of p tx) ≡ false)
-unfolding rest_of
-freed_rest p [] h = absurd (cc (h))
-freed_rest p (e ∷ es) h = at (λ more. freed_rest p es more) (is_noredo p e) (touches_tx p es) refl refl h
-  where
-    or_true : (b : Bool) → (b || true) ≡ true
-    or_true true = refl
-    or_true false = refl
-
-    later : (closes_in p es ≡ true) × (touches_tx p (rest_of p es) ≡ false) → (n : Bool) → ((n || closes_in p es) ≡ true) × (touches_tx p (if closes_in p es then rest_of p es else (if n then es else e ∷ es)) ≡ false)
-    later x n = rw x.0 (or_true n, x.1)
-
-    at : (frees_page p es ≡ true → (closes_in p es ≡ true) × (touches_tx p (rest_of p es) ≡ false)) → (n t : Bool) → is_noredo p e ≡ n → touches_tx p es ≡ t → ((n && not t) || frees_page p es) ≡ true → ((n || closes_in p es) ≡ true) × (touches_tx p (if closes_in p es then rest_of p es else (if n then es else e ∷ es)) ≡ false)
-    at more true false d q g = (refl, here (closes_in p es))
-      where
-        here : (b : Bool) → touches_tx p (if b then rest_of p es else es) ≡ false
-        here true = rest_untouched p es q
-        here false = q
-    at more true true d q g = later (more g) true
-    at more false t d q g = later (more g) false
 
 -- An entry that leaves each page of redo as it was, and has a NoRedo of it or found it not to matter, leaves it one that doesn't matter.
 leaves_free : (f : Face) → (s : Pages) (tx : List Edit) (t : Pages) (p : ℕ) → IsLogged f s tx t p → (f.closes tx p ≡ true) ⊎ (matters f s p ≡ false) → ((a : List ℕ) → length a ≡ 4096 → f.redoes tx p a ≡ a) → matters f t p ≡ false

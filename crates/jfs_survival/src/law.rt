@@ -1,5 +1,6 @@
 //! What holds of all changes of a mounted volume's halves.
 
+ghost use Rattle.jfs_survival.specs.Entry.{DataLaw, EntryLaw, SeenLaw};
 ghost use Rattle.jfs_survival.specs.Laws.{RunLaw, StartLaw, CrashLaw};
 
 /// Changes that fit, and that keep what the core asks of each, are a run of its allowed steps, and lead to the core of the halves after them.
@@ -15,4 +16,19 @@ pub fn mounted_halves_have_a_core()
 /// After such a run, whatever a crash leaves of the disk and for each log image, redo finds a front of the history with all that was acknowledged before, and leaves the volume after that front.
 pub fn crashes_leave_a_prefix()
     ensures { CrashLaw }
+{}
+
+/// An image that has what the log keeps safe of a volume has its owners, whatever stands in the fixed areas.
+pub fn images_have_the_owners()
+    ensures { SeenLaw }
+{}
+
+/// An entry whose transaction logs what matters and takes no busy block may be appended.
+pub fn entries_that_log_well_may_join()
+    ensures { EntryLaw }
+{}
+
+/// A block that is a regular file's data, or that isn't in use and isn't busy, may be written past the log.
+pub fn data_of_files_may_be_written()
+    ensures { DataLaw }
 {}

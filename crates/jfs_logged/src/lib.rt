@@ -1,0 +1,6 @@
+//! What a transaction logs of each page, and of blocks that keep their owners: laws for the parts that file calls are made of. It has no code: its laws are functions with empty bodies.
+#![tactic(auto)]
+
+mod law;
+
+pub use law::{inodes_and_directories_keep_kinds, pages_are_logged, parts_are_logged_together};
