@@ -15,7 +15,7 @@ use Rattle.jfs_recovery.proofs.Lines.{all_rest}
 use Rattle.jfs_halves.specs.Marks.{frees_page}
 use Rattle.jfs_logged.specs.Logged.{logged_in, LogsPage, LogsWell, JoinLaw, IsTold, IsFreed, PageLaw}
 
-never : {A : Type 0} (b : Bool) → b ≡ true → b ≡ false → A
+pub never : {A : Type 0} (b : Bool) → b ≡ true → b ≡ false → A
 never b e d = absurd (let x : true ≡ false = sym e ∙ d in cc)
 
 closes_onto : (p : ℕ) (tx more : List Edit) → closes_in p (tx ++ more) ≡ (closes_in p tx || closes_in p more)
@@ -150,7 +150,7 @@ freed_rest p (e ∷ es) h = at (λ more. freed_rest p es more) (is_noredo p e) (
 pub page_law : PageLaw
 page_law p was now tx page (inl told) = record {
   whole = λ there why a s. all a ∙ told.whole (out why) there a s;
-  shut = λ gone a s. all a ∙ apply_tx-untouched p tx a s (untouched gone (cases_Bool (touches_tx p tx)));
+  shut = λ gone a s. all a ∙ told.kept gone a s;
   noted = λ gone there. never now (told.stays there) gone;
 }
   where
@@ -160,10 +160,6 @@ page_law p was now tx page (inl told) = record {
     out : (closes_in p tx ≡ true) ⊎ (was ≡ false) → was ≡ false
     out (inl c) = never (closes_in p tx) c told.open_is
     out (inr w) = w
-
-    untouched : now ≡ false → (touches_tx p tx ≡ true) ⊎ (touches_tx p tx ≡ false) → touches_tx p tx ≡ false
-    untouched gone (inl t) = never now (told.kept t) gone
-    untouched gone (inr n) = n
 page_law p was now tx page (inr freed) = record {
   whole = λ there. never now there freed.gone;
   shut = λ gone a s. apply_tx-untouched p (rest_of p tx) a s (freed_rest p tx freed.freed).1;

@@ -1,2 +1,4 @@
 pub mod Joined
 pub mod OneObject
+pub mod Staged
+pub mod Edited

@@ -1,5 +1,7 @@
 -- what the laws say
 pub mod Logged
 pub mod Kinds
+pub mod Stages
+pub mod Edits
 -- libraries below, passed on
 pub use Rattle.jfs_recovery as recovery

@@ -1,7 +1,7 @@
 -- What a transaction logs, of a volume before it and after it.
 use Rattle.std.specs.Prelude.{◌≡◌, ◌⊎◌, ℕ, Bool, true, false, List, ◌++◌, length}
 use Rattle.jfs_ranges.specs.declared.edit.Edit.{Edit}
-use Rattle.jfs_ranges.specs.Apply.{apply_tx, touches_tx}
+use Rattle.jfs_ranges.specs.Apply.{apply_tx}
 use Rattle.jfs_recovery.specs.records.specs.Redo.{closes_in}
 use Rattle.jfs_recovery.specs.objects.specs.Readers.{Readers}
 use Rattle.jfs_recovery.specs.objects.specs.Volume.{Volume}
@@ -33,11 +33,11 @@ pub record LogsWell (r : Readers) (v w : Volume) (tx : List Edit) : Type 0 where
 abbrev pub JoinLaw : Type 0
 JoinLaw = (r : Readers) (v w u : Volume) (tx more : List Edit) → ((p : ℕ) → length (v.page p) ≡ 4096) → LogsWell r v w tx → LogsWell r w u more → TakesNoneFreed v w u → LogsWell r v u (tx ++ more)
 
--- What is told of a page: lines alone, of a page that is kept safe then, and all of it where it wasn't before; or it is freed, and isn't kept safe then.
+-- What is told of a page: lines alone, which leave a page that isn't kept safe then, and give all of one that wasn't before; or it is freed, and isn't kept safe then.
 pub record IsTold (p : ℕ) (was now : Bool) (tx : List Edit) (page : List ℕ) : Type 0 where
   pub open_is : closes_in p tx ≡ false
   pub stays : was ≡ true → now ≡ true
-  pub kept : touches_tx p tx ≡ true → now ≡ true
+  pub kept : now ≡ false → (a : List ℕ) → length a ≡ 4096 → apply_tx p tx a ≡ a
   pub whole : was ≡ false → now ≡ true → (a : List ℕ) → length a ≡ 4096 → apply_tx p tx a ≡ page
 
 pub record IsFreed (p : ℕ) (now : Bool) (tx : List Edit) : Type 0 where

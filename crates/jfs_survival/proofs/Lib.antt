@@ -6,3 +6,4 @@ pub mod Start
 pub mod Crashes
 pub mod Entry
 pub mod Seen
+pub mod Lists

@@ -2,6 +2,7 @@
 
 ghost use Rattle.jfs_survival.specs.Entry.{DataLaw, EntryLaw, SeenLaw};
 ghost use Rattle.jfs_survival.specs.Laws.{RunLaw, StartLaw, CrashLaw};
+ghost use Rattle.jfs_survival.specs.Lists.{MapsLaw, PlainLaw};
 
 /// Changes that fit, and that keep what the core asks of each, are a run of its allowed steps, and lead to the core of the halves after them.
 pub fn changes_are_a_run()
@@ -31,4 +32,14 @@ pub fn entries_that_log_well_may_join()
 /// A block that is a regular file's data, or that isn't in use and isn't busy, may be written past the log.
 pub fn data_of_files_may_be_written()
     ensures { DataLaw }
+{}
+
+/// Groups, acknowledgements, dropped pages, syncs and faults, in whatever order they fit, are a run of the core: a commit is.
+pub fn commits_are_a_run()
+    ensures { PlainLaw }
+{}
+
+/// Where all pages of the maps that entries changed are written, each once and as they are after the acknowledged entries, and the low part is synced, a SYNCPT may be made behind that.
+pub fn maps_go_home_before_a_sync()
+    ensures { MapsLaw }
 {}
