@@ -1,6 +1,6 @@
 -- Parts that each change one object log what matters.
-use Rattle.std.proofs.Common.{◌≡◌, ◌≢◌, ◌⊎◌, ◌+◌, ℕ, Bool, true, false, List, [], length, Option, Some, None, refl, sym, ap, ◌∙◌, subst, inl, inr, arith}
-use Rattle.std.proofs.lemmas.Bool.{cases_Bool, cases_eq}
+use Rattle.std.proofs.Common.{◌≡◌, ◌≢◌, ◌⊎◌, ℕ, Bool, true, false, List, [], Option, Some, refl, sym, ap, ◌∙◌, subst, inl, inr, arith}
+use Rattle.std.proofs.lemmas.Bool.{cases_Bool}
 use Rattle.jfs_bits.specs.declared.rule.PageKind.TheVariants as kinds
 use Rattle.jfs_inode.specs.declared.fields.Dinode.{Dinode}
 use Rattle.jfs_ranges.specs.declared.edit.Edit.{Edit}
@@ -18,7 +18,7 @@ use Rattle.jfs_recovery.specs.kinds.proofs.Edits.{edit_law}
 use Rattle.jfs_recovery.specs.kinds.proofs.Logged.{logged_law}
 use Rattle.jfs_recovery.specs.kinds.proofs.Stay.{is_free}
 use Rattle.jfs_logged.specs.Logged.{logged_in, LogsWell}
-use Rattle.jfs_logged.specs.Stages.{LeavesPage, TellsStage, ArePageRuns}
+use Rattle.jfs_logged.specs.Stages.{TellsStage, ArePageRuns}
 use Rattle.jfs_logged.specs.Edits.{EditsLaw, WritesInode, InodeLaw}
 use Rattle.jfs_logged.proofs.Joined.{never}
 use Rattle.jfs_logged.proofs.OneObject.{kinds_law}

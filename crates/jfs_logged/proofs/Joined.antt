@@ -6,14 +6,11 @@ use Rattle.jfs_ranges.specs.Apply.{apply_tx, touches_tx, touches_edit}
 use Rattle.jfs_ranges.proofs.OnTop.{applied_onto}
 use Rattle.jfs_recovery.specs.crash_core.proofs.Bytes.{apply_tx-untouched, length-apply_tx}
 use Rattle.jfs_recovery.specs.records.specs.Redo.{closes_in, is_noredo}
-use Rattle.jfs_recovery.specs.objects.specs.Readers.{Readers}
-use Rattle.jfs_recovery.specs.objects.specs.Volume.{Volume}
-use Rattle.jfs_recovery.specs.kinds.specs.Laws.{TakesNoneFreed}
 use Rattle.jfs_recovery.specs.kinds.proofs.Stay.{kept_law}
 use Rattle.jfs_recovery.specs.Lines.{rest_of}
 use Rattle.jfs_recovery.proofs.Lines.{all_rest}
 use Rattle.jfs_halves.specs.Marks.{frees_page}
-use Rattle.jfs_logged.specs.Logged.{logged_in, LogsPage, LogsWell, JoinLaw, IsTold, IsFreed, PageLaw}
+use Rattle.jfs_logged.specs.Logged.{logged_in, LogsPage, JoinLaw, PageLaw}
 
 pub never : {A : Type 0} (b : Bool) → b ≡ true → b ≡ false → A
 never b e d = absurd (let x : true ≡ false = sym e ∙ d in cc)

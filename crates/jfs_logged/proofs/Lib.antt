@@ -2,3 +2,4 @@ pub mod Joined
 pub mod OneObject
 pub mod Staged
 pub mod Edited
+pub mod Pages

@@ -1,14 +1,13 @@
 -- Changes of one object that keep the kinds of its blocks.
-use Rattle.std.proofs.Common.{◌≡◌, refl, sym, ap, ap₂, ◌∙◌, ℕ, ◌+◌, true, false, if◌then◌else◌, Bool, List, Option, Some, arith}
+use Rattle.std.proofs.Common.{◌≡◌, refl, sym, ap, ◌∙◌, ℕ, true, Option, Some, arith}
 use Rattle.std.proofs.lemmas.Bool.{cond-false}
 use Rattle.jfs_recovery.specs.objects.specs.Readers.{Readers}
 use Rattle.jfs_recovery.specs.objects.specs.Volume.{Volume}
-use Rattle.jfs_recovery.specs.objects.specs.Objects.{Object, objects, listed, met}
-use Rattle.jfs_recovery.specs.objects.specs.Owners.{holds, tree_held, data_held, attributes_held, entries, covers, unless_broken}
+use Rattle.jfs_recovery.specs.objects.specs.Objects.{Object, objects}
+use Rattle.jfs_recovery.specs.objects.specs.Owners.{holds, data_held}
 use Rattle.jfs_recovery.specs.objects.specs.Laws.{ChangesOne}
 use Rattle.jfs_recovery.specs.objects.proofs.Sums.{put_here}
 use Rattle.jfs_recovery.specs.kinds.specs.Owner.{is_regular_file, has_page, has_data, has_still}
-use Rattle.jfs_recovery.specs.kinds.specs.Laws.{KeepsKinds}
 use Rattle.jfs_recovery.specs.kinds.proofs.Parts.{parts}
 use Rattle.jfs_logged.specs.Kinds.{HasTrees, HasNoData, KindsLaw}
 

@@ -1,5 +1,5 @@
 -- A part of a transaction that tells its stage logs what matters.
-use Rattle.std.proofs.Common.{◌≡◌, ◌≢◌, ◌⊎◌, ◌<◌, ◌≤◌, ◌+◌, ◌-◌, ◌*◌, ◌&&◌, ◌||◌, nat_lt, ℕ, suc, Bool, true, false, List, [], ◌∷◌, length, take, drop, Option, Some, None, refl, sym, ap, ◌∙◌, inl, inr, arith}
+use Rattle.std.proofs.Common.{◌≡◌, ◌≢◌, ◌⊎◌, ◌≤◌, ◌+◌, ◌-◌, ◌*◌, ◌&&◌, ◌||◌, nat_lt, ℕ, Bool, true, false, List, [], ◌∷◌, length, drop, Option, refl, ap, ◌∙◌, inl, inr, arith}
 use Rattle.std.proofs.lemmas.Bool.{cases_Bool, and_parts, ltb-true}
 use Rattle.std.proofs.lemmas.List.{length-take}
 use Rattle.jfs_bits.specs.Line.{line_size}
@@ -7,17 +7,17 @@ use Rattle.jfs_bits.specs.declared.rule.PageKind.{PageKind}
 use Rattle.jfs_ranges.specs.declared.edit.Edit.{Edit}
 use Rattle.jfs_ranges.specs.declared.edit.Edit.TheVariants.{Lines, NoRedo, Alloc, Free}
 use Rattle.jfs_ranges.specs.Apply.{apply_tx, place_of_line, touches_edit, touches_tx}
-use Rattle.jfs_tree.specs.Tell.{IsRuns, lines_from}
+use Rattle.jfs_tree.specs.Tell.{IsRuns}
 use Rattle.jfs_recovery.specs.crash_core.proofs.Bytes.{apply_tx-untouched}
 use Rattle.jfs_recovery.specs.records.specs.Redo.{closes_in}
 use Rattle.jfs_recovery.specs.objects.specs.Readers.{Readers}
 use Rattle.jfs_recovery.specs.objects.specs.Volume.{Volume}
 use Rattle.jfs_recovery.specs.objects.specs.Owners.{Agrees}
-use Rattle.jfs_recovery.specs.kinds.specs.Owner.{Owner, owner_of, is_logged}
+use Rattle.jfs_recovery.specs.kinds.specs.Owner.{Owner, is_logged}
 use Rattle.jfs_recovery.specs.kinds.specs.Laws.{OwnersStay}
 use Rattle.jfs_recovery.specs.kinds.proofs.Stay.{is_free}
-use Rattle.jfs_logged.specs.Logged.{logged_in, LogsPage, LogsWell, IsTold, IsFreed}
-use Rattle.jfs_logged.specs.Stages.{LeavesPage, TellsStage, StageLaw, ArePageRuns, RunsLaw}
+use Rattle.jfs_logged.specs.Logged.{logged_in, LogsPage, LogsWell, IsTold}
+use Rattle.jfs_logged.specs.Stages.{TellsStage, StageLaw, RunsLaw}
 use Rattle.jfs_logged.proofs.Joined.{never, page_law}
 
 module _ (r : Readers) (v w : Volume) (tx : List Edit) (before : Agrees r v) (after : Agrees r w) (stay : OwnersStay r v w) (tells : TellsStage r v w tx) where

@@ -1,5 +1,5 @@
 -- Which changes of one object keep the kinds of its blocks.
-use Rattle.std.specs.Prelude.{◌≡◌, ℕ, false, List, Some}
+use Rattle.std.specs.Prelude.{◌≡◌, ℕ, false, Some}
 use Rattle.jfs_recovery.specs.objects.specs.Readers.{Readers}
 use Rattle.jfs_recovery.specs.objects.specs.Volume.{Volume}
 use Rattle.jfs_recovery.specs.objects.specs.Objects.{Object, objects}

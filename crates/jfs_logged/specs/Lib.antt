@@ -3,5 +3,6 @@ pub mod Logged
 pub mod Kinds
 pub mod Stages
 pub mod Edits
+pub mod Trees
 -- libraries below, passed on
 pub use Rattle.jfs_recovery as recovery

@@ -4,6 +4,7 @@ ghost use Rattle.jfs_logged.specs.Logged.{JoinLaw, PageLaw};
 ghost use Rattle.jfs_logged.specs.Edits.{EditsLaw, InodeLaw};
 ghost use Rattle.jfs_logged.specs.Kinds.{KindsLaw};
 ghost use Rattle.jfs_logged.specs.Stages.{RunsLaw, StageLaw};
+ghost use Rattle.jfs_logged.specs.Trees.{PagesLaw};
 
 /// Two parts of a transaction that each log what the log keeps safe, and leave the owners of blocks that stay in use, do so together, where the later one takes no block that the first one freed.
 pub fn parts_are_logged_together()
@@ -38,4 +39,9 @@ pub fn edits_of_objects_are_logged()
 /// An inode that is written with the same trees, by the runs of its page, logs what matters.
 pub fn inodes_are_logged()
     ensures { InodeLaw }
+{}
+
+/// What a call on a page tree tells: a page that it freed is freed with no line behind that, one that was taken and changed is told whole, and one that has the bytes it had is left.
+pub fn tree_pages_are_told()
+    ensures { PagesLaw }
 {}

@@ -7,3 +7,4 @@ pub mod Crashes
 pub mod Entry
 pub mod Seen
 pub mod Lists
+pub mod Busy

@@ -19,7 +19,7 @@ use Rattle.jfs_survival.proofs.Blocks.{never}
 
 -- ---- plain changes
 
-plain_steps : Halves → BothChange → List Step
+abbrev plain_steps : Halves → BothChange → List Step
 plain_steps both (Changes Takes) = step_if (is_open (changed both (Changes Takes))) Take
 plain_steps both (Changes (Tells n)) = Told ∷ []
 plain_steps both (Changes Syncs) = LowSync ∷ []

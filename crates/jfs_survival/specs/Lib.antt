@@ -3,6 +3,7 @@ pub mod Stands
 pub mod Played
 pub mod Entry
 pub mod Lists
+pub mod Busy
 pub mod Laws
 -- libraries below, passed on
 pub use Rattle.jfs_face as face

@@ -1,5 +1,6 @@
 //! What holds of all changes of a mounted volume's halves.
 
+ghost use Rattle.jfs_survival.specs.Busy.{FreeLaw, StatesLaw};
 ghost use Rattle.jfs_survival.specs.Entry.{DataLaw, EntryLaw, SeenLaw};
 ghost use Rattle.jfs_survival.specs.Laws.{RunLaw, StartLaw, CrashLaw};
 ghost use Rattle.jfs_survival.specs.Lists.{MapsLaw, PlainLaw};
@@ -42,4 +43,14 @@ pub fn commits_are_a_run()
 /// Where all pages of the maps that entries changed are written, each once and as they are after the acknowledged entries, and the low part is synced, a SYNCPT may be made behind that.
 pub fn maps_go_home_before_a_sync()
     ensures { MapsLaw }
+{}
+
+/// Where a block with an owner is owned in the half's map, and one that was freed is busy for an entry that isn't acknowledged, that stays so with each change, and with an entry that makes of the map what it makes of owners.
+pub fn owners_and_states_move_together()
+    ensures { StatesLaw }
+{}
+
+/// So an entry takes no block that is busy in the core, and no data is written over one.
+pub fn busy_blocks_are_let_alone()
+    ensures { FreeLaw }
 {}
