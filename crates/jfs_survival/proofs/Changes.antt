@@ -1,6 +1,6 @@
 -- Each change of both halves is a step of the core, or none.
-use Rattle.std.proofs.Common.{◌≡◌, ◌≢◌, ◌<◌, ◌≤◌, ◌⊎◌, ◌+◌, ◌-◌, ◌&&◌, ◌==◌, ℕ, zero, suc, Bool, true, false, not, if◌then◌else◌, List, [], ◌∷◌, ◌++◌, length, map, set, get_or, slice_get, Option, Some, None, IsSome, refl, sym, ap, ap₂, ◌∙◌, subst, inl, inr, arith}
-use Rattle.std.proofs.lemmas.Bool.{cases_Bool, cases_eq, cases_lt, eq-eqb, eqb-true, ne_eqb, cond-true, cond-false}
+use Rattle.std.proofs.Common.{◌≡◌, ◌≢◌, ◌<◌, ◌≤◌, ◌⊎◌, ◌+◌, ◌-◌, ◌&&◌, ◌==◌, ℕ, zero, suc, Bool, true, false, not, if◌then◌else◌, List, [], ◌∷◌, ◌++◌, length, map, set, get_or, slice_get, Option, Some, None, IsSome, refl, sym, ap, ◌∙◌, subst, inl, inr, arith}
+use Rattle.std.proofs.lemmas.Bool.{cases_Bool, cases_eq, cases_lt, eq-eqb, eqb-true, ne_eqb, cond-false}
 use Rattle.std.proofs.lemmas.List.{length-map, map-append, length-set, get_or-set_same, get_or-set_other, get_or-map, length_push, get_or_append_left, get_or_push}
 use Rattle.std.proofs.lemmas.Option.{slice_get_within, get_or_from_slice_get}
 use Rattle.jfs_disk.specs.Image.{Image, page_of}
@@ -11,26 +11,25 @@ use Rattle.jfs_ranges.specs.declared.edit.Edit.{Edit}
 use Rattle.jfs_ranges.specs.Apply.{apply_tx, touches_tx}
 use Rattle.jfs_recovery.specs.crash_core.specs.declared.block.Span.{Span}
 use Rattle.jfs_recovery.specs.crash_core.specs.Core.{Block, no_block}
-use Rattle.jfs_recovery.specs.crash_core.specs.Image.{pages_after}
 use Rattle.jfs_recovery.specs.crash_core.specs.Step.{EndsBy, BeginsPast, IsSynced, dirtied, marked, sent_home, failed_home, synced, halted_by}
 use Rattle.jfs_recovery.specs.crash_core.specs.Sound.{LiesIn}
 use Rattle.jfs_recovery.specs.crash_core.proofs.Bytes.{length-apply_tx, length-pages_after, page_of-pages_after}
 use Rattle.jfs_recovery.specs.crash_core.proofs.Bounds.{length-marked}
-use Rattle.jfs_halves.specs.Entry.{Shown, Happened, edits}
+use Rattle.jfs_halves.specs.Entry.{Happened, edits}
 use Rattle.jfs_halves.specs.Marks.{frees_page}
 use Rattle.jfs_halves.specs.Half.{Waiting, VolumeHalf, Halves, block_in, page_in, is_open}
-use Rattle.jfs_halves.specs.Change.{Change, Enters, Takes, Tells, HandsOut, GoesHome, Tears, Drops, Writes, WriteTears, Stops, LogStops, Syncs, Points, Knows}
+use Rattle.jfs_halves.specs.Change.{Enters, Takes, Tells, HandsOut, GoesHome, Tears, Drops, Writes, WriteTears, Stops, LogStops, Syncs, Points, Knows}
 use Rattle.jfs_halves.specs.Both.{BothChange, Changes, GroupIsWritten, GroupFails, changed, Fits}
-use Rattle.jfs_recovery.specs.kinds.specs.Owner.{Owner, is_logged}
+use Rattle.jfs_recovery.specs.kinds.specs.Owner.{is_logged}
 use Rattle.jfs_recovery.specs.Face.{Face, IsFace, Pages, matters}
-use Rattle.jfs_recovery.specs.Core.{Core, Slot, Done, Step, nothing, entry, count, image, newest, matters_at, owner_at, told_page, dropped, put, data_slot, data_failed_slot, home_slot, home_failed_slot, IsBusy, MayWrite, IsAllowed, does, AreAllowed, after_steps, appended}
+use Rattle.jfs_recovery.specs.Core.{Core, Slot, Done, Step, nothing, entry, count, image, newest, matters_at, owner_at, told_page, dropped, put, data_slot, data_failed_slot, home_slot, home_failed_slot, MayWrite, IsAllowed, does, AreAllowed, after_steps, appended}
 use Rattle.jfs_recovery.specs.Core.Step.{Write, WriteFails, Append, Take, GroupWrite, Told, Home, HomeFails, LowSync, SyncPoint}
 use Rattle.jfs_recovery.specs.Sound.{IsSound, Cares}
 use Rattle.jfs_recovery.proofs.Images.{size_image}
 use Rattle.jfs_recovery.proofs.Kept.{kept_step, longer_image, last_image}
 use Rattle.jfs_survival.specs.Stands.{IsBlockOf, lines_at, IsUntouched, IsCoreOf}
 use Rattle.jfs_survival.specs.Played.{Joins, Matters, IsFree, IsData, IsMapHome, MapsAreSynced, step_if, IsPlayed}
-use Rattle.jfs_survival.proofs.Blocks.{never, moved, no_some, none_is, steady, last_within, last_now, entered, acknowledged, gone_home, torn_home, map_home, map_torn, forgotten, data_put, data_torn, free_home, free_torn, settled}
+use Rattle.jfs_survival.proofs.Blocks.{moved, no_some, none_is, steady, last_within, last_now, entered, acknowledged, gone_home, torn_home, map_home, map_torn, forgotten, data_put, data_torn, free_home, free_torn, settled}
 use Rattle.jfs_survival.proofs.Lines.{ReadsLines, freed, frees, stays_free, shown_after}
 
 -- the steps are allowed, and lead to the core of the halves after the change

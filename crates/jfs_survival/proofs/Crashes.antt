@@ -1,14 +1,12 @@
 -- What a crash leaves of a mounted volume is what it may leave of the core.
-use Rattle.std.proofs.Common.{◌≡◌, ◌<◌, ◌≤◌, ◌⊎◌, ◌*◌, nat_lt, ℕ, Bool, true, false, if◌then◌else◌, List, length, map, get_or, take, drop, refl, sym, ap, ◌∙◌, subst, inl, inr, arith}
+use Rattle.std.proofs.Common.{◌≡◌, ◌<◌, ◌≤◌, ◌⊎◌, ◌*◌, nat_lt, ℕ, true, false, List, length, map, get_or, sym, ◌∙◌, subst, inl, inr, arith}
 use Rattle.std.proofs.lemmas.Bool.{cases_Bool, ltb-true, cond-true, cond-false}
 use Rattle.std.proofs.lemmas.List.{length-map, get_or-map, take-append-drop}
-use Rattle.jfs_bits.specs.declared.descriptor.Pxd.{Pxd}
 use Rattle.jfs_disk.specs.Image.{Image, page_of}
 use Rattle.jfs_disk.specs.Crash.{PageHistory, IsCrashPage, IsCrashImage, content_of, no_page, torn}
-use Rattle.jfs_ranges.specs.declared.edit.Edit.{Edit}
 use Rattle.jfs_recovery.specs.crash_core.specs.Core.{Block, no_block}
 use Rattle.jfs_halves.specs.Half.{Halves, low_in}
-use Rattle.jfs_recovery.specs.Face.{Face, Pages}
+use Rattle.jfs_recovery.specs.Face.{Face}
 use Rattle.jfs_recovery.specs.Core.{Core, after_steps}
 use Rattle.jfs_recovery.specs.Sound.{IsLeft}
 use Rattle.jfs_face.specs.Volume.{face_of}

@@ -1,5 +1,5 @@
 -- An entry that logs what matters may be appended.
-use Rattle.std.proofs.Common.{◌≡◌, ◌⊎◌, ◌<◌, ◌||◌, ◌&&◌, ℕ, Bool, true, false, List, length, Option, Some, None, refl, sym, ap, ◌∙◌, subst, inl, inr, arith}
+use Rattle.std.proofs.Common.{◌≡◌, ◌⊎◌, ◌||◌, ◌&&◌, ℕ, Bool, true, false, List, length, Option, refl, sym, ap, ◌∙◌, inl, inr, arith}
 use Rattle.std.proofs.lemmas.Bool.{cases_Bool}
 use Rattle.jfs_ranges.specs.declared.edit.Edit.{Edit}
 use Rattle.jfs_ranges.specs.Apply.{apply_tx, touches_tx}
@@ -16,7 +16,7 @@ use Rattle.jfs_recovery.specs.Core.{Core, count, image, owner_at, IsBusy, MayOwn
 use Rattle.jfs_recovery.specs.Sound.{IsSound}
 use Rattle.jfs_recovery.specs.Lines.{rest_of}
 use Rattle.jfs_recovery.proofs.Images.{size_image}
-use Rattle.jfs_face.specs.Places.{Places, AreInAreas, is_map_page, is_fixed_page}
+use Rattle.jfs_face.specs.Places.{Places, AreInAreas, is_map_page}
 use Rattle.jfs_face.specs.Volume.{face_of}
 use Rattle.jfs_face.proofs.Whole.{is_face}
 use Rattle.jfs_logged.specs.Logged.{logged_in, LogsPage}

@@ -8,3 +8,5 @@ pub mod Entry
 pub mod Seen
 pub mod Lists
 pub mod Busy
+pub mod MapsMarked
+pub mod Enters

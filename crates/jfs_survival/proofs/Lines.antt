@@ -1,20 +1,19 @@
 -- What the lines of an entry make of a page that memory shows.
-use Rattle.std.proofs.Common.{◌≡◌, ◌<◌, ◌⊎◌, ◌||◌, ◌&&◌, not, if◌then◌else◌, ℕ, suc, Bool, true, false, List, [], ◌∷◌, length, get_or, replicate, refl, sym, ap, ◌∙◌, inl, inr, arith}
-use Rattle.std.proofs.lemmas.Bool.{cases_Bool, or_parts}
+use Rattle.std.proofs.Common.{◌≡◌, ◌<◌, ◌⊎◌, ◌||◌, ◌&&◌, ℕ, suc, Bool, true, false, List, length, replicate, refl, sym, ap, ◌∙◌, inl, inr, arith}
+use Rattle.std.proofs.lemmas.Bool.{cases_Bool}
 use Rattle.std.proofs.lemmas.List.{ext_get_or, get_or-replicate, length-replicate}
 use Rattle.jfs_ranges.specs.declared.edit.Edit.{Edit}
-use Rattle.jfs_ranges.specs.Apply.{apply_tx, touches_tx, touches_edit}
+use Rattle.jfs_ranges.specs.Apply.{apply_tx, touches_tx}
 use Rattle.jfs_recovery.specs.crash_core.proofs.Bytes.{apply_tx-untouched}
-use Rattle.jfs_recovery.specs.records.specs.Redo.{closes_in, is_noredo}
+use Rattle.jfs_recovery.specs.records.specs.Redo.{closes_in}
 use Rattle.jfs_recovery.specs.Lines.{rest_of}
 use Rattle.jfs_halves.specs.Marks.{frees_page}
 use Rattle.jfs_recovery.specs.Face.{Face, IsFace, Pages, Gives, Passes, byte, matters}
-use Rattle.jfs_recovery.specs.Core.{IsLogged, IsMarked}
+use Rattle.jfs_recovery.specs.Core.{IsLogged}
 use Rattle.jfs_recovery.specs.objects.specs.Readers.{Readers}
 use Rattle.jfs_face.specs.Places.{Places, is_map_page}
 use Rattle.jfs_face.specs.Volume.{face_of}
 use Rattle.jfs_logged.proofs.Joined.{rest_untouched, freed_rest}
-use Rattle.jfs_survival.proofs.Blocks.{never}
 
 -- A face whose lines are edits, and whose pages are touched by lines and by NoRedos; a page of a map beside that as the face has it.
 pub record ReadsLines (f : Face) : Type 0 where

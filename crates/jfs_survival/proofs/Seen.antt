@@ -1,5 +1,5 @@
 -- An image that has what the log keeps safe of a volume has its owners, whatever stands in the fixed areas.
-use Rattle.std.proofs.Common.{◌≡◌, ◌≢◌, ◌⊎◌, ◌<◌, ◌+◌, ◌==◌, ◌&&◌, nat_lt, ℕ, zero, suc, Bool, true, false, List, refl, sym, ap, ap₂, ◌∙◌, inl, inr, Option, Some, None, is_some, arith}
+use Rattle.std.proofs.Common.{◌≡◌, ◌≢◌, ◌⊎◌, ◌<◌, ◌==◌, ◌&&◌, ℕ, zero, suc, Bool, true, false, refl, sym, ap, ◌∙◌, inl, inr, Option, Some, is_some, arith}
 use Rattle.std.proofs.lemmas.Bool.{cases_eq, cases_Bool, eq-eqb, ne_eqb}
 use Rattle.jfs_recovery.specs.objects.specs.Readers.{Readers}
 use Rattle.jfs_recovery.specs.objects.specs.Volume.{Volume, room}

@@ -4,6 +4,8 @@ pub mod Played
 pub mod Entry
 pub mod Lists
 pub mod Busy
+pub mod MapMarks
+pub mod Enters
 pub mod Laws
 -- libraries below, passed on
 pub use Rattle.jfs_face as face

@@ -1,8 +1,8 @@
 -- Lists of changes: those of which nothing is asked, and the pages of the maps that go home before a sync.
 use Rattle.std.specs.Prelude.{◌≡◌, ℕ, ◌==◌, ◌||◌, Bool, true, false, List, [], ◌∷◌, None}
 use Rattle.jfs_halves.specs.Half.{Halves}
-use Rattle.jfs_halves.specs.Change.{Enters, Takes, Tells, HandsOut, GoesHome, Tears, Drops, Writes, WriteTears, Stops, LogStops, Syncs, Points, Knows}
-use Rattle.jfs_halves.specs.Both.{BothChange, Changes, GroupIsWritten, GroupFails}
+use Rattle.jfs_halves.specs.Change.{Enters, GoesHome, Tears, Writes, WriteTears, Syncs, Points}
+use Rattle.jfs_halves.specs.Both.{BothChange, Changes}
 use Rattle.jfs_recovery.specs.Face.{Face, Pages}
 use Rattle.jfs_recovery.specs.Core.{Core, Step, after_steps}
 use Rattle.jfs_recovery.specs.objects.specs.Readers.{Readers}

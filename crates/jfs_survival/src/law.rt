@@ -1,9 +1,11 @@
 //! What holds of all changes of a mounted volume's halves.
 
 ghost use Rattle.jfs_survival.specs.Busy.{FreeLaw, StatesLaw};
+ghost use Rattle.jfs_survival.specs.Enters.{EntersLaw};
 ghost use Rattle.jfs_survival.specs.Entry.{DataLaw, EntryLaw, SeenLaw};
 ghost use Rattle.jfs_survival.specs.Laws.{RunLaw, StartLaw, CrashLaw};
 ghost use Rattle.jfs_survival.specs.Lists.{MapsLaw, PlainLaw};
+ghost use Rattle.jfs_survival.specs.MapMarks.{MarkedLaw};
 
 /// Changes that fit, and that keep what the core asks of each, are a run of its allowed steps, and lead to the core of the halves after them.
 pub fn changes_are_a_run()
@@ -53,4 +55,14 @@ pub fn owners_and_states_move_together()
 /// So an entry takes no block that is busy in the core, and no data is written over one.
 pub fn busy_blocks_are_let_alone()
     ensures { FreeLaw }
+{}
+
+/// Where the pages of a map that an entry changes are all dirty with it, each other page of the maps has the same bytes after it.
+pub fn other_map_pages_stay()
+    ensures { MarkedLaw }
+{}
+
+/// So an entry whose transaction logs what matters joins the halves as an append that the core allows: it takes no busy block, and changes no page of a map but those of a map that it marks.
+pub fn logged_entries_are_appends()
+    ensures { EntersLaw }
 {}
