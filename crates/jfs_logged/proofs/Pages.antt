@@ -120,82 +120,91 @@ frees_them p (n ∷ ns) ys some h = at (n == p) some (λ e. frees_them p ns ys e
 
 -- ---- all pages
 
-module _ (kind : PageKind) (taken : List ℕ) (old new : ℕ → List ℕ) (sizes : (p : ℕ) → length (new p) ≡ 4096) where
+abbrev HasSizes : List ℕ → (ℕ → List ℕ) → Type 0
+HasSizes changed new = (p : ℕ) → 0 < count_in p changed → length (new p) ≡ 4096
+
+first_size : (n : ℕ) (ns : List ℕ) (new : ℕ → List ℕ) → HasSizes (n ∷ ns) new → length (new n) ≡ 4096
+first_size n ns new sizes = sizes n (let one = ap (λ (b : Bool). (if b then 1 else 0) + count_in n ns) (eq-eqb n n refl) in omega (arith, one))
+
+rest_sizes : (n : ℕ) (ns : List ℕ) (new : ℕ → List ℕ) → HasSizes (n ∷ ns) new → HasSizes ns new
+rest_sizes n ns new sizes p some = sizes p (omega (arith, some))
+
+module _ (kind : PageKind) (taken : List ℕ) (old new : ℕ → List ℕ) where
   page_closes : (p n : ℕ) (own : List Edit) (b : Bool) → PageEdits b n kind (old n) (new n) own → closes_in p own ≡ false
   page_closes p n own true e = ap (closes_in p) e
   page_closes p n own false h = (runs_law n kind (old n) (new n) 0 own h).closes_none p
 
-  page_leaves : (p n : ℕ) (own : List Edit) (b : Bool) → p ≢ n → PageEdits b n kind (old n) (new n) own → LeavesPage p own
-  page_leaves p n own true ne e a s = ap (λ (x : List Edit). apply_tx p x a) e ∙ apply_tx-untouched p (Lines n kind 0 (new n) ∷ []) a s (whole_apart p n kind (new n) ne (sizes n))
-  page_leaves p n own false ne h a s = (runs_law n kind (old n) (new n) 0 own h).others p ne a s
+  page_leaves : (p n : ℕ) → length (new n) ≡ 4096 → (own : List Edit) (b : Bool) → p ≢ n → PageEdits b n kind (old n) (new n) own → LeavesPage p own
+  page_leaves p n size own true ne e a s = ap (λ (x : List Edit). apply_tx p x a) e ∙ apply_tx-untouched p (Lines n kind 0 (new n) ∷ []) a s (whole_apart p n kind (new n) ne size)
+  page_leaves p n size own false ne h a s = (runs_law n kind (old n) (new n) 0 own h).others p ne a s
 
   page_stays : (n : ℕ) (own : List Edit) (b : Bool) → b ≡ false → new n ≡ old n → PageEdits b n kind (old n) (new n) own → LeavesPage n own
   page_stays n own true f e h a s = absurd (cc (f))
   page_stays n own false f e h a s = ap (λ (x : List Edit). apply_tx n x a) (no_runs n kind (old n) 0 own (subst (λ (x : List ℕ). IsRuns n kind (old n) x 0 own) e h))
 
-  page_whole : (n : ℕ) (own : List Edit) (b : Bool) → b ≡ true → PageEdits b n kind (old n) (new n) own → (a : List ℕ) → length a ≡ 4096 → apply_tx n own a ≡ new n
-  page_whole n own true t e a s = ap (λ (x : List Edit). apply_tx n x a) e ∙ whole_line n kind (new n) a (sizes n) s
-  page_whole n own false t h a s = absurd (cc (t))
+  page_whole : (n : ℕ) → length (new n) ≡ 4096 → (own : List Edit) (b : Bool) → b ≡ true → PageEdits b n kind (old n) (new n) own → (a : List ℕ) → length a ≡ 4096 → apply_tx n own a ≡ new n
+  page_whole n size own true t e a s = ap (λ (x : List Edit). apply_tx n x a) e ∙ whole_line n kind (new n) a size s
+  page_whole n size own false t h a s = absurd (cc (t))
 
   none_close : (p : ℕ) (changed : List ℕ) (lines : List Edit) → PagesEdits kind taken old new changed lines → closes_in p lines ≡ false
   none_close p [] lines e = ap (closes_in p) e
   none_close p (n ∷ ns) lines (own, rest, e, here, later) = ap (closes_in p) e ∙ closes_onto p own rest (page_closes p n own (is_in n taken) here) (none_close p ns rest later)
 
   -- a page that isn't among those that changed
-  not_among : (p : ℕ) (changed : List ℕ) (lines : List Edit) → PagesEdits kind taken old new changed lines → count_in p changed ≡ 0 → LeavesPage p lines
-  not_among p [] lines e none a s = ap (λ (x : List Edit). apply_tx p x a) e
-  not_among p (n ∷ ns) lines (own, rest, e, here, later) none a s =
+  not_among : (p : ℕ) (changed : List ℕ) → HasSizes changed new → (lines : List Edit) → PagesEdits kind taken old new changed lines → count_in p changed ≡ 0 → LeavesPage p lines
+  not_among p [] sizes lines e none a s = ap (λ (x : List Edit). apply_tx p x a) e
+  not_among p (n ∷ ns) sizes lines (own, rest, e, here, later) none a s =
       let parts = apart_in p n ns none in
-      ap (λ (x : List Edit). apply_tx p x a) e ∙ leaves_onto p own rest (page_leaves p n own (is_in n taken) parts.0 here) (not_among p ns rest later parts.1) a s
+      ap (λ (x : List Edit). apply_tx p x a) e ∙ leaves_onto p own rest (page_leaves p n (first_size n ns new sizes) own (is_in n taken) parts.0 here) (not_among p ns (rest_sizes n ns new sizes) rest later parts.1) a s
     where
       apart_in : (p n : ℕ) (ns : List ℕ) → count_in p (n ∷ ns) ≡ 0 → (p ≢ n) × (count_in p ns ≡ 0)
       apart_in p n ns none = (λ e. (let one = ap (λ (b : Bool). (if b then 1 else 0) + count_in p ns) (eq-eqb n p (sym e)) in omega (arith, none, one)), omega (arith, none))
 
   -- one that has the bytes it had
-  same_bytes : (p : ℕ) (changed : List ℕ) (lines : List Edit) → PagesEdits kind taken old new changed lines → is_in p taken ≡ false → new p ≡ old p → LeavesPage p lines
-  same_bytes p [] lines e none same a s = ap (λ (x : List Edit). apply_tx p x a) e
-  same_bytes p (n ∷ ns) lines (own, rest, e, here, later) none same a s =
-      ap (λ (x : List Edit). apply_tx p x a) e ∙ leaves_onto p own rest (at (cases_eq p n)) (same_bytes p ns rest later none same) a s
+  same_bytes : (p : ℕ) (changed : List ℕ) → HasSizes changed new → (lines : List Edit) → PagesEdits kind taken old new changed lines → is_in p taken ≡ false → new p ≡ old p → LeavesPage p lines
+  same_bytes p [] sizes lines e none same a s = ap (λ (x : List Edit). apply_tx p x a) e
+  same_bytes p (n ∷ ns) sizes lines (own, rest, e, here, later) none same a s =
+      ap (λ (x : List Edit). apply_tx p x a) e ∙ leaves_onto p own rest (at (cases_eq p n)) (same_bytes p ns (rest_sizes n ns new sizes) rest later none same) a s
     where
       at : (p ≡ n) ⊎ (p ≡ n → ⊥) → LeavesPage p own
       at (inl q) = subst (λ (x : ℕ). LeavesPage x own) (sym q) (page_stays n own (is_in n taken) (ap (λ (x : ℕ). is_in x taken) (sym q) ∙ none) (ap new (sym q) ∙ same ∙ ap old q) here)
-      at (inr ne) = page_leaves p n own (is_in n taken) ne here
+      at (inr ne) = page_leaves p n (first_size n ns new sizes) own (is_in n taken) ne here
 
   -- one that was taken
-  told_whole : (p : ℕ) (changed : List ℕ) (lines : List Edit) → PagesEdits kind taken old new changed lines → count_in p changed ≤ 1 → 0 < count_in p changed → is_in p taken ≡ true → (a : List ℕ) → length a ≡ 4096 → apply_tx p lines a ≡ new p
-  told_whole p [] lines e once some took a s = absurd (omega (arith, some))
-  told_whole p (n ∷ ns) lines (own, rest, e, here, later) once some took a s =
-      ap (λ (x : List Edit). apply_tx p x a) e ∙ applied_onto p own rest a ∙ at (cases_eq p n) (λ b c. told_whole p ns rest later b c took a s)
+  told_whole : (p : ℕ) (changed : List ℕ) → HasSizes changed new → (lines : List Edit) → PagesEdits kind taken old new changed lines → count_in p changed ≤ 1 → 0 < count_in p changed → is_in p taken ≡ true → (a : List ℕ) → length a ≡ 4096 → apply_tx p lines a ≡ new p
+  told_whole p [] sizes lines e once some took a s = absurd (omega (arith, some))
+  told_whole p (n ∷ ns) sizes lines (own, rest, e, here, later) once some took a s =
+      ap (λ (x : List Edit). apply_tx p x a) e ∙ applied_onto p own rest a ∙ at (cases_eq p n) (λ b c. told_whole p ns (rest_sizes n ns new sizes) rest later b c took a s)
     where
       at : (p ≡ n) ⊎ (p ≡ n → ⊥) → (count_in p ns ≤ 1 → 0 < count_in p ns → apply_tx p rest a ≡ new p) → apply_tx p rest (apply_tx p own a) ≡ new p
       at (inl q) more =
           let one = ap (λ (b : Bool). (if b then 1 else 0) + count_in p ns) (eq-eqb n p (sym q)) in
-          let whole : apply_tx p own a ≡ new p = subst (λ (x : ℕ). apply_tx x own a ≡ new x) (sym q) (page_whole n own (is_in n taken) (ap (λ (x : ℕ). is_in x taken) (sym q) ∙ took) here a s) in
-          ap (apply_tx p rest) whole ∙ not_among p ns rest later (omega (arith, once, one)) (new p) (sizes p)
+          let whole : apply_tx p own a ≡ new p = subst (λ (x : ℕ). apply_tx x own a ≡ new x) (sym q) (page_whole n (first_size n ns new sizes) own (is_in n taken) (ap (λ (x : ℕ). is_in x taken) (sym q) ∙ took) here a s) in
+          ap (apply_tx p rest) whole ∙ not_among p ns (rest_sizes n ns new sizes) rest later (omega (arith, once, one)) (new p) (sizes p some)
       at (inr ne) more =
           let none = ap (λ (b : Bool). (if b then 1 else 0) + count_in p ns) (ne_eqb n p (λ q. ne (sym q))) in
-          ap (apply_tx p rest) (page_leaves p n own (is_in n taken) ne here a s) ∙ more (omega (arith, once, none)) (omega (arith, some, none))
+          ap (apply_tx p rest) (page_leaves p n (first_size n ns new sizes) own (is_in n taken) ne here a s) ∙ more (omega (arith, once, none)) (omega (arith, some, none))
 
-  module _ (changed : List ℕ) (lines : List Edit) (told : PagesEdits kind taken old new changed lines) (once : (p : ℕ) → count_in p changed ≤ 1) (last : List Edit) (quiet : (p : ℕ) → touches_tx p last ≡ false) where
+  module _ (changed : List ℕ) (sizes : HasSizes changed new) (lines : List Edit) (told : PagesEdits kind taken old new changed lines) (once : (p : ℕ) → count_in p changed ≤ 1) (last : List Edit) (quiet : (p : ℕ) → touches_tx p last ≡ false) where
     leaves : (p : ℕ) → (count_in p changed ≡ 0) ⊎ ((is_in p taken ≡ false) × (new p ≡ old p)) → LeavesPage p (lines ++ last)
-    leaves p (inl none) = leaves_onto p lines last (not_among p changed lines told none) (λ a s. apply_tx-untouched p last a s (quiet p))
-    leaves p (inr same) = leaves_onto p lines last (same_bytes p changed lines told same.0 same.1) (λ a s. apply_tx-untouched p last a s (quiet p))
+    leaves p (inl none) = leaves_onto p lines last (not_among p changed sizes lines told none) (λ a s. apply_tx-untouched p last a s (quiet p))
+    leaves p (inr same) = leaves_onto p lines last (same_bytes p changed sizes lines told same.0 same.1) (λ a s. apply_tx-untouched p last a s (quiet p))
 
     whole : (p : ℕ) → 0 < count_in p changed → is_in p taken ≡ true → (a : List ℕ) → length a ≡ 4096 → apply_tx p (lines ++ last) a ≡ new p
-    whole p some took a s = applied_onto p lines last a ∙ ap (apply_tx p last) (told_whole p changed lines told (once p) some took a s) ∙ apply_tx-untouched p last (new p) (sizes p) (quiet p)
+    whole p some took a s = applied_onto p lines last a ∙ ap (apply_tx p last) (told_whole p changed sizes lines told (once p) some took a s) ∙ apply_tx-untouched p last (new p) (sizes p some) (quiet p)
 
 pub pages_law : PagesLaw
 pages_law = record {
   takes = λ kind taken changed blocks old new lines told once sizes. record {
     freed_are = λ p some. absurd (omega (arith, some));
-    open_are = λ p none. closes_onto p lines (allocs_of blocks) (none_close kind taken old new sizes p changed lines told) (allocs_close p blocks);
-    others = leaves kind taken old new sizes changed lines told once (allocs_of blocks) (λ p. allocs_touch p blocks);
-    whole = whole kind taken old new sizes changed lines told once (allocs_of blocks) (λ p. allocs_touch p blocks);
+    open_are = λ p none. closes_onto p lines (allocs_of blocks) (none_close kind taken old new p changed lines told) (allocs_close p blocks);
+    others = leaves kind taken old new changed sizes lines told once (allocs_of blocks) (λ p. allocs_touch p blocks);
+    whole = whole kind taken old new changed sizes lines told once (allocs_of blocks) (λ p. allocs_touch p blocks);
   };
   gives = λ kind taken changed freed old new lines told once sizes. record {
     freed_are = λ p some. frees_onto p lines (page_frees freed) (frees_them p freed (page_marks freed) some (marks_touch p freed));
-    open_are = λ p none. closes_onto p lines (page_frees freed) (none_close kind taken old new sizes p changed lines told) (frees_close p freed (page_marks freed) none (marks_close p freed));
-    others = leaves kind taken old new sizes changed lines told once (page_frees freed) (λ p. frees_touch p freed (page_marks freed) (marks_touch p freed));
-    whole = whole kind taken old new sizes changed lines told once (page_frees freed) (λ p. frees_touch p freed (page_marks freed) (marks_touch p freed));
+    open_are = λ p none. closes_onto p lines (page_frees freed) (none_close kind taken old new p changed lines told) (frees_close p freed (page_marks freed) none (marks_close p freed));
+    others = leaves kind taken old new changed sizes lines told once (page_frees freed) (λ p. frees_touch p freed (page_marks freed) (marks_touch p freed));
+    whole = whole kind taken old new changed sizes lines told once (page_frees freed) (λ p. frees_touch p freed (page_marks freed) (marks_touch p freed));
   };
 }

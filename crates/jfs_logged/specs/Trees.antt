@@ -23,7 +23,7 @@ pub record TellsPages (taken freed changed : List ℕ) (old new : ℕ → List �
 
 -- The edits of different pages, each of the size of a page, and then those that take blocks, or that free pages.
 pub record PagesLaw : Type 0 where
-  pub takes : (kind : PageKind) (taken changed blocks : List ℕ) (old new : ℕ → List ℕ) (lines : List Edit) → PagesEdits kind taken old new changed lines → ((p : ℕ) → count_in p changed ≤ 1) → ((p : ℕ) → length (new p) ≡ 4096)
+  pub takes : (kind : PageKind) (taken changed blocks : List ℕ) (old new : ℕ → List ℕ) (lines : List Edit) → PagesEdits kind taken old new changed lines → ((p : ℕ) → count_in p changed ≤ 1) → ((p : ℕ) → 0 < count_in p changed → length (new p) ≡ 4096)
       → TellsPages taken [] changed old new (lines ++ allocs_of blocks)
-  pub gives : (kind : PageKind) (taken changed freed : List ℕ) (old new : ℕ → List ℕ) (lines : List Edit) → PagesEdits kind taken old new changed lines → ((p : ℕ) → count_in p changed ≤ 1) → ((p : ℕ) → length (new p) ≡ 4096)
+  pub gives : (kind : PageKind) (taken changed freed : List ℕ) (old new : ℕ → List ℕ) (lines : List Edit) → PagesEdits kind taken old new changed lines → ((p : ℕ) → count_in p changed ≤ 1) → ((p : ℕ) → 0 < count_in p changed → length (new p) ≡ 4096)
       → TellsPages taken freed changed old new (lines ++ page_frees freed)
