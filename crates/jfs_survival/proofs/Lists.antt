@@ -1,18 +1,19 @@
 -- Lists of changes that are steps of the core.
-use Rattle.std.proofs.Common.{◌≡◌, ◌≢◌, ◌⊎◌, ◌==◌, ℕ, true, false, List, [], ◌∷◌, ◌++◌, Option, None, IsSome, refl, sym, ap, ◌∙◌, subst, inl, inr}
+use Rattle.std.proofs.Common.{◌≡◌, ◌≢◌, ◌⊎◌, ◌==◌, ℕ, true, false, List, [], ◌∷◌, ◌++◌, Option, None, IsSome, refl, sym, ap, ◌∙◌, subst, append_assoc, inl, inr}
 use Rattle.std.proofs.lemmas.Bool.{cases_eq, eq-eqb, ne_eqb, or_parts}
 use Rattle.jfs_recovery.specs.crash_core.specs.declared.block.Span.{Span}
 use Rattle.jfs_recovery.specs.crash_core.specs.Step.{EndsBy, BeginsPast}
 use Rattle.jfs_halves.specs.Half.{Halves, is_open}
 use Rattle.jfs_halves.specs.Change.{Enters, Takes, Tells, HandsOut, GoesHome, Tears, Drops, Writes, WriteTears, Stops, LogStops, Syncs, Points, Knows}
-use Rattle.jfs_halves.specs.Both.{BothChange, Changes, GroupIsWritten, GroupFails, changed}
+use Rattle.jfs_halves.specs.Both.{BothChange, Changes, GroupIsWritten, GroupFails, changed, after}
 use Rattle.jfs_recovery.specs.Face.{Face}
 use Rattle.jfs_recovery.specs.Core.{Core, Slot, Step, count, told_page, put, home_slot, does, after_steps}
 use Rattle.jfs_recovery.specs.Core.Step.{Take, GroupWrite, Told, Home, LowSync}
 use Rattle.jfs_face.specs.Volume.{face_of}
-use Rattle.jfs_survival.specs.Played.{IsMapHome, MapsAreSynced, step_if, IsPlayed}
-use Rattle.jfs_survival.specs.Lists.{IsPlain, ArePlain, CanBePlayed, PlainLaw, is_among, AreMapsHome, AllMapsHome, MapsSettle, MapsLaw}
+use Rattle.jfs_survival.specs.Played.{IsMapHome, MapsAreSynced, step_if, IsPlayed, ArePlayed}
+use Rattle.jfs_survival.specs.Lists.{IsPlain, ArePlain, CanBePlayed, PlainLaw, is_among, AreMapsHome, AllMapsHome, MapsSettle, MapsLaw, TogetherLaw}
 use Rattle.jfs_survival.proofs.Blocks.{never}
+use Rattle.jfs_survival.proofs.Runs.{after-join}
 
 -- ---- plain changes
 
@@ -97,3 +98,18 @@ settle f both core (d ∷ ds) all =
 
 pub maps_law : MapsLaw
 maps_law r pl changes both core ds all = settle (face_of r pl changes) both core ds all
+
+-- ---- lists
+
+join : (f : Face) (both : Halves) (core : Core) (xs ys : List BothChange) (steps more : List Step) → ArePlayed f both core xs steps → ArePlayed f (after both xs) (after_steps f core steps) ys more → ArePlayed f both core (xs ++ ys) (steps ++ more)
+join f both core [] ys steps more e b = subst (λ (x : List Step). ArePlayed f both core ys (x ++ more)) (sym e) (subst (λ (x : List Step). ArePlayed f both (after_steps f core x) ys more) e b)
+join f both core (c ∷ cs) ys steps more (own, rest, e, p, others) b = (
+  own,
+  rest ++ more,
+  ap (λ (x : List Step). x ++ more) e ∙ append_assoc own rest more,
+  p,
+  join f (changed both c) (after_steps f core own) cs ys rest more others (subst (λ (x : Core). ArePlayed f (after (changed both c) cs) x ys more) (ap (after_steps f core) e ∙ after-join f core own rest) b),
+)
+
+pub together_law : TogetherLaw
+together_law r pl changes both core xs ys steps more a b = join (face_of r pl changes) both core xs ys steps more a b

@@ -15,7 +15,7 @@ allowed-join : (f : Face) (core : Core) (xs ys : List Step) → AreAllowed f cor
 allowed-join f core [] ys a b = b
 allowed-join f core (x ∷ xs) ys a b = (a.0, allowed-join f (does f core x) xs ys a.1 b)
 
-after-join : (f : Face) (core : Core) (xs ys : List Step) → after_steps f core (xs ++ ys) ≡ after_steps f (after_steps f core xs) ys
+pub after-join : (f : Face) (core : Core) (xs ys : List Step) → after_steps f core (xs ++ ys) ≡ after_steps f (after_steps f core xs) ys
 after-join f core [] ys = refl
 after-join f core (x ∷ xs) ys = after-join f (does f core x) xs ys
 

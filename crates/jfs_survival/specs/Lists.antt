@@ -1,8 +1,8 @@
 -- Lists of changes: those of which nothing is asked, and the pages of the maps that go home before a sync.
-use Rattle.std.specs.Prelude.{◌≡◌, ℕ, ◌==◌, ◌||◌, Bool, true, false, List, [], ◌∷◌, None}
+use Rattle.std.specs.Prelude.{◌≡◌, ℕ, ◌==◌, ◌||◌, Bool, true, false, List, [], ◌∷◌, ◌++◌, None}
 use Rattle.jfs_halves.specs.Half.{Halves}
 use Rattle.jfs_halves.specs.Change.{Enters, GoesHome, Tears, Writes, WriteTears, Syncs, Points}
-use Rattle.jfs_halves.specs.Both.{BothChange, Changes}
+use Rattle.jfs_halves.specs.Both.{BothChange, Changes, after}
 use Rattle.jfs_recovery.specs.Face.{Face, Pages}
 use Rattle.jfs_recovery.specs.Core.{Core, Step, after_steps}
 use Rattle.jfs_recovery.specs.objects.specs.Readers.{Readers}
@@ -69,3 +69,10 @@ pub record MapsSettle (f : Face) (both : Halves) (core : Core) (ds : List (ℕ �
 
 abbrev pub MapsLaw : Type 0
 MapsLaw = (r : Readers) (pl : Places) (changes : Pages → List Edit → ℕ → Bool) (both : Halves) (core : Core) (ds : List (ℕ × List ℕ)) → AllMapsHome (face_of r pl changes) core ds → MapsSettle (face_of r pl changes) both core ds
+
+-- ---- lists
+
+-- changes, and then others, are the steps of both
+abbrev pub TogetherLaw : Type 0
+TogetherLaw = (r : Readers) (pl : Places) (changes : Pages → List Edit → ℕ → Bool) (both : Halves) (core : Core) (xs ys : List BothChange) (steps more : List Step) → ArePlayed (face_of r pl changes) both core xs steps
+    → ArePlayed (face_of r pl changes) (after both xs) (after_steps (face_of r pl changes) core steps) ys more → ArePlayed (face_of r pl changes) both core (xs ++ ys) (steps ++ more)

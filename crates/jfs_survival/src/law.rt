@@ -4,7 +4,7 @@ ghost use Rattle.jfs_survival.specs.Busy.{FreeLaw, StatesLaw};
 ghost use Rattle.jfs_survival.specs.Enters.{EntersLaw};
 ghost use Rattle.jfs_survival.specs.Entry.{DataLaw, EntryLaw, SeenLaw};
 ghost use Rattle.jfs_survival.specs.Laws.{RunLaw, StartLaw, CrashLaw};
-ghost use Rattle.jfs_survival.specs.Lists.{MapsLaw, PlainLaw};
+ghost use Rattle.jfs_survival.specs.Lists.{MapsLaw, PlainLaw, TogetherLaw};
 ghost use Rattle.jfs_survival.specs.MapMarks.{MarkedLaw};
 
 /// Changes that fit, and that keep what the core asks of each, are a run of its allowed steps, and lead to the core of the halves after them.
@@ -65,4 +65,9 @@ pub fn other_map_pages_stay()
 /// So an entry whose transaction logs what matters joins the halves as an append that the core allows: it takes no busy block, and changes no page of a map but those of a map that it marks.
 pub fn logged_entries_are_appends()
     ensures { EntersLaw }
+{}
+
+/// Changes that are steps of the core, and then others that are, are the steps of both together.
+pub fn lists_of_changes_join()
+    ensures { TogetherLaw }
 {}
