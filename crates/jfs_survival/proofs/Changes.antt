@@ -65,10 +65,10 @@ same_counts a b c d e = at (cases_Bool (a == b)) (cases_Bool (c == d))
 group_closed : (taken points : ℕ) → not (taken == taken && points == points) ≡ false
 group_closed taken points = rw (eq-eqb taken taken refl, eq-eqb points points refl) refl
 
-put_same : (p : ℕ) (slot : Slot) (slots : ℕ → Slot) → put p slot slots p ≡ slot
+pub put_same : (p : ℕ) (slot : Slot) (slots : ℕ → Slot) → put p slot slots p ≡ slot
 put_same p slot slots = rw (eq-eqb p p refl) refl
 
-put_other : (p q : ℕ) (slot : Slot) (slots : ℕ → Slot) → q ≢ p → put p slot slots q ≡ slots q
+pub put_other : (p q : ℕ) (slot : Slot) (slots : ℕ → Slot) → q ≢ p → put p slot slots q ≡ slots q
 put_other p q slot slots ne = rw (ne_eqb q p ne) refl
 
 -- a page whose entries are all acknowledged changes with none that isn't

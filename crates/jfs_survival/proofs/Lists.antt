@@ -7,12 +7,13 @@ use Rattle.jfs_halves.specs.Half.{Halves, is_open}
 use Rattle.jfs_halves.specs.Change.{Enters, Takes, Tells, HandsOut, GoesHome, Tears, Drops, Writes, WriteTears, Stops, LogStops, Syncs, Points, Knows}
 use Rattle.jfs_halves.specs.Both.{BothChange, Changes, GroupIsWritten, GroupFails, changed, after}
 use Rattle.jfs_recovery.specs.Face.{Face}
-use Rattle.jfs_recovery.specs.Core.{Core, Slot, Step, count, told_page, put, home_slot, does, after_steps}
+use Rattle.jfs_recovery.specs.Core.{Core, Slot, Step, count, told_page, home_slot, does, after_steps}
 use Rattle.jfs_recovery.specs.Core.Step.{Take, GroupWrite, Told, Home, LowSync}
 use Rattle.jfs_face.specs.Volume.{face_of}
 use Rattle.jfs_survival.specs.Played.{IsMapHome, MapsAreSynced, step_if, IsPlayed, ArePlayed}
 use Rattle.jfs_survival.specs.Lists.{IsPlain, ArePlain, CanBePlayed, PlainLaw, is_among, AreMapsHome, AllMapsHome, MapsSettle, MapsLaw, TogetherLaw}
 use Rattle.jfs_survival.proofs.Blocks.{never}
+use Rattle.jfs_survival.proofs.Changes.{put_same, put_other}
 use Rattle.jfs_survival.proofs.Runs.{after-join}
 
 -- ---- plain changes
@@ -54,12 +55,6 @@ plain_law r pl changes both core list p = plain (face_of r pl changes) both core
 
 -- ---- pages of the maps
 
-put_here : (p : ℕ) (slot : Slot) (slots : ℕ → Slot) → put p slot slots p ≡ slot
-put_here p slot slots = rw (eq-eqb p p refl) refl
-
-put_there : (p q : ℕ) (slot : Slot) (slots : ℕ → Slot) → q ≢ p → put p slot slots q ≡ slots q
-put_there p q slot slots ne = rw (ne_eqb q p ne) refl
-
 -- another page of a map is as it was
 still_home : (f : Face) (core : Core) (p q : ℕ) (bytes : List ℕ) → q ≢ p → IsMapHome f core q bytes → IsMapHome f (does f core (Home p)) q bytes
 still_home f core p q bytes ne h = record {
@@ -70,7 +65,7 @@ still_home f core p q bytes ne h = record {
 }
   where
     same : (does f core (Home p)).slots q ≡ core.slots q
-    same = put_there p q (home_slot (told_page core p) (core.slots p)) core.slots ne
+    same = put_other p q (home_slot (told_page core p) (core.slots p)) core.slots ne
 
 still_all : (f : Face) (core : Core) (p : ℕ) (ds : List (ℕ × List ℕ)) → is_among p ds ≡ false → AreMapsHome f core ds → AreMapsHome f (does f core (Home p)) ds
 still_all f core p [] none h = tt
@@ -92,8 +87,8 @@ settle f both core (d ∷ ds) all =
     record { steps = Home d.0 ∷ later.steps; played = (Home d.0 ∷ [], later.steps, refl, inr (all.each.0, refl), later.played); synced = later.synced }
   where
     others : (p : ℕ) → f.is_map p ≡ true → is_among p ds ≡ false → (p ≡ d.0) ⊎ (p ≡ d.0 → ⊥) → ((does f core (Home d.0)).slots p).block.dirty ≡ None
-    others p this none (inl e) = subst (λ (q : ℕ). ((does f core (Home d.0)).slots q).block.dirty ≡ None) (sym e) (ap (λ (x : Slot). x.block.dirty) (put_here d.0 (home_slot (told_page core d.0) (core.slots d.0)) core.slots))
-    others p this none (inr ne) = ap (λ (x : Slot). x.block.dirty) (put_there d.0 p (home_slot (told_page core d.0) (core.slots d.0)) core.slots ne)
+    others p this none (inl e) = subst (λ (q : ℕ). ((does f core (Home d.0)).slots q).block.dirty ≡ None) (sym e) (ap (λ (x : Slot). x.block.dirty) (put_same d.0 (home_slot (told_page core d.0) (core.slots d.0)) core.slots))
+    others p this none (inr ne) = ap (λ (x : Slot). x.block.dirty) (put_other d.0 p (home_slot (told_page core d.0) (core.slots d.0)) core.slots ne)
         ∙ all.others p this (rw (ne_eqb d.0 p (λ e. ne (sym e))) none)
 
 pub maps_law : MapsLaw
