@@ -1,0 +1,5 @@
+pub mod Joined
+pub mod OneObject
+pub mod Staged
+pub mod Edited
+pub mod Pages

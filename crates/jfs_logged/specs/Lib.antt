@@ -1,0 +1,8 @@
+-- what the laws say
+pub mod Logged
+pub mod Kinds
+pub mod Stages
+pub mod Edits
+pub mod Trees
+-- libraries below, passed on
+pub use Rattle.jfs_recovery as recovery

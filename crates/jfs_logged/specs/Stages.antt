@@ -1,0 +1,38 @@
+-- What one part of a call's transaction tells, which changes one object, or adds an inode extent.
+use Rattle.std.specs.Prelude.{◌≡◌, ◌≢◌, ℕ, true, false, List, length}
+use Rattle.jfs_bits.specs.declared.rule.PageKind.{PageKind}
+use Rattle.jfs_ranges.specs.declared.edit.Edit.{Edit}
+use Rattle.jfs_ranges.specs.Apply.{apply_tx}
+use Rattle.jfs_tree.specs.Tell.{IsRuns}
+use Rattle.jfs_recovery.specs.records.specs.Redo.{closes_in}
+use Rattle.jfs_recovery.specs.objects.specs.Readers.{Readers}
+use Rattle.jfs_recovery.specs.objects.specs.Volume.{Volume}
+use Rattle.jfs_recovery.specs.objects.specs.Owners.{Agrees}
+use Rattle.jfs_recovery.specs.kinds.specs.Laws.{OwnersStay}
+use Rattle.jfs_halves.specs.Marks.{frees_page}
+use Rattle.jfs_logged.specs.Logged.{logged_in, LogsWell}
+
+-- edits leave a page, whatever it holds
+abbrev pub LeavesPage : ℕ → List Edit → Type 0
+LeavesPage p tx = (a : List ℕ) → length a ≡ 4096 → apply_tx p tx a ≡ a
+
+-- The pages are those that the edits make. A page that has a NoRedo is freed by them. Of the others they leave those that the log doesn't keep safe then, none of which it did before; and a block that comes into use as one that it does is told whole.
+pub record TellsStage (r : Readers) (v w : Volume) (tx : List Edit) : Type 0 where
+  pub pages : (p : ℕ) → w.page p ≡ apply_tx p tx (v.page p)
+  pub freed : (p : ℕ) → closes_in p tx ≡ true → (frees_page p tx ≡ true) × (logged_in r w p ≡ false)
+  pub others : (p : ℕ) → closes_in p tx ≡ false → logged_in r w p ≡ false → LeavesPage p tx × (logged_in r v p ≡ false)
+  pub whole : (p : ℕ) → v.used p ≡ false → w.used p ≡ true → logged_in r w p ≡ true → (a : List ℕ) → length a ≡ 4096 → apply_tx p tx a ≡ w.page p
+
+-- So it logs what matters, where maps agree before and after and blocks that stay in use keep their owners.
+abbrev pub StageLaw : Type 0
+StageLaw = (r : Readers) (v w : Volume) (tx : List Edit) → Agrees r v → Agrees r w → OwnersStay r v w → TellsStage r v w tx → LogsWell r v w tx
+
+-- ---- the runs of one page
+
+-- Edits that are the runs of lines of one page that changed have no NoRedo, and leave each other page.
+pub record ArePageRuns (n : ℕ) (tx : List Edit) : Type 0 where
+  pub closes_none : (p : ℕ) → closes_in p tx ≡ false
+  pub others : (p : ℕ) → p ≢ n → LeavesPage p tx
+
+abbrev pub RunsLaw : Type 0
+RunsLaw = (n : ℕ) (kind : PageKind) (old new : List ℕ) (first : ℕ) (tx : List Edit) → IsRuns n kind old new first tx → ArePageRuns n tx

@@ -1,0 +1,47 @@
+//! What holds of the parts of a transaction.
+
+ghost use Rattle.jfs_logged.specs.Logged.{JoinLaw, PageLaw};
+ghost use Rattle.jfs_logged.specs.Edits.{EditsLaw, InodeLaw};
+ghost use Rattle.jfs_logged.specs.Kinds.{KindsLaw};
+ghost use Rattle.jfs_logged.specs.Stages.{RunsLaw, StageLaw};
+ghost use Rattle.jfs_logged.specs.Trees.{PagesLaw};
+
+/// Two parts of a transaction that each log what the log keeps safe, and leave the owners of blocks that stay in use, do so together, where the later one takes no block that the first one freed.
+pub fn parts_are_logged_together()
+    ensures { JoinLaw }
+{}
+
+/// A page is logged that is told by lines alone and is kept safe then, whole where it wasn't before; and one that is freed with no line behind that.
+pub fn pages_are_logged()
+    ensures { PageLaw }
+{}
+
+/// An inode that is written with the same trees keeps the kinds of its blocks, and so does a directory or a link with the same attributes and target.
+pub fn inodes_and_directories_keep_kinds()
+    ensures { KindsLaw }
+{}
+
+/// A part of a transaction that tells what it changes of an object's pages logs what matters, where maps agree and blocks that stay in use keep their owners.
+pub fn stages_are_logged()
+    ensures { StageLaw }
+{}
+
+/// The runs of lines of one page leave each other page, and have no NoRedo.
+pub fn runs_leave_other_pages()
+    ensures { RunsLaw }
+{}
+
+/// So does a part that sets an object and keeps the kinds of its blocks, one that drops an object, and one that adds an inode extent.
+pub fn edits_of_objects_are_logged()
+    ensures { EditsLaw }
+{}
+
+/// An inode that is written with the same trees, by the runs of its page, logs what matters.
+pub fn inodes_are_logged()
+    ensures { InodeLaw }
+{}
+
+/// What a call on a page tree tells: a page that it freed is freed with no line behind that, one that was taken and changed is told whole, and one that has the bytes it had is left.
+pub fn tree_pages_are_told()
+    ensures { PagesLaw }
+{}

@@ -1,0 +1,10 @@
+//! What a transaction logs of each page, and of blocks that keep their owners: laws for the parts that file calls are made of. It has no code: its laws are functions with empty bodies.
+#![tactic(auto)]
+
+mod law;
+
+pub use law::{
+    edits_of_objects_are_logged, inodes_and_directories_keep_kinds, inodes_are_logged,
+    pages_are_logged, parts_are_logged_together, runs_leave_other_pages, stages_are_logged,
+    tree_pages_are_told,
+};

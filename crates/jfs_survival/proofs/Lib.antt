@@ -1,0 +1,12 @@
+pub mod Blocks
+pub mod Lines
+pub mod Changes
+pub mod Runs
+pub mod Start
+pub mod Crashes
+pub mod Entry
+pub mod Seen
+pub mod Lists
+pub mod Busy
+pub mod MapsMarked
+pub mod Enters
