@@ -242,9 +242,9 @@ said d old mid new s image result outcome answer runs says label stays own same 
     let log : LogSays s.logpxd.len (blocks_of s) (log_of found.held s) answer =
     same_says s.logpxd.len (blocks_of s) (drop at it.image) (log_of found.held s) answer (let shortest = layout.shortest in omega (arith, shortest))
     (λ n some less.
-        page_behind found.held.image at n
-        ∙ found.behind (at + n) (omega (arith, least, behind)) (omega (arith, less, within)) (ap (λ (p : List ℕ). length p) (sym (page_behind it.image at n)) ∙ it.whole n less)
-        ∙ sym (page_behind it.image at n))
+    page_behind found.held.image at n
+    ∙ found.behind (at + n) (omega (arith, least, behind)) (omega (arith, less, within)) (ap (λ (p : List ℕ). length p) (sym (page_behind it.image at n)) ∙ it.whole n less)
+    ∙ sym (page_behind it.image at n))
     it.says in
     comes d old new outcome log_behind found.held answer log_goes found.is same is_text (goes_on log_says found.held s answer found.block found.accepted log) own (stays ∙ runs.looked.4) is_end
 

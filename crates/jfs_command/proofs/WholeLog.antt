@@ -1,20 +1,20 @@
 -- A log reads as one of whole pages does, whatever the sizes of the pages are by which it was read.
-use Rattle.std.proofs.Common.{◌≡◌, ◌<◌, ◌≤◌, ◌+◌, ◌-◌, ◌*◌, ◌/◌, ◌%◌, ◌⊎◌, ℕ, zero, suc, min, max, Bool, true, false, IsTrue, ◌==◌, List, [], ◌∷◌, ◌++◌, length, take, drop, get_or, replicate, nat_le, if◌then◌else◌, Result, Ok, Err, IfErr, refl, sym, ap, subst, ◌∙◌, inl, inr, arith}
+use Rattle.std.proofs.Common.{◌≡◌, ◌<◌, ◌≤◌, ◌+◌, ◌-◌, ◌*◌, ◌/◌, ◌%◌, ℕ, zero, suc, min, max, Bool, true, false, IsTrue, List, [], ◌∷◌, ◌++◌, length, take, drop, get_or, replicate, nat_le, if◌then◌else◌, Result, Ok, Err, IfErr, refl, sym, ap, subst, ◌∙◌, inl, inr, arith}
 use Rattle.std.proofs.Math.Nat.{mod-lt}
 use Rattle.std.proofs.Math.Seq.{take-length}
 use Rattle.std.proofs.lemmas.Bool.{le-leb}
-use Rattle.std.proofs.lemmas.List.{length-append, length-replicate, length-take, length-take-le, length-drop, ext_get_or, get_or-take, get_or-drop, get_or_append_left, get_or-append_right, drop_at}
+use Rattle.std.proofs.lemmas.List.{length-append, length-replicate, length-take, length-take-le, length-drop, get_or-take, get_or-drop, get_or_append_left, get_or-append_right, drop_at}
 use Rattle.jfs_bits.specs.Field.{field_of, range_of}
 use Rattle.jfs_bits.specs.Piece.{puts}
-use Rattle.jfs_bits.proofs.Pieces.{AreLaidOut, length-puts}
+use Rattle.jfs_bits.proofs.Pieces.{length-puts}
 use Rattle.jfs_bits.specs.declared.rule.Rule.{Rule}
 use Rattle.jfs_disk.specs.Image.{Image, page_of}
 use Rattle.jfs_logfmt.specs.Super.{is_log_super, log_super_of, log_super_pieces}
 use Rattle.jfs_logfmt.specs.declared.log_super.LogSuper.{LogSuper}
 use Rattle.jfs_logfmt.proofs.ReadBack.{LogSuperInRange, log_super_of-puts, is_log_super-puts}
 use Rattle.jfs_logpages.specs.Fresh.{own_label}
-use Rattle.jfs_logpages.specs.ReadLog.{HasSuper, label_of, IsNotOwn, BreaksRing, BreaksText, BreaksLog, IsReadAs, IsReadLog}
-use Rattle.jfs_logpages.specs.Ring.{slot, head_number, tail_number, eor_of, eor_at, last_end, body_of, bodies, text_of, IsNumbered, IsPageOf, IsRun, Shows, Reads}
+use Rattle.jfs_logpages.specs.ReadLog.{HasSuper, label_of, BreaksLog, IsReadLog}
+use Rattle.jfs_logpages.specs.Ring.{slot, head_number, tail_number, eor_of, eor_at, last_end, body_of, bodies, text_of, IsPageOf, IsRun, Shows, Reads}
 use Rattle.jfs_logpages.specs.declared.ring_text.RingText.{RingText}
 use Rattle.jfs_logpages.specs.declared.error.RingError.{RingError}
 use Rattle.jfs_logpages.specs.declared.error.RingError.TheVariants as errors
