@@ -7,6 +7,7 @@ pub mod Asked
 pub mod Looking
 pub mod Showing
 pub mod LogLines
+pub mod WholeLog
 pub mod LogShown
 pub mod Formatting
 pub mod Checking

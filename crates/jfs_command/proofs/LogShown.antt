@@ -1,5 +1,7 @@
 -- The command `log` does what it means.
-use Rattle.std.proofs.Common.{◌≡◌, ◌≤◌, ◌<◌, ◌+◌, ◌-◌, ◌*◌, ◌/◌, ◌⊎◌, ℕ, List, [], ◌∷◌, length, drop, map, reverse, Result, Ok, Err, get_or-drop, inl, inr, refl, sym, ap, subst, ◌∙◌, arith}
+use Rattle.std.proofs.Common.{◌≡◌, ◌≤◌, ◌<◌, ◌+◌, ◌-◌, ◌*◌, ◌/◌, ◌⊎◌, ◌&&◌, ◌==◌, ℕ, zero, suc, Bool, true, false, List, [], ◌∷◌, ◌++◌, length, drop, replicate, map, reverse, Result, Ok, Err, get_or-drop, inl, inr, refl, sym, ap, subst, ◌∙◌, arith}
+use Rattle.std.proofs.lemmas.Bool.{cases_lt, and_parts, eq-eqb, eqb-true}
+use Rattle.std.proofs.lemmas.List.{drop_at, length-replicate}
 use Rattle.std.specs.Global.{Vec}
 use Rattle.jfs_bits.specs.Count.{Rose}
 use Rattle.jfs_disk.specs.Image.{Image, page_of, ArePages}
@@ -8,7 +10,7 @@ use Rattle.jfs_super.specs.declared.fields.Super.{Super}
 use Rattle.jfs_super.specs.declared.fields.Geometry.{Geometry}
 use Rattle.jfs_super.specs.Rules.{blocks_of, IsAccepted}
 use Rattle.jfs_super.specs.Geometry.{geometry_of}
-use Rattle.jfs_super.proofs.Rules.{accepted_pages, accepted_layout}
+use Rattle.jfs_super.proofs.Rules.{accepted_pages, accepted_layout, accepted_log}
 use Rattle.jfs_logpages.specs.Back.{Met, AreMet, FromSync}
 use Rattle.jfs_logpages.specs.Outcome.{IsReadFault, IsRefusal, TellsNothing}
 use Rattle.jfs_logpages.specs.ReadLog.{IsReadAs, IsReadLog}
@@ -28,7 +30,8 @@ use Rattle.jfs_command.specs.Held.{Held}
 use Rattle.jfs_command.specs.Meaning.{Answer, LooksSame, Performs, finished, refused, every_status}
 use Rattle.jfs_command.specs.Superblock.{superblock_of, Looks}
 use Rattle.jfs_command.specs.LogText.{log_text}
-use Rattle.jfs_command.specs.Log.{log_of, LooksAtLog, LogSays, prints, is_foreign, is_bad, LogSaysOneThing, LogEnds, end_of, log_meaning}
+use Rattle.jfs_command.specs.Log.{log_of, LooksAtLog, LogSays, prints, is_foreign, is_bad, LogSaysOneThing, HasLabel, TellsLabel, LogEnds, end_of, log_meaning}
+use Rattle.jfs_command.proofs.WholeLog.{IsWholeLog, whole_log}
 use Rattle.jfs_command.proofs.Looking.{Behind, GoesOn, ShowsSame, faults_of, comes, no_memory, disk_failed, seen, goes_on}
 
 -- ---- the log is one that may follow a look at the superblock
@@ -128,13 +131,13 @@ lines_said pages blocks log read lines count text is made is_text stays =
     (prints read is is.m is.ms is.records (ap finished (is_text ∙ lines_are ∙ ring_is)), stays)
 
 -- the end of a log that was not read
-pub not_read : (pages blocks : ℕ) (log : Image) (before now : ℕ) (error : RingError) → IsReadLog pages blocks log (Err error) → IsReadFault before now error → (IsRefusal error → now ≡ before)
+pub not_read : (pages blocks : ℕ) (log : Image) (before now : ℕ) (error : RingError) → IsReadLog pages blocks log (Err error) → IsReadFault before now error → (IsRefusal error → now ≡ before) → HasLabel error
     → LogEnds pages blocks log (record { before = before; now = now }) (Err (end_of error))
-not_read pages blocks log before now (errors.Read fault) is cause quiet = cause.0
-not_read pages blocks log before now (errors.ForeignLog label) is cause quiet =
-    (is_foreign label is refl, tt, quiet tt)
-not_read pages blocks log before now (errors.BadLog address rule) is cause quiet = (is_bad address rule is refl, tt, quiet tt)
-not_read pages blocks log before now errors.Memory is cause quiet = tt
+not_read pages blocks log before now (errors.Read fault) is cause quiet label = cause.0
+not_read pages blocks log before now (errors.ForeignLog text) is cause quiet label =
+    (is_foreign text is refl, tt, quiet tt, label)
+not_read pages blocks log before now (errors.BadLog address rule) is cause quiet label = (is_bad address rule is refl, tt, quiet tt, tt)
+not_read pages blocks log before now errors.Memory is cause quiet label = tt
 
 -- the layout that a superblock gives has its log and its blocks
 pub at_layout : (g : Geometry) (s : Super) (image : Image) (count : Count) (result : Result (Vec ℕ) End) → g ≡ geometry_of s
@@ -151,24 +154,107 @@ pub record Runs {D : Type 0} (d : Ghosts D) (old mid new : D) (s : Super) (image
   pub is : d.tells → image ≡ d.image mid
   pub ends : LogEnds s.logpxd.len (blocks_of s) (drop s.logpxd.addr image) (faults_of d mid new) result
 
+-- ---- what was read of a log is so of one with whole pages
+
+are_whole : ℕ → Image → Bool
+are_whole zero log = true
+are_whole (suc n) log = are_whole n log && length (page_of log n) == 4096
+
+whole_all : (n : ℕ) (log : Image) → IsWholeLog n log → are_whole n log ≡ true
+unfolding are_whole
+whole_all zero log each = refl
+whole_all (suc n) log each = rw (whole_all n log (λ k h. each k (omega (arith, h))), eq-eqb (length (page_of log n)) 4096 (each n (omega arith))) refl
+
+whole_each : (n : ℕ) (log : Image) → are_whole n log ≡ true → IsWholeLog n log
+unfolding are_whole
+whole_each zero log is k h = absurd (omega (arith, h))
+whole_each (suc n) log is k h =
+    let two = and_parts (are_whole n log) (length (page_of log n) == 4096) is in
+    by two.1 (λ low. whole_each n log two.0 k low) (cases_lt k n)
+  where
+    by : (length (page_of log n) == 4096) ≡ true → (k < n → length (page_of log k) ≡ 4096) → (k < n) ⊎ (n ≤ k) → length (page_of log k) ≡ 4096
+    by here below (inl low) = below low
+    by here below (inr high) = ap (λ (m : ℕ). length (page_of log m)) (let e : k ≡ n = omega (arith, h, high) in e) ∙ eqb-true (length (page_of log n)) 4096 here
+
+-- a log of whole pages of which the same is said
+record SaysWhole (pages blocks : ℕ) (answer : Answer) : Type 0 where
+  pub log : Image
+  pub whole : IsWholeLog pages log
+  pub says : LogSays pages blocks log answer
+
+says_whole : (pages blocks : ℕ) (log : Image) (answer : Answer) → 256 ≤ pages → pages ≤ 32768 → TellsLabel answer.status → LogSays pages blocks log answer → SaysWhole pages blocks answer
+says_whole pages blocks log answer long small label (prints read is m ms from e) =
+    let w = whole_log pages blocks log (Ok read) long small tt is in
+    record { log = w.log; whole = w.whole; says = prints read w.is m ms from e }
+says_whole pages blocks log answer long small label (is_foreign text is e) =
+    let w = whole_log pages blocks log (Err (errors.ForeignLog text)) long small (subst (λ (a : Answer). TellsLabel a.status) e label) is in
+    record { log = w.log; whole = w.whole; says = is_foreign text w.is e }
+says_whole pages blocks log answer long small label (is_bad address rule is e) =
+    let w = whole_log pages blocks log (Err (errors.BadLog address rule)) long small tt is in
+    record { log = w.log; whole = w.whole; says = is_bad address rule w.is e }
+
+-- an image of whole pages in the log, by which the answer is right
+record Shows {D : Type 0} (d : Ghosts D) (disk : D) (s : Super) (answer : Answer) : Type 0 where
+  pub image : Image
+  pub same : d.tells → image ≡ d.image disk
+  pub whole : IsWholeLog s.logpxd.len (drop s.logpxd.addr image)
+  pub says : LogSays s.logpxd.len (blocks_of s) (drop s.logpxd.addr image) answer
+
+shows : {D : Type 0} (d : Ghosts D) (disk : D) (s : Super) (image : Image) (answer : Answer) → (d.tells → ArePages (d.page_count disk) (d.image disk)) → (d.tells → image ≡ d.image disk) → IsAccepted s (d.page_count disk)
+    → TellsLabel answer.status → LogSays s.logpxd.len (blocks_of s) (drop s.logpxd.addr image) answer → Shows d disk s answer
+shows d disk s image answer pages same accepted label says = by (are_whole len (drop at image)) refl
+  where
+    at : ℕ
+    at = s.logpxd.addr
+
+    len : ℕ
+    len = s.logpxd.len
+
+    told : d.tells → are_whole len (drop at image) ≡ true
+    told t = whole_all len (drop at image) (λ n h.
+        ap (λ (p : List ℕ). length p) (page_behind image at n ∙ ap (λ (i : Image). page_of i (at + n)) (same t))
+        ∙ (pages t).sizes (at + n) (let within = accepted_log s (d.page_count disk) accepted in omega (arith, h, within)))
+
+    by : (b : Bool) → are_whole len (drop at image) ≡ b → Shows d disk s answer
+    by true is = record { image = image; same = same; whole = whole_each len (drop at image) is; says = says }
+    by false is =
+        let layout = accepted_layout s (d.page_count disk) accepted in
+        let w = says_whole len (blocks_of s) (drop at image) answer layout.shortest layout.longest label says in
+        let there : drop at (replicate at [] ++ w.log) ≡ w.log = drop_at (replicate at []) w.log at (length-replicate {A = List ℕ} at []) in
+        record {
+          image = replicate at [] ++ w.log;
+          same = λ t. absurd (let e : false ≡ true = sym is ∙ told t in cc);
+          whole = subst (λ (log : Image). IsWholeLog len log) (sym there) w.whole;
+          says = subst (λ (log : Image). LogSays len (blocks_of s) log answer) (sym there) w.says;
+        }
+
 -- what is said of the log that was read is what the command says
 said : {D : Type 0} (d : Ghosts D) (old mid new : D) (s : Super) (image : Image) (result : Result (Vec ℕ) End) (outcome : Outcome) (answer : Answer) → Runs d old mid new s image result → LogSays s.logpxd.len (blocks_of s) (drop s.logpxd.addr image) answer
-    → Stays (faults_of d mid new) → IsOwn answer.status → ShowsSame d old new outcome → outcome.text.items ≡ answer.text → outcome.end ≡ Own answer.status → Performs d log_meaning old new outcome
-said d old mid new s image result outcome answer runs says stays own same is_text is_end =
-    let found = seen d old s image (faults_of d old mid) runs.pages (λ t. runs.is t ∙ runs.same t) runs.looked in
+    → TellsLabel answer.status → Stays (faults_of d mid new) → IsOwn answer.status → ShowsSame d old new outcome → outcome.text.items ≡ answer.text → outcome.end ≡ Own answer.status → Performs d log_meaning old new outcome
+said d old mid new s image result outcome answer runs says label stays own same is_text is_end =
+    let it = shows d old s image answer runs.pages (λ t. runs.is t ∙ runs.same t) runs.looked.3 label says in
+    let found = seen d old s it.image (faults_of d old mid) runs.pages it.same runs.looked in
     let layout = accepted_layout s found.held.pages found.accepted in
+    let within = accepted_log s found.held.pages found.accepted in
+    let at = s.logpxd.addr in
     let least = layout.least in
     let behind = layout.behind in
-    let log = subst (λ (log : Image). LogSays s.logpxd.len (blocks_of s) log answer) (sym (found.behind s.logpxd.addr (omega (arith, least, behind)))) says in
+    let log : LogSays s.logpxd.len (blocks_of s) (log_of found.held s) answer =
+    same_says s.logpxd.len (blocks_of s) (drop at it.image) (log_of found.held s) answer (let shortest = layout.shortest in omega (arith, shortest))
+    (λ n some less.
+    page_behind found.held.image at n
+    ∙ found.behind (at + n) (omega (arith, least, behind)) (omega (arith, less, within)) (ap (λ (p : List ℕ). length p) (sym (page_behind it.image at n)) ∙ it.whole n less)
+    ∙ sym (page_behind it.image at n))
+    it.says in
     comes d old new outcome log_behind found.held answer log_goes found.is same is_text (goes_on log_says found.held s answer found.block found.accepted log) own (stays ∙ runs.looked.4) is_end
 
 pub log_shown : {D : Type 0} (d : Ghosts D) (old mid new : D) (s : Super) (image : Image) (text : Vec ℕ) (outcome : Outcome) → Runs d old mid new s image (Ok text) → ShowsSame d old new outcome
     → outcome.text.items ≡ text.items → outcome.end ≡ Own statuses.Done → Performs d log_meaning old new outcome
-log_shown d old mid new s image text outcome runs same is_text is_end = said d old mid new s image (Ok text) outcome (finished text.items) runs runs.ends.0 runs.ends.1 tt same is_text is_end
+log_shown d old mid new s image text outcome runs same is_text is_end = said d old mid new s image (Ok text) outcome (finished text.items) runs runs.ends.0 tt runs.ends.1 tt same is_text is_end
 
 pub log_not_shown : {D : Type 0} (d : Ghosts D) (old mid new : D) (s : Super) (image : Image) (end : End) (outcome : Outcome) → Runs d old mid new s image (Err end) → ShowsSame d old new outcome
     → outcome.text.items ≡ [] → outcome.end ≡ end → Performs d log_meaning old new outcome
-log_not_shown d old mid new s image (Own status) outcome runs same no_text is_end = said d old mid new s image (Err (Own status)) outcome (refused status) runs runs.ends.0 runs.ends.2 runs.ends.1 same no_text is_end
+log_not_shown d old mid new s image (Own status) outcome runs same no_text is_end = said d old mid new s image (Err (Own status)) outcome (refused status) runs runs.ends.0 runs.ends.3 runs.ends.2 runs.ends.1 same no_text is_end
 log_not_shown d old mid new s image (Stopped stops.Disk) outcome runs same no_text is_end =
     disk_failed d old new outcome log_behind log_goes runs.pages (accepted_pages s (d.page_count old) runs.looked.3) same no_text (subst (λ (n : ℕ). Rose n (d.fault_count new)) runs.looked.4 runs.ends) is_end
 log_not_shown d old mid new s image (Stopped stops.Memory) outcome runs same no_text is_end = no_memory d old new outcome log_behind log_goes runs.pages (accepted_pages s (d.page_count old) runs.looked.3) same no_text is_end

@@ -1,7 +1,7 @@
 -- Commands that look at the superblock, go on where it is accepted, and change nothing.
-use Rattle.std.proofs.Common.{◌≡◌, ◌<◌, ◌≤◌, ◌⊎◌, ℕ, List, [], Option, Some, Ok, Err, drop, refl, sym, ap, subst, ◌∙◌, arith}
+use Rattle.std.proofs.Common.{◌≡◌, ◌<◌, ◌≤◌, ◌⊎◌, ℕ, List, [], Option, Some, Ok, Err, length, refl, sym, ap, subst, ◌∙◌, arith}
 use Rattle.jfs_bits.specs.Broken.{first_broken}
-use Rattle.jfs_disk.specs.Image.{Image, ArePages}
+use Rattle.jfs_disk.specs.Image.{Image, page_of, ArePages}
 use Rattle.jfs_disk.specs.declared.disk.Disk.{Ghosts}
 use Rattle.jfs_super.specs.declared.fields.Super.{Super}
 use Rattle.jfs_super.specs.declared.read.BadSuper.{BadSuper}
@@ -119,7 +119,7 @@ pub record Seen {D : Type 0} (d : Ghosts D) (disk : D) (s : Super) (image : Imag
   pub is : IsHeld d disk held
   pub block : superblock_of held ≡ s
   pub accepted : IsAccepted s held.pages
-  pub behind : (n : ℕ) → 8 < n → drop n held.image ≡ drop n image
+  pub behind : (n : ℕ) → 8 < n → n < held.pages → length (page_of image n) ≡ 4096 → page_of held.image n ≡ page_of image n
 
 pub seen : {D : Type 0} (d : Ghosts D) (disk : D) (s : Super) (image : Image) (count : Count) → (d.tells → ArePages (d.page_count disk) (d.image disk)) → (d.tells → image ≡ d.image disk)
     → Looks d.tells (d.page_count disk) (d.image disk) count (Ok s) → Seen d disk s image

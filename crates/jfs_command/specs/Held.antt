@@ -11,12 +11,12 @@ pub record Held : Type 0 where
   pub image : Image
   pub past : List DiskState
 
--- The disk holds this, as far as it tells. Page 8, by which each command goes, is whole also where the disk doesn't tell.
+-- The disk holds this, as far as it tells. Each page is whole, also where the disk doesn't tell.
 pub record IsHeld {D : Type 0} (d : Ghosts D) (disk : D) (held : Held) : Type 0 where
   pub pages : held.pages ≡ d.page_count disk
   pub image : d.tells → held.image ≡ d.image disk
   pub past : d.tells_crashes → held.past ≡ d.past disk
-  pub page8 : 8 < held.pages → length (page_of held.image 8) ≡ 4096
+  pub whole : (n : ℕ) → n < held.pages → length (page_of held.image n) ≡ 4096
 
 -- What a command did: the text before its status's line, its clients' entries, the numbers of those that were told durable,
 -- and what the disk then holds.

@@ -10,6 +10,7 @@ use Rattle.jfs_logpages.specs.ReadLog.{IsReadAs, IsNotOwn, BreaksLog}
 use Rattle.jfs_logpages.specs.declared.ring_text.RingText.{RingText}
 use Rattle.jfs_logpages.specs.declared.error.RingError.{RingError}
 use Rattle.jfs_logpages.specs.declared.error.RingError.TheVariants as errors
+use Rattle.jfs_command.specs.declared.status.Status.{Status}
 use Rattle.jfs_command.specs.declared.status.Status.TheVariants.{ForeignLog, BadLog}
 use Rattle.jfs_command.specs.declared.status.Stop.TheVariants as stops
 use Rattle.jfs_command.specs.declared.outcome.End.{End}
@@ -53,6 +54,15 @@ log_meaning = only_looks LooksAtLog (λ tells held. AfterSuperblock held (λ s. 
 
 -- ---- for the prover: what the function that reads the log answers
 
+-- another's label has 16 bytes, as it was read
+abbrev pub HasLabel : RingError → Type 0
+HasLabel (errors.ForeignLog label) = length label ≡ 16
+HasLabel _ = ⊤
+
+abbrev pub TellsLabel : Status → Type 0
+TellsLabel (ForeignLog label) = length label ≡ 16
+TellsLabel _ = ⊤
+
 -- how a command ends whose log was not read
 abbrev pub end_of : RingError → End
 end_of (errors.Read fault) = Stopped stops.Disk
@@ -62,7 +72,7 @@ end_of errors.Memory = Stopped stops.Memory
 
 abbrev pub LogEnds : ℕ → ℕ → Image → Count → Result (Vec ℕ) End → Type 0
 LogEnds pages blocks log disk (Ok text) = LogSays pages blocks log (finished text.items) × Stays disk
-LogEnds pages blocks log disk (Err (Own status)) = LogSays pages blocks log (refused status) × IsOwn status × Stays disk
+LogEnds pages blocks log disk (Err (Own status)) = LogSays pages blocks log (refused status) × IsOwn status × Stays disk × TellsLabel status
 LogEnds pages blocks log disk (Err (Stopped stops.Disk)) = HasRisen disk
 LogEnds pages blocks log disk (Err (Stopped stops.Memory)) = ⊤
 LogEnds pages blocks log disk (Err (Stopped stops.Scripts)) = ⊥

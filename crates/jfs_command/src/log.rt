@@ -3,7 +3,7 @@
 ghost use Rattle.std.specs.Prelude.{◌≡◌, ◌≤◌, drop};
 ghost use Rattle.jfs_disk.specs.Image.{Image};
 ghost use Rattle.jfs_super.specs.Rules.{IsAccepted, blocks_of};
-ghost use Rattle.jfs_command.specs.Log.{LogEnds, end_of, log_meaning};
+ghost use Rattle.jfs_command.specs.Log.{HasLabel, LogEnds, end_of, log_meaning};
 ghost use Rattle.jfs_command.specs.Meaning.{Performs};
 
 use crate::log_text::log_lines;
@@ -52,11 +52,16 @@ fn read_lines<D: Disk>(alloc: Global, disk: &mut D, s: &Super) -> Result<Vec<u8>
 
 // How a command ends whose log was not read.
 fn end_of(error: RingError) -> End
-    ensures { result ≡ end_of error }
+    ensures is { result ≡ end_of error }
+    ensures label { HasLabel error }
 {
     match error {
         RingError::Read(_) => End::Stopped(Stop::Disk),
-        RingError::ForeignLog { label } => End::Own(Status::ForeignLog { label }),
+        RingError::ForeignLog { label } => {
+            // so that the label's size is known
+            let _bytes = label.as_slice();
+            End::Own(Status::ForeignLog { label })
+        }
         RingError::BadLog { address, rule } => End::Own(Status::BadLog { address, rule }),
         RingError::Memory => End::Stopped(Stop::Memory),
     }

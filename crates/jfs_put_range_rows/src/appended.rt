@@ -1,6 +1,6 @@
 //! Fragments that are written behind each other: all leaves but the last are full.
 
-use crate::file::{File, recorded};
+use crate::file::{File, eight};
 use crate::links::is_linked;
 use std::alloc::{AllocError, Global};
 use std::test::*;
@@ -9,11 +9,7 @@ use std::test::*;
 fn appends(alloc: Global, file: &mut File, count: u64) -> Result<bool, AllocError> {
     for i in 0..count {
         let pages = file.pages();
-        let mut range = Vec::new(alloc);
-        for j in 0..8 {
-            let k = i.saturating_mul(16).saturating_add(2 * j);
-            range.push(recorded(k, 1, (k % 4096).saturating_add(1000)))?;
-        }
+        let range = eight(alloc, i)?;
         if file.puts(alloc, range.as_slice())? != Some(Ok(())) {
             return Ok(false);
         }

@@ -209,6 +209,16 @@ fn free_from(alloc: Global, first: u32) -> Result<PxdList, AllocError>
     Ok(fresh)
 }
 
+/// Eight blocks at each second place, of which none continues another: the one that comes behind so many such eights.
+pub fn eight(alloc: Global, before: u64) -> Result<Vec<Xad>, AllocError> {
+    let mut range = Vec::new(alloc);
+    for j in 0..8 {
+        let k = before.saturating_mul(16).saturating_add(2 * j);
+        range.push(recorded(k, 1, (k % 4096).saturating_add(1000)))?;
+    }
+    Ok(range)
+}
+
 /// A recorded extent.
 pub fn recorded(offset: u64, len: u32, addr: u64) -> Xad {
     Xad {

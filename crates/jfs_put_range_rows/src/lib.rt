@@ -12,6 +12,8 @@ mod links;
 #[cfg(test)]
 mod mixed;
 #[cfg(test)]
+mod narrow;
+#[cfg(test)]
 mod plain;
 #[cfg(test)]
 mod ready;

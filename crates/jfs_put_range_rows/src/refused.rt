@@ -2,7 +2,7 @@
 
 ghost use Rattle.std.specs.Prelude.{◌<◌, ◌≤◌, ◌+◌, ◌*◌, ◌≡◌, length};
 
-use crate::file::{File, recorded};
+use crate::file::{File, eight, recorded};
 use jfs_bits::{Pxd, Rule, Xad, put_pxd, put_u8, put_u16, put_xad};
 use jfs_disk::{Fault, Part};
 use jfs_ranges::ViewError;
@@ -23,11 +23,7 @@ fn fault(count: u64) -> XtError {
 /// So many entries of one block each at each second block, 8 at a time.
 fn fills(alloc: Global, file: &mut File, count: u64) -> Result<bool, AllocError> {
     for i in 0..count {
-        let mut range = Vec::new(alloc);
-        for j in 0..8 {
-            let k = i.saturating_mul(16).saturating_add(2 * j);
-            range.push(recorded(k, 1, k.saturating_add(1000)))?;
-        }
+        let range = eight(alloc, i)?;
         if file.puts(alloc, range.as_slice())? != Some(Ok(())) {
             return Ok(false);
         }

@@ -32,9 +32,9 @@ returns-clause-log g c =
     let read = c.in-Err.ensures.read in
     let before = g.D.Disk.fault_count c.args.disk.now in
     let now = g.D.Disk.fault_count c.read_ring.new.disk in
-    let end = not_read layout.log.len layout.blocks (drop layout.log.addr read.0) before now c.in-Err.error read.2 c.in-Err.ensures.cause c.in-Err.ensures.refused in (
+    let end = not_read layout.log.len layout.blocks (drop layout.log.addr read.0) before now c.in-Err.error read.2 c.in-Err.ensures.cause c.in-Err.ensures.refused c.end_of.ensures.label in (
       read.0,
       read.1,
       at_layout layout c.args.s.now read.0 (record { before = before; now = now }) (Err c.end_of.result) c.geometry-layout.ensures.layout
-          (subst (λ (e : End). LogEnds layout.log.len layout.blocks (drop layout.log.addr read.0) (record { before = before; now = now }) (Err e)) (sym c.end_of.ensures) end),
+          (subst (λ (e : End). LogEnds layout.log.len layout.blocks (drop layout.log.addr read.0) (record { before = before; now = now }) (Err e)) (sym c.end_of.ensures.is) end),
     )
