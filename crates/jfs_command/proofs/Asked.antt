@@ -1,9 +1,9 @@
 -- What words ask for is within its limits, and how many scripts it names.
-use Rattle.std.proofs.Common.{◌≡◌, ◌≤◌, ◌<◌, ◌-◌, ◌^◌, ℕ, zero, suc, Bool, true, false, if◌then◌else◌, List, [], ◌∷◌, length, codes, Option, Some, None, Result, Ok, Err, refl, sym, ap, subst, ◌∙◌, arith}
+use Rattle.std.proofs.Common.{◌≡◌, ◌≤◌, ◌<◌, ◌+◌, ◌-◌, ◌^◌, ℕ, zero, suc, Bool, true, false, if◌then◌else◌, List, [], ◌∷◌, length, codes, Option, Some, None, Result, Ok, Err, refl, sym, ap, subst, ◌∙◌, arith}
 use Rattle.std.specs.Prelude.{nat_le, nat_lt, ◌==◌, ◌&&◌}
 use Rattle.std.specs.List.{range_with_len}
 use Rattle.std.specs.Str.{bytes_eq}
-use Rattle.std.proofs.lemmas.Bool.{cases_Bool, leb-le}
+use Rattle.std.proofs.lemmas.Bool.{leb-true}
 use Rattle.uuid.specs.Text.{parsed}
 use Rattle.jfs_script.specs.Number.{numeral}
 use Rattle.jfs_command.specs.declared.words.Usage.{Usage}
@@ -65,7 +65,7 @@ IsUpTo most None = Unit {0}
 IsUpTo most (Some n) = n ≤ most
 
 by_limit : (most n : ℕ) (b : Bool) → nat_le n most ≡ b → IsUpTo most (if b then Some n else None)
-by_limit most n true is = leb-le n most is
+by_limit most n true is = leb-true n most is
 by_limit most n false is = tt
 
 up_to : (most : ℕ) (o : Option ℕ) → IsUpTo most (at_most most o)
@@ -84,7 +84,7 @@ generates number calls clients [] few one most = (few, one, most)
 generates number calls clients (more ∷ rest) few one most = tt
 
 by_one : (number calls clients : ℕ) (words : List (List ℕ)) (b : Bool) → nat_le 1 clients ≡ b → calls ≤ 4094 → clients ≤ 16 → AreWithin (if b then generate number calls clients words else usage 5)
-by_one number calls clients words true is few most = generates number calls clients words few (leb-le 1 clients is) most
+by_one number calls clients words true is few most = generates number calls clients words few (leb-true 1 clients is) most
 by_one number calls clients words false is few most = tt
 
 some_clients : (number calls : ℕ) (o : Option ℕ) (words : List (List ℕ)) → calls ≤ 4094 → IsUpTo 16 o → AreWithin (after_clients number calls o words)
@@ -133,7 +133,7 @@ is_within words command is = subst (λ (r : Result Command Usage). AreWithin r) 
 -- and they name no more scripts than a number of 32 bits can tell
 as_many : (first count : ℕ) → length (range_with_len first count) ≡ count
 as_many first zero = refl
-as_many first (suc count) = ap suc (as_many (suc first) count)
+as_many first (suc count) = ap suc (as_many (first + 1) count)
 
 pub few_scripts : (words : List (List ℕ)) (command : Command) (n : ℕ) → Ok command ≡ command_of words → n ≡ length (scripts_asked (command_of words)) → command.scripts.end < 2 ^ 32 → n < 2 ^ 32
 few_scripts words command n is number few =

@@ -3,6 +3,7 @@ use Rattle.std.proofs.Common.{◌≡◌, ◌<◌, ◌≤◌, ◌⊎◌, ◌+◌,
 use Rattle.std.specs.Prelude.{slice_set, slice_index_or, sum_by, min}
 use Rattle.std.specs.Global.{Vec}
 use Rattle.std.proofs.lemmas.List.{length-append, length-map}
+use Rattle.std.proofs.lemmas.List.Sums.{sum_by-cons}
 use Rattle.jfs_bits.specs.Count.{Rose}
 use Rattle.jfs_plain.specs.declared.call.Line.{Line}
 use Rattle.jfs_script.specs.Script.{Asks, no_lines, skips, calls, IsWithin, AllFit}
@@ -50,14 +51,17 @@ rest_left [] (suc i) x ys is = absurd cc
 rest_left (z ∷ zs) zero x ys is = cc
 rest_left (z ∷ zs) (suc i) x ys is = rest_left zs i x ys is
 
+take_none : {X : Type 0} (xs : List X) → take 0 xs ≡ []
+take_none [] = refl
+take_none (x ∷ xs) = refl
+
+heads : {X : Type 0} (x : X) (xs : List X) (y : X) (ys : List X) → x ∷ xs ≡ y ∷ ys → x ≡ y
+heads x xs y ys is = cc
+
 taken_more : {X : Type 0} (xs : List X) (i : ℕ) (x : X) (ys : List X) → drop i xs ≡ x ∷ ys → take (suc i) xs ≡ take i xs ++ x ∷ []
 taken_more [] zero x ys is = absurd cc
 taken_more [] (suc i) x ys is = absurd cc
-taken_more (z ∷ zs) zero x ys is = let same : z ≡ x = cc in none zs ∙ ap (λ w. w ∷ []) same
-  where
-    none : (ws : List X) → take 1 (z ∷ ws) ≡ z ∷ []
-    none [] = refl
-    none (w ∷ ws) = refl
+taken_more (z ∷ zs) zero x ys is = ap (λ ws. z ∷ ws) (take_none zs) ∙ ap (λ w. w ∷ []) (heads z zs x ys is)
 taken_more (z ∷ zs) (suc i) x ys is = ap (λ ws. z ∷ ws) (taken_more zs i x ys is)
 
 beside_set : {X : Type 0} (xs : List X) (i : ℕ) (y : X) → drop (suc i) (slice_set xs i y) ≡ drop (suc i) xs
@@ -77,8 +81,14 @@ map_set f (z ∷ zs) (suc i) x y is same = ap (λ ws. f z ∷ ws) (map_set f zs 
 
 sum_set : {X : Type 0} (f : X → ℕ) (xs : List X) (i : ℕ) (x y : X) → i < length xs → x ≡ slice_index_or xs i x → sum_by f (slice_set xs i y) + f x ≡ sum_by f xs + f y
 sum_set f [] i x y less is = absurd (omega (arith, less))
-sum_set f (z ∷ zs) zero x y less is = let same = ap f is in omega (arith, same)
-sum_set f (z ∷ zs) (suc i) x y less is = let more = sum_set f zs i x y (omega (arith, less)) is in omega (arith, more)
+sum_set f (z ∷ zs) zero x y less is = let same : f x ≡ f z = ap f is in omega (arith, same, sum_by-cons f z zs, sum_by-cons f y zs)
+sum_set f (z ∷ zs) (suc i) x y less is = let more = sum_set f zs i x y (omega (arith, less)) is in omega (arith, more, sum_by-cons f z zs, sum_by-cons f z (slice_set zs i y))
+
+-- what is set is a part of the sum
+part_set : {X : Type 0} (f : X → ℕ) (xs : List X) (i : ℕ) (y : X) → i < length xs → f y ≤ sum_by f (slice_set xs i y)
+part_set f [] i y less = absurd (omega (arith, less))
+part_set f (z ∷ zs) zero y less = omega (arith, sum_by-cons f y zs)
+part_set f (z ∷ zs) (suc i) y less = let more = part_set f zs i y (omega (arith, less)) in omega (arith, more, sum_by-cons f z (slice_set zs i y))
 
 pub map_append : {X Y : Type 0} (f : X → Y) (xs ys : List X) → map f (xs ++ ys) ≡ map f xs ++ map f ys
 map_append f [] ys = refl
@@ -103,7 +113,7 @@ same_sum f (x ∷ xs) [] same = absurd cc
 same_sum f (x ∷ xs) (y ∷ ys) same =
     let first : f x ≡ f y = cc (same) in
     let rest : map f xs ≡ map f ys = cc (same) in
-    omega (arith, first, same_sum f xs ys rest)
+    omega (arith, first, same_sum f xs ys rest, sum_by-cons f x xs, sum_by-cons f y ys)
 
 all_taken : {X : Type 0} (xs : List X) (i : ℕ) → length xs ≤ i → take i xs ≡ xs
 all_taken [] zero past = refl
@@ -122,7 +132,7 @@ good_more k (t ∷ ts) (x ∷ xs) text lines good more =
     (good.0, good_more (suc k) ts xs text lines good.1 (subst (λ (n : ℕ). ScriptSays n text (Ok lines)) at more))
 
 bad_behind : (k : ℕ) (texts : List (List ℕ)) (plan : List (List Line)) (text : List ℕ) (rest : List (List ℕ)) (status : Status) → SayFrom k texts (Ok plan) → ScriptSays (length texts + k) text (Err status) → SayFrom k (texts ++ text ∷ rest) (Err status)
-bad_behind k [] [] text rest status good bad = inl bad
+bad_behind k [] [] text rest status good bad = let at : 0 + k ≡ k = omega arith in inl (subst (λ (n : ℕ). ScriptSays n text (Err status)) at bad)
 bad_behind k [] (x ∷ xs) text rest status good bad = absurd good
 bad_behind k (t ∷ ts) [] text rest status good bad = absurd good
 bad_behind k (t ∷ ts) (x ∷ xs) text rest status good bad =
@@ -137,9 +147,9 @@ pub lines_more : (plan : List (List Line)) (lines : List Line) → lines_in (pla
 lines_more [] lines = omega arith
 lines_more (x ∷ xs) lines = let more = lines_more xs lines in omega (arith, more)
 
-capped_rise : (a b x y : ℕ) → b + x ≡ a + y → Rose x y → Rose (min a (2 ^ 64 - 1)) (min b (2 ^ 64 - 1))
-capped_rise a b x y sum (inr last) = inr (omega (arith, sum, last))
-capped_rise a b x y sum (inl less) = by (below a (2 ^ 64 - 1))
+capped_rise : (a b x y : ℕ) → b + x ≡ a + y → y ≤ b → Rose x y → Rose (min a (2 ^ 64 - 1)) (min b (2 ^ 64 - 1))
+capped_rise a b x y sum part (inr last) = inr (omega (arith, part, last))
+capped_rise a b x y sum part (inl less) = by (below a (2 ^ 64 - 1))
   where
     below : (n k : ℕ) → (n < k) ⊎ (k ≤ n)
     below n k = grind arith
@@ -162,11 +172,7 @@ pub record IsRead {S : Type 0} (s : Ghosts S) (old now : List S) (i : ℕ) (plan
   pub rest : drop i now ≡ drop i old
 
 pub none_read : {S : Type 0} (s : Ghosts S) (old : List S) → IsRead s old old 0 []
-none_read s old = record { texts = []; number = refl; are = λ t. none old; says = tt; fits = tt; many = refl; few = omega arith; size = refl; counts = refl; rest = refl }
-  where
-    none : (xs : List S) → [] ≡ map s.remaining (take 0 xs)
-    none [] = refl
-    none (x ∷ xs) = refl
+none_read s old = record { texts = []; number = refl; are = λ t. sym (ap (λ xs. map s.remaining xs) (take_none old)); says = tt; fits = tt; many = refl; few = omega arith; size = refl; counts = refl; rest = refl }
 
 module _ {S : Type 0} (s : Ghosts S) (old now : List S) (i : ℕ) (plan : List (Vec Line)) (read : IsRead s old now i plan) (less : i < length now) (source : S) (is : source ≡ slice_index_or now i source) (new : S) where
   left : drop i now ≡ source ∷ drop (suc i) now
@@ -232,12 +238,11 @@ module _ {S : Type 0} (s : Ghosts S) (old now : List S) (i : ℕ) (plan : List (
     all_texts text,
     all_number text,
     all_are text tells,
-    inr (omega (arith, few, all_number text), bad_behind 1 read.texts (plan_of plan) text (map s.remaining (drop (suc i) now)) status read.says (subst (λ (n : ℕ). ScriptSays n text (Err status)) at_client bad)),
-    still same,
+    (inr (omega (arith, few, all_number text), bad_behind 1 read.texts (plan_of plan) text (map s.remaining (drop (suc i) now)) status read.says (subst (λ (n : ℕ). ScriptSays n text (Err status)) at_client bad)), still same),
   )
-  one_failed (Stopped stops.Scripts) text few tells rose = (all_texts text, all_number text, all_are text tells, capped_rise (sum_by s.fault_count old) (sum_by s.fault_count later) (s.fault_count source) (s.fault_count new) sums rose)
+  one_failed (Stopped stops.Scripts) text few tells rose = (all_texts text, all_number text, all_are text tells, capped_rise (sum_by s.fault_count old) (sum_by s.fault_count later) (s.fault_count source) (s.fault_count new) sums (part_set s.fault_count now i new less) rose)
   one_failed (Stopped stops.Memory) text few tells same = (all_texts text, all_number text, all_are text tells, tt)
-  one_failed (Stopped stops.Disk) text few tells no = absurd no
+  one_failed (Stopped stops.Disk) text few tells never = absurd never
 
 -- ---- all of them
 
@@ -246,7 +251,7 @@ pub all_read : {S : Type 0} (s : Ghosts S) (old now : List S) (i : ℕ) (plan : 
 all_read s old now i plan read past most few = (
   read.texts,
   omega (arith, read.number, past, most),
-  λ t. read.are t ∙ ap (λ (xs : List _). map s.remaining xs) (all_taken old i past),
+  λ t. read.are t ∙ ap (λ xs. map s.remaining xs) (all_taken old i past),
   (inr (omega (arith, read.number, most, few), read.says), ap (λ (n : ℕ). min n (2 ^ 64 - 1)) (same_sum s.fault_count now old read.counts)),
 )
 

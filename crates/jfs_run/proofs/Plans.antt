@@ -129,13 +129,13 @@ abbrev first_tasks : ℕ → ℕ → List (List Line) → List Task
 first_tasks n k plan = take n (tasks_from k plan)
 
 take_parts : {X : Type 0} (n : ℕ) (xs ys : List X) → take n (xs ++ ys) ≡ take n xs ++ take (n - length xs) ys
-take_parts zero xs ys =
+take_parts {X = X} zero xs ys =
     let none : 0 - length xs ≡ 0 = omega arith in
     take_none (xs ++ ys) ∙ sym (take_none ys) ∙ sym (ap (λ (k : ℕ). take k ys) none) ∙ sym (ap (λ (zs : List X). zs ++ take (0 - length xs) ys) (take_none xs))
 take_parts (suc n) [] ys = let all : suc n ≡ suc n - 0 = omega arith in ap (λ (k : ℕ). take k ys) all
-take_parts (suc n) (x ∷ xs) ys =
+take_parts {X = X} (suc n) (x ∷ xs) ys =
     let less : n - length xs ≡ suc n - suc (length xs) = omega arith in
-    ap (λ zs. x ∷ zs) (take_parts n xs ys ∙ ap (λ (k : ℕ). take n xs ++ take k ys) less)
+    ap (λ (zs : List X). x ∷ zs) (take_parts n xs ys ∙ ap (λ (k : ℕ). take n xs ++ take k ys) less)
 
 take_own : (n k : ℕ) (lines : List Line) → take n (tasks_of k lines) ≡ tasks_of k (take n lines)
 take_own zero k lines = take_none (tasks_of k lines) ∙ sym (ap (tasks_of k) (take_none lines))
