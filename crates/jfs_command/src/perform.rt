@@ -45,19 +45,20 @@ pub fn perform<D: Disk, S: Source>(
     ensures scripts { scripts.old.items ≡ [] → scripts.new ≡ scripts.old }
     ensures sources { source_faults S.Source scripts.old.items ≤ source_faults S.Source scripts.new.items }
 {
-    match command.job {
-        Job::Run { is_left } => run_scripts(alloc, disk, scripts, now, is_left),
-        Job::Generate {
-            number,
-            calls,
-            clients,
-        } => generate(alloc, disk, number, calls, clients, now),
-        job => {
-            let mut disk = disk;
-            let outcome = on_disk(alloc, job, now, &mut disk);
-            Performed { outcome, disk }
-        }
+    if let Job::Run { is_left } = command.job {
+        return run_scripts(alloc, disk, scripts, now, is_left);
     }
+    if let Job::Generate {
+        number,
+        calls,
+        clients,
+    } = command.job
+    {
+        return generate(alloc, disk, number, calls, clients, now);
+    }
+    let mut disk = disk;
+    let outcome = on_disk(alloc, command.job, now, &mut disk);
+    Performed { outcome, disk }
 }
 
 /// Does a job without scripts, which leaves the disk in one piece.

@@ -7,8 +7,15 @@ use Rattle.jfs_run.proofs.Onward.{none_more, durable_more, pending_more, next_of
 use Rattle.jfs_run.proofs.client.serve.Goals as goal
 use Rattle.jfs_run.proofs.client.serve.Goals.{in-Durable+in-Ok, in-Pending}
 
-pub loop-line-init-so_far : goal.loop-line-init-so_far
-loop-line-init-so_far g c = λ first before few so_far. serves_begun first before (tasks_of c.args.client c.args.lines.now) c.args.told.now.items (state g.D.Disk c.args.m.now.volume c.args.m.now.log) so_far
+pub loop-line-init : goal.loop-line-init
+loop-line-init g c = record {
+  so_far = λ first before few so_far. serves_begun first before (tasks_of c.args.client c.args.lines.now) c.args.told.now.items (state g.D.Disk c.args.m.now.volume c.args.m.now.log) so_far;
+  may = c.requires.may;
+  number = omega arith;
+  few = omega arith;
+  room = omega arith;
+  legal = λ t area log_pages start first. first;
+}
 
 pub returns-in-NoMemory-clause-served : goal.returns-in-NoMemory-clause-served
 returns-in-NoMemory-clause-served g c = λ first before few so_far.

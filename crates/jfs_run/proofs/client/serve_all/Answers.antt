@@ -1,29 +1,36 @@
-use Rattle.std.proofs.Common.{◌≡◌, ◌++◌, ◌+◌, ◌≤◌, [], ℕ, List, length, take, sym, ap, subst, arith}
+use Rattle.std.proofs.Common.{◌≡◌, ◌++◌, ◌+◌, ◌≤◌, [], ℕ, List, length, take, refl, sym, ap, subst, arith}
 use Rattle.std.proofs.lemmas.List.{length-map}
 use Rattle.jfs_plain.specs.declared.call.Line.{Line}
+use Rattle.jfs_script.specs.Script.{AllFit}
 use Rattle.jfs_run.specs.Serving.{State, state, HasServed}
 use Rattle.jfs_run.specs.Tasks.{Task, task, tasks_of, tasks_from, plan_of, lines_in}
 use Rattle.jfs_run.proofs.Onward.{few_of, serves_none}
 use Rattle.jfs_run.proofs.Plans.{next, fits_at, tasks_are, all_scripts, front_at}
 use Rattle.jfs_run.proofs.client.serve_all.Goals as goal
 
-pub loop-script-init-so_far : goal.loop-script-init-so_far
-loop-script-init-so_far g c = serves_none (state g.D.Disk c.args.m.now.volume c.args.m.now.log) (plan_of c.args.scripts.now) c.args.told.now.items c.requires.fresh c.requires.none
+pub loop-script-init : goal.loop-script-init
+loop-script-init g c = record {
+  client = refl;
+  so_far = serves_none (state g.D.Disk c.args.m.now.volume c.args.m.now.log) (plan_of c.args.scripts.now) c.args.told.now.items c.requires.fresh c.requires.none;
+  few = let none = ap length c.requires.none in grind (arith, none);
+  room = c.requires.room;
+  legal = λ t area log_pages start first. first;
+}
 
 pub serve-requires-clause-fits : goal.serve-requires-clause-fits
-serve-requires-clause-fits g c = fits_at c.args.scripts.now c.loop-script.script-index c.script-item.result c.loop-script-test.true c.script-item.is c.requires.plan.fit
+serve-requires-clause-fits g c = subst AllFit (sym c.as_slice.ensures.value) (fits_at c.args.scripts.now c.loop-script.script-index c.script-item.result c.loop-script-test.true c.script-item.is c.requires.plan.fit)
 
 pub serve-requires-clause-number : goal.serve-requires-clause-number
 serve-requires-clause-number g c =
     let i : ℕ = c.loop-script.script-index in
     let plan = plan_of c.args.scripts.now in
     let n = next c.args.scripts.now i c.script-item.result c.loop-script-test.true c.script-item.is in
-    omega (arith, c.loop-script.invariant.so_far.appended, tasks_are 1 (take i plan), n.lines, n.most, c.requires.plan.few)
+    omega (arith, c.loop-script.invariant.so_far.appended, tasks_are 1 (take i plan), n.lines, n.most, c.requires.plan.few, ap length c.as_slice.ensures.value)
 
 pub serve-requires-clause-room : goal.serve-requires-clause-room
 serve-requires-clause-room g c =
     let n = next c.args.scripts.now c.loop-script.script-index c.script-item.result c.loop-script-test.true c.script-item.is in
-    omega (arith, c.loop-script.invariant.few, c.loop-script.invariant.room, n.lines, n.most)
+    omega (arith, c.loop-script.invariant.few, c.loop-script.invariant.room, n.lines, n.most, ap length c.as_slice.ensures.value)
 
 pub loop-script-preserved : goal.loop-script-preserved
 loop-script-preserved g c =
@@ -39,8 +46,9 @@ loop-script-preserved g c =
       client = omega (arith, inv.client);
       so_far = subst (λ (ts : List Task). HasServed first ts c.serve.new.told.items now) n.tasks
           (subst (λ (k : ℕ). HasServed first (tasks_from 1 (take i plan) ++ tasks_of k c.script-item.result.items) c.serve.new.told.items now) (let at : c.loop-script.client + 1 ≡ i + 1 = omega (arith, inv.client) in at)
-          (c.in-All.ensures.served first (tasks_from 1 (take i plan)) (few_of first c.requires.few) inv.so_far));
-      few = omega (arith, inv.few, e.told.0, n.lines);
+          (subst (λ (ls : List Line). HasServed first (tasks_from 1 (take i plan) ++ tasks_of (c.loop-script.client + 1) ls) c.serve.new.told.items now) c.as_slice.ensures.value
+          (c.in-All.ensures.served first (tasks_from 1 (take i plan)) (few_of first c.requires.few) inv.so_far)));
+      few = omega (arith, inv.few, e.told.0, n.lines, ap length c.as_slice.ensures.value);
       room = omega (arith, inv.room, e.told.1);
       legal = λ t area log_pages start begun. c.in-All.ensures.legal t area log_pages start (inv.legal t area log_pages start begun);
     }
@@ -55,7 +63,8 @@ returns-in-NoMemory-clause-served g c =
     let now = state d c.serve.new.m.volume c.serve.new.m.log in
     let script = c.script-item.result in
     let at : c.loop-script.client + 1 ≡ i + 1 = omega (arith, inv.client) in
-    let served = c.in-NoMemory.ensures.served first (tasks_from 1 (take i plan)) (few_of first c.requires.few) inv.so_far in
+    let served = subst (λ (ls : List Line). (n : ℕ) × (n ≤ length (tasks_of (c.loop-script.client + 1) ls)) × HasServed first (tasks_from 1 (take i plan) ++ take n (tasks_of (c.loop-script.client + 1) ls)) c.serve.new.told.items now) c.as_slice.ensures.value
+    (c.in-NoMemory.ensures.served first (tasks_from 1 (take i plan)) (few_of first c.requires.few) inv.so_far) in
     let f = front_at served.0 c.args.scripts.now i script c.loop-script-test.true c.script-item.is (subst (λ (k : ℕ). served.0 ≤ length (tasks_of k script.items)) at served.1) in (
       f.count,
       f.most,

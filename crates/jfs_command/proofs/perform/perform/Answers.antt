@@ -1,0 +1,8 @@
+use Rattle.std.proofs.Common.{map, refl}
+use Rattle.jfs_command.proofs.Performing.{without_scripts}
+use Rattle.jfs_command.proofs.perform.perform.Goals as goal
+
+pub returns-clause-meaning : goal.returns-clause-meaning
+returns-clause-meaning g c =
+    without_scripts g.D.Disk g.S.Source c.args.command c.args.now c.args.disk c.on_disk-outcome.new.disk c.args.scripts.now.items c.on_disk-outcome.result
+    (c.on_disk-outcome.ensures.meaning (record { scripts = map g.S.Source.remaining c.args.scripts.now.items; now = c.args.now }) refl)
