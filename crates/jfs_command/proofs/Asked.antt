@@ -15,8 +15,9 @@ use Rattle.jfs_command.specs.Words.{is_name, is_label, on_image, run_at, names_i
 abbrev usage : ℕ → Result Command Usage
 usage word = Err (record { word = word })
 
+-- its numbers are within their limits, and the places of its scripts have 32 bits
 abbrev pub AreWithin : Result Command Usage → Type 0
-AreWithin (Ok command) = IsWithin command.job
+AreWithin (Ok command) = IsWithin command.job × (command.scripts.end < 2 ^ 32)
 AreWithin (Err usage) = Unit {0}
 
 -- whichever is chosen of two
@@ -26,12 +27,12 @@ either false x y one other = other
 
 alone : (job : Job) (words : List (List ℕ)) → IsWithin job → AreWithin (image_alone job words)
 alone job [] is = tt
-alone job (image ∷ []) is = either (is_name image) (Ok (on_image job)) (usage 2) is tt
+alone job (image ∷ []) is = either (is_name image) (Ok (on_image job)) (usage 2) (is, omega arith) tt
 alone job (image ∷ more ∷ rest) is = either (is_name image) (usage 3) (usage 2) tt tt
 
 labelled : (uuid : List ℕ) (words : List (List ℕ)) → AreWithin (with_label uuid words)
-labelled uuid [] = tt
-labelled uuid (label ∷ []) = either (is_label label) _ (usage 4) tt tt
+labelled uuid [] = (tt, omega arith)
+labelled uuid (label ∷ []) = either (is_label label) _ (usage 4) (tt, omega arith) tt
 labelled uuid (label ∷ more ∷ rest) = either (is_label label) (usage 5) (usage 4) tt tt
 
 after : (uuid : Option (List ℕ)) (words : List (List ℕ)) → AreWithin (after_uuid uuid words)
@@ -47,7 +48,7 @@ formats [] = tt
 formats (image ∷ rest) = either (is_name image) (with_uuid rest) (usage 2) (named rest) tt
 
 scripted : (is_left : Bool) (at count names : ℕ) → AreWithin (with_scripts is_left at count names)
-scripted is_left at count names = either (nat_lt 0 count && names == count) (Ok (run_at is_left at count)) _ tt tt
+scripted is_left at count names = either (nat_lt 0 count && names == count) (Ok (run_at is_left at count)) _ (tt, omega arith) tt
 
 runs : (is_left : Bool) (at : ℕ) (words : List (List ℕ)) → AreWithin (image_and_scripts is_left at words)
 runs is_left at [] = tt
@@ -80,7 +81,7 @@ is_up_to : (most : ℕ) (word : List ℕ) → IsUpTo most (number_up_to most wor
 is_up_to most word = by_front most (begins_well word) (numeral 10 word)
 
 generates : (number calls clients : ℕ) (words : List (List ℕ)) → calls ≤ 4094 → 1 ≤ clients → clients ≤ 16 → AreWithin (generate number calls clients words)
-generates number calls clients [] few one most = (few, one, most)
+generates number calls clients [] few one most = ((few, one, most), omega arith)
 generates number calls clients (more ∷ rest) few one most = tt
 
 by_one : (number calls clients : ℕ) (words : List (List ℕ)) (b : Bool) → nat_le 1 clients ≡ b → calls ≤ 4094 → clients ≤ 16 → AreWithin (if b then generate number calls clients words else usage 5)
@@ -126,17 +127,21 @@ all_within (first ∷ rest) =
     (either (bytes_eq first (codes "run")) _ _ (leaves rest)
     (either (bytes_eq first (codes "gen")) _ _ (generated rest) tt))))))
 
+all_of : (words : List (List ℕ)) (command : Command) → Ok command ≡ command_of words → IsWithin command.job × (command.scripts.end < 2 ^ 32)
+all_of words command is = subst (λ (r : Result Command Usage). AreWithin r) (sym is) (all_within words)
+
 -- the numbers of what the words ask for are within their limits
 pub is_within : (words : List (List ℕ)) (command : Command) → Ok command ≡ command_of words → IsWithin command.job
-is_within words command is = subst (λ (r : Result Command Usage). AreWithin r) (sym is) (all_within words)
+is_within words command is = (all_of words command is).0
 
 -- and they name no more scripts than a number of 32 bits can tell
 as_many : (first count : ℕ) → length (range_with_len first count) ≡ count
 as_many first zero = refl
 as_many first (suc count) = ap suc (as_many (first + 1) count)
 
-pub few_scripts : (words : List (List ℕ)) (command : Command) (n : ℕ) → Ok command ≡ command_of words → n ≡ length (scripts_asked (command_of words)) → command.scripts.end < 2 ^ 32 → n < 2 ^ 32
-few_scripts words command n is number few =
+pub few_scripts : (words : List (List ℕ)) (command : Command) (n : ℕ) → Ok command ≡ command_of words → n ≡ length (scripts_asked (command_of words)) → n < 2 ^ 32
+few_scripts words command n is number =
+    let few = (all_of words command is).1 in
     let named : n ≡ length (script_words command) = number ∙ subst (λ (r : Result Command Usage). length (scripts_asked r) ≡ length (script_words command)) is refl in
     let many = as_many command.scripts.first (command.scripts.end - command.scripts.first) in
     omega (arith, named, many, few)

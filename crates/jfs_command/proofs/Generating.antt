@@ -6,9 +6,7 @@ use Rattle.jfs_gen.specs.Workload.{lines_of}
 use Rattle.jfs_gen.specs.Limits.{AllFit}
 use Rattle.jfs_plain.specs.declared.call.Line.{Line}
 use Rattle.jfs_run.specs.Tasks.{plan_of, lines_in, PlanFits, IsPlan}
-use Rattle.jfs_command.specs.declared.status.Status.{Status}
-use Rattle.jfs_command.specs.Run.{Planned, IsOfScripts, IsOrder}
-use Rattle.jfs_command.specs.Gen.{scripts_from, by_number}
+use Rattle.jfs_command.specs.Order.{scripts_from}
 use Rattle.jfs_command.proofs.Scripted.{map_append, fits_more, lines_more}
 
 -- so many scripts were made, and with those that are left they are all
@@ -52,13 +50,3 @@ made_plan number calls clients i plan most made = record {
   clients = let same = length-map plan (λ (v : Vec Line). v.items) in let many = made.many in omega (arith, same, many, most);
   few = let f = made.few in omega (arith, f, most);
 }
-
--- ---- what is to be done
-
-pub number_order : (number calls clients : ℕ) → IsOrder (by_number number calls clients)
-number_order number calls clients = record { one = one; refusals = λ status bad. absurd bad }
-  where
-    one : (a b : Result Planned Status) → by_number number calls clients a → by_number number calls clients b → a ≡ b
-    one (Ok a) (Ok b) is_a is_b = ap (λ (p : Planned). Ok p) (is_a ∙ sym is_b)
-    one (Ok a) (Err b) is_a is_b = absurd is_b
-    one (Err a) b is_a is_b = absurd is_a

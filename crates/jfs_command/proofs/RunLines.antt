@@ -35,7 +35,8 @@ use Rattle.jfs_command.specs.Held.{Held, Work, ChangesNothing}
 use Rattle.jfs_command.specs.Meaning.{Answer, refused, work_of}
 use Rattle.jfs_command.specs.Redo.{redone_text, is_clean, is_mounted, MountedSays, is_foreign, is_bad, breaks_maps, end_of as redo_end}
 use Rattle.jfs_command.specs.Superblock.{AfterState}
-use Rattle.jfs_command.specs.Run.{Planned, whole_text, AreReplies, runs, breaks, Start, cleaned, is_ready, IsRedoneBy, BeginsOn, as_it_is, as_redone, behind, ReadySays, begins, not_redone, LinesSay, HasBegunRedo, RunsOutOn, end_of, text_before, text_of, Tells, DoesOn, StartEnds, DoesLines, LinesEnd}
+use Rattle.jfs_command.specs.Order.{Planned}
+use Rattle.jfs_command.specs.Run.{whole_text, AreReplies, runs, breaks, Start, cleaned, is_ready, IsRedoneBy, BeginsOn, as_it_is, as_redone, behind, ReadySays, begins, not_redone, LinesSay, HasBegunRedo, RunsOutOn, end_of, text_before, text_of, Tells, DoesOn, StartEnds, DoesLines, LinesEnd}
 use Rattle.jfs_command.proofs.RedoMounted.{not_clean}
 
 -- ---- what became of all lines, or of none, became of a front of them

@@ -24,7 +24,8 @@ use Rattle.jfs_command.specs.Redo.{redone_text, is_clean, is_mounted, MountedSay
 use Rattle.jfs_command.specs.declared.printed.Printed.{Printed}
 use Rattle.jfs_command.specs.Scripts.{ScriptSays, SayFrom, ScriptsSay}
 use Rattle.jfs_command.specs.Superblock.{superblock_of, AfterRules, AfterState, AfterSuperblock}
-use Rattle.jfs_command.specs.Run.{Planned, Order, IsOrder, by_scripts, CleanSays, runs, breaks, Start, is_ready, IsRedoneBy, BeginsOn, as_it_is, as_redone, behind, ReadySays, begins, not_redone, LinesSay, RunSays, refuses, takes, RunSaysOneThing, IsOfScripts, LooksAtReady, LooksAtRun}
+use Rattle.jfs_command.specs.Order.{Planned, Order, by_scripts, by_number, Asks}
+use Rattle.jfs_command.specs.Run.{CleanSays, runs, breaks, Start, is_ready, IsRedoneBy, BeginsOn, as_it_is, as_redone, behind, ReadySays, begins, not_redone, LinesSay, RunSays, refuses, takes, RunSaysOneThing, IsOfScripts, LooksAtReady, LooksAtRun}
 use Rattle.jfs_command.proofs.SuperblockLemmas.{SamePage8, same_after, one_after, next_after, one_after_state}
 use Rattle.jfs_command.proofs.RedoSaid.{long, same_commits, once, mounted_same, one_mounted, mounted_told}
 use Rattle.jfs_command.proofs.RedoMounted.{not_clean}
@@ -120,22 +121,30 @@ ok_of a b e = cc
 err_of : {X Y : Type 0} (a b : Y) → ◌≡◌ {A = Result X Y} (Err a) (Err b) → a ≡ b
 err_of a b e = cc
 
-by_scripts_is : (texts : List (List ℕ)) → IsOrder (by_scripts texts)
-by_scripts_is texts = record { one = one; refusals = refused_scripts texts }
+-- there is one thing to be done, or one refusal of scripts
+pub record IsOrder (order : Order) : Type 0 where
+  pub one : (a b : Result Planned Status) → Asks order a → Asks order b → a ≡ b
+  pub refusals : (status : Status) → Asks order (Err status) → IsOfScripts status
+
+pub order_is : (order : Order) → IsOrder order
+order_is (by_scripts texts) = record { one = one; refusals = refused_scripts texts }
   where
-    one : (a b : Result Planned Status) → by_scripts texts a → by_scripts texts b → a ≡ b
+    one : (a b : Result Planned Status) → Asks (by_scripts texts) a → Asks (by_scripts texts) b → a ≡ b
     one (Ok a) (Ok b) is_a is_b = ap (λ (p : Planned). Ok p) (planned_is a b (let same = one_scripts texts (Ok a.plan) (Ok b.plan) is_a.0 is_b.0 in ok_of a.plan b.plan same) (is_a.1 ∙ sym is_b.1))
     one (Ok a) (Err b) is_a is_b = let same = one_scripts texts (Ok a.plan) (Err b) is_a.0 is_b in absurd cc
     one (Err a) (Ok b) is_a is_b = let same = one_scripts texts (Err a) (Ok b.plan) is_a is_b.0 in absurd cc
     one (Err a) (Err b) is_a is_b = ap (λ (status : Status). Err status) (let same = one_scripts texts (Err a) (Err b) is_a is_b in err_of a b same)
+order_is (by_number number calls clients) = record { one = one; refusals = λ status bad. absurd bad }
+  where
+    one : (a b : Result Planned Status) → Asks (by_number number calls clients) a → Asks (by_number number calls clients) b → a ≡ b
+    one (Ok a) (Ok b) is_a is_b = ap (λ (p : Planned). Ok p) (is_a ∙ sym is_b)
+    one (Ok a) (Err b) is_a is_b = absurd is_b
+    one (Err a) b is_a is_b = absurd is_a
 
-pub scripts_order : (texts : List (List ℕ)) → IsOrder (by_scripts texts)
-scripts_order texts = by_scripts_is texts
-
-one_refusal : (order : Order) (is : IsOrder order) (a b : Status) → order (Err a) → order (Err b) → a ≡ b
+one_refusal : (order : Order) (is : IsOrder order) (a b : Status) → Asks order (Err a) → Asks order (Err b) → a ≡ b
 one_refusal order is a b is_a is_b = err_of a b (is.one (Err a) (Err b) is_a is_b)
 
-never : (order : Order) (is : IsOrder order) (status : Status) (p : Planned) → order (Err status) → order (Ok p) → ⊥
+never : (order : Order) (is : IsOrder order) (status : Status) (p : Planned) → Asks order (Err status) → Asks order (Ok p) → ⊥
 never order is status p bad good = let one = is.one (Err status) (Ok p) bad good in absurd cc
 
 -- ---- a clean volume, by the rules of a mount
@@ -244,7 +253,7 @@ looked tells p a b answer same said =
     same_after a b (LinesSay tells p a.image) (LinesSay tells p b.image) answer (page8_of a b same)
     (λ accepted said. same_lines tells p (superblock_of a) a.image b.image answer (long (superblock_of a) a.pages accepted) (λ told ready n. same.each n (inr (accepted, ready))) said) said
 
-taken_look : (order : Order) (a b : Held) (p : Planned) → order (Ok p) → LooksSame (LooksAtRun order a) a b → LooksSame (LooksAtReady a) a b
+taken_look : (order : Order) (a b : Held) (p : Planned) → Asks order (Ok p) → LooksSame (LooksAtRun order a) a b → LooksSame (LooksAtReady a) a b
 taken_look order a b p good same = record { pages = same.pages; each = λ n looks. same.each n ((p, good), looks) }
 
 pub same_run : (tells : Type 0) (order : Order) (a b : Held) (answer : Answer) → LooksSame (LooksAtRun order a) a b → RunSays tells order a answer → RunSays tells order b answer
@@ -296,4 +305,4 @@ one_run tells order one a b x y same judged (takes p good said) (takes q good' s
     one_taken tells p a b x y (taken_look order a b p good same) judged said (subst (λ (r : Planned). AfterSuperblock b (LinesSay tells r b.image) y) is said')
 
 pub one_thing : RunSaysOneThing
-one_thing scripts held a b said also = one_run ⊤ (by_scripts scripts) (scripts_order scripts) held held a b (record { pages = refl; each = λ n _. refl }) (inl tt) said also
+one_thing scripts held a b said also = one_run ⊤ (by_scripts scripts) (order_is (by_scripts scripts)) held held a b (record { pages = refl; each = λ n _. refl }) (inl tt) said also

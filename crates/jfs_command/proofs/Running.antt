@@ -34,12 +34,13 @@ use Rattle.jfs_command.specs.Redo.{is_clean, is_mounted}
 use Rattle.jfs_command.specs.Scripts.{ScriptsEnd}
 use Rattle.jfs_command.specs.Superblock.{superblock_of, AfterRules, Looks}
 use Rattle.jfs_command.specs.Top.{PerformsBy}
-use Rattle.jfs_command.specs.Run.{Planned, Order, IsOrder, IsOfScripts, by_scripts, front_text, whole_text, calls_of, Start, cleaned, is_ready, IsRedoneBy, BeginsOn, as_it_is, as_redone, AreReplies, CallsNone, MayBegin, LinesSay, RunSays, refuses, takes, HasRun, HasOnlyRedone, BeginsOnRedone, Runs, Spares, HasBegunRedo, FailsOn, RunsOutOn, Stopped as StopsBy, HasFailed, HasRunOut, DoesLines, LinesEnd, run_meaning}
+use Rattle.jfs_command.specs.Order.{Planned, Order, by_scripts, Asks}
+use Rattle.jfs_command.specs.Run.{IsOfScripts, front_text, whole_text, calls_of, Start, cleaned, is_ready, IsRedoneBy, BeginsOn, as_it_is, as_redone, AreReplies, CallsNone, MayBegin, LinesSay, RunSays, refuses, takes, HasRun, HasOnlyRedone, BeginsOnRedone, Runs, Spares, HasBegunRedo, FailsOn, RunsOutOn, Stopped as StopsBy, HasFailed, HasRunOut, DoesLines, LinesEnd, run_meaning}
 use Rattle.jfs_command.proofs.SuperblockLemmas.{same_first}
 use Rattle.jfs_command.proofs.Evidence.{held_as, some_held, has_page8}
 use Rattle.jfs_command.proofs.Looking.{ShowsSame, faults_of, ends_as, Seen, seen, goes_on}
 use Rattle.jfs_command.proofs.RedoSaid.{long}
-use Rattle.jfs_command.proofs.RunSaid.{scripts_order, same_lines, same_run, one_run}
+use Rattle.jfs_command.proofs.RunSaid.{IsOrder, order_is, same_lines, same_run, one_run}
 
 moved : (P : Super → Image → Type 0) (s t : Super) (a b : Image) → s ≡ t → a ≡ b → P s a → P t b
 moved P s t a b is same it = subst (λ (u : Super). P u b) is (subst (λ (i : Image). P s i) same it)
@@ -73,7 +74,7 @@ pub record Ran {D : Type 0} (d : Ghosts D) (old mid new : D) (s : Super) (p : Pl
   pub past : d.tells_crashes → d.past mid ≡ d.past old
   pub ends : LinesEnd d.tells d.tells_crashes p is_left now s (held_of d mid) (work_of outcome (held_of d new)) (faults_of d mid new) outcome.end
 
-module _ {D : Type 0} (d : Ghosts D) (old mid new : D) (s : Super) (p : Planned) (is_left : Bool) (now : Moment) (outcome : Outcome) (order : Order) (is_order : IsOrder order) (good : order (Ok p)) (ran : Ran d old mid new s p is_left now outcome) where
+module _ {D : Type 0} (d : Ghosts D) (old mid new : D) (s : Super) (p : Planned) (is_left : Bool) (now : Moment) (outcome : Outcome) (order : Order) (is_order : IsOrder order) (good : Asks order (Ok p)) (ran : Ran d old mid new s p is_left now outcome) where
   abbrev work : Work
   work = work_of outcome (held_of d new)
 
@@ -225,7 +226,7 @@ module _ {D : Type 0} (d : Ghosts D) (old mid new : D) (s : Super) (p : Planned)
       ends_as d (run_meaning is_left order now) old new outcome found.held (Stopped stops.Memory) is_end found.is (λ sources. (
         record {
           done = stops_by (λ start. RunsOutOn (faults_of d mid new) d.tells p now start work)
-              (λ start. (l : Planned) × order (Ok l) × RunsOutOn (faults_of d old new) d.tells l now start work) (λ start first it. (p, good, runs_out start first it)) did;
+              (λ start. (l : Planned) × Asks order (Ok l) × RunsOutOn (faults_of d old new) d.tells l now start work) (λ start first it. (p, good, runs_out start first it)) did;
           spares = spares ready;
         },
         tt,
@@ -248,7 +249,7 @@ module _ {D : Type 0} (d : Ghosts D) (old new : D) (outcome : Outcome) (same : S
   run_out : (disk : Count) (order : Order) → outcome.text.items ≡ [] → HasRunOut disk d.tells d.tells_crashes order now held (work_of outcome (held_of d new))
   run_out disk order no_text = record { done = inl (no_text, nothing_done); spares = λ none. nothing_done }
 
-  failed : (p : Planned) (order : Order) → order (Ok p) → 9 ≤ d.page_count old → outcome.text.items ≡ [] → HasFailed d.tells d.tells_crashes order now held (work_of outcome (held_of d new))
+  failed : (p : Planned) (order : Order) → Asks order (Ok p) → 9 ≤ d.page_count old → outcome.text.items ≡ [] → HasFailed d.tells d.tells_crashes order now held (work_of outcome (held_of d new))
   failed p order good there no_text = record {
     planned = p;
     taken = good;
@@ -258,7 +259,7 @@ module _ {D : Type 0} (d : Ghosts D) (old new : D) (outcome : Outcome) (same : S
   }
 
 -- the script was read, and the look at the superblock went no further
-pub not_looked : {D : Type 0} (d : Ghosts D) (old new : D) (end : End) (outcome : Outcome) (is_left : Bool) (now : Moment) (p : Planned) (order : Order) (is_order : IsOrder order) → order (Ok p)
+pub not_looked : {D : Type 0} (d : Ghosts D) (old new : D) (end : End) (outcome : Outcome) (is_left : Bool) (now : Moment) (p : Planned) (order : Order) (is_order : IsOrder order) → Asks order (Ok p)
     → (d.tells → ArePages (d.page_count old) (d.image old)) → Looks d.tells (d.page_count old) (d.image old) (faults_of d old new) (Err end) → ShowsSame d old new outcome
     → outcome.text.items ≡ [] → outcome.end ≡ end → Performs d (run_meaning is_left order now) old new outcome
 not_looked d old new (Own (statuses.BadImage number rule value)) outcome is_left now p order is_order good pages (page, is8, number_is, broken, stays) same no_text is_end =
@@ -329,8 +330,8 @@ module _ {D S : Type 0} (d : Ghosts D) (s : SourceMembers S) (is_left : Bool) (n
       → (let e : Result (Vec (Vec Line)) End = Err end in ScriptsEnd texts sources_count e) → PerformsBy d s (λ inputs. run_meaning is_left (by_scripts inputs.scripts) inputs.now) now old new sources later outcome
   not_read (Own status) pages same stays no_text is_end (bad, none) =
       let it = some_held d old pages in
-      performs_by none (comes d old new outcome is_left now (by_scripts texts) (scripts_order texts) (held_as d old it.shown) (refused status) it.is (refused_runs d.tells d.tells_crashes (by_scripts texts) is_left now (held_as d old it.shown) (work_of outcome (held_of d new)) status ((scripts_order texts).refusals status bad) (nothing_done d old new outcome same now it.shown it.is)) no_text
-      (refuses status bad refl) (own_refusal status ((scripts_order texts).refusals status bad)) stays is_end)
+      performs_by none (comes d old new outcome is_left now (by_scripts texts) (order_is (by_scripts texts)) (held_as d old it.shown) (refused status) it.is (refused_runs d.tells d.tells_crashes (by_scripts texts) is_left now (held_as d old it.shown) (work_of outcome (held_of d new)) status ((order_is (by_scripts texts)).refusals status bad) (nothing_done d old new outcome same now it.shown it.is)) no_text
+      (refuses status bad refl) (own_refusal status ((order_is (by_scripts texts)).refusals status bad)) stays is_end)
   not_read (Stopped stops.Scripts) pages same stays no_text is_end rose =
       let it = some_held d old pages in
       ends_by (held_as d old it.shown) (Stopped stops.Scripts) is_end it.is (no_text, (rose, stays, nothing_done d old new outcome same now it.shown it.is))

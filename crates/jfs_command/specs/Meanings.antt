@@ -9,7 +9,8 @@ use Rattle.jfs_command.specs.Log.{log_meaning}
 use Rattle.jfs_command.specs.Check.{check_meaning}
 use Rattle.jfs_command.specs.Redo.{redo_meaning}
 use Rattle.jfs_command.specs.Format.{format_meaning}
-use Rattle.jfs_command.specs.Run.{by_scripts, run_meaning}
+use Rattle.jfs_command.specs.Order.{by_scripts}
+use Rattle.jfs_command.specs.Run.{run_meaning}
 use Rattle.jfs_command.specs.Gen.{gen_meaning}
 
 abbrev pub job_meaning : Job → Inputs → Meaning

@@ -1,6 +1,5 @@
 -- The commands with clients, `run` and `gen`: they redo a volume that is mounted, do the calls of the clients' scripts on it, and unmount it, unless it is to be left mounted. Or they name what is wrong with the scripts, the superblock, the log or the maps.
 use Rattle.std.specs.Prelude.{◌≡◌, ◌⊎◌, ◌<◌, ℕ, ⊤, Bool, true, false, ◌||◌, List, [], ◌++◌, length, Option, Some, None, Result, Ok, Err}
-use Rattle.std.specs.Global.{Vec}
 use Rattle.jfs_bits.specs.declared.descriptor.Moment.{Moment}
 use Rattle.jfs_disk.specs.Image.{Image, page_of}
 use Rattle.jfs_disk.specs.Crash.{DiskState, last_of}
@@ -22,7 +21,6 @@ use Rattle.jfs_run.specs.declared.run.RunEnd.TheVariants as ran
 use Rattle.jfs_run.specs.Calls.{Calls, HaveEntries, AllTold, NoCalls, AllCalled, SomeCalled, any_failed}
 use Rattle.jfs_run.specs.Legal.{IsLegalRun, LeavesImage}
 use Rattle.jfs_run.specs.Run.{StayBeside}
-use Rattle.jfs_run.specs.Tasks.{plan_of}
 use Rattle.jfs_command.specs.declared.status.Status.{Status}
 use Rattle.jfs_command.specs.declared.status.Status.TheVariants as statuses
 use Rattle.jfs_command.specs.declared.status.Stop.{Stop}
@@ -36,37 +34,8 @@ use Rattle.jfs_command.specs.Meaning.{Meaning, Answer, finished, refused}
 use Rattle.jfs_command.specs.Redo.{redone_text, is_clean, is_mounted, Commits, MountedSays}
 use Rattle.jfs_command.specs.declared.printed.Printed.{Printed}
 use Rattle.jfs_command.specs.declared.printed.Printed.TheVariants.{History, Summary}
-use Rattle.jfs_command.specs.Scripts.{ScriptsSay}
+use Rattle.jfs_command.specs.Order.{Planned, Order, by_scripts, Asks, IsTaken}
 use Rattle.jfs_command.specs.Superblock.{superblock_of, LooksAtSuper, AfterState, AfterSuperblock}
-
--- ---- what clients are to do
-
--- The lines of each client, that of the first one first, and what is printed of it.
-pub record Planned : Type 0 where
-  pub plan : List (List Line)
-  pub printed : Printed
-
--- what is to be done, or why that is refused before the disk is looked at
-abbrev pub Order : Type 1
-Order = Result Planned Status → Type 0
-
--- by scripts, of which the history is printed
-abbrev pub by_scripts : List (List ℕ) → Order
-by_scripts scripts (Ok p) = ScriptsSay scripts (Ok p.plan) × (p.printed ≡ History)
-by_scripts scripts (Err status) = ScriptsSay scripts (Err status)
-
--- The clients' numbers have two digits at most.
-abbrev pub IsPrintable : Printed → Type 0
-IsPrintable History = Unit {0}
-IsPrintable (Summary clients) = clients < 99
-
--- scripts as lists of lines, with what is printed of them
-abbrev pub planned : List (Vec Line) → Printed → Planned
-planned scripts printed = record { plan = plan_of scripts; printed = printed }
-
--- it is refused in no way
-abbrev pub IsTaken : Order → Type 0
-IsTaken order = (p : Planned) × order (Ok p)
 
 -- ---- the text
 
@@ -139,8 +108,8 @@ LinesSay tells p image s = AfterState (is_ready s.state.0) s.state.0 (ReadySays 
 
 -- what is answered: scripts that are refused are so by themselves, whatever the disk holds
 pub data RunSays (tells : Type 0) (order : Order) (held : Held) (answer : Answer) : Type 0 where
-  refuses : (status : Status) → order (Err status) → answer ≡ refused status → RunSays tells order held answer
-  takes : (p : Planned) → order (Ok p) → AfterSuperblock held (LinesSay tells p held.image) answer → RunSays tells order held answer
+  refuses : (status : Status) → Asks order (Err status) → answer ≡ refused status → RunSays tells order held answer
+  takes : (p : Planned) → Asks order (Ok p) → AfterSuperblock held (LinesSay tells p held.image) answer → RunSays tells order held answer
 
 -- of scripts and a volume all answers have one status
 abbrev pub RunSaysOneThing : Type 0
@@ -151,11 +120,6 @@ abbrev pub IsOfScripts : Status → Type 0
 IsOfScripts (statuses.BadScript client line rule) = Unit {0}
 IsOfScripts (statuses.TooMuch count) = Unit {0}
 IsOfScripts _ = ⊥
-
--- There is one thing to be done, or one refusal of scripts.
-pub record IsOrder (order : Order) : Type 0 where
-  pub one : (a b : Result Planned Status) → order a → order b → a ≡ b
-  pub refusals : (status : Status) → order (Err status) → IsOfScripts status
 
 -- ---- what is done
 
@@ -206,7 +170,7 @@ BeginsOnRedone tells s image start = (is_mounted s.state.0 ≡ true) × BeginsOn
 -- What was refused is as it was; or the volume was redone, and a rule of a mount is broken then.
 abbrev pub Runs : Status → (tells crashes : Type 0) → Order → Bool → Moment → Held → Work → Type 0
 Runs statuses.Done tells crashes order is_left now held work =
-    (p : Planned) × order (Ok p) × (start : Start) × BeginsOn tells (superblock_of held) held.image start × HasRun tells crashes p is_left now start work
+    (p : Planned) × Asks order (Ok p) × (start : Start) × BeginsOn tells (superblock_of held) held.image start × HasRun tells crashes p is_left now start work
 Runs (statuses.BadImage page rule value) tells crashes order is_left now held work =
     ChangesNothing tells crashes held work ⊎ ((start : Start) × BeginsOnRedone tells (superblock_of held) held.image start × HasOnlyRedone tells crashes start work)
 Runs _ tells crashes order is_left now held work = ChangesNothing tells crashes held work
@@ -251,13 +215,13 @@ Stopped tells crashes calls s held work =
 
 pub record HasFailed (tells crashes : Type 0) (order : Order) (now : Moment) (held : Held) (work : Work) : Type 0 where
   pub planned : Planned
-  pub taken : order (Ok planned)
+  pub taken : Asks order (Ok planned)
   pub looked : (n : ℕ) × LooksAtRun order held n
   pub done : Stopped tells crashes (λ start. FailsOn tells planned now start work) (superblock_of held) held work
   pub spares : Spares tells crashes order held work
 
 pub record HasRunOut (disk : Count) (tells crashes : Type 0) (order : Order) (now : Moment) (held : Held) (work : Work) : Type 0 where
-  pub done : Stopped tells crashes (λ start. (p : Planned) × order (Ok p) × RunsOutOn disk tells p now start work) (superblock_of held) held work
+  pub done : Stopped tells crashes (λ start. (p : Planned) × Asks order (Ok p) × RunsOutOn disk tells p now start work) (superblock_of held) held work
   pub spares : Spares tells crashes order held work
 
 abbrev pub RunStops : Stop → Faults → (tells crashes : Type 0) → Order → Moment → Held → Work → Type 0

@@ -2,7 +2,8 @@
 
 ghost use Rattle.std.specs.Prelude.{◌≡◌, ◌≤◌, IfOk};
 ghost use Rattle.jfs_run.specs.Tasks.{plan_of, IsPlan};
-ghost use Rattle.jfs_command.specs.Gen.{scripts_from, gen_meaning};
+ghost use Rattle.jfs_command.specs.Order.{scripts_from};
+ghost use Rattle.jfs_command.specs.Gen.{gen_meaning};
 ghost use Rattle.jfs_command.specs.Meaning.{Performs};
 
 use crate::outcome::{End, Outcome};
@@ -61,7 +62,8 @@ fn generated(
 {
     let mut plan = Vec::new(alloc);
     for i in 0..clients {
-        plan.push(workload(alloc, number, i + 1, calls)?)?;
+        let script = workload(alloc, number, i + 1, calls)?;
+        plan.push(script)?;
     }
     Ok(plan)
 }

@@ -1,6 +1,6 @@
 //! The command `run`, and what `gen` has in common with it: the calls of clients on a volume that is clean, or is mounted and redone first.
 
-ghost use Rattle.std.specs.Prelude.{◌≡◌, ◌≤◌, ◌<◌, ◌^◌, ◌++◌, ℕ, true, List, length, Ok, IfOk, OnOk};
+ghost use Rattle.std.specs.Prelude.{◌≡◌, ◌≤◌, ◌<◌, ◌^◌, ◌++◌, ℕ, true, [], List, length, Ok, IfOk, OnOk};
 ghost use Rattle.jfs_disk.specs.Image.{page_of};
 ghost use Rattle.jfs_super.specs.Rules.{IsAccepted};
 ghost use Rattle.jfs_super.specs.Super.{FitsSuper, super_of};
@@ -12,7 +12,8 @@ ghost use Rattle.jfs_command.specs.Inputs.{source_faults};
 ghost use Rattle.jfs_command.specs.Meaning.{Performs, work_of};
 ghost use Rattle.jfs_command.specs.Top.{PerformsBy};
 ghost use Rattle.jfs_command.specs.Redo.{is_mounted};
-ghost use Rattle.jfs_command.specs.Run.{Order, IsOrder, planned, by_scripts, IsPrintable, whole_text, front_text, end_of, text_before, text_of, Tells, StartEnds, LinesEnd, run_meaning};
+ghost use Rattle.jfs_command.specs.Order.{Order, Asks, planned, by_scripts, IsPrintable};
+ghost use Rattle.jfs_command.specs.Run.{whole_text, front_text, end_of, text_before, text_of, Tells, StartEnds, LinesEnd, run_meaning};
 
 use crate::outcome::{End, Outcome};
 use crate::perform::Performed;
@@ -45,6 +46,7 @@ pub fn run_scripts<D: Disk, S: Source>(
     ensures pages { D.page_count result.disk ≡ D.page_count disk }
     ensures later { D.fault_count disk ≤ D.fault_count result.disk }
     ensures sources { source_faults S.Source scripts.old.items ≤ source_faults S.Source scripts.new.items }
+    ensures none { scripts.old.items ≡ [] → scripts.new ≡ scripts.old }
 {
     match read_scripts(alloc, scripts) {
         Ok(plan) => run_on_volume(alloc, disk, plan.as_slice(), Printed::History, now, is_left),
@@ -66,7 +68,7 @@ pub fn run_on_volume<D: Disk>(
 ) -> Performed<D>
     requires plan { IsPlan (plan_of plan.now) }
     requires printed { IsPrintable printed }
-    ensures meaning { (order : Order) → IsOrder order → order (Ok (planned plan.now printed)) → Performs D.Disk (run_meaning is_left order now) disk result.disk result.outcome }
+    ensures meaning { (order : Order) → Asks order (Ok (planned plan.now printed)) → Performs D.Disk (run_meaning is_left order now) disk result.disk result.outcome }
     ensures pages { D.page_count result.disk ≡ D.page_count disk }
     ensures later { D.fault_count disk ≤ D.fault_count result.disk }
 {

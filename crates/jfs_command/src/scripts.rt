@@ -1,6 +1,6 @@
 //! The scripts of a run.
 
-ghost use Rattle.std.specs.Prelude.{◌≡◌, ◌≤◌, ◌<◌, ◌^◌, ℕ, List, length, map, IfOk};
+ghost use Rattle.std.specs.Prelude.{◌≡◌, ◌≤◌, ◌<◌, ◌^◌, ℕ, [], List, length, map, IfOk};
 ghost use Rattle.jfs_run.specs.Tasks.{plan_of, IsPlan};
 ghost use Rattle.jfs_command.specs.Inputs.{source_faults};
 ghost use Rattle.jfs_command.specs.Scripts.{AreLines, end_of, OneEnds, ScriptsEnd};
@@ -21,6 +21,7 @@ pub fn read_scripts<S: Source>(alloc: Global, scripts: &mut Vec<S>) -> Result<Ve
     ensures ends { (texts : List (List ℕ)) × (length texts ≡ length scripts.old.items) × (S.tells → texts ≡ map S.remaining scripts.old.items)
         × ScriptsEnd texts (record { before = source_faults S.Source scripts.old.items; now = source_faults S.Source scripts.new.items }) result }
     ensures plan { IfOk result (λ plan. IsPlan (plan_of plan.items)) }
+    ensures none { scripts.old.items ≡ [] → scripts.new ≡ scripts.old }
     ensures later { source_faults S.Source scripts.old.items ≤ source_faults S.Source scripts.new.items }
 {
     let count = scripts.len();

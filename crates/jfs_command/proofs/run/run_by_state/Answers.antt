@@ -1,7 +1,7 @@
 use Rattle.jfs_command.specs.Held.{held_of}
 use Rattle.jfs_command.specs.Meaning.{work_of}
 use Rattle.jfs_command.specs.Redo.{is_clean}
-use Rattle.jfs_command.specs.Run.{planned}
+use Rattle.jfs_command.specs.Order.{planned}
 use Rattle.jfs_command.proofs.Looking.{faults_of}
 use Rattle.jfs_command.proofs.RunLines.{was, from_clean}
 use Rattle.jfs_command.proofs.run.run_by_state.Goals as goal

@@ -5,7 +5,8 @@ use Rattle.jfs_run.specs.Run.{RunIs, seen}
 use Rattle.jfs_run.specs.Legal.{LeavesImage, IfUnmounted}
 use Rattle.jfs_command.specs.Held.{held_of}
 use Rattle.jfs_run.specs.Tasks.{plan_of}
-use Rattle.jfs_command.specs.Run.{planned, AreReplies, Tells}
+use Rattle.jfs_command.specs.Order.{planned}
+use Rattle.jfs_command.specs.Run.{AreReplies, Tells}
 use Rattle.jfs_command.proofs.RunLines.{ended}
 use Rattle.jfs_command.proofs.run.run_from.Goals as goal
 

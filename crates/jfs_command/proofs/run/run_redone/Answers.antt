@@ -4,7 +4,8 @@ use Rattle.jfs_command.specs.declared.outcome.End.{End}
 use Rattle.jfs_command.specs.Held.{Work, held_of}
 use Rattle.jfs_command.specs.Meaning.{work_of}
 use Rattle.jfs_command.specs.Redo.{end_of}
-use Rattle.jfs_command.specs.Run.{planned, cleaned, LinesEnd}
+use Rattle.jfs_command.specs.Order.{planned}
+use Rattle.jfs_command.specs.Run.{cleaned, LinesEnd}
 use Rattle.jfs_command.proofs.Looking.{faults_of}
 use Rattle.jfs_command.proofs.RunLines.{accepted_clean, redone_by, from_redone, stopped, same_empty}
 use Rattle.jfs_command.proofs.run.run_redone.Goals as goal

@@ -1,4 +1,4 @@
-use Rattle.std.proofs.Common.{arith}
+use Rattle.std.proofs.Common.{length, ap, arith}
 use Rattle.std.proofs.lemmas.Result.{err_from_is_err_and}
 use Rattle.jfs_command.proofs.Scripted.{one_read, one_failed, all_read, plan_is, same_faults, grows, too_many, no_memory}
 use Rattle.jfs_command.proofs.scripts.read_scripts.Goals as goal
@@ -37,6 +37,7 @@ loop-i-preserved g c =
           c.in_ok-lines.lines ends.0 ends.1 ends.2.0 ends.2.1 c.in_ok-lines.ensures.lines);
       count = inv.count;
       few = inv.few;
+      same = λ none. let e = ap length none in absurd (omega (arith, e, inv.count, c.loop-i-test.true));
     }
 
 pub returns-clause-ends : goal.returns-clause-ends
@@ -49,3 +50,9 @@ returns-clause-plan g c = plan_is g.S.Source c.args.scripts.now.items c.loop-i.s
 
 pub returns-clause-later : goal.returns-clause-later
 returns-clause-later g c = same_faults g.S.Source c.args.scripts.now.items c.loop-i.scripts.items c.loop-i.i c.loop-i.plan.items c.loop-i.invariant.read
+
+pub returns-in_err-lines-clause-none : goal.returns-in_err-lines-clause-none
+returns-in_err-lines-clause-none g c = λ none. let e = ap length none in absurd (omega (arith, e, c.loop-i.invariant.count, c.loop-i-test.true))
+
+pub returns-in-Err-clause-none : goal.returns-in-Err-clause-none
+returns-in-Err-clause-none g c = λ none. let e = ap length none in absurd (omega (arith, e, c.loop-i.invariant.count, c.loop-i-test.true))
