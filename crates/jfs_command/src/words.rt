@@ -35,9 +35,14 @@ pub enum Job {
     /// Redo the volume of the image by its log.
     Redo,
     /// Write an empty volume over all pages of the image; behind the label stand zeros.
-    Format { uuid: Uuid, label: [u8; 16] },
+    Format {
+        uuid: Uuid,
+        label: [u8; 16],
+    },
     /// Do the calls of scripts on the volume of the image, each for a client, and unmount it, unless it is to be left mounted.
-    Run { is_left: bool },
+    Run {
+        is_left: bool,
+    },
     /// Do so many generated calls of so many clients on the volume of the image, and unmount it.
     Generate {
         number: u64,

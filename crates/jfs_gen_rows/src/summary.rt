@@ -80,7 +80,9 @@ fn told(alloc: Global, number: u64, client: u32, calls: u32) -> Option<bool> {
         }
     }
     let count = entries.len();
-    let wanted = format!(in alloc; "gen {count} entries, {refused} refused, {files} files, {bytes} bytes\n").ok()?;
+    let wanted = format!(in alloc;
+        "gen {count} entries, {refused} refused, {files} files, {bytes} bytes\n"
+    ).ok()?;
     Some(text.as_slice() == wanted.as_bytes())
 }
 

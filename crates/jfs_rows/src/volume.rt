@@ -146,11 +146,7 @@ fn sources(alloc: Global, places: &[u32], script: Script<'_>) -> Result<Vec<MemS
 }
 
 /// A source of each of these texts, one a place; behind the last one none is left.
-fn sources_of(
-    alloc: Global,
-    places: &[u32],
-    texts: &[&str],
-) -> Result<Vec<MemSource>, AllocError>
+fn sources_of(alloc: Global, places: &[u32], texts: &[&str]) -> Result<Vec<MemSource>, AllocError>
     ensures { IfOk result (λ sources. length sources.items ≡ length places.now) }
 {
     let mut sources = Vec::new(alloc);

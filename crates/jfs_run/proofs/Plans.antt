@@ -173,8 +173,7 @@ each_front : (n k : ℕ) (plan : List (List Line)) (history : List Entry) → Ar
 each_front n k [] history are = tt
 each_front n k (lines ∷ more) history are =
     let p = parted k (take n lines) (first_tasks (n - length lines) (suc k) more) history (split n k lines more history are) in
-    let mine : entries_of k history ≡ p.own = p.its ∙ ap (λ (es : List Entry). p.own ++ es) (none_of_it k p.later (from_later (n - length lines) (suc k) more p.later p.others)) ∙ append-nil p.own in
-    (
+    let mine : entries_of k history ≡ p.own = p.its ∙ ap (λ (es : List Entry). p.own ++ es) (none_of_it k p.later (from_later (n - length lines) (suc k) more p.later p.others)) ∙ append-nil p.own in (
       subst (λ (es : List Entry). BeginWith k lines es) (sym mine) (begins k n lines p.own p.are),
       same_each BeginWith (suc k) more history p.later (λ j le. p.all_own j (omega (arith, le))) (each_front (n - length lines) (suc k) more p.later p.others),
     )
