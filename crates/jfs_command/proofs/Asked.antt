@@ -1,75 +1,147 @@
--- How many scripts a command names that words ask for.
-use Rattle.std.proofs.Common.{◌≡◌, ◌-◌, ℕ, suc, Bool, true, false, if◌then◌else◌, List, [], ◌∷◌, length, codes, Option, Some, None, Result, Ok, Err, refl, sym, ap, subst, ◌∙◌, arith}
+-- What words ask for is within its limits, and how many scripts it names.
+use Rattle.std.proofs.Common.{◌≡◌, ◌≤◌, ◌<◌, ◌+◌, ◌-◌, ◌^◌, ℕ, zero, suc, Bool, true, false, if◌then◌else◌, List, [], ◌∷◌, length, codes, Option, Some, None, Result, Ok, Err, refl, sym, ap, subst, ◌∙◌, arith}
+use Rattle.std.specs.Prelude.{nat_le, nat_lt, ◌==◌, ◌&&◌}
 use Rattle.std.specs.List.{range_with_len}
 use Rattle.std.specs.Str.{bytes_eq}
+use Rattle.std.proofs.lemmas.Bool.{leb-true}
 use Rattle.uuid.specs.Text.{parsed}
+use Rattle.jfs_script.specs.Number.{numeral}
 use Rattle.jfs_command.specs.declared.words.Usage.{Usage}
 use Rattle.jfs_command.specs.declared.words.Command.{Command}
 use Rattle.jfs_command.specs.declared.words.Job.{Job}
-use Rattle.jfs_command.specs.declared.words.Job.TheVariants.{Super, Log, Check, Redo}
-use Rattle.jfs_command.specs.Words.{is_name, is_label, on_image, run_at, image_alone, with_label, after_uuid, with_uuid, image_and_uuid, image_and_script, leave_and_rest, command_of, script_words, scripts_asked, scripts_taken}
+use Rattle.jfs_command.specs.declared.words.Job.TheVariants.{Super, Log, Check, Redo, Generate}
+use Rattle.jfs_command.specs.Words.{is_name, is_label, on_image, run_at, names_in_front, image_alone, with_label, after_uuid, with_uuid, image_and_uuid, with_scripts, image_and_scripts, leave_and_rest, begins_well, at_most, number_up_to, generate, after_clients, with_clients, after_calls, with_calls, after_number, with_number, image_and_numbers, command_of, script_words, scripts_asked, IsWithin}
 
 abbrev usage : ℕ → Result Command Usage
 usage word = Err (record { word = word })
 
--- it names as many as it takes
-abbrev pub NamesAll : Result Command Usage → Type 0
-NamesAll (Ok command) = length (script_words command) ≡ scripts_taken command.job
-NamesAll (Err usage) = Unit {0}
+-- its numbers are within their limits, and the places of its scripts have 32 bits
+abbrev pub AreWithin : Result Command Usage → Type 0
+AreWithin (Ok command) = IsWithin command.job × (command.scripts.end < 2 ^ 32)
+AreWithin (Err usage) = Unit {0}
 
 -- whichever is chosen of two
-either : (b : Bool) (x y : Result Command Usage) → NamesAll x → NamesAll y → NamesAll (if b then x else y)
+either : (b : Bool) (x y : Result Command Usage) → AreWithin x → AreWithin y → AreWithin (if b then x else y)
 either true x y one other = one
 either false x y one other = other
 
-alone : (job : Job) (words : List (List ℕ)) → scripts_taken job ≡ 0 → NamesAll (image_alone job words)
-alone job [] none = tt
-alone job (image ∷ []) none = either (is_name image) (Ok (on_image job)) (usage 2) (sym none) tt
-alone job (image ∷ more ∷ rest) none = either (is_name image) (usage 3) (usage 2) tt tt
+alone : (job : Job) (words : List (List ℕ)) → IsWithin job → AreWithin (image_alone job words)
+alone job [] is = tt
+alone job (image ∷ []) is = either (is_name image) (Ok (on_image job)) (usage 2) (is, omega arith) tt
+alone job (image ∷ more ∷ rest) is = either (is_name image) (usage 3) (usage 2) tt tt
 
-labelled : (uuid : List ℕ) (words : List (List ℕ)) → NamesAll (with_label uuid words)
-labelled uuid [] = refl
-labelled uuid (label ∷ []) = either (is_label label) _ (usage 4) refl tt
+labelled : (uuid : List ℕ) (words : List (List ℕ)) → AreWithin (with_label uuid words)
+labelled uuid [] = (tt, omega arith)
+labelled uuid (label ∷ []) = either (is_label label) _ (usage 4) (tt, omega arith) tt
 labelled uuid (label ∷ more ∷ rest) = either (is_label label) (usage 5) (usage 4) tt tt
 
-after : (uuid : Option (List ℕ)) (words : List (List ℕ)) → NamesAll (after_uuid uuid words)
+after : (uuid : Option (List ℕ)) (words : List (List ℕ)) → AreWithin (after_uuid uuid words)
 after None words = tt
 after (Some uuid) words = labelled uuid words
 
-named : (words : List (List ℕ)) → NamesAll (with_uuid words)
+named : (words : List (List ℕ)) → AreWithin (with_uuid words)
 named [] = tt
 named (uuid ∷ rest) = after (parsed uuid) rest
 
-formats : (words : List (List ℕ)) → NamesAll (image_and_uuid words)
+formats : (words : List (List ℕ)) → AreWithin (image_and_uuid words)
 formats [] = tt
 formats (image ∷ rest) = either (is_name image) (with_uuid rest) (usage 2) (named rest) tt
 
-one_place : (place : ℕ) → length (range_with_len (suc place) (suc (suc place) - suc place)) ≡ 1
-one_place place = let one : suc (suc place) - suc place ≡ 1 = omega arith in ap (λ (n : ℕ). length (range_with_len (suc place) n)) one
+scripted : (is_left : Bool) (at count names : ℕ) → AreWithin (with_scripts is_left at count names)
+scripted is_left at count names = either (nat_lt 0 count && names == count) (Ok (run_at is_left at count)) _ (tt, omega arith) tt
 
-runs : (is_left : Bool) (place : ℕ) (words : List (List ℕ)) → NamesAll (image_and_script is_left place words)
-runs is_left place [] = tt
-runs is_left place (image ∷ []) = either (is_name image) (usage (suc place)) (usage place) tt tt
-runs is_left place (image ∷ script ∷ []) =
-    either (is_name image) (if is_name script then Ok (run_at is_left place) else usage (suc place)) (usage place) (either (is_name script) (Ok (run_at is_left place)) (usage (suc place)) (one_place place) tt) tt
-runs is_left place (image ∷ script ∷ more ∷ rest) =
-    either (is_name image) (if is_name script then usage (suc (suc place)) else usage (suc place)) (usage place) (either (is_name script) (usage (suc (suc place))) (usage (suc place)) tt tt) tt
+runs : (is_left : Bool) (at : ℕ) (words : List (List ℕ)) → AreWithin (image_and_scripts is_left at words)
+runs is_left at [] = tt
+runs is_left at (image ∷ scripts) = either (is_name image) (with_scripts is_left at (length scripts) (names_in_front scripts)) (usage at) (scripted is_left at (length scripts) (names_in_front scripts)) tt
 
-leaves : (words : List (List ℕ)) → NamesAll (leave_and_rest words)
+leaves : (words : List (List ℕ)) → AreWithin (leave_and_rest words)
 leaves [] = tt
-leaves (first ∷ rest) = either (bytes_eq first (codes "--leave")) (image_and_script true 3 rest) (image_and_script false 2 (first ∷ rest)) (runs true 3 rest) (runs false 2 (first ∷ rest))
+leaves (first ∷ rest) = either (bytes_eq first (codes "--leave")) (image_and_scripts true 3 rest) (image_and_scripts false 2 (first ∷ rest)) (runs true 3 rest) (runs false 2 (first ∷ rest))
 
-pub names_all : (words : List (List ℕ)) → NamesAll (command_of words)
-names_all [] = tt
-names_all (first ∷ rest) =
-    either (bytes_eq first (codes "super")) _ _ (alone Super rest refl)
-    (either (bytes_eq first (codes "log")) _ _ (alone Log rest refl)
-    (either (bytes_eq first (codes "check")) _ _ (alone Check rest refl)
-    (either (bytes_eq first (codes "redo")) _ _ (alone Redo rest refl)
+-- ---- numbers
+
+-- what a number may be
+abbrev IsUpTo : ℕ → Option ℕ → Type 0
+IsUpTo most None = Unit {0}
+IsUpTo most (Some n) = n ≤ most
+
+by_limit : (most n : ℕ) (b : Bool) → nat_le n most ≡ b → IsUpTo most (if b then Some n else None)
+by_limit most n true is = leb-true n most is
+by_limit most n false is = tt
+
+up_to : (most : ℕ) (o : Option ℕ) → IsUpTo most (at_most most o)
+up_to most None = tt
+up_to most (Some n) = by_limit most n (nat_le n most) refl
+
+by_front : (most : ℕ) (b : Bool) (o : Option ℕ) → IsUpTo most (if b then at_most most o else None)
+by_front most true o = up_to most o
+by_front most false o = tt
+
+is_up_to : (most : ℕ) (word : List ℕ) → IsUpTo most (number_up_to most word)
+is_up_to most word = by_front most (begins_well word) (numeral 10 word)
+
+generates : (number calls clients : ℕ) (words : List (List ℕ)) → calls ≤ 4094 → 1 ≤ clients → clients ≤ 16 → AreWithin (generate number calls clients words)
+generates number calls clients [] few one most = ((few, one, most), omega arith)
+generates number calls clients (more ∷ rest) few one most = tt
+
+by_one : (number calls clients : ℕ) (words : List (List ℕ)) (b : Bool) → nat_le 1 clients ≡ b → calls ≤ 4094 → clients ≤ 16 → AreWithin (if b then generate number calls clients words else usage 5)
+by_one number calls clients words true is few most = generates number calls clients words few (leb-true 1 clients is) most
+by_one number calls clients words false is few most = tt
+
+some_clients : (number calls : ℕ) (o : Option ℕ) (words : List (List ℕ)) → calls ≤ 4094 → IsUpTo 16 o → AreWithin (after_clients number calls o words)
+some_clients number calls None words few most = tt
+some_clients number calls (Some clients) words few most = by_one number calls clients words (nat_le 1 clients) refl few most
+
+clients : (number calls : ℕ) (words : List (List ℕ)) → calls ≤ 4094 → AreWithin (with_clients number calls words)
+clients number calls [] few = tt
+clients number calls (word ∷ rest) few = some_clients number calls (number_up_to 16 word) rest few (is_up_to 16 word)
+
+some_calls : (number : ℕ) (o : Option ℕ) (words : List (List ℕ)) → IsUpTo 4094 o → AreWithin (after_calls number o words)
+some_calls number None words few = tt
+some_calls number (Some calls) words few = clients number calls words few
+
+calls : (number : ℕ) (words : List (List ℕ)) → AreWithin (with_calls number words)
+calls number [] = tt
+calls number (word ∷ rest) = some_calls number (number_up_to 4094 word) rest (is_up_to 4094 word)
+
+some_number : (o : Option ℕ) (words : List (List ℕ)) → AreWithin (after_number o words)
+some_number None words = tt
+some_number (Some number) words = calls number words
+
+numbers : (words : List (List ℕ)) → AreWithin (with_number words)
+numbers [] = tt
+numbers (word ∷ rest) = some_number (number_up_to (2 ^ 64 - 1) word) rest
+
+generated : (words : List (List ℕ)) → AreWithin (image_and_numbers words)
+generated [] = tt
+generated (image ∷ rest) = either (is_name image) (with_number rest) (usage 2) (numbers rest) tt
+
+all_within : (words : List (List ℕ)) → AreWithin (command_of words)
+all_within [] = tt
+all_within (first ∷ rest) =
+    either (bytes_eq first (codes "super")) _ _ (alone Super rest tt)
+    (either (bytes_eq first (codes "log")) _ _ (alone Log rest tt)
+    (either (bytes_eq first (codes "check")) _ _ (alone Check rest tt)
+    (either (bytes_eq first (codes "redo")) _ _ (alone Redo rest tt)
     (either (bytes_eq first (codes "format")) _ _ (formats rest)
-    (either (bytes_eq first (codes "run")) _ _ (leaves rest) tt)))))
+    (either (bytes_eq first (codes "run")) _ _ (leaves rest)
+    (either (bytes_eq first (codes "gen")) _ _ (generated rest) tt))))))
 
--- as many scripts as the words name are as many as the command takes
-pub takes_all : (words : List (List ℕ)) (command : Command) (n : ℕ) → Ok command ≡ command_of words → n ≡ length (scripts_asked (command_of words)) → n ≡ scripts_taken command.job
-takes_all words command n is number =
-    subst (λ (r : Result Command Usage). n ≡ length (scripts_asked r)) (sym is) number ∙ subst (λ (r : Result Command Usage). NamesAll r) (sym is) (names_all words)
+all_of : (words : List (List ℕ)) (command : Command) → Ok command ≡ command_of words → IsWithin command.job × (command.scripts.end < 2 ^ 32)
+all_of words command is = subst (λ (r : Result Command Usage). AreWithin r) (sym is) (all_within words)
+
+-- the numbers of what the words ask for are within their limits
+pub is_within : (words : List (List ℕ)) (command : Command) → Ok command ≡ command_of words → IsWithin command.job
+is_within words command is = (all_of words command is).0
+
+-- and they name no more scripts than a number of 32 bits can tell
+as_many : (first count : ℕ) → length (range_with_len first count) ≡ count
+as_many first zero = refl
+as_many first (suc count) = ap suc (as_many (first + 1) count)
+
+pub few_scripts : (words : List (List ℕ)) (command : Command) (n : ℕ) → Ok command ≡ command_of words → n ≡ length (scripts_asked (command_of words)) → n < 2 ^ 32
+few_scripts words command n is number =
+    let few = (all_of words command is).1 in
+    let named : n ≡ length (script_words command) = number ∙ subst (λ (r : Result Command Usage). length (scripts_asked r) ≡ length (script_words command)) is refl in
+    let many = as_many command.scripts.first (command.scripts.end - command.scripts.first) in
+    omega (arith, named, many, few)

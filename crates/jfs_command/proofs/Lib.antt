@@ -18,4 +18,5 @@ pub mod Scripted
 pub mod RunSaid
 pub mod RunLines
 pub mod Running
+pub mod Generating
 pub mod Concluding

@@ -9,14 +9,14 @@ use Rattle.jfs_disk.specs.Moment.{IsResting}
 use Rattle.jfs_bits.specs.declared.descriptor.Moment.{Moment}
 use Rattle.jfs_disk.specs.Image.{Image, page_of}
 use Rattle.jfs_plain.specs.declared.call.Entry.{Entry}
-use Rattle.jfs_plain.specs.declared.call.Line.{Line}
 use Rattle.jfs_super.specs.declared.fields.Super.{Super}
 use Rattle.jfs_super.specs.Rules.{rows, shape_rows, flag_rows, size_rows, log_rows, blocks_of, IsAccepted}
 use Rattle.jfs_redo.specs.Redo.{RedoIs, IsRedoCause, IsRefusal, StaysBehind}
 use Rattle.jfs_redo.specs.declared.error.Redone.{Redone}
 use Rattle.jfs_redo.specs.declared.error.RedoError.{RedoError}
 use Rattle.jfs_redo.specs.declared.error.RedoError.TheVariants as errors
-use Rattle.jfs_run.specs.Calls.{Calls, AreEntriesOf, AllTold, NoCalls, AllCalled, SomeCalled, BeginWith, FirstTold, waiting_from, any_failed}
+use Rattle.jfs_run.proofs.Plans.{whole_begins}
+use Rattle.jfs_run.specs.Calls.{Calls, AllTold, NoCalls, AllCalled, SomeCalled, FirstTold, waiting_from, any_failed}
 use Rattle.jfs_run.specs.Legal.{LeavesImage, IfUnmounted}
 use Rattle.jfs_run.specs.Run.{Seen, RunIs, MayMount, StayBeside, IsUncalled}
 use Rattle.jfs_run.specs.declared.run.RunEnd.{RunEnd}
@@ -35,22 +35,17 @@ use Rattle.jfs_command.specs.Held.{Held, Work, ChangesNothing}
 use Rattle.jfs_command.specs.Meaning.{Answer, refused, work_of}
 use Rattle.jfs_command.specs.Redo.{redone_text, is_clean, is_mounted, MountedSays, is_foreign, is_bad, breaks_maps, end_of as redo_end}
 use Rattle.jfs_command.specs.Superblock.{AfterState}
-use Rattle.jfs_command.specs.Run.{entries_text, ran_text, AreReplies, runs, breaks, Start, cleaned, is_ready, IsRedoneBy, BeginsOn, as_it_is, as_redone, behind, ReadySays, begins, not_redone, LinesSay, HasBegunRedo, RunsOutOn, end_of, text_before, text_of, Tells, DoesOn, StartEnds, DoesLines, LinesEnd}
+use Rattle.jfs_command.specs.Order.{Planned}
+use Rattle.jfs_command.specs.Run.{whole_text, AreReplies, runs, breaks, Start, cleaned, is_ready, IsRedoneBy, BeginsOn, as_it_is, as_redone, behind, ReadySays, begins, not_redone, LinesSay, HasBegunRedo, RunsOutOn, end_of, text_before, text_of, Tells, DoesOn, StartEnds, DoesLines, LinesEnd}
 use Rattle.jfs_command.proofs.RedoMounted.{not_clean}
 
 -- ---- what became of all lines, or of none, became of a front of them
-
-all_begin : (lines : List Line) (history : List Entry) → AreEntriesOf lines history → BeginWith lines history
-all_begin lines history are = (length lines, omega arith, subst (λ (l : List Line). AreEntriesOf l history) (sym (take-length lines)) are)
 
 first_told : (c : Calls) → AllTold c → FirstTold c
 first_told c all = record { waiting = all.waiting; are = all.are; count = length (waiting_from 1 all.waiting); told_is = all.told_is ∙ sym (take-length (waiting_from 1 all.waiting)) }
 
 pub all_of_none : (c : Calls) → NoCalls c → AllTold c
 all_of_none c none = record { waiting = []; are = rw none.0 tt; told_is = none.1 }
-
-no_text : (c : Calls) → NoCalls c → entries_text c ≡ []
-no_text c none = rw none.0 refl
 
 pub was : (b : Bool) → true ≡ b → b ≡ true
 was b e = sym e
@@ -63,7 +58,7 @@ work_of_calls text c left = record { text = text; history = c.history; told = c.
 abbrev seen_as : Held → ℕ → Seen
 seen_as held faults = record { image = held.image; past = held.past; faults = faults }
 
-module _ (tells crashes : Type 0) (lines : List Line) (is_left : Bool) (moment : Moment) (s : Super) (held left : Held) (before now : ℕ) (c : Calls) (redone : Option ℕ) (replies : AreReplies tells s held.image moment c.history) where
+module _ (tells crashes : Type 0) (p : Planned) (is_left : Bool) (moment : Moment) (s : Super) (held left : Held) (before now : ℕ) (c : Calls) (redone : Option ℕ) (replies : AreReplies tells s held.image moment c.history) where
   abbrev count : Count
   count = record { before = before; now = now }
 
@@ -78,9 +73,9 @@ module _ (tells crashes : Type 0) (lines : List Line) (is_left : Bool) (moment :
   abbrev Leaves : RunEnd → Type 0
   Leaves end = tells → IfUnmounted end is_left (LeavesImage s held.image moment c.history left.image)
 
-  with_text : (end : RunEnd) → RunIs tells crashes s lines is_left (seen_as held before) (seen_as left now) c end → Leaves end → StartEnds tells crashes lines is_left moment start held.past (work_of_calls (text_of redone end c) c left) count (end_of end)
+  with_text : (end : RunEnd) → RunIs tells crashes s p.plan is_left (seen_as held before) (seen_as left now) c end → Leaves end → StartEnds tells crashes p is_left moment start held.past (work_of_calls (text_of redone p.printed end c) c left) count (end_of end)
   with_text ran.Done is leaves = (
-    record { status = statuses.Done; text = ran_text c },
+    record { status = statuses.Done; text = whole_text p.printed c },
     runs c is.entries is.told refl is.mounts,
     refl,
     refl,
@@ -100,33 +95,33 @@ module _ (tells crashes : Type 0) (lines : List Line) (is_left : Bool) (moment :
     refused (statuses.BadImage bad.page bad.rule bad.value),
     breaks bad refl is.rule,
     refl,
-    ap (λ (t : List ℕ). text_before redone ++ t) (no_text c is.calls),
-    record { history = is.calls.0; told = is.calls.1; text = ap (λ (t : List ℕ). text_before redone ++ t) (no_text c is.calls) ∙ append-nil (text_before redone); image = is.image; past_is = is.past },
+    refl,
+    record { history = is.calls.0; told = is.calls.1; text = append-nil (text_before redone); image = is.image; past_is = is.past },
     is.faults,
   )
   with_text ran.Disk is leaves = (record { called = called_by is.done; replies = replies; text = refl }, is.rose)
   with_text ran.Memory is leaves = record { called = called_by is.done; told = is.told; calm = is.calm; replies = replies; text = inl refl }
 
-  some_of : IsUncalled tells s (seen_as held before) (seen_as left now) c ⊎ (AllCalled lines c × MayMount tells s (seen_as held before)) → IsUncalled tells s (seen_as held before) (seen_as left now) c ⊎ (SomeCalled lines c × MayMount tells s (seen_as held before))
+  some_of : IsUncalled tells s (seen_as held before) (seen_as left now) c ⊎ (AllCalled p.plan c × MayMount tells s (seen_as held before)) → IsUncalled tells s (seen_as held before) (seen_as left now) c ⊎ (SomeCalled p.plan c × MayMount tells s (seen_as held before))
   some_of (inl none) = inl none
-  some_of (inr (all, may)) = inr ((all_begin lines c.history all.0, all.1), may)
+  some_of (inr (all, may)) = inr ((whole_begins p.plan c.history all.0, all.1), may)
 
   -- there was no memory for the text
-  without_text : (end : RunEnd) → RunIs tells crashes s lines is_left (seen_as held before) (seen_as left now) c end → StartEnds tells crashes lines is_left moment start held.past (work_of_calls [] c left) count (Stopped stops.Memory)
-  without_text ran.Done is = record { called = inr ((all_begin lines c.history is.entries, first_told c is.told), is.mounts); told = inr is.told; calm = inr is.calm; replies = replies; text = inr refl }
+  without_text : (end : RunEnd) → RunIs tells crashes s p.plan is_left (seen_as held before) (seen_as left now) c end → StartEnds tells crashes p is_left moment start held.past (work_of_calls [] c left) count (Stopped stops.Memory)
+  without_text ran.Done is = record { called = inr ((whole_begins p.plan c.history is.entries, first_told c is.told), is.mounts); told = inr is.told; calm = inr is.calm; replies = replies; text = inr refl }
   without_text (ran.BadImage bad) is =
       record { called = inl (is.calls, λ t n _ _. ap (λ (i : Image). page_of i n) (is.image t)); told = inr (all_of_none c is.calls); calm = inr (ap any_failed is.calls.0); replies = replies; text = inr refl }
   without_text ran.Disk is = record { called = called_by (some_of is.done); told = inl is.rose; calm = inl is.rose; replies = replies; text = inr refl }
   without_text ran.Memory is = record { called = called_by is.done; told = is.told; calm = is.calm; replies = replies; text = inr refl }
 
-  pub ended : (end : RunEnd) (e : End) (text : List ℕ) → RunIs tells crashes s lines is_left (seen_as held before) (seen_as left now) c end → Leaves end → Tells redone end c e text
-      → StartEnds tells crashes lines is_left moment start held.past (work_of_calls text c left) count e
+  pub ended : (end : RunEnd) (e : End) (text : List ℕ) → RunIs tells crashes s p.plan is_left (seen_as held before) (seen_as left now) c end → Leaves end → Tells redone p.printed end c e text
+      → StartEnds tells crashes p is_left moment start held.past (work_of_calls text c left) count e
   ended end e text is leaves (inl (is_end, is_text)) =
-      subst (λ (x : End). StartEnds tells crashes lines is_left moment start held.past (work_of_calls text c left) count x) (sym is_end)
-      (subst (λ (t : List ℕ). StartEnds tells crashes lines is_left moment start held.past (work_of_calls t c left) count (end_of end)) (sym is_text) (with_text end is leaves))
+      subst (λ (x : End). StartEnds tells crashes p is_left moment start held.past (work_of_calls text c left) count x) (sym is_end)
+      (subst (λ (t : List ℕ). StartEnds tells crashes p is_left moment start held.past (work_of_calls t c left) count (end_of end)) (sym is_text) (with_text end is leaves))
   ended end e text is leaves (inr (is_end, is_text)) =
-      subst (λ (x : End). StartEnds tells crashes lines is_left moment start held.past (work_of_calls text c left) count x) (sym is_end)
-      (subst (λ (t : List ℕ). StartEnds tells crashes lines is_left moment start held.past (work_of_calls t c left) count (Stopped stops.Memory)) (sym is_text) (without_text end is))
+      subst (λ (x : End). StartEnds tells crashes p is_left moment start held.past (work_of_calls text c left) count x) (sym is_end)
+      (subst (λ (t : List ℕ). StartEnds tells crashes p is_left moment start held.past (work_of_calls t c left) count (Stopped stops.Memory)) (sym is_text) (without_text end is))
 
 -- ---- by the state of the volume
 
@@ -136,20 +131,20 @@ answer_is answer rest text status is_text =
     let with_text : List ℕ → Answer = λ x. record { status = rest.status; text = x } in
     ap with_status (sym status) ∙ ap with_text is_text
 
-module _ (tells crashes : Type 0) (lines : List Line) (is_left : Bool) (moment : Moment) (s : Super) (held : Held) (work : Work) where
-  ready_says : (answer : Answer) → is_ready s.state.0 ≡ true → ReadySays tells lines s held.image answer → LinesSay tells lines held.image s answer
-  ready_says answer ready it = subst (λ (b : Bool). AfterState b s.state.0 (ReadySays tells lines s held.image) answer) (sym ready) it
+module _ (tells crashes : Type 0) (p : Planned) (is_left : Bool) (moment : Moment) (s : Super) (held : Held) (work : Work) where
+  ready_says : (answer : Answer) → is_ready s.state.0 ≡ true → ReadySays tells p s held.image answer → LinesSay tells p held.image s answer
+  ready_says answer ready it = subst (λ (b : Bool). AfterState b s.state.0 (ReadySays tells p s held.image) answer) (sym ready) it
 
   clean_ready : is_clean s.state.0 ≡ true → is_ready s.state.0 ≡ true
   clean_ready clean = rw clean refl
 
   -- a volume that was clean
-  clean_does : (status : Status) (on : is_clean s.state.0 ≡ true) → DoesOn status tells crashes lines is_left moment (record { super = s; image = held.image; text = [] }) held.past work → DoesLines status tells crashes lines is_left moment s held work × IsOwn status
+  clean_does : (status : Status) (on : is_clean s.state.0 ≡ true) → DoesOn status tells crashes p is_left moment (record { super = s; image = held.image; text = [] }) held.past work → DoesLines status tells crashes p is_left moment s held work × IsOwn status
   clean_does statuses.Done clean did = ((record { super = s; image = held.image; text = [] }, as_it_is clean refl, did), tt)
   clean_does (statuses.BadImage page rule value) clean did = (inl (record { history = did.history; told = did.told; image = did.image; past = did.past_is }), tt)
   clean_does _ clean did = absurd did
 
-  pub from_clean : (disk : Count) (end : End) → is_clean s.state.0 ≡ true → StartEnds tells crashes lines is_left moment (record { super = s; image = held.image; text = [] }) held.past work disk end → LinesEnd tells crashes lines is_left moment s held work disk end
+  pub from_clean : (disk : Count) (end : End) → is_clean s.state.0 ≡ true → StartEnds tells crashes p is_left moment (record { super = s; image = held.image; text = [] }) held.past work disk end → LinesEnd tells crashes p is_left moment s held work disk end
   from_clean disk (Own status) clean (rest, said, is_status, is_text, did, stays) =
       let answer : Answer = record { status = status; text = work.text } in
       let start : Start = record { super = s; image = held.image; text = [] } in
@@ -170,26 +165,26 @@ module _ (tells crashes : Type 0) (lines : List Line) (is_left : Bool) (moment :
     redone_ready : is_ready s.state.0 ≡ true
     redone_ready = rw (not_clean s.state.0 mounted, mounted) refl
 
-    redone_does : (status : Status) → DoesOn status tells crashes lines is_left moment redone_start mid.past work → DoesLines status tells crashes lines is_left moment s held work × IsOwn status
+    redone_does : (status : Status) → DoesOn status tells crashes p is_left moment redone_start mid.past work → DoesLines status tells crashes p is_left moment s held work × IsOwn status
     redone_does statuses.Done did = ((redone_start, on, did), tt)
     redone_does (statuses.BadImage page rule value) did =
         (inr (redone_start, (mounted, on), record { history = did.history; told = did.told; text = did.text; image = did.image; stable = λ t. subst (λ (p : List DiskState). IsResting (last_of p)) (sym (did.past_is t)) (resting t) }), tt)
     redone_does _ did = absurd did
 
-    pub from_redone : (before middle now : ℕ) (end : End) → middle ≡ before → StartEnds tells crashes lines is_left moment redone_start mid.past work (record { before = middle; now = now }) end
-        → LinesEnd tells crashes lines is_left moment s held work (record { before = before; now = now }) end
+    pub from_redone : (before middle now : ℕ) (end : End) → middle ≡ before → StartEnds tells crashes p is_left moment redone_start mid.past work (record { before = middle; now = now }) end
+        → LinesEnd tells crashes p is_left moment s held work (record { before = before; now = now }) end
     from_redone before middle now (Own status) same (rest, said, is_status, is_text, did, stays) =
         let answer : Answer = record { status = status; text = work.text } in
         let done = redone_does status did in
         (ready_says answer redone_ready (begins redone_start on rest said (answer_is answer rest (redone_text count) is_status is_text)), done.0, done.1, stays ∙ same)
     from_redone before middle now (Stopped stops.Disk) same (fails, rose) = (inr (inr (redone_start, on, fails)), subst (λ (n : ℕ). Rose n now) same rose, redone_ready)
     from_redone before middle now (Stopped stops.Memory) same out =
-        (inr (inr (redone_start, on, subst (λ (n : ℕ). RunsOutOn (record { before = n; now = now }) tells lines moment redone_start work) same out)), redone_ready)
+        (inr (inr (redone_start, on, subst (λ (n : ℕ). RunsOutOn (record { before = n; now = now }) tells p moment redone_start work) same out)), redone_ready)
     from_redone before middle now (Stopped stops.Scripts) same ends = absurd ends
 
 -- ---- a volume that wasn't redone
 
-module _ (tells crashes : Type 0) (lines : List Line) (is_left : Bool) (moment : Moment) (s : Super) (held left : Held) (mounted : is_mounted s.state.0 ≡ true) (stays : tells → StaysBehind (blocks_of s) held.image left.image) where
+module _ (tells crashes : Type 0) (p : Planned) (is_left : Bool) (moment : Moment) (s : Super) (held left : Held) (mounted : is_mounted s.state.0 ≡ true) (stays : tells → StaysBehind (blocks_of s) held.image left.image) where
   abbrev empty : Work
   empty = record { text = []; history = []; told = []; held = left }
 
@@ -199,15 +194,15 @@ module _ (tells crashes : Type 0) (lines : List Line) (is_left : Bool) (moment :
   is_ready_now : is_ready s.state.0 ≡ true
   is_ready_now = rw (not_clean s.state.0 mounted, mounted) refl
 
-  says : (status : Status) → kind_of status ≡ Refuses → MountedSays tells s held.image (refused status) → LinesSay tells lines held.image s (refused status)
-  says status refuses said = ready_says tells crashes lines is_left moment s held empty (refused status) is_ready_now (not_redone mounted status refuses refl said)
+  says : (status : Status) → kind_of status ≡ Refuses → MountedSays tells s held.image (refused status) → LinesSay tells p held.image s (refused status)
+  says status refuses said = ready_says tells crashes p is_left moment s held empty (refused status) is_ready_now (not_redone mounted status refuses refl said)
 
   nothing : (why : RedoError) → IsRefusal why → (tells → IsRefusal why → left.image ≡ held.image) → (crashes → IsRefusal why → left.past ≡ held.past) → ChangesNothing tells crashes held empty
   nothing why refuses image past = record { history = refl; told = refl; image = λ t. image t refuses; past = λ t. past t refuses }
 
   pub stopped : (before now : ℕ) (why : RedoError) → (tells → (let r : Result Redone RedoError = Err why in RedoIs s held.image left.image r))
       → (tells → IsRefusal why → left.image ≡ held.image) → (crashes → IsRefusal why → left.past ≡ held.past) → (let r : Result Redone RedoError = Err why in IsRedoCause before now r)
-      → LinesEnd tells crashes lines is_left moment s held empty (record { before = before; now = now }) (redo_end why)
+      → LinesEnd tells crashes p is_left moment s held empty (record { before = before; now = now }) (redo_end why)
   stopped before now (errors.Disk fault) redo image past cause = (inr (inl begun), cause.0, is_ready_now)
   stopped before now (errors.ForeignLog label) redo image past cause = (says (statuses.ForeignLog label) refl (is_foreign label refl redo), nothing (errors.ForeignLog label) tt image past, tt, cause)
   stopped before now (errors.BadLog address rule) redo image past cause = (says (statuses.BadLog address rule) refl (is_bad address rule refl redo), nothing (errors.BadLog address rule) tt image past, tt, cause)

@@ -1,5 +1,5 @@
 -- What a command is given beside the disk and the words.
-use Rattle.std.specs.Prelude.{◌≡◌, ℕ, List, length, map, sum_by}
+use Rattle.std.specs.Prelude.{◌≡◌, ℕ, ◌-◌, ◌^◌, min, List, length, map, sum_by}
 use Rattle.jfs_bits.specs.declared.descriptor.Moment.{Moment}
 use Rattle.jfs_io.specs.declared.source.Source.{Ghosts}
 
@@ -14,6 +14,6 @@ pub record AreInputs {S : Type 0} (s : Ghosts S) (sources : List S) (now : Momen
   pub scripts : s.tells → inputs.scripts ≡ map s.remaining sources
   pub moment : inputs.now ≡ now
 
--- how often calls on the sources failed
+-- how often calls on the sources failed, up to the last u64 value
 abbrev pub source_faults : {S : Type 0} → Ghosts S → List S → ℕ
-source_faults s sources = sum_by s.fault_count sources
+source_faults s sources = min (sum_by s.fault_count sources) (2 ^ 64 - 1)

@@ -1,5 +1,5 @@
--- The command `run`: it redoes a volume that is mounted, does the calls of a script on it, and unmounts it, unless it is to be left mounted. Or it names what is wrong with the script, the superblock, the log or the maps.
-use Rattle.std.specs.Prelude.{◌≡◌, ◌⊎◌, ℕ, ⊤, Bool, true, false, ◌||◌, List, [], ◌++◌, length, Option, Some, None, Ok, Err}
+-- The commands with clients, `run` and `gen`: they redo a volume that is mounted, do the calls of the clients' scripts on it, and unmount it, unless it is to be left mounted. Or they name what is wrong with the scripts, the superblock, the log or the maps.
+use Rattle.std.specs.Prelude.{◌≡◌, ◌⊎◌, ◌<◌, ℕ, ⊤, Bool, true, false, ◌||◌, List, [], ◌++◌, length, Option, Some, None, Result, Ok, Err}
 use Rattle.jfs_bits.specs.declared.descriptor.Moment.{Moment}
 use Rattle.jfs_disk.specs.Image.{Image, page_of}
 use Rattle.jfs_disk.specs.Crash.{DiskState, last_of}
@@ -14,10 +14,11 @@ use Rattle.jfs_findings_new.specs.mount_rules.specs.Mount.{BadMount, broken_maps
 use Rattle.jfs_findings_new.specs.meaning.specs.Image.{IsConsistentImage}
 use Rattle.jfs_plain.specs.declared.call.Entry.{Entry}
 use Rattle.jfs_plain.specs.declared.call.Line.{Line}
+use Rattle.jfs_gen.specs.Summary.{summary_text}
 use Rattle.jfs_script.specs.History.{history_text, done_text}
 use Rattle.jfs_run.specs.declared.run.RunEnd.{RunEnd}
 use Rattle.jfs_run.specs.declared.run.RunEnd.TheVariants as ran
-use Rattle.jfs_run.specs.Calls.{Calls, AreEntriesOf, AllTold, NoCalls, AllCalled, SomeCalled, any_failed}
+use Rattle.jfs_run.specs.Calls.{Calls, HaveEntries, AllTold, NoCalls, AllCalled, SomeCalled, any_failed}
 use Rattle.jfs_run.specs.Legal.{IsLegalRun, LeavesImage}
 use Rattle.jfs_run.specs.Run.{StayBeside}
 use Rattle.jfs_command.specs.declared.status.Status.{Status}
@@ -31,7 +32,9 @@ use Rattle.jfs_command.specs.Count.{Count, Faults, Stays, HasRisen}
 use Rattle.jfs_command.specs.Held.{Held, Work, ChangesNothing}
 use Rattle.jfs_command.specs.Meaning.{Meaning, Answer, finished, refused}
 use Rattle.jfs_command.specs.Redo.{redone_text, is_clean, is_mounted, Commits, MountedSays}
-use Rattle.jfs_command.specs.Scripts.{ScriptsSay, AreTaken}
+use Rattle.jfs_command.specs.declared.printed.Printed.{Printed}
+use Rattle.jfs_command.specs.declared.printed.Printed.TheVariants.{History, Summary}
+use Rattle.jfs_command.specs.Order.{Planned, Order, by_scripts, Asks, IsTaken}
 use Rattle.jfs_command.specs.Superblock.{superblock_of, LooksAtSuper, AfterState, AfterSuperblock}
 
 -- ---- the text
@@ -44,14 +47,24 @@ entries_text c = history_text 1 c.told c.history
 abbrev pub ran_text : Calls → List ℕ
 ran_text c = entries_text c ++ done_text (length c.history) (length c.told)
 
+-- of a run that is done
+abbrev pub whole_text : Printed → Calls → List ℕ
+whole_text History c = ran_text c
+whole_text (Summary clients) c = summary_text c.history clients
+
+-- of one that was stopped; a summary is of a whole history alone
+abbrev pub front_text : Printed → Calls → List ℕ
+front_text History c = entries_text c
+front_text (Summary clients) c = []
+
 -- ---- what is answered
 
 -- What is answered of a volume that is clean. Which replies the calls have is free here. Of a disk that doesn't tell, the form of the answer alone is said, since no image need fit what it gave.
-pub data CleanSays (tells : Type 0) (lines : List Line) (s : Super) (image : Image) (answer : Answer) : Type 0 where
-  -- no rule of a mount is broken: each line has its own entry, and each entry that waits was told durable
-  runs : (c : Calls) → AreEntriesOf lines c.history → AllTold c → answer ≡ finished (ran_text c) → (tells → broken_mount (subject_of s (page_of image)) ≡ None) → CleanSays tells lines s image answer
+pub data CleanSays (tells : Type 0) (p : Planned) (s : Super) (image : Image) (answer : Answer) : Type 0 where
+  -- no rule of a mount is broken: each client's line has its own entry, and each entry that waits was told durable
+  runs : (c : Calls) → HaveEntries p.plan c.history → AllTold c → answer ≡ finished (whole_text p.printed c) → (tells → broken_mount (subject_of s (page_of image)) ≡ None) → CleanSays tells p s image answer
   -- this is the first rule of a mount that is broken
-  breaks : (bad : BadMount) → answer ≡ refused (statuses.BadImage bad.page bad.rule bad.value) → (tells → broken_mount (subject_of s (page_of image)) ≡ Some bad) → CleanSays tells lines s image answer
+  breaks : (bad : BadMount) → answer ≡ refused (statuses.BadImage bad.page bad.rule bad.value) → (tells → broken_mount (subject_of s (page_of image)) ≡ Some bad) → CleanSays tells p s image answer
 
 -- it takes a volume that is clean or mounted
 abbrev pub is_ready : ℕ → Bool
@@ -84,23 +97,23 @@ pub data BeginsOn (tells : Type 0) (s : Super) (image : Image) (start : Start) :
 abbrev pub behind : List ℕ → Answer → Answer
 behind text answer = record { status = answer.status; text = text ++ answer.text }
 
-pub data ReadySays (tells : Type 0) (lines : List Line) (s : Super) (image : Image) (answer : Answer) : Type 0 where
-  begins : (start : Start) → BeginsOn tells s image start → (rest : Answer) → CleanSays tells lines start.super start.image rest → answer ≡ behind start.text rest → ReadySays tells lines s image answer
+pub data ReadySays (tells : Type 0) (p : Planned) (s : Super) (image : Image) (answer : Answer) : Type 0 where
+  begins : (start : Start) → BeginsOn tells s image start → (rest : Answer) → CleanSays tells p start.super start.image rest → answer ≡ behind start.text rest → ReadySays tells p s image answer
   -- what redo refuses
-  not_redone : is_mounted s.state.0 ≡ true → (status : Status) → kind_of status ≡ Refuses → answer ≡ refused status → MountedSays tells s image answer → ReadySays tells lines s image answer
+  not_redone : is_mounted s.state.0 ≡ true → (status : Status) → kind_of status ≡ Refuses → answer ≡ refused status → MountedSays tells s image answer → ReadySays tells p s image answer
 
 -- what is answered of an image whose superblock is accepted; a volume in another state is refused
-abbrev pub LinesSay : (tells : Type 0) → List Line → Image → Super → Answer → Type 0
-LinesSay tells lines image s = AfterState (is_ready s.state.0) s.state.0 (ReadySays tells lines s image)
+abbrev pub LinesSay : (tells : Type 0) → Planned → Image → Super → Answer → Type 0
+LinesSay tells p image s = AfterState (is_ready s.state.0) s.state.0 (ReadySays tells p s image)
 
 -- what is answered: scripts that are refused are so by themselves, whatever the disk holds
-pub data RunSays (tells : Type 0) (scripts : List (List ℕ)) (held : Held) (answer : Answer) : Type 0 where
-  refuses : (status : Status) → ScriptsSay scripts (Err status) → answer ≡ refused status → RunSays tells scripts held answer
-  takes : (lines : List Line) → ScriptsSay scripts (Ok lines) → AfterSuperblock held (LinesSay tells lines held.image) answer → RunSays tells scripts held answer
+pub data RunSays (tells : Type 0) (order : Order) (held : Held) (answer : Answer) : Type 0 where
+  refuses : (status : Status) → Asks order (Err status) → answer ≡ refused status → RunSays tells order held answer
+  takes : (p : Planned) → Asks order (Ok p) → AfterSuperblock held (LinesSay tells p held.image) answer → RunSays tells order held answer
 
 -- of scripts and a volume all answers have one status
 abbrev pub RunSaysOneThing : Type 0
-RunSaysOneThing = (scripts : List (List ℕ)) (held : Held) (a b : Answer) → RunSays ⊤ scripts held a → RunSays ⊤ scripts held b → a.status ≡ b.status
+RunSaysOneThing = (scripts : List (List ℕ)) (held : Held) (a b : Answer) → RunSays ⊤ (by_scripts scripts) held a → RunSays ⊤ (by_scripts scripts) held b → a.status ≡ b.status
 
 -- The scripts are read once. All else may be read more than once, and refusals of page 8 and of the maps are of one kind: so these are judged of a disk that tells alone.
 abbrev pub IsOfScripts : Status → Type 0
@@ -119,8 +132,8 @@ abbrev pub LooksAtReady : Held → ℕ → Type 0
 LooksAtReady held n = LooksAtSuper held n ⊎ IsReady (superblock_of held) held.pages
 
 -- none where the scripts are refused
-abbrev pub LooksAtRun : List (List ℕ) → Held → ℕ → Type 0
-LooksAtRun scripts held n = AreTaken scripts × LooksAtReady held n
+abbrev pub LooksAtRun : Order → Held → ℕ → Type 0
+LooksAtRun order held n = IsTaken order × LooksAtReady held n
 
 -- what became of the calls
 abbrev pub calls_of : Work → Calls
@@ -130,14 +143,14 @@ calls_of work = record { history = work.history; told = work.told }
 abbrev pub AreReplies : (tells : Type 0) → Super → Image → Moment → List Entry → Type 0
 AreReplies tells s image now history = tells → IsConsistentImage s (page_of image) → IsLegalRun s (page_of image) now history
 
--- Each line was called, one after the other, each entry that waits was told durable, and the text is that of both. Unless the volume was to be left, it was unmounted: page 8 is the one that it had, and a crash leaves all of the disk, which is an image of the tree behind the last reply.
-pub record HasRun (tells crashes : Type 0) (lines : List Line) (is_left : Bool) (now : Moment) (start : Start) (work : Work) : Type 0 where
-  pub entries : AreEntriesOf lines work.history
+-- Each client's lines were called, one after the other, each entry that waits was told durable, and the text is that of both. Unless the volume was to be left, it was unmounted: page 8 is the one that it had, and a crash leaves all of the disk, which is an image of the tree behind the last reply.
+pub record HasRun (tells crashes : Type 0) (p : Planned) (is_left : Bool) (now : Moment) (start : Start) (work : Work) : Type 0 where
+  pub entries : HaveEntries p.plan work.history
   pub told : AllTold (calls_of work)
   -- no call was refused for a fault of the disk
   pub calm : any_failed work.history ≡ false
   pub replies : AreReplies tells start.super start.image now work.history
-  pub text : work.text ≡ start.text ++ ran_text (calls_of work)
+  pub text : work.text ≡ start.text ++ whole_text p.printed (calls_of work)
   pub superblock : is_left ≡ false → tells → page_of work.held.image 8 ≡ page_of start.image 8
   pub stable : is_left ≡ false → crashes → IsResting (last_of work.held.past)
   pub image : is_left ≡ false → tells → LeavesImage start.super start.image now work.history work.held.image
@@ -155,16 +168,16 @@ abbrev pub BeginsOnRedone : (tells : Type 0) → Super → Image → Start → T
 BeginsOnRedone tells s image start = (is_mounted s.state.0 ≡ true) × BeginsOn tells s image start
 
 -- What was refused is as it was; or the volume was redone, and a rule of a mount is broken then.
-abbrev pub Runs : Status → (tells crashes : Type 0) → List (List ℕ) → Bool → Moment → Held → Work → Type 0
-Runs statuses.Done tells crashes scripts is_left now held work =
-    (lines : List Line) × ScriptsSay scripts (Ok lines) × (start : Start) × BeginsOn tells (superblock_of held) held.image start × HasRun tells crashes lines is_left now start work
-Runs (statuses.BadImage page rule value) tells crashes scripts is_left now held work =
+abbrev pub Runs : Status → (tells crashes : Type 0) → Order → Bool → Moment → Held → Work → Type 0
+Runs statuses.Done tells crashes order is_left now held work =
+    (p : Planned) × Asks order (Ok p) × (start : Start) × BeginsOn tells (superblock_of held) held.image start × HasRun tells crashes p is_left now start work
+Runs (statuses.BadImage page rule value) tells crashes order is_left now held work =
     ChangesNothing tells crashes held work ⊎ ((start : Start) × BeginsOnRedone tells (superblock_of held) held.image start × HasOnlyRedone tells crashes start work)
-Runs _ tells crashes scripts is_left now held work = ChangesNothing tells crashes held work
+Runs _ tells crashes order is_left now held work = ChangesNothing tells crashes held work
 
 -- a disk on which no volume was to be run is as it was
-abbrev pub Spares : (tells crashes : Type 0) → List (List ℕ) → Held → Work → Type 0
-Spares tells crashes scripts held work = ((AreTaken scripts × IsReady (superblock_of held) held.pages) → ⊥) → ChangesNothing tells crashes held work
+abbrev pub Spares : (tells crashes : Type 0) → Order → Held → Work → Type 0
+Spares tells crashes order held work = ((IsTaken order × IsReady (superblock_of held) held.pages) → ⊥) → ChangesNothing tells crashes held work
 
 -- nothing was called, and all pages but page 8 and the log's are as they were
 abbrev pub CallsNone : (tells : Type 0) → Start → Work → Type 0
@@ -182,47 +195,47 @@ pub record HasBegunRedo (tells : Type 0) (s : Super) (held : Held) (work : Work)
   pub stays : tells → StaysBehind (blocks_of s) held.image work.held.image
 
 -- the disk failed before the volume was mounted, and no line was called; or later, and then each was
-pub record FailsOn (tells : Type 0) (lines : List Line) (now : Moment) (start : Start) (work : Work) : Type 0 where
-  pub called : CallsNone tells start work ⊎ (AllCalled lines (calls_of work) × MayBegin tells start)
+pub record FailsOn (tells : Type 0) (p : Planned) (now : Moment) (start : Start) (work : Work) : Type 0 where
+  pub called : CallsNone tells start work ⊎ (AllCalled p.plan (calls_of work) × MayBegin tells start)
   pub replies : AreReplies tells start.super start.image now work.history
-  pub text : work.text ≡ start.text ++ entries_text (calls_of work)
+  pub text : work.text ≡ start.text ++ front_text p.printed (calls_of work)
 
--- Memory ran out: a front of the lines was called, and unless a call on the disk failed each of their entries that waits was told, and none was refused for a fault. Where there was none for the text, none is printed.
-pub record RunsOutOn (disk : Count) (tells : Type 0) (lines : List Line) (now : Moment) (start : Start) (work : Work) : Type 0 where
-  pub called : CallsNone tells start work ⊎ (SomeCalled lines (calls_of work) × MayBegin tells start)
+-- Memory ran out: a front of each client's lines was called, and unless a call on the disk failed each of their entries that waits was told, and none was refused for a fault. Where there was none for the text, none is printed.
+pub record RunsOutOn (disk : Count) (tells : Type 0) (p : Planned) (now : Moment) (start : Start) (work : Work) : Type 0 where
+  pub called : CallsNone tells start work ⊎ (SomeCalled p.plan (calls_of work) × MayBegin tells start)
   pub told : HasRisen disk ⊎ AllTold (calls_of work)
   pub calm : HasRisen disk ⊎ (any_failed work.history ≡ false)
   pub replies : AreReplies tells start.super start.image now work.history
-  pub text : (work.text ≡ start.text ++ entries_text (calls_of work)) ⊎ (work.text ≡ [])
+  pub text : (work.text ≡ start.text ++ front_text p.printed (calls_of work)) ⊎ (work.text ≡ [])
 
 -- nothing was done yet; or redo was stopped; or the calls were
 abbrev pub Stopped : (tells crashes : Type 0) → (Start → Type 0) → Super → Held → Work → Type 0
 Stopped tells crashes calls s held work =
     ((work.text ≡ []) × ChangesNothing tells crashes held work) ⊎ (HasBegunRedo tells s held work ⊎ ((start : Start) × BeginsOn tells s held.image start × calls start))
 
-pub record HasFailed (tells crashes : Type 0) (scripts : List (List ℕ)) (now : Moment) (held : Held) (work : Work) : Type 0 where
-  pub lines : List Line
-  pub taken : ScriptsSay scripts (Ok lines)
-  pub looked : (n : ℕ) × LooksAtRun scripts held n
-  pub done : Stopped tells crashes (λ start. FailsOn tells lines now start work) (superblock_of held) held work
-  pub spares : Spares tells crashes scripts held work
+pub record HasFailed (tells crashes : Type 0) (order : Order) (now : Moment) (held : Held) (work : Work) : Type 0 where
+  pub planned : Planned
+  pub taken : Asks order (Ok planned)
+  pub looked : (n : ℕ) × LooksAtRun order held n
+  pub done : Stopped tells crashes (λ start. FailsOn tells planned now start work) (superblock_of held) held work
+  pub spares : Spares tells crashes order held work
 
-pub record HasRunOut (disk : Count) (tells crashes : Type 0) (scripts : List (List ℕ)) (now : Moment) (held : Held) (work : Work) : Type 0 where
-  pub done : Stopped tells crashes (λ start. (lines : List Line) × ScriptsSay scripts (Ok lines) × RunsOutOn disk tells lines now start work) (superblock_of held) held work
-  pub spares : Spares tells crashes scripts held work
+pub record HasRunOut (disk : Count) (tells crashes : Type 0) (order : Order) (now : Moment) (held : Held) (work : Work) : Type 0 where
+  pub done : Stopped tells crashes (λ start. (p : Planned) × Asks order (Ok p) × RunsOutOn disk tells p now start work) (superblock_of held) held work
+  pub spares : Spares tells crashes order held work
 
-abbrev pub RunStops : Stop → Faults → (tells crashes : Type 0) → List (List ℕ) → Moment → Held → Work → Type 0
-RunStops stops.Scripts faults tells crashes scripts now held work = work.text ≡ []
-RunStops stops.Disk faults tells crashes scripts now held work = HasFailed tells crashes scripts now held work
-RunStops stops.Memory faults tells crashes scripts now held work = HasRunOut faults.disk tells crashes scripts now held work
+abbrev pub RunStops : Stop → Faults → (tells crashes : Type 0) → Order → Moment → Held → Work → Type 0
+RunStops stops.Scripts faults tells crashes order now held work = work.text ≡ []
+RunStops stops.Disk faults tells crashes order now held work = HasFailed tells crashes order now held work
+RunStops stops.Memory faults tells crashes order now held work = HasRunOut faults.disk tells crashes order now held work
 
-abbrev pub run_meaning : Bool → List (List ℕ) → Moment → Meaning
-run_meaning is_left scripts now = record {
-  looks = LooksAtRun scripts;
-  says = λ tells held answer. RunSays tells scripts held answer;
+abbrev pub run_meaning : Bool → Order → Moment → Meaning
+run_meaning is_left order now = record {
+  looks = LooksAtRun order;
+  says = λ tells held answer. RunSays tells order held answer;
   judged = IsOfScripts;
-  does = λ tells crashes held status work. Runs status tells crashes scripts is_left now held work;
-  stops = λ stop faults tells crashes held work. RunStops stop faults tells crashes scripts now held work;
+  does = λ tells crashes held status work. Runs status tells crashes order is_left now held work;
+  stops = λ stop faults tells crashes held work. RunStops stop faults tells crashes order now held work;
 }
 
 -- ---- for the prover: what the functions behind the look at the superblock answer
@@ -239,18 +252,19 @@ abbrev pub text_before : Option ℕ → List ℕ
 text_before None = []
 text_before (Some count) = redone_text count
 
-abbrev pub text_after : RunEnd → Calls → List ℕ
-text_after ran.Done c = ran_text c
-text_after (ran.BadImage bad) c = entries_text c
-text_after ran.Disk c = entries_text c
-text_after ran.Memory c = entries_text c
+-- a run that was refused called nothing, and nothing is printed of it
+abbrev pub text_after : Printed → RunEnd → Calls → List ℕ
+text_after printed ran.Done c = whole_text printed c
+text_after printed (ran.BadImage bad) c = []
+text_after printed ran.Disk c = front_text printed c
+text_after printed ran.Memory c = front_text printed c
 
-abbrev pub text_of : Option ℕ → RunEnd → Calls → List ℕ
-text_of redone end c = text_before redone ++ text_after end c
+abbrev pub text_of : Option ℕ → Printed → RunEnd → Calls → List ℕ
+text_of redone printed end c = text_before redone ++ text_after printed end c
 
 -- the end and the text of a run, unless there is no memory for the text
-abbrev pub Tells : Option ℕ → RunEnd → Calls → End → List ℕ → Type 0
-Tells redone ran c end text = ((end ≡ end_of ran) × (text ≡ text_of redone ran c)) ⊎ ((end ≡ ByStop stops.Memory) × (text ≡ []))
+abbrev pub Tells : Option ℕ → Printed → RunEnd → Calls → End → List ℕ → Type 0
+Tells redone printed ran c end text = ((end ≡ end_of ran) × (text ≡ text_of redone printed ran c)) ⊎ ((end ≡ ByStop stops.Memory) × (text ≡ []))
 
 -- a rule of a mount is broken
 pub record IsLeft (tells crashes : Type 0) (start : Start) (past : List DiskState) (work : Work) : Type 0 where
@@ -260,31 +274,31 @@ pub record IsLeft (tells crashes : Type 0) (start : Start) (past : List DiskStat
   pub image : tells → work.held.image ≡ start.image
   pub past_is : crashes → work.held.past ≡ past
 
-abbrev pub DoesOn : Status → (tells crashes : Type 0) → List Line → Bool → Moment → Start → List DiskState → Work → Type 0
-DoesOn statuses.Done tells crashes lines is_left now start past work = HasRun tells crashes lines is_left now start work
-DoesOn (statuses.BadImage page rule value) tells crashes lines is_left now start past work = IsLeft tells crashes start past work
-DoesOn _ tells crashes lines is_left now start past work = ⊥
+abbrev pub DoesOn : Status → (tells crashes : Type 0) → Planned → Bool → Moment → Start → List DiskState → Work → Type 0
+DoesOn statuses.Done tells crashes p is_left now start past work = HasRun tells crashes p is_left now start work
+DoesOn (statuses.BadImage page rule value) tells crashes p is_left now start past work = IsLeft tells crashes start past work
+DoesOn _ tells crashes p is_left now start past work = ⊥
 
 -- the answer, the work and the faults of what calls begin on, of a disk with these past states
-abbrev pub StartEnds : (tells crashes : Type 0) → List Line → Bool → Moment → Start → List DiskState → Work → Count → End → Type 0
-StartEnds tells crashes lines is_left now start past work disk (Own status) =
-    (rest : Answer) × CleanSays tells lines start.super start.image rest × (rest.status ≡ status) × (work.text ≡ start.text ++ rest.text) × DoesOn status tells crashes lines is_left now start past work × Stays disk
-StartEnds tells crashes lines is_left now start past work disk (ByStop stops.Disk) = FailsOn tells lines now start work × HasRisen disk
-StartEnds tells crashes lines is_left now start past work disk (ByStop stops.Memory) = RunsOutOn disk tells lines now start work
-StartEnds tells crashes lines is_left now start past work disk (ByStop stops.Scripts) = ⊥
+abbrev pub StartEnds : (tells crashes : Type 0) → Planned → Bool → Moment → Start → List DiskState → Work → Count → End → Type 0
+StartEnds tells crashes p is_left now start past work disk (Own status) =
+    (rest : Answer) × CleanSays tells p start.super start.image rest × (rest.status ≡ status) × (work.text ≡ start.text ++ rest.text) × DoesOn status tells crashes p is_left now start past work × Stays disk
+StartEnds tells crashes p is_left now start past work disk (ByStop stops.Disk) = FailsOn tells p now start work × HasRisen disk
+StartEnds tells crashes p is_left now start past work disk (ByStop stops.Memory) = RunsOutOn disk tells p now start work
+StartEnds tells crashes p is_left now start past work disk (ByStop stops.Scripts) = ⊥
 
-abbrev pub DoesLines : Status → (tells crashes : Type 0) → List Line → Bool → Moment → Super → Held → Work → Type 0
-DoesLines statuses.Done tells crashes lines is_left now s held work = (start : Start) × BeginsOn tells s held.image start × HasRun tells crashes lines is_left now start work
-DoesLines (statuses.BadImage page rule value) tells crashes lines is_left now s held work =
+abbrev pub DoesLines : Status → (tells crashes : Type 0) → Planned → Bool → Moment → Super → Held → Work → Type 0
+DoesLines statuses.Done tells crashes p is_left now s held work = (start : Start) × BeginsOn tells s held.image start × HasRun tells crashes p is_left now start work
+DoesLines (statuses.BadImage page rule value) tells crashes p is_left now s held work =
     ChangesNothing tells crashes held work ⊎ ((start : Start) × BeginsOnRedone tells s held.image start × HasOnlyRedone tells crashes start work)
-DoesLines _ tells crashes lines is_left now s held work = ChangesNothing tells crashes held work
+DoesLines _ tells crashes p is_left now s held work = ChangesNothing tells crashes held work
 
 -- the answer, the work and the faults, from what a disk held
-abbrev pub LinesEnd : (tells crashes : Type 0) → List Line → Bool → Moment → Super → Held → Work → Count → End → Type 0
-LinesEnd tells crashes lines is_left now s held work disk (Own status) =
-    LinesSay tells lines held.image s (record { status = status; text = work.text }) × DoesLines status tells crashes lines is_left now s held work × IsOwn status × Stays disk
-LinesEnd tells crashes lines is_left now s held work disk (ByStop stops.Disk) =
-    Stopped tells crashes (λ start. FailsOn tells lines now start work) s held work × HasRisen disk × (is_ready s.state.0 ≡ true)
-LinesEnd tells crashes lines is_left now s held work disk (ByStop stops.Memory) =
-    Stopped tells crashes (λ start. RunsOutOn disk tells lines now start work) s held work × (is_ready s.state.0 ≡ true)
-LinesEnd tells crashes lines is_left now s held work disk (ByStop stops.Scripts) = ⊥
+abbrev pub LinesEnd : (tells crashes : Type 0) → Planned → Bool → Moment → Super → Held → Work → Count → End → Type 0
+LinesEnd tells crashes p is_left now s held work disk (Own status) =
+    LinesSay tells p held.image s (record { status = status; text = work.text }) × DoesLines status tells crashes p is_left now s held work × IsOwn status × Stays disk
+LinesEnd tells crashes p is_left now s held work disk (ByStop stops.Disk) =
+    Stopped tells crashes (λ start. FailsOn tells p now start work) s held work × HasRisen disk × (is_ready s.state.0 ≡ true)
+LinesEnd tells crashes p is_left now s held work disk (ByStop stops.Memory) =
+    Stopped tells crashes (λ start. RunsOutOn disk tells p now start work) s held work × (is_ready s.state.0 ≡ true)
+LinesEnd tells crashes p is_left now s held work disk (ByStop stops.Scripts) = ⊥

@@ -3,6 +3,7 @@
 
 mod check;
 mod format;
+mod generate;
 mod law;
 mod line;
 mod log;
@@ -10,6 +11,7 @@ mod log_text;
 mod outcome;
 mod perform;
 mod print;
+mod printed;
 mod redo;
 mod run;
 mod scripts;

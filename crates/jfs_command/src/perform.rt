@@ -1,14 +1,15 @@
 //! The work of each command.
 
-ghost use Rattle.std.specs.Prelude.{◌≡◌, ◌≤◌, [], length};
+ghost use Rattle.std.specs.Prelude.{◌≡◌, ◌≤◌, ◌<◌, ◌^◌, true, [], length};
 ghost use Rattle.jfs_command.specs.Inputs.{Inputs, source_faults};
 ghost use Rattle.jfs_command.specs.Meaning.{Performs};
 ghost use Rattle.jfs_command.specs.Meanings.{job_meaning};
 ghost use Rattle.jfs_command.specs.Top.{PerformsCommand};
-ghost use Rattle.jfs_command.specs.Words.{scripts_taken};
+ghost use Rattle.jfs_command.specs.Words.{is_alone, IsWithin};
 
 use crate::check::check_volume;
 use crate::format::format_volume;
+use crate::generate::generate;
 use crate::log::show_log;
 use crate::outcome::Outcome;
 use crate::redo::redo_volume;
@@ -27,7 +28,7 @@ pub struct Performed<D> {
     pub disk: D,
 }
 
-/// Does the work of a command that needs no threads. One without scripts leaves the sources alone. The disk is handed over and comes back: a command may
+/// Does the work of a command. One without scripts leaves the sources alone. The disk is handed over and comes back: a command may
 /// cut it meanwhile.
 pub fn perform<D: Disk, S: Source>(
     alloc: Global,
@@ -36,7 +37,8 @@ pub fn perform<D: Disk, S: Source>(
     disk: D,
     scripts: &mut Vec<S>,
 ) -> Performed<D>
-    requires { length scripts.old.items ≡ scripts_taken command.job }
+    requires few { length scripts.old.items < 2 ^ 32 }
+    requires within { IsWithin command.job }
     ensures meaning { PerformsCommand D.Disk S.Source command now disk result.disk scripts.old.items scripts.new.items result.outcome }
     ensures pages { D.page_count result.disk ≡ D.page_count disk }
     ensures later { D.fault_count disk ≤ D.fault_count result.disk }
@@ -46,6 +48,14 @@ pub fn perform<D: Disk, S: Source>(
     if let Job::Run { is_left } = command.job {
         return run_scripts(alloc, disk, scripts, now, is_left);
     }
+    if let Job::Generate {
+        number,
+        calls,
+        clients,
+    } = command.job
+    {
+        return generate(alloc, disk, number, calls, clients, now);
+    }
     let mut disk = disk;
     let outcome = on_disk(alloc, command.job, now, &mut disk);
     Performed { outcome, disk }
@@ -53,7 +63,7 @@ pub fn perform<D: Disk, S: Source>(
 
 /// Does a job without scripts, which leaves the disk in one piece.
 fn on_disk<D: Disk>(alloc: Global, job: Job, now: Moment, disk: &mut D) -> Outcome
-    requires { scripts_taken job ≡ 0 }
+    requires { is_alone job ≡ true }
     ensures meaning { (inputs : Inputs) → inputs.now ≡ now → Performs D.Disk (job_meaning job inputs) disk.old disk.new result }
     ensures pages { D.page_count disk.new ≡ D.page_count disk.old }
     ensures later { D.fault_count disk.old ≤ D.fault_count disk.new }
@@ -64,6 +74,6 @@ fn on_disk<D: Disk>(alloc: Global, job: Job, now: Moment, disk: &mut D) -> Outco
         Job::Check => check_volume(alloc, disk),
         Job::Redo => redo_volume(alloc, disk),
         Job::Format { uuid, label } => format_volume(alloc, disk, uuid, &label, now),
-        Job::Run { .. } => unreachable!(),
+        Job::Run { .. } | Job::Generate { .. } => unreachable!(),
     }
 }

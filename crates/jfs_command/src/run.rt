@@ -1,27 +1,30 @@
-//! The command `run`: it does the calls of a script on a volume that is clean, or is mounted and redone first.
+//! The command `run`, and what `gen` has in common with it: the calls of clients on a volume that is clean, or is mounted and redone first.
 
-ghost use Rattle.std.specs.Prelude.{◌≡◌, ◌≤◌, ℕ, true, List, length, Ok, IfOk};
+ghost use Rattle.std.specs.Prelude.{◌≡◌, ◌≤◌, ◌<◌, ◌^◌, ◌++◌, ℕ, true, [], List, length, Ok, IfOk, OnOk};
 ghost use Rattle.jfs_disk.specs.Image.{page_of};
 ghost use Rattle.jfs_super.specs.Rules.{IsAccepted};
 ghost use Rattle.jfs_super.specs.Super.{FitsSuper, super_of};
 ghost use Rattle.jfs_super.specs.declared.fields.TheConstants.VolumeState.{CLEAN};
 ghost use Rattle.jfs_script.specs.History.{IsRisingFrom};
+ghost use Rattle.jfs_run.specs.Tasks.{plan_of, IsPlan};
 ghost use Rattle.jfs_command.specs.Held.{held_of};
 ghost use Rattle.jfs_command.specs.Inputs.{source_faults};
 ghost use Rattle.jfs_command.specs.Meaning.{Performs, work_of};
 ghost use Rattle.jfs_command.specs.Top.{PerformsBy};
-ghost use Rattle.jfs_command.specs.Scripts.{ScriptsSay, AreLines};
 ghost use Rattle.jfs_command.specs.Redo.{is_mounted};
-ghost use Rattle.jfs_command.specs.Run.{end_of, text_before, text_of, Tells, StartEnds, LinesEnd, run_meaning};
+ghost use Rattle.jfs_command.specs.Order.{Order, Asks, planned, by_scripts, IsPrintable};
+ghost use Rattle.jfs_command.specs.Run.{whole_text, front_text, end_of, text_before, text_of, Tells, StartEnds, LinesEnd, run_meaning};
 
 use crate::outcome::{End, Outcome};
 use crate::perform::Performed;
+use crate::printed::Printed;
 use crate::redo::{end_of as not_redone, redone_line};
-use crate::scripts::read_lines;
+use crate::scripts::read_scripts;
 use crate::status::{Status, Stop};
 use crate::superblock::{SUPERBLOCK, look};
 use jfs_bits::{Moment, Rule};
 use jfs_disk::Disk;
+use jfs_gen::write_summary;
 use jfs_io::Source;
 use jfs_plain::{Entry, Line};
 use jfs_redo::redo;
@@ -30,7 +33,7 @@ use jfs_script::{write_done, write_history};
 use jfs_super::{Super, VolumeState};
 use std::alloc::{AllocError, Global};
 
-/// Reads the script whole, and does its calls on the volume of the disk. Nothing is printed before the volume was ended or refused.
+/// Reads the scripts whole, and does their calls on the volume of the disk. Nothing is printed before the volume was ended or refused.
 pub fn run_scripts<D: Disk, S: Source>(
     alloc: Global,
     disk: D,
@@ -38,14 +41,15 @@ pub fn run_scripts<D: Disk, S: Source>(
     now: Moment,
     is_left: bool,
 ) -> Performed<D>
-    requires { length scripts.old.items ≡ 1 }
-    ensures meaning { PerformsBy D.Disk S.Source (λ inputs. run_meaning is_left inputs.scripts inputs.now) now disk result.disk scripts.old.items scripts.new.items result.outcome }
+    requires { length scripts.old.items < 2 ^ 32 }
+    ensures meaning { PerformsBy D.Disk S.Source (λ inputs. run_meaning is_left (by_scripts inputs.scripts) inputs.now) now disk result.disk scripts.old.items scripts.new.items result.outcome }
     ensures pages { D.page_count result.disk ≡ D.page_count disk }
     ensures later { D.fault_count disk ≤ D.fault_count result.disk }
     ensures sources { source_faults S.Source scripts.old.items ≤ source_faults S.Source scripts.new.items }
+    ensures none { scripts.old.items ≡ [] → scripts.new ≡ scripts.old }
 {
-    match read_lines(alloc, scripts) {
-        Ok(lines) => run_on_volume(alloc, disk, lines.as_slice(), now, is_left),
+    match read_scripts(alloc, scripts) {
+        Ok(plan) => run_on_volume(alloc, disk, plan.as_slice(), Printed::History, now, is_left),
         Err(end) => Performed {
             outcome: Outcome::new(alloc, end, Vec::new(alloc)),
             disk,
@@ -53,22 +57,24 @@ pub fn run_scripts<D: Disk, S: Source>(
     }
 }
 
-// Looks at the superblock, and does the calls of lines where it is accepted.
-fn run_on_volume<D: Disk>(
+/// Looks at the superblock, and does the calls of clients' lines where it is accepted.
+pub fn run_on_volume<D: Disk>(
     alloc: Global,
     disk: D,
-    lines: &[Line],
+    plan: &[Vec<Line>],
+    printed: Printed,
     now: Moment,
     is_left: bool,
 ) -> Performed<D>
-    requires { AreLines lines.now }
-    ensures meaning { (scripts : List (List ℕ)) → ScriptsSay scripts (Ok lines.now) → Performs D.Disk (run_meaning is_left scripts now) disk result.disk result.outcome }
+    requires plan { IsPlan (plan_of plan.now) }
+    requires printed { IsPrintable printed }
+    ensures meaning { (order : Order) → Asks order (Ok (planned plan.now printed)) → Performs D.Disk (run_meaning is_left order now) disk result.disk result.outcome }
     ensures pages { D.page_count result.disk ≡ D.page_count disk }
     ensures later { D.fault_count disk ≤ D.fault_count result.disk }
 {
     let mut disk = disk;
     match look(&mut disk) {
-        Ok(s) => run_by_state(alloc, disk, &s, lines, now, is_left),
+        Ok(s) => run_by_state(alloc, disk, &s, plan, printed, now, is_left),
         Err(end) => Performed {
             outcome: Outcome::new(alloc, end, Vec::new(alloc)),
             disk,
@@ -81,25 +87,27 @@ fn run_by_state<D: Disk>(
     alloc: Global,
     disk: D,
     s: &Super,
-    lines: &[Line],
+    plan: &[Vec<Line>],
+    printed: Printed,
     now: Moment,
     is_left: bool,
 ) -> Performed<D>
     requires accepted { IsAccepted s.now (D.page_count disk) }
     requires fits { FitsSuper s.now }
     requires spelled { D.tells → super_of (page_of (D.image disk) 8) ≡ s.now }
-    requires lines { AreLines lines.now }
-    ensures ends { LinesEnd D.tells D.tells_crashes lines.now is_left now s.now (held_of D.Disk disk) (work_of result.outcome (held_of D.Disk result.disk))
+    requires plan { IsPlan (plan_of plan.now) }
+    requires printed { IsPrintable printed }
+    ensures ends { LinesEnd D.tells D.tells_crashes (planned plan.now printed) is_left now s.now (held_of D.Disk disk) (work_of result.outcome (held_of D.Disk result.disk))
         (record { before = D.fault_count disk; now = D.fault_count result.disk }) result.outcome.end }
     ensures pages { D.page_count result.disk ≡ D.page_count disk }
     ensures later { D.fault_count disk ≤ D.fault_count result.disk }
 {
     let state = s.state;
     if state == VolumeState::CLEAN {
-        return run_from(alloc, disk, s, None, lines, now, is_left);
+        return run_from(alloc, disk, s, None, plan, printed, now, is_left);
     }
     if state == VolumeState::MOUNTED {
-        return run_redone(alloc, disk, s, lines, now, is_left);
+        return run_redone(alloc, disk, s, plan, printed, now, is_left);
     }
     let refused = End::Own(Status::BadImage {
         page: SUPERBLOCK,
@@ -117,15 +125,17 @@ fn run_redone<D: Disk>(
     alloc: Global,
     disk: D,
     s: &Super,
-    lines: &[Line],
+    plan: &[Vec<Line>],
+    printed: Printed,
     now: Moment,
     is_left: bool,
 ) -> Performed<D>
     requires accepted { IsAccepted s.now (D.page_count disk) }
     requires fits { FitsSuper s.now }
     requires mounted { is_mounted s.now.state.0 ≡ true }
-    requires lines { AreLines lines.now }
-    ensures ends { LinesEnd D.tells D.tells_crashes lines.now is_left now s.now (held_of D.Disk disk) (work_of result.outcome (held_of D.Disk result.disk))
+    requires plan { IsPlan (plan_of plan.now) }
+    requires printed { IsPrintable printed }
+    ensures ends { LinesEnd D.tells D.tells_crashes (planned plan.now printed) is_left now s.now (held_of D.Disk disk) (work_of result.outcome (held_of D.Disk result.disk))
         (record { before = D.fault_count disk; now = D.fault_count result.disk }) result.outcome.end }
     ensures pages { D.page_count result.disk ≡ D.page_count disk }
     ensures later { D.fault_count disk ≤ D.fault_count result.disk }
@@ -142,7 +152,8 @@ fn run_redone<D: Disk>(
                 disk,
                 &clean,
                 Some(done.transactions),
-                lines,
+                plan,
+                printed,
                 now,
                 is_left,
             )
@@ -160,7 +171,8 @@ fn run_from<D: Disk>(
     disk: D,
     s: &Super,
     redone: Option<u32>,
-    lines: &[Line],
+    plan: &[Vec<Line>],
+    printed: Printed,
     now: Moment,
     is_left: bool,
 ) -> Performed<D>
@@ -168,8 +180,9 @@ fn run_from<D: Disk>(
     requires fits { FitsSuper s.now }
     requires clean { s.now.state ≡ CLEAN }
     requires spelled { D.tells → super_of (page_of (D.image disk) 8) ≡ s.now }
-    requires lines { AreLines lines.now }
-    ensures ends { StartEnds D.tells D.tells_crashes lines.now is_left now (record { super = s.now; image = D.image disk; text = text_before redone }) (D.past disk) (work_of result.outcome (held_of D.Disk result.disk))
+    requires plan { IsPlan (plan_of plan.now) }
+    requires printed { IsPrintable printed }
+    ensures ends { StartEnds D.tells D.tells_crashes (planned plan.now printed) is_left now (record { super = s.now; image = D.image disk; text = text_before redone }) (D.past disk) (work_of result.outcome (held_of D.Disk result.disk))
         (record { before = D.fault_count disk; now = D.fault_count result.disk }) result.outcome.end }
     ensures pages { D.page_count result.disk ≡ D.page_count disk }
     ensures later { D.fault_count disk ≤ D.fault_count result.disk }
@@ -179,27 +192,36 @@ fn run_from<D: Disk>(
         end,
         history,
         told,
-    } = run_lines(alloc, disk, s, lines, now, is_left);
+    } = run_lines(alloc, disk, s, plan, now, is_left);
     Performed {
-        outcome: outcome_of(alloc, redone, end, history, told),
+        outcome: outcome_of(alloc, redone, printed, end, history, told),
         disk,
     }
 }
 
-// The outcome of a run, with the text of its history.
+// The outcome of a run, with its text.
 fn outcome_of(
     alloc: Global,
     redone: Option<u32>,
+    printed: Printed,
     end: RunEnd,
     history: Vec<Entry>,
     told: Vec<u64>,
 ) -> Outcome
-    requires { IsRisingFrom 1 told.items }
-    ensures tells { Tells redone end (record { history = history.items; told = told.items }) result.end result.text.items }
+    requires rising { IsRisingFrom 1 told.items }
+    requires printed { IsPrintable printed }
+    ensures tells { Tells redone printed end (record { history = history.items; told = told.items }) result.end result.text.items }
     ensures history { result.history.items ≡ history.items }
     ensures told { result.told.items ≡ told.items }
 {
-    match text_of(alloc, redone, end, history.as_slice(), told.as_slice()) {
+    match text_of(
+        alloc,
+        redone,
+        printed,
+        end,
+        history.as_slice(),
+        told.as_slice(),
+    ) {
         Ok(text) => Outcome {
             end: end_of(end),
             text,
@@ -215,26 +237,67 @@ fn outcome_of(
     }
 }
 
-// The line of a redo, if there was one, those of the entries, and where all was done the last line.
+// The line of a redo, if there was one, and what is printed of the calls.
 fn text_of(
     alloc: Global,
     redone: Option<u32>,
+    printed: Printed,
     end: RunEnd,
     history: &[Entry],
     told: &[u64],
 ) -> Result<Vec<u8>, AllocError>
-    requires { IsRisingFrom 1 told.now }
-    ensures { IfOk result (λ text. text.items ≡ text_of redone end (record { history = history.now; told = told.now })) }
+    requires rising { IsRisingFrom 1 told.now }
+    requires printed { IsPrintable printed }
+    ensures { IfOk result (λ text. text.items ≡ text_of redone printed end (record { history = history.now; told = told.now })) }
 {
     let mut text = match redone {
         Some(count) => redone_line(alloc, count)?.into_bytes(),
         None => Vec::new(alloc),
     };
-    write_history(alloc, history, told, &mut text)?;
-    if matches!(end, RunEnd::Done) {
-        write_done(alloc, history.len(), told.len(), &mut text)?;
+    match end {
+        RunEnd::Done => push_whole(alloc, printed, history, told, &mut text)?,
+        RunEnd::BadImage(_) => {}
+        RunEnd::Disk | RunEnd::Memory => push_front(alloc, printed, history, told, &mut text)?,
     }
     Ok(text)
+}
+
+// What is printed of a run that is done.
+fn push_whole(
+    alloc: Global,
+    printed: Printed,
+    history: &[Entry],
+    told: &[u64],
+    text: &mut Vec<u8>,
+) -> Result<(), AllocError>
+    requires rising { IsRisingFrom 1 told.now }
+    requires printed { IsPrintable printed }
+    ensures { OnOk result (text.new.items ≡ text.old.items ++ whole_text printed (record { history = history.now; told = told.now })) }
+{
+    match printed {
+        Printed::History => {
+            write_history(alloc, history, told, text)?;
+            write_done(alloc, history.len(), told.len(), text)
+        }
+        Printed::Summary { clients } => write_summary(alloc, history, clients, text),
+    }
+}
+
+// What is printed of a run that was stopped.
+fn push_front(
+    alloc: Global,
+    printed: Printed,
+    history: &[Entry],
+    told: &[u64],
+    text: &mut Vec<u8>,
+) -> Result<(), AllocError>
+    requires { IsRisingFrom 1 told.now }
+    ensures { OnOk result (text.new.items ≡ text.old.items ++ front_text printed (record { history = history.now; told = told.now })) }
+{
+    match printed {
+        Printed::History => write_history(alloc, history, told, text),
+        Printed::Summary { .. } => Ok(()),
+    }
 }
 
 // How the command ends by the end of the run.

@@ -1,13 +1,21 @@
 //! The grammar of the words. It is read by hand: there are few commands, and each refusal names its word.
 
-ghost use Rattle.std.specs.Prelude.{◌≡◌, ◌≤◌, true, Ok, IfOk, IfErr};
+ghost use Rattle.std.specs.Prelude.{◌≡◌, ◌≤◌, ◌<◌, ◌+◌, ◌*◌, ◌^◌, true, Ok, IfOk, IfErr};
+ghost use Rattle.std.specs.Option.{SomeIff};
 ghost use Rattle.std.specs.List.{list_all};
 ghost use Rattle.std.specs.Str.{is_utf8, bytes_eq};
 ghost use Rattle.jfs_format.specs.Superblock.{label_field};
-ghost use Rattle.jfs_command.specs.Words.{texts, is_visible, is_label, with_label, with_uuid, image_and_uuid, is_name, begins_with_dash, command_of, on_image, image_alone, run_at, image_and_script, leave_and_rest, places_of, script_words, UsageIs};
+ghost use Rattle.jfs_script.specs.Number.{numeral};
+ghost use Rattle.jfs_command.specs.Words.{texts, is_visible, is_label, with_label, with_uuid, image_and_uuid, is_name, begins_with_dash, command_of, on_image, image_alone, place, run_at, names_in_front, image_and_scripts, leave_and_rest, begins_well, number_up_to, generate, with_clients, with_calls, with_number, image_and_numbers, places_of, script_words, is_alone, UsageIs};
 
 use std::alloc::{AllocError, Global};
 use uuid::Uuid;
+
+/// The greatest number of generated calls of a client.
+const MOST_CALLS: u64 = 4094;
+
+/// The greatest number of clients.
+const MOST_CLIENTS: u64 = 16;
 
 /// The words leave the grammar at this word, counted from 1, or end before it.
 #[derive(Clone, Copy, PartialEq, Eq, Debug)]
@@ -27,9 +35,29 @@ pub enum Job {
     /// Redo the volume of the image by its log.
     Redo,
     /// Write an empty volume over all pages of the image; behind the label stand zeros.
-    Format { uuid: Uuid, label: [u8; 16] },
-    /// Do the calls of a script on the volume of the image, and unmount it, unless it is to be left mounted.
-    Run { is_left: bool },
+    Format {
+        uuid: Uuid,
+        label: [u8; 16],
+    },
+    /// Do the calls of scripts on the volume of the image, each for a client, and unmount it, unless it is to be left mounted.
+    Run {
+        is_left: bool,
+    },
+    /// Do so many generated calls of so many clients on the volume of the image, and unmount it.
+    Generate {
+        number: u64,
+        calls: u32,
+        clients: u32,
+    },
+}
+
+impl Job {
+    /// Whether it has no clients.
+    pub fn is_alone(self) -> bool
+        ensures { result ≡ is_alone self }
+    {
+        !matches!(self, Job::Run { .. } | Job::Generate { .. })
+    }
 }
 
 /// The words that name scripts. They stand one behind the other: from place `first` on, counted from 1, up to `end`, which is the place behind the last of them.
@@ -71,19 +99,30 @@ impl Command {
         }
     }
 
-    /// A run of the script that the word behind the image names.
-    fn run_at(is_left: bool, image: u32) -> Command
+    /// A run of so many scripts, which the words behind the image name.
+    fn run_at(is_left: bool, image: u32, count: usize) -> Command
         requires { image ≤ 3 }
-        ensures { result ≡ run_at is_left image }
+        ensures { result ≡ run_at is_left image count }
     {
         Command {
             job: Job::Run { is_left },
             image,
             scripts: Scripts {
                 first: image + 1,
-                end: image + 2,
+                end: behind(image + 1, count),
             },
         }
+    }
+}
+
+// The place so many words behind another.
+fn behind(at: u32, count: usize) -> u32
+    requires { at ≤ 4 }
+    ensures { result ≡ place (at + count) }
+{
+    match u32::try_from(count) {
+        Ok(count) => at.saturating_add(count),
+        Err(_) => u32::MAX,
     }
 }
 
@@ -132,6 +171,7 @@ pub fn read_words(words: &[Vec<u8>]) -> Result<Command, Usage>
         [first, rest @ ..] if is_word(first, b"redo") => image_alone(Job::Redo, rest),
         [first, rest @ ..] if is_word(first, b"format") => image_and_uuid(rest),
         [first, rest @ ..] if is_word(first, b"run") => leave_and_rest(rest),
+        [first, rest @ ..] if is_word(first, b"gen") => image_and_numbers(rest),
         _ => Err(Usage { word: 1 }),
     }
 }
@@ -186,29 +226,150 @@ fn with_label(uuid: Uuid, words: &[Vec<u8>]) -> Result<Command, Usage>
     }
 }
 
-// The words of `run`: perhaps `--leave`, then an image and a script.
+// The words of `run`: perhaps `--leave`, then an image and scripts.
 fn leave_and_rest(words: &[Vec<u8>]) -> Result<Command, Usage>
     ensures { result ≡ leave_and_rest (texts words.now) }
 {
     match words {
-        [first, rest @ ..] if is_word(first, b"--leave") => image_and_script(true, 3, rest),
-        _ => image_and_script(false, 2, words),
+        [first, rest @ ..] if is_word(first, b"--leave") => image_and_scripts(true, 3, rest),
+        _ => image_and_scripts(false, 2, words),
     }
 }
 
-// An image and a script, and nothing else; the first of these words stands at this place.
-fn image_and_script(is_left: bool, place: u32, words: &[Vec<u8>]) -> Result<Command, Usage>
-    requires { place ≤ 3 }
-    ensures { result ≡ image_and_script is_left place (texts words.now) }
+// An image and one script or more, and nothing else; the first of these words stands at this place.
+fn image_and_scripts(is_left: bool, at: u32, words: &[Vec<u8>]) -> Result<Command, Usage>
+    requires { at ≤ 3 }
+    ensures { result ≡ image_and_scripts is_left at (texts words.now) }
 {
     match words {
-        [image, script] if is_name(image) && is_name(script) => Ok(Command::run_at(is_left, place)),
-        [image, script, _, ..] if is_name(image) && is_name(script) => Err(Usage {
-            word: place + 2,
-        }),
-        [image, ..] if is_name(image) => Err(Usage { word: place + 1 }),
-        _ => Err(Usage { word: place }),
+        [image, scripts @ ..] if is_name(image) => {
+            let names = names_in_front(scripts);
+            if 0 < scripts.len() && names == scripts.len() {
+                return Ok(Command::run_at(is_left, at, names));
+            }
+            Err(Usage {
+                word: behind(at + 1, names),
+            })
+        }
+        _ => Err(Usage { word: at }),
     }
+}
+
+// How many words at the front may name files.
+fn names_in_front(words: &[Vec<u8>]) -> usize
+    ensures { result ≡ names_in_front (texts words.now) }
+{
+    let mut count = 0;
+    for word in words {
+        if !is_name(word) {
+            return count;
+        }
+        count += 1;
+    }
+    count
+}
+
+// The words of `gen`: an image and three numbers.
+fn image_and_numbers(words: &[Vec<u8>]) -> Result<Command, Usage>
+    ensures { result ≡ image_and_numbers (texts words.now) }
+{
+    match words {
+        [image, rest @ ..] if is_name(image) => with_number(rest),
+        _ => Err(Usage { word: 2 }),
+    }
+}
+
+fn with_number(words: &[Vec<u8>]) -> Result<Command, Usage>
+    ensures { result ≡ with_number (texts words.now) }
+{
+    match words {
+        [word, rest @ ..] => match number_up_to(u64::MAX, word) {
+            Some(number) => with_calls(number, rest),
+            None => Err(Usage { word: 3 }),
+        },
+        [] => Err(Usage { word: 3 }),
+    }
+}
+
+fn with_calls(number: u64, words: &[Vec<u8>]) -> Result<Command, Usage>
+    ensures { result ≡ with_calls number (texts words.now) }
+{
+    match words {
+        [word, rest @ ..] => match number_up_to(MOST_CALLS, word) {
+            Some(calls) => with_clients(number, calls as u32, rest),
+            None => Err(Usage { word: 4 }),
+        },
+        [] => Err(Usage { word: 4 }),
+    }
+}
+
+fn with_clients(number: u64, calls: u32, words: &[Vec<u8>]) -> Result<Command, Usage>
+    ensures { result ≡ with_clients number calls (texts words.now) }
+{
+    match words {
+        [word, rest @ ..] => match number_up_to(MOST_CLIENTS, word) {
+            Some(clients) if clients >= 1 => generate(number, calls, clients as u32, rest),
+            _ => Err(Usage { word: 5 }),
+        },
+        [] => Err(Usage { word: 5 }),
+    }
+}
+
+// Behind the numbers stands nothing.
+fn generate(number: u64, calls: u32, clients: u32, words: &[Vec<u8>]) -> Result<Command, Usage>
+    ensures { result ≡ generate number calls clients (texts words.now) }
+{
+    match words {
+        [] => Ok(Command::on_image(Job::Generate {
+            number,
+            calls,
+            clients,
+        })),
+        _ => Err(Usage { word: 6 }),
+    }
+}
+
+// A number in decimal digits without a zero in front, up to this one.
+fn number_up_to(most: u64, word: &[u8]) -> Option<u64>
+    ensures { result ≡ number_up_to most word.now }
+{
+    if !begins_well(word) {
+        return None;
+    }
+    match numeral(word) {
+        Some(number) if number <= most => Some(number),
+        _ => None,
+    }
+}
+
+fn begins_well(word: &[u8]) -> bool
+    ensures { result ≡ begins_well word.now }
+{
+    !matches!(word, [] | [b'0', _, ..])
+}
+
+// The number of 64 bits that decimal digits spell.
+fn numeral(word: &[u8]) -> Option<u64>
+    ensures { result ≡ numeral 10 word.now }
+{
+    let mut value = 0;
+    for byte in word {
+        if *byte < b'0' || *byte > b'9' {
+            return None;
+        }
+        match with_digit(value, *byte - b'0') {
+            Some(longer) => value = longer,
+            None => return None,
+        }
+    }
+    Some(value)
+}
+
+// The number with a further digit, if 64 bits have room for it.
+fn with_digit(value: u64, digit: u8) -> Option<u64>
+    ensures { SomeIff result (value * 10 + digit < 2 ^ 64) (value * 10 + digit) }
+{
+    value.checked_mul(10)?.checked_add(u64::from(digit))
 }
 
 // A label and the zeros behind it.

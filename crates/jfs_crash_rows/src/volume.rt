@@ -1,6 +1,7 @@
 //! A new volume on which scripts are run. Its file system part has 3,008 blocks, and its log begins at page 3,072 and has 1,024 pages.
 
-ghost use Rattle.std.specs.Prelude.{IfSome};
+ghost use Rattle.std.specs.Prelude.{◌≤◌, length, IfSome};
+ghost use Rattle.jfs_run.specs.Tasks.{plan_of, IsPlan};
 ghost use Rattle.jfs_script.specs.History.{IsRisingFrom};
 ghost use Rattle.jfs_script.specs.Script.{AllFit};
 ghost use Rattle.jfs_super.specs.Rules.{IsAccepted};
@@ -70,6 +71,10 @@ pub fn ran<D: Disk + Drop>(alloc: Global, disk: D, lines: &[Line], is_left: bool
     requires { AllFit lines.now }
     ensures { IfSome result (λ r. IsRisingFrom 1 r.told.items) }
 {
+    if lines.len() > 4096 {
+        return None;
+    }
+    let scripts = one_script(alloc, lines)?;
     let mut disk = disk;
     let pages = disk.pages();
     let mut page = Page::zeros();
@@ -77,10 +82,27 @@ pub fn ran<D: Disk + Drop>(alloc: Global, disk: D, lines: &[Line], is_left: bool
         return None;
     }
     let s = read_super(&page, pages).ok()?;
-    if s.state != VolumeState::CLEAN || lines.len() > 4096 {
+    if s.state != VolumeState::CLEAN {
         return None;
     }
-    Some(run_lines(alloc, disk, &s, lines, NOW, is_left))
+    Some(run_lines(alloc, disk, &s, &scripts, NOW, is_left))
+}
+
+/// One script, of these lines.
+fn one_script(alloc: Global, lines: &[Line]) -> Option<Vec<Vec<Line>>>
+    requires fits { AllFit lines.now }
+    requires few { length lines.now ≤ 4096 }
+    ensures { IfSome result (λ scripts. IsPlan (plan_of scripts.items)) }
+{
+    let mut script = Vec::new(alloc);
+    for line in lines {
+        let request = line.request.copy(alloc).ok()?;
+        let number = line.number;
+        script.push(Line { number, request }).ok()?;
+    }
+    let mut scripts = Vec::new(alloc);
+    scripts.push(script).ok()?;
+    Some(scripts)
 }
 
 /// A disk that a run left, and how many of the script's lines have to be found on it: those up to the last one that was told.

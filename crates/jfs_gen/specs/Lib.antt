@@ -1,3 +1,4 @@
 -- what the clauses say
 pub mod Workload
+pub mod Summary
 pub mod Limits

@@ -28,7 +28,7 @@ pub fn file_path(alloc: Global, client: u32, file: u32) -> Result<Path, AllocErr
 }
 
 /// A letter and a number of one or two digits.
-fn numbered(alloc: Global, letter: u8, number: u32) -> Result<Name, AllocError>
+pub(crate) fn numbered(alloc: Global, letter: u8, number: u32) -> Result<Name, AllocError>
     requires { number < 100 }
     ensures { IfOk result (λ name. name ≡ letter ∷ decimal number) }
 {

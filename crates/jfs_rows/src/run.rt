@@ -1,4 +1,4 @@
-//! The command `run` with one script. Texts are worked out by hand.
+//! The command `run` with one script, and words that leave the grammar. Texts are worked out by hand.
 
 use crate::check::{CLEAN, altered, new_volume};
 use crate::faults::faults_of;
@@ -309,12 +309,12 @@ fn the_log_of_a_volume_that_is_left(rt: HostRuntime) {
 static WRONG_WORDS: [(&[&str], u32); 11] = [
     (&["run"], 2),
     (&["run", "I"], 3),
-    (&["run", "I", "S", "T"], 4),
+    (&["run", "I", "S", "-T"], 4),
     (&["run", "-I", "S"], 2),
     (&["run", "I", "-S"], 3),
     (&["run", "--leave"], 3),
     (&["run", "--leave", "I"], 4),
-    (&["run", "--leave", "I", "S", "T"], 5),
+    (&["run", "--leave", "I", "S", "-T", "U"], 5),
     (&["run", "I", "--leave"], 3),
     (&["run", "--leave", "--leave", "I"], 3),
     (&["--leave", "run", "I", "S"], 1),

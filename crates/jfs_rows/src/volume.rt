@@ -145,6 +145,35 @@ fn sources(alloc: Global, places: &[u32], script: Script<'_>) -> Result<Vec<MemS
     Ok(sources)
 }
 
+/// A source of each of these texts, one a place; behind the last one none is left.
+fn sources_of(alloc: Global, places: &[u32], texts: &[&str]) -> Result<Vec<MemSource>, AllocError>
+    ensures { IfOk result (λ sources. length sources.items ≡ length places.now) }
+{
+    let mut sources = Vec::new(alloc);
+    let mut rest = texts.iter();
+    for place in places {
+        let _ = place;
+        let text = rest.next().copied().unwrap_or("");
+        sources.push(Script::of(text).source(alloc)?)?;
+    }
+    Ok(sources)
+}
+
+/// Runs the top call with these words, of which each script's has a text; `None` where there is no memory for them.
+pub fn run_all<R: Threads + Wait + Sync, K: Sink>(
+    rt: &R,
+    alloc: Global,
+    words: &[&str],
+    scripts: &[&str],
+    disk: MemDisk,
+    out: &mut K,
+) -> Option<Ended<MemDisk>> {
+    let words = words_of(alloc, words).ok()?;
+    let places = places_of(alloc, &words).ok()?;
+    let mut scripts = sources_of(alloc, &places, scripts).ok()?;
+    Some(top(rt, alloc, &words, disk, &mut scripts, out))
+}
+
 /// Runs the top call with these words; `None` where there is no memory for them.
 pub fn run<R: Threads + Wait + Sync, K: Sink>(
     rt: &R,

@@ -5,24 +5,20 @@ use Rattle.std.proofs.lemmas.Bool.{false≢true}
 use Rattle.jfs_disk.specs.declared.disk.Fault.{Fault}
 use Rattle.std.proofs.lemmas.List.{append-nil, take-append-le, take_all, take_more}
 use Rattle.jfs_plain.specs.declared.call.Entry.{Entry}
-use Rattle.jfs_plain.specs.declared.call.Line.{Line}
 use Rattle.jfs_script.specs.History.{IsRisingFrom}
-use Rattle.jfs_run.specs.Calls.{IsEntryOf, AreEntriesOf, IsTakenAs, AreTakenAs, waits, waiting_from}
+use Rattle.jfs_run.specs.Tasks.{Task, AreEntries}
+use Rattle.jfs_run.specs.Calls.{IsEntryOf, IsTakenAs, AreTakenAs, waits, waiting_from}
 use Rattle.jfs_run.specs.Serving.{IsTold}
 
 -- ---- entries
 
-pub one_more : (ls : List Line) (es : List Entry) (l : Line) (e : Entry) → AreEntriesOf ls es → IsEntryOf l e → AreEntriesOf (ls ++ l ∷ []) (es ++ e ∷ [])
-one_more [] [] l e all is = (is, tt)
-one_more [] (x ∷ xs) l e all is = absurd all
-one_more (y ∷ ys) [] l e all is = absurd all
-one_more (y ∷ ys) (x ∷ xs) l e all is = (all.0, one_more ys xs l e all.1 is)
+pub one_more : (ts : List Task) (es : List Entry) (t : Task) (e : Entry) → AreEntries ts es → IsEntryOf t.client t.line e → AreEntries (ts ++ t ∷ []) (es ++ e ∷ [])
+one_more [] [] t e all is = (is, tt)
+one_more [] (x ∷ xs) t e all is = absurd all
+one_more (y ∷ ys) [] t e all is = absurd all
+one_more (y ∷ ys) (x ∷ xs) t e all is = (all.0, one_more ys xs t e all.1 is)
 
-pub next_line : (lines : List Line) (i : ℕ) (l : Line) (es : List Entry) (e : Entry) → i < length lines → l ≡ get_or lines i l → AreEntriesOf (take i lines) es → IsEntryOf l e → AreEntriesOf (take (i + 1) lines) (es ++ e ∷ [])
-next_line lines i l es e less is all one =
-    rw (take_more lines i l less) (rw (← is) (one_more (take i lines) es l e all one))
-
-pub as_many : (ls : List Line) (es : List Entry) → AreEntriesOf ls es → length es ≡ length ls
+pub as_many : (ts : List Task) (es : List Entry) → AreEntries ts es → length es ≡ length ts
 as_many [] [] all = refl
 as_many [] (x ∷ xs) all = absurd all
 as_many (y ∷ ys) [] all = absurd all

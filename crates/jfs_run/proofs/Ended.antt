@@ -1,12 +1,12 @@
 -- A run on a mounted volume ends.
-use Rattle.std.proofs.Common.{◌≡◌, ◌⊎◌, ◌+◌, ◌-◌, ◌<◌, ◌≤◌, ◌^◌, refl, sym, subst, ℕ, Bool, true, false, List, length, take, inl, inr, None, arith}
+use Rattle.std.proofs.Common.{◌≡◌, ◌⊎◌, ◌+◌, ◌-◌, ◌<◌, ◌≤◌, ◌^◌, refl, sym, subst, ℕ, Bool, true, false, List, [], take, inl, inr, None, arith}
 use Rattle.std.specs.Prelude.{◌==◌, ◌||◌, not, min, if◌then◌else◌}
-use Rattle.std.proofs.lemmas.List.{take_all}
 use Rattle.std.proofs.lemmas.Bool.{cases_eq, eq-eqb, eqb-true, ne_eqb}
 use Rattle.jfs_bits.specs.Count.{Rose}
 use Rattle.jfs_plain.specs.declared.call.Line.{Line}
 use Rattle.jfs_script.specs.History.{IsRisingFrom}
-use Rattle.jfs_run.specs.Calls.{Calls, AreEntriesOf, AllTold, FirstTold, any_failed}
+use Rattle.jfs_run.specs.Tasks.{Task, tasks_from}
+use Rattle.jfs_run.specs.Calls.{Calls, AllTold, FirstTold, any_failed}
 use Rattle.jfs_run.specs.Growth.{Grows}
 use Rattle.jfs_run.specs.Run.{Seen, IsUnmounted}
 use Rattle.jfs_run.specs.Serving.{State, PartRose, IsTold, HasServed, ServedIs}
@@ -15,6 +15,7 @@ use Rattle.jfs_run.specs.declared.client.Served.{Served}
 use Rattle.jfs_run.specs.declared.client.Served.TheVariants as serves
 use Rattle.jfs_run.specs.declared.run.RunEnd.TheVariants as ends
 use Rattle.jfs_run.proofs.Called.{told_rise}
+use Rattle.jfs_run.proofs.Plans.{fronts, whole as all_called, whole_begins}
 use Rattle.jfs_run.proofs.Counts.{at_least, both_grow, both_rose, rose_on, rose_since, grows_on}
 
 -- the counts of both parts, joined
@@ -31,11 +32,11 @@ first_told s told is = record { waiting = is.waiting; are = is.are; count = is.f
 pub rising : (s : State) (told : List ℕ) → IsTold s.volume.halted s.volume.entries told → IsRisingFrom 1 told
 rising s told is = subst (IsRisingFrom 1) (sym is.first.1) (told_rise is.first.0 is.waiting)
 
-pub served_rises : (first now : State) (lines : List Line) (told : List ℕ) (served : Served) → ServedIs first lines told now served → IsRisingFrom 1 told
-served_rises first now lines told serves.All is = rising now told is.told_is
-served_rises first now lines told serves.NoMemory (n, le, is) = rising now told is.told_is
+pub served_rises : (first now : State) (tasks : List Task) (told : List ℕ) (served : Served) → ServedIs first [] tasks told now served → IsRisingFrom 1 told
+served_rises first now tasks told serves.All is = rising now told is.told_is
+served_rises first now tasks told serves.NoMemory (n, le, is) = rising now told is.told_is
 
-module _ (first now : State) (before : ℕ) (counts : first.volume.faults + first.high ≡ before) (few : before < 2 ^ 64) (ls : List Line) (told : List ℕ) (served : HasServed first ls told now)
+module _ (first now : State) (before : ℕ) (counts : first.volume.faults + first.high ≡ before) (few : before < 2 ^ 64) (ts : List Task) (told : List ℕ) (served : HasServed first ts told now)
     (total : ℕ) (grown : Grows (joint now) total) where
   low_high : first.volume.faults + first.high < 2 ^ 64
   low_high = omega (arith, counts, few)
@@ -98,51 +99,54 @@ module _ (first now : State) (before : ℕ) (counts : first.volume.faults + firs
     pub unmounted : (tells crashes : Type 0) (superblock : List ℕ) (new : Seen) → new.faults ≡ total → Rose (joint now) new.faults ⊎ IsEnded tells crashes superblock (joint now) new → IsUnmounted tells crashes superblock new
     unmounted tells crashes superblock new is ended = (unrisen new.faults is ended).unmounted
 
-module _ (tells crashes : Type 0) (superblock : List ℕ) (lines : List Line) (is_left is_full : Bool) (first now : State) (before : ℕ) (counts : first.volume.faults + first.high ≡ before) (few : before < 2 ^ 64)
+module _ (tells crashes : Type 0) (superblock : List ℕ) (plan : List (List Line)) (is_left is_full : Bool) (first now : State) (before : ℕ) (counts : first.volume.faults + first.high ≡ before) (few : before < 2 ^ 64)
     (told : List ℕ) (new : Seen) (grown : Grows (joint now) new.faults)
     (ended : is_left ≡ false → now.volume.halted ≡ None → is_full ≡ false → Rose (joint now) new.faults ⊎ IsEnded tells crashes superblock (joint now) new) where
-  -- memory ran out
-  short : (n : ℕ) → n ≤ length lines → HasServed first (take n lines) told now → RunSince tells crashes superblock lines is_left before new (calls_of now told) ends.Memory
-  short n le served = (((n, le, served.entries), first_told now told served.told_is), all_told first now before counts few (take n lines) told served new.faults grown, all_calm first now before counts few (take n lines) told served new.faults grown)
+  abbrev tasks : List Task
+  tasks = tasks_from 1 plan
 
-  full : HasServed first lines told now → RunSince tells crashes superblock lines is_left before new (calls_of now told) ends.Memory
+  -- memory ran out
+  short : (n : ℕ) → HasServed first (take n tasks) told now → RunSince tells crashes superblock plan is_left before new (calls_of now told) ends.Memory
+  short n served = ((fronts plan n now.volume.entries served.entries, first_told now told served.told_is), all_told first now before counts few (take n tasks) told served new.faults grown, all_calm first now before counts few (take n tasks) told served new.faults grown)
+
+  full : HasServed first tasks told now → RunSince tells crashes superblock plan is_left before new (calls_of now told) ends.Memory
   full served = (
-    ((length lines, (omega arith), subst (λ (ls : List Line). AreEntriesOf ls now.volume.entries) (sym (take_all (length lines) lines (omega arith))) served.entries), first_told now told served.told_is),
-    all_told first now before counts few lines told served new.faults grown,
-    all_calm first now before counts few lines told served new.faults grown,
+    (whole_begins plan now.volume.entries (all_called plan now.volume.entries served.entries), first_told now told served.told_is),
+    all_told first now before counts few tasks told served new.faults grown,
+    all_calm first now before counts few tasks told served new.faults grown,
   )
 
-  faulty : HasServed first lines told now → Rose before new.faults → RunSince tells crashes superblock lines is_left before new (calls_of now told) ends.Disk
-  faulty served rose = (rose, (served.entries, first_told now told served.told_is))
+  faulty : HasServed first tasks told now → Rose before new.faults → RunSince tells crashes superblock plan is_left before new (calls_of now told) ends.Disk
+  faulty served rose = (rose, (all_called plan now.volume.entries served.entries, first_told now told served.told_is))
 
-  whole : HasServed first lines told now → is_full ≡ false → new.faults ≡ before → (new.faults ≡ 2 ^ 64 - 1 → ⊥) → RunSince tells crashes superblock lines is_left before new (calls_of now told) ends.Done
+  whole : HasServed first tasks told now → is_full ≡ false → new.faults ≡ before → (new.faults ≡ 2 ^ 64 - 1 → ⊥) → RunSince tells crashes superblock plan is_left before new (calls_of now told) ends.Done
   whole served room same below = record {
-    entries = served.entries;
-    told = told_whole first now before counts few lines told served new.faults grown same below;
-    calm = calm first now before counts few lines told served new.faults grown same below;
+    entries = all_called plan now.volume.entries served.entries;
+    told = told_whole first now before counts few tasks told served new.faults grown same below;
+    calm = calm first now before counts few tasks told served new.faults grown same below;
     faults_are = same;
-    ended = λ left. unmounted first now before counts few lines told served new.faults grown same below tells crashes superblock new refl
-        (ended left (runs first now before counts few lines told served new.faults grown same below) room);
+    ended = λ left. unmounted first now before counts few tasks told served new.faults grown same below tells crashes superblock new refl
+        (ended left (runs first now before counts few tasks told served new.faults grown same below) room);
   }
 
-  risen : HasServed first lines told now → (new.faults ≡ before → ⊥) → Grows before new.faults → Rose before new.faults
+  risen : HasServed first tasks told now → (new.faults ≡ before → ⊥) → Grows before new.faults → Rose before new.faults
   risen served other (inl same) = absurd (other same)
   risen served other (inr rose) = rose
 
   -- by the count and by room
-  by_room : HasServed first lines told now → new.faults ≡ before → (new.faults ≡ 2 ^ 64 - 1 → ⊥) → (b : Bool) → is_full ≡ b → RunSince tells crashes superblock lines is_left before new (calls_of now told) (if b then ends.Memory else ends.Done)
+  by_room : HasServed first tasks told now → new.faults ≡ before → (new.faults ≡ 2 ^ 64 - 1 → ⊥) → (b : Bool) → is_full ≡ b → RunSince tells crashes superblock plan is_left before new (calls_of now told) (if b then ends.Memory else ends.Done)
   by_room served same below true is = full served
   by_room served same below false is = whole served is same below
 
-  by_count : HasServed first lines told now → (new.faults ≡ before) ⊎ (new.faults ≡ before → ⊥) → (new.faults ≡ 2 ^ 64 - 1) ⊎ (new.faults ≡ 2 ^ 64 - 1 → ⊥)
-      → RunSince tells crashes superblock lines is_left before new (calls_of now told) (end_after serves.All is_full before new.faults)
+  by_count : HasServed first tasks told now → (new.faults ≡ before) ⊎ (new.faults ≡ before → ⊥) → (new.faults ≡ 2 ^ 64 - 1) ⊎ (new.faults ≡ 2 ^ 64 - 1 → ⊥)
+      → RunSince tells crashes superblock plan is_left before new (calls_of now told) (end_after serves.All is_full before new.faults)
   by_count served (inr other) last =
-      rw (ne_eqb new.faults before other) (faulty served (risen served other (total_grew first now before counts few lines told served new.faults grown)))
+      rw (ne_eqb new.faults before other) (faulty served (risen served other (total_grew first now before counts few tasks told served new.faults grown)))
   by_count served (inl same) (inl last) = rw (eq-eqb new.faults before same, eq-eqb new.faults (2 ^ 64 - 1) last) (faulty served (inr last))
   by_count served (inl same) (inr below) = rw (eq-eqb new.faults before same, ne_eqb new.faults (2 ^ 64 - 1) below) (by_room served same below is_full refl)
 
-  pub run_ends : (served : Served) → ServedIs first lines told now served → RunSince tells crashes superblock lines is_left before new (calls_of now told) (end_after served is_full before new.faults)
-  run_ends serves.NoMemory (n, le, is) = short n le is
+  pub run_ends : (served : Served) → ServedIs first [] tasks told now served → RunSince tells crashes superblock plan is_left before new (calls_of now told) (end_after served is_full before new.faults)
+  run_ends serves.NoMemory (n, le, is) = short n is
   run_ends serves.All is = by_count is (cases_eq new.faults before) (cases_eq new.faults (2 ^ 64 - 1))
 
 -- ---- a run that is done
@@ -164,5 +168,5 @@ done_through serves.All is_full before now e = by (now == before) refl (now == 2
     by true x false y true z e = absurd (cc (e))
     by true x false y false z e = record { all = refl; room = z; same = eqb-true now before x; below = λ last. absurd (cc (y, eq-eqb now (2 ^ 64 - 1) last)) }
 
-pub all_of : (first now : State) (lines : List Line) (told : List ℕ) (served : Served) → served ≡ serves.All → ServedIs first lines told now served → HasServed first lines told now
-all_of first now lines told served is served_is = subst (ServedIs first lines told now) is served_is
+pub all_of : (first now : State) (tasks : List Task) (told : List ℕ) (served : Served) → served ≡ serves.All → ServedIs first [] tasks told now served → HasServed first tasks told now
+all_of first now tasks told served is served_is = subst (ServedIs first [] tasks told now) is served_is

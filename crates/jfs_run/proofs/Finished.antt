@@ -19,23 +19,23 @@ use Rattle.jfs_run.specs.declared.run.RunEnd.TheVariants as ends
 abbrev pub nothing : Calls
 nothing = record { history = []; told = [] }
 
-module _ (tells crashes : Type 0) (s : Super) (lines : List Line) (is_left : Bool) (old new : Seen) where
+module _ (tells crashes : Type 0) (s : Super) (plan : List (List Line)) (is_left : Bool) (old new : Seen) where
   -- nothing was called
   pub refused : (bad : BadMount) → new.faults ≡ old.faults → (tells → broken_mount (subject_of s (page_of old.image)) ≡ Some bad) → (tells → new.image ≡ old.image) → (crashes → new.past ≡ old.past)
-      → RunIs tells crashes s lines is_left old new nothing (ends.BadImage bad)
+      → RunIs tells crashes s plan is_left old new nothing (ends.BadImage bad)
   refused bad faults rule image past = record { calls = (refl, refl); faults = faults; rule = rule; image = image; past = past }
 
   uncalled : (tells → StayBeside s old.image new.image) → IsUncalled tells s old new nothing
   uncalled pages = record { calls = (refl, refl); pages = pages }
 
-  pub unread : Rose old.faults new.faults → (tells → StayBeside s old.image new.image) → RunIs tells crashes s lines is_left old new nothing ends.Disk
+  pub unread : Rose old.faults new.faults → (tells → StayBeside s old.image new.image) → RunIs tells crashes s plan is_left old new nothing ends.Disk
   unread rose pages = record { rose = rose; done = inl (uncalled pages) }
 
-  pub unbegun : (tells → StayBeside s old.image new.image) → RunIs tells crashes s lines is_left old new nothing ends.Memory
+  pub unbegun : (tells → StayBeside s old.image new.image) → RunIs tells crashes s plan is_left old new nothing ends.Memory
   unbegun pages = record { done = inl (uncalled pages); told = inr (record { waiting = []; are = tt; told_is = refl }); calm = inr refl }
 
   -- a taking failed
-  pub took_nothing : (end : RunEnd) → FailsToTake old.faults new.faults end → (tells → StayBeside s old.image new.image) → RunIs tells crashes s lines is_left old new nothing end
+  pub took_nothing : (end : RunEnd) → FailsToTake old.faults new.faults end → (tells → StayBeside s old.image new.image) → RunIs tells crashes s plan is_left old new nothing end
   took_nothing ends.Done cause pages = absurd cause
   took_nothing (ends.BadImage bad) cause pages = absurd cause
   took_nothing ends.Disk cause pages = unread cause pages
@@ -43,7 +43,7 @@ module _ (tells crashes : Type 0) (s : Super) (lines : List Line) (is_left : Boo
 
   -- the mount was refused
   pub unmounted : (why : MountError) → (tells → IsRefusal s old.image why) → IsMountCause old.faults new.faults why → (tells → StayBeside s old.image new.image) → (tells → IsBeforeCut why → new.image ≡ old.image) → (crashes → IsBeforeCut why → new.past ≡ old.past)
-      → RunIs tells crashes s lines is_left old new nothing (end_of why)
+      → RunIs tells crashes s plan is_left old new nothing (end_of why)
   unmounted (mounts.BadImage bad) refusal cause pages image past = refused bad cause refusal (λ t. image t tt) (λ k. past k tt)
   unmounted (mounts.Disk fault) refusal cause pages image past = unread cause.0 pages
   unmounted mounts.Memory refusal cause pages image past = unbegun pages
@@ -53,7 +53,7 @@ module _ (tells crashes : Type 0) (s : Super) (lines : List Line) (is_left : Boo
     as_it_was : IsUnmounted tells crashes superblock new → IsUnmounted tells crashes (page_of old.image 8) new
     as_it_was u = record { superblock = λ t. u.superblock t ∙ took t; resting = u.resting }
 
-    pub ran : (end : RunEnd) → RunSince tells crashes superblock lines is_left old.faults new c end → RunIs tells crashes s lines is_left old new c end
+    pub ran : (end : RunEnd) → RunSince tells crashes superblock plan is_left old.faults new c end → RunIs tells crashes s plan is_left old new c end
     ran ends.Done is = record { entries = is.entries; told = is.told; calm = is.calm; faults = is.faults_are; ended = λ left. as_it_was (is.ended left); mounts = unbroken }
     ran (ends.BadImage bad) is = absurd is
     ran ends.Disk (rose, all) = record { rose = rose; done = inr (all, unbroken) }

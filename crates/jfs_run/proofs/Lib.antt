@@ -2,6 +2,7 @@ pub mod Called
 pub mod Counts
 pub mod Lined
 pub mod Onward
+pub mod Plans
 pub mod Ended
 pub mod Finished
 pub mod Begun

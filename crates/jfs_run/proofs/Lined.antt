@@ -7,7 +7,6 @@ use Rattle.jfs_disk.specs.declared.disk.Fault.{Fault}
 use Rattle.jfs_legal.specs.served.specs.files.specs.Written.{renames}
 use Rattle.jfs_plain.specs.CallStep.{writes}
 use Rattle.jfs_plain.specs.declared.call.Entry.{Entry}
-use Rattle.jfs_plain.specs.declared.call.Line.{Line}
 use Rattle.jfs_plain.specs.declared.call.Request.{Request}
 use Rattle.jfs_plain.specs.declared.refusal.Refusal.TheVariants as refusals
 use Rattle.jfs_plain.specs.declared.reply.Reply.{Reply}
@@ -25,6 +24,7 @@ use Rattle.jfs_legal.specs.served.specs.halves.specs.Parts.{Parts}
 use Rattle.jfs_legal.specs.Until.{has_failed}
 use Rattle.jfs_run.specs.Calls.{is_done, waits_with}
 use Rattle.jfs_run.specs.Growth.{Grows}
+use Rattle.jfs_run.specs.Tasks.{Task}
 use Rattle.jfs_run.specs.Serving.{State, MayCall, PartRose, Halts, Keeps, Joins, IsDurable, IsPending}
 
 -- ---- the call
@@ -33,8 +33,8 @@ use Rattle.jfs_run.specs.Serving.{State, MayCall, PartRose, Halts, Keeps, Joins,
 abbrev pub counts_of : State → State → Counts
 counts_of old new = record { low = old.volume.faults; low_now = new.volume.faults; high = old.high; high_now = new.high }
 
-abbrev pub AnsweredBy : Line → State → State → Outcome → Type 0
-AnsweredBy l old new outcome = IsAnsweredLent 1 l.number l.request old.volume new.volume new.log (counts_of old new) outcome
+abbrev pub AnsweredBy : Task → State → State → Outcome → Type 0
+AnsweredBy l old new outcome = IsAnsweredLent l.client l.line.number l.line.request old.volume new.volume new.log (counts_of old new) outcome
 
 rose_of : (old new : State) (fault : Fault) → IsFaultIn (counts_of old new) fault → PartRose old new
 rose_of old new fault (inl is) = inl is.0
@@ -66,7 +66,7 @@ halts : (old new : State) → KeepsHaltedIn (counts_of old new) old.volume.halte
 halts old new (inl same) = inl same
 halts old new (inr (fault, is, was, now)) = inr (record { ran = was; fault = fault; is = now; rose = rose_of old new fault is })
 
-pub called : (l : Line) (old new : State) (outcome : Outcome) → MayCall old → new.pages ≡ old.pages → AnsweredBy l old new outcome → Keeps old new
+pub called : (l : Task) (old new : State) (outcome : Outcome) → MayCall old → new.pages ≡ old.pages → AnsweredBy l old new outcome → Keeps old new
 called l old new outcome may pages a =
     let g = grew old new outcome a.cause in
     let size = a.keeps.size in
@@ -98,15 +98,15 @@ calm_of old new request (replies.Refused _) h is = inl refl
 calm_of old new request _ h is = inl refl
 
 -- its entry
-abbrev pub entry_of : Line → Reply → Entry
-entry_of l reply = entry_with 1 l.number l.request reply
+abbrev pub entry_of : Task → Reply → Entry
+entry_of l reply = entry_with l.client l.line.number l.line.request reply
 
-pub joined : (l : Line) (old new : State) (reply : Reply) (number : ℕ) (wait : Bool) → AnsweredBy l old new (Replied reply number wait) → Joins l old new (entry_of l reply)
+pub joined : (l : Task) (old new : State) (reply : Reply) (number : ℕ) (wait : Bool) → AnsweredBy l old new (Replied reply number wait) → Joins l old new (entry_of l reply)
 joined l old new reply number wait a = record {
-  is = record { client = refl; line = refl; call = refl; lazy = refl };
+  is = record { client_is = refl; line = refl; call = refl; lazy = refl };
   entries = a.entry.entries;
   appended = a.entry.appended;
-  calm = calm_of old new l.request reply a.cause a.held_is;
+  calm = calm_of old new l.line.request reply a.cause a.held_is;
 }
 
 -- ---- what isn't told
@@ -149,29 +149,29 @@ goes_on_of request reply old new goes w =
 may_wait_of : (request : Request) (reply : Reply) (new : Parts) → MayWait request reply new → waits_with request reply ≡ true
 may_wait_of request reply new m = ap (λ (r : Reply). is_done r && (not request.lazy && writes request.call)) m.reply_is ∙ ap (λ (b : Bool). not b && writes request.call) m.eager ∙ m.writes_it
 
-module _ (l : Line) (old new : State) (reply : Reply) (number : ℕ) (wait : Bool) (a : AnsweredBy l old new (Replied reply number wait)) where
+module _ (l : Task) (old new : State) (reply : Reply) (number : ℕ) (wait : Bool) (a : AnsweredBy l old new (Replied reply number wait)) where
   pub calm : wait ≡ false → IsPending l old new
-  calm w = record { entry = entry_of l reply; joins = joined l old new reply number wait a; why = inl (goes_on_of l.request reply old.volume new.volume (subst (λ (b : Bool). WaitsIfIn b l.request reply old.volume new.volume) w a.waits)) }
+  calm w = record { entry = entry_of l reply; joins = joined l old new reply number wait a; why = inl (goes_on_of l.line.request reply old.volume new.volume (subst (λ (b : Bool). WaitsIfIn b l.line.request reply old.volume new.volume) w a.waits)) }
 
-  idle : waits_with l.request reply ≡ false → IsPending l old new
+  idle : waits_with l.line.request reply ≡ false → IsPending l old new
   idle w = record { entry = entry_of l reply; joins = joined l old new reply number wait a; why = inl (λ waits_it. absurd (false≢true (sym w ∙ waits_it))) }
 
-  pub waits_of : wait ≡ true → waits_with l.request reply ≡ true
-  waits_of w = may_wait_of l.request reply new.volume (subst (λ (b : Bool). WaitsIfIn b l.request reply old.volume new.volume) w a.waits)
+  pub waits_of : wait ≡ true → waits_with l.line.request reply ≡ true
+  waits_of w = may_wait_of l.line.request reply new.volume (subst (λ (b : Bool). WaitsIfIn b l.line.request reply old.volume new.volume) w a.waits)
 
-  pub ran : waits_with l.request reply ≡ true → old.volume.halted ≡ None
-  ran w = done_ran old.volume.halted l.request reply a.held_is w
+  pub ran : waits_with l.line.request reply ≡ true → old.volume.halted ≡ None
+  ran w = done_ran old.volume.halted l.line.request reply a.held_is w
 
   halted_now : (fault : Fault) → new.volume.halted ≡ Some fault → old.volume.halted ≡ None → (new.volume.halted ≡ old.volume.halted) ⊎ Halts old new → Halts old new
   halted_now fault is was (inl same) = absurd (some_none fault (sym is ∙ same ∙ was))
   halted_now fault is was (inr h) = h
 
-  by_wait : (fault : Fault) → new.volume.halted ≡ Some fault → (waits_with l.request reply ≡ true) ⊎ (waits_with l.request reply ≡ false) → IsPending l old new
+  by_wait : (fault : Fault) → new.volume.halted ≡ Some fault → (waits_with l.line.request reply ≡ true) ⊎ (waits_with l.line.request reply ≡ false) → IsPending l old new
   by_wait fault is (inr w) = idle w
   by_wait fault is (inl w) = record { entry = entry_of l reply; joins = joined l old new reply number wait a; why = inr (halted_now fault is (ran w) (halts old new a.halted)) }
 
   stopped_by : (halted : Option Fault) → new.volume.halted ≡ halted → is_some halted ≡ true → IsPending l old new
-  stopped_by (Some fault) is some = by_wait fault is (cases_Bool (waits_with l.request reply))
+  stopped_by (Some fault) is some = by_wait fault is (cases_Bool (waits_with l.line.request reply))
   stopped_by None is some = absurd (false≢true some)
 
   pub stopped : is_some new.volume.halted ≡ true → IsPending l old new
@@ -205,10 +205,10 @@ pub record Beside (mid new : State) : Type 0 where
   pub faults : new.volume.faults ≡ mid.volume.faults
   pub pages : new.pages ≡ mid.pages
 
-module _ (l : Line) (old mid new : State) (reply : Reply) (number : ℕ) (wait : Bool) (may : MayCall old) (pages : mid.pages ≡ old.pages) (a : AnsweredBy l old mid (Replied reply number wait))
-    (w : waits_with l.request reply ≡ true) (runs : mid.volume.halted ≡ None) (beside : Beside mid new) where
+module _ (l : Task) (old mid new : State) (reply : Reply) (number : ℕ) (wait : Bool) (may : MayCall old) (pages : mid.pages ≡ old.pages) (a : AnsweredBy l old mid (Replied reply number wait))
+    (w : waits_with l.line.request reply ≡ true) (runs : mid.volume.halted ≡ None) (beside : Beside mid new) where
   still : no_faults (counts_of old mid)
-  still = done_still (counts_of old mid) reply (and_parts (is_done reply) (not l.request.lazy && writes l.request.call) w).0 a.cause
+  still = done_still (counts_of old mid) reply (and_parts (is_done reply) (not l.line.request.lazy && writes l.line.request.call) w).0 a.cause
 
   was : old.volume.halted ≡ None
   was = ran l old mid reply number wait a w
@@ -224,7 +224,7 @@ module _ (l : Line) (old mid new : State) (reply : Reply) (number : ℕ) (wait :
       omega (arith, same, blocks, before)
 
   joins : Joins l old new (entry_of l reply)
-  joins = let j = joined l old mid reply number wait a in record { is = j.is; entries = beside.settles.entries ∙ j.entries; appended = beside.settles.appended ∙ j.appended; calm = inl (done_calm reply (and_parts (is_done reply) (not l.request.lazy && writes l.request.call) w).0) }
+  joins = let j = joined l old mid reply number wait a in record { is = j.is; entries = beside.settles.entries ∙ j.entries; appended = beside.settles.appended ∙ j.appended; calm = inl (done_calm reply (and_parts (is_done reply) (not l.line.request.lazy && writes l.line.request.call) w).0) }
 
   pub durable_keeps : AreTogether new.volume new.log → new.volume.halted ≡ mid.volume.halted → new.high ≡ mid.high → Keeps old new
   durable_keeps together same high = record {

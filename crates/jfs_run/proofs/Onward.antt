@@ -1,18 +1,21 @@
--- One line more of a script.
-use Rattle.std.proofs.Common.{◌≡◌, ◌⊎◌, ◌++◌, ◌∷◌, ◌+◌, ◌<◌, ◌^◌, [], refl, sym, ap, ◌∙◌, subst, ℕ, Bool, true, false, ◌||◌, List, length, take, get_or, inl, inr, None, arith}
-use Rattle.std.proofs.lemmas.List.{length-take-le}
+-- One line more of a run.
+use Rattle.std.proofs.Common.{◌≡◌, ◌⊎◌, ◌++◌, ◌∷◌, ◌+◌, ◌<◌, ◌≤◌, ◌^◌, zero, suc, append_assoc, [], refl, sym, ap, ◌∙◌, subst, ℕ, Bool, true, false, ◌||◌, List, length, take, get_or, inl, inr, None, arith}
+use Rattle.std.proofs.lemmas.List.{length-append, append-nil, take_all, length-map}
 use Rattle.jfs_plain.specs.declared.call.Entry.{Entry}
 use Rattle.jfs_plain.specs.declared.call.Line.{Line}
 use Rattle.jfs_legal.specs.Until.{has_failed}
-use Rattle.jfs_run.specs.Calls.{AreEntriesOf, IsTakenAs, any_failed}
-use Rattle.jfs_run.specs.Serving.{State, PartRose, Halts, Keeps, Joins, IsDurable, IsPending, JoinsNone, IsTold, HasServed, IsFresh}
-use Rattle.jfs_run.proofs.Called.{next_line, as_many, told_more, told_beside, told_before, told_still, none_told}
+use Rattle.jfs_run.specs.Calls.{IsTakenAs, any_failed}
+use Rattle.jfs_run.specs.Tasks.{Task, task, tasks_of, tasks_from, AreEntries}
+use Rattle.jfs_run.specs.declared.client.Answered.{Answered}
+use Rattle.jfs_run.specs.declared.client.Answered.TheVariants as answers
+use Rattle.jfs_run.specs.Serving.{State, PartRose, Halts, Keeps, Joins, IsDurable, IsPending, JoinsNone, LineIs, IsTold, HasServed, Few, IsFresh}
+use Rattle.jfs_run.proofs.Called.{one_more, as_many, told_more, told_beside, told_before, told_still, none_told}
 use Rattle.jfs_run.proofs.Counts.{grows_on, rose_on, rose_since}
 
 -- before the first line
 pub none_served : (s : State) → IsFresh s → HasServed s [] [] s
 none_served s f = record {
-  entries = subst (AreEntriesOf []) (sym f.entries) tt;
+  entries = subst (AreEntries []) (sym f.entries) tt;
   appended = f.appended;
   told_is = subst (λ (es : List Entry). IsTold s.volume.halted es []) (sym f.entries) (none_told s.volume.halted);
   may = f.may;
@@ -25,11 +28,6 @@ none_served s f = record {
   calm = inl (ap any_failed f.entries);
 }
 
--- both counts at the mount
-pub record Few (s : State) : Type 0 where
-  pub low : s.volume.faults < 2 ^ 64
-  pub high : s.high < 2 ^ 64
-
 any_by : (b rest more : Bool) → (rest ≡ false → more ≡ false) → (b || rest) ≡ false → (b || more) ≡ false
 any_by true rest more goes calm = calm
 any_by false rest more goes calm = goes calm
@@ -41,7 +39,7 @@ any_more (x ∷ xs) e calm done = any_by (has_failed x.reply) (any_failed xs) (a
 pub few_of : (s : State) → s.volume.faults + s.high < 2 ^ 64 → Few s
 few_of s few = record { low = omega (arith, few); high = omega (arith, few) }
 
-module _ (first old new : State) (few : Few first) (lines : List Line) (i : ℕ) (told : List ℕ) (so_far : HasServed first (take i lines) told old) (keeps : Keeps old new) where
+module _ (first old new : State) (few : Few first) (before : List Task) (told : List ℕ) (so_far : HasServed first before told old) (keeps : Keeps old new) where
   part_on : PartRose old new → PartRose first new
   part_on (inl rose) = inl (rose_on first.volume.faults old.volume.faults new.volume.faults few.low so_far.low rose)
   part_on (inr rose) = inr (rose_on first.high old.high new.high few.high so_far.high rose)
@@ -77,8 +75,8 @@ module _ (first old new : State) (few : Few first) (lines : List Line) (i : ℕ)
   calm_more e _ (inr (inl rose)) = inr (part_on rose)
   calm_more e _ (inr (inr halted)) = inr (halted_rose halted so_far.halted)
 
-  with_lines : (ls : List Line) (more : List ℕ) → AreEntriesOf ls new.volume.entries → new.volume.appended ≡ length ls → IsTold new.volume.halted new.volume.entries more → (any_failed new.volume.entries ≡ false) ⊎ PartRose first new → HasServed first ls more new
-  with_lines ls more entries appended told_is calm = record {
+  with_tasks : (ts : List Task) (more : List ℕ) → AreEntries ts new.volume.entries → new.volume.appended ≡ length ts → IsTold new.volume.halted new.volume.entries more → (any_failed new.volume.entries ≡ false) ⊎ PartRose first new → HasServed first ts more new
+  with_tasks ts more entries appended told_is calm = record {
     entries = entries;
     appended = appended;
     told_is = told_is;
@@ -93,30 +91,69 @@ module _ (first old new : State) (few : Few first) (lines : List Line) (i : ℕ)
   }
 
   -- memory ran out at this line
-  pub none_more : JoinsNone old new → HasServed first (take i lines) told new
-  none_more none = with_lines (take i lines) told (subst (AreEntriesOf (take i lines)) (sym none.entries) so_far.entries) (none.appended ∙ so_far.appended)
+  pub none_more : JoinsNone old new → HasServed first before told new
+  none_more none = with_tasks before told (subst (AreEntries before) (sym none.entries) so_far.entries) (none.appended ∙ so_far.appended)
       (subst (λ (es : List Entry). IsTold new.volume.halted es told) (sym none.entries) (told_still old.volume.halted new.volume.halted old.volume.entries told back so_far.told_is))
       (subst (λ (es : List Entry). (any_failed es ≡ false) ⊎ PartRose first new) (sym none.entries) (calm_on (any_failed old.volume.entries) so_far.calm))
 
-  module _ (l : Line) (less : i < length lines) (is : l ≡ get_or lines i l) where
-    one_more : (e : Entry) (more : List ℕ) → Joins l old new e → IsTold new.volume.halted (old.volume.entries ++ e ∷ []) more → HasServed first (take (i + 1) lines) more new
-    one_more e more joins told_is = with_lines (take (i + 1) lines) more
-        (subst (AreEntriesOf (take (i + 1) lines)) (sym joins.entries) (next_line lines i l old.volume.entries e less is so_far.entries joins.is))
-        (joins.appended ∙ ap (λ (n : ℕ). n + 1) (so_far.appended ∙ length-take-le i lines (omega (arith, less))) ∙ sym (length-take-le (i + 1) lines (omega (arith, less))))
+  module _ (t : Task) where
+    joined_more : (e : Entry) (more : List ℕ) → Joins t old new e → IsTold new.volume.halted (old.volume.entries ++ e ∷ []) more → HasServed first (before ++ t ∷ []) more new
+    joined_more e more joins told_is = with_tasks (before ++ t ∷ []) more
+        (subst (AreEntries (before ++ t ∷ [])) (sym joins.entries) (one_more before old.volume.entries t e so_far.entries joins.is))
+        (omega (arith, joins.appended, so_far.appended, length-append before (t ∷ [])))
         (subst (λ (es : List Entry). IsTold new.volume.halted es more) (sym joins.entries) told_is)
         (subst (λ (es : List Entry). (any_failed es ≡ false) ⊎ PartRose first new) (sym joins.entries) (calm_more e so_far.calm joins.calm))
 
-    pub durable_more : (number : ℕ) → IsDurable l old new number → HasServed first (take (i + 1) lines) (told ++ number ∷ []) new
-    durable_more number d = one_more d.entry (told ++ number ∷ []) d.joins
+    pub durable_more : (number : ℕ) → IsDurable t old new number → HasServed first (before ++ t ∷ []) (told ++ number ∷ []) new
+    durable_more number d = joined_more d.entry (told ++ number ∷ []) d.joins
         (told_more old.volume.halted new.volume.halted old.volume.entries told d.entry number so_far.told_is d.ran d.waits_it
         (d.number_is ∙ d.joins.appended ∙ number_of))
       where
         number_of : old.volume.appended + 1 ≡ 1 + length old.volume.entries
-        number_of = let n = so_far.appended in let m = as_many (take i lines) old.volume.entries so_far.entries in omega (arith, n, m)
+        number_of = let n = so_far.appended in let m = as_many before old.volume.entries so_far.entries in omega (arith, n, m)
 
     told_of : (e : Entry) → IsTakenAs e false ⊎ Halts old new → IsTold new.volume.halted (old.volume.entries ++ e ∷ []) told
     told_of e (inl w) = told_beside old.volume.halted new.volume.halted old.volume.entries told e back so_far.told_is w
     told_of e (inr h) = told_before old.volume.halted new.volume.halted h.fault old.volume.entries told e h.ran h.is so_far.told_is
 
-    pub pending_more : IsPending l old new → HasServed first (take (i + 1) lines) told new
-    pending_more p = one_more p.entry told p.joins (told_of p.entry p.why)
+    pub pending_more : IsPending t old new → HasServed first (before ++ t ∷ []) told new
+    pending_more p = joined_more p.entry told p.joins (told_of p.entry p.why)
+
+-- ---- the lines of a client
+
+pub take_none : {X : Type 0} (xs : List X) → take 0 xs ≡ []
+take_none [] = refl
+take_none (x ∷ xs) = refl
+
+taken : (client : ℕ) (lines : List Line) (i : ℕ) (l : Line) → i < length lines → l ≡ get_or lines i l → take (suc i) (tasks_of client lines) ≡ take i (tasks_of client lines) ++ task client l ∷ []
+taken client [] i l less is = absurd (omega (arith, less))
+taken client (x ∷ xs) zero l less is = ap (λ (ts : List Task). task client x ∷ ts) (take_none (tasks_of client xs)) ∙ ap (λ (k : Line). task client k ∷ []) (sym is)
+taken client (x ∷ xs) (suc i) l less is = ap (λ (ts : List Task). task client x ∷ ts) (taken client xs i l (omega (arith, less)) is)
+
+-- with the lines before, and one more of them
+pub next_of : (client : ℕ) (before : List Task) (lines : List Line) (i : ℕ) (l : Line) → i < length lines → l ≡ get_or lines i l → before ++ take (i + 1) (tasks_of client lines) ≡ (before ++ take i (tasks_of client lines)) ++ task client l ∷ []
+next_of client before lines i l less is =
+    let next : i + 1 ≡ suc i = omega arith in
+    ap (λ (n : ℕ). before ++ take n (tasks_of client lines)) next ∙ ap (λ (ts : List Task). before ++ ts) (taken client lines i l less is) ∙ sym (append_assoc before (take i (tasks_of client lines)) (task client l ∷ []))
+
+-- a line joins, or none does
+pub joins_most : (t : Task) (old new : State) (answered : Answered) → LineIs t old new answered → new.volume.appended ≤ old.volume.appended + 1
+joins_most t old new (answers.Durable number) d = omega (arith, d.joins.appended)
+joins_most t old new answers.Pending p = omega (arith, p.joins.appended)
+joins_most t old new answers.NoMemory none = omega (arith, none.appended)
+
+-- none of them so far, and all of them
+pub serves_begun : (first : State) (before later : List Task) (told : List ℕ) (now : State) → HasServed first before told now → HasServed first (before ++ take 0 later) told now
+serves_begun first before later told now is = subst (λ (ts : List Task). HasServed first ts told now) (sym (ap (λ (ts : List Task). before ++ ts) (take_none later) ∙ append-nil before)) is
+
+pub serves_ended : (client : ℕ) (lines : List Line) (i : ℕ) (first : State) (before : List Task) (told : List ℕ) (now : State) → i ≤ length lines → length lines ≤ i → HasServed first (before ++ take i (tasks_of client lines)) told now
+    → HasServed first (before ++ tasks_of client lines) told now
+serves_ended client lines i first before told now most past is =
+    subst (λ (ts : List Task). HasServed first (before ++ ts) told now) (take_all i (tasks_of client lines) (let same = length-map lines (task client) in omega (arith, past, same))) is
+
+-- ---- all scripts
+
+-- before the first one
+pub serves_none : (first : State) (plan : List (List Line)) (told : List ℕ) → IsFresh first → told ≡ [] → HasServed first (tasks_from 1 (take 0 plan)) told first
+serves_none first plan told fresh none =
+    subst (λ (p : List (List Line)). HasServed first (tasks_from 1 p) told first) (sym (take_none plan)) (subst (λ (ns : List ℕ). HasServed first [] ns first) (sym none) (none_served first fresh))

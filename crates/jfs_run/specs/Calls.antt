@@ -1,5 +1,6 @@
--- What became of the calls of a script: their entries, and the numbers that were told durable.
-use Rattle.std.specs.Prelude.{◌≡◌, ◌≤◌, ◌∷◌, ◌&&◌, ◌||◌, [], ℕ, suc, Bool, true, false, not, if◌then◌else◌, List, length, take}
+-- What became of the calls of clients' scripts: their entries, and the numbers that were told durable.
+use Rattle.std.specs.Prelude.{◌≡◌, ◌≤◌, ◌∷◌, ◌&&◌, ◌||◌, ◌==◌, [], ℕ, suc, Bool, true, false, not, if◌then◌else◌, List, length, take}
+use Rattle.std.specs.List.{AllByRecursion}
 use Rattle.jfs_legal.specs.served.specs.files.specs.Written.{renames}
 use Rattle.jfs_plain.specs.CallStep.{writes}
 use Rattle.jfs_plain.specs.declared.call.Entry.{Entry}
@@ -11,23 +12,47 @@ use Rattle.jfs_legal.specs.Until.{has_failed}
 
 -- ---- entries
 
--- the entry of a line of the first client: its call, with some reply
-pub record IsEntryOf (l : Line) (e : Entry) : Type 0 where
-  pub client : e.client ≡ 1
+-- the entry of a line of this client: its call, with some reply
+pub record IsEntryOf (client : ℕ) (l : Line) (e : Entry) : Type 0 where
+  pub client_is : e.client ≡ client
   pub line : e.line ≡ l.number
   pub call : e.call ≡ l.request.call
   pub lazy : e.lazy ≡ l.request.lazy
 
--- these lines have these entries, each its own, in their order
-abbrev pub AreEntriesOf : List Line → List Entry → Type 0
-AreEntriesOf [] [] = Unit {0}
-AreEntriesOf [] (e ∷ es) = ⊥
-AreEntriesOf (l ∷ ls) [] = ⊥
-AreEntriesOf (l ∷ ls) (e ∷ es) = IsEntryOf l e × AreEntriesOf ls es
+-- a client's lines have these entries, each its own, in their order
+abbrev pub AreEntriesOf : ℕ → List Line → List Entry → Type 0
+AreEntriesOf client [] [] = Unit {0}
+AreEntriesOf client [] (e ∷ es) = ⊥
+AreEntriesOf client (l ∷ ls) [] = ⊥
+AreEntriesOf client (l ∷ ls) (e ∷ es) = IsEntryOf client l e × AreEntriesOf client ls es
 
 -- so has a front of them
-abbrev pub BeginWith : List Line → List Entry → Type 0
-BeginWith lines history = (n : ℕ) × (n ≤ length lines) × AreEntriesOf (take n lines) history
+abbrev pub BeginWith : ℕ → List Line → List Entry → Type 0
+BeginWith client lines es = (n : ℕ) × (n ≤ length lines) × AreEntriesOf client (take n lines) es
+
+-- the entries of a client, in their order
+abbrev pub entries_of : ℕ → List Entry → List Entry
+entries_of client [] = []
+entries_of client (e ∷ es) = if e.client == client then e ∷ entries_of client es else entries_of client es
+
+-- Scripts of clients, the first one's that of this client, the next one's that of the next: `P` holds of each client's lines and its entries.
+abbrev pub EachClient : (ℕ → List Line → List Entry → Type 0) → ℕ → List (List Line) → List Entry → Type 0
+EachClient P client [] history = Unit {0}
+EachClient P client (lines ∷ more) history = P client lines (entries_of client history) × EachClient P (suc client) more history
+
+-- no entry is of another client than 1 to n
+abbrev pub AreOfClients : ℕ → List Entry → Type 0
+AreOfClients n history = AllByRecursion (λ (e : Entry). (1 ≤ e.client) × (e.client ≤ n)) history
+
+-- Each client's lines have their entries in the history, in their order, whatever entries of other clients stand between; and there are no others.
+pub record HaveEntries (plan : List (List Line)) (history : List Entry) : Type 0 where
+  pub each : EachClient AreEntriesOf 1 plan history
+  pub others : AreOfClients (length plan) history
+
+-- so has a front of each client's lines
+pub record HaveFronts (plan : List (List Line)) (history : List Entry) : Type 0 where
+  pub each : EachClient BeginWith 1 plan history
+  pub others : AreOfClients (length plan) history
 
 -- ---- what is told
 
@@ -66,7 +91,7 @@ any_failed (e ∷ es) = has_failed e.reply || any_failed es
 
 -- ---- both
 
--- the entries of a script's calls, and the numbers that were told
+-- the entries of the calls, and the numbers that were told
 pub record Calls : Type 0 where
   pub history : List Entry
   pub told : List ℕ
@@ -88,9 +113,9 @@ abbrev pub NoCalls : Calls → Type 0
 NoCalls c = (c.history ≡ []) × (c.told ≡ [])
 
 -- each line was called
-abbrev pub AllCalled : List Line → Calls → Type 0
-AllCalled lines c = AreEntriesOf lines c.history × FirstTold c
+abbrev pub AllCalled : List (List Line) → Calls → Type 0
+AllCalled plan c = HaveEntries plan c.history × FirstTold c
 
--- a front of them was
-abbrev pub SomeCalled : List Line → Calls → Type 0
-SomeCalled lines c = BeginWith lines c.history × FirstTold c
+-- a front of each client's lines was
+abbrev pub SomeCalled : List (List Line) → Calls → Type 0
+SomeCalled plan c = HaveFronts plan c.history × FirstTold c

@@ -4,7 +4,7 @@ use Rattle.jfs_bits.specs.Count.{Rose}
 use Rattle.jfs_plain.specs.declared.call.Line.{Line}
 use Rattle.jfs_legal.specs.served.specs.mounted.specs.declared.mounted.MountError.{MountError}
 use Rattle.jfs_legal.specs.served.specs.mounted.specs.declared.mounted.MountError.TheVariants as mounts
-use Rattle.jfs_run.specs.Calls.{Calls, AreEntriesOf, AllTold, AllCalled, SomeCalled, any_failed}
+use Rattle.jfs_run.specs.Calls.{Calls, HaveEntries, AllTold, AllCalled, SomeCalled, any_failed}
 use Rattle.jfs_run.specs.Run.{Seen, IsUnmounted}
 use Rattle.jfs_run.specs.declared.client.Served.{Served}
 use Rattle.jfs_run.specs.declared.client.Served.TheVariants as serves
@@ -17,18 +17,18 @@ pub record IsEnded (tells crashes : Type 0) (superblock : List ℕ) (faults : �
   pub unmounted : IsUnmounted tells crashes superblock new
 
 -- A run on a mounted volume whose superblock's page was this one, and whose disk had had so many faults.
-pub record IsWholeSince (tells crashes : Type 0) (superblock : List ℕ) (lines : List Line) (is_left : Bool) (faults : ℕ) (new : Seen) (c : Calls) : Type 0 where
-  pub entries : AreEntriesOf lines c.history
+pub record IsWholeSince (tells crashes : Type 0) (superblock : List ℕ) (plan : List (List Line)) (is_left : Bool) (faults : ℕ) (new : Seen) (c : Calls) : Type 0 where
+  pub entries : HaveEntries plan c.history
   pub told : AllTold c
   pub calm : any_failed c.history ≡ false
   pub faults_are : new.faults ≡ faults
   pub ended : is_left ≡ false → IsUnmounted tells crashes superblock new
 
-abbrev pub RunSince : (tells crashes : Type 0) → List ℕ → List Line → Bool → ℕ → Seen → Calls → RunEnd → Type 0
-RunSince tells crashes superblock lines is_left faults new c ends.Done = IsWholeSince tells crashes superblock lines is_left faults new c
-RunSince tells crashes superblock lines is_left faults new c (ends.BadImage bad) = ⊥
-RunSince tells crashes superblock lines is_left faults new c ends.Disk = Rose faults new.faults × AllCalled lines c
-RunSince tells crashes superblock lines is_left faults new c ends.Memory = SomeCalled lines c × (Rose faults new.faults ⊎ AllTold c) × (Rose faults new.faults ⊎ (any_failed c.history ≡ false))
+abbrev pub RunSince : (tells crashes : Type 0) → List ℕ → List (List Line) → Bool → ℕ → Seen → Calls → RunEnd → Type 0
+RunSince tells crashes superblock plan is_left faults new c ends.Done = IsWholeSince tells crashes superblock plan is_left faults new c
+RunSince tells crashes superblock plan is_left faults new c (ends.BadImage bad) = ⊥
+RunSince tells crashes superblock plan is_left faults new c ends.Disk = Rose faults new.faults × AllCalled plan c
+RunSince tells crashes superblock plan is_left faults new c ends.Memory = SomeCalled plan c × (Rose faults new.faults ⊎ AllTold c) × (Rose faults new.faults ⊎ (any_failed c.history ≡ false))
 
 -- ---- before the mount
 

@@ -2,6 +2,7 @@
 pub mod Calls
 pub mod Run
 pub mod Legal
+pub mod Tasks
 -- for the prover
 pub mod Growth
 pub mod Serving

@@ -10,7 +10,7 @@ use Rattle.jfs_plain.specs.declared.call.Line.{Line}
 use Rattle.jfs_mount.specs.Subject.{subject_of}
 use Rattle.jfs_mount.specs.Mount.{broken_mount}
 use Rattle.jfs_mount.specs.declared.bad.BadMount.{BadMount}
-use Rattle.jfs_run.specs.Calls.{Calls, AreEntriesOf, AllTold, NoCalls, AllCalled, SomeCalled, any_failed}
+use Rattle.jfs_run.specs.Calls.{Calls, HaveEntries, AllTold, NoCalls, AllCalled, SomeCalled, any_failed}
 use Rattle.jfs_run.specs.declared.run.RunEnd.{RunEnd}
 use Rattle.jfs_run.specs.declared.run.RunEnd.TheVariants as ends
 
@@ -42,8 +42,8 @@ pub record IsUnmounted (tells crashes : Type 0) (page : List ℕ) (new : Seen) :
   pub resting : crashes → IsResting (last_of new.past)
 
 -- Each line has its entry, each entry that waits was told, and no call on the disk failed, so that none was refused for a fault. The volume was unmounted, unless it was to be left: its superblock's page is the one that it had.
-pub record IsWhole (tells crashes : Type 0) (s : Super) (lines : List Line) (is_left : Bool) (old new : Seen) (c : Calls) : Type 0 where
-  pub entries : AreEntriesOf lines c.history
+pub record IsWhole (tells crashes : Type 0) (s : Super) (plan : List (List Line)) (is_left : Bool) (old new : Seen) (c : Calls) : Type 0 where
+  pub entries : HaveEntries plan c.history
   pub told : AllTold c
   pub calm : any_failed c.history ≡ false
   pub faults : new.faults ≡ old.faults
@@ -59,18 +59,18 @@ pub record IsRefused (tells crashes : Type 0) (s : Super) (bad : BadMount) (old 
   pub past : crashes → new.past ≡ old.past
 
 -- A call on the disk failed: before the mount was done, or later, and then each line has its entry.
-pub record IsFaulty (tells : Type 0) (s : Super) (lines : List Line) (old new : Seen) (c : Calls) : Type 0 where
+pub record IsFaulty (tells : Type 0) (s : Super) (plan : List (List Line)) (old new : Seen) (c : Calls) : Type 0 where
   pub rose : Rose old.faults new.faults
-  pub done : IsUncalled tells s old new c ⊎ (AllCalled lines c × MayMount tells s old)
+  pub done : IsUncalled tells s old new c ⊎ (AllCalled plan c × MayMount tells s old)
 
--- A front of the lines have their entries, and unless a call on the disk failed each of these that waits was told, and none was refused for a fault.
-pub record IsShort (tells : Type 0) (s : Super) (lines : List Line) (old new : Seen) (c : Calls) : Type 0 where
-  pub done : IsUncalled tells s old new c ⊎ (SomeCalled lines c × MayMount tells s old)
+-- A front of each client's lines has its entries, and unless a call on the disk failed each of these that waits was told, and none was refused for a fault.
+pub record IsShort (tells : Type 0) (s : Super) (plan : List (List Line)) (old new : Seen) (c : Calls) : Type 0 where
+  pub done : IsUncalled tells s old new c ⊎ (SomeCalled plan c × MayMount tells s old)
   pub told : Rose old.faults new.faults ⊎ AllTold c
   pub calm : Rose old.faults new.faults ⊎ (any_failed c.history ≡ false)
 
-abbrev pub RunIs : (tells crashes : Type 0) → Super → List Line → Bool → Seen → Seen → Calls → RunEnd → Type 0
-RunIs tells crashes s lines is_left old new c ends.Done = IsWhole tells crashes s lines is_left old new c
-RunIs tells crashes s lines is_left old new c (ends.BadImage bad) = IsRefused tells crashes s bad old new c
-RunIs tells crashes s lines is_left old new c ends.Disk = IsFaulty tells s lines old new c
-RunIs tells crashes s lines is_left old new c ends.Memory = IsShort tells s lines old new c
+abbrev pub RunIs : (tells crashes : Type 0) → Super → List (List Line) → Bool → Seen → Seen → Calls → RunEnd → Type 0
+RunIs tells crashes s plan is_left old new c ends.Done = IsWhole tells crashes s plan is_left old new c
+RunIs tells crashes s plan is_left old new c (ends.BadImage bad) = IsRefused tells crashes s bad old new c
+RunIs tells crashes s plan is_left old new c ends.Disk = IsFaulty tells s plan old new c
+RunIs tells crashes s plan is_left old new c ends.Memory = IsShort tells s plan old new c

@@ -1,11 +1,12 @@
-//! The one client of a run.
+//! The clients of a run.
 
-ghost use Rattle.std.specs.Prelude.{◌≡◌, ◌≤◌, ◌<◌, ◌+◌, ◌-◌, ◌^◌, ℕ, [], length, vec_capacity};
+ghost use Rattle.std.specs.Prelude.{◌≡◌, ◌≤◌, ◌<◌, ◌+◌, ◌-◌, ◌^◌, ℕ, [], length, vec_len, vec_capacity};
 ghost use Rattle.jfs_plain.specs.Limits.{FitsRequest};
 ghost use Rattle.jfs_script.specs.Script.{AllFit};
 ghost use Rattle.jfs_legal.specs.served.specs.halves.specs.Parts.{Parts};
 ghost use Rattle.jfs_run.specs.Legal.{GoOn, LineLeaves, LinesLeave};
-ghost use Rattle.jfs_run.specs.Serving.{state, MayCall, Keeps, LineIs, IsFresh, ServedIs};
+ghost use Rattle.jfs_run.specs.Serving.{state, MayCall, Keeps, LineIs, IsFresh, ServedIs, ServesOn};
+ghost use Rattle.jfs_run.specs.Tasks.{task, tasks_of, tasks_from, plan_of, lines_in, IsPlan};
 
 use jfs_bits::Moment;
 use jfs_disk::Disk;
@@ -14,9 +15,6 @@ use jfs_legal::unmount::Mounted;
 use jfs_legal::volume_calls::{PointText, commit};
 use jfs_plain::Line;
 use std::alloc::Global;
-
-/// The number of the client whose script is the first.
-const FIRST_CLIENT: u32 = 1;
 
 /// What became of a client's lines.
 #[derive(Clone, Copy, PartialEq, Eq, Debug)]
@@ -38,26 +36,56 @@ pub enum Answered {
     NoMemory,
 }
 
-/// Does the calls of a script one after the other at a moment. A call that waits is followed by a commit; where that succeeds, its entry's number is told.
-pub fn serve<D: Disk>(
+/// Does the calls of all scripts at a moment, one script after the other: the first is that of client 1. Behind a call that finds no memory nothing is called.
+pub fn serve_all<D: Disk>(
     alloc: Global,
     m: &mut Mounted<D>,
     point: &mut PointText,
+    scripts: &[Vec<Line>],
+    now: Moment,
+    told: &mut Vec<u64>,
+) -> Served
+    requires plan { IsPlan (plan_of scripts.now) }
+    requires fresh { IsFresh (state D.Disk m.old.volume m.old.log) }
+    requires few { m.old.volume.faults + D.fault_count m.old.log.part < 2 ^ 64 }
+    requires none { told.old.items ≡ [] }
+    requires room { lines_in (plan_of scripts.now) ≤ vec_capacity told.old }
+    ensures served { ServedIs (state D.Disk m.old.volume m.old.log) [] (tasks_from 1 (plan_of scripts.now)) told.new.items (state D.Disk m.new.volume m.new.log) result }
+    ensures legal { D.tells → (area : ℕ → ℕ) (log_pages : ℕ) (start : Parts) → GoOn area log_pages now start m.old.volume.entries m.old.volume → LinesLeave area log_pages now start m.new.volume result }
+{
+    let mut client = 0;
+    for script in scripts {
+        client += 1;
+        match serve(alloc, m, point, client, script.as_slice(), now, told) {
+            Served::All => {}
+            Served::NoMemory => return Served::NoMemory,
+        }
+    }
+    Served::All
+}
+
+/// Does the calls of a client's script one after the other. A call that waits is followed by a commit; where that succeeds, its entry's number is told.
+fn serve<D: Disk>(
+    alloc: Global,
+    m: &mut Mounted<D>,
+    point: &mut PointText,
+    client: u32,
     lines: &[Line],
     now: Moment,
     told: &mut Vec<u64>,
 ) -> Served
     requires fits { AllFit lines.now }
-    requires number { length lines.now < 2 ^ 32 - 1 }
-    requires fresh { IsFresh (state D.Disk m.old.volume m.old.log) }
-    requires few { m.old.volume.faults + D.fault_count m.old.log.part < 2 ^ 64 }
-    requires none { told.old.items ≡ [] }
-    requires room { length lines.now ≤ vec_capacity told.old }
-    ensures served { ServedIs (state D.Disk m.old.volume m.old.log) lines.now told.new.items (state D.Disk m.new.volume m.new.log) result }
+    requires number { m.old.volume.appended + length lines.now < 2 ^ 32 - 1 }
+    requires may { MayCall (state D.Disk m.old.volume m.old.log) }
+    requires room { vec_len told.old + length lines.now ≤ vec_capacity told.old }
+    ensures served { ServesOn (tasks_of client lines.now) (state D.Disk m.old.volume m.old.log) told.old.items (state D.Disk m.new.volume m.new.log) told.new.items result }
+    ensures may { MayCall (state D.Disk m.new.volume m.new.log) }
+    ensures number { m.new.volume.appended ≤ m.old.volume.appended + length lines.now }
+    ensures told { (vec_len told.new ≤ vec_len told.old + length lines.now) × (vec_capacity told.old ≤ vec_capacity told.new) }
     ensures legal { D.tells → (area : ℕ → ℕ) (log_pages : ℕ) (start : Parts) → GoOn area log_pages now start m.old.volume.entries m.old.volume → LinesLeave area log_pages now start m.new.volume result }
 {
     for line in lines {
-        match serve_line(alloc, m, point, line, now) {
+        match serve_line(alloc, m, point, client, line, now) {
             Answered::Durable { entry } => match told.push(entry) {
                 Ok(()) => {}
                 Err(_) => unreachable!(),
@@ -74,6 +102,7 @@ fn serve_line<D: Disk>(
     alloc: Global,
     m: &mut Mounted<D>,
     point: &mut PointText,
+    client: u32,
     line: &Line,
     now: Moment,
 ) -> Answered
@@ -81,7 +110,7 @@ fn serve_line<D: Disk>(
     requires number { m.old.volume.appended + 1 < 2 ^ 32 }
     requires may { MayCall (state D.Disk m.old.volume m.old.log) }
     ensures keeps { Keeps (state D.Disk m.old.volume m.old.log) (state D.Disk m.new.volume m.new.log) }
-    ensures line { LineIs line.now (state D.Disk m.old.volume m.old.log) (state D.Disk m.new.volume m.new.log) result }
+    ensures line { LineIs (task client line.now) (state D.Disk m.old.volume m.old.log) (state D.Disk m.new.volume m.new.log) result }
     ensures legal { D.tells → (area : ℕ → ℕ) (log_pages : ℕ) (start : Parts) → GoOn area log_pages now start m.old.volume.entries m.old.volume → LineLeaves area log_pages now start m.new.volume result }
 {
     match call_with_log(
@@ -89,7 +118,7 @@ fn serve_line<D: Disk>(
         &mut m.volume,
         &mut m.log,
         point,
-        FIRST_CLIENT,
+        client,
         line.number,
         &line.request,
         now,

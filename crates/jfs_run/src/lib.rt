@@ -1,7 +1,8 @@
-//! A script on a volume: it is mounted, its calls are done one after the other, and it is unmounted or left.
+//! Clients' scripts on a volume: it is mounted, their calls are done, one script after the other, and it is unmounted or left.
 #![tactic(auto)]
 
 mod client;
+mod count;
 mod ending;
 mod run;
 

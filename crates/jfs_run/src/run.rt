@@ -5,7 +5,6 @@ ghost use Rattle.jfs_disk.specs.Image.{page_of};
 ghost use Rattle.jfs_super.specs.Rules.{IsAccepted};
 ghost use Rattle.jfs_super.specs.Super.{super_of, FitsSuper};
 ghost use Rattle.jfs_super.specs.declared.fields.TheConstants.VolumeState.{CLEAN};
-ghost use Rattle.jfs_script.specs.Script.{AllFit};
 ghost use Rattle.jfs_script.specs.History.{IsRisingFrom};
 ghost use Rattle.jfs_legal.specs.served.specs.mounted.specs.declared.mounted.MountError.{MountError};
 ghost use Rattle.jfs_mount.specs.meaning.specs.Image.{IsConsistentImage};
@@ -13,9 +12,11 @@ ghost use Rattle.jfs_legal.specs.served.specs.Holds.{MayServe};
 ghost use Rattle.jfs_run.specs.Legal.{AreLegal, IsLegalRun, LeavesImage, LeavesAny, IfUnmounted};
 ghost use Rattle.jfs_run.specs.Run.{RunIs, seen};
 ghost use Rattle.jfs_run.specs.Serving.{state, IsFresh};
+ghost use Rattle.jfs_run.specs.Tasks.{plan_of, lines_in, IsPlan};
 ghost use Rattle.jfs_run.specs.Ending.{RunSince, end_after, end_of, TakesBy};
 
-use crate::client::{Served, serve};
+use crate::client::{Served, serve_all};
+use crate::count::lines_in;
 use crate::ending::end;
 use jfs_bits::Moment;
 use jfs_disk::{Disk, DiskError, Page};
@@ -59,13 +60,13 @@ struct Taken {
     told: Vec<u64>,
 }
 
-/// Mounts the volume of a disk in state 0, whose superblock is the one given, does the calls of a script one after the other at a moment, and ends the volume: it is unmounted,
+/// Mounts the volume of a disk in state 0, whose superblock is the one given, does the calls of the clients' scripts at a moment, the first script's by client 1 and so on, and ends the volume: it is unmounted,
 /// also where memory ran out, unless it is to be left or has halted.
 pub fn run_lines<D: Disk>(
     alloc: Global,
     disk: D,
     s: &Super,
-    lines: &[Line],
+    scripts: &[Vec<Line>],
     now: Moment,
     is_left: bool,
 ) -> Ran<D>
@@ -73,9 +74,8 @@ pub fn run_lines<D: Disk>(
     requires fits { FitsSuper s.now }
     requires clean { s.now.state ≡ CLEAN }
     requires spelled { D.tells → super_of (page_of (D.image disk) 8) ≡ s.now }
-    requires lines { AllFit lines.now }
-    requires number { length lines.now < 2 ^ 32 - 1 }
-    ensures ran { RunIs D.tells D.tells_crashes s.now lines.now is_left (seen D.Disk disk) (seen D.Disk result.disk) (record { history = result.history.items; told = result.told.items }) result.end }
+    requires plan { IsPlan (plan_of scripts.now) }
+    ensures ran { RunIs D.tells D.tells_crashes s.now (plan_of scripts.now) is_left (seen D.Disk disk) (seen D.Disk result.disk) (record { history = result.history.items; told = result.told.items }) result.end }
     // Of a disk that tells its contents and is a consistent image, the replies are those of a plain file tree.
     ensures legal { D.tells → IsConsistentImage s.now (page_of (D.image disk)) → IsLegalRun s.now (page_of (D.image disk)) now result.history.items }
     // What such a run leaves where it is done, and the volume wasn't to be left: an image of the tree behind the last reply.
@@ -87,12 +87,12 @@ pub fn run_lines<D: Disk>(
 {
     let mut disk = disk;
     let before = disk.faults();
-    let taken = match take(alloc, &mut disk, lines.len()) {
+    let taken = match take(alloc, &mut disk, lines_in(scripts)) {
         Ok(taken) => taken,
         Err(end) => return without_entries(alloc, disk, end),
     };
     match mount(alloc, disk, s) {
-        Ok(m) => run_mounted(alloc, m, taken, lines, now, is_left, before),
+        Ok(m) => run_mounted(alloc, m, taken, scripts, now, is_left, before),
         Err(not) => without_entries(alloc, not.disk, end_of(not.why)),
     }
 }
@@ -156,25 +156,24 @@ fn end_of(why: MountError) -> RunEnd
     }
 }
 
-/// The calls of a script on a mounted volume, and its end. `before` is how often calls on the disk had failed before the run.
+/// The calls of the clients' scripts on a mounted volume, and its end. `before` is how often calls on the disk had failed before the run.
 fn run_mounted<D: Disk>(
     alloc: Global,
     m: Mounted<D>,
     taken: Taken,
-    lines: &[Line],
+    scripts: &[Vec<Line>],
     now: Moment,
     is_left: bool,
     before: u64,
 ) -> Ran<D>
-    requires fits { AllFit lines.now }
-    requires number { length lines.now < 2 ^ 32 - 1 }
+    requires plan { IsPlan (plan_of scripts.now) }
     requires fresh { IsFresh (state D.Disk m.volume m.log) }
     requires there { 8 < m.volume.count }
     requires room { m.volume.count + D.page_count m.log.part ≤ m.volume.room }
     requires before { m.volume.faults + D.fault_count m.log.part ≡ before }
     requires none { taken.told.items ≡ [] }
-    requires capacity { length lines.now ≤ vec_capacity taken.told }
-    ensures ran { RunSince D.tells D.tells_crashes taken.superblock.0 lines.now is_left before (seen D.Disk result.disk) (record { history = result.history.items; told = result.told.items }) result.end }
+    requires capacity { lines_in (plan_of scripts.now) ≤ vec_capacity taken.told }
+    ensures ran { RunSince D.tells D.tells_crashes taken.superblock.0 (plan_of scripts.now) is_left before (seen D.Disk result.disk) (record { history = result.history.items; told = result.told.items }) result.end }
     ensures legal { D.tells → (area : ℕ → ℕ) (log_pages : ℕ) → MayServe area log_pages m.volume → AreLegal area log_pages now m.volume result.history.items }
     ensures leaves { D.tells → IfUnmounted result.end is_left (LeavesAny taken.superblock.0 now m.volume result.history.items (D.image result.disk)) }
     ensures rising { IsRisingFrom 1 result.told.items }
@@ -187,7 +186,7 @@ fn run_mounted<D: Disk>(
         mut point,
         mut told,
     } = taken;
-    let served = serve(alloc, &mut m, &mut point, lines, now, &mut told);
+    let served = serve_all(alloc, &mut m, &mut point, scripts, now, &mut told);
     let history = m.volume.take_entries();
     let ended = end(m, &mut point, &superblock, is_left);
     let end = end_after(served, ended.is_full, before, ended.disk.faults());

@@ -28,7 +28,8 @@ usage: jfsd format IMAGE UUID [LABEL]
        jfsd log IMAGE
        jfsd check IMAGE
        jfsd redo IMAGE
-       jfsd run [--leave] IMAGE SCRIPT
+       jfsd run [--leave] IMAGE SCRIPT..
+       jfsd gen IMAGE NUMBER CALLS CLIENTS
 ";
 
 fn main(rt: HostRuntime) -> ExitCode {

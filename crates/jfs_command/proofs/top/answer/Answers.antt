@@ -1,11 +1,14 @@
 use Rattle.std.proofs.Common.{length, sym}
 use Rattle.jfs_command.specs.Words.{texts, command_of}
-use Rattle.jfs_command.proofs.Asked.{takes_all}
+use Rattle.jfs_command.proofs.Asked.{is_within, few_scripts}
 use Rattle.jfs_command.proofs.Concluding.{answered, refused}
 use Rattle.jfs_command.proofs.top.answer.Goals as goal
 
-pub perform-outcome-requires : goal.perform-outcome-requires
-perform-outcome-requires g c = takes_all (texts c.args.words.now) c.in-Ok.command (length c.args.scripts.now.items) c.in-Ok.ensures c.requires
+pub perform-outcome-requires-clause-few : goal.perform-outcome-requires-clause-few
+perform-outcome-requires-clause-few g c = few_scripts (texts c.args.words.now) c.in-Ok.command (length c.args.scripts.now.items) c.in-Ok.ensures c.requires
+
+pub perform-outcome-requires-clause-within : goal.perform-outcome-requires-clause-within
+perform-outcome-requires-clause-within g c = is_within (texts c.args.words.now) c.in-Ok.command c.in-Ok.ensures
 
 pub returns-in-Ok-clause-answer : goal.returns-in-Ok-clause-answer
 returns-in-Ok-clause-answer g c =

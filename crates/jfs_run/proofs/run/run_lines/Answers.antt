@@ -9,6 +9,7 @@ use Rattle.jfs_run.specs.Calls.{Calls}
 use Rattle.jfs_legal.specs.served.specs.mounted.specs.Mount.{IsMountCause, IsRefusal}
 use Rattle.jfs_run.specs.Run.{seen, StayBeside}
 use Rattle.jfs_run.specs.Serving.{state}
+use Rattle.jfs_run.specs.Tasks.{plan_of}
 use Rattle.jfs_run.specs.Ending.{RunSince}
 use Rattle.jfs_run.proofs.Finished.{ran, took_nothing, unmounted}
 use Rattle.jfs_legal.proofs.Known.{laws}
@@ -58,9 +59,9 @@ returns-in-Ok-mount-clause-ran g c =
     let s = c.args.s.now in
     let new = seen d c.run_mounted.result.disk in
     let calls : Calls = record { history = c.run_mounted.result.history.items; told = c.run_mounted.result.told.items } in
-    ran d.tells d.tells_crashes s c.args.lines.now c.args.is_left (seen d c.args.disk) new c.in-Ok.taken.superblock.0 c.in-Ok.ensures.taken.0
+    ran d.tells d.tells_crashes s (plan_of c.args.scripts.now) c.args.is_left (seen d c.args.disk) new c.in-Ok.taken.superblock.0 c.in-Ok.ensures.taken.0
     (λ t. subst (λ (im : Image). broken_mount (subject_of s (page_of im)) ≡ None) (c.in-Ok.ensures.image t) (c.in-Ok-mount.ensures.mounted.found t).unbroken) calls c.run_mounted.result.end
-    (subst (λ (n : ℕ). RunSince d.tells d.tells_crashes c.in-Ok.taken.superblock.0 c.args.lines.now c.args.is_left n new calls c.run_mounted.result.end) c.faults-before.ensures c.run_mounted.ensures.ran)
+    (subst (λ (n : ℕ). RunSince d.tells d.tells_crashes c.in-Ok.taken.superblock.0 (plan_of c.args.scripts.now) c.args.is_left n new calls c.run_mounted.result.end) c.faults-before.ensures c.run_mounted.ensures.ran)
 
 -- ---- nothing was called
 
@@ -68,7 +69,7 @@ pub returns-in-Err-clause-ran : goal.returns-in-Err-clause-ran
 returns-in-Err-clause-ran g c =
     let d = g.D.Disk in
     let e = c.without_entries.ensures in
-    rw (e.disk, e.end, e.history, e.told) (took_nothing d.tells d.tells_crashes c.args.s.now c.args.lines.now c.args.is_left (seen d c.args.disk) (seen d c.take.new.disk) c.in-Err.end c.in-Err.ensures.cause
+    rw (e.disk, e.end, e.history, e.told) (took_nothing d.tells d.tells_crashes c.args.s.now (plan_of c.args.scripts.now) c.args.is_left (seen d c.args.disk) (seen d c.take.new.disk) c.in-Err.end c.in-Err.ensures.cause
     (λ t n not_eight beside. ap (λ (im : Image). page_of im n) (c.in-Err.ensures.image t)))
 
 pub returns-in-Err-mount-clause-ran : goal.returns-in-Err-mount-clause-ran
@@ -78,7 +79,7 @@ returns-in-Err-mount-clause-ran g c =
     let m = c.in-Err-mount.ensures in
     let s = c.args.s.now in
     let took = c.in-Ok.ensures in
-    rw (e.disk, e.end, e.history, e.told, c.end_of.ensures) (unmounted d.tells d.tells_crashes s c.args.lines.now c.args.is_left (seen d c.args.disk) (seen d c.in-Err-mount.not.disk) c.in-Err-mount.not.why
+    rw (e.disk, e.end, e.history, e.told, c.end_of.ensures) (unmounted d.tells d.tells_crashes s (plan_of c.args.scripts.now) c.args.is_left (seen d c.args.disk) (seen d c.in-Err-mount.not.disk) c.in-Err-mount.not.why
     (λ t. subst (λ (im : Image). IsRefusal s im c.in-Err-mount.not.why) (took.image t) (m.refused t))
     (subst (λ (n : ℕ). IsMountCause n (d.fault_count c.in-Err-mount.not.disk) c.in-Err-mount.not.why) took.cause m.cause)
     (λ t. subst (λ (im : Image). StayBeside s im (d.image c.in-Err-mount.not.disk)) (took.image t) (m.rest t))
