@@ -25,17 +25,20 @@ high_byte k front rest i few size high =
     ∙ get_or-drop (512 * k) rest (i - 512 * k) 0 ∙ ap (λ (n : ℕ). get_or rest n 0) place
 
 -- pages with the same bytes there have the same sector
-sector_from : (i : ℕ) (one other : List ℕ) → i < 8 → length one ≡ 4096 → length other ≡ 4096 → ((k : ℕ) → 512 * i ≤ k → k < 512 * i + 512 → get_or one k 0 ≡ get_or other k 0) → sector i one ≡ sector i other
+pub sector_from : (i : ℕ) (one other : List ℕ) → i < 8 → length one ≡ 4096 → length other ≡ 4096 → ((k : ℕ) → 512 * i ≤ k → k < 512 * i + 512 → get_or one k 0 ≡ get_or other k 0) → sector i one ≡ sector i other
 sector_from i one other low size long same =
     let a = length-range_of one (512 * i) 512 (omega (arith, low, size)) in
     let b = length-range_of other (512 * i) 512 (omega (arith, low, long)) in
     ext_get_or 0 (sector i one) (sector i other) (a ∙ sym b) (λ k h.
     part-at one (512 * i) 512 k (omega (arith, h, a)) ∙ same (512 * i + k) (omega arith) (omega (arith, h, a)) ∙ sym (part-at other (512 * i) 512 k (omega (arith, h, a))))
 
+pub front_sector : (k : ℕ) (front rest : List ℕ) (i : ℕ) → k ≤ 8 → i < 8 → length front ≡ 4096 → length rest ≡ 4096 → i < k → sector i (torn k front rest) ≡ sector i front
+front_sector k front rest i few low size long below = sector_from i (torn k front rest) front low (length-torn k front rest few size long) size (λ j from to. low_byte k front rest j few size (omega (arith, below, to)))
+
 -- a sector of a page that is torn is one of both pages'
 pub torn_sector : (k : ℕ) (front rest : List ℕ) (i : ℕ) → k ≤ 8 → i < 8 → length front ≡ 4096 → length rest ≡ 4096 → (sector i (torn k front rest) ≡ sector i front) ⊎ (sector i (torn k front rest) ≡ sector i rest)
 torn_sector k front rest i few low size long = elim (cases_lt i k) [
-  | inl below ↦ inl (sector_from i (torn k front rest) front low (length-torn k front rest few size long) size (λ j from to. low_byte k front rest j few size (omega (arith, below, to))))
+  | inl below ↦ inl (front_sector k front rest i few low size long below)
   | inr above ↦ inr (sector_from i (torn k front rest) rest low (length-torn k front rest few size long) long (λ j from to. high_byte k front rest j few size (omega (arith, above, from))))
 ]
 

@@ -1,5 +1,5 @@
 -- What a crash leaves in the midst of a redo, and what may be redone again.
-use Rattle.std.specs.Prelude.{◌≡◌, ◌⊎◌, ◌<◌, ◌≤◌, ◌+◌, ◌-◌, ◌*◌, ◌/◌, nat_lt, ℕ, Bool, true, false, if◌then◌else◌, List, length, map, drop, Option, Some, None}
+use Rattle.std.specs.Prelude.{◌≡◌, ◌⊎◌, ◌<◌, ◌≤◌, ◌+◌, ◌-◌, ◌*◌, ◌/◌, nat_lt, ℕ, suc, Bool, true, false, if◌then◌else◌, List, length, map, drop, Option, Some, None}
 use Rattle.jfs_disk.specs.Image.{Image, page_of, ArePages}
 use Rattle.jfs_disk.specs.Crash.{DiskState, AllSince}
 use Rattle.jfs_disk.specs.Moment.{now_of}
@@ -8,8 +8,10 @@ use Rattle.jfs_ranges.specs.Apply.{touches_tx}
 use Rattle.jfs_records.specs.Redo.{all_of, chosen}
 use Rattle.jfs_super.specs.Rules.{IsAccepted, blocks_of}
 use Rattle.jfs_super.specs.declared.fields.Super.{Super}
-use Rattle.jfs_bmap.specs.MapFile.{IsMapPage, pages_of}
+use Rattle.jfs_bmap.specs.MapFile.{IsMapPage, is_in_use, pages_of}
+use Rattle.jfs_bmap.specs.Set.{taken_at}
 use Rattle.jfs_imap.specs.Inodes.{Inodes, inodes_of, IsInodePage}
+use Rattle.jfs_redo_steps.specs.objects.specs.Contents.{block_of}
 use Rattle.jfs_redo_steps.specs.objects.specs.Image.{file_walk}
 use Rattle.jfs_redo_steps.specs.objects.specs.Objects.{met}
 use Rattle.jfs_redo_steps.specs.objects.specs.Volume.{home}
@@ -21,9 +23,10 @@ use Rattle.jfs_mount_maps.specs.sets.specs.Sets.{extent_from}
 use Rattle.jfs_redo_steps.specs.Pages.{redone_page}
 use Rattle.jfs_redo_steps.specs.Inodes.{AreInodesInUse}
 use Rattle.jfs_redo.specs.Log.{AreCommitted}
-use Rattle.jfs_redo.specs.Put.{InBytes}
+use Rattle.jfs_redo.specs.Put.{InBytes, place_if}
 use Rattle.jfs_redo.specs.Mixed.{IsMixed, AreMixed}
 use Rattle.jfs_redo.specs.Redo.{block_map_place, inode_map_place, IsMapPlace, IsRedone}
+use Rattle.jfs_redo.specs.declared.plan.Plan.{Plan}
 
 -- ---- what redo writes
 
@@ -101,7 +104,7 @@ StoppedRedo = (s : Super) (txs : List (List Edit)) (old left : Image) → ArePag
 
 -- Meanwhile a page changes only where a line of the log counts for some of its bytes (none is left behind the last NoRedo of a page that was freed), where a page of the maps has its place, and page 8.
 abbrev pub OthersStay : Type 0
-OthersStay = (s : Super) (txs : List (List Edit)) (old left : Image) → ArePages (length old) old → IsPartlyRedone s txs old left ⊎ IsRedone s txs old left
+OthersStay = (s : Super) (txs : List (List Edit)) (old left : Image) → ArePages (length old) old → IsAccepted s (length old) → IsPartlyRedone s txs old left ⊎ IsRedone s txs old left
     → (p : ℕ) → ((i : ℕ) → chosen p i (all_of txs) ≡ None) → (IsMapPlace (subject_of s (page_of old)) p → ⊥) → (p ≡ 8 → ⊥) → page_of left p ≡ page_of old p
 
 -- ---- for the prover alone: calls that write pages of the maps
@@ -118,3 +121,9 @@ PutsPage place Is p page = (place ≡ Some p) × Is page
 
 abbrev pub PutsFile : ℕ → (ℕ → Option ℕ) → (ℕ → List ℕ → Type 0) → ℕ → List ℕ → Type 0
 PutsFile n place Is p page = (k : ℕ) × (k < n) × (place k ≡ Some p) × Is k page
+
+-- any page of both maps
+abbrev pub PutsMaps : ℕ → Plan → Inodes → ℕ → List ℕ → Type 0
+PutsMaps blocks plan inodes p page =
+    PutsFile (pages_of blocks) (λ k. place_if (is_in_use blocks k) (block_of plan.maps.block_map k)) (InBytes (IsMapPage blocks plan.blocks.agsize (taken_at plan.blocks.owned))) p page
+    ⊎ PutsFile (suc plan.maps.inodes.iags) (block_of plan.maps.inodes.extents) (InBytes (IsInodePage inodes)) p page
