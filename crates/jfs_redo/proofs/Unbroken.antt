@@ -76,11 +76,13 @@ module _ (s : Super) (txs : List (List Edit)) (old left : Image) (sizes : ArePag
   unfolding map_rows
   unbroken = none-first_broken (map_rows now) (
     ap (λ (n : ℕ). n == pages_of blocks) (covered_blocks (pages_of blocks)) ∙ were.0,
-    ap (λ (n : ℕ). covered now 16 (suc n) == suc n) groups ∙ ap (λ (n : ℕ). n == suc (iags sub)) (covered_inodes (suc (iags sub))) ∙ were.1.0,
-    mapsize were.1.1.0,
-    ap (λ (n : ℕ). nat_le 1 n && nat_le n 65536) groups ∙ were.1.1.1.0,
-    eq-eqb (fitting now) (128 * iags now) (all_fit (eqb-true (fitting sub) (128 * iags sub) were.1.1.1.1.0)),
-    tt,
+    (
+      ap (λ (n : ℕ). covered now 16 (suc n) == suc n) groups ∙ ap (λ (n : ℕ). n == suc (iags sub)) (covered_inodes (suc (iags sub))) ∙ were.1.0,
+      (
+        mapsize were.1.1.0,
+        (ap (λ (n : ℕ). nat_le 1 n && nat_le n 65536) groups ∙ were.1.1.1.0, (eq-eqb (fitting now) (128 * iags now) (all_fit (eqb-true (fitting sub) (128 * iags sub) were.1.1.1.1.0)), tt)),
+      ),
+    ),
   )
 
   pub may_again : MayBeRedone s txs left
