@@ -25,6 +25,7 @@ use Rattle.jfs_mount_maps.specs.mount_rules.specs.Mount.{iags, extent_at}
 use Rattle.jfs_mount_maps.specs.sets.specs.Sets.{extent_from}
 use Rattle.jfs_redo.specs.Mixed.{sector}
 use Rattle.jfs_redo.specs.Partly.{taken_then, extents_then, inodes_then, IsPartlyRedone, MapsStandApart}
+use Rattle.jfs_redo.proofs.Extents.{LowPagesStay}
 use Rattle.jfs_redo.proofs.Sectors.{sector_field}
 use Rattle.jfs_redo.proofs.Decided.{used_again, extents_again}
 use Rattle.jfs_redo.proofs.Places.{extents-number}
@@ -47,7 +48,7 @@ place_from : (o : Option ℕ) → extent_place (extent_from o) ≡ o
 place_from None = refl
 place_from (Some first) = refl
 
-module _ (s : Super) (txs : List (List Edit)) (old left : Image) (sizes : ArePages (length old) old) (whole : blocks_of s ≤ length old) (apart : MapsStandApart s txs old) (way : IsPartlyRedone s txs old left) where
+module _ (s : Super) (txs : List (List Edit)) (old left : Image) (sizes : ArePages (length old) old) (whole : blocks_of s ≤ length old) (apart : MapsStandApart s txs old) (low_pages : LowPagesStay (all_of txs)) (way : IsPartlyRedone s txs old left) where
   abbrev blocks : ℕ
   blocks = blocks_of s
 
@@ -59,7 +60,7 @@ module _ (s : Super) (txs : List (List Edit)) (old left : Image) (sizes : ArePag
 
   -- how many pages the inode map has for inodes
   pub iags_same : iags now ≡ iags sub
-  iags_same = elim (inode_sector s txs old left sizes whole apart way 0 0 (omega arith) (omega arith)) [
+  iags_same = elim (inode_sector s txs old left sizes whole apart low_pages way 0 0 (omega arith) (omega arith)) [
     | inl same ↦ sector_field 0 4 4 (file_page now.readers now.page 16 0) (file_page sub.readers sub.page 16 0) same (omega arith) (omega arith)
     | inr (page, set, are, is, same) ↦
         let control = is.0.control refl in
@@ -88,7 +89,7 @@ module _ (s : Super) (txs : List (List Edit)) (old left : Image) (sizes : ArePag
 
   pub used_either : (b : ℕ) → b < blocks → ((volume now).used b ≡ (volume sub).used b) ⊎ ((volume now).used b ≡ used_after (all_of txs) (volume sub).used b)
   unfolding is_block_used
-  used_either b low = elim (block_sector s txs old left sizes whole apart way (4 + b / 8192) (6 + b % 8192 / 4096) (omega (arith, low)) (dmap_used b low) (omega arith)) [
+  used_either b low = elim (block_sector s txs old left sizes whole apart low_pages way (4 + b / 8192) (6 + b % 8192 / 4096) (omega (arith, low)) (dmap_used b low) (omega arith)) [
     | inl same ↦ inl (ap (λ (t : Bool). nat_lt b blocks && t) (bit_same (b % 8192) (file_page now.readers now.page 2 (4 + b / 8192)) (file_page sub.readers sub.page 2 (4 + b / 8192)) (omega arith) same))
     | inr (page, is, same) ↦ inr (ap (λ (t : Bool). t && is_taken (range_of (file_page now.readers now.page 2 (4 + b / 8192)) 3072 1024) (b % 8192)) (lt-ltb b blocks low)
         ∙ bit_same (b % 8192) (file_page now.readers now.page 2 (4 + b / 8192)) page (omega arith) same ∙ in_map b page low is.0)
@@ -99,18 +100,18 @@ module _ (s : Super) (txs : List (List Edit)) (old left : Image) (sizes : ArePag
 
   -- ---- inode extents
 
-  abbrev places : ℕ
+  abbrev pub places : ℕ
   places = 128 * iags sub
 
   number_now : length (volume now).extents ≡ places
   unfolding extents_on
   number_now = length-map (range_with_len 0 (128 * iags now)) (extent_on now.readers now.page) ∙ length-range_with_len 0 (128 * iags now) ∙ ap (λ (n : ℕ). 128 * n) iags_same
 
-  number_then : length (volume sub).extents ≡ places
+  pub number_then : length (volume sub).extents ≡ places
   unfolding extents_on
   number_then = length-map (range_with_len 0 (128 * iags sub)) (extent_on sub.readers sub.page) ∙ length-range_with_len 0 (128 * iags sub)
 
-  place_at : (t : Subject) (e : ℕ) → e < 128 * iags_on t.readers t.page → get_or (extents_on t.readers t.page) e None ≡ extent_on t.readers t.page e
+  pub place_at : (t : Subject) (e : ℕ) → e < 128 * iags_on t.readers t.page → get_or (extents_on t.readers t.page) e None ≡ extent_on t.readers t.page e
   unfolding extents_on
   place_at t e low =
       get_or-map (extent_on t.readers t.page) (range_with_len 0 (128 * iags_on t.readers t.page)) e 0 None (omega (arith, low, length-range_with_len 0 (128 * iags_on t.readers t.page)))
@@ -118,7 +119,7 @@ module _ (s : Super) (txs : List (List Edit)) (old left : Image) (sizes : ArePag
 
   -- an inode extent is as it was, or as the log leaves it
   pub extent_either : (e : ℕ) → e < places → (extent_at now e ≡ extent_at sub e) ⊎ (extent_at now e ≡ extent_from (get_or (extents_then s txs old) e None))
-  extent_either e low = elim (inode_sector s txs old left sizes whole apart way (suc (e / 128)) (6 + e % 128 / 64) (omega (arith, low)) (omega arith)) [
+  extent_either e low = elim (inode_sector s txs old left sizes whole apart low_pages way (suc (e / 128)) (6 + e % 128 / 64) (omega (arith, low)) (omega arith)) [
     | inl same ↦ inl (pxd_same (e % 128) (iag_page now.readers now.page (e / 128)) (iag_page sub.readers sub.page (e / 128)) (omega arith) same)
     | inr (page, set, are, is, same) ↦
         let place : suc (e / 128) ≡ e / 128 + 1 = omega arith in

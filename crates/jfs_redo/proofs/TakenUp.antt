@@ -20,7 +20,7 @@ use Rattle.jfs_redo_steps.specs.objects.specs.page_tree.specs.Walk.{Marks}
 use Rattle.jfs_redo_steps.specs.steps.specs.After.{used_after}
 use Rattle.jfs_bits.specs.declared.extent.Xad.{Xad}
 use Rattle.jfs_mount_maps.specs.mount_rules.specs.Subject.{Subject, subject_of, volume}
-use Rattle.jfs_mount_maps.specs.mount_rules.specs.Mount.{iags}
+use Rattle.jfs_mount_maps.specs.mount_rules.specs.Mount.{iags, broken_maps}
 use Rattle.jfs_mount_maps.specs.sets.specs.Sets.{extent_from}
 use Rattle.jfs_super.specs.Rules.{IsAccepted, blocks_of}
 use Rattle.jfs_super.specs.declared.fields.Super.{Super}
@@ -29,13 +29,15 @@ use Rattle.jfs_redo_steps.specs.Pages.{redone_page, ArePagesRedone}
 use Rattle.jfs_redo_steps.specs.Inodes.{AreInodesInUse}
 use Rattle.jfs_redo_steps.proofs.Again.{mixed_again, unnamed}
 use Rattle.jfs_redo.specs.Mixed.{sector}
+use Rattle.jfs_redo.specs.Log.{AreCommitted}
 use Rattle.jfs_redo.specs.Put.{InBytes}
 use Rattle.jfs_redo.specs.Redo.{IsMapPlace, IsBlockMapPlace, IsInodeMapPlace, block_map_place, inode_map_place, IsRedone}
-use Rattle.jfs_redo.specs.Partly.{taken_then, extents_then, inodes_then, Writes, IsPartlyRedone, MayBeRedone, LocatesMaps, MapsStandApart, IsTakenUp, StoppedRedo, OthersStay}
+use Rattle.jfs_redo.specs.Partly.{taken_then, extents_then, inodes_then, Writes, IsPartlyRedone, LocatesMaps, MapsStandApart, IsTakenUp, StoppedRedo, OthersStay}
 use Rattle.jfs_redo.proofs.Sectors.{sector_byte, mixed_same}
 use Rattle.jfs_redo.proofs.Located.{not_redone, stays, block_walk, inode_walk, block_place, inode_place}
 use Rattle.jfs_redo.proofs.ReadAgain.{iags_same, used_same, extents_same}
-use Rattle.jfs_redo.proofs.Unbroken.{may_again}
+use Rattle.jfs_redo.proofs.Unbroken.{unbroken}
+use Rattle.jfs_redo.proofs.Extents.{LowPagesStay, all-lie, transactions-lie, low_pages-stay}
 
 -- the image whose pages are redone
 redone_image : ℕ → List Edit → Image → Image
@@ -52,7 +54,7 @@ redone_there count es old whole = record {
   ];
 }
 
-module _ (s : Super) (txs : List (List Edit)) (old left : Image) (sizes : ArePages (length old) old) (accepted : IsAccepted s (length old)) (may : MayBeRedone s txs old) (apart : MapsStandApart s txs old) (way : IsPartlyRedone s txs old left) where
+module _ (s : Super) (txs : List (List Edit)) (old left : Image) (sizes : ArePages (length old) old) (accepted : IsAccepted s (length old)) (committed : AreCommitted s.logpxd.len (blocks_of s) (drop s.logpxd.addr old) txs) (was_unbroken : broken_maps (subject_of s (page_of old)) ≡ None) (apart : MapsStandApart s txs old) (way : IsPartlyRedone s txs old left) where
   abbrev blocks : ℕ
   blocks = blocks_of s
 
@@ -71,17 +73,20 @@ module _ (s : Super) (txs : List (List Edit)) (old left : Image) (sizes : ArePag
   whole : blocks ≤ length old
   whole = let ends = accepted_log s (length old) accepted in omega (arith, ends, behind)
 
+  low_pages : LowPagesStay es
+  low_pages = low_pages-stay blocks (drop s.logpxd.addr old) s.logpxd.len txs committed
+
   groups : iags now ≡ iags sub
-  groups = iags_same s txs old left sizes whole apart way
+  groups = iags_same s txs old left sizes whole apart low_pages way
 
   block_at : (k : ℕ) → block_map_place now k ≡ block_map_place sub k
-  block_at = block_place s txs old left sizes whole apart way
+  block_at = block_place s txs old left sizes whole apart low_pages way
 
   inode_at : (k : ℕ) → inode_map_place now k ≡ inode_map_place sub k
-  inode_at = inode_place s txs old left sizes whole apart way
+  inode_at = inode_place s txs old left sizes whole apart low_pages way
 
   extents_are : extents_then s txs left ≡ extents_then s txs old
-  extents_are = extents_same s txs old left sizes whole apart way
+  extents_are = extents_same s txs old left sizes whole apart low_pages way
 
   -- the places of the maps are the same
   place_then : (p : ℕ) → IsMapPlace now p → IsMapPlace sub p
@@ -157,7 +162,7 @@ module _ (s : Super) (txs : List (List Edit)) (old left : Image) (sizes : ArePag
         redone = image;
         pages = there;
         taken = is.taken;
-        taken_are = λ b low. is.taken_are b low ∙ used_same s txs old left sizes whole apart way b low;
+        taken_are = λ b low. is.taken_are b low ∙ used_same s txs old left sizes whole apart low_pages way b low;
         taken_past = is.taken_past;
         set = is.set;
         in_use = subst (λ (page : ℕ → List ℕ). AreInodesInUse page (extents_then s txs old) is.set) (sym (fun_ext there.pages))
@@ -186,8 +191,8 @@ module _ (s : Super) (txs : List (List Edit)) (old left : Image) (sizes : ArePag
   locates_then p (inl is) = inl is
   locates_then p (inr (inl is)) = inr (inl is)
   locates_then p (inr (inr (inl is))) = inr (inr (inl is))
-  locates_then p (inr (inr (inr (inl h)))) = inr (inr (inr (inl (subst (λ (ms : Marks ℕ Xad). 0 < met ms p) (block_walk s txs old left sizes whole apart way) h))))
-  locates_then p (inr (inr (inr (inr h)))) = inr (inr (inr (inr (subst (λ (ms : Marks ℕ Xad). 0 < met ms p) (inode_walk s txs old left sizes whole apart way) h))))
+  locates_then p (inr (inr (inr (inl h)))) = inr (inr (inr (inl (subst (λ (ms : Marks ℕ Xad). 0 < met ms p) (block_walk s txs old left sizes whole apart low_pages way) h))))
+  locates_then p (inr (inr (inr (inr h)))) = inr (inr (inr (inr (subst (λ (ms : Marks ℕ Xad). 0 < met ms p) (inode_walk s txs old left sizes whole apart low_pages way) h))))
 
   pub still_apart : MapsStandApart s txs left
   still_apart = record {
@@ -196,21 +201,24 @@ module _ (s : Super) (txs : List (List Edit)) (old left : Image) (sizes : ArePag
     both = λ j k p h g. apart.both j k p (sym (block_at j) ∙ h) (sym (inode_at k) ∙ g);
     located = λ p place locates. apart.located p (place_then p place) (locates_then p locates);
     homes = λ n p at place. apart.homes n p (ap (λ (xs : List (Option ℕ)). home xs n) (sym extents_are) ∙ at) (place_then p place);
-    logged = λ p is. apart.logged p (elim is [ inl place ↦ inl (place_then p place) | inr locates ↦ inr (locates_then p locates) ]);
+    logged = λ p high is. apart.logged p high (elim is [ inl place ↦ inl (place_then p place) | inr locates ↦ inr (locates_then p locates) ]);
   }
 
   taken_are : taken_then s txs left ≡ taken_then s txs old
   taken_are = fun_ext (λ b. by b (cases_lt b blocks))
     where
       by : (b : ℕ) → (b < blocks) ⊎ (blocks ≤ b) → taken_then s txs left b ≡ taken_then s txs old b
-      by b (inl low) = cond-true (nat_lt b blocks) (used_after es (volume now).used b) true (lt-ltb b blocks low) ∙ used_same s txs old left sizes whole apart way b low
+      by b (inl low) = cond-true (nat_lt b blocks) (used_after es (volume now).used b) true (lt-ltb b blocks low) ∙ used_same s txs old left sizes whole apart low_pages way b low
           ∙ sym (cond-true (nat_lt b blocks) (used_after es (volume sub).used b) true (lt-ltb b blocks low))
       by b (inr high) = cond-false (nat_lt b blocks) (used_after es (volume now).used b) true (le-ltb b blocks high) ∙ sym (cond-false (nat_lt b blocks) (used_after es (volume sub).used b) true (le-ltb b blocks high))
+
+  untouched_place : (p : ℕ) → IsMapPlace sub p → touches_tx p es ≡ false
+  untouched_place p place = elim (cases_lt p 16) [ inl low ↦ low_pages p low | inr high ↦ apart.logged p high (inl place) ]
 
   -- what the second redo writes the first one writes too, or it stands there
   writes_then : (p : ℕ) (page : List ℕ) → Writes s txs left p page → (page ≡ page_of left p) ⊎ Writes s txs old p page
   writes_then p page (inl is) = elim (cases_Bool (touches_tx p es)) [
-    | inl touched ↦ inr (inl (is ∙ redone_same p (λ place. true≢false (sym touched ∙ apart.logged p (inl place)))))
+    | inl touched ↦ inr (inl (is ∙ redone_same p (λ place. true≢false (sym touched ∙ untouched_place p place))))
     | inr clear ↦ inl (is ∙ not_redone s txs left p (λ low. (way.pages p low).size) clear)
   ]
   writes_then p page (inr (inl (k, low, at, is))) = inr (inr (inl (k, low, sym (block_at k) ∙ at, subst (λ (taken : ℕ → Bool). InBytes (IsMapPage blocks s.agsize taken) k page) taken_are is)))
@@ -239,16 +247,16 @@ module _ (s : Super) (txs : List (List Edit)) (old left : Image) (sizes : ArePag
 
   pub taken_up : IsTakenUp s txs old left
   taken_up = record {
-    superblock = stays s txs old left sizes whole apart way 8 (inl refl);
+    superblock = stays s txs old left sizes whole apart low_pages way 8 (inl refl);
     log = log_same;
-    may = may_again s txs old left sizes whole apart may way;
+    unbroken = unbroken s txs old left sizes whole apart low_pages (all-lie blocks txs (transactions-lie blocks (drop s.logpxd.addr old) s.logpxd.len txs committed)) was_unbroken way;
     apart = still_apart;
     same = same_volume;
     stopped = stopped_again;
   }
 
 pub stopped_redo : StoppedRedo
-stopped_redo s txs old left sizes accepted may apart way = taken_up s txs old left sizes accepted may apart way
+stopped_redo s txs old left sizes accepted committed was_unbroken apart way = taken_up s txs old left sizes accepted committed was_unbroken apart way
 
 -- ---- pages that no line of the log counts for
 

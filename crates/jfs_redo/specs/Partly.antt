@@ -16,7 +16,6 @@ use Rattle.jfs_redo_steps.specs.objects.specs.Image.{file_walk}
 use Rattle.jfs_redo_steps.specs.objects.specs.Objects.{met}
 use Rattle.jfs_redo_steps.specs.objects.specs.Volume.{home}
 use Rattle.jfs_redo_steps.specs.steps.specs.After.{used_after, extents_after}
-use Rattle.jfs_redo_steps.specs.each.specs.Each.{AllFit}
 use Rattle.jfs_mount_maps.specs.mount_rules.specs.Subject.{Subject, subject_of, volume}
 use Rattle.jfs_mount_maps.specs.mount_rules.specs.Mount.{broken_maps, iags}
 use Rattle.jfs_mount_maps.specs.sets.specs.Sets.{extent_from}
@@ -60,16 +59,11 @@ IsPartlyRedone s txs old left = IsMixed (blocks_of s) (Writes s txs old) old lef
 
 -- ---- the moments of a redo
 
--- what redo looks at before it writes: no rule on the maps is broken, and the inode extents of all transactions lie within the volume
-pub record MayBeRedone (s : Super) (txs : List (List Edit)) (old : Image) : Type 0 where
-  pub unbroken : broken_maps (subject_of s (page_of old)) ≡ None
-  pub fit : AllFit (blocks_of s) (extents_then s txs old)
-
 -- Nothing was written; or at each moment a crash leaves the volume partly redone, or as it is once all is redone.
 abbrev pub IsRedoneMeanwhile : Super → Image → List DiskState → List DiskState → Type 0
 IsRedoneMeanwhile s old before past =
     (past ≡ before)
-    ⊎ ((txs : List (List Edit)) × AreCommitted s.logpxd.len (blocks_of s) (drop s.logpxd.addr old) txs × MayBeRedone s txs old
+    ⊎ ((txs : List (List Edit)) × AreCommitted s.logpxd.len (blocks_of s) (drop s.logpxd.addr old) txs × (broken_maps (subject_of s (page_of old)) ≡ None)
     × AllSince (λ left. IsPartlyRedone s txs old left ⊎ IsRedone s txs old left) past (now_of before))
 
 -- ---- a redo that is made again
@@ -78,29 +72,30 @@ IsRedoneMeanwhile s old before past =
 abbrev pub LocatesMaps : Subject → ℕ → Type 0
 LocatesMaps s p = (p ≡ 8) ⊎ ((p ≡ 11) ⊎ ((p ≡ 13) ⊎ ((0 < met (file_walk s.readers s.page 2) p) ⊎ (0 < met (file_walk s.readers s.page 16) p))))
 
--- The maps stand apart: each of their pages has a place of its own, where no page stands that locates them and no inode, and the log changes none of these pages. (A consistent volume has one owner for each block, and no entry of its log
--- is a line of such a page.)
+-- The maps stand apart: each of their pages has a place of its own, where no page stands that locates them and no inode, and no line of the log is one of such a page. (A consistent volume has one owner for each block, and no file call
+-- logs a page of the maps or of their trees.)
 pub record MapsStandApart (s : Super) (txs : List (List Edit)) (old : Image) : Type 0 where
   pub blocks : (j k p : ℕ) → block_map_place (subject_of s (page_of old)) j ≡ Some p → block_map_place (subject_of s (page_of old)) k ≡ Some p → j ≡ k
   pub inodes : (j k p : ℕ) → inode_map_place (subject_of s (page_of old)) j ≡ Some p → inode_map_place (subject_of s (page_of old)) k ≡ Some p → j ≡ k
   pub both : (j k p : ℕ) → block_map_place (subject_of s (page_of old)) j ≡ Some p → inode_map_place (subject_of s (page_of old)) k ≡ Some p → ⊥
   pub located : (p : ℕ) → IsMapPlace (subject_of s (page_of old)) p → LocatesMaps (subject_of s (page_of old)) p → ⊥
   pub homes : (n p : ℕ) → home (extents_then s txs old) n ≡ Some p → IsMapPlace (subject_of s (page_of old)) p → ⊥
-  pub logged : (p : ℕ) → IsMapPlace (subject_of s (page_of old)) p ⊎ LocatesMaps (subject_of s (page_of old)) p → touches_tx p (all_of txs) ≡ false
+  -- the log's rules keep it off the first 16 pages
+  pub logged : (p : ℕ) → 16 ≤ p → IsMapPlace (subject_of s (page_of old)) p ⊎ LocatesMaps (subject_of s (page_of old)) p → touches_tx p (all_of txs) ≡ false
 
--- A volume that a crash left partly redone is taken up again: its superblock and its log are as they were, it is refused by nothing, and what redo makes of it is what redo makes of the volume as it was.
+-- A volume that a crash left partly redone is taken up again: its superblock and its log are as they were, no rule on its maps is broken, and what redo makes of it is what redo makes of the volume as it was.
 pub record IsTakenUp (s : Super) (txs : List (List Edit)) (old left : Image) : Type 0 where
   pub superblock : page_of left 8 ≡ page_of old 8
   pub log : drop s.logpxd.addr left ≡ drop s.logpxd.addr old
-  pub may : MayBeRedone s txs left
-  pub apart : MapsStandApart s txs left
+  pub unbroken : broken_maps (subject_of s (page_of left)) ≡ None
   pub same : (new : Image) → IsRedone s txs left new → IsRedone s txs old new
   -- and if that redo is stopped too, the volume is still one that the first one may have left
+  pub apart : MapsStandApart s txs left
   pub stopped : (next : Image) → IsPartlyRedone s txs left next → IsPartlyRedone s txs old next
 
 abbrev pub StoppedRedo : Type 0
-StoppedRedo = (s : Super) (txs : List (List Edit)) (old left : Image) → ArePages (length old) old → IsAccepted s (length old) → MayBeRedone s txs old → MapsStandApart s txs old
-    → IsPartlyRedone s txs old left → IsTakenUp s txs old left
+StoppedRedo = (s : Super) (txs : List (List Edit)) (old left : Image) → ArePages (length old) old → IsAccepted s (length old) → AreCommitted s.logpxd.len (blocks_of s) (drop s.logpxd.addr old) txs
+    → broken_maps (subject_of s (page_of old)) ≡ None → MapsStandApart s txs old → IsPartlyRedone s txs old left → IsTakenUp s txs old left
 
 -- Meanwhile a page changes only where a line of the log counts for some of its bytes (none is left behind the last NoRedo of a page that was freed), where a page of the maps has its place, and page 8.
 abbrev pub OthersStay : Type 0

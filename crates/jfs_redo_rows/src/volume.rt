@@ -173,33 +173,37 @@ fn refused(alloc: Global, words: &[Word]) -> Option<(RedoError, bool)> {
     }
 }
 
+const fn bad_log(address: u32, rule: Rule) -> RedoError {
+    RedoError::BadLog { address, rule }
+}
+
+const fn bad_maps(rule: Rule, page: u32, value: u64) -> RedoError {
+    RedoError::BadImage(BadMount { rule, page, value })
+}
+
+/// Another's label, and why a volume with it is refused.
+const FOREIGN: RedoError = RedoError::ForeignLog {
+    label: *b"other\0\0\0\0\0\0\0\0\0\0\0",
+};
+
+/// Words of a volume, and why it is refused. The log begins at page 3072; its superblock is the second page, with the label at byte 52, and its only SYNCPT stands on its last page.
+#[rattlefmt::skip]
+static REFUSED: [(&[Word], RedoError); 7] = [
+    (&[(3073, 52, 0x6568_746f), (3073, 56, 0x72), (3073, 60, 0), (3073, 64, 0)], FOREIGN),
+    (&[(3073, 0, 5)], bad_log(4096, Rule::Super)),
+    (&[(4095, 16, 0x2000)], bad_log(4_190_252, Rule::BadType)),
+    (&[(16, 0, 3007)], bad_maps(Rule::Mapsize, 16, 3007)),
+    (&[(27, 4, 0)], bad_maps(Rule::Nextiag, 27, 0)),
+    // The first inode extent lies behind the volume.
+    (&[(28, 3076, 4000)], bad_maps(Rule::Extents, 28, 4000)),
+    // The log comes before the maps.
+    (&[(28, 3076, 4000), (3073, 0, 5)], bad_log(4096, Rule::Super)),
+];
+
 #[test]
 fn a_log_or_maps_that_break_a_rule_are_refused(rt: HostRuntime) {
     let alloc = rt.alloc();
-    let mut label = [0; 16];
-    label[..5].copy_from_slice(b"other");
-    // The log begins at page 3072; its superblock is the second page, with the label at byte 52.
-    let words = [
-        (3073, 52, 0x6568_746f),
-        (3073, 56, 0x72),
-        (3073, 60, 0),
-        (3073, 64, 0),
-    ];
-    assert!(rt; refused(alloc, &words) == Some((RedoError::ForeignLog { label }, false)));
-    assert!(rt;
-        refused(alloc, &[(3073, 0, 5)])
-            == Some((
-                RedoError::BadLog {
-                    address: 4096,
-                    rule: Rule::Super
-                },
-                false
-            ))
-    );
-    let bad = BadMount {
-        rule: Rule::Mapsize,
-        page: 16,
-        value: 3007,
-    };
-    assert!(rt; refused(alloc, &[(16, 0, 3007)]) == Some((RedoError::BadImage(bad), false)));
+    for (words, why) in REFUSED.iter() {
+        assert!(rt; refused(alloc, words) == Some((*why, false)), "{words:?}");
+    }
 }
