@@ -1,6 +1,6 @@
 -- Calls that write pages of the maps leave a volume partly redone at each moment.
 use Rattle.std.proofs.Common.{◌≡◌, ◌⊎◌, ◌<◌, ◌≤◌, ◌+◌, ◌∷◌, ◌++◌, [], ℕ, Bool, true, false, List, length, refl, sym, ap, subst, ◌∙◌, inl, inr, arith}
-use Rattle.std.specs.Prelude.{Option, Some, None}
+use Rattle.std.specs.Prelude.{Option, Some, None, Result, Ok, Err, OnOk, OnErr}
 use Rattle.jfs_disk.specs.Image.{Image, page_of, ArePages}
 use Rattle.jfs_disk.specs.Crash.{DiskState, IsCrashImage, seen_of, last_of, written, settled, LeavesTorn}
 use Rattle.jfs_ranges.specs.declared.edit.Edit.{Edit}
@@ -32,3 +32,8 @@ keeps_sync blocks Puts image past new now crash synced s txs old t sizes whole w
 -- one page of a file
 pub puts_one : (n k : ℕ) (place : ℕ → Option ℕ) (Is : ℕ → List ℕ → Type 0) (o : Option ℕ) → k < n → o ≡ place k → (p : ℕ) (page : List ℕ) → PutsPage o (Is k) p page → PutsFile n place Is p page
 puts_one n k place Is o low same p page (at, is) = (k, low, sym same ∙ at, is)
+
+-- a call that was made or failed
+pub either_way : {T E : Type 0} (r : Result T E) (A B C : Type 0) → OnOk r A → OnErr r B → (A → C) → (B → C) → C
+either_way (Ok x) A B C a b f g = f a
+either_way (Err e) A B C a b f g = g b

@@ -15,3 +15,5 @@ pub mod ReadAgain
 pub mod Unbroken
 pub mod TakenUp
 pub mod Keeps
+pub mod WritesMaps
+pub mod Meanwhile

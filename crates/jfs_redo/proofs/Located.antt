@@ -4,7 +4,6 @@ use Rattle.std.specs.Prelude.{Option, Some, None, unwrap_or}
 use Rattle.std.proofs.lemmas.Bool.{cases_lt, cond-true, cond-false, lt-ltb, le-ltb}
 use Rattle.jfs_bits.specs.declared.extent.Xad.{Xad}
 use Rattle.jfs_disk.specs.Image.{Image, page_of, ArePages}
-use Rattle.jfs_inode.specs.declared.fields.Dinode.{Dinode}
 use Rattle.jfs_ranges.specs.declared.edit.Edit.{Edit}
 use Rattle.jfs_ranges.specs.Apply.{touches_tx}
 use Rattle.jfs_records.specs.Redo.{redone, all_of}
@@ -46,7 +45,7 @@ no_page_at r page k j h = ap (λ (o : Option ℕ). unwrap_or (bytes_at page o) [
 same_walk : (r : Readers) (old new : ℕ → List ℕ) (k : ℕ) → new (11 + k / 8) ≡ old (11 + k / 8) → ((b : ℕ) → 0 < met (file_walk r old k) b → new b ≡ old b) → file_walk r new k ≡ file_walk r old k
 unfolding root_footprint
 same_walk r old new k inode stays =
-    ap (λ (d : Dinode). tree_of r.extents_order (λ b. r.extents_page (new b)) (r.extents_root d)) (ap (λ (p : List ℕ). slot_of p (k % 8)) inode)
+    ap (λ d. tree_of r.extents_order (λ b. r.extents_page (new b)) (r.extents_root d)) (ap (λ (p : List ℕ). slot_of p (k % 8)) inode)
     ∙ tree_frame r.extents_order (λ b. r.extents_page (old b)) (λ b. r.extents_page (new b)) (r.extents_root (aggregate_at old k)) (λ b h. ap r.extents_page (stays b h))
 
 -- a page that the log doesn't touch isn't redone
