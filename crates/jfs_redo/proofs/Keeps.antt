@@ -1,10 +1,8 @@
 -- Calls that write pages of the maps leave a volume partly redone at each moment.
-use Rattle.std.proofs.Common.{◌≡◌, ◌⊎◌, ◌<◌, ◌≤◌, ◌+◌, ◌∷◌, ◌++◌, [], ℕ, Bool, true, false, List, length, refl, sym, ap, subst, ◌∙◌, inl, inr, arith}
-use Rattle.std.specs.Prelude.{Option, Some, None, Result, Ok, Err, OnOk, OnErr}
-use Rattle.jfs_disk.specs.Image.{Image, page_of, ArePages}
+use Rattle.std.proofs.Common.{◌≡◌, ◌<◌, ◌∷◌, ◌++◌, [], ℕ, List, length, sym, subst, ◌∙◌, arith}
+use Rattle.std.specs.Prelude.{Option, Result, Ok, Err, OnOk, OnErr}
+use Rattle.jfs_disk.specs.Image.{Image}
 use Rattle.jfs_disk.specs.Crash.{DiskState, IsCrashImage, seen_of, last_of, written, settled, LeavesTorn}
-use Rattle.jfs_ranges.specs.declared.edit.Edit.{Edit}
-use Rattle.jfs_super.specs.declared.fields.Super.{Super}
 use Rattle.jfs_redo.specs.Partly.{Writes, KeepsMixed, PutsPage, PutsFile}
 use Rattle.jfs_redo.proofs.Mixing.{write_goes, fail_goes, sync_goes, same_goes}
 

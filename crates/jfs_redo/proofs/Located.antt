@@ -26,7 +26,7 @@ use Rattle.jfs_redo_steps.specs.Pages.{redone_page}
 use Rattle.jfs_redo_steps.specs.Inodes.{AreInodesInUse}
 use Rattle.jfs_redo_steps.proofs.Again.{untouched}
 use Rattle.jfs_redo.specs.Put.{InBytes, place_if}
-use Rattle.jfs_redo.specs.Mixed.{sector, IsMixedPage}
+use Rattle.jfs_redo.specs.Mixed.{sector}
 use Rattle.jfs_redo.specs.Redo.{block_map_place, inode_map_place, IsMapPlace}
 use Rattle.jfs_redo.specs.Partly.{taken_then, extents_then, inodes_then, Writes, IsPartlyRedone, LocatesMaps, MapsStandApart}
 use Rattle.jfs_redo.proofs.Extents.{LowPagesStay}

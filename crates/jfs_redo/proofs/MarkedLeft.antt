@@ -1,20 +1,18 @@
 -- What a crash leaves while the superblock is marked: its page is as it was, or as it was written, since all of its fields stand in the first sector.
-use Rattle.std.proofs.Common.{◌≡◌, ◌⊎◌, ◌<◌, ◌≤◌, ◌+◌, ◌-◌, ◌*◌, ℕ, zero, suc, List, [], ◌∷◌, ◌++◌, length, get_or, set, refl, sym, ap, subst, ◌∙◌, inl, inr, arith}
-use Rattle.std.proofs.lemmas.Bool.{cases_lt}
+use Rattle.std.proofs.Common.{◌≡◌, ◌⊎◌, ◌<◌, ◌≤◌, ◌+◌, ℕ, zero, suc, List, [], ◌∷◌, ◌++◌, length, set, refl, sym, ap, subst, ◌∙◌, inl, inr, arith}
 use Rattle.std.proofs.lemmas.List.{set-get_or, append_assoc}
 use Rattle.jfs_bits.specs.Field.{range_of}
-use Rattle.jfs_bits.specs.Piece.{puts, Place, are_within}
+use Rattle.jfs_bits.specs.Piece.{puts, Place}
 use Rattle.jfs_bits.proofs.Descriptors.{length-pxd_bytes, length-moment_bytes}
 use Rattle.jfs_bits.proofs.Parts.{length-range_of}
 use Rattle.jfs_bits.proofs.Places.{range-same}
-use Rattle.jfs_bits.proofs.Pieces.{ArePlaced, length-puts, range_of-puts_other}
+use Rattle.jfs_bits.proofs.Pieces.{ArePlaced, range_of-puts_other}
 use Rattle.jfs_disk.specs.Image.{Image, page_of}
-use Rattle.jfs_disk.specs.Crash.{DiskState, IsCrashImage, AllSince, Leaves, TearsPage, LeavesTorn, torn, written, failed, settled, seen_of, last_of}
+use Rattle.jfs_disk.specs.Crash.{DiskState, AllSince, TearsPage, torn, written, failed, settled, seen_of, last_of}
 use Rattle.jfs_disk.specs.Moment.{IsResting}
 use Rattle.jfs_disk.specs.Seen.{seen_of-written}
 use Rattle.jfs_disk.proofs.Tearing.{torn-none, length-torn}
-use Rattle.jfs_disk.proofs.Outcomes.{last_of-push}
-use Rattle.jfs_disk.proofs.Flow.{goes_on, crash-settled, crash-resting, crash-resting-written, crash-resting-failed}
+use Rattle.jfs_disk.proofs.Flow.{goes_on, crash-settled, crash-resting-written, crash-resting-failed}
 use Rattle.jfs_super.specs.Super.{super_of, pieces}
 use Rattle.jfs_super.specs.declared.fields.Super.{Super}
 use Rattle.jfs_redo.specs.Mixed.{sector}

@@ -1,13 +1,12 @@
 -- What a crash leaves while pages of some kind are written.
-use Rattle.std.proofs.Common.{◌≡◌, ◌⊎◌, ◌<◌, ◌≤◌, ◌-◌, ℕ, List, [], ◌∷◌, ◌++◌, length, set, refl, sym, ap, subst, ◌∙◌, inl, inr, arith}
+use Rattle.std.proofs.Common.{◌≡◌, ◌⊎◌, ◌<◌, ◌≤◌, ℕ, List, [], ◌∷◌, ◌++◌, length, set, sym, ap, subst, ◌∙◌, inl, inr, arith}
 use Rattle.std.proofs.lemmas.Bool.{cases_eq}
 use Rattle.std.proofs.lemmas.List.{length-set, get_or-set_same, get_or-set_other}
 use Rattle.jfs_disk.specs.Image.{Image, page_of}
 use Rattle.jfs_disk.specs.Crash.{DiskState, IsCrashImage, history_of, seen_of, last_of, written, failed, page_failed, settled, torn, AllSince, Leaves, LeavesTorn}
-use Rattle.jfs_disk.specs.Moment.{IsResting, now_of}
 use Rattle.jfs_disk.specs.Seen.{page_of-seen_of}
 use Rattle.jfs_disk.proofs.Outcomes.{last_of-push}
-use Rattle.jfs_disk.proofs.Flow.{TakesPage, starts, goes_on, AllSince-weaker, crash-written, crash-failed, crash-settled, crash-resting, length-written, length-settled}
+use Rattle.jfs_disk.proofs.Flow.{TakesPage, goes_on, crash-written, crash-failed, crash-settled, length-written, length-settled}
 use Rattle.jfs_redo.specs.Mixed.{IsMixedPage, IsMixed, AreMixed}
 use Rattle.jfs_redo.proofs.Sectors.{mixed_old, mixed_new, mixed_torn}
 

@@ -1,14 +1,13 @@
 -- A volume that is partly redone: what is read of its maps.
-use Rattle.std.proofs.Common.{◌≡◌, ◌⊎◌, ◌<◌, ◌≤◌, ◌+◌, ◌-◌, ◌*◌, ◌/◌, ◌%◌, ◌&&◌, ◌||◌, ◌==◌, not, nat_le, nat_lt, ℕ, suc, Bool, true, false, if◌then◌else◌, List, [], length, map, get_or, refl, sym, ap, subst, ◌∙◌, inl, inr, arith}
+use Rattle.std.proofs.Common.{◌≡◌, ◌⊎◌, ◌<◌, ◌≤◌, ◌+◌, ◌*◌, ◌/◌, ◌%◌, ◌&&◌, ◌||◌, ◌==◌, nat_le, nat_lt, ℕ, suc, Bool, true, false, List, length, map, get_or, refl, sym, ap, subst, ◌∙◌, inl, inr, arith}
 use Rattle.std.specs.Prelude.{Option, Some, None}
 use Rattle.std.specs.List.{range_with_len}
-use Rattle.std.proofs.lemmas.Bool.{cases_lt, cond-true, lt-ltb, le-leb}
+use Rattle.std.proofs.lemmas.Bool.{cond-true, lt-ltb, le-leb}
 use Rattle.std.proofs.lemmas.List.{length-map, get_or-map}
 use Rattle.std.proofs.lemmas.List.FromFn.{get_or-range_with_len, length-range_with_len}
-use Rattle.jfs_bits.specs.declared.descriptor.Pxd.{Pxd}
 use Rattle.jfs_bits.specs.Bits.{is_taken, is_taken_in}
 use Rattle.jfs_bits.specs.Descriptor.{pxd_of}
-use Rattle.jfs_bits.specs.Field.{field_of, range_of}
+use Rattle.jfs_bits.specs.Field.{range_of}
 use Rattle.jfs_bits.proofs.Parts.{field-in_part}
 use Rattle.jfs_disk.specs.Image.{Image, page_of, ArePages}
 use Rattle.jfs_ranges.specs.declared.edit.Edit.{Edit}
@@ -17,9 +16,9 @@ use Rattle.jfs_super.specs.Rules.{blocks_of}
 use Rattle.jfs_super.specs.declared.fields.Super.{Super}
 use Rattle.jfs_iag.specs.Iag.{no_run}
 use Rattle.jfs_bmap.specs.MapFile.{IsMapPage, IsDmapPage, is_in_use, pages_of}
-use Rattle.jfs_imap.specs.Inodes.{IsInodePage, IsPageOfIag}
+use Rattle.jfs_imap.specs.Inodes.{IsPageOfIag}
 use Rattle.jfs_redo_steps.specs.objects.specs.Image.{file_page, iag_page, iags_on, is_block_used, extent_place, extent_on, extents_on}
-use Rattle.jfs_redo_steps.specs.steps.specs.After.{used_after, extents_after}
+use Rattle.jfs_redo_steps.specs.steps.specs.After.{used_after}
 use Rattle.jfs_mount_maps.specs.mount_rules.specs.Subject.{Subject, subject_of, volume}
 use Rattle.jfs_mount_maps.specs.mount_rules.specs.Mount.{iags, extent_at}
 use Rattle.jfs_mount_maps.specs.sets.specs.Sets.{extent_from}

@@ -1,8 +1,8 @@
 -- Pages, sector by sector.
-use Rattle.std.proofs.Common.{◌≡◌, ◌⊎◌, ◌<◌, ◌≤◌, ◌+◌, ◌-◌, ◌*◌, ◌/◌, ℕ, List, [], ◌++◌, length, take, drop, get_or, refl, sym, ap, ◌∙◌, inl, inr, arith}
+use Rattle.std.proofs.Common.{◌≡◌, ◌⊎◌, ◌<◌, ◌≤◌, ◌+◌, ◌-◌, ◌*◌, ◌/◌, ℕ, List, ◌++◌, length, take, drop, get_or, refl, sym, ap, ◌∙◌, inl, inr, arith}
 use Rattle.std.proofs.lemmas.Bool.{cases_lt}
 use Rattle.std.proofs.lemmas.List.{get_or-take, get_or-drop, get_or_append_left, ext_get_or, length-take-le, drop_at}
-use Rattle.jfs_bits.specs.Field.{field_of, range_of}
+use Rattle.jfs_bits.specs.Field.{field_of}
 use Rattle.jfs_bits.proofs.Parts.{length-range_of, field-in_part}
 use Rattle.jfs_bits.proofs.Places.{part-at, range-same}
 use Rattle.jfs_disk.specs.Crash.{torn}

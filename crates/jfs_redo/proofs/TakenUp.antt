@@ -1,5 +1,5 @@
 -- A redo that was stopped is made again, and makes the same volume.
-use Rattle.std.proofs.Common.{◌≡◌, ◌⊎◌, ◌<◌, ◌≤◌, ◌+◌, ◌-◌, ◌*◌, ◌/◌, ◌%◌, nat_lt, ℕ, suc, Bool, true, false, true≢false, if◌then◌else◌, List, [], length, map, drop, get_or, refl, sym, ap, subst, ◌∙◌, inl, inr, arith}
+use Rattle.std.proofs.Common.{◌≡◌, ◌⊎◌, ◌<◌, ◌≤◌, ◌+◌, ◌-◌, ◌/◌, ◌%◌, nat_lt, ℕ, Bool, true, false, true≢false, if◌then◌else◌, List, [], length, map, drop, get_or, refl, sym, ap, subst, ◌∙◌, inl, inr, arith}
 use Rattle.std.specs.Prelude.{Option, Some, None, is_some}
 use Rattle.std.specs.List.{range_with_len}
 use Rattle.std.proofs.Math.Path.{fun_ext}
@@ -7,21 +7,19 @@ use Rattle.std.proofs.lemmas.Bool.{cases_lt, cases_Bool, cond-true, cond-false, 
 use Rattle.std.proofs.lemmas.List.{length-map, length-drop, get_or-map, get_or-drop, get_or_past, ext_get_or}
 use Rattle.std.proofs.lemmas.List.FromFn.{get_or-range_with_len, length-range_with_len}
 use Rattle.jfs_disk.specs.Image.{Image, page_of, ArePages}
-use Rattle.jfs_imap.specs.Inodes.{Inodes, inodes_of, IsInodePage}
+use Rattle.jfs_imap.specs.Inodes.{Inodes, IsInodePage}
 use Rattle.jfs_bmap.specs.MapFile.{IsMapPage}
 use Rattle.jfs_ranges.specs.declared.edit.Edit.{Edit}
 use Rattle.jfs_ranges.specs.Apply.{touches_tx}
-use Rattle.jfs_records.specs.Redo.{redone, all_of, chosen}
+use Rattle.jfs_records.specs.Redo.{redone, all_of}
 use Rattle.jfs_redo_steps.specs.each.specs.Each.{Found, found_at, live_in}
 use Rattle.jfs_redo_steps.specs.objects.specs.Objects.{is_live, met}
 use Rattle.jfs_redo_steps.specs.objects.specs.Volume.{home, slot_of}
-use Rattle.jfs_redo_steps.specs.objects.specs.Image.{file_walk}
 use Rattle.jfs_redo_steps.specs.objects.specs.page_tree.specs.Walk.{Marks}
 use Rattle.jfs_redo_steps.specs.steps.specs.After.{used_after}
 use Rattle.jfs_bits.specs.declared.extent.Xad.{Xad}
 use Rattle.jfs_mount_maps.specs.mount_rules.specs.Subject.{Subject, subject_of, volume}
 use Rattle.jfs_mount_maps.specs.mount_rules.specs.Mount.{iags, broken_maps}
-use Rattle.jfs_mount_maps.specs.sets.specs.Sets.{extent_from}
 use Rattle.jfs_super.specs.Rules.{IsAccepted, blocks_of}
 use Rattle.jfs_super.specs.declared.fields.Super.{Super}
 use Rattle.jfs_super.proofs.Rules.{accepted_layout, accepted_log}

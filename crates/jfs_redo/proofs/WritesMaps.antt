@@ -1,15 +1,15 @@
 -- Pages that are redone and pages of the maps are what redo may write.
-use Rattle.std.proofs.Common.{◌≡◌, ◌⊎◌, ◌<◌, ◌≤◌, ◌+◌, ◌-◌, ◌/◌, nat_lt, ℕ, suc, Bool, true, List, [], length, map, refl, sym, ap, subst, ◌∙◌, inl, inr, arith}
-use Rattle.std.specs.Prelude.{Option, Some, None}
+use Rattle.std.proofs.Common.{◌≡◌, ◌⊎◌, ◌<◌, ◌≤◌, ◌+◌, ◌-◌, ◌/◌, nat_lt, ℕ, Bool, true, List, [], length, map, refl, sym, ap, subst, ◌∙◌, inl, inr, arith}
+use Rattle.std.specs.Prelude.{Option}
 use Rattle.std.proofs.Math.Path.{fun_ext}
 use Rattle.std.proofs.lemmas.Bool.{cases_lt, cond-true, cond-false, lt-ltb, le-ltb}
 use Rattle.std.proofs.lemmas.List.{get_or_past}
 use Rattle.jfs_bits.specs.declared.extent.Xad.{Xad}
-use Rattle.jfs_bmap.specs.MapFile.{IsMapPage, is_in_use, pages_of}
+use Rattle.jfs_bmap.specs.MapFile.{IsMapPage, is_in_use}
 use Rattle.jfs_bmap.specs.Set.{taken_at}
 use Rattle.jfs_bmap.proofs.Views.{taken_at-past}
 use Rattle.jfs_disk.specs.Image.{Image, page_of, ArePages}
-use Rattle.jfs_disk.specs.Crash.{DiskState, AllSince, last_of, torn}
+use Rattle.jfs_disk.specs.Crash.{DiskState, last_of, torn}
 use Rattle.jfs_disk.proofs.Tearing.{torn-same}
 use Rattle.jfs_disk.proofs.Flow.{AllSince-weaker}
 use Rattle.jfs_imap.specs.Inodes.{Inodes, inodes_of, IsInodePage}
@@ -20,7 +20,6 @@ use Rattle.jfs_super.specs.declared.fields.Super.{Super}
 use Rattle.jfs_redo_steps.specs.objects.specs.Contents.{block_of}
 use Rattle.jfs_redo_steps.specs.steps.specs.After.{used_after}
 use Rattle.jfs_mount_maps.specs.mount_rules.specs.Subject.{Subject, subject_of, volume}
-use Rattle.jfs_mount_maps.specs.mount_rules.specs.Mount.{iags}
 use Rattle.jfs_mount_maps.specs.sets.specs.Sets.{extent_from}
 use Rattle.jfs_redo_steps.specs.Pages.{redone_page, ArePagesRedone, IsOnTheWay, AreOnTheWay}
 use Rattle.jfs_redo_steps.specs.Inodes.{AreInodesInUse}

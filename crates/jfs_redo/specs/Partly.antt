@@ -1,5 +1,5 @@
 -- What a crash leaves in the midst of a redo, and what may be redone again.
-use Rattle.std.specs.Prelude.{◌≡◌, ◌⊎◌, ◌<◌, ◌≤◌, ◌+◌, ◌-◌, ◌*◌, ◌/◌, nat_lt, ℕ, suc, Bool, true, false, if◌then◌else◌, List, length, map, drop, Option, Some, None}
+use Rattle.std.specs.Prelude.{◌≡◌, ◌⊎◌, ◌<◌, ◌≤◌, ◌+◌, ◌-◌, ◌/◌, nat_lt, ℕ, suc, Bool, true, false, if◌then◌else◌, List, length, map, drop, Option, Some, None}
 use Rattle.jfs_disk.specs.Image.{Image, page_of, ArePages}
 use Rattle.jfs_disk.specs.Crash.{DiskState, AllSince}
 use Rattle.jfs_disk.specs.Moment.{now_of}

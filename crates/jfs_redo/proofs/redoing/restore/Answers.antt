@@ -1,4 +1,4 @@
-use Rattle.std.proofs.Common.{◌≡◌, ◌≤◌, ◌+◌, ◌-◌, ◌/◌, ◌∙◌, ℕ, List, length, map, refl, sym, ap, subst, arith}
+use Rattle.std.proofs.Common.{◌≡◌, ◌≤◌, ◌+◌, ◌-◌, ◌/◌, ◌∙◌, ℕ, length, map, refl, sym, ap, subst, arith}
 use Rattle.jfs_disk.specs.Image.{Image, ArePages}
 use Rattle.jfs_disk.specs.Crash.{last_of}
 use Rattle.jfs_disk.specs.Moment.{now_of}
