@@ -140,6 +140,9 @@ fn a_redo_that_fails_at_its_fourth_write(rt: HostRuntime) {
     assert!(rt; redone_behind(alloc, &lines, &[]) == Some((3, true)));
     for seed in 0..9 {
         let left = choices(alloc, seed).expect(&rt, "memory");
-        assert!(rt; redone_behind(alloc, &lines, &left) == Some((3, true)), "{seed}");
+        assert!(rt;
+            redone_behind(alloc, &lines, &left) == Some((3, true)),
+            "{seed}"
+        );
     }
 }

@@ -79,6 +79,7 @@ module _ (count : ℕ) (Writes : ℕ → List ℕ → Type 0) (old : Image) (who
       push t past new (failed p page part (last_of past)) before at (length-failed p page part (last_of past) ∙ before.number)
       (on_fail p page part (last_of past) within before.number few (mixed_new (Writes p) (page_of old p) (sizes p within) page size is)
       (subst (IsMixedPage (Writes p) (page_of old p)) (page_of-seen_of (last_of past) p) seen) before.now)
+
   pub sync_goes : (t : ℕ) (past new : List DiskState) → Moments t past → IsCrashImage (last_of past) (seen_of (last_of past)) → new ≡ past ++ settled (last_of past) ∷ [] → Moments t new
   sync_goes t past new before crash synced =
       push t past new (settled (last_of past)) before synced (length-settled (last_of past) ∙ before.number)

@@ -1,10 +1,11 @@
 -- A redo that was stopped is made again, and makes the same volume.
 use Rattle.std.proofs.Common.{◌≡◌, ◌⊎◌, ◌<◌, ◌≤◌, ◌+◌, ◌-◌, ◌/◌, ◌%◌, nat_lt, ℕ, Bool, true, false, true≢false, if◌then◌else◌, List, [], length, map, drop, get_or, refl, sym, ap, subst, ◌∙◌, inl, inr, arith}
-use Rattle.std.specs.Prelude.{Option, Some, None, is_some}
+use Rattle.std.specs.Prelude.{Option, Some, None, is_some, Result, Ok, Err}
 use Rattle.std.specs.List.{range_with_len}
 use Rattle.std.proofs.Math.Path.{fun_ext}
 use Rattle.std.proofs.lemmas.Bool.{cases_lt, cases_Bool, cond-true, cond-false, lt-ltb, le-ltb}
 use Rattle.std.proofs.lemmas.List.{length-map, length-drop, get_or-map, get_or-drop, get_or_past, ext_get_or}
+use Rattle.std.proofs.lemmas.Option.{none-some}
 use Rattle.std.proofs.lemmas.List.FromFn.{get_or-range_with_len, length-range_with_len}
 use Rattle.jfs_disk.specs.Image.{Image, page_of, ArePages}
 use Rattle.jfs_imap.specs.Inodes.{Inodes, IsInodePage}
@@ -29,8 +30,16 @@ use Rattle.jfs_redo_steps.proofs.Again.{mixed_again, unnamed}
 use Rattle.jfs_redo.specs.Mixed.{sector}
 use Rattle.jfs_redo.specs.Log.{AreCommitted}
 use Rattle.jfs_redo.specs.Put.{InBytes}
-use Rattle.jfs_redo.specs.Redo.{IsMapPlace, IsBlockMapPlace, IsInodeMapPlace, block_map_place, inode_map_place, IsRedone}
-use Rattle.jfs_redo.specs.Partly.{taken_then, extents_then, inodes_then, Writes, IsPartlyRedone, LocatesMaps, MapsStandApart, IsTakenUp, StoppedRedo, OthersStay}
+use Rattle.jfs_redo.specs.Redo.{IsMapPlace, IsBlockMapPlace, IsInodeMapPlace, block_map_place, inode_map_place, IsRedone, RedoIs}
+use Rattle.jfs_redo.specs.declared.error.Redone.{Redone}
+use Rattle.jfs_redo.specs.declared.error.RedoError.{RedoError}
+use Rattle.jfs_redo.specs.declared.error.RedoError.TheVariants.{Disk, ForeignLog, BadLog, BadImage, Memory}
+use Rattle.jfs_logpages.specs.Back.{Met}
+use Rattle.jfs_logpages.specs.ReadLog.{IsNotOwn, BreaksLog}
+use Rattle.jfs_logpages.specs.declared.error.RingError.TheVariants as ring
+use Rattle.jfs_logpages.proofs.OneAnswer.{records-once, has-one}
+use Rattle.jfs_records.specs.Committed.{committed as transactions_of}
+use Rattle.jfs_redo.specs.Partly.{taken_then, extents_then, inodes_then, Writes, IsPartlyRedone, LocatesMaps, MapsStandApart, EndsAll, IsTakenUp, StoppedRedo, OthersStay}
 use Rattle.jfs_redo.proofs.Sectors.{sector_byte, mixed_same}
 use Rattle.jfs_redo.proofs.Located.{not_redone, stays, block_walk, inode_walk, block_place, inode_place}
 use Rattle.jfs_redo.proofs.ReadAgain.{iags_same, used_same, extents_same}
@@ -243,6 +252,27 @@ module _ (s : Super) (txs : List (List Edit)) (old left : Image) (sizes : ArePag
   log_same = ext_get_or [] (drop s.logpxd.addr left) (drop s.logpxd.addr old) (length-drop s.logpxd.addr left ∙ ap (λ (n : ℕ). n - s.logpxd.addr) way.number ∙ sym (length-drop s.logpxd.addr old))
       (λ k h. get_or-drop s.logpxd.addr left k [] ∙ way.others (s.logpxd.addr + k) (omega (arith, behind)) ∙ sym (get_or-drop s.logpxd.addr old k []))
 
+  -- ---- what the next redo answers
+
+  long_log : 2 < s.logpxd.len
+  long_log = let least = (accepted_layout s (length old) accepted).shortest in omega (arith, least)
+
+  -- the log has the same transactions
+  same_transactions : (ts : List (List Edit)) → AreCommitted s.logpxd.len blocks (drop s.logpxd.addr left) ts → ts ≡ txs
+  same_transactions ts are =
+      let now_are = subst (λ (log : Image). AreCommitted s.logpxd.len blocks log ts) log_same are in
+      now_are.are ∙ ap (λ (ms : List Met). transactions_of (map (λ (m : Met). m.is) ms)) (records-once s.logpxd.len blocks (drop s.logpxd.addr old) now_are.read committed.read long_log now_are.reads committed.reads) ∙ sym committed.are
+
+  pub ends_all : (new : Image) (answer : Result Redone RedoError) → RedoIs s left new answer → EndsAll s txs old new answer
+  ends_all new (Ok done) (ts, are, count, unbroken_now, is) =
+      let same = same_transactions ts are in
+      (count ∙ ap (λ (xs : List (List Edit)). length xs) same, same_volume new (subst (λ (xs : List (List Edit)). IsRedone s xs left new) same is))
+  ends_all new (Err (ForeignLog label)) is = λ refused. has-one s.logpxd.len blocks (drop s.logpxd.addr old) long_log (Ok committed.read) (Err (ring.ForeignLog label)) committed.reads (subst (λ (log : Image). IsNotOwn s.logpxd.len log (ring.ForeignLog label)) log_same is)
+  ends_all new (Err (BadLog address rule)) is = λ refused. has-one s.logpxd.len blocks (drop s.logpxd.addr old) long_log (Ok committed.read) (Err (ring.BadLog address rule)) committed.reads (subst (λ (log : Image). BreaksLog s.logpxd.len blocks log address rule) log_same is)
+  ends_all new (Err (BadImage bad)) (log, broken) = λ refused. none-some bad (sym (unbroken s txs old left sizes whole apart low_pages (all-lie blocks txs (transactions-lie blocks (drop s.logpxd.addr old) s.logpxd.len txs committed)) was_unbroken way) ∙ broken)
+  ends_all new (Err (Disk fault)) is = λ refused. refused
+  ends_all new (Err Memory) is = λ refused. refused
+
   pub taken_up : IsTakenUp s txs old left
   taken_up = record {
     superblock = stays s txs old left sizes whole apart low_pages way 8 (inl refl);
@@ -250,6 +280,7 @@ module _ (s : Super) (txs : List (List Edit)) (old left : Image) (sizes : ArePag
     unbroken = unbroken s txs old left sizes whole apart low_pages (all-lie blocks txs (transactions-lie blocks (drop s.logpxd.addr old) s.logpxd.len txs committed)) was_unbroken way;
     apart = still_apart;
     same = same_volume;
+    ends = ends_all;
     stopped = stopped_again;
   }
 

@@ -1,5 +1,5 @@
 -- What a crash leaves in the midst of a redo, and what may be redone again.
-use Rattle.std.specs.Prelude.{◌≡◌, ◌⊎◌, ◌<◌, ◌≤◌, ◌+◌, ◌-◌, ◌/◌, nat_lt, ℕ, suc, Bool, true, false, if◌then◌else◌, List, length, map, drop, Option, Some, None}
+use Rattle.std.specs.Prelude.{◌≡◌, ◌⊎◌, ◌<◌, ◌≤◌, ◌+◌, ◌-◌, ◌/◌, nat_lt, ℕ, suc, Bool, true, false, if◌then◌else◌, List, length, map, drop, Option, Some, None, Result, Ok, Err}
 use Rattle.jfs_disk.specs.Image.{Image, page_of, ArePages}
 use Rattle.jfs_disk.specs.Crash.{DiskState, AllSince}
 use Rattle.jfs_disk.specs.Moment.{now_of}
@@ -24,7 +24,9 @@ use Rattle.jfs_redo_steps.specs.Inodes.{AreInodesInUse}
 use Rattle.jfs_redo.specs.Log.{AreCommitted}
 use Rattle.jfs_redo.specs.Put.{InBytes, place_if}
 use Rattle.jfs_redo.specs.Mixed.{IsMixed, AreMixed}
-use Rattle.jfs_redo.specs.Redo.{block_map_place, inode_map_place, IsMapPlace, IsRedone}
+use Rattle.jfs_redo.specs.Redo.{block_map_place, inode_map_place, IsMapPlace, IsRedone, IsRefusal, RedoIs}
+use Rattle.jfs_redo.specs.declared.error.Redone.{Redone}
+use Rattle.jfs_redo.specs.declared.error.RedoError.{RedoError}
 use Rattle.jfs_redo.specs.declared.plan.Plan.{Plan}
 
 -- ---- what redo writes
@@ -83,12 +85,18 @@ pub record MapsStandApart (s : Super) (txs : List (List Edit)) (old : Image) : T
   -- the log's rules keep it off the first 16 pages
   pub logged : (p : ℕ) → 16 ≤ p → IsMapPlace (subject_of s (page_of old)) p ⊎ LocatesMaps (subject_of s (page_of old)) p → touches_tx p (all_of txs) ≡ false
 
+-- what a redo answers of a volume that was partly redone by these transactions: it is refused by nothing; answered ok, it counts them, and the volume is what they make of it as it was
+abbrev pub EndsAll : Super → List (List Edit) → Image → Image → Result Redone RedoError → Type 0
+EndsAll s txs old new (Ok done) = (done.transactions ≡ length txs) × IsRedone s txs old new
+EndsAll s txs old new (Err why) = IsRefusal why → ⊥
+
 -- A volume that a crash left partly redone is taken up again: its superblock and its log are as they were, no rule on its maps is broken, and what redo makes of it is what redo makes of the volume as it was.
 pub record IsTakenUp (s : Super) (txs : List (List Edit)) (old left : Image) : Type 0 where
   pub superblock : page_of left 8 ≡ page_of old 8
   pub log : drop s.logpxd.addr left ≡ drop s.logpxd.addr old
   pub unbroken : broken_maps (subject_of s (page_of left)) ≡ None
   pub same : (new : Image) → IsRedone s txs left new → IsRedone s txs old new
+  pub ends : (new : Image) (answer : Result Redone RedoError) → RedoIs s left new answer → EndsAll s txs old new answer
   -- and if that redo is stopped too, the volume is still one that the first one may have left
   pub apart : MapsStandApart s txs left
   pub stopped : (next : Image) → IsPartlyRedone s txs left next → IsPartlyRedone s txs old next

@@ -8,7 +8,7 @@ pub fn redone_volumes_agree()
     ensures { RedoneAgree }
 {}
 
-/// A volume that a stopped redo left is taken up again: it has the superblock and the log that it had, redo refuses it by nothing, and makes of it what it makes of the volume as it was. That holds however often a redo is stopped.
+/// A volume that a stopped redo left is taken up again: it has the superblock and the log that it had, redo refuses it by nothing, counts the same transactions, and makes of it what it makes of the volume as it was. That holds however often a redo is stopped.
 /// It has the premise that the maps stand apart from all that the log changes.
 pub fn stopped_redo_is_taken_up()
     ensures { StoppedRedo }

@@ -173,31 +173,18 @@ fn refused(alloc: Global, words: &[Word]) -> Option<(RedoError, bool)> {
     }
 }
 
-const fn bad_log(address: u32, rule: Rule) -> RedoError {
-    RedoError::BadLog { address, rule }
-}
-
-const fn bad_maps(rule: Rule, page: u32, value: u64) -> RedoError {
-    RedoError::BadImage(BadMount { rule, page, value })
-}
-
-/// Another's label, and why a volume with it is refused.
-const FOREIGN: RedoError = RedoError::ForeignLog {
-    label: *b"other\0\0\0\0\0\0\0\0\0\0\0",
-};
-
 /// Words of a volume, and why it is refused. The log begins at page 3072; its superblock is the second page, with the label at byte 52, and its only SYNCPT stands on its last page.
 #[rattlefmt::skip]
 static REFUSED: [(&[Word], RedoError); 7] = [
-    (&[(3073, 52, 0x6568_746f), (3073, 56, 0x72), (3073, 60, 0), (3073, 64, 0)], FOREIGN),
-    (&[(3073, 0, 5)], bad_log(4096, Rule::Super)),
-    (&[(4095, 16, 0x2000)], bad_log(4_190_252, Rule::BadType)),
-    (&[(16, 0, 3007)], bad_maps(Rule::Mapsize, 16, 3007)),
-    (&[(27, 4, 0)], bad_maps(Rule::Nextiag, 27, 0)),
+    (&[(3073, 52, 0x6568_746f), (3073, 56, 0x72), (3073, 60, 0), (3073, 64, 0)], RedoError::ForeignLog { label: [b'o', b't', b'h', b'e', b'r', 0, 0, 0, 0, 0, 0, 0, 0, 0, 0, 0] }),
+    (&[(3073, 0, 5)], RedoError::BadLog { address: 4096, rule: Rule::Super }),
+    (&[(4095, 16, 0x2000)], RedoError::BadLog { address: 4_190_252, rule: Rule::BadType }),
+    (&[(16, 0, 3007)], RedoError::BadImage(BadMount { rule: Rule::Mapsize, page: 16, value: 3007 })),
+    (&[(27, 4, 0)], RedoError::BadImage(BadMount { rule: Rule::Nextiag, page: 27, value: 0 })),
     // The first inode extent lies behind the volume.
-    (&[(28, 3076, 4000)], bad_maps(Rule::Extents, 28, 4000)),
+    (&[(28, 3076, 4000)], RedoError::BadImage(BadMount { rule: Rule::Extents, page: 28, value: 4000 })),
     // The log comes before the maps.
-    (&[(28, 3076, 4000), (3073, 0, 5)], bad_log(4096, Rule::Super)),
+    (&[(28, 3076, 4000), (3073, 0, 5)], RedoError::BadLog { address: 4096, rule: Rule::Super }),
 ];
 
 #[test]
