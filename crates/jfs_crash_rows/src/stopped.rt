@@ -3,9 +3,12 @@
 ghost use Rattle.jfs_script.specs.Script.{AllFit};
 
 use crate::crashes::choices;
+use crate::runs::has_counts;
 use crate::scripts::busy;
-use crate::volume::{BLOCKS, failing, is_redone, is_sound, is_unmounted, left, lines_of};
-use jfs_disk::{Disk, Fail, Kind, MemDisk, Page, Part};
+use crate::volume::{
+    BLOCKS, failing, is_redone, is_sound, is_unmounted, left, lines_of, transactions_redone,
+};
+use jfs_disk::{Choice, Disk, Fail, Kind, MemDisk, Page, Part};
 use jfs_plain::Line;
 use std::alloc::Global;
 use std::test::*;
@@ -104,4 +107,42 @@ fn a_redo_that_is_stopped_is_made_again(rt: HostRuntime) {
     let (writes, came) = stops(alloc, &lines, Kind::Write).expect(&rt, "a redo");
     assert!(rt; writes > 6 && came == Outcome::Not);
     assert!(rt; stops(alloc, &lines, Kind::Sync) == Some((2, Outcome::Not)));
+}
+
+/// A directory, a file in it, and its 65,536 bytes: 16 blocks.
+const THREE: &'static [u8] = b"mkdir /a 0755\ncreate /a/f 0644\nfill /a/f 0 65536 41\n";
+
+/// How many transactions are redone, and whether the volume is clean then with 2,959 free blocks and 6 inodes, where a redo before that failed from its fourth write on and a crash left these contents.
+fn redone_behind(alloc: Global, lines: &[Line], left: &[Choice]) -> Option<(u32, bool)>
+    requires { AllFit lines.now }
+{
+    let fail = Fail {
+        part: Part::Whole,
+        kind: Kind::Write,
+        first: 4,
+        last: u64::MAX,
+    };
+    let mut disk = failing(alloc, rested(alloc, lines, 3)?, &[fail])?;
+    if is_redone(alloc, &mut disk) {
+        return None;
+    }
+    let mut disk = disk.crashed(left);
+    let count = transactions_redone(alloc, &mut disk)?;
+    let is_so = is_unmounted(&mut disk) && has_counts(alloc, &mut disk, 2959, 6);
+    Some((count, is_so))
+}
+
+// Of the writes before the fourth a crash leaves none, or front sectors of them.
+#[test]
+fn a_redo_that_fails_at_its_fourth_write(rt: HostRuntime) {
+    let alloc = rt.alloc();
+    let lines = lines_of(alloc, THREE).expect(&rt, "lines");
+    assert!(rt; redone_behind(alloc, &lines, &[]) == Some((3, true)));
+    for seed in 0..9 {
+        let left = choices(alloc, seed).expect(&rt, "memory");
+        assert!(rt;
+            redone_behind(alloc, &lines, &left) == Some((3, true)),
+            "{seed}"
+        );
+    }
 }

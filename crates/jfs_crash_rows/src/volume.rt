@@ -141,6 +141,15 @@ pub fn is_redone<D: Disk>(alloc: Global, disk: &mut D) -> bool {
     }
 }
 
+/// Redoes the volume of a disk that wasn't unmounted, and tells how many transactions its log had.
+pub fn transactions_redone<D: Disk>(alloc: Global, disk: &mut D) -> Option<u32> {
+    let s = superblock(disk)?;
+    if s.state != VolumeState::MOUNTED {
+        return None;
+    }
+    Some(redo(alloc, disk, &s).ok()?.transactions)
+}
+
 /// Whether a check finds nothing.
 pub fn is_sound<D: Disk>(alloc: Global, disk: &mut D) -> bool {
     let Some(s) = superblock(disk) else {

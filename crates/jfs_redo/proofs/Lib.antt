@@ -6,3 +6,14 @@ pub mod Whole
 pub mod Lists
 pub mod OneVolume
 pub mod Marked
+pub mod Sectors
+pub mod Mixing
+pub mod Decided
+pub mod MarkedLeft
+pub mod Located
+pub mod ReadAgain
+pub mod Unbroken
+pub mod TakenUp
+pub mod Keeps
+pub mod WritesMaps
+pub mod Meanwhile

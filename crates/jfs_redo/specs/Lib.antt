@@ -4,6 +4,8 @@ pub mod Put
 pub mod Plan
 pub mod Moments
 pub mod Redo
+pub mod Mixed
+pub mod Partly
 pub mod Laws
 -- libraries below, passed on
 pub use Rattle.jfs_records as records

@@ -1,8 +1,20 @@
 //! What a redone volume follows from.
 
 ghost use Rattle.jfs_redo.specs.Laws.{RedoneAgree};
+ghost use Rattle.jfs_redo.specs.Partly.{StoppedRedo, OthersStay};
 
 /// What redo makes of a volume is one thing: each of its pages follows from the pages that it had and from the transactions.
 pub fn redone_volumes_agree()
     ensures { RedoneAgree }
+{}
+
+/// A volume that a stopped redo left is taken up again: it has the superblock and the log that it had, redo refuses it by nothing, counts the same transactions, and makes of it what it makes of the volume as it was. That holds however often a redo is stopped.
+/// It has the premise that the maps stand apart from all that the log changes.
+pub fn stopped_redo_is_taken_up()
+    ensures { StoppedRedo }
+{}
+
+/// Redo changes the pages of which a line of its log counts, the maps' and the superblock's, and no other: at each moment all other pages are as they were.
+pub fn redo_leaves_other_pages()
+    ensures { OthersStay }
 {}

@@ -10,5 +10,5 @@ mod redoing;
 mod state;
 
 pub use error::{RedoError, Redone};
-pub use law::redone_volumes_agree;
+pub use law::{redo_leaves_other_pages, redone_volumes_agree, stopped_redo_is_taken_up};
 pub use redoing::redo;

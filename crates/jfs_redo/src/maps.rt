@@ -10,6 +10,7 @@ ghost use Rattle.jfs_redo_steps.specs.objects.specs.Contents.{block_of};
 ghost use Rattle.jfs_mount_maps.specs.mount_rules.specs.Files.{IsWithin, LieWithin};
 ghost use Rattle.jfs_redo.specs.Put.{ArePut, InBytes, IsPut, place_if, put_at};
 ghost use Rattle.jfs_redo.specs.Redo.{StaysBehind};
+ghost use Rattle.jfs_redo.specs.Partly.{KeepsMixed, PutsPage, PutsFile};
 
 use jfs_bits::Xad;
 use jfs_bmap::OwnedMap;
@@ -32,6 +33,8 @@ pub(crate) fn write_block_map<D: Disk>(
     ensures put { D.tells → OnOk result (ArePut (pages_of (length map.now.owned)) (λ k. place_if (is_in_use (length map.now.owned) k) (block_of extents.now k))
         (InBytes (IsMapPage (length map.now.owned) map.now.agsize (taken_at map.now.owned))) (D.image disk.old) (D.image disk.new)) }
     ensures behind { D.tells → StaysBehind blocks (D.image disk.old) (D.image disk.new) }
+    ensures moments { D.tells → D.tells_crashes → KeepsMixed blocks (PutsFile (pages_of (length map.now.owned)) (λ k. place_if (is_in_use (length map.now.owned) k) (block_of extents.now k))
+        (InBytes (IsMapPage (length map.now.owned) map.now.agsize (taken_at map.now.owned)))) (D.past disk.old) (D.past disk.new) }
     ensures cause { HasCause (D.fault_count disk.old) (D.fault_count disk.new) result }
 {
     let mut page = Page::zeros();
@@ -62,6 +65,8 @@ fn write_if_in_use<D: Disk>(
     ensures put { D.tells → OnOk result (IsPut (place_if (is_in_use (length map.now.owned) k) (block_of extents.now k))
         (InBytes (IsMapPage (length map.now.owned) map.now.agsize (taken_at map.now.owned)) k) (D.image disk.old) (D.image disk.new)) }
     ensures behind { D.tells → StaysBehind blocks (D.image disk.old) (D.image disk.new) }
+    ensures moments { D.tells → D.tells_crashes → KeepsMixed blocks (PutsPage (place_if (is_in_use (length map.now.owned) k) (block_of extents.now k))
+        (InBytes (IsMapPage (length map.now.owned) map.now.agsize (taken_at map.now.owned)) k)) (D.past disk.old) (D.past disk.new) }
     ensures cause { HasCause (D.fault_count disk.old) (D.fault_count disk.new) result }
 {
     if !map.is_in_use(k) {
@@ -90,6 +95,7 @@ pub(crate) fn write_inode_map<D: Disk>(
     ensures room { D.room disk.new ≡ D.room disk.old }
     ensures put { D.tells → OnOk result (ArePut (suc iags) (block_of extents.now) (InBytes (IsInodePage map.now)) (D.image disk.old) (D.image disk.new)) }
     ensures behind { D.tells → StaysBehind blocks (D.image disk.old) (D.image disk.new) }
+    ensures moments { D.tells → D.tells_crashes → KeepsMixed blocks (PutsFile (suc iags) (block_of extents.now) (InBytes (IsInodePage map.now))) (D.past disk.old) (D.past disk.new) }
     ensures cause { HasCause (D.fault_count disk.old) (D.fault_count disk.new) result }
 {
     let mut page = Page::zeros();
@@ -120,6 +126,7 @@ fn write_at<D: Disk>(
     ensures put { D.tells → OnOk result (D.image disk.new ≡ put_at (block_of extents.now k) page.now.0 (D.image disk.old)) }
     ensures bytes { AreBytes page.now.0 }
     ensures behind { D.tells → StaysBehind blocks (D.image disk.old) (D.image disk.new) }
+    ensures moments { D.tells → D.tells_crashes → KeepsMixed blocks (PutsPage (block_of extents.now k) (λ bytes. bytes ≡ page.now.0)) (D.past disk.old) (D.past disk.new) }
     ensures cause { HasCause (D.fault_count disk.old) (D.fault_count disk.new) result }
 {
     note_bytes(page);

@@ -4,7 +4,7 @@ ghost use Rattle.std.specs.Prelude.{◌≡◌, ◌≤◌, ◌*◌, ℕ, List, le
 ghost use Rattle.std.specs.List.{AllByRecursion};
 ghost use Rattle.jfs_disk.specs.Image.{page_of};
 ghost use Rattle.jfs_disk.specs.Crash.{last_of};
-ghost use Rattle.jfs_disk.specs.Moment.{IsResting};
+ghost use Rattle.jfs_disk.specs.Moment.{IsResting, now_of};
 ghost use Rattle.jfs_super.specs.Rules.{IsAccepted, blocks_of};
 ghost use Rattle.jfs_super.specs.Super.{FitsSuper};
 ghost use Rattle.jfs_super.specs.Geometry.{IsLayout, geometry_of};
@@ -18,7 +18,9 @@ ghost use Rattle.jfs_redo_steps.specs.Inodes.{AreInodesInUse};
 ghost use Rattle.jfs_super.specs.declared.fields.Super.{Super};
 ghost use Rattle.jfs_mount_maps.specs.mount_rules.specs.Subject.{subject_of};
 ghost use Rattle.jfs_redo.specs.Log.{ExtentsLieWithin};
-ghost use Rattle.jfs_redo.specs.Plan.{IsPlan, Plans};
+ghost use Rattle.jfs_redo.specs.Mixed.{AreMixed};
+ghost use Rattle.jfs_redo.specs.Partly.{Writes, IsRedoneMeanwhile, KeepsMixed, PutsMaps};
+ghost use Rattle.jfs_redo.specs.Plan.{IsPlan, IsPlanOf, Plans};
 ghost use Rattle.jfs_redo.specs.Moments.{IsMarkedLast};
 ghost use Rattle.jfs_redo.specs.Redo.{RedoIs, IsRedoCause, IsRefusal, StaysBehind, PlanIs, IsRestored, MapsAreWritten, disk_error};
 
@@ -53,6 +55,8 @@ pub fn redo<D: Disk>(alloc: Global, disk: &mut D, s: &Super) -> Result<Redone, R
     ensures redone { D.tells → RedoIs s.now (D.image disk.old) (D.image disk.new) result }
     ensures stable { OnOk result (D.tells_crashes → IsResting (last_of (D.past disk.new))) }
     ensures marked { OnOk result (D.tells_crashes → IsMarkedLast (D.past disk.new)) }
+    // At each moment a crash leaves what may be redone again (`stopped_redo_is_taken_up`), or the redone volume.
+    ensures moments { D.tells → D.tells_crashes → IsResting (last_of (D.past disk.old)) → IsRedoneMeanwhile s.now (D.image disk.old) (D.past disk.old) (D.past disk.new) }
     // A volume that is refused is as it was; the log and all that lies behind the file system part always are.
     ensures same_image { IfErr result (λ why. D.tells → IsRefusal why → D.image disk.new ≡ D.image disk.old) }
     ensures same_past { IfErr result (λ why. D.tells_crashes → IsRefusal why → D.past disk.new ≡ D.past disk.old) }
@@ -147,6 +151,9 @@ fn restore<D: Disk>(
     ensures pages { D.page_count disk.new ≡ D.page_count disk.old }
     ensures restored { D.tells → OnOk result (IsRestored layout.blocks layout.agsize transactions.now plan.now (D.image disk.old) (D.image disk.new)) }
     ensures rests { OnOk result (D.tells_crashes → IsResting (last_of (D.past disk.new))) }
+    ensures moments { D.tells → D.tells_crashes → IsResting (last_of (D.past disk.old)) → (s : Super) → geometry_of s ≡ layout
+        → IsPlanOf (subject_of s (page_of (D.image disk.old))) transactions.now plan.now
+        → AreMixed layout.blocks (Writes s transactions.now (D.image disk.old)) (D.image disk.old) (now_of (D.past disk.old)) (D.past disk.new) }
     ensures behind { D.tells → StaysBehind layout.blocks (D.image disk.old) (D.image disk.new) }
     ensures cause { IsRedoCause (D.fault_count disk.old) (D.fault_count disk.new) result }
     ensures later { D.fault_count disk.old ≤ D.fault_count disk.new }
@@ -180,6 +187,7 @@ fn inodes_on<D: Disk>(
     requires fit { AllFit layout.blocks plan.now.places.items }
     ensures pages { D.page_count disk.new ≡ D.page_count disk.old }
     ensures image { D.tells → D.image disk.new ≡ D.image disk.old }
+    ensures past { D.tells_crashes → D.past disk.new ≡ D.past disk.old }
     ensures number { IfOk result (λ m. m.iags ≡ plan.now.maps.inodes.iags) }
     ensures inodes { D.tells → IfOk result (λ m. (set : List ℕ) × AreInodesInUse (page_of (D.image disk.old)) plan.now.places.items set
         × (m ≡ inodes_of set (map extent_from plan.now.places.items) plan.now.maps.inodes.iags layout.agsize (groups_of layout))) }
@@ -215,6 +223,7 @@ fn used_on<D: Disk>(
     requires most { length places.now ≤ 128 * 65536 }
     ensures pages { D.page_count disk.new ≡ D.page_count disk.old }
     ensures image { D.tells → D.image disk.new ≡ D.image disk.old }
+    ensures past { D.tells_crashes → D.past disk.new ≡ D.past disk.old }
     ensures bits { D.tells → IfOk result (λ set. AreInodesInUse (page_of (D.image disk.old)) places.now set.items) }
     ensures cause { IsRedoCause (D.fault_count disk.old) (D.fault_count disk.new) result }
     ensures later { D.fault_count disk.old ≤ D.fault_count disk.new }
@@ -240,6 +249,7 @@ fn used_in_loan<'a, D: Disk>(
     ensures loan { view.new.disk.ghost_name ≡ view.old.disk.ghost_name }
     ensures image { D.tells → D.image view.new.disk.now ≡ D.image view.old.disk.now }
     ensures pages { D.page_count view.new.disk.now ≡ D.page_count view.old.disk.now }
+    ensures past { D.tells_crashes → D.past view.new.disk.now ≡ D.past view.old.disk.now }
     ensures bits { D.tells → IfOk result (λ set. AreInodesInUse (page_of (D.image view.old.disk.now)) places.now set.items) }
     ensures fault { CarriesCount (record { part = view.old.part; count = D.fault_count view.old.disk.now }) (record { part = view.new.part; count = D.fault_count view.new.disk.now }) result }
 {
@@ -256,6 +266,7 @@ fn write_maps<D: Disk>(disk: &mut D, plan: &Plan, inodes: &InodeMap) -> Result<(
     ensures room { D.room disk.new ≡ D.room disk.old }
     ensures written { D.tells → OnOk result (MapsAreWritten plan.now.maps.blocks plan.now inodes.now (D.image disk.old) (D.image disk.new)) }
     ensures rests { OnOk result (D.tells_crashes → IsResting (last_of (D.past disk.new))) }
+    ensures moments { D.tells → D.tells_crashes → KeepsMixed plan.now.maps.blocks (PutsMaps plan.now.maps.blocks plan.now inodes.now) (D.past disk.old) (D.past disk.new) }
     ensures behind { D.tells → StaysBehind plan.now.maps.blocks (D.image disk.old) (D.image disk.new) }
     ensures cause { HasCause (D.fault_count disk.old) (D.fault_count disk.new) result }
 {

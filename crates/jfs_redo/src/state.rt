@@ -8,7 +8,7 @@ ghost use Rattle.jfs_disk.specs.Fault.{HasCause};
 ghost use Rattle.jfs_bits.specs.Piece.{puts};
 ghost use Rattle.jfs_super.specs.Super.{super_of, pieces, FitsSuper};
 ghost use Rattle.jfs_super.specs.declared.fields.TheConstants.VolumeState.{CLEAN};
-ghost use Rattle.jfs_redo.specs.Moments.{IsMarkedOn};
+ghost use Rattle.jfs_redo.specs.Moments.{IsMarkedOn, Marks};
 
 use jfs_disk::{Disk, DiskError, Page};
 use jfs_super::{Super, VolumeState, write_super};
@@ -27,6 +27,7 @@ pub(crate) fn mark_clean<D: Disk>(disk: &mut D, s: &Super) -> Result<(), DiskErr
     ensures superblock { D.tells → OnOk result (super_of (page_of (D.image disk.new) 8) ≡ record s.now { state = CLEAN }) }
     ensures stable { OnOk result (D.tells_crashes → IsResting (last_of (D.past disk.new))) }
     ensures marked { OnOk result (D.tells_crashes → IsMarkedOn (D.past disk.old) (D.past disk.new)) }
+    ensures moments { D.tells → D.tells_crashes → Marks (record s.now { state = CLEAN }) (puts (pieces (record s.now { state = CLEAN })) (page_of (D.image disk.old) 8)) (D.past disk.old) (D.past disk.new) }
     ensures cause { HasCause (D.fault_count disk.old) (D.fault_count disk.new) result }
 {
     let mut page = Page::zeros();

@@ -173,33 +173,24 @@ fn refused(alloc: Global, words: &[Word]) -> Option<(RedoError, bool)> {
     }
 }
 
+/// Words of a volume, and why it is refused. The log begins at page 3072; its superblock is the second page, with the label at byte 52, and its only SYNCPT stands on its last page.
+#[rattlefmt::skip]
+static REFUSED: [(&[Word], RedoError); 7] = [
+    (&[(3073, 52, 0x6568_746f), (3073, 56, 0x72), (3073, 60, 0), (3073, 64, 0)], RedoError::ForeignLog { label: [b'o', b't', b'h', b'e', b'r', 0, 0, 0, 0, 0, 0, 0, 0, 0, 0, 0] }),
+    (&[(3073, 0, 5)], RedoError::BadLog { address: 4096, rule: Rule::Super }),
+    (&[(4095, 16, 0x2000)], RedoError::BadLog { address: 4_190_252, rule: Rule::BadType }),
+    (&[(16, 0, 3007)], RedoError::BadImage(BadMount { rule: Rule::Mapsize, page: 16, value: 3007 })),
+    (&[(27, 4, 0)], RedoError::BadImage(BadMount { rule: Rule::Nextiag, page: 27, value: 0 })),
+    // The first inode extent lies behind the volume.
+    (&[(28, 3076, 4000)], RedoError::BadImage(BadMount { rule: Rule::Extents, page: 28, value: 4000 })),
+    // The log comes before the maps.
+    (&[(28, 3076, 4000), (3073, 0, 5)], RedoError::BadLog { address: 4096, rule: Rule::Super }),
+];
+
 #[test]
 fn a_log_or_maps_that_break_a_rule_are_refused(rt: HostRuntime) {
     let alloc = rt.alloc();
-    let mut label = [0; 16];
-    label[..5].copy_from_slice(b"other");
-    // The log begins at page 3072; its superblock is the second page, with the label at byte 52.
-    let words = [
-        (3073, 52, 0x6568_746f),
-        (3073, 56, 0x72),
-        (3073, 60, 0),
-        (3073, 64, 0),
-    ];
-    assert!(rt; refused(alloc, &words) == Some((RedoError::ForeignLog { label }, false)));
-    assert!(rt;
-        refused(alloc, &[(3073, 0, 5)])
-            == Some((
-                RedoError::BadLog {
-                    address: 4096,
-                    rule: Rule::Super
-                },
-                false
-            ))
-    );
-    let bad = BadMount {
-        rule: Rule::Mapsize,
-        page: 16,
-        value: 3007,
-    };
-    assert!(rt; refused(alloc, &[(16, 0, 3007)]) == Some((RedoError::BadImage(bad), false)));
+    for (words, why) in REFUSED.iter() {
+        assert!(rt; refused(alloc, words) == Some((*why, false)), "{words:?}");
+    }
 }

@@ -1,12 +1,12 @@
 -- A page that a crash left in the midst of redo is redone to the same.
-use Rattle.std.proofs.Common.{◌≡◌, ◌⊎◌, ◌<◌, ◌≤◌, ◌+◌, ◌-◌, ◌*◌, ℕ, Bool, true, false, if◌then◌else◌, List, [], ◌∷◌, ◌++◌, length, take, drop, get_or, Option, Some, None, refl, sym, ap, ◌∙◌, inl, inr, arith}
+use Rattle.std.proofs.Common.{◌≡◌, ◌⊎◌, ◌<◌, ◌≤◌, ◌+◌, ◌-◌, ◌*◌, ℕ, Bool, true, false, true≢false, ◌||◌, if◌then◌else◌, List, [], ◌∷◌, ◌++◌, length, take, drop, get_or, Option, Some, None, refl, sym, ap, ◌∙◌, inl, inr, arith}
 use Rattle.std.proofs.lemmas.Bool.{cases_lt}
 use Rattle.std.proofs.lemmas.List.{get_or-take, get_or-drop, get_or_append_left, ext_get_or, length-take-le, drop_at}
 use Rattle.jfs_disk.specs.Crash.{torn}
 use Rattle.jfs_disk.proofs.Tearing.{length-torn}
 use Rattle.jfs_ranges.specs.declared.edit.Edit.{Edit}
-use Rattle.jfs_ranges.specs.Apply.{apply_edit}
-use Rattle.jfs_ranges.proofs.Overlaid.{length-apply_edit}
+use Rattle.jfs_ranges.specs.Apply.{apply_edit, touches_edit, touches_tx}
+use Rattle.jfs_ranges.proofs.Overlaid.{length-apply_edit, apply_edit-untouched}
 use Rattle.jfs_records.specs.Redo.{is_noredo, closes_in, redone, chosen, picked}
 use Rattle.jfs_records.proofs.Choice.{byte_chosen}
 
@@ -49,23 +49,43 @@ same_byte p i (Some e) old left either = refl
 same_byte p i None old left (inl is) = is
 same_byte p i None old left (inr is) = is
 
-pub redone_again : (p : ℕ) (old : List ℕ) (es : List Edit) (sectors : ℕ) → sectors ≤ 8 → length old ≡ 4096
-    → redone p (torn sectors (redone p old old es) old) (torn sectors (redone p old old es) old) es ≡ redone p old old es
-redone_again p old es sectors few size = ext_get_or 0 (redone p left left es) new (length-redone p left left es refl ∙ sizes ∙ sym long) (λ i low.
+-- A page whose bytes are those that it had, or those that redo makes of them, is redone to the same.
+pub mixed_again : (p : ℕ) (old left : List ℕ) (es : List Edit) → length old ≡ 4096 → length left ≡ 4096
+    → ((i : ℕ) → i < 4096 → (get_or left i 0 ≡ get_or (redone p old old es) i 0) ⊎ (get_or left i 0 ≡ get_or old i 0)) → redone p left left es ≡ redone p old old es
+mixed_again p old left es size sizes each = ext_get_or 0 (redone p left left es) new (length-redone p left left es refl ∙ sizes ∙ sym long) (λ i low.
     let within : i < 4096 = omega (arith, low, length-redone p left left es refl, sizes) in
     let old_byte = byte_of p i old es (omega (arith, within, size)) in
     byte_of p i left es (omega (arith, within, sizes))
-    ∙ same_byte p i (chosen p i es) (get_or old i 0) (get_or left i 0) (elim (torn_byte sectors new old i few long) [ inl e ↦ inl (e ∙ old_byte) | inr e ↦ inr e ])
+    ∙ same_byte p i (chosen p i es) (get_or old i 0) (get_or left i 0) (elim (each i within) [ inl e ↦ inl (e ∙ old_byte) | inr e ↦ inr e ])
     ∙ sym old_byte)
   where
     new : List ℕ
     new = redone p old old es
 
-    left : List ℕ
-    left = torn sectors new old
-
     long : length new ≡ 4096
     long = length-redone p old old es refl ∙ size
 
-    sizes : length left ≡ 4096
-    sizes = length-torn sectors new old few long size
+pub redone_again : (p : ℕ) (old : List ℕ) (es : List Edit) (sectors : ℕ) → sectors ≤ 8 → length old ≡ 4096
+    → redone p (torn sectors (redone p old old es) old) (torn sectors (redone p old old es) old) es ≡ redone p old old es
+redone_again p old es sectors few size =
+    let new = redone p old old es in
+    let long = length-redone p old old es refl ∙ size in
+    mixed_again p old (torn sectors new old) es size (length-torn sectors new old few long size) (λ i within. torn_byte sectors new old i few long)
+
+-- a page of which no line counts
+pub unnamed : (p : ℕ) (old : List ℕ) (es : List Edit) → ((i : ℕ) → chosen p i es ≡ None) → redone p old old es ≡ old
+unnamed p old es none = ext_get_or 0 (redone p old old es) old (length-redone p old old es refl) (λ i low.
+    byte_of p i old es (omega (arith, low, length-redone p old old es refl)) ∙ ap (λ (o : Option Edit). picked p i o (get_or old i 0)) (none i))
+
+-- and one that no line touches
+pub untouched : (p : ℕ) (old : List ℕ) (es : List Edit) → length old ≡ 4096 → touches_tx p es ≡ false → redone p old old es ≡ old
+untouched p old [] size none = refl
+untouched p old (e ∷ es) size none = at (touches_edit p e) refl none (untouched p old es size)
+  where
+    same : touches_edit p e ≡ false → (t : Bool) → (if t then old else apply_edit p e old) ≡ old
+    same clear true = refl
+    same clear false = apply_edit-untouched p e old size clear
+
+    at : (t : Bool) → touches_edit p e ≡ t → (t || touches_tx p es) ≡ false → (touches_tx p es ≡ false → redone p old old es ≡ old) → redone p old (if is_noredo p e then old else apply_edit p e old) es ≡ old
+    at true touches none rest = absurd (true≢false none)
+    at false clear none rest = ap (λ (now : List ℕ). redone p old now es) (same clear (is_noredo p e)) ∙ rest none

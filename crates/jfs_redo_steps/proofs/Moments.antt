@@ -10,7 +10,7 @@ use Rattle.jfs_disk.proofs.Outcomes.{last_of-push}
 use Rattle.jfs_disk.proofs.Flow.{TakesPage, starts, goes_on, AllSince-weaker, crash-resting, crash-written, crash-failed, length-written}
 use Rattle.jfs_ranges.specs.declared.edit.Edit.{Edit}
 use Rattle.jfs_records.specs.Redo.{redone}
-use Rattle.jfs_redo_steps.specs.Pages.{redone_page, IsOnTheWay, WritesPage}
+use Rattle.jfs_redo_steps.specs.Pages.{redone_page, IsOnTheWay, AreOnTheWay, WritesPage}
 use Rattle.jfs_redo_steps.proofs.Again.{length-redone}
 
 -- one page more
@@ -116,10 +116,6 @@ module _ (p : ℕ) (es : List Edit) (old : Image) (within : p < length old) (siz
 
 -- ---- the states of the disk, one after the other
 
-pub record AreOnTheWay (count : ℕ) (es : List Edit) (old : Image) (t : ℕ) (past : List DiskState) : Type 0 where
-  pub all : AllSince (IsOnTheWay count es old) past t
-  pub now : Leaves (IsOnTheWay count es old) (last_of past)
-
 pub first_moment : (es : List Edit) (old : Image) (past : List DiskState) → 0 < length past → old ≡ seen_of (last_of past) → IsResting (last_of past) → AreOnTheWay 0 es old (now_of past) past
 first_moment es old past some is rests = record { all = starts (IsOnTheWay 0 es old) past some here; now = here }
   where
@@ -140,8 +136,11 @@ way_wider a b es old left more way = record { number = way.number; pages = λ q 
         let same : page_of left q ≡ page_of old q = was.2 ∙ ap (λ (front : List ℕ). torn was.0 front (page_of old q)) (untouched_yet a q es old l) ∙ torn-same was.0 (page_of old q) in
         (0, omega arith, same ∙ sym (torn-none (redone_page b es old q) (page_of old q)))
 
-pub all_wider : (a b : ℕ) (es : List Edit) (old : Image) (t : ℕ) (past : List DiskState) → a ≤ b → AreOnTheWay a es old t past → AllSince (IsOnTheWay b es old) past t
-all_wider a b es old t past more way = AllSince-weaker (IsOnTheWay a es old) (IsOnTheWay b es old) past t t (omega arith) (λ left is. way_wider a b es old left more is) way.all
+pub all_wider : (a b : ℕ) (es : List Edit) (old : Image) (t : ℕ) (past : List DiskState) → a ≤ b → AreOnTheWay a es old t past → AreOnTheWay b es old t past
+all_wider a b es old t past more way = record {
+  all = AllSince-weaker (IsOnTheWay a es old) (IsOnTheWay b es old) past t t (omega arith) (λ left is. way_wider a b es old left more is) way.all;
+  now = λ left crash. way_wider a b es old left more (way.now left crash);
+}
 
 -- the turn of a page
 pub turn_moment : (p : ℕ) (es : List Edit) (old : Image) (t : ℕ) (past new : List DiskState) → p < length old → length (page_of old p) ≡ 4096 → length (last_of past) ≡ length old → (history_of (last_of past) p).seen ≡ page_of old p
@@ -151,15 +150,12 @@ turn_moment p es old t past new within size number shown way writes = by writes
     bytes : List ℕ
     bytes = redone p (page_of old p) (page_of old p) es
 
-    before : AllSince (IsOnTheWay (p + 1) es old) past t
-    before = AllSince-weaker (IsOnTheWay p es old) (IsOnTheWay (p + 1) es old) past t t (omega arith) (λ left is. way_wider p (p + 1) es old left (omega arith) is) way.all
-
     same : AreOnTheWay (p + 1) es old t past
-    same = record { all = before; now = λ left crash. way_wider p (p + 1) es old left (omega arith) (way.now left crash) }
+    same = all_wider p (p + 1) es old t past (omega arith) way
 
     push : (state : DiskState) → new ≡ past ++ state ∷ [] → Leaves (IsOnTheWay (p + 1) es old) state → AreOnTheWay (p + 1) es old t new
     push state is leaves = record {
-      all = subst (λ (states : List DiskState). AllSince (IsOnTheWay (p + 1) es old) states t) (sym is) (goes_on (IsOnTheWay (p + 1) es old) past state t before leaves);
+      all = subst (λ (states : List DiskState). AllSince (IsOnTheWay (p + 1) es old) states t) (sym is) (goes_on (IsOnTheWay (p + 1) es old) past state t same.all leaves);
       now = subst (Leaves (IsOnTheWay (p + 1) es old)) (sym (ap last_of is ∙ last_of-push past state)) leaves;
     }
 

@@ -6,9 +6,9 @@ use Rattle.jfs_disk.specs.Seen.{page_of-seen_of}
 use Rattle.jfs_disk.proofs.Flow.{length-seen_of}
 use Rattle.jfs_ranges.specs.declared.edit.Edit.{Edit}
 use Rattle.jfs_records.specs.Redo.{redone}
-use Rattle.jfs_redo_steps.specs.Pages.{ArePagesRedone, WritesPage}
+use Rattle.jfs_redo_steps.specs.Pages.{ArePagesRedone, AreOnTheWay, WritesPage}
 use Rattle.jfs_redo_steps.proofs.DiskPages.{before_turn}
-use Rattle.jfs_redo_steps.proofs.Moments.{AreOnTheWay, turn_moment}
+use Rattle.jfs_redo_steps.proofs.Moments.{turn_moment}
 
 pub turn_on : (p : ℕ) (es : List Edit) (old mid : Image) (t : ℕ) (past new : List DiskState) → p < length old → length (page_of old p) ≡ 4096 → ArePagesRedone p es old mid → mid ≡ seen_of (last_of past) → AreOnTheWay p es old t past
     → WritesPage p (redone p (page_of old p) (page_of old p) es) past new → AreOnTheWay (p + 1) es old t new

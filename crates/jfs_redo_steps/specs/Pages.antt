@@ -1,7 +1,7 @@
 -- A disk whose pages are redone.
 use Rattle.std.specs.Prelude.{◌≡◌, ◌⊎◌, ◌<◌, ◌≤◌, ℕ, nat_lt, if◌then◌else◌, List, [], ◌∷◌, ◌++◌, length}
 use Rattle.jfs_disk.specs.Image.{Image, page_of, ArePages}
-use Rattle.jfs_disk.specs.Crash.{DiskState, TearsPage, LeavesTorn, torn, written, last_of}
+use Rattle.jfs_disk.specs.Crash.{DiskState, TearsPage, LeavesTorn, AllSince, Leaves, torn, written, last_of}
 use Rattle.jfs_ranges.specs.declared.edit.Edit.{Edit}
 use Rattle.jfs_records.specs.Redo.{redone}
 
@@ -30,6 +30,11 @@ pub record IsStopped (count : ℕ) (es : List Edit) (old new : Image) : Type 0 w
 pub record IsOnTheWay (count : ℕ) (es : List Edit) (old left : Image) : Type 0 where
   pub number : length left ≡ length old
   pub pages : (p : ℕ) → p < length old → (sectors : ℕ) × (sectors ≤ 8) × (page_of left p ≡ torn sectors (redone_page count es old p) (page_of old p))
+
+-- the moments since t, and the one now
+pub record AreOnTheWay (count : ℕ) (es : List Edit) (old : Image) (t : ℕ) (past : List DiskState) : Type 0 where
+  pub all : AllSince (IsOnTheWay count es old) past t
+  pub now : Leaves (IsOnTheWay count es old) (last_of past)
 
 -- redo of such an image makes the same pages
 abbrev pub RedoneAgain : Type 0

@@ -2,13 +2,13 @@
 
 ghost use Rattle.std.specs.Prelude.{◌≡◌, ◌≤◌, ◌<◌, ℕ, List, length, set, OnOk, OnErr};
 ghost use Rattle.jfs_disk.specs.Image.{page_of, ArePages};
-ghost use Rattle.jfs_disk.specs.Crash.{AllSince, last_of};
+ghost use Rattle.jfs_disk.specs.Crash.{last_of};
 ghost use Rattle.jfs_disk.specs.Moment.{IsResting, now_of};
 ghost use Rattle.jfs_disk.specs.Fault.{HasCause};
 ghost use Rattle.jfs_ranges.specs.declared.edit.Edit.{Edit};
 ghost use Rattle.jfs_records.specs.Redo.{redone, all_of};
 ghost use Rattle.jfs_redo_steps.specs.ByPage.{edits_in, RiseFrom, IsIndex};
-ghost use Rattle.jfs_redo_steps.specs.Pages.{ArePagesRedone, MayBeTorn, IsStopped, IsOnTheWay, WritesPage};
+ghost use Rattle.jfs_redo_steps.specs.Pages.{ArePagesRedone, MayBeTorn, IsStopped, AreOnTheWay, WritesPage};
 
 use crate::index::{PageEdit, edits_by_page, own_from};
 use crate::page::redo_page;
@@ -36,7 +36,7 @@ pub fn redo_pages<D: Disk>(
     ensures redone { D.tells → OnOk result (ArePagesRedone count (all_of transactions.now) (D.image disk.old) (D.image disk.new)) }
     ensures stopped { D.tells → OnErr result (IsStopped count (all_of transactions.now) (D.image disk.old) (D.image disk.new)) }
     // Where nothing was pending, a crash at each moment leaves pages on the way, of which redo makes the same again (`pages_are_redone_again`).
-    ensures moments { D.tells → D.tells_crashes → IsResting (last_of (D.past disk.old)) → AllSince (IsOnTheWay count (all_of transactions.now) (D.image disk.old)) (D.past disk.new) (now_of (D.past disk.old)) }
+    ensures moments { D.tells → D.tells_crashes → IsResting (last_of (D.past disk.old)) → AreOnTheWay count (all_of transactions.now) (D.image disk.old) (now_of (D.past disk.old)) (D.past disk.new) }
     ensures cause { HasCause (D.fault_count disk.old) (D.fault_count disk.new) result }
 {
     let index = match edits_by_page(alloc, transactions, count) {
@@ -57,7 +57,7 @@ fn redo_by_index<D: Disk>(disk: &mut D, index: &[PageEdit<'_>], count: u32) -> R
     ensures room { D.room disk.new ≡ D.room disk.old }
     ensures redone { OnOk result (D.tells → (es : List Edit) → IsIndex count es index.now → ArePagesRedone count es (D.image disk.old) (D.image disk.new)) }
     ensures stopped { OnErr result (D.tells → (es : List Edit) → IsIndex count es index.now → IsStopped count es (D.image disk.old) (D.image disk.new)) }
-    ensures moments { D.tells → D.tells_crashes → (es : List Edit) → IsIndex count es index.now → IsResting (last_of (D.past disk.old)) → AllSince (IsOnTheWay count es (D.image disk.old)) (D.past disk.new) (now_of (D.past disk.old)) }
+    ensures moments { D.tells → D.tells_crashes → (es : List Edit) → IsIndex count es index.now → IsResting (last_of (D.past disk.old)) → AreOnTheWay count es (D.image disk.old) (now_of (D.past disk.old)) (D.past disk.new) }
     ensures cause { HasCause (D.fault_count disk.old) (D.fault_count disk.new) result }
 {
     let mut page = Page::zeros();

@@ -1,7 +1,8 @@
-use Rattle.std.proofs.Common.{◌≡◌, ◌≤◌, ℕ}
+use Rattle.std.proofs.Common.{◌≡◌, ◌≤◌, ℕ, suc}
 use Rattle.jfs_imap.specs.Inodes.{IsInodePage}
 use Rattle.jfs_redo_steps.specs.objects.specs.Contents.{block_of}
 use Rattle.jfs_redo.specs.Put.{ArePut, InBytes}
+use Rattle.jfs_redo.specs.Partly.{KeepsMixed, PutsFile}
 use Rattle.jfs_redo.specs.Redo.{StaysBehind}
 use Rattle.jfs_redo.proofs.maps.write_inode_map.Given as goal
 
@@ -11,3 +12,4 @@ invariant-loop-k g l =
     × ((j : ℕ) → l.k ≤ j → block_of l.rest j ≡ block_of l.extents j)
     × (g.D.Disk.tells → ArePut l.k (block_of l.extents) (InBytes (IsInodePage l.map)) (g.D.Disk.image l.fn.disk) (g.D.Disk.image l.disk))
     × (g.D.Disk.tells → StaysBehind l.blocks (g.D.Disk.image l.fn.disk) (g.D.Disk.image l.disk))
+    × (g.D.Disk.tells → g.D.Disk.tells_crashes → KeepsMixed l.blocks (PutsFile (suc l.iags) (block_of l.extents) (InBytes (IsInodePage l.map))) (g.D.Disk.past l.fn.disk) (g.D.Disk.past l.disk))

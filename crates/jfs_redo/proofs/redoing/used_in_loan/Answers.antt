@@ -9,3 +9,7 @@ returns-clause-loan g c = same_loan g.D.Disk c.args.view.now.disk.now c.inodes_i
 pub returns-clause-pages : goal.returns-clause-pages
 returns-clause-pages g c =
     ap (λ (d : Device g.D.Disk.tells_crashes). d.pages) (same_disk g.D.Disk c.args.view.now.disk.now c.inodes_in_use.new.view.disk.now c.args.view.now.disk.ghost_name c.inodes_in_use.new.view.disk.ghost_name c.inodes_in_use.ensures.device)
+
+pub returns-clause-past : goal.returns-clause-past
+returns-clause-past g c told =
+    ap (λ (d : Device g.D.Disk.tells_crashes). d.states told) (same_disk g.D.Disk c.args.view.now.disk.now c.inodes_in_use.new.view.disk.now c.args.view.now.disk.ghost_name c.inodes_in_use.new.view.disk.ghost_name c.inodes_in_use.ensures.device)

@@ -3,8 +3,7 @@ use Rattle.jfs_ranges.specs.declared.edit.Edit.{Edit}
 use Rattle.jfs_redo_steps.specs.ByPage.{edits_at, RiseFrom, IsIndex}
 use Rattle.jfs_disk.specs.Crash.{last_of}
 use Rattle.jfs_disk.specs.Moment.{IsResting, now_of}
-use Rattle.jfs_redo_steps.specs.Pages.{ArePagesRedone}
-use Rattle.jfs_redo_steps.proofs.Moments.{AreOnTheWay}
+use Rattle.jfs_redo_steps.specs.Pages.{ArePagesRedone, AreOnTheWay}
 use Rattle.jfs_redo_steps.proofs.pages.redo_by_index.Given as goal
 
 abbrev pub invariant-loop-p : goal.invariant-loop-p
