@@ -3,5 +3,3 @@
 
 #[cfg(test)]
 mod lines;
-#[cfg(test)]
-mod summary;

@@ -12,7 +12,7 @@ use std::sync::Wait;
 use std::thread::Threads;
 
 /// Sixteen scripts, and one more.
-static MANY: [&str; 19] = [
+const MANY: [&str; 19] = [
     "run", "I", "A", "B", "C", "D", "E", "F", "G", "H", "J", "K", "L", "M", "N", "O", "P", "Q", "R",
 ];
 
@@ -145,17 +145,17 @@ fn is_legal(alloc: Global, history: &[Entry]) -> Option<bool> {
 }
 
 /// Whether a client's entries are its lines, from the first to the last of them.
-fn has_lines(history: &[Entry], client: u32) -> bool {
-    let mut next = 1;
+fn has_lines(history: &[Entry], client: u32) -> Option<bool> {
+    let mut next: u32 = 1;
     for entry in history {
         if entry.client == client {
             if entry.line != next {
-                return false;
+                return Some(false);
             }
-            next += 1;
+            next = next.checked_add(1)?;
         }
     }
-    next == LINES + 1
+    Some(next == LINES + 1)
 }
 
 #[test]
@@ -169,7 +169,7 @@ fn clients_on_one_tree(rt: HostRuntime) {
     let history = ended.history.as_slice();
     assert!(rt; history.len() == 20);
     for client in 1..5 {
-        assert!(rt; has_lines(history, client), "{client}");
+        assert!(rt; has_lines(history, client) == Some(true), "{client}");
     }
     assert!(rt; is_legal(alloc, history) == Some(true));
 }
