@@ -17,10 +17,10 @@ fn mark<V: Serves<D, E>, D: Disk, E: HasRecords>(
     both: &mut BothTurns<V, SharedLog<D>, E>,
 )
     requires of { IsBothOf turns.now.table.shared.table_id both.old }
-    requires room { BothHaveRoom V.stands (standing D.Disk E.logs E.ring) V.count both.old }
+    requires room { BothHaveRoom V.stands (standing D.Disk E.logs E.start) V.count both.old }
     ensures of { IsBothOf turns.now.table.shared.table_id both.new }
     ensures same { IsSamePass both.old both.new }
-    ensures stand { BothStand V.stands (standing D.Disk E.logs E.ring) both.new }
+    ensures stand { BothStand V.stands (standing D.Disk E.logs E.start) both.new }
     ensures goes_on { GoesOn E.client (whole both.old) (whole both.new) }
 {
     turns.mark_taken(both);
@@ -35,11 +35,11 @@ pub(crate) fn commit_both<V: Serves<D, E>, D: Disk, E: HasRecords>(
     both: &mut BothTurns<V, SharedLog<D>, E>,
 )
     requires of { IsBothOf turns.now.table.shared.table_id both.old }
-    requires stand { BothStand V.stands (standing D.Disk E.logs E.ring) both.old }
+    requires stand { BothStand V.stands (standing D.Disk E.logs E.start) both.old }
     requires running { both.old.log.value.side.halted ≡ None }
     ensures of { IsBothOf turns.now.table.shared.table_id both.new }
     ensures same { IsSamePass both.old both.new }
-    ensures stand { BothStand V.stands (standing D.Disk E.logs E.ring) both.new }
+    ensures stand { BothStand V.stands (standing D.Disk E.logs E.start) both.new }
     ensures goes_on { GoesOn E.client (whole both.old) (whole both.new) }
 {
     let volume = &mut both.volume;
@@ -54,11 +54,11 @@ pub(crate) fn point_both<V: Serves<D, E>, D: Disk, E: HasRecords>(
     both: &mut BothTurns<V, SharedLog<D>, E>,
 )
     requires of { IsBothOf turns.now.table.shared.table_id both.old }
-    requires stand { BothStand V.stands (standing D.Disk E.logs E.ring) both.old }
+    requires stand { BothStand V.stands (standing D.Disk E.logs E.start) both.old }
     requires running { both.old.log.value.side.halted ≡ None }
     ensures of { IsBothOf turns.now.table.shared.table_id both.new }
     ensures same { IsSamePass both.old both.new }
-    ensures stand { BothStand V.stands (standing D.Disk E.logs E.ring) both.new }
+    ensures stand { BothStand V.stands (standing D.Disk E.logs E.start) both.new }
     ensures goes_on { GoesOn E.client (whole both.old) (whole both.new) }
 {
     let volume = &mut both.volume;

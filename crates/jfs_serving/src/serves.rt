@@ -56,12 +56,12 @@ pub trait Serves<D: Disk, E: HasRecords>: Collected<E> {
     /// Makes all entries so far durable, where the log doesn't fail. All are taken into groups then. It takes no memory.
     fn commit(&mut self, log: &mut SharedLog<D>)
         requires running { log.old.side.halted ≡ None }
-        requires together { AreTogether Self.stands (standing D.Disk E.logs E.ring) self.old log.old }
-        ensures makes { MakesRoom Self.stands (standing D.Disk E.logs E.ring) Self.count self.old log.old self.new log.new };
+        requires together { AreTogether Self.stands (standing D.Disk E.logs E.start) self.old log.old }
+        ensures makes { MakesRoom Self.stands (standing D.Disk E.logs E.start) Self.count self.old log.old self.new log.new };
 
     /// The same, and a syncpoint where there is room for one, so that the log is empty before it.
     fn point(&mut self, log: &mut SharedLog<D>)
         requires running { log.old.side.halted ≡ None }
-        requires together { AreTogether Self.stands (standing D.Disk E.logs E.ring) self.old log.old }
-        ensures makes { MakesRoom Self.stands (standing D.Disk E.logs E.ring) Self.count self.old log.old self.new log.new };
+        requires together { AreTogether Self.stands (standing D.Disk E.logs E.start) self.old log.old }
+        ensures makes { MakesRoom Self.stands (standing D.Disk E.logs E.start) Self.count self.old log.old self.new log.new };
 }

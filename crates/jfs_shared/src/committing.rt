@@ -84,7 +84,7 @@ fn write<D: Disk>(shared: &mut SharedVolume<D>, log: &mut SharedLog<D>) -> Resul
     match log.write(&group) {
         Ok(()) => Ok(()),
         Err(why) => {
-            shared.volume.halt(why.fault);
+            shared.halt_for_log(why.fault);
             Err(why)
         }
     }

@@ -1,7 +1,8 @@
 //! A mounted volume that many clients share.
 
 ghost use Rattle.std.specs.Prelude.{◌≡◌};
-ghost use Rattle.jfs_shared.specs.Shared.{broken_by};
+ghost use Rattle.jfs_shared.specs.Shared.{Stands, broken_by};
+ghost use Rattle.jfs_shared.specs.Halting.{HaltsForLog};
 
 use crate::point_group::PointGroup;
 use crate::recorded::Recorded;
@@ -15,7 +16,7 @@ pub struct SharedVolume<D: Disk> {
     pub(crate) volume: Volume<D>,
     /// The SYNCPT that its syncpoints write.
     pub(crate) point: PointGroup,
-    /// How many syncpoints it has made, beside the mount's.
+    /// How many syncpoints it has made, beside the mount's, and one more where the log has halted it.
     pub(crate) points: u64,
     /// How many entries there were when memory ran out for a call, or a syncpoint failed: nothing is said of the tree behind them. None: neither has happened.
     pub(crate) broken_off: Option<u64>,
@@ -55,6 +56,20 @@ impl<D: Disk> SharedVolume<D> {
         if self.broken_off.is_none() {
             self.broken_off = Some(self.volume.appended());
         }
+    }
+
+    /// The log has halted by this fault, and so does the volume, unless it has halted before.
+    pub(crate) fn halt_for_log(&mut self, fault: Fault)
+        requires stands { Stands D.Disk self.old }
+        ensures halts { HaltsForLog fault self.old self.new }
+    {
+        if self.volume.halted().is_some() {
+            return;
+        }
+        // Each syncpoint takes 36 bytes of the log's text, whose end has 64 bits: one more can be counted.
+        let _ = self.volume.text_end();
+        self.points += 1;
+        self.volume.halt(fault);
     }
 
     /// The volume, with the entries that weren't handed out.
