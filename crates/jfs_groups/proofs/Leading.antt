@@ -1,5 +1,5 @@
 -- The leader: what it knows from the group that it takes to the write.
-use Rattle.std.proofs.Common.{◌≡◌, ◌≤◌, ◌<◌, ℕ, List, [], length, max, true, false, Option, Some, sym, ap, subst, ◌∙◌, arith, append-nil, inr}
+use Rattle.std.proofs.Common.{◌≡◌, ◌≤◌, ◌<◌, ◌⊎◌, ℕ, List, [], ◌∷◌, ◌++◌, length, max, true, false, Option, Some, sym, ap, subst, ◌∙◌, arith, append-nil, inl, inr}
 use Rattle.std.proofs.Math.Nat.{le-max_left, le-max_right, max-le}
 use Rattle.jfs_disk.specs.declared.disk.Fault.{Fault}
 use Rattle.jfs_logpages.specs.declared.group_text.GroupText.{GroupText}
@@ -13,7 +13,7 @@ use Rattle.jfs_turns.specs.declared.view.View.{View}
 use Rattle.jfs_turns.specs.declared.both.BothTurns.{BothTurns}
 use Rattle.jfs_groups.specs.Group.{IsGroupOf}
 use Rattle.jfs_groups.specs.Collects.{IsExact, KeepsCounts, Collects}
-use Rattle.jfs_groups.specs.Points.{syncs}
+use Rattle.jfs_groups.specs.Points.{halt_mark, syncs}
 use Rattle.jfs_groups.specs.Start.{LogStart}
 use Rattle.jfs_groups.specs.Commit.{GoesOn, HasFailed, IsLed, IsCommitted}
 use Rattle.jfs_groups.specs.declared.committed.Committed.{Committed}
@@ -23,12 +23,16 @@ use Rattle.jfs_groups.proofs.Views.{onwards, stays, learned}
 pub max_is : (a b : ℕ) → a ≤ b → max a b ≡ b
 max_is a b h = let low = le-max_right a b in let high = max-le {a = a} {b = b} {k = b} h (omega arith) in omega (arith, low, high)
 
-stays_greater : (a b : ℕ) → b ≤ a → max a b ≡ a
+pub stays_greater : (a b : ℕ) → b ≤ a → max a b ≡ a
 stays_greater a b h = let low = le-max_left a b in let high = max-le {a = a} {b = b} {k = a} (omega arith) h in omega (arith, low, high)
 
 -- both halves of a view, put together again
-abbrev again : {E : Type 0} → View E → View E
+abbrev pub again : {E : Type 0} → View E → View E
 again k = rejoined (without k) (aside k)
+
+pub behind_all : (points later : List ℕ) → (later ≡ points) ⊎ (later ≡ points ++ halt_mark ∷ []) → IsPrefix points later
+behind_all points later (inl same) = ([], append-nil points ∙ sym same)
+behind_all points later (inr more) = (halt_mark ∷ [], sym more)
 
 module _ {V L E : Type 0} where
   pub halves_again : (k : View E) (both : BothTurns V L E) → AreHalvesOf k both → whole both ≡ again k
@@ -85,12 +89,12 @@ module _ {V L E : Type 0} where
   -- the volume stands for what the halves have once the syncpoints are those of ps
   pub halted_stands : (of_volume : Standing V E) (x : V) (v : View E) (ps : List ℕ) (k : ℕ) (both : BothTurns V L E) → AreHalvesOf (got_points ps k v) both → VolumeStands of_volume x (record v { points = ps }) → VolumeStands of_volume x (whole both)
   halted_stands of_volume x v ps k both h s = subst (λ (w : View E). VolumeStands of_volume x w) (sym (halves_again (got_points ps k v) both h)) (
-      s.0,
-      s.1,
-      s.2,
-      omega (arith, s.3, le-max_left v.durable v.log_durable),
-      omega (arith, s.4, le-max_left v.stable k, le-max_left (max v.stable k) (max v.log_stable k)),
-    )
+    s.0,
+    s.1,
+    s.2,
+    omega (arith, s.3, le-max_left v.durable v.log_durable),
+    omega (arith, s.4, le-max_left v.stable k, le-max_left (max v.stable k) (max v.log_stable k)),
+  )
 
   -- from the log turn to the mark: w once the volume turn is given
   pub halts : (client : E → ℕ) (m m' : Seated V L E) (w : View E) (ps : List ℕ) (k : ℕ) (both : BothTurns V L E) → m.0.log ≡ true → Learned client m m' → IsPrefix m'.0.points ps → k ≤ m.0.log_stable → AreHalvesOf (got_points ps k m'.0) both

@@ -14,7 +14,7 @@ use Rattle.jfs_groups.specs.Commit.{GoesOn}
 use Rattle.jfs_groups.proofs.Views.{onwards, given_log}
 use Rattle.jfs_groups.proofs.Leading.{max_is, stands_at}
 
-prefix_long : {A : Type 0} (xs ys : List A) → IsPrefix xs ys → length xs ≤ length ys
+pub prefix_long : {A : Type 0} (xs ys : List A) → IsPrefix xs ys → length xs ≤ length ys
 prefix_long xs ys p = omega (arith, ap (λ l. length l) p.1, length-append xs p.0)
 
 module _ {V L E : Type 0} (client : E → ℕ) (logs : E → Option (List Noted)) (start : Base → LogStart) where

@@ -1,7 +1,6 @@
 -- What a log side stands for, before and after a group.
 use Rattle.std.proofs.Common.{◌≡◌, ◌≤◌, ℕ, ◌+◌, ◌*◌, ◌^◌, List, ◌++◌, length, take, drop, Option, Some, None, refl, sym, ap, subst, ◌∙◌, arith, inl, inr}
 use Rattle.std.proofs.lemmas.List.{length-append}
-use Rattle.jfs_bits.specs.Count.{Rose}
 use Rattle.std.proofs.Math.Seq.{take-append_seam, drop-append_seam}
 use Rattle.jfs_disk.specs.declared.disk.Fault.{Fault}
 use Rattle.jfs_logpages.specs.declared.group_text.GroupText.{GroupText}
@@ -17,6 +16,7 @@ use Rattle.jfs_groups.specs.Text.{items_from, end_of}
 use Rattle.jfs_groups.specs.Log.{LogData, IsRunning, LogStandsFor, FreshStands}
 use Rattle.jfs_groups.specs.Group.{IsGroupOf}
 use Rattle.jfs_groups.specs.Written.{IsGroupWritten, IsGroupLost}
+use Rattle.jfs_groups.proofs.Counts.{rose_on}
 use Rattle.jfs_groups.proofs.Text.{end_grows, grown, fresh_holds}
 
 none_some : (f : Fault) → ◌≡◌ {A = Option Fault} None (Some f) → ⊥
@@ -75,6 +75,7 @@ module _ {E : Type 0} (logs : E → Option (List Noted)) (tells crashes : Type 0
       subst (λ (es : List E). LogStandsFor logs tells crashes start m es (length es) (length es) points stable) pre.1 (record {
         ring = w.ring ∙ s.ring;
         pages = w.pages ∙ s.pages;
+        few = s.few;
         faults = subst (λ (n : ℕ). Grows start.faults n) (sym w.faults) s.faults;
         count = w.durable ∙ f.last;
         stable = w.points ∙ s.stable;
@@ -96,32 +97,40 @@ module _ {E : Type 0} (logs : E → Option (List Noted)) (tells crashes : Type 0
       f : Follows start.ring l list pre.0 (syncs points) group
       f = follows start.ring l list pre.0 taken durable points stable group r (subst (λ (es : List E). IsGroupOf logs start.ring es taken (syncs points) group) (sym pre.1) g)
 
-  -- a count that rose behind one that has grown
-  pub rose_later : (a b c : ℕ) → Grows a b → Rose b c → Rose a c
-  rose_later a b c (inl same) rose = subst (λ (n : ℕ). Rose n c) same rose
-  rose_later a b c (inr (inl less)) (inl more) = inl (omega (arith, less, more))
-  rose_later a b c (inr (inr last)) (inl more) = inr (omega (arith, last, more))
-  rose_later a b c (inr rose) (inr top) = inr top
-
   -- one that isn't: the counts are as they were, whatever the lists are
   pub lost_stands : (start : LogStart) (l m : LogData) (list other : List E) (taken more durable : ℕ) (points others : List ℕ) (stable : ℕ) (fault : Fault) → LogStandsFor logs tells crashes start l list taken durable points stable → IsGroupLost fault l m → LogStandsFor logs tells crashes start m other more durable others stable
   lost_stands start l m list other taken more durable points others stable fault s lost = record {
     ring = lost.ring ∙ s.ring;
     pages = lost.pages ∙ s.pages;
-    faults = inr (rose_later start.faults l.faults m.faults s.faults lost.rose);
+    few = s.few;
+    faults = inr (rose_on start.faults l.faults m.faults s.few s.faults lost.rose);
     count = lost.durable ∙ s.count;
     stable = lost.points ∙ s.stable;
     runs = λ e. absurd (none_some fault (sym e ∙ lost.halts));
-    halts = λ f e. (sym (same fault f (sym lost.halts ∙ e)) ∙ lost.is, rose_later start.faults l.faults m.faults s.faults lost.rose);
+    halts = λ f e. (sym (same fault f (sym lost.halts ∙ e)) ∙ lost.is, rose_on start.faults l.faults m.faults s.few s.faults lost.rose);
   }
     where
       same : (a b : Fault) → ◌≡◌ {A = Option Fault} (Some a) (Some b) → a ≡ b
       same a b e = cc
 
+  -- a log that has halted stands for any lists, with its counts
+  pub halted_stands_for : (start : LogStart) (l : LogData) (list other : List E) (taken more durable : ℕ) (points others : List ℕ) (stable : ℕ) (fault : Fault) → l.halted ≡ Some fault → LogStandsFor logs tells crashes start l list taken durable points stable → LogStandsFor logs tells crashes start l other more durable others stable
+  halted_stands_for start l list other taken more durable points others stable fault halts s = record {
+    ring = s.ring;
+    pages = s.pages;
+    few = s.few;
+    faults = s.faults;
+    count = s.count;
+    stable = s.stable;
+    runs = λ e. absurd (none_some fault (sym e ∙ halts));
+    halts = s.halts;
+  }
+
   pub fresh : FreshStands logs tells crashes
-  fresh start log ends ring pages faults place none none_stable runs holds resting = record {
+  fresh start log ends ring pages faults few place none none_stable runs holds resting = record {
     ring = ring;
     pages = pages;
+    few = few;
     faults = inl faults;
     count = none;
     stable = none_stable;

@@ -1,5 +1,5 @@
 -- When the log side stands for a list of entries and for syncpoints.
-use Rattle.std.specs.Prelude.{◌≡◌, ℕ, ◌+◌, ◌-◌, ◌*◌, List, [], length, Bool, false, Option, Some, None}
+use Rattle.std.specs.Prelude.{◌≡◌, ◌<◌, ℕ, ◌+◌, ◌-◌, ◌*◌, ◌^◌, List, [], length, false, Option, Some, None}
 use Rattle.jfs_bits.specs.Count.{Rose}
 use Rattle.jfs_disk.specs.Image.{Image}
 use Rattle.jfs_disk.specs.Crash.{DiskState, last_of}
@@ -58,6 +58,7 @@ module _ {E : Type 0} (logs : E → Option (List Noted)) where
   pub record LogStandsFor (tells crashes : Type 0) (start : LogStart) (log : LogData) (list : List E) (taken durable : ℕ) (points : List ℕ) (stables : ℕ) : Type 0 where
     pub ring : log.last.ring ≡ start.ring
     pub pages : log.pages ≡ start.pages
+    pub few : start.faults < 2 ^ 64
     pub faults : Grows start.faults log.faults
     pub count : log.durable ≡ durable
     pub stable : log.points ≡ stables
@@ -70,5 +71,5 @@ standing d logs start log base list taken durable points stable = LogStandsFor l
 
 -- A log that holds a fresh text, and has written no group, stands for no entry and no syncpoint.
 abbrev pub FreshStands : {E : Type 0} → (E → Option (List Noted)) → (tells crashes : Type 0) → Type 0
-FreshStands logs tells crashes = (start : LogStart) (log : LogData) (ends : List ℕ) → log.last.ring ≡ start.ring → log.pages ≡ start.pages → log.faults ≡ start.faults → position_of log.last ≡ 4080 * (start.ring - 1) + 36 → log.durable ≡ 0 → log.points ≡ 0 → log.halted ≡ None
+FreshStands logs tells crashes = (start : LogStart) (log : LogData) (ends : List ℕ) → log.last.ring ≡ start.ring → log.pages ≡ start.pages → log.faults ≡ start.faults → start.faults < 2 ^ 64 → position_of log.last ≡ 4080 * (start.ring - 1) + 36 → log.durable ≡ 0 → log.points ≡ 0 → log.halted ≡ None
     → (tells → Holds log.last (fresh_text start.ring (text_of first_record)) ends log.image) → (crashes → IsResting (last_of log.past)) → LogStandsFor logs tells crashes start log [] 0 0 [] 0

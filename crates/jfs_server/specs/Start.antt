@@ -1,5 +1,5 @@
 -- What a server begins with.
-use Rattle.std.specs.Prelude.{◌≡◌, ℕ, List, length}
+use Rattle.std.specs.Prelude.{◌≡◌, ◌<◌, ◌×◌, ◌^◌, ℕ, List, length}
 use Rattle.atomic_table.specs.Seated.{TableId}
 use Rattle.jfs_disk.specs.Image.{Image}
 use Rattle.jfs_disk.specs.declared.disk.Disk.{Ghosts}
@@ -19,6 +19,7 @@ pub record StartsAt {D : Type 0} (d : Ghosts D) (base : Base) (m : Mounted D d) 
   pub super : Super
   pub image : Image
   pub mounted : IsJustMounted d.tells d.tells_crashes super image m.volume (log_parts d m.log)
+  pub few : (m.volume.faults < 2 ^ 64) × (d.fault_count m.log.part < 2 ^ 64)
   pub base_is : base ≡ base_at super image m.volume (d.page_count m.log.part) (d.fault_count m.log.part)
 
 -- There is a pass for each client, which knows no entry.

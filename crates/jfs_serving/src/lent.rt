@@ -8,7 +8,7 @@ ghost use Rattle.jfs_groups.specs.Log.{standing};
 ghost use Rattle.jfs_serving.specs.Calls.{asked};
 ghost use Rattle.jfs_serving.specs.Held.{IsBothOf, IsSamePass, BothStand, Knows, AsksIs};
 
-use crate::both::{commit_both, point_both};
+use crate::both::{commit_both, halt_both, point_both};
 use crate::serves::{Given, Serves};
 use jfs_bits::Moment;
 use jfs_disk::Disk;
@@ -53,7 +53,7 @@ fn make_room<V: Serves<D, E>, D: Disk, E: HasRecords>(
     ensures goes_on { GoesOn E.client (whole both.old) (whole both.new) }
 {
     match both.log.value.side.halted() {
-        Some(fault) => both.volume.value.halt(fault),
+        Some(fault) => halt_both(turns, both, fault),
         None => commit_both(turns, both),
     }
 }

@@ -4,7 +4,8 @@ ghost use Rattle.jfs_bits.specs.declared.descriptor.Moment.{Moment};
 ghost use Rattle.jfs_plain.specs.Limits.{FitsRequest};
 ghost use Rattle.jfs_plain.specs.declared.call.Entry.{Entry};
 ghost use Rattle.jfs_groups.specs.Log.{standing};
-ghost use Rattle.jfs_serving.specs.Calls.{Asked, asked, CallIs, StandsForSome};
+ghost use Rattle.jfs_serving.specs.Calls.{Asked, asked, CallIs};
+ghost use Rattle.jfs_groups.specs.Group.{StandsForSome};
 ghost use Rattle.jfs_serving.specs.Room.{AreTogether, MakesRoom};
 ghost use Rattle.jfs_serving.specs.declared.serves.Given.{Given};
 

@@ -1,5 +1,5 @@
 -- A volume on its part of the disk, and the faults that its replies tell.
-use Rattle.std.specs.Prelude.{◌≡◌, ◌⊎◌, ◌||◌, Bool, true, false, ℕ, List, [], ◌∷◌, None}
+use Rattle.std.specs.Prelude.{◌≡◌, ◌<◌, ◌⊎◌, ◌^◌, ◌||◌, Bool, true, false, ℕ, List, [], ◌∷◌, None}
 use Rattle.jfs_bits.specs.Count.{Rose}
 use Rattle.jfs_plain.specs.declared.call.Entry.{Entry}
 use Rattle.jfs_groups.specs.Points.{is_marked}
@@ -21,7 +21,10 @@ HasRisen m points p = Rose m.faults p.faults ⊎ (is_marked points ≡ true)
 pub record IsOfDisk (m : MountStart) (points : List ℕ) (p : Parts) : Type 0 where
   pub pages : p.count ≡ m.pages
   pub room : p.room ≡ m.room
+  pub few : m.faults < 2 ^ 64
   pub faults : Grows m.faults p.faults
   -- no call was refused for a fault, and the volume runs; or there was one
   pub calm : (any_failed p.entries ≡ false) ⊎ HasRisen m points p
   pub runs : (p.halted ≡ None) ⊎ HasRisen m points p
+  -- while it runs, there is no mark
+  pub unmarked : p.halted ≡ None → is_marked points ≡ false

@@ -5,7 +5,6 @@ pub mod Faults
 pub mod Shared
 pub mod Calls
 pub mod Both
-pub mod Halting
 pub mod Home
 pub mod Start
 -- libraries below, passed on

@@ -1,8 +1,9 @@
 //! A mounted volume that many clients share.
 
 ghost use Rattle.std.specs.Prelude.{◌≡◌};
-ghost use Rattle.jfs_shared.specs.Shared.{Stands, broken_by};
-ghost use Rattle.jfs_shared.specs.Halting.{HaltsForLog};
+ghost use Rattle.jfs_groups.specs.Group.{Halts};
+ghost use Rattle.jfs_legal.specs.served.specs.crash_core.specs.Step.{halted_by};
+ghost use Rattle.jfs_shared.specs.Shared.{Stands, standing, broken_by};
 
 use crate::point_group::PointGroup;
 use crate::recorded::Recorded;
@@ -61,7 +62,9 @@ impl<D: Disk> SharedVolume<D> {
     /// The log has halted by this fault, and so does the volume, unless it has halted before.
     pub(crate) fn halt_for_log(&mut self, fault: Fault)
         requires stands { Stands D.Disk self.old }
-        ensures halts { HaltsForLog fault self.old self.new }
+        ensures halts { Halts (standing D.Disk) (λ v. v.points) self.old self.new }
+        ensures volume { self.new.volume ≡ record self.old.volume { halted = halted_by fault self.old.volume.halted } }
+        ensures broken_off { self.new.broken_off ≡ self.old.broken_off }
     {
         if self.volume.halted().is_some() {
             return;

@@ -1,4 +1,4 @@
-use Rattle.std.proofs.Common.{arith, length, ap, sym, subst, ◌∙◌}
+use Rattle.std.proofs.Common.{arith, ap, sym, subst, ◌∙◌}
 use Rattle.jfs_turns.specs.Standing.{LogStands}
 use Rattle.jfs_groups.specs.Log.{standing, data_of}
 use Rattle.jfs_groups.proofs.Stands.{may_write, written_stands, lost_stands}
@@ -44,3 +44,16 @@ returns-clause-leads g c n within past =
     has_failed of_log (λ y. y.side.halted) c.write.new.self u c.give_log-in-Err.result.seat.me.0 n c.in-Err.field-0.fault
     (failed_stands g.E.HasClient.client of_log c.write.new.self v w u e.goes_on h.goes_on e.collects.keeps h.keeps kept)
     h.exact (ap (λ x. x.0) c.give_log-in-Err.ensures.told) lost.halts (omega (arith, past, c.requires.stands.count, e.collects.keeps.0, h.keeps.0))
+
+pub give_log-requires-in-Err-clause-stands : goal.give_log-requires-in-Err-clause-stands
+give_log-requires-in-Err-clause-stands g c =
+    let of_log = standing g.D.Disk g.E.HasRecords.logs g.E.HasRecords.start in
+    let v = c.args.turn.seat.me.0 in
+    let w = c.collect-group.result.1.seat.me.0 in
+    let u = c.halt_volume-turn.result.seat.me.0 in
+    let e = c.collect-group.ensures in
+    let h = c.halt_volume-turn.ensures in
+    let stands = subst (λ y. LogStands of_log y v) (sym e.turn.1) c.requires.stands in
+    let kept = lost_stands g.E.HasRecords.logs g.D.Disk.tells g.D.Disk.tells_crashes (g.E.HasRecords.start v.base) (data_of g.D.Disk c.collect-group.result.1.value) (data_of g.D.Disk c.write.new.self) v.log_list u.log_list v.taken u.taken v.log_durable v.log_points u.log_points v.log_stable c.in-Err.field-0.fault stands c.in-Err.ensures.lost in
+    subst (λ y. LogStands of_log y u) (sym h.turn.1)
+    (failed_stands g.E.HasClient.client of_log c.write.new.self v w u e.goes_on h.goes_on e.collects.keeps h.keeps kept)
