@@ -1,9 +1,9 @@
 -- What whoever has both turns knows once both sides have a mark that the log has halted.
-use Rattle.std.proofs.Common.{◌≡◌, ◌≤◌, ℕ, max, List, [], length, append-nil, refl, sym, ap, subst, ◌∙◌, arith}
+use Rattle.std.proofs.Common.{◌≡◌, ℕ, max, List, [], length, append-nil, refl, sym, ap, subst, arith}
 use Rattle.std.proofs.Math.Nat.{le-max_left}
 use Rattle.jfs_turns.specs.Lists.{IsPrefix}
 use Rattle.jfs_turns.specs.Standing.{Standing, LogStands}
-use Rattle.jfs_turns.specs.Views.{aside, without, rejoined, got_points}
+use Rattle.jfs_turns.specs.Views.{got_points}
 use Rattle.jfs_turns.specs.declared.view.View.{View}
 use Rattle.jfs_groups.specs.Commit.{GoesOn}
 use Rattle.jfs_groups.proofs.Leading.{again, stays_greater, max_is}

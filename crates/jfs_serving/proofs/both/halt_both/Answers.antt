@@ -1,6 +1,5 @@
-use Rattle.std.proofs.Common.{◌≡◌, ◌≤◌, ap, sym, subst, ◌∙◌, arith, length}
+use Rattle.std.proofs.Common.{ap, sym, subst, arith, length}
 use Rattle.jfs_turns.specs.Both.{whole}
-use Rattle.jfs_turns.specs.Lists.{IsPrefix}
 use Rattle.jfs_turns.specs.Standing.{VolumeStands, LogStands}
 use Rattle.jfs_turns.specs.Views.{got_points}
 use Rattle.jfs_groups.specs.Commit.{GoesOn}

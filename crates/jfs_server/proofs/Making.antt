@@ -1,0 +1,113 @@
+-- What a commit or a syncpoint makes of both values, in the words of many clients' calls.
+use Rattle.std.proofs.Common.{◌≡◌, ◌≤◌, ℕ, suc, List, [], ◌∷◌, ◌++◌, length, append-nil, Unit, Result, Ok, Err, refl, sym, ap, arith}
+use Rattle.std.proofs.lemmas.List.{length-append}
+use Rattle.jfs_disk.specs.declared.disk.Disk.{Ghosts}
+use Rattle.jfs_disk.specs.declared.disk.Fault.{Fault}
+use Rattle.jfs_logpages.specs.declared.fault.LogFault.{LogFault}
+use Rattle.jfs_groups.specs.declared.log.SharedLog.{SharedLog}
+use Rattle.jfs_turns.specs.Lists.{IsPrefix}
+use Rattle.jfs_serving.specs.Room.{Seen, AreOf, AreTogether, HasRoom, MakesRoom}
+use Rattle.jfs_serving.proofs.Numbers.{front_is_short}
+use Rattle.jfs_shared.specs.Both as shared
+use Rattle.jfs_shared.specs.Entries.{Recorded}
+use Rattle.jfs_shared.specs.Shared.{standing as shared_standing}
+use Rattle.jfs_shared.specs.declared.shared.SharedVolume.{SharedVolume}
+use Rattle.jfs_server.specs.Served.{standing, log_standing}
+use Rattle.jfs_server.specs.declared.served.ServedVolume.{ServedVolume}
+
+abbrev pub seen : Seen Recorded → shared.Seen
+seen n = record { base = n.base; list = n.list; log_list = n.log_list; taken = n.taken; told = n.told; durable = n.durable; points = n.points; known = n.known; stable = n.stable }
+
+abbrev pub counted : {D : Type 0} → ServedVolume D → ℕ
+counted v = v.shared.points
+
+module _ {D : Type 0} (d : Ghosts D) (x : SharedVolume D) (y : SharedLog D d) where
+  pub are : (n : Seen Recorded) → AreOf (standing d) (log_standing d) n (record { shared = x }) y → shared.AreOf (shared_standing d) (log_standing d) (seen n) x y
+  are n k = record { volume = k.volume; log = k.log; front = k.front; told_within = k.told_within }
+
+  pub together : AreTogether (standing d) (log_standing d) (record { shared = x }) y → shared.AreTogether (shared_standing d) (log_standing d) x y
+  together (n, k) = (seen n, are n k)
+
+  module _ (x' : SharedVolume D) (y' : SharedLog D d) where
+    abbrev Makes : Type 0
+    Makes = MakesRoom (standing d) (log_standing d) counted (record { shared = x }) y (record { shared = x' }) y'
+
+    pub commit_makes : (result : Result (Unit {0}) LogFault) → shared.CommitIs (shared_standing d) (log_standing d) x y x' y' result → Makes
+    commit_makes (Ok done) c = λ n k. let both = c (seen n) (are n k) in (
+        n.points,
+        record {
+          told = length n.list;
+          durable = length n.list;
+          known = n.known;
+          stable = n.stable;
+          volume = both.0;
+          log = both.1;
+          counted = both.0.points_are;
+          told_within = omega arith;
+          durable_grows = k.durable_within;
+          durable_within = omega arith;
+          points_grow = ([], append-nil n.points);
+          known_within = k.known_within;
+          stable_grows = omega arith;
+          stable_within = k.stable_within;
+        },
+      )
+    commit_makes (Err why) c = λ n k. let both = c (seen n) (are n k) in (
+        both.0,
+        record {
+          told = n.told;
+          durable = n.durable;
+          known = n.known;
+          stable = n.stable;
+          volume = both.2;
+          log = both.3;
+          counted = both.2.points_are;
+          told_within = k.told_within;
+          durable_grows = omega arith;
+          durable_within = k.durable_within;
+          points_grow = both.1;
+          known_within = k.known_within;
+          stable_grows = omega arith;
+          stable_within = let w = k.stable_within in omega (arith, w, front_is_short n.points both.0 both.1);
+        },
+      )
+
+    pub point_makes : (result : Result (Unit {0}) Fault) → shared.PointIs (shared_standing d) (log_standing d) x y x' y' result → Makes
+    point_makes (Ok done) c = λ n k. let both = c (seen n) (are n k) in (
+        n.points ++ length n.list ∷ [],
+        record {
+          told = length n.list;
+          durable = length n.list;
+          known = suc (length n.points);
+          stable = suc (length n.points);
+          volume = both.0;
+          log = both.1;
+          counted = both.0.points_are;
+          told_within = omega arith;
+          durable_grows = k.durable_within;
+          durable_within = omega arith;
+          points_grow = (length n.list ∷ [], refl);
+          known_within = omega arith;
+          stable_grows = let w = k.stable_within in omega (arith, w);
+          stable_within = omega (arith, length-append n.points (length n.list ∷ []));
+        },
+      )
+    point_makes (Err fault) c = λ n k. let p = c (seen n) (are n k) in (
+        p.points_now,
+        record {
+          told = p.told_now;
+          durable = p.durable_now;
+          known = n.known;
+          stable = n.stable;
+          volume = p.volume;
+          log = p.log;
+          counted = p.volume.points_are;
+          told_within = p.told_within;
+          durable_grows = p.durable_grows;
+          durable_within = p.durable_within;
+          points_grow = p.points_grow;
+          known_within = k.known_within;
+          stable_grows = omega arith;
+          stable_within = let w = k.stable_within in omega (arith, w, front_is_short n.points p.points_now p.points_grow);
+        },
+      )
