@@ -1,3 +1,3 @@
 pub mod Answering
 pub mod Making
-pub mod Stopping
+pub mod Ended

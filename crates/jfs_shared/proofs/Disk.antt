@@ -1,13 +1,11 @@
 -- What becomes of a volume's part of the disk, and of the faults that its replies tell.
-use Rattle.std.proofs.Common.{◌≡◌, ◌<◌, ◌⊎◌, ◌^◌, ◌||◌, ℕ, Bool, true, false, if◌then◌else◌, List, [], ◌∷◌, ◌++◌, Option, Some, None, refl, sym, ap, subst, ◌∙◌, inl, inr}
+use Rattle.std.proofs.Common.{◌≡◌, ◌⊎◌, ◌||◌, ℕ, Bool, true, false, if◌then◌else◌, List, [], ◌∷◌, ◌++◌, Option, Some, None, refl, sym, ap, subst, ◌∙◌, inl, inr}
 use Rattle.std.proofs.lemmas.Bool.{false≢true}
 use Rattle.jfs_bits.specs.Count.{Rose}
 use Rattle.jfs_disk.specs.declared.disk.Fault.{Fault}
 use Rattle.jfs_plain.specs.CallStep.{writes}
-use Rattle.jfs_plain.specs.declared.call.Call.{Call}
 use Rattle.jfs_plain.specs.declared.call.Entry.{Entry}
 use Rattle.jfs_plain.specs.declared.call.Request.{Request}
-use Rattle.jfs_plain.specs.declared.refusal.Refusal.{Refusal}
 use Rattle.jfs_plain.specs.declared.refusal.Refusal.TheVariants as refusals
 use Rattle.jfs_plain.specs.declared.reply.Reply.{Reply}
 use Rattle.jfs_plain.specs.declared.reply.Reply.TheVariants as replies
@@ -15,7 +13,6 @@ use Rattle.jfs_groups.specs.Points.{halt_mark, is_marked}
 use Rattle.jfs_groups.specs.Start.{Grows}
 use Rattle.jfs_groups.proofs.Counts.{grows_on, rose_on, rose_since}
 use Rattle.jfs_call.specs.Answer.{IsAnswered, IsHeld, RepliedBy, KeepsHalted, held}
-use Rattle.jfs_call.specs.declared.outcome.Outcome.{Outcome}
 use Rattle.jfs_call.specs.declared.outcome.Outcome.TheVariants.{Replied, NeedsLog, NoMemory}
 use Rattle.jfs_call.specs.halves.specs.Parts.{Parts}
 use Rattle.jfs_call.specs.volume.specs.Join.{entry_with}
@@ -76,11 +73,11 @@ module _ (m : MountStart) (points : List ℕ) (old : Parts) (h : IsOfDisk m poin
 
   any_more : (es : List Entry) (e : Entry) → any_failed es ≡ false → has_failed e.reply ≡ false → any_failed (es ++ e ∷ []) ≡ false
   any_more [] e calm fine = ap (λ (b : Bool). b || false) fine
-  any_more (x ∷ xs) e calm fine = by (has_failed x.reply) calm
+  any_more (x ∷ xs) e calm fine = by (has_failed x.reply) (λ rest. any_more xs e rest fine) calm
     where
-      by : (b : Bool) → (b || any_failed xs) ≡ false → (b || any_failed (xs ++ e ∷ [])) ≡ false
-      by true calm = absurd (false≢true (sym calm))
-      by false calm = any_more xs e calm fine
+      by : (b : Bool) → (any_failed xs ≡ false → any_failed (xs ++ e ∷ []) ≡ false) → (b || any_failed xs) ≡ false → (b || any_failed (xs ++ e ∷ [])) ≡ false
+      by true rest calm = absurd (false≢true (sym calm))
+      by false rest calm = rest calm
 
   -- its reply tells no fault, or that which halted the volume, or one of this call
   pub record KeptWith (e : Entry) (new : Parts) : Type 0 where
@@ -153,7 +150,7 @@ replied_grew before now _ r = inl r
 
 halted_rose : (before now : ℕ) (old new : Option Fault) → KeepsHalted before now old new → (new ≡ old) ⊎ Rose before now
 halted_rose before now old new (inl same) = inl same
-halted_rose before now old new (inr (fault, is, rest)) = inr is.rose
+halted_rose before now old new (inr (fault, is, was, halts)) = inr is.rose
 
 some_none : (f : Fault) → ◌≡◌ {A = Option Fault} (Some f) None → ⊥
 some_none f e = absurd (cc)

@@ -1,5 +1,7 @@
 -- What a volume stands for, behind what its calls make of its parts.
 use Rattle.std.proofs.Common.{◌≡◌, ◌≤◌, ◌<◌, ℕ, suc, ◌+◌, ◌^◌, List, [], ◌∷◌, ◌++◌, length, Bool, Option, Some, None, false, refl, sym, ap, subst, ◌∙◌, inr, arith}
+use Rattle.std.specs.Prelude.{is_some}
+use Rattle.std.proofs.lemmas.Bool.{false≢true}
 use Rattle.std.proofs.lemmas.List.{length-append}
 use Rattle.jfs_bits.specs.Count.{Rose}
 use Rattle.jfs_bits.specs.declared.descriptor.Moment.{Moment}
@@ -41,6 +43,10 @@ use Rattle.jfs_shared.proofs.Disk.{same_disk, pointed_disk, marked_disk, replied
 use Rattle.jfs_shared.proofs.Points.{all_syncs, marked_syncs, synced_more, marked_more}
 use Rattle.jfs_shared.proofs.Stepped.{Stood, Grew}
 use Rattle.jfs_shared.proofs.Served.{served_joined, served_asked, served_lacked, served_failed, served_settled, served_pointed}
+
+pub none_of : (halted : Option Fault) → is_some halted ≡ false → halted ≡ None
+none_of None e = refl
+none_of (Some fault) e = absurd (false≢true (sym e))
 
 entries_more : (list : List Recorded) (e : Recorded) → entries_in (list ++ e ∷ []) ≡ entries_in list ++ e.entry ∷ []
 entries_more [] e = refl

@@ -20,7 +20,7 @@ use Rattle.jfs_legal.specs.served.specs.shown.specs.meaning.specs.Image as meani
 use Rattle.jfs_legal.specs.served.specs.Legal.{Timed}
 use Rattle.jfs_legal.specs.served.specs.Laws.{HoldsImage}
 use Rattle.jfs_legal.specs.Until.{AreLegal, GoOn}
-use Rattle.jfs_shared.specs.Base.{MountStart, start_of, log_start_of, image_of}
+use Rattle.jfs_shared.specs.Base.{start_of, log_start_of, image_of}
 use Rattle.jfs_shared.specs.Faults.{IsOfDisk}
 use Rattle.jfs_shared.specs.Entries.{Recorded}
 use Rattle.jfs_shared.specs.declared.shared.SharedVolume.{SharedVolume}

@@ -1,9 +1,7 @@
 //! A mounted volume that many clients share.
 
 ghost use Rattle.std.specs.Prelude.{◌≡◌};
-ghost use Rattle.jfs_groups.specs.Group.{Halts};
-ghost use Rattle.jfs_legal.specs.served.specs.crash_core.specs.Step.{halted_by};
-ghost use Rattle.jfs_shared.specs.Shared.{Stands, standing, broken_by};
+ghost use Rattle.jfs_shared.specs.Shared.{broken_by};
 
 use crate::point_group::PointGroup;
 use crate::recorded::Recorded;
@@ -57,22 +55,6 @@ impl<D: Disk> SharedVolume<D> {
         if self.broken_off.is_none() {
             self.broken_off = Some(self.volume.appended());
         }
-    }
-
-    /// The log has halted by this fault, and so does the volume, unless it has halted before.
-    pub(crate) fn halt_for_log(&mut self, fault: Fault)
-        requires stands { Stands D.Disk self.old }
-        ensures halts { Halts (standing D.Disk) (λ v. v.points) self.old self.new }
-        ensures volume { self.new.volume ≡ record self.old.volume { halted = halted_by fault self.old.volume.halted } }
-        ensures broken_off { self.new.broken_off ≡ self.old.broken_off }
-    {
-        if self.volume.halted().is_some() {
-            return;
-        }
-        // Each syncpoint takes 36 bytes of the log's text, whose end has 64 bits: one more can be counted.
-        let _ = self.volume.text_end();
-        self.points += 1;
-        self.volume.halt(fault);
     }
 
     /// The volume, with the entries that weren't handed out.

@@ -29,4 +29,4 @@ returns-clause-write g c n k =
 pub halt_for_log-requires : goal.halt_for_log-requires
 halt_for_log-requires g c =
     let e = c.take_group-group.ensures in
-    may_halt g.D.Disk c.args.shared.now c.args.log.now c.requires.running c.take_group-group.new.self c.take_group-group.result (record { bytes = e.text.0; last = e.last.0; room = e.room; parts = e.parts }) c.requires.together
+    record { stands = may_halt g.D.Disk c.args.shared.now c.args.log.now c.requires.running c.take_group-group.new.self c.take_group-group.result (record { bytes = e.text.0; last = e.last.0; room = e.room; parts = e.parts }) c.requires.together }

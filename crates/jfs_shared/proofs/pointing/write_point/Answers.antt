@@ -5,12 +5,12 @@ use Rattle.jfs_shared.proofs.pointing.write_point.Goals as goal
 
 pub returns-in-Ok-clause-point : goal.returns-in-Ok-clause-point
 returns-in-Ok-clause-point g c n k =
-    pointed_both g.D.Disk c.args.shared.now c.args.log.now c.requires.running.0 c.reach.new.self.text c.reach.new.self.bytes (c.reach.ensures ∙ c.appended.ensures ∙ ap (λ (p : Parts). p.appended) c.take_point.ensures.parts) c.appended.result-range c.requires.empty c.requires.told c.take_point.new.self c.take_point.ensures.parts n k
+    pointed_both g.D.Disk c.args.shared.now c.args.log.now c.requires.running.0 c.reach.new.self.text c.reach.new.self.bytes (c.reach.ensures ∙ c.appended.ensures ∙ ap (λ (p : Parts). p.appended) c.take_point.ensures.parts) (omega (arith, c.appended.type_inv, c.appended.ensures, ap (λ (p : Parts). p.appended) c.take_point.ensures.parts)) c.requires.empty c.requires.told c.take_point.new.self c.take_point.ensures.parts n k
     c.know_points.new.self c.know_points.ensures.parts c.write.new.self c.in-Ok.ensures.written
 
 pub returns-in-Err-clause-point : goal.returns-in-Err-clause-point
 returns-in-Err-clause-point g c n k =
-    pointed_lost g.D.Disk c.args.shared.now c.args.log.now c.requires.running.0 c.reach.new.self.text c.reach.new.self.bytes (c.reach.ensures ∙ c.appended.ensures ∙ ap (λ (p : Parts). p.appended) c.take_point.ensures.parts) c.appended.result-range c.requires.empty c.requires.told c.take_point.new.self c.take_point.ensures.parts n k
+    pointed_lost g.D.Disk c.args.shared.now c.args.log.now c.requires.running.0 c.reach.new.self.text c.reach.new.self.bytes (c.reach.ensures ∙ c.appended.ensures ∙ ap (λ (p : Parts). p.appended) c.take_point.ensures.parts) (omega (arith, c.appended.type_inv, c.appended.ensures, ap (λ (p : Parts). p.appended) c.take_point.ensures.parts)) c.requires.empty c.requires.told c.take_point.new.self c.take_point.ensures.parts n k
     c.reach.new.self c.halt_for_log.new.self c.halt_for_log.ensures.halts c.write.new.self c.in-Err.why.fault c.in-Err.ensures.lost
 
 pub write-requires-clause-later : goal.write-requires-clause-later
@@ -38,4 +38,9 @@ pub halt_for_log-requires : goal.halt_for_log-requires
 halt_for_log-requires g c =
     let t = c.requires.together in
     let n = t.0 in
-    (n.base, n.list, length n.list, length n.list, n.points ++ length n.list ∷ [], n.known, stands g.D.Disk c.args.shared.now c.args.log.now c.requires.running c.reach.new.self.text c.reach.new.self.bytes (c.reach.ensures ∙ c.appended.ensures ∙ ap (λ (p : Parts). p.appended) c.take_point.ensures.parts) c.appended.result-range c.requires.empty c.requires.told c.take_point.new.self c.take_point.ensures.parts n t.1)
+    record { stands = (n.base, n.list, length n.list, length n.list, n.points ++ length n.list ∷ [], n.known, stands g.D.Disk c.args.shared.now c.args.log.now c.requires.running.0 c.reach.new.self.text c.reach.new.self.bytes (c.reach.ensures ∙ c.appended.ensures ∙ ap (λ (p : Parts). p.appended) c.take_point.ensures.parts) (omega (arith, c.appended.type_inv, c.appended.ensures, ap (λ (p : Parts). p.appended) c.take_point.ensures.parts)) c.requires.empty c.requires.told c.take_point.new.self c.take_point.ensures.parts n t.1) }
+
+pub overflow_add-shared : goal.overflow_add-shared
+overflow_add-shared g c =
+    let m = meets g.D.Disk c.args.shared.now c.args.log.now c.requires.running.0 c.requires.empty c.requires.told c.requires.room c.requires.together in
+    omega (arith, m.points, c.requires.room)
