@@ -32,7 +32,7 @@ use Rattle.jfs_turns.specs.Passes as passes
 use Rattle.jfs_turns.specs.Passes.{End, AtEnd}
 use Rattle.jfs_turns.specs.declared.turns.Pass.{Pass}
 use Rattle.jfs_server.specs.Served.{standing, log_standing, client_of}
-use Rattle.jfs_server.specs.Stopped.{AnyRose, GoesOn, IsEndOf, IsStopped}
+use Rattle.jfs_server.specs.Stopped.{AnyRose, GoesOn, IsEndOf, IsStopped, HaltsAs}
 use Rattle.jfs_server.specs.declared.served.ServedVolume.{ServedVolume}
 use Rattle.jfs_server.specs.declared.stopping.Stopped.{Stopped}
 
@@ -42,6 +42,10 @@ none_some f e = absurd (cc)
 halted_runs : (fault : Fault) (halted : Option Fault) → halted_by fault halted ≡ None → ⊥
 halted_runs fault None e = none_some fault (sym e)
 halted_runs fault (Some first) e = none_some first (sym e)
+
+pub entries_of : (log : Option Fault) (old mid : Parts) → HaltsAs log old mid → mid.entries ≡ old.entries
+entries_of None old mid h = ap (λ (p : Parts). p.entries) h
+entries_of (Some fault) old mid h = ap (λ (p : Parts). p.entries) h
 
 module _ {D : Type 0} (d : Ghosts D) (ps : List (Pass (ServedVolume D) (SharedLog D d) Recorded)) (v : ServedVolume D) (y : SharedLog D d) (at_end : AtEnd client_of (standing d) (log_standing d) ps v y) where
   abbrev end : End Recorded
@@ -82,9 +86,16 @@ module _ {D : Type 0} (d : Ghosts D) (ps : List (Pass (ServedVolume D) (SharedLo
   over (inr risen) = inr (rose risen)
 
   -- the volume as it is handed out
-  record HandedOut (new : Parts) (halted : Option Fault) : Type 0 where
+  pub record HandedOut (new : Parts) (halted : Option Fault) : Type 0 where
     pub is : new ≡ record old { halted = halted; entries = [] }
     pub halts : (halted ≡ old.halted) × (y.side.halted ≡ None) ⊎ ((fault : Fault) × (y.side.halted ≡ Some fault) × (halted ≡ halted_by fault old.halted))
+
+  pub handed_out : (mid new : Parts) → HaltsAs y.side.halted old mid → new ≡ record mid { entries = [] } → HandedOut new mid.halted
+  handed_out mid new halts is = by y.side.halted refl halts
+    where
+      by : (log : Option Fault) → y.side.halted ≡ log → HaltsAs log old mid → HandedOut new mid.halted
+      by None same h = record { is = is ∙ ap (λ (p : Parts). record p { halted = mid.halted; entries = [] }) h; halts = inl (ap (λ (p : Parts). p.halted) h, same) }
+      by (Some fault) same h = record { is = is ∙ ap (λ (p : Parts). record p { halted = mid.halted; entries = [] }) h; halts = inr (fault, same, ap (λ (p : Parts). p.halted) h) }
 
   runs_now : (new : Parts) (halted : Option Fault) → HandedOut new halted → (new.halted ≡ None) ⊎ (Rose m.faults old.faults ⊎ Rose m.log.faults log_faults)
   runs_now new halted h = by h.halts
@@ -104,6 +115,12 @@ module _ {D : Type 0} (d : Ghosts D) (ps : List (Pass (ServedVolume D) (SharedLo
       by (inl (same, runs)) = runs
       by (inr (fault, halts, is)) = absurd (halted_runs fault old.halted (sym is ∙ sym (ap (λ (p : Parts). p.halted) h.is) ∙ none))
 
+  abbrev s : Super
+  s = super_of (page_of (image_of end.base) 8)
+
+  abbrev page : ℕ → List ℕ
+  page = page_of (image_of end.base)
+
   served_now : (new : Parts) (halted : Option Fault) → HandedOut new halted → d.tells → IfConsistent end.base (λ s page. IsServed s page v.shared.broken_off end.list new)
   served_now new halted h t consistent =
       subst (λ (p : Parts). IsServed s page v.shared.broken_off end.list p) (sym h.is) record {
@@ -113,12 +130,6 @@ module _ {D : Type 0} (d : Ghosts D) (ps : List (Pass (ServedVolume D) (SharedLo
         goes_on = handed v.shared.broken_off settled.goes_on;
       }
     where
-      abbrev s : Super
-      s = super_of (page_of (image_of end.base) 8)
-
-      abbrev page : ℕ → List ℕ
-      page = page_of (image_of end.base)
-
       mid : Parts
       mid = record old { halted = halted }
 

@@ -1,9 +1,7 @@
 -- What a commit or a syncpoint makes of both values, in the words of many clients' calls.
-use Rattle.std.proofs.Common.{◌≡◌, ◌≤◌, ℕ, suc, List, [], ◌∷◌, ◌++◌, length, append-nil, Unit, Result, Ok, Err, refl, sym, ap, arith}
+use Rattle.std.proofs.Common.{◌≡◌, ◌≤◌, ℕ, suc, List, [], ◌∷◌, ◌++◌, length, append-nil, refl, sym, ap, arith}
 use Rattle.std.proofs.lemmas.List.{length-append}
 use Rattle.jfs_disk.specs.declared.disk.Disk.{Ghosts}
-use Rattle.jfs_disk.specs.declared.disk.Fault.{Fault}
-use Rattle.jfs_logpages.specs.declared.fault.LogFault.{LogFault}
 use Rattle.jfs_groups.specs.declared.log.SharedLog.{SharedLog}
 use Rattle.jfs_turns.specs.Lists.{IsPrefix}
 use Rattle.jfs_serving.specs.Room.{Seen, AreOf, AreTogether, HasRoom, MakesRoom}
@@ -32,8 +30,8 @@ module _ {D : Type 0} (d : Ghosts D) (x : SharedVolume D) (y : SharedLog D d) wh
     abbrev Makes : Type 0
     Makes = MakesRoom (standing d) (log_standing d) counted (record { shared = x }) y (record { shared = x' }) y'
 
-    pub commit_makes : (result : Result (Unit {0}) LogFault) → shared.CommitIs (shared_standing d) (log_standing d) x y x' y' result → Makes
-    commit_makes (Ok done) c = λ n k. let both = c (seen n) (are n k) in (
+    pub committed : ((n : shared.Seen) → shared.AreOf (shared_standing d) (log_standing d) n x y → shared.Committed (shared_standing d) (log_standing d) n x' y') → Makes
+    committed c = λ n k. let both = c (seen n) (are n k) in (
         n.points,
         record {
           told = length n.list;
@@ -52,7 +50,9 @@ module _ {D : Type 0} (d : Ghosts D) (x : SharedVolume D) (y : SharedLog D d) wh
           stable_within = k.stable_within;
         },
       )
-    commit_makes (Err why) c = λ n k. let both = c (seen n) (are n k) in (
+
+    pub lost : ((n : shared.Seen) → shared.AreOf (shared_standing d) (log_standing d) n x y → shared.Lost (shared_standing d) (log_standing d) n x' y') → Makes
+    lost c = λ n k. let both = c (seen n) (are n k) in (
         both.0,
         record {
           told = n.told;
@@ -72,8 +72,8 @@ module _ {D : Type 0} (d : Ghosts D) (x : SharedVolume D) (y : SharedLog D d) wh
         },
       )
 
-    pub point_makes : (result : Result (Unit {0}) Fault) → shared.PointIs (shared_standing d) (log_standing d) x y x' y' result → Makes
-    point_makes (Ok done) c = λ n k. let both = c (seen n) (are n k) in (
+    pub pointed : ((n : shared.Seen) → shared.AreOf (shared_standing d) (log_standing d) n x y → shared.Pointed (shared_standing d) (log_standing d) n x' y') → Makes
+    pointed c = λ n k. let both = c (seen n) (are n k) in (
         n.points ++ length n.list ∷ [],
         record {
           told = length n.list;
@@ -92,7 +92,9 @@ module _ {D : Type 0} (d : Ghosts D) (x : SharedVolume D) (y : SharedLog D d) wh
           stable_within = omega (arith, length-append n.points (length n.list ∷ []));
         },
       )
-    point_makes (Err fault) c = λ n k. let p = c (seen n) (are n k) in (
+
+    pub partly : ((n : shared.Seen) → shared.AreOf (shared_standing d) (log_standing d) n x y → shared.PartlyPointed (shared_standing d) (log_standing d) n x' y') → Makes
+    partly c = λ n k. let p = c (seen n) (are n k) in (
         p.points_now,
         record {
           told = p.told_now;

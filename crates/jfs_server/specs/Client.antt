@@ -1,5 +1,5 @@
 -- A client of a server, and what a call makes of it.
-use Rattle.std.specs.Prelude.{◌≡◌, ◌×◌, ◌⊎◌, ◌∷◌, ◌++◌, ◌||◌, ◌-◌, [], ℕ, Bool, true, false, List, length, min, Option, Some, None}
+use Rattle.std.specs.Prelude.{◌≡◌, ◌⊎◌, ◌∷◌, ◌++◌, ◌||◌, ◌-◌, [], ℕ, Bool, true, false, List, length, min, Option, Some, None}
 use Rattle.jfs_bits.specs.declared.descriptor.Moment.{Moment}
 use Rattle.jfs_disk.specs.declared.disk.Disk.{Ghosts}
 use Rattle.jfs_groups.specs.declared.log.SharedLog.{SharedLog}

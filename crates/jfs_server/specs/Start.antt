@@ -1,5 +1,5 @@
 -- What a server begins with.
-use Rattle.std.specs.Prelude.{◌≡◌, ◌<◌, ◌×◌, ◌^◌, ℕ, List, length}
+use Rattle.std.specs.Prelude.{◌≡◌, ◌<◌, ◌^◌, ℕ, List, length}
 use Rattle.atomic_table.specs.Seated.{TableId}
 use Rattle.jfs_disk.specs.Image.{Image}
 use Rattle.jfs_disk.specs.declared.disk.Disk.{Ghosts}

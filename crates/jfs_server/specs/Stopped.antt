@@ -1,12 +1,14 @@
 -- What a server leaves once all its passes are back.
-use Rattle.std.specs.Prelude.{◌≡◌, ◌⊎◌, ◌≤◌, ℕ, suc, Bool, false, List, [], length, Option, None}
+use Rattle.std.specs.Prelude.{◌≡◌, ◌⊎◌, ◌≤◌, ℕ, suc, Bool, false, List, [], length, Option, Some, None}
 use mathlib.Core.Option.{some}
 use lib.ListN.{get_elem?}
 use Rattle.jfs_bits.specs.Count.{Rose}
 use Rattle.jfs_disk.specs.declared.disk.Disk.{Ghosts}
+use Rattle.jfs_disk.specs.declared.disk.Fault.{Fault}
 use Rattle.jfs_groups.specs.Start.{Grows}
 use Rattle.jfs_groups.specs.declared.log.SharedLog.{SharedLog}
 use Rattle.jfs_legal.specs.served.specs.call.specs.Lent.{AreBoth}
+use Rattle.jfs_legal.specs.served.specs.crash_core.specs.Step.{halted_by}
 use Rattle.jfs_legal.specs.served.specs.halves.specs.Parts.{Parts}
 use Rattle.jfs_legal.specs.served.specs.volume_calls.specs.Together.{log_parts}
 use Rattle.jfs_shared.specs.Base.{MountStart, start_of}
@@ -54,3 +56,10 @@ pub record IsStopped {D : Type 0} (d : Ghosts D) (passes : List (Pass (ServedVol
   pub base_is : (i : ℕ) (p : Pass (ServedVolume D) (SharedLog D d) Recorded) → get_elem? passes i ≡ some p → suc i ≡ length passes → p.seat.me.0.base ≡ base
   pub ends : IsEndOf d (start_of base) x
   pub served : d.tells → IfConsistent base (λ s page. IsServed s page x.broken_off list x.mounted.volume)
+
+-- ---- for the prover
+
+-- where the log has halted, so does the volume
+abbrev pub HaltsAs : Option Fault → Parts → Parts → Type 0
+HaltsAs None old new = new ≡ old
+HaltsAs (Some fault) old new = new ≡ record old { halted = halted_by fault old.halted }

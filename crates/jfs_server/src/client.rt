@@ -1,6 +1,6 @@
 //! One of a server's clients, which does a script's calls.
 
-ghost use Rattle.std.specs.Prelude.{◌≡◌, ◌∷◌, ◌++◌, ◌||◌, [], IfSome, false, Some};
+ghost use Rattle.std.specs.Prelude.{◌≡◌, ◌∷◌, ◌++◌, ◌||◌, [], false, Some};
 ghost use Rattle.jfs_server.specs.Client.{is_waiting, has_failed};
 
 use crate::server::{Server, ServerPass};
@@ -22,7 +22,7 @@ pub struct Client<'a, D: Disk, G> {
     waits: Vec<bool>,
     /// Whether one of these couldn't be.
     failed: bool,
-    ghost of: { IfSome pass (λ p. p.seat.table_id ≡ server.turns.table.shared.table_id) },
+    ghost of: { (p : _) → pass ≡ Some p → p.seat.table_id ≡ server.now.turns.table.shared.table_id },
 }
 
 impl<'a, D: Disk, G: Gate> Client<'a, D, G> {
@@ -50,8 +50,8 @@ impl<'a, D: Disk, G: Gate> Client<'a, D, G> {
 
     /// Its pass, whether each of its entries had to be made durable, and whether one couldn't be.
     pub fn finish(self) -> (ServerPass<D>, Vec<bool>, bool)
-        requires { (pass : _) × (self.pass ≡ Some pass) }
-        ensures { (self.pass ≡ Some result.0) × (result.1 ≡ self.waits) × (result.2 ≡ self.failed) }
+        requires { (pass : _) × (self.entry.pass ≡ Some pass) }
+        ensures { (self.entry.pass ≡ Some result.0) × (result.1 ≡ self.entry.waits) × (result.2 ≡ self.entry.failed) }
     {
         let Client {
             server: _,

@@ -3,14 +3,15 @@
 ghost use Rattle.std.specs.Prelude.{◌<◌, length};
 ghost use Rattle.jfs_turns.specs.Passes.{ArePasses, AtEnd};
 ghost use Rattle.jfs_server.specs.Served.{standing, log_standing, client_of};
-ghost use Rattle.jfs_server.specs.Stopped.{IsStopped};
+ghost use Rattle.jfs_server.specs.Stopped.{HaltsAs, IsStopped};
 
 use crate::served::ServedVolume;
 use crate::server::{Server, ServerPass};
-use jfs_disk::Disk;
+use jfs_disk::{Disk, Fault};
 use jfs_groups::SharedLog;
 use jfs_legal::unmount::Mounted;
 use jfs_plain::Entry;
+use jfs_volume_calls::volume::Volume;
 
 /// What a server leaves: the volume, still mounted, and the calls of all its clients in the order in which they were done.
 #[derive(Drop)]
@@ -39,9 +40,7 @@ fn hand_out<D: Disk>(volume: ServedVolume<D>, log: SharedLog<D>) -> Stopped<D>
 {
     let broken_off = volume.shared.broken_off();
     let mut volume = volume.shared.into_volume();
-    if let Some(fault) = log.side.halted() {
-        volume.halt(fault);
-    }
+    halt_as(&mut volume, log.side.halted());
     let history = volume.take_entries();
     Stopped {
         mounted: Mounted {
@@ -50,5 +49,15 @@ fn hand_out<D: Disk>(volume: ServedVolume<D>, log: SharedLog<D>) -> Stopped<D>
         },
         history,
         broken_off,
+    }
+}
+
+/// Where the log has halted, so does the volume.
+fn halt_as<D: Disk>(volume: &mut Volume<D>, halted: Option<Fault>)
+    ensures { HaltsAs halted volume.old volume.new }
+{
+    match halted {
+        Some(fault) => volume.halt(fault),
+        None => {}
     }
 }
