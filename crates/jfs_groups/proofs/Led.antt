@@ -8,17 +8,18 @@ use Rattle.jfs_turns.specs.Views.{Seated}
 use Rattle.jfs_turns.specs.Standing.{Standing, LogStands}
 use Rattle.jfs_turns.specs.Told.{raised}
 use Rattle.jfs_turns.specs.declared.view.View.{View}
-use Rattle.jfs_groups.specs.Collects.{KeepsLog, Collects}
+use Rattle.jfs_groups.specs.Collects.{KeepsLog, KeepsCounts, Collects}
+use Rattle.jfs_groups.specs.Start.{LogStart}
 use Rattle.jfs_groups.specs.Commit.{GoesOn}
 use Rattle.jfs_groups.proofs.Views.{onwards, given_log}
 use Rattle.jfs_groups.proofs.Leading.{max_is, stands_at}
 
-prefix_long : {A : Type 0} (xs ys : List A) → IsPrefix xs ys → length xs ≤ length ys
+pub prefix_long : {A : Type 0} (xs ys : List A) → IsPrefix xs ys → length xs ≤ length ys
 prefix_long xs ys p = omega (arith, ap (λ l. length l) p.1, length-append xs p.0)
 
-module _ {V L E : Type 0} (client : E → ℕ) (logs : E → Option (List Noted)) (ring : Base → ℕ) where
+module _ {V L E : Type 0} (client : E → ℕ) (logs : E → Option (List Noted)) (start : Base → LogStart) where
   -- v before the group was taken, w with it, x once the count is raised to the list's length
-  pub raised_stands : (of_log : Standing L E) (y : L) (v : View E) (m m' : Seated V L E) (n : ℕ) (group : GroupText) → GoesOn client v m.0 → Collects logs ring v m.0 group → v.log_durable ≤ length v.log_list → n ≡ group.last → raised n m m'
+  pub raised_stands : (of_log : Standing L E) (y : L) (v : View E) (m m' : Seated V L E) (n : ℕ) (group : GroupText) → GoesOn client v m.0 → Collects logs start v m.0 group → v.log_durable ≤ length v.log_list → n ≡ group.last → raised n m m'
       → of_log y v.base m.0.list (length m.0.list) (length m.0.list) v.log_points v.log_stable → LogStands of_log y m'.0
   raised_stands of_log y v m m' n group goes c low is r s =
       let all : n ≡ length m.0.list = is ∙ c.group.last in
@@ -33,8 +34,8 @@ module _ {V L E : Type 0} (client : E → ℕ) (logs : E → Option (List Noted)
 
 module _ {L E : Type 0} (client : E → ℕ) (of_log : Standing L E) where
   -- the log has failed: the log side stands for its counts
-  pub failed_stands : (y : L) (v w u : View E) → GoesOn client v w → GoesOn client w u → KeepsLog v w → KeepsLog w u → of_log y v.base u.log_list u.taken v.log_durable v.log_points v.log_stable → LogStands of_log y u
-  failed_stands y v w u a b k l s = stands_at of_log y u v.base u.log_list u.taken v.log_durable v.log_points v.log_stable s (b.base ∙ a.base) refl refl (l.0 ∙ k.0) (l.2 ∙ k.2) (l.1 ∙ k.1)
+  pub failed_stands : (y : L) (v w u : View E) → GoesOn client v w → GoesOn client w u → KeepsLog v w → KeepsCounts w u → of_log y v.base u.log_list u.taken v.log_durable u.log_points v.log_stable → LogStands of_log y u
+  failed_stands y v w u a b k l s = stands_at of_log y u v.base u.log_list u.taken v.log_durable u.log_points v.log_stable s (b.base ∙ a.base) refl refl (l.0 ∙ k.0) refl (l.1 ∙ k.1)
 
 module _ {E : Type 0} (client : E → ℕ) where
   pub failed_goes : (v w u q : View E) → GoesOn client v w → GoesOn client w u → q ≡ record u { log = false } → GoesOn client v q

@@ -1,10 +1,12 @@
 -- What a leader knows between taking a group and writing it.
-use Rattle.std.specs.Prelude.{◌≡◌, ℕ, List, length, Option}
+use Rattle.std.specs.Prelude.{◌≡◌, List, length, Option}
 use Rattle.jfs_logpages.specs.declared.group_text.GroupText.{GroupText}
 use Rattle.jfs_records.specs.Records.{Noted}
 use Rattle.jfs_turns.specs.Lists.{Base, IsPrefix}
 use Rattle.jfs_turns.specs.declared.view.View.{View}
 use Rattle.jfs_groups.specs.Group.{IsGroupOf}
+use Rattle.jfs_groups.specs.Points.{syncs}
+use Rattle.jfs_groups.specs.Start.{LogStart}
 
 module _ {E : Type 0} where
   -- the bounds are the log side's own counts
@@ -15,10 +17,14 @@ module _ {E : Type 0} where
   abbrev pub KeepsLog : View E → View E → Type 0
   KeepsLog v w = (w.log_durable ≡ v.log_durable) × (w.log_stable ≡ v.log_stable) × (w.log_points ≡ v.log_points)
 
+  -- its counts are
+  abbrev pub KeepsCounts : View E → View E → Type 0
+  KeepsCounts v w = (w.log_durable ≡ v.log_durable) × (w.log_stable ≡ v.log_stable)
+
   -- the whole list that the volume had is taken, and the group holds what wasn't taken before
-  pub record Collects (logs : E → Option (List Noted)) (ring : Base → ℕ) (v w : View E) (text : GroupText) : Type 0 where
+  pub record Collects (logs : E → Option (List Noted)) (start : Base → LogStart) (v w : View E) (text : GroupText) : Type 0 where
     pub keeps : KeepsLog v w
     pub all : w.taken ≡ length w.list
     pub log : w.log_list ≡ w.list
     pub before : IsPrefix v.log_list w.list
-    pub group : IsGroupOf logs (ring v.base) w.list v.taken (length v.log_points) text
+    pub group : IsGroupOf logs (start v.base).ring w.list v.taken (syncs v.log_points) text

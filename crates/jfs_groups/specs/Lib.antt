@@ -1,4 +1,6 @@
 pub mod Text
+pub mod Points
+pub mod Start
 pub mod Log
 pub mod Group
 pub mod Written

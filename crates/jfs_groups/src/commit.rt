@@ -27,7 +27,7 @@ pub fn commit_up_to<V: Collected<E>, D: Disk, G: Gate, E: HasRecords, R: Threads
     requires known { n ≤ length pass.seat.me.0.list }
     ensures same { (result.1.seat.table_id ≡ pass.seat.table_id) × (result.1.client ≡ pass.client) × (result.1.calls_left ≡ pass.calls_left) }
     ensures goes_on { GoesOn E.client pass.seat.me.0 result.1.seat.me.0 }
-    ensures committed { IsCommitted (standing D.Disk E.logs E.ring) (λ y. y.side.halted) n pass.seat.me.0 result.1.seat.me.0 result.0 }
+    ensures committed { IsCommitted (standing D.Disk E.logs E.start) (λ y. y.side.halted) n pass.seat.me.0 result.1.seat.me.0 result.0 }
 {
     let client = pass.client();
     let mut pass = pass;

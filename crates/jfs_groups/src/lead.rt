@@ -3,7 +3,7 @@ ghost use Rattle.std.specs.Prelude.{◌≡◌, ◌<◌, ◌≤◌, ℕ, length, 
 ghost use Rattle.jfs_turns.specs.Views.{IsLoneLog};
 ghost use Rattle.jfs_turns.specs.Standing.{LogStands};
 ghost use Rattle.jfs_groups.specs.Log.{standing};
-ghost use Rattle.jfs_groups.specs.Collects.{IsExact, KeepsLog, Collects};
+ghost use Rattle.jfs_groups.specs.Collects.{IsExact, KeepsCounts, Collects};
 ghost use Rattle.jfs_groups.specs.Commit.{GoesOn, IsLed};
 
 use crate::collected::{Collected, HasRecords};
@@ -13,6 +13,7 @@ use jfs_disk::{Disk, Fault};
 use jfs_io::{Gate, Place};
 use jfs_logpages::{GroupText, LogFault};
 use jfs_turns::{LogTurn, Pass, Turns};
+use std::marker::Brand;
 use std::sync::Wait;
 use std::thread::Threads;
 
@@ -24,11 +25,11 @@ fn collect<V: Collected<E>, D: Disk, E: HasRecords, R: Wait>(
 ) -> (GroupText, LogTurn<V, SharedLog<D>, E>)
     requires table { turn.seat.table_id ≡ turns.now.table.shared.table_id }
     requires lone { IsLoneLog turn.seat.me }
-    requires stands { LogStands (standing D.Disk E.logs E.ring) turn.value turn.seat.me.0 }
+    requires stands { LogStands (standing D.Disk E.logs E.start) turn.value turn.seat.me.0 }
     ensures turn { (result.1.seat.table_id ≡ turn.seat.table_id) × (result.1.value ≡ turn.value) × (result.1.client ≡ turn.client) × (result.1.calls_left ≡ turn.calls_left) × IsLoneLog result.1.seat.me }
     ensures goes_on { GoesOn E.client turn.seat.me.0 result.1.seat.me.0 }
     ensures exact { IsExact result.1.seat.me.0 }
-    ensures collects { Collects E.logs E.ring turn.seat.me.0 result.1.seat.me.0 result.0 }
+    ensures collects { Collects E.logs E.start turn.seat.me.0 result.1.seat.me.0 result.0 }
 {
     let mut both = turns.add_volume(rt, turn);
     let durable = both.log.value.side.durable();
@@ -38,7 +39,7 @@ fn collect<V: Collected<E>, D: Disk, E: HasRecords, R: Wait>(
     (group, turns.drop_volume(both))
 }
 
-/// Tells the volume that the log has halted.
+/// Tells the volume that the log has halted. Both sides have a mark of that then.
 fn halt_volume<V: Collected<E>, D: Disk, E: HasRecords, R: Wait>(
     rt: &R,
     turns: &Turns<V, SharedLog<D>, E>,
@@ -47,13 +48,15 @@ fn halt_volume<V: Collected<E>, D: Disk, E: HasRecords, R: Wait>(
 ) -> LogTurn<V, SharedLog<D>, E>
     requires table { turn.seat.table_id ≡ turns.now.table.shared.table_id }
     requires lone { IsLoneLog turn.seat.me }
+    requires counts { (turn.value.points ≤ turn.seat.me.0.log_stable) × (turn.seat.me.0.log_stable ≤ length turn.seat.me.0.log_points) }
     ensures turn { (result.seat.table_id ≡ turn.seat.table_id) × (result.value ≡ turn.value) × (result.client ≡ turn.client) × (result.calls_left ≡ turn.calls_left) × IsLoneLog result.seat.me }
     ensures goes_on { GoesOn E.client turn.seat.me.0 result.seat.me.0 }
     ensures exact { IsExact result.seat.me.0 }
-    ensures keeps { KeepsLog turn.seat.me.0 result.seat.me.0 × (result.seat.me.0.log_list ≡ turn.seat.me.0.log_list) × (result.seat.me.0.taken ≡ turn.seat.me.0.taken) }
+    ensures keeps { KeepsCounts turn.seat.me.0 result.seat.me.0 }
 {
     let mut both = turns.add_volume(rt, turn);
     both.volume.value.halt(fault);
+    turns.mark_syncpoints_as::<Brand>(&mut both);
     turns.drop_volume(both)
 }
 
@@ -67,11 +70,11 @@ pub(crate) fn lead<V: Collected<E>, D: Disk, G: Gate, E: HasRecords, R: Threads 
 ) -> (Committed, Pass<V, SharedLog<D>, E>)
     requires table { turn.seat.table_id ≡ turns.now.table.shared.table_id }
     requires lone { IsLoneLog turn.seat.me }
-    requires stands { LogStands (standing D.Disk E.logs E.ring) turn.value turn.seat.me.0 }
+    requires stands { LogStands (standing D.Disk E.logs E.start) turn.value turn.seat.me.0 }
     requires running { turn.value.side.halted ≡ None }
     ensures same { (result.1.seat.table_id ≡ turn.seat.table_id) × (result.1.client ≡ turn.client) × (result.1.calls_left ≡ turn.calls_left) }
     ensures goes_on { GoesOn E.client turn.seat.me.0 result.1.seat.me.0 }
-    ensures leads { (n : ℕ) → n ≤ length turn.seat.me.0.list → turn.value.side.durable < n → IsLed (standing D.Disk E.logs E.ring) (λ y. y.side.halted) n result.1.seat.me.0 result.0 }
+    ensures leads { (n : ℕ) → n ≤ length turn.seat.me.0.list → turn.value.side.durable < n → IsLed (standing D.Disk E.logs E.start) (λ y. y.side.halted) n result.1.seat.me.0 result.0 }
 {
     let (group, mut turn) = collect(rt, turns, turn);
     gate.pause(rt, Place::BeforeLogWrite, client);

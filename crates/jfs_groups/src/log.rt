@@ -20,7 +20,7 @@ pub struct SharedLog<D: Disk> {
 impl<D: Disk, E: HasRecords> Stands<E> for SharedLog<D> {
     ghost use Rattle.jfs_groups.specs.Log.{standing};
 
-    ghost stands = { standing D.Disk E.logs E.ring };
+    ghost stands = { standing D.Disk E.logs E.start };
 
     ghost count = { λ y. y.points };
 

@@ -3,3 +3,4 @@ pub mod Marking
 pub mod Joining
 pub mod Lending
 pub mod Ending
+pub mod Halting

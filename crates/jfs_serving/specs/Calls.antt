@@ -50,10 +50,6 @@ module _ {E : Type 0} (client : E → ℕ) (entry : E → Entry) (moment : E →
     pub moment_is : moment e ≡ a.now
 
 module _ {V E : Type 0} (stands : Standing V E) where
-  -- it stands for something
-  abbrev pub StandsForSome : V → Type 0
-  StandsForSome x = (base : Base) × (list : List E) × (taken : ℕ) × (told : ℕ) × (points : List ℕ) × (known : ℕ) × stands x base list taken told points known
-
   -- Whatever list it stood for, it stands for that and one entry more, whose number it is.
   abbrev pub Joins : E → ℕ → V → V → Type 0
   Joins e number old new = (base : Base) (list : List E) (taken told : ℕ) (points : List ℕ) (known : ℕ) → stands old base list taken told points known → stands new base (list ++ e ∷ []) taken told points known × (number ≡ suc (length list))

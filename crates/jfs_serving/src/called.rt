@@ -37,7 +37,7 @@ pub fn call_by<V: Serves<D, E>, D: Disk, G: Gate, E: HasRecords, R: Threads + Wa
     requires fits { FitsRequest request.now }
     ensures same { (result.2.seat.table_id ≡ pass.seat.table_id) × (result.2.client ≡ pass.client) }
     ensures keeps { Keeps pass.seat.me.0 result.2.seat.me.0 }
-    ensures called { (HasCalled E.client V.entry V.moment V.stands (standing D.Disk E.logs E.ring) V.answers (λ y. y.side.halted) (asked pass.client line request.now now) result.0 result.1 pass.seat.me.0 result.2.seat.me.0 × (result.2.calls_left + 1 ≡ pass.calls_left))
+    ensures called { (HasCalled E.client V.entry V.moment V.stands (standing D.Disk E.logs E.start) V.answers (λ y. y.side.halted) (asked pass.client line request.now now) result.0 result.1 pass.seat.me.0 result.2.seat.me.0 × (result.2.calls_left + 1 ≡ pass.calls_left))
         ⊎ (HasNoEntry E.client result.0 result.1 pass.seat.me.0 result.2.seat.me.0 × (result.2.calls_left ≡ pass.calls_left)) }
 {
     let (given, pass) = ask_for(rt, alloc, turns, pass, line, request, now);
@@ -81,7 +81,7 @@ fn acknowledge<V: Serves<D, E>, D: Disk, G: Gate, E: HasRecords, R: Threads + Wa
     requires known { IsKnown pass.seat.me.0 given }
     ensures same { (result.2.seat.table_id ≡ pass.seat.table_id) × (result.2.client ≡ pass.client) × (result.2.calls_left ≡ pass.calls_left) }
     ensures goes_on { GoesOn E.client pass.seat.me.0 result.2.seat.me.0 }
-    ensures ends { Ends (standing D.Disk E.logs E.ring) (λ y. y.side.halted) given result.0 result.1 result.2.seat.me.0 }
+    ensures ends { Ends (standing D.Disk E.logs E.start) (λ y. y.side.halted) given result.0 result.1 result.2.seat.me.0 }
 {
     let Given::Replied {
         reply,

@@ -8,7 +8,7 @@ ghost use Rattle.jfs_groups.specs.Log.{standing};
 ghost use Rattle.jfs_serving.specs.Calls.{asked};
 ghost use Rattle.jfs_serving.specs.Held.{IsBothOf, IsSamePass, BothStand, Knows, AsksIs};
 
-use crate::both::{commit_both, point_both};
+use crate::both::{commit_both, halt_both, point_both};
 use crate::serves::{Given, Serves};
 use jfs_bits::Moment;
 use jfs_disk::Disk;
@@ -29,10 +29,10 @@ fn ask<V: Serves<D, E>, D: Disk, E: HasRecords>(
 ) -> Given
     requires of { IsBothOf turns.now.table.shared.table_id both.old }
     requires fits { FitsRequest request.now }
-    requires stand { BothStand V.stands (standing D.Disk E.logs E.ring) both.old }
+    requires stand { BothStand V.stands (standing D.Disk E.logs E.start) both.old }
     ensures of { IsBothOf turns.now.table.shared.table_id both.new }
     ensures same { IsSamePass both.old both.new }
-    ensures log { LogStands (standing D.Disk E.logs E.ring) both.new.log.value (whole both.new) }
+    ensures log { LogStands (standing D.Disk E.logs E.start) both.new.log.value (whole both.new) }
     ensures knows { Knows (whole both.new) }
     ensures goes_on { GoesOn E.client (whole both.old) (whole both.new) }
     ensures asks { AsksIs E.client V.entry V.moment V.stands V.answers (asked client line request.now now) (whole both.new) both.new.volume.value result }
@@ -46,14 +46,14 @@ fn make_room<V: Serves<D, E>, D: Disk, E: HasRecords>(
     both: &mut BothTurns<V, SharedLog<D>, E>,
 )
     requires of { IsBothOf turns.now.table.shared.table_id both.old }
-    requires stand { BothStand V.stands (standing D.Disk E.logs E.ring) both.old }
+    requires stand { BothStand V.stands (standing D.Disk E.logs E.start) both.old }
     ensures of { IsBothOf turns.now.table.shared.table_id both.new }
     ensures same { IsSamePass both.old both.new }
-    ensures stand { BothStand V.stands (standing D.Disk E.logs E.ring) both.new }
+    ensures stand { BothStand V.stands (standing D.Disk E.logs E.start) both.new }
     ensures goes_on { GoesOn E.client (whole both.old) (whole both.new) }
 {
     match both.log.value.side.halted() {
-        Some(fault) => both.volume.value.halt(fault),
+        Some(fault) => halt_both(turns, both, fault),
         None => commit_both(turns, both),
     }
 }
@@ -70,10 +70,10 @@ fn ask_with_room<V: Serves<D, E>, D: Disk, E: HasRecords>(
 ) -> Given
     requires of { IsBothOf turns.now.table.shared.table_id both.old }
     requires fits { FitsRequest request.now }
-    requires stand { BothStand V.stands (standing D.Disk E.logs E.ring) both.old }
+    requires stand { BothStand V.stands (standing D.Disk E.logs E.start) both.old }
     ensures of { IsBothOf turns.now.table.shared.table_id both.new }
     ensures same { IsSamePass both.old both.new }
-    ensures log { LogStands (standing D.Disk E.logs E.ring) both.new.log.value (whole both.new) }
+    ensures log { LogStands (standing D.Disk E.logs E.start) both.new.log.value (whole both.new) }
     ensures knows { Knows (whole both.new) }
     ensures goes_on { GoesOn E.client (whole both.old) (whole both.new) }
     ensures asks { AsksIs E.client V.entry V.moment V.stands V.answers (asked client line request.now now) (whole both.new) both.new.volume.value result }
@@ -94,10 +94,10 @@ fn ask_behind_point<V: Serves<D, E>, D: Disk, E: HasRecords>(
 ) -> Given
     requires of { IsBothOf turns.now.table.shared.table_id both.old }
     requires fits { FitsRequest request.now }
-    requires stand { BothStand V.stands (standing D.Disk E.logs E.ring) both.old }
+    requires stand { BothStand V.stands (standing D.Disk E.logs E.start) both.old }
     ensures of { IsBothOf turns.now.table.shared.table_id both.new }
     ensures same { IsSamePass both.old both.new }
-    ensures log { LogStands (standing D.Disk E.logs E.ring) both.new.log.value (whole both.new) }
+    ensures log { LogStands (standing D.Disk E.logs E.start) both.new.log.value (whole both.new) }
     ensures knows { Knows (whole both.new) }
     ensures goes_on { GoesOn E.client (whole both.old) (whole both.new) }
     ensures asks { AsksIs E.client V.entry V.moment V.stands V.answers (asked client line request.now now) (whole both.new) both.new.volume.value result }
@@ -121,10 +121,10 @@ pub(crate) fn call_lent<V: Serves<D, E>, D: Disk, E: HasRecords>(
 ) -> Given
     requires of { IsBothOf turns.now.table.shared.table_id both.old }
     requires fits { FitsRequest request.now }
-    requires stand { BothStand V.stands (standing D.Disk E.logs E.ring) both.old }
+    requires stand { BothStand V.stands (standing D.Disk E.logs E.start) both.old }
     ensures of { IsBothOf turns.now.table.shared.table_id both.new }
     ensures same { IsSamePass both.old both.new }
-    ensures log { LogStands (standing D.Disk E.logs E.ring) both.new.log.value (whole both.new) }
+    ensures log { LogStands (standing D.Disk E.logs E.start) both.new.log.value (whole both.new) }
     ensures knows { Knows (whole both.new) }
     ensures goes_on { GoesOn E.client (whole both.old) (whole both.new) }
     ensures asks { AsksIs E.client V.entry V.moment V.stands V.answers (asked client line request.now now) (whole both.new) both.new.volume.value result }

@@ -4,7 +4,8 @@ ghost use Rattle.jfs_bits.specs.declared.descriptor.Moment.{Moment};
 ghost use Rattle.jfs_plain.specs.Limits.{FitsRequest};
 ghost use Rattle.jfs_plain.specs.declared.call.Entry.{Entry};
 ghost use Rattle.jfs_groups.specs.Log.{standing};
-ghost use Rattle.jfs_serving.specs.Calls.{Asked, asked, CallIs, StandsForSome};
+ghost use Rattle.jfs_serving.specs.Calls.{Asked, asked, CallIs};
+ghost use Rattle.jfs_groups.specs.Group.{StandsForSome};
 ghost use Rattle.jfs_serving.specs.Room.{AreTogether, MakesRoom};
 ghost use Rattle.jfs_serving.specs.declared.serves.Given.{Given};
 
@@ -56,12 +57,12 @@ pub trait Serves<D: Disk, E: HasRecords>: Collected<E> {
     /// Makes all entries so far durable, where the log doesn't fail. All are taken into groups then. It takes no memory.
     fn commit(&mut self, log: &mut SharedLog<D>)
         requires running { log.old.side.halted ≡ None }
-        requires together { AreTogether Self.stands (standing D.Disk E.logs E.ring) self.old log.old }
-        ensures makes { MakesRoom Self.stands (standing D.Disk E.logs E.ring) Self.count self.old log.old self.new log.new };
+        requires together { AreTogether Self.stands (standing D.Disk E.logs E.start) self.old log.old }
+        ensures makes { MakesRoom Self.stands (standing D.Disk E.logs E.start) Self.count self.old log.old self.new log.new };
 
     /// The same, and a syncpoint where there is room for one, so that the log is empty before it.
     fn point(&mut self, log: &mut SharedLog<D>)
         requires running { log.old.side.halted ≡ None }
-        requires together { AreTogether Self.stands (standing D.Disk E.logs E.ring) self.old log.old }
-        ensures makes { MakesRoom Self.stands (standing D.Disk E.logs E.ring) Self.count self.old log.old self.new log.new };
+        requires together { AreTogether Self.stands (standing D.Disk E.logs E.start) self.old log.old }
+        ensures makes { MakesRoom Self.stands (standing D.Disk E.logs E.start) Self.count self.old log.old self.new log.new };
 }

@@ -48,7 +48,7 @@ fn give_both<V: Serves<D, E>, D: Disk, E: HasRecords>(
 ) -> Pass<V, SharedLog<D>, E>
     requires of { IsBothOf turns.now.table.shared.table_id both }
     requires volume { VolumeStands V.stands both.volume.value (whole both) }
-    requires log { LogStands (standing D.Disk E.logs E.ring) both.log.value (whole both) }
+    requires log { LogStands (standing D.Disk E.logs E.start) both.log.value (whole both) }
     ensures same { (result.seat.table_id ≡ turns.now.table.shared.table_id) × (result.client ≡ both.log.client) × (result.calls_left ≡ both.volume.calls_left) }
     ensures told { result.seat.me.0 ≡ record (whole both) { volume = false; appends = false; log = false } }
 {

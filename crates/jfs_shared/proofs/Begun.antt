@@ -1,5 +1,5 @@
 -- A volume that was just mounted, and its log, stand for no entry.
-use Rattle.std.proofs.Common.{◌≡◌, ◌≤◌, ℕ, ◌-◌, ◌*◌, List, [], ◌∷◌, ◌++◌, length, true, false, None, refl, sym, ap, subst, ◌∙◌, arith, append-nil}
+use Rattle.std.proofs.Common.{◌≡◌, ◌<◌, ◌≤◌, ◌^◌, ℕ, ◌-◌, ◌*◌, List, [], ◌∷◌, ◌++◌, length, true, false, None, refl, inl, sym, ap, subst, ◌∙◌, arith, append-nil}
 use Rattle.std.proofs.lemmas.Bool.{false≢true}
 use Rattle.jfs_disk.specs.Image.{Image, page_of}
 use Rattle.jfs_disk.specs.Crash.{last_of}
@@ -26,7 +26,8 @@ use Rattle.jfs_legal.specs.served.proofs.Told.{told_mount}
 use Rattle.jfs_legal.proofs.Going.{begin_law}
 use Rattle.jfs_legal.proofs.Known.{laws}
 use Rattle.jfs_shared.specs.Shared.{logs_of, HasText, IsShared, IsServed}
-use Rattle.jfs_shared.specs.Start.{IsJustMounted, base_at}
+use Rattle.jfs_shared.specs.Faults.{any_failed}
+use Rattle.jfs_shared.specs.Start.{IsJustMounted, start_at, base_at}
 use Rattle.jfs_shared.proofs.Fresh.{fresh_holds}
 
 module _ (tells crashes : Type 0) (s : Super) (image : Image) (volume : Parts) (log : LogParts) (m : IsJustMounted tells crashes s image volume log) where
@@ -67,8 +68,8 @@ module _ (tells crashes : Type 0) (s : Super) (image : Image) (volume : Parts) (
       let held = laws.mounted s image volume log (told_mount tells crashes t s image volume log m.mount) within consistent in
       record { start = volume; holds = held; runs = m.runs; goes_on = begin_law (volume_of s (page_of image)).area s.logpxd.len volume held.serves }
 
-  pub volume_stands : IsShared tells (base_at s image) [] 0 0 [] 0 0 None volume
-  volume_stands = record {
+  pub volume_stands : (pages faults : ℕ) → volume.faults < 2 ^ 64 → IsShared tells (base_at s image volume pages faults) [] 0 0 [] 0 0 None volume
+  volume_stands pages faults few = record {
     entries = stands.entries;
     appended = stands.appended;
     taken_is = stands.taken;
@@ -79,6 +80,7 @@ module _ (tells crashes : Type 0) (s : Super) (image : Image) (volume : Parts) (
     told_within = omega arith;
     taken_within = omega arith;
     text = text;
+    disk = record { pages = refl; room = refl; few = few; faults = inl refl; calm = inl (ap any_failed stands.entries); runs = inl m.runs; unmarked = λ _. refl };
     size = let same = ap (λ map. length map.states) m.mount.has_maps.0 in let number = m.mount.rest.number in omega (arith, same, number, within);
     served = λ t. subst (λ (k : Super). IsConsistentImage k (page_of image) → IsServed k (page_of image) None [] volume) (sym (m.spelled t)) (served t);
   }
@@ -100,9 +102,12 @@ module _ (tells crashes : Type 0) (s : Super) (image : Image) (volume : Parts) (
   rests : crashes → IsResting (last_of log.past)
   rests c = (m.mount.log_fresh false true (none_told tells) (λ _. c)).resting refl refl
 
-  pub begun_stands : (now : LogData) → now.image ≡ log.image → now.past ≡ log.past → now.last ≡ log.last → now.durable ≡ log.durable → now.points ≡ 0 → now.halted ≡ log.halted → LogStandsFor logs_of tells crashes ring now [] 0 0 0 0
-  begun_stands now same_image past last durable points halted = fresh logs_of tells crashes ring now (fresh_ends ring)
+  pub begun_stands : (now : LogData) → now.image ≡ log.image → now.past ≡ log.past → now.last ≡ log.last → now.durable ≡ log.durable → now.points ≡ 0 → now.halted ≡ log.halted → now.faults < 2 ^ 64 → LogStandsFor logs_of tells crashes (start_at s volume now.pages now.faults).log now [] 0 0 [] 0
+  begun_stands now same_image past last durable points halted few = fresh logs_of tells crashes (start_at s volume now.pages now.faults).log now (fresh_ends ring)
       (ap (λ l. l.ring) last ∙ log_stands.ring)
+      refl
+      refl
+      few
       (ap position_of last ∙ m.together.place ∙ stands.text.place)
       (durable ∙ log_stands.durable)
       points

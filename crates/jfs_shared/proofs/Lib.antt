@@ -1,6 +1,8 @@
 pub mod Text
 pub mod Stepped
 pub mod Served
+pub mod Points
+pub mod Disk
 pub mod Stands
 pub mod Logged
 pub mod Fresh

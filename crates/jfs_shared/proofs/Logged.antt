@@ -1,5 +1,5 @@
 -- The log side behind a SYNCPT, and where groups have taken all.
-use Rattle.std.proofs.Common.{◌≡◌, ℕ, suc, ◌+◌, List, [], ◌∷◌, ◌++◌, length, Option, Some, None, refl, sym, ap, subst, ◌∙◌, arith, append_assoc, append-nil}
+use Rattle.std.proofs.Common.{◌≡◌, ◌<◌, ℕ, suc, ◌+◌, ◌^◌, List, [], ◌∷◌, ◌++◌, length, Option, Some, None, refl, sym, ap, subst, ◌∙◌, arith, append_assoc, append-nil}
 use Rattle.std.proofs.lemmas.List.{length-append}
 use Rattle.std.proofs.lemmas.Grind.{flat_map-append}
 use Rattle.jfs_disk.specs.Image.{Image}
@@ -14,11 +14,14 @@ use Rattle.jfs_records.specs.Records.{Noted}
 use Rattle.jfs_records.specs.Entries.{Item, point, log_records}
 use Rattle.jfs_records.proofs.ReadBack.{records-append}
 use Rattle.jfs_turns.specs.Lists.{IsPrefix}
+use Rattle.jfs_groups.specs.Points.{syncs}
+use Rattle.jfs_groups.specs.Start.{LogStart, Grows}
 use Rattle.jfs_groups.specs.Text.{entries_in, text_with, HoldsText}
 use Rattle.jfs_groups.specs.Log.{LogData, IsRunning, LogStandsFor}
 use Rattle.jfs_groups.specs.Written.{IsGroupWritten, IsGroupLost}
 use Rattle.jfs_groups.proofs.Text.{entries-append, points-append, start_of, zeros_of}
 use Rattle.jfs_groups.proofs.Stands.{lost_stands}
+use Rattle.jfs_shared.proofs.Points.{synced_more, marked_more}
 
 none_some : (fault : Fault) → ◌≡◌ {A = Option Fault} None (Some fault) → ⊥
 none_some fault e = absurd (cc)
@@ -55,41 +58,47 @@ module _ {E : Type 0} (logs : E → Option (List Noted)) where
           ∙ sym (flat_map-append text_of (log_records ring (start_of ring) so_far) (SyncPt 0 ∷ []))
           ∙ ap log_text (sym (records-append ring (start_of ring) so_far (point 0 ∷ []))))
 
-  module _ (tells crashes : Type 0) (ring : ℕ) (l m : LogData) (list : List E) (taken durable points stable : ℕ) (s : LogStandsFor logs tells crashes ring l list taken durable points stable) (runs : l.halted ≡ None) where
-    r : IsRunning logs tells crashes ring l list taken durable points stable
+  module _ (tells crashes : Type 0) (start : LogStart) (l m : LogData) (list : List E) (taken durable : ℕ) (points : List ℕ) (stable : ℕ) (s : LogStandsFor logs tells crashes start l list taken durable points stable) (runs : l.halted ≡ None) where
+    r : IsRunning logs tells crashes start.ring l list taken durable points stable
     r = s.runs runs
 
     -- a SYNCPT that is written, and counted: all entries are durable, and all syncpoints are stable
-    pub pointed_stands : (group : GroupText) → group.bytes.items ≡ log_text (SyncPt 0 ∷ []) → length group.bytes.items ≡ 36 → group.last ≡ length list → IsGroupWritten tells crashes group l m
-        → LogStandsFor logs tells crashes ring (record m { points = m.points + 1 }) list (length list) (length list) (suc points) (suc points)
-    pointed_stands group bytes size last w = record {
+    pub pointed_stands : (group : GroupText) → length list < 2 ^ 64 → group.bytes.items ≡ log_text (SyncPt 0 ∷ []) → length group.bytes.items ≡ 36 → group.last ≡ length list → IsGroupWritten tells crashes group l m
+        → LogStandsFor logs tells crashes start (record m { points = m.points + 1 }) list (length list) (length list) (points ++ length list ∷ []) (suc (length points))
+    pointed_stands group few bytes size last w = record {
+      ring = w.ring ∙ s.ring;
       pages = w.pages ∙ s.pages;
+      few = s.few;
+      faults = subst (λ (n : ℕ). Grows start.faults n) (sym w.faults) s.faults;
       count = w.durable ∙ last;
       stable = omega (arith, w.points, s.stable, r.stable_all);
       runs = λ _. record {
         taken_all = refl;
         durable_all = refl;
-        stable_all = refl;
-        place = omega (arith, w.place, r.place, size);
-        holds = λ t. pointed_holds ring points list l.last m.last l.image m.image group.bytes.items bytes (r.holds t) (w.holds t);
+        unmarked = marked_more points (length list) few ∙ r.unmarked;
+        stable_all = let k : suc (length points) ≡ length (points ++ length list ∷ []) = omega (arith, length-append points (length list ∷ [])) in k;
+        place = omega (arith, w.place, r.place, size, synced_more points (length list) few);
+        holds = λ t. subst (λ (n : ℕ). HoldsText logs start.ring list n m.last m.image) (sym (synced_more points (length list) few))
+            (pointed_holds start.ring (syncs points) list l.last m.last l.image m.image group.bytes.items bytes (r.holds t) (w.holds t));
         resting = λ k. w.resting k (r.resting k);
       };
       halts = λ fault e. absurd (none_some fault (sym w.runs ∙ e));
     }
 
     -- one that isn't: whatever syncpoints there are, no more of them are stable
-    pub lost_point : (fault : Fault) (more : ℕ) → IsGroupLost fault l m → LogStandsFor logs tells crashes ring m list taken durable more stable
-    lost_point fault more w =
-        let s' = lost_stands logs tells crashes ring l m list list taken taken durable points stable fault s w in
-        record { pages = s'.pages; count = s'.count; stable = s'.stable; runs = λ e. absurd (none_some fault (sym e ∙ w.halts)); halts = s'.halts }
+    pub lost_point : (fault : Fault) (more : List ℕ) → IsGroupLost fault l m → LogStandsFor logs tells crashes start m list taken durable more stable
+    lost_point fault more w = lost_stands logs tells crashes start l m list list taken taken durable points more stable fault s w
 
     -- where groups have taken all entries of a list that goes on the log's, it is the log's
-    pub all_taken : (whole : List E) → IsPrefix list whole → taken ≡ length whole → LogStandsFor logs tells crashes ring l whole (length whole) (length whole) points stable
-    all_taken whole front all = subst (λ (es : List E). LogStandsFor logs tells crashes ring l es (length es) (length es) points stable)
+    pub all_taken : (whole : List E) → IsPrefix list whole → taken ≡ length whole → LogStandsFor logs tells crashes start l whole (length whole) (length whole) points stable
+    all_taken whole front all = subst (λ (es : List E). LogStandsFor logs tells crashes start l es (length es) (length es) points stable)
         (whole_front list whole front (let k : length list ≡ length whole = omega (arith, r.taken_all, r.durable_all, all) in k)) (record {
+          ring = s.ring;
           pages = s.pages;
+          few = s.few;
+          faults = s.faults;
           count = s.count ∙ r.durable_all;
           stable = s.stable;
-          runs = λ e. let q = s.runs e in record { taken_all = refl; durable_all = refl; stable_all = q.stable_all; place = q.place; holds = q.holds; resting = q.resting };
+          runs = λ e. let q = s.runs e in record { taken_all = refl; durable_all = refl; unmarked = q.unmarked; stable_all = q.stable_all; place = q.place; holds = q.holds; resting = q.resting };
           halts = s.halts;
         })

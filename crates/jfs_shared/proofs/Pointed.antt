@@ -1,12 +1,15 @@
 -- A syncpoint behind a commit: what volume and log stand for on the way.
 use Rattle.std.proofs.Common.{◌≡◌, ◌≤◌, ℕ, ◌+◌, List, [], length, None, Result, Ok, Err, refl, sym, ap, ◌∙◌, arith, append-nil}
+use Rattle.jfs_bits.specs.Count.{Rose}
 use Rattle.jfs_disk.specs.declared.disk.Disk.{Ghosts}
 use Rattle.jfs_disk.specs.declared.disk.Fault.{Fault}
+use Rattle.jfs_groups.specs.Points.{syncs}
 use Rattle.jfs_groups.specs.declared.log.SharedLog.{SharedLog}
 use Rattle.jfs_call.specs.halves.specs.Parts.{Parts}
 use Rattle.jfs_call.specs.volume.specs.Settles.{Settles, StaysShown}
 use Rattle.jfs_volume_calls.specs.Written.{WritesMaps}
-use Rattle.jfs_shared.specs.Base.{ring_of}
+use Rattle.jfs_legal.specs.served.specs.crash_core.specs.Step.{halted_by}
+use Rattle.jfs_shared.specs.Base.{start_of}
 use Rattle.jfs_shared.specs.Both.{Seen, AreOf, Lost, Committed, Pointed, PartlyPointed, PointIs}
 use Rattle.jfs_shared.specs.Home.{IsSettled}
 use Rattle.jfs_shared.specs.Shared.{standing, log_standing, broken_by}
@@ -30,33 +33,33 @@ module _ {D : Type 0} (d : Ghosts D) (x : SharedVolume D) (y : SharedLog D d) (r
   not_committed x' y' lost = record {
     told_now = n.told;
     durable_now = n.durable;
-    points_now = n.points;
-    volume = lost.0;
-    log = lost.1;
+    points_now = lost.0;
+    volume = lost.2;
+    log = lost.3;
     told_grows = omega arith;
     durable_grows = omega arith;
     told_within = k.told_within;
     durable_within = durable_within;
-    points_grow = ([], append-nil n.points);
+    points_grow = lost.1;
   }
 
   module _ (x' : SharedVolume D) (y' : SharedLog D d) (c : Committed (standing d) (log_standing d) n x' y') (new : Parts) (is : IsSettled x'.volume new) where
     -- pages went home
-    pub home_are : Settles x'.volume new → StaysShown d.tells x'.volume new → (d.tells → WritesMaps x'.volume new) → AreOf (standing d) (log_standing d) (settled n) (record x' { volume = new }) y'
-    home_are settles shown maps = record {
-      volume = home_stands d.tells n.base n.list (length n.list) (length n.list) n.points n.known x'.points x'.broken_off x'.volume c.0 new is settles shown maps;
+    pub home_are : new.faults ≡ x'.volume.faults → new.halted ≡ x'.volume.halted → Settles x'.volume new → StaysShown d.tells x'.volume new → (d.tells → WritesMaps x'.volume new) → AreOf (standing d) (log_standing d) (settled n) (record x' { volume = new }) y'
+    home_are faults halted settles shown maps = record {
+      volume = home_stands d.tells n.base n.list (length n.list) (length n.list) n.points n.known x'.points x'.broken_off x'.volume c.0 new is faults halted settles shown maps;
       log = c.1;
       front = ([], append-nil n.list);
       told_within = omega arith;
     }
 
     -- one of them couldn't
-    pub not_home : (m : ℕ) → m ≡ new.appended → PartlyPointed (standing d) (log_standing d) n (record x' { volume = new; broken_off = broken_by m x'.broken_off }) y'
-    not_home m e = record {
+    pub not_home : (m : ℕ) → m ≡ new.appended → (fault : Fault) → Rose x'.volume.faults new.faults → new.halted ≡ halted_by fault x'.volume.halted → PartlyPointed (standing d) (log_standing d) n (record x' { volume = new; broken_off = broken_by m x'.broken_off }) y'
+    not_home m e fault rose halts = record {
       told_now = length n.list;
       durable_now = length n.list;
       points_now = n.points;
-      volume = stopped_stands d.tells n.base n.list (length n.list) (length n.list) n.points n.known x'.points x'.broken_off x'.volume c.0 m new e is;
+      volume = stopped_stands d.tells n.base n.list (length n.list) (length n.list) n.points n.known x'.points x'.broken_off x'.volume c.0 m new e is fault rose halts;
       log = c.1;
       told_grows = told_within;
       durable_grows = durable_within;
@@ -68,12 +71,12 @@ module _ {D : Type 0} (d : Ghosts D) (x : SharedVolume D) (y : SharedLog D d) (r
     -- ---- a SYNCPT may follow
 
     pub nothing_left : new.text.bytes ≡ []
-    nothing_left = ap (λ (p : Parts). p.text.bytes) is ∙ nothing_waits (ring_of n.base) n.list (length n.list) (length n.points) x'.volume.text c.0.text (omega arith) refl
+    nothing_left = ap (λ (p : Parts). p.text.bytes) is ∙ nothing_waits (start_of n.base).log.ring n.list (length n.list) (syncs n.points) x'.volume.text c.0.text (omega arith) refl
 
     pub same_end : new.text.place ≡ x.volume.text.place + length x.volume.text.bytes
     same_end =
-        let now = reaches (ring_of n.base) n.list (length n.list) (length n.points) x'.volume.text c.0.text (omega arith) in
-        let before = reaches (ring_of n.base) n.list n.taken (length n.points) x.volume.text k.volume.text k.volume.taken_within in
+        let now = reaches (start_of n.base).log.ring n.list (length n.list) (syncs n.points) x'.volume.text c.0.text (omega arith) in
+        let before = reaches (start_of n.base).log.ring n.list n.taken (syncs n.points) x.volume.text k.volume.text k.volume.taken_within in
         let none = ap (λ (b : List ℕ). length b) nothing_left in
         omega (arith, now, before, none, ap (λ (p : Parts). p.text.place) is, ap (λ (p : Parts). length p.text.bytes) is)
 

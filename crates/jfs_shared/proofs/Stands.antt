@@ -1,6 +1,9 @@
 -- What a volume stands for, behind what its calls make of its parts.
-use Rattle.std.proofs.Common.{◌≡◌, ◌≤◌, ℕ, suc, ◌+◌, List, [], ◌∷◌, ◌++◌, length, Bool, Option, false, refl, sym, ap, subst, ◌∙◌, inr, arith}
+use Rattle.std.proofs.Common.{◌≡◌, ◌≤◌, ◌<◌, ℕ, suc, ◌+◌, ◌^◌, List, [], ◌∷◌, ◌++◌, length, Bool, Option, Some, None, false, refl, sym, ap, subst, ◌∙◌, inr, arith}
+use Rattle.std.specs.Prelude.{is_some}
+use Rattle.std.proofs.lemmas.Bool.{false≢true}
 use Rattle.std.proofs.lemmas.List.{length-append}
+use Rattle.jfs_bits.specs.Count.{Rose}
 use Rattle.jfs_bits.specs.declared.descriptor.Moment.{Moment}
 use Rattle.jfs_disk.specs.Image.{page_of}
 use Rattle.jfs_disk.specs.declared.disk.Fault.{Fault}
@@ -14,6 +17,7 @@ use Rattle.jfs_plain.specs.declared.reply.Reply.{Reply}
 use Rattle.jfs_records.specs.Records.{Noted}
 use Rattle.jfs_turns.specs.Lists.{Base}
 use Rattle.jfs_groups.specs.Group.{IsGroupOf}
+use Rattle.jfs_groups.specs.Points.{halt_mark, syncs}
 use Rattle.jfs_call.specs.Answer.{IsAnswered, Keeps}
 use Rattle.jfs_call.specs.Does.{Does}
 use Rattle.jfs_call.specs.declared.outcome.Outcome.TheVariants.{Replied, NeedsLog, NoMemory}
@@ -27,14 +31,22 @@ use Rattle.jfs_volume_calls.specs.Halts.{GroupParts, PointParts}
 use Rattle.jfs_volume_calls.specs.Written.{WritesMaps}
 use Rattle.jfs_volume_calls.proofs.Kept.{group_settles, group_pages, pointed}
 use Rattle.jfs_call.specs.volume.specs.bmap.proofs.Views.{length-each_below}
-use Rattle.jfs_shared.specs.Base.{ring_of, image_of}
+use Rattle.jfs_shared.specs.Base.{start_of, image_of}
 use Rattle.jfs_shared.specs.Calls.{recorded}
+use Rattle.jfs_legal.specs.served.specs.crash_core.specs.Step.{halted_by}
 use Rattle.jfs_shared.specs.Home.{IsSettled}
+use Rattle.jfs_shared.specs.Faults.{IsOfDisk}
 use Rattle.jfs_shared.specs.Shared.{logs_of, entries_in, HasText, IsShared, IsServed, IfConsistent, broken_by}
 use Rattle.jfs_shared.specs.Entries.{Recorded}
 use Rattle.jfs_shared.proofs.Text.{added, reaches, taken_text, joined_text, pointed_text}
+use Rattle.jfs_shared.proofs.Disk.{same_disk, pointed_disk, marked_disk, replied_disk, asked_disk, lacked_disk, home_disk, stopped_disk}
+use Rattle.jfs_shared.proofs.Points.{all_syncs, marked_syncs, synced_more, marked_more}
 use Rattle.jfs_shared.proofs.Stepped.{Stood, Grew}
 use Rattle.jfs_shared.proofs.Served.{served_joined, served_asked, served_lacked, served_failed, served_settled, served_pointed}
+
+pub none_of : (halted : Option Fault) → is_some halted ≡ false → halted ≡ None
+none_of None e = refl
+none_of (Some fault) e = absurd (false≢true (sym e))
 
 entries_more : (list : List Recorded) (e : Recorded) → entries_in (list ++ e ∷ []) ≡ entries_in list ++ e.entry ∷ []
 entries_more [] e = refl
@@ -63,8 +75,8 @@ module _ (tells : Type 0) (base : Base) (list : List Recorded) (taken told : ℕ
   page = page_of (image_of base)
 
   -- nothing of them changes
-  pub alike_stands : (later : Option ℕ) (new : Parts) → Alike old new → (tells → IfConsistent base (λ s page. IsServed s page later list new)) → IsShared tells base list taken told points known made later new
-  alike_stands later new a served = record {
+  pub alike_stands : (later : Option ℕ) (new : Parts) → Alike old new → IsOfDisk (start_of base) points new → (tells → IfConsistent base (λ s page. IsServed s page later list new)) → IsShared tells base list taken told points known made later new
+  alike_stands later new a disk served = record {
     entries = a.entries ∙ h.entries;
     appended = a.appended ∙ h.appended;
     taken_is = a.taken ∙ h.taken_is;
@@ -74,8 +86,9 @@ module _ (tells : Type 0) (base : Base) (list : List Recorded) (taken told : ℕ
     known_is = a.known ∙ h.known_is;
     told_within = h.told_within;
     taken_within = h.taken_within;
-    text = subst (λ (t : Text). HasText (ring_of base) list taken (length points) t) (sym a.text) h.text;
+    text = subst (λ (t : Text). HasText (start_of base).log.ring list taken (syncs points) t) (sym a.text) h.text;
     size = let before = h.size in omega (arith, a.map, a.blocks, before);
+    disk = disk;
     served = served;
   }
 
@@ -96,9 +109,10 @@ module _ (tells : Type 0) (base : Base) (list : List Recorded) (taken told : ℕ
         known_is = g.known ∙ h.known_is;
         told_within = h.told_within;
         taken_within = let w = h.taken_within in omega (arith, w, length-append list (e ∷ []));
-        text = joined_text (ring_of base) list taken (length points) old.text h.text h.taken_within e new.text a.keeps.ring a.keeps.place
+        text = joined_text (start_of base).log.ring list taken (syncs points) old.text h.text h.taken_within e new.text a.keeps.ring a.keeps.place
             (g.bytes ∙ ap (λ (n : ℕ). old.text.bytes ++ added noted n old.text) next) (g.last ∙ next);
         size = let before = h.size in omega (arith, a.keeps.size, a.keeps.blocks, before);
+        disk = replied_disk client line request old new (start_of base) points h.disk reply number waits a;
         served = λ t consistent. served_joined tells crashes t s page broken list (record { caller = record { client = client; line = line }; request = request; now = now }) old new reply number waits noted (h.served t consistent) d;
       },
       a.entry.number_is ∙ a.entry.appended ∙ next,
@@ -128,12 +142,12 @@ module _ (tells : Type 0) (base : Base) (list : List Recorded) (taken told : ℕ
     }
 
     pub asked_stands : IsAnswered client line request old new NeedsLog → Does tells crashes (record { client = client; line = line }) request now old new NeedsLog → Stood old new → IsShared tells base list taken told points known made broken new
-    asked_stands a d g = alike_stands broken new (left a.entry.entries a.entry.appended a.keeps g)
+    asked_stands a d g = alike_stands broken new (left a.entry.entries a.entry.appended a.keeps g) (asked_disk client line request old new (start_of base) points h.disk a)
         (λ t consistent. served_asked tells crashes t s page broken list (record { caller = record { client = client; line = line }; request = request; now = now }) old new (h.served t consistent) d)
 
     pub lacked_stands : (n : ℕ) → n ≡ new.appended → IsAnswered client line request old new NoMemory → Does tells crashes (record { client = client; line = line }) request now old new NoMemory → Stood old new
         → IsShared tells base list taken told points known made (broken_by n broken) new
-    lacked_stands n is a d g = alike_stands (broken_by n broken) new (left a.entry.entries a.entry.appended a.keeps g)
+    lacked_stands n is a d g = alike_stands (broken_by n broken) new (left a.entry.entries a.entry.appended a.keeps g) (lacked_disk client line request old new (start_of base) points h.disk a)
         (λ t consistent. served_lacked tells crashes t s page broken list n (record { caller = record { client = client; line = line }; request = request; now = now }) old new
         (is ∙ a.entry.appended ∙ h.appended) (h.served t consistent) d)
 
@@ -151,8 +165,9 @@ module _ (tells : Type 0) (base : Base) (list : List Recorded) (taken told : ℕ
     known_is = ap (λ (p : Parts). p.known) e ∙ h.known_is;
     told_within = let a = h.told_within in let b = h.taken_within in omega (arith, a, b);
     taken_within = omega arith;
-    text = taken_text (ring_of base) list taken (length points) old.text h.text h.taken_within new.text (ap (λ (p : Parts). p.text.ring) e) (ap (λ (p : Parts). p.text.place) e) (ap (λ (p : Parts). p.text.bytes) e) (ap (λ (p : Parts). p.text.last) e);
+    text = taken_text (start_of base).log.ring list taken (syncs points) old.text h.text h.taken_within new.text (ap (λ (p : Parts). p.text.ring) e) (ap (λ (p : Parts). p.text.place) e) (ap (λ (p : Parts). p.text.bytes) e) (ap (λ (p : Parts). p.text.last) e);
     size = subst (λ (p : Parts). length p.map.states ≤ p.blocks) (sym e) h.size;
+    disk = same_disk (start_of base) points old h.disk new (record { count = ap (λ (p : Parts). p.count) e; room = ap (λ (p : Parts). p.room) e; faults = ap (λ (p : Parts). p.faults) e; entries = ap (λ (p : Parts). p.entries) e; halted = ap (λ (p : Parts). p.halted) e });
     served = λ t consistent. served_settled tells ⊥ t s page broken list old new (group_settles old new parts) (group_pages tells old new parts) (h.served t consistent);
   }
     where
@@ -160,30 +175,38 @@ module _ (tells : Type 0) (base : Base) (list : List Recorded) (taken told : ℕ
       parts = e ∙ ap (λ (p : Parts). record old { taken = p.taken; text = p.text; halted = p.halted }) (sym e)
 
   -- it is the group of what no group has taken
-  pub group_is : (group : GroupText) → group.bytes.items ≡ old.text.bytes → group.last ≡ old.appended → IsWithinRoom old.text.ring old.text.sync old.text.place (length group.bytes.items) → IsGroupOf logs_of (ring_of base) list taken (length points) group
+  pub group_is : (group : GroupText) → group.bytes.items ≡ old.text.bytes → group.last ≡ old.appended → IsWithinRoom old.text.ring old.text.sync old.text.place (length group.bytes.items) → IsGroupOf logs_of (start_of base).log.ring list taken (syncs points) group
   group_is group bytes last room = record {
     last = last ∙ h.appended;
     bytes = bytes ∙ h.text.bytes;
     room = subst (λ (r : ℕ). pages_of (length group.bytes.items) ≤ room_of r) h.text.ring_is room.0;
-    numbers = let n = room.2 in omega (arith, n, ap (λ (b : List ℕ). length b) bytes, reaches (ring_of base) list taken (length points) old.text h.text h.taken_within);
+    numbers = let n = room.2 in omega (arith, n, ap (λ (b : List ℕ). length b) bytes, reaches (start_of base).log.ring list taken (syncs points) old.text h.text h.taken_within);
   }
 
-  -- it halts
-  pub halted_stands : (halted : Option Fault) (new : Parts) → new ≡ record old { halted = halted } → IsShared tells base list taken told points known made broken new
-  halted_stands halted new e = alike_stands broken new (record {
-    entries = ap (λ (p : Parts). p.entries) e;
-    appended = ap (λ (p : Parts). p.appended) e;
-    taken = ap (λ (p : Parts). p.taken) e;
-    told = ap (λ (p : Parts). p.told) e;
-    points = ap (λ (p : Parts). p.points) e;
-    known = ap (λ (p : Parts). p.known) e;
-    text = ap (λ (p : Parts). p.text) e;
-    map = ap (λ (p : Parts). length p.map.states) e;
-    blocks = ap (λ (p : Parts). p.blocks) e;
-  }) (λ t consistent. served_settled tells ⊥ t s page broken list old new (group_settles old new parts) (group_pages tells old new parts) (h.served t consistent))
+  -- the log has halted, and so does the volume
+  pub marked_stands : (fault : Fault) (new : Parts) → old.halted ≡ None → new ≡ record old { halted = Some fault } → IsShared tells base list taken told (points ++ halt_mark ∷ []) known (made + 1) broken new
+  marked_stands fault new runs e = record {
+    entries = ap (λ (p : Parts). p.entries) e ∙ h.entries;
+    appended = ap (λ (p : Parts). p.appended) e ∙ h.appended;
+    taken_is = ap (λ (p : Parts). p.taken) e ∙ h.taken_is;
+    told_is = ap (λ (p : Parts). p.told) e ∙ h.told_is;
+    points_are = omega (arith, h.points_are, length-append points (halt_mark ∷ []));
+    points_is = ap (λ (p : Parts). p.points) e ∙ h.points_is ∙ ap (λ (n : ℕ). suc n) (sym (marked_syncs points));
+    known_is = ap (λ (p : Parts). p.known) e ∙ h.known_is;
+    told_within = h.told_within;
+    taken_within = h.taken_within;
+    text = subst {A = Text × ℕ} (λ z. HasText (start_of base).log.ring list taken z.1 z.0) (λ i. (sym (ap (λ (p : Parts). p.text) e) i, sym (marked_syncs points) i)) h.text;
+    size = subst (λ (p : Parts). length p.map.states ≤ p.blocks) (sym e) h.size;
+    disk = marked_disk (start_of base) points old h.disk fault new e;
+    served = λ t consistent. served_settled tells ⊥ t s page broken list old new (group_settles old new parts) (group_pages tells old new parts) (h.served t consistent);
+  }
     where
       parts : GroupParts old new
       parts = e ∙ ap (λ (p : Parts). record old { taken = p.taken; text = p.text; halted = p.halted }) (sym e)
+
+  -- one more point can be counted
+  pub few_points : old.halted ≡ None → (n : ℕ) → n ≡ old.text.place + length old.text.bytes → n < 2 ^ 64 → made + 1 < 2 ^ 64
+  few_points runs n is small = let end = reaches (start_of base).log.ring list taken (syncs points) old.text h.text h.taken_within in omega (arith, small, is, end, h.points_are, all_syncs points (h.disk.unmarked runs))
 
   -- entries are acknowledged
   pub told_stands : (n : ℕ) (new : Parts) → n ≤ taken → new ≡ record old { view = new.view; dirty = new.dirty; told = n; map = blocks_settled n old.map; freed = still_freed n old.freed }
@@ -198,8 +221,9 @@ module _ (tells : Type 0) (base : Base) (list : List Recorded) (taken told : ℕ
     known_is = ap (λ (p : Parts). p.known) e ∙ h.known_is;
     told_within = within;
     taken_within = h.taken_within;
-    text = subst (λ (t : Text). HasText (ring_of base) list taken (length points) t) (sym (ap (λ (p : Parts). p.text) e)) h.text;
+    text = subst (λ (t : Text). HasText (start_of base).log.ring list taken (syncs points) t) (sym (ap (λ (p : Parts). p.text) e)) h.text;
     size = let before = h.size in omega (arith, before, ap (λ (p : Parts). length p.map.states) e ∙ as_many_states n old.map, ap (λ (p : Parts). p.blocks) e);
+    disk = same_disk (start_of base) points old h.disk new (record { count = ap (λ (p : Parts). p.count) e; room = ap (λ (p : Parts). p.room) e; faults = ap (λ (p : Parts). p.faults) e; entries = ap (λ (p : Parts). p.entries) e; halted = ap (λ (p : Parts). p.halted) e });
     served = λ t consistent. served_settled tells ⊥ t s page broken list old new settles (record { files = ap (λ (p : Parts). p.files) e; view = shows }) (h.served t consistent);
   }
     where
@@ -230,12 +254,12 @@ module _ (tells : Type 0) (base : Base) (list : List Recorded) (taken told : ℕ
     blocks = ap (λ (p : Parts). p.blocks) e;
   }
 
-  pub home_stands : (new : Parts) → IsSettled old new → Settles old new → StaysShown tells old new → (tells → WritesMaps old new) → IsShared tells base list taken told points known made broken new
-  home_stands new e settles shown maps = alike_stands broken new (home_alike new e) (λ t consistent. served_pointed tells ⊥ t s page broken list old new settles shown (maps t) (h.served t consistent))
+  pub home_stands : (new : Parts) → IsSettled old new → new.faults ≡ old.faults → new.halted ≡ old.halted → Settles old new → StaysShown tells old new → (tells → WritesMaps old new) → IsShared tells base list taken told points known made broken new
+  home_stands new e faults halted settles shown maps = alike_stands broken new (home_alike new e) (home_disk (start_of base) points old new h.disk e faults halted) (λ t consistent. served_pointed tells ⊥ t s page broken list old new settles shown (maps t) (h.served t consistent))
 
   -- one of them can't
-  pub stopped_stands : (n : ℕ) (new : Parts) → n ≡ new.appended → IsSettled old new → IsShared tells base list taken told points known made (broken_by n broken) new
-  stopped_stands n new is e = let a = home_alike new e in alike_stands (broken_by n broken) new a
+  pub stopped_stands : (n : ℕ) (new : Parts) → n ≡ new.appended → IsSettled old new → (fault : Fault) → Rose old.faults new.faults → new.halted ≡ halted_by fault old.halted → IsShared tells base list taken told points known made (broken_by n broken) new
+  stopped_stands n new is e fault rose halts = let a = home_alike new e in alike_stands (broken_by n broken) new a (stopped_disk (start_of base) points old new h.disk e fault rose halts)
       (λ t consistent. served_failed tells ⊥ t s page broken list n old new (is ∙ a.appended ∙ h.appended) (h.served t consistent))
 
   -- ---- a SYNCPT
@@ -245,25 +269,26 @@ module _ (tells : Type 0) (base : Base) (list : List Recorded) (taken told : ℕ
   beside new p t consistent = served_settled tells ⊥ t s page broken list old new (pointed old old new (group_settles old old refl) p)
       (record { files = ap (λ (x : Parts). x.files) p; view = λ _ q free. ap (λ (x : Parts). page_of x.view q) p }) (h.served t consistent)
 
-  pub point_stands : (new : Parts) → taken ≡ length list → old.text.bytes ≡ [] → new ≡ with_point old → IsShared tells base list (length list) told (points ++ length list ∷ []) known (made + 1) broken new
-  point_stands new all empty e = record {
+  pub point_stands : (new : Parts) → length list < 2 ^ 64 → taken ≡ length list → old.text.bytes ≡ [] → new ≡ with_point old → IsShared tells base list (length list) told (points ++ length list ∷ []) known (made + 1) broken new
+  point_stands new few all empty e = record {
     entries = ap (λ (p : Parts). p.entries) e ∙ h.entries;
     appended = ap (λ (p : Parts). p.appended) e ∙ h.appended;
     taken_is = ap (λ (p : Parts). p.taken) e ∙ h.appended;
     told_is = ap (λ (p : Parts). p.told) e ∙ h.told_is;
     points_are = omega (arith, h.points_are, length-append points (length list ∷ []));
-    points_is = omega (arith, ap (λ (p : Parts). p.points) e, h.points_is, length-append points (length list ∷ []));
+    points_is = omega (arith, ap (λ (p : Parts). p.points) e, h.points_is, synced_more points (length list) few);
     known_is = ap (λ (p : Parts). p.known) e ∙ h.known_is;
     told_within = let a = h.told_within in let b = h.taken_within in omega (arith, a, b);
     taken_within = omega arith;
-    text = subst (λ (n : ℕ). HasText (ring_of base) list (length list) n new.text) (let k : suc (length points) ≡ length (points ++ length list ∷ []) = omega (arith, length-append points (length list ∷ [])) in k)
-        (pointed_text (ring_of base) list taken (length points) old.text h.text h.taken_within new.text all (ap (λ (p : Parts). p.text.ring) e) (ap (λ (p : Parts). p.text.place) e) (ap (λ (p : Parts). p.text.bytes) e ∙ empty) (ap (λ (p : Parts). p.text.last) e));
+    text = subst (λ (n : ℕ). HasText (start_of base).log.ring list (length list) n new.text) (sym (synced_more points (length list) few))
+        (pointed_text (start_of base).log.ring list taken (syncs points) old.text h.text h.taken_within new.text all (ap (λ (p : Parts). p.text.ring) e) (ap (λ (p : Parts). p.text.place) e) (ap (λ (p : Parts). p.text.bytes) e ∙ empty) (ap (λ (p : Parts). p.text.last) e));
     size = subst (λ (p : Parts). length p.map.states ≤ p.blocks) (sym e) h.size;
+    disk = pointed_disk (start_of base) points old h.disk (points ++ length list ∷ []) new (marked_more points (length list) few) (record { count = ap (λ (p : Parts). p.count) e; room = ap (λ (p : Parts). p.room) e; faults = ap (λ (p : Parts). p.faults) e; entries = ap (λ (p : Parts). p.entries) e; halted = ap (λ (p : Parts). p.halted) e });
     served = λ t consistent. beside new (e ∙ ap (λ (p : Parts). record old { points = p.points; known = p.known; taken = p.taken; text = p.text; halted = p.halted }) (sym e)) t consistent;
   }
 
   -- all are known to be stable
-  pub known_stands : (new : Parts) → new ≡ record old { known = old.points } → IsShared tells base list taken told points (length points) made broken new
+  pub known_stands : (new : Parts) → new ≡ record old { known = old.points } → IsShared tells base list taken told points (syncs points) made broken new
   known_stands new e = record {
     entries = ap (λ (p : Parts). p.entries) e ∙ h.entries;
     appended = ap (λ (p : Parts). p.appended) e ∙ h.appended;
@@ -274,7 +299,8 @@ module _ (tells : Type 0) (base : Base) (list : List Recorded) (taken told : ℕ
     known_is = ap (λ (p : Parts). p.known) e ∙ h.points_is;
     told_within = h.told_within;
     taken_within = h.taken_within;
-    text = subst (λ (t : Text). HasText (ring_of base) list taken (length points) t) (sym (ap (λ (p : Parts). p.text) e)) h.text;
+    text = subst (λ (t : Text). HasText (start_of base).log.ring list taken (syncs points) t) (sym (ap (λ (p : Parts). p.text) e)) h.text;
     size = subst (λ (p : Parts). length p.map.states ≤ p.blocks) (sym e) h.size;
+    disk = same_disk (start_of base) points old h.disk new (record { count = ap (λ (p : Parts). p.count) e; room = ap (λ (p : Parts). p.room) e; faults = ap (λ (p : Parts). p.faults) e; entries = ap (λ (p : Parts). p.entries) e; halted = ap (λ (p : Parts). p.halted) e });
     served = λ t consistent. beside new (e ∙ ap (λ (p : Parts). record old { points = p.points; known = p.known; taken = p.taken; text = p.text; halted = p.halted }) (sym e)) t consistent;
   }

@@ -1,5 +1,5 @@
 -- A group of all that waits: its write, and what volume and log stand for then.
-use Rattle.std.proofs.Common.{◌≡◌, ◌≤◌, ℕ, suc, ◌+◌, ◌*◌, ◌^◌, List, [], ◌∷◌, ◌++◌, length, Option, None, false, refl, sym, ap, subst, ◌∙◌, arith}
+use Rattle.std.proofs.Common.{◌≡◌, ◌≤◌, ◌<◌, ◌⊎◌, ℕ, suc, ◌+◌, ◌*◌, ◌^◌, List, [], ◌∷◌, ◌++◌, length, None, false, sym, ap, subst, ◌∙◌, arith, append_assoc}
 use Rattle.jfs_disk.specs.Image.{page_of}
 use Rattle.jfs_disk.specs.declared.disk.Disk.{Ghosts}
 use Rattle.jfs_disk.specs.declared.disk.Fault.{Fault}
@@ -9,10 +9,13 @@ use Rattle.jfs_logpages.specs.Group.{pages_of, room_of, position_of}
 use Rattle.jfs_logpages.specs.Records.{log_text}
 use Rattle.jfs_records.specs.Entries.{point}
 use Rattle.jfs_records.proofs.ReadBack.{length-items}
-use Rattle.jfs_groups.specs.Group.{IsGroupOf}
+use Rattle.jfs_turns.specs.Lists.{IsPrefix}
+use Rattle.jfs_groups.specs.Group.{IsGroupOf, Halts}
+use Rattle.jfs_groups.specs.Points.{halt_mark, syncs}
 use Rattle.jfs_groups.specs.Log.{LogStandsFor, data_of}
 use Rattle.jfs_groups.specs.Written.{IsGroupWritten, IsGroupLost}
 use Rattle.jfs_groups.specs.declared.log.SharedLog.{SharedLog}
+use Rattle.jfs_groups.proofs.Leading.{behind_all}
 use Rattle.jfs_groups.proofs.Stands.{may_write, written_stands, lost_stands}
 use Rattle.jfs_call.specs.halves.specs.Parts.{Parts}
 use Rattle.jfs_call.specs.volume.specs.bmap.specs.States.{blocks_settled}
@@ -20,14 +23,15 @@ use Rattle.jfs_call.specs.volume.specs.Room.{IsWithinRoom}
 use Rattle.jfs_call.specs.volume.specs.Settle.{with_point}
 use Rattle.jfs_call.specs.volume.specs.Settles.{is_freed}
 use Rattle.jfs_call.specs.volume.specs.Told.{still_freed}
-use Rattle.jfs_shared.specs.Base.{ring_of}
+use Rattle.jfs_shared.specs.Base.{start_of, log_start_of}
 use Rattle.jfs_shared.specs.Both.{Seen, AreOf, AreTogether, Written, Lost, Committed, Pointed, PartlyPointed}
-use Rattle.jfs_shared.specs.Shared.{logs_of, IsShared, standing, log_standing}
+use Rattle.jfs_shared.specs.Shared.{logs_of, IsShared, Stands, standing, log_standing}
 use Rattle.jfs_shared.specs.declared.point_group.PointGroup.{PointGroup}
 use Rattle.jfs_shared.specs.declared.shared.SharedVolume.{SharedVolume}
 use Rattle.jfs_shared.proofs.Logged.{all_taken, pointed_stands, lost_point}
+use Rattle.jfs_shared.proofs.Points.{all_syncs, synced_more}
 use Rattle.jfs_shared.proofs.Text.{reaches}
-use Rattle.jfs_shared.proofs.Stands.{group_stands, group_is, halted_stands, told_stands, point_stands, known_stands}
+use Rattle.jfs_shared.proofs.Stands.{group_stands, group_is, told_stands, point_stands, known_stands}
 
 -- what a volume hands out as a group
 pub record IsTakenFrom (old new : Parts) (group : GroupText) : Type 0 where
@@ -36,12 +40,15 @@ pub record IsTakenFrom (old new : Parts) (group : GroupText) : Type 0 where
   pub room : IsWithinRoom old.text.ring old.text.sync old.text.place (length group.bytes.items)
   pub parts : new ≡ record old { taken = old.appended; text = record old.text { place = old.text.place + length old.text.bytes; bytes = []; ends = [] } }
 
+prefix_on : (xs more ys : List ℕ) → IsPrefix (xs ++ more) ys → IsPrefix xs ys
+prefix_on xs more ys (rest, e) = (more ++ rest, sym (append_assoc xs more rest) ∙ e)
+
 module _ {D : Type 0} (d : Ghosts D) (x : SharedVolume D) (y : SharedLog D d) (runs : y.side.halted ≡ None) where
   -- ---- a group
 
   module _ (new : Parts) (group : GroupText) (t : IsTakenFrom x.volume new group) where
     module _ (n : Seen) (k : AreOf (standing d) (log_standing d) n x y) where
-      is_group : IsGroupOf logs_of (ring_of n.base) n.list n.taken (length n.points) group
+      is_group : IsGroupOf logs_of (start_of n.base).log.ring n.list n.taken (syncs n.points) group
       is_group = group_is d.tells n.base n.list n.taken n.told n.points n.known x.points x.broken_off x.volume k.volume group t.bytes t.last t.room
 
       taken : IsShared d.tells n.base n.list (length n.list) n.told n.points n.known x.points x.broken_off new
@@ -49,26 +56,32 @@ module _ {D : Type 0} (d : Ghosts D) (x : SharedVolume D) (y : SharedLog D d) (r
 
     pub may : AreTogether (standing d) (log_standing d) x y
         → (pages_of (length group.bytes.items) ≤ room_of y.side.last.ring) × (y.side.durable ≤ group.last) × (position_of y.side.last + length group.bytes.items ≤ 4080 * 2 ^ 32)
-    may (n, k) = may_write logs_of d.tells d.tells_crashes (ring_of n.base) (data_of d y) n.log_list n.list n.taken n.durable (length n.points) n.stable group k.front k.log runs (is_group n k)
+    may (n, k) = may_write logs_of d.tells d.tells_crashes (log_start_of n.base) (data_of d y) n.log_list n.list n.taken n.durable n.points n.stable group k.front k.log runs (is_group n k)
 
     pub written : (y' : SharedLog D d) → IsGroupWritten d.tells d.tells_crashes group (data_of d y) (data_of d y') → (n : Seen) → AreOf (standing d) (log_standing d) n x y → Written (standing d) (log_standing d) n (record x { volume = new }) y'
     written y' w n k = (
       taken n k,
-      written_stands logs_of d.tells d.tells_crashes (ring_of n.base) (data_of d y) (data_of d y') n.log_list n.list n.taken n.durable (length n.points) n.stable group k.front k.log runs (is_group n k) w,
+      written_stands logs_of d.tells d.tells_crashes (log_start_of n.base) (data_of d y) (data_of d y') n.log_list n.list n.taken n.durable n.points n.stable group k.front k.log runs (is_group n k) w,
     )
 
-    pub lost : (y' : SharedLog D d) (fault : Fault) (halted : Option Fault) (last : Parts) → last ≡ record new { halted = halted } → IsGroupLost fault (data_of d y) (data_of d y') → (n : Seen) → AreOf (standing d) (log_standing d) n x y
-        → Lost (standing d) (log_standing d) n (record x { volume = last }) y'
-    lost y' fault halted last e w n k = (
-      halted_stands d.tells n.base n.list (length n.list) n.told n.points n.known x.points x.broken_off new (taken n k) halted last e,
-      lost_stands logs_of d.tells d.tells_crashes (ring_of n.base) (data_of d y) (data_of d y') n.log_list n.list n.taken (length n.list) n.durable (length n.points) n.stable fault k.log w,
-    )
+    pub lost : (y' : SharedLog D d) (fault : Fault) (last : SharedVolume D) → Halts (standing d) (λ v. v.points) (record x { volume = new }) last → IsGroupLost fault (data_of d y) (data_of d y') → (n : Seen) → AreOf (standing d) (log_standing d) n x y
+        → Lost (standing d) (log_standing d) n last y'
+    lost y' fault last halts w n k =
+        let g = halts n.base n.list (length n.list) n.told n.points n.known (taken n k) in (
+          g.0,
+          behind_all n.points g.0 g.1,
+          g.2,
+          lost_stands logs_of d.tells d.tells_crashes (log_start_of n.base) (data_of d y) (data_of d y') n.log_list n.list n.taken (length n.list) n.durable n.points g.0 n.stable fault k.log w,
+        )
+
+    pub may_halt : AreTogether (standing d) (log_standing d) x y → Stands d (record x { volume = new })
+    may_halt (n, k) = (n.base, n.list, length n.list, n.told, n.points, n.known, taken n k)
 
   -- groups have taken all
   pub idle : x.volume.taken ≡ x.volume.appended → (n : Seen) → AreOf (standing d) (log_standing d) n x y → Written (standing d) (log_standing d) n x y
   idle e n k = (
     subst (λ (m : ℕ). IsShared d.tells n.base n.list m n.told n.points n.known x.points x.broken_off x.volume) all k.volume,
-    all_taken logs_of d.tells d.tells_crashes (ring_of n.base) (data_of d y) (data_of d y) n.log_list n.taken n.durable (length n.points) n.stable k.log runs n.list k.front all,
+    all_taken logs_of d.tells d.tells_crashes (log_start_of n.base) (data_of d y) (data_of d y) n.log_list n.taken n.durable n.points n.stable k.log runs n.list k.front all,
   )
     where
       all : n.taken ≡ length n.list
@@ -80,47 +93,52 @@ module _ {D : Type 0} (d : Ghosts D) (x : SharedVolume D) (y : SharedLog D d) (r
     pub point_size : length group.bytes.items ≡ 36
     point_size = ap (λ (b : List ℕ). length b) bytes ∙ length-items 0 0 (point 0 ∷ [])
 
-    module _ (empty : x.volume.text.bytes ≡ []) (told : x.volume.told ≡ x.volume.appended) (pointed : Parts) (e : pointed ≡ with_point x.volume) (n : Seen) (k : AreOf (standing d) (log_standing d) n x y) where
+    module _ (small : x.volume.appended < 2 ^ 64) (empty : x.volume.text.bytes ≡ []) (told : x.volume.told ≡ x.volume.appended) (pointed : Parts) (e : pointed ≡ with_point x.volume) (n : Seen) (k : AreOf (standing d) (log_standing d) n x y) where
       all_told : n.told ≡ length n.list
       all_told = sym k.volume.told_is ∙ told ∙ k.volume.appended
 
       all : n.taken ≡ length n.list
       all = let a = k.volume.told_within in let b = k.volume.taken_within in omega (arith, a, b, all_told)
 
-      stands : IsShared d.tells n.base n.list (length n.list) (length n.list) (n.points ++ length n.list ∷ []) n.known (x.points + 1) x.broken_off pointed
+      few : length n.list < 2 ^ 64
+      few = omega (arith, small, k.volume.appended)
+
+      pub stands : IsShared d.tells n.base n.list (length n.list) (length n.list) (n.points ++ length n.list ∷ []) n.known (x.points + 1) x.broken_off pointed
       stands = subst (λ (m : ℕ). IsShared d.tells n.base n.list (length n.list) m (n.points ++ length n.list ∷ []) n.known (x.points + 1) x.broken_off pointed) all_told
-          (point_stands d.tells n.base n.list n.taken n.told n.points n.known x.points x.broken_off x.volume k.volume pointed all empty e)
+          (point_stands d.tells n.base n.list n.taken n.told n.points n.known x.points x.broken_off x.volume k.volume pointed few all empty e)
 
-      one_more : length (n.points ++ length n.list ∷ []) ≡ suc (length n.points)
-      one_more = let p = stands.points_are in let q = k.volume.points_are in omega (arith, p, q)
+      all_known : syncs (n.points ++ length n.list ∷ []) ≡ suc (length n.points)
+      all_known = omega (arith, synced_more n.points (length n.list) few, all_syncs n.points (k.log.runs runs).unmarked)
 
-      log : LogStandsFor logs_of d.tells d.tells_crashes (ring_of n.base) (data_of d y) n.list (length n.list) (length n.list) (length n.points) n.stable
-      log = all_taken logs_of d.tells d.tells_crashes (ring_of n.base) (data_of d y) (data_of d y) n.log_list n.taken n.durable (length n.points) n.stable k.log runs n.list k.front all
+      log : LogStandsFor logs_of d.tells d.tells_crashes (log_start_of n.base) (data_of d y) n.list (length n.list) (length n.list) n.points n.stable
+      log = all_taken logs_of d.tells d.tells_crashes (log_start_of n.base) (data_of d y) (data_of d y) n.log_list n.taken n.durable n.points n.stable k.log runs n.list k.front all
 
       pub pointed_both : (known : Parts) → known ≡ record pointed { known = pointed.points } → (y' : SharedLog D d) → IsGroupWritten d.tells d.tells_crashes group (data_of d y) (data_of d y')
           → Pointed (standing d) (log_standing d) n (record x { volume = known; points = x.points + 1 }) (record y' { points = y'.points + 1 })
       pointed_both known is y' w = (
-        subst (λ (m : ℕ). IsShared d.tells n.base n.list (length n.list) (length n.list) (n.points ++ length n.list ∷ []) m (x.points + 1) x.broken_off known) one_more
+        subst (λ (m : ℕ). IsShared d.tells n.base n.list (length n.list) (length n.list) (n.points ++ length n.list ∷ []) m (x.points + 1) x.broken_off known) all_known
             (known_stands d.tells n.base n.list (length n.list) (length n.list) (n.points ++ length n.list ∷ []) n.known (x.points + 1) x.broken_off pointed stands known is),
-        subst (λ (m : ℕ). LogStandsFor logs_of d.tells d.tells_crashes (ring_of n.base) (record (data_of d y') { points = y'.points + 1 }) n.list (length n.list) (length n.list) m (suc (length n.points))) (sym one_more)
-            (pointed_stands logs_of d.tells d.tells_crashes (ring_of n.base) (data_of d y) (data_of d y') n.list (length n.list) (length n.list) (length n.points) n.stable log runs group bytes point_size (last ∙ k.volume.appended) w),
+        pointed_stands logs_of d.tells d.tells_crashes (log_start_of n.base) (data_of d y) (data_of d y') n.list (length n.list) (length n.list) n.points n.stable log runs group few bytes point_size (last ∙ k.volume.appended) w,
       )
 
-      pub pointed_lost : (group_now : PointGroup) (halted : Option Fault) (later : Parts) → later ≡ record pointed { halted = halted } → (y' : SharedLog D d) (fault : Fault) → IsGroupLost fault (data_of d y) (data_of d y')
-          → PartlyPointed (standing d) (log_standing d) n (record x { volume = later; point = group_now; points = x.points + 1 }) y'
-      pointed_lost group_now halted later is y' fault w = record {
+      pub pointed_lost : (group_now : PointGroup) (later_volume : SharedVolume D) → Halts (standing d) (λ v. v.points) (record x { volume = pointed; point = group_now; points = x.points + 1 }) later_volume → (y' : SharedLog D d) (fault : Fault) → IsGroupLost fault (data_of d y) (data_of d y')
+          → PartlyPointed (standing d) (log_standing d) n later_volume y'
+      pointed_lost group_now later_volume halts y' fault w = record {
         told_now = length n.list;
         durable_now = length n.list;
-        points_now = n.points ++ length n.list ∷ [];
-        volume = halted_stands d.tells n.base n.list (length n.list) (length n.list) (n.points ++ length n.list ∷ []) n.known (x.points + 1) x.broken_off pointed stands halted later is;
-        log = lost_point logs_of d.tells d.tells_crashes (ring_of n.base) (data_of d y) (data_of d y') n.list (length n.list) (length n.list) (length n.points) n.stable log runs fault (length (n.points ++ length n.list ∷ [])) w;
+        points_now = halted.0;
+        volume = halted.2;
+        log = lost_point logs_of d.tells d.tells_crashes (log_start_of n.base) (data_of d y) (data_of d y') n.list (length n.list) (length n.list) n.points n.stable log runs fault halted.0 w;
         told_grows = let a = k.volume.told_within in let b = k.volume.taken_within in omega (arith, a, b);
         durable_grows = let b = k.volume.taken_within in omega (arith, b, durable_taken);
         told_within = omega arith;
         durable_within = omega arith;
-        points_grow = (length n.list ∷ [], refl);
+        points_grow = prefix_on n.points (length n.list ∷ []) halted.0 (behind_all (n.points ++ length n.list ∷ []) halted.0 halted.1);
       }
         where
+          halted : (later : List ℕ) × ((later ≡ n.points ++ length n.list ∷ []) ⊎ (later ≡ (n.points ++ length n.list ∷ []) ++ halt_mark ∷ [])) × IsShared d.tells n.base n.list (length n.list) (length n.list) later n.known later_volume.points later_volume.broken_off later_volume.volume × (later_volume.points ≡ length later)
+          halted = halts n.base n.list (length n.list) (length n.list) (n.points ++ length n.list ∷ []) n.known stands
+
           durable_taken : n.durable ≡ n.taken
           durable_taken = (k.log.runs runs).taken_all
 
@@ -168,7 +186,7 @@ module _ {D : Type 0} (d : Ghosts D) (x : SharedVolume D) (y : SharedLog D d) (r
       let taken_is = s.taken_is in
       let both = idle d x y runs (omega (arith, told, told_is, appended, told_within, taken_within, taken_is)) n k in
       let r = both.1.runs runs in
-      let end = reaches (ring_of n.base) n.list n.taken (length n.points) x.volume.text s.text s.taken_within in
+      let end = reaches (start_of n.base).log.ring n.list n.taken (syncs n.points) x.volume.text s.text s.taken_within in
       let none = ap (λ (b : List ℕ). length b) empty in
       let points_are = s.points_are in
       let count = both.1.count in
@@ -178,6 +196,6 @@ module _ {D : Type 0} (d : Ghosts D) (x : SharedVolume D) (y : SharedLog D d) (r
       record {
         place = omega (arith, place, end, none);
         durable = omega (arith, count, appended);
-        points = omega (arith, end, none, points_are);
+        points = omega (arith, end, none, points_are, all_syncs n.points r.unmarked);
         log_points = omega (arith, stable, stable_all, points_are);
       }

@@ -39,9 +39,9 @@ module _ {V L : Type 0} (of_volume : Standing V Recorded) (of_log : Standing L R
   abbrev pub Committed : Seen → V → L → Type 0
   Committed n x y = of_volume x n.base n.list (length n.list) (length n.list) n.points n.known × of_log y n.base n.list (length n.list) (length n.list) n.points n.stable
 
-  -- all are taken, and no more is durable or acknowledged
+  -- All are taken, and no more is durable or acknowledged. Behind the syncpoints there may be a mark that the log has halted.
   abbrev pub Lost : Seen → V → L → Type 0
-  Lost n x y = of_volume x n.base n.list (length n.list) n.told n.points n.known × of_log y n.base n.list (length n.list) n.durable n.points n.stable
+  Lost n x y = (points : List ℕ) × IsPrefix n.points points × of_volume x n.base n.list (length n.list) n.told points n.known × of_log y n.base n.list (length n.list) n.durable points n.stable
 
   -- on the way: all are taken and durable
   abbrev pub Written : Seen → V → L → Type 0
@@ -63,7 +63,7 @@ module _ {V L : Type 0} (of_volume : Standing V Recorded) (of_log : Standing L R
       of_volume x n.base n.list (length n.list) (length n.list) (n.points ++ length n.list ∷ []) (suc (length n.points))
       × of_log y n.base n.list (length n.list) (length n.list) (n.points ++ length n.list ∷ []) (suc (length n.points))
 
-  -- All entries are taken. More of them may be durable and acknowledged, and there may be a syncpoint more, which isn't stable.
+  -- All entries are taken. More of them may be durable and acknowledged, and there may be a syncpoint more, which isn't stable, and a mark that the log has halted.
   pub record PartlyPointed (n : Seen) (x : V) (y : L) : Type 0 where
     pub told_now : ℕ
     pub durable_now : ℕ

@@ -1,6 +1,7 @@
 -- what the clauses say
 pub mod Base
 pub mod Entries
+pub mod Faults
 pub mod Shared
 pub mod Calls
 pub mod Both

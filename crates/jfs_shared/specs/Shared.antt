@@ -10,6 +10,7 @@ use Rattle.jfs_records.specs.Records.{Noted}
 use Rattle.jfs_records.specs.Entries.{log_records}
 use Rattle.jfs_turns.specs.Lists.{Base}
 use Rattle.jfs_turns.specs.Standing.{Standing}
+use Rattle.jfs_groups.specs.Points.{syncs}
 use Rattle.jfs_groups.specs.Text.{items_from, end_of}
 use Rattle.jfs_groups.specs.Log.{standing as of_log}
 use Rattle.jfs_groups.specs.declared.log.SharedLog.{SharedLog}
@@ -19,7 +20,8 @@ use Rattle.jfs_legal.specs.served.specs.shown.specs.meaning.specs.Image as meani
 use Rattle.jfs_legal.specs.served.specs.Legal.{Timed}
 use Rattle.jfs_legal.specs.served.specs.Laws.{HoldsImage}
 use Rattle.jfs_legal.specs.Until.{AreLegal, GoOn}
-use Rattle.jfs_shared.specs.Base.{ring_of, image_of}
+use Rattle.jfs_shared.specs.Base.{start_of, log_start_of, image_of}
+use Rattle.jfs_shared.specs.Faults.{IsOfDisk}
 use Rattle.jfs_shared.specs.Entries.{Recorded}
 use Rattle.jfs_shared.specs.declared.shared.SharedVolume.{SharedVolume}
 
@@ -74,19 +76,20 @@ IfConsistent base fact = IsConsistentImage (super_of (page_of (image_of base) 8)
 
 -- ---- all of it
 
--- The volume has the list's entries. Groups have taken so many of them, and so many are acknowledged. It has made so many syncpoints since the mount, which has one of its own, and knows so many to be stable. Of a disk that tells its contents, its replies are legal.
+-- The volume has the list's entries. Groups have taken so many of them, and so many are acknowledged. It has made so many syncpoints since the mount, which has one of its own, and knows so many to be stable; the list of syncpoints may have a mark, that the log has halted, beside them. It has the pages of its part of the disk; a fault has halted it, or is a call's reply, only where a count of faults rose. Of a disk that tells its contents, its replies are legal.
 pub record IsShared (tells : Type 0) (base : Base) (list : List Recorded) (taken told : ℕ) (points : List ℕ) (known : ℕ) (made : ℕ) (broken_off : Option ℕ) (p : Parts) : Type 0 where
   pub entries : p.entries ≡ entries_in list
   pub appended : p.appended ≡ length list
   pub taken_is : p.taken ≡ taken
   pub told_is : p.told ≡ told
   pub points_are : made ≡ length points
-  pub points_is : p.points ≡ suc (length points)
+  pub points_is : p.points ≡ suc (syncs points)
   pub known_is : p.known ≡ suc known
   pub told_within : told ≤ taken
   pub taken_within : taken ≤ length list
-  pub text : HasText (ring_of base) list taken (length points) p.text
+  pub text : HasText (start_of base).log.ring list taken (syncs points) p.text
   pub size : length p.map.states ≤ p.blocks
+  pub disk : IsOfDisk (start_of base) points p
   pub served : tells → IfConsistent base (λ s page. IsServed s page broken_off list p)
 
 abbrev pub standing : {D : Type 0} (d : Ghosts D) → Standing (SharedVolume D) Recorded
@@ -94,7 +97,7 @@ standing d v base list taken told points known = IsShared d.tells base list take
 
 -- and its log
 abbrev pub log_standing : {D : Type 0} (d : Ghosts D) → Standing (SharedLog D d) Recorded
-log_standing d = of_log d logs_of ring_of
+log_standing d = of_log d logs_of log_start_of
 
 -- it stands for something
 abbrev pub Stands : {D : Type 0} (d : Ghosts D) → SharedVolume D → Type 0

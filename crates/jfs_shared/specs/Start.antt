@@ -11,7 +11,7 @@ use Rattle.jfs_legal.specs.served.specs.halves.specs.Parts.{Parts}
 use Rattle.jfs_legal.specs.served.specs.halves.specs.Log.{LogParts}
 use Rattle.jfs_legal.specs.served.specs.volume_calls.specs.Together.{AreTogether}
 use Rattle.jfs_legal.specs.served.specs.mounted.specs.Mount.{IsMountOf}
-use Rattle.jfs_shared.specs.Base.{base_of}
+use Rattle.jfs_shared.specs.Base.{MountStart, base_of}
 use Rattle.jfs_shared.specs.Entries.{Recorded}
 
 -- what a mount of an image says, by whose superblock it was made, of the volume and the log that it gives
@@ -26,9 +26,13 @@ pub record IsJustMounted (tells crashes : Type 0) (s : Super) (image : Image) (v
   pub together : AreTogether volume log
   pub fresh : tells → IsFreshLog s.logpxd.len s.uuid log.image
 
--- the image, with the ring of its log
-abbrev pub base_at : Super → Image → Base
-base_at s image = base_of (s.logpxd.len - 2) image
+-- what a mount gave of both parts: the log's part has so many pages, and has had so many faults
+abbrev pub start_at : Super → Parts → ℕ → ℕ → MountStart
+start_at s volume pages faults = record { log = record { ring = s.logpxd.len - 2; pages = pages; faults = faults }; pages = volume.count; room = volume.room; faults = volume.faults }
+
+-- the image, with that
+abbrev pub base_at : Super → Image → Parts → ℕ → ℕ → Base
+base_at s image volume pages faults = base_of (start_at s volume pages faults) image
 
 -- nothing has happened yet
 abbrev pub StandsFresh : {V L : Type 0} → Standing V Recorded → Standing L Recorded → Base → V → L → Type 0

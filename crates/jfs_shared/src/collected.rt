@@ -16,6 +16,6 @@ impl<D: Disk> Collected<Recorded> for SharedVolume<D> {
     }
 
     fn halt(&mut self, fault: Fault) {
-        self.volume.halt(fault);
+        self.halt_for_log(fault);
     }
 }

@@ -28,7 +28,7 @@ pub fn commit_with<D: Disk>(
     ensures halts { IfErr result (λ why. (log.new.side.halted ≡ Some why.fault) × (shared.new.volume.halted ≡ halted_by why.fault shared.old.volume.halted)) }
     ensures cause { HasLogFault (D.fault_count log.old.side.part) (D.fault_count log.new.side.part) result }
     ensures parts { (shared.new.volume.faults ≡ shared.old.volume.faults) × (D.page_count log.new.side.part ≡ D.page_count log.old.side.part) }
-    ensures points { shared.new.points ≡ shared.old.points }
+    ensures points { OnOk result (shared.new.points ≡ shared.old.points) }
     ensures breaks { shared.new.broken_off ≡ shared.old.broken_off }
     // Where there is nothing to write the log isn't called.
     ensures idle { is_idle shared.old.volume ≡ true → log.new ≡ log.old }
@@ -55,7 +55,7 @@ fn write_waiting<D: Disk>(
     ensures halts { IfErr result (λ why. (log.new.side.halted ≡ Some why.fault) × (shared.new.volume.halted ≡ halted_by why.fault shared.old.volume.halted)) }
     ensures cause { HasLogFault (D.fault_count log.old.side.part) (D.fault_count log.new.side.part) result }
     ensures parts { (shared.new.volume.faults ≡ shared.old.volume.faults) × (D.page_count log.new.side.part ≡ D.page_count log.old.side.part) }
-    ensures points { shared.new.points ≡ shared.old.points }
+    ensures points { OnOk result (shared.new.points ≡ shared.old.points) }
     ensures breaks { shared.new.broken_off ≡ shared.old.broken_off }
     ensures all { shared.new.volume.appended ≡ shared.old.volume.appended }
     ensures idle { is_idle shared.old.volume ≡ true → log.new ≡ log.old }
@@ -76,7 +76,7 @@ fn write<D: Disk>(shared: &mut SharedVolume<D>, log: &mut SharedLog<D>) -> Resul
     ensures halts { IfErr result (λ why. (log.new.side.halted ≡ Some why.fault) × (shared.new.volume.halted ≡ halted_by why.fault shared.old.volume.halted)) }
     ensures cause { HasLogFault (D.fault_count log.old.side.part) (D.fault_count log.new.side.part) result }
     ensures parts { (shared.new.volume.faults ≡ shared.old.volume.faults) × (D.page_count log.new.side.part ≡ D.page_count log.old.side.part) }
-    ensures points { shared.new.points ≡ shared.old.points }
+    ensures points { OnOk result (shared.new.points ≡ shared.old.points) }
     ensures breaks { shared.new.broken_off ≡ shared.old.broken_off }
     ensures all { shared.new.volume.appended ≡ shared.old.volume.appended }
 {
@@ -84,7 +84,7 @@ fn write<D: Disk>(shared: &mut SharedVolume<D>, log: &mut SharedLog<D>) -> Resul
     match log.write(&group) {
         Ok(()) => Ok(()),
         Err(why) => {
-            shared.volume.halt(why.fault);
+            shared.halt_for_log(why.fault);
             Err(why)
         }
     }

@@ -4,6 +4,7 @@
 mod calling;
 mod collected;
 mod committing;
+mod halting;
 mod law;
 mod point_group;
 mod pointing;

@@ -80,7 +80,7 @@ fn write_point<D: Disk>(shared: &mut SharedVolume<D>, log: &mut SharedLog<D>) ->
             Ok(())
         }
         Err(why) => {
-            shared.volume.halt(why.fault);
+            shared.halt_for_log(why.fault);
             Err(why.fault)
         }
     }

@@ -26,9 +26,9 @@ impl HasClient for Recorded {
 }
 
 impl HasRecords for Recorded {
-    ghost use Rattle.jfs_shared.specs.Base.{ring_of};
+    ghost use Rattle.jfs_shared.specs.Base.{log_start_of};
 
     ghost logs = { λ e. e.noted };
 
-    ghost ring = { ring_of };
+    ghost start = { log_start_of };
 }

@@ -15,7 +15,7 @@ pub struct SharedVolume<D: Disk> {
     pub(crate) volume: Volume<D>,
     /// The SYNCPT that its syncpoints write.
     pub(crate) point: PointGroup,
-    /// How many syncpoints it has made, beside the mount's.
+    /// How many syncpoints it has made, beside the mount's, and one more where the log has halted it.
     pub(crate) points: u64,
     /// How many entries there were when memory ran out for a call, or a syncpoint failed: nothing is said of the tree behind them. None: neither has happened.
     pub(crate) broken_off: Option<u64>,

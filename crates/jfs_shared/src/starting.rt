@@ -1,6 +1,6 @@
 //! A mounted volume begins to be shared.
 
-ghost use Rattle.std.specs.Prelude.{◌≡◌, None};
+ghost use Rattle.std.specs.Prelude.{◌≡◌, ◌<◌, ◌^◌, None};
 ghost use Rattle.jfs_disk.specs.Image.{Image};
 ghost use Rattle.jfs_super.specs.declared.fields.Super.{Super};
 ghost use Rattle.jfs_legal.specs.served.specs.volume_calls.specs.Together.{log_parts};
@@ -17,7 +17,7 @@ use jfs_legal::unmount::Mounted;
 pub fn started<D: Disk>(m: Mounted<D>, point: PointGroup) -> (SharedVolume<D>, SharedLog<D>)
     ensures volume { (result.0.volume ≡ m.volume) × (result.0.points ≡ 0) × (result.0.broken_off ≡ None) }
     ensures log { (result.1.side ≡ m.log) × (result.1.points ≡ 0) }
-    ensures stands { (s : Super) (image : Image) → IsJustMounted D.tells D.tells_crashes s image m.volume (log_parts D.Disk m.log) → StandsFresh (standing D.Disk) (log_standing D.Disk) (base_at s image) result.0 result.1 }
+    ensures stands { (s : Super) (image : Image) → IsJustMounted D.tells D.tells_crashes s image m.volume (log_parts D.Disk m.log) → m.volume.faults < 2 ^ 64 → D.fault_count m.log.part < 2 ^ 64 → StandsFresh (standing D.Disk) (log_standing D.Disk) (base_at s image m.volume (D.page_count m.log.part) (D.fault_count m.log.part)) result.0 result.1 }
 {
     let Mounted { volume, log } = m;
     (

@@ -23,7 +23,7 @@ returns-clause-goes_on g c =
     let s = e.stands in
     let told = c.told.ensures.tells v.base v.list v.taken s.0 v.points s.1 s.2 in
     let group = c.take_group-group.ensures.takes v.base v.list v.taken c.durable-durable.result v.points s.1 told in
-    (collects g.E.HasClient.client g.E.HasRecords.logs g.E.HasRecords.ring c.args.turn.seat.me (v, c.add_volume-both.result.log.seat.me.1) c.drop_volume.result.seat.me.0 c.mark_taken.new.turn c.take_group-group.result c.args.turn.has.0.3 e.learned c.mark_taken.ensures.told c.drop_volume.ensures.told group.1).0
+    (collects g.E.HasClient.client g.E.HasRecords.logs g.E.HasRecords.start c.args.turn.seat.me (v, c.add_volume-both.result.log.seat.me.1) c.drop_volume.result.seat.me.0 c.mark_taken.new.turn c.take_group-group.result c.args.turn.has.0.3 e.learned c.mark_taken.ensures.told c.drop_volume.ensures.told group.1).0
 
 pub returns-clause-exact : goal.returns-clause-exact
 returns-clause-exact g c =
@@ -32,7 +32,7 @@ returns-clause-exact g c =
     let s = e.stands in
     let told = c.told.ensures.tells v.base v.list v.taken s.0 v.points s.1 s.2 in
     let group = c.take_group-group.ensures.takes v.base v.list v.taken c.durable-durable.result v.points s.1 told in
-    (collects g.E.HasClient.client g.E.HasRecords.logs g.E.HasRecords.ring c.args.turn.seat.me (v, c.add_volume-both.result.log.seat.me.1) c.drop_volume.result.seat.me.0 c.mark_taken.new.turn c.take_group-group.result c.args.turn.has.0.3 e.learned c.mark_taken.ensures.told c.drop_volume.ensures.told group.1).1
+    (collects g.E.HasClient.client g.E.HasRecords.logs g.E.HasRecords.start c.args.turn.seat.me (v, c.add_volume-both.result.log.seat.me.1) c.drop_volume.result.seat.me.0 c.mark_taken.new.turn c.take_group-group.result c.args.turn.has.0.3 e.learned c.mark_taken.ensures.told c.drop_volume.ensures.told group.1).1
 
 pub returns-clause-collects : goal.returns-clause-collects
 returns-clause-collects g c =
@@ -41,4 +41,4 @@ returns-clause-collects g c =
     let s = e.stands in
     let told = c.told.ensures.tells v.base v.list v.taken s.0 v.points s.1 s.2 in
     let group = c.take_group-group.ensures.takes v.base v.list v.taken c.durable-durable.result v.points s.1 told in
-    (collects g.E.HasClient.client g.E.HasRecords.logs g.E.HasRecords.ring c.args.turn.seat.me (v, c.add_volume-both.result.log.seat.me.1) c.drop_volume.result.seat.me.0 c.mark_taken.new.turn c.take_group-group.result c.args.turn.has.0.3 e.learned c.mark_taken.ensures.told c.drop_volume.ensures.told group.1).2
+    (collects g.E.HasClient.client g.E.HasRecords.logs g.E.HasRecords.start c.args.turn.seat.me (v, c.add_volume-both.result.log.seat.me.1) c.drop_volume.result.seat.me.0 c.mark_taken.new.turn c.take_group-group.result c.args.turn.has.0.3 e.learned c.mark_taken.ensures.told c.drop_volume.ensures.told group.1).2

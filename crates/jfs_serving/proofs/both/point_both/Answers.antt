@@ -8,7 +8,7 @@ use Rattle.jfs_serving.proofs.both.point_both.Goals as goal
 pub point-requires-clause-together : goal.point-requires-clause-together
 point-requires-clause-together g c =
     let u = whole c.args.both.now in
-    let of_log = standing g.D.Disk g.E.HasRecords.logs g.E.HasRecords.ring in
+    let of_log = standing g.D.Disk g.E.HasRecords.logs g.E.HasRecords.start in
     let stand = c.requires.stand in
     let s = stand.volume in
     (seen_of u s.0 s.1, together g.V.Stands.stands of_log g.V.Stands.count u c.args.both.now.volume.value c.args.both.now.log.value s.0 s.1 s.2 s.3 s.4 stand.log stand.knows)
@@ -16,7 +16,7 @@ point-requires-clause-together g c =
 pub mark-requires-clause-room : goal.mark-requires-clause-room
 mark-requires-clause-room g c =
     let u = whole c.args.both.now in
-    let of_log = standing g.D.Disk g.E.HasRecords.logs g.E.HasRecords.ring in
+    let of_log = standing g.D.Disk g.E.HasRecords.logs g.E.HasRecords.start in
     let stand = c.requires.stand in
     let s = stand.volume in
     let n = seen_of u s.0 s.1 in

@@ -18,6 +18,6 @@ returns-in-NeedsLog-clause-gave g c =
     let stands = g.V.Stands.stands in
     let answers = g.V.Serves.answers in
     let a = asked c.args.pass.client c.args.line c.args.request.now c.args.now in
-    gave_later client entry moment stands (standing g.D.Disk g.E.HasRecords.logs g.E.HasRecords.ring) answers (λ y. y.side.halted) a c.ask_with_log.result.0 c.args.pass.seat.me.0 first.result.1.seat.me.0 c.ask_with_log.result.1.seat.me.0
+    gave_later client entry moment stands (standing g.D.Disk g.E.HasRecords.logs g.E.HasRecords.start) answers (λ y. y.side.halted) a c.ask_with_log.result.0 c.args.pass.seat.me.0 first.result.1.seat.me.0 c.ask_with_log.result.1.seat.me.0
     (subst (λ given. GaveIs client entry moment stands answers a c.args.pass.seat.me.0 first.result.1.seat.me.0 given) c.in-NeedsLog.is first.ensures.gave) first.ensures.keeps
     (subst (λ n. GaveIs client entry moment stands answers (asked n c.args.line c.args.request.now c.args.now) first.result.1.seat.me.0 c.ask_with_log.result.1.seat.me.0 c.ask_with_log.result.0) first.ensures.same.1 c.ask_with_log.ensures.gave)

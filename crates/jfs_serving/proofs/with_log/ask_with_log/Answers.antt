@@ -18,7 +18,7 @@ call_lent-requires-clause-stand g c =
     let has = log.result.has.0.3 in
     record {
       volume = both.ensures.stands;
-      log = log_stands client (standing g.D.Disk g.E.HasRecords.logs g.E.HasRecords.ring) log.result.value both.result.log.value log.result.seat.me (u, both.result.log.seat.me.1) log.ensures.stands both.ensures.same.0 both.ensures.learned has;
+      log = log_stands client (standing g.D.Disk g.E.HasRecords.logs g.E.HasRecords.start) log.result.value both.result.log.value log.result.seat.me (u, both.result.log.seat.me.1) log.ensures.stands both.ensures.same.0 both.ensures.learned has;
       knows = knows_both client c.args.pass.seat.me log.result.seat.me (u, both.result.log.seat.me.1) log.ensures.learned both.ensures.learned has;
     }
 

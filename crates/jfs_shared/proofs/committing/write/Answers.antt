@@ -1,4 +1,4 @@
-use Rattle.jfs_shared.proofs.Writing.{may, written, lost}
+use Rattle.jfs_shared.proofs.Writing.{may, written, lost, may_halt}
 use Rattle.jfs_shared.proofs.committing.write.Goals as goal
 
 pub write-requires-clause-room : goal.write-requires-clause-room
@@ -24,4 +24,9 @@ returns-in-Ok-clause-write g c n k =
 pub returns-clause-write : goal.returns-clause-write
 returns-clause-write g c n k =
     let e = c.take_group-group.ensures in
-    lost g.D.Disk c.args.shared.now c.args.log.now c.requires.running c.take_group-group.new.self c.take_group-group.result (record { bytes = e.text.0; last = e.last.0; room = e.room; parts = e.parts }) c.write.new.self c.in-Err.why.fault _ c.halt.new.self c.halt.ensures.halted c.in-Err.ensures.lost n k
+    lost g.D.Disk c.args.shared.now c.args.log.now c.requires.running c.take_group-group.new.self c.take_group-group.result (record { bytes = e.text.0; last = e.last.0; room = e.room; parts = e.parts }) c.write.new.self c.in-Err.why.fault c.halt_for_log.new.self c.halt_for_log.ensures.halts c.in-Err.ensures.lost n k
+
+pub halt_for_log-requires : goal.halt_for_log-requires
+halt_for_log-requires g c =
+    let e = c.take_group-group.ensures in
+    record { stands = may_halt g.D.Disk c.args.shared.now c.args.log.now c.requires.running c.take_group-group.new.self c.take_group-group.result (record { bytes = e.text.0; last = e.last.0; room = e.room; parts = e.parts }) c.requires.together }

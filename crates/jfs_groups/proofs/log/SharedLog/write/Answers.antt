@@ -4,7 +4,9 @@ use Rattle.jfs_groups.proofs.log.SharedLog.write.Goals as goal
 
 pub returns-in-Ok-clause-written : goal.returns-in-Ok-clause-written
 returns-in-Ok-clause-written g c = let e = c.in-Ok.ensures in record {
-  pages = e.size.0;
+  ring = e.size.0;
+  pages = e.size.1;
+  faults = e.durable.2;
   place = e.position;
   durable = e.durable.0;
   points = refl;
@@ -14,4 +16,4 @@ returns-in-Ok-clause-written g c = let e = c.in-Ok.ensures in record {
 }
 
 pub returns-in-Err-clause-lost : goal.returns-in-Err-clause-lost
-returns-in-Err-clause-lost g c = let e = c.in-Err.ensures in record { pages = e.size.0; durable = e.halts.1; points = refl; halts = e.halts.0; is = e.cause.1 }
+returns-in-Err-clause-lost g c = let e = c.in-Err.ensures in record { ring = e.size.0; pages = e.size.1; rose = e.cause.0; durable = e.halts.1; points = refl; halts = e.halts.0; is = e.cause.1 }

@@ -1,0 +1,18 @@
+-- The list of syncpoints that both sides have. Where the log has halted and the volume was told, it has a mark of that, so that both know it from then on.
+use Rattle.std.specs.Prelude.{ℕ, suc, ◌^◌, ◌==◌, ◌||◌, Bool, false, if◌then◌else◌, List, [], ◌∷◌}
+
+-- more than any sync count
+abbrev pub halt_mark : ℕ
+halt_mark = 2 ^ 64
+
+abbrev pub is_mark : ℕ → Bool
+is_mark point = point == halt_mark
+
+abbrev pub is_marked : List ℕ → Bool
+is_marked [] = false
+is_marked (point ∷ points) = is_mark point || is_marked points
+
+-- how many syncpoints there are beside the mark
+abbrev pub syncs : List ℕ → ℕ
+syncs [] = 0
+syncs (point ∷ points) = if is_mark point then syncs points else suc (syncs points)

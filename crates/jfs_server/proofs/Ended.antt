@@ -1,0 +1,181 @@
+-- What the volume and the log of a server are once all passes are back.
+use Rattle.std.proofs.Common.{◌≡◌, ◌≤◌, ◌⊎◌, ℕ, suc, Bool, true, false, List, [], length, Option, Some, None, refl, sym, ap, subst, ◌∙◌, inl, inr, arith}
+use Rattle.std.proofs.lemmas.Bool.{false≢true}
+use mathlib.Core.Option.{some}
+use lib.ListN.{get_elem?}
+use Rattle.jfs_bits.specs.Count.{Rose}
+use Rattle.jfs_disk.specs.Image.{page_of}
+use Rattle.jfs_disk.specs.declared.disk.Disk.{Ghosts}
+use Rattle.jfs_disk.specs.declared.disk.Fault.{Fault}
+use Rattle.jfs_super.specs.Super.{super_of}
+use Rattle.jfs_super.specs.declared.fields.Super.{Super}
+use Rattle.jfs_plain.specs.declared.call.Entry.{Entry}
+use Rattle.jfs_groups.specs.Points.{is_marked}
+use Rattle.jfs_groups.specs.Start.{Grows}
+use Rattle.jfs_groups.specs.declared.log.SharedLog.{SharedLog}
+use Rattle.jfs_legal.proofs.Going.{handed_law}
+use Rattle.jfs_legal.specs.served.specs.call.specs.Lent.{AreBoth}
+use Rattle.jfs_legal.specs.served.specs.crash_core.specs.Step.{halted_by}
+use Rattle.jfs_legal.specs.served.specs.halves.specs.Parts.{Parts}
+use Rattle.jfs_legal.specs.served.specs.halves.specs.Log.{LogParts}
+use Rattle.jfs_legal.specs.served.specs.shown.specs.meaning.specs.Image.{volume_of}
+use Rattle.jfs_legal.specs.served.specs.volume_calls.specs.Together.{AreTogether, log_parts}
+use Rattle.jfs_volume_calls.proofs.Kept.{group_settles, group_pages}
+use Rattle.jfs_shared.specs.Base.{MountStart, start_of, image_of}
+use Rattle.jfs_shared.specs.Both as shared
+use Rattle.jfs_shared.specs.Entries.{Recorded}
+use Rattle.jfs_shared.specs.Faults.{any_failed, HasRisen, IsOfDisk}
+use Rattle.jfs_shared.specs.Shared.{IsShared, IsServed, IfConsistent, GoesOn as HistoryGoesOn, standing as shared_standing, entries_in, timed_in}
+use Rattle.jfs_shared.proofs.Served.{served_settled}
+use Rattle.jfs_shared.proofs.Together.{together}
+use Rattle.jfs_turns.specs.Passes as passes
+use Rattle.jfs_turns.specs.Passes.{End, AtEnd}
+use Rattle.jfs_turns.specs.declared.turns.Pass.{Pass}
+use Rattle.jfs_server.specs.Served.{standing, log_standing, client_of}
+use Rattle.jfs_server.specs.Stopped.{AnyRose, GoesOn, IsEndOf, IsStopped, HaltsAs}
+use Rattle.jfs_server.specs.declared.served.ServedVolume.{ServedVolume}
+use Rattle.jfs_server.specs.declared.stopping.Stopped.{Stopped}
+
+none_some : (f : Fault) → ◌≡◌ {A = Option Fault} None (Some f) → ⊥
+none_some f e = absurd (cc)
+
+halted_runs : (fault : Fault) (halted : Option Fault) → halted_by fault halted ≡ None → ⊥
+halted_runs fault None e = none_some fault (sym e)
+halted_runs fault (Some first) e = none_some first (sym e)
+
+pub entries_of : (log : Option Fault) (old mid : Parts) → HaltsAs log old mid → mid.entries ≡ old.entries
+entries_of None old mid h = ap (λ (p : Parts). p.entries) h
+entries_of (Some fault) old mid h = ap (λ (p : Parts). p.entries) h
+
+module _ {D : Type 0} (d : Ghosts D) (ps : List (Pass (ServedVolume D) (SharedLog D d) Recorded)) (v : ServedVolume D) (y : SharedLog D d) (at_end : AtEnd client_of (standing d) (log_standing d) ps v y) where
+  abbrev end : End Recorded
+  end = at_end.0
+
+  abbrev m : MountStart
+  m = start_of end.base
+
+  abbrev old : Parts
+  old = v.shared.volume
+
+  abbrev log_faults : ℕ
+  log_faults = d.fault_count y.side.part
+
+  stands : IsShared d.tells end.base end.list end.taken end.told end.points end.known v.shared.points v.shared.broken_off old
+  stands = at_end.1
+
+  -- the volume and the log stand for one list
+  both : shared.AreOf (shared_standing d) (log_standing d) (record { base = end.base; list = end.list; log_list = end.log_list; taken = end.taken; told = end.told; durable = end.durable; points = end.points; known = end.known; stable = end.stable }) v.shared y
+  both = record {
+    volume = stands;
+    log = subst (λ (points : List ℕ). log_standing d y end.base end.log_list end.taken end.durable points end.stable) at_end.3.1 at_end.2;
+    front = at_end.3.0;
+    told_within = at_end.3.2;
+  }
+
+  -- a mark comes of a log that has halted
+  marked : (halted : Option Fault) → y.side.halted ≡ halted → is_marked end.points ≡ true → Rose m.log.faults log_faults
+  marked None runs mark = absurd (false≢true (sym (both.log.runs runs).unmarked ∙ mark))
+  marked (Some fault) halts mark = (both.log.halts fault halts).1
+
+  rose : HasRisen m end.points old → Rose m.faults old.faults ⊎ Rose m.log.faults log_faults
+  rose (inl low) = inl low
+  rose (inr mark) = inr (marked y.side.halted refl mark)
+
+  over : {A : Type 0} → A ⊎ HasRisen m end.points old → A ⊎ (Rose m.faults old.faults ⊎ Rose m.log.faults log_faults)
+  over (inl a) = inl a
+  over (inr risen) = inr (rose risen)
+
+  -- the volume as it is handed out
+  pub record HandedOut (new : Parts) (halted : Option Fault) : Type 0 where
+    pub is : new ≡ record old { halted = halted; entries = [] }
+    pub halts : (halted ≡ old.halted) × (y.side.halted ≡ None) ⊎ ((fault : Fault) × (y.side.halted ≡ Some fault) × (halted ≡ halted_by fault old.halted))
+
+  pub handed_out : (mid new : Parts) → HaltsAs y.side.halted old mid → new ≡ record mid { entries = [] } → HandedOut new mid.halted
+  handed_out mid new halts is = by y.side.halted refl halts
+    where
+      by : (log : Option Fault) → y.side.halted ≡ log → HaltsAs log old mid → HandedOut new mid.halted
+      by None same h = record { is = is ∙ ap (λ (p : Parts). record p { halted = mid.halted; entries = [] }) h; halts = inl (ap (λ (p : Parts). p.halted) h, same) }
+      by (Some fault) same h = record { is = is ∙ ap (λ (p : Parts). record p { halted = mid.halted; entries = [] }) h; halts = inr (fault, same, ap (λ (p : Parts). p.halted) h) }
+
+  runs_now : (new : Parts) (halted : Option Fault) → HandedOut new halted → (new.halted ≡ None) ⊎ (Rose m.faults old.faults ⊎ Rose m.log.faults log_faults)
+  runs_now new halted h = by h.halts
+    where
+      by : (halted ≡ old.halted) × (y.side.halted ≡ None) ⊎ ((fault : Fault) × (y.side.halted ≡ Some fault) × (halted ≡ halted_by fault old.halted)) → (new.halted ≡ None) ⊎ (Rose m.faults old.faults ⊎ Rose m.log.faults log_faults)
+      by (inl (same, runs)) = again (over stands.disk.runs)
+        where
+          again : (old.halted ≡ None) ⊎ (Rose m.faults old.faults ⊎ Rose m.log.faults log_faults) → (new.halted ≡ None) ⊎ (Rose m.faults old.faults ⊎ Rose m.log.faults log_faults)
+          again (inl none) = inl (ap (λ (p : Parts). p.halted) h.is ∙ same ∙ none)
+          again (inr risen) = inr risen
+      by (inr (fault, halts, is)) = inr (inr (both.log.halts fault halts).1)
+
+  log_runs : (new : Parts) (halted : Option Fault) → HandedOut new halted → new.halted ≡ None → y.side.halted ≡ None
+  log_runs new halted h none = by h.halts
+    where
+      by : (halted ≡ old.halted) × (y.side.halted ≡ None) ⊎ ((fault : Fault) × (y.side.halted ≡ Some fault) × (halted ≡ halted_by fault old.halted)) → y.side.halted ≡ None
+      by (inl (same, runs)) = runs
+      by (inr (fault, halts, is)) = absurd (halted_runs fault old.halted (sym is ∙ sym (ap (λ (p : Parts). p.halted) h.is) ∙ none))
+
+  abbrev s : Super
+  s = super_of (page_of (image_of end.base) 8)
+
+  abbrev page : ℕ → List ℕ
+  page = page_of (image_of end.base)
+
+  served_now : (new : Parts) (halted : Option Fault) → HandedOut new halted → d.tells → IfConsistent end.base (λ s page. IsServed s page v.shared.broken_off end.list new)
+  served_now new halted h t consistent =
+      subst (λ (p : Parts). IsServed s page v.shared.broken_off end.list p) (sym h.is) record {
+        start = settled.start;
+        holds = settled.holds;
+        runs = settled.runs;
+        goes_on = handed v.shared.broken_off settled.goes_on;
+      }
+    where
+      mid : Parts
+      mid = record old { halted = halted }
+
+      settled : IsServed s page v.shared.broken_off end.list mid
+      settled = served_settled d.tells ⊥ t s page v.shared.broken_off end.list old mid (group_settles old mid refl) (group_pages d.tells old mid refl) (stands.served t consistent)
+
+      handed : (broken_off : Option ℕ) → HistoryGoesOn broken_off (volume_of s page).area s.logpxd.len settled.start (timed_in end.list) mid → HistoryGoesOn broken_off (volume_of s page).area s.logpxd.len settled.start (timed_in end.list) (record mid { entries = [] })
+      handed None goes = handed_law (volume_of s page).area s.logpxd.len settled.start (timed_in end.list) mid goes
+      handed (Some n) goes = goes
+
+  module _ (x : Stopped D d) (halted : Option Fault) (h : HandedOut x.mounted.volume halted) (log : x.mounted.log ≡ y.side) (history : x.history.items ≡ old.entries) (broken_off : x.broken_off ≡ v.shared.broken_off) where
+    faults : x.mounted.volume.faults ≡ old.faults
+    faults = ap (λ (p : Parts). p.faults) h.is
+
+    moved : {A : Type 0} → A ⊎ (Rose m.faults old.faults ⊎ Rose m.log.faults log_faults) → A ⊎ AnyRose m x.mounted.volume (d.fault_count x.mounted.log.part)
+    moved {A} r = subst {A = ℕ × ℕ} (λ z. A ⊎ (Rose m.faults z.0 ⊎ Rose m.log.faults z.1)) (λ i. (sym faults i, d.fault_count (sym log i).part)) r
+
+    ends : IsEndOf d m x
+    ends = record {
+      pages = ap (λ (p : Parts). p.count) h.is ∙ stands.disk.pages;
+      room = ap (λ (p : Parts). p.room) h.is ∙ stands.disk.room;
+      log_pages = ap (λ side. d.page_count side.part) log ∙ both.log.pages;
+      faults = subst (λ (n : ℕ). Grows m.faults n) (sym faults) stands.disk.faults;
+      log_faults = subst (λ side. Grows m.log.faults (d.fault_count side.part)) (sym log) both.log.faults;
+      runs = moved (runs_now x.mounted.volume halted h);
+      calm = moved (subst (λ (es : List Entry). (any_failed es ≡ false) ⊎ (Rose m.faults old.faults ⊎ Rose m.log.faults log_faults)) (sym history) (over stands.disk.calm));
+      size = subst (λ (p : Parts). length p.map.states ≤ p.blocks) (sym h.is) stands.size;
+      both = λ none. subst {A = Parts × LogParts} (λ z. AreTogether z.0 z.1) (λ i. (sym h.is i, log_parts d (sym log i))) (again (together d _ v.shared y both (log_runs x.mounted.volume halted h none)));
+    }
+      where
+        again : AreTogether old (log_parts d y.side) → AreTogether (record old { halted = halted; entries = [] }) (log_parts d y.side)
+        again t = record { ring = t.ring; place = t.place; durable = t.durable; running = t.running }
+
+    pub is_stopped : IsStopped d ps x
+    is_stopped = record {
+      base = end.base;
+      list = end.list;
+      history = history ∙ stands.entries;
+      all = ap (λ (p : Parts). p.appended) h.is ∙ stands.appended;
+      none = ap (λ (p : Parts). p.entries) h.is;
+      durable_within = omega (arith, durable_is, at_end.3.3, at_end.3.5);
+      passes_go_on = λ i p is. let g = at_end.4 i p is in record { own = g.0; reached = omega (arith, durable_is, g.1) };
+      base_is = λ i p is last. (at_end.5 i p is last).0;
+      ends = ends;
+      served = λ t consistent. subst (λ (n : Option ℕ). IsServed (super_of (page_of (image_of end.base) 8)) (page_of (image_of end.base)) n end.list x.mounted.volume) (sym broken_off) (served_now x.mounted.volume halted h t consistent);
+    }
+      where
+        durable_is : x.mounted.log.durable ≡ end.durable
+        durable_is = ap (λ side. side.durable) log ∙ both.log.count

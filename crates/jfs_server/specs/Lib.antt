@@ -1,0 +1,6 @@
+-- what the clauses say
+pub mod Served
+pub mod Start
+pub mod Called
+pub mod Client
+pub mod Stopped

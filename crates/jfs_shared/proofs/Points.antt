@@ -1,0 +1,42 @@
+-- Lists of syncpoints, with a mark or without.
+use Rattle.std.proofs.Common.{◌≡◌, ◌<◌, ℕ, suc, ◌^◌, ◌||◌, Bool, true, false, if◌then◌else◌, List, [], ◌∷◌, ◌++◌, length, refl, sym, ap, arith}
+use Rattle.std.proofs.lemmas.Bool.{false≢true}
+use Rattle.jfs_groups.specs.Points.{halt_mark, is_mark, is_marked, syncs}
+
+-- without a mark all are syncpoints
+pub all_syncs : (ps : List ℕ) → is_marked ps ≡ false → syncs ps ≡ length ps
+all_syncs [] e = refl
+all_syncs (p ∷ ps) e = by (is_mark p) (all_syncs ps) e
+  where
+    by : (b : Bool) → (is_marked ps ≡ false → syncs ps ≡ length ps) → (b || is_marked ps) ≡ false → (if b then syncs ps else suc (syncs ps)) ≡ suc (length ps)
+    by true rest e = absurd (false≢true (sym e))
+    by false rest e = ap (λ (n : ℕ). suc n) (rest e)
+
+-- a mark isn't one
+pub marked_syncs : (ps : List ℕ) → syncs (ps ++ halt_mark ∷ []) ≡ syncs ps
+marked_syncs [] = refl
+marked_syncs (p ∷ ps) = ap (λ (n : ℕ). if is_mark p then n else suc n) (marked_syncs ps)
+
+or_true : (b c : Bool) → c ≡ true → (b || c) ≡ true
+or_true true c e = refl
+or_true false c e = e
+
+pub marked_at_end : (ps : List ℕ) → is_marked (ps ++ halt_mark ∷ []) ≡ true
+marked_at_end [] = refl
+marked_at_end (p ∷ ps) = or_true (is_mark p) (is_marked (ps ++ halt_mark ∷ [])) (marked_at_end ps)
+
+-- and a sync count isn't a mark
+no_mark : (n : ℕ) → n < 2 ^ 64 → is_mark n ≡ false
+no_mark n less = search (arith)
+
+pub synced_more : (ps : List ℕ) (n : ℕ) → n < 2 ^ 64 → syncs (ps ++ n ∷ []) ≡ suc (syncs ps)
+synced_more [] n less = ap (λ (b : Bool). if b then 0 else 1) (no_mark n less)
+synced_more (p ∷ ps) n less = by (is_mark p) (synced_more ps n less)
+  where
+    by : (b : Bool) → syncs (ps ++ n ∷ []) ≡ suc (syncs ps) → (if b then syncs (ps ++ n ∷ []) else suc (syncs (ps ++ n ∷ []))) ≡ suc (if b then syncs ps else suc (syncs ps))
+    by true rest = rest
+    by false rest = ap (λ (k : ℕ). suc k) rest
+
+pub marked_more : (ps : List ℕ) (n : ℕ) → n < 2 ^ 64 → is_marked (ps ++ n ∷ []) ≡ is_marked ps
+marked_more [] n less = ap (λ (b : Bool). b || false) (no_mark n less)
+marked_more (p ∷ ps) n less = ap (λ (b : Bool). is_mark p || b) (marked_more ps n less)
