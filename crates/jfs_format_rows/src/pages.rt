@@ -7,6 +7,7 @@ use crate::words::{
 use jfs_bits::{Moment, put_u8, put_u32};
 use jfs_disk::{Disk, MemDisk, Page};
 use jfs_format::{FormatError, Layout, format};
+use std::alloc::Global;
 use std::test::Fail;
 use uuid::Uuid;
 
@@ -123,18 +124,20 @@ fn each_page_of_a_new_volume(rt: HostRuntime) {
     }
 }
 
-// Pages without a name stay: the reserved ones, free blocks, the work space and the log's first page.
+// Pages without a name: the reserved ones, free blocks, the work space and the log's first page.
+static OTHER_PAGES: [u32; 7] = [0, 7, 33, 3007, 3008, 3071, 3072];
+
 #[test]
 fn other_pages_stay(rt: HostRuntime) {
     let mut disk = MemDisk::new(rt.alloc(), 4096);
     let mark = Page([0x5a; 4096]);
-    for n in [0, 7, 33, 3007, 3008, 3071, 3072] {
-        assert!(rt; n < disk.pages());
-        assert!(rt; disk.write(n, &mark).is_ok());
+    for n in OTHER_PAGES.iter() {
+        assert!(rt; *n < disk.pages());
+        assert!(rt; disk.write(*n, &mark).is_ok());
     }
     assert!(rt; format(&mut disk, Uuid::from_bytes(UUID), b"data", MOMENT).is_ok());
-    for n in [0, 7, 33, 3007, 3008, 3071, 3072] {
-        assert!(rt; is_page(&mut disk, n, &mark));
+    for n in OTHER_PAGES.iter() {
+        assert!(rt; is_page(&mut disk, *n, &mark));
     }
     assert!(rt; is_page(&mut disk, 32, &Page::zeros()));
 }
@@ -155,12 +158,21 @@ fn a_volume_is_made_anew_with_another_name(rt: HostRuntime) {
     assert!(rt; is_page(&mut disk, 29, &wanted(29)));
 }
 
+static BAD_SIZES: [u32; 3] = [0, 4095, 8_388_609];
+
+// The number of pages that a format refuses of such a disk, if it does.
+fn told_size(alloc: Global, pages: u32) -> Option<u32> {
+    let mut disk = MemDisk::new(alloc, pages);
+    match format(&mut disk, Uuid::from_bytes(UUID), b"data", MOMENT) {
+        Err(FormatError::BadSize { pages }) => Some(pages),
+        _ => None,
+    }
+}
+
 #[test]
 fn too_few_and_too_many_pages(rt: HostRuntime) {
-    for pages in [0, 4095, 8_388_609] {
-        let mut disk = MemDisk::new(rt.alloc(), pages);
-        let made = format(&mut disk, Uuid::from_bytes(UUID), b"data", MOMENT);
-        assert!(rt; matches!(made, Err(FormatError::BadSize { pages: told }) if told == pages));
+    for pages in BAD_SIZES.iter() {
+        assert!(rt; told_size(rt.alloc(), *pages) == Some(*pages), "{pages}");
     }
 }
 

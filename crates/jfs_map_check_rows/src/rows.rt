@@ -4,7 +4,7 @@ use crate::changed::{full_iag_passes, iag_passes, passes, small_map};
 
 // Pages of the block map's file and places where a change is told: of the control page its numbers, of level 0 its head, root and
 // leaves, of a dmap its counts, tree, and both maps, up to the bit past the last block.
-const TOLD: [(u32, usize); 21] = [
+static TOLD: [(u32, usize); 21] = [
     (0, 0),
     (0, 8),
     (0, 52),
@@ -29,7 +29,7 @@ const TOLD: [(u32, usize); 21] = [
 ];
 
 // Places that aren't compared: unused bytes, the control page's nine numbers, the pages of levels 2 and 1; and no change.
-const PASSED: [(u32, usize); 14] = [
+static PASSED: [(u32, usize); 14] = [
     (0, 16),
     (0, 48),
     (0, 1089),
@@ -47,14 +47,14 @@ const PASSED: [(u32, usize); 14] = [
 ];
 
 // Places of an IAG without extents where a change is told: its number, summaries and counts.
-const IAG_TOLD: [usize; 5] = [8, 32, 48, 64, 68];
+static IAG_TOLD: [usize; 5] = [8, 32, 48, 64, 68];
 
 // And those that aren't compared: its group, its lists, unused bytes, maps of extents that aren't there; and no change.
-const IAG_PASSED: [usize; 8] = [0, 12, 28, 72, 2047, 2048, 2560, 4096];
+static IAG_PASSED: [usize; 8] = [0, 12, 28, 72, 2047, 2048, 2560, 4096];
 
 // Bits of an IAG whose extents are there, at the borders of the words of 32 bits: of the summaries extents 0, 31, 32 and 127, of both maps inodes 0, 31, 32 and
 // 4,095.
-const BORDERS: [(usize, u8); 16] = [
+static BORDERS: [(usize, u8); 16] = [
     (35, 0x80),
     (32, 1),
     (39, 0x80),
@@ -76,28 +76,28 @@ const BORDERS: [(usize, u8); 16] = [
 #[test]
 fn block_map_rows(rt: HostRuntime) {
     let map = small_map(rt.alloc()).expect(&rt, "memory");
-    for (n, at) in TOLD {
-        assert!(rt; !passes(&map, n, at), "page {n} byte {at}");
+    for (n, at) in TOLD.iter() {
+        assert!(rt; !passes(&map, *n, *at), "page {n} byte {at}");
     }
-    for (n, at) in PASSED {
-        assert!(rt; passes(&map, n, at), "page {n} byte {at}");
+    for (n, at) in PASSED.iter() {
+        assert!(rt; passes(&map, *n, *at), "page {n} byte {at}");
     }
 }
 
 #[test]
 fn inode_map_rows(rt: HostRuntime) {
-    for at in IAG_TOLD {
-        assert!(rt; !iag_passes(at), "byte {at}");
+    for at in IAG_TOLD.iter() {
+        assert!(rt; !iag_passes(*at), "byte {at}");
     }
-    for at in IAG_PASSED {
-        assert!(rt; iag_passes(at), "byte {at}");
+    for at in IAG_PASSED.iter() {
+        assert!(rt; iag_passes(*at), "byte {at}");
     }
 }
 
 #[test]
 fn border_rows(rt: HostRuntime) {
     assert!(rt; full_iag_passes(4096, 1), "no change");
-    for (at, bits) in BORDERS {
-        assert!(rt; !full_iag_passes(at, bits), "byte {at} bits {bits}");
+    for (at, bits) in BORDERS.iter() {
+        assert!(rt; !full_iag_passes(*at, *bits), "byte {at} bits {bits}");
     }
 }

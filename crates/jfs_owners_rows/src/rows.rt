@@ -67,6 +67,9 @@ fn runs_over_and_over(rt: HostRuntime) -> Result<(), AllocError> {
     Ok(())
 }
 
+// Blocks, and how many owners each has.
+static COUNTS: [(u32, u32); 5] = [(999, 0), (1_000, 2), (3_999, 2), (4_000, 1), (4_001, 0)];
+
 // A run that ends within a group of 1,024 blocks, named again and again: the blocks behind it stay as they were.
 #[test]
 fn a_group_with_an_end(rt: HostRuntime) -> Result<(), AllocError> {
@@ -81,8 +84,8 @@ fn a_group_with_an_end(rt: HostRuntime) -> Result<(), AllocError> {
         len: 1,
         addr: 4_000,
     });
-    for (b, count) in [(999, 0), (1_000, 2), (3_999, 2), (4_000, 1), (4_001, 0)] {
-        assert_eq!(rt; owners_at(&owners, b), count);
+    for (b, count) in COUNTS.iter() {
+        assert!(rt; owners_at(&owners, *b) == *count, "{b}");
     }
     assert!(rt; owners.free() == 1_999);
     Ok(())

@@ -7,7 +7,7 @@ use jfs_pages::PageCache;
 use std::alloc::{AllocError, Global};
 use std::test::Fail as TestFail;
 
-const CALLS: [Do; 22] = [
+static CALLS: [Do; 22] = [
     // one line; the last bytes of a page and the first of the next; four pages whole
     Do::Edit(1, 2, 3, 16, 0x11, 5),
     Do::Edit(2, 2, 255, 32, 0x22, 5),
@@ -51,8 +51,8 @@ fn runs(alloc: Global, kind: Kind, number: u64) -> Result<bool, AllocError> {
     let disk = MemDisk::new(alloc, PAGES).with_fails(fails);
     let mut cache = PageCache::new(alloc, disk, PAGES);
     let mut plain = Plain::new(alloc)?;
-    for call in CALLS {
-        if !step(alloc, &mut cache, &mut plain, call)? || !agrees(&mut cache, &plain)? {
+    for call in CALLS.iter() {
+        if !step(alloc, &mut cache, &mut plain, *call)? || !agrees(&mut cache, &plain)? {
             return Ok(false);
         }
     }

@@ -35,36 +35,42 @@ fn breaks(rule: Rule) -> Option<ScriptError> {
     Some(ScriptError::BadScript { line: 1, rule })
 }
 
+static NUMBERS: [&[u8]; 11] = [
+    b"truncate /f 0",
+    b"truncate /f 18446744073709551615",
+    b"truncate /f 00000000000000000001",
+    b"read /f 0 1",
+    b"read /f 0 4096",
+    b"read /f 18446744073709551614 1",
+    b"fill /f 0 65536 00",
+    b"fill /f 18446744073709486079 65536 ff",
+    b"write /f 18446744073709551615 41",
+    b"mkdir /a 000",
+    b"mkdir /a 7777",
+];
+
+static OTHER_NUMBERS: [&[u8]; 9] = [
+    b"truncate /f 18446744073709551616",
+    b"truncate /f 99999999999999999999",
+    b"truncate /f 000000000000000000001",
+    b"read /f 0 0",
+    b"read /f 0 4097",
+    b"read /f 18446744073709551615 1",
+    b"fill /f 0 0 00",
+    b"fill /f 0 65537 00",
+    b"fill /f 18446744073709486080 65536 ff",
+];
+
 #[test]
 fn numbers(rt: HostRuntime) {
-    let alloc = rt.alloc();
-    for line in [
-        b"truncate /f 0".as_slice(),
-        b"truncate /f 18446744073709551615",
-        b"truncate /f 00000000000000000001",
-        b"read /f 0 1",
-        b"read /f 0 4096",
-        b"read /f 18446744073709551614 1",
-        b"fill /f 0 65536 00",
-        b"fill /f 18446744073709486079 65536 ff",
-        b"write /f 18446744073709551615 41",
-        b"mkdir /a 000",
-        b"mkdir /a 7777",
-    ] {
-        assert_eq!(rt; error_of(alloc, line), None);
+    for line in NUMBERS.iter() {
+        assert!(rt; error_of(rt.alloc(), line).is_none(), "{line:?}");
     }
-    for line in [
-        b"truncate /f 18446744073709551616".as_slice(),
-        b"truncate /f 99999999999999999999",
-        b"truncate /f 000000000000000000001",
-        b"read /f 0 0",
-        b"read /f 0 4097",
-        b"read /f 18446744073709551615 1",
-        b"fill /f 0 0 00",
-        b"fill /f 0 65537 00",
-        b"fill /f 18446744073709486080 65536 ff",
-    ] {
-        assert_eq!(rt; error_of(alloc, line), breaks(Rule::Number));
+    for line in OTHER_NUMBERS.iter() {
+        assert!(rt;
+            error_of(rt.alloc(), line) == breaks(Rule::Number),
+            "{line:?}"
+        );
     }
 }
 

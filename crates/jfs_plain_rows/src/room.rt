@@ -80,19 +80,29 @@ fn links_of_a_file(rt: HostRuntime) {
     );
 }
 
+// Free blocks, needed ones, and whether that is too short.
+static SPACE: [(u32, u32, bool); 7] = [
+    (0, 1, true),
+    (71, 8, true),
+    (72, 8, false),
+    (73, 8, false),
+    (u32::MAX, u32::MAX - 63, true),
+    (u32::MAX, u32::MAX - 64, false),
+    (u32::MAX, u32::MAX, true),
+];
+
+fn is_short(free: u32, need: u32) -> bool {
+    why_short(free, need) == Some(Refusal::NoSpace { free })
+}
+
 #[test]
 fn space(rt: HostRuntime) {
-    for (free, need, is_short) in [
-        (0, 1, true),
-        (71, 8, true),
-        (72, 8, false),
-        (73, 8, false),
-        (u32::MAX, u32::MAX - 63, true),
-        (u32::MAX, u32::MAX - 64, false),
-        (u32::MAX, u32::MAX, true),
-    ] {
-        let why = why_short(free, need);
-        assert_eq!(rt; why, is_short.then_some(Refusal::NoSpace { free }));
+    for (free, need, wanted) in SPACE.iter() {
+        assert!(rt; is_short(*free, *need) == *wanted, "{free} {need}");
+        assert!(rt;
+            *wanted || why_short(*free, *need).is_none(),
+            "{free} {need}"
+        );
     }
 }
 

@@ -28,12 +28,17 @@ fn blob(alloc: Global, bytes: &[u8]) -> Result<Blob, AllocError> {
     Ok(blob)
 }
 
+static LISTED: [([u16; 2], u32); 2] = [([0x61, 0x25], 5), ([0xe4, 0x62], 6)];
+
 fn names(alloc: Global) -> Result<NameList, AllocError> {
     let mut names = NameList::new(alloc);
-    for (units, inode) in [([0x61, 0x25], 5), ([0xe4, 0x62], 6)] {
+    for (units, inode) in LISTED.iter() {
         let mut name = Name::new(alloc);
-        name.extend_from_slice(&units)?;
-        names.push(NameEntry { name, inode })?;
+        name.extend_from_slice(units)?;
+        names.push(NameEntry {
+            name,
+            inode: *inode,
+        })?;
     }
     Ok(names)
 }
@@ -86,87 +91,94 @@ fn replies(rt: HostRuntime) {
     assert!(rt; is_line(alloc, listed, false, "7 2.3 names 0 -\n").expect(&rt, "memory"));
 }
 
+static STATS: [(NodeKind, u32, &str); 4] = [
+    (
+        NodeKind::Dir,
+        0,
+        "7 2.3 stat dir 0000 2 3 4 18446744073709551615 5 1000 -\n",
+    ),
+    (
+        NodeKind::File,
+        420,
+        "7 2.3 stat file 0644 2 3 4 18446744073709551615 5 1000 -\n",
+    ),
+    (
+        NodeKind::Link,
+        511,
+        "7 2.3 stat link 0777 2 3 4 18446744073709551615 5 1000 -\n",
+    ),
+    (
+        NodeKind::Other,
+        4095,
+        "7 2.3 stat other 7777 2 3 4 18446744073709551615 5 1000 -\n",
+    ),
+];
+
 #[test]
 fn stats(rt: HostRuntime) {
-    let alloc = rt.alloc();
-    for (kind, mode, wanted) in [
-        (
-            NodeKind::Dir,
-            0,
-            b"7 2.3 stat dir 0000 2 3 4 18446744073709551615 5 1000 -\n".as_slice(),
-        ),
-        (
-            NodeKind::File,
-            420,
-            b"7 2.3 stat file 0644 2 3 4 18446744073709551615 5 1000 -\n",
-        ),
-        (
-            NodeKind::Link,
-            511,
-            b"7 2.3 stat link 0777 2 3 4 18446744073709551615 5 1000 -\n",
-        ),
-        (
-            NodeKind::Other,
-            4095,
-            b"7 2.3 stat other 7777 2 3 4 18446744073709551615 5 1000 -\n",
-        ),
-    ] {
-        let text = line_of(alloc, Reply::Attr(stat(kind, mode)), false).expect(&rt, "memory");
-        assert_eq!(rt; text.as_slice(), wanted);
+    for (kind, mode, wanted) in STATS.iter() {
+        let reply = Reply::Attr(stat(*kind, *mode));
+        assert!(rt;
+            is_line(rt.alloc(), reply, false, wanted).expect(&rt, "memory"),
+            "{wanted}"
+        );
     }
 }
 
+const LOW: Fault = Fault {
+    part: Part::Low,
+    count: 3,
+};
+
+const LOG: Fault = Fault {
+    part: Part::High,
+    count: 1,
+};
+
+static REFUSALS: [(Refusal, &str); 16] = [
+    (Refusal::NotFound, "7 2.3 refused 1 NotFound -\n"),
+    (Refusal::NotDir, "7 2.3 refused 2 NotDir -\n"),
+    (Refusal::IsDir, "7 2.3 refused 3 IsDir -\n"),
+    (Refusal::NotFile, "7 2.3 refused 4 NotFile -\n"),
+    (Refusal::Exists, "7 2.3 refused 5 Exists -\n"),
+    (Refusal::NotEmpty, "7 2.3 refused 6 NotEmpty -\n"),
+    (Refusal::TooManyLinks, "7 2.3 refused 7 TooManyLinks -\n"),
+    (Refusal::FileTooBig, "7 2.3 refused 8 FileTooBig -\n"),
+    (Refusal::IntoItself, "7 2.3 refused 9 IntoItself -\n"),
+    (
+        Refusal::NoSpace { free: 79 },
+        "7 2.3 refused 10 NoSpace 79 -\n",
+    ),
+    (Refusal::NoInodes, "7 2.3 refused 11 NoInodes -\n"),
+    (
+        Refusal::ReadOnly { fault: LOG },
+        "7 2.3 refused 12 ReadOnly log 1 -\n",
+    ),
+    (
+        Refusal::IoFault { fault: LOW },
+        "7 2.3 refused 13 IoFault low 3 -\n",
+    ),
+    (Refusal::OutOfMemory, "7 2.3 refused 14 OutOfMemory -\n"),
+    (
+        Refusal::Damaged {
+            page: 36,
+            rule: Rule::Order,
+        },
+        "7 2.3 refused 15 Damaged 36 order -\n",
+    ),
+    (
+        Refusal::TooDeep { inode: 2 },
+        "7 2.3 refused 16 TooDeep 2 -\n",
+    ),
+];
+
 #[test]
 fn refusals(rt: HostRuntime) {
-    let alloc = rt.alloc();
-    let low = Fault {
-        part: Part::Low,
-        count: 3,
-    };
-    let log = Fault {
-        part: Part::High,
-        count: 1,
-    };
-    for (refusal, wanted) in [
-        (
-            Refusal::NotFound,
-            b"7 2.3 refused 1 NotFound -\n".as_slice(),
-        ),
-        (Refusal::NotDir, b"7 2.3 refused 2 NotDir -\n"),
-        (Refusal::IsDir, b"7 2.3 refused 3 IsDir -\n"),
-        (Refusal::NotFile, b"7 2.3 refused 4 NotFile -\n"),
-        (Refusal::Exists, b"7 2.3 refused 5 Exists -\n"),
-        (Refusal::NotEmpty, b"7 2.3 refused 6 NotEmpty -\n"),
-        (Refusal::TooManyLinks, b"7 2.3 refused 7 TooManyLinks -\n"),
-        (Refusal::FileTooBig, b"7 2.3 refused 8 FileTooBig -\n"),
-        (Refusal::IntoItself, b"7 2.3 refused 9 IntoItself -\n"),
-        (
-            Refusal::NoSpace { free: 79 },
-            b"7 2.3 refused 10 NoSpace 79 -\n",
-        ),
-        (Refusal::NoInodes, b"7 2.3 refused 11 NoInodes -\n"),
-        (
-            Refusal::ReadOnly { fault: log },
-            b"7 2.3 refused 12 ReadOnly log 1 -\n",
-        ),
-        (
-            Refusal::IoFault { fault: low },
-            b"7 2.3 refused 13 IoFault low 3 -\n",
-        ),
-        (Refusal::OutOfMemory, b"7 2.3 refused 14 OutOfMemory -\n"),
-        (
-            Refusal::Damaged {
-                page: 36,
-                rule: Rule::Order,
-            },
-            b"7 2.3 refused 15 Damaged 36 order -\n",
-        ),
-        (
-            Refusal::TooDeep { inode: 2 },
-            b"7 2.3 refused 16 TooDeep 2 -\n",
-        ),
-    ] {
-        let text = line_of(alloc, Reply::Refused(refusal), false).expect(&rt, "memory");
-        assert_eq!(rt; text.as_slice(), wanted);
+    for (refusal, wanted) in REFUSALS.iter() {
+        let reply = Reply::Refused(*refusal);
+        assert!(rt;
+            is_line(rt.alloc(), reply, false, wanted).expect(&rt, "memory"),
+            "{wanted}"
+        );
     }
 }
