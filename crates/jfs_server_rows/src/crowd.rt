@@ -18,6 +18,7 @@ use uuid::Uuid;
 
 /// The time of the formatting, and that of the calls.
 pub const MADE: Moment = Moment { sec: 1000, nano: 7 };
+
 pub const NOW: Moment = Moment { sec: 2000, nano: 9 };
 
 /// A disk with a new volume, on which these calls fail from now on.
@@ -46,7 +47,9 @@ pub fn served<G: Gate + Sync, R: Threads + Wait + Sync>(
     let mut disk = disk;
     let mut marks: Vec<Vec<bool>> = Vec::new(alloc);
     for script in scripts {
-        marks.push(Vec::with_capacity(alloc, script.len()).ok()?).ok()?;
+        marks
+            .push(Vec::with_capacity(alloc, script.len()).ok()?)
+            .ok()?;
     }
     let pages = disk.pages();
     let mut page = Page::zeros();

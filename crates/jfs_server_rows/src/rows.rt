@@ -37,7 +37,8 @@ fn a_group_holds_all_that_waits(rt: HostRuntime) {
     }
 }
 
-static BUSY: &'static [u8] = b"mkdir /a 0755\ncreate /a/f 0644\nlazy rename /a/f /b\nmkdir /c 0755\nunlink /b\nlazy create /c/x 0600\nrename /c /d\nsync\nrmdir /a\nlazy chmod / 0700\ncreate /d/y 0644\nunlink /d/y\n";
+static BUSY: &'static [u8] =
+    b"mkdir /a 0755\ncreate /a/f 0644\nlazy rename /a/f /b\nmkdir /c 0755\nunlink /b\nlazy create /c/x 0600\nrename /c /d\nsync\nrmdir /a\nlazy chmod / 0700\ncreate /d/y 0644\nunlink /d/y\n";
 
 #[test]
 fn histories_are_legal(rt: HostRuntime) {
