@@ -11,10 +11,10 @@ use Rattle.jfs_recovery.specs.Core.{Core, Slot, Step, count, told_page, home_slo
 use Rattle.jfs_recovery.specs.Core.Step.{Take, GroupWrite, Told, Home, LowSync}
 use Rattle.jfs_face.specs.Volume.{face_of}
 use Rattle.jfs_survival.specs.Played.{IsMapHome, MapsAreSynced, step_if, IsPlayed, ArePlayed}
-use Rattle.jfs_survival.specs.Lists.{IsPlain, ArePlain, CanBePlayed, PlainLaw, is_among, AreMapsHome, AllMapsHome, MapsSettle, MapsLaw, TogetherLaw}
+use Rattle.jfs_survival.specs.Lists.{IsPlain, ArePlain, PlainLaw, is_among, AreMapsHome, AllMapsHome, MapsSettle, MapsLaw, TogetherLaw}
 use Rattle.jfs_survival.proofs.Blocks.{never}
 use Rattle.jfs_survival.proofs.Changes.{put_same, put_other}
-use Rattle.jfs_survival.proofs.Runs.{after-join}
+use Rattle.jfs_survival.proofs.Runs.{after-join, run_law}
 
 -- ---- plain changes
 
@@ -43,7 +43,7 @@ plays f both core (Changes Knows) p = refl
 plays f both core GroupIsWritten p = refl
 plays f both core (GroupFails fault) p = refl
 
-plain : (f : Face) (both : Halves) (core : Core) (list : List BothChange) → ArePlain list → CanBePlayed f both core list
+plain : (f : Face) (both : Halves) (core : Core) (list : List BothChange) → ArePlain list → (steps : List Step) × ArePlayed f both core list steps
 plain f both core [] p = ([], refl)
 plain f both core (c ∷ cs) p =
     let own = plain_steps both c in
@@ -51,7 +51,9 @@ plain f both core (c ∷ cs) p =
     (own ++ rest.0, (own, rest.0, refl, plays f both core c p.0, rest.1))
 
 pub plain_law : PlainLaw
-plain_law r pl changes both core list p = plain (face_of r pl changes) both core list p
+plain_law r pl changes both core list areas is fit p =
+    let played = plain (face_of r pl changes) both core list p in
+    (played.0, played.1, run_law r pl changes both core list played.0 areas is fit played.1)
 
 -- ---- pages of the maps
 

@@ -2,14 +2,16 @@
 use Rattle.std.specs.Prelude.{◌≡◌, ℕ, ◌==◌, ◌||◌, Bool, true, false, List, [], ◌∷◌, ◌++◌, None}
 use Rattle.jfs_halves.specs.Half.{Halves}
 use Rattle.jfs_halves.specs.Change.{Enters, GoesHome, Tears, Writes, WriteTears, Syncs, Points}
-use Rattle.jfs_halves.specs.Both.{BothChange, Changes, after}
+use Rattle.jfs_halves.specs.Both.{BothChange, Changes, FitAll, after}
 use Rattle.jfs_recovery.specs.Face.{Face, Pages}
 use Rattle.jfs_recovery.specs.Core.{Core, Step, after_steps}
 use Rattle.jfs_recovery.specs.objects.specs.Readers.{Readers}
 use Rattle.jfs_ranges.specs.declared.edit.Edit.{Edit}
-use Rattle.jfs_face.specs.Places.{Places}
+use Rattle.jfs_face.specs.Places.{Places, AreInAreas}
 use Rattle.jfs_face.specs.Volume.{face_of}
+use Rattle.jfs_survival.specs.Stands.{IsCoreOf}
 use Rattle.jfs_survival.specs.Played.{IsMapHome, MapsAreSynced, ArePlayed}
+use Rattle.jfs_survival.specs.Laws.{IsRunOf}
 
 -- ---- commits
 
@@ -27,13 +29,14 @@ abbrev pub ArePlain : List BothChange → Type 0
 ArePlain [] = Unit {0}
 ArePlain (c ∷ cs) = IsPlain c × ArePlain cs
 
--- some steps of the core are these changes
-abbrev pub CanBePlayed : Face → Halves → Core → List BothChange → Type 0
-CanBePlayed f both core list = (steps : List Step) × ArePlayed f both core list steps
+-- some steps of the core are these changes, and a run of allowed ones
+abbrev pub HasRun : Face → Halves → Core → List BothChange → Type 0
+HasRun f both core list = (steps : List Step) × ArePlayed f both core list steps × IsRunOf f both core list steps
 
 -- So a commit is, and so is what a group and its fault change.
 abbrev pub PlainLaw : Type 0
-PlainLaw = (r : Readers) (pl : Places) (changes : Pages → List Edit → ℕ → Bool) (both : Halves) (core : Core) (list : List BothChange) → ArePlain list → CanBePlayed (face_of r pl changes) both core list
+PlainLaw = (r : Readers) (pl : Places) (changes : Pages → List Edit → ℕ → Bool) (both : Halves) (core : Core) (list : List BothChange) → AreInAreas pl
+    → IsCoreOf (face_of r pl changes) both core → FitAll both list → ArePlain list → HasRun (face_of r pl changes) both core list
 
 -- ---- pages of the maps
 

@@ -12,12 +12,12 @@ pub fn changes_are_a_run()
     ensures { RunLaw }
 {}
 
-/// The core of a volume that was just mounted is the one of its halves.
+/// The core of a volume that was just mounted is the one of its halves, where the maps' pages found there have in each place that counts what canonical ones have.
 pub fn mounted_halves_have_a_core()
     ensures { StartLaw }
 {}
 
-/// After such a run, whatever a crash leaves of the disk and for each log image, redo finds a front of the history with all that was acknowledged before, and leaves the volume after that front.
+/// After such a run, whatever a crash leaves of the disk and for each log image, redo of the core finds a front of the history with all that was acknowledged before, and leaves the volume after that front, where the image after it is a volume with its maps where they were mounted.
 pub fn crashes_leave_a_prefix()
     ensures { CrashLaw }
 {}
@@ -62,7 +62,7 @@ pub fn other_map_pages_stay()
     ensures { MarkedLaw }
 {}
 
-/// So an entry whose transaction logs what matters joins the halves as an append that the core allows: it takes no busy block, and changes no page of a map but those of a map that it marks.
+/// So an entry whose transaction logs what matters joins the halves as an append that the core allows: it takes no busy block, and changes no page of a map but those of a map that it marks. The volumes before it and after it have the owners of their images, and agree with their maps, and blocks that are busy in the core are busy in the half's map.
 pub fn logged_entries_are_appends()
     ensures { EntersLaw }
 {}
