@@ -1,6 +1,6 @@
 //! One of a server's clients, which does a script's calls.
 
-ghost use Rattle.std.specs.Prelude.{◌≡◌, ◌∷◌, ◌++◌, ◌||◌, [], false, Some};
+ghost use Rattle.std.specs.Prelude.{◌≡◌, ◌<◌, ◌∷◌, ◌++◌, ◌||◌, [], false, Some, length, vec_capacity};
 ghost use Rattle.jfs_server.specs.Client.{is_waiting, has_failed};
 
 use crate::server::{Server, ServerPass};
@@ -90,8 +90,7 @@ impl<'a, D: Disk, G: Gate> Caller for Client<'a, D, G> {
             .server
             .call(rt, pass, line, request, self.now, self.gate);
         if pass.calls_left() < left {
-            self.waits.push_reserved(is_waiting(ack));
-            self.failed = self.failed || has_failed(ack);
+            self.failed = mark(&mut self.waits, self.failed, ack);
         }
         match self.pass.replace(pass) {
             None => {}
@@ -99,6 +98,16 @@ impl<'a, D: Disk, G: Gate> Caller for Client<'a, D, G> {
         }
         (reply, ack)
     }
+}
+
+/// Marks an entry, and tells whether one couldn't be made durable.
+fn mark(waits: &mut Vec<bool>, failed: bool, ack: Ack) -> bool
+    requires room { length waits.old.items < vec_capacity waits.old }
+    ensures waits { (waits.new.items ≡ waits.old.items ++ is_waiting ack ∷ []) × (vec_capacity waits.new ≡ vec_capacity waits.old) }
+    ensures failed { result ≡ failed || has_failed ack }
+{
+    waits.push_reserved(is_waiting(ack));
+    failed || has_failed(ack)
 }
 
 /// Whether an entry had to be made durable.
