@@ -1,10 +1,9 @@
 -- What a commit or a syncpoint makes of both values, in the words of many clients' calls.
-use Rattle.std.proofs.Common.{◌≡◌, ◌≤◌, ℕ, suc, List, [], ◌∷◌, ◌++◌, length, append-nil, refl, sym, ap, arith}
+use Rattle.std.proofs.Common.{ℕ, suc, [], ◌∷◌, ◌++◌, length, append-nil, refl, arith}
 use Rattle.std.proofs.lemmas.List.{length-append}
 use Rattle.jfs_disk.specs.declared.disk.Disk.{Ghosts}
 use Rattle.jfs_groups.specs.declared.log.SharedLog.{SharedLog}
-use Rattle.jfs_turns.specs.Lists.{IsPrefix}
-use Rattle.jfs_serving.specs.Room.{Seen, AreOf, AreTogether, HasRoom, MakesRoom}
+use Rattle.jfs_serving.specs.Room.{Seen, AreOf, AreTogether, MakesRoom}
 use Rattle.jfs_serving.proofs.Numbers.{front_is_short}
 use Rattle.jfs_shared.specs.Both as shared
 use Rattle.jfs_shared.specs.Entries.{Recorded}
@@ -32,84 +31,84 @@ module _ {D : Type 0} (d : Ghosts D) (x : SharedVolume D) (y : SharedLog D d) wh
 
     pub committed : ((n : shared.Seen) → shared.AreOf (shared_standing d) (log_standing d) n x y → shared.Committed (shared_standing d) (log_standing d) n x' y') → Makes
     committed c = λ n k. let both = c (seen n) (are n k) in (
-        n.points,
-        record {
-          told = length n.list;
-          durable = length n.list;
-          known = n.known;
-          stable = n.stable;
-          volume = both.0;
-          log = both.1;
-          counted = both.0.points_are;
-          told_within = omega arith;
-          durable_grows = k.durable_within;
-          durable_within = omega arith;
-          points_grow = ([], append-nil n.points);
-          known_within = k.known_within;
-          stable_grows = omega arith;
-          stable_within = k.stable_within;
-        },
-      )
+      n.points,
+      record {
+        told = length n.list;
+        durable = length n.list;
+        known = n.known;
+        stable = n.stable;
+        volume = both.0;
+        log = both.1;
+        counted = both.0.points_are;
+        told_within = omega arith;
+        durable_grows = k.durable_within;
+        durable_within = omega arith;
+        points_grow = ([], append-nil n.points);
+        known_within = k.known_within;
+        stable_grows = omega arith;
+        stable_within = k.stable_within;
+      },
+    )
 
     pub lost : ((n : shared.Seen) → shared.AreOf (shared_standing d) (log_standing d) n x y → shared.Lost (shared_standing d) (log_standing d) n x' y') → Makes
     lost c = λ n k. let both = c (seen n) (are n k) in (
-        both.0,
-        record {
-          told = n.told;
-          durable = n.durable;
-          known = n.known;
-          stable = n.stable;
-          volume = both.2;
-          log = both.3;
-          counted = both.2.points_are;
-          told_within = k.told_within;
-          durable_grows = omega arith;
-          durable_within = k.durable_within;
-          points_grow = both.1;
-          known_within = k.known_within;
-          stable_grows = omega arith;
-          stable_within = let w = k.stable_within in omega (arith, w, front_is_short n.points both.0 both.1);
-        },
-      )
+      both.0,
+      record {
+        told = n.told;
+        durable = n.durable;
+        known = n.known;
+        stable = n.stable;
+        volume = both.2;
+        log = both.3;
+        counted = both.2.points_are;
+        told_within = k.told_within;
+        durable_grows = omega arith;
+        durable_within = k.durable_within;
+        points_grow = both.1;
+        known_within = k.known_within;
+        stable_grows = omega arith;
+        stable_within = let w = k.stable_within in omega (arith, w, front_is_short n.points both.0 both.1);
+      },
+    )
 
     pub pointed : ((n : shared.Seen) → shared.AreOf (shared_standing d) (log_standing d) n x y → shared.Pointed (shared_standing d) (log_standing d) n x' y') → Makes
     pointed c = λ n k. let both = c (seen n) (are n k) in (
-        n.points ++ length n.list ∷ [],
-        record {
-          told = length n.list;
-          durable = length n.list;
-          known = suc (length n.points);
-          stable = suc (length n.points);
-          volume = both.0;
-          log = both.1;
-          counted = both.0.points_are;
-          told_within = omega arith;
-          durable_grows = k.durable_within;
-          durable_within = omega arith;
-          points_grow = (length n.list ∷ [], refl);
-          known_within = omega arith;
-          stable_grows = let w = k.stable_within in omega (arith, w);
-          stable_within = omega (arith, length-append n.points (length n.list ∷ []));
-        },
-      )
+      n.points ++ length n.list ∷ [],
+      record {
+        told = length n.list;
+        durable = length n.list;
+        known = suc (length n.points);
+        stable = suc (length n.points);
+        volume = both.0;
+        log = both.1;
+        counted = both.0.points_are;
+        told_within = omega arith;
+        durable_grows = k.durable_within;
+        durable_within = omega arith;
+        points_grow = (length n.list ∷ [], refl);
+        known_within = omega arith;
+        stable_grows = let w = k.stable_within in omega (arith, w);
+        stable_within = omega (arith, length-append n.points (length n.list ∷ []));
+      },
+    )
 
     pub partly : ((n : shared.Seen) → shared.AreOf (shared_standing d) (log_standing d) n x y → shared.PartlyPointed (shared_standing d) (log_standing d) n x' y') → Makes
     partly c = λ n k. let p = c (seen n) (are n k) in (
-        p.points_now,
-        record {
-          told = p.told_now;
-          durable = p.durable_now;
-          known = n.known;
-          stable = n.stable;
-          volume = p.volume;
-          log = p.log;
-          counted = p.volume.points_are;
-          told_within = p.told_within;
-          durable_grows = p.durable_grows;
-          durable_within = p.durable_within;
-          points_grow = p.points_grow;
-          known_within = k.known_within;
-          stable_grows = omega arith;
-          stable_within = let w = k.stable_within in omega (arith, w, front_is_short n.points p.points_now p.points_grow);
-        },
-      )
+      p.points_now,
+      record {
+        told = p.told_now;
+        durable = p.durable_now;
+        known = n.known;
+        stable = n.stable;
+        volume = p.volume;
+        log = p.log;
+        counted = p.volume.points_are;
+        told_within = p.told_within;
+        durable_grows = p.durable_grows;
+        durable_within = p.durable_within;
+        points_grow = p.points_grow;
+        known_within = k.known_within;
+        stable_grows = omega arith;
+        stable_within = let w = k.stable_within in omega (arith, w, front_is_short n.points p.points_now p.points_grow);
+      },
+    )

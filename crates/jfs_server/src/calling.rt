@@ -31,15 +31,6 @@ impl<D: Disk> Server<D> {
         requires fits { FitsRequest request.now }
         ensures called { IsCalled D.Disk (asked pass.client line request.now now) result.0 result.1 pass result.2 }
     {
-        call_by(
-            rt,
-            self.alloc,
-            &self.turns,
-            pass,
-            line,
-            request,
-            now,
-            gate,
-        )
+        call_by(rt, self.alloc, &self.turns, pass, line, request, now, gate)
     }
 }

@@ -8,7 +8,7 @@ loop-line-init g c = begins g.C.Caller.left g.C.Caller.did c.args.lines.now c.ar
 pub call-reply-requires : goal.call-reply-requires
 call-reply-requires g c =
     let may = asks g.C.Caller.left g.C.Caller.did c.args.lines.now c.loop-line.line-index c.line-item.result c.args.caller.now c.loop-line.caller c.loop-line-test.true c.line-item.is c.loop-line.invariant in
-    record { sync = c.type_bounds.sync-R.shared; one = may.0; fits = may.1 }
+    record { one = may.0; fits = may.1 }
 
 pub loop-line-preserved : goal.loop-line-preserved
 loop-line-preserved g c =
