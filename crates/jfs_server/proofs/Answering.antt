@@ -18,8 +18,7 @@ use Rattle.jfs_serving.specs.Calls.{Asked, asked, is_rename}
 use Rattle.jfs_shared.specs.Calls as shared
 use Rattle.jfs_shared.specs.declared.shared.SharedVolume.{SharedVolume}
 use Rattle.jfs_shared.specs.Shared.{standing as shared_standing}
-use Rattle.jfs_server.specs.Served.{standing, client_of, entry_in, moment_of, answers_of, given_by, outcome_by}
-use Rattle.jfs_server.specs.declared.served.ServedVolume.{ServedVolume}
+use Rattle.jfs_server.specs.Served.{standing, client_of, entry_in, moment_of, answers_of, given_by}
 
 a_rename : (call : Call) → renames call ≡ true → is_rename call ≡ true
 a_rename (calls.Rename from to) e = refl

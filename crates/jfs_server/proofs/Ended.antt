@@ -1,8 +1,6 @@
 -- What the volume and the log of a server are once all passes are back.
-use Rattle.std.proofs.Common.{◌≡◌, ◌≤◌, ◌⊎◌, ℕ, suc, Bool, true, false, List, [], length, Option, Some, None, refl, sym, ap, subst, ◌∙◌, inl, inr, arith}
+use Rattle.std.proofs.Common.{◌≡◌, ◌≤◌, ◌⊎◌, ℕ, true, false, List, [], length, Option, Some, None, refl, sym, ap, subst, ◌∙◌, inl, inr, arith}
 use Rattle.std.proofs.lemmas.Bool.{false≢true}
-use mathlib.Core.Option.{some}
-use lib.ListN.{get_elem?}
 use Rattle.jfs_bits.specs.Count.{Rose}
 use Rattle.jfs_disk.specs.Image.{page_of}
 use Rattle.jfs_disk.specs.declared.disk.Disk.{Ghosts}
@@ -14,7 +12,6 @@ use Rattle.jfs_groups.specs.Points.{is_marked}
 use Rattle.jfs_groups.specs.Start.{Grows}
 use Rattle.jfs_groups.specs.declared.log.SharedLog.{SharedLog}
 use Rattle.jfs_legal.proofs.Going.{handed_law}
-use Rattle.jfs_legal.specs.served.specs.call.specs.Lent.{AreBoth}
 use Rattle.jfs_legal.specs.served.specs.crash_core.specs.Step.{halted_by}
 use Rattle.jfs_legal.specs.served.specs.halves.specs.Parts.{Parts}
 use Rattle.jfs_legal.specs.served.specs.halves.specs.Log.{LogParts}
@@ -24,15 +21,14 @@ use Rattle.jfs_volume_calls.proofs.Kept.{group_settles, group_pages}
 use Rattle.jfs_shared.specs.Base.{MountStart, start_of, image_of}
 use Rattle.jfs_shared.specs.Both as shared
 use Rattle.jfs_shared.specs.Entries.{Recorded}
-use Rattle.jfs_shared.specs.Faults.{any_failed, HasRisen, IsOfDisk}
-use Rattle.jfs_shared.specs.Shared.{IsShared, IsServed, IfConsistent, GoesOn as HistoryGoesOn, standing as shared_standing, entries_in, timed_in}
+use Rattle.jfs_shared.specs.Faults.{any_failed, HasRisen}
+use Rattle.jfs_shared.specs.Shared.{IsShared, IsServed, IfConsistent, GoesOn as HistoryGoesOn, standing as shared_standing, timed_in}
 use Rattle.jfs_shared.proofs.Served.{served_settled}
 use Rattle.jfs_shared.proofs.Together.{together}
-use Rattle.jfs_turns.specs.Passes as passes
 use Rattle.jfs_turns.specs.Passes.{End, AtEnd}
 use Rattle.jfs_turns.specs.declared.turns.Pass.{Pass}
 use Rattle.jfs_server.specs.Served.{standing, log_standing, client_of}
-use Rattle.jfs_server.specs.Stopped.{AnyRose, GoesOn, IsEndOf, IsStopped, HaltsAs}
+use Rattle.jfs_server.specs.Stopped.{AnyRose, IsEndOf, IsStopped, HaltsAs}
 use Rattle.jfs_server.specs.declared.served.ServedVolume.{ServedVolume}
 use Rattle.jfs_server.specs.declared.stopping.Stopped.{Stopped}
 

@@ -1,10 +1,9 @@
 -- What a commit or a syncpoint makes of both values, in the words of many clients' calls.
-use Rattle.std.proofs.Common.{◌≡◌, ◌≤◌, ℕ, suc, List, [], ◌∷◌, ◌++◌, length, append-nil, refl, sym, ap, arith}
+use Rattle.std.proofs.Common.{ℕ, suc, [], ◌∷◌, ◌++◌, length, append-nil, refl, arith}
 use Rattle.std.proofs.lemmas.List.{length-append}
 use Rattle.jfs_disk.specs.declared.disk.Disk.{Ghosts}
 use Rattle.jfs_groups.specs.declared.log.SharedLog.{SharedLog}
-use Rattle.jfs_turns.specs.Lists.{IsPrefix}
-use Rattle.jfs_serving.specs.Room.{Seen, AreOf, AreTogether, HasRoom, MakesRoom}
+use Rattle.jfs_serving.specs.Room.{Seen, AreOf, AreTogether, MakesRoom}
 use Rattle.jfs_serving.proofs.Numbers.{front_is_short}
 use Rattle.jfs_shared.specs.Both as shared
 use Rattle.jfs_shared.specs.Entries.{Recorded}

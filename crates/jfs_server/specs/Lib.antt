@@ -2,5 +2,4 @@
 pub mod Served
 pub mod Start
 pub mod Called
-pub mod Client
 pub mod Stopped

@@ -1,5 +1,4 @@
-use Rattle.std.proofs.Common.{◌≡◌, refl, subst, ap, ◌∙◌}
-use Rattle.jfs_legal.specs.served.specs.halves.specs.Parts.{Parts}
+use Rattle.std.proofs.Common.{refl, subst, ◌∙◌}
 use Rattle.jfs_server.specs.Stopped.{HaltsAs}
 use Rattle.jfs_server.proofs.Ended.{handed_out, entries_of, is_stopped}
 use Rattle.jfs_server.proofs.stopping.hand_out.Goals as goal
