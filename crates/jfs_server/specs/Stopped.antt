@@ -1,10 +1,11 @@
 -- What a server leaves once all its passes are back.
-use Rattle.std.specs.Prelude.{◌≡◌, ◌⊎◌, ◌≤◌, ℕ, suc, false, List, [], length, Option, Some, None}
+use Rattle.std.specs.Prelude.{◌≡◌, ◌⊎◌, ◌≤◌, ℕ, suc, true, false, is_some, List, [], length, Option, Some, None}
 use mathlib.Core.Option.{some}
 use lib.ListN.{get_elem?}
 use Rattle.jfs_bits.specs.Count.{Rose}
 use Rattle.jfs_disk.specs.declared.disk.Disk.{Ghosts}
 use Rattle.jfs_disk.specs.declared.disk.Fault.{Fault}
+use Rattle.jfs_disk.specs.declared.disk.Part.TheVariants.{High}
 use Rattle.jfs_groups.specs.Start.{Grows}
 use Rattle.jfs_groups.specs.declared.log.SharedLog.{SharedLog}
 use Rattle.jfs_legal.specs.served.specs.call.specs.Lent.{AreBoth}
@@ -21,6 +22,10 @@ use Rattle.jfs_server.specs.Served.{client_of}
 use Rattle.jfs_server.specs.declared.served.ServedVolume.{ServedVolume}
 use Rattle.jfs_server.specs.declared.stopping.Stopped.{Stopped}
 
+-- A log halts by its part's last fault, whose count rose since the mount.
+abbrev pub HaltsLog : MountStart → ℕ → Fault → Type 0
+HaltsLog m log_faults fault = (fault ≡ record { part = High; count = log_faults }) × Rose m.log.faults log_faults
+
 -- a count of one of the parts rose since the mount
 abbrev pub AnyRose : MountStart → Parts → ℕ → Type 0
 AnyRose m volume log_faults = Rose m.faults volume.faults ⊎ Rose m.log.faults log_faults
@@ -30,7 +35,7 @@ pub record GoesOn {D : Type 0} (d : Ghosts D) (list : List Recorded) (durable : 
   pub own : HasOwn client_of p.client p.seat.me.0.list list
   pub reached : p.seat.me.0.durable ≤ durable
 
--- The parts of the disk are those of the mount, and may be joined again. The volume runs as long as no count of faults rose, and no call was refused for a fault then. Where the log has halted, so has the volume.
+-- The parts of the disk are those of the mount, and may be joined again. The volume runs as long as no count of faults rose, and no call was refused for a fault then.
 pub record IsEndOf {D : Type 0} (d : Ghosts D) (m : MountStart) (x : Stopped D d) : Type 0 where
   pub pages : x.mounted.volume.count ≡ m.pages
   pub room : x.mounted.volume.room ≡ m.room
@@ -39,6 +44,8 @@ pub record IsEndOf {D : Type 0} (d : Ghosts D) (m : MountStart) (x : Stopped D d
   pub log_faults : Grows m.log.faults (d.fault_count x.mounted.log.part)
   pub runs : (x.mounted.volume.halted ≡ None) ⊎ AnyRose m x.mounted.volume (d.fault_count x.mounted.log.part)
   pub calm : (any_failed x.history.items ≡ false) ⊎ AnyRose m x.mounted.volume (d.fault_count x.mounted.log.part)
+  -- where the log has halted, so has the volume
+  pub halts : (fault : Fault) → x.mounted.log.halted ≡ Some fault → HaltsLog m (d.fault_count x.mounted.log.part) fault × (is_some x.mounted.volume.halted ≡ true)
   -- so that it may be committed, unmounted or left
   pub size : length x.mounted.volume.map.states ≤ x.mounted.volume.blocks
   pub both : AreBoth x.mounted.volume (log_parts d x.mounted.log)
