@@ -23,7 +23,7 @@ use Rattle.jfs_shared.specs.Base.{MountStart, start_of, image_of}
 use Rattle.jfs_shared.specs.Both as shared
 use Rattle.jfs_shared.specs.Entries.{Recorded}
 use Rattle.jfs_shared.specs.Faults.{any_failed, HasRisen}
-use Rattle.jfs_shared.specs.Shared.{IsShared, IsServed, IfConsistent, GoesOn as HistoryGoesOn, standing as shared_standing, timed_in}
+use Rattle.jfs_shared.specs.Shared.{IsShared, IsServed, IfConsistent, BreaksWithin, GoesOn as HistoryGoesOn, standing as shared_standing, timed_in}
 use Rattle.jfs_shared.proofs.Served.{served_settled}
 use Rattle.jfs_shared.proofs.Together.{together}
 use Rattle.jfs_turns.specs.Passes.{End, AtEnd}
@@ -186,6 +186,7 @@ module _ {D : Type 0} (d : Ghosts D) (ps : List (Pass (ServedVolume D) (SharedLo
       durable_within = omega (arith, durable_is, at_end.3.3, at_end.3.5);
       passes_go_on = λ i p is. let g = at_end.4 i p is in record { own = g.0; reached = omega (arith, durable_is, g.1) };
       base_is = λ i p is last. (at_end.5 i p is last).0;
+      breaks = subst (λ (n : Option ℕ). BreaksWithin n (length end.list)) (sym broken_off) stands.breaks;
       ends = ends;
       served = λ t consistent. subst (λ (n : Option ℕ). IsServed (super_of (page_of (image_of end.base) 8)) (page_of (image_of end.base)) n end.list x.mounted.volume) (sym broken_off) (served_now x.mounted.volume halted h t consistent);
     }

@@ -64,6 +64,11 @@ abbrev pub broken_by : ℕ → Option ℕ → Option ℕ
 broken_by n None = Some n
 broken_by n (Some m) = Some m
 
+-- not behind so many entries
+abbrev pub BreaksWithin : Option ℕ → ℕ → Type 0
+BreaksWithin None entries = Unit {0}
+BreaksWithin (Some n) entries = n ≤ entries
+
 -- ---- a log that has halted
 
 -- A volume that ran until then counts a mark more, and one that had halted before doesn't.
@@ -97,6 +102,7 @@ pub record IsShared (tells : Type 0) (base : Base) (list : List Recorded) (taken
   pub taken_within : taken ≤ length list
   pub text : HasText (start_of base).log.ring list taken (syncs points) p.text
   pub size : length p.map.states ≤ p.blocks
+  pub breaks : BreaksWithin broken_off (length list)
   pub disk : IsOfDisk (start_of base) points p
   pub served : tells → IfConsistent base (λ s page. IsServed s page broken_off list p)
 
