@@ -1,4 +1,5 @@
 -- What the volume and the log of a server are once all passes are back.
+use Rattle.std.specs.Prelude.{is_some}
 use Rattle.std.proofs.Common.{◌≡◌, ◌≤◌, ◌⊎◌, ℕ, true, false, List, [], length, Option, Some, None, refl, sym, ap, subst, ◌∙◌, inl, inr, arith}
 use Rattle.std.proofs.lemmas.Bool.{false≢true}
 use Rattle.jfs_bits.specs.Count.{Rose}
@@ -22,13 +23,13 @@ use Rattle.jfs_shared.specs.Base.{MountStart, start_of, image_of}
 use Rattle.jfs_shared.specs.Both as shared
 use Rattle.jfs_shared.specs.Entries.{Recorded}
 use Rattle.jfs_shared.specs.Faults.{any_failed, HasRisen}
-use Rattle.jfs_shared.specs.Shared.{IsShared, IsServed, IfConsistent, GoesOn as HistoryGoesOn, standing as shared_standing, timed_in}
+use Rattle.jfs_shared.specs.Shared.{IsShared, IsServed, IfConsistent, BreaksWithin, GoesOn as HistoryGoesOn, standing as shared_standing, timed_in}
 use Rattle.jfs_shared.proofs.Served.{served_settled}
 use Rattle.jfs_shared.proofs.Together.{together}
 use Rattle.jfs_turns.specs.Passes.{End, AtEnd}
 use Rattle.jfs_turns.specs.declared.turns.Pass.{Pass}
 use Rattle.jfs_server.specs.Served.{standing, log_standing, client_of}
-use Rattle.jfs_server.specs.Stopped.{AnyRose, IsEndOf, IsStopped, HaltsAs}
+use Rattle.jfs_server.specs.Stopped.{AnyRose, IsEndOf, IsStopped, HaltsAs, HaltsLog}
 use Rattle.jfs_server.specs.declared.served.ServedVolume.{ServedVolume}
 use Rattle.jfs_server.specs.declared.stopping.Stopped.{Stopped}
 
@@ -38,6 +39,10 @@ none_some f e = absurd (cc)
 halted_runs : (fault : Fault) (halted : Option Fault) → halted_by fault halted ≡ None → ⊥
 halted_runs fault None e = none_some fault (sym e)
 halted_runs fault (Some first) e = none_some first (sym e)
+
+halted_is : (fault : Fault) (halted : Option Fault) → is_some (halted_by fault halted) ≡ true
+halted_is fault None = refl
+halted_is fault (Some first) = refl
 
 pub entries_of : (log : Option Fault) (old mid : Parts) → HaltsAs log old mid → mid.entries ≡ old.entries
 entries_of None old mid h = ap (λ (p : Parts). p.entries) h
@@ -111,6 +116,13 @@ module _ {D : Type 0} (d : Ghosts D) (ps : List (Pass (ServedVolume D) (SharedLo
       by (inl (same, runs)) = runs
       by (inr (fault, halts, is)) = absurd (halted_runs fault old.halted (sym is ∙ sym (ap (λ (p : Parts). p.halted) h.is) ∙ none))
 
+  halts_too : (new : Parts) (halted : Option Fault) → HandedOut new halted → (fault : Fault) → y.side.halted ≡ Some fault → is_some new.halted ≡ true
+  halts_too new halted h fault log_halts = by h.halts
+    where
+      by : (halted ≡ old.halted) × (y.side.halted ≡ None) ⊎ ((fault : Fault) × (y.side.halted ≡ Some fault) × (halted ≡ halted_by fault old.halted)) → is_some new.halted ≡ true
+      by (inl (same, runs)) = absurd (none_some fault (sym runs ∙ log_halts))
+      by (inr (first, halts, is)) = ap is_some (ap (λ (p : Parts). p.halted) h.is ∙ is) ∙ halted_is first old.halted
+
   abbrev s : Super
   s = super_of (page_of (image_of end.base) 8)
 
@@ -152,6 +164,11 @@ module _ {D : Type 0} (d : Ghosts D) (ps : List (Pass (ServedVolume D) (SharedLo
       log_faults = subst (λ side. Grows m.log.faults (d.fault_count side.part)) (sym log) both.log.faults;
       runs = moved (runs_now x.mounted.volume halted h);
       calm = moved (subst (λ (es : List Entry). (any_failed es ≡ false) ⊎ (Rose m.faults old.faults ⊎ Rose m.log.faults log_faults)) (sym history) (over stands.disk.calm));
+      halts = λ fault e.
+          let halts : y.side.halted ≡ Some fault = ap (λ side. side.halted) (sym log) ∙ e in (
+            subst (λ side. HaltsLog m (d.fault_count side.part) fault) (sym log) (both.log.halts fault halts),
+            halts_too x.mounted.volume halted h fault halts,
+          );
       size = subst (λ (p : Parts). length p.map.states ≤ p.blocks) (sym h.is) stands.size;
       both = λ none. subst {A = Parts × LogParts} (λ z. AreTogether z.0 z.1) (λ i. (sym h.is i, log_parts d (sym log i))) (again (together d _ v.shared y both (log_runs x.mounted.volume halted h none)));
     }
@@ -169,6 +186,7 @@ module _ {D : Type 0} (d : Ghosts D) (ps : List (Pass (ServedVolume D) (SharedLo
       durable_within = omega (arith, durable_is, at_end.3.3, at_end.3.5);
       passes_go_on = λ i p is. let g = at_end.4 i p is in record { own = g.0; reached = omega (arith, durable_is, g.1) };
       base_is = λ i p is last. (at_end.5 i p is last).0;
+      breaks = subst (λ (n : Option ℕ). BreaksWithin n (length end.list)) (sym broken_off) stands.breaks;
       ends = ends;
       served = λ t consistent. subst (λ (n : Option ℕ). IsServed (super_of (page_of (image_of end.base) 8)) (page_of (image_of end.base)) n end.list x.mounted.volume) (sym broken_off) (served_now x.mounted.volume halted h t consistent);
     }

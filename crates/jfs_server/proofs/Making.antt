@@ -1,19 +1,27 @@
 -- What a commit or a syncpoint makes of both values, in the words of many clients' calls.
-use Rattle.std.proofs.Common.{ℕ, suc, [], ◌∷◌, ◌++◌, length, append-nil, refl, arith}
+use Rattle.std.proofs.Common.{◌⊎◌, ℕ, suc, List, [], ◌∷◌, ◌++◌, length, inl, inr, append-nil, append_assoc, refl, sym, ◌∙◌, arith}
 use Rattle.std.proofs.lemmas.List.{length-append}
 use Rattle.jfs_disk.specs.declared.disk.Disk.{Ghosts}
+use Rattle.jfs_groups.proofs.Leading.{behind_all}
 use Rattle.jfs_groups.specs.declared.log.SharedLog.{SharedLog}
 use Rattle.jfs_serving.specs.Room.{Seen, AreOf, AreTogether, MakesRoom}
 use Rattle.jfs_serving.proofs.Numbers.{front_is_short}
 use Rattle.jfs_shared.specs.Both as shared
+use Rattle.jfs_shared.specs.Both.{MayBeMarked}
 use Rattle.jfs_shared.specs.Entries.{Recorded}
 use Rattle.jfs_shared.specs.Shared.{standing as shared_standing}
 use Rattle.jfs_shared.specs.declared.shared.SharedVolume.{SharedVolume}
+use Rattle.jfs_turns.specs.Lists.{IsPrefix}
 use Rattle.jfs_server.specs.Served.{standing, log_standing}
 use Rattle.jfs_server.specs.declared.served.ServedVolume.{ServedVolume}
 
 abbrev pub seen : Seen Recorded → shared.Seen
 seen n = record { base = n.base; list = n.list; log_list = n.log_list; taken = n.taken; told = n.told; durable = n.durable; points = n.points; known = n.known; stable = n.stable }
+
+-- a syncpoint more or none, and a mark or none, only go on
+pointed_on : (points later : List ℕ) (n : ℕ) → MayBeMarked points later ⊎ MayBeMarked (points ++ n ∷ []) later → IsPrefix points later
+pointed_on points later n (inl same) = behind_all points later same
+pointed_on points later n (inr one) = let on = behind_all (points ++ n ∷ []) later one in (n ∷ on.0, sym (append_assoc points (n ∷ []) on.0) ∙ on.1)
 
 abbrev pub counted : {D : Type 0} → ServedVolume D → ℕ
 counted v = v.shared.points
@@ -64,10 +72,10 @@ module _ {D : Type 0} (d : Ghosts D) (x : SharedVolume D) (y : SharedLog D d) wh
         told_within = k.told_within;
         durable_grows = omega arith;
         durable_within = k.durable_within;
-        points_grow = both.1;
+        points_grow = behind_all n.points both.0 both.1;
         known_within = k.known_within;
         stable_grows = omega arith;
-        stable_within = let w = k.stable_within in omega (arith, w, front_is_short n.points both.0 both.1);
+        stable_within = let w = k.stable_within in omega (arith, w, front_is_short n.points both.0 (behind_all n.points both.0 both.1));
       },
     )
 
@@ -106,9 +114,9 @@ module _ {D : Type 0} (d : Ghosts D) (x : SharedVolume D) (y : SharedLog D d) wh
         told_within = p.told_within;
         durable_grows = p.durable_grows;
         durable_within = p.durable_within;
-        points_grow = p.points_grow;
+        points_grow = pointed_on n.points p.points_now (length n.list) p.points_grow;
         known_within = k.known_within;
         stable_grows = omega arith;
-        stable_within = let w = k.stable_within in omega (arith, w, front_is_short n.points p.points_now p.points_grow);
+        stable_within = let w = k.stable_within in omega (arith, w, front_is_short n.points p.points_now (pointed_on n.points p.points_now (length n.list) p.points_grow));
       },
     )

@@ -1,10 +1,11 @@
 -- What a server leaves once all its passes are back.
-use Rattle.std.specs.Prelude.{◌≡◌, ◌⊎◌, ◌≤◌, ℕ, suc, false, List, [], length, Option, Some, None}
+use Rattle.std.specs.Prelude.{◌≡◌, ◌⊎◌, ◌≤◌, ℕ, suc, true, false, is_some, List, [], length, Option, Some, None}
 use mathlib.Core.Option.{some}
 use lib.ListN.{get_elem?}
 use Rattle.jfs_bits.specs.Count.{Rose}
 use Rattle.jfs_disk.specs.declared.disk.Disk.{Ghosts}
 use Rattle.jfs_disk.specs.declared.disk.Fault.{Fault}
+use Rattle.jfs_disk.specs.declared.disk.Part.TheVariants.{High}
 use Rattle.jfs_groups.specs.Start.{Grows}
 use Rattle.jfs_groups.specs.declared.log.SharedLog.{SharedLog}
 use Rattle.jfs_legal.specs.served.specs.call.specs.Lent.{AreBoth}
@@ -14,12 +15,16 @@ use Rattle.jfs_legal.specs.served.specs.volume_calls.specs.Together.{log_parts}
 use Rattle.jfs_shared.specs.Base.{MountStart, start_of}
 use Rattle.jfs_shared.specs.Entries.{Recorded}
 use Rattle.jfs_shared.specs.Faults.{any_failed}
-use Rattle.jfs_shared.specs.Shared.{IsServed, IfConsistent, entries_in}
+use Rattle.jfs_shared.specs.Shared.{IsServed, IfConsistent, BreaksWithin, entries_in}
 use Rattle.jfs_turns.specs.Lists.{Base, HasOwn}
 use Rattle.jfs_turns.specs.declared.turns.Pass.{Pass}
 use Rattle.jfs_server.specs.Served.{client_of}
 use Rattle.jfs_server.specs.declared.served.ServedVolume.{ServedVolume}
 use Rattle.jfs_server.specs.declared.stopping.Stopped.{Stopped}
+
+-- A log halts by its part's last fault, whose count rose since the mount.
+abbrev pub HaltsLog : MountStart → ℕ → Fault → Type 0
+HaltsLog m log_faults fault = (fault ≡ record { part = High; count = log_faults }) × Rose m.log.faults log_faults
 
 -- a count of one of the parts rose since the mount
 abbrev pub AnyRose : MountStart → Parts → ℕ → Type 0
@@ -30,7 +35,7 @@ pub record GoesOn {D : Type 0} (d : Ghosts D) (list : List Recorded) (durable : 
   pub own : HasOwn client_of p.client p.seat.me.0.list list
   pub reached : p.seat.me.0.durable ≤ durable
 
--- The parts of the disk are those of the mount, and may be joined again. The volume runs as long as no count of faults rose, and no call was refused for a fault then. Where the log has halted, so has the volume.
+-- The parts of the disk are those of the mount, and may be joined again. The volume runs as long as no count of faults rose, and no call was refused for a fault then.
 pub record IsEndOf {D : Type 0} (d : Ghosts D) (m : MountStart) (x : Stopped D d) : Type 0 where
   pub pages : x.mounted.volume.count ≡ m.pages
   pub room : x.mounted.volume.room ≡ m.room
@@ -39,11 +44,13 @@ pub record IsEndOf {D : Type 0} (d : Ghosts D) (m : MountStart) (x : Stopped D d
   pub log_faults : Grows m.log.faults (d.fault_count x.mounted.log.part)
   pub runs : (x.mounted.volume.halted ≡ None) ⊎ AnyRose m x.mounted.volume (d.fault_count x.mounted.log.part)
   pub calm : (any_failed x.history.items ≡ false) ⊎ AnyRose m x.mounted.volume (d.fault_count x.mounted.log.part)
+  -- where the log has halted, so has the volume
+  pub halts : (fault : Fault) → x.mounted.log.halted ≡ Some fault → HaltsLog m (d.fault_count x.mounted.log.part) fault × (is_some x.mounted.volume.halted ≡ true)
   -- so that it may be committed, unmounted or left
   pub size : length x.mounted.volume.map.states ≤ x.mounted.volume.blocks
   pub both : AreBoth x.mounted.volume (log_parts d x.mounted.log)
 
--- One list of entries goes on all that the passes know. The history is the list's entries, in its order, and none waits in the volume. Of a disk that tells its contents, and whose base is consistent, they are a legal history from that image on, which goes on from this volume, or up to where it broke off.
+-- One list of entries goes on all that the passes know. The history is the list's entries, in its order, and none waits in the volume. Of a disk that tells its contents, and whose base is consistent, they are a legal history from that image on, which goes on from this volume, or up to where it broke off, behind entries of the list.
 pub record IsStopped {D : Type 0} (d : Ghosts D) (passes : List (Pass (ServedVolume D) (SharedLog D d) Recorded)) (x : Stopped D d) : Type 0 where
   pub base : Base
   pub list : List Recorded
@@ -54,6 +61,7 @@ pub record IsStopped {D : Type 0} (d : Ghosts D) (passes : List (Pass (ServedVol
   pub passes_go_on : (i : ℕ) (p : Pass (ServedVolume D) (SharedLog D d) Recorded) → get_elem? passes i ≡ some p → GoesOn d list x.mounted.log.durable p
   -- that of the last pass
   pub base_is : (i : ℕ) (p : Pass (ServedVolume D) (SharedLog D d) Recorded) → get_elem? passes i ≡ some p → suc i ≡ length passes → p.seat.me.0.base ≡ base
+  pub breaks : BreaksWithin x.broken_off (length list)
   pub ends : IsEndOf d (start_of base) x
   pub served : d.tells → IfConsistent base (λ s page. IsServed s page x.broken_off list x.mounted.volume)
 

@@ -80,6 +80,7 @@ module _ (tells crashes : Type 0) (s : Super) (image : Image) (volume : Parts) (
     told_within = omega arith;
     taken_within = omega arith;
     text = text;
+    breaks = tt;
     disk = record { pages = refl; room = refl; few = few; faults = inl refl; calm = inl (ap any_failed stands.entries); runs = inl m.runs; unmarked = λ _. refl };
     size = let same = ap (λ map. length map.states) m.mount.has_maps.0 in let number = m.mount.rest.number in omega (arith, same, number, within);
     served = λ t. subst (λ (k : Super). IsConsistentImage k (page_of image) → IsServed k (page_of image) None [] volume) (sym (m.spelled t)) (served t);

@@ -1,5 +1,5 @@
 -- A syncpoint behind a commit: what volume and log stand for on the way.
-use Rattle.std.proofs.Common.{◌≡◌, ◌≤◌, ℕ, ◌+◌, List, [], length, None, Result, Ok, Err, refl, sym, ap, ◌∙◌, arith, append-nil}
+use Rattle.std.proofs.Common.{◌≡◌, ◌≤◌, ℕ, ◌+◌, List, [], length, None, Result, Ok, Err, refl, inl, sym, ap, ◌∙◌, arith, append-nil}
 use Rattle.jfs_bits.specs.Count.{Rose}
 use Rattle.jfs_disk.specs.declared.disk.Disk.{Ghosts}
 use Rattle.jfs_disk.specs.declared.disk.Fault.{Fault}
@@ -40,7 +40,7 @@ module _ {D : Type 0} (d : Ghosts D) (x : SharedVolume D) (y : SharedLog D d) (r
     durable_grows = omega arith;
     told_within = k.told_within;
     durable_within = durable_within;
-    points_grow = lost.1;
+    points_grow = inl lost.1;
   }
 
   module _ (x' : SharedVolume D) (y' : SharedLog D d) (c : Committed (standing d) (log_standing d) n x' y') (new : Parts) (is : IsSettled x'.volume new) where
@@ -65,7 +65,7 @@ module _ {D : Type 0} (d : Ghosts D) (x : SharedVolume D) (y : SharedLog D d) (r
       durable_grows = durable_within;
       told_within = omega arith;
       durable_within = omega arith;
-      points_grow = ([], append-nil n.points);
+      points_grow = inl (inl refl);
     }
 
     -- ---- a SYNCPT may follow

@@ -36,7 +36,7 @@ use Rattle.jfs_shared.specs.Calls.{recorded}
 use Rattle.jfs_legal.specs.served.specs.crash_core.specs.Step.{halted_by}
 use Rattle.jfs_shared.specs.Home.{IsSettled}
 use Rattle.jfs_shared.specs.Faults.{IsOfDisk}
-use Rattle.jfs_shared.specs.Shared.{logs_of, entries_in, HasText, IsShared, IsServed, IfConsistent, broken_by}
+use Rattle.jfs_shared.specs.Shared.{logs_of, entries_in, HasText, IsShared, IsServed, IfConsistent, BreaksWithin, broken_by}
 use Rattle.jfs_shared.specs.Entries.{Recorded}
 use Rattle.jfs_shared.proofs.Text.{added, reaches, taken_text, joined_text, pointed_text}
 use Rattle.jfs_shared.proofs.Disk.{same_disk, pointed_disk, marked_disk, replied_disk, asked_disk, lacked_disk, home_disk, stopped_disk}
@@ -47,6 +47,15 @@ use Rattle.jfs_shared.proofs.Served.{served_joined, served_asked, served_lacked,
 pub none_of : (halted : Option Fault) → is_some halted ≡ false → halted ≡ None
 none_of None e = refl
 none_of (Some fault) e = absurd (false≢true (sym e))
+
+-- a history breaks off once, behind entries that there are
+longer_breaks : (broken : Option ℕ) (n m : ℕ) → n ≤ m → BreaksWithin broken n → BreaksWithin broken m
+longer_breaks None n m on within = tt
+longer_breaks (Some k) n m on within = omega (arith, on, within)
+
+broken_within : (broken : Option ℕ) (n m : ℕ) → n ≡ m → BreaksWithin broken m → BreaksWithin (broken_by n broken) m
+broken_within None n m is within = omega (arith, is)
+broken_within (Some k) n m is within = within
 
 entries_more : (list : List Recorded) (e : Recorded) → entries_in (list ++ e ∷ []) ≡ entries_in list ++ e.entry ∷ []
 entries_more [] e = refl
@@ -75,8 +84,8 @@ module _ (tells : Type 0) (base : Base) (list : List Recorded) (taken told : ℕ
   page = page_of (image_of base)
 
   -- nothing of them changes
-  pub alike_stands : (later : Option ℕ) (new : Parts) → Alike old new → IsOfDisk (start_of base) points new → (tells → IfConsistent base (λ s page. IsServed s page later list new)) → IsShared tells base list taken told points known made later new
-  alike_stands later new a disk served = record {
+  pub alike_stands : (later : Option ℕ) (new : Parts) → BreaksWithin later (length list) → Alike old new → IsOfDisk (start_of base) points new → (tells → IfConsistent base (λ s page. IsServed s page later list new)) → IsShared tells base list taken told points known made later new
+  alike_stands later new breaks a disk served = record {
     entries = a.entries ∙ h.entries;
     appended = a.appended ∙ h.appended;
     taken_is = a.taken ∙ h.taken_is;
@@ -88,6 +97,7 @@ module _ (tells : Type 0) (base : Base) (list : List Recorded) (taken told : ℕ
     taken_within = h.taken_within;
     text = subst (λ (t : Text). HasText (start_of base).log.ring list taken (syncs points) t) (sym a.text) h.text;
     size = let before = h.size in omega (arith, a.map, a.blocks, before);
+    breaks = breaks;
     disk = disk;
     served = served;
   }
@@ -112,6 +122,7 @@ module _ (tells : Type 0) (base : Base) (list : List Recorded) (taken told : ℕ
         text = joined_text (start_of base).log.ring list taken (syncs points) old.text h.text h.taken_within e new.text a.keeps.ring a.keeps.place
             (g.bytes ∙ ap (λ (n : ℕ). old.text.bytes ++ added noted n old.text) next) (g.last ∙ next);
         size = let before = h.size in omega (arith, a.keeps.size, a.keeps.blocks, before);
+        breaks = longer_breaks broken (length list) (length (list ++ e ∷ [])) (omega (arith, length-append list (e ∷ []))) h.breaks;
         disk = replied_disk client line request old new (start_of base) points h.disk reply number waits a;
         served = λ t consistent. served_joined tells crashes t s page broken list (record { caller = record { client = client; line = line }; request = request; now = now }) old new reply number waits noted (h.served t consistent) d;
       },
@@ -142,12 +153,12 @@ module _ (tells : Type 0) (base : Base) (list : List Recorded) (taken told : ℕ
     }
 
     pub asked_stands : IsAnswered client line request old new NeedsLog → Does tells crashes (record { client = client; line = line }) request now old new NeedsLog → Stood old new → IsShared tells base list taken told points known made broken new
-    asked_stands a d g = alike_stands broken new (left a.entry.entries a.entry.appended a.keeps g) (asked_disk client line request old new (start_of base) points h.disk a)
+    asked_stands a d g = alike_stands broken new h.breaks (left a.entry.entries a.entry.appended a.keeps g) (asked_disk client line request old new (start_of base) points h.disk a)
         (λ t consistent. served_asked tells crashes t s page broken list (record { caller = record { client = client; line = line }; request = request; now = now }) old new (h.served t consistent) d)
 
     pub lacked_stands : (n : ℕ) → n ≡ new.appended → IsAnswered client line request old new NoMemory → Does tells crashes (record { client = client; line = line }) request now old new NoMemory → Stood old new
         → IsShared tells base list taken told points known made (broken_by n broken) new
-    lacked_stands n is a d g = alike_stands (broken_by n broken) new (left a.entry.entries a.entry.appended a.keeps g) (lacked_disk client line request old new (start_of base) points h.disk a)
+    lacked_stands n is a d g = alike_stands (broken_by n broken) new (broken_within broken n (length list) (is ∙ a.entry.appended ∙ h.appended) h.breaks) (left a.entry.entries a.entry.appended a.keeps g) (lacked_disk client line request old new (start_of base) points h.disk a)
         (λ t consistent. served_lacked tells crashes t s page broken list n (record { caller = record { client = client; line = line }; request = request; now = now }) old new
         (is ∙ a.entry.appended ∙ h.appended) (h.served t consistent) d)
 
@@ -167,6 +178,7 @@ module _ (tells : Type 0) (base : Base) (list : List Recorded) (taken told : ℕ
     taken_within = omega arith;
     text = taken_text (start_of base).log.ring list taken (syncs points) old.text h.text h.taken_within new.text (ap (λ (p : Parts). p.text.ring) e) (ap (λ (p : Parts). p.text.place) e) (ap (λ (p : Parts). p.text.bytes) e) (ap (λ (p : Parts). p.text.last) e);
     size = subst (λ (p : Parts). length p.map.states ≤ p.blocks) (sym e) h.size;
+    breaks = h.breaks;
     disk = same_disk (start_of base) points old h.disk new (record { count = ap (λ (p : Parts). p.count) e; room = ap (λ (p : Parts). p.room) e; faults = ap (λ (p : Parts). p.faults) e; entries = ap (λ (p : Parts). p.entries) e; halted = ap (λ (p : Parts). p.halted) e });
     served = λ t consistent. served_settled tells ⊥ t s page broken list old new (group_settles old new parts) (group_pages tells old new parts) (h.served t consistent);
   }
@@ -197,6 +209,7 @@ module _ (tells : Type 0) (base : Base) (list : List Recorded) (taken told : ℕ
     taken_within = h.taken_within;
     text = subst {A = Text × ℕ} (λ z. HasText (start_of base).log.ring list taken z.1 z.0) (λ i. (sym (ap (λ (p : Parts). p.text) e) i, sym (marked_syncs points) i)) h.text;
     size = subst (λ (p : Parts). length p.map.states ≤ p.blocks) (sym e) h.size;
+    breaks = h.breaks;
     disk = marked_disk (start_of base) points old h.disk fault new e;
     served = λ t consistent. served_settled tells ⊥ t s page broken list old new (group_settles old new parts) (group_pages tells old new parts) (h.served t consistent);
   }
@@ -223,6 +236,7 @@ module _ (tells : Type 0) (base : Base) (list : List Recorded) (taken told : ℕ
     taken_within = h.taken_within;
     text = subst (λ (t : Text). HasText (start_of base).log.ring list taken (syncs points) t) (sym (ap (λ (p : Parts). p.text) e)) h.text;
     size = let before = h.size in omega (arith, before, ap (λ (p : Parts). length p.map.states) e ∙ as_many_states n old.map, ap (λ (p : Parts). p.blocks) e);
+    breaks = h.breaks;
     disk = same_disk (start_of base) points old h.disk new (record { count = ap (λ (p : Parts). p.count) e; room = ap (λ (p : Parts). p.room) e; faults = ap (λ (p : Parts). p.faults) e; entries = ap (λ (p : Parts). p.entries) e; halted = ap (λ (p : Parts). p.halted) e });
     served = λ t consistent. served_settled tells ⊥ t s page broken list old new settles (record { files = ap (λ (p : Parts). p.files) e; view = shows }) (h.served t consistent);
   }
@@ -255,11 +269,11 @@ module _ (tells : Type 0) (base : Base) (list : List Recorded) (taken told : ℕ
   }
 
   pub home_stands : (new : Parts) → IsSettled old new → new.faults ≡ old.faults → new.halted ≡ old.halted → Settles old new → StaysShown tells old new → (tells → WritesMaps old new) → IsShared tells base list taken told points known made broken new
-  home_stands new e faults halted settles shown maps = alike_stands broken new (home_alike new e) (home_disk (start_of base) points old new h.disk e faults halted) (λ t consistent. served_pointed tells ⊥ t s page broken list old new settles shown (maps t) (h.served t consistent))
+  home_stands new e faults halted settles shown maps = alike_stands broken new h.breaks (home_alike new e) (home_disk (start_of base) points old new h.disk e faults halted) (λ t consistent. served_pointed tells ⊥ t s page broken list old new settles shown (maps t) (h.served t consistent))
 
   -- one of them can't
   pub stopped_stands : (n : ℕ) (new : Parts) → n ≡ new.appended → IsSettled old new → (fault : Fault) → Rose old.faults new.faults → new.halted ≡ halted_by fault old.halted → IsShared tells base list taken told points known made (broken_by n broken) new
-  stopped_stands n new is e fault rose halts = let a = home_alike new e in alike_stands (broken_by n broken) new a (stopped_disk (start_of base) points old new h.disk e fault rose halts)
+  stopped_stands n new is e fault rose halts = let a = home_alike new e in alike_stands (broken_by n broken) new (broken_within broken n (length list) (is ∙ a.appended ∙ h.appended) h.breaks) a (stopped_disk (start_of base) points old new h.disk e fault rose halts)
       (λ t consistent. served_failed tells ⊥ t s page broken list n old new (is ∙ a.appended ∙ h.appended) (h.served t consistent))
 
   -- ---- a SYNCPT
@@ -283,6 +297,7 @@ module _ (tells : Type 0) (base : Base) (list : List Recorded) (taken told : ℕ
     text = subst (λ (n : ℕ). HasText (start_of base).log.ring list (length list) n new.text) (sym (synced_more points (length list) few))
         (pointed_text (start_of base).log.ring list taken (syncs points) old.text h.text h.taken_within new.text all (ap (λ (p : Parts). p.text.ring) e) (ap (λ (p : Parts). p.text.place) e) (ap (λ (p : Parts). p.text.bytes) e ∙ empty) (ap (λ (p : Parts). p.text.last) e));
     size = subst (λ (p : Parts). length p.map.states ≤ p.blocks) (sym e) h.size;
+    breaks = h.breaks;
     disk = pointed_disk (start_of base) points old h.disk (points ++ length list ∷ []) new (marked_more points (length list) few) (record { count = ap (λ (p : Parts). p.count) e; room = ap (λ (p : Parts). p.room) e; faults = ap (λ (p : Parts). p.faults) e; entries = ap (λ (p : Parts). p.entries) e; halted = ap (λ (p : Parts). p.halted) e });
     served = λ t consistent. beside new (e ∙ ap (λ (p : Parts). record old { points = p.points; known = p.known; taken = p.taken; text = p.text; halted = p.halted }) (sym e)) t consistent;
   }
@@ -301,6 +316,7 @@ module _ (tells : Type 0) (base : Base) (list : List Recorded) (taken told : ℕ
     taken_within = h.taken_within;
     text = subst (λ (t : Text). HasText (start_of base).log.ring list taken (syncs points) t) (sym (ap (λ (p : Parts). p.text) e)) h.text;
     size = subst (λ (p : Parts). length p.map.states ≤ p.blocks) (sym e) h.size;
+    breaks = h.breaks;
     disk = same_disk (start_of base) points old h.disk new (record { count = ap (λ (p : Parts). p.count) e; room = ap (λ (p : Parts). p.room) e; faults = ap (λ (p : Parts). p.faults) e; entries = ap (λ (p : Parts). p.entries) e; halted = ap (λ (p : Parts). p.halted) e });
     served = λ t consistent. beside new (e ∙ ap (λ (p : Parts). record old { points = p.points; known = p.known; taken = p.taken; text = p.text; halted = p.halted }) (sym e)) t consistent;
   }

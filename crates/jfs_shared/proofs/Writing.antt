@@ -1,5 +1,5 @@
 -- A group of all that waits: its write, and what volume and log stand for then.
-use Rattle.std.proofs.Common.{◌≡◌, ◌≤◌, ◌<◌, ◌⊎◌, ℕ, suc, ◌+◌, ◌*◌, ◌^◌, List, [], ◌∷◌, ◌++◌, length, None, false, sym, ap, subst, ◌∙◌, arith, append_assoc}
+use Rattle.std.proofs.Common.{◌≡◌, ◌≤◌, ◌<◌, ◌⊎◌, ℕ, suc, ◌+◌, ◌*◌, ◌^◌, List, [], ◌∷◌, ◌++◌, length, None, false, inr, sym, ap, subst, ◌∙◌, arith}
 use Rattle.jfs_disk.specs.Image.{page_of}
 use Rattle.jfs_disk.specs.declared.disk.Disk.{Ghosts}
 use Rattle.jfs_disk.specs.declared.disk.Fault.{Fault}
@@ -9,13 +9,11 @@ use Rattle.jfs_logpages.specs.Group.{pages_of, room_of, position_of}
 use Rattle.jfs_logpages.specs.Records.{log_text}
 use Rattle.jfs_records.specs.Entries.{point}
 use Rattle.jfs_records.proofs.ReadBack.{length-items}
-use Rattle.jfs_turns.specs.Lists.{IsPrefix}
 use Rattle.jfs_groups.specs.Group.{IsGroupOf, Halts}
 use Rattle.jfs_groups.specs.Points.{halt_mark, syncs}
 use Rattle.jfs_groups.specs.Log.{LogStandsFor, data_of}
 use Rattle.jfs_groups.specs.Written.{IsGroupWritten, IsGroupLost}
 use Rattle.jfs_groups.specs.declared.log.SharedLog.{SharedLog}
-use Rattle.jfs_groups.proofs.Leading.{behind_all}
 use Rattle.jfs_groups.proofs.Stands.{may_write, written_stands, lost_stands}
 use Rattle.jfs_call.specs.halves.specs.Parts.{Parts}
 use Rattle.jfs_call.specs.volume.specs.bmap.specs.States.{blocks_settled}
@@ -39,9 +37,6 @@ pub record IsTakenFrom (old new : Parts) (group : GroupText) : Type 0 where
   pub last : group.last ≡ old.appended
   pub room : IsWithinRoom old.text.ring old.text.sync old.text.place (length group.bytes.items)
   pub parts : new ≡ record old { taken = old.appended; text = record old.text { place = old.text.place + length old.text.bytes; bytes = []; ends = [] } }
-
-prefix_on : (xs more ys : List ℕ) → IsPrefix (xs ++ more) ys → IsPrefix xs ys
-prefix_on xs more ys (rest, e) = (more ++ rest, sym (append_assoc xs more rest) ∙ e)
 
 module _ {D : Type 0} (d : Ghosts D) (x : SharedVolume D) (y : SharedLog D d) (runs : y.side.halted ≡ None) where
   -- ---- a group
@@ -69,7 +64,7 @@ module _ {D : Type 0} (d : Ghosts D) (x : SharedVolume D) (y : SharedLog D d) (r
     lost y' fault last halts w n k =
         let g = halts n.base n.list (length n.list) n.told n.points n.known (taken n k) in (
           g.0,
-          behind_all n.points g.0 g.1,
+          g.1,
           g.2,
           lost_stands logs_of d.tells d.tells_crashes (log_start_of n.base) (data_of d y) (data_of d y') n.log_list n.list n.taken (length n.list) n.durable n.points g.0 n.stable fault k.log w,
         )
@@ -133,7 +128,7 @@ module _ {D : Type 0} (d : Ghosts D) (x : SharedVolume D) (y : SharedLog D d) (r
         durable_grows = let b = k.volume.taken_within in omega (arith, b, durable_taken);
         told_within = omega arith;
         durable_within = omega arith;
-        points_grow = prefix_on n.points (length n.list ∷ []) halted.0 (behind_all (n.points ++ length n.list ∷ []) halted.0 halted.1);
+        points_grow = inr halted.1;
       }
         where
           halted : (later : List ℕ) × ((later ≡ n.points ++ length n.list ∷ []) ⊎ (later ≡ (n.points ++ length n.list ∷ []) ++ halt_mark ∷ [])) × IsShared d.tells n.base n.list (length n.list) (length n.list) later n.known later_volume.points later_volume.broken_off later_volume.volume × (later_volume.points ≡ length later)

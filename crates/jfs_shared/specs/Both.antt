@@ -1,10 +1,11 @@
 -- A volume and its log, as whoever has both turns holds them.
-use Rattle.std.specs.Prelude.{◌≡◌, ◌≤◌, ◌++◌, ◌∷◌, [], ℕ, suc, List, length, None, Result, Ok, Err}
+use Rattle.std.specs.Prelude.{◌≡◌, ◌≤◌, ◌⊎◌, ◌++◌, ◌∷◌, [], ℕ, suc, List, length, None, Result, Ok, Err}
 use Rattle.jfs_disk.specs.declared.disk.Disk.{Ghosts}
 use Rattle.jfs_disk.specs.declared.disk.Fault.{Fault}
 use Rattle.jfs_logpages.specs.declared.fault.LogFault.{LogFault}
 use Rattle.jfs_turns.specs.Lists.{Base, IsPrefix}
 use Rattle.jfs_turns.specs.Standing.{Standing}
+use Rattle.jfs_groups.specs.Points.{halt_mark}
 use Rattle.jfs_groups.specs.declared.log.SharedLog.{SharedLog}
 use Rattle.jfs_legal.specs.served.specs.volume_calls.specs.Together as calls
 use Rattle.jfs_shared.specs.Entries.{Recorded}
@@ -21,6 +22,10 @@ pub record Seen : Type 0 where
   pub points : List ℕ
   pub known : ℕ
   pub stable : ℕ
+
+-- the same syncpoints, and behind them a mark that the log has halted, or none
+abbrev pub MayBeMarked : List ℕ → List ℕ → Type 0
+MayBeMarked points later = (later ≡ points) ⊎ (later ≡ points ++ halt_mark ∷ [])
 
 module _ {V L : Type 0} (of_volume : Standing V Recorded) (of_log : Standing L Recorded) where
   -- The log's list is a front of the volume's, and nothing is acknowledged that isn't durable.
@@ -39,9 +44,9 @@ module _ {V L : Type 0} (of_volume : Standing V Recorded) (of_log : Standing L R
   abbrev pub Committed : Seen → V → L → Type 0
   Committed n x y = of_volume x n.base n.list (length n.list) (length n.list) n.points n.known × of_log y n.base n.list (length n.list) (length n.list) n.points n.stable
 
-  -- All are taken, and no more is durable or acknowledged. Behind the syncpoints there may be a mark that the log has halted.
+  -- All are taken, and no more is durable or acknowledged. There is a mark where the volume counts one more.
   abbrev pub Lost : Seen → V → L → Type 0
-  Lost n x y = (points : List ℕ) × IsPrefix n.points points × of_volume x n.base n.list (length n.list) n.told points n.known × of_log y n.base n.list (length n.list) n.durable points n.stable
+  Lost n x y = (points : List ℕ) × MayBeMarked n.points points × of_volume x n.base n.list (length n.list) n.told points n.known × of_log y n.base n.list (length n.list) n.durable points n.stable
 
   -- on the way: all are taken and durable
   abbrev pub Written : Seen → V → L → Type 0
@@ -63,7 +68,7 @@ module _ {V L : Type 0} (of_volume : Standing V Recorded) (of_log : Standing L R
       of_volume x n.base n.list (length n.list) (length n.list) (n.points ++ length n.list ∷ []) (suc (length n.points))
       × of_log y n.base n.list (length n.list) (length n.list) (n.points ++ length n.list ∷ []) (suc (length n.points))
 
-  -- All entries are taken. More of them may be durable and acknowledged, and there may be a syncpoint more, which isn't stable, and a mark that the log has halted.
+  -- All entries are taken. More of them may be durable and acknowledged. There may be a syncpoint more, at which all entries were durable and which isn't stable, and behind it a mark that the log has halted.
   pub record PartlyPointed (n : Seen) (x : V) (y : L) : Type 0 where
     pub told_now : ℕ
     pub durable_now : ℕ
@@ -74,7 +79,7 @@ module _ {V L : Type 0} (of_volume : Standing V Recorded) (of_log : Standing L R
     pub durable_grows : n.durable ≤ durable_now
     pub told_within : told_now ≤ durable_now
     pub durable_within : durable_now ≤ length n.list
-    pub points_grow : IsPrefix n.points points_now
+    pub points_grow : MayBeMarked n.points points_now ⊎ MayBeMarked (n.points ++ length n.list ∷ []) points_now
 
   abbrev pub PointIs : V → L → V → L → Result (Unit {0}) Fault → Type 0
   PointIs x y x' y' (Ok done) = (n : Seen) → AreOf n x y → Pointed n x' y'

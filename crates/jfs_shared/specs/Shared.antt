@@ -1,7 +1,8 @@
 -- What a mounted volume stands for, as the value that the volume turn guards.
-use Rattle.std.specs.Prelude.{◌≡◌, ◌≤◌, ℕ, suc, List, length, map, take, drop, Option, Some, None}
+use Rattle.std.specs.Prelude.{◌≡◌, ◌≤◌, ◌+◌, ℕ, suc, List, length, map, take, drop, Option, Some, None}
 use Rattle.jfs_disk.specs.Image.{page_of}
 use Rattle.jfs_disk.specs.declared.disk.Disk.{Ghosts}
+use Rattle.jfs_disk.specs.declared.disk.Fault.{Fault}
 use Rattle.jfs_super.specs.Super.{super_of}
 use Rattle.jfs_super.specs.declared.fields.Super.{Super}
 use Rattle.jfs_plain.specs.declared.call.Entry.{Entry}
@@ -63,6 +64,18 @@ abbrev pub broken_by : ℕ → Option ℕ → Option ℕ
 broken_by n None = Some n
 broken_by n (Some m) = Some m
 
+-- not behind so many entries
+abbrev pub BreaksWithin : Option ℕ → ℕ → Type 0
+BreaksWithin None entries = Unit {0}
+BreaksWithin (Some n) entries = n ≤ entries
+
+-- ---- a log that has halted
+
+-- A volume that ran until then counts a mark more, and one that had halted before doesn't.
+abbrev pub marked_by : Option Fault → ℕ → ℕ
+marked_by None n = n + 1
+marked_by (Some first) n = n
+
 -- so from a volume that holds the tree of an image, and hasn't halted
 pub record IsServed (s : Super) (page : ℕ → List ℕ) (broken_off : Option ℕ) (list : List Recorded) (p : Parts) : Type 0 where
   pub start : Parts
@@ -89,6 +102,7 @@ pub record IsShared (tells : Type 0) (base : Base) (list : List Recorded) (taken
   pub taken_within : taken ≤ length list
   pub text : HasText (start_of base).log.ring list taken (syncs points) p.text
   pub size : length p.map.states ≤ p.blocks
+  pub breaks : BreaksWithin broken_off (length list)
   pub disk : IsOfDisk (start_of base) points p
   pub served : tells → IfConsistent base (λ s page. IsServed s page broken_off list p)
 

@@ -5,7 +5,7 @@ ghost use Rattle.jfs_volume_calls.specs.Commit.{HasLogFault};
 ghost use Rattle.jfs_volume_calls.specs.volume.specs.Settle.{is_idle};
 ghost use Rattle.jfs_legal.specs.served.specs.crash_core.specs.Step.{halted_by};
 ghost use Rattle.jfs_shared.specs.Both.{AreTogether, CommitIs, WriteIs};
-ghost use Rattle.jfs_shared.specs.Shared.{standing, log_standing};
+ghost use Rattle.jfs_shared.specs.Shared.{marked_by, standing, log_standing};
 
 use crate::shared::SharedVolume;
 use jfs_disk::Disk;
@@ -29,6 +29,7 @@ pub fn commit_with<D: Disk>(
     ensures cause { HasLogFault (D.fault_count log.old.side.part) (D.fault_count log.new.side.part) result }
     ensures parts { (shared.new.volume.faults ≡ shared.old.volume.faults) × (D.page_count log.new.side.part ≡ D.page_count log.old.side.part) }
     ensures points { OnOk result (shared.new.points ≡ shared.old.points) }
+    ensures marks { IfErr result (λ why. shared.new.points ≡ marked_by shared.old.volume.halted shared.old.points) }
     ensures breaks { shared.new.broken_off ≡ shared.old.broken_off }
     // Where there is nothing to write the log isn't called.
     ensures idle { is_idle shared.old.volume ≡ true → log.new ≡ log.old }
@@ -56,6 +57,7 @@ fn write_waiting<D: Disk>(
     ensures cause { HasLogFault (D.fault_count log.old.side.part) (D.fault_count log.new.side.part) result }
     ensures parts { (shared.new.volume.faults ≡ shared.old.volume.faults) × (D.page_count log.new.side.part ≡ D.page_count log.old.side.part) }
     ensures points { OnOk result (shared.new.points ≡ shared.old.points) }
+    ensures marks { IfErr result (λ why. shared.new.points ≡ marked_by shared.old.volume.halted shared.old.points) }
     ensures breaks { shared.new.broken_off ≡ shared.old.broken_off }
     ensures all { shared.new.volume.appended ≡ shared.old.volume.appended }
     ensures idle { is_idle shared.old.volume ≡ true → log.new ≡ log.old }
@@ -77,6 +79,7 @@ fn write<D: Disk>(shared: &mut SharedVolume<D>, log: &mut SharedLog<D>) -> Resul
     ensures cause { HasLogFault (D.fault_count log.old.side.part) (D.fault_count log.new.side.part) result }
     ensures parts { (shared.new.volume.faults ≡ shared.old.volume.faults) × (D.page_count log.new.side.part ≡ D.page_count log.old.side.part) }
     ensures points { OnOk result (shared.new.points ≡ shared.old.points) }
+    ensures marks { IfErr result (λ why. shared.new.points ≡ marked_by shared.old.volume.halted shared.old.points) }
     ensures breaks { shared.new.broken_off ≡ shared.old.broken_off }
     ensures all { shared.new.volume.appended ≡ shared.old.volume.appended }
 {

@@ -3,7 +3,7 @@
 ghost use Rattle.std.specs.Prelude.{◌≡◌};
 ghost use Rattle.jfs_groups.specs.Group.{Halts};
 ghost use Rattle.jfs_legal.specs.served.specs.crash_core.specs.Step.{halted_by};
-ghost use Rattle.jfs_shared.specs.Shared.{Stands, standing};
+ghost use Rattle.jfs_shared.specs.Shared.{Stands, marked_by, standing};
 
 use crate::shared::SharedVolume;
 use jfs_disk::{Disk, Fault};
@@ -14,6 +14,7 @@ impl<D: Disk> SharedVolume<D> {
         requires stands { Stands D.Disk self.old }
         ensures halts { Halts (standing D.Disk) (λ v. v.points) self.old self.new }
         ensures volume { self.new.volume ≡ record self.old.volume { halted = halted_by fault self.old.volume.halted } }
+        ensures points { self.new.points ≡ marked_by self.old.volume.halted self.old.points }
         ensures broken_off { self.new.broken_off ≡ self.old.broken_off }
     {
         if self.volume.halted().is_some() {
