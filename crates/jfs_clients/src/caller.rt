@@ -1,5 +1,6 @@
 //! Who does the calls of one client.
 ghost use Rattle.std.specs.Prelude.{◌≤◌, ◌<◌, ◌+◌, ℕ};
+ghost use Rattle.std.specs.Thread.{IsSync};
 ghost use Rattle.jfs_plain.specs.Limits.{FitsRequest};
 ghost use Rattle.jfs_plain.specs.declared.call.Ack.{Ack};
 ghost use Rattle.jfs_plain.specs.declared.call.Request.{Request};
@@ -24,6 +25,7 @@ pub trait Caller {
         line: u32,
         request: &Request,
     ) -> (Reply, Ack)
+        requires sync { IsSync R.row }
         requires one { 0 < left self.old }
         requires fits { FitsRequest request.now }
         ensures left { left self.old ≤ left self.new + 1 }

@@ -1,5 +1,6 @@
 //! Scripts of clients, done at once.
 ghost use Rattle.std.specs.Prelude.{◌≡◌};
+ghost use Rattle.std.specs.Thread.{IsSync};
 ghost use Rattle.jfs_clients.specs.Ran.{wants_memory, MayRun, Ran, AllMayRun, EachRan, MayRunAt, RanAt};
 
 use crate::caller::Caller;
@@ -21,7 +22,7 @@ pub fn run_clients<C: Caller + Send, R: Threads + Wait + Sync>(
     let mut callers = callers;
     let threads = callers.len().max(1);
     let run = |i: usize, caller: &mut C|
-        requires { MayRunAt C.left scripts.now i caller.now }
+        requires { IsSync R.row × MayRunAt C.left scripts.now i caller.now }
         ensures { RanAt C.did scripts.entry.now i caller.entry.now caller.exit.now }
     { run_lines(rt, caller, scripts[i].as_slice()) };
     thread::for_each_mut(rt, callers.as_mut_slice(), threads, &run);
@@ -30,7 +31,8 @@ pub fn run_clients<C: Caller + Send, R: Threads + Wait + Sync>(
 
 /// Does lines in order, up to the first that finds no memory.
 fn run_lines<C: Caller, R: Threads + Wait + Sync>(rt: &R, caller: &mut C, lines: &[Line])
-    requires { MayRun C.left lines.now caller.old }
+    requires sync { IsSync R.row }
+    requires may { MayRun C.left lines.now caller.old }
     ensures { Ran C.did lines.now caller.old caller.new }
 {
     for line in lines {

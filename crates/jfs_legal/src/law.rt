@@ -1,6 +1,6 @@
 //! What is true of the entries of a mounted volume, of a disk that tells its contents.
 
-ghost use Rattle.jfs_legal.specs.Laws.{BeginLaw, LegalLaw, CallLaw, LentLaw, SettledLaw, PointedLaw, HandedLaw};
+ghost use Rattle.jfs_legal.specs.Laws.{BeginLaw, LegalLaw, CallLaw, LentLaw, SettledLaw, PointedLaw, HandedLaw, HaltLaw};
 
 use jfs_disk::Disk;
 
@@ -37,4 +37,9 @@ pub fn pages_at_home_leave_it_legal<D: Disk>()
 /// And so do entries that are handed out.
 pub fn entries_handed_out_leave_it_legal()
     ensures { HandedLaw }
+{}
+
+/// A legal history is one to a halt, and so it stays with what is called behind the halt.
+pub fn histories_to_a_halt_are_legal()
+    ensures { HaltLaw }
 {}

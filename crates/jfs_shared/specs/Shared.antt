@@ -1,5 +1,6 @@
 -- What a mounted volume stands for, as the value that the volume turn guards.
-use Rattle.std.specs.Prelude.{◌≡◌, ◌≤◌, ◌+◌, ℕ, suc, List, length, map, take, drop, Option, Some, None}
+use Rattle.std.specs.Prelude.{◌≡◌, ◌≤◌, ◌+◌, ◌&&◌, ℕ, suc, Bool, List, length, map, take, drop, Option, Some, None, is_some, is_none}
+use Rattle.std.specs.List.{AllByRecursion}
 use Rattle.jfs_disk.specs.Image.{page_of}
 use Rattle.jfs_disk.specs.declared.disk.Disk.{Ghosts}
 use Rattle.jfs_disk.specs.declared.disk.Fault.{Fault}
@@ -20,7 +21,7 @@ use Rattle.jfs_legal.specs.served.specs.shown.specs.meaning.specs.Image.{IsConsi
 use Rattle.jfs_legal.specs.served.specs.shown.specs.meaning.specs.Image as meaning
 use Rattle.jfs_legal.specs.served.specs.Legal.{Timed}
 use Rattle.jfs_legal.specs.served.specs.Laws.{HoldsImage}
-use Rattle.jfs_legal.specs.Until.{AreLegal, GoOn}
+use Rattle.jfs_legal.specs.Until.{AreLegal, GoOn, IsBehindHalt, AreLegalToHalt}
 use Rattle.jfs_shared.specs.Base.{start_of, log_start_of, image_of}
 use Rattle.jfs_shared.specs.Faults.{IsOfDisk}
 use Rattle.jfs_shared.specs.Entries.{Recorded}
@@ -54,10 +55,25 @@ pub record HasText (ring : ℕ) (list : List Recorded) (taken points : ℕ) (tex
 
 -- ---- the replies
 
--- They are a legal history that goes on; or it broke off behind so many entries, and these are legal.
+-- It broke off behind so many entries: these are legal. Each behind them was refused for a fault of the disk, or changes nothing; and while the volume runs there is none.
+pub record IsBrokenOff (n : ℕ) (area : ℕ → ℕ) (log_pages : ℕ) (start : Parts) (es : List Timed) (p : Parts) : Type 0 where
+  pub within : n ≤ length es
+  pub legal : AreLegal area log_pages start (take n es)
+  pub behind : AllByRecursion IsBehindHalt (drop n es)
+  pub running : p.halted ≡ None → n ≡ length es
+
+-- They are a legal history that goes on, or that broke off.
 abbrev pub GoesOn : Option ℕ → (ℕ → ℕ) → ℕ → Parts → List Timed → Parts → Type 0
 GoesOn None area log_pages start es p = GoOn area log_pages start es p
-GoesOn (Some n) area log_pages start es p = (n ≤ length es) × AreLegal area log_pages start (take n es)
+GoesOn (Some n) area log_pages start es p = IsBrokenOff n area log_pages start es p
+
+-- either way they are legal up to a halt
+abbrev pub ToHaltLaw : Type 0
+ToHaltLaw = (broken_off : Option ℕ) (area : ℕ → ℕ) (log_pages : ℕ) (start : Parts) (es : List Timed) (p : Parts) → GoesOn broken_off area log_pages start es p → AreLegalToHalt area log_pages start es
+
+-- Memory ran out for a call, and the volume runs still: no call is done any more.
+abbrev pub is_over : Option ℕ → Option Fault → Bool
+is_over broken_off halted = is_some broken_off && is_none halted
 
 -- it breaks off once, behind all entries so far
 abbrev pub broken_by : ℕ → Option ℕ → Option ℕ

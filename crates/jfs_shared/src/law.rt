@@ -1,11 +1,16 @@
 //! What follows for a volume and its log that stand for one list.
 
 ghost use Rattle.jfs_shared.specs.Both.{TogetherLaw};
-ghost use Rattle.jfs_shared.specs.Shared.{standing, log_standing};
+ghost use Rattle.jfs_shared.specs.Shared.{ToHaltLaw, standing, log_standing};
 
 use jfs_disk::Disk;
 
 /// A volume and a log that stand for one base and for fronts of one list may be committed and unmounted, where the log hasn't halted: what waits will stand at the log's end.
 pub fn values_together_may_commit<D: Disk>()
     ensures { TogetherLaw D.Disk (standing D.Disk) (log_standing D.Disk) }
+{}
+
+/// The entries of a volume are legal up to a halt, whether or not their history broke off.
+pub fn histories_are_legal_to_a_halt()
+    ensures { ToHaltLaw }
 {}

@@ -1,7 +1,7 @@
 //! A mounted volume that many clients share.
 
 ghost use Rattle.std.specs.Prelude.{◌≡◌};
-ghost use Rattle.jfs_shared.specs.Shared.{broken_by};
+ghost use Rattle.jfs_shared.specs.Shared.{broken_by, is_over};
 
 use crate::point_group::PointGroup;
 use crate::recorded::Recorded;
@@ -17,7 +17,7 @@ pub struct SharedVolume<D: Disk> {
     pub(crate) point: PointGroup,
     /// How many syncpoints it has made, beside the mount's, and one more where the log has halted it.
     pub(crate) points: u64,
-    /// How many entries there were when memory ran out for a call, or a syncpoint failed: nothing is said of the tree behind them. None: neither has happened.
+    /// How many entries there were when memory ran out for a call, or a syncpoint failed: nothing is said of the tree behind them. None: neither has happened. While the volume runs there are no more than these.
     pub(crate) broken_off: Option<u64>,
 }
 
@@ -41,7 +41,7 @@ impl<D: Disk> SharedVolume<D> {
         self.volume.halted()
     }
 
-    /// How many entries are known to be a legal history where it broke off: memory ran out for a call behind them, or a syncpoint failed.
+    /// How many entries are known to be a legal history where it broke off: memory ran out for a call behind them, or a syncpoint failed. What is called behind them was refused for a fault, or changes nothing.
     pub fn broken_off(&self) -> Option<u64>
         ensures { result ≡ self.now.broken_off }
     {
@@ -55,6 +55,13 @@ impl<D: Disk> SharedVolume<D> {
         if self.broken_off.is_none() {
             self.broken_off = Some(self.volume.appended());
         }
+    }
+
+    /// Whether memory ran out for a call, and the volume runs still.
+    pub(crate) fn is_over(&self) -> bool
+        ensures { result ≡ is_over self.now.broken_off self.now.volume.halted }
+    {
+        self.broken_off.is_some() && self.volume.halted().is_none()
     }
 
     /// The volume, with the entries that weren't handed out.

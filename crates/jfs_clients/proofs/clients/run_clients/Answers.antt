@@ -7,7 +7,7 @@ use Rattle.jfs_clients.proofs.clients.run_clients.Goals as goal
 pub for_each_mut-requires-clause-accepts : goal.for_each_mut-requires-clause-accepts
 for_each_mut-requires-clause-accepts g c κs within = λ i p small is.
     let e = c.as_mut_slice.ensures.value in
-    (may_at g.C.Caller.left c.args.scripts.now c.args.callers.items i p.now c.requires (subst (λ xs. i < length xs) e small) (subst (λ xs. p.now ≡ slice_index_or xs i p.now) e is), search rules)
+    ((search rules, may_at g.C.Caller.left c.args.scripts.now c.args.callers.items i p.now c.requires (subst (λ xs. i < length xs) e small) (subst (λ xs. p.now ≡ slice_index_or xs i p.now) e is)), search rules)
 
 pub returns : goal.returns
 returns g c =

@@ -3,12 +3,12 @@ use Rattle.jfs_clients.proofs.Runs.{begins, asks, goes_on, stops, ends}
 use Rattle.jfs_clients.proofs.clients.run_lines.Goals as goal
 
 pub loop-line-init : goal.loop-line-init
-loop-line-init g c = begins g.C.Caller.left g.C.Caller.did c.args.lines.now c.args.caller.now c.requires
+loop-line-init g c = begins g.C.Caller.left g.C.Caller.did c.args.lines.now c.args.caller.now c.requires.may
 
 pub call-reply-requires : goal.call-reply-requires
 call-reply-requires g c =
     let may = asks g.C.Caller.left g.C.Caller.did c.args.lines.now c.loop-line.line-index c.line-item.result c.args.caller.now c.loop-line.caller c.loop-line-test.true c.line-item.is c.loop-line.invariant in
-    record { one = may.0; fits = may.1 }
+    record { sync = c.requires.sync; one = may.0; fits = may.1 }
 
 pub loop-line-preserved : goal.loop-line-preserved
 loop-line-preserved g c =
