@@ -3,3 +3,4 @@ pub mod Served
 pub mod Start
 pub mod Called
 pub mod Stopped
+pub mod Client

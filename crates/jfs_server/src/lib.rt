@@ -2,10 +2,12 @@
 #![tactic(auto)]
 
 mod calling;
+mod client;
 mod served;
 mod server;
 mod stopping;
 
+pub use client::Client;
 pub use served::ServedVolume;
 pub use server::{Server, ServerPass};
 pub use stopping::Stopped;
