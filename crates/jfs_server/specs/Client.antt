@@ -25,6 +25,15 @@ has_failed Pending = false
 has_failed (Durable entry) = false
 has_failed (Failed fault) = true
 
+-- the marks behind a call, which joined or not
+abbrev pub marked : Bool → Ack → List Bool → List Bool
+marked true ack waits = waits ++ is_waiting ack ∷ []
+marked false ack waits = waits
+
+abbrev pub fails : Bool → Ack → Bool → Bool
+fails true ack failed = failed || has_failed ack
+fails false ack failed = failed
+
 module _ {D : Type 0} (d : Ghosts D) where
   -- A client: its pass, which it has between its calls, and the moment of all its calls. Of each of its entries in their order, whether it had to be made durable; and whether one couldn't be.
   pub record State : Type 0 where

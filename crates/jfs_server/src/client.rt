@@ -1,7 +1,7 @@
 //! One of a server's clients, which does a script's calls.
 
-ghost use Rattle.std.specs.Prelude.{◌≡◌, ◌<◌, ◌∷◌, ◌++◌, ◌||◌, [], false, Some, length, vec_capacity};
-ghost use Rattle.jfs_server.specs.Client.{is_waiting, has_failed};
+ghost use Rattle.std.specs.Prelude.{◌≡◌, ◌<◌, [], true, false, Some, length, vec_capacity};
+ghost use Rattle.jfs_server.specs.Client.{is_waiting, has_failed, marked, fails};
 
 use crate::server::{Server, ServerPass};
 use jfs_bits::Moment;
@@ -50,8 +50,8 @@ impl<'a, D: Disk, G: Gate> Client<'a, D, G> {
 
     /// Its pass, whether each of its entries had to be made durable, and whether one couldn't be.
     pub fn finish(self) -> (ServerPass<D>, Vec<bool>, bool)
-        requires { (pass : _) × (self.entry.pass ≡ Some pass) }
-        ensures { (self.entry.pass ≡ Some result.0) × (result.1 ≡ self.entry.waits) × (result.2 ≡ self.entry.failed) }
+        requires { (pass : _) × (self.pass ≡ Some pass) }
+        ensures { (self.pass ≡ Some result.0) × (result.1 ≡ self.waits) × (result.2 ≡ self.failed) }
     {
         let Client {
             server: _,
@@ -89,9 +89,8 @@ impl<'a, D: Disk, G: Gate> Caller for Client<'a, D, G> {
         let (reply, ack, pass) = self
             .server
             .call(rt, pass, line, request, self.now, self.gate);
-        if pass.calls_left() < left {
-            self.failed = mark(&mut self.waits, self.failed, ack);
-        }
+        let joined = pass.calls_left() < left;
+        self.failed = mark(&mut self.waits, self.failed, joined, ack);
         match self.pass.replace(pass) {
             None => {}
             Some(_) => unreachable!(),
@@ -100,12 +99,16 @@ impl<'a, D: Disk, G: Gate> Caller for Client<'a, D, G> {
     }
 }
 
-/// Marks an entry, and tells whether one couldn't be made durable.
-fn mark(waits: &mut Vec<bool>, failed: bool, ack: Ack) -> bool
-    requires room { length waits.old.items < vec_capacity waits.old }
-    ensures waits { (waits.new.items ≡ waits.old.items ++ is_waiting ack ∷ []) × (vec_capacity waits.new ≡ vec_capacity waits.old) }
-    ensures failed { result ≡ failed || has_failed ack }
+/// Marks the entry of a call, where it has one, and tells whether one couldn't be made durable.
+fn mark(waits: &mut Vec<bool>, failed: bool, joined: bool, ack: Ack) -> bool
+    requires room { joined ≡ true → length waits.old.items < vec_capacity waits.old }
+    ensures waits { waits.new.items ≡ marked joined ack waits.old.items }
+    ensures room { vec_capacity waits.new ≡ vec_capacity waits.old }
+    ensures failed { result ≡ fails joined ack failed }
 {
+    if !joined {
+        return failed;
+    }
     waits.push_reserved(is_waiting(ack));
     failed || has_failed(ack)
 }
