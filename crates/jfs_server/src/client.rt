@@ -51,7 +51,7 @@ impl<'a, D: Disk, G: Gate> Client<'a, D, G> {
     /// Its pass, whether each of its entries had to be made durable, and whether one couldn't be.
     pub fn finish(self) -> (ServerPass<D>, Vec<bool>, bool)
         requires { (pass : _) × (self.pass ≡ Some pass) }
-        ensures { (self.pass ≡ Some result.0) × (result.1 ≡ self.waits) × (result.2 ≡ self.failed) }
+        ensures { (self.entry.pass ≡ Some result.0) × (result.1 ≡ self.entry.waits) × (result.2 ≡ self.entry.failed) }
     {
         let Client {
             server: _,

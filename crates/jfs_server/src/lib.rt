@@ -3,11 +3,13 @@
 
 mod calling;
 mod client;
+mod running;
 mod served;
 mod server;
 mod stopping;
 
 pub use client::Client;
+pub use running::run_scripts;
 pub use served::ServedVolume;
 pub use server::{MountedFrom, Server, ServerPass};
 pub use stopping::Stopped;
