@@ -60,7 +60,7 @@ module _ (area : ℕ → ℕ) (log_pages : ℕ) (start : Parts) (tells crashes :
       (call_law tells crashes told area log_pages start (timed_in list) a old new (Replied reply number waits) goes d)
   joined (Some n) list a old new reply number waits noted runs (halted, behind) off d =
       subst (λ (ts : List Timed). IsBrokenOff n area log_pages start ts new) (sym (timed_more list e)) (record {
-        within = omega (arith, off.within, length-append ts (timed e ∷ []));
+        within = let w = off.within in omega (arith, w, length-append ts (timed e ∷ []));
         legal = front_more area log_pages start n ts (timed e) off.within off.legal;
         behind = behind_more n ts (timed e) off.within off.behind behind;
         running = λ none. absurd (halted (runs none));
