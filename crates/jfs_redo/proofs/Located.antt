@@ -42,7 +42,7 @@ unfolding file_page
 no_page_at r page k j h = ap (λ (o : Option ℕ). unwrap_or (bytes_at page o) []) h
 
 -- the walk through the extents of an inode of the aggregate depends on its page and on those that it meets
-same_walk : (r : Readers) (old new : ℕ → List ℕ) (k : ℕ) → new (11 + k / 8) ≡ old (11 + k / 8) → ((b : ℕ) → 0 < met (file_walk r old k) b → new b ≡ old b) → file_walk r new k ≡ file_walk r old k
+pub same_walk : (r : Readers) (old new : ℕ → List ℕ) (k : ℕ) → new (11 + k / 8) ≡ old (11 + k / 8) → ((b : ℕ) → 0 < met (file_walk r old k) b → new b ≡ old b) → file_walk r new k ≡ file_walk r old k
 unfolding root_footprint
 same_walk r old new k inode stays =
     ap (λ d. tree_of r.extents_order (λ b. r.extents_page (new b)) (r.extents_root d)) (ap (λ (p : List ℕ). slot_of p (k % 8)) inode)

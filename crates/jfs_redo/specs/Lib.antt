@@ -6,6 +6,7 @@ pub mod Moments
 pub mod Redo
 pub mod Mixed
 pub mod Partly
+pub mod Apart
 pub mod Laws
 -- libraries below, passed on
 pub use Rattle.jfs_records as records
