@@ -133,11 +133,11 @@ module _ (s : Super) (old : Image) (unbroken : broken_maps (subject_of s (page_o
   module _ (txs : List (List Edit)) (once : AreNamedOnce s txs old) (off : KeepsOffMaps s txs old) where
     block_once : (b : ℕ) → 0 < file_has sub.readers sub.page 2 b → covers b (file_extents sub.readers sub.page 2) ≤ 1
     unfolding file_has
-    block_once b h = let o = once b (omega (arith, h)) in let i = in_area sub b in omega (arith, o, i)
+    block_once b h = let o = once.areas b (omega (arith, h)) in let i = in_area sub b in omega (arith, o, i)
 
     inode_once : (b : ℕ) → 0 < file_has sub.readers sub.page 16 b → covers b (file_extents sub.readers sub.page 16) ≤ 1
     unfolding file_has
-    inode_once b h = let o = once b (omega (arith, h)) in let i = in_area sub b in omega (arith, o, i)
+    inode_once b h = let o = once.areas b (omega (arith, h)) in let i = in_area sub b in omega (arith, o, i)
 
     in_file : (k b : ℕ) → block_map_place sub k ≡ Some b → block_of (file_extents sub.readers sub.page 2) k ≡ Some b
     in_file k b at = place_is (is_in_use (blocks_of s) k) (block_of (file_extents sub.readers sub.page 2) k) b at
@@ -151,20 +151,13 @@ module _ (s : Super) (old : Image) (unbroken : broken_maps (subject_of s (page_o
       both = λ j k b h g.
           (let x = file_counts sub.readers sub.page 2 j b (in_file j b h) in
           let y = file_counts sub.readers sub.page 16 k b g in
-          let o = once b (omega (arith, x)) in
+          let o = once.areas b (omega (arith, x)) in
           let i = in_area sub b in
           absurd (omega (arith, x, y, o, i)));
-      located = λ b is where_is. (let t = twice b is where_is in let o = once b (place_has sub b is) in absurd (omega (arith, t, o)));
-      homes = λ n b at is.
-          (let here = home_counts (extents_then s txs old) n b at in
-          let p = place_has sub b is in
-          let i = in_area sub b in
-          let o = once b p in
-          absurd (omega (arith, here, p, i, o)));
-      logged = λ b high is. elim is [
-        | inl at ↦ off b (place_has sub b at)
-        | inr where_is ↦ elim (locates b where_is) [ inl low ↦ absurd (omega (arith, high, low)) | inr has ↦ off b has ]
-      ];
+      located = λ b is where_is. (let t = twice b is where_is in let o = once.areas b (place_has sub b is) in absurd (omega (arith, t, o)));
+      homes = λ n b at is. (let here = home_counts (extents_then s txs old) n b at in let o = once.extents b is in absurd (omega (arith, here, o)));
+      logged = λ b high is. off.maps b is;
+      stays = λ b high where_is. elim (locates b where_is) [ inl low ↦ absurd (omega (arith, high, low)) | inr has ↦ off.files b has ];
     }
 
 pub stand_apart : StandApart
@@ -172,12 +165,23 @@ stand_apart s txs old unbroken once off = apart s old unbroken txs once off
 
 -- ---- a volume whose maps agree
 
+module _ (s : Super) (txs : List (List Edit)) (old : Image) (agrees : Agrees (subject_of s (page_of old)).readers (volume (subject_of s (page_of old)))) (off : KeepsOffMaps s txs old) where
+  abbrev agreed : Subject
+  agreed = subject_of s (page_of old)
+
+  -- what has a place of its own names each block once
+  fixed_once : (b : ℕ) → (volume agreed).area b + extents_have (volume agreed).extents b ≤ 1
+  fixed_once b = let e = agrees.blocks b in let o = is_bit ((volume agreed).used b) in omega (arith, e, o)
+
+  pub named : AreNamedOnce s txs old
+  named = record {
+    areas = λ b has. (let f = fixed_once b in omega (arith, f));
+    extents = λ b is.
+        (let f = fixed_once b in
+        let h = place_has agreed b is in
+        let i = in_area agreed b in
+        extents_clear (all_of txs) (volume agreed).extents b (off.maps b is) (omega (arith, f, h, i)));
+  }
+
 pub name_once : NameOnce
-name_once s txs old agrees off b has =
-    let sub = subject_of s (page_of old) in
-    let v = volume sub in
-    let i = in_area sub b in
-    let e = agrees.blocks b in
-    let o = is_bit (v.used b) in
-    let none = extents_clear (all_of txs) v.extents b (off b has) (omega (arith, has, i, e, o)) in
-    omega (arith, none, i, e, o)
+name_once s txs old agrees off = named s txs old agrees off

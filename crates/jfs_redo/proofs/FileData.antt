@@ -20,6 +20,7 @@ use Rattle.jfs_redo_steps.specs.objects.specs.Image.{file_walk, file_extents, fi
 use Rattle.jfs_redo_steps.specs.objects.proofs.Owned.{unfixed}
 use Rattle.jfs_mount_maps.specs.mount_rules.specs.Subject.{Subject, subject_of, volume}
 use Rattle.jfs_mount_maps.specs.mount_rules.specs.Mount.{broken_maps}
+use Rattle.jfs_redo_steps.specs.Pages.{redone_page}
 use Rattle.jfs_redo.specs.Log.{AreCommitted}
 use Rattle.jfs_redo.specs.Redo.{IsMapPlace, IsRedone}
 use Rattle.jfs_redo.specs.Partly.{LocatesMaps, MapsStandApart}
@@ -54,17 +55,18 @@ module _ (s : Super) (txs : List (List Edit)) (old new : Image) (sizes : ArePage
 
   -- ---- the maps are where they were
 
-  clear : (b : ℕ) → LocatesMaps sub b → touches_tx b (all_of txs) ≡ false
-  clear b where_is = elim (cases_lt b 16) [ inl low ↦ low_pages b low | inr high ↦ apart.logged b high (inr where_is) ]
+  page_size : (b : ℕ) → b < blocks_of s → length (page_of old b) ≡ 4096
+  page_size b low = sizes.sizes b (omega (arith, low, whole))
+
+  left_alone : (b : ℕ) → LocatesMaps sub b → redone_page (blocks_of s) (all_of txs) old b ≡ page_of old b
+  left_alone b where_is = elim (cases_lt b 16) [ inl low ↦ not_redone s txs old b (page_size b) (low_pages b low) | inr high ↦ apart.stays b high where_is ]
 
   stays : (b : ℕ) → LocatesMaps sub b → (b ≡ 8 → ⊥) → page_of new b ≡ page_of old b
-  stays b where_is other =
-      is.rest b other ∙ is.others b (λ place. apart.located b place where_is) ∙ is.pages.pages b
-      ∙ not_redone s txs old b (λ low. sizes.sizes b (omega (arith, low, whole))) (clear b where_is)
+  stays b where_is other = is.rest b other ∙ is.others b (λ place. apart.located b place where_is) ∙ is.pages.pages b ∙ left_alone b where_is
 
   -- the superblock's page is none of these files'
   not_first : (b : ℕ) → 0 < map_files_have sub b → b ≡ 8 → ⊥
-  not_first b has e = let i = in_both sub b (omega (arith, e)) in let o = once b has in omega (arith, i, o, has)
+  not_first b has e = let i = in_both sub b (omega (arith, e)) in let o = once.areas b has in omega (arith, i, o, has)
 
   block_walk : file_walk now.readers now.page 2 ≡ file_walk sub.readers sub.page 2
   block_walk = same_walk sub.readers (page_of old) (page_of new) 2 (stays 11 (inr (inl refl)) (λ e. absurd (omega (arith, e)))) (λ b h. stays b (inr (inr (inr (inl h)))) (not_first b (in_block_tree b h)))

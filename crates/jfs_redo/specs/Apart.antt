@@ -12,20 +12,23 @@ use Rattle.jfs_redo_steps.specs.objects.specs.Owners.{extents_have, is_data, Agr
 use Rattle.jfs_mount_maps.specs.mount_rules.specs.Subject.{Subject, subject_of, volume}
 use Rattle.jfs_mount_maps.specs.mount_rules.specs.Mount.{broken_maps}
 use Rattle.jfs_redo.specs.Log.{AreCommitted}
-use Rattle.jfs_redo.specs.Redo.{IsRedone}
+use Rattle.jfs_redo_steps.specs.Pages.{redone_page}
+use Rattle.jfs_redo.specs.Redo.{IsMapPlace, IsRedone}
 use Rattle.jfs_redo.specs.Partly.{extents_then, IsPartlyRedone, MapsStandApart}
 
 -- how often the files of both maps have a block: as a page of a map, or of the tree that says where these are
 abbrev pub map_files_have : Subject → ℕ → ℕ
 map_files_have s b = file_has s.readers s.page 2 b + file_has s.readers s.page 16 b
 
--- No line of the log is one of a block that these files have.
-abbrev pub KeepsOffMaps : Super → List (List Edit) → Image → Type 0
-KeepsOffMaps s txs old = (b : ℕ) → 0 < map_files_have (subject_of s (page_of old)) b → touches_tx b (all_of txs) ≡ false
+-- The log keeps off these files: it has no line of a page of the maps, and redo leaves each block that they have.
+pub record KeepsOffMaps (s : Super) (txs : List (List Edit)) (old : Image) : Type 0 where
+  pub maps : (b : ℕ) → IsMapPlace (subject_of s (page_of old)) b → touches_tx b (all_of txs) ≡ false
+  pub files : (b : ℕ) → 0 < map_files_have (subject_of s (page_of old)) b → redone_page (blocks_of s) (all_of txs) old b ≡ page_of old b
 
--- Each block that they have is named once by the fixed areas and by the inode extents, with those of the log.
-abbrev pub AreNamedOnce : Super → List (List Edit) → Image → Type 0
-AreNamedOnce s txs old = (b : ℕ) → 0 < map_files_have (subject_of s (page_of old)) b → (volume (subject_of s (page_of old))).area b + extents_have (extents_then s txs old) b ≤ 1
+-- The fixed areas name each of their blocks once, and no inode extent, nor one of the log's, has a page of the maps.
+pub record AreNamedOnce (s : Super) (txs : List (List Edit)) (old : Image) : Type 0 where
+  pub areas : (b : ℕ) → 0 < map_files_have (subject_of s (page_of old)) b → (volume (subject_of s (page_of old))).area b ≤ 1
+  pub extents : (b : ℕ) → IsMapPlace (subject_of s (page_of old)) b → extents_have (extents_then s txs old) b ≡ 0
 
 -- So the maps stand apart, where no rule on them is broken.
 abbrev pub StandApart : Type 0
