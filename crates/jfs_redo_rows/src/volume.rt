@@ -200,14 +200,19 @@ fn a_log_or_maps_that_break_a_rule_are_refused(rt: HostRuntime) {
     }
 }
 
+/// Whether page `n` is zeros now.
+fn clear<D: Disk>(disk: &mut D, n: u32) -> bool {
+    n < disk.pages() && disk.write(n, &Page::zeros()).is_ok()
+}
+
 /// The same of a new volume whose log has zeros on each page of its ring, from 3074 on.
 fn refused_without_ring(alloc: Global) -> Option<(RedoError, bool)> {
     let mut disk = SureDisk::new(alloc, 4096).ok()?;
     if !dirty(&mut disk, &[]) {
         return None;
     }
-    for n in 3074..disk.pages() {
-        if disk.write(n, &Page::zeros()).is_err() {
+    for n in 3074..4096 {
+        if !clear(&mut disk, n) {
             return None;
         }
     }
