@@ -97,19 +97,19 @@ module _ (s : Super) (txs : List (List Edit)) (old new : Image) (sizes : ArePage
   -- ---- data lies outside of these areas
 
   no_area : Agrees now.readers (volume now) → (n b : ℕ) → 0 < is_data now.readers (objects now.readers (volume now) n) b → (volume now).area b ≡ 0
-  no_area agrees n b data =
+  no_area agrees n b has =
       let h = data_is_held now.readers (objects now.readers (volume now) n) b in
-      let u = unfixed now.readers (volume now) agrees n b (omega (arith, data, h)) in
+      let u = unfixed now.readers (volume now) agrees n b (omega (arith, has, h)) in
       omega (arith, u)
 
   pub not_place : Agrees now.readers (volume now) → (n b : ℕ) → 0 < is_data now.readers (objects now.readers (volume now) n) b → IsMapPlace sub b → ⊥
-  not_place agrees n b data place = let z = no_area agrees n b data in let a = place_in_area b place in omega (arith, z, a)
+  not_place agrees n b has place = let z = no_area agrees n b has in let a = place_in_area b place in omega (arith, z, a)
 
   pub not_superblock : Agrees now.readers (volume now) → (n b : ℕ) → 0 < is_data now.readers (objects now.readers (volume now) n) b → b ≡ 8 → ⊥
-  not_superblock agrees n b data e = let z = no_area agrees n b data in let i = in_both now b (omega (arith, e)) in omega (arith, z, i)
+  not_superblock agrees n b has e = let z = no_area agrees n b has in let i = in_both now b (omega (arith, e)) in omega (arith, z, i)
 
 pub data_stays : DataStays
-data_stays s txs old new left sizes accepted committed unbroken once off is agrees either n b data none =
+data_stays s txs old new left sizes accepted committed unbroken once off is agrees either n b has none =
     others_stay s txs old left sizes accepted either b none
-    (not_place s txs old new sizes accepted committed unbroken once off is agrees n b data)
-    (not_superblock s txs old new sizes accepted committed unbroken once off is agrees n b data)
+    (not_place s txs old new sizes accepted committed unbroken once off is agrees n b has)
+    (not_superblock s txs old new sizes accepted committed unbroken once off is agrees n b has)

@@ -71,6 +71,9 @@ first_area b h = within (nat_le 0 b && nat_lt b (0 + 16)) (grind (arith, nat_tes
 
 -- ---- inode extents
 
+abbrev one_if : Bool → ℕ
+one_if x = if x then 1 else 0
+
 -- lines that are a new inode extent are lines of each of its blocks
 not_in_extent : (page first : ℕ) (kind : PageKind) (bytes : List ℕ) (b : ℕ) → is_extent kind first bytes ≡ true → touches_edit b (Lines page kind first bytes) ≡ false → extent_has (Some page) b ≡ 0
 unfolding place_of_line
@@ -85,12 +88,12 @@ not_in_extent page first kinds.Inode bytes b is clear = by (nat_le page b && nat
     from : (page b : ℕ) → (nat_le page b && nat_lt b (page + 4)) ≡ true → (page ≤ b) × (b < page + 4)
     from page b h = (grind (arith, nat_tests), grind (arith, nat_tests))
 
-    by : (x : Bool) → (nat_le page b && nat_lt b (page + 4)) ≡ x → (if x then 1 else 0) ≡ 0
+    by : (x : Bool) → (nat_le page b && nat_lt b (page + 4)) ≡ x → one_if x ≡ 0
     by false e = refl
     by true e =
         let lies = from page b e in
-        let begins = lt-ltb (4096 * page + 512 * first) (4096 * b + 4096) (omega (arith, lies.0, starts)) in
-        let ends = lt-ltb (4096 * b - (4096 * page + 512 * first)) (length bytes) (omega (arith, lies.0, lies.1, starts, long)) in
+        let begins = lt-ltb (4096 * page + 128 * first) (4096 * b + 4096) (omega (arith, lies.0, starts)) in
+        let ends = lt-ltb (4096 * b - (4096 * page + 128 * first)) (length bytes) (omega (arith, lies.0, lies.1, starts, long)) in
         absurd (true≢false (sym (rw (begins, ends) refl) ∙ clear))
 not_in_extent page first kinds.Xtree bytes b is clear = absurd (false≢true is)
 not_in_extent page first kinds.Dtree bytes b is clear = absurd (false≢true is)
@@ -104,15 +107,17 @@ set_clear (y ∷ ys) (suc i) x b none here = let rest = set_clear ys i x b (omeg
 -- a block that no inode extent has, and no line of the log is one of, is in no extent after it
 pub extents_clear : (es : List Edit) (xs : List (Option ℕ)) (b : ℕ) → touches_tx b es ≡ false → extents_have xs b ≡ 0 → extents_have (extents_after es xs) b ≡ 0
 extents_clear [] xs b clear none = none
-extents_clear (Lines page kind first bytes ∷ es) xs b clear none = at (touches_edit b (Lines page kind first bytes)) refl clear
+extents_clear (Lines page kind first bytes ∷ es) xs b clear none = at (touches_edit b (Lines page kind first bytes)) refl clear (λ ys. extents_clear es ys b)
   where
     step : touches_edit b (Lines page kind first bytes) ≡ false → (t : Bool) → is_extent kind first bytes ≡ t → extents_have (if t then set xs (place_in bytes) (Some page) else xs) b ≡ 0
     step off true is = set_clear xs (place_in bytes) (Some page) b none (not_in_extent page first kind bytes b is off)
     step off false is = none
 
-    at : (t : Bool) → touches_edit b (Lines page kind first bytes) ≡ t → (t || touches_tx b es) ≡ false → extents_have (extents_after es (if is_extent kind first bytes then set xs (place_in bytes) (Some page) else xs)) b ≡ 0
-    at true touched off = absurd (true≢false off)
-    at false touched off = extents_clear es (if is_extent kind first bytes then set xs (place_in bytes) (Some page) else xs) b off (step touched (is_extent kind first bytes) refl)
+    at : (t : Bool) → touches_edit b (Lines page kind first bytes) ≡ t → (t || touches_tx b es) ≡ false
+        → ((ys : List (Option ℕ)) → touches_tx b es ≡ false → extents_have ys b ≡ 0 → extents_have (extents_after es ys) b ≡ 0)
+        → extents_have (extents_after es (if is_extent kind first bytes then set xs (place_in bytes) (Some page) else xs)) b ≡ 0
+    at true touched off rest = absurd (true≢false off)
+    at false touched off rest = rest (if is_extent kind first bytes then set xs (place_in bytes) (Some page) else xs) off (step touched (is_extent kind first bytes) refl)
 extents_clear (NoRedo page ∷ es) xs b clear none = extents_clear es xs b clear none
 extents_clear (Alloc run ∷ es) xs b clear none = extents_clear es xs b clear none
 extents_clear (Free run ∷ es) xs b clear none = extents_clear es xs b clear none
