@@ -1,23 +1,19 @@
 -- The maps of a volume stand apart.
-use Rattle.std.proofs.Common.{◌≡◌, ◌⊎◌, ◌≤◌, ◌<◌, ◌+◌, ◌==◌, ℕ, suc, Bool, true, false, List, [], length, refl, sym, ap, subst, ◌∙◌, inl, inr, arith}
-use Rattle.std.specs.Prelude.{Option, Some, None, is_some, Result, Ok, Err}
-use Rattle.std.proofs.lemmas.Bool.{eqb-true, cases_lt}
+use Rattle.std.proofs.Common.{◌≡◌, ◌⊎◌, ◌≤◌, ◌<◌, ◌+◌, ℕ, suc, Bool, true, false, List, inl, inr, arith}
+use Rattle.std.specs.Prelude.{Option, Some, None, is_some}
+use Rattle.std.proofs.lemmas.Bool.{eqb-true}
 use Rattle.std.proofs.lemmas.Option.{none-some}
-use Rattle.jfs_bits.specs.declared.extent.Xad.{Xad}
-use Rattle.jfs_bits.specs.declared.rule.Rule.{Rule}
 use Rattle.jfs_bits.specs.Broken.{AllHold, Holds}
 use Rattle.jfs_bits.proofs.Broken.{first_broken-none}
 use Rattle.jfs_disk.specs.Image.{Image, page_of}
 use Rattle.jfs_ranges.specs.declared.edit.Edit.{Edit}
-use Rattle.jfs_ranges.specs.Apply.{touches_tx}
 use Rattle.jfs_records.specs.Redo.{all_of}
 use Rattle.jfs_super.specs.Rules.{blocks_of}
 use Rattle.jfs_super.specs.declared.fields.Super.{Super}
 use Rattle.jfs_bmap.specs.MapFile.{is_in_use, pages_of}
 use Rattle.jfs_redo_steps.specs.objects.specs.Readers.{Readers}
-use Rattle.jfs_redo_steps.specs.objects.specs.Volume.{home}
-use Rattle.jfs_redo_steps.specs.objects.specs.Objects.{met, listed, objects}
-use Rattle.jfs_redo_steps.specs.objects.specs.Owners.{unless_broken, covers, extents_have, holds, sum_below, Agrees}
+use Rattle.jfs_redo_steps.specs.objects.specs.Objects.{met, listed}
+use Rattle.jfs_redo_steps.specs.objects.specs.Owners.{covers, extents_have, Agrees}
 use Rattle.jfs_redo_steps.specs.objects.specs.Contents.{block_of}
 use Rattle.jfs_redo_steps.specs.objects.specs.Image.{file_walk, file_extents, file_has, area_on}
 use Rattle.jfs_redo_steps.specs.objects.proofs.Blocks.{covered}
@@ -27,7 +23,7 @@ use Rattle.jfs_mount_maps.specs.mount_rules.specs.Subject.{Subject, subject_of, 
 use Rattle.jfs_mount_maps.specs.mount_rules.specs.Mount.{place, covered as covered_to, iags, map_rows, broken_maps}
 use Rattle.jfs_mount_maps.specs.mount_rules.proofs.Passed.{all_pass}
 use Rattle.jfs_redo.specs.Put.{place_if}
-use Rattle.jfs_redo.specs.Redo.{IsMapPlace, block_map_place, inode_map_place}
+use Rattle.jfs_redo.specs.Redo.{IsMapPlace, block_map_place}
 use Rattle.jfs_redo.specs.Partly.{extents_then, LocatesMaps, MapsStandApart}
 use Rattle.jfs_redo.specs.Apart.{map_files_have, KeepsOffMaps, AreNamedOnce, StandApart, NameOnce}
 use Rattle.jfs_redo.proofs.Named.{one_place, not_broken, first_area, extents_clear}

@@ -1,11 +1,10 @@
 -- Redo leaves file data of the volume that it makes.
-use Rattle.std.proofs.Common.{◌≡◌, ◌⊎◌, ◌≤◌, ◌<◌, ◌+◌, ◌==◌, ℕ, Bool, true, false, List, [], length, drop, refl, sym, ap, subst, ◌∙◌, inl, inr, arith}
+use Rattle.std.proofs.Common.{◌≡◌, ◌≤◌, ◌<◌, ℕ, List, length, drop, refl, ap, ◌∙◌, inl, inr, arith}
 use Rattle.std.specs.Prelude.{Option, Some, None}
-use Rattle.std.proofs.lemmas.Bool.{cases_lt, cases_eq}
+use Rattle.std.proofs.lemmas.Bool.{cases_lt}
 use Rattle.jfs_bits.specs.declared.extent.Xad.{Xad}
 use Rattle.jfs_disk.specs.Image.{Image, page_of, ArePages}
 use Rattle.jfs_ranges.specs.declared.edit.Edit.{Edit}
-use Rattle.jfs_ranges.specs.Apply.{touches_tx}
 use Rattle.jfs_records.specs.Redo.{all_of}
 use Rattle.jfs_super.specs.Rules.{IsAccepted, blocks_of}
 use Rattle.jfs_super.specs.declared.fields.Super.{Super}
@@ -14,9 +13,9 @@ use Rattle.jfs_bmap.specs.MapFile.{is_in_use}
 use Rattle.jfs_redo_steps.specs.objects.specs.page_tree.specs.Walk.{Marks}
 use Rattle.jfs_redo_steps.specs.objects.specs.Readers.{Readers}
 use Rattle.jfs_redo_steps.specs.objects.specs.Objects.{Object, met, listed, objects}
-use Rattle.jfs_redo_steps.specs.objects.specs.Owners.{entries, fixed, is_data, holds, Agrees}
+use Rattle.jfs_redo_steps.specs.objects.specs.Owners.{entries, is_data, holds, Agrees}
 use Rattle.jfs_redo_steps.specs.objects.specs.Contents.{block_of}
-use Rattle.jfs_redo_steps.specs.objects.specs.Image.{file_walk, file_extents, file_has}
+use Rattle.jfs_redo_steps.specs.objects.specs.Image.{file_walk, file_extents}
 use Rattle.jfs_redo_steps.specs.objects.proofs.Owned.{unfixed}
 use Rattle.jfs_mount_maps.specs.mount_rules.specs.Subject.{Subject, subject_of, volume}
 use Rattle.jfs_mount_maps.specs.mount_rules.specs.Mount.{broken_maps}
