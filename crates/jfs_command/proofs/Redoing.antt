@@ -4,6 +4,8 @@ use Rattle.std.specs.Global.{Vec}
 use Rattle.jfs_bits.specs.Count.{Rose}
 use Rattle.jfs_bits.specs.Broken.{first_broken}
 use Rattle.jfs_disk.specs.Image.{Image, page_of, ArePages}
+use Rattle.jfs_disk.specs.Crash.{DiskState, last_of}
+use Rattle.jfs_disk.specs.Moment.{IsResting}
 use Rattle.jfs_disk.specs.declared.disk.Disk.{Ghosts}
 use Rattle.jfs_super.specs.declared.fields.Super.{Super}
 use Rattle.jfs_super.specs.declared.read.BadSuper.{BadSuper}
@@ -11,6 +13,7 @@ use Rattle.jfs_super.specs.Super.{super_of}
 use Rattle.jfs_super.specs.Rules.{rows, blocks_of, IsAccepted}
 use Rattle.jfs_super.proofs.Rules.{accepted_pages}
 use Rattle.jfs_redo.specs.Redo.{StaysBehind}
+use Rattle.jfs_redo.specs.Partly.{IsRedoneMeanwhile}
 use Rattle.jfs_command.specs.declared.status.Status.{Status}
 use Rattle.jfs_command.specs.declared.status.Status.TheVariants as statuses
 use Rattle.jfs_command.specs.declared.status.Stop.TheVariants as stops
@@ -22,7 +25,7 @@ use Rattle.jfs_command.specs.Count.{Stays}
 use Rattle.jfs_command.specs.Held.{Held, IsHeld, Work, held_of, ChangesNothing}
 use Rattle.jfs_command.specs.Meaning.{Answer, Performs, finished, refused, work_of}
 use Rattle.jfs_command.specs.Superblock.{superblock_of, AfterRules, AfterSuperblock, Looks}
-use Rattle.jfs_command.specs.Redo.{is_mounted, RedoSays, IsMounted, LooksAtMounted, HasRedone, HasDone, Redoes, HasBegun, NoneIsJudged, redo_meaning, work_with, RedoEnds}
+use Rattle.jfs_command.specs.Redo.{is_mounted, RedoSays, IsMounted, LooksAtMounted, StaysRedoable, HasRedone, HasDone, Redoes, HasBegun, NoneIsJudged, redo_meaning, work_with, RedoEnds}
 use Rattle.jfs_command.proofs.SuperblockLemmas.{same_first, one_after}
 use Rattle.jfs_command.proofs.Evidence.{held_as, some_held, has_page8}
 use Rattle.jfs_command.proofs.Looking.{Behind, GoesOn, ShowsSame, faults_of, looked, ends_as, Seen, seen, goes_on}
@@ -72,6 +75,10 @@ module _ (tells crashes : Type 0) (s : Super) (a held : Held) (work : Work) (ima
   behind_as : (tells → StaysBehind (blocks_of s) a.image work.held.image) → tells → StaysBehind (blocks_of s) held.image work.held.image
   behind_as did t p far = did t p far ∙ sym (ap (λ (i : Image). page_of i p) (image t))
 
+  redoable_as : StaysRedoable tells crashes s a work.held → StaysRedoable tells crashes s held work.held
+  redoable_as did t c rests = subst (λ (i : Image). IsRedoneMeanwhile s i held.past work.held.past) (sym (image t))
+      (subst (λ (before : List DiskState). IsResting (last_of before) → IsRedoneMeanwhile s a.image before work.held.past) (sym (past c)) (did t c) rests)
+
   redone_as : HasRedone tells crashes s a work → HasRedone tells crashes s held work
   redone_as did = record {
     history = did.history;
@@ -80,6 +87,7 @@ module _ (tells crashes : Type 0) (s : Super) (a held : Held) (work : Work) (ima
     superblock = did.superblock;
     behind = behind_as did.behind;
     stable = did.stable;
+    meanwhile = redoable_as did.meanwhile;
   }
 
   done_as : (mounted : Bool) → HasDone mounted tells crashes s a work → HasDone mounted tells crashes s held work
@@ -96,6 +104,7 @@ module _ (tells crashes : Type 0) (s : Super) (a held : Held) (work : Work) (ima
     told = did.told;
     behind = behind_as did.behind;
     unless = λ not. nothing_as (did.unless (λ is. not (subst (λ (n : ℕ). IsMounted s n) (sym pages) is)));
+    meanwhile = redoable_as did.meanwhile;
   }
 
 same_work : (outcome : Outcome) (text : List ℕ) (left : Held) → outcome.text.items ≡ text → outcome.history.items ≡ [] → outcome.told.items ≡ [] → work_with text left ≡ work_of outcome left
@@ -185,6 +194,7 @@ module _ {D : Type 0} (d : Ghosts D) (old new : D) (outcome : Outcome) (same : S
       told = same.told;
       behind = λ t p far. ap (λ (i : Image). page_of i p) (nothing.image t);
       unless = λ _. nothing;
+      meanwhile = λ t c rests. inl (nothing.past c);
     },
   )
 

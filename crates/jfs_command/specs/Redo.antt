@@ -16,6 +16,7 @@ use Rattle.jfs_findings_new.specs.mount_rules.specs.Subject.{subject_of}
 use Rattle.jfs_findings_new.specs.mount_rules.specs.Mount.{BadMount, broken_maps}
 use Rattle.jfs_redo.specs.Log.{AreCommitted}
 use Rattle.jfs_redo.specs.Redo.{IsRedone, StaysBehind}
+use Rattle.jfs_redo.specs.Partly.{IsRedoneMeanwhile}
 use Rattle.jfs_redo.specs.declared.error.RedoError.{RedoError}
 use Rattle.jfs_redo.specs.declared.error.RedoError.TheVariants as errors
 use Rattle.jfs_command.specs.declared.status.Status.{Status}
@@ -87,6 +88,10 @@ IsMounted s pages = IsAccepted s pages × (is_mounted s.state.0 ≡ true)
 abbrev pub LooksAtMounted : Held → ℕ → Type 0
 LooksAtMounted held n = LooksAtSuper held n ⊎ IsMounted (superblock_of held) held.pages
 
+-- Where nothing was pending before: nothing was written, or at each moment since then a crash leaves the volume partly redone, which redo makes the same of, or redone.
+abbrev pub StaysRedoable : (tells crashes : Type 0) → Super → Held → Held → Type 0
+StaysRedoable tells crashes s held left = tells → crashes → IsResting (last_of held.past) → IsRedoneMeanwhile s held.image held.past left.past
+
 -- The volume is redone by the transactions of its log, which are those that the text counts.
 pub record HasRedone (tells crashes : Type 0) (s : Super) (held : Held) (work : Work) : Type 0 where
   pub history : work.history ≡ []
@@ -98,6 +103,8 @@ pub record HasRedone (tells crashes : Type 0) (s : Super) (held : Held) (work : 
   pub behind : tells → StaysBehind (blocks_of s) held.image work.held.image
   -- a crash leaves all of that
   pub stable : crashes → IsResting (last_of work.held.past)
+  -- and on the way it left what may be redone again
+  pub meanwhile : StaysRedoable tells crashes s held work.held
 
 abbrev pub HasDone : (is_mounted : Bool) → (tells crashes : Type 0) → Super → Held → Work → Type 0
 HasDone true tells crashes s held work = HasRedone tells crashes s held work
@@ -114,6 +121,8 @@ pub record HasBegun (tells crashes : Type 0) (s : Super) (held : Held) (work : W
   pub told : work.told ≡ []
   pub behind : tells → StaysBehind (blocks_of s) held.image work.held.image
   pub unless : (IsMounted s held.pages → ⊥) → ChangesNothing tells crashes held work
+  -- the next redo takes it up
+  pub meanwhile : StaysRedoable tells crashes s held work.held
 
 -- All but page 8 may be read more than once, and refusals of page 8 and of the maps are of one kind: so a status is judged of a disk that tells alone.
 abbrev pub NoneIsJudged : Status → Type 0

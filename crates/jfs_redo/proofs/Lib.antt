@@ -17,3 +17,6 @@ pub mod TakenUp
 pub mod Keeps
 pub mod WritesMaps
 pub mod Meanwhile
+pub mod Named
+pub mod Apart
+pub mod FileData

@@ -42,7 +42,7 @@ unfolding file_page
 no_page_at r page k j h = ap (λ (o : Option ℕ). unwrap_or (bytes_at page o) []) h
 
 -- the walk through the extents of an inode of the aggregate depends on its page and on those that it meets
-same_walk : (r : Readers) (old new : ℕ → List ℕ) (k : ℕ) → new (11 + k / 8) ≡ old (11 + k / 8) → ((b : ℕ) → 0 < met (file_walk r old k) b → new b ≡ old b) → file_walk r new k ≡ file_walk r old k
+pub same_walk : (r : Readers) (old new : ℕ → List ℕ) (k : ℕ) → new (11 + k / 8) ≡ old (11 + k / 8) → ((b : ℕ) → 0 < met (file_walk r old k) b → new b ≡ old b) → file_walk r new k ≡ file_walk r old k
 unfolding root_footprint
 same_walk r old new k inode stays =
     ap (λ d. tree_of r.extents_order (λ b. r.extents_page (new b)) (r.extents_root d)) (ap (λ (p : List ℕ). slot_of p (k % 8)) inode)
@@ -68,9 +68,12 @@ module _ (s : Super) (txs : List (List Edit)) (old left : Image) (sizes : ArePag
   pub page_size : (p : ℕ) → p < blocks → length (page_of old p) ≡ 4096
   page_size p low = sizes.sizes p (omega (arith, low, whole))
 
-  -- the log touches no page of the maps, nor one that locates them
-  clear : (p : ℕ) → IsMapPlace sub p ⊎ LocatesMaps sub p → touches_tx p (all_of txs) ≡ false
+  -- no line of the log is one of a page of the maps, and redo leaves the pages that locate them
+  clear : (p : ℕ) → IsMapPlace sub p → touches_tx p (all_of txs) ≡ false
   clear p is = elim (cases_lt p 16) [ inl low ↦ low_pages p low | inr high ↦ apart.logged p high is ]
+
+  left_alone : (p : ℕ) → LocatesMaps sub p → redone_page blocks (all_of txs) old p ≡ page_of old p
+  left_alone p locates = elim (cases_lt p 16) [ inl low ↦ not_redone s txs old p (page_size p) (low_pages p low) | inr high ↦ apart.stays p high locates ]
 
   -- pages that locate the maps stay
   pub stays : (p : ℕ) → LocatesMaps sub p → page_of left p ≡ page_of old p
@@ -80,7 +83,7 @@ module _ (s : Super) (txs : List (List Edit)) (old left : Image) (sizes : ArePag
   ]
     where
       only : (page : List ℕ) → Writes s txs old p page → page ≡ page_of old p
-      only page (inl is) = is ∙ not_redone s txs old p (page_size p) (clear p (inr locates))
+      only page (inl is) = is ∙ left_alone p locates
       only page (inr (inl (k, below, at, is))) = absurd (apart.located p (inl (k, below, at)) locates)
       only page (inr (inr (k, below, at, is))) = absurd (apart.located p (inr (k, below, at)) locates)
 
@@ -105,13 +108,13 @@ module _ (s : Super) (txs : List (List Edit)) (old left : Image) (sizes : ArePag
   -- ---- what redo writes to the place of a page of the maps
 
   block_source : (k p : ℕ) (page : List ℕ) → k < pages_of blocks → block_map_place sub k ≡ Some p → Writes s txs old p page → (page ≡ page_of old p) ⊎ InBytes (IsMapPage blocks s.agsize (taken_then s txs old)) k page
-  block_source k p page low at (inl is) = inl (is ∙ not_redone s txs old p (page_size p) (clear p (inl (inl (k, low, at)))))
+  block_source k p page low at (inl is) = inl (is ∙ not_redone s txs old p (page_size p) (clear p (inl (k, low, at))))
   block_source k p page low at (inr (inl (j, below, there, is))) = inr (subst (λ (n : ℕ). InBytes (IsMapPage blocks s.agsize (taken_then s txs old)) n page) (apart.blocks j k p there at) is)
   block_source k p page low at (inr (inr (j, below, there, is))) = absurd (apart.both k j p at there)
 
   inode_source : (k p : ℕ) (page : List ℕ) → k ≤ iags sub → inode_map_place sub k ≡ Some p → Writes s txs old p page
       → (page ≡ page_of old p) ⊎ ((set : List ℕ) × AreInodesInUse (redone_page blocks (all_of txs) old) (extents_then s txs old) set × InBytes (IsInodePage (inodes_then s txs old set)) k page)
-  inode_source k p page low at (inl is) = inl (is ∙ not_redone s txs old p (page_size p) (clear p (inl (inr (k, low, at)))))
+  inode_source k p page low at (inl is) = inl (is ∙ not_redone s txs old p (page_size p) (clear p (inr (k, low, at))))
   inode_source k p page low at (inr (inl (j, below, there, is))) = absurd (apart.both j k p there at)
   inode_source k p page low at (inr (inr (j, below, there, (set, are, is)))) = inr (set, are, subst (λ (n : ℕ). InBytes (IsInodePage (inodes_then s txs old set)) n page) (apart.inodes j k p there at) is)
 

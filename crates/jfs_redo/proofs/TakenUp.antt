@@ -208,7 +208,11 @@ module _ (s : Super) (txs : List (List Edit)) (old left : Image) (sizes : ArePag
     both = λ j k p h g. apart.both j k p (sym (block_at j) ∙ h) (sym (inode_at k) ∙ g);
     located = λ p place locates. apart.located p (place_then p place) (locates_then p locates);
     homes = λ n p at place. apart.homes n p (ap (λ (xs : List (Option ℕ)). home xs n) (sym extents_are) ∙ at) (place_then p place);
-    logged = λ p high is. apart.logged p high (elim is [ inl place ↦ inl (place_then p place) | inr locates ↦ inr (locates_then p locates) ]);
+    logged = λ p high place. apart.logged p high (place_then p place);
+    stays = λ p high locates.
+        (let was = locates_then p locates in
+        let same = stays s txs old left sizes whole apart low_pages way p was in
+        ap (λ (page : List ℕ). if nat_lt p blocks then redone p page page es else page) same ∙ apart.stays p high was ∙ sym same);
   }
 
   taken_are : taken_then s txs left ≡ taken_then s txs old
@@ -220,7 +224,7 @@ module _ (s : Super) (txs : List (List Edit)) (old left : Image) (sizes : ArePag
       by b (inr high) = cond-false (nat_lt b blocks) (used_after es (volume now).used b) true (le-ltb b blocks high) ∙ sym (cond-false (nat_lt b blocks) (used_after es (volume sub).used b) true (le-ltb b blocks high))
 
   untouched_place : (p : ℕ) → IsMapPlace sub p → touches_tx p es ≡ false
-  untouched_place p place = elim (cases_lt p 16) [ inl low ↦ low_pages p low | inr high ↦ apart.logged p high (inl place) ]
+  untouched_place p place = elim (cases_lt p 16) [ inl low ↦ low_pages p low | inr high ↦ apart.logged p high place ]
 
   -- what the second redo writes the first one writes too, or it stands there
   writes_then : (p : ℕ) (page : List ℕ) → Writes s txs left p page → (page ≡ page_of left p) ⊎ Writes s txs old p page

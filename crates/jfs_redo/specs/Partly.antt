@@ -74,16 +74,16 @@ IsRedoneMeanwhile s old before past =
 abbrev pub LocatesMaps : Subject → ℕ → Type 0
 LocatesMaps s p = (p ≡ 8) ⊎ ((p ≡ 11) ⊎ ((p ≡ 13) ⊎ ((0 < met (file_walk s.readers s.page 2) p) ⊎ (0 < met (file_walk s.readers s.page 16) p))))
 
--- The maps stand apart: each of their pages has a place of its own, where no page stands that locates them and no inode, and no line of the log is one of such a page. (A consistent volume has one owner for each block, and no file call
--- logs a page of the maps or of their trees.)
+-- The maps stand apart: each of their pages has a place of its own, where no page stands that locates them and no inode, and no line of the log is one of it; and redo leaves the pages that locate them. (A consistent volume has one owner
+-- for each block, and no file call logs a page of the maps or changes one of their trees. The log's rules keep it off the first 16 pages.)
 pub record MapsStandApart (s : Super) (txs : List (List Edit)) (old : Image) : Type 0 where
   pub blocks : (j k p : ℕ) → block_map_place (subject_of s (page_of old)) j ≡ Some p → block_map_place (subject_of s (page_of old)) k ≡ Some p → j ≡ k
   pub inodes : (j k p : ℕ) → inode_map_place (subject_of s (page_of old)) j ≡ Some p → inode_map_place (subject_of s (page_of old)) k ≡ Some p → j ≡ k
   pub both : (j k p : ℕ) → block_map_place (subject_of s (page_of old)) j ≡ Some p → inode_map_place (subject_of s (page_of old)) k ≡ Some p → ⊥
   pub located : (p : ℕ) → IsMapPlace (subject_of s (page_of old)) p → LocatesMaps (subject_of s (page_of old)) p → ⊥
   pub homes : (n p : ℕ) → home (extents_then s txs old) n ≡ Some p → IsMapPlace (subject_of s (page_of old)) p → ⊥
-  -- the log's rules keep it off the first 16 pages
-  pub logged : (p : ℕ) → 16 ≤ p → IsMapPlace (subject_of s (page_of old)) p ⊎ LocatesMaps (subject_of s (page_of old)) p → touches_tx p (all_of txs) ≡ false
+  pub logged : (p : ℕ) → 16 ≤ p → IsMapPlace (subject_of s (page_of old)) p → touches_tx p (all_of txs) ≡ false
+  pub stays : (p : ℕ) → 16 ≤ p → LocatesMaps (subject_of s (page_of old)) p → redone_page (blocks_of s) (all_of txs) old p ≡ page_of old p
 
 -- what a redo answers of a volume that was partly redone by these transactions: it is refused by nothing; answered ok, it counts them, and the volume is what they make of it as it was
 abbrev pub EndsAll : Super → List (List Edit) → Image → Image → Result Redone RedoError → Type 0

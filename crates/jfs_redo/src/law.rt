@@ -2,6 +2,7 @@
 
 ghost use Rattle.jfs_redo.specs.Laws.{RedoneAgree};
 ghost use Rattle.jfs_redo.specs.Partly.{StoppedRedo, OthersStay};
+ghost use Rattle.jfs_redo.specs.Apart.{StandApart, NameOnce, DataStays};
 
 /// What redo makes of a volume is one thing: each of its pages follows from the pages that it had and from the transactions.
 pub fn redone_volumes_agree()
@@ -17,4 +18,15 @@ pub fn stopped_redo_is_taken_up()
 /// Redo changes the pages of which a line of its log counts, the maps' and the superblock's, and no other: at each moment all other pages are as they were.
 pub fn redo_leaves_other_pages()
     ensures { OthersStay }
+{}
+
+/// The maps of a volume stand apart where no rule on them is broken, each block of their files is named once by the fixed areas and the inode extents, and no line of the log is one of such a block. Where the maps agree with the inodes, each block is named once.
+pub fn maps_stand_apart()
+    ensures apart { StandApart }
+    ensures once { NameOnce }
+{}
+
+/// Redo leaves file data of the volume that it makes: where the maps agree then, a block that holds data of an object is as it was at each moment, unless a line of the log counts for it.
+pub fn redo_leaves_file_data()
+    ensures { DataStays }
 {}

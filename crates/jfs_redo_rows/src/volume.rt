@@ -161,16 +161,21 @@ fn a_redo_that_failed_is_made_again(rt: HostRuntime) {
     assert!(rt; failing(alloc, Kind::Sync, 2) == Some((fault, done)));
 }
 
-/// What redo answers of a new volume with these words, and whether anything was written.
+/// Why the volume is refused, and whether it says that it is clean.
+fn why_not<D: Disk>(alloc: Global, disk: &mut D) -> Option<(RedoError, bool)> {
+    match redone(alloc, disk)? {
+        Ok(_) => None,
+        Err(why) => Some((why, superblock(disk)?.state == VolumeState::CLEAN)),
+    }
+}
+
+/// The same of a new volume with these words.
 fn refused(alloc: Global, words: &[Word]) -> Option<(RedoError, bool)> {
     let mut disk = SureDisk::new(alloc, 4096).ok()?;
     if !dirty(&mut disk, words) {
         return None;
     }
-    match redone(alloc, &mut disk)? {
-        Ok(_) => None,
-        Err(why) => Some((why, superblock(&mut disk)?.state == VolumeState::CLEAN)),
-    }
+    why_not(alloc, &mut disk)
 }
 
 /// Words of a volume, and why it is refused. The log begins at page 3072; its superblock is the second page, with the label at byte 52, and its only SYNCPT stands on its last page.
@@ -193,4 +198,33 @@ fn a_log_or_maps_that_break_a_rule_are_refused(rt: HostRuntime) {
     for (words, why) in REFUSED.iter() {
         assert!(rt; refused(alloc, words) == Some((*why, false)), "{words:?}");
     }
+}
+
+/// Whether page `n` is zeros now.
+fn clear<D: Disk>(disk: &mut D, n: u32) -> bool {
+    n < disk.pages() && disk.write(n, &Page::zeros()).is_ok()
+}
+
+/// The same of a new volume whose log has zeros on each page of its ring, from 3074 on.
+fn refused_without_ring(alloc: Global) -> Option<(RedoError, bool)> {
+    let mut disk = SureDisk::new(alloc, 4096).ok()?;
+    if !dirty(&mut disk, &[]) {
+        return None;
+    }
+    for n in 3074..4096 {
+        if !clear(&mut disk, n) {
+            return None;
+        }
+    }
+    why_not(alloc, &mut disk)
+}
+
+// Such a page has the number 0 at both ends, which is one page's alone.
+#[test]
+fn a_ring_of_zeros_is_refused(rt: HostRuntime) {
+    let why = RedoError::BadLog {
+        address: 0,
+        rule: Rule::Ring,
+    };
+    assert!(rt; refused_without_ring(rt.alloc()) == Some((why, false)));
 }
