@@ -6,7 +6,7 @@ ghost use Rattle.std.specs.List.{list_all};
 ghost use Rattle.std.specs.Str.{is_utf8, bytes_eq};
 ghost use Rattle.jfs_format.specs.Superblock.{label_field};
 ghost use Rattle.jfs_script.specs.Number.{numeral};
-ghost use Rattle.jfs_command.specs.Words.{texts, is_visible, is_label, with_label, with_uuid, image_and_uuid, is_name, begins_with_dash, command_of, on_image, image_alone, place, run_at, names_in_front, image_and_scripts, leave_and_rest, begins_well, number_up_to, generate, with_clients, with_calls, with_number, image_and_numbers, places_of, script_words, is_alone, UsageIs};
+ghost use Rattle.jfs_command.specs.Words.{texts, is_visible, is_label, with_label, with_uuid, image_and_uuid, is_name, begins_with_dash, command_of, on_image, image_alone, place, run_at, names_in_front, image_and_scripts, leave_and_rest, begins_well, number_up_to, generate, with_clients, with_calls, with_number, image_and_numbers, places_of, script_words, is_alone, has_clients, UsageIs};
 
 use std::alloc::{AllocError, Global};
 use uuid::Uuid;
@@ -157,6 +157,16 @@ pub fn paths_of(alloc: Global, words: &[Vec<u8>]) -> Result<Paths, PathsError>
             Err(_) => Err(PathsError::Memory),
         },
         Err(usage) => Err(PathsError::Usage(usage)),
+    }
+}
+
+/// Whether the words ask for a command with clients. Words that leave the grammar ask for none.
+pub fn has_clients(words: &[Vec<u8>]) -> bool
+    ensures { result ≡ has_clients (command_of (texts words.now)) }
+{
+    match read_words(words) {
+        Ok(command) => !command.job.is_alone(),
+        Err(_) => false,
     }
 }
 
