@@ -66,8 +66,8 @@ impl Gate for Meeting {
 
 /// What two clients print, by which of them was the first.
 static TEXTS: [&str; 2] = [
-    "1 1.1 ok +\n2 2.1 stat dir 0755 3 0 0 1 2 1000 -\ndone 2 entries, 1 durable\n",
-    "1 2.1 stat dir 0755 2 0 0 1 2 0 -\n2 1.1 ok +\ndone 2 entries, 1 durable\n",
+    "1 1.1 ok +\n2 2.1 stat dir 0755 3 0 0 0 2 1000 -\ndone 2 entries, 1 durable\n",
+    "1 2.1 stat dir 0755 2 0 0 0 2 1000 -\n2 1.1 ok +\ndone 2 entries, 1 durable\n",
 ];
 
 #[test]
