@@ -3,6 +3,7 @@
 
 mod check;
 mod format;
+mod gen_words;
 mod generate;
 mod law;
 mod line;

@@ -43,12 +43,7 @@ pub fn perform_alone<D: Disk>(alloc: Global, job: Job, now: Moment, disk: D) -> 
 }
 
 /// Does the work of a command with clients. One without scripts leaves the sources alone.
-pub fn perform_with_clients<
-    R: Threads + Wait + Sync,
-    D: Disk + Send,
-    S: Source,
-    G: Gate + Sync,
->(
+pub fn perform_with_clients<R: Threads + Wait + Sync, D: Disk + Send, S: Source, G: Gate + Sync>(
     rt: &R,
     alloc: Global,
     command: Command,

@@ -146,8 +146,7 @@ fn answer_with_clients<
 {
     match read_words(words) {
         Ok(command) => {
-            let performed =
-                perform_with_clients(rt, alloc, command, now, disk, scripts, gate);
+            let performed = perform_with_clients(rt, alloc, command, now, disk, scripts, gate);
             conclude_with(alloc, performed, out)
         }
         Err(_) => unreachable!(),

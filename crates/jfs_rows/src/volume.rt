@@ -200,15 +200,7 @@ pub fn run<R: Threads + Wait + Sync, K: Sink>(
     let words = words_of(alloc, words).ok()?;
     let places = places_of(alloc, &words).ok()?;
     let mut scripts = sources(alloc, &places, script).ok()?;
-    Some(top(
-        rt,
-        alloc,
-        &words,
-        disk,
-        &mut scripts,
-        out,
-        &OpenGate,
-    ))
+    Some(top(rt, alloc, &words, disk, &mut scripts, out, &OpenGate))
 }
 
 fn words_of(alloc: Global, words: &[&str]) -> Result<Vec<Vec<u8>>, AllocError> {

@@ -8,6 +8,8 @@ mod file_disk;
 mod file_source;
 mod out_sink;
 mod progress;
+#[cfg(test)]
+mod progress_rows;
 
 use file_disk::{Access, FileDisk, is_standard};
 use file_source::FileSource;
