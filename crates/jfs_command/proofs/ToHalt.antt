@@ -1,5 +1,5 @@
 -- A legal history is one up to where a volume halts.
-use Rattle.std.proofs.Common.{◌≡◌, [], ℕ, List, length, sym, subst, inl, inr, arith}
+use Rattle.std.proofs.Common.{◌≡◌, [], ℕ, List, length, refl, sym, subst, inl, inr, arith}
 use Rattle.std.proofs.Math.Seq.{take-length, drop-length}
 use Rattle.std.specs.List.{AllByRecursion}
 use Rattle.jfs_bits.specs.declared.descriptor.Moment.{Moment}

@@ -6,7 +6,7 @@ ghost use Rattle.jfs_command.specs.Order.{scripts_from};
 ghost use Rattle.jfs_command.specs.Gen.{gen_meaning};
 ghost use Rattle.jfs_command.specs.Meaning.{Performs};
 
-use crate::outcome::{End, Outcome};
+use crate::outcome::End;
 use crate::perform::Performed;
 use crate::printed::Printed;
 use crate::run::run_on_volume;
@@ -48,10 +48,7 @@ pub fn generate<R: Threads + Wait + Sync, D: Disk + Send, G: Gate + Sync>(
             false,
             gate,
         ),
-        Err(_) => Performed {
-            outcome: Outcome::new(alloc, End::Stopped(Stop::Memory), Vec::new(alloc)),
-            disk,
-        },
+        Err(_) => Performed::idle(alloc, End::Stopped(Stop::Memory), disk),
     }
 }
 

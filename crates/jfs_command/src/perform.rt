@@ -1,6 +1,7 @@
 //! The work of each command.
 
 ghost use Rattle.std.specs.Prelude.{◌≡◌, ◌≤◌, ◌<◌, ◌^◌, true, false, [], length};
+ghost use Rattle.jfs_disk.specs.Image.{ArePages};
 ghost use Rattle.jfs_command.specs.Inputs.{Inputs, source_faults};
 ghost use Rattle.jfs_command.specs.Meaning.{Performs};
 ghost use Rattle.jfs_command.specs.Meanings.{job_meaning};
@@ -11,7 +12,7 @@ use crate::check::check_volume;
 use crate::format::format_volume;
 use crate::generate::generate;
 use crate::log::show_log;
-use crate::outcome::Outcome;
+use crate::outcome::{End, Outcome};
 use crate::redo::redo_volume;
 use crate::run::run_scripts;
 use crate::show::show_super;
@@ -28,6 +29,23 @@ use std::thread::Threads;
 pub struct Performed<D> {
     pub outcome: Outcome,
     pub disk: D,
+}
+
+impl<D: Disk> Performed<D> {
+    /// Nothing was done to the disk, and nothing is printed but the line of the status. The disk's pages are whole, as each disk's are.
+    pub fn idle(alloc: Global, end: End, disk: D) -> Performed<D>
+        ensures end { result.outcome.end ≡ end }
+        ensures text { result.outcome.text.items ≡ [] }
+        ensures history { result.outcome.history.items ≡ [] }
+        ensures told { result.outcome.told.items ≡ [] }
+        ensures disk { result.disk ≡ disk }
+        ensures whole { D.tells → ArePages (D.page_count disk) (D.image disk) }
+    {
+        Performed {
+            outcome: Outcome::new(alloc, end, Vec::new(alloc)),
+            disk,
+        }
+    }
 }
 
 /// Does the work of a job without clients. The disk is handed over and comes back: a command may cut it meanwhile.

@@ -63,10 +63,7 @@ pub fn run_scripts<R: Threads + Wait + Sync, D: Disk + Send, S: Source, G: Gate 
             is_left,
             gate,
         ),
-        Err(end) => Performed {
-            outcome: Outcome::new(alloc, end, Vec::new(alloc)),
-            disk,
-        },
+        Err(end) => Performed::idle(alloc, end, disk),
     }
 }
 
@@ -90,10 +87,7 @@ pub fn run_on_volume<R: Threads + Wait + Sync, D: Disk + Send, G: Gate + Sync>(
     let mut disk = disk;
     match look(&mut disk) {
         Ok(s) => run_by_state(rt, alloc, disk, &s, plan, printed, now, is_left, gate),
-        Err(end) => Performed {
-            outcome: Outcome::new(alloc, end, Vec::new(alloc)),
-            disk,
-        },
+        Err(end) => Performed::idle(alloc, end, disk),
     }
 }
 
@@ -131,10 +125,7 @@ fn run_by_state<R: Threads + Wait + Sync, D: Disk + Send, G: Gate + Sync>(
         rule: Rule::State,
         value: state.0.into(),
     });
-    Performed {
-        outcome: Outcome::new(alloc, refused, Vec::new(alloc)),
-        disk,
-    }
+    Performed::idle(alloc, refused, disk)
 }
 
 // The calls of lines on a volume that is mounted, once it is redone.
@@ -179,10 +170,7 @@ fn run_redone<R: Threads + Wait + Sync, D: Disk + Send, G: Gate + Sync>(
                 gate,
             )
         }
-        Err(why) => Performed {
-            outcome: Outcome::new(alloc, not_redone(why), Vec::new(alloc)),
-            disk,
-        },
+        Err(why) => Performed::idle(alloc, not_redone(why), disk),
     }
 }
 

@@ -111,8 +111,7 @@ fn answer_alone<D: Disk, S: Source, K: Sink>(
         Ok(command) => conclude_with(alloc, perform_alone(alloc, command.job, now, disk), out),
         Err(usage) => {
             let refused = End::Own(Status::Usage { word: usage.word });
-            let outcome = Outcome::new(alloc, refused, Vec::new(alloc));
-            conclude_with(alloc, Performed { outcome, disk }, out)
+            conclude_with(alloc, Performed::idle(alloc, refused, disk), out)
         }
     }
 }

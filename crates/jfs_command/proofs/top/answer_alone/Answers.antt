@@ -1,4 +1,8 @@
-use Rattle.std.proofs.Common.{map, sym, refl, ◌∙◌}
+use Rattle.std.proofs.Common.{ℕ, List, map, sym, subst, refl, ◌∙◌}
+use Rattle.jfs_command.specs.declared.outcome.End.{End}
+use Rattle.jfs_command.specs.declared.status.Status.TheVariants.{Usage}
+use Rattle.jfs_command.specs.Status.{status_of}
+use Rattle.jfs_command.specs.Print.{Concludes}
 use Rattle.jfs_command.proofs.Asked.{is_alone_by}
 use Rattle.jfs_command.specs.Words.{texts, command_of}
 use Rattle.jfs_command.proofs.Performing.{without_scripts}
@@ -24,9 +28,10 @@ returns-in-Ok-clause-answer g c =
 pub returns-in-Err-clause-answer : goal.returns-in-Err-clause-answer
 returns-in-Err-clause-answer g c =
     let done = c.conclude_with-in-Err in
-    let made = c.new-in-Err in
-    rw done.ensures.disk
+    let idle = c.idle in
+    rw (done.ensures.disk ∙ idle.ensures.disk)
     (refused g.D.Disk g.S.Source g.K.Sink (command_of (texts c.args.words.now)) c.in-Err.usage.word (sym c.in-Err.ensures) c.args.now
     c.args.disk c.args.scripts.now.items c.args.out.now done.new.out done.result.status done.result.history.items done.result.told.items
-    (g.met.D.Disk.has_pages c.args.disk) (done.ensures.history ∙ made.ensures.history) (done.ensures.told ∙ made.ensures.told)
-    (rw (sym (made.ensures.text ∙ c.new.ensures.items), sym made.ensures.end) done.ensures.text))
+    idle.ensures.whole (done.ensures.history ∙ idle.ensures.history) (done.ensures.told ∙ idle.ensures.told)
+    (subst (λ (t : List ℕ). Concludes g.K.Sink.tells (g.K.Sink.taken c.args.out.now) (g.K.Sink.taken done.new.out) (record { before = g.K.Sink.fault_count c.args.out.now; now = g.K.Sink.fault_count done.new.out }) t (Usage c.in-Err.usage.word) done.result.status) idle.ensures.text
+    (subst (λ (e : End). Concludes g.K.Sink.tells (g.K.Sink.taken c.args.out.now) (g.K.Sink.taken done.new.out) (record { before = g.K.Sink.fault_count c.args.out.now; now = g.K.Sink.fault_count done.new.out }) idle.result.outcome.text.items (status_of e) done.result.status) idle.ensures.end done.ensures.text)))

@@ -5,19 +5,19 @@ use Rattle.jfs_command.proofs.Concluding.{answered}
 use Rattle.jfs_command.proofs.top.answer_with_clients.Goals as goal
 
 pub perform_with_clients-performed-requires-clause-few : goal.perform_with_clients-performed-requires-clause-few
-perform_with_clients-performed-requires-clause-few g c = few_scripts (texts c.args.words.now) c.in-Ok.command (length c.args.scripts.now.items) c.in-Ok.ensures c.requires.sources
+perform_with_clients-performed-requires-clause-few g c κs within = few_scripts (texts c.args.words.now) c.in-Ok.command (length c.args.scripts.now.items) c.in-Ok.ensures c.requires.sources
 
 pub perform_with_clients-performed-requires-clause-some : goal.perform_with_clients-performed-requires-clause-some
-perform_with_clients-performed-requires-clause-some g c = some_scripts (texts c.args.words.now) c.in-Ok.command (length c.args.scripts.now.items) c.in-Ok.ensures c.requires.sources
+perform_with_clients-performed-requires-clause-some g c κs within = some_scripts (texts c.args.words.now) c.in-Ok.command (length c.args.scripts.now.items) c.in-Ok.ensures c.requires.sources
 
 pub perform_with_clients-performed-requires-clause-within : goal.perform_with_clients-performed-requires-clause-within
-perform_with_clients-performed-requires-clause-within g c = is_within (texts c.args.words.now) c.in-Ok.command c.in-Ok.ensures
+perform_with_clients-performed-requires-clause-within g c κs within = is_within (texts c.args.words.now) c.in-Ok.command c.in-Ok.ensures
 
 pub perform_with_clients-performed-requires-clause-clients : goal.perform_with_clients-performed-requires-clause-clients
-perform_with_clients-performed-requires-clause-clients g c = has_clients_by (texts c.args.words.now) c.in-Ok.command c.in-Ok.ensures c.requires.clients
+perform_with_clients-performed-requires-clause-clients g c κs within = has_clients_by (texts c.args.words.now) c.in-Ok.command c.in-Ok.ensures c.requires.clients
 
-pub returns-in-Ok-clause-answer : goal.returns-in-Ok-clause-answer
-returns-in-Ok-clause-answer g c =
+pub returns-clause-answer : goal.returns-clause-answer
+returns-clause-answer g c =
     let done = c.conclude_with in
     let performed = c.perform_with_clients-performed in
     rw (done.ensures.disk, done.ensures.history, done.ensures.told)
