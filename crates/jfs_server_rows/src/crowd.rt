@@ -1,18 +1,17 @@
 //! Clients at once, each with a pass and a script.
 
 ghost use Rattle.std.specs.Prelude.{◌≡◌, ◌≤◌, ◌<◌, ◌+◌, length, IfSome};
+ghost use Rattle.std.specs.Thread.{IsSync};
 ghost use Rattle.jfs_script.specs.Script.{AllFit};
-ghost use Rattle.jfs_server_rows.specs.Crowd.{AllScriptsFit, AreCallers, IsSamePass, KeepsPass, MayBeServed};
+ghost use Rattle.jfs_server_rows.specs.Crowd.{AllScriptsFit, AreCallers, IsOpen, IsSamePass, KeepsPass};
 ghost use Rattle.jfs_turns.specs.Lists.{Base};
 
 use jfs_bits::Moment;
 use jfs_disk::Disk;
 use jfs_io::Gate;
-use jfs_legal::unmount::Mounted;
 use jfs_plain::{Ack, Line, Reply};
 use jfs_server::{Server, ServerPass, Stopped};
 use std::alloc::Global;
-use std::marker::Brand;
 use std::sync::{Mutex, Wait};
 use std::thread::{self, Threads};
 
@@ -47,6 +46,7 @@ fn call_all<D: Disk, G: Gate, R: Threads + Wait + Sync>(
     told: &[Mutex<Vec<Told>>],
 ) -> ServerPass<D>
     requires table { pass.seat.table_id ≡ server.now.turns.table.shared.table_id }
+    requires sync { IsSync R.row }
     requires fits { AllFit lines.now }
     ensures { IsSamePass pass result }
 {
@@ -74,6 +74,7 @@ fn call_own<D: Disk, G: Gate, R: Threads + Wait + Sync>(
     gate: &G,
     told: &[Mutex<Vec<Told>>],
 )
+    requires sync { IsSync R.row }
     requires of { IfSome caller.old (λ p. p.seat.table_id ≡ server.now.turns.table.shared.table_id) }
     requires fits { AllScriptsFit scripts.now }
     ensures { KeepsPass caller.old caller.new }
@@ -102,41 +103,44 @@ fn call_at_once<D: Disk + Send, G: Gate + Sync, R: Threads + Wait + Sync>(
     gate: &G,
     told: &[Mutex<Vec<Told>>],
 )
-    requires some { 0 < length callers.old }
-    requires of { (base : Base) (total : _) → AreCallers server.now.turns.table.shared.table_id base total callers.old → Unit {0} }
+    requires callers { (0 < length callers.old) × ((base : Base) × AreCallers server.now.turns.table.shared.table_id base (length callers.old) callers.old) }
     requires fits { AllScriptsFit scripts.now }
+    ensures { (base : Base) → AreCallers server.now.turns.table.shared.table_id base (length callers.old) callers.old → AreCallers server.now.turns.table.shared.table_id base (length callers.old) callers.new }
 {
     let threads = callers.len();
     thread::for_each_mut(
         rt,
         callers,
         threads,
-        &|_place, caller: &mut Option<ServerPass<D>>| {
-            call_own(rt, server, caller, scripts, now, gate, told)
-        },
+        &|_place, caller: &mut Option<ServerPass<D>>|
+            requires { IsSync R.row × IfSome caller.old (λ p. p.seat.table_id ≡ server.now.turns.table.shared.table_id) × AllScriptsFit scripts.now }
+            ensures { KeepsPass caller.old caller.new }
+        { call_own(rt, server, caller, scripts, now, gate, told) },
     );
 }
 
-/// Serves a volume that was just mounted to as many clients as there are scripts, 1 to 16, each in a thread of its own: client 1 does the first script's lines, and so on, all at this moment. What each is told is written into the list at its
-/// place, where there is one. None: memory was refused, and nothing was called.
+/// Serves as many clients as there are passes, each in a thread of its own: client 1 does the first script's lines, and so on, all at this moment. What each is told is written into the list at its place, where
+/// there is one. None: memory was refused, and nothing was called.
 pub fn crowd<D: Disk + Send + Drop, G: Gate + Sync, R: Threads + Wait + Sync>(
     rt: &R,
     alloc: Global,
-    m: Mounted<D>,
+    server: Server<D>,
+    passes: Vec<ServerPass<D>>,
     scripts: &[Vec<Line>],
     now: Moment,
     gate: &G,
     told: &[Mutex<Vec<Told>>],
-) -> Option<Stopped<D>> {
-    let count = scripts.len();
-    let Ok((server, mut dealt)) = Server::start::<Brand>(alloc, m, count as u32) else {
+) -> Option<Stopped<D>>
+    requires open { IsOpen D.Disk server.turns.table.shared.table_id passes.items × (0 < length passes.items) }
+    requires fits { AllScriptsFit scripts.now }
+    ensures { IfSome result (λ x. x.mounted.volume.count + D.page_count x.mounted.log.part ≤ x.mounted.volume.room) }
+{
+    let mut passes = passes;
+    let Ok(mut callers) = Vec::with_capacity(alloc, passes.len()) else {
+        server.stop(passes);
         return None;
     };
-    let Ok(mut callers) = Vec::with_capacity(alloc, count) else {
-        server.stop(dealt);
-        return None;
-    };
-    while let Some(pass) = dealt.pop() {
+    while let Some(pass) = passes.pop() {
         callers.push_reserved(Some(pass));
     }
     call_at_once(
@@ -150,10 +154,10 @@ pub fn crowd<D: Disk + Send + Drop, G: Gate + Sync, R: Threads + Wait + Sync>(
     );
     while let Some(caller) = callers.pop() {
         match caller {
-            Some(pass) => dealt.push_reserved(pass),
+            Some(pass) => passes.push_reserved(pass),
             None => unreachable!(),
         }
     }
     callers.destroy_empty();
-    Some(server.stop(dealt))
+    Some(server.stop(passes))
 }

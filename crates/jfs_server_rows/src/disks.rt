@@ -4,7 +4,7 @@ ghost use Rattle.std.specs.Prelude.{IfSome};
 ghost use Rattle.jfs_super.specs.Rules.{IsAccepted};
 ghost use Rattle.jfs_super.specs.Super.{FitsSuper};
 
-use jfs_bits::Moment;
+use jfs_bits::{Moment, put_u32};
 use jfs_check::check;
 use jfs_disk::{Choice, Disk, Fail, MemDisk, Page, PageList};
 use jfs_format::format;
@@ -17,6 +17,11 @@ use uuid::Uuid;
 
 /// The number of pages of the disk.
 pub const PAGES: u32 = 4096;
+
+/// The page of the superblock, and where on it the length of the log stands.
+const SUPERBLOCK: u32 = 8;
+
+const LOG_LENGTH: usize = 72;
 
 /// The time of the formatting, and that of the calls.
 pub const MADE: Moment = Moment { sec: 1000, nano: 7 };
@@ -37,6 +42,20 @@ pub fn formatted(alloc: Global, fails: &[Fail]) -> Option<MemDisk> {
     Some(disk.with_fails(Vec::from_slice(alloc, fails).ok()?))
 }
 
+/// A disk with a new volume whose log has 256 pages, of the 1,024 that there are: half of it is soon full.
+pub fn with_short_log(alloc: Global) -> Option<MemDisk> {
+    let mut disk = formatted(alloc, &[])?;
+    let mut page = Page::zeros();
+    if disk.pages() <= SUPERBLOCK || disk.read(SUPERBLOCK, &mut page).is_err() {
+        return None;
+    }
+    put_u32(&mut page.0, LOG_LENGTH, 256);
+    if disk.write(SUPERBLOCK, &page).is_err() {
+        return None;
+    }
+    Some(disk)
+}
+
 /// The superblock of a disk.
 fn superblock<D: Disk>(disk: &mut D) -> Option<Super>
     ensures accepted { IfSome result (λ s. IsAccepted s (D.page_count disk.new)) }
@@ -44,7 +63,7 @@ fn superblock<D: Disk>(disk: &mut D) -> Option<Super>
 {
     let pages = disk.pages();
     let mut page = Page::zeros();
-    if pages < 9 || disk.read(8, &mut page).is_err() {
+    if pages < 9 || disk.read(SUPERBLOCK, &mut page).is_err() {
         return None;
     }
     read_super(&page, pages).ok()

@@ -44,7 +44,7 @@ static TURNS: [Turn; 5] = [
     Turn {
         part: Part::Low,
         kind: Kind::Read,
-        first: 1,
+        first: 2,
         least: 4,
     },
     Turn {

@@ -6,7 +6,7 @@ ghost use Rattle.jfs_server_rows.specs.Crowd.{AllScriptsFit};
 use crate::crowd::{Told, crowd};
 use crate::disks::{NOW, choices, redone_tree};
 use crate::history::{front_of, has_own, last_durable};
-use crate::start::mounted;
+use crate::start::open;
 use jfs_disk::{Disk, MemDisk};
 use jfs_io::Gate;
 use jfs_legal::unmount::leave;
@@ -22,6 +22,8 @@ pub struct Left<D> {
     pub history: Vec<Entry>,
     pub told: Vec<Vec<Told>>,
     pub durable: u64,
+    /// Where the log's text ends, in bytes from its first page's beginning on, however often it went round.
+    pub end: u64,
 }
 
 /// A list for each client.
@@ -52,15 +54,26 @@ pub fn serve<D: Disk + Send + Drop, G: Gate + Sync, R: Threads + Wait + Sync>(
 ) -> Option<Left<D>>
     requires { (0 < length scripts.now) × (length scripts.now ≤ 16) × AllScriptsFit scripts.now }
 {
-    let m = mounted(alloc, disk)?;
     let lists = lists(alloc, scripts.len())?;
-    let stopped = crowd(rt, alloc, m, scripts, NOW, gate, lists.as_slice())?;
+    let (server, passes) = open(alloc, disk, scripts.len() as u32)?;
+    let stopped = crowd(
+        rt,
+        alloc,
+        server,
+        passes,
+        scripts,
+        NOW,
+        gate,
+        lists.as_slice(),
+    )?;
     let durable = stopped.mounted.log.durable();
+    let end = stopped.mounted.volume.text_end();
     Some(Left {
         disk: leave(stopped.mounted),
         history: stopped.history,
         told: all_told(alloc, lists)?,
         durable,
+        end,
     })
 }
 
@@ -86,10 +99,11 @@ pub fn last_told<D>(left: &Left<D>) -> u64 {
     last
 }
 
-/// The first client that has other entries than its script's lines, or was told something else.
+/// The first client that has other entries than its script's lines, or was told something else; 0 where there are entries of others.
 fn first_other<D>(left: &Left<D>, scripts: &[Vec<Line>]) -> Option<u32> {
     let told = left.told.as_slice();
     let mut client = 0;
+    let mut lines = 0;
     for script in scripts {
         let place = client as usize;
         client += 1;
@@ -103,8 +117,13 @@ fn first_other<D>(left: &Left<D>, scripts: &[Vec<Line>]) -> Option<u32> {
         {
             return Some(client);
         }
+        lines += script.len();
     }
-    None
+    if left.history.len() == lines {
+        None
+    } else {
+        Some(0)
+    }
 }
 
 /// How many entries a redo finds, of a disk as it was left, or by a number as a crash left it; or what is wrong.

@@ -15,6 +15,8 @@ mod history;
 #[cfg(test)]
 mod left;
 #[cfg(test)]
+mod points;
+#[cfg(test)]
 mod rows;
 #[cfg(test)]
 mod same;
@@ -24,5 +26,5 @@ mod start;
 mod watched;
 
 pub use crowd::{Told, crowd};
-pub use start::mounted;
+pub use start::{mounted, open};
 pub use watched::{Watch, WatchedDisk};
