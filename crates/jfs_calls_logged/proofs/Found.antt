@@ -1,28 +1,25 @@
 -- What a path leads to on a consistent volume.
-use Rattle.std.proofs.Common.{◌≡◌, ◌<◌, ◌⊎◌, refl, sym, ap, ◌∙◌, subst, inl, inr, ℕ, ◌%◌, nat_lt, Bool, true, false, List, [], ◌∷◌, Option, Some, None, Result, Ok, Err, is_some, if◌then◌else◌}
+use Rattle.std.proofs.Common.{◌≡◌, ◌<◌, refl, sym, ap, ◌∙◌, subst, ℕ, ◌%◌, nat_lt, Bool, true, false, List, [], ◌∷◌, Option, Some, None, Result, Ok, Err, is_some, if◌then◌else◌}
 use Rattle.std.proofs.lemmas.Bool.{ltb-true}
 use Rattle.jfs_bits.specs.Broken.{first_broken}
 use Rattle.jfs_inode.specs.Rules.{rows}
 use Rattle.jfs_inode.specs.declared.read.BadInode.{BadInode}
 use Rattle.jfs_inode.specs.declared.fields.Dinode.{Dinode}
 use Rattle.jfs_imap.specs.Inodes.{Inodes, home_of}
-use Rattle.jfs_name.specs.declared.name.NameEntry.{NameEntry}
 use Rattle.jfs_tree.specs.Spells.{no_page}
 use Rattle.jfs_chmod.specs.steps.specs.bmap.specs.States.{Blocks}
-use Rattle.jfs_chmod.specs.steps.specs.objects.specs.Image.{extent_place}
 use Rattle.jfs_chmod.specs.steps.specs.objects.specs.Volume.{Volume, home, slot_of}
-use Rattle.jfs_chmod.specs.steps.specs.objects.specs.Objects.{objects, spelled, has_names}
+use Rattle.jfs_chmod.specs.steps.specs.objects.specs.Objects.{spelled, has_names}
 use Rattle.jfs_chmod.specs.steps.specs.meaning.specs.Readers.{readers, root_of}
 use Rattle.jfs_chmod.specs.steps.specs.meaning.specs.Consistent.{IsConsistent}
 use Rattle.jfs_chmod.specs.steps.specs.way.specs.Volume.{volume_of, PlacesWithin}
 use Rattle.jfs_chmod.specs.steps.specs.way.specs.Walk.{IsThere, tree_in}
-use Rattle.jfs_chmod.specs.steps.specs.way.specs.Way.{held_on, if_whole, checked, if_within, place_of, inode_on, inode_at, inode_named, if_unbroken, name_from, path_from, path_of}
+use Rattle.jfs_chmod.specs.steps.specs.way.specs.Way.{held_on, if_whole, if_within, inode_on, inode_at, inode_named, if_unbroken, name_from, path_from, path_of}
 use Rattle.jfs_chmod.specs.steps.specs.way.specs.declared.object.Held.{Held}
 use Rattle.jfs_chmod.specs.steps.specs.way.proofs.Places.{home_is}
 use Rattle.jfs_chmod.specs.steps.specs.way.proofs.Nodes.{there, in_directory}
 use Rattle.jfs_calls_logged.specs.Found.{IsFound, FoundLaw}
 use Rattle.jfs_bits.specs.declared.rule.Rule.{Rule}
-use Rattle.jfs_name.specs.Directory.{named}
 use Rattle.jfs_chmod.specs.steps.specs.way.specs.dtree.specs.Spells.{spells_names, broken_for, found_for}
 use Rattle.jfs_chmod.specs.steps.specs.way.specs.dtree.proofs.Replaced.{way_named}
 use Rattle.jfs_chmod.specs.steps.specs.way.specs.plain.specs.Tree.{Tree, root, and_then}

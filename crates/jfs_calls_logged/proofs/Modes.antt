@@ -1,5 +1,5 @@
 -- The change of a mode logs what matters.
-use Rattle.std.proofs.Common.{◌≡◌, ◌≢◌, ◌<◌, ◌≤◌, refl, sym, ap, ◌∙◌, subst, inl, inr, ℕ, ◌+◌, ◌-◌, ◌%◌, Bool, true, false, ◌==◌, nat_lt, List, [], ◌∷◌, map, Option, Some, is_some, if◌then◌else◌, arith}
+use Rattle.std.proofs.Common.{◌≡◌, ◌<◌, refl, sym, ap, ◌∙◌, subst, inl, inr, ℕ, ◌+◌, ◌-◌, ◌%◌, Bool, true, false, nat_lt, List, [], ◌∷◌, Option, is_some, if◌then◌else◌, arith}
 use Rattle.std.proofs.lemmas.Bool.{cases_lt}
 use Rattle.jfs_bits.specs.declared.descriptor.Moment.{Moment}
 use Rattle.jfs_bits.specs.declared.rule.PageKind.TheVariants as kinds
@@ -10,7 +10,7 @@ use Rattle.jfs_ranges.specs.declared.edit.Edit.TheVariants.{Lines, NoRedo, Alloc
 use Rattle.jfs_ranges.specs.Apply.{apply_tx}
 use Rattle.jfs_ranges.specs.Laid.{put_tx}
 use Rattle.jfs_tree.specs.Tell.{IsRuns}
-use Rattle.jfs_chmod.specs.Call.{SetsMode, with_mode}
+use Rattle.jfs_chmod.specs.Call.{with_mode}
 use Rattle.jfs_chmod.proofs.Modes.{type_is, mode_is, same_names, same_extents, same_holds}
 use Rattle.jfs_chmod.specs.steps.specs.After.{after_call}
 use Rattle.jfs_chmod.specs.steps.specs.Laws.{ChangesPagesAlone}
@@ -18,10 +18,9 @@ use Rattle.jfs_chmod.specs.steps.specs.Put.{AddsInode, TellsLines}
 use Rattle.jfs_chmod.specs.steps.proofs.After.{lines_alone, lines_leave, after_is}
 use Rattle.jfs_chmod.specs.steps.proofs.Puts.{put_within, put_past}
 use Rattle.jfs_chmod.specs.steps.specs.bmap.specs.States.{Blocks}
-use Rattle.jfs_chmod.specs.steps.specs.objects.specs.Image.{extent_place}
 use Rattle.jfs_chmod.specs.steps.specs.objects.specs.Readers.{Readers}
-use Rattle.jfs_chmod.specs.steps.specs.objects.specs.Volume.{Volume, home, slot_of}
-use Rattle.jfs_chmod.specs.steps.specs.objects.specs.Objects.{Object, IsWhole, objects, spelled, is_live, listed}
+use Rattle.jfs_chmod.specs.steps.specs.objects.specs.Volume.{Volume}
+use Rattle.jfs_chmod.specs.steps.specs.objects.specs.Objects.{Object, IsWhole, spelled, is_live, listed}
 use Rattle.jfs_chmod.specs.steps.specs.objects.specs.Owners.{holds}
 use Rattle.jfs_chmod.specs.steps.specs.objects.specs.Changes.{put, PutsInode, SetsObject}
 use Rattle.jfs_chmod.specs.steps.specs.objects.proofs.Sums.{put_here, put_other, eq_or_not}
