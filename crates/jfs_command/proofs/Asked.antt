@@ -9,7 +9,7 @@ use Rattle.jfs_script.specs.Number.{numeral}
 use Rattle.jfs_command.specs.declared.words.Usage.{Usage}
 use Rattle.jfs_command.specs.declared.words.Command.{Command}
 use Rattle.jfs_command.specs.declared.words.Job.{Job}
-use Rattle.jfs_command.specs.declared.words.Job.TheVariants.{Super, Log, Check, Redo, Generate}
+use Rattle.jfs_command.specs.declared.words.Job.TheVariants.{Super, Log, Check, Redo}
 use Rattle.jfs_command.specs.Words.{is_name, is_label, on_image, run_at, names_in_front, image_alone, with_label, after_uuid, with_uuid, image_and_uuid, with_scripts, image_and_scripts, leave_and_rest, begins_well, at_most, number_up_to, generate, after_clients, with_clients, after_calls, with_calls, after_number, with_number, image_and_numbers, command_of, script_words, scripts_asked, place, is_alone, has_clients, HasScripts, IsWithin}
 
 abbrev usage : ℕ → Result Command Usage

@@ -1,5 +1,5 @@
 -- What a run of lines on a volume did is what the command `run` says of it.
-use Rattle.std.proofs.Common.{◌++◌, Option, Result, Ok, Err, ◌≡◌, ◌⊎◌, ℕ, Bool, true, List, [], length, None, inl, inr, refl, sym, ap, subst, ◌∙◌, arith}
+use Rattle.std.proofs.Common.{◌++◌, Option, Result, Ok, Err, ◌≡◌, ◌⊎◌, ℕ, Bool, true, List, [], length, None, inl, inr, refl, sym, ap, subst, ◌∙◌}
 use Rattle.std.proofs.Math.Seq.{take-length}
 use Rattle.std.proofs.lemmas.List.{append-nil}
 use Rattle.jfs_bits.specs.Count.{Rose}
@@ -8,7 +8,6 @@ use Rattle.jfs_disk.specs.Crash.{DiskState, last_of}
 use Rattle.jfs_disk.specs.Moment.{IsResting}
 use Rattle.jfs_bits.specs.declared.descriptor.Moment.{Moment}
 use Rattle.jfs_disk.specs.Image.{Image, page_of}
-use Rattle.jfs_plain.specs.declared.call.Entry.{Entry}
 use Rattle.jfs_super.specs.declared.fields.Super.{Super}
 use Rattle.jfs_super.specs.Rules.{rows, shape_rows, flag_rows, size_rows, log_rows, blocks_of, IsAccepted}
 use Rattle.jfs_redo.specs.Redo.{RedoIs, IsRedoCause, IsRefusal, StaysBehind}

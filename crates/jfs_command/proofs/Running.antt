@@ -1,5 +1,5 @@
 -- The command `run` does what it means.
-use Rattle.std.proofs.Common.{◌≡◌, ◌++◌, ◌<◌, ◌≤◌, ◌⊎◌, ℕ, Bool, true, List, [], ◌∷◌, length, map, Option, Some, None, Result, Ok, Err, inl, inr, refl, sym, ap, subst, ◌∙◌, arith}
+use Rattle.std.proofs.Common.{◌≡◌, ◌++◌, ◌<◌, ◌≤◌, ◌⊎◌, ℕ, Bool, true, List, [], length, map, Option, Some, None, Result, Ok, Err, inl, inr, refl, sym, ap, subst, ◌∙◌, arith}
 use Rattle.std.specs.Global.{Vec}
 use Rattle.jfs_bits.specs.Count.{Rose}
 use Rattle.jfs_bits.specs.Broken.{first_broken}
@@ -294,9 +294,9 @@ own_refusal (statuses.TooMuch count) is = tt
 own_refusal _ is = absurd is
 
 refused_runs : (tells crashes : Type 0) (order : Order) (is_left : Bool) (now : Moment) (held : Held) (work : Work) (status : Status) → IsOfScripts status → ChangesNothing tells crashes held work → Runs status tells crashes order is_left now held work
-refused_runs tells crashes order is_left now held work (statuses.BadScript client line rule) is nothing = nothing
-refused_runs tells crashes order is_left now held work (statuses.TooMuch count) is nothing = nothing
-refused_runs tells crashes order is_left now held work _ is nothing = absurd is
+refused_runs tells crashes order is_left now _ _ (statuses.BadScript client line rule) is nothing = nothing
+refused_runs tells crashes order is_left now _ _ (statuses.TooMuch count) is nothing = nothing
+refused_runs tells crashes order is_left now _ _ _ is nothing = absurd is
 
 -- ---- with the script's source
 

@@ -15,9 +15,8 @@ use Rattle.jfs_command.specs.declared.status.Status.TheVariants.{TooMuch}
 use Rattle.jfs_command.specs.declared.status.Stop.TheVariants as stops
 use Rattle.jfs_command.specs.declared.outcome.End.{End}
 use Rattle.jfs_command.specs.declared.outcome.End.TheVariants.{Own, Stopped}
-use Rattle.jfs_command.specs.Count.{Count, Stays, HasRisen}
 use Rattle.jfs_command.specs.Inputs.{source_faults}
-use Rattle.jfs_command.specs.Scripts.{ScriptSays, SayFrom, most_scripts, ScriptsSay, AreLines, OneEnds, ScriptsEnd}
+use Rattle.jfs_command.specs.Scripts.{ScriptSays, SayFrom, most_scripts, AreLines, OneEnds, ScriptsEnd}
 
 -- ---- a script's calls are not more than its lines
 

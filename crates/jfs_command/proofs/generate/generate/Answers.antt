@@ -1,4 +1,4 @@
-use Rattle.std.proofs.Common.{◌≡◌, ◌∙◌, refl, List, ap, false}
+use Rattle.std.proofs.Common.{◌∙◌, refl, List, ap, false}
 use Rattle.std.specs.Global.{Vec}
 use Rattle.jfs_plain.specs.declared.call.Line.{Line}
 use Rattle.jfs_run.specs.Tasks.{plan_of}

@@ -1,4 +1,4 @@
-use Rattle.std.proofs.Common.{◌≡◌, ◌<◌, List, [], length, refl, ap, arith}
+use Rattle.std.proofs.Common.{◌≡◌, ◌<◌, List, [], length, ap, arith}
 use Rattle.jfs_command.proofs.Performing.{without_scripts}
 use Rattle.jfs_command.proofs.perform.perform_with_clients.Goals as goal
 

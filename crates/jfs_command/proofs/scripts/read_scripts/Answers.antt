@@ -1,4 +1,4 @@
-use Rattle.std.proofs.Common.{length, arith}
+use Rattle.std.proofs.Common.{arith}
 use Rattle.std.proofs.lemmas.Result.{err_from_is_err_and}
 use Rattle.jfs_command.proofs.Scripted.{one_read, one_failed, all_read, plan_is, same_faults, grows, too_many, no_memory}
 use Rattle.jfs_command.proofs.scripts.read_scripts.Goals as goal
