@@ -33,7 +33,7 @@ module _ (area : ℕ → ℕ) (log_pages : ℕ) (start : Parts) where
   pub to_halt_more : (es : List Timed) (e : Timed) → IsBehindHalt e → AreLegalToHalt area log_pages start es → AreLegalToHalt area log_pages start (es ++ e ∷ [])
   to_halt_more es e one h = record {
     count = h.count;
-    within = omega (arith, h.within, length-append es (e ∷ []));
+    within = let w = h.within in omega (arith, w, length-append es (e ∷ []));
     legal = front_more h.count es e h.within h.legal;
     behind = behind_more h.count es e h.within h.behind one;
   }

@@ -24,6 +24,7 @@ use Rattle.jfs_shared.specs.Both as shared
 use Rattle.jfs_shared.specs.Entries.{Recorded}
 use Rattle.jfs_shared.specs.Faults.{any_failed, HasRisen}
 use Rattle.jfs_shared.specs.Shared.{IsShared, IsServed, IfConsistent, BreaksWithin, GoesOn as HistoryGoesOn, standing as shared_standing, timed_in}
+use Rattle.jfs_shared.proofs.Behind.{halts_still}
 use Rattle.jfs_shared.proofs.Served.{served_settled}
 use Rattle.jfs_shared.proofs.Together.{together}
 use Rattle.jfs_turns.specs.Passes.{End, AtEnd}
@@ -141,12 +142,16 @@ module _ {D : Type 0} (d : Ghosts D) (ps : List (Pass (ServedVolume D) (SharedLo
       mid : Parts
       mid = record old { halted = halted }
 
+      ran : (halted ≡ old.halted) × (y.side.halted ≡ None) ⊎ ((fault : Fault) × (y.side.halted ≡ Some fault) × (halted ≡ halted_by fault old.halted)) → halted ≡ None → old.halted ≡ None
+      ran (inl (same, runs)) none = sym same ∙ none
+      ran (inr (fault, halts, is)) none = halts_still fault old.halted halted is none
+
       settled : IsServed s page v.shared.broken_off end.list mid
-      settled = served_settled d.tells ⊥ t s page v.shared.broken_off end.list old mid (group_settles old mid refl) (group_pages d.tells old mid refl) (stands.served t consistent)
+      settled = served_settled d.tells ⊥ t s page v.shared.broken_off end.list old mid (ran h.halts) (group_settles old mid refl) (group_pages d.tells old mid refl) (stands.served t consistent)
 
       handed : (broken_off : Option ℕ) → HistoryGoesOn broken_off (volume_of s page).area s.logpxd.len settled.start (timed_in end.list) mid → HistoryGoesOn broken_off (volume_of s page).area s.logpxd.len settled.start (timed_in end.list) (record mid { entries = [] })
       handed None goes = handed_law (volume_of s page).area s.logpxd.len settled.start (timed_in end.list) mid goes
-      handed (Some n) goes = goes
+      handed (Some n) off = record { within = off.within; legal = off.legal; behind = off.behind; running = off.running }
 
   module _ (x : Stopped D d) (halted : Option Fault) (h : HandedOut x.mounted.volume halted) (log : x.mounted.log ≡ y.side) (history : x.history.items ≡ old.entries) (broken_off : x.broken_off ≡ v.shared.broken_off) where
     faults : x.mounted.volume.faults ≡ old.faults

@@ -2,10 +2,38 @@
 #![tactic(auto)]
 
 mod calling;
+mod client;
+mod running;
 mod served;
 mod server;
 mod stopping;
 
+pub use client::Client;
+pub use running::run_scripts;
 pub use served::ServedVolume;
-pub use server::{Server, ServerPass};
+pub use server::{MountedFrom, Server, ServerPass};
 pub use stopping::Stopped;
+
+pub mod unmount {
+    //! Passed on from `jfs_legal`.
+
+    pub use jfs_legal::unmount::{MountError, Mounted, leave, mount, unmount};
+}
+
+pub mod volume_calls {
+    //! Passed on from `jfs_legal`.
+
+    pub use jfs_legal::volume_calls::{PointText, commit};
+}
+
+pub mod clients {
+    //! Passed on from `jfs_clients`.
+
+    pub use jfs_clients::run_clients;
+}
+
+pub mod turns {
+    //! Passed on from `jfs_turns`.
+
+    pub use jfs_turns::Based;
+}

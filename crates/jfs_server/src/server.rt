@@ -1,6 +1,11 @@
 //! A server begins.
 
-ghost use Rattle.std.specs.Prelude.{◌≡◌, ◌<◌, ◌≤◌, IfOk, IfErr};
+ghost use Rattle.std.specs.Prelude.{◌≡◌, ◌<◌, ◌≤◌, ◌^◌, [], IfOk, IfErr};
+ghost use Rattle.jfs_disk.specs.Image.{Image};
+ghost use Rattle.jfs_super.specs.Super.{super_of};
+ghost use Rattle.jfs_super.specs.declared.fields.Super.{Super};
+ghost use Rattle.jfs_legal.specs.served.specs.volume_calls.specs.Together.{log_parts};
+ghost use Rattle.jfs_shared.specs.Start.{IsJustMounted, base_at};
 ghost use Rattle.jfs_server.specs.Start.{StartsAt, IsStarted};
 
 use crate::served::ServedVolume;
@@ -10,6 +15,19 @@ use jfs_legal::unmount::Mounted;
 use jfs_shared::{PointGroup, Recorded, started};
 use jfs_turns::{Based, Pass, Turns};
 use std::alloc::Global;
+use std::marker::Brand;
+
+/// The image that a volume was mounted from, and its superblock. Both are said in proofs alone: a caller of `start_from` gives `Brand`, and picks them in its proof by what it has of the disk.
+pub trait MountedFrom {
+    ghost block: { Super };
+    ghost image: { Image };
+}
+
+impl MountedFrom for Brand {
+    ghost block = { super_of [] };
+
+    ghost image = { [] };
+}
 
 /// What one client of a server calls with.
 pub type ServerPass<D> = Pass<ServedVolume<D>, SharedLog<D>, Recorded>;
@@ -47,5 +65,23 @@ impl<D: Disk> Server<D> {
                 log: log.side,
             }),
         }
+    }
+    /// The same of a volume that was mounted from `I.image`.
+    ///
+    /// # Errors
+    ///
+    /// Memory ran out, and the volume is handed back.
+    pub fn start_from<I: MountedFrom>(
+        alloc: Global,
+        m: Mounted<D>,
+        clients: u32,
+    ) -> Result<(Server<D>, Vec<ServerPass<D>>), Mounted<D>>
+        requires few { (0 < clients) × (clients ≤ 16) }
+        requires mounted { IsJustMounted D.tells D.tells_crashes I.block I.image m.volume (log_parts D.Disk m.log) }
+        requires faults { (m.volume.faults < 2 ^ 64) × (D.fault_count m.log.part < 2 ^ 64) }
+        ensures ok { IfOk result (λ r. IsStarted D.Disk (base_at I.block I.image m.volume (D.page_count m.log.part) (D.fault_count m.log.part)) clients r.0.turns.table.shared.table_id r.1.items) }
+        ensures err { IfErr result (λ r. r ≡ m) }
+    {
+        Server::start::<Brand>(alloc, m, clients)
     }
 }

@@ -36,8 +36,9 @@ use Rattle.jfs_shared.specs.Calls.{recorded}
 use Rattle.jfs_legal.specs.served.specs.crash_core.specs.Step.{halted_by}
 use Rattle.jfs_shared.specs.Home.{IsSettled}
 use Rattle.jfs_shared.specs.Faults.{IsOfDisk}
-use Rattle.jfs_shared.specs.Shared.{logs_of, entries_in, HasText, IsShared, IsServed, IfConsistent, BreaksWithin, broken_by}
+use Rattle.jfs_shared.specs.Shared.{logs_of, entries_in, HasText, IsShared, IsServed, IfConsistent, BreaksWithin, broken_by, is_over}
 use Rattle.jfs_shared.specs.Entries.{Recorded}
+use Rattle.jfs_shared.proofs.Behind.{runs_still, halts_still, joins_behind}
 use Rattle.jfs_shared.proofs.Text.{added, reaches, taken_text, joined_text, pointed_text}
 use Rattle.jfs_shared.proofs.Disk.{same_disk, pointed_disk, marked_disk, replied_disk, asked_disk, lacked_disk, home_disk, stopped_disk}
 use Rattle.jfs_shared.proofs.Points.{all_syncs, marked_syncs, synced_more, marked_more}
@@ -105,10 +106,10 @@ module _ (tells : Type 0) (base : Base) (list : List Recorded) (taken told : ℕ
   -- ---- a call
 
   module _ (crashes : Type 0) (client line : ℕ) (request : Request) (now : Moment) (new : Parts) where
-    pub replied_stands : (reply : Reply) (number : ℕ) (waits : Bool) (noted : Option (List Noted)) → IsAnswered client line request old new (Replied reply number waits)
+    pub replied_stands : (reply : Reply) (number : ℕ) (waits : Bool) (noted : Option (List Noted)) → is_over broken old.halted ≡ false → IsAnswered client line request old new (Replied reply number waits)
         → Does tells crashes (record { client = client; line = line }) request now old new (Replied reply number waits) → Grew noted old new
         → IsShared tells base (list ++ recorded client line request now reply noted ∷ []) taken told points known made broken new × (number ≡ suc (length list))
-    replied_stands reply number waits noted a d g = (
+    replied_stands reply number waits noted over a d g = (
       record {
         entries = a.entry.entries ∙ ap (λ (es : List Entry). es ++ e.entry ∷ []) h.entries ∙ sym (entries_more list e);
         appended = longer;
@@ -124,7 +125,8 @@ module _ (tells : Type 0) (base : Base) (list : List Recorded) (taken told : ℕ
         size = let before = h.size in omega (arith, a.keeps.size, a.keeps.blocks, before);
         breaks = longer_breaks broken (length list) (length (list ++ e ∷ [])) (omega (arith, length-append list (e ∷ []))) h.breaks;
         disk = replied_disk client line request old new (start_of base) points h.disk reply number waits a;
-        served = λ t consistent. served_joined tells crashes t s page broken list (record { caller = record { client = client; line = line }; request = request; now = now }) old new reply number waits noted (h.served t consistent) d;
+        served = λ t consistent. served_joined tells crashes t s page broken list (record { caller = record { client = client; line = line }; request = request; now = now }) old new reply number waits noted
+            (runs_still old.faults new.faults old.halted new.halted a.halted) (joins_behind client line request now old new reply number waits noted a broken over) (h.served t consistent) d;
       },
       a.entry.number_is ∙ a.entry.appended ∙ next,
     )
@@ -154,13 +156,13 @@ module _ (tells : Type 0) (base : Base) (list : List Recorded) (taken told : ℕ
 
     pub asked_stands : IsAnswered client line request old new NeedsLog → Does tells crashes (record { client = client; line = line }) request now old new NeedsLog → Stood old new → IsShared tells base list taken told points known made broken new
     asked_stands a d g = alike_stands broken new h.breaks (left a.entry.entries a.entry.appended a.keeps g) (asked_disk client line request old new (start_of base) points h.disk a)
-        (λ t consistent. served_asked tells crashes t s page broken list (record { caller = record { client = client; line = line }; request = request; now = now }) old new (h.served t consistent) d)
+        (λ t consistent. served_asked tells crashes t s page broken list (record { caller = record { client = client; line = line }; request = request; now = now }) old new (λ none. sym a.halted.0 ∙ none) (h.served t consistent) d)
 
     pub lacked_stands : (n : ℕ) → n ≡ new.appended → IsAnswered client line request old new NoMemory → Does tells crashes (record { client = client; line = line }) request now old new NoMemory → Stood old new
         → IsShared tells base list taken told points known made (broken_by n broken) new
     lacked_stands n is a d g = alike_stands (broken_by n broken) new (broken_within broken n (length list) (is ∙ a.entry.appended ∙ h.appended) h.breaks) (left a.entry.entries a.entry.appended a.keeps g) (lacked_disk client line request old new (start_of base) points h.disk a)
         (λ t consistent. served_lacked tells crashes t s page broken list n (record { caller = record { client = client; line = line }; request = request; now = now }) old new
-        (is ∙ a.entry.appended ∙ h.appended) (h.served t consistent) d)
+        (is ∙ a.entry.appended ∙ h.appended) (runs_still old.faults new.faults old.halted new.halted a.halted) (h.served t consistent) d)
 
   -- ---- groups
 
@@ -180,7 +182,7 @@ module _ (tells : Type 0) (base : Base) (list : List Recorded) (taken told : ℕ
     size = subst (λ (p : Parts). length p.map.states ≤ p.blocks) (sym e) h.size;
     breaks = h.breaks;
     disk = same_disk (start_of base) points old h.disk new (record { count = ap (λ (p : Parts). p.count) e; room = ap (λ (p : Parts). p.room) e; faults = ap (λ (p : Parts). p.faults) e; entries = ap (λ (p : Parts). p.entries) e; halted = ap (λ (p : Parts). p.halted) e });
-    served = λ t consistent. served_settled tells ⊥ t s page broken list old new (group_settles old new parts) (group_pages tells old new parts) (h.served t consistent);
+    served = λ t consistent. served_settled tells ⊥ t s page broken list old new (λ none. sym (ap (λ (p : Parts). p.halted) e) ∙ none) (group_settles old new parts) (group_pages tells old new parts) (h.served t consistent);
   }
     where
       parts : GroupParts old new
@@ -211,7 +213,7 @@ module _ (tells : Type 0) (base : Base) (list : List Recorded) (taken told : ℕ
     size = subst (λ (p : Parts). length p.map.states ≤ p.blocks) (sym e) h.size;
     breaks = h.breaks;
     disk = marked_disk (start_of base) points old h.disk fault new e;
-    served = λ t consistent. served_settled tells ⊥ t s page broken list old new (group_settles old new parts) (group_pages tells old new parts) (h.served t consistent);
+    served = λ t consistent. served_settled tells ⊥ t s page broken list old new (λ _. runs) (group_settles old new parts) (group_pages tells old new parts) (h.served t consistent);
   }
     where
       parts : GroupParts old new
@@ -238,7 +240,7 @@ module _ (tells : Type 0) (base : Base) (list : List Recorded) (taken told : ℕ
     size = let before = h.size in omega (arith, before, ap (λ (p : Parts). length p.map.states) e ∙ as_many_states n old.map, ap (λ (p : Parts). p.blocks) e);
     breaks = h.breaks;
     disk = same_disk (start_of base) points old h.disk new (record { count = ap (λ (p : Parts). p.count) e; room = ap (λ (p : Parts). p.room) e; faults = ap (λ (p : Parts). p.faults) e; entries = ap (λ (p : Parts). p.entries) e; halted = ap (λ (p : Parts). p.halted) e });
-    served = λ t consistent. served_settled tells ⊥ t s page broken list old new settles (record { files = ap (λ (p : Parts). p.files) e; view = shows }) (h.served t consistent);
+    served = λ t consistent. served_settled tells ⊥ t s page broken list old new (λ none. sym (ap (λ (p : Parts). p.halted) e) ∙ none) settles (record { files = ap (λ (p : Parts). p.files) e; view = shows }) (h.served t consistent);
   }
     where
       settles : Settles old new
@@ -269,18 +271,18 @@ module _ (tells : Type 0) (base : Base) (list : List Recorded) (taken told : ℕ
   }
 
   pub home_stands : (new : Parts) → IsSettled old new → new.faults ≡ old.faults → new.halted ≡ old.halted → Settles old new → StaysShown tells old new → (tells → WritesMaps old new) → IsShared tells base list taken told points known made broken new
-  home_stands new e faults halted settles shown maps = alike_stands broken new h.breaks (home_alike new e) (home_disk (start_of base) points old new h.disk e faults halted) (λ t consistent. served_pointed tells ⊥ t s page broken list old new settles shown (maps t) (h.served t consistent))
+  home_stands new e faults halted settles shown maps = alike_stands broken new h.breaks (home_alike new e) (home_disk (start_of base) points old new h.disk e faults halted) (λ t consistent. served_pointed tells ⊥ t s page broken list old new (λ none. sym halted ∙ none) settles shown (maps t) (h.served t consistent))
 
   -- one of them can't
   pub stopped_stands : (n : ℕ) (new : Parts) → n ≡ new.appended → IsSettled old new → (fault : Fault) → Rose old.faults new.faults → new.halted ≡ halted_by fault old.halted → IsShared tells base list taken told points known made (broken_by n broken) new
   stopped_stands n new is e fault rose halts = let a = home_alike new e in alike_stands (broken_by n broken) new (broken_within broken n (length list) (is ∙ a.appended ∙ h.appended) h.breaks) a (stopped_disk (start_of base) points old new h.disk e fault rose halts)
-      (λ t consistent. served_failed tells ⊥ t s page broken list n old new (is ∙ a.appended ∙ h.appended) (h.served t consistent))
+      (λ t consistent. served_failed tells ⊥ t s page broken list n old new (is ∙ a.appended ∙ h.appended) (halts_still fault old.halted new.halted halts) (h.served t consistent))
 
   -- ---- a SYNCPT
 
   -- it leaves the tree
-  beside : (new : Parts) → PointParts old new → tells → IfConsistent base (λ s page. IsServed s page broken list new)
-  beside new p t consistent = served_settled tells ⊥ t s page broken list old new (pointed old old new (group_settles old old refl) p)
+  beside : (new : Parts) → PointParts old new → new.halted ≡ old.halted → tells → IfConsistent base (λ s page. IsServed s page broken list new)
+  beside new p halted t consistent = served_settled tells ⊥ t s page broken list old new (λ none. sym halted ∙ none) (pointed old old new (group_settles old old refl) p)
       (record { files = ap (λ (x : Parts). x.files) p; view = λ _ q free. ap (λ (x : Parts). page_of x.view q) p }) (h.served t consistent)
 
   pub point_stands : (new : Parts) → length list < 2 ^ 64 → taken ≡ length list → old.text.bytes ≡ [] → new ≡ with_point old → IsShared tells base list (length list) told (points ++ length list ∷ []) known (made + 1) broken new
@@ -299,7 +301,7 @@ module _ (tells : Type 0) (base : Base) (list : List Recorded) (taken told : ℕ
     size = subst (λ (p : Parts). length p.map.states ≤ p.blocks) (sym e) h.size;
     breaks = h.breaks;
     disk = pointed_disk (start_of base) points old h.disk (points ++ length list ∷ []) new (marked_more points (length list) few) (record { count = ap (λ (p : Parts). p.count) e; room = ap (λ (p : Parts). p.room) e; faults = ap (λ (p : Parts). p.faults) e; entries = ap (λ (p : Parts). p.entries) e; halted = ap (λ (p : Parts). p.halted) e });
-    served = λ t consistent. beside new (e ∙ ap (λ (p : Parts). record old { points = p.points; known = p.known; taken = p.taken; text = p.text; halted = p.halted }) (sym e)) t consistent;
+    served = λ t consistent. beside new (e ∙ ap (λ (p : Parts). record old { points = p.points; known = p.known; taken = p.taken; text = p.text; halted = p.halted }) (sym e)) (ap (λ (p : Parts). p.halted) e) t consistent;
   }
 
   -- all are known to be stable
@@ -318,5 +320,5 @@ module _ (tells : Type 0) (base : Base) (list : List Recorded) (taken told : ℕ
     size = subst (λ (p : Parts). length p.map.states ≤ p.blocks) (sym e) h.size;
     breaks = h.breaks;
     disk = same_disk (start_of base) points old h.disk new (record { count = ap (λ (p : Parts). p.count) e; room = ap (λ (p : Parts). p.room) e; faults = ap (λ (p : Parts). p.faults) e; entries = ap (λ (p : Parts). p.entries) e; halted = ap (λ (p : Parts). p.halted) e });
-    served = λ t consistent. beside new (e ∙ ap (λ (p : Parts). record old { points = p.points; known = p.known; taken = p.taken; text = p.text; halted = p.halted }) (sym e)) t consistent;
+    served = λ t consistent. beside new (e ∙ ap (λ (p : Parts). record old { points = p.points; known = p.known; taken = p.taken; text = p.text; halted = p.halted }) (sym e)) (ap (λ (p : Parts). p.halted) e) t consistent;
   }
