@@ -1,14 +1,14 @@
 //! The clients of a run, from the passes of a server and back.
 
-ghost use Rattle.std.specs.Prelude.{◌≡◌, ◌≤◌, ◌+◌, [], length, vec_len, vec_capacity};
+ghost use Rattle.std.specs.Prelude.{◌≡◌, ◌≤◌, [], vec_len, vec_capacity};
+ghost use Rattle.std.specs.List.{AllByRecursion};
 ghost use Rattle.jfs_run.specs.Clients.{AreReady, AreClientsOf, HavePasses, AreBack, EachCame};
 
 use jfs_bits::Moment;
-use jfs_clients::run_clients;
 use jfs_disk::Disk;
 use jfs_io::Gate;
 use jfs_plain::Line;
-use jfs_server::{Client, Server, ServerPass};
+use jfs_server::{Client, Server, ServerPass, run_scripts};
 use std::sync::Wait;
 use std::thread::Threads;
 
@@ -30,14 +30,14 @@ pub fn do_scripts<'a, D: Disk + Send, G: Gate + Sync, R: Threads + Wait + Sync>(
     room: Vec<Client<'a, D, G>>,
     scripts: &[Vec<Line>],
 ) -> Back<D>
-    requires ready { AreReady server.now.turns.table.shared.table_id scripts.now passes.items marks.old.items }
+    requires ready { AreReady D.Disk server.now.turns.table.shared.table_id scripts.now passes.items marks.old.items }
     requires none { room.items ≡ [] }
     requires room { vec_len passes ≤ vec_capacity room }
     ensures came { EachCame D.Disk now result.failed scripts.now passes.items result.passes.items marks.new.items }
 {
     let mut passes = passes;
     let clients = clients_of(server, gate, now, &mut passes, marks, room);
-    let clients = run_clients(rt, clients, scripts);
+    let clients = run_scripts(rt, clients, scripts);
     let failed = take_back(clients, &mut passes, marks);
     Back { passes, failed }
 }
@@ -54,6 +54,8 @@ fn clients_of<'a, D: Disk, G: Gate>(
     requires same { vec_len marks.old ≡ vec_len passes.old }
     requires none { room.items ≡ [] }
     requires room { vec_len passes.old ≤ vec_capacity room }
+    requires table { AllByRecursion (λ p. p.seat.table_id ≡ server.now.turns.table.shared.table_id) passes.old.items }
+    requires empty { AllByRecursion (λ w. w.items ≡ []) marks.old.items }
     ensures clients { AreClientsOf D.Disk now passes.old.items marks.old.items result.items }
     ensures passes { (passes.new.items ≡ []) × (vec_capacity passes.new ≡ vec_capacity passes.old) }
     ensures marks { (marks.new.items ≡ []) × (vec_capacity marks.new ≡ vec_capacity marks.old) }

@@ -4,11 +4,11 @@ ghost use Rattle.std.specs.Prelude.{◌≡◌, ◌⊎◌, ◌≤◌, ◌<◌, �
 ghost use Rattle.jfs_bits.specs.Count.{Rose};
 ghost use Rattle.jfs_disk.specs.Crash.{last_of};
 ghost use Rattle.jfs_disk.specs.Moment.{IsResting};
-ghost use Rattle.jfs_server.specs.legal.specs.served.specs.volume_calls.specs.Together.{log_parts};
-ghost use Rattle.jfs_run.specs.Growth.{Grows};
+ghost use Rattle.jfs_server.specs.groups.specs.Start.{Grows};
+ghost use Rattle.jfs_server.specs.shared.specs.legal.specs.served.specs.volume_calls.specs.Together.{log_parts};
 ghost use Rattle.jfs_run.specs.Legal.{WasUnmounted};
 ghost use Rattle.jfs_run.specs.Run.{seen};
-ghost use Rattle.jfs_run.specs.Serving.{state, MayCall};
+ghost use Rattle.jfs_run.specs.Mounted.{state, MayCall};
 ghost use Rattle.jfs_run.specs.Ending.{IsEnded};
 
 use jfs_disk::{Disk, Page};

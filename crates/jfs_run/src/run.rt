@@ -1,17 +1,19 @@
 //! A run on the volume of a disk.
 
-ghost use Rattle.std.specs.Prelude.{◌≡◌, ◌⊎◌, ◌≤◌, ◌<◌, ◌+◌, ◌-◌, ◌^◌, ℕ, [], length, vec_capacity, IfOk, IfErr};
+ghost use Rattle.std.specs.Prelude.{◌≡◌, ◌⊎◌, ◌≤◌, ◌<◌, ◌+◌, ◌-◌, ◌^◌, [], length, vec_capacity, IfOk, IfErr};
 ghost use Rattle.jfs_disk.specs.Image.{page_of};
 ghost use Rattle.jfs_super.specs.Rules.{IsAccepted};
 ghost use Rattle.jfs_super.specs.Super.{super_of, FitsSuper};
 ghost use Rattle.jfs_super.specs.declared.fields.TheConstants.VolumeState.{CLEAN};
 ghost use Rattle.jfs_script.specs.History.{IsRisingFrom};
-ghost use Rattle.jfs_server.specs.legal.specs.served.specs.mounted.specs.declared.mounted.MountError.{MountError};
+ghost use Rattle.jfs_server.specs.shared.specs.Start.{IsJustMounted};
+ghost use Rattle.jfs_server.specs.shared.specs.legal.specs.served.specs.mounted.specs.declared.mounted.MountError.{MountError};
+ghost use Rattle.jfs_server.specs.shared.specs.legal.specs.served.specs.volume_calls.specs.Together.{log_parts};
 ghost use Rattle.jfs_mount.specs.meaning.specs.Image.{IsConsistentImage};
-ghost use Rattle.jfs_server.specs.legal.specs.served.specs.Holds.{MayServe};
-ghost use Rattle.jfs_run.specs.Legal.{AreLegal, IsLegalRun, LeavesImage, LeavesAny, IfUnmounted};
+ghost use Rattle.jfs_run.specs.Legal.{LegalBy, LeavesImage, IfUnmounted};
 ghost use Rattle.jfs_run.specs.Run.{RunIs, seen};
-ghost use Rattle.jfs_run.specs.Serving.{state, IsFresh};
+ghost use Rattle.jfs_run.specs.Mounted.{state, MayCall};
+ghost use Rattle.jfs_run.specs.Serving.{HaveRoom};
 ghost use Rattle.jfs_run.specs.Tasks.{plan_of, lines_in, IsPlan};
 ghost use Rattle.jfs_run.specs.Ending.{RunSince, end_after, end_of, TakesBy};
 
@@ -24,7 +26,7 @@ use jfs_disk::{Disk, DiskError, Page};
 use jfs_io::Gate;
 use jfs_mount::BadMount;
 use jfs_plain::{Entry, Line};
-use jfs_server::turns::Based;
+use jfs_server::MountedFrom;
 use jfs_server::unmount::{MountError, Mounted, mount};
 use jfs_server::volume_calls::PointText;
 use jfs_super::Super;
@@ -86,8 +88,8 @@ pub fn run_lines<D: Disk + Send, G: Gate + Sync, R: Threads + Wait + Sync>(
     requires spelled { D.tells → super_of (page_of (D.image disk) 8) ≡ s.now }
     requires plan { IsPlan (plan_of scripts.now) }
     ensures ran { RunIs D.tells D.tells_crashes s.now (plan_of scripts.now) is_left (seen D.Disk disk) (seen D.Disk result.disk) (record { history = result.history.items; told = result.told.items }) result.end }
-    // Of a disk that tells its contents and is a consistent image, the replies are those of a plain file tree.
-    ensures legal { D.tells → IsConsistentImage s.now (page_of (D.image disk)) → IsLegalRun s.now (page_of (D.image disk)) now result.history.items }
+    // Of a disk that tells its contents and is a consistent image, the replies are those of a plain file tree, where the run isn't done up to a halt.
+    ensures legal { D.tells → IsConsistentImage s.now (page_of (D.image disk)) → LegalBy result.end s.now (page_of (D.image disk)) now result.history.items }
     // What such a run leaves where it is done, and the volume wasn't to be left: an image of the tree behind the last reply.
     ensures leaves { D.tells → IfUnmounted result.end is_left (LeavesImage s.now (D.image disk) now result.history.items (D.image result.disk)) }
     // so that the text of a history may be written
@@ -98,8 +100,8 @@ pub fn run_lines<D: Disk + Send, G: Gate + Sync, R: Threads + Wait + Sync>(
     run_from::<Brand, D, G, R>(rt, alloc, disk, s, scripts, now, is_left, gate)
 }
 
-/// The same, of a disk with the image `I.base`.
-fn run_from<I: Based, D: Disk + Send, G: Gate + Sync, R: Threads + Wait + Sync>(
+/// The same, of a disk with the image `I.image` and the superblock `I.block`.
+fn run_from<I: MountedFrom, D: Disk + Send, G: Gate + Sync, R: Threads + Wait + Sync>(
     rt: &R,
     alloc: Global,
     disk: D,
@@ -109,15 +111,15 @@ fn run_from<I: Based, D: Disk + Send, G: Gate + Sync, R: Threads + Wait + Sync>(
     is_left: bool,
     gate: &G,
 ) -> Ran<D>
-    requires image { I.base ≡ D.image disk }
+    requires image { (I.image ≡ D.image disk) × (I.block ≡ s.now) }
     requires accepted { IsAccepted s.now (D.page_count disk) }
     requires fits { FitsSuper s.now }
     requires clean { s.now.state ≡ CLEAN }
     requires spelled { D.tells → super_of (page_of (D.image disk) 8) ≡ s.now }
     requires plan { IsPlan (plan_of scripts.now) }
     ensures ran { RunIs D.tells D.tells_crashes s.now (plan_of scripts.now) is_left (seen D.Disk disk) (seen D.Disk result.disk) (record { history = result.history.items; told = result.told.items }) result.end }
-    // Of a disk that tells its contents and is a consistent image, the replies are those of a plain file tree.
-    ensures legal { D.tells → IsConsistentImage s.now (page_of (D.image disk)) → IsLegalRun s.now (page_of (D.image disk)) now result.history.items }
+    // Of a disk that tells its contents and is a consistent image, the replies are those of a plain file tree, where the run isn't done up to a halt.
+    ensures legal { D.tells → IsConsistentImage s.now (page_of (D.image disk)) → LegalBy result.end s.now (page_of (D.image disk)) now result.history.items }
     // What such a run leaves where it is done, and the volume wasn't to be left: an image of the tree behind the last reply.
     ensures leaves { D.tells → IfUnmounted result.end is_left (LeavesImage s.now (D.image disk) now result.history.items (D.image result.disk)) }
     // so that the text of a history may be written
@@ -140,7 +142,8 @@ fn run_from<I: Based, D: Disk + Send, G: Gate + Sync, R: Threads + Wait + Sync>(
 /// What a run of these scripts takes.
 fn take<D: Disk>(alloc: Global, disk: &mut D, scripts: &[Vec<Line>]) -> Result<Taken, RunEnd>
     requires there { 8 < D.page_count disk.old }
-    ensures taken { IfOk result (λ taken. (D.tells → taken.superblock.0 ≡ page_of (D.image disk.old) 8) × (taken.told.items ≡ []) × (lines ≤ vec_capacity taken.told)) }
+    requires few { lines_in (plan_of scripts.now) ≤ 65536 }
+    ensures taken { IfOk result (λ taken. (D.tells → taken.superblock.0 ≡ page_of (D.image disk.old) 8) × (taken.told.items ≡ []) × (lines_in (plan_of scripts.now) ≤ vec_capacity taken.told) × HaveRoom scripts.now taken.marks.items) }
     ensures cause { TakesBy (D.fault_count disk.old) (D.fault_count disk.new) result }
     ensures pages { D.page_count disk.new ≡ D.page_count disk.old }
     ensures image { D.tells → D.image disk.new ≡ D.image disk.old }
@@ -167,7 +170,8 @@ fn room(
     alloc: Global,
     scripts: &[Vec<Line>],
 ) -> Result<(PointText, Vec<u64>, Vec<Vec<bool>>), AllocError>
-    ensures { IfOk result (λ taken. (taken.1.items ≡ []) × (lines ≤ vec_capacity taken.1)) }
+    requires few { lines_in (plan_of scripts.now) ≤ 65536 }
+    ensures { IfOk result (λ taken. (taken.1.items ≡ []) × (lines_in (plan_of scripts.now) ≤ vec_capacity taken.1) × HaveRoom scripts.now taken.2.items) }
 {
     let point = PointText::new(alloc)?;
     let told = Vec::with_capacity(alloc, lines_in(scripts))?;
@@ -177,6 +181,7 @@ fn room(
 
 /// For each script room for a mark of each of its lines.
 fn room_for_marks(alloc: Global, scripts: &[Vec<Line>]) -> Result<Vec<Vec<bool>>, AllocError>
+    ensures { IfOk result (λ marks. HaveRoom scripts.now marks.items) }
 {
     let mut marks = Vec::with_capacity(alloc, scripts.len())?;
     for script in scripts {
@@ -213,7 +218,7 @@ fn end_of(why: MountError) -> RunEnd
 }
 
 /// The calls of the clients' scripts on a mounted volume, and its end. `before` is how often calls on the disk had failed before the run.
-fn run_mounted<I: Based, D: Disk + Send, G: Gate + Sync, R: Threads + Wait + Sync>(
+fn run_mounted<I: MountedFrom, D: Disk + Send, G: Gate + Sync, R: Threads + Wait + Sync>(
     rt: &R,
     alloc: Global,
     m: Mounted<D>,
@@ -225,15 +230,16 @@ fn run_mounted<I: Based, D: Disk + Send, G: Gate + Sync, R: Threads + Wait + Syn
     before: u64,
 ) -> Ran<D>
     requires plan { IsPlan (plan_of scripts.now) }
-    requires fresh { IsFresh (state D.Disk m.volume m.log) }
+    requires mounted { IsJustMounted D.tells D.tells_crashes I.block I.image m.volume (log_parts D.Disk m.log) }
+    requires may { MayCall (state D.Disk m.volume m.log) }
     requires there { 8 < m.volume.count }
     requires room { m.volume.count + D.page_count m.log.part ≤ m.volume.room }
     requires before { m.volume.faults + D.fault_count m.log.part ≡ before }
     requires none { taken.told.items ≡ [] }
-    requires capacity { lines_in (plan_of scripts.now) ≤ vec_capacity taken.told }
+    requires capacity { (lines_in (plan_of scripts.now) ≤ vec_capacity taken.told) × HaveRoom scripts.now taken.marks.items }
     ensures ran { RunSince D.tells D.tells_crashes taken.superblock.0 (plan_of scripts.now) is_left before (seen D.Disk result.disk) (record { history = result.history.items; told = result.told.items }) result.end }
-    ensures legal { D.tells → (area : ℕ → ℕ) (log_pages : ℕ) → MayServe area log_pages m.volume → AreLegal area log_pages now m.volume result.history.items }
-    ensures leaves { D.tells → IfUnmounted result.end is_left (LeavesAny taken.superblock.0 now m.volume result.history.items (D.image result.disk)) }
+    ensures legal { D.tells → IsConsistentImage I.block (page_of I.image) → LegalBy result.end I.block (page_of I.image) now result.history.items }
+    ensures leaves { D.tells → super_of taken.superblock.0 ≡ record I.block { state = CLEAN } → IfUnmounted result.end is_left (LeavesImage I.block I.image now result.history.items (D.image result.disk)) }
     ensures rising { IsRisingFrom 1 result.told.items }
     ensures pages { D.page_count result.disk ≡ m.volume.count + D.page_count m.log.part }
     ensures later { before ≤ D.fault_count result.disk }

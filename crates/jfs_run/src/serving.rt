@@ -1,6 +1,14 @@
 //! The calls of a run, by a server of the mounted volume.
 
-ghost use Rattle.std.specs.Prelude.{◌≡◌, ◌≤◌, ◌×◌, [], true, false};
+ghost use Rattle.std.specs.Prelude.{◌≡◌, ◌⊎◌, ◌<◌, ◌+◌, ◌^◌, ℕ, List};
+ghost use Rattle.jfs_server.specs.shared.specs.Start.{IsJustMounted};
+ghost use Rattle.jfs_server.specs.shared.specs.legal.specs.Until.{GoOn};
+ghost use Rattle.jfs_server.specs.shared.specs.legal.specs.served.specs.halves.specs.Parts.{Parts};
+ghost use Rattle.jfs_server.specs.shared.specs.legal.specs.served.specs.Legal.{Timed};
+ghost use Rattle.jfs_server.specs.shared.specs.legal.specs.served.specs.volume_calls.specs.Together.{log_parts};
+ghost use Rattle.jfs_run.specs.Mounted.{state, MayCall, PartRose, Keeps, IsMadeDurable};
+ghost use Rattle.jfs_run.specs.Serving.{HaveRoom, IsUncalled, IsHandedOut, IsServed};
+ghost use Rattle.jfs_run.specs.Tasks.{plan_of, IsPlan};
 
 use crate::clients::{Back, do_scripts};
 use crate::telling::{are_of_clients, are_whole};
@@ -8,12 +16,10 @@ use jfs_bits::Moment;
 use jfs_disk::Disk;
 use jfs_io::Gate;
 use jfs_plain::{Entry, Line};
-use jfs_server::turns::Based;
 use jfs_server::unmount::Mounted;
 use jfs_server::volume_calls::commit;
-use jfs_server::{Server, Stopped};
+use jfs_server::{MountedFrom, Server, Stopped};
 use std::alloc::Global;
-use std::marker::Brand;
 use std::sync::Wait;
 use std::thread::Threads;
 
@@ -33,7 +39,7 @@ pub struct Called<D: Disk> {
 
 /// Does the lines of all scripts at once on a volume that was just mounted, the first script's by client 1 and so on, all at one moment. Of each client `marks` has then whether each of its entries had to be made
 /// durable. Where memory lacks for the clients, nothing is called.
-pub fn serve<I: Based, D: Disk + Send, G: Gate + Sync, R: Threads + Wait + Sync>(
+pub fn serve<I: MountedFrom, D: Disk + Send, G: Gate + Sync, R: Threads + Wait + Sync>(
     rt: &R,
     alloc: Global,
     m: Mounted<D>,
@@ -42,11 +48,17 @@ pub fn serve<I: Based, D: Disk + Send, G: Gate + Sync, R: Threads + Wait + Sync>
     now: Moment,
     gate: &G,
 ) -> Called<D>
+    requires plan { IsPlan (plan_of scripts.now) }
+    requires mounted { IsJustMounted D.tells D.tells_crashes I.block I.image m.volume (log_parts D.Disk m.log) }
+    requires may { MayCall (state D.Disk m.volume m.log) }
+    requires few { m.volume.faults + D.fault_count m.log.part < 2 ^ 64 }
+    requires room { HaveRoom scripts.now marks.old.items }
+    ensures served { IsServed D.Disk scripts.now now I.image I.block (state D.Disk m.volume m.log) marks.new.items result }
 {
     let Ok(room) = Vec::with_capacity(alloc, scripts.len()) else {
         return uncalled(alloc, m);
     };
-    match Server::start::<Brand>(alloc, m, scripts.len() as u32) {
+    match Server::start_from::<I>(alloc, m, scripts.len() as u32) {
         Ok((server, passes)) => {
             let Back { passes, failed } =
                 do_scripts(rt, &server, gate, now, passes, marks, room, scripts);
@@ -61,6 +73,8 @@ pub fn serve<I: Based, D: Disk + Send, G: Gate + Sync, R: Threads + Wait + Sync>
 
 /// A volume on which nothing was called.
 fn uncalled<D: Disk>(alloc: Global, mounted: Mounted<D>) -> Called<D>
+    ensures uncalled { IsUncalled D.Disk result }
+    ensures same { result.mounted ≡ mounted }
 {
     Called {
         mounted,
@@ -79,6 +93,8 @@ fn handed_out<D: Disk>(
     scripts: &[Vec<Line>],
     failed: bool,
 ) -> Called<D>
+    ensures same { result.mounted ≡ stopped.mounted }
+    ensures handed_out { IsUncalled D.Disk result ⊎ IsHandedOut D.Disk scripts.now failed marks.now stopped result }
 {
     let Stopped {
         mounted,
@@ -99,6 +115,12 @@ fn handed_out<D: Disk>(
 
 /// Where a client was told that an entry couldn't be made durable, and the volume runs, all entries are made durable now.
 pub fn make_durable<D: Disk>(m: &mut Mounted<D>, failed: bool)
+    requires may { MayCall (state D.Disk m.old.volume m.old.log) }
+    ensures keeps { Keeps (state D.Disk m.old.volume m.old.log) (state D.Disk m.new.volume m.new.log) }
+    ensures halted { (m.new.volume.halted ≡ m.old.volume.halted) ⊎ PartRose (state D.Disk m.old.volume m.old.log) (state D.Disk m.new.volume m.new.log) }
+    ensures durable { IsMadeDurable failed (state D.Disk m.old.volume m.old.log) (state D.Disk m.new.volume m.new.log) }
+    ensures appended { m.new.volume.appended ≡ m.old.volume.appended }
+    ensures legal { D.tells → (area : ℕ → ℕ) (log_pages : ℕ) (start : Parts) (es : List Timed) → GoOn area log_pages start es m.old.volume → GoOn area log_pages start es m.new.volume }
 {
     if failed && m.volume.halted().is_none() {
         match commit(&mut m.volume, &mut m.log) {
