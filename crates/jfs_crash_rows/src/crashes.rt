@@ -9,7 +9,9 @@ use crate::volume::{PAGES, left, lines_of};
 use jfs_disk::{Choice, Fail, Kind, Part};
 use jfs_plain::Line;
 use std::alloc::{AllocError, Global};
+use std::sync::Wait;
 use std::test::*;
+use std::thread::Threads;
 
 /// What a crash leaves of each page, by a number: by nine numbers in a row each count of sectors is met for each page.
 pub fn choices(alloc: Global, seed: u32) -> Result<Vec<Choice>, AllocError> {
@@ -31,10 +33,10 @@ pub fn choices(alloc: Global, seed: u32) -> Result<Vec<Choice>, AllocError> {
 }
 
 /// How many lines a volume holds after a crash and a redo, of those of a script; `None` where it has no tree after so many or more as were told.
-fn survives(alloc: Global, lines: &[Line], fail: Fail, seed: u32) -> Option<usize>
+fn survives<R: Threads + Wait + Sync>(rt: &R, alloc: Global, lines: &[Line], fail: Fail, seed: u32) -> Option<usize>
     requires { AllFit lines.now }
 {
-    let came = left(alloc, lines, &[fail])?;
+    let came = left(rt, alloc, lines, &[fail])?;
     let known = if came.told < SYNCED { 0 } else { 5 };
     let tree = redone_tree(alloc, came.disk.crashed(&choices(alloc, seed).ok()?))?;
     front_of(alloc, lines, came.told, &tree, known)
@@ -62,7 +64,7 @@ fn told_entries_survive_crashes(rt: HostRuntime) {
                 first,
                 last: u64::MAX,
             };
-            let front = survives(alloc, &lines, fail, seed);
+            let front = survives(&rt, alloc, &lines, fail, seed);
             assert!(rt; front.is_some(), "{first} {seed}");
         }
     }
@@ -92,7 +94,7 @@ static LOST: [(u64, u32, usize); 5] = [
 ];
 
 /// How many of the changes are redone then, as the tree has it.
-fn redone_of(alloc: Global, lines: &[Line], sync: u64, page: u32) -> Option<usize>
+fn redone_of<R: Threads + Wait + Sync>(rt: &R, alloc: Global, lines: &[Line], sync: u64, page: u32) -> Option<usize>
     requires { AllFit lines.now }
 {
     let fail = Fail {
@@ -107,7 +109,7 @@ fn redone_of(alloc: Global, lines: &[Line], sync: u64, page: u32) -> Option<usiz
         top: 0,
         sectors: 0,
     };
-    let came = left(alloc, lines, &[fail])?;
+    let came = left(rt, alloc, lines, &[fail])?;
     let tree = redone_tree(alloc, came.disk.crashed(&[lost]))?;
     front_of(alloc, lines, came.told, &tree, 0)
 }
@@ -118,6 +120,6 @@ fn what_is_behind_a_lost_page_is_not_redone(rt: HostRuntime) {
     let text = forty(alloc).expect(&rt, "memory");
     let lines = lines_of(alloc, &text).expect(&rt, "lines");
     for (sync, page, wanted) in LOST.iter() {
-        assert!(rt; redone_of(alloc, &lines, *sync, *page) == Some(*wanted));
+        assert!(rt; redone_of(&rt, alloc, &lines, *sync, *page) == Some(*wanted));
     }
 }

@@ -32,7 +32,7 @@ static NOTHING: Wanted = Wanted {
 fn nothing_was_mounted(rt: HostRuntime) {
     let alloc = rt.alloc();
     let disk = faulty(alloc, Part::Whole, Kind::Read, 2).expect(&rt, "a disk");
-    let mut disk = after(alloc, disk, TWO, false, &NOTHING).expect(&rt, "a run");
+    let mut disk = after(&rt, alloc, disk, TWO, false, &NOTHING).expect(&rt, "a run");
     assert!(rt; says(&mut disk, 1, VolumeState::CLEAN));
     assert!(rt; has_counts(alloc, &mut disk, 2975, 4));
 }
@@ -54,10 +54,10 @@ static ONE_NAME: Wanted = Wanted {
 fn a_commit_fails(rt: HostRuntime) {
     let alloc = rt.alloc();
     let disk = faulty(alloc, Part::High, Kind::Sync, 2).expect(&rt, "a disk");
-    let mut disk = after(alloc, disk, TWO, false, &HALTED).expect(&rt, "a run");
+    let mut disk = after(&rt, alloc, disk, TWO, false, &HALTED).expect(&rt, "a run");
     assert!(rt; says(&mut disk, 1, VolumeState::MOUNTED));
     // its group was written, and a read gives it
-    assert!(rt; after_redo(alloc, disk, b"list /\n", &ONE_NAME).is_some());
+    assert!(rt; after_redo(&rt, alloc, disk, b"list /\n", &ONE_NAME).is_some());
 }
 
 static BOTH: Wanted = Wanted {
@@ -77,9 +77,9 @@ static TWO_NAMES: Wanted = Wanted {
 fn an_unmount_fails(rt: HostRuntime) {
     let alloc = rt.alloc();
     let disk = faulty(alloc, Part::Low, Kind::Sync, 2).expect(&rt, "a disk");
-    let mut disk = after(alloc, disk, TWO, false, &BOTH).expect(&rt, "a run");
+    let mut disk = after(&rt, alloc, disk, TWO, false, &BOTH).expect(&rt, "a run");
     assert!(rt; says(&mut disk, 1, VolumeState::MOUNTED));
-    assert!(rt; after_redo(alloc, disk, b"list /\n", &TWO_NAMES).is_some());
+    assert!(rt; after_redo(&rt, alloc, disk, b"list /\n", &TWO_NAMES).is_some());
 }
 
 static UNSYNCED: Wanted = Wanted {
@@ -94,7 +94,7 @@ fn a_sync_fails(rt: HostRuntime) {
     let alloc = rt.alloc();
     let disk = faulty(alloc, Part::Low, Kind::Sync, 2).expect(&rt, "a disk");
     let script = b"mkdir /a 0755\nsync\nlazy rmdir /a\n";
-    assert!(rt; after(alloc, disk, script, false, &UNSYNCED).is_some());
+    assert!(rt; after(&rt, alloc, disk, script, false, &UNSYNCED).is_some());
 }
 
 static ONE: Wanted = Wanted {
@@ -108,7 +108,7 @@ static ONE: Wanted = Wanted {
 fn the_last_sync_fails(rt: HostRuntime) {
     let alloc = rt.alloc();
     let disk = faulty(alloc, Part::Whole, Kind::Sync, 1).expect(&rt, "a disk");
-    let mut disk = after(alloc, disk, b"mkdir /a 0755\n", false, &ONE).expect(&rt, "a run");
+    let mut disk = after(&rt, alloc, disk, b"mkdir /a 0755\n", false, &ONE).expect(&rt, "a run");
     assert!(rt; says(&mut disk, 1, VolumeState::CLEAN));
     assert!(rt; has_counts(alloc, &mut disk, 2975, 5));
 }

@@ -9,7 +9,9 @@ use jfs_disk::MemDisk;
 use jfs_image::tree_of;
 use jfs_plain::{Line, PlainTree};
 use std::alloc::Global;
+use std::sync::Wait;
 use std::test::*;
+use std::thread::Threads;
 
 /// The tree of a volume once it is redone, where a check then finds nothing.
 pub fn redone_tree(alloc: Global, disk: MemDisk) -> Option<PlainTree> {
@@ -21,10 +23,10 @@ pub fn redone_tree(alloc: Global, disk: MemDisk) -> Option<PlainTree> {
 }
 
 /// How many lines a volume holds that is left behind a front of a script, once it is redone; `None` where it isn't the tree after those up to the last one that was told.
-fn held(alloc: Global, lines: &[Line], count: usize) -> Option<usize>
+fn held<R: Threads + Wait + Sync>(rt: &R, alloc: Global, lines: &[Line], count: usize) -> Option<usize>
     requires { AllFit lines.now }
 {
-    let came = left(alloc, lines.get(..count)?, &[])?;
+    let came = left(rt, alloc, lines.get(..count)?, &[])?;
     let tree = redone_tree(alloc, came.disk)?;
     let held = front_of(alloc, lines, came.told, &tree, MOST)?;
     if held == came.told { Some(held) } else { None }
@@ -48,7 +50,7 @@ fn fronts_of_a_script_of_all_calls(rt: HostRuntime) {
     let alloc = rt.alloc();
     let lines = lines_of(alloc, ALL_KINDS).expect(&rt, "lines");
     for (count, wanted) in FRONTS.iter() {
-        assert!(rt; held(alloc, &lines, *count) == Some(*wanted));
+        assert!(rt; held(&rt, alloc, &lines, *count) == Some(*wanted));
     }
 }
 
@@ -78,7 +80,7 @@ fn fronts_of_a_busy_script(rt: HostRuntime) {
     let text = busy(alloc).expect(&rt, "memory");
     let lines = lines_of(alloc, &text).expect(&rt, "lines");
     for (count, wanted) in BUSY_FRONTS.iter() {
-        assert!(rt; held(alloc, &lines, *count) == Some(*wanted));
+        assert!(rt; held(&rt, alloc, &lines, *count) == Some(*wanted));
     }
     assert!(rt; lines.len() == 79);
 }

@@ -10,7 +10,9 @@ use jfs_run::{Ran, RunEnd};
 use jfs_script::write_history;
 use jfs_super::VolumeState;
 use std::alloc::Global;
+use std::sync::Wait;
 use std::test::*;
+use std::thread::Threads;
 
 /// The text of a run's history.
 fn text_of<D>(alloc: Global, ran: &Ran<D>) -> Option<String>
@@ -31,15 +33,15 @@ pub struct Wanted {
 }
 
 /// The disk after a script is run that ends so; `None` where it doesn't.
-pub fn after(
-    alloc: Global,
+pub fn after<R: Threads + Wait + Sync>(
+    rt: &R, alloc: Global,
     disk: MemDisk,
     script: &[u8],
     is_left: bool,
     wanted: &Wanted,
 ) -> Option<MemDisk> {
     let lines = lines_of(alloc, script)?;
-    let ran = ran(alloc, disk, &lines, is_left)?;
+    let ran = ran(rt, alloc, disk, &lines, is_left)?;
     let text = text_of(alloc, &ran)?;
     let is_so = ran.end == wanted.end && ran.told.as_slice() == wanted.told;
     if is_so && text.as_str() == wanted.text {
@@ -50,12 +52,12 @@ pub fn after(
 }
 
 /// The same of a volume that wasn't unmounted, once it is redone.
-pub fn after_redo(alloc: Global, disk: MemDisk, script: &[u8], wanted: &Wanted) -> Option<MemDisk> {
+pub fn after_redo<R: Threads + Wait + Sync>(rt: &R, alloc: Global, disk: MemDisk, script: &[u8], wanted: &Wanted) -> Option<MemDisk> {
     let mut disk = disk;
     if !is_redone(alloc, &mut disk) {
         return None;
     }
-    after(alloc, disk, script, false, wanted)
+    after(rt, alloc, disk, script, false, wanted)
 }
 
 /// Whether so many calls of a disk failed, and its superblock says this state.
@@ -112,7 +114,7 @@ static ALL: Wanted = Wanted {
 fn a_call_of_each_kind(rt: HostRuntime) {
     let alloc = rt.alloc();
     let disk = formatted(alloc, &[]).expect(&rt, "a disk");
-    let mut disk = after(alloc, disk, ALL_KINDS, false, &ALL).expect(&rt, "a run");
+    let mut disk = after(&rt, alloc, disk, ALL_KINDS, false, &ALL).expect(&rt, "a run");
     assert!(rt; says(&mut disk, 0, VolumeState::CLEAN));
     assert!(rt; has_counts(alloc, &mut disk, 2974, 6));
 }
@@ -135,9 +137,9 @@ fn a_second_run(rt: HostRuntime) {
     let alloc = rt.alloc();
     let disk = formatted(alloc, &[]).expect(&rt, "a disk");
     let script = b"lazy create /a 0644\nlazy write /a 0 41\n";
-    let disk = after(alloc, disk, script, false, &LAZY).expect(&rt, "a run");
+    let disk = after(&rt, alloc, disk, script, false, &LAZY).expect(&rt, "a run");
     let script = b"# nothing\n\nread /a 0 4\n";
-    assert!(rt; after(alloc, disk, script, false, &READ).is_some());
+    assert!(rt; after(&rt, alloc, disk, script, false, &READ).is_some());
 }
 
 static NOTHING: Wanted = Wanted {
@@ -150,7 +152,7 @@ static NOTHING: Wanted = Wanted {
 fn no_lines(rt: HostRuntime) {
     let alloc = rt.alloc();
     let disk = formatted(alloc, &[]).expect(&rt, "a disk");
-    let mut disk = after(alloc, disk, b"", false, &NOTHING).expect(&rt, "a run");
+    let mut disk = after(&rt, alloc, disk, b"", false, &NOTHING).expect(&rt, "a run");
     assert!(rt; has_counts(alloc, &mut disk, 2975, 4));
 }
 
@@ -166,6 +168,6 @@ fn a_volume_is_left(rt: HostRuntime) {
     let alloc = rt.alloc();
     let disk = formatted(alloc, &[]).expect(&rt, "a disk");
     let script = b"mkdir /a 0755\nlazy mkdir /b 0755\n";
-    let mut disk = after(alloc, disk, script, true, &LEFT).expect(&rt, "a run");
+    let mut disk = after(&rt, alloc, disk, script, true, &LEFT).expect(&rt, "a run");
     assert!(rt; says(&mut disk, 0, VolumeState::MOUNTED));
 }

@@ -11,7 +11,9 @@ use crate::volume::{
 use jfs_disk::{Choice, Disk, Fail, Kind, MemDisk, Page, Part};
 use jfs_plain::Line;
 use std::alloc::Global;
+use std::sync::Wait;
 use std::test::*;
+use std::thread::Threads;
 
 /// How many lines of the script are redone.
 const FRONT: usize = 52;
@@ -44,16 +46,16 @@ fn first_difference(a: &mut MemDisk, b: &mut MemDisk) -> Option<u32> {
 }
 
 /// A disk that is left behind so many lines, where nothing is pending.
-fn rested(alloc: Global, lines: &[Line], count: usize) -> Option<MemDisk>
+fn rested<R: Threads + Wait + Sync>(rt: &R, alloc: Global, lines: &[Line], count: usize) -> Option<MemDisk>
     requires { AllFit lines.now }
 {
-    let came = left(alloc, lines.get(..count)?, &[])?;
+    let came = left(rt, alloc, lines.get(..count)?, &[])?;
     Some(came.disk.crashed(&[]))
 }
 
 /// A redo of which all calls of a kind fail from this one on, then a crash, and a redo that is beside the one that wasn't stopped.
-fn stopped(
-    alloc: Global,
+fn stopped<R: Threads + Wait + Sync>(
+    rt: &R, alloc: Global,
     lines: &[Line],
     whole: &mut MemDisk,
     kind: Kind,
@@ -67,7 +69,7 @@ fn stopped(
         first,
         last: u64::MAX,
     };
-    let mut disk = failing(alloc, rested(alloc, lines, FRONT)?, &[fail])?;
+    let mut disk = failing(alloc, rested(rt, alloc, lines, FRONT)?, &[fail])?;
     if is_redone(alloc, &mut disk) {
         return Some(Outcome::Not);
     }
@@ -82,15 +84,15 @@ fn stopped(
 }
 
 /// How many calls of a kind a redo has at which it can be stopped so that the next one gives the same; and what comes then.
-fn stops(alloc: Global, lines: &[Line], kind: Kind) -> Option<(u64, Outcome)>
+fn stops<R: Threads + Wait + Sync>(rt: &R, alloc: Global, lines: &[Line], kind: Kind) -> Option<(u64, Outcome)>
     requires { AllFit lines.now }
 {
-    let mut whole = rested(alloc, lines, FRONT)?;
+    let mut whole = rested(rt, alloc, lines, FRONT)?;
     if !is_redone(alloc, &mut whole) {
         return None;
     }
     for first in 1..100 {
-        let came = stopped(alloc, lines, &mut whole, kind, first)?;
+        let came = stopped(rt, alloc, lines, &mut whole, kind, first)?;
         if came != Outcome::Same {
             return Some((first - 1, came));
         }
@@ -104,16 +106,16 @@ fn a_redo_that_is_stopped_is_made_again(rt: HostRuntime) {
     let alloc = rt.alloc();
     let text = busy(alloc).expect(&rt, "memory");
     let lines = lines_of(alloc, &text).expect(&rt, "lines");
-    let (writes, came) = stops(alloc, &lines, Kind::Write).expect(&rt, "a redo");
+    let (writes, came) = stops(&rt, alloc, &lines, Kind::Write).expect(&rt, "a redo");
     assert!(rt; writes > 6 && came == Outcome::Not);
-    assert!(rt; stops(alloc, &lines, Kind::Sync) == Some((2, Outcome::Not)));
+    assert!(rt; stops(&rt, alloc, &lines, Kind::Sync) == Some((2, Outcome::Not)));
 }
 
 /// A directory, a file in it, and its 65,536 bytes: 16 blocks.
 const THREE: &'static [u8] = b"mkdir /a 0755\ncreate /a/f 0644\nfill /a/f 0 65536 41\n";
 
 /// How many transactions are redone, and whether the volume is clean then with 2,959 free blocks and 6 inodes, where a redo before that failed from its fourth write on and a crash left these contents.
-fn redone_behind(alloc: Global, lines: &[Line], left: &[Choice]) -> Option<(u32, bool)>
+fn redone_behind<R: Threads + Wait + Sync>(rt: &R, alloc: Global, lines: &[Line], left: &[Choice]) -> Option<(u32, bool)>
     requires { AllFit lines.now }
 {
     let fail = Fail {
@@ -122,7 +124,7 @@ fn redone_behind(alloc: Global, lines: &[Line], left: &[Choice]) -> Option<(u32,
         first: 4,
         last: u64::MAX,
     };
-    let mut disk = failing(alloc, rested(alloc, lines, 3)?, &[fail])?;
+    let mut disk = failing(alloc, rested(rt, alloc, lines, 3)?, &[fail])?;
     if is_redone(alloc, &mut disk) {
         return None;
     }
@@ -137,11 +139,11 @@ fn redone_behind(alloc: Global, lines: &[Line], left: &[Choice]) -> Option<(u32,
 fn a_redo_that_fails_at_its_fourth_write(rt: HostRuntime) {
     let alloc = rt.alloc();
     let lines = lines_of(alloc, THREE).expect(&rt, "lines");
-    assert!(rt; redone_behind(alloc, &lines, &[]) == Some((3, true)));
+    assert!(rt; redone_behind(&rt, alloc, &lines, &[]) == Some((3, true)));
     for seed in 0..9 {
         let left = choices(alloc, seed).expect(&rt, "memory");
         assert!(rt;
-            redone_behind(alloc, &lines, &left) == Some((3, true)),
+            redone_behind(&rt, alloc, &lines, &left) == Some((3, true)),
             "{seed}"
         );
     }

@@ -11,13 +11,15 @@ use jfs_bits::Moment;
 use jfs_check::check;
 use jfs_disk::{Disk, Fail, MemDisk, Page, PageList};
 use jfs_format::format;
-use jfs_io::SureSource;
+use jfs_io::{Gate, OpenGate, SureSource};
 use jfs_plain::Line;
 use jfs_redo::redo;
 use jfs_run::{Ran, run_lines};
 use jfs_script::read_script;
 use jfs_super::{Super, VolumeState, read_super};
 use std::alloc::Global;
+use std::sync::Wait;
+use std::thread::Threads;
 use uuid::Uuid;
 
 /// The number of pages of the disk.
@@ -66,15 +68,18 @@ pub fn superblock<D: Disk>(disk: &mut D) -> Option<Super>
     read_super(&page, pages).ok()
 }
 
-/// A script is run on the volume of a disk in state 0, which is then left or unmounted.
-pub fn ran<D: Disk + Drop>(alloc: Global, disk: D, lines: &[Line], is_left: bool) -> Option<Ran<D>>
-    requires { AllFit lines.now }
+/// Scripts are run on the volume of a disk in state 0, which is then left or unmounted.
+pub fn ran_at_once<D: Disk + Send + Drop, G: Gate + Sync, R: Threads + Wait + Sync>(
+    rt: &R,
+    alloc: Global,
+    disk: D,
+    scripts: &[Vec<Line>],
+    is_left: bool,
+    gate: &G,
+) -> Option<Ran<D>>
+    requires { IsPlan (plan_of scripts.now) }
     ensures { IfSome result (λ r. IsRisingFrom 1 r.told.items) }
 {
-    if lines.len() > 4096 {
-        return None;
-    }
-    let scripts = one_script(alloc, lines)?;
     let mut disk = disk;
     let pages = disk.pages();
     let mut page = Page::zeros();
@@ -85,7 +90,27 @@ pub fn ran<D: Disk + Drop>(alloc: Global, disk: D, lines: &[Line], is_left: bool
     if s.state != VolumeState::CLEAN {
         return None;
     }
-    Some(run_lines(alloc, disk, &s, &scripts, NOW, is_left))
+    Some(run_lines(
+        rt, alloc, disk, &s, scripts, NOW, is_left, gate,
+    ))
+}
+
+/// The same of one script.
+pub fn ran<D: Disk + Send + Drop, R: Threads + Wait + Sync>(
+    rt: &R,
+    alloc: Global,
+    disk: D,
+    lines: &[Line],
+    is_left: bool,
+) -> Option<Ran<D>>
+    requires { AllFit lines.now }
+    ensures { IfSome result (λ r. IsRisingFrom 1 r.told.items) }
+{
+    if lines.len() > 4096 {
+        return None;
+    }
+    let scripts = one_script(alloc, lines)?;
+    ran_at_once(rt, alloc, disk, &scripts, is_left, &OpenGate)
 }
 
 /// One script, of these lines.
@@ -113,10 +138,10 @@ pub struct Ended {
 }
 
 /// What a run leaves of a new volume, where these calls of its disk fail. Where some do, it unmounts the volume at its end, unless one of them has stopped it.
-pub fn left(alloc: Global, lines: &[Line], fails: &[Fail]) -> Option<Ended>
+pub fn left<R: Threads + Wait + Sync>(rt: &R, alloc: Global, lines: &[Line], fails: &[Fail]) -> Option<Ended>
     requires { AllFit lines.now }
 {
-    let ran = ran(alloc, formatted(alloc, fails)?, lines, fails.is_empty())?;
+    let ran = ran(rt, alloc, formatted(alloc, fails)?, lines, fails.is_empty())?;
     let told = ran.told.as_slice().last().copied().unwrap_or(0);
     Some(Ended {
         disk: ran.disk,

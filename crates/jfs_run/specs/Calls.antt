@@ -1,14 +1,15 @@
 -- What became of the calls of clients' scripts: their entries, and the numbers that were told durable.
-use Rattle.std.specs.Prelude.{◌≡◌, ◌≤◌, ◌∷◌, ◌&&◌, ◌||◌, ◌==◌, [], ℕ, suc, Bool, true, false, not, if◌then◌else◌, List, length, take}
+use Rattle.std.specs.Prelude.{◌≡◌, ◌≤◌, ◌∷◌, ◌&&◌, ◌==◌, [], ℕ, suc, Bool, true, false, not, if◌then◌else◌, List, length, take}
 use Rattle.std.specs.List.{AllByRecursion}
-use Rattle.jfs_legal.specs.served.specs.files.specs.Written.{renames}
+use Rattle.jfs_server.specs.shared.specs.legal.specs.served.specs.files.specs.Written.{renames}
 use Rattle.jfs_plain.specs.CallStep.{writes}
 use Rattle.jfs_plain.specs.declared.call.Entry.{Entry}
 use Rattle.jfs_plain.specs.declared.call.Line.{Line}
 use Rattle.jfs_plain.specs.declared.call.Request.{Request}
 use Rattle.jfs_plain.specs.declared.reply.Reply.{Reply}
 use Rattle.jfs_plain.specs.declared.reply.Reply.TheVariants.{Done}
-use Rattle.jfs_legal.specs.Until.{has_failed}
+-- whether a call was refused for a fault of the disk
+pub use Rattle.jfs_server.specs.shared.specs.Faults.{any_failed}
 
 -- ---- entries
 
@@ -82,12 +83,6 @@ AreTakenAs (e ∷ es) (w ∷ ws) = IsTakenAs e w × AreTakenAs es ws
 abbrev pub waiting_from : ℕ → List Bool → List ℕ
 waiting_from n [] = []
 waiting_from n (w ∷ ws) = if w then n ∷ waiting_from (suc n) ws else waiting_from (suc n) ws
-
--- ---- faults
-
-abbrev pub any_failed : List Entry → Bool
-any_failed [] = false
-any_failed (e ∷ es) = has_failed e.reply || any_failed es
 
 -- ---- both
 

@@ -2,12 +2,10 @@
 use Rattle.std.specs.Prelude.{◌≡◌, ◌⊎◌, ◌==◌, ◌||◌, ◌-◌, ◌^◌, not, if◌then◌else◌, ℕ, Bool, false, List, Result, Ok, Err}
 use Rattle.jfs_bits.specs.Count.{Rose}
 use Rattle.jfs_plain.specs.declared.call.Line.{Line}
-use Rattle.jfs_legal.specs.served.specs.mounted.specs.declared.mounted.MountError.{MountError}
-use Rattle.jfs_legal.specs.served.specs.mounted.specs.declared.mounted.MountError.TheVariants as mounts
+use Rattle.jfs_server.specs.shared.specs.legal.specs.served.specs.mounted.specs.declared.mounted.MountError.{MountError}
+use Rattle.jfs_server.specs.shared.specs.legal.specs.served.specs.mounted.specs.declared.mounted.MountError.TheVariants as mounts
 use Rattle.jfs_run.specs.Calls.{Calls, HaveEntries, AllTold, AllCalled, SomeCalled, any_failed}
 use Rattle.jfs_run.specs.Run.{Seen, IsUnmounted}
-use Rattle.jfs_run.specs.declared.client.Served.{Served}
-use Rattle.jfs_run.specs.declared.client.Served.TheVariants as serves
 use Rattle.jfs_run.specs.declared.run.RunEnd.{RunEnd}
 use Rattle.jfs_run.specs.declared.run.RunEnd.TheVariants as ends
 
@@ -50,6 +48,5 @@ TakesBy before now (Err end) = FailsToTake before now end
 
 -- ---- how it ends
 
-abbrev pub end_after : Served → Bool → ℕ → ℕ → RunEnd
-end_after serves.NoMemory is_full before now = ends.Memory
-end_after serves.All is_full before now = if not (now == before) || now == 2 ^ 64 - 1 then ends.Disk else (if is_full then ends.Memory else ends.Done)
+abbrev pub end_after : Bool → Bool → ℕ → ℕ → RunEnd
+end_after is_whole is_cut before now = if not is_whole then ends.Memory else (if not (now == before) || now == 2 ^ 64 - 1 then ends.Disk else (if is_cut then ends.Memory else ends.Done))

@@ -1,31 +1,24 @@
--- The entries of a mounted volume so far: a legal history of a plain file tree, up to a call that failed.
+-- The entries of a mounted volume: a legal history of a plain file tree, up to a call that failed, or to a halt of the volume.
 use Rattle.std.specs.Prelude.{◌≡◌, ◌⊎◌, [], ℕ, Bool, false, List, map, None}
 use Rattle.jfs_bits.specs.declared.descriptor.Moment.{Moment}
 use Rattle.jfs_disk.specs.Image.{Image, page_of}
 use Rattle.jfs_disk.specs.Crash.{DiskState}
-use Rattle.jfs_legal.specs.served.specs.halves.specs.Parts.{Parts}
-use Rattle.jfs_legal.specs.served.specs.halves.specs.Log.{LogParts}
+use Rattle.jfs_server.specs.shared.specs.legal.specs.served.specs.halves.specs.Parts.{Parts}
+use Rattle.jfs_server.specs.shared.specs.legal.specs.served.specs.halves.specs.Log.{LogParts}
 use Rattle.jfs_plain.specs.declared.call.Entry.{Entry}
-use Rattle.jfs_legal.specs.served.specs.Holds.{tree_at, room_at, MayServe}
-use Rattle.jfs_legal.specs.served.specs.Laws.{IsImageOf}
-use Rattle.jfs_legal.specs.served.specs.shown.specs.Files.{KnowsFiles}
-use Rattle.jfs_legal.specs.served.specs.shown.specs.kinds.specs.Images.{HasWholeFiles}
-use Rattle.jfs_legal.specs.served.specs.unmount.specs.Unmount.{Ends}
-use Rattle.jfs_legal.specs.served.specs.Legal.{Timed, IsLegal}
-use Rattle.jfs_legal.specs.Until.{at}
-use Rattle.jfs_legal.specs.Until as until
-use Rattle.jfs_super.specs.Super.{super_of}
+use Rattle.jfs_server.specs.shared.specs.legal.specs.served.specs.Holds.{tree_at, room_at}
+use Rattle.jfs_server.specs.shared.specs.legal.specs.served.specs.Laws.{HoldsImage, IsImageOf}
+use Rattle.jfs_server.specs.shared.specs.legal.specs.served.specs.shown.specs.kinds.specs.Images.{HasWholeFiles}
+use Rattle.jfs_server.specs.shared.specs.legal.specs.served.specs.unmount.specs.Unmount.{Ends}
+use Rattle.jfs_server.specs.shared.specs.legal.specs.served.specs.Legal.{Timed, IsLegal}
+use Rattle.jfs_server.specs.shared.specs.legal.specs.Until.{at}
+use Rattle.jfs_server.specs.shared.specs.legal.specs.Until as until
 use Rattle.jfs_super.specs.Rules.{blocks_of}
 use Rattle.jfs_super.specs.declared.fields.Super.{Super}
-use Rattle.jfs_super.specs.declared.fields.TheConstants.VolumeState.{CLEAN}
 use Rattle.jfs_plain.specs.Moves.{Same}
 use Rattle.jfs_mount.specs.meaning.specs.Readers.{readers}
 use Rattle.jfs_mount.specs.meaning.specs.Image.{tree_of, IsConsistentImage}
 use Rattle.jfs_mount.specs.meaning.specs.Image as meaning
-use Rattle.jfs_run.specs.declared.client.Served.{Served}
-use Rattle.jfs_run.specs.declared.client.Served.TheVariants as serves
-use Rattle.jfs_run.specs.declared.client.Answered.{Answered}
-use Rattle.jfs_run.specs.declared.client.Answered.TheVariants as answers
 use Rattle.jfs_run.specs.declared.run.RunEnd.{RunEnd}
 use Rattle.jfs_run.specs.declared.run.RunEnd.TheVariants as ends
 
@@ -41,6 +34,10 @@ AreLegal area log_pages now start es = until.AreLegal area log_pages start (all_
 abbrev pub GoOn : (ℕ → ℕ) → ℕ → Moment → Parts → List Entry → Parts → Type 0
 GoOn area log_pages now start es p = until.GoOn area log_pages start (all_at now es) p
 
+-- All are legal, or those up to one that failed; or those up to where the volume halted, and each behind that was refused, or changes nothing.
+abbrev pub AreLegalToHalt : (ℕ → ℕ) → ℕ → Moment → Parts → List Entry → Type 0
+AreLegalToHalt area log_pages now start es = until.AreLegalToHalt area log_pages start (all_at now es)
+
 -- ---- a run
 
 -- The replies are those of a plain file tree that is at first the image's, with its room, on a volume that hasn't halted.
@@ -53,6 +50,24 @@ pub record FollowsTree (s : Super) (page : ℕ → List ℕ) (now : Moment) (es 
 
 abbrev pub IsLegalRun : Super → (ℕ → List ℕ) → Moment → List Entry → Type 0
 IsLegalRun s page now es = (es ≡ []) ⊎ FollowsTree s page now es
+
+-- so up to a halt
+pub record FollowsTreeToHalt (s : Super) (page : ℕ → List ℕ) (now : Moment) (es : List Entry) : Type 0 where
+  pub start : Parts
+  pub runs : start.halted ≡ None
+  pub tree : Same (tree_of s page) (tree_at (meaning.volume_of s page).area start)
+  pub room : room_at (meaning.volume_of s page).area s.logpxd.len start ≡ meaning.room_of s page
+  pub legal : AreLegalToHalt (meaning.volume_of s page).area s.logpxd.len now start es
+
+abbrev pub IsLegalRunToHalt : Super → (ℕ → List ℕ) → Moment → List Entry → Type 0
+IsLegalRunToHalt s page now es = (es ≡ []) ⊎ FollowsTreeToHalt s page now es
+
+-- Of a run that is done all are legal. Where a call on the disk failed, or memory ran out, those up to a halt are.
+abbrev pub LegalBy : RunEnd → Super → (ℕ → List ℕ) → Moment → List Entry → Type 0
+LegalBy ends.Done s page now es = IsLegalRun s page now es
+LegalBy (ends.BadImage bad) s page now es = es ≡ []
+LegalBy ends.Disk s page now es = IsLegalRunToHalt s page now es
+LegalBy ends.Memory s page now es = IsLegalRunToHalt s page now es
 
 -- ---- a run that is done
 
@@ -81,18 +96,10 @@ IfUnmounted end is_left fact = end ≡ ends.Done → is_left ≡ false → fact
 abbrev pub WasUnmounted : (tells crashes : Type 0) → List ℕ → Parts → LogParts → Image → Type 0
 WasUnmounted tells crashes superblock volume log image = (past : List DiskState) × Ends tells crashes superblock volume log image past
 
--- what a run on a mounted volume leaves, whatever tree it holds
-abbrev pub LeavesAny : List ℕ → Moment → Parts → List Entry → Image → Type 0
-LeavesAny superblock now start es image = (s : Super) (area : ℕ → ℕ) → MayServe area s.logpxd.len start → KnowsFiles s (page_of start.view) area start.map start.inodes start.files
-    → super_of superblock ≡ record s { state = CLEAN } → HasTreeBehind s area now start es image
-
--- what a line leaves
-abbrev pub LineLeaves : (ℕ → ℕ) → ℕ → Moment → Parts → Parts → Answered → Type 0
-LineLeaves area log_pages now start p (answers.Durable entry) = GoOn area log_pages now start p.entries p
-LineLeaves area log_pages now start p answers.Pending = GoOn area log_pages now start p.entries p
-LineLeaves area log_pages now start p answers.NoMemory = AreLegal area log_pages now start p.entries
-
--- and several
-abbrev pub LinesLeave : (ℕ → ℕ) → ℕ → Moment → Parts → Parts → Served → Type 0
-LinesLeave area log_pages now start p serves.All = GoOn area log_pages now start p.entries p
-LinesLeave area log_pages now start p serves.NoMemory = AreLegal area log_pages now start p.entries
+-- The entries are legal from a volume on that holds the image's tree, up to a halt; and where they didn't break off, they go on from these parts.
+pub record HasReplied (s : Super) (page : ℕ → List ℕ) (now : Moment) (is_broken_off : Bool) (es : List Entry) (p : Parts) : Type 0 where
+  pub start : Parts
+  pub holds : HoldsImage s page start
+  pub runs : start.halted ≡ None
+  pub goes_on : is_broken_off ≡ false → GoOn (meaning.volume_of s page).area s.logpxd.len now start es p
+  pub to_halt : AreLegalToHalt (meaning.volume_of s page).area s.logpxd.len now start es

@@ -4,6 +4,8 @@ pub mod Run
 pub mod Legal
 pub mod Tasks
 -- for the prover
-pub mod Growth
+pub mod Mounted
+pub mod Clients
+pub mod Telling
 pub mod Serving
 pub mod Ending

@@ -1,134 +1,94 @@
--- A mounted volume while the calls of a script are done.
-use Rattle.std.specs.Prelude.{◌≡◌, ◌⊎◌, ◌≤◌, ◌<◌, ◌+◌, ◌^◌, ◌∷◌, ◌++◌, [], ℕ, Bool, true, false, List, length, take, Option, Some, None}
-use Rattle.jfs_bits.specs.Count.{Rose}
+-- What a server leaves behind the calls of a run's clients.
+use Rattle.std.specs.Prelude.{◌≡◌, ◌⊎◌, ◌≤◌, ◌==◌, [], ◌∷◌, ℕ, suc, Bool, true, false, is_some, List, length, take, vec_capacity}
+use Rattle.std.specs.Bool.{MatchBool}
+use Rattle.std.specs.Global.{Vec}
+use Rattle.jfs_bits.specs.declared.descriptor.Moment.{Moment}
+use Rattle.jfs_disk.specs.Image.{Image, page_of}
 use Rattle.jfs_disk.specs.declared.disk.Disk.{Ghosts}
-use Rattle.jfs_disk.specs.declared.disk.Fault.{Fault}
-use Rattle.jfs_plain.specs.declared.call.Entry.{Entry}
-use Rattle.jfs_legal.specs.served.specs.call.specs.Lent.{AreBoth}
-use Rattle.jfs_legal.specs.served.specs.volume_calls.specs.Together.{log_parts}
-use Rattle.jfs_logpages.specs.declared.log_side.LogSide.{LogSide}
-use Rattle.jfs_legal.specs.served.specs.halves.specs.Log.{LogParts}
-use Rattle.jfs_legal.specs.served.specs.halves.specs.Parts.{Parts}
-use Rattle.jfs_legal.specs.Until.{has_failed}
-use Rattle.jfs_run.specs.Calls.{IsEntryOf, IsTakenAs, AreTakenAs, waits, waiting_from, any_failed}
-use Rattle.jfs_run.specs.Growth.{Grows}
-use Rattle.jfs_run.specs.Tasks.{Task, AreEntries, tasks_of}
-use Rattle.jfs_run.specs.declared.client.Served.{Served}
-use Rattle.jfs_run.specs.declared.client.Served.TheVariants as serves
-use Rattle.jfs_run.specs.declared.client.Answered.{Answered}
-use Rattle.jfs_run.specs.declared.client.Answered.TheVariants as answers
+use Rattle.jfs_super.specs.declared.fields.Super.{Super}
+use Rattle.jfs_plain.specs.declared.call.Line.{Line}
+use Rattle.jfs_server.specs.shared.specs.Entries.{Recorded}
+use Rattle.jfs_server.specs.shared.specs.Shared.{entries_in}
+use Rattle.jfs_server.specs.shared.specs.legal.specs.served.specs.shown.specs.meaning.specs.Image.{IsConsistentImage}
+use Rattle.jfs_run.specs.Calls.{IsEntryOf, IsTakenAs, AreOfClients, any_failed}
+use Rattle.jfs_run.specs.Legal.{HasReplied}
+use Rattle.jfs_run.specs.Mounted.{State, state, PartRose, Since}
+use Rattle.jfs_run.specs.Tasks.{plan_of}
+use Rattle.jfs_run.specs.Telling.{marks_in, AreAsMany}
+use Rattle.jfs_server.specs.declared.stopping.Stopped.{Stopped}
+use Rattle.jfs_run.specs.declared.serving.Called.{Called}
 
--- a volume with its log, whose part has had so many faults and has so many pages
-pub record State : Type 0 where
-  pub volume : Parts
-  pub log : LogParts
-  pub high : ℕ
-  pub pages : ℕ
+-- ---- the entries of a list, with their marks: whether a client's entry couldn't be made durable, and how many entries are durable
 
-abbrev pub state : {D : Type 0} → (d : Ghosts D) → Parts → LogSide D d → State
-state d volume side = record { volume = volume; log = log_parts d side; high = d.fault_count side.part; pages = d.page_count side.part }
+module _ (now : Moment) (failed : Bool) (durable : ℕ) where
+  -- An entry of the client's line, handed at this moment. One that is marked had to be made durable, and is, where none failed.
+  pub record IsMarked (client number : ℕ) (l : Line) (mark : Bool) (e : Recorded) : Type 0 where
+    pub entry : IsEntryOf client l e.entry
+    pub moment : e.now ≡ now
+    pub taken : IsTakenAs e.entry mark
+    pub reached : mark ≡ true → failed ≡ false → number ≤ durable
 
--- what a call wants
-pub record MayCall (s : State) : Type 0 where
-  pub size : length s.volume.map.states ≤ s.volume.blocks
-  pub both : AreBoth s.volume s.log
+  -- In a list whose first entry has this number, the client's entries are those of these lines with these marks, in their order, whatever entries of others stand between.
+  abbrev pub AreMarked : ℕ → ℕ → List Line → List Bool → List Recorded → Type 0
+  AreMarked client n lines marks [] = (lines ≡ []) × (marks ≡ [])
+  AreMarked client n lines marks (e ∷ es) = MatchBool (e.entry.client == client)
+      ((l : Line) × (ls : List Line) × (m : Bool) × (ms : List Bool) × (lines ≡ l ∷ ls) × (marks ≡ m ∷ ms) × IsMarked client n l m e × AreMarked client (suc n) ls ms es)
+      (AreMarked client (suc n) lines marks es)
 
--- a count of one of the parts rose
-abbrev pub PartRose : State → State → Type 0
-PartRose old new = Rose old.volume.faults new.volume.faults ⊎ Rose old.high new.high
+  -- so for each client from k on
+  abbrev pub EachMarked : ℕ → ℕ → List (List Line) → List (List Bool) → List Recorded → Type 0
+  EachMarked k n [] [] es = Unit {0}
+  EachMarked k n (lines ∷ plan) (marks ∷ more) es = AreMarked k n lines marks es × EachMarked (suc k) n plan more es
+  EachMarked k n _ _ es = ⊥
 
--- the volume halted meanwhile, for a fault
-pub record Halts (old new : State) : Type 0 where
-  pub ran : old.volume.halted ≡ None
-  pub fault : Fault
-  pub is : new.volume.halted ≡ Some fault
-  pub rose : PartRose old new
+-- each is a front of that
+abbrev pub AreFronts : List (List Line) → List (List Line) → Type 0
+AreFronts [] [] = Unit {0}
+AreFronts (front ∷ fronts) (lines ∷ plan) = ((n : ℕ) × (n ≤ length lines) × (front ≡ take n lines)) × AreFronts fronts plan
+AreFronts _ _ = ⊥
 
--- ---- one line
+-- The entries of the list are those of a front of each client's lines.
+pub record AreCalled (now : Moment) (failed : Bool) (durable : ℕ) (plan : List (List Line)) (marks : List (List Bool)) (list : List Recorded) : Type 0 where
+  pub fronts : List (List Line)
+  pub are_fronts : AreFronts fronts plan
+  pub each : EachMarked now failed durable 1 1 fronts marks list
+  pub others : AreOfClients (length plan) (entries_in list)
 
-pub record Keeps (old new : State) : Type 0 where
-  pub may : MayCall new
-  pub count : new.volume.count ≡ old.volume.count
-  pub room : new.volume.room ≡ old.volume.room
-  pub pages : new.pages ≡ old.pages
-  pub low : Grows old.volume.faults new.volume.faults
-  pub high : Grows old.high new.high
-  pub halted : (new.volume.halted ≡ old.volume.halted) ⊎ Halts old new
+-- each script has room for a mark of each of its lines
+abbrev pub HaveRoom : List (Vec Line) → List (Vec Bool) → Type 0
+HaveRoom [] [] = Unit {0}
+HaveRoom (script ∷ scripts) (marks ∷ more) = (marks.items ≡ []) × (length script.items ≤ vec_capacity marks) × HaveRoom scripts more
+HaveRoom _ _ = ⊥
 
--- an entry of the line joins
-pub record Joins (t : Task) (old new : State) (e : Entry) : Type 0 where
-  pub is : IsEntryOf t.client t.line e
-  pub entries : new.volume.entries ≡ old.volume.entries ++ e ∷ []
-  pub appended : new.volume.appended ≡ old.volume.appended + 1
-  pub calm : (has_failed e.reply ≡ false) ⊎ (PartRose old new ⊎ (old.volume.halted ≡ None → ⊥))
+-- ---- what is left
 
--- It waits, and is durable: it is acknowledged, and stable in the log, with all entries before it.
-pub record IsDurable (t : Task) (old new : State) (number : ℕ) : Type 0 where
-  pub entry : Entry
-  pub joins : Joins t old new entry
-  pub number_is : number ≡ new.volume.appended
-  pub told : new.volume.told ≡ number
-  pub taken : new.volume.taken ≡ number
-  pub stable : new.log.durable ≡ number
-  pub waits_it : waits entry ≡ true
-  pub ran : old.volume.halted ≡ None
-  pub runs : new.volume.halted ≡ None
+module _ {D : Type 0} (d : Ghosts D) where
+  -- nothing was called
+  pub record IsUncalled (x : Called D d) : Type 0 where
+    pub history : x.history.items ≡ []
+    pub is_whole : x.is_whole ≡ false
+    pub is_broken_off : x.is_broken_off ≡ true
+    pub failed : x.failed ≡ false
 
--- it doesn't wait, or the volume halts
-pub record IsPending (t : Task) (old new : State) : Type 0 where
-  pub entry : Entry
-  pub joins : Joins t old new entry
-  pub why : IsTakenAs entry false ⊎ Halts old new
+  -- It is what the server left, whose entries are all of these clients.
+  pub record IsHandedOut (scripts : List (Vec Line)) (failed : Bool) (marks : List (Vec Bool)) (stopped : Stopped D d) (x : Called D d) : Type 0 where
+    pub history : x.history ≡ stopped.history
+    pub others : AreOfClients (length scripts) x.history.items
+    pub whole : x.is_whole ≡ true → AreAsMany scripts marks
+    pub is_broken_off : x.is_broken_off ≡ is_some stopped.broken_off
+    pub failed_is : x.failed ≡ failed
 
-pub record JoinsNone (old new : State) : Type 0 where
-  pub entries : new.volume.entries ≡ old.volume.entries
-  pub appended : new.volume.appended ≡ old.volume.appended
+  -- The history is that of a list which the clients' calls made, of a volume that was mounted from this image.
+  pub record IsCalled (scripts : List (Vec Line)) (now : Moment) (image : Image) (s : Super) (marks : List (Vec Bool)) (x : Called D d) : Type 0 where
+    pub list : List Recorded
+    pub history : x.history.items ≡ entries_in list
+    pub appended : x.mounted.volume.appended ≡ length list
+    pub are : AreCalled now x.failed x.mounted.log.durable (plan_of scripts) (marks_in marks) list
+    pub whole : x.is_whole ≡ true → AreAsMany scripts marks
+    pub replied : d.tells → IsConsistentImage s (page_of image) → HasReplied s (page_of image) now x.is_broken_off x.history.items x.mounted.volume
 
-abbrev pub LineIs : Task → State → State → Answered → Type 0
-LineIs t old new (answers.Durable number) = IsDurable t old new number
-LineIs t old new answers.Pending = IsPending t old new
-LineIs t old new answers.NoMemory = JoinsNone old new
-
--- ---- several lines
-
--- while the volume runs, all entries that wait were told; once it has halted, the first ones were
-pub record IsTold (halted : Option Fault) (history : List Entry) (told : List ℕ) : Type 0 where
-  pub waiting : List Bool
-  pub are : AreTakenAs history waiting
-  pub running : halted ≡ None → told ≡ waiting_from 1 waiting
-  pub first : (n : ℕ) × (told ≡ take n (waiting_from 1 waiting))
-
--- these lines have their entries since the mount
-pub record HasServed (old : State) (tasks : List Task) (told : List ℕ) (now : State) : Type 0 where
-  pub entries : AreEntries tasks now.volume.entries
-  pub appended : now.volume.appended ≡ length tasks
-  pub told_is : IsTold now.volume.halted now.volume.entries told
-  pub may : MayCall now
-  pub count : now.volume.count ≡ old.volume.count
-  pub room : now.volume.room ≡ old.volume.room
-  pub pages : now.pages ≡ old.pages
-  pub low : Grows old.volume.faults now.volume.faults
-  pub high : Grows old.high now.high
-  pub halted : (now.volume.halted ≡ None) ⊎ PartRose old now
-  pub calm : (any_failed now.volume.entries ≡ false) ⊎ PartRose old now
-
--- a volume as a mount leaves it
-pub record IsFresh (s : State) : Type 0 where
-  pub entries : s.volume.entries ≡ []
-  pub appended : s.volume.appended ≡ 0
-  pub running : s.volume.halted ≡ None
-  pub may : MayCall s
-
--- both counts at the mount
-pub record Few (s : State) : Type 0 where
-  pub low : s.volume.faults < 2 ^ 64
-  pub high : s.high < 2 ^ 64
-
--- after these tasks, all those, or a front of them
-abbrev pub ServedIs : State → List Task → List Task → List ℕ → State → Served → Type 0
-ServedIs old before tasks told now serves.All = HasServed old (before ++ tasks) told now
-ServedIs old before tasks told now serves.NoMemory = (n : ℕ) × (n ≤ length tasks) × HasServed old (before ++ take n tasks) told now
-
--- whatever was served before
-abbrev pub ServesOn : List Task → State → List ℕ → State → List ℕ → Served → Type 0
-ServesOn tasks old told_before now told served = (first : State) (before : List Task) → Few first → HasServed first before told_before old → ServedIs first before tasks told now served
+  -- one or the other; and unless a call on the disk failed, none of them was refused for a fault
+  pub record IsServed (scripts : List (Vec Line)) (now : Moment) (image : Image) (s : Super) (old : State) (marks : List (Vec Bool)) (x : Called D d) : Type 0 where
+    pub calls : IsUncalled x ⊎ IsCalled scripts now image s marks x
+    pub since : Since old (state d x.mounted.volume x.mounted.log)
+    pub calm : (any_failed x.history.items ≡ false) ⊎ PartRose old (state d x.mounted.volume x.mounted.log)

@@ -1,26 +1,8 @@
--- The lines of all clients as one list: one script after the other.
-use Rattle.std.specs.Prelude.{◌<◌, ◌+◌, ◌-◌, ◌^◌, ◌∷◌, ◌++◌, [], ℕ, suc, List, length, map}
+-- The scripts of a run's clients.
+use Rattle.std.specs.Prelude.{◌<◌, ◌≤◌, ◌+◌, [], ◌∷◌, ℕ, List, length, map}
 use Rattle.std.specs.Global.{Vec}
-use Rattle.jfs_plain.specs.declared.call.Entry.{Entry}
 use Rattle.jfs_plain.specs.declared.call.Line.{Line}
 use Rattle.jfs_script.specs.Script.{AllFit}
-use Rattle.jfs_run.specs.Calls.{IsEntryOf}
-
--- a line, and whose it is
-pub record Task : Type 0 where
-  pub client : ℕ
-  pub line : Line
-
-abbrev pub task : ℕ → Line → Task
-task client line = record { client = client; line = line }
-
-abbrev pub tasks_of : ℕ → List Line → List Task
-tasks_of client lines = map (task client) lines
-
--- those of scripts of clients, from this client on
-abbrev pub tasks_from : ℕ → List (List Line) → List Task
-tasks_from client [] = []
-tasks_from client (lines ∷ more) = tasks_of client lines ++ tasks_from (suc client) more
 
 -- the scripts as lists of lines
 abbrev pub plan_of : List (Vec Line) → List (List Line)
@@ -36,15 +18,8 @@ abbrev pub PlanFits : List (List Line) → Type 0
 PlanFits [] = Unit {0}
 PlanFits (lines ∷ more) = AllFit lines × PlanFits more
 
--- scripts of calls within the limits, and not too many
+-- one to sixteen scripts of calls within the limits, with 65,536 lines at most, as many as a client may have entries
 pub record IsPlan (plan : List (List Line)) : Type 0 where
   pub fit : PlanFits plan
-  pub clients : length plan < 2 ^ 32 - 1
-  pub few : lines_in plan < 2 ^ 32 - 1
-
--- these lines have these entries, one after the other
-abbrev pub AreEntries : List Task → List Entry → Type 0
-AreEntries [] [] = Unit {0}
-AreEntries [] (e ∷ es) = ⊥
-AreEntries (t ∷ ts) [] = ⊥
-AreEntries (t ∷ ts) (e ∷ es) = IsEntryOf t.client t.line e × AreEntries ts es
+  pub clients : (0 < length plan) × (length plan ≤ 16)
+  pub few : lines_in plan ≤ 65536

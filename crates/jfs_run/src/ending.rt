@@ -4,16 +4,16 @@ ghost use Rattle.std.specs.Prelude.{◌≡◌, ◌⊎◌, ◌≤◌, ◌<◌, �
 ghost use Rattle.jfs_bits.specs.Count.{Rose};
 ghost use Rattle.jfs_disk.specs.Crash.{last_of};
 ghost use Rattle.jfs_disk.specs.Moment.{IsResting};
-ghost use Rattle.jfs_legal.specs.served.specs.volume_calls.specs.Together.{log_parts};
-ghost use Rattle.jfs_run.specs.Growth.{Grows};
+ghost use Rattle.jfs_server.specs.groups.specs.Start.{Grows};
+ghost use Rattle.jfs_server.specs.shared.specs.legal.specs.served.specs.volume_calls.specs.Together.{log_parts};
 ghost use Rattle.jfs_run.specs.Legal.{WasUnmounted};
 ghost use Rattle.jfs_run.specs.Run.{seen};
-ghost use Rattle.jfs_run.specs.Serving.{state, MayCall};
+ghost use Rattle.jfs_run.specs.Mounted.{state, MayCall};
 ghost use Rattle.jfs_run.specs.Ending.{IsEnded};
 
 use jfs_disk::{Disk, Page};
-use jfs_legal::unmount::{Mounted, leave, unmount};
-use jfs_legal::volume_calls::PointText;
+use jfs_server::unmount::{Mounted, leave, unmount};
+use jfs_server::volume_calls::PointText;
 
 /// The last end of a text behind which an unmount's SYNCPT has room, so that the numbers of the log's pages have 32 bits.
 const LAST_POINT: u64 = 4080 * 4_294_967_296 - 72;

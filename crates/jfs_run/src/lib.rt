@@ -1,9 +1,11 @@
-//! Clients' scripts on a volume: it is mounted, their calls are done, one script after the other, and it is unmounted or left.
+//! Clients' scripts on a volume: it is mounted, a server does their calls, all clients at once, and it is unmounted or left.
 #![tactic(auto)]
 
-mod client;
+mod clients;
 mod count;
 mod ending;
 mod run;
+mod serving;
+mod telling;
 
 pub use run::{Ran, RunEnd, run_lines};

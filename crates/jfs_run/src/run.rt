@@ -1,31 +1,39 @@
 //! A run on the volume of a disk.
 
-ghost use Rattle.std.specs.Prelude.{◌≡◌, ◌⊎◌, ◌≤◌, ◌<◌, ◌+◌, ◌-◌, ◌^◌, ℕ, [], length, vec_capacity, IfOk, IfErr};
+ghost use Rattle.std.specs.Prelude.{◌≡◌, ◌⊎◌, ◌≤◌, ◌<◌, ◌+◌, ◌-◌, ◌^◌, [], length, vec_capacity, IfOk, IfErr};
 ghost use Rattle.jfs_disk.specs.Image.{page_of};
 ghost use Rattle.jfs_super.specs.Rules.{IsAccepted};
 ghost use Rattle.jfs_super.specs.Super.{super_of, FitsSuper};
 ghost use Rattle.jfs_super.specs.declared.fields.TheConstants.VolumeState.{CLEAN};
 ghost use Rattle.jfs_script.specs.History.{IsRisingFrom};
-ghost use Rattle.jfs_legal.specs.served.specs.mounted.specs.declared.mounted.MountError.{MountError};
+ghost use Rattle.jfs_server.specs.shared.specs.Start.{IsJustMounted};
+ghost use Rattle.jfs_server.specs.shared.specs.legal.specs.served.specs.mounted.specs.declared.mounted.MountError.{MountError};
+ghost use Rattle.jfs_server.specs.shared.specs.legal.specs.served.specs.volume_calls.specs.Together.{log_parts};
 ghost use Rattle.jfs_mount.specs.meaning.specs.Image.{IsConsistentImage};
-ghost use Rattle.jfs_legal.specs.served.specs.Holds.{MayServe};
-ghost use Rattle.jfs_run.specs.Legal.{AreLegal, IsLegalRun, LeavesImage, LeavesAny, IfUnmounted};
+ghost use Rattle.jfs_run.specs.Legal.{LegalBy, LeavesImage, IfUnmounted};
 ghost use Rattle.jfs_run.specs.Run.{RunIs, seen};
-ghost use Rattle.jfs_run.specs.Serving.{state, IsFresh};
+ghost use Rattle.jfs_run.specs.Mounted.{state, MayCall};
+ghost use Rattle.jfs_run.specs.Serving.{HaveRoom};
 ghost use Rattle.jfs_run.specs.Tasks.{plan_of, lines_in, IsPlan};
 ghost use Rattle.jfs_run.specs.Ending.{RunSince, end_after, end_of, TakesBy};
 
-use crate::client::{Served, serve_all};
 use crate::count::lines_in;
 use crate::ending::end;
+use crate::serving::{Called, make_durable, serve};
+use crate::telling::tell;
 use jfs_bits::Moment;
 use jfs_disk::{Disk, DiskError, Page};
-use jfs_legal::unmount::{MountError, Mounted, mount};
-use jfs_legal::volume_calls::PointText;
+use jfs_io::Gate;
 use jfs_mount::BadMount;
 use jfs_plain::{Entry, Line};
+use jfs_server::MountedFrom;
+use jfs_server::unmount::{MountError, Mounted, mount};
+use jfs_server::volume_calls::PointText;
 use jfs_super::Super;
 use std::alloc::{AllocError, Global};
+use std::marker::Brand;
+use std::sync::Wait;
+use std::thread::Threads;
 
 /// The page of the superblock.
 const SUPERBLOCK: u32 = 8;
@@ -52,23 +60,27 @@ pub struct Ran<D> {
     pub told: Vec<u64>,
 }
 
-/// What a run takes before the mount, so that later it can end for want of it only at a call: the superblock's page, the text of a syncpoint, and room for the numbers that are told.
+/// What a run takes before the mount, so that later it can end for want of it only at a call: the superblock's page, the text of a syncpoint, room for the numbers that are told, and for each client room for a mark of
+/// each of its entries.
 #[derive(Drop)]
 struct Taken {
     superblock: Page,
     point: PointText,
     told: Vec<u64>,
+    marks: Vec<Vec<bool>>,
 }
 
-/// Mounts the volume of a disk in state 0, whose superblock is the one given, does the calls of the clients' scripts at a moment, the first script's by client 1 and so on, and ends the volume: it is unmounted,
-/// also where memory ran out, unless it is to be left or has halted.
-pub fn run_lines<D: Disk>(
+/// Mounts the volume of a disk in state 0, whose superblock is the one given, does the calls of the clients' scripts, all clients at once and each call at the same moment, the first script's by client 1 and so on, and
+/// ends the volume: it is unmounted, also where memory ran out, unless it is to be left or has halted.
+pub fn run_lines<D: Disk + Send, G: Gate + Sync, R: Threads + Wait + Sync>(
+    rt: &R,
     alloc: Global,
     disk: D,
     s: &Super,
     scripts: &[Vec<Line>],
     now: Moment,
     is_left: bool,
+    gate: &G,
 ) -> Ran<D>
     requires accepted { IsAccepted s.now (D.page_count disk) }
     requires fits { FitsSuper s.now }
@@ -76,8 +88,38 @@ pub fn run_lines<D: Disk>(
     requires spelled { D.tells → super_of (page_of (D.image disk) 8) ≡ s.now }
     requires plan { IsPlan (plan_of scripts.now) }
     ensures ran { RunIs D.tells D.tells_crashes s.now (plan_of scripts.now) is_left (seen D.Disk disk) (seen D.Disk result.disk) (record { history = result.history.items; told = result.told.items }) result.end }
-    // Of a disk that tells its contents and is a consistent image, the replies are those of a plain file tree.
-    ensures legal { D.tells → IsConsistentImage s.now (page_of (D.image disk)) → IsLegalRun s.now (page_of (D.image disk)) now result.history.items }
+    // Of a disk that tells its contents and is a consistent image, the replies are those of a plain file tree, where the run isn't done up to a halt.
+    ensures legal { D.tells → IsConsistentImage s.now (page_of (D.image disk)) → LegalBy result.end s.now (page_of (D.image disk)) now result.history.items }
+    // What such a run leaves where it is done, and the volume wasn't to be left: an image of the tree behind the last reply.
+    ensures leaves { D.tells → IfUnmounted result.end is_left (LeavesImage s.now (D.image disk) now result.history.items (D.image result.disk)) }
+    // so that the text of a history may be written
+    ensures rising { IsRisingFrom 1 result.told.items }
+    ensures pages { D.page_count result.disk ≡ D.page_count disk }
+    ensures later { D.fault_count disk ≤ D.fault_count result.disk }
+{
+    run_from::<Brand, D, G, R>(rt, alloc, disk, s, scripts, now, is_left, gate)
+}
+
+/// The same, of a disk with the image `I.image` and the superblock `I.block`.
+fn run_from<I: MountedFrom, D: Disk + Send, G: Gate + Sync, R: Threads + Wait + Sync>(
+    rt: &R,
+    alloc: Global,
+    disk: D,
+    s: &Super,
+    scripts: &[Vec<Line>],
+    now: Moment,
+    is_left: bool,
+    gate: &G,
+) -> Ran<D>
+    requires image { (I.image ≡ D.image disk) × (I.block ≡ s.now) }
+    requires accepted { IsAccepted s.now (D.page_count disk) }
+    requires fits { FitsSuper s.now }
+    requires clean { s.now.state ≡ CLEAN }
+    requires spelled { D.tells → super_of (page_of (D.image disk) 8) ≡ s.now }
+    requires plan { IsPlan (plan_of scripts.now) }
+    ensures ran { RunIs D.tells D.tells_crashes s.now (plan_of scripts.now) is_left (seen D.Disk disk) (seen D.Disk result.disk) (record { history = result.history.items; told = result.told.items }) result.end }
+    // Of a disk that tells its contents and is a consistent image, the replies are those of a plain file tree, where the run isn't done up to a halt.
+    ensures legal { D.tells → IsConsistentImage s.now (page_of (D.image disk)) → LegalBy result.end s.now (page_of (D.image disk)) now result.history.items }
     // What such a run leaves where it is done, and the volume wasn't to be left: an image of the tree behind the last reply.
     ensures leaves { D.tells → IfUnmounted result.end is_left (LeavesImage s.now (D.image disk) now result.history.items (D.image result.disk)) }
     // so that the text of a history may be written
@@ -87,26 +129,27 @@ pub fn run_lines<D: Disk>(
 {
     let mut disk = disk;
     let before = disk.faults();
-    let taken = match take(alloc, &mut disk, lines_in(scripts)) {
+    let taken = match take(alloc, &mut disk, scripts) {
         Ok(taken) => taken,
         Err(end) => return without_entries(alloc, disk, end),
     };
     match mount(alloc, disk, s) {
-        Ok(m) => run_mounted(alloc, m, taken, scripts, now, is_left, before),
+        Ok(m) => run_mounted::<I, D, G, R>(rt, alloc, m, taken, scripts, now, is_left, gate, before),
         Err(not) => without_entries(alloc, not.disk, end_of(not.why)),
     }
 }
 
-/// What a run of so many lines takes.
-fn take<D: Disk>(alloc: Global, disk: &mut D, lines: usize) -> Result<Taken, RunEnd>
+/// What a run of these scripts takes.
+fn take<D: Disk>(alloc: Global, disk: &mut D, scripts: &[Vec<Line>]) -> Result<Taken, RunEnd>
     requires there { 8 < D.page_count disk.old }
-    ensures taken { IfOk result (λ taken. (D.tells → taken.superblock.0 ≡ page_of (D.image disk.old) 8) × (taken.told.items ≡ []) × (lines ≤ vec_capacity taken.told)) }
+    requires few { lines_in (plan_of scripts.now) ≤ 65536 }
+    ensures taken { IfOk result (λ taken. (D.tells → taken.superblock.0 ≡ page_of (D.image disk.old) 8) × (taken.told.items ≡ []) × (lines_in (plan_of scripts.now) ≤ vec_capacity taken.told) × HaveRoom scripts.now taken.marks.items) }
     ensures cause { TakesBy (D.fault_count disk.old) (D.fault_count disk.new) result }
     ensures pages { D.page_count disk.new ≡ D.page_count disk.old }
     ensures image { D.tells → D.image disk.new ≡ D.image disk.old }
     ensures past { D.tells_crashes → D.past disk.new ≡ D.past disk.old }
 {
-    let Ok((point, told)) = room(alloc, lines) else {
+    let Ok((point, told, marks)) = room(alloc, scripts) else {
         return Err(RunEnd::Memory);
     };
     let mut superblock = Page::zeros();
@@ -115,19 +158,37 @@ fn take<D: Disk>(alloc: Global, disk: &mut D, lines: usize) -> Result<Taken, Run
             superblock,
             point,
             told,
+            marks,
         }),
         Err(DiskError::Failed) => Err(RunEnd::Disk),
         Err(DiskError::Memory) => Err(RunEnd::Memory),
     }
 }
 
-/// The text of a syncpoint, and room for so many numbers.
-fn room(alloc: Global, lines: usize) -> Result<(PointText, Vec<u64>), AllocError>
-    ensures { IfOk result (λ taken. (taken.1.items ≡ []) × (lines ≤ vec_capacity taken.1)) }
+/// The text of a syncpoint, and room for the numbers and the marks of all lines.
+fn room(
+    alloc: Global,
+    scripts: &[Vec<Line>],
+) -> Result<(PointText, Vec<u64>, Vec<Vec<bool>>), AllocError>
+    requires few { lines_in (plan_of scripts.now) ≤ 65536 }
+    ensures { IfOk result (λ taken. (taken.1.items ≡ []) × (lines_in (plan_of scripts.now) ≤ vec_capacity taken.1) × HaveRoom scripts.now taken.2.items) }
 {
     let point = PointText::new(alloc)?;
-    let told = Vec::with_capacity(alloc, lines)?;
-    Ok((point, told))
+    let told = Vec::with_capacity(alloc, lines_in(scripts))?;
+    let marks = room_for_marks(alloc, scripts)?;
+    Ok((point, told, marks))
+}
+
+/// For each script room for a mark of each of its lines.
+fn room_for_marks(alloc: Global, scripts: &[Vec<Line>]) -> Result<Vec<Vec<bool>>, AllocError>
+    ensures { IfOk result (λ marks. HaveRoom scripts.now marks.items) }
+{
+    let mut marks = Vec::with_capacity(alloc, scripts.len())?;
+    for script in scripts {
+        let waits = Vec::with_capacity(alloc, script.len())?;
+        marks.push_reserved(waits);
+    }
+    Ok(marks)
 }
 
 /// A run that called nothing.
@@ -157,39 +218,60 @@ fn end_of(why: MountError) -> RunEnd
 }
 
 /// The calls of the clients' scripts on a mounted volume, and its end. `before` is how often calls on the disk had failed before the run.
-fn run_mounted<D: Disk>(
+fn run_mounted<I: MountedFrom, D: Disk + Send, G: Gate + Sync, R: Threads + Wait + Sync>(
+    rt: &R,
     alloc: Global,
     m: Mounted<D>,
     taken: Taken,
     scripts: &[Vec<Line>],
     now: Moment,
     is_left: bool,
+    gate: &G,
     before: u64,
 ) -> Ran<D>
     requires plan { IsPlan (plan_of scripts.now) }
-    requires fresh { IsFresh (state D.Disk m.volume m.log) }
+    requires mounted { IsJustMounted D.tells D.tells_crashes I.block I.image m.volume (log_parts D.Disk m.log) }
+    requires may { MayCall (state D.Disk m.volume m.log) }
     requires there { 8 < m.volume.count }
     requires room { m.volume.count + D.page_count m.log.part ≤ m.volume.room }
     requires before { m.volume.faults + D.fault_count m.log.part ≡ before }
     requires none { taken.told.items ≡ [] }
-    requires capacity { lines_in (plan_of scripts.now) ≤ vec_capacity taken.told }
+    requires capacity { (lines_in (plan_of scripts.now) ≤ vec_capacity taken.told) × HaveRoom scripts.now taken.marks.items }
     ensures ran { RunSince D.tells D.tells_crashes taken.superblock.0 (plan_of scripts.now) is_left before (seen D.Disk result.disk) (record { history = result.history.items; told = result.told.items }) result.end }
-    ensures legal { D.tells → (area : ℕ → ℕ) (log_pages : ℕ) → MayServe area log_pages m.volume → AreLegal area log_pages now m.volume result.history.items }
-    ensures leaves { D.tells → IfUnmounted result.end is_left (LeavesAny taken.superblock.0 now m.volume result.history.items (D.image result.disk)) }
+    ensures legal { D.tells → IsConsistentImage I.block (page_of I.image) → LegalBy result.end I.block (page_of I.image) now result.history.items }
+    ensures leaves { D.tells → super_of taken.superblock.0 ≡ record I.block { state = CLEAN } → IfUnmounted result.end is_left (LeavesImage I.block I.image now result.history.items (D.image result.disk)) }
     ensures rising { IsRisingFrom 1 result.told.items }
     ensures pages { D.page_count result.disk ≡ m.volume.count + D.page_count m.log.part }
     ensures later { before ≤ D.fault_count result.disk }
 {
-    let mut m = m;
     let Taken {
         superblock,
         mut point,
         mut told,
+        mut marks,
     } = taken;
-    let served = serve_all(alloc, &mut m, &mut point, scripts, now, &mut told);
-    let history = m.volume.take_entries();
+    let Called {
+        mounted,
+        history,
+        is_whole,
+        is_broken_off,
+        failed,
+    } = serve::<I, D, G, R>(rt, alloc, m, &mut marks, scripts, now, gate);
+    let mut m = mounted;
+    make_durable(&mut m, failed);
+    tell(
+        history.as_slice(),
+        marks.as_slice(),
+        m.log.durable(),
+        &mut told,
+    );
     let ended = end(m, &mut point, &superblock, is_left);
-    let end = end_after(served, ended.is_full, before, ended.disk.faults());
+    let end = end_after(
+        is_whole,
+        is_broken_off || ended.is_full,
+        before,
+        ended.disk.faults(),
+    );
     Ran {
         disk: ended.disk,
         end,
@@ -198,20 +280,17 @@ fn run_mounted<D: Disk>(
     }
 }
 
-/// How a run ended whose volume was mounted. A count at its last value counts as one that rose; a log whose pages have no more numbers, as want of memory.
-fn end_after(served: Served, is_full: bool, before: u64, now: u64) -> RunEnd
-    ensures { result ≡ end_after served is_full before now }
+/// How a run ended whose volume was mounted. A count at its last value counts as one that rose; a history that broke off, and a log whose pages have no more numbers, as want of memory.
+fn end_after(is_whole: bool, is_cut: bool, before: u64, now: u64) -> RunEnd
+    ensures { result ≡ end_after is_whole is_cut before now }
 {
-    match served {
-        Served::NoMemory => RunEnd::Memory,
-        Served::All => {
-            if now != before || now == u64::MAX {
-                RunEnd::Disk
-            } else if is_full {
-                RunEnd::Memory
-            } else {
-                RunEnd::Done
-            }
-        }
+    if !is_whole {
+        RunEnd::Memory
+    } else if now != before || now == u64::MAX {
+        RunEnd::Disk
+    } else if is_cut {
+        RunEnd::Memory
+    } else {
+        RunEnd::Done
     }
 }
