@@ -9,8 +9,7 @@ use Rattle.jfs_disk.specs.declared.disk.Disk.{Ghosts}
 use Rattle.jfs_findings_new.specs.meaning.specs.Image.{IsConsistentImage}
 use Rattle.jfs_findings_new.specs.mount_rules.specs.Subject.{subject_of}
 use Rattle.jfs_findings_new.specs.mount_rules.specs.Mount.{broken_mount}
-use Rattle.jfs_run.specs.Legal.{IsLegalRun, LeavesImage}
-use Rattle.jfs_command.specs.Halted.{IsLegalRunToHalt}
+use Rattle.jfs_run.specs.Legal.{IsLegalRun, LeavesImage, IsLegalRunToHalt}
 use Rattle.jfs_run.specs.Run.{StayBeside}
 use Rattle.jfs_io.specs.declared.source.Source.{Ghosts as SourceMembers}
 use Rattle.jfs_plain.specs.declared.call.Line.{Line}

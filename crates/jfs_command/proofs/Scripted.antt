@@ -255,8 +255,8 @@ all_read s old now i plan read past most some few = (
 )
 
 -- at least one script, and at most sixteen
-pub few_clients : (plan : List (Vec Line)) (i : ℕ) → length plan ≡ i → 0 < i → i ≤ 16 → length (plan_of plan) < 2 ^ 32 - 1
-few_clients plan i many some most = let same = length-map plan (λ (v : Vec Line). v.items) in omega (arith, same, many, some, most)
+pub few_clients : (plan : List (Vec Line)) (i : ℕ) → length plan ≡ i → 0 < i → i ≤ 16 → (0 < length (plan_of plan)) × (length (plan_of plan) ≤ 16)
+few_clients plan i many some most = let same = length-map plan (λ (v : Vec Line). v.items) in (omega (arith, same, many, some), omega (arith, same, many, most))
 
 pub plan_is : {S : Type 0} (s : Ghosts S) (old now : List S) (i : ℕ) (plan : List (Vec Line)) → IsRead s old now i plan → 0 < i → i ≤ 16 → IsPlan (plan_of plan)
 plan_is s old now i plan read some most = record {

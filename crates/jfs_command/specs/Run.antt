@@ -18,8 +18,7 @@ use Rattle.jfs_script.specs.History.{history_text, done_text}
 use Rattle.jfs_run.specs.declared.run.RunEnd.{RunEnd}
 use Rattle.jfs_run.specs.declared.run.RunEnd.TheVariants as ran
 use Rattle.jfs_run.specs.Calls.{Calls, HaveEntries, AllTold, NoCalls, AllCalled, SomeCalled, any_failed}
-use Rattle.jfs_run.specs.Legal.{IsLegalRun, LeavesImage}
-use Rattle.jfs_command.specs.Halted.{IsLegalRunToHalt, LegalBy}
+use Rattle.jfs_run.specs.Legal.{IsLegalRun, LeavesImage, IsLegalRunToHalt, LegalBy}
 use Rattle.jfs_run.specs.Run.{StayBeside}
 use Rattle.jfs_command.specs.declared.status.Status.{Status}
 use Rattle.jfs_command.specs.declared.status.Status.TheVariants as statuses

@@ -203,7 +203,7 @@ fn run_from<R: Threads + Wait + Sync, D: Disk + Send, G: Gate + Sync>(
         end,
         history,
         told,
-    } = run_lines(alloc, disk, s, plan, now, is_left);
+    } = run_lines(rt, alloc, disk, s, plan, now, is_left, gate);
     Performed {
         outcome: outcome_of(alloc, redone, printed, end, history, told),
         disk,
