@@ -176,7 +176,7 @@ fn run_redone<R: Threads + Wait + Sync, D: Disk + Send, G: Gate + Sync>(
 
 // The calls of lines on a volume that is clean. One that was redone had so many transactions in its log.
 fn run_from<R: Threads + Wait + Sync, D: Disk + Send, G: Gate + Sync>(
-    _rt: &R,
+    rt: &R,
     alloc: Global,
     disk: D,
     s: &Super,
@@ -185,7 +185,7 @@ fn run_from<R: Threads + Wait + Sync, D: Disk + Send, G: Gate + Sync>(
     printed: Printed,
     now: Moment,
     is_left: bool,
-    _gate: &G,
+    gate: &G,
 ) -> Performed<D>
     requires accepted { IsAccepted s.now (D.page_count disk) }
     requires fits { FitsSuper s.now }
