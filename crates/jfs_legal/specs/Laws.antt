@@ -1,5 +1,5 @@
 -- What calls and commits leave of a legal history, on a disk that tells its contents.
-use Rattle.std.specs.Prelude.{◌⊎◌, ◌++◌, ◌∷◌, [], ℕ, List}
+use Rattle.std.specs.Prelude.{◌⊎◌, ◌++◌, ◌∷◌, [], ℕ, List, take, drop}
 use Rattle.jfs_served.specs.halves.specs.Parts.{Parts}
 use Rattle.jfs_served.specs.call.specs.Does.{Does}
 use Rattle.jfs_served.specs.call.specs.DoesLent.{Both, Asking, End, NeedsThen, DoesAgain}
@@ -10,7 +10,7 @@ use Rattle.jfs_served.specs.volume.specs.Settles.{Settles, StaysShown}
 use Rattle.jfs_served.specs.volume_calls.specs.Written.{KeepsPages, WritesMaps}
 use Rattle.jfs_served.specs.Holds.{MayServe}
 use Rattle.jfs_served.specs.Legal.{Timed}
-use Rattle.jfs_legal.specs.Until.{at, AreLegal, GoOn, IsBehindHalt, AreLegalToHalt}
+use Rattle.jfs_legal.specs.Until.{at, AreLegal, GoOn, FailsFirst}
 
 -- What a call leaves of a history that goes on: with its entry it goes on; one that needs the log has none, and may be asked again; and where memory lacked the entries so far are legal.
 abbrev pub Leaves : (ℕ → ℕ) → ℕ → Parts → List Timed → Asking → Parts → Outcome → Type 0
@@ -52,7 +52,6 @@ abbrev pub HandedLaw : Type 0
 HandedLaw = (area : ℕ → ℕ) (log_pages : ℕ) (start : Parts) (es : List Timed) (old : Parts)
     → GoOn area log_pages start es old → GoOn area log_pages start es (record old { entries = [] })
 
--- A legal history is one to a halt, and so it is with one entry more behind the halt.
-abbrev pub HaltLaw : Type 0
-HaltLaw = (area : ℕ → ℕ) (log_pages : ℕ) (start : Parts) (es : List Timed)
-    → (AreLegal area log_pages start es → AreLegalToHalt area log_pages start es) × ((e : Timed) → IsBehindHalt e → AreLegalToHalt area log_pages start es → AreLegalToHalt area log_pages start (es ++ e ∷ []))
+-- Entries of which a front is legal, and the first one behind that was refused for a fault, are legal up to one that failed.
+abbrev pub FrontLaw : Type 0
+FrontLaw = (area : ℕ → ℕ) (log_pages : ℕ) (start : Parts) (n : ℕ) (es : List Timed) → AreLegal area log_pages start (take n es) → FailsFirst (drop n es) → AreLegal area log_pages start es

@@ -1,9 +1,7 @@
 -- A legal history of a plain file tree, up to a call that was refused for a fault of the disk.
-use Rattle.std.specs.Prelude.{◌≡◌, ◌≤◌, ◌⊎◌, ◌++◌, ◌∷◌, ℕ, Bool, true, false, List, length, take, drop}
-use Rattle.std.specs.List.{AllByRecursion}
+use Rattle.std.specs.Prelude.{◌≡◌, ◌⊎◌, ◌++◌, ◌∷◌, [], ℕ, Bool, true, false, List}
 use Rattle.jfs_bits.specs.declared.descriptor.Moment.{Moment}
 use Rattle.jfs_served.specs.halves.specs.Parts.{Parts}
-use Rattle.jfs_served.specs.plain.specs.CallStep.{writes}
 use Rattle.jfs_served.specs.plain.specs.declared.call.Entry.{Entry}
 use Rattle.jfs_served.specs.plain.specs.declared.refusal.Refusal.TheVariants.{IoFault, ReadOnly}
 use Rattle.jfs_served.specs.plain.specs.declared.reply.Reply.{Reply}
@@ -38,15 +36,13 @@ AreLegal area log_pages start es = ((last : Parts) × IsLegal area log_pages sta
 abbrev pub GoOn : (ℕ → ℕ) → ℕ → Parts → List Timed → Parts → Type 0
 GoOn area log_pages start es p = HasServed area log_pages start es p ⊎ IsLegalUntil area log_pages start es
 
--- ---- behind a halt
+-- ---- a front
 
--- An entry behind a halt of the volume: its call was refused for the fault, or is one that changes nothing.
-abbrev pub IsBehindHalt : Timed → Type 0
-IsBehindHalt t = (has_failed t.entry.reply ≡ true) ⊎ (writes t.entry.call ≡ false)
+-- The first of these entries was refused for a fault of the disk; of those behind it nothing is said.
+abbrev pub FailsFirst : List Timed → Type 0
+FailsFirst [] = Unit {0}
+FailsFirst (t ∷ ts) = has_failed t.entry.reply ≡ true
 
--- All are legal, or those up to one that failed; or those up to where the volume halted, and each behind that was refused, or changes nothing.
-pub record AreLegalToHalt (area : ℕ → ℕ) (log_pages : ℕ) (start : Parts) (es : List Timed) : Type 0 where
-  pub count : ℕ
-  pub within : count ≤ length es
-  pub legal : AreLegal area log_pages start (take count es)
-  pub behind : AllByRecursion IsBehindHalt (drop count es)
+-- up to where a volume halted
+abbrev pub AreLegalToHalt : (ℕ → ℕ) → ℕ → Parts → List Timed → Type 0
+AreLegalToHalt area log_pages start es = AreLegal area log_pages start es

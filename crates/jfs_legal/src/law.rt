@@ -1,6 +1,6 @@
 //! What is true of the entries of a mounted volume, of a disk that tells its contents.
 
-ghost use Rattle.jfs_legal.specs.Laws.{BeginLaw, LegalLaw, CallLaw, LentLaw, SettledLaw, PointedLaw, HandedLaw, HaltLaw};
+ghost use Rattle.jfs_legal.specs.Laws.{BeginLaw, LegalLaw, CallLaw, LentLaw, SettledLaw, PointedLaw, HandedLaw, FrontLaw};
 
 use jfs_disk::Disk;
 
@@ -39,7 +39,7 @@ pub fn entries_handed_out_leave_it_legal()
     ensures { HandedLaw }
 {}
 
-/// A legal history is one to a halt, and so it stays with what is called behind the halt.
-pub fn histories_to_a_halt_are_legal()
-    ensures { HaltLaw }
+/// A history of which a front is legal, and in which the first call behind that was refused for a fault, is legal up to one that failed.
+pub fn fronts_before_a_fault_are_legal()
+    ensures { FrontLaw }
 {}

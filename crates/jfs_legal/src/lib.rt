@@ -5,7 +5,7 @@ mod law;
 
 pub use law::{
     calls_go_on_legally, calls_lent_the_log_go_on_legally, entries_handed_out_leave_it_legal,
-    histories_that_go_on_are_legal, histories_to_a_halt_are_legal, pages_at_home_leave_it_legal,
+    fronts_before_a_fault_are_legal, histories_that_go_on_are_legal, pages_at_home_leave_it_legal,
     settled_volumes_leave_it_legal, volumes_that_serve_begin_legally,
 };
 

@@ -50,7 +50,7 @@ pub record IsEndOf {D : Type 0} (d : Ghosts D) (m : MountStart) (x : Stopped D d
   pub size : length x.mounted.volume.map.states ≤ x.mounted.volume.blocks
   pub both : AreBoth x.mounted.volume (log_parts d x.mounted.log)
 
--- One list of entries goes on all that the passes know. The history is the list's entries, in its order, and none waits in the volume. Of a disk that tells its contents, and whose base is consistent, they are a legal history from that image on, which goes on from this volume; or up to where it broke off: each entry behind that was refused for a fault of the disk or changes nothing, and there is none while this volume runs.
+-- One list of entries goes on all that the passes know. The history is the list's entries, in its order, and none waits in the volume. Of a disk that tells its contents, and whose base is consistent, they are a legal history from that image on, which goes on from this volume; or it broke off: there is no entry behind that while this volume runs, and else the first one behind it was refused for a fault of the disk.
 pub record IsStopped {D : Type 0} (d : Ghosts D) (passes : List (Pass (ServedVolume D) (SharedLog D d) Recorded)) (x : Stopped D d) : Type 0 where
   pub base : Base
   pub list : List Recorded

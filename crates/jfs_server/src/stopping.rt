@@ -18,8 +18,8 @@ use jfs_volume_calls::volume::Volume;
 pub struct Stopped<D: Disk> {
     pub mounted: Mounted<D>,
     pub history: Vec<Entry>,
-    /// How many entries are known to be a legal history where it broke off: memory ran out for a call behind them, or a syncpoint failed. Each behind them was refused for a fault of the disk or changes nothing, and
-    /// while the volume runs there is none.
+    /// How many entries are known to be a legal history where it broke off: memory ran out for a call behind them, or a syncpoint failed. While the volume runs there are no more, and else the first
+    /// one behind them was refused for a fault of the disk.
     pub broken_off: Option<u64>,
 }
 

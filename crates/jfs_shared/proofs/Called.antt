@@ -3,6 +3,7 @@ use Rattle.std.proofs.Common.{◌≡◌, ℕ, Bool, true, false, Option, refl, i
 use Rattle.std.proofs.lemmas.Bool.{false≢true}
 use Rattle.jfs_bits.specs.declared.descriptor.Moment.{Moment}
 use Rattle.jfs_disk.specs.declared.disk.Disk.{Ghosts}
+use Rattle.jfs_plain.specs.CallStep.{writes}
 use Rattle.jfs_plain.specs.declared.call.Request.{Request}
 use Rattle.jfs_groups.specs.Group.{Stays}
 use Rattle.jfs_call.specs.Answer.{IsAnswered}
@@ -38,7 +39,7 @@ pub not_over : (fact : Type 0) (over : Bool) → over ≡ false → over ≡ tru
 not_over fact over goes stopped = absurd (false≢true (sym goes ∙ stopped))
 
 module _ {D : Type 0} (d : Ghosts D) (x : SharedVolume D) (client line : ℕ) (request : Request) (now : Moment) (new : Parts) where
-  pub call_is : (outcome : Outcome) → (outcome ≡ NoMemory → ⊥) → is_over x.broken_off x.volume.halted ≡ false → IsAnswered client line request x.volume new outcome → Does d.tells d.tells_crashes (record { client = client; line = line }) request now x.volume new outcome
+  pub call_is : (outcome : Outcome) → (outcome ≡ NoMemory → ⊥) → is_over x.broken_off x.volume.halted x.volume.appended (writes request.call) ≡ false → IsAnswered client line request x.volume new outcome → Does d.tells d.tells_crashes (record { client = client; line = line }) request now x.volume new outcome
       → CallIs (standing d) client line request now x (record x { volume = new }) outcome
   call_is (Replied reply number waits) not over a does =
       let step = stepped d.tells d.tells_crashes (record { client = client; line = line }) request now x.volume new (Replied reply number waits) does in (

@@ -1,5 +1,5 @@
 -- A legal history behind calls, groups and syncpoints of many clients.
-use Rattle.std.proofs.Common.{◌≡◌, ℕ, suc, List, [], ◌∷◌, ◌++◌, length, take, Bool, Option, Some, None, refl, sym, ap, subst, ◌∙◌, arith}
+use Rattle.std.proofs.Common.{◌≡◌, ℕ, suc, List, [], ◌∷◌, ◌++◌, length, take, Bool, true, Option, Some, None, refl, sym, ap, subst, ◌∙◌, arith}
 use Rattle.std.proofs.lemmas.List.{length-append}
 use Rattle.std.proofs.Math.Seq.{take-length}
 use Rattle.jfs_super.specs.declared.fields.Super.{Super}
@@ -13,9 +13,9 @@ use Rattle.jfs_legal.specs.served.specs.shown.specs.meaning.specs.Image.{volume_
 use Rattle.jfs_legal.specs.served.specs.volume.specs.Settles.{Settles, StaysShown}
 use Rattle.jfs_legal.specs.served.specs.volume_calls.specs.Written.{KeepsPages, WritesMaps}
 use Rattle.jfs_legal.specs.served.specs.Legal.{Timed}
-use Rattle.jfs_legal.specs.Until.{AreLegal, GoOn, IsBehindHalt}
+use Rattle.jfs_legal.specs.Until.{has_failed, AreLegal, GoOn}
 use Rattle.jfs_legal.proofs.Going.{legal_law, call_law, settled_law, pointed_law}
-use Rattle.jfs_legal.proofs.Halted.{behind_more, behind_none, front_more, whole_front, to_halt}
+use Rattle.jfs_legal.proofs.Halted.{behind_more, behind_none, front_more, whole_front, front_law}
 use Rattle.jfs_shared.specs.Calls.{recorded}
 use Rattle.jfs_shared.specs.Shared.{timed, timed_in, IsBrokenOff, GoesOn, ToHaltLaw, RunningLaw, IsServed, broken_by}
 use Rattle.jfs_shared.specs.Entries.{Recorded}
@@ -28,10 +28,10 @@ as_many : (list : List Recorded) → length (timed_in list) ≡ length list
 as_many [] = refl
 as_many (x ∷ xs) = ap suc (as_many xs)
 
--- what joins a history that broke off: the volume had halted, and the call was refused for a fault or changes nothing
+-- what joins a history that broke off: the volume had halted, and the first call behind the break was refused for the fault
 abbrev pub JoinsBehind : Option ℕ → Parts → Timed → Type 0
 JoinsBehind None old t = Unit {0}
-JoinsBehind (Some n) old t = (old.halted ≡ None → ⊥) × IsBehindHalt t
+JoinsBehind (Some n) old t = (old.halted ≡ None → ⊥) × (n ≡ old.appended → has_failed t.entry.reply ≡ true)
 
 module _ (area : ℕ → ℕ) (log_pages : ℕ) (start : Parts) where
   -- a volume that has halted stays so
@@ -51,18 +51,18 @@ module _ (area : ℕ → ℕ) (log_pages : ℕ) (start : Parts) (tells crashes :
   -- ---- a call
 
   -- with its entry
-  joined : (broken : Option ℕ) (list : List Recorded) (a : Asking) (old new : Parts) (reply : Reply) (number : ℕ) (waits : Bool) (noted : Option (List Noted)) → (new.halted ≡ None → old.halted ≡ None)
+  joined : (broken : Option ℕ) (list : List Recorded) (a : Asking) (old new : Parts) (reply : Reply) (number : ℕ) (waits : Bool) (noted : Option (List Noted)) → (new.halted ≡ None → old.halted ≡ None) → old.appended ≡ length list
       → JoinsBehind broken old (timed (recorded a.caller.client a.caller.line a.request a.now reply noted))
       → GoesOn broken area log_pages start (timed_in list) old → Does tells crashes a.caller a.request a.now old new (Replied reply number waits)
       → GoesOn broken area log_pages start (timed_in (list ++ recorded a.caller.client a.caller.line a.request a.now reply noted ∷ [])) new
-  joined None list a old new reply number waits noted runs behind goes d =
+  joined None list a old new reply number waits noted runs all behind goes d =
       subst (λ (ts : List Timed). GoOn area log_pages start ts new) (sym (timed_more list (recorded a.caller.client a.caller.line a.request a.now reply noted)))
       (call_law tells crashes told area log_pages start (timed_in list) a old new (Replied reply number waits) goes d)
-  joined (Some n) list a old new reply number waits noted runs (halted, behind) off d =
+  joined (Some n) list a old new reply number waits noted runs all (halted, first) off d =
       subst (λ (ts : List Timed). IsBrokenOff n area log_pages start ts new) (sym (timed_more list e)) (record {
         within = let w = off.within in omega (arith, w, length-append ts (timed e ∷ []));
         legal = front_more area log_pages start n ts (timed e) off.within off.legal;
-        behind = behind_more n ts (timed e) off.within off.behind behind;
+        behind = behind_more n ts (timed e) off.within off.behind (λ last. first (last ∙ as_many list ∙ sym all));
         running = λ none. absurd (halted (runs none));
       })
     where
@@ -103,11 +103,11 @@ module _ (tells crashes : Type 0) (told : tells) (s : Super) (page : ℕ → Lis
   with_goes : (more : List Recorded) (later : Option ℕ) (old new : Parts) (v : IsServed s page broken list old) → GoesOn later (volume_of s page).area s.logpxd.len v.start (timed_in more) new → IsServed s page later more new
   with_goes more later old new v goes = record { start = v.start; holds = v.holds; runs = v.runs; goes_on = goes }
 
-  pub served_joined : (a : Asking) (old new : Parts) (reply : Reply) (number : ℕ) (waits : Bool) (noted : Option (List Noted)) → (new.halted ≡ None → old.halted ≡ None)
+  pub served_joined : (a : Asking) (old new : Parts) (reply : Reply) (number : ℕ) (waits : Bool) (noted : Option (List Noted)) → (new.halted ≡ None → old.halted ≡ None) → old.appended ≡ length list
       → JoinsBehind broken old (timed (recorded a.caller.client a.caller.line a.request a.now reply noted)) → IsServed s page broken list old
       → Does tells crashes a.caller a.request a.now old new (Replied reply number waits) → IsServed s page broken (list ++ recorded a.caller.client a.caller.line a.request a.now reply noted ∷ []) new
-  served_joined a old new reply number waits noted runs behind v d = with_goes (list ++ recorded a.caller.client a.caller.line a.request a.now reply noted ∷ []) broken old new v
-      (joined (volume_of s page).area s.logpxd.len v.start tells crashes told broken list a old new reply number waits noted runs behind v.goes_on d)
+  served_joined a old new reply number waits noted runs all behind v d = with_goes (list ++ recorded a.caller.client a.caller.line a.request a.now reply noted ∷ []) broken old new v
+      (joined (volume_of s page).area s.logpxd.len v.start tells crashes told broken list a old new reply number waits noted runs all behind v.goes_on d)
 
   pub served_asked : (a : Asking) (old new : Parts) → (new.halted ≡ None → old.halted ≡ None) → IsServed s page broken list old → Does tells crashes a.caller a.request a.now old new NeedsLog → IsServed s page broken list new
   served_asked a old new runs v d = with_goes list broken old new v (asked (volume_of s page).area s.logpxd.len v.start tells crashes told broken (timed_in list) a old new runs v.goes_on d)
@@ -127,8 +127,8 @@ module _ (tells crashes : Type 0) (told : tells) (s : Super) (page : ℕ → Lis
 -- ---- up to a halt
 
 pub to_halt_law : ToHaltLaw
-to_halt_law None area log_pages start es p goes = to_halt area log_pages start es (legal_law area log_pages start es p goes)
-to_halt_law (Some n) area log_pages start es p off = record { count = n; within = off.within; legal = off.legal; behind = off.behind }
+to_halt_law None area log_pages start es p goes = legal_law area log_pages start es p goes
+to_halt_law (Some n) area log_pages start es p off = front_law area log_pages start n es off.legal off.behind
 
 pub running_law : RunningLaw
 running_law None area log_pages start es p goes runs = legal_law area log_pages start es p goes

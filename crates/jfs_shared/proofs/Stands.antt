@@ -12,6 +12,7 @@ use Rattle.jfs_super.specs.declared.fields.Super.{Super}
 use Rattle.jfs_logpages.specs.declared.group_text.GroupText.{GroupText}
 use Rattle.jfs_logpages.specs.Group.{pages_of, room_of}
 use Rattle.jfs_plain.specs.declared.call.Entry.{Entry}
+use Rattle.jfs_plain.specs.CallStep.{writes}
 use Rattle.jfs_plain.specs.declared.call.Request.{Request}
 use Rattle.jfs_plain.specs.declared.reply.Reply.{Reply}
 use Rattle.jfs_records.specs.Records.{Noted}
@@ -106,7 +107,7 @@ module _ (tells : Type 0) (base : Base) (list : List Recorded) (taken told : ℕ
   -- ---- a call
 
   module _ (crashes : Type 0) (client line : ℕ) (request : Request) (now : Moment) (new : Parts) where
-    pub replied_stands : (reply : Reply) (number : ℕ) (waits : Bool) (noted : Option (List Noted)) → is_over broken old.halted ≡ false → IsAnswered client line request old new (Replied reply number waits)
+    pub replied_stands : (reply : Reply) (number : ℕ) (waits : Bool) (noted : Option (List Noted)) → is_over broken old.halted old.appended (writes request.call) ≡ false → IsAnswered client line request old new (Replied reply number waits)
         → Does tells crashes (record { client = client; line = line }) request now old new (Replied reply number waits) → Grew noted old new
         → IsShared tells base (list ++ recorded client line request now reply noted ∷ []) taken told points known made broken new × (number ≡ suc (length list))
     replied_stands reply number waits noted over a d g = (
@@ -126,7 +127,7 @@ module _ (tells : Type 0) (base : Base) (list : List Recorded) (taken told : ℕ
         breaks = longer_breaks broken (length list) (length (list ++ e ∷ [])) (omega (arith, length-append list (e ∷ []))) h.breaks;
         disk = replied_disk client line request old new (start_of base) points h.disk reply number waits a;
         served = λ t consistent. served_joined tells crashes t s page broken list (record { caller = record { client = client; line = line }; request = request; now = now }) old new reply number waits noted
-            (runs_still old.faults new.faults old.halted new.halted a.halted) (joins_behind client line request now old new reply number waits noted a broken over) (h.served t consistent) d;
+            (runs_still old.faults new.faults old.halted new.halted a.halted) h.appended (joins_behind client line request now old new reply number waits noted a broken over) (h.served t consistent) d;
       },
       a.entry.number_is ∙ a.entry.appended ∙ next,
     )

@@ -1,6 +1,5 @@
 -- What a mounted volume stands for, as the value that the volume turn guards.
-use Rattle.std.specs.Prelude.{◌≡◌, ◌≤◌, ◌+◌, ◌&&◌, ℕ, suc, Bool, List, length, map, take, drop, Option, Some, None, is_some, is_none}
-use Rattle.std.specs.List.{AllByRecursion}
+use Rattle.std.specs.Prelude.{◌≡◌, ◌≤◌, ◌+◌, ◌==◌, ◌&&◌, ℕ, suc, Bool, true, false, not, List, length, map, take, drop, Option, Some, None}
 use Rattle.jfs_disk.specs.Image.{page_of}
 use Rattle.jfs_disk.specs.declared.disk.Disk.{Ghosts}
 use Rattle.jfs_disk.specs.declared.disk.Fault.{Fault}
@@ -21,7 +20,7 @@ use Rattle.jfs_legal.specs.served.specs.shown.specs.meaning.specs.Image.{IsConsi
 use Rattle.jfs_legal.specs.served.specs.shown.specs.meaning.specs.Image as meaning
 use Rattle.jfs_legal.specs.served.specs.Legal.{Timed}
 use Rattle.jfs_legal.specs.served.specs.Laws.{HoldsImage}
-use Rattle.jfs_legal.specs.Until.{AreLegal, GoOn, IsBehindHalt, AreLegalToHalt}
+use Rattle.jfs_legal.specs.Until.{AreLegal, GoOn, FailsFirst}
 use Rattle.jfs_shared.specs.Base.{start_of, log_start_of, image_of}
 use Rattle.jfs_shared.specs.Faults.{IsOfDisk}
 use Rattle.jfs_shared.specs.Entries.{Recorded}
@@ -55,11 +54,11 @@ pub record HasText (ring : ℕ) (list : List Recorded) (taken points : ℕ) (tex
 
 -- ---- the replies
 
--- It broke off behind so many entries: these are legal. Each behind them was refused for a fault of the disk, or changes nothing; and while the volume runs there is none.
+-- It broke off behind so many entries: these are legal. While the volume runs there are no more; and the first one behind them was refused for the fault that halted it.
 pub record IsBrokenOff (n : ℕ) (area : ℕ → ℕ) (log_pages : ℕ) (start : Parts) (es : List Timed) (p : Parts) : Type 0 where
   pub within : n ≤ length es
   pub legal : AreLegal area log_pages start (take n es)
-  pub behind : AllByRecursion IsBehindHalt (drop n es)
+  pub behind : FailsFirst (drop n es)
   pub running : p.halted ≡ None → n ≡ length es
 
 -- They are a legal history that goes on, or that broke off.
@@ -67,17 +66,19 @@ abbrev pub GoesOn : Option ℕ → (ℕ → ℕ) → ℕ → Parts → List Time
 GoesOn None area log_pages start es p = GoOn area log_pages start es p
 GoesOn (Some n) area log_pages start es p = IsBrokenOff n area log_pages start es p
 
--- either way they are legal up to a halt
+-- either way all are legal, or those up to one that failed
 abbrev pub ToHaltLaw : Type 0
-ToHaltLaw = (broken_off : Option ℕ) (area : ℕ → ℕ) (log_pages : ℕ) (start : Parts) (es : List Timed) (p : Parts) → GoesOn broken_off area log_pages start es p → AreLegalToHalt area log_pages start es
+ToHaltLaw = (broken_off : Option ℕ) (area : ℕ → ℕ) (log_pages : ℕ) (start : Parts) (es : List Timed) (p : Parts) → GoesOn broken_off area log_pages start es p → AreLegal area log_pages start es
 
--- and while the volume runs, all are
+-- and while the volume runs, behind a break, there is none that the break left out
 abbrev pub RunningLaw : Type 0
 RunningLaw = (broken_off : Option ℕ) (area : ℕ → ℕ) (log_pages : ℕ) (start : Parts) (es : List Timed) (p : Parts) → GoesOn broken_off area log_pages start es p → p.halted ≡ None → AreLegal area log_pages start es
 
--- Memory ran out for a call, and the volume runs still: no call is done any more.
-abbrev pub is_over : Option ℕ → Option Fault → Bool
-is_over broken_off halted = is_some broken_off && is_none halted
+-- The history broke off, and a call isn't done any more: while the volume runs none is; once it has halted, the first one behind the break is to be one that it refuses.
+abbrev pub is_over : Option ℕ → Option Fault → ℕ → Bool → Bool
+is_over None halted appended writing = false
+is_over (Some n) None appended writing = true
+is_over (Some n) (Some fault) appended writing = n == appended && not writing
 
 -- it breaks off once, behind all entries so far
 abbrev pub broken_by : ℕ → Option ℕ → Option ℕ

@@ -10,7 +10,7 @@ pub fn values_together_may_commit<D: Disk>()
     ensures { TogetherLaw D.Disk (standing D.Disk) (log_standing D.Disk) }
 {}
 
-/// The entries of a volume are legal up to a halt, whether or not their history broke off.
+/// The entries of a volume are legal, up to one that was refused for a fault, whether or not their history broke off.
 pub fn histories_are_legal_to_a_halt()
     ensures { ToHaltLaw }
 {}

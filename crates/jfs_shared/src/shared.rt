@@ -1,11 +1,13 @@
 //! A mounted volume that many clients share.
 
 ghost use Rattle.std.specs.Prelude.{◌≡◌};
+ghost use Rattle.jfs_plain.specs.CallStep.{is_sync, writes};
 ghost use Rattle.jfs_shared.specs.Shared.{broken_by, is_over};
 
 use crate::point_group::PointGroup;
 use crate::recorded::Recorded;
 use jfs_disk::{Disk, Fault};
+use jfs_plain::Call;
 use jfs_turns::Stands;
 use jfs_volume_calls::volume::Volume;
 
@@ -17,7 +19,7 @@ pub struct SharedVolume<D: Disk> {
     pub(crate) point: PointGroup,
     /// How many syncpoints it has made, beside the mount's, and one more where the log has halted it.
     pub(crate) points: u64,
-    /// How many entries there were when memory ran out for a call, or a syncpoint failed: nothing is said of the tree behind them. None: neither has happened. While the volume runs there are no more than these.
+    /// How many entries there were when memory ran out for a call, or a syncpoint failed: nothing is said of the tree behind them. None: neither has happened. While the volume runs there are no more than these, and the first one behind them was refused for a fault.
     pub(crate) broken_off: Option<u64>,
 }
 
@@ -41,7 +43,7 @@ impl<D: Disk> SharedVolume<D> {
         self.volume.halted()
     }
 
-    /// How many entries are known to be a legal history where it broke off: memory ran out for a call behind them, or a syncpoint failed. What is called behind them was refused for a fault, or changes nothing.
+    /// How many entries are known to be a legal history where it broke off: memory ran out for a call behind them, or a syncpoint failed. The first one behind them was refused for a fault.
     pub fn broken_off(&self) -> Option<u64>
         ensures { result ≡ self.now.broken_off }
     {
@@ -57,11 +59,15 @@ impl<D: Disk> SharedVolume<D> {
         }
     }
 
-    /// Whether memory ran out for a call, and the volume runs still.
-    pub(crate) fn is_over(&self) -> bool
-        ensures { result ≡ is_over self.now.broken_off self.now.volume.halted }
+    /// Whether a call isn't done any more, since the history broke off: while the volume runs none is. Once it has halted, one that changes nothing isn't either, until one was refused for the fault.
+    pub(crate) fn is_over(&self, call: &Call) -> bool
+        ensures { result ≡ is_over self.now.broken_off self.now.volume.halted self.now.volume.appended (writes call.now) }
     {
-        self.broken_off.is_some() && self.volume.halted().is_none()
+        match (self.broken_off, self.volume.halted()) {
+            (None, _) => false,
+            (Some(_), None) => true,
+            (Some(n), Some(_)) => n == self.volume.appended() && !writes(call),
+        }
     }
 
     /// The volume, with the entries that weren't handed out.
@@ -71,4 +77,17 @@ impl<D: Disk> SharedVolume<D> {
         let SharedVolume { volume, .. } = self;
         volume
     }
+}
+
+/// Whether a halted volume refuses the call.
+fn writes(call: &Call) -> bool
+    ensures { result ≡ writes call.now }
+{
+    call.is_changing() || is_sync(call)
+}
+
+fn is_sync(call: &Call) -> bool
+    ensures { result ≡ is_sync call.now }
+{
+    matches!(call, Call::Sync)
 }

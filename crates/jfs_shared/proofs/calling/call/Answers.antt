@@ -1,4 +1,5 @@
 use Rattle.std.proofs.Common.{◌≡◌, refl, sym, subst, ◌∙◌, inl, inr}
+use Rattle.jfs_plain.specs.CallStep.{writes}
 use Rattle.jfs_groups.specs.Group.{Stays}
 use Rattle.jfs_shared.specs.Shared.{standing, broken_by, is_over}
 use Rattle.jfs_shared.proofs.Called.{unanswered, call_is, lacked_is, not_over, stays_whole}
@@ -41,7 +42,7 @@ pub returns-then-is_over-clause-breaks : goal.returns-then-is_over-clause-breaks
 returns-then-is_over-clause-breaks g c = inl refl
 
 pub returns-in-NoMemory-clause-over : goal.returns-in-NoMemory-clause-over
-returns-in-NoMemory-clause-over g c = not_over _ (is_over c.args.shared.now.broken_off c.args.shared.now.volume.halted) (sym c.is_over.ensures ∙ c.if-is_over.false)
+returns-in-NoMemory-clause-over g c = not_over _ (is_over c.args.shared.now.broken_off c.args.shared.now.volume.halted c.args.shared.now.volume.appended (writes c.args.request.now.call)) (sym c.is_over.ensures ∙ c.if-is_over.false)
 
 pub returns-in_default-clause-over : goal.returns-in_default-clause-over
-returns-in_default-clause-over g c = not_over _ (is_over c.args.shared.now.broken_off c.args.shared.now.volume.halted) (sym c.is_over.ensures ∙ c.if-is_over.false)
+returns-in_default-clause-over g c = not_over _ (is_over c.args.shared.now.broken_off c.args.shared.now.volume.halted c.args.shared.now.volume.appended (writes c.args.request.now.call)) (sym c.is_over.ensures ∙ c.if-is_over.false)
