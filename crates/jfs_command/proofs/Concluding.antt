@@ -118,16 +118,14 @@ concluded run tells old new status result ends before (inr (inr (same, inr (text
 abbrev sink_count : {K : Type 0} → SinkMembers K → K → K → Count
 sink_count k old new = record { before = k.fault_count old; now = k.fault_count new }
 
-pub answered : {D S K : Type 0} (d : DiskMembers D) (s : SourceMembers S) (k : SinkMembers K) (asked : Result Command Usage) (command : Command) → asked ≡ Ok command → (now : Moment) (old new : Devices D S K) (outcome : Outcome) (text : List ℕ) (status result : Status)
-    → PerformsCommand d s command now old.disk new.disk old.scripts new.scripts outcome → text ≡ outcome.text.items → status ≡ status_of outcome.end
-    → Concludes k.tells (k.taken old.out) (k.taken new.out) (sink_count k old.out new.out) text status result
+pub answered : {D S K : Type 0} (d : DiskMembers D) (s : SourceMembers S) (k : SinkMembers K) (asked : Result Command Usage) (command : Command) → asked ≡ Ok command → (now : Moment) (old new : Devices D S K) (outcome : Outcome) (result : Status)
+    → PerformsCommand d s command now old.disk new.disk old.scripts new.scripts outcome
+    → Concludes k.tells (k.taken old.out) (k.taken new.out) (sink_count k old.out new.out) outcome.text.items (status_of outcome.end) result
     → IsAnswered d s k asked now old new result outcome.history.items outcome.told.items
-answered d s k asked command is now old new outcome whole status result p is_whole is_status concludes =
+answered d s k asked command is now old new outcome result p concludes =
     let run = run_of d s k asked old new p.inputs p.held (work_of outcome (held_of d new.disk)) in
     let cause = caused run command outcome.end is p.ends in
-    let text = concluded run k.tells (k.taken old.out) (k.taken new.out) (status_of outcome.end) result cause.0 cause.1
-    (subst (λ (t : List ℕ). Concludes k.tells (k.taken old.out) (k.taken new.out) (sink_count k old.out new.out) t (status_of outcome.end) result) is_whole
-    (subst (λ (t : Status). Concludes k.tells (k.taken old.out) (k.taken new.out) (sink_count k old.out new.out) whole t result) is_status concludes)) in
+    let text = concluded run k.tells (k.taken old.out) (k.taken new.out) (status_of outcome.end) result cause.0 cause.1 concludes in
     record { inputs = p.inputs; given = p.given; held = p.held; before = p.before; whole = outcome.text.items; text = text.0; put = text.1; ends = text.2.ends; prints = text.2.prints }
 
 -- words outside the grammar: nothing is done

@@ -1,13 +1,13 @@
 -- Scripts that are generated one after the other.
-use Rattle.std.proofs.Common.{◌≡◌, ◌<◌, ◌≤◌, ◌+◌, ◌-◌, ◌*◌, ◌^◌, ℕ, zero, suc, List, [], ◌∷◌, ◌++◌, length, map, Result, Ok, Err, refl, sym, ap, subst, ◌∙◌, arith, append_assoc}
-use Rattle.std.proofs.lemmas.List.{append-nil, length-append, length-map}
+use Rattle.std.proofs.Common.{◌≡◌, ◌<◌, ◌≤◌, ◌+◌, ◌-◌, ◌*◌, ℕ, suc, List, [], ◌∷◌, ◌++◌, length, refl, sym, ap, subst, ◌∙◌, arith, append_assoc}
+use Rattle.std.proofs.lemmas.List.{append-nil, length-append}
 use Rattle.std.specs.Global.{Vec}
 use Rattle.jfs_gen.specs.Workload.{lines_of}
 use Rattle.jfs_gen.specs.Limits.{AllFit}
 use Rattle.jfs_plain.specs.declared.call.Line.{Line}
 use Rattle.jfs_run.specs.Tasks.{plan_of, lines_in, PlanFits, IsPlan}
 use Rattle.jfs_command.specs.Order.{scripts_from}
-use Rattle.jfs_command.proofs.Scripted.{map_append, fits_more, lines_more}
+use Rattle.jfs_command.proofs.Scripted.{map_append, fits_more, lines_more, few_clients}
 
 -- so many scripts were made, and with those that are left they are all
 pub record IsMade (number calls clients i : ℕ) (plan : List (Vec Line)) : Type 0 where
@@ -44,9 +44,9 @@ all_made number calls clients i plan past most made =
     let none : clients - i ≡ 0 = omega (arith, past) in
     sym (ap (λ (n : ℕ). plan_of plan ++ scripts_from number calls (i + 1) n) none ∙ append-nil (plan_of plan)) ∙ made.so_far
 
-pub made_plan : (number calls clients i : ℕ) (plan : List (Vec Line)) → i ≤ 16 → IsMade number calls clients i plan → IsPlan (plan_of plan)
-made_plan number calls clients i plan most made = record {
+pub made_plan : (number calls clients i : ℕ) (plan : List (Vec Line)) → 0 < i → i ≤ 16 → IsMade number calls clients i plan → IsPlan (plan_of plan)
+made_plan number calls clients i plan some most made = record {
   fit = made.fits;
-  clients = let same = length-map plan (λ (v : Vec Line). v.items) in let many = made.many in omega (arith, same, many, most);
+  clients = few_clients plan i made.many some most;
   few = let f = made.few in omega (arith, f, most);
 }

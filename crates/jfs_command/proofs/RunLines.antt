@@ -1,5 +1,5 @@
 -- What a run of lines on a volume did is what the command `run` says of it.
-use Rattle.std.proofs.Common.{◌++◌, Option, Result, Ok, Err, ◌≡◌, ◌⊎◌, ℕ, Bool, true, List, [], length, None, inl, inr, refl, sym, ap, subst, ◌∙◌, arith}
+use Rattle.std.proofs.Common.{◌++◌, Option, Result, Ok, Err, ◌≡◌, ◌⊎◌, ℕ, Bool, true, List, [], length, None, inl, inr, refl, sym, ap, subst, ◌∙◌}
 use Rattle.std.proofs.Math.Seq.{take-length}
 use Rattle.std.proofs.lemmas.List.{append-nil}
 use Rattle.jfs_bits.specs.Count.{Rose}
@@ -8,7 +8,6 @@ use Rattle.jfs_disk.specs.Crash.{DiskState, last_of}
 use Rattle.jfs_disk.specs.Moment.{IsResting}
 use Rattle.jfs_bits.specs.declared.descriptor.Moment.{Moment}
 use Rattle.jfs_disk.specs.Image.{Image, page_of}
-use Rattle.jfs_plain.specs.declared.call.Entry.{Entry}
 use Rattle.jfs_super.specs.declared.fields.Super.{Super}
 use Rattle.jfs_super.specs.Rules.{rows, shape_rows, flag_rows, size_rows, log_rows, blocks_of, IsAccepted}
 use Rattle.jfs_redo.specs.Redo.{RedoIs, IsRedoCause, IsRefusal, StaysBehind}
@@ -36,8 +35,9 @@ use Rattle.jfs_command.specs.Meaning.{Answer, refused, work_of}
 use Rattle.jfs_command.specs.Redo.{redone_text, is_clean, is_mounted, MountedSays, is_foreign, is_bad, breaks_maps, end_of as redo_end}
 use Rattle.jfs_command.specs.Superblock.{AfterState}
 use Rattle.jfs_command.specs.Order.{Planned}
-use Rattle.jfs_command.specs.Run.{whole_text, AreReplies, runs, breaks, Start, cleaned, is_ready, IsRedoneBy, BeginsOn, as_it_is, as_redone, behind, ReadySays, begins, not_redone, LinesSay, HasBegunRedo, RunsOutOn, end_of, text_before, text_of, Tells, DoesOn, StartEnds, DoesLines, LinesEnd}
+use Rattle.jfs_command.specs.Run.{whole_text, RepliesBy, runs, breaks, Start, cleaned, is_ready, IsRedoneBy, BeginsOn, as_it_is, as_redone, behind, ReadySays, begins, not_redone, LinesSay, HasBegunRedo, RunsOutOn, end_of, text_before, text_of, Tells, DoesOn, StartEnds, DoesLines, LinesEnd}
 use Rattle.jfs_command.proofs.RedoMounted.{not_clean}
+use Rattle.jfs_command.proofs.ToHalt.{run_to_halt}
 
 -- ---- what became of all lines, or of none, became of a front of them
 
@@ -58,7 +58,7 @@ work_of_calls text c left = record { text = text; history = c.history; told = c.
 abbrev seen_as : Held → ℕ → Seen
 seen_as held faults = record { image = held.image; past = held.past; faults = faults }
 
-module _ (tells crashes : Type 0) (p : Planned) (is_left : Bool) (moment : Moment) (s : Super) (held left : Held) (before now : ℕ) (c : Calls) (redone : Option ℕ) (replies : AreReplies tells s held.image moment c.history) where
+module _ (tells crashes : Type 0) (p : Planned) (is_left : Bool) (moment : Moment) (s : Super) (held left : Held) (before now : ℕ) (c : Calls) (redone : Option ℕ) where
   abbrev count : Count
   count = record { before = before; now = now }
 
@@ -70,11 +70,14 @@ module _ (tells crashes : Type 0) (p : Planned) (is_left : Bool) (moment : Momen
   called_by (inl none) = inl (none.calls, none.pages)
   called_by (inr (was, may)) = inr (was, may)
 
+  abbrev Replies : RunEnd → Type 0
+  Replies end = RepliesBy tells end s held.image moment c.history
+
   abbrev Leaves : RunEnd → Type 0
   Leaves end = tells → IfUnmounted end is_left (LeavesImage s held.image moment c.history left.image)
 
-  with_text : (end : RunEnd) → RunIs tells crashes s p.plan is_left (seen_as held before) (seen_as left now) c end → Leaves end → StartEnds tells crashes p is_left moment start held.past (work_of_calls (text_of redone p.printed end c) c left) count (end_of end)
-  with_text ran.Done is leaves = (
+  with_text : (end : RunEnd) → RunIs tells crashes s p.plan is_left (seen_as held before) (seen_as left now) c end → Replies end → Leaves end → StartEnds tells crashes p is_left moment start held.past (work_of_calls (text_of redone p.printed end c) c left) count (end_of end)
+  with_text ran.Done is replies leaves = (
     record { status = statuses.Done; text = whole_text p.printed c },
     runs c is.entries is.told refl is.mounts,
     refl,
@@ -91,7 +94,7 @@ module _ (tells crashes : Type 0) (p : Planned) (is_left : Bool) (moment : Momen
     },
     is.faults,
   )
-  with_text (ran.BadImage bad) is leaves = (
+  with_text (ran.BadImage bad) is replies leaves = (
     refused (statuses.BadImage bad.page bad.rule bad.value),
     breaks bad refl is.rule,
     refl,
@@ -99,29 +102,29 @@ module _ (tells crashes : Type 0) (p : Planned) (is_left : Bool) (moment : Momen
     record { history = is.calls.0; told = is.calls.1; text = append-nil (text_before redone); image = is.image; past_is = is.past },
     is.faults,
   )
-  with_text ran.Disk is leaves = (record { called = called_by is.done; replies = replies; text = refl }, is.rose)
-  with_text ran.Memory is leaves = record { called = called_by is.done; told = is.told; calm = is.calm; replies = replies; text = inl refl }
+  with_text ran.Disk is replies leaves = (record { called = called_by is.done; replies = replies; text = refl }, is.rose)
+  with_text ran.Memory is replies leaves = record { called = called_by is.done; told = is.told; calm = is.calm; replies = replies; text = inl refl }
 
   some_of : IsUncalled tells s (seen_as held before) (seen_as left now) c ⊎ (AllCalled p.plan c × MayMount tells s (seen_as held before)) → IsUncalled tells s (seen_as held before) (seen_as left now) c ⊎ (SomeCalled p.plan c × MayMount tells s (seen_as held before))
   some_of (inl none) = inl none
   some_of (inr (all, may)) = inr ((whole_begins p.plan c.history all.0, all.1), may)
 
   -- there was no memory for the text
-  without_text : (end : RunEnd) → RunIs tells crashes s p.plan is_left (seen_as held before) (seen_as left now) c end → StartEnds tells crashes p is_left moment start held.past (work_of_calls [] c left) count (Stopped stops.Memory)
-  without_text ran.Done is = record { called = inr ((whole_begins p.plan c.history is.entries, first_told c is.told), is.mounts); told = inr is.told; calm = inr is.calm; replies = replies; text = inr refl }
-  without_text (ran.BadImage bad) is =
-      record { called = inl (is.calls, λ t n _ _. ap (λ (i : Image). page_of i n) (is.image t)); told = inr (all_of_none c is.calls); calm = inr (ap any_failed is.calls.0); replies = replies; text = inr refl }
-  without_text ran.Disk is = record { called = called_by (some_of is.done); told = inl is.rose; calm = inl is.rose; replies = replies; text = inr refl }
-  without_text ran.Memory is = record { called = called_by is.done; told = is.told; calm = is.calm; replies = replies; text = inr refl }
+  without_text : (end : RunEnd) → RunIs tells crashes s p.plan is_left (seen_as held before) (seen_as left now) c end → Replies end → StartEnds tells crashes p is_left moment start held.past (work_of_calls [] c left) count (Stopped stops.Memory)
+  without_text ran.Done is replies = record { called = inr ((whole_begins p.plan c.history is.entries, first_told c is.told), is.mounts); told = inr is.told; calm = inr is.calm; replies = λ t of. run_to_halt s (page_of held.image) moment c.history (replies t of); text = inr refl }
+  without_text (ran.BadImage bad) is replies =
+      record { called = inl (is.calls, λ t n _ _. ap (λ (i : Image). page_of i n) (is.image t)); told = inr (all_of_none c is.calls); calm = inr (ap any_failed is.calls.0); replies = λ t of. inl (replies t of); text = inr refl }
+  without_text ran.Disk is replies = record { called = called_by (some_of is.done); told = inl is.rose; calm = inl is.rose; replies = replies; text = inr refl }
+  without_text ran.Memory is replies = record { called = called_by is.done; told = is.told; calm = is.calm; replies = replies; text = inr refl }
 
-  pub ended : (end : RunEnd) (e : End) (text : List ℕ) → RunIs tells crashes s p.plan is_left (seen_as held before) (seen_as left now) c end → Leaves end → Tells redone p.printed end c e text
+  pub ended : (end : RunEnd) (e : End) (text : List ℕ) → RunIs tells crashes s p.plan is_left (seen_as held before) (seen_as left now) c end → Replies end → Leaves end → Tells redone p.printed end c e text
       → StartEnds tells crashes p is_left moment start held.past (work_of_calls text c left) count e
-  ended end e text is leaves (inl (is_end, is_text)) =
+  ended end e text is replies leaves (inl (is_end, is_text)) =
       subst (λ (x : End). StartEnds tells crashes p is_left moment start held.past (work_of_calls text c left) count x) (sym is_end)
-      (subst (λ (t : List ℕ). StartEnds tells crashes p is_left moment start held.past (work_of_calls t c left) count (end_of end)) (sym is_text) (with_text end is leaves))
-  ended end e text is leaves (inr (is_end, is_text)) =
+      (subst (λ (t : List ℕ). StartEnds tells crashes p is_left moment start held.past (work_of_calls t c left) count (end_of end)) (sym is_text) (with_text end is replies leaves))
+  ended end e text is replies leaves (inr (is_end, is_text)) =
       subst (λ (x : End). StartEnds tells crashes p is_left moment start held.past (work_of_calls text c left) count x) (sym is_end)
-      (subst (λ (t : List ℕ). StartEnds tells crashes p is_left moment start held.past (work_of_calls t c left) count (Stopped stops.Memory)) (sym is_text) (without_text end is))
+      (subst (λ (t : List ℕ). StartEnds tells crashes p is_left moment start held.past (work_of_calls t c left) count (Stopped stops.Memory)) (sym is_text) (without_text end is replies))
 
 -- ---- by the state of the volume
 

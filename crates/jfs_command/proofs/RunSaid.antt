@@ -88,9 +88,9 @@ one_from texts (Err a) (Err b) is_a is_b = ap (λ (status : Status). Err status)
 
 one_scripts : (texts : List (List ℕ)) (a b : Result (List (List Line)) Status) → ScriptsSay texts a → ScriptsSay texts b → a ≡ b
 one_scripts texts a b (inl (many, is_a)) (inl (more, is_b)) = is_a ∙ sym is_b
-one_scripts texts a b (inl (many, is_a)) (inr (few, is_b)) = absurd (omega (arith, many, few))
-one_scripts texts a b (inr (few, is_a)) (inl (many, is_b)) = absurd (omega (arith, many, few))
-one_scripts texts a b (inr (few, is_a)) (inr (fewer, is_b)) = one_from texts a b is_a is_b
+one_scripts texts a b (inl (many, is_a)) (inr (some, few, is_b)) = absurd (omega (arith, many, few))
+one_scripts texts a b (inr (some, few, is_a)) (inl (many, is_b)) = absurd (omega (arith, many, few))
+one_scripts texts a b (inr (some, few, is_a)) (inr (more, fewer, is_b)) = one_from texts a b is_a is_b
 
 -- a refusal of scripts is one
 refused_script : (client : ℕ) (text : List ℕ) (status : Status) → ScriptSays client text (Err status) → IsOfScripts status
@@ -105,7 +105,7 @@ refused_from client (t ∷ ts) status (inr (lines, good, later)) = refused_from 
 
 refused_scripts : (texts : List (List ℕ)) (status : Status) → ScriptsSay texts (Err status) → IsOfScripts status
 refused_scripts texts status (inl (many, is)) = let same : status ≡ TooMuch (length texts) = cc (is) in subst IsOfScripts (sym same) tt
-refused_scripts texts status (inr (few, bad)) = refused_from 1 texts status bad
+refused_scripts texts status (inr (some, few, bad)) = refused_from 1 texts status bad
 
 -- ---- orders
 

@@ -15,9 +15,8 @@ use Rattle.jfs_command.specs.declared.status.Status.TheVariants.{TooMuch}
 use Rattle.jfs_command.specs.declared.status.Stop.TheVariants as stops
 use Rattle.jfs_command.specs.declared.outcome.End.{End}
 use Rattle.jfs_command.specs.declared.outcome.End.TheVariants.{Own, Stopped}
-use Rattle.jfs_command.specs.Count.{Count, Stays, HasRisen}
 use Rattle.jfs_command.specs.Inputs.{source_faults}
-use Rattle.jfs_command.specs.Scripts.{ScriptSays, SayFrom, most_scripts, ScriptsSay, AreLines, OneEnds, ScriptsEnd}
+use Rattle.jfs_command.specs.Scripts.{ScriptSays, SayFrom, most_scripts, AreLines, OneEnds, ScriptsEnd}
 
 -- ---- a script's calls are not more than its lines
 
@@ -238,7 +237,7 @@ module _ {S : Type 0} (s : Ghosts S) (old now : List S) (i : ℕ) (plan : List (
     all_texts text,
     all_number text,
     all_are text tells,
-    (inr (omega (arith, few, all_number text), bad_behind 1 read.texts (plan_of plan) text (map s.remaining (drop (suc i) now)) status read.says (subst (λ (n : ℕ). ScriptSays n text (Err status)) at_client bad)), still same),
+    (inr (omega (arith, less, read.size, all_number text), omega (arith, few, all_number text), bad_behind 1 read.texts (plan_of plan) text (map s.remaining (drop (suc i) now)) status read.says (subst (λ (n : ℕ). ScriptSays n text (Err status)) at_client bad)), still same),
   )
   one_failed (Stopped stops.Scripts) text few tells rose = (all_texts text, all_number text, all_are text tells, capped_rise (sum_by s.fault_count old) (sum_by s.fault_count later) (s.fault_count source) (s.fault_count new) sums (part_set s.fault_count now i new less) rose)
   one_failed (Stopped stops.Memory) text few tells same = (all_texts text, all_number text, all_are text tells, tt)
@@ -246,19 +245,23 @@ module _ {S : Type 0} (s : Ghosts S) (old now : List S) (i : ℕ) (plan : List (
 
 -- ---- all of them
 
-pub all_read : {S : Type 0} (s : Ghosts S) (old now : List S) (i : ℕ) (plan : Vec (Vec Line)) → IsRead s old now i plan.items → length old ≤ i → i ≤ length old → length old ≤ most_scripts
+pub all_read : {S : Type 0} (s : Ghosts S) (old now : List S) (i : ℕ) (plan : Vec (Vec Line)) → IsRead s old now i plan.items → length old ≤ i → i ≤ length old → 0 < length old → length old ≤ most_scripts
     → (texts : List (List ℕ)) × (length texts ≡ length old) × (s.tells → texts ≡ map s.remaining old) × (let r : Result (Vec (Vec Line)) End = Ok plan in ScriptsEnd texts (record { before = source_faults s old; now = source_faults s now }) r)
-all_read s old now i plan read past most few = (
+all_read s old now i plan read past most some few = (
   read.texts,
   omega (arith, read.number, past, most),
   λ t. read.are t ∙ ap (λ xs. map s.remaining xs) (all_taken old i past),
-  (inr (omega (arith, read.number, most, few), read.says), ap (λ (n : ℕ). min n (2 ^ 64 - 1)) (same_sum s.fault_count now old read.counts)),
+  (inr (omega (arith, read.number, past, some), omega (arith, read.number, most, few), read.says), ap (λ (n : ℕ). min n (2 ^ 64 - 1)) (same_sum s.fault_count now old read.counts)),
 )
 
-pub plan_is : {S : Type 0} (s : Ghosts S) (old now : List S) (i : ℕ) (plan : List (Vec Line)) → IsRead s old now i plan → i ≤ 16 → IsPlan (plan_of plan)
-plan_is s old now i plan read most = record {
+-- at least one script, and at most sixteen
+pub few_clients : (plan : List (Vec Line)) (i : ℕ) → length plan ≡ i → 0 < i → i ≤ 16 → length (plan_of plan) < 2 ^ 32 - 1
+few_clients plan i many some most = let same = length-map plan (λ (v : Vec Line). v.items) in omega (arith, same, many, some, most)
+
+pub plan_is : {S : Type 0} (s : Ghosts S) (old now : List S) (i : ℕ) (plan : List (Vec Line)) → IsRead s old now i plan → 0 < i → i ≤ 16 → IsPlan (plan_of plan)
+plan_is s old now i plan read some most = record {
   fit = read.fits;
-  clients = let same = length-map plan (λ (v : Vec Line). v.items) in let many = read.many in omega (arith, same, many, most);
+  clients = few_clients plan i read.many some most;
   few = let f = read.few in omega (arith, f, most);
 }
 

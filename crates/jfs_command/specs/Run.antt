@@ -1,5 +1,5 @@
 -- The commands with clients, `run` and `gen`: they redo a volume that is mounted, do the calls of the clients' scripts on it, and unmount it, unless it is to be left mounted. Or they name what is wrong with the scripts, the superblock, the log or the maps.
-use Rattle.std.specs.Prelude.{◌≡◌, ◌⊎◌, ◌<◌, ℕ, ⊤, Bool, true, false, ◌||◌, List, [], ◌++◌, length, Option, Some, None, Result, Ok, Err}
+use Rattle.std.specs.Prelude.{◌≡◌, ◌⊎◌, ℕ, ⊤, Bool, true, false, ◌||◌, List, [], ◌++◌, length, Option, Some, None, Ok, Err}
 use Rattle.jfs_bits.specs.declared.descriptor.Moment.{Moment}
 use Rattle.jfs_disk.specs.Image.{Image, page_of}
 use Rattle.jfs_disk.specs.Crash.{DiskState, last_of}
@@ -13,13 +13,13 @@ use Rattle.jfs_findings_new.specs.mount_rules.specs.Subject.{subject_of}
 use Rattle.jfs_findings_new.specs.mount_rules.specs.Mount.{BadMount, broken_maps, broken_mount}
 use Rattle.jfs_findings_new.specs.meaning.specs.Image.{IsConsistentImage}
 use Rattle.jfs_plain.specs.declared.call.Entry.{Entry}
-use Rattle.jfs_plain.specs.declared.call.Line.{Line}
 use Rattle.jfs_gen.specs.Summary.{summary_text}
 use Rattle.jfs_script.specs.History.{history_text, done_text}
 use Rattle.jfs_run.specs.declared.run.RunEnd.{RunEnd}
 use Rattle.jfs_run.specs.declared.run.RunEnd.TheVariants as ran
 use Rattle.jfs_run.specs.Calls.{Calls, HaveEntries, AllTold, NoCalls, AllCalled, SomeCalled, any_failed}
 use Rattle.jfs_run.specs.Legal.{IsLegalRun, LeavesImage}
+use Rattle.jfs_command.specs.Halted.{IsLegalRunToHalt, LegalBy}
 use Rattle.jfs_run.specs.Run.{StayBeside}
 use Rattle.jfs_command.specs.declared.status.Status.{Status}
 use Rattle.jfs_command.specs.declared.status.Status.TheVariants as statuses
@@ -143,6 +143,10 @@ calls_of work = record { history = work.history; told = work.told }
 abbrev pub AreReplies : (tells : Type 0) → Super → Image → Moment → List Entry → Type 0
 AreReplies tells s image now history = tells → IsConsistentImage s (page_of image) → IsLegalRun s (page_of image) now history
 
+-- So are those up to where the volume halted, if it did; each call behind that was refused for the fault, or changes nothing.
+abbrev pub AreRepliesToHalt : (tells : Type 0) → Super → Image → Moment → List Entry → Type 0
+AreRepliesToHalt tells s image now history = tells → IsConsistentImage s (page_of image) → IsLegalRunToHalt s (page_of image) now history
+
 -- Each client's lines were called, one after the other, each entry that waits was told durable, and the text is that of both. Unless the volume was to be left, it was unmounted: page 8 is the one that it had, and a crash leaves all of the disk, which is an image of the tree behind the last reply.
 pub record HasRun (tells crashes : Type 0) (p : Planned) (is_left : Bool) (now : Moment) (start : Start) (work : Work) : Type 0 where
   pub entries : HaveEntries p.plan work.history
@@ -197,7 +201,7 @@ pub record HasBegunRedo (tells : Type 0) (s : Super) (held : Held) (work : Work)
 -- the disk failed before the volume was mounted, and no line was called; or later, and then each was
 pub record FailsOn (tells : Type 0) (p : Planned) (now : Moment) (start : Start) (work : Work) : Type 0 where
   pub called : CallsNone tells start work ⊎ (AllCalled p.plan (calls_of work) × MayBegin tells start)
-  pub replies : AreReplies tells start.super start.image now work.history
+  pub replies : AreRepliesToHalt tells start.super start.image now work.history
   pub text : work.text ≡ start.text ++ front_text p.printed (calls_of work)
 
 -- Memory ran out: a front of each client's lines was called, and unless a call on the disk failed each of their entries that waits was told, and none was refused for a fault. Where there was none for the text, none is printed.
@@ -205,7 +209,7 @@ pub record RunsOutOn (disk : Count) (tells : Type 0) (p : Planned) (now : Moment
   pub called : CallsNone tells start work ⊎ (SomeCalled p.plan (calls_of work) × MayBegin tells start)
   pub told : HasRisen disk ⊎ AllTold (calls_of work)
   pub calm : HasRisen disk ⊎ (any_failed work.history ≡ false)
-  pub replies : AreReplies tells start.super start.image now work.history
+  pub replies : AreRepliesToHalt tells start.super start.image now work.history
   pub text : (work.text ≡ start.text ++ front_text p.printed (calls_of work)) ⊎ (work.text ≡ [])
 
 -- nothing was done yet; or redo was stopped; or the calls were
@@ -246,6 +250,10 @@ end_of ran.Done = Own statuses.Done
 end_of (ran.BadImage bad) = Own (statuses.BadImage bad.page bad.rule bad.value)
 end_of ran.Disk = ByStop stops.Disk
 end_of ran.Memory = ByStop stops.Memory
+
+-- the replies of a run, by its end
+abbrev pub RepliesBy : (tells : Type 0) → RunEnd → Super → Image → Moment → List Entry → Type 0
+RepliesBy tells end s image now history = tells → IsConsistentImage s (page_of image) → LegalBy end s (page_of image) now history
 
 -- the line of a redo, if there was one
 abbrev pub text_before : Option ℕ → List ℕ

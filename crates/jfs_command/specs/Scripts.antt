@@ -34,9 +34,9 @@ SayFrom client (text ∷ more) (Err status) = ScriptSays client text (Err status
 abbrev pub most_scripts : ℕ
 most_scripts = 16
 
--- The scripts of a run, the first of which is that of client 1: their number is looked at before any of them.
+-- The scripts of a run, of which there is one at least, the first that of client 1: their number is looked at before any of them.
 abbrev pub ScriptsSay : List (List ℕ) → Result (List (List Line)) Status → Type 0
-ScriptsSay scripts said = ((most_scripts < length scripts) × (said ≡ Err (TooMuch (length scripts)))) ⊎ ((length scripts ≤ most_scripts) × SayFrom 1 scripts said)
+ScriptsSay scripts said = ((most_scripts < length scripts) × (said ≡ Err (TooMuch (length scripts)))) ⊎ ((0 < length scripts) × (length scripts ≤ most_scripts) × SayFrom 1 scripts said)
 
 -- ---- for the prover: what the function that reads the scripts answers
 

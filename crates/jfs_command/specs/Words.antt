@@ -1,5 +1,5 @@
 -- The grammar of the words of a command.
-use Rattle.std.specs.Prelude.{◌≡◌, ◌≤◌, ℕ, suc, ◌+◌, ◌-◌, ◌^◌, min, Bool, true, false, not, nat_le, nat_lt, ◌&&◌, ◌==◌, if◌then◌else◌, List, [], ◌∷◌, length, map, codes, Option, Some, None, Result, Ok, Err}
+use Rattle.std.specs.Prelude.{◌≡◌, ◌≤◌, ◌<◌, ℕ, suc, ◌+◌, ◌-◌, ◌^◌, min, Bool, true, false, not, nat_le, nat_lt, ◌&&◌, ◌==◌, if◌then◌else◌, List, [], ◌∷◌, length, map, codes, Option, Some, None, Result, Ok, Err}
 use Rattle.std.specs.List.{list_all, range_with_len}
 use Rattle.std.specs.Str.{is_utf8, bytes_eq}
 use Rattle.std.specs.Global.{Vec}
@@ -186,6 +186,16 @@ abbrev pub is_alone : Job → Bool
 is_alone (Run is_left) = false
 is_alone (Generate number calls clients) = false
 is_alone _ = true
+
+-- so many scripts serve its job: a run has one at least
+abbrev pub HasScripts : Job → ℕ → Type 0
+HasScripts (Run is_left) count = 0 < count
+HasScripts _ count = Unit {0}
+
+-- the words ask for a command with clients
+abbrev pub has_clients : Result Command Usage → Bool
+has_clients (Ok command) = not (is_alone command.job)
+has_clients (Err usage) = false
 
 -- the scripts that the words name, none where they leave the grammar
 abbrev pub scripts_asked : Result Command Usage → List ℕ

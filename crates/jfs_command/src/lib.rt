@@ -3,6 +3,7 @@
 
 mod check;
 mod format;
+mod gen_words;
 mod generate;
 mod law;
 mod line;
@@ -25,4 +26,4 @@ mod words;
 pub use law::{check_says_one_thing, log_says_one_thing, redo_says_one_thing, run_says_one_thing};
 pub use status::Status;
 pub use top::{Ended, jfs_top, jfs_without_clients};
-pub use words::{Paths, PathsError, Usage, paths_of};
+pub use words::{Paths, PathsError, Usage, has_clients, paths_of};

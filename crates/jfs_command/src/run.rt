@@ -1,6 +1,6 @@
 //! The command `run`, and what `gen` has in common with it: the calls of clients on a volume that is clean, or is mounted and redone first.
 
-ghost use Rattle.std.specs.Prelude.{◌≡◌, ◌≤◌, ◌<◌, ◌^◌, ◌++◌, ℕ, true, [], List, length, Ok, IfOk, OnOk};
+ghost use Rattle.std.specs.Prelude.{◌≡◌, ◌≤◌, ◌<◌, ◌^◌, ◌++◌, ℕ, true, List, length, Ok, IfOk, OnOk};
 ghost use Rattle.jfs_disk.specs.Image.{page_of};
 ghost use Rattle.jfs_super.specs.Rules.{IsAccepted};
 ghost use Rattle.jfs_super.specs.Super.{FitsSuper, super_of};
@@ -25,46 +25,58 @@ use crate::superblock::{SUPERBLOCK, look};
 use jfs_bits::{Moment, Rule};
 use jfs_disk::Disk;
 use jfs_gen::write_summary;
-use jfs_io::Source;
+use jfs_io::{Gate, Source};
 use jfs_plain::{Entry, Line};
 use jfs_redo::redo;
 use jfs_run::{Ran, RunEnd, run_lines};
 use jfs_script::{write_done, write_history};
 use jfs_super::{Super, VolumeState};
 use std::alloc::{AllocError, Global};
+use std::sync::Wait;
+use std::thread::Threads;
 
 /// Reads the scripts whole, and does their calls on the volume of the disk. Nothing is printed before the volume was ended or refused.
-pub fn run_scripts<D: Disk, S: Source>(
+pub fn run_scripts<R: Threads + Wait + Sync, D: Disk + Send, S: Source, G: Gate + Sync>(
+    rt: &R,
     alloc: Global,
     disk: D,
     scripts: &mut Vec<S>,
     now: Moment,
     is_left: bool,
+    gate: &G,
 ) -> Performed<D>
-    requires { length scripts.old.items < 2 ^ 32 }
+    requires few { length scripts.old.items < 2 ^ 32 }
+    requires some { 0 < length scripts.old.items }
     ensures meaning { PerformsBy D.Disk S.Source (λ inputs. run_meaning is_left (by_scripts inputs.scripts) inputs.now) now disk result.disk scripts.old.items scripts.new.items result.outcome }
     ensures pages { D.page_count result.disk ≡ D.page_count disk }
     ensures later { D.fault_count disk ≤ D.fault_count result.disk }
     ensures sources { source_faults S.Source scripts.old.items ≤ source_faults S.Source scripts.new.items }
-    ensures none { scripts.old.items ≡ [] → scripts.new ≡ scripts.old }
 {
     match read_scripts(alloc, scripts) {
-        Ok(plan) => run_on_volume(alloc, disk, plan.as_slice(), Printed::History, now, is_left),
-        Err(end) => Performed {
-            outcome: Outcome::new(alloc, end, Vec::new(alloc)),
+        Ok(plan) => run_on_volume(
+            rt,
+            alloc,
             disk,
-        },
+            plan.as_slice(),
+            Printed::History,
+            now,
+            is_left,
+            gate,
+        ),
+        Err(end) => Performed::idle(alloc, end, disk),
     }
 }
 
 /// Looks at the superblock, and does the calls of clients' lines where it is accepted.
-pub fn run_on_volume<D: Disk>(
+pub fn run_on_volume<R: Threads + Wait + Sync, D: Disk + Send, G: Gate + Sync>(
+    rt: &R,
     alloc: Global,
     disk: D,
     plan: &[Vec<Line>],
     printed: Printed,
     now: Moment,
     is_left: bool,
+    gate: &G,
 ) -> Performed<D>
     requires plan { IsPlan (plan_of plan.now) }
     requires printed { IsPrintable printed }
@@ -74,16 +86,14 @@ pub fn run_on_volume<D: Disk>(
 {
     let mut disk = disk;
     match look(&mut disk) {
-        Ok(s) => run_by_state(alloc, disk, &s, plan, printed, now, is_left),
-        Err(end) => Performed {
-            outcome: Outcome::new(alloc, end, Vec::new(alloc)),
-            disk,
-        },
+        Ok(s) => run_by_state(rt, alloc, disk, &s, plan, printed, now, is_left, gate),
+        Err(end) => Performed::idle(alloc, end, disk),
     }
 }
 
 // The calls of lines, by the state that an accepted superblock tells.
-fn run_by_state<D: Disk>(
+fn run_by_state<R: Threads + Wait + Sync, D: Disk + Send, G: Gate + Sync>(
+    rt: &R,
     alloc: Global,
     disk: D,
     s: &Super,
@@ -91,6 +101,7 @@ fn run_by_state<D: Disk>(
     printed: Printed,
     now: Moment,
     is_left: bool,
+    gate: &G,
 ) -> Performed<D>
     requires accepted { IsAccepted s.now (D.page_count disk) }
     requires fits { FitsSuper s.now }
@@ -104,24 +115,22 @@ fn run_by_state<D: Disk>(
 {
     let state = s.state;
     if state == VolumeState::CLEAN {
-        return run_from(alloc, disk, s, None, plan, printed, now, is_left);
+        return run_from(rt, alloc, disk, s, None, plan, printed, now, is_left, gate);
     }
     if state == VolumeState::MOUNTED {
-        return run_redone(alloc, disk, s, plan, printed, now, is_left);
+        return run_redone(rt, alloc, disk, s, plan, printed, now, is_left, gate);
     }
     let refused = End::Own(Status::BadImage {
         page: SUPERBLOCK,
         rule: Rule::State,
         value: state.0.into(),
     });
-    Performed {
-        outcome: Outcome::new(alloc, refused, Vec::new(alloc)),
-        disk,
-    }
+    Performed::idle(alloc, refused, disk)
 }
 
 // The calls of lines on a volume that is mounted, once it is redone.
-fn run_redone<D: Disk>(
+fn run_redone<R: Threads + Wait + Sync, D: Disk + Send, G: Gate + Sync>(
+    rt: &R,
     alloc: Global,
     disk: D,
     s: &Super,
@@ -129,6 +138,7 @@ fn run_redone<D: Disk>(
     printed: Printed,
     now: Moment,
     is_left: bool,
+    gate: &G,
 ) -> Performed<D>
     requires accepted { IsAccepted s.now (D.page_count disk) }
     requires fits { FitsSuper s.now }
@@ -148,6 +158,7 @@ fn run_redone<D: Disk>(
                 ..*s
             };
             run_from(
+                rt,
                 alloc,
                 disk,
                 &clean,
@@ -156,17 +167,16 @@ fn run_redone<D: Disk>(
                 printed,
                 now,
                 is_left,
+                gate,
             )
         }
-        Err(why) => Performed {
-            outcome: Outcome::new(alloc, not_redone(why), Vec::new(alloc)),
-            disk,
-        },
+        Err(why) => Performed::idle(alloc, not_redone(why), disk),
     }
 }
 
 // The calls of lines on a volume that is clean. One that was redone had so many transactions in its log.
-fn run_from<D: Disk>(
+fn run_from<R: Threads + Wait + Sync, D: Disk + Send, G: Gate + Sync>(
+    _rt: &R,
     alloc: Global,
     disk: D,
     s: &Super,
@@ -175,6 +185,7 @@ fn run_from<D: Disk>(
     printed: Printed,
     now: Moment,
     is_left: bool,
+    _gate: &G,
 ) -> Performed<D>
     requires accepted { IsAccepted s.now (D.page_count disk) }
     requires fits { FitsSuper s.now }

@@ -15,13 +15,13 @@ use std::alloc::Global;
 /// The greatest number of scripts.
 const MOST_SCRIPTS: usize = 16;
 
-/// The calls of all scripts of a run, the first of which is that of client 1. Each is read whole, one after the other, up to one that can't be read or is wrong.
+/// The calls of all scripts of a run, one at least, the first of which is that of client 1. Each is read whole, one after the other, up to one that can't be read or is wrong.
 pub fn read_scripts<S: Source>(alloc: Global, scripts: &mut Vec<S>) -> Result<Vec<Vec<Line>>, End>
-    requires { length scripts.old.items < 2 ^ 32 }
+    requires few { length scripts.old.items < 2 ^ 32 }
+    requires some { 0 < length scripts.old.items }
     ensures ends { (texts : List (List ℕ)) × (length texts ≡ length scripts.old.items) × (S.tells → texts ≡ map S.remaining scripts.old.items)
         × ScriptsEnd texts (record { before = source_faults S.Source scripts.old.items; now = source_faults S.Source scripts.new.items }) result }
     ensures plan { IfOk result (λ plan. IsPlan (plan_of plan.items)) }
-    ensures none { scripts.old.items ≡ [] → scripts.new ≡ scripts.old }
     ensures later { source_faults S.Source scripts.old.items ≤ source_faults S.Source scripts.new.items }
 {
     let count = scripts.len();

@@ -1,6 +1,7 @@
 //! The look at the superblock with which commands begin.
 
 ghost use Rattle.std.specs.Prelude.{◌≡◌, ◌≤◌, IfOk};
+ghost use Rattle.jfs_disk.specs.Image.{ArePages};
 ghost use Rattle.jfs_super.specs.Super.{FitsSuper};
 ghost use Rattle.jfs_command.specs.Superblock.{Looks};
 
@@ -21,6 +22,7 @@ pub fn look<D: Disk>(disk: &mut D) -> Result<Super, End>
     ensures pages { D.page_count disk.new ≡ D.page_count disk.old }
     ensures image { D.tells → D.image disk.new ≡ D.image disk.old }
     ensures past { D.tells_crashes → D.past disk.new ≡ D.past disk.old }
+    ensures whole { D.tells → ArePages (D.page_count disk.old) (D.image disk.old) }
 {
     let pages = disk.pages();
     let mut page = Page::zeros();

@@ -1,21 +1,14 @@
 //! The grammar of the words. It is read by hand: there are few commands, and each refusal names its word.
 
-ghost use Rattle.std.specs.Prelude.{◌≡◌, ◌≤◌, ◌<◌, ◌+◌, ◌*◌, ◌^◌, true, Ok, IfOk, IfErr};
-ghost use Rattle.std.specs.Option.{SomeIff};
+ghost use Rattle.std.specs.Prelude.{◌≡◌, ◌≤◌, ◌+◌, true, Ok, IfOk, IfErr};
 ghost use Rattle.std.specs.List.{list_all};
 ghost use Rattle.std.specs.Str.{is_utf8, bytes_eq};
 ghost use Rattle.jfs_format.specs.Superblock.{label_field};
-ghost use Rattle.jfs_script.specs.Number.{numeral};
-ghost use Rattle.jfs_command.specs.Words.{texts, is_visible, is_label, with_label, with_uuid, image_and_uuid, is_name, begins_with_dash, command_of, on_image, image_alone, place, run_at, names_in_front, image_and_scripts, leave_and_rest, begins_well, number_up_to, generate, with_clients, with_calls, with_number, image_and_numbers, places_of, script_words, is_alone, UsageIs};
+ghost use Rattle.jfs_command.specs.Words.{texts, is_visible, is_label, with_label, with_uuid, image_and_uuid, is_name, begins_with_dash, command_of, on_image, image_alone, place, run_at, names_in_front, image_and_scripts, leave_and_rest, places_of, script_words, is_alone, has_clients, UsageIs};
 
+use crate::gen_words::image_and_numbers;
 use std::alloc::{AllocError, Global};
 use uuid::Uuid;
-
-/// The greatest number of generated calls of a client.
-const MOST_CALLS: u64 = 4094;
-
-/// The greatest number of clients.
-const MOST_CLIENTS: u64 = 16;
 
 /// The words leave the grammar at this word, counted from 1, or end before it.
 #[derive(Clone, Copy, PartialEq, Eq, Debug)]
@@ -89,7 +82,7 @@ pub struct Command {
 
 impl Command {
     /// A job on the image that the second word names, without scripts.
-    fn on_image(job: Job) -> Command
+    pub fn on_image(job: Job) -> Command
         ensures { result ≡ on_image job }
     {
         Command {
@@ -157,6 +150,16 @@ pub fn paths_of(alloc: Global, words: &[Vec<u8>]) -> Result<Paths, PathsError>
             Err(_) => Err(PathsError::Memory),
         },
         Err(usage) => Err(PathsError::Usage(usage)),
+    }
+}
+
+/// Whether the words ask for a command with clients. Words that leave the grammar ask for none.
+pub fn has_clients(words: &[Vec<u8>]) -> bool
+    ensures { result ≡ has_clients (command_of (texts words.now)) }
+{
+    match read_words(words) {
+        Ok(command) => !command.job.is_alone(),
+        Err(_) => false,
     }
 }
 
@@ -269,109 +272,6 @@ fn names_in_front(words: &[Vec<u8>]) -> usize
     count
 }
 
-// The words of `gen`: an image and three numbers.
-fn image_and_numbers(words: &[Vec<u8>]) -> Result<Command, Usage>
-    ensures { result ≡ image_and_numbers (texts words.now) }
-{
-    match words {
-        [image, rest @ ..] if is_name(image) => with_number(rest),
-        _ => Err(Usage { word: 2 }),
-    }
-}
-
-fn with_number(words: &[Vec<u8>]) -> Result<Command, Usage>
-    ensures { result ≡ with_number (texts words.now) }
-{
-    match words {
-        [word, rest @ ..] => match number_up_to(u64::MAX, word) {
-            Some(number) => with_calls(number, rest),
-            None => Err(Usage { word: 3 }),
-        },
-        [] => Err(Usage { word: 3 }),
-    }
-}
-
-fn with_calls(number: u64, words: &[Vec<u8>]) -> Result<Command, Usage>
-    ensures { result ≡ with_calls number (texts words.now) }
-{
-    match words {
-        [word, rest @ ..] => match number_up_to(MOST_CALLS, word) {
-            Some(calls) => with_clients(number, calls as u32, rest),
-            None => Err(Usage { word: 4 }),
-        },
-        [] => Err(Usage { word: 4 }),
-    }
-}
-
-fn with_clients(number: u64, calls: u32, words: &[Vec<u8>]) -> Result<Command, Usage>
-    ensures { result ≡ with_clients number calls (texts words.now) }
-{
-    match words {
-        [word, rest @ ..] => match number_up_to(MOST_CLIENTS, word) {
-            Some(clients) if clients >= 1 => generate(number, calls, clients as u32, rest),
-            _ => Err(Usage { word: 5 }),
-        },
-        [] => Err(Usage { word: 5 }),
-    }
-}
-
-// Behind the numbers stands nothing.
-fn generate(number: u64, calls: u32, clients: u32, words: &[Vec<u8>]) -> Result<Command, Usage>
-    ensures { result ≡ generate number calls clients (texts words.now) }
-{
-    match words {
-        [] => Ok(Command::on_image(Job::Generate {
-            number,
-            calls,
-            clients,
-        })),
-        _ => Err(Usage { word: 6 }),
-    }
-}
-
-// A number in decimal digits without a zero in front, up to this one.
-fn number_up_to(most: u64, word: &[u8]) -> Option<u64>
-    ensures { result ≡ number_up_to most word.now }
-{
-    if !begins_well(word) {
-        return None;
-    }
-    match numeral(word) {
-        Some(number) if number <= most => Some(number),
-        _ => None,
-    }
-}
-
-fn begins_well(word: &[u8]) -> bool
-    ensures { result ≡ begins_well word.now }
-{
-    !matches!(word, [] | [b'0', _, ..])
-}
-
-// The number of 64 bits that decimal digits spell.
-fn numeral(word: &[u8]) -> Option<u64>
-    ensures { result ≡ numeral 10 word.now }
-{
-    let mut value = 0;
-    for byte in word {
-        if *byte < b'0' || *byte > b'9' {
-            return None;
-        }
-        match with_digit(value, *byte - b'0') {
-            Some(longer) => value = longer,
-            None => return None,
-        }
-    }
-    Some(value)
-}
-
-// The number with a further digit, if 64 bits have room for it.
-fn with_digit(value: u64, digit: u8) -> Option<u64>
-    ensures { SomeIff result (value * 10 + digit < 2 ^ 64) (value * 10 + digit) }
-{
-    value.checked_mul(10)?.checked_add(u64::from(digit))
-}
-
 // A label and the zeros behind it.
 fn padded(label: &[u8]) -> [u8; 16]
     requires { is_label label.now ≡ true }
@@ -401,8 +301,8 @@ fn is_word(word: &[u8], wanted: &[u8]) -> bool
     word == wanted
 }
 
-// A word that may name a file: text that doesn't begin with a dash.
-fn is_name(word: &[u8]) -> bool
+/// Whether a word may name a file: text that doesn't begin with a dash.
+pub fn is_name(word: &[u8]) -> bool
     ensures { result ≡ is_name word.now }
 {
     is_text(word) && !begins_with_dash(word)

@@ -16,7 +16,7 @@ const MANY: [&str; 19] = [
     "run", "I", "A", "B", "C", "D", "E", "F", "G", "H", "J", "K", "L", "M", "N", "O", "P", "Q", "R",
 ];
 
-/// Words, scripts, the status's number, and the text. No entry of one client stands between those of others.
+/// Words, scripts, the status's number, and the text. One client at most has calls, so that their order is known.
 static ROWS: [(&[&str], &[&str], u8, &str); 8] = [
     (
         &["run", "I", "S", "T"],
@@ -144,8 +144,8 @@ fn is_legal(alloc: Global, history: &[Entry]) -> Option<bool> {
     Some(true)
 }
 
-/// Whether a client's entries are its lines, from the first to the last of them.
-fn has_lines(history: &[Entry], client: u32) -> Option<bool> {
+/// Whether a client's entries are its so many lines, from the first to the last of them.
+fn has_lines(history: &[Entry], client: u32, lines: u32) -> Option<bool> {
     let mut next: u32 = 1;
     for entry in history {
         if entry.client == client {
@@ -155,7 +155,7 @@ fn has_lines(history: &[Entry], client: u32) -> Option<bool> {
             next = next.checked_add(1)?;
         }
     }
-    Some(next == LINES + 1)
+    Some(next.checked_sub(1)? == lines)
 }
 
 #[test]
@@ -169,9 +169,54 @@ fn clients_on_one_tree(rt: HostRuntime) {
     let history = ended.history.as_slice();
     assert!(rt; history.len() == 20);
     for client in 1..5 {
-        assert!(rt; has_lines(history, client) == Some(true), "{client}");
+        assert!(rt; has_lines(history, client, LINES) == Some(true), "{client}");
     }
     assert!(rt; is_legal(alloc, history) == Some(true));
+}
+
+// ---- sixteen clients
+
+/// How many lines each of their scripts has.
+const MANY_LINES: u32 = 8;
+
+/// The script of a client, which takes files out of the next one's directory and moves its own into the one before.
+fn crossing(alloc: Global, client: u32) -> Option<String> {
+    let (next, before) = (client % 16 + 1, (client + 14) % 16 + 1);
+    format!(in alloc;
+        "mkdir /d{client} 0755\ncreate /d{client}/f 0644\nrename /d{next}/f /d{client}/g\nrename /d{client} /d{before}/e\n\
+lazy create /d{client}/h 0644\nrename /d{before}/e/g /d{next}/x\nlist /\nsync\n"
+    )
+    .ok()
+}
+
+/// The words and the scripts of sixteen clients whose renames cross each other's directories, and whether the history is a legal one that has all of their lines.
+fn is_legal_crowd<R: Threads + Wait + Sync>(rt: &R, alloc: Global) -> Option<bool> {
+    let mut texts = Vec::new(alloc);
+    for client in 1..17 {
+        texts.push(crossing(alloc, client)?).ok()?;
+    }
+    let mut scripts = Vec::new(alloc);
+    for text in &texts {
+        scripts.push(text.as_str()).ok()?;
+    }
+    let mut out = SureSink::new(alloc);
+    let disk = new_volume(rt, alloc)?;
+    let ended = run_all(rt, alloc, &MANY[..18], scripts.as_slice(), disk, &mut out)?;
+    if ended.status != Status::Done {
+        return Some(false);
+    }
+    for client in 1..17 {
+        if !has_lines(ended.history.as_slice(), client, MANY_LINES)? {
+            return Some(false);
+        }
+    }
+    is_legal(alloc, ended.history.as_slice())
+}
+
+#[test]
+fn sixteen_clients_on_one_tree(rt: HostRuntime) {
+    let alloc = rt.alloc();
+    assert!(rt; is_legal_crowd(&rt, alloc) == Some(true));
 }
 
 // ---- generated scripts

@@ -14,6 +14,8 @@ mod fields;
 #[cfg(test)]
 mod format;
 #[cfg(test)]
+mod gates;
+#[cfg(test)]
 mod log;
 #[cfg(test)]
 mod redo;

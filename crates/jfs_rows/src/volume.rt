@@ -7,7 +7,7 @@ ghost use Rattle.jfs_super.specs.Super.{FitsSuper};
 use jfs_bits::{Moment, Pxd, SuperFlags};
 use jfs_command::{Ended, Paths, PathsError, Status, jfs_top, paths_of};
 use jfs_disk::{Disk, Fail, Kind, MemDisk, Page, Part};
-use jfs_io::{MemSource, OpenGate, Sink, SureSink};
+use jfs_io::{Gate, MemSource, OpenGate, Sink, SureSink};
 use jfs_super::{Super, VolumeState, write_super};
 use std::alloc::{AllocError, Global};
 use std::sync::Wait;
@@ -86,18 +86,19 @@ pub fn sound_disk(alloc: Global) -> Option<MemDisk> {
 }
 
 /// The top call at a moment. Nothing is said of what it does, so that no test is proved beside the clauses of all commands.
-fn top<R: Threads + Wait + Sync, D: Disk + Send, K: Sink>(
+fn top<R: Threads + Wait + Sync, D: Disk + Send, K: Sink, G: Gate + Sync>(
     rt: &R,
     alloc: Global,
     words: &[Vec<u8>],
     disk: D,
     scripts: &mut Vec<MemSource>,
     out: &mut K,
+    gate: &G,
 ) -> Ended<D>
     requires { length scripts.old.items ≡ length (scripts_asked (command_of (texts words.now))) }
 {
     let now = Moment { sec: 1000, nano: 0 };
-    jfs_top(rt, alloc, words, now, disk, scripts, out, &OpenGate)
+    jfs_top(rt, alloc, words, now, disk, scripts, out, gate)
 }
 
 /// A script of a run: its text, and which of the calls on its source fail, from the first to the last of them.
@@ -168,10 +169,23 @@ pub fn run_all<R: Threads + Wait + Sync, K: Sink>(
     disk: MemDisk,
     out: &mut K,
 ) -> Option<Ended<MemDisk>> {
+    run_at(rt, alloc, words, scripts, disk, out, &OpenGate)
+}
+
+/// The same on any disk, with a gate.
+pub fn run_at<R: Threads + Wait + Sync, D: Disk + Send + Drop, K: Sink, G: Gate + Sync>(
+    rt: &R,
+    alloc: Global,
+    words: &[&str],
+    scripts: &[&str],
+    disk: D,
+    out: &mut K,
+    gate: &G,
+) -> Option<Ended<D>> {
     let words = words_of(alloc, words).ok()?;
     let places = places_of(alloc, &words).ok()?;
     let mut scripts = sources_of(alloc, &places, scripts).ok()?;
-    Some(top(rt, alloc, &words, disk, &mut scripts, out))
+    Some(top(rt, alloc, &words, disk, &mut scripts, out, gate))
 }
 
 /// Runs the top call with these words; `None` where there is no memory for them.
@@ -186,7 +200,7 @@ pub fn run<R: Threads + Wait + Sync, K: Sink>(
     let words = words_of(alloc, words).ok()?;
     let places = places_of(alloc, &words).ok()?;
     let mut scripts = sources(alloc, &places, script).ok()?;
-    Some(top(rt, alloc, &words, disk, &mut scripts, out))
+    Some(top(rt, alloc, &words, disk, &mut scripts, out, &OpenGate))
 }
 
 fn words_of(alloc: Global, words: &[&str]) -> Result<Vec<Vec<u8>>, AllocError> {

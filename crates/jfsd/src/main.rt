@@ -7,15 +7,19 @@ ghost use Rattle.jfs_command.specs.Words.{texts, command_of, scripts_asked};
 mod file_disk;
 mod file_source;
 mod out_sink;
+mod progress;
+#[cfg(test)]
+mod progress_rows;
 
 use file_disk::{Access, FileDisk, is_standard};
 use file_source::FileSource;
 use jfs_bits::Moment;
 use jfs_command::{Paths, PathsError, Status, jfs_top, paths_of};
-use jfs_io::OpenGate;
 use out_sink::OutSink;
+use progress::Progress;
 use std::alloc::{AllocError, Global};
 use std::fs::File;
+use std::io::IsTerminal;
 use std::process::ExitCode;
 use std::rt::{Clock, Env, Files};
 use std::time::{Duration, SystemTime, UNIX_EPOCH};
@@ -34,7 +38,8 @@ usage: jfsd format IMAGE UUID [LABEL]
 
 fn main(rt: HostRuntime) -> ExitCode {
     let _placeholders = Placeholders::open(&rt);
-    let mut out = OutSink::new(io::writer(&rt));
+    let progress = Progress::new(rt.stderr().is_terminal().then_some(&rt));
+    let mut out = OutSink::new(io::writer(&rt), &progress);
     let words = match words(&rt) {
         Ok(words) => words,
         Err(WordsError::NotText) => {
@@ -62,7 +67,7 @@ fn main(rt: HostRuntime) -> ExitCode {
         disk,
         &mut scripts,
         &mut out,
-        &OpenGate,
+        &progress,
     );
     if matches!(ended.status, Status::Usage { .. }) {
         tell_grammar(&rt);

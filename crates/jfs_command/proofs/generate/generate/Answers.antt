@@ -1,4 +1,4 @@
-use Rattle.std.proofs.Common.{◌≡◌, ◌∙◌, refl, List, ap, false}
+use Rattle.std.proofs.Common.{◌∙◌, refl, List, ap, false}
 use Rattle.std.specs.Global.{Vec}
 use Rattle.jfs_plain.specs.declared.call.Line.{Line}
 use Rattle.jfs_run.specs.Tasks.{plan_of}
@@ -16,7 +16,8 @@ returns-in-Ok-clause-meaning g c =
 
 pub returns-in-Err-clause-meaning : goal.returns-in-Err-clause-meaning
 returns-in-Err-clause-meaning g c =
-    let made = c.new-in-Err in
-    not_begun g.D.Disk c.args.disk (by_number c.args.number c.args.calls c.args.clients) false c.args.now made.result (g.met.D.Disk.has_pages c.args.disk)
+    let made = c.idle in
+    rw made.ensures.disk
+    (not_begun g.D.Disk c.args.disk (by_number c.args.number c.args.calls c.args.clients) false c.args.now made.result.outcome made.ensures.whole
     (record { image = λ t. refl; past = λ t. refl; history = made.ensures.history; told = made.ensures.told })
-    (made.ensures.text ∙ c.new.ensures.items) made.ensures.end
+    made.ensures.text made.ensures.end)

@@ -14,4 +14,4 @@ pub returns-clause-scripts : goal.returns-clause-scripts
 returns-clause-scripts c = all_made c.args.number c.args.calls c.args.clients c.loop-i.i c.loop-i.plan.items c.loop-i-test.false c.loop-i.auto.i-end c.loop-i.invariant
 
 pub returns-clause-plan : goal.returns-clause-plan
-returns-clause-plan c = let most = c.loop-i.auto.i-end in made_plan c.args.number c.args.calls c.args.clients c.loop-i.i c.loop-i.plan.items (omega (arith, most, c.requires.clients)) c.loop-i.invariant
+returns-clause-plan c = let most = c.loop-i.auto.i-end in made_plan c.args.number c.args.calls c.args.clients c.loop-i.i c.loop-i.plan.items (omega (arith, c.requires.clients.0, c.loop-i-test.false)) (omega (arith, most, c.requires.clients.1)) c.loop-i.invariant

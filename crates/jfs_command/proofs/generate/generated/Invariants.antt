@@ -1,5 +1,3 @@
-use Rattle.std.proofs.Common.{◌≡◌, ◌-◌, ◌+◌, ◌++◌}
-use Rattle.jfs_run.specs.Tasks.{plan_of}
 use Rattle.jfs_command.proofs.Generating.{IsMade}
 use Rattle.jfs_command.proofs.generate.generated.Given as goal
 

@@ -11,7 +11,7 @@ use Rattle.jfs_command.proofs.RunLines.{accepted_clean, redone_by, from_redone, 
 use Rattle.jfs_command.proofs.run.run_redone.Goals as goal
 
 pub run_from-requires-clause-accepted : goal.run_from-requires-clause-accepted
-run_from-requires-clause-accepted g c =
+run_from-requires-clause-accepted g c κs within =
     subst (λ (n : ℕ). IsAccepted (cleaned c.args.s.now) n) (sym c.in-Ok.ensures.pages) (accepted_clean c.args.s.now (g.D.Disk.page_count c.args.disk) c.requires.accepted)
 
 pub returns-in-Ok-clause-ends : goal.returns-in-Ok-clause-ends
@@ -28,10 +28,11 @@ returns-in-Err-clause-ends g c =
     let d = g.D.Disk in
     let s = c.args.s.now in
     let is = c.in-Err.ensures in
-    let made = c.new-in-Err in
+    let made = c.idle in
     let held = held_of d c.args.disk in
     let left = held_of d c.redo.new.disk in
     let it = stopped d.tells d.tells_crashes (planned c.args.plan.now c.args.printed) c.args.is_left c.args.now s held left c.requires.mounted is.behind (d.fault_count c.args.disk) (d.fault_count c.redo.new.disk) c.in-Err.why is.redone is.same_image is.same_past is.cause in
-    subst (λ (e : End). LinesEnd d.tells d.tells_crashes (planned c.args.plan.now c.args.printed) c.args.is_left c.args.now s held (work_of made.result left) (faults_of d c.args.disk c.redo.new.disk) e) (sym (made.ensures.end ∙ c.end_of.ensures))
+    rw made.ensures.disk
+    (subst (λ (e : End). LinesEnd d.tells d.tells_crashes (planned c.args.plan.now c.args.printed) c.args.is_left c.args.now s held (work_of made.result.outcome left) (faults_of d c.args.disk c.redo.new.disk) e) (sym (made.ensures.end ∙ c.end_of.ensures))
     (subst (λ (w : Work). LinesEnd d.tells d.tells_crashes (planned c.args.plan.now c.args.printed) c.args.is_left c.args.now s held w (faults_of d c.args.disk c.redo.new.disk) (end_of c.in-Err.why))
-    (same_empty made.result left (made.ensures.text ∙ c.new.ensures.items) made.ensures.history made.ensures.told) it)
+    (same_empty made.result.outcome left made.ensures.text made.ensures.history made.ensures.told) it))

@@ -1,4 +1,4 @@
-use Rattle.std.proofs.Common.{List, Ok, refl, sym, subst, ◌∙◌}
+use Rattle.std.proofs.Common.{List, Ok, refl, sym, subst}
 use Rattle.jfs_plain.specs.declared.call.Line.{Line}
 use Rattle.std.specs.Global.{Vec}
 use Rattle.jfs_run.specs.Tasks.{plan_of}
@@ -16,9 +16,10 @@ returns-in-Ok-clause-meaning g c =
 
 pub returns-in-Err-clause-meaning : goal.returns-in-Err-clause-meaning
 returns-in-Err-clause-meaning g c =
-    let made = c.new-in-Err in
+    let made = c.idle in
     let read = c.in-Err.ensures.ends in
-    not_read g.D.Disk g.S.Source c.args.is_left c.args.now c.args.disk c.args.disk c.args.scripts.now.items c.read_scripts.new.scripts.items made.result read.0
-    (record { number = read.1; texts_are = read.2 }) c.in-Err.end (g.met.D.Disk.has_pages c.args.disk)
+    rw made.ensures.disk
+    (not_read g.D.Disk g.S.Source c.args.is_left c.args.now c.args.disk c.args.disk c.args.scripts.now.items c.read_scripts.new.scripts.items made.result.outcome read.0
+    (record { number = read.1; texts_are = read.2 }) c.in-Err.end made.ensures.whole
     (record { image = λ t. refl; past = λ t. refl; history = made.ensures.history; told = made.ensures.told })
-    refl (made.ensures.text ∙ c.new.ensures.items) made.ensures.end read.3
+    refl made.ensures.text made.ensures.end read.3)

@@ -1,4 +1,4 @@
-use Rattle.std.proofs.Common.{length, ap, arith}
+use Rattle.std.proofs.Common.{arith}
 use Rattle.std.proofs.lemmas.Result.{err_from_is_err_and}
 use Rattle.jfs_command.proofs.Scripted.{one_read, one_failed, all_read, plan_is, same_faults, grows, too_many, no_memory}
 use Rattle.jfs_command.proofs.scripts.read_scripts.Goals as goal
@@ -36,23 +36,17 @@ loop-i-preserved g c =
       read = rw c.in-Ok.ensures.items (one_read g.S.Source c.args.scripts.now.items c.loop-i.scripts.items c.loop-i.i c.loop-i.plan.items inv.read (omega (arith, c.loop-i-test.true, inv.count, inv.read.size)) c.index_mut.result.now c.index_mut.ensures.value c.read_one.new.script
           c.in_ok-lines.lines ends.0 ends.1 ends.2.0 ends.2.1 c.in_ok-lines.ensures.lines);
       count = inv.count;
+      some = inv.some;
       few = inv.few;
-      same = λ none. let e = ap length none in absurd (omega (arith, e, inv.count, c.loop-i-test.true));
     }
 
 pub returns-clause-ends : goal.returns-clause-ends
 returns-clause-ends g c =
     let inv = c.loop-i.invariant in
-    all_read g.S.Source c.args.scripts.now.items c.loop-i.scripts.items c.loop-i.i c.loop-i.plan inv.read (omega (arith, c.loop-i-test.false, inv.count)) (omega (arith, c.loop-i.auto.i-end, inv.count)) (omega (arith, inv.few, inv.count))
+    all_read g.S.Source c.args.scripts.now.items c.loop-i.scripts.items c.loop-i.i c.loop-i.plan inv.read (omega (arith, c.loop-i-test.false, inv.count)) (omega (arith, c.loop-i.auto.i-end, inv.count)) (omega (arith, inv.some, inv.count)) (omega (arith, inv.few, inv.count))
 
 pub returns-clause-plan : goal.returns-clause-plan
-returns-clause-plan g c = plan_is g.S.Source c.args.scripts.now.items c.loop-i.scripts.items c.loop-i.i c.loop-i.plan.items c.loop-i.invariant.read (omega (arith, c.loop-i.auto.i-end, c.loop-i.invariant.few))
+returns-clause-plan g c = plan_is g.S.Source c.args.scripts.now.items c.loop-i.scripts.items c.loop-i.i c.loop-i.plan.items c.loop-i.invariant.read (omega (arith, c.loop-i-test.false, c.loop-i.invariant.some)) (omega (arith, c.loop-i.auto.i-end, c.loop-i.invariant.few))
 
 pub returns-clause-later : goal.returns-clause-later
 returns-clause-later g c = same_faults g.S.Source c.args.scripts.now.items c.loop-i.scripts.items c.loop-i.i c.loop-i.plan.items c.loop-i.invariant.read
-
-pub returns-in_err-lines-clause-none : goal.returns-in_err-lines-clause-none
-returns-in_err-lines-clause-none g c = λ none. let e = ap length none in absurd (omega (arith, e, c.loop-i.invariant.count, c.loop-i-test.true))
-
-pub returns-in-Err-clause-none : goal.returns-in-Err-clause-none
-returns-in-Err-clause-none g c = λ none. let e = ap length none in absurd (omega (arith, e, c.loop-i.invariant.count, c.loop-i-test.true))

@@ -1,4 +1,4 @@
-use Rattle.std.proofs.Common.{◌≡◌, ◌≤◌, [], length}
+use Rattle.std.proofs.Common.{◌≡◌, ◌≤◌, ◌<◌, length}
 use Rattle.jfs_command.proofs.Scripted.{IsRead}
 use Rattle.jfs_command.proofs.scripts.read_scripts.Given as goal
 
@@ -7,6 +7,6 @@ abbrev pub invariant-loop-i : goal.invariant-loop-i
 invariant-loop-i g l = record {
   read : IsRead g.S.Source l.initial.scripts.items l.scripts.items l.i l.plan.items;
   count : l.count ≡ length l.initial.scripts.items;
+  some : 0 < l.count;
   few : l.count ≤ 16;
-  same : l.initial.scripts.items ≡ [] → l.scripts ≡ l.initial.scripts;
 }

@@ -6,5 +6,5 @@ pub returns-clause-complete : goal.returns-clause-complete
 returns-clause-complete g c =
     completes g.D.Disk g.S.Source g.K.Sink (command_of (texts c.args.words.now)) c.args.now
     (record { disk = c.args.disk; scripts = c.args.scripts.now.items; out = c.args.out.now })
-    (record { disk = c.answer.result.disk; scripts = c.answer.new.scripts.items; out = c.answer.new.out })
-    c.answer.result.status c.answer.result.history.items c.answer.result.told.items c.answer.ensures.answer
+    (record { disk = c.answer_alone.result.disk; scripts = c.answer_alone.new.scripts.items; out = c.answer_alone.new.out })
+    c.answer_alone.result.status c.answer_alone.result.history.items c.answer_alone.result.told.items c.answer_alone.ensures.answer

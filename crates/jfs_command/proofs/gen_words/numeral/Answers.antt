@@ -1,7 +1,7 @@
 use Rattle.std.proofs.Common.{◌+◌, ◌-◌, ◌*◌, ◌^◌, ℕ, get_or, inl, inr, arith}
 use Rattle.std.proofs.lemmas.Bool.{cases_lt, and_from, le-leb, lt-ltb}
 use Rattle.jfs_script.proofs.Digits.{goes_on, too_big, all_read}
-use Rattle.jfs_command.proofs.words.numeral.Goals as goal
+use Rattle.jfs_command.proofs.gen_words.numeral.Goals as goal
 
 pub returns-in-None : goal.returns-in-None
 returns-in-None c =

@@ -1,5 +1,5 @@
 use Rattle.jfs_script.proofs.Digits.{IsReadTo}
-use Rattle.jfs_command.proofs.words.numeral.Given as goal
+use Rattle.jfs_command.proofs.gen_words.numeral.Given as goal
 
 abbrev pub invariant-loop-byte : goal.invariant-loop-byte
 invariant-loop-byte l = IsReadTo 10 l.word l.byte-index l.value
