@@ -121,7 +121,7 @@ pub record HasBegun (tells crashes : Type 0) (s : Super) (held : Held) (work : W
   pub told : work.told ≡ []
   pub behind : tells → StaysBehind (blocks_of s) held.image work.held.image
   pub unless : (IsMounted s held.pages → ⊥) → ChangesNothing tells crashes held work
-  -- the next redo takes it up
+  -- on the way it left what may be redone again
   pub meanwhile : StaysRedoable tells crashes s held work.held
 
 -- All but page 8 may be read more than once, and refusals of page 8 and of the maps are of one kind: so a status is judged of a disk that tells alone.
