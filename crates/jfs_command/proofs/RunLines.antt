@@ -32,7 +32,7 @@ use Rattle.jfs_command.specs.declared.outcome.End.TheVariants.{Own, Stopped}
 use Rattle.jfs_command.specs.Count.{Count}
 use Rattle.jfs_command.specs.Held.{Held, Work, ChangesNothing}
 use Rattle.jfs_command.specs.Meaning.{Answer, refused, work_of}
-use Rattle.jfs_command.specs.Redo.{redone_text, is_clean, is_mounted, MountedSays, is_foreign, is_bad, breaks_maps, end_of as redo_end}
+use Rattle.jfs_command.specs.Redo.{redone_text, is_clean, is_mounted, MountedSays, is_foreign, is_bad, breaks_maps, StaysRedoable, end_of as redo_end}
 use Rattle.jfs_command.specs.Superblock.{AfterState}
 use Rattle.jfs_command.specs.Order.{Planned}
 use Rattle.jfs_command.specs.Run.{whole_text, RepliesBy, runs, breaks, Start, cleaned, is_ready, IsRedoneBy, BeginsOn, as_it_is, as_redone, behind, ReadySays, begins, not_redone, LinesSay, HasBegunRedo, RunsOutOn, end_of, text_before, text_of, Tells, DoesOn, StartEnds, DoesLines, LinesEnd}
@@ -187,12 +187,12 @@ module _ (tells crashes : Type 0) (p : Planned) (is_left : Bool) (moment : Momen
 
 -- ---- a volume that wasn't redone
 
-module _ (tells crashes : Type 0) (p : Planned) (is_left : Bool) (moment : Moment) (s : Super) (held left : Held) (mounted : is_mounted s.state.0 ≡ true) (stays : tells → StaysBehind (blocks_of s) held.image left.image) where
+module _ (tells crashes : Type 0) (p : Planned) (is_left : Bool) (moment : Moment) (s : Super) (held left : Held) (mounted : is_mounted s.state.0 ≡ true) (stays : tells → StaysBehind (blocks_of s) held.image left.image) (meanwhile : StaysRedoable tells crashes s held left) where
   abbrev empty : Work
   empty = record { text = []; history = []; told = []; held = left }
 
-  begun : HasBegunRedo tells s held empty
-  begun = record { mounted = mounted; calls = (refl, refl); text = refl; stays = stays }
+  begun : HasBegunRedo tells crashes s held empty
+  begun = record { mounted = mounted; calls = (refl, refl); text = refl; stays = stays; meanwhile = meanwhile }
 
   is_ready_now : is_ready s.state.0 ≡ true
   is_ready_now = rw (not_clean s.state.0 mounted, mounted) refl

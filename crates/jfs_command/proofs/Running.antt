@@ -5,6 +5,8 @@ use Rattle.jfs_bits.specs.Count.{Rose}
 use Rattle.jfs_bits.specs.Broken.{first_broken}
 use Rattle.jfs_bits.specs.declared.descriptor.Moment.{Moment}
 use Rattle.jfs_disk.specs.Image.{Image, page_of, ArePages}
+use Rattle.jfs_disk.specs.Crash.{DiskState, last_of}
+use Rattle.jfs_disk.specs.Moment.{IsResting}
 use Rattle.jfs_disk.specs.declared.disk.Disk.{Ghosts}
 use Rattle.jfs_findings_new.specs.meaning.specs.Image.{IsConsistentImage}
 use Rattle.jfs_findings_new.specs.mount_rules.specs.Subject.{subject_of}
@@ -18,6 +20,7 @@ use Rattle.jfs_super.specs.declared.read.BadSuper.{BadSuper}
 use Rattle.jfs_super.specs.Super.{super_of}
 use Rattle.jfs_super.specs.Rules.{rows, blocks_of, IsAccepted}
 use Rattle.jfs_redo.specs.Redo.{StaysBehind}
+use Rattle.jfs_redo.specs.Partly.{IsRedoneMeanwhile}
 use Rattle.jfs_super.proofs.Rules.{accepted_pages}
 use Rattle.jfs_command.specs.declared.status.Status.{Status}
 use Rattle.jfs_command.specs.declared.status.Status.TheVariants as statuses
@@ -191,12 +194,14 @@ module _ {D : Type 0} (d : Ghosts D) (old mid new : D) (s : Super) (p : Planned)
     ),
   ))
 
-  begun : HasBegunRedo d.tells s (held_of d mid) work → HasBegunRedo d.tells (superblock_of found.held) found.held work
+  begun : HasBegunRedo d.tells d.tells_crashes s (held_of d mid) work → HasBegunRedo d.tells d.tells_crashes (superblock_of found.held) found.held work
   begun did = record {
     mounted = subst (λ (u : Super). is_mounted u.state.0 ≡ true) (sym found.block) did.mounted;
     calls = did.calls;
     text = did.text;
     stays = λ t. from_mid (λ (u : Super) (i : Image). StaysBehind (blocks_of u) i (d.image new)) t (did.stays t);
+    meanwhile = λ t k rests. from_mid (λ (u : Super) (i : Image). IsRedoneMeanwhile u i found.held.past (d.past new)) t
+        (subst (λ (before : List DiskState). IsResting (last_of before) → IsRedoneMeanwhile s (d.image mid) before (d.past new)) (ran.past k ∙ sym (found.is.past k)) (did.meanwhile t k) rests);
   }
 
   stops_by : (P Q : Start → Type 0) → ((start : Start) (first : AtFirst start) → P start → Q first.at) → StopsBy d.tells d.tells_crashes P s (held_of d mid) work → StopsBy d.tells d.tells_crashes Q (superblock_of found.held) found.held work

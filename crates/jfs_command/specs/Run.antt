@@ -30,7 +30,7 @@ use Rattle.jfs_command.specs.Status.{Refuses, IsOwn, kind_of}
 use Rattle.jfs_command.specs.Count.{Count, Faults, Stays, HasRisen}
 use Rattle.jfs_command.specs.Held.{Held, Work, ChangesNothing}
 use Rattle.jfs_command.specs.Meaning.{Meaning, Answer, finished, refused}
-use Rattle.jfs_command.specs.Redo.{redone_text, is_clean, is_mounted, Commits, MountedSays}
+use Rattle.jfs_command.specs.Redo.{redone_text, is_clean, is_mounted, Commits, MountedSays, StaysRedoable}
 use Rattle.jfs_command.specs.declared.printed.Printed.{Printed}
 use Rattle.jfs_command.specs.declared.printed.Printed.TheVariants.{History, Summary}
 use Rattle.jfs_command.specs.Order.{Planned, Order, by_scripts, Asks, IsTaken}
@@ -191,11 +191,12 @@ abbrev pub MayBegin : (tells : Type 0) → Start → Type 0
 MayBegin tells start = tells → broken_mount (subject_of start.super (page_of start.image)) ≡ None
 
 -- The volume was to be redone, and that was stopped: nothing was called, and the log and all else behind the file system part is as it was.
-pub record HasBegunRedo (tells : Type 0) (s : Super) (held : Held) (work : Work) : Type 0 where
+pub record HasBegunRedo (tells crashes : Type 0) (s : Super) (held : Held) (work : Work) : Type 0 where
   pub mounted : is_mounted s.state.0 ≡ true
   pub calls : NoCalls (calls_of work)
   pub text : work.text ≡ []
   pub stays : tells → StaysBehind (blocks_of s) held.image work.held.image
+  pub meanwhile : StaysRedoable tells crashes s held work.held
 
 -- the disk failed before the volume was mounted, and no line was called; or later, and then each was
 pub record FailsOn (tells : Type 0) (p : Planned) (now : Moment) (start : Start) (work : Work) : Type 0 where
@@ -214,7 +215,7 @@ pub record RunsOutOn (disk : Count) (tells : Type 0) (p : Planned) (now : Moment
 -- nothing was done yet; or redo was stopped; or the calls were
 abbrev pub Stopped : (tells crashes : Type 0) → (Start → Type 0) → Super → Held → Work → Type 0
 Stopped tells crashes calls s held work =
-    ((work.text ≡ []) × ChangesNothing tells crashes held work) ⊎ (HasBegunRedo tells s held work ⊎ ((start : Start) × BeginsOn tells s held.image start × calls start))
+    ((work.text ≡ []) × ChangesNothing tells crashes held work) ⊎ (HasBegunRedo tells crashes s held work ⊎ ((start : Start) × BeginsOn tells s held.image start × calls start))
 
 pub record HasFailed (tells crashes : Type 0) (order : Order) (now : Moment) (held : Held) (work : Work) : Type 0 where
   pub planned : Planned

@@ -31,7 +31,7 @@ returns-in-Err-clause-ends g c =
     let made = c.idle in
     let held = held_of d c.args.disk in
     let left = held_of d c.redo.new.disk in
-    let it = stopped d.tells d.tells_crashes (planned c.args.plan.now c.args.printed) c.args.is_left c.args.now s held left c.requires.mounted is.behind (d.fault_count c.args.disk) (d.fault_count c.redo.new.disk) c.in-Err.why is.redone is.same_image is.same_past is.cause in
+    let it = stopped d.tells d.tells_crashes (planned c.args.plan.now c.args.printed) c.args.is_left c.args.now s held left c.requires.mounted is.behind is.moments (d.fault_count c.args.disk) (d.fault_count c.redo.new.disk) c.in-Err.why is.redone is.same_image is.same_past is.cause in
     rw made.ensures.disk
     (subst (λ (e : End). LinesEnd d.tells d.tells_crashes (planned c.args.plan.now c.args.printed) c.args.is_left c.args.now s held (work_of made.result.outcome left) (faults_of d c.args.disk c.redo.new.disk) e) (sym (made.ensures.end ∙ c.end_of.ensures))
     (subst (λ (w : Work). LinesEnd d.tells d.tells_crashes (planned c.args.plan.now c.args.printed) c.args.is_left c.args.now s held w (faults_of d c.args.disk c.redo.new.disk) (end_of c.in-Err.why))
