@@ -16,7 +16,7 @@ pub mod RedoMounted
 pub mod Redoing
 pub mod Scripted
 pub mod RunSaid
-pub mod ToHalt
+pub mod Replies
 pub mod RunLines
 pub mod Running
 pub mod Generating

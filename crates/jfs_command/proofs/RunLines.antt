@@ -35,9 +35,8 @@ use Rattle.jfs_command.specs.Meaning.{Answer, refused, work_of}
 use Rattle.jfs_command.specs.Redo.{redone_text, is_clean, is_mounted, MountedSays, is_foreign, is_bad, breaks_maps, StaysRedoable, end_of as redo_end}
 use Rattle.jfs_command.specs.Superblock.{AfterState}
 use Rattle.jfs_command.specs.Order.{Planned}
-use Rattle.jfs_command.specs.Run.{whole_text, RepliesBy, runs, breaks, Start, cleaned, is_ready, IsRedoneBy, BeginsOn, as_it_is, as_redone, behind, ReadySays, begins, not_redone, LinesSay, HasBegunRedo, RunsOutOn, end_of, text_before, text_of, Tells, DoesOn, StartEnds, DoesLines, LinesEnd}
+use Rattle.jfs_command.specs.Run.{whole_text, AreReplies, runs, breaks, Start, cleaned, is_ready, IsRedoneBy, BeginsOn, as_it_is, as_redone, behind, ReadySays, begins, not_redone, LinesSay, HasBegunRedo, RunsOutOn, end_of, text_before, text_of, Tells, DoesOn, StartEnds, DoesLines, LinesEnd}
 use Rattle.jfs_command.proofs.RedoMounted.{not_clean}
-use Rattle.jfs_command.proofs.ToHalt.{run_to_halt}
 
 -- ---- what became of all lines, or of none, became of a front of them
 
@@ -71,7 +70,7 @@ module _ (tells crashes : Type 0) (p : Planned) (is_left : Bool) (moment : Momen
   called_by (inr (was, may)) = inr (was, may)
 
   abbrev Replies : RunEnd → Type 0
-  Replies end = RepliesBy tells end s held.image moment c.history
+  Replies end = AreReplies tells s held.image moment c.history
 
   abbrev Leaves : RunEnd → Type 0
   Leaves end = tells → IfUnmounted end is_left (LeavesImage s held.image moment c.history left.image)
@@ -111,9 +110,9 @@ module _ (tells crashes : Type 0) (p : Planned) (is_left : Bool) (moment : Momen
 
   -- there was no memory for the text
   without_text : (end : RunEnd) → RunIs tells crashes s p.plan is_left (seen_as held before) (seen_as left now) c end → Replies end → StartEnds tells crashes p is_left moment start held.past (work_of_calls [] c left) count (Stopped stops.Memory)
-  without_text ran.Done is replies = record { called = inr ((whole_begins p.plan c.history is.entries, first_told c is.told), is.mounts); told = inr is.told; calm = inr is.calm; replies = λ t of. run_to_halt s (page_of held.image) moment c.history (replies t of); text = inr refl }
+  without_text ran.Done is replies = record { called = inr ((whole_begins p.plan c.history is.entries, first_told c is.told), is.mounts); told = inr is.told; calm = inr is.calm; replies = replies; text = inr refl }
   without_text (ran.BadImage bad) is replies =
-      record { called = inl (is.calls, λ t n _ _. ap (λ (i : Image). page_of i n) (is.image t)); told = inr (all_of_none c is.calls); calm = inr (ap any_failed is.calls.0); replies = λ t of. inl (replies t of); text = inr refl }
+      record { called = inl (is.calls, λ t n _ _. ap (λ (i : Image). page_of i n) (is.image t)); told = inr (all_of_none c is.calls); calm = inr (ap any_failed is.calls.0); replies = replies; text = inr refl }
   without_text ran.Disk is replies = record { called = called_by (some_of is.done); told = inl is.rose; calm = inl is.rose; replies = replies; text = inr refl }
   without_text ran.Memory is replies = record { called = called_by is.done; told = is.told; calm = is.calm; replies = replies; text = inr refl }
 

@@ -11,7 +11,7 @@ use Rattle.jfs_disk.specs.declared.disk.Disk.{Ghosts}
 use Rattle.jfs_findings_new.specs.meaning.specs.Image.{IsConsistentImage}
 use Rattle.jfs_findings_new.specs.mount_rules.specs.Subject.{subject_of}
 use Rattle.jfs_findings_new.specs.mount_rules.specs.Mount.{broken_mount}
-use Rattle.jfs_run.specs.Legal.{IsLegalRun, LeavesImage, IsLegalRunToHalt}
+use Rattle.jfs_run.specs.Legal.{IsLegalRun, LeavesImage}
 use Rattle.jfs_run.specs.Run.{StayBeside}
 use Rattle.jfs_io.specs.declared.source.Source.{Ghosts as SourceMembers}
 use Rattle.jfs_plain.specs.declared.call.Line.{Line}
@@ -38,7 +38,7 @@ use Rattle.jfs_command.specs.Scripts.{ScriptsEnd}
 use Rattle.jfs_command.specs.Superblock.{superblock_of, AfterRules, Looks}
 use Rattle.jfs_command.specs.Top.{PerformsBy}
 use Rattle.jfs_command.specs.Order.{Planned, Order, by_scripts, Asks}
-use Rattle.jfs_command.specs.Run.{IsOfScripts, front_text, whole_text, calls_of, Start, cleaned, is_ready, IsRedoneBy, BeginsOn, as_it_is, as_redone, AreReplies, AreRepliesToHalt, CallsNone, MayBegin, LinesSay, RunSays, refuses, takes, HasRun, HasOnlyRedone, BeginsOnRedone, Runs, Spares, HasBegunRedo, FailsOn, RunsOutOn, Stopped as StopsBy, HasFailed, HasRunOut, DoesLines, LinesEnd, run_meaning}
+use Rattle.jfs_command.specs.Run.{IsOfScripts, front_text, whole_text, calls_of, Start, cleaned, is_ready, IsRedoneBy, BeginsOn, as_it_is, as_redone, AreReplies, CallsNone, MayBegin, LinesSay, RunSays, refuses, takes, HasRun, HasOnlyRedone, BeginsOnRedone, Runs, Spares, HasBegunRedo, FailsOn, RunsOutOn, Stopped as StopsBy, HasFailed, HasRunOut, DoesLines, LinesEnd, run_meaning}
 use Rattle.jfs_command.proofs.SuperblockLemmas.{same_first}
 use Rattle.jfs_command.proofs.Evidence.{held_as, some_held, has_page8}
 use Rattle.jfs_command.proofs.Looking.{ShowsSame, faults_of, ends_as, Seen, seen, goes_on}
@@ -133,9 +133,6 @@ module _ {D : Type 0} (d : Ghosts D) (old mid new : D) (s : Super) (p : Planned)
     replies : AreReplies d.tells start.super start.image now outcome.history.items → AreReplies d.tells first.at.super first.at.image now outcome.history.items
     replies did = λ t. back (λ st. IsConsistentImage st.super (page_of st.image) → IsLegalRun st.super (page_of st.image) now outcome.history.items) t (did t)
 
-    replies_to_halt : AreRepliesToHalt d.tells start.super start.image now outcome.history.items → AreRepliesToHalt d.tells first.at.super first.at.image now outcome.history.items
-    replies_to_halt did = λ t. back (λ st. IsConsistentImage st.super (page_of st.image) → IsLegalRunToHalt st.super (page_of st.image) now outcome.history.items) t (did t)
-
     called : {A : Type 0} → CallsNone d.tells start work ⊎ (A × MayBegin d.tells start) → CallsNone d.tells first.at work ⊎ (A × MayBegin d.tells first.at)
     called (inl none) = inl (none.0, λ t. back (λ st. StayBeside st.super st.image (d.image new)) t (none.1 t))
     called (inr (was, may)) = inr (was, λ t. back (λ st. broken_mount (subject_of st.super (page_of st.image)) ≡ None) t (may t))
@@ -159,10 +156,10 @@ module _ {D : Type 0} (d : Ghosts D) (old mid new : D) (s : Super) (p : Planned)
     only_redone did = record { history = did.history; told = did.told; text = did.text ∙ sym first.text; image = λ t. back (λ st. d.image new ≡ st.image) t (did.image t); stable = did.stable }
 
     fails : FailsOn d.tells p now start work → FailsOn d.tells p now first.at work
-    fails did = record { called = called did.called; replies = replies_to_halt did.replies; text = behind_first (front_text p.printed (calls_of work)) did.text }
+    fails did = record { called = called did.called; replies = replies did.replies; text = behind_first (front_text p.printed (calls_of work)) did.text }
 
     runs_out : RunsOutOn (faults_of d mid new) d.tells p now start work → RunsOutOn (faults_of d old new) d.tells p now first.at work
-    runs_out did = record { called = called did.called; told = told_by did.told; calm = told_by did.calm; replies = replies_to_halt did.replies; text = text_by did.text }
+    runs_out did = record { called = called did.called; told = told_by did.told; calm = told_by did.calm; replies = replies did.replies; text = text_by did.text }
       where
         told_by : {A : Type 0} → HasRisen (faults_of d mid new) ⊎ A → HasRisen (faults_of d old new) ⊎ A
         told_by (inl rose) = inl (risen rose)

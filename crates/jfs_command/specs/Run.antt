@@ -18,7 +18,7 @@ use Rattle.jfs_script.specs.History.{history_text, done_text}
 use Rattle.jfs_run.specs.declared.run.RunEnd.{RunEnd}
 use Rattle.jfs_run.specs.declared.run.RunEnd.TheVariants as ran
 use Rattle.jfs_run.specs.Calls.{Calls, HaveEntries, AllTold, NoCalls, AllCalled, SomeCalled, any_failed}
-use Rattle.jfs_run.specs.Legal.{IsLegalRun, LeavesImage, IsLegalRunToHalt, LegalBy}
+use Rattle.jfs_run.specs.Legal.{IsLegalRun, LeavesImage}
 use Rattle.jfs_run.specs.Run.{StayBeside}
 use Rattle.jfs_command.specs.declared.status.Status.{Status}
 use Rattle.jfs_command.specs.declared.status.Status.TheVariants as statuses
@@ -142,11 +142,7 @@ calls_of work = record { history = work.history; told = work.told }
 abbrev pub AreReplies : (tells : Type 0) → Super → Image → Moment → List Entry → Type 0
 AreReplies tells s image now history = tells → IsConsistentImage s (page_of image) → IsLegalRun s (page_of image) now history
 
--- So are those up to where the volume halted, if it did; each call behind that was refused for the fault, or changes nothing.
-abbrev pub AreRepliesToHalt : (tells : Type 0) → Super → Image → Moment → List Entry → Type 0
-AreRepliesToHalt tells s image now history = tells → IsConsistentImage s (page_of image) → IsLegalRunToHalt s (page_of image) now history
-
--- Each client's lines were called, one after the other, each entry that waits was told durable, and the text is that of both. Unless the volume was to be left, it was unmounted: page 8 is the one that it had, and a crash leaves all of the disk, which is an image of the tree behind the last reply.
+-- Each client's lines were called, in their order, each entry that waits was told durable, and the text is that of both. Unless the volume was to be left, it was unmounted: page 8 is the one that it had, and a crash leaves all of the disk, which is an image of the tree behind the last reply.
 pub record HasRun (tells crashes : Type 0) (p : Planned) (is_left : Bool) (now : Moment) (start : Start) (work : Work) : Type 0 where
   pub entries : HaveEntries p.plan work.history
   pub told : AllTold (calls_of work)
@@ -201,7 +197,7 @@ pub record HasBegunRedo (tells crashes : Type 0) (s : Super) (held : Held) (work
 -- the disk failed before the volume was mounted, and no line was called; or later, and then each was
 pub record FailsOn (tells : Type 0) (p : Planned) (now : Moment) (start : Start) (work : Work) : Type 0 where
   pub called : CallsNone tells start work ⊎ (AllCalled p.plan (calls_of work) × MayBegin tells start)
-  pub replies : AreRepliesToHalt tells start.super start.image now work.history
+  pub replies : AreReplies tells start.super start.image now work.history
   pub text : work.text ≡ start.text ++ front_text p.printed (calls_of work)
 
 -- Memory ran out: a front of each client's lines was called, and unless a call on the disk failed each of their entries that waits was told, and none was refused for a fault. Where there was none for the text, none is printed.
@@ -209,7 +205,7 @@ pub record RunsOutOn (disk : Count) (tells : Type 0) (p : Planned) (now : Moment
   pub called : CallsNone tells start work ⊎ (SomeCalled p.plan (calls_of work) × MayBegin tells start)
   pub told : HasRisen disk ⊎ AllTold (calls_of work)
   pub calm : HasRisen disk ⊎ (any_failed work.history ≡ false)
-  pub replies : AreRepliesToHalt tells start.super start.image now work.history
+  pub replies : AreReplies tells start.super start.image now work.history
   pub text : (work.text ≡ start.text ++ front_text p.printed (calls_of work)) ⊎ (work.text ≡ [])
 
 -- nothing was done yet; or redo was stopped; or the calls were
@@ -250,10 +246,6 @@ end_of ran.Done = Own statuses.Done
 end_of (ran.BadImage bad) = Own (statuses.BadImage bad.page bad.rule bad.value)
 end_of ran.Disk = ByStop stops.Disk
 end_of ran.Memory = ByStop stops.Memory
-
--- the replies of a run, by its end
-abbrev pub RepliesBy : (tells : Type 0) → RunEnd → Super → Image → Moment → List Entry → Type 0
-RepliesBy tells end s image now history = tells → IsConsistentImage s (page_of image) → LegalBy end s (page_of image) now history
 
 -- the line of a redo, if there was one
 abbrev pub text_before : Option ℕ → List ℕ
