@@ -1,70 +1,122 @@
-use Rattle.std.proofs.Common.{◌≡◌, ◌⊎◌, ◌∙◌, ◌+◌, ◌-◌, ◌^◌, ℕ, false, refl, sym, ap, subst}
-use Rattle.std.specs.Prelude.{min, None}
-use Rattle.jfs_bits.specs.Count.{Rose}
-use Rattle.jfs_legal.specs.served.specs.halves.specs.Parts.{Parts}
-use Rattle.jfs_legal.specs.served.specs.volume_calls.specs.Together.{log_parts}
-use Rattle.jfs_run.specs.Growth.{Grows}
+use Rattle.std.proofs.Common.{◌≡◌, ◌∙◌, ◌++◌, ℕ, List, length, refl, sym, ap, subst, ⊎_elim, inl, inr, arith}
+use Rattle.std.specs.Prelude.{Bool}
+use Rattle.std.proofs.lemmas.List.{length-map}
+use Rattle.std.specs.Global.{Vec}
+use Rattle.jfs_disk.specs.Image.{page_of}
+use Rattle.jfs_plain.specs.declared.call.Entry.{Entry}
+use Rattle.jfs_plain.specs.declared.call.Line.{Line}
+use Rattle.jfs_mount.specs.meaning.specs.Image.{volume_of}
+use Rattle.jfs_server.specs.shared.specs.legal.proofs.Known.{laws}
+use Rattle.jfs_server.specs.shared.specs.legal.specs.served.specs.volume_calls.specs.Together.{log_parts}
+use Rattle.jfs_run.specs.Ending.{end_after}
+use Rattle.jfs_run.specs.Legal.{all_at}
+use Rattle.jfs_run.specs.Mounted.{State, state, Few}
 use Rattle.jfs_run.specs.Run.{seen}
-use Rattle.jfs_run.specs.Serving.{state}
-use Rattle.jfs_run.specs.Tasks.{plan_of, tasks_from}
-use Rattle.jfs_run.specs.Ending.{IsEnded, end_after}
-use Rattle.jfs_run.specs.Legal.{WasUnmounted}
-use Rattle.jfs_legal.proofs.Known.{laws}
-use Rattle.jfs_run.proofs.Left.{behind}
-use Rattle.jfs_run.proofs.Legally.{begins_with, lines_legal, lines_on}
-use Rattle.jfs_run.proofs.Ended.{run_ends, served_rises, joint, runs, calm, unrisen, done_through, all_of}
+use Rattle.jfs_run.specs.Tasks.{plan_of}
+use Rattle.jfs_run.specs.Telling.{marks_of, told_from, marks_in, marks_left}
+use Rattle.jfs_run.proofs.Ended.{HasRun, has_run, rising, run_ends, done_through, neither, runs, calm, unrisen, halt_rose}
+use Rattle.jfs_run.proofs.Legally.{legal_by, ends_on}
+use Rattle.jfs_run.proofs.Replied.{legal_to_halt, legal_whole, legal_running, replied}
+use Rattle.jfs_run.proofs.Since.{few_of, rose_before}
+use Rattle.jfs_run.proofs.run.run_mounted.Given.{Over}
 use Rattle.jfs_run.proofs.run.run_mounted.Goals as goal
 
-pub returns-clause-rising : goal.returns-clause-rising
-returns-clause-rising g c =
-    let d = g.D.Disk in
-    served_rises (state d c.args.m.volume c.args.m.log) (state d c.serve_all-served.new.m.volume c.serve_all-served.new.m.log) (tasks_from 1 (plan_of c.args.scripts.now)) c.serve_all-served.new.told.items c.serve_all-served.result c.serve_all-served.ensures.served
+pub tell-requires-clause-clients : goal.tell-requires-clause-clients
+tell-requires-clause-clients g c =
+    let many = c.serve-mounted.ensures.served.few.0 in
+    let most = c.requires.plan.clients.1 in
+    let same = length-map c.args.scripts.now (λ (script : Vec Line). script.items) in
+    let slice = ap length c.as_slice-2.ensures.value in
+    omega (arith, many, most, same, slice)
+
+pub tell-requires-clause-room : goal.tell-requires-clause-room
+tell-requires-clause-room g c =
+    let few = c.serve-mounted.ensures.served.few.1 in
+    let room = c.requires.capacity.0 in
+    let none = ap length c.requires.none in
+    let len = c.args.taken.told.ok.0 in
+    let slice = ap (λ ms. marks_left (marks_in ms)) c.as_slice-2.ensures.value in
+    omega (arith, few, room, none, len, slice)
+
+-- ---- the run
+
+abbrev first : (g : Over) → goal.After-drop-point-2 g → State
+first g c = state g.D.Disk c.args.m.volume c.args.m.log
+
+abbrev last : (g : Over) → goal.After-drop-point-2 g → State
+last g c = state g.D.Disk c.make_durable.new.m.volume c.make_durable.new.m.log
+
+few : (g : Over) (c : goal.After-drop-point-2 g) → Few (first g c)
+few g c = few_of (first g c) (let before = c.requires.before in let fits = c.ranges.before.fits in omega (arith, before, fits))
+
+run : (g : Over) (c : goal.After-drop-point-2 g) → HasRun (plan_of c.args.scripts.now) (first g c) c.serve-mounted.result.history.items c.tell.new.told.items c.serve-mounted.result.is_whole (last g c)
+run g c =
+    let x = c.serve-mounted.result in
+    let marks = c.serve-mounted.new.marks.items in
+    let e = c.make_durable.ensures in
+    let told : c.tell.new.told.items ≡ told_from 1 c.make_durable.new.m.log.durable (marks_of (marks_in marks) x.history.items) =
+    c.tell.ensures ∙ ap (λ (ns : List ℕ). ns ++ told_from 1 c.durable.result (marks_of (marks_in c.as_slice-2.result.now) c.as_slice.result.now)) c.requires.none
+    ∙ subst {A = ℕ × List (Vec Bool) × List Entry} (λ z. told_from 1 z.0 (marks_of (marks_in z.1) z.2) ≡ told_from 1 c.make_durable.new.m.log.durable (marks_of (marks_in marks) x.history.items)) (λ i. (sym c.durable.ensures i, sym c.as_slice-2.ensures.value i, sym c.as_slice.ensures.value i)) refl in
+    has_run g.D.Disk c.args.scripts.now c.args.now g.I.MountedFrom.image g.I.MountedFrom.block (first g c) (few g c) marks x (last g c) c.tell.new.told.items e.keeps e.halted e.durable e.appended told c.serve-mounted.ensures.served
 
 pub returns-clause-ran : goal.returns-clause-ran
 returns-clause-ran g c =
     let d = g.D.Disk in
-    let high : ℕ = d.fault_count c.serve_all-served.new.m.log.part in
-    let new = seen d c.end-ended.result.disk in
-    let rest = c.take_entries-history.ensures.rest in
-    rw (c.end_after-end.ensures, c.faults.ensures, c.take_entries-history.ensures.entries) (
-    run_ends d.tells d.tells_crashes c.args.taken.superblock.0 (plan_of c.args.scripts.now) c.args.is_left c.end-ended.result.is_full (state d c.args.m.volume c.args.m.log) (state d c.serve_all-served.new.m.volume c.serve_all-served.new.m.log) c.args.before c.requires.before
-    c.ranges.before.fits c.serve_all-served.new.told.items new
-    (subst (λ (v : Parts). Grows (min (v.faults + high) (2 ^ 64 - 1)) new.faults) rest c.end-ended.ensures.faults)
-    (subst (λ (v : Parts). c.args.is_left ≡ false → v.halted ≡ None → c.end-ended.result.is_full ≡ false →
-    Rose (min (v.faults + high) (2 ^ 64 - 1)) new.faults ⊎ IsEnded d.tells d.tells_crashes c.args.taken.superblock.0 (min (v.faults + high) (2 ^ 64 - 1)) new) rest c.end-ended.ensures.ended)
-    c.serve_all-served.result c.serve_all-served.ensures.served
-    )
+    let x = c.serve-mounted.result in
+    rw (c.end_after-end.ensures, c.faults.ensures)
+    (run_ends d.tells d.tells_crashes c.args.taken.superblock.0 (plan_of c.args.scripts.now) c.args.is_left x.is_broken_off c.end-ended.result.is_full (first g c) (last g c) c.args.before c.requires.before c.ranges.before.fits
+    x.history.items c.tell.new.told.items x.is_whole (run g c) (seen d c.end-ended.result.disk) c.end-ended.ensures.faults c.end-ended.ensures.ended)
 
 pub returns-clause-legal : goal.returns-clause-legal
-returns-clause-legal g c = λ t area log_pages may.
-    let volume = c.args.m.volume in
-    rw c.take_entries-history.ensures.entries
-    (lines_legal laws area log_pages c.args.now volume c.serve_all-served.new.m.volume c.serve_all-served.result
-    (c.serve_all-served.ensures.legal t area log_pages volume (begins_with laws area log_pages c.args.now volume volume.entries c.requires.fresh.entries may)))
+returns-clause-legal g c = λ t consistent.
+    let d = g.D.Disk in
+    let x = c.serve-mounted.result in
+    let s = g.I.MountedFrom.block in
+    let image = g.I.MountedFrom.image in
+    let marks = c.serve-mounted.new.marks.items in
+    let served = c.serve-mounted.ensures.served in
+    rw c.end_after-end.ensures
+    (legal_by s (page_of image) c.args.now x.history.items x.is_whole x.is_broken_off c.end-ended.result.is_full c.args.before c.faults.result
+    (legal_to_halt d c.args.scripts.now c.args.now image s (first g c) marks x t consistent served) (legal_whole d c.args.scripts.now c.args.now image s (first g c) marks x t consistent served))
+
+pub returns-clause-unbroken : goal.returns-clause-unbroken
+returns-clause-unbroken g c = λ t consistent.
+    let d = g.D.Disk in
+    let x = c.serve-mounted.result in
+    let s = g.I.MountedFrom.block in
+    let image = g.I.MountedFrom.image in
+    let marks = c.serve-mounted.new.marks.items in
+    let served = c.serve-mounted.ensures.served in
+    let total : ℕ = d.fault_count c.end-ended.result.disk in
+    ⊎_elim
+    (λ runs. inr (legal_running d c.args.scripts.now c.args.now image s (first g c) marks x t consistent served runs))
+    (λ rose. inl (halt_rose (first g c) (last g c) c.args.before c.requires.before c.ranges.before.fits (plan_of c.args.scripts.now) x.history.items c.tell.new.told.items x.is_whole (run g c) total c.end-ended.ensures.faults
+    (rose_before (first g c) (state d x.mounted.volume x.mounted.log) (last g c) (few g c) served.since c.make_durable.ensures.keeps rose)))
+    served.since.halted
 
 pub returns-clause-leaves : goal.returns-clause-leaves
-returns-clause-leaves g c = λ t done left s area may knows is.
+returns-clause-leaves g c = λ t is done left consistent whole_files.
     let d = g.D.Disk in
-    let high : ℕ = d.fault_count c.serve_all-served.new.m.log.part in
-    let volume = c.args.m.volume in
-    let first = state d volume c.args.m.log in
-    let now = state d c.serve_all-served.new.m.volume c.serve_all-served.new.m.log in
-    let told = c.serve_all-served.new.told.items in
-    let lines = tasks_from 1 (plan_of c.args.scripts.now) in
+    let x = c.serve-mounted.result in
+    let s = g.I.MountedFrom.block in
+    let image = g.I.MountedFrom.image in
+    let marks = c.serve-mounted.new.marks.items in
+    let served = c.serve-mounted.ensures.served in
+    let full = c.end-ended.result.is_full in
+    let before : ℕ = c.args.before in
     let total : ℕ = d.fault_count c.end-ended.result.disk in
-    let image = d.image c.end-ended.result.disk in
-    let log = log_parts d c.serve_all-served.new.m.log in
-    let rest = c.take_entries-history.ensures.rest in
-    let through = done_through c.serve_all-served.result c.end-ended.result.is_full c.args.before total (sym (ap (λ (n : ℕ). end_after c.serve_all-served.result c.end-ended.result.is_full c.args.before n) c.faults.ensures) ∙ sym c.end_after-end.ensures ∙ done) in
-    let served = all_of first now lines told c.serve_all-served.result through.all c.serve_all-served.ensures.served in
-    let grown : Grows (joint now) total = subst (λ (v : Parts). Grows (min (v.faults + high) (2 ^ 64 - 1)) total) rest c.end-ended.ensures.faults in
-    let runs_on = runs first now c.args.before c.requires.before c.ranges.before.fits lines told served total grown through.same through.below in
-    let ended = unrisen first now c.args.before c.requires.before c.ranges.before.fits lines told served total grown through.same through.below total refl
-    (subst (λ (v : Parts). v.halted ≡ None → Rose (min (v.faults + high) (2 ^ 64 - 1)) total ⊎ WasUnmounted d.tells d.tells_crashes c.args.taken.superblock.0 c.take_entries-history.new.self log image) rest
-    (λ none. c.end-ended.ensures.leaves t left none through.room) runs_on) in
-    rw c.take_entries-history.ensures.entries
-    (behind laws d.tells d.tells_crashes t s area c.args.now c.args.taken.superblock.0 volume c.serve_all-served.new.m.volume c.take_entries-history.new.self log image knows is
-    (calm first now c.args.before c.requires.before c.ranges.before.fits lines told served total grown through.same through.below)
-    (lines_on laws area s.logpxd.len c.args.now volume c.serve_all-served.new.m.volume c.serve_all-served.result through.all
-    (c.serve_all-served.ensures.legal t area s.logpxd.len volume (begins_with laws area s.logpxd.len c.args.now volume volume.entries c.requires.fresh.entries may)))
-    rest ended)
+    let plan = plan_of c.args.scripts.now in
+    let history = x.history.items in
+    let told = c.tell.new.told.items in
+    let grown = c.end-ended.ensures.faults in
+    let through = done_through x.is_whole x.is_broken_off full before total (sym (ap (λ (n : ℕ). end_after x.is_whole x.is_broken_off full before n) c.faults.ensures) ∙ sym c.end_after-end.ensures ∙ done) in
+    let uncut = neither x.is_broken_off full through.uncut in
+    let r = replied d c.args.scripts.now c.args.now image s (first g c) marks x t consistent served uncut.0 in
+    let runs_on = runs (first g c) (last g c) before c.requires.before c.ranges.before.fits plan history told x.is_whole (run g c) total grown through.same through.below in
+    ends_on s (page_of image) c.args.now x.is_broken_off history x.mounted.volume r laws d.tells d.tells_crashes t c.args.taken.superblock.0 c.make_durable.new.m.volume (log_parts d c.make_durable.new.m.log) (d.image c.end-ended.result.disk) whole_files is
+    (calm (first g c) (last g c) before c.requires.before c.ranges.before.fits plan history told x.is_whole (run g c) total grown through.same through.below)
+    (c.make_durable.ensures.legal t (volume_of s (page_of image)).area s.logpxd.len r.start (all_at c.args.now history) (r.goes_on uncut.0))
+    (unrisen (first g c) (last g c) before c.requires.before c.ranges.before.fits plan history told x.is_whole (run g c) total grown through.same through.below total refl (c.end-ended.ensures.leaves t left runs_on uncut.1))
+
+pub returns-clause-rising : goal.returns-clause-rising
+returns-clause-rising g c = rising c.serve-mounted.result.history.items c.tell.new.told.items (run g c).first_told
