@@ -54,8 +54,11 @@ impl Gate for Meeting {
     }
 }
 
-static ONE: &'static [u8] = b"mkdir /a 0755\ncreate /a/f 0644\nlazy chmod /a/f 0600\nlist /a\nsync\n";
-static TWO: &'static [u8] = b"mkdir /b 0755\nlazy create /b/g 0600\nwrite /b/g 0 4142\nread /b/g 0 2\n";
+static ONE: &'static [u8] =
+    b"mkdir /a 0755\ncreate /a/f 0644\nlazy chmod /a/f 0600\nlist /a\nsync\n";
+
+static TWO: &'static [u8] =
+    b"mkdir /b 0755\nlazy create /b/g 0600\nwrite /b/g 0 4142\nread /b/g 0 2\n";
 
 /// Whether a client's entries stand in the history in the order of its lines, so many, and each done.
 fn has_all(history: &[Entry], client: u32, lines: u32) -> bool {
@@ -75,7 +78,11 @@ fn has_all(history: &[Entry], client: u32, lines: u32) -> bool {
 fn are_told(ran: &Ran<MemDisk>, lines: &[(u32, u32)]) -> bool {
     let mut count = 0;
     for number in ran.told.as_slice() {
-        let Some(entry) = ran.history.as_slice().get((*number as usize).wrapping_sub(1)) else {
+        let Some(entry) = ran
+            .history
+            .as_slice()
+            .get((*number as usize).wrapping_sub(1))
+        else {
             return false;
         };
         if !lines.contains(&(entry.client, entry.line)) {
@@ -96,7 +103,9 @@ fn two_clients_at_once(rt: HostRuntime) {
     scripts.push(two).expect(&rt, "memory");
     let gate = Meeting::new(2);
     let disk = formatted(alloc, &[]).expect(&rt, "a disk");
-    let mut ran = ran_at_once(&rt, alloc, disk, scripts.as_slice(), false, &gate).expect(&rt, "a run");
+    let mut ran = ran_at_once(&rt, alloc, disk, scripts.as_slice(), false, &gate).expect(
+        &rt, "a run",
+    );
     assert!(rt; gate.missed.load(Ordering::SeqCst) == 0);
     assert!(rt; ran.end == RunEnd::Done);
     assert!(rt; ran.history.len() == 9);

@@ -134,7 +134,9 @@ fn run_from<I: MountedFrom, D: Disk + Send, G: Gate + Sync, R: Threads + Wait + 
         Err(end) => return without_entries(alloc, disk, end),
     };
     match mount(alloc, disk, s) {
-        Ok(m) => run_mounted::<I, D, G, R>(rt, alloc, m, taken, scripts, now, is_left, gate, before),
+        Ok(m) => run_mounted::<I, D, G, R>(
+            rt, alloc, m, taken, scripts, now, is_left, gate, before,
+        ),
         Err(not) => without_entries(alloc, not.disk, end_of(not.why)),
     }
 }

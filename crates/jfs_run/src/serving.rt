@@ -60,9 +60,16 @@ pub fn serve<I: MountedFrom, D: Disk + Send, G: Gate + Sync, R: Threads + Wait +
     };
     match Server::start_from::<I>(alloc, m, scripts.len() as u32) {
         Ok((server, passes)) => {
-            let Back { passes, failed } =
-                do_scripts(rt, &server, gate, now, passes, marks, room, scripts);
-            handed_out(alloc, server.stop(passes), marks.as_slice(), scripts, failed)
+            let Back { passes, failed } = do_scripts(
+                rt, &server, gate, now, passes, marks, room, scripts,
+            );
+            handed_out(
+                alloc,
+                server.stop(passes),
+                marks.as_slice(),
+                scripts,
+                failed,
+            )
         }
         Err(m) => {
             room.destroy_empty();
