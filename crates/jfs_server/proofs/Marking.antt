@@ -1,6 +1,6 @@
 -- What a call makes of a client, and of its marks.
 use Rattle.std.proofs.Common.{◌≡◌, ◌⊎◌, ℕ, ◌+◌, Bool, true, false, nat_lt, List, Some, inl, inr, refl, sym, ap, ◌∙◌, arith}
-use Rattle.std.proofs.lemmas.Bool.{false≢true}
+use Rattle.std.proofs.lemmas.Bool.{false≢true, ltb-true, lt-ltb}
 use Rattle.jfs_bits.specs.declared.descriptor.Moment.{Moment}
 use Rattle.jfs_disk.specs.declared.disk.Disk.{Ghosts}
 use Rattle.jfs_groups.specs.declared.log.SharedLog.{SharedLog}
@@ -16,16 +16,16 @@ use Rattle.jfs_server.specs.declared.served.ServedVolume.{ServedVolume}
 
 -- a call that took one of the calls left
 took : (left now : ℕ) → now + 1 ≡ left → nat_lt now left ≡ true
-took left now e = omega (arith, e)
+took left now e = lt-ltb now left (omega (arith, e))
 
-took_none : (left now : ℕ) → now ≡ left → nat_lt now left ≡ false
-took_none left now e = omega (arith, e)
+took_none : (left now : ℕ) → now ≡ left → nat_lt now left ≡ true → ⊥
+took_none left now e took = let less = ltb-true now left took in absurd (omega (arith, e, less))
 
 module _ {D : Type 0} (d : Ghosts D) (old new : State d) (line : ℕ) (request : Request) (reply : Reply) (ack : Ack) (p q : Pass (ServedVolume D) (SharedLog D d) Recorded) where
   called : (joined : Bool) → joined ≡ nat_lt q.calls_left p.calls_left → new.waits ≡ marked joined ack old.waits → new.failed ≡ fails joined ack old.failed
       → HasEntry d (asked p.client line request old.now) reply ack p q ⊎ HasNone d reply ack p q → Joined d line request reply ack old new p q ⊎ Lacked d reply ack old new p q
   called true is waits failed (inl entry) = inl (record { entry = entry; waits = waits; failed = failed })
-  called true is waits failed (inr none) = absurd (false≢true (sym (is ∙ took_none p.calls_left q.calls_left none.1)))
+  called true is waits failed (inr none) = absurd (took_none p.calls_left q.calls_left none.1 (sym is))
   called false is waits failed (inl entry) = absurd (false≢true (is ∙ took p.calls_left q.calls_left entry.1))
   called false is waits failed (inr none) = inr (record { none = none; waits = waits; failed = failed })
 

@@ -4,7 +4,7 @@ pub mod Start
 pub mod Called
 pub mod Stopped
 pub mod Client
-pub mod Clients
+pub mod Running
 -- libraries below, passed on
 pub use Rattle.jfs_clients as clients
 pub use Rattle.jfs_groups as groups

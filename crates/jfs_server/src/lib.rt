@@ -25,15 +25,3 @@ pub mod volume_calls {
 
     pub use jfs_legal::volume_calls::{PointText, commit};
 }
-
-pub mod clients {
-    //! Passed on from `jfs_clients`.
-
-    pub use jfs_clients::run_clients;
-}
-
-pub mod turns {
-    //! Passed on from `jfs_turns`.
-
-    pub use jfs_turns::Based;
-}

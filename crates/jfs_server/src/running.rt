@@ -1,7 +1,7 @@
 //! The clients of a server, at once.
 
 ghost use Rattle.jfs_clients.specs.Ran.{AllMayRun, EachRan};
-ghost use Rattle.jfs_server.specs.Clients.{left_in, did_in};
+ghost use Rattle.jfs_server.specs.Running.{left_in, did_in};
 
 use crate::client::Client;
 use jfs_clients::run_clients;

@@ -1,7 +1,7 @@
 -- A legal history behind calls, groups and syncpoints of many clients.
 use Rattle.std.proofs.Common.{◌≡◌, ◌≤◌, ℕ, suc, List, [], ◌∷◌, ◌++◌, length, take, drop, Bool, Option, Some, None, refl, sym, ap, subst, ◌∙◌, arith}
 use Rattle.std.proofs.lemmas.List.{length-append}
-use Rattle.std.specs.List.{AllByRecursion}
+use Rattle.std.proofs.Math.Seq.{take-length}
 use Rattle.jfs_super.specs.declared.fields.Super.{Super}
 use Rattle.jfs_records.specs.Records.{Noted}
 use Rattle.jfs_legal.specs.served.specs.call.specs.Does.{Does}
@@ -17,7 +17,7 @@ use Rattle.jfs_legal.specs.Until.{AreLegal, GoOn, IsBehindHalt}
 use Rattle.jfs_legal.proofs.Going.{legal_law, call_law, settled_law, pointed_law}
 use Rattle.jfs_legal.proofs.Halted.{behind_more, behind_none, front_more, whole_front, to_halt}
 use Rattle.jfs_shared.specs.Calls.{recorded}
-use Rattle.jfs_shared.specs.Shared.{timed, timed_in, IsBrokenOff, GoesOn, ToHaltLaw, IsServed, broken_by}
+use Rattle.jfs_shared.specs.Shared.{timed, timed_in, IsBrokenOff, GoesOn, ToHaltLaw, RunningLaw, IsServed, broken_by}
 use Rattle.jfs_shared.specs.Entries.{Recorded}
 
 timed_more : (list : List Recorded) (e : Recorded) → timed_in (list ++ e ∷ []) ≡ timed_in list ++ timed e ∷ []
@@ -129,3 +129,7 @@ module _ (tells crashes : Type 0) (told : tells) (s : Super) (page : ℕ → Lis
 pub to_halt_law : ToHaltLaw
 to_halt_law None area log_pages start es p goes = to_halt area log_pages start es (legal_law area log_pages start es p goes)
 to_halt_law (Some n) area log_pages start es p off = record { count = n; within = off.within; legal = off.legal; behind = off.behind }
+
+pub running_law : RunningLaw
+running_law None area log_pages start es p goes runs = legal_law area log_pages start es p goes
+running_law (Some n) area log_pages start es p off runs = subst (λ (front : List Timed). AreLegal area log_pages start front) (ap (λ (k : ℕ). take k es) (off.running runs) ∙ take-length es) off.legal

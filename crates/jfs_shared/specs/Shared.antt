@@ -71,6 +71,10 @@ GoesOn (Some n) area log_pages start es p = IsBrokenOff n area log_pages start e
 abbrev pub ToHaltLaw : Type 0
 ToHaltLaw = (broken_off : Option ℕ) (area : ℕ → ℕ) (log_pages : ℕ) (start : Parts) (es : List Timed) (p : Parts) → GoesOn broken_off area log_pages start es p → AreLegalToHalt area log_pages start es
 
+-- and while the volume runs, all are
+abbrev pub RunningLaw : Type 0
+RunningLaw = (broken_off : Option ℕ) (area : ℕ → ℕ) (log_pages : ℕ) (start : Parts) (es : List Timed) (p : Parts) → GoesOn broken_off area log_pages start es p → p.halted ≡ None → AreLegal area log_pages start es
+
 -- Memory ran out for a call, and the volume runs still: no call is done any more.
 abbrev pub is_over : Option ℕ → Option Fault → Bool
 is_over broken_off halted = is_some broken_off && is_none halted

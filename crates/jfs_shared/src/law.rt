@@ -1,7 +1,7 @@
 //! What follows for a volume and its log that stand for one list.
 
 ghost use Rattle.jfs_shared.specs.Both.{TogetherLaw};
-ghost use Rattle.jfs_shared.specs.Shared.{ToHaltLaw, standing, log_standing};
+ghost use Rattle.jfs_shared.specs.Shared.{RunningLaw, ToHaltLaw, standing, log_standing};
 
 use jfs_disk::Disk;
 
@@ -13,4 +13,9 @@ pub fn values_together_may_commit<D: Disk>()
 /// The entries of a volume are legal up to a halt, whether or not their history broke off.
 pub fn histories_are_legal_to_a_halt()
     ensures { ToHaltLaw }
+{}
+
+/// While it runs, all of them are legal.
+pub fn histories_are_legal_while_a_volume_runs()
+    ensures { RunningLaw }
 {}
