@@ -1,48 +1,145 @@
 -- A run on a mounted volume ends.
-use Rattle.std.proofs.Common.{◌≡◌, ◌⊎◌, ◌+◌, ◌-◌, ◌<◌, ◌≤◌, ◌^◌, refl, sym, subst, ℕ, Bool, true, false, List, [], take, inl, inr, None, arith}
+use Rattle.std.proofs.Common.{◌≡◌, ◌⊎◌, ◌+◌, ◌-◌, ◌<◌, ◌≤◌, ◌^◌, ◌++◌, refl, sym, ap, ◌∙◌, subst, ℕ, suc, Bool, true, false, List, [], ◌∷◌, length, take, inl, inr, None, arith}
 use Rattle.std.specs.Prelude.{◌==◌, ◌||◌, not, min, if◌then◌else◌}
-use Rattle.std.proofs.lemmas.Bool.{cases_eq, eq-eqb, eqb-true, ne_eqb}
+use Rattle.std.proofs.lemmas.Bool.{cases_eq, eq-eqb, eqb-true, ne_eqb, false≢true}
+use Rattle.std.proofs.lemmas.List.{length-map}
+use Rattle.std.specs.Global.{Vec}
 use Rattle.jfs_bits.specs.Count.{Rose}
+use Rattle.jfs_bits.specs.declared.descriptor.Moment.{Moment}
+use Rattle.jfs_disk.specs.Image.{Image}
+use Rattle.jfs_disk.specs.declared.disk.Disk.{Ghosts}
+use Rattle.jfs_super.specs.declared.fields.Super.{Super}
+use Rattle.jfs_plain.specs.declared.call.Entry.{Entry}
 use Rattle.jfs_plain.specs.declared.call.Line.{Line}
 use Rattle.jfs_script.specs.History.{IsRisingFrom}
-use Rattle.jfs_run.specs.Tasks.{Task, tasks_from}
-use Rattle.jfs_run.specs.Calls.{Calls, AllTold, FirstTold, any_failed}
-use Rattle.jfs_run.specs.Growth.{Grows}
-use Rattle.jfs_run.specs.Run.{Seen, IsUnmounted}
-use Rattle.jfs_run.specs.Serving.{State, PartRose, IsTold, HasServed, ServedIs}
+use Rattle.jfs_server.specs.groups.specs.Start.{Grows}
+use Rattle.jfs_server.specs.groups.proofs.Counts.{at_least, rose_on, rose_since, grows_on}
+use Rattle.jfs_server.specs.shared.specs.Entries.{Recorded}
+use Rattle.jfs_server.specs.shared.specs.Shared.{entries_in}
+use Rattle.jfs_run.specs.Calls.{Calls, HaveEntries, HaveFronts, AllTold, FirstTold, AreTakenAs, any_failed}
 use Rattle.jfs_run.specs.Ending.{IsEnded, RunSince, end_after}
-use Rattle.jfs_run.specs.declared.client.Served.{Served}
-use Rattle.jfs_run.specs.declared.client.Served.TheVariants as serves
+use Rattle.jfs_run.specs.Mounted.{State, state, Few, PartRose, Keeps, Since, IsMadeDurable}
+use Rattle.jfs_run.specs.Run.{Seen, IsUnmounted}
+use Rattle.jfs_run.specs.Serving.{IsUncalled, IsCalled, IsServed}
+use Rattle.jfs_run.specs.Tasks.{plan_of}
+use Rattle.jfs_run.specs.Telling.{marks_of, told_from, marks_in}
 use Rattle.jfs_run.specs.declared.run.RunEnd.TheVariants as ends
-use Rattle.jfs_run.proofs.Called.{told_rise}
-use Rattle.jfs_run.proofs.Plans.{fronts, whole as all_called, whole_begins}
-use Rattle.jfs_run.proofs.Counts.{at_least, both_grow, both_rose, rose_on, rose_since, grows_on}
+use Rattle.jfs_run.specs.declared.serving.Called.{Called}
+use Rattle.jfs_run.proofs.Counts.{both_grow, both_rose}
+use Rattle.jfs_run.proofs.Marked.{AreAll, are_all, fronts}
+use Rattle.jfs_run.proofs.Plans.{no_fronts, whole, many_marks}
+use Rattle.jfs_run.proofs.Since.{rose_before, rose_later, since_then, over}
+use Rattle.jfs_run.proofs.Told.{AreReached, told_rise, told_front, told_whole}
+
+abbrev pub calls_of : List Entry → List ℕ → Calls
+calls_of history told = record { history = history; told = told }
+
+-- ---- what was called, and told
+
+-- since the mount
+pub record HasRun (plan : List (List Line)) (first : State) (history : List Entry) (told : List ℕ) (is_whole : Bool) (now : State) : Type 0 where
+  pub fronts : HaveFronts plan history
+  pub whole : is_whole ≡ true → HaveEntries plan history
+  pub first_told : FirstTold (calls_of history told)
+  pub all_told : AllTold (calls_of history told) ⊎ PartRose first now
+  pub calm : (any_failed history ≡ false) ⊎ PartRose first now
+  pub since : Since first now
+
+-- the first n entries are among so many
+reached_by : (n durable : ℕ) (ms : List Bool) → n + length ms ≤ suc durable → AreReached n durable ms
+reached_by n durable [] most = tt
+reached_by n durable (m ∷ ms) most = (λ marked. omega (arith, most), reached_by (suc n) durable ms (omega (arith, most)))
+
+as_many_taken : (es : List Entry) (ws : List Bool) → AreTakenAs es ws → length ws ≡ length es
+as_many_taken [] [] all = refl
+as_many_taken [] (v ∷ vs) all = absurd all
+as_many_taken (x ∷ xs) [] all = absurd all
+as_many_taken (x ∷ xs) (v ∷ vs) all = ap suc (as_many_taken xs vs all.1)
+
+module _ {D : Type 0} (d : Ghosts D) (scripts : List (Vec Line)) (now : Moment) (image : Image) (s : Super) (first : State) (few : Few first) (marks : List (Vec Bool)) (x : Called D d) (new : State) (told : List ℕ)
+    (keeps : Keeps (state d x.mounted.volume x.mounted.log) new) (halted : (new.volume.halted ≡ x.mounted.volume.halted) ⊎ PartRose (state d x.mounted.volume x.mounted.log) new)
+    (made : IsMadeDurable x.failed (state d x.mounted.volume x.mounted.log) new) (appended : new.volume.appended ≡ x.mounted.volume.appended)
+    (told_is : told ≡ told_from 1 new.log.durable (marks_of (marks_in marks) x.history.items)) (served : IsServed d scripts now image s first marks x) where
+  abbrev old : State
+  old = state d x.mounted.volume x.mounted.log
+
+  without_calls : IsUncalled d x → HasRun (plan_of scripts) first x.history.items told x.is_whole new
+  without_calls u =
+      let none : told ≡ [] = told_is ∙ ap (λ (es : List Entry). told_from 1 new.log.durable (marks_of (marks_in marks) es)) u.history in
+      subst {A = List Entry × List ℕ} (λ z. HasRun (plan_of scripts) first z.0 z.1 x.is_whole new) (λ i. (sym u.history i, sym none i)) record {
+        fronts = no_fronts (plan_of scripts);
+        whole = λ is. absurd (false≢true (sym u.is_whole ∙ is));
+        first_told = record { waiting = []; are = tt; count = 0; told_is = refl };
+        all_told = inl (record { waiting = []; are = tt; told_is = refl });
+        calm = inl refl;
+        since = since_then first old new few served.since keeps halted;
+      }
+
+  module _ (c : IsCalled d scripts now image s marks x) where
+    abbrev durable : ℕ
+    durable = x.mounted.log.durable
+
+    waiting : List Bool
+    waiting = marks_of (marks_in marks) (entries_in c.list)
+
+    all : AreAll now x.failed durable 1 (marks_in marks) c.list
+    all = are_all now x.failed durable 1 (length (plan_of scripts)) c.are.fronts (marks_in marks) c.list (omega (arith, many_marks now x.failed durable (plan_of scripts) (marks_in marks) c.list c.are)) c.are.others c.are.each
+
+    told_here : told ≡ told_from 1 new.log.durable (marks_of (marks_in marks) (entries_in c.list))
+    told_here = told_is ∙ ap (λ (es : List Entry). told_from 1 new.log.durable (marks_of (marks_in marks) es)) c.history
+
+    told_of : AreReached 1 new.log.durable (marks_of (marks_in marks) (entries_in c.list)) → AllTold (calls_of (entries_in c.list) told)
+    told_of reached = record { waiting = marks_of (marks_in marks) (entries_in c.list); are = all.taken; told_is = told_here ∙ told_whole 1 new.log.durable (marks_of (marks_in marks) (entries_in c.list)) reached }
+
+    -- all entries are durable
+    by_all : new.log.durable ≡ new.volume.appended → AllTold (calls_of (entries_in c.list) told)
+    by_all same = told_of (reached_by 1 new.log.durable (marks_of (marks_in marks) (entries_in c.list))
+        (let long = as_many_taken (entries_in c.list) (marks_of (marks_in marks) (entries_in c.list)) all.taken in let listed = length-map c.list (λ (e : Recorded). e.entry) in let here = c.appended in omega (arith, same, appended, here, long, listed)))
+
+    made_by : (failed : Bool) → x.failed ≡ failed → IsMadeDurable failed old new → (x.mounted.volume.halted ≡ None) ⊎ PartRose first old → AllTold (calls_of (entries_in c.list) told) ⊎ PartRose first new
+    made_by false is same _ = inl (told_of (subst (λ (t : State). AreReached 1 t.log.durable (marks_of (marks_in marks) (entries_in c.list))) (sym same) (all.reached is)))
+    made_by true is commits (inr rose) = inr (rose_before first old new few served.since keeps rose)
+    made_by true is commits (inl runs) = by (commits runs)
+      where
+        by : (new.log.durable ≡ new.volume.appended) ⊎ PartRose old new → AllTold (calls_of (entries_in c.list) told) ⊎ PartRose first new
+        by (inl same) = inl (by_all same)
+        by (inr rose) = inr (rose_later first old new few served.since keeps rose)
+
+    with_calls : HasRun (plan_of scripts) first x.history.items told x.is_whole new
+    with_calls = subst (λ (es : List Entry). HasRun (plan_of scripts) first es told x.is_whole new) (sym c.history) record {
+      fronts = fronts now x.failed durable (plan_of scripts) (marks_in marks) c.list c.are;
+      whole = λ is. whole now x.failed durable scripts marks c.list c.are (c.whole is);
+      first_told =
+          let front = told_front 1 new.log.durable (marks_of (marks_in marks) (entries_in c.list)) in
+          record { waiting = marks_of (marks_in marks) (entries_in c.list); are = all.taken; count = front.0; told_is = told_here ∙ front.1 };
+      all_told = made_by x.failed refl made served.since.halted;
+      calm = over first old new few served.since keeps (subst (λ (es : List Entry). (any_failed es ≡ false) ⊎ PartRose first old) c.history served.calm);
+      since = since_then first old new few served.since keeps halted;
+    }
+
+  run_by : IsUncalled d x ⊎ IsCalled d scripts now image s marks x → HasRun (plan_of scripts) first x.history.items told x.is_whole new
+  run_by (inl u) = without_calls u
+  run_by (inr c) = with_calls c
+
+  pub has_run : HasRun (plan_of scripts) first x.history.items told x.is_whole new
+  has_run = run_by served.calls
+
+pub rising : (history : List Entry) (told : List ℕ) → FirstTold (calls_of history told) → IsRisingFrom 1 told
+rising history told is = subst (IsRisingFrom 1) (sym is.told_is) (told_rise is.count is.waiting)
+
+-- ---- the end
 
 -- the counts of both parts, joined
 abbrev pub joint : State → ℕ
 joint s = min (s.volume.faults + s.high) (2 ^ 64 - 1)
 
--- what was called
-abbrev pub calls_of : State → List ℕ → Calls
-calls_of s told = record { history = s.volume.entries; told = told }
-
-first_told : (s : State) (told : List ℕ) → IsTold s.volume.halted s.volume.entries told → FirstTold (calls_of s told)
-first_told s told is = record { waiting = is.waiting; are = is.are; count = is.first.0; told_is = is.first.1 }
-
-pub rising : (s : State) (told : List ℕ) → IsTold s.volume.halted s.volume.entries told → IsRisingFrom 1 told
-rising s told is = subst (IsRisingFrom 1) (sym is.first.1) (told_rise is.first.0 is.waiting)
-
-pub served_rises : (first now : State) (tasks : List Task) (told : List ℕ) (served : Served) → ServedIs first [] tasks told now served → IsRisingFrom 1 told
-served_rises first now tasks told serves.All is = rising now told is.told_is
-served_rises first now tasks told serves.NoMemory (n, le, is) = rising now told is.told_is
-
-module _ (first now : State) (before : ℕ) (counts : first.volume.faults + first.high ≡ before) (few : before < 2 ^ 64) (ts : List Task) (told : List ℕ) (served : HasServed first ts told now)
+module _ (first now : State) (before : ℕ) (counts : first.volume.faults + first.high ≡ before) (few : before < 2 ^ 64) (plan : List (List Line)) (history : List Entry) (told : List ℕ) (is_whole : Bool) (run : HasRun plan first history told is_whole now)
     (total : ℕ) (grown : Grows (joint now) total) where
   low_high : first.volume.faults + first.high < 2 ^ 64
   low_high = omega (arith, counts, few)
 
   joint_grew : Grows before (joint now)
-  joint_grew = subst (λ (n : ℕ). Grows n (joint now)) counts (both_grow first.volume.faults now.volume.faults first.high now.high low_high served.low served.high)
+  joint_grew = subst (λ (n : ℕ). Grows n (joint now)) counts (both_grow first.volume.faults now.volume.faults first.high now.high low_high run.since.keeps.low run.since.keeps.high)
 
   pub total_grew : Grows before total
   total_grew = grows_on before (joint now) total few joint_grew grown
@@ -51,22 +148,18 @@ module _ (first now : State) (before : ℕ) (counts : first.volume.faults + firs
   later = at_least before total few total_grew
 
   -- where the volume halted, the count rose
-  halt_rose : PartRose first now → Rose before total
-  halt_rose part = rose_since before (joint now) total few (subst (λ (n : ℕ). Rose n (joint now)) counts (both_rose first.volume.faults now.volume.faults first.high now.high low_high served.low served.high part)) grown
+  pub halt_rose : PartRose first now → Rose before total
+  halt_rose part = rose_since before (joint now) total few (subst (λ (n : ℕ). Rose n (joint now)) counts (both_rose first.volume.faults now.volume.faults first.high now.high low_high run.since.keeps.low run.since.keeps.high part)) grown
 
-  told_by : (now.volume.halted ≡ None) ⊎ PartRose first now → Rose before total ⊎ AllTold (calls_of now told)
-  told_by (inl none) = inr (record { waiting = served.told_is.waiting; are = served.told_is.are; told_is = served.told_is.running none })
-  told_by (inr part) = inl (halt_rose part)
+  risen_or : {A : Type 0} → A ⊎ PartRose first now → Rose before total ⊎ A
+  risen_or (inl a) = inr a
+  risen_or (inr part) = inl (halt_rose part)
 
-  pub all_told : Rose before total ⊎ AllTold (calls_of now told)
-  all_told = told_by served.halted
+  pub all_told : Rose before total ⊎ AllTold (calls_of history told)
+  all_told = risen_or run.all_told
 
-  calm_or : (any_failed now.volume.entries ≡ false) ⊎ PartRose first now → Rose before total ⊎ (any_failed now.volume.entries ≡ false)
-  calm_or (inl calm) = inr calm
-  calm_or (inr part) = inl (halt_rose part)
-
-  pub all_calm : Rose before total ⊎ (any_failed now.volume.entries ≡ false)
-  all_calm = calm_or served.calm
+  pub all_calm : Rose before total ⊎ (any_failed history ≡ false)
+  all_calm = risen_or run.calm
 
   -- the count is as it was, and not the last one
   module _ (same : total ≡ before) (below : total ≡ 2 ^ 64 - 1 → ⊥) where
@@ -74,22 +167,18 @@ module _ (first now : State) (before : ℕ) (counts : first.volume.faults + firs
     not_risen (inl less) = omega (arith, less, same)
     not_risen (inr last) = below last
 
-    runs_by : (now.volume.halted ≡ None) ⊎ PartRose first now → now.volume.halted ≡ None
-    runs_by (inl none) = none
-    runs_by (inr part) = absurd (not_risen (halt_rose part))
+    still : {A : Type 0} → Rose before total ⊎ A → A
+    still (inl rose) = absurd (not_risen rose)
+    still (inr a) = a
 
     pub runs : now.volume.halted ≡ None
-    runs = runs_by served.halted
+    runs = still (risen_or run.since.halted)
 
-    calm_by : (any_failed now.volume.entries ≡ false) ⊎ PartRose first now → any_failed now.volume.entries ≡ false
-    calm_by (inl calm) = calm
-    calm_by (inr part) = absurd (not_risen (halt_rose part))
+    pub calm : any_failed history ≡ false
+    calm = still all_calm
 
-    pub calm : any_failed now.volume.entries ≡ false
-    calm = calm_by served.calm
-
-    pub told_whole : AllTold (calls_of now told)
-    told_whole = record { waiting = served.told_is.waiting; are = served.told_is.are; told_is = served.told_is.running runs }
+    pub told_all : AllTold (calls_of history told)
+    told_all = still all_told
 
     -- where a count rises or a fact is so, it is so
     pub unrisen : {X : Type 0} (now_faults : ℕ) → now_faults ≡ total → Rose (joint now) now_faults ⊎ X → X
@@ -99,74 +188,72 @@ module _ (first now : State) (before : ℕ) (counts : first.volume.faults + firs
     pub unmounted : (tells crashes : Type 0) (superblock : List ℕ) (new : Seen) → new.faults ≡ total → Rose (joint now) new.faults ⊎ IsEnded tells crashes superblock (joint now) new → IsUnmounted tells crashes superblock new
     unmounted tells crashes superblock new is ended = (unrisen new.faults is ended).unmounted
 
-module _ (tells crashes : Type 0) (superblock : List ℕ) (plan : List (List Line)) (is_left is_full : Bool) (first now : State) (before : ℕ) (counts : first.volume.faults + first.high ≡ before) (few : before < 2 ^ 64)
-    (told : List ℕ) (new : Seen) (grown : Grows (joint now) new.faults)
+module _ (tells crashes : Type 0) (superblock : List ℕ) (plan : List (List Line)) (is_left is_broken_off is_full : Bool) (first now : State) (before : ℕ) (counts : first.volume.faults + first.high ≡ before) (few : before < 2 ^ 64)
+    (history : List Entry) (told : List ℕ) (is_whole : Bool) (run : HasRun plan first history told is_whole now) (new : Seen) (grown : Grows (joint now) new.faults)
     (ended : is_left ≡ false → now.volume.halted ≡ None → is_full ≡ false → Rose (joint now) new.faults ⊎ IsEnded tells crashes superblock (joint now) new) where
-  abbrev tasks : List Task
-  tasks = tasks_from 1 plan
-
-  -- memory ran out
-  short : (n : ℕ) → HasServed first (take n tasks) told now → RunSince tells crashes superblock plan is_left before new (calls_of now told) ends.Memory
-  short n served = ((fronts plan n now.volume.entries served.entries, first_told now told served.told_is), all_told first now before counts few (take n tasks) told served new.faults grown, all_calm first now before counts few (take n tasks) told served new.faults grown)
-
-  full : HasServed first tasks told now → RunSince tells crashes superblock plan is_left before new (calls_of now told) ends.Memory
-  full served = (
-    (whole_begins plan now.volume.entries (all_called plan now.volume.entries served.entries), first_told now told served.told_is),
-    all_told first now before counts few tasks told served new.faults grown,
-    all_calm first now before counts few tasks told served new.faults grown,
+  -- memory ran out, or the log is full
+  short : RunSince tells crashes superblock plan is_left before new (calls_of history told) ends.Memory
+  short = (
+    (run.fronts, run.first_told),
+    all_told first now before counts few plan history told is_whole run new.faults grown,
+    all_calm first now before counts few plan history told is_whole run new.faults grown,
   )
 
-  faulty : HasServed first tasks told now → Rose before new.faults → RunSince tells crashes superblock plan is_left before new (calls_of now told) ends.Disk
-  faulty served rose = (rose, (all_called plan now.volume.entries served.entries, first_told now told served.told_is))
+  faulty : is_whole ≡ true → Rose before new.faults → RunSince tells crashes superblock plan is_left before new (calls_of history told) ends.Disk
+  faulty whole rose = (rose, (run.whole whole, run.first_told))
 
-  whole : HasServed first tasks told now → is_full ≡ false → new.faults ≡ before → (new.faults ≡ 2 ^ 64 - 1 → ⊥) → RunSince tells crashes superblock plan is_left before new (calls_of now told) ends.Done
-  whole served room same below = record {
-    entries = all_called plan now.volume.entries served.entries;
-    told = told_whole first now before counts few tasks told served new.faults grown same below;
-    calm = calm first now before counts few tasks told served new.faults grown same below;
+  done : is_whole ≡ true → is_full ≡ false → new.faults ≡ before → (new.faults ≡ 2 ^ 64 - 1 → ⊥) → RunSince tells crashes superblock plan is_left before new (calls_of history told) ends.Done
+  done whole room same below = record {
+    entries = run.whole whole;
+    told = told_all first now before counts few plan history told is_whole run new.faults grown same below;
+    calm = calm first now before counts few plan history told is_whole run new.faults grown same below;
     faults_are = same;
-    ended = λ left. unmounted first now before counts few tasks told served new.faults grown same below tells crashes superblock new refl
-        (ended left (runs first now before counts few tasks told served new.faults grown same below) room);
+    ended = λ left. unmounted first now before counts few plan history told is_whole run new.faults grown same below tells crashes superblock new refl
+        (ended left (runs first now before counts few plan history told is_whole run new.faults grown same below) room);
   }
 
-  risen : HasServed first tasks told now → (new.faults ≡ before → ⊥) → Grows before new.faults → Rose before new.faults
-  risen served other (inl same) = absurd (other same)
-  risen served other (inr rose) = rose
+  risen : (new.faults ≡ before → ⊥) → Grows before new.faults → Rose before new.faults
+  risen other (inl same) = absurd (other same)
+  risen other (inr rose) = rose
+
+  or_right : (a b : Bool) → (a || b) ≡ false → b ≡ false
+  or_right true b e = absurd cc
+  or_right false b e = e
 
   -- by the count and by room
-  by_room : HasServed first tasks told now → new.faults ≡ before → (new.faults ≡ 2 ^ 64 - 1 → ⊥) → (b : Bool) → is_full ≡ b → RunSince tells crashes superblock plan is_left before new (calls_of now told) (if b then ends.Memory else ends.Done)
-  by_room served same below true is = full served
-  by_room served same below false is = whole served is same below
+  by_room : is_whole ≡ true → new.faults ≡ before → (new.faults ≡ 2 ^ 64 - 1 → ⊥) → (b : Bool) → (is_broken_off || is_full) ≡ b → RunSince tells crashes superblock plan is_left before new (calls_of history told) (if b then ends.Memory else ends.Done)
+  by_room whole same below true is = short
+  by_room whole same below false is = done whole (or_right is_broken_off is_full is) same below
 
-  by_count : HasServed first tasks told now → (new.faults ≡ before) ⊎ (new.faults ≡ before → ⊥) → (new.faults ≡ 2 ^ 64 - 1) ⊎ (new.faults ≡ 2 ^ 64 - 1 → ⊥)
-      → RunSince tells crashes superblock plan is_left before new (calls_of now told) (end_after serves.All is_full before new.faults)
-  by_count served (inr other) last =
-      rw (ne_eqb new.faults before other) (faulty served (risen served other (total_grew first now before counts few tasks told served new.faults grown)))
-  by_count served (inl same) (inl last) = rw (eq-eqb new.faults before same, eq-eqb new.faults (2 ^ 64 - 1) last) (faulty served (inr last))
-  by_count served (inl same) (inr below) = rw (eq-eqb new.faults before same, ne_eqb new.faults (2 ^ 64 - 1) below) (by_room served same below is_full refl)
+  by_count : is_whole ≡ true → (new.faults ≡ before) ⊎ (new.faults ≡ before → ⊥) → (new.faults ≡ 2 ^ 64 - 1) ⊎ (new.faults ≡ 2 ^ 64 - 1 → ⊥)
+      → RunSince tells crashes superblock plan is_left before new (calls_of history told) (end_after true (is_broken_off || is_full) before new.faults)
+  by_count whole (inr other) last =
+      rw (ne_eqb new.faults before other) (faulty whole (risen other (total_grew first now before counts few plan history told is_whole run new.faults grown)))
+  by_count whole (inl same) (inl last) = rw (eq-eqb new.faults before same, eq-eqb new.faults (2 ^ 64 - 1) last) (faulty whole (inr last))
+  by_count whole (inl same) (inr below) = rw (eq-eqb new.faults before same, ne_eqb new.faults (2 ^ 64 - 1) below) (by_room whole same below (is_broken_off || is_full) refl)
 
-  pub run_ends : (served : Served) → ServedIs first [] tasks told now served → RunSince tells crashes superblock plan is_left before new (calls_of now told) (end_after served is_full before new.faults)
-  run_ends serves.NoMemory (n, le, is) = short n is
-  run_ends serves.All is = by_count is (cases_eq new.faults before) (cases_eq new.faults (2 ^ 64 - 1))
+  by_lines : (b : Bool) → is_whole ≡ b → RunSince tells crashes superblock plan is_left before new (calls_of history told) (end_after b (is_broken_off || is_full) before new.faults)
+  by_lines false is = short
+  by_lines true is = by_count is (cases_eq new.faults before) (cases_eq new.faults (2 ^ 64 - 1))
+
+  pub run_ends : RunSince tells crashes superblock plan is_left before new (calls_of history told) (end_after is_whole (is_broken_off || is_full) before new.faults)
+  run_ends = by_lines is_whole refl
 
 -- ---- a run that is done
 
--- each line has its entry, the log isn't full, and the count is as it was, and not the last one
-pub record IsThrough (served : Served) (is_full : Bool) (before now : ℕ) : Type 0 where
-  pub all : served ≡ serves.All
-  pub room : is_full ≡ false
+-- each line has its entry, nothing is cut off, and the count is as it was, and not the last one
+pub record IsThrough (is_whole is_cut : Bool) (before now : ℕ) : Type 0 where
+  pub whole : is_whole ≡ true
+  pub uncut : is_cut ≡ false
   pub same : now ≡ before
   pub below : now ≡ 2 ^ 64 - 1 → ⊥
 
-pub done_through : (served : Served) (is_full : Bool) (before now : ℕ) → end_after served is_full before now ≡ ends.Done → IsThrough served is_full before now
-done_through serves.NoMemory is_full before now e = absurd (cc (e))
-done_through serves.All is_full before now e = by (now == before) refl (now == 2 ^ 64 - 1) refl is_full refl e
+pub done_through : (is_whole is_cut : Bool) (before now : ℕ) → end_after is_whole is_cut before now ≡ ends.Done → IsThrough is_whole is_cut before now
+done_through false is_cut before now e = absurd (cc (e))
+done_through true is_cut before now e = by (now == before) refl (now == 2 ^ 64 - 1) refl is_cut refl e
   where
-    by : (a : Bool) → (now == before) ≡ a → (b : Bool) → (now == 2 ^ 64 - 1) ≡ b → (f : Bool) → is_full ≡ f → (if not a || b then ends.Disk else (if f then ends.Memory else ends.Done)) ≡ ends.Done → IsThrough serves.All is_full before now
+    by : (a : Bool) → (now == before) ≡ a → (b : Bool) → (now == 2 ^ 64 - 1) ≡ b → (f : Bool) → is_cut ≡ f → (if not a || b then ends.Disk else (if f then ends.Memory else ends.Done)) ≡ ends.Done → IsThrough true is_cut before now
     by false x b y f z e = absurd (cc (e))
     by true x true y f z e = absurd (cc (e))
     by true x false y true z e = absurd (cc (e))
-    by true x false y false z e = record { all = refl; room = z; same = eqb-true now before x; below = λ last. absurd (cc (y, eq-eqb now (2 ^ 64 - 1) last)) }
-
-pub all_of : (first now : State) (tasks : List Task) (told : List ℕ) (served : Served) → served ≡ serves.All → ServedIs first [] tasks told now served → HasServed first tasks told now
-all_of first now tasks told served is served_is = subst (ServedIs first [] tasks told now) is served_is
+    by true x false y false z e = record { whole = refl; uncut = z; same = eqb-true now before x; below = λ last. absurd (cc (y, eq-eqb now (2 ^ 64 - 1) last)) }

@@ -9,9 +9,9 @@ use Rattle.jfs_mount.specs.declared.bad.BadMount.{BadMount}
 use Rattle.jfs_plain.specs.declared.call.Line.{Line}
 use Rattle.jfs_run.specs.Calls.{Calls}
 use Rattle.jfs_run.specs.Run.{Seen, MayMount, StayBeside, IsUncalled, IsUnmounted, RunIs}
-use Rattle.jfs_legal.specs.served.specs.mounted.specs.Mount.{IsMountCause, IsRefusal, IsBeforeCut}
-use Rattle.jfs_legal.specs.served.specs.mounted.specs.declared.mounted.MountError.{MountError}
-use Rattle.jfs_legal.specs.served.specs.mounted.specs.declared.mounted.MountError.TheVariants as mounts
+use Rattle.jfs_server.specs.shared.specs.legal.specs.served.specs.mounted.specs.Mount.{IsMountCause, IsRefusal, IsBeforeCut}
+use Rattle.jfs_server.specs.shared.specs.legal.specs.served.specs.mounted.specs.declared.mounted.MountError.{MountError}
+use Rattle.jfs_server.specs.shared.specs.legal.specs.served.specs.mounted.specs.declared.mounted.MountError.TheVariants as mounts
 use Rattle.jfs_run.specs.Ending.{RunSince, FailsToTake, end_of}
 use Rattle.jfs_run.specs.declared.run.RunEnd.{RunEnd}
 use Rattle.jfs_run.specs.declared.run.RunEnd.TheVariants as ends

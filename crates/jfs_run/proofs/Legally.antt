@@ -1,35 +1,30 @@
--- A line more of a legal history.
-use Rattle.std.proofs.Common.{◌≡◌, ◌≤◌, ◌⊎◌, ◌++◌, ◌∷◌, [], refl, sym, ap, ◌∙◌, subst, ℕ, Bool, true, false, List, inl, inr, None}
+-- The entries of a run, as a legal history of a plain file tree.
+use Rattle.std.proofs.Common.{◌≡◌, ◌⊎◌, ◌-◌, ◌^◌, ◌++◌, ◌∷◌, [], refl, sym, ap, ◌∙◌, subst, ℕ, Bool, true, false, List, inl, inr, None}
+use Rattle.std.specs.Prelude.{◌||◌, ◌==◌, not, if◌then◌else◌}
+use Rattle.std.proofs.lemmas.Bool.{false≢true}
 use Rattle.jfs_bits.specs.declared.descriptor.Moment.{Moment}
-use Rattle.jfs_plain.specs.declared.call.Entry.{Entry}
-use Rattle.jfs_legal.specs.served.specs.halves.specs.Parts.{Parts}
-use Rattle.jfs_legal.specs.served.specs.volume.specs.Join.{entry_with}
-use Rattle.jfs_legal.specs.served.specs.volume.specs.Settles.{Settles}
-use Rattle.jfs_legal.specs.served.specs.volume_calls.specs.Written.{KeepsPages}
-use Rattle.jfs_legal.specs.served.specs.call.specs.Does.{Does}
-use Rattle.jfs_legal.specs.served.specs.call.specs.DoesLent.{Both, Asking, End, NeedsThen, DoesAgain}
-use Rattle.jfs_legal.specs.served.specs.call.specs.declared.outcome.Outcome.TheVariants.{Replied}
-use Rattle.jfs_plain.specs.declared.reply.Reply.{Reply}
 use Rattle.jfs_disk.specs.Image.{Image, page_of}
+use Rattle.jfs_super.specs.Super.{super_of}
 use Rattle.jfs_super.specs.Rules.{blocks_of}
 use Rattle.jfs_super.specs.declared.fields.Super.{Super}
+use Rattle.jfs_super.specs.declared.fields.TheConstants.VolumeState.{CLEAN}
+use Rattle.jfs_plain.specs.declared.call.Entry.{Entry}
 use Rattle.jfs_mount.specs.meaning.specs.Image.{IsConsistentImage, volume_of}
-use Rattle.jfs_legal.specs.served.specs.halves.specs.Log.{LogParts}
-use Rattle.jfs_legal.specs.served.specs.mounted.specs.Mount.{IsMountOf}
-use Rattle.jfs_legal.specs.served.specs.Laws.{HoldsImage}
-use Rattle.jfs_legal.specs.served.proofs.Told.{told_mount}
-use Rattle.jfs_run.specs.declared.client.Served.{Served}
-use Rattle.jfs_run.specs.declared.client.Served.TheVariants as serves
-use Rattle.jfs_legal.specs.served.specs.Holds.{MayServe}
-use Rattle.jfs_legal.specs.served.specs.Legal.{Timed, HasServed}
-use Rattle.std.specs.Prelude.{◌||◌}
-use Rattle.std.proofs.lemmas.Bool.{false≢true}
-use Rattle.jfs_legal.specs.Until.{at, has_failed}
-use Rattle.jfs_legal.specs.Until as until
-use Rattle.jfs_legal.proofs.Replying.{Laws}
-use Rattle.jfs_legal.proofs.Going.{legal_law, lent_law, settled_law}
+use Rattle.jfs_mount.specs.meaning.specs.Readers.{readers}
+use Rattle.jfs_server.specs.shared.specs.legal.proofs.Going.{legal_law}
+use Rattle.jfs_server.specs.shared.specs.legal.proofs.Replying.{Laws}
+use Rattle.jfs_server.specs.shared.specs.legal.specs.Until.{at, has_failed}
+use Rattle.jfs_server.specs.shared.specs.legal.specs.served.specs.halves.specs.Parts.{Parts}
+use Rattle.jfs_server.specs.shared.specs.legal.specs.served.specs.halves.specs.Log.{LogParts}
+use Rattle.jfs_server.specs.shared.specs.legal.specs.served.specs.Legal.{Timed, HasServed}
+use Rattle.jfs_server.specs.shared.specs.legal.specs.served.specs.shown.specs.kinds.specs.Images.{HasWholeFiles}
+use Rattle.jfs_server.specs.shared.specs.legal.specs.served.proofs.Told.{told_ends}
 use Rattle.jfs_run.specs.Calls.{any_failed}
-use Rattle.jfs_run.specs.Legal.{all_at, AreLegal, FollowsTree, HasTreeBehind, EndsOnTree, GoOn, LinesLeave}
+use Rattle.jfs_run.specs.Ending.{end_after}
+use Rattle.jfs_run.specs.Legal.{all_at, AreLegal, GoOn, IsLegalRun, FollowsTree, IsLegalRunToHalt, LegalBy, HasTreeBehind, EndsOnTree, WasUnmounted, HasReplied}
+use Rattle.jfs_run.specs.declared.run.RunEnd.TheVariants as ends
+
+-- ---- where none was refused for a fault, all are legal
 
 heads : (x : Timed) (xs : List Timed) (y : Timed) (ys : List Timed) → x ∷ xs ≡ y ∷ ys → x ≡ y
 heads x xs y ys e = cc
@@ -37,49 +32,11 @@ heads x xs y ys e = cc
 tails : (x : Timed) (xs : List Timed) (y : Timed) (ys : List Timed) → x ∷ xs ≡ y ∷ ys → xs ≡ ys
 tails x xs y ys e = cc
 
-one_at_more : (now : Moment) (es : List Entry) (e : Entry) → all_at now (es ++ e ∷ []) ≡ all_at now es ++ at now e ∷ []
-one_at_more now [] e = refl
-one_at_more now (x ∷ xs) e = ap (λ (ts : List Timed). at now x ∷ ts) (one_at_more now xs e)
+or_true : (b rest : Bool) → rest ≡ true → (b || rest) ≡ true
+or_true true rest e = refl
+or_true false rest e = e
 
--- a volume that was mounted from a consistent image
-pub mounted_from : (laws : Laws) (tells crashes : Type 0) (told : tells) (s : Super) (old now : Image) (volume : Parts) (log : LogParts) → now ≡ old → IsMountOf tells crashes s now volume log → blocks_of s ≤ volume.blocks
-    → IsConsistentImage s (page_of old) → HoldsImage s (page_of old) volume
-mounted_from laws tells crashes told s old now volume log is m within consistent =
-    subst (λ (im : Image). HoldsImage s (page_of im) volume) is
-    (laws.mounted s now volume log (told_mount tells crashes told s now volume log m) within (subst (λ (im : Image). IsConsistentImage s (page_of im)) (sym is) consistent))
-
--- so replies that are legal from there on follow the image's tree
-pub follows : (s : Super) (old : Image) (volume : Parts) (now : Moment) (es : List Entry) → HoldsImage s (page_of old) volume → volume.halted ≡ None → AreLegal (volume_of s (page_of old)).area s.logpxd.len now volume es → FollowsTree s (page_of old) now es
-follows s old volume now es held runs legal = record { start = volume; runs = runs; tree = held.tree; room = held.room; legal = legal }
-
-pub ends_on : (s : Super) (old new : Image) (volume : Parts) (now : Moment) (es : List Entry) → HoldsImage s (page_of old) volume → volume.halted ≡ None → AreLegal (volume_of s (page_of old)).area s.logpxd.len now volume es
-    → HasTreeBehind s (volume_of s (page_of old)).area now volume es new → EndsOnTree s (page_of old) now es new
-unfolding follows
-ends_on s old new volume now es held runs legal behind = record { follows = follows s old volume now es held runs legal; ends = behind }
-
-module _ (laws : Laws) (area : ℕ → ℕ) (log_pages : ℕ) (now : Moment) (start : Parts) where
-  pub begins : MayServe area log_pages start → GoOn area log_pages now start [] start
-  begins may = inl (laws.history.starts area log_pages start may)
-
-  pub begins_with : (es : List Entry) → es ≡ [] → MayServe area log_pages start → GoOn area log_pages now start es start
-  begins_with es none may = subst (λ (xs : List Entry). GoOn area log_pages now start xs start) (sym none) (begins may)
-
-  -- whether or not the next call may come
-  pub legal_of : (es : List Entry) (p : Parts) → GoOn area log_pages now start es p → AreLegal area log_pages now start es
-  legal_of es p goes = legal_law area log_pages start (all_at now es) p goes
-
-  pub lines_legal : (p : Parts) (served : Served) → LinesLeave area log_pages now start p served → AreLegal area log_pages now start p.entries
-  lines_legal p serves.All l = legal_of p.entries p l
-  lines_legal p serves.NoMemory l = l
-
-  pub lines_on : (p : Parts) (served : Served) → served ≡ serves.All → LinesLeave area log_pages now start p served → GoOn area log_pages now start p.entries p
-  lines_on p served all l = subst (LinesLeave area log_pages now start p) all l
-
-  -- where none was refused for a fault, all are
-  or_true : (b rest : Bool) → rest ≡ true → (b || rest) ≡ true
-  or_true true rest e = refl
-  or_true false rest e = e
-
+module _ (area : ℕ → ℕ) (log_pages : ℕ) (now : Moment) (start : Parts) where
   failed_in : (es : List Entry) (before behind : List Timed) (t : Timed) → all_at now es ≡ before ++ t ∷ behind → has_failed t.entry.reply ≡ true → any_failed es ≡ true
   failed_in [] [] behind t is has = absurd (cc)
   failed_in [] (b ∷ before) behind t is has = absurd (cc)
@@ -90,31 +47,57 @@ module _ (laws : Laws) (area : ℕ → ℕ) (log_pages : ℕ) (now : Moment) (st
   all_served es p calm (inl so_far) = so_far
   all_served es p calm (inr u) = absurd (false≢true (sym calm ∙ failed_in es u.before u.behind u.failed u.parts u.has))
 
-  module _ (tells crashes : Type 0) (told : tells) where
-    -- a call, with its entry
-    pub goes_on : (P : Type 0) (a : Asking) (old new : Both) (reply : Reply) (number : ℕ) (waits : Bool) → a.now ≡ now → GoOn area log_pages now start old.volume.entries old.volume
-        → (P × Does tells crashes a.caller a.request a.now old.volume new.volume (Replied reply number waits)) ⊎ NeedsThen tells crashes a (DoesAgain tells crashes a) old (record { both = new; outcome = Replied reply number waits })
-        → new.volume.entries ≡ old.volume.entries ++ entry_with a.caller.client a.caller.line a.request reply ∷ [] → GoOn area log_pages now start new.volume.entries new.volume
-    goes_on P a old new reply number waits at_now so_far d joins =
-        subst (λ (es : List Entry). GoOn area log_pages now start es new.volume) (sym joins)
-        (subst (λ (ts : List Timed). until.GoOn area log_pages start ts new.volume) (sym (one_at_more now es entry ∙ ap (λ (m : Moment). all_at now es ++ at m entry ∷ []) (sym at_now)))
-        (lent_law tells crashes told area log_pages start (all_at now es) a old end so_far (does d)))
-      where
-        es : List Entry
-        es = old.volume.entries
+  -- whether or not the next call may come
+  legal_of : (es : List Entry) (p : Parts) → GoOn area log_pages now start es p → AreLegal area log_pages now start es
+  legal_of es p goes = legal_law area log_pages start (all_at now es) p goes
 
-        entry : Entry
-        entry = entry_with a.caller.client a.caller.line a.request reply
+-- ---- by the end of the run
 
-        end : End
-        end = record { both = new; outcome = Replied reply number waits }
+-- nothing was called
+pub none_legal : (s : Super) (page : ℕ → List ℕ) (now : Moment) → IsLegalRun s page now []
+none_legal s page now = inl refl
 
-        does : (P × Does tells crashes a.caller a.request a.now old.volume new.volume (Replied reply number waits)) ⊎ NeedsThen tells crashes a (DoesAgain tells crashes a) old end
-            → Does tells crashes a.caller a.request a.now old.volume new.volume (Replied reply number waits) ⊎ NeedsThen tells crashes a (DoesAgain tells crashes a) old end
-        does (inl (p, d)) = inl d
-        does (inr n) = inr n
+by_end : (s : Super) (page : ℕ → List ℕ) (now : Moment) (es : List Entry) (is_whole rose is_cut : Bool) → IsLegalRunToHalt s page now es → (is_cut ≡ false → IsLegalRun s page now es)
+    → LegalBy (if not is_whole then ends.Memory else (if rose then ends.Disk else (if is_cut then ends.Memory else ends.Done))) s page now es
+by_end s page now es false rose is_cut to_halt legal = to_halt
+by_end s page now es true true is_cut to_halt legal = to_halt
+by_end s page now es true false true to_halt legal = to_halt
+by_end s page now es true false false to_halt legal = legal refl
 
-    -- a commit behind it
-    pub goes_on_settled : (old new : Parts) → GoOn area log_pages now start old.entries old → Settles old new → KeepsPages tells old new → GoOn area log_pages now start new.entries new
-    goes_on_settled old new so_far settles files = subst (λ (es : List Entry). GoOn area log_pages now start es new) (sym settles.entries)
-        (settled_law tells told area log_pages start (all_at now old.entries) old new so_far settles files)
+pub legal_by : (s : Super) (page : ℕ → List ℕ) (now : Moment) (es : List Entry) (is_whole is_cut : Bool) (before faults : ℕ) → IsLegalRunToHalt s page now es → (is_cut ≡ false → IsLegalRun s page now es) → LegalBy (end_after is_whole is_cut before faults) s page now es
+legal_by s page now es is_whole is_cut before faults to_halt legal = by_end s page now es is_whole (not (faults == before) || faults == 2 ^ 64 - 1) is_cut to_halt legal
+
+module _ (s : Super) (page : ℕ → List ℕ) (now : Moment) (is_broken_off : Bool) (es : List Entry) (p : Parts) (r : HasReplied s page now is_broken_off es p) where
+  follows : AreLegal (volume_of s page).area s.logpxd.len now r.start es → FollowsTree s page now es
+  follows legal = record { start = r.start; runs = r.runs; tree = r.holds.tree; room = r.holds.room; legal = legal }
+
+  pub to_halt : IsLegalRunToHalt s page now es
+  to_halt = inr (record { start = r.start; runs = r.runs; tree = r.holds.tree; room = r.holds.room; legal = r.to_halt })
+
+  pub whole_legal : is_broken_off ≡ false → IsLegalRun s page now es
+  whole_legal whole = inr (follows (legal_of (volume_of s page).area s.logpxd.len now r.start es p (r.goes_on whole)))
+
+  pub while_it_runs : p.halted ≡ None → IsLegalRun s page now es
+  while_it_runs runs = inr (follows (r.running runs))
+
+  -- ---- a run that is done, whose volume was unmounted
+
+  module _ (laws : Laws) (tells crashes : Type 0) (told : tells) (superblock : List ℕ) (last : Parts) (log : LogParts) (image : Image) (whole_files : HasWholeFiles (readers (blocks_of s)) page) (is : super_of superblock ≡ record s { state = CLEAN })
+      (calm : any_failed es ≡ false) (on : GoOn (volume_of s page).area s.logpxd.len now r.start es last) (ended : WasUnmounted tells crashes superblock last log image) where
+    abbrev area : ℕ → ℕ
+    area = (volume_of s page).area
+
+    served : HasServed area s.logpxd.len r.start (all_at now es) last
+    served = all_served area s.logpxd.len now r.start es last calm on
+
+    pub ends_on : EndsOnTree s page now es image
+    unfolding follows
+    ends_on = record {
+      follows = follows (legal_of area s.logpxd.len now r.start es last on);
+      ends = record {
+        last = last;
+        legal = served.legal;
+        image_is = laws.unmounted s area superblock last log image ended.0 served.serves.holds (laws.history.files area s.logpxd.len r.start last (all_at now es) served.legal s (r.holds.knows whole_files))
+            (told_ends tells crashes told superblock last log image ended.0 ended.1) is;
+      };
+    }

@@ -96,10 +96,11 @@ IfUnmounted end is_left fact = end ≡ ends.Done → is_left ≡ false → fact
 abbrev pub WasUnmounted : (tells crashes : Type 0) → List ℕ → Parts → LogParts → Image → Type 0
 WasUnmounted tells crashes superblock volume log image = (past : List DiskState) × Ends tells crashes superblock volume log image past
 
--- The entries are legal from a volume on that holds the image's tree, up to a halt; and where they didn't break off, they go on from these parts.
+-- The entries are legal from a volume on that holds the image's tree, up to a halt, and all of them while these parts run; and where they didn't break off, they go on from these parts.
 pub record HasReplied (s : Super) (page : ℕ → List ℕ) (now : Moment) (is_broken_off : Bool) (es : List Entry) (p : Parts) : Type 0 where
   pub start : Parts
   pub holds : HoldsImage s page start
   pub runs : start.halted ≡ None
   pub goes_on : is_broken_off ≡ false → GoOn (meaning.volume_of s page).area s.logpxd.len now start es p
   pub to_halt : AreLegalToHalt (meaning.volume_of s page).area s.logpxd.len now start es
+  pub running : p.halted ≡ None → AreLegal (meaning.volume_of s page).area s.logpxd.len now start es

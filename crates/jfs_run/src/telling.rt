@@ -28,8 +28,8 @@ pub fn are_whole(scripts: &[Vec<Line>], marks: &[Vec<bool>]) -> bool
     if scripts.len() != marks.len() {
         return false;
     }
-    for (script, waits) in scripts.iter().zip(marks) {
-        if script.len() != waits.len() {
+    for i in 0..scripts.len() {
+        if scripts[i].len() != marks[i].len() {
             return false;
         }
     }
@@ -58,13 +58,15 @@ fn next_mark(marks: &[Vec<bool>], next: &mut [usize; MOST_CLIENTS], client: u32)
     ensures mark { result ≡ mark_of 1 client (left_at next.old marks.now) }
     ensures left { left_at next.new marks.now ≡ left_by 1 client (left_at next.old marks.now) }
 {
-    let at = client.wrapping_sub(1) as usize;
-    let Some(waits) = marks.get(at) else {
+    if client == 0 || client as usize > marks.len() {
         return false;
-    };
-    let Some(mark) = waits.get(next[at]) else {
+    }
+    let at = client as usize - 1;
+    let waits = &marks[at];
+    let place = next[at];
+    if place >= waits.len() {
         return false;
-    };
-    next[at] += 1;
-    *mark
+    }
+    next[at] = place + 1;
+    waits[place]
 }
