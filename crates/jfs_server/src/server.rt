@@ -20,6 +20,7 @@ use std::marker::Brand;
 /// The image that a volume was mounted from, and its superblock. Both are said in proofs alone: a caller of `start_from` gives `Brand`, and picks them in its proof by what it has of the disk.
 pub trait MountedFrom {
     ghost block: { Super };
+
     ghost image: { Image };
 }
 
@@ -66,6 +67,7 @@ impl<D: Disk> Server<D> {
             }),
         }
     }
+
     /// The same of a volume that was mounted from `I.image`.
     ///
     /// # Errors
