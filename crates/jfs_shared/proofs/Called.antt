@@ -35,7 +35,7 @@ stays_whole n broken_off NoMemory = inl refl
 
 -- a call that is done, though none would be
 pub not_over : (fact : Type 0) (over : Bool) → over ≡ false → over ≡ true → fact
-not_over fact over no yes = absurd (false≢true (sym no ∙ yes))
+not_over fact over goes stopped = absurd (false≢true (sym goes ∙ stopped))
 
 module _ {D : Type 0} (d : Ghosts D) (x : SharedVolume D) (client line : ℕ) (request : Request) (now : Moment) (new : Parts) where
   pub call_is : (outcome : Outcome) → (outcome ≡ NoMemory → ⊥) → is_over x.broken_off x.volume.halted ≡ false → IsAnswered client line request x.volume new outcome → Does d.tells d.tells_crashes (record { client = client; line = line }) request now x.volume new outcome
