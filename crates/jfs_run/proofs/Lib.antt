@@ -1,7 +1,7 @@
 pub mod Told
 pub mod Marked
 pub mod Came
-pub mod Clients
+pub mod Callers
 pub mod Passes
 pub mod Reading
 pub mod Since

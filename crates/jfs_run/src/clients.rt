@@ -78,7 +78,7 @@ fn take_back<'a, D: Disk, G: Gate>(
     requires have { HavePasses D.Disk clients.items }
     requires passes { (passes.old.items ≡ []) × (vec_len clients ≤ vec_capacity passes.old) }
     requires marks { (marks.old.items ≡ []) × (vec_len clients ≤ vec_capacity marks.old) }
-    ensures back { AreBack D.Disk result clients.items passes.new.items marks.new.items }
+    ensures back { AreBack D.Disk result clients.entry.items passes.new.items marks.new.items }
 {
     let mut clients = clients;
     let mut failed = false;

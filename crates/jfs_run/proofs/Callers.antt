@@ -3,6 +3,7 @@ use Rattle.std.proofs.Common.{◌≡◌, ◌≤◌, ◌<◌, ℕ, Bool, true, fa
 use Rattle.std.specs.Prelude.{◌||◌, Option, Some, vec_capacity, slice_index_or, remove}
 use Rattle.std.specs.Bool.{MatchBool}
 use Rattle.std.specs.Global.{Vec}
+use Rattle.std.specs.List.{AllByRecursion}
 use Rattle.atomic_table.specs.Seated.{TableId}
 use Rattle.jfs_bits.specs.declared.descriptor.Moment.{Moment}
 use Rattle.jfs_disk.specs.declared.disk.Disk.{Ghosts}
@@ -19,6 +20,36 @@ pub first_out : {X : Type 0} (xs : List X) (x : X) → 0 < length xs → x ≡ s
 first_out [] x some is = absurd (omega (arith, some))
 first_out (y ∷ ys) x some is = ap (λ z. z ∷ ys) (sym is)
 
+pub nil_of : {X : Type 0} (xs : List X) → length xs ≡ 0 → xs ≡ []
+nil_of [] none = refl
+nil_of (x ∷ xs) none = absurd (omega (arith, none))
+
+-- what is so of all is so of the first and of the others
+pub first_all : {X : Type 0} (P : X → Type 0) (xs ys : List X) (x : X) → xs ≡ x ∷ ys → AllByRecursion P xs → P x × AllByRecursion P ys
+first_all P xs ys x is all = subst (AllByRecursion P) is all
+
+module _ {D G : Type 0} (d : Ghosts D) where
+  -- ---- they are taken back one after the other
+
+  abbrev pub AreBackSoFar : Bool → List (Client D G d) → List (Client D G d) → List (ServerPass d) → List (Vec Bool) → Type 0
+  AreBackSoFar failed all left passes marks = (final : Bool) → (failed ≡ true → final ≡ true) → (ps : List (ServerPass d)) (ws : List (Vec Bool)) → AreBack d final left ps ws → AreBack d final all (passes ++ ps) (marks ++ ws)
+
+  pub one_back : (failed its : Bool) (all left cs : List (Client D G d)) (c : Client D G d) (passes : List (ServerPass d)) (marks : List (Vec Bool)) (p : ServerPass d) (w : Vec Bool) → left ≡ c ∷ cs → c.pass ≡ Some p → w ≡ c.waits → its ≡ c.failed
+      → AreBackSoFar failed all left passes marks → AreBackSoFar (failed || its) all cs (passes ++ p ∷ []) (marks ++ w ∷ [])
+  one_back failed its all left cs c passes marks p w left_is has waits_are its_is so_far final told ps ws rest =
+      subst {A = List (ServerPass d) × List (Vec Bool)} (λ z. AreBack d final all z.0 z.1) (λ i. (sym (append_assoc passes (p ∷ []) ps) i, sym (append_assoc marks (w ∷ []) ws) i))
+      (so_far final (λ f. told (or_left failed its f)) (p ∷ ps) (w ∷ ws)
+      (subst (λ (xs : List (Client D G d)). AreBack d final xs (p ∷ ps) (w ∷ ws)) (sym left_is) (record { pass = has; waits = waits_are; told = λ f. told (or_right failed its (its_is ∙ f)) }, rest)))
+
+  states_by : (want : Bool) (ls : List Line) (m e : Client D G d) → MatchBool want (e ≡ m) (Ran (did_in d) ls m e) → (Ran (did_in d) ls m e → Ran (Did d) ls (state_of d m) (state_of d e)) → MatchBool want (state_of d e ≡ state_of d m) (Ran (Did d) ls (state_of d m) (state_of d e))
+  states_by true ls m e same later = ap (state_of d) same
+  states_by false ls m e ran later = later ran
+
+  -- a run of clients is one of what they are
+  states_ran : (lines : List Line) (c e : Client D G d) → Ran (did_in d) lines c e → Ran (Did d) lines (state_of d c) (state_of d e)
+  states_ran [] c e ran = ap (state_of d) ran
+  states_ran (l ∷ ls) c e (reply, ack, m, did, next) = (reply, ack, state_of d m, did, states_by (wants_memory reply) ls m e next (λ ran. states_ran ls m e ran))
+
 module _ {D G : Type 0} (d : Ghosts D) (now : Moment) where
   -- ---- they are made one after the other
 
@@ -31,18 +62,6 @@ module _ {D G : Type 0} (d : Ghosts D) (now : Moment) where
   one_made all_passes all_marks made passes ps marks ws p w c passes_are marks_are is so_far cs rest =
       subst (AreClientsOf d now all_passes all_marks) (sym (append_assoc made (c ∷ []) cs))
       (so_far (c ∷ cs) (subst {A = List (ServerPass d) × List (Vec Bool)} (λ z. AreClientsOf d now z.0 z.1 (c ∷ cs)) (λ i. (sym passes_are i, sym marks_are i)) (is, rest)))
-
-  -- ---- and taken back one after the other
-
-  abbrev pub AreBackSoFar : Bool → List (Client D G d) → List (Client D G d) → List (ServerPass d) → List (Vec Bool) → Type 0
-  AreBackSoFar failed all left passes marks = (final : Bool) → (failed ≡ true → final ≡ true) → (ps : List (ServerPass d)) (ws : List (Vec Bool)) → AreBack d final left ps ws → AreBack d final all (passes ++ ps) (marks ++ ws)
-
-  pub one_back : (failed its : Bool) (all left cs : List (Client D G d)) (c : Client D G d) (passes : List (ServerPass d)) (marks : List (Vec Bool)) (p : ServerPass d) (w : Vec Bool) → left ≡ c ∷ cs → c.pass ≡ Some p → w ≡ c.waits → its ≡ c.failed
-      → AreBackSoFar failed all left passes marks → AreBackSoFar (failed || its) all cs (passes ++ p ∷ []) (marks ++ w ∷ [])
-  one_back failed its all left cs c passes marks p w left_is has waits_are its_is so_far final told ps ws rest =
-      subst {A = List (ServerPass d) × List (Vec Bool)} (λ z. AreBack d final all z.0 z.1) (λ i. (sym (append_assoc passes (p ∷ []) ps) i, sym (append_assoc marks (w ∷ []) ws) i))
-      (so_far final (λ f. told (or_left failed its f)) (p ∷ ps) (w ∷ ws)
-      (subst (λ (xs : List (Client D G d)). AreBack d final xs (p ∷ ps) (w ∷ ws)) (sym left_is) (record { pass = has; waits = waits_are; told = λ f. told (or_right failed its (its_is ∙ f)) }, rest)))
 
   -- ---- they have what they need
 
@@ -65,15 +84,6 @@ module _ {D G : Type 0} (d : Ghosts D) (now : Moment) where
 
   -- ---- they come back
 
-  states_by : (want : Bool) (ls : List Line) (m e : Client D G d) → MatchBool want (e ≡ m) (Ran (did_in d) ls m e) → (Ran (did_in d) ls m e → Ran (Did d) ls (state_of d m) (state_of d e)) → MatchBool want (state_of d e ≡ state_of d m) (Ran (Did d) ls (state_of d m) (state_of d e))
-  states_by true ls m e same later = ap (state_of d) same
-  states_by false ls m e ran later = later ran
-
-  -- a run of clients is one of what they are
-  states_ran : (lines : List Line) (c e : Client D G d) → Ran (did_in d) lines c e → Ran (Did d) lines (state_of d c) (state_of d e)
-  states_ran [] c e ran = ap (state_of d) ran
-  states_ran (l ∷ ls) c e (reply, ack, m, did, next) = (reply, ack, state_of d m, did, states_by (wants_memory reply) ls m e next (λ ran. states_ran ls m e ran))
-
   pub have : (scripts : List (Vec Line)) (ps : List (ServerPass d)) (ws : List (Vec Bool)) (cs es : List (Client D G d)) → AreClientsOf d now ps ws cs → EachRan (did_in d) scripts cs es → HavePasses d es
   have scripts ps ws cs [] are ran = tt
   have [] ps ws [] (e ∷ es) are ran = absurd ran
@@ -83,20 +93,20 @@ module _ {D G : Type 0} (d : Ghosts D) (now : Moment) where
   have (s ∷ ss) [] (w ∷ ws) (c ∷ cs) (e ∷ es) are ran = absurd are
   have (s ∷ ss) (p ∷ ps) [] (c ∷ cs) (e ∷ es) are ran = absurd are
   have (s ∷ ss) (p ∷ ps) (w ∷ ws) (c ∷ cs) (e ∷ es) are ran =
-      let k = kept d s.items (state_of d c) (state_of d e) p are.0.pass (states_ran s.items c e ran.0) in
+      let k = kept d s.items (state_of d c) (state_of d e) p are.0.pass (states_ran d s.items c e ran.0) in
       ((k.after, k.has), have ss ps ws cs es are.1 ran.1)
 
   one_came : (table : TableId) (failed : Bool) (lines : List Line) (p q : ServerPass d) (w marks : Vec Bool) (c e : Client D G d) → IsReady d table lines p w → IsClientOf d now p w c → Ran (did_in d) lines c e → IsBack d failed e q marks → Came d now failed lines p q marks.items
   one_came table failed lines p q w marks c e ready is ran back =
       let waits : c.waits.items ≡ [] = ap (λ (v : Vec Bool). v.items) is.waits ∙ ready.none in
       let begins : state_of d c ≡ record { pass = Some p; now = now; waits = []; failed = false } = λ i. record { pass = is.pass i; now = is.moment i; waits = waits i; failed = is.failed i } in
-      let at = moment d lines (state_of d c) (state_of d e) (states_ran lines c e ran) ∙ is.moment in
+      let at = moment d lines (state_of d c) (state_of d e) (states_ran d lines c e ran) ∙ is.moment in
       let left : marks.items ≡ e.waits.items = ap (λ (v : Vec Bool). v.items) back.waits in
       let ends : state_of d e ≡ record { pass = Some q; now = now; waits = marks.items; failed = e.failed } = λ i. record { pass = back.pass i; now = at i; waits = sym left i; failed = e.failed } in
       record {
         its = e.failed;
         told = back.told;
-        ran = subst {A = State d × State d} (λ z. Ran (Did d) lines z.0 z.1) (λ i. (begins i, ends i)) (states_ran lines c e ran);
+        ran = subst {A = State d × State d} (λ z. Ran (Did d) lines z.0 z.1) (λ i. (begins i, ends i)) (states_ran d lines c e ran);
       }
 
   pub each_came : (table : TableId) (failed : Bool) (scripts : List (Vec Line)) (ps qs : List (ServerPass d)) (ws marks : List (Vec Bool)) (cs es : List (Client D G d))
