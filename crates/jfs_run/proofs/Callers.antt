@@ -1,5 +1,5 @@
 -- A client for each pass, and the passes and the marks that they come back with.
-use Rattle.std.proofs.Common.{◌≡◌, ◌≤◌, ◌<◌, ℕ, Bool, true, false, List, [], ◌∷◌, ◌++◌, length, refl, sym, ap, ◌∙◌, subst, arith, append_assoc}
+use Rattle.std.proofs.Common.{◌≡◌, ◌≤◌, ◌<◌, ℕ, suc, Bool, true, false, List, [], ◌∷◌, ◌++◌, length, refl, sym, ap, ◌∙◌, subst, arith, append_assoc}
 use Rattle.std.specs.Prelude.{◌||◌, Option, Some, vec_capacity, slice_index_or, remove}
 use Rattle.std.specs.Bool.{MatchBool}
 use Rattle.std.specs.Global.{Vec}
@@ -126,3 +126,39 @@ module _ {D G : Type 0} (d : Ghosts D) (now : Moment) where
   each_came table failed [] [] [] [] (m ∷ ms) [] [] ready are ran back = absurd back
   each_came table failed (s ∷ ss) (p ∷ ps) [] (w ∷ ws) ms (c ∷ cs) (e ∷ es) ready are ran back = absurd back
   each_came table failed (s ∷ ss) (p ∷ ps) (q ∷ qs) (w ∷ ws) [] (c ∷ cs) (e ∷ es) ready are ran back = absurd back
+
+module _ {D : Type 0} (d : Ghosts D) (table : TableId) where
+  -- ---- what is ready, one thing at a time
+
+  pub all_of_table : (scripts : List (Vec Line)) (ps : List (ServerPass d)) (ws : List (Vec Bool)) → AreReady d table scripts ps ws → AllByRecursion (λ p. p.seat.table_id ≡ table) ps
+  all_of_table [] [] [] ready = tt
+  all_of_table (s ∷ ss) (p ∷ ps) (w ∷ ws) ready = (ready.0.table_is, all_of_table ss ps ws ready.1)
+  all_of_table [] [] (w ∷ ws) ready = absurd ready
+  all_of_table [] (p ∷ ps) ws ready = absurd ready
+  all_of_table (s ∷ ss) [] ws ready = absurd ready
+  all_of_table (s ∷ ss) (p ∷ ps) [] ready = absurd ready
+
+  pub none_marked : (scripts : List (Vec Line)) (ps : List (ServerPass d)) (ws : List (Vec Bool)) → AreReady d table scripts ps ws → AllByRecursion (λ w. w.items ≡ []) ws
+  none_marked [] [] [] ready = tt
+  none_marked (s ∷ ss) (p ∷ ps) (w ∷ ws) ready = (ready.0.none, none_marked ss ps ws ready.1)
+  none_marked [] [] (w ∷ ws) ready = absurd ready
+  none_marked [] (p ∷ ps) ws ready = absurd ready
+  none_marked (s ∷ ss) [] ws ready = absurd ready
+  none_marked (s ∷ ss) (p ∷ ps) [] ready = absurd ready
+
+  pub as_many_ready : (scripts : List (Vec Line)) (ps : List (ServerPass d)) (ws : List (Vec Bool)) → AreReady d table scripts ps ws → (length ps ≡ length scripts) × (length ws ≡ length scripts)
+  as_many_ready [] [] [] ready = (refl, refl)
+  as_many_ready (s ∷ ss) (p ∷ ps) (w ∷ ws) ready = let many = as_many_ready ss ps ws ready.1 in (ap suc many.0, ap suc many.1)
+  as_many_ready [] [] (w ∷ ws) ready = absurd ready
+  as_many_ready [] (p ∷ ps) ws ready = absurd ready
+  as_many_ready (s ∷ ss) [] ws ready = absurd ready
+  as_many_ready (s ∷ ss) (p ∷ ps) [] ready = absurd ready
+
+-- each script's client
+pub as_many_ran : {D G : Type 0} (d : Ghosts D) (scripts : List (Vec Line)) (cs es : List (Client D G d)) → EachRan (did_in d) scripts cs es → length es ≡ length scripts
+as_many_ran d [] [] [] ran = refl
+as_many_ran d (s ∷ ss) (c ∷ cs) (e ∷ es) ran = ap suc (as_many_ran d ss cs es ran.1)
+as_many_ran d [] [] (e ∷ es) ran = absurd ran
+as_many_ran d [] (c ∷ cs) es ran = absurd ran
+as_many_ran d (s ∷ ss) [] es ran = absurd ran
+as_many_ran d (s ∷ ss) (c ∷ cs) [] ran = absurd ran

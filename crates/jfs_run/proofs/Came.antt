@@ -156,6 +156,22 @@ module _ {D : Type 0} (d : Ghosts D) where
   moment [] s e ran = ap (λ (t : State d). t.now) ran
   moment (l ∷ ls) s e (reply, ack, m, did, next) = moment_by (wants_memory reply) ls m e next (λ ran. moment ls m e ran) ∙ did.now
 
+  -- there are no more marks than lines
+  most_by : (want : Bool) (ls : List Line) (m e : State d) → MatchBool want (e ≡ m) (Ran (Did d) ls m e) → (Ran (Did d) ls m e → length e.waits ≤ length m.waits + length ls) → length e.waits ≤ length m.waits + length ls
+  most_by true ls m e same later = let a = ap (λ (s : State d). length s.waits) same in omega (arith, a)
+  most_by false ls m e ran later = later ran
+
+  one_more : (line : ℕ) (request : Request) (reply : Reply) (ack : Ack) (old m : State d) (p q : ServerPass d) → Joined d line request reply ack old m p q ⊎ Lacked d reply ack old m p q → length m.waits ≤ length old.waits + 1
+  one_more line request reply ack old m p q (inl joined) = let a = ap length joined.waits in omega (arith, a, length-append old.waits (is_waiting ack ∷ []))
+  one_more line request reply ack old m p q (inr lacked) = let a = ap length lacked.waits in omega (arith, a)
+
+  pub most_marks : (lines : List Line) (s e : State d) → Ran (Did d) lines s e → length e.waits ≤ length s.waits + length lines
+  most_marks [] s e ran = let a = ap (λ (t : State d). length t.waits) ran in omega (arith, a)
+  most_marks (l ∷ ls) s e (reply, ack, m, did, next) =
+      let one = one_more l.number l.request reply ack s m did.before did.after did.called in
+      let rest = most_by (wants_memory reply) ls m e next (λ ran. most_marks ls m e ran) in
+      omega (arith, one, rest)
+
   module _ (now : Moment) (failed : Bool) (durable : ℕ) (list : List Recorded) where
     -- how a client is at the end: the list has no more of its entries, and what it knows to be durable is
     pub record Ends (new : State d) : Type 0 where

@@ -129,6 +129,10 @@ rising history told is = subst (IsRisingFrom 1) (sym is.told_is) (told_rise is.c
 
 -- ---- the end
 
+pub neither : (a b : Bool) → (a || b) ≡ false → (a ≡ false) × (b ≡ false)
+neither true b e = absurd cc
+neither false b e = (refl, e)
+
 -- the counts of both parts, joined
 abbrev pub joint : State → ℕ
 joint s = min (s.volume.faults + s.high) (2 ^ 64 - 1)
@@ -216,27 +220,23 @@ module _ (tells crashes : Type 0) (superblock : List ℕ) (plan : List (List Lin
   risen other (inl same) = absurd (other same)
   risen other (inr rose) = rose
 
-  or_right : (a b : Bool) → (a || b) ≡ false → b ≡ false
-  or_right true b e = absurd cc
-  or_right false b e = e
-
   -- by the count and by room
   by_room : is_whole ≡ true → new.faults ≡ before → (new.faults ≡ 2 ^ 64 - 1 → ⊥) → (b : Bool) → (is_broken_off || is_full) ≡ b → RunSince tells crashes superblock plan is_left before new (calls_of history told) (if b then ends.Memory else ends.Done)
   by_room whole same below true is = short
-  by_room whole same below false is = done whole (or_right is_broken_off is_full is) same below
+  by_room whole same below false is = done whole (neither is_broken_off is_full is).1 same below
 
   by_count : is_whole ≡ true → (new.faults ≡ before) ⊎ (new.faults ≡ before → ⊥) → (new.faults ≡ 2 ^ 64 - 1) ⊎ (new.faults ≡ 2 ^ 64 - 1 → ⊥)
-      → RunSince tells crashes superblock plan is_left before new (calls_of history told) (end_after true (is_broken_off || is_full) before new.faults)
+      → RunSince tells crashes superblock plan is_left before new (calls_of history told) (end_after true is_broken_off is_full before new.faults)
   by_count whole (inr other) last =
       rw (ne_eqb new.faults before other) (faulty whole (risen other (total_grew first now before counts few plan history told is_whole run new.faults grown)))
   by_count whole (inl same) (inl last) = rw (eq-eqb new.faults before same, eq-eqb new.faults (2 ^ 64 - 1) last) (faulty whole (inr last))
   by_count whole (inl same) (inr below) = rw (eq-eqb new.faults before same, ne_eqb new.faults (2 ^ 64 - 1) below) (by_room whole same below (is_broken_off || is_full) refl)
 
-  by_lines : (b : Bool) → is_whole ≡ b → RunSince tells crashes superblock plan is_left before new (calls_of history told) (end_after b (is_broken_off || is_full) before new.faults)
+  by_lines : (b : Bool) → is_whole ≡ b → RunSince tells crashes superblock plan is_left before new (calls_of history told) (end_after b is_broken_off is_full before new.faults)
   by_lines false is = short
   by_lines true is = by_count is (cases_eq new.faults before) (cases_eq new.faults (2 ^ 64 - 1))
 
-  pub run_ends : RunSince tells crashes superblock plan is_left before new (calls_of history told) (end_after is_whole (is_broken_off || is_full) before new.faults)
+  pub run_ends : RunSince tells crashes superblock plan is_left before new (calls_of history told) (end_after is_whole is_broken_off is_full before new.faults)
   run_ends = by_lines is_whole refl
 
 -- ---- a run that is done
@@ -248,11 +248,11 @@ pub record IsThrough (is_whole is_cut : Bool) (before now : ℕ) : Type 0 where
   pub same : now ≡ before
   pub below : now ≡ 2 ^ 64 - 1 → ⊥
 
-pub done_through : (is_whole is_cut : Bool) (before now : ℕ) → end_after is_whole is_cut before now ≡ ends.Done → IsThrough is_whole is_cut before now
-done_through false is_cut before now e = absurd (cc (e))
-done_through true is_cut before now e = by (now == before) refl (now == 2 ^ 64 - 1) refl is_cut refl e
+pub done_through : (is_whole is_broken_off is_full : Bool) (before now : ℕ) → end_after is_whole is_broken_off is_full before now ≡ ends.Done → IsThrough is_whole (is_broken_off || is_full) before now
+done_through false is_broken_off is_full before now e = absurd (cc (e))
+done_through true is_broken_off is_full before now e = by (now == before) refl (now == 2 ^ 64 - 1) refl (is_broken_off || is_full) refl e
   where
-    by : (a : Bool) → (now == before) ≡ a → (b : Bool) → (now == 2 ^ 64 - 1) ≡ b → (f : Bool) → is_cut ≡ f → (if not a || b then ends.Disk else (if f then ends.Memory else ends.Done)) ≡ ends.Done → IsThrough true is_cut before now
+    by : (a : Bool) → (now == before) ≡ a → (b : Bool) → (now == 2 ^ 64 - 1) ≡ b → (f : Bool) → (is_broken_off || is_full) ≡ f → (if not a || b then ends.Disk else (if f then ends.Memory else ends.Done)) ≡ ends.Done → IsThrough true (is_broken_off || is_full) before now
     by false x b y f z e = absurd (cc (e))
     by true x true y f z e = absurd (cc (e))
     by true x false y true z e = absurd (cc (e))

@@ -23,6 +23,7 @@ use Rattle.jfs_run.specs.Calls.{any_failed}
 use Rattle.jfs_run.specs.Ending.{end_after}
 use Rattle.jfs_run.specs.Legal.{all_at, AreLegal, GoOn, IsLegalRun, FollowsTree, IsLegalRunToHalt, LegalBy, HasTreeBehind, EndsOnTree, WasUnmounted, HasReplied}
 use Rattle.jfs_run.specs.declared.run.RunEnd.TheVariants as ends
+use Rattle.jfs_run.proofs.Ended.{neither}
 
 -- ---- where none was refused for a fault, all are legal
 
@@ -53,10 +54,6 @@ module _ (area : ℕ → ℕ) (log_pages : ℕ) (now : Moment) (start : Parts) w
 
 -- ---- by the end of the run
 
--- nothing was called
-pub none_legal : (s : Super) (page : ℕ → List ℕ) (now : Moment) → IsLegalRun s page now []
-none_legal s page now = inl refl
-
 by_end : (s : Super) (page : ℕ → List ℕ) (now : Moment) (es : List Entry) (is_whole rose is_cut : Bool) → IsLegalRunToHalt s page now es → (is_cut ≡ false → IsLegalRun s page now es)
     → LegalBy (if not is_whole then ends.Memory else (if rose then ends.Disk else (if is_cut then ends.Memory else ends.Done))) s page now es
 by_end s page now es false rose is_cut to_halt legal = to_halt
@@ -64,8 +61,10 @@ by_end s page now es true true is_cut to_halt legal = to_halt
 by_end s page now es true false true to_halt legal = to_halt
 by_end s page now es true false false to_halt legal = legal refl
 
-pub legal_by : (s : Super) (page : ℕ → List ℕ) (now : Moment) (es : List Entry) (is_whole is_cut : Bool) (before faults : ℕ) → IsLegalRunToHalt s page now es → (is_cut ≡ false → IsLegalRun s page now es) → LegalBy (end_after is_whole is_cut before faults) s page now es
-legal_by s page now es is_whole is_cut before faults to_halt legal = by_end s page now es is_whole (not (faults == before) || faults == 2 ^ 64 - 1) is_cut to_halt legal
+pub legal_by : (s : Super) (page : ℕ → List ℕ) (now : Moment) (es : List Entry) (is_whole is_broken_off is_full : Bool) (before faults : ℕ) → IsLegalRunToHalt s page now es → (is_broken_off ≡ false → IsLegalRun s page now es)
+    → LegalBy (end_after is_whole is_broken_off is_full before faults) s page now es
+legal_by s page now es is_whole is_broken_off is_full before faults to_halt legal =
+    by_end s page now es is_whole (not (faults == before) || faults == 2 ^ 64 - 1) (is_broken_off || is_full) to_halt (λ uncut. legal (neither is_broken_off is_full uncut).0)
 
 module _ (s : Super) (page : ℕ → List ℕ) (now : Moment) (is_broken_off : Bool) (es : List Entry) (p : Parts) (r : HasReplied s page now is_broken_off es p) where
   follows : AreLegal (volume_of s page).area s.logpxd.len now r.start es → FollowsTree s page now es

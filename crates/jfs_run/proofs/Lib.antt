@@ -12,3 +12,5 @@ pub mod Ended
 pub mod Begun
 pub mod Legally
 pub mod Finished
+pub mod Durable
+pub mod Replied

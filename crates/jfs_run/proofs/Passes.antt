@@ -19,9 +19,9 @@ use Rattle.jfs_server.specs.turns.specs.Passes.{ArePasses}
 use Rattle.jfs_run.specs.Clients.{ServerPass, IsReady, AreReady, Came, EachCame}
 use Rattle.jfs_run.specs.Serving.{AreMarked, EachMarked, AreFronts, HaveRoom}
 use Rattle.jfs_run.specs.Tasks.{plan_of, lines_in, PlanFits}
-use Rattle.jfs_run.specs.Telling.{marks_in}
+use Rattle.jfs_run.specs.Telling.{marks_in, marks_left}
 use Rattle.jfs_run.proofs.Came as came
-use Rattle.jfs_run.proofs.Came.{some_of, kept, goes}
+use Rattle.jfs_run.proofs.Came.{some_of, kept, most_marks, goes}
 
 -- ---- lists, by the places of their elements
 
@@ -130,6 +130,22 @@ module _ {D : Type 0} (d : Ghosts D) where
   pub may_stop : (table : TableId) (total : ℕ) (base : Base) (qs : List (ServerPass d)) → EachFrom (λ j q. IsSeat table total j q × (q.seat.me.0.base ≡ base)) 1 qs → length qs ≡ total → ArePasses table (length qs) qs
   may_stop table total base qs each many = subst (λ (n : ℕ). ArePasses table n qs) (sym many) (λ i q at. (at_place (λ j q. IsSeat table total j q × (q.seat.me.0.base ≡ base)) 1 qs each i q at).0)
 
+  -- ---- marks
+
+  pub few_came : (now : Moment) (failed : Bool) (scripts : List (Vec Line)) (ps qs : List (ServerPass d)) (marks : List (Vec Bool)) → EachCame d now failed scripts ps qs marks → (length marks ≡ length scripts) × (marks_left (marks_in marks) ≤ lines_in (plan_of scripts))
+  few_came now failed [] [] [] [] all = (refl, omega arith)
+  few_came now failed (s ∷ ss) (p ∷ ps) (q ∷ qs) (m ∷ ms) all =
+      let c = all.0 in
+      let one = most_marks d s.items (record { pass = Some p; now = now; waits = []; failed = false }) (record { pass = Some q; now = now; waits = m.items; failed = c.its }) c.ran in
+      let more = few_came now failed ss ps qs ms all.1 in
+      (ap suc more.0, let rest = more.1 in omega (arith, one, rest))
+  few_came now failed [] [] [] (m ∷ ms) all = absurd all
+  few_came now failed [] [] (q ∷ qs) ms all = absurd all
+  few_came now failed [] (p ∷ ps) qs ms all = absurd all
+  few_came now failed (s ∷ ss) [] qs ms all = absurd all
+  few_came now failed (s ∷ ss) (p ∷ ps) [] ms all = absurd all
+  few_came now failed (s ∷ ss) (p ∷ ps) (q ∷ qs) [] all = absurd all
+
   -- ---- the list of all entries has those of a front of each client's lines
 
   module _ (now : Moment) (failed : Bool) (durable : ℕ) (list : List Recorded) where
@@ -158,3 +174,10 @@ module _ {D : Type 0} (d : Ghosts D) where
     fronts table total base k (s ∷ ss) [] qs ms each all on = absurd all
     fronts table total base k (s ∷ ss) (p ∷ ps) [] ms each all on = absurd all
     fronts table total base k (s ∷ ss) (p ∷ ps) (q ∷ qs) [] each all on = absurd all
+
+-- before the first call there are none
+pub few_ready : (scripts : List (Vec Line)) (marks : List (Vec Bool)) → HaveRoom scripts marks → (length marks ≡ length scripts) × (marks_left (marks_in marks) ≤ lines_in (plan_of scripts))
+few_ready [] [] room = (refl, omega arith)
+few_ready (s ∷ ss) (m ∷ ms) room = let more = few_ready ss ms room.2 in (ap suc more.0, let rest = more.1 in let none = ap length room.0 in omega (arith, none, rest))
+few_ready [] (m ∷ ms) room = absurd room
+few_ready (s ∷ ss) [] room = absurd room

@@ -33,12 +33,12 @@ use Rattle.jfs_run.specs.Calls.{AreOfClients, any_failed}
 use Rattle.jfs_run.specs.Clients.{ServerPass, EachCame}
 use Rattle.jfs_run.specs.Legal.{all_at, HasReplied}
 use Rattle.jfs_run.specs.Mounted.{State, state, MayCall, PartRose, Since}
-use Rattle.jfs_run.specs.Serving.{AreCalled, IsUncalled, IsHandedOut, IsCalled, IsServed}
+use Rattle.jfs_run.specs.Serving.{AreCalled, HaveRoom, IsUncalled, IsHandedOut, IsCalled, IsServed}
 use Rattle.jfs_run.specs.Tasks.{plan_of}
 use Rattle.jfs_run.specs.Telling.{marks_in}
 use Rattle.jfs_run.specs.declared.serving.Called.{Called}
 use Rattle.jfs_run.proofs.Marked.{AreAll, are_all}
-use Rattle.jfs_run.proofs.Passes.{EachFrom, from_places, at_place, last_place, IsFresh, IsSeat, fresh, each_kept, seats, fronts}
+use Rattle.jfs_run.proofs.Passes.{EachFrom, from_places, at_place, last_place, IsFresh, IsSeat, fresh, each_kept, seats, fronts, few_came, few_ready}
 use Rattle.jfs_run.proofs.Plans.{many_marks}
 use Rattle.jfs_run.proofs.Since.{at_mount}
 
@@ -54,9 +54,10 @@ module _ {D : Type 0} (d : Ghosts D) (scripts : List (Vec Line)) (now : Moment) 
   uncalled_calm : (x : Called D d) → IsUncalled d x → any_failed x.history.items ≡ false
   uncalled_calm x u = ap any_failed u.history
 
-  pub uncalled : (x : Called D d) → IsUncalled d x → x.mounted ≡ m → MayCall first → m.volume.halted ≡ None → IsServed d scripts now image s first marks x
-  uncalled x u same may runs = record {
+  pub uncalled : (x : Called D d) → IsUncalled d x → x.mounted ≡ m → MayCall first → m.volume.halted ≡ None → HaveRoom scripts marks → IsServed d scripts now image s first marks x
+  uncalled x u same may runs room = record {
     calls = inl u;
+    few = few_ready scripts marks room;
     since = subst (λ (n : Mounted D d). Since first (state d n.volume n.log)) (sym same) (at_mount first may runs);
     calm = inl (uncalled_calm x u);
   }
@@ -146,6 +147,7 @@ module _ {D : Type 0} (d : Ghosts D) (scripts : List (Vec Line)) (now : Moment) 
     pub is_served : (x : Called D d) → x.mounted ≡ stopped.mounted → (d.tells → super_of (page_of image 8) ≡ s) → IsUncalled d x ⊎ IsHandedOut d scripts failed marks stopped x → IsServed d scripts now image s first marks x
     is_served x same spelled (inl u) = record {
       calls = inl u;
+      few = few_came d now failed scripts passes after marks came;
       since = subst (λ (n : Mounted D d). Since first (state d n.volume n.log)) (sym same) stopped_since;
       calm = inl (uncalled_calm x u);
     }
@@ -159,6 +161,7 @@ module _ {D : Type 0} (d : Ghosts D) (scripts : List (Vec Line)) (now : Moment) 
             whole = h.whole;
             replied = λ t consistent. replied t (spelled t) consistent others x.is_broken_off h.is_broken_off;
           });
+          few = few_came d now failed scripts passes after marks came;
           since = stopped_since;
           calm = stopped_calm;
         }

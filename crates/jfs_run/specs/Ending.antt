@@ -48,5 +48,6 @@ TakesBy before now (Err end) = FailsToTake before now end
 
 -- ---- how it ends
 
-abbrev pub end_after : Bool → Bool → ℕ → ℕ → RunEnd
-end_after is_whole is_cut before now = if not is_whole then ends.Memory else (if not (now == before) || now == 2 ^ 64 - 1 then ends.Disk else (if is_cut then ends.Memory else ends.Done))
+abbrev pub end_after : Bool → Bool → Bool → ℕ → ℕ → RunEnd
+end_after is_whole is_broken_off is_full before now =
+    if not is_whole then ends.Memory else (if not (now == before) || now == 2 ^ 64 - 1 then ends.Disk else (if is_broken_off || is_full then ends.Memory else ends.Done))

@@ -13,8 +13,8 @@ use Rattle.jfs_server.specs.shared.specs.legal.specs.served.specs.shown.specs.me
 use Rattle.jfs_run.specs.Calls.{IsEntryOf, IsTakenAs, AreOfClients, any_failed}
 use Rattle.jfs_run.specs.Legal.{HasReplied}
 use Rattle.jfs_run.specs.Mounted.{State, state, PartRose, Since}
-use Rattle.jfs_run.specs.Tasks.{plan_of}
-use Rattle.jfs_run.specs.Telling.{marks_in, AreAsMany}
+use Rattle.jfs_run.specs.Tasks.{plan_of, lines_in}
+use Rattle.jfs_run.specs.Telling.{marks_in, marks_left, AreAsMany}
 use Rattle.jfs_server.specs.declared.stopping.Stopped.{Stopped}
 use Rattle.jfs_run.specs.declared.serving.Called.{Called}
 
@@ -87,8 +87,9 @@ module _ {D : Type 0} (d : Ghosts D) where
     pub whole : x.is_whole ≡ true → AreAsMany scripts marks
     pub replied : d.tells → IsConsistentImage s (page_of image) → HasReplied s (page_of image) now x.is_broken_off x.history.items x.mounted.volume
 
-  -- one or the other; and unless a call on the disk failed, none of them was refused for a fault
+  -- One or the other, with no more marks than lines; and unless a call on the disk failed, none of them was refused for a fault.
   pub record IsServed (scripts : List (Vec Line)) (now : Moment) (image : Image) (s : Super) (old : State) (marks : List (Vec Bool)) (x : Called D d) : Type 0 where
     pub calls : IsUncalled x ⊎ IsCalled scripts now image s marks x
+    pub few : (length marks ≡ length scripts) × (marks_left (marks_in marks) ≤ lines_in (plan_of scripts))
     pub since : Since old (state d x.mounted.volume x.mounted.log)
     pub calm : (any_failed x.history.items ≡ false) ⊎ PartRose old (state d x.mounted.volume x.mounted.log)

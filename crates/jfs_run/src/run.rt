@@ -276,7 +276,8 @@ fn run_mounted<I: MountedFrom, D: Disk + Send, G: Gate + Sync, R: Threads + Wait
     let ended = end(m, &mut point, &superblock, is_left);
     let end = end_after(
         is_whole,
-        is_broken_off || ended.is_full,
+        is_broken_off,
+        ended.is_full,
         before,
         ended.disk.faults(),
     );
@@ -289,14 +290,14 @@ fn run_mounted<I: MountedFrom, D: Disk + Send, G: Gate + Sync, R: Threads + Wait
 }
 
 /// How a run ended whose volume was mounted. A count at its last value counts as one that rose; a history that broke off, and a log whose pages have no more numbers, as want of memory.
-fn end_after(is_whole: bool, is_cut: bool, before: u64, now: u64) -> RunEnd
-    ensures { result ≡ end_after is_whole is_cut before now }
+fn end_after(is_whole: bool, is_broken_off: bool, is_full: bool, before: u64, now: u64) -> RunEnd
+    ensures { result ≡ end_after is_whole is_broken_off is_full before now }
 {
     if !is_whole {
         RunEnd::Memory
     } else if now != before || now == u64::MAX {
         RunEnd::Disk
-    } else if is_cut {
+    } else if is_broken_off || is_full {
         RunEnd::Memory
     } else {
         RunEnd::Done

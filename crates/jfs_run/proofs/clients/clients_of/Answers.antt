@@ -100,8 +100,9 @@ returns-clause-clients g c =
     let over = c.loop-test.false in
     let none = nil_of c.loop.passes.items (omega (arith, inv.left, over)) in
     let unmarked = nil_of c.loop.marks.items (omega (arith, inv.left, inv.same, over)) in
+    let nobody : List (Client g.row.D.Denot g.row.G.Denot d) = [] in
     subst (AreClientsOf d c.args.now c.args.passes.now.items c.args.marks.now.items) (append-nil c.loop.clients.items)
-    (inv.so_far [] (subst {A = List (ServerPass d) × List (Vec Bool)} (λ z. AreClientsOf d c.args.now z.0 z.1 []) (λ i. (sym none i, sym unmarked i)) tt))
+    (inv.so_far [] (subst {A = List (ServerPass d) × List (Vec Bool)} (λ z. AreClientsOf d c.args.now z.0 z.1 nobody) (λ i. (sym none i, sym unmarked i)) tt))
 
 pub returns-clause-passes : goal.returns-clause-passes
 returns-clause-passes g c = let inv = c.loop.invariant in let over = c.loop-test.false in (nil_of c.loop.passes.items (omega (arith, inv.left, over)), inv.passes)

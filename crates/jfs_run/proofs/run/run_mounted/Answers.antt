@@ -1,46 +1,123 @@
-use Rattle.std.proofs.Common.{rules, ◌≡◌, ◌⊎◌, ◌≤◌, ◌<◌, ◌+◌, ◌-◌, ◌^◌, [], length, vec_capacity, IfOk, IfErr, ℕ, ◌*◌, ◌/◌, ◌%◌, Bool, true, false, nat_eq, nat_lt, List, ◌∷◌, ◌++◌, slice_index_or, slice_set, bit_and, bit_or, Fits, w8, w32, w64, Bor, MutBor}
+use Rattle.std.proofs.Common.{◌≡◌, ◌⊎◌, ◌∙◌, ◌+◌, ◌++◌, ◌<◌, ◌^◌, [], ℕ, List, length, refl, sym, ap, subst, ⊎_elim, inl, inr, arith}
+use Rattle.std.specs.Prelude.{None, Bool}
+use Rattle.std.proofs.lemmas.List.{length-map}
+use Rattle.std.specs.Global.{Vec}
 use Rattle.jfs_bits.specs.Count.{Rose}
 use Rattle.jfs_disk.specs.Image.{page_of}
-use Rattle.jfs_super.specs.Rules.{IsAccepted}
-use Rattle.jfs_super.specs.Super.{super_of, FitsSuper}
-use Rattle.jfs_super.specs.declared.fields.TheConstants.VolumeState.{CLEAN}
-use Rattle.jfs_script.specs.History.{IsRisingFrom}
-use Rattle.jfs_server.specs.shared.specs.Start.{IsJustMounted}
-use Rattle.jfs_server.specs.shared.specs.legal.specs.served.specs.mounted.specs.declared.mounted.MountError.{MountError}
+use Rattle.jfs_plain.specs.declared.call.Entry.{Entry}
+use Rattle.jfs_plain.specs.declared.call.Line.{Line}
+use Rattle.jfs_mount.specs.meaning.specs.Image.{volume_of}
+use Rattle.jfs_server.specs.shared.specs.legal.proofs.Known.{laws}
 use Rattle.jfs_server.specs.shared.specs.legal.specs.served.specs.volume_calls.specs.Together.{log_parts}
-use Rattle.jfs_mount.specs.meaning.specs.Image.{IsConsistentImage}
-use Rattle.jfs_run.specs.Legal.{IsLegalRun, LegalBy, LeavesImage, IfUnmounted}
-use Rattle.jfs_run.specs.Run.{RunIs, seen}
-use Rattle.jfs_run.specs.Mounted.{state, MayCall}
-use Rattle.jfs_run.specs.Serving.{HaveRoom}
-use Rattle.jfs_run.specs.Tasks.{plan_of, lines_in, IsPlan}
-use Rattle.jfs_run.specs.Ending.{RunSince, end_after, end_of, TakesBy}
+use Rattle.jfs_run.specs.Ending.{end_after}
+use Rattle.jfs_run.specs.Legal.{all_at, IsLegalRun}
+use Rattle.jfs_run.specs.Mounted.{State, state, Few, PartRose}
+use Rattle.jfs_run.specs.Run.{seen}
+use Rattle.jfs_run.specs.Tasks.{plan_of}
+use Rattle.jfs_run.specs.Telling.{marks_of, told_from, marks_in, marks_left}
+use Rattle.jfs_run.proofs.Ended.{HasRun, has_run, rising, run_ends, done_through, neither, runs, calm, unrisen, halt_rose}
+use Rattle.jfs_run.proofs.Legally.{legal_by, ends_on}
+use Rattle.jfs_run.proofs.Replied.{legal_to_halt, legal_whole, legal_running, replied}
+use Rattle.jfs_run.proofs.Since.{few_of, rose_before}
+use Rattle.jfs_run.proofs.run.run_mounted.Given.{Over}
 use Rattle.jfs_run.proofs.run.run_mounted.Goals as goal
 
--- src/run.rt:270:5
 pub tell-requires-clause-clients : goal.tell-requires-clause-clients
-tell-requires-clause-clients g c = ?
+tell-requires-clause-clients g c =
+    let many = c.serve-mounted.ensures.served.few.0 in
+    let most = c.requires.plan.clients.1 in
+    let same = length-map c.args.scripts.now (λ (script : Vec Line). script.items) in
+    let slice = ap length c.as_slice-2.ensures.value in
+    omega (arith, many, most, same, slice)
 
--- src/run.rt:270:5
 pub tell-requires-clause-room : goal.tell-requires-clause-room
-tell-requires-clause-room g c = ?
+tell-requires-clause-room g c =
+    let few = c.serve-mounted.ensures.served.few.1 in
+    let room = c.requires.capacity.0 in
+    let none = ap length c.requires.none in
+    let len = c.args.taken.told.ok.0 in
+    let slice = ap (λ ms. marks_left (marks_in ms)) c.as_slice-2.ensures.value in
+    omega (arith, few, room, none, len, slice)
 
--- src/run.rt:228:1
+-- ---- the run
+
+abbrev first : (g : Over) → goal.After-drop-point-2 g → State
+first g c = state g.D.Disk c.args.m.volume c.args.m.log
+
+abbrev last : (g : Over) → goal.After-drop-point-2 g → State
+last g c = state g.D.Disk c.make_durable.new.m.volume c.make_durable.new.m.log
+
+few : (g : Over) (c : goal.After-drop-point-2 g) → Few (first g c)
+few g c = few_of (first g c) (let before = c.requires.before in let fits = c.ranges.before.fits in omega (arith, before, fits))
+
+run : (g : Over) (c : goal.After-drop-point-2 g) → HasRun (plan_of c.args.scripts.now) (first g c) c.serve-mounted.result.history.items c.tell.new.told.items c.serve-mounted.result.is_whole (last g c)
+run g c =
+    let x = c.serve-mounted.result in
+    let marks = c.serve-mounted.new.marks.items in
+    let e = c.make_durable.ensures in
+    let told : c.tell.new.told.items ≡ told_from 1 c.make_durable.new.m.log.durable (marks_of (marks_in marks) x.history.items) =
+    c.tell.ensures ∙ ap (λ (ns : List ℕ). ns ++ told_from 1 c.durable.result (marks_of (marks_in c.as_slice-2.result.now) c.as_slice.result.now)) c.requires.none
+    ∙ subst {A = ℕ × List (Vec Bool) × List Entry} (λ z. told_from 1 z.0 (marks_of (marks_in z.1) z.2) ≡ told_from 1 c.make_durable.new.m.log.durable (marks_of (marks_in marks) x.history.items)) (λ i. (sym c.durable.ensures i, sym c.as_slice-2.ensures.value i, sym c.as_slice.ensures.value i)) refl in
+    has_run g.D.Disk c.args.scripts.now c.args.now g.I.MountedFrom.image g.I.MountedFrom.block (first g c) (few g c) marks x (last g c) c.tell.new.told.items e.keeps e.halted e.durable e.appended told c.serve-mounted.ensures.served
+
 pub returns-clause-ran : goal.returns-clause-ran
-returns-clause-ran g c = ?
+returns-clause-ran g c =
+    let d = g.D.Disk in
+    let x = c.serve-mounted.result in
+    rw (c.end_after-end.ensures, c.faults.ensures)
+    (run_ends d.tells d.tells_crashes c.args.taken.superblock.0 (plan_of c.args.scripts.now) c.args.is_left x.is_broken_off c.end-ended.result.is_full (first g c) (last g c) c.args.before c.requires.before c.ranges.before.fits
+    x.history.items c.tell.new.told.items x.is_whole (run g c) (seen d c.end-ended.result.disk) c.end-ended.ensures.faults c.end-ended.ensures.ended)
 
--- src/run.rt:228:1
 pub returns-clause-legal : goal.returns-clause-legal
-returns-clause-legal g c = ?
+returns-clause-legal g c = λ t consistent.
+    let d = g.D.Disk in
+    let x = c.serve-mounted.result in
+    let s = g.I.MountedFrom.block in
+    let image = g.I.MountedFrom.image in
+    let marks = c.serve-mounted.new.marks.items in
+    let served = c.serve-mounted.ensures.served in
+    rw c.end_after-end.ensures
+    (legal_by s (page_of image) c.args.now x.history.items x.is_whole x.is_broken_off c.end-ended.result.is_full c.args.before c.faults.result
+    (legal_to_halt d c.args.scripts.now c.args.now image s (first g c) marks x t consistent served) (legal_whole d c.args.scripts.now c.args.now image s (first g c) marks x t consistent served))
 
--- src/run.rt:228:1
 pub returns-clause-unbroken : goal.returns-clause-unbroken
-returns-clause-unbroken g c = ?
+returns-clause-unbroken g c = λ t consistent.
+    let d = g.D.Disk in
+    let x = c.serve-mounted.result in
+    let s = g.I.MountedFrom.block in
+    let image = g.I.MountedFrom.image in
+    let marks = c.serve-mounted.new.marks.items in
+    let served = c.serve-mounted.ensures.served in
+    let total : ℕ = d.fault_count c.end-ended.result.disk in
+    ⊎_elim
+    (λ runs. inr (legal_running d c.args.scripts.now c.args.now image s (first g c) marks x t consistent served runs))
+    (λ rose. inl (halt_rose (first g c) (last g c) c.args.before c.requires.before c.ranges.before.fits (plan_of c.args.scripts.now) x.history.items c.tell.new.told.items x.is_whole (run g c) total c.end-ended.ensures.faults
+    (rose_before (first g c) (state d x.mounted.volume x.mounted.log) (last g c) (few g c) served.since c.make_durable.ensures.keeps rose)))
+    served.since.halted
 
--- src/run.rt:228:1
 pub returns-clause-leaves : goal.returns-clause-leaves
-returns-clause-leaves g c = ?
+returns-clause-leaves g c = λ t is done left consistent whole_files.
+    let d = g.D.Disk in
+    let x = c.serve-mounted.result in
+    let s = g.I.MountedFrom.block in
+    let image = g.I.MountedFrom.image in
+    let marks = c.serve-mounted.new.marks.items in
+    let served = c.serve-mounted.ensures.served in
+    let full = c.end-ended.result.is_full in
+    let before : ℕ = c.args.before in
+    let total : ℕ = d.fault_count c.end-ended.result.disk in
+    let plan = plan_of c.args.scripts.now in
+    let history = x.history.items in
+    let told = c.tell.new.told.items in
+    let grown = c.end-ended.ensures.faults in
+    let through = done_through x.is_whole x.is_broken_off full before total (sym (ap (λ (n : ℕ). end_after x.is_whole x.is_broken_off full before n) c.faults.ensures) ∙ sym c.end_after-end.ensures ∙ done) in
+    let uncut = neither x.is_broken_off full through.uncut in
+    let r = replied d c.args.scripts.now c.args.now image s (first g c) marks x t consistent served uncut.0 in
+    let runs_on = runs (first g c) (last g c) before c.requires.before c.ranges.before.fits plan history told x.is_whole (run g c) total grown through.same through.below in
+    ends_on s (page_of image) c.args.now x.is_broken_off history x.mounted.volume r laws d.tells d.tells_crashes t c.args.taken.superblock.0 c.make_durable.new.m.volume (log_parts d c.make_durable.new.m.log) (d.image c.end-ended.result.disk) whole_files is
+    (calm (first g c) (last g c) before c.requires.before c.ranges.before.fits plan history told x.is_whole (run g c) total grown through.same through.below)
+    (c.make_durable.ensures.legal t (volume_of s (page_of image)).area s.logpxd.len r.start (all_at c.args.now history) (r.goes_on uncut.0))
+    (unrisen (first g c) (last g c) before c.requires.before c.ranges.before.fits plan history told x.is_whole (run g c) total grown through.same through.below total refl (c.end-ended.ensures.leaves t left runs_on uncut.1))
 
--- src/run.rt:228:1
 pub returns-clause-rising : goal.returns-clause-rising
-returns-clause-rising g c = ?
+returns-clause-rising g c = rising c.serve-mounted.result.history.items c.tell.new.told.items (run g c).first_told

@@ -1,22 +1,47 @@
-use Rattle.std.proofs.Common.{rules, ◌≡◌, ◌⊎◌, ◌<◌, ◌+◌, ◌^◌, ℕ, List, ◌-◌, ◌*◌, ◌≤◌, length, ◌/◌, ◌%◌, Bool, true, false, nat_eq, nat_lt, [], ◌∷◌, ◌++◌, slice_index_or, slice_set, bit_and, bit_or, Fits, w8, w32, w64, Bor, MutBor}
-use Rattle.jfs_server.specs.shared.specs.Start.{IsJustMounted}
-use Rattle.jfs_server.specs.shared.specs.legal.specs.Until.{GoOn}
-use Rattle.jfs_server.specs.shared.specs.legal.specs.served.specs.halves.specs.Parts.{Parts}
-use Rattle.jfs_server.specs.shared.specs.legal.specs.served.specs.Legal.{Timed}
-use Rattle.jfs_server.specs.shared.specs.legal.specs.served.specs.volume_calls.specs.Together.{log_parts}
-use Rattle.jfs_run.specs.Mounted.{state, MayCall, PartRose, Keeps, IsMadeDurable}
-use Rattle.jfs_run.specs.Serving.{HaveRoom, IsUncalled, IsHandedOut, IsServed}
-use Rattle.jfs_run.specs.Tasks.{plan_of, IsPlan}
+use Rattle.std.proofs.Common.{◌≡◌, ◌⊎◌, ◌<◌, ◌∙◌, List, length, sym, subst, arith}
+use Rattle.std.specs.Prelude.{Bool}
+use Rattle.std.proofs.lemmas.List.{length-map}
+use Rattle.std.specs.Global.{Vec}
+use Rattle.jfs_plain.specs.declared.call.Line.{Line}
+use Rattle.jfs_server.specs.shared.specs.Start.{base_at}
+use Rattle.jfs_run.specs.Serving.{IsUncalled, IsHandedOut}
+use Rattle.jfs_run.proofs.Passes.{fresh, ready, each_kept, seats, may_stop}
+use Rattle.jfs_run.proofs.Served.{is_served}
 use Rattle.jfs_run.proofs.serving.serve.Goals as goal
 
--- src/serving.rt:63:43
 pub do_scripts-passes-requires-clause-ready : goal.do_scripts-passes-requires-clause-ready
-do_scripts-passes-requires-clause-ready g c κs within = ?
+do_scripts-passes-requires-clause-ready g c κs within =
+    let d = g.D.Disk in
+    let base = base_at g.I.MountedFrom.block g.I.MountedFrom.image c.args.m.volume (d.page_count c.args.m.log.part) (d.fault_count c.args.m.log.part) in
+    let table = c.in-Ok-start_from.server.turns.table.shared.table_id in
+    let started = c.in-Ok-start_from.ensures.ok in
+    ready d table base (length c.args.scripts.now) 1 c.args.scripts.now c.in-Ok-start_from.passes.items c.args.marks.now.items (fresh d table base (length c.args.scripts.now) c.in-Ok-start_from.passes.items started) started.many
+    c.requires.plan.fit c.requires.plan.few c.requires.room
 
--- src/serving.rt:68:17
 pub stop-requires : goal.stop-requires
-stop-requires g c = ?
+stop-requires g c =
+    let d = g.D.Disk in
+    let base = base_at g.I.MountedFrom.block g.I.MountedFrom.image c.args.m.volume (d.page_count c.args.m.log.part) (d.fault_count c.args.m.log.part) in
+    let table = c.in-Ok-start_from.server.turns.table.shared.table_id in
+    let started = c.in-Ok-start_from.ensures.ok in
+    let passes = c.in-Ok-start_from.passes.items in
+    let after = c.do_scripts-passes.result.passes.items in
+    let kept = each_kept d c.args.now c.do_scripts-passes.result.failed c.args.scripts.now passes after c.do_scripts-passes.new.marks.items c.do_scripts-passes.ensures.came in
+    let back = seats d table (length c.args.scripts.now) base 1 passes after kept (fresh d table base (length c.args.scripts.now) passes started) in
+    let some = c.requires.plan.clients.0 in
+    let same = length-map c.args.scripts.now (λ (script : Vec Line). script.items) in
+    let many = started.many in
+    let as_many = back.1 in
+    record { passes = (may_stop d table (length c.args.scripts.now) base after back.0 (as_many ∙ many), omega (arith, some, same, many, as_many)) }
 
--- src/serving.rt:42:1
 pub returns-in-Ok-start_from : goal.returns-in-Ok-start_from
-returns-in-Ok-start_from g c = ?
+returns-in-Ok-start_from g c =
+    let d = g.D.Disk in
+    let table = c.in-Ok-start_from.server.turns.table.shared.table_id in
+    let some = c.requires.plan.clients.0 in
+    let same = length-map c.args.scripts.now (λ (script : Vec Line). script.items) in
+    record {
+      served = is_served d c.args.scripts.now c.args.now g.I.MountedFrom.image g.I.MountedFrom.block c.args.m c.do_scripts-passes.new.marks.items c.stop.result c.do_scripts-passes.result.failed table c.in-Ok-start_from.passes.items c.do_scripts-passes.result.passes.items
+          c.in-Ok-start_from.ensures.ok c.do_scripts-passes.ensures.came (omega (arith, some, same)) c.stop.ensures.stopped c.handed_out.result c.handed_out.ensures.same c.requires.mounted.spelled
+          (subst (λ (ms : List (Vec Bool)). IsUncalled d c.handed_out.result ⊎ IsHandedOut d c.args.scripts.now c.do_scripts-passes.result.failed ms c.stop.result c.handed_out.result) c.as_slice.ensures.value c.handed_out.ensures.handed_out);
+    }
