@@ -6,7 +6,7 @@ use Rattle.jfs_plain.specs.declared.call.Line.{Line}
 use Rattle.jfs_server.specs.shared.specs.Start.{base_at}
 use Rattle.jfs_run.specs.Serving.{IsUncalled, IsHandedOut}
 use Rattle.jfs_run.proofs.Passes.{fresh, ready, each_kept, seats, may_stop}
-use Rattle.jfs_run.proofs.Served.{is_served}
+use Rattle.jfs_run.proofs.Served.{uncalled, is_served}
 use Rattle.jfs_run.proofs.serving.serve.Goals as goal
 
 pub do_scripts-passes-requires-clause-ready : goal.do_scripts-passes-requires-clause-ready
@@ -45,3 +45,15 @@ returns-in-Ok-start_from g c =
           c.in-Ok-start_from.ensures.ok c.do_scripts-passes.ensures.came (omega (arith, some, same)) c.stop.ensures.stopped c.handed_out.result c.handed_out.ensures.same c.requires.mounted.spelled
           (subst (λ (ms : List (Vec Bool)). IsUncalled d c.handed_out.result ⊎ IsHandedOut d c.args.scripts.now c.do_scripts-passes.result.failed ms c.stop.result c.handed_out.result) c.as_slice.ensures.value c.handed_out.ensures.handed_out);
     }
+
+-- ---- memory lacked for the clients
+
+pub returns-in_default : goal.returns-in_default
+returns-in_default g c = record {
+  served = uncalled g.D.Disk c.args.scripts.now c.args.now g.I.MountedFrom.image g.I.MountedFrom.block c.args.m c.args.marks.now.items c.uncalled.result c.uncalled.ensures.uncalled c.uncalled.ensures.same c.requires.may c.requires.mounted.runs c.requires.room;
+}
+
+pub returns-in-Err : goal.returns-in-Err
+returns-in-Err g c = record {
+  served = uncalled g.D.Disk c.args.scripts.now c.args.now g.I.MountedFrom.image g.I.MountedFrom.block c.args.m c.args.marks.now.items c.uncalled-in-Err.result c.uncalled-in-Err.ensures.uncalled (c.uncalled-in-Err.ensures.same ∙ c.in-Err.ensures.err) c.requires.may c.requires.mounted.runs c.requires.room;
+}
