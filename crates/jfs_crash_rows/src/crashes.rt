@@ -33,7 +33,13 @@ pub fn choices(alloc: Global, seed: u32) -> Result<Vec<Choice>, AllocError> {
 }
 
 /// How many lines a volume holds after a crash and a redo, of those of a script; `None` where it has no tree after so many or more as were told.
-fn survives<R: Threads + Wait + Sync>(rt: &R, alloc: Global, lines: &[Line], fail: Fail, seed: u32) -> Option<usize>
+fn survives<R: Threads + Wait + Sync>(
+    rt: &R,
+    alloc: Global,
+    lines: &[Line],
+    fail: Fail,
+    seed: u32,
+) -> Option<usize>
     requires { AllFit lines.now }
 {
     let came = left(rt, alloc, lines, &[fail])?;
@@ -94,7 +100,13 @@ static LOST: [(u64, u32, usize); 5] = [
 ];
 
 /// How many of the changes are redone then, as the tree has it.
-fn redone_of<R: Threads + Wait + Sync>(rt: &R, alloc: Global, lines: &[Line], sync: u64, page: u32) -> Option<usize>
+fn redone_of<R: Threads + Wait + Sync>(
+    rt: &R,
+    alloc: Global,
+    lines: &[Line],
+    sync: u64,
+    page: u32,
+) -> Option<usize>
     requires { AllFit lines.now }
 {
     let fail = Fail {

@@ -23,7 +23,12 @@ pub fn redone_tree(alloc: Global, disk: MemDisk) -> Option<PlainTree> {
 }
 
 /// How many lines a volume holds that is left behind a front of a script, once it is redone; `None` where it isn't the tree after those up to the last one that was told.
-fn held<R: Threads + Wait + Sync>(rt: &R, alloc: Global, lines: &[Line], count: usize) -> Option<usize>
+fn held<R: Threads + Wait + Sync>(
+    rt: &R,
+    alloc: Global,
+    lines: &[Line],
+    count: usize,
+) -> Option<usize>
     requires { AllFit lines.now }
 {
     let came = left(rt, alloc, lines.get(..count)?, &[])?;

@@ -34,7 +34,8 @@ pub struct Wanted {
 
 /// The disk after a script is run that ends so; `None` where it doesn't.
 pub fn after<R: Threads + Wait + Sync>(
-    rt: &R, alloc: Global,
+    rt: &R,
+    alloc: Global,
     disk: MemDisk,
     script: &[u8],
     is_left: bool,
@@ -52,7 +53,13 @@ pub fn after<R: Threads + Wait + Sync>(
 }
 
 /// The same of a volume that wasn't unmounted, once it is redone.
-pub fn after_redo<R: Threads + Wait + Sync>(rt: &R, alloc: Global, disk: MemDisk, script: &[u8], wanted: &Wanted) -> Option<MemDisk> {
+pub fn after_redo<R: Threads + Wait + Sync>(
+    rt: &R,
+    alloc: Global,
+    disk: MemDisk,
+    script: &[u8],
+    wanted: &Wanted,
+) -> Option<MemDisk> {
     let mut disk = disk;
     if !is_redone(alloc, &mut disk) {
         return None;

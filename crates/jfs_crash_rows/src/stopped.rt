@@ -46,7 +46,12 @@ fn first_difference(a: &mut MemDisk, b: &mut MemDisk) -> Option<u32> {
 }
 
 /// A disk that is left behind so many lines, where nothing is pending.
-fn rested<R: Threads + Wait + Sync>(rt: &R, alloc: Global, lines: &[Line], count: usize) -> Option<MemDisk>
+fn rested<R: Threads + Wait + Sync>(
+    rt: &R,
+    alloc: Global,
+    lines: &[Line],
+    count: usize,
+) -> Option<MemDisk>
     requires { AllFit lines.now }
 {
     let came = left(rt, alloc, lines.get(..count)?, &[])?;
@@ -55,7 +60,8 @@ fn rested<R: Threads + Wait + Sync>(rt: &R, alloc: Global, lines: &[Line], count
 
 /// A redo of which all calls of a kind fail from this one on, then a crash, and a redo that is beside the one that wasn't stopped.
 fn stopped<R: Threads + Wait + Sync>(
-    rt: &R, alloc: Global,
+    rt: &R,
+    alloc: Global,
     lines: &[Line],
     whole: &mut MemDisk,
     kind: Kind,
@@ -84,7 +90,12 @@ fn stopped<R: Threads + Wait + Sync>(
 }
 
 /// How many calls of a kind a redo has at which it can be stopped so that the next one gives the same; and what comes then.
-fn stops<R: Threads + Wait + Sync>(rt: &R, alloc: Global, lines: &[Line], kind: Kind) -> Option<(u64, Outcome)>
+fn stops<R: Threads + Wait + Sync>(
+    rt: &R,
+    alloc: Global,
+    lines: &[Line],
+    kind: Kind,
+) -> Option<(u64, Outcome)>
     requires { AllFit lines.now }
 {
     let mut whole = rested(rt, alloc, lines, FRONT)?;
@@ -115,7 +126,12 @@ fn a_redo_that_is_stopped_is_made_again(rt: HostRuntime) {
 const THREE: &'static [u8] = b"mkdir /a 0755\ncreate /a/f 0644\nfill /a/f 0 65536 41\n";
 
 /// How many transactions are redone, and whether the volume is clean then with 2,959 free blocks and 6 inodes, where a redo before that failed from its fourth write on and a crash left these contents.
-fn redone_behind<R: Threads + Wait + Sync>(rt: &R, alloc: Global, lines: &[Line], left: &[Choice]) -> Option<(u32, bool)>
+fn redone_behind<R: Threads + Wait + Sync>(
+    rt: &R,
+    alloc: Global,
+    lines: &[Line],
+    left: &[Choice],
+) -> Option<(u32, bool)>
     requires { AllFit lines.now }
 {
     let fail = Fail {

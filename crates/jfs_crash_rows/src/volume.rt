@@ -90,9 +90,7 @@ pub fn ran_at_once<D: Disk + Send + Drop, G: Gate + Sync, R: Threads + Wait + Sy
     if s.state != VolumeState::CLEAN {
         return None;
     }
-    Some(run_lines(
-        rt, alloc, disk, &s, scripts, NOW, is_left, gate,
-    ))
+    Some(run_lines(rt, alloc, disk, &s, scripts, NOW, is_left, gate))
 }
 
 /// The same of one script.
@@ -138,7 +136,12 @@ pub struct Ended {
 }
 
 /// What a run leaves of a new volume, where these calls of its disk fail. Where some do, it unmounts the volume at its end, unless one of them has stopped it.
-pub fn left<R: Threads + Wait + Sync>(rt: &R, alloc: Global, lines: &[Line], fails: &[Fail]) -> Option<Ended>
+pub fn left<R: Threads + Wait + Sync>(
+    rt: &R,
+    alloc: Global,
+    lines: &[Line],
+    fails: &[Fail],
+) -> Option<Ended>
     requires { AllFit lines.now }
 {
     let ran = ran(rt, alloc, formatted(alloc, fails)?, lines, fails.is_empty())?;
