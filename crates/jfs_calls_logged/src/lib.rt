@@ -1,4 +1,4 @@
-//! What the transaction of each file call logs: each page that the log keeps safe, and of blocks that stay in use their owners. Laws alone: there is no code that a mistake could be planted in.
+//! What the transaction of a file call logs, of a change of a mode so far: each page that the log keeps safe, and of blocks that stay in use their owners. Laws alone: there is no code that a mistake could be planted in.
 #![tactic(auto)]
 
 mod law;
