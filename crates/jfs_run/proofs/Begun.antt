@@ -1,6 +1,5 @@
 -- A volume as a mount leaves it.
-use Rattle.std.proofs.Common.{◌≡◌, ◌<◌, ◌≤◌, ℕ, false, length, ap, ◌∙◌, sym, subst, arith}
-use Rattle.std.proofs.lemmas.Bool.{false≢true}
+use Rattle.std.proofs.Common.{◌≡◌, ◌<◌, ℕ, length, ap, sym, subst, arith}
 use Rattle.std.specs.Prelude.{None}
 use Rattle.jfs_disk.specs.Image.{Image, page_of}
 use Rattle.jfs_logpages.specs.Fresh.{IsFreshLog}

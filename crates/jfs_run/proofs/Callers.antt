@@ -1,5 +1,5 @@
 -- A client for each pass, and the passes and the marks that they come back with.
-use Rattle.std.proofs.Common.{◌≡◌, ◌≤◌, ◌<◌, ℕ, suc, Bool, true, false, List, [], ◌∷◌, ◌++◌, length, refl, sym, ap, ◌∙◌, subst, arith, append_assoc}
+use Rattle.std.proofs.Common.{◌≡◌, ◌≤◌, ◌<◌, suc, Bool, true, false, List, [], ◌∷◌, ◌++◌, length, refl, sym, ap, ◌∙◌, subst, arith, append_assoc}
 use Rattle.std.specs.Prelude.{◌||◌, Option, Some, vec_capacity, slice_index_or, remove}
 use Rattle.std.specs.Bool.{MatchBool}
 use Rattle.std.specs.Global.{Vec}

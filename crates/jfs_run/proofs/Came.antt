@@ -15,7 +15,6 @@ use Rattle.jfs_plain.specs.declared.call.Call.TheVariants as calls
 use Rattle.jfs_plain.specs.declared.call.Entry.{Entry}
 use Rattle.jfs_plain.specs.declared.call.Line.{Line}
 use Rattle.jfs_plain.specs.declared.call.Request.{Request}
-use Rattle.jfs_plain.specs.declared.refusal.Refusal.TheVariants.{OutOfMemory}
 use Rattle.jfs_plain.specs.declared.reply.Reply.{Reply}
 use Rattle.jfs_plain.specs.declared.reply.Reply.TheVariants.{Done, Refused}
 use Rattle.jfs_server.specs.Called.{KeepsPass}
@@ -25,11 +24,11 @@ use Rattle.jfs_server.specs.clients.specs.Ran.{wants_memory, Ran}
 use Rattle.jfs_server.specs.serving.specs.Called.{Keeps, IsAcked}
 use Rattle.jfs_server.specs.serving.specs.Calls.{Asked, asked, entry_of, is_rename, MayWait, MayGoOn}
 use Rattle.jfs_server.specs.shared.specs.Entries.{Recorded}
-use Rattle.jfs_server.specs.turns.specs.Lists.{Lacks, HasOwn, IsPrefix}
+use Rattle.jfs_server.specs.turns.specs.Lists.{Lacks, HasOwn}
 use Rattle.jfs_server.specs.turns.specs.Standing.{Standing}
 use Rattle.jfs_server.specs.turns.specs.declared.view.View.{View}
 use Rattle.jfs_server.specs.shared.specs.legal.specs.served.specs.files.specs.Written.{renames}
-use Rattle.jfs_run.specs.Calls.{IsEntryOf, IsTakenAs, is_done, waits, waits_with}
+use Rattle.jfs_run.specs.Calls.{IsTakenAs, is_done, waits_with}
 use Rattle.jfs_run.specs.Clients.{ServerPass}
 use Rattle.jfs_run.specs.Serving.{IsMarked, AreMarked}
 use Rattle.jfs_run.proofs.Marked.{own, over, none}

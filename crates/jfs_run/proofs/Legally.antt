@@ -1,15 +1,15 @@
 -- The entries of a run, as a legal history of a plain file tree.
-use Rattle.std.proofs.Common.{◌≡◌, ◌⊎◌, ◌-◌, ◌^◌, ◌++◌, ◌∷◌, [], refl, sym, ap, ◌∙◌, subst, ℕ, Bool, true, false, List, inl, inr, None}
+use Rattle.std.proofs.Common.{◌≡◌, ◌-◌, ◌^◌, ◌++◌, ◌∷◌, [], refl, sym, ap, ◌∙◌, ℕ, Bool, true, false, List, inl, inr, None}
 use Rattle.std.specs.Prelude.{◌||◌, ◌==◌, not, if◌then◌else◌}
 use Rattle.std.proofs.lemmas.Bool.{false≢true}
 use Rattle.jfs_bits.specs.declared.descriptor.Moment.{Moment}
-use Rattle.jfs_disk.specs.Image.{Image, page_of}
+use Rattle.jfs_disk.specs.Image.{Image}
 use Rattle.jfs_super.specs.Super.{super_of}
 use Rattle.jfs_super.specs.Rules.{blocks_of}
 use Rattle.jfs_super.specs.declared.fields.Super.{Super}
 use Rattle.jfs_super.specs.declared.fields.TheConstants.VolumeState.{CLEAN}
 use Rattle.jfs_plain.specs.declared.call.Entry.{Entry}
-use Rattle.jfs_mount.specs.meaning.specs.Image.{IsConsistentImage, volume_of}
+use Rattle.jfs_mount.specs.meaning.specs.Image.{volume_of}
 use Rattle.jfs_mount.specs.meaning.specs.Readers.{readers}
 use Rattle.jfs_server.specs.shared.specs.legal.proofs.Going.{legal_law}
 use Rattle.jfs_server.specs.shared.specs.legal.proofs.Replying.{Laws}
@@ -21,7 +21,7 @@ use Rattle.jfs_server.specs.shared.specs.legal.specs.served.specs.shown.specs.ki
 use Rattle.jfs_server.specs.shared.specs.legal.specs.served.proofs.Told.{told_ends}
 use Rattle.jfs_run.specs.Calls.{any_failed}
 use Rattle.jfs_run.specs.Ending.{end_after}
-use Rattle.jfs_run.specs.Legal.{all_at, AreLegal, GoOn, IsLegalRun, FollowsTree, IsLegalRunToHalt, LegalBy, HasTreeBehind, EndsOnTree, WasUnmounted, HasReplied}
+use Rattle.jfs_run.specs.Legal.{all_at, AreLegal, GoOn, IsLegalRun, FollowsTree, IsLegalRunToHalt, LegalBy, EndsOnTree, WasUnmounted, HasReplied}
 use Rattle.jfs_run.specs.declared.run.RunEnd.TheVariants as ends
 use Rattle.jfs_run.proofs.Ended.{neither}
 

@@ -1,16 +1,15 @@
 -- The entries of a list, each client's with its marks: what is so of each client's is so of all.
-use Rattle.std.proofs.Common.{◌≡◌, ◌≤◌, ◌<◌, ◌+◌, ◌⊎◌, ℕ, zero, suc, Bool, true, false, List, [], ◌∷◌, ◌++◌, length, take, map, refl, sym, ap, ap₂, ◌∙◌, subst, inl, inr, arith}
+use Rattle.std.proofs.Common.{◌≡◌, ◌≤◌, ◌<◌, ◌+◌, ◌⊎◌, ℕ, suc, Bool, true, false, List, [], ◌∷◌, ◌++◌, length, refl, sym, ap, ap₂, ◌∙◌, subst, inl, inr, arith}
 use Rattle.std.specs.Prelude.{◌==◌, if◌then◌else◌}
 use Rattle.std.specs.Bool.{MatchBool}
-use Rattle.std.proofs.lemmas.Bool.{cases_eq, eq-eqb, ne_eqb, eqb-true, eqb-false}
+use Rattle.std.proofs.lemmas.Bool.{cases_eq, eq-eqb, ne_eqb}
 use Rattle.jfs_bits.specs.declared.descriptor.Moment.{Moment}
-use Rattle.jfs_plain.specs.declared.call.Entry.{Entry}
 use Rattle.jfs_plain.specs.declared.call.Line.{Line}
 use Rattle.jfs_server.specs.shared.specs.Entries.{Recorded}
 use Rattle.jfs_server.specs.shared.specs.Shared.{entries_in, timed, timed_in}
 use Rattle.jfs_server.specs.shared.specs.legal.specs.served.specs.Legal.{Timed}
 use Rattle.jfs_server.specs.turns.specs.Lists.{Lacks}
-use Rattle.jfs_run.specs.Calls.{IsEntryOf, AreEntriesOf, BeginWith, entries_of, EachClient, AreOfClients, HaveEntries, HaveFronts, IsTakenAs, AreTakenAs}
+use Rattle.jfs_run.specs.Calls.{AreEntriesOf, BeginWith, entries_of, EachClient, AreOfClients, HaveFronts, AreTakenAs}
 use Rattle.jfs_run.specs.Legal.{all_at}
 use Rattle.jfs_run.specs.Telling.{first_of, rest_of, mark_of, left_by, marks_of}
 use Rattle.jfs_run.specs.Serving.{IsMarked, AreMarked, EachMarked, AreFronts, AreCalled}

@@ -1,6 +1,6 @@
 -- The passes of a server, before a run and behind it.
-use Rattle.std.proofs.Common.{◌≡◌, ◌≤◌, ◌<◌, ◌+◌, ℕ, zero, suc, Bool, true, false, List, [], ◌∷◌, ◌++◌, length, take, refl, sym, ap, ◌∙◌, subst, arith}
-use Rattle.std.specs.Prelude.{Option, Some}
+use Rattle.std.proofs.Common.{◌≡◌, ◌≤◌, ◌<◌, ◌+◌, ℕ, zero, suc, Bool, false, List, [], ◌∷◌, ◌++◌, length, take, refl, sym, ap, ◌∙◌, subst, arith}
+use Rattle.std.specs.Prelude.{Some}
 use Rattle.std.specs.Global.{Vec}
 use mathlib.Core.Option.{some, some-injective, some-ne-none}
 use lib.ListN.{get_elem?}
@@ -9,14 +9,12 @@ use Rattle.jfs_bits.specs.declared.descriptor.Moment.{Moment}
 use Rattle.jfs_disk.specs.declared.disk.Disk.{Ghosts}
 use Rattle.jfs_plain.specs.declared.call.Line.{Line}
 use Rattle.jfs_server.specs.Called.{KeepsPass}
-use Rattle.jfs_server.specs.Client.{State}
-use Rattle.jfs_server.specs.Served.{client_of}
 use Rattle.jfs_server.specs.Start.{IsStarted}
 use Rattle.jfs_server.specs.Stopped.{GoesOn}
 use Rattle.jfs_server.specs.shared.specs.Entries.{Recorded}
 use Rattle.jfs_server.specs.turns.specs.Lists.{Base}
 use Rattle.jfs_server.specs.turns.specs.Passes.{ArePasses}
-use Rattle.jfs_run.specs.Clients.{ServerPass, IsReady, AreReady, Came, EachCame}
+use Rattle.jfs_run.specs.Clients.{ServerPass, AreReady, Came, EachCame}
 use Rattle.jfs_run.specs.Serving.{AreMarked, EachMarked, AreFronts, HaveRoom}
 use Rattle.jfs_run.specs.Tasks.{plan_of, lines_in, PlanFits}
 use Rattle.jfs_run.specs.Telling.{marks_in, marks_left}

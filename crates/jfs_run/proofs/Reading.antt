@@ -1,12 +1,10 @@
 -- Marks that are read one after the other, each client's in their order.
 use Rattle.std.proofs.Common.{◌≡◌, ◌≤◌, ◌<◌, ◌+◌, ◌⊎◌, ℕ, zero, suc, Bool, true, false, List, [], ◌∷◌, ◌++◌, length, drop, refl, sym, ap, ap₂, ◌∙◌, subst, inl, inr, arith, append_assoc, replicate}
-use Rattle.std.specs.Prelude.{◌==◌, ◌&&◌, nat_le, if◌then◌else◌, slice_set, slice_index_or}
+use Rattle.std.specs.Prelude.{◌&&◌, nat_le, if◌then◌else◌, slice_set, slice_index_or}
 use Rattle.std.proofs.lemmas.Bool.{cases_eq, eq-eqb, ne_eqb, le-leb, lt-leb}
 use Rattle.std.specs.Global.{Vec}
 use Rattle.jfs_plain.specs.declared.call.Entry.{Entry}
-use Rattle.jfs_plain.specs.declared.call.Line.{Line}
-use Rattle.jfs_run.specs.Calls.{AreOfClients}
-use Rattle.jfs_run.specs.Telling.{first_of, rest_of, mark_of, left_by, marks_of, told_from, marks_in, left_at, marks_left, AreAsMany}
+use Rattle.jfs_run.specs.Telling.{first_of, rest_of, mark_of, left_by, marks_of, told_from, marks_in, left_at, marks_left}
 
 -- ---- what is left of one client's
 

@@ -1,5 +1,5 @@
 -- What is known of the replies of a run.
-use Rattle.std.proofs.Common.{◌≡◌, ◌⊎◌, ℕ, Bool, true, false, List, [], sym, ◌∙◌, inl, inr, None}
+use Rattle.std.proofs.Common.{◌≡◌, ◌⊎◌, Bool, false, List, sym, ◌∙◌, inl, inr, None}
 use Rattle.std.proofs.lemmas.Bool.{false≢true}
 use Rattle.std.specs.Global.{Vec}
 use Rattle.jfs_bits.specs.declared.descriptor.Moment.{Moment}

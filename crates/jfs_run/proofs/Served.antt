@@ -1,11 +1,8 @@
 -- What a run's server leaves.
-use Rattle.std.proofs.Common.{◌≡◌, ◌⊎◌, ◌≤◌, ◌<◌, ◌+◌, ◌^◌, ℕ, suc, Bool, true, false, List, [], length, refl, sym, ap, ◌∙◌, subst, inl, inr, arith, None}
+use Rattle.std.proofs.Common.{◌≡◌, ◌⊎◌, ◌<◌, ℕ, Bool, false, List, length, refl, sym, ap, ◌∙◌, subst, inl, inr, arith, None}
 use Rattle.std.specs.Prelude.{Option, Some, is_some}
-use Rattle.std.proofs.lemmas.Bool.{false≢true}
 use Rattle.std.proofs.lemmas.List.{length-map}
 use Rattle.std.specs.Global.{Vec}
-use mathlib.Core.Option.{some}
-use lib.ListN.{get_elem?}
 use Rattle.atomic_table.specs.Seated.{TableId}
 use Rattle.jfs_bits.specs.declared.descriptor.Moment.{Moment}
 use Rattle.jfs_disk.specs.Image.{Image, page_of}
@@ -15,16 +12,14 @@ use Rattle.jfs_super.specs.declared.fields.Super.{Super}
 use Rattle.jfs_plain.specs.declared.call.Entry.{Entry}
 use Rattle.jfs_plain.specs.declared.call.Line.{Line}
 use Rattle.jfs_server.specs.Start.{IsStarted}
-use Rattle.jfs_server.specs.Stopped.{GoesOn, AnyRose, IsEndOf, IsStopped}
+use Rattle.jfs_server.specs.Stopped.{GoesOn, IsEndOf, IsStopped}
 use Rattle.jfs_server.specs.declared.stopping.Stopped.{Stopped}
-use Rattle.jfs_server.specs.shared.specs.Base.{MountStart, start_of}
-use Rattle.jfs_server.specs.shared.specs.Entries.{Recorded}
+use Rattle.jfs_server.specs.shared.specs.Base.{start_of}
 use Rattle.jfs_server.specs.shared.specs.Shared.{IfConsistent, entries_in, timed_in}
 use Rattle.jfs_server.specs.shared.specs.Shared as shared
-use Rattle.jfs_server.specs.shared.specs.Start.{base_at, start_at}
+use Rattle.jfs_server.specs.shared.specs.Start.{base_at}
 use Rattle.jfs_server.specs.shared.proofs.Served.{to_halt_law, running_law}
-use Rattle.jfs_server.specs.shared.specs.legal.specs.Until.{AreLegal, GoOn, AreLegalToHalt}
-use Rattle.jfs_server.specs.shared.specs.legal.specs.served.specs.halves.specs.Parts.{Parts}
+use Rattle.jfs_server.specs.shared.specs.legal.specs.Until.{AreLegal, AreLegalToHalt}
 use Rattle.jfs_server.specs.shared.specs.legal.specs.served.specs.mounted.specs.declared.mounted.Mounted.{Mounted}
 use Rattle.jfs_server.specs.shared.specs.legal.specs.served.specs.shown.specs.meaning.specs.Image.{IsConsistentImage, volume_of}
 use Rattle.jfs_server.specs.shared.specs.legal.specs.served.specs.Legal.{Timed}
@@ -33,7 +28,7 @@ use Rattle.jfs_run.specs.Calls.{AreOfClients, any_failed}
 use Rattle.jfs_run.specs.Clients.{ServerPass, EachCame}
 use Rattle.jfs_run.specs.Legal.{all_at, HasReplied}
 use Rattle.jfs_run.specs.Mounted.{State, state, MayCall, PartRose, Since}
-use Rattle.jfs_run.specs.Serving.{AreCalled, HaveRoom, IsUncalled, IsHandedOut, IsCalled, IsServed}
+use Rattle.jfs_run.specs.Serving.{AreCalled, HaveRoom, IsUncalled, IsHandedOut, IsServed}
 use Rattle.jfs_run.specs.Tasks.{plan_of}
 use Rattle.jfs_run.specs.Telling.{marks_in}
 use Rattle.jfs_run.specs.declared.serving.Called.{Called}

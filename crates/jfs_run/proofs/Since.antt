@@ -1,5 +1,5 @@
 -- A mounted volume since its mount.
-use Rattle.std.proofs.Common.{◌≡◌, ◌⊎◌, ◌<◌, ◌+◌, ◌^◌, ℕ, refl, ◌∙◌, inl, inr, None, arith}
+use Rattle.std.proofs.Common.{◌≡◌, ◌⊎◌, ◌<◌, ◌+◌, ◌^◌, refl, ◌∙◌, inl, inr, None, arith}
 use Rattle.jfs_server.specs.groups.proofs.Counts.{grows_on, rose_on, rose_since}
 use Rattle.jfs_run.specs.Mounted.{State, MayCall, Few, PartRose, Keeps, Since}
 

@@ -1,5 +1,5 @@
 -- The clients of a run: what each begins with, and what it comes back with.
-use Rattle.std.specs.Prelude.{◌≡◌, ◌≤◌, ℕ, Bool, true, false, List, [], ◌∷◌, length, Some, vec_capacity}
+use Rattle.std.specs.Prelude.{◌≡◌, ◌≤◌, Bool, true, false, List, [], ◌∷◌, length, Some, vec_capacity}
 use Rattle.std.specs.Global.{Vec}
 use Rattle.std.specs.List.{AllByRecursion}
 use Rattle.atomic_table.specs.Seated.{TableId}
@@ -7,7 +7,7 @@ use Rattle.jfs_bits.specs.declared.descriptor.Moment.{Moment}
 use Rattle.jfs_disk.specs.declared.disk.Disk.{Ghosts}
 use Rattle.jfs_plain.specs.declared.call.Line.{Line}
 use Rattle.jfs_script.specs.Script.{AllFit}
-use Rattle.jfs_server.specs.Client.{State, Did}
+use Rattle.jfs_server.specs.Client.{Did}
 use Rattle.jfs_server.specs.clients.specs.Ran.{Ran}
 use Rattle.jfs_server.specs.declared.client.Client.{Client}
 use Rattle.jfs_server.specs.declared.served.ServedVolume.{ServedVolume}

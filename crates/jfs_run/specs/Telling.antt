@@ -1,5 +1,5 @@
 -- Which entries of a history are told durable, by the marks that each client has of its own.
-use Rattle.std.specs.Prelude.{◌≡◌, ◌&&◌, ◌+◌, ◌==◌, nat_le, if◌then◌else◌, [], ◌∷◌, ℕ, suc, Bool, true, false, List, length, drop}
+use Rattle.std.specs.Prelude.{◌≡◌, ◌&&◌, ◌+◌, ◌==◌, nat_le, if◌then◌else◌, [], ◌∷◌, ℕ, suc, Bool, false, List, length, drop}
 use Rattle.std.specs.Global.{Vec}
 use Rattle.jfs_plain.specs.declared.call.Entry.{Entry}
 use Rattle.jfs_plain.specs.declared.call.Line.{Line}

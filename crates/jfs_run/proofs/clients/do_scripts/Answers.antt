@@ -1,4 +1,4 @@
-use Rattle.std.proofs.Common.{◌≡◌, ◌∙◌, ap, sym, length, arith}
+use Rattle.std.proofs.Common.{arith}
 use Rattle.jfs_run.proofs.Callers.{may_run, have, each_came, all_of_table, none_marked, as_many_ready, as_many_ran}
 use Rattle.jfs_run.proofs.clients.do_scripts.Goals as goal
 

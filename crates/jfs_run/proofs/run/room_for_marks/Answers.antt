@@ -1,7 +1,6 @@
-use Rattle.std.proofs.Common.{◌≡◌, ◌≤◌, ◌+◌, ◌++◌, ◌∷◌, [], ℕ, List, length, length-append, drop, sym, ap, ◌∙◌, subst, arith, append_assoc}
+use Rattle.std.proofs.Common.{◌++◌, ◌∷◌, [], ℕ, List, length, length-append, sym, ap, ◌∙◌, subst, arith, append_assoc}
 use Rattle.std.proofs.lemmas.List.{append-nil}
 use Rattle.std.specs.Global.{Vec}
-use Rattle.std.specs.Prelude.{Bool}
 use Rattle.jfs_plain.specs.declared.call.Line.{Line}
 use Rattle.jfs_run.specs.Serving.{HaveRoom}
 use Rattle.jfs_run.proofs.Reading.{next_in, none_in}

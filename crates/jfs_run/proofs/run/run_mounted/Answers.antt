@@ -1,8 +1,7 @@
-use Rattle.std.proofs.Common.{◌≡◌, ◌⊎◌, ◌∙◌, ◌+◌, ◌++◌, ◌<◌, ◌^◌, [], ℕ, List, length, refl, sym, ap, subst, ⊎_elim, inl, inr, arith}
-use Rattle.std.specs.Prelude.{None, Bool}
+use Rattle.std.proofs.Common.{◌≡◌, ◌∙◌, ◌++◌, ℕ, List, length, refl, sym, ap, subst, ⊎_elim, inl, inr, arith}
+use Rattle.std.specs.Prelude.{Bool}
 use Rattle.std.proofs.lemmas.List.{length-map}
 use Rattle.std.specs.Global.{Vec}
-use Rattle.jfs_bits.specs.Count.{Rose}
 use Rattle.jfs_disk.specs.Image.{page_of}
 use Rattle.jfs_plain.specs.declared.call.Entry.{Entry}
 use Rattle.jfs_plain.specs.declared.call.Line.{Line}
@@ -10,8 +9,8 @@ use Rattle.jfs_mount.specs.meaning.specs.Image.{volume_of}
 use Rattle.jfs_server.specs.shared.specs.legal.proofs.Known.{laws}
 use Rattle.jfs_server.specs.shared.specs.legal.specs.served.specs.volume_calls.specs.Together.{log_parts}
 use Rattle.jfs_run.specs.Ending.{end_after}
-use Rattle.jfs_run.specs.Legal.{all_at, IsLegalRun}
-use Rattle.jfs_run.specs.Mounted.{State, state, Few, PartRose}
+use Rattle.jfs_run.specs.Legal.{all_at}
+use Rattle.jfs_run.specs.Mounted.{State, state, Few}
 use Rattle.jfs_run.specs.Run.{seen}
 use Rattle.jfs_run.specs.Tasks.{plan_of}
 use Rattle.jfs_run.specs.Telling.{marks_of, told_from, marks_in, marks_left}

@@ -1,4 +1,3 @@
-use Rattle.std.proofs.Common.{refl}
 use Rattle.jfs_server.specs.shared.specs.legal.proofs.Going.{settled_law}
 use Rattle.jfs_run.specs.Mounted.{state}
 use Rattle.jfs_run.proofs.Durable.{committed, lost}

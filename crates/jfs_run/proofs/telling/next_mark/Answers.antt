@@ -1,4 +1,4 @@
-use Rattle.std.proofs.Common.{◌≡◌, ◌+◌, ◌-◌, ◌<◌, ◌≤◌, ℕ, refl, inl, inr, arith}
+use Rattle.std.proofs.Common.{◌-◌, refl, inl, inr, arith}
 use Rattle.std.specs.Prelude.{slice_index_or}
 use Rattle.jfs_run.specs.Telling.{left_at}
 use Rattle.jfs_run.proofs.Reading.{read_at, read_none, nobody, as_many_left}

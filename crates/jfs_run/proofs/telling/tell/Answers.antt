@@ -1,7 +1,7 @@
-use Rattle.std.proofs.Common.{◌≡◌, ◌≤◌, ◌+◌, ◌++◌, ◌∷◌, [], ℕ, List, suc, drop, refl, sym, ap, ◌∙◌, subst, ⊎_elim, arith}
+use Rattle.std.proofs.Common.{◌≡◌, ◌+◌, ◌++◌, ℕ, List, suc, drop, refl, sym, ap, ◌∙◌, subst, ⊎_elim, arith}
 use Rattle.std.proofs.lemmas.List.{append-nil}
 use Rattle.jfs_plain.specs.declared.call.Entry.{Entry}
-use Rattle.jfs_run.specs.Telling.{marks_of, told_from, left_at, left_by, marks_in, marks_left}
+use Rattle.jfs_run.specs.Telling.{marks_of, told_from, left_at, marks_in, marks_left}
 use Rattle.jfs_run.proofs.Reading.{none_read, one_less, not_more, next_in, none_in, all_in, one_told, unmarked, past}
 use Rattle.jfs_run.proofs.telling.tell.Goals as goal
 use Rattle.jfs_run.proofs.telling.tell.Goals.{then-next_mark+then-number-durable, else-next_mark, else-next_mark-via-then-next_mark+else-number-durable, else-next_mark-via-else-next_mark}
