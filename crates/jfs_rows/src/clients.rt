@@ -181,7 +181,8 @@ const MANY_LINES: u32 = 8;
 
 /// The script of a client, which takes files out of the next one's directory and moves its own into the one before.
 fn crossing(alloc: Global, client: u32) -> Option<String> {
-    let (next, before) = (client % 16 + 1, (client + 14) % 16 + 1);
+    let next = client % 16 + 1;
+    let before = if client > 1 { client - 1 } else { 16 };
     format!(in alloc;
         "mkdir /d{client} 0755\ncreate /d{client}/f 0644\nrename /d{next}/f /d{client}/g\nrename /d{client} /d{before}/e\n\
 lazy create /d{client}/h 0644\nrename /d{before}/e/g /d{next}/x\nlist /\nsync\n"
