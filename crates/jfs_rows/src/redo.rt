@@ -153,7 +153,12 @@ fn a_log_that_goes_round_its_ring_is_redone(rt: HostRuntime) {
 }
 
 /// Changes of a mounted volume, the status's number, and the text. The label stands at byte 52 of the log's second page, 3073; the block map tells its volume's size on page 16.
-static REFUSED: [(&[(u32, Change)], u8, &str); 7] = [
+static REFUSED: [(&[(u32, Change)], u8, &str); 8] = [
+    (
+        &[MOUNTED, (8, (0, 4, 0))],
+        3,
+        "jfsd: bad image: page 8 rule magic value 0\n",
+    ),
     (
         &[MOUNTED, (3073, (52, 8, 0x72_6568_746f)), (3073, (60, 8, 0))],
         9,
