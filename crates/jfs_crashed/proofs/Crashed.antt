@@ -1,12 +1,10 @@
 -- The maps of a volume that a crash left are where they were mounted, and its own log keeps off them.
-use Rattle.std.proofs.Common.{◌≡◌, ◌⊎◌, ◌<◌, ◌≤◌, ◌+◌, ◌*◌, ◌/◌, ◌%◌, ◌&&◌, ◌||◌, ◌==◌, not, nat_lt, if◌then◌else◌, ℕ, suc, Bool, true, false, true≢false, List, [], length, map, refl, sym, ap, subst, ◌∙◌, inl, inr, arith}
+use Rattle.std.proofs.Common.{◌≡◌, ◌⊎◌, ◌<◌, ◌≤◌, ◌+◌, ◌*◌, ◌/◌, ◌%◌, ◌&&◌, ◌==◌, nat_lt, ℕ, suc, Bool, true, false, true≢false, List, [], length, refl, sym, ap, subst, ◌∙◌, inl, inr, arith}
 use Rattle.std.specs.Prelude.{Option, Some, None, is_some, unwrap_or}
-use Rattle.std.specs.List.{range_with_len}
 use Rattle.std.proofs.lemmas.Bool.{cases_Bool, cond-true, lt-ltb, ltb-true, eq-eqb, eqb-true, and_parts, or_left, or_right, or_cases}
-use Rattle.std.proofs.lemmas.Option.{none-some, same_Some}
+use Rattle.std.proofs.lemmas.Option.{none-some}
 use Rattle.jfs_bits.specs.Bits.{any_below}
 use Rattle.jfs_bits.proofs.Buds.{any_below-from, any_below-at}
-use Rattle.jfs_bits.specs.declared.descriptor.Pxd.{Pxd}
 use Rattle.jfs_bits.specs.declared.extent.Xad.{Xad}
 use Rattle.jfs_bits.specs.Descriptor.{pxd_of}
 use Rattle.jfs_disk.specs.Image.{Image, page_of}
@@ -18,24 +16,21 @@ use Rattle.jfs_iag.specs.Iag.{no_run}
 use Rattle.jfs_recovery.specs.records.specs.Redo.{all_of, redone}
 use Rattle.jfs_recovery.specs.objects.specs.page_tree.specs.Walk.{Marks}
 use Rattle.jfs_recovery.specs.objects.specs.Readers.{Readers}
-use Rattle.jfs_recovery.specs.objects.specs.Volume.{Volume}
 use Rattle.jfs_recovery.specs.objects.specs.Objects.{met, listed}
 use Rattle.jfs_recovery.specs.objects.specs.Owners.{unless_broken, entries, covers, extent_has, extents_have, bit}
 use Rattle.jfs_recovery.specs.objects.specs.Contents.{block_of, bytes_at}
-use Rattle.jfs_recovery.specs.objects.specs.Image.{file_walk, file_extents, file_page, file_has, iag_page, iags_on, is_block_used, extent_place, extent_on, extents_on, area_on, volume_on}
+use Rattle.jfs_recovery.specs.objects.specs.Image.{file_walk, file_extents, file_page, file_has, iag_page, iags_on, is_block_used, extent_place, extent_on, extents_on, area_on}
 use Rattle.jfs_recovery.specs.objects.proofs.Blocks.{covered}
 use Rattle.jfs_recovery.specs.kinds.specs.Images.{IsWholeFile}
-use Rattle.jfs_recovery.specs.Face.{Face, IsFace, Pages, Item, Value, redo_page}
+use Rattle.jfs_recovery.specs.Face.{Face, IsFace, Pages, Item}
 use Rattle.jfs_recovery.specs.Face.Item.{ExtentPlace}
-use Rattle.jfs_recovery.specs.Core.{Core, count, image, newest}
-use Rattle.jfs_recovery.specs.Sound.{IsSound, IsLeft, IsLogImage, window}
+use Rattle.jfs_recovery.specs.Core.{Core, count, image}
+use Rattle.jfs_recovery.specs.Sound.{IsSound, window}
 use Rattle.jfs_recovery.proofs.EditByEdit.{edit_by_edit}
 use Rattle.jfs_recovery.proofs.Parts.{fixed_image, fixed_low}
 use Rattle.jfs_recovery.proofs.Redo.{Facts, facts, known_cells, recovers_page, size_left}
 use Rattle.jfs_face.specs.Places.{Places, AreInAreas, is_map_page, is_fixed_page}
-use Rattle.jfs_face.specs.Items.{home, places, place_of}
-use Rattle.jfs_face.specs.Mounted.{places_on}
-use Rattle.jfs_face.specs.Recovered.{IsVolumeAt}
+use Rattle.jfs_face.specs.Items.{places, place_of}
 use Rattle.jfs_face.proofs.Whole.{is_face, reads_edits}
 use Rattle.jfs_face.proofs.Mounted.{seen_as_it_is}
 use Rattle.jfs_redo.specs.redo_steps.specs.Pages.{redone_page}
@@ -45,8 +40,8 @@ use Rattle.jfs_redo.specs.mount_rules.specs.Mount.{iags}
 use Rattle.jfs_redo.specs.mount_rules.specs.Subject.{Subject, subject_of, volume}
 use Rattle.jfs_redo.specs.Put.{place_if}
 use Rattle.jfs_redo.specs.Redo.{IsMapPlace}
-use Rattle.jfs_redo.specs.Apart.{map_files_have, AreNamedOnce, KeepsOffMaps}
-use Rattle.jfs_redo.proofs.Apart.{place_is, in_area, place_has}
+use Rattle.jfs_redo.specs.Apart.{map_files_have, KeepsOffMaps}
+use Rattle.jfs_redo.proofs.Apart.{place_is, in_area}
 use Rattle.jfs_redo.proofs.Located.{not_redone, same_walk}
 use Rattle.jfs_redo.proofs.Named.{first_area, extents_clear}
 use Rattle.jfs_crashed.specs.Crashed.{IsVolumeOf, face_on, LogsNoMaps, HasCrashed, KeepsApart, OwnLogLaw}
@@ -137,8 +132,8 @@ module _ (s : Super) (numag : ℕ) (pl : Places) (changes : Pages → List Edit 
 
       at : (any_below (pages_of pl.blocks) (λ k. is_in_use pl.blocks k && pl.block_map k == b) ≡ true) ⊎ (any_below (suc pl.iags) (λ k. pl.inode_map k == b) ≡ true)
           → 0 < covers b (file_extents r core.mounted 2) + covers b (file_extents r core.mounted 16)
-      at (inl yes) = let k = any_below-at (pages_of pl.blocks) (λ k. is_in_use pl.blocks k && pl.block_map k == b) yes in let h = block_page k.0 k.2 in omega (arith, h)
-      at (inr yes) = let k = any_below-at (suc pl.iags) (λ k. pl.inode_map k == b) yes in let h = inode_page k.0 k.1 k.2 in omega (arith, h)
+      at (inl found) = let k = any_below-at (pages_of pl.blocks) (λ k. is_in_use pl.blocks k && pl.block_map k == b) found in let h = block_page k.0 k.2 in omega (arith, h)
+      at (inr found) = let k = any_below-at (suc pl.iags) (λ k. pl.inode_map k == b) found in let h = inode_page k.0 k.1 k.2 in omega (arith, h)
 
   -- so no other page of the areas is one
   not_map : (b : ℕ) → covers b (file_extents r core.mounted 2) + covers b (file_extents r core.mounted 16) < pl.area b → is_map_page pl b ≡ false
@@ -266,6 +261,15 @@ module _ (s : Super) (numag : ℕ) (pl : Places) (changes : Pages → List Edit 
       let place = there (block_of (file_extents r (image core k) 16) (suc i)) (at.pages.inode_map (suc i) (omega (arith, under, many))) ∙ ap (λ (x : Places). Some (x.inode_map (suc i))) at.places in
       ap (λ (o : Option ℕ). unwrap_or (bytes_at (image core k) o) []) place
 
+  own_area : (b : ℕ) → is_map_page pl b ≡ true → 0 < pl.area b
+  unfolding area_on
+  own_area b is =
+      let own = own_page b is in
+      let a = area_is b in
+      let x = whole_has r core.mounted 2 b first.files.block_map in
+      let y = whole_has r core.mounted 16 b first.files.inode_map in
+      omega (arith, a, x, y, own)
+
   -- after each entry none has
   none_then : (k b e : ℕ) → k ≤ count core → is_map_page pl b ≡ true → e < 128 * pl.iags → extent_has (extent_on r (image core k) e) b ≡ 0
   unfolding extents_on
@@ -273,19 +277,10 @@ module _ (s : Super) (numag : ℕ) (pl : Places) (changes : Pages → List Edit 
       let at = volumes k within in
       let many = ap (λ (x : Places). x.iags) at.places in
       let area = ap (λ (x : Places). x.area b) at.places in
-      let own = own_page b is in
-      let some = own_area b own in
+      let some = own_area b is in
       let agreed = at.sound.agrees.blocks b in
       let o = at_most (is_block_used r (image core k) (blocks_of s) b) in
       has_none (extent_on r (image core k)) b (128 * iags_on r (image core k)) 0 e (omega (arith, area, some, agreed, o)) (omega arith) (omega (arith, under, many))
-    where
-      own_area : (b : ℕ) → 0 < covers b (file_extents r core.mounted 2) + covers b (file_extents r core.mounted 16) → 0 < pl.area b
-      unfolding area_on
-      own_area b h =
-          let a = area_is b in
-          let x = whole_has r core.mounted 2 b first.files.block_map in
-          let y = whole_has r core.mounted 16 b first.files.inode_map in
-          omega (arith, a, x, y, h)
 
   -- and what the crash left of an extent's descriptor is that of some entry
   extent_left : (e : ℕ) → e < 128 * pl.iags → (k : ℕ) × (k ≤ count core) × (extent_on r (page_of low) e ≡ extent_on r (image core k) e)
@@ -299,13 +294,12 @@ module _ (s : Super) (numag : ℕ) (pl : Places) (changes : Pages → List Edit 
       let within : cell.0 ≤ count core = omega (arith, cell.2, known.later, known.within) in
       let same = laws.in_cell i (left p) (image core cell.0 p) cell.3 in
       let descriptor : pxd_of (left p) (3072 + 8 * (e % 128)) ≡ pxd_of (image core cell.0 p) (3072 + 8 * (e % 128)) =
-      sym (cond-true (nat_lt e (places pl)) (pxd_of (left p) (3072 + 8 * (e % 128))) no_run low_e) ∙ ap place_of same ∙ cond-true (nat_lt e (places pl)) (pxd_of (image core cell.0 p) (3072 + 8 * (e % 128))) no_run low_e in
-      (
+      sym (cond-true (nat_lt e (places pl)) (pxd_of (left p) (3072 + 8 * (e % 128))) no_run low_e) ∙ ap place_of same ∙ cond-true (nat_lt e (places pl)) (pxd_of (image core cell.0 p) (3072 + 8 * (e % 128))) no_run low_e in (
         cell.0,
         within,
         ap (λ (page : List ℕ). extent_place (pxd_of page (3072 + 8 * (e % 128)))) (iag_low (e / 128) (omega (arith, under)) ∙ ap left (sym at))
-        ∙ ap extent_place descriptor
-        ∙ ap (λ (page : List ℕ). extent_place (pxd_of page (3072 + 8 * (e % 128)))) (ap (image core cell.0) at ∙ sym (iag_then cell.0 (e / 128) within (omega (arith, under)))),
+            ∙ ap extent_place descriptor
+            ∙ ap (λ (page : List ℕ). extent_place (pxd_of page (3072 + 8 * (e % 128)))) (ap (image core cell.0) at ∙ sym (iag_then cell.0 (e / 128) within (omega (arith, under)))),
       )
 
   none_left : (b : ℕ) → is_map_page pl b ≡ true → extents_have (volume sub).extents b ≡ 0

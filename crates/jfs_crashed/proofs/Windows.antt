@@ -1,5 +1,5 @@
 -- Lists of transactions none of which has a line of a page, and of inode extents none of which has a block.
-use Rattle.std.proofs.Common.{◌≡◌, ◌⊎◌, inl, inr, ◌<◌, ◌≤◌, ◌+◌, ◌||◌, ℕ, zero, suc, Bool, true, false, true≢false, List, [], ◌∷◌, ◌++◌, length, map, take, drop, get_or, refl, sym, ap, ◌∙◌, arith}
+use Rattle.std.proofs.Common.{◌≡◌, ◌⊎◌, inl, inr, ◌<◌, ◌≤◌, ◌+◌, ◌||◌, ℕ, zero, suc, Bool, true, false, true≢false, List, [], ◌∷◌, ◌++◌, map, take, drop, get_or, refl, ap, ◌∙◌, arith}
 use Rattle.std.specs.Prelude.{Option}
 use Rattle.std.proofs.lemmas.Bool.{cases_eq}
 use Rattle.std.specs.List.{AllByRecursion, range_with_len}
@@ -53,8 +53,8 @@ have_none f b (suc n) a h = let first = h a (omega arith) in let rest = have_non
 
 pub has_none : (f : ℕ → Option ℕ) (b n a e : ℕ) → extents_have (map f (range_with_len a n)) b ≡ 0 → a ≤ e → e < a + n → extent_has (f e) b ≡ 0
 has_none f b zero a e none low high = absurd (omega (arith, low, high))
-has_none f b (suc n) a e none low high = at (cases_eq e a)
+has_none f b (suc n) a e none low high = at (cases_eq e a) (λ past. has_none f b n (a + 1) e (omega (arith, none)) past (omega (arith, high)))
   where
-    at : (e ≡ a) ⊎ (e ≡ a → ⊥) → extent_has (f e) b ≡ 0
-    at (inl same) = ap (λ (k : ℕ). extent_has (f k) b) same ∙ omega (arith, none)
-    at (inr other) = has_none f b n (a + 1) e (omega (arith, none)) (omega (arith, low, other)) (omega (arith, high))
+    at : (e ≡ a) ⊎ (e ≡ a → ⊥) → (a + 1 ≤ e → extent_has (f e) b ≡ 0) → extent_has (f e) b ≡ 0
+    at (inl same) rest = ap (λ (k : ℕ). extent_has (f k) b) same ∙ omega (arith, none)
+    at (inr other) rest = rest (omega (arith, low, other))
