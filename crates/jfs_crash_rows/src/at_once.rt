@@ -62,21 +62,21 @@ static TWO: &'static [u8] =
 
 /// Whether a client's entries stand in the history in the order of its lines, so many, and each done.
 fn has_all(history: &[Entry], client: u32, lines: u32) -> bool {
-    let mut next = 1;
+    let mut next = 1u32;
     for entry in history {
         if entry.client == client {
             if entry.line != next || matches!(entry.reply, Reply::Refused(_)) {
                 return false;
             }
-            next += 1;
+            next = next.wrapping_add(1);
         }
     }
-    next == lines + 1
+    next == lines.wrapping_add(1)
 }
 
 /// Whether just the entries of these lines are told.
 fn are_told(ran: &Ran<MemDisk>, lines: &[(u32, u32)]) -> bool {
-    let mut count = 0;
+    let mut count = 0usize;
     for number in ran.told.as_slice() {
         let Some(entry) = ran
             .history
@@ -88,7 +88,7 @@ fn are_told(ran: &Ran<MemDisk>, lines: &[(u32, u32)]) -> bool {
         if !lines.contains(&(entry.client, entry.line)) {
             return false;
         }
-        count += 1;
+        count = count.wrapping_add(1);
     }
     count == lines.len()
 }

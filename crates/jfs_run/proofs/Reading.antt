@@ -1,7 +1,7 @@
 -- Marks that are read one after the other, each client's in their order.
-use Rattle.std.proofs.Common.{◌≡◌, ◌≤◌, ◌<◌, ◌+◌, ◌⊎◌, ℕ, zero, suc, Bool, true, false, List, [], ◌∷◌, ◌++◌, length, drop, refl, sym, ap, ap₂, ◌∙◌, subst, inl, inr, arith, append_assoc, replicate}
+use Rattle.std.proofs.Common.{◌≡◌, ◌≤◌, ◌<◌, ◌+◌, ◌⊎◌, ℕ, zero, suc, Bool, true, false, List, [], ◌∷◌, ◌++◌, length, drop, refl, sym, ap, ◌∙◌, subst, inl, inr, arith, append_assoc, replicate}
 use Rattle.std.specs.Prelude.{◌&&◌, nat_le, if◌then◌else◌, slice_set, slice_index_or}
-use Rattle.std.proofs.lemmas.Bool.{cases_eq, eq-eqb, ne_eqb, le-leb, lt-leb}
+use Rattle.std.proofs.lemmas.Bool.{cases_eq, eq-eqb, ne_eqb}
 use Rattle.std.specs.Global.{Vec}
 use Rattle.jfs_plain.specs.declared.call.Entry.{Entry}
 use Rattle.jfs_run.specs.Telling.{first_of, rest_of, mark_of, left_by, marks_of, told_from, marks_in, left_at, marks_left}
@@ -160,17 +160,15 @@ module _ (n durable : ℕ) (left left' : List (List Bool)) (e : Entry) (es rest 
   then_left : told_from (suc n) durable (marks_of left' rest) ≡ behind
   then_left = ap (λ (l : List (List Bool)). told_from (suc n) durable (marks_of l rest)) left_is
 
-  pub one_told : true ≡ mark_of 1 e.client left → n ≤ durable → (told ++ n ∷ []) ++ told_from (suc n) durable (marks_of left' rest) ≡ total
-  one_told mark within =
-      let both : (mark_of 1 e.client left && nat_le n durable) ≡ true = ap₂ (λ (a b : Bool). a && b) (sym mark) (le-leb n durable within) in
+  pub one_told : (mark_of 1 e.client left && nat_le n durable) ≡ true → (told ++ n ∷ []) ++ told_from (suc n) durable (marks_of left' rest) ≡ total
+  one_told one =
       append_assoc told (n ∷ []) (told_from (suc n) durable (marks_of left' rest)) ∙ ap (λ (ns : List ℕ). told ++ n ∷ ns) then_left
-      ∙ sym (ap (λ (ns : List ℕ). told ++ ns) (told_next n durable left e rest true both)) ∙ here
+      ∙ sym (ap (λ (ns : List ℕ). told ++ ns) (told_next n durable left e rest true one)) ∙ here
 
-  untold : (mark_of 1 e.client left && nat_le n durable) ≡ false → told ++ told_from (suc n) durable (marks_of left' rest) ≡ total
-  untold one = ap (λ (ns : List ℕ). told ++ ns) then_left ∙ sym (ap (λ (ns : List ℕ). told ++ ns) (told_next n durable left e rest false one)) ∙ here
+  pub untold : (mark_of 1 e.client left && nat_le n durable) ≡ false → told ++ told_from (suc n) durable (marks_of left' rest) ≡ total
+  untold none = ap (λ (ns : List ℕ). told ++ ns) then_left ∙ sym (ap (λ (ns : List ℕ). told ++ ns) (told_next n durable left e rest false none)) ∙ here
 
-  pub unmarked : false ≡ mark_of 1 e.client left → told ++ told_from (suc n) durable (marks_of left' rest) ≡ total
-  unmarked mark = untold (ap (λ (a : Bool). a && nat_le n durable) (sym mark))
-
-  pub past : true ≡ mark_of 1 e.client left → durable < n → told ++ told_from (suc n) durable (marks_of left' rest) ≡ total
-  past mark late = untold (ap₂ (λ (a b : Bool). a && b) (sym mark) (lt-leb n durable late))
+-- what is told is marked
+pub is_marked : (mark in_time : Bool) → (mark && in_time) ≡ true → mark ≡ true
+is_marked true in_time e = refl
+is_marked false in_time e = absurd cc

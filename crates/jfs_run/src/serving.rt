@@ -92,7 +92,7 @@ fn uncalled<D: Disk>(alloc: Global, mounted: Mounted<D>) -> Called<D>
     }
 }
 
-/// What a server leaves whose clients did the lines of these scripts, and were told so. A history that has an entry of none of these clients, which none has, is no history of them.
+/// What a server leaves whose clients did the lines of these scripts and came back with these marks. Each entry is one of these clients; the turns have that too, but no clause says it, so it is looked at: a history with another entry is none of these scripts.
 fn handed_out<D: Disk>(
     alloc: Global,
     stopped: Stopped<D>,

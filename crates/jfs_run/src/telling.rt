@@ -1,6 +1,6 @@
 //! Which entries are told durable, and whether each line has its own.
 
-ghost use Rattle.std.specs.Prelude.{◌≡◌, ◌≤◌, ◌+◌, ◌++◌, [], true, length, vec_len, vec_capacity};
+ghost use Rattle.std.specs.Prelude.{◌≡◌, ◌≤◌, ◌+◌, ◌++◌, ◌&&◌, nat_le, [], true, length, vec_len, vec_capacity};
 ghost use Rattle.jfs_run.specs.Calls.{AreOfClients};
 ghost use Rattle.jfs_run.specs.Telling.{mark_of, left_by, marks_of, told_from, marks_in, left_at, marks_left, AreAsMany};
 
@@ -46,10 +46,18 @@ pub fn tell(history: &[Entry], marks: &[Vec<bool>], durable: u64, told: &mut Vec
     let mut number = 0;
     for entry in history {
         number += 1;
-        if next_mark(marks, &mut next, entry.client) && number <= durable {
+        let mark = next_mark(marks, &mut next, entry.client);
+        if is_told(mark, number, durable) {
             told.push_reserved(number);
         }
     }
+}
+
+/// Whether an entry is told: it had to be made durable, and is.
+fn is_told(mark: bool, number: u64, durable: u64) -> bool
+    ensures { result ≡ (mark && nat_le number durable) }
+{
+    mark && number <= durable
 }
 
 /// The next mark of a client, where there is one. `next` has the place of each client's.
