@@ -6,6 +6,7 @@ ghost use Rattle.jfs_bits.specs.Extent.{FitsXad};
 ghost use Rattle.jfs_tree.specs.Call.{CarriesFault};
 ghost use Rattle.jfs_tree.specs.Draft.{shown};
 ghost use Rattle.jfs_tree.specs.Form.{AllBelow, IsFront};
+ghost use Rattle.jfs_tree.specs.Taken.{DraftsTaken};
 ghost use Rattle.jfs_xtree.specs.Node.{all_within, BeginsAt};
 ghost use Rattle.jfs_put_range.specs.Parts.{IsPart, WrotePage, RefutesPage, RefutesChildren, Pushed, GrownBelow, NamesBelow, OthersFramed, most_taken};
 
@@ -52,6 +53,7 @@ pub(crate) fn put_below<V: PageView>(
     ensures below { GrownBelow stack.old.items stack.new.items result }
     ensures front { IsFront stack.new.items stack.old.items }
     ensures others { V.PageView.tells → OnOk result (OthersFramed (shown draft.old.pages.items (V.PageView.image view.old)) (shown draft.new.pages.items (V.PageView.image view.old)) stack.old.items stack.new.items) }
+    ensures drafted { OnOk result (DraftsTaken draft.old.pages.items draft.new.pages.items stack.old.items stack.new.items) }
     ensures key { IfOk result (λ grown. IfSome grown.sibling (λ s. s.key < 2 ^ 40)) }
 {
     if most == 0 {
@@ -128,6 +130,7 @@ pub(crate) fn put_children<V: PageView>(
     ensures below { (bound : ℕ) → AllBelow bound stack.old.items → AllBelow bound stack.new.items }
     ensures front { IsFront stack.new.items stack.old.items }
     ensures others { V.PageView.tells → OnOk result (OthersFramed (shown draft.old.pages.items (V.PageView.image view.old)) (shown draft.new.pages.items (V.PageView.image view.old)) stack.old.items stack.new.items) }
+    ensures drafted { OnOk result (DraftsTaken draft.old.pages.items draft.new.pages.items stack.old.items stack.new.items) }
 {
     if part.xs.is_empty() {
         return push_all(list, entries);
@@ -183,6 +186,7 @@ fn put_from<V: PageView>(
     ensures below { (bound : ℕ) → AllBelow bound stack.old.items → AllBelow bound stack.new.items }
     ensures front { IsFront stack.new.items stack.old.items }
     ensures others { V.PageView.tells → OnOk result (OthersFramed (shown draft.old.pages.items (V.PageView.image view.old)) (shown draft.new.pages.items (V.PageView.image view.old)) stack.old.items stack.new.items) }
+    ensures drafted { OnOk result (DraftsTaken draft.old.pages.items draft.new.pages.items stack.old.items stack.new.items) }
 {
     let Some((child, rest)) = entries.split_first() else {
         unreachable!();
@@ -241,6 +245,7 @@ fn put_both<V: PageView>(
     ensures below { (bound : ℕ) → AllBelow bound stack.old.items → AllBelow bound stack.new.items }
     ensures front { IsFront stack.new.items stack.old.items }
     ensures others { V.PageView.tells → OnOk result (OthersFramed (shown draft.old.pages.items (V.PageView.image view.old)) (shown draft.new.pages.items (V.PageView.image view.old)) stack.old.items stack.new.items) }
+    ensures drafted { OnOk result (DraftsTaken draft.old.pages.items draft.new.pages.items stack.old.items stack.new.items) }
 {
     let Ok(cut) = cut_at(alloc, part, bound) else {
         return Err(TreeError::Memory);
@@ -290,6 +295,7 @@ fn put_child<V: PageView>(
     ensures below { (bound : ℕ) → AllBelow bound stack.old.items → AllBelow bound stack.new.items }
     ensures front { IsFront stack.new.items stack.old.items }
     ensures others { V.PageView.tells → OnOk result (OthersFramed (shown draft.old.pages.items (V.PageView.image view.old)) (shown draft.new.pages.items (V.PageView.image view.old)) stack.old.items stack.new.items) }
+    ensures drafted { OnOk result (DraftsTaken draft.old.pages.items draft.new.pages.items stack.old.items stack.new.items) }
 {
     if part.xs.is_empty() {
         return push_all(list, &[*child]);

@@ -6,6 +6,7 @@ ghost use Rattle.jfs_tree.specs.Call.{StaysOff};
 ghost use Rattle.jfs_tree.specs.Draft.{shown};
 ghost use Rattle.jfs_tree.specs.Form.{AllBelow, IsFront};
 ghost use Rattle.jfs_tree.specs.Spells.{no_page};
+ghost use Rattle.jfs_tree.specs.Taken.{DraftsTaken};
 ghost use Rattle.jfs_put_range.specs.Parts.{IsOpened, IsPart, WrotePage, RefutesPage, GrownBelow, NamesBelow, NoView, OthersFramed, most_taken};
 
 use crate::full::starts_new;
@@ -50,6 +51,7 @@ pub(crate) fn put_leaf(
     ensures below { GrownBelow stack.old.items stack.new.items result }
     ensures front { IsFront stack.new.items stack.old.items }
     ensures others { (image : Image) → opened.page.0 ≡ shown draft.old.pages.items image n → OnOk result (OthersFramed (shown draft.old.pages.items image) (shown draft.new.pages.items image) stack.old.items stack.new.items) }
+    ensures drafted { OnOk result (DraftsTaken draft.old.pages.items draft.new.pages.items stack.old.items stack.new.items) }
     ensures key { IfOk result (λ grown. IfSome grown.sibling (λ s. s.key < 2 ^ 40)) }
     ensures names { IfErr result NamesBelow }
     ensures cause { IfErr result (λ e. NoView e) }

@@ -7,6 +7,7 @@ ghost use Rattle.jfs_tree.specs.Call.{CarriesFault, IsRead};
 ghost use Rattle.jfs_tree.specs.Draft.{shown};
 ghost use Rattle.jfs_tree.specs.Form.{AllBelow, IsFront};
 ghost use Rattle.jfs_tree.specs.Linking.{LinksTree};
+ghost use Rattle.jfs_tree.specs.Taken.{DraftsTaken, KeepsDrafted};
 ghost use Rattle.jfs_xtpage.specs.Page.{bytes_of};
 ghost use Rattle.jfs_xtpage.specs.declared.head.XtForm.TheVariants.{Full};
 ghost use Rattle.jfs_xtree.specs.Node.{xt_node, frame_of, IsRoot, KeepsFrame};
@@ -48,6 +49,7 @@ pub(crate) fn put_linked<V: PageView>(
     ensures filled { V.PageView.tells → OnOk result (FillsRange top.now.form top.now.blocks (V.PageView.image view.old) root.old root.new draft.old.pages.items draft.new.pages.items stack.old.items) }
     ensures framed { V.PageView.tells → OnOk result (FramesRange top.now.form top.now.blocks (V.PageView.image view.old) root.old draft.old.pages.items draft.new.pages.items stack.old.items stack.new.items) }
     ensures others { V.PageView.tells → OnOk result (OthersFramed (shown draft.old.pages.items (V.PageView.image view.old)) (shown draft.new.pages.items (V.PageView.image view.old)) stack.old.items stack.new.items) }
+    ensures drafted { OnOk result (DraftsTaken draft.old.pages.items draft.new.pages.items stack.old.items stack.new.items) }
     ensures refuses { V.PageView.tells → IfErr result (λ e. RefusesRange top.now.form top.now.blocks (V.PageView.image view.old) root.old draft.old.pages.items stack.old.items e) }
     ensures used { OnOk result (length stack.old.items ≤ length stack.new.items + 15) }
     ensures front { IsFront stack.new.items stack.old.items }
@@ -81,6 +83,7 @@ fn link_ends<V: PageView>(
     ensures device { V.PageView.device view.new ≡ V.PageView.device view.old }
     ensures fault { CarriesFault (V.PageView.faults view.old) (V.PageView.faults view.new) result }
     ensures links { V.PageView.tells → OnOk result (LinksTree (xt_node Full top.now.blocks) (frame_of Full) (V.PageView.image view.old) draft.old.pages.items draft.new.pages.items (xt_node top.now.form top.now.blocks root.now)) }
+    ensures drafted { OnOk result (KeepsDrafted draft.old.pages.items draft.new.pages.items) }
     ensures cause { IfErr result IsRead }
 {
     let form = XtPages {

@@ -5,6 +5,7 @@ ghost use Rattle.std.specs.List.{All};
 ghost use Rattle.jfs_bits.specs.Extent.{FitsXad};
 ghost use Rattle.jfs_tree.specs.Call.{StaysTaken};
 ghost use Rattle.jfs_tree.specs.Form.{AllBelow, IsFront};
+ghost use Rattle.jfs_tree.specs.Taken.{DraftsTaken};
 ghost use Rattle.jfs_xtpage.specs.Page.{head_of, IsLaidOut};
 ghost use Rattle.jfs_xtpage.specs.declared.head.XtForm.{XtForm};
 ghost use Rattle.jfs_xtree.specs.Node.{IsRoot, KeepsFrame};
@@ -36,6 +37,7 @@ pub fn store_root(
     ensures settled { (form : XtForm) (blocks : ℕ) → IsRoot form → AllBelow blocks stack.old.items → IsList blocks list.now
         → OnOk result (SettlesList form blocks levels list.now root.old root.new draft.old.pages.items draft.new.pages.items stack.old.items stack.new.items) }
     ensures keeps { OnOk result (StaysTaken draft.old.pages.items draft.new.pages.items stack.old.items stack.new.items) }
+    ensures drafted { OnOk result (DraftsTaken draft.old.pages.items draft.new.pages.items stack.old.items stack.new.items) }
     ensures frame { KeepsFrame root.old root.new }
     ensures below { (bound : ℕ) → AllBelow bound stack.old.items → AllBelow bound stack.new.items }
     ensures front { IsFront stack.new.items stack.old.items }
@@ -68,6 +70,7 @@ fn move_down(
     requires fits { All FitsXad list.now }
     requires enough { 0 < length stack.old.items }
     ensures moves { OnOk result (MovesRoot list.now root.old root.new draft.old.pages.items draft.new.pages.items stack.old.items stack.new.items) }
+    ensures drafted { OnOk result (DraftsTaken draft.old.pages.items draft.new.pages.items stack.old.items stack.new.items) }
     ensures frame { KeepsFrame root.old root.new }
     ensures below { (bound : ℕ) → AllBelow bound stack.old.items → AllBelow bound stack.new.items }
     ensures front { IsFront stack.new.items stack.old.items }

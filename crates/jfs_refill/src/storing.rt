@@ -5,6 +5,7 @@ ghost use Rattle.std.specs.List.{All};
 ghost use Rattle.jfs_bits.specs.Extent.{FitsXad};
 ghost use Rattle.jfs_tree.specs.Call.{StaysBelow, StaysOff};
 ghost use Rattle.jfs_tree.specs.Form.{IsFront};
+ghost use Rattle.jfs_tree.specs.Taken.{DraftsTaken};
 ghost use Rattle.jfs_xtpage.specs.Page.{head_of, IsLaidOut};
 ghost use Rattle.jfs_refill.specs.Stored.{Divided, Stored, border};
 ghost use Rattle.jfs_refill.specs.Spread.{InnerSpreads, LeafSpreads};
@@ -38,6 +39,7 @@ pub fn store(
     ensures leaf { (blocks : ℕ) → IfOk result (LeafSpreads blocks list.now page.0 n draft.old.pages.items draft.new.pages.items stack.old.items stack.new.items) }
     ensures inner { (blocks : ℕ) → IfOk result (InnerSpreads blocks list.now page.0 n draft.old.pages.items draft.new.pages.items stack.old.items stack.new.items) }
     ensures keeps { OnOk result (StaysOff n draft.old.pages.items draft.new.pages.items stack.old.items stack.new.items) }
+    ensures drafted { OnOk result (DraftsTaken draft.old.pages.items draft.new.pages.items stack.old.items stack.new.items) }
     ensures below { StaysBelow stack.old.items stack.new.items result }
     ensures front { IsFront stack.new.items stack.old.items }
     ensures key { IfOk result (λ more. IfSome more (λ s. s.key < 2 ^ 40)) }
@@ -68,6 +70,7 @@ fn split(
     requires enough { 0 < length stack.old.items }
     ensures stored { IfOk result (Stored list.now full page.0 n draft.old.pages.items draft.new.pages.items stack.old.items stack.new.items) }
     ensures keeps { OnOk result (StaysOff n draft.old.pages.items draft.new.pages.items stack.old.items stack.new.items) }
+    ensures drafted { OnOk result (DraftsTaken draft.old.pages.items draft.new.pages.items stack.old.items stack.new.items) }
     ensures below { StaysBelow stack.old.items stack.new.items result }
     ensures front { IsFront stack.new.items stack.old.items }
     ensures key { IfOk result (λ more. IfSome more (λ s. s.key < 2 ^ 40)) }

@@ -49,7 +49,7 @@ away s pages (suc lower) page key front t back m is none = let h = times_inner s
 pub counts_between : (f b l t u : ℕ) → f ≡ b + t → b ≡ l + u → f ≡ l → (f ≡ b) × (b ≡ l)
 counts_between f b l t u h i e = (omega (arith, h, i, e), omega (arith, h, i, e))
 
-count_parts : (n : ℕ) (a b : List ℕ) → count_in n (a ++ b) ≡ count_in n a + count_in n b
+pub count_parts : (n : ℕ) (a b : List ℕ) → count_in n (a ++ b) ≡ count_in n a + count_in n b
 count_parts n [] b = omega arith
 count_parts n (x ∷ a) b = let h = count_parts n a b in omega (arith, h)
 

@@ -1,7 +1,7 @@
 -- What a draft tells are the changed lines of different pages.
-use Rattle.std.proofs.Common.{◌≡◌, ◌≤◌, inl, inr, refl, sym, ap, ◌∙◌, subst, ℕ, ◌+◌, Bool, true, false, ◌||◌, ◌==◌, if◌then◌else◌, List, [], ◌∷◌, ◌++◌, take, drop, append_assoc, arith}
+use Rattle.std.proofs.Common.{◌≡◌, ◌≤◌, ◌<◌, inl, inr, refl, sym, ap, ◌∙◌, subst, ℕ, ◌+◌, Bool, true, false, ◌||◌, ◌==◌, if◌then◌else◌, List, [], ◌∷◌, ◌++◌, take, drop, append_assoc, arith}
 use Rattle.std.specs.Prelude.{nat_le}
-use Rattle.std.proofs.lemmas.Bool.{cases_eq, eq-eqb, ne_eqb, leb-false}
+use Rattle.std.proofs.lemmas.Bool.{cases_eq, eq-eqb, ne_eqb, leb-false, leb-true}
 use Rattle.std.proofs.lemmas.List.{take-append-drop}
 use Rattle.jfs_bits.specs.declared.rule.PageKind.{PageKind}
 use Rattle.jfs_disk.specs.Image.{Image, page_of}
@@ -12,10 +12,12 @@ use Rattle.jfs_tree.specs.Draft.{shown}
 use Rattle.jfs_tree.specs.Tell.{DraftEdits, DraftedEdits, PageEdits, TellsDraft, TellsExactly, is_hidden, is_in, occurs}
 use Rattle.jfs_tree.specs.Fresh.{allocs_of}
 use Rattle.jfs_tree.specs.Removes.{page_frees}
+use Rattle.jfs_tree.specs.Taken.{AreDrafted}
 use Rattle.jfs_tree.specs.Changes.{PagesEdits, TellsChanges, TellsTaken}
 use Rattle.jfs_tree.specs.declared.draft.Drafted.{Drafted}
 use Rattle.jfs_tree.proofs.Runs.{told_still}
 use Rattle.jfs_tree.proofs.Removes.{told_freed}
+use Rattle.jfs_tree.proofs.Drafts.{drafted_occurs, none_drafted}
 
 -- the pages of a draft behind these newer ones that are told
 abbrev told_pages : ℕ → List Drafted → List Drafted → List ℕ
@@ -120,15 +122,53 @@ told_below blocks newer (d ∷ ds) = by (is_hidden blocks newer d.number) refl (
     by true e h = h
     by false e h = (leb-false blocks d.number (left_false (nat_le blocks d.number) (occurs d.number newer) e), h)
 
+-- a page of the draft is told
+none_of : (a b : Bool) → a ≡ false → b ≡ false → (a || b) ≡ false
+none_of true b e f = absurd cc
+none_of false b e f = f
+
+not_past : (blocks n : ℕ) → n < blocks → (b : Bool) → nat_le blocks n ≡ b → b ≡ false
+not_past blocks n h true e = absurd (let g = leb-true blocks n e in omega (arith, g, h))
+not_past blocks n h false e = refl
+
+second : (a b : Bool) → a ≡ false → (if a then true else b) ≡ true → b ≡ true
+second true b e f = absurd cc
+second false b e f = f
+
+told_has : (blocks n : ℕ) (newer ds : List Drafted) → n < blocks → occurs n newer ≡ false → occurs n ds ≡ true → is_in n (told_pages blocks newer ds) ≡ true
+told_has blocks n newer [] within fresh has = absurd cc
+told_has blocks n newer (d ∷ ds) within fresh has = elim (cases_eq d.number n) [
+  | inl is ↦ first (is_hidden blocks newer d.number) (ap (λ m. is_hidden blocks newer m) is ∙ none_of (nat_le blocks n) (occurs n newer) (not_past blocks n within (nat_le blocks n) refl) fresh) (eq-eqb d.number n is)
+  | inr other ↦ behind (is_hidden blocks newer d.number)
+      (told_has blocks n (newer ++ d ∷ []) ds within (occurs_last n newer d ∙ none_of (occurs n newer) (d.number == n) fresh (ne_eqb d.number n other)) (second (d.number == n) (occurs n ds) (ne_eqb d.number n other) has))
+]
+  where
+    head : (c : Bool) → c ≡ true → (c || is_in n (told_pages blocks (newer ++ d ∷ []) ds)) ≡ true
+    head true e = refl
+    head false e = absurd cc
+
+    tail : (c : Bool) → is_in n (told_pages blocks (newer ++ d ∷ []) ds) ≡ true → (c || is_in n (told_pages blocks (newer ++ d ∷ []) ds)) ≡ true
+    tail true h = refl
+    tail false h = h
+
+    first : (b : Bool) → b ≡ false → (d.number == n) ≡ true → is_in n (if b then told_pages blocks (newer ++ d ∷ []) ds else d.number ∷ told_pages blocks (newer ++ d ∷ []) ds) ≡ true
+    first true e f = absurd cc
+    first false e f = head (d.number == n) f
+
+    behind : (b : Bool) → is_in n (told_pages blocks (newer ++ d ∷ []) ds) ≡ true → is_in n (if b then told_pages blocks (newer ++ d ∷ []) ds else d.number ∷ told_pages blocks (newer ++ d ∷ []) ds) ≡ true
+    behind true h = h
+    behind false h = tail (d.number == n) h
+
 -- a draft that was told, and then these edits
 pub changes : (blocks : ℕ) (image : Image) (taken : List ℕ) (kind : PageKind) (drafts : List Drafted) (tx copy later more last : List Edit) → copy ≡ tx → more ≡ later ++ last
-    → TellsExactly blocks image taken kind drafts copy later → TellsDraft blocks image drafts tx more → TellsChanges blocks kind taken (page_of image) last tx more
-changes blocks image taken kind drafts tx copy later more last is e (edits, told, are) leads = record {
+    → AreDrafted blocks drafts taken → TellsExactly blocks image taken kind drafts copy later → TellsDraft blocks image drafts tx more → TellsChanges blocks kind taken (page_of image) last tx more
+changes blocks image taken kind drafts tx copy later more last is e drafted (edits, told, are) leads = record {
   after = shown drafts image;
   changed = told_pages blocks [] drafts;
   lines = edits;
   told = e ∙ ap (λ es. es ++ last) (told ∙ ap (λ es. es ++ edits) is) ∙ append_assoc tx edits last;
   edits = draft_pages blocks image taken kind [] drafts edits are;
+  takes = λ n t. told_has blocks n [] drafts (drafted n t).0 refl (drafted_occurs drafts n (drafted n t).1);
   once = λ n. told_once blocks n [] drafts;
   within = told_below blocks [] drafts;
   leads = λ base to m h. ((to m h).0, leads m h (base m) (to m h).0 (to m h).1);
@@ -140,8 +180,8 @@ changes_as now blocks kind view image taken last tx later en ei told = subst (λ
 
 -- and then the pages that were taken
 pub changes_taken : (blocks : ℕ) (image : Image) (kind : PageKind) (drafts : List Drafted) (tx copy later more : List Edit) (taken : List ℕ) → copy ≡ tx → more ≡ later ++ allocs_of taken
-    → TellsExactly blocks image taken kind drafts copy later → TellsDraft blocks image drafts copy later → TellsChanges blocks kind taken (page_of image) (allocs_of taken) tx more
-changes_taken blocks image kind drafts tx copy later more taken is e are told = changes blocks image taken kind drafts tx copy later more (allocs_of taken) is e are (told_still blocks image drafts tx copy later more taken is e told)
+    → AreDrafted blocks drafts taken → TellsExactly blocks image taken kind drafts copy later → TellsDraft blocks image drafts copy later → TellsChanges blocks kind taken (page_of image) (allocs_of taken) tx more
+changes_taken blocks image kind drafts tx copy later more taken is e drafted are told = changes blocks image taken kind drafts tx copy later more (allocs_of taken) is e drafted are (told_still blocks image drafts tx copy later more taken is e told)
 
 pub taken_changes : (blocks : ℕ) (kind : PageKind) (pages : ℕ → List ℕ) (all given rest : List ℕ) (n : ℕ) (tx later : List Edit) → given ≡ all → rest ≡ drop n given → TellsChanges blocks kind (take n given) pages (allocs_of (take n given)) tx later
     → TellsTaken blocks kind pages all rest tx later
@@ -150,4 +190,4 @@ taken_changes blocks kind pages all given rest n tx later is cut told = (take n 
 -- and then the pages that are free
 pub changes_freed : (blocks : ℕ) (image : Image) (kind : PageKind) (drafts : List Drafted) (tx copy later more : List Edit) (freed : List ℕ) → copy ≡ tx → more ≡ later ++ page_frees freed
     → TellsExactly blocks image [] kind drafts copy later → TellsDraft blocks image drafts copy later → TellsChanges blocks kind [] (page_of image) (page_frees freed) tx more
-changes_freed blocks image kind drafts tx copy later more freed is e are told = changes blocks image [] kind drafts tx copy later more (page_frees freed) is e are (told_freed blocks image drafts tx copy later more freed is e told)
+changes_freed blocks image kind drafts tx copy later more freed is e are told = changes blocks image [] kind drafts tx copy later more (page_frees freed) is e (none_drafted blocks drafts) are (told_freed blocks image drafts tx copy later more freed is e told)

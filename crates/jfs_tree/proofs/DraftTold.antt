@@ -18,7 +18,7 @@ shown_last (e ∷ ds) d image m = elim (cases_eq m e.number) [
   | inr other ↦ rw (ne_eqb m e.number other, ne_eqb e.number m (λ h. other (sym h))) (shown_last ds d image m)
 ]
 
-shown_fresh : (ds : List Drafted) (image : Image) (m : ℕ) → occurs m ds ≡ false → shown ds image m ≡ page_of image m
+pub shown_fresh : (ds : List Drafted) (image : Image) (m : ℕ) → occurs m ds ≡ false → shown ds image m ≡ page_of image m
 shown_fresh [] image m no_one = refl
 shown_fresh (e ∷ ds) image m no_one = elim (cases_eq m e.number) [
   | inl is ↦ absurd (hit (e.number == m) (occurs m ds) (eq-eqb e.number m (sym is)) no_one)

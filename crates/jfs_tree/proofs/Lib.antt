@@ -42,6 +42,7 @@ mod RunsTold
 mod DraftEdited
 pub mod LinesOnly
 pub mod Removes
+pub mod Drafts
 pub mod Changed
 pub mod Filling
 pub mod BytesKept

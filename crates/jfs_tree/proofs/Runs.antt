@@ -36,7 +36,7 @@ run_below b a zero k h l = absurd (omega (arith, l))
 run_below b a (suc n) zero h l = (let w = h.0 in omega (arith, w))
 run_below b a (suc n) (suc k) h l = let t = run_below b (suc a) n k h.1 (omega (arith, l)) in omega (arith, t)
 
-below_parts : (b : ℕ) (xs ys : List ℕ) → AllBelow b (xs ++ ys) → AllBelow b xs × AllBelow b ys
+pub below_parts : (b : ℕ) (xs ys : List ℕ) → AllBelow b (xs ++ ys) → AllBelow b xs × AllBelow b ys
 below_parts b [] ys h = (tt, h)
 below_parts b (x ∷ xs) ys h = let t = below_parts b xs ys h.1 in ((h.0, t.0), t.1)
 

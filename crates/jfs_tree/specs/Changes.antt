@@ -1,5 +1,5 @@
 -- Which lines a call tells.
-use Rattle.std.specs.Prelude.{◌≡◌, ◌≤◌, ℕ, List, [], ◌∷◌, ◌++◌}
+use Rattle.std.specs.Prelude.{◌≡◌, ◌≤◌, ℕ, true, List, [], ◌∷◌, ◌++◌}
 use Rattle.jfs_bits.specs.declared.rule.PageKind.{PageKind}
 use Rattle.jfs_ranges.specs.declared.edit.Edit.{Edit}
 use Rattle.jfs_tree.specs.Edit.{count_in}
@@ -13,13 +13,14 @@ abbrev pub PagesEdits : PageKind → List ℕ → (ℕ → List ℕ) → (ℕ �
 PagesEdits kind taken old new [] edits = edits ≡ []
 PagesEdits kind taken old new (n ∷ ns) edits = (own : List Edit) × (rest : List Edit) × (edits ≡ own ++ rest) × PageEdits (is_in n taken) n kind (old n) (new n) own × PagesEdits kind taken old new ns rest
 
--- What a call tells: the edits of different pages of the file system, each as it is after the call, and then these; nothing else.
+-- What a call tells: the edits of different pages of the file system, each as it is after the call, and then these; nothing else. Each page that was taken is among them.
 pub record TellsChanges (blocks : ℕ) (kind : PageKind) (taken : List ℕ) (pages : ℕ → List ℕ) (last tx later : List Edit) : Type 0 where
   pub after : ℕ → List ℕ
   pub changed : List ℕ
   pub lines : List Edit
   pub told : later ≡ tx ++ (lines ++ last)
   pub edits : PagesEdits kind taken pages after changed lines
+  pub takes : (n : ℕ) → is_in n taken ≡ true → is_in n changed ≡ true
   pub once : (n : ℕ) → count_in n changed ≤ 1
   pub within : AllBelow blocks changed
   pub leads : (base : ℕ → List ℕ) → LeadsTo blocks base tx pages → LeadsTo blocks base later after

@@ -13,6 +13,7 @@ pub mod Form
 pub mod Removal
 pub mod RootLoss
 pub mod Frames
+pub mod Taken
 pub mod Fresh
 pub mod Adds
 pub mod Apart

@@ -15,6 +15,7 @@ ghost use Rattle.jfs_tree.specs.Fresh.{blocks_of, allocs_of, TakenInOrder, HasPa
 ghost use Rattle.jfs_tree.specs.Path.{broken_on_way};
 ghost use Rattle.jfs_tree.specs.Refusal.{ClashesOnWay, HasAllLevels, TellsAdding};
 ghost use Rattle.jfs_tree.specs.Root.{RefusesWhereBad};
+ghost use Rattle.jfs_tree.specs.Taken.{AreDrafted};
 ghost use Rattle.jfs_tree.specs.Tell.{TellsDraft, TellsThen};
 
 use crate::copy::copy_tx;
@@ -201,7 +202,8 @@ pub(crate) fn finish<V: PageView>(
     kind: PageKind,
     tx: &Tx,
 ) -> Result<Planned, TreeError>
-    requires { left ≤ length all.now }
+    requires fits { left ≤ length all.now }
+    requires drafted { AreDrafted (V.PageView.block_count view.old) draft.now.pages.items (take (length all.now - left) all.now) }
     ensures image { V.PageView.tells → V.PageView.image view.new ≡ V.PageView.image view.old }
     ensures count_of_blocks { V.PageView.block_count view.new ≡ V.PageView.block_count view.old }
     ensures device { V.PageView.device view.new ≡ V.PageView.device view.old }
@@ -232,6 +234,7 @@ fn tell<V: PageView>(
     kind: PageKind,
     tx: &Tx,
 ) -> Result<Tx, ViewError>
+    requires drafted { AreDrafted (V.PageView.block_count view.old) draft.now.pages.items taken.now }
     ensures image { V.PageView.tells → V.PageView.image view.new ≡ V.PageView.image view.old }
     ensures count_of_blocks { V.PageView.block_count view.new ≡ V.PageView.block_count view.old }
     ensures device { V.PageView.device view.new ≡ V.PageView.device view.old }

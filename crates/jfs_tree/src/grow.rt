@@ -11,6 +11,7 @@ ghost use Rattle.jfs_tree.specs.Removal.{HasChildAt};
 ghost use Rattle.jfs_tree.specs.Refusal.{GrownCut, GrownClash, TellsGrowing};
 ghost use Rattle.jfs_tree.specs.Room.{GrowsWhereFull, TakesMore, at_page};
 ghost use Rattle.jfs_tree.specs.Call.{nodes, GrownDid, GrownBelow, KeepsBytes, StaysOff, CarriesFault, RefutesWhereBad};
+ghost use Rattle.jfs_tree.specs.Taken.{DraftsTaken};
 
 use crate::draft::Draft;
 use crate::form::{Sibling, TreeError, Way};
@@ -69,6 +70,7 @@ pub fn add_below<V: PageView, F: PageForm>(
         grown.levels page last (children_of grown.sibling) fresh.old.items) }
     ensures keeps { V.PageView.tells → IfOk result (λ grown. KeepsBytes F.PageForm.scale (nodes (F.PageForm.node form.now) draft.old.pages.items (V.PageView.image view.old)) (V.PageView.image view.old)
         draft.old.pages.items draft.new.pages.items grown.levels page fresh.old.items fresh.new.items) }
+    ensures drafted { OnOk result (DraftsTaken draft.old.pages.items draft.new.pages.items fresh.old.items fresh.new.items) }
     ensures framed { V.PageView.tells → IfOk result (λ grown. GrowsFramed F.PageForm.scale (nodes (F.PageForm.node form.now) draft.old.pages.items (V.PageView.image view.old)) (F.PageForm.frame form.now) (F.PageForm.new_frame form.now)
         (V.PageView.image view.old) draft.old.pages.items draft.new.pages.items grown.levels page fresh.old.items fresh.new.items) }
     ensures apart { V.PageView.tells → OnOk result (ApartBelow F.PageForm.scale (nodes (F.PageForm.node form.now) draft.old.pages.items (V.PageView.image view.old)) x.now most page) }
@@ -146,6 +148,7 @@ fn take_grown<F: PageForm>(
     ensures room { IfOk result (λ g. TakesMore (F.PageForm.is_full form.now bytes.0) grown.sibling g.sibling fresh.old.items fresh.new.items) }
     ensures filled { (least : ℕ) → F.PageForm.fills least → IfOk result (λ g. ChildFilled least (F.PageForm.node form.now) F.PageForm.scale bytes.0 page place last grown.sibling draft.old.pages.items draft.new.pages.items fresh.old.items g.sibling) }
     ensures keeps { OnOk result (StaysOff page draft.old.pages.items draft.new.pages.items fresh.old.items fresh.new.items) }
+    ensures drafted { OnOk result (DraftsTaken draft.old.pages.items draft.new.pages.items fresh.old.items fresh.new.items) }
     ensures framed { OnOk result (TakesFramed (F.PageForm.frame form.now) (F.PageForm.new_frame form.now) bytes.0 page draft.old.pages.items draft.new.pages.items fresh.old.items fresh.new.items) }
     ensures below { GrownBelow fresh.old.items fresh.new.items result }
     ensures front { IsFront fresh.new.items fresh.old.items }

@@ -14,6 +14,7 @@ ghost use Rattle.jfs_tree.specs.Room.{FullFrom, GrowsLevel, LevelsWhereFull, Tak
 ghost use Rattle.jfs_tree.specs.Call.{nodes, pages_of, CarriesFault};
 ghost use Rattle.jfs_tree.specs.Root.{AddsAlways, KeepsAlways, NamesBroken, RefusesWhereBad};
 ghost use Rattle.jfs_tree.specs.RootLoss.{KeepsOthers, RemovesAlways};
+ghost use Rattle.jfs_tree.specs.Taken.{DraftsTaken};
 
 use crate::draft::Draft;
 use crate::form::TreeError;
@@ -86,6 +87,7 @@ pub(crate) fn add_linked<V: PageView, F: PageLinks>(
     ensures used { OnOk result (length fresh.old.items ≤ length fresh.new.items + 8) }
     ensures keeps { V.PageView.tells → OnOk result (KeepsAlways F.PageForm.scale x.now (nodes (F.PageForm.node form.now) draft.old.pages.items (V.PageView.image view.old)) (F.PageForm.node top.now root.old) (V.PageView.image view.old)
         draft.old.pages.items draft.new.pages.items fresh.old.items fresh.new.items) }
+    ensures drafted { OnOk result (DraftsTaken draft.old.pages.items draft.new.pages.items fresh.old.items fresh.new.items) }
     ensures framed { V.PageView.tells → OnOk result (FramesAlways F.PageForm.scale x.now (nodes (F.PageForm.node form.now) draft.old.pages.items (V.PageView.image view.old)) (F.PageForm.node top.now root.old) (F.PageForm.frame form.now) (F.PageForm.new_frame form.now)
         (V.PageView.image view.old) draft.old.pages.items draft.new.pages.items fresh.old.items fresh.new.items) }
     ensures frame { F.PageForm.frame top.now root.new ≡ F.PageForm.frame top.now root.old }

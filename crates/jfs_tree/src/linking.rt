@@ -3,6 +3,7 @@
 ghost use Rattle.std.specs.Prelude.{◌≡◌, ◌<◌, ◌≤◌, ◌⊎◌, ℕ, Bool, length, Some, None, OnOk, IfOk, IfErr, IfSome};
 ghost use Rattle.jfs_tree.specs.Call.{CarriesFault, IsRead};
 ghost use Rattle.jfs_tree.specs.Linking.{AreBelow, LinksPage, LinksLevel, LinksTree};
+ghost use Rattle.jfs_tree.specs.Taken.{KeepsDrafted};
 
 use crate::beside::{Beside, beside_below, children_beside};
 use crate::draft::Draft;
@@ -33,6 +34,7 @@ pub fn link_taken<V: PageView, F: PageLinks>(
     ensures device { V.PageView.device view.new ≡ V.PageView.device view.old }
     ensures fault { CarriesFault (V.PageView.faults view.old) (V.PageView.faults view.new) result }
     ensures links { V.PageView.tells → OnOk result (LinksTree (F.PageForm.node form.now) (F.PageForm.frame form.now) (V.PageView.image view.old) draft.old.pages.items draft.new.pages.items (F.PageForm.node top.now root.now)) }
+    ensures drafted { OnOk result (KeepsDrafted draft.old.pages.items draft.new.pages.items) }
     ensures cause { IfErr result IsRead }
 {
     if taken.is_empty() {
@@ -62,6 +64,7 @@ fn link_behind<V: PageView, F: PageLinks>(
     ensures device { V.PageView.device view.new ≡ V.PageView.device view.old }
     ensures fault { CarriesFault (V.PageView.faults view.old) (V.PageView.faults view.new) result }
     ensures links { V.PageView.tells → OnOk result (LinksLevel (F.PageForm.node form.now) (F.PageForm.frame form.now) (V.PageView.image view.old) draft.old.pages.items draft.new.pages.items level.now) }
+    ensures drafted { OnOk result (KeepsDrafted draft.old.pages.items draft.new.pages.items) }
     ensures cause { IfErr result IsRead }
 {
     if most == 0 {
@@ -99,6 +102,7 @@ fn link_new<V: PageView, F: PageLinks>(
     ensures device { V.PageView.device view.new ≡ V.PageView.device view.old }
     ensures fault { CarriesFault (V.PageView.faults view.old) (V.PageView.faults view.new) result }
     ensures links { V.PageView.tells → OnOk result (LinksLevel (F.PageForm.node form.now) (F.PageForm.frame form.now) (V.PageView.image view.old) draft.old.pages.items draft.new.pages.items level.now) }
+    ensures drafted { OnOk result (KeepsDrafted draft.old.pages.items draft.new.pages.items) }
     ensures cause { IfErr result IsRead }
 {
     if taken.contains(&level.here) {
@@ -134,6 +138,7 @@ pub fn link_gaps<V: PageView, F: PageLinks>(
     ensures device { V.PageView.device view.new ≡ V.PageView.device view.old }
     ensures fault { CarriesFault (V.PageView.faults view.old) (V.PageView.faults view.new) result }
     ensures links { V.PageView.tells → OnOk result (LinksTree (F.PageForm.node form.now) (F.PageForm.frame form.now) (V.PageView.image view.old) draft.old.pages.items draft.new.pages.items (F.PageForm.node top.now root.now)) }
+    ensures drafted { OnOk result (KeepsDrafted draft.old.pages.items draft.new.pages.items) }
     ensures cause { IfErr result IsRead }
 {
     match children_beside(top, root, x) {
@@ -165,6 +170,7 @@ fn close_gaps<V: PageView, F: PageLinks>(
     ensures device { V.PageView.device view.new ≡ V.PageView.device view.old }
     ensures fault { CarriesFault (V.PageView.faults view.old) (V.PageView.faults view.new) result }
     ensures links { V.PageView.tells → OnOk result (LinksLevel (F.PageForm.node form.now) (F.PageForm.frame form.now) (V.PageView.image view.old) draft.old.pages.items draft.new.pages.items level.now) }
+    ensures drafted { OnOk result (KeepsDrafted draft.old.pages.items draft.new.pages.items) }
     ensures levels { IfOk result (λ levels. levels ≤ most) }
     ensures cause { IfErr result IsRead }
 {
@@ -204,6 +210,7 @@ fn gaps_below<V: PageView, F: PageLinks>(
     ensures device { V.PageView.device view.new ≡ V.PageView.device view.old }
     ensures fault { CarriesFault (V.PageView.faults view.old) (V.PageView.faults view.new) result }
     ensures links { V.PageView.tells → OnOk result (LinksLevel (F.PageForm.node form.now) (F.PageForm.frame form.now) (V.PageView.image view.old) draft.old.pages.items draft.new.pages.items level.now) }
+    ensures drafted { OnOk result (KeepsDrafted draft.old.pages.items draft.new.pages.items) }
     ensures levels { IfOk result (λ levels. levels < most) }
     ensures cause { IfErr result IsRead }
 {
@@ -232,6 +239,7 @@ fn link_both<V: PageView, F: PageLinks>(
     ensures device { V.PageView.device view.new ≡ V.PageView.device view.old }
     ensures fault { CarriesFault (V.PageView.faults view.old) (V.PageView.faults view.new) result }
     ensures links { V.PageView.tells → OnOk result (LinksLevel (F.PageForm.node form.now) (F.PageForm.frame form.now) (V.PageView.image view.old) draft.old.pages.items draft.new.pages.items level.now) }
+    ensures drafted { OnOk result (KeepsDrafted draft.old.pages.items draft.new.pages.items) }
     ensures cause { IfErr result IsRead }
 {
     let before = level.before.unwrap_or(0);
@@ -254,6 +262,7 @@ fn link_both<V: PageView, F: PageLinks>(
     }
 }
 
+#[tactic(auto, using(crate::proofs::Drafts::one_keeps))]
 /// A page names `next` as the one behind it.
 fn link_on<V: PageView, F: PageLinks>(
     form: &F,
@@ -269,6 +278,7 @@ fn link_on<V: PageView, F: PageLinks>(
     ensures device { V.PageView.device view.new ≡ V.PageView.device view.old }
     ensures fault { CarriesFault (V.PageView.faults view.old) (V.PageView.faults view.new) result }
     ensures links { V.PageView.tells → OnOk result (LinksPage (F.PageForm.node form.now) (F.PageForm.frame form.now) (V.PageView.image view.old) draft.old.pages.items draft.new.pages.items page) }
+    ensures drafted { OnOk result (KeepsDrafted draft.old.pages.items draft.new.pages.items) }
     ensures cause { IfErr result IsRead }
 {
     let Some(n) = page else {
@@ -282,6 +292,7 @@ fn link_on<V: PageView, F: PageLinks>(
     put_one(draft, n, bytes)
 }
 
+#[tactic(auto, using(crate::proofs::Drafts::one_keeps))]
 /// A page names `prev` as the one before it.
 fn link_back<V: PageView, F: PageLinks>(
     form: &F,
@@ -297,6 +308,7 @@ fn link_back<V: PageView, F: PageLinks>(
     ensures device { V.PageView.device view.new ≡ V.PageView.device view.old }
     ensures fault { CarriesFault (V.PageView.faults view.old) (V.PageView.faults view.new) result }
     ensures links { V.PageView.tells → OnOk result (LinksPage (F.PageForm.node form.now) (F.PageForm.frame form.now) (V.PageView.image view.old) draft.old.pages.items draft.new.pages.items page) }
+    ensures drafted { OnOk result (KeepsDrafted draft.old.pages.items draft.new.pages.items) }
     ensures cause { IfErr result IsRead }
 {
     let Some(n) = page else {

@@ -6,6 +6,7 @@ ghost use Rattle.jfs_tree.specs.Call.{CarriesFault, IsRead};
 ghost use Rattle.jfs_tree.specs.Changes.{TellsTaken};
 ghost use Rattle.jfs_tree.specs.Form.{AllBelow, IsFront};
 ghost use Rattle.jfs_tree.specs.Fresh.{blocks_of, TakenInOrder};
+ghost use Rattle.jfs_tree.specs.Taken.{HasTaken};
 ghost use Rattle.jfs_tree.specs.Tell.{TellsDraft};
 
 use crate::add_told::{Planned, finish};
@@ -38,6 +39,7 @@ pub fn tell_steps<V: PageView>(
 ) -> Result<Planned, TreeError>
     requires within { AllBelow (V.PageView.block_count view.old) (blocks_of fresh.now) }
     requires front { IsFront left.now (reverse (blocks_of fresh.now)) }
+    requires drafted { HasTaken draft.now.pages.items (reverse (blocks_of fresh.now)) left.now }
     ensures image { V.PageView.tells → V.PageView.image view.new ≡ V.PageView.image view.old }
     ensures count_of_blocks { V.PageView.block_count view.new ≡ V.PageView.block_count view.old }
     ensures device { V.PageView.device view.new ≡ V.PageView.device view.old }

@@ -11,6 +11,7 @@ ghost use Rattle.jfs_tree.specs.Frames.{FramesAlways, NamesTaken};
 ghost use Rattle.jfs_tree.specs.Room.{FullFrom, GrowsLevel, LevelsWhereFull, TakesWhereFull, RootGrownRoom, at_page};
 ghost use Rattle.jfs_tree.specs.Call.{nodes, pages_of, CarriesFault, StaysTaken};
 ghost use Rattle.jfs_tree.specs.Root.{AddsAlways, FindsAlways, KeepsAlways, NamesBroken, RefusesWhereBad, RootGrownDid};
+ghost use Rattle.jfs_tree.specs.Taken.{DraftsTaken};
 
 use crate::draft::Draft;
 use crate::find::find_below;
@@ -121,6 +122,7 @@ pub fn add_entry<V: PageView, F: PageForm>(
     ensures used { OnOk result (length fresh.old.items ≤ length fresh.new.items + 8) }
     ensures keeps { V.PageView.tells → OnOk result (KeepsAlways F.PageForm.scale x.now (nodes (F.PageForm.node form.now) draft.old.pages.items (V.PageView.image view.old)) (F.PageForm.node top.now root.old) (V.PageView.image view.old)
         draft.old.pages.items draft.new.pages.items fresh.old.items fresh.new.items) }
+    ensures drafted { OnOk result (DraftsTaken draft.old.pages.items draft.new.pages.items fresh.old.items fresh.new.items) }
     ensures framed { V.PageView.tells → OnOk result (FramesAlways F.PageForm.scale x.now (nodes (F.PageForm.node form.now) draft.old.pages.items (V.PageView.image view.old)) (F.PageForm.node top.now root.old) (F.PageForm.frame form.now) (F.PageForm.new_frame form.now)
         (V.PageView.image view.old) draft.old.pages.items draft.new.pages.items fresh.old.items fresh.new.items) }
     ensures frame { F.PageForm.frame top.now root.new ≡ F.PageForm.frame top.now root.old }
@@ -174,6 +176,7 @@ fn root_takes_grown<F: PageForm>(
     ensures did { RootGrownDid (F.PageForm.node form.now) F.PageForm.scale grown.levels place grown.sibling (F.PageForm.node top.now root.old) (F.PageForm.node top.now root.new) draft.old.pages.items draft.new.pages.items fresh.old.items fresh.new.items result }
     ensures room { RootGrownRoom F.PageForm.scale (λ key. (F.PageForm.is_full top.now root.old) × (F.PageForm.has_no_place top.now root.old key)) place grown.sibling (F.PageForm.node top.now root.old) fresh.old.items fresh.new.items result }
     ensures keeps { OnOk result (StaysTaken draft.old.pages.items draft.new.pages.items fresh.old.items fresh.new.items) }
+    ensures drafted { OnOk result (DraftsTaken draft.old.pages.items draft.new.pages.items fresh.old.items fresh.new.items) }
     ensures names { OnOk result (NamesTaken (F.PageForm.frame form.now) (F.PageForm.new_frame form.now) draft.new.pages.items fresh.old.items fresh.new.items) }
     ensures frame { F.PageForm.frame top.now root.new ≡ F.PageForm.frame top.now root.old }
     ensures below { AllBelow (F.PageForm.blocks top.now) fresh.new.items }

@@ -9,6 +9,7 @@ ghost use Rattle.jfs_tree.specs.Spells.{no_page};
 ghost use Rattle.jfs_tree.specs.Room.{RootRoom, RootChildRoom};
 ghost use Rattle.jfs_tree.specs.Refusal.{HereClash, RootClash};
 ghost use Rattle.jfs_tree.specs.Root.{RootHereDid, RootChildDid};
+ghost use Rattle.jfs_tree.specs.Taken.{DraftsTaken};
 
 use crate::draft::Draft;
 use crate::form::{NO_PAGE, Put, Sibling, TreeError};
@@ -36,6 +37,7 @@ pub(crate) fn root_takes_here<F: PageForm>(
     ensures did { RootHereDid (F.PageForm.node form.now) F.PageForm.scale x.now (F.PageForm.node top.now root.old) (F.PageForm.node top.now root.new) draft.old.pages.items draft.new.pages.items fresh.old.items fresh.new.items result }
     ensures room { OnOk result (RootRoom ((F.PageForm.is_full top.now root.old) × (F.PageForm.has_no_room top.now root.old x.now)) fresh.old.items fresh.new.items) }
     ensures keeps { OnOk result (StaysTaken draft.old.pages.items draft.new.pages.items fresh.old.items fresh.new.items) }
+    ensures drafted { OnOk result (DraftsTaken draft.old.pages.items draft.new.pages.items fresh.old.items fresh.new.items) }
     ensures names { OnOk result (NamesTaken (F.PageForm.frame form.now) (F.PageForm.new_frame form.now) draft.new.pages.items fresh.old.items fresh.new.items) }
     ensures frame { F.PageForm.frame top.now root.new ≡ F.PageForm.frame top.now root.old }
     ensures below { AllBelow (F.PageForm.blocks top.now) fresh.new.items }
@@ -73,6 +75,7 @@ fn moves_with_entry<F: PageForm>(
     ensures did { RootHereDid (F.PageForm.node form.now) F.PageForm.scale x.now (F.PageForm.node top.now root.old) (F.PageForm.node top.now root.new) draft.old.pages.items draft.new.pages.items fresh.old.items fresh.new.items result }
     ensures one { length fresh.old.items ≡ length fresh.new.items + 1 }
     ensures keeps { OnOk result (StaysTaken draft.old.pages.items draft.new.pages.items fresh.old.items fresh.new.items) }
+    ensures drafted { OnOk result (DraftsTaken draft.old.pages.items draft.new.pages.items fresh.old.items fresh.new.items) }
     ensures names { OnOk result (NamesTaken (F.PageForm.frame form.now) (F.PageForm.new_frame form.now) draft.new.pages.items fresh.old.items fresh.new.items) }
     ensures frame { F.PageForm.frame top.now root.new ≡ F.PageForm.frame top.now root.old }
     ensures below { AllBelow (F.PageForm.blocks top.now) fresh.new.items }
@@ -117,6 +120,7 @@ pub(crate) fn root_takes_child<F: PageForm>(
     ensures did { RootChildDid (F.PageForm.node form.now) F.PageForm.scale levels place child (F.PageForm.node top.now root.old) (F.PageForm.node top.now root.new) draft.old.pages.items draft.new.pages.items fresh.old.items fresh.new.items result }
     ensures room { RootChildRoom F.PageForm.scale ((F.PageForm.is_full top.now root.old) × (F.PageForm.has_no_place top.now root.old child.key)) place child (F.PageForm.node top.now root.old) fresh.old.items fresh.new.items result }
     ensures keeps { OnOk result (StaysTaken draft.old.pages.items draft.new.pages.items fresh.old.items fresh.new.items) }
+    ensures drafted { OnOk result (DraftsTaken draft.old.pages.items draft.new.pages.items fresh.old.items fresh.new.items) }
     ensures names { OnOk result (NamesTaken (F.PageForm.frame form.now) (F.PageForm.new_frame form.now) draft.new.pages.items fresh.old.items fresh.new.items) }
     ensures frame { F.PageForm.frame top.now root.new ≡ F.PageForm.frame top.now root.old }
     ensures below { AllBelow (F.PageForm.blocks top.now) fresh.new.items }
@@ -166,6 +170,7 @@ fn moves_with_child<F: PageForm>(
     ensures did { RootChildDid (F.PageForm.node form.now) F.PageForm.scale levels place child (F.PageForm.node top.now root.old) (F.PageForm.node top.now root.new) draft.old.pages.items draft.new.pages.items fresh.old.items fresh.new.items result }
     ensures one { length fresh.old.items ≡ length fresh.new.items + 1 }
     ensures keeps { OnOk result (StaysTaken draft.old.pages.items draft.new.pages.items fresh.old.items fresh.new.items) }
+    ensures drafted { OnOk result (DraftsTaken draft.old.pages.items draft.new.pages.items fresh.old.items fresh.new.items) }
     ensures names { OnOk result (NamesTaken (F.PageForm.frame form.now) (F.PageForm.new_frame form.now) draft.new.pages.items fresh.old.items fresh.new.items) }
     ensures frame { F.PageForm.frame top.now root.new ≡ F.PageForm.frame top.now root.old }
     ensures below { AllBelow (F.PageForm.blocks top.now) fresh.new.items }

@@ -13,6 +13,7 @@ use Rattle.jfs_tree.specs.Changes.{TellsChanges}
 use Rattle.jfs_tree.specs.declared.draft.Drafted.{Drafted}
 use Rattle.jfs_tree.proofs.Removes.{told_freed}
 use Rattle.jfs_tree.proofs.Changed.{changes}
+use Rattle.jfs_tree.proofs.Drafts.{none_drafted}
 use Rattle.jfs_xtree.specs.Cutting.{run_frees}
 
 runs_last : (ps : List Pxd) (p : Pxd) → run_frees (ps ++ p ∷ []) ≡ run_frees ps ++ Free p ∷ []
@@ -38,4 +39,4 @@ told_cut blocks image drafts tx copy later more ns ps is e told = λ m h content
 -- the changed lines of different pages, and then what is freed
 pub changes_cut : (blocks : ℕ) (image : Image) (drafts : List Drafted) (tx copy later more : List Edit) (ns : List ℕ) (ps : List Pxd) → copy ≡ tx → more ≡ later ++ (page_frees ns ++ run_frees ps) → TellsExactly blocks image [] Xtree drafts copy later
     → TellsDraft blocks image drafts copy later → TellsChanges blocks Xtree [] (page_of image) (page_frees ns ++ run_frees ps) tx more
-changes_cut blocks image drafts tx copy later more ns ps is e are told = changes blocks image [] Xtree drafts tx copy later more (page_frees ns ++ run_frees ps) is e are (told_cut blocks image drafts tx copy later more ns ps is e told)
+changes_cut blocks image drafts tx copy later more ns ps is e are told = changes blocks image [] Xtree drafts tx copy later more (page_frees ns ++ run_frees ps) is e (none_drafted blocks drafts) are (told_cut blocks image drafts tx copy later more ns ps is e told)

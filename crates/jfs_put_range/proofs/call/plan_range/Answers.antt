@@ -7,6 +7,7 @@ use Rattle.std.specs.Prelude.{length}
 use Rattle.jfs_xtree.specs.Spells.{root_form, root_node}
 use Rattle.jfs_put_range.proofs.RootFrames.{names_pages}
 use Rattle.jfs_put_range.proofs.RootNames.{named_as, read_names}
+use Rattle.jfs_tree.proofs.Drafts.{taken_as}
 use Rattle.jfs_put_range.proofs.call.plan_range.Goals as goal
 
 pub returns-clause-writes : goal.returns-clause-writes
@@ -48,3 +49,7 @@ returns-clause-framed g c tells =
     names_pages c.blocks-blocks.result blocks c.root_form-form.result image c.args.root.now c.new-draft.result.pages.items c.put_linked.new.draft.pages.items (blocks_of c.args.fresh.now) c.in-Ok.stack.items (blocks_of p.fresh) c.put_linked.new.stack.items
     c.args.tx.now p.tx c.blocks-blocks.ensures c.root_form-form.ensures c.new-draft.ensures c.in-Ok.ensures.stack (rest ∙ ap reverse c.as_slice-3.ensures.value) (c.in_default-put_linked.ensures.framed tells) (c.in_default-put_linked.ensures.others tells)
     (told_as (g.V.PageView.block_count c.put_linked.new.view) blocks (g.V.PageView.image c.put_linked.new.view) image c.put_linked.new.draft.pages.items c.args.tx.now p.tx c.put_linked.ensures.count_of_blocks (c.put_linked.ensures.image tells) told))
+
+pub tell_steps-requires-clause-drafted : goal.tell_steps-requires-clause-drafted
+tell_steps-requires-clause-drafted g c =
+    taken_as c.put_linked.new.draft.pages.items c.in-Ok.stack.items (reverse (blocks_of c.args.fresh.now)) c.put_linked.new.stack.items c.as_slice-3.result.now c.in-Ok.ensures.stack c.as_slice-3.ensures.value c.in_default-put_linked.ensures.drafted.takes

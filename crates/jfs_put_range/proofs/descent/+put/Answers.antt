@@ -12,6 +12,7 @@ use Rattle.jfs_put_range.proofs.Finishing.{inner_done, inner_fails}
 use Rattle.jfs_put_range.proofs.Pushing.{part_below, part_from, cut_taken, child_pushed, none_done, no_extents, first_within, rest_within, first_fits, rest_fits, some_begins, first_begins, grown_fits, both_pushed, rest_refuses, head_refuses, fewer_taken}
 use Rattle.jfs_put_range.proofs.Skipped.{skip_all, skip_errs, drop_some, drop_fits, drop_within, drop_less}
 use Rattle.jfs_bits.specs.declared.rule.Rule.TheVariants as broken
+use Rattle.jfs_tree.proofs.Drafts.{drafts_both, drafts_still}
 use Rattle.jfs_put_range.proofs.descent.+put.Goals as goal
 
 pub put_below-returns-then-most-eq0-clause-bad : goal.put_below-returns-then-most-eq0-clause-bad
@@ -196,3 +197,17 @@ put_both-returns-in-Ok-put_children-clause-others g t c tells =
     (λ m. fewer_taken m c.args.stack.now.items c.put_child.new.stack.items c.in-Ok-put_child.ensures.front) (λ m. fewer_taken m c.put_child.new.stack.items c.put_children.new.stack.items c.in-Ok-put_children.ensures.front)
     (c.in-Ok-put_child.ensures.others tells)
     (subst (λ (j : Image). OthersFramed (shown c.put_child.new.draft.pages.items j) (shown c.put_children.new.draft.pages.items j) c.put_child.new.stack.items c.put_children.new.stack.items) (c.in-Ok-put_child.ensures.image tells) (c.in-Ok-put_children.ensures.others tells))
+
+pub put_below-returns-in-Ok-store-clause-drafted : goal.put_below-returns-in-Ok-store-clause-drafted
+put_below-returns-in-Ok-store-clause-drafted g t c =
+    drafts_both c.args.draft.now.pages.items c.put_children.new.draft.pages.items c.store.new.draft.pages.items c.args.stack.now.items c.put_children.new.stack.items c.store.new.stack.items c.in-Ok-put_children.ensures.drafted c.in-Ok-store.ensures.drafted
+
+pub put_both-returns-in-Ok-put_children-clause-drafted : goal.put_both-returns-in-Ok-put_children-clause-drafted
+put_both-returns-in-Ok-put_children-clause-drafted g t c =
+    drafts_both c.args.draft.now.pages.items c.put_child.new.draft.pages.items c.put_children.new.draft.pages.items c.args.stack.now.items c.put_child.new.stack.items c.put_children.new.stack.items c.in-Ok-put_child.ensures.drafted c.in-Ok-put_children.ensures.drafted
+
+pub put_child-returns-then-is_empty-clause-drafted : goal.put_child-returns-then-is_empty-clause-drafted
+put_child-returns-then-is_empty-clause-drafted g t c = drafts_still c.args.draft.now.pages.items c.args.stack.now.items c.push_all.result
+
+pub put_children-returns-then-is_empty-clause-drafted : goal.put_children-returns-then-is_empty-clause-drafted
+put_children-returns-then-is_empty-clause-drafted g t c = drafts_still c.args.draft.now.pages.items c.args.stack.now.items c.push_all.result

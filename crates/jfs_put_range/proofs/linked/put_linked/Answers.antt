@@ -3,6 +3,7 @@ use Rattle.jfs_put_range.proofs.Links.{steps_linked, fills_linked, refuses_read}
 use Rattle.jfs_xtree.specs.Node.{xt_node}
 use Rattle.jfs_put_range.proofs.RootFrames.{frames_linked, others_linked}
 use Rattle.jfs_put_range.proofs.RootNames.{read_named}
+use Rattle.jfs_tree.proofs.Drafts.{drafts_linked}
 use Rattle.jfs_put_range.proofs.linked.put_linked.Goals as goal
 
 pub returns-in-Ok-link_ends-clause-steps : goal.returns-in-Ok-link_ends-clause-steps
@@ -32,3 +33,7 @@ pub returns-in-Ok-link_ends-clause-others : goal.returns-in-Ok-link_ends-clause-
 returns-in-Ok-link_ends-clause-others g c = λ tells.
     others_linked c.args.top.now.form c.args.top.now.blocks (g.V.PageView.image c.args.view.now) (g.V.PageView.image c.put_root.new.view) c.put_root.new.root
     c.args.draft.now.pages.items c.put_root.new.draft.pages.items c.link_ends.new.draft.pages.items c.args.stack.now.items c.put_root.new.stack.items (c.in-Ok.ensures.image tells) (c.in-Ok-link_ends.ensures.links tells) (c.in-Ok.ensures.others tells)
+
+pub returns-in-Ok-link_ends-clause-drafted : goal.returns-in-Ok-link_ends-clause-drafted
+returns-in-Ok-link_ends-clause-drafted g c =
+    drafts_linked c.args.draft.now.pages.items c.put_root.new.draft.pages.items c.link_ends.new.draft.pages.items c.args.stack.now.items c.put_root.new.stack.items c.in-Ok.ensures.drafted c.in-Ok-link_ends.ensures.drafted

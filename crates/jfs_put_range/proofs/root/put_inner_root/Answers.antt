@@ -6,6 +6,7 @@ use Rattle.jfs_put_range.proofs.Framed.{root_others}
 use Rattle.jfs_put_range.proofs.Pushing.{fewer_taken}
 use Rattle.jfs_put_range.proofs.RootFrames.{pushed_frames}
 use Rattle.jfs_put_range.proofs.RootNames.{below_named, inner_named}
+use Rattle.jfs_tree.proofs.Drafts.{drafts_then}
 use Rattle.jfs_put_range.proofs.root.put_inner_root.Goals as goal
 
 pub put_children-requires-clause-some : goal.put_children-requires-clause-some
@@ -63,3 +64,7 @@ returns-in-Ok-put_children-clause-others g c tells =
     root_others c.args.draft.now.pages.items c.put_children.new.draft.pages.items c.store_root.new.draft.pages.items (g.V.PageView.image c.args.view.now) c.args.stack.now.items c.put_children.new.stack.items c.store_root.new.stack.items c.store_root.result
     (λ m. fewer_taken m c.args.stack.now.items c.put_children.new.stack.items c.put_children.ensures.front) (λ m. fewer_taken m c.put_children.new.stack.items c.store_root.new.stack.items c.store_root.ensures.front)
     (c.in-Ok-put_children.ensures.others tells) c.store_root.ensures.keeps
+
+pub returns-in-Ok-put_children-clause-drafted : goal.returns-in-Ok-put_children-clause-drafted
+returns-in-Ok-put_children-clause-drafted g c =
+    drafts_then c.args.draft.now.pages.items c.put_children.new.draft.pages.items c.store_root.new.draft.pages.items c.args.stack.now.items c.put_children.new.stack.items c.store_root.new.stack.items c.store_root.result c.in-Ok-put_children.ensures.drafted c.store_root.ensures.drafted

@@ -1,5 +1,6 @@
 use Rattle.std.proofs.Common.{◌+◌, length, arith}
 use Rattle.jfs_refill.proofs.Rooting.{frame_kept, has_settled, moves_settled_by, moves_kept}
+use Rattle.jfs_tree.proofs.Drafts.{drafts_none}
 use Rattle.jfs_refill.proofs.root.store_root.Goals as goal
 
 pub returns-then-list-from-clause-settled : goal.returns-then-list-from-clause-settled
@@ -18,3 +19,6 @@ returns-clause-keeps c =
 
 pub returns-then-list-from-clause-frame : goal.returns-then-list-from-clause-frame
 returns-then-list-from-clause-frame c = frame_kept c.args.root.now c.refill.new.bytes (length c.args.list.now + 2) c.refill.ensures.head c.refill.ensures.tail
+
+pub returns-then-list-from-clause-drafted : goal.returns-then-list-from-clause-drafted
+returns-then-list-from-clause-drafted c = drafts_none c.args.draft.now.pages.items c.args.stack.now.items

@@ -1,6 +1,7 @@
 use Rattle.std.proofs.Common.{rules}
 use Rattle.jfs_tree.proofs.Taking.{below_popped}
 use Rattle.jfs_refill.proofs.Rooting.{two_off}
+use Rattle.jfs_tree.proofs.Drafts.{drafts_two}
 use Rattle.jfs_refill.proofs.storing.split.Goals as goal
 
 pub returns-in_err-put_two-clause-below : goal.returns-in_err-put_two-clause-below
@@ -12,3 +13,7 @@ returns-clause-keeps c =
 
 pub returns-clause-below : goal.returns-clause-below
 returns-clause-below c = λ bound h. below_popped bound c.in-Some.q c.args.stack.now.items c.pop.new.self.items c.in-Some.ensures.items h
+
+pub returns-clause-drafted : goal.returns-clause-drafted
+returns-clause-drafted c =
+    drafts_two c.args.draft.now.pages.items c.put_two.new.draft.pages.items c.args.n c.in-Some.q c.divide-key.new.bytes c.divide-key.new.second c.args.stack.now.items c.pop.new.self.items c.in_ok-put_two.ensures.puts c.in-Some.ensures.items

@@ -12,6 +12,8 @@ use Rattle.jfs_tree.proofs.FilledRoots.{least_told}
 use Rattle.jfs_tree.proofs.Refusing.{tells_refused, tells_planned}
 use Rattle.jfs_tree.proofs.Framing.{framed_told}
 use Rattle.jfs_tree.proofs.Clearing.{planned_apart}
+use Rattle.jfs_tree.specs.Taken.{AreDrafted}
+use Rattle.jfs_tree.proofs.Drafts.{are_drafted}
 use Rattle.jfs_tree.proofs.add_told.plan.Goals as goal
 
 pub add_linked-requires-clause-within : goal.add_linked-requires-clause-within
@@ -124,3 +126,9 @@ returns-clause-framed g c tells =
 pub returns-clause-apart : goal.returns-clause-apart
 returns-clause-apart g c tells =
     planned_apart g.F.PageForm.scale c.args.x.now (g.F.PageForm.node c.args.form.now) (g.V.PageView.image c.args.view.now) (g.F.PageForm.node c.args.top.now c.args.root.now) c.new-draft.result.pages.items c.finish.result c.new-draft.ensures (c.in_default-add_linked.ensures.apart tells)
+
+pub finish-requires-clause-drafted : goal.finish-requires-clause-drafted
+finish-requires-clause-drafted g c =
+    subst (λ b. AreDrafted b c.add_linked.new.draft.pages.items (take (length c.as_slice-2.result.now - c.len.result) c.as_slice-2.result.now)) (sym c.in_default-add_linked.ensures.count_of_blocks)
+    (are_drafted (g.V.PageView.block_count c.args.view.now) c.add_linked.new.draft.pages.items (blocks_of c.args.fresh.now) c.as_slice-2.result.now c.reversed-stack.result.items c.add_linked.new.fresh.items c.len.result
+    (c.as_slice-2.ensures.value ∙ c.in-Ok.ensures) (c.len.ensures ∙ c.add_linked.new.fresh.ok.0) (c.reversed-stack.ensures ∙ ap reverse c.in-Ok-blocks_of.ensures) c.add_linked.ensures.front c.requires.within c.in_default-add_linked.ensures.drafted.takes)

@@ -12,6 +12,7 @@ use Rattle.jfs_tree.proofs.FilledSteps.{grown_filled}
 use Rattle.jfs_tree.proofs.Refusing.{tells_deep, tells_broken, tells_taken, tells_clash, tells_below, tells_grown}
 use Rattle.jfs_tree.proofs.Framing.{here_framed, grown_framed}
 use Rattle.jfs_tree.proofs.Clearing.{here_apart, down_apart}
+use Rattle.jfs_tree.proofs.Drafts.{drafts_then}
 use Rattle.jfs_tree.proofs.grow.+add_below.Goals as goal
 
 pub returns-then-most-eq0-clause-bad : goal.returns-then-most-eq0-clause-bad
@@ -165,3 +166,7 @@ pub take_grown-requires-clause-there : goal.take_grown-requires-clause-there
 take_grown-requires-clause-there g t c =
     let leads = subst (λ w. Leads g.F.PageForm.scale c.args.x.now (g.F.PageForm.node c.args.form.now c.bytes.result.now) (Ok w)) c.in-Ok-Down.field-0-is c.in-Ok-Down.ensures.way in
     (leads.front, leads.child, leads.back, ap (g.F.PageForm.node c.args.form.now) (sym c.bytes.ensures.value) ∙ leads.is, leads.at)
+
+pub returns-in-Ok-add_below-clause-drafted : goal.returns-in-Ok-add_below-clause-drafted
+returns-in-Ok-add_below-clause-drafted g t c =
+    drafts_then c.args.draft.now.pages.items c.add_below.new.draft.pages.items c.take_grown.new.draft.pages.items c.args.fresh.now.items c.add_below.new.fresh.items c.take_grown.new.fresh.items c.take_grown.result c.in-Ok-add_below.ensures.drafted c.take_grown.ensures.drafted

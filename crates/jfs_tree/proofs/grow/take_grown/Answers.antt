@@ -1,6 +1,7 @@
 use Rattle.jfs_tree.proofs.Adding.{grown_none, grown_some, grown_refused}
 use Rattle.jfs_tree.proofs.FilledSteps.{grown_none_filled, grown_some_filled}
 use Rattle.jfs_tree.proofs.Framing.{none_framed}
+use Rattle.jfs_tree.proofs.Drafts.{drafts_none}
 use Rattle.jfs_tree.proofs.grow.take_grown.Goals as goal
 
 pub returns-in-None-clause-did : goal.returns-in-None-clause-did
@@ -27,3 +28,6 @@ returns-in-Ok-clause-filled g c least fills =
 
 pub returns-in-None-clause-framed : goal.returns-in-None-clause-framed
 returns-in-None-clause-framed g c = none_framed (g.F.PageForm.frame c.args.form.now) (g.F.PageForm.new_frame c.args.form.now) c.args.bytes.0 c.args.page c.args.draft.now.pages.items c.args.fresh.now.items
+
+pub returns-in-None-clause-drafted : goal.returns-in-None-clause-drafted
+returns-in-None-clause-drafted g c = drafts_none c.args.draft.now.pages.items c.args.fresh.now.items

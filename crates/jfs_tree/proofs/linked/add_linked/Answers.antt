@@ -5,6 +5,7 @@ use Rattle.jfs_tree.specs.Room.{GrowsLevel, FullFrom, LevelsWhereFull, at_page}
 use Rattle.jfs_tree.specs.Root.{AddsAlways}
 use Rattle.jfs_tree.proofs.Linkings.{same_nodes, adds_kept, refuses_read, refusal_read, levels_read}
 use Rattle.jfs_tree.proofs.Framing.{linked_framed}
+use Rattle.jfs_tree.proofs.Drafts.{drafts_linked}
 use Rattle.jfs_tree.proofs.linked.add_linked.Goals as goal
 
 pub returns-in-Ok-link_taken-clause-adds : goal.returns-in-Ok-link_taken-clause-adds
@@ -66,3 +67,7 @@ returns-in-Ok-link_taken-clause-framed g c = λ tells.
     linked_framed g.F.PageForm.scale c.args.x.now (g.F.PageForm.frame c.args.form.now) (g.F.PageForm.new_frame c.args.form.now) (g.F.PageForm.node c.args.form.now) (nodes (g.F.PageForm.node c.args.form.now) c.args.draft.now.pages.items (g.V.PageView.image c.args.view.now))
     (g.F.PageForm.node c.args.top.now c.args.root.now) (g.F.PageForm.node c.args.top.now c.add_entry.new.root) (g.V.PageView.image c.args.view.now) (g.V.PageView.image c.add_entry.new.view) c.args.draft.now.pages.items c.add_entry.new.draft.pages.items c.link_taken.new.draft.pages.items c.args.fresh.now.items c.add_entry.new.fresh.items
     (c.in-Ok.ensures.image tells) (c.in-Ok-link_taken.ensures.links tells) (c.in-Ok.ensures.framed tells)
+
+pub returns-in-Ok-link_taken-clause-drafted : goal.returns-in-Ok-link_taken-clause-drafted
+returns-in-Ok-link_taken-clause-drafted g c =
+    drafts_linked c.args.draft.now.pages.items c.add_entry.new.draft.pages.items c.link_taken.new.draft.pages.items c.args.fresh.now.items c.add_entry.new.fresh.items c.in-Ok.ensures.drafted c.in-Ok-link_taken.ensures.drafted

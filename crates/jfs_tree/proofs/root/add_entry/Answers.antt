@@ -12,6 +12,7 @@ use Rattle.jfs_tree.specs.Refusal.{HasAllLevels}
 use Rattle.jfs_tree.proofs.Refusing.{adding_breaks, adding_here, adding_below, adding_grown}
 use Rattle.jfs_tree.proofs.Framing.{here_always_framed, always_framed}
 use Rattle.jfs_tree.proofs.Clearing.{root_apart, root_leads_apart}
+use Rattle.jfs_tree.proofs.Drafts.{drafts_then}
 use Rattle.jfs_tree.proofs.root.add_entry.Goals as goal
 
 pub root_takes_grown-requires-clause-child : goal.root_takes_grown-requires-clause-child
@@ -170,3 +171,7 @@ pub returns-in-Ok-clause-apart : goal.returns-in-Ok-clause-apart
 returns-in-Ok-clause-apart g c tells =
     let leads = subst (λ w. Leads g.F.PageForm.scale c.args.x.now (g.F.PageForm.node c.args.top.now c.args.root.now) (Ok w)) c.in-Ok-Down.field-0-is c.in-Ok-Down.ensures.way in
     root_leads_apart g.F.PageForm.scale c.args.x.now (nodes (g.F.PageForm.node c.args.form.now) c.args.draft.now.pages.items (g.V.PageView.image c.args.view.now)) (g.F.PageForm.node c.args.top.now c.args.root.now) c.in-Ok-Down.place c.in-Ok-Down.page c.root_takes_grown.result leads (c.in-Ok.ensures.apart tells)
+
+pub returns-in-Ok-clause-drafted : goal.returns-in-Ok-clause-drafted
+returns-in-Ok-clause-drafted g c =
+    drafts_then c.args.draft.now.pages.items c.add_below.new.draft.pages.items c.root_takes_grown.new.draft.pages.items c.args.fresh.now.items c.add_below.new.fresh.items c.root_takes_grown.new.fresh.items c.root_takes_grown.result c.in-Ok.ensures.drafted c.root_takes_grown.ensures.drafted

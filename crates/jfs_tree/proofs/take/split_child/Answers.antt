@@ -5,6 +5,7 @@ use Rattle.jfs_tree.proofs.FilledSteps.{child_parts_filled}
 use Rattle.jfs_tree.specs.Form.{as_child}
 use Rattle.jfs_tree.proofs.Framing.{two_framed}
 use Rattle.jfs_tree.proofs.Clearing.{child_at}
+use Rattle.jfs_tree.proofs.Drafts.{drafts_two}
 use Rattle.jfs_tree.proofs.take.split_child.Goals as goal
 
 pub returns-in_err-put_two-clause-below : goal.returns-in_err-put_two-clause-below
@@ -35,3 +36,7 @@ returns-clause-framed g c =
     two_framed (g.F.PageForm.frame c.args.form.now) (g.F.PageForm.new_frame c.args.form.now) c.args.bytes.0 c.split_child-key.new.bytes c.split_child-key.new.right c.args.page c.in-Some.q c.args.draft.now.pages.items c.put_two.new.draft.pages.items c.args.fresh.now.items c.pop.new.self.items
     c.in_ok-put_two.ensures.puts c.in-Some.ensures.items c.split_child-key.ensures.frame
     (let at = child_at c.args.place (g.F.PageForm.node c.args.form.now c.args.bytes.0) (as_child c.args.sibling) c.requires.there in c.split_child-key.ensures.new at.0 at.1 (c.requires.goes at.0 at.1))
+
+pub returns-clause-drafted : goal.returns-clause-drafted
+returns-clause-drafted g c =
+    drafts_two c.args.draft.now.pages.items c.put_two.new.draft.pages.items c.args.page c.in-Some.q c.split_child-key.new.bytes c.split_child-key.new.right c.args.fresh.now.items c.pop.new.self.items c.in_ok-put_two.ensures.puts c.in-Some.ensures.items

@@ -4,6 +4,7 @@ use Rattle.jfs_tree.proofs.BytesKept.{two_off}
 use Rattle.jfs_tree.proofs.FilledSteps.{here_parts_filled}
 use Rattle.jfs_tree.proofs.Framing.{two_framed}
 use Rattle.jfs_tree.proofs.Clearing.{leaf_apart}
+use Rattle.jfs_tree.proofs.Drafts.{drafts_two}
 use Rattle.jfs_tree.proofs.take.split_here.Goals as goal
 
 pub returns-in_err-put_two-clause-below : goal.returns-in_err-put_two-clause-below
@@ -34,3 +35,7 @@ returns-clause-framed g c =
     two_framed (g.F.PageForm.frame c.args.form.now) (g.F.PageForm.new_frame c.args.form.now) c.args.bytes.0 c.split-key.new.bytes c.split-key.new.right c.args.page c.in-Some.q c.args.draft.now.pages.items c.put_two.new.draft.pages.items c.args.fresh.now.items c.pop.new.self.items
     c.in_ok-put_two.ensures.puts c.in-Some.ensures.items c.split-key.ensures.frame
     (c.split-key.ensures.new c.requires.leaf.0 c.requires.leaf.1 (leaf_apart g.F.PageForm.scale c.args.x.now (g.F.PageForm.node c.args.form.now c.args.bytes.0) c.requires.leaf.0 c.requires.leaf.1 c.requires.apart))
+
+pub returns-clause-drafted : goal.returns-clause-drafted
+returns-clause-drafted g c =
+    drafts_two c.args.draft.now.pages.items c.put_two.new.draft.pages.items c.args.page c.in-Some.q c.split-key.new.bytes c.split-key.new.right c.args.fresh.now.items c.pop.new.self.items c.in_ok-put_two.ensures.puts c.in-Some.ensures.items

@@ -3,6 +3,7 @@ use Rattle.jfs_tree.specs.Removal.{HasChildAt}
 use Rattle.jfs_tree.proofs.Taking.{child_kept}
 use Rattle.jfs_tree.proofs.FilledSteps.{child_kept_filled}
 use Rattle.jfs_tree.proofs.Framing.{one_framed}
+use Rattle.jfs_tree.proofs.Drafts.{drafts_one}
 use Rattle.jfs_tree.proofs.take.take_child.Goals as goal
 
 pub returns-in_ok-put_one-in-Done-clause-did : goal.returns-in_ok-put_one-in-Done-clause-did
@@ -22,3 +23,6 @@ returns-in_ok-put_one-in-Done-clause-framed g c =
 
 pub split_child-requires-clause-there : goal.split_child-requires-clause-there
 split_child-requires-clause-there g c = subst (λ b. HasChildAt c.args.place (g.F.PageForm.node c.args.form.now b)) (sym c.in-Full.ensures.child.0) c.requires.there
+
+pub returns-in_ok-put_one-in-Done-clause-drafted : goal.returns-in_ok-put_one-in-Done-clause-drafted
+returns-in_ok-put_one-in-Done-clause-drafted g c = drafts_one c.args.draft.now.pages.items c.put_one.new.draft.pages.items c.args.page c.put_child.new.bytes c.args.fresh.now.items c.in_ok-put_one-in-Done.ensures.puts

@@ -1,6 +1,7 @@
 use Rattle.jfs_tree.proofs.Taking.{here_kept}
 use Rattle.jfs_tree.proofs.FilledSteps.{here_kept_filled}
 use Rattle.jfs_tree.proofs.Framing.{one_framed}
+use Rattle.jfs_tree.proofs.Drafts.{drafts_one}
 use Rattle.jfs_tree.proofs.take.take_here.Goals as goal
 
 pub returns-in_ok-put_one-in-Done-clause-did : goal.returns-in_ok-put_one-in-Done-clause-did
@@ -17,3 +18,6 @@ pub returns-in_ok-put_one-in-Done-clause-framed : goal.returns-in_ok-put_one-in-
 returns-in_ok-put_one-in-Done-clause-framed g c =
     one_framed (g.F.PageForm.frame c.args.form.now) (g.F.PageForm.new_frame c.args.form.now) c.args.bytes.0 c.put.new.bytes c.args.page c.args.draft.now.pages.items c.put_one.new.draft.pages.items c.args.fresh.now.items
     c.in_ok-put_one-in-Done.ensures.puts c.put.ensures.frame
+
+pub returns-in_ok-put_one-in-Done-clause-drafted : goal.returns-in_ok-put_one-in-Done-clause-drafted
+returns-in_ok-put_one-in-Done-clause-drafted g c = drafts_one c.args.draft.now.pages.items c.put_one.new.draft.pages.items c.args.page c.put.new.bytes c.args.fresh.now.items c.in_ok-put_one-in-Done.ensures.puts

@@ -3,6 +3,7 @@ use Rattle.jfs_tree.proofs.Taking.{below_popped}
 use Rattle.jfs_tree.proofs.Moving.{child_moved}
 use Rattle.jfs_tree.proofs.BytesKept.{moved_keeps}
 use Rattle.jfs_tree.proofs.Framing.{moved_names}
+use Rattle.jfs_tree.proofs.Drafts.{drafts_moved}
 use Rattle.jfs_tree.proofs.take_root.moves_with_child.Goals as goal
 
 pub move_down-requires-clause-within : goal.move_down-requires-clause-within
@@ -28,3 +29,7 @@ pub returns-in-Done-clause-names : goal.returns-in-Done-clause-names
 returns-in-Done-clause-names g c =
     moved_names (g.F.PageForm.frame c.args.form.now) (g.F.PageForm.new_frame c.args.form.now) c.args.draft.now.pages.items c.put_one.new.draft.pages.items c.in-Some.q c.put_child.new.bytes c.args.fresh.now.items c.pop.new.self.items c.put_one.result c.put_one.ensures.puts c.in-Some.ensures.items
     (c.put_child.ensures.frame ∙ c.move_down.ensures.new)
+
+pub returns-in-Done-clause-drafted : goal.returns-in-Done-clause-drafted
+returns-in-Done-clause-drafted g c =
+    drafts_moved c.args.draft.now.pages.items c.put_one.new.draft.pages.items c.in-Some.q c.put_child.new.bytes c.args.fresh.now.items c.pop.new.self.items c.put_one.result c.put_one.ensures.puts c.in-Some.ensures.items
