@@ -49,7 +49,7 @@ impl PageForm for DtPages {
 
     ghost is_root = { λ f. IsRoot f.form };
 
-    ghost fills = { λ least. ⊥ };
+    ghost fills = { λ appends least. ⊥ };
 
     ghost below = { λ f. record { form = Full; blocks = f.blocks } };
 

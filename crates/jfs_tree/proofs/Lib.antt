@@ -49,6 +49,7 @@ pub mod BytesKept
 pub mod Putting
 pub mod Framing
 pub mod Clearing
+mod Appending
 mod FilledSteps
 mod FilledRoots
 pub mod Becoming

@@ -1,13 +1,13 @@
 //! One entry more, told as edits.
 
-ghost use Rattle.std.specs.Prelude.{◌≡◌, ◌<◌, ◌≤◌, ◌-◌, ◌++◌, ℕ, List, length, take, drop, OnOk, OnErr, IfOk, IfErr};
+ghost use Rattle.std.specs.Prelude.{◌≡◌, ◌<◌, ◌≤◌, ◌-◌, ◌++◌, ℕ, true, false, List, length, take, drop, OnOk, OnErr, IfOk, IfErr};
 ghost use Rattle.jfs_disk.specs.Image.{page_of};
 ghost use Rattle.jfs_ranges.specs.View.{CarriesCount};
 ghost use Rattle.jfs_tree.specs.Adds.{read_as, on_page, AddsTold, LevelsTold, RefusesWhereFull};
 ghost use Rattle.jfs_tree.specs.Room.{TakesWhereFull, FullFrom, GrowsLevel};
 ghost use Rattle.jfs_tree.specs.Call.{CarriesFault, IsRead};
 ghost use Rattle.jfs_tree.specs.Changes.{TellsChanges, TellsTaken};
-ghost use Rattle.jfs_tree.specs.Filled.{LeastTold};
+ghost use Rattle.jfs_tree.specs.Filled.{AppendsTold, LeastTold};
 ghost use Rattle.jfs_tree.specs.Apart.{ApartOnWay};
 ghost use Rattle.jfs_tree.specs.Form.{AllBelow};
 ghost use Rattle.jfs_tree.specs.Frames.{FramesTold};
@@ -61,7 +61,9 @@ pub fn add_and_tell<V: PageView, F: PageLinks>(
         (F.PageForm.node top.now root.old) (F.PageForm.node top.now root.new) (blocks_of fresh.old) (blocks_of fresh.new) tx.old tx.new) }
     ensures taken { OnOk result (TakenInOrder (blocks_of fresh.old) (blocks_of fresh.new) tx.old tx.new) }
     ensures edits { V.PageView.tells → OnOk result (TellsTaken (V.PageView.block_count view.old) kind (page_of (V.PageView.image view.old)) (blocks_of fresh.old) (blocks_of fresh.new) tx.old tx.new) }
-    ensures thin { (least : ℕ) → F.PageForm.fills least → V.PageView.tells → OnOk result (LeastTold least F.PageForm.scale (F.PageForm.node form.now) (V.PageView.block_count view.old) (page_of (V.PageView.image view.old)) x.now
+    ensures thin { (least : ℕ) → F.PageForm.fills false least → V.PageView.tells → OnOk result (LeastTold least F.PageForm.scale (F.PageForm.node form.now) (V.PageView.block_count view.old) (page_of (V.PageView.image view.old)) x.now
+        (F.PageForm.node top.now root.old) (F.PageForm.node top.now root.new) (blocks_of fresh.old) tx.old tx.new) }
+    ensures appends { (least : ℕ) → F.PageForm.fills true least → V.PageView.tells → OnOk result (AppendsTold least F.PageForm.scale (F.PageForm.node form.now) (V.PageView.block_count view.old) (page_of (V.PageView.image view.old)) x.now
         (F.PageForm.node top.now root.old) (F.PageForm.node top.now root.new) (blocks_of fresh.old) tx.old tx.new) }
     ensures framed { V.PageView.tells → OnOk result (FramesTold F.PageForm.scale (F.PageForm.node form.now) (F.PageForm.frame form.now) (F.PageForm.new_frame form.now) (V.PageView.block_count view.old) x.now (page_of (V.PageView.image view.old))
         (F.PageForm.node top.now root.old) (blocks_of fresh.old) (blocks_of fresh.new) tx.old tx.new) }
@@ -145,7 +147,9 @@ fn plan<V: PageView, F: PageLinks>(
         (F.PageForm.node top.now root.old) (F.PageForm.node top.now root.new) (blocks_of fresh.now) (blocks_of p.fresh) tx.now p.tx) }
     ensures taken { IfOk result (λ p. TakenInOrder (blocks_of fresh.now) (blocks_of p.fresh) tx.now p.tx) }
     ensures edits { V.PageView.tells → IfOk result (λ p. TellsTaken (V.PageView.block_count view.old) kind (page_of (V.PageView.image view.old)) (blocks_of fresh.now) (blocks_of p.fresh) tx.now p.tx) }
-    ensures thin { (least : ℕ) → F.PageForm.fills least → V.PageView.tells → IfOk result (λ p. LeastTold least F.PageForm.scale (F.PageForm.node form.now) (V.PageView.block_count view.old) (page_of (V.PageView.image view.old)) x.now
+    ensures thin { (least : ℕ) → F.PageForm.fills false least → V.PageView.tells → IfOk result (λ p. LeastTold least F.PageForm.scale (F.PageForm.node form.now) (V.PageView.block_count view.old) (page_of (V.PageView.image view.old)) x.now
+        (F.PageForm.node top.now root.old) (F.PageForm.node top.now root.new) (blocks_of fresh.now) tx.now p.tx) }
+    ensures appends { (least : ℕ) → F.PageForm.fills true least → V.PageView.tells → IfOk result (λ p. AppendsTold least F.PageForm.scale (F.PageForm.node form.now) (V.PageView.block_count view.old) (page_of (V.PageView.image view.old)) x.now
         (F.PageForm.node top.now root.old) (F.PageForm.node top.now root.new) (blocks_of fresh.now) tx.now p.tx) }
     ensures framed { V.PageView.tells → IfOk result (λ p. FramesTold F.PageForm.scale (F.PageForm.node form.now) (F.PageForm.frame form.now) (F.PageForm.new_frame form.now) (V.PageView.block_count view.old) x.now (page_of (V.PageView.image view.old))
         (F.PageForm.node top.now root.old) (blocks_of fresh.now) (blocks_of p.fresh) tx.now p.tx) }

@@ -1,6 +1,6 @@
 //! An entry that goes into the part of a tree below a page.
 
-ghost use Rattle.std.specs.Prelude.{◌≡◌, ◌==◌, ◌&&◌, ◌+◌, if◌then◌else◌, ◌<◌, ◌≤◌, ℕ, List, length, OnOk, IfOk, IfErr, IfSome, ◌^◌};
+ghost use Rattle.std.specs.Prelude.{◌≡◌, ◌==◌, ◌&&◌, ◌+◌, if◌then◌else◌, ◌<◌, ◌≤◌, ℕ, Bool, List, length, OnOk, IfOk, IfErr, IfSome, ◌^◌};
 ghost use Rattle.jfs_tree.specs.Edit.{Grew};
 ghost use Rattle.jfs_tree.specs.Filled.{ChildFilled, StaysFilled};
 ghost use Rattle.jfs_tree.specs.Apart.{ApartBelow};
@@ -64,7 +64,7 @@ pub fn add_below<V: PageView, F: PageForm>(
         (at_page (F.PageForm.is_full form.now) draft.old.pages.items (V.PageView.image view.old))
         (at_page (λ bytes. F.PageForm.has_no_room form.now bytes x.now) draft.old.pages.items (V.PageView.image view.old))
         grown.levels page grown.sibling fresh.old.items fresh.new.items) }
-    ensures filled { (least : ℕ) → F.PageForm.fills least → V.PageView.tells → IfOk result (λ grown. StaysFilled least F.PageForm.scale x.now
+    ensures filled { (appends : Bool) (least : ℕ) → F.PageForm.fills appends least → V.PageView.tells → IfOk result (λ grown. StaysFilled appends least F.PageForm.scale x.now
         (nodes (F.PageForm.node form.now) draft.old.pages.items (V.PageView.image view.old))
         (nodes (F.PageForm.node form.now) draft.new.pages.items (V.PageView.image view.old))
         grown.levels page last (children_of grown.sibling) fresh.old.items) }
@@ -146,7 +146,7 @@ fn take_grown<F: PageForm>(
     ensures levels { IfOk result (λ g. g.levels ≡ grown.levels + 1) }
     ensures used { IfOk result (λ more. length fresh.old.items ≤ length fresh.new.items + 1) }
     ensures room { IfOk result (λ g. TakesMore (F.PageForm.is_full form.now bytes.0) grown.sibling g.sibling fresh.old.items fresh.new.items) }
-    ensures filled { (least : ℕ) → F.PageForm.fills least → IfOk result (λ g. ChildFilled least (F.PageForm.node form.now) F.PageForm.scale bytes.0 page place last grown.sibling draft.old.pages.items draft.new.pages.items fresh.old.items g.sibling) }
+    ensures filled { (appends : Bool) (least : ℕ) → F.PageForm.fills appends least → IfOk result (λ g. ChildFilled appends least (F.PageForm.node form.now) F.PageForm.scale bytes.0 page place last grown.sibling draft.old.pages.items draft.new.pages.items fresh.old.items g.sibling) }
     ensures keeps { OnOk result (StaysOff page draft.old.pages.items draft.new.pages.items fresh.old.items fresh.new.items) }
     ensures drafted { OnOk result (DraftsTaken draft.old.pages.items draft.new.pages.items fresh.old.items fresh.new.items) }
     ensures framed { OnOk result (TakesFramed (F.PageForm.frame form.now) (F.PageForm.new_frame form.now) bytes.0 page draft.old.pages.items draft.new.pages.items fresh.old.items fresh.new.items) }

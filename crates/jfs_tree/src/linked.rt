@@ -1,6 +1,6 @@
 //! Calls on a whole tree that leave its pages linked.
 
-ghost use Rattle.std.specs.Prelude.{◌≡◌, ◌+◌, ◌<◌, ◌≤◌, ◌++◌, [], ℕ, List, length, drop, OnOk, IfOk, IfErr, IfNone};
+ghost use Rattle.std.specs.Prelude.{◌≡◌, ◌+◌, ◌<◌, ◌≤◌, ◌++◌, [], ℕ, Bool, List, length, drop, OnOk, IfOk, IfErr, IfNone};
 ghost use Rattle.jfs_tree.specs.Edit.{IsPoint};
 ghost use Rattle.jfs_tree.specs.Leftmost.{IsLeftmost};
 ghost use Rattle.jfs_tree.specs.Path.{broken_on_way, found_on_way, TellsBroken};
@@ -80,7 +80,7 @@ pub(crate) fn add_linked<V: PageView, F: PageLinks>(
         (at_page (λ bytes. F.PageForm.has_no_room form.now bytes x.now) draft.old.pages.items (V.PageView.image view.old))
         (F.PageForm.node top.now root.old) ((F.PageForm.is_full top.now root.old) × (F.PageForm.has_no_room top.now root.old x.now))
         (λ key. (F.PageForm.is_full top.now root.old) × (F.PageForm.has_no_place top.now root.old key))) result }
-    ensures filled { (least : ℕ) → F.PageForm.fills least → V.PageView.tells → OnOk result (FillsAlways least F.PageForm.scale x.now
+    ensures filled { (appends : Bool) (least : ℕ) → F.PageForm.fills appends least → V.PageView.tells → OnOk result (FillsAlways appends least F.PageForm.scale x.now
         (nodes (F.PageForm.node form.now) draft.old.pages.items (V.PageView.image view.old))
         (nodes (F.PageForm.node form.now) draft.new.pages.items (V.PageView.image view.old))
         (F.PageForm.node top.now root.old) (F.PageForm.node top.now root.new) fresh.old.items) }

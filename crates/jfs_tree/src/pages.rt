@@ -1,9 +1,9 @@
 //! The pages of a kind of tree.
 
-ghost use Rattle.std.specs.Prelude.{◌≡◌, ◌==◌, ◌<◌, ℕ, List, [], ◌∷◌, IfOk, length};
+ghost use Rattle.std.specs.Prelude.{◌≡◌, ◌==◌, ◌<◌, ◌+◌, ℕ, Bool, true, List, [], ◌∷◌, IfOk, length};
 ghost use Rattle.jfs_tree.specs.Walk.{Child, Node, Leaf, Inner, Scale, IsOrder};
 ghost use Rattle.jfs_tree.specs.Edit.{IsApart, KeysRise, with_entry, found_in};
-ghost use Rattle.jfs_tree.specs.Filled.{FillsBoth};
+ghost use Rattle.jfs_tree.specs.Filled.{ComesPast, FillsBoth};
 ghost use Rattle.jfs_tree.specs.Form.{Leads, IsWithin, TellsLast, IfFull, PutsRow, SplitsRows, PutsChild, AtPlace, SplitsChildren, HasRisingKeys, GoesBehind, as_child};
 ghost use Rattle.jfs_tree.specs.Apart.{PutsApart};
 
@@ -46,8 +46,9 @@ pub trait PageForm {
     /// The form is one of a root, which takes fewer entries than a page.
     ghost is_root: { Self → Type 0 };
 
-    /// A full page that gets another one beside it keeps at least so many entries, and so does the new one, but for the last of its level.
-    ghost fills: { ℕ → Type 0 };
+    /// A full page that gets another one beside it keeps at least so many entries, and so does the new one, but for the last of its level; `true` tells
+    /// that the page is the last one of its level, and what it gets goes behind all that it has.
+    ghost fills: { Bool → ℕ → Type 0 };
 
     /// The form of the pages below a root.
     ghost below: { Self → Self };
@@ -102,7 +103,7 @@ pub trait PageForm {
         requires full { is_full self.now bytes.old }
         ensures parts { (es : List Self.Entry) → node self.now bytes.old ≡ Leaf es → IsApart scale x.now es →
             SplitsRows scale (with_entry scale x.now es) (node self.now bytes.new) (node self.now right.new) result }
-        ensures fills { (least : ℕ) → fills least → (es : List Self.Entry) → node self.now bytes.old ≡ Leaf es → IsApart scale x.now es → FillsBoth least last (node self.now bytes.new) (node self.now right.new) }
+        ensures fills { (appends : Bool) (least : ℕ) → fills appends least → (es : List Self.Entry) → node self.now bytes.old ≡ Leaf es → IsApart scale x.now es → (appends ≡ true → (last ≡ true) × ComesPast scale x.now es) → FillsBoth least last (node self.now bytes.new) (node self.now right.new) }
         ensures key { is_key result }
         ensures frame { frame self.now bytes.new ≡ frame self.now bytes.old }
         ensures new { (es : List Self.Entry) → node self.now bytes.old ≡ Leaf es → IsApart scale x.now es → frame self.now right.new ≡ new_frame self.now q };
@@ -136,7 +137,7 @@ pub trait PageForm {
         requires full { is_full self.now bytes.old }
         ensures parts { (all : List (Child Self.Key)) → AtPlace (node self.now bytes.old) place (as_child child.now) all → KeysRise scale all →
             SplitsChildren all (node self.now bytes.new) (node self.now right.new) result }
-        ensures fills { (least : ℕ) → fills least → (all : List (Child Self.Key)) → AtPlace (node self.now bytes.old) place (as_child child.now) all → KeysRise scale all → FillsBoth least last (node self.now bytes.new) (node self.now right.new) }
+        ensures fills { (appends : Bool) (least : ℕ) → fills appends least → (all : List (Child Self.Key)) → AtPlace (node self.now bytes.old) place (as_child child.now) all → KeysRise scale all → (appends ≡ true → (last ≡ true) × (length all ≡ place + 2)) → FillsBoth least last (node self.now bytes.new) (node self.now right.new) }
         ensures key { is_key result }
         ensures frame { frame self.now bytes.new ≡ frame self.now bytes.old }
         ensures new { (all : List (Child Self.Key)) → AtPlace (node self.now bytes.old) place (as_child child.now) all → KeysRise scale all → frame self.now right.new ≡ new_frame self.now q };

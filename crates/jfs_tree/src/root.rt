@@ -1,6 +1,6 @@
 //! Calls on a whole tree, from its root on.
 
-ghost use Rattle.std.specs.Prelude.{◌≡◌, ◌+◌, ◌<◌, ◌≤◌, ℕ, List, length, OnOk, IfOk, IfErr, IfSome};
+ghost use Rattle.std.specs.Prelude.{◌≡◌, ◌+◌, ◌<◌, ◌≤◌, ℕ, Bool, List, length, OnOk, IfOk, IfErr, IfSome};
 ghost use Rattle.jfs_tree.specs.Edit.{IsPoint};
 ghost use Rattle.jfs_tree.specs.Path.{broken_on_way, found_on_way, TellsBroken};
 ghost use Rattle.jfs_tree.specs.Refusal.{ClashesOnWay, HasAllLevels, RootGrownClash, TellsAdding};
@@ -115,7 +115,7 @@ pub fn add_entry<V: PageView, F: PageForm>(
         (at_page (λ bytes. F.PageForm.has_no_room form.now bytes x.now) draft.old.pages.items (V.PageView.image view.old))
         (F.PageForm.node top.now root.old) ((F.PageForm.is_full top.now root.old) × (F.PageForm.has_no_room top.now root.old x.now))
         (λ key. (F.PageForm.is_full top.now root.old) × (F.PageForm.has_no_place top.now root.old key))) result }
-    ensures filled { (least : ℕ) → F.PageForm.fills least → V.PageView.tells → OnOk result (FillsAlways least F.PageForm.scale x.now
+    ensures filled { (appends : Bool) (least : ℕ) → F.PageForm.fills appends least → V.PageView.tells → OnOk result (FillsAlways appends least F.PageForm.scale x.now
         (nodes (F.PageForm.node form.now) draft.old.pages.items (V.PageView.image view.old))
         (nodes (F.PageForm.node form.now) draft.new.pages.items (V.PageView.image view.old))
         (F.PageForm.node top.now root.old) (F.PageForm.node top.now root.new) fresh.old.items) }

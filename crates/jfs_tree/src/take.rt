@@ -1,6 +1,6 @@
 //! A page that takes an entry or a child, perhaps with a new page behind it.
 
-ghost use Rattle.std.specs.Prelude.{◌≡◌, ◌==◌, ◌+◌, if◌then◌else◌, ◌<◌, ◌≤◌, ℕ, List, length, OnOk, IfOk, IfErr, IfSome, Some};
+ghost use Rattle.std.specs.Prelude.{◌≡◌, ◌==◌, ◌+◌, if◌then◌else◌, ◌<◌, ◌≤◌, ℕ, Bool, List, length, OnOk, IfOk, IfErr, IfSome, Some};
 ghost use Rattle.jfs_tree.specs.Apart.{ApartAt};
 ghost use Rattle.jfs_tree.specs.Form.{GoesBehind, IsFront, IsLeaf, as_child};
 ghost use Rattle.jfs_tree.specs.Frames.{TakesFramed};
@@ -35,7 +35,7 @@ pub(crate) fn take_here<F: PageForm>(
     ensures did { HereDid (F.PageForm.node form.now) F.PageForm.scale x.now bytes.0 page draft.old.pages.items draft.new.pages.items fresh.old.items fresh.new.items result }
     ensures used { IfOk result (λ more. length fresh.old.items ≤ length fresh.new.items + 1) }
     ensures room { IfOk result (λ more. TakesOne ((F.PageForm.is_full form.now bytes.0) × (F.PageForm.has_no_room form.now bytes.0 x.now)) more fresh.old.items fresh.new.items) }
-    ensures filled { (least : ℕ) → F.PageForm.fills least → IfOk result (λ more. HereFilled least (F.PageForm.node form.now) F.PageForm.scale x.now bytes.0 page last draft.old.pages.items draft.new.pages.items fresh.old.items more) }
+    ensures filled { (appends : Bool) (least : ℕ) → F.PageForm.fills appends least → IfOk result (λ more. HereFilled appends least (F.PageForm.node form.now) F.PageForm.scale x.now bytes.0 page last draft.old.pages.items draft.new.pages.items fresh.old.items more) }
     ensures keeps { OnOk result (StaysOff page draft.old.pages.items draft.new.pages.items fresh.old.items fresh.new.items) }
     ensures drafted { OnOk result (DraftsTaken draft.old.pages.items draft.new.pages.items fresh.old.items fresh.new.items) }
     ensures framed { OnOk result (TakesFramed (F.PageForm.frame form.now) (F.PageForm.new_frame form.now) bytes.0 page draft.old.pages.items draft.new.pages.items fresh.old.items fresh.new.items) }
@@ -78,7 +78,7 @@ fn split_here<F: PageForm>(
     ensures did { HereDid (F.PageForm.node form.now) F.PageForm.scale x.now bytes.0 page draft.old.pages.items draft.new.pages.items fresh.old.items fresh.new.items result }
     ensures used { IfOk result (λ more. length fresh.old.items ≤ length fresh.new.items + 1) }
     ensures room { IfOk result (λ more. TakesOne ((F.PageForm.is_full form.now bytes.0) × (F.PageForm.has_no_room form.now bytes.0 x.now)) more fresh.old.items fresh.new.items) }
-    ensures filled { (least : ℕ) → F.PageForm.fills least → IfOk result (λ more. HereFilled least (F.PageForm.node form.now) F.PageForm.scale x.now bytes.0 page last draft.old.pages.items draft.new.pages.items fresh.old.items more) }
+    ensures filled { (appends : Bool) (least : ℕ) → F.PageForm.fills appends least → IfOk result (λ more. HereFilled appends least (F.PageForm.node form.now) F.PageForm.scale x.now bytes.0 page last draft.old.pages.items draft.new.pages.items fresh.old.items more) }
     ensures keeps { OnOk result (StaysOff page draft.old.pages.items draft.new.pages.items fresh.old.items fresh.new.items) }
     ensures drafted { OnOk result (DraftsTaken draft.old.pages.items draft.new.pages.items fresh.old.items fresh.new.items) }
     ensures framed { OnOk result (TakesFramed (F.PageForm.frame form.now) (F.PageForm.new_frame form.now) bytes.0 page draft.old.pages.items draft.new.pages.items fresh.old.items fresh.new.items) }
@@ -118,7 +118,7 @@ pub(crate) fn take_child<F: PageForm>(
     ensures did { ChildDid (F.PageForm.node form.now) F.PageForm.scale bytes.0 page place sibling draft.old.pages.items draft.new.pages.items fresh.old.items fresh.new.items result }
     ensures used { IfOk result (λ more. length fresh.old.items ≤ length fresh.new.items + 1) }
     ensures room { IfOk result (λ more. TakesOne (F.PageForm.is_full form.now bytes.0) more fresh.old.items fresh.new.items) }
-    ensures filled { (least : ℕ) → F.PageForm.fills least → IfOk result (λ more. ChildFilled least (F.PageForm.node form.now) F.PageForm.scale bytes.0 page place last (Some sibling) draft.old.pages.items draft.new.pages.items fresh.old.items more) }
+    ensures filled { (appends : Bool) (least : ℕ) → F.PageForm.fills appends least → IfOk result (λ more. ChildFilled appends least (F.PageForm.node form.now) F.PageForm.scale bytes.0 page place last (Some sibling) draft.old.pages.items draft.new.pages.items fresh.old.items more) }
     ensures keeps { OnOk result (StaysOff page draft.old.pages.items draft.new.pages.items fresh.old.items fresh.new.items) }
     ensures drafted { OnOk result (DraftsTaken draft.old.pages.items draft.new.pages.items fresh.old.items fresh.new.items) }
     ensures framed { OnOk result (TakesFramed (F.PageForm.frame form.now) (F.PageForm.new_frame form.now) bytes.0 page draft.old.pages.items draft.new.pages.items fresh.old.items fresh.new.items) }
@@ -162,7 +162,7 @@ fn split_child<F: PageForm>(
     ensures did { ChildDid (F.PageForm.node form.now) F.PageForm.scale bytes.0 page place sibling draft.old.pages.items draft.new.pages.items fresh.old.items fresh.new.items result }
     ensures used { IfOk result (λ more. length fresh.old.items ≤ length fresh.new.items + 1) }
     ensures room { IfOk result (λ more. TakesOne (F.PageForm.is_full form.now bytes.0) more fresh.old.items fresh.new.items) }
-    ensures filled { (least : ℕ) → F.PageForm.fills least → IfOk result (λ more. ChildFilled least (F.PageForm.node form.now) F.PageForm.scale bytes.0 page place last (Some sibling) draft.old.pages.items draft.new.pages.items fresh.old.items more) }
+    ensures filled { (appends : Bool) (least : ℕ) → F.PageForm.fills appends least → IfOk result (λ more. ChildFilled appends least (F.PageForm.node form.now) F.PageForm.scale bytes.0 page place last (Some sibling) draft.old.pages.items draft.new.pages.items fresh.old.items more) }
     ensures keeps { OnOk result (StaysOff page draft.old.pages.items draft.new.pages.items fresh.old.items fresh.new.items) }
     ensures drafted { OnOk result (DraftsTaken draft.old.pages.items draft.new.pages.items fresh.old.items fresh.new.items) }
     ensures framed { OnOk result (TakesFramed (F.PageForm.frame form.now) (F.PageForm.new_frame form.now) bytes.0 page draft.old.pages.items draft.new.pages.items fresh.old.items fresh.new.items) }

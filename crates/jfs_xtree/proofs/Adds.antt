@@ -7,7 +7,7 @@ use Rattle.jfs_ranges.specs.declared.edit.Edit.{Edit}
 use Rattle.jfs_tree.specs.Walk.{Node}
 use Rattle.jfs_tree.specs.Root.{RefusesWhereBad}
 use Rattle.jfs_tree.specs.Apart.{ApartOnWay}
-use Rattle.jfs_tree.specs.Filled.{LeastTold}
+use Rattle.jfs_tree.specs.Filled.{AppendsTold, LeastTold}
 use Rattle.jfs_tree.specs.Frames.{FramesTold}
 use Rattle.jfs_tree.specs.Fresh.{AllPages, HasPages}
 use Rattle.jfs_tree.specs.Adds.{read_as, on_page, AddsTold, RefusesWhereFull}
@@ -48,6 +48,12 @@ pub thin_as : (least b blocks : ℕ) (form : XtForm) (image : Image) (x : Xad) (
 thin_as least b blocks form image x root after free tx later eb ef told =
     subst (λ f. LeastTold least xt_scale (xt_node Full blocks) blocks (page_of image) x (xt_node f blocks root) (xt_node f blocks after) free tx later) ef
     (subst (λ n. LeastTold least xt_scale (xt_node Full n) blocks (page_of image) x (xt_node form n root) (xt_node form n after) free tx later) eb told)
+
+pub appends_as : (least b blocks : ℕ) (form : XtForm) (image : Image) (x : Xad) (root after free : List ℕ) (tx later : List Edit) → b ≡ blocks → form ≡ root_form (length root)
+    → AppendsTold least xt_scale (xt_node Full b) blocks (page_of image) x (xt_node form b root) (xt_node form b after) free tx later → AppendsTold least xt_scale (xt_node Full blocks) blocks (page_of image) x (root_node blocks root) (xt_node (root_form (length root)) blocks after) free tx later
+appends_as least b blocks form image x root after free tx later eb ef told =
+    subst (λ f. AppendsTold least xt_scale (xt_node Full blocks) blocks (page_of image) x (xt_node f blocks root) (xt_node f blocks after) free tx later) ef
+    (subst (λ n. AppendsTold least xt_scale (xt_node Full n) blocks (page_of image) x (xt_node form n root) (xt_node form n after) free tx later) eb told)
 
 pub names_as : (b blocks : ℕ) (form : XtForm) (image : Image) (x : Xad) (root free left : List ℕ) (tx later : List Edit) → b ≡ blocks → form ≡ root_form (length root)
     → FramesTold xt_scale (xt_node Full b) (frame_of Full) new_frame blocks x (page_of image) (xt_node form b root) free left tx later → NamesPages blocks (page_of image) x root free left tx later

@@ -6,7 +6,7 @@ use Rattle.jfs_bits.specs.declared.extent.Xad.{Xad}
 use Rattle.jfs_ranges.specs.declared.edit.Edit.{Edit}
 use Rattle.jfs_tree.specs.Adds.{on_page, AddsTold, RefusesWhereFull}
 use Rattle.jfs_tree.specs.Apart.{ApartOnWay}
-use Rattle.jfs_tree.specs.Filled.{LeastTold}
+use Rattle.jfs_tree.specs.Filled.{AppendsTold, LeastTold}
 use Rattle.jfs_tree.specs.Frames.{FramesTold}
 use Rattle.jfs_tree.specs.Refusal.{ClashesOnWay, HasAllLevels}
 use Rattle.jfs_tree.specs.Spells.{no_page}
@@ -30,6 +30,10 @@ KeepsNoThin blocks pages x root after free tx later = LeastTold 64 xt_scale (xt_
 -- So of any number of entries that a page which is split in halves leaves on each part, up to 127 of its 254.
 abbrev pub KeepsLeast : ℕ → (ℕ → List ℕ) → Xad → List ℕ → List ℕ → List ℕ → List Edit → List Edit → Type 0
 KeepsLeast blocks pages x root after free tx later = (least : ℕ) → least ≤ 127 → LeastTold least xt_scale (xt_node Full blocks) blocks pages x (root_node blocks root) (xt_node (root_form (length root)) blocks after) free tx later
+
+-- And appended extents leave full pages: where the extent comes past all that the root spelled, this holds of any number of entries up to the 254 that a page can have.
+abbrev pub AppendsFull : ℕ → (ℕ → List ℕ) → Xad → List ℕ → List ℕ → List ℕ → List Edit → List Edit → Type 0
+AppendsFull blocks pages x root after free tx later = (least : ℕ) → least ≤ 254 → AppendsTold least xt_scale (xt_node Full blocks) blocks pages x (root_node blocks root) (xt_node (root_form (length root)) blocks after) free tx later
 
 -- What pages and root have beside kind, count, links and entries stays, and each page that was taken names itself, where the free blocks aren't pages of the tree.
 abbrev pub NamesPages : ℕ → (ℕ → List ℕ) → Xad → List ℕ → List ℕ → List ℕ → List Edit → List Edit → Type 0

@@ -1,12 +1,12 @@
 //! The pages of extent trees, as trees of pages need them.
 
-ghost use Rattle.std.specs.Prelude.{◌≡◌, ◌<◌, ◌≤◌, ◌+◌, ◌*◌, ◌-◌, ◌^◌, ℕ, List, length, IfOk, true, false};
+ghost use Rattle.std.specs.Prelude.{◌≡◌, ◌<◌, ◌≤◌, ◌+◌, ◌*◌, ◌-◌, ◌^◌, ℕ, Bool, List, length, IfOk, true, false, if◌then◌else◌};
 ghost use Rattle.jfs_bits.specs.Extent.{FitsXad};
 ghost use Rattle.jfs_xtpage.specs.Page.{bytes_of, head_of};
 ghost use Rattle.jfs_xtpage.specs.declared.head.XtForm.TheVariants.{Full};
 ghost use Rattle.jfs_tree.specs.Walk.{Child, Leaf};
 ghost use Rattle.jfs_tree.specs.Edit.{IsApart, KeysRise, with_entry};
-ghost use Rattle.jfs_tree.specs.Filled.{FillsBoth};
+ghost use Rattle.jfs_tree.specs.Filled.{ComesPast, FillsBoth};
 ghost use Rattle.jfs_tree.specs.Form.{AtPlace, SplitsRows, SplitsChildren, as_child};
 ghost use Rattle.jfs_xtree.specs.Node.{xt_scale, xt_node, frame_of, new_frame, AreNeighbours, IsGood, HasNoRoom, IsRoot};
 ghost use Rattle.jfs_xtree.specs.Laws.{order};
@@ -51,7 +51,7 @@ impl PageForm for XtPages {
 
     ghost is_root = { λ f. IsRoot f.form };
 
-    ghost fills = { λ least. least ≤ 127 };
+    ghost fills = { λ appends least. least ≤ (if appends then 254 else 127) };
 
     ghost below = { λ f. record { form = Full; blocks = f.blocks } };
 
@@ -104,7 +104,7 @@ impl PageForm for XtPages {
         requires full { HasNoRoom self.now.form bytes.old }
         ensures parts { (es : List Xad) → xt_node self.now.form self.now.blocks bytes.old ≡ Leaf es → IsApart xt_scale x.now es →
             SplitsRows xt_scale (with_entry xt_scale x.now es) (xt_node self.now.form self.now.blocks bytes.new) (xt_node self.now.form self.now.blocks right.new) result }
-        ensures fills { (least : ℕ) → least ≤ 127 → (es : List Xad) → xt_node self.now.form self.now.blocks bytes.old ≡ Leaf es → IsApart xt_scale x.now es →
+        ensures fills { (appends : Bool) (least : ℕ) → least ≤ (if appends then 254 else 127) → (es : List Xad) → xt_node self.now.form self.now.blocks bytes.old ≡ Leaf es → IsApart xt_scale x.now es → (appends ≡ true → (last ≡ true) × ComesPast xt_scale x.now es) →
             FillsBoth least last (xt_node self.now.form self.now.blocks bytes.new) (xt_node self.now.form self.now.blocks right.new) }
         ensures key { result < 2 ^ 40 }
         ensures frame { frame_of self.now.form bytes.new ≡ frame_of self.now.form bytes.old }
@@ -144,7 +144,7 @@ impl PageForm for XtPages {
         requires full { HasNoRoom self.now.form bytes.old }
         ensures parts { (all : List (Child ℕ)) → AtPlace (xt_node self.now.form self.now.blocks bytes.old) place (as_child child.now) all → KeysRise xt_scale all →
             SplitsChildren all (xt_node self.now.form self.now.blocks bytes.new) (xt_node self.now.form self.now.blocks right.new) result }
-        ensures fills { (least : ℕ) → least ≤ 127 → (all : List (Child ℕ)) → AtPlace (xt_node self.now.form self.now.blocks bytes.old) place (as_child child.now) all → KeysRise xt_scale all →
+        ensures fills { (appends : Bool) (least : ℕ) → least ≤ (if appends then 254 else 127) → (all : List (Child ℕ)) → AtPlace (xt_node self.now.form self.now.blocks bytes.old) place (as_child child.now) all → KeysRise xt_scale all → (appends ≡ true → (last ≡ true) × (length all ≡ place + 2)) →
             FillsBoth least last (xt_node self.now.form self.now.blocks bytes.new) (xt_node self.now.form self.now.blocks right.new) }
         ensures key { result < 2 ^ 40 }
         ensures frame { frame_of self.now.form bytes.new ≡ frame_of self.now.form bytes.old }

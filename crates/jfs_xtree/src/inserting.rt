@@ -9,7 +9,7 @@ ghost use Rattle.jfs_tree.specs.Fresh.{blocks_of, TakenInOrder};
 ghost use Rattle.jfs_tree.specs.Root.{RefusesWhereBad};
 ghost use Rattle.jfs_xtree.specs.Node.{xt_scale, IsGood, KeepsFrame};
 ghost use Rattle.jfs_xtree.specs.Spells.{IsRootSize, root_node, page_nodes, tree_error, CarriesXt, broken_for};
-ghost use Rattle.jfs_xtree.specs.Adding.{AddsExtent, IsApartOnWay, KeepsNoThin, KeepsLeast, NamesPages, TakesPages, RefusesFull, ClashesFor, IsFullAndDeep, AddTellsWay};
+ghost use Rattle.jfs_xtree.specs.Adding.{AddsExtent, IsApartOnWay, KeepsNoThin, KeepsLeast, AppendsFull, NamesPages, TakesPages, RefusesFull, ClashesFor, IsFullAndDeep, AddTellsWay};
 
 use crate::error::XtError;
 use crate::find::{handed_on, root_form};
@@ -26,7 +26,7 @@ use std::alloc::Global;
 /// of each; the extent's own blocks are the caller's. After an `Err` root, `fresh` and transaction are as before. `Bad` names the first page on the extent's
 /// way that breaks a rule by itself; where none does, with rule `order` a page at which the extent clashes with what is stored: so an extent that shares a block
 /// with one of the leaf to which it goes is refused. Where each page but the last of its level held at least some number of extents or children, up to 127, each does:
-/// a full page that isn't the last of its level is split in halves. A tree of 8 levels gets no ninth: that is `Bad` with rule `deep` at the root. Each new page names itself; of
+/// a full page that isn't the last of its level is split in halves. Where the extent comes past all others, this holds up to the 254 that a page can have: appended extents leave full pages. A tree of 8 levels gets no ninth: that is `Bad` with rule `deep` at the root. Each new page names itself; of
 /// the root its number of slots, its own descriptor and what stands behind its slots stay.
 pub fn add<V: PageView>(
     alloc: Global,
@@ -57,6 +57,7 @@ pub fn add<V: PageView>(
     ensures way { V.PageView.tells → AddTellsWay (broken_for (V.PageView.block_count view.old) (page_of (V.PageView.image view.old)) root.old x.offset) (ClashesFor (V.PageView.block_count view.old) (page_of (V.PageView.image view.old)) x root.old) (IsFullAndDeep (V.PageView.block_count view.old) (page_of (V.PageView.image view.old)) x root.old) result }
     ensures full { V.PageView.tells → IfErr result (λ e. RefusesFull (V.PageView.block_count view.old) (page_of (V.PageView.image view.old)) x root.old (blocks_of fresh.old) (tree_error e)) }
     ensures parts { V.PageView.tells → OnOk result (KeepsLeast (V.PageView.block_count view.old) (page_of (V.PageView.image view.old)) x root.old root.new (blocks_of fresh.old) tx.old tx.new) }
+    ensures appends { V.PageView.tells → OnOk result (AppendsFull (V.PageView.block_count view.old) (page_of (V.PageView.image view.old)) x root.old root.new (blocks_of fresh.old) tx.old tx.new) }
 {
     let blocks = view.blocks();
     let form = root_form(root);

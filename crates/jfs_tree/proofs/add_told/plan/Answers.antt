@@ -1,4 +1,4 @@
-use Rattle.std.proofs.Common.{◌-◌, ◌∙◌, ap, sym, subst, length, take}
+use Rattle.std.proofs.Common.{true, false, ◌-◌, ◌∙◌, ap, sym, subst, length, take}
 use Rattle.std.specs.Prelude.{reverse}
 use Rattle.jfs_tree.specs.Call.{nodes}
 use Rattle.jfs_tree.specs.Room.{GrowsLevel, at_page}
@@ -8,7 +8,7 @@ use Rattle.jfs_tree.specs.Fresh.{allocs_of, blocks_of}
 use Rattle.jfs_tree.proofs.Changed.{changes_as, taken_changes}
 use Rattle.jfs_tree.proofs.Runs.{below_reverse, left_named, taken_named}
 use Rattle.jfs_tree.proofs.Adds.{refuses_as, adds_told, levels_told, told_as, ok_maps, full_as, takes_as}
-use Rattle.jfs_tree.proofs.FilledRoots.{least_told}
+use Rattle.jfs_tree.proofs.FilledRoots.{any_told, appended_told, least_told}
 use Rattle.jfs_tree.proofs.Refusing.{tells_refused, tells_planned}
 use Rattle.jfs_tree.proofs.Framing.{framed_told}
 use Rattle.jfs_tree.proofs.Clearing.{planned_apart}
@@ -96,11 +96,24 @@ returns-clause-thin g c least fills tells =
     let blocks = g.V.PageView.block_count c.args.view.now in
     let image = g.V.PageView.image c.args.view.now in
     ok_maps c.finish.result (c.finish.ensures.told tells) c.finish.ensures.rest (λ p told rest.
-    least_told least g.F.PageForm.scale g.met.F.PageForm.order c.args.x.now (g.F.PageForm.node c.args.form.now) blocks image (g.F.PageForm.node c.args.top.now c.args.root.now) (g.F.PageForm.node c.args.top.now c.add_linked.new.root)
+    any_told least g.F.PageForm.scale (g.F.PageForm.node c.args.form.now) blocks (page_of image) c.args.x.now (g.F.PageForm.node c.args.top.now c.args.root.now) (g.F.PageForm.node c.args.top.now c.add_linked.new.root) (blocks_of c.args.fresh.now) c.args.tx.now p.tx
+    (least_told false least g.F.PageForm.scale g.met.F.PageForm.order c.args.x.now (g.F.PageForm.node c.args.form.now) blocks image (g.F.PageForm.node c.args.top.now c.args.root.now) (g.F.PageForm.node c.args.top.now c.add_linked.new.root)
     c.new-draft.result.pages.items c.add_linked.new.draft.pages.items (blocks_of c.args.fresh.now) c.reversed-stack.result.items c.add_linked.new.fresh.items c.args.tx.now p.tx
-    (c.requires.children c.add_linked.new.root).0 (λ bytes. (c.requires.children bytes).1) c.new-draft.ensures (c.in_default-add_linked.ensures.adds tells) (c.in_default-add_linked.ensures.filled least fills tells)
+    (c.requires.children c.add_linked.new.root).0 (λ bytes. (c.requires.children bytes).1) c.new-draft.ensures (c.in_default-add_linked.ensures.adds tells) (c.in_default-add_linked.ensures.filled false least fills tells)
     (told_as (g.V.PageView.block_count c.add_linked.new.view) blocks (g.V.PageView.image c.add_linked.new.view) image c.add_linked.new.draft.pages.items c.args.tx.now p.tx c.add_linked.ensures.count_of_blocks (c.add_linked.ensures.image tells) told)
-    (c.reversed-stack.ensures ∙ ap reverse c.in-Ok-blocks_of.ensures))
+    (c.reversed-stack.ensures ∙ ap reverse c.in-Ok-blocks_of.ensures)))
+
+pub returns-clause-appends : goal.returns-clause-appends
+returns-clause-appends g c least fills tells =
+    let blocks = g.V.PageView.block_count c.args.view.now in
+    let image = g.V.PageView.image c.args.view.now in
+    ok_maps c.finish.result (c.finish.ensures.told tells) c.finish.ensures.rest (λ p told rest.
+    appended_told least g.F.PageForm.scale (g.F.PageForm.node c.args.form.now) blocks (page_of image) c.args.x.now (g.F.PageForm.node c.args.top.now c.args.root.now) (g.F.PageForm.node c.args.top.now c.add_linked.new.root) (blocks_of c.args.fresh.now) c.args.tx.now p.tx
+    (least_told true least g.F.PageForm.scale g.met.F.PageForm.order c.args.x.now (g.F.PageForm.node c.args.form.now) blocks image (g.F.PageForm.node c.args.top.now c.args.root.now) (g.F.PageForm.node c.args.top.now c.add_linked.new.root)
+    c.new-draft.result.pages.items c.add_linked.new.draft.pages.items (blocks_of c.args.fresh.now) c.reversed-stack.result.items c.add_linked.new.fresh.items c.args.tx.now p.tx
+    (c.requires.children c.add_linked.new.root).0 (λ bytes. (c.requires.children bytes).1) c.new-draft.ensures (c.in_default-add_linked.ensures.adds tells) (c.in_default-add_linked.ensures.filled true least fills tells)
+    (told_as (g.V.PageView.block_count c.add_linked.new.view) blocks (g.V.PageView.image c.add_linked.new.view) image c.add_linked.new.draft.pages.items c.args.tx.now p.tx c.add_linked.ensures.count_of_blocks (c.add_linked.ensures.image tells) told)
+    (c.reversed-stack.ensures ∙ ap reverse c.in-Ok-blocks_of.ensures)))
 
 pub returns-in-Err-clause-way : goal.returns-in-Err-clause-way
 returns-in-Err-clause-way g c tells =

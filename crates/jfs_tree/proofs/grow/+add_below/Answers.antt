@@ -83,18 +83,18 @@ returns-in-Ok-add_below-clause-keeps g t c tells =
     (c.read.ensures.kept tells) (c.in-Ok.ensures.bytes tells) (rw (sym c.bytes.ensures.value) leads) (c.in-Ok-add_below.ensures.keeps tells) c.take_grown.ensures.keeps c.in-Ok-add_below.ensures.front c.take_grown.ensures.front c.take_grown.ensures.levels
 
 pub returns-in-Ok-take_here-clause-filled : goal.returns-in-Ok-take_here-clause-filled
-returns-in-Ok-take_here-clause-filled g t c least fills tells =
+returns-in-Ok-take_here-clause-filled g t c appends least fills tells =
     let leads = subst (λ w. Leads g.F.PageForm.scale c.args.x.now (g.F.PageForm.node c.args.form.now c.bytes.result.now) (Ok w)) c.in-Ok-Here.field-0-is c.in-Ok-Here.ensures.way in
-    c.in-Ok-take_here.ensures.filled least fills (g.V.PageView.image c.args.view.now) leads.0 (c.in-Ok.ensures.bytes tells) (ap (g.F.PageForm.node c.args.form.now) (sym c.bytes.ensures.value) ∙ leads.1)
+    c.in-Ok-take_here.ensures.filled appends least fills (g.V.PageView.image c.args.view.now) leads.0 (c.in-Ok.ensures.bytes tells) (ap (g.F.PageForm.node c.args.form.now) (sym c.bytes.ensures.value) ∙ leads.1)
 
 pub returns-in-Ok-add_below-clause-filled : goal.returns-in-Ok-add_below-clause-filled
-returns-in-Ok-add_below-clause-filled g t c least fills tells =
+returns-in-Ok-add_below-clause-filled g t c appends least fills tells =
     let leads = subst (λ w. Leads g.F.PageForm.scale c.args.x.now (g.F.PageForm.node c.args.form.now c.bytes.result.now) (Ok w)) c.in-Ok-Down.field-0-is c.in-Ok-Down.ensures.way in
     let ends = subst (λ w. TellsLast (g.F.PageForm.node c.args.form.now c.bytes.result.now) w) c.in-Ok-Down.field-0-is c.in-Ok-Down.ensures.last in
-    grown_filled least (g.F.PageForm.node c.args.form.now) g.F.PageForm.scale c.args.x.now c.args.draft.now.pages.items c.add_below.new.draft.pages.items c.take_grown.new.draft.pages.items (g.V.PageView.image c.args.view.now) (g.V.PageView.image c.read.new.view)
+    grown_filled appends least (g.F.PageForm.node c.args.form.now) g.F.PageForm.scale c.args.x.now c.args.draft.now.pages.items c.add_below.new.draft.pages.items c.take_grown.new.draft.pages.items (g.V.PageView.image c.args.view.now) (g.V.PageView.image c.read.new.view)
     c.args.page c.in-Ok-Down.place c.in-Ok-Down.child c.in-Ok-add_below.grown.levels c.args.last c.in-Ok-Down.at_end c.in-Ok.bytes.0 c.in-Ok-add_below.grown.sibling c.args.fresh.now.items c.add_below.new.fresh.items c.take_grown.new.fresh.items c.take_grown.result
     (c.read.ensures.kept tells) (c.in-Ok.ensures.bytes tells) (rw (sym c.bytes.ensures.value) leads) (rw (sym c.bytes.ensures.value) ends) (c.in-Ok-add_below.ensures.grew tells)
-    (rw (sym c.both.ensures) (c.in-Ok-add_below.ensures.filled least fills tells)) c.take_grown.ensures.levels (c.take_grown.ensures.filled least fills)
+    (rw (sym c.both.ensures) (c.in-Ok-add_below.ensures.filled appends least fills tells)) c.take_grown.ensures.levels (c.take_grown.ensures.filled appends least fills)
 
 pub returns-then-most-eq0-clause-way : goal.returns-then-most-eq0-clause-way
 returns-then-most-eq0-clause-way g t c tells = tells_deep g.F.PageForm.scale (nodes (g.F.PageForm.node c.args.form.now) c.args.draft.now.pages.items (g.V.PageView.image c.args.view.now)) c.args.x.now (at_page (g.F.PageForm.is_full c.args.form.now) c.args.draft.now.pages.items (g.V.PageView.image c.args.view.now)) (at_page (λ bytes. g.F.PageForm.has_no_room c.args.form.now bytes c.args.x.now) c.args.draft.now.pages.items (g.V.PageView.image c.args.view.now)) c.args.most c.args.page c.if-most-eq0.true

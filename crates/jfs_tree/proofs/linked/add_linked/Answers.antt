@@ -16,11 +16,11 @@ returns-in-Ok-link_taken-clause-adds g c = λ tells.
     (sym (same_nodes node (g.F.PageForm.frame c.args.form.now) image (g.V.PageView.image c.add_entry.new.view) c.add_entry.new.draft.pages.items c.link_taken.new.draft.pages.items (g.F.PageForm.node c.args.top.now c.add_entry.new.root) (c.in-Ok.ensures.image tells) (c.in-Ok-link_taken.ensures.links tells))) (c.in-Ok.ensures.adds tells)
 
 pub returns-in-Ok-link_taken-clause-filled : goal.returns-in-Ok-link_taken-clause-filled
-returns-in-Ok-link_taken-clause-filled g c = λ least fills tells.
+returns-in-Ok-link_taken-clause-filled g c = λ appends least fills tells.
     let node = g.F.PageForm.node c.args.form.now in
     let image = g.V.PageView.image c.args.view.now in
-    subst (λ f. FillsAlways least g.F.PageForm.scale c.args.x.now (nodes node c.args.draft.now.pages.items image) f (g.F.PageForm.node c.args.top.now c.args.root.now) (g.F.PageForm.node c.args.top.now c.add_entry.new.root) c.args.fresh.now.items)
-    (sym (same_nodes node (g.F.PageForm.frame c.args.form.now) image (g.V.PageView.image c.add_entry.new.view) c.add_entry.new.draft.pages.items c.link_taken.new.draft.pages.items (g.F.PageForm.node c.args.top.now c.add_entry.new.root) (c.in-Ok.ensures.image tells) (c.in-Ok-link_taken.ensures.links tells))) (c.in-Ok.ensures.filled least fills tells)
+    subst (λ f. FillsAlways appends least g.F.PageForm.scale c.args.x.now (nodes node c.args.draft.now.pages.items image) f (g.F.PageForm.node c.args.top.now c.args.root.now) (g.F.PageForm.node c.args.top.now c.add_entry.new.root) c.args.fresh.now.items)
+    (sym (same_nodes node (g.F.PageForm.frame c.args.form.now) image (g.V.PageView.image c.add_entry.new.view) c.add_entry.new.draft.pages.items c.link_taken.new.draft.pages.items (g.F.PageForm.node c.args.top.now c.add_entry.new.root) (c.in-Ok.ensures.image tells) (c.in-Ok-link_taken.ensures.links tells))) (c.in-Ok.ensures.filled appends least fills tells)
 
 pub returns-in-Ok-link_taken-clause-levels : goal.returns-in-Ok-link_taken-clause-levels
 returns-in-Ok-link_taken-clause-levels g c = λ tells.

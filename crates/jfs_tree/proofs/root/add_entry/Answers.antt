@@ -118,18 +118,18 @@ returns-in-Ok-clause-used g c =
     c.args.fresh.now.items c.add_below.new.fresh.items c.root_takes_grown.new.fresh.items c.in-Ok.grown.levels c.root_takes_grown.result c.in-Ok.ensures.used.0 c.in-Ok.ensures.used.1 c.root_takes_grown.ensures.room
 
 pub returns-in-Ok-Here-clause-filled : goal.returns-in-Ok-Here-clause-filled
-returns-in-Ok-Here-clause-filled g c least fills tells =
+returns-in-Ok-Here-clause-filled g c appends least fills tells =
     let leads = subst (λ w. Leads g.F.PageForm.scale c.args.x.now (g.F.PageForm.node c.args.top.now c.args.root.now) (Ok w)) c.in-Ok-Here.field-0-is c.in-Ok-Here.ensures.way in
-    here_always_fills least (g.F.PageForm.node c.args.form.now) g.F.PageForm.scale c.args.x.now (g.V.PageView.image c.args.view.now) (g.F.PageForm.node c.args.top.now c.args.root.now) (g.F.PageForm.node c.args.top.now c.root_takes_here.new.root) c.args.draft.now.pages.items c.root_takes_here.new.draft.pages.items leads.0 (g.V.PageView.block_count c.args.view.now) c.args.fresh.now.items c.root_takes_here.new.fresh.items c.root_takes_here.result
+    here_always_fills appends least (g.F.PageForm.node c.args.form.now) g.F.PageForm.scale c.args.x.now (g.V.PageView.image c.args.view.now) (g.F.PageForm.node c.args.top.now c.args.root.now) (g.F.PageForm.node c.args.top.now c.root_takes_here.new.root) c.args.draft.now.pages.items c.root_takes_here.new.draft.pages.items leads.0 (g.V.PageView.block_count c.args.view.now) c.args.fresh.now.items c.root_takes_here.new.fresh.items c.root_takes_here.result
     c.requires.within (let h = c.blocks-blocks.ensures in let i = c.blocks-blocks.type_inv in omega (arith, h, i)) leads.1 c.root_takes_here.ensures.did
 
 pub returns-in-Ok-clause-filled : goal.returns-in-Ok-clause-filled
-returns-in-Ok-clause-filled g c least fills tells =
+returns-in-Ok-clause-filled g c appends least fills tells =
     let leads = subst (λ w. Leads g.F.PageForm.scale c.args.x.now (g.F.PageForm.node c.args.top.now c.args.root.now) (Ok w)) c.in-Ok-Down.field-0-is c.in-Ok-Down.ensures.way in
     let ends = subst (λ w. TellsLast (g.F.PageForm.node c.args.top.now c.args.root.now) w) c.in-Ok-Down.field-0-is c.in-Ok-Down.ensures.last in
-    grown_always_fills least (g.F.PageForm.node c.args.form.now) g.F.PageForm.scale g.met.F.PageForm.order c.args.x.now (g.V.PageView.image c.args.view.now) (g.F.PageForm.node c.args.top.now c.args.root.now) (g.F.PageForm.node c.args.top.now c.root_takes_grown.new.root) c.args.draft.now.pages.items c.add_below.new.draft.pages.items c.root_takes_grown.new.draft.pages.items
+    grown_always_fills appends least (g.F.PageForm.node c.args.form.now) g.F.PageForm.scale g.met.F.PageForm.order c.args.x.now (g.V.PageView.image c.args.view.now) (g.F.PageForm.node c.args.top.now c.args.root.now) (g.F.PageForm.node c.args.top.now c.root_takes_grown.new.root) c.args.draft.now.pages.items c.add_below.new.draft.pages.items c.root_takes_grown.new.draft.pages.items
     c.in-Ok-Down.place c.in-Ok-Down.page c.in-Ok.grown.levels (g.V.PageView.block_count c.args.view.now) c.args.fresh.now.items c.add_below.new.fresh.items c.root_takes_grown.new.fresh.items c.in-Ok.grown.sibling c.in-Ok-Down.last c.root_takes_grown.result
-    c.requires.within (let h = c.blocks-blocks.ensures in let i = c.blocks-blocks.type_inv in omega (arith, h, i)) leads ends (c.in-Ok.ensures.grew tells) (c.in-Ok.ensures.filled least fills tells) c.root_takes_grown.ensures.did
+    c.requires.within (let h = c.blocks-blocks.ensures in let i = c.blocks-blocks.type_inv in omega (arith, h, i)) leads ends (c.in-Ok.ensures.grew tells) (c.in-Ok.ensures.filled appends least fills tells) c.root_takes_grown.ensures.did
 
 pub returns-in-Err-clause-way : goal.returns-in-Err-clause-way
 returns-in-Err-clause-way g c tells = adding_breaks g.F.PageForm.scale (nodes (g.F.PageForm.node c.args.form.now) c.args.draft.now.pages.items (g.V.PageView.image c.args.view.now)) c.args.x.now (at_page (g.F.PageForm.is_full c.args.form.now) c.args.draft.now.pages.items (g.V.PageView.image c.args.view.now)) (at_page (λ bytes. g.F.PageForm.has_no_room c.args.form.now bytes c.args.x.now) c.args.draft.now.pages.items (g.V.PageView.image c.args.view.now)) (g.F.PageForm.node c.args.top.now c.args.root.now) (HasAllLevels g.F.PageForm.scale (nodes (g.F.PageForm.node c.args.form.now) c.args.draft.now.pages.items (g.V.PageView.image c.args.view.now)) c.args.x.now (at_page (g.F.PageForm.is_full c.args.form.now) c.args.draft.now.pages.items (g.V.PageView.image c.args.view.now)) (at_page (λ bytes. g.F.PageForm.has_no_room c.args.form.now bytes c.args.x.now) c.args.draft.now.pages.items (g.V.PageView.image c.args.view.now)) (g.F.PageForm.node c.args.top.now c.args.root.now) (λ key. g.F.PageForm.is_full c.args.top.now c.args.root.now × g.F.PageForm.has_no_place c.args.top.now c.args.root.now key)) c.in-Err.rule c.in-Err.ensures.way

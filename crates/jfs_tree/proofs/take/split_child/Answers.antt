@@ -24,9 +24,9 @@ returns-clause-keeps g c =
     two_off c.args.draft.now.pages.items c.put_two.new.draft.pages.items c.args.page c.in-Some.q c.split_child-key.new.bytes c.split_child-key.new.right c.args.fresh.now.items c.pop.new.self.items c.in_ok-put_two.ensures.puts c.in-Some.ensures.items
 
 pub returns-clause-filled : goal.returns-clause-filled
-returns-clause-filled g c least fills =
-    child_parts_filled least (g.F.PageForm.node c.args.form.now) g.F.PageForm.scale g.met.F.PageForm.order c.args.bytes.0 c.split_child-key.new.bytes c.split_child-key.new.right c.args.page c.args.place c.in-Some.q c.split_child-key.result c.args.last c.args.sibling
-    c.args.draft.now.pages.items c.put_two.new.draft.pages.items c.args.fresh.now.items c.pop.new.self.items c.split_child-key.ensures.parts (c.split_child-key.ensures.fills least fills) c.in-Some.ensures.items c.in_ok-put_two.ensures.puts
+returns-clause-filled g c appends least fills =
+    child_parts_filled appends least (g.F.PageForm.node c.args.form.now) g.F.PageForm.scale g.met.F.PageForm.order c.args.bytes.0 c.split_child-key.new.bytes c.split_child-key.new.right c.args.page c.args.place c.in-Some.q c.split_child-key.result c.args.last c.args.sibling
+    c.args.draft.now.pages.items c.put_two.new.draft.pages.items c.args.fresh.now.items c.pop.new.self.items c.split_child-key.ensures.parts (c.split_child-key.ensures.fills appends least fills) c.in-Some.ensures.items c.in_ok-put_two.ensures.puts
 
 pub returns-clause-cut : goal.returns-clause-cut
 returns-clause-cut g c = λ all at. let t = c.split_child-key.ensures.parts all at (c.requires.goes all at) in (t.front, t.first, t.back, t.is, t.some, t.key_is)

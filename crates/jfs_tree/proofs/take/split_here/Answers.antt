@@ -23,9 +23,9 @@ returns-clause-keeps g c =
     two_off c.args.draft.now.pages.items c.put_two.new.draft.pages.items c.args.page c.in-Some.q c.split-key.new.bytes c.split-key.new.right c.args.fresh.now.items c.pop.new.self.items c.in_ok-put_two.ensures.puts c.in-Some.ensures.items
 
 pub returns-clause-filled : goal.returns-clause-filled
-returns-clause-filled g c least fills =
-    here_parts_filled least (g.F.PageForm.node c.args.form.now) g.F.PageForm.scale g.met.F.PageForm.order c.args.x.now c.args.bytes.0 c.split-key.new.bytes c.split-key.new.right c.args.page c.in-Some.q c.split-key.result c.args.last
-    c.args.draft.now.pages.items c.put_two.new.draft.pages.items c.args.fresh.now.items c.pop.new.self.items c.split-key.ensures.parts (c.split-key.ensures.fills least fills) c.in-Some.ensures.items c.in_ok-put_two.ensures.puts
+returns-clause-filled g c appends least fills =
+    here_parts_filled appends least (g.F.PageForm.node c.args.form.now) g.F.PageForm.scale g.met.F.PageForm.order c.args.x.now c.args.bytes.0 c.split-key.new.bytes c.split-key.new.right c.args.page c.in-Some.q c.split-key.result c.args.last
+    c.args.draft.now.pages.items c.put_two.new.draft.pages.items c.args.fresh.now.items c.pop.new.self.items c.split-key.ensures.parts (c.split-key.ensures.fills appends least fills) c.in-Some.ensures.items c.in_ok-put_two.ensures.puts
 
 pub returns-clause-cut : goal.returns-clause-cut
 returns-clause-cut g c = λ es is apart. let t = c.split-key.ensures.parts es is apart in (t.front, t.back, t.all, t.some, t.parts)

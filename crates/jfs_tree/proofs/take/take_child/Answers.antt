@@ -12,8 +12,8 @@ returns-in_ok-put_one-in-Done-clause-did g c =
     c.in-Done.ensures.child c.in_ok-put_one-in-Done.ensures.puts
 
 pub returns-in_ok-put_one-in-Done-clause-filled : goal.returns-in_ok-put_one-in-Done-clause-filled
-returns-in_ok-put_one-in-Done-clause-filled g c least fills =
-    child_kept_filled least (g.F.PageForm.node c.args.form.now) g.F.PageForm.scale g.met.F.PageForm.order c.args.bytes.0 c.put_child.new.bytes c.args.page c.args.place c.args.last c.args.sibling c.args.draft.now.pages.items c.put_one.new.draft.pages.items c.args.fresh.now.items
+returns-in_ok-put_one-in-Done-clause-filled g c appends least fills =
+    child_kept_filled appends least (g.F.PageForm.node c.args.form.now) g.F.PageForm.scale g.met.F.PageForm.order c.args.bytes.0 c.put_child.new.bytes c.args.page c.args.place c.args.last c.args.sibling c.args.draft.now.pages.items c.put_one.new.draft.pages.items c.args.fresh.now.items
     c.in-Done.ensures.child c.in_ok-put_one-in-Done.ensures.puts
 
 pub returns-in_ok-put_one-in-Done-clause-framed : goal.returns-in_ok-put_one-in-Done-clause-framed

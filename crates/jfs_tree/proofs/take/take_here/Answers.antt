@@ -10,8 +10,8 @@ returns-in_ok-put_one-in-Done-clause-did g c =
     c.in-Done.ensures.row c.in_ok-put_one-in-Done.ensures.puts
 
 pub returns-in_ok-put_one-in-Done-clause-filled : goal.returns-in_ok-put_one-in-Done-clause-filled
-returns-in_ok-put_one-in-Done-clause-filled g c least fills =
-    here_kept_filled least (g.F.PageForm.node c.args.form.now) g.F.PageForm.scale g.met.F.PageForm.order c.args.x.now c.args.bytes.0 c.put.new.bytes c.args.page c.args.last c.args.draft.now.pages.items c.put_one.new.draft.pages.items c.args.fresh.now.items
+returns-in_ok-put_one-in-Done-clause-filled g c appends least fills =
+    here_kept_filled appends least (g.F.PageForm.node c.args.form.now) g.F.PageForm.scale g.met.F.PageForm.order c.args.x.now c.args.bytes.0 c.put.new.bytes c.args.page c.args.last c.args.draft.now.pages.items c.put_one.new.draft.pages.items c.args.fresh.now.items
     c.in-Done.ensures.row c.in_ok-put_one-in-Done.ensures.puts
 
 pub returns-in_ok-put_one-in-Done-clause-framed : goal.returns-in_ok-put_one-in-Done-clause-framed

@@ -5,7 +5,7 @@ use Rattle.jfs_tree.specs.Fresh.{blocks_of}
 use Rattle.jfs_xtree.specs.Node.{xt_scale, IsRoot}
 use Rattle.jfs_xtree.specs.Spells.{root_form, root_node, page_nodes, tree_error, broken_for}
 use Rattle.jfs_xtree.specs.Adding.{RefusesFull, ClashesFor, IsFullAndDeep, AddTellsWay}
-use Rattle.jfs_xtree.proofs.Adds.{adds_as, thin_as, refuses_as, full_as, takes_as, tells_as, went_in, failed}
+use Rattle.jfs_xtree.proofs.Adds.{adds_as, appends_as, thin_as, refuses_as, full_as, takes_as, tells_as, went_in, failed}
 use Rattle.jfs_xtree.proofs.Adds.{names_as, apart_as}
 use Rattle.jfs_xtree.proofs.Frames.{root_kept}
 use Rattle.jfs_xtree.proofs.Roots.{form_fits}
@@ -42,6 +42,11 @@ pub returns-in-Ok-clause-parts : goal.returns-in-Ok-clause-parts
 returns-in-Ok-clause-parts g c tells = λ least most.
     thin_as least c.blocks-blocks.result (g.V.PageView.block_count c.args.view.now) c.root_form-form.result (g.V.PageView.image c.args.view.now) c.args.x c.args.root.now c.add_and_tell.new.root (blocks_of c.args.fresh.now) c.args.tx.now c.add_and_tell.new.tx
     c.blocks-blocks.ensures c.root_form-form.ensures (c.in-Ok.ensures.thin least most tells)
+
+pub returns-in-Ok-clause-appends : goal.returns-in-Ok-clause-appends
+returns-in-Ok-clause-appends g c tells = λ least most.
+    appends_as least c.blocks-blocks.result (g.V.PageView.block_count c.args.view.now) c.root_form-form.result (g.V.PageView.image c.args.view.now) c.args.x c.args.root.now c.add_and_tell.new.root (blocks_of c.args.fresh.now) c.args.tx.now c.add_and_tell.new.tx
+    c.blocks-blocks.ensures c.root_form-form.ensures (c.in-Ok.ensures.appends least most tells)
 
 pub returns-in-Ok-clause-way : goal.returns-in-Ok-clause-way
 returns-in-Ok-clause-way g c tells =
