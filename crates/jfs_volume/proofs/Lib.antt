@@ -13,6 +13,7 @@ pub mod Dropping
 pub mod Starting
 pub mod Joining
 pub mod Taken
+pub mod Later
 pub mod Texts
 pub mod Editing
 pub mod Entering

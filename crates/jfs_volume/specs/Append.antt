@@ -80,12 +80,13 @@ pub record IsDraft (noted : List Noted) (p : Parts) (draft : Draft) : Type 0 whe
   pub taken : draft.taken ≡ taken_in (tx_of noted)
   pub freed : draft.freed ≡ freed_in (tx_of noted)
 
--- it has a transaction's runs, and the map has memory for those that go
+-- it has a transaction's runs and the pages that it frees, and the map has memory for those that go
 pub record HasRuns (tx : List Edit) (p : Parts) (draft : Draft) : Type 0 where
   pub taken : draft.taken ≡ taken_in tx
   pub freed : draft.freed ≡ freed_in tx
   pub spare : length draft.freed ≤ p.map.spare
   pub last : draft.text.last ≡ p.appended + 1
+  pub pages : draft.pages.items ≡ pages_freed (p.appended + 1) tx
 
 -- What an entry adds, also where the disk tells nothing.
 pub record Adds (entry : Entry) (noted : List Noted) (marks : InodeMarks) (old new : Parts) : Type 0 where

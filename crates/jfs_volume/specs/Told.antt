@@ -1,6 +1,6 @@
 -- What an acknowledgement changes.
-use Rattle.std.specs.Prelude.{◌≡◌, ◌≤◌, ◌⊎◌, ◌∷◌, [], ℕ, nat_lt, Bool, List, map, Option, None, IsSome}
-use Rattle.std.specs.List.{filter}
+use Rattle.std.specs.Prelude.{◌≡◌, ◌<◌, ◌≤◌, ◌⊎◌, ◌∷◌, [], ℕ, nat_lt, Bool, List, map, Option, None, IsSome}
+use Rattle.std.specs.List.{AllByRecursion, filter}
 use Rattle.jfs_pages.specs.declared.dirty.Dirty.{Dirty}
 use Rattle.jfs_pages.specs.Dirty.{last_of}
 use Rattle.jfs_halves.specs.declared.freed.FreedPage.{FreedPage}
@@ -31,6 +31,10 @@ AreDropped seen asked old new half = (pages : List ℕ) × Moves seen asked old 
 -- a page isn't dirty any more, or as it was
 abbrev pub StaysOrGoes : Option Dirty → Option Dirty → Type 0
 StaysOrGoes old new = (new ≡ old) ⊎ (new ≡ None)
+
+-- pages that only entries past the first n freed
+abbrev pub AreLater : ℕ → List FreedPage → Type 0
+AreLater n freed = AllByRecursion (λ (f : FreedPage). n < f.by_entry) freed
 
 -- pages whose entries aren't acknowledged
 abbrev pub still_freed : ℕ → List FreedPage → List FreedPage

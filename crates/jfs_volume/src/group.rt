@@ -38,6 +38,10 @@ impl<D: Disk> Volume<D> {
         ensures parts { self.new ≡ record self.old { view = self.new.view; dirty = self.new.dirty; told = n; map = blocks_settled n self.old.map; freed = still_freed n self.old.freed } }
     {
         self.acknowledge(n);
+        // so that the same count told again costs nothing
+        if self.are_forgotten(n) {
+            return;
+        }
         let count = self.freed_count();
         for i in 0..count {
             self.drop_at(i);

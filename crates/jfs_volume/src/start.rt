@@ -51,6 +51,7 @@ impl<D: Disk> Volume<D> {
             entries: Vec::new(alloc),
             text: WaitingText::new(alloc, ring),
             freed: Vec::new(alloc),
+            forgotten: 0,
             halted: None,
         }
     }

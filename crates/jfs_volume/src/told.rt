@@ -1,6 +1,6 @@
 //! What becomes of pages that acknowledged entries freed.
 
-ghost use Rattle.std.specs.Prelude.{◌≡◌, ◌≤◌, ◌==◌, ◌∷◌, [], ℕ, false, if◌then◌else◌, Some, None, slice_get, length};
+ghost use Rattle.std.specs.Prelude.{◌≡◌, ◌≤◌, ◌==◌, ◌∷◌, [], ℕ, true, false, if◌then◌else◌, Some, None, slice_get, length};
 ghost use Rattle.jfs_disk.specs.Image.{page_of};
 ghost use Rattle.jfs_bmap.specs.States.{blocks_settled};
 ghost use Rattle.jfs_pages.specs.Dirty.{dirty_of};
@@ -9,7 +9,7 @@ ghost use Rattle.jfs_halves.specs.Parts.{OfEachHalf, IsFreed};
 ghost use Rattle.jfs_halves.specs.Change.{Drops};
 ghost use Rattle.jfs_halves.specs.Moves.{Moves};
 ghost use Rattle.jfs_volume.specs.Settles.{is_freed};
-ghost use Rattle.jfs_volume.specs.Told.{IsDropped, AreDropped, MayBeDropped, StaysOrGoes, still_freed};
+ghost use Rattle.jfs_volume.specs.Told.{AreLater, IsDropped, AreDropped, MayBeDropped, StaysOrGoes, still_freed};
 
 use crate::volume::Volume;
 use jfs_disk::Disk;
@@ -34,9 +34,18 @@ impl<D: Disk> Volume<D> {
 
     /// The pages that the first `n` entries freed aren't kept any more.
     pub(crate) fn forget_freed(&mut self, n: u64)
+        requires { n ≤ self.old.told }
         ensures { self.new ≡ record self.old { freed = still_freed n self.old.freed } }
     {
         keep_later(&mut self.freed, n);
+        self.forgotten = n;
+    }
+
+    /// Whether it is known that none of the first `n` entries freed a page that is kept.
+    pub(crate) fn are_forgotten(&self, n: u64) -> bool
+        ensures later { result ≡ true → AreLater n self.now.freed }
+    {
+        n <= self.forgotten
     }
 
     pub(crate) fn freed_count(&self) -> usize

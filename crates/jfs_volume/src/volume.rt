@@ -27,6 +27,8 @@ pub struct Volume<D: Disk> {
     pub(crate) text: WaitingText,
     /// The pages that entries freed which aren't acknowledged.
     pub(crate) freed: Vec<FreedPage>,
+    /// No page is kept there that an entry up to this one freed.
+    pub(crate) forgotten: u64,
     pub(crate) halted: Option<Fault>,
 }
 
@@ -38,6 +40,7 @@ impl<D: Disk> Model for Volume<D> {
     ghost use Rattle.jfs_bmap.specs.MapFile.{pages_of};
     ghost use Rattle.jfs_map_files.specs.Files.{AreFilesOf};
     ghost use Rattle.jfs_volume.specs.Busy.{BusyBetween};
+    ghost use Rattle.jfs_volume.specs.Told.{AreLater};
     ghost use Rattle.jfs_volume.specs.Text.{text_in};
 
     ghost Value = { Parts };
@@ -74,5 +77,7 @@ impl<D: Disk> Model for Volume<D> {
         × (v.points ≤ v.text.place)
         × (v.taken ≡ v.appended → v.text.text.bytes.items ≡ [])
         × BusyBetween v.told v.appended v.maps.blocks
-        × AreFilesOf v.cache.blocks (pages_of (length v.maps.blocks.states)) v.maps.inodes.iags v.files };
+        × AreFilesOf v.cache.blocks (pages_of (length v.maps.blocks.states)) v.maps.inodes.iags v.files
+        × (v.forgotten ≤ v.appended)
+        × AreLater v.forgotten v.freed.items };
 }

@@ -19,4 +19,6 @@ invariant_of-self g c =
       rw settled (between_settled v.told v.appended c.args.n v.maps.blocks i.6),
       files_kept v.cache.blocks v.cache.blocks (length v.maps.blocks.states) (length c.settle.new.self.states) v.maps.inodes.iags v.maps.inodes.iags v.files refl
           (ap (λ (m : Blocks). length m.states) settled ∙ changed-length (λ (b : ℕ) (s : BlockState). settled_state c.args.n s) v.maps.blocks) refl i.7,
+      i.8,
+      i.9,
     )

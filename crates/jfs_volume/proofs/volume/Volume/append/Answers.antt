@@ -6,7 +6,7 @@ use Rattle.jfs_pages.specs.Dirty.{dirty_of}
 use Rattle.jfs_halves.specs.Parts.{Parts, StandsFor}
 use Rattle.jfs_volume.specs.Append.{unreserved}
 use Rattle.jfs_volume.specs.Room.{has_room}
-use Rattle.jfs_volume.specs.Runs.{taken_in, freed_in}
+use Rattle.jfs_volume.specs.Runs.{taken_in, freed_in, pages_freed}
 use Rattle.jfs_volume.proofs.Editing.{tx_within}
 use Rattle.jfs_volume.proofs.Texts.{tx_of-noted, draft_size}
 use Rattle.jfs_volume.proofs.Appending.{kept_appends, kept_same, kept_stands, appends_after, entry_after, draft_after, tells_room, shows_after, writable_after}
@@ -33,6 +33,7 @@ enter-requires-clause-runs g c =
       freed = d.freed ∙ ap freed_in same;
       spare = c.in-Ok.ensures.spare;
       last = d.last ∙ sym (ap (λ (q : Parts). q.appended + 1) c.prepare.ensures.stays.parts);
+      pages = d.pages ∙ ap (λ (edits : List Edit). pages_freed (c.args.self.now.appended + 1) edits) same ∙ sym (ap (λ (q : Parts). pages_freed (q.appended + 1) c.args.tx.now) c.prepare.ensures.stays.parts);
     }
 
 pub enter-requires-clause-room : goal.enter-requires-clause-room

@@ -15,6 +15,7 @@ use Rattle.jfs_volume.specs.Data.{store_of, ArePut, put_pages}
 use Rattle.jfs_volume.specs.Runs.{taken_in}
 use Rattle.jfs_volume.specs.Written.{writes}
 use Rattle.jfs_volume.proofs.Busy.{between_entered}
+use Rattle.jfs_volume.proofs.Later.{later_entered}
 use Rattle.jfs_volume.proofs.Files.{files_marked, marked_iags}
 use Rattle.jfs_volume.proofs.PuttingAll.{IsStoreOf, data_moves, data_stops}
 use Rattle.jfs_volume.specs.Text.{text_in}
@@ -57,6 +58,7 @@ pub invariant_of-self-2 : goal.invariant_of-self-2
 invariant_of-self-2 g c =
     let i = c.self.invariant in
     let r = c.make_ready.ensures in
+    let pages = rw (← c.self.view_is) at c.requires.runs.pages in
     let place : c.add.new.text.place ≡ c.self.inside.text.place = ap (λ (t : Text). t.place) (c.add.ensures.text) ∙ ap (λ (t : Text). t.place) r.same.0 in (
       λ n. rw (c.edit.ensures.dirty n, c.put_all.ensures.dirty, r.dirty) (last-touched _ n (c.self.inside.appended + 1) c.self.inside.appended (dirty_of (dirty_in c.self.inside.cache.kept) n) (i.0 n) (omega arith)),
       i.1,
@@ -70,6 +72,8 @@ invariant_of-self-2 g c =
           (c.edit.ensures.disk.1 ∙ c.put_all.ensures.parts.0 ∙ r.blocks)
           (ap (λ (m : Blocks). length m.states) c.take_runs.ensures ∙ runs_length c.args.draft.now.freed c.args.draft.now.taken (c.self.inside.appended + 1) c.self.inside.maps.blocks)
           (marked_iags c.self.inside.maps.inodes c.args.marks c.mark.new.inodes c.mark.ensures) i.7),
+      omega (arith, i.8),
+      rw (c.add.ensures.pages, r.same.1, pages) (later_entered c.self.inside.forgotten c.self.inside.appended c.self.inside.freed.items c.args.tx.now i.8 i.9),
     )
 
 pub returns-clause-adds : goal.returns-clause-adds

@@ -21,4 +21,6 @@ invariant_of-self g c =
       rw freed (between_freed v.told v.appended list v.maps.blocks i.6),
       files_kept v.cache.blocks v.cache.blocks (length v.maps.blocks.states) (length c.give_back_all.new.blocks.states) v.maps.inodes.iags v.maps.inodes.iags v.files refl
           (ap (λ (m : Blocks). length m.states) freed ∙ changed-length (λ (b : ℕ) (s : BlockState). if is_in_list list b then Free else s) v.maps.blocks) refl i.7,
+      i.8,
+      i.9,
     )

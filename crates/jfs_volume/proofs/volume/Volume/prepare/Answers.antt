@@ -43,7 +43,7 @@ returns-clause-draft g c =
     })
 
 pub invariant_of-self : goal.invariant_of-self
-invariant_of-self g c = let i = c.self.invariant in rw c.in_err-make_room.ensures.err (i.0, i.1, i.2, i.3, i.4, i.5, i.6, i.7)
+invariant_of-self g c = let i = c.self.invariant in rw c.in_err-make_room.ensures.err (i.0, i.1, i.2, i.3, i.4, i.5, i.6, i.7, i.8, i.9)
 
 pub invariant_of-self-2 : goal.invariant_of-self-2
-invariant_of-self-2 g c = let i = c.self.invariant in rw c.in_ok-make_room.ensures.ok (i.0, i.1, i.2, i.3, i.4, i.5, i.6, i.7)
+invariant_of-self-2 g c = let i = c.self.invariant in rw c.in_ok-make_room.ensures.ok (i.0, i.1, i.2, i.3, i.4, i.5, i.6, i.7, i.8, i.9)

@@ -1,11 +1,24 @@
-use Rattle.std.proofs.Common.{◌≡◌, ◌<◌, ℕ, false, List, length, slice_get, Some, [], refl, sym, ap, subst, ◌≤◌, ◌∙◌, arith}
+use Rattle.std.proofs.Common.{◌≡◌, ◌<◌, ℕ, false, List, length, slice_get, Some, [], refl, sym, ap, subst, ◌≤◌, ◌∙◌, rules, arith}
 use Rattle.jfs_volume.proofs.Counts.{tells_moves, freed_moves}
+use Rattle.jfs_bmap.specs.States.{blocks_settled}
 use Rattle.jfs_halves.specs.declared.freed.FreedPage.{FreedPage}
 use Rattle.jfs_halves.specs.Parts.{Parts}
 use Rattle.jfs_volume.specs.Settles.{is_freed}
-use Rattle.jfs_volume.specs.Told.{still_freed}
+use Rattle.jfs_volume.specs.Told.{AreLater, still_freed}
+use Rattle.jfs_volume.proofs.Later.{later_at, later_stay}
 use Rattle.jfs_volume.proofs.Dropping.{dropped_more, stays_undropped, place_of}
 use Rattle.jfs_volume.proofs.volume.Volume.told.Goals as goal
+
+pub returns-then-are_forgotten : goal.returns-then-are_forgotten
+returns-then-are_forgotten g c =
+    let p = c.args.self.now in
+    let all : AreLater c.args.n p.freed = subst (λ (fs : List FreedPage). AreLater c.args.n fs) (ap (λ (q : Parts). q.freed) c.acknowledge.ensures) (c.are_forgotten.ensures.later (search (rules))) in
+    rw c.acknowledge.ensures (record {
+      told = λ seen asked told crashes half s. ([], tells_moves seen asked p half c.args.n s c.requires.0 c.requires.1);
+      dropped = λ i f at early may. let late = later_at c.args.n p.freed i f all at in absurd (omega (arith, late, early));
+      shows = λ t q none. refl;
+      parts = ap (λ (fs : List FreedPage). record p { told = c.args.n; map = blocks_settled c.args.n p.map; freed = fs }) (sym (later_stay c.args.n p.freed all));
+    })
 
 pub loop-i-init : goal.loop-i-init
 loop-i-init g c = rw c.acknowledge.ensures (record {
@@ -28,6 +41,9 @@ loop-i-preserved g c =
       dropped = λ j f h at early may. stays_undropped c.args.self.now.freed c.loop-i.self c.drop_at.new.self c.args.n c.loop-i.i j f
           inv.dropped e.others (λ here. e.gone f (ap (λ (p : Parts). slice_get p.freed c.loop-i.i) inv.parts ∙ here) (subst (λ (n : ℕ). f.by_entry ≤ n) (sym (ap (λ (p : Parts). p.told) inv.parts)) early)) h at early may;
     }
+
+pub forget_freed-requires : goal.forget_freed-requires
+forget_freed-requires g c = let told = ap (λ (p : Parts). p.told) c.loop-i.invariant.parts in omega (arith, told)
 
 pub returns : goal.returns
 returns g c =
