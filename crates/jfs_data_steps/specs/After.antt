@@ -21,6 +21,11 @@ abbrev pub LieWithin : ℕ → List DataPage → Type 0
 LieWithin blocks [] = Unit {0}
 LieWithin blocks (d ∷ ds) = (d.block < blocks) × LieWithin blocks ds
 
+-- no block stands there twice
+abbrev pub EachOnce : List DataPage → Type 0
+EachOnce [] = Unit {0}
+EachOnce (d ∷ ds) = (is_put d.block ds ≡ false) × EachOnce ds
+
 -- what a block holds once these are put: of a block that stands there twice the last page
 abbrev pub page_put : List DataPage → ℕ → List ℕ → List ℕ
 page_put [] b page = page

@@ -36,6 +36,14 @@ OthersLaw = (ds : List DataPage) (pages : ℕ → List ℕ) (b : ℕ) → is_put
 abbrev pub MayPut : Readers → Volume → ℕ → List DataPage → Type 0
 MayPut r v n ds = (b : ℕ) → is_put b ds ≡ true → (v.used b ≡ false) ⊎ (0 < is_data r (objects r v n) b)
 
+-- The data is a regular file's: each block that it goes into is the file's own, or isn't in use.
+pub record PutsOwn (blocks : ℕ) (v : Volume) (ds : List DataPage) : Type 0 where
+  pub inode : ℕ
+  pub file : Object
+  pub there : objects (readers blocks) v inode ≡ Some file
+  pub regular : is_regular file.inode ≡ true
+  pub may : MayPut (readers blocks) v inode ds
+
 -- Nothing changes but what the object's own data holds: no object, no owner and no logged page, and no other object's contents.
 pub record PutsAlone (r : Readers) (v w : Volume) (n : ℕ) : Type 0 where
   pub writes : WritesData r v w n

@@ -102,7 +102,7 @@ module _ (blocks : ℕ) (pages : ℕ → List ℕ) (maps : Maps) (path : List (L
 
   module _ (between : AreBetweenCalls blocks maps) (area : ℕ → ℕ) (con : IsConsistent (readers blocks) (volume_in pages area maps)) (size : blocks_in maps.blocks ≡ blocks) where
     pub data_starts : (call : Call) (r : Result Written Stop) → IfOk r (StartsOn blocks pages maps.blocks maps.inodes call) → Starts blocks (volume_in pages area maps) call (outcome_of r)
-    data_starts call (Ok out) s = let starts = s size between.within area con in record { rest = starts.leaves; consistent = starts.consistent }
+    data_starts call (Ok out) s = let starts = s size between.within area con in record { rest = starts.leaves; consistent = starts.consistent; own = inr starts.own; once = starts.once }
     data_starts call (Err (stops.Refused why)) s = tt
     data_starts call (Err stops.NeedsLog) s = tt
 

@@ -16,7 +16,7 @@ use Rattle.jfs_chmod.specs.steps.specs.Put.{TellsLines}
 use Rattle.jfs_chmod.specs.steps.proofs.After.{lines_alone, runs_leave}
 use Rattle.jfs_chmod.specs.steps.proofs.Sets.{frees_onto, taken_move}
 use Rattle.jfs_ranges.specs.Laid.{put_tx}
-use Rattle.jfs_truncate.specs.data_steps.specs.After.{AreWholePages, LieWithin}
+use Rattle.jfs_truncate.specs.data_steps.specs.After.{AreWholePages, EachOnce, LieWithin}
 use Rattle.jfs_truncate.specs.data_steps.specs.declared.pages.DataPage.{DataPage}
 use Rattle.jfs_create.specs.link.specs.Joins.{Joins}
 use Rattle.jfs_create.specs.link.proofs.Whole.{joins_move}
@@ -25,7 +25,7 @@ use Rattle.jfs_create.specs.declared.extent.NewExtent.{NewExtent}
 use Rattle.jfs_create.specs.declared.make.Plan.{Plan}
 use Rattle.jfs_truncate.specs.Tail.{IsTail}
 use Rattle.jfs_files.specs.Laws.{NoDataLaw}
-use Rattle.jfs_files.specs.Written.{FitsData, WritesNone, EachOnce, WritesOnce, StartsWith, Starts, FreesNone, FreesNothing, FreesOnce, FreesUsed, FreesOrTaken}
+use Rattle.jfs_files.specs.Written.{FitsData, WritesNone, WritesOnce, StartsWith, Starts, FreesNone, FreesNothing, FreesOnce, FreesUsed, FreesOrTaken}
 use Rattle.jfs_files.specs.declared.outcome.FileOutcome.{FileOutcome}
 use Rattle.jfs_files.specs.declared.outcome.FileOutcome.TheVariants.{Changed, Same, NeedsLog}
 
@@ -40,7 +40,7 @@ fits_none blocks (Same reply) e = tt
 fits_none blocks NeedsLog e = tt
 
 pub starts_none : (blocks : ℕ) (v : Volume) (call : Call) (outcome : FileOutcome) → IsConsistent (readers blocks) v → WritesNone outcome → Starts blocks v call outcome
-starts_none blocks v call (Changed tx written) con e = subst (λ (ds : List DataPage). StartsWith blocks v call ds) (sym e) (record { rest = record { nodes = λ n. refl; bytes = λ n i h. refl }; consistent = con })
+starts_none blocks v call (Changed tx written) con e = subst (λ (ds : List DataPage). StartsWith blocks v call ds) (sym e) (record { rest = record { nodes = λ n. refl; bytes = λ n i h. refl }; consistent = con; own = inl refl; once = tt })
 starts_none blocks v call (Same reply) con e = tt
 starts_none blocks v call NeedsLog con e = tt
 

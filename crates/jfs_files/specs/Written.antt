@@ -1,5 +1,5 @@
 -- What a call writes before its transaction, and what that transaction frees.
-use Rattle.std.specs.Prelude.{◌≡◌, ◌⊎◌, ◌<◌, ◌≤◌, ℕ, Bool, true, false, List, [], ◌∷◌}
+use Rattle.std.specs.Prelude.{◌≡◌, ◌⊎◌, ◌<◌, ◌≤◌, ℕ, Bool, true, false, List, []}
 use Rattle.jfs_ranges.specs.declared.edit.Edit.{Edit}
 use Rattle.jfs_plain.specs.CallStep.{LeavesRest}
 use Rattle.jfs_plain.specs.declared.call.Call.{Call}
@@ -10,7 +10,8 @@ use Rattle.jfs_look.specs.meaning.specs.Readers.{readers}
 use Rattle.jfs_look.specs.meaning.specs.Tree.{tree_on}
 use Rattle.jfs_look.specs.meaning.specs.Consistent.{IsConsistent}
 use Rattle.jfs_chmod.specs.steps.specs.After.{takes, frees}
-use Rattle.jfs_truncate.specs.data_steps.specs.After.{is_put, AreWholePages, LieWithin, with_data}
+use Rattle.jfs_truncate.specs.data_steps.specs.After.{EachOnce, AreWholePages, LieWithin, with_data}
+use Rattle.jfs_truncate.specs.data_steps.specs.Laws.{PutsOwn}
 use Rattle.jfs_truncate.specs.data_steps.specs.declared.pages.DataPage.{DataPage}
 use Rattle.jfs_files.specs.declared.outcome.FileOutcome.{FileOutcome}
 use Rattle.jfs_files.specs.declared.outcome.FileOutcome.TheVariants.{Changed, Same}
@@ -39,21 +40,18 @@ abbrev pub WritesNone : FileOutcome → Type 0
 WritesNone (Changed tx written) = written ≡ []
 WritesNone _ = Unit {0}
 
--- no block stands there twice
-abbrev pub EachOnce : List DataPage → Type 0
-EachOnce [] = Unit {0}
-EachOnce (d ∷ ds) = (is_put d.block ds ≡ false) × EachOnce ds
-
 abbrev pub WritesOnce : FileOutcome → Type 0
 WritesOnce (Changed tx written) = EachOnce written
 WritesOnce _ = Unit {0}
 
 -- ---- on a consistent volume
 
--- The data alone, before the transaction, leaves all objects, and all bytes but those that the call writes over; and the volume is consistent then.
+-- The data alone, before the transaction, leaves all objects, and all bytes but those that the call writes over; and the volume is consistent then. It goes into a regular file's own blocks, and such as aren't in use, into each once.
 pub record StartsWith (blocks : ℕ) (v : Volume) (call : Call) (written : List DataPage) : Type 0 where
   pub rest : LeavesRest (tree_on (readers blocks) v) call (tree_on (readers blocks) (with_data written v))
   pub consistent : IsConsistent (readers blocks) (with_data written v)
+  pub own : (written ≡ []) ⊎ PutsOwn blocks v written
+  pub once : EachOnce written
 
 abbrev pub Starts : ℕ → Volume → Call → FileOutcome → Type 0
 Starts blocks v call (Changed tx written) = StartsWith blocks v call written

@@ -49,7 +49,8 @@ use Rattle.jfs_call.specs.plain.specs.declared.call.Request.{Request}
 use Rattle.jfs_call.specs.plain.specs.declared.refusal.Refusal.TheVariants.{IoFault}
 use Rattle.jfs_call.specs.plain.specs.declared.reply.Reply.TheVariants.{Refused}
 use Rattle.jfs_served.specs.Holds.{blocks_at, volume_at, tree_at, IsBusyPage, MayServe}
-use Rattle.jfs_served.specs.Follows.{PutsOwn, tears}
+use Rattle.jfs_call.specs.volume.specs.data_steps.specs.Laws.{PutsOwn}
+use Rattle.jfs_served.specs.Follows.{tears}
 use Rattle.jfs_served.specs.Step.{IsAsked, IsAnswer, TakesStep}
 use Rattle.jfs_served.specs.Torn.{IsPartlyPut, TornLaw}
 use Rattle.jfs_served.proofs.Files.{area_used, data_held, unchanged, files_stay}

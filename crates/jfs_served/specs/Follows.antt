@@ -1,15 +1,11 @@
 -- How the volume after a call follows from the one before it.
-use Rattle.std.specs.Prelude.{◌≡◌, ℕ, true, List, Some}
+use Rattle.std.specs.Prelude.{◌≡◌, ℕ, List}
 use Rattle.jfs_disk.specs.declared.disk.Fault.{Fault}
 use Rattle.jfs_ranges.specs.declared.edit.Edit.{Edit}
-use Rattle.jfs_shown.specs.objects.specs.Objects.{Object, objects}
-use Rattle.jfs_shown.specs.objects.specs.Volume.{Volume}
-use Rattle.jfs_shown.specs.meaning.specs.Contents.{is_regular}
-use Rattle.jfs_shown.specs.meaning.specs.Readers.{readers}
 use Rattle.jfs_alike.specs.Alike.{AreAlike}
 use Rattle.jfs_call.specs.files.specs.Written.{StartsWith}
 use Rattle.jfs_call.specs.volume.specs.data_steps.specs.After.{after_writes, with_data}
-use Rattle.jfs_call.specs.volume.specs.data_steps.specs.Laws.{MayPut}
+use Rattle.jfs_call.specs.volume.specs.data_steps.specs.Laws.{PutsOwn}
 use Rattle.jfs_call.specs.volume.specs.data_steps.specs.declared.pages.DataPage.{DataPage}
 use Rattle.jfs_call.specs.halves.specs.Parts.{Parts}
 use Rattle.jfs_call.specs.plain.specs.declared.call.Call.{Call}
@@ -17,14 +13,6 @@ use Rattle.jfs_call.specs.plain.specs.declared.refusal.Refusal.TheVariants.{IoFa
 use Rattle.jfs_call.specs.plain.specs.declared.reply.Reply.{Reply}
 use Rattle.jfs_call.specs.plain.specs.declared.reply.Reply.TheVariants.{Done, Refused}
 use Rattle.jfs_served.specs.Holds.{blocks_at, volume_at, KeepsTree}
-
--- The data is a regular file's: each block that it goes into is the file's own, or isn't in use.
-pub record PutsOwn (blocks : ℕ) (v : Volume) (put : List DataPage) : Type 0 where
-  pub inode : ℕ
-  pub file : Object
-  pub there : objects (readers blocks) v inode ≡ Some file
-  pub regular : is_regular file.inode ≡ true
-  pub may : MayPut (readers blocks) v inode put
 
 -- Data is put, which alone changes no object, and no byte but those that the call writes over; and behind it the edits of a transaction are made.
 pub record Moves (area : ℕ → ℕ) (call : Call) (old new : Parts) : Type 0 where

@@ -15,7 +15,7 @@ use Rattle.jfs_call.specs.plain.specs.declared.call.Request.{Request}
 use Rattle.jfs_call.specs.plain.specs.declared.refusal.Refusal.TheVariants.{IoFault}
 use Rattle.jfs_call.specs.plain.specs.declared.reply.Reply.TheVariants.{Refused}
 use Rattle.jfs_served.specs.Holds.{blocks_at, volume_at, MayServe}
-use Rattle.jfs_served.specs.Follows.{PutsOwn}
+use Rattle.jfs_call.specs.volume.specs.data_steps.specs.Laws.{PutsOwn}
 use Rattle.jfs_served.specs.Step.{IsAsked, IsAnswer, TakesStep}
 
 -- It was put in part: each of its blocks holds some front sectors, from none to all 8, of what it was to hold, and then what it held.

@@ -1,5 +1,5 @@
 -- A truncate on a consistent volume takes the plain step.
-use Rattle.std.proofs.Common.{◌≡◌, ◌≢◌, ◌≤◌, ◌<◌, ◌⊎◌, refl, sym, ap, ◌∙◌, inl, inr, ℕ, ◌/◌, ◌%◌, ◌&&◌, ◌==◌, Bool, true, false, nat_lt, if◌then◌else◌, List, [], length, Option, Some, None, Result, Ok, Err, arith, eq-eqb, ne_eqb}
+use Rattle.std.proofs.Common.{◌≡◌, ◌≢◌, ◌≤◌, ◌<◌, ◌⊎◌, refl, sym, ap, ◌∙◌, inl, inr, ℕ, ◌/◌, ◌%◌, ◌&&◌, ◌==◌, Bool, true, false, nat_lt, if◌then◌else◌, List, length, Option, Some, None, Result, Ok, Err, arith, eq-eqb, ne_eqb}
 use Rattle.std.specs.Prelude.{min, max, nat_le}
 use Rattle.std.proofs.lemmas.Bool.{cases_lt, lt-ltb, le-ltb, le-leb}
 use Rattle.jfs_bits.specs.declared.descriptor.Moment.{Moment}
@@ -17,7 +17,7 @@ use Rattle.jfs_data_steps.specs.objects.specs.Changes.{put}
 use Rattle.jfs_data_steps.specs.objects.specs.Owners.{covers}
 use Rattle.jfs_data_steps.specs.objects.proofs.Sums.{put_here, put_other, eq_or_not}
 use Rattle.jfs_read.specs.meaning.specs.Contents.{byte_of, byte_in, is_regular}
-use Rattle.jfs_read.specs.meaning.specs.Readers.{readers, root_of}
+use Rattle.jfs_read.specs.meaning.specs.Readers.{readers}
 use Rattle.jfs_read.specs.meaning.specs.Tree.{tree_on}
 use Rattle.jfs_read.specs.meaning.specs.Consistent.{IsConsistent}
 use Rattle.jfs_plain.specs.Tree.{Tree, Found, found_at, walk, root, and_then}
@@ -33,10 +33,9 @@ use Rattle.jfs_read.specs.way.specs.Volume.{volume_of}
 use Rattle.jfs_read.specs.way.specs.Walk.{IsHeld, IsShown, IsThere, tree_in}
 use Rattle.jfs_read.specs.way.specs.declared.object.Held.{Held}
 use Rattle.jfs_data_steps.specs.steps.specs.Call.{IsDone}
-use Rattle.jfs_data_steps.specs.steps.specs.Laws.{IsFair}
 use Rattle.jfs_data_steps.specs.declared.pages.DataPage.{DataPage}
 use Rattle.jfs_data_steps.specs.After.{AreWholePages, put_data, with_data, after_writes}
-use Rattle.jfs_data_steps.specs.Laws.{IsFilePut}
+use Rattle.jfs_data_steps.specs.Laws.{IsFilePut, PutsOwn}
 use Rattle.jfs_data_steps.specs.File.{bytes_held, refilled}
 use Rattle.jfs_data_steps.proofs.Extents.{file_type, had_once, had_below}
 use Rattle.jfs_data_steps.proofs.Files.{file_bytes, file_before}
@@ -207,5 +206,15 @@ module _ (blocks : ℕ) (pages : ℕ → List ℕ) (whole : (b : ℕ) → b < bl
         over e = ap (λ (x : Result Found Refusal). writes_over_in x (calls.Truncate path size) m i) file_is
             ∙ ap (λ (x : Bool). x && (nat_lt i node.size && (nat_le size i && (i / 4096 == size / 4096)))) (eq-eqb n m (sym e))
 
-    pub truncate_starts : LeavesRest t (calls.Truncate path size) early_tree × IsConsistent r (with_data ds v)
-    truncate_starts = (record { nodes = put_early.same.nodes; bytes = early_bytes }, put_early.consistent)
+    puts_own : PutsOwn blocks v ds
+    unfolding spelled
+    puts_own = record {
+      inode = n;
+      file = spelled r pages d;
+      there = was;
+      regular = fit.regular;
+      may = before blocks pages whole area bm inodes many con at held shown some fit.regular size now tx z ds tail full;
+    }
+
+    pub truncate_starts : LeavesRest t (calls.Truncate path size) early_tree × IsConsistent r (with_data ds v) × PutsOwn blocks v ds
+    truncate_starts = (record { nodes = put_early.same.nodes; bytes = early_bytes }, put_early.consistent, puts_own)

@@ -73,5 +73,6 @@ module _ (blocks : ℕ) (pages : ℕ → List ℕ) (whole : (b : ℕ) → b < bl
     pub starts : (r : Result Truncated Refusal) → IfOk r (λ out. Resizes blocks pages at size now out.tx) → IfOk r (λ out. IsTail pages (min at.inode.size size) (tail_block blocks pages at.inode (min at.inode.size size)) out.blocks)
         → IfOk r (λ out. AreWholePages out.blocks) → IfOk r (StartsOn blocks pages inodes path size)
     starts (Ok out) resizes tail full = λ within area bm many con.
-        truncate_starts blocks pages whole area bm inodes con at held shown (some within area bm con) size limit now (record { limit = limit; free = 0; deep = λ dir name. false; inode = None }) refl path (walked within area bm con) many fit out.tx resizes out.blocks tail full
+        let s = truncate_starts blocks pages whole area bm inodes con at held shown (some within area bm con) size limit now (record { limit = limit; free = 0; deep = λ dir name. false; inode = None }) refl path (walked within area bm con) many fit out.tx resizes out.blocks tail full in
+        record { leaves = s.0; consistent = s.1; own = s.2 }
     starts (Err why) resizes tail full = tt

@@ -32,6 +32,7 @@ use Rattle.jfs_data_steps.specs.steps.specs.Laws.{IsFair, TakesAndFrees}
 use Rattle.jfs_data_steps.specs.steps.specs.Put.{AddsInode, TellsLines}
 use Rattle.jfs_data_steps.specs.After.{with_data, after_writes}
 use Rattle.jfs_data_steps.specs.File.{resized}
+use Rattle.jfs_data_steps.specs.Laws.{PutsOwn}
 use Rattle.jfs_truncate.specs.Tail.{blocks_for, tail_way, tail_block, IsTail}
 use Rattle.jfs_truncate.specs.declared.change.Truncated.{Truncated}
 
@@ -99,8 +100,11 @@ abbrev pub FreesOnceOn : ℕ → (ℕ → List ℕ) → Inodes → Truncated →
 FreesOnceOn blocks pages inodes out = PlacesWithin blocks inodes → (area : ℕ → ℕ) (map : Blocks) → length map.states ≡ blocks → IsConsistent (readers blocks) (volume_of pages area map inodes)
     → IsFair out.tx (volume_of pages area map inodes).used
 
--- On a consistent volume the data alone, before the transaction, leaves all objects, and all bytes but those from the new end to the end of its block; and the volume is consistent then.
+-- On a consistent volume the data alone, before the transaction, leaves all objects, and all bytes but those from the new end to the end of its block; and the volume is consistent then. It goes into a block of the file's own.
+pub record StartsIn (blocks : ℕ) (pages : ℕ → List ℕ) (area : ℕ → ℕ) (map : Blocks) (inodes : Inodes) (path : List (List ℕ)) (size : ℕ) (out : Truncated) : Type 0 where
+  pub leaves : LeavesRest (tree_in blocks pages area map inodes) (calls.Truncate path size) (tree_on (readers blocks) (with_data out.blocks (volume_of pages area map inodes)))
+  pub consistent : IsConsistent (readers blocks) (with_data out.blocks (volume_of pages area map inodes))
+  pub own : PutsOwn blocks (volume_of pages area map inodes) out.blocks
+
 abbrev pub StartsOn : ℕ → (ℕ → List ℕ) → Inodes → List (List ℕ) → ℕ → Truncated → Type 0
-StartsOn blocks pages inodes path size out = PlacesWithin blocks inodes → (area : ℕ → ℕ) (map : Blocks) → length map.states ≡ blocks → IsConsistent (readers blocks) (volume_of pages area map inodes)
-    → LeavesRest (tree_in blocks pages area map inodes) (calls.Truncate path size) (tree_on (readers blocks) (with_data out.blocks (volume_of pages area map inodes)))
-    × IsConsistent (readers blocks) (with_data out.blocks (volume_of pages area map inodes))
+StartsOn blocks pages inodes path size out = PlacesWithin blocks inodes → (area : ℕ → ℕ) (map : Blocks) → length map.states ≡ blocks → IsConsistent (readers blocks) (volume_of pages area map inodes) → StartsIn blocks pages area map inodes path size out

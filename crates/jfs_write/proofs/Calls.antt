@@ -189,6 +189,8 @@ fill_starts blocks pages map inodes path offset count byte (Ok out) h = λ many 
   leaves = subst (λ (k : ℕ). LeavesRest (tree_in blocks pages area map inodes) (calls.Fill path offset k byte) (tree_on (readers blocks) (with_data out.blocks (volume_of pages area map inodes)))) (length-replicate {A = ℕ} count byte)
       (as_fill (tree_in blocks pages area map inodes) (tree_on (readers blocks) (with_data out.blocks (volume_of pages area map inodes))) path offset (replicate count byte) byte s.leaves);
   consistent = s.consistent;
+  own = s.own;
+  once = s.once;
   fair = s.fair;
 }
 fill_starts blocks pages map inodes path offset count byte (Err why) h = tt

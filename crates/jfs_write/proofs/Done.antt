@@ -34,7 +34,7 @@ use Rattle.jfs_read.specs.way.specs.declared.object.Held.{Held}
 use Rattle.jfs_link.specs.steps.specs.Call.{IsDone}
 use Rattle.jfs_write_pages.specs.data_steps.specs.declared.pages.DataPage.{DataPage}
 use Rattle.jfs_write_pages.specs.data_steps.specs.After.{AreWholePages, put_data, with_data, after_writes}
-use Rattle.jfs_write_pages.specs.data_steps.specs.Laws.{IsFilePut}
+use Rattle.jfs_write_pages.specs.data_steps.specs.Laws.{IsFilePut, PutsOwn}
 use Rattle.jfs_write_pages.specs.data_steps.specs.File.{bytes_held, refilled}
 use Rattle.jfs_write_pages.specs.data_steps.proofs.Extents.{file_type}
 use Rattle.jfs_write_pages.specs.data_steps.proofs.Files.{file_bytes, file_before}
@@ -43,7 +43,7 @@ use Rattle.jfs_write.specs.Look.{most_bytes, why_kept, FitsBytes, spots_at, want
 use Rattle.jfs_write.specs.Make.{Makes}
 use Rattle.jfs_write.specs.Call.{MayTake, StartsIn}
 use Rattle.jfs_write.specs.declared.make.Written.{Written}
-use Rattle.jfs_write.proofs.Grown.{listed_es, later_es, is_fair, before, file_set, bytes_now, stays_block}
+use Rattle.jfs_write.proofs.Grown.{listed_es, later_es, is_fair, before, put_once, file_set, bytes_now, stays_block}
 
 -- ---- what is allowed
 
@@ -239,9 +239,21 @@ module _ (blocks : ℕ) (pages : ℕ → List ℕ) (whole : (b : ℕ) → b < bl
         over e = ap (λ (x : Result Found Refusal). writes_over_in x (calls.Write path offset bytes) m i) file_is
             ∙ ap (λ (x : Bool). x && (nat_lt i node.size && (nat_le offset i && nat_lt i end))) (eq-eqb n m (sym e))
 
+    puts_own : PutsOwn blocks v ds
+    unfolding spelled
+    puts_own = record {
+      inode = n;
+      file = spelled r pages d;
+      there = was;
+      regular = regular;
+      may = before blocks pages whole area bm inodes many con at held shown some regular es spelled_es offset bytes fits runs free may left now out z full;
+    }
+
     pub write_starts : StartsIn blocks pages area bm inodes (calls.Write path offset bytes) out
     write_starts = record {
       leaves = record { nodes = put_early.same.nodes; bytes = early_bytes };
       consistent = put_early.consistent;
+      own = puts_own;
+      once = put_once blocks pages whole area bm inodes many con at held shown some regular es spelled_es offset bytes fits runs free may left now out z full;
       fair = is_fair blocks pages whole area bm inodes many con at held shown some regular es spelled_es offset bytes fits runs free may left now out z full;
     }

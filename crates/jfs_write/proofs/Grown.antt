@@ -45,7 +45,7 @@ use Rattle.jfs_write_pages.specs.loss.proofs.Counts.{count_append}
 use Rattle.jfs_write_pages.specs.loss.proofs.Holds.{extents_listed}
 use Rattle.jfs_link.specs.steps.specs.Laws.{TakesAndFrees, IsFair}
 use Rattle.jfs_write_pages.specs.data_steps.specs.declared.pages.DataPage.{DataPage}
-use Rattle.jfs_write_pages.specs.data_steps.specs.After.{is_put, AreWholePages, put_data, after_writes, LeavesPage}
+use Rattle.jfs_write_pages.specs.data_steps.specs.After.{is_put, AreWholePages, EachOnce, put_data, after_writes, LeavesPage}
 use Rattle.jfs_write_pages.specs.data_steps.specs.File.{bytes_held}
 use Rattle.jfs_write_pages.specs.data_steps.specs.Laws.{MayPut, SetsFile, IsFileSet}
 use Rattle.jfs_write_pages.specs.data_steps.proofs.Told.{leaves_none, leaves_onto, allocs_leave, changes_leave, lines_leave_others}
@@ -59,7 +59,7 @@ use Rattle.jfs_write_pages.specs.declared.spot.Spot.{Spot}
 use Rattle.jfs_write_pages.specs.Spots.{spots_from, holes_in, placed, extents_for}
 use Rattle.jfs_write_pages.proofs.Blocks.{AreFrom, extents_rows, extents_at, placed_from, covers_more}
 use Rattle.jfs_write_pages.proofs.Given.{extents_rise, rows_long, rows_recorded}
-use Rattle.jfs_write_pages.proofs.Held.{block_is, put_covers, held}
+use Rattle.jfs_write_pages.proofs.Held.{block_is, put_covers, once_put, held}
 use Rattle.jfs_write_pages.proofs.Spotted.{each_map, each_has, was_recorded, IsSpotOf, all_there, range_spots, none_before, none_behind}
 use Rattle.jfs_write.specs.Look.{FitsBytes, spots_at, want_for}
 use Rattle.jfs_write.specs.Tree.{run_allocs, PutsExtents}
@@ -366,6 +366,10 @@ module _ (blocks : ℕ) (pages : ℕ → List ℕ) (whole : (b : ℕ) → b < bl
     put_is : (b : ℕ) → is_put b ds ≡ true → 0 < covers b later_es
     put_is b e = put_covers blocks pages whole d.size offset bytes fits.some es later_es 0 0 bound rises long rises_later long_later to_later once_later first count refl (last_block offset (length bytes) fits)
         news number tree.each ds z.pages_are inside b e
+
+    pub put_once : EachOnce ds
+    put_once = once_put blocks pages whole d.size offset bytes fits.some es later_es 0 0 bound rises long rises_later long_later to_later once_later first count refl (last_block offset (length bytes) fits)
+        news number tree.each ds z.pages_are inside
 
     pub before : MayPut r v n ds
     before b e = elim (zero_or_more (count_in b news)) [

@@ -40,7 +40,8 @@ use Rattle.jfs_read.specs.way.specs.declared.object.Held.{Held}
 use Rattle.jfs_link.specs.steps.specs.Call.{IsDone}
 use Rattle.jfs_link.specs.steps.specs.Laws.{IsFair, TakesAndFrees}
 use Rattle.jfs_link.specs.Link.{ReservesFree}
-use Rattle.jfs_write_pages.specs.data_steps.specs.After.{with_data, after_writes}
+use Rattle.jfs_write_pages.specs.data_steps.specs.After.{EachOnce, with_data, after_writes}
+use Rattle.jfs_write_pages.specs.data_steps.specs.Laws.{PutsOwn}
 use Rattle.jfs_write_pages.specs.Spots.{placed, extents_for}
 use Rattle.jfs_write_pages.specs.declared.spot.Spot.{Spot}
 use Rattle.jfs_write.specs.Look.{why_kept, unless, spelled_at, want_for, spots_at}
@@ -156,10 +157,12 @@ StepsInRoom blocks pages map inodes limit path plain (Ok out) = blocks_in map �
 StepsInRoom blocks pages map inodes limit path plain (Err (Refused why)) = InRoom blocks pages map inodes limit (λ room t. (plain room t ≡ Err why) ⊎ ((is_open why ≡ true) ⊎ IsDeep blocks pages inodes path why))
 StepsInRoom blocks pages map inodes limit path plain (Err NeedsLog) = InRoom blocks pages map inodes limit (λ room t. (u : Tree) × (plain room t ≡ Ok (Done, u)))
 
--- The data alone, before the transaction, leaves all objects, and all bytes but those that the call writes over; and the volume is consistent then. The transaction takes blocks that weren't in use, each once, and frees none.
+-- The data alone, before the transaction, leaves all objects, and all bytes but those that the call writes over; and the volume is consistent then. It goes into the file's own blocks, and such as aren't in use, into each once. The transaction takes blocks that weren't in use, each once, and frees none.
 pub record StartsIn (blocks : ℕ) (pages : ℕ → List ℕ) (area : ℕ → ℕ) (map : Blocks) (inodes : Inodes) (call : Call) (out : Written) : Type 0 where
   pub leaves : LeavesRest (tree_in blocks pages area map inodes) call (tree_on (readers blocks) (with_data out.blocks (volume_of pages area map inodes)))
   pub consistent : IsConsistent (readers blocks) (with_data out.blocks (volume_of pages area map inodes))
+  pub own : PutsOwn blocks (volume_of pages area map inodes) out.blocks
+  pub once : EachOnce out.blocks
   pub fair : IsFair out.tx (volume_of pages area map inodes).used
 
 abbrev pub StartsOn : ℕ → (ℕ → List ℕ) → Blocks → Inodes → Call → Written → Type 0

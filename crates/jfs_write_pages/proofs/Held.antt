@@ -1,5 +1,5 @@
 -- The bytes of a file once its blocks are written: the bytes that were put, and else those that it had.
-use Rattle.std.proofs.Common.{◌≡◌, ◌≢◌, ◌≤◌, ◌<◌, ◌⊎◌, inl, inr, refl, sym, ap, ap₂, ◌∙◌, subst, ℕ, ◌+◌, ◌-◌, ◌*◌, ◌/◌, ◌%◌, ◌&&◌, ◌||◌, ◌==◌, Bool, true, false, not, true≢false, if◌then◌else◌, List, [], ◌∷◌, ◌++◌, length, replicate, Option, Some, None, arith, eqb-true, eq-eqb, ne_eqb}
+use Rattle.std.proofs.Common.{◌≡◌, ◌≢◌, ◌≤◌, ◌<◌, ◌⊎◌, inl, inr, refl, sym, ap, ap₂, ◌∙◌, subst, ℕ, suc, ◌+◌, ◌-◌, ◌*◌, ◌/◌, ◌%◌, ◌&&◌, ◌||◌, ◌==◌, Bool, true, false, not, true≢false, if◌then◌else◌, List, [], ◌∷◌, ◌++◌, length, replicate, Option, Some, None, arith, eqb-true, eq-eqb, ne_eqb}
 use Rattle.std.specs.Prelude.{nat_le, nat_lt, max, get_or}
 use Rattle.std.specs.List.{AllByRecursion as Each}
 use Rattle.std.specs.Int.RustNames.{bit_and}
@@ -16,7 +16,7 @@ use Rattle.jfs_plain.specs.Moves.{byte_after}
 use Rattle.jfs_written.specs.RangeLaws.{or_else}
 use Rattle.jfs_written.proofs.Each.{long_end}
 use Rattle.jfs_data_steps.specs.declared.pages.DataPage.{DataPage}
-use Rattle.jfs_data_steps.specs.After.{is_put, page_put, put_data}
+use Rattle.jfs_data_steps.specs.After.{is_put, page_put, put_data, EachOnce}
 use Rattle.jfs_data_steps.specs.File.{bytes_held}
 use Rattle.jfs_write_pages.specs.declared.spot.Spot.{Spot}
 use Rattle.jfs_write_pages.specs.Spots.{spots_from, spots_between, recorded_spot, holes_in, placed, extents_for}
@@ -24,6 +24,7 @@ use Rattle.jfs_write_pages.specs.Pages.{content, old_page, page_for, pages_for, 
 use Rattle.jfs_write_pages.proofs.Places.{same_index, has_place}
 use Rattle.jfs_write_pages.proofs.Blocks.{extents_at, placed_from}
 use Rattle.jfs_write_pages.proofs.Contents.{byte_for, content_at}
+use Rattle.jfs_write_pages.proofs.Rising.{rises_lower, rises_each, rises_append, from_rises, gap_rises, Rises}
 use Rattle.jfs_write_pages.proofs.Spotted.{Has, has_front, has_back, each_append, each_map, each_has, was_recorded, recorded_at, IsSpotOf, all_there, range_spots, none_before, none_behind, IsGap, gap_each, gap_there}
 
 -- ---- blocks by places
@@ -56,6 +57,9 @@ same_put : (ds : List DataPage) (b : ℕ) (page : List ℕ) → page_put ds b pa
 same_put [] b page = refl
 same_put (d ∷ ds) b page = same_put ds b (if d.block == b then d.page.0 else page)
 
+heads : (x y : ℕ × List ℕ) (xs ys : List (ℕ × List ℕ)) → x ∷ xs ≡ y ∷ ys → (x ≡ y) × (xs ≡ ys)
+heads x y xs ys e = (cc (e), cc (e))
+
 module _ (pages : ℕ → List ℕ) (size offset : ℕ) (bytes : List ℕ) where
   abbrev held_in : Spot → List ℕ
   held_in s = content size offset bytes (4096 * s.index) (old_page pages s)
@@ -86,15 +90,18 @@ module _ (pages : ℕ → List ℕ) (size offset : ℕ) (bytes : List ℕ) where
   put_has (s ∷ ss) [] b e h = absurd (cc (e))
   put_has (s ∷ ss) (d ∷ ds) b e h = by (put_has ss ds b (cc (e))) (d.block == b) refl h
     where
-      heads : (x y : ℕ × List ℕ) (xs ys : List (ℕ × List ℕ)) → x ∷ xs ≡ y ∷ ys → (x ≡ y) × (xs ≡ ys)
-      heads x y xs ys e = (cc (e), cc (e))
-
       parts : ((d.block, d.page.0) ≡ page_for pages size offset bytes s) × (told ds ≡ pages_for pages size offset bytes ss)
       parts = heads (d.block, d.page.0) (page_for pages size offset bytes s) (told ds) (pages_for pages size offset bytes ss) e
 
       by : (is_put b ds ≡ true → (y : Spot) × Has y ss × (y.block ≡ b)) → (x : Bool) → (d.block == b) ≡ x → (x || is_put b ds) ≡ true → (y : Spot) × Has y (s ∷ ss) × (y.block ≡ b)
       by more true t h = (s, inl refl, sym (ap (λ (p : ℕ × List ℕ). p.0) parts.0) ∙ eqb-true d.block b t)
       by more false t h = let r = more h in (r.0, inr r.1, r.2)
+
+-- ---- how pages are told
+
+told_parts : (pages : ℕ → List ℕ) (size offset : ℕ) (bytes : List ℕ) (d : DataPage) (ds : List DataPage) (s : Spot) (ss : List Spot) → told (d ∷ ds) ≡ pages_for pages size offset bytes (s ∷ ss)
+    → (d.block ≡ s.block) × (told ds ≡ pages_for pages size offset bytes ss)
+told_parts pages size offset bytes d ds s ss e = let h = heads (d.block, d.page.0) (page_for pages size offset bytes s) (told ds) (pages_for pages size offset bytes ss) e in (ap (λ (p : ℕ × List ℕ). p.0) h.0, h.1)
 
 -- ---- byte by byte
 
@@ -164,6 +171,30 @@ module _ (blocks : ℕ) (pages : ℕ → List ℕ) (whole : (b : ℕ) → b < bl
     where
       same_fields : (i j b c : ℕ) (r t : Bool) → i ≡ j → b ≡ c → r ≡ t → ◌≡◌ {A = Spot} (record { index = i; block = b; recorded = r }) (record { index = j; block = c; recorded = t })
       same_fields i j b c r t e f g = rw (e, f, g) refl
+
+  -- none of them is put twice
+  once_from : (k : ℕ) (ss : List Spot) (ds : List DataPage) → Rises k ss → Each IsTouched ss → told ds ≡ pages_for pages size offset bytes ss → EachOnce ds
+  once_from k ss [] rise t e = tt
+  once_from k [] (d ∷ ds) rise t e = absurd (cc (e))
+  once_from k (s ∷ ss) (d ∷ ds) rise t e = (by (is_put d.block ds) refl, once_from (suc s.index) ss ds rise.1 t.1 parts.1)
+    where
+      parts : (d.block ≡ s.block) × (told ds ≡ pages_for pages size offset bytes ss)
+      parts = told_parts pages size offset bytes d ds s ss e
+
+      by : (x : Bool) → is_put d.block ds ≡ x → is_put d.block ds ≡ false
+      by false h = h
+      by true h =
+          let x = put_has pages size offset bytes ss ds d.block parts.1 h in
+          let i = index_is s x.0 t.0 (each_has IsTouched x.0 ss t.1 x.1) (x.2 ∙ parts.0) in
+          let l = each_has (λ y. suc s.index ≤ y.index) x.0 ss (rises_each (suc s.index) ss rise.1) x.1 in
+          absurd (omega (arith, i, l))
+
+  pub once_put : EachOnce ds
+  once_put = once_from 0 (gap ++ all) ds
+      (rises_append 0 first gap all (rises_lower low 0 gap (omega arith) (gap_rises (size / 4096) first low es rises long))
+      (each_map (λ s. (low ≤ s.index) × IsGap (size / 4096) first es s) (λ s. s.index < first) (λ s p. p.1.high) gap (gap_each (size / 4096) first low es rises long))
+      (omega arith) (from_rises first all (placed_from first es n news long)))
+      touched is_told
 
   pub put_spot : (s : Spot) → Has s (gap ++ all) → put_data ds pages s.block ≡ content size offset bytes (4096 * s.index) (old_page pages s)
   put_spot s has = same_put ds s.block (pages s.block) ∙ ap (λ (ps : List (ℕ × List ℕ)). put_pairs ps s.block (pages s.block)) is_told

@@ -3,5 +3,6 @@ pub mod Blocks
 pub mod Given
 pub mod Contents
 pub mod Spotted
+pub mod Rising
 pub mod Held
 pub mod Steps

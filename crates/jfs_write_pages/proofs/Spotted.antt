@@ -5,7 +5,7 @@ use Rattle.std.specs.List.{AllByRecursion as Each}
 use Rattle.std.proofs.lemmas.Bool.Decides.{nat_tests}
 use Rattle.jfs_bits.specs.declared.extent.Xad.{Xad}
 use Rattle.jfs_xtpage.specs.Page.{end_of, rises_from}
-use Rattle.jfs_data_steps.specs.xtree.specs.Writing.{is_recorded, AllLong, AllTo, Place, place_in, place_at}
+use Rattle.jfs_data_steps.specs.xtree.specs.Writing.{is_recorded, AllLong, Place, place_in, place_at}
 use Rattle.jfs_data_steps.specs.xtree.specs.Writing as writing
 use Rattle.jfs_data_steps.specs.objects.proofs.Sums.{eq_or_not}
 use Rattle.jfs_written.specs.RangeLaws.{or_else}
@@ -206,7 +206,7 @@ run_has k b (suc n) j l m = elim (eq_or_not j k) [
 
 module _ (from to : ℕ) where
   -- those of one extent
-  in_each : (e : Xad) → 1 ≤ e.at.len → Each (λ s. (writing.has_block e s.index ≡ true) × (place_in e s.index ≡ record { block = s.block; recorded = true }) × (s.recorded ≡ true) × (from ≤ s.index) × (s.index < to)) (spots_in from to e)
+  pub in_each : (e : Xad) → 1 ≤ e.at.len → Each (λ s. (writing.has_block e s.index ≡ true) × (place_in e s.index ≡ record { block = s.block; recorded = true }) × (s.recorded ≡ true) × (from ≤ s.index) × (s.index < to)) (spots_in from to e)
   in_each e some = by (is_recorded e) refl
     where
       Q : Spot → Type 0

@@ -1,4 +1,4 @@
-use Rattle.std.proofs.Common.{sym, min}
+use Rattle.std.proofs.Common.{sym, min, inr}
 use Rattle.jfs_disk.specs.Image.{page_of}
 use Rattle.jfs_look.specs.meaning.specs.Readers.{readers}
 use Rattle.jfs_look.specs.meaning.specs.Room.{room_on}
@@ -29,7 +29,14 @@ returns-in-Ok-clause-single g c tells =
 pub returns-in-Ok-clause-starts : goal.returns-in-Ok-clause-starts
 returns-in-Ok-clause-starts g c tells between area con log_pages limit =
     let starts = rw c.as_slice-names.ensures at (c.in-Ok.ensures.starts tells between.within area c.args.maps.now.blocks c.requires.size con) in
-    record { rest = starts.0; consistent = starts.1 }
+    let cuts = c.in-Ok.ensures.cuts tells in
+    let kept = min cuts.at.inode.size c.args.end in
+    record {
+      rest = starts.leaves;
+      consistent = starts.consistent;
+      own = inr starts.own;
+      once = tail_once (page_of (g.V.PageView.image c.args.view.now)) kept (tail_block (g.V.PageView.block_count c.args.view.now) (page_of (g.V.PageView.image c.args.view.now)) cuts.at.inode kept) c.in-Ok.out.blocks cuts.tail;
+    }
 
 pub returns-in-Ok-clause-once : goal.returns-in-Ok-clause-once
 returns-in-Ok-clause-once g c tells between area con log_pages limit =
