@@ -1,0 +1,4 @@
+pub mod OwnPlaces
+pub mod Pages
+pub mod Items
+pub mod Images

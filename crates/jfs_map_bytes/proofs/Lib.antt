@@ -1,0 +1,10 @@
+pub mod Bytes
+pub mod Joined
+pub mod Tree
+pub mod Dmap
+pub mod Control
+pub mod Lists
+pub mod First
+pub mod Iag
+pub mod InodeControl
+pub mod Whole
