@@ -1,5 +1,5 @@
 -- What a path leads to on a consistent volume.
-use Rattle.std.proofs.Common.{◌≡◌, ◌<◌, refl, sym, ap, ◌∙◌, subst, ℕ, ◌%◌, nat_lt, Bool, true, false, List, [], ◌∷◌, Option, Some, None, Result, Ok, Err, is_some, if◌then◌else◌}
+use Rattle.std.proofs.Common.{◌≡◌, ◌⊎◌, ◌<◌, refl, inl, inr, sym, ap, ◌∙◌, subst, ℕ, ◌%◌, nat_lt, Bool, true, false, List, [], ◌∷◌, Option, Some, None, Result, Ok, Err, is_some, if◌then◌else◌}
 use Rattle.std.proofs.lemmas.Bool.{ltb-true}
 use Rattle.jfs_bits.specs.Broken.{first_broken}
 use Rattle.jfs_inode.specs.Rules.{rows}
@@ -11,14 +11,14 @@ use Rattle.jfs_chmod.specs.steps.specs.bmap.specs.States.{Blocks}
 use Rattle.jfs_chmod.specs.steps.specs.objects.specs.Volume.{Volume, home, slot_of}
 use Rattle.jfs_chmod.specs.steps.specs.objects.specs.Objects.{spelled, has_names}
 use Rattle.jfs_chmod.specs.steps.specs.meaning.specs.Readers.{readers, root_of}
-use Rattle.jfs_chmod.specs.steps.specs.meaning.specs.Consistent.{IsConsistent}
-use Rattle.jfs_chmod.specs.steps.specs.way.specs.Volume.{volume_of, PlacesWithin}
+use Rattle.jfs_chmod.specs.steps.specs.meaning.specs.Consistent.{IsConsistent, MayBeNamed}
+use Rattle.jfs_chmod.specs.steps.specs.way.specs.Volume.{volume_of}
 use Rattle.jfs_chmod.specs.steps.specs.way.specs.Walk.{IsThere, tree_in}
 use Rattle.jfs_chmod.specs.steps.specs.way.specs.Way.{held_on, if_whole, if_within, inode_on, inode_at, inode_named, if_unbroken, name_from, path_from, path_of}
 use Rattle.jfs_chmod.specs.steps.specs.way.specs.declared.object.Held.{Held}
 use Rattle.jfs_chmod.specs.steps.specs.way.proofs.Places.{home_is}
 use Rattle.jfs_chmod.specs.steps.specs.way.proofs.Nodes.{there, in_directory}
-use Rattle.jfs_calls_logged.specs.Found.{IsFound, FoundLaw}
+use Rattle.jfs_calls_logged.specs.Found.{IsFound, IsNamed, FoundLaw}
 use Rattle.jfs_bits.specs.declared.rule.Rule.{Rule}
 use Rattle.jfs_chmod.specs.steps.specs.way.specs.dtree.specs.Spells.{spells_names, broken_for, found_for}
 use Rattle.jfs_chmod.specs.steps.specs.way.specs.dtree.proofs.Replaced.{way_named}
@@ -62,15 +62,15 @@ unbroken : (page : ℕ) (bad : Option (ℕ × Rule)) (given : Result Held Refusa
 unbroken page None given at h = h
 unbroken page (Some bad) given at h = absurd (cc (h))
 
-module _ (blocks : ℕ) (pages : ℕ → List ℕ) (area : ℕ → ℕ) (map : Blocks) (inodes : Inodes) (placed : PlacesWithin blocks inodes) (c : IsConsistent (readers blocks) (volume_of pages area map inodes)) where
+module _ (blocks : ℕ) (pages : ℕ → List ℕ) (area : ℕ → ℕ) (map : Blocks) (inodes : Inodes) (c : IsConsistent (readers blocks) (volume_of pages area map inodes)) where
   abbrev v : Volume
   v = volume_of pages area map inodes
 
   abbrev t : Tree
   t = tree_in blocks pages area map inodes
 
-  found : (n : ℕ) (at : Held) → IsAt blocks pages inodes n at → IsThere t n → IsFound blocks pages area map inodes at
-  found n at a some =
+  found : (n : ℕ) (at : Held) → IsAt blocks pages inodes n at → IsThere t n → (n ≡ root) ⊎ MayBeNamed t n → IsFound blocks pages area map inodes at
+  found n at a some reached =
       let here = subst (IsThere t) (sym a.number) some in
       let stood : home v.extents at.number ≡ Some at.page = home_is inodes at.number ∙ ap (home_of inodes) a.number ∙ a.home_at in
       let shown : at.inode ≡ slot_of (pages at.page) (at.number % 8) = a.shown ∙ ap (λ (k : ℕ). slot_of (pages at.page) (k % 8)) (sym a.number) in
@@ -80,23 +80,27 @@ module _ (blocks : ℕ) (pages : ℕ → List ℕ) (area : ℕ → ℕ) (map : B
         shown = shown;
         there = here;
         was = there blocks v c at.number at.page stood here ∙ ap (λ (d : Dinode). Some (spelled (readers blocks) pages d)) (sym shown);
+        reached = subst (λ (k : ℕ). (k ≡ root) ⊎ MayBeNamed t k) (sym a.number) reached;
       }
 
   -- what a name leads to
   module _ (at : Held) (f : IsFound blocks pages area map inodes at) (name : List ℕ) (next : Held) where
-    of_name : has_names at.inode ≡ true → (m : Option ℕ) → found_for blocks pages (root_of at.inode) name ≡ m → inode_named blocks pages inodes at.page m ≡ Ok next → IsFound blocks pages area map inodes next
+    of_name : has_names at.inode ≡ true → (m : Option ℕ) → found_for blocks pages (root_of at.inode) name ≡ m → inode_named blocks pages inodes at.page m ≡ Ok next → IsFound blocks pages area map inodes next × IsNamed blocks pages area map inodes at next name
     of_name dir None e g = absurd (cc (g))
     of_name dir (Some m) e g =
         let d = in_directory blocks v c at.number at.page f.home_is f.there (ap has_names (sym f.shown) ∙ dir) in
         let spelled_at = ap (λ (x : Dinode). spells_names blocks pages (root_of x)) f.shown ∙ d.1 in
-        found m next (is_at blocks pages inodes at.page m next g) (d.3 name m (sym (way_named blocks pages (root_of at.inode) name d.0 spelled_at) ∙ e)).1
+        let names_it = sym (way_named blocks pages (root_of at.inode) name d.0 spelled_at) ∙ e in
+        let may = d.3 name m names_it in
+        let a = is_at blocks pages inodes at.page m next g in
+        (found m next a may.1 (inr may), record { is_dir = dir; names = d.0; spelled_names = spelled_at; names_it = names_it ∙ ap (λ (k : ℕ). Some k) (sym a.number); may = subst (MayBeNamed t) (sym a.number) may })
 
-    next_found : name_from blocks pages inodes at name ≡ Ok next → IsFound blocks pages area map inodes next
+    pub next_found : name_from blocks pages inodes at name ≡ Ok next → IsFound blocks pages area map inodes next × IsNamed blocks pages area map inodes at next name
     next_found h = by (has_names at.inode) refl h
       where
         by : (x : Bool) → has_names at.inode ≡ x
             → (if x then if_unbroken at.page (broken_for blocks pages (root_of at.inode) name) (inode_named blocks pages inodes at.page (found_for blocks pages (root_of at.inode) name)) else Err NotDir) ≡ Ok next
-            → IsFound blocks pages area map inodes next
+            → IsFound blocks pages area map inodes next × IsNamed blocks pages area map inodes at next name
         by false e g = absurd (cc (g))
         by true e g = of_name e (found_for blocks pages (root_of at.inode) name) refl
             (unbroken at.page (broken_for blocks pages (root_of at.inode) name) (inode_named blocks pages inodes at.page (found_for blocks pages (root_of at.inode) name)) next g)
@@ -115,10 +119,13 @@ module _ (blocks : ℕ) (pages : ℕ → List ℕ) (area : ℕ → ℕ) (map : B
 
   along : (names : List (List ℕ)) (end at : Held) → IsFound blocks pages area map inodes at → path_from blocks pages inodes at names ≡ Ok end → IsFound blocks pages area map inodes end
   along [] end at f h = subst (IsFound blocks pages area map inodes) (ok_is at end h) f
-  along (name ∷ names) end at f h = step names end (name_from blocks pages inodes at name) (next_found at f name) (along names end) h
+  along (name ∷ names) end at f h = step names end (name_from blocks pages inodes at name) (λ next e. (next_found at f name next e).0) (along names end) h
 
   pub path_found : (path : List (List ℕ)) (end : Held) → path_of blocks pages inodes path ≡ Ok end → IsFound blocks pages area map inodes end
-  path_found path end h = step path end (inode_at blocks pages inodes no_page root) (λ at e. found root at (is_at blocks pages inodes no_page root at e) (ap is_some c.tree.top.1.there)) (along path end) h
+  path_found path end h = step path end (inode_at blocks pages inodes no_page root) (λ at e. found root at (is_at blocks pages inodes no_page root at e) (ap is_some c.tree.top.1.there) (inl refl)) (along path end) h
 
 pub found_law : FoundLaw
-found_law blocks pages area map inodes path at placed c h = path_found blocks pages area map inodes placed c path at h
+found_law = record {
+  paths = λ blocks pages area map inodes path at c h. path_found blocks pages area map inodes c path at h;
+  names = λ blocks pages area map inodes dir at name c f h. (next_found blocks pages area map inodes c dir f name at h).1;
+}

@@ -157,4 +157,4 @@ module _ (blocks : ℕ) (pages : ℕ → List ℕ) (area : ℕ → ℕ) (bm : Bl
 
 pub mode_law : ModeLaw
 mode_law blocks pages area bm inodes path mode now tx ready few (at, e, adds, tells) =
-    mode_logged blocks pages area bm inodes ready path mode now few tx at (path_found blocks pages area bm inodes ready.placed ready.consistent path at e) adds tells
+    mode_logged blocks pages area bm inodes ready path mode now few tx at (path_found blocks pages area bm inodes ready.consistent path at e) adds tells

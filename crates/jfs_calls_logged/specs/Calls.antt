@@ -8,7 +8,7 @@ use Rattle.jfs_chmod.specs.steps.specs.After.{after_call}
 use Rattle.jfs_chmod.specs.steps.specs.bmap.specs.States.{Blocks}
 use Rattle.jfs_chmod.specs.steps.specs.meaning.specs.Readers.{readers}
 use Rattle.jfs_chmod.specs.steps.specs.meaning.specs.Consistent.{IsConsistent}
-use Rattle.jfs_chmod.specs.steps.specs.way.specs.Volume.{volume_of, PlacesWithin}
+use Rattle.jfs_chmod.specs.steps.specs.way.specs.Volume.{volume_of}
 use Rattle.jfs_logged.specs.Logged.{LogsWell}
 
 -- The pages of a file system part of so many blocks, each of 4,096 bytes, and no others.
@@ -16,10 +16,9 @@ pub record ArePages (blocks : ℕ) (pages : ℕ → List ℕ) : Type 0 where
   pub sizes : (b : ℕ) → b < blocks → length (pages b) ≡ 4096
   pub none : (b : ℕ) → blocks ≤ b → pages b ≡ []
 
--- A volume on which calls may be done: its pages and both maps between calls.
+-- A volume on which calls may be done: its pages and both maps.
 pub record IsReady (blocks : ℕ) (pages : ℕ → List ℕ) (area : ℕ → ℕ) (map : Blocks) (inodes : Inodes) : Type 0 where
   pub are_pages : ArePages blocks pages
-  pub placed : PlacesWithin blocks inodes
   pub consistent : IsConsistent (readers blocks) (volume_of pages area map inodes)
 
 -- A call's transaction logs what the log keeps safe.

@@ -15,7 +15,7 @@ use Rattle.jfs_logged.specs.Logged.{logged_in, LogsPage, JoinLaw, PageLaw}
 pub never : {A : Type 0} (b : Bool) → b ≡ true → b ≡ false → A
 never b e d = absurd (let x : true ≡ false = sym e ∙ d in cc)
 
-closes_onto : (p : ℕ) (tx more : List Edit) → closes_in p (tx ++ more) ≡ (closes_in p tx || closes_in p more)
+pub closes_onto : (p : ℕ) (tx more : List Edit) → closes_in p (tx ++ more) ≡ (closes_in p tx || closes_in p more)
 closes_onto p [] more = refl
 closes_onto p (e ∷ es) more = ap (λ (b : Bool). is_noredo p e || b) (closes_onto p es more) ∙ assoc (is_noredo p e) (closes_in p es) (closes_in p more)
   where
@@ -24,7 +24,7 @@ closes_onto p (e ∷ es) more = ap (λ (b : Bool). is_noredo p e || b) (closes_o
     assoc false b c = refl
 
 -- what follows the last NoRedo of the page
-rest_onto : (p : ℕ) (tx more : List Edit) → rest_of p (tx ++ more) ≡ (if closes_in p more then rest_of p more else rest_of p tx ++ more)
+pub rest_onto : (p : ℕ) (tx more : List Edit) → rest_of p (tx ++ more) ≡ (if closes_in p more then rest_of p more else rest_of p tx ++ more)
 unfolding rest_of
 rest_onto p [] more = at (closes_in p more) refl
   where
@@ -44,7 +44,7 @@ rest_onto p (e ∷ es) more = at (closes_in p more) (closes_in p es) (is_noredo 
     at false false true c rest closes = let none : closes_in p (es ++ more) ≡ false = closes ∙ c in rw none refl
     at false false false c rest closes = let none : closes_in p (es ++ more) ≡ false = closes ∙ c in rw none refl
 
-module _ (p : ℕ) (was mid now : Bool) (tx more : List Edit) (before between after : List ℕ) (size : length before ≡ 4096) (first : LogsPage p was mid tx between) (later : LogsPage p mid now more after) (goes : after ≡ apply_tx p more between) where
+module _ (p : ℕ) (was mid now : Bool) (tx more : List Edit) (between after : List ℕ) (first : LogsPage p was mid tx between) (later : LogsPage p mid now more after) (goes : after ≡ apply_tx p more between) where
   -- the later part has no NoRedo of the page
   module _ (none : closes_in p more ≡ false) where
     rest_is : rest_of p (tx ++ more) ≡ rest_of p tx ++ more
@@ -103,10 +103,10 @@ module _ (p : ℕ) (was mid now : Bool) (tx more : List Edit) (before between af
       noted gone there (inr out) = or_left (closes_in p tx) (closes_in p more) (first.noted out there)
 
 pub join_law : JoinLaw
-join_law r v w u tx more sizes first later fresh = record {
+join_law r v w u tx more first later fresh = record {
   owners = kept_law.chained r v w u first.owners later.owners fresh;
   pages = λ p. later.pages p ∙ ap (apply_tx p more) (first.pages p) ∙ sym (applied_onto p tx more (v.page p));
-  logs = λ p. page_joined p (logged_in r v p) (logged_in r w p) (logged_in r u p) tx more (v.page p) (w.page p) (u.page p) (sizes p) (first.logs p) (later.logs p) (later.pages p);
+  logs = λ p. page_joined p (logged_in r v p) (logged_in r w p) (logged_in r u p) tx more (w.page p) (u.page p) (first.logs p) (later.logs p) (later.pages p);
 }
 
 -- ---- one page

@@ -3,3 +3,5 @@ pub mod OneObject
 pub mod Staged
 pub mod Edited
 pub mod Pages
+pub mod Ordered
+pub mod Written

@@ -17,7 +17,7 @@ use Rattle.jfs_tree.proofs.Telling.{overlaid_run}
 use Rattle.jfs_recovery.specs.crash_core.proofs.Bytes.{apply_tx-untouched}
 use Rattle.jfs_recovery.specs.records.specs.Redo.{closes_in, is_noredo}
 use Rattle.jfs_halves.specs.Marks.{frees_page}
-use Rattle.jfs_logged.specs.Stages.{LeavesPage}
+use Rattle.jfs_logged.specs.Logged.{LeavesPage}
 use Rattle.jfs_logged.specs.Trees.{PagesLaw}
 use Rattle.jfs_logged.proofs.Staged.{runs_law}
 
@@ -52,7 +52,7 @@ whole_apart p n kind new ne s = false_or (nat_lt place (4096 * p + 4096) && nat_
         absurd (ne (omega (arith, low, high, s)))
 
 -- runs of a page that has the bytes it had are none
-no_runs : (n : ℕ) (kind : PageKind) (page : List ℕ) (first : ℕ) (tx : List Edit) → IsRuns n kind page page first tx → tx ≡ []
+pub no_runs : (n : ℕ) (kind : PageKind) (page : List ℕ) (first : ℕ) (tx : List Edit) → IsRuns n kind page page first tx → tx ≡ []
 no_runs n kind page first [] h = refl
 no_runs n kind page first (Lines m own at bytes ∷ tx) (a, b, c, d, (end, e, f, g, k, l, rest)) = absurd (k at (omega arith) e refl)
 no_runs n kind page first (NoRedo m ∷ tx) h = absurd h
@@ -61,7 +61,7 @@ no_runs n kind page first (Free run ∷ tx) h = absurd h
 
 -- ---- edits that are one after another
 
-closes_onto : (p : ℕ) (xs ys : List Edit) → closes_in p xs ≡ false → closes_in p ys ≡ false → closes_in p (xs ++ ys) ≡ false
+pub closes_onto : (p : ℕ) (xs ys : List Edit) → closes_in p xs ≡ false → closes_in p ys ≡ false → closes_in p (xs ++ ys) ≡ false
 closes_onto p [] ys a b = b
 closes_onto p (x ∷ xs) ys a b = at (is_noredo p x) a (λ e. closes_onto p xs ys e b)
   where
@@ -69,10 +69,10 @@ closes_onto p (x ∷ xs) ys a b = at (is_noredo p x) a (λ e. closes_onto p xs y
     at true e rest = absurd (cc (e))
     at false e rest = rest e
 
-leaves_onto : (p : ℕ) (xs ys : List Edit) → LeavesPage p xs → LeavesPage p ys → LeavesPage p (xs ++ ys)
+pub leaves_onto : (p : ℕ) (xs ys : List Edit) → LeavesPage p xs → LeavesPage p ys → LeavesPage p (xs ++ ys)
 leaves_onto p xs ys a b page s = applied_onto p xs ys page ∙ ap (apply_tx p ys) (a page s) ∙ b page s
 
-frees_onto : (p : ℕ) (xs ys : List Edit) → frees_page p ys ≡ true → frees_page p (xs ++ ys) ≡ true
+pub frees_onto : (p : ℕ) (xs ys : List Edit) → frees_page p ys ≡ true → frees_page p (xs ++ ys) ≡ true
 frees_onto p [] ys h = h
 frees_onto p (x ∷ xs) ys h = ap (λ (b : Bool). (is_noredo p x && not (touches_tx p (xs ++ ys))) || b) (frees_onto p xs ys h) ∙ or_true (is_noredo p x && not (touches_tx p (xs ++ ys)))
   where
@@ -90,19 +90,19 @@ allocs_close : (p : ℕ) (ns : List ℕ) → closes_in p (allocs_of ns) ≡ fals
 allocs_close p [] = refl
 allocs_close p (n ∷ ns) = allocs_close p ns
 
-marks_touch : (p : ℕ) (ns : List ℕ) → touches_tx p (page_marks ns) ≡ false
+pub marks_touch : (p : ℕ) (ns : List ℕ) → touches_tx p (page_marks ns) ≡ false
 marks_touch p [] = refl
 marks_touch p (n ∷ ns) = marks_touch p ns
 
-marks_close : (p : ℕ) (ns : List ℕ) → closes_in p (page_marks ns) ≡ false
+pub marks_close : (p : ℕ) (ns : List ℕ) → closes_in p (page_marks ns) ≡ false
 marks_close p [] = refl
 marks_close p (n ∷ ns) = marks_close p ns
 
-frees_touch : (p : ℕ) (ns : List ℕ) (ys : List Edit) → touches_tx p ys ≡ false → touches_tx p (page_no_redos ns ++ ys) ≡ false
+pub frees_touch : (p : ℕ) (ns : List ℕ) (ys : List Edit) → touches_tx p ys ≡ false → touches_tx p (page_no_redos ns ++ ys) ≡ false
 frees_touch p [] ys h = h
 frees_touch p (n ∷ ns) ys h = frees_touch p ns ys h
 
-frees_close : (p : ℕ) (ns : List ℕ) (ys : List Edit) → count_in p ns ≡ 0 → closes_in p ys ≡ false → closes_in p (page_no_redos ns ++ ys) ≡ false
+pub frees_close : (p : ℕ) (ns : List ℕ) (ys : List Edit) → count_in p ns ≡ 0 → closes_in p ys ≡ false → closes_in p (page_no_redos ns ++ ys) ≡ false
 frees_close p [] ys none h = h
 frees_close p (n ∷ ns) ys none h = at (n == p) none (λ e. frees_close p ns ys e h)
   where
@@ -110,7 +110,7 @@ frees_close p (n ∷ ns) ys none h = at (n == p) none (λ e. frees_close p ns ys
     at true e rest = absurd (omega (arith, e))
     at false e rest = rest (omega (arith, e))
 
-frees_them : (p : ℕ) (ns : List ℕ) (ys : List Edit) → 0 < count_in p ns → touches_tx p ys ≡ false → frees_page p (page_no_redos ns ++ ys) ≡ true
+pub frees_them : (p : ℕ) (ns : List ℕ) (ys : List Edit) → 0 < count_in p ns → touches_tx p ys ≡ false → frees_page p (page_no_redos ns ++ ys) ≡ true
 frees_them p [] ys some h = absurd (omega (arith, some))
 frees_them p (n ∷ ns) ys some h = at (n == p) some (λ e. frees_them p ns ys e h)
   where

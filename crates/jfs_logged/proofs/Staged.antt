@@ -96,5 +96,6 @@ module _ (n : ℕ) (kind : PageKind) (old new : List ℕ) where
 pub runs_law : RunsLaw
 runs_law n kind old new first tx h = record {
   closes_none = λ p. closes_none n kind old new first tx p h;
+  quiet = λ p ne. untouched n kind old new first tx p ne h;
   others = λ p ne a s. apply_tx-untouched p tx a s (untouched n kind old new first tx p ne h);
 }

@@ -2,7 +2,7 @@
 use Rattle.std.specs.Prelude.{◌≡◌, ◌≢◌, ℕ, true, false, List, length}
 use Rattle.jfs_bits.specs.declared.rule.PageKind.{PageKind}
 use Rattle.jfs_ranges.specs.declared.edit.Edit.{Edit}
-use Rattle.jfs_ranges.specs.Apply.{apply_tx}
+use Rattle.jfs_ranges.specs.Apply.{apply_tx, touches_tx}
 use Rattle.jfs_tree.specs.Tell.{IsRuns}
 use Rattle.jfs_recovery.specs.records.specs.Redo.{closes_in}
 use Rattle.jfs_recovery.specs.objects.specs.Readers.{Readers}
@@ -10,11 +10,7 @@ use Rattle.jfs_recovery.specs.objects.specs.Volume.{Volume}
 use Rattle.jfs_recovery.specs.objects.specs.Owners.{Agrees}
 use Rattle.jfs_recovery.specs.kinds.specs.Laws.{OwnersStay}
 use Rattle.jfs_halves.specs.Marks.{frees_page}
-use Rattle.jfs_logged.specs.Logged.{logged_in, LogsWell}
-
--- edits leave a page, whatever it holds
-abbrev pub LeavesPage : ℕ → List Edit → Type 0
-LeavesPage p tx = (a : List ℕ) → length a ≡ 4096 → apply_tx p tx a ≡ a
+use Rattle.jfs_logged.specs.Logged.{logged_in, LeavesPage, LogsWell}
 
 -- The pages are those that the edits make. A page that has a NoRedo is freed by them. Of the others they leave those that the log doesn't keep safe then, none of which it did before; and a block that comes into use as one that it does is told whole.
 pub record TellsStage (r : Readers) (v w : Volume) (tx : List Edit) : Type 0 where
@@ -29,9 +25,10 @@ StageLaw = (r : Readers) (v w : Volume) (tx : List Edit) → Agrees r v → Agre
 
 -- ---- the runs of one page
 
--- Edits that are the runs of lines of one page that changed have no NoRedo, and leave each other page.
+-- Edits that are the runs of lines of one page that changed have no NoRedo, and neither put a byte into another page nor change it.
 pub record ArePageRuns (n : ℕ) (tx : List Edit) : Type 0 where
   pub closes_none : (p : ℕ) → closes_in p tx ≡ false
+  pub quiet : (p : ℕ) → p ≢ n → touches_tx p tx ≡ false
   pub others : (p : ℕ) → p ≢ n → LeavesPage p tx
 
 abbrev pub RunsLaw : Type 0

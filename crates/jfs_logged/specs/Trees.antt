@@ -10,7 +10,7 @@ use Rattle.jfs_tree.specs.Removes.{page_frees}
 use Rattle.jfs_tree.specs.Tell.{is_in}
 use Rattle.jfs_recovery.specs.records.specs.Redo.{closes_in}
 use Rattle.jfs_halves.specs.Marks.{frees_page}
-use Rattle.jfs_logged.specs.Stages.{LeavesPage}
+use Rattle.jfs_logged.specs.Logged.{LeavesPage}
 
 -- Of pages that changed, of which some were taken, and of others that are freed.
 pub record TellsPages (taken freed changed : List ℕ) (old new : ℕ → List ℕ) (tx : List Edit) : Type 0 where

@@ -1,10 +1,11 @@
 //! What holds of the parts of a transaction.
 
-ghost use Rattle.jfs_logged.specs.Logged.{JoinLaw, PageLaw};
+ghost use Rattle.jfs_logged.specs.Logged.{JoinLaw, OrderLaw, PageLaw};
 ghost use Rattle.jfs_logged.specs.Edits.{EditsLaw, InodeLaw};
 ghost use Rattle.jfs_logged.specs.Kinds.{KindsLaw};
 ghost use Rattle.jfs_logged.specs.Stages.{RunsLaw, StageLaw};
 ghost use Rattle.jfs_logged.specs.Trees.{PagesLaw};
+ghost use Rattle.jfs_logged.specs.Written.{TreesLaw};
 
 /// Two parts of a transaction that each log what the log keeps safe, and leave the owners of blocks that stay in use, do so together, where the later one takes no block that the first one freed.
 pub fn parts_are_logged_together()
@@ -44,4 +45,14 @@ pub fn inodes_are_logged()
 /// What a call on a page tree tells: a page that it freed is freed with no line behind that, one that was taken and changed is told whole, and one that has the bytes it had is left.
 pub fn tree_pages_are_told()
     ensures { PagesLaw }
+{}
+
+/// Of two parts either may come first, where the one leaves each page and the other those of which it has a NoRedo.
+pub fn order_of_parts_is_free()
+    ensures { OrderLaw }
+{}
+
+/// An object that is set by a call on its tree and by the runs of its inode's page logs what matters, where each tree page that comes is told whole and each that goes is freed; and so does one that goes with all that it has.
+pub fn objects_and_their_trees_are_logged()
+    ensures { TreesLaw }
 {}

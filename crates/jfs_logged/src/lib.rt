@@ -5,6 +5,6 @@ mod law;
 
 pub use law::{
     edits_of_objects_are_logged, inodes_and_directories_keep_kinds, inodes_are_logged,
-    pages_are_logged, parts_are_logged_together, runs_leave_other_pages, stages_are_logged,
-    tree_pages_are_told,
+    objects_and_their_trees_are_logged, order_of_parts_is_free, pages_are_logged,
+    parts_are_logged_together, runs_leave_other_pages, stages_are_logged, tree_pages_are_told,
 };
