@@ -5,6 +5,7 @@ use Rattle.jfs_disk.specs.declared.disk.Fault.{Fault}
 use Rattle.jfs_ranges.specs.declared.edit.Edit.{Edit}
 use Rattle.jfs_files.specs.bmap.specs.States.{BlockState}
 use Rattle.jfs_files.specs.bmap.proofs.Views.{length-each_below}
+use Rattle.jfs_files.specs.data_steps.specs.After.{EachOnce}
 use Rattle.jfs_files.specs.data_steps.specs.declared.pages.DataPage.{DataPage}
 use Rattle.jfs_volume_calls.specs.pages.specs.Device.{IsFault}
 use Rattle.jfs_plain.specs.CallStep.{writes}
@@ -16,6 +17,7 @@ use Rattle.jfs_plain.specs.declared.reply.Reply.{Reply}
 use Rattle.jfs_plain.specs.declared.reply.Reply.TheVariants as replies
 use Rattle.jfs_volume_calls.specs.halves.specs.Parts.{Parts}
 use Rattle.jfs_volume_calls.specs.volume.specs.Called.{JoinsWith, JoinsNot, GivesBack, MayGiveBack, FailsBy}
+use Rattle.jfs_volume_calls.specs.volume.specs.Data.{IsPartlyPut}
 use Rattle.jfs_volume_calls.specs.volume.specs.Join.{entry_with, with_entry}
 use Rattle.jfs_call.specs.Answer.{JoinsNone, RepliedBy, held, IsHeld, KeepsHalted, WaitsIf, Keeps, IsAnswered}
 use Rattle.jfs_call.specs.Replied.{IsReplied}
@@ -191,12 +193,12 @@ module _ (tells : Type 0) (caller : Caller) (request : Request) (tx : List Edit)
     | inr s ↦ ap (λ (xs : List BlockState). length xs) s.states
   ])
 
-  halted_after : (fault : Fault) → FailsBy tells fault mid new → KeepsHalted old.faults new.faults old.halted new.halted
+  halted_after : (fault : Fault) → FailsBy tells data_put fault mid new → KeepsHalted old.faults new.faults old.halted new.halted
   halted_after fault f = by f.halted
     where
-      by : ((new.halted ≡ mid.halted) × (tells → new.view ≡ mid.view)) ⊎ (new.halted ≡ Some fault) → KeepsHalted old.faults new.faults old.halted new.halted
+      by : ((new.halted ≡ mid.halted) × (tells → new.view ≡ mid.view)) ⊎ ((new.halted ≡ Some fault) × (tells → EachOnce data_put → IsPartlyPut data_put mid.view new.view)) → KeepsHalted old.faults new.faults old.halted new.halted
       by (inl (same, shown)) = inl (same ∙ m.halted)
-      by (inr now) = inr (fault, subst (λ (n : ℕ). IsFault n new.faults fault) m.faults f.is_fault, running old.halted request m.writes_it m.begins, now)
+      by (inr (now, partly)) = inr (fault, subst (λ (n : ℕ). IsFault n new.faults fault) m.faults f.is_fault, running old.halted request m.writes_it m.begins, now)
 
 -- it failed, and is refused for that
 refused_for : (fault : Fault) (kept : Option Fault) → kept ≡ None → IsHeld kept (replies.Refused (refusals.IoFault fault))
@@ -205,27 +207,27 @@ refused_for fault kept none = subst (λ (k : Option Fault). IsHeld k (replies.Re
 not_done : (why : Refusal) (request : Request) (old new : Parts) → WaitsIf false request (replies.Refused why) old new
 not_done why request old new done eager = absurd (cc (done))
 
-failed : (tells : Type 0) (caller : Caller) (request : Request) (tx : List Edit) (old start new : Parts) (fault : Fault) (reply : Reply) (number : ℕ) (waits : Bool) → MayChange request old start → IsFailedBy tells caller request tx fault start new reply number waits
+failed : (tells : Type 0) (caller : Caller) (request : Request) (tx : List Edit) (put : List DataPage) (old start new : Parts) (fault : Fault) (reply : Reply) (number : ℕ) (waits : Bool) → MayChange request old start → IsFailedBy tells caller request tx put fault start new reply number waits
     → IsAnswered caller.client caller.line request old new (Replied reply number waits)
-failed tells caller request tx old start new fault reply number waits m f =
+failed tells caller request tx put old start new fault reply number waits m f =
     replied caller request (replies.Refused (refusals.IoFault fault)) false old f.mid new (Replied reply number waits)
     (record {
-      begun_is = begun_then m.begun_is (given_back tells caller request tx [] old start f.mid m f.given_back);
+      begun_is = begun_then m.begun_is (given_back tells caller request tx put old start f.mid m f.given_back);
       cause = subst (λ (n : ℕ). IsFault n f.mid.faults fault) m.faults f.fails.is_fault;
       held_is = refused_for fault (held old.halted request.call) m.begins;
-      halted = halted_after tells caller request tx [] old start f.mid m fault f.fails;
+      halted = halted_after tells caller request tx put old start f.mid m fault f.fails;
       waits = λ entry. not_done (refusals.IoFault fault) request old (with_entry entry f.mid);
     })
     (record { reply_is = f.reply_is; waits_is = f.waits_not; number_is = f.number_is; parts = f.parts })
 
-unsaid : (tells : Type 0) (caller : Caller) (request : Request) (tx : List Edit) (old mid new : Parts) → MayChange request old mid → FailsUnsaid tells tx mid new → IsAnswered caller.client caller.line request old new NoMemory
-unsaid tells caller request tx old mid new m f = record {
-  entry = (begun_then m.begun_is (given_back tells caller request tx [] old mid new m f.given_back)).none;
+unsaid : (tells : Type 0) (caller : Caller) (request : Request) (tx : List Edit) (put : List DataPage) (old mid new : Parts) → MayChange request old mid → FailsUnsaid tells tx put mid new → IsAnswered caller.client caller.line request old new NoMemory
+unsaid tells caller request tx put old mid new m f = record {
+  entry = (begun_then m.begun_is (given_back tells caller request tx put old mid new m f.given_back)).none;
   cause = inr (subst (λ (n : ℕ). Rose n new.faults) m.faults f.fails.is_fault.rose);
   held_is = tt;
-  halted = halted_after tells caller request tx [] old mid new m f.fault f.fails;
+  halted = halted_after tells caller request tx put old mid new m f.fault f.fails;
   waits = tt;
-  keeps = (begun_then m.begun_is (given_back tells caller request tx [] old mid new m f.given_back)).keeps;
+  keeps = (begun_then m.begun_is (given_back tells caller request tx put old mid new m f.given_back)).keeps;
 }
 
 done_as : (caller : Caller) (request : Request) (old new : Parts) (reply : Reply) (number : ℕ) (waits : Bool) → reply ≡ replies.Done → waits ≡ not request.lazy → IsAnswered caller.client caller.line request old new (Replied replies.Done number (not request.lazy))
@@ -237,11 +239,11 @@ pub changed : (tells : Type 0) (caller : Caller) (request : Request) (tx : List 
     → IsAnswered caller.client caller.line request old new outcome
 changed tells caller request tx data_put old mid new (Replied reply number waits) m (inl d) =
     done_as caller request old new reply number waits d.reply_is d.waits_is (entered tells caller request tx data_put old mid new m number d.joins)
-changed tells caller request tx data_put old mid new (Replied reply number waits) m (inr (fault, f)) = failed tells caller request tx old mid new fault reply number waits m f
+changed tells caller request tx data_put old mid new (Replied reply number waits) m (inr (fault, f)) = failed tells caller request tx data_put old mid new fault reply number waits m f
 changed tells caller request tx data_put old mid new NeedsLog m (g, on, full) =
     needs_log caller.client caller.line request old new m.begins (begun_then m.begun_is (given_back tells caller request tx data_put old mid new m g)) (on.faults ∙ m.faults) (on.halted ∙ m.halted)
 changed tells caller request tx data_put old mid new NoMemory m (inl (g, on)) =
     unanswered caller.client caller.line request old new (begun_then m.begun_is (may_give_back tells caller request tx data_put old mid new m g)) (on.faults ∙ m.faults) (on.halted ∙ m.halted)
 changed tells caller request tx data_put old mid new NoMemory m (inr (inl same)) =
     unanswered caller.client caller.line request old new (subst (λ (p : Parts). IsBegun old p) (sym same) m.begun_is) (ap (λ (p : Parts). p.faults) same ∙ m.faults) (ap (λ (p : Parts). p.halted) same ∙ m.halted)
-changed tells caller request tx data_put old mid new NoMemory m (inr (inr f)) = unsaid tells caller request tx old mid new m f
+changed tells caller request tx data_put old mid new NoMemory m (inr (inr f)) = unsaid tells caller request tx data_put old mid new m f

@@ -47,4 +47,4 @@ is_failed tells caller request tx put old mid new fault (Replied reply number wa
     inr (fault, record { mid = mid; given_back = back; fails = fails; reply_is = r.reply_is; number_is = r.number_is; waits_not = r.waits_is; parts = r.parts })
 is_failed tells caller request tx put old mid new fault NeedsLog (inl out) r = absurd r
 is_failed tells caller request tx put old mid new fault NoMemory (inl (back, fails)) r =
-    inr (inr (record { fault = fault; given_back = subst (λ (p : Parts). GivesBack tx old p) (sym r) back; fails = subst (λ (p : Parts). FailsBy tells fault old p) (sym r) fails }))
+    inr (inr (record { fault = fault; given_back = subst (λ (p : Parts). GivesBack tx old p) (sym r) back; fails = subst (λ (p : Parts). FailsBy tells put fault old p) (sym r) fails }))

@@ -2,7 +2,8 @@
 use Rattle.std.proofs.Common.{◌≡◌, ◌≤◌, ◌⊎◌, ◌++◌, ◌∷◌, ◌+◌, arith, [], refl, sym, ap, ap₂, ◌∙◌, subst, ℕ, Bool, true, false, if◌then◌else◌, List, length, inl, inr, Option, Some, None}
 use Rattle.jfs_bits.specs.Count.{Rose}
 use Rattle.jfs_disk.specs.declared.disk.Fault.{Fault}
-use Rattle.jfs_disk.specs.declared.disk.Part.TheVariants.{Low}
+use Rattle.jfs_disk.specs.declared.disk.Part.TheVariants.{Low, High}
+use Rattle.jfs_logpages.specs.declared.fault.LogFault.{LogFault}
 use Rattle.jfs_files.specs.bmap.specs.States.{Blocks}
 use Rattle.jfs_files.specs.bmap.proofs.Views.{length-each_below}
 use Rattle.jfs_volume_calls.specs.crash_core.specs.Step.{halted_by}
@@ -304,3 +305,12 @@ size_stays k fits = omega (arith, k.size, k.blocks, fits)
 
 pub answered_size : (client line : ℕ) (request : Request) (old new : Parts) → IsAnswered client line request old new NeedsLog → KeepsSize old new
 answered_size client line request old new a = keeps_size a.keeps
+
+-- ---- of which part a fault is
+
+pub log_fault : (before now : ℕ) (why : LogFault) → Rose before now × (why.fault ≡ record { part = High; count = now }) → why.fault.part ≡ High
+log_fault before now why cause = ap (λ (f : Fault). f.part) cause.1
+
+pub point_fault : (low now high later : ℕ) (fault : Fault) → IsFaultOfEither low now high later fault → IsFault low now fault ⊎ (fault.part ≡ High)
+point_fault low now high later fault (inl (rose, is, same)) = inl (record { rose = rose; is = is })
+point_fault low now high later fault (inr (rose, is, same)) = inr (ap (λ (f : Fault). f.part) is)

@@ -27,21 +27,21 @@ pub record IsDoneBy (tells : Type 0) (caller : Caller) (request : Request) (tx :
   pub joins : JoinsWith tells (entry_with caller.client caller.line request Done) tx put number old new
 
 -- it failed, and its refusal joins, or memory lacks for that
-pub record IsFailedBy (tells : Type 0) (caller : Caller) (request : Request) (tx : List Edit) (fault : Fault) (old new : Parts) (reply : Reply) (number : ℕ) (waits : Bool) : Type 0 where
+pub record IsFailedBy (tells : Type 0) (caller : Caller) (request : Request) (tx : List Edit) (put : List DataPage) (fault : Fault) (old new : Parts) (reply : Reply) (number : ℕ) (waits : Bool) : Type 0 where
   pub mid : Parts
   pub given_back : GivesBack tx old mid
-  pub fails : FailsBy tells fault old mid
+  pub fails : FailsBy tells put fault old mid
   pub reply_is : reply ≡ Refused (IoFault fault)
   pub number_is : number ≡ new.appended
   pub waits_not : waits ≡ false
   pub parts : new ≡ with_entry (entry_with caller.client caller.line request (Refused (IoFault fault))) mid
 
-pub record FailsUnsaid (tells : Type 0) (tx : List Edit) (old new : Parts) : Type 0 where
+pub record FailsUnsaid (tells : Type 0) (tx : List Edit) (put : List DataPage) (old new : Parts) : Type 0 where
   pub fault : Fault
   pub given_back : GivesBack tx old new
-  pub fails : FailsBy tells fault old new
+  pub fails : FailsBy tells put fault old new
 
 abbrev pub IsChangedBy : (tells : Type 0) → Caller → Request → List Edit → List DataPage → Parts → Parts → Outcome → Type 0
-IsChangedBy tells caller request tx put old new (Replied reply entry waits) = IsDoneBy tells caller request tx put old new reply entry waits ⊎ ((fault : Fault) × IsFailedBy tells caller request tx fault old new reply entry waits)
+IsChangedBy tells caller request tx put old new (Replied reply entry waits) = IsDoneBy tells caller request tx put old new reply entry waits ⊎ ((fault : Fault) × IsFailedBy tells caller request tx put fault old new reply entry waits)
 IsChangedBy tells caller request tx put old new NeedsLog = GivesBack tx old new × GoesOn tells old new × LacksRoom tx old
-IsChangedBy tells caller request tx put old new NoMemory = (MayGiveBack tx old new × GoesOn tells old new) ⊎ ((new ≡ old) ⊎ FailsUnsaid tells tx old new)
+IsChangedBy tells caller request tx put old new NoMemory = (MayGiveBack tx old new × GoesOn tells old new) ⊎ ((new ≡ old) ⊎ FailsUnsaid tells tx put old new)

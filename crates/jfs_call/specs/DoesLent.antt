@@ -1,19 +1,21 @@
 -- What a call does that is lent the log.
-use Rattle.std.specs.Prelude.{◌≡◌, ◌⊎◌, ◌<◌, ◌+◌, ◌*◌, ◌^◌, false, length, IsSome, OnOk, Result, Ok, Err}
+use Rattle.std.specs.Prelude.{◌≡◌, ◌⊎◌, ◌<◌, ◌+◌, ◌*◌, ◌^◌, false, length, IsSome, OnOk, IfErr, Result, Ok, Err}
 use Rattle.jfs_bits.specs.declared.descriptor.Moment.{Moment}
 use Rattle.jfs_disk.specs.declared.disk.Fault.{Fault}
+use Rattle.jfs_disk.specs.declared.disk.Part.TheVariants.{High}
 use Rattle.jfs_logpages.specs.declared.fault.LogFault.{LogFault}
 use Rattle.jfs_plain.specs.declared.call.Request.{Request}
 use Rattle.jfs_plain.specs.declared.refusal.Refusal.TheVariants.{IoFault}
 use Rattle.jfs_plain.specs.declared.reply.Reply.TheVariants.{Refused}
 use Rattle.jfs_volume_calls.specs.halves.specs.Parts.{Parts}
 use Rattle.jfs_volume_calls.specs.halves.specs.Log.{LogParts}
+use Rattle.jfs_volume_calls.specs.pages.specs.Device.{IsFault}
 use Rattle.jfs_volume_calls.specs.volume.specs.Settles.{Settles, StaysShown, HaltsAt}
 use Rattle.jfs_volume_calls.specs.Halts.{CommitHalts}
 use Rattle.jfs_volume_calls.specs.Commit.{CommitIs}
 use Rattle.jfs_volume_calls.specs.Syncpoint.{SyncpointIs}
 use Rattle.jfs_volume_calls.specs.Together.{OfBothHalves}
-use Rattle.jfs_volume_calls.specs.Written.{KeepsPages, WritesMaps}
+use Rattle.jfs_volume_calls.specs.Written.{KeepsPages, LeavesMaps, WritesMaps}
 use Rattle.jfs_call.specs.Does.{Does}
 use Rattle.jfs_call.specs.Replied.{IsReplied}
 use Rattle.jfs_call.specs.declared.outcome.Outcome.{Outcome}
@@ -54,15 +56,18 @@ pub record Commits (tells crashes : Type 0) (old new : Both) (result : Result (U
   pub settles : Settles old.volume new.volume
   pub files : KeepsPages tells old.volume new.volume
   pub halts : CommitHalts old.volume.halted new.volume.halted result
+  pub cause : IfErr result (λ (why : LogFault). why.fault.part ≡ High)
 
--- The same, and all pages are home and synced: each map that had changed is shown by its pages.
+-- The same, and all pages are home and synced: each map that had changed is shown by its pages. Where it fails, pages stay but for those that entries freed, and those of the maps, of which some may be written; and the fault is the low part's, whose count rose, or the log's.
 pub record Points (tells crashes : Type 0) (old new : Both) (result : Result (Unit {0}) Fault) : Type 0 where
   pub syncpoint : OfBothHalves tells crashes old.volume old.log (λ seen asked both. SyncpointIs seen asked old.volume new.volume new.log both result)
   pub told : OnOk result (new.volume.told ≡ new.volume.appended)
   pub settles : Settles old.volume new.volume
-  pub shown : OnOk result (StaysShown tells old.volume new.volume)
+  pub shown : StaysShown tells old.volume new.volume
+  pub leaves : tells → LeavesMaps old.volume new.volume
   pub maps : OnOk result (tells → WritesMaps old.volume new.volume)
   pub halts : HaltsAt old.volume.halted new.volume.halted result
+  pub cause : IfErr result (λ fault. IsFault old.volume.faults new.volume.faults fault ⊎ (fault.part ≡ High))
 
 -- ---- what follows where the call needs the log
 

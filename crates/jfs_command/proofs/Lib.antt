@@ -16,7 +16,6 @@ pub mod RedoMounted
 pub mod Redoing
 pub mod Scripted
 pub mod RunSaid
-pub mod Replies
 pub mod RunLines
 pub mod Running
 pub mod Generating

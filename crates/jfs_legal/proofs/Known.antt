@@ -6,6 +6,7 @@ use Rattle.jfs_served.proofs.History.{history_law}
 use Rattle.jfs_served.proofs.Keeps.{again_law}
 use Rattle.jfs_served.proofs.Mounted.{mounted_law}
 use Rattle.jfs_served.proofs.Replies.{unchanged_law, refused_law}
+use Rattle.jfs_served.proofs.Torn.{torn_law}
 use Rattle.jfs_served.proofs.Unmounted.{unmounted_law}
 use Rattle.jfs_legal.proofs.Replying.{Laws}
 
@@ -17,6 +18,7 @@ laws = record {
   asked = asked_law;
   joined = joined_law;
   refused = refused_law;
+  torn = torn_law;
   acknowledged = acknowledged_law;
   pointed = pointed_law;
   handed_out = handed_out_law;

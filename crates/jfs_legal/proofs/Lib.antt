@@ -1,4 +1,3 @@
 pub mod Replying
 pub mod Known
 pub mod Going
-pub mod Halted

@@ -1,9 +1,10 @@
--- A call that a volume could serve is a step of the plain file tree that the volume holds, or it failed.
+-- A call that a volume could serve is a step of the plain file tree that the volume holds.
 use Rattle.std.proofs.Common.{◌≡◌, ◌≢◌, ◌⊎◌, ◌++◌, ◌∷◌, [], refl, sym, ap, ◌∙◌, subst, ℕ, Bool, true, false, if◌then◌else◌, List, inl, inr, Option, Some, None, Result, Ok, Err}
-use Rattle.std.specs.Prelude.{OnOk}
+use Rattle.std.specs.Prelude.{IfErr}
 use Rattle.std.proofs.lemmas.Bool.{false≢true}
 use Rattle.std.proofs.lemmas.Option.{none-some}
 use Rattle.jfs_disk.specs.declared.disk.Fault.{Fault}
+use Rattle.jfs_disk.specs.declared.disk.Part.TheVariants.{High}
 use Rattle.jfs_logpages.specs.declared.fault.LogFault.{LogFault}
 use Rattle.jfs_ranges.specs.declared.edit.Edit.{Edit}
 use Rattle.jfs_served.specs.files.specs.data_steps.specs.declared.pages.DataPage.{DataPage}
@@ -18,8 +19,10 @@ use Rattle.jfs_served.specs.plain.specs.declared.reply.Reply.{Reply}
 use Rattle.jfs_served.specs.plain.specs.declared.reply.Reply.TheVariants.{Done, Refused}
 use Rattle.jfs_served.specs.volume.specs.Asked.{IsAskedOf}
 use Rattle.jfs_served.specs.volume.specs.Join.{entry_with}
-use Rattle.jfs_served.specs.volume.specs.Settles.{Settles, StaysShown}
-use Rattle.jfs_served.specs.volume_calls.specs.Written.{KeepsPages, WritesMaps}
+use Rattle.jfs_served.specs.volume.specs.Data.{IsPartlyPut}
+use Rattle.jfs_served.specs.volume.specs.Settles.{Settles}
+use Rattle.jfs_served.specs.volume.specs.data_steps.specs.After.{EachOnce}
+use Rattle.jfs_served.specs.volume_calls.specs.Written.{KeepsPages}
 use Rattle.jfs_served.specs.halves.specs.Parts.{Parts}
 use Rattle.jfs_served.specs.volume.specs.pages.specs.Device.{IsFault, HasFault}
 use Rattle.jfs_served.specs.plain.specs.declared.call.Entry.{Entry}
@@ -28,15 +31,16 @@ use Rattle.jfs_served.specs.call.specs.Changed.{IsChangedBy, IsFailedBy}
 use Rattle.jfs_served.specs.call.specs.Needs.{AnswersOf}
 use Rattle.jfs_served.specs.call.specs.Replied.{IsReplied, TellsSame, is_kept_back}
 use Rattle.jfs_served.specs.call.specs.Does.{Syncs, TellsSynced, ChangesWhere, EndsBy, DoesWhere, Does}
-use Rattle.jfs_served.specs.call.specs.DoesLent.{Both, Asking, End, DoesAlone, NeedsThen, GivesUp, IsRefusedFor, AfterCommit, CommitsThen, AfterPoint, PointsThen, DoesLast, DoesPointed, DoesAgain}
+use Rattle.jfs_served.specs.call.specs.DoesLent.{Both, Asking, End, DoesAlone, NeedsThen, GivesUp, AfterCommit, CommitsThen, AfterPoint, PointsThen, DoesLast, DoesPointed, DoesAgain}
 use Rattle.jfs_served.specs.call.specs.declared.outcome.Outcome.{Outcome}
 use Rattle.jfs_served.specs.call.specs.declared.outcome.Outcome.TheVariants.{Replied, NeedsLog, NoMemory}
 use Rattle.jfs_served.specs.Holds.{MayServe, StaysServing}
 use Rattle.jfs_served.specs.Step.{IsAsked, IsAnswer, TakesStep}
 use Rattle.jfs_served.specs.Legal.{Timed, HasServed}
+use Rattle.jfs_served.specs.Torn.{TornLaw}
 use Rattle.jfs_served.specs.Laws.{ChangedLaw, GivenBackLaw, UnchangedLaw, AskedLaw, JoinedLaw, RefusedLaw, AcknowledgedLaw, PointedLaw, HandedOutLaw, HomeLaw, AgainLaw, MountedLaw, UnmountedLaw, HistoryLaw}
 use Rattle.jfs_served.proofs.Told.{told_asked, told_joins, told_pages, told_shown, told_home}
-use Rattle.jfs_legal.specs.Until.{has_failed, at}
+use Rattle.jfs_legal.specs.History.{at}
 
 -- what is known of the tree that a volume holds
 pub record Laws : Type 0 where
@@ -46,6 +50,7 @@ pub record Laws : Type 0 where
   pub asked : AskedLaw
   pub joined : JoinedLaw
   pub refused : RefusedLaw
+  pub torn : TornLaw
   pub acknowledged : AcknowledgedLaw
   pub pointed : PointedLaw
   pub handed_out : HandedOutLaw
@@ -55,9 +60,9 @@ pub record Laws : Type 0 where
   pub unmounted : UnmountedLaw
   pub history : HistoryLaw
 
--- What a call leaves of a volume that could serve it: with its entry the history is legal and the next call may come, or it failed; without one nothing is said.
+-- What a call leaves of a volume that could serve it: with its entry the history is legal and the next call may come; without one, where memory lacked, nothing is said.
 abbrev pub Left : (ℕ → ℕ) → ℕ → Parts → List Timed → Asking → Parts → Outcome → Type 0
-Left area log_pages start es a new (Replied reply number waits) = HasServed area log_pages start (es ++ at a.now (entry_with a.caller.client a.caller.line a.request reply) ∷ []) new ⊎ (has_failed reply ≡ true)
+Left area log_pages start es a new (Replied reply number waits) = HasServed area log_pages start (es ++ at a.now (entry_with a.caller.client a.caller.line a.request reply) ∷ []) new
 Left area log_pages start es a new NeedsLog = HasServed area log_pages start es new
 Left area log_pages start es a new NoMemory = Unit {0}
 
@@ -85,7 +90,7 @@ settled laws tells crashes told area log_pages start es old new so_far settles f
 module _ (laws : Laws) (tells crashes : Type 0) (told : tells) (area : ℕ → ℕ) (log_pages : ℕ) (a : Asking) where
   -- how one call leaves a volume that could serve it
   abbrev pub Ends : Parts → Parts → Outcome → Type 0
-  Ends old new (Replied reply number waits) = TakesStep area log_pages a.request.call a.now reply old new ⊎ (has_failed reply ≡ true)
+  Ends old new (Replied reply number waits) = TakesStep area log_pages a.request.call a.now reply old new
   Ends old new NeedsLog = StaysServing area log_pages old new
   Ends old new NoMemory = Unit {0}
 
@@ -100,8 +105,8 @@ module _ (laws : Laws) (tells crashes : Type 0) (told : tells) (area : ℕ → �
   replied given wait old mid new (Replied reply number waits) stays step r =
       let entry = entry_with a.caller.client a.caller.line a.request given in
       let joined = laws.joined area log_pages entry mid new stays.keeps.holds r.parts in
-      inl (subst (λ (given_reply : Reply). TakesStep area log_pages a.request.call a.now given_reply old new) (sym r.reply_is)
-      (step new (ap (λ (p : Parts). p.faults) r.parts) (laws.again area log_pages old mid new stays joined)))
+      subst (λ (given_reply : Reply). TakesStep area log_pages a.request.call a.now given_reply old new) (sym r.reply_is)
+      (step new (ap (λ (p : Parts). p.faults) r.parts) (laws.again area log_pages old mid new stays joined))
   replied given wait old mid new NeedsLog stays step r = absurd r
   replied given wait old mid new NoMemory stays step r = tt
 
@@ -116,6 +121,17 @@ module _ (laws : Laws) (tells crashes : Type 0) (told : tells) (area : ℕ → �
       let by = held_by (writes a.request.call) old.halted fault e in
       replied (Refused (ReadOnly fault)) false old old new outcome (itself old may) (λ last same stays. laws.refused.halted area log_pages a.request.call a.now fault old last may stays by.0 by.1) r
 
+  -- ---- a call that is refused for a fault
+
+  refused_by : (fault : Fault) (old mid new : Parts) (outcome : Outcome) → MayServe area log_pages old → StaysServing area log_pages old mid → IsFault old.faults mid.faults fault ⊎ (fault.part ≡ High)
+      → IsReplied a.caller a.request (Refused (IoFault fault)) false mid new outcome → Ends old new outcome
+  refused_by fault old mid new outcome may stays cause r =
+      replied (Refused (IoFault fault)) false old mid new outcome stays
+      (λ last same keeps. laws.refused.failed area log_pages a.request.call a.now fault old last may keeps (elim cause [
+        | inl low ↦ inl (subst (λ (n : ℕ). IsFault old.faults n fault) (sym same) low)
+        | inr high ↦ inr high
+      ])) r
+
   -- ---- `sync`
 
   synced_by : (old mid new : Parts) (outcome : Outcome) (synced : Result (Unit {0}) Fault) → HasFault old.faults mid.faults synced → MayServe area log_pages old → a.request.call ≡ calls.Sync → StaysServing area log_pages old mid
@@ -123,9 +139,7 @@ module _ (laws : Laws) (tells crashes : Type 0) (told : tells) (area : ℕ → �
   synced_by old mid new outcome (Ok done) cause may is stays r =
       replied Done true old mid new outcome stays
       (λ last same keeps. subst (λ (call : Call). TakesStep area log_pages call a.now Done old last) (sym is) (laws.refused.synced area log_pages a.now old last may keeps)) r
-  synced_by old mid new outcome (Err fault) cause may is stays r =
-      replied (Refused (IoFault fault)) false old mid new outcome stays
-      (λ last same keeps. laws.refused.failed area log_pages a.request.call a.now fault old last may keeps (inl (subst (λ (n : ℕ). IsFault old.faults n fault) (sym same) cause))) r
+  synced_by old mid new outcome (Err fault) cause may is stays r = refused_by fault old mid new outcome may stays (inl cause) r
 
   synced : (old new : Parts) (outcome : Outcome) → MayServe area log_pages old → is_sync a.request.call ≡ true → Syncs tells crashes a.caller a.request old new outcome → Ends old new outcome
   synced old new outcome may is s =
@@ -142,27 +156,29 @@ module _ (laws : Laws) (tells crashes : Type 0) (told : tells) (area : ℕ → �
 
     module _ (tx : List Edit) (put : List DataPage) (is : IsAnswer a.request a.now old mid (Changed tx put)) where
       -- a page couldn't be read; or a write of its data failed
-      failed : (fault : Fault) (new : Parts) (reply : Reply) (number : ℕ) (waits : Bool) (f : IsFailedBy tells a.caller a.request tx fault mid new reply number waits)
-          → ((f.mid.halted ≡ mid.halted) × (tells → f.mid.view ≡ mid.view)) ⊎ (f.mid.halted ≡ Some fault) → Ends old new (Replied reply number waits)
-      failed fault new reply number waits f (inl (same, view)) =
-          inl (subst (λ (given : Reply). TakesStep area log_pages a.request.call a.now given old new) (sym f.reply_is)
-          (laws.refused.failed area log_pages a.request.call a.now fault old new may
-          (laws.again area log_pages old f.mid new stays (laws.joined area log_pages entry f.mid new stays.keeps.holds f.parts))
-          (inl (subst (λ (n : ℕ). IsFault n new.faults fault) (ap (λ (low : Fault). low.count) is.fault)
-          (subst (λ (n : ℕ). IsFault mid.faults n fault) (sym (ap (λ (p : Parts). p.faults) f.parts)) f.fails.is_fault)))))
+      failed : (fault : Fault) (new : Parts) (reply : Reply) (number : ℕ) (waits : Bool) (f : IsFailedBy tells a.caller a.request tx put fault mid new reply number waits)
+          → ((f.mid.halted ≡ mid.halted) × (tells → f.mid.view ≡ mid.view)) ⊎ ((f.mid.halted ≡ Some fault) × (tells → EachOnce put → IsPartlyPut put mid.view f.mid.view)) → TakesStep area log_pages a.request.call a.now reply old new
+      failed fault new reply number waits f by = subst (λ (given : Reply). TakesStep area log_pages a.request.call a.now given old new) (sym f.reply_is) (step by)
         where
           entry : Entry
           entry = entry_with a.caller.client a.caller.line a.request (Refused (IoFault fault))
 
-          stays : StaysServing area log_pages old f.mid
-          stays = laws.given_back area log_pages a.request a.now tx put old mid f.mid may was is f.given_back (view told)
-      failed fault new reply number waits f (inr halts) = inr (ap has_failed f.reply_is)
+          cause : IsFault old.faults f.mid.faults fault
+          cause = subst (λ (n : ℕ). IsFault n f.mid.faults fault) (ap (λ (low : Fault). low.count) is.fault) f.fails.is_fault
+
+          step : ((f.mid.halted ≡ mid.halted) × (tells → f.mid.view ≡ mid.view)) ⊎ ((f.mid.halted ≡ Some fault) × (tells → EachOnce put → IsPartlyPut put mid.view f.mid.view)) → TakesStep area log_pages a.request.call a.now (Refused (IoFault fault)) old new
+          step (inl (same, view)) =
+              let stays = laws.given_back area log_pages a.request a.now tx put old mid f.mid may was is f.given_back (view told) in
+              laws.refused.failed area log_pages a.request.call a.now fault old new may
+              (laws.again area log_pages old f.mid new stays (laws.joined area log_pages entry f.mid new stays.keeps.holds f.parts))
+              (inl (subst (λ (n : ℕ). IsFault old.faults n fault) (sym (ap (λ (p : Parts). p.faults) f.parts)) cause))
+          step (inr (halts, partly)) = laws.torn area log_pages a.request a.now tx put fault entry old mid f.mid new may was is f.given_back (partly told) cause f.parts
 
       changed : (new : Parts) (outcome : Outcome) → IsChangedBy tells a.caller a.request tx put mid new outcome → Ends old new outcome
       changed new (Replied reply number waits) (inl d) =
-          inl (subst (λ (given : Reply). TakesStep area log_pages a.request.call a.now given old new) (sym d.reply_is)
+          subst (λ (given : Reply). TakesStep area log_pages a.request.call a.now given old new) (sym d.reply_is)
           (laws.changed area log_pages a.request a.now tx put (entry_with a.caller.client a.caller.line a.request Done) number old mid new may was is
-          (told_joins tells crashes told (entry_with a.caller.client a.caller.line a.request Done) tx put number mid new d.joins)))
+          (told_joins tells crashes told (entry_with a.caller.client a.caller.line a.request Done) tx put number mid new d.joins))
       changed new (Replied reply number waits) (inr (fault, f)) = failed fault new reply number waits f f.fails.halted
       changed new NeedsLog (given, goes, lacks) = laws.given_back area log_pages a.request a.now tx put old mid new may was is given (goes.view told)
       changed new NoMemory c = tt
@@ -173,8 +189,8 @@ module _ (laws : Laws) (tells crashes : Type 0) (told : tells) (area : ℕ → �
 
     told_same : (reply : Reply) (new : Parts) (outcome : Outcome) → IsAnswer a.request a.now old mid (Unchanged reply) → TellsSame a.caller a.request reply mid new outcome → Ends old new outcome
     told_same reply new (Replied given number waits) is (inl (kept, r)) =
-        inl (subst (λ (given_reply : Reply). TakesStep area log_pages a.request.call a.now given_reply old new) (sym r.reply_is)
-        (laws.unchanged area log_pages a.request a.now reply (entry_with a.caller.client a.caller.line a.request reply) old mid new may was is (told_reply reply kept) r.parts))
+        subst (λ (given_reply : Reply). TakesStep area log_pages a.request.call a.now given_reply old new) (sym r.reply_is)
+        (laws.unchanged area log_pages a.request a.now reply (entry_with a.caller.client a.caller.line a.request reply) old mid new may was is (told_reply reply kept) r.parts)
     told_same reply new NeedsLog is (inl (kept, r)) = absurd r
     told_same reply new NoMemory is (inl (kept, r)) = tt
     told_same reply new outcome is (inr (none, same)) = ends_none old new outcome none
@@ -200,22 +216,12 @@ module _ (laws : Laws) (tells crashes : Type 0) (told : tells) (area : ℕ → �
 
   module _ (start : Parts) (es : List Timed) where
     pub leaves_by : (old new : Parts) (outcome : Outcome) → HasServed area log_pages start es old → Ends old new outcome → Left area log_pages start es a new outcome
-    leaves_by old new (Replied reply number waits) so_far (inl step) =
-        inl (laws.history.takes area log_pages start old new es (at a.now (entry_with a.caller.client a.caller.line a.request reply)) so_far step)
-    leaves_by old new (Replied reply number waits) so_far (inr failed) = inr failed
+    leaves_by old new (Replied reply number waits) so_far step = laws.history.takes area log_pages start old new es (at a.now (entry_with a.caller.client a.caller.line a.request reply)) so_far step
     leaves_by old new NeedsLog so_far stays = laws.history.stays area log_pages start old new es so_far stays
     leaves_by old new NoMemory so_far e = tt
 
     leaves_none : (new : Parts) (outcome : Outcome) → outcome ≡ NoMemory → Left area log_pages start es a new outcome
     leaves_none new outcome e = subst (Left area log_pages start es a new) (sym e) tt
-
-    leaves_failed : (fault : Fault) (old : Both) (end : End) → IsRefusedFor a fault old end → Left area log_pages start es a end.both.volume end.outcome
-    leaves_failed fault old end r = go end.outcome r.0
-      where
-        go : (outcome : Outcome) → IsReplied a.caller a.request (Refused (IoFault fault)) false old.volume end.both.volume outcome → Left area log_pages start es a end.both.volume outcome
-        go (Replied reply number waits) r = inr (ap has_failed r.reply_is)
-        go NeedsLog r = absurd r
-        go NoMemory r = tt
 
     -- what follows leaves it so, from each volume that has served so far
     abbrev Follows : (Both → End → Type 0) → Type 0
@@ -232,24 +238,24 @@ module _ (laws : Laws) (tells crashes : Type 0) (told : tells) (area : ℕ → �
         goes (record old { volume = asked }) end (laws.history.stays area log_pages start old.volume asked es so_far (does old.volume asked NeedsLog so_far.serves d)) rest
 
     commits_then : (follows : Both → End → Type 0) → Follows follows → Follows (CommitsThen tells crashes a follows)
-    commits_then follows goes old end so_far c = go c.result c.ends
+    commits_then follows goes old end so_far c = go c.result c.commits.cause c.ends
       where
-        mid_so_far : HasServed area log_pages start es c.mid.volume
-        mid_so_far = settled laws tells crashes told area log_pages start es old.volume c.mid.volume so_far c.commits.settles c.commits.files
+        stays : StaysServing area log_pages old.volume c.mid.volume
+        stays = laws.acknowledged area log_pages old.volume c.mid.volume so_far.serves.holds c.commits.settles (told_pages tells crashes told old.volume c.mid.volume c.commits.files)
 
-        go : (result : Result (Unit {0}) LogFault) → AfterCommit a follows c.mid end result → Left area log_pages start es a end.both.volume end.outcome
-        go (Ok done) e = goes c.mid end mid_so_far e
-        go (Err why) e = leaves_failed why.fault c.mid end e
+        go : (result : Result (Unit {0}) LogFault) → IfErr result (λ (why : LogFault). why.fault.part ≡ High) → AfterCommit a follows c.mid end result → Left area log_pages start es a end.both.volume end.outcome
+        go (Ok done) cause e = goes c.mid end (laws.history.stays area log_pages start old.volume c.mid.volume es so_far stays) e
+        go (Err why) cause e = leaves_by old.volume end.both.volume end.outcome so_far (refused_by why.fault old.volume c.mid.volume end.both.volume end.outcome so_far.serves stays (inr cause) e.0)
 
     points_then : (follows : Both → End → Type 0) → Follows follows → Follows (PointsThen tells crashes a follows)
-    points_then follows goes old end so_far c = go c.result c.points.shown c.points.maps c.ends
+    points_then follows goes old end so_far c = go c.result c.points.cause c.ends
       where
-        go : (result : Result (Unit {0}) Fault) → OnOk result (StaysShown tells old.volume c.mid.volume) → OnOk result (tells → WritesMaps old.volume c.mid.volume) → AfterPoint a follows c.mid end result
-            → Left area log_pages start es a end.both.volume end.outcome
-        go (Ok done) shown maps e =
-            goes c.mid end (laws.history.stays area log_pages start old.volume c.mid.volume es so_far
-            (laws.pointed area log_pages old.volume c.mid.volume so_far.serves.holds c.points.settles (told_shown tells crashes told old.volume c.mid.volume shown) (maps told))) e
-        go (Err fault) shown maps e = leaves_failed fault c.mid end e
+        stays : StaysServing area log_pages old.volume c.mid.volume
+        stays = laws.pointed area log_pages old.volume c.mid.volume so_far.serves.holds c.points.settles (told_shown tells crashes told old.volume c.mid.volume c.points.shown) (c.points.leaves told)
+
+        go : (result : Result (Unit {0}) Fault) → IfErr result (λ fault. IsFault old.volume.faults c.mid.volume.faults fault ⊎ (fault.part ≡ High)) → AfterPoint a follows c.mid end result → Left area log_pages start es a end.both.volume end.outcome
+        go (Ok done) cause e = goes c.mid end (laws.history.stays area log_pages start old.volume c.mid.volume es so_far stays) e
+        go (Err fault) cause e = leaves_by old.volume end.both.volume end.outcome so_far (refused_by fault old.volume c.mid.volume end.both.volume end.outcome so_far.serves stays cause e.0)
 
     last : Follows (DoesLast tells crashes a)
     last old end so_far (inl d) = alone old end so_far d

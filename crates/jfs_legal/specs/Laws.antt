@@ -1,5 +1,5 @@
 -- What calls and commits leave of a legal history, on a disk that tells its contents.
-use Rattle.std.specs.Prelude.{◌⊎◌, ◌++◌, ◌∷◌, [], ℕ, List, take, drop}
+use Rattle.std.specs.Prelude.{◌⊎◌, ◌++◌, ◌∷◌, [], ℕ, List}
 use Rattle.jfs_served.specs.halves.specs.Parts.{Parts}
 use Rattle.jfs_served.specs.call.specs.Does.{Does}
 use Rattle.jfs_served.specs.call.specs.DoesLent.{Both, Asking, End, NeedsThen, DoesAgain}
@@ -7,10 +7,10 @@ use Rattle.jfs_served.specs.call.specs.declared.outcome.Outcome.{Outcome}
 use Rattle.jfs_served.specs.call.specs.declared.outcome.Outcome.TheVariants.{Replied, NeedsLog, NoMemory}
 use Rattle.jfs_served.specs.volume.specs.Join.{entry_with}
 use Rattle.jfs_served.specs.volume.specs.Settles.{Settles, StaysShown}
-use Rattle.jfs_served.specs.volume_calls.specs.Written.{KeepsPages, WritesMaps}
+use Rattle.jfs_served.specs.volume_calls.specs.Written.{KeepsPages, LeavesMaps}
 use Rattle.jfs_served.specs.Holds.{MayServe}
 use Rattle.jfs_served.specs.Legal.{Timed}
-use Rattle.jfs_legal.specs.Until.{at, AreLegal, GoOn, FailsFirst}
+use Rattle.jfs_legal.specs.History.{at, AreLegal, GoOn}
 
 -- What a call leaves of a history that goes on: with its entry it goes on; one that needs the log has none, and may be asked again; and where memory lacked the entries so far are legal.
 abbrev pub Leaves : (ℕ → ℕ) → ℕ → Parts → List Timed → Asking → Parts → Outcome → Type 0
@@ -22,7 +22,7 @@ Leaves area log_pages start es a new NoMemory = AreLegal area log_pages start es
 abbrev pub BeginLaw : Type 0
 BeginLaw = (area : ℕ → ℕ) (log_pages : ℕ) (start : Parts) → MayServe area log_pages start → GoOn area log_pages start [] start
 
--- whether or not the next call may come
+-- what goes on is legal
 abbrev pub LegalLaw : Type 0
 LegalLaw = (area : ℕ → ℕ) (log_pages : ℕ) (start : Parts) (es : List Timed) (p : Parts) → GoOn area log_pages start es p → AreLegal area log_pages start es
 
@@ -42,16 +42,12 @@ abbrev pub SettledLaw : (tells : Type 0) → Type 0
 SettledLaw tells = tells → (area : ℕ → ℕ) (log_pages : ℕ) (start : Parts) (es : List Timed) (old new : Parts)
     → GoOn area log_pages start es old → Settles old new → KeepsPages tells old new → GoOn area log_pages start es new
 
--- pages go home, and those of the maps are written
+-- pages go home, and those of the maps are written, or some of them where a write failed
 abbrev pub PointedLaw : (tells : Type 0) → Type 0
 PointedLaw tells = tells → (area : ℕ → ℕ) (log_pages : ℕ) (start : Parts) (es : List Timed) (old new : Parts)
-    → GoOn area log_pages start es old → Settles old new → StaysShown tells old new → WritesMaps old new → GoOn area log_pages start es new
+    → GoOn area log_pages start es old → Settles old new → StaysShown tells old new → LeavesMaps old new → GoOn area log_pages start es new
 
 -- entries are handed out
 abbrev pub HandedLaw : Type 0
 HandedLaw = (area : ℕ → ℕ) (log_pages : ℕ) (start : Parts) (es : List Timed) (old : Parts)
     → GoOn area log_pages start es old → GoOn area log_pages start es (record old { entries = [] })
-
--- Entries of which a front is legal, and the first one behind that was refused for a fault, are legal up to one that failed.
-abbrev pub FrontLaw : Type 0
-FrontLaw = (area : ℕ → ℕ) (log_pages : ℕ) (start : Parts) (n : ℕ) (es : List Timed) → AreLegal area log_pages start (take n es) → FailsFirst (drop n es) → AreLegal area log_pages start es

@@ -1,6 +1,6 @@
 //! What is true of the entries of a mounted volume, of a disk that tells its contents.
 
-ghost use Rattle.jfs_legal.specs.Laws.{BeginLaw, LegalLaw, CallLaw, LentLaw, SettledLaw, PointedLaw, HandedLaw, FrontLaw};
+ghost use Rattle.jfs_legal.specs.Laws.{BeginLaw, LegalLaw, CallLaw, LentLaw, SettledLaw, PointedLaw, HandedLaw};
 
 use jfs_disk::Disk;
 
@@ -9,7 +9,7 @@ pub fn volumes_that_serve_begin_legally()
     ensures { BeginLaw }
 {}
 
-/// A history that goes on is legal, up to a call that failed.
+/// A history that goes on is legal.
 pub fn histories_that_go_on_are_legal()
     ensures { LegalLaw }
 {}
@@ -37,9 +37,4 @@ pub fn pages_at_home_leave_it_legal<D: Disk>()
 /// And so do entries that are handed out.
 pub fn entries_handed_out_leave_it_legal()
     ensures { HandedLaw }
-{}
-
-/// A history of which a front is legal, and in which the first call behind that was refused for a fault, is legal up to one that failed.
-pub fn fronts_before_a_fault_are_legal()
-    ensures { FrontLaw }
 {}

@@ -1,12 +1,12 @@
-//! The entries of a mounted volume are a legal history of a plain file tree, whoever calls, up to a call that was refused for a fault of the disk. Laws alone: there is no code that a mistake could be planted in.
+//! The entries of a mounted volume are a legal history of a plain file tree, whoever calls, also behind a fault of the disk. Laws alone: there is no code that a mistake could be planted in.
 #![tactic(auto)]
 
 mod law;
 
 pub use law::{
     calls_go_on_legally, calls_lent_the_log_go_on_legally, entries_handed_out_leave_it_legal,
-    fronts_before_a_fault_are_legal, histories_that_go_on_are_legal, pages_at_home_leave_it_legal,
-    settled_volumes_leave_it_legal, volumes_that_serve_begin_legally,
+    histories_that_go_on_are_legal, pages_at_home_leave_it_legal, settled_volumes_leave_it_legal,
+    volumes_that_serve_begin_legally,
 };
 
 pub mod unmount {

@@ -152,7 +152,7 @@ module _ (first now : State) (before : ℕ) (counts : first.volume.faults + firs
   later = at_least before total few total_grew
 
   -- where the volume halted, the count rose
-  pub halt_rose : PartRose first now → Rose before total
+  halt_rose : PartRose first now → Rose before total
   halt_rose part = rose_since before (joint now) total few (subst (λ (n : ℕ). Rose n (joint now)) counts (both_rose first.volume.faults now.volume.faults first.high now.high low_high run.since.keeps.low run.since.keeps.high part)) grown
 
   risen_or : {A : Type 0} → A ⊎ PartRose first now → Rose before total ⊎ A

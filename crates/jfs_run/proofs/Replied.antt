@@ -1,5 +1,5 @@
 -- What is known of the replies of a run.
-use Rattle.std.proofs.Common.{◌≡◌, ◌⊎◌, Bool, false, List, sym, ◌∙◌, inl, inr, None}
+use Rattle.std.proofs.Common.{◌≡◌, ◌⊎◌, Bool, false, List, sym, ◌∙◌, inl, inr}
 use Rattle.std.proofs.lemmas.Bool.{false≢true}
 use Rattle.std.specs.Global.{Vec}
 use Rattle.jfs_bits.specs.declared.descriptor.Moment.{Moment}
@@ -8,38 +8,24 @@ use Rattle.jfs_disk.specs.declared.disk.Disk.{Ghosts}
 use Rattle.jfs_super.specs.declared.fields.Super.{Super}
 use Rattle.jfs_plain.specs.declared.call.Line.{Line}
 use Rattle.jfs_server.specs.shared.specs.legal.specs.served.specs.shown.specs.meaning.specs.Image.{IsConsistentImage}
-use Rattle.jfs_run.specs.Legal.{IsLegalRun, IsLegalRunToHalt, HasReplied}
+use Rattle.jfs_run.specs.Legal.{IsLegalRun, HasReplied}
 use Rattle.jfs_run.specs.Mounted.{State}
 use Rattle.jfs_run.specs.Serving.{IsUncalled, IsCalled, IsServed}
 use Rattle.jfs_run.specs.declared.serving.Called.{Called}
-use Rattle.jfs_run.proofs.Legally.{to_halt, whole_legal, while_it_runs}
+use Rattle.jfs_run.proofs.Legally.{legal_run}
 
 module _ {D : Type 0} (d : Ghosts D) (scripts : List (Vec Line)) (now : Moment) (image : Image) (s : Super) (first : State) (marks : List (Vec Bool)) (x : Called D d) (told : d.tells) (consistent : IsConsistentImage s (page_of image)) where
-  halt_by : IsUncalled d x ⊎ IsCalled d scripts now image s marks x → IsLegalRunToHalt s (page_of image) now x.history.items
-  halt_by (inl u) = inl u.history
-  halt_by (inr k) = to_halt s (page_of image) now x.is_broken_off x.history.items x.mounted.volume (k.replied told consistent)
-
-  whole_by : x.is_broken_off ≡ false → IsUncalled d x ⊎ IsCalled d scripts now image s marks x → IsLegalRun s (page_of image) now x.history.items
-  whole_by whole (inl u) = inl u.history
-  whole_by whole (inr k) = whole_legal s (page_of image) now x.is_broken_off x.history.items x.mounted.volume (k.replied told consistent) whole
-
-  running_by : x.mounted.volume.halted ≡ None → IsUncalled d x ⊎ IsCalled d scripts now image s marks x → IsLegalRun s (page_of image) now x.history.items
-  running_by runs (inl u) = inl u.history
-  running_by runs (inr k) = while_it_runs s (page_of image) now x.is_broken_off x.history.items x.mounted.volume (k.replied told consistent) runs
+  legal_by : IsUncalled d x ⊎ IsCalled d scripts now image s marks x → IsLegalRun s (page_of image) now x.history.items
+  legal_by (inl u) = inl u.history
+  legal_by (inr k) = legal_run s (page_of image) now x.is_broken_off x.history.items x.mounted.volume (k.replied told consistent)
 
   replied_by : x.is_broken_off ≡ false → IsUncalled d x ⊎ IsCalled d scripts now image s marks x → HasReplied s (page_of image) now x.is_broken_off x.history.items x.mounted.volume
   replied_by whole (inl u) = absurd (false≢true (sym whole ∙ u.is_broken_off))
   replied_by whole (inr k) = k.replied told consistent
 
   module _ (served : IsServed d scripts now image s first marks x) where
-    pub legal_to_halt : IsLegalRunToHalt s (page_of image) now x.history.items
-    legal_to_halt = halt_by served.calls
-
-    pub legal_whole : x.is_broken_off ≡ false → IsLegalRun s (page_of image) now x.history.items
-    legal_whole whole = whole_by whole served.calls
-
-    pub legal_running : x.mounted.volume.halted ≡ None → IsLegalRun s (page_of image) now x.history.items
-    legal_running runs = running_by runs served.calls
+    pub legal : IsLegalRun s (page_of image) now x.history.items
+    legal = legal_by served.calls
 
     pub replied : x.is_broken_off ≡ false → HasReplied s (page_of image) now x.is_broken_off x.history.items x.mounted.volume
     replied whole = replied_by whole served.calls

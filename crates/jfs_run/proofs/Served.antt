@@ -1,6 +1,5 @@
 -- What a run's server leaves.
-use Rattle.std.proofs.Common.{◌≡◌, ◌⊎◌, ◌<◌, ℕ, Bool, false, List, length, refl, sym, ap, ◌∙◌, subst, inl, inr, arith, None}
-use Rattle.std.specs.Prelude.{Option, Some, is_some}
+use Rattle.std.proofs.Common.{◌≡◌, ◌⊎◌, ◌<◌, ℕ, Bool, false, List, length, sym, ap, ◌∙◌, subst, inl, inr, arith, None}
 use Rattle.std.proofs.lemmas.List.{length-map}
 use Rattle.std.specs.Global.{Vec}
 use Rattle.atomic_table.specs.Seated.{TableId}
@@ -15,11 +14,11 @@ use Rattle.jfs_server.specs.Start.{IsStarted}
 use Rattle.jfs_server.specs.Stopped.{GoesOn, IsEndOf, IsStopped}
 use Rattle.jfs_server.specs.declared.stopping.Stopped.{Stopped}
 use Rattle.jfs_server.specs.shared.specs.Base.{start_of}
-use Rattle.jfs_server.specs.shared.specs.Shared.{IfConsistent, entries_in, timed_in}
+use Rattle.jfs_server.specs.shared.specs.Shared.{IfConsistent, timed_in}
 use Rattle.jfs_server.specs.shared.specs.Shared as shared
 use Rattle.jfs_server.specs.shared.specs.Start.{base_at}
-use Rattle.jfs_server.specs.shared.proofs.Served.{to_halt_law, running_law}
-use Rattle.jfs_server.specs.shared.specs.legal.specs.Until.{AreLegal, AreLegalToHalt}
+use Rattle.jfs_server.specs.shared.proofs.Served.{history_law}
+use Rattle.jfs_server.specs.shared.specs.legal.specs.History.{AreLegal}
 use Rattle.jfs_server.specs.shared.specs.legal.specs.served.specs.mounted.specs.declared.mounted.Mounted.{Mounted}
 use Rattle.jfs_server.specs.shared.specs.legal.specs.served.specs.shown.specs.meaning.specs.Image.{IsConsistentImage, volume_of}
 use Rattle.jfs_server.specs.shared.specs.legal.specs.served.specs.Legal.{Timed}
@@ -105,15 +104,11 @@ module _ {D : Type 0} (d : Ghosts D) (scripts : List (Vec Line)) (now : Moment) 
 
     -- ---- the replies
 
-    none_of : {X : Type 0} (o : Option X) → is_some o ≡ false → o ≡ None
-    none_of None e = refl
-    none_of (Some x) e = absurd cc
-
     module _ (told : d.tells) (spelled : super_of (page_of image 8) ≡ s) (consistent : IsConsistentImage s (page_of image)) (others : AreOfClients (length scripts) stopped.history.items) where
-      served : shared.IsServed s (page_of image) stopped.broken_off st.list stopped.mounted.volume
+      served : shared.IsServed s (page_of image) stopped.is_broken_off st.list stopped.mounted.volume
       served =
-          let by_base = subst (λ (b : Base). IfConsistent b (λ t page. shared.IsServed t page stopped.broken_off st.list stopped.mounted.volume)) base_is (st.served told) in
-          subst (λ (t : Super). IsConsistentImage t (page_of image) → shared.IsServed t (page_of image) stopped.broken_off st.list stopped.mounted.volume) spelled by_base consistent
+          let by_base = subst (λ (b : Base). IfConsistent b (λ t page. shared.IsServed t page stopped.is_broken_off st.list stopped.mounted.volume)) base_is (st.served told) in
+          subst (λ (t : Super). IsConsistentImage t (page_of image) → shared.IsServed t (page_of image) stopped.is_broken_off st.list stopped.mounted.volume) spelled by_base consistent
 
       all : AreAll now failed stopped.mounted.log.durable 1 (marks_in marks) st.list
       all =
@@ -127,14 +122,13 @@ module _ {D : Type 0} (d : Ghosts D) (scripts : List (Vec Line)) (now : Moment) 
       abbrev area : ℕ → ℕ
       area = (volume_of s (page_of image)).area
 
-      pub replied : (is_broken_off : Bool) → is_broken_off ≡ is_some stopped.broken_off → HasReplied s (page_of image) now is_broken_off stopped.history.items stopped.mounted.volume
+      pub replied : (is_broken_off : Bool) → is_broken_off ≡ stopped.is_broken_off → HasReplied s (page_of image) now is_broken_off stopped.history.items stopped.mounted.volume
       replied is_broken_off is = record {
         start = served.start;
         holds = served.holds;
         runs = served.runs;
-        goes_on = λ whole. subst {A = Option ℕ × List Timed} (λ z. shared.GoesOn z.0 area s.logpxd.len served.start z.1 stopped.mounted.volume) (λ i. (none_of stopped.broken_off (sym is ∙ whole) i, moments i)) served.goes_on;
-        to_halt = subst (AreLegalToHalt area s.logpxd.len served.start) moments (to_halt_law stopped.broken_off area s.logpxd.len served.start (timed_in st.list) stopped.mounted.volume served.goes_on);
-        running = λ runs. subst (AreLegal area s.logpxd.len served.start) moments (running_law stopped.broken_off area s.logpxd.len served.start (timed_in st.list) stopped.mounted.volume served.goes_on runs);
+        goes_on = λ whole. subst {A = Bool × List Timed} (λ z. shared.GoesOn z.0 area s.logpxd.len served.start z.1 stopped.mounted.volume) (λ i. ((sym is ∙ whole) i, moments i)) served.goes_on;
+        legal = subst (AreLegal area s.logpxd.len served.start) moments (history_law stopped.is_broken_off area s.logpxd.len served.start (timed_in st.list) stopped.mounted.volume served.goes_on);
       }
 
     -- ---- all of it

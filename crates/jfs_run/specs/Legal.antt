@@ -1,4 +1,4 @@
--- The entries of a mounted volume: a legal history of a plain file tree, up to a call that failed, or to a halt of the volume.
+-- The entries of a mounted volume: a legal history of a plain file tree.
 use Rattle.std.specs.Prelude.{◌≡◌, ◌⊎◌, [], ℕ, Bool, false, List, map, None}
 use Rattle.jfs_bits.specs.declared.descriptor.Moment.{Moment}
 use Rattle.jfs_disk.specs.Image.{Image, page_of}
@@ -11,8 +11,8 @@ use Rattle.jfs_server.specs.shared.specs.legal.specs.served.specs.Laws.{HoldsIma
 use Rattle.jfs_server.specs.shared.specs.legal.specs.served.specs.shown.specs.kinds.specs.Images.{HasWholeFiles}
 use Rattle.jfs_server.specs.shared.specs.legal.specs.served.specs.unmount.specs.Unmount.{Ends}
 use Rattle.jfs_server.specs.shared.specs.legal.specs.served.specs.Legal.{Timed, IsLegal}
-use Rattle.jfs_server.specs.shared.specs.legal.specs.Until.{at}
-use Rattle.jfs_server.specs.shared.specs.legal.specs.Until as until
+use Rattle.jfs_server.specs.shared.specs.legal.specs.History.{at}
+use Rattle.jfs_server.specs.shared.specs.legal.specs.History as history
 use Rattle.jfs_super.specs.Rules.{blocks_of}
 use Rattle.jfs_super.specs.declared.fields.Super.{Super}
 use Rattle.jfs_plain.specs.Moves.{Same}
@@ -26,17 +26,13 @@ use Rattle.jfs_run.specs.declared.run.RunEnd.TheVariants as ends
 abbrev pub all_at : Moment → List Entry → List Timed
 all_at now es = map (at now) es
 
--- All are legal, or those up to one that failed.
+-- all are legal
 abbrev pub AreLegal : (ℕ → ℕ) → ℕ → Moment → Parts → List Entry → Type 0
-AreLegal area log_pages now start es = until.AreLegal area log_pages start (all_at now es)
+AreLegal area log_pages now start es = history.AreLegal area log_pages start (all_at now es)
 
--- the same, and where all are, the next call may come
+-- the same, and the next call may come
 abbrev pub GoOn : (ℕ → ℕ) → ℕ → Moment → Parts → List Entry → Parts → Type 0
-GoOn area log_pages now start es p = until.GoOn area log_pages start (all_at now es) p
-
--- All are legal, or those up to one that failed; or those up to where the volume halted, and each behind that was refused, or changes nothing.
-abbrev pub AreLegalToHalt : (ℕ → ℕ) → ℕ → Moment → Parts → List Entry → Type 0
-AreLegalToHalt area log_pages now start es = until.AreLegalToHalt area log_pages start (all_at now es)
+GoOn area log_pages now start es p = history.GoOn area log_pages start (all_at now es) p
 
 -- ---- a run
 
@@ -50,24 +46,6 @@ pub record FollowsTree (s : Super) (page : ℕ → List ℕ) (now : Moment) (es 
 
 abbrev pub IsLegalRun : Super → (ℕ → List ℕ) → Moment → List Entry → Type 0
 IsLegalRun s page now es = (es ≡ []) ⊎ FollowsTree s page now es
-
--- so up to a halt
-pub record FollowsTreeToHalt (s : Super) (page : ℕ → List ℕ) (now : Moment) (es : List Entry) : Type 0 where
-  pub start : Parts
-  pub runs : start.halted ≡ None
-  pub tree : Same (tree_of s page) (tree_at (meaning.volume_of s page).area start)
-  pub room : room_at (meaning.volume_of s page).area s.logpxd.len start ≡ meaning.room_of s page
-  pub legal : AreLegalToHalt (meaning.volume_of s page).area s.logpxd.len now start es
-
-abbrev pub IsLegalRunToHalt : Super → (ℕ → List ℕ) → Moment → List Entry → Type 0
-IsLegalRunToHalt s page now es = (es ≡ []) ⊎ FollowsTreeToHalt s page now es
-
--- Of a run that is done all are legal. Where a call on the disk failed, or memory ran out, those up to a halt are.
-abbrev pub LegalBy : RunEnd → Super → (ℕ → List ℕ) → Moment → List Entry → Type 0
-LegalBy ends.Done s page now es = IsLegalRun s page now es
-LegalBy (ends.BadImage bad) s page now es = es ≡ []
-LegalBy ends.Disk s page now es = IsLegalRunToHalt s page now es
-LegalBy ends.Memory s page now es = IsLegalRunToHalt s page now es
 
 -- ---- a run that is done
 
@@ -96,11 +74,10 @@ IfUnmounted end is_left fact = end ≡ ends.Done → is_left ≡ false → fact
 abbrev pub WasUnmounted : (tells crashes : Type 0) → List ℕ → Parts → LogParts → Image → Type 0
 WasUnmounted tells crashes superblock volume log image = (past : List DiskState) × Ends tells crashes superblock volume log image past
 
--- The entries are legal from a volume on that holds the image's tree, up to a halt, and all of them while these parts run; and where they didn't break off, they go on from these parts.
+-- The entries are legal from a volume on that holds the image's tree; and where they didn't break off, they go on from these parts.
 pub record HasReplied (s : Super) (page : ℕ → List ℕ) (now : Moment) (is_broken_off : Bool) (es : List Entry) (p : Parts) : Type 0 where
   pub start : Parts
   pub holds : HoldsImage s page start
   pub runs : start.halted ≡ None
   pub goes_on : is_broken_off ≡ false → GoOn (meaning.volume_of s page).area s.logpxd.len now start es p
-  pub to_halt : AreLegalToHalt (meaning.volume_of s page).area s.logpxd.len now start es
-  pub running : p.halted ≡ None → AreLegal (meaning.volume_of s page).area s.logpxd.len now start es
+  pub legal : AreLegal (meaning.volume_of s page).area s.logpxd.len now start es

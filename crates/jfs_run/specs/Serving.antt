@@ -1,5 +1,5 @@
 -- What a server leaves behind the calls of a run's clients.
-use Rattle.std.specs.Prelude.{◌≡◌, ◌⊎◌, ◌≤◌, ◌==◌, [], ◌∷◌, ℕ, suc, Bool, true, false, is_some, List, length, take, vec_capacity}
+use Rattle.std.specs.Prelude.{◌≡◌, ◌⊎◌, ◌≤◌, ◌==◌, [], ◌∷◌, ℕ, suc, Bool, true, false, List, length, take, vec_capacity}
 use Rattle.std.specs.Bool.{MatchBool}
 use Rattle.std.specs.Global.{Vec}
 use Rattle.jfs_bits.specs.declared.descriptor.Moment.{Moment}
@@ -75,7 +75,7 @@ module _ {D : Type 0} (d : Ghosts D) where
     pub history : x.history ≡ stopped.history
     pub others : AreOfClients (length scripts) x.history.items
     pub whole : x.is_whole ≡ true → AreAsMany scripts marks
-    pub is_broken_off : x.is_broken_off ≡ is_some stopped.broken_off
+    pub is_broken_off : x.is_broken_off ≡ stopped.is_broken_off
     pub failed_is : x.failed ≡ failed
 
   -- The history is that of a list which the clients' calls made, of a volume that was mounted from this image.

@@ -1,7 +1,6 @@
 //! A run on the volume of a disk.
 
-ghost use Rattle.std.specs.Prelude.{◌≡◌, ◌⊎◌, ◌≤◌, ◌<◌, ◌+◌, ◌-◌, ◌^◌, [], length, vec_capacity, IfOk, IfErr};
-ghost use Rattle.jfs_bits.specs.Count.{Rose};
+ghost use Rattle.std.specs.Prelude.{◌≡◌, ◌≤◌, ◌<◌, ◌+◌, ◌-◌, ◌^◌, [], length, vec_capacity, IfOk, IfErr};
 ghost use Rattle.jfs_disk.specs.Image.{page_of};
 ghost use Rattle.jfs_super.specs.Rules.{IsAccepted};
 ghost use Rattle.jfs_super.specs.Super.{super_of, FitsSuper};
@@ -11,7 +10,7 @@ ghost use Rattle.jfs_server.specs.shared.specs.Start.{IsJustMounted};
 ghost use Rattle.jfs_server.specs.shared.specs.legal.specs.served.specs.mounted.specs.declared.mounted.MountError.{MountError};
 ghost use Rattle.jfs_server.specs.shared.specs.legal.specs.served.specs.volume_calls.specs.Together.{log_parts};
 ghost use Rattle.jfs_mount.specs.meaning.specs.Image.{IsConsistentImage};
-ghost use Rattle.jfs_run.specs.Legal.{IsLegalRun, LegalBy, LeavesImage, IfUnmounted};
+ghost use Rattle.jfs_run.specs.Legal.{IsLegalRun, LeavesImage, IfUnmounted};
 ghost use Rattle.jfs_run.specs.Run.{RunIs, seen};
 ghost use Rattle.jfs_run.specs.Mounted.{state, MayCall};
 ghost use Rattle.jfs_run.specs.Serving.{HaveRoom};
@@ -89,10 +88,8 @@ pub fn run_lines<D: Disk + Send, G: Gate + Sync, R: Threads + Wait + Sync>(
     requires spelled { D.tells → super_of (page_of (D.image disk) 8) ≡ s.now }
     requires plan { IsPlan (plan_of scripts.now) }
     ensures ran { RunIs D.tells D.tells_crashes s.now (plan_of scripts.now) is_left (seen D.Disk disk) (seen D.Disk result.disk) (record { history = result.history.items; told = result.told.items }) result.end }
-    // Of a disk that tells its contents and is a consistent image, the replies are those of a plain file tree, where the run isn't done up to a halt.
-    ensures legal { D.tells → IsConsistentImage s.now (page_of (D.image disk)) → LegalBy result.end s.now (page_of (D.image disk)) now result.history.items }
-    // While no call on the disk fails, all of them are.
-    ensures unbroken { D.tells → IsConsistentImage s.now (page_of (D.image disk)) → Rose (D.fault_count disk) (D.fault_count result.disk) ⊎ IsLegalRun s.now (page_of (D.image disk)) now result.history.items }
+    // Of a disk that tells its contents and is a consistent image, the replies are those of a plain file tree.
+    ensures legal { D.tells → IsConsistentImage s.now (page_of (D.image disk)) → IsLegalRun s.now (page_of (D.image disk)) now result.history.items }
     // What such a run leaves where it is done, and the volume wasn't to be left: an image of the tree behind the last reply.
     ensures leaves { D.tells → IfUnmounted result.end is_left (LeavesImage s.now (D.image disk) now result.history.items (D.image result.disk)) }
     // so that the text of a history may be written
@@ -121,10 +118,8 @@ fn run_from<I: MountedFrom, D: Disk + Send, G: Gate + Sync, R: Threads + Wait + 
     requires spelled { D.tells → super_of (page_of (D.image disk) 8) ≡ s.now }
     requires plan { IsPlan (plan_of scripts.now) }
     ensures ran { RunIs D.tells D.tells_crashes s.now (plan_of scripts.now) is_left (seen D.Disk disk) (seen D.Disk result.disk) (record { history = result.history.items; told = result.told.items }) result.end }
-    // Of a disk that tells its contents and is a consistent image, the replies are those of a plain file tree, where the run isn't done up to a halt.
-    ensures legal { D.tells → IsConsistentImage s.now (page_of (D.image disk)) → LegalBy result.end s.now (page_of (D.image disk)) now result.history.items }
-    // While no call on the disk fails, all of them are.
-    ensures unbroken { D.tells → IsConsistentImage s.now (page_of (D.image disk)) → Rose (D.fault_count disk) (D.fault_count result.disk) ⊎ IsLegalRun s.now (page_of (D.image disk)) now result.history.items }
+    // Of a disk that tells its contents and is a consistent image, the replies are those of a plain file tree.
+    ensures legal { D.tells → IsConsistentImage s.now (page_of (D.image disk)) → IsLegalRun s.now (page_of (D.image disk)) now result.history.items }
     // What such a run leaves where it is done, and the volume wasn't to be left: an image of the tree behind the last reply.
     ensures leaves { D.tells → IfUnmounted result.end is_left (LeavesImage s.now (D.image disk) now result.history.items (D.image result.disk)) }
     // so that the text of a history may be written
@@ -245,8 +240,7 @@ fn run_mounted<I: MountedFrom, D: Disk + Send, G: Gate + Sync, R: Threads + Wait
     requires none { taken.told.items ≡ [] }
     requires capacity { (lines_in (plan_of scripts.now) ≤ vec_capacity taken.told) × HaveRoom scripts.now taken.marks.items }
     ensures ran { RunSince D.tells D.tells_crashes taken.superblock.0 (plan_of scripts.now) is_left before (seen D.Disk result.disk) (record { history = result.history.items; told = result.told.items }) result.end }
-    ensures legal { D.tells → IsConsistentImage I.block (page_of I.image) → LegalBy result.end I.block (page_of I.image) now result.history.items }
-    ensures unbroken { D.tells → IsConsistentImage I.block (page_of I.image) → Rose before (D.fault_count result.disk) ⊎ IsLegalRun I.block (page_of I.image) now result.history.items }
+    ensures legal { D.tells → IsConsistentImage I.block (page_of I.image) → IsLegalRun I.block (page_of I.image) now result.history.items }
     ensures leaves { D.tells → super_of taken.superblock.0 ≡ record I.block { state = CLEAN } → IfUnmounted result.end is_left (LeavesImage I.block I.image now result.history.items (D.image result.disk)) }
     ensures rising { IsRisingFrom 1 result.told.items }
     ensures pages { D.page_count result.disk ≡ m.volume.count + D.page_count m.log.part }

@@ -2,7 +2,7 @@
 
 ghost use Rattle.std.specs.Prelude.{◌≡◌, ◌⊎◌, ◌<◌, ◌+◌, ◌^◌, ℕ, List};
 ghost use Rattle.jfs_server.specs.shared.specs.Start.{IsJustMounted};
-ghost use Rattle.jfs_server.specs.shared.specs.legal.specs.Until.{GoOn};
+ghost use Rattle.jfs_server.specs.shared.specs.legal.specs.History.{GoOn};
 ghost use Rattle.jfs_server.specs.shared.specs.legal.specs.served.specs.halves.specs.Parts.{Parts};
 ghost use Rattle.jfs_server.specs.shared.specs.legal.specs.served.specs.Legal.{Timed};
 ghost use Rattle.jfs_server.specs.shared.specs.legal.specs.served.specs.volume_calls.specs.Together.{log_parts};
@@ -31,7 +31,7 @@ pub struct Called<D: Disk> {
     pub history: Vec<Entry>,
     /// Whether each line has its entry.
     pub is_whole: bool,
-    /// Whether memory ran out for one, or a syncpoint failed, so that nothing is said of the tree behind the entries.
+    /// Whether memory ran out for one, so that nothing is said of the tree behind the entries.
     pub is_broken_off: bool,
     /// Whether a client was told that an entry couldn't be made durable.
     pub failed: bool,
@@ -106,7 +106,7 @@ fn handed_out<D: Disk>(
     let Stopped {
         mounted,
         history,
-        broken_off,
+        is_broken_off,
     } = stopped;
     if !are_of_clients(history.as_slice(), scripts.len()) {
         return uncalled(alloc, mounted);
@@ -115,7 +115,7 @@ fn handed_out<D: Disk>(
         mounted,
         history,
         is_whole: are_whole(scripts, marks),
-        is_broken_off: broken_off.is_some(),
+        is_broken_off,
         failed,
     }
 }

@@ -6,10 +6,10 @@ use Rattle.std.proofs.lemmas.Bool.{and_parts, eqb-true, ltb-true, leb-true}
 use Rattle.jfs_shown.specs.bmap.specs.States.{Blocks, BlockState, Free, Owned, Reserved, Busy, state_of, is_owned, is_owned_state, settled_state, blocks_settled}
 use Rattle.jfs_shown.specs.meaning.specs.Readers.{readers}
 use Rattle.jfs_unmount.specs.Synced.{NoneFreed}
-use Rattle.jfs_unmount.proofs.Synced.{settled_at, settled_owned, settled_size, home_law as maps_home}
+use Rattle.jfs_unmount.proofs.Synced.{settled_at, settled_owned, settled_size, still_known_law as still_known}
 use Rattle.jfs_room.specs.Laws.{NoneReserved}
 use Rattle.jfs_call.specs.volume.specs.Settles.{is_freed, Settles, SettlesTo, KeepsMap, StaysShown}
-use Rattle.jfs_call.specs.volume_calls.specs.Written.{KeepsPages, WritesMaps}
+use Rattle.jfs_call.specs.volume_calls.specs.Written.{KeepsPages, LeavesMaps}
 use Rattle.jfs_call.specs.volume_calls.proofs.Kept.{shown}
 use Rattle.jfs_call.specs.volume.specs.Told.{still_freed}
 use Rattle.jfs_call.specs.halves.specs.Parts.{Parts}
@@ -145,8 +145,8 @@ module _ (area : ℕ → ℕ) (log_pages : ℕ) (old new : Parts) (h : HoldsTree
   acknowledged k = settled (shown ⊤ old new k)
       (files_stay area log_pages old new h (unchanged area old new (λ b more. k.view tt b (none_freed area log_pages old h b more)) k.files (size_by s.map) (λ b. owned_by b s.map) s.inodes))
 
-  pub pointed : StaysShown ⊤ old new → WritesMaps old new → StaysServing area log_pages old new
-  pointed shown maps = settled shown (λ super knows. (maps_home super area old new knows (consistent_in super area log_pages old h knows) (none_freed area log_pages old h) s shown maps).knows)
+  pub pointed : StaysShown ⊤ old new → LeavesMaps old new → StaysServing area log_pages old new
+  pointed shown maps = settled shown (λ super knows. still_known super area old new knows (consistent_in super area log_pages old h knows) (none_freed area log_pages old h) s shown maps)
 
 pub acknowledged_law : AcknowledgedLaw
 acknowledged_law area log_pages old new h s k = acknowledged area log_pages old new h s k

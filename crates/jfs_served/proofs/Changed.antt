@@ -1,9 +1,9 @@
 -- A call whose entry joins with a transaction takes the plain step.
 use Rattle.std.specs.Bool.{⊤}
-use Rattle.std.proofs.Common.{◌≡◌, ◌<◌, ◌≤◌, ◌⊎◌, ◌==◌, ◌+◌, ◌^◌, refl, sym, ap, ◌∙◌, subst, ℕ, false, nat_lt, if◌then◌else◌, List, [], ◌∷◌, ◌++◌, length, set, inl, inr, Ok, arith}
+use Rattle.std.proofs.Common.{◌≡◌, ◌<◌, ◌≤◌, ◌⊎◌, ◌+◌, ◌^◌, refl, sym, ap, ◌∙◌, subst, ℕ, false, nat_lt, if◌then◌else◌, List, [], ◌++◌, length, inl, inr, Ok, arith}
 use Rattle.std.specs.List.{AllByRecursion}
-use Rattle.std.proofs.lemmas.Bool.{and_parts, cases_eq, cases_lt, ltb-true, eq-eqb, ne_eqb}
-use Rattle.std.proofs.lemmas.List.{get_or_past, get_or-set_same, get_or-set_other, length-set}
+use Rattle.std.proofs.lemmas.Bool.{and_parts, cases_lt, ltb-true}
+use Rattle.std.proofs.lemmas.List.{get_or_past}
 use Rattle.jfs_bits.specs.declared.descriptor.Moment.{Moment}
 use Rattle.jfs_disk.specs.Image.{Image, page_of}
 use Rattle.jfs_ranges.specs.Apply.{apply_tx}
@@ -40,7 +40,7 @@ use Rattle.jfs_call.specs.volume.specs.MapsHome.{HoldsNone}
 use Rattle.jfs_call.specs.volume.specs.Runs.{taken_in, freed_in, pages_freed}
 use Rattle.jfs_call.specs.volume.specs.Stale.{changes_blocks, changes_inodes, stale_after}
 use Rattle.jfs_call.specs.crash_core.specs.Image.{pages_after}
-use Rattle.jfs_call.specs.volume.specs.data_steps.specs.After.{LieWithin, page_put, put_data, after_writes}
+use Rattle.jfs_call.specs.volume.specs.data_steps.specs.After.{put_data, after_writes}
 use Rattle.jfs_call.specs.volume.specs.data_steps.specs.declared.pages.DataPage.{DataPage}
 use Rattle.jfs_call.specs.volume.specs.data_steps.specs.steps.specs.Call.{IsDone}
 use Rattle.jfs_call.specs.halves.specs.Change.{SameStates}
@@ -54,6 +54,7 @@ use Rattle.jfs_call.specs.plain.specs.declared.call.Request.{Request}
 use Rattle.jfs_call.specs.plain.specs.declared.reply.Reply.TheVariants.{Done}
 use Rattle.jfs_call.specs.volume.specs.records.specs.Limits.{IsLoggable}
 use Rattle.jfs_call.specs.volume.specs.records.specs.Records.{noted, tx_of}
+use Rattle.jfs_call.specs.volume.proofs.PartlyPut.{put_at}
 use Rattle.jfs_call.specs.volume.proofs.Taken.{takes_runs}
 use Rattle.jfs_call.specs.volume.proofs.Texts.{tx_of-noted}
 use Rattle.jfs_served.specs.Holds.{blocks_at, volume_at, tree_at, room_at, IsBusyPage, MayServe, KeepsFiles}
@@ -66,16 +67,6 @@ use Rattle.jfs_served.proofs.Given.{mid_size}
 use Rattle.jfs_served.proofs.Keeps.{between}
 use Rattle.jfs_served.proofs.Replies.{by_outcome}
 use Rattle.jfs_served.proofs.Stale.{neither, no_runs, no_marks, same_groups}
-
--- pages that are put into an image which has their places
-put_at : (ds : List DataPage) (image : Image) (blocks b : ℕ) → LieWithin blocks ds → blocks ≤ length image → page_of (put_pages ds image) b ≡ page_put ds b (page_of image b)
-put_at [] image blocks b lie fits = refl
-put_at (d ∷ ds) image blocks b lie fits =
-    put_at ds (set image d.block d.page.0) blocks b lie.1 (let s = length-set image d.block d.page.0 in omega (arith, fits, s)) ∙ ap (page_put ds b) (by (cases_eq d.block b))
-  where
-    by : (d.block ≡ b) ⊎ (d.block ≡ b → ⊥) → page_of (set image d.block d.page.0) b ≡ (if d.block == b then d.page.0 else page_of image b)
-    by (inl e) = ap (λ (k : ℕ). page_of (set image d.block d.page.0) k) (sym e) ∙ get_or-set_same image d.block d.page.0 [] (let l = lie.0 in omega (arith, l, fits)) ∙ sym (rw (eq-eqb d.block b e) refl)
-    by (inr other) = get_or-set_other image d.block b d.page.0 [] (λ e. other (sym e)) ∙ sym (rw (ne_eqb d.block b other) refl)
 
 -- an image with so many whole pages has their places
 fits_whole : (blocks : ℕ) (image : Image) → AreWhole blocks image → blocks ≤ length image

@@ -9,7 +9,9 @@ use Rattle.jfs_call.specs.volume.specs.Asked.{IsAskedOf}
 use Rattle.jfs_call.specs.volume.specs.Called.{JoinsWith, GoesOn, CallIs}
 use Rattle.jfs_call.specs.volume.specs.declared.calling.Called.{Called}
 use Rattle.jfs_call.specs.volume.specs.declared.calling.Called.TheVariants.{Entered, NoRoom, NoMemory, Failed, Unfit}
+use Rattle.jfs_call.specs.volume.specs.Data.{IsPartlyPut}
 use Rattle.jfs_call.specs.volume.specs.Settles.{StaysShown, HomesAlone}
+use Rattle.jfs_call.specs.volume.specs.data_steps.specs.After.{EachOnce}
 use Rattle.jfs_call.specs.volume.specs.data_steps.specs.declared.pages.DataPage.{DataPage}
 use Rattle.jfs_call.specs.volume_calls.specs.Written.{KeepsPages}
 use Rattle.jfs_call.specs.halves.specs.Log.{LogParts}
@@ -50,9 +52,10 @@ module _ (tells crashes : Type 0) (told : tells) where
   told_called entry tx put old new Unfit (back, on) = (back, told_on old new on)
   told_called entry tx put old new (Failed fault) (back, fails) = (back, record { is_fault = fails.is_fault; halted = by fails.halted })
     where
-      by : ((new.halted ≡ old.halted) × (tells → new.view ≡ old.view)) ⊎ (new.halted ≡ Some fault) → ((new.halted ≡ old.halted) × (⊤ → new.view ≡ old.view)) ⊎ (new.halted ≡ Some fault)
+      by : ((new.halted ≡ old.halted) × (tells → new.view ≡ old.view)) ⊎ ((new.halted ≡ Some fault) × (tells → EachOnce put → IsPartlyPut put old.view new.view))
+          → ((new.halted ≡ old.halted) × (⊤ → new.view ≡ old.view)) ⊎ ((new.halted ≡ Some fault) × (⊤ → EachOnce put → IsPartlyPut put old.view new.view))
       by (inl (same, view)) = inl (same, λ t. view told)
-      by (inr halts) = inr halts
+      by (inr (halts, partly)) = inr (halts, λ t. partly told)
 
   pub told_pages : (old new : Parts) → KeepsPages tells old new → KeepsPages ⊤ old new
   told_pages old new k = record { files = k.files; view = λ t. k.view told }

@@ -32,11 +32,13 @@ use Rattle.jfs_entered.specs.Marked.{HasBits}
 use Rattle.jfs_call.specs.files.specs.Written.{StartsWith}
 use Rattle.jfs_call.specs.files.specs.declared.outcome.FileOutcome.TheVariants.{Changed}
 use Rattle.jfs_call.specs.volume.specs.Called.{GivesBack}
+use Rattle.jfs_call.specs.volume.specs.Data.{IsPartly, IsPartlyPut}
+use Rattle.jfs_call.specs.volume.specs.Join.{with_entry}
 use Rattle.jfs_call.specs.volume.specs.MapsHome.{HoldsNone}
 use Rattle.jfs_call.specs.volume.specs.Runs.{taken_in}
 use Rattle.jfs_call.specs.volume.specs.data_steps.specs.After.{is_put, page_put, put_data, with_data}
 use Rattle.jfs_call.specs.volume.specs.data_steps.specs.File.{bytes_held}
-use Rattle.jfs_call.specs.volume.specs.data_steps.specs.Laws.{MayPut, IsFilePut}
+use Rattle.jfs_call.specs.volume.specs.data_steps.specs.Laws.{MayPut, PutsOwn, IsFilePut}
 use Rattle.jfs_call.specs.volume.specs.data_steps.specs.declared.pages.DataPage.{DataPage}
 use Rattle.jfs_call.specs.volume.specs.data_steps.proofs.Files.{file_before}
 use Rattle.jfs_call.specs.volume.specs.data_steps.proofs.Putting.{put_off, put_on, put_whole}
@@ -45,14 +47,14 @@ use Rattle.jfs_call.specs.halves.specs.declared.freed.FreedPage.{FreedPage}
 use Rattle.jfs_call.specs.volume.specs.pages.specs.Device.{IsFault}
 use Rattle.jfs_call.specs.plain.specs.CallStep.{written_file, writes_over_in, LeavesRest}
 use Rattle.jfs_call.specs.plain.specs.Tree.{Tree}
+use Rattle.jfs_call.specs.plain.specs.declared.call.Entry.{Entry}
 use Rattle.jfs_call.specs.plain.specs.declared.call.Request.{Request}
 use Rattle.jfs_call.specs.plain.specs.declared.refusal.Refusal.TheVariants.{IoFault}
 use Rattle.jfs_call.specs.plain.specs.declared.reply.Reply.TheVariants.{Refused}
 use Rattle.jfs_served.specs.Holds.{blocks_at, volume_at, tree_at, IsBusyPage, MayServe}
-use Rattle.jfs_call.specs.volume.specs.data_steps.specs.Laws.{PutsOwn}
 use Rattle.jfs_served.specs.Follows.{tears}
 use Rattle.jfs_served.specs.Step.{IsAsked, IsAnswer, TakesStep}
-use Rattle.jfs_served.specs.Torn.{IsPartlyPut, TornLaw}
+use Rattle.jfs_served.specs.Torn.{TornLaw}
 use Rattle.jfs_served.proofs.Files.{area_used, data_held, unchanged, files_stay}
 use Rattle.jfs_served.proofs.Given.{all_busy, back_at, back_size, state_by}
 use Rattle.jfs_served.proofs.Keeps.{between}
@@ -114,7 +116,7 @@ either_byte one other mix es size i x either first second = by (nat_lt i size) (
 
 module _ (area : ℕ → ℕ) (log_pages : ℕ) (request : Request) (now : Moment) (tx : List Edit) (put : List DataPage) (fault : Fault) (old mid new : Parts)
     (may : MayServe area log_pages old) (asked : IsAsked old mid) (answer : IsAnswer request now old mid (Changed tx put)) (own : PutsOwn (blocks_at old) (volume_at area old) put)
-    (back : GivesBack tx mid new) (partly : IsPartlyPut put mid.view new.view) (cause : IsFault old.faults new.faults fault) where
+    (back : GivesBack tx mid new) (partly : IsPartlyPut put mid.view new.view) (cause : IsFault old.faults new.faults fault) (entry : Entry) where
   abbrev n : ℕ
   n = blocks_at old
 
@@ -172,13 +174,20 @@ module _ (area : ℕ → ℕ) (log_pages : ℕ) (request : Request) (now : Momen
 
       by : (x : Bool) → is_put b put ≡ x → (get_or (put_data ds v.page b) j 0 ≡ get_or (v.page b) j 0) ⊎ (get_or (put_data ds v.page b) j 0 ≡ get_or (put_data put v.page b) j 0)
       by false e = inl (ap (λ (page : List ℕ). get_or page j 0) (now_is ∙ part.others b e))
-      by true e =
-          let sectors = part.each b e in
-          let same = ap (λ (page : List ℕ). get_or page j 0) (now_is ∙ sectors.2) in
-          elim (torn_byte sectors.0 (put_data put v.page b) (v.page b) j sectors.1 (put_whole put b (v.page b) answer.contents.1 e)) [
-            | inl h ↦ inr (same ∙ h)
-            | inr h ↦ inl (same ∙ h)
-          ]
+      by true e = either (part.each b e)
+        where
+          byte : (page : List ℕ) → page_of new.view b ≡ page → get_or (put_data ds v.page b) j 0 ≡ get_or page j 0
+          byte page is = ap (λ (p : List ℕ). get_or p j 0) (now_is ∙ is)
+
+          either : IsPartly (put_data put v.page b) (v.page b) (page_of new.view b) → (get_or (put_data ds v.page b) j 0 ≡ get_or (v.page b) j 0) ⊎ (get_or (put_data ds v.page b) j 0 ≡ get_or (put_data put v.page b) j 0)
+          either (inl is) = inr (byte (put_data put v.page b) is)
+          either (inr (inl is)) = inl (byte (v.page b) is)
+          either (inr (inr (sectors, few, is))) =
+              let same = byte (torn sectors (put_data put v.page b) (v.page b)) is in
+              elim (torn_byte sectors (put_data put v.page b) (v.page b) j few (put_whole put b (v.page b) answer.contents.1 e)) [
+                | inl h ↦ inr (same ∙ h)
+                | inr h ↦ inl (same ∙ h)
+              ]
 
   rest : LeavesRest t request.call (tree_on r (with_data ds v))
   rest = record { nodes = done.same.nodes; bytes = bytes }
@@ -240,7 +249,7 @@ module _ (area : ℕ → ℕ) (log_pages : ℕ) (request : Request) (now : Momen
         | inr some ↦ absurd (held some)
       ]
 
-  pub torn_step : TakesStep area log_pages request.call now (Refused (IoFault fault)) old new
+  pub torn_step : TakesStep area log_pages request.call now (Refused (IoFault fault)) old (with_entry entry new)
   torn_step = record {
     step = (inl cause, leaves);
     follows = tears fault refl (record { put = ds; own = own_now; size = size; alike = alike });
@@ -260,5 +269,18 @@ module _ (area : ℕ → ℕ) (log_pages : ℕ) (request : Request) (now : Momen
     files = files_stay area log_pages old new may.holds (unchanged area old new area_stays (sym (ap (λ (p : Parts). p.files) parts)) size (λ b. ap is_owned_state (state_is b)) inodes);
   }
 
+-- what was put in part is a file's own
+own_of : (blocks : ℕ) (v : Volume) (put : List DataPage) → (put ≡ []) ⊎ PutsOwn blocks v put → 0 < length put → PutsOwn blocks v put
+own_of blocks v put (inl none) some = absurd (let e = ap (λ (ds : List DataPage). length ds) none in omega (arith, e, some))
+own_of blocks v put (inr own) some = own
+
 pub torn_law : TornLaw
-torn_law = torn_step
+torn_law area log_pages request now tx put fault entry old mid torn new may asked answer back partly cause is =
+    subst (λ (p : Parts). TakesStep area log_pages request.call now (Refused (IoFault fault)) old p) (sym is)
+    (torn_step area log_pages request now tx put fault old mid torn may asked answer (own_of (blocks_at old) (volume_at area old) put starts.own put_now.some) back put_now cause entry)
+  where
+    starts : StartsWith (blocks_at old) (volume_at area old) request.call put
+    starts = answer.starts (between area log_pages old may) area may.holds.consistent log_pages may.holds.limit
+
+    put_now : IsPartlyPut put mid.view torn.view
+    put_now = partly starts.once

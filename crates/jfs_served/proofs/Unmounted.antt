@@ -45,7 +45,7 @@ module _ (s : Super) (area : ℕ → ℕ) (superblock : List ℕ) (p : Parts) (l
   q = ends.point.volume
 
   stays : StaysServing area s.logpxd.len p q
-  stays = pointed_law area s.logpxd.len p q h ends.point.settles ends.point.shown (ends.point.maps tt)
+  stays = pointed_law area s.logpxd.len p q h ends.point.settles ends.point.shown (ends.point.maps tt).leaves
 
   home : IsHome s area p q
   home = home_law s area p q knows (consistent_in s area s.logpxd.len p h knows) (none_freed area s.logpxd.len p h) ends.point.settles ends.point.shown (ends.point.maps tt)

@@ -18,7 +18,7 @@ use Rattle.jfs_call.specs.volume.specs.Join.{with_entry}
 use Rattle.jfs_call.specs.volume.specs.Settles.{Settles, StaysShown, HomesAlone}
 use Rattle.jfs_call.specs.volume.specs.declared.calling.Called.{Called}
 use Rattle.jfs_call.specs.volume.specs.data_steps.specs.declared.pages.DataPage.{DataPage}
-use Rattle.jfs_call.specs.volume_calls.specs.Written.{KeepsPages, WritesMaps}
+use Rattle.jfs_call.specs.volume_calls.specs.Written.{KeepsPages, LeavesMaps}
 use Rattle.jfs_call.specs.halves.specs.Log.{LogParts}
 use Rattle.jfs_call.specs.halves.specs.Parts.{Parts}
 use Rattle.jfs_call.specs.volume.specs.pages.specs.Device.{IsFault}
@@ -90,9 +90,9 @@ pub record RefusedLaw : Type 0 where
 abbrev pub AcknowledgedLaw : Type 0
 AcknowledgedLaw = (area : ℕ → ℕ) (log_pages : ℕ) (old new : Parts) → HoldsTree area log_pages old → Settles old new → KeepsPages ⊤ old new → StaysServing area log_pages old new
 
--- a syncpoint writes the pages of the maps, too
+-- a syncpoint writes the pages of the maps, too, or some of them where it fails
 abbrev pub PointedLaw : Type 0
-PointedLaw = (area : ℕ → ℕ) (log_pages : ℕ) (old new : Parts) → HoldsTree area log_pages old → Settles old new → StaysShown ⊤ old new → WritesMaps old new → StaysServing area log_pages old new
+PointedLaw = (area : ℕ → ℕ) (log_pages : ℕ) (old new : Parts) → HoldsTree area log_pages old → Settles old new → StaysShown ⊤ old new → LeavesMaps old new → StaysServing area log_pages old new
 
 -- pages go home, or the low part is synced
 abbrev pub HomeLaw : Type 0

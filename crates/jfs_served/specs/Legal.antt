@@ -11,7 +11,7 @@ pub record Timed : Type 0 where
   pub entry : Entry
   pub now : Moment
 
--- From the first parts to the last: each entry's reply and the tree after it are those of a step of a plain file tree, with the volume's room before it. The volume after it is consistent, and follows from the one before by one transaction, or keeps its tree and its room; and between two steps it keeps both.
+-- From the first parts to the last: each entry's reply and the tree after it are those of a step of a plain file tree, with the volume's room before it. The volume after it is consistent, and follows from the one before by one transaction, or keeps its tree and its room, or, where the call was refused for a fault, has other bytes in blocks of a file's own or of nobody; and between two steps it keeps tree and room.
 pub data IsLegal (area : ℕ → ℕ) (log_pages : ℕ) (start : Parts) : List Timed → Parts → Type 0 where
   starts : IsLegal area log_pages start [] start
   keeps : (es : List Timed) (old new : Parts) → IsLegal area log_pages start es old → KeepsTree area log_pages old new → IsLegal area log_pages start es new

@@ -9,6 +9,7 @@ use Rattle.jfs_call.specs.files.specs.Written.{FitsData, Starts, FreesOrTaken}
 use Rattle.jfs_call.specs.files.specs.Bytes.{bars}
 use Rattle.jfs_call.specs.files.specs.declared.outcome.FileOutcome.{FileOutcome}
 use Rattle.jfs_call.specs.volume.specs.Asked.{maps_in}
+use Rattle.jfs_call.specs.volume.specs.Join.{with_entry}
 use Rattle.jfs_call.specs.volume.specs.declared.calling.Called.{Called}
 use Rattle.jfs_call.specs.volume.specs.declared.calling.Called.TheVariants.{Entered, NoRoom, NoMemory, Failed, Unfit}
 use Rattle.jfs_call.specs.halves.specs.Parts.{Parts}
@@ -16,10 +17,11 @@ use Rattle.jfs_call.specs.volume.specs.pages.specs.Device.{IsFault}
 use Rattle.jfs_call.specs.plain.specs.CallStep.{Causes, CallStep}
 use Rattle.jfs_call.specs.plain.specs.Step.{outcome}
 use Rattle.jfs_call.specs.plain.specs.declared.call.Call.{Call}
+use Rattle.jfs_call.specs.plain.specs.declared.call.Entry.{Entry}
 use Rattle.jfs_call.specs.plain.specs.declared.call.Request.{Request}
-use Rattle.jfs_call.specs.plain.specs.declared.refusal.Refusal.TheVariants.{Damaged}
+use Rattle.jfs_call.specs.plain.specs.declared.refusal.Refusal.TheVariants.{Damaged, IoFault}
 use Rattle.jfs_call.specs.plain.specs.declared.reply.Reply.{Reply}
-use Rattle.jfs_call.specs.plain.specs.declared.reply.Reply.TheVariants.{Done}
+use Rattle.jfs_call.specs.plain.specs.declared.reply.Reply.TheVariants.{Done, Refused}
 use Rattle.jfs_served.specs.Holds.{blocks_at, tree_at, room_at, MayServe, KeepsFiles, KeepsTree, StaysServing}
 use Rattle.jfs_served.specs.Follows.{FollowsBy}
 
@@ -54,7 +56,7 @@ causes_of call old new = record {
 abbrev pub Steps : (ℕ → ℕ) → ℕ → Call → Moment → Reply → Parts → Parts → Type 0
 Steps area log_pages call now reply old new = CallStep (causes_of call old new) (tree_at area old) (room_at area log_pages old) call now reply (tree_at area new)
 
--- The volume after it follows from the one before by a transaction at most; and the next one may come, with all known of the maps' files that was.
+-- The volume after it follows from the one before by a transaction, keeps its tree, or, where the call was refused for a fault, has other bytes in blocks of a file's own or of nobody; and the next one may come, with all known of the maps' files that was.
 pub record TakesStep (area : ℕ → ℕ) (log_pages : ℕ) (call : Call) (now : Moment) (reply : Reply) (old new : Parts) : Type 0 where
   pub step : Steps area log_pages call now reply old new
   pub follows : FollowsBy area log_pages call reply old new
@@ -63,11 +65,11 @@ pub record TakesStep (area : ℕ → ℕ) (log_pages : ℕ) (call : Call) (now :
 
 -- ---- a transaction that is to be appended
 
--- What becomes of the tree, by what the volume answers: the call is done; or it needs the log, and may be asked again; or memory lacks. A page that couldn't be read leaves the tree. Where the write of its data
--- failed the volume has halted, and nothing more is said of the tree.
+-- What becomes of the tree, by what the volume answers: the call is done; or it needs the log, and may be asked again; or memory lacks. A page that couldn't be read leaves the tree; where the write of its data failed the volume has halted. The call is refused for this fault once its entry has joined.
 abbrev pub Leaves : (area : ℕ → ℕ) (log_pages : ℕ) → Call → Moment → Parts → Parts → Called → Type 0
 Leaves area log_pages call now old new (Entered number) = TakesStep area log_pages call now Done old new
 Leaves area log_pages call now old new NoRoom = StaysServing area log_pages old new
 Leaves area log_pages call now old new NoMemory = KeepsTree area log_pages old new
 Leaves area log_pages call now old new Unfit = KeepsTree area log_pages old new
-Leaves area log_pages call now old new (Failed fault) = IsFault old.faults new.faults fault × (StaysServing area log_pages old new ⊎ (new.halted ≡ Some fault))
+Leaves area log_pages call now old new (Failed fault) =
+    IsFault old.faults new.faults fault × ((StaysServing area log_pages old new ⊎ (new.halted ≡ Some fault)) × ((entry : Entry) → TakesStep area log_pages call now (Refused (IoFault fault)) old (with_entry entry new)))

@@ -18,7 +18,7 @@ pub fn unfinished_calls_leave_the_tree()
     ensures { UnfinishedLaw }
 {}
 
-/// So a transaction that is to be appended is a step, or leaves the tree, but where the write of its data failed.
+/// So a transaction that is to be appended is a step, or leaves the tree; where a read or a write of its data failed, it is a step once its refusal has joined.
 pub fn transactions_are_steps_or_leave_the_tree()
     ensures { CalledLaw }
 {}
@@ -53,7 +53,7 @@ pub fn acknowledged_entries_leave_the_tree()
     ensures { AcknowledgedLaw }
 {}
 
-/// So does a syncpoint, after which each map that had changed is shown by its pages.
+/// So does a syncpoint, also one that failed and wrote some pages of the maps.
 pub fn syncpoints_leave_the_tree()
     ensures { PointedLaw }
 {}

@@ -1,6 +1,6 @@
 -- What the volume and the log of a server are once all passes are back.
 use Rattle.std.specs.Prelude.{is_some}
-use Rattle.std.proofs.Common.{◌≡◌, ◌≤◌, ◌⊎◌, ℕ, true, false, List, [], length, Option, Some, None, refl, sym, ap, subst, ◌∙◌, inl, inr, arith}
+use Rattle.std.proofs.Common.{◌≡◌, ◌≤◌, ◌⊎◌, ℕ, Bool, true, false, List, [], length, Option, Some, None, refl, sym, ap, subst, ◌∙◌, inl, inr, arith}
 use Rattle.std.proofs.lemmas.Bool.{false≢true}
 use Rattle.jfs_bits.specs.Count.{Rose}
 use Rattle.jfs_disk.specs.Image.{page_of}
@@ -23,8 +23,7 @@ use Rattle.jfs_shared.specs.Base.{MountStart, start_of, image_of}
 use Rattle.jfs_shared.specs.Both as shared
 use Rattle.jfs_shared.specs.Entries.{Recorded}
 use Rattle.jfs_shared.specs.Faults.{any_failed, HasRisen}
-use Rattle.jfs_shared.specs.Shared.{IsShared, IsServed, IfConsistent, BreaksWithin, GoesOn as HistoryGoesOn, standing as shared_standing, timed_in}
-use Rattle.jfs_shared.proofs.Behind.{halts_still}
+use Rattle.jfs_shared.specs.Shared.{IsShared, IsServed, IfConsistent, GoesOn as HistoryGoesOn, standing as shared_standing, timed_in}
 use Rattle.jfs_shared.proofs.Served.{served_settled}
 use Rattle.jfs_shared.proofs.Together.{together}
 use Rattle.jfs_turns.specs.Passes.{End, AtEnd}
@@ -62,7 +61,7 @@ module _ {D : Type 0} (d : Ghosts D) (ps : List (Pass (ServedVolume D) (SharedLo
   abbrev log_faults : ℕ
   log_faults = d.fault_count y.side.part
 
-  stands : IsShared d.tells end.base end.list end.taken end.told end.points end.known v.shared.points v.shared.broken_off old
+  stands : IsShared d.tells end.base end.list end.taken end.told end.points end.known v.shared.points v.shared.is_broken_off old
   stands = at_end.1
 
   -- the volume and the log stand for one list
@@ -130,30 +129,26 @@ module _ {D : Type 0} (d : Ghosts D) (ps : List (Pass (ServedVolume D) (SharedLo
   abbrev page : ℕ → List ℕ
   page = page_of (image_of end.base)
 
-  served_now : (new : Parts) (halted : Option Fault) → HandedOut new halted → d.tells → IfConsistent end.base (λ s page. IsServed s page v.shared.broken_off end.list new)
+  served_now : (new : Parts) (halted : Option Fault) → HandedOut new halted → d.tells → IfConsistent end.base (λ s page. IsServed s page v.shared.is_broken_off end.list new)
   served_now new halted h t consistent =
-      subst (λ (p : Parts). IsServed s page v.shared.broken_off end.list p) (sym h.is) record {
+      subst (λ (p : Parts). IsServed s page v.shared.is_broken_off end.list p) (sym h.is) record {
         start = settled.start;
         holds = settled.holds;
         runs = settled.runs;
-        goes_on = handed v.shared.broken_off settled.goes_on;
+        goes_on = handed v.shared.is_broken_off settled.goes_on;
       }
     where
       mid : Parts
       mid = record old { halted = halted }
 
-      ran : (halted ≡ old.halted) × (y.side.halted ≡ None) ⊎ ((fault : Fault) × (y.side.halted ≡ Some fault) × (halted ≡ halted_by fault old.halted)) → halted ≡ None → old.halted ≡ None
-      ran (inl (same, runs)) none = sym same ∙ none
-      ran (inr (fault, halts, is)) none = halts_still fault old.halted halted is none
+      settled : IsServed s page v.shared.is_broken_off end.list mid
+      settled = served_settled d.tells ⊥ t s page v.shared.is_broken_off end.list old mid (group_settles old mid refl) (group_pages d.tells old mid refl) (stands.served t consistent)
 
-      settled : IsServed s page v.shared.broken_off end.list mid
-      settled = served_settled d.tells ⊥ t s page v.shared.broken_off end.list old mid (ran h.halts) (group_settles old mid refl) (group_pages d.tells old mid refl) (stands.served t consistent)
+      handed : (is_broken_off : Bool) → HistoryGoesOn is_broken_off (volume_of s page).area s.logpxd.len settled.start (timed_in end.list) mid → HistoryGoesOn is_broken_off (volume_of s page).area s.logpxd.len settled.start (timed_in end.list) (record mid { entries = [] })
+      handed false goes = handed_law (volume_of s page).area s.logpxd.len settled.start (timed_in end.list) mid goes
+      handed true legal = legal
 
-      handed : (broken_off : Option ℕ) → HistoryGoesOn broken_off (volume_of s page).area s.logpxd.len settled.start (timed_in end.list) mid → HistoryGoesOn broken_off (volume_of s page).area s.logpxd.len settled.start (timed_in end.list) (record mid { entries = [] })
-      handed None goes = handed_law (volume_of s page).area s.logpxd.len settled.start (timed_in end.list) mid goes
-      handed (Some n) off = record { within = off.within; legal = off.legal; behind = off.behind; running = off.running }
-
-  module _ (x : Stopped D d) (halted : Option Fault) (h : HandedOut x.mounted.volume halted) (log : x.mounted.log ≡ y.side) (history : x.history.items ≡ old.entries) (broken_off : x.broken_off ≡ v.shared.broken_off) where
+  module _ (x : Stopped D d) (halted : Option Fault) (h : HandedOut x.mounted.volume halted) (log : x.mounted.log ≡ y.side) (history : x.history.items ≡ old.entries) (broken_off : x.is_broken_off ≡ v.shared.is_broken_off) where
     faults : x.mounted.volume.faults ≡ old.faults
     faults = ap (λ (p : Parts). p.faults) h.is
 
@@ -191,9 +186,8 @@ module _ {D : Type 0} (d : Ghosts D) (ps : List (Pass (ServedVolume D) (SharedLo
       durable_within = omega (arith, durable_is, at_end.3.3, at_end.3.5);
       passes_go_on = λ i p is. let g = at_end.4 i p is in record { own = g.0; reached = omega (arith, durable_is, g.1) };
       base_is = λ i p is last. (at_end.5 i p is last).0;
-      breaks = subst (λ (n : Option ℕ). BreaksWithin n (length end.list)) (sym broken_off) stands.breaks;
       ends = ends;
-      served = λ t consistent. subst (λ (n : Option ℕ). IsServed (super_of (page_of (image_of end.base) 8)) (page_of (image_of end.base)) n end.list x.mounted.volume) (sym broken_off) (served_now x.mounted.volume halted h t consistent);
+      served = λ t consistent. subst (λ (b : Bool). IsServed (super_of (page_of (image_of end.base) 8)) (page_of (image_of end.base)) b end.list x.mounted.volume) (sym broken_off) (served_now x.mounted.volume halted h t consistent);
     }
       where
         durable_is : x.mounted.log.durable ≡ end.durable

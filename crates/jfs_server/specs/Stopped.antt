@@ -15,7 +15,7 @@ use Rattle.jfs_legal.specs.served.specs.volume_calls.specs.Together.{log_parts}
 use Rattle.jfs_shared.specs.Base.{MountStart, start_of}
 use Rattle.jfs_shared.specs.Entries.{Recorded}
 use Rattle.jfs_shared.specs.Faults.{any_failed}
-use Rattle.jfs_shared.specs.Shared.{IsServed, IfConsistent, BreaksWithin, entries_in}
+use Rattle.jfs_shared.specs.Shared.{IsServed, IfConsistent, entries_in}
 use Rattle.jfs_turns.specs.Lists.{Base, HasOwn}
 use Rattle.jfs_turns.specs.declared.turns.Pass.{Pass}
 use Rattle.jfs_server.specs.Served.{client_of}
@@ -50,7 +50,7 @@ pub record IsEndOf {D : Type 0} (d : Ghosts D) (m : MountStart) (x : Stopped D d
   pub size : length x.mounted.volume.map.states ≤ x.mounted.volume.blocks
   pub both : AreBoth x.mounted.volume (log_parts d x.mounted.log)
 
--- One list of entries goes on all that the passes know. The history is the list's entries, in its order, and none waits in the volume. Of a disk that tells its contents, and whose base is consistent, they are a legal history from that image on, which goes on from this volume; or it broke off: there is no entry behind that while this volume runs, and else the first one behind it was refused for a fault of the disk.
+-- One list of entries goes on all that the passes know. The history is the list's entries, in its order, and none waits in the volume. Of a disk that tells its contents, and whose base is consistent, they are a legal history from that image on, which goes on from this volume, unless it is told to have broken off, as it is where memory ran out for a call.
 pub record IsStopped {D : Type 0} (d : Ghosts D) (passes : List (Pass (ServedVolume D) (SharedLog D d) Recorded)) (x : Stopped D d) : Type 0 where
   pub base : Base
   pub list : List Recorded
@@ -61,9 +61,8 @@ pub record IsStopped {D : Type 0} (d : Ghosts D) (passes : List (Pass (ServedVol
   pub passes_go_on : (i : ℕ) (p : Pass (ServedVolume D) (SharedLog D d) Recorded) → get_elem? passes i ≡ some p → GoesOn d list x.mounted.log.durable p
   -- that of the last pass
   pub base_is : (i : ℕ) (p : Pass (ServedVolume D) (SharedLog D d) Recorded) → get_elem? passes i ≡ some p → suc i ≡ length passes → p.seat.me.0.base ≡ base
-  pub breaks : BreaksWithin x.broken_off (length list)
   pub ends : IsEndOf d (start_of base) x
-  pub served : d.tells → IfConsistent base (λ s page. IsServed s page x.broken_off list x.mounted.volume)
+  pub served : d.tells → IfConsistent base (λ s page. IsServed s page x.is_broken_off list x.mounted.volume)
 
 -- ---- for the prover
 

@@ -18,9 +18,8 @@ use jfs_volume_calls::volume::Volume;
 pub struct Stopped<D: Disk> {
     pub mounted: Mounted<D>,
     pub history: Vec<Entry>,
-    /// How many entries are known to be a legal history where it broke off: memory ran out for a call behind them, or a syncpoint failed. While the volume runs there are no more, and else the first
-    /// one behind them was refused for a fault of the disk.
-    pub broken_off: Option<u64>,
+    /// Whether memory ran out for a call: the calls are legal, and nothing is said of the tree behind them.
+    pub is_broken_off: bool,
 }
 
 impl<D: Disk> Server<D> {
@@ -39,7 +38,7 @@ impl<D: Disk> Server<D> {
 fn hand_out<D: Disk>(volume: ServedVolume<D>, log: SharedLog<D>) -> Stopped<D>
     ensures stopped { (passes : _) → AtEnd client_of (standing D.Disk) (log_standing D.Disk) passes volume log → IsStopped D.Disk passes result }
 {
-    let broken_off = volume.shared.broken_off();
+    let is_broken_off = volume.shared.is_broken_off();
     let mut volume = volume.shared.into_volume();
     halt_as(&mut volume, log.side.halted());
     let history = volume.take_entries();
@@ -49,7 +48,7 @@ fn hand_out<D: Disk>(volume: ServedVolume<D>, log: SharedLog<D>) -> Stopped<D>
             log: log.side,
         },
         history,
-        broken_off,
+        is_broken_off,
     }
 }
 

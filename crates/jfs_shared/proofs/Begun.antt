@@ -1,5 +1,5 @@
 -- A volume that was just mounted, and its log, stand for no entry.
-use Rattle.std.proofs.Common.{◌≡◌, ◌<◌, ◌≤◌, ◌^◌, ℕ, ◌-◌, ◌*◌, List, [], ◌∷◌, ◌++◌, length, true, false, None, refl, inl, sym, ap, subst, ◌∙◌, arith, append-nil}
+use Rattle.std.proofs.Common.{◌≡◌, ◌<◌, ◌≤◌, ◌^◌, ℕ, ◌-◌, ◌*◌, List, [], ◌∷◌, ◌++◌, length, true, false, refl, inl, sym, ap, subst, ◌∙◌, arith, append-nil}
 use Rattle.std.proofs.lemmas.Bool.{false≢true}
 use Rattle.jfs_disk.specs.Image.{Image, page_of}
 use Rattle.jfs_disk.specs.Crash.{last_of}
@@ -63,12 +63,12 @@ module _ (tells crashes : Type 0) (s : Super) (image : Image) (volume : Parts) (
     last = stands.text.last;
   }
 
-  served : tells → IsConsistentImage s (page_of image) → IsServed s (page_of image) None [] volume
+  served : tells → IsConsistentImage s (page_of image) → IsServed s (page_of image) false [] volume
   served t consistent =
       let held = laws.mounted s image volume log (told_mount tells crashes t s image volume log m.mount) within consistent in
       record { start = volume; holds = held; runs = m.runs; goes_on = begin_law (volume_of s (page_of image)).area s.logpxd.len volume held.serves }
 
-  pub volume_stands : (pages faults : ℕ) → volume.faults < 2 ^ 64 → IsShared tells (base_at s image volume pages faults) [] 0 0 [] 0 0 None volume
+  pub volume_stands : (pages faults : ℕ) → volume.faults < 2 ^ 64 → IsShared tells (base_at s image volume pages faults) [] 0 0 [] 0 0 false volume
   volume_stands pages faults few = record {
     entries = stands.entries;
     appended = stands.appended;
@@ -80,10 +80,9 @@ module _ (tells crashes : Type 0) (s : Super) (image : Image) (volume : Parts) (
     told_within = omega arith;
     taken_within = omega arith;
     text = text;
-    breaks = tt;
     disk = record { pages = refl; room = refl; few = few; faults = inl refl; calm = inl (ap any_failed stands.entries); runs = inl m.runs; unmarked = λ _. refl };
     size = let same = ap (λ map. length map.states) m.mount.has_maps.0 in let number = m.mount.rest.number in omega (arith, same, number, within);
-    served = λ t. subst (λ (k : Super). IsConsistentImage k (page_of image) → IsServed k (page_of image) None [] volume) (sym (m.spelled t)) (served t);
+    served = λ t. subst (λ (k : Super). IsConsistentImage k (page_of image) → IsServed k (page_of image) false [] volume) (sym (m.spelled t)) (served t);
   }
 
   -- ---- the log

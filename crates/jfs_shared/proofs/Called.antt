@@ -1,9 +1,8 @@
 -- A call of one of many clients: what the volume stands for then.
-use Rattle.std.proofs.Common.{◌≡◌, ℕ, Bool, true, false, Option, refl, inl, sym, ◌∙◌}
+use Rattle.std.proofs.Common.{◌≡◌, ℕ, Bool, true, false, refl, inl, sym, ◌∙◌}
 use Rattle.std.proofs.lemmas.Bool.{false≢true}
 use Rattle.jfs_bits.specs.declared.descriptor.Moment.{Moment}
 use Rattle.jfs_disk.specs.declared.disk.Disk.{Ghosts}
-use Rattle.jfs_plain.specs.CallStep.{writes}
 use Rattle.jfs_plain.specs.declared.call.Request.{Request}
 use Rattle.jfs_groups.specs.Group.{Stays}
 use Rattle.jfs_call.specs.Answer.{IsAnswered}
@@ -12,7 +11,7 @@ use Rattle.jfs_call.specs.declared.outcome.Outcome.{Outcome}
 use Rattle.jfs_call.specs.declared.outcome.Outcome.TheVariants.{Replied, NeedsLog, NoMemory}
 use Rattle.jfs_call.specs.halves.specs.Parts.{Parts}
 use Rattle.jfs_shared.specs.Calls.{CallIs, BreaksOffBy}
-use Rattle.jfs_shared.specs.Shared.{standing, broken_by, is_over}
+use Rattle.jfs_shared.specs.Shared.{standing}
 use Rattle.jfs_shared.specs.declared.shared.SharedVolume.{SharedVolume}
 use Rattle.jfs_shared.proofs.Stands.{replied_stands, asked_stands, lacked_stands}
 use Rattle.jfs_shared.proofs.Stepped.{stepped}
@@ -29,28 +28,27 @@ unanswered client line request p = record {
 }
 
 -- a call that breaks nothing off
-pub stays_whole : (n : ℕ) (broken_off : Option ℕ) (outcome : Outcome) → BreaksOffBy n broken_off broken_off outcome
-stays_whole n broken_off (Replied reply number waits) = refl
-stays_whole n broken_off NeedsLog = refl
-stays_whole n broken_off NoMemory = inl refl
+pub stays_whole : (is_broken_off : Bool) (outcome : Outcome) → BreaksOffBy is_broken_off is_broken_off outcome
+stays_whole is_broken_off (Replied reply number waits) = refl
+stays_whole is_broken_off NeedsLog = refl
+stays_whole is_broken_off NoMemory = inl refl
 
 -- a call that is done, though none would be
 pub not_over : (fact : Type 0) (over : Bool) → over ≡ false → over ≡ true → fact
 not_over fact over goes stopped = absurd (false≢true (sym goes ∙ stopped))
 
 module _ {D : Type 0} (d : Ghosts D) (x : SharedVolume D) (client line : ℕ) (request : Request) (now : Moment) (new : Parts) where
-  pub call_is : (outcome : Outcome) → (outcome ≡ NoMemory → ⊥) → is_over x.broken_off x.volume.halted x.volume.appended (writes request.call) ≡ false → IsAnswered client line request x.volume new outcome → Does d.tells d.tells_crashes (record { client = client; line = line }) request now x.volume new outcome
+  pub call_is : (outcome : Outcome) → (outcome ≡ NoMemory → ⊥) → x.is_broken_off ≡ false → IsAnswered client line request x.volume new outcome → Does d.tells d.tells_crashes (record { client = client; line = line }) request now x.volume new outcome
       → CallIs (standing d) client line request now x (record x { volume = new }) outcome
   call_is (Replied reply number waits) not over a does =
       let step = stepped d.tells d.tells_crashes (record { client = client; line = line }) request now x.volume new (Replied reply number waits) does in (
         step.0,
-        λ base list taken told points known s. replied_stands d.tells base list taken told points known x.points x.broken_off x.volume s d.tells_crashes client line request now new reply number waits step.0 over a does step.1,
+        λ base list taken told points known s. replied_stands d.tells base list taken told points known x.points x.is_broken_off x.volume s d.tells_crashes client line request now new reply number waits step.0 over a does step.1,
       )
-  call_is NeedsLog not over a does = λ base list taken told points known s. asked_stands d.tells base list taken told points known x.points x.broken_off x.volume s d.tells_crashes client line request now new a does
+  call_is NeedsLog not over a does = λ base list taken told points known s. asked_stands d.tells base list taken told points known x.points x.is_broken_off x.volume s d.tells_crashes client line request now new a does
       (stepped d.tells d.tells_crashes (record { client = client; line = line }) request now x.volume new NeedsLog does)
   call_is NoMemory not over a does = absurd (not refl)
 
-  pub lacked_is : (n : ℕ) → n ≡ new.appended → IsAnswered client line request x.volume new NoMemory → Does d.tells d.tells_crashes (record { client = client; line = line }) request now x.volume new NoMemory
-      → Stays (standing d) x (record x { volume = new; broken_off = broken_by n x.broken_off })
-  lacked_is n is a does base list taken told points known s = lacked_stands d.tells base list taken told points known x.points x.broken_off x.volume s d.tells_crashes client line request now new n is a does
+  pub lacked_is : IsAnswered client line request x.volume new NoMemory → Does d.tells d.tells_crashes (record { client = client; line = line }) request now x.volume new NoMemory → Stays (standing d) x (record x { volume = new; is_broken_off = true })
+  lacked_is a does base list taken told points known s = lacked_stands d.tells base list taken told points known x.points x.is_broken_off x.volume s d.tells_crashes client line request now new a
       (stepped d.tells d.tells_crashes (record { client = client; line = line }) request now x.volume new NoMemory does)

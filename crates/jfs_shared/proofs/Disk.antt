@@ -16,7 +16,7 @@ use Rattle.jfs_call.specs.Answer.{IsAnswered, IsHeld, RepliedBy, KeepsHalted, he
 use Rattle.jfs_call.specs.declared.outcome.Outcome.TheVariants.{Replied, NeedsLog, NoMemory}
 use Rattle.jfs_call.specs.halves.specs.Parts.{Parts}
 use Rattle.jfs_call.specs.volume.specs.Join.{entry_with}
-use Rattle.jfs_legal.specs.Until.{has_failed}
+use Rattle.jfs_legal.specs.History.{has_failed}
 use Rattle.jfs_legal.specs.served.specs.crash_core.specs.Step.{halted_by}
 use Rattle.jfs_shared.specs.Base.{MountStart}
 use Rattle.jfs_shared.specs.Home.{IsSettled}

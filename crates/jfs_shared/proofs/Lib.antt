@@ -1,7 +1,6 @@
 pub mod Text
 pub mod Stepped
 pub mod Served
-pub mod Behind
 pub mod Points
 pub mod Disk
 pub mod Stands

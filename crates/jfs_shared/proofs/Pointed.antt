@@ -7,12 +7,12 @@ use Rattle.jfs_groups.specs.Points.{syncs}
 use Rattle.jfs_groups.specs.declared.log.SharedLog.{SharedLog}
 use Rattle.jfs_call.specs.halves.specs.Parts.{Parts}
 use Rattle.jfs_call.specs.volume.specs.Settles.{Settles, StaysShown}
-use Rattle.jfs_volume_calls.specs.Written.{WritesMaps}
+use Rattle.jfs_volume_calls.specs.Written.{LeavesMaps}
 use Rattle.jfs_legal.specs.served.specs.crash_core.specs.Step.{halted_by}
 use Rattle.jfs_shared.specs.Base.{start_of}
 use Rattle.jfs_shared.specs.Both.{Seen, AreOf, Lost, Committed, Pointed, PartlyPointed, PointIs}
 use Rattle.jfs_shared.specs.Home.{IsSettled}
-use Rattle.jfs_shared.specs.Shared.{standing, log_standing, broken_by}
+use Rattle.jfs_shared.specs.Shared.{standing, log_standing}
 use Rattle.jfs_shared.specs.declared.shared.SharedVolume.{SharedVolume}
 use Rattle.jfs_shared.proofs.Stands.{home_stands, stopped_stands}
 use Rattle.jfs_shared.proofs.Text.{reaches, nothing_waits}
@@ -45,21 +45,21 @@ module _ {D : Type 0} (d : Ghosts D) (x : SharedVolume D) (y : SharedLog D d) (r
 
   module _ (x' : SharedVolume D) (y' : SharedLog D d) (c : Committed (standing d) (log_standing d) n x' y') (new : Parts) (is : IsSettled x'.volume new) where
     -- pages went home
-    pub home_are : new.faults ≡ x'.volume.faults → new.halted ≡ x'.volume.halted → Settles x'.volume new → StaysShown d.tells x'.volume new → (d.tells → WritesMaps x'.volume new) → AreOf (standing d) (log_standing d) (settled n) (record x' { volume = new }) y'
+    pub home_are : new.faults ≡ x'.volume.faults → new.halted ≡ x'.volume.halted → Settles x'.volume new → StaysShown d.tells x'.volume new → (d.tells → LeavesMaps x'.volume new) → AreOf (standing d) (log_standing d) (settled n) (record x' { volume = new }) y'
     home_are faults halted settles shown maps = record {
-      volume = home_stands d.tells n.base n.list (length n.list) (length n.list) n.points n.known x'.points x'.broken_off x'.volume c.0 new is faults halted settles shown maps;
+      volume = home_stands d.tells n.base n.list (length n.list) (length n.list) n.points n.known x'.points x'.is_broken_off x'.volume c.0 new is faults halted settles shown maps;
       log = c.1;
       front = ([], append-nil n.list);
       told_within = omega arith;
     }
 
     -- one of them couldn't
-    pub not_home : (m : ℕ) → m ≡ new.appended → (fault : Fault) → Rose x'.volume.faults new.faults → new.halted ≡ halted_by fault x'.volume.halted → PartlyPointed (standing d) (log_standing d) n (record x' { volume = new; broken_off = broken_by m x'.broken_off }) y'
-    not_home m e fault rose halts = record {
+    pub not_home : (fault : Fault) → Rose x'.volume.faults new.faults → new.halted ≡ halted_by fault x'.volume.halted → Settles x'.volume new → StaysShown d.tells x'.volume new → (d.tells → LeavesMaps x'.volume new) → PartlyPointed (standing d) (log_standing d) n (record x' { volume = new }) y'
+    not_home fault rose halts settles shown maps = record {
       told_now = length n.list;
       durable_now = length n.list;
       points_now = n.points;
-      volume = stopped_stands d.tells n.base n.list (length n.list) (length n.list) n.points n.known x'.points x'.broken_off x'.volume c.0 m new e is fault rose halts;
+      volume = stopped_stands d.tells n.base n.list (length n.list) (length n.list) n.points n.known x'.points x'.is_broken_off x'.volume c.0 new is fault rose halts settles shown maps;
       log = c.1;
       told_grows = told_within;
       durable_grows = durable_within;

@@ -1,5 +1,5 @@
 -- What a volume stands for, behind what its calls make of its parts.
-use Rattle.std.proofs.Common.{◌≡◌, ◌≤◌, ◌<◌, ℕ, suc, ◌+◌, ◌^◌, List, [], ◌∷◌, ◌++◌, length, Bool, Option, Some, None, false, refl, sym, ap, subst, ◌∙◌, inr, arith}
+use Rattle.std.proofs.Common.{◌≡◌, ◌≤◌, ◌<◌, ℕ, suc, ◌+◌, ◌^◌, List, [], ◌∷◌, ◌++◌, length, Bool, true, Option, Some, None, false, refl, sym, ap, subst, ◌∙◌, inr, arith}
 use Rattle.std.specs.Prelude.{is_some}
 use Rattle.std.proofs.lemmas.Bool.{false≢true}
 use Rattle.std.proofs.lemmas.List.{length-append}
@@ -12,7 +12,6 @@ use Rattle.jfs_super.specs.declared.fields.Super.{Super}
 use Rattle.jfs_logpages.specs.declared.group_text.GroupText.{GroupText}
 use Rattle.jfs_logpages.specs.Group.{pages_of, room_of}
 use Rattle.jfs_plain.specs.declared.call.Entry.{Entry}
-use Rattle.jfs_plain.specs.CallStep.{writes}
 use Rattle.jfs_plain.specs.declared.call.Request.{Request}
 use Rattle.jfs_plain.specs.declared.reply.Reply.{Reply}
 use Rattle.jfs_records.specs.Records.{Noted}
@@ -29,7 +28,7 @@ use Rattle.jfs_call.specs.volume.specs.Settle.{with_point}
 use Rattle.jfs_call.specs.volume.specs.Settles.{Settles, StaysShown, is_freed}
 use Rattle.jfs_call.specs.volume.specs.Told.{still_freed}
 use Rattle.jfs_volume_calls.specs.Halts.{GroupParts, PointParts}
-use Rattle.jfs_volume_calls.specs.Written.{WritesMaps}
+use Rattle.jfs_volume_calls.specs.Written.{LeavesMaps}
 use Rattle.jfs_volume_calls.proofs.Kept.{group_settles, group_pages, pointed}
 use Rattle.jfs_call.specs.volume.specs.bmap.proofs.Views.{length-each_below}
 use Rattle.jfs_shared.specs.Base.{start_of, image_of}
@@ -37,27 +36,17 @@ use Rattle.jfs_shared.specs.Calls.{recorded}
 use Rattle.jfs_legal.specs.served.specs.crash_core.specs.Step.{halted_by}
 use Rattle.jfs_shared.specs.Home.{IsSettled}
 use Rattle.jfs_shared.specs.Faults.{IsOfDisk}
-use Rattle.jfs_shared.specs.Shared.{logs_of, entries_in, HasText, IsShared, IsServed, IfConsistent, BreaksWithin, broken_by, is_over}
+use Rattle.jfs_shared.specs.Shared.{logs_of, entries_in, HasText, IsShared, IsServed, IfConsistent}
 use Rattle.jfs_shared.specs.Entries.{Recorded}
-use Rattle.jfs_shared.proofs.Behind.{runs_still, halts_still, joins_behind}
 use Rattle.jfs_shared.proofs.Text.{added, reaches, taken_text, joined_text, pointed_text}
 use Rattle.jfs_shared.proofs.Disk.{same_disk, pointed_disk, marked_disk, replied_disk, asked_disk, lacked_disk, home_disk, stopped_disk}
 use Rattle.jfs_shared.proofs.Points.{all_syncs, marked_syncs, synced_more, marked_more}
 use Rattle.jfs_shared.proofs.Stepped.{Stood, Grew}
-use Rattle.jfs_shared.proofs.Served.{served_joined, served_asked, served_lacked, served_failed, served_settled, served_pointed}
+use Rattle.jfs_shared.proofs.Served.{served_joined, served_asked, served_lacked, served_settled, served_pointed}
 
 pub none_of : (halted : Option Fault) → is_some halted ≡ false → halted ≡ None
 none_of None e = refl
 none_of (Some fault) e = absurd (false≢true (sym e))
-
--- a history breaks off once, behind entries that there are
-longer_breaks : (broken : Option ℕ) (n m : ℕ) → n ≤ m → BreaksWithin broken n → BreaksWithin broken m
-longer_breaks None n m on within = tt
-longer_breaks (Some k) n m on within = omega (arith, on, within)
-
-broken_within : (broken : Option ℕ) (n m : ℕ) → n ≡ m → BreaksWithin broken m → BreaksWithin (broken_by n broken) m
-broken_within None n m is within = omega (arith, is)
-broken_within (Some k) n m is within = within
 
 entries_more : (list : List Recorded) (e : Recorded) → entries_in (list ++ e ∷ []) ≡ entries_in list ++ e.entry ∷ []
 entries_more [] e = refl
@@ -78,7 +67,7 @@ pub record Alike (old new : Parts) : Type 0 where
   pub map : length new.map.states ≡ length old.map.states
   pub blocks : new.blocks ≡ old.blocks
 
-module _ (tells : Type 0) (base : Base) (list : List Recorded) (taken told : ℕ) (points : List ℕ) (known made : ℕ) (broken : Option ℕ) (old : Parts) (h : IsShared tells base list taken told points known made broken old) where
+module _ (tells : Type 0) (base : Base) (list : List Recorded) (taken told : ℕ) (points : List ℕ) (known made : ℕ) (broken : Bool) (old : Parts) (h : IsShared tells base list taken told points known made broken old) where
   abbrev s : Super
   s = super_of (page_of (image_of base) 8)
 
@@ -86,8 +75,8 @@ module _ (tells : Type 0) (base : Base) (list : List Recorded) (taken told : ℕ
   page = page_of (image_of base)
 
   -- nothing of them changes
-  pub alike_stands : (later : Option ℕ) (new : Parts) → BreaksWithin later (length list) → Alike old new → IsOfDisk (start_of base) points new → (tells → IfConsistent base (λ s page. IsServed s page later list new)) → IsShared tells base list taken told points known made later new
-  alike_stands later new breaks a disk served = record {
+  pub alike_stands : (later : Bool) (new : Parts) → Alike old new → IsOfDisk (start_of base) points new → (tells → IfConsistent base (λ s page. IsServed s page later list new)) → IsShared tells base list taken told points known made later new
+  alike_stands later new a disk served = record {
     entries = a.entries ∙ h.entries;
     appended = a.appended ∙ h.appended;
     taken_is = a.taken ∙ h.taken_is;
@@ -99,7 +88,6 @@ module _ (tells : Type 0) (base : Base) (list : List Recorded) (taken told : ℕ
     taken_within = h.taken_within;
     text = subst (λ (t : Text). HasText (start_of base).log.ring list taken (syncs points) t) (sym a.text) h.text;
     size = let before = h.size in omega (arith, a.map, a.blocks, before);
-    breaks = breaks;
     disk = disk;
     served = served;
   }
@@ -107,7 +95,7 @@ module _ (tells : Type 0) (base : Base) (list : List Recorded) (taken told : ℕ
   -- ---- a call
 
   module _ (crashes : Type 0) (client line : ℕ) (request : Request) (now : Moment) (new : Parts) where
-    pub replied_stands : (reply : Reply) (number : ℕ) (waits : Bool) (noted : Option (List Noted)) → is_over broken old.halted old.appended (writes request.call) ≡ false → IsAnswered client line request old new (Replied reply number waits)
+    pub replied_stands : (reply : Reply) (number : ℕ) (waits : Bool) (noted : Option (List Noted)) → broken ≡ false → IsAnswered client line request old new (Replied reply number waits)
         → Does tells crashes (record { client = client; line = line }) request now old new (Replied reply number waits) → Grew noted old new
         → IsShared tells base (list ++ recorded client line request now reply noted ∷ []) taken told points known made broken new × (number ≡ suc (length list))
     replied_stands reply number waits noted over a d g = (
@@ -124,10 +112,9 @@ module _ (tells : Type 0) (base : Base) (list : List Recorded) (taken told : ℕ
         text = joined_text (start_of base).log.ring list taken (syncs points) old.text h.text h.taken_within e new.text a.keeps.ring a.keeps.place
             (g.bytes ∙ ap (λ (n : ℕ). old.text.bytes ++ added noted n old.text) next) (g.last ∙ next);
         size = let before = h.size in omega (arith, a.keeps.size, a.keeps.blocks, before);
-        breaks = longer_breaks broken (length list) (length (list ++ e ∷ [])) (omega (arith, length-append list (e ∷ []))) h.breaks;
         disk = replied_disk client line request old new (start_of base) points h.disk reply number waits a;
         served = λ t consistent. served_joined tells crashes t s page broken list (record { caller = record { client = client; line = line }; request = request; now = now }) old new reply number waits noted
-            (runs_still old.faults new.faults old.halted new.halted a.halted) h.appended (joins_behind client line request now old new reply number waits noted a broken over) (h.served t consistent) d;
+            over (h.served t consistent) d;
       },
       a.entry.number_is ∙ a.entry.appended ∙ next,
     )
@@ -156,14 +143,11 @@ module _ (tells : Type 0) (base : Base) (list : List Recorded) (taken told : ℕ
     }
 
     pub asked_stands : IsAnswered client line request old new NeedsLog → Does tells crashes (record { client = client; line = line }) request now old new NeedsLog → Stood old new → IsShared tells base list taken told points known made broken new
-    asked_stands a d g = alike_stands broken new h.breaks (left a.entry.entries a.entry.appended a.keeps g) (asked_disk client line request old new (start_of base) points h.disk a)
-        (λ t consistent. served_asked tells crashes t s page broken list (record { caller = record { client = client; line = line }; request = request; now = now }) old new (λ none. sym a.halted.0 ∙ none) (h.served t consistent) d)
+    asked_stands a d g = alike_stands broken new (left a.entry.entries a.entry.appended a.keeps g) (asked_disk client line request old new (start_of base) points h.disk a)
+        (λ t consistent. served_asked tells crashes t s page broken list (record { caller = record { client = client; line = line }; request = request; now = now }) old new (h.served t consistent) d)
 
-    pub lacked_stands : (n : ℕ) → n ≡ new.appended → IsAnswered client line request old new NoMemory → Does tells crashes (record { client = client; line = line }) request now old new NoMemory → Stood old new
-        → IsShared tells base list taken told points known made (broken_by n broken) new
-    lacked_stands n is a d g = alike_stands (broken_by n broken) new (broken_within broken n (length list) (is ∙ a.entry.appended ∙ h.appended) h.breaks) (left a.entry.entries a.entry.appended a.keeps g) (lacked_disk client line request old new (start_of base) points h.disk a)
-        (λ t consistent. served_lacked tells crashes t s page broken list n (record { caller = record { client = client; line = line }; request = request; now = now }) old new
-        (is ∙ a.entry.appended ∙ h.appended) (runs_still old.faults new.faults old.halted new.halted a.halted) (h.served t consistent) d)
+    pub lacked_stands : IsAnswered client line request old new NoMemory → Stood old new → IsShared tells base list taken told points known made true new
+    lacked_stands a g = alike_stands true new (left a.entry.entries a.entry.appended a.keeps g) (lacked_disk client line request old new (start_of base) points h.disk a) (λ t consistent. served_lacked tells crashes t s page broken list old new (h.served t consistent))
 
   -- ---- groups
 
@@ -181,9 +165,8 @@ module _ (tells : Type 0) (base : Base) (list : List Recorded) (taken told : ℕ
     taken_within = omega arith;
     text = taken_text (start_of base).log.ring list taken (syncs points) old.text h.text h.taken_within new.text (ap (λ (p : Parts). p.text.ring) e) (ap (λ (p : Parts). p.text.place) e) (ap (λ (p : Parts). p.text.bytes) e) (ap (λ (p : Parts). p.text.last) e);
     size = subst (λ (p : Parts). length p.map.states ≤ p.blocks) (sym e) h.size;
-    breaks = h.breaks;
     disk = same_disk (start_of base) points old h.disk new (record { count = ap (λ (p : Parts). p.count) e; room = ap (λ (p : Parts). p.room) e; faults = ap (λ (p : Parts). p.faults) e; entries = ap (λ (p : Parts). p.entries) e; halted = ap (λ (p : Parts). p.halted) e });
-    served = λ t consistent. served_settled tells ⊥ t s page broken list old new (λ none. sym (ap (λ (p : Parts). p.halted) e) ∙ none) (group_settles old new parts) (group_pages tells old new parts) (h.served t consistent);
+    served = λ t consistent. served_settled tells ⊥ t s page broken list old new (group_settles old new parts) (group_pages tells old new parts) (h.served t consistent);
   }
     where
       parts : GroupParts old new
@@ -212,9 +195,8 @@ module _ (tells : Type 0) (base : Base) (list : List Recorded) (taken told : ℕ
     taken_within = h.taken_within;
     text = subst {A = Text × ℕ} (λ z. HasText (start_of base).log.ring list taken z.1 z.0) (λ i. (sym (ap (λ (p : Parts). p.text) e) i, sym (marked_syncs points) i)) h.text;
     size = subst (λ (p : Parts). length p.map.states ≤ p.blocks) (sym e) h.size;
-    breaks = h.breaks;
     disk = marked_disk (start_of base) points old h.disk fault new e;
-    served = λ t consistent. served_settled tells ⊥ t s page broken list old new (λ _. runs) (group_settles old new parts) (group_pages tells old new parts) (h.served t consistent);
+    served = λ t consistent. served_settled tells ⊥ t s page broken list old new (group_settles old new parts) (group_pages tells old new parts) (h.served t consistent);
   }
     where
       parts : GroupParts old new
@@ -239,9 +221,8 @@ module _ (tells : Type 0) (base : Base) (list : List Recorded) (taken told : ℕ
     taken_within = h.taken_within;
     text = subst (λ (t : Text). HasText (start_of base).log.ring list taken (syncs points) t) (sym (ap (λ (p : Parts). p.text) e)) h.text;
     size = let before = h.size in omega (arith, before, ap (λ (p : Parts). length p.map.states) e ∙ as_many_states n old.map, ap (λ (p : Parts). p.blocks) e);
-    breaks = h.breaks;
     disk = same_disk (start_of base) points old h.disk new (record { count = ap (λ (p : Parts). p.count) e; room = ap (λ (p : Parts). p.room) e; faults = ap (λ (p : Parts). p.faults) e; entries = ap (λ (p : Parts). p.entries) e; halted = ap (λ (p : Parts). p.halted) e });
-    served = λ t consistent. served_settled tells ⊥ t s page broken list old new (λ none. sym (ap (λ (p : Parts). p.halted) e) ∙ none) settles (record { files = ap (λ (p : Parts). p.files) e; view = shows }) (h.served t consistent);
+    served = λ t consistent. served_settled tells ⊥ t s page broken list old new settles (record { files = ap (λ (p : Parts). p.files) e; view = shows }) (h.served t consistent);
   }
     where
       settles : Settles old new
@@ -271,19 +252,19 @@ module _ (tells : Type 0) (base : Base) (list : List Recorded) (taken told : ℕ
     blocks = ap (λ (p : Parts). p.blocks) e;
   }
 
-  pub home_stands : (new : Parts) → IsSettled old new → new.faults ≡ old.faults → new.halted ≡ old.halted → Settles old new → StaysShown tells old new → (tells → WritesMaps old new) → IsShared tells base list taken told points known made broken new
-  home_stands new e faults halted settles shown maps = alike_stands broken new h.breaks (home_alike new e) (home_disk (start_of base) points old new h.disk e faults halted) (λ t consistent. served_pointed tells ⊥ t s page broken list old new (λ none. sym halted ∙ none) settles shown (maps t) (h.served t consistent))
+  pub home_stands : (new : Parts) → IsSettled old new → new.faults ≡ old.faults → new.halted ≡ old.halted → Settles old new → StaysShown tells old new → (tells → LeavesMaps old new) → IsShared tells base list taken told points known made broken new
+  home_stands new e faults halted settles shown maps = alike_stands broken new (home_alike new e) (home_disk (start_of base) points old new h.disk e faults halted) (λ t consistent. served_pointed tells ⊥ t s page broken list old new settles shown (maps t) (h.served t consistent))
 
   -- one of them can't
-  pub stopped_stands : (n : ℕ) (new : Parts) → n ≡ new.appended → IsSettled old new → (fault : Fault) → Rose old.faults new.faults → new.halted ≡ halted_by fault old.halted → IsShared tells base list taken told points known made (broken_by n broken) new
-  stopped_stands n new is e fault rose halts = let a = home_alike new e in alike_stands (broken_by n broken) new (broken_within broken n (length list) (is ∙ a.appended ∙ h.appended) h.breaks) a (stopped_disk (start_of base) points old new h.disk e fault rose halts)
-      (λ t consistent. served_failed tells ⊥ t s page broken list n old new (is ∙ a.appended ∙ h.appended) (halts_still fault old.halted new.halted halts) (h.served t consistent))
+  pub stopped_stands : (new : Parts) → IsSettled old new → (fault : Fault) → Rose old.faults new.faults → new.halted ≡ halted_by fault old.halted → Settles old new → StaysShown tells old new → (tells → LeavesMaps old new) → IsShared tells base list taken told points known made broken new
+  stopped_stands new e fault rose halts settles shown maps = alike_stands broken new (home_alike new e) (stopped_disk (start_of base) points old new h.disk e fault rose halts)
+      (λ t consistent. served_pointed tells ⊥ t s page broken list old new settles shown (maps t) (h.served t consistent))
 
   -- ---- a SYNCPT
 
   -- it leaves the tree
   beside : (new : Parts) → PointParts old new → new.halted ≡ old.halted → tells → IfConsistent base (λ s page. IsServed s page broken list new)
-  beside new p halted t consistent = served_settled tells ⊥ t s page broken list old new (λ none. sym halted ∙ none) (pointed old old new (group_settles old old refl) p)
+  beside new p halted t consistent = served_settled tells ⊥ t s page broken list old new (pointed old old new (group_settles old old refl) p)
       (record { files = ap (λ (x : Parts). x.files) p; view = λ _ q free. ap (λ (x : Parts). page_of x.view q) p }) (h.served t consistent)
 
   pub point_stands : (new : Parts) → length list < 2 ^ 64 → taken ≡ length list → old.text.bytes ≡ [] → new ≡ with_point old → IsShared tells base list (length list) told (points ++ length list ∷ []) known (made + 1) broken new
@@ -300,7 +281,6 @@ module _ (tells : Type 0) (base : Base) (list : List Recorded) (taken told : ℕ
     text = subst (λ (n : ℕ). HasText (start_of base).log.ring list (length list) n new.text) (sym (synced_more points (length list) few))
         (pointed_text (start_of base).log.ring list taken (syncs points) old.text h.text h.taken_within new.text all (ap (λ (p : Parts). p.text.ring) e) (ap (λ (p : Parts). p.text.place) e) (ap (λ (p : Parts). p.text.bytes) e ∙ empty) (ap (λ (p : Parts). p.text.last) e));
     size = subst (λ (p : Parts). length p.map.states ≤ p.blocks) (sym e) h.size;
-    breaks = h.breaks;
     disk = pointed_disk (start_of base) points old h.disk (points ++ length list ∷ []) new (marked_more points (length list) few) (record { count = ap (λ (p : Parts). p.count) e; room = ap (λ (p : Parts). p.room) e; faults = ap (λ (p : Parts). p.faults) e; entries = ap (λ (p : Parts). p.entries) e; halted = ap (λ (p : Parts). p.halted) e });
     served = λ t consistent. beside new (e ∙ ap (λ (p : Parts). record old { points = p.points; known = p.known; taken = p.taken; text = p.text; halted = p.halted }) (sym e)) (ap (λ (p : Parts). p.halted) e) t consistent;
   }
@@ -319,7 +299,6 @@ module _ (tells : Type 0) (base : Base) (list : List Recorded) (taken told : ℕ
     taken_within = h.taken_within;
     text = subst (λ (t : Text). HasText (start_of base).log.ring list taken (syncs points) t) (sym (ap (λ (p : Parts). p.text) e)) h.text;
     size = subst (λ (p : Parts). length p.map.states ≤ p.blocks) (sym e) h.size;
-    breaks = h.breaks;
     disk = same_disk (start_of base) points old h.disk new (record { count = ap (λ (p : Parts). p.count) e; room = ap (λ (p : Parts). p.room) e; faults = ap (λ (p : Parts). p.faults) e; entries = ap (λ (p : Parts). p.entries) e; halted = ap (λ (p : Parts). p.halted) e });
     served = λ t consistent. beside new (e ∙ ap (λ (p : Parts). record old { points = p.points; known = p.known; taken = p.taken; text = p.text; halted = p.halted }) (sym e)) (ap (λ (p : Parts). p.halted) e) t consistent;
   }

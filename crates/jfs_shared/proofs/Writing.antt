@@ -44,10 +44,10 @@ module _ {D : Type 0} (d : Ghosts D) (x : SharedVolume D) (y : SharedLog D d) (r
   module _ (new : Parts) (group : GroupText) (t : IsTakenFrom x.volume new group) where
     module _ (n : Seen) (k : AreOf (standing d) (log_standing d) n x y) where
       is_group : IsGroupOf logs_of (start_of n.base).log.ring n.list n.taken (syncs n.points) group
-      is_group = group_is d.tells n.base n.list n.taken n.told n.points n.known x.points x.broken_off x.volume k.volume group t.bytes t.last t.room
+      is_group = group_is d.tells n.base n.list n.taken n.told n.points n.known x.points x.is_broken_off x.volume k.volume group t.bytes t.last t.room
 
-      taken : IsShared d.tells n.base n.list (length n.list) n.told n.points n.known x.points x.broken_off new
-      taken = group_stands d.tells n.base n.list n.taken n.told n.points n.known x.points x.broken_off x.volume k.volume new t.parts
+      taken : IsShared d.tells n.base n.list (length n.list) n.told n.points n.known x.points x.is_broken_off new
+      taken = group_stands d.tells n.base n.list n.taken n.told n.points n.known x.points x.is_broken_off x.volume k.volume new t.parts
 
     pub may : AreTogether (standing d) (log_standing d) x y
         → (pages_of (length group.bytes.items) ≤ room_of y.side.last.ring) × (y.side.durable ≤ group.last) × (position_of y.side.last + length group.bytes.items ≤ 4080 * 2 ^ 32)
@@ -75,7 +75,7 @@ module _ {D : Type 0} (d : Ghosts D) (x : SharedVolume D) (y : SharedLog D d) (r
   -- groups have taken all
   pub idle : x.volume.taken ≡ x.volume.appended → (n : Seen) → AreOf (standing d) (log_standing d) n x y → Written (standing d) (log_standing d) n x y
   idle e n k = (
-    subst (λ (m : ℕ). IsShared d.tells n.base n.list m n.told n.points n.known x.points x.broken_off x.volume) all k.volume,
+    subst (λ (m : ℕ). IsShared d.tells n.base n.list m n.told n.points n.known x.points x.is_broken_off x.volume) all k.volume,
     all_taken logs_of d.tells d.tells_crashes (log_start_of n.base) (data_of d y) (data_of d y) n.log_list n.taken n.durable n.points n.stable k.log runs n.list k.front all,
   )
     where
@@ -98,9 +98,9 @@ module _ {D : Type 0} (d : Ghosts D) (x : SharedVolume D) (y : SharedLog D d) (r
       few : length n.list < 2 ^ 64
       few = omega (arith, small, k.volume.appended)
 
-      pub stands : IsShared d.tells n.base n.list (length n.list) (length n.list) (n.points ++ length n.list ∷ []) n.known (x.points + 1) x.broken_off pointed
-      stands = subst (λ (m : ℕ). IsShared d.tells n.base n.list (length n.list) m (n.points ++ length n.list ∷ []) n.known (x.points + 1) x.broken_off pointed) all_told
-          (point_stands d.tells n.base n.list n.taken n.told n.points n.known x.points x.broken_off x.volume k.volume pointed few all empty e)
+      pub stands : IsShared d.tells n.base n.list (length n.list) (length n.list) (n.points ++ length n.list ∷ []) n.known (x.points + 1) x.is_broken_off pointed
+      stands = subst (λ (m : ℕ). IsShared d.tells n.base n.list (length n.list) m (n.points ++ length n.list ∷ []) n.known (x.points + 1) x.is_broken_off pointed) all_told
+          (point_stands d.tells n.base n.list n.taken n.told n.points n.known x.points x.is_broken_off x.volume k.volume pointed few all empty e)
 
       all_known : syncs (n.points ++ length n.list ∷ []) ≡ suc (length n.points)
       all_known = omega (arith, synced_more n.points (length n.list) few, all_syncs n.points (k.log.runs runs).unmarked)
@@ -111,8 +111,8 @@ module _ {D : Type 0} (d : Ghosts D) (x : SharedVolume D) (y : SharedLog D d) (r
       pub pointed_both : (known : Parts) → known ≡ record pointed { known = pointed.points } → (y' : SharedLog D d) → IsGroupWritten d.tells d.tells_crashes group (data_of d y) (data_of d y')
           → Pointed (standing d) (log_standing d) n (record x { volume = known; points = x.points + 1 }) (record y' { points = y'.points + 1 })
       pointed_both known is y' w = (
-        subst (λ (m : ℕ). IsShared d.tells n.base n.list (length n.list) (length n.list) (n.points ++ length n.list ∷ []) m (x.points + 1) x.broken_off known) all_known
-            (known_stands d.tells n.base n.list (length n.list) (length n.list) (n.points ++ length n.list ∷ []) n.known (x.points + 1) x.broken_off pointed stands known is),
+        subst (λ (m : ℕ). IsShared d.tells n.base n.list (length n.list) (length n.list) (n.points ++ length n.list ∷ []) m (x.points + 1) x.is_broken_off known) all_known
+            (known_stands d.tells n.base n.list (length n.list) (length n.list) (n.points ++ length n.list ∷ []) n.known (x.points + 1) x.is_broken_off pointed stands known is),
         pointed_stands logs_of d.tells d.tells_crashes (log_start_of n.base) (data_of d y) (data_of d y') n.list (length n.list) (length n.list) n.points n.stable log runs group few bytes point_size (last ∙ k.volume.appended) w,
       )
 
@@ -131,7 +131,7 @@ module _ {D : Type 0} (d : Ghosts D) (x : SharedVolume D) (y : SharedLog D d) (r
         points_grow = inr halted.1;
       }
         where
-          halted : (later : List ℕ) × ((later ≡ n.points ++ length n.list ∷ []) ⊎ (later ≡ (n.points ++ length n.list ∷ []) ++ halt_mark ∷ [])) × IsShared d.tells n.base n.list (length n.list) (length n.list) later n.known later_volume.points later_volume.broken_off later_volume.volume × (later_volume.points ≡ length later)
+          halted : (later : List ℕ) × ((later ≡ n.points ++ length n.list ∷ []) ⊎ (later ≡ (n.points ++ length n.list ∷ []) ++ halt_mark ∷ [])) × IsShared d.tells n.base n.list (length n.list) (length n.list) later n.known later_volume.points later_volume.is_broken_off later_volume.volume × (later_volume.points ≡ length later)
           halted = halts n.base n.list (length n.list) (length n.list) (n.points ++ length n.list ∷ []) n.known stands
 
           durable_taken : n.durable ≡ n.taken
@@ -153,8 +153,8 @@ module _ {D : Type 0} (d : Ghosts D) (x : SharedVolume D) (y : SharedLog D d) (x
       → (d.tells → (q : ℕ) → is_freed x'.volume.freed q ≡ false → page_of new.view q ≡ page_of x'.volume.view q)
       → Committed (standing d) (log_standing d) n (record x' { volume = new }) y'
   told_all n w all is new e shows = (
-    subst (λ (m : ℕ). IsShared d.tells n.base n.list (length n.list) m n.points n.known x'.points x'.broken_off new) all_is
-        (told_stands d.tells n.base n.list (length n.list) n.told n.points n.known x'.points x'.broken_off x'.volume w.0 all new (omega (arith, all_is)) e shows),
+    subst (λ (m : ℕ). IsShared d.tells n.base n.list (length n.list) m n.points n.known x'.points x'.is_broken_off new) all_is
+        (told_stands d.tells n.base n.list (length n.list) n.told n.points n.known x'.points x'.is_broken_off x'.volume w.0 all new (omega (arith, all_is)) e shows),
     w.1,
   )
     where

@@ -1,5 +1,5 @@
 -- What a mounted volume stands for, as the value that the volume turn guards.
-use Rattle.std.specs.Prelude.{◌≡◌, ◌≤◌, ◌+◌, ◌==◌, ◌&&◌, ℕ, suc, Bool, true, false, not, List, length, map, take, drop, Option, Some, None}
+use Rattle.std.specs.Prelude.{◌≡◌, ◌≤◌, ◌+◌, ℕ, suc, Bool, true, false, List, length, map, take, drop, Option, Some, None}
 use Rattle.jfs_disk.specs.Image.{page_of}
 use Rattle.jfs_disk.specs.declared.disk.Disk.{Ghosts}
 use Rattle.jfs_disk.specs.declared.disk.Fault.{Fault}
@@ -20,7 +20,7 @@ use Rattle.jfs_legal.specs.served.specs.shown.specs.meaning.specs.Image.{IsConsi
 use Rattle.jfs_legal.specs.served.specs.shown.specs.meaning.specs.Image as meaning
 use Rattle.jfs_legal.specs.served.specs.Legal.{Timed}
 use Rattle.jfs_legal.specs.served.specs.Laws.{HoldsImage}
-use Rattle.jfs_legal.specs.Until.{AreLegal, GoOn, FailsFirst}
+use Rattle.jfs_legal.specs.History.{AreLegal, GoOn}
 use Rattle.jfs_shared.specs.Base.{start_of, log_start_of, image_of}
 use Rattle.jfs_shared.specs.Faults.{IsOfDisk}
 use Rattle.jfs_shared.specs.Entries.{Recorded}
@@ -54,41 +54,14 @@ pub record HasText (ring : ℕ) (list : List Recorded) (taken points : ℕ) (tex
 
 -- ---- the replies
 
--- It broke off behind so many entries: these are legal. While the volume runs there are no more; and the first one behind them was refused for the fault that halted it.
-pub record IsBrokenOff (n : ℕ) (area : ℕ → ℕ) (log_pages : ℕ) (start : Parts) (es : List Timed) (p : Parts) : Type 0 where
-  pub within : n ≤ length es
-  pub legal : AreLegal area log_pages start (take n es)
-  pub behind : FailsFirst (drop n es)
-  pub running : p.halted ≡ None → n ≡ length es
+-- They are a legal history that goes on; or memory ran out for a call, and they broke off: they are legal, and nothing is said of the tree behind them. No call is done then.
+abbrev pub GoesOn : Bool → (ℕ → ℕ) → ℕ → Parts → List Timed → Parts → Type 0
+GoesOn false area log_pages start es p = GoOn area log_pages start es p
+GoesOn true area log_pages start es p = AreLegal area log_pages start es
 
--- They are a legal history that goes on, or that broke off.
-abbrev pub GoesOn : Option ℕ → (ℕ → ℕ) → ℕ → Parts → List Timed → Parts → Type 0
-GoesOn None area log_pages start es p = GoOn area log_pages start es p
-GoesOn (Some n) area log_pages start es p = IsBrokenOff n area log_pages start es p
-
--- either way all are legal, or those up to one that failed
-abbrev pub ToHaltLaw : Type 0
-ToHaltLaw = (broken_off : Option ℕ) (area : ℕ → ℕ) (log_pages : ℕ) (start : Parts) (es : List Timed) (p : Parts) → GoesOn broken_off area log_pages start es p → AreLegal area log_pages start es
-
--- and while the volume runs, behind a break, there is none that the break left out
-abbrev pub RunningLaw : Type 0
-RunningLaw = (broken_off : Option ℕ) (area : ℕ → ℕ) (log_pages : ℕ) (start : Parts) (es : List Timed) (p : Parts) → GoesOn broken_off area log_pages start es p → p.halted ≡ None → AreLegal area log_pages start es
-
--- The history broke off, and a call isn't done any more: while the volume runs none is; once it has halted, the first one behind the break is to be one that it refuses.
-abbrev pub is_over : Option ℕ → Option Fault → ℕ → Bool → Bool
-is_over None halted appended writing = false
-is_over (Some n) None appended writing = true
-is_over (Some n) (Some fault) appended writing = n == appended && not writing
-
--- it breaks off once, behind all entries so far
-abbrev pub broken_by : ℕ → Option ℕ → Option ℕ
-broken_by n None = Some n
-broken_by n (Some m) = Some m
-
--- not behind so many entries
-abbrev pub BreaksWithin : Option ℕ → ℕ → Type 0
-BreaksWithin None entries = Unit {0}
-BreaksWithin (Some n) entries = n ≤ entries
+-- either way they are legal
+abbrev pub HistoryLaw : Type 0
+HistoryLaw = (is_broken_off : Bool) (area : ℕ → ℕ) (log_pages : ℕ) (start : Parts) (es : List Timed) (p : Parts) → GoesOn is_broken_off area log_pages start es p → AreLegal area log_pages start es
 
 -- ---- a log that has halted
 
@@ -98,11 +71,11 @@ marked_by None n = n + 1
 marked_by (Some first) n = n
 
 -- so from a volume that holds the tree of an image, and hasn't halted
-pub record IsServed (s : Super) (page : ℕ → List ℕ) (broken_off : Option ℕ) (list : List Recorded) (p : Parts) : Type 0 where
+pub record IsServed (s : Super) (page : ℕ → List ℕ) (is_broken_off : Bool) (list : List Recorded) (p : Parts) : Type 0 where
   pub start : Parts
   pub holds : HoldsImage s page start
   pub runs : start.halted ≡ None
-  pub goes_on : GoesOn broken_off (meaning.volume_of s page).area s.logpxd.len start (timed_in list) p
+  pub goes_on : GoesOn is_broken_off (meaning.volume_of s page).area s.logpxd.len start (timed_in list) p
 
 -- where the image is consistent, by the superblock on its page 8
 abbrev pub IfConsistent : Base → (Super → (ℕ → List ℕ) → Type 0) → Type 0
@@ -111,7 +84,7 @@ IfConsistent base fact = IsConsistentImage (super_of (page_of (image_of base) 8)
 -- ---- all of it
 
 -- The volume has the list's entries. Groups have taken so many of them, and so many are acknowledged. It has made so many syncpoints since the mount, which has one of its own, and knows so many to be stable; the list of syncpoints may have a mark, that the log has halted, beside them. It has the pages of its part of the disk; a fault has halted it, or is a call's reply, only where a count of faults rose. Of a disk that tells its contents, its replies are legal.
-pub record IsShared (tells : Type 0) (base : Base) (list : List Recorded) (taken told : ℕ) (points : List ℕ) (known : ℕ) (made : ℕ) (broken_off : Option ℕ) (p : Parts) : Type 0 where
+pub record IsShared (tells : Type 0) (base : Base) (list : List Recorded) (taken told : ℕ) (points : List ℕ) (known : ℕ) (made : ℕ) (is_broken_off : Bool) (p : Parts) : Type 0 where
   pub entries : p.entries ≡ entries_in list
   pub appended : p.appended ≡ length list
   pub taken_is : p.taken ≡ taken
@@ -123,12 +96,11 @@ pub record IsShared (tells : Type 0) (base : Base) (list : List Recorded) (taken
   pub taken_within : taken ≤ length list
   pub text : HasText (start_of base).log.ring list taken (syncs points) p.text
   pub size : length p.map.states ≤ p.blocks
-  pub breaks : BreaksWithin broken_off (length list)
   pub disk : IsOfDisk (start_of base) points p
-  pub served : tells → IfConsistent base (λ s page. IsServed s page broken_off list p)
+  pub served : tells → IfConsistent base (λ s page. IsServed s page is_broken_off list p)
 
 abbrev pub standing : {D : Type 0} (d : Ghosts D) → Standing (SharedVolume D) Recorded
-standing d v base list taken told points known = IsShared d.tells base list taken told points known v.points v.broken_off v.volume
+standing d v base list taken told points known = IsShared d.tells base list taken told points known v.points v.is_broken_off v.volume
 
 -- and its log
 abbrev pub log_standing : {D : Type 0} (d : Ghosts D) → Standing (SharedLog D d) Recorded

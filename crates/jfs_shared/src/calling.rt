@@ -1,11 +1,10 @@
 //! A call of one of many clients.
 
 ghost use Rattle.std.specs.Prelude.{◌≡◌, true};
-ghost use Rattle.jfs_plain.specs.CallStep.{writes};
 ghost use Rattle.jfs_plain.specs.Limits.{FitsRequest};
 ghost use Rattle.jfs_call.specs.Answer.{IsAnswered};
 ghost use Rattle.jfs_call.specs.declared.outcome.Outcome.TheVariants.{NoMemory};
-ghost use Rattle.jfs_shared.specs.Shared.{Stands, standing, is_over};
+ghost use Rattle.jfs_shared.specs.Shared.{Stands, standing};
 ghost use Rattle.jfs_shared.specs.Calls.{CallIs, BreaksOffBy};
 
 use crate::shared::SharedVolume;
@@ -19,7 +18,7 @@ use std::alloc::Global;
 const LAST_ENTRY: u64 = 4_294_967_295;
 
 /// A call of a client, by its line, at this moment. Where it is replied its entry joins the list; `NeedsLog` tells that it is to be called again after a commit or a syncpoint. Behind a call for which memory ran out
-/// nothing more is said of the tree, so each later one finds no memory either, until the volume halts and one that would change something is refused for the fault. So it is behind a syncpoint that failed.
+/// nothing more is said of the tree, so each later one is answered so, too.
 pub fn call<D: Disk>(
     alloc: Global,
     shared: &mut SharedVolume<D>,
@@ -32,19 +31,19 @@ pub fn call<D: Disk>(
     requires stands { Stands D.Disk shared.old }
     ensures list { CallIs (standing D.Disk) client line request.now now shared.old shared.new result }
     ensures answered { IsAnswered client line request.now shared.old.volume shared.new.volume result }
-    ensures over { is_over shared.old.broken_off shared.old.volume.halted shared.old.volume.appended (writes request.now.call) ≡ true → (result ≡ NoMemory) × (shared.new ≡ shared.old) }
+    ensures over { shared.old.is_broken_off ≡ true → (result ≡ NoMemory) × (shared.new ≡ shared.old) }
     ensures points { shared.new.points ≡ shared.old.points }
-    ensures breaks { BreaksOffBy shared.new.volume.appended shared.old.broken_off shared.new.broken_off result }
+    ensures breaks { BreaksOffBy shared.old.is_broken_off shared.new.is_broken_off result }
 {
     if shared.volume.appended() >= LAST_ENTRY {
         return Outcome::NoMemory;
     }
-    if shared.is_over(&request.call) {
+    if shared.is_broken_off() {
         return Outcome::NoMemory;
     }
     match call_without_log(alloc, &mut shared.volume, client, line, request, now) {
         Outcome::NoMemory => {
-            shared.break_off();
+            shared.is_broken_off = true;
             Outcome::NoMemory
         }
         outcome => outcome,

@@ -30,7 +30,7 @@ pub fn commit_with<D: Disk>(
     ensures parts { (shared.new.volume.faults ≡ shared.old.volume.faults) × (D.page_count log.new.side.part ≡ D.page_count log.old.side.part) }
     ensures points { OnOk result (shared.new.points ≡ shared.old.points) }
     ensures marks { IfErr result (λ why. shared.new.points ≡ marked_by shared.old.volume.halted shared.old.points) }
-    ensures breaks { shared.new.broken_off ≡ shared.old.broken_off }
+    ensures breaks { shared.new.is_broken_off ≡ shared.old.is_broken_off }
     // Where there is nothing to write the log isn't called.
     ensures idle { is_idle shared.old.volume ≡ true → log.new ≡ log.old }
 {
@@ -58,7 +58,7 @@ fn write_waiting<D: Disk>(
     ensures parts { (shared.new.volume.faults ≡ shared.old.volume.faults) × (D.page_count log.new.side.part ≡ D.page_count log.old.side.part) }
     ensures points { OnOk result (shared.new.points ≡ shared.old.points) }
     ensures marks { IfErr result (λ why. shared.new.points ≡ marked_by shared.old.volume.halted shared.old.points) }
-    ensures breaks { shared.new.broken_off ≡ shared.old.broken_off }
+    ensures breaks { shared.new.is_broken_off ≡ shared.old.is_broken_off }
     ensures all { shared.new.volume.appended ≡ shared.old.volume.appended }
     ensures idle { is_idle shared.old.volume ≡ true → log.new ≡ log.old }
 {
@@ -80,7 +80,7 @@ fn write<D: Disk>(shared: &mut SharedVolume<D>, log: &mut SharedLog<D>) -> Resul
     ensures parts { (shared.new.volume.faults ≡ shared.old.volume.faults) × (D.page_count log.new.side.part ≡ D.page_count log.old.side.part) }
     ensures points { OnOk result (shared.new.points ≡ shared.old.points) }
     ensures marks { IfErr result (λ why. shared.new.points ≡ marked_by shared.old.volume.halted shared.old.points) }
-    ensures breaks { shared.new.broken_off ≡ shared.old.broken_off }
+    ensures breaks { shared.new.is_broken_off ≡ shared.old.is_broken_off }
     ensures all { shared.new.volume.appended ≡ shared.old.volume.appended }
 {
     let group = shared.volume.take_group();

@@ -15,7 +15,7 @@ impl<D: Disk> SharedVolume<D> {
         ensures halts { Halts (standing D.Disk) (λ v. v.points) self.old self.new }
         ensures volume { self.new.volume ≡ record self.old.volume { halted = halted_by fault self.old.volume.halted } }
         ensures points { self.new.points ≡ marked_by self.old.volume.halted self.old.points }
-        ensures broken_off { self.new.broken_off ≡ self.old.broken_off }
+        ensures breaks { self.new.is_broken_off ≡ self.old.is_broken_off }
     {
         if self.volume.halted().is_some() {
             return;

@@ -1,7 +1,7 @@
 //! What follows for a volume and its log that stand for one list.
 
 ghost use Rattle.jfs_shared.specs.Both.{TogetherLaw};
-ghost use Rattle.jfs_shared.specs.Shared.{RunningLaw, ToHaltLaw, standing, log_standing};
+ghost use Rattle.jfs_shared.specs.Shared.{HistoryLaw, standing, log_standing};
 
 use jfs_disk::Disk;
 
@@ -10,12 +10,7 @@ pub fn values_together_may_commit<D: Disk>()
     ensures { TogetherLaw D.Disk (standing D.Disk) (log_standing D.Disk) }
 {}
 
-/// The entries of a volume are legal, up to one that was refused for a fault, whether or not their history broke off.
-pub fn histories_are_legal_to_a_halt()
-    ensures { ToHaltLaw }
-{}
-
-/// While it runs, all of them are legal.
-pub fn histories_are_legal_while_a_volume_runs()
-    ensures { RunningLaw }
+/// The entries of a volume are legal, whether or not their history broke off.
+pub fn histories_are_legal()
+    ensures { HistoryLaw }
 {}

@@ -15,10 +15,7 @@ mod starting;
 
 pub use calling::call;
 pub use committing::commit_with;
-pub use law::{
-    histories_are_legal_to_a_halt, histories_are_legal_while_a_volume_runs,
-    values_together_may_commit,
-};
+pub use law::{histories_are_legal, values_together_may_commit};
 pub use point_group::PointGroup;
 pub use pointing::{has_room_for_point, point_with};
 pub use recorded::Recorded;

@@ -3,7 +3,6 @@
 ghost use Rattle.std.specs.Prelude.{◌≡◌, ◌≤◌, ◌+◌, ◌*◌, ◌^◌, [], nat_le, length, OnOk, IfErr, None, Some};
 ghost use Rattle.jfs_volume_calls.specs.Syncpoint.{HasFaultOfEither, HasPointFault};
 ghost use Rattle.jfs_shared.specs.Both.{AreTogether, PointIs};
-ghost use Rattle.jfs_shared.specs.Calls.{MayBreakOff};
 ghost use Rattle.jfs_shared.specs.Shared.{standing, log_standing};
 
 use crate::committing::commit_with;
@@ -26,7 +25,7 @@ pub fn has_room_for_point<D: Disk>(shared: &SharedVolume<D>) -> bool
 ///
 /// # Errors
 ///
-/// A write or a sync of either part failed, and the volume halts. All entries are taken. Where all were durable by then, nothing is said of the tree any more.
+/// A write or a sync of either part failed, and the volume halts. All entries are taken.
 pub fn point_with<D: Disk>(
     shared: &mut SharedVolume<D>,
     log: &mut SharedLog<D>,
@@ -37,8 +36,7 @@ pub fn point_with<D: Disk>(
     ensures point { PointIs (standing D.Disk) (log_standing D.Disk) shared.old log.old shared.new log.new result }
     ensures goes_on { OnOk result ((log.new.side.halted ≡ None) × (shared.new.volume.halted ≡ None)) }
     ensures halts { IfErr result (λ fault. shared.new.volume.halted ≡ Some fault) }
-    ensures breaks { OnOk result (shared.new.broken_off ≡ shared.old.broken_off) }
-    ensures breaks_by { IfErr result (λ fault. MayBreakOff shared.new.volume.appended shared.old.broken_off shared.new.broken_off) }
+    ensures breaks { shared.new.is_broken_off ≡ shared.old.is_broken_off }
     ensures cause { HasFaultOfEither shared.old.volume.faults shared.new.volume.faults (D.fault_count log.old.side.part) (D.fault_count log.new.side.part) result }
     ensures pages { D.page_count log.new.side.part ≡ D.page_count log.old.side.part }
 {
@@ -48,10 +46,7 @@ pub fn point_with<D: Disk>(
     }
     match settle(&mut shared.volume) {
         Ok(()) => {}
-        Err(fault) => {
-            shared.break_off();
-            return Err(fault);
-        }
+        Err(fault) => return Err(fault),
     }
     write_point(shared, log)
 }
@@ -66,7 +61,7 @@ fn write_point<D: Disk>(shared: &mut SharedVolume<D>, log: &mut SharedLog<D>) ->
     ensures point { PointIs (standing D.Disk) (log_standing D.Disk) shared.old log.old shared.new log.new result }
     ensures goes_on { OnOk result ((log.new.side.halted ≡ None) × (shared.new.volume.halted ≡ None)) }
     ensures halts { IfErr result (λ fault. shared.new.volume.halted ≡ Some fault) }
-    ensures breaks { shared.new.broken_off ≡ shared.old.broken_off }
+    ensures breaks { shared.new.is_broken_off ≡ shared.old.is_broken_off }
     ensures cause { HasPointFault (D.fault_count log.old.side.part) (D.fault_count log.new.side.part) result }
     ensures parts { (shared.new.volume.faults ≡ shared.old.volume.faults) × (D.page_count log.new.side.part ≡ D.page_count log.old.side.part) }
 {

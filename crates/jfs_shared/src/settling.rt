@@ -1,9 +1,9 @@
 //! Pages that go home, and are synced.
 
-ghost use Rattle.std.specs.Prelude.{◌≡◌, OnOk, None};
+ghost use Rattle.std.specs.Prelude.{◌≡◌, None};
 ghost use Rattle.jfs_volume_calls.specs.volume.specs.pages.specs.Device.{HasFault};
 ghost use Rattle.jfs_volume_calls.specs.volume.specs.Settles.{Settles, StaysShown, HaltsAt};
-ghost use Rattle.jfs_volume_calls.specs.Written.{WritesMaps};
+ghost use Rattle.jfs_volume_calls.specs.Written.{LeavesMaps};
 ghost use Rattle.jfs_shared.specs.Home.{IsSettled};
 
 use jfs_disk::{Disk, Fault};
@@ -19,8 +19,8 @@ pub(crate) fn settle<D: Disk>(volume: &mut Volume<D>) -> Result<(), Fault>
     requires told { volume.old.told ≡ volume.old.appended }
     ensures parts { IsSettled volume.old volume.new }
     ensures settles { Settles volume.old volume.new }
-    ensures shown { OnOk result (StaysShown D.tells volume.old volume.new) }
-    ensures maps { OnOk result (D.tells → WritesMaps volume.old volume.new) }
+    ensures shown { StaysShown D.tells volume.old volume.new }
+    ensures leaves { D.tells → LeavesMaps volume.old volume.new }
     ensures halts { HaltsAt volume.old.halted volume.new.halted result }
     ensures cause { HasFault volume.old.faults volume.new.faults result }
 {

@@ -1,6 +1,6 @@
 //! A mounted volume begins to be shared.
 
-ghost use Rattle.std.specs.Prelude.{◌≡◌, ◌<◌, ◌^◌, None};
+ghost use Rattle.std.specs.Prelude.{◌≡◌, ◌<◌, ◌^◌, false};
 ghost use Rattle.jfs_disk.specs.Image.{Image};
 ghost use Rattle.jfs_super.specs.declared.fields.Super.{Super};
 ghost use Rattle.jfs_legal.specs.served.specs.volume_calls.specs.Together.{log_parts};
@@ -15,7 +15,7 @@ use jfs_legal::unmount::Mounted;
 
 /// A volume that was just mounted, and its log, as the values that two turns guard. Nothing has happened yet.
 pub fn started<D: Disk>(m: Mounted<D>, point: PointGroup) -> (SharedVolume<D>, SharedLog<D>)
-    ensures volume { (result.0.volume ≡ m.volume) × (result.0.points ≡ 0) × (result.0.broken_off ≡ None) }
+    ensures volume { (result.0.volume ≡ m.volume) × (result.0.points ≡ 0) × (result.0.is_broken_off ≡ false) }
     ensures log { (result.1.side ≡ m.log) × (result.1.points ≡ 0) }
     ensures stands { (s : Super) (image : Image) → IsJustMounted D.tells D.tells_crashes s image m.volume (log_parts D.Disk m.log) → m.volume.faults < 2 ^ 64 → D.fault_count m.log.part < 2 ^ 64 → StandsFresh (standing D.Disk) (log_standing D.Disk) (base_at s image m.volume (D.page_count m.log.part) (D.fault_count m.log.part)) result.0 result.1 }
 {
@@ -25,7 +25,7 @@ pub fn started<D: Disk>(m: Mounted<D>, point: PointGroup) -> (SharedVolume<D>, S
             volume,
             point,
             points: 0,
-            broken_off: None,
+            is_broken_off: false,
         },
         SharedLog {
             side: log,

@@ -23,11 +23,11 @@ use Rattle.jfs_shown.proofs.Canonical.{canonical_law}
 use Rattle.jfs_shown.proofs.Files.{written_law, change_law, own_law}
 use Rattle.jfs_shown.proofs.Places.{keeps_law}
 use Rattle.jfs_volume_calls.specs.halves.specs.Parts.{Parts}
-use Rattle.jfs_volume_calls.specs.volume.specs.MapsHome.{AreApart, ShowsBlockMap, HoldsNone}
+use Rattle.jfs_volume_calls.specs.volume.specs.MapsHome.{AreApart, ShowsBlockMap, HoldsNone, with_written}
 use Rattle.jfs_volume_calls.specs.volume.specs.Settles.{Settles, SettlesTo, KeepsMap, StaysShown}
-use Rattle.jfs_volume_calls.specs.Written.{WritesMaps}
+use Rattle.jfs_volume_calls.specs.Written.{LeavesMaps}
 use Rattle.jfs_unmount.specs.Laws.{IsSettled}
-use Rattle.jfs_unmount.specs.Synced.{PutsMapsHome, SyncedLaw, HomeLaw, IsHome, NoneFreed}
+use Rattle.jfs_unmount.specs.Synced.{LeavesMapsHome, SyncedLaw, HomeLaw, StillKnownLaw, IsHome, NoneFreed}
 
 -- a page of the block map's file is in use where it tells anything
 dmap_in_use : (blocks k : ℕ) → suc (suc (suc (suc k))) < pages_of blocks → is_in_use blocks (suc (suc (suc (suc k)))) ≡ true
@@ -42,7 +42,7 @@ same_blocks blocks m n (suc (suc (suc zero))) page same shows = tt
 same_blocks blocks m n (suc (suc (suc (suc k)))) page same shows = λ i l w. shows i l w ∙ sym (same (8192 * k + i))
 
 module _ (s : Super) (area : ℕ → ℕ) (old new : Parts) (knows : KnowsFiles s (page_of old.view) area old.map old.inodes old.files) (consistent : IsConsistent (readers (blocks_of s)) (volume_of (page_of old.view) area old.map old.inodes))
-    (home : PutsMapsHome area old new) where
+    (home : LeavesMapsHome area old new) where
   abbrev r : Readers
   r = readers (blocks_of s)
 
@@ -57,16 +57,16 @@ module _ (s : Super) (area : ℕ → ℕ) (old new : Parts) (knows : KnowsFiles 
   none b e = ((λ n h. absurd (let a = (own.block_areas n b h).0 in omega (arith, a, e))), (λ n h. absurd (let a = (own.inode_areas n b h).0 in omega (arith, a, e))))
 
   block_places : new.files.blocks.places ≡ old.files.blocks.places
-  block_places = ap (λ (f : MapFiles). f.blocks.places) home.files
+  block_places = home.block_places
 
   inode_places : new.files.inodes.places ≡ old.files.inodes.places
-  inode_places = ap (λ (f : MapFiles). f.inodes.places) home.files
+  inode_places = home.inode_places
 
   number : length new.map.states ≡ blocks_of s
   number = home.number ∙ knows.sizes.blocks_are
 
-  shows_blocks : (j b : ℕ) → slice_get new.files.blocks.places j ≡ Some b → ShowsBlocks (blocks_of s) new.map j (page_of new.view b)
-  shows_blocks j b h = by old.files.blocks.stale refl
+  shows_blocks : new.files.blocks.stale ≡ false → (j b : ℕ) → slice_get new.files.blocks.places j ≡ Some b → ShowsBlocks (blocks_of s) new.map j (page_of new.view b)
+  shows_blocks fresh j b h = by old.files.blocks.stale refl
     where
       at : slice_get old.files.blocks.places j ≡ Some b
       at = ap (λ (ps : List ℕ). slice_get ps j) (sym block_places) ∙ h
@@ -82,18 +82,18 @@ module _ (s : Super) (area : ℕ → ℕ) (old new : Parts) (knows : KnowsFiles 
           (shows (suc (suc (suc (suc k)))) b (dmap_in_use (length new.map.states) k (subst (λ (n : ℕ). suc (suc (suc (suc k))) < pages_of n) (sym number) l)) h))
 
       by : (x : Bool) → old.files.blocks.stale ≡ x → ShowsBlocks (blocks_of s) new.map j (page_of new.view b)
-      by true e = canonical j (home.block_map e) h (let l = slice_get_within old.files.blocks.places j b at in omega (arith, l, knows.block_pages))
+      by true e = canonical j (home.block_map e fresh) h (let l = slice_get_within old.files.blocks.places j b at in omega (arith, l, knows.block_pages))
       by false e = same_blocks (blocks_of s) old.map new.map j (page_of new.view b) home.owned
           (subst (λ (p : List ℕ). ShowsBlocks (blocks_of s) old.map j p) (sym (home.block_pages e j b at)) (knows.block_map e j b at))
 
-  shows_inodes : (j b : ℕ) → slice_get new.files.inodes.places j ≡ Some b → ShowsInodes new.inodes j (page_of new.view b)
-  shows_inodes j b h = by old.files.inodes.stale refl
+  shows_inodes : new.files.inodes.stale ≡ false → (j b : ℕ) → slice_get new.files.inodes.places j ≡ Some b → ShowsInodes new.inodes j (page_of new.view b)
+  shows_inodes fresh j b h = by old.files.inodes.stale refl
     where
       at : slice_get old.files.inodes.places j ≡ Some b
       at = ap (λ (ps : List ℕ). slice_get ps j) (sym inode_places) ∙ h
 
       by : (x : Bool) → old.files.inodes.stale ≡ x → ShowsInodes new.inodes j (page_of new.view b)
-      by true e = canonical_law.inode_map new.inodes j (page_of new.view b) (home.inode_map e j b h)
+      by true e = canonical_law.inode_map new.inodes j (page_of new.view b) (home.inode_map e fresh j b h)
       by false e = subst (λ (m : Inodes). ShowsInodes m j (page_of new.view b)) (sym home.inodes)
           (subst (λ (p : List ℕ). ShowsInodes old.inodes j p) (sym (home.inode_pages e j b at)) (knows.inode_map e j b at))
 
@@ -104,21 +104,21 @@ module _ (s : Super) (area : ℕ → ℕ) (old new : Parts) (knows : KnowsFiles 
     inode_places = inode_places;
     sizes = record { blocks_are = number; places_are = subst (λ (m : Inodes). length m.extents ≡ 128 * m.iags) (sym home.inodes) knows.sizes.places_are };
     groups = ap (λ (m : Inodes). m.iags) home.inodes;
-    block_map = λ fresh j b h. shows_blocks j b h;
-    inode_map = λ fresh j b h. shows_inodes j b h;
+    block_map = shows_blocks;
+    inode_map = shows_inodes;
   })
 
-  pub settled : IsConsistent r (volume_of (page_of new.view) area new.map new.inodes) → IsSettled s (page_of new.view) area new.map new.inodes
-  settled after = record {
+  pub settled : new.files ≡ with_written old.files → IsConsistent r (volume_of (page_of new.view) area new.map new.inodes) → IsSettled s (page_of new.view) area new.map new.inodes
+  settled files after = record {
     consistent = after;
     sizes = known.sizes;
     areas = known.areas;
     files = known.whole;
-    shows = written_law s (page_of new.view) area new.map new.inodes new.files known (ap (λ (f : MapFiles). f.blocks.stale) home.files) (ap (λ (f : MapFiles). f.inodes.stale) home.files);
+    shows = written_law s (page_of new.view) area new.map new.inodes new.files known (ap (λ (f : MapFiles). f.blocks.stale) files) (ap (λ (f : MapFiles). f.inodes.stale) files);
   }
 
 pub synced_law : SyncedLaw
-synced_law s area old new knows consistent home after = settled s area old new knows consistent home after
+synced_law s area old new knows consistent home after = settled s area old new knows consistent home.leaves home.files after
 
 -- ---- a syncpoint puts them home
 
@@ -143,7 +143,7 @@ pub settled_size : (n : ℕ) (m : Blocks) → length (blocks_settled n m).states
 settled_size n m = changed-length (λ (c : ℕ) (s : BlockState). settled_state n s) m
 
 module _ (s : Super) (area : ℕ → ℕ) (old new : Parts) (knows : KnowsFiles s (page_of old.view) area old.map old.inodes old.files) (consistent : IsConsistent (readers (blocks_of s)) (volume_of (page_of old.view) area old.map old.inodes))
-    (free : NoneFreed area old) (settles : Settles old new) (shown : StaysShown ⊤ old new) (maps : WritesMaps old new) where
+    (free : NoneFreed area old) (settles : Settles old new) (shown : StaysShown ⊤ old new) (maps : LeavesMaps old new) where
   places : HasOwnPlaces (readers (blocks_of s)) (page_of old.view) area old.files
   places = own_law s (page_of old.view) area old.map old.inodes old.files knows consistent.sound.agrees
 
@@ -158,9 +158,10 @@ module _ (s : Super) (area : ℕ → ℕ) (old new : Parts) (knows : KnowsFiles 
   owned_by b (inl k) = ap (λ (m : Blocks). is_owned m b) k.map
   owned_by b (inr (n, t)) = ap (λ (m : Blocks). is_owned m b) t.map ∙ settled_owned n old.map b
 
-  puts : PutsMapsHome area old new
-  puts = record {
-    files = maps.files;
+  leaves : LeavesMapsHome area old new
+  leaves = record {
+    block_places = shown.block_places;
+    inode_places = shown.inode_places;
     inodes = settles.inodes;
     number = number_by settles.map;
     owned = λ b. owned_by b settles.map;
@@ -171,8 +172,14 @@ module _ (s : Super) (area : ℕ → ℕ) (old new : Parts) (knows : KnowsFiles 
     areas = λ b more none. shown.view tt b (free b more) none;
   }
 
-  pub is_home : IsHome s area old new
-  is_home = record { puts = puts; knows = known s area old new knows consistent puts }
+  pub still_known : KnowsFiles s (page_of new.view) area new.map new.inodes new.files
+  still_known = known s area old new knows consistent leaves
+
+  pub is_home : new.files ≡ with_written old.files → IsHome s area old new
+  is_home files = record { puts = record { files = files; leaves = leaves }; knows = still_known }
 
 pub home_law : HomeLaw
-home_law = is_home
+home_law s area old new knows consistent free settles shown maps = is_home s area old new knows consistent free settles shown maps.leaves maps.files
+
+pub still_known_law : StillKnownLaw
+still_known_law = still_known

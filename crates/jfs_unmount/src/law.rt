@@ -1,7 +1,7 @@
 //! What is known of a volume's maps from its mount on, and what the disk means once it is unmounted.
 
 ghost use Rattle.jfs_unmount.specs.Laws.{MountLaw, SettledLaw, CleanLaw};
-ghost use Rattle.jfs_unmount.specs.Synced.{HomeLaw, SyncedLaw};
+ghost use Rattle.jfs_unmount.specs.Synced.{HomeLaw, StillKnownLaw, SyncedLaw};
 
 /// With the maps that a mount finds of a consistent image, all is known of their files.
 pub fn mounts_know_the_files_of_maps()
@@ -16,6 +16,11 @@ pub fn syncpoints_put_maps_home()
 /// So these pages show the maps then.
 pub fn syncpoints_settle_maps()
     ensures { SyncedLaw }
+{}
+
+/// All is known of the maps' files also where a syncpoint failed.
+pub fn failed_syncpoints_leave_what_is_known()
+    ensures { StillKnownLaw }
 {}
 
 /// Where the pages of a mounted volume show its maps, these pages alone are a consistent image with its tree, whatever the superblock's page has.

@@ -6,7 +6,7 @@ use Rattle.jfs_disk.specs.Image.{Image}
 use Rattle.jfs_disk.specs.declared.disk.Fault.{Fault}
 use Rattle.jfs_halves.specs.crash_core.specs.Image.{pages_after}
 use Rattle.jfs_marks.specs.data_steps.specs.declared.pages.DataPage.{DataPage}
-use Rattle.jfs_volume.specs.Data.{put_pages}
+use Rattle.jfs_volume.specs.Data.{put_pages, IsPartlyPut}
 use Rattle.jfs_volume.specs.Written.{writes}
 use Rattle.jfs_ranges.specs.declared.edit.Edit.{Edit}
 use Rattle.jfs_bmap.specs.States.{Blocks, BlockState, Free, put_state, state_of, is_busy_state}
@@ -102,7 +102,7 @@ shows_after contents tx p m q (Entered n) same a = a ∙ ap (λ (image : Image).
 shows_after contents tx p m q NoRoom same a = a ∙ same
 shows_after contents tx p m q NoMemory same a = a ∙ same
 shows_after contents tx p m q (Unread fault) same a = a ∙ same
-shows_after contents tx p m q (Failed fault) same a = tt
+shows_after contents tx p m q (Failed fault) same a = λ once. subst (λ (image : Image). IsPartlyPut contents image q.view) same (a once)
 
 -- nor do blocks that may be written
 pub writable_after : (contents : List DataPage) (tx : List Edit) (p m : Parts) → KeepsStates p m → IsWritable contents (unreserved tx p) → IsWritable contents (unreserved tx m)

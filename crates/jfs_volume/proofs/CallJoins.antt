@@ -7,7 +7,7 @@ use Rattle.std.proofs.lemmas.Bool.{eqb-true}
 use Rattle.jfs_bmap.specs.States.{Blocks, BlockState, Free, put_state, AreReserved}
 use Rattle.jfs_ranges.specs.View.{AreWhole}
 use Rattle.jfs_ranges.specs.declared.edit.Edit.{Edit}
-use Rattle.jfs_marks.specs.data_steps.specs.After.{LieWithin, is_put}
+use Rattle.jfs_marks.specs.data_steps.specs.After.{LieWithin, EachOnce, is_put}
 use Rattle.jfs_marks.specs.data_steps.specs.declared.pages.DataPage.{DataPage}
 use Rattle.jfs_pages.specs.declared.dirty.Dirty.{Dirty}
 use Rattle.jfs_pages.specs.Device.{IsFault}
@@ -19,7 +19,7 @@ use Rattle.jfs_marks.specs.declared.marks.InodeMarks.{InodeMarks}
 use Rattle.jfs_halves.specs.Parts.{Parts, Text}
 use Rattle.jfs_halves.specs.Change.{SameStates}
 use Rattle.jfs_volume.specs.Append.{Adds, AddsEntry, ShowsEntry, Stays, Fails, TellsFault, unreserved}
-use Rattle.jfs_volume.specs.Data.{AreClean, put_pages}
+use Rattle.jfs_volume.specs.Data.{AreClean, put_pages, IsPartlyPut}
 use Rattle.jfs_volume.specs.Room.{has_room}
 use Rattle.jfs_volume.specs.Runs.{taken_in}
 use Rattle.jfs_volume.specs.Called.{JoinsWith, GivesBack, MayGiveBack, GoesOn, FailsBy, CallIs, StaysOut, ReservedIs, IsRead, FitsBeside, LacksRoom, are_clean}
@@ -123,7 +123,7 @@ module _ (tells : Type 0) (old mid new : Parts) (read : IsRead tells old mid) wh
         },
       )
 
-  pub unread : (tx : List Edit) (put : List DataPage) (fault : Fault) → are_clean put old.dirty ≡ true → mid.faults ≡ old.faults → Stays mid new → IsFault mid.faults new.faults fault → (tells → AreClean put mid.dirty → new.view ≡ mid.view) → StaysOut old new × FailsBy tells fault old new
+  pub unread : (tx : List Edit) (put : List DataPage) (fault : Fault) → are_clean put old.dirty ≡ true → mid.faults ≡ old.faults → Stays mid new → IsFault mid.faults new.faults fault → (tells → AreClean put mid.dirty → new.view ≡ mid.view) → StaysOut old new × FailsBy tells put fault old new
   unread tx put fault clean faults s told shows = (
     out_over s.parts s.map,
     record {
@@ -135,15 +135,19 @@ module _ (tells : Type 0) (old mid new : Parts) (read : IsRead tells old mid) wh
     },
   )
 
-  pub fails : (fault : Fault) → mid.faults ≡ old.faults → Fails fault mid new → IsFault mid.faults new.faults fault → StaysOut old new × FailsBy tells fault old new
-  fails fault faults f told = (
+  pub fails : (put : List DataPage) (fault : Fault) → are_clean put old.dirty ≡ true → mid.faults ≡ old.faults → Fails fault mid new → IsFault mid.faults new.faults fault
+      → (tells → AreClean put mid.dirty → EachOnce put → IsPartlyPut put mid.view new.view) → StaysOut old new × FailsBy tells put fault old new
+  fails put fault clean faults f told shows = (
     record {
       joins_not = record { parts = halted_over };
       map = record { states = f.map.states ∙ ap (λ (p : Parts). p.map.states) read.parts; agsize = f.map.agsize ∙ ap (λ (p : Parts). p.map.agsize) read.parts };
     },
     record {
       is_fault = subst (λ (n : ℕ). IsFault n new.faults fault) faults told;
-      halted = inr (ap (λ (p : Parts). p.halted) f.parts);
+      halted = inr (
+        ap (λ (p : Parts). p.halted) f.parts,
+        λ t once. subst (λ (image : Image). IsPartlyPut put image new.view) (read.view t) (shows t (subst (λ (dirty : List Dirty). AreClean put dirty) (sym same_dirty) (are_all_clean put old.dirty clean)) once),
+      );
     },
   )
     where

@@ -4,6 +4,7 @@ pub mod Homing
 pub mod Writing
 pub mod Putting
 pub mod PuttingAll
+pub mod PartlyPut
 pub mod Showing
 pub mod GivingBack
 pub mod Busy

@@ -1,5 +1,5 @@
 -- Pages of a map's file are put into their places, one after the other.
-use Rattle.std.proofs.Common.{◌≡◌, ◌<◌, ◌≤◌, ◌⊎◌, ◌++◌, ◌∷◌, [], ℕ, suc, Bool, true, false, List, length, set, slice_get, Option, Some, None, Result, Ok, Err, OnOk, refl, sym, ap, ◌∙◌, inl, inr, subst, arith, append_assoc}
+use Rattle.std.proofs.Common.{◌≡◌, ◌<◌, ◌≤◌, ◌⊎◌, ◌++◌, ◌∷◌, [], ℕ, suc, Bool, true, false, List, length, set, slice_get, Option, Some, None, Result, Ok, Err, OnOk, OnErr, true≢false, refl, sym, ap, ◌∙◌, inl, inr, subst, arith, append_assoc}
 use Rattle.std.proofs.lemmas.Bool.{cases_eq}
 use Rattle.std.proofs.lemmas.List.{length-set, get_or-set_same, get_or-set_other, map-append}
 use Rattle.jfs_disk.specs.Image.{Image, page_of}
@@ -11,14 +11,14 @@ use Rattle.jfs_halves.specs.Parts.{Parts}
 use Rattle.jfs_halves.specs.Change.{Change, Writes, WriteTears, Stops, after}
 use Rattle.jfs_halves.specs.Moves.{Moves}
 use Rattle.jfs_halves.proofs.Joined.{join}
-use Rattle.jfs_volume.specs.MapsHome.{MapsHome, ShowsAfter, with_written}
-use Rattle.jfs_volume.specs.Shown.{PutsPage, AreOwn, ShowsUpto, PutsMap}
+use Rattle.jfs_volume.specs.MapsHome.{MapsHome, KeepsPlaces, ShowsAfter, with_written, with_blocks_written, with_inodes_written}
+use Rattle.jfs_volume.specs.Shown.{PutsPage, AreOwn, ShowsUpto, PutsMap, Spoils, StaysElse}
 use Rattle.jfs_bmap.specs.MapFile.{IsMapPage, is_in_use}
 use Rattle.jfs_bmap.specs.States.{is_owned}
 use Rattle.jfs_imap.specs.Inodes.{IsInodePage}
 use Rattle.jfs_map_files.specs.declared.map_file.MapFiles.{MapFiles}
 use Rattle.std.proofs.lemmas.Option.{slice_get_within}
-use Rattle.jfs_volume.specs.Written.{writes, StopsWriting, WriteIs, stops, tears}
+use Rattle.jfs_volume.specs.Written.{writes, StopsWriting, WriteIs, IsWrittenOf, stops, tears}
 use Rattle.jfs_volume.proofs.Writing.{FailsToWrite}
 
 pub shows-none : (places : List ℕ) (used : ℕ → Bool) (is : ℕ → List ℕ → Type 0) (old : Image) → ShowsUpto 0 places used is old old
@@ -122,10 +122,6 @@ pub maps-then : (seen asked : Bool) (old mid new : Parts) (half : VolumeHalf) (p
 maps-then seen asked old mid new half pages (Ok done) a w = (pages ++ w.0, writes-on seen asked old mid new half pages w.0 a w.1)
 maps-then seen asked old mid new half pages (Err fault) a s = writes-stop seen asked old mid new half pages fault a s
 
-pub on-ok : {A B C : Type 0} (result : Result (Unit {0}) Fault) → OnOk result A → OnOk result B → (A → B → C) → OnOk result C
-on-ok (Ok done) a b f = f a b
-on-ok (Err fault) a b f = tt
-
 others-of : (file : MapPlaces) (used : ℕ → Bool) (is : ℕ → List ℕ → Type 0) (old new : Image) → PutsMap file used is old new → (b : ℕ) → ((n : ℕ) → slice_get file.places n ≡ Some b → ⊥) → page_of new b ≡ page_of old b
 others-of file used is old new puts b none = at file.stale refl
   where
@@ -140,23 +136,81 @@ size-of file used is old new puts = at file.stale refl
     at true e = (puts.stale e).size
     at false e = ap (λ (image : Image). length image) (puts.fresh e)
 
-pub shows-both : (old new : Parts) (mid : Image) → new.map ≡ old.map → new.inodes ≡ old.inodes → new.files ≡ with_written old.files →
-    PutsMap old.files.blocks (is_in_use (length old.map.states)) (IsMapPage (length old.map.states) old.map.agsize (is_owned old.map)) old.view mid →
-    PutsMap old.files.inodes (λ n. true) (IsInodePage old.inodes) mid new.view → ShowsAfter old new
-shows-both old new mid same_map same_inodes same_files first second = record {
-  block_map = λ apart stale. rw (same_map, same_files) (λ n b used here.
-      subst (IsMapPage (length old.map.states) old.map.agsize (is_owned old.map) n) (sym (later b (λ m there. apart.both n m b here there)))
-      ((first.stale stale).shown apart.blocks n b (slice_get_within old.files.blocks.places n b here) used here));
-  inode_map = λ apart stale. rw (same_inodes, same_files) (λ n b here. (second.stale stale).shown apart.inodes n b (slice_get_within old.files.inodes.places n b here) refl here);
-  block_pages = λ apart fresh n b here. later b (λ m there. apart.both n m b here there) ∙ ap (λ (image : Image). page_of image b) (first.fresh fresh);
-  inode_pages = λ apart fresh n b here. ap (λ (image : Image). page_of image b) (second.fresh fresh) ∙ earlier b (λ m there. apart.both m n b there here);
-  others = λ b none. later b none.1 ∙ earlier b none.0;
-  size = size-of old.files.inodes (λ n. true) (IsInodePage old.inodes) mid new.view second
-      ∙ size-of old.files.blocks (is_in_use (length old.map.states)) (IsMapPage (length old.map.states) old.map.agsize (is_owned old.map)) old.view mid first;
-}
-  where
-    later : (b : ℕ) → ((n : ℕ) → slice_get old.files.inodes.places n ≡ Some b → ⊥) → page_of new.view b ≡ page_of mid b
-    later b none = others-of old.files.inodes (λ n. true) (IsInodePage old.inodes) mid new.view second b none
+-- ---- where a write failed
 
-    earlier : (b : ℕ) → ((n : ℕ) → slice_get old.files.blocks.places n ≡ Some b → ⊥) → page_of mid b ≡ page_of old.view b
-    earlier b none = others-of old.files.blocks (is_in_use (length old.map.states)) (IsMapPage (length old.map.states) old.map.agsize (is_owned old.map)) old.view mid first b none
+pub spoils-of : (tells : Type 0) (place : Option ℕ) (n : ℕ) (bytes : List ℕ) (old new : Parts) (result : Result (Unit {0}) Fault) → place ≡ Some n → IsWrittenOf tells n bytes old new result → tells → OnErr result (Spoils place old.view new.view)
+spoils-of tells place n bytes old new (Ok done) is w t = tt
+spoils-of tells place n bytes old new (Err fault) is w t = subst (λ (o : Option ℕ). Spoils o old.view new.view) (sym is) (w.1 t)
+
+pub stays-else : (n : ℕ) (places : List ℕ) (used : ℕ → Bool) (is : ℕ → List ℕ → Type 0) (old mid new : Image) → ShowsUpto n places used is old mid → Spoils (slice_get places n) mid new → StaysElse places old new
+stays-else n places used is old mid new shows spoils = by (slice_get places n) refl spoils
+  where
+    by : (place : Option ℕ) → slice_get places n ≡ place → Spoils place mid new → StaysElse places old new
+    by None e same = record { others = λ b none. ap (λ (image : Image). page_of image b) same ∙ shows.others b none; size = ap (λ (image : Image). length image) same ∙ shows.size }
+    by (Some c) e (bytes, same) = record {
+      others = λ b none. ap (λ (image : Image). page_of image b) same ∙ get_or-set_other mid c b bytes [] (λ i. none n (e ∙ ap Some (sym i))) ∙ shows.others b none;
+      size = ap (λ (image : Image). length image) same ∙ length-set mid c bytes ∙ shows.size;
+    }
+
+module _ (old new : Parts) (mid : Image) where
+  abbrev FirstPuts : Type 0
+  FirstPuts = PutsMap old.files.blocks (is_in_use (length old.map.states)) (IsMapPage (length old.map.states) old.map.agsize (is_owned old.map)) old.view mid
+
+  abbrev SecondPuts : Type 0
+  SecondPuts = PutsMap old.files.inodes (λ n. true) (IsInodePage old.inodes) mid new.view
+
+  earlier : FirstPuts → (b : ℕ) → ((n : ℕ) → slice_get old.files.blocks.places n ≡ Some b → ⊥) → page_of mid b ≡ page_of old.view b
+  earlier first b none = others-of old.files.blocks (is_in_use (length old.map.states)) (IsMapPage (length old.map.states) old.map.agsize (is_owned old.map)) old.view mid first b none
+
+  -- the block map's pages
+  pub shows-first : new.files ≡ old.files → old.files.blocks.stale ≡ true → StaysElse old.files.blocks.places old.view new.view → ShowsAfter old new
+  shows-first same stale apart_from = record {
+    block_map = λ apart e fresh. absurd (true≢false (sym stale ∙ ap (λ (f : MapFiles). f.blocks.stale) (sym same) ∙ fresh));
+    inode_map = λ apart e fresh. absurd (true≢false (sym e ∙ ap (λ (f : MapFiles). f.inodes.stale) (sym same) ∙ fresh));
+    block_pages = λ apart fresh n b here. absurd (true≢false (sym stale ∙ fresh));
+    inode_pages = λ apart fresh n b here. apart_from.others b (λ m there. apart.both m n b there here);
+    others = λ b none. apart_from.others b none.0;
+    size = apart_from.size;
+  }
+
+  -- or the inode map's, once the block map is written
+  shows-second : new.map ≡ old.map → new.files ≡ with_blocks_written old.files → FirstPuts → old.files.inodes.stale ≡ true → StaysElse old.files.inodes.places mid new.view → ShowsAfter old new
+  shows-second same_map same_files first stale apart_from = record {
+    block_map = λ apart e fresh. rw (same_map, same_files) (λ n b used here.
+        subst (IsMapPage (length old.map.states) old.map.agsize (is_owned old.map) n) (sym (apart_from.others b (λ m there. apart.both n m b here there)))
+        ((first.stale e).shown apart.blocks n b (slice_get_within old.files.blocks.places n b here) used here));
+    inode_map = λ apart e fresh. absurd (true≢false (sym stale ∙ ap (λ (f : MapFiles). f.inodes.stale) (sym same_files) ∙ fresh));
+    block_pages = λ apart fresh n b here. apart_from.others b (λ m there. apart.both n m b here there) ∙ ap (λ (image : Image). page_of image b) (first.fresh fresh);
+    inode_pages = λ apart fresh n b here. absurd (true≢false (sym stale ∙ fresh));
+    others = λ b none. apart_from.others b none.1 ∙ earlier first b none.0;
+    size = apart_from.size ∙ size-of old.files.blocks (is_in_use (length old.map.states)) (IsMapPage (length old.map.states) old.map.agsize (is_owned old.map)) old.view mid first;
+  }
+
+  shows-both : new.map ≡ old.map → new.inodes ≡ old.inodes → new.files ≡ with_written old.files → FirstPuts → SecondPuts → ShowsAfter old new
+  shows-both same_map same_inodes same_files first second = record {
+    block_map = λ apart stale fresh. rw (same_map, same_files) (λ n b used here.
+        subst (IsMapPage (length old.map.states) old.map.agsize (is_owned old.map) n) (sym (later b (λ m there. apart.both n m b here there)))
+        ((first.stale stale).shown apart.blocks n b (slice_get_within old.files.blocks.places n b here) used here));
+    inode_map = λ apart stale fresh. rw (same_inodes, same_files) (λ n b here. (second.stale stale).shown apart.inodes n b (slice_get_within old.files.inodes.places n b here) refl here);
+    block_pages = λ apart fresh n b here. later b (λ m there. apart.both n m b here there) ∙ ap (λ (image : Image). page_of image b) (first.fresh fresh);
+    inode_pages = λ apart fresh n b here. ap (λ (image : Image). page_of image b) (second.fresh fresh) ∙ earlier first b (λ m there. apart.both m n b there here);
+    others = λ b none. later b none.1 ∙ earlier first b none.0;
+    size = size-of old.files.inodes (λ n. true) (IsInodePage old.inodes) mid new.view second
+        ∙ size-of old.files.blocks (is_in_use (length old.map.states)) (IsMapPage (length old.map.states) old.map.agsize (is_owned old.map)) old.view mid first;
+  }
+    where
+      later : (b : ℕ) → ((n : ℕ) → slice_get old.files.inodes.places n ≡ Some b → ⊥) → page_of new.view b ≡ page_of mid b
+      later b none = others-of old.files.inodes (λ n. true) (IsInodePage old.inodes) mid new.view second b none
+
+  -- either way
+  pub shows-then : (result : Result (Unit {0}) Fault) (files : MapFiles) → files ≡ with_blocks_written old.files → new.map ≡ old.map → new.inodes ≡ old.inodes → FirstPuts
+      → OnOk result (PutsMap files.inodes (λ n. true) (IsInodePage old.inodes) mid new.view) → OnOk result (new.files ≡ with_inodes_written files)
+      → OnErr result (StaysElse files.inodes.places mid new.view) → OnErr result ((files.inodes.stale ≡ true) × (new.files ≡ files)) → ShowsAfter old new
+  shows-then (Ok done) files is same_map same_inodes first puts written apart_from stale =
+      shows-both same_map same_inodes (written ∙ ap with_inodes_written is) first (subst (λ (f : MapFiles). PutsMap f.inodes (λ n. true) (IsInodePage old.inodes) mid new.view) is puts)
+  shows-then (Err fault) files is same_map same_inodes first puts written apart_from stale =
+      shows-second same_map (stale.1 ∙ is) first (ap (λ (f : MapFiles). f.inodes.stale) (sym is) ∙ stale.0) (subst (λ (f : MapFiles). StaysElse f.inodes.places mid new.view) is apart_from)
+
+  pub places-then : (result : Result (Unit {0}) Fault) (files : MapFiles) → files ≡ with_blocks_written old.files → OnOk result (new.files ≡ with_inodes_written files) → OnErr result ((files.inodes.stale ≡ true) × (new.files ≡ files)) → KeepsPlaces old new
+  places-then (Ok done) files is written stale = record { blocks = ap (λ (f : MapFiles). f.blocks.places) (written ∙ ap with_inodes_written is); inodes = ap (λ (f : MapFiles). f.inodes.places) (written ∙ ap with_inodes_written is) }
+  places-then (Err fault) files is written stale = record { blocks = ap (λ (f : MapFiles). f.blocks.places) (stale.1 ∙ is); inodes = ap (λ (f : MapFiles). f.inodes.places) (stale.1 ∙ is) }

@@ -21,10 +21,10 @@ use Rattle.jfs_halves.specs.Moves.{Moves}
 use Rattle.jfs_pages.specs.Device.{IsFault}
 use Rattle.jfs_pages.specs.Dirty.{dirty_of, touched_by}
 use Rattle.jfs_volume.specs.Runs.{taken_in, freed_in, pages_freed}
-use Rattle.jfs_marks.specs.data_steps.specs.After.{is_put}
+use Rattle.jfs_marks.specs.data_steps.specs.After.{EachOnce, is_put}
 use Rattle.jfs_marks.specs.data_steps.specs.declared.pages.DataPage.{DataPage}
 use Rattle.jfs_volume.specs.Written.{writes, StopsWriting}
-use Rattle.jfs_volume.specs.Data.{put_pages}
+use Rattle.jfs_volume.specs.Data.{put_pages, IsPartlyPut}
 use Rattle.jfs_volume.specs.Stale.{stale_after}
 use Rattle.jfs_marks.specs.Marks.{AreMarked}
 use Rattle.jfs_marks.specs.declared.marks.InodeMarks.{InodeMarks}
@@ -124,13 +124,13 @@ Appends seen asked entry now noted pages old new half NoMemory = Moves seen aske
 Appends seen asked entry now noted pages old new half (Unread fault) = Moves seen asked (unreserved (tx_of noted) old) (unreserved (tx_of noted) new) half []
 Appends seen asked entry now noted pages old new half (Failed fault) = StopsWriting seen asked (unreserved (tx_of noted) old) (unreserved (tx_of noted) new) half fault
 
--- what the volume shows then: its pages after the data and the transaction
+-- What the volume shows then: its pages after the data and the transaction; or with the data put in part, where the write of a block failed.
 abbrev pub ShowsEntry : List DataPage → List Edit → Parts → Parts → Joined → Type 0
 ShowsEntry pages tx old new (Entered number) = new.view ≡ pages_after 0 tx (put_pages pages old.view)
 ShowsEntry pages tx old new NoRoom = new.view ≡ old.view
 ShowsEntry pages tx old new NoMemory = new.view ≡ old.view
 ShowsEntry pages tx old new (Unread fault) = new.view ≡ old.view
-ShowsEntry pages tx old new (Failed fault) = Unit {0}
+ShowsEntry pages tx old new (Failed fault) = EachOnce pages → IsPartlyPut pages old.view new.view
 
 -- the parts stay as they were, but for pages that were read and memory for the map
 pub record Stays (old new : Parts) : Type 0 where

@@ -9,6 +9,7 @@ use Rattle.jfs_ranges.specs.declared.edit.Edit.{Edit}
 use Rattle.jfs_ranges.specs.declared.view.ViewError.{ViewError}
 use Rattle.jfs_ranges.specs.declared.view.ViewError.TheVariants.{Read, Memory}
 use Rattle.jfs_imap.specs.Inodes.{Inodes}
+use Rattle.jfs_marks.specs.data_steps.specs.After.{EachOnce}
 use Rattle.jfs_marks.specs.data_steps.specs.declared.pages.DataPage.{DataPage}
 use Rattle.jfs_halves.specs.crash_core.specs.Image.{pages_after}
 use Rattle.jfs_pages.specs.Device.{IsFault}
@@ -27,7 +28,7 @@ use Rattle.jfs_marks.specs.declared.marking.Marking.TheVariants.{Fits}
 use Rattle.jfs_halves.specs.Parts.{Parts}
 use Rattle.jfs_halves.specs.Change.{SameStates}
 use Rattle.jfs_volume.specs.Append.{Adds, unreserved}
-use Rattle.jfs_volume.specs.Data.{put_pages}
+use Rattle.jfs_volume.specs.Data.{put_pages, IsPartlyPut}
 use Rattle.jfs_volume.specs.Gone.{gone_freed}
 use Rattle.jfs_volume.specs.Room.{has_room}
 use Rattle.jfs_volume.specs.Runs.{taken_in}
@@ -79,10 +80,10 @@ pub record GoesOn (tells : Type 0) (old new : Parts) : Type 0 where
   pub view : tells → new.view ≡ old.view
   pub faults : new.faults ≡ old.faults
 
--- a read failed, or a write of data, which halts the volume
-pub record FailsBy (tells : Type 0) (fault : Fault) (old new : Parts) : Type 0 where
+-- A read failed; or a write of data, which was put in part then, and the volume halts.
+pub record FailsBy (tells : Type 0) (put : List DataPage) (fault : Fault) (old new : Parts) : Type 0 where
   pub is_fault : IsFault old.faults new.faults fault
-  pub halted : ((new.halted ≡ old.halted) × (tells → new.view ≡ old.view)) ⊎ (new.halted ≡ Some fault)
+  pub halted : ((new.halted ≡ old.halted) × (tells → new.view ≡ old.view)) ⊎ ((new.halted ≡ Some fault) × (tells → EachOnce put → IsPartlyPut put old.view new.view))
 
 -- the log has no room for its records, with all that waits
 pub record LacksRoom (tx : List Edit) (old : Parts) : Type 0 where
@@ -94,7 +95,7 @@ abbrev pub CallIs : (tells : Type 0) → Entry → List Edit → List DataPage �
 CallIs tells entry tx put old new (Entered number) = JoinsWith tells entry tx put number old new
 CallIs tells entry tx put old new NoRoom = GivesBack tx old new × GoesOn tells old new × LacksRoom tx old
 CallIs tells entry tx put old new NoMemory = MayGiveBack tx old new × GoesOn tells old new
-CallIs tells entry tx put old new (Failed fault) = GivesBack tx old new × FailsBy tells fault old new
+CallIs tells entry tx put old new (Failed fault) = GivesBack tx old new × FailsBy tells put fault old new
 CallIs tells entry tx put old new Unfit = MayGiveBack tx old new × GoesOn tells old new
 
 -- ---- its steps, for the prover alone
@@ -108,7 +109,7 @@ abbrev pub ReservedIs : (tells : Type 0) → Entry → List Edit → List DataPa
 ReservedIs tells entry tx put old new (Entered number) = JoinsWith tells entry tx put number old new
 ReservedIs tells entry tx put old new NoRoom = StaysOut old new × GoesOn tells old new × LacksRoom tx old
 ReservedIs tells entry tx put old new NoMemory = StaysOut old new × GoesOn tells old new
-ReservedIs tells entry tx put old new (Failed fault) = StaysOut old new × FailsBy tells fault old new
+ReservedIs tells entry tx put old new (Failed fault) = StaysOut old new × FailsBy tells put fault old new
 ReservedIs tells entry tx put old new Unfit = StaysOut old new × GoesOn tells old new
 
 -- pages were read, and nothing else changes

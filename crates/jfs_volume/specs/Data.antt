@@ -1,10 +1,10 @@
 -- Blocks that are written one after the other.
-use Rattle.std.specs.Prelude.{◌≡◌, ◌∷◌, [], ◌++◌, ℕ, List, set, None, Result, Ok, Err, true}
+use Rattle.std.specs.Prelude.{◌≡◌, ◌⊎◌, ◌≤◌, ◌<◌, ◌∷◌, [], ◌++◌, ℕ, List, length, set, None, Result, Ok, Err, true, false}
 use Rattle.jfs_disk.specs.Image.{Image, page_of}
-use Rattle.jfs_disk.specs.Crash.{DiskState, last_of, written, seen_of, TearsPage, LeavesTorn}
+use Rattle.jfs_disk.specs.Crash.{DiskState, last_of, written, seen_of, torn, TearsPage, LeavesTorn}
 use Rattle.jfs_disk.specs.declared.disk.Disk.{Ghosts}
 use Rattle.jfs_disk.specs.declared.disk.Fault.{Fault}
-use Rattle.jfs_marks.specs.data_steps.specs.After.{is_put}
+use Rattle.jfs_marks.specs.data_steps.specs.After.{is_put, put_data}
 use Rattle.jfs_marks.specs.data_steps.specs.declared.pages.DataPage.{DataPage}
 use Rattle.jfs_pages.specs.declared.cache.PageCache.{PageCache}
 use Rattle.jfs_pages.specs.declared.dirty.Dirty.{Dirty}
@@ -29,6 +29,16 @@ pub record Store : Type 0 where
 
 abbrev pub store_of : {D : Type 0} → (d : Ghosts D) → PageCache D d → Store
 store_of d cache = record { view = image_in cache.blocks (d.image cache.disk) cache.kept; disk = d.image cache.disk; past = d.past cache.disk }
+
+-- What a page holds of which the write may have failed: what it was to hold, or what it held, or some front sectors, from none to all 8, of the one and then the other.
+abbrev pub IsPartly : List ℕ → List ℕ → List ℕ → Type 0
+IsPartly wanted was is = (is ≡ wanted) ⊎ ((is ≡ was) ⊎ ((sectors : ℕ) × (sectors ≤ 8) × (is ≡ torn sectors wanted was)))
+
+-- Data, which isn't empty, was put in part: each of its blocks holds so much of it, and all others what they held.
+pub record IsPartlyPut (put : List DataPage) (old new : Image) : Type 0 where
+  pub some : 0 < length put
+  pub each : (b : ℕ) → is_put b put ≡ true → IsPartly (put_data put (page_of old) b) (page_of old b) (page_of new b)
+  pub others : (b : ℕ) → is_put b put ≡ false → page_of new b ≡ page_of old b
 
 -- none of them is dirty
 abbrev pub AreClean : List DataPage → List Dirty → Type 0

@@ -32,6 +32,11 @@ with_inodes_written files = record files { inodes = record files.inodes { stale 
 abbrev pub KeepsMemory : Parts → Parts → Type 0
 KeepsMemory old new = new ≡ record old { view = new.view; disk = new.disk; past = new.past; faults = new.faults; files = new.files; halted = new.halted }
 
+-- the files of the maps lie where they did
+pub record KeepsPlaces (old new : Parts) : Type 0 where
+  pub blocks : new.files.blocks.places ≡ old.files.blocks.places
+  pub inodes : new.files.inodes.places ≡ old.files.inodes.places
+
 -- ---- what is shown then
 
 -- the pages of both maps' files lie on blocks of their own
@@ -51,10 +56,10 @@ ShowsInodeMap p = (n b : ℕ) → slice_get p.files.inodes.places n ≡ Some b �
 abbrev pub HoldsNone : MapFiles → ℕ → Type 0
 HoldsNone files b = ((n : ℕ) → slice_get files.blocks.places n ≡ Some b → ⊥) × ((n : ℕ) → slice_get files.inodes.places n ≡ Some b → ⊥)
 
--- A map that had changed is shown in its canonical form, and the pages of one that hadn't stay; so do all other pages.
+-- A map that had changed, and counts as written then, is shown in its canonical form, and the pages of one that hadn't stay; so do all other pages. Where a write failed, a map whose pages weren't all written counts as changed still.
 pub record ShowsAfter (old new : Parts) : Type 0 where
-  pub block_map : AreApart old.files → old.files.blocks.stale ≡ true → ShowsBlockMap new
-  pub inode_map : AreApart old.files → old.files.inodes.stale ≡ true → ShowsInodeMap new
+  pub block_map : AreApart old.files → old.files.blocks.stale ≡ true → new.files.blocks.stale ≡ false → ShowsBlockMap new
+  pub inode_map : AreApart old.files → old.files.inodes.stale ≡ true → new.files.inodes.stale ≡ false → ShowsInodeMap new
   pub block_pages : AreApart old.files → old.files.blocks.stale ≡ false → (n b : ℕ) → slice_get old.files.blocks.places n ≡ Some b → page_of new.view b ≡ page_of old.view b
   pub inode_pages : AreApart old.files → old.files.inodes.stale ≡ false → (n b : ℕ) → slice_get old.files.inodes.places n ≡ Some b → page_of new.view b ≡ page_of old.view b
   pub others : (b : ℕ) → HoldsNone old.files b → page_of new.view b ≡ page_of old.view b

@@ -9,6 +9,16 @@ PutsPage false place is old new = new ≡ old
 PutsPage true None is old new = new ≡ old
 PutsPage true (Some b) is old new = (bytes : List ℕ) × is bytes × (new ≡ set old b bytes)
 
+-- a page of a file holds other bytes, where it has a place
+abbrev pub Spoils : Option ℕ → Image → Image → Type 0
+Spoils None old new = new ≡ old
+Spoils (Some b) old new = (bytes : List ℕ) × (new ≡ set old b bytes)
+
+-- blocks that hold none of a file's pages stay
+pub record StaysElse (places : List ℕ) (old new : Image) : Type 0 where
+  pub others : (b : ℕ) → ((n : ℕ) → slice_get places n ≡ Some b → ⊥) → page_of new b ≡ page_of old b
+  pub size : length new ≡ length old
+
 -- the pages of a file lie on blocks of their own
 abbrev pub AreOwn : List ℕ → Type 0
 AreOwn places = (n m b : ℕ) → slice_get places n ≡ Some b → slice_get places m ≡ Some b → n ≡ m

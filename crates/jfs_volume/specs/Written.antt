@@ -27,7 +27,7 @@ abbrev pub WriteIs : (seen asked : Bool) → ℕ → List ℕ → Parts → Part
 WriteIs seen asked n bytes old new half (Ok done) = Moves seen asked old new half (Writes n bytes ∷ [])
 WriteIs seen asked n bytes old new half (Err fault) = ((sectors : ℕ) × Moves seen asked old new half (WriteTears n bytes sectors fault ∷ [])) ⊎ Moves seen asked old new half (Stops fault ∷ [])
 
--- nothing else changes, also where the disk tells nothing; and the page is given from then on
+-- Nothing else changes, also where the disk tells nothing; and the page is given from then on, or some other bytes, where the write failed.
 abbrev pub IsWrittenOf : (tells : Type 0) → ℕ → List ℕ → Parts → Parts → Result (Unit {0}) Fault → Type 0
 IsWrittenOf tells n bytes old new (Ok done) = (new ≡ record old { view = new.view; disk = new.disk; past = new.past }) × (tells → new.view ≡ set old.view n bytes)
-IsWrittenOf tells n bytes old new (Err fault) = new ≡ record old { view = new.view; disk = new.disk; past = new.past; faults = new.faults; halted = new.halted }
+IsWrittenOf tells n bytes old new (Err fault) = (new ≡ record old { view = new.view; disk = new.disk; past = new.past; faults = new.faults; halted = new.halted }) × (tells → (left : List ℕ) × (new.view ≡ set old.view n left))

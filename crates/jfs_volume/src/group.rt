@@ -38,7 +38,7 @@ impl<D: Disk> Volume<D> {
         ensures parts { self.new ≡ record self.old { view = self.new.view; dirty = self.new.dirty; told = n; map = blocks_settled n self.old.map; freed = still_freed n self.old.freed } }
     {
         self.acknowledge(n);
-        // so that the same count told again costs nothing
+        // a count that is told again walks no freed pages
         if self.are_forgotten(n) {
             return;
         }

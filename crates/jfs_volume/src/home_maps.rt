@@ -1,15 +1,15 @@
 //! Pages of the maps that go home.
 
-ghost use Rattle.std.specs.Prelude.{◌≡◌, ◌<◌, ◌≤◌, ℕ, OnOk, None, length, slice_get, true};
+ghost use Rattle.std.specs.Prelude.{◌≡◌, ◌<◌, ◌≤◌, ℕ, OnOk, OnErr, None, length, slice_get, true};
 ghost use Rattle.jfs_bmap.specs.MapFile.{IsMapPage, is_in_use};
 ghost use Rattle.jfs_bmap.specs.States.{is_owned};
 ghost use Rattle.jfs_imap.specs.Inodes.{IsInodePage};
 ghost use Rattle.jfs_pages.specs.Device.{HasFault};
 ghost use Rattle.jfs_pages.specs.Dirty.{dirty_of};
 ghost use Rattle.jfs_halves.specs.Parts.{OfEachHalf};
-ghost use Rattle.jfs_volume.specs.MapsHome.{MapsHome, KeepsMemory, ShowsAfter, with_written, with_blocks_written, with_inodes_written};
+ghost use Rattle.jfs_volume.specs.MapsHome.{MapsHome, KeepsMemory, KeepsPlaces, ShowsAfter, with_written, with_blocks_written, with_inodes_written};
 ghost use Rattle.jfs_volume.specs.Settles.{HaltsAt};
-ghost use Rattle.jfs_volume.specs.Shown.{PutsPage, PutsMap};
+ghost use Rattle.jfs_volume.specs.Shown.{PutsPage, PutsMap, Spoils, StaysElse};
 
 use crate::volume::Volume;
 use jfs_disk::{Disk, Fault, Page};
@@ -25,7 +25,8 @@ impl<D: Disk> Volume<D> {
         requires told { self.old.told ≡ self.old.appended }
         requires clean { (p : ℕ) → dirty_of self.old.dirty p ≡ None }
         ensures home { OfEachHalf D.tells D.tells_crashes self.old (λ seen asked half. MapsHome seen asked self.old self.new half result) }
-        ensures shows { D.tells → OnOk result (ShowsAfter self.old self.new) }
+        ensures shows { D.tells → ShowsAfter self.old self.new }
+        ensures places { KeepsPlaces self.old self.new }
         ensures written { OnOk result (self.new.files ≡ with_written self.old.files) }
         ensures memory { KeepsMemory self.old self.new }
         ensures halts { HaltsAt self.old.halted self.new.halted result }
@@ -47,6 +48,8 @@ impl<D: Disk> Volume<D> {
         ensures home { OfEachHalf D.tells D.tells_crashes self.old (λ seen asked half. MapsHome seen asked self.old self.new half result) }
         ensures shows { D.tells → OnOk result (PutsMap self.old.files.blocks (is_in_use (length self.old.map.states)) (IsMapPage (length self.old.map.states) self.old.map.agsize (is_owned self.old.map)) self.old.view self.new.view) }
         ensures written { OnOk result (self.new.files ≡ with_blocks_written self.old.files) }
+        ensures spoils { D.tells → OnErr result (StaysElse self.old.files.blocks.places self.old.view self.new.view) }
+        ensures stale { OnErr result ((self.old.files.blocks.stale ≡ true) × (self.new.files ≡ self.old.files)) }
         ensures memory { KeepsMemory self.old self.new }
         ensures halts { HaltsAt self.old.halted self.new.halted result }
         ensures halted { OnOk result (self.new.halted ≡ None) }
@@ -73,6 +76,8 @@ impl<D: Disk> Volume<D> {
         ensures home { OfEachHalf D.tells D.tells_crashes self.old (λ seen asked half. MapsHome seen asked self.old self.new half result) }
         ensures shows { D.tells → OnOk result (PutsMap self.old.files.inodes (λ n. true) (IsInodePage self.old.inodes) self.old.view self.new.view) }
         ensures written { OnOk result (self.new.files ≡ with_inodes_written self.old.files) }
+        ensures spoils { D.tells → OnErr result (StaysElse self.old.files.inodes.places self.old.view self.new.view) }
+        ensures stale { OnErr result ((self.old.files.inodes.stale ≡ true) × (self.new.files ≡ self.old.files)) }
         ensures memory { KeepsMemory self.old self.new }
         ensures halts { HaltsAt self.old.halted self.new.halted result }
         ensures halted { OnOk result (self.new.halted ≡ None) }
@@ -110,6 +115,7 @@ impl<D: Disk> Volume<D> {
         requires clean { (p : ℕ) → dirty_of self.old.dirty p ≡ None }
         ensures home { OfEachHalf D.tells D.tells_crashes self.old (λ seen asked half. MapsHome seen asked self.old self.new half result) }
         ensures shows { D.tells → OnOk result (PutsPage (is_in_use (length self.old.map.states) n) (slice_get self.old.files.blocks.places n) (IsMapPage (length self.old.map.states) self.old.map.agsize (is_owned self.old.map) n) self.old.view self.new.view) }
+        ensures spoils { D.tells → OnErr result (Spoils (slice_get self.old.files.blocks.places n) self.old.view self.new.view) }
         ensures memory { self.new ≡ record self.old { view = self.new.view; disk = self.new.disk; past = self.new.past; faults = self.new.faults; halted = self.new.halted } }
         ensures halts { HaltsAt self.old.halted self.new.halted result }
         ensures halted { OnOk result (self.new.halted ≡ None) }
@@ -134,6 +140,7 @@ impl<D: Disk> Volume<D> {
         requires clean { (p : ℕ) → dirty_of self.old.dirty p ≡ None }
         ensures home { OfEachHalf D.tells D.tells_crashes self.old (λ seen asked half. MapsHome seen asked self.old self.new half result) }
         ensures shows { D.tells → OnOk result (PutsPage true (slice_get self.old.files.inodes.places n) (IsInodePage self.old.inodes n) self.old.view self.new.view) }
+        ensures spoils { D.tells → OnErr result (Spoils (slice_get self.old.files.inodes.places n) self.old.view self.new.view) }
         ensures memory { self.new ≡ record self.old { view = self.new.view; disk = self.new.disk; past = self.new.past; faults = self.new.faults; halted = self.new.halted } }
         ensures halts { HaltsAt self.old.halted self.new.halted result }
         ensures halted { OnOk result (self.new.halted ≡ None) }

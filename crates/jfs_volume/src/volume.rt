@@ -27,7 +27,7 @@ pub struct Volume<D: Disk> {
     pub(crate) text: WaitingText,
     /// The pages that entries freed which aren't acknowledged.
     pub(crate) freed: Vec<FreedPage>,
-    /// No page is kept there that an entry up to this one freed.
+    /// `freed` has no page that an entry up to this one freed.
     pub(crate) forgotten: u64,
     pub(crate) halted: Option<Fault>,
 }

@@ -1,5 +1,5 @@
 -- What stays where a group is written, entries are acknowledged, pages go home and a SYNCPT is logged.
-use Rattle.std.proofs.Common.{◌≡◌, ◌⊎◌, ℕ, false, slice_get, Result, Ok, Err, refl, sym, ap, ◌∙◌, inl, inr, subst}
+use Rattle.std.proofs.Common.{◌≡◌, ◌⊎◌, ℕ, false, true≢false, slice_get, Result, Ok, Err, refl, sym, ap, ◌∙◌, inl, inr, subst}
 use Rattle.std.specs.Prelude.{OnOk}
 use Rattle.jfs_disk.specs.Image.{Image, page_of}
 use Rattle.jfs_disk.specs.declared.disk.Fault.{Fault}
@@ -8,10 +8,10 @@ use Rattle.jfs_volume.specs.map_files.specs.imap.specs.Inodes.{Inodes}
 use Rattle.jfs_volume.specs.map_files.specs.declared.map_file.MapFiles.{MapFiles}
 use Rattle.jfs_volume.specs.halves.specs.Parts.{Parts}
 use Rattle.jfs_volume.specs.Told.{still_freed}
-use Rattle.jfs_volume.specs.MapsHome.{KeepsMemory, ShowsAfter, HoldsNone, AreApart, ShowsBlockMap, ShowsInodeMap, with_written}
+use Rattle.jfs_volume.specs.MapsHome.{KeepsMemory, KeepsPlaces, ShowsAfter, HoldsNone, AreApart, ShowsBlockMap, ShowsInodeMap, with_written}
 use Rattle.jfs_volume.specs.Settles.{Settles, SettlesTo, KeepsMap, StaysShown, HomesAlone, is_freed}
 use Rattle.jfs_volume_calls.specs.Halts.{GroupParts, PointParts}
-use Rattle.jfs_volume_calls.specs.Written.{KeepsPages, WritesMaps}
+use Rattle.jfs_volume_calls.specs.Written.{KeepsPages, LeavesMaps}
 
 -- what of the parts no group, no page that goes home and no SYNCPT changes
 record Alike (old new : Parts) : Type 0 where
@@ -125,18 +125,6 @@ pub anyhow : {X : Type 0} (result : Result (Unit {0}) Fault) → X → OnOk resu
 anyhow (Ok done) x = x
 anyhow (Err fault) x = tt
 
-pub point_shown : (tells : Type 0) (a commit home maps low end : Parts) → KeepsPages tells a commit → HomesAlone tells commit home → (tells → ShowsAfter home maps) → maps.files ≡ with_written home.files
-    → HomesAlone tells maps low → PointParts low end → StaysShown tells a end
-point_shown tells a commit home maps low end c h shows written l p =
-    let files : home.files ≡ a.files = ap (λ (x : Parts). x.files) h.parts ∙ c.files in
-    let after : end.files ≡ with_written a.files = ap (λ (x : Parts). x.files) p ∙ ap (λ (x : Parts). x.files) l.parts ∙ written ∙ ap with_written files in
-    record {
-      block_places = ap (λ (f : MapFiles). f.blocks.places) after;
-      inode_places = ap (λ (f : MapFiles). f.inodes.places) after;
-      view = λ k q free none. ap (λ (x : Parts). page_of x.view q) p ∙ ap (λ (view : Image). page_of view q) (l.view k) ∙ (shows k).others q (subst (λ (f : MapFiles). HoldsNone f q) (sym files) none)
-          ∙ ap (λ (view : Image). page_of view q) (h.view k) ∙ c.view k q free;
-    }
-
 -- ---- the maps' pages
 
 -- the same maps are shown by the same pages of the same files
@@ -150,30 +138,77 @@ inodes_alike p q inodes files view shows =
     subst (λ (m : Inodes). ShowsInodeMap (record p { inodes = m; files = q.files; view = q.view })) (sym inodes)
     (subst (λ (f : MapFiles). ShowsInodeMap (record p { files = f; view = q.view })) (sym files) (subst (λ (v : Image). ShowsInodeMap (record p { view = v })) (sym view) shows))
 
-module _ (tells : Type 0) (a commit home maps low end : Parts) (k : tells) (c : KeepsPages tells a commit) (h : HomesAlone tells commit home) (shows : ShowsAfter home maps) (written : maps.files ≡ with_written home.files) (l : HomesAlone tells maps low) (p : PointParts low end) where
-  before : home.files ≡ a.files
-  before = ap (λ (x : Parts). x.files) h.parts ∙ c.files
+-- What is so of the maps' files and of what is shown where a syncpoint stands, whether or not it goes on.
+pub record Stands (tells : Type 0) (old new : Parts) : Type 0 where
+  pub shown : StaysShown tells old new
+  pub leaves : tells → LeavesMaps old new
 
-  after : end.files ≡ maps.files
-  after = ap (λ (x : Parts). x.files) p ∙ ap (λ (x : Parts). x.files) l.parts
+-- before the pages of the maps are written
+pub as_kept : (tells : Type 0) (old new : Parts) → KeepsPages tells old new → Stands tells old new
+as_kept tells old new k = record {
+  shown = shown tells old new k;
+  leaves = λ t. record {
+    block_map = λ own e fresh. absurd (true≢false (sym e ∙ sym (ap (λ (f : MapFiles). f.blocks.stale) k.files) ∙ fresh));
+    inode_map = λ own e fresh. absurd (true≢false (sym e ∙ sym (ap (λ (f : MapFiles). f.inodes.stale) k.files) ∙ fresh));
+    block_pages = λ own e n b at free. k.view t b free;
+    inode_pages = λ own e n b at free. k.view t b free;
+  };
+}
 
-  view : end.view ≡ maps.view
-  view = ap (λ (x : Parts). x.view) p ∙ l.view k
+-- pages that go home are shown as before
+pub kept_home : (tells : Type 0) (a b c : Parts) → KeepsPages tells a b → HomesAlone tells b c → KeepsPages tells a c
+kept_home tells a b c k h = record {
+  files = ap (λ (p : Parts). p.files) h.parts ∙ k.files;
+  view = λ t q free. ap (λ (v : Image). page_of v q) (h.view t) ∙ k.view t q free;
+}
 
-  apart : AreApart a.files → AreApart home.files
-  apart own = subst (λ (f : MapFiles). AreApart f) (sym before) own
+-- once they are written, or some of them
+pub maps_stand : (tells : Type 0) (a home maps : Parts) → KeepsPages tells a home → KeepsPlaces home maps → (tells → ShowsAfter home maps) → Stands tells a maps
+maps_stand tells a home maps k places shows = record {
+  shown = record {
+    block_places = places.blocks ∙ ap (λ (f : MapFiles). f.blocks.places) k.files;
+    inode_places = places.inodes ∙ ap (λ (f : MapFiles). f.inodes.places) k.files;
+    view = λ t q free none. (shows t).others q (subst (λ (f : MapFiles). HoldsNone f q) (sym k.files) none) ∙ k.view t q free;
+  };
+  leaves = λ t. record {
+    block_map = λ own e fresh. (shows t).block_map (apart own) (ap (λ (f : MapFiles). f.blocks.stale) k.files ∙ e) fresh;
+    inode_map = λ own e fresh. (shows t).inode_map (apart own) (ap (λ (f : MapFiles). f.inodes.stale) k.files ∙ e) fresh;
+    block_pages = λ own e n b at free. (shows t).block_pages (apart own) (ap (λ (f : MapFiles). f.blocks.stale) k.files ∙ e) n b (ap (λ (f : MapFiles). slice_get f.blocks.places n) k.files ∙ at) ∙ k.view t b free;
+    inode_pages = λ own e n b at free. (shows t).inode_pages (apart own) (ap (λ (f : MapFiles). f.inodes.stale) k.files ∙ e) n b (ap (λ (f : MapFiles). slice_get f.inodes.places n) k.files ∙ at) ∙ k.view t b free;
+  };
+}
+  where
+    apart : AreApart a.files → AreApart home.files
+    apart own = subst (λ (f : MapFiles). AreApart f) (sym k.files) own
 
-  -- a page that the maps' write leaves
-  page_stays : (b : ℕ) → page_of maps.view b ≡ page_of home.view b → is_freed a.freed b ≡ false → page_of end.view b ≡ page_of a.view b
-  page_stays b same free = ap (λ (v : Image). page_of v b) view ∙ same ∙ ap (λ (v : Image). page_of v b) (h.view k) ∙ c.view k b free
+-- The same parts of the volume as these, as far as that goes.
+pub record SameShown (tells : Type 0) (old new : Parts) : Type 0 where
+  pub files : new.files ≡ old.files
+  pub map : new.map ≡ old.map
+  pub inodes : new.inodes ≡ old.inodes
+  pub view : tells → new.view ≡ old.view
 
-  pub point_writes : WritesMaps a end
-  point_writes = record {
-    files = after ∙ written ∙ ap with_written before;
-    block_map = λ own e. blocks_alike maps end (ap (λ (x : Parts). x.map) p ∙ ap (λ (x : Parts). x.map) l.parts) after view (shows.block_map (apart own) (ap (λ (f : MapFiles). f.blocks.stale) before ∙ e));
-    inode_map = λ own e. inodes_alike maps end (ap (λ (x : Parts). x.inodes) p ∙ ap (λ (x : Parts). x.inodes) l.parts) after view (shows.inode_map (apart own) (ap (λ (f : MapFiles). f.inodes.stale) before ∙ e));
-    block_pages = λ own e n b at free.
-        page_stays b (shows.block_pages (apart own) (ap (λ (f : MapFiles). f.blocks.stale) before ∙ e) n b (ap (λ (f : MapFiles). slice_get f.blocks.places n) before ∙ at)) free;
-    inode_pages = λ own e n b at free.
-        page_stays b (shows.inode_pages (apart own) (ap (λ (f : MapFiles). f.inodes.stale) before ∙ e) n b (ap (λ (f : MapFiles). slice_get f.inodes.places n) before ∙ at)) free;
-  }
+pub same_home : (tells : Type 0) (old new : Parts) → HomesAlone tells old new → SameShown tells old new
+same_home tells old new h = record { files = ap (λ (p : Parts). p.files) h.parts; map = ap (λ (p : Parts). p.map) h.parts; inodes = ap (λ (p : Parts). p.inodes) h.parts; view = h.view }
+
+pub same_point : (tells : Type 0) (old new : Parts) → PointParts old new → SameShown tells old new
+same_point tells old new p = record { files = ap (λ (x : Parts). x.files) p; map = ap (λ (x : Parts). x.map) p; inodes = ap (λ (x : Parts). x.inodes) p; view = λ t. ap (λ (x : Parts). x.view) p }
+
+pub stand_on : (tells : Type 0) (a b c : Parts) → Stands tells a b → SameShown tells b c → Stands tells a c
+stand_on tells a b c s same = record {
+  shown = record {
+    block_places = ap (λ (f : MapFiles). f.blocks.places) same.files ∙ s.shown.block_places;
+    inode_places = ap (λ (f : MapFiles). f.inodes.places) same.files ∙ s.shown.inode_places;
+    view = λ t q free none. ap (λ (v : Image). page_of v q) (same.view t) ∙ s.shown.view t q free none;
+  };
+  leaves = λ t. record {
+    block_map = λ own e fresh. blocks_alike b c same.map same.files (same.view t) ((s.leaves t).block_map own e (sym (ap (λ (f : MapFiles). f.blocks.stale) same.files) ∙ fresh));
+    inode_map = λ own e fresh. inodes_alike b c same.inodes same.files (same.view t) ((s.leaves t).inode_map own e (sym (ap (λ (f : MapFiles). f.inodes.stale) same.files) ∙ fresh));
+    block_pages = λ own e n q at free. ap (λ (v : Image). page_of v q) (same.view t) ∙ (s.leaves t).block_pages own e n q at free;
+    inode_pages = λ own e n q at free. ap (λ (v : Image). page_of v q) (same.view t) ∙ (s.leaves t).inode_pages own e n q at free;
+  };
+}
+
+-- all of it
+pub written_files : (tells : Type 0) (a home maps low end : Parts) → KeepsPages tells a home → maps.files ≡ with_written home.files → SameShown tells maps low → SameShown tells low end → end.files ≡ with_written a.files
+written_files tells a home maps low end k written l p = p.files ∙ l.files ∙ written ∙ ap with_written k.files

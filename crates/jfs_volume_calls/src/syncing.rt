@@ -7,7 +7,7 @@ ghost use Rattle.jfs_volume.specs.Settles.{Settles, StaysShown, HaltsAt};
 ghost use Rattle.jfs_volume_calls.specs.Halts.{PointParts};
 ghost use Rattle.jfs_volume_calls.specs.Together.{AreTogether, OfBothHalves, log_parts};
 ghost use Rattle.jfs_volume_calls.specs.Syncpoint.{SyncpointIs, PointIs, HasFaultOfEither, HasPointFault};
-ghost use Rattle.jfs_volume_calls.specs.Written.{WritesMaps};
+ghost use Rattle.jfs_volume_calls.specs.Written.{LeavesMaps, WritesMaps};
 
 use crate::committing::commit;
 use crate::point::PointText;
@@ -35,7 +35,9 @@ pub fn syncpoint<D: Disk>(
     ensures counts { OnOk result ((volume.new.appended ≡ volume.old.appended) × (volume.new.told ≡ volume.new.appended) × (volume.new.known ≡ volume.new.points)) }
     ensures halted { OnOk result (volume.new.halted ≡ volume.old.halted) }
     ensures settles { Settles volume.old volume.new }
-    ensures shown { OnOk result (StaysShown D.tells volume.old volume.new) }
+    // Also where it failed, pages stay but for those that entries freed, and those of the maps.
+    ensures shown { StaysShown D.tells volume.old volume.new }
+    ensures leaves { D.tells → LeavesMaps volume.old volume.new }
     ensures maps { OnOk result (D.tells → WritesMaps volume.old volume.new) }
     ensures halts { HaltsAt volume.old.halted volume.new.halted result }
     ensures text { OnOk result (volume.new.text.bytes ≡ []) }

@@ -1,6 +1,6 @@
 use Rattle.std.proofs.Common.{◌∙◌, sym, refl, inl, inr, Ok, Err}
 use Rattle.jfs_volume_calls.specs.Together.{log_parts}
-use Rattle.jfs_call.proofs.Lending.{answered_size, lent_behind, lent_by, lent_failed, ready_settled, settled_size, size_stays, stopped_at, together_again}
+use Rattle.jfs_call.proofs.Lending.{answered_size, lent_behind, lent_by, lent_failed, log_fault, ready_settled, settled_size, size_stays, stopped_at, together_again}
 use Rattle.jfs_call.proofs.lent.call_after_commit.Goals as goal
 
 pub returns-in-Err-clause-answered : goal.returns-in-Err-clause-answered
@@ -44,7 +44,7 @@ pub returns-in-Err-clause-does : goal.returns-in-Err-clause-does
 returns-in-Err-clause-does g c = record {
   mid = record { volume = c.commit.new.volume; log = log_parts g.D.Disk c.commit.new.log };
   result = Err c.in-Err.why;
-  commits = record { commit = c.in-Err.ensures.commit; told = tt; settles = c.commit.ensures.settles; files = c.commit.ensures.files; halts = c.in-Err.ensures.halts };
+  commits = record { commit = c.in-Err.ensures.commit; told = tt; settles = c.commit.ensures.settles; files = c.commit.ensures.files; halts = c.in-Err.ensures.halts; cause = log_fault (g.D.Disk.fault_count c.args.log.now.part) (g.D.Disk.fault_count c.commit.new.log.part) c.in-Err.why c.in-Err.ensures.cause };
   ends = (c.fail.ensures, refl);
 }
 
@@ -52,7 +52,7 @@ pub returns-in-NeedsLog-clause-does : goal.returns-in-NeedsLog-clause-does
 returns-in-NeedsLog-clause-does g c = record {
   mid = record { volume = c.commit.new.volume; log = log_parts g.D.Disk c.commit.new.log };
   result = Ok tt;
-  commits = record { commit = c.in-Ok.ensures.commit; told = c.in-Ok.ensures.told.0; settles = c.commit.ensures.settles; files = c.commit.ensures.files; halts = c.in-Ok.ensures.halts };
+  commits = record { commit = c.in-Ok.ensures.commit; told = c.in-Ok.ensures.told.0; settles = c.commit.ensures.settles; files = c.commit.ensures.files; halts = c.in-Ok.ensures.halts; cause = tt };
   ends = inr (c.call_without_log.new.volume, c.in-NeedsLog.ensures.does, c.call_after_syncpoint.ensures.does);
 }
 
@@ -60,7 +60,7 @@ pub returns-in_default-clause-does : goal.returns-in_default-clause-does
 returns-in_default-clause-does g c = record {
   mid = record { volume = c.commit.new.volume; log = log_parts g.D.Disk c.commit.new.log };
   result = Ok tt;
-  commits = record { commit = c.in-Ok.ensures.commit; told = c.in-Ok.ensures.told.0; settles = c.commit.ensures.settles; files = c.commit.ensures.files; halts = c.in-Ok.ensures.halts };
+  commits = record { commit = c.in-Ok.ensures.commit; told = c.in-Ok.ensures.told.0; settles = c.commit.ensures.settles; files = c.commit.ensures.files; halts = c.in-Ok.ensures.halts; cause = tt };
   ends = inl (c.call_without_log.ensures.does, refl);
 }
 

@@ -1,6 +1,6 @@
 use Rattle.std.proofs.Common.{sym, refl, inl, inr, Ok, Err, arith}
 use Rattle.jfs_volume_calls.specs.Together.{log_parts}
-use Rattle.jfs_call.proofs.Lending.{lent_by, lent_failed, lent_out, lent_still, ready_settled, settled_size, size_stays, stopped_at}
+use Rattle.jfs_call.proofs.Lending.{lent_by, lent_failed, lent_out, lent_still, point_fault, ready_settled, settled_size, size_stays, stopped_at}
 use Rattle.jfs_call.proofs.lent.call_after_syncpoint.Goals as goal
 
 pub returns-then-text_end-gt-LAST_POINT-clause-answered : goal.returns-then-text_end-gt-LAST_POINT-clause-answered
@@ -42,7 +42,7 @@ pub returns-in-Err-clause-does : goal.returns-in-Err-clause-does
 returns-in-Err-clause-does g c = inr (record {
   mid = record { volume = c.syncpoint.new.volume; log = log_parts g.D.Disk c.syncpoint.new.log };
   result = Err c.in-Err.fault;
-  points = record { syncpoint = c.in-Err.ensures.syncpoint; told = tt; settles = c.syncpoint.ensures.settles; shown = tt; maps = tt; halts = c.in-Err.ensures.halts };
+  points = record { syncpoint = c.in-Err.ensures.syncpoint; told = tt; settles = c.syncpoint.ensures.settles; shown = c.syncpoint.ensures.shown; leaves = c.syncpoint.ensures.leaves; maps = tt; halts = c.in-Err.ensures.halts; cause = point_fault c.args.volume.now.faults c.syncpoint.new.volume.faults (g.D.Disk.fault_count c.args.log.now.part) (g.D.Disk.fault_count c.syncpoint.new.log.part) c.in-Err.fault c.in-Err.ensures.cause };
   ends = (c.fail.ensures, refl);
 })
 
@@ -50,7 +50,7 @@ pub returns-in-NeedsLog-clause-does : goal.returns-in-NeedsLog-clause-does
 returns-in-NeedsLog-clause-does g c = inr (record {
   mid = record { volume = c.syncpoint.new.volume; log = log_parts g.D.Disk c.syncpoint.new.log };
   result = Ok tt;
-  points = record { syncpoint = c.in-Ok.ensures.syncpoint; told = c.in-Ok.ensures.counts.1; settles = c.syncpoint.ensures.settles; shown = c.in-Ok.ensures.shown; maps = c.in-Ok.ensures.maps; halts = c.in-Ok.ensures.halts };
+  points = record { syncpoint = c.in-Ok.ensures.syncpoint; told = c.in-Ok.ensures.counts.1; settles = c.syncpoint.ensures.settles; shown = c.syncpoint.ensures.shown; leaves = c.syncpoint.ensures.leaves; maps = c.in-Ok.ensures.maps; halts = c.in-Ok.ensures.halts; cause = tt };
   ends = inr (c.call_without_log.new.volume, c.in-NeedsLog.ensures.does, (refl, refl));
 })
 
@@ -58,7 +58,7 @@ pub returns-in_default-clause-does : goal.returns-in_default-clause-does
 returns-in_default-clause-does g c = inr (record {
   mid = record { volume = c.syncpoint.new.volume; log = log_parts g.D.Disk c.syncpoint.new.log };
   result = Ok tt;
-  points = record { syncpoint = c.in-Ok.ensures.syncpoint; told = c.in-Ok.ensures.counts.1; settles = c.syncpoint.ensures.settles; shown = c.in-Ok.ensures.shown; maps = c.in-Ok.ensures.maps; halts = c.in-Ok.ensures.halts };
+  points = record { syncpoint = c.in-Ok.ensures.syncpoint; told = c.in-Ok.ensures.counts.1; settles = c.syncpoint.ensures.settles; shown = c.syncpoint.ensures.shown; leaves = c.syncpoint.ensures.leaves; maps = c.in-Ok.ensures.maps; halts = c.in-Ok.ensures.halts; cause = tt };
   ends = inl (c.call_without_log.ensures.does, refl);
 })
 

@@ -7,8 +7,6 @@ use Rattle.jfs_command.specs.Held.{held_of}
 use Rattle.jfs_run.specs.Tasks.{plan_of}
 use Rattle.jfs_command.specs.Order.{planned}
 use Rattle.jfs_command.specs.Run.{AreReplies, Tells}
-use Rattle.jfs_disk.specs.Image.{page_of}
-use Rattle.jfs_command.proofs.Replies.{of_end}
 use Rattle.jfs_command.proofs.RunLines.{ended}
 use Rattle.jfs_command.proofs.run.run_from.Goals as goal
 
@@ -19,7 +17,7 @@ returns-clause-ends g c =
     let ran = c.run_lines-disk in
     let made = c.outcome_of in
     let calls : Calls = record { history = made.result.history.items; told = made.result.told.items } in
-    let replies : AreReplies d.tells s (d.image c.args.disk) c.args.now ran.result.history.items = λ t of. of_end ran.result.end s (page_of (d.image c.args.disk)) c.args.now ran.result.history.items (ran.ensures.legal t of) in
+    let replies : AreReplies d.tells s (d.image c.args.disk) c.args.now ran.result.history.items = ran.ensures.legal in
     let same : record { history = ran.result.history.items; told = ran.result.told.items } ≡ calls = rw (made.ensures.history, made.ensures.told) refl in
     ended d.tells d.tells_crashes (planned c.args.plan.now c.args.printed) c.args.is_left c.args.now s (held_of d c.args.disk) (held_of d ran.result.disk) (d.fault_count c.args.disk) (d.fault_count ran.result.disk) calls c.args.redone
     ran.result.end made.result.end made.result.text.items

@@ -1,6 +1,5 @@
-use Rattle.std.proofs.Common.{◌≡◌, ◌⊎◌, ◌∙◌, ℕ, sym, subst, ap}
+use Rattle.std.proofs.Common.{◌≡◌, ◌∙◌, ℕ, sym, subst, ap}
 use Rattle.std.specs.Prelude.{None}
-use Rattle.jfs_bits.specs.Count.{Rose}
 use Rattle.jfs_disk.specs.Image.{Image, page_of}
 use Rattle.jfs_super.specs.Super.{super_of}
 use Rattle.jfs_super.specs.declared.fields.Super.{Super}
@@ -52,13 +51,13 @@ returns-in-Ok-mount-clause-ran g c =
     (λ t. subst (λ (im : Image). broken_mount (subject_of s (page_of im)) ≡ None) (c.in-Ok.ensures.image t) (c.in-Ok-mount.ensures.mounted.found t).unbroken) calls c.run_mounted.result.end
     (subst (λ (n : ℕ). RunSince d.tells d.tells_crashes c.in-Ok.taken.superblock.0 (plan_of c.args.scripts.now) c.args.is_left n new calls c.run_mounted.result.end) c.faults-before.ensures c.run_mounted.ensures.ran)
 
-pub returns-in-Ok-mount-clause-unbroken : goal.returns-in-Ok-mount-clause-unbroken
-returns-in-Ok-mount-clause-unbroken g c = λ t consistent.
+pub returns-in-Ok-mount-clause-legal : goal.returns-in-Ok-mount-clause-legal
+returns-in-Ok-mount-clause-legal g c = λ t consistent.
     let d = g.D.Disk in
     let from : g.I.MountedFrom.image ≡ d.image c.args.disk = c.requires.image.0 in
     let block : g.I.MountedFrom.block ≡ c.args.s.now = c.requires.image.1 in
-    subst {A = ℕ × Super × Image} (λ z. Rose z.0 (d.fault_count c.run_mounted.result.disk) ⊎ IsLegalRun z.1 (page_of z.2) c.args.now c.run_mounted.result.history.items) (λ i. (c.faults-before.ensures i, block i, from i))
-    (c.run_mounted.ensures.unbroken t (subst {A = Super × Image} (λ z. IsConsistentImage z.0 (page_of z.1)) (λ i. (sym block i, sym from i)) consistent))
+    subst {A = Super × Image} (λ z. IsLegalRun z.0 (page_of z.1) c.args.now c.run_mounted.result.history.items) (λ i. (block i, from i))
+    (c.run_mounted.ensures.legal t (subst {A = Super × Image} (λ z. IsConsistentImage z.0 (page_of z.1)) (λ i. (sym block i, sym from i)) consistent))
 
 pub returns-in-Ok-mount-clause-leaves : goal.returns-in-Ok-mount-clause-leaves
 returns-in-Ok-mount-clause-leaves g c = λ t done left.

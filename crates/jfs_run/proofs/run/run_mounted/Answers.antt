@@ -1,4 +1,4 @@
-use Rattle.std.proofs.Common.{◌≡◌, ◌∙◌, ◌++◌, ℕ, List, length, refl, sym, ap, subst, ⊎_elim, inl, inr, arith}
+use Rattle.std.proofs.Common.{◌≡◌, ◌∙◌, ◌++◌, ℕ, List, length, refl, sym, ap, subst, arith}
 use Rattle.std.specs.Prelude.{Bool}
 use Rattle.std.proofs.lemmas.List.{length-map}
 use Rattle.std.specs.Global.{Vec}
@@ -14,10 +14,10 @@ use Rattle.jfs_run.specs.Mounted.{State, state, Few}
 use Rattle.jfs_run.specs.Run.{seen}
 use Rattle.jfs_run.specs.Tasks.{plan_of}
 use Rattle.jfs_run.specs.Telling.{marks_of, told_from, marks_in, marks_left}
-use Rattle.jfs_run.proofs.Ended.{HasRun, has_run, rising, run_ends, done_through, neither, runs, calm, unrisen, halt_rose}
-use Rattle.jfs_run.proofs.Legally.{legal_by, ends_on}
-use Rattle.jfs_run.proofs.Replied.{legal_to_halt, legal_whole, legal_running, replied}
-use Rattle.jfs_run.proofs.Since.{few_of, rose_before}
+use Rattle.jfs_run.proofs.Ended.{HasRun, has_run, rising, run_ends, done_through, neither, runs, unrisen}
+use Rattle.jfs_run.proofs.Legally.{ends_on}
+use Rattle.jfs_run.proofs.Replied.{legal, replied}
+use Rattle.jfs_run.proofs.Since.{few_of}
 use Rattle.jfs_run.proofs.run.run_mounted.Given.{Over}
 use Rattle.jfs_run.proofs.run.run_mounted.Goals as goal
 
@@ -69,30 +69,7 @@ returns-clause-ran g c =
 
 pub returns-clause-legal : goal.returns-clause-legal
 returns-clause-legal g c = λ t consistent.
-    let d = g.D.Disk in
-    let x = c.serve-mounted.result in
-    let s = g.I.MountedFrom.block in
-    let image = g.I.MountedFrom.image in
-    let marks = c.serve-mounted.new.marks.items in
-    let served = c.serve-mounted.ensures.served in
-    rw c.end_after-end.ensures
-    (legal_by s (page_of image) c.args.now x.history.items x.is_whole x.is_broken_off c.end-ended.result.is_full c.args.before c.faults.result
-    (legal_to_halt d c.args.scripts.now c.args.now image s (first g c) marks x t consistent served) (legal_whole d c.args.scripts.now c.args.now image s (first g c) marks x t consistent served))
-
-pub returns-clause-unbroken : goal.returns-clause-unbroken
-returns-clause-unbroken g c = λ t consistent.
-    let d = g.D.Disk in
-    let x = c.serve-mounted.result in
-    let s = g.I.MountedFrom.block in
-    let image = g.I.MountedFrom.image in
-    let marks = c.serve-mounted.new.marks.items in
-    let served = c.serve-mounted.ensures.served in
-    let total : ℕ = d.fault_count c.end-ended.result.disk in
-    ⊎_elim
-    (λ runs. inr (legal_running d c.args.scripts.now c.args.now image s (first g c) marks x t consistent served runs))
-    (λ rose. inl (halt_rose (first g c) (last g c) c.args.before c.requires.before c.ranges.before.fits (plan_of c.args.scripts.now) x.history.items c.tell.new.told.items x.is_whole (run g c) total c.end-ended.ensures.faults
-    (rose_before (first g c) (state d x.mounted.volume x.mounted.log) (last g c) (few g c) served.since c.make_durable.ensures.keeps rose)))
-    served.since.halted
+    legal g.D.Disk c.args.scripts.now c.args.now g.I.MountedFrom.image g.I.MountedFrom.block (first g c) c.serve-mounted.new.marks.items c.serve-mounted.result t consistent c.serve-mounted.ensures.served
 
 pub returns-clause-leaves : goal.returns-clause-leaves
 returns-clause-leaves g c = λ t is done left consistent whole_files.
@@ -114,7 +91,6 @@ returns-clause-leaves g c = λ t is done left consistent whole_files.
     let r = replied d c.args.scripts.now c.args.now image s (first g c) marks x t consistent served uncut.0 in
     let runs_on = runs (first g c) (last g c) before c.requires.before c.ranges.before.fits plan history told x.is_whole (run g c) total grown through.same through.below in
     ends_on s (page_of image) c.args.now x.is_broken_off history x.mounted.volume r laws d.tells d.tells_crashes t c.args.taken.superblock.0 c.make_durable.new.m.volume (log_parts d c.make_durable.new.m.log) (d.image c.end-ended.result.disk) whole_files is
-    (calm (first g c) (last g c) before c.requires.before c.ranges.before.fits plan history told x.is_whole (run g c) total grown through.same through.below)
     (c.make_durable.ensures.legal t (volume_of s (page_of image)).area s.logpxd.len r.start (all_at c.args.now history) (r.goes_on uncut.0))
     (unrisen (first g c) (last g c) before c.requires.before c.ranges.before.fits plan history told x.is_whole (run g c) total grown through.same through.below total refl (c.end-ended.ensures.leaves t left runs_on uncut.1))
 

@@ -1,5 +1,5 @@
 use Rattle.std.proofs.Common.{refl}
-use Rattle.jfs_volume_calls.proofs.Kept.{anyhow, homed, mapped, group_settles, group_pages, point_shown, point_writes}
+use Rattle.jfs_volume_calls.proofs.Kept.{Stands, homed, mapped, group_settles, group_pages, as_kept, kept_home, maps_stand, same_home, stand_on}
 use Rattle.jfs_shared.proofs.Homed.{homes, maps, onward}
 use Rattle.jfs_shared.proofs.settling.settle.Goals as goal
 
@@ -30,12 +30,20 @@ returns-clause-settles g c = homed g.D.Disk.tells c.args.volume.now c.home_maps.
     (mapped c.args.volume.now c.home_all.new.self c.home_maps.new.self (homed g.D.Disk.tells c.args.volume.now c.args.volume.now c.home_all.new.self (group_settles c.args.volume.now c.args.volume.now refl) c.home_all.ensures.alone) c.home_maps.ensures.memory)
     c.sync_low.ensures.alone
 
-pub returns-clause-shown : goal.returns-clause-shown
-returns-clause-shown g c = anyhow c.sync_low.result
-    (point_shown g.D.Disk.tells c.args.volume.now c.args.volume.now c.home_all.new.self c.home_maps.new.self c.sync_low.new.self c.sync_low.new.self (group_pages g.D.Disk.tells c.args.volume.now c.args.volume.now refl) c.home_all.ensures.alone
-    c.in-Ok-home_maps.ensures.shows c.in-Ok-home_maps.ensures.written c.sync_low.ensures.alone refl)
+pub returns-in-Err-clause-shown : goal.returns-in-Err-clause-shown
+returns-in-Err-clause-shown g c = Stands.shown (as_kept g.D.Disk.tells c.args.volume.now c.home_all.new.self (kept_home g.D.Disk.tells c.args.volume.now c.args.volume.now c.home_all.new.self (group_pages g.D.Disk.tells c.args.volume.now c.args.volume.now refl) c.home_all.ensures.alone))
 
-pub returns-clause-maps : goal.returns-clause-maps
-returns-clause-maps g c = anyhow c.sync_low.result
-    (λ t. point_writes g.D.Disk.tells c.args.volume.now c.args.volume.now c.home_all.new.self c.home_maps.new.self c.sync_low.new.self c.sync_low.new.self t (group_pages g.D.Disk.tells c.args.volume.now c.args.volume.now refl) c.home_all.ensures.alone
-    (c.in-Ok-home_maps.ensures.shows t) c.in-Ok-home_maps.ensures.written c.sync_low.ensures.alone refl)
+pub returns-in-Err-clause-leaves : goal.returns-in-Err-clause-leaves
+returns-in-Err-clause-leaves g c = Stands.leaves (as_kept g.D.Disk.tells c.args.volume.now c.home_all.new.self (kept_home g.D.Disk.tells c.args.volume.now c.args.volume.now c.home_all.new.self (group_pages g.D.Disk.tells c.args.volume.now c.args.volume.now refl) c.home_all.ensures.alone))
+
+pub returns-in-Err-home_maps-clause-shown : goal.returns-in-Err-home_maps-clause-shown
+returns-in-Err-home_maps-clause-shown g c = Stands.shown (maps_stand g.D.Disk.tells c.args.volume.now c.home_all.new.self c.home_maps.new.self (kept_home g.D.Disk.tells c.args.volume.now c.args.volume.now c.home_all.new.self (group_pages g.D.Disk.tells c.args.volume.now c.args.volume.now refl) c.home_all.ensures.alone) c.home_maps.ensures.places c.home_maps.ensures.shows)
+
+pub returns-in-Err-home_maps-clause-leaves : goal.returns-in-Err-home_maps-clause-leaves
+returns-in-Err-home_maps-clause-leaves g c = Stands.leaves (maps_stand g.D.Disk.tells c.args.volume.now c.home_all.new.self c.home_maps.new.self (kept_home g.D.Disk.tells c.args.volume.now c.args.volume.now c.home_all.new.self (group_pages g.D.Disk.tells c.args.volume.now c.args.volume.now refl) c.home_all.ensures.alone) c.home_maps.ensures.places c.home_maps.ensures.shows)
+
+pub returns-clause-shown : goal.returns-clause-shown
+returns-clause-shown g c = Stands.shown (stand_on g.D.Disk.tells c.args.volume.now c.home_maps.new.self c.sync_low.new.self (maps_stand g.D.Disk.tells c.args.volume.now c.home_all.new.self c.home_maps.new.self (kept_home g.D.Disk.tells c.args.volume.now c.args.volume.now c.home_all.new.self (group_pages g.D.Disk.tells c.args.volume.now c.args.volume.now refl) c.home_all.ensures.alone) c.home_maps.ensures.places c.home_maps.ensures.shows) (same_home g.D.Disk.tells c.home_maps.new.self c.sync_low.new.self c.sync_low.ensures.alone))
+
+pub returns-clause-leaves : goal.returns-clause-leaves
+returns-clause-leaves g c = Stands.leaves (stand_on g.D.Disk.tells c.args.volume.now c.home_maps.new.self c.sync_low.new.self (maps_stand g.D.Disk.tells c.args.volume.now c.home_all.new.self c.home_maps.new.self (kept_home g.D.Disk.tells c.args.volume.now c.args.volume.now c.home_all.new.self (group_pages g.D.Disk.tells c.args.volume.now c.args.volume.now refl) c.home_all.ensures.alone) c.home_maps.ensures.places c.home_maps.ensures.shows) (same_home g.D.Disk.tells c.home_maps.new.self c.sync_low.new.self c.sync_low.ensures.alone))

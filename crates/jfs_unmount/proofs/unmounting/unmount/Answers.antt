@@ -28,7 +28,7 @@ returns-in-Ok-mark_clean-clause-ends g c =
     c.join.ensures.image t ∙ ap₂ (λ (a b : Image). a ++ b) (c.in-Ok-mark_clean.ensures.marks t ∙ ap (with_super superblock) c.into_low-low.ensures.image) (ap d.image c.into_part.ensures) in
     let pages : d.tells → ArePages (d.page_count low) volume.disk = λ t. subst (ArePages (d.page_count low)) c.into_low-low.ensures.image (g.met.D.Disk.has_pages low t) in
     record {
-      point = record { volume = volume; side = side; pointed = c.in-Ok.ensures.syncpoint; clean = c.in-Ok.ensures.clean; together = c.in-Ok.ensures.together; settles = c.syncpoint.ensures.settles; shown = c.in-Ok.ensures.shown; maps = c.in-Ok.ensures.maps };
+      point = record { volume = volume; side = side; pointed = c.in-Ok.ensures.syncpoint; clean = c.in-Ok.ensures.clean; together = c.in-Ok.ensures.together; settles = c.syncpoint.ensures.settles; shown = c.syncpoint.ensures.shown; maps = c.in-Ok.ensures.maps };
       image_is = image_is;
       superblock_is = λ t. super_page superblock volume.disk side.image (d.image c.join.result) (d.page_count low) (pages t) (image_is t)
           (omega (arith, c.requires.there, c.into_low-low.ensures.pages.0, c.syncpoint.ensures.disk.0));
@@ -50,7 +50,7 @@ returns-in-Err-mark_clean-clause-unended g c =
     let superblock = c.args.superblock.now.0 in
     let same = c.into_low-low.ensures in
     inr (record {
-      point = record { volume = volume; side = side; pointed = c.in-Ok.ensures.syncpoint; clean = c.in-Ok.ensures.clean; together = c.in-Ok.ensures.together; settles = c.syncpoint.ensures.settles; shown = c.in-Ok.ensures.shown; maps = c.in-Ok.ensures.maps };
+      point = record { volume = volume; side = side; pointed = c.in-Ok.ensures.syncpoint; clean = c.in-Ok.ensures.clean; together = c.in-Ok.ensures.together; settles = c.syncpoint.ensures.settles; shown = c.syncpoint.ensures.shown; maps = c.in-Ok.ensures.maps };
       part = ap (λ (f : Fault). f.part) c.in-Err-mark_clean.ensures.cause.is;
       low = d.image now;
       torn = λ t. subst (λ (im : Image). TearsPage 8 superblock im (d.image now)) same.image (c.in-Err-mark_clean.ensures.marks t);

@@ -11,7 +11,7 @@ use Rattle.jfs_volume_calls.specs.Together.{log_parts}
 use Rattle.jfs_volume_calls.specs.Commit.{committing}
 use Rattle.jfs_volume_calls.specs.Syncpoint.{homing, settling, group_fails}
 use Rattle.jfs_volume_calls.proofs.Chained.{low_stops, maps_stop, settled_closes, settled_may, syncpoint_ends}
-use Rattle.jfs_volume_calls.proofs.Kept.{anyhow, homed, mapped, pointed, point_shown, point_writes}
+use Rattle.jfs_volume_calls.proofs.Kept.{Stands, anyhow, homed, mapped, pointed, as_kept, kept_home, maps_stand, same_home, same_point, stand_on, written_files}
 use Rattle.jfs_volume_calls.proofs.syncing.syncpoint.Goals as goal
 
 pub returns-in-Err-clause-syncpoint : goal.returns-in-Err-clause-syncpoint
@@ -85,12 +85,40 @@ returns-clause-settles g c = pointed c.args.volume.now c.sync_low.new.self c.wri
     (mapped c.args.volume.now c.home_all.new.self c.home_maps.new.self (homed g.D.Disk.tells c.args.volume.now c.commit.new.volume c.home_all.new.self c.commit.ensures.settles c.home_all.ensures.alone) c.home_maps.ensures.memory)
     c.sync_low.ensures.alone) c.write_point.ensures.parts
 
+pub returns-in-Err-clause-shown : goal.returns-in-Err-clause-shown
+returns-in-Err-clause-shown g c = Stands.shown (as_kept g.D.Disk.tells c.args.volume.now c.commit.new.volume c.commit.ensures.files)
+
+pub returns-in-Err-clause-leaves : goal.returns-in-Err-clause-leaves
+returns-in-Err-clause-leaves g c = Stands.leaves (as_kept g.D.Disk.tells c.args.volume.now c.commit.new.volume c.commit.ensures.files)
+
+pub returns-in-Err-home_all-clause-shown : goal.returns-in-Err-home_all-clause-shown
+returns-in-Err-home_all-clause-shown g c = Stands.shown (as_kept g.D.Disk.tells c.args.volume.now c.home_all.new.self (kept_home g.D.Disk.tells c.args.volume.now c.commit.new.volume c.home_all.new.self c.commit.ensures.files c.home_all.ensures.alone))
+
+pub returns-in-Err-home_all-clause-leaves : goal.returns-in-Err-home_all-clause-leaves
+returns-in-Err-home_all-clause-leaves g c = Stands.leaves (as_kept g.D.Disk.tells c.args.volume.now c.home_all.new.self (kept_home g.D.Disk.tells c.args.volume.now c.commit.new.volume c.home_all.new.self c.commit.ensures.files c.home_all.ensures.alone))
+
+pub returns-in-Err-home_maps-clause-shown : goal.returns-in-Err-home_maps-clause-shown
+returns-in-Err-home_maps-clause-shown g c = Stands.shown (maps_stand g.D.Disk.tells c.args.volume.now c.home_all.new.self c.home_maps.new.self (kept_home g.D.Disk.tells c.args.volume.now c.commit.new.volume c.home_all.new.self c.commit.ensures.files c.home_all.ensures.alone) c.home_maps.ensures.places c.home_maps.ensures.shows)
+
+pub returns-in-Err-home_maps-clause-leaves : goal.returns-in-Err-home_maps-clause-leaves
+returns-in-Err-home_maps-clause-leaves g c = Stands.leaves (maps_stand g.D.Disk.tells c.args.volume.now c.home_all.new.self c.home_maps.new.self (kept_home g.D.Disk.tells c.args.volume.now c.commit.new.volume c.home_all.new.self c.commit.ensures.files c.home_all.ensures.alone) c.home_maps.ensures.places c.home_maps.ensures.shows)
+
+pub returns-in-Err-sync_low-clause-shown : goal.returns-in-Err-sync_low-clause-shown
+returns-in-Err-sync_low-clause-shown g c = Stands.shown (stand_on g.D.Disk.tells c.args.volume.now c.home_maps.new.self c.sync_low.new.self (maps_stand g.D.Disk.tells c.args.volume.now c.home_all.new.self c.home_maps.new.self (kept_home g.D.Disk.tells c.args.volume.now c.commit.new.volume c.home_all.new.self c.commit.ensures.files c.home_all.ensures.alone) c.home_maps.ensures.places c.home_maps.ensures.shows) (same_home g.D.Disk.tells c.home_maps.new.self c.sync_low.new.self c.sync_low.ensures.alone))
+
+pub returns-in-Err-sync_low-clause-leaves : goal.returns-in-Err-sync_low-clause-leaves
+returns-in-Err-sync_low-clause-leaves g c = Stands.leaves (stand_on g.D.Disk.tells c.args.volume.now c.home_maps.new.self c.sync_low.new.self (maps_stand g.D.Disk.tells c.args.volume.now c.home_all.new.self c.home_maps.new.self (kept_home g.D.Disk.tells c.args.volume.now c.commit.new.volume c.home_all.new.self c.commit.ensures.files c.home_all.ensures.alone) c.home_maps.ensures.places c.home_maps.ensures.shows) (same_home g.D.Disk.tells c.home_maps.new.self c.sync_low.new.self c.sync_low.ensures.alone))
+
 pub returns-clause-shown : goal.returns-clause-shown
-returns-clause-shown g c = anyhow c.write_point.result
-    (point_shown g.D.Disk.tells c.args.volume.now c.commit.new.volume c.home_all.new.self c.home_maps.new.self c.sync_low.new.self c.write_point.new.volume c.commit.ensures.files c.home_all.ensures.alone c.in-Ok-home_maps.ensures.shows
-    c.in-Ok-home_maps.ensures.written c.sync_low.ensures.alone c.write_point.ensures.parts)
+returns-clause-shown g c = Stands.shown (stand_on g.D.Disk.tells c.args.volume.now c.sync_low.new.self c.write_point.new.volume (stand_on g.D.Disk.tells c.args.volume.now c.home_maps.new.self c.sync_low.new.self (maps_stand g.D.Disk.tells c.args.volume.now c.home_all.new.self c.home_maps.new.self (kept_home g.D.Disk.tells c.args.volume.now c.commit.new.volume c.home_all.new.self c.commit.ensures.files c.home_all.ensures.alone) c.home_maps.ensures.places c.home_maps.ensures.shows) (same_home g.D.Disk.tells c.home_maps.new.self c.sync_low.new.self c.sync_low.ensures.alone)) (same_point g.D.Disk.tells c.sync_low.new.self c.write_point.new.volume c.write_point.ensures.parts))
+
+pub returns-clause-leaves : goal.returns-clause-leaves
+returns-clause-leaves g c = Stands.leaves (stand_on g.D.Disk.tells c.args.volume.now c.sync_low.new.self c.write_point.new.volume (stand_on g.D.Disk.tells c.args.volume.now c.home_maps.new.self c.sync_low.new.self (maps_stand g.D.Disk.tells c.args.volume.now c.home_all.new.self c.home_maps.new.self (kept_home g.D.Disk.tells c.args.volume.now c.commit.new.volume c.home_all.new.self c.commit.ensures.files c.home_all.ensures.alone) c.home_maps.ensures.places c.home_maps.ensures.shows) (same_home g.D.Disk.tells c.home_maps.new.self c.sync_low.new.self c.sync_low.ensures.alone)) (same_point g.D.Disk.tells c.sync_low.new.self c.write_point.new.volume c.write_point.ensures.parts))
 
 pub returns-clause-maps : goal.returns-clause-maps
-returns-clause-maps g c = anyhow c.write_point.result
-    (λ t. point_writes g.D.Disk.tells c.args.volume.now c.commit.new.volume c.home_all.new.self c.home_maps.new.self c.sync_low.new.self c.write_point.new.volume t c.commit.ensures.files c.home_all.ensures.alone
-    (c.in-Ok-home_maps.ensures.shows t) c.in-Ok-home_maps.ensures.written c.sync_low.ensures.alone c.write_point.ensures.parts)
+returns-clause-maps g c = anyhow c.write_point.result (λ t. record {
+  files = written_files g.D.Disk.tells c.args.volume.now c.home_all.new.self c.home_maps.new.self c.sync_low.new.self c.write_point.new.volume
+      (kept_home g.D.Disk.tells c.args.volume.now c.commit.new.volume c.home_all.new.self c.commit.ensures.files c.home_all.ensures.alone) c.in-Ok-home_maps.ensures.written (same_home g.D.Disk.tells c.home_maps.new.self c.sync_low.new.self c.sync_low.ensures.alone)
+      (same_point g.D.Disk.tells c.sync_low.new.self c.write_point.new.volume c.write_point.ensures.parts);
+  leaves = Stands.leaves (stand_on g.D.Disk.tells c.args.volume.now c.sync_low.new.self c.write_point.new.volume (stand_on g.D.Disk.tells c.args.volume.now c.home_maps.new.self c.sync_low.new.self (maps_stand g.D.Disk.tells c.args.volume.now c.home_all.new.self c.home_maps.new.self (kept_home g.D.Disk.tells c.args.volume.now c.commit.new.volume c.home_all.new.self c.commit.ensures.files c.home_all.ensures.alone) c.home_maps.ensures.places c.home_maps.ensures.shows) (same_home g.D.Disk.tells c.home_maps.new.self c.sync_low.new.self c.sync_low.ensures.alone)) (same_point g.D.Disk.tells c.sync_low.new.self c.write_point.new.volume c.write_point.ensures.parts)) t;
+})

@@ -35,4 +35,4 @@ pub returns : goal.returns
 returns g c =
     let b = c.in-Ok.ensures in
     let e = c.in-Failed.ensures in
-    fails g.D.Disk.tells c.args.self.now c.beside.new.self c.append.new.self b.read c.in-Failed.fault b.beside.0 e.stays e.fault
+    fails g.D.Disk.tells c.args.self.now c.beside.new.self c.append.new.self b.read c.args.pages.now c.in-Failed.fault (sym c.are_clean.ensures ∙ c.if-not-are_clean.false) b.beside.0 e.stays e.fault e.shows

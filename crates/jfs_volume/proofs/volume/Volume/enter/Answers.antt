@@ -1,4 +1,5 @@
 use Rattle.std.proofs.Common.{◌≡◌, ◌≤◌, ◌+◌, ◌∷◌, [], ℕ, true, Bool, List, length, refl, sym, ap, ◌∙◌, subst, arith}
+use Rattle.jfs_disk.specs.Image.{Image}
 use Rattle.jfs_ranges.specs.declared.edit.Edit.{Edit}
 use Rattle.jfs_ranges.specs.Apply.{touches_tx}
 use Rattle.jfs_pages.specs.declared.dirty.Dirty.{Dirty}
@@ -11,12 +12,13 @@ use Rattle.jfs_halves.specs.Change.{Enters, after}
 use Rattle.jfs_halves.proofs.Joined.{join}
 use Rattle.jfs_volume.specs.Append.{IsWritable, entered, unreserved}
 use Rattle.jfs_halves.specs.crash_core.specs.Image.{pages_after}
-use Rattle.jfs_volume.specs.Data.{store_of, ArePut, put_pages}
+use Rattle.jfs_volume.specs.Data.{store_of, ArePut, IsPartlyPut, put_pages}
 use Rattle.jfs_volume.specs.Runs.{taken_in}
 use Rattle.jfs_volume.specs.Written.{writes}
 use Rattle.jfs_volume.proofs.Busy.{between_entered}
 use Rattle.jfs_volume.proofs.Later.{later_entered}
 use Rattle.jfs_volume.proofs.Files.{files_marked, marked_iags}
+use Rattle.jfs_volume.proofs.PartlyPut.{partly_put}
 use Rattle.jfs_volume.proofs.PuttingAll.{IsStoreOf, data_moves, data_stops}
 use Rattle.jfs_volume.specs.Text.{text_in}
 use Rattle.jfs_volume.proofs.Stand.{image-same, length-image}
@@ -163,6 +165,23 @@ returns-in-Err-clause-appends g c list same draft may now seen asked told crashe
     first
     (rw c.halt.ensures.halted (refl, refl, refl))
     (rw dirty at c.in-Err.ensures.puts)
+
+pub returns-in-Err-clause-shows : goal.returns-in-Err-clause-shows
+returns-in-Err-clause-shows g c told clean =
+    let old = c.self.inside in
+    let put = c.put_all.new.cache in
+    let mid = c.make_ready.new.cache in
+    let d = g.D.Disk in
+    let r = c.make_ready.ensures in
+    let contents = c.args.contents.now in
+    let p = c.args.self.now in
+    let dirty : dirty_in mid.kept ≡ p.dirty = rw (← c.self.view_is) r.dirty in
+    let before : image_in mid.blocks (d.image mid.disk) mid.kept ≡ p.view = rw (← c.self.view_is) (ap (λ (b : ℕ). image_in b (d.image mid.disk) mid.kept) r.blocks ∙ image-same old.cache.blocks (d.image old.cache.disk) (d.image mid.disk) old.cache.kept mid.kept (r.shown told)) in
+    let fits : p.blocks ≤ length (image_in mid.blocks (d.image mid.disk) mid.kept) = rw (← c.self.view_is) (omega (arith, r.blocks, length-image mid.blocks (d.image mid.disk) mid.kept)) in
+    let on_disk : p.blocks ≤ length (d.image mid.disk) = rw (← c.self.view_is) (omega (arith, old.cache.place, (g.met.D.Disk.has_pages old.cache.disk told).number, ap length (r.disk.image told))) in
+    λ once. rw c.halt.ensures.halted
+    (subst (λ (image : Image). IsPartlyPut contents image (image_in put.blocks (d.image put.disk) put.kept)) before
+    (partly_put told contents p.dirty (store_of d mid) (store_of d put) p.blocks c.requires.contents fits on_disk clean (rw dirty at c.in-Err.ensures.puts) once))
 
 pub returns-clause-shows : goal.returns-clause-shows
 returns-clause-shows g c told clean =

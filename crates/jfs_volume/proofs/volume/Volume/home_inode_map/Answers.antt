@@ -5,11 +5,11 @@ use Rattle.jfs_map_files.specs.Places.{AreWithin}
 use Rattle.jfs_pages.specs.Dirty.{dirty_of}
 use Rattle.jfs_halves.specs.Parts.{Parts}
 use Rattle.jfs_halves.specs.Change.{after}
-use Rattle.jfs_volume.specs.Shown.{PutsPage}
+use Rattle.jfs_volume.specs.Shown.{PutsPage, Spoils}
 use Rattle.jfs_volume.specs.Written.{writes}
 use Rattle.jfs_volume.specs.MapsHome.{with_inodes_written}
 use Rattle.jfs_volume.proofs.Stand.{none, length-image}
-use Rattle.jfs_volume.proofs.Showing.{shows-none, shows-more, shows-less, writes-on, writes-stop, marked-moves}
+use Rattle.jfs_volume.proofs.Showing.{stays-else, shows-none, shows-more, shows-less, writes-on, writes-stop, marked-moves}
 use Rattle.jfs_volume.proofs.volume.Volume.home_inode_map.Goals as goal
 
 pub loop-n-init : goal.loop-n-init
@@ -54,6 +54,13 @@ pub returns-in-Err-clause-home : goal.returns-in-Err-clause-home
 returns-in-Err-clause-home g c seen asked told crashes half s =
     let w = c.loop-n.invariant.homes seen asked told crashes half s in
     writes-stop seen asked c.args.self.now c.loop-n.self c.home_inode_page.new.self half w.0 c.in-Err.fault w.1 (c.in-Err.ensures.home seen asked told crashes (after half (writes w.0)) w.1.stands)
+
+pub returns-in-Err-clause-spoils : goal.returns-in-Err-clause-spoils
+returns-in-Err-clause-spoils g c t =
+    let p = c.args.self.now in
+    let inv = c.loop-n.invariant in
+    stays-else c.loop-n.n p.files.inodes.places (λ n. true) (IsInodePage p.inodes) p.view c.loop-n.self.view c.home_inode_page.new.self.view (inv.shows t)
+    (subst (λ (f : MapFiles). Spoils (slice_get f.inodes.places c.loop-n.n) c.loop-n.self.view c.home_inode_page.new.self.view) (ap (λ (q : Parts). q.files) inv.parts) (c.in-Err.ensures.spoils t))
 
 pub returns-clause-home : goal.returns-clause-home
 returns-clause-home g c seen asked told crashes half s =

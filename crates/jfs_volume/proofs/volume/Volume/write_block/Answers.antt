@@ -62,3 +62,15 @@ returns-in-Err-clause-writes g c =
       before = λ k. g.met.D.Disk.reads_now old.cache.disk (crashes k);
       now = λ k. g.met.D.Disk.reads_now new.disk (crashes k);
     })))
+
+pub returns-in-Err-clause-written : goal.returns-in-Err-clause-written
+returns-in-Err-clause-written g c =
+    let old = c.self.inside in
+    let new = c.put.new.self in
+    let d = g.D.Disk in
+    let e = c.in-Err.ensures in
+    let r = rw (← c.self.view_is) at c.requires in
+    rw (← c.self.view_is) (rw c.halt.ensures.halted (
+      rw (e.blocks, e.dirty, e.count, e.room) refl,
+      λ t. (page_of (d.image new.disk) c.args.n, ap (λ (b : ℕ). image_in b (d.image new.disk) new.kept) e.blocks ∙ image-set old.cache.blocks (d.image old.cache.disk) (d.image new.disk) old.cache.kept new.kept c.args.n (page_of (d.image new.disk) c.args.n) r.there (e.others t) (e.clean t r.clean)),
+    ))
