@@ -6,6 +6,7 @@ use Rattle.jfs_bmap.specs.States.{Blocks, Free, state_of, unowned_count}
 use Rattle.jfs_lead_steps.specs.dtree.specs.Room.{deep_on_way}
 use Rattle.jfs_ranges.specs.declared.edit.Edit.{Edit}
 use Rattle.jfs_lead_steps.specs.page_tree.specs.Edit.{count_in}
+use Rattle.jfs_lead_steps.specs.page_tree.specs.Fresh.{blocks_of}
 use Rattle.jfs_plain.specs.Tree.{Tree, walk, root, new_place, place_as, and_then}
 use Rattle.jfs_plain.specs.Step.{Room, Outcome, is_short, is_full, need_of_name}
 use Rattle.jfs_plain.specs.declared.refusal.Refusal.{Refusal}
@@ -23,7 +24,7 @@ use Rattle.jfs_steps.specs.After.{after_call, takes}
 use Rattle.jfs_steps.specs.Call.{IsDone}
 use Rattle.jfs_steps.specs.Place.{last_of, new_place_of}
 use Rattle.jfs_claim.specs.Look.{space_for}
-use Rattle.jfs_claim.specs.Take.{reserving, Lacks}
+use Rattle.jfs_claim.specs.Take.{AreFresh, reserving, Lacks}
 use Rattle.jfs_claim.specs.declared.reserve.Want.{Want}
 use Rattle.jfs_plain.specs.Step.{link}
 use Rattle.jfs_bits.specs.declared.descriptor.Moment.{Moment}
@@ -88,12 +89,14 @@ asked_of blocks pages map inodes to object = if has_names object.inode then Err 
 abbrev pub asked : ℕ → (ℕ → List ℕ) → Blocks → Inodes → List (List ℕ) → List (List ℕ) → Result Joint Refusal
 asked blocks pages map inodes from to = and_then (path_of blocks pages inodes from) (asked_of blocks pages map inodes to)
 
--- What is asked goes through, and then the two steps are taken; or a commit is due; or what is asked is refused, or the first step is; or the refusal is open.
+-- What is asked goes through, and then the two steps are taken, with blocks that had no owners; or a commit is due; or what is asked is refused, or the first step is; or the refusal is open.
 abbrev pub LinksAs : ℕ → (ℕ → List ℕ) → Blocks → Inodes → List (List ℕ) → List (List ℕ) → Moment → Result Linked Refusal → Type 0
-LinksAs blocks pages map inodes from to now (Ok (linked.Done tx)) = (joint : Joint) × (asked blocks pages map inodes from to ≡ Ok joint) × (free : List Pxd) × (left : List Pxd) × Joins blocks pages joint.object joint.dir (last_of to) now free left tx
+LinksAs blocks pages map inodes from to now (Ok (linked.Done tx)) = (joint : Joint) × (asked blocks pages map inodes from to ≡ Ok joint) × (free : List Pxd) × AreFresh map need_of_name (blocks_of free) × (left : List Pxd)
+    × Joins blocks pages joint.object joint.dir (last_of to) now free left tx
 LinksAs blocks pages map inodes from to now (Ok linked.NeedsLog) = (joint : Joint) × (asked blocks pages map inodes from to ≡ Ok joint)
 LinksAs blocks pages map inodes from to now (Err why) = (asked blocks pages map inodes from to ≡ Err why)
-    ⊎ (((joint : Joint) × (asked blocks pages map inodes from to ≡ Ok joint) × (free : List Pxd) × JoinRefused blocks pages joint.object joint.dir (last_of to) now free why) ⊎ (is_open why ≡ true))
+    ⊎ (((joint : Joint) × (asked blocks pages map inodes from to ≡ Ok joint) × (free : List Pxd) × AreFresh map need_of_name (blocks_of free)
+    × JoinRefused blocks pages joint.object joint.dir (last_of to) now free why) ⊎ (is_open why ≡ true))
 
 -- The object and the directory are those of the tree, and there is room.
 pub record MayLink (from to : List (List ℕ)) (object dir : Held) (room : Room) (t : Tree) : Type 0 where

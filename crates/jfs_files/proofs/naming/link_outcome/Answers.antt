@@ -29,7 +29,7 @@ returns-in-Ok-Done-clause-frees g c tells =
     let pages = page_of (g.V.PageView.image c.args.view.now) in
     let maps = c.args.maps.now in
     let meets = subst (λ (x : Linked). LinksAs blocks pages maps.blocks maps.inodes c.as_slice.result.now c.as_slice-2.result.now c.args.now (Ok x)) c.in-Ok-Done.field-0-is (c.in-Ok-Done.ensures.meets tells) in
-    rw c.changed.ensures (joins_free_none blocks pages meets.0.object meets.0.dir (last_of c.as_slice-2.result.now) c.args.now meets.2 meets.3 c.in-Ok-Done.tx meets.4)
+    rw c.changed.ensures (joins_free_none blocks pages meets.0.object meets.0.dir (last_of c.as_slice-2.result.now) c.args.now meets.2 meets.4 c.in-Ok-Done.tx meets.5)
 
 pub returns-in-Ok-Done-clause-follows : goal.returns-in-Ok-Done-clause-follows
 returns-in-Ok-Done-clause-follows g c tells between area con log_pages limit =

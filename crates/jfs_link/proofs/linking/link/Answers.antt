@@ -67,11 +67,22 @@ returns-in-Ok-join-clause-map g c =
           ∙ ap (λ (runs : List Pxd). reserving runs front.0 c.args.blocks.now) (no_run c.args.blocks.now c.in-Ok-take.claim.run c.in-Ok-take.ensures.claims.run)),
     )
 
+pub returns-in-Ok-join-clause-meets : goal.returns-in-Ok-join-clause-meets
+returns-in-Ok-join-clause-meets g c tells = (
+  c.in-Ok.joint,
+  c.in-Ok.ensures.meets tells,
+  c.in-Ok-take.claim.fresh,
+  c.in-Ok-take.ensures.fresh,
+  c.join.new.fresh,
+  (rw (c.ask.ensures.count_of_blocks, c.ask.ensures.image tells, last_is c.args.to.now c.index-to-to.result c.in-Ok.ensures.some c.index-to-to.is) at (c.in-Ok-join.ensures.joins tells)),
+)
+
 pub returns-clause-meets : goal.returns-clause-meets
 returns-clause-meets g c tells = inr (inl (
   c.in-Ok.joint,
   c.in-Ok.ensures.meets tells,
   c.in-Ok-take.claim.fresh,
+  c.in-Ok-take.ensures.fresh,
   back (λ b pages name. JoinRefused b pages c.in-Ok.joint.object c.in-Ok.joint.dir name c.args.now c.in-Ok-take.claim.fresh c.in-Err-join.e)
       (g.V.PageView.block_count c.args.view.now) (g.V.PageView.block_count c.ask.new.view) (g.V.PageView.image c.args.view.now) (g.V.PageView.image c.ask.new.view) (last_of c.args.to.now) c.index-to-to.result
       c.ask.ensures.count_of_blocks (c.ask.ensures.image tells) (last_is c.args.to.now c.index-to-to.result c.in-Ok.ensures.some c.index-to-to.is) (c.in-Err-join.ensures.refused tells),
