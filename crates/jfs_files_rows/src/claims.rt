@@ -2,8 +2,8 @@
 
 ghost use Rattle.std.specs.Prelude.{◌<◌, ◌≤◌};
 
-use crate::small::inodes_of;
-use jfs_bits::{PxdList, set_run};
+use crate::given::inodes_of;
+use jfs_bits::{Pxd, PxdList, set_run};
 use jfs_bmap::BlockMap;
 use jfs_claim::{Claim, ClaimError, FreshInode, Want, look_for_inode, look_for_space, take};
 use jfs_imap::{InodeMap, Pick};
@@ -11,19 +11,69 @@ use jfs_plain::Refusal;
 use std::alloc::{AllocError, Global};
 use std::test::*;
 
-/// A map of so many blocks in groups of 8,192, of which the first 44 have owners.
-pub fn map_of(alloc: Global, blocks: u32) -> Result<BlockMap, AllocError>
+/// What the blocks behind the first 44 are.
+#[derive(Clone, Copy)]
+pub enum Owners {
+    /// None has an owner.
+    None,
+    /// So many at their front are busy.
+    Busy(u8),
+    /// Each fourth one has an owner, from block 44 on.
+    Fourths,
+}
+
+/// A map of so many blocks in groups of 8,192, of which the first 44 have owners, and so many behind them; or else each fourth one behind them.
+fn map_of(alloc: Global, blocks: u32, more: u8, fourths: bool) -> Result<BlockMap, AllocError>
     requires some { 0 < blocks }
     requires most { blocks ≤ 224 }
 {
     let mut set = [0u8; 28];
-    set_run(&mut set, 0, 44);
+    set_run(&mut set, 0, 44 + u32::from(more.min(180)));
+    if fourths {
+        for k in 11..56 {
+            set_run(&mut set, 4 * k, 1);
+        }
+    }
     BlockMap::from_set(alloc, &set, blocks, 8192)
+}
+
+/// The map of so many blocks.
+pub fn map_with(alloc: Global, blocks: u32, owners: Owners) -> Option<BlockMap>
+    requires some { 0 < blocks }
+    requires most { blocks ≤ 224 }
+{
+    match owners {
+        Owners::None => map_of(alloc, blocks, 0, false).ok(),
+        Owners::Fourths => map_of(alloc, blocks, 0, true).ok(),
+        Owners::Busy(n) => busy_behind(alloc, map_of(alloc, blocks, n, false).ok()?, n),
+    }
+}
+
+/// The map where so many blocks behind the first 44 were released for an entry that isn't durable.
+fn busy_behind(alloc: Global, map: BlockMap, n: u8) -> Option<BlockMap> {
+    let mut map = map;
+    let mut list = PxdList::new(alloc);
+    list.push(Pxd {
+        len: u32::from(n),
+        addr: 44,
+    })
+    .ok()?;
+    map.make_room(1).ok()?;
+    if list.len() > map.spare() as usize {
+        return None;
+    }
+    map.release(&list, 9);
+    Some(map)
+}
+
+/// A map of 200 blocks.
+fn two_hundred(alloc: Global) -> Option<BlockMap> {
+    map_with(alloc, 200, Owners::None)
 }
 
 /// What is told where so many blocks of a map of 200 are wanted; `None` outside is want of memory.
 fn space(alloc: Global, need: u32) -> Option<Result<(), Refusal>> {
-    let map = map_of(alloc, 200).ok()?;
+    let map = two_hundred(alloc)?;
     Some(look_for_space(&map, need))
 }
 
@@ -47,7 +97,7 @@ fn is_eight(map: &BlockMap, inodes: &InodeMap) -> bool {
 // Inode 8 is the lowest free one.
 #[test]
 fn an_inode_is_looked_for(rt: HostRuntime) {
-    let map = map_of(rt.alloc(), 200).expect(&rt, "memory");
+    let map = two_hundred(rt.alloc()).expect(&rt, "memory");
     let inodes = inodes_of(rt.alloc()).expect(&rt, "memory");
     assert!(rt; is_eight(&map, &inodes));
 }
@@ -100,7 +150,7 @@ fn is_taken(alloc: Global, map: &mut BlockMap, want: Want, wanted: Option<Taken>
 #[test]
 fn blocks_are_reserved(rt: HostRuntime) {
     let alloc = rt.alloc();
-    let mut map = map_of(alloc, 200).expect(&rt, "memory");
+    let mut map = two_hundred(alloc).expect(&rt, "memory");
     for (run, blocks, wanted) in WANTS.iter() {
         let want = Want {
             run: *run,

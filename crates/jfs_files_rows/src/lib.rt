@@ -9,7 +9,11 @@ mod claims;
 #[cfg(test)]
 mod edges;
 #[cfg(test)]
+mod given;
+#[cfg(test)]
 mod marks;
+#[cfg(test)]
+mod room;
 #[cfg(test)]
 mod same;
 #[cfg(test)]
@@ -18,6 +22,10 @@ mod scripts;
 mod small;
 #[cfg(test)]
 mod told;
+#[cfg(test)]
+mod trees;
+#[cfg(test)]
+mod unread;
 #[cfg(test)]
 mod volume;
 #[cfg(test)]

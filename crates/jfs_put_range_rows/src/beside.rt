@@ -36,7 +36,7 @@ fn two_subtrees(alloc: Global) -> Result<File, AllocError> {
     entry(&mut file.root, 1, 1000, 2);
     small_page(&mut file, 1, 4, 0, 3);
     small_page(&mut file, 2, 4, 1000, 4);
-    full_page(&mut file, 3, 2, 0);
+    full_page(&mut file, 3, 2, 0, 4);
     small_page(&mut file, 4, 2, 1000, 5000);
     names(&mut file, 1, 0, 2);
     names(&mut file, 2, 1, 0);

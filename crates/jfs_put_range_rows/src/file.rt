@@ -13,12 +13,13 @@ use jfs_ranges::{Edit, PageView, Tx, ViewError, apply};
 use jfs_xtree::{XtError, add, extents, new_root};
 use std::alloc::{AllocError, Global};
 
-/// A volume of 8,192 blocks, of which the first 128 are pages. One of them may be such that it can't be read.
+/// A volume of 8,192 blocks, of which the first 128 are pages, that counts its reads. One of them may be such that it can't be read.
 #[derive(Drop)]
 pub struct Volume {
     pages: Vec<Page>,
     bad: u32,
     faults: u64,
+    reads: u64,
 }
 
 impl PageView for Volume {
@@ -48,6 +49,7 @@ impl PageView for Volume {
                 count: self.faults,
             }));
         }
+        self.reads = self.reads.saturating_add(1);
         match self.pages.get(n as usize) {
             Some(page) => Ok(page),
             None => Err(ViewError::Memory),
@@ -77,6 +79,7 @@ impl File {
                 pages,
                 bad: 8192,
                 faults: 0,
+                reads: 0,
             },
             root,
             next: 0,
@@ -96,6 +99,11 @@ impl File {
     /// From now on this page can't be read.
     pub fn loses(&mut self, n: u32) {
         self.volume.bad = n;
+    }
+
+    /// How often a page was read.
+    pub fn reads(&self) -> u64 {
+        self.volume.reads
     }
 
     /// Adds an extent to the tree.

@@ -8,6 +8,8 @@ mod beside;
 #[cfg(test)]
 mod file;
 #[cfg(test)]
+mod hostile;
+#[cfg(test)]
 mod links;
 #[cfg(test)]
 mod mixed;

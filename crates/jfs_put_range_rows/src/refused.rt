@@ -11,7 +11,7 @@ use std::alloc::{AllocError, Global};
 use std::test::*;
 
 /// The page number by which an error names the root.
-const ROOT: u32 = 4294967295;
+pub const ROOT: u32 = 4294967295;
 
 fn fault(count: u64) -> XtError {
     XtError::View(ViewError::Read(Fault {
@@ -125,8 +125,8 @@ pub fn at_home(bytes: &mut [u8; 4096], n: u32) {
     );
 }
 
-/// A page without room: each second block of the file from one on, and the last entry names the page behind this one.
-pub fn full_page(file: &mut File, n: u32, flag: u8, from: u32) {
+/// A page without room: each second block of the file from one on, all in this block of the volume, or below this page.
+pub fn full_page(file: &mut File, n: u32, flag: u8, from: u32, child: u32) {
     if let Some(page) = file.page(n) {
         put_u8(&mut page.0, 16, flag);
         put_u16(&mut page.0, 18, 256);
@@ -134,7 +134,7 @@ pub fn full_page(file: &mut File, n: u32, flag: u8, from: u32) {
         at_home(&mut page.0, n);
         for i in 0..254usize {
             let offset = from.saturating_add((2 * i) as u32);
-            entry(&mut page.0, i, offset, n.saturating_add(1));
+            entry(&mut page.0, i, offset, child);
         }
     }
 }
@@ -151,9 +151,9 @@ fn tall(alloc: Global, children: u16) -> Result<File, AllocError>
         entry(&mut file.root, usize::from(i), u32::from(i), 1);
     }
     for n in 1..7 {
-        full_page(&mut file, n, 4, n.saturating_mul(1000));
+        full_page(&mut file, n, 4, n.saturating_mul(1000), n + 1);
     }
-    full_page(&mut file, 7, 2, 7000);
+    full_page(&mut file, 7, 2, 7000, 8);
     file.keeps(8);
     Ok(file)
 }

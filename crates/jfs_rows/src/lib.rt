@@ -22,6 +22,8 @@ mod redo;
 #[cfg(test)]
 mod refusals;
 #[cfg(test)]
+mod round;
+#[cfg(test)]
 mod run;
 #[cfg(test)]
 mod sources;

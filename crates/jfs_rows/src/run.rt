@@ -13,9 +13,9 @@ use std::alloc::Global;
 use std::sync::Wait;
 use std::thread::Threads;
 
-const WORDS: [&str; 3] = ["run", "I", "S"];
+pub const WORDS: [&str; 3] = ["run", "I", "S"];
 
-const LEAVE: [&str; 4] = ["run", "--leave", "I", "S"];
+pub const LEAVE: [&str; 4] = ["run", "--leave", "I", "S"];
 
 /// A script, and what is printed.
 type Row = (&'static str, &'static str);
@@ -105,7 +105,7 @@ fn came<R: Threads + Wait + Sync, K: Sink>(
 }
 
 /// The disk after a run that ended with this status and this text; `None` where it didn't.
-fn after_run<R: Threads + Wait + Sync>(
+pub fn after_run<R: Threads + Wait + Sync>(
     rt: &R,
     alloc: Global,
     words: &[&str],

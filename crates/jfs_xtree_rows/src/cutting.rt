@@ -1,6 +1,6 @@
 //! Extents cut inside, at borders and to nothing, beside the plain list; what is free is counted by hand.
 
-use crate::steps::Step::{self, Add, AddAll, Agree, Cut, Pages};
+use crate::steps::Step::{self, Add, AddAll, Agree, Cut, Narrow, Pages, StaysNarrow};
 use crate::steps::held;
 use std::test::*;
 
@@ -57,4 +57,30 @@ static TO_NOTHING: [Step; 3] = [
 #[test]
 fn two_pages_to_nothing(rt: HostRuntime) {
     assert_eq!(rt; held(rt.alloc(), &TO_NOTHING), 3);
+}
+
+static BESIDE_ATTRIBUTES: [Step; 15] = [
+    Narrow,
+    // eight extents of two blocks each, as many as the root has slots for
+    AddAll(0, 8, 3, 2),
+    // inside the last one, to its border, and inside the fourth one
+    Cut(22, 0, 1),
+    StaysNarrow,
+    Cut(21, 0, 1),
+    StaysNarrow,
+    Cut(10, 0, 7),
+    StaysNarrow,
+    // eight more make twelve, which stand on a page: inside the sixth one there, and to nothing
+    AddAll(4, 12, 3, 2),
+    Pages(1),
+    StaysNarrow,
+    Cut(16, 0, 13),
+    StaysNarrow,
+    Cut(0, 1, 11),
+    StaysNarrow,
+];
+
+#[test]
+fn a_root_beside_attributes(rt: HostRuntime) {
+    assert_eq!(rt; held(rt.alloc(), &BESIDE_ATTRIBUTES), 15);
 }
