@@ -1,0 +1,3 @@
+pub mod WithData
+pub mod Cut
+pub mod Calls

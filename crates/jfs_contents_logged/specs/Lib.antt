@@ -1,0 +1,5 @@
+-- what the laws say
+pub mod Calls
+-- libraries below, passed on
+pub use Rattle.jfs_names_logged.specs.calls_logged
+pub use Rattle.jfs_names_logged as names_logged

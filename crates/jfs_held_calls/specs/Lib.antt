@@ -1,0 +1,4 @@
+-- what the laws say
+pub mod Calls
+-- libraries below, passed on
+pub use Rattle.jfs_held_volumes as held

@@ -1,0 +1,8 @@
+-- what the laws say
+pub mod Held
+pub mod Changes
+pub mod Laws
+-- libraries below, passed on
+pub use Rattle.jfs_canonical_maps as canonical_maps
+pub use Rattle.jfs_image_volumes as image_volumes
+pub use Rattle.jfs_survival as survival

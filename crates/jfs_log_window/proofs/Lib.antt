@@ -1,0 +1,5 @@
+pub mod Lists
+pub mod Events
+pub mod Cuts
+pub mod Points
+pub mod Window

@@ -1,0 +1,6 @@
+-- what the law says
+pub mod Mounted
+-- libraries below, passed on
+pub use Rattle.jfs_mounted_places as mounted_places
+pub use Rattle.jfs_shown as shown
+pub use Rattle.jfs_unmount.specs.mounted

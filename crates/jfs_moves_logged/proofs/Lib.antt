@@ -1,0 +1,14 @@
+pub mod Come
+pub mod InPlace
+pub mod Gained
+pub mod Lost
+pub mod LedNames
+pub mod Led
+pub mod Dropped
+pub mod Ends
+pub mod Apart
+pub mod Leaving
+pub mod Stands
+pub mod Free
+pub mod Over
+pub mod Calls

@@ -1,0 +1,4 @@
+pub mod File
+pub mod Tree
+pub mod Grown
+pub mod Calls
