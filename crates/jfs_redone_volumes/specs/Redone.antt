@@ -1,11 +1,15 @@
 -- What the redo of a volume on a disk leaves is what the core of log redo makes of it.
 use Rattle.std.specs.Prelude.{◌≡◌, ◌<◌, ◌≤◌, ◌+◌, ◌-◌, ◌/◌, ℕ, true, List, Bool, length, Some}
+use Rattle.jfs_bits.specs.declared.descriptor.Pxd.{Pxd}
 use Rattle.jfs_disk.specs.Image.{Image, page_of, ArePages}
 use Rattle.jfs_ranges.specs.declared.edit.Edit.{Edit}
 use Rattle.jfs_super.specs.Rules.{blocks_of}
 use Rattle.jfs_super.specs.declared.fields.Super.{Super}
+use Rattle.jfs_recovery.specs.objects.specs.Owners.{IsSound}
+use Rattle.jfs_recovery.specs.objects.specs.Readers.{Readers}
 use Rattle.jfs_recovery.specs.objects.specs.Volume.{home}
-use Rattle.jfs_recovery.specs.objects.specs.Image.{extent_place}
+use Rattle.jfs_recovery.specs.objects.specs.Image.{extent_place, volume_on}
+use Rattle.jfs_recovery.specs.kinds.specs.Images.{HasWholeFiles, IsSameVolume}
 use Rattle.jfs_recovery.specs.Face.{Pages, IsRedone as IsRedoneOf}
 use Rattle.jfs_face.specs.Places.{Places, is_map_page}
 use Rattle.jfs_face.specs.Items.{AreItems, extent_by, places}
@@ -39,3 +43,8 @@ pub record IsRedoneByCore (s : Super) (txs : List (List Edit)) (old new : Image)
 abbrev pub RedoneLaw : Type 0
 RedoneLaw = (s : Super) (txs : List (List Edit)) (old new : Image) (changes : Pages → List Edit → ℕ → Bool) (left : Pages) → blocks_of s ≤ length new → ArePages (length new) new → CanBeRedone s txs old → IsRedone s txs old new
     → ((p : ℕ) → p < blocks_of s → left p ≡ page_of old p) → IsRedoneByCore s txs old new changes left
+
+-- The pages within a volume but for the superblock's say which volume it is.
+abbrev pub SuperblockLaw : Type 0
+SuperblockLaw = (r : Readers) (blocks : ℕ) (table map : Pxd) (old new : Pages) → IsSound r (volume_on r blocks table map old) → HasWholeFiles r old → ((p : ℕ) → p < blocks → (p ≡ 8 → ⊥) → new p ≡ old p)
+    → IsSameVolume r (volume_on r blocks table map old) (volume_on r blocks table map new)

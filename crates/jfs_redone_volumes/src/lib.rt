@@ -3,4 +3,4 @@
 
 mod law;
 
-pub use law::redo_leaves_what_the_core_redoes;
+pub use law::{redo_leaves_what_the_core_redoes, superblocks_leave_volumes};
