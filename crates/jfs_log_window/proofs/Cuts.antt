@@ -4,19 +4,19 @@ use Rattle.std.proofs.lemmas.Bool.{cases_Bool}
 use Rattle.std.proofs.Math.Seq.{take-nil}
 use Rattle.jfs_ranges.specs.declared.edit.Edit.{Edit}
 use Rattle.jfs_halves.specs.Entry.{Happened, edits}
-use Rattle.jfs_log_window.specs.Window.{logged_in}
+use Rattle.jfs_log_window.specs.Window.{committed_in}
 
 -- The longest front with k transactions, or with all where there are fewer.
 pub record IsCut (hs : List Happened) (k n : ℕ) : Type 0 where
   pub within : n ≤ length hs
-  pub are : logged_in (take n hs) ≡ take k (logged_in hs)
-  pub longest : (m : ℕ) → m ≤ length hs → length (logged_in (take m hs)) ≤ k → m ≤ n
+  pub are : committed_in (take n hs) ≡ take k (committed_in hs)
+  pub longest : (m : ℕ) → m ≤ length hs → length (committed_in (take m hs)) ≤ k → m ≤ n
 
-with_it : (h : Happened) (hs : List Happened) → h.logs ≡ true → logged_in (h ∷ hs) ≡ edits h ∷ logged_in hs
-with_it h hs e = ap (λ (b : Bool). if b then edits h ∷ logged_in hs else logged_in hs) e
+with_it : (h : Happened) (hs : List Happened) → h.logs ≡ true → committed_in (h ∷ hs) ≡ edits h ∷ committed_in hs
+with_it h hs e = ap (λ (b : Bool). if b then edits h ∷ committed_in hs else committed_in hs) e
 
-without : (h : Happened) (hs : List Happened) → h.logs ≡ false → logged_in (h ∷ hs) ≡ logged_in hs
-without h hs e = ap (λ (b : Bool). if b then edits h ∷ logged_in hs else logged_in hs) e
+without : (h : Happened) (hs : List Happened) → h.logs ≡ false → committed_in (h ∷ hs) ≡ committed_in hs
+without h hs e = ap (λ (b : Bool). if b then edits h ∷ committed_in hs else committed_in hs) e
 
 passed : (h : Happened) (hs : List Happened) (k n : ℕ) → h.logs ≡ false → IsCut hs k n → IsCut (h ∷ hs) k (suc n)
 passed h hs k n e c = record {
@@ -25,7 +25,7 @@ passed h hs k n e c = record {
   longest = most;
 }
   where
-    most : (m : ℕ) → m ≤ length (h ∷ hs) → length (logged_in (take m (h ∷ hs))) ≤ k → m ≤ suc n
+    most : (m : ℕ) → m ≤ length (h ∷ hs) → length (committed_in (take m (h ∷ hs))) ≤ k → m ≤ suc n
     most zero low few = omega arith
     most (suc m) low few = let l = c.longest m (omega (arith, low)) (omega (arith, few, ap length (without h (take m hs) e))) in omega (arith, l)
 
@@ -36,7 +36,7 @@ ended h hs e = record {
   longest = most;
 }
   where
-    most : (m : ℕ) → m ≤ length (h ∷ hs) → length (logged_in (take m (h ∷ hs))) ≤ 0 → m ≤ 0
+    most : (m : ℕ) → m ≤ length (h ∷ hs) → length (committed_in (take m (h ∷ hs))) ≤ 0 → m ≤ 0
     most zero low few = omega arith
     most (suc m) low few = absurd (omega (arith, few, ap length (with_it h (take m hs) e)))
 
@@ -47,7 +47,7 @@ more h hs k n e c = record {
   longest = most;
 }
   where
-    most : (m : ℕ) → m ≤ length (h ∷ hs) → length (logged_in (take m (h ∷ hs))) ≤ suc k → m ≤ suc n
+    most : (m : ℕ) → m ≤ length (h ∷ hs) → length (committed_in (take m (h ∷ hs))) ≤ suc k → m ≤ suc n
     most zero low few = omega arith
     most (suc m) low few = let l = c.longest m (omega (arith, low)) (omega (arith, few, ap length (with_it h (take m hs) e))) in omega (arith, l)
 

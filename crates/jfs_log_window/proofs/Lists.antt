@@ -8,7 +8,7 @@ use Rattle.jfs_records.specs.Entries.{Item, entry, point}
 use Rattle.jfs_records.specs.Laws.{IsOwn}
 use Rattle.jfs_halves.specs.Entry.{Happened, edits, items_of}
 use Rattle.jfs_log_window.specs.Events.{Event, Entered, Pointed, entries_in, count, points_in, points_from, items_from}
-use Rattle.jfs_log_window.specs.Window.{logged_in, IsEntry}
+use Rattle.jfs_log_window.specs.Window.{committed_in, IsOfEntry}
 
 pub entries-append : (xs ys : List Event) → entries_in (xs ++ ys) ≡ entries_in xs ++ entries_in ys
 entries-append [] ys = refl
@@ -45,26 +45,26 @@ items-append n (Pointed ∷ xs) ys = ap (λ (l : List Item). point 0 ∷ l) (ite
 
 -- ---- transactions
 
-pub logged-append : (xs ys : List Happened) → logged_in (xs ++ ys) ≡ logged_in xs ++ logged_in ys
+pub logged-append : (xs ys : List Happened) → committed_in (xs ++ ys) ≡ committed_in xs ++ committed_in ys
 logged-append [] ys = refl
 logged-append (h ∷ xs) ys = by h.logs (logged-append xs ys)
   where
-    by : (b : Bool) → logged_in (xs ++ ys) ≡ logged_in xs ++ logged_in ys → (if b then edits h ∷ logged_in (xs ++ ys) else logged_in (xs ++ ys)) ≡ (if b then edits h ∷ logged_in xs else logged_in xs) ++ logged_in ys
+    by : (b : Bool) → committed_in (xs ++ ys) ≡ committed_in xs ++ committed_in ys → (if b then edits h ∷ committed_in (xs ++ ys) else committed_in (xs ++ ys)) ≡ (if b then edits h ∷ committed_in xs else committed_in xs) ++ committed_in ys
     by true e = ap (λ (l : List (List Edit)). edits h ∷ l) e
     by false e = e
 
 -- the transactions that stand in the log are those of the entries that have a COMMIT
-pub logged_are : (n : ℕ) (es : List Event) → entries_of (items_from n es) ≡ logged_in (entries_in es)
+pub logged_are : (n : ℕ) (es : List Event) → entries_of (items_from n es) ≡ committed_in (entries_in es)
 logged_are n [] = refl
 logged_are n (Entered h ∷ es) = by h.logs (logged_are (suc n) es)
   where
-    by : (b : Bool) → entries_of (items_from (suc n) es) ≡ logged_in (entries_in es) → entries_of ((if b then entry (suc n) h.noted ∷ [] else []) ++ items_from (suc n) es) ≡ (if b then edits h ∷ logged_in (entries_in es) else logged_in (entries_in es))
+    by : (b : Bool) → entries_of (items_from (suc n) es) ≡ committed_in (entries_in es) → entries_of ((if b then entry (suc n) h.noted ∷ [] else []) ++ items_from (suc n) es) ≡ (if b then edits h ∷ committed_in (entries_in es) else committed_in (entries_in es))
     by true e = ap (λ (l : List (List Edit)). edits h ∷ l) e
     by false e = e
 logged_are n (Pointed ∷ es) = logged_are n es
 
-pub logged_events : (xs ys : List Event) → logged_in (entries_in (xs ++ ys)) ≡ logged_in (entries_in xs) ++ logged_in (entries_in ys)
-logged_events xs ys = ap logged_in (entries-append xs ys) ∙ logged-append (entries_in xs) (entries_in ys)
+pub logged_events : (xs ys : List Event) → committed_in (entries_in (xs ++ ys)) ≡ committed_in (entries_in xs) ++ committed_in (entries_in ys)
+logged_events xs ys = ap committed_in (entries-append xs ys) ∙ logged-append (entries_in xs) (entries_in ys)
 
 -- ---- SYNCPTs
 
@@ -79,11 +79,11 @@ all_own n (Entered h ∷ es) = by h.logs (all_own (suc n) es)
 all_own n (Pointed ∷ es) = (refl, all_own n es)
 
 -- where there is none, all that stands in the log is entries
-pub all_entries : (n : ℕ) (es : List Event) → points_in es ≡ 0 → AllByRecursion IsEntry (items_from n es)
+pub all_entries : (n : ℕ) (es : List Event) → points_in es ≡ 0 → AllByRecursion IsOfEntry (items_from n es)
 all_entries n [] none = tt
 all_entries n (Entered h ∷ es) none = by h.logs (all_entries (suc n) es none)
   where
-    by : (b : Bool) → AllByRecursion IsEntry (items_from (suc n) es) → AllByRecursion IsEntry ((if b then entry (suc n) h.noted ∷ [] else []) ++ items_from (suc n) es)
+    by : (b : Bool) → AllByRecursion IsOfEntry (items_from (suc n) es) → AllByRecursion IsOfEntry ((if b then entry (suc n) h.noted ∷ [] else []) ++ items_from (suc n) es)
     by true all = (tt, all)
     by false all = all
 all_entries n (Pointed ∷ es) none = absurd (omega (arith, none))

@@ -26,7 +26,7 @@ use Rattle.jfs_records.proofs.ReadBack.{front_after, front_back, entries_back, l
 use Rattle.jfs_halves.specs.Entry.{Happened}
 use Rattle.jfs_halves.specs.Half.{Halves}
 use Rattle.jfs_log_window.specs.Events.{Event, Pointed, entries_in, count, points_in, points_from, items_from, HasEvents}
-use Rattle.jfs_log_window.specs.Window.{logged_in, IsWindow, CommitsWindow, IsLogOfHalves, stable_text, group_text, group_ends, WindowLaw, RestLaw}
+use Rattle.jfs_log_window.specs.Window.{committed_in, IsWindow, CommitsWindow, IsLogOfHalves, stable_text, group_text, group_ends, WindowLaw, RestLaw}
 use Rattle.jfs_log_window.proofs.Lists.{entries-append, count-append, points_in-append, points-append, length-points, items-append, logged-append, logged_are, logged_events, all_own, all_entries}
 use Rattle.jfs_log_window.proofs.Cuts.{IsCut, cut}
 use Rattle.jfs_log_window.proofs.Points.{begins_at_point, IsSplit, split_at, IsLast, last_point}
@@ -56,15 +56,15 @@ behind_fits blocks (i ∷ is) post fits = behind_fits blocks is post fits.1
 
 -- Events up to the SYNCPT where redo begins, and those behind it, of which `number` transactions are found; `kept` are found at least.
 module _ (before behind : List Event) (number : ℕ) (kept : List Event) (rest : List Event) (parts : before ++ Pointed ∷ behind ≡ kept ++ rest) (new : ℕ)
-    (same : logged_in (entries_in before) ++ take number (logged_in (entries_in behind)) ≡ logged_in (entries_in kept) ++ take new (logged_in (entries_in rest))) where
+    (same : committed_in (entries_in before) ++ take number (committed_in (entries_in behind)) ≡ committed_in (entries_in kept) ++ take new (committed_in (entries_in rest))) where
   abbrev pub all : List Event
   all = kept ++ rest
 
   abbrev pub found_all : List (List Edit)
-  found_all = logged_in (entries_in kept) ++ take new (logged_in (entries_in rest))
+  found_all = committed_in (entries_in kept) ++ take new (committed_in (entries_in rest))
 
   abbrev pub total : ℕ
-  total = length (logged_in (entries_in kept)) + new
+  total = length (committed_in (entries_in kept)) + new
 
   abbrev pub cut_is : (n : ℕ) × IsCut (entries_in all) total n
   cut_is = cut (entries_in all) total
@@ -72,15 +72,15 @@ module _ (before behind : List Event) (number : ℕ) (kept : List Event) (rest :
   abbrev pub n : ℕ
   n = cut_is.0
 
-  front_is : logged_in (take n (entries_in all)) ≡ found_all
-  front_is = cut_is.1.are ∙ ap (take total) (logged_events kept rest) ∙ take-append-add (logged_in (entries_in kept)) (logged_in (entries_in rest)) new
+  front_is : committed_in (take n (entries_in all)) ≡ found_all
+  front_is = cut_is.1.are ∙ ap (take total) (logged_events kept rest) ∙ take-append-add (committed_in (entries_in kept)) (committed_in (entries_in rest)) new
 
   few : length found_all ≤ total
-  few = let l = length-append (logged_in (entries_in kept)) (take new (logged_in (entries_in rest))) in let t = length-take new (logged_in (entries_in rest)) in omega (arith, l, t)
+  few = let l = length-append (committed_in (entries_in kept)) (take new (committed_in (entries_in rest))) in let t = length-take new (committed_in (entries_in rest)) in omega (arith, l, t)
 
   pub kept_there : count kept ≤ n
   kept_there = cut_is.1.longest (count kept) (omega (arith, count-append kept rest))
-      (let e = ap (λ (l : List Happened). length (logged_in l)) (ap (take (count kept)) (entries-append kept rest) ∙ take-append_seam (entries_in kept) (entries_in rest)) in omega (arith, e))
+      (let e = ap (λ (l : List Happened). length (committed_in l)) (ap (take (count kept)) (entries-append kept rest) ∙ take-append_seam (entries_in kept) (entries_in rest)) in omega (arith, e))
 
   pub within : n ≤ count all
   within = cut_is.1.within
@@ -90,8 +90,8 @@ module _ (before behind : List Event) (number : ℕ) (kept : List Event) (rest :
 
   pub begun : count before ≤ n
   begun = cut_is.1.longest (count before) (omega (arith, ap length entries_are, length-append (entries_in before) (entries_in behind)))
-      (let e = ap (λ (l : List Happened). length (logged_in l)) (ap (take (count before)) entries_are ∙ take-append_seam (entries_in before) (entries_in behind)) in
-      let f = ap length same in omega (arith, e, f, few, length-append (logged_in (entries_in before)) (take number (logged_in (entries_in behind)))))
+      (let e = ap (λ (l : List Happened). length (committed_in l)) (ap (take (count before)) entries_are ∙ take-append_seam (entries_in before) (entries_in behind)) in
+      let f = ap length same in omega (arith, e, f, few, length-append (committed_in (entries_in before)) (take number (committed_in (entries_in behind)))))
 
   abbrev later : ℕ
   later = n - count before
@@ -99,10 +99,10 @@ module _ (before behind : List Event) (number : ℕ) (kept : List Event) (rest :
   split : take n (entries_in all) ≡ entries_in before ++ take later (entries_in behind)
   split = let sum : n ≡ count before + later = omega (arith, begun) in ap (take n) entries_are ∙ ap (λ (k : ℕ). take k (entries_in before ++ entries_in behind)) sum ∙ take-append-add (entries_in before) (entries_in behind) later
 
-  pub window_is : logged_in (drop (count before) (take n (entries_in all))) ≡ take number (logged_in (entries_in behind))
-  window_is = ap (λ (l : List Happened). logged_in (drop (count before) l)) split ∙ ap logged_in (drop-append_seam (entries_in before) (take later (entries_in behind)))
-      ∙ append_cancel_left (logged_in (entries_in before)) (logged_in (take later (entries_in behind))) (take number (logged_in (entries_in behind)))
-      (sym (logged-append (entries_in before) (take later (entries_in behind))) ∙ ap logged_in (sym split) ∙ front_is ∙ sym same)
+  pub window_is : committed_in (drop (count before) (take n (entries_in all))) ≡ take number (committed_in (entries_in behind))
+  window_is = ap (λ (l : List Happened). committed_in (drop (count before) l)) split ∙ ap committed_in (drop-append_seam (entries_in before) (take later (entries_in behind)))
+      ∙ append_cancel_left (committed_in (entries_in before)) (committed_in (take later (entries_in behind))) (take number (committed_in (entries_in behind)))
+      (sym (logged-append (entries_in before) (take later (entries_in behind))) ∙ ap committed_in (sym split) ∙ front_is ∙ sym same)
 
 -- ---- the log of halves
 
@@ -239,10 +239,10 @@ module _ (ring blocks high : ℕ) (log : Image) (front : List ℕ) (both : Halve
   more : (n : ℕ) × (n ≤ length (entries_of group)) × (committed (written ++ take k.0 new) ≡ entries_of (point 0 ∷ since) ++ take n (entries_of group))
   more = front_after ring place (point 0 ∷ since) group k.0
 
-  post_is : entries_of b.post ≡ logged_in (entries_in events.behind)
+  post_is : entries_of b.post ≡ committed_in (entries_in events.behind)
   post_is = ap entries_of head.1 ∙ ap entries_of (sym events.rest_is) ∙ logged_are (count newest.before + count events.before) events.behind
 
-  group_is : entries_of group ≡ logged_in (entries_in grouped)
+  group_is : entries_of group ≡ committed_in (entries_in grouped)
   group_is = ap entries_of e.group ∙ logged_are (count stable) grouped
 
   -- before the SYNCPT where redo begins
@@ -255,21 +255,21 @@ module _ (ring blocks high : ℕ) (log : Image) (front : List ℕ) (both : Halve
   both_ways : entries_of b.pre ++ take number.0 (entries_of b.post) ≡ entries_of (point 0 ∷ since) ++ take more.0 (entries_of group)
   both_ways = ap (λ (l : List (List Edit)). entries_of b.pre ++ l) (sym number.2) ∙ sym (entries_back ring place b.pre rs) ∙ ap committed (sym b.are) ∙ more.2
 
-  same : logged_in (entries_in before) ++ take number.0 (logged_in (entries_in events.behind)) ≡ logged_in (entries_in stable) ++ take more.0 (logged_in (entries_in grouped))
+  same : committed_in (entries_in before) ++ take number.0 (committed_in (entries_in events.behind)) ≡ committed_in (entries_in stable) ++ take more.0 (committed_in (entries_in grouped))
   same =
-      ap (λ (l : List (List Edit)). l ++ take number.0 (logged_in (entries_in events.behind))) (logged_events newest.before events.before)
-      ∙ append_assoc (logged_in (entries_in newest.before)) (logged_in (entries_in events.before)) (take number.0 (logged_in (entries_in events.behind)))
-      ∙ ap (λ (l : List (List Edit)). logged_in (entries_in newest.before) ++ l) middle
-      ∙ sym (append_assoc (logged_in (entries_in newest.before)) (logged_in (entries_in newest.behind)) (take more.0 (logged_in (entries_in grouped))))
-      ∙ ap (λ (l : List (List Edit)). l ++ take more.0 (logged_in (entries_in grouped))) (sym (ap (λ (l : List Event). logged_in (entries_in l)) newest.parts ∙ logged_events newest.before (Pointed ∷ newest.behind)))
+      ap (λ (l : List (List Edit)). l ++ take number.0 (committed_in (entries_in events.behind))) (logged_events newest.before events.before)
+      ∙ append_assoc (committed_in (entries_in newest.before)) (committed_in (entries_in events.before)) (take number.0 (committed_in (entries_in events.behind)))
+      ∙ ap (λ (l : List (List Edit)). committed_in (entries_in newest.before) ++ l) middle
+      ∙ sym (append_assoc (committed_in (entries_in newest.before)) (committed_in (entries_in newest.behind)) (take more.0 (committed_in (entries_in grouped))))
+      ∙ ap (λ (l : List (List Edit)). l ++ take more.0 (committed_in (entries_in grouped))) (sym (ap (λ (l : List Event). committed_in (entries_in l)) newest.parts ∙ logged_events newest.before (Pointed ∷ newest.behind)))
     where
-      middle : logged_in (entries_in events.before) ++ take number.0 (logged_in (entries_in events.behind)) ≡ logged_in (entries_in newest.behind) ++ take more.0 (logged_in (entries_in grouped))
+      middle : committed_in (entries_in events.before) ++ take number.0 (committed_in (entries_in events.behind)) ≡ committed_in (entries_in newest.behind) ++ take more.0 (committed_in (entries_in grouped))
       middle =
-          ap (λ (l : List (List Edit)). l ++ take number.0 (logged_in (entries_in events.behind))) (sym (ap entries_of (sym events.pre_is) ∙ logged_are (count newest.before) events.before))
+          ap (λ (l : List (List Edit)). l ++ take number.0 (committed_in (entries_in events.behind))) (sym (ap entries_of (sym events.pre_is) ∙ logged_are (count newest.before) events.before))
           ∙ ap (λ (l : List (List Edit)). entries_of b.pre ++ take number.0 l) (sym post_is)
           ∙ both_ways
           ∙ ap (λ (l : List (List Edit)). l ++ take more.0 (entries_of group)) (logged_are (count newest.before) newest.behind)
-          ∙ ap (λ (l : List (List Edit)). logged_in (entries_in newest.behind) ++ take more.0 l) group_is
+          ∙ ap (λ (l : List (List Edit)). committed_in (entries_in newest.behind) ++ take more.0 l) group_is
 
   abbrev upto : ℕ
   upto = (cut_is before events.behind number.0 stable grouped parts more.0 same).0
@@ -306,7 +306,7 @@ module _ (ring blocks high : ℕ) (log : Image) (front : List ℕ) (both : Halve
     n = upto;
     window = is_window;
     are = ap committed here.are ∙ number.2 ∙ ap (take number.0) post_is ∙ sym (window_is before events.behind number.0 stable grouped parts more.0 same)
-        ∙ ap (λ (l : List Happened). logged_in (drop (count before) l)) (sym (ap (take upto) (e.history ∙ ap entries_in (sym (append_assoc stable grouped waiting)) ∙ entries-append (stable ++ grouped) waiting)
+        ∙ ap (λ (l : List Happened). committed_in (drop (count before) l)) (sym (ap (take upto) (e.history ∙ ap entries_in (sym (append_assoc stable grouped waiting)) ∙ entries-append (stable ++ grouped) waiting)
         ∙ take-append-le upto (entries_in (stable ++ grouped)) (entries_in waiting) all_within));
   }
 

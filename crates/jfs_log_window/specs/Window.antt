@@ -16,9 +16,9 @@ use Rattle.jfs_halves.specs.Half.{Halves, LogHalf}
 use Rattle.jfs_log_window.specs.Events.{HaveEvents}
 
 -- the transactions of entries, of those that have a COMMIT in the log
-abbrev pub logged_in : List Happened → List (List Edit)
-logged_in [] = []
-logged_in (h ∷ hs) = if h.logs then edits h ∷ logged_in hs else logged_in hs
+abbrev pub committed_in : List Happened → List (List Edit)
+committed_in [] = []
+committed_in (h ∷ hs) = if h.logs then edits h ∷ committed_in hs else committed_in hs
 
 -- Redo begins behind a sync count: the last one that is stable, or one that was taken since. It ends behind entry n: all durable entries are among the first n, and groups have taken them all.
 pub record IsWindow (both : Halves) (c n : ℕ) : Type 0 where
@@ -37,17 +37,17 @@ pub record CommitsWindow (ring blocks : ℕ) (log : Image) (both : Halves) : Typ
   pub c : ℕ
   pub n : ℕ
   pub window : IsWindow both c n
-  pub are : committed (map (λ x. x.is) (m ∷ ms)) ≡ logged_in (drop c (take n both.volume.history))
+  pub are : committed (map (λ x. x.is) (m ∷ ms)) ≡ committed_in (drop c (take n both.volume.history))
 
 -- ---- when it does
 
-abbrev pub IsEntry : Item → Type 0
-IsEntry (entry number tx) = ⊤
-IsEntry (point sync) = ⊥
+abbrev pub IsOfEntry : Item → Type 0
+IsOfEntry (entry number tx) = ⊤
+IsOfEntry (point sync) = ⊥
 
 -- From the newest SYNCPT that is stable on, the text touches half the ring at most, with what a group has taken.
 abbrev pub FitsHalfRing : ℕ → LogHalf → Type 0
-FitsHalfRing ring log = (pre post : List Item) → log.items ≡ pre ++ point 0 ∷ post → AllByRecursion IsEntry post → pages_of (text_size (point 0 ∷ post) + text_size log.group) ≤ ring / 2
+FitsHalfRing ring log = (pre post : List Item) → log.items ≡ pre ++ point 0 ∷ post → AllByRecursion IsOfEntry post → pages_of (text_size (point 0 ∷ post) + text_size log.group) ≤ ring / 2
 
 -- the text that is stable, behind what stood in the ring before the mount; and that of the group behind it
 abbrev pub stable_text : ℕ → List ℕ → LogHalf → List ℕ
