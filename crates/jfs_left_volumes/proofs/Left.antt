@@ -20,7 +20,7 @@ use Rattle.jfs_left_volumes.specs.Left.{LeftLaw}
 use Rattle.jfs_left_volumes.proofs.Quiet.{quiet-take, quiet-drop, redone_same}
 
 -- a window of the halves is one of their core
-log_image : (f : Face) (both : Halves) (core : Core) (c n : ℕ) → IsCoreOf f both core → IsWindow both c n → IsLogImage core c n
+pub log_image : (f : Face) (both : Halves) (core : Core) (c n : ℕ) → IsCoreOf f both core → IsWindow both c n → IsLogImage core c n
 log_image f both core c n is w = record {
   place = (
     w.place.0,
@@ -32,7 +32,7 @@ log_image f both core c n is w = record {
   taken = omega (arith, w.taken, is.taken);
 }
 
-window_is : (f : Face) (both : Halves) (core : Core) (c n : ℕ) → IsCoreOf f both core → map edits (drop c (take n both.volume.history)) ≡ window core c n
+pub window_is : (f : Face) (both : Halves) (core : Core) (c n : ℕ) → IsCoreOf f both core → map edits (drop c (take n both.volume.history)) ≡ window core c n
 window_is f both core c n is = sym (drop-map edits c (take n both.volume.history)) ∙ ap (drop c) (sym (take-map edits n both.volume.history) ∙ ap (take n) (sym is.history))
 
 pub left_law : LeftLaw
