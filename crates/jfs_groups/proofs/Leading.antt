@@ -113,7 +113,12 @@ module _ {V L E : Type 0} where
       ap (λ (x : View E). x.durable) is ∙ (max_is m'.0.durable m'.0.log_durable (omega (arith, b.1, own)) ∙ sym (ap (λ (x : View E). x.log_durable) is)),
       ap (λ (x : View E). x.stable) is ∙ (max_is (max m'.0.stable k) (max m'.0.log_stable k) small ∙ sym (ap (λ (x : View E). x.log_stable) is)),
     ),
-    (ap (λ (x : View E). x.log_durable) is ∙ own, ap (λ (x : View E). x.log_stable) is ∙ (stays_greater m'.0.log_stable k (omega (arith, few, own_stable)) ∙ own_stable)),
+    (
+      ap (λ (x : View E). x.log_durable) is ∙ own,
+      ap (λ (x : View E). x.log_stable) is ∙ (stays_greater m'.0.log_stable k (omega (arith, few, own_stable)) ∙ own_stable),
+      ap (λ (x : View E). x.log_list) is ∙ ap (λ (x : View E). x.log_list) l.0,
+      subst (λ (qs : List ℕ). IsPrefix m.0.log_points qs) (sym (ap (λ (x : View E). x.log_points) is)) (subst (λ (qs : List ℕ). IsPrefix qs ps) (sym b.4) more),
+    ),
   )
     where
       b : (m'.0.taken ≡ m.0.taken) × (m'.0.durable ≡ m.0.log_durable) × (m'.0.stable ≡ m.0.log_stable) × IsPrefix m.0.log_list m'.0.list × (m.0.log_points ≡ m'.0.points)

@@ -1,23 +1,24 @@
 -- What a log side stands for, before and after a group.
-use Rattle.std.proofs.Common.{◌≡◌, ◌≤◌, ℕ, ◌+◌, ◌*◌, ◌^◌, List, ◌++◌, length, take, drop, Option, Some, None, refl, sym, ap, subst, ◌∙◌, arith, inl, inr}
+use Rattle.std.proofs.Common.{◌≡◌, ◌≤◌, ℕ, ◌+◌, ◌*◌, ◌^◌, List, [], ◌∷◌, ◌++◌, length, take, drop, Option, Some, None, refl, sym, ap, subst, ◌∙◌, arith, append_assoc, append-nil, inl, inr}
 use Rattle.std.proofs.lemmas.List.{length-append}
 use Rattle.std.proofs.Math.Seq.{take-append_seam, drop-append_seam}
+use Rattle.jfs_disk.specs.Crash.{PageHistory, DiskState, IsCrashPage, last_of, Leaves}
 use Rattle.jfs_disk.specs.declared.disk.Fault.{Fault}
 use Rattle.jfs_logpages.specs.declared.group_text.GroupText.{GroupText}
 use Rattle.jfs_logpages.specs.Group.{pages_of, room_of, position_of}
-use Rattle.jfs_logpages.specs.Records.{log_text}
+use Rattle.jfs_logpages.specs.Records.{log_text, ends_of}
 use Rattle.jfs_records.specs.Records.{Noted}
-use Rattle.jfs_records.specs.Entries.{log_records}
+use Rattle.jfs_records.specs.Entries.{Item, point, log_records}
 use Rattle.jfs_records.proofs.ReadBack.{length-items}
 use Rattle.jfs_turns.specs.Lists.{IsPrefix}
 use Rattle.jfs_groups.specs.Points.{syncs}
 use Rattle.jfs_groups.specs.Start.{LogStart, Grows}
-use Rattle.jfs_groups.specs.Text.{items_from, end_of}
-use Rattle.jfs_groups.specs.Log.{LogData, IsRunning, LogStandsFor, FreshStands}
+use Rattle.jfs_groups.specs.Text.{AreCounts, FrontOf, HoldsText, text_with, items_from, items_with, end_of}
+use Rattle.jfs_groups.specs.Log.{LogData, IsRunning, IsLost, LogStandsFor, FreshStands}
 use Rattle.jfs_groups.specs.Group.{IsGroupOf}
 use Rattle.jfs_groups.specs.Written.{IsGroupWritten, IsGroupLost}
 use Rattle.jfs_groups.proofs.Counts.{rose_on}
-use Rattle.jfs_groups.proofs.Text.{end_grows, grown, fresh_holds}
+use Rattle.jfs_groups.proofs.Text.{higher, counted, all_more, all_point, end_grows, front_left, grown, fresh_holds}
 
 none_some : (f : Fault) → ◌≡◌ {A = Option Fault} None (Some f) → ⊥
 none_some f e = absurd (cc)
@@ -27,6 +28,7 @@ module _ {E : Type 0} (logs : E → Option (List Noted)) (tells crashes : Type 0
   record Follows (ring : ℕ) (l : LogData) (list more : List E) (points : ℕ) (group : GroupText) : Type 0 where
     pub last : group.last ≡ length (list ++ more)
     pub bytes : group.bytes.items ≡ log_text (log_records ring (position_of l.last) (items_from logs (length list) more))
+    pub ends : group.ends.items ≡ ends_of 0 (log_records ring (position_of l.last) (items_from logs (length list) more))
     pub room : pages_of (length group.bytes.items) ≤ room_of ring
     pub place : position_of l.last + length group.bytes.items ≡ end_of logs ring (list ++ more) points
     pub numbers : end_of logs ring (list ++ more) points ≤ 4080 * 2 ^ 32
@@ -35,6 +37,7 @@ module _ {E : Type 0} (logs : E → Option (List Noted)) (tells crashes : Type 0
   follows ring l list more taken durable points stable group r g = record {
     last = g.last;
     bytes = bytes;
+    ends = ends;
     room = g.room;
     place = omega (arith, r.place, ap (λ (b : List ℕ). length b) bytes, length-items ring (position_of l.last) (items_from logs (length list) more), end_grows logs ring (syncs points) list more);
     numbers = g.numbers;
@@ -56,6 +59,11 @@ module _ {E : Type 0} (logs : E → Option (List Noted)) (tells crashes : Type 0
       bytes = g.bytes ∙ ap (λ (at : ℕ). log_text (log_records ring at (items_from logs taken (drop taken (list ++ more))))) place
           ∙ ap (λ (es : List E). log_text (log_records ring (position_of l.last) (items_from logs taken es))) rest
           ∙ ap (λ (k : ℕ). log_text (log_records ring (position_of l.last) (items_from logs k more))) is
+
+      ends : group.ends.items ≡ ends_of 0 (log_records ring (position_of l.last) (items_from logs (length list) more))
+      ends = g.ends ∙ ap (λ (at : ℕ). ends_of 0 (log_records ring at (items_from logs taken (drop taken (list ++ more))))) place
+          ∙ ap (λ (es : List E). ends_of 0 (log_records ring (position_of l.last) (items_from logs taken es))) rest
+          ∙ ap (λ (k : ℕ). ends_of 0 (log_records ring (position_of l.last) (items_from logs k more))) is
 
   -- the conditions of the write
   pub may_write : (start : LogStart) (l : LogData) (list whole : List E) (taken durable : ℕ) (points : List ℕ) (stable : ℕ) (group : GroupText) → IsPrefix list whole → LogStandsFor logs tells crashes start l list taken durable points stable → l.halted ≡ None → IsGroupOf logs start.ring whole taken (syncs points) group
@@ -85,9 +93,11 @@ module _ {E : Type 0} (logs : E → Option (List Noted)) (tells crashes : Type 0
           unmarked = r.unmarked;
           stable_all = r.stable_all;
           place = w.place ∙ f.place;
-          holds = λ t. grown logs start.ring (syncs points) list pre.0 l.last m.last l.image m.image group.bytes.items f.bytes (r.holds t) (w.holds t);
+          holds = λ t. grown logs start.ring points list pre.0 l.last m.last l.image m.image group.bytes.items f.bytes (r.holds t) (w.holds t);
           resting = λ k. w.resting k (r.resting k);
         };
+        super = λ t k page crash. s.super t k page (subst (λ (h : PageHistory). IsCrashPage h page) (w.super k (r.resting k)) crash);
+        lost = λ t k fault e. absurd (none_some fault (sym w.runs ∙ e));
         halts = λ fault e. absurd (none_some fault (sym w.runs ∙ e));
       })
     where
@@ -97,9 +107,90 @@ module _ {E : Type 0} (logs : E → Option (List Noted)) (tells crashes : Type 0
       f : Follows start.ring l list pre.0 (syncs points) group
       f = follows start.ring l list pre.0 taken durable points stable group r (subst (λ (es : List E). IsGroupOf logs start.ring es taken (syncs points) group) (sym pre.1) g)
 
-  -- one that isn't: the counts are as they were, whatever the lists are
-  pub lost_stands : (start : LogStart) (l m : LogData) (list other : List E) (taken more durable : ℕ) (points others : List ℕ) (stable : ℕ) (fault : Fault) → LogStandsFor logs tells crashes start l list taken durable points stable → IsGroupLost fault l m → LogStandsFor logs tells crashes start m other more durable others stable
-  lost_stands start l m list other taken more durable points others stable fault s lost = record {
+  -- ---- one that isn't
+
+  -- what is lost stays so where more entries and syncpoints are known
+  pub more_lost : (ring : ℕ) (past : List DiskState) (list other : List E) (durable : ℕ) (points others : List ℕ) (stable : ℕ) → IsPrefix list other → IsPrefix points others → IsLost logs ring past list durable points stable → IsLost logs ring past other durable others stable
+  more_lost ring past list other durable points others stable es ps lost = record {
+    entries = lost.entries;
+    counts = lost.counts;
+    entries_are = onward lost.entries list other lost.entries_are es;
+    counts_are = onward lost.counts points others lost.counts_are ps;
+    placed = lost.placed;
+    durable_within = lost.durable_within;
+    stable_within = lost.stable_within;
+    group = lost.group;
+    all = lost.all;
+    leaves = lost.leaves;
+  }
+    where
+      onward : {A : Type 0} (xs ys zs : List A) → IsPrefix xs ys → IsPrefix ys zs → IsPrefix xs zs
+      onward {A} xs ys zs a b = (a.0 ++ b.0, sym (append_assoc xs a.0 b.0) ∙ ap (λ (l : List A). l ++ b.0) a.1 ∙ b.1)
+
+  -- a group behind all that is stable
+  pub lost_behind : (ring : ℕ) (past : List DiskState) (list more : List E) (durable : ℕ) (points counts : List ℕ) (stable : ℕ) (group : List Item) → durable ≡ length list → stable ≡ length points → AreCounts 0 (length (list ++ more)) (points ++ counts)
+      → items_with logs 0 (list ++ more) (points ++ counts) ≡ items_with logs 0 list points ++ group → Leaves (FrontOf ring (items_with logs 0 list points) group) (last_of past) → IsLost logs ring past (list ++ more) durable (points ++ counts) stable
+  lost_behind ring past list more durable points counts stable group all_durable all_stable placed all leaves = record {
+    entries = list ++ more;
+    counts = points ++ counts;
+    entries_are = ([], append-nil (list ++ more));
+    counts_are = ([], append-nil (points ++ counts));
+    placed = placed;
+    durable_within = omega (arith, all_durable, length-append list more);
+    stable_within = omega (arith, all_stable, length-append points counts);
+    group = group;
+    all = all ∙ ap (λ (is : List Item). is ++ group) (sym same);
+    leaves = subst (λ (is : List Item). Leaves (FrontOf ring is group) (last_of past)) (sym same) leaves;
+  }
+    where
+      same : items_with logs 0 (take durable (list ++ more)) (take stable (points ++ counts)) ≡ items_with logs 0 list points
+      same = ap (λ (k : ℕ). items_with logs 0 (take k (list ++ more)) (take stable (points ++ counts))) all_durable
+          ∙ ap (λ (es : List E). items_with logs 0 es (take stable (points ++ counts))) (take-append_seam list more)
+          ∙ ap (λ (k : ℕ). items_with logs 0 list (take k (points ++ counts))) all_stable
+          ∙ ap (λ (ps : List ℕ). items_with logs 0 list ps) (take-append_seam points counts)
+
+  -- of entries
+  pub group_lost : (start : LogStart) (l m : LogData) (list whole : List E) (taken durable : ℕ) (points : List ℕ) (stable : ℕ) (group : GroupText) (fault : Fault) → IsPrefix list whole → LogStandsFor logs tells crashes start l list taken durable points stable → l.halted ≡ None
+      → IsGroupOf logs start.ring whole taken (syncs points) group → IsGroupLost tells crashes group fault l m → tells → crashes → IsLost logs start.ring m.past whole durable points stable
+  group_lost start l m list whole taken durable points stable group fault pre s runs g lost t k =
+      subst {A = List E × List ℕ} (λ z. IsLost logs start.ring m.past z.0 durable z.1 stable) (λ i. (pre.1 i, append-nil points i))
+      (lost_behind start.ring m.past list pre.0 durable points [] stable (items_from logs (length list) pre.0) r.durable_all r.stable_all
+      (subst (λ (ps : List ℕ). AreCounts 0 (length (list ++ pre.0)) ps) (sym (append-nil points)) (higher 0 (length list) (length (list ++ pre.0)) points (omega (arith, length-append list pre.0)) h.counts))
+      (ap (λ (ps : List ℕ). items_with logs 0 (list ++ pre.0) ps) (append-nil points) ∙ all_more logs list pre.0 points h.counts)
+      (front_left logs start.ring (items_with logs 0 list points) (items_from logs (length list) pre.0) l.last h.ends l.image group.bytes.items group.ends.items (last_of m.past) s.ring h.holds f.bytes f.ends
+      (lost.leaves t k (text_with start.ring (items_with logs 0 list points)) h.ends h.holds (r.resting k))))
+    where
+      r : IsRunning logs tells crashes start.ring l list taken durable points stable
+      r = s.runs runs
+
+      f : Follows start.ring l list pre.0 (syncs points) group
+      f = follows start.ring l list pre.0 taken durable points stable group r (subst (λ (es : List E). IsGroupOf logs start.ring es taken (syncs points) group) (sym pre.1) g)
+
+      h : HoldsText logs start.ring list points l.last l.image
+      h = r.holds t
+
+  -- or of one syncpoint more
+  pub point_lost : (start : LogStart) (l m : LogData) (list : List E) (taken durable : ℕ) (points : List ℕ) (stable : ℕ) (group : GroupText) (fault : Fault) → LogStandsFor logs tells crashes start l list taken durable points stable → l.halted ≡ None
+      → group.bytes.items ≡ log_text (log_records start.ring (position_of l.last) (point 0 ∷ [])) → group.ends.items ≡ ends_of 0 (log_records start.ring (position_of l.last) (point 0 ∷ [])) → IsGroupLost tells crashes group fault l m
+      → tells → crashes → IsLost logs start.ring m.past list durable (points ++ length list ∷ []) stable
+  point_lost start l m list taken durable points stable group fault s runs bytes ends lost t k =
+      subst (λ (es : List E). IsLost logs start.ring m.past es durable (points ++ length list ∷ []) stable) (append-nil list)
+      (lost_behind start.ring m.past list [] durable points (length list ∷ []) stable (point 0 ∷ []) r.durable_all r.stable_all
+      (subst (λ (es : List E). AreCounts 0 (length es) (points ++ length list ∷ [])) (sym (append-nil list)) (counted 0 (length list) points h.counts))
+      (ap (λ (es : List E). items_with logs 0 es (points ++ length list ∷ [])) (append-nil list) ∙ all_point logs list points h.counts)
+      (front_left logs start.ring (items_with logs 0 list points) (point 0 ∷ []) l.last h.ends l.image group.bytes.items group.ends.items (last_of m.past) s.ring h.holds bytes ends
+      (lost.leaves t k (text_with start.ring (items_with logs 0 list points)) h.ends h.holds (r.resting k))))
+    where
+      r : IsRunning logs tells crashes start.ring l list taken durable points stable
+      r = s.runs runs
+
+      h : HoldsText logs start.ring list points l.last l.image
+      h = r.holds t
+
+  -- the counts are as they were, whatever else is known
+  pub lost_stands : (start : LogStart) (l m : LogData) (list other : List E) (taken more durable : ℕ) (points others : List ℕ) (stable : ℕ) (group : GroupText) (fault : Fault) → LogStandsFor logs tells crashes start l list taken durable points stable → l.halted ≡ None → IsGroupLost tells crashes group fault l m
+      → (tells → crashes → IsLost logs start.ring m.past other durable others stable) → LogStandsFor logs tells crashes start m other more durable others stable
+  lost_stands start l m list other taken more durable points others stable group fault s runs lost leaves = record {
     ring = lost.ring ∙ s.ring;
     pages = lost.pages ∙ s.pages;
     few = s.few;
@@ -107,15 +198,18 @@ module _ {E : Type 0} (logs : E → Option (List Noted)) (tells crashes : Type 0
     count = lost.durable ∙ s.count;
     stable = lost.points ∙ s.stable;
     runs = λ e. absurd (none_some fault (sym e ∙ lost.halts));
+    super = λ t k page crash. let r = s.runs runs in s.super t k page (subst (λ (h : PageHistory). IsCrashPage h page) (lost.super k (r.resting k)) crash);
+    lost = λ t k _ _. leaves t k;
     halts = λ f e. (sym (same fault f (sym lost.halts ∙ e)) ∙ lost.is, rose_on start.faults l.faults m.faults s.few s.faults lost.rose);
   }
     where
       same : (a b : Fault) → ◌≡◌ {A = Option Fault} (Some a) (Some b) → a ≡ b
       same a b e = cc
 
-  -- a log that has halted stands for any lists, with its counts
-  pub halted_stands_for : (start : LogStart) (l : LogData) (list other : List E) (taken more durable : ℕ) (points others : List ℕ) (stable : ℕ) (fault : Fault) → l.halted ≡ Some fault → LogStandsFor logs tells crashes start l list taken durable points stable → LogStandsFor logs tells crashes start l other more durable others stable
-  halted_stands_for start l list other taken more durable points others stable fault halts s = record {
+  -- a log that has halted stands for longer lists, with its counts
+  pub halted_stands_for : (start : LogStart) (l : LogData) (list other : List E) (taken more durable : ℕ) (points others : List ℕ) (stable : ℕ) (fault : Fault) → l.halted ≡ Some fault → IsPrefix list other → IsPrefix points others
+      → LogStandsFor logs tells crashes start l list taken durable points stable → LogStandsFor logs tells crashes start l other more durable others stable
+  halted_stands_for start l list other taken more durable points others stable fault halts longer further s = record {
     ring = s.ring;
     pages = s.pages;
     few = s.few;
@@ -123,11 +217,13 @@ module _ {E : Type 0} (logs : E → Option (List Noted)) (tells crashes : Type 0
     count = s.count;
     stable = s.stable;
     runs = λ e. absurd (none_some fault (sym e ∙ halts));
+    super = s.super;
+    lost = λ t k f e. more_lost start.ring l.past list other durable points others stable longer further (s.lost t k f e);
     halts = s.halts;
   }
 
   pub fresh : FreshStands logs tells crashes
-  fresh start log ends ring pages faults few place none none_stable runs holds resting = record {
+  fresh start log ends ring pages faults few place none none_stable runs holds resting super = record {
     ring = ring;
     pages = pages;
     few = few;
@@ -135,5 +231,7 @@ module _ {E : Type 0} (logs : E → Option (List Noted)) (tells crashes : Type 0
     count = none;
     stable = none_stable;
     runs = λ _. record { taken_all = refl; durable_all = refl; unmarked = refl; stable_all = refl; place = omega (arith, place); holds = λ t. fresh_holds logs start.ring log.last ends log.image (holds t); resting = resting };
+    super = super;
+    lost = λ t k fault e. absurd (none_some fault (sym runs ∙ e));
     halts = λ fault e. absurd (none_some fault (sym runs ∙ e));
   }

@@ -2,7 +2,7 @@
 use Rattle.std.specs.Prelude.{◌≡◌, ◌≤◌, ◌⊎◌, ℕ, ◌*◌, ◌^◌, List, [], ◌∷◌, ◌++◌, length, take, drop, Option}
 use Rattle.jfs_logpages.specs.declared.group_text.GroupText.{GroupText}
 use Rattle.jfs_logpages.specs.Group.{pages_of, room_of}
-use Rattle.jfs_logpages.specs.Records.{log_text}
+use Rattle.jfs_logpages.specs.Records.{log_text, ends_of}
 use Rattle.jfs_records.specs.Records.{Noted}
 use Rattle.jfs_records.specs.Entries.{log_records}
 use Rattle.jfs_turns.specs.Standing.{Standing}
@@ -14,6 +14,7 @@ use Rattle.jfs_groups.specs.Text.{items_from, end_of}
 pub record IsGroupOf {E : Type 0} (logs : E → Option (List Noted)) (ring : ℕ) (list : List E) (taken points : ℕ) (group : GroupText) : Type 0 where
   pub last : group.last ≡ length list
   pub bytes : group.bytes.items ≡ log_text (log_records ring (end_of logs ring (take taken list) points) (items_from logs taken (drop taken list)))
+  pub ends : group.ends.items ≡ ends_of 0 (log_records ring (end_of logs ring (take taken list) points) (items_from logs taken (drop taken list)))
   pub room : pages_of (length group.bytes.items) ≤ room_of ring
   pub numbers : end_of logs ring list points ≤ 4080 * 2 ^ 32
 

@@ -1,8 +1,8 @@
 -- When the log side stands for a list of entries and for syncpoints.
-use Rattle.std.specs.Prelude.{◌≡◌, ◌<◌, ℕ, ◌+◌, ◌-◌, ◌*◌, ◌^◌, List, [], length, false, Option, Some, None}
+use Rattle.std.specs.Prelude.{◌≡◌, ◌<◌, ◌≤◌, ℕ, ◌+◌, ◌-◌, ◌*◌, ◌^◌, ◌++◌, List, [], length, take, false, Option, Some, None}
 use Rattle.jfs_bits.specs.Count.{Rose}
 use Rattle.jfs_disk.specs.Image.{Image}
-use Rattle.jfs_disk.specs.Crash.{DiskState, last_of}
+use Rattle.jfs_disk.specs.Crash.{DiskState, IsCrashPage, history_of, last_of, Leaves}
 use Rattle.jfs_disk.specs.Moment.{IsResting}
 use Rattle.jfs_disk.specs.declared.disk.Fault.{Fault}
 use Rattle.jfs_disk.specs.declared.disk.Part.TheVariants.{High}
@@ -13,11 +13,12 @@ use Rattle.jfs_logpages.specs.Fresh.{first_record}
 use Rattle.jfs_logpages.specs.Group.{Holds, position_of}
 use Rattle.jfs_logpages.specs.Ring.{fresh_text}
 use Rattle.jfs_records.specs.Records.{Noted}
-use Rattle.jfs_turns.specs.Lists.{Base}
+use Rattle.jfs_records.specs.Entries.{Item}
+use Rattle.jfs_turns.specs.Lists.{Base, IsPrefix}
 use Rattle.jfs_turns.specs.Standing.{Standing}
 use Rattle.jfs_groups.specs.Points.{is_marked, syncs}
 use Rattle.jfs_groups.specs.Start.{LogStart, Grows}
-use Rattle.jfs_groups.specs.Text.{HoldsText, end_of}
+use Rattle.jfs_groups.specs.Text.{AreCounts, FrontOf, HoldsText, items_with, end_of}
 use Rattle.jfs_groups.specs.declared.log.SharedLog.{SharedLog}
 
 -- What a log side has: what a read of its part gives, the states of the part, how many pages it has, and how often a call of it failed; its last page, its counts, and the fault by which it halted.
@@ -51,8 +52,22 @@ module _ {E : Type 0} (logs : E → Option (List Noted)) where
     pub unmarked : is_marked points ≡ false
     pub stable_all : stables ≡ length points
     pub place : position_of log.last ≡ end_of logs ring list (syncs points)
-    pub holds : tells → HoldsText logs ring list (syncs points) log.last log.image
+    pub holds : tells → HoldsText logs ring list points log.last log.image
     pub resting : crashes → IsResting (last_of log.past)
+
+  -- The group that halted it was of the next entries, or of one syncpoint more. A crash leaves what was stable before, and a front of the group's records.
+  pub record IsLost (ring : ℕ) (past : List DiskState) (list : List E) (durable : ℕ) (points : List ℕ) (stables : ℕ) : Type 0 where
+    -- the entries and the sync counts that were to stand in the log behind it
+    pub entries : List E
+    pub counts : List ℕ
+    pub entries_are : IsPrefix entries list
+    pub counts_are : IsPrefix counts points
+    pub placed : AreCounts 0 (length entries) counts
+    pub durable_within : durable ≤ length entries
+    pub stable_within : stables ≤ length counts
+    pub group : List Item
+    pub all : items_with logs 0 entries counts ≡ items_with logs 0 (take durable entries) (take stables counts) ++ group
+    pub leaves : Leaves (FrontOf ring (items_with logs 0 (take durable entries) (take stables counts)) group) (last_of past)
 
   -- Since the start a count of faults has grown, if any. A log that has halted did so by its part's last fault, so that it has.
   pub record LogStandsFor (tells crashes : Type 0) (start : LogStart) (log : LogData) (list : List E) (taken durable : ℕ) (points : List ℕ) (stables : ℕ) : Type 0 where
@@ -63,6 +78,9 @@ module _ {E : Type 0} (logs : E → Option (List Noted)) where
     pub count : log.durable ≡ durable
     pub stable : log.points ≡ stables
     pub runs : log.halted ≡ None → IsRunning tells crashes start.ring log list taken durable points stables
+    -- a crash leaves its superblock
+    pub super : tells → crashes → (page : List ℕ) → IsCrashPage (history_of (last_of log.past) 1) page → page ≡ start.super
+    pub lost : tells → crashes → (fault : Fault) → log.halted ≡ Some fault → IsLost start.ring log.past list durable points stables
     pub halts : (fault : Fault) → log.halted ≡ Some fault → (fault ≡ record { part = High; count = log.faults }) × Rose start.faults log.faults
 
 -- what a log side stands for, as the value that a turn guards
@@ -72,4 +90,5 @@ standing d logs start log base list taken durable points stable = LogStandsFor l
 -- A log that holds a fresh text, and has written no group, stands for no entry and no syncpoint.
 abbrev pub FreshStands : {E : Type 0} → (E → Option (List Noted)) → (tells crashes : Type 0) → Type 0
 FreshStands logs tells crashes = (start : LogStart) (log : LogData) (ends : List ℕ) → log.last.ring ≡ start.ring → log.pages ≡ start.pages → log.faults ≡ start.faults → start.faults < 2 ^ 64 → position_of log.last ≡ 4080 * (start.ring - 1) + 36 → log.durable ≡ 0 → log.points ≡ 0 → log.halted ≡ None
-    → (tells → Holds log.last (fresh_text start.ring (text_of first_record)) ends log.image) → (crashes → IsResting (last_of log.past)) → LogStandsFor logs tells crashes start log [] 0 0 [] 0
+    → (tells → Holds log.last (fresh_text start.ring (text_of first_record)) ends log.image) → (crashes → IsResting (last_of log.past))
+    → (tells → crashes → (page : List ℕ) → IsCrashPage (history_of (last_of log.past) 1) page → page ≡ start.super) → LogStandsFor logs tells crashes start log [] 0 0 [] 0

@@ -37,7 +37,7 @@ impl<D: Disk> SharedLog<D> {
         requires later { self.old.side.durable ≤ group.now.last }
         requires numbers { position_of self.old.side.last + length group.now.bytes.items ≤ 4080 * 2 ^ 32 }
         ensures written { OnOk result (IsGroupWritten D.tells D.tells_crashes group.now (data_of D.Disk self.old) (data_of D.Disk self.new)) }
-        ensures lost { IfErr result (λ why. IsGroupLost why.fault (data_of D.Disk self.old) (data_of D.Disk self.new)) }
+        ensures lost { IfErr result (λ why. IsGroupLost D.tells D.tells_crashes group.now why.fault (data_of D.Disk self.old) (data_of D.Disk self.new)) }
         // The count of faults rises with a fault alone.
         ensures quiet { OnOk result (D.fault_count self.new.side.part ≡ D.fault_count self.old.side.part) }
         ensures rose { IfErr result (λ why. Rose (D.fault_count self.old.side.part) (D.fault_count self.new.side.part)) }

@@ -1,9 +1,10 @@
 -- What writes leave of the histories of other pages.
 use Rattle.std.proofs.Common.{◌≡◌, ◌≤◌, ◌<◌, ◌-◌, ℕ, List, [], ◌∷◌, ◌++◌, length, get_or, refl, sym, ap, ◌∙◌, ◌⊎◌, inl, inr, arith}
 use Rattle.std.proofs.lemmas.Bool.{cases_lt}
-use Rattle.std.proofs.lemmas.List.{length-append, length-set, get_or_append_left, get_or_push, get_or-set_other}
-use Rattle.jfs_disk.specs.Crash.{DiskState, history_of, no_page, page_failed, written, failed, last_of, LeavesTorn}
-use Rattle.jfs_disk.proofs.Flow.{history-apart, length-written}
+use Rattle.std.proofs.lemmas.List.{length-append, length-set, get_or_append_left, get_or_past, get_or_push, get_or-set_other}
+use Rattle.jfs_disk.specs.Crash.{PageHistory, DiskState, history_of, no_page, page_failed, written, failed, settled, last_of, LeavesTorn}
+use Rattle.jfs_disk.specs.Moment.{IsResting}
+use Rattle.jfs_disk.proofs.Flow.{history-apart, length-written, history-settled, length-settled}
 use Rattle.jfs_logpages.specs.Fresh.{HistoriesStay}
 
 pub histories-same : (kept : ℕ → Type 0) (past : List DiskState) → HistoriesStay kept past past
@@ -80,3 +81,19 @@ histories-failed kept old new n bytes apart (inl same) = rw same (histories-same
 histories-failed kept old new n bytes apart (inr torn_write) =
     histories-push kept old new (failed n bytes torn_write.0 (last_of old)) torn_write.2 (length-failed n bytes torn_write.0 (last_of old))
     (λ m keeps. history-failed n m bytes torn_write.0 (last_of old) (λ same. apart (rw (sym same) keeps)))
+
+-- a sync leaves what rests
+pub histories-synced : (kept : ℕ → Type 0) (old mid new : List DiskState) → 0 < length old → IsResting (last_of old) → HistoriesStay kept old mid → new ≡ mid ++ settled (last_of mid) ∷ [] → HistoriesStay kept mid new
+histories-synced kept old mid new some rests stay e =
+    histories-push kept mid new (settled (last_of mid)) e (length-settled (last_of mid)) (λ n keeps. by n keeps (cases_lt n (length (last_of mid))))
+  where
+    rested : PageHistory → PageHistory
+    rested page = record { seen = page.seen; stable = page.seen; writes = [] }
+
+    by : (n : ℕ) → kept n → (n < length (last_of mid)) ⊎ (length (last_of mid) ≤ n) → history_of (settled (last_of mid)) n ≡ history_of (last_of mid) n
+    by n keeps (inl here) =
+        let before = last-history kept old mid n some stay keeps in
+        let there : n < length (last_of old) = omega (arith, here, last-size kept old mid some stay) in
+        history-settled (last_of mid) n here ∙ ap rested before
+        ∙ sym (history-settled (last_of old) n there) ∙ ap (λ (s : DiskState). history_of s n) (sym rests) ∙ sym before
+    by n keeps (inr past) = get_or_past (settled (last_of mid)) n no_page (omega (arith, past, length-settled (last_of mid))) ∙ sym (get_or_past (last_of mid) n no_page past)

@@ -23,3 +23,4 @@ pub mod Fronts
 pub mod Positions
 pub mod OneReading
 pub mod Joined
+pub mod RecordEnds

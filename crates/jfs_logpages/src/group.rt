@@ -5,12 +5,13 @@ ghost use Rattle.jfs_disk.specs.Crash.{last_of, AllSince, Leaves};
 ghost use Rattle.jfs_disk.specs.Moment.{IsResting, now_of};
 ghost use Rattle.jfs_disk.specs.Image.{Image};
 ghost use Rattle.jfs_disk.specs.Fault.{HasCause};
+ghost use Rattle.jfs_logpages.specs.Fresh.{IsOutside, HistoriesStay};
 ghost use Rattle.jfs_logpages.specs.Group.{position_of};
 ghost use Rattle.jfs_logpages.specs.Ring.{ends_with, IsGroup, IsRing, IsWritten, Mid, ReadsPrefix, AreEnds, IsLast};
 
 use crate::last::Last;
 use crate::page::fill_page;
-use jfs_disk::{Disk, DiskError, write_stable};
+use jfs_disk::{Disk, DiskError};
 
 /// Appends a group to the ring's text, and syncs.
 pub fn write_group<D: Disk>(
@@ -44,6 +45,8 @@ pub fn write_group<D: Disk>(
         → IsRing last.old.ring text old_ends last.old.number (D.image part.old) → AreEnds 0 (length group.now) ends.now
         → IsRing last.new.ring (text ++ group.now) (ends_with (length text) old_ends ends.now) last.new.number (D.image part.new)) }
     ensures resting { OnOk result (D.tells_crashes → IsResting (last_of (D.past part.old)) → IsResting (last_of (D.past part.new))) }
+    // Also where it fails the past goes on, so that the moment now is one of those; and a crash leaves of the pages beside the ring what it did.
+    ensures past { D.tells_crashes → IsResting (last_of (D.past part.old)) → HistoriesStay (IsOutside 2 last.old.ring) (D.past part.old) (D.past part.new) }
     ensures cause { HasCause (D.fault_count part.old) (D.fault_count part.new) result }
     ensures no_memory { result ≢ Err DiskError.Memory }
 {
@@ -83,14 +86,18 @@ fn rewrite_last<D: Disk>(
         → IsRing last.old.ring text old_ends last.old.number (D.image part.old) → IsResting (last_of (D.past part.old)) → AreEnds 0 (length group.now) ends.now
         → AllSince (ReadsPrefix last.old.ring text group.now ends.now (last.old.number + (last.old.fill + length group.now - 1) / 4080)) (D.past part.new) (now_of (D.past part.old)) }
     ensures resting { OnOk result (D.tells_crashes → IsResting (last_of (D.past part.old)) → IsResting (last_of (D.past part.new))) }
+    ensures past { D.tells_crashes → IsResting (last_of (D.past part.old)) → HistoriesStay (IsOutside 2 last.old.ring) (D.past part.old) (D.past part.new) }
     ensures cause { HasCause (D.fault_count part.old) (D.fault_count part.new) result }
     ensures no_memory { result ≢ Err DiskError.Memory }
 {
-    if last.fill < 4080 {
-        fill_page(&mut last.page, last.number, last.fill, 0, group, ends);
-        write_stable(part, 2 + last.number % last.ring, &last.page)?;
+    if last.fill == 4080 {
+        return Ok(());
     }
-    Ok(())
+    fill_page(&mut last.page, last.number, last.fill, 0, group, ends);
+    // so that its size is known
+    let _bytes = last.page.bytes();
+    part.write(2 + last.number % last.ring, &last.page)?;
+    part.sync()
 }
 
 /// Writes the pages behind the last one, and syncs.
@@ -125,6 +132,7 @@ fn write_further<D: Disk>(
         → (t : ℕ) → AllSince (ReadsPrefix last.old.ring text group.now ends.now (last.old.number + further)) (D.past part.old) t
         → AllSince (ReadsPrefix last.old.ring text group.now ends.now (last.old.number + further)) (D.past part.new) t }
     ensures resting { OnOk result (D.tells_crashes → IsResting (last_of (D.past part.new))) }
+    ensures past { D.tells_crashes → IsResting (last_of (D.past part.old)) → HistoriesStay (IsOutside 2 last.old.ring) (D.past part.old) (D.past part.new) }
     ensures cause { HasCause (D.fault_count part.old) (D.fault_count part.new) result }
     ensures no_memory { result ≢ Err DiskError.Memory }
 {

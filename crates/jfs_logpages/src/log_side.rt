@@ -7,7 +7,7 @@ ghost use Rattle.jfs_disk.specs.Fault.{HasCause};
 ghost use Rattle.jfs_disk.specs.Moment.{IsResting, now_of};
 ghost use Rattle.jfs_bits.specs.Count.{Rose};
 ghost use Rattle.jfs_logfmt.specs.Written.{text_of};
-ghost use Rattle.jfs_logpages.specs.Fresh.{first_record, IsFreshLog, IsPartlyFresh, OthersStay};
+ghost use Rattle.jfs_logpages.specs.Fresh.{first_record, IsFreshLog, IsPartlyFresh, OthersStay, IsOutside, HistoriesStay};
 ghost use Rattle.jfs_logpages.specs.Group.{Holds, pages_of, room_of, position_of, number_after};
 ghost use Rattle.jfs_logpages.specs.Ring.{ends_with, fresh_text, fresh_ends, ReadsPrefix, ReadsWhole};
 
@@ -166,6 +166,8 @@ impl<D: Disk> LogSide<D> {
             → IsResting (last_of (D.past self.old.part))
             → AllSince (ReadsPrefix self.old.last.ring before text.now.bytes.items text.now.ends.items (number_after self.old.last (length text.now.bytes.items)))
             (D.past self.new.part) (now_of (D.past self.old.part)) }
+        // The moment now is one of these; and a crash leaves of the pages beside the ring what it did.
+        ensures past { D.tells_crashes → IsResting (last_of (D.past self.old.part)) → HistoriesStay (IsOutside 2 self.old.last.ring) (D.past self.old.part) (D.past self.new.part) }
 
         // At Ok the log is the old text and the whole group, which the ring reads as, and nothing is pending.
         ensures number { OnOk result (self.new.last.number ≡ number_after self.old.last (length text.now.bytes.items)) }

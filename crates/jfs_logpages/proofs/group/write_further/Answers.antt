@@ -1,10 +1,18 @@
-use Rattle.std.proofs.Common.{◌≡◌, ◌+◌, ◌++◌, ◌∷◌, [], ℕ, suc, length, refl, set, subst, ◌∙◌, arith}
+use Rattle.std.proofs.Common.{◌≡◌, ◌+◌, ◌++◌, ◌∷◌, [], ◌%◌, ◌≤◌, ℕ, suc, length, inl, inr, refl, set, subst, ◌∙◌, arith}
+use Rattle.std.proofs.Math.Nat.{mod-lt}
 use Rattle.jfs_disk.specs.Crash.{last_of, written, LeavesTorn}
 use Rattle.jfs_disk.proofs.WriteThenSync.{resting-synced}
+use Rattle.jfs_logpages.specs.Fresh.{IsOutside}
+use Rattle.jfs_logpages.proofs.Histories.{histories-same, histories-join, histories-written, histories-failed, histories-synced}
 use Rattle.jfs_logpages.specs.Ring.{Further, IsWritten, ends_with}
 use Rattle.jfs_logpages.proofs.NextPage.{next-place, next-page}
 use Rattle.jfs_logpages.proofs.Moments.{further-start, further-more, further-failed, further-synced}
 use Rattle.jfs_logpages.proofs.group.write_further.Goals as goal
+
+-- a page of the ring is none beside it
+inside : (ring number : ℕ) → 2 ≤ ring → IsOutside 2 ring (2 + number % ring) → ⊥
+inside ring number some (inl low) = omega (arith, low)
+inside ring number some (inr high) = omega (arith, high, mod-lt number {m = ring} (omega (arith, some)))
 
 pub loop-i-init : goal.loop-i-init
 loop-i-init g c =
@@ -17,6 +25,7 @@ loop-i-init g c =
       fill = refl;
       pages = refl;
       faults = refl;
+      past = λ k. histories-same _ (g.D.Disk.past part);
       page = λ h. absurd (omega arith);
       written = subst (λ (q : ℕ). Further g.D.Disk.tells g.D.Disk.tells_crashes last.ring last.number (last.number + c.args.further) last.fill c.args.group.now c.args.ends.now
           (g.D.Disk.image part) (g.D.Disk.image part) (g.D.Disk.past part) (g.D.Disk.past part) q) here
@@ -39,6 +48,9 @@ loop-i-preserved g c =
       fill = inv.fill;
       pages = c.in_ok-write.ensures.pages ∙ inv.pages;
       faults = omega (arith, inv.faults, c.in_ok-write.ensures.cause.ok);
+      past = λ k. histories-join (IsOutside 2 last.ring) (g.D.Disk.past c.args.part.now) (g.D.Disk.past mid) (g.D.Disk.past new) (laws.has_state c.args.part.now k) (inv.past k)
+          (histories-written (IsOutside 2 last.ring) (g.D.Disk.past mid) (g.D.Disk.past new) (2 + suc (last.number + c.loop-i.i) % last.ring) page (inside last.ring (suc (last.number + c.loop-i.i)) c.requires.ring)
+          (subst (λ (n : ℕ). g.D.Disk.past new ≡ g.D.Disk.past mid ++ written n page (last_of (g.D.Disk.past mid)) ∷ []) at (c.in_ok-write.ensures.past k)));
       page = λ h text ends is size. subst (λ (q : ℕ). IsWritten (text ++ c.args.group.now) (ends_with (length text) ends c.args.ends.now) q page) step
           (next-page c.loop-i.last.number last.number c.loop-i.i (last.number + c.args.further) last.fill _ last.ring c.args.group.now c.args.ends.now _ page inv.number refl c.requires.fill c.fill_page.ensures.written text ends is size);
       written = subst (λ (q : ℕ). Further g.D.Disk.tells g.D.Disk.tells_crashes last.ring last.number (last.number + c.args.further) last.fill c.args.group.now c.args.ends.now
@@ -86,3 +98,25 @@ returns-clause-all g c = λ t k.
 
 pub returns-clause-resting : goal.returns-clause-resting
 returns-clause-resting g c = λ k. resting-synced (g.D.Disk.past c.loop-i.part) (g.D.Disk.past c.sync.new.self) (c.in_ok-sync.ensures.past k)
+
+pub returns-in_err-write-clause-past : goal.returns-in_err-write-clause-past
+returns-in_err-write-clause-past g c = λ k rests.
+    let laws = g.met.D.Disk in
+    let mid = c.loop-i.part in
+    let last = c.args.last.now in
+    let page = c.fill_page.new.page.0 in
+    let inv = c.loop-i.invariant in
+    let at = next-place c.loop-i.last.number c.loop-i.last.ring last.number c.loop-i.i last.ring inv.number inv.ring in
+    histories-join (IsOutside 2 last.ring) (g.D.Disk.past c.args.part.now) (g.D.Disk.past mid) (g.D.Disk.past c.write.new.self) (laws.has_state c.args.part.now k) (inv.past k)
+    (histories-failed (IsOutside 2 last.ring) (g.D.Disk.past mid) (g.D.Disk.past c.write.new.self) (2 + suc (last.number + c.loop-i.i) % last.ring) page (inside last.ring (suc (last.number + c.loop-i.i)) c.requires.ring)
+    (subst (λ (n : ℕ). LeavesTorn n page (g.D.Disk.past mid) (g.D.Disk.past c.write.new.self)) at (c.in_err-write.ensures.past_failed k)))
+
+pub returns-in_err-sync-clause-past : goal.returns-in_err-sync-clause-past
+returns-in_err-sync-clause-past g c = λ k rests. rw (c.in_err-sync.ensures.past_failed k) (c.loop-i.invariant.past k)
+
+pub returns-clause-past : goal.returns-clause-past
+returns-clause-past g c = λ k rests.
+    let some = g.met.D.Disk.has_state c.args.part.now k in
+    let past = c.loop-i.invariant.past k in
+    histories-join (IsOutside 2 c.args.last.now.ring) (g.D.Disk.past c.args.part.now) (g.D.Disk.past c.loop-i.part) (g.D.Disk.past c.sync.new.self) some past
+    (histories-synced (IsOutside 2 c.args.last.now.ring) (g.D.Disk.past c.args.part.now) (g.D.Disk.past c.loop-i.part) (g.D.Disk.past c.sync.new.self) some rests past (c.in_ok-sync.ensures.past k))

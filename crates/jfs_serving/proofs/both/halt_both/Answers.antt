@@ -1,5 +1,6 @@
-use Rattle.std.proofs.Common.{ap, sym, subst, arith, length}
+use Rattle.std.proofs.Common.{[], append-nil, ap, sym, subst, arith, length}
 use Rattle.jfs_turns.specs.Both.{whole}
+use Rattle.jfs_turns.specs.Lists.{IsPrefix}
 use Rattle.jfs_turns.specs.Standing.{VolumeStands, LogStands}
 use Rattle.jfs_turns.specs.Views.{got_points}
 use Rattle.jfs_groups.specs.Commit.{GoesOn}
@@ -42,7 +43,7 @@ returns-clause-stand g c =
           (halted_stands g.V.Stands.stands c.halt.new.self u m.told.0 k c.mark_syncpoints_as.new.turn m.told.4 m.told.1);
       log = subst (λ y. LogStands of_log y (whole c.mark_syncpoints_as.new.turn)) (sym m.same.1) (subst (λ v. LogStands of_log c.args.both.now.log.value v) (sym is)
           (halted_log u m.told.0 k stand.knows m.told.2 stand.log.stable of_log c.args.both.now.log.value
-          (halted_stands_for g.E.HasRecords.logs g.D.Disk.tells g.D.Disk.tells_crashes (g.E.HasRecords.start u.base) (data_of g.D.Disk c.args.both.now.log.value) u.log_list u.log_list u.taken u.taken u.log_durable u.log_points m.told.0 u.log_stable c.args.fault c.requires.halted stand.log)));
+          (halted_stands_for g.E.HasRecords.logs g.D.Disk.tells g.D.Disk.tells_crashes (g.E.HasRecords.start u.base) (data_of g.D.Disk c.args.both.now.log.value) u.log_list u.log_list u.taken u.taken u.log_durable u.log_points m.told.0 u.log_stable c.args.fault c.requires.halted ([], append-nil u.log_list) (subst (λ ps. IsPrefix ps m.told.0) (sym stand.knows.points) m.told.2) stand.log)));
       knows = subst Knows (sym is) (halted_knows u m.told.0 k stand.knows m.told.2 stand.log.stable);
     }
 
