@@ -1,11 +1,10 @@
 -- From replies and entries that join to how a call is answered.
-use Rattle.std.proofs.Common.{◌≡◌, ◌⊎◌, ◌++◌, ◌∷◌, ◌+◌, [], refl, sym, ap, ap₂, ◌∙◌, subst, ℕ, Bool, true, false, not, List, length, inl, inr, Option, Some, None, if◌then◌else◌}
+use Rattle.std.proofs.Common.{◌≡◌, ◌⊎◌, ◌++◌, ◌∷◌, ◌+◌, [], refl, sym, ap, ap₂, ◌∙◌, subst, ℕ, Bool, true, false, not, List, length, inl, inr, Option, None, if◌then◌else◌}
 use Rattle.jfs_bits.specs.Count.{Rose}
 use Rattle.jfs_disk.specs.declared.disk.Fault.{Fault}
 use Rattle.jfs_ranges.specs.declared.edit.Edit.{Edit}
 use Rattle.jfs_files.specs.bmap.specs.States.{BlockState}
 use Rattle.jfs_files.specs.bmap.proofs.Views.{length-each_below}
-use Rattle.jfs_files.specs.data_steps.specs.After.{EachOnce}
 use Rattle.jfs_files.specs.data_steps.specs.declared.pages.DataPage.{DataPage}
 use Rattle.jfs_volume_calls.specs.pages.specs.Device.{IsFault}
 use Rattle.jfs_plain.specs.CallStep.{writes}
@@ -16,8 +15,7 @@ use Rattle.jfs_plain.specs.declared.refusal.Refusal.TheVariants as refusals
 use Rattle.jfs_plain.specs.declared.reply.Reply.{Reply}
 use Rattle.jfs_plain.specs.declared.reply.Reply.TheVariants as replies
 use Rattle.jfs_volume_calls.specs.halves.specs.Parts.{Parts}
-use Rattle.jfs_volume_calls.specs.volume.specs.Called.{JoinsWith, JoinsNot, GivesBack, MayGiveBack, FailsBy}
-use Rattle.jfs_volume_calls.specs.volume.specs.Data.{IsPartlyPut}
+use Rattle.jfs_volume_calls.specs.volume.specs.Called.{JoinsWith, JoinsNot, GivesBack, MayGiveBack, StopsReading, StopsPutting, FailsBy}
 use Rattle.jfs_volume_calls.specs.volume.specs.Join.{entry_with, with_entry}
 use Rattle.jfs_call.specs.Answer.{JoinsNone, RepliedBy, held, IsHeld, KeepsHalted, WaitsIf, Keeps, IsAnswered}
 use Rattle.jfs_call.specs.Replied.{IsReplied}
@@ -126,7 +124,7 @@ pub record MayChange (request : Request) (old mid : Parts) : Type 0 where
   pub writes_it : writes request.call ≡ true
   pub begins : held old.halted request.call ≡ None
 
-module _ (tells : Type 0) (caller : Caller) (request : Request) (tx : List Edit) (data_put : List DataPage) (old mid new : Parts) (m : MayChange request old mid) where
+module _ (tells crashes : Type 0) (caller : Caller) (request : Request) (tx : List Edit) (data_put : List DataPage) (old mid new : Parts) (m : MayChange request old mid) where
   runs : mid.halted ≡ None
   runs = m.halted ∙ running old.halted request m.writes_it m.begins
 
@@ -193,12 +191,12 @@ module _ (tells : Type 0) (caller : Caller) (request : Request) (tx : List Edit)
     | inr s ↦ ap (λ (xs : List BlockState). length xs) s.states
   ])
 
-  halted_after : (fault : Fault) → FailsBy tells data_put fault mid new → KeepsHalted old.faults new.faults old.halted new.halted
-  halted_after fault f = by f.halted
+  halted_after : (fault : Fault) → FailsBy tells crashes tx data_put fault mid new → KeepsHalted old.faults new.faults old.halted new.halted
+  halted_after fault f = by f.fails
     where
-      by : ((new.halted ≡ mid.halted) × (tells → new.view ≡ mid.view)) ⊎ ((new.halted ≡ Some fault) × (tells → EachOnce data_put → IsPartlyPut data_put mid.view new.view)) → KeepsHalted old.faults new.faults old.halted new.halted
-      by (inl (same, shown)) = inl (same ∙ m.halted)
-      by (inr (now, partly)) = inr (fault, subst (λ (n : ℕ). IsFault n new.faults fault) m.faults f.is_fault, running old.halted request m.writes_it m.begins, now)
+      by : StopsReading tells crashes mid new ⊎ StopsPutting tells crashes tx data_put fault mid new → KeepsHalted old.faults new.faults old.halted new.halted
+      by (inl reads) = inl (reads.halted ∙ m.halted)
+      by (inr puts) = inr (fault, subst (λ (n : ℕ). IsFault n new.faults fault) m.faults f.is_fault, running old.halted request m.writes_it m.begins, puts.halted)
 
 -- it failed, and is refused for that
 refused_for : (fault : Fault) (kept : Option Fault) → kept ≡ None → IsHeld kept (replies.Refused (refusals.IoFault fault))
@@ -207,27 +205,27 @@ refused_for fault kept none = subst (λ (k : Option Fault). IsHeld k (replies.Re
 not_done : (why : Refusal) (request : Request) (old new : Parts) → WaitsIf false request (replies.Refused why) old new
 not_done why request old new done eager = absurd (cc (done))
 
-failed : (tells : Type 0) (caller : Caller) (request : Request) (tx : List Edit) (put : List DataPage) (old start new : Parts) (fault : Fault) (reply : Reply) (number : ℕ) (waits : Bool) → MayChange request old start → IsFailedBy tells caller request tx put fault start new reply number waits
+failed : (tells crashes : Type 0) (caller : Caller) (request : Request) (tx : List Edit) (put : List DataPage) (old start new : Parts) (fault : Fault) (reply : Reply) (number : ℕ) (waits : Bool) → MayChange request old start → IsFailedBy tells crashes caller request tx put fault start new reply number waits
     → IsAnswered caller.client caller.line request old new (Replied reply number waits)
-failed tells caller request tx put old start new fault reply number waits m f =
+failed tells crashes caller request tx put old start new fault reply number waits m f =
     replied caller request (replies.Refused (refusals.IoFault fault)) false old f.mid new (Replied reply number waits)
     (record {
-      begun_is = begun_then m.begun_is (given_back tells caller request tx put old start f.mid m f.given_back);
+      begun_is = begun_then m.begun_is (given_back tells crashes caller request tx put old start f.mid m f.given_back);
       cause = subst (λ (n : ℕ). IsFault n f.mid.faults fault) m.faults f.fails.is_fault;
       held_is = refused_for fault (held old.halted request.call) m.begins;
-      halted = halted_after tells caller request tx put old start f.mid m fault f.fails;
+      halted = halted_after tells crashes caller request tx put old start f.mid m fault f.fails;
       waits = λ entry. not_done (refusals.IoFault fault) request old (with_entry entry f.mid);
     })
     (record { reply_is = f.reply_is; waits_is = f.waits_not; number_is = f.number_is; parts = f.parts })
 
-unsaid : (tells : Type 0) (caller : Caller) (request : Request) (tx : List Edit) (put : List DataPage) (old mid new : Parts) → MayChange request old mid → FailsUnsaid tells tx put mid new → IsAnswered caller.client caller.line request old new NoMemory
-unsaid tells caller request tx put old mid new m f = record {
-  entry = (begun_then m.begun_is (given_back tells caller request tx put old mid new m f.given_back)).none;
+unsaid : (tells crashes : Type 0) (caller : Caller) (request : Request) (tx : List Edit) (put : List DataPage) (old mid new : Parts) → MayChange request old mid → FailsUnsaid tells crashes tx put mid new → IsAnswered caller.client caller.line request old new NoMemory
+unsaid tells crashes caller request tx put old mid new m f = record {
+  entry = (begun_then m.begun_is (given_back tells crashes caller request tx put old mid new m f.given_back)).none;
   cause = inr (subst (λ (n : ℕ). Rose n new.faults) m.faults f.fails.is_fault.rose);
   held_is = tt;
-  halted = halted_after tells caller request tx put old mid new m f.fault f.fails;
+  halted = halted_after tells crashes caller request tx put old mid new m f.fault f.fails;
   waits = tt;
-  keeps = (begun_then m.begun_is (given_back tells caller request tx put old mid new m f.given_back)).keeps;
+  keeps = (begun_then m.begun_is (given_back tells crashes caller request tx put old mid new m f.given_back)).keeps;
 }
 
 done_as : (caller : Caller) (request : Request) (old new : Parts) (reply : Reply) (number : ℕ) (waits : Bool) → reply ≡ replies.Done → waits ≡ not request.lazy → IsAnswered caller.client caller.line request old new (Replied replies.Done number (not request.lazy))
@@ -235,15 +233,15 @@ done_as : (caller : Caller) (request : Request) (old new : Parts) (reply : Reply
 done_as caller request old new reply number waits r w a =
     subst (λ (x : Reply). IsAnswered caller.client caller.line request old new (Replied x number waits)) (sym r) (subst (λ (x : Bool). IsAnswered caller.client caller.line request old new (Replied replies.Done number x)) (sym w) a)
 
-pub changed : (tells : Type 0) (caller : Caller) (request : Request) (tx : List Edit) (data_put : List DataPage) (old mid new : Parts) (outcome : Outcome) → MayChange request old mid → IsChangedBy tells caller request tx data_put mid new outcome
+pub changed : (tells crashes : Type 0) (caller : Caller) (request : Request) (tx : List Edit) (data_put : List DataPage) (old mid new : Parts) (outcome : Outcome) → MayChange request old mid → IsChangedBy tells crashes caller request tx data_put mid new outcome
     → IsAnswered caller.client caller.line request old new outcome
-changed tells caller request tx data_put old mid new (Replied reply number waits) m (inl d) =
-    done_as caller request old new reply number waits d.reply_is d.waits_is (entered tells caller request tx data_put old mid new m number d.joins)
-changed tells caller request tx data_put old mid new (Replied reply number waits) m (inr (fault, f)) = failed tells caller request tx data_put old mid new fault reply number waits m f
-changed tells caller request tx data_put old mid new NeedsLog m (g, on, full) =
-    needs_log caller.client caller.line request old new m.begins (begun_then m.begun_is (given_back tells caller request tx data_put old mid new m g)) (on.faults ∙ m.faults) (on.halted ∙ m.halted)
-changed tells caller request tx data_put old mid new NoMemory m (inl (g, on)) =
-    unanswered caller.client caller.line request old new (begun_then m.begun_is (may_give_back tells caller request tx data_put old mid new m g)) (on.faults ∙ m.faults) (on.halted ∙ m.halted)
-changed tells caller request tx data_put old mid new NoMemory m (inr (inl same)) =
+changed tells crashes caller request tx data_put old mid new (Replied reply number waits) m (inl d) =
+    done_as caller request old new reply number waits d.reply_is d.waits_is (entered tells crashes caller request tx data_put old mid new m number d.joins.joins)
+changed tells crashes caller request tx data_put old mid new (Replied reply number waits) m (inr (fault, f)) = failed tells crashes caller request tx data_put old mid new fault reply number waits m f
+changed tells crashes caller request tx data_put old mid new NeedsLog m (g, on, full) =
+    needs_log caller.client caller.line request old new m.begins (begun_then m.begun_is (given_back tells crashes caller request tx data_put old mid new m g)) (on.faults ∙ m.faults) (on.halted ∙ m.halted)
+changed tells crashes caller request tx data_put old mid new NoMemory m (inl (g, on)) =
+    unanswered caller.client caller.line request old new (begun_then m.begun_is (may_give_back tells crashes caller request tx data_put old mid new m g)) (on.faults ∙ m.faults) (on.halted ∙ m.halted)
+changed tells crashes caller request tx data_put old mid new NoMemory m (inr (inl same)) =
     unanswered caller.client caller.line request old new (subst (λ (p : Parts). IsBegun old p) (sym same) m.begun_is) (ap (λ (p : Parts). p.faults) same ∙ m.faults) (ap (λ (p : Parts). p.halted) same ∙ m.halted)
-changed tells caller request tx data_put old mid new NoMemory m (inr (inr f)) = unsaid tells caller request tx data_put old mid new m f
+changed tells crashes caller request tx data_put old mid new NoMemory m (inr (inr f)) = unsaid tells crashes caller request tx data_put old mid new m f

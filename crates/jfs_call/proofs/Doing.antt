@@ -32,13 +32,13 @@ module _ (tells crashes : Type 0) (caller : Caller) (request : Request) (now : M
   answered_synced (Err fault) fits is s told = replied caller request (Refused (IoFault fault)) false old mid new outcome (may_fail tells request old mid fault s.alone s.halts s.cause is h) told
 
   module _ (asked : IsAskedOf tells crashes old mid) where
-    answered_changed : (tx : List Edit) (put : List DataPage) (changing : Bool) → is_changing request.call ≡ changing → AnswersOf tells request now old mid (files.Changed tx put) → ChangesWhere changing tells caller request tx put mid new outcome
+    answered_changed : (tx : List Edit) (put : List DataPage) (changing : Bool) → is_changing request.call ≡ changing → AnswersOf tells request now old mid (files.Changed tx put) → ChangesWhere changing tells crashes caller request tx put mid new outcome
         → IsAnswered caller.client caller.line request old new outcome
-    answered_changed tx put true is answers ends = changed tells caller request tx put old mid new outcome (may_change tells crashes request old mid (files.Changed tx put) asked answers.kept (ap (λ (f : Fault). f.count) answers.fault) is h) ends
+    answered_changed tx put true is answers ends = changed tells crashes caller request tx put old mid new outcome (may_change tells crashes request old mid (files.Changed tx put) asked answers.kept (ap (λ (f : Fault). f.count) answers.fault) is h) ends
     answered_changed tx put false is answers (out, same) = subst (λ (o : Outcome). IsAnswered caller.client caller.line request old new o) (sym out) (subst (λ (p : Parts). IsAnswered caller.client caller.line request old p NoMemory) (sym same)
         (unanswered caller.client caller.line request old mid (asked_begun tells crashes old mid (files.Changed tx put) asked answers.kept) (ap (λ (f : Fault). f.count) answers.fault) (asked_halted tells crashes old mid asked)))
 
-    answered_file : (answer : FileOutcome) → is_sync request.call ≡ false → AnswersOf tells request now old mid answer → EndsBy tells caller request answer mid new outcome → IsAnswered caller.client caller.line request old new outcome
+    answered_file : (answer : FileOutcome) → is_sync request.call ≡ false → AnswersOf tells request now old mid answer → EndsBy tells crashes caller request answer mid new outcome → IsAnswered caller.client caller.line request old new outcome
     answered_file (files.Changed tx put) apart answers ends = answered_changed tx put (is_changing request.call) refl answers ends
     answered_file (files.Same reply) apart answers ends = told_same tells crashes caller request reply old mid new outcome asked answers.kept answers.fault h answers.changes apart ends
     answered_file files.NeedsLog apart answers (out, same) = subst (λ (o : Outcome). IsAnswered caller.client caller.line request old new o) (sym out) (subst (λ (p : Parts). IsAnswered caller.client caller.line request old p NeedsLog) (sym same)
@@ -56,11 +56,11 @@ answered_by tells crashes caller request now old new outcome fits d = answered_w
 -- ---- why it needs the log
 
 module _ (tells crashes : Type 0) (caller : Caller) (request : Request) (now : Moment) (old mid new : Parts) where
-  needs_changed : (tx : List Edit) (put : List DataPage) (changing : Bool) → AnswersOf tells request now old mid (files.Changed tx put) → IsAskedOf tells crashes old mid → ChangesWhere changing tells caller request tx put mid new NeedsLog → NeedsFor tells request now old
+  needs_changed : (tx : List Edit) (put : List DataPage) (changing : Bool) → AnswersOf tells request now old mid (files.Changed tx put) → IsAskedOf tells crashes old mid → ChangesWhere changing tells crashes caller request tx put mid new NeedsLog → NeedsFor tells request now old
   needs_changed tx put true answers asked (back, on, lacks) = inl (record { mid = mid; tx = tx; put = put; answers = answers; full = same_room tx old mid (ap (λ (p : Parts). p.text) asked.parts) lacks })
   needs_changed tx put false answers asked (clash, same) = absurd (cc (clash))
 
-  needs_file : (answer : FileOutcome) → AnswersOf tells request now old mid answer → IsAskedOf tells crashes old mid → EndsBy tells caller request answer mid new NeedsLog → NeedsFor tells request now old
+  needs_file : (answer : FileOutcome) → AnswersOf tells request now old mid answer → IsAskedOf tells crashes old mid → EndsBy tells crashes caller request answer mid new NeedsLog → NeedsFor tells request now old
   needs_file (files.Changed tx put) answers asked ends = needs_changed tx put (is_changing request.call) answers asked ends
   needs_file (files.Same reply) answers asked (inl (kept, clash)) = absurd clash
   needs_file (files.Same reply) answers asked (inr (clash, same)) = absurd (cc (clash))
@@ -90,8 +90,8 @@ does_sync tells crashes caller request now old new outcome is d = subst (λ (s :
 pub does_file : (tells crashes : Type 0) (caller : Caller) (request : Request) (now : Moment) (old new : Parts) (outcome : Outcome) → is_sync request.call ≡ false → AsksFile tells crashes caller request now old new outcome → DoesWhere None (is_sync request.call) tells crashes caller request now old new outcome
 does_file tells crashes caller request now old new outcome is d = subst (λ (s : Bool). DoesWhere None s tells crashes caller request now old new outcome) (sym is) d
 
-pub ends_changed : (tells : Type 0) (caller : Caller) (request : Request) (tx : List Edit) (put : List DataPage) (old new : Parts) (outcome : Outcome) → is_changing request.call ≡ true → IsChangedBy tells caller request tx put old new outcome → EndsBy tells caller request (files.Changed tx put) old new outcome
-ends_changed tells caller request tx put old new outcome is by = subst (λ (b : Bool). ChangesWhere b tells caller request tx put old new outcome) (sym is) by
+pub ends_changed : (tells crashes : Type 0) (caller : Caller) (request : Request) (tx : List Edit) (put : List DataPage) (old new : Parts) (outcome : Outcome) → is_changing request.call ≡ true → IsChangedBy tells crashes caller request tx put old new outcome → EndsBy tells crashes caller request (files.Changed tx put) old new outcome
+ends_changed tells crashes caller request tx put old new outcome is by = subst (λ (b : Bool). ChangesWhere b tells crashes caller request tx put old new outcome) (sym is) by
 
-pub ends_unchanged : (tells : Type 0) (caller : Caller) (request : Request) (tx : List Edit) (put : List DataPage) (p : Parts) → is_changing request.call ≡ false → EndsBy tells caller request (files.Changed tx put) p p NoMemory
-ends_unchanged tells caller request tx put p is = subst (λ (b : Bool). ChangesWhere b tells caller request tx put p p NoMemory) (sym is) (refl, refl)
+pub ends_unchanged : (tells crashes : Type 0) (caller : Caller) (request : Request) (tx : List Edit) (put : List DataPage) (p : Parts) → is_changing request.call ≡ false → EndsBy tells crashes caller request (files.Changed tx put) p p NoMemory
+ends_unchanged tells crashes caller request tx put p is = subst (λ (b : Bool). ChangesWhere b tells crashes caller request tx put p p NoMemory) (sym is) (refl, refl)

@@ -48,15 +48,15 @@ pub record Syncs (tells crashes : Type 0) (caller : Caller) (request : Request) 
 -- ---- file calls
 
 -- no call but a changing one changes anything
-abbrev pub ChangesWhere : (changing : Bool) (tells : Type 0) → Caller → Request → List Edit → List DataPage → Parts → Parts → Outcome → Type 0
-ChangesWhere true tells caller request tx put old new outcome = IsChangedBy tells caller request tx put old new outcome
-ChangesWhere false tells caller request tx put old new outcome = (outcome ≡ NoMemory) × (new ≡ old)
+abbrev pub ChangesWhere : (changing : Bool) (tells crashes : Type 0) → Caller → Request → List Edit → List DataPage → Parts → Parts → Outcome → Type 0
+ChangesWhere true tells crashes caller request tx put old new outcome = IsChangedBy tells crashes caller request tx put old new outcome
+ChangesWhere false tells crashes caller request tx put old new outcome = (outcome ≡ NoMemory) × (new ≡ old)
 
 -- The transaction joins, or is given back; or nothing changes, and this is the reply; or busy blocks stand between the call and its blocks.
-abbrev pub EndsBy : (tells : Type 0) → Caller → Request → FileOutcome → Parts → Parts → Outcome → Type 0
-EndsBy tells caller request (Changed tx put) old new outcome = ChangesWhere (is_changing request.call) tells caller request tx put old new outcome
-EndsBy tells caller request (Same reply) old new outcome = TellsSame caller request reply old new outcome
-EndsBy tells caller request Awaits old new outcome = (outcome ≡ NeedsLog) × (new ≡ old)
+abbrev pub EndsBy : (tells crashes : Type 0) → Caller → Request → FileOutcome → Parts → Parts → Outcome → Type 0
+EndsBy tells crashes caller request (Changed tx put) old new outcome = ChangesWhere (is_changing request.call) tells crashes caller request tx put old new outcome
+EndsBy tells crashes caller request (Same reply) old new outcome = TellsSame caller request reply old new outcome
+EndsBy tells crashes caller request Awaits old new outcome = (outcome ≡ NeedsLog) × (new ≡ old)
 
 -- The volume is asked what the call does to it at this moment, and the call ends by that answer alone.
 pub record AsksFile (tells crashes : Type 0) (caller : Caller) (request : Request) (now : Moment) (old new : Parts) (outcome : Outcome) : Type 0 where
@@ -64,7 +64,7 @@ pub record AsksFile (tells crashes : Type 0) (caller : Caller) (request : Reques
   pub answer : FileOutcome
   pub answers : AnswersOf tells request now old mid answer
   pub asked : IsAskedOf tells crashes old mid
-  pub ends : EndsBy tells caller request answer mid new outcome
+  pub ends : EndsBy tells crashes caller request answer mid new outcome
 
 -- ---- any call
 

@@ -1,5 +1,6 @@
 -- what the clauses say
 pub mod Does
+pub mod Noted
 pub mod DoesLent
 pub mod Asked
 pub mod Changed

@@ -26,7 +26,7 @@ pub(crate) fn change<D: Disk>(
     requires number { volume.old.appended + 1 < 2 ^ 32 }
     requires size { length volume.old.map.states ≤ volume.old.blocks }
     requires data { LieWithin (length volume.old.map.states) blocks.now }
-    ensures { IsChangedBy D.tells caller request.now tx.now blocks.now volume.old volume.new result }
+    ensures { IsChangedBy D.tells D.tells_crashes caller request.now tx.now blocks.now volume.old volume.new result }
 {
     match enter(alloc, volume, caller, request, tx, blocks) {
         Called::Entered { entry } => Outcome::Replied {
@@ -56,7 +56,7 @@ fn enter<D: Disk>(
     requires number { volume.old.appended + 1 < 2 ^ 32 }
     requires size { length volume.old.map.states ≤ volume.old.blocks }
     requires data { LieWithin (length volume.old.map.states) blocks.now }
-    ensures { EntersAs D.tells caller request.now tx.now blocks.now volume.old volume.new result }
+    ensures { EntersAs D.tells D.tells_crashes caller request.now tx.now blocks.now volume.old volume.new result }
 {
     let Ok(call) = request.call.copy(alloc) else {
         return Called::NoMemory;

@@ -224,11 +224,11 @@ module _ (blocks : ℕ) (pages : ℕ → List ℕ) (area : ℕ → ℕ) (bm : Bl
       by None e = absurd (true≢false (sym b ∙ ap is_some (no_home r v n (home_before n ∙ e))))
       by (Some p) e = old p e (touched_or_not n p e)
 
-  taken_live : (n : ℕ) → marks.taken ≡ Some n → is_after n ≡ true
+  pub taken_live : (n : ℕ) → marks.taken ≡ Some n → is_after n ≡ true
   taken_live n e = let s : Comes blocks pages inodes f tx ds n = subst (λ (m : Met). From (Comes blocks pages inodes f tx ds) m) (said.taken_is ∙ ap met_of e) (stems blocks pages inodes f tx ds).taken in
       now_out n s.page_of_it s.slot s.looked_at s.stands
 
-  freed_dead : (n : ℕ) → marks.freed ≡ Some n → is_after n ≡ false
+  pub freed_dead : (n : ℕ) → marks.freed ≡ Some n → is_after n ≡ false
   freed_dead n e = by (is_after n) refl
     where
       s : Goes blocks pages inodes f tx ds n
@@ -242,6 +242,40 @@ module _ (blocks : ℕ) (pages : ℕ → List ℕ) (area : ℕ → ℕ) (bm : Bl
       by true a = absurd (differ n (was blocks pages inodes f tx ds s.page_of_it s.slot) (now blocks pages inodes f tx ds s.page_of_it s.slot) s.other s.stood
           (subst (λ (k : ℕ). now blocks pages inodes f tx ds s.page_of_it k ≡ Some n) stood.slot_is
           (now_stands n s.page_of_it (keeps_home n s.page_of_it stood.at) s.looked_at a)))
+
+  -- an inode that is taken wasn't in use, and one that is freed was
+  pub taken_fresh : (n : ℕ) → marks.taken ≡ Some n → is_before n ≡ false
+  taken_fresh n e = by (is_before n) refl
+    where
+      s : Comes blocks pages inodes f tx ds n
+      s = subst (λ (m : Met). From (Comes blocks pages inodes f tx ds) m) (said.taken_is ∙ ap met_of e) (stems blocks pages inodes f tx ds).taken
+
+      stands : Stands inodes f s.page_of_it s.slot (slot_of (apply_tx s.page_of_it tx (pages s.page_of_it)) s.slot) n
+      stands = stands_out inodes f s.page_of_it s.slot (slot_of (apply_tx s.page_of_it tx (pages s.page_of_it)) s.slot) n s.stands
+
+      same_page : {p q : ℕ} → Some p ≡ Some q → p ≡ q
+      same_page h = cc (h)
+
+      by : (x : Bool) → is_before n ≡ x → x ≡ false
+      by false b = refl
+      by true b = at (home_of inodes n) refl
+        where
+          at : (o : Option ℕ) → home_of inodes n ≡ o → true ≡ false
+          at None h = sym b ∙ ap is_some (no_home r v n (home_before n ∙ h))
+          at (Some p) h = absurd (
+              let here : p ≡ s.page_of_it = same_page (sym (keeps_home n p h) ∙ stands.at) in
+              let stood = was_stands n p h b in
+              differ n (was blocks pages inodes f tx ds s.page_of_it s.slot) (now blocks pages inodes f tx ds s.page_of_it s.slot) s.other
+              (subst (λ (k : ℕ). was blocks pages inodes f tx ds s.page_of_it k ≡ Some n) stands.slot_is (subst (λ (q : ℕ). was blocks pages inodes f tx ds q (n % 8) ≡ Some n) here stood)) s.stands)
+
+  pub freed_live : (n : ℕ) → marks.freed ≡ Some n → is_before n ≡ true
+  freed_live n e = was_out n s.page_of_it (subst (λ (k : ℕ). was blocks pages inodes f tx ds s.page_of_it k ≡ Some n) (sym stood.slot_is) s.stood)
+    where
+      s : Goes blocks pages inodes f tx ds n
+      s = subst (λ (m : Met). From (Goes blocks pages inodes f tx ds) m) (said.freed_is ∙ ap met_of e) (stems blocks pages inodes f tx ds).freed
+
+      stood : Stands inodes founded.Nothing s.page_of_it s.slot (slot_of (pages s.page_of_it) s.slot) n
+      stood = stands_out inodes founded.Nothing s.page_of_it s.slot (slot_of (pages s.page_of_it) s.slot) n s.stood
 
   -- a freed inode isn't one of the first four
   freed_behind : (n : ℕ) → marks.freed ≡ Some n → nat_le 4 n ≡ true

@@ -247,6 +247,7 @@ module _ (blocks : ℕ) (pages : ℕ → List ℕ) (inodes : Inodes) (f : Founde
     pub few : slot < 8
     pub looked_at : looked page_of_it ≡ true
     pub stands : now page_of_it slot ≡ Some n
+    pub other : same_number (was page_of_it slot) (now page_of_it slot) ≡ false
 
   pub record Goes (n : ℕ) : Type 0 where
     pub page_of_it : ℕ
@@ -266,7 +267,7 @@ module _ (blocks : ℕ) (pages : ℕ → List ℕ) (inodes : Inodes) (f : Founde
       by : (b : Bool) → same_number (was p k) (now p k) ≡ b → Stems (if b then c else record { taken = met_if (now p k) c.taken; freed = met_if (was p k) c.freed })
       by true e = s
       by false e = record {
-        taken = from_if Comes (now p k) c.taken (λ n is. record { page_of_it = p; slot = k; few = h; looked_at = l; stands = is }) s.taken;
+        taken = from_if Comes (now p k) c.taken (λ n is. record { page_of_it = p; slot = k; few = h; looked_at = l; stands = is; other = e }) s.taken;
         freed = from_if Goes (was p k) c.freed (λ n is. record { page_of_it = p; slot = k; few = h; looked_at = l; stood = is; other = e }) s.freed;
       }
 

@@ -53,7 +53,7 @@ not_taking : (h : Bool) → is_taking (if h then Some false else None) ≡ false
 not_taking true = refl
 not_taking false = refl
 
-takes_is : (blocks : ℕ) (tx : List Edit) (b : ℕ) → AreShort blocks tx → takes_block b tx ≡ nat_lt 0 (takes tx b)
+pub takes_is : (blocks : ℕ) (tx : List Edit) (b : ℕ) → AreShort blocks tx → takes_block b tx ≡ nat_lt 0 (takes tx b)
 takes_is blocks [] b s = refl
 takes_is blocks (Lines page kind first bytes ∷ tx) b s =
     ap (λ (x : Bool). is_taking (if x && has_block (four_from page) b then Some true else None) || takes_block b tx) s.0.0

@@ -21,7 +21,7 @@ use Rattle.jfs_held_calls.specs.Calls.{made_by, changes_of, IsCall, CallLaw, Own
 -- ---- one block less
 
 -- data may go where it might before other data was put
-still_takes : (r : Readers) (v w : Volume) (b : ℕ) → w.used b ≡ v.used b → ((n : ℕ) → objects r w n ≡ objects r v n) → TakesData r v b → TakesData r w b
+pub still_takes : (r : Readers) (v w : Volume) (b : ℕ) → w.used b ≡ v.used b → ((n : ℕ) → objects r w n ≡ objects r v n) → TakesData r v b → TakesData r w b
 still_takes r v w b used same (inl free) = inl (used ∙ free)
 still_takes r v w b used same (inr (n, more)) = inr (n, subst (λ (o : Option Object). 0 < has_data r o b) (sym (same n)) more)
 

@@ -29,7 +29,7 @@ use Rattle.jfs_marks.specs.Marks.{AreMarked}
 use Rattle.jfs_marks.specs.Marking.{AreMarksOf}
 use Rattle.jfs_marks.specs.declared.marking.Marking.TheVariants.{Fits}
 use Rattle.jfs_volume.specs.Append.{unreserved}
-use Rattle.jfs_volume.specs.Called.{JoinsWith}
+use Rattle.jfs_volume.specs.Called.{IsJoined, JoinsWith, happened}
 use Rattle.jfs_volume.specs.Data.{put_pages}
 use Rattle.jfs_volume.specs.Runs.{taken_in}
 use Rattle.jfs_volume.specs.Written.{writes}
@@ -64,7 +64,7 @@ use Rattle.jfs_held_calls.specs.held.proofs.Played.{areas}
 use Rattle.jfs_held_calls.specs.Calls.{made_by, changes_of, IsCall}
 use Rattle.jfs_held_calls.proofs.Calls.{call_law, own_law}
 use Rattle.jfs_joined_held.specs.Held.{blocks_at, volume_at, held_at, IsHeldAs}
-use Rattle.jfs_joined_held.specs.Called.{volume_then, happened, IsAnswered, LogsCall, IsRunOfCall, CalledLaw}
+use Rattle.jfs_joined_held.specs.Called.{volume_then, IsAnswered, LogsCall, IsRunOfCall, CalledLaw}
 
 -- ---- lists of changes
 
@@ -107,7 +107,7 @@ state_by a b at same = ap (λ (ss : List BlockState). state_of (record a { state
 
 module _ (m : Mount) (area : ℕ → ℕ) (now : Moment) (tx : List Edit) (put : List DataPage) (entry : Entry) (number : ℕ) (asked_for : Bool) (old mid new : Parts) (both : Halves) (core : Core) (volumes : ℕ → Volume)
     (is_held : IsHeldAs m area old both core volumes) (answered : IsAnswered area old mid tx put) (joins : JoinsWith ⊤ entry tx put number mid new)
-    (moves : Moves true asked_for (unreserved tx mid) new both.volume (writes put ++ Enters (happened entry now both.volume tx put number mid new joins) ∷ [])) (logs : LogsCall m area old tx put) where
+    (moves : Moves true asked_for (unreserved tx mid) new both.volume (writes put ++ Enters (happened entry now tx joins.notes put new.inodes both.volume) ∷ [])) (logs : LogsCall m area old tx put) where
   abbrev n : ℕ
   n = blocks_at old
 
@@ -118,7 +118,7 @@ module _ (m : Mount) (area : ℕ → ℕ) (now : Moment) (tx : List Edit) (put :
   w = volume_then area old tx put
 
   abbrev h : Happened
-  h = happened entry now both.volume tx put number mid new joins
+  h = happened entry now tx joins.notes put new.inodes both.volume
 
   abbrev x : Held
   x = held_at both core volumes area old
@@ -275,4 +275,5 @@ module _ (m : Mount) (area : ℕ → ℕ) (now : Moment) (tx : List Edit) (put :
   }
 
 pub called_law : CalledLaw
-called_law m area now tx put entry number asked_for old mid new both core volumes is_held answered joins moves logs = called m area now tx put entry number asked_for old mid new both core volumes is_held answered joins moves logs
+called_law m area now tx put entry number asked_for old mid new both core volumes is_held answered joined stands logs =
+    called m area now tx put entry number asked_for old mid new both core volumes is_held answered joined.joins (joined.moves now true asked_for (λ t. tt) (λ t. tt) both.volume stands) logs

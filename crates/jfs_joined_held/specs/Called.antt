@@ -1,12 +1,11 @@
 -- A call with a transaction that is done.
 use Rattle.std.specs.Bool.{⊤}
-use Rattle.std.specs.Prelude.{◌≡◌, ◌⊎◌, ◌<◌, ◌≤◌, ◌∷◌, ◌++◌, [], ℕ, Bool, true, false, List}
+use Rattle.std.specs.Prelude.{◌≡◌, ◌⊎◌, ◌<◌, ◌≤◌, [], ℕ, Bool, true, false, List}
 use Rattle.jfs_bits.specs.declared.descriptor.Moment.{Moment}
 use Rattle.jfs_ranges.specs.declared.edit.Edit.{Edit}
 use Rattle.jfs_ranges.specs.Apply.{touches_tx}
-use Rattle.jfs_volume.specs.Append.{entered, unreserved}
-use Rattle.jfs_volume.specs.Called.{JoinsWith}
-use Rattle.jfs_volume.specs.Written.{writes}
+use Rattle.jfs_volume.specs.Append.{unreserved}
+use Rattle.jfs_volume.specs.Called.{IsJoined, happened}
 use Rattle.jfs_volume.specs.data_steps.specs.After.{AreWholePages, LieWithin, with_data, after_writes}
 use Rattle.jfs_volume.specs.data_steps.specs.Laws.{PutsOwn}
 use Rattle.jfs_volume.specs.data_steps.specs.declared.pages.DataPage.{DataPage}
@@ -15,12 +14,9 @@ use Rattle.jfs_volume.specs.data_steps.specs.meaning.specs.Readers.{readers}
 use Rattle.jfs_volume.specs.data_steps.specs.objects.specs.Volume.{Volume}
 use Rattle.jfs_volume.specs.data_steps.specs.steps.specs.Call.{LeavesAreas}
 use Rattle.jfs_volume.specs.data_steps.specs.way.specs.Volume.{PlacesWithin}
-use Rattle.jfs_volume.specs.records.specs.Records.{noted}
 use Rattle.jfs_volume.specs.halves.specs.Entry.{Happened}
-use Rattle.jfs_volume.specs.halves.specs.Half.{VolumeHalf, Halves}
-use Rattle.jfs_volume.specs.halves.specs.Change.{Enters, after as after_changes}
-use Rattle.jfs_volume.specs.halves.specs.Moves.{Moves}
-use Rattle.jfs_volume.specs.halves.specs.Parts.{Parts}
+use Rattle.jfs_volume.specs.halves.specs.Half.{Halves}
+use Rattle.jfs_volume.specs.halves.specs.Parts.{Parts, StandsFor}
 use Rattle.jfs_volume.specs.plain.specs.declared.call.Entry.{Entry}
 use Rattle.jfs_entered.specs.Laws.{IsReserved}
 use Rattle.jfs_entered.specs.Marked.{HasBits}
@@ -31,12 +27,9 @@ use Rattle.jfs_held_calls.specs.held.specs.Changes.{AllMay, after}
 use Rattle.jfs_held_calls.specs.Calls.{made_by}
 use Rattle.jfs_joined_held.specs.Held.{blocks_at, volume_at, held_at, IsHeldAs}
 
--- the volume after it, and its entry in the halves
+-- the volume after it
 abbrev pub volume_then : (ℕ → ℕ) → Parts → List Edit → List DataPage → Volume
 volume_then area old tx put = after_writes (blocks_at old) put tx (volume_at area old)
-
-abbrev pub happened : (entry : Entry) (now : Moment) (half : VolumeHalf) (tx : List Edit) (put : List DataPage) (number : ℕ) (mid new : Parts) → JoinsWith ⊤ entry tx put number mid new → Happened
-happened entry now half tx put number mid new joins = entered entry now (noted tx joins.notes) new.inodes (after_changes half (writes put))
 
 -- ---- what is known of it
 
@@ -70,9 +63,8 @@ pub record IsRunOfCall (m : Mount) (area : ℕ → ℕ) (old new : Parts) (both 
   pub held : IsHeldAs m area new (after m (held_at both core volumes area old) (made_by (volume_at area old) put h w)).both (after m (held_at both core volumes area old) (made_by (volume_at area old) put h w)).core
       (after m (held_at both core volumes area old) (made_by (volume_at area old) put h w)).volumes
 
--- Its entry joins, and the parts stand for a half that has moved by the writes of the data and by the entry, as an append says of itself.
+-- Its entry joins, as the code says of an append. The parts from which it was asked stand for the halves, once what was reserved for it is free again.
 abbrev pub CalledLaw : Type 0
 CalledLaw = (m : Mount) (area : ℕ → ℕ) (now : Moment) (tx : List Edit) (put : List DataPage) (entry : Entry) (number : ℕ) (asked : Bool) (old mid new : Parts) (both : Halves) (core : Core) (volumes : ℕ → Volume)
-    → IsHeldAs m area old both core volumes → IsAnswered area old mid tx put → (joins : JoinsWith ⊤ entry tx put number mid new)
-    → Moves true asked (unreserved tx mid) new both.volume (writes put ++ Enters (happened entry now both.volume tx put number mid new joins) ∷ []) → LogsCall m area old tx put
-    → IsRunOfCall m area old new both core volumes put (happened entry now both.volume tx put number mid new joins) (volume_then area old tx put)
+    → IsHeldAs m area old both core volumes → IsAnswered area old mid tx put → (joined : IsJoined ⊤ ⊤ entry tx put number mid new) → StandsFor true asked (unreserved tx mid) both.volume → LogsCall m area old tx put
+    → IsRunOfCall m area old new both core volumes put (happened entry now tx joined.joins.notes put new.inodes both.volume) (volume_then area old tx put)

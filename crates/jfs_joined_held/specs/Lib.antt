@@ -4,3 +4,4 @@ pub mod Called
 -- libraries below, passed on
 pub use Rattle.jfs_held_calls as held_calls
 pub use Rattle.jfs_held_calls.specs.held
+pub use Rattle.jfs_volume as volume

@@ -19,9 +19,8 @@ use Rattle.jfs_served.specs.plain.specs.declared.reply.Reply.{Reply}
 use Rattle.jfs_served.specs.plain.specs.declared.reply.Reply.TheVariants.{Done, Refused}
 use Rattle.jfs_served.specs.volume.specs.Asked.{IsAskedOf}
 use Rattle.jfs_served.specs.volume.specs.Join.{entry_with}
-use Rattle.jfs_served.specs.volume.specs.Data.{IsPartlyPut}
+use Rattle.jfs_served.specs.volume.specs.Called.{StopsReading, StopsPutting}
 use Rattle.jfs_served.specs.volume.specs.Settles.{Settles}
-use Rattle.jfs_served.specs.volume.specs.data_steps.specs.After.{EachOnce}
 use Rattle.jfs_served.specs.volume_calls.specs.Written.{KeepsPages}
 use Rattle.jfs_served.specs.halves.specs.Parts.{Parts}
 use Rattle.jfs_served.specs.volume.specs.pages.specs.Device.{IsFault, HasFault}
@@ -156,8 +155,8 @@ module _ (laws : Laws) (tells crashes : Type 0) (told : tells) (area : ℕ → �
 
     module _ (tx : List Edit) (put : List DataPage) (is : IsAnswer a.request a.now old mid (Changed tx put)) where
       -- a page couldn't be read; or a write of its data failed
-      failed : (fault : Fault) (new : Parts) (reply : Reply) (number : ℕ) (waits : Bool) (f : IsFailedBy tells a.caller a.request tx put fault mid new reply number waits)
-          → ((f.mid.halted ≡ mid.halted) × (tells → f.mid.view ≡ mid.view)) ⊎ ((f.mid.halted ≡ Some fault) × (tells → EachOnce put → IsPartlyPut put mid.view f.mid.view)) → TakesStep area log_pages a.request.call a.now reply old new
+      failed : (fault : Fault) (new : Parts) (reply : Reply) (number : ℕ) (waits : Bool) (f : IsFailedBy tells crashes a.caller a.request tx put fault mid new reply number waits)
+          → StopsReading tells crashes mid f.mid ⊎ StopsPutting tells crashes tx put fault mid f.mid → TakesStep area log_pages a.request.call a.now reply old new
       failed fault new reply number waits f by = subst (λ (given : Reply). TakesStep area log_pages a.request.call a.now given old new) (sym f.reply_is) (step by)
         where
           entry : Entry
@@ -166,24 +165,24 @@ module _ (laws : Laws) (tells crashes : Type 0) (told : tells) (area : ℕ → �
           cause : IsFault old.faults f.mid.faults fault
           cause = subst (λ (n : ℕ). IsFault n f.mid.faults fault) (ap (λ (low : Fault). low.count) is.fault) f.fails.is_fault
 
-          step : ((f.mid.halted ≡ mid.halted) × (tells → f.mid.view ≡ mid.view)) ⊎ ((f.mid.halted ≡ Some fault) × (tells → EachOnce put → IsPartlyPut put mid.view f.mid.view)) → TakesStep area log_pages a.request.call a.now (Refused (IoFault fault)) old new
-          step (inl (same, view)) =
-              let stays = laws.given_back area log_pages a.request a.now tx put old mid f.mid may was is f.given_back (view told) in
+          step : StopsReading tells crashes mid f.mid ⊎ StopsPutting tells crashes tx put fault mid f.mid → TakesStep area log_pages a.request.call a.now (Refused (IoFault fault)) old new
+          step (inl reads) =
+              let stays = laws.given_back area log_pages a.request a.now tx put old mid f.mid may was is f.given_back (reads.view told) in
               laws.refused.failed area log_pages a.request.call a.now fault old new may
               (laws.again area log_pages old f.mid new stays (laws.joined area log_pages entry f.mid new stays.keeps.holds f.parts))
               (inl (subst (λ (n : ℕ). IsFault old.faults n fault) (sym (ap (λ (p : Parts). p.faults) f.parts)) cause))
-          step (inr (halts, partly)) = laws.torn area log_pages a.request a.now tx put fault entry old mid f.mid new may was is f.given_back (partly told) cause f.parts
+          step (inr puts) = laws.torn area log_pages a.request a.now tx put fault entry old mid f.mid new may was is f.given_back (puts.view told) cause f.parts
 
-      changed : (new : Parts) (outcome : Outcome) → IsChangedBy tells a.caller a.request tx put mid new outcome → Ends old new outcome
+      changed : (new : Parts) (outcome : Outcome) → IsChangedBy tells crashes a.caller a.request tx put mid new outcome → Ends old new outcome
       changed new (Replied reply number waits) (inl d) =
           subst (λ (given : Reply). TakesStep area log_pages a.request.call a.now given old new) (sym d.reply_is)
           (laws.changed area log_pages a.request a.now tx put (entry_with a.caller.client a.caller.line a.request Done) number old mid new may was is
-          (told_joins tells crashes told (entry_with a.caller.client a.caller.line a.request Done) tx put number mid new d.joins))
-      changed new (Replied reply number waits) (inr (fault, f)) = failed fault new reply number waits f f.fails.halted
+          (told_joins tells crashes told (entry_with a.caller.client a.caller.line a.request Done) tx put number mid new d.joins.joins))
+      changed new (Replied reply number waits) (inr (fault, f)) = failed fault new reply number waits f f.fails.fails
       changed new NeedsLog (given, goes, lacks) = laws.given_back area log_pages a.request a.now tx put old mid new may was is given (goes.view told)
       changed new NoMemory c = tt
 
-      changes : (b : Bool) (new : Parts) (outcome : Outcome) → ChangesWhere b tells a.caller a.request tx put mid new outcome → Ends old new outcome
+      changes : (b : Bool) (new : Parts) (outcome : Outcome) → ChangesWhere b tells crashes a.caller a.request tx put mid new outcome → Ends old new outcome
       changes true new outcome c = changed new outcome c
       changes false new outcome (none, same) = ends_none old new outcome none
 
@@ -195,7 +194,7 @@ module _ (laws : Laws) (tells crashes : Type 0) (told : tells) (area : ℕ → �
     told_same reply new NoMemory is (inl (kept, r)) = tt
     told_same reply new outcome is (inr (none, same)) = ends_none old new outcome none
 
-    by_answer : (answer : FileOutcome) (new : Parts) (outcome : Outcome) → IsAnswer a.request a.now old mid answer → EndsBy tells a.caller a.request answer mid new outcome → Ends old new outcome
+    by_answer : (answer : FileOutcome) (new : Parts) (outcome : Outcome) → IsAnswer a.request a.now old mid answer → EndsBy tells crashes a.caller a.request answer mid new outcome → Ends old new outcome
     by_answer (Changed tx put) new outcome is e = changes tx put is (is_changing a.request.call) new outcome e
     by_answer (Unchanged reply) new outcome is e = told_same reply new outcome is e
     by_answer Awaits new outcome is (needs, same) =

@@ -1,17 +1,15 @@
 -- Clauses of a disk that may tell its contents, where it does.
 use Rattle.std.specs.Bool.{⊤}
-use Rattle.std.proofs.Common.{◌≡◌, ℕ, List, ◌⊎◌, inl, inr, Some}
+use Rattle.std.proofs.Common.{◌≡◌, ℕ, List, ◌⊎◌, inl, inr}
 use Rattle.jfs_disk.specs.Image.{Image}
 use Rattle.jfs_disk.specs.Crash.{DiskState}
 use Rattle.jfs_ranges.specs.declared.edit.Edit.{Edit}
 use Rattle.jfs_super.specs.declared.fields.Super.{Super}
 use Rattle.jfs_call.specs.volume.specs.Asked.{IsAskedOf}
-use Rattle.jfs_call.specs.volume.specs.Called.{JoinsWith, GoesOn, CallIs}
+use Rattle.jfs_call.specs.volume.specs.Called.{JoinsWith, StopsReading, StopsPutting, GoesOn, CallIs}
 use Rattle.jfs_call.specs.volume.specs.declared.calling.Called.{Called}
 use Rattle.jfs_call.specs.volume.specs.declared.calling.Called.TheVariants.{Entered, NoRoom, NoMemory, Failed, Unfit}
-use Rattle.jfs_call.specs.volume.specs.Data.{IsPartlyPut}
 use Rattle.jfs_call.specs.volume.specs.Settles.{StaysShown, HomesAlone}
-use Rattle.jfs_call.specs.volume.specs.data_steps.specs.After.{EachOnce}
 use Rattle.jfs_call.specs.volume.specs.data_steps.specs.declared.pages.DataPage.{DataPage}
 use Rattle.jfs_call.specs.volume_calls.specs.Written.{KeepsPages}
 use Rattle.jfs_call.specs.halves.specs.Log.{LogParts}
@@ -25,8 +23,8 @@ module _ (tells crashes : Type 0) (told : tells) where
   pub told_asked : (old mid : Parts) → IsAskedOf tells crashes old mid → IsAsked old mid
   told_asked old mid a = record { parts = a.parts; view = a.view told }
 
-  told_on : (old new : Parts) → GoesOn tells old new → GoesOn ⊤ old new
-  told_on old new g = record { halted = g.halted; view = λ t. g.view told; faults = g.faults }
+  told_on : (old new : Parts) → GoesOn tells crashes old new → GoesOn ⊤ ⊥ old new
+  told_on old new g = record { halted = g.halted; view = λ t. g.view told; faults = g.faults; disk = record { image = λ t. g.disk.image told; states = λ c. absurd c } }
 
   pub told_joins : (entry : Entry) (tx : List Edit) (put : List DataPage) (number : ℕ) (old new : Parts) → JoinsWith tells entry tx put number old new → JoinsWith ⊤ entry tx put number old new
   told_joins entry tx put number old new j = record {
@@ -45,17 +43,17 @@ module _ (tells crashes : Type 0) (told : tells) where
     faults = j.faults;
   }
 
-  pub told_called : (entry : Entry) (tx : List Edit) (put : List DataPage) (old new : Parts) (called : Called) → CallIs tells entry tx put old new called → CallIs ⊤ entry tx put old new called
-  told_called entry tx put old new (Entered number) j = told_joins entry tx put number old new j
+  pub told_called : (entry : Entry) (tx : List Edit) (put : List DataPage) (old new : Parts) (called : Called) → CallIs tells crashes entry tx put old new called → CallIs ⊤ ⊥ entry tx put old new called
+  unfolding told_joins
+  told_called entry tx put old new (Entered number) j = record { joins = told_joins entry tx put number old new j.joins; writable = j.writable; moves = λ now seen asked t c. j.moves now seen asked (λ e. told) (λ e. absurd (c e)) }
   told_called entry tx put old new NoRoom (back, on, full) = (back, told_on old new on, full)
   told_called entry tx put old new NoMemory (back, on) = (back, told_on old new on)
   told_called entry tx put old new Unfit (back, on) = (back, told_on old new on)
-  told_called entry tx put old new (Failed fault) (back, fails) = (back, record { is_fault = fails.is_fault; halted = by fails.halted })
+  told_called entry tx put old new (Failed fault) (back, fails) = (back, record { is_fault = fails.is_fault; fails = by fails.fails })
     where
-      by : ((new.halted ≡ old.halted) × (tells → new.view ≡ old.view)) ⊎ ((new.halted ≡ Some fault) × (tells → EachOnce put → IsPartlyPut put old.view new.view))
-          → ((new.halted ≡ old.halted) × (⊤ → new.view ≡ old.view)) ⊎ ((new.halted ≡ Some fault) × (⊤ → EachOnce put → IsPartlyPut put old.view new.view))
-      by (inl (same, view)) = inl (same, λ t. view told)
-      by (inr (halts, partly)) = inr (halts, λ t. partly told)
+      by : StopsReading tells crashes old new ⊎ StopsPutting tells crashes tx put fault old new → StopsReading ⊤ ⊥ old new ⊎ StopsPutting ⊤ ⊥ tx put fault old new
+      by (inl r) = inl (record { halted = r.halted; view = λ t. r.view told; disk = record { image = λ t. r.disk.image told; states = λ c. absurd c } })
+      by (inr p) = inr (record { halted = p.halted; view = λ t. p.view told; moves = λ seen asked t c. p.moves seen asked (λ e. told) (λ e. absurd (c e)) })
 
   pub told_pages : (old new : Parts) → KeepsPages tells old new → KeepsPages ⊤ old new
   told_pages old new k = record { files = k.files; view = λ t. k.view told }

@@ -60,7 +60,7 @@ UnfinishedLaw = (area : ℕ → ℕ) (log_pages : ℕ) (request : Request) (now 
 -- all of it
 abbrev pub CalledLaw : Type 0
 CalledLaw = (area : ℕ → ℕ) (log_pages : ℕ) (request : Request) (now : Moment) (tx : List Edit) (put : List DataPage) (entry : Entry) (called : Called) (old mid new : Parts)
-    → MayServe area log_pages old → IsAsked old mid → IsAnswer request now old mid (Changed tx put) → CallIs ⊤ entry tx put mid new called → Leaves area log_pages request.call now old new called
+    → MayServe area log_pages old → IsAsked old mid → IsAnswer request now old mid (Changed tx put) → CallIs ⊤ ⊥ entry tx put mid new called → Leaves area log_pages request.call now old new called
 
 -- ---- a call without one
 

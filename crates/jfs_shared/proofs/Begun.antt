@@ -1,15 +1,18 @@
 -- A volume that was just mounted, and its log, stand for no entry.
-use Rattle.std.proofs.Common.{◌≡◌, ◌<◌, ◌≤◌, ◌^◌, ℕ, ◌-◌, ◌*◌, List, [], ◌∷◌, ◌++◌, length, true, false, refl, inl, sym, ap, subst, ◌∙◌, arith, append-nil}
-use Rattle.std.proofs.lemmas.Bool.{false≢true}
+use Rattle.std.proofs.Common.{◌≡◌, ◌⊎◌, ◌<◌, ◌≤◌, ◌+◌, ◌^◌, ℕ, ◌-◌, ◌*◌, List, [], ◌∷◌, ◌++◌, length, true, false, refl, inl, inr, sym, ap, subst, ◌∙◌, arith, append-nil}
+use Rattle.std.proofs.lemmas.Bool.{false≢true, cases_lt}
+use Rattle.std.proofs.lemmas.List.{get_or_past}
+use Rattle.jfs_disk.specs.Seen.{page_of-seen_of}
+use Rattle.jfs_disk.proofs.Flow.{history-settled, length-settled, crash-settled}
 use Rattle.jfs_disk.specs.Image.{Image, page_of}
-use Rattle.jfs_disk.specs.Crash.{last_of}
+use Rattle.jfs_disk.specs.Crash.{PageHistory, DiskState, IsCrashPage, history_of, no_page, seen_of, settled, last_of}
 use Rattle.jfs_disk.specs.Moment.{IsResting}
 use Rattle.jfs_super.specs.Geometry.{IsLayout, geometry_of}
 use Rattle.jfs_super.specs.Rules.{blocks_of}
 use Rattle.jfs_super.proofs.Rules.{accepted_layout}
 use Rattle.jfs_super.specs.declared.fields.Super.{Super}
 use Rattle.jfs_logfmt.specs.Written.{text_of}
-use Rattle.jfs_logpages.specs.Fresh.{first_record}
+use Rattle.jfs_logpages.specs.Fresh.{first_record, super_page}
 use Rattle.jfs_logpages.specs.Group.{Holds, position_of}
 use Rattle.jfs_logpages.specs.Ring.{IsRing, fresh_text, fresh_ends}
 use Rattle.jfs_records.specs.Entries.{point}
@@ -27,8 +30,26 @@ use Rattle.jfs_legal.proofs.Going.{begin_law}
 use Rattle.jfs_legal.proofs.Known.{laws}
 use Rattle.jfs_shared.specs.Shared.{logs_of, HasText, IsShared, IsServed}
 use Rattle.jfs_shared.specs.Faults.{any_failed}
+use Rattle.jfs_shared.specs.Base.{log_start_of}
 use Rattle.jfs_shared.specs.Start.{IsJustMounted, start_at, base_at}
 use Rattle.jfs_shared.proofs.Fresh.{fresh_holds}
+
+-- of a page with nothing pending a crash leaves what a read gives
+rested : (h : PageHistory) (page : List ℕ) → h ≡ record { seen = h.seen; stable = h.seen; writes = [] } → IsCrashPage h page → page ≡ h.seen
+rested h page same crash = ap (λ (im : Image). page_of im 0) (crash-settled (h ∷ []) (page ∷ []) (record { number = sym (length-settled (h ∷ [])); each = each }))
+  where
+    each : (n : ℕ) → n < length (settled (h ∷ [])) → IsCrashPage (history_of (settled (h ∷ [])) n) (page_of (page ∷ []) n)
+    each n small =
+        let first : n ≡ 0 = omega (arith, small, length-settled (h ∷ [])) in
+        subst (λ (k : ℕ). IsCrashPage (history_of (settled (h ∷ [])) k) (page_of (page ∷ []) k)) (sym first)
+        (subst (λ (x : PageHistory). IsCrashPage x page) (same ∙ sym (history-settled (h ∷ []) 0 (omega arith))) crash)
+
+rested_page : (state : DiskState) (n : ℕ) (page : List ℕ) → IsResting state → IsCrashPage (history_of state n) page → page ≡ page_of (seen_of state) n
+rested_page state n page rests crash = by (cases_lt n (length state)) ∙ sym (page_of-seen_of state n)
+  where
+    by : (n < length state) ⊎ (length state ≤ n) → page ≡ (history_of state n).seen
+    by (inl here) = rested (history_of state n) page (ap (λ (states : DiskState). history_of states n) rests ∙ history-settled state n here) crash
+    by (inr past) = rested no_page page refl (subst (λ (h : PageHistory). IsCrashPage h page) (get_or_past state n no_page past) crash) ∙ sym (ap (λ (h : PageHistory). h.seen) (get_or_past state n no_page past))
 
 module _ (tells crashes : Type 0) (s : Super) (image : Image) (volume : Parts) (log : LogParts) (m : IsJustMounted tells crashes s image volume log) where
   abbrev ring : ℕ
@@ -60,6 +81,7 @@ module _ (tells crashes : Type 0) (s : Super) (image : Image) (volume : Parts) (
     ring_is = stands.text.ring;
     place = let place = stands.text.place in omega (arith, place);
     bytes = stands.text.bytes;
+    ends = stands.text.ends;
     last = stands.text.last;
   }
 
@@ -102,8 +124,18 @@ module _ (tells crashes : Type 0) (s : Super) (image : Image) (volume : Parts) (
   rests : crashes → IsResting (last_of log.past)
   rests c = (m.mount.log_fresh false true (none_told tells) (λ _. c)).resting refl refl
 
-  pub begun_stands : (now : LogData) → now.image ≡ log.image → now.past ≡ log.past → now.last ≡ log.last → now.durable ≡ log.durable → now.points ≡ 0 → now.halted ≡ log.halted → now.faults < 2 ^ 64 → LogStandsFor logs_of tells crashes (start_at s volume now.pages now.faults).log now [] 0 0 [] 0
-  begun_stands now same_image past last durable points halted few = fresh logs_of tells crashes (start_at s volume now.pages now.faults).log now (fresh_ends ring)
+  -- a fresh log's superblock, of which nothing is pending
+  super : (now : LogData) → now.image ≡ log.image → now.past ≡ log.past → (crashes → now.image ≡ seen_of (last_of now.past)) → tells → crashes → (page : List ℕ) → IsCrashPage (history_of (last_of now.past) 1) page → page ≡ (log_start_of (base_at s image volume now.pages now.faults)).super
+  super now same_image same_past seen t c page crash =
+      rested_page (last_of now.past) 1 page (subst (λ states. IsResting (last_of states)) (sym same_past) (rests c)) crash
+      ∙ ap (λ im. page_of im 1) (sym (seen c) ∙ same_image)
+      ∙ (m.fresh t).super_block
+      ∙ ap (λ (n : ℕ). super_page n s.uuid) (let shortest = layout.shortest in let k : s.logpxd.len ≡ ring + 2 = omega (arith, shortest) in k)
+      ∙ ap (λ (u : Super). super_page (ring + 2) u.uuid) (sym (m.spelled t))
+
+  pub begun_stands : (now : LogData) → now.image ≡ log.image → now.past ≡ log.past → now.last ≡ log.last → now.durable ≡ log.durable → now.points ≡ 0 → now.halted ≡ log.halted → (crashes → now.image ≡ seen_of (last_of now.past)) → now.faults < 2 ^ 64
+      → LogStandsFor logs_of tells crashes (log_start_of (base_at s image volume now.pages now.faults)) now [] 0 0 [] 0
+  begun_stands now same_image past last durable points halted seen few = fresh logs_of tells crashes (log_start_of (base_at s image volume now.pages now.faults)) now (fresh_ends ring)
       (ap (λ l. l.ring) last ∙ log_stands.ring)
       refl
       refl
@@ -114,3 +146,4 @@ module _ (tells crashes : Type 0) (s : Super) (image : Image) (volume : Parts) (
       (halted ∙ log_stands.halted)
       (λ t. subst (λ l. Holds l (fresh_text ring (text_of first_record)) (fresh_ends ring) now.image) (sym last) (subst (λ im. Holds log.last (fresh_text ring (text_of first_record)) (fresh_ends ring) im) (sym same_image) (holds t)))
       (λ c. subst (λ states. IsResting (last_of states)) (sym past) (rests c))
+      (super now same_image past seen)

@@ -1,26 +1,19 @@
 -- The log side behind a SYNCPT, and where groups have taken all.
 use Rattle.std.proofs.Common.{◌≡◌, ◌<◌, ℕ, suc, ◌+◌, ◌^◌, List, [], ◌∷◌, ◌++◌, length, Option, Some, None, refl, sym, ap, subst, ◌∙◌, arith, append_assoc, append-nil}
 use Rattle.std.proofs.lemmas.List.{length-append}
-use Rattle.std.proofs.lemmas.Grind.{flat_map-append}
-use Rattle.jfs_disk.specs.Image.{Image}
+use Rattle.jfs_disk.specs.Crash.{PageHistory, IsCrashPage}
 use Rattle.jfs_disk.specs.declared.disk.Fault.{Fault}
-use Rattle.jfs_logfmt.specs.Written.{text_of}
 use Rattle.jfs_logfmt.specs.declared.log_record.Record.TheVariants.{SyncPt}
 use Rattle.jfs_logpages.specs.declared.group_text.GroupText.{GroupText}
-use Rattle.jfs_logpages.specs.declared.last.Last.{Last}
-use Rattle.jfs_logpages.specs.Group.{Holds}
 use Rattle.jfs_logpages.specs.Records.{log_text}
 use Rattle.jfs_records.specs.Records.{Noted}
-use Rattle.jfs_records.specs.Entries.{Item, point, log_records}
-use Rattle.jfs_records.proofs.ReadBack.{records-append}
 use Rattle.jfs_turns.specs.Lists.{IsPrefix}
 use Rattle.jfs_groups.specs.Points.{syncs}
 use Rattle.jfs_groups.specs.Start.{LogStart, Grows}
-use Rattle.jfs_groups.specs.Text.{entries_in, text_with, HoldsText}
 use Rattle.jfs_groups.specs.Log.{LogData, IsRunning, LogStandsFor}
 use Rattle.jfs_groups.specs.Written.{IsGroupWritten, IsGroupLost}
-use Rattle.jfs_groups.proofs.Text.{entries-append, points-append, start_of, zeros_of}
-use Rattle.jfs_groups.proofs.Stands.{lost_stands}
+use Rattle.jfs_groups.proofs.Text.{pointed}
+use Rattle.jfs_groups.proofs.Stands.{more_lost, point_lost, lost_stands}
 use Rattle.jfs_shared.proofs.Points.{synced_more, marked_more}
 
 none_some : (fault : Fault) → ◌≡◌ {A = Option Fault} None (Some fault) → ⊥
@@ -35,29 +28,6 @@ pub whole_front : {A : Type 0} (xs ys : List A) → IsPrefix xs ys → length xs
 whole_front {A} xs ys (more, e) same = sym (append-nil xs) ∙ ap (λ (rest : List A). xs ++ rest) (sym (none_left more (let k : length more ≡ 0 = omega (arith, ap (λ (l : List A). length l) e, length-append xs more, same) in k))) ∙ e
 
 module _ {E : Type 0} (logs : E → Option (List Noted)) where
-  -- the log holds the text with a SYNCPT more
-  pub pointed_holds : (ring points : ℕ) (list : List E) (last later : Last) (before after : Image) (bytes : List ℕ) → bytes ≡ log_text (SyncPt 0 ∷ []) → HoldsText logs ring list points last before
-      → ((front ends : List ℕ) → Holds last front ends before → (new : List ℕ) × Holds later (front ++ bytes) new after) → HoldsText logs ring list (suc points) later after
-  pointed_holds ring points list last later before after bytes is h write =
-      let w = write (text_with ring h.items) h.ends h.holds in
-      record {
-        items = h.items ++ point 0 ∷ [];
-        entries = entries-append h.items (point 0 ∷ []) ∙ append-nil (entries_in h.items) ∙ h.entries;
-        syncpoints = omega (arith, points-append h.items (point 0 ∷ []), h.syncpoints);
-        ends = w.0;
-        holds = subst (λ (text : List ℕ). Holds later text w.0 after) same w.1;
-      }
-    where
-      so_far : List Item
-      so_far = point 0 ∷ h.items
-
-      same : text_with ring h.items ++ bytes ≡ text_with ring (h.items ++ point 0 ∷ [])
-      same = append_assoc (zeros_of ring) (log_text (log_records ring (start_of ring) so_far)) bytes
-          ∙ ap (λ (text : List ℕ). zeros_of ring ++ text)
-          (ap (λ (text : List ℕ). log_text (log_records ring (start_of ring) so_far) ++ text) is
-          ∙ sym (flat_map-append text_of (log_records ring (start_of ring) so_far) (SyncPt 0 ∷ []))
-          ∙ ap log_text (sym (records-append ring (start_of ring) so_far (point 0 ∷ []))))
-
   module _ (tells crashes : Type 0) (start : LogStart) (l m : LogData) (list : List E) (taken durable : ℕ) (points : List ℕ) (stable : ℕ) (s : LogStandsFor logs tells crashes start l list taken durable points stable) (runs : l.halted ≡ None) where
     r : IsRunning logs tells crashes start.ring l list taken durable points stable
     r = s.runs runs
@@ -78,16 +48,19 @@ module _ {E : Type 0} (logs : E → Option (List Noted)) where
         unmarked = marked_more points (length list) few ∙ r.unmarked;
         stable_all = let k : suc (length points) ≡ length (points ++ length list ∷ []) = omega (arith, length-append points (length list ∷ [])) in k;
         place = omega (arith, w.place, r.place, size, synced_more points (length list) few);
-        holds = λ t. subst (λ (n : ℕ). HoldsText logs start.ring list n m.last m.image) (sym (synced_more points (length list) few))
-            (pointed_holds start.ring (syncs points) list l.last m.last l.image m.image group.bytes.items bytes (r.holds t) (w.holds t));
+        holds = λ t. pointed logs start.ring points list l.last m.last l.image m.image group.bytes.items bytes (r.holds t) (w.holds t);
         resting = λ k. w.resting k (r.resting k);
       };
+      super = λ t k page crash. s.super t k page (subst (λ (h : PageHistory). IsCrashPage h page) (w.super k (r.resting k)) crash);
+      lost = λ t k fault e. absurd (none_some fault (sym w.runs ∙ e));
       halts = λ fault e. absurd (none_some fault (sym w.runs ∙ e));
     }
 
     -- one that isn't: whatever syncpoints there are, no more of them are stable
-    pub lost_point : (fault : Fault) (more : List ℕ) → IsGroupLost fault l m → LogStandsFor logs tells crashes start m list taken durable more stable
-    lost_point fault more w = lost_stands logs tells crashes start l m list list taken taken durable points more stable fault s w
+    pub lost_point : (group : GroupText) (fault : Fault) (more : List ℕ) → group.bytes.items ≡ log_text (SyncPt 0 ∷ []) → group.ends.items ≡ 36 ∷ [] → IsPrefix (points ++ length list ∷ []) more → IsGroupLost tells crashes group fault l m → LogStandsFor logs tells crashes start m list taken durable more stable
+    lost_point group fault more bytes ends further w = lost_stands logs tells crashes start l m list list taken taken durable points more stable group fault s runs w
+        (λ t k. more_lost logs tells crashes start.ring m.past list list durable (points ++ length list ∷ []) more stable ([], append-nil list) further
+        (point_lost logs tells crashes start l m list taken durable points stable group fault s runs bytes ends w t k))
 
     -- where groups have taken all entries of a list that goes on the log's, it is the log's
     pub all_taken : (whole : List E) → IsPrefix list whole → taken ≡ length whole → LogStandsFor logs tells crashes start l whole (length whole) (length whole) points stable
@@ -100,5 +73,7 @@ module _ {E : Type 0} (logs : E → Option (List Noted)) where
           count = s.count ∙ r.durable_all;
           stable = s.stable;
           runs = λ e. let q = s.runs e in record { taken_all = refl; durable_all = refl; unmarked = q.unmarked; stable_all = q.stable_all; place = q.place; holds = q.holds; resting = q.resting };
+          super = s.super;
+          lost = λ t k fault e. absurd (none_some fault (sym runs ∙ e));
           halts = s.halts;
         })

@@ -38,7 +38,7 @@ use Rattle.jfs_shared.specs.Home.{IsSettled}
 use Rattle.jfs_shared.specs.Faults.{IsOfDisk}
 use Rattle.jfs_shared.specs.Shared.{logs_of, entries_in, HasText, IsShared, IsServed, IfConsistent}
 use Rattle.jfs_shared.specs.Entries.{Recorded}
-use Rattle.jfs_shared.proofs.Text.{added, reaches, taken_text, joined_text, pointed_text}
+use Rattle.jfs_shared.proofs.Text.{added, ended, reaches, taken_text, joined_text, pointed_text}
 use Rattle.jfs_shared.proofs.Disk.{same_disk, pointed_disk, marked_disk, replied_disk, asked_disk, lacked_disk, home_disk, stopped_disk}
 use Rattle.jfs_shared.proofs.Points.{all_syncs, marked_syncs, synced_more, marked_more}
 use Rattle.jfs_shared.proofs.Stepped.{Stood, Grew}
@@ -110,7 +110,7 @@ module _ (tells : Type 0) (base : Base) (list : List Recorded) (taken told : ℕ
         told_within = h.told_within;
         taken_within = let w = h.taken_within in omega (arith, w, length-append list (e ∷ []));
         text = joined_text (start_of base).log.ring list taken (syncs points) old.text h.text h.taken_within e new.text a.keeps.ring a.keeps.place
-            (g.bytes ∙ ap (λ (n : ℕ). old.text.bytes ++ added noted n old.text) next) (g.last ∙ next);
+            (g.bytes ∙ ap (λ (n : ℕ). old.text.bytes ++ added noted n old.text) next) (g.ends ∙ ap (λ (n : ℕ). ended noted n old.text) next) (g.last ∙ next);
         size = let before = h.size in omega (arith, a.keeps.size, a.keeps.blocks, before);
         disk = replied_disk client line request old new (start_of base) points h.disk reply number waits a;
         served = λ t consistent. served_joined tells crashes t s page broken list (record { caller = record { client = client; line = line }; request = request; now = now }) old new reply number waits noted
@@ -163,7 +163,7 @@ module _ (tells : Type 0) (base : Base) (list : List Recorded) (taken told : ℕ
     known_is = ap (λ (p : Parts). p.known) e ∙ h.known_is;
     told_within = let a = h.told_within in let b = h.taken_within in omega (arith, a, b);
     taken_within = omega arith;
-    text = taken_text (start_of base).log.ring list taken (syncs points) old.text h.text h.taken_within new.text (ap (λ (p : Parts). p.text.ring) e) (ap (λ (p : Parts). p.text.place) e) (ap (λ (p : Parts). p.text.bytes) e) (ap (λ (p : Parts). p.text.last) e);
+    text = taken_text (start_of base).log.ring list taken (syncs points) old.text h.text h.taken_within new.text (ap (λ (p : Parts). p.text.ring) e) (ap (λ (p : Parts). p.text.place) e) (ap (λ (p : Parts). p.text.bytes) e) (ap (λ (p : Parts). p.text.ends) e) (ap (λ (p : Parts). p.text.last) e);
     size = subst (λ (p : Parts). length p.map.states ≤ p.blocks) (sym e) h.size;
     disk = same_disk (start_of base) points old h.disk new (record { count = ap (λ (p : Parts). p.count) e; room = ap (λ (p : Parts). p.room) e; faults = ap (λ (p : Parts). p.faults) e; entries = ap (λ (p : Parts). p.entries) e; halted = ap (λ (p : Parts). p.halted) e });
     served = λ t consistent. served_settled tells ⊥ t s page broken list old new (group_settles old new parts) (group_pages tells old new parts) (h.served t consistent);
@@ -173,10 +173,11 @@ module _ (tells : Type 0) (base : Base) (list : List Recorded) (taken told : ℕ
       parts = e ∙ ap (λ (p : Parts). record old { taken = p.taken; text = p.text; halted = p.halted }) (sym e)
 
   -- it is the group of what no group has taken
-  pub group_is : (group : GroupText) → group.bytes.items ≡ old.text.bytes → group.last ≡ old.appended → IsWithinRoom old.text.ring old.text.sync old.text.place (length group.bytes.items) → IsGroupOf logs_of (start_of base).log.ring list taken (syncs points) group
-  group_is group bytes last room = record {
+  pub group_is : (group : GroupText) → group.bytes.items ≡ old.text.bytes → group.ends.items ≡ old.text.ends → group.last ≡ old.appended → IsWithinRoom old.text.ring old.text.sync old.text.place (length group.bytes.items) → IsGroupOf logs_of (start_of base).log.ring list taken (syncs points) group
+  group_is group bytes ends last room = record {
     last = last ∙ h.appended;
     bytes = bytes ∙ h.text.bytes;
+    ends = ends ∙ h.text.ends;
     room = subst (λ (r : ℕ). pages_of (length group.bytes.items) ≤ room_of r) h.text.ring_is room.0;
     numbers = let n = room.2 in omega (arith, n, ap (λ (b : List ℕ). length b) bytes, reaches (start_of base).log.ring list taken (syncs points) old.text h.text h.taken_within);
   }
@@ -279,7 +280,7 @@ module _ (tells : Type 0) (base : Base) (list : List Recorded) (taken told : ℕ
     told_within = let a = h.told_within in let b = h.taken_within in omega (arith, a, b);
     taken_within = omega arith;
     text = subst (λ (n : ℕ). HasText (start_of base).log.ring list (length list) n new.text) (sym (synced_more points (length list) few))
-        (pointed_text (start_of base).log.ring list taken (syncs points) old.text h.text h.taken_within new.text all (ap (λ (p : Parts). p.text.ring) e) (ap (λ (p : Parts). p.text.place) e) (ap (λ (p : Parts). p.text.bytes) e ∙ empty) (ap (λ (p : Parts). p.text.last) e));
+        (pointed_text (start_of base).log.ring list taken (syncs points) old.text h.text h.taken_within new.text all (ap (λ (p : Parts). p.text.ring) e) (ap (λ (p : Parts). p.text.place) e) (ap (λ (p : Parts). p.text.bytes) e ∙ empty) (ap (λ (p : Parts). p.text.ends) e) (ap (λ (p : Parts). p.text.last) e));
     size = subst (λ (p : Parts). length p.map.states ≤ p.blocks) (sym e) h.size;
     disk = pointed_disk (start_of base) points old h.disk (points ++ length list ∷ []) new (marked_more points (length list) few) (record { count = ap (λ (p : Parts). p.count) e; room = ap (λ (p : Parts). p.room) e; faults = ap (λ (p : Parts). p.faults) e; entries = ap (λ (p : Parts). p.entries) e; halted = ap (λ (p : Parts). p.halted) e });
     served = λ t consistent. beside new (e ∙ ap (λ (p : Parts). record old { points = p.points; known = p.known; taken = p.taken; text = p.text; halted = p.halted }) (sym e)) (ap (λ (p : Parts). p.halted) e) t consistent;

@@ -22,7 +22,7 @@ use Rattle.jfs_call.specs.files.specs.declared.outcome.FileOutcome.TheVariants.{
 use Rattle.jfs_call.specs.halves.specs.Parts.{Parts, Text}
 use Rattle.jfs_call.specs.volume.specs.Called.{JoinsNot}
 use Rattle.jfs_call.specs.volume.specs.Join.{with_entry}
-use Rattle.jfs_shared.proofs.Text.{added}
+use Rattle.jfs_shared.proofs.Text.{added, ended}
 
 -- no entry joins, and nothing waits more
 pub record Stood (old new : Parts) : Type 0 where
@@ -34,6 +34,7 @@ pub record Stood (old new : Parts) : Type 0 where
 pub record Grew (noted : Option (List Noted)) (old new : Parts) : Type 0 where
   pub known : new.known ≡ old.known
   pub bytes : new.text.bytes ≡ old.text.bytes ++ added noted (old.appended + 1) old.text
+  pub ends : new.text.ends ≡ ended noted (old.appended + 1) old.text
   pub last : new.text.last ≡ old.appended + 1
 
 abbrev pub StepIs : Parts → Parts → Outcome → Type 0
@@ -51,6 +52,7 @@ grew_on : (noted : Option (List Noted)) (old mid new : Parts) → Stood old mid 
 grew_on noted old mid new a b = record {
   known = b.known ∙ a.known;
   bytes = b.bytes ∙ ap (λ (n : ℕ). mid.text.bytes ++ added noted (n + 1) mid.text) a.appended ∙ ap (λ (t : Text). t.bytes ++ added noted (old.appended + 1) t) a.text;
+  ends = b.ends ∙ ap (λ (n : ℕ). ended noted (n + 1) mid.text) a.appended ∙ ap (λ (t : Text). ended noted (old.appended + 1) t) a.text;
   last = b.last ∙ ap (λ (n : ℕ). n + 1) a.appended;
 }
 
@@ -61,7 +63,7 @@ on old mid new NoMemory a b = stood_on old mid new a b
 
 -- an entry without records
 alone : (entry : Entry) (old new : Parts) → new ≡ with_entry entry old → Grew None old new
-alone entry old new e = record { known = ap (λ (p : Parts). p.known) e; bytes = ap (λ (p : Parts). p.text.bytes) e ∙ sym (append-nil old.text.bytes); last = ap (λ (p : Parts). p.text.last) e }
+alone entry old new e = record { known = ap (λ (p : Parts). p.known) e; bytes = ap (λ (p : Parts). p.text.bytes) e ∙ sym (append-nil old.text.bytes); ends = ap (λ (p : Parts). p.text.ends) e; last = ap (λ (p : Parts). p.text.last) e }
 
 same : (old new : Parts) → new ≡ old → Stood old new
 same old new e = record { known = ap (λ (p : Parts). p.known) e; text = ap (λ (p : Parts). p.text) e; appended = ap (λ (p : Parts). p.appended) e }
@@ -82,11 +84,11 @@ module _ (tells crashes : Type 0) (caller : Caller) (request : Request) where
   synced (Ok done) old new outcome r = replied _ true old new outcome r
   synced (Err fault) old new outcome r = replied _ false old new outcome r
 
-  changed : (old new : Parts) (outcome : Outcome) (tx : List Edit) (put : List DataPage) → IsChangedBy tells caller request tx put old new outcome → StepIs old new outcome
+  changed : (old new : Parts) (outcome : Outcome) (tx : List Edit) (put : List DataPage) → IsChangedBy tells crashes caller request tx put old new outcome → StepIs old new outcome
   changed old new (Replied reply number waits) tx put (inl d) =
-      let a = d.joins.adds.parts in (
-        Some (with_notes tx d.joins.notes),
-        record { known = ap (λ (p : Parts). p.known) a; bytes = ap (λ (p : Parts). p.text.bytes) a; last = ap (λ (p : Parts). p.text.last) a },
+      let a = d.joins.joins.adds.parts in (
+        Some (with_notes tx d.joins.joins.notes),
+        record { known = ap (λ (p : Parts). p.known) a; bytes = ap (λ (p : Parts). p.text.bytes) a; ends = ap (λ (p : Parts). p.text.ends) a; last = ap (λ (p : Parts). p.text.last) a },
       )
   changed old new (Replied reply number waits) tx put (inr (fault, f)) = (None, grew_on None old f.mid new (left_out old f.mid f.given_back.joins_not) (alone _ f.mid new f.parts))
   changed old new NeedsLog tx put (given, goes, lacks) = left_out old new given.joins_not
@@ -94,7 +96,7 @@ module _ (tells crashes : Type 0) (caller : Caller) (request : Request) where
   changed old new NoMemory tx put (inr (inl e)) = same old new e
   changed old new NoMemory tx put (inr (inr f)) = left_out old new f.given_back.joins_not
 
-  changes : (b : Bool) (old new : Parts) (outcome : Outcome) (tx : List Edit) (put : List DataPage) → ChangesWhere b tells caller request tx put old new outcome → StepIs old new outcome
+  changes : (b : Bool) (old new : Parts) (outcome : Outcome) (tx : List Edit) (put : List DataPage) → ChangesWhere b tells crashes caller request tx put old new outcome → StepIs old new outcome
   changes true old new outcome tx put c = changed old new outcome tx put c
   changes false old new outcome tx put (none, e) = no_memory old new outcome none e
 
@@ -102,10 +104,10 @@ module _ (tells crashes : Type 0) (caller : Caller) (request : Request) where
   unchanged reply old new outcome (inl (kept, r)) = replied reply false old new outcome r
   unchanged reply old new outcome (inr (none, e)) = no_memory old new outcome none e
 
-  ended : (answer : FileOutcome) (old new : Parts) (outcome : Outcome) → EndsBy tells caller request answer old new outcome → StepIs old new outcome
-  ended (Changed tx put) old new outcome e = changes (is_changing request.call) old new outcome tx put e
-  ended (Same reply) old new outcome e = unchanged reply old new outcome e
-  ended Awaits old new outcome (needs, e) = subst (StepIs old new) (sym needs) (same old new e)
+  answered : (answer : FileOutcome) (old new : Parts) (outcome : Outcome) → EndsBy tells crashes caller request answer old new outcome → StepIs old new outcome
+  answered (Changed tx put) old new outcome e = changes (is_changing request.call) old new outcome tx put e
+  answered (Same reply) old new outcome e = unchanged reply old new outcome e
+  answered Awaits old new outcome (needs, e) = subst (StepIs old new) (sym needs) (same old new e)
 
   module _ (now : Moment) where
     by : (refused : Option Fault) (syncs : Bool) (old new : Parts) (outcome : Outcome) → DoesWhere refused syncs tells crashes caller request now old new outcome → StepIs old new outcome
@@ -115,7 +117,7 @@ module _ (tells crashes : Type 0) (caller : Caller) (request : Request) where
         (synced d.synced d.mid new outcome d.told)
     by None false old new outcome d =
         on old d.mid new outcome (let e = d.asked.parts in record { known = ap (λ (p : Parts). p.known) e; text = ap (λ (p : Parts). p.text) e; appended = ap (λ (p : Parts). p.appended) e })
-        (ended d.answer d.mid new outcome d.ends)
+        (answered d.answer d.mid new outcome d.ends)
 
     pub stepped : (old new : Parts) (outcome : Outcome) → Does tells crashes caller request now old new outcome → StepIs old new outcome
     stepped old new outcome d = by (held old.halted request.call) (is_sync request.call) old new outcome d

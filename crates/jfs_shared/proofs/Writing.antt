@@ -1,5 +1,5 @@
 -- A group of all that waits: its write, and what volume and log stand for then.
-use Rattle.std.proofs.Common.{◌≡◌, ◌≤◌, ◌<◌, ◌⊎◌, ℕ, suc, ◌+◌, ◌*◌, ◌^◌, List, [], ◌∷◌, ◌++◌, length, None, false, inr, sym, ap, subst, ◌∙◌, arith}
+use Rattle.std.proofs.Common.{◌≡◌, ◌≤◌, ◌<◌, ◌⊎◌, ℕ, suc, ◌+◌, ◌*◌, ◌^◌, List, [], ◌∷◌, ◌++◌, length, None, false, inr, sym, ap, subst, ◌∙◌, arith, append-nil}
 use Rattle.jfs_disk.specs.Image.{page_of}
 use Rattle.jfs_disk.specs.declared.disk.Disk.{Ghosts}
 use Rattle.jfs_disk.specs.declared.disk.Fault.{Fault}
@@ -14,7 +14,8 @@ use Rattle.jfs_groups.specs.Points.{halt_mark, syncs}
 use Rattle.jfs_groups.specs.Log.{LogStandsFor, data_of}
 use Rattle.jfs_groups.specs.Written.{IsGroupWritten, IsGroupLost}
 use Rattle.jfs_groups.specs.declared.log.SharedLog.{SharedLog}
-use Rattle.jfs_groups.proofs.Stands.{may_write, written_stands, lost_stands}
+use Rattle.jfs_groups.proofs.Leading.{behind_all}
+use Rattle.jfs_groups.proofs.Stands.{may_write, written_stands, more_lost, group_lost, lost_stands}
 use Rattle.jfs_call.specs.halves.specs.Parts.{Parts}
 use Rattle.jfs_call.specs.volume.specs.bmap.specs.States.{blocks_settled}
 use Rattle.jfs_call.specs.volume.specs.Room.{IsWithinRoom}
@@ -34,6 +35,7 @@ use Rattle.jfs_shared.proofs.Stands.{group_stands, group_is, told_stands, point_
 -- what a volume hands out as a group
 pub record IsTakenFrom (old new : Parts) (group : GroupText) : Type 0 where
   pub bytes : group.bytes.items ≡ old.text.bytes
+  pub ends : group.ends.items ≡ old.text.ends
   pub last : group.last ≡ old.appended
   pub room : IsWithinRoom old.text.ring old.text.sync old.text.place (length group.bytes.items)
   pub parts : new ≡ record old { taken = old.appended; text = record old.text { place = old.text.place + length old.text.bytes; bytes = []; ends = [] } }
@@ -44,7 +46,7 @@ module _ {D : Type 0} (d : Ghosts D) (x : SharedVolume D) (y : SharedLog D d) (r
   module _ (new : Parts) (group : GroupText) (t : IsTakenFrom x.volume new group) where
     module _ (n : Seen) (k : AreOf (standing d) (log_standing d) n x y) where
       is_group : IsGroupOf logs_of (start_of n.base).log.ring n.list n.taken (syncs n.points) group
-      is_group = group_is d.tells n.base n.list n.taken n.told n.points n.known x.points x.is_broken_off x.volume k.volume group t.bytes t.last t.room
+      is_group = group_is d.tells n.base n.list n.taken n.told n.points n.known x.points x.is_broken_off x.volume k.volume group t.bytes t.ends t.last t.room
 
       taken : IsShared d.tells n.base n.list (length n.list) n.told n.points n.known x.points x.is_broken_off new
       taken = group_stands d.tells n.base n.list n.taken n.told n.points n.known x.points x.is_broken_off x.volume k.volume new t.parts
@@ -59,14 +61,16 @@ module _ {D : Type 0} (d : Ghosts D) (x : SharedVolume D) (y : SharedLog D d) (r
       written_stands logs_of d.tells d.tells_crashes (log_start_of n.base) (data_of d y) (data_of d y') n.log_list n.list n.taken n.durable n.points n.stable group k.front k.log runs (is_group n k) w,
     )
 
-    pub lost : (y' : SharedLog D d) (fault : Fault) (last : SharedVolume D) → Halts (standing d) (λ v. v.points) (record x { volume = new }) last → IsGroupLost fault (data_of d y) (data_of d y') → (n : Seen) → AreOf (standing d) (log_standing d) n x y
+    pub lost : (y' : SharedLog D d) (fault : Fault) (last : SharedVolume D) → Halts (standing d) (λ v. v.points) (record x { volume = new }) last → IsGroupLost d.tells d.tells_crashes group fault (data_of d y) (data_of d y') → (n : Seen) → AreOf (standing d) (log_standing d) n x y
         → Lost (standing d) (log_standing d) n last y'
     lost y' fault last halts w n k =
         let g = halts n.base n.list (length n.list) n.told n.points n.known (taken n k) in (
           g.0,
           g.1,
           g.2,
-          lost_stands logs_of d.tells d.tells_crashes (log_start_of n.base) (data_of d y) (data_of d y') n.log_list n.list n.taken (length n.list) n.durable n.points g.0 n.stable fault k.log w,
+          lost_stands logs_of d.tells d.tells_crashes (log_start_of n.base) (data_of d y) (data_of d y') n.log_list n.list n.taken (length n.list) n.durable n.points g.0 n.stable group fault k.log runs w
+              (λ t c. more_lost logs_of d.tells d.tells_crashes (log_start_of n.base).ring (data_of d y').past n.list n.list n.durable n.points g.0 n.stable ([], append-nil n.list) (behind_all n.points g.0 g.1)
+              (group_lost logs_of d.tells d.tells_crashes (log_start_of n.base) (data_of d y) (data_of d y') n.log_list n.list n.taken n.durable n.points n.stable group fault k.front k.log runs (is_group n k) w t c)),
         )
 
     pub may_halt : AreTogether (standing d) (log_standing d) x y → Stands d (record x { volume = new })
@@ -116,14 +120,14 @@ module _ {D : Type 0} (d : Ghosts D) (x : SharedVolume D) (y : SharedLog D d) (r
         pointed_stands logs_of d.tells d.tells_crashes (log_start_of n.base) (data_of d y) (data_of d y') n.list (length n.list) (length n.list) n.points n.stable log runs group few bytes point_size (last ∙ k.volume.appended) w,
       )
 
-      pub pointed_lost : (group_now : PointGroup) (later_volume : SharedVolume D) → Halts (standing d) (λ v. v.points) (record x { volume = pointed; point = group_now; points = x.points + 1 }) later_volume → (y' : SharedLog D d) (fault : Fault) → IsGroupLost fault (data_of d y) (data_of d y')
+      pub pointed_lost : (group_now : PointGroup) (later_volume : SharedVolume D) → Halts (standing d) (λ v. v.points) (record x { volume = pointed; point = group_now; points = x.points + 1 }) later_volume → (y' : SharedLog D d) (fault : Fault) → group.ends.items ≡ 36 ∷ [] → IsGroupLost d.tells d.tells_crashes group fault (data_of d y) (data_of d y')
           → PartlyPointed (standing d) (log_standing d) n later_volume y'
-      pointed_lost group_now later_volume halts y' fault w = record {
+      pointed_lost group_now later_volume halts y' fault ends w = record {
         told_now = length n.list;
         durable_now = length n.list;
         points_now = halted.0;
         volume = halted.2;
-        log = lost_point logs_of d.tells d.tells_crashes (log_start_of n.base) (data_of d y) (data_of d y') n.list (length n.list) (length n.list) n.points n.stable log runs fault halted.0 w;
+        log = lost_point logs_of d.tells d.tells_crashes (log_start_of n.base) (data_of d y) (data_of d y') n.list (length n.list) (length n.list) n.points n.stable log runs group fault halted.0 bytes ends (behind_all (n.points ++ length n.list ∷ []) halted.0 halted.1) w;
         told_grows = let a = k.volume.told_within in let b = k.volume.taken_within in omega (arith, a, b);
         durable_grows = let b = k.volume.taken_within in omega (arith, b, durable_taken);
         told_within = omega arith;

@@ -6,7 +6,7 @@ use Rattle.jfs_disk.specs.declared.disk.Fault.{Fault}
 use Rattle.jfs_super.specs.Super.{super_of}
 use Rattle.jfs_super.specs.declared.fields.Super.{Super}
 use Rattle.jfs_plain.specs.declared.call.Entry.{Entry}
-use Rattle.jfs_logpages.specs.Records.{log_text}
+use Rattle.jfs_logpages.specs.Records.{log_text, ends_of}
 use Rattle.jfs_records.specs.Records.{Noted}
 use Rattle.jfs_records.specs.Entries.{log_records}
 use Rattle.jfs_turns.specs.Lists.{Base}
@@ -50,6 +50,7 @@ pub record HasText (ring : ℕ) (list : List Recorded) (taken points : ℕ) (tex
   pub ring_is : text.ring ≡ ring
   pub place : text.place ≡ end_of logs_of ring (take taken list) points
   pub bytes : text.bytes ≡ log_text (log_records ring (end_of logs_of ring (take taken list) points) (items_from logs_of taken (drop taken list)))
+  pub ends : text.ends ≡ ends_of 0 (log_records ring (end_of logs_of ring (take taken list) points) (items_from logs_of taken (drop taken list)))
   pub last : text.last ≡ length list
 
 -- ---- the replies

@@ -28,7 +28,7 @@ pub record IsJustMounted (tells crashes : Type 0) (s : Super) (image : Image) (v
 
 -- what a mount gave of both parts: the log's part has so many pages, and has had so many faults
 abbrev pub start_at : Super → Parts → ℕ → ℕ → MountStart
-start_at s volume pages faults = record { log = record { ring = s.logpxd.len - 2; pages = pages; faults = faults }; pages = volume.count; room = volume.room; faults = volume.faults }
+start_at s volume pages faults = record { log = record { ring = s.logpxd.len - 2; pages = pages; faults = faults; super = [] }; pages = volume.count; room = volume.room; faults = volume.faults }
 
 -- the image, with that
 abbrev pub base_at : Super → Image → Parts → ℕ → ℕ → Base

@@ -13,6 +13,7 @@ use std::alloc::{AllocError, Global};
 pub struct PointGroup {
     pub(crate) text: GroupText,
     ghost bytes: { text.bytes.items ≡ log_text (SyncPt 0 ∷ []) },
+    ghost ends: { text.ends.items ≡ 36 ∷ [] },
 }
 
 impl PointGroup {

@@ -7,7 +7,7 @@ use Rattle.jfs_disk.specs.declared.disk.Fault.{Fault}
 use Rattle.jfs_halves.specs.crash_core.specs.Image.{pages_after}
 use Rattle.jfs_marks.specs.data_steps.specs.declared.pages.DataPage.{DataPage}
 use Rattle.jfs_volume.specs.Data.{put_pages, IsPartlyPut}
-use Rattle.jfs_volume.specs.Written.{writes}
+use Rattle.jfs_volume.specs.Written.{writes, StopsWriting}
 use Rattle.jfs_ranges.specs.declared.edit.Edit.{Edit}
 use Rattle.jfs_bmap.specs.States.{Blocks, BlockState, Free, put_state, state_of, is_busy_state}
 use Rattle.jfs_pages.specs.Dirty.{dirty_of}
@@ -23,12 +23,21 @@ use Rattle.jfs_volume.specs.declared.joined.Joined.{Joined}
 use Rattle.jfs_volume.specs.declared.joined.Joined.TheVariants.{Entered, NoRoom, NoMemory, Unread, Failed}
 use Rattle.jfs_marks.specs.declared.marks.InodeMarks.{InodeMarks}
 use Rattle.jfs_volume.specs.Runs.{taken_in}
-use Rattle.jfs_volume.specs.Append.{Appends, unreserved, IsWritable, Stays, Fails, StaysUnless, ShowsEntry, KeepsStates, IsDraft, Adds, AddsEntry, TellsRoom}
+use Rattle.jfs_volume.specs.Append.{Appends, unreserved, IsWritable, Stays, StaysAll, Fails, StaysUnless, ShowsEntry, KeepsStates, IsDraft, Adds, AddsEntry, TellsRoom}
 use Rattle.jfs_volume.proofs.Entering.{stays_moves, same_trans}
 use Rattle.jfs_volume.proofs.Taken.{same_after}
 
-from_before : (seen asked : Bool) (old mid new : Parts) (half : VolumeHalf) (list : List Change) → mid.past ≡ old.past → Moves seen asked mid new half list → Moves seen asked old new half list
-from_before seen asked old mid new half list same m = record { fit = m.fit; stands = m.stands; past = λ t k. m.past t k ∙ ap (λ (states : List DiskState). states ++ states_after half list) same }
+pub from_before : (seen asked : Bool) (old mid new : Parts) (half : VolumeHalf) (list : List Change) → (seen ≡ true → asked ≡ true → mid.past ≡ old.past) → Moves seen asked mid new half list → Moves seen asked old new half list
+from_before seen asked old mid new half list same m = record { fit = m.fit; stands = m.stands; past = λ t k. m.past t k ∙ ap (λ (states : List DiskState). states ++ states_after half list) (same t k) }
+
+pub stops_before : (seen asked : Bool) (all : List DataPage) (old mid new : Parts) (half : VolumeHalf) (fault : Fault) → (seen ≡ true → asked ≡ true → mid.past ≡ old.past) → StopsWriting seen asked all mid new half fault → StopsWriting seen asked all old new half fault
+stops_before seen asked all old mid new half fault same s = record {
+  front = s.front;
+  next = s.next;
+  rest = s.rest;
+  split = s.split;
+  stops = record { last = s.stops.last; is = s.stops.is; moves = from_before seen asked old mid new half (writes s.front ++ s.stops.last ∷ []) same s.stops.moves };
+}
 
 stays_of : (p m : Parts) → KeepsStates p m → Stays p m
 stays_of p m k = record {
@@ -41,23 +50,18 @@ kept_stands seen asked tx p m half s k =
     (stays_moves seen asked tx p m half s (stays_of p m k) (λ t. ap (λ (q : Parts). q.view) k.parts) (λ t. ap (λ (q : Parts). q.disk) k.parts) (λ t u. ap (λ (q : Parts). q.past) k.parts)).stands
 
 pub appends_after : (seen asked : Bool) (entry : Entry) (now : Moment) (noted : List Noted) (contents : List DataPage) (p m q : Parts) (half : VolumeHalf) (result : Joined) → KeepsStates p m → Appends seen asked entry now noted contents m q half result → Appends seen asked entry now noted contents p q half result
-appends_after seen asked entry now noted contents p m q half (Entered n) k a = (from_before seen asked (unreserved (tx_of noted) p) (unreserved (tx_of noted) m) q half _ (ap (λ (r : Parts). r.past) k.parts) a.0, a.1)
-appends_after seen asked entry now noted contents p m q half NoRoom k a = from_before seen asked (unreserved (tx_of noted) p) (unreserved (tx_of noted) m) (unreserved (tx_of noted) q) half [] (ap (λ (r : Parts). r.past) k.parts) a
-appends_after seen asked entry now noted contents p m q half NoMemory k a = from_before seen asked (unreserved (tx_of noted) p) (unreserved (tx_of noted) m) (unreserved (tx_of noted) q) half [] (ap (λ (r : Parts). r.past) k.parts) a
-appends_after seen asked entry now noted contents p m q half (Unread fault) k a = from_before seen asked (unreserved (tx_of noted) p) (unreserved (tx_of noted) m) (unreserved (tx_of noted) q) half [] (ap (λ (r : Parts). r.past) k.parts) a
-appends_after seen asked entry now noted contents p m q half (Failed fault) k a = record {
-  pages = a.pages;
-  last = a.last;
-  is = a.is;
-  moves = from_before seen asked (unreserved (tx_of noted) p) (unreserved (tx_of noted) m) (unreserved (tx_of noted) q) half (writes a.pages ++ a.last ∷ []) (ap (λ (r : Parts). r.past) k.parts) a.moves;
-}
+appends_after seen asked entry now noted contents p m q half (Entered n) k a = (from_before seen asked (unreserved (tx_of noted) p) (unreserved (tx_of noted) m) q half _ (λ t u. ap (λ (r : Parts). r.past) k.parts) a.0, a.1)
+appends_after seen asked entry now noted contents p m q half NoRoom k a = from_before seen asked (unreserved (tx_of noted) p) (unreserved (tx_of noted) m) (unreserved (tx_of noted) q) half [] (λ t u. ap (λ (r : Parts). r.past) k.parts) a
+appends_after seen asked entry now noted contents p m q half NoMemory k a = from_before seen asked (unreserved (tx_of noted) p) (unreserved (tx_of noted) m) (unreserved (tx_of noted) q) half [] (λ t u. ap (λ (r : Parts). r.past) k.parts) a
+appends_after seen asked entry now noted contents p m q half (Unread fault) k a = from_before seen asked (unreserved (tx_of noted) p) (unreserved (tx_of noted) m) (unreserved (tx_of noted) q) half [] (λ t u. ap (λ (r : Parts). r.past) k.parts) a
+appends_after seen asked entry now noted contents p m q half (Failed fault) k a = stops_before seen asked contents (unreserved (tx_of noted) p) (unreserved (tx_of noted) m) (unreserved (tx_of noted) q) half fault (λ t u. ap (λ (r : Parts). r.past) k.parts) a
 
 -- nothing is changed at all
 pub kept_appends : (seen asked : Bool) (noted : List Noted) (p m : Parts) (half : VolumeHalf) → StandsFor seen asked (unreserved (tx_of noted) p) half → KeepsStates p m → Moves seen asked (unreserved (tx_of noted) p) (unreserved (tx_of noted) m) half []
 kept_appends seen asked noted p m half s k = stays_moves seen asked (tx_of noted) p m half s (stays_of p m k) (λ t. ap (λ (q : Parts). q.view) k.parts) (λ t. ap (λ (q : Parts). q.disk) k.parts) (λ t u. ap (λ (q : Parts). q.past) k.parts)
 
-pub kept_stays : (p m : Parts) → KeepsStates p m → Stays p m
-kept_stays p m k = stays_of p m k
+pub kept_stays : {tells crashes : Type 0} (p m : Parts) → KeepsStates p m → StaysAll tells crashes p m
+kept_stays p m k = record { stays = stays_of p m k; disk = record { image = λ t. ap (λ (r : Parts). r.disk) k.parts; states = λ t. ap (λ (r : Parts). r.past) k.parts } }
 
 -- the map's states alone matter
 map_kept : (n : ℕ) (tx : List Edit) (a b : Blocks) → SameStates a b → SameStates (map_after n tx (put_state Free (taken_in tx) a)) (map_after n tx (put_state Free (taken_in tx) b))
@@ -83,18 +87,18 @@ entry_after entry noted marks p m q NoMemory k a = tt
 entry_after entry noted marks p m q (Unread fault) k a = tt
 entry_after entry noted marks p m q (Failed fault) k a = tt
 
-stays_after : (p q : Parts) (map : Blocks) → SameStates map p.map → Stays (record p { map = map }) q → Stays p q
-stays_after p q map same s = record { parts = s.parts; map = same_trans q.map map p.map s.map same }
+stays_after : {tells crashes : Type 0} (p q : Parts) (map : Blocks) → SameStates map p.map → StaysAll tells crashes (record p { map = map }) q → StaysAll tells crashes p q
+stays_after p q map same s = record { stays = record { parts = s.stays.parts; map = same_trans q.map map p.map s.stays.map same }; disk = record { image = s.disk.image; states = s.disk.states } }
 
 fails_after : (fault : Fault) (p q : Parts) (map : Blocks) → SameStates map p.map → Fails fault (record p { map = map }) q → Fails fault p q
 fails_after fault p q map same s = record { parts = s.parts; map = same_trans q.map map p.map s.map same }
 
-pub unless_after : (p m q : Parts) (result : Joined) → (result ≡ NoRoom → ⊥) → KeepsStates p m → StaysUnless result m q → StaysUnless result p q
-unless_after p m q (Entered n) never k s = tt
-unless_after p m q NoRoom never k s = absurd (never refl)
-unless_after p m q NoMemory never k s = stays_after p q m.map k.map (subst (λ (r : Parts). Stays r q) k.parts s)
-unless_after p m q (Unread fault) never k s = stays_after p q m.map k.map (subst (λ (r : Parts). Stays r q) k.parts s)
-unless_after p m q (Failed fault) never k s = fails_after fault p q m.map k.map (subst (λ (r : Parts). Fails fault r q) k.parts s)
+pub unless_after : (tells crashes : Type 0) (p m q : Parts) (result : Joined) → (result ≡ NoRoom → ⊥) → KeepsStates p m → StaysUnless tells crashes result m q → StaysUnless tells crashes result p q
+unless_after tells crashes p m q (Entered n) never k s = tt
+unless_after tells crashes p m q NoRoom never k s = absurd (never refl)
+unless_after tells crashes p m q NoMemory never k s = stays_after p q m.map k.map (subst (λ (r : Parts). StaysAll tells crashes r q) k.parts s)
+unless_after tells crashes p m q (Unread fault) never k s = stays_after p q m.map k.map (subst (λ (r : Parts). StaysAll tells crashes r q) k.parts s)
+unless_after tells crashes p m q (Failed fault) never k s = fails_after fault p q m.map k.map (subst (λ (r : Parts). Fails fault r q) k.parts s)
 
 -- what the volume shows doesn't hang on memory for the map
 pub shows_after : (contents : List DataPage) (tx : List Edit) (p m q : Parts) (result : Joined) → m.view ≡ p.view → ShowsEntry contents tx m q result → ShowsEntry contents tx p q result

@@ -6,6 +6,7 @@ pub mod Putting
 pub mod PuttingAll
 pub mod PartlyPut
 pub mod Showing
+pub mod MapsWritten
 pub mod GivingBack
 pub mod Busy
 pub mod Lending
@@ -23,3 +24,4 @@ pub mod Rising
 pub mod Settling
 pub mod Settled
 pub mod CallJoins
+pub mod Unbusy

@@ -15,7 +15,7 @@ use Rattle.jfs_halves.specs.Moves.{Moves}
 use Rattle.jfs_halves.proofs.Joined.{join}
 use Rattle.jfs_volume.specs.Append.{IsWritable}
 use Rattle.jfs_volume.specs.Data.{Store, AreClean, put_pages, states_written, ArePut, AreTorn}
-use Rattle.jfs_volume.specs.Written.{writes, StopsWriting, stops, tears}
+use Rattle.jfs_volume.specs.Written.{writes, StopsAt, StopsWriting, stops, tears}
 use Rattle.jfs_volume.proofs.Writing.{IsOpen, write_fails, FailsToWrite}
 use Rattle.jfs_volume.proofs.Putting.{puts_moves}
 
@@ -65,29 +65,35 @@ data_moves seen asked told crashes contents before after p q half s runs lie may
 abbrev with_store : Store → Parts → Parts
 with_store store p = record p { view = store.view; disk = store.disk; past = store.past }
 
-stops_so : (seen asked : Bool) (n : ℕ) (bytes : List ℕ) (fault : Fault) (p mid q : Parts) (half : VolumeHalf) (front : List DataPage) → Moves seen asked p mid half (writes front) → FailsToWrite seen asked n bytes fault mid q (after_list half (writes front)) →
-    StopsWriting seen asked p q half fault
-stops_so seen asked n bytes fault p mid q half front m (inl w) =
-    record { pages = front; last = WriteTears n bytes w.0 fault; is = tears n bytes w.0; moves = join seen asked p mid q half (writes front) (WriteTears n bytes w.0 fault ∷ []) m w.1 }
-stops_so seen asked n bytes fault p mid q half front m (inr w) =
-    record { pages = front; last = Stops fault; is = stops; moves = join seen asked p mid q half (writes front) (Stops fault ∷ []) m w }
+stops_so : (seen asked : Bool) (next : DataPage) (fault : Fault) (p mid q : Parts) (half : VolumeHalf) (front : List DataPage) → Moves seen asked p mid half (writes front) → FailsToWrite seen asked next.block next.page.0 fault mid q (after_list half (writes front)) →
+    StopsAt seen asked front next p q half fault
+stops_so seen asked next fault p mid q half front m (inl w) =
+    record { last = WriteTears next.block next.page.0 w.0 fault; is = tears w.0; moves = join seen asked p mid q half (writes front) (WriteTears next.block next.page.0 w.0 fault ∷ []) m w.1 }
+stops_so seen asked next fault p mid q half front m (inr w) =
+    record { last = Stops fault; is = stops; moves = join seen asked p mid q half (writes front) (Stops fault ∷ []) m w }
 
 pub data_stops : {tells crashes : Type 0} (seen asked : Bool) → Asked seen tells → Asked asked crashes → (contents : List DataPage) (before after : Store) (p q : Parts) (half : VolumeHalf) (fault : Fault) → StandsFor seen asked p half → p.halted ≡ None →
     LieWithin p.blocks contents → IsWritable contents p → (seen ≡ true → (p.blocks ≤ length p.disk) × (length p.view ≡ p.blocks)) →
     q ≡ record p { view = q.view; disk = q.disk; past = q.past; faults = q.faults; halted = q.halted } → q.halted ≡ halted_by fault p.halted →
-    IsStoreOf seen asked before p → (after.view ≡ q.view) × (after.disk ≡ q.disk) × (after.past ≡ q.past) → AreTorn tells crashes contents p.dirty before after → StopsWriting seen asked p q half fault
+    IsStoreOf seen asked before p → (after.view ≡ q.view) × (after.disk ≡ q.disk) × (after.past ≡ q.past) → AreTorn tells crashes contents p.dirty before after → StopsWriting seen asked contents p q half fault
 data_stops seen asked told crashes contents before after p q half fault s runs lie may whole parts halts first last t =
-    stops_so seen asked n bytes fault p mid q half t.front moves
-    (write_fails seen asked mid q (after_front) n bytes fault moves.stands (record { may = here; inside = λ k. let w = (whole k).0 in omega (arith, here.there, w, length-put t.front p.disk, ap length (sizes k)); parts = parts }) halts
-    (record {
-      view = λ k. sym last.0 ∙ t.torn.view (told k) here.clean ∙ ap (λ (image : Image). set t.mid.view n (page_of image n)) last.1;
-      shown = λ k. t.torn.shown (told k) here.clean;
-      whole = λ k. let w = (whole k).1 in omega (arith, here.there, w, ap length (t.put.view (told k) (clean_of t.front p fronts) ∙ ap (put_pages t.front) (first.view k)), length-put t.front p.view);
-      reads = λ k. subst (λ (image : Image). TearsPage n bytes t.mid.disk image) last.1 (t.torn.disk (told k));
-      leaves = λ k. subst (λ (past : List DiskState). LeavesTorn n bytes t.mid.past past) last.2 (t.torn.past (crashes k));
-      before = λ k. t.torn.before (crashes k);
-      now = λ k. sym last.1 ∙ t.torn.now (crashes k) ∙ ap (λ (past : List DiskState). seen_of (last_of past)) last.2;
-    }))
+    record {
+      front = t.front;
+      next = t.stopped;
+      rest = t.rest;
+      split = t.split;
+      stops = stops_so seen asked t.stopped fault p mid q half t.front moves
+          (write_fails seen asked mid q (after_front) n bytes fault moves.stands (record { may = here; inside = λ k. let w = (whole k).0 in omega (arith, here.there, w, length-put t.front p.disk, ap length (sizes k)); parts = parts }) halts
+          (record {
+            view = λ k. sym last.0 ∙ t.torn.view (told k) here.clean ∙ ap (λ (image : Image). set t.mid.view n (page_of image n)) last.1;
+            shown = λ k. t.torn.shown (told k) here.clean;
+            whole = λ k. let w = (whole k).1 in omega (arith, here.there, w, ap length (t.put.view (told k) (clean_of t.front p fronts) ∙ ap (put_pages t.front) (first.view k)), length-put t.front p.view);
+            reads = λ k. subst (λ (image : Image). TearsPage n bytes t.mid.disk image) last.1 (t.torn.disk (told k));
+            leaves = λ k. subst (λ (past : List DiskState). LeavesTorn n bytes t.mid.past past) last.2 (t.torn.past (crashes k));
+            before = λ k. t.torn.before (crashes k);
+            now = λ k. sym last.1 ∙ t.torn.now (crashes k) ∙ ap (λ (past : List DiskState). seen_of (last_of past)) last.2;
+          }));
+    }
   where
     n : ℕ
     n = t.stopped.block

@@ -1,25 +1,19 @@
 -- Pages of a map's file are put into their places, one after the other.
-use Rattle.std.proofs.Common.{◌≡◌, ◌<◌, ◌≤◌, ◌⊎◌, ◌++◌, ◌∷◌, [], ℕ, suc, Bool, true, false, List, length, set, slice_get, Option, Some, None, Result, Ok, Err, OnOk, OnErr, true≢false, refl, sym, ap, ◌∙◌, inl, inr, subst, arith, append_assoc}
+use Rattle.std.proofs.Common.{◌≡◌, ◌<◌, ◌≤◌, ◌⊎◌, [], ℕ, suc, Bool, true, false, List, length, set, slice_get, Option, Some, None, Result, Ok, Err, OnOk, OnErr, true≢false, refl, sym, ap, ◌∙◌, inl, inr, subst, arith}
 use Rattle.std.proofs.lemmas.Bool.{cases_eq}
-use Rattle.std.proofs.lemmas.List.{length-set, get_or-set_same, get_or-set_other, map-append}
+use Rattle.std.proofs.lemmas.List.{length-set, get_or-set_same, get_or-set_other}
 use Rattle.jfs_disk.specs.Image.{Image, page_of}
 use Rattle.jfs_disk.specs.declared.disk.Fault.{Fault}
 use Rattle.jfs_map_files.specs.Places.{AreWithin, MapPlaces}
-use Rattle.jfs_marks.specs.data_steps.specs.declared.pages.DataPage.{DataPage}
-use Rattle.jfs_halves.specs.Half.{VolumeHalf}
 use Rattle.jfs_halves.specs.Parts.{Parts}
-use Rattle.jfs_halves.specs.Change.{Change, Writes, WriteTears, Stops, after}
-use Rattle.jfs_halves.specs.Moves.{Moves}
-use Rattle.jfs_halves.proofs.Joined.{join}
-use Rattle.jfs_volume.specs.MapsHome.{MapsHome, KeepsPlaces, ShowsAfter, with_written, with_blocks_written, with_inodes_written}
+use Rattle.jfs_volume.specs.MapsHome.{KeepsPlaces, ShowsAfter, with_written, with_blocks_written, with_inodes_written}
 use Rattle.jfs_volume.specs.Shown.{PutsPage, AreOwn, ShowsUpto, PutsMap, Spoils, StaysElse}
 use Rattle.jfs_bmap.specs.MapFile.{IsMapPage, is_in_use}
 use Rattle.jfs_bmap.specs.States.{is_owned}
 use Rattle.jfs_imap.specs.Inodes.{IsInodePage}
 use Rattle.jfs_map_files.specs.declared.map_file.MapFiles.{MapFiles}
 use Rattle.std.proofs.lemmas.Option.{slice_get_within}
-use Rattle.jfs_volume.specs.Written.{writes, StopsWriting, WriteIs, IsWrittenOf, stops, tears}
-use Rattle.jfs_volume.proofs.Writing.{FailsToWrite}
+use Rattle.jfs_volume.specs.Written.{IsWrittenOf}
 
 pub shows-none : (places : List ℕ) (used : ℕ → Bool) (is : ℕ → List ℕ → Type 0) (old : Image) → ShowsUpto 0 places used is old old
 shows-none places used is old = record { shown = λ own n b h u e. absurd (omega (arith, h)); others = λ b none. refl; size = refl }
@@ -60,67 +54,11 @@ module _ (n : ℕ) (places : List ℕ) (used : ℕ → Bool) (is : ℕ → List 
       at true None u e same = kept shows same (λ b used_here here. absurd (let never : Some b ≡ None = sym here ∙ e in cc))
       at true (Some b) u e w = put b w.0 (within n b e) e w.1 w.2 shows
 
--- ---- as changes of a half
-
-pub writes-on : (seen asked : Bool) (old mid new : Parts) (half : VolumeHalf) (pages more : List DataPage) → Moves seen asked old mid half (writes pages) → Moves seen asked mid new (after half (writes pages)) (writes more) →
-    Moves seen asked old new half (writes (pages ++ more))
-writes-on seen asked old mid new half pages more a b =
-    subst (λ (list : List Change). Moves seen asked old new half list) (sym (map-append (λ (d : DataPage). Writes d.block d.page.0) pages more)) (join seen asked old mid new half (writes pages) (writes more) a b)
-
-pub writes-stop : (seen asked : Bool) (old mid new : Parts) (half : VolumeHalf) (pages : List DataPage) (fault : Fault) → Moves seen asked old mid half (writes pages) → StopsWriting seen asked mid new (after half (writes pages)) fault → StopsWriting seen asked old new half fault
-writes-stop seen asked old mid new half pages fault a s = record {
-  pages = pages ++ s.pages;
-  last = s.last;
-  is = s.is;
-  moves = subst (λ (list : List Change). Moves seen asked old new half list) (sym (append_assoc (writes pages) (writes s.pages) (s.last ∷ [])) ∙ ap (λ (list : List Change). list ++ s.last ∷ []) (sym (map-append (λ (d : DataPage). Writes d.block d.page.0) pages s.pages)))
-      (join seen asked old mid new half (writes pages) (writes s.pages ++ s.last ∷ []) a s.moves);
-}
-
-pub stop-of : (seen asked : Bool) (n : ℕ) (bytes : List ℕ) (fault : Fault) (old new : Parts) (half : VolumeHalf) → FailsToWrite seen asked n bytes fault old new half → StopsWriting seen asked old new half fault
-stop-of seen asked n bytes fault old new half (inl w) = record { pages = []; last = WriteTears n bytes w.0 fault; is = tears n bytes w.0; moves = w.1 }
-stop-of seen asked n bytes fault old new half (inr m) = record { pages = []; last = Stops fault; is = stops; moves = m }
-
-pub home_of : (seen asked : Bool) (n : ℕ) (bytes : List ℕ) (old new : Parts) (half : VolumeHalf) (result : Result (Unit {0}) Fault) → WriteIs seen asked n bytes old new half result → MapsHome seen asked old new half result
-home_of seen asked n bytes old new half (Ok done) moves = (record { block = n; page = record { 0 = bytes } } ∷ [], moves)
-home_of seen asked n bytes old new half (Err fault) fails = stop-of seen asked n bytes fault old new half fails
-
 -- only fewer of them
 pub shows-less : (few many : ℕ) (places : List ℕ) (used : ℕ → Bool) (is : ℕ → List ℕ → Type 0) (old new : Image) → few ≤ many → ShowsUpto many places used is old new → ShowsUpto few places used is old new
 shows-less few many places used is old new h shows = record { shown = λ own n b k u e. shows.shown own n b (omega (arith, h, k)) u e; others = shows.others; size = shows.size }
 
--- which map has changed is no part of a half
-pub marked-moves : (seen asked : Bool) (old new : Parts) (files : MapFiles) (half : VolumeHalf) (list : List Change) → Moves seen asked old new half list → Moves seen asked old (record new { files = files }) half list
-marked-moves seen asked old new files half list m =
-    let s = m.stands in
-    record {
-      fit = m.fit;
-      stands = record {
-        appended = s.appended;
-        taken = s.taken;
-        told = s.told;
-        points = s.points;
-        known = s.known;
-        number = s.number;
-        halted = s.halted;
-        dirty = s.dirty;
-        block_map = s.block_map;
-        inodes = s.inodes;
-        handed = s.handed;
-        entries = s.entries;
-        text = s.text;
-        freed = s.freed;
-        view = s.view;
-        disk = s.disk;
-        low = s.low;
-      };
-      past = m.past;
-    }
-
 -- ---- both maps
-
-pub maps-then : (seen asked : Bool) (old mid new : Parts) (half : VolumeHalf) (pages : List DataPage) (result : Result (Unit {0}) Fault) → Moves seen asked old mid half (writes pages) → MapsHome seen asked mid new (after half (writes pages)) result → MapsHome seen asked old new half result
-maps-then seen asked old mid new half pages (Ok done) a w = (pages ++ w.0, writes-on seen asked old mid new half pages w.0 a w.1)
-maps-then seen asked old mid new half pages (Err fault) a s = writes-stop seen asked old mid new half pages fault a s
 
 others-of : (file : MapPlaces) (used : ℕ → Bool) (is : ℕ → List ℕ → Type 0) (old new : Image) → PutsMap file used is old new → (b : ℕ) → ((n : ℕ) → slice_get file.places n ≡ Some b → ⊥) → page_of new b ≡ page_of old b
 others-of file used is old new puts b none = at file.stale refl

@@ -7,10 +7,10 @@ use Rattle.std.proofs.lemmas.Grind.{flat_map-append}
 use Rattle.jfs_ranges.specs.declared.edit.Edit.{Edit}
 use Rattle.jfs_logfmt.specs.declared.log_record.Record.{Record}
 use Rattle.jfs_logfmt.specs.Written.{Fits, text_of}
-use Rattle.jfs_logfmt.proofs.Numbers.{length-text}
 use Rattle.jfs_logpages.specs.Group.{pages_of, room_of}
 use Rattle.jfs_logpages.specs.Ring.{ends_with}
-use Rattle.jfs_logpages.specs.Records.{size_of, sizes_of, log_text, ends_of, AreWhole}
+use Rattle.jfs_logpages.specs.Records.{sizes_of, log_text, ends_of, AreWhole}
+use Rattle.jfs_logpages.proofs.RecordEnds.{length-log, ends-append, ends-shifted}
 use Rattle.jfs_records.specs.declared.note.Note.{Note}
 use Rattle.jfs_records.specs.Records.{Noted, noted, records_of, tx_of}
 use Rattle.jfs_records.specs.Entries.{entry as item_of, item_records, log_records, text_size}
@@ -23,24 +23,6 @@ use Rattle.jfs_halves.specs.Half.{Waiting}
 use Rattle.jfs_halves.specs.Parts.{Text, IsTextOf}
 use Rattle.jfs_volume.specs.Room.{has_room}
 use Rattle.jfs_volume.specs.Append.{text_with}
-
--- ---- ends
-
-length-log : (rs : List Record) → length (log_text rs) ≡ sizes_of rs
-length-log [] = refl
-length-log (r ∷ rs) = omega (arith, length-append (text_of r) (log_text rs), length-text r, length-log rs)
-
-ends-append : (from : ℕ) (xs ys : List Record) → ends_of from (xs ++ ys) ≡ ends_of from xs ++ ends_of (from + sizes_of xs) ys
-ends-append from [] ys = ap (λ (n : ℕ). ends_of n ys) (omega arith)
-ends-append from (x ∷ xs) ys =
-    let place : from + size_of x + sizes_of xs ≡ from + (size_of x + sizes_of xs) = omega arith in
-    ap (λ (l : List ℕ). (from + size_of x) ∷ l) (ends-append (from + size_of x) xs ys ∙ ap (λ (n : ℕ). ends_of (from + size_of x) xs ++ ends_of n ys) place)
-
-ends-shifted : (k m : ℕ) (rs : List Record) → map (λ (e : ℕ). k + e) (ends_of m rs) ≡ ends_of (k + m) rs
-ends-shifted k m [] = refl
-ends-shifted k m (r ∷ rs) =
-    let place : k + (m + size_of r) ≡ k + m + size_of r = omega arith in
-    ap (λ (l : List ℕ). (k + (m + size_of r)) ∷ l) (ends-shifted k (m + size_of r) rs) ∙ ap (λ (n : ℕ). n ∷ ends_of n rs) place
 
 -- ---- the text
 

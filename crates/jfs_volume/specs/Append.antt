@@ -18,7 +18,7 @@ use Rattle.jfs_halves.specs.Half.{VolumeHalf}
 use Rattle.jfs_halves.specs.Parts.{Parts, Text}
 use Rattle.jfs_halves.specs.Change.{Enters, SameStates, after}
 use Rattle.jfs_halves.specs.Moves.{Moves}
-use Rattle.jfs_pages.specs.Device.{IsFault}
+use Rattle.jfs_pages.specs.Device.{IsFault, IsSame}
 use Rattle.jfs_pages.specs.Dirty.{dirty_of, touched_by}
 use Rattle.jfs_volume.specs.Runs.{taken_in, freed_in, pages_freed}
 use Rattle.jfs_marks.specs.data_steps.specs.After.{EachOnce, is_put}
@@ -122,7 +122,7 @@ Appends seen asked entry now noted pages old new half (Entered number) =
 Appends seen asked entry now noted pages old new half NoRoom = Moves seen asked (unreserved (tx_of noted) old) (unreserved (tx_of noted) new) half []
 Appends seen asked entry now noted pages old new half NoMemory = Moves seen asked (unreserved (tx_of noted) old) (unreserved (tx_of noted) new) half []
 Appends seen asked entry now noted pages old new half (Unread fault) = Moves seen asked (unreserved (tx_of noted) old) (unreserved (tx_of noted) new) half []
-Appends seen asked entry now noted pages old new half (Failed fault) = StopsWriting seen asked (unreserved (tx_of noted) old) (unreserved (tx_of noted) new) half fault
+Appends seen asked entry now noted pages old new half (Failed fault) = StopsWriting seen asked pages (unreserved (tx_of noted) old) (unreserved (tx_of noted) new) half fault
 
 -- What the volume shows then: its pages after the data and the transaction; or with the data put in part, where the write of a block failed.
 abbrev pub ShowsEntry : List DataPage → List Edit → Parts → Parts → Joined → Type 0
@@ -147,13 +147,18 @@ pub record Fails (fault : Fault) (old new : Parts) : Type 0 where
   pub parts : new ≡ record old { view = new.view; disk = new.disk; past = new.past; faults = new.faults; map = new.map; halted = Some fault }
   pub map : SameStates new.map old.map
 
+-- they stay so, and the disk is as it was
+pub record StaysAll (tells crashes : Type 0) (old new : Parts) : Type 0 where
+  pub stays : Stays old new
+  pub disk : IsSame tells crashes old.disk new.disk old.past new.past
+
 -- where the entry didn't join
-abbrev pub StaysUnless : Joined → Parts → Parts → Type 0
-StaysUnless (Entered number) old new = Unit {0}
-StaysUnless NoRoom old new = new ≡ old
-StaysUnless NoMemory old new = Stays old new
-StaysUnless (Unread fault) old new = Stays old new
-StaysUnless (Failed fault) old new = Fails fault old new
+abbrev pub StaysUnless : (tells crashes : Type 0) → Joined → Parts → Parts → Type 0
+StaysUnless tells crashes (Entered number) old new = Unit {0}
+StaysUnless tells crashes NoRoom old new = new ≡ old
+StaysUnless tells crashes NoMemory old new = StaysAll tells crashes old new
+StaysUnless tells crashes (Unread fault) old new = StaysAll tells crashes old new
+StaysUnless tells crashes (Failed fault) old new = Fails fault old new
 
 -- No room is told exactly where the log has none.
 abbrev pub TellsRoom : Bool → Joined → Type 0

@@ -1,9 +1,11 @@
 -- The entry of a file call joins by what the call answered.
-use Rattle.std.specs.Prelude.{◌≡◌, ◌⊎◌, ◌∷◌, ◌&&◌, [], ℕ, Bool, true, false, not, List, length, Some, is_some, Result, Ok, Err}
+use Rattle.std.specs.Prelude.{◌≡◌, ◌⊎◌, ◌∷◌, ◌++◌, ◌&&◌, ◌||◌, [], ℕ, Bool, true, false, not, List, length, Some, is_some, Result, Ok, Err}
 use Rattle.std.specs.List.{AllByRecursion}
+use Rattle.jfs_bits.specs.declared.descriptor.Moment.{Moment}
+use Rattle.jfs_bits.specs.declared.descriptor.Pxd.{Pxd}
 use Rattle.jfs_disk.specs.Image.{page_of}
 use Rattle.jfs_disk.specs.declared.disk.Fault.{Fault}
-use Rattle.jfs_bmap.specs.States.{AreReserved}
+use Rattle.jfs_bmap.specs.States.{Blocks, AreReserved, is_owned, is_in_list}
 use Rattle.jfs_ranges.specs.View.{AreWhole}
 use Rattle.jfs_ranges.specs.declared.edit.Edit.{Edit}
 use Rattle.jfs_ranges.specs.declared.view.ViewError.{ViewError}
@@ -12,7 +14,7 @@ use Rattle.jfs_imap.specs.Inodes.{Inodes}
 use Rattle.jfs_marks.specs.data_steps.specs.After.{EachOnce}
 use Rattle.jfs_marks.specs.data_steps.specs.declared.pages.DataPage.{DataPage}
 use Rattle.jfs_halves.specs.crash_core.specs.Image.{pages_after}
-use Rattle.jfs_pages.specs.Device.{IsFault}
+use Rattle.jfs_pages.specs.Device.{IsFault, IsSame}
 use Rattle.jfs_pages.specs.declared.dirty.Dirty.{Dirty}
 use Rattle.jfs_pages.specs.Dirty.{dirty_of}
 use Rattle.jfs_plain.specs.declared.call.Entry.{Entry}
@@ -25,13 +27,17 @@ use Rattle.jfs_marks.specs.Marking.{AreMarksOf}
 use Rattle.jfs_marks.specs.Marks.{FitsMarks}
 use Rattle.jfs_marks.specs.declared.marks.InodeMarks.{InodeMarks}
 use Rattle.jfs_marks.specs.declared.marking.Marking.TheVariants.{Fits}
-use Rattle.jfs_halves.specs.Parts.{Parts}
-use Rattle.jfs_halves.specs.Change.{SameStates}
-use Rattle.jfs_volume.specs.Append.{Adds, unreserved}
+use Rattle.jfs_halves.specs.Entry.{Happened}
+use Rattle.jfs_halves.specs.Half.{VolumeHalf}
+use Rattle.jfs_halves.specs.Parts.{Parts, OfEachHalf}
+use Rattle.jfs_halves.specs.Change.{Enters, SameStates, after}
+use Rattle.jfs_halves.specs.Moves.{Moves}
+use Rattle.jfs_volume.specs.Append.{Adds, IsWritable, entered, unreserved}
 use Rattle.jfs_volume.specs.Data.{put_pages, IsPartlyPut}
 use Rattle.jfs_volume.specs.Gone.{gone_freed}
 use Rattle.jfs_volume.specs.Room.{has_room}
 use Rattle.jfs_volume.specs.Runs.{taken_in}
+use Rattle.jfs_volume.specs.Written.{writes, StopsWriting}
 use Rattle.jfs_volume.specs.declared.calling.Beside.{Beside}
 use Rattle.jfs_volume.specs.declared.calling.Called.{Called}
 use Rattle.jfs_volume.specs.declared.calling.Called.TheVariants.{Entered, NoRoom, NoMemory, Failed, Unfit}
@@ -40,6 +46,11 @@ use Rattle.jfs_volume.specs.declared.calling.Called.TheVariants.{Entered, NoRoom
 abbrev pub are_clean : List DataPage → List Dirty → Bool
 are_clean [] dirty = true
 are_clean (d ∷ ds) dirty = not (is_some (dirty_of dirty d.block)) && are_clean ds dirty
+
+-- each of them is to go into a block of these runs, or into one that has an owner: so into no busy one
+abbrev pub have_places : Blocks → List Pxd → List DataPage → Bool
+have_places map taken [] = true
+have_places map taken (d ∷ ds) = (is_in_list taken d.block || is_owned map d.block) && have_places map taken ds
 
 -- It joins with its transaction, which can be logged, and with the marks of that transaction; and then the volume shows the pages after data and transaction. None of the pages that are written is dirty.
 pub record JoinsWith (tells : Type 0) (entry : Entry) (tx : List Edit) (put : List DataPage) (number : ℕ) (old new : Parts) : Type 0 where
@@ -59,6 +70,17 @@ pub record JoinsWith (tells : Type 0) (entry : Entry) (tx : List Edit) (put : Li
   pub shows : tells → new.view ≡ pages_after 0 tx (put_pages put old.view)
   pub faults : new.faults ≡ old.faults
 
+-- the entry of a call in the history, behind the data that is written for it
+abbrev pub happened : Entry → Moment → List Edit → List Note → List DataPage → Inodes → VolumeHalf → Happened
+happened entry now tx notes put inodes half = entered entry now (noted tx notes) inodes (after half (writes put))
+
+-- It joins so, and these are the changes of a half that it stands for: the data is written, and then the entry joins. What was reserved for it is no change of the half; and no block that is written is busy or dirty.
+pub record IsJoined (tells crashes : Type 0) (entry : Entry) (tx : List Edit) (put : List DataPage) (number : ℕ) (old new : Parts) : Type 0 where
+  pub joins : JoinsWith tells entry tx put number old new
+  pub writable : IsWritable put (unreserved tx old)
+  pub moves : (now : Moment) → OfEachHalf tells crashes (unreserved tx old)
+      (λ seen asked half. Moves seen asked (unreserved tx old) new half (writes put ++ Enters (happened entry now tx joins.notes put new.inodes half) ∷ []))
+
 -- It doesn't join: nothing changes but pages that were read or written, and what is reserved.
 pub record JoinsNot (old new : Parts) : Type 0 where
   pub parts : new ≡ record old { view = new.view; disk = new.disk; past = new.past; faults = new.faults; map = new.map; halted = new.halted }
@@ -74,16 +96,29 @@ pub record MayGiveBack (tx : List Edit) (old new : Parts) : Type 0 where
   pub joins_not : JoinsNot old new
   pub map : (AreReserved old.map (taken_in tx) × SameStates new.map (unreserved tx old).map) ⊎ SameStates new.map old.map
 
--- no write failed, so the volume goes on, and shows what it did
-pub record GoesOn (tells : Type 0) (old new : Parts) : Type 0 where
+-- Nothing failed, so the volume goes on, and shows what it did; and nothing was written, so the disk is as it was.
+pub record GoesOn (tells crashes : Type 0) (old new : Parts) : Type 0 where
   pub halted : new.halted ≡ old.halted
   pub view : tells → new.view ≡ old.view
   pub faults : new.faults ≡ old.faults
+  pub disk : IsSame tells crashes old.disk new.disk old.past new.past
 
--- A read failed; or a write of data, which was put in part then, and the volume halts.
-pub record FailsBy (tells : Type 0) (put : List DataPage) (fault : Fault) (old new : Parts) : Type 0 where
+-- a read failed: the same, but for the count of faults
+pub record StopsReading (tells crashes : Type 0) (old new : Parts) : Type 0 where
+  pub halted : new.halted ≡ old.halted
+  pub view : tells → new.view ≡ old.view
+  pub disk : IsSame tells crashes old.disk new.disk old.past new.past
+
+-- A write of data failed, and the volume halts: the data was put in part. Of a half that the parts stand for, once what was reserved is free again, it changes a front of the data, and then the write of the next one fails.
+pub record StopsPutting (tells crashes : Type 0) (tx : List Edit) (put : List DataPage) (fault : Fault) (old new : Parts) : Type 0 where
+  pub halted : new.halted ≡ Some fault
+  pub view : tells → EachOnce put → IsPartlyPut put old.view new.view
+  pub moves : OfEachHalf tells crashes (unreserved tx old) (λ seen asked half. StopsWriting seen asked put (unreserved tx old) new half fault)
+
+-- a read failed, or a write of data
+pub record FailsBy (tells crashes : Type 0) (tx : List Edit) (put : List DataPage) (fault : Fault) (old new : Parts) : Type 0 where
   pub is_fault : IsFault old.faults new.faults fault
-  pub halted : ((new.halted ≡ old.halted) × (tells → new.view ≡ old.view)) ⊎ ((new.halted ≡ Some fault) × (tells → EachOnce put → IsPartlyPut put old.view new.view))
+  pub fails : StopsReading tells crashes old new ⊎ StopsPutting tells crashes tx put fault old new
 
 -- the log has no room for its records, with all that waits
 pub record LacksRoom (tx : List Edit) (old : Parts) : Type 0 where
@@ -91,12 +126,12 @@ pub record LacksRoom (tx : List Edit) (old : Parts) : Type 0 where
   pub each : length tx ≡ length notes
   pub full : has_room old.text (entry_size (noted tx notes)) ≡ false
 
-abbrev pub CallIs : (tells : Type 0) → Entry → List Edit → List DataPage → Parts → Parts → Called → Type 0
-CallIs tells entry tx put old new (Entered number) = JoinsWith tells entry tx put number old new
-CallIs tells entry tx put old new NoRoom = GivesBack tx old new × GoesOn tells old new × LacksRoom tx old
-CallIs tells entry tx put old new NoMemory = MayGiveBack tx old new × GoesOn tells old new
-CallIs tells entry tx put old new (Failed fault) = GivesBack tx old new × FailsBy tells put fault old new
-CallIs tells entry tx put old new Unfit = MayGiveBack tx old new × GoesOn tells old new
+abbrev pub CallIs : (tells crashes : Type 0) → Entry → List Edit → List DataPage → Parts → Parts → Called → Type 0
+CallIs tells crashes entry tx put old new (Entered number) = IsJoined tells crashes entry tx put number old new
+CallIs tells crashes entry tx put old new NoRoom = GivesBack tx old new × GoesOn tells crashes old new × LacksRoom tx old
+CallIs tells crashes entry tx put old new NoMemory = MayGiveBack tx old new × GoesOn tells crashes old new
+CallIs tells crashes entry tx put old new (Failed fault) = GivesBack tx old new × FailsBy tells crashes tx put fault old new
+CallIs tells crashes entry tx put old new Unfit = MayGiveBack tx old new × GoesOn tells crashes old new
 
 -- ---- its steps, for the prover alone
 
@@ -105,17 +140,18 @@ pub record StaysOut (old new : Parts) : Type 0 where
   pub joins_not : JoinsNot old new
   pub map : SameStates new.map old.map
 
-abbrev pub ReservedIs : (tells : Type 0) → Entry → List Edit → List DataPage → Parts → Parts → Called → Type 0
-ReservedIs tells entry tx put old new (Entered number) = JoinsWith tells entry tx put number old new
-ReservedIs tells entry tx put old new NoRoom = StaysOut old new × GoesOn tells old new × LacksRoom tx old
-ReservedIs tells entry tx put old new NoMemory = StaysOut old new × GoesOn tells old new
-ReservedIs tells entry tx put old new (Failed fault) = StaysOut old new × FailsBy tells put fault old new
-ReservedIs tells entry tx put old new Unfit = StaysOut old new × GoesOn tells old new
+abbrev pub ReservedIs : (tells crashes : Type 0) → Entry → List Edit → List DataPage → Parts → Parts → Called → Type 0
+ReservedIs tells crashes entry tx put old new (Entered number) = IsJoined tells crashes entry tx put number old new
+ReservedIs tells crashes entry tx put old new NoRoom = StaysOut old new × GoesOn tells crashes old new × LacksRoom tx old
+ReservedIs tells crashes entry tx put old new NoMemory = StaysOut old new × GoesOn tells crashes old new
+ReservedIs tells crashes entry tx put old new (Failed fault) = StaysOut old new × FailsBy tells crashes tx put fault old (unreserved tx new)
+ReservedIs tells crashes entry tx put old new Unfit = StaysOut old new × GoesOn tells crashes old new
 
 -- pages were read, and nothing else changes
-pub record IsRead (tells : Type 0) (old new : Parts) : Type 0 where
+pub record IsRead (tells crashes : Type 0) (old new : Parts) : Type 0 where
   pub parts : new ≡ record old { view = new.view; disk = new.disk; past = new.past; faults = new.faults }
   pub view : tells → new.view ≡ old.view
+  pub disk : IsSame tells crashes old.disk new.disk old.past new.past
 
 -- why a read leaves none
 abbrev pub called_of : ViewError → Called

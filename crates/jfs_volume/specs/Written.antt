@@ -12,16 +12,23 @@ abbrev pub writes : List DataPage → List Change
 writes pages = map (λ d. Writes d.block d.page.0) pages
 
 -- the last change of a list where the write of a block failed: it tore, or the disk found no memory to have it pending
-pub data IsWriteStop (fault : Fault) : Change → Type 0 where
-  stops : IsWriteStop fault (Stops fault)
-  tears : (n : ℕ) (bytes : List ℕ) (sectors : ℕ) → IsWriteStop fault (WriteTears n bytes sectors fault)
+pub data IsWriteStop (fault : Fault) (d : DataPage) : Change → Type 0 where
+  stops : IsWriteStop fault d (Stops fault)
+  tears : (sectors : ℕ) → IsWriteStop fault d (WriteTears d.block d.page.0 sectors fault)
 
--- blocks were written, and then the write of one failed
-pub record StopsWriting (seen asked : Bool) (old new : Parts) (half : VolumeHalf) (fault : Fault) : Type 0 where
-  pub pages : List DataPage
+-- blocks were written, and then the write of this one failed
+pub record StopsAt (seen asked : Bool) (front : List DataPage) (next : DataPage) (old new : Parts) (half : VolumeHalf) (fault : Fault) : Type 0 where
   pub last : Change
-  pub is : IsWriteStop fault last
-  pub moves : Moves seen asked old new half (writes pages ++ last ∷ [])
+  pub is : IsWriteStop fault next last
+  pub moves : Moves seen asked old new half (writes front ++ last ∷ [])
+
+-- of these blocks, a front was written, and then the write of the next one failed
+pub record StopsWriting (seen asked : Bool) (all : List DataPage) (old new : Parts) (half : VolumeHalf) (fault : Fault) : Type 0 where
+  pub front : List DataPage
+  pub next : DataPage
+  pub rest : List DataPage
+  pub split : all ≡ front ++ next ∷ rest
+  pub stops : StopsAt seen asked front next old new half fault
 
 abbrev pub WriteIs : (seen asked : Bool) → ℕ → List ℕ → Parts → Parts → VolumeHalf → Result (Unit {0}) Fault → Type 0
 WriteIs seen asked n bytes old new half (Ok done) = Moves seen asked old new half (Writes n bytes ∷ [])

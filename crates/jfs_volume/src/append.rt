@@ -58,7 +58,7 @@ impl<D: Disk> Volume<D> {
             (λ seen asked half. Appends seen asked entry now (noted tx.now notes.now) contents.now self.old self.new half result) }
         ensures adds { AddsEntry entry (noted tx.now notes.now) marks self.old self.new result }
         ensures shows { D.tells → AreClean contents.now self.old.dirty → ShowsEntry contents.now tx.now self.old self.new result }
-        ensures stays { StaysUnless result self.old self.new }
+        ensures stays { StaysUnless D.tells D.tells_crashes result self.old self.new }
         ensures room { TellsRoom (has_room self.old.text (size_of_entry (noted tx.now notes.now))) result }
         ensures fault { TellsFault self.old.faults self.new.faults result }
     {
@@ -124,7 +124,7 @@ impl<D: Disk> Volume<D> {
             (λ seen asked half. Appends seen asked entry now list contents.now self.old self.new half result) }
         ensures adds { (list : List Noted) → tx_of list ≡ tx.now → IsDraft list self.old draft.now → AddsEntry entry list marks self.old self.new result }
         ensures shows { D.tells → AreClean contents.now self.old.dirty → ShowsEntry contents.now tx.now self.old self.new result }
-        ensures stays { StaysUnless result self.old self.new }
+        ensures stays { StaysUnless D.tells D.tells_crashes result self.old self.new }
         ensures had_room { result ≡ NoRoom → ⊥ }
         ensures fault { TellsFault self.old.faults self.new.faults result }
     {

@@ -13,8 +13,10 @@ ghost use Rattle.jfs_volume.specs.Runs.{taken_in};
 use crate::front::Front;
 use crate::gone::frees_gone;
 use crate::joined::Joined;
+use crate::placing::have_places;
 use crate::runs::taken_runs;
 use crate::volume::Volume;
+use jfs_bits::PxdList;
 use jfs_disk::{Disk, Fault};
 use jfs_imap::InodeMap;
 use jfs_marks::data_steps::DataList;
@@ -128,17 +130,17 @@ impl<D: Disk> Volume<D> {
         requires number { self.old.appended + 1 < 2 ^ 32 }
         requires blocks { length self.old.map.states ≤ self.old.blocks }
         requires contents { LieWithin (length self.old.map.states) pages.now }
-        ensures { CallIs D.tells entry tx.now pages.now self.old self.new result }
+        ensures { CallIs D.tells D.tells_crashes entry tx.now pages.now self.old self.new result }
     {
-        match taken_runs(self.alloc, tx.as_slice()) {
+        let called = match taken_runs(self.alloc, tx.as_slice()) {
             Ok(taken) => {
                 if !self.maps.blocks.are_reserved(&taken) {
                     return Called::Unfit;
                 }
+                self.append_reserved(entry, tx, &taken, pages)
             }
             Err(_) => return Called::NoMemory,
-        }
-        let called = self.append_reserved(entry, tx, pages);
+        };
         match called {
             Called::Entered { .. } => {}
             _ => self.give_back(tx),
@@ -147,15 +149,22 @@ impl<D: Disk> Volume<D> {
     }
 
     /// The same where the blocks that the transaction takes are reserved.
-    fn append_reserved(&mut self, entry: Entry, tx: &Tx, pages: &DataList) -> Called
+    fn append_reserved(
+        &mut self,
+        entry: Entry,
+        tx: &Tx,
+        taken: &PxdList,
+        pages: &DataList,
+    ) -> Called
         requires running { self.old.halted ≡ None }
         requires number { self.old.appended + 1 < 2 ^ 32 }
         requires blocks { length self.old.map.states ≤ self.old.blocks }
         requires contents { LieWithin (length self.old.map.states) pages.now }
+        requires taken { taken.now ≡ taken_in tx.now }
         requires reserved { AreReserved self.old.map (taken_in tx.now) }
-        ensures { ReservedIs D.tells entry tx.now pages.now self.old self.new result }
+        ensures { ReservedIs D.tells D.tells_crashes entry tx.now pages.now self.old self.new result }
     {
-        if !self.are_clean(pages) {
+        if !self.are_clean(pages) || !have_places(&self.maps.blocks, taken.as_slice(), pages) {
             return Called::Unfit;
         }
         let beside = match self.beside(tx, pages) {
@@ -193,7 +202,7 @@ impl<D: Disk> Volume<D> {
     /// What the entry needs beside its transaction and its data, by the pages as they are.
     fn beside(&mut self, tx: &Tx, pages: &DataList) -> Result<Beside, Called>
         requires blocks { length self.old.map.states ≤ self.old.blocks }
-        ensures read { IsRead D.tells self.old self.new }
+        ensures read { IsRead D.tells D.tells_crashes self.old self.new }
         ensures whole { D.tells → AreWhole self.old.blocks self.old.view }
         ensures beside { BesideOf D.tells (length self.old.map.states) (page_of self.old.view) self.old.inodes tx.now pages.now self.old.faults self.new.faults result }
     {

@@ -17,6 +17,7 @@ mod join;
 mod joined;
 mod marks;
 mod outcome;
+mod placing;
 mod point;
 mod ready;
 mod runs;

@@ -11,7 +11,7 @@ use Rattle.jfs_logpages.specs.Records.{log_text}
 use Rattle.jfs_volume.specs.records.specs.Entries.{Item, entry, point, log_records, text_size}
 use Rattle.jfs_volume.specs.records.proofs.ReadBack.{length-items, text_size-append}
 use Rattle.jfs_volume.specs.halves.specs.Half.{VolumeHalf, Halves, is_open, told_upto, all_synced}
-use Rattle.jfs_volume.specs.halves.specs.Change.{Change, Takes, Tells, GoesHome, Drops, LogStops, Syncs, Points, Knows, MayPoint, changed as changed_volume, after as after_volume, Writes}
+use Rattle.jfs_volume.specs.halves.specs.Change.{Change, Takes, Tells, GoesHome, Drops, Stops, LogStops, Syncs, Points, Knows, MayPoint, changed as changed_volume, after as after_volume, Writes}
 use Rattle.jfs_volume.specs.halves.specs.Both.{BothChange, Changes, GroupIsWritten, GroupFails, changed, after}
 use Rattle.jfs_volume.specs.halves.specs.Parts.{Parts, StandsFor}
 use Rattle.jfs_volume.specs.halves.specs.Log.{LogParts, LogStandsFor}
@@ -25,7 +25,7 @@ use Rattle.jfs_volume.specs.data_steps.specs.declared.pages.DataPage.{DataPage}
 use Rattle.jfs_volume.specs.Written.{writes, IsWriteStop, stops as write_stops, tears as write_tears}
 use Rattle.jfs_volume_calls.specs.Together.{NoGroup}
 use Rattle.jfs_volume_calls.specs.Commit.{Closes, group, committing, MayBeWritten, IsCommitted, GroupIs, WriteIs}
-use Rattle.jfs_volume_calls.specs.Syncpoint.{point_taken, point_known, homing, settling, IsStopped, low_fails, maps_fail, point_fails, IsSyncpoint, PointIs, SyncpointIs}
+use Rattle.jfs_volume_calls.specs.Syncpoint.{point_taken, point_known, homing, settling, AreMapPages, AreFirstMapPages, IsStopped, low_fails, maps_fail, sync_fails, point_fails, IsSyncpoint, PointIs, SyncpointIs}
 use Rattle.jfs_volume_calls.proofs.Lift.{AreQuiet, IsQuiet, after_lift, log_kept, lift}
 use Rattle.jfs_volume_calls.proofs.Written.{not_open, opened_by_entry, takes_log, written_stands, lost_stands, IsGroupWritten, IsGroupLost}
 
@@ -56,9 +56,9 @@ quiet_writes (d ∷ maps) = (tt, quiet_writes maps)
 pub quiet_homing : (homes : List ℕ) (maps : List DataPage) → AreQuiet (homing homes maps)
 quiet_homing homes maps = quiet_append (go_home homes) (writes maps) (quiet_homes homes) (quiet_writes maps)
 
-quiet_write_stop : (fault : Fault) (c : Change) → IsWriteStop fault c → IsQuiet c
-quiet_write_stop fault _ write_stops = tt
-quiet_write_stop fault _ (write_tears n bytes sectors) = tt
+quiet_write_stop : (fault : Fault) (d : DataPage) (c : Change) → IsWriteStop fault d c → IsQuiet c
+quiet_write_stop fault d _ write_stops = tt
+quiet_write_stop fault d _ (write_tears sectors) = tt
 
 pub quiet_stop : (fault : Fault) (c : Change) → IsStop fault c → IsQuiet c
 quiet_stop fault _ stops = tt
@@ -258,41 +258,61 @@ idle_closes seen asked p l both s t none = record {
 
 pub syncpoint_closes : (seen asked : Bool) (old mid low new : Parts) (l m : LogParts) (both : Halves) (homes : List ℕ) (maps : List DataPage) (committed : IsCommitted seen asked old mid l both) →
     Closes seen asked mid low l (after both (committing committed.written (length both.volume.history) committed.pages)) (settling homes maps) →
-    Closes seen asked low new m (after (after both (committing committed.written (length both.volume.history) committed.pages)) (settling homes maps)) (point_taken ++ point_known) → IsSyncpoint seen asked old new m both
-syncpoint_closes seen asked old mid low new l m both homes maps committed settled pointed = record {
+    Closes seen asked low new m (after (after both (committing committed.written (length both.volume.history) committed.pages)) (settling homes maps)) (point_taken ++ point_known) → AreMapPages old new maps → IsSyncpoint seen asked old new m both
+syncpoint_closes seen asked old mid low new l m both homes maps committed settled pointed are = record {
   written = committed.written;
   is = committed.is;
   pages = committed.pages;
   homes = homes;
   maps = maps;
+  maps_are = are;
   closes = closes_join seen asked old mid new l m both (committing committed.written (length both.volume.history) committed.pages) (settling homes maps ++ (point_taken ++ point_known)) committed.closes
       (closes_join seen asked mid low new l m (after both (committing committed.written (length both.volume.history) committed.pages)) (settling homes maps) (point_taken ++ point_known) settled pointed);
 }
 
 pub low_stops : (seen asked : Bool) (old mid new : Parts) (l : LogParts) (both : Halves) (fault : Fault) (homes : List ℕ) (last : Change) → IsStop fault last → (committed : IsCommitted seen asked old mid l both) →
     Moves seen asked mid new (after both (committing committed.written (length both.volume.history) committed.pages)).volume (go_home homes ++ last ∷ []) →
-    (list : List BothChange) × IsStopped (length both.volume.history) fault list × MovesBoth seen asked old new l both list
+    (list : List BothChange) × IsStopped old new (length both.volume.history) fault list × MovesBoth seen asked old new l both list
 low_stops seen asked old mid new l both fault homes last stop committed m =
     let front = committing committed.written (length both.volume.history) committed.pages in
     let rest = lift seen asked mid new l (after both front) (go_home homes ++ last ∷ []) (quiet_append (go_home homes) (last ∷ []) (quiet_homes homes) (quiet_stop fault last stop, tt)) m committed.closes.moves.log_stands in
     (front ++ map Changes (go_home homes ++ last ∷ []), low_fails committed.written committed.pages homes last committed.is stop, join_both seen asked old mid new l l both front (map Changes (go_home homes ++ last ∷ [])) committed.closes.moves rest)
 
-pub maps_stop : (seen asked : Bool) (old mid new : Parts) (l : LogParts) (both : Halves) (fault : Fault) (homes : List ℕ) (maps : List DataPage) (last : Change) → IsWriteStop fault last → (committed : IsCommitted seen asked old mid l both) →
+-- pages of the maps were written, and then one change more was made of the volume's half
+maps_end : (seen asked : Bool) (old mid new : Parts) (l : LogParts) (both : Halves) (homes : List ℕ) (maps : List DataPage) (last : Change) → IsQuiet last → (committed : IsCommitted seen asked old mid l both) →
     Moves seen asked mid new (after both (committing committed.written (length both.volume.history) committed.pages)).volume (homing homes maps ++ last ∷ []) →
-    (list : List BothChange) × IsStopped (length both.volume.history) fault list × MovesBoth seen asked old new l both list
-maps_stop seen asked old mid new l both fault homes maps last stop committed m =
+    MovesBoth seen asked old new l both (committing committed.written (length both.volume.history) committed.pages ++ map Changes (homing homes maps ++ last ∷ []))
+maps_end seen asked old mid new l both homes maps last quiet committed m =
     let front = committing committed.written (length both.volume.history) committed.pages in
-    let rest = lift seen asked mid new l (after both front) (homing homes maps ++ last ∷ []) (quiet_append (homing homes maps) (last ∷ []) (quiet_homing homes maps) (quiet_write_stop fault last stop, tt)) m committed.closes.moves.log_stands in
-    (front ++ map Changes (homing homes maps ++ last ∷ []), maps_fail committed.written committed.pages homes maps last committed.is stop, join_both seen asked old mid new l l both front (map Changes (homing homes maps ++ last ∷ [])) committed.closes.moves rest)
+    let rest = lift seen asked mid new l (after both front) (homing homes maps ++ last ∷ []) (quiet_append (homing homes maps) (last ∷ []) (quiet_homing homes maps) (quiet, tt)) m committed.closes.moves.log_stands in
+    join_both seen asked old mid new l l both front (map Changes (homing homes maps ++ last ∷ [])) committed.closes.moves rest
+
+pub maps_stop : (seen asked : Bool) (old mid new : Parts) (l : LogParts) (both : Halves) (fault : Fault) (homes : List ℕ) (pages : List DataPage) (next : DataPage) (last : Change) → IsWriteStop fault next last → AreFirstMapPages old new (pages ++ next ∷ []) →
+    (committed : IsCommitted seen asked old mid l both) → Moves seen asked mid new (after both (committing committed.written (length both.volume.history) committed.pages)).volume (homing homes pages ++ last ∷ []) →
+    (list : List BothChange) × IsStopped old new (length both.volume.history) fault list × MovesBoth seen asked old new l both list
+maps_stop seen asked old mid new l both fault homes pages next last stop are committed m = (
+  committing committed.written (length both.volume.history) committed.pages ++ map Changes (homing homes pages ++ last ∷ []),
+  maps_fail committed.written committed.pages homes pages next last committed.is are stop,
+  maps_end seen asked old mid new l both homes pages last (quiet_write_stop fault next last stop) committed m,
+)
+
+pub sync_stops : (seen asked : Bool) (old mid new : Parts) (l : LogParts) (both : Halves) (fault : Fault) (homes : List ℕ) (maps : List DataPage) → AreMapPages old new maps → (committed : IsCommitted seen asked old mid l both) →
+    Moves seen asked mid new (after both (committing committed.written (length both.volume.history) committed.pages)).volume (homing homes maps ++ Stops fault ∷ []) →
+    (list : List BothChange) × IsStopped old new (length both.volume.history) fault list × MovesBoth seen asked old new l both list
+sync_stops seen asked old mid new l both fault homes maps are committed m = (
+  committing committed.written (length both.volume.history) committed.pages ++ map Changes (homing homes maps ++ Stops fault ∷ []),
+  sync_fails committed.written committed.pages homes maps committed.is are,
+  maps_end seen asked old mid new l both homes maps (Stops fault) tt committed m,
+)
 
 pub point_stops : (seen asked : Bool) (old mid low new : Parts) (l m : LogParts) (both : Halves) (fault : Fault) (homes : List ℕ) (maps : List DataPage) (committed : IsCommitted seen asked old mid l both) →
     Closes seen asked mid low l (after both (committing committed.written (length both.volume.history) committed.pages)) (settling homes maps) →
-    MovesBoth seen asked low new m (after (after both (committing committed.written (length both.volume.history) committed.pages)) (settling homes maps)) (point_taken ++ GroupFails fault ∷ []) →
-    (list : List BothChange) × IsStopped (length both.volume.history) fault list × MovesBoth seen asked old new m both list
-point_stops seen asked old mid low new l m both fault homes maps committed settled lost =
+    MovesBoth seen asked low new m (after (after both (committing committed.written (length both.volume.history) committed.pages)) (settling homes maps)) (point_taken ++ GroupFails fault ∷ []) → AreMapPages old new maps →
+    (list : List BothChange) × IsStopped old new (length both.volume.history) fault list × MovesBoth seen asked old new m both list
+point_stops seen asked old mid low new l m both fault homes maps committed settled lost are =
     let front = committing committed.written (length both.volume.history) committed.pages in (
       front ++ (settling homes maps ++ (point_taken ++ GroupFails fault ∷ [])),
-      point_fails committed.written committed.pages homes maps committed.is,
+      point_fails committed.written committed.pages homes maps committed.is are,
       join_both seen asked old mid new l m both front (settling homes maps ++ (point_taken ++ GroupFails fault ∷ [])) committed.closes.moves
           (join_both seen asked mid low new l m (after both front) (settling homes maps) (point_taken ++ GroupFails fault ∷ []) settled.moves lost),
     )
@@ -303,6 +323,6 @@ written_group seen asked old new log both (Err why) is = is
 
 pub syncpoint_ends : (seen asked : Bool) (old mid low new : Parts) (l m : LogParts) (both : Halves) (homes : List ℕ) (maps : List DataPage) (committed : IsCommitted seen asked old mid l both) →
     Closes seen asked mid low l (after both (committing committed.written (length both.volume.history) committed.pages)) (settling homes maps) → (result : Result (Unit {0}) Fault) →
-    PointIs seen asked low new m (after (after both (committing committed.written (length both.volume.history) committed.pages)) (settling homes maps)) result → SyncpointIs seen asked old new m both result
-syncpoint_ends seen asked old mid low new l m both homes maps committed settled (Ok done) is = syncpoint_closes seen asked old mid low new l m both homes maps committed settled is
-syncpoint_ends seen asked old mid low new l m both homes maps committed settled (Err fault) is = point_stops seen asked old mid low new l m both fault homes maps committed settled is
+    PointIs seen asked low new m (after (after both (committing committed.written (length both.volume.history) committed.pages)) (settling homes maps)) result → AreMapPages old new maps → SyncpointIs seen asked old new m both result
+syncpoint_ends seen asked old mid low new l m both homes maps committed settled (Ok done) is are = syncpoint_closes seen asked old mid low new l m both homes maps committed settled is are
+syncpoint_ends seen asked old mid low new l m both homes maps committed settled (Err fault) is are = point_stops seen asked old mid low new l m both fault homes maps committed settled is are

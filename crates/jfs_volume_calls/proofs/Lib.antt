@@ -2,3 +2,4 @@ pub mod Lift
 pub mod Written
 pub mod Chained
 pub mod Kept
+pub mod Maps

@@ -22,7 +22,7 @@ returns-then-not-is_changing g c = record {
   answer = files.Changed c.in-Changed.tx c.in-Changed.blocks;
   answers = c.in-Changed.ensures.answers;
   asked = c.ask_file.ensures.asked;
-  ends = ends_unchanged g.D.Disk.tells c.args.caller c.args.request.now c.in-Changed.tx c.in-Changed.blocks c.ask_file.new.volume (sym c.is_changing.ensures ∙ c.if-not-is_changing.true);
+  ends = ends_unchanged g.D.Disk.tells g.D.Disk.tells_crashes c.args.caller c.args.request.now c.in-Changed.tx c.in-Changed.blocks c.ask_file.new.volume (sym c.is_changing.ensures ∙ c.if-not-is_changing.true);
 }
 
 pub returns-else-not-is_changing : goal.returns-else-not-is_changing
@@ -31,7 +31,7 @@ returns-else-not-is_changing g c = record {
   answer = files.Changed c.in-Changed.tx c.in-Changed.blocks;
   answers = c.in-Changed.ensures.answers;
   asked = c.ask_file.ensures.asked;
-  ends = ends_changed g.D.Disk.tells c.args.caller c.args.request.now c.in-Changed.tx c.in-Changed.blocks c.ask_file.new.volume c.change.new.volume c.change.result (sym c.is_changing.ensures ∙ c.if-not-is_changing.false) c.change.ensures;
+  ends = ends_changed g.D.Disk.tells g.D.Disk.tells_crashes c.args.caller c.args.request.now c.in-Changed.tx c.in-Changed.blocks c.ask_file.new.volume c.change.new.volume c.change.result (sym c.is_changing.ensures ∙ c.if-not-is_changing.false) c.change.ensures;
 }
 
 pub returns-in-Same : goal.returns-in-Same

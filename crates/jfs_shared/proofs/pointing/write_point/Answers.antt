@@ -11,7 +11,7 @@ returns-in-Ok-clause-point g c n k =
 pub returns-in-Err-clause-point : goal.returns-in-Err-clause-point
 returns-in-Err-clause-point g c n k =
     pointed_lost g.D.Disk c.args.shared.now c.args.log.now c.requires.running.0 c.reach.new.self.text c.reach.new.self.bytes (c.reach.ensures ∙ c.appended.ensures ∙ ap (λ (p : Parts). p.appended) c.take_point.ensures.parts) (omega (arith, c.appended.type_inv, c.appended.ensures, ap (λ (p : Parts). p.appended) c.take_point.ensures.parts)) c.requires.empty c.requires.told c.take_point.new.self c.take_point.ensures.parts n k
-    c.reach.new.self c.halt_for_log.new.self c.halt_for_log.ensures.halts c.write.new.self c.in-Err.why.fault c.in-Err.ensures.lost
+    c.reach.new.self c.halt_for_log.new.self c.halt_for_log.ensures.halts c.write.new.self c.in-Err.why.fault c.reach.new.self.ends c.in-Err.ensures.lost
 
 pub write-requires-clause-later : goal.write-requires-clause-later
 write-requires-clause-later g c =

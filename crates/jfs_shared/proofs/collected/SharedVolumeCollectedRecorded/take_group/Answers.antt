@@ -7,6 +7,6 @@ returns g c = record {
       let x = c.args.self.now in
       let e = c.take_group.ensures in (
         group_stands g.D.Disk.tells base list taken told points known x.points x.is_broken_off x.volume s c.take_group.new.self e.parts,
-        group_is g.D.Disk.tells base list taken told points known x.points x.is_broken_off x.volume s c.take_group.result e.text.0 e.last.0 e.room,
+        group_is g.D.Disk.tells base list taken told points known x.points x.is_broken_off x.volume s c.take_group.result e.text.0 e.text.1 e.last.0 e.room,
       );
 }

@@ -9,7 +9,7 @@ use Rattle.jfs_volume.specs.Room.{has_room}
 use Rattle.jfs_volume.specs.Runs.{taken_in, freed_in, pages_freed}
 use Rattle.jfs_volume.proofs.Editing.{tx_within}
 use Rattle.jfs_volume.proofs.Texts.{tx_of-noted, draft_size}
-use Rattle.jfs_volume.proofs.Appending.{kept_appends, kept_same, kept_stands, appends_after, entry_after, draft_after, tells_room, shows_after, writable_after}
+use Rattle.jfs_volume.proofs.Appending.{kept_appends, kept_same, kept_stands, appends_after, entry_after, draft_after, tells_room, shows_after, writable_after, kept_stays, unless_after}
 use Rattle.jfs_volume.proofs.volume.Volume.append.Goals as goal
 
 pub returns-then-not-has_room_for-clause-appends : goal.returns-then-not-has_room_for-clause-appends
@@ -76,3 +76,9 @@ returns-in-Ok-clause-shows g c told clean =
     let m = c.prepare.new.self in
     let kept = c.prepare.ensures.stays in
     shows_after c.args.contents.now c.args.tx.now p m c.enter.new.self c.enter.result (ap (λ (r : Parts). r.view) kept.parts) (c.enter.ensures.shows told (λ b put. ap (λ (r : Parts). dirty_of r.dirty b) kept.parts ∙ clean b put))
+
+pub returns-in-Err-clause-stays : goal.returns-in-Err-clause-stays
+returns-in-Err-clause-stays g c = kept_stays c.args.self.now c.prepare.new.self c.prepare.ensures.stays
+
+pub returns-in-Ok-clause-stays : goal.returns-in-Ok-clause-stays
+returns-in-Ok-clause-stays g c = unless_after g.D.Disk.tells g.D.Disk.tells_crashes c.args.self.now c.prepare.new.self c.enter.new.self c.enter.result c.enter.ensures.had_room c.prepare.ensures.stays c.enter.ensures.stays

@@ -1,4 +1,4 @@
-use Rattle.std.proofs.Common.{◌+◌, ℕ, suc, [], length, slice_get, refl, sym, ap, ◌∙◌, subst, arith, ◌++◌}
+use Rattle.std.proofs.Common.{◌≡◌, ◌<◌, ◌≤◌, ◌+◌, ℕ, suc, true, false, List, length, drop, slice_get, refl, sym, ap, ◌∙◌, subst, arith}
 use Rattle.jfs_bmap.specs.MapFile.{IsMapPage, is_in_use}
 use Rattle.jfs_bmap.specs.States.{Blocks, is_owned}
 use Rattle.jfs_map_files.specs.declared.map_file.MapFiles.{MapFiles}
@@ -8,9 +8,10 @@ use Rattle.jfs_halves.specs.Parts.{Parts}
 use Rattle.jfs_halves.specs.Change.{after}
 use Rattle.jfs_volume.specs.Shown.{PutsPage, Spoils}
 use Rattle.jfs_volume.specs.Written.{writes}
-use Rattle.jfs_volume.specs.MapsHome.{with_blocks_written}
-use Rattle.jfs_volume.proofs.Stand.{none, length-image}
-use Rattle.jfs_volume.proofs.Showing.{stays-else, shows-none, shows-more, shows-less, writes-on, writes-stop, marked-moves}
+use Rattle.jfs_volume.specs.MapsHome.{MapPage, OfBlocks, page_at, block_pages, AreHome, StopsAmong, with_blocks_written}
+use Rattle.jfs_volume.proofs.Stand.{length-image}
+use Rattle.jfs_volume.proofs.MapsWritten.{Reaches, next_block, last_block, none_home, begins, goes_on, stops_there, ends, marked-home, stale_blocks, fresh_blocks}
+use Rattle.jfs_volume.proofs.Showing.{stays-else, shows-none, shows-more, shows-less}
 use Rattle.jfs_volume.proofs.volume.Volume.home_block_map.Goals as goal
 
 pub loop-n-init : goal.loop-n-init
@@ -20,7 +21,7 @@ loop-n-init g c =
       parts = refl;
       halted = c.requires.running;
       faults = refl;
-      homes = λ seen asked told crashes half s. ([], none seen asked p p half s (λ t k. refl));
+      homes = λ seen asked told crashes half s. begins seen asked (block_pages (length p.map.states) 0 p.files.blocks.places) p half s;
       shows = λ t. shows-none p.files.blocks.places (is_in_use (length p.map.states)) (IsMapPage (length p.map.states) p.map.agsize (is_owned p.map)) p.view;
     }
 
@@ -37,15 +38,20 @@ loop-n-preserved g c =
     let p = c.args.self.now in
     let n = c.loop-n.n in
     let v = c.self.inside in
+    let near : n < length p.files.blocks.places = rw (← c.self.view_is) (omega arith) in
     let within : AreWithin (length p.view) p.files.blocks.places = rw (← c.self.view_is) (subst (λ (size : ℕ). AreWithin size v.files.blocks.places) (sym (length-image v.cache.blocks (g.D.Disk.image v.cache.disk) v.cache.kept)) c.self.invariant.7.map_within) in
     record {
       parts = e.memory ∙ ap (λ (q : Parts). record q { view = c.home_block_page.new.self.view; disk = c.home_block_page.new.self.disk; past = c.home_block_page.new.self.past; faults = c.home_block_page.new.self.faults; halted = c.home_block_page.new.self.halted }) inv.parts;
       halted = c.in-Ok.ensures.halted;
       faults = c.in-Ok.ensures.cause ∙ inv.faults;
       homes = λ seen asked told crashes half s.
-          let w = inv.homes seen asked told crashes half s in
-          let more = c.in-Ok.ensures.home seen asked told crashes (after half (writes w.0)) w.1.stands in
-          (w.0 ++ more.0, writes-on seen asked p c.loop-n.self c.home_block_page.new.self half w.0 more.0 w.1 more.1);
+          let places = p.files.blocks.places in
+          let blocks = length p.map.states in
+          let w = subst (λ (left : List MapPage). Reaches seen asked (block_pages blocks 0 places) left p c.loop-n.self half) (next_block blocks n places near) (inv.homes seen asked told crashes half s) in
+          goes_on seen asked (block_pages blocks 0 places) (page_at (is_in_use blocks n) (OfBlocks n) (slice_get places n)) (block_pages blocks (n + 1) (drop (n + 1) places)) p c.loop-n.self c.home_block_page.new.self half
+          (ap (λ (q : Parts). q.map) inv.parts) (ap (λ (q : Parts). q.inodes) inv.parts) w
+          (subst (λ (ts : List MapPage). AreHome seen asked ts c.loop-n.self c.home_block_page.new.self (after half (writes w.pages))) (ap (λ (q : Parts). page_at (is_in_use (length q.map.states) n) (OfBlocks n) (slice_get q.files.blocks.places n)) inv.parts)
+          (c.in-Ok.ensures.home seen asked told crashes (after half (writes w.pages)) w.moves.stands));
       shows = λ t. shows-less (n + 1) (suc n) p.files.blocks.places (is_in_use (length p.map.states)) (IsMapPage (length p.map.states) p.map.agsize (is_owned p.map)) p.view c.home_block_page.new.self.view (omega arith) (shows-more n p.files.blocks.places (is_in_use (length p.map.states)) (IsMapPage (length p.map.states) p.map.agsize (is_owned p.map)) p.view c.loop-n.self.view c.home_block_page.new.self.view within (inv.shows t)
           (subst (λ (f : MapFiles). PutsPage (is_in_use (length p.map.states) n) (slice_get f.blocks.places n) (IsMapPage (length p.map.states) p.map.agsize (is_owned p.map) n) c.loop-n.self.view c.home_block_page.new.self.view) (ap (λ (q : Parts). q.files) inv.parts)
           (subst (λ (m : Blocks). PutsPage (is_in_use (length m.states) n) (slice_get c.loop-n.self.files.blocks.places n) (IsMapPage (length m.states) m.agsize (is_owned m) n) c.loop-n.self.view c.home_block_page.new.self.view) (ap (λ (q : Parts). q.map) inv.parts) (c.in-Ok.ensures.shows t))));
@@ -53,8 +59,19 @@ loop-n-preserved g c =
 
 pub returns-in-Err-clause-home : goal.returns-in-Err-clause-home
 returns-in-Err-clause-home g c seen asked told crashes half s =
-    let w = c.loop-n.invariant.homes seen asked told crashes half s in
-    writes-stop seen asked c.args.self.now c.loop-n.self c.home_block_page.new.self half w.0 c.in-Err.fault w.1 (c.in-Err.ensures.home seen asked told crashes (after half (writes w.0)) w.1.stands)
+    let inv = c.loop-n.invariant in
+    let p = c.args.self.now in
+    let n = c.loop-n.n in
+    let places = p.files.blocks.places in
+    let blocks = length p.map.states in
+    let stale : p.files.blocks.stale ≡ true = rw (← c.self.view_is) (sym c.is_stale.ensures ∙ c.if-not-is_stale.false) in
+    let near : n < length p.files.blocks.places = rw (← c.self.view_is) (omega arith) in
+    let w = subst (λ (left : List MapPage). Reaches seen asked (block_pages blocks 0 places) left p c.loop-n.self half) (next_block blocks n places near) (inv.homes seen asked told crashes half s) in
+    subst (λ (ts : List MapPage). StopsAmong seen asked ts p c.home_block_page.new.self half c.in-Err.fault) (sym (stale_blocks blocks p.files.blocks stale))
+    (stops_there seen asked (block_pages blocks 0 places) (page_at (is_in_use blocks n) (OfBlocks n) (slice_get places n)) (block_pages blocks (n + 1) (drop (n + 1) places)) p c.loop-n.self c.home_block_page.new.self half
+    (ap (λ (q : Parts). q.map) inv.parts) (ap (λ (q : Parts). q.inodes) inv.parts) w c.in-Err.fault
+    (subst (λ (ts : List MapPage). StopsAmong seen asked ts c.loop-n.self c.home_block_page.new.self (after half (writes w.pages)) c.in-Err.fault) (ap (λ (q : Parts). page_at (is_in_use (length q.map.states) n) (OfBlocks n) (slice_get q.files.blocks.places n)) inv.parts)
+    (c.in-Err.ensures.home seen asked told crashes (after half (writes w.pages)) w.moves.stands)))
 
 pub returns-in-Err-clause-spoils : goal.returns-in-Err-clause-spoils
 returns-in-Err-clause-spoils g c t =
@@ -65,5 +82,18 @@ returns-in-Err-clause-spoils g c t =
 
 pub returns-clause-home : goal.returns-clause-home
 returns-clause-home g c seen asked told crashes half s =
-    let w = c.loop-n.invariant.homes seen asked told crashes half s in
-    rw c.block_map_written.ensures (w.0, marked-moves seen asked c.args.self.now c.loop-n.self (with_blocks_written c.loop-n.self.files) half (writes w.0) w.1)
+    let p = c.args.self.now in
+    let places = p.files.blocks.places in
+    let blocks = length p.map.states in
+    let stale : p.files.blocks.stale ≡ true = rw (← c.self.view_is) (sym c.is_stale.ensures ∙ c.if-not-is_stale.false) in
+    let far : length p.files.blocks.places ≤ c.loop-n.n = rw (← c.self.view_is) (omega arith) in
+    let w = subst (λ (left : List MapPage). Reaches seen asked (block_pages blocks 0 places) left p c.loop-n.self half) (last_block blocks c.loop-n.n places far) (c.loop-n.invariant.homes seen asked told crashes half s) in
+    rw c.block_map_written.ensures
+    (subst (λ (ts : List MapPage). AreHome seen asked ts p (record c.loop-n.self { files = with_blocks_written c.loop-n.self.files }) half) (sym (stale_blocks blocks p.files.blocks stale))
+    (marked-home seen asked (block_pages blocks 0 places) p c.loop-n.self (with_blocks_written c.loop-n.self.files) half (ends seen asked (block_pages blocks 0 places) p c.loop-n.self half w)))
+
+pub returns-then-not-is_stale-clause-home : goal.returns-then-not-is_stale-clause-home
+returns-then-not-is_stale-clause-home g c seen asked told crashes half s =
+    let p = c.args.self.now in
+    let fresh : p.files.blocks.stale ≡ false = rw (← c.self.view_is) (sym c.is_stale.ensures ∙ c.if-not-is_stale.true) in
+    subst (λ (ts : List MapPage). AreHome seen asked ts p p half) (sym (fresh_blocks (length p.map.states) p.files.blocks fresh)) (none_home seen asked p half s)

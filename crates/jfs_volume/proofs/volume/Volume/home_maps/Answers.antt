@@ -1,14 +1,28 @@
-use Rattle.std.proofs.Common.{◌≡◌, ap, ◌∙◌}
+use Rattle.std.proofs.Common.{◌≡◌, List, length, ap, ◌∙◌, subst}
+use Rattle.jfs_map_files.specs.declared.map_file.MapFiles.{MapFiles}
 use Rattle.jfs_halves.specs.Parts.{Parts}
 use Rattle.jfs_halves.specs.Change.{after}
+use Rattle.jfs_volume.specs.MapsHome.{MapPage, stale_block_pages, stale_inode_pages, GoHome}
 use Rattle.jfs_volume.specs.Written.{writes}
-use Rattle.jfs_volume.proofs.Showing.{maps-then, shows-first, shows-then, places-then}
+use Rattle.jfs_volume.proofs.MapsWritten.{maps-then, maps-stop}
+use Rattle.jfs_volume.proofs.Showing.{shows-first, shows-then, places-then}
 use Rattle.jfs_volume.proofs.volume.Volume.home_maps.Goals as goal
 
 pub returns-in-Ok-clause-home : goal.returns-in-Ok-clause-home
 returns-in-Ok-clause-home g c seen asked told crashes half s =
-    let w = c.in-Ok.ensures.home seen asked told crashes half s in
-    maps-then seen asked c.args.self.now c.home_block_map.new.self c.home_inode_map.new.self half w.0 c.home_inode_map.result w.1 (c.home_inode_map.ensures.home seen asked told crashes (after half (writes w.0)) w.1.stands)
+    let p = c.args.self.now in
+    let mid = c.home_block_map.new.self in
+    let new = c.home_inode_map.new.self in
+    let one = c.in-Ok.ensures in
+    let w = one.home seen asked told crashes half s in
+    maps-then seen asked (stale_block_pages (length p.map.states) p.files.blocks) (stale_inode_pages p.files.inodes) p mid new half c.home_inode_map.result (ap (λ (q : Parts). q.map) one.memory) (ap (λ (q : Parts). q.inodes) one.memory) w
+    (subst (λ (ts : List MapPage). GoHome seen asked ts mid new (after half (writes w.pages)) c.home_inode_map.result) (ap (λ (f : MapFiles). stale_inode_pages f.inodes) one.written)
+    (c.home_inode_map.ensures.home seen asked told crashes (after half (writes w.pages)) w.moves.stands))
+
+pub returns-in-Err-clause-home : goal.returns-in-Err-clause-home
+returns-in-Err-clause-home g c seen asked told crashes half s =
+    let p = c.args.self.now in
+    maps-stop seen asked (stale_block_pages (length p.map.states) p.files.blocks) (stale_inode_pages p.files.inodes) p c.home_block_map.new.self half c.in-Err.fault (c.in-Err.ensures.home seen asked told crashes half s)
 
 pub returns-in-Err-clause-shows : goal.returns-in-Err-clause-shows
 returns-in-Err-clause-shows g c t =
