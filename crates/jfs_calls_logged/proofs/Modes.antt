@@ -1,13 +1,11 @@
 -- The change of a mode logs what matters.
-use Rattle.std.proofs.Common.{◌≡◌, ◌<◌, refl, sym, ap, ◌∙◌, subst, inl, inr, ℕ, ◌+◌, ◌-◌, ◌%◌, Bool, true, false, nat_lt, List, [], ◌∷◌, Option, is_some, if◌then◌else◌, arith}
-use Rattle.std.proofs.lemmas.Bool.{cases_lt}
+use Rattle.std.proofs.Common.{◌≡◌, ◌<◌, refl, sym, ap, ◌∙◌, subst, inl, inr, ℕ, ◌+◌, ◌-◌, ◌%◌, Bool, true, false, nat_lt, List, [], length, Option, is_some, if◌then◌else◌, arith}
+use Rattle.std.proofs.lemmas.Bool.{and_parts, ltb-true}
 use Rattle.jfs_bits.specs.declared.descriptor.Moment.{Moment}
 use Rattle.jfs_bits.specs.declared.rule.PageKind.TheVariants as kinds
 use Rattle.jfs_imap.specs.Inodes.{Inodes}
 use Rattle.jfs_inode.specs.declared.fields.Dinode.{Dinode}
 use Rattle.jfs_ranges.specs.declared.edit.Edit.{Edit}
-use Rattle.jfs_ranges.specs.declared.edit.Edit.TheVariants.{Lines, NoRedo, Alloc, Free}
-use Rattle.jfs_ranges.specs.Apply.{apply_tx}
 use Rattle.jfs_ranges.specs.Laid.{put_tx}
 use Rattle.jfs_tree.specs.Tell.{IsRuns}
 use Rattle.jfs_chmod.specs.Call.{with_mode}
@@ -16,8 +14,8 @@ use Rattle.jfs_chmod.specs.steps.specs.After.{after_call}
 use Rattle.jfs_chmod.specs.steps.specs.Laws.{ChangesPagesAlone}
 use Rattle.jfs_chmod.specs.steps.specs.Put.{AddsInode, TellsLines}
 use Rattle.jfs_chmod.specs.steps.proofs.After.{lines_alone, lines_leave, after_is}
-use Rattle.jfs_chmod.specs.steps.proofs.Puts.{put_within, put_past}
-use Rattle.jfs_chmod.specs.steps.specs.bmap.specs.States.{Blocks}
+use Rattle.jfs_chmod.specs.steps.proofs.Puts.{put_within}
+use Rattle.jfs_chmod.specs.steps.specs.bmap.specs.States.{Blocks, is_owned}
 use Rattle.jfs_chmod.specs.steps.specs.objects.specs.Readers.{Readers}
 use Rattle.jfs_chmod.specs.steps.specs.objects.specs.Volume.{Volume}
 use Rattle.jfs_chmod.specs.steps.specs.objects.specs.Objects.{Object, IsWhole, spelled, is_live, listed}
@@ -30,29 +28,14 @@ use Rattle.jfs_chmod.specs.steps.specs.way.specs.Volume.{volume_of}
 use Rattle.jfs_chmod.specs.steps.specs.way.specs.declared.object.Held.{Held}
 use Rattle.jfs_chmod.specs.steps.specs.way.proofs.Nodes.{lives}
 use Rattle.jfs_logged.specs.Kinds.{HasTrees}
-use Rattle.jfs_logged.specs.Logged.{LogsWell}
+use Rattle.jfs_logged.specs.Own.{LogsItsOwn}
 use Rattle.jfs_logged.specs.Edits.{WritesInode}
 use Rattle.jfs_logged.proofs.Edited.{inode_law}
 use Rattle.jfs_calls_logged.specs.Found.{IsFound}
-use Rattle.jfs_calls_logged.specs.Calls.{ArePages, IsReady, IsLogged, ModeLaw}
+use Rattle.jfs_calls_logged.specs.Calls.{IsReady, IsLogged, ModeLaw}
 use Rattle.jfs_calls_logged.proofs.Found.{path_found}
 
 -- ---- pages after a transaction
-
--- an empty page has no byte to put
-pub none_put : (p : ℕ) (tx : List Edit) → apply_tx p tx [] ≡ []
-none_put p [] = refl
-none_put p (Lines page kind first bytes ∷ tx) = none_put p tx
-none_put p (NoRedo page ∷ tx) = none_put p tx
-none_put p (Alloc run ∷ tx) = none_put p tx
-none_put p (Free run ∷ tx) = none_put p tx
-
--- so a transaction makes of each page what its edits make of it
-pub put_each : (blocks : ℕ) (pages : ℕ → List ℕ) → ArePages blocks pages → (tx : List Edit) (p : ℕ) → put_tx blocks tx pages p ≡ apply_tx p tx (pages p)
-put_each blocks pages are tx p = elim (cases_lt p blocks) [
-  | inl w ↦ put_within blocks tx pages p w
-  | inr w ↦ put_past blocks tx pages p w ∙ are.none p w ∙ sym (ap (apply_tx p tx) (are.none p w) ∙ none_put p tx)
-]
 
 pub nothing_put : (blocks : ℕ) (pages : ℕ → List ℕ) → put_tx blocks [] pages ≡ pages
 nothing_put blocks pages = λ i b. same b i
@@ -66,7 +49,7 @@ nothing_put blocks pages = λ i b. same b i
 
 -- ---- the call
 
-module _ (blocks : ℕ) (pages : ℕ → List ℕ) (area : ℕ → ℕ) (bm : Blocks) (inodes : Inodes) (ready : IsReady blocks pages area bm inodes) (path : List (List ℕ)) (mode : ℕ) (now : Moment) (few : mode < 4096) (tx : List Edit)
+module _ (blocks : ℕ) (pages : ℕ → List ℕ) (area : ℕ → ℕ) (bm : Blocks) (inodes : Inodes) (ready : IsReady blocks pages area bm inodes) (many : length bm.states ≡ blocks) (path : List (List ℕ)) (mode : ℕ) (now : Moment) (few : mode < 4096) (tx : List Edit)
     (at : Held) (f : IsFound blocks pages area bm inodes at) (adds : AddsInode blocks pages at.page at.number (with_mode at.inode mode now) [] tx) (tells : TellsLines blocks pages at.page [] tx) where
   abbrev r : Readers
   r = readers blocks
@@ -130,13 +113,16 @@ module _ (blocks : ℕ) (pages : ℕ → List ℕ) (area : ℕ → ℕ) (bm : Bl
     regular = rw (type_is d.mode mode few) refl;
   }
 
+  within : (q : ℕ) → v.used q ≡ true → q < blocks
+  within q was = subst (λ (k : ℕ). q < k) many (ltb-true q (length bm.states) (and_parts (nat_lt q (length bm.states)) (is_owned bm q) was).0)
+
   writes : WritesInode r v w n at.page d set (put_tx blocks [] pages at.page) (put_tx blocks tx pages at.page) tx
   writes = record {
     at = f.home_is;
     was = f.was;
     sets = sets;
     trees = trees;
-    pages = put_each blocks pages ready.are_pages tx;
+    pages = λ q was now. put_within blocks tx pages q (within q was);
     runs = subst (λ (x : List Edit). IsRuns at.page kinds.Inode (put_tx blocks [] pages at.page) (put_tx blocks tx pages at.page) 0 x) (sym tells.1) tells.2;
   }
 
@@ -153,8 +139,8 @@ module _ (blocks : ℕ) (pages : ℕ → List ℕ) (area : ℕ → ℕ) (bm : Bl
   })
 
   pub mode_logged : IsLogged blocks pages area bm inodes tx
-  mode_logged = subst (λ (x : Volume). LogsWell r v x tx) is_after (inode_law r v w n at.page d set (put_tx blocks [] pages at.page) (put_tx blocks tx pages at.page) tx ready.consistent.sound writes)
+  mode_logged = subst (λ (x : Volume). LogsItsOwn r v x tx) is_after (inode_law r v w n at.page d set (put_tx blocks [] pages at.page) (put_tx blocks tx pages at.page) tx ready.consistent.sound writes).own
 
 pub mode_law : ModeLaw
-mode_law blocks pages area bm inodes path mode now tx ready few (at, e, adds, tells) =
-    mode_logged blocks pages area bm inodes ready path mode now few tx at (path_found blocks pages area bm inodes ready.consistent path at e) adds tells
+mode_law blocks pages area bm inodes path mode now tx ready many few (at, e, adds, tells) =
+    mode_logged blocks pages area bm inodes ready many path mode now few tx at (path_found blocks pages area bm inodes ready.consistent path at e) adds tells

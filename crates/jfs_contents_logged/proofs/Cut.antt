@@ -32,7 +32,7 @@ use Rattle.jfs_truncate.specs.data_steps.specs.File.{resized}
 use Rattle.jfs_truncate.specs.data_steps.specs.Laws.{MayPut, SetsFile, PutsAlone, IsSetWithData}
 use Rattle.jfs_truncate.specs.data_steps.specs.declared.pages.DataPage.{DataPage}
 use Rattle.jfs_truncate.specs.data_steps.proofs.Extents.{had, had_below, had_once, data_was, data_now, extents_set, file_sets, some_extents}
-use Rattle.jfs_truncate.specs.data_steps.proofs.Putting.{put_off, put_whole}
+use Rattle.jfs_truncate.specs.data_steps.proofs.Putting.{put_off}
 use Rattle.jfs_truncate.specs.data_steps.proofs.Setting.{set_law}
 use Rattle.jfs_truncate.specs.data_steps.specs.lead_steps.specs.Balance.{own_after}
 use Rattle.jfs_truncate.specs.data_steps.specs.lead_steps.proofs.Named.{all_below}
@@ -61,19 +61,20 @@ use Rattle.jfs_truncate.specs.data_steps.specs.way.specs.declared.object.Held.{H
 use Rattle.jfs_truncate.specs.data_steps.specs.way.proofs.Nodes.{lives}
 use Rattle.jfs_truncate.specs.data_steps.proofs.Told.{leaves_none, frees_leave, changes_leave, lines_leave_others}
 use Rattle.jfs_truncate.specs.data_steps.specs.kinds.specs.Laws.{KeepsKinds, HasSameOwners}
-use Rattle.jfs_truncate.specs.data_steps.specs.kinds.specs.Owner.{has_page, has_data, owner_of}
+use Rattle.jfs_truncate.specs.data_steps.specs.kinds.specs.Owner.{has_page, has_data, has_still, owner_of}
 use Rattle.jfs_truncate.specs.data_steps.specs.kinds.specs.Owner.Owner.{Inodes as OfInodes, Data}
 use Rattle.jfs_truncate.specs.data_steps.specs.kinds.proofs.Logged.{logged_law}
+use Rattle.jfs_truncate.specs.data_steps.specs.kinds.proofs.Parts.{parts}
 use Rattle.jfs_truncate.specs.data_steps.specs.kinds.proofs.Single.{has_owners}
 use Rattle.jfs_truncate.specs.data_steps.specs.kinds.proofs.Stay.{same_owners}
-use Rattle.jfs_names_logged.specs.calls_logged.specs.Calls.{ArePages, IsReady}
+use Rattle.jfs_names_logged.specs.calls_logged.specs.Calls.{IsReady}
 use Rattle.jfs_names_logged.specs.calls_logged.specs.Found.{IsFound}
-use Rattle.jfs_names_logged.specs.calls_logged.proofs.Modes.{put_each}
 use Rattle.jfs_names_logged.specs.calls_logged.specs.logged.specs.halves.specs.Marks.{frees_page}
 use Rattle.jfs_names_logged.specs.calls_logged.specs.logged.specs.recovery.specs.records.specs.Redo.{closes_in}
-use Rattle.jfs_names_logged.specs.calls_logged.specs.logged.specs.Logged.{logged_in, LogsWell}
+use Rattle.jfs_names_logged.specs.calls_logged.specs.logged.specs.Logged.{logged_in}
+use Rattle.jfs_names_logged.specs.calls_logged.specs.logged.specs.Own.{LogsItsOwn}
 use Rattle.jfs_names_logged.specs.calls_logged.specs.logged.specs.Trees.{TellsPages}
-use Rattle.jfs_names_logged.specs.calls_logged.specs.logged.proofs.Joined.{never, freed_rest}
+use Rattle.jfs_names_logged.specs.calls_logged.specs.logged.proofs.Joined.{never, freed_rest, is_in_use}
 use Rattle.jfs_names_logged.specs.calls_logged.specs.logged.proofs.Pages.{pages_law, closes_onto, leaves_onto}
 use Rattle.jfs_names_logged.specs.calls_logged.specs.logged.proofs.Staged.{runs_law}
 use Rattle.jfs_names_logged.specs.calls_logged.specs.logged.proofs.Written.{freed_onto, not_page, trees_law}
@@ -256,6 +257,22 @@ module _ (blocks : ℕ) (pages : ℕ → List ℕ) (area : ℕ → ℕ) (bm : Bl
       none_freed : (b : ℕ) → v.used b ≡ true → w.used b ≡ true → count_in b freed ≡ 0
       none_freed b was still = let u = used_then b in let x = bit_of (v.used b) was in let y = bit_of (w.used b) still in omega (arith, u, x, y)
 
+  -- its attributes are those that it had
+  none_still : (b : ℕ) → v.used b ≡ false → has_still r (Some (spelled r mid set)) b ≡ 0
+  none_still b free =
+      let p = parts r (Some (spelled r mid set)) b in
+      let s = beside_pages r (spelled r mid set) b in
+      let f = file_data_is r mid set b regular in
+      let a = same_attributes r mid pages d z.root size (own_after d.nblocks z.cut) now b in
+      let h = beside_pages r (spelled r pages d) b in
+      let o = ap (λ (o : Option Object). holds r o b) found.was in
+      let n = held_none (zero_or_more (holds r (objects r v n) b)) in
+      omega (arith, p, s, f, a, h, o, n)
+    where
+      held_none : (holds r (objects r v n) b ≡ 0) ⊎ (0 < holds r (objects r v n) b) → holds r (objects r v n) b ≡ 0
+      held_none (inl z) = z
+      held_none (inr l) = never (v.used b) (owned_v.in_use n b l) free
+
   -- ---- what is told
 
   abbrev gone : List ℕ
@@ -300,8 +317,8 @@ module _ (blocks : ℕ) (pages : ℕ → List ℕ) (area : ℕ → ℕ) (bm : Bl
   tx_is : tx ≡ z.cut ++ z.lines.0
   tx_is = z.lines.1
 
-  pub cut_logged : LogsWell r v w tx
-  cut_logged = subst (LogsWell r v w) (sym tx_is) (trees_law.writes r v w n z.cut z.lines.0 ready.consistent.sound (record {
+  pub cut_logged : LogsItsOwn r v w tx
+  cut_logged = subst (LogsItsOwn r v w) (sym tx_is) ((trees_law.writes r v w n z.cut z.lines.0 ready.consistent.sound (record {
     page = at.page;
     set = set;
     mid = mid;
@@ -310,8 +327,9 @@ module _ (blocks : ℕ) (pages : ℕ → List ℕ) (area : ℕ → ℕ) (bm : Bl
     at = found.home_is;
     sets = sets;
     kinds = kinds_kept;
-    pages = λ q. put_each blocks pages ready.are_pages tx q ∙ ap (λ (e : List Edit). apply_tx q e (pages q)) tx_is;
+    pages = λ q was now. put_within blocks tx pages q (within q was) ∙ ap (λ (e : List Edit). apply_tx q e (pages q)) tx_is;
     runs = runs_law at.page kinds.Inode (put_tx blocks z.cut pages at.page) (put_tx blocks tx pages at.page) 0 z.lines.0 z.lines.2;
+    none_still = none_still;
     told = [];
     gone = gone;
     changed = tells.changed;
@@ -321,12 +339,12 @@ module _ (blocks : ℕ) (pages : ℕ → List ℕ) (area : ℕ → ℕ) (bm : Bl
     come = λ q free l. absurd (let p = pages_then q in let o = only.owned q in let e = owned_is q in let u = ap bit free in let b = ap bit (owned_v.in_use n q (let h = had_it q in omega (arith, h, p, o, e, l))) in omega (arith, u, b));
     go = λ q free l. in_gone q (let p = pages_before q in let h = had_it q in let u = used_then q in let f = ap bit free in let b = bit_of (v.used q) (owned_v.in_use n q (omega (arith, p, h, l))) in
         let a = freed_is q in let c = balance bound q es in let k = once q in omega (arith, p, u, f, b, a, c, k, l));
-    gone_are = λ q l. no_bit (w.used q) (let t = in_told q l in let a = freed_is q in let u = used_then q in let m = at_most (v.used q) in omega (arith, t, a, u, m));
+    gone_are = λ q l. (no_bit (w.used q) (let t = in_told q l in let a = freed_is q in let u = used_then q in let m = at_most (v.used q) in omega (arith, t, a, u, m)), (let t = in_told q l in let o = only.owned q in let p = pages_before q in omega (arith, t, o, p)));
     others = λ q none stays. elim (cases_lt q blocks) [
       | inr l ↦ inl (none_below blocks q tells.changed tells.within l)
       | inl l ↦ inr (refl, new_is q l ∙ only.keeps q l (let p = pages_then q in let e = owned_is q in omega (arith, p, e, none)))
     ];
-  }))
+  })).own)
 
   -- ---- the data
 
@@ -392,25 +410,17 @@ module _ (blocks : ℕ) (pages : ℕ → List ℕ) (area : ℕ → ℕ) (bm : Bl
     owners_then : HasSameOwners r w y
     owners_then = same_owners r w y (record { extents = moves.extents_stay v.extents; area = λ b. refl }) same_objects
 
-    -- pages with the data are whole
-    are_pages : ArePages blocks (put_data ds pages)
-    are_pages = record {
-      sizes = λ b l. by_put b l (cases_Bool (is_put b ds));
-      none = λ b l. past b l (cases_Bool (is_put b ds));
-    }
-      where
-        by_put : (b : ℕ) → b < blocks → (is_put b ds ≡ true) ⊎ (is_put b ds ≡ false) → length (put_data ds pages b) ≡ 4096
-        by_put b l (inl e) = put_whole ds b (pages b) full e
-        by_put b l (inr e) = ap (λ (x : List ℕ). length x) (put_off ds b (pages b) e) ∙ whole b l
-
-        past : (b : ℕ) → blocks ≤ b → (is_put b ds ≡ true) ⊎ (is_put b ds ≡ false) → put_data ds pages b ≡ []
-        past b l (inl e) = absurd (let k = low b (was_data b e) in omega (arith, k, l))
-        past b l (inr e) = put_off ds b (pages b) e ∙ ready.are_pages.none b l
-
     -- what is put isn't kept safe, and the others have the bytes that they have without
     same_pages : (p : ℕ) → logged_in r w p ≡ true → y.page p ≡ w.page p
     same_pages p kept_safe = by (cases_Bool (is_put p ds))
       where
+        l : p < blocks
+        l = within p (was_used (v.used p) (let e = ap bit (is_in_use r w one.sound.agrees p kept_safe) in let u = used_then p in omega (arith, e, u)))
+          where
+            was_used : (s : Bool) → 0 < bit s → s ≡ true
+            was_used true h = refl
+            was_used false h = absurd (omega (arith, h))
+
         is_data_then : is_put p ds ≡ true → logged_in r w p ≡ false
         is_data_then e = not_page r w one.sound.agrees n p (let t = ap (λ (o : Option Object). holds r o p) now_is in let b = beside_pages r (spelled r mid set) p in let d = data_then p in let l = after p e in omega (arith, t, b, d, l))
             (let t = ap (λ (o : Option Object). has_page r o p) now_is in let q = pages_then p in let f = no_page_there p (after p e) in let o = owned_is p in omega (arith, t, q, f, o))
@@ -420,7 +430,7 @@ module _ (blocks : ℕ) (pages : ℕ → List ℕ) (area : ℕ → ℕ) (bm : Bl
 
         by : (is_put p ds ≡ true) ⊎ (is_put p ds ≡ false) → y.page p ≡ w.page p
         by (inl e) = never (logged_in r w p) kept_safe (is_data_then e)
-        by (inr e) = put_each blocks (put_data ds pages) are_pages tx p ∙ ap (apply_tx p tx) (put_off ds p (pages p) e) ∙ sym (put_each blocks pages ready.are_pages tx p)
+        by (inr e) = put_within blocks tx (put_data ds pages) p l ∙ ap (apply_tx p tx) (put_off ds p (pages p) e) ∙ sym (put_within blocks tx pages p l)
 
-    pub truncated : LogsWell r (with_data ds v) y tx
-    truncated = logged_after_data r v w (with_data ds v) y tx both.0.owners owners_then (λ b. refl) (λ b. refl) (λ p. put_each blocks (put_data ds pages) are_pages tx p) same_pages cut_logged
+    pub truncated : LogsItsOwn r (with_data ds v) y tx
+    truncated = logged_after_data r v w (with_data ds v) y tx both.0.owners owners_then (λ b. refl) (λ b. refl) both.0.none.sound.agrees both.1.one.sound.agrees (λ b. refl) (λ b. refl) (λ p was now. put_within blocks tx (put_data ds pages) p (within p was)) same_pages cut_logged

@@ -11,11 +11,11 @@ use Rattle.jfs_truncate.specs.data_steps.specs.meaning.specs.Readers.{readers}
 use Rattle.jfs_truncate.specs.data_steps.specs.way.specs.Volume.{volume_of}
 use Rattle.jfs_truncate.specs.read.specs.bmap.specs.States.{Blocks}
 use Rattle.jfs_names_logged.specs.calls_logged.specs.Calls.{IsReady}
-use Rattle.jfs_names_logged.specs.calls_logged.specs.logged.specs.Logged.{LogsWell}
+use Rattle.jfs_names_logged.specs.calls_logged.specs.logged.specs.Own.{LogsItsOwn}
 
 -- The call's data is written first, past the log; then its transaction logs what the log keeps safe of the volume with that data.
 abbrev pub IsLoggedAfter : ℕ → (ℕ → List ℕ) → (ℕ → ℕ) → Blocks → Inodes → List DataPage → List Edit → Type 0
-IsLoggedAfter blocks pages area map inodes ds tx = LogsWell (readers blocks) (with_data ds (volume_of pages area map inodes)) (after_writes blocks ds tx (volume_of pages area map inodes)) tx
+IsLoggedAfter blocks pages area map inodes ds tx = LogsItsOwn (readers blocks) (with_data ds (volume_of pages area map inodes)) (after_writes blocks ds tx (volume_of pages area map inodes)) tx
 
 -- A file gets a size. The block map has as many blocks as the file system part.
 abbrev pub TruncateLaw : Type 0

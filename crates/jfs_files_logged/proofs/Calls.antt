@@ -1,5 +1,5 @@
 -- From what each call answers to what it logs.
-use Rattle.std.proofs.Common.{◌≡◌, ◌≤◌, ◌<◌, ℕ, List, [], length, replicate, sym, subst, arith}
+use Rattle.std.proofs.Common.{◌≡◌, ℕ, List, [], replicate, sym, subst, arith}
 use Rattle.std.proofs.lemmas.List.{length-replicate}
 use Rattle.jfs_ranges.specs.declared.edit.Edit.{Edit}
 use Rattle.jfs_plain.specs.Limits.{FitsTarget}
@@ -35,7 +35,7 @@ files_law blocks pages area maps (calls.Unlink path) now tx written ready many f
 files_law blocks pages area maps (calls.Rmdir path) now tx written ready many fits full (removes, none) =
     no_data blocks pages area maps tx written none (loss_law.removes blocks pages area maps.blocks maps.inodes path now tx ready many removes)
 files_law blocks pages area maps (calls.Chmod path mode) now tx written ready many fits full (sets, none) =
-    no_data blocks pages area maps tx written none (mode_law blocks pages area maps.blocks maps.inodes path mode now tx ready fits.1 sets)
+    no_data blocks pages area maps tx written none (mode_law blocks pages area maps.blocks maps.inodes path mode now tx ready many fits.1 sets)
 files_law blocks pages area maps (calls.Truncate path size) now tx written ready many fits full truncates =
     truncate_law blocks pages area maps.blocks maps.inodes path size maps.file_limit now (record { tx = tx; blocks = written }) ready many full truncates
 files_law blocks pages area maps (calls.Rename from to) now tx written ready many fits full ((after, renames), none) =

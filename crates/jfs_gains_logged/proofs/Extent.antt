@@ -18,9 +18,11 @@ use Rattle.jfs_names_logged.specs.calls_logged.specs.logged.specs.recovery.specs
 use Rattle.jfs_names_logged.specs.calls_logged.specs.logged.specs.recovery.specs.kinds.specs.Owner.{Owner, is_logged}
 use Rattle.jfs_names_logged.specs.calls_logged.specs.logged.specs.recovery.specs.kinds.proofs.Edits.{edit_law}
 use Rattle.jfs_names_logged.specs.calls_logged.specs.logged.specs.recovery.specs.kinds.proofs.Stay.{is_free}
-use Rattle.jfs_names_logged.specs.calls_logged.specs.logged.specs.Logged.{logged_in, LeavesPage, LogsWell}
+use Rattle.jfs_names_logged.specs.calls_logged.specs.logged.specs.Logged.{logged_in, LeavesPage}
+use Rattle.jfs_names_logged.specs.calls_logged.specs.logged.specs.Own.{LogsPart}
 use Rattle.jfs_names_logged.specs.calls_logged.specs.logged.proofs.Edited.{edits_law}
 use Rattle.jfs_names_logged.specs.calls_logged.specs.logged.proofs.Joined.{never}
+use Rattle.jfs_names_logged.specs.calls_logged.specs.logged.proofs.Written.{area_used}
 
 abbrev one_if : Bool → ℕ
 one_if x = if x then 1 else 0
@@ -98,7 +100,7 @@ module _ (addr : ℕ) (bytes : List ℕ) (size : length bytes ≡ 16384) where
 
   -- ---- the step
 
-  module _ (r : Readers) (v w : Volume) (sound : IsSound r v) (place : ℕ) (added : AddsExtent v w place addr) (pages : (q : ℕ) → w.page q ≡ apply_tx q edit (v.page q)) (sizes : (q : ℕ) → 0 < extent_has (Some addr) q → length (v.page q) ≡ 4096) where
+  module _ (r : Readers) (v w : Volume) (sound : IsSound r v) (place : ℕ) (added : AddsExtent v w place addr) (pages : (q : ℕ) → w.used q ≡ true → w.page q ≡ apply_tx q edit (v.page q)) (sizes : (q : ℕ) → 0 < extent_has (Some addr) q → length (v.page q) ≡ 4096) where
     others : (q : ℕ) → logged_in r w q ≡ false → LeavesPage q edit × (logged_in r v q ≡ false)
     others q out = ((λ a s. apply_tx-untouched q edit a s (outside q none)), before (cases_Bool (v.used q)) (cases_Bool (w.used q)))
       where
@@ -113,13 +115,26 @@ module _ (addr : ℕ) (bytes : List ℕ) (size : length bytes ≡ 16384) where
         before (inl used) (inl still) = ap (λ (o : Option Owner). is_logged o) (sym (edit_law.adds r v w place addr sound added q used still)) ∙ out
         before (inl used) (inr free) = absurd (let u = added.used q in let a = ap bit used in let b = ap bit free in omega (arith, u, a, b))
 
-    told : (q : ℕ) → v.used q ≡ false → w.used q ≡ true → (a : List ℕ) → length a ≡ 4096 → apply_tx q edit a ≡ w.page q
-    told q free used a s = let inside : 0 < extent_has (Some addr) q = (let u = added.used q in let f = ap bit free in let b = ap bit used in omega (arith, u, f, b)) in over q inside a (v.page q) s (sizes q inside) ∙ sym (pages q)
+    -- what comes into use is the extent's, and none of it is a fixed area's
+    in_extent : (q : ℕ) → v.used q ≡ false → w.used q ≡ true → 0 < extent_has (Some addr) q
+    in_extent q free used = let u = added.used q in let f = ap bit free in let b = ap bit used in omega (arith, u, f, b)
 
-    pub extent_logged : LogsWell r v w edit
+    no_area : (q : ℕ) → 0 < v.area q → extent_has (Some addr) q ≡ 0
+    no_area q area = elim (zero_or_more (extent_has (Some addr) q)) [
+      | inl z ↦ z
+      | inr l ↦ never (v.used q) (area_used r v sound.agrees q area) (added.fresh q l)
+    ]
+
+    told : (q : ℕ) → v.used q ≡ false → w.used q ≡ true → (a : List ℕ) → length a ≡ 4096 → apply_tx q edit a ≡ w.page q
+    told q free used a s = let inside = in_extent q free used in over q inside a (v.page q) s (sizes q inside) ∙ sym (pages q used)
+
+    pub extent_logged : LogsPart r v w edit
     extent_logged = edits_law.adds r v w place addr edit sound added (record {
-      pages = pages;
+      areas = λ q. ap (λ (f : ℕ → ℕ). f q) added.area;
+      pages = λ q was now. pages q now;
       freed = λ q some. absurd (cc (some));
       others = λ q none out. others q out;
       whole = λ q free used in_log a s. told q free used a s;
+      untold = λ q area a s. apply_tx-untouched q edit a s (outside q (no_area q area));
+      comes = λ q free used. inl (ap (λ (o : Option Owner). is_logged o) (edit_law.comes r v w place addr sound added q (in_extent q free used)));
     })

@@ -40,11 +40,10 @@ use Rattle.jfs_create.specs.link.specs.way.specs.Volume.{volume_of}
 use Rattle.jfs_create.specs.link.specs.way.specs.declared.object.Held.{Held}
 use Rattle.jfs_names_logged.specs.calls_logged.specs.Calls.{IsReady}
 use Rattle.jfs_names_logged.specs.calls_logged.specs.Found.{IsFound}
-use Rattle.jfs_names_logged.specs.calls_logged.specs.logged.specs.Logged.{LogsWell}
+use Rattle.jfs_names_logged.specs.calls_logged.specs.logged.specs.Own.{LogsPart}
 use Rattle.jfs_names_logged.specs.calls_logged.specs.logged.proofs.Pages.{pages_law}
 use Rattle.jfs_names_logged.specs.calls_logged.specs.logged.proofs.Staged.{runs_law}
 use Rattle.jfs_names_logged.specs.calls_logged.specs.logged.proofs.Written.{trees_law}
-use Rattle.jfs_names_logged.specs.calls_logged.proofs.Modes.{put_each}
 use Rattle.jfs_names_logged.specs.unlink.proofs.Ended.{used_within}
 use Rattle.jfs_names_logged.proofs.Directory.{TurnsDirectory, turn_writes, turn_changes}
 
@@ -191,6 +190,18 @@ module _ (blocks : ℕ) (pages : ℕ → List ℕ) (area : ℕ → ℕ) (bm : Bl
   pub taken_fresh : (b : ℕ) → 0 < count_in b taken → v.used b ≡ false
   taken_fresh b l = can.fresh b (let f = free_is b in omega (arith, f, l))
 
+  -- all of them lie within the file system part
+  pub then_below : (b : ℕ) → v1.used b ≡ true → b < blocks
+  then_below b used = elim (zero_or_more (count_in b taken)) [
+    | inl z ↦ used_below b (same_bit (v1.used b) (v.used b) (let u = used_one b in omega (arith, u, z)) used)
+    | inr l ↦ all_below blocks (blocks_of x.free) b can.free_within (let f = free_is b in omega (arith, f, l))
+  ]
+    where
+      same_bit : (s t : Bool) → bit s ≡ bit t → s ≡ true → t ≡ true
+      same_bit true true h e = refl
+      same_bit true false h e = absurd (omega (arith, h))
+      same_bit false t h e = absurd (cc (e))
+
   pub taken_free : (b : ℕ) → count_in b taken ≤ count_in b (blocks_of x.free)
   taken_free b = let f = free_is b in omega (arith, f)
 
@@ -226,7 +237,7 @@ module _ (blocks : ℕ) (pages : ℕ → List ℕ) (area : ℕ → ℕ) (bm : Bl
     extents = refl;
     area = refl;
     in_use = λ k. refl;
-    pages = λ q. put_each blocks pages x.ready.are_pages x.tx q ∙ ap (λ (e : List Edit). apply_tx q e (pages q)) tx_is;
+    pages = λ q was now. put_within blocks x.tx pages q (used_below q was) ∙ ap (λ (e : List Edit). apply_tx q e (pages q)) tx_is;
     runs = runs_law x.dir.page kinds.Inode (put_tx blocks g.mid pages x.dir.page) (put_tx blocks x.tx pages x.dir.page) 0 inode g.lines.2;
     told = taken;
     gone = [];
@@ -240,7 +251,7 @@ module _ (blocks : ℕ) (pages : ℕ → List ℕ) (area : ℕ → ℕ) (bm : Bl
     told_alone = λ q z. not_in q taken z;
   }
 
-  pub one_logged : LogsWell r v v1 (tree ++ inode)
+  pub one_logged : LogsPart r v v1 (tree ++ inode)
   one_logged = trees_law.writes r v v1 n tree inode x.ready.consistent.sound (turn_writes blocks v v1 n tree inode x.ready.consistent.sound used_below turns)
 
   pub one_changes : ChangesOne r v v1 n (Some (spelled r (put_tx blocks g.mid pages) set))

@@ -25,7 +25,7 @@ use Rattle.jfs_create.specs.link.specs.steps.proofs.After.{used_onto, extents_on
 use Rattle.jfs_create.specs.link.specs.way.specs.Volume.{volume_of}
 use Rattle.jfs_create.specs.link.specs.way.specs.declared.object.Held.{Held}
 use Rattle.jfs_names_logged.specs.calls_logged.specs.Found.{IsFound}
-use Rattle.jfs_names_logged.specs.calls_logged.specs.logged.specs.Logged.{LogsWell}
+use Rattle.jfs_names_logged.specs.calls_logged.specs.logged.specs.Own.{LogsItsOwn, LogsPart}
 use Rattle.jfs_names_logged.specs.calls_logged.specs.logged.specs.Kinds.{HasTrees}
 use Rattle.jfs_names_logged.specs.calls_logged.specs.logged.proofs.Edited.{inode_law}
 use Rattle.jfs_names_logged.specs.calls_logged.specs.logged.proofs.Joined.{join_law}
@@ -105,13 +105,13 @@ module _ (blocks : ℕ) (pages : ℕ → List ℕ) (area : ℕ → ℕ) (bm : Bl
   unfolding spelled
   trees = record { names = refl; extents = refl; regular = refl }
 
-  last_logged : LogsWell r v1 w last
+  last_logged : LogsPart r v1 w last
   last_logged = inode_law r v1 w m object.page md set (put_tx blocks x.tx pages object.page) (put_tx blocks tx pages object.page) last one.sound (record {
     at = found.home_is;
     was = was_now;
     sets = two;
     trees = trees;
-    pages = λ q. ap (λ (e : List Edit). put_tx blocks e pages q) lines.1 ∙ put_onto blocks pages x.ready.are_pages x.tx last q;
+    pages = λ q was now. ap (λ (e : List Edit). put_tx blocks e pages q) lines.1 ∙ put_onto blocks pages x.tx last q (gains.then_below blocks pages area bm inodes x q was);
     runs = lines.2;
   })
 
@@ -124,6 +124,6 @@ module _ (blocks : ℕ) (pages : ℕ → List ℕ) (area : ℕ → ℕ) (bm : Bl
     in_use = (object_is_set r v1 w m set v1.page [] [] one.sound two).0.sound.agrees.inodes;
   })
 
-  pub link_logged : LogsWell r v (after_call blocks tx v) tx
-  link_logged = subst (λ (u : Volume). LogsWell r v u tx) is_after (subst (λ (e : List Edit). LogsWell r v w e) (sym tx_is)
-      (join_law r v v1 w own last (gains.one_logged blocks pages area bm inodes x) last_logged (λ b was now. now)))
+  pub link_logged : LogsItsOwn r v (after_call blocks tx v) tx
+  link_logged = subst (λ (u : Volume). LogsItsOwn r v u tx) is_after (subst (λ (e : List Edit). LogsItsOwn r v w e) (sym tx_is)
+      (join_law.all r v v1 w own last (gains.one_logged blocks pages area bm inodes x) last_logged (λ b was now. now)))

@@ -1,5 +1,5 @@
 -- Parts that each change one object log what matters.
-use Rattle.std.proofs.Common.{◌≡◌, ◌≢◌, ◌⊎◌, ℕ, Bool, true, false, List, [], Option, Some, refl, sym, ap, ◌∙◌, subst, inl, inr, arith}
+use Rattle.std.proofs.Common.{◌≡◌, ◌≢◌, ◌⊎◌, ◌<◌, ℕ, Bool, true, false, List, [], Option, Some, refl, sym, ap, ◌∙◌, subst, inl, inr, arith}
 use Rattle.std.proofs.lemmas.Bool.{cases_Bool}
 use Rattle.jfs_bits.specs.declared.rule.PageKind.TheVariants as kinds
 use Rattle.jfs_inode.specs.declared.fields.Dinode.{Dinode}
@@ -13,11 +13,14 @@ use Rattle.jfs_recovery.specs.objects.proofs.Set.{object_is_set}
 use Rattle.jfs_recovery.specs.objects.proofs.Drop.{object_goes}
 use Rattle.jfs_recovery.specs.objects.proofs.Extent.{extent_law}
 use Rattle.jfs_recovery.specs.kinds.specs.Owner.{Owner, owner_of, is_logged}
+use Rattle.jfs_recovery.specs.kinds.specs.Owner.Owner.{Area, Inodes}
 use Rattle.jfs_recovery.specs.kinds.specs.Laws.{KeepsKinds, OwnersStay}
 use Rattle.jfs_recovery.specs.kinds.proofs.Edits.{edit_law}
 use Rattle.jfs_recovery.specs.kinds.proofs.Logged.{logged_law}
+use Rattle.jfs_recovery.specs.kinds.proofs.Single.{has_owners}
 use Rattle.jfs_recovery.specs.kinds.proofs.Stay.{is_free}
-use Rattle.jfs_logged.specs.Logged.{logged_in, LogsWell}
+use Rattle.jfs_logged.specs.Logged.{logged_in}
+use Rattle.jfs_logged.specs.Own.{LogsPart}
 use Rattle.jfs_logged.specs.Stages.{TellsStage, ArePageRuns}
 use Rattle.jfs_logged.specs.Edits.{EditsLaw, WritesInode, InodeLaw}
 use Rattle.jfs_logged.proofs.Joined.{never}
@@ -64,21 +67,34 @@ module _ (r : Readers) (v w : Volume) (n p : ℕ) (d set : Dinode) (old new : Li
   runs : ArePageRuns p tx
   runs = runs_law p kinds.Inode old new 0 tx writes.runs
 
+  page_owner : owner_of r v p ≡ Some Inodes
+  page_owner = (logged_law.reads r v sound).inodes n p writes.at
+
   page_logged : logged_in r w p ≡ true
-  page_logged = ap (λ (o : Option Owner). is_logged o) (owner_same p ∙ (logged_law.reads r v sound).inodes n p writes.at)
+  page_logged = ap (λ (o : Option Owner). is_logged o) (owner_same p ∙ page_owner)
 
   not_it : (q : ℕ) → logged_in r w q ≡ false → q ≢ p
   not_it q gone e = never (logged_in r w p) page_logged (ap (logged_in r w) (sym e) ∙ gone)
 
+  -- nor is it a page of a fixed area
+  no_area : (q : ℕ) → 0 < v.area q → q ≢ p
+  no_area q area e = different (sym ((has_owners r v sound.agrees).alone q Area area) ∙ ap (owner_of r v) e ∙ page_owner)
+    where
+      different : Some Area ≡ Some Inodes → ⊥
+      different h = cc (h)
+
   tells : TellsStage r v w tx
   tells = record {
+    areas = λ q. ap (λ (f : ℕ → ℕ). f q) writes.sets.area;
     pages = writes.pages;
     freed = λ q some. never (closes_in q tx) some (runs.closes_none q);
     others = λ q none gone. (runs.others q (not_it q gone), sym (logged_same q) ∙ gone);
     whole = λ q free used. never (w.used q) used (used_same q ∙ free);
+    untold = λ q area. runs.others q (no_area q area);
+    comes = λ q free used. never (w.used q) used (used_same q ∙ free);
   }
 
-  pub inode_logged : LogsWell r v w tx
+  pub inode_logged : LogsPart r v w tx
   inode_logged = staged r v w tx sound.agrees after stay tells
 
 pub inode_law : InodeLaw

@@ -1,4 +1,6 @@
 pub mod Joined
+pub mod Left
+pub mod Own
 pub mod OneObject
 pub mod Staged
 pub mod Edited

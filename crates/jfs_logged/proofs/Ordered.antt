@@ -1,15 +1,35 @@
 -- Parts of a transaction in another order.
-use Rattle.std.proofs.Common.{◌≡◌, ◌⊎◌, ◌||◌, ℕ, Bool, true, false, List, ◌++◌, length, refl, sym, ap, ◌∙◌, inl, inr}
+use Rattle.std.proofs.Common.{◌≡◌, ◌⊎◌, ◌||◌, ℕ, Bool, true, false, List, [], ◌∷◌, ◌++◌, length, refl, sym, ap, ◌∙◌, inl, inr}
 use Rattle.std.proofs.lemmas.Bool.{cond-true, cond-false}
 use Rattle.jfs_ranges.specs.declared.edit.Edit.{Edit}
-use Rattle.jfs_ranges.specs.Apply.{apply_tx}
+use Rattle.jfs_ranges.specs.Apply.{apply_tx, touches_edit, touches_tx}
 use Rattle.jfs_ranges.proofs.OnTop.{applied_onto}
 use Rattle.jfs_recovery.specs.crash_core.proofs.Bytes.{length-apply_tx}
 use Rattle.jfs_recovery.specs.records.specs.Redo.{closes_in}
 use Rattle.jfs_recovery.specs.Lines.{rest_of}
 use Rattle.jfs_recovery.proofs.Lines.{all_rest}
-use Rattle.jfs_logged.specs.Logged.{LeavesPage, LogsPage, logged_in, OrderLaw}
+use Rattle.jfs_logged.specs.Logged.{LeavesPage, LogsPage, logged_in}
+use Rattle.jfs_logged.specs.Own.{LogsItsOwn, OrderLaw}
 use Rattle.jfs_logged.proofs.Joined.{closes_onto, rest_onto}
+
+swap : (a b c : Bool) → (a || (b || c)) ≡ (b || (a || c))
+swap true true c = refl
+swap true false c = refl
+swap false b c = refl
+
+-- whether edits have lines of a page, one part after another
+same_touches : (p : ℕ) (tx more last : List Edit) → touches_tx p (more ++ (tx ++ last)) ≡ touches_tx p (tx ++ (more ++ last))
+same_touches p tx more last =
+    touched p more (tx ++ last) ∙ ap (λ (b : Bool). touches_tx p more || b) (touched p tx last) ∙ swap (touches_tx p more) (touches_tx p tx) (touches_tx p last)
+    ∙ sym (touched p tx (more ++ last) ∙ ap (λ (b : Bool). touches_tx p tx || b) (touched p more last))
+  where
+    assoc : (a b c : Bool) → (a || (b || c)) ≡ ((a || b) || c)
+    assoc true b c = refl
+    assoc false b c = refl
+
+    touched : (p : ℕ) (xs ys : List Edit) → touches_tx p (xs ++ ys) ≡ (touches_tx p xs || touches_tx p ys)
+    touched p [] ys = refl
+    touched p (e ∷ es) ys = ap (λ (b : Bool). touches_edit p e || b) (touched p es ys) ∙ assoc (touches_edit p e) (touches_tx p es) (touches_tx p ys)
 
 -- what redo makes of one part after another
 module _ (p : ℕ) (last : List Edit) where
@@ -63,15 +83,27 @@ module _ (p : ℕ) (last : List Edit) where
   same_closes tx more =
       closes_onto p more (tx ++ last) ∙ ap (λ (b : Bool). closes_in p more || b) (closes_onto p tx last) ∙ swap (closes_in p more) (closes_in p tx) (closes_in p last)
       ∙ sym (closes_onto p tx (more ++ last) ∙ ap (λ (b : Bool). closes_in p tx || b) (closes_onto p more last))
-    where
-      swap : (a b c : Bool) → (a || (b || c)) ≡ (b || (a || c))
-      swap true true c = refl
-      swap true false c = refl
-      swap false b c = refl
 
 pub order_law : OrderLaw
-order_law r v w tx more last pages quiet apart logs = record { owners = logs.owners; pages = pages; logs = page }
+order_law r v w tx more last pages quiet apart part = record {
+  own = record {
+    before = logs.before;
+    after = logs.after;
+    areas = logs.areas;
+    owners = logs.owners;
+    pages = pages;
+    logs = page;
+    untold = λ p area. same_touches p tx more last ∙ logs.untold p area;
+    closed = λ p some was. logs.closed p (sym (same_closes p last tx more) ∙ some) was;
+    told = λ p told. logs.told p (sym (same_touches p tx more last) ∙ told);
+    comes = logs.comes;
+  };
+  kept = λ p told. part.kept p (sym (same_touches p tx more last) ∙ told);
+}
   where
+    logs : LogsItsOwn r v w (tx ++ (more ++ last))
+    logs = part.own
+
     page : (p : ℕ) → LogsPage p (logged_in r v p) (logged_in r w p) (more ++ (tx ++ last)) (w.page p)
     page p = record {
       whole = λ there why a s. same_redone p last tx more (quiet p) (apart p) a s ∙ (logs.logs p).whole there (other why) a s;

@@ -15,16 +15,13 @@ use Rattle.jfs_recovery.specs.objects.specs.Volume.{Volume}
 use Rattle.jfs_recovery.specs.objects.specs.Owners.{Agrees}
 use Rattle.jfs_recovery.specs.kinds.specs.Owner.{Owner, is_logged}
 use Rattle.jfs_recovery.specs.kinds.specs.Laws.{OwnersStay}
-use Rattle.jfs_recovery.specs.kinds.proofs.Stay.{is_free}
-use Rattle.jfs_logged.specs.Logged.{logged_in, LogsPage, LogsWell, IsTold}
+use Rattle.jfs_logged.specs.Logged.{logged_in, LogsPage, IsTold}
+use Rattle.jfs_logged.specs.Own.{TellsKept, LogsPart}
 use Rattle.jfs_logged.specs.Stages.{TellsStage, StageLaw, RunsLaw}
-use Rattle.jfs_logged.proofs.Joined.{never, page_law}
+use Rattle.jfs_logged.proofs.Joined.{never, page_law, unused}
+use Rattle.jfs_logged.proofs.Left.{left_law}
 
 module _ (r : Readers) (v w : Volume) (tx : List Edit) (before : Agrees r v) (after : Agrees r w) (stay : OwnersStay r v w) (tells : TellsStage r v w tx) where
-  -- a block that isn't in use isn't kept safe
-  unused : (x : Volume) → Agrees r x → (p : ℕ) → x.used p ≡ false → logged_in r x p ≡ false
-  unused x agrees p free = ap (λ (o : Option Owner). is_logged o) (is_free r x agrees p free)
-
   told : (p : ℕ) → closes_in p tx ≡ false → IsTold p (logged_in r v p) (logged_in r w p) tx (w.page p)
   told p none = record {
     open_is = none;
@@ -38,16 +35,39 @@ module _ (r : Readers) (v w : Volume) (tx : List Edit) (before : Agrees r v) (af
       stays was (inr gone) = never (logged_in r v p) was (tells.others p none gone).1
 
       whole : logged_in r v p ≡ false → logged_in r w p ≡ true → (v.used p ≡ true) ⊎ (v.used p ≡ false) → (w.used p ≡ true) ⊎ (w.used p ≡ false) → (a : List ℕ) → length a ≡ 4096 → apply_tx p tx a ≡ w.page p
-      whole was now x (inr free) = never (logged_in r w p) now (unused w after p free)
+      whole was now x (inr free) = never (logged_in r w p) now (unused r w after p free)
       whole was now (inl used) (inl there) = never (logged_in r w p) now (ap (λ (o : Option Owner). is_logged o) (stay p used there) ∙ was)
       whole was now (inr free) (inl there) = tells.whole p free there now
 
   page_is : (p : ℕ) → (closes_in p tx ≡ true) ⊎ (closes_in p tx ≡ false) → LogsPage p (logged_in r v p) (logged_in r w p) tx (w.page p)
-  page_is p (inl some) = let x = tells.freed p some in page_law p (logged_in r v p) (logged_in r w p) tx (w.page p) (inr (record { freed = x.0; gone = x.1 }))
+  page_is p (inl some) = let x = tells.freed p some in page_law p (logged_in r v p) (logged_in r w p) tx (w.page p) (inr (record { freed = x.0; gone = unused r w after p x.2 }))
   page_is p (inr none) = page_law p (logged_in r v p) (logged_in r w p) tx (w.page p) (inl (told p none))
 
-  pub staged : LogsWell r v w tx
-  staged = record { owners = stay; pages = tells.pages; logs = λ p. page_is p (cases_Bool (closes_in p tx)) }
+  -- a page with lines is kept safe then, or has a NoRedo
+  kept : (p : ℕ) → touches_tx p tx ≡ true → (closes_in p tx ≡ true) ⊎ (closes_in p tx ≡ false) → (logged_in r w p ≡ true) ⊎ (logged_in r w p ≡ false) → TellsKept r v w p
+  kept p told (inl some) k = inl (tells.freed p some).1
+  kept p told (inr none) (inl now) = inr now
+  kept p told (inr none) (inr gone) = never (touches_tx p tx) told (left_law p tx (tells.others p none gone).0)
+
+  abbrev is_kept : (p : ℕ) → touches_tx p tx ≡ true → TellsKept r v w p
+  is_kept p told = kept p told (cases_Bool (closes_in p tx)) (cases_Bool (logged_in r w p))
+
+  pub staged : LogsPart r v w tx
+  staged = record {
+    own = record {
+      before = before;
+      after = after;
+      areas = tells.areas;
+      owners = stay;
+      pages = tells.pages;
+      logs = λ p. page_is p (cases_Bool (closes_in p tx));
+      untold = λ p area. left_law p tx (tells.untold p area);
+      closed = λ p some was. (tells.freed p some).2;
+      told = λ p told. inl (is_kept p told);
+      comes = tells.comes;
+    };
+    kept = is_kept;
+  }
 
 pub stage_law : StageLaw
 stage_law r v w tx before after stay tells = staged r v w tx before after stay tells

@@ -1,8 +1,8 @@
 -- Parts that change an object's tree and its inode, or by which an object goes, log what matters.
-use Rattle.std.proofs.Common.{◌≡◌, ◌≢◌, ◌⊎◌, ◌<◌, ◌+◌, ◌&&◌, ◌||◌, not, ℕ, Bool, true, false, List, [], ◌∷◌, ◌++◌, length, Option, Some, None, refl, sym, ap, ◌∙◌, inl, inr, arith}
+use Rattle.std.proofs.Common.{◌≡◌, ◌≢◌, ◌⊎◌, ◌<◌, ◌&&◌, ◌||◌, not, ℕ, Bool, true, false, List, [], ◌∷◌, ◌++◌, length, is_some, Option, Some, None, refl, sym, ap, ◌∙◌, inl, inr, arith}
 use Rattle.std.proofs.lemmas.Bool.{cases_Bool}
 use Rattle.jfs_ranges.specs.declared.edit.Edit.{Edit}
-use Rattle.jfs_ranges.specs.Apply.{apply_tx, touches_tx, touches_edit}
+use Rattle.jfs_ranges.specs.Apply.{apply_tx, touches_tx}
 use Rattle.jfs_ranges.proofs.OnTop.{applied_onto}
 use Rattle.jfs_tree.specs.Edit.{count_in}
 use Rattle.jfs_recovery.specs.crash_core.proofs.Bytes.{length-apply_tx}
@@ -15,30 +15,22 @@ use Rattle.jfs_recovery.specs.objects.specs.Laws.{ChangesOne}
 use Rattle.jfs_recovery.specs.objects.proofs.Set.{object_is_set}
 use Rattle.jfs_recovery.specs.objects.proofs.Drop.{object_goes}
 use Rattle.jfs_recovery.specs.objects.proofs.Sums.{put_here, zero_or_more}
-use Rattle.jfs_recovery.specs.kinds.specs.Owner.{Owner, owner_of, is_logged, has_page, has_data}
-use Rattle.jfs_recovery.specs.kinds.specs.Owner.Owner.{Inodes, Tree, Data, Still}
+use Rattle.jfs_recovery.specs.kinds.specs.Owner.{Owner, owner_of, is_logged, has_page, has_data, has_still}
+use Rattle.jfs_recovery.specs.kinds.specs.Owner.Owner.{Area, Inodes, Tree, Data, Still}
 use Rattle.jfs_recovery.specs.kinds.specs.Laws.{IsOwnerIn, OwnersStay}
 use Rattle.jfs_recovery.specs.kinds.proofs.Edits.{edit_law}
 use Rattle.jfs_recovery.specs.kinds.proofs.Logged.{logged_law}
 use Rattle.jfs_recovery.specs.kinds.proofs.Parts.{parts}
 use Rattle.jfs_recovery.specs.kinds.proofs.Single.{has_owners}
-use Rattle.jfs_recovery.specs.kinds.proofs.Stay.{is_free}
 use Rattle.jfs_halves.specs.Marks.{frees_page}
-use Rattle.jfs_logged.specs.Logged.{logged_in, LeavesPage, LogsWell}
+use Rattle.jfs_logged.specs.Logged.{logged_in, LeavesPage}
+use Rattle.jfs_logged.specs.Own.{IsKeptOrData, LogsPart}
 use Rattle.jfs_logged.specs.Written.{WritesTree, DropsTree, TreesLaw}
-use Rattle.jfs_logged.proofs.Joined.{never, closes_onto, freed_rest}
+use Rattle.jfs_logged.proofs.Joined.{never, closes_onto, freed_rest, touches_onto, unused}
 use Rattle.jfs_logged.proofs.Pages.{leaves_onto}
 use Rattle.jfs_logged.proofs.Staged.{staged}
 
 -- ---- edits
-
-touches_onto : (p : ℕ) (tx more : List Edit) → touches_tx p tx ≡ false → touches_tx p more ≡ false → touches_tx p (tx ++ more) ≡ false
-touches_onto p [] more h k = k
-touches_onto p (e ∷ es) more h k = at (touches_edit p e) h (λ x. touches_onto p es more x k)
-  where
-    at : (b : Bool) → (b || touches_tx p es) ≡ false → (touches_tx p es ≡ false → touches_tx p (es ++ more) ≡ false) → (b || touches_tx p (es ++ more)) ≡ false
-    at true h rest = absurd (cc (h))
-    at false h rest = rest h
 
 -- a page that was freed, and has no line behind that
 pub freed_onto : (p : ℕ) (tx more : List Edit) → frees_page p tx ≡ true → touches_tx p more ≡ false → frees_page p (tx ++ more) ≡ true
@@ -74,9 +66,6 @@ some_is : {A : Type 0} {x y : A} → Some x ≡ Some y → x ≡ y
 some_is h = cc (h)
 
 module _ (r : Readers) (v : Volume) (agrees : Agrees r v) where
-  unused : (q : ℕ) → v.used q ≡ false → logged_in r v q ≡ false
-  unused q free = ap (λ (o : Option Owner). is_logged o) (is_free r v agrees q free)
-
   -- a tree page
   page_logged : (n q : ℕ) → 0 < has_page r (objects r v n) q → logged_in r v q ≡ true
   page_logged n q l = ap (λ (o : Option Owner). is_logged o) ((has_owners r v agrees).alone q (Tree n) l)
@@ -94,6 +83,22 @@ module _ (r : Readers) (v : Volume) (agrees : Agrees r v) where
     | inr l ↦ never (logged_in r v q) (page_logged n q l) out
   ]
 
+  -- a page of a fixed area is in use, and no tree's
+  area_owner : (q : ℕ) → 0 < v.area q → owner_of r v q ≡ Some Area
+  area_owner q area = (has_owners r v agrees).alone q Area area
+
+  pub area_used : (q : ℕ) → 0 < v.area q → v.used q ≡ true
+  area_used q area = (has_owners r v agrees).used q ∙ ap is_some (area_owner q area)
+
+  area_apart : (n q : ℕ) → 0 < v.area q → has_page r (objects r v n) q ≡ 0
+  area_apart n q area = elim (zero_or_more (has_page r (objects r v n) q)) [
+    | inl z ↦ z
+    | inr l ↦ absurd (different (sym (area_owner q area) ∙ (has_owners r v agrees).alone q (Tree n) l))
+  ]
+    where
+      different : Some Area ≡ Some (Tree n) → ⊥
+      different h = cc (h)
+
 -- an inode's page
 module _ (r : Readers) (w : Volume) (sound : IsSound r w) (n page : ℕ) (at : home w.extents n ≡ Some page) where
   page_owner : owner_of r w page ≡ Some Inodes
@@ -101,6 +106,12 @@ module _ (r : Readers) (w : Volume) (sound : IsSound r w) (n page : ℕ) (at : h
 
   apart_from : (q : ℕ) → logged_in r w q ≡ false → q ≢ page
   apart_from q out e = never (logged_in r w page) (ap (λ (o : Option Owner). is_logged o) page_owner) (ap (logged_in r w) (sym e) ∙ out)
+
+  no_area : (q : ℕ) → 0 < w.area q → q ≢ page
+  no_area q area e = different (sym (area_owner r w sound.agrees q area) ∙ ap (owner_of r w) e ∙ page_owner)
+    where
+      different : Some Area ≡ Some Inodes → ⊥
+      different h = cc (h)
 
 -- ---- an object is set
 
@@ -126,10 +137,10 @@ module _ (r : Readers) (v w : Volume) (n : ℕ) (tree inode : List Edit) (sound 
   pages_are : (q : ℕ) → has_page r (objects r w n) q ≡ has_page r (Some now) q
   pages_are q = ap (λ (o : Option Object). has_page r o q) now_is
 
-  freed : (q : ℕ) → closes_in q (tree ++ inode) ≡ true → (frees_page q (tree ++ inode) ≡ true) × (logged_in r w q ≡ false)
+  freed : (q : ℕ) → closes_in q (tree ++ inode) ≡ true → (frees_page q (tree ++ inode) ≡ true) × (logged_in r v q ≡ true) × (w.used q ≡ false)
   freed q some = elim (zero_or_more (count_in q x.gone)) [
     | inl z ↦ never (closes_in q tree) (closed_first q tree inode (x.runs.closes_none q) some) (x.tells.open_are q z)
-    | inr l ↦ (let out = unused r w after q (x.gone_are q l) in (freed_onto q tree inode (x.tells.freed_are q l) (x.runs.quiet q (apart_from r w c.sound n x.page at_now q out)), out))
+    | inr l ↦ (let out = unused r w after q (x.gone_are q l).0 in (freed_onto q tree inode (x.tells.freed_are q l) (x.runs.quiet q (apart_from r w c.sound n x.page at_now q out)), page_logged r v sound.agrees n q (x.gone_are q l).1, (x.gone_are q l).0))
   ]
 
   -- what isn't used any more and wasn't a tree page wasn't logged
@@ -190,8 +201,34 @@ module _ (r : Readers) (v w : Volume) (n : ℕ) (tree inode : List Edit) (sound 
       by (inr (inl e)) = not_logged (Data n) refl e
       by (inr (inr e)) = not_logged (Still n) refl e
 
-  pub tree_logged : LogsWell r v w (tree ++ inode)
-  tree_logged = staged r v w (tree ++ inode) sound.agrees after stay (record { pages = x.pages; freed = freed; others = others; whole = whole })
+  area_same : (q : ℕ) → w.area q ≡ v.area q
+  area_same q = ap (λ (f : ℕ → ℕ). f q) x.sets.area
+
+  untold : (q : ℕ) → 0 < v.area q → LeavesPage q (tree ++ inode)
+  untold q area = leaves_onto q tree inode (x.tells.others q (x.others q none not_gone)) (x.runs.others q (no_area r w c.sound n x.page at_now q there))
+    where
+      there : 0 < w.area q
+      there = let s = area_same q in omega (arith, s, area)
+
+      none : has_page r (Some now) q ≡ 0
+      none = sym (pages_are q) ∙ area_apart r w after n q there
+
+      not_gone : count_in q x.gone ≡ 0
+      not_gone = elim (zero_or_more (count_in q x.gone)) [
+        | inl z ↦ z
+        | inr l ↦ never (w.used q) (area_used r w after q there) (x.gone_are q l).0
+      ]
+
+  comes : (q : ℕ) → v.used q ≡ false → w.used q ≡ true → IsKeptOrData r w q
+  comes q free used = by (edit_law.takes r v w n x.set x.mid x.taken x.freed sound x.sets q free used)
+    where
+      by : IsOwnerIn n (owner_of r w q) → IsKeptOrData r w q
+      by (inl e) = inl (ap (λ (y : Option Owner). is_logged y) e)
+      by (inr (inl e)) = inr (n, (let one = (has_owners r w after).has_it q (Data n) e in omega (arith, one)))
+      by (inr (inr e)) = absurd (let one = (has_owners r w after).has_it q (Still n) e in let same = ap (λ (o : Option Object). has_still r o q) now_is in let none = x.none_still q free in omega (arith, one, same, none))
+
+  pub tree_logged : LogsPart r v w (tree ++ inode)
+  tree_logged = staged r v w (tree ++ inode) sound.agrees after stay (record { areas = area_same; pages = x.pages; freed = freed; others = others; whole = whole; untold = untold; comes = comes })
 
 -- ---- an object goes
 
@@ -220,10 +257,10 @@ module _ (r : Readers) (v w : Volume) (n : ℕ) (frees inode : List Edit) (sound
   had_page : (q : ℕ) → 0 < has_page r (objects r v n) q → 0 < holds r (objects r v n) q
   had_page q l = let p = parts r (objects r v n) q in omega (arith, p, l)
 
-  gone : (q : ℕ) → closes_in q (frees ++ inode) ≡ true → (frees_page q (frees ++ inode) ≡ true) × (logged_in r w q ≡ false)
+  gone : (q : ℕ) → closes_in q (frees ++ inode) ≡ true → (frees_page q (frees ++ inode) ≡ true) × (logged_in r v q ≡ true) × (w.used q ≡ false)
   gone q some = elim (zero_or_more (has_page r (objects r v n) q)) [
     | inl z ↦ never (closes_in q frees) (closed_first q frees inode (x.runs.closes_none q) some) (x.stay q z)
-    | inr l ↦ (let out = unlogged q (not_used q (had_page q l)) in (freed_onto q frees inode (x.go q l) (x.runs.quiet q (apart_from r w left.sound n x.page home_now q out)), out))
+    | inr l ↦ (let out = unlogged q (not_used q (had_page q l)) in (freed_onto q frees inode (x.go q l) (x.runs.quiet q (apart_from r w left.sound n x.page home_now q out)), page_logged r v sound.agrees n q l, not_used q (had_page q l)))
   ]
 
   rest : (q : ℕ) → closes_in q (frees ++ inode) ≡ false → logged_in r w q ≡ false → LeavesPage q (frees ++ inode) × (logged_in r v q ≡ false)
@@ -243,8 +280,19 @@ module _ (r : Readers) (v w : Volume) (n : ℕ) (frees inode : List Edit) (sound
   none_come : (q : ℕ) → v.used q ≡ false → w.used q ≡ true → ⊥
   none_come q free used = let u = x.drops.used q in let b = ap bit free in let f = ap bit used in omega (arith, u, b, f)
 
-  pub drop_logged : LogsWell r v w (frees ++ inode)
-  drop_logged = staged r v w (frees ++ inode) sound.agrees left.sound.agrees owners (record { pages = x.pages; freed = gone; others = rest; whole = λ q free used. absurd (none_come q free used) })
+  area_stays : (q : ℕ) → w.area q ≡ v.area q
+  area_stays q = ap (λ (f : ℕ → ℕ). f q) x.drops.area
+
+  pub drop_logged : LogsPart r v w (frees ++ inode)
+  drop_logged = staged r v w (frees ++ inode) sound.agrees left.sound.agrees owners (record {
+    areas = area_stays;
+    pages = x.pages;
+    freed = gone;
+    others = rest;
+    whole = λ q free used. absurd (none_come q free used);
+    untold = λ q area. leaves_onto q frees inode (x.leaves q) (x.runs.others q (no_area r w left.sound n x.page home_now q (let s = area_stays q in omega (arith, s, area))));
+    comes = λ q free used. absurd (none_come q free used);
+  })
 
 pub trees_law : TreesLaw
 trees_law = record {

@@ -1,5 +1,6 @@
 -- what the laws say
 pub mod Logged
+pub mod Own
 pub mod Kinds
 pub mod Stages
 pub mod Edits

@@ -1,12 +1,12 @@
 -- What a transaction logs, of a volume before it and after it.
-use Rattle.std.specs.Prelude.{◌≡◌, ◌⊎◌, ℕ, Bool, true, false, List, ◌++◌, length}
+use Rattle.std.specs.Prelude.{◌≡◌, ◌⊎◌, ℕ, Bool, true, false, List, length}
 use Rattle.jfs_ranges.specs.declared.edit.Edit.{Edit}
 use Rattle.jfs_ranges.specs.Apply.{apply_tx}
 use Rattle.jfs_recovery.specs.records.specs.Redo.{closes_in}
 use Rattle.jfs_recovery.specs.objects.specs.Readers.{Readers}
 use Rattle.jfs_recovery.specs.objects.specs.Volume.{Volume}
 use Rattle.jfs_recovery.specs.kinds.specs.Owner.{owner_of, is_logged}
-use Rattle.jfs_recovery.specs.kinds.specs.Laws.{OwnersStay, TakesNoneFreed}
+use Rattle.jfs_recovery.specs.kinds.specs.Laws.{OwnersStay}
 use Rattle.jfs_recovery.specs.Lines.{rest_of}
 use Rattle.jfs_halves.specs.Marks.{frees_page}
 
@@ -21,10 +21,10 @@ pub record LogsPage (p : ℕ) (was now : Bool) (tx : List Edit) (page : List ℕ
   pub shut : now ≡ false → (a : List ℕ) → length a ≡ 4096 → apply_tx p (rest_of p tx) a ≡ a
   pub noted : now ≡ false → was ≡ true → closes_in p tx ≡ true
 
--- The pages after it are those that its edits make. Blocks that stay in use keep their owners, and of each page what matters is logged.
+-- Blocks that stay in use keep their owners, pages that the log keeps safe before and after are those that its edits make, and of each page what matters is logged.
 pub record LogsWell (r : Readers) (v w : Volume) (tx : List Edit) : Type 0 where
   pub owners : OwnersStay r v w
-  pub pages : (p : ℕ) → w.page p ≡ apply_tx p tx (v.page p)
+  pub pages : (p : ℕ) → logged_in r v p ≡ true → logged_in r w p ≡ true → w.page p ≡ apply_tx p tx (v.page p)
   pub logs : (p : ℕ) → LogsPage p (logged_in r v p) (logged_in r w p) tx (w.page p)
 
 -- edits leave a page, whatever it holds
@@ -32,15 +32,6 @@ abbrev pub LeavesPage : ℕ → List Edit → Type 0
 LeavesPage p tx = (a : List ℕ) → length a ≡ 4096 → apply_tx p tx a ≡ a
 
 -- ---- laws
-
--- One transaction part after another is both together, where the later one takes no block that the first one freed.
-abbrev pub JoinLaw : Type 0
-JoinLaw = (r : Readers) (v w u : Volume) (tx more : List Edit) → LogsWell r v w tx → LogsWell r w u more → TakesNoneFreed v w u → LogsWell r v u (tx ++ more)
-
--- Of two parts one after the other, either may come first, where what was the later one leaves each page as it is, and the other leaves those of which that one has a NoRedo. The pages are told apart from the rest, since what is left then is told of pages of 4,096 bytes.
-abbrev pub OrderLaw : Type 0
-OrderLaw = (r : Readers) (v w : Volume) (tx more last : List Edit) → ((p : ℕ) → w.page p ≡ apply_tx p (more ++ (tx ++ last)) (v.page p)) → ((p : ℕ) → LeavesPage p more)
-    → ((p : ℕ) → closes_in p more ≡ true → (closes_in p tx ≡ false) × LeavesPage p tx) → LogsWell r v w (tx ++ (more ++ last)) → LogsWell r v w (more ++ (tx ++ last))
 
 -- What is told of a page: lines alone, which leave a page that isn't kept safe then, and give all of one that wasn't before; or it is freed, and isn't kept safe then.
 pub record IsTold (p : ℕ) (was now : Bool) (tx : List Edit) (page : List ℕ) : Type 0 where

@@ -1,13 +1,14 @@
 //! What holds of the parts of a transaction.
 
-ghost use Rattle.jfs_logged.specs.Logged.{JoinLaw, OrderLaw, PageLaw};
+ghost use Rattle.jfs_logged.specs.Logged.{PageLaw};
+ghost use Rattle.jfs_logged.specs.Own.{JoinLaw, LeftLaw, OrderLaw, OwnLaw};
 ghost use Rattle.jfs_logged.specs.Edits.{EditsLaw, InodeLaw};
 ghost use Rattle.jfs_logged.specs.Kinds.{KindsLaw};
 ghost use Rattle.jfs_logged.specs.Stages.{RunsLaw, StageLaw};
 ghost use Rattle.jfs_logged.specs.Trees.{PagesLaw};
 ghost use Rattle.jfs_logged.specs.Written.{TreesLaw};
 
-/// Two parts of a transaction that each log what the log keeps safe, and leave the owners of blocks that stay in use, do so together, where the later one takes no block that the first one freed.
+/// Two parts of a transaction that each log what the log keeps safe, and keep to their own pages, do so together, where the later one takes no block that the first one freed. Where it frees none that the first one took either, they are a part again.
 pub fn parts_are_logged_together()
     ensures { JoinLaw }
 {}
@@ -55,4 +56,14 @@ pub fn order_of_parts_is_free()
 /// An object that is set by a call on its tree and by the runs of its inode's page logs what matters, where each tree page that comes is told whole and each that goes is freed; and so does one that goes with all that it has.
 pub fn objects_and_their_trees_are_logged()
     ensures { TreesLaw }
+{}
+
+/// A page that a transaction has lines of is kept safe by the log then, or has a NoRedo; where it stays in use it is an inode's page or a tree's. Each that is dirty by it is one that the log keeps safe, or a regular file's data, or isn't in use.
+pub fn transactions_keep_to_their_own_pages()
+    ensures { OwnLaw }
+{}
+
+/// Edits that leave a page, whatever it holds, have no line of it.
+pub fn edits_that_leave_a_page_have_no_line_of_it()
+    ensures { LeftLaw }
 {}

@@ -12,7 +12,7 @@ use Rattle.jfs_rename.specs.unlink.specs.loss.specs.steps.specs.Laws.{TakesAndFr
 use Rattle.jfs_rename.specs.unlink.specs.loss.specs.steps.proofs.After.{after_is, counts, same_bits, used_onto, extents_onto}
 use Rattle.jfs_rename.specs.unlink.specs.loss.specs.steps.proofs.Puts.{put_within, put_past}
 use Rattle.jfs_names_logged.specs.calls_logged.specs.Calls.{ArePages}
-use Rattle.jfs_names_logged.specs.calls_logged.specs.logged.specs.Logged.{LogsWell}
+use Rattle.jfs_names_logged.specs.calls_logged.specs.logged.specs.Own.{LogsItsOwn}
 
 -- After so many edits of volume v: pages as the edits leave them, and blocks in use too, but for those that are owed: they are freed by the edits, and an object still has them.
 pub record Come (blocks : ℕ) (v : Volume) (owed : List ℕ) (tx : List Edit) (w : Volume) : Type 0 where
@@ -55,8 +55,8 @@ module _ (blocks : ℕ) (v : Volume) (are : ArePages blocks v.page) (owed : List
   past b l = sym (put_past blocks tx v.page b l) ∙ sym (c.page b)
 
 -- the whole transaction
-pub come_logged : (blocks : ℕ) (v : Volume) (tx : List Edit) (w : Volume) → Come blocks v [] tx w → LogsWell (readers blocks) v w tx → LogsWell (readers blocks) v (after_call blocks tx v) tx
-come_logged blocks v tx w c logs = subst (λ (u : Volume). LogsWell (readers blocks) v u tx) (after_is blocks tx v w (record {
+pub come_logged : (blocks : ℕ) (v : Volume) (tx : List Edit) (w : Volume) → Come blocks v [] tx w → LogsItsOwn (readers blocks) v w tx → LogsItsOwn (readers blocks) v (after_call blocks tx v) tx
+come_logged blocks v tx w c logs = subst (λ (u : Volume). LogsItsOwn (readers blocks) v u tx) (after_is blocks tx v w (record {
   page = λ i b. c.page b i;
   extents = c.extents ∙ sym c.stay;
   area = c.area;

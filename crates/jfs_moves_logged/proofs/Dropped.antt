@@ -1,6 +1,5 @@
 -- An object goes with all that it has, whose blocks edits before have freed.
-use Rattle.std.proofs.Common.{◌≡◌, ◌≢◌, ◌<◌, ◌≤◌, ◌+◌, ◌==◌, ◌||◌, not, nat_lt, ℕ, Bool, true, false, List, [], ◌++◌, length, Option, Some, None, refl, sym, ap, ◌∙◌, subst, inl, inr, arith}
-use Rattle.std.proofs.lemmas.Bool.{cases_lt}
+use Rattle.std.proofs.Common.{◌≡◌, ◌≢◌, ◌<◌, ◌≤◌, ◌+◌, ◌==◌, ◌||◌, not, nat_lt, ℕ, Bool, true, false, List, [], ◌++◌, length, Option, Some, None, refl, sym, ap, ◌∙◌, subst, arith}
 use Rattle.std.proofs.lemmas.Bool.Decides.{nat_tests}
 use Rattle.jfs_bits.specs.declared.rule.PageKind.TheVariants as kinds
 use Rattle.jfs_inode.specs.declared.fields.Dinode.{Dinode}
@@ -23,13 +22,12 @@ use Rattle.jfs_rename.specs.unlink.specs.loss.specs.objects.proofs.Sums.{put_oth
 use Rattle.jfs_rename.specs.unlink.specs.loss.specs.meaning.specs.Readers.{readers}
 use Rattle.jfs_rename.specs.unlink.specs.loss.specs.steps.specs.After.{used_after}
 use Rattle.jfs_rename.specs.unlink.specs.loss.specs.steps.specs.Put.{AddsInode, TellsLines}
-use Rattle.jfs_rename.specs.unlink.specs.loss.specs.steps.proofs.Puts.{put_within, put_past}
+use Rattle.jfs_rename.specs.unlink.specs.loss.specs.steps.proofs.Puts.{put_within}
 use Rattle.jfs_names_logged.proofs.After.{put_onto}
 use Rattle.jfs_names_logged.proofs.Frees.{FreesTree}
 use Rattle.jfs_names_logged.specs.calls_logged.specs.Calls.{ArePages}
-use Rattle.jfs_names_logged.specs.calls_logged.proofs.Modes.{none_put}
 use Rattle.jfs_names_logged.specs.calls_logged.specs.logged.specs.recovery.specs.kinds.specs.Owner.{has_page}
-use Rattle.jfs_names_logged.specs.calls_logged.specs.logged.specs.Logged.{LogsWell}
+use Rattle.jfs_names_logged.specs.calls_logged.specs.logged.specs.Own.{LogsPart}
 use Rattle.jfs_names_logged.specs.calls_logged.specs.logged.specs.Written.{DropsTree}
 use Rattle.jfs_names_logged.specs.calls_logged.specs.logged.proofs.Staged.{runs_law}
 use Rattle.jfs_names_logged.specs.calls_logged.specs.logged.proofs.Written.{trees_law}
@@ -74,14 +72,11 @@ module _ (blocks : ℕ) (v : Volume) (are : ArePages blocks v.page) (owed : List
   size : (q : ℕ) → q < blocks → length (w.page q) ≡ 4096
   size q l = ap (λ (x : List ℕ). length x) (c.page q ∙ put_within blocks tx v.page q l) ∙ applied_length q tx (v.page q) ∙ are.sizes q l
 
-  stays : (q : ℕ) → apply_tx q first (w.page q) ≡ w.page q
-  stays q = elim (cases_lt q blocks) [
-    | inl l ↦ frees_tree.leaves q (w.page q) (size q l)
-    | inr l ↦ (let none : w.page q ≡ [] = c.page q ∙ put_past blocks tx v.page q l ∙ are.none q l in ap (apply_tx q first) none ∙ none_put q first ∙ sym none)
-  ]
+  stays : (q : ℕ) → q < blocks → apply_tx q first (w.page q) ≡ w.page q
+  stays q l = frees_tree.leaves q (w.page q) (size q l)
 
-  pages_on : (q : ℕ) → dropped_volume.page q ≡ apply_tx q lines.0 (w.page q)
-  pages_on q = ap (λ (e : List Edit). put_tx blocks e v.page q) lines.1 ∙ put_onto blocks v.page are tx lines.0 q ∙ ap (apply_tx q lines.0) (sym (c.page q))
+  pages_on : (q : ℕ) → q < blocks → dropped_volume.page q ≡ apply_tx q lines.0 (w.page q)
+  pages_on q l = ap (λ (e : List Edit). put_tx blocks e v.page q) lines.1 ∙ put_onto blocks v.page tx lines.0 q l ∙ ap (apply_tx q lines.0) (sym (c.page q))
 
   drops_tree : DropsTree r w dropped_volume k first lines.0
   drops_tree = record {
@@ -90,14 +85,14 @@ module _ (blocks : ℕ) (v : Volume) (are : ArePages blocks v.page) (owed : List
     freed = owed;
     at = at_now;
     drops = drops;
-    pages = λ q. pages_on q ∙ ap (apply_tx q lines.0) (sym (stays q)) ∙ sym (applied_onto q first lines.0 (w.page q));
+    pages = λ q was now. pages_on q (c.within q was) ∙ ap (apply_tx q lines.0) (sym (stays q (c.within q was))) ∙ sym (applied_onto q first lines.0 (w.page q));
     runs = runs_law page kinds.Inode (put_tx blocks tx v.page page) (put_tx blocks last v.page page) 0 lines.0 lines.2;
     go = frees_tree.go;
     stay = frees_tree.stay;
     leaves = frees_tree.leaves;
   }
 
-  pub dropped_logged : LogsWell r w dropped_volume (first ++ lines.0)
+  pub dropped_logged : LogsPart r w dropped_volume (first ++ lines.0)
   dropped_logged = trees_law.drops r w dropped_volume k first lines.0 c.sound drops_tree
 
   pub dropped_come : Come blocks v [] last dropped_volume

@@ -21,7 +21,7 @@ use Rattle.jfs_rename.specs.unlink.specs.loss.specs.meaning.specs.Readers.{reade
 use Rattle.jfs_rename.specs.unlink.specs.loss.specs.steps.specs.declared.gain.Gain.{Gain}
 use Rattle.jfs_rename.specs.unlink.specs.loss.specs.way.specs.Volume.{volume_of}
 use Rattle.jfs_names_logged.specs.calls_logged.specs.Calls.{IsReady, IsLogged}
-use Rattle.jfs_names_logged.specs.calls_logged.specs.logged.specs.Logged.{LogsWell}
+use Rattle.jfs_names_logged.specs.calls_logged.specs.logged.specs.Own.{LogsItsOwn, LogsPart}
 use Rattle.jfs_names_logged.specs.calls_logged.specs.logged.proofs.Joined.{join_law}
 use Rattle.jfs_moves_logged.proofs.Apart.{Ground, is_living, two_links}
 use Rattle.jfs_moves_logged.proofs.Come.{Come, come_logged}
@@ -81,7 +81,7 @@ module _ (blocks : ℕ) (pages : ℕ → List ℕ) (area : ℕ → ℕ) (bm : Bl
   c1 : Come blocks v [] j.moves.after.tx w1
   c1 = gained_come blocks v ready.are_pages ready.consistent.sound within moving.target g.target.home_is g.target.was g.target_dir new gain j.free j.left can live_q j.moves.after j.moves.gains
 
-  own_logged : LogsWell r v w1 own
+  own_logged : LogsPart r v w1 own
   own_logged = gained_logged blocks v ready.are_pages ready.consistent.sound within moving.target g.target.home_is g.target.was g.target_dir new gain j.free j.left can live_q j.moves.after j.moves.gains
 
   own_is : j.moves.after.tx ≡ own
@@ -135,7 +135,7 @@ module _ (blocks : ℕ) (pages : ℕ → List ℕ) (area : ℕ → ℕ) (bm : Bl
   c : Come blocks v [] tx w
   c = left_come blocks v ready.are_pages j.moves.after.tx w1 c1 leaving old now tx j.moves.leaves g.object.home_is here_m (is_living blocks pages area bm inodes ready moving.object g.object) stands.home_is stands.here stands.dir stands.live stands.apart
 
-  rest_logged : LogsWell r w1 w rest
+  rest_logged : LogsPart r w1 w rest
   rest_logged = left_logged blocks v ready.are_pages j.moves.after.tx w1 c1 leaving old now tx j.moves.leaves g.object.home_is here_m (is_living blocks pages area bm inodes ready moving.object g.object) stands.home_is stands.here stands.dir stands.live stands.apart
 
   tx_is : tx ≡ own ++ rest
@@ -146,4 +146,4 @@ module _ (blocks : ℕ) (pages : ℕ → List ℕ) (area : ℕ → ℕ) (bm : Bl
   none_comes b h = left_none blocks v ready.are_pages j.moves.after.tx w1 c1 leaving old now tx j.moves.leaves g.object.home_is here_m (is_living blocks pages area bm inodes ready moving.object g.object) stands.home_is stands.here stands.dir stands.live stands.apart b h
 
   pub free_logged : IsLogged blocks pages area bm inodes tx
-  free_logged = come_logged blocks v tx w c (subst (LogsWell r v w) (sym tx_is) (join_law r v w1 w own rest own_logged rest_logged (λ b was now. none_comes b now)))
+  free_logged = come_logged blocks v tx w c (subst (LogsItsOwn r v w) (sym tx_is) (join_law.all r v w1 w own rest own_logged rest_logged (λ b was now. none_comes b now)))

@@ -42,8 +42,7 @@ use Rattle.jfs_rename.specs.unlink.specs.loss.specs.steps.proofs.Sets.{taken_mov
 use Rattle.jfs_rename.specs.unlink.specs.loss.specs.way.specs.declared.object.Held.{Held}
 use Rattle.jfs_names_logged.proofs.Directory.{TurnsDirectory, turn_writes, turn_changes}
 use Rattle.jfs_names_logged.specs.calls_logged.specs.Calls.{ArePages}
-use Rattle.jfs_names_logged.specs.calls_logged.proofs.Modes.{put_each}
-use Rattle.jfs_names_logged.specs.calls_logged.specs.logged.specs.Logged.{LogsWell}
+use Rattle.jfs_names_logged.specs.calls_logged.specs.logged.specs.Own.{LogsPart}
 use Rattle.jfs_names_logged.specs.calls_logged.specs.logged.proofs.Pages.{pages_law}
 use Rattle.jfs_names_logged.specs.calls_logged.specs.logged.proofs.Staged.{runs_law}
 use Rattle.jfs_names_logged.specs.calls_logged.specs.logged.proofs.Written.{trees_law}
@@ -215,7 +214,7 @@ module _ (blocks : ℕ) (v : Volume) (are : ArePages blocks v.page) (sound : IsS
     extents = refl;
     area = refl;
     in_use = stays_in_use r v n (spelled r v.page d) sound was;
-    pages = λ q. put_each blocks v.page are tx q ∙ ap (λ (e : List Edit). apply_tx q e (v.page q)) gained_is;
+    pages = λ q was now. put_within blocks tx v.page q (used_within q was) ∙ ap (λ (e : List Edit). apply_tx q e (v.page q)) gained_is;
     runs = runs_law dir.page kinds.Inode (put_tx blocks g.mid v.page dir.page) (put_tx blocks tx v.page dir.page) 0 inode g.lines.2;
     told = taken;
     gone = [];
@@ -229,7 +228,7 @@ module _ (blocks : ℕ) (v : Volume) (are : ArePages blocks v.page) (sound : IsS
     told_alone = λ q z. not_in q taken z;
   }
 
-  pub gained_logged : LogsWell r v gained_volume gained_edits
+  pub gained_logged : LogsPart r v gained_volume gained_edits
   gained_logged = trees_law.writes r v gained_volume n tree inode sound (turn_writes blocks v gained_volume n tree inode sound used_within turns)
 
   one : ChangesOne r v gained_volume n (Some (spelled r (put_tx blocks g.mid v.page) gained_inode))

@@ -21,7 +21,7 @@ use Rattle.jfs_rename.specs.unlink.specs.loss.specs.steps.specs.Put.{AddsInode, 
 use Rattle.jfs_names_logged.proofs.After.{put_onto}
 use Rattle.jfs_names_logged.specs.calls_logged.specs.Calls.{ArePages}
 use Rattle.jfs_names_logged.specs.calls_logged.specs.logged.specs.Kinds.{HasTrees}
-use Rattle.jfs_names_logged.specs.calls_logged.specs.logged.specs.Logged.{LogsWell}
+use Rattle.jfs_names_logged.specs.calls_logged.specs.logged.specs.Own.{LogsPart}
 use Rattle.jfs_names_logged.specs.calls_logged.specs.logged.proofs.Edited.{inode_law}
 use Rattle.jfs_moves_logged.proofs.Come.{Come, pages_are}
 
@@ -63,13 +63,13 @@ module _ (blocks : ℕ) (v : Volume) (are : ArePages blocks v.page) (owed : List
     stay = lines_extents blocks v.page page tx later v.extents lines ∙ c.stay;
   }
 
-  pub in_place_logged : LogsWell r w in_place_volume lines.0
+  pub in_place_logged : LogsPart r w in_place_volume lines.0
   in_place_logged = inode_law r w in_place_volume m page d set (put_tx blocks tx v.page page) (put_tx blocks later v.page page) lines.0 c.sound (record {
     at = at_now;
     was = here;
     sets = sets;
     trees = keeps.trees w.page;
-    pages = λ q. ap (λ (all : List Edit). put_tx blocks all v.page q) lines.1 ∙ put_onto blocks v.page are tx lines.0 q ∙ ap (apply_tx q lines.0) (sym (c.page q));
+    pages = λ q was now. ap (λ (all : List Edit). put_tx blocks all v.page q) lines.1 ∙ put_onto blocks v.page tx lines.0 q (c.within q was) ∙ ap (apply_tx q lines.0) (sym (c.page q));
     runs = lines.2;
   })
 

@@ -14,8 +14,8 @@ use Rattle.jfs_rename.specs.unlink.specs.loss.specs.objects.specs.Objects.{objec
 use Rattle.jfs_rename.specs.unlink.specs.loss.specs.meaning.specs.Readers.{readers}
 use Rattle.jfs_names_logged.specs.calls_logged.specs.Calls.{ArePages}
 use Rattle.jfs_names_logged.specs.calls_logged.specs.logged.specs.recovery.specs.kinds.specs.Owner.{is_regular_file}
-use Rattle.jfs_names_logged.specs.calls_logged.specs.logged.specs.Logged.{LogsWell}
-use Rattle.jfs_names_logged.specs.calls_logged.specs.logged.proofs.Joined.{join_law}
+use Rattle.jfs_names_logged.specs.calls_logged.specs.logged.specs.Own.{LogsPart}
+use Rattle.jfs_names_logged.specs.calls_logged.specs.logged.proofs.Joined.{join_law, never}
 use Rattle.jfs_moves_logged.proofs.Come.{Come}
 use Rattle.jfs_moves_logged.proofs.InPlace.{KeepsTrees, in_place_volume, in_place_come, in_place_logged, in_place_other}
 use Rattle.jfs_moves_logged.proofs.Lost.{lost_edits, lost_is, lost_volume, lost_come, lost_logged, lost_none}
@@ -69,7 +69,7 @@ module _ (blocks : ℕ) (v : Volume) (are : ArePages blocks v.page) (tx : List E
   pub c1 : Come blocks v [] x.there w1
   c1 = in_place_come blocks v are [] tx w c leaving.object.number leaving.object.page leaving.object.inode x.arrives.inode x.there at_m here_m keeps x.arrives.puts x.arrives.lines
 
-  first_logged : LogsWell r w w1 x.arrives.lines.0
+  first_logged : LogsPart r w w1 x.arrives.lines.0
   first_logged = in_place_logged blocks v are [] tx w c leaving.object.number leaving.object.page leaving.object.inode x.arrives.inode x.there at_m here_m keeps x.arrives.puts x.arrives.lines
 
   pub still_p : objects r w1 leaving.source.number ≡ Some (spelled r w1.page leaving.source.inode)
@@ -94,5 +94,5 @@ module _ (blocks : ℕ) (v : Volume) (are : ArePages blocks v.page) (tx : List E
   pub left_none : (b : ℕ) → left_volume.used b ≡ true → w.used b ≡ true
   left_none b h = lost_none blocks v are x.there w1 c1 leaving.source at_p still_p dir name leaving.links live_p now later x.loses b h
 
-  pub left_logged : LogsWell r w left_volume left_edits
-  left_logged = join_law r w w1 left_volume x.arrives.lines.0 last first_logged (lost_logged blocks v are x.there w1 c1 leaving.source at_p still_p dir name leaving.links live_p now later x.loses) (λ b was now. was)
+  pub left_logged : LogsPart r w left_volume left_edits
+  left_logged = join_law.parts r w w1 left_volume x.arrives.lines.0 last first_logged (lost_logged blocks v are x.there w1 c1 leaving.source at_p still_p dir name leaving.links live_p now later x.loses) (λ b was now. was) (λ b free there. never (w.used b) there free)

@@ -1,5 +1,5 @@
 -- A directory leads a name to another inode, on top of edits that leave all pages.
-use Rattle.std.proofs.Common.{◌≡◌, ◌≢◌, ◌⊎◌, ◌+◌, if◌then◌else◌, ℕ, Bool, true, false, List, [], ◌∷◌, ◌++◌, append_assoc, Some, Result, Ok, refl, sym, ap, ◌∙◌, subst, inl, inr, arith, eq-eqb}
+use Rattle.std.proofs.Common.{◌≡◌, ◌≢◌, ◌⊎◌, ◌<◌, ◌+◌, if◌then◌else◌, ℕ, Bool, true, false, List, [], ◌∷◌, ◌++◌, append_assoc, is_some, Some, Result, Ok, refl, sym, ap, ◌∙◌, subst, inl, inr, arith, eq-eqb}
 use Rattle.std.proofs.lemmas.List.{append-nil}
 use Rattle.jfs_bits.proofs.Parts.{part-held}
 use Rattle.jfs_bits.specs.declared.descriptor.Moment.{Moment}
@@ -23,11 +23,12 @@ use Rattle.jfs_rename.specs.unlink.specs.loss.specs.lead_steps.proofs.Again.{aga
 use Rattle.jfs_rename.specs.unlink.specs.loss.specs.lead_steps.proofs.Turned.{names_listed}
 use Rattle.jfs_rename.specs.unlink.specs.loss.specs.objects.specs.Readers.{Readers}
 use Rattle.jfs_rename.specs.unlink.specs.loss.specs.objects.specs.Volume.{Volume, home}
-use Rattle.jfs_rename.specs.unlink.specs.loss.specs.objects.specs.Objects.{objects, spelled, is_live, has_names}
+use Rattle.jfs_rename.specs.unlink.specs.loss.specs.objects.specs.Objects.{Object, objects, spelled, is_live, has_names, listed}
 use Rattle.jfs_rename.specs.unlink.specs.loss.specs.objects.specs.Owners.{bit}
 use Rattle.jfs_rename.specs.unlink.specs.loss.specs.objects.specs.Laws.{ChangesOne}
 use Rattle.jfs_rename.specs.unlink.specs.loss.specs.objects.specs.Changes.{PutsInode}
 use Rattle.jfs_rename.specs.unlink.specs.loss.specs.objects.proofs.Sums.{put_here, put_other, eq_or_not}
+use Rattle.jfs_rename.specs.unlink.specs.loss.specs.objects.proofs.Framed.{same_spelled}
 use Rattle.jfs_rename.specs.unlink.specs.loss.specs.meaning.specs.Readers.{readers, root_of}
 use Rattle.jfs_rename.specs.unlink.specs.loss.specs.steps.specs.Laws.{LeavesSets}
 use Rattle.jfs_rename.specs.unlink.specs.loss.specs.steps.proofs.After.{runs_leave}
@@ -36,7 +37,12 @@ use Rattle.jfs_rename.specs.unlink.specs.loss.specs.way.specs.declared.object.He
 use Rattle.jfs_names_logged.proofs.After.{put_after, left_alone}
 use Rattle.jfs_names_logged.proofs.Directory.{TurnsDirectory, turn_writes, turn_changes}
 use Rattle.jfs_names_logged.specs.calls_logged.specs.Calls.{ArePages}
-use Rattle.jfs_names_logged.specs.calls_logged.specs.logged.specs.Logged.{LeavesPage, LogsWell}
+use Rattle.jfs_names_logged.specs.calls_logged.specs.logged.specs.recovery.specs.kinds.specs.Owner.{owner_of}
+use Rattle.jfs_names_logged.specs.calls_logged.specs.logged.specs.recovery.specs.kinds.specs.Owner.Owner.{Tree}
+use Rattle.jfs_names_logged.specs.calls_logged.specs.logged.specs.recovery.specs.kinds.proofs.Logged.{logged_law}
+use Rattle.jfs_names_logged.specs.calls_logged.specs.logged.specs.recovery.specs.kinds.proofs.Single.{has_owners}
+use Rattle.jfs_names_logged.specs.calls_logged.specs.logged.specs.Logged.{LeavesPage}
+use Rattle.jfs_names_logged.specs.calls_logged.specs.logged.specs.Own.{LogsPart}
 use Rattle.jfs_names_logged.specs.calls_logged.specs.logged.specs.Stages.{ArePageRuns}
 use Rattle.jfs_names_logged.specs.calls_logged.specs.logged.specs.Trees.{TellsPages}
 use Rattle.jfs_names_logged.specs.calls_logged.specs.logged.specs.Written.{WritesTree}
@@ -91,20 +97,24 @@ module _ (blocks : ℕ) (v : Volume) (are : ArePages blocks v.page) (owed : List
         same_list : {E F : Type 0} {xs ys : List E} (y : Result (List E) F) → y ≡ Ok xs → y ≡ Ok ys → xs ≡ ys
         same_list y h g = cc (h, g)
 
-        on_page : (q : ℕ) → later q ≡ apply_tx q tree (v.page q)
-        on_page q = ap (λ (all : List Edit). apply_tx q all (v.page q)) is ∙ applied_onto q first tree (v.page q) ∙ ap (apply_tx q tree) (left_alone blocks v.page are first q (leaves q))
+        on_page : (q : ℕ) → q < blocks → later q ≡ apply_tx q tree (v.page q)
+        on_page q l = ap (λ (all : List Edit). apply_tx q all (v.page q)) is ∙ applied_onto q first tree (v.page q) ∙ ap (apply_tx q tree) (left_alone blocks v.page are first q l (leaves q))
 
-        stays : (q : ℕ) → later q ≡ v.page q
-        stays q = elim (eq_or_not q page) [
+        stays : (q : ℕ) → q < blocks → later q ≡ v.page q
+        stays q l = elim (eq_or_not q page) [
           | inl e ↦ ap later e ∙ h ∙ ap v.page (sym e)
-          | inr apart ↦ on_page q ∙ left_alone blocks v.page are tree q (runs.others q apart)
+          | inr apart ↦ on_page q l ∙ left_alone blocks v.page are tree q l (runs.others q apart)
         ]
 
-        pages_stay : later ≡ v.page
-        pages_stay = λ i q. stays q i
+        -- so does what the directory spells, whose pages lie within the file system part
+        same : spelled r later d ≡ spelled r v.page d
+        same = same_spelled r v.page later d (λ b some. stays b (c.within b (owned_is_used b ((logged_law.reads r v c.sound).trees n b (spelled r v.page d) was some))))
+          where
+            owned_is_used : (b : ℕ) → owner_of r v b ≡ Some (Tree n) → v.used b ≡ true
+            owned_is_used b e = (has_owners r v c.sound.agrees).used b ∙ ap is_some e
 
         now_is : spells_names blocks v.page (root_of d) ≡ Ok (with_inode name m es)
-        now_is = sym (ap (λ (p : ℕ → List ℕ). spells_names blocks p (root_of d)) pages_stay) ∙ sym (ap (spells_names blocks later) root_stays) ∙ else_where.spelled
+        now_is = sym (names_listed blocks v.page d is_dir) ∙ sym (ap (λ (o : Object). listed r.names_order o.names) same) ∙ names_listed blocks later d is_dir ∙ sym (ap (spells_names blocks later) root_stays) ∙ else_where.spelled
 
     one_page : TellsPages [] [] (page ∷ []) v.page later tree
     one_page = record {
@@ -206,7 +216,7 @@ module _ (blocks : ℕ) (v : Volume) (are : ArePages blocks v.page) (owed : List
     extents = refl;
     area = refl;
     in_use = stays_in_use r v n (spelled r v.page d) c.sound was;
-    pages = λ q. ap (λ (all : List Edit). put_tx blocks all v.page q) led_is ∙ put_after blocks v.page are first (led_tree ++ led_lines) q (leaves q);
+    pages = λ q was now. ap (λ (all : List Edit). put_tx blocks all v.page q) led_is ∙ put_after blocks v.page are first (led_tree ++ led_lines) q (c.within q was) (leaves q);
     runs = runs_law dir.page kinds.Inode (put_tx blocks x.mid v.page dir.page) (put_tx blocks led v.page dir.page) 0 led_lines x.lines.2;
     told = [];
     gone = [];
@@ -223,7 +233,7 @@ module _ (blocks : ℕ) (v : Volume) (are : ArePages blocks v.page) (owed : List
   pub led_writes : WritesTree r v led_volume n led_tree led_lines
   led_writes = turn_writes blocks v led_volume n led_tree led_lines c.sound c.within turns
 
-  pub led_logged : LogsWell r v led_volume (led_tree ++ led_lines)
+  pub led_logged : LogsPart r v led_volume (led_tree ++ led_lines)
   led_logged = trees_law.writes r v led_volume n led_tree led_lines c.sound led_writes
 
   one : ChangesOne r v led_volume n (Some (spelled r (put_tx blocks x.mid v.page) led_inode))

@@ -38,7 +38,7 @@ use Rattle.jfs_rename.specs.unlink.specs.loss.specs.way.specs.declared.object.He
 use Rattle.jfs_names_logged.proofs.After.{put_onto}
 use Rattle.jfs_names_logged.proofs.Directory.{TurnsDirectory, turn_writes, turn_changes}
 use Rattle.jfs_names_logged.specs.calls_logged.specs.Calls.{ArePages}
-use Rattle.jfs_names_logged.specs.calls_logged.specs.logged.specs.Logged.{LogsWell}
+use Rattle.jfs_names_logged.specs.calls_logged.specs.logged.specs.Own.{LogsPart}
 use Rattle.jfs_names_logged.specs.calls_logged.specs.logged.proofs.Pages.{pages_law}
 use Rattle.jfs_names_logged.specs.calls_logged.specs.logged.proofs.Staged.{runs_law}
 use Rattle.jfs_names_logged.specs.calls_logged.specs.logged.proofs.Written.{trees_law}
@@ -188,7 +188,7 @@ module _ (blocks : ℕ) (v : Volume) (are : ArePages blocks v.page) (tx : List E
     extents = refl;
     area = refl;
     in_use = stays_in_use r w n (spelled r w.page d) c.sound here;
-    pages = λ q. ap (λ (all : List Edit). put_tx blocks all v.page q) lost_is ∙ put_onto blocks v.page are tx (tree ++ inode) q ∙ ap (apply_tx q (tree ++ inode)) (sym (c.page q));
+    pages = λ q was now. ap (λ (all : List Edit). put_tx blocks all v.page q) lost_is ∙ put_onto blocks v.page tx (tree ++ inode) q (c.within q was) ∙ ap (apply_tx q (tree ++ inode)) (sym (c.page q));
     runs = runs_law dir.page kinds.Inode (put_tx blocks l.mid v.page dir.page) (put_tx blocks later v.page dir.page) 0 inode l.lines.2;
     told = [];
     gone = l.gone.0;
@@ -202,7 +202,7 @@ module _ (blocks : ℕ) (v : Volume) (are : ArePages blocks v.page) (tx : List E
     told_alone = λ q z. refl;
   }
 
-  pub lost_logged : LogsWell r w lost_volume lost_edits
+  pub lost_logged : LogsPart r w lost_volume lost_edits
   lost_logged = trees_law.writes r w lost_volume n tree inode c.sound (turn_writes blocks w lost_volume n tree inode c.sound c.within turns)
 
   one : ChangesOne r w lost_volume n (Some (spelled r (put_tx blocks l.mid v.page) set))

@@ -1,5 +1,6 @@
 -- An object takes the name of another one: what the transaction logs.
 use Rattle.std.proofs.Common.{◌≡◌, ◌≢◌, ◌⊎◌, ◌<◌, ◌≤◌, ◌-◌, nat_le, if◌then◌else◌, ℕ, Bool, true, false, true≢false, List, [], ◌++◌, append_assoc, length, Option, Some, Result, Ok, refl, sym, ap, ◌∙◌, subst, inl, inr, arith}
+use Rattle.std.proofs.lemmas.Bool.{cases_lt}
 use Rattle.jfs_bits.specs.declared.descriptor.Moment.{Moment}
 use Rattle.jfs_imap.specs.Inodes.{Inodes}
 use Rattle.jfs_inode.specs.declared.fields.Dinode.{Dinode}
@@ -7,6 +8,7 @@ use Rattle.jfs_name.specs.Directory.{named}
 use Rattle.jfs_name.specs.declared.name.NameEntry.{NameEntry}
 use Rattle.jfs_ranges.specs.declared.edit.Edit.{Edit}
 use Rattle.jfs_ranges.specs.Apply.{apply_tx}
+use Rattle.jfs_ranges.specs.Laid.{put_tx}
 use Rattle.jfs_tree.specs.Edit.{count_in}
 use Rattle.jfs_dtree.specs.Spells.{spells_names}
 use Rattle.jfs_rename.proofs.LetIn.{more_live, or_left}
@@ -30,22 +32,23 @@ use Rattle.jfs_rename.specs.unlink.specs.loss.specs.meaning.specs.Readers.{reade
 use Rattle.jfs_rename.specs.unlink.specs.loss.specs.steps.specs.Laws.{TakesAndFrees, IsFair}
 use Rattle.jfs_rename.specs.unlink.specs.loss.specs.steps.specs.Put.{AddsInode}
 use Rattle.jfs_rename.specs.unlink.specs.loss.specs.steps.proofs.After.{counts}
+use Rattle.jfs_rename.specs.unlink.specs.loss.specs.steps.proofs.Puts.{put_within, put_past}
 use Rattle.jfs_rename.specs.unlink.specs.loss.specs.way.specs.Volume.{volume_of}
 use Rattle.jfs_rename.specs.unlink.specs.loss.specs.way.specs.declared.object.Held.{Held}
 use Rattle.jfs_names_logged.proofs.After.{left_alone}
 use Rattle.jfs_names_logged.proofs.Frees.{FreesTree, object_frees}
 use Rattle.jfs_names_logged.specs.calls_logged.specs.Calls.{IsReady, IsLogged}
 use Rattle.jfs_names_logged.specs.calls_logged.specs.Found.{IsFound, IsNamed}
-use Rattle.jfs_names_logged.specs.calls_logged.proofs.Modes.{put_each}
 use Rattle.jfs_names_logged.specs.calls_logged.specs.logged.specs.recovery.specs.records.specs.Redo.{closes_in}
 use Rattle.jfs_names_logged.specs.calls_logged.specs.logged.specs.recovery.specs.kinds.specs.Owner.{owner_of, has_page}
 use Rattle.jfs_names_logged.specs.calls_logged.specs.logged.specs.recovery.specs.kinds.specs.Owner.Owner.{Inodes as OfInodes, Tree as OfTree}
 use Rattle.jfs_names_logged.specs.calls_logged.specs.logged.specs.recovery.specs.kinds.proofs.Logged.{logged_law}
 use Rattle.jfs_names_logged.specs.calls_logged.specs.logged.specs.recovery.specs.kinds.proofs.Parts.{parts}
 use Rattle.jfs_names_logged.specs.calls_logged.specs.logged.specs.recovery.specs.kinds.proofs.Single.{has_owners}
-use Rattle.jfs_names_logged.specs.calls_logged.specs.logged.specs.Logged.{LeavesPage, LogsWell}
+use Rattle.jfs_names_logged.specs.calls_logged.specs.logged.specs.Logged.{LeavesPage}
+use Rattle.jfs_names_logged.specs.calls_logged.specs.logged.specs.Own.{LogsItsOwn, LogsPart}
 use Rattle.jfs_names_logged.specs.calls_logged.specs.logged.specs.Written.{WritesTree}
-use Rattle.jfs_names_logged.specs.calls_logged.specs.logged.proofs.Joined.{join_law}
+use Rattle.jfs_names_logged.specs.calls_logged.specs.logged.proofs.Joined.{join_law, never}
 use Rattle.jfs_names_logged.specs.calls_logged.specs.logged.proofs.Ordered.{order_law}
 use Rattle.jfs_names_logged.specs.calls_logged.specs.logged.proofs.Pages.{closes_onto, leaves_onto}
 use Rattle.jfs_moves_logged.proofs.Apart.{Ground, is_living, root_size, two_links}
@@ -144,10 +147,17 @@ module _ (blocks : ℕ) (pages : ℕ → List ℕ) (area : ℕ → ℕ) (bm : Bl
     once = λ b. (let t = debt.moves.taken_are b in let f = debt.moves.freed_are b in let a = debt.among b in let o = once.once k b in omega (arith, t, f, a, o));
   }
 
+  -- edits that free what it has leave each page
+  first_leaves : (b : ℕ) → v.page b ≡ put_tx blocks first v.page b
+  first_leaves b = elim (cases_lt b blocks) [
+    | inl l ↦ sym (put_within blocks first pages b l ∙ left_alone blocks pages ready.are_pages first b l (debt.leaves b))
+    | inr l ↦ sym (put_past blocks first pages b l)
+  ]
+
   pub c0 : Come blocks v owed first v
   c0 = record {
     sound = ready.consistent.sound;
-    page = λ b. sym (put_each blocks pages ready.are_pages first b ∙ left_alone blocks pages ready.are_pages first b (debt.leaves b));
+    page = first_leaves;
     extents = refl;
     area = refl;
     used = λ b. (let c = counts first v.used fair b in let t = debt.moves.taken_are b in let f = debt.moves.freed_are b in omega (arith, c, t, f));
@@ -190,7 +200,7 @@ module _ (blocks : ℕ) (pages : ℕ → List ℕ) (area : ℕ → ℕ) (bm : Bl
   writes : WritesTree r v w1 q tree lines
   writes = led_writes blocks v ready.are_pages owed first c0 debt.leaves moving.target g.target.home_is g.target.was g.target_dir live_q new moving.object.number k s.other_object named_k now j.led j.target j.leads
 
-  own_logged : LogsWell r v w1 own
+  own_logged : LogsPart r v w1 own
   own_logged = led_logged blocks v ready.are_pages owed first c0 debt.leaves moving.target g.target.home_is g.target.was g.target_dir live_q new moving.object.number k s.other_object named_k now j.led j.target j.leads
 
   here_q : objects r w1 q ≡ Some (spelled r w1.page set_q)
@@ -233,7 +243,7 @@ module _ (blocks : ℕ) (pages : ℕ → List ℕ) (area : ℕ → ℕ) (bm : Bl
             not_q = once.alone k q p (λ e. s.other_target (sym e)) held
 
             not_gone : count_in p writes.gone ≡ 0
-            not_gone = elim (zero_or_more (count_in p writes.gone)) [ inl z ↦ z | inr m ↦ absurd (no (sym is_used ∙ writes.gone_are p m)) ]
+            not_gone = elim (zero_or_more (count_in p writes.gone)) [ inl z ↦ z | inr m ↦ absurd (no (sym is_used ∙ (writes.gone_are p m).0)) ]
 
             none_taken : count_in p writes.taken ≡ 0
             none_taken = elim (zero_or_more (count_in p writes.taken)) [ inl z ↦ z | inr m ↦ absurd (no (sym is_used ∙ writes.sets.takes.fresh p m)) ]
@@ -259,8 +269,8 @@ module _ (blocks : ℕ) (pages : ℕ → List ℕ) (area : ℕ → ℕ) (bm : Bl
     pub other : (n : ℕ) (e : Dinode) → n ≢ k → objects r w1 n ≡ Some (spelled r w1.page e) → objects r volume n ≡ Some (spelled r volume.page e)
     pub none : (b : ℕ) → volume.used b ≡ true → w1.used b ≡ true
     pub edits : List Edit
-    pub logged : LogsWell r w1 volume edits
-    pub in_order : (w : Volume) (rest : List Edit) → ((p : ℕ) → w.page p ≡ apply_tx p (first ++ (own ++ (putl ++ rest))) (pages p)) → LogsWell r v w (own ++ (edits ++ rest)) → LogsWell r v w (first ++ (own ++ (putl ++ rest)))
+    pub logged : LogsPart r w1 volume edits
+    pub in_order : (w : Volume) (rest : List Edit) → ((p : ℕ) → v.used p ≡ true → w.used p ≡ true → w.page p ≡ apply_tx p (first ++ (own ++ (putl ++ rest))) (pages p)) → LogsPart r v w (own ++ (edits ++ rest)) → LogsPart r v w (first ++ (own ++ (putl ++ rest)))
 
   displaces : (x : Bool) → goes dk ≡ x → Displaced
   displaces true e = record {
@@ -270,7 +280,7 @@ module _ (blocks : ℕ) (pages : ℕ → List ℕ) (area : ℕ → ℕ) (bm : Bl
     none = dropped_none blocks v ready.are_pages owed j.led w1 c1 k there.page dk first j.put s.found.home_is s.names.may.0 all frees_now puts j.lines;
     edits = first ++ putl;
     logged = dropped_logged blocks v ready.are_pages owed j.led w1 c1 k there.page dk first j.put s.found.home_is s.names.may.0 all frees_now puts j.lines;
-    in_order = λ w rest pages_are logs. order_law r v w own first (putl ++ rest) pages_are debt.leaves (apart (debt.tree e)) (subst (λ (x : List Edit). LogsWell r v w (own ++ x)) (append_assoc first putl rest) logs);
+    in_order = λ w rest pages_are logs. order_law r v w own first (putl ++ rest) pages_are debt.leaves (apart (debt.tree e)) (subst (λ (x : List Edit). LogsPart r v w (own ++ x)) (append_assoc first putl rest) logs);
   }
     where
       all : (b : ℕ) → count_in b owed ≡ holds r (objects r w1 k) b
@@ -288,7 +298,7 @@ module _ (blocks : ℕ) (pages : ℕ → List ℕ) (area : ℕ → ℕ) (bm : Bl
     none = λ b h. h;
     edits = putl;
     logged = in_place_logged blocks v ready.are_pages [] j.led w1 c_none k there.page dk (fallen dk now) j.put s.found.home_is here_k keeps puts j.lines;
-    in_order = λ w rest pages_are logs. subst (λ (x : List Edit). LogsWell r v w (x ++ (own ++ (putl ++ rest)))) (sym (debt.nothing e)) logs;
+    in_order = λ w rest pages_are logs. subst (λ (x : List Edit). LogsPart r v w (x ++ (own ++ (putl ++ rest)))) (sym (debt.nothing e)) logs;
   }
     where
       c_none : Come blocks v [] j.led w1
@@ -343,7 +353,7 @@ module _ (blocks : ℕ) (pages : ℕ → List ℕ) (area : ℕ → ℕ) (bm : Bl
   c : Come blocks v [] tx w
   c = left_come blocks v ready.are_pages j.put d.volume d.come leaving old now tx j.leaves g.object.home_is here_m live_m stands.home_is stands.here stands.dir stands.live stands.apart
 
-  rest_logged : LogsWell r d.volume w rest
+  rest_logged : LogsPart r d.volume w rest
   rest_logged = left_logged blocks v ready.are_pages j.put d.volume d.come leaving old now tx j.leaves g.object.home_is here_m live_m stands.home_is stands.here stands.dir stands.live stands.apart
 
   none_comes : (b : ℕ) → w.used b ≡ true → d.volume.used b ≡ true
@@ -354,11 +364,11 @@ module _ (blocks : ℕ) (pages : ℕ → List ℕ) (area : ℕ → ℕ) (bm : Bl
       ∙ ap (λ (x : List Edit). x ++ rest) (j.lines.1 ∙ ap (λ (x : List Edit). x ++ putl) led_by ∙ append_assoc first own putl) ∙ append_assoc first (own ++ putl) rest ∙ ap (λ (x : List Edit). first ++ x) (append_assoc own putl rest)
 
   -- in turn
-  both : LogsWell r v d.volume (own ++ d.edits)
-  both = join_law r v w1 d.volume own d.edits own_logged d.logged (λ b was now. was)
+  both : LogsPart r v d.volume (own ++ d.edits)
+  both = join_law.parts r v w1 d.volume own d.edits own_logged d.logged (λ b was now. was) (λ b free there. never (v.used b) there free)
 
-  in_turn : LogsWell r v w (own ++ (d.edits ++ rest))
-  in_turn = subst (LogsWell r v w) (append_assoc own d.edits rest) (join_law r v d.volume w (own ++ d.edits) rest both rest_logged (λ b was now. none_comes b now))
+  in_turn : LogsPart r v w (own ++ (d.edits ++ rest))
+  in_turn = subst (LogsPart r v w) (append_assoc own d.edits rest) (join_law.parts r v d.volume w (own ++ d.edits) rest both rest_logged (λ b was now. none_comes b now) (λ b free there. never (v.used b) (d.none b there) free))
 
   pub over_logged : IsLogged blocks pages area bm inodes tx
-  over_logged = come_logged blocks v tx w c (subst (LogsWell r v w) (sym tx_is) (d.in_order w rest (λ p. c.page p ∙ put_each blocks pages ready.are_pages tx p ∙ ap (λ (e : List Edit). apply_tx p e (pages p)) tx_is) in_turn))
+  over_logged = come_logged blocks v tx w c (subst (LogsItsOwn r v w) (sym tx_is) (d.in_order w rest (λ p was now. c.page p ∙ put_within blocks tx pages p (within p was) ∙ ap (λ (e : List Edit). apply_tx p e (pages p)) tx_is) in_turn).own)

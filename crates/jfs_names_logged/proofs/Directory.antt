@@ -22,8 +22,9 @@ use Rattle.jfs_unlink.specs.loss.specs.objects.proofs.Owned.{owned_once}
 use Rattle.jfs_unlink.specs.loss.specs.objects.proofs.Set.{object_is_set}
 use Rattle.jfs_unlink.specs.loss.specs.objects.proofs.Sums.{zero_or_more}
 use Rattle.jfs_unlink.specs.loss.specs.meaning.specs.Readers.{readers, root_of}
-use Rattle.jfs_calls_logged.specs.logged.specs.recovery.specs.kinds.specs.Owner.{is_regular_file, has_page}
+use Rattle.jfs_calls_logged.specs.logged.specs.recovery.specs.kinds.specs.Owner.{is_regular_file, has_page, has_still}
 use Rattle.jfs_calls_logged.specs.logged.specs.recovery.specs.kinds.specs.Laws.{KeepsKinds}
+use Rattle.jfs_calls_logged.specs.logged.specs.recovery.specs.kinds.proofs.Parts.{parts}
 use Rattle.jfs_calls_logged.specs.logged.specs.Stages.{ArePageRuns}
 use Rattle.jfs_calls_logged.specs.logged.specs.Trees.{TellsPages}
 use Rattle.jfs_calls_logged.specs.logged.specs.Written.{WritesTree}
@@ -95,7 +96,7 @@ pub record TurnsDirectory (blocks : ℕ) (v w : Volume) (n : ℕ) (tree inode : 
   pub extents : w.extents ≡ v.extents
   pub area : w.area ≡ v.area
   pub in_use : (k : ℕ) → w.in_use k ≡ put n true v.in_use k
-  pub pages : (q : ℕ) → w.page q ≡ apply_tx q (tree ++ inode) (v.page q)
+  pub pages : (q : ℕ) → v.used q ≡ true → w.used q ≡ true → w.page q ≡ apply_tx q (tree ++ inode) (v.page q)
   -- what is told
   pub runs : ArePageRuns page inode
   pub told : List ℕ
@@ -185,13 +186,15 @@ module _ (blocks : ℕ) (v w : Volume) (n : ℕ) (tree inode : List Edit) (sound
       let g = x.gone_same b in
       omega (arith, t, f, u, g)
 
-  gone_are : (b : ℕ) → 0 < count_in b x.gone → w.used b ≡ false
+  gone_are : (b : ℕ) → 0 < count_in b x.gone → (w.used b ≡ false) × (0 < has_page q (objects q v n) b)
   gone_are b l =
       let g = x.gone_same b in
       let a = x.apart b (omega (arith, g, l)) in
       let u = x.used b in
       let m = at_most (v.used b) in
-      bit_of (w.used b) (omega (arith, g, a, u, m, l))
+      let o = x.owned b in
+      let p = pages_before b in
+      (bit_of (w.used b) (omega (arith, g, a, u, m, l)), omega (arith, g, a, o, p, l))
 
   others : (b : ℕ) → has_page q (Some after) b ≡ 0 → count_in b x.gone ≡ 0 → (count_in b x.changed ≡ 0) ⊎ ((is_in b x.told ≡ false) × (x.new b ≡ v.page b))
   others b none stays = elim (cases_lt b blocks) [
@@ -199,6 +202,25 @@ module _ (blocks : ℕ) (v w : Volume) (n : ℕ) (tree inode : List Edit) (sound
     | inl l ↦ (let p = pages_then b in let o = x.owned b in let g = x.gone_same b in let t : count_in b x.taken ≡ 0 = omega (arith, p, o, g, none, stays) in
         inr (x.told_alone b t, x.new_is b l ∙ x.keeps b l (omega (arith, p, o, g, none, stays)) t))
   ]
+
+  -- its attributes are those that it had
+  none_still : (b : ℕ) → v.used b ≡ false → has_still q (Some after) b ≡ 0
+  none_still b free =
+      let p = parts q (Some after) b in
+      let s = beside_pages q after b in
+      let z = no_data blocks x.mid x.set x.dir_set b in
+      let a = same_attributes q x.mid v.page x.old x.set x.acl x.ea b in
+      let h = beside_pages q before b in
+      let o = ap (λ (o : Option Object). holds q o b) x.was in
+      let n = held_none (zero_or_more (holds q (objects q v n) b)) in
+      omega (arith, p, s, z, a, h, o, n)
+    where
+      no : true ≡ false → ⊥
+      no h = cc (h)
+
+      held_none : (holds q (objects q v n) b ≡ 0) ⊎ (0 < holds q (objects q v n) b) → holds q (objects q v n) b ≡ 0
+      held_none (inl z) = z
+      held_none (inr l) = absurd (no (sym (once.in_use n b l) ∙ free))
 
   pub turn_writes : WritesTree q v w n tree inode
   turn_writes = record {
@@ -212,6 +234,7 @@ module _ (blocks : ℕ) (v w : Volume) (n : ℕ) (tree inode : List Edit) (sound
     kinds = kinds;
     pages = x.pages;
     runs = x.runs;
+    none_still = none_still;
     told = x.told;
     gone = x.gone;
     changed = x.changed;

@@ -38,7 +38,8 @@ use Rattle.jfs_unlink.specs.loss.specs.way.specs.declared.object.Held.{Held}
 use Rattle.jfs_unlink.proofs.Ended.{used_within}
 use Rattle.jfs_calls_logged.specs.Calls.{IsReady}
 use Rattle.jfs_calls_logged.specs.Found.{IsFound, IsNamed}
-use Rattle.jfs_calls_logged.specs.logged.specs.Logged.{LeavesPage, LogsWell}
+use Rattle.jfs_calls_logged.specs.logged.specs.Logged.{LeavesPage}
+use Rattle.jfs_calls_logged.specs.logged.specs.Own.{LogsPart}
 use Rattle.jfs_calls_logged.specs.logged.specs.Written.{WritesTree}
 use Rattle.jfs_calls_logged.specs.logged.proofs.Pages.{pages_law}
 use Rattle.jfs_calls_logged.specs.logged.proofs.Staged.{runs_law}
@@ -226,7 +227,7 @@ module _ (blocks : ℕ) (pages : ℕ → List ℕ) (area : ℕ → ℕ) (bm : Bl
     extents = refl;
     area = refl;
     in_use = λ k. refl;
-    pages = λ q. ap (λ (tx : List Edit). put_tx blocks tx pages q) lost_is ∙ put_after blocks pages x.ready.are_pages first (tree ++ inode) q (x.leaves q);
+    pages = λ q was now. ap (λ (tx : List Edit). put_tx blocks tx pages q) lost_is ∙ put_after blocks pages x.ready.are_pages first (tree ++ inode) q (used_within blocks pages area bm inodes x.ready.consistent x.many q was) (x.leaves q);
     runs = runs_law dir.page kinds.Inode (put_tx blocks loses.mid pages dir.page) (put_tx blocks lost pages dir.page) 0 inode loses.lines.2;
     told = [];
     gone = loses.tells.0;
@@ -244,7 +245,7 @@ module _ (blocks : ℕ) (pages : ℕ → List ℕ) (area : ℕ → ℕ) (bm : Bl
   pub one_writes : WritesTree r v v1 n tree inode
   one_writes = turn_writes blocks v v1 n tree inode x.ready.consistent.sound (used_within blocks pages area bm inodes x.ready.consistent x.many) loses_turns
 
-  pub one_logged : LogsWell r v v1 (tree ++ inode)
+  pub one_logged : LogsPart r v v1 (tree ++ inode)
   one_logged = trees_law.writes r v v1 n tree inode x.ready.consistent.sound one_writes
 
   pub one_changes : ChangesOne r v v1 n (Some (spelled r (put_tx blocks loses.mid pages) set))

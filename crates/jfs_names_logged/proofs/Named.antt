@@ -1,6 +1,5 @@
 -- A name goes, and then its object has one link less, or goes: what both steps log together.
-use Rattle.std.proofs.Common.{◌≡◌, ◌≢◌, ◌⊎◌, ◌<◌, ◌≤◌, ◌+◌, ◌-◌, ◌==◌, ◌||◌, not, nat_lt, ℕ, Bool, true, false, List, [], ◌++◌, append_assoc, Some, refl, sym, ap, ◌∙◌, subst, inl, inr, arith}
-use Rattle.std.proofs.lemmas.Bool.{cases_lt}
+use Rattle.std.proofs.Common.{◌≡◌, ◌≢◌, ◌⊎◌, ◌<◌, ◌≤◌, ◌+◌, ◌-◌, ◌==◌, ◌||◌, not, nat_lt, ℕ, Bool, true, false, List, [], ◌++◌, append_assoc, length, Some, refl, sym, ap, ◌∙◌, subst, inl, inr, arith}
 use Rattle.std.proofs.lemmas.Bool.Decides.{nat_tests}
 use Rattle.jfs_bits.specs.declared.descriptor.Moment.{Moment}
 use Rattle.jfs_bits.specs.declared.rule.PageKind.TheVariants as kinds
@@ -8,7 +7,7 @@ use Rattle.jfs_imap.specs.Inodes.{Inodes}
 use Rattle.jfs_inode.specs.declared.fields.Dinode.{Dinode}
 use Rattle.jfs_ranges.specs.declared.edit.Edit.{Edit}
 use Rattle.jfs_ranges.specs.Apply.{apply_tx}
-use Rattle.jfs_ranges.specs.Laid.{put_tx}
+use Rattle.jfs_ranges.specs.Laid.{put_tx, applied_length}
 use Rattle.jfs_ranges.proofs.OnTop.{applied_onto}
 use Rattle.jfs_tree.specs.Edit.{count_in}
 use Rattle.jfs_unlink.specs.loss.specs.Inodes.{fallen, gone}
@@ -31,18 +30,19 @@ use Rattle.jfs_unlink.specs.loss.specs.steps.specs.After.{after_call, used_after
 use Rattle.jfs_unlink.specs.loss.specs.steps.specs.Laws.{TakesAndFrees, IsFair}
 use Rattle.jfs_unlink.specs.loss.specs.steps.specs.Put.{AddsInode, TellsLines}
 use Rattle.jfs_unlink.specs.loss.specs.steps.proofs.After.{after_is, counts, same_bits}
+use Rattle.jfs_unlink.specs.loss.specs.steps.proofs.Puts.{put_within}
 use Rattle.jfs_unlink.specs.loss.specs.steps.proofs.Sets.{lines_on_top}
 use Rattle.jfs_unlink.specs.loss.specs.way.specs.Volume.{volume_of}
+use Rattle.jfs_unlink.proofs.Ended.{used_within}
 use Rattle.jfs_calls_logged.specs.Found.{IsFound}
-use Rattle.jfs_calls_logged.proofs.Modes.{none_put, put_each}
-use Rattle.jfs_calls_logged.specs.logged.specs.recovery.specs.crash_core.proofs.Bytes.{length-apply_tx}
 use Rattle.jfs_calls_logged.specs.logged.specs.recovery.specs.records.specs.Redo.{closes_in}
 use Rattle.jfs_calls_logged.specs.logged.specs.recovery.specs.kinds.specs.Owner.{owner_of, has_page}
 use Rattle.jfs_calls_logged.specs.logged.specs.recovery.specs.kinds.specs.Owner.Owner.{Inodes as OfInodes, Tree as OfTree}
 use Rattle.jfs_calls_logged.specs.logged.specs.recovery.specs.kinds.proofs.Logged.{logged_law}
 use Rattle.jfs_calls_logged.specs.logged.specs.recovery.specs.kinds.proofs.Parts.{parts}
 use Rattle.jfs_calls_logged.specs.logged.specs.recovery.specs.kinds.proofs.Single.{has_owners}
-use Rattle.jfs_calls_logged.specs.logged.specs.Logged.{LeavesPage, LogsWell}
+use Rattle.jfs_calls_logged.specs.logged.specs.Logged.{LeavesPage}
+use Rattle.jfs_calls_logged.specs.logged.specs.Own.{LogsItsOwn, LogsPart}
 use Rattle.jfs_calls_logged.specs.logged.specs.Kinds.{HasTrees}
 use Rattle.jfs_calls_logged.specs.logged.proofs.Edited.{inode_law}
 use Rattle.jfs_calls_logged.specs.logged.proofs.Joined.{join_law}
@@ -165,8 +165,14 @@ module _ (blocks : ℕ) (pages : ℕ → List ℕ) (area : ℕ → ℕ) (bm : Bl
   puts_m : PutsInode v1.page (put_tx blocks tx pages) v1.extents m y.after
   puts_m = y.puts v.extents y.found.home_is
 
-  pages_on : (q : ℕ) → put_tx blocks tx pages q ≡ apply_tx q last (v1.page q)
-  pages_on q = ap (λ (e : List Edit). put_tx blocks e pages q) y.lines.1 ∙ put_onto blocks pages x.ready.are_pages x.lost last q
+  pages_on : (q : ℕ) → q < blocks → put_tx blocks tx pages q ≡ apply_tx q last (v1.page q)
+  pages_on q l = ap (λ (e : List Edit). put_tx blocks e pages q) y.lines.1 ∙ put_onto blocks pages x.lost last q l
+
+  within : (q : ℕ) → v.used q ≡ true → q < blocks
+  within = used_within blocks pages area bm inodes x.ready.consistent x.many
+
+  below : (q : ℕ) → v1.used q ≡ true → q < blocks
+  below q used = within q (is_true (v1.used q) (v.used q) (let o = used_one q in omega (arith, o)) used)
 
   is_after : (w : Volume) → w.page ≡ put_tx blocks tx pages → w.extents ≡ v.extents → w.area ≡ v.area → ((b : ℕ) → w.used b ≡ used_after tx v.used b) → IsSound r w → w ≡ after_call blocks tx v
   is_after w page extents area used s = after_is blocks tx v w (record {
@@ -196,23 +202,23 @@ module _ (blocks : ℕ) (pages : ℕ → List ℕ) (area : ℕ → ℕ) (bm : Bl
     unfolding spelled
     trees = record { names = refl; extents = refl; regular = refl }
 
-    last_logged : LogsWell r v1 w last
+    last_logged : LogsPart r v1 w last
     last_logged = inode_law r v1 w m x.next.page md (fallen md now) (put_tx blocks x.lost pages x.next.page) (put_tx blocks tx pages x.next.page) last one.sound (record {
       at = y.found.home_is;
       was = was_now;
       sets = two;
       trees = trees;
-      pages = pages_on;
+      pages = λ q was now. pages_on q (below q was);
       runs = y.lines.2;
     })
 
     used_now : (b : ℕ) → w.used b ≡ used_after tx v.used b
     used_now b = same_bits (v1.used b) (used_after tx v.used b) (let o = used_one b in let c = counted b in let z = ap (count_in b) nothing in omega (arith, o, c, z))
 
-    pub fallen_logged : LogsWell r v (after_call blocks tx v) tx
-    fallen_logged = subst (λ (u : Volume). LogsWell r v u tx) (is_after w refl refl refl used_now (object_is_set r v1 w m (fallen md now) v1.page [] [] one.sound two).0.sound)
-        (subst (λ (e : List Edit). LogsWell r v w e) (sym (tx_is ∙ ap (λ (e : List Edit). e ++ (own ++ last)) none))
-        (join_law r v v1 w own last (loss.one_logged blocks pages area bm inodes x) last_logged (λ b was now. now)))
+    pub fallen_logged : LogsItsOwn r v (after_call blocks tx v) tx
+    fallen_logged = subst (λ (u : Volume). LogsItsOwn r v u tx) (is_after w refl refl refl used_now (object_is_set r v1 w m (fallen md now) v1.page [] [] one.sound two).0.sound)
+        (subst (λ (e : List Edit). LogsItsOwn r v w e) (sym (tx_is ∙ ap (λ (e : List Edit). e ++ (own ++ last)) none))
+        (join_law.all r v v1 w own last (loss.one_logged blocks pages area bm inodes x) last_logged (λ b was now. now)))
 
   -- ---- it goes
 
@@ -241,15 +247,8 @@ module _ (blocks : ℕ) (pages : ℕ → List ℕ) (area : ℕ → ℕ) (bm : Bl
     has_same q = ap (λ o. has_page r o q) same_m
 
     -- what frees the object leaves the pages that the first step left
-    stays : (q : ℕ) → apply_tx q first (v1.page q) ≡ v1.page q
-    stays q = ap (apply_tx q first) (one_page q) ∙ sym (applied_onto q own first (pages q)) ∙ by (cases_lt q blocks) ∙ sym (one_page q)
-      where
-        one_page : (q : ℕ) → v1.page q ≡ apply_tx q own (pages q)
-        one_page q = (loss.one_logged blocks pages area bm inodes x).pages q
-
-        by : (q < blocks) ⊎ (blocks ≤ q) → apply_tx q (own ++ first) (pages q) ≡ apply_tx q own (pages q)
-        by (inl l) = applied_onto q own first (pages q) ∙ frees_tree.leaves q (apply_tx q own (pages q)) (length-apply_tx q own (pages q) ∙ x.ready.are_pages.sizes q l)
-        by (inr l) = ap (apply_tx q (own ++ first)) (x.ready.are_pages.none q l) ∙ none_put q (own ++ first) ∙ sym (ap (apply_tx q own) (x.ready.are_pages.none q l) ∙ none_put q own)
+    stays : (q : ℕ) → q < blocks → apply_tx q first (v1.page q) ≡ v1.page q
+    stays q l = frees_tree.leaves q (v1.page q) (ap (λ (p : List ℕ). length p) (put_within blocks x.lost pages q l) ∙ applied_length q x.lost (pages q) ∙ x.ready.are_pages.sizes q l)
 
     drops_tree : DropsTree r v1 u m first last
     drops_tree = record {
@@ -258,7 +257,7 @@ module _ (blocks : ℕ) (pages : ℕ → List ℕ) (area : ℕ → ℕ) (bm : Bl
       freed = x.before;
       at = y.found.home_is;
       drops = drops;
-      pages = λ q. pages_on q ∙ ap (apply_tx q last) (sym (stays q)) ∙ sym (applied_onto q first last (v1.page q));
+      pages = λ q was now. pages_on q (below q was) ∙ ap (apply_tx q last) (sym (stays q (below q was))) ∙ sym (applied_onto q first last (v1.page q));
       runs = runs;
       go = λ q some. frees_tree.go q (let h = has_same q in omega (arith, h, some));
       stay = λ q zero. frees_tree.stay q (let h = has_same q in omega (arith, h, zero));
@@ -268,8 +267,8 @@ module _ (blocks : ℕ) (pages : ℕ → List ℕ) (area : ℕ → ℕ) (bm : Bl
     taken_none : (b : ℕ) → v.used b ≡ true → u.used b ≡ true → v1.used b ≡ true
     taken_none b was now = is_true (u.used b) (v1.used b) (let c = counted b in let o = used_one b in omega (arith, c, o)) now
 
-    in_turn : LogsWell r v u (own ++ (first ++ last))
-    in_turn = join_law r v v1 u own (first ++ last) (loss.one_logged blocks pages area bm inodes x) (trees_law.drops r v1 u m first last one.sound drops_tree) taken_none
+    in_turn : LogsPart r v u (own ++ (first ++ last))
+    in_turn = join_law.parts r v v1 u own (first ++ last) (loss.one_logged blocks pages area bm inodes x) (trees_law.drops r v1 u m first last one.sound drops_tree) taken_none (λ b free there. absurd (let o = used_one b in let f = ap bit free in let t = ap bit there in omega (arith, o, f, t)))
 
     -- the directory's part leaves the object's tree pages
     apart : (q : ℕ) → closes_in q first ≡ true → (closes_in q own ≡ false) × LeavesPage q own
@@ -296,7 +295,7 @@ module _ (blocks : ℕ) (pages : ℕ → List ℕ) (area : ℕ → ℕ) (bm : Bl
             not_gone : count_in q writes.gone ≡ 0
             not_gone = elim (zero_or_more (count_in q writes.gone)) [
               | inl z ↦ z
-              | inr k ↦ absurd (let f = ap bit (writes.gone_are q k) in let o = used_one q in let u = ap bit (once.in_use m q (let p = parts r (objects r v m) q in omega (arith, p, l))) in omega (arith, f, o, u, none_freed))
+              | inr k ↦ absurd (let f = ap bit (writes.gone_are q k).0 in let o = used_one q in let u = ap bit (once.in_use m q (let p = parts r (objects r v m) q in omega (arith, p, l))) in omega (arith, f, o, u, none_freed))
             ]
 
             -- a page of another object isn't taken
@@ -319,9 +318,9 @@ module _ (blocks : ℕ) (pages : ℕ → List ℕ) (area : ℕ → ℕ) (bm : Bl
         by (inl z) = absurd (no (sym some ∙ frees_tree.stay q z))
         by (inr l) = ours l
 
-    pages_are : (q : ℕ) → u.page q ≡ apply_tx q (first ++ (own ++ last)) (pages q)
-    pages_are q = put_each blocks pages x.ready.are_pages tx q ∙ ap (λ (e : List Edit). apply_tx q e (pages q)) tx_is
+    pages_are : (q : ℕ) → v.used q ≡ true → u.used q ≡ true → u.page q ≡ apply_tx q (first ++ (own ++ last)) (pages q)
+    pages_are q was now = put_within blocks tx pages q (within q was) ∙ ap (λ (e : List Edit). apply_tx q e (pages q)) tx_is
 
-    pub gone_logged : LogsWell r v (after_call blocks tx v) tx
-    gone_logged = subst (λ (w : Volume). LogsWell r v w tx) (is_after u refl refl refl (λ b. refl) (object_goes r v1 u m y.after x.before one.sound drops).sound)
-        (subst (λ (e : List Edit). LogsWell r v u e) (sym tx_is) (order_law r v u own first last pages_are frees_tree.leaves apart in_turn))
+    pub gone_logged : LogsItsOwn r v (after_call blocks tx v) tx
+    gone_logged = subst (λ (w : Volume). LogsItsOwn r v w tx) (is_after u refl refl refl (λ b. refl) (object_goes r v1 u m y.after x.before one.sound drops).sound)
+        (subst (λ (e : List Edit). LogsItsOwn r v u e) (sym tx_is) (order_law r v u own first last pages_are frees_tree.leaves apart in_turn).own)

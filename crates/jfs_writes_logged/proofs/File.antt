@@ -1,5 +1,5 @@
 -- A regular file whose tree gets extents by edits that take blocks, and whose data is put before: what the transaction logs.
-use Rattle.std.proofs.Common.{◌≡◌, ◌⊎◌, ◌<◌, ◌≤◌, ◌+◌, ℕ, true, false, List, [], ◌++◌, length, Option, Some, Ok, refl, sym, ap, ◌∙◌, subst, inl, inr, arith}
+use Rattle.std.proofs.Common.{◌≡◌, ◌⊎◌, ◌<◌, ◌≤◌, ◌+◌, ℕ, Bool, true, false, List, [], ◌++◌, length, Option, Some, Ok, refl, sym, ap, ◌∙◌, subst, inl, inr, arith}
 use Rattle.std.proofs.lemmas.Bool.{cases_Bool, cases_lt}
 use Rattle.jfs_bits.specs.declared.descriptor.Moment.{Moment}
 use Rattle.jfs_bits.specs.declared.extent.Xad.{Xad}
@@ -20,10 +20,11 @@ use Rattle.jfs_write_pages.specs.data_steps.specs.File.{resized}
 use Rattle.jfs_write_pages.specs.data_steps.specs.Laws.{MayPut, SetsFile, PutsAlone, IsSetWithData}
 use Rattle.jfs_write_pages.specs.data_steps.specs.declared.pages.DataPage.{DataPage}
 use Rattle.jfs_write_pages.specs.data_steps.proofs.Extents.{had, had_once, data_was, data_now, extents_set, file_sets}
-use Rattle.jfs_write_pages.specs.data_steps.proofs.Putting.{put_off, put_whole}
+use Rattle.jfs_write_pages.specs.data_steps.proofs.Putting.{put_off}
 use Rattle.jfs_write_pages.specs.data_steps.proofs.Setting.{set_law}
 use Rattle.jfs_write_pages.specs.data_steps.specs.kinds.specs.Laws.{KeepsKinds, HasSameOwners}
-use Rattle.jfs_write_pages.specs.data_steps.specs.kinds.specs.Owner.{has_page, has_data}
+use Rattle.jfs_write_pages.specs.data_steps.specs.kinds.specs.Owner.{has_page, has_data, has_still}
+use Rattle.jfs_write_pages.specs.data_steps.specs.kinds.proofs.Parts.{parts}
 use Rattle.jfs_write_pages.specs.data_steps.specs.kinds.proofs.Stay.{same_owners}
 use Rattle.jfs_write_pages.specs.data_steps.specs.lead_steps.proofs.Named.{all_below}
 use Rattle.jfs_write_pages.specs.data_steps.specs.meaning.specs.Contents.{is_regular}
@@ -44,12 +45,12 @@ use Rattle.jfs_write_pages.specs.objects.specs.Changes.{PutsInode, SetsObject}
 use Rattle.jfs_write_pages.specs.objects.proofs.Owned.{owned_once}
 use Rattle.jfs_write_pages.specs.objects.proofs.Set.{object_is_set}
 use Rattle.jfs_write_pages.specs.objects.proofs.Sums.{put_here, zero_or_more}
-use Rattle.jfs_contents_logged.specs.calls_logged.specs.Calls.{ArePages, IsReady}
+use Rattle.jfs_contents_logged.specs.calls_logged.specs.Calls.{IsReady}
 use Rattle.jfs_contents_logged.specs.calls_logged.specs.Found.{IsFound}
-use Rattle.jfs_contents_logged.specs.calls_logged.proofs.Modes.{put_each}
-use Rattle.jfs_contents_logged.specs.calls_logged.specs.logged.specs.Logged.{logged_in, LogsWell}
+use Rattle.jfs_contents_logged.specs.calls_logged.specs.logged.specs.Logged.{logged_in}
+use Rattle.jfs_contents_logged.specs.calls_logged.specs.logged.specs.Own.{LogsItsOwn}
 use Rattle.jfs_contents_logged.specs.calls_logged.specs.logged.specs.Trees.{TellsPages}
-use Rattle.jfs_contents_logged.specs.calls_logged.specs.logged.proofs.Joined.{never}
+use Rattle.jfs_contents_logged.specs.calls_logged.specs.logged.proofs.Joined.{never, is_in_use}
 use Rattle.jfs_contents_logged.specs.calls_logged.specs.logged.proofs.Staged.{runs_law}
 use Rattle.jfs_contents_logged.specs.calls_logged.specs.logged.proofs.Written.{not_page, trees_law}
 use Rattle.jfs_contents_logged.proofs.WithData.{logged_after_data}
@@ -210,13 +211,36 @@ module _ (blocks : ℕ) (pages : ℕ → List ℕ) (area : ℕ → ℕ) (bm : Bl
         let c = x.covers_are b in let t = x.taken_is b in let f = none_taken b was in omega (arith, p, y, z, s, e, c, t, f));
   }
 
+  -- its attributes are those that it had
+  none_still : (b : ℕ) → v.used b ≡ false → has_still r (Some (spelled r mid set)) b ≡ 0
+  none_still b free =
+      let p = parts r (Some (spelled r mid set)) b in
+      let s = beside_pages r (spelled r mid set) b in
+      let f = file_data_is r mid set b x.regular in
+      let a = same_attributes r mid pages d x.root x.size x.own x.now b in
+      let h = beside_pages r (spelled r pages d) b in
+      let o = ap (λ (o : Option Object). holds r o b) x.found.was in
+      let n = none_before b free in
+      omega (arith, p, s, f, a, h, o, n)
+
+  -- all blocks in use then lie within the file system part
+  within_then : (b : ℕ) → w.used b ≡ true → b < blocks
+  within_then b used = elim (zero_or_more (count_in b x.taken)) [
+    | inr l ↦ x.below b l
+    | inl z ↦ x.within b (was_used (v.used b) (let e = ap bit used in let u = sets.takes.used b in omega (arith, e, u, z)))
+  ]
+    where
+      was_used : (s : Bool) → 0 < bit s → s ≡ true
+      was_used true h = refl
+      was_used false h = absurd (omega (arith, h))
+
   -- ---- the transaction alone
 
   tx_is : x.tx ≡ x.edits ++ x.lines.0
   tx_is = x.lines.1
 
-  grown_logged : LogsWell r v w x.tx
-  grown_logged = subst (LogsWell r v w) (sym tx_is) (trees_law.writes r v w n x.edits x.lines.0 x.ready.consistent.sound (record {
+  grown_logged : LogsItsOwn r v w x.tx
+  grown_logged = subst (LogsItsOwn r v w) (sym tx_is) ((trees_law.writes r v w n x.edits x.lines.0 x.ready.consistent.sound (record {
     page = x.at.page;
     set = set;
     mid = mid;
@@ -225,8 +249,9 @@ module _ (blocks : ℕ) (pages : ℕ → List ℕ) (area : ℕ → ℕ) (bm : Bl
     at = x.found.home_is;
     sets = sets;
     kinds = kinds_kept;
-    pages = λ q. put_each blocks pages x.ready.are_pages x.tx q ∙ ap (λ (e : List Edit). apply_tx q e (pages q)) tx_is;
+    pages = λ q was now. put_within blocks x.tx pages q (x.within q was) ∙ ap (λ (e : List Edit). apply_tx q e (pages q)) tx_is;
     runs = runs_law x.at.page kinds.Inode (put_tx blocks x.edits pages x.at.page) (put_tx blocks x.tx pages x.at.page) 0 x.lines.0 x.lines.2;
+    none_still = none_still;
     told = x.pages_took;
     gone = [];
     changed = x.changed;
@@ -241,14 +266,14 @@ module _ (blocks : ℕ) (pages : ℕ → List ℕ) (area : ℕ → ℕ) (bm : Bl
       | inl l ↦ (let p = pages_then q in let o = x.owned q in let t : count_in q x.pages_took ≡ 0 = omega (arith, p, o, none) in
           inr (x.told_alone q t, x.new_is q l ∙ x.keeps q l (omega (arith, p, o, none)) t))
     ];
-  }))
+  })).own)
     where
       mid_is : (q : ℕ) → q < blocks → mid q ≡ after_tx pages x.edits q
       mid_is q l = put_within blocks x.edits pages q l
 
   -- ---- with the data
 
-  module _ (ds : List DataPage) (full : AreWholePages ds) (before : MayPut r v n ds) (put_is : (b : ℕ) → is_put b ds ≡ true → 0 < covers b x.later_es) (inside : (b : ℕ) → 0 < covers b x.later_es → b < blocks)
+  module _ (ds : List DataPage) (full : AreWholePages ds) (before : MayPut r v n ds) (put_is : (b : ℕ) → is_put b ds ≡ true → 0 < covers b x.later_es)
       (untold : (b : ℕ) → 0 < covers b x.later_es → LeavesPage b x.tx) (no_page : (b : ℕ) → 0 < covers b x.later_es → (owned_pages blocks pages (root_of d) b ≡ 0) × (count_in b x.pages_took ≡ 0)) where
     abbrev y : Volume
     y = after_writes blocks ds x.tx v
@@ -266,25 +291,13 @@ module _ (blocks : ℕ) (pages : ℕ → List ℕ) (area : ℕ → ℕ) (bm : Bl
     owners_then : HasSameOwners r w y
     owners_then = same_owners r w y (record { extents = x.moves.extents_stay v.extents; area = λ b. refl }) same_objects
 
-    -- pages with the data are whole
-    are_pages : ArePages blocks (put_data ds pages)
-    are_pages = record {
-      sizes = λ b l. by_put b l (cases_Bool (is_put b ds));
-      none = λ b l. past b l (cases_Bool (is_put b ds));
-    }
-      where
-        by_put : (b : ℕ) → b < blocks → (is_put b ds ≡ true) ⊎ (is_put b ds ≡ false) → length (put_data ds pages b) ≡ 4096
-        by_put b l (inl e) = put_whole ds b (pages b) full e
-        by_put b l (inr e) = ap (λ (p : List ℕ). length p) (put_off ds b (pages b) e) ∙ whole b l
-
-        past : (b : ℕ) → blocks ≤ b → (is_put b ds ≡ true) ⊎ (is_put b ds ≡ false) → put_data ds pages b ≡ []
-        past b l (inl e) = absurd (let k = inside b (put_is b e) in omega (arith, k, l))
-        past b l (inr e) = put_off ds b (pages b) e ∙ x.ready.are_pages.none b l
-
     -- what is put isn't kept safe, and the others have the bytes that they have without
     same_pages : (p : ℕ) → logged_in r w p ≡ true → y.page p ≡ w.page p
     same_pages p kept_safe = by (cases_Bool (is_put p ds))
       where
+        l : p < blocks
+        l = within_then p (is_in_use r w one.sound.agrees p kept_safe)
+
         now_is : objects r w n ≡ Some (spelled r mid set)
         now_is = one.objects_are n ∙ put_here n (Some (spelled r mid set)) (objects r v)
 
@@ -294,7 +307,7 @@ module _ (blocks : ℕ) (pages : ℕ → List ℕ) (area : ℕ → ℕ) (bm : Bl
 
         by : (is_put p ds ≡ true) ⊎ (is_put p ds ≡ false) → y.page p ≡ w.page p
         by (inl e) = never (logged_in r w p) kept_safe (is_data_then e)
-        by (inr e) = put_each blocks (put_data ds pages) are_pages x.tx p ∙ ap (apply_tx p x.tx) (put_off ds p (pages p) e) ∙ sym (put_each blocks pages x.ready.are_pages x.tx p)
+        by (inr e) = put_within blocks x.tx (put_data ds pages) p l ∙ ap (apply_tx p x.tx) (put_off ds p (pages p) e) ∙ sym (put_within blocks x.tx pages p l)
 
-    pub file_logged : LogsWell r (with_data ds v) y x.tx
-    file_logged = logged_after_data r v w (with_data ds v) y x.tx both.0.owners owners_then (λ b. refl) (λ b. refl) (λ p. put_each blocks (put_data ds pages) are_pages x.tx p) same_pages grown_logged
+    pub file_logged : LogsItsOwn r (with_data ds v) y x.tx
+    file_logged = logged_after_data r v w (with_data ds v) y x.tx both.0.owners owners_then (λ b. refl) (λ b. refl) both.0.none.sound.agrees both.1.one.sound.agrees (λ b. refl) (λ b. refl) (λ p was now. put_within blocks x.tx (put_data ds pages) p (x.within p was)) same_pages grown_logged

@@ -411,4 +411,4 @@ module _ (blocks : ℕ) (pages : ℕ → List ℕ) (area : ℕ → ℕ) (bm : Bl
 
     pub written_logged : IsLoggedAfter blocks pages area bm inodes out.blocks out.tx
     unfolding grows
-    written_logged = file_logged blocks pages area bm inodes grows ds full before put_is inside untold no_page
+    written_logged = file_logged blocks pages area bm inodes grows ds full before put_is untold no_page

@@ -3,11 +3,9 @@ use Rattle.std.specs.Prelude.{◌≡◌, ◌<◌, ◌≤◌, ℕ, List, length}
 use Rattle.jfs_bits.specs.declared.descriptor.Moment.{Moment}
 use Rattle.jfs_bmap.specs.States.{Blocks}
 use Rattle.jfs_imap.specs.Inodes.{Inodes}
-use Rattle.jfs_ranges.specs.declared.edit.Edit.{Edit}
 use Rattle.jfs_write.specs.Call.{IsWritten}
 use Rattle.jfs_write.specs.declared.make.Written.{Written}
 use Rattle.jfs_write_pages.specs.data_steps.specs.After.{AreWholePages}
-use Rattle.jfs_write_pages.specs.data_steps.specs.declared.pages.DataPage.{DataPage}
 use Rattle.jfs_contents_logged.specs.Calls.{IsLoggedAfter}
 use Rattle.jfs_contents_logged.specs.calls_logged.specs.Calls.{IsReady}
 
