@@ -30,7 +30,7 @@ use Rattle.jfs_recovery.proofs.EditByEdit.{edit_by_edit}
 use Rattle.jfs_recovery.proofs.Parts.{fixed_image, fixed_low}
 use Rattle.jfs_recovery.proofs.Redo.{Facts, facts, known_cells, recovers_page, size_left}
 use Rattle.jfs_face.specs.Places.{Places, AreInAreas, is_map_page, is_fixed_page}
-use Rattle.jfs_face.specs.Items.{places, place_of}
+use Rattle.jfs_face.specs.Items.{places, place_of, no_extent}
 use Rattle.jfs_face.proofs.Whole.{is_face, reads_edits}
 use Rattle.jfs_face.proofs.Mounted.{seen_as_it_is}
 use Rattle.jfs_redo.specs.redo_steps.specs.Pages.{redone_page}
@@ -288,7 +288,7 @@ module _ (s : Super) (numag : ℕ) (pl : Places) (changes : Pages → List Edit 
       let i : Item = ExtentPlace e in
       let p : ℕ = f.home i in
       let low_e : nat_lt e (places pl) ≡ true = lt-ltb e (places pl) under in
-      let at : p ≡ pl.inode_map (suc (e / 128)) = cond-true (nat_lt e (places pl)) (pl.inode_map (suc (e / 128))) (pl.inode_map 0) low_e in
+      let at : p ≡ pl.inode_map (suc (e / 128)) = cond-true (nat_lt e (places pl)) (pl.inode_map (suc (e / 128))) (no_extent pl) low_e in
       let cells = known_cells f core sound left crashed.pages c known.early known.told p (λ k a b. laws.area (image core k) p (laws.at_home i)) in
       let cell = cells.each (f.cell i) (laws.in_page i) (inr (i, refl, refl)) in
       let within : cell.0 ≤ count core = omega (arith, cell.2, known.later, known.within) in

@@ -14,7 +14,7 @@ use Rattle.jfs_steps.specs.objects.proofs.Blocks.{covered}
 use Rattle.jfs_recovery.specs.kinds.proofs.Stay.{same_owners}
 use Rattle.jfs_recovery.specs.Face.Item.{ExtentPlace}
 use Rattle.jfs_face.specs.Places.{AreInAreas}
-use Rattle.jfs_face.specs.Items.{home as home_of, places, extent_by}
+use Rattle.jfs_face.specs.Items.{home as home_of, places, extent_by, no_extent}
 use Rattle.jfs_face.specs.Volume.{items_on, volume_with}
 use Rattle.jfs_face.specs.Mounted.{places_on, HasMapPages, MountedLaw}
 
@@ -54,7 +54,7 @@ extent_is : (r : Readers) (blocks agsize numag : ℕ) (table map : Pxd) (page : 
 extent_is r blocks agsize numag table map page has e within =
     let pl = places_on r blocks agsize numag table map page in
     let low = lt-ltb e (places pl) within in
-    let at : home_of pl (ExtentPlace e) ≡ pl.inode_map (suc (e / 128)) = cond-true (nat_lt e (places pl)) (pl.inode_map (suc (e / 128))) (pl.inode_map 0) low in
+    let at : home_of pl (ExtentPlace e) ≡ pl.inode_map (suc (e / 128)) = cond-true (nat_lt e (places pl)) (pl.inode_map (suc (e / 128))) (no_extent pl) low in
     let bytes : page (home_of pl (ExtentPlace e)) ≡ iag_page r page (e / 128) = ap page at ∙ file_page_is r page 16 (suc (e / 128)) (has.inode_map (suc (e / 128)) (omega (arith, within))) in
     ap extent_place
     (cond-true (nat_lt e (places pl)) (pxd_of (page (home_of pl (ExtentPlace e))) (3072 + 8 * (e % 128))) no_run low

@@ -12,12 +12,12 @@ use Rattle.jfs_recovery.specs.Face.{Item, Value, Pages}
 use Rattle.jfs_recovery.specs.Face.Item.{BlockBit, ExtentPlace}
 use Rattle.jfs_recovery.specs.Face.Value.{InUse, At}
 use Rattle.jfs_face.specs.Places.{Places, is_block_page, is_inode_page, is_map_page}
-use Rattle.jfs_face.specs.Items.{home, read, places, used_by, extent_by}
+use Rattle.jfs_face.specs.Items.{home, read, places, used_by, extent_by, no_block, no_extent}
 use Rattle.jfs_face.specs.MapPages.{IsCanonicalPage, IsInodeMapPage, taken_by, inode_used_by}
 
 -- ---- where items stand
 
-dmap_in_use : (blocks b : ℕ) → b < blocks → is_in_use blocks (suc (suc (suc (suc (b / 8192))))) ≡ true
+pub dmap_in_use : (blocks b : ℕ) → b < blocks → is_in_use blocks (suc (suc (suc (suc (b / 8192))))) ≡ true
 dmap_in_use blocks b h =
     let k = suc (suc (suc (suc (b / 8192)))) in
     or_right (k == 0) (nat_le 3 k && nat_lt k (pages_of blocks)) (and_from (nat_le 3 k) (nat_lt k (pages_of blocks)) (le-leb 3 k (omega arith)) (lt-ltb k (pages_of blocks) (omega arith)))
@@ -36,6 +36,22 @@ inode_page pl k low =
     let p = pl.inode_map k in
     or_right (is_block_page pl p) (is_inode_page pl p) (any_below-from (suc pl.iags) (λ j. pl.inode_map j == p) k (omega arith) (eq-eqb p p refl))
 
+no_block_there : (pl : Places) → is_map_page pl (no_block pl) ≡ true
+no_block_there pl = at (cases_Bool (nat_lt 0 pl.blocks))
+  where
+    at : (nat_lt 0 pl.blocks ≡ true) ⊎ (nat_lt 0 pl.blocks ≡ false) → is_map_page pl (no_block pl) ≡ true
+    at (inl e) =
+        let some = ltb-true 0 pl.blocks e in
+        ap (is_map_page pl) (cond-true (nat_lt 0 pl.blocks) (pl.block_map 4) (pl.block_map 0) e) ∙ block_page pl 4 (omega (arith, some)) (dmap_in_use pl.blocks 0 some)
+    at (inr e) = ap (is_map_page pl) (cond-false (nat_lt 0 pl.blocks) (pl.block_map 4) (pl.block_map 0) e) ∙ block_page pl 0 (omega arith) (control_in_use pl.blocks)
+
+no_extent_there : (pl : Places) → is_map_page pl (no_extent pl) ≡ true
+no_extent_there pl = at (cases_Bool (nat_lt 0 (places pl)))
+  where
+    at : (nat_lt 0 (places pl) ≡ true) ⊎ (nat_lt 0 (places pl) ≡ false) → is_map_page pl (no_extent pl) ≡ true
+    at (inl e) = let some = ltb-true 0 (places pl) e in ap (is_map_page pl) (cond-true (nat_lt 0 (places pl)) (pl.inode_map 1) (pl.inode_map 0) e) ∙ inode_page pl 1 (omega (arith, some))
+    at (inr e) = ap (is_map_page pl) (cond-false (nat_lt 0 (places pl)) (pl.inode_map 1) (pl.inode_map 0) e) ∙ inode_page pl 0 (omega arith)
+
 pub at_home : (pl : Places) (i : Item) → is_map_page pl (home pl i) ≡ true
 at_home pl (BlockBit b) = at (cases_Bool (nat_lt b pl.blocks))
   where
@@ -45,16 +61,16 @@ at_home pl (BlockBit b) = at (cases_Bool (nat_lt b pl.blocks))
     at : (nat_lt b pl.blocks ≡ true) ⊎ (nat_lt b pl.blocks ≡ false) → is_map_page pl (home pl (BlockBit b)) ≡ true
     at (inl e) =
         let within = ltb-true b pl.blocks e in
-        ap (is_map_page pl) (cond-true (nat_lt b pl.blocks) there (pl.block_map 0) e)
+        ap (is_map_page pl) (cond-true (nat_lt b pl.blocks) there (no_block pl) e)
         ∙ block_page pl (suc (suc (suc (suc (b / 8192))))) (omega (arith, within)) (dmap_in_use pl.blocks b within)
-    at (inr e) = ap (is_map_page pl) (cond-false (nat_lt b pl.blocks) there (pl.block_map 0) e) ∙ block_page pl 0 (omega arith) (control_in_use pl.blocks)
+    at (inr e) = ap (is_map_page pl) (cond-false (nat_lt b pl.blocks) there (no_block pl) e) ∙ no_block_there pl
 at_home pl (ExtentPlace e) = at (cases_Bool (nat_lt e (places pl)))
   where
     at : (nat_lt e (places pl) ≡ true) ⊎ (nat_lt e (places pl) ≡ false) → is_map_page pl (home pl (ExtentPlace e)) ≡ true
     at (inl t) =
         let within = ltb-true e (places pl) t in
-        ap (is_map_page pl) (cond-true (nat_lt e (places pl)) (pl.inode_map (suc (e / 128))) (pl.inode_map 0) t) ∙ inode_page pl (suc (e / 128)) (omega (arith, within))
-    at (inr t) = ap (is_map_page pl) (cond-false (nat_lt e (places pl)) (pl.inode_map (suc (e / 128))) (pl.inode_map 0) t) ∙ inode_page pl 0 (omega arith)
+        ap (is_map_page pl) (cond-true (nat_lt e (places pl)) (pl.inode_map (suc (e / 128))) (no_extent pl) t) ∙ inode_page pl (suc (e / 128)) (omega (arith, within))
+    at (inr t) = ap (is_map_page pl) (cond-false (nat_lt e (places pl)) (pl.inode_map (suc (e / 128))) (no_extent pl) t) ∙ no_extent_there pl
 
 -- ---- what they say
 
@@ -63,7 +79,7 @@ block_said : (pl : Places) (s : Pages) (items : Item → Value) (b : ℕ) (page 
 block_said pl s items b page e m =
     let within = ltb-true b pl.blocks e in
     let k = b / 8192 in
-    let here : pl.block_map (suc (suc (suc (suc k)))) ≡ home pl (BlockBit b) = sym (cond-true (nat_lt b pl.blocks) (pl.block_map (suc (suc (suc (suc k))))) (pl.block_map 0) e) in
+    let here : pl.block_map (suc (suc (suc (suc k)))) ≡ home pl (BlockBit b) = sym (cond-true (nat_lt b pl.blocks) (pl.block_map (suc (suc (suc (suc k))))) (no_block pl) e) in
     let dmap : IsDmapPage pl.blocks (taken_by pl items) k page = m.block_map (suc (suc (suc (suc k)))) (dmap_in_use pl.blocks b within) here in
     let place : 8192 * k + b % 8192 ≡ b = omega arith in
     dmap.dmap.canonical.same (b % 8192)
@@ -76,7 +92,7 @@ extent_said : (pl : Places) (s : Pages) (items : Item → Value) (e : ℕ) (page
 extent_said pl s items e page t m =
     let within = ltb-true e (places pl) t in
     let k = e / 128 in
-    let here : pl.inode_map (suc k) ≡ home pl (ExtentPlace e) = sym (cond-true (nat_lt e (places pl)) (pl.inode_map (suc k)) (pl.inode_map 0) t) in
+    let here : pl.inode_map (suc k) ≡ home pl (ExtentPlace e) = sym (cond-true (nat_lt e (places pl)) (pl.inode_map (suc k)) (no_extent pl) t) in
     let iag : IsInodeMapPage pl (inode_used_by pl s items) (extent_by items) (suc k) page = m.inode_map (suc k) (omega (arith, within)) here in
     let is = iag.2 in
     let place : 128 * k + e % 128 ≡ e = omega arith in

@@ -39,10 +39,17 @@ pub record AreItems (pl : Places) (items : Item → Value) : Type 0 where
 
 -- ---- where they stand
 
--- the page of the volume; what isn't there is looked for on the control pages
+-- What isn't there is looked for where the first block and the first extent have their places; where there is none, on the control pages.
+abbrev pub no_block : Places → ℕ
+no_block pl = if nat_lt 0 pl.blocks then pl.block_map 4 else pl.block_map 0
+
+abbrev pub no_extent : Places → ℕ
+no_extent pl = if nat_lt 0 (places pl) then pl.inode_map 1 else pl.inode_map 0
+
+-- the page of the volume
 abbrev pub home : Places → Item → ℕ
-home pl (BlockBit b) = if nat_lt b pl.blocks then pl.block_map (suc (suc (suc (suc (b / 8192))))) else pl.block_map 0
-home pl (ExtentPlace e) = if nat_lt e (places pl) then pl.inode_map (suc (e / 128)) else pl.inode_map 0
+home pl (BlockBit b) = if nat_lt b pl.blocks then pl.block_map (suc (suc (suc (suc (b / 8192))))) else no_block pl
+home pl (ExtentPlace e) = if nat_lt e (places pl) then pl.inode_map (suc (e / 128)) else no_extent pl
 
 -- the cell of 16 bytes of that page
 abbrev pub cell : Item → ℕ

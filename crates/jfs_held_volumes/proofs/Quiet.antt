@@ -62,7 +62,7 @@ module _ (m : Mount) (x : Held) (held : IsHeld m x) where
   follows : (tx : List Edit) → tx ≡ [] → MayFollow r m.places v v tx
   follows tx none = subst (λ (es : List Edit). MayFollow r m.places v v es) (sym none) (record {
     after = record {
-      logs = record { owners = λ b was now. refl; pages = λ p. refl; logs = λ p. page_logged p _ (v.page p) };
+      logs = record { owners = λ b was now. refl; pages = λ p was now. refl; logs = λ p. page_logged p _ (v.page p) };
       area = λ b. refl;
       extents = refl;
     };

@@ -1,7 +1,7 @@
 -- One volume after another, and their images.
-use Rattle.std.proofs.Common.{◌≡◌, ◌⊎◌, ℕ, Bool, true, false, true≢false, List, [], ◌∷◌, length, not, nat_lt, refl, sym, ap, ◌∙◌, subst, inl, inr}
+use Rattle.std.proofs.Common.{◌≡◌, ◌⊎◌, ◌<◌, ℕ, Bool, true, false, true≢false, List, [], ◌∷◌, length, Option, not, nat_lt, refl, sym, ap, ◌∙◌, subst, inl, inr, arith}
 use Rattle.std.proofs.Math.Path.{fun_ext}
-use Rattle.std.proofs.lemmas.Bool.{and_parts}
+use Rattle.std.proofs.lemmas.Bool.{and_parts, ltb-true}
 use Rattle.jfs_bits.specs.declared.descriptor.Pxd.{Pxd}
 use Rattle.jfs_ranges.specs.declared.edit.Edit.{Edit}
 use Rattle.jfs_ranges.specs.Apply.{apply_tx}
@@ -9,13 +9,17 @@ use Rattle.jfs_steps.specs.After.{used_after}
 use Rattle.jfs_recovery.specs.objects.specs.Readers.{Readers}
 use Rattle.jfs_recovery.specs.objects.specs.Volume.{Volume}
 use Rattle.jfs_recovery.specs.objects.specs.Image.{volume_on}
+use Rattle.jfs_recovery.specs.objects.specs.Owners.{IsSound}
+use Rattle.jfs_recovery.specs.kinds.specs.Owner.{Owner, is_logged}
+use Rattle.jfs_recovery.specs.kinds.specs.Owner.Owner.{Area}
+use Rattle.jfs_recovery.specs.kinds.proofs.Single.{has_owners}
 use Rattle.jfs_recovery.specs.Face.{Pages, IsStep}
 use Rattle.jfs_recovery.specs.Lines.{rest_of}
 use Rattle.jfs_face.specs.Places.{Places, AreInAreas, is_map_page, is_fixed_page}
 use Rattle.jfs_face.specs.Recovered.{IsVolumeAt}
 use Rattle.jfs_face.specs.Volume.{volume_with, face_of}
 use Rattle.jfs_face.proofs.Mounted.{seen_as_it_is}
-use Rattle.jfs_logged.specs.Logged.{LogsPage}
+use Rattle.jfs_logged.specs.Logged.{LogsPage, logged_in}
 use Rattle.jfs_survival.specs.Entry.{ShowsLogged}
 use Rattle.jfs_canonical_maps.specs.Places.{HaveOwnPlaces}
 use Rattle.jfs_canonical_maps.specs.Images.{made_canonical, after_entry}
@@ -42,6 +46,10 @@ beside pl p fixed = by (is_map_page pl p) (and_parts (nat_lt 0 (pl.area p)) (not
     by false e = refl
     by true e = absurd (true≢false (sym e))
 
+-- the log keeps the fixed areas safe
+area_logged : (r : Readers) (v : Volume) → IsSound r v → (p : ℕ) → 0 < v.area p → logged_in r v p ≡ true
+area_logged r v sound p some = ap (λ (o : Option Owner). is_logged o) ((has_owners r v sound.agrees).alone p Area some)
+
 -- ---- one step
 
 pub next_by : (r : Readers) (blocks agsize numag : ℕ) (table map : Pxd) (pl : Places) (changes : Pages → List Edit → ℕ → Bool) (s t : Pages) (v w : Volume) (tx : List Edit) → IsImageOfVolume r blocks agsize numag table map pl s v → MayFollow r pl v w tx
@@ -49,7 +57,8 @@ pub next_by : (r : Readers) (blocks agsize numag : ℕ) (table map : Pxd) (pl : 
 next_by r blocks agsize numag table map pl changes s t v w tx image may follows bytes sizes =
     let is_at = image.is.stands in
     let shows = shows_law r pl changes s t tx v w (in_areas r blocks agsize numag table map pl s is_at) image.sizes image.shows follows may.after in
-    let fixed : (p : ℕ) → is_fixed_page pl p ≡ true → t p ≡ w.page p = λ p e. follows.pages p (beside pl p e) ∙ ap (apply_tx p tx) (image.fixed p e) ∙ sym (may.after.logs.pages p) in
+    let some_area : (p : ℕ) → is_fixed_page pl p ≡ true → 0 < v.area p = λ p e. (let some = ltb-true 0 (pl.area p) (and_parts (nat_lt 0 (pl.area p)) (not (is_map_page pl p)) e).0 in let same = image.shows.area p in omega (arith, some, same)) in
+    let fixed : (p : ℕ) → is_fixed_page pl p ≡ true → t p ≡ w.page p = λ p e. follows.pages p (beside pl p e) ∙ ap (apply_tx p tx) (image.fixed p e) ∙ sym (may.after.logs.pages p (area_logged r v image.sound p (some_area p e)) (area_logged r w may.sound p (let same = may.after.area p in let some = some_area p e in omega (arith, same, some)))) in
     let stay : FixedStay pl s t = λ p e. fixed p e ∙ may.fixed p e ∙ sym (image.fixed p e) in
     let used : (b : ℕ) → w.used b ≡ used_after tx (volume_on r blocks table map s).used b = λ b. may.used b ∙ ap (λ (u : ℕ → Bool). used_after tx u b) (fun_ext (λ c. sym (image.is.same.used c))) in
     record {
@@ -83,7 +92,7 @@ page-logged p matters page = record {
 
 none-after : (r : Readers) (v : Volume) → IsVolumeAfter r v v []
 none-after r v = record {
-  logs = record { owners = λ b was now. refl; pages = λ p. refl; logs = λ p. page-logged p _ (v.page p) };
+  logs = record { owners = λ b was now. refl; pages = λ p was now. refl; logs = λ p. page-logged p _ (v.page p) };
   area = λ b. refl;
   extents = refl;
 }

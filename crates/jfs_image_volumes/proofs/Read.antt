@@ -15,7 +15,7 @@ use Rattle.jfs_recovery.specs.objects.specs.Image.{file_extents, file_page, iag_
 use Rattle.jfs_recovery.specs.Face.Item.{BlockBit, ExtentPlace}
 use Rattle.jfs_recovery.specs.Face.Value.{InUse}
 use Rattle.jfs_face.specs.Places.{Places, AreInAreas, is_block_page, is_inode_page, is_map_page}
-use Rattle.jfs_face.specs.Items.{home, places, extent_by}
+use Rattle.jfs_face.specs.Items.{home, places, extent_by, no_block, no_extent}
 use Rattle.jfs_face.specs.Mounted.{places_on, HasMapPages}
 use Rattle.jfs_face.specs.Volume.{items_on, volume_with}
 
@@ -71,7 +71,7 @@ used_is r blocks agsize numag table map page has b = at (cases_Bool (nat_lt b bl
     at : (nat_lt b blocks ≡ true) ⊎ (nat_lt b blocks ≡ false) → items_on (places_on r blocks agsize numag table map page) page (BlockBit b) ≡ InUse (nat_lt b blocks && is_taken (range_of (file_page r page 2 (4 + b / 8192)) 3072 1024) (b % 8192))
     at (inl e) =
         let four : suc (suc (suc (suc (b / 8192)))) ≡ 4 + b / 8192 = omega arith in
-        let here : home pl (BlockBit b) ≡ pl.block_map (4 + b / 8192) = cond-true (nat_lt b blocks) (pl.block_map (suc (suc (suc (suc (b / 8192)))))) (pl.block_map 0) e ∙ ap pl.block_map four in
+        let here : home pl (BlockBit b) ≡ pl.block_map (4 + b / 8192) = cond-true (nat_lt b blocks) (pl.block_map (suc (suc (suc (suc (b / 8192)))))) (no_block pl) e ∙ ap pl.block_map four in
         ap (λ (a : List ℕ). InUse (nat_lt b blocks && said a)) (ap page here ∙ file_page_is r page 2 (4 + b / 8192) (has.block_map (4 + b / 8192) (dmap_in_use blocks b (ltb-true b blocks e))))
     at (inr e) =
         ap (λ (x : Bool). InUse (x && said (page (home pl (BlockBit b))))) e ∙ sym (ap (λ (x : Bool). InUse (x && said (file_page r page 2 (4 + b / 8192)))) e)
@@ -87,7 +87,7 @@ extent_is : (r : Readers) (blocks agsize numag : ℕ) (table second : Pxd) (page
 extent_is r blocks agsize numag table second page has e within =
     let pl = places_on r blocks agsize numag table second page in
     let low = lt-ltb e (places pl) within in
-    let at : home pl (ExtentPlace e) ≡ pl.inode_map (suc (e / 128)) = cond-true (nat_lt e (places pl)) (pl.inode_map (suc (e / 128))) (pl.inode_map 0) low in
+    let at : home pl (ExtentPlace e) ≡ pl.inode_map (suc (e / 128)) = cond-true (nat_lt e (places pl)) (pl.inode_map (suc (e / 128))) (no_extent pl) low in
     let bytes : page (home pl (ExtentPlace e)) ≡ iag_page r page (e / 128) = ap page at ∙ file_page_is r page 16 (suc (e / 128)) (has.inode_map (suc (e / 128)) (omega (arith, within))) in
     ap extent_place
     (cond-true (nat_lt e (places pl)) (pxd_of (page (home pl (ExtentPlace e))) (3072 + 8 * (e % 128))) no_run low

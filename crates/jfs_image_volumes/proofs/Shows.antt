@@ -82,7 +82,7 @@ module _ (r : Readers) (pl : Places) (changes : Pages → List Edit → ℕ → 
       at : (closes_in b tx ≡ true) ⊎ (closes_in b tx ≡ false) → (logged_in r v b ≡ true) ⊎ (logged_in r v b ≡ false) → apply_tx b tx (s b) ≡ w.page b
       at (inl closed) was = given b (λ a a_size. (after.logs.logs b).whole logged (inl closed) a a_size)
       at (inr stays) (inr new) = given b (λ a a_size. (after.logs.logs b).whole logged (inr new) a a_size)
-      at (inr stays) (inl was) = ap (apply_tx b tx) (shows.pages b was (sym (after.area b) ∙ none)) ∙ sym (after.logs.pages b)
+      at (inr stays) (inl was) = ap (apply_tx b tx) (shows.pages b was (sym (after.area b) ∙ none)) ∙ sym (after.logs.pages b was logged)
 
   pub shown : ShowsLogged r pl t w
   shown = record {

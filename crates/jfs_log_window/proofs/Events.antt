@@ -51,7 +51,7 @@ module _ (both : Halves) (stable grouped waiting : List Event) (e : HasEvents bo
     points_taken = e.points_taken;
   }
 
-  pointed : HasEvents (changed both (Changes Points)) stable grouped (waiting ++ Pointed ∷ [])
+  pub pointed : HasEvents (changed both (Changes Points)) stable grouped (waiting ++ Pointed ∷ [])
   pointed = record {
     begins = e.begins;
     quiet = e.quiet;
@@ -69,7 +69,7 @@ module _ (both : Halves) (stable grouped waiting : List Event) (e : HasEvents bo
 
   -- ---- all that waits is taken, and is stable then
 
-  taken : HasEvents (changed both (Changes Takes)) stable (grouped ++ waiting) []
+  pub taken : HasEvents (changed both (Changes Takes)) stable (grouped ++ waiting) []
   taken = record {
     begins = e.begins;
     quiet = e.quiet;
@@ -85,7 +85,7 @@ module _ (both : Halves) (stable grouped waiting : List Event) (e : HasEvents bo
     points_taken = ap length e.points ∙ length-points 0 (stable ++ (grouped ++ waiting));
   }
 
-  written : HasEvents (changed both GroupIsWritten) taken_with [] waiting
+  pub written : HasEvents (changed both GroupIsWritten) taken_with [] waiting
   written = record {
     begins = (e.begins.0 ++ grouped, ap (λ (l : List Event). l ++ grouped) e.begins.1);
     quiet = e.quiet;

@@ -40,7 +40,7 @@ use Rattle.jfs_mounted_places.proofs.Mounted.{mounted_law as held_law}
 use Rattle.jfs_mounted_places.proofs.Places.{known_law}
 use Rattle.jfs_mounted_held.specs.Mounted.{low_of, shown_by, from_mount, IsSoundMount, MountedLaw}
 
-low_is : (image : Image) (p : ℕ) → p < length image → low_of image p ≡ page_of image p
+pub low_is : (image : Image) (p : ℕ) → p < length image → low_of image p ≡ page_of image p
 low_is image p l = cond-true (nat_lt p (length image)) (page_of image p) (replicate 4096 0) (lt-ltb p (length image) l)
 
 low_size : (image : Image) → ((p : ℕ) → p < length image → length (page_of image p) ≡ 4096) → (p : ℕ) → length (low_of image p) ≡ 4096
@@ -51,16 +51,16 @@ low_size image whole p = by (cases_Bool (nat_lt p (length image)))
     by (inr e) = ap (λ (a : List ℕ). length a) (cond-false (nat_lt p (length image)) (page_of image p) (replicate 4096 0) e) ∙ length-replicate {A = ℕ} 4096 0
 
 module _ (s : Super) (count : ℕ) (old : Image) (p : Parts) (log : LogParts) (m : IsMountOf ⊤ ⊥ s old p log) (sound : IsSoundMount s count old m.pages) where
-  abbrev r : Readers
+  abbrev pub r : Readers
   r = readers (blocks_of s)
 
-  abbrev subject : Subject
+  abbrev pub subject : Subject
   subject = subject_of s (page_of old)
 
-  abbrev area : ℕ → ℕ
+  abbrev pub area : ℕ → ℕ
   area = (meaning.volume_of s (page_of old)).area
 
-  abbrev low : Pages
+  abbrev pub low : Pages
   low = low_of m.pages
 
   stands_for : StandsFor true false p (fresh_halves (s.logpxd.len - 2) (record { pages = m.pages; map = m.maps.blocks; inodes = m.maps.inodes })).volume
@@ -79,27 +79,29 @@ module _ (s : Super) (count : ℕ) (old : Image) (p : Parts) (log : LogParts) (m
   same : SameButSuper s (page_of old) low
   same b other below = low_is m.pages b (let room = sound.room in omega (arith, below, room)) ∙ marked_same s old m.pages inside (m.marked tt) b other below
 
-  knows : KnowsFiles s low area m.maps.blocks m.maps.inodes m.maps.files
+  pub knows : KnowsFiles s low area m.maps.blocks m.maps.inodes m.maps.files
   knows = mount_law s (page_of old) low m.maps m.rest (m.found tt) sound.consistent sound.files same
 
   consistent : IsConsistent r (volume_of low area m.maps.blocks m.maps.inodes)
   consistent = subst (λ (x : Blocks). IsConsistent r (volume_of low area x m.maps.inodes)) (sym (m.found tt).blocks_are)
       (subst (λ (i : Inodes). IsConsistent r (volume_of low area (blocks_on subject) i)) (sym (m.found tt).inodes_are) (marked_law s (page_of old) low sound.consistent same).consistent)
 
-  few : m.maps.inodes.iags ≤ 65536
+  numbers : (1 ≤ m.maps.inodes.iags) × (m.maps.inodes.iags ≤ 65536)
   unfolding mount_rows
-  few =
+  numbers =
       let fine : Row BadMount = record { answer = record { rule = rules.Bmap; page = 0; value = 0 }; holds = true } in
       let row = and_parts (nat_le 1 (iags subject)) (nat_le (iags subject) 65536) (each_holds (mount_rows subject) 3 fine (m.found tt).unbroken refl) in
+      let high_number = leb-true 1 (iags subject) row.0 in
       let low_number = leb-true (iags subject) 65536 row.1 in
       let same_number : m.maps.inodes.iags ≡ iags subject = ap (λ (i : Inodes). i.iags) (m.found tt).inodes_are in
-      omega (arith, low_number, same_number)
+      (omega (arith, high_number, same_number), omega (arith, low_number, same_number))
 
-  is_mounted : IsMounted s count low (shown_by m) area m.maps.files
+  pub is_mounted : IsMounted s count low (shown_by m) area m.maps.files
   is_mounted = record {
     accepted = sound.accepted;
     group = sound.group;
-    few = few;
+    some = numbers.0;
+    few = numbers.1;
     room = sound.room;
     sizes = low_size m.pages sound.whole.sizes;
     shows = low_is m.pages;
@@ -107,7 +109,8 @@ module _ (s : Super) (count : ℕ) (old : Image) (p : Parts) (log : LogParts) (m
     blocks_fresh = m.rest.fresh.0;
     inodes_fresh = m.rest.fresh.1;
     consistent = consistent;
-    canonical = sound.canonical;
+    bytes = sound.bytes;
+    past = sound.past;
   }
 
   view : p.view ≡ m.pages
@@ -126,7 +129,7 @@ module _ (s : Super) (count : ℕ) (old : Image) (p : Parts) (log : LogParts) (m
         ap (λ (image : Image). page_of image b) view ∙ sym (low_is m.pages b (omega (arith, below, number, room))));
   }
 
-  places : StandsInPlaces s low area m.maps.blocks m.maps.inodes m.maps.files
+  pub places : StandsInPlaces s low area m.maps.blocks m.maps.inodes m.maps.files
   places = known_law s low area m.maps.blocks m.maps.inodes m.maps.files knows m.rest.fresh.0 m.rest.fresh.1 consistent
 
   pub held : IsHeldAs (mount_of s low) area p (from_mount s old m).both (from_mount s old m).core (from_mount s old m).volumes

@@ -13,8 +13,9 @@ use Rattle.jfs_shown.specs.meaning.specs.Image.{IsConsistentImage}
 use Rattle.jfs_shown.specs.meaning.specs.Image as meaning
 use Rattle.jfs_shown.specs.meaning.specs.Readers.{readers}
 use Rattle.jfs_mounted_places.specs.held.specs.survival.specs.recovery.specs.Face.{Pages}
+use Rattle.jfs_mounted_places.specs.held.specs.canonical_maps.specs.Laws.{HasMapBytes}
 use Rattle.jfs_mounted_places.specs.held.specs.Held.{Held}
-use Rattle.jfs_mounted_places.specs.Mounted.{HasCanonicalMaps, mount_of, held_from}
+use Rattle.jfs_mounted_places.specs.Mounted.{SetsPast, mount_of, held_from}
 use Rattle.jfs_mounted_places.specs.Places.{places_of}
 use Rattle.jfs_joined_held.specs.Held.{IsHeldAs}
 
@@ -30,7 +31,7 @@ shown_by m = record { pages = m.pages; map = m.maps.blocks; inodes = m.maps.inod
 abbrev pub from_mount : (s : Super) (old : Image) {p : Parts} {log : LogParts} → IsMountOf ⊤ ⊥ s old p log → Held
 from_mount s old m = held_from s (s.logpxd.len - 2) (low_of m.pages) (shown_by m) (meaning.volume_of s (page_of old)).area
 
--- A consistent image on a disk of whole pages. The trees of the maps' files and of the bad blocks' break no rule, and the maps' pages are canonical: no rule of a mount says so.
+-- A consistent image on a disk of whole pages. The trees of the maps' files and of the bad blocks' break no rule, the maps' pages are of bytes, and the bits of blocks past the volume's end are set: no rule of a mount says so.
 pub record IsSoundMount (s : Super) (count : ℕ) (old pages : Image) : Type 0 where
   pub accepted : IsAccepted s count
   pub group : s.agsize < 2 ^ 32
@@ -38,7 +39,8 @@ pub record IsSoundMount (s : Super) (count : ℕ) (old pages : Image) : Type 0 w
   pub room : blocks_of s ≤ length pages
   pub consistent : IsConsistentImage s (page_of old)
   pub files : HasWholeFiles (readers (blocks_of s)) (page_of old)
-  pub canonical : HasCanonicalMaps (places_of s (low_of pages)) (low_of pages)
+  pub bytes : HasMapBytes (places_of s (low_of pages)) (low_of pages)
+  pub past : SetsPast (places_of s (low_of pages)) (low_of pages)
 
 abbrev pub MountedLaw : Type 0
 MountedLaw = (s : Super) (count : ℕ) (old : Image) (p : Parts) (log : LogParts) → (m : IsMountOf ⊤ ⊥ s old p log) → IsSoundMount s count old m.pages

@@ -1,5 +1,5 @@
 -- A volume that was just mounted is held.
-use Rattle.std.proofs.Common.{◌≡◌, ◌≤◌, ◌<◌, nat_lt, ℕ, zero, suc, true, false, true≢false, List, length, map, get_or, ◌+◌, ◌*◌, Option, Some, None, IsSome, refl, sym, ap, ◌∙◌, subst, arith}
+use Rattle.std.proofs.Common.{◌≡◌, ◌≤◌, ◌<◌, nat_lt, ℕ, zero, suc, true, true≢false, length, map, Option, Some, None, IsSome, refl, sym, ap, ◌∙◌, subst, inl, inr, arith}
 use Rattle.std.proofs.lemmas.Bool.{and_parts, ltb-true}
 use Rattle.std.proofs.lemmas.List.{length-map}
 use Rattle.jfs_super.specs.Rules.{blocks_of}
@@ -17,10 +17,12 @@ use Rattle.jfs_held_volumes.specs.survival.specs.recovery.specs.crash_core.specs
 use Rattle.jfs_held_volumes.specs.survival.specs.recovery.specs.Face.{Face, Pages, IsStart}
 use Rattle.jfs_held_volumes.specs.survival.specs.recovery.specs.Core.{image as image_at}
 use Rattle.jfs_held_volumes.specs.survival.specs.recovery.specs.Mount.{fresh, IsMounted as IsMountedFace}
+use Rattle.jfs_held_volumes.specs.survival.specs.recovery.specs.Sound.{Cares}
+use Rattle.jfs_held_volumes.specs.survival.specs.recovery.specs.crash_core.specs.Sound.{SameCell}
+use Rattle.jfs_held_volumes.specs.survival.specs.face.specs.Items.{cell}
 use Rattle.jfs_held_volumes.specs.survival.specs.face.specs.Places.{Places, AreInAreas, is_map_page}
 use Rattle.jfs_held_volumes.specs.survival.specs.face.specs.MapPages.{IsCanonicalPage}
 use Rattle.jfs_held_volumes.specs.survival.specs.face.specs.Volume.{items_on}
-use Rattle.jfs_held_volumes.specs.survival.specs.face.proofs.Agreed.{pages_agree}
 use Rattle.jfs_held_volumes.specs.survival.specs.face.proofs.Owned.{map_matters}
 use Rattle.jfs_held_volumes.specs.survival.specs.Stands.{IsCoreOf}
 use Rattle.jfs_held_volumes.specs.survival.specs.Busy.{HasStates}
@@ -36,6 +38,7 @@ use Rattle.jfs_held_volumes.specs.Held.{Mount, IsHeld, IsImageAt, face_at}
 use Rattle.jfs_held_volumes.proofs.Kept.{used_where}
 use Rattle.jfs_mounted_places.specs.Places.{groups_of, places_of, StandsInPlaces}
 use Rattle.jfs_mounted_places.specs.Mounted.{IsMounted, mount_of, held_from, MountedLaw}
+use Rattle.jfs_mounted_places.proofs.Cells.{item_cell}
 use Rattle.jfs_mounted_places.proofs.Places.{fit_law, known_law}
 
 owned_state : (s : BlockState) → is_owned_state s ≡ true → s ≡ Owned
@@ -78,21 +81,26 @@ module _ (s : Super) (pages ring : ℕ) (low : Pages) (shown : Shown) (area : �
 
   start : IsStart f low image × IsImageAt m image v
   start = subst (λ (u : Volume). IsStart f low image × IsImageAt m image u) (sym places.volume_is)
-      (image_start r (blocks_of s) s.agsize (groups_of s) s.ait2 s.aim2 pl (map_marks pl) low fits places.stands (λ p e. (is.canonical p e).bytes) is.sizes)
+      (image_start r (blocks_of s) s.agsize (groups_of s) s.ait2 s.aim2 pl (map_marks pl) low fits places.stands is.bytes is.sizes)
 
-  -- canonical pages that were found are those of the image
-  same_map : (p : ℕ) → is_map_page pl p ≡ true → low p ≡ image p
-  same_map p e = pages_agree pl low low (items_on pl low) (items_on pl low) (λ i. refl) (λ q a b. refl) p (low p) (image p) e (is.canonical p e) (start.0.maps p e)
+  -- the cells with items are those of the image, whatever else stands on the pages that were found
+  cells : (p c : ℕ) → is_map_page pl p ≡ true → Cares f p c → SameCell (low p) (image p) c
+  cells p c e (inl other) = absurd (true≢false (sym e ∙ other))
+  cells p c e (inr (i, at, in_cell)) =
+      let number = places.iags in
+      let some = is.some in
+      subst (λ (z : ℕ). SameCell (low p) (image p) z) in_cell (subst (λ (q : ℕ). SameCell (low q) (image q) (cell i)) at
+      (item_cell pl low image fits.block_map.groups.some (omega (arith, number, some)) is.sizes is.bytes is.past start.0.maps i))
 
   mounted : IsMountedFace f low image
   mounted = record {
     start = start.0;
     sizes = is.sizes;
-    cells = λ p cell within e cares i l. ap (λ (a : List ℕ). get_or a (16 * cell + i) 0) (same_map p e);
+    cells = λ p c within e cares. cells p c e cares;
   }
 
   own : (p : ℕ) → is_map_page pl p ≡ true → IsCanonicalPage pl image (items_on pl image) p (image p)
-  own = (follow_law.start r pl (map_marks pl) low fits (own_places r (blocks_of s) s.agsize (groups_of s) s.ait2 s.aim2 low places.stands.sound.agrees places.stands.pages) (λ p e. (is.canonical p e).bytes)).1.own
+  own = (follow_law.start r pl (map_marks pl) low fits (own_places r (blocks_of s) s.agsize (groups_of s) s.ait2 s.aim2 low places.stands.sound.agrees places.stands.pages) is.bytes).1.own
 
   core_is : IsCoreOf f (fresh_halves ring shown) (fresh f low image)
   core_is = halves_start r pl (map_marks pl) ring shown low image areas mounted own is.shows

@@ -1,5 +1,5 @@
 -- The places of the maps.
-use Rattle.std.proofs.Common.{◌≡◌, ◌⊎◌, ◌≤◌, ◌<◌, ◌-◌, ◌&&◌, ◌==◌, nat_le, nat_lt, ℕ, true, List, get_or, is_some, unwrap_or, Option, Some, refl, ap, inl, inr, arith}
+use Rattle.std.proofs.Common.{◌≡◌, ◌⊎◌, ◌≤◌, ◌<◌, ◌&&◌, ◌==◌, nat_le, nat_lt, ℕ, true, List, get_or, is_some, unwrap_or, Option, Some, refl, ap, inl, inr, arith}
 use Rattle.std.specs.Int.{div_ceil, is_power_of_two}
 use Rattle.std.proofs.lemmas.Bool.{or_cases, and_parts, eqb-true, leb-true, ltb-true}
 use Rattle.std.proofs.lemmas.Option.{slice_get-get_or}
@@ -57,7 +57,7 @@ fit_law s pages page accepted group few =
 -- ---- files
 
 -- a page that is in use is one of the file
-in_file : (blocks k : ℕ) → is_in_use blocks k ≡ true → k < pages_of blocks
+pub in_file : (blocks k : ℕ) → is_in_use blocks k ≡ true → k < pages_of blocks
 in_file blocks k e = at (or_cases (k == 0) (nat_le 3 k && nat_lt k (pages_of blocks)) e)
   where
     at : (k == 0 ≡ true) ⊎ ((nat_le 3 k && nat_lt k (pages_of blocks)) ≡ true) → k < pages_of blocks

@@ -1,8 +1,11 @@
 -- A volume that was just mounted is held.
-use Rattle.std.specs.Prelude.{◌≡◌, ◌≤◌, ◌<◌, ◌^◌, ℕ, true, false, length}
+use Rattle.std.specs.Prelude.{◌≡◌, ◌≤◌, ◌<◌, ◌+◌, ◌*◌, ◌^◌, ℕ, suc, true, false, length}
+use Rattle.jfs_bits.specs.Bits.{is_taken}
+use Rattle.jfs_bits.specs.Field.{range_of}
 use Rattle.jfs_disk.specs.Image.{page_of}
 use Rattle.jfs_super.specs.Rules.{blocks_of, IsAccepted}
 use Rattle.jfs_super.specs.declared.fields.Super.{Super}
+use Rattle.jfs_shown.specs.bmap.specs.MapFile.{is_in_use}
 use Rattle.jfs_shown.specs.map_files.specs.declared.map_file.MapFiles.{MapFiles}
 use Rattle.jfs_shown.specs.meaning.specs.Readers.{readers}
 use Rattle.jfs_shown.specs.meaning.specs.Consistent.{IsConsistent}
@@ -12,23 +15,23 @@ use Rattle.jfs_held_volumes.specs.survival.specs.halves.specs.Entry.{Shown}
 use Rattle.jfs_held_volumes.specs.survival.specs.halves.specs.Laws.{fresh_halves}
 use Rattle.jfs_held_volumes.specs.survival.specs.recovery.specs.Face.{Pages}
 use Rattle.jfs_held_volumes.specs.survival.specs.recovery.specs.Mount.{fresh}
-use Rattle.jfs_held_volumes.specs.survival.specs.face.specs.Places.{Places, is_map_page}
-use Rattle.jfs_held_volumes.specs.survival.specs.face.specs.MapPages.{IsCanonicalPage}
-use Rattle.jfs_held_volumes.specs.survival.specs.face.specs.Volume.{items_on}
+use Rattle.jfs_held_volumes.specs.survival.specs.face.specs.Places.{Places}
 use Rattle.jfs_held_volumes.specs.canonical_maps.specs.Images.{made_canonical}
+use Rattle.jfs_held_volumes.specs.canonical_maps.specs.Laws.{HasMapBytes}
 use Rattle.jfs_held_volumes.specs.Held.{Mount, Held, IsHeld, face_at}
 use Rattle.jfs_mounted_places.specs.Places.{groups_of, places_of}
 
 -- ---- what was found
 
--- Each page of both maps is the canonical one of what the maps' pages say and of the inodes. No rule of a mount looks at that.
-abbrev pub HasCanonicalMaps : Places → Pages → Type 0
-HasCanonicalMaps pl low = (p : ℕ) → is_map_page pl p ≡ true → IsCanonicalPage pl low (items_on pl low) p (low p)
+-- On the last dmap of a volume the bits of blocks past its end are set, as a check asks for. No rule of a mount looks at that.
+abbrev pub SetsPast : Places → Pages → Type 0
+SetsPast pl low = (k i : ℕ) → is_in_use pl.blocks (suc (suc (suc (suc k)))) ≡ true → pl.blocks ≤ 8192 * k + i → i < 8192 → is_taken (range_of (low (pl.block_map (suc (suc (suc (suc k)))))) 3072 1024) i ≡ true
 
--- What a mount leaves: the volume shows these pages, and past them a disk has some; their maps, of an accepted superblock, are as their files.
+-- What a mount leaves: the volume shows these pages, and past them a disk has some; their maps, of an accepted superblock, are as their files. The maps' pages are of bytes.
 pub record IsMounted (s : Super) (pages : ℕ) (low : Pages) (shown : Shown) (area : ℕ → ℕ) (files : MapFiles) : Type 0 where
   pub accepted : IsAccepted s pages
   pub group : s.agsize < 2 ^ 32
+  pub some : 1 ≤ shown.inodes.iags
   pub few : shown.inodes.iags ≤ 65536
   pub room : blocks_of s ≤ length shown.pages
   pub sizes : (p : ℕ) → length (low p) ≡ 4096
@@ -37,7 +40,8 @@ pub record IsMounted (s : Super) (pages : ℕ) (low : Pages) (shown : Shown) (ar
   pub blocks_fresh : files.blocks.stale ≡ false
   pub inodes_fresh : files.inodes.stale ≡ false
   pub consistent : IsConsistent (readers (blocks_of s)) (volume_of low area shown.map shown.inodes)
-  pub canonical : HasCanonicalMaps (places_of s low) low
+  pub bytes : HasMapBytes (places_of s low) low
+  pub past : SetsPast (places_of s low) low
 
 -- ---- the volume
 

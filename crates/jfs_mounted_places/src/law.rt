@@ -13,7 +13,7 @@ pub fn known_files_stand_in_places()
     ensures { KnownLaw }
 {}
 
-/// So a volume that was just mounted is held, where the maps' pages that were found are canonical.
+/// So a volume that was just mounted is held, where the maps' pages that were found are of bytes, and the bits past the volume's end are set. Of what else stands on them nothing is asked.
 pub fn mounted_volumes_are_held()
     ensures { MountedLaw }
 {}

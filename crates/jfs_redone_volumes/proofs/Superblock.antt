@@ -69,7 +69,7 @@ module _ (r : Readers) (blocks : ℕ) (table second : Pxd) (old new : Pages) (so
 
   -- ---- so the files lie where they did, and their pages are the same
 
-  places : SamePlaces r table second old new
+  pub places : SamePlaces r table second old new
   places = files_law r table second old new (keeps_law r table second v new sound.agrees (λ b. refl) whole (λ b other some none. same b (within b (area_used b some)) other))
 
   has_page : (f k : ℕ) → (f ≡ 2) ⊎ (f ≡ 16) → (o : Option ℕ) → block_of (file_extents r old f) k ≡ o → bytes_at new o ≡ bytes_at old o
@@ -86,10 +86,10 @@ module _ (r : Readers) (blocks : ℕ) (table second : Pxd) (old new : Pages) (so
   unfolding file_page
   page_by f k is extents = ap (λ (es : List Xad). unwrap_or (bytes_at new (block_of es k)) []) extents ∙ ap (λ (o : Option (List ℕ)). unwrap_or o []) (has_page f k is (block_of (file_extents r old f) k) refl)
 
-  map_page : (k : ℕ) → file_page r new 2 k ≡ file_page r old 2 k
+  pub map_page : (k : ℕ) → file_page r new 2 k ≡ file_page r old 2 k
   map_page k = page_by 2 k (inl refl) places.block_map
 
-  inode_page : (k : ℕ) → file_page r new 16 k ≡ file_page r old 16 k
+  pub inode_page : (k : ℕ) → file_page r new 16 k ≡ file_page r old 16 k
   inode_page k = page_by 16 k (inr refl) places.inode_map
 
   -- ---- the sets and the places

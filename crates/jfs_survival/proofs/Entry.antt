@@ -82,7 +82,7 @@ module _ (r : Readers) (pl : Places) (changes : Pages → List Edit → ℕ → 
     whole = λ there why a i a_size l. ap (λ (x : List ℕ). byte x i) ((logs p).whole (sym (now p) ∙ there) (why_so p why) a a_size ∙ sym (page_is p page there why));
     shut = λ gone a a_size. (logs p).shut (sym (now p) ∙ gone) a a_size;
     noted = λ gone there. (logs p).noted (sym (now p) ∙ gone) (sym (was p) ∙ there);
-    fixed = λ fixed. (let x = entry.fixed p fixed in entry.follows.pages p page ∙ ap (apply_tx p tx) (sym x.0) ∙ sym (entry.logs.pages p) ∙ x.1 ∙ x.0);
+    fixed = λ fixed. (let x = entry.fixed p fixed in entry.follows.pages p page ∙ ap (apply_tx p tx) (sym x.0) ∙ sym (entry.logs.pages p (sym (was p) ∙ laws.fixed s p fixed) (sym (now p) ∙ laws.fixed t p fixed)) ∙ x.1 ∙ x.0);
   }
 
   marked : (p : ℕ) → IsMarked f s tx t p

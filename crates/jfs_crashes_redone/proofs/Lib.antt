@@ -1,0 +1,7 @@
+pub mod Lists
+pub mod Window
+pub mod Facts
+pub mod Places
+pub mod Rules
+pub mod Can
+pub mod Redone

@@ -1,0 +1,4 @@
+pub mod Places
+pub mod Extents
+pub mod Kept
+pub mod Mounted

@@ -1,0 +1,19 @@
+//! What holds of the pages of a volume's maps, whatever a crash leaves of them.
+
+ghost use Rattle.jfs_left_maps.specs.Items.{FoursLaw, ItemsLaw};
+ghost use Rattle.jfs_left_maps.specs.Numbers.{NumbersLaw};
+
+/// The control pages of both maps say how many blocks and inode allocation groups there are, at each moment and after each crash.
+pub fn control_pages_keep_their_numbers()
+    ensures { NumbersLaw }
+{}
+
+/// What a crash leaves of an item of the maps is what it was after some entry, and redo of a window gives what it is after the window's last.
+pub fn items_are_of_the_history()
+    ensures { ItemsLaw }
+{}
+
+/// Each inode extent that is there has four blocks, after each entry.
+pub fn extents_have_four_blocks()
+    ensures { FoursLaw }
+{}
