@@ -1,0 +1,4 @@
+pub mod Given
+pub mod Stopped
+pub mod Joined
+pub mod Does

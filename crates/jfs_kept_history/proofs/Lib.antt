@@ -1,0 +1,5 @@
+pub mod Same
+pub mod Quiet
+pub mod Steps
+pub mod Begun
+pub mod Crash

@@ -1,0 +1,35 @@
+-- A crash of a served volume that is kept, and the redo of its disk.
+use Rattle.std.specs.Prelude.{◌≡◌, ◌≤◌, ℕ, List, length, take, drop, Err}
+use Rattle.jfs_bits.specs.Field.{AreBytes}
+use Rattle.jfs_disk.specs.Image.{Image, page_of, ArePages}
+use Rattle.jfs_ranges.specs.declared.edit.Edit.{Edit}
+use Rattle.jfs_super.specs.Rules.{blocks_of}
+use Rattle.jfs_super.specs.Super.{super_of}
+use Rattle.jfs_super.specs.declared.fields.Super.{Super}
+use Rattle.jfs_super.specs.declared.fields.TheConstants.VolumeState.{MOUNTED}
+use Rattle.jfs_legal.specs.served.specs.halves.specs.Half.{LogHalf}
+use Rattle.jfs_legal.specs.served.specs.halves.specs.Parts.{Parts}
+use Rattle.jfs_legal.specs.served.specs.shown.specs.meaning.specs.Readers.{readers}
+use Rattle.jfs_legal.specs.served.specs.shown.specs.objects.specs.Image.{volume_on}
+use Rattle.jfs_crashes_redone.specs.Crashed.{HasCrashed}
+use Rattle.jfs_crashes_redone.specs.redo.specs.Log.{AreCommitted}
+use Rattle.jfs_crashes_redone.specs.redo.specs.Redo.{IsRedone, IsRefusal, RedoIs}
+use Rattle.jfs_crashes_redone.specs.redo.specs.declared.error.RedoError.{RedoError}
+use Rattle.jfs_points_kept.specs.kept_volumes.specs.Logs.{with_log, IsLogBeside}
+use Rattle.jfs_kept_history.specs.Kept.{Lasting, timed_in, Reaches, IsKeptSince}
+
+-- The disk's superblock says that the volume is mounted, and redo refuses it for nothing. However the log is read, a disk that is redone by its transactions has the volume after the first n entries of the history, so many as were acknowledged at least: their tree, all but the bytes of files (`Reaches`).
+pub record IsRedoneToHistory (s : Super) (page : ℕ → List ℕ) (start : Parts) (list : List Lasting) (told : ℕ) (old : Image) : Type 0 where
+  pub n : ℕ
+  pub told_are : told ≤ n
+  pub within : n ≤ length list
+  pub superblock : super_of (page_of old 8) ≡ record s { state = MOUNTED }
+  pub commits : ((p : ℕ) → AreBytes (page_of (drop s.logpxd.addr old) p)) → (txs : List (List Edit)) × AreCommitted s.logpxd.len (blocks_of s) (drop s.logpxd.addr old) txs
+  pub answered : (new : Image) (why : RedoError) → RedoIs s old new (Err why) → IsRefusal why → ⊥
+  pub redone : (txs : List (List Edit)) (new : Image) → AreCommitted s.logpxd.len (blocks_of s) (drop s.logpxd.addr old) txs → IsRedone s txs old new → ArePages (length new) new → length new ≡ length old
+      → Reaches s page start (take n (timed_in list)) (volume_on (readers (blocks_of s)) (blocks_of s) s.ait2 s.aim2 (page_of new))
+
+-- So is whatever a crash leaves, while the log is one beside what keeps the volume: as much of it may be stable as is acknowledged, or more.
+abbrev pub CrashLaw : Type 0
+CrashLaw = (s : Super) (page : ℕ → List ℕ) (start : Parts) (list : List Lasting) (points : List ℕ) (p : Parts) (log : LogHalf) (old : Image) → (k : IsKeptSince s page start list points p)
+    → IsLogBeside k.keeper log → HasCrashed s (with_log log k.keeper.both) old → IsRedoneToHistory s page start list p.told old

@@ -1,0 +1,85 @@
+-- A volume that is served goes on being kept, step by step, on a disk that tells its contents and what a crash may leave.
+use Rattle.std.specs.Prelude.{◌≡◌, ◌++◌, ◌∷◌, [], ℕ, false, List, length, OnOk, None, Result, Ok}
+use Rattle.jfs_disk.specs.Image.{Image, page_of}
+use Rattle.jfs_disk.specs.declared.disk.Fault.{Fault}
+use Rattle.jfs_super.specs.declared.fields.Super.{Super}
+use Rattle.jfs_legal.specs.served.specs.crash_core.specs.Step.{halted_by}
+use Rattle.jfs_legal.specs.served.specs.halves.specs.Change.{MayPoint, Takes, HandsOut, Points, Knows}
+use Rattle.jfs_legal.specs.served.specs.halves.specs.Log.{LogParts}
+use Rattle.jfs_legal.specs.served.specs.halves.specs.Moves.{Moves}
+use Rattle.jfs_legal.specs.served.specs.halves.specs.Parts.{Parts, OfEachHalf}
+use Rattle.jfs_legal.specs.served.specs.mounted.specs.Mount.{IsMountOf}
+use Rattle.jfs_legal.specs.served.specs.volume.specs.MapsHome.{MapsHome, KeepsMemory, KeepsPlaces, with_written}
+use Rattle.jfs_legal.specs.served.specs.volume.specs.Room.{IsWithinRoom}
+use Rattle.jfs_legal.specs.served.specs.volume.specs.Settle.{AllHome, SyncIs, with_point}
+use Rattle.jfs_legal.specs.served.specs.volume.specs.Settles.{Settles, HomesAlone, HaltsAt}
+use Rattle.jfs_legal.specs.served.specs.volume.specs.Told.{IsTold}
+use Rattle.jfs_legal.specs.served.specs.volume.specs.pages.specs.Dirty.{dirty_of}
+use Rattle.jfs_legal.specs.served.specs.volume_calls.specs.Written.{KeepsPages}
+use Rattle.jfs_legal.specs.served.specs.Holds.{MayServe}
+use Rattle.jfs_legal.specs.served.specs.shown.specs.meaning.specs.Image as meaning
+use Rattle.jfs_points_kept.specs.Kept.{IsSettledIn}
+use Rattle.jfs_mounted_maps.specs.Checked.{IsCheckedMount}
+use Rattle.jfs_mounted_held.specs.mounted_places.specs.Mounted.{mount_of}
+use Rattle.jfs_kept_history.specs.Kept.{Lasting, IsKeptSince}
+
+-- ---- the mount
+
+-- A volume that was just mounted from an image on which a check finds nothing.
+abbrev pub BeginLaw : (tells crashes : Type 0) → Type 0
+BeginLaw tells crashes = tells → crashes → (s : Super) (old : Image) (p : Parts) (log : LogParts) → (m : IsMountOf tells crashes s old p log) → IsCheckedMount s old m.pages → IsKeptSince s (page_of old) p [] [] p
+
+-- ---- groups and acknowledgements
+
+-- A group takes what waits;
+abbrev pub TakenLaw : (tells crashes : Type 0) → Type 0
+TakenLaw tells crashes = tells → crashes → (s : Super) (page : ℕ → List ℕ) (start : Parts) (list : List Lasting) (points : List ℕ) (old new : Parts) → IsKeptSince s page start list points old
+    → OfEachHalf tells crashes old (λ seen asked half. Moves seen asked old new half (Takes ∷ [])) → IsWithinRoom old.text.ring old.text.sync old.text.place (length old.text.bytes) → new ≡ record old { taken = new.taken; text = new.text } → IsKeptSince s page start list points new
+
+-- the first n entries are acknowledged;
+abbrev pub ToldLaw : (tells crashes : Type 0) → Type 0
+ToldLaw tells crashes = tells → crashes → (s : Super) (page : ℕ → List ℕ) (start : Parts) (list : List Lasting) (points : List ℕ) (n : ℕ) (old new : Parts) → IsKeptSince s page start list points old → MayServe (meaning.volume_of s page).area s.logpxd.len old
+    → OfEachHalf tells crashes old (λ seen asked half. IsTold seen asked n old new half) → Settles old new → KeepsPages tells old new → new.halted ≡ old.halted → IsKeptSince s page start list points new
+
+-- the volume halts for the log's fault;
+abbrev pub HaltedLaw : Type 0
+HaltedLaw = (s : Super) (page : ℕ → List ℕ) (start : Parts) (list : List Lasting) (points : List ℕ) (fault : Fault) (old new : Parts) → IsKeptSince s page start list points old → new ≡ record old { halted = halted_by fault old.halted } → IsKeptSince s page start list points new
+
+-- and all entries are handed out.
+abbrev pub HandedLaw : (tells crashes : Type 0) → Type 0
+HandedLaw tells crashes = tells → crashes → (s : Super) (page : ℕ → List ℕ) (start : Parts) (list : List Lasting) (points : List ℕ) (old new : Parts) → IsKeptSince s page start list points old
+    → OfEachHalf tells crashes old (λ seen asked half. Moves seen asked old new half (HandsOut ∷ [])) → new ≡ record old { entries = [] } → IsKeptSince s page start list points new
+
+-- ---- syncpoints
+
+-- All entries are acknowledged, and no page waits to go home or to be synced.
+pub record IsSettledSince (s : Super) (page : ℕ → List ℕ) (start : Parts) (list : List Lasting) (points : List ℕ) (p : Parts) : Type 0 where
+  pub since : IsKeptSince s page start list points p
+  pub settled : IsSettledIn (mount_of s since.low) since.keeper
+
+abbrev pub HomeAllLaw : (tells crashes : Type 0) → Type 0
+HomeAllLaw tells crashes = tells → crashes → (s : Super) (page : ℕ → List ℕ) (start : Parts) (list : List Lasting) (points : List ℕ) (old new : Parts) (result : Result (Unit {0}) Fault) → IsKeptSince s page start list points old → old.told ≡ old.appended
+    → OfEachHalf tells crashes old (λ seen asked half. AllHome seen asked old new half result) → HomesAlone tells old new → HaltsAt old.halted new.halted result → IsKeptSince s page start list points new
+
+abbrev pub HomeMapsLaw : (tells crashes : Type 0) → Type 0
+HomeMapsLaw tells crashes = tells → crashes → (s : Super) (page : ℕ → List ℕ) (start : Parts) (list : List Lasting) (points : List ℕ) (old new : Parts) (result : Result (Unit {0}) Fault) → IsKeptSince s page start list points old → old.told ≡ old.appended → old.halted ≡ None
+    → OfEachHalf tells crashes old (λ seen asked half. MapsHome seen asked old new half result) → KeepsMemory old new → KeepsPlaces old new → OnOk result (new.files ≡ with_written old.files) → HaltsAt old.halted new.halted result → IsKeptSince s page start list points new
+
+abbrev pub SyncLaw : (tells crashes : Type 0) → Type 0
+SyncLaw tells crashes = tells → crashes → (s : Super) (page : ℕ → List ℕ) (start : Parts) (list : List Lasting) (points : List ℕ) (old new : Parts) (result : Result (Unit {0}) Fault) → IsKeptSince s page start list points old
+    → OfEachHalf tells crashes old (λ seen asked half. SyncIs seen asked old new half result) → HomesAlone tells old new → HaltsAt old.halted new.halted result → IsKeptSince s page start list points new
+
+-- A sync behind them settles the volume.
+abbrev pub SettledLaw : (tells crashes : Type 0) → Type 0
+SettledLaw tells crashes = tells → crashes → (s : Super) (page : ℕ → List ℕ) (start : Parts) (list : List Lasting) (points : List ℕ) (old new : Parts) → IsKeptSince s page start list points old → old.told ≡ old.appended → ((p : ℕ) → dirty_of old.dirty p ≡ None)
+    → old.files.blocks.stale ≡ false → old.files.inodes.stale ≡ false → old.halted ≡ None
+    → OfEachHalf tells crashes old (λ seen asked half. SyncIs seen asked old new half (Ok tt)) → HomesAlone tells old new → HaltsAt old.halted new.halted (Ok tt) → IsSettledSince s page start list points new
+
+-- A SYNCPT is made, and taken at once; and then all of them are known to be stable.
+abbrev pub PointLaw : (tells crashes : Type 0) → Type 0
+PointLaw tells crashes = tells → crashes → (s : Super) (page : ℕ → List ℕ) (start : Parts) (list : List Lasting) (points : List ℕ) (old new : Parts) → IsSettledSince s page start list points old → old.text.bytes ≡ []
+    → OfEachHalf tells crashes old (λ seen asked half. MayPoint half → Moves seen asked old new half (Points ∷ Takes ∷ [])) → new ≡ with_point old → IsKeptSince s page start list (points ++ length list ∷ []) new
+
+abbrev pub KnowLaw : (tells crashes : Type 0) → Type 0
+KnowLaw tells crashes = tells → crashes → (s : Super) (page : ℕ → List ℕ) (start : Parts) (list : List Lasting) (points : List ℕ) (old new : Parts) → IsKeptSince s page start list points old
+    → OfEachHalf tells crashes old (λ seen asked half. Moves seen asked old new half (Knows ∷ [])) → new ≡ record old { known = old.points } → IsKeptSince s page start list points new

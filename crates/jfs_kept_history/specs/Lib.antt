@@ -1,0 +1,8 @@
+-- what the laws say
+pub mod Kept
+pub mod Laws
+pub mod Crash
+-- libraries below, passed on
+pub use Rattle.jfs_points_kept as points_kept
+pub use Rattle.jfs_crashes_redone as crashes_redone
+pub use Rattle.jfs_mounted_held as mounted_held

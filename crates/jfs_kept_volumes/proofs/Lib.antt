@@ -1,0 +1,13 @@
+pub mod Half
+pub mod Fronts
+pub mod Beside
+pub mod Rests
+pub mod Logs
+pub mod Maps
+pub mod Besides
+pub mod Same
+pub mod Quiet
+pub mod Kept
+pub mod Halts
+pub mod Made
+pub mod Reserved

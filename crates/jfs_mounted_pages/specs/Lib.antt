@@ -1,0 +1,2 @@
+-- what the law says
+pub mod Mounted

@@ -1,0 +1,13 @@
+pub mod Beside
+pub mod Stay
+pub mod Founded
+pub mod Inodes
+pub mod Runs
+pub mod Marks
+pub mod Entry
+pub mod Empty
+pub mod Called
+pub mod Homing
+pub mod Bytes
+pub mod Maps
+pub mod Own
