@@ -14,7 +14,7 @@ use Rattle.jfs_legal.specs.served.specs.halves.specs.Parts.{Parts, StandsFor}
 use Rattle.jfs_legal.specs.served.specs.Legal.{IsLegal}
 use Rattle.jfs_legal.specs.served.specs.mounted.specs.Mount.{IsMountOf}
 use Rattle.jfs_legal.specs.served.specs.shown.specs.meaning.specs.Image as meaning
-use Rattle.jfs_entries_kept.proofs.Newest.{newest_law}
+use Rattle.jfs_calls_kept.specs.entries_kept.proofs.Newest.{newest_law}
 use Rattle.jfs_mounted_held.specs.Mounted.{low_of, from_mount}
 use Rattle.jfs_mounted_held.specs.mounted_places.specs.Mounted.{mount_of}
 use Rattle.jfs_mounted_maps.specs.Checked.{IsCheckedMount, IsHeldFromMount}

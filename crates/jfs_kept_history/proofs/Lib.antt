@@ -3,3 +3,4 @@ pub mod Quiet
 pub mod Steps
 pub mod Begun
 pub mod Crash
+pub mod Called

@@ -1,8 +1,17 @@
 -- A volume that is served goes on being kept, step by step, on a disk that tells its contents and what a crash may leave.
-use Rattle.std.specs.Prelude.{◌≡◌, ◌++◌, ◌∷◌, [], ℕ, false, List, length, OnOk, None, Result, Ok}
+use Rattle.std.specs.Prelude.{◌≡◌, ◌<◌, ◌+◌, ◌^◌, ◌++◌, ◌∷◌, [], ℕ, false, List, length, Option, OnOk, None, Result, Ok}
 use Rattle.jfs_disk.specs.Image.{Image, page_of}
 use Rattle.jfs_disk.specs.declared.disk.Fault.{Fault}
 use Rattle.jfs_super.specs.declared.fields.Super.{Super}
+use Rattle.jfs_records.specs.Records.{Noted}
+use Rattle.jfs_legal.specs.History.{at, GoOn}
+use Rattle.jfs_legal.specs.served.specs.call.specs.Does.{Does}
+use Rattle.jfs_legal.specs.served.specs.call.specs.DoesLent.{Asking}
+use Rattle.jfs_legal.specs.served.specs.call.specs.Noted.{noted_by}
+use Rattle.jfs_legal.specs.served.specs.call.specs.declared.outcome.Outcome.{Outcome}
+use Rattle.jfs_legal.specs.served.specs.call.specs.declared.outcome.Outcome.TheVariants.{Replied, NeedsLog, NoMemory}
+use Rattle.jfs_legal.specs.served.specs.plain.specs.Limits.{FitsCall}
+use Rattle.jfs_legal.specs.served.specs.volume.specs.Join.{entry_with}
 use Rattle.jfs_legal.specs.served.specs.crash_core.specs.Step.{halted_by}
 use Rattle.jfs_legal.specs.served.specs.halves.specs.Change.{MayPoint, Takes, HandsOut, Points, Knows}
 use Rattle.jfs_legal.specs.served.specs.halves.specs.Log.{LogParts}
@@ -21,7 +30,7 @@ use Rattle.jfs_legal.specs.served.specs.shown.specs.meaning.specs.Image as meani
 use Rattle.jfs_points_kept.specs.Kept.{IsSettledIn}
 use Rattle.jfs_mounted_maps.specs.Checked.{IsCheckedMount}
 use Rattle.jfs_mounted_held.specs.mounted_places.specs.Mounted.{mount_of}
-use Rattle.jfs_kept_history.specs.Kept.{Lasting, IsKeptSince}
+use Rattle.jfs_kept_history.specs.Kept.{Lasting, timed_in, IsKeptSince}
 
 -- ---- the mount
 
@@ -83,3 +92,17 @@ PointLaw tells crashes = tells → crashes → (s : Super) (page : ℕ → List 
 abbrev pub KnowLaw : (tells crashes : Type 0) → Type 0
 KnowLaw tells crashes = tells → crashes → (s : Super) (page : ℕ → List ℕ) (start : Parts) (list : List Lasting) (points : List ℕ) (old new : Parts) → IsKeptSince s page start list points old
     → OfEachHalf tells crashes old (λ seen asked half. Moves seen asked old new half (Knows ∷ [])) → new ≡ record old { known = old.points } → IsKeptSince s page start list points new
+
+-- ---- calls
+
+-- With its entry, which has so much in the log, the history has one more; without one it has what it had.
+abbrev pub KeptBy : (s : Super) (page : ℕ → List ℕ) (start : Parts) → List Lasting → List ℕ → (a : Asking) → Parts → Option (List Noted) → Outcome → Type 0
+KeptBy s page start list points a new noted (Replied reply number waits) = IsKeptSince s page start (list ++ record { timed = at a.now (entry_with a.caller.client a.caller.line a.request reply); noted = noted } ∷ []) points new
+KeptBy s page start list points a new noted NeedsLog = IsKeptSince s page start list points new
+KeptBy s page start list points a new noted NoMemory = IsKeptSince s page start list points new
+
+-- So it is with a call within the limits, in each of its outcomes, of a volume that serves a legal history, where its entry has a number of 32 bits.
+abbrev pub CallLaw : (tells crashes : Type 0) → Type 0
+CallLaw tells crashes = tells → crashes → (s : Super) (page : ℕ → List ℕ) (start : Parts) (list : List Lasting) (points : List ℕ) (a : Asking) (old new : Parts) (outcome : Outcome)
+    → IsKeptSince s page start list points old → GoOn (meaning.volume_of s page).area s.logpxd.len start (timed_in list) old → FitsCall a.request.call → old.appended + 1 < 2 ^ 32
+    → (d : Does tells crashes a.caller a.request a.now old new outcome) → KeptBy s page start list points a new (noted_by tells crashes a.caller a.request a.now old new outcome d) outcome

@@ -1,6 +1,6 @@
 //! A served history whose volume is kept for a redo, on a disk that tells its contents and what a crash may leave.
 
-ghost use Rattle.jfs_kept_history.specs.Laws.{BeginLaw, TakenLaw, ToldLaw, HaltedLaw, HandedLaw, HomeAllLaw, HomeMapsLaw, SyncLaw, SettledLaw, PointLaw, KnowLaw};
+ghost use Rattle.jfs_kept_history.specs.Laws.{BeginLaw, TakenLaw, ToldLaw, HaltedLaw, HandedLaw, HomeAllLaw, HomeMapsLaw, SyncLaw, SettledLaw, PointLaw, KnowLaw, CallLaw};
 ghost use Rattle.jfs_kept_history.specs.Crash.{CrashLaw};
 
 use jfs_disk::Disk;
@@ -58,6 +58,11 @@ pub fn points_are_kept<D: Disk>()
 /// and then all sync counts are known to be stable.
 pub fn known_points_are_kept<D: Disk>()
     ensures { KnowLaw D.tells D.tells_crashes }
+{}
+
+/// A call adds its entry where it is replied, and leaves the volume kept.
+pub fn calls_are_kept<D: Disk>()
+    ensures { CallLaw D.tells D.tells_crashes }
 {}
 
 /// Whatever a crash leaves of it is redone to the volume after the first entries of its history, so many as are acknowledged at least.
