@@ -44,9 +44,14 @@ crash_law s page start list points p log old k beside crashed =
       superblock = ap super_of done.superblock ∙ k.superblock;
       commits = done.commits;
       answered = done.answered;
-      redone = λ txs new committed redone whole long. record {
-        last = reached.last;
-        legal = reached.legal;
-        same = between (readers (blocks_of s)) (k.keeper.volumes done.n) _ (volume_at area reached.last) (done.redone txs new committed redone whole long) reached.same;
-      };
+      redone = λ txs new committed redone whole long. (
+          let is = done.redone txs new committed redone whole long in
+          record {
+            sound = is.sound;
+            reached = record {
+              last = reached.last;
+              legal = reached.legal;
+              same = between (readers (blocks_of s)) (k.keeper.volumes done.n) _ (volume_at area reached.last) is reached.same;
+            };
+          });
     }

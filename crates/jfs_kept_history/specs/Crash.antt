@@ -11,12 +11,20 @@ use Rattle.jfs_legal.specs.served.specs.halves.specs.Half.{LogHalf}
 use Rattle.jfs_legal.specs.served.specs.halves.specs.Parts.{Parts}
 use Rattle.jfs_legal.specs.served.specs.shown.specs.meaning.specs.Readers.{readers}
 use Rattle.jfs_legal.specs.served.specs.shown.specs.objects.specs.Image.{volume_on}
+use Rattle.jfs_legal.specs.served.specs.shown.specs.objects.specs.Owners.{IsSound}
+use Rattle.jfs_legal.specs.served.specs.shown.specs.objects.specs.Volume.{Volume}
+use Rattle.jfs_legal.specs.served.specs.Legal.{Timed}
 use Rattle.jfs_crashes_redone.specs.Crashed.{HasCrashed}
 use Rattle.jfs_crashes_redone.specs.redo.specs.Log.{AreCommitted}
 use Rattle.jfs_crashes_redone.specs.redo.specs.Redo.{IsRedone, IsRefusal, RedoIs}
 use Rattle.jfs_crashes_redone.specs.redo.specs.declared.error.RedoError.{RedoError}
 use Rattle.jfs_points_kept.specs.kept_volumes.specs.Logs.{with_log, IsLogBeside}
 use Rattle.jfs_kept_history.specs.Kept.{Lasting, timed_in, Reaches, IsKeptSince}
+
+-- A redone volume: its maps agree with its inodes, no tree of it breaks a rule, and it is what the history of these entries leaves.
+pub record HoldsHistory (s : Super) (page : ℕ → List ℕ) (start : Parts) (es : List Timed) (v : Volume) : Type 0 where
+  pub sound : IsSound (readers (blocks_of s)) v
+  pub reached : Reaches s page start es v
 
 -- The disk's superblock says that the volume is mounted, and redo refuses it for nothing. However the log is read, a disk that is redone by its transactions has the volume after the first n entries of the history, so many as were acknowledged at least: their tree, all but the bytes of files (`Reaches`).
 pub record IsRedoneToHistory (s : Super) (page : ℕ → List ℕ) (start : Parts) (list : List Lasting) (told : ℕ) (old : Image) : Type 0 where
@@ -27,7 +35,7 @@ pub record IsRedoneToHistory (s : Super) (page : ℕ → List ℕ) (start : Part
   pub commits : ((p : ℕ) → AreBytes (page_of (drop s.logpxd.addr old) p)) → (txs : List (List Edit)) × AreCommitted s.logpxd.len (blocks_of s) (drop s.logpxd.addr old) txs
   pub answered : (new : Image) (why : RedoError) → RedoIs s old new (Err why) → IsRefusal why → ⊥
   pub redone : (txs : List (List Edit)) (new : Image) → AreCommitted s.logpxd.len (blocks_of s) (drop s.logpxd.addr old) txs → IsRedone s txs old new → ArePages (length new) new → length new ≡ length old
-      → Reaches s page start (take n (timed_in list)) (volume_on (readers (blocks_of s)) (blocks_of s) s.ait2 s.aim2 (page_of new))
+      → HoldsHistory s page start (take n (timed_in list)) (volume_on (readers (blocks_of s)) (blocks_of s) s.ait2 s.aim2 (page_of new))
 
 -- So is whatever a crash leaves, while the log is one beside what keeps the volume: as much of it may be stable as is acknowledged, or more.
 abbrev pub CrashLaw : Type 0
