@@ -186,7 +186,7 @@ module _ (s : Super) (mounted : Pages) (x : Held) (old : Image) (held : IsHeld (
   pub to_volume : IsRedoneToVolume s (mount_of s mounted) x old
   to_volume = record {
     n = n;
-    told = (let a = facts.sound.counts.told_durable in let b = log.durable in let e = held.core_is.told in omega (arith, a, b, e));
+    durable = w.window.durable;
     within = (let a = w.window.taken in let b = held.core_is.taken in let d = facts.sound.counts.taken_appended in let k = counted f x.both core held.core_is in omega (arith, a, b, d, k));
     superblock = facts.superblock;
     commits = log_of.commits s x.both old crashed;

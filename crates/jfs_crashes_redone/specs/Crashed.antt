@@ -49,10 +49,10 @@ pub record HasCrashed (s : Super) (both : Halves) (old : Image) : Type 0 where
 -- ---- what redo makes of it
 
 -- The superblock is as it was mounted. The log commits transactions, where its pages are of bytes; no rule of the maps is broken, the maps stand apart (so a redo that is stopped can be made again), and redo isn't refused.
--- However the log is read: a disk that is redone by its transactions has the volume after the first n entries, all that are acknowledged among them.
+-- However the log is read: a disk that is redone by its transactions has the volume after the first n entries, all that are durable among them.
 pub record IsRedoneToVolume (s : Super) (m : Mount) (x : Held) (old : Image) : Type 0 where
   pub n : ℕ
-  pub told : x.both.volume.told ≤ n
+  pub durable : x.both.log.durable ≤ n
   pub within : n ≤ length x.both.volume.history
   pub superblock : page_of old 8 ≡ x.core.mounted 8
   pub commits : ((p : ℕ) → AreBytes (page_of (drop s.logpxd.addr old) p)) → (txs : List (List Edit)) × AreCommitted s.logpxd.len (blocks_of s) (drop s.logpxd.addr old) txs

@@ -39,7 +39,7 @@ crash_law s page start list points p log old k beside crashed =
     let reached = k.reached done.n few in
     record {
       n = done.n;
-      told_are = (let told = done.told in omega (arith, told, k.kept.rests.stands.told));
+      durable_are = done.durable;
       within = few;
       superblock = ap super_of done.superblock ∙ k.superblock;
       commits = done.commits;

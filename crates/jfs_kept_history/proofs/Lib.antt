@@ -1,6 +1,9 @@
 pub mod Same
 pub mod Quiet
 pub mod Steps
+pub mod Checked
 pub mod Begun
 pub mod Crash
+pub mod Items
+pub mod Rested
 pub mod Called

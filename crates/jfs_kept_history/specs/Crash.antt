@@ -26,10 +26,10 @@ pub record HoldsHistory (s : Super) (page : ℕ → List ℕ) (start : Parts) (e
   pub sound : IsSound (readers (blocks_of s)) v
   pub reached : Reaches s page start es v
 
--- The disk's superblock says that the volume is mounted, and redo refuses it for nothing. However the log is read, a disk that is redone by its transactions has the volume after the first n entries of the history, so many as were acknowledged at least: their tree, all but the bytes of files (`Reaches`).
-pub record IsRedoneToHistory (s : Super) (page : ℕ → List ℕ) (start : Parts) (list : List Lasting) (told : ℕ) (old : Image) : Type 0 where
+-- The disk's superblock says that the volume is mounted, and redo refuses it for nothing. However the log is read, a disk that is redone by its transactions has the volume after the first n entries of the history, all durable ones among them: their tree, all but the bytes of files (`Reaches`).
+pub record IsRedoneToHistory (s : Super) (page : ℕ → List ℕ) (start : Parts) (list : List Lasting) (durable : ℕ) (old : Image) : Type 0 where
   pub n : ℕ
-  pub told_are : told ≤ n
+  pub durable_are : durable ≤ n
   pub within : n ≤ length list
   pub superblock : super_of (page_of old 8) ≡ record s { state = MOUNTED }
   pub commits : ((p : ℕ) → AreBytes (page_of (drop s.logpxd.addr old) p)) → (txs : List (List Edit)) × AreCommitted s.logpxd.len (blocks_of s) (drop s.logpxd.addr old) txs
@@ -37,7 +37,7 @@ pub record IsRedoneToHistory (s : Super) (page : ℕ → List ℕ) (start : Part
   pub redone : (txs : List (List Edit)) (new : Image) → AreCommitted s.logpxd.len (blocks_of s) (drop s.logpxd.addr old) txs → IsRedone s txs old new → ArePages (length new) new → length new ≡ length old
       → HoldsHistory s page start (take n (timed_in list)) (volume_on (readers (blocks_of s)) (blocks_of s) s.ait2 s.aim2 (page_of new))
 
--- So is whatever a crash leaves, while the log is one beside what keeps the volume: as much of it may be stable as is acknowledged, or more.
+-- So is whatever a crash leaves, while the log is one beside what keeps the volume.
 abbrev pub CrashLaw : Type 0
 CrashLaw = (s : Super) (page : ℕ → List ℕ) (start : Parts) (list : List Lasting) (points : List ℕ) (p : Parts) (log : LogHalf) (old : Image) → (k : IsKeptSince s page start list points p)
-    → IsLogBeside k.keeper log → HasCrashed s (with_log log k.keeper.both) old → IsRedoneToHistory s page start list p.told old
+    → IsLogBeside k.keeper log → HasCrashed s (with_log log k.keeper.both) old → IsRedoneToHistory s page start list log.durable old

@@ -31,6 +31,9 @@ noted_of h = if h.logs then Some h.noted else None
 abbrev pub lasting : Happened → Lasting
 lasting h = record { timed = record { entry = entry_of h; now = h.now }; noted = noted_of h }
 
+abbrev pub noted_in : Lasting → Option (List Noted)
+noted_in e = e.noted
+
 abbrev pub timed_in : List Lasting → List Timed
 timed_in list = map (λ (e : Lasting). e.timed) list
 

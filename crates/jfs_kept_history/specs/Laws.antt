@@ -28,15 +28,15 @@ use Rattle.jfs_legal.specs.served.specs.volume_calls.specs.Written.{KeepsPages}
 use Rattle.jfs_legal.specs.served.specs.Holds.{MayServe}
 use Rattle.jfs_legal.specs.served.specs.shown.specs.meaning.specs.Image as meaning
 use Rattle.jfs_points_kept.specs.Kept.{IsSettledIn}
-use Rattle.jfs_mounted_maps.specs.Checked.{IsCheckedMount}
 use Rattle.jfs_mounted_held.specs.mounted_places.specs.Mounted.{mount_of}
+use Rattle.jfs_kept_history.specs.Checked.{IsCheckedImage}
 use Rattle.jfs_kept_history.specs.Kept.{Lasting, timed_in, IsKeptSince}
 
 -- ---- the mount
 
 -- A volume that was just mounted from an image on which a check finds nothing.
 abbrev pub BeginLaw : (tells crashes : Type 0) → Type 0
-BeginLaw tells crashes = tells → crashes → (s : Super) (old : Image) (p : Parts) (log : LogParts) → (m : IsMountOf tells crashes s old p log) → IsCheckedMount s old m.pages → IsKeptSince s (page_of old) p [] [] p
+BeginLaw tells crashes = tells → crashes → (s : Super) (old : Image) (p : Parts) (log : LogParts) → IsMountOf tells crashes s old p log → IsCheckedImage s old → IsKeptSince s (page_of old) p [] [] p
 
 -- ---- groups and acknowledgements
 

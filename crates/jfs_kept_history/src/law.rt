@@ -1,11 +1,18 @@
 //! A served history whose volume is kept for a redo, on a disk that tells its contents and what a crash may leave.
 
 ghost use Rattle.jfs_kept_history.specs.Laws.{BeginLaw, TakenLaw, ToldLaw, HaltedLaw, HandedLaw, HomeAllLaw, HomeMapsLaw, SyncLaw, SettledLaw, PointLaw, KnowLaw, CallLaw};
+ghost use Rattle.jfs_kept_history.specs.Checked.{CheckedLaw};
 ghost use Rattle.jfs_kept_history.specs.Crash.{CrashLaw};
+ghost use Rattle.jfs_kept_history.specs.Rested.{ItemsLaw, RestedLaw};
 
 use jfs_disk::Disk;
 
-/// A volume that was just mounted from an image on which a check finds nothing is kept.
+/// A mount of an image on which a check finds nothing leaves whole pages.
+pub fn mounts_leave_whole_pages<D: Disk>()
+    ensures { CheckedLaw D.tells D.tells_crashes }
+{}
+
+/// A volume that was just mounted from such an image is kept.
 pub fn mounts_are_kept<D: Disk>()
     ensures { BeginLaw D.tells D.tells_crashes }
 {}
@@ -65,7 +72,17 @@ pub fn calls_are_kept<D: Disk>()
     ensures { CallLaw D.tells D.tells_crashes }
 {}
 
-/// Whatever a crash leaves of it is redone to the volume after the first entries of its history, so many as are acknowledged at least.
+/// Whatever a crash leaves of it is redone to the volume after the first entries of its history, all durable ones among them.
 pub fn crashes_are_redone_to_the_history()
     ensures { CrashLaw }
+{}
+
+/// In the log of what keeps it stands what groups have taken, and nothing else since the mount.
+pub fn logs_have_what_was_taken()
+    ensures { ItemsLaw }
+{}
+
+/// So where a log holds that, whatever a crash leaves of the disk is redone to the history, with all that groups have taken.
+pub fn rested_disks_are_redone_to_the_history<D: Disk>()
+    ensures { RestedLaw D.tells D.tells_crashes }
 {}

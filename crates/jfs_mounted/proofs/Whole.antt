@@ -27,7 +27,7 @@ module _ (s : Super) (page : List ℕ) (a : HasArrays s) (size : length page ≡
   arrays : HasArrays (record s { state = MOUNTED })
   arrays = record { fpack = a.fpack; uuid = a.uuid; label = a.label; loguuid = a.loguuid }
 
-  new_size : length new ≡ 4096
+  pub new_size : length new ≡ 4096
   unfolding places
   new_size = length-puts (pieces (record s { state = MOUNTED })) places page (placed (record s { state = MOUNTED }) arrays) (rw size refl) ∙ size
 
