@@ -9,6 +9,7 @@ use Rattle.jfs_super.specs.Super.{super_of}
 use Rattle.jfs_super.specs.declared.fields.Super.{Super}
 use Rattle.jfs_super.proofs.Rules.{accepted_layout, accepted_pages, accepted_log}
 use Rattle.jfs_findings_new.specs.findings.proofs.BothWays.{clean_law}
+use Rattle.jfs_findings_new.specs.findings.proofs.Tidy.{consistent_law}
 use Rattle.jfs_legal.specs.served.specs.halves.specs.Log.{LogParts}
 use Rattle.jfs_legal.specs.served.specs.halves.specs.Parts.{Parts}
 use Rattle.jfs_legal.specs.served.specs.mounted.specs.Crashes.{HasArrays}
@@ -16,7 +17,7 @@ use Rattle.jfs_legal.specs.served.specs.mounted.specs.Mount.{IsMountOf}
 use Rattle.jfs_legal.specs.served.specs.mounted.proofs.Whole.{new_size}
 use Rattle.jfs_mount_disk.specs.Begun.{marked, marked_page}
 use Rattle.jfs_mounted_maps.specs.Checked.{IsCheckedMount}
-use Rattle.jfs_kept_history.specs.Checked.{IsCheckedImage, CheckedLaw}
+use Rattle.jfs_kept_history.specs.Checked.{IsCheckedImage, CheckedLaw, ConsistentLaw}
 
 module _ (s : Super) (old : Image) (c : IsCheckedImage s old) where
   page_size : length (page_of old 8) ≡ 4096
@@ -79,3 +80,6 @@ module _ (s : Super) (old : Image) (c : IsCheckedImage s old) where
 
 pub checked_law : (tells crashes : Type 0) → CheckedLaw tells crashes
 checked_law tells crashes t s old p log m c = checked s old c m.pages (m.marked t)
+
+pub consistent_image : ConsistentLaw
+consistent_image s old c = consistent_law.consistent s (page_of old) (clean_law.sound s (length old) (page_of old) c.accepted c.clean)

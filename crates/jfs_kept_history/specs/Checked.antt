@@ -10,6 +10,7 @@ use Rattle.jfs_findings_new.specs.mount_rules.specs.Subject.{subject_of}
 use Rattle.jfs_legal.specs.served.specs.halves.specs.Log.{LogParts}
 use Rattle.jfs_legal.specs.served.specs.halves.specs.Parts.{Parts}
 use Rattle.jfs_legal.specs.served.specs.mounted.specs.Mount.{IsMountOf}
+use Rattle.jfs_legal.specs.served.specs.shown.specs.meaning.specs.Image.{IsConsistentImage}
 use Rattle.jfs_mounted_maps.specs.Checked.{IsCheckedMount}
 
 -- Pages of bytes, with an accepted superblock on page 8.
@@ -23,3 +24,7 @@ pub record IsCheckedImage (s : Super) (old : Image) : Type 0 where
 -- A mount of it leaves whole pages.
 abbrev pub CheckedLaw : (tells crashes : Type 0) → Type 0
 CheckedLaw tells crashes = tells → (s : Super) (old : Image) (p : Parts) (log : LogParts) → (m : IsMountOf tells crashes s old p log) → IsCheckedImage s old → IsCheckedMount s old m.pages
+
+-- It is consistent.
+abbrev pub ConsistentLaw : Type 0
+ConsistentLaw = (s : Super) (old : Image) → IsCheckedImage s old → IsConsistentImage s (page_of old)

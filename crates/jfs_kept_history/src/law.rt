@@ -1,13 +1,18 @@
 //! A served history whose volume is kept for a redo, on a disk that tells its contents and what a crash may leave.
 
 ghost use Rattle.jfs_kept_history.specs.Laws.{BeginLaw, TakenLaw, ToldLaw, HaltedLaw, HandedLaw, HomeAllLaw, HomeMapsLaw, SyncLaw, SettledLaw, PointLaw, KnowLaw, CallLaw};
-ghost use Rattle.jfs_kept_history.specs.Checked.{CheckedLaw};
+ghost use Rattle.jfs_kept_history.specs.Checked.{CheckedLaw, ConsistentLaw};
 ghost use Rattle.jfs_kept_history.specs.Crash.{CrashLaw};
 ghost use Rattle.jfs_kept_history.specs.Rested.{ItemsLaw, RestedLaw};
 
 use jfs_disk::Disk;
 
-/// A mount of an image on which a check finds nothing leaves whole pages.
+/// An image on which a check finds nothing is consistent,
+pub fn checked_images_are_consistent()
+    ensures { ConsistentLaw }
+{}
+
+/// and a mount of it leaves whole pages.
 pub fn mounts_leave_whole_pages<D: Disk>()
     ensures { CheckedLaw D.tells D.tells_crashes }
 {}

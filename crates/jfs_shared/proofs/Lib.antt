@@ -3,6 +3,7 @@ pub mod Stepped
 pub mod Served
 pub mod Points
 pub mod Disk
+pub mod KeptServed
 pub mod Stands
 pub mod Logged
 pub mod Fresh
@@ -12,3 +13,5 @@ pub mod Called
 pub mod Together
 pub mod Pointed
 pub mod Homed
+pub mod Settled
+pub mod Left

@@ -12,9 +12,10 @@ use Rattle.jfs_legal.specs.served.specs.crash_core.specs.Step.{halted_by}
 use Rattle.jfs_shared.specs.Base.{start_of}
 use Rattle.jfs_shared.specs.Both.{Seen, AreOf, Lost, Committed, Pointed, PartlyPointed, PointIs}
 use Rattle.jfs_shared.specs.Home.{IsSettled}
+use Rattle.jfs_shared.specs.Settled.{KeepsHistory, SettlesHistory, MaySettle, PointBehind}
 use Rattle.jfs_shared.specs.Shared.{standing, log_standing}
 use Rattle.jfs_shared.specs.declared.shared.SharedVolume.{SharedVolume}
-use Rattle.jfs_shared.proofs.Stands.{home_stands, stopped_stands}
+use Rattle.jfs_shared.proofs.Stands.{home_stands, home_settles as settles_home, stopped_stands}
 use Rattle.jfs_shared.proofs.Text.{reaches, nothing_waits}
 
 -- all entries are durable and acknowledged
@@ -45,21 +46,25 @@ module _ {D : Type 0} (d : Ghosts D) (x : SharedVolume D) (y : SharedLog D d) (r
 
   module _ (x' : SharedVolume D) (y' : SharedLog D d) (c : Committed (standing d) (log_standing d) n x' y') (new : Parts) (is : IsSettled x'.volume new) where
     -- pages went home
-    pub home_are : new.faults ≡ x'.volume.faults → new.halted ≡ x'.volume.halted → Settles x'.volume new → StaysShown d.tells x'.volume new → (d.tells → LeavesMaps x'.volume new) → AreOf (standing d) (log_standing d) (settled n) (record x' { volume = new }) y'
-    home_are faults halted settles shown maps = record {
-      volume = home_stands d.tells n.base n.list (length n.list) (length n.list) n.points n.known x'.points x'.is_broken_off x'.volume c.0 new is faults halted settles shown maps;
+    pub home_are : new.faults ≡ x'.volume.faults → new.halted ≡ x'.volume.halted → Settles x'.volume new → StaysShown d.tells x'.volume new → (d.tells → LeavesMaps x'.volume new) → KeepsHistory d.tells d.tells_crashes x'.volume new → AreOf (standing d) (log_standing d) (settled n) (record x' { volume = new }) y'
+    home_are faults halted settles shown maps keeps = record {
+      volume = home_stands d.tells d.tells_crashes n.base n.list (length n.list) (length n.list) n.points n.known x'.points x'.is_broken_off x'.volume c.0 new is faults halted settles shown maps keeps;
       log = c.1;
       front = ([], append-nil n.list);
       told_within = omega arith;
     }
 
+    -- a SYNCPT may be made then
+    pub home_settles : Settles x'.volume new → StaysShown d.tells x'.volume new → (d.tells → LeavesMaps x'.volume new) → SettlesHistory d.tells d.tells_crashes x'.volume new → MaySettle d.tells d.tells_crashes (settled n) (record x' { volume = new })
+    home_settles settles shown maps keeps = settles_home d.tells d.tells_crashes n.base n.list (length n.list) (length n.list) n.points n.known x'.points x'.is_broken_off x'.volume c.0 new is settles shown maps keeps
+
     -- one of them couldn't
-    pub not_home : (fault : Fault) → Rose x'.volume.faults new.faults → new.halted ≡ halted_by fault x'.volume.halted → Settles x'.volume new → StaysShown d.tells x'.volume new → (d.tells → LeavesMaps x'.volume new) → PartlyPointed (standing d) (log_standing d) n (record x' { volume = new }) y'
-    not_home fault rose halts settles shown maps = record {
+    pub not_home : (fault : Fault) → Rose x'.volume.faults new.faults → new.halted ≡ halted_by fault x'.volume.halted → Settles x'.volume new → StaysShown d.tells x'.volume new → (d.tells → LeavesMaps x'.volume new) → KeepsHistory d.tells d.tells_crashes x'.volume new → PartlyPointed (standing d) (log_standing d) n (record x' { volume = new }) y'
+    not_home fault rose halts settles shown maps keeps = record {
       told_now = length n.list;
       durable_now = length n.list;
       points_now = n.points;
-      volume = stopped_stands d.tells n.base n.list (length n.list) (length n.list) n.points n.known x'.points x'.is_broken_off x'.volume c.0 new is fault rose halts settles shown maps;
+      volume = stopped_stands d.tells d.tells_crashes n.base n.list (length n.list) (length n.list) n.points n.known x'.points x'.is_broken_off x'.volume c.0 new is fault rose halts settles shown maps keeps;
       log = c.1;
       told_grows = told_within;
       durable_grows = durable_within;
@@ -88,11 +93,11 @@ module _ {D : Type 0} (d : Ghosts D) (x : SharedVolume D) (y : SharedLog D d) (r
   PointEnds (Err fault) last last_log = PartlyPointed (standing d) (log_standing d) n last last_log
 
   -- what follows from there is said of both as they were
-  pub point_ends : (x' : SharedVolume D) (y' : SharedLog D d) (last : SharedVolume D) (last_log : SharedLog D d) (result : Result (Unit {0}) Fault) → AreOf (standing d) (log_standing d) (settled n) x' y'
-      → PointIs (standing d) (log_standing d) x' y' last last_log result → PointEnds result last last_log
-  point_ends x' y' last last_log (Ok done) are point = point (settled n) are
-  point_ends x' y' last last_log (Err fault) are point =
-      let p = point (settled n) are in record {
+  pub point_ends : (x' : SharedVolume D) (y' : SharedLog D d) (last : SharedVolume D) (last_log : SharedLog D d) (result : Result (Unit {0}) Fault) → AreOf (standing d) (log_standing d) (settled n) x' y' → MaySettle d.tells d.tells_crashes (settled n) x'
+      → PointBehind d x' y' last last_log result → PointEnds result last last_log
+  point_ends x' y' last last_log (Ok done) are home point = point (settled n) are home
+  point_ends x' y' last last_log (Err fault) are home point =
+      let p = point (settled n) are home in record {
         told_now = p.told_now;
         durable_now = p.durable_now;
         points_now = p.points_now;

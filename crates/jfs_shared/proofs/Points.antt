@@ -2,6 +2,7 @@
 use Rattle.std.proofs.Common.{◌≡◌, ◌<◌, ℕ, suc, ◌^◌, ◌||◌, Bool, true, false, if◌then◌else◌, List, [], ◌∷◌, ◌++◌, length, refl, sym, ap, arith}
 use Rattle.std.proofs.lemmas.Bool.{false≢true}
 use Rattle.jfs_groups.specs.Points.{halt_mark, is_mark, is_marked, syncs}
+use Rattle.jfs_shared.specs.Shared.{counts_in}
 
 -- without a mark all are syncpoints
 pub all_syncs : (ps : List ℕ) → is_marked ps ≡ false → syncs ps ≡ length ps
@@ -40,3 +41,26 @@ synced_more (p ∷ ps) n less = by (is_mark p) (synced_more ps n less)
 pub marked_more : (ps : List ℕ) (n : ℕ) → n < 2 ^ 64 → is_marked (ps ++ n ∷ []) ≡ is_marked ps
 marked_more [] n less = ap (λ (b : Bool). b || false) (no_mark n less)
 marked_more (p ∷ ps) n less = ap (λ (b : Bool). is_mark p || b) (marked_more ps n less)
+
+-- ---- the sync counts
+
+pub marked_counts : (ps : List ℕ) → counts_in (ps ++ halt_mark ∷ []) ≡ counts_in ps
+marked_counts [] = refl
+marked_counts (p ∷ ps) = ap (λ (l : List ℕ). if is_mark p then l else p ∷ l) (marked_counts ps)
+
+pub more_counts : (ps : List ℕ) (n : ℕ) → n < 2 ^ 64 → counts_in (ps ++ n ∷ []) ≡ counts_in ps ++ n ∷ []
+more_counts [] n less = ap (λ (b : Bool). if b then [] else n ∷ []) (no_mark n less)
+more_counts (p ∷ ps) n less = by (is_mark p) (more_counts ps n less)
+  where
+    by : (b : Bool) → counts_in (ps ++ n ∷ []) ≡ counts_in ps ++ n ∷ [] → (if b then counts_in (ps ++ n ∷ []) else p ∷ counts_in (ps ++ n ∷ [])) ≡ (if b then counts_in ps else p ∷ counts_in ps) ++ n ∷ []
+    by true rest = rest
+    by false rest = ap (λ (l : List ℕ). p ∷ l) rest
+
+-- without a mark all of them are
+pub all_counts : (ps : List ℕ) → is_marked ps ≡ false → counts_in ps ≡ ps
+all_counts [] e = refl
+all_counts (p ∷ ps) e = by (is_mark p) (all_counts ps) e
+  where
+    by : (b : Bool) → (is_marked ps ≡ false → counts_in ps ≡ ps) → (b || is_marked ps) ≡ false → (if b then counts_in ps else p ∷ counts_in ps) ≡ p ∷ ps
+    by true rest e = absurd (false≢true (sym e))
+    by false rest e = ap (λ (l : List ℕ). p ∷ l) (rest e)

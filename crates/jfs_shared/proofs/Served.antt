@@ -25,7 +25,7 @@ module _ (area : ℕ → ℕ) (log_pages : ℕ) (start : Parts) (tells crashes :
   -- ---- a call
 
   -- with its entry
-  joined : (list : List Recorded) (a : Asking) (old new : Parts) (reply : Reply) (number : ℕ) (waits : Bool) (noted : Option (List Noted)) → GoOn area log_pages start (timed_in list) old
+  pub joined : (list : List Recorded) (a : Asking) (old new : Parts) (reply : Reply) (number : ℕ) (waits : Bool) (noted : Option (List Noted)) → GoOn area log_pages start (timed_in list) old
       → Does tells crashes a.caller a.request a.now old new (Replied reply number waits)
       → GoOn area log_pages start (timed_in (list ++ recorded a.caller.client a.caller.line a.request a.now reply noted ∷ [])) new
   joined list a old new reply number waits noted goes d =
@@ -33,17 +33,17 @@ module _ (area : ℕ → ℕ) (log_pages : ℕ) (start : Parts) (tells crashes :
       (call_law tells crashes told area log_pages start (timed_in list) a old new (Replied reply number waits) goes d)
 
   -- one that needs the log
-  asked : (broken : Bool) (es : List Timed) (a : Asking) (old new : Parts) → GoesOn broken area log_pages start es old → Does tells crashes a.caller a.request a.now old new NeedsLog → GoesOn broken area log_pages start es new
+  pub asked : (broken : Bool) (es : List Timed) (a : Asking) (old new : Parts) → GoesOn broken area log_pages start es old → Does tells crashes a.caller a.request a.now old new NeedsLog → GoesOn broken area log_pages start es new
   asked false es a old new goes d = call_law tells crashes told area log_pages start es a old new NeedsLog goes d
   asked true es a old new legal d = legal
 
   -- ---- groups, and pages that go home
 
-  settled : (broken : Bool) (es : List Timed) (old new : Parts) → Settles old new → KeepsPages tells old new → GoesOn broken area log_pages start es old → GoesOn broken area log_pages start es new
+  pub settled : (broken : Bool) (es : List Timed) (old new : Parts) → Settles old new → KeepsPages tells old new → GoesOn broken area log_pages start es old → GoesOn broken area log_pages start es new
   settled false es old new settles files goes = settled_law tells told area log_pages start es old new goes settles files
   settled true es old new settles files legal = legal
 
-  pointed : (broken : Bool) (es : List Timed) (old new : Parts) → Settles old new → StaysShown tells old new → LeavesMaps old new → GoesOn broken area log_pages start es old → GoesOn broken area log_pages start es new
+  pub pointed : (broken : Bool) (es : List Timed) (old new : Parts) → Settles old new → StaysShown tells old new → LeavesMaps old new → GoesOn broken area log_pages start es old → GoesOn broken area log_pages start es new
   pointed false es old new settles shown maps goes = pointed_law tells told area log_pages start es old new goes settles shown maps
   pointed true es old new settles shown maps legal = legal
 

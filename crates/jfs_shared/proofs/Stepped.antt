@@ -8,10 +8,11 @@ use Rattle.jfs_plain.specs.declared.call.Entry.{Entry}
 use Rattle.jfs_plain.specs.declared.call.Request.{Request}
 use Rattle.jfs_plain.specs.declared.reply.Reply.{Reply}
 use Rattle.jfs_ranges.specs.declared.edit.Edit.{Edit}
-use Rattle.jfs_records.specs.Records.{Noted, noted as with_notes}
+use Rattle.jfs_records.specs.Records.{Noted}
 use Rattle.jfs_call.specs.Answer.{held}
 use Rattle.jfs_call.specs.Changed.{IsChangedBy}
 use Rattle.jfs_call.specs.Does.{TellsSynced, ChangesWhere, EndsBy, DoesWhere, Does}
+use Rattle.jfs_call.specs.Noted.{noted_in, noted_where, noted_at, noted_of, noted_by}
 use Rattle.jfs_call.specs.Replied.{IsReplied, TellsSame}
 use Rattle.jfs_call.specs.declared.outcome.Outcome.{Outcome}
 use Rattle.jfs_call.specs.declared.outcome.Outcome.TheVariants.{Replied, NeedsLog, NoMemory}
@@ -37,10 +38,11 @@ pub record Grew (noted : Option (List Noted)) (old new : Parts) : Type 0 where
   pub ends : new.text.ends ≡ ended noted (old.appended + 1) old.text
   pub last : new.text.last ≡ old.appended + 1
 
-abbrev pub StepIs : Parts → Parts → Outcome → Type 0
-StepIs old new (Replied reply number waits) = (noted : Option (List Noted)) × Grew noted old new
-StepIs old new NeedsLog = Stood old new
-StepIs old new NoMemory = Stood old new
+-- a call that is replied has so much in the log
+abbrev pub StepIs : Option (List Noted) → Parts → Parts → Outcome → Type 0
+StepIs noted old new (Replied reply number waits) = Grew noted old new
+StepIs noted old new NeedsLog = Stood old new
+StepIs noted old new NoMemory = Stood old new
 
 stood : (old : Parts) → Stood old old
 stood old = record { known = refl; text = refl; appended = refl }
@@ -56,10 +58,10 @@ grew_on noted old mid new a b = record {
   last = b.last ∙ ap (λ (n : ℕ). n + 1) a.appended;
 }
 
-on : (old mid new : Parts) (outcome : Outcome) → Stood old mid → StepIs mid new outcome → StepIs old new outcome
-on old mid new (Replied reply number waits) a (noted, b) = (noted, grew_on noted old mid new a b)
-on old mid new NeedsLog a b = stood_on old mid new a b
-on old mid new NoMemory a b = stood_on old mid new a b
+on : (noted : Option (List Noted)) (old mid new : Parts) (outcome : Outcome) → Stood old mid → StepIs noted mid new outcome → StepIs noted old new outcome
+on noted old mid new (Replied reply number waits) a b = grew_on noted old mid new a b
+on noted old mid new NeedsLog a b = stood_on old mid new a b
+on noted old mid new NoMemory a b = stood_on old mid new a b
 
 -- an entry without records
 alone : (entry : Entry) (old new : Parts) → new ≡ with_entry entry old → Grew None old new
@@ -71,53 +73,51 @@ same old new e = record { known = ap (λ (p : Parts). p.known) e; text = ap (λ 
 left_out : (old new : Parts) → JoinsNot old new → Stood old new
 left_out old new j = record { known = ap (λ (p : Parts). p.known) j.parts; text = ap (λ (p : Parts). p.text) j.parts; appended = ap (λ (p : Parts). p.appended) j.parts }
 
-no_memory : (old new : Parts) (outcome : Outcome) → outcome ≡ NoMemory → new ≡ old → StepIs old new outcome
-no_memory old new outcome none e = subst (StepIs old new) (sym none) (same old new e)
+no_memory : (old new : Parts) (outcome : Outcome) → outcome ≡ NoMemory → new ≡ old → StepIs None old new outcome
+no_memory old new outcome none e = subst (StepIs None old new) (sym none) (same old new e)
 
 module _ (tells crashes : Type 0) (caller : Caller) (request : Request) where
-  replied : (given : Reply) (wait : Bool) (old new : Parts) (outcome : Outcome) → IsReplied caller request given wait old new outcome → StepIs old new outcome
-  replied given wait old new (Replied reply number waits) r = (None, alone _ old new r.parts)
+  replied : (given : Reply) (wait : Bool) (old new : Parts) (outcome : Outcome) → IsReplied caller request given wait old new outcome → StepIs None old new outcome
+  replied given wait old new (Replied reply number waits) r = alone _ old new r.parts
   replied given wait old new NeedsLog r = absurd r
   replied given wait old new NoMemory r = same old new r
 
-  synced : (result : Result (Unit {0}) Fault) (old new : Parts) (outcome : Outcome) → TellsSynced caller request result old new outcome → StepIs old new outcome
+  synced : (result : Result (Unit {0}) Fault) (old new : Parts) (outcome : Outcome) → TellsSynced caller request result old new outcome → StepIs None old new outcome
   synced (Ok done) old new outcome r = replied _ true old new outcome r
   synced (Err fault) old new outcome r = replied _ false old new outcome r
 
-  changed : (old new : Parts) (outcome : Outcome) (tx : List Edit) (put : List DataPage) → IsChangedBy tells crashes caller request tx put old new outcome → StepIs old new outcome
+  changed : (old new : Parts) (outcome : Outcome) (tx : List Edit) (put : List DataPage) → (c : IsChangedBy tells crashes caller request tx put old new outcome) → StepIs (noted_in tells crashes caller request tx put old new outcome c) old new outcome
   changed old new (Replied reply number waits) tx put (inl d) =
-      let a = d.joins.joins.adds.parts in (
-        Some (with_notes tx d.joins.joins.notes),
-        record { known = ap (λ (p : Parts). p.known) a; bytes = ap (λ (p : Parts). p.text.bytes) a; ends = ap (λ (p : Parts). p.text.ends) a; last = ap (λ (p : Parts). p.text.last) a },
-      )
-  changed old new (Replied reply number waits) tx put (inr (fault, f)) = (None, grew_on None old f.mid new (left_out old f.mid f.given_back.joins_not) (alone _ f.mid new f.parts))
+      let a = d.joins.joins.adds.parts in
+      record { known = ap (λ (p : Parts). p.known) a; bytes = ap (λ (p : Parts). p.text.bytes) a; ends = ap (λ (p : Parts). p.text.ends) a; last = ap (λ (p : Parts). p.text.last) a }
+  changed old new (Replied reply number waits) tx put (inr (fault, f)) = grew_on None old f.mid new (left_out old f.mid f.given_back.joins_not) (alone _ f.mid new f.parts)
   changed old new NeedsLog tx put (given, goes, lacks) = left_out old new given.joins_not
   changed old new NoMemory tx put (inl (given, goes)) = left_out old new given.joins_not
   changed old new NoMemory tx put (inr (inl e)) = same old new e
   changed old new NoMemory tx put (inr (inr f)) = left_out old new f.given_back.joins_not
 
-  changes : (b : Bool) (old new : Parts) (outcome : Outcome) (tx : List Edit) (put : List DataPage) → ChangesWhere b tells crashes caller request tx put old new outcome → StepIs old new outcome
+  changes : (b : Bool) (old new : Parts) (outcome : Outcome) (tx : List Edit) (put : List DataPage) → (c : ChangesWhere b tells crashes caller request tx put old new outcome) → StepIs (noted_where tells crashes b caller request tx put old new outcome c) old new outcome
   changes true old new outcome tx put c = changed old new outcome tx put c
   changes false old new outcome tx put (none, e) = no_memory old new outcome none e
 
-  unchanged : (reply : Reply) (old new : Parts) (outcome : Outcome) → TellsSame caller request reply old new outcome → StepIs old new outcome
+  unchanged : (reply : Reply) (old new : Parts) (outcome : Outcome) → TellsSame caller request reply old new outcome → StepIs None old new outcome
   unchanged reply old new outcome (inl (kept, r)) = replied reply false old new outcome r
   unchanged reply old new outcome (inr (none, e)) = no_memory old new outcome none e
 
-  answered : (answer : FileOutcome) (old new : Parts) (outcome : Outcome) → EndsBy tells crashes caller request answer old new outcome → StepIs old new outcome
+  answered : (answer : FileOutcome) (old new : Parts) (outcome : Outcome) → (e : EndsBy tells crashes caller request answer old new outcome) → StepIs (noted_at tells crashes caller request answer old new outcome e) old new outcome
   answered (Changed tx put) old new outcome e = changes (is_changing request.call) old new outcome tx put e
   answered (Same reply) old new outcome e = unchanged reply old new outcome e
-  answered Awaits old new outcome (needs, e) = subst (StepIs old new) (sym needs) (same old new e)
+  answered Awaits old new outcome (needs, e) = subst (StepIs None old new) (sym needs) (same old new e)
 
   module _ (now : Moment) where
-    by : (refused : Option Fault) (syncs : Bool) (old new : Parts) (outcome : Outcome) → DoesWhere refused syncs tells crashes caller request now old new outcome → StepIs old new outcome
+    by : (refused : Option Fault) (syncs : Bool) (old new : Parts) (outcome : Outcome) → (d : DoesWhere refused syncs tells crashes caller request now old new outcome) → StepIs (noted_of tells crashes refused syncs caller request now old new outcome d) old new outcome
     by (Some fault) syncs old new outcome d = replied _ false old new outcome d
     by None true old new outcome d =
-        on old d.mid new outcome (let e = d.is.alone.parts in record { known = ap (λ (p : Parts). p.known) e; text = ap (λ (p : Parts). p.text) e; appended = ap (λ (p : Parts). p.appended) e })
+        on None old d.mid new outcome (let e = d.is.alone.parts in record { known = ap (λ (p : Parts). p.known) e; text = ap (λ (p : Parts). p.text) e; appended = ap (λ (p : Parts). p.appended) e })
         (synced d.synced d.mid new outcome d.told)
     by None false old new outcome d =
-        on old d.mid new outcome (let e = d.asked.parts in record { known = ap (λ (p : Parts). p.known) e; text = ap (λ (p : Parts). p.text) e; appended = ap (λ (p : Parts). p.appended) e })
+        on (noted_at tells crashes caller request d.answer d.mid new outcome d.ends) old d.mid new outcome (let e = d.asked.parts in record { known = ap (λ (p : Parts). p.known) e; text = ap (λ (p : Parts). p.text) e; appended = ap (λ (p : Parts). p.appended) e })
         (answered d.answer d.mid new outcome d.ends)
 
-    pub stepped : (old new : Parts) (outcome : Outcome) → Does tells crashes caller request now old new outcome → StepIs old new outcome
+    pub stepped : (old new : Parts) (outcome : Outcome) → (d : Does tells crashes caller request now old new outcome) → StepIs (noted_by tells crashes caller request now old new outcome d) old new outcome
     stepped old new outcome d = by (held old.halted request.call) (is_sync request.call) old new outcome d

@@ -18,7 +18,7 @@ module _ {D : Type 0} (d : Ghosts D) (n : Seen) (x : SharedVolume D) (y : Shared
   r = k.log.runs runs
 
   -- what groups have taken is the log's list
-  front : take n.taken n.list ≡ n.log_list
+  pub front : take n.taken n.list ≡ n.log_list
   front = ap (λ (m : ℕ). take m n.list) (sym r.taken_all ∙ r.durable_all) ∙ ap (λ (l : List Recorded). take (length n.log_list) l) (sym k.front.1) ∙ take-append_seam n.log_list k.front.0
 
   pub together : calls.AreTogether x.volume (calls.log_parts d y.side)

@@ -16,14 +16,17 @@ use Rattle.jfs_groups.specs.Written.{IsGroupWritten, IsGroupLost}
 use Rattle.jfs_groups.specs.declared.log.SharedLog.{SharedLog}
 use Rattle.jfs_groups.proofs.Leading.{behind_all}
 use Rattle.jfs_groups.proofs.Stands.{may_write, written_stands, more_lost, group_lost, lost_stands}
-use Rattle.jfs_call.specs.halves.specs.Parts.{Parts}
+use Rattle.jfs_call.specs.halves.specs.Change.{MayPoint, Takes, Points, Knows}
+use Rattle.jfs_call.specs.halves.specs.Moves.{Moves}
+use Rattle.jfs_call.specs.halves.specs.Parts.{Parts, OfEachHalf}
 use Rattle.jfs_call.specs.volume.specs.bmap.specs.States.{blocks_settled}
 use Rattle.jfs_call.specs.volume.specs.Room.{IsWithinRoom}
 use Rattle.jfs_call.specs.volume.specs.Settle.{with_point}
 use Rattle.jfs_call.specs.volume.specs.Settles.{is_freed}
-use Rattle.jfs_call.specs.volume.specs.Told.{still_freed}
+use Rattle.jfs_call.specs.volume.specs.Told.{IsTold, still_freed}
 use Rattle.jfs_shared.specs.Base.{start_of, log_start_of}
 use Rattle.jfs_shared.specs.Both.{Seen, AreOf, AreTogether, Written, Lost, Committed, Pointed, PartlyPointed}
+use Rattle.jfs_shared.specs.Settled.{MaySettle}
 use Rattle.jfs_shared.specs.Shared.{logs_of, IsShared, Stands, standing, log_standing}
 use Rattle.jfs_shared.specs.declared.point_group.PointGroup.{PointGroup}
 use Rattle.jfs_shared.specs.declared.shared.SharedVolume.{SharedVolume}
@@ -33,23 +36,24 @@ use Rattle.jfs_shared.proofs.Text.{reaches}
 use Rattle.jfs_shared.proofs.Stands.{group_stands, group_is, told_stands, point_stands, known_stands}
 
 -- what a volume hands out as a group
-pub record IsTakenFrom (old new : Parts) (group : GroupText) : Type 0 where
+pub record IsTakenFrom (tells crashes : Type 0) (old new : Parts) (group : GroupText) : Type 0 where
   pub bytes : group.bytes.items ≡ old.text.bytes
   pub ends : group.ends.items ≡ old.text.ends
   pub last : group.last ≡ old.appended
   pub room : IsWithinRoom old.text.ring old.text.sync old.text.place (length group.bytes.items)
   pub parts : new ≡ record old { taken = old.appended; text = record old.text { place = old.text.place + length old.text.bytes; bytes = []; ends = [] } }
+  pub moves : OfEachHalf tells crashes old (λ seen asked half. Moves seen asked old new half (Takes ∷ []))
 
 module _ {D : Type 0} (d : Ghosts D) (x : SharedVolume D) (y : SharedLog D d) (runs : y.side.halted ≡ None) where
   -- ---- a group
 
-  module _ (new : Parts) (group : GroupText) (t : IsTakenFrom x.volume new group) where
+  module _ (new : Parts) (group : GroupText) (t : IsTakenFrom d.tells d.tells_crashes x.volume new group) where
     module _ (n : Seen) (k : AreOf (standing d) (log_standing d) n x y) where
       is_group : IsGroupOf logs_of (start_of n.base).log.ring n.list n.taken (syncs n.points) group
-      is_group = group_is d.tells n.base n.list n.taken n.told n.points n.known x.points x.is_broken_off x.volume k.volume group t.bytes t.ends t.last t.room
+      is_group = group_is d.tells d.tells_crashes n.base n.list n.taken n.told n.points n.known x.points x.is_broken_off x.volume k.volume group t.bytes t.ends t.last t.room
 
-      taken : IsShared d.tells n.base n.list (length n.list) n.told n.points n.known x.points x.is_broken_off new
-      taken = group_stands d.tells n.base n.list n.taken n.told n.points n.known x.points x.is_broken_off x.volume k.volume new t.parts
+      taken : IsShared d.tells d.tells_crashes n.base n.list (length n.list) n.told n.points n.known x.points x.is_broken_off new
+      taken = group_stands d.tells d.tells_crashes n.base n.list n.taken n.told n.points n.known x.points x.is_broken_off x.volume k.volume new t.parts (subst (λ (b : List ℕ). IsWithinRoom x.volume.text.ring x.volume.text.sync x.volume.text.place (length b)) t.bytes t.room) t.moves
 
     pub may : AreTogether (standing d) (log_standing d) x y
         → (pages_of (length group.bytes.items) ≤ room_of y.side.last.ring) × (y.side.durable ≤ group.last) × (position_of y.side.last + length group.bytes.items ≤ 4080 * 2 ^ 32)
@@ -79,7 +83,7 @@ module _ {D : Type 0} (d : Ghosts D) (x : SharedVolume D) (y : SharedLog D d) (r
   -- groups have taken all
   pub idle : x.volume.taken ≡ x.volume.appended → (n : Seen) → AreOf (standing d) (log_standing d) n x y → Written (standing d) (log_standing d) n x y
   idle e n k = (
-    subst (λ (m : ℕ). IsShared d.tells n.base n.list m n.told n.points n.known x.points x.is_broken_off x.volume) all k.volume,
+    subst (λ (m : ℕ). IsShared d.tells d.tells_crashes n.base n.list m n.told n.points n.known x.points x.is_broken_off x.volume) all k.volume,
     all_taken logs_of d.tells d.tells_crashes (log_start_of n.base) (data_of d y) (data_of d y) n.log_list n.taken n.durable n.points n.stable k.log runs n.list k.front all,
   )
     where
@@ -92,7 +96,8 @@ module _ {D : Type 0} (d : Ghosts D) (x : SharedVolume D) (y : SharedLog D d) (r
     pub point_size : length group.bytes.items ≡ 36
     point_size = ap (λ (b : List ℕ). length b) bytes ∙ length-items 0 0 (point 0 ∷ [])
 
-    module _ (small : x.volume.appended < 2 ^ 64) (empty : x.volume.text.bytes ≡ []) (told : x.volume.told ≡ x.volume.appended) (pointed : Parts) (e : pointed ≡ with_point x.volume) (n : Seen) (k : AreOf (standing d) (log_standing d) n x y) where
+    module _ (small : x.volume.appended < 2 ^ 64) (empty : x.volume.text.bytes ≡ []) (told : x.volume.told ≡ x.volume.appended) (pointed : Parts) (e : pointed ≡ with_point x.volume) (moves : OfEachHalf d.tells d.tells_crashes x.volume (λ seen asked half. MayPoint half → Moves seen asked x.volume pointed half (Points ∷ Takes ∷ [])))
+        (n : Seen) (k : AreOf (standing d) (log_standing d) n x y) (home : MaySettle d.tells d.tells_crashes n x) where
       all_told : n.told ≡ length n.list
       all_told = sym k.volume.told_is ∙ told ∙ k.volume.appended
 
@@ -102,9 +107,9 @@ module _ {D : Type 0} (d : Ghosts D) (x : SharedVolume D) (y : SharedLog D d) (r
       few : length n.list < 2 ^ 64
       few = omega (arith, small, k.volume.appended)
 
-      pub stands : IsShared d.tells n.base n.list (length n.list) (length n.list) (n.points ++ length n.list ∷ []) n.known (x.points + 1) x.is_broken_off pointed
-      stands = subst (λ (m : ℕ). IsShared d.tells n.base n.list (length n.list) m (n.points ++ length n.list ∷ []) n.known (x.points + 1) x.is_broken_off pointed) all_told
-          (point_stands d.tells n.base n.list n.taken n.told n.points n.known x.points x.is_broken_off x.volume k.volume pointed few all empty e)
+      pub stands : IsShared d.tells d.tells_crashes n.base n.list (length n.list) (length n.list) (n.points ++ length n.list ∷ []) n.known (x.points + 1) x.is_broken_off pointed
+      stands = subst (λ (m : ℕ). IsShared d.tells d.tells_crashes n.base n.list (length n.list) m (n.points ++ length n.list ∷ []) n.known (x.points + 1) x.is_broken_off pointed) all_told
+          (point_stands d.tells d.tells_crashes n.base n.list n.taken n.told n.points n.known x.points x.is_broken_off x.volume k.volume pointed few all empty e moves home)
 
       all_known : syncs (n.points ++ length n.list ∷ []) ≡ suc (length n.points)
       all_known = omega (arith, synced_more n.points (length n.list) few, all_syncs n.points (k.log.runs runs).unmarked)
@@ -112,11 +117,11 @@ module _ {D : Type 0} (d : Ghosts D) (x : SharedVolume D) (y : SharedLog D d) (r
       log : LogStandsFor logs_of d.tells d.tells_crashes (log_start_of n.base) (data_of d y) n.list (length n.list) (length n.list) n.points n.stable
       log = all_taken logs_of d.tells d.tells_crashes (log_start_of n.base) (data_of d y) (data_of d y) n.log_list n.taken n.durable n.points n.stable k.log runs n.list k.front all
 
-      pub pointed_both : (known : Parts) → known ≡ record pointed { known = pointed.points } → (y' : SharedLog D d) → IsGroupWritten d.tells d.tells_crashes group (data_of d y) (data_of d y')
+      pub pointed_both : (known : Parts) → known ≡ record pointed { known = pointed.points } → OfEachHalf d.tells d.tells_crashes pointed (λ seen asked half. Moves seen asked pointed known half (Knows ∷ [])) → (y' : SharedLog D d) → IsGroupWritten d.tells d.tells_crashes group (data_of d y) (data_of d y')
           → Pointed (standing d) (log_standing d) n (record x { volume = known; points = x.points + 1 }) (record y' { points = y'.points + 1 })
-      pointed_both known is y' w = (
-        subst (λ (m : ℕ). IsShared d.tells n.base n.list (length n.list) (length n.list) (n.points ++ length n.list ∷ []) m (x.points + 1) x.is_broken_off known) all_known
-            (known_stands d.tells n.base n.list (length n.list) (length n.list) (n.points ++ length n.list ∷ []) n.known (x.points + 1) x.is_broken_off pointed stands known is),
+      pointed_both known is knows y' w = (
+        subst (λ (m : ℕ). IsShared d.tells d.tells_crashes n.base n.list (length n.list) (length n.list) (n.points ++ length n.list ∷ []) m (x.points + 1) x.is_broken_off known) all_known
+            (known_stands d.tells d.tells_crashes n.base n.list (length n.list) (length n.list) (n.points ++ length n.list ∷ []) n.known (x.points + 1) x.is_broken_off pointed stands known is knows),
         pointed_stands logs_of d.tells d.tells_crashes (log_start_of n.base) (data_of d y) (data_of d y') n.list (length n.list) (length n.list) n.points n.stable log runs group few bytes point_size (last ∙ k.volume.appended) w,
       )
 
@@ -135,7 +140,7 @@ module _ {D : Type 0} (d : Ghosts D) (x : SharedVolume D) (y : SharedLog D d) (r
         points_grow = inr halted.1;
       }
         where
-          halted : (later : List ℕ) × ((later ≡ n.points ++ length n.list ∷ []) ⊎ (later ≡ (n.points ++ length n.list ∷ []) ++ halt_mark ∷ [])) × IsShared d.tells n.base n.list (length n.list) (length n.list) later n.known later_volume.points later_volume.is_broken_off later_volume.volume × (later_volume.points ≡ length later)
+          halted : (later : List ℕ) × ((later ≡ n.points ++ length n.list ∷ []) ⊎ (later ≡ (n.points ++ length n.list ∷ []) ++ halt_mark ∷ [])) × IsShared d.tells d.tells_crashes n.base n.list (length n.list) (length n.list) later n.known later_volume.points later_volume.is_broken_off later_volume.volume × (later_volume.points ≡ length later)
           halted = halts n.base n.list (length n.list) (length n.list) (n.points ++ length n.list ∷ []) n.known stands
 
           durable_taken : n.durable ≡ n.taken
@@ -155,10 +160,11 @@ module _ {D : Type 0} (d : Ghosts D) (x : SharedVolume D) (y : SharedLog D d) (x
   pub told_all : (n : Seen) → Written (standing d) (log_standing d) n x' y' → (all : ℕ) → all ≡ x'.volume.appended → (new : Parts)
       → new ≡ record x'.volume { view = new.view; dirty = new.dirty; told = all; map = blocks_settled all x'.volume.map; freed = still_freed all x'.volume.freed }
       → (d.tells → (q : ℕ) → is_freed x'.volume.freed q ≡ false → page_of new.view q ≡ page_of x'.volume.view q)
+      → OfEachHalf d.tells d.tells_crashes x'.volume (λ seen asked half. IsTold seen asked all x'.volume new half)
       → Committed (standing d) (log_standing d) n (record x' { volume = new }) y'
-  told_all n w all is new e shows = (
-    subst (λ (m : ℕ). IsShared d.tells n.base n.list (length n.list) m n.points n.known x'.points x'.is_broken_off new) all_is
-        (told_stands d.tells n.base n.list (length n.list) n.told n.points n.known x'.points x'.is_broken_off x'.volume w.0 all new (omega (arith, all_is)) e shows),
+  told_all n w all is new e shows tell = (
+    subst (λ (m : ℕ). IsShared d.tells d.tells_crashes n.base n.list (length n.list) m n.points n.known x'.points x'.is_broken_off new) all_is
+        (told_stands d.tells d.tells_crashes n.base n.list (length n.list) n.told n.points n.known x'.points x'.is_broken_off x'.volume w.0 all new (omega (arith, all_is)) e shows tell),
     w.1,
   )
     where

@@ -6,6 +6,9 @@ pub mod Shared
 pub mod Calls
 pub mod Both
 pub mod Home
+pub mod Settled
 pub mod Start
+pub mod Left
 -- libraries below, passed on
 pub use Rattle.jfs_legal as legal
+pub use Rattle.jfs_kept_history as kept_history

@@ -1,6 +1,6 @@
 -- What a mounted volume stands for, as the value that the volume turn guards.
-use Rattle.std.specs.Prelude.{◌≡◌, ◌≤◌, ◌+◌, ℕ, suc, Bool, true, false, List, length, map, take, drop, Option, Some, None}
-use Rattle.jfs_disk.specs.Image.{page_of}
+use Rattle.std.specs.Prelude.{◌≡◌, ◌≤◌, ◌+◌, ◌-◌, ◌∷◌, [], ℕ, suc, Bool, true, false, if◌then◌else◌, List, length, map, take, drop, Option, Some, None}
+use Rattle.jfs_disk.specs.Image.{Image, page_of}
 use Rattle.jfs_disk.specs.declared.disk.Disk.{Ghosts}
 use Rattle.jfs_disk.specs.declared.disk.Fault.{Fault}
 use Rattle.jfs_super.specs.Super.{super_of}
@@ -11,7 +11,7 @@ use Rattle.jfs_records.specs.Records.{Noted}
 use Rattle.jfs_records.specs.Entries.{log_records}
 use Rattle.jfs_turns.specs.Lists.{Base}
 use Rattle.jfs_turns.specs.Standing.{Standing}
-use Rattle.jfs_groups.specs.Points.{syncs}
+use Rattle.jfs_groups.specs.Points.{is_mark, syncs}
 use Rattle.jfs_groups.specs.Text.{items_from, end_of}
 use Rattle.jfs_groups.specs.Log.{standing as of_log}
 use Rattle.jfs_groups.specs.declared.log.SharedLog.{SharedLog}
@@ -21,6 +21,8 @@ use Rattle.jfs_legal.specs.served.specs.shown.specs.meaning.specs.Image as meani
 use Rattle.jfs_legal.specs.served.specs.Legal.{Timed}
 use Rattle.jfs_legal.specs.served.specs.Laws.{HoldsImage}
 use Rattle.jfs_legal.specs.History.{AreLegal, GoOn}
+use Rattle.jfs_kept_history.specs.Checked.{IsCheckedImage}
+use Rattle.jfs_kept_history.specs.Kept.{Lasting, IsKeptSince}
 use Rattle.jfs_shared.specs.Base.{start_of, log_start_of, image_of}
 use Rattle.jfs_shared.specs.Faults.{IsOfDisk}
 use Rattle.jfs_shared.specs.Entries.{Recorded}
@@ -42,6 +44,18 @@ timed e = record { entry = e.entry; now = e.now }
 
 abbrev pub timed_in : List Recorded → List Timed
 timed_in list = map timed list
+
+-- with what they have in the log
+abbrev pub lasting : Recorded → Lasting
+lasting e = record { timed = timed e; noted = e.noted }
+
+abbrev pub lasting_in : List Recorded → List Lasting
+lasting_in list = map lasting list
+
+-- the sync counts beside the mark
+abbrev pub counts_in : List ℕ → List ℕ
+counts_in [] = []
+counts_in (point ∷ points) = if is_mark point then counts_in points else point ∷ counts_in points
 
 -- ---- the text that waits
 
@@ -78,14 +92,25 @@ pub record IsServed (s : Super) (page : ℕ → List ℕ) (is_broken_off : Bool)
   pub runs : start.halted ≡ None
   pub goes_on : GoesOn is_broken_off (meaning.volume_of s page).area s.logpxd.len start (timed_in list) p
 
+-- What keeps it for a redo has its entries and its sync counts. Its log's ring, and its part of the disk, are as the superblock says.
+pub record IsKeptServed (s : Super) (image : Image) (list : List Recorded) (points : List ℕ) (p : Parts) : Type 0 where
+  pub served : IsServed s (page_of image) false list p
+  pub since : IsKeptSince s (page_of image) served.start (lasting_in list) (counts_in points) p
+  pub ring : p.text.ring ≡ s.logpxd.len - 2
+  pub blocks : p.blocks ≡ s.logpxd.addr
+
 -- where the image is consistent, by the superblock on its page 8
 abbrev pub IfConsistent : Base → (Super → (ℕ → List ℕ) → Type 0) → Type 0
 IfConsistent base fact = IsConsistentImage (super_of (page_of (image_of base) 8)) (page_of (image_of base)) → fact (super_of (page_of (image_of base) 8)) (page_of (image_of base))
 
+-- where a check finds nothing on it
+abbrev pub IfChecked : Base → (Super → Image → Type 0) → Type 0
+IfChecked base fact = IsCheckedImage (super_of (page_of (image_of base) 8)) (image_of base) → fact (super_of (page_of (image_of base) 8)) (image_of base)
+
 -- ---- all of it
 
--- The volume has the list's entries. Groups have taken so many of them, and so many are acknowledged. It has made so many syncpoints since the mount, which has one of its own, and knows so many to be stable; the list of syncpoints may have a mark, that the log has halted, beside them. It has the pages of its part of the disk; a fault has halted it, or is a call's reply, only where a count of faults rose. Of a disk that tells its contents, its replies are legal.
-pub record IsShared (tells : Type 0) (base : Base) (list : List Recorded) (taken told : ℕ) (points : List ℕ) (known : ℕ) (made : ℕ) (is_broken_off : Bool) (p : Parts) : Type 0 where
+-- The volume has the list's entries. Groups have taken so many of them, and so many are acknowledged. It has made so many syncpoints since the mount, which has one of its own, and knows so many to be stable; the list of syncpoints may have a mark, that the log has halted, beside them. It has the pages of its part of the disk; a fault has halted it, or is a call's reply, only where a count of faults rose. Of a disk that tells its contents, its replies are legal; and of one that tells crashes too, mounted from an image on which a check finds nothing, it is kept for a redo, unless its history broke off.
+pub record IsShared (tells crashes : Type 0) (base : Base) (list : List Recorded) (taken told : ℕ) (points : List ℕ) (known : ℕ) (made : ℕ) (is_broken_off : Bool) (p : Parts) : Type 0 where
   pub entries : p.entries ≡ entries_in list
   pub appended : p.appended ≡ length list
   pub taken_is : p.taken ≡ taken
@@ -99,9 +124,10 @@ pub record IsShared (tells : Type 0) (base : Base) (list : List Recorded) (taken
   pub size : length p.map.states ≤ p.blocks
   pub disk : IsOfDisk (start_of base) points p
   pub served : tells → IfConsistent base (λ s page. IsServed s page is_broken_off list p)
+  pub kept : tells → crashes → is_broken_off ≡ false → IfChecked base (λ s image. IsKeptServed s image list points p)
 
 abbrev pub standing : {D : Type 0} (d : Ghosts D) → Standing (SharedVolume D) Recorded
-standing d v base list taken told points known = IsShared d.tells base list taken told points known v.points v.is_broken_off v.volume
+standing d v base list taken told points known = IsShared d.tells d.tells_crashes base list taken told points known v.points v.is_broken_off v.volume
 
 -- and its log
 abbrev pub log_standing : {D : Type 0} (d : Ghosts D) → Standing (SharedLog D d) Recorded

@@ -1,6 +1,7 @@
 //! What follows for a volume and its log that stand for one list.
 
 ghost use Rattle.jfs_shared.specs.Both.{TogetherLaw};
+ghost use Rattle.jfs_shared.specs.Left.{LeftLaw};
 ghost use Rattle.jfs_shared.specs.Shared.{HistoryLaw, standing, log_standing};
 
 use jfs_disk::Disk;
@@ -13,4 +14,9 @@ pub fn values_together_may_commit<D: Disk>()
 /// The entries of a volume are legal, whether or not their history broke off.
 pub fn histories_are_legal()
     ensures { HistoryLaw }
+{}
+
+/// Whatever a crash leaves of a volume and its log, while the log runs, is redone to the volume's history, with all durable entries: on a disk that tells its contents and crashes, mounted from an image on which a check finds nothing.
+pub fn crashes_are_redone_to_histories<D: Disk>()
+    ensures { LeftLaw D.Disk }
 {}

@@ -15,7 +15,7 @@ mod starting;
 
 pub use calling::call;
 pub use committing::commit_with;
-pub use law::{histories_are_legal, values_together_may_commit};
+pub use law::{crashes_are_redone_to_histories, histories_are_legal, values_together_may_commit};
 pub use point_group::PointGroup;
 pub use pointing::{has_room_for_point, point_with};
 pub use recorded::Recorded;

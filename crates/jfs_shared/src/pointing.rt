@@ -3,6 +3,7 @@
 ghost use Rattle.std.specs.Prelude.{◌≡◌, ◌≤◌, ◌+◌, ◌*◌, ◌^◌, [], nat_le, length, OnOk, IfErr, None, Some};
 ghost use Rattle.jfs_volume_calls.specs.Syncpoint.{HasFaultOfEither, HasPointFault};
 ghost use Rattle.jfs_shared.specs.Both.{AreTogether, PointIs};
+ghost use Rattle.jfs_shared.specs.Settled.{AreSettled, PointBehind};
 ghost use Rattle.jfs_shared.specs.Shared.{standing, log_standing};
 
 use crate::committing::commit_with;
@@ -57,8 +58,8 @@ fn write_point<D: Disk>(shared: &mut SharedVolume<D>, log: &mut SharedLog<D>) ->
     requires empty { shared.old.volume.text.bytes ≡ [] }
     requires room { shared.old.volume.text.place + 72 ≤ 4080 * 2 ^ 32 }
     requires told { shared.old.volume.told ≡ shared.old.volume.appended }
-    requires together { AreTogether (standing D.Disk) (log_standing D.Disk) shared.old log.old }
-    ensures point { PointIs (standing D.Disk) (log_standing D.Disk) shared.old log.old shared.new log.new result }
+    requires together { AreSettled D.Disk shared.old log.old }
+    ensures point { PointBehind D.Disk shared.old log.old shared.new log.new result }
     ensures goes_on { OnOk result ((log.new.side.halted ≡ None) × (shared.new.volume.halted ≡ None)) }
     ensures halts { IfErr result (λ fault. shared.new.volume.halted ≡ Some fault) }
     ensures breaks { shared.new.is_broken_off ≡ shared.old.is_broken_off }

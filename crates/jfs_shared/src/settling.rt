@@ -1,10 +1,11 @@
 //! Pages that go home, and are synced.
 
-ghost use Rattle.std.specs.Prelude.{◌≡◌, None};
+ghost use Rattle.std.specs.Prelude.{◌≡◌, None, OnOk};
 ghost use Rattle.jfs_volume_calls.specs.volume.specs.pages.specs.Device.{HasFault};
 ghost use Rattle.jfs_volume_calls.specs.volume.specs.Settles.{Settles, StaysShown, HaltsAt};
 ghost use Rattle.jfs_volume_calls.specs.Written.{LeavesMaps};
 ghost use Rattle.jfs_shared.specs.Home.{IsSettled};
+ghost use Rattle.jfs_shared.specs.Settled.{KeepsHistory, SettlesHistory};
 
 use jfs_disk::{Disk, Fault};
 use jfs_volume_calls::volume::Volume;
@@ -21,6 +22,8 @@ pub(crate) fn settle<D: Disk>(volume: &mut Volume<D>) -> Result<(), Fault>
     ensures settles { Settles volume.old volume.new }
     ensures shown { StaysShown D.tells volume.old volume.new }
     ensures leaves { D.tells → LeavesMaps volume.old volume.new }
+    ensures history { KeepsHistory D.tells D.tells_crashes volume.old volume.new }
+    ensures settled { OnOk result (SettlesHistory D.tells D.tells_crashes volume.old volume.new) }
     ensures halts { HaltsAt volume.old.halted volume.new.halted result }
     ensures cause { HasFault volume.old.faults volume.new.faults result }
 {

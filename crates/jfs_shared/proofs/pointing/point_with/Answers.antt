@@ -1,5 +1,5 @@
 use Rattle.std.proofs.Common.{arith}
-use Rattle.jfs_shared.proofs.Pointed.{settled, not_committed, home_are, not_home, nothing_left, same_end, all_told, point_ends, point_is, committed_told}
+use Rattle.jfs_shared.proofs.Pointed.{settled, not_committed, home_are, home_settles, not_home, nothing_left, same_end, all_told, point_ends, point_is, committed_told}
 use Rattle.jfs_shared.proofs.pointing.point_with.Goals as goal
 
 pub returns-in-Err-clause-point : goal.returns-in-Err-clause-point
@@ -8,7 +8,7 @@ returns-in-Err-clause-point g c n k = not_committed g.D.Disk c.args.shared.now c
 pub returns-in-Err-settle-clause-point : goal.returns-in-Err-settle-clause-point
 returns-in-Err-settle-clause-point g c n k =
     not_home g.D.Disk c.args.shared.now c.args.log.now c.requires.running.0 n k c.commit_with.new.shared c.commit_with.new.log (c.in-Ok.ensures.commit n k) c.settle.new.volume c.settle.ensures.parts c.in-Err-settle.fault c.in-Err-settle.ensures.cause.rose c.in-Err-settle.ensures.halts
-    c.settle.ensures.settles c.settle.ensures.shown c.settle.ensures.leaves
+    c.settle.ensures.settles c.settle.ensures.shown c.settle.ensures.leaves c.settle.ensures.history
 
 pub write_point-requires-clause-empty : goal.write_point-requires-clause-empty
 write_point-requires-clause-empty g c =
@@ -31,7 +31,9 @@ write_point-requires-clause-together g c =
     let t = c.requires.together in (
       settled t.0,
       home_are g.D.Disk c.args.shared.now c.args.log.now c.requires.running.0 t.0 t.1 c.commit_with.new.shared c.commit_with.new.log (c.in-Ok.ensures.commit t.0 t.1) c.settle.new.volume c.settle.ensures.parts
-          c.in-Ok-settle.ensures.cause c.in-Ok-settle.ensures.halts c.settle.ensures.settles c.settle.ensures.shown c.settle.ensures.leaves,
+          c.in-Ok-settle.ensures.cause c.in-Ok-settle.ensures.halts c.settle.ensures.settles c.settle.ensures.shown c.settle.ensures.leaves c.settle.ensures.history,
+      home_settles g.D.Disk c.args.shared.now c.args.log.now c.requires.running.0 t.0 t.1 c.commit_with.new.shared c.commit_with.new.log (c.in-Ok.ensures.commit t.0 t.1) c.settle.new.volume c.settle.ensures.parts
+          c.settle.ensures.settles c.settle.ensures.shown c.settle.ensures.leaves c.in-Ok-settle.ensures.settled,
     )
 
 pub settle-requires-clause-told : goal.settle-requires-clause-told
@@ -45,5 +47,7 @@ returns-clause-point g c =
     (λ n k.
     point_ends g.D.Disk c.args.shared.now c.args.log.now c.requires.running.0 n k _ _ c.write_point.new.shared c.write_point.new.log c.write_point.result
     (home_are g.D.Disk c.args.shared.now c.args.log.now c.requires.running.0 n k c.commit_with.new.shared c.commit_with.new.log (c.in-Ok.ensures.commit n k) c.settle.new.volume c.settle.ensures.parts
-    c.in-Ok-settle.ensures.cause c.in-Ok-settle.ensures.halts c.settle.ensures.settles c.settle.ensures.shown c.settle.ensures.leaves)
+    c.in-Ok-settle.ensures.cause c.in-Ok-settle.ensures.halts c.settle.ensures.settles c.settle.ensures.shown c.settle.ensures.leaves c.settle.ensures.history)
+    (home_settles g.D.Disk c.args.shared.now c.args.log.now c.requires.running.0 n k c.commit_with.new.shared c.commit_with.new.log (c.in-Ok.ensures.commit n k) c.settle.new.volume c.settle.ensures.parts
+    c.settle.ensures.settles c.settle.ensures.shown c.settle.ensures.leaves c.in-Ok-settle.ensures.settled)
     c.write_point.ensures.point)

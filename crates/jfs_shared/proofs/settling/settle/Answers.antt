@@ -1,6 +1,7 @@
-use Rattle.std.proofs.Common.{refl}
+use Rattle.std.proofs.Common.{refl, Err}
 use Rattle.jfs_volume_calls.proofs.Kept.{Stands, homed, mapped, group_settles, group_pages, as_kept, kept_home, maps_stand, same_home, stand_on}
 use Rattle.jfs_shared.proofs.Homed.{homes, maps, onward}
+use Rattle.jfs_shared.proofs.Settled as settled
 use Rattle.jfs_shared.proofs.settling.settle.Goals as goal
 
 -- ---- the parts
@@ -47,3 +48,25 @@ returns-clause-shown g c = Stands.shown (stand_on g.D.Disk.tells c.args.volume.n
 
 pub returns-clause-leaves : goal.returns-clause-leaves
 returns-clause-leaves g c = Stands.leaves (stand_on g.D.Disk.tells c.args.volume.now c.home_maps.new.self c.sync_low.new.self (maps_stand g.D.Disk.tells c.args.volume.now c.home_all.new.self c.home_maps.new.self (kept_home g.D.Disk.tells c.args.volume.now c.args.volume.now c.home_all.new.self (group_pages g.D.Disk.tells c.args.volume.now c.args.volume.now refl) c.home_all.ensures.alone) c.home_maps.ensures.places c.home_maps.ensures.shows) (same_home g.D.Disk.tells c.home_maps.new.self c.sync_low.new.self c.sync_low.ensures.alone))
+
+-- ---- what keeps it
+
+pub returns-in-Err-clause-history : goal.returns-in-Err-clause-history
+returns-in-Err-clause-history g c = settled.homes g.D.Disk.tells g.D.Disk.tells_crashes c.args.volume.now c.home_all.new.self (Err c.in-Err.fault) c.requires.told c.in-Err.ensures.home c.home_all.ensures.alone c.in-Err.ensures.halts
+
+pub returns-in-Err-home_maps-clause-history : goal.returns-in-Err-home_maps-clause-history
+returns-in-Err-home_maps-clause-history g c =
+    settled.maps g.D.Disk.tells g.D.Disk.tells_crashes c.args.volume.now c.home_all.new.self c.requires.told c.requires.running c.in-Ok.ensures.home c.home_all.ensures.alone c.in-Ok.ensures.halts
+    c.home_maps.new.self (Err c.in-Err-home_maps.fault) c.in-Err-home_maps.ensures.home c.home_maps.ensures.memory c.home_maps.ensures.places tt c.in-Err-home_maps.ensures.halts
+
+pub returns-clause-history : goal.returns-clause-history
+returns-clause-history g c =
+    settled.synced g.D.Disk.tells g.D.Disk.tells_crashes c.args.volume.now c.home_all.new.self c.requires.told c.requires.running c.in-Ok.ensures.home c.home_all.ensures.alone c.in-Ok.ensures.halts c.in-Ok.ensures.clean
+    c.home_maps.new.self c.in-Ok-home_maps.ensures.home c.home_maps.ensures.memory c.home_maps.ensures.places c.in-Ok-home_maps.ensures.written c.in-Ok-home_maps.ensures.halts
+    c.sync_low.new.self c.sync_low.ensures.alone c.sync_low.result c.sync_low.ensures.sync c.sync_low.ensures.halts
+
+pub returns-clause-settled : goal.returns-clause-settled
+returns-clause-settled g c =
+    settled.settles g.D.Disk.tells g.D.Disk.tells_crashes c.args.volume.now c.home_all.new.self c.requires.told c.requires.running c.in-Ok.ensures.home c.home_all.ensures.alone c.in-Ok.ensures.halts c.in-Ok.ensures.clean
+    c.home_maps.new.self c.in-Ok-home_maps.ensures.home c.home_maps.ensures.memory c.home_maps.ensures.places c.in-Ok-home_maps.ensures.written c.in-Ok-home_maps.ensures.halts
+    c.sync_low.new.self c.sync_low.ensures.alone c.sync_low.result c.sync_low.ensures.sync c.sync_low.ensures.halts

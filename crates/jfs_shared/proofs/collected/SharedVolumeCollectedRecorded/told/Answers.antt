@@ -15,5 +15,5 @@ returns g c = record {
       let m = c.requires.may in
       let is = s.taken_is in
       let same = m.6.taken_is in
-      told_stands g.D.Disk.tells base list taken told points known x.points x.is_broken_off x.volume s c.args.n c.told.new.self (omega (arith, is, same, m.8)) c.told.ensures.parts c.told.ensures.shows;
+      told_stands g.D.Disk.tells g.D.Disk.tells_crashes base list taken told points known x.points x.is_broken_off x.volume s c.args.n c.told.new.self (omega (arith, is, same, m.8)) c.told.ensures.parts c.told.ensures.shows c.told.ensures.told;
 }
