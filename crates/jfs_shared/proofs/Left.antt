@@ -1,5 +1,5 @@
 -- Whatever a crash leaves of a volume and its log, while the log runs, is redone to the volume's history.
-use Rattle.std.proofs.Common.{◌≡◌, ◌⊎◌, ◌≤◌, ◌<◌, ◌+◌, ◌-◌, ◌∷◌, [], ◌++◌, ℕ, List, length, take, drop, false, None, refl, sym, ap, subst, ◌∙◌, inl, inr, arith}
+use Rattle.std.proofs.Common.{◌≡◌, ◌⊎◌, ◌≤◌, ◌<◌, ◌+◌, ◌-◌, ◌∷◌, [], ◌++◌, ℕ, suc, List, length, take, drop, false, None, refl, sym, ap, subst, ◌∙◌, inl, inr, arith}
 use Rattle.std.proofs.lemmas.Bool.{cases_lt}
 use Rattle.std.proofs.lemmas.List.{length-map, take-map, drop-map, get_or_past}
 use Rattle.jfs_disk.specs.Crash.{PageHistory, DiskState, IsCrashImage, IsCrashPage, no_page, history_of, last_of, seen_of}
@@ -38,7 +38,7 @@ use Rattle.jfs_shared.proofs.Together.{front}
 
 items_same : (n : ℕ) (list : List Recorded) → items_from logs_of n list ≡ items_from noted_in n (lasting_in list)
 items_same n [] = refl
-items_same n (e ∷ es) = ap (λ (is : List Item). item_of (n + 1) e.noted ++ is) (items_same (n + 1) es)
+items_same n (e ∷ es) = ap (λ (is : List Item). item_of (suc n) e.noted ++ is) (items_same (suc n) es)
 
 with_same : (n : ℕ) (list : List Recorded) (points : List ℕ) → items_with logs_of n list points ≡ items_with noted_in n (lasting_in list) points
 with_same n list [] = items_same n list
