@@ -1,9 +1,10 @@
 -- What a run's server leaves.
-use Rattle.std.proofs.Common.{◌≡◌, ◌⊎◌, ◌<◌, ℕ, Bool, false, List, length, sym, ap, ◌∙◌, subst, inl, inr, arith, None}
+use Rattle.std.proofs.Common.{◌≡◌, ◌⊎◌, ◌<◌, ◌++◌, ℕ, Bool, false, List, length, sym, ap, ◌∙◌, subst, inl, inr, arith, None}
 use Rattle.std.proofs.lemmas.List.{length-map}
 use Rattle.std.specs.Global.{Vec}
 use Rattle.atomic_table.specs.Seated.{TableId}
 use Rattle.jfs_bits.specs.declared.descriptor.Moment.{Moment}
+use Rattle.jfs_disk.specs.Crash.{DiskState, last_of}
 use Rattle.jfs_disk.specs.Image.{Image, page_of}
 use Rattle.jfs_disk.specs.declared.disk.Disk.{Ghosts}
 use Rattle.jfs_super.specs.Super.{super_of}
@@ -14,9 +15,13 @@ use Rattle.jfs_server.specs.Start.{IsStarted}
 use Rattle.jfs_server.specs.Stopped.{GoesOn, IsEndOf, IsStopped}
 use Rattle.jfs_server.specs.declared.stopping.Stopped.{Stopped}
 use Rattle.jfs_server.specs.shared.specs.Base.{start_of}
-use Rattle.jfs_server.specs.shared.specs.Shared.{IfConsistent, timed_in}
+use Rattle.jfs_server.specs.shared.specs.Left.{IsLeft}
+use Rattle.jfs_server.specs.shared.specs.Shared.{IfConsistent, IfChecked, timed_in, lasting_in}
 use Rattle.jfs_server.specs.shared.specs.Shared as shared
 use Rattle.jfs_server.specs.shared.specs.Start.{base_at}
+use Rattle.jfs_server.specs.shared.specs.kept_history.specs.Checked.{IsCheckedImage}
+use Rattle.jfs_server.specs.shared.specs.kept_history.proofs.Checked.{consistent_image}
+use Rattle.jfs_server.specs.shared.proofs.KeptServed.{timed_same}
 use Rattle.jfs_server.specs.shared.proofs.Served.{history_law}
 use Rattle.jfs_server.specs.shared.specs.legal.specs.History.{AreLegal}
 use Rattle.jfs_server.specs.shared.specs.legal.specs.served.specs.mounted.specs.declared.mounted.Mounted.{Mounted}
@@ -26,6 +31,7 @@ use Rattle.jfs_server.specs.turns.specs.Lists.{Base}
 use Rattle.jfs_run.specs.Calls.{AreOfClients, any_failed}
 use Rattle.jfs_run.specs.Clients.{ServerPass, EachCame}
 use Rattle.jfs_run.specs.Legal.{all_at, HasReplied}
+use Rattle.jfs_run.specs.Left.{IsLeftWith}
 use Rattle.jfs_run.specs.Mounted.{State, state, MayCall, PartRose, Since}
 use Rattle.jfs_run.specs.Serving.{AreCalled, HaveRoom, IsUncalled, IsHandedOut, IsServed}
 use Rattle.jfs_run.specs.Tasks.{plan_of}
@@ -131,6 +137,28 @@ module _ {D : Type 0} (d : Ghosts D) (scripts : List (Vec Line)) (now : Moment) 
         legal = subst (AreLegal area s.logpxd.len served.start) moments (history_law stopped.is_broken_off area s.logpxd.len served.start (timed_in st.list) stopped.mounted.volume served.goes_on);
       }
 
+    -- ---- what a crash leaves
+
+    left_with : d.tells → d.tells_crashes → (spelled : super_of (page_of image 8) ≡ s) → stopped.is_broken_off ≡ false → stopped.mounted.log.halted ≡ None → AreOfClients (length scripts) stopped.history.items → IsCheckedImage s image
+        → IsLeftWith s image now stopped.history.items stopped.mounted.log.durable (last_of stopped.mounted.volume.past ++ last_of (d.past stopped.mounted.log.part))
+    left_with t c spelled whole runs others checked = record {
+      follows = record { start = is.start; runs = is.runs; tree = is.holds.tree; room = is.holds.room; legal = subst (AreLegal (volume_of s (page_of image)).area s.logpxd.len is.start) at_once is.legal };
+      list = lasting_in st.list;
+      entries_are = timed_same st.list ∙ at_once;
+      redone = is.redone;
+    }
+      where
+        state_now : DiskState
+        state_now = last_of stopped.mounted.volume.past ++ last_of (d.past stopped.mounted.log.part)
+
+        is : IsLeft s image st.list stopped.mounted.log.durable state_now
+        is =
+            let by_base = subst (λ (b : Base). IfChecked b (λ t image. IsLeft t image st.list stopped.mounted.log.durable state_now)) base_is (st.left t c whole runs) in
+            subst (λ (t : Super). IsCheckedImage t image → IsLeft t image st.list stopped.mounted.log.durable state_now) spelled by_base checked
+
+        at_once : timed_in st.list ≡ all_at now stopped.history.items
+        at_once = moments t spelled (consistent_image s image checked) others
+
     -- ---- all of it
 
     pub is_served : (x : Called D d) → x.mounted ≡ stopped.mounted → (d.tells → super_of (page_of image 8) ≡ s) → IsUncalled d x ⊎ IsHandedOut d scripts failed marks stopped x → IsServed d scripts now image s first marks x
@@ -149,6 +177,7 @@ module _ {D : Type 0} (d : Ghosts D) (scripts : List (Vec Line)) (now : Moment) 
             are = called others;
             whole = h.whole;
             replied = λ t consistent. replied t (spelled t) consistent others x.is_broken_off h.is_broken_off;
+            left = λ t c whole runs checked. left_with t c (spelled t) (sym h.is_broken_off ∙ whole) runs others checked;
           });
           few = few_came d now failed scripts passes after marks came;
           since = stopped_since;

@@ -1,7 +1,8 @@
 -- The numbers of entries that are told durable.
 use Rattle.std.proofs.Common.{◌≡◌, ◌<◌, ◌≤◌, ◌+◌, ◌⊎◌, ℕ, zero, suc, Bool, true, false, if◌then◌else◌, List, [], ◌∷◌, take, refl, ap, ◌∙◌, inl, inr, arith, add-one}
 use Rattle.std.specs.Prelude.{◌&&◌, nat_le}
-use Rattle.std.proofs.lemmas.Bool.{le-leb, lt-leb, cases_lt}
+use Rattle.std.specs.List.{AllByRecursion}
+use Rattle.std.proofs.lemmas.Bool.{le-leb, lt-leb, leb-true, cases_lt}
 use Rattle.jfs_script.specs.History.{IsRisingFrom}
 use Rattle.jfs_run.specs.Calls.{waiting_from}
 use Rattle.jfs_run.specs.Telling.{told_from}
@@ -76,3 +77,14 @@ all_by n durable false told all reached is = is
 pub told_whole : (n durable : ℕ) (ms : List Bool) → AreReached n durable ms → told_from n durable ms ≡ waiting_from n ms
 told_whole n durable [] reached = refl
 told_whole n durable (m ∷ ms) reached = all_by n durable m (told_from (suc n) durable ms) (waiting_from (suc n) ms) reached.0 (told_whole (suc n) durable ms reached.1)
+
+-- ---- each of them is one of the first so many
+
+within_by : (n durable : ℕ) (m in_time : Bool) (rest : List ℕ) → (in_time ≡ true → n ≤ durable) → AllByRecursion (λ (k : ℕ). k ≤ durable) rest → AllByRecursion (λ (k : ℕ). k ≤ durable) (step n m in_time rest)
+within_by n durable true true rest low all = (low refl, all)
+within_by n durable true false rest low all = all
+within_by n durable false in_time rest low all = all
+
+pub told_within : (n durable : ℕ) (ms : List Bool) → AllByRecursion (λ (k : ℕ). k ≤ durable) (told_from n durable ms)
+told_within n durable [] = tt
+told_within n durable (m ∷ ms) = within_by n durable m (nat_le n durable) (told_from (suc n) durable ms) (λ e. leb-true n durable e) (told_within (suc n) durable ms)

@@ -2,6 +2,7 @@
 pub mod Calls
 pub mod Run
 pub mod Legal
+pub mod Left
 pub mod Tasks
 -- for the prover
 pub mod Mounted

@@ -1,17 +1,20 @@
 -- What a server leaves behind the calls of a run's clients.
-use Rattle.std.specs.Prelude.{◌≡◌, ◌⊎◌, ◌≤◌, ◌==◌, [], ◌∷◌, ℕ, suc, Bool, true, false, List, length, take, vec_capacity}
+use Rattle.std.specs.Prelude.{◌≡◌, ◌⊎◌, ◌≤◌, ◌==◌, ◌++◌, [], ◌∷◌, ℕ, suc, Bool, true, false, List, length, take, None, vec_capacity}
 use Rattle.std.specs.Bool.{MatchBool}
 use Rattle.std.specs.Global.{Vec}
 use Rattle.jfs_bits.specs.declared.descriptor.Moment.{Moment}
+use Rattle.jfs_disk.specs.Crash.{last_of}
 use Rattle.jfs_disk.specs.Image.{Image, page_of}
 use Rattle.jfs_disk.specs.declared.disk.Disk.{Ghosts}
 use Rattle.jfs_super.specs.declared.fields.Super.{Super}
 use Rattle.jfs_plain.specs.declared.call.Line.{Line}
 use Rattle.jfs_server.specs.shared.specs.Entries.{Recorded}
 use Rattle.jfs_server.specs.shared.specs.Shared.{entries_in}
+use Rattle.jfs_server.specs.shared.specs.kept_history.specs.Checked.{IsCheckedImage}
 use Rattle.jfs_server.specs.shared.specs.legal.specs.served.specs.shown.specs.meaning.specs.Image.{IsConsistentImage}
 use Rattle.jfs_run.specs.Calls.{IsEntryOf, IsTakenAs, AreOfClients, any_failed}
 use Rattle.jfs_run.specs.Legal.{HasReplied}
+use Rattle.jfs_run.specs.Left.{IsLeftWith}
 use Rattle.jfs_run.specs.Mounted.{State, state, PartRose, Since}
 use Rattle.jfs_run.specs.Tasks.{plan_of, lines_in}
 use Rattle.jfs_run.specs.Telling.{marks_in, marks_left, AreAsMany}
@@ -86,6 +89,8 @@ module _ {D : Type 0} (d : Ghosts D) where
     pub are : AreCalled now x.failed x.mounted.log.durable (plan_of scripts) (marks_in marks) list
     pub whole : x.is_whole ≡ true → AreAsMany scripts marks
     pub replied : d.tells → IsConsistentImage s (page_of image) → HasReplied s (page_of image) now x.is_broken_off x.history.items x.mounted.volume
+    pub left : d.tells → d.tells_crashes → x.is_broken_off ≡ false → x.mounted.log.halted ≡ None → IsCheckedImage s image
+        → IsLeftWith s image now x.history.items x.mounted.log.durable (last_of x.mounted.volume.past ++ last_of (d.past x.mounted.log.part))
 
   -- One or the other, with no more marks than lines; and unless a call on the disk failed, none of them was refused for a fault.
   pub record IsServed (scripts : List (Vec Line)) (now : Moment) (image : Image) (s : Super) (old : State) (marks : List (Vec Bool)) (x : Called D d) : Type 0 where

@@ -1,6 +1,6 @@
 //! The end of a mounted volume.
 
-ghost use Rattle.std.specs.Prelude.{◌≡◌, ◌⊎◌, ◌≤◌, ◌<◌, ◌+◌, ◌-◌, ◌^◌, min, false, None};
+ghost use Rattle.std.specs.Prelude.{◌≡◌, ◌⊎◌, ◌≤◌, ◌<◌, ◌+◌, ◌-◌, ◌^◌, ◌++◌, min, true, false, None};
 ghost use Rattle.jfs_bits.specs.Count.{Rose};
 ghost use Rattle.jfs_disk.specs.Crash.{last_of};
 ghost use Rattle.jfs_disk.specs.Moment.{IsResting};
@@ -45,6 +45,8 @@ pub fn end<D: Disk>(
     ensures leaves { D.tells → is_left ≡ false → m.volume.halted ≡ None → result.is_full ≡ false →
         Rose (min (m.volume.faults + D.fault_count m.log.part) (2 ^ 64 - 1)) (D.fault_count result.disk)
         ⊎ WasUnmounted D.tells D.tells_crashes superblock.now.0 m.volume (log_parts D.Disk m.log) (D.image result.disk) }
+    // What a crash may leave of a disk that was to be left is what it may leave of both parts.
+    ensures left { D.tells_crashes → is_left ≡ true → last_of (D.past result.disk) ≡ last_of m.volume.past ++ last_of (D.past m.log.part) }
 {
     if is_left || m.volume.halted().is_some() {
         return Ended {

@@ -1,15 +1,18 @@
 //! A run on the volume of a disk.
 
-ghost use Rattle.std.specs.Prelude.{◌≡◌, ◌≤◌, ◌<◌, ◌+◌, ◌-◌, ◌^◌, [], length, vec_capacity, IfOk, IfErr};
+ghost use Rattle.std.specs.Prelude.{◌≡◌, ◌≤◌, ◌<◌, ◌+◌, ◌-◌, ◌^◌, ◌||◌, [], length, vec_capacity, IfOk, IfErr};
+ghost use Rattle.jfs_disk.specs.Crash.{last_of};
 ghost use Rattle.jfs_disk.specs.Image.{page_of};
 ghost use Rattle.jfs_super.specs.Rules.{IsAccepted};
 ghost use Rattle.jfs_super.specs.Super.{super_of, FitsSuper};
 ghost use Rattle.jfs_super.specs.declared.fields.TheConstants.VolumeState.{CLEAN};
 ghost use Rattle.jfs_script.specs.History.{IsRisingFrom};
 ghost use Rattle.jfs_server.specs.shared.specs.Start.{IsJustMounted};
+ghost use Rattle.jfs_server.specs.shared.specs.kept_history.specs.Checked.{IsCheckedImage};
 ghost use Rattle.jfs_server.specs.shared.specs.legal.specs.served.specs.mounted.specs.declared.mounted.MountError.{MountError};
 ghost use Rattle.jfs_server.specs.shared.specs.legal.specs.served.specs.volume_calls.specs.Together.{log_parts};
 ghost use Rattle.jfs_mount.specs.meaning.specs.Image.{IsConsistentImage};
+ghost use Rattle.jfs_run.specs.Left.{IsLeftRun, IfLeft};
 ghost use Rattle.jfs_run.specs.Legal.{IsLegalRun, LeavesImage, IfUnmounted};
 ghost use Rattle.jfs_run.specs.Run.{RunIs, seen};
 ghost use Rattle.jfs_run.specs.Mounted.{state, MayCall};
@@ -92,6 +95,8 @@ pub fn run_lines<D: Disk + Send, G: Gate + Sync, R: Threads + Wait + Sync>(
     ensures legal { D.tells → IsConsistentImage s.now (page_of (D.image disk)) → IsLegalRun s.now (page_of (D.image disk)) now result.history.items }
     // What such a run leaves where it is done, and the volume wasn't to be left: an image of the tree behind the last reply.
     ensures leaves { D.tells → IfUnmounted result.end is_left (LeavesImage s.now (D.image disk) now result.history.items (D.image result.disk)) }
+    // Where it was to be left, redo makes of whatever a crash leaves of the disk what the first entries leave, all told ones among them.
+    ensures left { D.tells → D.tells_crashes → IfLeft result.end is_left (IsCheckedImage s.now (D.image disk) → IsLeftRun s.now (D.image disk) now (record { history = result.history.items; told = result.told.items }) (last_of (D.past result.disk))) }
     // so that the text of a history may be written
     ensures rising { IsRisingFrom 1 result.told.items }
     ensures pages { D.page_count result.disk ≡ D.page_count disk }
@@ -122,6 +127,8 @@ fn run_from<I: MountedFrom, D: Disk + Send, G: Gate + Sync, R: Threads + Wait + 
     ensures legal { D.tells → IsConsistentImage s.now (page_of (D.image disk)) → IsLegalRun s.now (page_of (D.image disk)) now result.history.items }
     // What such a run leaves where it is done, and the volume wasn't to be left: an image of the tree behind the last reply.
     ensures leaves { D.tells → IfUnmounted result.end is_left (LeavesImage s.now (D.image disk) now result.history.items (D.image result.disk)) }
+    // Where it was to be left, redo makes of whatever a crash leaves of the disk what the first entries leave, all told ones among them.
+    ensures left { D.tells → D.tells_crashes → IfLeft result.end is_left (IsCheckedImage s.now (D.image disk) → IsLeftRun s.now (D.image disk) now (record { history = result.history.items; told = result.told.items }) (last_of (D.past result.disk))) }
     // so that the text of a history may be written
     ensures rising { IsRisingFrom 1 result.told.items }
     ensures pages { D.page_count result.disk ≡ D.page_count disk }
@@ -242,6 +249,7 @@ fn run_mounted<I: MountedFrom, D: Disk + Send, G: Gate + Sync, R: Threads + Wait
     ensures ran { RunSince D.tells D.tells_crashes taken.superblock.0 (plan_of scripts.now) is_left before (seen D.Disk result.disk) (record { history = result.history.items; told = result.told.items }) result.end }
     ensures legal { D.tells → IsConsistentImage I.block (page_of I.image) → IsLegalRun I.block (page_of I.image) now result.history.items }
     ensures leaves { D.tells → super_of taken.superblock.0 ≡ record I.block { state = CLEAN } → IfUnmounted result.end is_left (LeavesImage I.block I.image now result.history.items (D.image result.disk)) }
+    ensures left { D.tells → D.tells_crashes → IfLeft result.end is_left (IsCheckedImage I.block I.image → IsLeftRun I.block I.image now (record { history = result.history.items; told = result.told.items }) (last_of (D.past result.disk))) }
     ensures rising { IsRisingFrom 1 result.told.items }
     ensures pages { D.page_count result.disk ≡ m.volume.count + D.page_count m.log.part }
     ensures later { before ≤ D.fault_count result.disk }
@@ -259,6 +267,7 @@ fn run_mounted<I: MountedFrom, D: Disk + Send, G: Gate + Sync, R: Threads + Wait
         is_broken_off,
         failed,
     } = serve::<I, D, G, R>(rt, alloc, m, &mut marks, scripts, now, gate);
+    let is_cut = is_cut_off(is_broken_off, failed);
     let mut m = mounted;
     make_durable(&mut m, failed);
     tell(
@@ -268,19 +277,20 @@ fn run_mounted<I: MountedFrom, D: Disk + Send, G: Gate + Sync, R: Threads + Wait
         &mut told,
     );
     let ended = end(m, &mut point, &superblock, is_left);
-    let end = end_after(
-        is_whole,
-        is_broken_off,
-        ended.is_full,
-        before,
-        ended.disk.faults(),
-    );
+    let end = end_after(is_whole, is_cut, ended.is_full, before, ended.disk.faults());
     Ran {
         disk: ended.disk,
         end,
         history,
         told,
     }
+}
+
+/// Whether the history broke off, or a client was told that an entry couldn't be made durable: a log fails by a fault that is counted, so the second alone never happens.
+fn is_cut_off(is_broken_off: bool, failed: bool) -> bool
+    ensures { result ≡ (is_broken_off || failed) }
+{
+    is_broken_off || failed
 }
 
 /// How a run ended whose volume was mounted. A count at its last value counts as one that rose; a history that broke off, and a log whose pages have no more numbers, as want of memory.

@@ -1,8 +1,9 @@
 -- What the volume and the log of a server are once all passes are back.
 use Rattle.std.specs.Prelude.{is_some}
-use Rattle.std.proofs.Common.{◌≡◌, ◌≤◌, ◌⊎◌, ℕ, Bool, true, false, List, [], length, Option, Some, None, refl, sym, ap, subst, ◌∙◌, inl, inr, arith}
+use Rattle.std.proofs.Common.{◌≡◌, ◌≤◌, ◌⊎◌, ◌++◌, ℕ, Bool, true, false, List, [], length, Option, Some, None, refl, sym, ap, subst, ◌∙◌, inl, inr, arith}
 use Rattle.std.proofs.lemmas.Bool.{false≢true}
 use Rattle.jfs_bits.specs.Count.{Rose}
+use Rattle.jfs_disk.specs.Crash.{DiskState, last_of, seen_of}
 use Rattle.jfs_disk.specs.Image.{page_of}
 use Rattle.jfs_disk.specs.declared.disk.Disk.{Ghosts}
 use Rattle.jfs_disk.specs.declared.disk.Fault.{Fault}
@@ -24,6 +25,8 @@ use Rattle.jfs_shared.specs.Both as shared
 use Rattle.jfs_shared.specs.Entries.{Recorded}
 use Rattle.jfs_shared.specs.Faults.{any_failed, HasRisen}
 use Rattle.jfs_shared.specs.Shared.{IsShared, IsServed, IfConsistent, GoesOn as HistoryGoesOn, standing as shared_standing, timed_in}
+use Rattle.jfs_shared.specs.Left.{IsLeft}
+use Rattle.jfs_shared.proofs.Left.{left_is}
 use Rattle.jfs_shared.proofs.Served.{served_settled}
 use Rattle.jfs_shared.proofs.Together.{together}
 use Rattle.jfs_turns.specs.Passes.{End, AtEnd}
@@ -61,7 +64,7 @@ module _ {D : Type 0} (d : Ghosts D) (ps : List (Pass (ServedVolume D) (SharedLo
   abbrev log_faults : ℕ
   log_faults = d.fault_count y.side.part
 
-  stands : IsShared d.tells end.base end.list end.taken end.told end.points end.known v.shared.points v.shared.is_broken_off old
+  stands : IsShared d.tells d.tells_crashes end.base end.list end.taken end.told end.points end.known v.shared.points v.shared.is_broken_off old
   stands = at_end.1
 
   -- the volume and the log stand for one list
@@ -148,7 +151,8 @@ module _ {D : Type 0} (d : Ghosts D) (ps : List (Pass (ServedVolume D) (SharedLo
       handed false goes = handed_law (volume_of s page).area s.logpxd.len settled.start (timed_in end.list) mid goes
       handed true legal = legal
 
-  module _ (x : Stopped D d) (halted : Option Fault) (h : HandedOut x.mounted.volume halted) (log : x.mounted.log ≡ y.side) (history : x.history.items ≡ old.entries) (broken_off : x.is_broken_off ≡ v.shared.is_broken_off) where
+  module _ (x : Stopped D d) (halted : Option Fault) (h : HandedOut x.mounted.volume halted) (log : x.mounted.log ≡ y.side) (history : x.history.items ≡ old.entries) (broken_off : x.is_broken_off ≡ v.shared.is_broken_off)
+      (reads : d.tells_crashes → d.image y.side.part ≡ seen_of (last_of (d.past y.side.part))) where
     faults : x.mounted.volume.faults ≡ old.faults
     faults = ap (λ (p : Parts). p.faults) h.is
 
@@ -188,6 +192,9 @@ module _ {D : Type 0} (d : Ghosts D) (ps : List (Pass (ServedVolume D) (SharedLo
       base_is = λ i p is last. (at_end.5 i p is last).0;
       ends = ends;
       served = λ t consistent. subst (λ (b : Bool). IsServed (super_of (page_of (image_of end.base) 8)) (page_of (image_of end.base)) b end.list x.mounted.volume) (sym broken_off) (served_now x.mounted.volume halted h t consistent);
+      left = λ t c whole runs checked.
+          subst {A = ℕ × DiskState} (λ z. IsLeft s (image_of end.base) end.list z.0 z.1) (λ i. (sym durable_is i, last_of (sym (ap (λ (p : Parts). p.past) h.is) i) ++ last_of (d.past (sym log i).part)))
+          (left_is d _ v.shared y both (ap (λ side. side.halted) (sym log) ∙ runs) reads t c (sym broken_off ∙ whole) checked);
     }
       where
         durable_is : x.mounted.log.durable ≡ end.durable

@@ -1,8 +1,9 @@
 -- What a server leaves once all its passes are back.
-use Rattle.std.specs.Prelude.{◌≡◌, ◌⊎◌, ◌≤◌, ℕ, suc, true, false, is_some, List, [], length, Option, Some, None}
+use Rattle.std.specs.Prelude.{◌≡◌, ◌⊎◌, ◌≤◌, ◌++◌, ℕ, suc, true, false, is_some, List, [], length, Option, Some, None}
 use mathlib.Core.Option.{some}
 use lib.ListN.{get_elem?}
 use Rattle.jfs_bits.specs.Count.{Rose}
+use Rattle.jfs_disk.specs.Crash.{last_of}
 use Rattle.jfs_disk.specs.declared.disk.Disk.{Ghosts}
 use Rattle.jfs_disk.specs.declared.disk.Fault.{Fault}
 use Rattle.jfs_disk.specs.declared.disk.Part.TheVariants.{High}
@@ -15,7 +16,8 @@ use Rattle.jfs_legal.specs.served.specs.volume_calls.specs.Together.{log_parts}
 use Rattle.jfs_shared.specs.Base.{MountStart, start_of}
 use Rattle.jfs_shared.specs.Entries.{Recorded}
 use Rattle.jfs_shared.specs.Faults.{any_failed}
-use Rattle.jfs_shared.specs.Shared.{IsServed, IfConsistent, entries_in}
+use Rattle.jfs_shared.specs.Left.{IsLeft}
+use Rattle.jfs_shared.specs.Shared.{IsServed, IfConsistent, IfChecked, entries_in}
 use Rattle.jfs_turns.specs.Lists.{Base, HasOwn}
 use Rattle.jfs_turns.specs.declared.turns.Pass.{Pass}
 use Rattle.jfs_server.specs.Served.{client_of}
@@ -63,6 +65,9 @@ pub record IsStopped {D : Type 0} (d : Ghosts D) (passes : List (Pass (ServedVol
   pub base_is : (i : ℕ) (p : Pass (ServedVolume D) (SharedLog D d) Recorded) → get_elem? passes i ≡ some p → suc i ≡ length passes → p.seat.me.0.base ≡ base
   pub ends : IsEndOf d (start_of base) x
   pub served : d.tells → IfConsistent base (λ s page. IsServed s page x.is_broken_off list x.mounted.volume)
+  -- where the log runs, whatever a crash leaves of both parts of the disk is redone to that history, with all durable entries
+  pub left : d.tells → d.tells_crashes → x.is_broken_off ≡ false → x.mounted.log.halted ≡ None
+      → IfChecked base (λ s image. IsLeft s image list x.mounted.log.durable (last_of x.mounted.volume.past ++ last_of (d.past x.mounted.log.part)))
 
 -- ---- for the prover
 

@@ -18,7 +18,9 @@ use Rattle.jfs_groups.specs.Log.{IsRunning, data_of}
 use Rattle.jfs_groups.specs.Text.{AreCounts, HoldsText, item_of, items_from, items_with, text_with}
 use Rattle.jfs_groups.specs.declared.log.SharedLog.{SharedLog}
 use Rattle.jfs_mount_disk.proofs.Left.{crash_low, crash_high}
+use Rattle.jfs_legal.proofs.Going.{legal_law}
 use Rattle.jfs_legal.specs.served.specs.crash_core.specs.Core.{Block}
+use Rattle.jfs_legal.specs.served.specs.shown.specs.meaning.specs.Image.{volume_of}
 use Rattle.jfs_kept_history.specs.Checked.{IsCheckedImage}
 use Rattle.jfs_kept_history.specs.Crash.{IsRedoneToHistory}
 use Rattle.jfs_kept_history.specs.Kept.{Lasting, noted_in}
@@ -29,7 +31,7 @@ use Rattle.jfs_shared.specs.Base.{start_of, image_of}
 use Rattle.jfs_shared.specs.Both.{Seen, AreOf}
 use Rattle.jfs_shared.specs.Entries.{Recorded}
 use Rattle.jfs_shared.specs.Left.{IsLeft}
-use Rattle.jfs_shared.specs.Shared.{logs_of, lasting, lasting_in, counts_in, IsKeptServed, standing, log_standing}
+use Rattle.jfs_shared.specs.Shared.{logs_of, timed_in, lasting, lasting_in, counts_in, IsKeptServed, standing, log_standing}
 use Rattle.jfs_shared.specs.declared.shared.SharedVolume.{SharedVolume}
 use Rattle.jfs_shared.proofs.Points.{all_counts}
 use Rattle.jfs_shared.proofs.Together.{front}
@@ -127,4 +129,4 @@ module _ {D : Type 0} (d : Ghosts D) (n : Seen) (x : SharedVolume D) (y : Shared
         (rested_law d.tells d.tells_crashes t c s (page_of image) kept.served.start (lasting_in n.list) (counts_in n.points) x.volume left (uuid_size s image checked) kept.since rested)
 
   pub left_is : IsLeft s image n.list n.durable (low ++ high)
-  left_is = record { start = kept.served.start; holds = kept.served.holds; runs = kept.served.runs; redone = redone }
+  left_is = record { start = kept.served.start; holds = kept.served.holds; runs = kept.served.runs; legal = legal_law (volume_of s (page_of image)).area s.logpxd.len kept.served.start (timed_in n.list) x.volume kept.served.goes_on; redone = redone }

@@ -1,5 +1,6 @@
 use Rattle.std.proofs.Common.{◌≡◌, ◌∙◌, ℕ, sym, subst, ap}
 use Rattle.std.specs.Prelude.{None}
+use Rattle.jfs_disk.specs.Crash.{last_of}
 use Rattle.jfs_disk.specs.Image.{Image, page_of}
 use Rattle.jfs_super.specs.Super.{super_of}
 use Rattle.jfs_super.specs.declared.fields.Super.{Super}
@@ -8,9 +9,11 @@ use Rattle.jfs_mount.specs.Subject.{subject_of}
 use Rattle.jfs_mount.specs.Mount.{broken_mount}
 use Rattle.jfs_mount.specs.meaning.specs.Image.{IsConsistentImage}
 use Rattle.jfs_server.specs.shared.specs.legal.specs.served.specs.volume_calls.specs.Together.{log_parts}
+use Rattle.jfs_server.specs.shared.specs.kept_history.specs.Checked.{IsCheckedImage}
 use Rattle.jfs_server.specs.shared.specs.legal.specs.served.specs.mounted.specs.Mount.{IsMountCause, IsRefusal}
 use Rattle.jfs_run.specs.Calls.{Calls}
 use Rattle.jfs_run.specs.Ending.{RunSince}
+use Rattle.jfs_run.specs.Left.{IsLeftRun}
 use Rattle.jfs_run.specs.Legal.{IsLegalRun, LeavesImage}
 use Rattle.jfs_run.specs.Mounted.{state}
 use Rattle.jfs_run.specs.Run.{seen, StayBeside}
@@ -68,6 +71,15 @@ returns-in-Ok-mount-clause-leaves g c = λ t done left.
     let clean : super_of c.in-Ok.taken.superblock.0 ≡ record s { state = CLEAN } = ap super_of (c.in-Ok.ensures.taken.0 t) ∙ c.requires.spelled t ∙ clean_is s c.requires.clean in
     subst {A = Super × Image} (λ z. LeavesImage z.0 z.1 c.args.now c.run_mounted.result.history.items (d.image c.run_mounted.result.disk)) (λ i. (block i, from i))
     (c.run_mounted.ensures.leaves t (clean ∙ ap (λ (b : Super). record b { state = CLEAN }) (sym block)) done left)
+
+pub returns-in-Ok-mount-clause-left : goal.returns-in-Ok-mount-clause-left
+returns-in-Ok-mount-clause-left g c = λ t crashes done left checked.
+    let d = g.D.Disk in
+    let from : g.I.MountedFrom.image ≡ d.image c.args.disk = c.requires.image.0 in
+    let block : g.I.MountedFrom.block ≡ c.args.s.now = c.requires.image.1 in
+    let calls : Calls = record { history = c.run_mounted.result.history.items; told = c.run_mounted.result.told.items } in
+    subst {A = Super × Image} (λ z. IsLeftRun z.0 z.1 c.args.now calls (last_of (d.past c.run_mounted.result.disk))) (λ i. (block i, from i))
+    (c.run_mounted.ensures.left t crashes done left (subst {A = Super × Image} (λ z. IsCheckedImage z.0 z.1) (λ i. (sym block i, sym from i)) checked))
 
 pub returns-in-Err-mount-clause-ran : goal.returns-in-Err-mount-clause-ran
 returns-in-Err-mount-clause-ran g c =

@@ -13,5 +13,6 @@ returns g c = record {
       let h = handed_out g.D.Disk passes v y at_end mid c.take_entries-history.new.self halts c.take_entries-history.ensures.rest in
       is_stopped g.D.Disk passes v y at_end _ mid.halted h refl
       (c.take_entries-history.ensures.entries ∙ entries_of y.side.halted v.shared.volume mid halts)
-      c.is_broken_off-is_broken_off.ensures;
+      c.is_broken_off-is_broken_off.ensures
+      (g.met.D.Disk.reads_now y.side.part);
 }
