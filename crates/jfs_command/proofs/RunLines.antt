@@ -16,7 +16,9 @@ use Rattle.jfs_redo.specs.declared.error.RedoError.{RedoError}
 use Rattle.jfs_redo.specs.declared.error.RedoError.TheVariants as errors
 use Rattle.jfs_run.proofs.Plans.{whole_begins}
 use Rattle.jfs_run.specs.Calls.{Calls, AllTold, NoCalls, AllCalled, SomeCalled, FirstTold, waiting_from, any_failed}
+use Rattle.jfs_run.specs.Left.{IsLeftRun, IfLeft}
 use Rattle.jfs_run.specs.Legal.{LeavesImage, IfUnmounted}
+use Rattle.jfs_run.specs.kept_history.specs.Checked.{IsCheckedImage}
 use Rattle.jfs_run.specs.Run.{Seen, RunIs, MayMount, StayBeside, IsUncalled}
 use Rattle.jfs_run.specs.declared.run.RunEnd.{RunEnd}
 use Rattle.jfs_run.specs.declared.run.RunEnd.TheVariants as ran
@@ -75,8 +77,11 @@ module _ (tells crashes : Type 0) (p : Planned) (is_left : Bool) (moment : Momen
   abbrev Leaves : RunEnd → Type 0
   Leaves end = tells → IfUnmounted end is_left (LeavesImage s held.image moment c.history left.image)
 
-  with_text : (end : RunEnd) → RunIs tells crashes s p.plan is_left (seen_as held before) (seen_as left now) c end → Replies end → Leaves end → StartEnds tells crashes p is_left moment start held.past (work_of_calls (text_of redone p.printed end c) c left) count (end_of end)
-  with_text ran.Done is replies leaves = (
+  abbrev Lefts : RunEnd → Type 0
+  Lefts end = tells → crashes → IfLeft end is_left (IsCheckedImage s held.image → IsLeftRun s held.image moment c (last_of left.past))
+
+  with_text : (end : RunEnd) → RunIs tells crashes s p.plan is_left (seen_as held before) (seen_as left now) c end → Replies end → Leaves end → Lefts end → StartEnds tells crashes p is_left moment start held.past (work_of_calls (text_of redone p.printed end c) c left) count (end_of end)
+  with_text ran.Done is replies leaves lefts = (
     record { status = statuses.Done; text = whole_text p.printed c },
     runs c is.entries is.told refl is.mounts,
     refl,
@@ -90,10 +95,11 @@ module _ (tells crashes : Type 0) (p : Planned) (is_left : Bool) (moment : Momen
       superblock = λ not_left t. (is.ended not_left).superblock t;
       stable = λ not_left t. (is.ended not_left).resting t;
       image = λ not_left t. leaves t refl not_left;
+      left = λ is t k. lefts t k refl is;
     },
     is.faults,
   )
-  with_text (ran.BadImage bad) is replies leaves = (
+  with_text (ran.BadImage bad) is replies leaves lefts = (
     refused (statuses.BadImage bad.page bad.rule bad.value),
     breaks bad refl is.rule,
     refl,
@@ -101,8 +107,8 @@ module _ (tells crashes : Type 0) (p : Planned) (is_left : Bool) (moment : Momen
     record { history = is.calls.0; told = is.calls.1; text = append-nil (text_before redone); image = is.image; past_is = is.past },
     is.faults,
   )
-  with_text ran.Disk is replies leaves = (record { called = called_by is.done; replies = replies; text = refl }, is.rose)
-  with_text ran.Memory is replies leaves = record { called = called_by is.done; told = is.told; calm = is.calm; replies = replies; text = inl refl }
+  with_text ran.Disk is replies leaves lefts = (record { called = called_by is.done; replies = replies; text = refl }, is.rose)
+  with_text ran.Memory is replies leaves lefts = record { called = called_by is.done; told = is.told; calm = is.calm; replies = replies; text = inl refl }
 
   some_of : IsUncalled tells s (seen_as held before) (seen_as left now) c ⊎ (AllCalled p.plan c × MayMount tells s (seen_as held before)) → IsUncalled tells s (seen_as held before) (seen_as left now) c ⊎ (SomeCalled p.plan c × MayMount tells s (seen_as held before))
   some_of (inl none) = inl none
@@ -116,12 +122,12 @@ module _ (tells crashes : Type 0) (p : Planned) (is_left : Bool) (moment : Momen
   without_text ran.Disk is replies = record { called = called_by (some_of is.done); told = inl is.rose; calm = inl is.rose; replies = replies; text = inr refl }
   without_text ran.Memory is replies = record { called = called_by is.done; told = is.told; calm = is.calm; replies = replies; text = inr refl }
 
-  pub ended : (end : RunEnd) (e : End) (text : List ℕ) → RunIs tells crashes s p.plan is_left (seen_as held before) (seen_as left now) c end → Replies end → Leaves end → Tells redone p.printed end c e text
+  pub ended : (end : RunEnd) (e : End) (text : List ℕ) → RunIs tells crashes s p.plan is_left (seen_as held before) (seen_as left now) c end → Replies end → Leaves end → Lefts end → Tells redone p.printed end c e text
       → StartEnds tells crashes p is_left moment start held.past (work_of_calls text c left) count e
-  ended end e text is replies leaves (inl (is_end, is_text)) =
+  ended end e text is replies leaves lefts (inl (is_end, is_text)) =
       subst (λ (x : End). StartEnds tells crashes p is_left moment start held.past (work_of_calls text c left) count x) (sym is_end)
-      (subst (λ (t : List ℕ). StartEnds tells crashes p is_left moment start held.past (work_of_calls t c left) count (end_of end)) (sym is_text) (with_text end is replies leaves))
-  ended end e text is replies leaves (inr (is_end, is_text)) =
+      (subst (λ (t : List ℕ). StartEnds tells crashes p is_left moment start held.past (work_of_calls t c left) count (end_of end)) (sym is_text) (with_text end is replies leaves lefts))
+  ended end e text is replies leaves lefts (inr (is_end, is_text)) =
       subst (λ (x : End). StartEnds tells crashes p is_left moment start held.past (work_of_calls text c left) count x) (sym is_end)
       (subst (λ (t : List ℕ). StartEnds tells crashes p is_left moment start held.past (work_of_calls t c left) count (Stopped stops.Memory)) (sym is_text) (without_text end is replies))
 

@@ -11,7 +11,9 @@ use Rattle.jfs_disk.specs.declared.disk.Disk.{Ghosts}
 use Rattle.jfs_findings_new.specs.meaning.specs.Image.{IsConsistentImage}
 use Rattle.jfs_findings_new.specs.mount_rules.specs.Subject.{subject_of}
 use Rattle.jfs_findings_new.specs.mount_rules.specs.Mount.{broken_mount}
+use Rattle.jfs_run.specs.Left.{IsLeftRun}
 use Rattle.jfs_run.specs.Legal.{IsLegalRun, LeavesImage}
+use Rattle.jfs_run.specs.kept_history.specs.Checked.{IsCheckedImage}
 use Rattle.jfs_run.specs.Run.{StayBeside}
 use Rattle.jfs_io.specs.declared.source.Source.{Ghosts as SourceMembers}
 use Rattle.jfs_plain.specs.declared.call.Line.{Line}
@@ -150,6 +152,7 @@ module _ {D : Type 0} (d : Ghosts D) (old mid new : D) (s : Super) (p : Planned)
       superblock = λ not_left t. back (λ st. page_of (d.image new) 8 ≡ page_of st.image 8) t (did.superblock not_left t);
       stable = did.stable;
       image = λ not_left t. back (λ st. LeavesImage st.super st.image now outcome.history.items (d.image new)) t (did.image not_left t);
+      left = λ is t k. back (λ st. IsCheckedImage st.super st.image → IsLeftRun st.super st.image now (calls_of work) (last_of (d.past new))) t (did.left is t k);
     }
 
     only_redone : HasOnlyRedone d.tells d.tells_crashes start work → HasOnlyRedone d.tells d.tells_crashes first.at work

@@ -18,8 +18,10 @@ use Rattle.jfs_script.specs.History.{history_text, done_text}
 use Rattle.jfs_run.specs.declared.run.RunEnd.{RunEnd}
 use Rattle.jfs_run.specs.declared.run.RunEnd.TheVariants as ran
 use Rattle.jfs_run.specs.Calls.{Calls, HaveEntries, AllTold, NoCalls, AllCalled, SomeCalled, any_failed}
+use Rattle.jfs_run.specs.Left.{IsLeftRun}
 use Rattle.jfs_run.specs.Legal.{IsLegalRun, LeavesImage}
 use Rattle.jfs_run.specs.Run.{StayBeside}
+use Rattle.jfs_run.specs.kept_history.specs.Checked.{IsCheckedImage}
 use Rattle.jfs_command.specs.declared.status.Status.{Status}
 use Rattle.jfs_command.specs.declared.status.Status.TheVariants as statuses
 use Rattle.jfs_command.specs.declared.status.Stop.{Stop}
@@ -142,7 +144,7 @@ calls_of work = record { history = work.history; told = work.told }
 abbrev pub AreReplies : (tells : Type 0) → Super → Image → Moment → List Entry → Type 0
 AreReplies tells s image now history = tells → IsConsistentImage s (page_of image) → IsLegalRun s (page_of image) now history
 
--- Each client's lines were called, in their order, each entry that waits was told durable, and the text is that of both. Unless the volume was to be left, it was unmounted: page 8 is the one that it had, and a crash leaves all of the disk, which is an image of the tree behind the last reply.
+-- Each client's lines were called, in their order, each entry that waits was told durable, and the text is that of both. Unless the volume was to be left, it was unmounted: page 8 is the one that it had, and a crash leaves all of the disk, which is an image of the tree behind the last reply. Where it was to be left, and a check found nothing on the image at first, redo makes of whatever a crash leaves of the disk what a front of the calls leaves, with all that were told durable.
 pub record HasRun (tells crashes : Type 0) (p : Planned) (is_left : Bool) (now : Moment) (start : Start) (work : Work) : Type 0 where
   pub entries : HaveEntries p.plan work.history
   pub told : AllTold (calls_of work)
@@ -153,6 +155,7 @@ pub record HasRun (tells crashes : Type 0) (p : Planned) (is_left : Bool) (now :
   pub superblock : is_left ≡ false → tells → page_of work.held.image 8 ≡ page_of start.image 8
   pub stable : is_left ≡ false → crashes → IsResting (last_of work.held.past)
   pub image : is_left ≡ false → tells → LeavesImage start.super start.image now work.history work.held.image
+  pub left : is_left ≡ true → tells → crashes → IsCheckedImage start.super start.image → IsLeftRun start.super start.image now (calls_of work) (last_of work.held.past)
 
 -- it was redone, and nothing else
 pub record HasOnlyRedone (tells crashes : Type 0) (start : Start) (work : Work) : Type 0 where

@@ -10,3 +10,5 @@ pub mod Clients
 pub mod Telling
 pub mod Serving
 pub mod Ending
+-- libraries below, passed on
+pub use Rattle.jfs_server.specs.shared.specs.kept_history
