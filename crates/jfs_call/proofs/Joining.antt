@@ -36,7 +36,7 @@ is_out tells crashes caller request tx put old new (inl out) = inl out
 is_out tells crashes caller request tx put old new (inr (is, same)) = inr (inl same)
 
 pub is_unfit : (tells crashes : Type 0) (caller : Caller) (request : Request) (tx : List Edit) (put : List DataPage) (old new : Parts) → EntersAs tells crashes caller request tx put old new calling.Unfit → IsChangedBy tells crashes caller request tx put old new NoMemory
-is_unfit tells crashes caller request tx put old new (inl out) = inl out
+is_unfit tells crashes caller request tx put old new (inl out) = inl (out.0, out.1)
 is_unfit tells crashes caller request tx put old new (inr (clash, same)) = absurd (cc (clash))
 
 -- it failed, and then it is refused for that

@@ -123,6 +123,7 @@ module _ (tells crashes : Type 0) (told : tells) (left : crashes) where
       notes = j.joins.notes;
       marks = j.joins.marks;
       each = j.joins.each;
+      notes_are = λ t. j.joins.notes_are told;
       loggable = j.joins.loggable;
       marks_are = λ t. j.joins.marks_are told;
       behind = j.joins.behind;

@@ -14,7 +14,8 @@ use jfs_records::{Note, Notes};
 /// runs lie within the volume.
 pub fn is_loggable(blocks: u32, tx: &Tx, notes: &Notes) -> bool
     requires { length tx.now ≡ length notes.now }
-    ensures { result ≡ true → AllByRecursion (IsLoggable blocks) (noted tx.now notes.now) }
+    ensures yes { result ≡ true → AllByRecursion (IsLoggable blocks) (noted tx.now notes.now) }
+    ensures no { AllByRecursion (IsLoggable blocks) (noted tx.now notes.now) → result ≡ true }
 {
     let (edits, notes) = (tx.as_slice(), notes.as_slice());
     for i in 0..edits.len() {
@@ -35,7 +36,8 @@ fn note_at(notes: &[Note], i: usize) -> Note
 
 /// Whether one edit can be logged with this note, whose numbers have 32 bits.
 fn can_log(blocks: u32, note: Note, edit: &Edit) -> bool
-    ensures { result ≡ true → IsLoggable blocks (record { edit = edit.now; note = note }) }
+    ensures yes { result ≡ true → IsLoggable blocks (record { edit = edit.now; note = note }) }
+    ensures no { IsLoggable blocks (record { edit = edit.now; note = note }) → result ≡ true }
 {
     let _ = (note.fileset, note.inode);
     can_log_edit(blocks, note.new_page, edit)
@@ -43,7 +45,8 @@ fn can_log(blocks: u32, note: Note, edit: &Edit) -> bool
 
 /// Whether one edit can be logged.
 fn can_log_edit(blocks: u32, new_page: bool, edit: &Edit) -> bool
-    ensures { result ≡ true → CanLog blocks new_page edit.now }
+    ensures yes { result ≡ true → CanLog blocks new_page edit.now }
+    ensures no { CanLog blocks new_page edit.now → result ≡ true }
 {
     match edit {
         Edit::Lines {
@@ -60,6 +63,7 @@ fn can_log_edit(blocks: u32, new_page: bool, edit: &Edit) -> bool
 fn lies_within(blocks: u32, run: &Pxd) -> bool
     ensures low { result ≡ true → run.now.addr < blocks }
     ensures high { result ≡ true → run.now.addr + run.now.len ≤ blocks }
+    ensures no { run.now.addr < blocks → run.now.addr + run.now.len ≤ blocks → result ≡ true }
 {
     let (addr, len) = (run.addr, run.len);
     let blocks = u64::from(blocks);
@@ -78,7 +82,8 @@ fn are_lines(
     first: u32,
     bytes: &[u8],
 ) -> bool
-    ensures { result ≡ true → AreLines blocks kind new_page page first bytes.now }
+    ensures yes { result ≡ true → AreLines blocks kind new_page page first bytes.now }
+    ensures no { AreLines blocks kind new_page page first bytes.now → result ≡ true }
 {
     let pages = PageType::new(kind, new_page).blocks();
     let (line, count) = (kind.line_size(), bytes.len());
@@ -95,14 +100,16 @@ fn are_lines(
 }
 
 fn is_whole(count: usize, line: usize) -> bool
-    ensures { result ≡ true → count ≡ count / line * line }
+    ensures yes { result ≡ true → count ≡ count / line * line }
+    ensures no { 0 < line → count ≡ count / line * line → result ≡ true }
 {
     line > 0 && count % line == 0
 }
 
 /// New inodes come four pages at once.
 fn is_all_new(kind: PageKind, new_page: bool, first: u32, bytes: &[u8]) -> bool
-    ensures { result ≡ true → AreAllNew kind new_page first bytes.now }
+    ensures yes { result ≡ true → AreAllNew kind new_page first bytes.now }
+    ensures no { AreAllNew kind new_page first bytes.now → result ≡ true }
 {
     match (kind, new_page) {
         (PageKind::Inode, true) => first == 0 && bytes.len() == 16_384,

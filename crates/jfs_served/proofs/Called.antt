@@ -23,7 +23,7 @@ pub called_law : CalledLaw
 called_law area log_pages request now tx put entry (Entered number) old mid new may asked answer joined = changed_law area log_pages request now tx put entry number old mid new may asked answer joined.joins
 called_law area log_pages request now tx put entry NoRoom old mid new may asked answer (back, on, full) = given_back_law area log_pages request now tx put old mid new may asked answer back (on.view tt)
 called_law area log_pages request now tx put entry NoMemory old mid new may asked answer (back, on) = unfinished_law area log_pages request now tx put old mid new may asked answer back (on.view tt)
-called_law area log_pages request now tx put entry Unfit old mid new may asked answer (back, on) = unfinished_law area log_pages request now tx put old mid new may asked answer back (on.view tt)
+called_law area log_pages request now tx put entry Unfit old mid new may asked answer (back, on, why) = unfinished_law area log_pages request now tx put old mid new may asked answer back (on.view tt)
 called_law area log_pages request now tx put entry (Failed fault) old mid new may asked answer (back, fails) = (fault_is, (tree fails.fails, λ reply. step reply fails.fails))
   where
     fault_is : IsFault old.faults new.faults fault

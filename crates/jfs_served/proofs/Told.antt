@@ -1,16 +1,17 @@
 -- Clauses of a disk that may tell its contents, where it does.
 use Rattle.std.specs.Bool.{⊤}
-use Rattle.std.proofs.Common.{◌≡◌, ℕ, List, ◌⊎◌, inl, inr}
-use Rattle.jfs_disk.specs.Image.{Image}
+use Rattle.std.proofs.Common.{◌≡◌, ℕ, List, length, ◌⊎◌, inl, inr}
+use Rattle.jfs_disk.specs.Image.{Image, page_of}
 use Rattle.jfs_disk.specs.Crash.{DiskState}
 use Rattle.jfs_ranges.specs.declared.edit.Edit.{Edit}
 use Rattle.jfs_super.specs.declared.fields.Super.{Super}
 use Rattle.jfs_call.specs.volume.specs.Asked.{IsAskedOf}
-use Rattle.jfs_call.specs.volume.specs.Called.{JoinsWith, StopsReading, StopsPutting, GoesOn, CallIs}
+use Rattle.jfs_call.specs.volume.specs.Called.{JoinsWith, StopsReading, StopsPutting, GoesOn, IsUnfitBeside, not_logged, frees_early, keeps_gone, not_marked, IsUnfit, takes_unreserved, puts_dirty, puts_astray, unfit_beside, CallIs}
 use Rattle.jfs_call.specs.volume.specs.declared.calling.Called.{Called}
 use Rattle.jfs_call.specs.volume.specs.declared.calling.Called.TheVariants.{Entered, NoRoom, NoMemory, Failed, Unfit}
 use Rattle.jfs_call.specs.volume.specs.Settles.{StaysShown, HomesAlone}
 use Rattle.jfs_call.specs.volume.specs.data_steps.specs.declared.pages.DataPage.{DataPage}
+use Rattle.jfs_call.specs.volume.specs.map_files.specs.imap.specs.Inodes.{Inodes}
 use Rattle.jfs_call.specs.volume_calls.specs.Written.{KeepsPages}
 use Rattle.jfs_call.specs.halves.specs.Log.{LogParts}
 use Rattle.jfs_call.specs.halves.specs.Parts.{Parts}
@@ -31,6 +32,7 @@ module _ (tells crashes : Type 0) (told : tells) where
     notes = j.notes;
     marks = j.marks;
     each = j.each;
+    notes_are = λ t. j.notes_are told;
     loggable = j.loggable;
     marks_are = λ t. j.marks_are told;
     behind = j.behind;
@@ -43,12 +45,25 @@ module _ (tells crashes : Type 0) (told : tells) where
     faults = j.faults;
   }
 
+  -- why it is unfit
+  told_beside : (blocks : ℕ) (pages : ℕ → List ℕ) (inodes : Inodes) (tx : List Edit) (put : List DataPage) → IsUnfitBeside tells blocks pages inodes tx put → IsUnfitBeside ⊤ blocks pages inodes tx put
+  told_beside blocks pages inodes tx put (not_logged why) = not_logged (λ t all. why told all)
+  told_beside blocks pages inodes tx put (frees_early why) = frees_early why
+  told_beside blocks pages inodes tx put (keeps_gone why) = keeps_gone why
+  told_beside blocks pages inodes tx put (not_marked why) = not_marked (λ t. why told)
+
+  told_unfit : (tx : List Edit) (put : List DataPage) (old : Parts) → IsUnfit tells tx put old → IsUnfit ⊤ tx put old
+  told_unfit tx put old (takes_unreserved why) = takes_unreserved why
+  told_unfit tx put old (puts_dirty why) = puts_dirty why
+  told_unfit tx put old (puts_astray why) = puts_astray why
+  told_unfit tx put old (unfit_beside why) = unfit_beside (told_beside (length old.map.states) (page_of old.view) old.inodes tx put why)
+
   pub told_called : (entry : Entry) (tx : List Edit) (put : List DataPage) (old new : Parts) (called : Called) → CallIs tells crashes entry tx put old new called → CallIs ⊤ ⊥ entry tx put old new called
   unfolding told_joins
   told_called entry tx put old new (Entered number) j = record { joins = told_joins entry tx put number old new j.joins; writable = j.writable; moves = λ now seen asked t c. j.moves now seen asked (λ e. told) (λ e. absurd (c e)) }
   told_called entry tx put old new NoRoom (back, on, full) = (back, told_on old new on, full)
   told_called entry tx put old new NoMemory (back, on) = (back, told_on old new on)
-  told_called entry tx put old new Unfit (back, on) = (back, told_on old new on)
+  told_called entry tx put old new Unfit (back, on, why) = (back, told_on old new on, told_unfit tx put old why)
   told_called entry tx put old new (Failed fault) (back, fails) = (back, record { is_fault = fails.is_fault; fails = by fails.fails })
     where
       by : StopsReading tells crashes old new ⊎ StopsPutting tells crashes tx put fault old new → StopsReading ⊤ ⊥ old new ⊎ StopsPutting ⊤ ⊥ tx put fault old new

@@ -93,6 +93,7 @@ module _ (tells crashes : Type 0) (old mid new : Parts) (read : IsRead tells cra
       notes = beside.notes;
       marks = beside.marks;
       each = fits.each;
+      notes_are = fits.notes_are;
       loggable = fits.loggable;
       marks_are = fits.marks.are;
       behind = fits.behind;
@@ -218,7 +219,7 @@ unreserving tells crashes entry tx put old mid (called.Entered number) reserved 
 unreserving tells crashes entry tx put old mid called.NoRoom reserved other r = (gives tx old mid reserved r.0, goes tells crashes tx old mid r.1, r.2)
 unreserving tells crashes entry tx put old mid called.NoMemory reserved other r = (may_give tx old (unreserved tx mid) (gives tx old mid reserved r.0), goes tells crashes tx old mid r.1)
 unreserving tells crashes entry tx put old mid (called.Failed fault) reserved other r = (gives tx old mid reserved r.0, r.1)
-unreserving tells crashes entry tx put old mid called.Unfit reserved other r = (may_give tx old (unreserved tx mid) (gives tx old mid reserved r.0), goes tells crashes tx old mid r.1)
+unreserving tells crashes entry tx put old mid called.Unfit reserved other r = (may_give tx old (unreserved tx mid) (gives tx old mid reserved r.0), goes tells crashes tx old mid r.1, r.2)
 
 pub given_back : (tells crashes : Type 0) (entry : Entry) (tx : List Edit) (put : List DataPage) (old mid new : Parts) (result : Called) → AreReserved old.map (taken_in tx) → ((number : ℕ) → result ≡ called.Entered number → ⊥) → ReservedIs tells crashes entry tx put old mid result
     → new ≡ unreserved tx mid → CallIs tells crashes entry tx put old new result

@@ -26,7 +26,8 @@ use Rattle.jfs_marks.specs.Behind.{frees_behind}
 use Rattle.jfs_marks.specs.Marking.{AreMarksOf}
 use Rattle.jfs_marks.specs.Marks.{FitsMarks}
 use Rattle.jfs_marks.specs.declared.marks.InodeMarks.{InodeMarks}
-use Rattle.jfs_marks.specs.declared.marking.Marking.TheVariants.{Fits}
+use Rattle.jfs_marks.specs.Notes.{notes_on}
+use Rattle.jfs_marks.specs.declared.marking.Marking.TheVariants.{Fits, Unfit as Unmarked}
 use Rattle.jfs_halves.specs.Entry.{Happened}
 use Rattle.jfs_halves.specs.Half.{VolumeHalf}
 use Rattle.jfs_halves.specs.Parts.{Parts, OfEachHalf}
@@ -57,6 +58,7 @@ pub record JoinsWith (tells : Type 0) (entry : Entry) (tx : List Edit) (put : Li
   pub notes : List Note
   pub marks : InodeMarks
   pub each : length tx ≡ length notes
+  pub notes_are : tells → notes ≡ notes_on (length old.map.states) (page_of old.view) tx
   pub loggable : AllByRecursion (IsLoggable (length old.map.states)) (noted tx notes)
   pub marks_are : tells → AreMarksOf (length old.map.states) (page_of old.view) old.inodes tx put (Fits marks)
   -- where it frees a block that it took, it does so behind the take
@@ -126,12 +128,26 @@ pub record LacksRoom (tx : List Edit) (old : Parts) : Type 0 where
   pub each : length tx ≡ length notes
   pub full : has_room old.text (entry_size (noted tx notes)) ≡ false
 
+-- Of a transaction, on these pages and this inode map, what no entry of it can have: records that a log can have, frees in their order, and marks of the inode map. Of a disk that doesn't tell, no pages say which records and marks.
+pub data IsUnfitBeside (tells : Type 0) (blocks : ℕ) (pages : ℕ → List ℕ) (inodes : Inodes) (tx : List Edit) (put : List DataPage) : Type 0 where
+  not_logged : (tells → AllByRecursion (IsLoggable blocks) (noted tx (notes_on blocks pages tx)) → ⊥) → IsUnfitBeside tells blocks pages inodes tx put
+  frees_early : frees_behind tx ≡ false → IsUnfitBeside tells blocks pages inodes tx put
+  keeps_gone : gone_freed tx tx ≡ false → IsUnfitBeside tells blocks pages inodes tx put
+  not_marked : (tells → AreMarksOf blocks pages inodes tx put Unmarked) → IsUnfitBeside tells blocks pages inodes tx put
+
+-- It is none that a file call makes on a consistent volume: a block that it takes isn't reserved, a page that is written is dirty or goes into a block that it doesn't take and nobody owns, or the entry can't have what it needs.
+pub data IsUnfit (tells : Type 0) (tx : List Edit) (put : List DataPage) (old : Parts) : Type 0 where
+  takes_unreserved : (AreReserved old.map (taken_in tx) → ⊥) → IsUnfit tells tx put old
+  puts_dirty : are_clean put old.dirty ≡ false → IsUnfit tells tx put old
+  puts_astray : have_places old.map (taken_in tx) put ≡ false → IsUnfit tells tx put old
+  unfit_beside : IsUnfitBeside tells (length old.map.states) (page_of old.view) old.inodes tx put → IsUnfit tells tx put old
+
 abbrev pub CallIs : (tells crashes : Type 0) → Entry → List Edit → List DataPage → Parts → Parts → Called → Type 0
 CallIs tells crashes entry tx put old new (Entered number) = IsJoined tells crashes entry tx put number old new
 CallIs tells crashes entry tx put old new NoRoom = GivesBack tx old new × GoesOn tells crashes old new × LacksRoom tx old
 CallIs tells crashes entry tx put old new NoMemory = MayGiveBack tx old new × GoesOn tells crashes old new
 CallIs tells crashes entry tx put old new (Failed fault) = GivesBack tx old new × FailsBy tells crashes tx put fault old new
-CallIs tells crashes entry tx put old new Unfit = MayGiveBack tx old new × GoesOn tells crashes old new
+CallIs tells crashes entry tx put old new Unfit = MayGiveBack tx old new × GoesOn tells crashes old new × IsUnfit tells tx put old
 
 -- ---- its steps, for the prover alone
 
@@ -145,7 +161,7 @@ ReservedIs tells crashes entry tx put old new (Entered number) = IsJoined tells 
 ReservedIs tells crashes entry tx put old new NoRoom = StaysOut old new × GoesOn tells crashes old new × LacksRoom tx old
 ReservedIs tells crashes entry tx put old new NoMemory = StaysOut old new × GoesOn tells crashes old new
 ReservedIs tells crashes entry tx put old new (Failed fault) = StaysOut old new × FailsBy tells crashes tx put fault old (unreserved tx new)
-ReservedIs tells crashes entry tx put old new Unfit = StaysOut old new × GoesOn tells crashes old new
+ReservedIs tells crashes entry tx put old new Unfit = StaysOut old new × GoesOn tells crashes old new × IsUnfit tells tx put old
 
 -- pages were read, and nothing else changes
 pub record IsRead (tells crashes : Type 0) (old new : Parts) : Type 0 where
@@ -158,17 +174,17 @@ abbrev pub called_of : ViewError → Called
 called_of (Read fault) = Failed fault
 called_of Memory = NoMemory
 
--- no entry joins, and the count rises with a fault alone
-abbrev pub IsErrorOf : ℕ → ℕ → Called → Type 0
-IsErrorOf before now (Entered number) = ⊥
-IsErrorOf before now NoRoom = ⊥
-IsErrorOf before now NoMemory = now ≡ before
-IsErrorOf before now (Failed fault) = IsFault before now fault
-IsErrorOf before now Unfit = now ≡ before
+-- no entry joins, the count rises with a fault alone, and what is unfit has this cause
+abbrev pub IsErrorOf : Type 0 → ℕ → ℕ → Called → Type 0
+IsErrorOf unfit before now (Entered number) = ⊥
+IsErrorOf unfit before now NoRoom = ⊥
+IsErrorOf unfit before now NoMemory = now ≡ before
+IsErrorOf unfit before now (Failed fault) = IsFault before now fault
+IsErrorOf unfit before now Unfit = (now ≡ before) × unfit
 
-abbrev pub NotesOf : List Edit → ℕ → ℕ → Result (List Note) Called → Type 0
-NotesOf tx before now (Ok notes) = (now ≡ before) × (length tx ≡ length notes)
-NotesOf tx before now (Err called) = IsErrorOf before now called
+abbrev pub NotesOf : (tells : Type 0) → ℕ → (ℕ → List ℕ) → List Edit → ℕ → ℕ → Result (List Note) Called → Type 0
+NotesOf tells blocks pages tx before now (Ok notes) = (now ≡ before) × (length tx ≡ length notes) × (tells → notes ≡ notes_on blocks pages tx)
+NotesOf tells blocks pages tx before now (Err called) = IsErrorOf ⊥ before now called
 
 pub record AreFit (tells : Type 0) (blocks : ℕ) (pages : ℕ → List ℕ) (inodes : Inodes) (tx : List Edit) (put : List DataPage) (marks : InodeMarks) : Type 0 where
   pub fits : FitsMarks inodes marks
@@ -176,10 +192,11 @@ pub record AreFit (tells : Type 0) (blocks : ℕ) (pages : ℕ → List ℕ) (in
 
 abbrev pub MarksOf : (tells : Type 0) → ℕ → (ℕ → List ℕ) → Inodes → List Edit → List DataPage → ℕ → ℕ → Result InodeMarks Called → Type 0
 MarksOf tells blocks pages inodes tx put before now (Ok marks) = (now ≡ before) × AreFit tells blocks pages inodes tx put marks
-MarksOf tells blocks pages inodes tx put before now (Err called) = IsErrorOf before now called
+MarksOf tells blocks pages inodes tx put before now (Err called) = IsErrorOf (tells → AreMarksOf blocks pages inodes tx put Unmarked) before now called
 
 pub record FitsBeside (tells : Type 0) (blocks : ℕ) (pages : ℕ → List ℕ) (inodes : Inodes) (tx : List Edit) (put : List DataPage) (beside : Beside) : Type 0 where
   pub each : length tx ≡ length beside.notes
+  pub notes_are : tells → beside.notes ≡ notes_on blocks pages tx
   pub loggable : AllByRecursion (IsLoggable blocks) (noted tx beside.notes)
   pub behind : frees_behind tx ≡ true
   pub gone : gone_freed tx tx ≡ true
@@ -187,4 +204,4 @@ pub record FitsBeside (tells : Type 0) (blocks : ℕ) (pages : ℕ → List ℕ)
 
 abbrev pub BesideOf : (tells : Type 0) → ℕ → (ℕ → List ℕ) → Inodes → List Edit → List DataPage → ℕ → ℕ → Result Beside Called → Type 0
 BesideOf tells blocks pages inodes tx put before now (Ok beside) = (now ≡ before) × FitsBeside tells blocks pages inodes tx put beside
-BesideOf tells blocks pages inodes tx put before now (Err called) = IsErrorOf before now called
+BesideOf tells blocks pages inodes tx put before now (Err called) = IsErrorOf (IsUnfitBeside tells blocks pages inodes tx put) before now called

@@ -66,7 +66,7 @@ fn notes_in_loan<'a, D: Disk>(
     ensures loan { front.new.cache.ghost_name ≡ front.old.cache.ghost_name }
     ensures cache { LeavesCache D.Disk front.old.cache.now front.new.cache.now }
     ensures blocks { front.new.blocks ≡ front.old.blocks }
-    ensures notes { NotesOf tx.now (D.fault_count front.old.cache.now.disk) (D.fault_count front.new.cache.now.disk) result }
+    ensures notes { NotesOf D.tells front.old.blocks (page_of (image_in front.old.cache.now.blocks (D.image front.old.cache.now.disk) front.old.cache.now.kept)) tx.now (D.fault_count front.old.cache.now.disk) (D.fault_count front.new.cache.now.disk) result }
 {
     match notes_of(alloc, front, tx) {
         Ok(notes) => Ok(notes),
