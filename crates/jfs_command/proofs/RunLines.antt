@@ -16,7 +16,7 @@ use Rattle.jfs_redo.specs.declared.error.RedoError.{RedoError}
 use Rattle.jfs_redo.specs.declared.error.RedoError.TheVariants as errors
 use Rattle.jfs_run.proofs.Plans.{whole_begins}
 use Rattle.jfs_run.specs.Calls.{Calls, AllTold, NoCalls, AllCalled, SomeCalled, FirstTold, waiting_from, any_failed}
-use Rattle.jfs_run.specs.Left.{IsLeftRun, IfLeft}
+use Rattle.jfs_run.specs.Left.{LeavesRun}
 use Rattle.jfs_run.specs.Legal.{LeavesImage, IfUnmounted}
 use Rattle.jfs_run.specs.kept_history.specs.Checked.{IsCheckedImage}
 use Rattle.jfs_run.specs.Run.{Seen, RunIs, MayMount, StayBeside, IsUncalled}
@@ -78,7 +78,7 @@ module _ (tells crashes : Type 0) (p : Planned) (is_left : Bool) (moment : Momen
   Leaves end = tells → IfUnmounted end is_left (LeavesImage s held.image moment c.history left.image)
 
   abbrev Lefts : RunEnd → Type 0
-  Lefts end = tells → crashes → IfLeft end is_left (IsCheckedImage s held.image → IsLeftRun s held.image moment c (last_of left.past))
+  Lefts end = tells → crashes → is_left ≡ true → IsCheckedImage s held.image → LeavesRun s held.image moment c (last_of left.past) end
 
   with_text : (end : RunEnd) → RunIs tells crashes s p.plan is_left (seen_as held before) (seen_as left now) c end → Replies end → Leaves end → Lefts end → StartEnds tells crashes p is_left moment start held.past (work_of_calls (text_of redone p.printed end c) c left) count (end_of end)
   with_text ran.Done is replies leaves lefts = (
@@ -95,7 +95,7 @@ module _ (tells crashes : Type 0) (p : Planned) (is_left : Bool) (moment : Momen
       superblock = λ not_left t. (is.ended not_left).superblock t;
       stable = λ not_left t. (is.ended not_left).resting t;
       image = λ not_left t. leaves t refl not_left;
-      left = λ is t k. lefts t k refl is;
+      left = λ is t k. lefts t k is;
     },
     is.faults,
   )
@@ -107,7 +107,7 @@ module _ (tells crashes : Type 0) (p : Planned) (is_left : Bool) (moment : Momen
     record { history = is.calls.0; told = is.calls.1; text = append-nil (text_before redone); image = is.image; past_is = is.past },
     is.faults,
   )
-  with_text ran.Disk is replies leaves lefts = (record { called = called_by is.done; replies = replies; text = refl }, is.rose)
+  with_text ran.Disk is replies leaves lefts = (record { called = called_by is.done; replies = replies; text = refl; left = λ is t k. lefts t k is }, is.rose)
   with_text ran.Memory is replies leaves lefts = record { called = called_by is.done; told = is.told; calm = is.calm; replies = replies; text = inl refl }
 
   some_of : IsUncalled tells s (seen_as held before) (seen_as left now) c ⊎ (AllCalled p.plan c × MayMount tells s (seen_as held before)) → IsUncalled tells s (seen_as held before) (seen_as left now) c ⊎ (SomeCalled p.plan c × MayMount tells s (seen_as held before))

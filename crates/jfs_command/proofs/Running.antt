@@ -11,6 +11,7 @@ use Rattle.jfs_disk.specs.declared.disk.Disk.{Ghosts}
 use Rattle.jfs_findings_new.specs.meaning.specs.Image.{IsConsistentImage}
 use Rattle.jfs_findings_new.specs.mount_rules.specs.Subject.{subject_of}
 use Rattle.jfs_findings_new.specs.mount_rules.specs.Mount.{broken_mount}
+use Rattle.jfs_run.specs.Calls.{NoCalls}
 use Rattle.jfs_run.specs.Left.{IsLeftRun}
 use Rattle.jfs_run.specs.Legal.{IsLegalRun, LeavesImage}
 use Rattle.jfs_run.specs.kept_history.specs.Checked.{IsCheckedImage}
@@ -158,8 +159,13 @@ module _ {D : Type 0} (d : Ghosts D) (old mid new : D) (s : Super) (p : Planned)
     only_redone : HasOnlyRedone d.tells d.tells_crashes start work → HasOnlyRedone d.tells d.tells_crashes first.at work
     only_redone did = record { history = did.history; told = did.told; text = did.text ∙ sym first.text; image = λ t. back (λ st. d.image new ≡ st.image) t (did.image t); stable = did.stable }
 
-    fails : FailsOn d.tells p now start work → FailsOn d.tells p now first.at work
-    fails did = record { called = called did.called; replies = replies did.replies; text = behind_first (front_text p.printed (calls_of work)) did.text }
+    fails : FailsOn d.tells d.tells_crashes p is_left now start work → FailsOn d.tells d.tells_crashes p is_left now first.at work
+    fails did = record {
+      called = called did.called;
+      replies = replies did.replies;
+      text = behind_first (front_text p.printed (calls_of work)) did.text;
+      left = λ is t k. back (λ st. IsCheckedImage st.super st.image → NoCalls (calls_of work) ⊎ IsLeftRun st.super st.image now (calls_of work) (last_of (d.past new))) t (did.left is t k);
+    }
 
     runs_out : RunsOutOn (faults_of d mid new) d.tells p now start work → RunsOutOn (faults_of d old new) d.tells p now first.at work
     runs_out did = record { called = called did.called; told = told_by did.told; calm = told_by did.calm; replies = replies did.replies; text = text_by did.text }
@@ -225,7 +231,7 @@ module _ {D : Type 0} (d : Ghosts D) (old mid new : D) (s : Super) (p : Planned)
           planned = p;
           taken = good;
           looked = (8, ((p, good), inl (refl, looks8)));
-          done = stops_by (λ start. FailsOn d.tells p now start work) (λ start. FailsOn d.tells p now start work) fails did;
+          done = stops_by (λ start. FailsOn d.tells d.tells_crashes p is_left now start work) (λ start. FailsOn d.tells d.tells_crashes p is_left now start work) fails did;
           spares = spares ready;
         },
         (risen rose, refl),
@@ -257,8 +263,8 @@ module _ {D : Type 0} (d : Ghosts D) (old new : D) (outcome : Outcome) (same : S
   run_out : (disk : Count) (order : Order) → outcome.text.items ≡ [] → HasRunOut disk d.tells d.tells_crashes order now held (work_of outcome (held_of d new))
   run_out disk order no_text = record { done = inl (no_text, nothing_done); spares = λ none. nothing_done }
 
-  failed : (p : Planned) (order : Order) → Asks order (Ok p) → 9 ≤ d.page_count old → outcome.text.items ≡ [] → HasFailed d.tells d.tells_crashes order now held (work_of outcome (held_of d new))
-  failed p order good there no_text = record {
+  failed : (p : Planned) (order : Order) (is_left : Bool) → Asks order (Ok p) → 9 ≤ d.page_count old → outcome.text.items ≡ [] → HasFailed d.tells d.tells_crashes order is_left now held (work_of outcome (held_of d new))
+  failed p order is_left good there no_text = record {
     planned = p;
     taken = good;
     looked = (8, ((p, good), inl (refl, omega (arith, there))));
@@ -282,7 +288,7 @@ not_looked d old new (Own (statuses.BadImage number rule value)) outcome is_left
 not_looked d old new (Stopped stops.Disk) outcome is_left now p order is_order good pages (there, rose) same no_text is_end =
     let it = some_held d old pages in
     ends_as d (run_meaning is_left order now) old new outcome (held_as d old it.shown) (Stopped stops.Disk) is_end it.is
-    (λ sources. (failed d old new outcome same now it.shown it.is p order good there no_text, (rose, refl)))
+    (λ sources. (failed d old new outcome same now it.shown it.is p order is_left good there no_text, (rose, refl)))
 not_looked d old new (Stopped stops.Memory) outcome is_left now p order is_order good pages there same no_text is_end =
     let it = some_held d old pages in
     ends_as d (run_meaning is_left order now) old new outcome (held_as d old it.shown) (Stopped stops.Memory) is_end it.is

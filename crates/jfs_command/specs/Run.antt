@@ -197,11 +197,12 @@ pub record HasBegunRedo (tells crashes : Type 0) (s : Super) (held : Held) (work
   pub stays : tells → StaysBehind (blocks_of s) held.image work.held.image
   pub meanwhile : StaysRedoable tells crashes s held work.held
 
--- the disk failed before the volume was mounted, and no line was called; or later, and then each was
-pub record FailsOn (tells : Type 0) (p : Planned) (now : Moment) (start : Start) (work : Work) : Type 0 where
+-- The disk failed before the volume was mounted, and no line was called; or later, and then each was. Also then, where the volume was to be left, redo makes of whatever a crash leaves of the disk what a front of the calls leaves, with all that were told durable. So a disk that fails from some moment on tells what a crash at that moment leaves.
+pub record FailsOn (tells crashes : Type 0) (p : Planned) (is_left : Bool) (now : Moment) (start : Start) (work : Work) : Type 0 where
   pub called : CallsNone tells start work ⊎ (AllCalled p.plan (calls_of work) × MayBegin tells start)
   pub replies : AreReplies tells start.super start.image now work.history
   pub text : work.text ≡ start.text ++ front_text p.printed (calls_of work)
+  pub left : is_left ≡ true → tells → crashes → IsCheckedImage start.super start.image → NoCalls (calls_of work) ⊎ IsLeftRun start.super start.image now (calls_of work) (last_of work.held.past)
 
 -- Memory ran out: a front of each client's lines was called, and unless a call on the disk failed each of their entries that waits was told, and none was refused for a fault. Where there was none for the text, none is printed.
 pub record RunsOutOn (disk : Count) (tells : Type 0) (p : Planned) (now : Moment) (start : Start) (work : Work) : Type 0 where
@@ -216,21 +217,21 @@ abbrev pub Stopped : (tells crashes : Type 0) → (Start → Type 0) → Super �
 Stopped tells crashes calls s held work =
     ((work.text ≡ []) × ChangesNothing tells crashes held work) ⊎ (HasBegunRedo tells crashes s held work ⊎ ((start : Start) × BeginsOn tells s held.image start × calls start))
 
-pub record HasFailed (tells crashes : Type 0) (order : Order) (now : Moment) (held : Held) (work : Work) : Type 0 where
+pub record HasFailed (tells crashes : Type 0) (order : Order) (is_left : Bool) (now : Moment) (held : Held) (work : Work) : Type 0 where
   pub planned : Planned
   pub taken : Asks order (Ok planned)
   pub looked : (n : ℕ) × LooksAtRun order held n
-  pub done : Stopped tells crashes (λ start. FailsOn tells planned now start work) (superblock_of held) held work
+  pub done : Stopped tells crashes (λ start. FailsOn tells crashes planned is_left now start work) (superblock_of held) held work
   pub spares : Spares tells crashes order held work
 
 pub record HasRunOut (disk : Count) (tells crashes : Type 0) (order : Order) (now : Moment) (held : Held) (work : Work) : Type 0 where
   pub done : Stopped tells crashes (λ start. (p : Planned) × Asks order (Ok p) × RunsOutOn disk tells p now start work) (superblock_of held) held work
   pub spares : Spares tells crashes order held work
 
-abbrev pub RunStops : Stop → Faults → (tells crashes : Type 0) → Order → Moment → Held → Work → Type 0
-RunStops stops.Scripts faults tells crashes order now held work = work.text ≡ []
-RunStops stops.Disk faults tells crashes order now held work = HasFailed tells crashes order now held work
-RunStops stops.Memory faults tells crashes order now held work = HasRunOut faults.disk tells crashes order now held work
+abbrev pub RunStops : Stop → Faults → (tells crashes : Type 0) → Order → Bool → Moment → Held → Work → Type 0
+RunStops stops.Scripts faults tells crashes order is_left now held work = work.text ≡ []
+RunStops stops.Disk faults tells crashes order is_left now held work = HasFailed tells crashes order is_left now held work
+RunStops stops.Memory faults tells crashes order is_left now held work = HasRunOut faults.disk tells crashes order now held work
 
 abbrev pub run_meaning : Bool → Order → Moment → Meaning
 run_meaning is_left order now = record {
@@ -238,7 +239,7 @@ run_meaning is_left order now = record {
   says = λ tells held answer. RunSays tells order held answer;
   judged = IsOfScripts;
   does = λ tells crashes held status work. Runs status tells crashes order is_left now held work;
-  stops = λ stop faults tells crashes held work. RunStops stop faults tells crashes order now held work;
+  stops = λ stop faults tells crashes held work. RunStops stop faults tells crashes order is_left now held work;
 }
 
 -- ---- for the prover: what the functions behind the look at the superblock answer
@@ -286,7 +287,7 @@ DoesOn _ tells crashes p is_left now start past work = ⊥
 abbrev pub StartEnds : (tells crashes : Type 0) → Planned → Bool → Moment → Start → List DiskState → Work → Count → End → Type 0
 StartEnds tells crashes p is_left now start past work disk (Own status) =
     (rest : Answer) × CleanSays tells p start.super start.image rest × (rest.status ≡ status) × (work.text ≡ start.text ++ rest.text) × DoesOn status tells crashes p is_left now start past work × Stays disk
-StartEnds tells crashes p is_left now start past work disk (ByStop stops.Disk) = FailsOn tells p now start work × HasRisen disk
+StartEnds tells crashes p is_left now start past work disk (ByStop stops.Disk) = FailsOn tells crashes p is_left now start work × HasRisen disk
 StartEnds tells crashes p is_left now start past work disk (ByStop stops.Memory) = RunsOutOn disk tells p now start work
 StartEnds tells crashes p is_left now start past work disk (ByStop stops.Scripts) = ⊥
 
@@ -301,7 +302,7 @@ abbrev pub LinesEnd : (tells crashes : Type 0) → Planned → Bool → Moment �
 LinesEnd tells crashes p is_left now s held work disk (Own status) =
     LinesSay tells p held.image s (record { status = status; text = work.text }) × DoesLines status tells crashes p is_left now s held work × IsOwn status × Stays disk
 LinesEnd tells crashes p is_left now s held work disk (ByStop stops.Disk) =
-    Stopped tells crashes (λ start. FailsOn tells p now start work) s held work × HasRisen disk × (is_ready s.state.0 ≡ true)
+    Stopped tells crashes (λ start. FailsOn tells crashes p is_left now start work) s held work × HasRisen disk × (is_ready s.state.0 ≡ true)
 LinesEnd tells crashes p is_left now s held work disk (ByStop stops.Memory) =
     Stopped tells crashes (λ start. RunsOutOn disk tells p now start work) s held work × (is_ready s.state.0 ≡ true)
 LinesEnd tells crashes p is_left now s held work disk (ByStop stops.Scripts) = ⊥

@@ -13,7 +13,7 @@ use Rattle.jfs_turns.specs.declared.view.View.{View}
 use Rattle.jfs_turns.specs.declared.both.BothTurns.{BothTurns}
 use Rattle.jfs_groups.specs.Group.{IsGroupOf}
 use Rattle.jfs_groups.specs.Collects.{IsExact, KeepsCounts, Collects}
-use Rattle.jfs_groups.specs.Points.{halt_mark, syncs}
+use Rattle.jfs_groups.specs.Points.{halt_mark, syncs, IsMarked}
 use Rattle.jfs_groups.specs.Start.{LogStart}
 use Rattle.jfs_groups.specs.Commit.{GoesOn, HasFailed, IsLed, IsCommitted}
 use Rattle.jfs_groups.specs.declared.committed.Committed.{Committed}
@@ -97,7 +97,7 @@ module _ {V L E : Type 0} where
   )
 
   -- from the log turn to the mark: w once the volume turn is given
-  pub halts : (client : E → ℕ) (m m' : Seated V L E) (w : View E) (ps : List ℕ) (k : ℕ) (both : BothTurns V L E) → m.0.log ≡ true → Learned client m m' → IsPrefix m'.0.points ps → k ≤ m.0.log_stable → AreHalvesOf (got_points ps k m'.0) both
+  pub halts : (client : E → ℕ) (m m' : Seated V L E) (w : View E) (ps : List ℕ) (k : ℕ) (both : BothTurns V L E) → m.0.log ≡ true → Learned client m m' → IsMarked m'.0.points ps → k ≤ m.0.log_stable → AreHalvesOf (got_points ps k m'.0) both
       → w ≡ record (whole both) { volume = false; appends = false } → GoesOn client m.0 w × IsExact w × KeepsCounts m.0 w
   halts client m m' w ps k both has l more few h e = (
     onwards client m.0 m'.0 w (learned client m m' l) record {
@@ -105,7 +105,7 @@ module _ {V L E : Type 0} where
       base = ap (λ (x : View E). x.base) is;
       passes = (ap (λ (x : View E). x.dealt) is, ap (λ (x : View E). x.back) is, ap (λ (x : View E). x.returned) is);
       list = ([], append-nil m'.0.list ∙ sym (ap (λ (x : View E). x.list) is), tt);
-      points = subst (λ (qs : List ℕ). IsPrefix m'.0.points qs) (sym (ap (λ (x : View E). x.points) is)) more;
+      points = subst (λ (qs : List ℕ). IsPrefix m'.0.points qs) (sym (ap (λ (x : View E). x.points) is)) (more.0, more.1);
       durable = omega (arith, ap (λ (x : View E). x.durable) is, le-max_left m'.0.durable m'.0.log_durable);
       stable = omega (arith, ap (λ (x : View E). x.stable) is, le-max_left m'.0.stable k, le-max_left (max m'.0.stable k) (max m'.0.log_stable k));
     },
@@ -117,7 +117,8 @@ module _ {V L E : Type 0} where
       ap (λ (x : View E). x.log_durable) is ∙ own,
       ap (λ (x : View E). x.log_stable) is ∙ (stays_greater m'.0.log_stable k (omega (arith, few, own_stable)) ∙ own_stable),
       ap (λ (x : View E). x.log_list) is ∙ ap (λ (x : View E). x.log_list) l.0,
-      subst (λ (qs : List ℕ). IsPrefix m.0.log_points qs) (sym (ap (λ (x : View E). x.log_points) is)) (subst (λ (qs : List ℕ). IsPrefix qs ps) (sym b.4) more),
+      ap (λ (x : View E). x.taken) is ∙ b.0,
+      subst (λ (qs : List ℕ). IsMarked m.0.log_points qs) (sym (ap (λ (x : View E). x.log_points) is)) (subst (λ (qs : List ℕ). IsMarked qs ps) (sym b.4) more),
     ),
   )
     where

@@ -1,4 +1,5 @@
 pub mod Counts
+pub mod Points
 pub mod Text
 pub mod Stands
 pub mod Views

@@ -1,5 +1,5 @@
 -- What a log side stands for, before and after a group.
-use Rattle.std.proofs.Common.{◌≡◌, ◌≤◌, ℕ, ◌+◌, ◌*◌, ◌^◌, List, [], ◌∷◌, ◌++◌, length, take, drop, Option, Some, None, refl, sym, ap, subst, ◌∙◌, arith, append_assoc, append-nil, inl, inr}
+use Rattle.std.proofs.Common.{◌≡◌, ◌⊎◌, ◌≤◌, ℕ, ◌+◌, ◌*◌, ◌^◌, List, [], ◌∷◌, ◌++◌, length, take, drop, Option, Some, None, refl, sym, ap, subst, ◌∙◌, arith, append_assoc, append-nil, inl, inr}
 use Rattle.std.proofs.lemmas.List.{length-append}
 use Rattle.std.proofs.Math.Seq.{take-append_seam, drop-append_seam}
 use Rattle.jfs_disk.specs.Crash.{PageHistory, DiskState, IsCrashPage, last_of, Leaves}
@@ -11,13 +11,14 @@ use Rattle.jfs_records.specs.Records.{Noted}
 use Rattle.jfs_records.specs.Entries.{Item, point, log_records}
 use Rattle.jfs_records.proofs.ReadBack.{length-items}
 use Rattle.jfs_turns.specs.Lists.{IsPrefix}
-use Rattle.jfs_groups.specs.Points.{syncs}
+use Rattle.jfs_groups.specs.Points.{syncs, IsMarked}
 use Rattle.jfs_groups.specs.Start.{LogStart, Grows}
 use Rattle.jfs_groups.specs.Text.{AreCounts, FrontOf, HoldsText, text_with, items_from, items_with, end_of}
 use Rattle.jfs_groups.specs.Log.{LogData, IsRunning, IsLost, LogStandsFor, FreshStands}
 use Rattle.jfs_groups.specs.Group.{IsGroupOf}
 use Rattle.jfs_groups.specs.Written.{IsGroupWritten, IsGroupLost}
 use Rattle.jfs_groups.proofs.Counts.{rose_on}
+use Rattle.jfs_groups.proofs.Points.{marked_on}
 use Rattle.jfs_groups.proofs.Text.{higher, counted, all_more, all_point, end_grows, front_left, grown, fresh_holds}
 
 none_some : (f : Fault) → ◌≡◌ {A = Option Fault} None (Some f) → ⊥
@@ -109,53 +110,67 @@ module _ {E : Type 0} (logs : E → Option (List Noted)) (tells crashes : Type 0
 
   -- ---- one that isn't
 
-  -- what is lost stays so where more entries and syncpoints are known
-  pub more_lost : (ring : ℕ) (past : List DiskState) (list other : List E) (durable : ℕ) (points others : List ℕ) (stable : ℕ) → IsPrefix list other → IsPrefix points others → IsLost logs ring past list durable points stable → IsLost logs ring past other durable others stable
-  more_lost ring past list other durable points others stable es ps lost = record {
+  -- what is lost stays so where more entries are known, and marks
+  pub more_lost : (ring : ℕ) (past : List DiskState) (list other : List E) (taken durable : ℕ) (points others : List ℕ) (stable : ℕ) → IsPrefix list other → IsMarked points others → IsLost logs ring past list taken durable points stable → IsLost logs ring past other taken durable others stable
+  more_lost ring past list other taken durable points others stable es ps lost = record {
     entries = lost.entries;
     counts = lost.counts;
-    entries_are = onward lost.entries list other lost.entries_are es;
-    counts_are = onward lost.counts points others lost.counts_are ps;
+    entries_are = (lost.entries_are.0 ++ es.0, sym (append_assoc lost.entries lost.entries_are.0 es.0) ∙ ap (λ (l : List E). l ++ es.0) lost.entries_are.1 ∙ es.1);
+    taken_are = lost.taken_are;
+    counts_are = marked_on lost.counts points others lost.counts_are ps;
     placed = lost.placed;
     durable_within = lost.durable_within;
     stable_within = lost.stable_within;
+    stable_behind = lost.stable_behind;
+    rest = lost.rest;
     group = lost.group;
     all = lost.all;
     leaves = lost.leaves;
   }
-    where
-      onward : {A : Type 0} (xs ys zs : List A) → IsPrefix xs ys → IsPrefix ys zs → IsPrefix xs zs
-      onward {A} xs ys zs a b = (a.0 ++ b.0, sym (append_assoc xs a.0 b.0) ∙ ap (λ (l : List A). l ++ b.0) a.1 ∙ b.1)
 
-  -- a group behind all that is stable
-  pub lost_behind : (ring : ℕ) (past : List DiskState) (list more : List E) (durable : ℕ) (points counts : List ℕ) (stable : ℕ) (group : List Item) → durable ≡ length list → stable ≡ length points → AreCounts 0 (length (list ++ more)) (points ++ counts)
-      → items_with logs 0 (list ++ more) (points ++ counts) ≡ items_with logs 0 list points ++ group → Leaves (FrontOf ring (items_with logs 0 list points) group) (last_of past) → IsLost logs ring past (list ++ more) durable (points ++ counts) stable
-  lost_behind ring past list more durable points counts stable group all_durable all_stable placed all leaves = record {
+  -- a group behind all that is stable: of entries, or of one syncpoint
+  pub lost_behind : (ring : ℕ) (past : List DiskState) (list more : List E) (durable : ℕ) (points counts : List ℕ) (stable : ℕ) (group : List Item) → durable ≡ length list → stable ≡ length points → AreCounts 0 (length list) points → AreCounts 0 (length (list ++ more)) (points ++ counts)
+      → (counts ≡ []) ⊎ ((more ≡ []) × (counts ≡ length list ∷ []))
+      → items_with logs 0 (list ++ more) (points ++ counts) ≡ items_with logs 0 list points ++ group → Leaves (FrontOf ring (items_with logs 0 list points) group) (last_of past) → IsLost logs ring past (list ++ more) (length (list ++ more)) durable (points ++ counts) stable
+  lost_behind ring past list more durable points counts stable group all_durable all_stable behind placed kind all leaves = record {
     entries = list ++ more;
     counts = points ++ counts;
     entries_are = ([], append-nil (list ++ more));
-    counts_are = ([], append-nil (points ++ counts));
+    taken_are = refl;
+    counts_are = ([], append-nil (points ++ counts), refl);
     placed = placed;
     durable_within = omega (arith, all_durable, length-append list more);
     stable_within = omega (arith, all_stable, length-append points counts);
+    stable_behind = subst {A = ℕ × List ℕ} (λ z. AreCounts 0 z.0 z.1) (λ i. (sym all_durable i, sym points_are i)) behind;
+    rest = rest kind;
     group = group;
     all = all ∙ ap (λ (is : List Item). is ++ group) (sym same);
     leaves = subst (λ (is : List Item). Leaves (FrontOf ring is group) (last_of past)) (sym same) leaves;
   }
     where
+      points_are : take stable (points ++ counts) ≡ points
+      points_are = ap (λ (k : ℕ). take k (points ++ counts)) all_stable ∙ take-append_seam points counts
+
+      rest : (counts ≡ []) ⊎ ((more ≡ []) × (counts ≡ length list ∷ []))
+          → (points ++ counts ≡ take stable (points ++ counts)) ⊎ ((durable ≡ length (list ++ more)) × (points ++ counts ≡ take stable (points ++ counts) ++ length (list ++ more) ∷ []))
+      rest (inl none) = inl (ap (λ (cs : List ℕ). points ++ cs) none ∙ append-nil points ∙ sym points_are)
+      rest (inr (no_more, one)) = inr (all_durable ∙ sym whole, subst {A = List ℕ × ℕ} (λ z. points ++ counts ≡ z.0 ++ z.1 ∷ []) (λ i. (sym points_are i, sym whole i)) (ap (λ (cs : List ℕ). points ++ cs) one))
+        where
+          whole : length (list ++ more) ≡ length list
+          whole = ap (λ (es : List E). length (list ++ es)) no_more ∙ ap (λ (es : List E). length es) (append-nil list)
+
       same : items_with logs 0 (take durable (list ++ more)) (take stable (points ++ counts)) ≡ items_with logs 0 list points
       same = ap (λ (k : ℕ). items_with logs 0 (take k (list ++ more)) (take stable (points ++ counts))) all_durable
           ∙ ap (λ (es : List E). items_with logs 0 es (take stable (points ++ counts))) (take-append_seam list more)
-          ∙ ap (λ (k : ℕ). items_with logs 0 list (take k (points ++ counts))) all_stable
-          ∙ ap (λ (ps : List ℕ). items_with logs 0 list ps) (take-append_seam points counts)
+          ∙ ap (λ (ps : List ℕ). items_with logs 0 list ps) points_are
 
   -- of entries
   pub group_lost : (start : LogStart) (l m : LogData) (list whole : List E) (taken durable : ℕ) (points : List ℕ) (stable : ℕ) (group : GroupText) (fault : Fault) → IsPrefix list whole → LogStandsFor logs tells crashes start l list taken durable points stable → l.halted ≡ None
-      → IsGroupOf logs start.ring whole taken (syncs points) group → IsGroupLost tells crashes group fault l m → tells → crashes → IsLost logs start.ring m.past whole durable points stable
+      → IsGroupOf logs start.ring whole taken (syncs points) group → IsGroupLost tells crashes group fault l m → tells → crashes → IsLost logs start.ring m.past whole (length whole) durable points stable
   group_lost start l m list whole taken durable points stable group fault pre s runs g lost t k =
-      subst {A = List E × List ℕ} (λ z. IsLost logs start.ring m.past z.0 durable z.1 stable) (λ i. (pre.1 i, append-nil points i))
-      (lost_behind start.ring m.past list pre.0 durable points [] stable (items_from logs (length list) pre.0) r.durable_all r.stable_all
-      (subst (λ (ps : List ℕ). AreCounts 0 (length (list ++ pre.0)) ps) (sym (append-nil points)) (higher 0 (length list) (length (list ++ pre.0)) points (omega (arith, length-append list pre.0)) h.counts))
+      subst {A = List E × List ℕ} (λ z. IsLost logs start.ring m.past z.0 (length z.0) durable z.1 stable) (λ i. (pre.1 i, append-nil points i))
+      (lost_behind start.ring m.past list pre.0 durable points [] stable (items_from logs (length list) pre.0) r.durable_all r.stable_all h.counts
+      (subst (λ (ps : List ℕ). AreCounts 0 (length (list ++ pre.0)) ps) (sym (append-nil points)) (higher 0 (length list) (length (list ++ pre.0)) points (omega (arith, length-append list pre.0)) h.counts)) (inl refl)
       (ap (λ (ps : List ℕ). items_with logs 0 (list ++ pre.0) ps) (append-nil points) ∙ all_more logs list pre.0 points h.counts)
       (front_left logs start.ring (items_with logs 0 list points) (items_from logs (length list) pre.0) l.last h.ends l.image group.bytes.items group.ends.items (last_of m.past) s.ring h.holds f.bytes f.ends
       (lost.leaves t k (text_with start.ring (items_with logs 0 list points)) h.ends h.holds (r.resting k))))
@@ -172,11 +187,11 @@ module _ {E : Type 0} (logs : E → Option (List Noted)) (tells crashes : Type 0
   -- or of one syncpoint more
   pub point_lost : (start : LogStart) (l m : LogData) (list : List E) (taken durable : ℕ) (points : List ℕ) (stable : ℕ) (group : GroupText) (fault : Fault) → LogStandsFor logs tells crashes start l list taken durable points stable → l.halted ≡ None
       → group.bytes.items ≡ log_text (log_records start.ring (position_of l.last) (point 0 ∷ [])) → group.ends.items ≡ ends_of 0 (log_records start.ring (position_of l.last) (point 0 ∷ [])) → IsGroupLost tells crashes group fault l m
-      → tells → crashes → IsLost logs start.ring m.past list durable (points ++ length list ∷ []) stable
+      → tells → crashes → IsLost logs start.ring m.past list taken durable (points ++ length list ∷ []) stable
   point_lost start l m list taken durable points stable group fault s runs bytes ends lost t k =
-      subst (λ (es : List E). IsLost logs start.ring m.past es durable (points ++ length list ∷ []) stable) (append-nil list)
-      (lost_behind start.ring m.past list [] durable points (length list ∷ []) stable (point 0 ∷ []) r.durable_all r.stable_all
-      (subst (λ (es : List E). AreCounts 0 (length es) (points ++ length list ∷ [])) (sym (append-nil list)) (counted 0 (length list) points h.counts))
+      subst {A = List E × ℕ} (λ z. IsLost logs start.ring m.past z.0 z.1 durable (points ++ length list ∷ []) stable) (λ i. (append-nil list i, all i))
+      (lost_behind start.ring m.past list [] durable points (length list ∷ []) stable (point 0 ∷ []) r.durable_all r.stable_all h.counts
+      (subst (λ (es : List E). AreCounts 0 (length es) (points ++ length list ∷ [])) (sym (append-nil list)) (counted 0 (length list) points h.counts)) (inr (refl, refl))
       (ap (λ (es : List E). items_with logs 0 es (points ++ length list ∷ [])) (append-nil list) ∙ all_point logs list points h.counts)
       (front_left logs start.ring (items_with logs 0 list points) (point 0 ∷ []) l.last h.ends l.image group.bytes.items group.ends.items (last_of m.past) s.ring h.holds bytes ends
       (lost.leaves t k (text_with start.ring (items_with logs 0 list points)) h.ends h.holds (r.resting k))))
@@ -184,12 +199,15 @@ module _ {E : Type 0} (logs : E → Option (List Noted)) (tells crashes : Type 0
       r : IsRunning logs tells crashes start.ring l list taken durable points stable
       r = s.runs runs
 
+      all : length (list ++ []) ≡ taken
+      all = ap (λ (es : List E). length es) (append-nil list) ∙ (sym r.durable_all ∙ r.taken_all)
+
       h : HoldsText logs start.ring list points l.last l.image
       h = r.holds t
 
   -- the counts are as they were, whatever else is known
   pub lost_stands : (start : LogStart) (l m : LogData) (list other : List E) (taken more durable : ℕ) (points others : List ℕ) (stable : ℕ) (group : GroupText) (fault : Fault) → LogStandsFor logs tells crashes start l list taken durable points stable → l.halted ≡ None → IsGroupLost tells crashes group fault l m
-      → (tells → crashes → IsLost logs start.ring m.past other durable others stable) → LogStandsFor logs tells crashes start m other more durable others stable
+      → (tells → crashes → IsLost logs start.ring m.past other more durable others stable) → LogStandsFor logs tells crashes start m other more durable others stable
   lost_stands start l m list other taken more durable points others stable group fault s runs lost leaves = record {
     ring = lost.ring ∙ s.ring;
     pages = lost.pages ∙ s.pages;
@@ -206,10 +224,10 @@ module _ {E : Type 0} (logs : E → Option (List Noted)) (tells crashes : Type 0
       same : (a b : Fault) → ◌≡◌ {A = Option Fault} (Some a) (Some b) → a ≡ b
       same a b e = cc
 
-  -- a log that has halted stands for longer lists, with its counts
-  pub halted_stands_for : (start : LogStart) (l : LogData) (list other : List E) (taken more durable : ℕ) (points others : List ℕ) (stable : ℕ) (fault : Fault) → l.halted ≡ Some fault → IsPrefix list other → IsPrefix points others
-      → LogStandsFor logs tells crashes start l list taken durable points stable → LogStandsFor logs tells crashes start l other more durable others stable
-  halted_stands_for start l list other taken more durable points others stable fault halts longer further s = record {
+  -- a log that has halted stands for a longer list and for marked syncpoints, with its counts
+  pub halted_stands_for : (start : LogStart) (l : LogData) (list other : List E) (taken durable : ℕ) (points others : List ℕ) (stable : ℕ) (fault : Fault) → l.halted ≡ Some fault → IsPrefix list other → IsMarked points others
+      → LogStandsFor logs tells crashes start l list taken durable points stable → LogStandsFor logs tells crashes start l other taken durable others stable
+  halted_stands_for start l list other taken durable points others stable fault halts longer further s = record {
     ring = s.ring;
     pages = s.pages;
     few = s.few;
@@ -218,7 +236,7 @@ module _ {E : Type 0} (logs : E → Option (List Noted)) (tells crashes : Type 0
     stable = s.stable;
     runs = λ e. absurd (none_some fault (sym e ∙ halts));
     super = s.super;
-    lost = λ t k f e. more_lost start.ring l.past list other durable points others stable longer further (s.lost t k f e);
+    lost = λ t k f e. more_lost start.ring l.past list other taken durable points others stable longer further (s.lost t k f e);
     halts = s.halts;
   }
 

@@ -5,7 +5,7 @@ use Rattle.jfs_records.specs.Records.{Noted}
 use Rattle.jfs_turns.specs.Lists.{Base, IsPrefix}
 use Rattle.jfs_turns.specs.declared.view.View.{View}
 use Rattle.jfs_groups.specs.Group.{IsGroupOf}
-use Rattle.jfs_groups.specs.Points.{syncs}
+use Rattle.jfs_groups.specs.Points.{syncs, IsMarked}
 use Rattle.jfs_groups.specs.Start.{LogStart}
 
 module _ {E : Type 0} where
@@ -17,9 +17,9 @@ module _ {E : Type 0} where
   abbrev pub KeepsLog : View E → View E → Type 0
   KeepsLog v w = (w.log_durable ≡ v.log_durable) × (w.log_stable ≡ v.log_stable) × (w.log_points ≡ v.log_points)
 
-  -- its counts are, and its list; more syncpoints may be known
+  -- its counts are, and its list, and no more is taken; a mark may stand behind its syncpoints
   abbrev pub KeepsCounts : View E → View E → Type 0
-  KeepsCounts v w = (w.log_durable ≡ v.log_durable) × (w.log_stable ≡ v.log_stable) × (w.log_list ≡ v.log_list) × IsPrefix v.log_points w.log_points
+  KeepsCounts v w = (w.log_durable ≡ v.log_durable) × (w.log_stable ≡ v.log_stable) × (w.log_list ≡ v.log_list) × (w.taken ≡ v.taken) × IsMarked v.log_points w.log_points
 
   -- the whole list that the volume had is taken, and the group holds what wasn't taken before
   pub record Collects (logs : E → Option (List Noted)) (start : Base → LogStart) (v w : View E) (text : GroupText) : Type 0 where

@@ -1,5 +1,5 @@
 -- When the log side stands for a list of entries and for syncpoints.
-use Rattle.std.specs.Prelude.{◌≡◌, ◌<◌, ◌≤◌, ℕ, ◌+◌, ◌-◌, ◌*◌, ◌^◌, ◌++◌, List, [], length, take, false, Option, Some, None}
+use Rattle.std.specs.Prelude.{◌≡◌, ◌⊎◌, ◌<◌, ◌≤◌, ℕ, ◌+◌, ◌-◌, ◌*◌, ◌^◌, ◌++◌, List, [], ◌∷◌, length, take, false, Option, Some, None}
 use Rattle.jfs_bits.specs.Count.{Rose}
 use Rattle.jfs_disk.specs.Image.{Image}
 use Rattle.jfs_disk.specs.Crash.{DiskState, IsCrashPage, history_of, last_of, Leaves}
@@ -16,7 +16,7 @@ use Rattle.jfs_records.specs.Records.{Noted}
 use Rattle.jfs_records.specs.Entries.{Item}
 use Rattle.jfs_turns.specs.Lists.{Base, IsPrefix}
 use Rattle.jfs_turns.specs.Standing.{Standing}
-use Rattle.jfs_groups.specs.Points.{is_marked, syncs}
+use Rattle.jfs_groups.specs.Points.{is_marked, syncs, IsMarked}
 use Rattle.jfs_groups.specs.Start.{LogStart, Grows}
 use Rattle.jfs_groups.specs.Text.{AreCounts, FrontOf, HoldsText, items_with, end_of}
 use Rattle.jfs_groups.specs.declared.log.SharedLog.{SharedLog}
@@ -55,16 +55,20 @@ module _ {E : Type 0} (logs : E → Option (List Noted)) where
     pub holds : tells → HoldsText logs ring list points log.last log.image
     pub resting : crashes → IsResting (last_of log.past)
 
-  -- The group that halted it was of the next entries, or of one syncpoint more. A crash leaves what was stable before, and a front of the group's records.
-  pub record IsLost (ring : ℕ) (past : List DiskState) (list : List E) (durable : ℕ) (points : List ℕ) (stables : ℕ) : Type 0 where
+  -- The group that halted it was of the next entries, or of one syncpoint more: groups have taken all that it was to make durable, and nothing since. A crash leaves what was stable before, and a front of the group's records.
+  pub record IsLost (ring : ℕ) (past : List DiskState) (list : List E) (taken durable : ℕ) (points : List ℕ) (stables : ℕ) : Type 0 where
     -- the entries and the sync counts that were to stand in the log behind it
     pub entries : List E
     pub counts : List ℕ
     pub entries_are : IsPrefix entries list
-    pub counts_are : IsPrefix counts points
+    pub taken_are : taken ≡ length entries
+    pub counts_are : IsMarked counts points
     pub placed : AreCounts 0 (length entries) counts
     pub durable_within : durable ≤ length entries
     pub stable_within : stables ≤ length counts
+    -- the stable syncpoints lie within the durable entries; one more may be the group itself, behind all entries
+    pub stable_behind : AreCounts 0 durable (take stables counts)
+    pub rest : (counts ≡ take stables counts) ⊎ ((durable ≡ length entries) × (counts ≡ take stables counts ++ length entries ∷ []))
     pub group : List Item
     pub all : items_with logs 0 entries counts ≡ items_with logs 0 (take durable entries) (take stables counts) ++ group
     pub leaves : Leaves (FrontOf ring (items_with logs 0 (take durable entries) (take stables counts)) group) (last_of past)
@@ -80,7 +84,7 @@ module _ {E : Type 0} (logs : E → Option (List Noted)) where
     pub runs : log.halted ≡ None → IsRunning tells crashes start.ring log list taken durable points stables
     -- a crash leaves its superblock
     pub super : tells → crashes → (page : List ℕ) → IsCrashPage (history_of (last_of log.past) 1) page → page ≡ start.super
-    pub lost : tells → crashes → (fault : Fault) → log.halted ≡ Some fault → IsLost start.ring log.past list durable points stables
+    pub lost : tells → crashes → (fault : Fault) → log.halted ≡ Some fault → IsLost start.ring log.past list taken durable points stables
     pub halts : (fault : Fault) → log.halted ≡ Some fault → (fault ≡ record { part = High; count = log.faults }) × Rose start.faults log.faults
 
 -- what a log side stands for, as the value that a turn guards

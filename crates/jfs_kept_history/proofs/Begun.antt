@@ -26,7 +26,7 @@ use Rattle.jfs_points_kept.specs.kept_volumes.specs.Rest.{IsAtRest}
 use Rattle.jfs_points_kept.specs.kept_volumes.specs.joined_held.specs.Held.{blocks_at}
 use Rattle.jfs_kept_history.specs.Kept.{Reaches}
 use Rattle.jfs_kept_history.specs.Laws.{BeginLaw}
-use Rattle.jfs_kept_history.proofs.Checked.{checked_law}
+use Rattle.jfs_kept_history.proofs.Checked.{checked_law as mounts_checked}
 
 module _ (s : Super) (old : Image) (p : Parts) (log : LogParts) (m : IsMountOf ⊤ ⊥ s old p log) (checked : IsCheckedMount s old m.pages) where
   abbrev ring : ℕ
@@ -95,7 +95,7 @@ told_mount tells crashes told s old p log m = record {
 
 pub begin_law : (tells crashes : Type 0) → BeginLaw tells crashes
 begin_law tells crashes t c s old p log m image =
-    let checked = checked_law tells crashes t s old p log m image in
+    let checked = mounts_checked tells crashes t s old p log m image in
     let told = told_mount tells crashes t s old p log m in
     let stands = m.fresh true true (λ _. t) (λ _. c) in record {
       low = low_of m.pages;

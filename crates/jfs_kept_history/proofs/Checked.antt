@@ -1,19 +1,15 @@
 -- An image on which a check finds nothing, and what a mount of it leaves.
-use Rattle.std.proofs.Common.{◌≡◌, ◌⊎◌, ◌≤◌, ◌<◌, ℕ, List, length, take, drop, refl, sym, ap, subst, ◌∙◌, inl, inr, arith}
+use Rattle.std.proofs.Common.{◌≡◌, ◌⊎◌, ◌≤◌, ◌<◌, ◌^◌, ℕ, List, [], length, take, refl, sym, ap, subst, ◌∙◌, inl, inr, arith}
 use Rattle.std.proofs.lemmas.Bool.{cases_eq}
 use Rattle.std.proofs.lemmas.List.{length-set, length-take, get_or-take, get_or-set_same, get_or-set_other}
 use Rattle.jfs_bits.proofs.Parts.{length-range_of}
 use Rattle.jfs_bits.proofs.SameMaps.{word-below}
 use Rattle.jfs_disk.specs.Image.{Image, page_of, ArePages}
-use Rattle.jfs_super.specs.Super.{super_of}
 use Rattle.jfs_super.specs.declared.fields.Super.{Super}
 use Rattle.jfs_super.proofs.Rules.{accepted_layout, accepted_pages, accepted_log}
 use Rattle.jfs_findings_new.specs.findings.proofs.BothWays.{clean_law}
 use Rattle.jfs_findings_new.specs.findings.proofs.Tidy.{consistent_law}
-use Rattle.jfs_legal.specs.served.specs.halves.specs.Log.{LogParts}
-use Rattle.jfs_legal.specs.served.specs.halves.specs.Parts.{Parts}
 use Rattle.jfs_legal.specs.served.specs.mounted.specs.Crashes.{HasArrays}
-use Rattle.jfs_legal.specs.served.specs.mounted.specs.Mount.{IsMountOf}
 use Rattle.jfs_legal.specs.served.specs.mounted.proofs.Whole.{new_size}
 use Rattle.jfs_mount_disk.specs.Begun.{marked, marked_page}
 use Rattle.jfs_mounted_maps.specs.Checked.{IsCheckedMount}

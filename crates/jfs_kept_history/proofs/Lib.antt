@@ -6,4 +6,6 @@ pub mod Begun
 pub mod Crash
 pub mod Items
 pub mod Rested
+pub mod Splits
+pub mod Lost
 pub mod Called

@@ -3,7 +3,7 @@
 ghost use Rattle.jfs_kept_history.specs.Laws.{BeginLaw, TakenLaw, ToldLaw, HaltedLaw, HandedLaw, HomeAllLaw, HomeMapsLaw, SyncLaw, SettledLaw, PointLaw, KnowLaw, CallLaw};
 ghost use Rattle.jfs_kept_history.specs.Checked.{CheckedLaw, ConsistentLaw};
 ghost use Rattle.jfs_kept_history.specs.Crash.{CrashLaw};
-ghost use Rattle.jfs_kept_history.specs.Rested.{ItemsLaw, RestedLaw};
+ghost use Rattle.jfs_kept_history.specs.Rested.{ItemsLaw, RestedLaw, LostLaw};
 
 use jfs_disk::Disk;
 
@@ -90,4 +90,9 @@ pub fn logs_have_what_was_taken()
 /// So where a log holds that, whatever a crash leaves of the disk is redone to the history, with all that groups have taken.
 pub fn rested_disks_are_redone_to_the_history<D: Disk>()
     ensures { RestedLaw D.tells D.tells_crashes }
+{}
+
+/// And where it holds a front of its last group behind what was stable before, it is redone to the history, with all durable entries.
+pub fn lost_groups_are_redone_to_the_history<D: Disk>()
+    ensures { LostLaw D.tells D.tells_crashes }
 {}

@@ -17,7 +17,7 @@ use Rattle.jfs_server.specs.groups.proofs.Counts.{at_least, rose_on, rose_since,
 use Rattle.jfs_server.specs.shared.specs.Entries.{Recorded}
 use Rattle.jfs_server.specs.shared.specs.Shared.{entries_in}
 use Rattle.jfs_run.specs.Calls.{Calls, HaveEntries, HaveFronts, AllTold, FirstTold, AreTakenAs, any_failed}
-use Rattle.jfs_run.specs.Ending.{IsEnded, RunSince, end_after}
+use Rattle.jfs_run.specs.Ending.{IsEnded, RunSince, are_through, end_after}
 use Rattle.jfs_run.specs.Mounted.{State, state, Few, PartRose, Keeps, Since, IsMadeDurable}
 use Rattle.jfs_run.specs.Run.{Seen, IsUnmounted}
 use Rattle.jfs_run.specs.Serving.{IsUncalled, IsCalled, IsServed}
@@ -129,9 +129,26 @@ rising history told is = subst (IsRisingFrom 1) (sym is.told_is) (told_rise is.c
 
 -- ---- the end
 
-pub neither : (a b : Bool) → (a || b) ≡ false → (a ≡ false) × (b ≡ false)
-neither true b e = absurd cc
-neither false b e = (refl, e)
+-- what is through
+pub record AreThrough (is_whole is_broken_off is_made_up : Bool) : Type 0 where
+  pub whole : is_whole ≡ true
+  pub goes_on : is_broken_off ≡ false
+  pub still : is_made_up ≡ false
+
+pub through_of : (is_whole is_broken_off is_made_up : Bool) → are_through is_whole is_broken_off is_made_up ≡ true → AreThrough is_whole is_broken_off is_made_up
+through_of true false false e = record { whole = refl; goes_on = refl; still = refl }
+through_of true false true e = absurd (cc (e))
+through_of true true b e = absurd (cc (e))
+through_of false a b e = absurd (cc (e))
+
+-- a run that didn't end for want of memory is through
+pub not_short : (is_through is_full : Bool) (before now : ℕ) → (end_after is_through is_full before now ≡ ends.Memory → ⊥) → is_through ≡ true
+not_short true is_full before now other = refl
+not_short false is_full before now other = absurd (other refl)
+
+-- said of fewer lines
+pub with_lines : (plan : List (List Line)) (first now : State) (history : List Entry) (told : List ℕ) (is_whole is_through : Bool) → (is_through ≡ true → is_whole ≡ true) → HasRun plan first history told is_whole now → HasRun plan first history told is_through now
+with_lines plan first now history told is_whole is_through by r = record { fronts = r.fronts; whole = λ is. r.whole (by is); first_told = r.first_told; all_told = r.all_told; calm = r.calm; since = r.since }
 
 -- the counts of both parts, joined
 abbrev pub joint : State → ℕ
@@ -192,7 +209,7 @@ module _ (first now : State) (before : ℕ) (counts : first.volume.faults + firs
     pub unmounted : (tells crashes : Type 0) (superblock : List ℕ) (new : Seen) → new.faults ≡ total → Rose (joint now) new.faults ⊎ IsEnded tells crashes superblock (joint now) new → IsUnmounted tells crashes superblock new
     unmounted tells crashes superblock new is ended = (unrisen new.faults is ended).unmounted
 
-module _ (tells crashes : Type 0) (superblock : List ℕ) (plan : List (List Line)) (is_left is_broken_off is_full : Bool) (first now : State) (before : ℕ) (counts : first.volume.faults + first.high ≡ before) (few : before < 2 ^ 64)
+module _ (tells crashes : Type 0) (superblock : List ℕ) (plan : List (List Line)) (is_left is_full : Bool) (first now : State) (before : ℕ) (counts : first.volume.faults + first.high ≡ before) (few : before < 2 ^ 64)
     (history : List Entry) (told : List ℕ) (is_whole : Bool) (run : HasRun plan first history told is_whole now) (new : Seen) (grown : Grows (joint now) new.faults)
     (ended : is_left ≡ false → now.volume.halted ≡ None → is_full ≡ false → Rose (joint now) new.faults ⊎ IsEnded tells crashes superblock (joint now) new) where
   -- memory ran out, or the log is full
@@ -221,39 +238,39 @@ module _ (tells crashes : Type 0) (superblock : List ℕ) (plan : List (List Lin
   risen other (inr rose) = rose
 
   -- by the count and by room
-  by_room : is_whole ≡ true → new.faults ≡ before → (new.faults ≡ 2 ^ 64 - 1 → ⊥) → (b : Bool) → (is_broken_off || is_full) ≡ b → RunSince tells crashes superblock plan is_left before new (calls_of history told) (if b then ends.Memory else ends.Done)
+  by_room : is_whole ≡ true → new.faults ≡ before → (new.faults ≡ 2 ^ 64 - 1 → ⊥) → (b : Bool) → is_full ≡ b → RunSince tells crashes superblock plan is_left before new (calls_of history told) (if b then ends.Memory else ends.Done)
   by_room whole same below true is = short
-  by_room whole same below false is = done whole (neither is_broken_off is_full is).1 same below
+  by_room whole same below false is = done whole is same below
 
   by_count : is_whole ≡ true → (new.faults ≡ before) ⊎ (new.faults ≡ before → ⊥) → (new.faults ≡ 2 ^ 64 - 1) ⊎ (new.faults ≡ 2 ^ 64 - 1 → ⊥)
-      → RunSince tells crashes superblock plan is_left before new (calls_of history told) (end_after true is_broken_off is_full before new.faults)
+      → RunSince tells crashes superblock plan is_left before new (calls_of history told) (end_after true is_full before new.faults)
   by_count whole (inr other) last =
       rw (ne_eqb new.faults before other) (faulty whole (risen other (total_grew first now before counts few plan history told is_whole run new.faults grown)))
   by_count whole (inl same) (inl last) = rw (eq-eqb new.faults before same, eq-eqb new.faults (2 ^ 64 - 1) last) (faulty whole (inr last))
-  by_count whole (inl same) (inr below) = rw (eq-eqb new.faults before same, ne_eqb new.faults (2 ^ 64 - 1) below) (by_room whole same below (is_broken_off || is_full) refl)
+  by_count whole (inl same) (inr below) = rw (eq-eqb new.faults before same, ne_eqb new.faults (2 ^ 64 - 1) below) (by_room whole same below is_full refl)
 
-  by_lines : (b : Bool) → is_whole ≡ b → RunSince tells crashes superblock plan is_left before new (calls_of history told) (end_after b is_broken_off is_full before new.faults)
+  by_lines : (b : Bool) → is_whole ≡ b → RunSince tells crashes superblock plan is_left before new (calls_of history told) (end_after b is_full before new.faults)
   by_lines false is = short
   by_lines true is = by_count is (cases_eq new.faults before) (cases_eq new.faults (2 ^ 64 - 1))
 
-  pub run_ends : RunSince tells crashes superblock plan is_left before new (calls_of history told) (end_after is_whole is_broken_off is_full before new.faults)
+  pub run_ends : RunSince tells crashes superblock plan is_left before new (calls_of history told) (end_after is_whole is_full before new.faults)
   run_ends = by_lines is_whole refl
 
 -- ---- a run that is done
 
--- each line has its entry, nothing is cut off, and the count is as it was, and not the last one
-pub record IsThrough (is_whole is_cut : Bool) (before now : ℕ) : Type 0 where
+-- each line has its entry, the log isn't full, and the count is as it was, and not the last one
+pub record IsThrough (is_whole is_full : Bool) (before now : ℕ) : Type 0 where
   pub whole : is_whole ≡ true
-  pub uncut : is_cut ≡ false
+  pub room : is_full ≡ false
   pub same : now ≡ before
   pub below : now ≡ 2 ^ 64 - 1 → ⊥
 
-pub done_through : (is_whole is_broken_off is_full : Bool) (before now : ℕ) → end_after is_whole is_broken_off is_full before now ≡ ends.Done → IsThrough is_whole (is_broken_off || is_full) before now
-done_through false is_broken_off is_full before now e = absurd (cc (e))
-done_through true is_broken_off is_full before now e = by (now == before) refl (now == 2 ^ 64 - 1) refl (is_broken_off || is_full) refl e
+pub done_through : (is_whole is_full : Bool) (before now : ℕ) → end_after is_whole is_full before now ≡ ends.Done → IsThrough is_whole is_full before now
+done_through false is_full before now e = absurd (cc (e))
+done_through true is_full before now e = by (now == before) refl (now == 2 ^ 64 - 1) refl is_full refl e
   where
-    by : (a : Bool) → (now == before) ≡ a → (b : Bool) → (now == 2 ^ 64 - 1) ≡ b → (f : Bool) → (is_broken_off || is_full) ≡ f → (if not a || b then ends.Disk else (if f then ends.Memory else ends.Done)) ≡ ends.Done → IsThrough true (is_broken_off || is_full) before now
+    by : (a : Bool) → (now == before) ≡ a → (b : Bool) → (now == 2 ^ 64 - 1) ≡ b → (f : Bool) → is_full ≡ f → (if not a || b then ends.Disk else (if f then ends.Memory else ends.Done)) ≡ ends.Done → IsThrough true is_full before now
     by false x b y f z e = absurd (cc (e))
     by true x true y f z e = absurd (cc (e))
     by true x false y true z e = absurd (cc (e))
-    by true x false y false z e = record { whole = refl; uncut = z; same = eqb-true now before x; below = λ last. absurd (cc (y, eq-eqb now (2 ^ 64 - 1) last)) }
+    by true x false y false z e = record { whole = refl; room = z; same = eqb-true now before x; below = λ last. absurd (cc (y, eq-eqb now (2 ^ 64 - 1) last)) }

@@ -1,5 +1,5 @@
 -- What is known of the replies of a run.
-use Rattle.std.proofs.Common.{◌≡◌, ◌⊎◌, ◌++◌, Bool, false, List, None, sym, ◌∙◌, inl, inr}
+use Rattle.std.proofs.Common.{◌≡◌, ◌⊎◌, ◌++◌, Bool, false, List, sym, ◌∙◌, inl, inr}
 use Rattle.std.proofs.lemmas.Bool.{false≢true}
 use Rattle.std.specs.Global.{Vec}
 use Rattle.jfs_bits.specs.declared.descriptor.Moment.{Moment}
@@ -33,11 +33,11 @@ module _ {D : Type 0} (d : Ghosts D) (scripts : List (Vec Line)) (now : Moment) 
     pub replied : x.is_broken_off ≡ false → HasReplied s (page_of image) now x.is_broken_off x.history.items x.mounted.volume
     replied whole = replied_by whole served.calls
 
--- what a crash leaves of the disk, while the log runs
-module _ {D : Type 0} (d : Ghosts D) (scripts : List (Vec Line)) (now : Moment) (image : Image) (s : Super) (first : State) (marks : List (Vec Bool)) (x : Called D d) (told : d.tells) (crashes : d.tells_crashes) (checked : IsCheckedImage s image) (whole : x.is_broken_off ≡ false) (runs : x.mounted.log.halted ≡ None) where
+-- what a crash leaves of the disk
+module _ {D : Type 0} (d : Ghosts D) (scripts : List (Vec Line)) (now : Moment) (image : Image) (s : Super) (first : State) (marks : List (Vec Bool)) (x : Called D d) (told : d.tells) (crashes : d.tells_crashes) (checked : IsCheckedImage s image) (whole : x.is_broken_off ≡ false) where
   left_by : IsUncalled d x ⊎ IsCalled d scripts now image s marks x → IsLeftWith s image now x.history.items x.mounted.log.durable (last_of x.mounted.volume.past ++ last_of (d.past x.mounted.log.part))
   left_by (inl u) = absurd (false≢true (sym whole ∙ u.is_broken_off))
-  left_by (inr k) = k.left told crashes whole runs checked
+  left_by (inr k) = k.left told crashes whole checked
 
   pub left : IsServed d scripts now image s first marks x → IsLeftWith s image now x.history.items x.mounted.log.durable (last_of x.mounted.volume.past ++ last_of (d.past x.mounted.log.part))
   left served = left_by served.calls

@@ -139,9 +139,9 @@ module _ {D : Type 0} (d : Ghosts D) (scripts : List (Vec Line)) (now : Moment) 
 
     -- ---- what a crash leaves
 
-    left_with : d.tells → d.tells_crashes → (spelled : super_of (page_of image 8) ≡ s) → stopped.is_broken_off ≡ false → stopped.mounted.log.halted ≡ None → AreOfClients (length scripts) stopped.history.items → IsCheckedImage s image
+    left_with : d.tells → d.tells_crashes → (spelled : super_of (page_of image 8) ≡ s) → stopped.is_broken_off ≡ false → AreOfClients (length scripts) stopped.history.items → IsCheckedImage s image
         → IsLeftWith s image now stopped.history.items stopped.mounted.log.durable (last_of stopped.mounted.volume.past ++ last_of (d.past stopped.mounted.log.part))
-    left_with t c spelled whole runs others checked = record {
+    left_with t c spelled whole others checked = record {
       follows = record { start = is.start; runs = is.runs; tree = is.holds.tree; room = is.holds.room; legal = subst (AreLegal (volume_of s (page_of image)).area s.logpxd.len is.start) at_once is.legal };
       list = lasting_in st.list;
       entries_are = timed_same st.list ∙ at_once;
@@ -153,7 +153,7 @@ module _ {D : Type 0} (d : Ghosts D) (scripts : List (Vec Line)) (now : Moment) 
 
         is : IsLeft s image st.list stopped.mounted.log.durable state_now
         is =
-            let by_base = subst (λ (b : Base). IfChecked b (λ t image. IsLeft t image st.list stopped.mounted.log.durable state_now)) base_is (st.left t c whole runs) in
+            let by_base = subst (λ (b : Base). IfChecked b (λ t image. IsLeft t image st.list stopped.mounted.log.durable state_now)) base_is (st.left t c whole) in
             subst (λ (t : Super). IsCheckedImage t image → IsLeft t image st.list stopped.mounted.log.durable state_now) spelled by_base checked
 
         at_once : timed_in st.list ≡ all_at now stopped.history.items
@@ -177,7 +177,7 @@ module _ {D : Type 0} (d : Ghosts D) (scripts : List (Vec Line)) (now : Moment) 
             are = called others;
             whole = h.whole;
             replied = λ t consistent. replied t (spelled t) consistent others x.is_broken_off h.is_broken_off;
-            left = λ t c whole runs checked. left_with t c (spelled t) (sym h.is_broken_off ∙ whole) runs others checked;
+            left = λ t c whole checked. left_with t c (spelled t) (sym h.is_broken_off ∙ whole) others checked;
           });
           few = few_came d now failed scripts passes after marks came;
           since = stopped_since;

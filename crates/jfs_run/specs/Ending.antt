@@ -1,5 +1,5 @@
 -- The end of a mounted volume, and of its run.
-use Rattle.std.specs.Prelude.{◌≡◌, ◌⊎◌, ◌==◌, ◌||◌, ◌-◌, ◌^◌, not, if◌then◌else◌, ℕ, Bool, false, List, Result, Ok, Err}
+use Rattle.std.specs.Prelude.{◌≡◌, ◌⊎◌, ◌==◌, ◌||◌, ◌&&◌, ◌-◌, ◌^◌, not, if◌then◌else◌, ℕ, Bool, false, List, Result, Ok, Err}
 use Rattle.jfs_bits.specs.Count.{Rose}
 use Rattle.jfs_plain.specs.declared.call.Line.{Line}
 use Rattle.jfs_server.specs.shared.specs.legal.specs.served.specs.mounted.specs.declared.mounted.MountError.{MountError}
@@ -48,6 +48,10 @@ TakesBy before now (Err end) = FailsToTake before now end
 
 -- ---- how it ends
 
-abbrev pub end_after : Bool → Bool → Bool → ℕ → ℕ → RunEnd
-end_after is_whole is_broken_off is_full before now =
-    if not is_whole then ends.Memory else (if not (now == before) || now == 2 ^ 64 - 1 then ends.Disk else (if is_broken_off || is_full then ends.Memory else ends.Done))
+-- Each line has its entry, the history goes on, and nothing had to be made up for.
+abbrev pub are_through : Bool → Bool → Bool → Bool
+are_through is_whole is_broken_off is_made_up = is_whole && (not is_broken_off && not is_made_up)
+
+abbrev pub end_after : Bool → Bool → ℕ → ℕ → RunEnd
+end_after is_through is_full before now =
+    if not is_through then ends.Memory else (if not (now == before) || now == 2 ^ 64 - 1 then ends.Disk else (if is_full then ends.Memory else ends.Done))

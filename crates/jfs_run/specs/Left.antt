@@ -1,5 +1,5 @@
--- What a run leaves whose volume was to be left: whatever a crash leaves of its disk, redo makes a front of the run of it.
-use Rattle.std.specs.Prelude.{◌≡◌, ◌≤◌, ℕ, Bool, true, List}
+-- What a run leaves whose volume was to be left: whatever a crash leaves of its disk, redo makes a front of the run of it. Of a disk that fails from some moment on that speaks of a crash at that moment.
+use Rattle.std.specs.Prelude.{◌≡◌, ◌⊎◌, ◌≤◌, ℕ, List}
 use Rattle.std.specs.List.{AllByRecursion}
 use Rattle.jfs_bits.specs.declared.descriptor.Moment.{Moment}
 use Rattle.jfs_disk.specs.Crash.{DiskState, Leaves}
@@ -8,7 +8,7 @@ use Rattle.jfs_super.specs.declared.fields.Super.{Super}
 use Rattle.jfs_plain.specs.declared.call.Entry.{Entry}
 use Rattle.jfs_server.specs.shared.specs.kept_history.specs.Crash.{IsRedoneToHistory}
 use Rattle.jfs_server.specs.shared.specs.kept_history.specs.Kept.{Lasting, timed_in}
-use Rattle.jfs_run.specs.Calls.{Calls}
+use Rattle.jfs_run.specs.Calls.{Calls, NoCalls}
 use Rattle.jfs_run.specs.Legal.{FollowsTree, all_at}
 use Rattle.jfs_run.specs.declared.run.RunEnd.{RunEnd}
 use Rattle.jfs_run.specs.declared.run.RunEnd.TheVariants as ends
@@ -27,6 +27,8 @@ pub record IsLeftRun (s : Super) (image : Image) (now : Moment) (c : Calls) (sta
   pub told_are : AllByRecursion (λ number. number ≤ durable) c.told
   pub left : IsLeftWith s image now c.history durable state
 
--- it was done, and the volume was to be left
-abbrev pub IfLeft : RunEnd → Bool → Type 0 → Type 0
-IfLeft end is_left fact = end ≡ ends.Done → is_left ≡ true → fact
+-- so where it was done, and where a call on the disk failed, unless that was before the mount was done and nothing was called
+abbrev pub LeavesRun : Super → Image → Moment → Calls → DiskState → RunEnd → Type 0
+LeavesRun s image now c state ends.Done = IsLeftRun s image now c state
+LeavesRun s image now c state ends.Disk = NoCalls c ⊎ IsLeftRun s image now c state
+LeavesRun s image now c state _ = Unit {0}

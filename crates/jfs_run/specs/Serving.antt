@@ -1,5 +1,5 @@
 -- What a server leaves behind the calls of a run's clients.
-use Rattle.std.specs.Prelude.{◌≡◌, ◌⊎◌, ◌≤◌, ◌==◌, ◌++◌, [], ◌∷◌, ℕ, suc, Bool, true, false, List, length, take, None, vec_capacity}
+use Rattle.std.specs.Prelude.{◌≡◌, ◌⊎◌, ◌≤◌, ◌==◌, ◌++◌, [], ◌∷◌, ℕ, suc, Bool, true, false, List, length, take, vec_capacity}
 use Rattle.std.specs.Bool.{MatchBool}
 use Rattle.std.specs.Global.{Vec}
 use Rattle.jfs_bits.specs.declared.descriptor.Moment.{Moment}
@@ -89,7 +89,7 @@ module _ {D : Type 0} (d : Ghosts D) where
     pub are : AreCalled now x.failed x.mounted.log.durable (plan_of scripts) (marks_in marks) list
     pub whole : x.is_whole ≡ true → AreAsMany scripts marks
     pub replied : d.tells → IsConsistentImage s (page_of image) → HasReplied s (page_of image) now x.is_broken_off x.history.items x.mounted.volume
-    pub left : d.tells → d.tells_crashes → x.is_broken_off ≡ false → x.mounted.log.halted ≡ None → IsCheckedImage s image
+    pub left : d.tells → d.tells_crashes → x.is_broken_off ≡ false → IsCheckedImage s image
         → IsLeftWith s image now x.history.items x.mounted.log.durable (last_of x.mounted.volume.past ++ last_of (d.past x.mounted.log.part))
 
   -- One or the other, with no more marks than lines; and unless a call on the disk failed, none of them was refused for a fault.

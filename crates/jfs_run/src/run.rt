@@ -1,6 +1,6 @@
 //! A run on the volume of a disk.
 
-ghost use Rattle.std.specs.Prelude.{◌≡◌, ◌≤◌, ◌<◌, ◌+◌, ◌-◌, ◌^◌, ◌||◌, [], length, vec_capacity, IfOk, IfErr};
+ghost use Rattle.std.specs.Prelude.{◌≡◌, ◌≤◌, ◌<◌, ◌+◌, ◌-◌, ◌^◌, true, [], length, vec_capacity, IfOk, IfErr};
 ghost use Rattle.jfs_disk.specs.Crash.{last_of};
 ghost use Rattle.jfs_disk.specs.Image.{page_of};
 ghost use Rattle.jfs_super.specs.Rules.{IsAccepted};
@@ -12,13 +12,13 @@ ghost use Rattle.jfs_server.specs.shared.specs.kept_history.specs.Checked.{IsChe
 ghost use Rattle.jfs_server.specs.shared.specs.legal.specs.served.specs.mounted.specs.declared.mounted.MountError.{MountError};
 ghost use Rattle.jfs_server.specs.shared.specs.legal.specs.served.specs.volume_calls.specs.Together.{log_parts};
 ghost use Rattle.jfs_mount.specs.meaning.specs.Image.{IsConsistentImage};
-ghost use Rattle.jfs_run.specs.Left.{IsLeftRun, IfLeft};
+ghost use Rattle.jfs_run.specs.Left.{LeavesRun};
 ghost use Rattle.jfs_run.specs.Legal.{IsLegalRun, LeavesImage, IfUnmounted};
 ghost use Rattle.jfs_run.specs.Run.{RunIs, seen};
 ghost use Rattle.jfs_run.specs.Mounted.{state, MayCall};
 ghost use Rattle.jfs_run.specs.Serving.{HaveRoom};
 ghost use Rattle.jfs_run.specs.Tasks.{plan_of, lines_in, IsPlan};
-ghost use Rattle.jfs_run.specs.Ending.{RunSince, end_after, end_of, TakesBy};
+ghost use Rattle.jfs_run.specs.Ending.{RunSince, are_through, end_after, end_of, TakesBy};
 
 use crate::count::lines_in;
 use crate::ending::end;
@@ -95,8 +95,8 @@ pub fn run_lines<D: Disk + Send, G: Gate + Sync, R: Threads + Wait + Sync>(
     ensures legal { D.tells → IsConsistentImage s.now (page_of (D.image disk)) → IsLegalRun s.now (page_of (D.image disk)) now result.history.items }
     // What such a run leaves where it is done, and the volume wasn't to be left: an image of the tree behind the last reply.
     ensures leaves { D.tells → IfUnmounted result.end is_left (LeavesImage s.now (D.image disk) now result.history.items (D.image result.disk)) }
-    // Where it was to be left, redo makes of whatever a crash leaves of the disk what the first entries leave, all told ones among them.
-    ensures left { D.tells → D.tells_crashes → IfLeft result.end is_left (IsCheckedImage s.now (D.image disk) → IsLeftRun s.now (D.image disk) now (record { history = result.history.items; told = result.told.items }) (last_of (D.past result.disk))) }
+    // Where it was to be left, also where the disk failed on the way, redo makes of whatever a crash leaves of the disk what the first entries leave, all told ones among them.
+    ensures left { D.tells → D.tells_crashes → is_left ≡ true → IsCheckedImage s.now (D.image disk) → LeavesRun s.now (D.image disk) now (record { history = result.history.items; told = result.told.items }) (last_of (D.past result.disk)) result.end }
     // so that the text of a history may be written
     ensures rising { IsRisingFrom 1 result.told.items }
     ensures pages { D.page_count result.disk ≡ D.page_count disk }
@@ -127,8 +127,8 @@ fn run_from<I: MountedFrom, D: Disk + Send, G: Gate + Sync, R: Threads + Wait + 
     ensures legal { D.tells → IsConsistentImage s.now (page_of (D.image disk)) → IsLegalRun s.now (page_of (D.image disk)) now result.history.items }
     // What such a run leaves where it is done, and the volume wasn't to be left: an image of the tree behind the last reply.
     ensures leaves { D.tells → IfUnmounted result.end is_left (LeavesImage s.now (D.image disk) now result.history.items (D.image result.disk)) }
-    // Where it was to be left, redo makes of whatever a crash leaves of the disk what the first entries leave, all told ones among them.
-    ensures left { D.tells → D.tells_crashes → IfLeft result.end is_left (IsCheckedImage s.now (D.image disk) → IsLeftRun s.now (D.image disk) now (record { history = result.history.items; told = result.told.items }) (last_of (D.past result.disk))) }
+    // Where it was to be left, also where the disk failed on the way, redo makes of whatever a crash leaves of the disk what the first entries leave, all told ones among them.
+    ensures left { D.tells → D.tells_crashes → is_left ≡ true → IsCheckedImage s.now (D.image disk) → LeavesRun s.now (D.image disk) now (record { history = result.history.items; told = result.told.items }) (last_of (D.past result.disk)) result.end }
     // so that the text of a history may be written
     ensures rising { IsRisingFrom 1 result.told.items }
     ensures pages { D.page_count result.disk ≡ D.page_count disk }
@@ -249,7 +249,7 @@ fn run_mounted<I: MountedFrom, D: Disk + Send, G: Gate + Sync, R: Threads + Wait
     ensures ran { RunSince D.tells D.tells_crashes taken.superblock.0 (plan_of scripts.now) is_left before (seen D.Disk result.disk) (record { history = result.history.items; told = result.told.items }) result.end }
     ensures legal { D.tells → IsConsistentImage I.block (page_of I.image) → IsLegalRun I.block (page_of I.image) now result.history.items }
     ensures leaves { D.tells → super_of taken.superblock.0 ≡ record I.block { state = CLEAN } → IfUnmounted result.end is_left (LeavesImage I.block I.image now result.history.items (D.image result.disk)) }
-    ensures left { D.tells → D.tells_crashes → IfLeft result.end is_left (IsCheckedImage I.block I.image → IsLeftRun I.block I.image now (record { history = result.history.items; told = result.told.items }) (last_of (D.past result.disk))) }
+    ensures left { D.tells → D.tells_crashes → is_left ≡ true → IsCheckedImage I.block I.image → LeavesRun I.block I.image now (record { history = result.history.items; told = result.told.items }) (last_of (D.past result.disk)) result.end }
     ensures rising { IsRisingFrom 1 result.told.items }
     ensures pages { D.page_count result.disk ≡ m.volume.count + D.page_count m.log.part }
     ensures later { before ≤ D.fault_count result.disk }
@@ -267,9 +267,8 @@ fn run_mounted<I: MountedFrom, D: Disk + Send, G: Gate + Sync, R: Threads + Wait
         is_broken_off,
         failed,
     } = serve::<I, D, G, R>(rt, alloc, m, &mut marks, scripts, now, gate);
-    let is_cut = is_cut_off(is_broken_off, failed);
     let mut m = mounted;
-    make_durable(&mut m, failed);
+    let is_made_up = make_durable(&mut m, failed);
     tell(
         history.as_slice(),
         marks.as_slice(),
@@ -277,7 +276,8 @@ fn run_mounted<I: MountedFrom, D: Disk + Send, G: Gate + Sync, R: Threads + Wait
         &mut told,
     );
     let ended = end(m, &mut point, &superblock, is_left);
-    let end = end_after(is_whole, is_cut, ended.is_full, before, ended.disk.faults());
+    let is_through = are_through(is_whole, is_broken_off, is_made_up);
+    let end = end_after(is_through, ended.is_full, before, ended.disk.faults());
     Ran {
         disk: ended.disk,
         end,
@@ -286,22 +286,22 @@ fn run_mounted<I: MountedFrom, D: Disk + Send, G: Gate + Sync, R: Threads + Wait
     }
 }
 
-/// Whether the history broke off, or a client was told that an entry couldn't be made durable: a log fails by a fault that is counted, so the second alone never happens.
-fn is_cut_off(is_broken_off: bool, failed: bool) -> bool
-    ensures { result ≡ (is_broken_off || failed) }
+/// Whether each line has its entry, the history goes on, and nothing had to be made up for.
+fn are_through(is_whole: bool, is_broken_off: bool, is_made_up: bool) -> bool
+    ensures { result ≡ are_through is_whole is_broken_off is_made_up }
 {
-    is_broken_off || failed
+    is_whole && !is_broken_off && !is_made_up
 }
 
-/// How a run ended whose volume was mounted. A count at its last value counts as one that rose; a history that broke off, and a log whose pages have no more numbers, as want of memory.
-fn end_after(is_whole: bool, is_broken_off: bool, is_full: bool, before: u64, now: u64) -> RunEnd
-    ensures { result ≡ end_after is_whole is_broken_off is_full before now }
+/// How a run ended whose volume was mounted. A count at its last value counts as one that rose; a log whose pages have no more numbers counts as want of memory.
+fn end_after(is_through: bool, is_full: bool, before: u64, now: u64) -> RunEnd
+    ensures { result ≡ end_after is_through is_full before now }
 {
-    if !is_whole {
+    if !is_through {
         RunEnd::Memory
     } else if now != before || now == u64::MAX {
         RunEnd::Disk
-    } else if is_broken_off || is_full {
+    } else if is_full {
         RunEnd::Memory
     } else {
         RunEnd::Done

@@ -1,6 +1,6 @@
 //! The calls of a run, by a server of the mounted volume.
 
-ghost use Rattle.std.specs.Prelude.{◌≡◌, ◌⊎◌, ◌<◌, ◌+◌, ◌^◌, ℕ, List};
+ghost use Rattle.std.specs.Prelude.{◌≡◌, ◌⊎◌, ◌<◌, ◌+◌, ◌^◌, ℕ, List, false};
 ghost use Rattle.jfs_server.specs.shared.specs.Start.{IsJustMounted};
 ghost use Rattle.jfs_server.specs.shared.specs.legal.specs.History.{GoOn};
 ghost use Rattle.jfs_server.specs.shared.specs.legal.specs.served.specs.halves.specs.Parts.{Parts};
@@ -120,19 +120,22 @@ fn handed_out<D: Disk>(
     }
 }
 
-/// Where a client was told that an entry couldn't be made durable, and the volume runs, all entries are made durable now.
-pub fn make_durable<D: Disk>(m: &mut Mounted<D>, failed: bool)
+/// Where a client was told that an entry couldn't be made durable, and the volume runs, all entries are made durable now. Tells whether that was so: a log fails by a fault that halts the volume, so it never is.
+pub fn make_durable<D: Disk>(m: &mut Mounted<D>, failed: bool) -> bool
     requires may { MayCall (state D.Disk m.old.volume m.old.log) }
     ensures keeps { Keeps (state D.Disk m.old.volume m.old.log) (state D.Disk m.new.volume m.new.log) }
     ensures halted { (m.new.volume.halted ≡ m.old.volume.halted) ⊎ PartRose (state D.Disk m.old.volume m.old.log) (state D.Disk m.new.volume m.new.log) }
     ensures durable { IsMadeDurable failed (state D.Disk m.old.volume m.old.log) (state D.Disk m.new.volume m.new.log) }
     ensures appended { m.new.volume.appended ≡ m.old.volume.appended }
+    ensures still { result ≡ false → state D.Disk m.new.volume m.new.log ≡ state D.Disk m.old.volume m.old.log }
     ensures legal { D.tells → (area : ℕ → ℕ) (log_pages : ℕ) (start : Parts) (es : List Timed) → GoOn area log_pages start es m.old.volume → GoOn area log_pages start es m.new.volume }
 {
     if failed && m.volume.halted().is_none() {
         match commit(&mut m.volume, &mut m.log) {
-            Ok(()) => {}
-            Err(_) => {}
+            Ok(()) => true,
+            Err(_) => true,
         }
+    } else {
+        false
     }
 }

@@ -192,9 +192,9 @@ module _ {D : Type 0} (d : Ghosts D) (ps : List (Pass (ServedVolume D) (SharedLo
       base_is = λ i p is last. (at_end.5 i p is last).0;
       ends = ends;
       served = λ t consistent. subst (λ (b : Bool). IsServed (super_of (page_of (image_of end.base) 8)) (page_of (image_of end.base)) b end.list x.mounted.volume) (sym broken_off) (served_now x.mounted.volume halted h t consistent);
-      left = λ t c whole runs checked.
+      left = λ t c whole checked.
           subst {A = ℕ × DiskState} (λ z. IsLeft s (image_of end.base) end.list z.0 z.1) (λ i. (sym durable_is i, last_of (sym (ap (λ (p : Parts). p.past) h.is) i) ++ last_of (d.past (sym log i).part)))
-          (left_is d _ v.shared y both (ap (λ side. side.halted) (sym log) ∙ runs) reads t c (sym broken_off ∙ whole) checked);
+          (left_is d _ v.shared y both reads t c (sym broken_off ∙ whole) checked);
     }
       where
         durable_is : x.mounted.log.durable ≡ end.durable

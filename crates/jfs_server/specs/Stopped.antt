@@ -65,8 +65,8 @@ pub record IsStopped {D : Type 0} (d : Ghosts D) (passes : List (Pass (ServedVol
   pub base_is : (i : ℕ) (p : Pass (ServedVolume D) (SharedLog D d) Recorded) → get_elem? passes i ≡ some p → suc i ≡ length passes → p.seat.me.0.base ≡ base
   pub ends : IsEndOf d (start_of base) x
   pub served : d.tells → IfConsistent base (λ s page. IsServed s page x.is_broken_off list x.mounted.volume)
-  -- where the log runs, whatever a crash leaves of both parts of the disk is redone to that history, with all durable entries
-  pub left : d.tells → d.tells_crashes → x.is_broken_off ≡ false → x.mounted.log.halted ≡ None
+  -- whatever a crash leaves of both parts of the disk is redone to that history, with all durable entries
+  pub left : d.tells → d.tells_crashes → x.is_broken_off ≡ false
       → IfChecked base (λ s image. IsLeft s image list x.mounted.log.durable (last_of x.mounted.volume.past ++ last_of (d.past x.mounted.log.part)))
 
 -- ---- for the prover

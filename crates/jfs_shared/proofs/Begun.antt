@@ -34,7 +34,7 @@ use Rattle.jfs_kept_history.proofs.Checked.{consistent_image}
 use Rattle.jfs_shared.specs.Shared.{logs_of, HasText, IsShared, IsServed, IsKeptServed}
 use Rattle.jfs_shared.specs.Faults.{any_failed}
 use Rattle.jfs_shared.specs.Base.{log_start_of}
-use Rattle.jfs_shared.specs.Start.{IsJustMounted, start_at, base_at}
+use Rattle.jfs_shared.specs.Start.{IsJustMounted, base_at}
 use Rattle.jfs_shared.proofs.Fresh.{fresh_holds}
 
 -- of a page with nothing pending a crash leaves what a read gives
@@ -105,6 +105,7 @@ module _ (tells crashes : Type 0) (s : Super) (image : Image) (volume : Parts) (
   volume_stands pages faults few = record {
     entries = stands.entries;
     appended = stands.appended;
+    few = omega arith;
     taken_is = stands.taken;
     told_is = stands.told;
     points_are = refl;

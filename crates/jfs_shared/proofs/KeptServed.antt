@@ -1,5 +1,5 @@
 -- A volume that is kept with its history, behind calls, groups and syncpoints of many clients.
-use Rattle.std.proofs.Common.{◌≡◌, ◌≤◌, ◌<◌, ◌+◌, ◌^◌, ℕ, List, [], ◌∷◌, ◌++◌, length, Bool, false, refl, sym, ap, subst, ◌∙◌}
+use Rattle.std.proofs.Common.{◌≡◌, ◌<◌, ◌+◌, ◌^◌, ℕ, List, [], ◌∷◌, ◌++◌, length, Bool, false, refl, sym, ap, subst, ◌∙◌}
 use Rattle.std.proofs.lemmas.List.{map-append, length-map}
 use Rattle.jfs_disk.specs.Image.{Image, page_of}
 use Rattle.jfs_disk.specs.declared.disk.Fault.{Fault}
@@ -31,7 +31,6 @@ use Rattle.jfs_kept_history.proofs.Steps as steps
 use Rattle.jfs_volume_calls.proofs.Kept.{group_settles, group_pages, pointed as point_settles}
 use Rattle.jfs_shared.specs.Calls.{recorded}
 use Rattle.jfs_shared.specs.Entries.{Recorded}
-use Rattle.jfs_shared.specs.Home.{IsSettled}
 use Rattle.jfs_shared.specs.Settled.{KeepsHistory, SettlesHistory, IsSettledServed}
 use Rattle.jfs_shared.specs.Shared.{timed_in, lasting, lasting_in, counts_in, IsKeptServed}
 use Rattle.jfs_shared.proofs.Points.{marked_counts, more_counts}
@@ -148,6 +147,7 @@ kept_of s image list points old k = record { served = k.served; since = k.settle
 module _ (tells crashes : Type 0) (told : tells) (asks : crashes) (s : Super) (image : Image) (list : List Recorded) (points : List ℕ) (old : Parts) (k : IsSettledServed s image list points old) where
   pub kept_pointed : (new : Parts) → SamePlace old new → PointParts old new → length list < 2 ^ 64 → old.text.bytes ≡ [] → new ≡ with_point old → OfEachHalf tells crashes old (λ seen asked half. MayPoint half → Moves seen asked old new half (Points ∷ Takes ∷ []))
       → IsKeptServed s image list (points ++ length list ∷ []) new
+  unfolding kept_of
   kept_pointed new same parts few empty alone moves = record {
     served = record {
       start = k.served.start;

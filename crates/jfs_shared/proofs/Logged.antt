@@ -1,5 +1,5 @@
 -- The log side behind a SYNCPT, and where groups have taken all.
-use Rattle.std.proofs.Common.{◌≡◌, ◌<◌, ℕ, suc, ◌+◌, ◌^◌, List, [], ◌∷◌, ◌++◌, length, Option, Some, None, refl, sym, ap, subst, ◌∙◌, arith, append_assoc, append-nil}
+use Rattle.std.proofs.Common.{◌≡◌, ◌<◌, ℕ, suc, ◌+◌, ◌^◌, List, [], ◌∷◌, ◌++◌, length, Option, Some, None, refl, sym, ap, subst, ◌∙◌, arith, append-nil}
 use Rattle.std.proofs.lemmas.List.{length-append}
 use Rattle.jfs_disk.specs.Crash.{PageHistory, IsCrashPage}
 use Rattle.jfs_disk.specs.declared.disk.Fault.{Fault}
@@ -8,7 +8,7 @@ use Rattle.jfs_logpages.specs.declared.group_text.GroupText.{GroupText}
 use Rattle.jfs_logpages.specs.Records.{log_text}
 use Rattle.jfs_records.specs.Records.{Noted}
 use Rattle.jfs_turns.specs.Lists.{IsPrefix}
-use Rattle.jfs_groups.specs.Points.{syncs}
+use Rattle.jfs_groups.specs.Points.{IsMarked}
 use Rattle.jfs_groups.specs.Start.{LogStart, Grows}
 use Rattle.jfs_groups.specs.Log.{LogData, IsRunning, LogStandsFor}
 use Rattle.jfs_groups.specs.Written.{IsGroupWritten, IsGroupLost}
@@ -56,10 +56,10 @@ module _ {E : Type 0} (logs : E → Option (List Noted)) where
       halts = λ fault e. absurd (none_some fault (sym w.runs ∙ e));
     }
 
-    -- one that isn't: whatever syncpoints there are, no more of them are stable
-    pub lost_point : (group : GroupText) (fault : Fault) (more : List ℕ) → group.bytes.items ≡ log_text (SyncPt 0 ∷ []) → group.ends.items ≡ 36 ∷ [] → IsPrefix (points ++ length list ∷ []) more → IsGroupLost tells crashes group fault l m → LogStandsFor logs tells crashes start m list taken durable more stable
+    -- one that isn't: a mark may stand behind the syncpoints, and no more of them are stable
+    pub lost_point : (group : GroupText) (fault : Fault) (more : List ℕ) → group.bytes.items ≡ log_text (SyncPt 0 ∷ []) → group.ends.items ≡ 36 ∷ [] → IsMarked (points ++ length list ∷ []) more → IsGroupLost tells crashes group fault l m → LogStandsFor logs tells crashes start m list taken durable more stable
     lost_point group fault more bytes ends further w = lost_stands logs tells crashes start l m list list taken taken durable points more stable group fault s runs w
-        (λ t k. more_lost logs tells crashes start.ring m.past list list durable (points ++ length list ∷ []) more stable ([], append-nil list) further
+        (λ t k. more_lost logs tells crashes start.ring m.past list list taken durable (points ++ length list ∷ []) more stable ([], append-nil list) further
         (point_lost logs tells crashes start l m list taken durable points stable group fault s runs bytes ends w t k))
 
     -- where groups have taken all entries of a list that goes on the log's, it is the log's

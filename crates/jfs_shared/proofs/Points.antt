@@ -1,7 +1,8 @@
 -- Lists of syncpoints, with a mark or without.
-use Rattle.std.proofs.Common.{◌≡◌, ◌<◌, ℕ, suc, ◌^◌, ◌||◌, Bool, true, false, if◌then◌else◌, List, [], ◌∷◌, ◌++◌, length, refl, sym, ap, arith}
+use Rattle.std.proofs.Common.{◌≡◌, ◌<◌, ◌≤◌, ℕ, suc, ◌^◌, ◌||◌, Bool, true, false, if◌then◌else◌, List, [], ◌∷◌, ◌++◌, length, refl, sym, ap, ◌∙◌, arith}
 use Rattle.std.proofs.lemmas.Bool.{false≢true}
 use Rattle.jfs_groups.specs.Points.{halt_mark, is_mark, is_marked, syncs}
+use Rattle.jfs_groups.specs.Text.{AreCounts}
 use Rattle.jfs_shared.specs.Shared.{counts_in}
 
 -- without a mark all are syncpoints
@@ -64,3 +65,22 @@ all_counts (p ∷ ps) e = by (is_mark p) (all_counts ps) e
     by : (b : Bool) → (is_marked ps ≡ false → counts_in ps ≡ ps) → (b || is_marked ps) ≡ false → (if b then counts_in ps else p ∷ counts_in ps) ≡ p ∷ ps
     by true rest e = absurd (false≢true (sym e))
     by false rest e = ap (λ (l : List ℕ). p ∷ l) (rest e)
+
+no_counts : (ms : List ℕ) → syncs ms ≡ 0 → counts_in ms ≡ []
+no_counts [] e = refl
+no_counts (m ∷ ms) e = by (is_mark m) (no_counts ms) e
+  where
+    by : (b : Bool) → (syncs ms ≡ 0 → counts_in ms ≡ []) → (if b then syncs ms else suc (syncs ms)) ≡ 0 → (if b then counts_in ms else m ∷ counts_in ms) ≡ []
+    by true rest none = rest none
+    by false rest none = absurd (omega (arith, none))
+
+-- sync counts that rise from one number of entries to another, and marks behind them
+pub counts_of : (low high : ℕ) (ps ms : List ℕ) → high < 2 ^ 64 → AreCounts low high ps → syncs ms ≡ 0 → counts_in (ps ++ ms) ≡ ps
+counts_of low high [] ms less rise none = no_counts ms none
+counts_of low high (p ∷ ps) ms less rise none =
+    ap (λ (b : Bool). if b then counts_in (ps ++ ms) else p ∷ counts_in (ps ++ ms)) (no_mark p (let most = highest p ps rise.1 in omega (arith, most, less)))
+    ∙ ap (λ (l : List ℕ). p ∷ l) (counts_of p high ps ms less rise.1 none)
+  where
+    highest : (q : ℕ) (qs : List ℕ) → AreCounts q high qs → q ≤ high
+    highest q [] up = up
+    highest q (r ∷ rs) up = let more = highest r rs up.1 in let first = up.0 in omega (arith, more, first)

@@ -93,6 +93,7 @@ module _ (tells crashes : Type 0) (base : Base) (list : List Recorded) (taken to
   alike_stands later new a disk served kept = record {
     entries = a.entries ∙ h.entries;
     appended = a.appended ∙ h.appended;
+    few = h.few;
     taken_is = a.taken ∙ h.taken_is;
     told_is = a.told ∙ h.told_is;
     points_are = h.points_are;
@@ -124,6 +125,7 @@ module _ (tells crashes : Type 0) (base : Base) (list : List Recorded) (taken to
       record {
         entries = a.entry.entries ∙ ap (λ (es : List Entry). es ++ e.entry ∷ []) h.entries ∙ sym (entries_more list e);
         appended = longer;
+        few = omega (arith, few, h.appended, length-append list (e ∷ []));
         taken_is = a.keeps.taken ∙ h.taken_is;
         told_is = a.keeps.told ∙ h.told_is;
         points_are = h.points_are;
@@ -185,6 +187,7 @@ module _ (tells crashes : Type 0) (base : Base) (list : List Recorded) (taken to
   group_stands new e room moves = record {
     entries = ap (λ (p : Parts). p.entries) e ∙ h.entries;
     appended = ap (λ (p : Parts). p.appended) e ∙ h.appended;
+    few = h.few;
     taken_is = ap (λ (p : Parts). p.taken) e ∙ h.appended;
     told_is = ap (λ (p : Parts). p.told) e ∙ h.told_is;
     points_are = h.points_are;
@@ -223,6 +226,7 @@ module _ (tells crashes : Type 0) (base : Base) (list : List Recorded) (taken to
   marked_stands fault new runs e = record {
     entries = ap (λ (p : Parts). p.entries) e ∙ h.entries;
     appended = ap (λ (p : Parts). p.appended) e ∙ h.appended;
+    few = h.few;
     taken_is = ap (λ (p : Parts). p.taken) e ∙ h.taken_is;
     told_is = ap (λ (p : Parts). p.told) e ∙ h.told_is;
     points_are = omega (arith, h.points_are, length-append points (halt_mark ∷ []));
@@ -251,6 +255,7 @@ module _ (tells crashes : Type 0) (base : Base) (list : List Recorded) (taken to
   told_stands n new within e shows tell = record {
     entries = ap (λ (p : Parts). p.entries) e ∙ h.entries;
     appended = ap (λ (p : Parts). p.appended) e ∙ h.appended;
+    few = h.few;
     taken_is = ap (λ (p : Parts). p.taken) e ∙ h.taken_is;
     told_is = ap (λ (p : Parts). p.told) e;
     points_are = h.points_are;
@@ -326,6 +331,7 @@ module _ (tells crashes : Type 0) (base : Base) (list : List Recorded) (taken to
   point_stands new few all empty e moves settled = record {
     entries = ap (λ (p : Parts). p.entries) e ∙ h.entries;
     appended = ap (λ (p : Parts). p.appended) e ∙ h.appended;
+    few = h.few;
     taken_is = ap (λ (p : Parts). p.taken) e ∙ h.appended;
     told_is = ap (λ (p : Parts). p.told) e ∙ h.told_is;
     points_are = omega (arith, h.points_are, length-append points (length list ∷ []));
@@ -346,6 +352,7 @@ module _ (tells crashes : Type 0) (base : Base) (list : List Recorded) (taken to
   known_stands new e moves = record {
     entries = ap (λ (p : Parts). p.entries) e ∙ h.entries;
     appended = ap (λ (p : Parts). p.appended) e ∙ h.appended;
+    few = h.few;
     taken_is = ap (λ (p : Parts). p.taken) e ∙ h.taken_is;
     told_is = ap (λ (p : Parts). p.told) e ∙ h.told_is;
     points_are = h.points_are;

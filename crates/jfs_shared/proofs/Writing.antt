@@ -14,7 +14,7 @@ use Rattle.jfs_groups.specs.Points.{halt_mark, syncs}
 use Rattle.jfs_groups.specs.Log.{LogStandsFor, data_of}
 use Rattle.jfs_groups.specs.Written.{IsGroupWritten, IsGroupLost}
 use Rattle.jfs_groups.specs.declared.log.SharedLog.{SharedLog}
-use Rattle.jfs_groups.proofs.Leading.{behind_all}
+use Rattle.jfs_groups.proofs.Points.{marked_all}
 use Rattle.jfs_groups.proofs.Stands.{may_write, written_stands, more_lost, group_lost, lost_stands}
 use Rattle.jfs_call.specs.halves.specs.Change.{MayPoint, Takes, Points, Knows}
 use Rattle.jfs_call.specs.halves.specs.Moves.{Moves}
@@ -73,7 +73,7 @@ module _ {D : Type 0} (d : Ghosts D) (x : SharedVolume D) (y : SharedLog D d) (r
           g.1,
           g.2,
           lost_stands logs_of d.tells d.tells_crashes (log_start_of n.base) (data_of d y) (data_of d y') n.log_list n.list n.taken (length n.list) n.durable n.points g.0 n.stable group fault k.log runs w
-              (λ t c. more_lost logs_of d.tells d.tells_crashes (log_start_of n.base).ring (data_of d y').past n.list n.list n.durable n.points g.0 n.stable ([], append-nil n.list) (behind_all n.points g.0 g.1)
+              (λ t c. more_lost logs_of d.tells d.tells_crashes (log_start_of n.base).ring (data_of d y').past n.list n.list (length n.list) n.durable n.points g.0 n.stable ([], append-nil n.list) (marked_all n.points g.0 g.1)
               (group_lost logs_of d.tells d.tells_crashes (log_start_of n.base) (data_of d y) (data_of d y') n.log_list n.list n.taken n.durable n.points n.stable group fault k.front k.log runs (is_group n k) w t c)),
         )
 
@@ -132,7 +132,7 @@ module _ {D : Type 0} (d : Ghosts D) (x : SharedVolume D) (y : SharedLog D d) (r
         durable_now = length n.list;
         points_now = halted.0;
         volume = halted.2;
-        log = lost_point logs_of d.tells d.tells_crashes (log_start_of n.base) (data_of d y) (data_of d y') n.list (length n.list) (length n.list) n.points n.stable log runs group fault halted.0 bytes ends (behind_all (n.points ++ length n.list ∷ []) halted.0 halted.1) w;
+        log = lost_point logs_of d.tells d.tells_crashes (log_start_of n.base) (data_of d y) (data_of d y') n.list (length n.list) (length n.list) n.points n.stable log runs group fault halted.0 bytes ends (marked_all (n.points ++ length n.list ∷ []) halted.0 halted.1) w;
         told_grows = let a = k.volume.told_within in let b = k.volume.taken_within in omega (arith, a, b);
         durable_grows = let b = k.volume.taken_within in omega (arith, b, durable_taken);
         told_within = omega arith;

@@ -23,7 +23,7 @@ pub record IsLeft (s : Super) (image : Image) (list : List Recorded) (durable : 
   pub legal : AreLegal (meaning.volume_of s (page_of image)).area s.logpxd.len start (timed_in list)
   pub redone : Leaves (λ left. IsRedoneToHistory s (page_of image) start (lasting_in list) durable left) state
 
--- so it is of both parts of the disk, while the log runs
+-- so it is of both parts of the disk, whether or not the log has halted
 abbrev pub LeftLaw : {D : Type 0} (d : Ghosts D) → Type 0
-LeftLaw {D} d = (n : Seen) (x : SharedVolume D) (y : SharedLog D d) → AreOf (standing d) (log_standing d) n x y → y.side.halted ≡ None → d.tells → d.tells_crashes → x.is_broken_off ≡ false
+LeftLaw {D} d = (n : Seen) (x : SharedVolume D) (y : SharedLog D d) → AreOf (standing d) (log_standing d) n x y → d.tells → d.tells_crashes → x.is_broken_off ≡ false
     → IfChecked n.base (λ s image. IsLeft s image n.list n.durable (last_of x.volume.past ++ last_of (d.past y.side.part)))

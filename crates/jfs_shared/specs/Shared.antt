@@ -1,5 +1,5 @@
 -- What a mounted volume stands for, as the value that the volume turn guards.
-use Rattle.std.specs.Prelude.{◌≡◌, ◌≤◌, ◌+◌, ◌-◌, ◌∷◌, [], ℕ, suc, Bool, true, false, if◌then◌else◌, List, length, map, take, drop, Option, Some, None}
+use Rattle.std.specs.Prelude.{◌≡◌, ◌≤◌, ◌<◌, ◌+◌, ◌-◌, ◌^◌, ◌∷◌, [], ℕ, suc, Bool, true, false, if◌then◌else◌, List, length, map, take, drop, Option, Some, None}
 use Rattle.jfs_disk.specs.Image.{Image, page_of}
 use Rattle.jfs_disk.specs.declared.disk.Disk.{Ghosts}
 use Rattle.jfs_disk.specs.declared.disk.Fault.{Fault}
@@ -109,10 +109,11 @@ IfChecked base fact = IsCheckedImage (super_of (page_of (image_of base) 8)) (ima
 
 -- ---- all of it
 
--- The volume has the list's entries. Groups have taken so many of them, and so many are acknowledged. It has made so many syncpoints since the mount, which has one of its own, and knows so many to be stable; the list of syncpoints may have a mark, that the log has halted, beside them. It has the pages of its part of the disk; a fault has halted it, or is a call's reply, only where a count of faults rose. Of a disk that tells its contents, its replies are legal; and of one that tells crashes too, mounted from an image on which a check finds nothing, it is kept for a redo, unless its history broke off.
+-- The volume has the list's entries, each with a number of 32 bits. Groups have taken so many of them, and so many are acknowledged. It has made so many syncpoints since the mount, which has one of its own, and knows so many to be stable; the list of syncpoints may have a mark, that the log has halted, beside them. It has the pages of its part of the disk; a fault has halted it, or is a call's reply, only where a count of faults rose. Of a disk that tells its contents, its replies are legal; and of one that tells crashes too, mounted from an image on which a check finds nothing, it is kept for a redo, unless its history broke off.
 pub record IsShared (tells crashes : Type 0) (base : Base) (list : List Recorded) (taken told : ℕ) (points : List ℕ) (known : ℕ) (made : ℕ) (is_broken_off : Bool) (p : Parts) : Type 0 where
   pub entries : p.entries ≡ entries_in list
   pub appended : p.appended ≡ length list
+  pub few : length list < 2 ^ 32
   pub taken_is : p.taken ≡ taken
   pub told_is : p.told ≡ told
   pub points_are : made ≡ length points

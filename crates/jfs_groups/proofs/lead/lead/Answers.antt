@@ -1,7 +1,7 @@
-use Rattle.std.proofs.Common.{[], append-nil, arith, ap, sym, subst, ◌∙◌}
-use Rattle.jfs_turns.specs.Lists.{IsPrefix}
+use Rattle.std.proofs.Common.{[], append-nil, arith, ap, sym, subst, ◌∙◌, length}
 use Rattle.jfs_turns.specs.Standing.{LogStands}
-use Rattle.jfs_groups.specs.Log.{standing, data_of}
+use Rattle.jfs_groups.specs.Log.{standing, data_of, IsLost}
+use Rattle.jfs_groups.specs.Points.{IsMarked}
 use Rattle.jfs_groups.proofs.Stands.{may_write, written_stands, more_lost, group_lost, lost_stands}
 use Rattle.jfs_groups.proofs.Leading.{has_failed}
 use Rattle.jfs_groups.proofs.Led.{raised_stands, failed_stands, failed_goes}
@@ -44,8 +44,9 @@ returns-clause-leads g c n within past =
     let before = data_of g.D.Disk c.collect-group.result.1.value in
     let after = data_of g.D.Disk c.write.new.self in
     let runs = ap (λ y. y.side.halted) e.turn.1 ∙ c.requires.running in
-    let leaves = λ (t : g.D.Disk.tells) (k : g.D.Disk.tells_crashes). more_lost g.E.HasRecords.logs g.D.Disk.tells g.D.Disk.tells_crashes (g.E.HasRecords.start v.base).ring after.past w.list u.log_list v.log_durable v.log_points u.log_points v.log_stable ([], append-nil w.list ∙ sym (h.keeps.2 ∙ e.collects.log)) (subst (λ ps. IsPrefix ps u.log_points) e.collects.keeps.2 h.keeps.3)
-    (group_lost g.E.HasRecords.logs g.D.Disk.tells g.D.Disk.tells_crashes (g.E.HasRecords.start v.base) before after v.log_list w.list v.taken v.log_durable v.log_points v.log_stable c.collect-group.result.0 c.in-Err.field-0.fault e.collects.before stands runs e.collects.group c.in-Err.ensures.lost t k) in
+    let all = h.keeps.3 ∙ e.collects.all in
+    let leaves = λ (t : g.D.Disk.tells) (k : g.D.Disk.tells_crashes). subst (λ n. IsLost g.E.HasRecords.logs (g.E.HasRecords.start v.base).ring after.past u.log_list n v.log_durable u.log_points v.log_stable) (sym all) (more_lost g.E.HasRecords.logs g.D.Disk.tells g.D.Disk.tells_crashes (g.E.HasRecords.start v.base).ring after.past w.list u.log_list (length w.list) v.log_durable v.log_points u.log_points v.log_stable ([], append-nil w.list ∙ sym (h.keeps.2 ∙ e.collects.log)) (subst (λ ps. IsMarked ps u.log_points) e.collects.keeps.2 h.keeps.4)
+    (group_lost g.E.HasRecords.logs g.D.Disk.tells g.D.Disk.tells_crashes (g.E.HasRecords.start v.base) before after v.log_list w.list v.taken v.log_durable v.log_points v.log_stable c.collect-group.result.0 c.in-Err.field-0.fault e.collects.before stands runs e.collects.group c.in-Err.ensures.lost t k)) in
     let kept = lost_stands g.E.HasRecords.logs g.D.Disk.tells g.D.Disk.tells_crashes (g.E.HasRecords.start v.base) before after v.log_list u.log_list v.taken u.taken v.log_durable v.log_points u.log_points v.log_stable c.collect-group.result.0 c.in-Err.field-0.fault stands runs lost leaves in
     has_failed of_log (λ y. y.side.halted) c.write.new.self u c.give_log-in-Err.result.seat.me.0 n c.in-Err.field-0.fault
     (failed_stands g.E.HasClient.client of_log c.write.new.self v w u e.goes_on h.goes_on e.collects.keeps h.keeps kept)
@@ -63,8 +64,9 @@ give_log-requires-in-Err-clause-stands g c =
     let before = data_of g.D.Disk c.collect-group.result.1.value in
     let after = data_of g.D.Disk c.write.new.self in
     let runs = ap (λ y. y.side.halted) e.turn.1 ∙ c.requires.running in
-    let leaves = λ (t : g.D.Disk.tells) (k : g.D.Disk.tells_crashes). more_lost g.E.HasRecords.logs g.D.Disk.tells g.D.Disk.tells_crashes (g.E.HasRecords.start v.base).ring after.past w.list u.log_list v.log_durable v.log_points u.log_points v.log_stable ([], append-nil w.list ∙ sym (h.keeps.2 ∙ e.collects.log)) (subst (λ ps. IsPrefix ps u.log_points) e.collects.keeps.2 h.keeps.3)
-    (group_lost g.E.HasRecords.logs g.D.Disk.tells g.D.Disk.tells_crashes (g.E.HasRecords.start v.base) before after v.log_list w.list v.taken v.log_durable v.log_points v.log_stable c.collect-group.result.0 c.in-Err.field-0.fault e.collects.before stands runs e.collects.group c.in-Err.ensures.lost t k) in
+    let all = h.keeps.3 ∙ e.collects.all in
+    let leaves = λ (t : g.D.Disk.tells) (k : g.D.Disk.tells_crashes). subst (λ n. IsLost g.E.HasRecords.logs (g.E.HasRecords.start v.base).ring after.past u.log_list n v.log_durable u.log_points v.log_stable) (sym all) (more_lost g.E.HasRecords.logs g.D.Disk.tells g.D.Disk.tells_crashes (g.E.HasRecords.start v.base).ring after.past w.list u.log_list (length w.list) v.log_durable v.log_points u.log_points v.log_stable ([], append-nil w.list ∙ sym (h.keeps.2 ∙ e.collects.log)) (subst (λ ps. IsMarked ps u.log_points) e.collects.keeps.2 h.keeps.4)
+    (group_lost g.E.HasRecords.logs g.D.Disk.tells g.D.Disk.tells_crashes (g.E.HasRecords.start v.base) before after v.log_list w.list v.taken v.log_durable v.log_points v.log_stable c.collect-group.result.0 c.in-Err.field-0.fault e.collects.before stands runs e.collects.group c.in-Err.ensures.lost t k)) in
     let kept = lost_stands g.E.HasRecords.logs g.D.Disk.tells g.D.Disk.tells_crashes (g.E.HasRecords.start v.base) before after v.log_list u.log_list v.taken u.taken v.log_durable v.log_points u.log_points v.log_stable c.collect-group.result.0 c.in-Err.field-0.fault stands runs c.in-Err.ensures.lost leaves in
     subst (λ y. LogStands of_log y u) (sym h.turn.1)
     (failed_stands g.E.HasClient.client of_log c.write.new.self v w u e.goes_on h.goes_on e.collects.keeps h.keeps kept)

@@ -13,7 +13,7 @@ use Rattle.jfs_server.specs.shared.specs.kept_history.specs.Checked.{IsCheckedIm
 use Rattle.jfs_server.specs.shared.specs.legal.specs.served.specs.mounted.specs.Mount.{IsMountCause, IsRefusal}
 use Rattle.jfs_run.specs.Calls.{Calls}
 use Rattle.jfs_run.specs.Ending.{RunSince}
-use Rattle.jfs_run.specs.Left.{IsLeftRun}
+use Rattle.jfs_run.specs.Left.{LeavesRun}
 use Rattle.jfs_run.specs.Legal.{IsLegalRun, LeavesImage}
 use Rattle.jfs_run.specs.Mounted.{state}
 use Rattle.jfs_run.specs.Run.{seen, StayBeside}
@@ -73,13 +73,13 @@ returns-in-Ok-mount-clause-leaves g c = λ t done left.
     (c.run_mounted.ensures.leaves t (clean ∙ ap (λ (b : Super). record b { state = CLEAN }) (sym block)) done left)
 
 pub returns-in-Ok-mount-clause-left : goal.returns-in-Ok-mount-clause-left
-returns-in-Ok-mount-clause-left g c = λ t crashes done left checked.
+returns-in-Ok-mount-clause-left g c = λ t crashes left checked.
     let d = g.D.Disk in
     let from : g.I.MountedFrom.image ≡ d.image c.args.disk = c.requires.image.0 in
     let block : g.I.MountedFrom.block ≡ c.args.s.now = c.requires.image.1 in
     let calls : Calls = record { history = c.run_mounted.result.history.items; told = c.run_mounted.result.told.items } in
-    subst {A = Super × Image} (λ z. IsLeftRun z.0 z.1 c.args.now calls (last_of (d.past c.run_mounted.result.disk))) (λ i. (block i, from i))
-    (c.run_mounted.ensures.left t crashes done left (subst {A = Super × Image} (λ z. IsCheckedImage z.0 z.1) (λ i. (sym block i, sym from i)) checked))
+    subst {A = Super × Image} (λ z. LeavesRun z.0 z.1 c.args.now calls (last_of (d.past c.run_mounted.result.disk)) c.run_mounted.result.end) (λ i. (block i, from i))
+    (c.run_mounted.ensures.left t crashes left (subst {A = Super × Image} (λ z. IsCheckedImage z.0 z.1) (λ i. (sym block i, sym from i)) checked))
 
 pub returns-in-Err-mount-clause-ran : goal.returns-in-Err-mount-clause-ran
 returns-in-Err-mount-clause-ran g c =

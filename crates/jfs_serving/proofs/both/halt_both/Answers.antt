@@ -1,11 +1,12 @@
 use Rattle.std.proofs.Common.{[], append-nil, ap, sym, subst, arith, length}
 use Rattle.jfs_turns.specs.Both.{whole}
-use Rattle.jfs_turns.specs.Lists.{IsPrefix}
 use Rattle.jfs_turns.specs.Standing.{VolumeStands, LogStands}
 use Rattle.jfs_turns.specs.Views.{got_points}
 use Rattle.jfs_groups.specs.Commit.{GoesOn}
 use Rattle.jfs_groups.specs.Log.{standing, data_of}
+use Rattle.jfs_groups.specs.Points.{IsMarked}
 use Rattle.jfs_groups.proofs.Leading.{halves_again, halted_stands, behind_all}
+use Rattle.jfs_groups.proofs.Points.{marked_all}
 use Rattle.jfs_groups.proofs.Stands.{halted_stands_for}
 use Rattle.jfs_serving.specs.Held.{Knows}
 use Rattle.jfs_serving.proofs.Halting.{halted_log, halted_knows, halted_goes}
@@ -20,7 +21,7 @@ mark_syncpoints_as-requires-clause-said g c =
     let u = whole c.args.both.now in
     let s = c.requires.stand.volume in
     let h = c.halt.ensures.halts u.base u.list u.taken s.0 u.points s.1 s.2 in
-    (h.0, (s.0, s.1, h.2, s.3, s.4), behind_all u.points h.0 h.1, sym h.3)
+    (h.0, ((s.0, s.1, h.2, s.3, s.4), marked_all u.points h.0 h.1), behind_all u.points h.0 h.1, sym h.3)
 
 pub mark_syncpoints_as-requires-clause-bound : goal.mark_syncpoints_as-requires-clause-bound
 mark_syncpoints_as-requires-clause-bound g c =
@@ -40,10 +41,10 @@ returns-clause-stand g c =
     let is = halves_again (got_points m.told.0 k u) c.mark_syncpoints_as.new.turn m.told.4 in
     record {
       volume = subst (λ x. VolumeStands g.V.Stands.stands x (whole c.mark_syncpoints_as.new.turn)) (sym m.same.0)
-          (halted_stands g.V.Stands.stands c.halt.new.self u m.told.0 k c.mark_syncpoints_as.new.turn m.told.4 m.told.1);
+          (halted_stands g.V.Stands.stands c.halt.new.self u m.told.0 k c.mark_syncpoints_as.new.turn m.told.4 m.told.1.0);
       log = subst (λ y. LogStands of_log y (whole c.mark_syncpoints_as.new.turn)) (sym m.same.1) (subst (λ v. LogStands of_log c.args.both.now.log.value v) (sym is)
           (halted_log u m.told.0 k stand.knows m.told.2 stand.log.stable of_log c.args.both.now.log.value
-          (halted_stands_for g.E.HasRecords.logs g.D.Disk.tells g.D.Disk.tells_crashes (g.E.HasRecords.start u.base) (data_of g.D.Disk c.args.both.now.log.value) u.log_list u.log_list u.taken u.taken u.log_durable u.log_points m.told.0 u.log_stable c.args.fault c.requires.halted ([], append-nil u.log_list) (subst (λ ps. IsPrefix ps m.told.0) (sym stand.knows.points) m.told.2) stand.log)));
+          (halted_stands_for g.E.HasRecords.logs g.D.Disk.tells g.D.Disk.tells_crashes (g.E.HasRecords.start u.base) (data_of g.D.Disk c.args.both.now.log.value) u.log_list u.log_list u.taken u.log_durable u.log_points m.told.0 u.log_stable c.args.fault c.requires.halted ([], append-nil u.log_list) (subst (λ ps. IsMarked ps m.told.0) (sym stand.knows.points) m.told.1.1) stand.log)));
       knows = subst Knows (sym is) (halted_knows u m.told.0 k stand.knows m.told.2 stand.log.stable);
     }
 

@@ -1,4 +1,4 @@
-use Rattle.std.proofs.Common.{◌≡◌, ◌∷◌, [], ◌++◌, ℕ, List, length, sym, ap, ◌∙◌, append-nil}
+use Rattle.std.proofs.Common.{◌∷◌, [], ◌++◌, ℕ, List, length, sym, ap, ◌∙◌, append-nil}
 use Rattle.jfs_logfmt.specs.declared.log_record.Record.TheVariants.{SyncPt}
 use Rattle.jfs_logfmt.specs.Written.{text_of}
 use Rattle.jfs_records.specs.Entries.{point}
