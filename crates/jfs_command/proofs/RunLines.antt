@@ -7,7 +7,7 @@ use Rattle.jfs_bits.proofs.Broken.{first_broken-none, none-first_broken}
 use Rattle.jfs_disk.specs.Crash.{DiskState, last_of}
 use Rattle.jfs_disk.specs.Moment.{IsResting}
 use Rattle.jfs_bits.specs.declared.descriptor.Moment.{Moment}
-use Rattle.jfs_disk.specs.Image.{Image, page_of}
+use Rattle.jfs_disk.specs.Image.{Image, page_of, ArePages}
 use Rattle.jfs_super.specs.declared.fields.Super.{Super}
 use Rattle.jfs_super.specs.Rules.{rows, shape_rows, flag_rows, size_rows, log_rows, blocks_of, IsAccepted}
 use Rattle.jfs_redo.specs.Redo.{RedoIs, IsRedoCause, IsRefusal, StaysBehind}
@@ -219,8 +219,9 @@ module _ (tells crashes : Type 0) (p : Planned) (is_left : Bool) (moment : Momen
   stopped before now errors.Memory redo image past cause = (inr (inl begun), is_ready_now)
 
 -- what was redone is what redo answers
-pub redone_by : (s : Super) (old new : Image) (done : Redone) → (let r : Result Redone RedoError = Ok done in RedoIs s old new r) → IsRedoneBy s old new done.transactions
-redone_by s old new done is = record { like = old; same = λ n. refl; txs = is.0; commits = is.1; count_is = is.2; unbroken = is.3; redo = is.4 }
+pub redone_by : (s : Super) (old new : Image) (pages : ℕ) (done : Redone) → ArePages pages new → (let r : Result Redone RedoError = Ok done in RedoIs s old new r) → IsRedoneBy s old new done.transactions
+redone_by s old new pages done whole is =
+    record { like = old; same = λ n. refl; txs = is.0; commits = is.1; count_is = is.2; unbroken = is.3; redo = is.4; whole = subst (λ (n : ℕ). ArePages n new) (sym whole.number) whole }
 
 -- a superblock that is accepted is so once it is clean
 pub accepted_clean : (s : Super) (pages : ℕ) → IsAccepted s pages → IsAccepted (cleaned s) pages

@@ -182,7 +182,7 @@ both_states : (state : ℕ) → is_clean state ≡ true → is_mounted state ≡
 both_states state clean mounted = let no = not_clean state mounted in let e = sym no ∙ clean in absurd cc
 
 redone_same : (s : Super) (a b redone : Image) (count : ℕ) → ((n : ℕ) → page_of b n ≡ page_of a n) → IsRedoneBy s a redone count → IsRedoneBy s b redone count
-redone_same s a b redone count same by = record { like = by.like; same = λ n. by.same n ∙ sym (same n); txs = by.txs; commits = by.commits; count_is = by.count_is; unbroken = by.unbroken; redo = by.redo }
+redone_same s a b redone count same by = record { like = by.like; same = λ n. by.same n ∙ sym (same n); txs = by.txs; commits = by.commits; count_is = by.count_is; unbroken = by.unbroken; redo = by.redo; whole = by.whole }
 
 begun_same : (tells : Type 0) (p : Planned) (s : Super) (a b : Image) (answer rest : Answer) (start : Start) → (tells → (n : ℕ) → page_of b n ≡ page_of a n)
     → BeginsOn tells s a start → CleanSays tells p start.super start.image rest → answer ≡ behind start.text rest → ReadySays tells p s b answer

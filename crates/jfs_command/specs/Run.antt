@@ -1,7 +1,7 @@
 -- The commands with clients, `run` and `gen`: they redo a volume that is mounted, do the calls of the clients' scripts on it, and unmount it, unless it is to be left mounted. Or they name what is wrong with the scripts, the superblock, the log or the maps.
 use Rattle.std.specs.Prelude.{◌≡◌, ◌⊎◌, ℕ, ⊤, Bool, true, false, ◌||◌, List, [], ◌++◌, length, Option, Some, None, Ok, Err}
 use Rattle.jfs_bits.specs.declared.descriptor.Moment.{Moment}
-use Rattle.jfs_disk.specs.Image.{Image, page_of}
+use Rattle.jfs_disk.specs.Image.{Image, page_of, ArePages}
 use Rattle.jfs_disk.specs.Crash.{DiskState, last_of}
 use Rattle.jfs_disk.specs.Moment.{IsResting}
 use Rattle.jfs_ranges.specs.declared.edit.Edit.{Edit}
@@ -80,7 +80,7 @@ pub record Start : Type 0 where
 abbrev pub cleaned : Super → Super
 cleaned s = record s { state = CLEAN }
 
--- What redo may make of a volume, by so many transactions of its log. It is said of some image with these pages.
+-- What redo may make of a volume, by so many transactions of its log: an image of whole pages. It is said of some image with the pages that were redone.
 pub record IsRedoneBy (s : Super) (image redone : Image) (count : ℕ) : Type 0 where
   pub like : Image
   pub same : (n : ℕ) → page_of like n ≡ page_of image n
@@ -89,6 +89,7 @@ pub record IsRedoneBy (s : Super) (image redone : Image) (count : ℕ) : Type 0 
   pub count_is : count ≡ length txs
   pub unbroken : broken_maps (subject_of s (page_of like)) ≡ None
   pub redo : IsRedone s txs like redone
+  pub whole : ArePages (length redone) redone
 
 -- A volume that is clean as it is; one that is mounted once it is redone, of which a line tells.
 pub data BeginsOn (tells : Type 0) (s : Super) (image : Image) (start : Start) : Type 0 where
@@ -197,7 +198,7 @@ pub record HasBegunRedo (tells crashes : Type 0) (s : Super) (held : Held) (work
   pub stays : tells → StaysBehind (blocks_of s) held.image work.held.image
   pub meanwhile : StaysRedoable tells crashes s held work.held
 
--- The disk failed before the volume was mounted, and no line was called; or later, and then each was. Also then, where the volume was to be left, redo makes of whatever a crash leaves of the disk what a front of the calls leaves, with all that were told durable. So a disk that fails from some moment on tells what a crash at that moment leaves.
+-- The disk failed before the volume was mounted, and no line was called; or later, and then each was. Also then, where the volume was to be left, redo makes of whatever a crash leaves of the disk what a front of the calls leaves, with all that were told durable.
 pub record FailsOn (tells crashes : Type 0) (p : Planned) (is_left : Bool) (now : Moment) (start : Start) (work : Work) : Type 0 where
   pub called : CallsNone tells start work ⊎ (AllCalled p.plan (calls_of work) × MayBegin tells start)
   pub replies : AreReplies tells start.super start.image now work.history

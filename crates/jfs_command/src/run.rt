@@ -1,7 +1,7 @@
 //! The command `run`, and what `gen` has in common with it: the calls of clients on a volume that is clean, or is mounted and redone first.
 
 ghost use Rattle.std.specs.Prelude.{◌≡◌, ◌≤◌, ◌<◌, ◌^◌, ◌++◌, ℕ, true, List, length, Ok, IfOk, OnOk};
-ghost use Rattle.jfs_disk.specs.Image.{page_of};
+ghost use Rattle.jfs_disk.specs.Image.{page_of, ArePages};
 ghost use Rattle.jfs_super.specs.Rules.{IsAccepted};
 ghost use Rattle.jfs_super.specs.Super.{FitsSuper, super_of};
 ghost use Rattle.jfs_super.specs.declared.fields.TheConstants.VolumeState.{CLEAN};
@@ -128,6 +128,14 @@ fn run_by_state<R: Threads + Wait + Sync, D: Disk + Send, G: Gate + Sync>(
     Performed::idle(alloc, refused, disk)
 }
 
+/// How many pages a disk has, each of which is whole.
+fn whole_pages<D: Disk>(disk: &D) -> u32
+    ensures pages { result ≡ D.page_count disk.now }
+    ensures whole { D.tells → ArePages (D.page_count disk.now) (D.image disk.now) }
+{
+    disk.pages()
+}
+
 // The calls of lines on a volume that is mounted, once it is redone.
 fn run_redone<R: Threads + Wait + Sync, D: Disk + Send, G: Gate + Sync>(
     rt: &R,
@@ -153,6 +161,8 @@ fn run_redone<R: Threads + Wait + Sync, D: Disk + Send, G: Gate + Sync>(
     let mut disk = disk;
     match redo(alloc, &mut disk, s) {
         Ok(done) => {
+            // so that they are known to be whole
+            let _pages = whole_pages(&disk);
             let clean = Super {
                 state: VolumeState::CLEAN,
                 ..*s

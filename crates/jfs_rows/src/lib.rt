@@ -2,6 +2,8 @@
 #![tactic(auto)]
 
 #[cfg(test)]
+mod borders;
+#[cfg(test)]
 mod check;
 #[cfg(test)]
 mod clients;

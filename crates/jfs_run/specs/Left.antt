@@ -1,4 +1,4 @@
--- What a run leaves whose volume was to be left: whatever a crash leaves of its disk, redo makes a front of the run of it. Of a disk that fails from some moment on that speaks of a crash at that moment.
+-- What a run leaves whose volume was to be left: whatever a crash leaves of its disk, redo makes a front of the run of it.
 use Rattle.std.specs.Prelude.{◌≡◌, ◌⊎◌, ◌≤◌, ℕ, List}
 use Rattle.std.specs.List.{AllByRecursion}
 use Rattle.jfs_bits.specs.declared.descriptor.Moment.{Moment}
@@ -27,7 +27,7 @@ pub record IsLeftRun (s : Super) (image : Image) (now : Moment) (c : Calls) (sta
   pub told_are : AllByRecursion (λ number. number ≤ durable) c.told
   pub left : IsLeftWith s image now c.history durable state
 
--- so where it was done, and where a call on the disk failed, unless that was before the mount was done and nothing was called
+-- So where it was done; and where a call on the disk failed, unless the history is empty.
 abbrev pub LeavesRun : Super → Image → Moment → Calls → DiskState → RunEnd → Type 0
 LeavesRun s image now c state ends.Done = IsLeftRun s image now c state
 LeavesRun s image now c state ends.Disk = NoCalls c ⊎ IsLeftRun s image now c state

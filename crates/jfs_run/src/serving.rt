@@ -1,6 +1,6 @@
 //! The calls of a run, by a server of the mounted volume.
 
-ghost use Rattle.std.specs.Prelude.{◌≡◌, ◌⊎◌, ◌<◌, ◌+◌, ◌^◌, ℕ, List, false};
+ghost use Rattle.std.specs.Prelude.{◌≡◌, ◌⊎◌, ◌<◌, ◌+◌, ◌^◌, ℕ, List, true, false};
 ghost use Rattle.jfs_server.specs.shared.specs.Start.{IsJustMounted};
 ghost use Rattle.jfs_server.specs.shared.specs.legal.specs.History.{GoOn};
 ghost use Rattle.jfs_server.specs.shared.specs.legal.specs.served.specs.halves.specs.Parts.{Parts};
@@ -127,6 +127,7 @@ pub fn make_durable<D: Disk>(m: &mut Mounted<D>, failed: bool) -> bool
     ensures halted { (m.new.volume.halted ≡ m.old.volume.halted) ⊎ PartRose (state D.Disk m.old.volume m.old.log) (state D.Disk m.new.volume m.new.log) }
     ensures durable { IsMadeDurable failed (state D.Disk m.old.volume m.old.log) (state D.Disk m.new.volume m.new.log) }
     ensures appended { m.new.volume.appended ≡ m.old.volume.appended }
+    ensures only { result ≡ true → failed ≡ true }
     ensures still { result ≡ false → state D.Disk m.new.volume m.new.log ≡ state D.Disk m.old.volume m.old.log }
     ensures legal { D.tells → (area : ℕ → ℕ) (log_pages : ℕ) (start : Parts) (es : List Timed) → GoOn area log_pages start es m.old.volume → GoOn area log_pages start es m.new.volume }
 {

@@ -20,7 +20,7 @@ returns-in-Ok-clause-ends g c =
     let is = c.in-Ok.ensures in
     let ran = c.run_from.result in
     from_redone d.tells d.tells_crashes (planned c.args.plan.now c.args.printed) c.args.is_left c.args.now c.args.s.now (held_of d c.args.disk) (work_of ran.outcome (held_of d ran.disk)) (held_of d c.redo.new.disk) c.in-Ok.done.transactions
-    c.requires.mounted (λ t. redone_by c.args.s.now (d.image c.args.disk) (d.image c.redo.new.disk) c.in-Ok.done (is.redone t)) is.stable
+    c.requires.mounted (λ t. redone_by c.args.s.now (d.image c.args.disk) (d.image c.redo.new.disk) (d.page_count c.redo.new.disk) c.in-Ok.done (c.whole_pages-pages.ensures.whole t) (is.redone t)) is.stable
     (d.fault_count c.args.disk) (d.fault_count c.redo.new.disk) (d.fault_count ran.disk) ran.outcome.end is.cause c.run_from.ensures.ends
 
 pub returns-in-Err-clause-ends : goal.returns-in-Err-clause-ends
